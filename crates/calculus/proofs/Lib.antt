@@ -1,0 +1,3 @@
+-- The bench sheet's cases, and the order of signed numbers.
+pub mod Sheet
+pub mod Signed

@@ -1,0 +1,41 @@
+-- Every limit of a run (document 01, "A run"; the leaves are "The image", limits), each in one place.
+use Prim.Native.Nat.{ℕ}
+
+-- Unfinished terms around the next redex.
+abbrev pub frameLimit : ℕ
+frameLimit = 512
+
+abbrev pub bindingLimit : ℕ
+bindingLimit = 2048
+
+abbrev pub cellLimit : ℕ
+cellLimit = 256
+
+abbrev pub labelLimit : ℕ
+labelLimit = 64
+
+-- Installed advice.
+abbrev pub adviceLimit : ℕ
+adviceLimit = 64
+
+-- Pairs, pointcuts and advice made; "piece" is document 01's word.
+abbrev pub pieceLimit : ℕ
+pieceLimit = 512
+
+-- The bytes of one log record.
+abbrev pub logRecordLength : ℕ
+logRecordLength = 10
+
+-- The leaves of a plain type.
+abbrev pub leafLimit : ℕ
+leafLimit = 8
+
+-- Numbers: 32 bits, the sign bit, and -1.
+abbrev pub wordSize : ℕ
+wordSize = 4294967296
+
+abbrev pub signBit : ℕ
+signBit = 2147483648
+
+abbrev pub minusOne : ℕ
+minusOne = 4294967295

@@ -1,0 +1,83 @@
+-- Types, values and terms of the calculus (document 003, section 2.1, figure 1, without strings and objects, with the numbers, arithmetic, frame byte and abort of document 01).
+use Prim.Native.Nat.{ℕ}
+use mathlib.Core.Bool.{Bool}
+use mathlib.Core.List.{List}
+use mathlib.Core.Option.{Option, none, some}
+
+-- A protection domain is its number in the image.
+abbrev pub Dom : Type 0
+Dom = ℕ
+
+-- Figure 1, τ.
+pub data Ty : Type 0 where
+  unit truth number : Ty
+  pair : Ty → Ty → Ty
+  -- from a, running at p, to b
+  fun : Ty → Dom → Ty → Ty
+  ref label pcd : Ty → Dom → Ty
+  adv : Dom → Ty
+
+-- An operator of no, one or two operands that are worked out first, left to right.
+pub data Op0 : Type 0 where
+  newLabel abort : Op0
+
+pub data Op1 : Type 0 where
+  print install read byte newCell : Op1
+
+pub data Op2 : Type 0 where
+  pair app mark store plus minus less equal : Op2
+
+mutual
+  -- Figure 1, v.
+  pub data Val : Type 0 where
+    unit : Val
+    truth : Bool → Val
+    num : ℕ → Val
+    pair : Val → Val → Val
+    -- a function: its type, and its body, which binds one variable
+    fun : Ty → Tm → Val
+    label cell : ℕ → Val
+    -- a pointcut: the labels that it names
+    labels : List ℕ → Val
+    -- advice: its domain, its pointcut's labels, its body, which binds one variable
+    advice : Dom → List ℕ → Tm → Val
+
+  -- Figure 1, e. Variables are numbered from the innermost.
+  pub data Tm : Type 0 where
+    -- a closed value, which substitution leaves alone
+    val : Val → Tm
+    var : ℕ → Tm
+    -- a function, with its type: a value that may name outer variables
+    lam : Ty → Tm → Tm
+    op0 : Op0 → Ty → Tm
+    op1 : Op1 → Ty → Tm → Tm
+    op2 : Op2 → Ty → Tm → Tm → Tm
+    seq : Tm → Tm → Tm
+    ite : Tm → Tm → Tm → Tm
+    -- the second binds two variables: the second part is variable 0, the first variable 1
+    split : Tm → Tm → Tm
+    pcd : Tms → Tm
+    -- at a domain: the pointcut, and the body, which binds one variable
+    adv : Dom → Tm → Tm → Tm
+    -- p<e>
+    lower : Dom → Tm → Tm
+
+  -- A list of operands.
+  pub data Tms : Type 0 where
+    end : Tms
+    more : Tm → Tms → Tms
+
+-- The value that a term is, if it is one.
+abbrev pub asValue : Tm → Option Val
+asValue (val v) = some v
+asValue (var k) = none
+asValue (lam t b) = some (Val.fun t b)
+asValue (op0 o t) = none
+asValue (op1 o t e) = none
+asValue (op2 o t e f) = none
+asValue (seq e f) = none
+asValue (ite e f g) = none
+asValue (split e f) = none
+asValue (pcd es) = none
+asValue (adv p e b) = none
+asValue (lower p e) = none

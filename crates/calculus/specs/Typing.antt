@@ -1,0 +1,119 @@
+-- The typing rules (document 003, section 2.2, figures 2 and 3; where the figures are damaged, document 01, "Typing").
+use Prim.Native.Nat.{ℕ}
+use mathlib.Core.Path.{_≡_}
+use mathlib.Core.Bool.{Bool, true}
+use mathlib.Core.List.{List, [], _∷_}
+use mathlib.Core.Option.{some}
+use lib.ListN.{getElem?}
+use Rattle.calculus.specs.Syntax.{Dom, Ty, Val, Tm, Tms, Op0, Op1, Op2, val, var, lam, op0, op1, op2, seq, ite, split, pcd, adv, lower, end, more, newLabel, abort, print, install, read, byte, newCell, app, mark, store, plus, minus, less, equal}
+
+-- A store typing: the types of the cells and labels that there are, of each cell `ref a p`, of each label `label a p` (the part of figure 2's Γ that is not variables).
+pub record StoreTyping : Type 0 where
+  pub cells : List Ty
+  pub labels : List Ty
+
+-- Before a run.
+abbrev pub noStore : StoreTyping
+noStore = record { cells = []; labels = [] }
+
+-- What the protection domains permit: their order, leq p q for p ≤ q.
+pub record Policy : Type 0 where
+  pub leq : Dom → Dom → Bool
+
+module _ (D : Policy) where
+  -- Figure 3, the operators: at the current domain c, an operator's own type and those of its operands.
+  pub data Rule0 (c : Dom) : Op0 → Ty → Type 0 where
+    -- new_p : τ
+    t-newLabel : {a : Ty} {p : Dom} → D .leq p c ≡ true → Rule0 c newLabel (Ty.label a p)
+    -- document 01: abort has any type
+    t-abort : {a : Ty} → Rule0 c abort a
+
+  pub data Rule1 (c : Dom) : Op1 → Ty → Ty → Type 0 where
+    -- print e; document 01: of a number
+    t-print : Rule1 c print Ty.unit Ty.number
+    -- ⇑ e
+    t-install : {p : Dom} → D .leq p c ≡ true → Rule1 c install Ty.unit (Ty.adv p)
+    -- !e
+    t-read : {a : Ty} {p : Dom} → D .leq c p ≡ true → Rule1 c read a (Ty.ref a p)
+    -- document 01
+    t-byte : Rule1 c byte Ty.number Ty.number
+    -- ref_p e
+    t-newCell : {a : Ty} {p : Dom} → D .leq p c ≡ true → Rule1 c newCell (Ty.ref a p) a
+
+  pub data Rule2 (c : Dom) : Op2 → Ty → Ty → Ty → Type 0 where
+    -- (e1, e2)
+    t-pair : {a b : Ty} → Rule2 c Op2.pair (Ty.pair a b) a b
+    -- e1 e2: the function runs at the current domain
+    t-app : {a b : Ty} → Rule2 c app b (Ty.fun a c b) a
+    -- e1[e2]: the label is of the current domain
+    t-mark : {a : Ty} → Rule2 c mark Ty.unit (Ty.label a c) a
+    -- e1 := e2
+    t-store : {a : Ty} {p : Dom} → D .leq p c ≡ true → Rule2 c store Ty.unit (Ty.ref a p) a
+    -- document 01
+    t-plus : Rule2 c plus Ty.number Ty.number Ty.number
+    t-minus : Rule2 c minus Ty.number Ty.number Ty.number
+    t-less : Rule2 c less Ty.truth Ty.number Ty.number
+    t-equal : Rule2 c equal Ty.truth Ty.number Ty.number
+
+  -- {e1 .. en}_p: the types of a pointcut's labels, all of the value type a, at domains at or above p.
+  pub data LabelTys (a : Ty) (p : Dom) : List Ty → Type 0 where
+    no-types : LabelTys a p []
+    a-type : {q : Dom} {ts : List Ty} → D .leq p q ≡ true → LabelTys a p ts → LabelTys a p (Ty.label a q ∷ ts)
+
+  module _ (Σ : StoreTyping) where
+    -- Figure 2, {l1 .. ln}_p: labels of the value type a, at domains at or above p.
+    pub data LabelsOf (a : Ty) (p : Dom) : List ℕ → Type 0 where
+      no-labels : LabelsOf a p []
+      a-label : {l : ℕ} {q : Dom} {ls : List ℕ} → getElem? (Σ .labels) l ≡ some (Ty.label a q) → D .leq p q ≡ true → LabelsOf a p ls → LabelsOf a p (l ∷ ls)
+
+    mutual
+      -- Figure 2: v has type t.
+      pub data ValTy : Val → Ty → Type 0 where
+        -- ()
+        v-unit : ValTy Val.unit Ty.unit
+        -- true, false
+        v-truth : {b : Bool} → ValTy (Val.truth b) Ty.truth
+        -- document 01, in the place of strings
+        v-num : {n : ℕ} → ValTy (Val.num n) Ty.number
+        -- (v1, v2)
+        v-pair : {v w : Val} {a b : Ty} → ValTy v a → ValTy w b → ValTy (Val.pair v w) (Ty.pair a b)
+        -- λ_p x:τ.e
+        v-fun : {a b : Ty} {p : Dom} {e : Tm} → TmTy (a ∷ []) p e b → ValTy (Val.fun (Ty.fun a p b) e) (Ty.fun a p b)
+        -- l
+        v-label : {l : ℕ} {a : Ty} {p : Dom} → getElem? (Σ .labels) l ≡ some (Ty.label a p) → ValTy (Val.label l) (Ty.label a p)
+        -- r
+        v-cell : {r : ℕ} {a : Ty} {p : Dom} → getElem? (Σ .cells) r ≡ some (Ty.ref a p) → ValTy (Val.cell r) (Ty.ref a p)
+        -- {l1 .. ln}_p
+        v-labels : {ls : List ℕ} {a : Ty} {p : Dom} → LabelsOf a p ls → ValTy (Val.labels ls) (Ty.pcd a p)
+        -- {v.x →_p e}
+        v-advice : {ls : List ℕ} {a : Ty} {p q : Dom} {e : Tm} → LabelsOf a q ls → D .leq p q ≡ true → TmTy (a ∷ []) p e Ty.unit → ValTy (Val.advice p ls e) (Ty.adv p)
+
+      -- Figure 3: in the context Γ of variables, innermost first, at the current domain c, e has type t.
+      pub data TmTy : List Ty → Dom → Tm → Ty → Type 0 where
+        -- v
+        is-val : {Γ : List Ty} {c : Dom} {v : Val} {t : Ty} → ValTy v t → TmTy Γ c (val v) t
+        -- x
+        is-var : {Γ : List Ty} {c : Dom} {k : ℕ} {t : Ty} → getElem? Γ k ≡ some t → TmTy Γ c (var k) t
+        -- λ_p x:τ.e, by figure 2 under outer variables
+        is-lam : {Γ : List Ty} {c p : Dom} {a b : Ty} {e : Tm} → TmTy (a ∷ Γ) p e b → TmTy Γ c (lam (Ty.fun a p b) e) (Ty.fun a p b)
+        -- the operators
+        is-op0 : {Γ : List Ty} {c : Dom} {o : Op0} {t : Ty} → Rule0 c o t → TmTy Γ c (op0 o t) t
+        is-op1 : {Γ : List Ty} {c : Dom} {o : Op1} {t a : Ty} {e : Tm} → Rule1 c o t a → TmTy Γ c e a → TmTy Γ c (op1 o t e) t
+        is-op2 : {Γ : List Ty} {c : Dom} {o : Op2} {t a b : Ty} {e f : Tm} → Rule2 c o t a b → TmTy Γ c e a → TmTy Γ c f b → TmTy Γ c (op2 o t e f) t
+        -- e1; e2
+        is-seq : {Γ : List Ty} {c : Dom} {t : Ty} {e f : Tm} → TmTy Γ c e Ty.unit → TmTy Γ c f t → TmTy Γ c (seq e f) t
+        -- if e1 then e2 else e3
+        is-ite : {Γ : List Ty} {c : Dom} {t : Ty} {e f g : Tm} → TmTy Γ c e Ty.truth → TmTy Γ c f t → TmTy Γ c g t → TmTy Γ c (ite e f g) t
+        -- split (x, y) = e1 in e2
+        is-split : {Γ : List Ty} {c : Dom} {t a b : Ty} {e f : Tm} → TmTy Γ c e (Ty.pair a b) → TmTy (b ∷ a ∷ Γ) c f t → TmTy Γ c (split e f) t
+        -- {e1 .. en}_p
+        is-pcd : {Γ ts : List Ty} {c p : Dom} {a : Ty} {es : Tms} → TmsTy Γ c es ts → LabelTys a p ts → TmTy Γ c (pcd es) (Ty.pcd a p)
+        -- {e1.x →_p e2}
+        is-adv : {Γ : List Ty} {c p q : Dom} {a : Ty} {e b : Tm} → TmTy Γ c e (Ty.pcd a q) → D .leq p q ≡ true → TmTy (a ∷ Γ) p b Ty.unit → TmTy Γ c (adv p e b) (Ty.adv p)
+        -- p<e>
+        is-lower : {Γ : List Ty} {c p : Dom} {e : Tm} → D .leq p c ≡ true → TmTy Γ p e Ty.unit → TmTy Γ c (lower p e) Ty.unit
+
+      -- A list of operands, each with its type.
+      pub data TmsTy : List Ty → Dom → Tms → List Ty → Type 0 where
+        is-end : {Γ : List Ty} {c : Dom} → TmsTy Γ c end []
+        is-more : {Γ ts : List Ty} {c : Dom} {a : Ty} {e : Tm} {es : Tms} → TmTy Γ c e a → TmsTy Γ c es ts → TmsTy Γ c (more e es) (a ∷ ts)
