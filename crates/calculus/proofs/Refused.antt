@@ -1,0 +1,68 @@
+-- Each domain rule of figure 3 turns one small term down (document 01, "Domain rules"): what low code could do to high code, or high code learn from low code, without it.
+use Prim.Native.Nat.{ℕ}
+use mathlib.Core.Path.{_≡_, sym}
+use mathlib.Core.Bool.{true, false, _&&_, _||_, true≢false}
+use mathlib.Core.List.{List, [], _∷_}
+use mathlib.Core.Option.{some}
+use lib.Dec.{eqb}
+use native.Mathlib.Omega.{arith}
+use Rattle.calculus.specs.Syntax.{Dom, Ty, Val, Tm, Op2, val, var, op0, op1, op2, pcd, adv, lower, end, more, newLabel, install, read, newCell, app, mark, store}
+use Rattle.calculus.specs.Typing.{Policy, noStore, TmTy, LabelTys, a-type, t-newLabel, t-install, t-read, t-newCell, t-app, t-mark, t-store, is-val, is-var, is-op0, is-op1, is-op2, is-pcd, is-adv, is-lower, is-end, is-more}
+
+-- Two domains, 1 ≤ 0: the mainline is high, the watch low.
+abbrev pub watched : Policy
+watched = record { leq = λ p q. eqb p q || eqb p 1 && eqb q 0 }
+
+-- With one variable of type x, at the domain c, e has no type t.
+abbrev pub Refused : Ty → Dom → Tm → Ty → Type 0
+Refused x c e t = TmTy watched noStore (x ∷ []) c e t → ⊥
+
+abbrev three : Tm
+three = val (Val.num 3)
+
+-- 0 ≤ 1 does not hold.
+upward : {X : Type 0} → false ≡ true → X
+upward e = absurd (true≢false (sym e))
+
+-- Low code applies no high function.
+pub apply-refused : Refused (Ty.fun Ty.number 0 Ty.unit) 1 (op2 app Ty.unit (var 0) three) Ty.unit
+apply-refused (is-op2 t-app (is-var e) h) = let z : _≡_ {A = ℕ} 0 1 = cc in absurd (omega arith)
+
+-- Low code marks no high label.
+pub mark-refused : Refused (Ty.label Ty.number 0) 1 (op2 mark Ty.unit (var 0) three) Ty.unit
+mark-refused (is-op2 t-mark (is-var e) h) = let z : _≡_ {A = ℕ} 0 1 = cc in absurd (omega arith)
+
+-- A high pointcut names no low label.
+pub pointcut-refused : Refused (Ty.label Ty.number 1) 0 (pcd (more (var 0) end)) (Ty.pcd Ty.number 0)
+pointcut-refused (is-pcd (is-more (is-var e) is-end) (a-type {q} l n)) = let z : q ≡ 1 = cc in upward (rw z at l)
+
+-- High advice hangs on no low pointcut.
+pub advice-refused : Refused (Ty.pcd Ty.number 1) 0 (adv 0 (var 0) (val Val.unit)) (Ty.adv 0)
+advice-refused (is-adv {q} (is-var e) l h) = let z : q ≡ 1 = cc in upward (rw z at l)
+
+-- Low code installs no high advice.
+pub install-refused : Refused (Ty.adv 0) 1 (op1 install Ty.unit (var 0)) Ty.unit
+install-refused (is-op1 (t-install {p} l) (is-var e)) = let z : p ≡ 0 = cc in upward (rw z at l)
+
+-- Low code makes no high label and no high cell.
+pub label-refused : Refused Ty.unit 1 (op0 newLabel (Ty.label Ty.number 0)) (Ty.label Ty.number 0)
+label-refused (is-op0 (t-newLabel l)) = upward l
+
+pub cell-refused : Refused Ty.unit 1 (op1 newCell (Ty.ref Ty.number 0) three) (Ty.ref Ty.number 0)
+cell-refused (is-op1 (t-newCell l) h) = upward l
+
+-- High code reads no low cell.
+pub read-refused : Refused (Ty.ref Ty.number 1) 0 (op1 read Ty.number (var 0)) Ty.number
+read-refused (is-op1 (t-read {p} l) (is-var e)) = let z : p ≡ 1 = cc in upward (rw z at l)
+
+-- Low code stores to no high cell.
+pub store-refused : Refused (Ty.ref Ty.number 0) 1 (op2 store Ty.unit (var 0) three) Ty.unit
+store-refused (is-op2 (t-store {p} l) (is-var e) h) = let z : p ≡ 0 = cc in upward (rw z at l)
+
+-- Low code does not raise itself.
+pub raise-refused : Refused Ty.unit 1 (lower 0 (val Val.unit)) Ty.unit
+raise-refused (is-lower l h) = upward l
+
+-- A lowered body is checked at its own domain, not at the outer one.
+pub lowered-refused : Refused (Ty.ref Ty.number 0) 0 (lower 1 (op2 store Ty.unit (var 0) three)) Ty.unit
+lowered-refused (is-lower m h) = store-refused h

@@ -1,0 +1,120 @@
+-- What every reduction keeps, every step and every run keeps; no typing is assumed.
+use Prim.Native.Nat.{ℕ, zero, suc, _-_}
+use mathlib.Core.Path.{_≡_, refl}
+use mathlib.Core.Bool.{Bool, true, false}
+use mathlib.Core.List.{List, [], _∷_}
+use mathlib.Core.Option.{Option, none, some}
+use lib.Dec.{T, leb}
+use Rattle.calculus.specs.declared.Outcome.{Outcome}
+use Rattle.calculus.specs.Limits.{bindingLimit, cellLimit, pieceLimit}
+use Rattle.calculus.specs.Combinators.{cases}
+use Rattle.calculus.specs.Syntax.{Ty, Val, Tm, Tms, Op0, Op1, Op2, asValue, val, var, lam, op0, op1, op2, seq, ite, split, pcd, adv, lower, end, more}
+use Rattle.calculus.specs.State.{State, Given, Counts, addCounts, charged}
+use Rattle.calculus.specs.Answer.{Answer, go, full, halt, wrong, carry, within, if-room, with, spend}
+use Rattle.calculus.specs.Place.{Place, top, at, deeper}
+use Rattle.calculus.specs.Reduce.{reduce0, reduce1, reduce2, piece, bind}
+use Rattle.calculus.specs.Step.{step, stepFirst}
+use Rattle.calculus.specs.Run.{after, run}
+
+module _ (Q : State → Type 0) where
+  -- The state that an answer has, if it has one, has the property Q.
+  pub data Makes : Answer State Tm → Type 0 where
+    makes-go : {s : State} {e : Tm} → Q s → Makes (go s e)
+    makes-full : {o : Outcome} → Makes (full o)
+    makes-halt : Makes halt
+    makes-wrong : Makes wrong
+
+  pub made-state : {s : State} {e : Tm} → Makes (go s e) → Q s
+  made-state (makes-go q) = q
+
+  pub makes-room : (b : Bool) (o : Outcome) {r : Answer State Tm} → (T b → Makes r) → Makes (if-room b o r)
+  unfolding if-room
+  makes-room true o f = f tt
+  makes-room false o f = makes-full
+
+  pub makes-with : {A : Type 0} (o : Option A) (k : A → Answer State Tm) → ((x : A) → Makes (k x)) → Makes (with o k)
+  unfolding with
+  makes-with none k f = makes-wrong
+  makes-with (some x) k f = f x
+
+  makes-within : (k : Tm → Tm) {r : Answer State Tm} → Makes r → Makes (within k r)
+  unfolding carry
+  makes-within k (makes-go q) = makes-go q
+  makes-within k makes-full = makes-full
+  makes-within k makes-halt = makes-halt
+  makes-within k makes-wrong = makes-wrong
+
+  makes-cases : {A : Type 0} (o : Option A) (k : A → Answer State Tm) (r : Unit {0} → Answer State Tm) → ((x : A) → Makes (k x)) → Makes (r tt) → Makes (cases o k r)
+  unfolding cases
+  makes-cases none k r f g = g
+  makes-cases (some x) k r f g = f x
+
+  -- A step that uses n has room for it.
+  pub makes-spend : (n : Counts) (s : State) (k : State → Answer State Tm)
+      → (T (leb (n .bindings) (bindingLimit - s .used .bindings)) → T (leb (n .cells) (cellLimit - s .used .cells)) → T (leb (n .pieces) (pieceLimit - s .used .pieces)) → Makes (k (charged (addCounts (s .used) n) s)))
+      → Makes (spend n s k)
+  unfolding spend
+  makes-spend n s k f = makes-room _ _ (λ b. makes-room _ _ (λ c. makes-room _ _ (λ p. f b c p)))
+
+-- The reductions of the state s make only states with the property Q.
+pub record Reduces (G : Given) (Q : State → Type 0) (s : State) : Type 0 where
+  pub stays : Q s
+  pub binds : (n : ℕ) (e : Tm) → Makes Q (bind n s e)
+  pub pieces : (e : Tm) → Makes Q (piece s e)
+  pub reduces0 : (P : Place) (o : Op0) (t : Ty) → Makes Q (reduce0 G P s o t)
+  pub reduces1 : (P : Place) (o : Op1) (t : Ty) (v : Val) → Makes Q (reduce1 G P s o t v)
+  pub reduces2 : (P : Place) (o : Op2) (t : Ty) (v w : Val) → Makes Q (reduce2 G P s o t v w)
+
+module _ {G : Given} {Q : State → Type 0} {s : State} (R : Reduces G Q s) where
+  abbrev StepsFirst : Tms → Type 0
+  StepsFirst es = (P : Place) (vs : List Val) (k : Tms → Tm) (r : List Val → Answer State Tm) → ((ws : List Val) → Makes Q (r ws)) → Makes Q (stepFirst es G P s vs k r)
+
+  mutual
+    unfolding step
+
+    pub step-makes : (e : Tm) → (P : Place) → Makes Q (step e G P s)
+    step-makes (val v) = λ P. makes-wrong
+    step-makes (var k) = λ P. makes-room Q _ _ (λ b. makes-wrong)
+    step-makes (lam t b) = λ P. makes-wrong
+    step-makes (op0 o t) = λ P. makes-room Q _ _ (λ b. R .reduces0 P o t)
+    step-makes (op1 o t e) = λ P. makes-cases Q _ _ _ (λ v. makes-room Q _ _ (λ b. R .reduces1 P o t v)) (makes-within Q _ (step-makes e (deeper P)))
+    step-makes (op2 o t e f) =
+        λ P. makes-cases Q _ _ _
+        (λ v. makes-cases Q _ _ _ (λ w. makes-room Q _ _ (λ b. R .reduces2 P o t v w)) (makes-within Q _ (step-makes f (deeper P))))
+        (makes-within Q _ (step-makes e (deeper P)))
+    step-makes (seq e f) = λ P. makes-cases Q _ _ _ (λ v. makes-room Q _ _ (λ b. makes-with Q _ _ (λ u. makes-go (R .stays)))) (makes-within Q _ (step-makes e (deeper P)))
+    step-makes (ite e f g) = λ P. makes-cases Q _ _ _ (λ v. makes-room Q _ _ (λ b. makes-with Q _ _ (λ u. makes-go (R .stays)))) (makes-within Q _ (step-makes e (deeper P)))
+    step-makes (split e f) = λ P. makes-cases Q _ _ _ (λ v. makes-room Q _ _ (λ b. makes-with Q _ _ (λ u. R .binds 2 _))) (makes-within Q _ (step-makes e (deeper P)))
+    step-makes (pcd es) = λ P. steps-first es P [] pcd _ (λ ws. makes-with Q _ _ (λ ls. R .pieces _))
+    step-makes (adv p e b) = λ P. makes-cases Q _ _ _ (λ v. makes-room Q _ _ (λ b′. makes-with Q _ _ (λ ls. R .pieces _))) (makes-within Q _ (step-makes e (deeper P)))
+    step-makes (lower p e) = λ P. makes-cases Q _ _ _ (λ v. makes-room Q _ _ (λ b. makes-with Q _ _ (λ u. makes-go (R .stays)))) (makes-within Q _ (step-makes e (at p (deeper P))))
+
+    steps-first : (es : Tms) → StepsFirst es
+    steps-first end = λ P vs k r h. makes-room Q _ _ (λ b. h vs)
+    steps-first (more e es) = λ P vs k r h. makes-cases Q _ _ _ (λ v. steps-first es P (v ∷ vs) k r h) (makes-within Q _ (step-makes e (deeper P)))
+
+module _ (G : Given) (Q : State → Type 0) (keeps : (s : State) → Q s → Reduces G Q s) where
+  pub step-keeps : (e : Tm) (P : Place) (s : State) → Q s → (s′ : State) (e′ : Tm) → step e G P s ≡ go s′ e′ → Q s′
+  step-keeps e P s q s′ e′ m = made-state Q (rw m at (step-makes (keeps s q) e P))
+
+  pub run-keeps : (n k : ℕ) (s : State) (e : Tm) → Q s → Q (run n G k s e .state)
+  unfolding run after cases
+  run-keeps zero k s e q = look (asValue e) refl
+    where
+      look : (o : Option Val) → asValue e ≡ o → Q (run zero G k s e .state)
+      look (some v) eq = rw (eq, run) q
+      look none eq = rw (eq, run) q
+  run-keeps (suc n) k s e q = look (asValue e) refl (λ s′ e′ q′. run-keeps n (suc k) s′ e′ q′)
+    where
+      Later : Type 0
+      Later = (s′ : State) (e′ : Tm) → Q s′ → Q (run n G (suc k) s′ e′ .state)
+
+      made : asValue e ≡ none → (r : Answer State Tm) → step e G top s ≡ r → Makes Q r → Later → Q (run (suc n) G k s e .state)
+      made eq r er (makes-go {s = s′} {e = e′} q′) later = rw (eq, er, run) (later s′ e′ q′)
+      made eq r er makes-full later = rw (eq, er, run) q
+      made eq r er makes-halt later = rw (eq, er, run) q
+      made eq r er makes-wrong later = rw (eq, er, run) q
+
+      look : (o : Option Val) → asValue e ≡ o → Later → Q (run (suc n) G k s e .state)
+      look (some v) eq later = rw (eq, run) q
+      look none eq later = made eq (step e G top s) refl (step-makes (keeps s q) e top) later
