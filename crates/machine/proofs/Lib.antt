@@ -1,0 +1,11 @@
+-- The closure machine makes the calculus's runs.
+pub mod Close
+pub mod Plug
+pub mod Reduce
+pub mod Runs
+pub mod Theorem
+pub mod Loop
+pub mod Frames
+pub mod Rank
+pub mod Depth
+pub mod Sheet
