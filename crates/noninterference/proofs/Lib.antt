@@ -1,0 +1,22 @@
+-- Noninterference.
+pub mod Clash
+pub mod Interleave
+pub mod Related
+pub mod Substitute
+pub mod Blanked
+pub mod Store
+pub mod Closed
+pub mod Confined
+pub mod States
+pub mod Paired
+pub mod Marks
+pub mod Reductions
+pub mod Alone
+pub mod Operands
+pub mod Simulation
+pub mod Plain
+pub mod Traces
+pub mod FirstStep
+pub mod Runs
+pub mod Theorem
+pub mod Example
