@@ -26,10 +26,10 @@ T-true : (b : Bool) → T b → b ≡ true
 T-true true t = refl
 
 -- A greater number is a lower domain; only domain 0 is high.
-D : Policy
+abbrev D : Policy
 D = record { leq = λ p q. leb q p }
 
-hi : Dom → Bool
+abbrev hi : Dom → Bool
 hi p = leb p 0
 
 le-of : (m n : ℕ) → leb m n ≡ true → m ≤ n
@@ -39,19 +39,17 @@ leb-of : (m n : ℕ) → m ≤ n → leb m n ≡ true
 leb-of m n h = T-true (leb m n) (le→leb m n h)
 
 transitive : Transitive D
-unfolding D
 transitive p q r x y = let a = le-of q p x in let b = le-of r q y in leb-of r p (omega arith)
 
 highs : Highs D hi
-unfolding D hi
 highs = record { mainline = refl; up = λ p q x y. (let a = le-of p 0 x in let b = le-of q p y in leb-of q 0 (omega arith)) }
 
 -- A program with an advice of domain 1, whose body is b, on a label of the mainline's:
 -- (λ l. ⇑ {{l}.x →1 b}; l[3]; print 5; !(ref 7)) (new label)
-say : Tm → Tm
+abbrev say : Tm → Tm
 say e = op1 print Ty.unit e
 
-program : Tm → Tm
+abbrev program : Tm → Tm
 program b =
     op2 app Ty.number
     (lam (Ty.fun (Ty.label Ty.number 0) 0 Ty.number)
@@ -60,7 +58,6 @@ program b =
     (op0 newLabel (Ty.label Ty.number 0))
 
 accepted : {b : Tm} → TmTy D noStore (Ty.number ∷ Ty.label Ty.number 0 ∷ []) 1 b Ty.unit → Accepted D (program b)
-unfolding program say D
 accepted h = record {
   type = Ty.number;
   typed =
@@ -73,22 +70,21 @@ accepted h = record {
 }
 
 alike : (b b′ : Tm) → blank hi (program b) ≡ blank hi (program b′)
-unfolding program say hi blank
+unfolding blank
 alike b b′ = refl
 
 -- One advice prints the marked value, the other prints 8 and 9.
-left : Tm
+abbrev left : Tm
 left = say (var 0)
 
-right : Tm
+abbrev right : Tm
 right = seq (say (val (Val.num 8))) (say (val (Val.num 9)))
 
 same : (G : Given) (n n′ : ℕ) → Same hi (run n G 0 fresh (program left)) (run n′ G 0 fresh (program right))
-unfolding left right say
 same G n n′ = demand3 D hi transitive highs (program left) (program right) (accepted (is-op1 t-print (is-var refl))) (accepted (is-seq (is-op1 t-print (is-val v-num)) (is-op1 t-print (is-val v-num)))) (alike left right) G G refl n n′
 
 -- What is computed of a run of 100 steps: how it ends, its log, its high prints and its high cells.
-G : Given
+abbrev G : Given
 G = record { frame = []; logLength = 100 }
 
 record Facts : Type 0 where
@@ -97,17 +93,17 @@ record Facts : Type 0 where
   prints : List Print
   cells : List Shown
 
-facts : Tm → Facts
+abbrev facts : Tm → Facts
 facts e = let E = run 100 G 0 fresh e in record { end = E .end; log = logOf (E .state .trace); prints = highPrints hi E; cells = highCells hi E }
 
 -- The logs differ; the rest is the same.
-sevens : List Print → Facts
+abbrev sevens : List Print → Facts
 sevens x = record { end = done (Val.num 7); log = x; prints = record { dom = 0; shown = 5 } ∷ []; cells = record { dom = 0; value = some (Val.num 7) } ∷ [] }
 
 left-facts : facts (program left) ≡ sevens (record { dom = 1; shown = 3 } ∷ record { dom = 0; shown = 5 } ∷ [])
-unfolding facts sevens highOf run after cases step carry if-room with spend picked subst program say left hi G
+unfolding highOf run after cases step carry if-room with spend picked subst
 left-facts = refl
 
 right-facts : facts (program right) ≡ sevens (record { dom = 1; shown = 8 } ∷ record { dom = 1; shown = 9 } ∷ record { dom = 0; shown = 5 } ∷ [])
-unfolding facts sevens highOf run after cases step carry if-room with spend picked subst program say right hi G
+unfolding highOf run after cases step carry if-room with spend picked subst
 right-facts = refl

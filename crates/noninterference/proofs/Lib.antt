@@ -20,3 +20,4 @@ pub mod FirstStep
 pub mod Runs
 pub mod Theorem
 pub mod Example
+pub mod Reported

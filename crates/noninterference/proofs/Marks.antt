@@ -2,7 +2,7 @@
 use Prim.Native.Nat.{ℕ}
 use mathlib.Core.Path.{_≡_, refl, sym, subst as transp}
 use mathlib.Core.Bool.{Bool, true, false}
-use mathlib.Core.List.{List, [], _∷_}
+use mathlib.Core.List.{List, _∷_}
 use Rattle.calculus.specs.Combinators.{choose}
 use Rattle.calculus.specs.Syntax.{Dom, Val, Tm, lower}
 use Rattle.calculus.specs.Subst.{subst}

@@ -1,5 +1,5 @@
 -- The next steps of two related terms, side by side, and the same seen from the terms around them.
-use mathlib.Core.Path.{_≡_, refl, ap}
+use mathlib.Core.Path.{_≡_, ap}
 use mathlib.Core.Bool.{Bool, true, false}
 use mathlib.Core.Option.{Option, none, some}
 use Rattle.calculus.specs.declared.Outcome.{Outcome}

@@ -2,14 +2,14 @@
 use Prim.Native.Nat.{ℕ}
 use mathlib.Core.Path.{_≡_, refl, subst as transp}
 use mathlib.Core.Bool.{Bool, true}
-use mathlib.Core.List.{List, [], _∷_}
+use mathlib.Core.List.{List}
 use mathlib.Core.Option.{Option, none, some}
 use lib.ListN.{getD, getElem?}
 use Rattle.calculus.specs.Combinators.{cases}
 use Rattle.calculus.specs.Syntax.{Dom, Ty, Val, Tm, Op0, Op1, Op2, val}
 use Rattle.calculus.specs.State.{State, Given, Counts, noCell}
 use Rattle.calculus.specs.Numbers.{frameByte, sum, difference, isLess, isEqual}
-use Rattle.calculus.specs.Answer.{Answer, go, with, spend}
+use Rattle.calculus.specs.Answer.{go, with, spend}
 use Rattle.calculus.specs.Place.{Place, at}
 use Rattle.calculus.specs.Reduce.{piece, reduce0, reduce1, reduce2, arith, num, truth, reduceSeq, reduceIte, reduceSplit, reduceAdv, reduceLower, collect, reducePcd}
 use Rattle.calculus.specs.Typing.{Policy, StoreTyping, Rule0, Rule1, Rule2, ValTy, t-newLabel, t-abort, t-print, t-install, t-read, t-byte, t-newCell, t-pair, t-app, t-mark, t-store, t-plus, t-minus, t-less, t-equal}

@@ -7,7 +7,7 @@ use Rattle.calculus.specs.Syntax.{Dom, Ty, Val, Tm, Tms, Op0, Op1, Op2, val, va
 use Rattle.calculus.specs.Subst.{subst}
 use Rattle.calculus.specs.State.{Cell, Advice, Event, State}
 use Rattle.calculus.specs.Plain.{domOf}
-use Rattle.safety.proofs.Lists.{Prefix, prefix-refl, prefix-trans, All2}
+use Rattle.safety.proofs.Lists.{Prefix, prefix-refl, All2}
 use Rattle.noninterference.proofs.Interleave.{Side, Matched, Matches, matched-mono, matches-mono, Interleaving}
 
 -- The orders in which the two runs' cells and labels were made.
@@ -26,9 +26,6 @@ pub record Grows (W X : World) : Type 0 where
 
 pub grows-refl : (W : World) → Grows W W
 grows-refl W = record { cells = prefix-refl (W .cells); labels = prefix-refl (W .labels) }
-
-pub grows-trans : {W X Y : World} → Grows W X → Grows X Y → Grows W Y
-grows-trans p q = record { cells = prefix-trans (p .cells) (q .cells); labels = prefix-trans (p .labels) (q .labels) }
 
 -- Substitution for a variable further out than the innermost leaves the term alone: the body of a function without free variables.
 abbrev pub ClosedBody : Tm → Type 0

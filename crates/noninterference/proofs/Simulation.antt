@@ -1,9 +1,8 @@
 -- The simulation: two related terms at a high domain, over related states; what they do next keeps them related.
-use Prim.Native.Nat.{ℕ}
 use mathlib.Core.Path.{_≡_, refl}
 use mathlib.Core.Bool.{Bool, true, false}
 use mathlib.Core.List.{List, [], _∷_}
-use mathlib.Core.Option.{Option, none}
+use mathlib.Core.Option.{none}
 use Rattle.calculus.specs.Syntax.{Dom, Ty, Val, Tm, Tms, Op0, Op1, Op2, asValue, val, op0, op1, op2, seq, ite, split, pcd, adv, lower, more}
 use Rattle.calculus.specs.State.{State, Given}
 use Rattle.calculus.specs.Answer.{Answer}
@@ -14,7 +13,7 @@ use Rattle.safety.proofs.Lists.{All2.all2-nil, All2.all2-cons}
 use Rattle.safety.proofs.StoreFits.{StateFits}
 use Rattle.safety.proofs.Values.{val-ty}
 use Rattle.noninterference.specs.Observe.{Highs}
-use Rattle.noninterference.proofs.Related.{World, Grows, RelV, RelT, RelB, RelTs, RelVs, b-rel, b-low, v-fun, r-val, r-var, r-lam, r-val-lam, r-lam-val, r-op0, r-op1, r-op2, r-seq, r-ite, r-split, r-pcd, r-adv, r-lower, r-skip-left, r-skip-right, r-end, r-more, relV-mono, relT-mono, relB-mono, relTs-mono, RelS}
+use Rattle.noninterference.proofs.Related.{World, Grows, RelT, RelB, RelTs, RelVs, b-rel, b-low, v-fun, r-val, r-var, r-lam, r-val-lam, r-lam-val, r-op0, r-op1, r-op2, r-seq, r-ite, r-split, r-pcd, r-adv, r-lower, r-skip-left, r-skip-right, r-end, r-more, relV-mono, relT-mono, relB-mono, relTs-mono, RelS}
 use Rattle.noninterference.proofs.Paired.{n-wrong, no-step-room, Two, Sim, s-values, s-both, s-none-left, two-room, lift-in, lift}
 use Rattle.noninterference.proofs.Reductions.{two-pcd, two-seq, two-lower, two-ite, two-split, two-adv, two0, two1, two2}
 use Rattle.noninterference.proofs.Alone.{skips, skip-left, skip-right, sim-low}

@@ -1,6 +1,6 @@
 -- What noninterference uses of a state that fits a store typing: the domain of a cell, and the type of what a plain cell holds.
 use Prim.Native.Nat.{ℕ, zero, suc}
-use mathlib.Core.Path.{_≡_, refl, sym}
+use mathlib.Core.Path.{_≡_, refl}
 use mathlib.Core.Bool.{true}
 use mathlib.Core.List.{List}
 use mathlib.Core.Option.{some}

@@ -4,11 +4,13 @@ use mathlib.Core.Bool.{Bool, true}
 use mathlib.Core.List.{List, [], _∷_, map}
 use mathlib.Core.Option.{Option, none, some}
 use lib.ListN.{length, take}
+use Rattle.calculus.specs.declared.Outcome.{Outcome}
 use Rattle.calculus.specs.Combinators.{choose}
 use Rattle.calculus.specs.Syntax.{Dom, Ty, Val, Tm}
 use Rattle.calculus.specs.Plain.{isPlain}
 use Rattle.calculus.specs.State.{Cell, Print, logOf}
 use Rattle.calculus.specs.Run.{done, Ended}
+use Rattle.calculus.specs.Report.{report}
 use Rattle.calculus.specs.Typing.{Policy, noStore, TmTy}
 
 -- "The high domains are any set of the images' domains that holds 0 and, with each member d, every domain q with d ≤ q."
@@ -54,3 +56,9 @@ pub record Same (hi : Dom → Bool) (E E′ : Ended) : Type 0 where
   -- "Where both runs are done"
   pub result : (v v′ : Val) → E .end ≡ done v → E′ .end ≡ done v′ → v ≡ v′
   pub cells : (v v′ : Val) → E .end ≡ done v → E′ .end ≡ done v′ → highCells hi E ≡ highCells hi E′
+
+-- The same of what the two runs report: "a run is done if its report says outcome 0; its result is the leaves reported for it; its high cells are the reported cell records whose domain is high, in order of creation."
+pub record SameReported (hi : Dom → Bool) (E E′ : Ended) : Type 0 where
+  pub prints : CutEqual (highPrints hi E) (highPrints hi E′)
+  pub result : report E .outcome ≡ some Outcome.Done → report E′ .outcome ≡ some Outcome.Done → report E .result ≡ report E′ .result
+  pub cells : report E .outcome ≡ some Outcome.Done → report E′ .outcome ≡ some Outcome.Done → highOf hi (λ a. a .dom) (report E .cells) ≡ highOf hi (λ a. a .dom) (report E′ .cells)

@@ -1,0 +1,87 @@
+-- Programs that differ only in low bodies are terms that do (document 01, "Two runs compared"): blanking a program is blanking its term.
+use Prim.Native.Nat.{ℕ, zero, suc}
+use mathlib.Core.Path.{_≡_, refl, sym, ap, _∙_}
+use mathlib.Core.Bool.{Bool, true, false, not}
+use mathlib.Core.List.{List}
+use lib.ListN.{getD}
+use Rattle.calculus.specs.Combinators.{choose}
+use Rattle.calculus.specs.Syntax.{Dom, Ty, Val, Tms, val, lam, pcd, adv, lower}
+use Rattle.calculus.specs.Plain.{domOf}
+use Rattle.calculus.specs.Blank.{blank as blankTm, blanks}
+use Rattle.image.specs.Kinds.{TermKind}
+use Rattle.image.specs.Program.{Program, Programs, node, blank, end, more, nth, assemble, toTm, toTms, lowBody, blanked, blankeds}
+
+choose-not : {A : Type 0} (b : Bool) (x y : A) → choose (not b) x y ≡ choose b y x
+choose-not true x y = refl
+choose-not false x y = refl
+
+same-choice : {A : Type 0} (b : Bool) (x : A) → choose b x x ≡ x
+same-choice true x = refl
+same-choice false x = refl
+
+module _ (high : Dom → Bool) where
+  -- Of the subterms fs and es: each of fs is that of es, blanked, or the blank where it is a low body; and all of them are where there is no low body.
+  record Blanked (low : ℕ → Bool) (fs es : Tms) : Type 0 where
+    one : (i : ℕ) → nth fs i ≡ choose (low i) (val Val.unit) (blankTm high (nth es i))
+    every : ((i : ℕ) → low i ≡ false) → fs ≡ blanks high es
+
+  assembled : (k : TermKind) (t : Ty) (vs : List ℕ) (fs es : Tms) → Blanked (lowBody high k t vs) fs es → assemble k t vs fs ≡ blankTm high (assemble k t vs es)
+  unfolding assemble blankTm
+  assembled TermKind.unit t vs fs es h = refl
+  assembled TermKind.truth t vs fs es h = refl
+  assembled TermKind.number t vs fs es h = refl
+  assembled TermKind.var t vs fs es h = refl
+  assembled TermKind.seq t vs fs es h = cc (h .one 0, h .one 1)
+  assembled TermKind.print t vs fs es h = cc (h .one 0)
+  assembled TermKind.ite t vs fs es h = cc (h .one 0, h .one 1, h .one 2)
+  assembled TermKind.pair t vs fs es h = cc (h .one 0, h .one 1)
+  assembled TermKind.split t vs fs es h = cc (h .one 0, h .one 1)
+  assembled TermKind.fun t vs fs es h = ap (lam t) (h .one 0 ∙ choose-not (high (domOf t)) (val Val.unit) (blankTm high (nth es 0)))
+  assembled TermKind.app t vs fs es h = cc (h .one 0, h .one 1)
+  assembled TermKind.arith t vs fs es h = cc (h .one 0, h .one 1)
+  assembled TermKind.newLabel t vs fs es h = refl
+  assembled TermKind.mark t vs fs es h = cc (h .one 0, h .one 1)
+  assembled TermKind.pcd t vs fs es h = ap pcd (h .every (λ i. refl))
+  assembled TermKind.adv t vs fs es h =
+      ap (λ x. adv (domOf t) x (nth fs 1)) (h .one 0)
+      ∙ ap (adv (domOf t) (blankTm high (nth es 0))) (h .one 1 ∙ choose-not (high (domOf t)) (val Val.unit) (blankTm high (nth es 1)))
+  assembled TermKind.install t vs fs es h = cc (h .one 0)
+  assembled TermKind.newCell t vs fs es h = cc (h .one 0)
+  assembled TermKind.read t vs fs es h = cc (h .one 0)
+  assembled TermKind.store t vs fs es h = cc (h .one 0, h .one 1)
+  assembled TermKind.lower t vs fs es h = ap (lower (getD vs 0 0)) (h .one 0 ∙ choose-not (high (getD vs 0 0)) (val Val.unit) (blankTm high (nth es 0)))
+  assembled TermKind.abort t vs fs es h = refl
+  assembled TermKind.byte t vs fs es h = cc (h .one 0)
+
+  -- One more subterm, which stands first.
+  first-blanked : (low : ℕ → Bool) (e : Program) (es : Programs) → toTm (blanked high e) ≡ blankTm high (toTm e) → Blanked (λ i. low (suc i)) (toTms (blankeds high es (λ i. low (suc i)))) (toTms es)
+      → Blanked low (toTms (blankeds high (more e es) low)) (toTms (more e es))
+  unfolding toTm blanked blankTm
+  first-blanked low e es h r = record { one = one; every = every }
+    where
+      head : (b : Bool) → toTm (elim b [ true ↦ blank | false ↦ blanked high e ]) ≡ choose b (val Val.unit) (blankTm high (toTm e))
+      head true = refl
+      head false = h
+
+      one : (i : ℕ) → nth (toTms (blankeds high (more e es) low)) i ≡ choose (low i) (val Val.unit) (blankTm high (nth (toTms (more e es)) i))
+      one zero = head (low 0)
+      one (suc i) = r .one i
+
+      every : ((i : ℕ) → low i ≡ false) → toTms (blankeds high (more e es) low) ≡ blanks high (toTms (more e es))
+      every n = let q = n 0 in let y = r .every (λ i. n (suc i)) in rw q (cc (h, y))
+
+  mutual
+    unfolding toTm blanked blankTm
+
+    -- The term of a blanked program is the program's term, blanked.
+    pub blanked-term : (e : Program) → toTm (blanked high e) ≡ blankTm high (toTm e)
+    blanked-term (node k t vs es) = assembled k t vs (toTms (blankeds high es (lowBody high k t vs))) (toTms es) (blanked-terms es (lowBody high k t vs))
+    blanked-term blank = refl
+
+    blanked-terms : (es : Programs) (low : ℕ → Bool) → Blanked low (toTms (blankeds high es low)) (toTms es)
+    blanked-terms end low = record { one = λ i. sym (same-choice (low i) (val Val.unit)); every = λ n. refl }
+    blanked-terms (more e es) low = first-blanked low e es (blanked-term e) (blanked-terms es (λ i. low (suc i)))
+
+  -- Programs that become equal once every low body gives way to one and the same blank are terms that do.
+  pub same-but-low : (e f : Program) → blanked high e ≡ blanked high f → blankTm high (toTm e) ≡ blankTm high (toTm f)
+  same-but-low e f h = sym (blanked-term e) ∙ ap toTm h ∙ blanked-term f

@@ -1,0 +1,277 @@
+-- What the walk assures of the records that it lays out.
+use Prim.Native.Nat.{ℕ, zero, suc, _+_, _-_, _*_, _/_, _%_, _≤_, _<_}
+use native.Mathlib.Omega.{arith}
+use mathlib.Core.Path.{_≡_, refl, sym, ap, subst, _∙_}
+use mathlib.Core.Bool.{Bool, true, false, not}
+use mathlib.Core.List.{List, [], _∷_, _++_}
+use mathlib.Core.Option.{Option, none, some}
+use lib.ListN.{length, getD, length-append, List·getD-append}
+use lib.Dec.{eqb, ltb}
+use Rattle.image.specs.declared.Refusal.{Refusal}
+use Rattle.image.specs.Limits.{domainLimit, typeLimit, termLimit}
+use Rattle.image.specs.Tests.{allOf, firstFault}
+use Rattle.image.specs.Bytes.{lengthAt, numberAt, fieldAt}
+use Rattle.image.specs.Kinds.{Field, a-type, a-domain, free, TypeKind, TermKind, Kind, domain, type, term, Row, domainRow, typeRow, termRow, rowOf, kindOf, find}
+use Rattle.image.specs.Layout.{Layout, nothing, kindAt, childrenAt, framed, known, rightLength, isNil, inOrder, hasRoom, within, fieldsIn, inRange, sameType, isNew, tests, add, stopped, laid, walk, layout, recordsOf}
+use Rattle.image.specs.Types.{typeKindOf, termKindOf, domainPlace, typePlace, termPlace, typeKind, termKind}
+use Rattle.image.proofs.Facts.{no-path, and-l, and-r, not-t, lt-of, le-of, eq-of, each, all-of, passed, each-snoc}
+use Rattle.image.proofs.Words.{words-length}
+
+-- Each number of a list is below n.
+abbrev pub Below : ℕ → List ℕ → Type 0
+Below n [] = Unit {0}
+Below n (e ∷ es) = (e < n) × Below n es
+
+-- The record at o is whole and has the row r's number, fields and children.
+pub record Stands (b : List ℕ) (r : Row) (o : ℕ) : Type 0 where
+  pub number : numberAt b o ≡ r .number
+  pub inside : o + lengthAt b o ≤ length b
+  pub size : lengthAt b o ≡ 4 + 2 * (length (r .fields) + length (childrenAt b o r))
+  pub least : r .least ≤ length (childrenAt b o r)
+  pub most : length (childrenAt b o r) ≤ r .most
+
+-- The record at o is type t, of kind k, behind the types ts, over so many domains.
+pub record TypeOk (b : List ℕ) (domains : ℕ) (ts : List ℕ) (k : TypeKind) (t o : ℕ) : Type 0 where
+  pub kind : kindOf (numberAt b o) ≡ some (type k)
+  pub stands : Stands b (typeRow k) o
+  pub lower : (i : ℕ) → getD (typeRow k .fields) i free ≡ a-type → fieldAt b o i < t
+  pub domained : (i : ℕ) → getD (typeRow k .fields) i free ≡ a-domain → fieldAt b o i < domains
+  pub apart : (u : ℕ) → u < t → sameType b (typeRow k) o (getD ts u 0) ≡ false
+
+-- The record at o is term n, of kind k, over so many domains and types.
+pub record TermOk (b : List ℕ) (domains types : ℕ) (k : TermKind) (n o : ℕ) : Type 0 where
+  pub kind : kindOf (numberAt b o) ≡ some (term k)
+  pub stands : Stands b (termRow k) o
+  pub typed : fieldAt b o 0 < types
+  pub domained : (i : ℕ) → getD (termRow k .fields) i free ≡ a-domain → fieldAt b o i < domains
+  pub below : Below n (childrenAt b o (termRow k))
+
+pub record Good (L : Layout) : Type 0 where
+  pub few-domains : length (L .domains) ≤ domainLimit
+  pub few-types : length (L .types) ≤ typeLimit
+  pub few-terms : length (L .terms) ≤ termLimit
+  pub domains : (d : ℕ) → d < length (L .domains) → Stands (L .image) domainRow (domainPlace L d)
+  pub types : (t : ℕ) → t < length (L .types) → TypeOk (L .image) (length (L .domains)) (L .types) (typeKind L t) t (typePlace L t)
+  pub terms : (n : ℕ) → n < length (L .terms) → TermOk (L .image) (length (L .domains)) (length (L .types)) (termKind L n) n (termPlace L n)
+
+-- A kind that is found has the number that was looked for.
+find-number : (n : ℕ) (ks : List Kind) (k : Kind) → find n ks ≡ some k → rowOf k .number ≡ n
+unfolding find
+find-number n [] k h = no-path cc
+find-number n (j ∷ js) k h = go (find-number n js k) (eqb (rowOf j .number) n) refl
+  where
+    go : (find n js ≡ some k → rowOf k .number ≡ n) → (t : Bool) → eqb (rowOf j .number) n ≡ t → rowOf k .number ≡ n
+    go rest true e = let z : some j ≡ some k = rw (e, find) at h in let q : j ≡ k = cc in ap (λ x. rowOf x .number) (sym q) ∙ eq-of e
+    go rest false e = rest (rw (e, find) at h)
+
+pub kind-number : (n : ℕ) (k : Kind) → kindOf n ≡ some k → n ≡ rowOf k .number
+kind-number n k h = sym (find-number n _ k h)
+
+-- A record that passes 2, 3 and 4 stands.
+kind-known : (b : List ℕ) (o : ℕ) → known b o ≡ true → kindOf (numberAt b o) ≡ some (kindAt b o)
+kind-known b o h = go (kindOf (numberAt b o)) refl
+  where
+    go : (x : Option Kind) → kindOf (numberAt b o) ≡ x → kindOf (numberAt b o) ≡ some (kindAt b o)
+    go none e = let z : false ≡ true = rw e at h in no-path (sym z)
+    go (some k) e = rw e refl
+
+stands : (b : List ℕ) (o : ℕ) (k : Kind) → framed b o ≡ true → kindOf (numberAt b o) ≡ some k → rightLength (rowOf k) (lengthAt b o) ≡ true → Stands b (rowOf k) o
+stands b o k f q r =
+    let fs = each _ f in
+    let rs = each _ r in
+    let n : ℕ = lengthAt b o in
+    let lead : ℕ = length (rowOf k .fields) in
+    let inside : o + n ≤ length b = le-of (fs .1 .1 .0) in
+    let long : 4 + 2 * (lead + rowOf k .least) ≤ n = le-of (rs .0) in
+    let short : n ≤ 4 + 2 * (lead + rowOf k .most) = le-of (rs .1 .0) in
+    let even : n % 2 ≡ 0 = eq-of (rs .1 .1 .0) in
+    let c : length (childrenAt b o (rowOf k)) ≡ (n - 4) / 2 - lead = words-length b _ _ in
+    record { number = kind-number (numberAt b o) k q; inside = inside; size = omega arith; least = omega arith; most = omega arith }
+
+-- Fields in range.
+in-fields : (L : Layout) (o : ℕ) (fs : List Field) (j : ℕ) → fieldsIn L o fs j ≡ true → (i : ℕ) (f : Field) → getD fs i free ≡ f → within L f (fieldAt (L .image) o (j + i)) ≡ true
+unfolding fieldsIn
+in-fields L o [] j h i f e = rw (← e) refl
+in-fields L o (g ∷ fs) j h zero f e =
+    let z : j ≡ j + 0 = omega arith in
+    rw (← e) (subst (λ m. within L g (fieldAt (L .image) o m) ≡ true) z (and-l (within L g (fieldAt (L .image) o j)) (fieldsIn L o fs (suc j)) h))
+in-fields L o (g ∷ fs) j h (suc i) f e =
+    let z : suc j + i ≡ j + suc i = omega arith in
+    subst (λ m. within L f (fieldAt (L .image) o m) ≡ true) z (in-fields L o fs (suc j) (and-r (within L g (fieldAt (L .image) o j)) (fieldsIn L o fs (suc j)) h) i f e)
+
+in-field : (L : Layout) (o : ℕ) (fs : List Field) → fieldsIn L o fs 0 ≡ true → (i : ℕ) (f : Field) → getD fs i free ≡ f → within L f (fieldAt (L .image) o i) ≡ true
+in-field L o fs h i f e = let z : 0 + i ≡ i = omega arith in subst (λ m. within L f (fieldAt (L .image) o m) ≡ true) z (in-fields L o fs 0 h i f e)
+
+in-children : (m : ℕ) (es : List ℕ) → allOf (λ e. ltb e m) es ≡ true → Below m es
+unfolding allOf
+in-children m [] h = tt
+in-children m (e ∷ es) h = (lt-of (and-l (ltb e m) (allOf (λ e. ltb e m) es) h), in-children m es (and-r (ltb e m) (allOf (λ e. ltb e m) es) h))
+
+-- Every term's first field is its type.
+type-first : (k : TermKind) → getD (termRow k .fields) 0 free ≡ a-type
+type-first TermKind.unit = refl
+type-first TermKind.truth = refl
+type-first TermKind.number = refl
+type-first TermKind.var = refl
+type-first TermKind.seq = refl
+type-first TermKind.print = refl
+type-first TermKind.ite = refl
+type-first TermKind.pair = refl
+type-first TermKind.split = refl
+type-first TermKind.fun = refl
+type-first TermKind.app = refl
+type-first TermKind.arith = refl
+type-first TermKind.newLabel = refl
+type-first TermKind.mark = refl
+type-first TermKind.pcd = refl
+type-first TermKind.adv = refl
+type-first TermKind.install = refl
+type-first TermKind.newCell = refl
+type-first TermKind.read = refl
+type-first TermKind.store = refl
+type-first TermKind.lower = refl
+type-first TermKind.abort = refl
+type-first TermKind.byte = refl
+
+nil : (xs : List ℕ) → isNil xs ≡ true → length xs ≡ 0
+nil [] h = refl
+nil (x ∷ xs) h = no-path (sym h)
+
+-- What 2 to 8 assure of a record of kind k.
+record Passes (L : Layout) (o : ℕ) (k : Kind) : Type 0 where
+  whole : framed (L .image) o ≡ true
+  kind : kindOf (numberAt (L .image) o) ≡ some k
+  right : rightLength (rowOf k) (lengthAt (L .image) o) ≡ true
+  order : inOrder k L ≡ true
+  room : hasRoom k L ≡ true
+  range : inRange L o (rowOf k) ≡ true
+  new : isNew k o L ≡ true
+
+tests-passed : (L : Layout) (o : ℕ) → firstFault (tests L o) ≡ none → Passes L o (kindAt (L .image) o)
+unfolding tests
+tests-passed L o h =
+    let h2 = passed _ _ _ h in
+    let h3 = passed _ _ _ (h2 .1) in
+    let h4 = passed _ _ _ (h3 .1) in
+    let h5 = passed _ _ _ (h4 .1) in
+    let h6 = passed _ _ _ (h5 .1) in
+    let h7 = passed _ _ _ (h6 .1) in
+    let h8 = passed _ _ _ (h7 .1) in
+    record { whole = h2 .0; kind = kind-known (L .image) o (h3 .0); right = h4 .0; order = h5 .0; room = h6 .0; range = h7 .0; new = h8 .0 }
+
+-- A record that passes the tests keeps the layout good.
+add-good : (L : Layout) (o : ℕ) (k : Kind) → kindAt (L .image) o ≡ k → Passes L o k → Good L → Good (add k o L)
+add-good L o domain e p g =
+    let order = each _ (p .order) in
+    let no-types : length (L .types) ≡ 0 = nil (L .types) (order .0) in
+    let no-terms : length (L .terms) ≡ 0 = nil (L .terms) (order .1 .0) in
+    let room : length (L .domains) < domainLimit = lt-of (p .room) in
+    record {
+      few-domains = omega (arith, length-append (L .domains) (o ∷ []));
+      few-types = g .few-types;
+      few-terms = g .few-terms;
+      domains = each-snoc (λ d r. Stands (L .image) domainRow r) (L .domains) o 0 (g .domains) (stands (L .image) o domain (p .whole) (p .kind) (p .right));
+      types = λ t l. absurd (omega arith);
+      terms = λ n l. absurd (omega arith);
+    }
+add-good L o (type k) e p g =
+    let no-terms : length (L .terms) ≡ 0 = nil (L .terms) (p .order) in
+    let room : length (L .types) < typeLimit = lt-of (p .room) in
+    let range = each _ (p .range) in
+    let b : List ℕ = L .image in
+    let ts : List ℕ = L .types ++ (o ∷ []) in
+    let before : (u : ℕ) → u < length (L .types) → getD ts u 0 ≡ getD (L .types) u 0 = λ u l. List·getD-append (L .types) (o ∷ []) 0 u l in
+    let ok : TypeOk b (length (L .domains)) ts k (length (L .types)) o =
+    record {
+      kind = p .kind;
+      stands = stands b o (type k) (p .whole) (p .kind) (p .right);
+      lower = λ i q. lt-of (in-field L o (typeRow k .fields) (range .0) i a-type q);
+      domained = λ i q. lt-of (in-field L o (typeRow k .fields) (range .0) i a-domain q);
+      apart = λ u l. rw (before u l) (not-t (sameType b (typeRow k) o (getD (L .types) u 0)) (all-of (λ q. not (sameType b (typeRow k) o q)) (L .types) (p .new) u 0 l));
+    } in
+    record {
+      few-domains = g .few-domains;
+      few-types = omega (arith, length-append (L .types) (o ∷ []));
+      few-terms = g .few-terms;
+      domains = g .domains;
+      types =
+          each-snoc (λ t r. TypeOk b (length (L .domains)) ts (typeKindOf (kindAt b r)) t r) (L .types) o 0
+          (λ t l. let old = g .types t l in record { kind = old .kind; stands = old .stands; lower = old .lower; domained = old .domained; apart = λ u m. rw (before u (omega arith)) (old .apart u m) })
+          (subst (λ j. TypeOk b (length (L .domains)) ts j (length (L .types)) o) (sym (ap typeKindOf e)) ok);
+      terms = λ n l. absurd (omega arith);
+    }
+add-good L o (term k) e p g =
+    let room : length (L .terms) < termLimit = lt-of (p .room) in
+    let range = each _ (p .range) in
+    let b : List ℕ = L .image in
+    let ok : TermOk b (length (L .domains)) (length (L .types)) k (length (L .terms)) o =
+    record {
+      kind = p .kind;
+      stands = stands b o (term k) (p .whole) (p .kind) (p .right);
+      typed = lt-of (in-field L o (termRow k .fields) (range .0) 0 a-type (type-first k));
+      domained = λ i q. lt-of (in-field L o (termRow k .fields) (range .0) i a-domain q);
+      below = in-children (length (L .terms)) (childrenAt b o (termRow k)) (range .1 .0);
+    } in
+    record {
+      few-domains = g .few-domains;
+      few-types = g .few-types;
+      few-terms = omega (arith, length-append (L .terms) (o ∷ []));
+      domains = g .domains;
+      types = g .types;
+      terms =
+          each-snoc (λ n r. TermOk b (length (L .domains)) (length (L .types)) (termKindOf (kindAt b r)) n r) (L .terms) o 0 (g .terms)
+          (subst (λ j. TermOk b (length (L .domains)) (length (L .types)) j (length (L .terms)) o) (sym (ap termKindOf e)) ok);
+    }
+
+nothing-good : (b : List ℕ) → Good (nothing b)
+nothing-good b =
+    record {
+      few-domains = omega arith;
+      few-types = omega arith;
+      few-terms = omega arith;
+      domains = λ d l. absurd (omega arith);
+      types = λ t l. absurd (omega arith);
+      terms = λ n l. absurd (omega arith);
+    }
+
+-- What each record that passes keeps, the walk keeps.
+module _ (P : Layout → Type 0) (keep : (o : ℕ) (L : Layout) → firstFault (tests L o) ≡ none → P L → P (add (kindAt (L .image) o) o L)) where
+  pub walk-keeps : (f o : ℕ) (L M : Layout) → walk f o L ≡ laid M → P L → P M
+  unfolding walk
+  walk-keeps zero o L M h g = end (eqb o (length (L .image))) refl
+    where
+      end : (t : Bool) → eqb o (length (L .image)) ≡ t → P M
+      end true e = let z : laid L ≡ laid M = rw (e, walk) at h in let q : L ≡ M = cc in subst P q g
+      end false e = let z : stopped Refusal.BrokenRecord o ≡ laid M = rw (e, walk) at h in no-path cc
+  walk-keeps (suc f) o L M h g = end (λ p K z g′. walk-keeps f p K M z g′) (eqb o (length (L .image))) refl
+    where
+      Next : Type 0
+      Next = (p : ℕ) (K : Layout) → walk f p K ≡ laid M → P K → P M
+
+      read : Next → eqb o (length (L .image)) ≡ false → (x : Option Refusal) → firstFault (tests L o) ≡ x → P M
+      read next e (some r) q = let z : stopped r o ≡ laid M = rw (e, q, walk) at h in no-path cc
+      read next e none q =
+          let z : walk f (o + lengthAt (L .image) o) (add (kindAt (L .image) o) o L) ≡ laid M = rw (e, q, walk) at h in
+          next (o + lengthAt (L .image) o) (add (kindAt (L .image) o) o L) z (keep o L q g)
+
+      end : Next → (t : Bool) → eqb o (length (L .image)) ≡ t → P M
+      end next true e = let z : laid L ≡ laid M = rw (e, walk) at h in let q : L ≡ M = cc in subst P q g
+      end next false e = read next e (firstFault (tests L o)) refl
+
+pub layout-good : (b : List ℕ) (L : Layout) → layout b ≡ laid L → Good L
+unfolding layout
+layout-good b L h = walk-keeps Good (λ o K q g. add-good K o (kindAt (K .image) o) refl (tests-passed K o q) g) (length b) 0 (nothing b) L h (nothing-good b)
+
+pub records-of : (b : List ℕ) (L : Layout) → layout b ≡ laid L → recordsOf b ≡ L
+unfolding recordsOf
+records-of b L h = rw (h, recordsOf) refl
+
+-- The image of a layout is the image that was laid out.
+pub same-image : (L : Layout) (o : ℕ) (k : Kind) → add k o L .image ≡ L .image
+same-image L o domain = refl
+same-image L o (type k) = refl
+same-image L o (term k) = refl
+
+pub image-kept : (b : List ℕ) (L : Layout) → layout b ≡ laid L → L .image ≡ b
+unfolding layout
+image-kept b L h = walk-keeps (λ K. K .image ≡ b) (λ o K q e. same-image K o (kindAt (K .image) o) ∙ e) (length b) 0 (nothing b) L h refl

@@ -1,0 +1,8 @@
+-- What the walk assures of the records that it lays out; types and their numbers; programs that differ only in low bodies.
+pub mod Facts
+pub mod Words
+pub mod Laid
+pub mod TypeNumbers
+pub mod Fuel
+pub mod Blanked
+pub mod Lengths

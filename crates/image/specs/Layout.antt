@@ -1,0 +1,138 @@
+-- The layout of an image: the walk over its records, front to back, with the refusals 2 to 8 (document 01, "Turned back at the gate").
+use Prim.Native.Nat.{ℕ, zero, suc, _+_, _-_, _*_, _%_}
+use mathlib.Core.Bool.{Bool, true, false, not, _&&_}
+use mathlib.Core.List.{List, [], _∷_, _++_}
+use mathlib.Core.Option.{Option, none, some}
+use lib.ListN.{length}
+use lib.Dec.{eqb, ltb, leb}
+use Rattle.image.specs.declared.Refusal.{Refusal}
+use Rattle.image.specs.Limits.{domainLimit, typeLimit, termLimit}
+use Rattle.image.specs.Tests.{all, allOf, allBelow, firstFault}
+use Rattle.image.specs.Bytes.{lengthAt, numberAt, fieldCount, fieldAt, fieldsFrom}
+use Rattle.image.specs.Kinds.{Field, a-type, a-domain, an-op, a-truth, free, Kind, domain, type, term, Row, typeRow, rowOf, kindOf}
+
+-- An image and the offsets of its records, section by section, in order: a domain, a type or a term is its place in its list.
+pub record Layout : Type 0 where
+  pub image : List ℕ
+  pub domains : List ℕ
+  pub types : List ℕ
+  pub terms : List ℕ
+
+abbrev pub nothing : List ℕ → Layout
+nothing b = record { image = b; domains = []; types = []; terms = [] }
+
+abbrev pub isSome : {A : Type 0} → Option A → Bool
+isSome none = false
+isSome (some a) = true
+
+abbrev pub orElse : {A : Type 0} → Option A → A → A
+orElse none d = d
+orElse (some a) d = a
+
+-- The kind of the record at o, if its number is one; a domain stands for no kind.
+abbrev pub kindAt : List ℕ → ℕ → Kind
+kindAt b o = orElse (kindOf (numberAt b o)) domain
+
+-- The children of the record at o, of a kind with the row r: its last fields.
+abbrev pub childrenAt : List ℕ → ℕ → Row → List ℕ
+childrenAt b o r = fieldsFrom b o (length (r .fields)) (fieldCount b o - length (r .fields))
+
+-- 2, not: 1 to 3 bytes left, length under 4 or past the end.
+abbrev pub framed : List ℕ → ℕ → Bool
+framed b o = all (leb (o + 4) (length b) ∷ leb 4 (lengthAt b o) ∷ leb (o + lengthAt b o) (length b) ∷ [])
+
+-- 3: the kind is known.
+abbrev pub known : List ℕ → ℕ → Bool
+known b o = isSome (kindOf (numberAt b o))
+
+-- 4: the length n is 4, and 2 for each field and child.
+abbrev pub rightLength : Row → ℕ → Bool
+rightLength r n =
+    let least : ℕ = 4 + 2 * (length (r .fields) + r .least) in
+    let most : ℕ = 4 + 2 * (length (r .fields) + r .most) in
+    all (leb least n ∷ leb n most ∷ eqb (n % 2) 0 ∷ [])
+
+-- 5: no record stands behind one of a later section.
+abbrev pub isNil : List ℕ → Bool
+isNil [] = true
+isNil (x ∷ xs) = false
+
+abbrev pub inOrder : Kind → Layout → Bool
+inOrder domain L = all (isNil (L .types) ∷ isNil (L .terms) ∷ [])
+inOrder (type k) L = isNil (L .terms)
+inOrder (term k) L = true
+
+-- 6: there is room for one more in its section.
+abbrev pub hasRoom : Kind → Layout → Bool
+hasRoom domain L = ltb (length (L .domains)) domainLimit
+hasRoom (type k) L = ltb (length (L .types)) typeLimit
+hasRoom (term k) L = ltb (length (L .terms)) termLimit
+
+-- 7: each field is in its range, the records so far being L's: so a type's parts are lower types, and a term's children lower terms.
+abbrev pub within : Layout → Field → ℕ → Bool
+within L a-type v = ltb v (length (L .types))
+within L a-domain v = ltb v (length (L .domains))
+within L an-op v = leb v 3
+within L a-truth v = leb v 1
+within L free v = true
+
+unfoldable pub fieldsIn : Layout → ℕ → List Field → ℕ → Bool
+fieldsIn L o [] i = true
+fieldsIn L o (f ∷ fs) i = within L f (fieldAt (L .image) o i) && fieldsIn L o fs (suc i)
+
+abbrev pub inRange : Layout → ℕ → Row → Bool
+inRange L o r = all (fieldsIn L o (r .fields) 0 ∷ allOf (λ e. ltb e (length (L .terms))) (childrenAt (L .image) o r) ∷ [])
+
+-- 8: the type at o, of a kind with the row r, is equal to none before it; equal types have the same kind and the same fields.
+abbrev pub sameType : List ℕ → Row → ℕ → ℕ → Bool
+sameType b r o p = all (eqb (numberAt b o) (numberAt b p) ∷ allBelow (length (r .fields)) (λ i. eqb (fieldAt b o i) (fieldAt b p i)) ∷ [])
+
+abbrev pub isNew : Kind → ℕ → Layout → Bool
+isNew domain o L = true
+isNew (type k) o L = allOf (λ p. not (sameType (L .image) (typeRow k) o p)) (L .types)
+isNew (term k) o L = true
+
+-- 2 to 8, in their order: what holds of the record at o, behind the records of L, if it is not refused.
+unfoldable pub tests : Layout → ℕ → List (Refusal × Bool)
+tests L o =
+    let b : List ℕ = L .image in
+    let k : Kind = kindAt b o in
+    (Refusal.BrokenRecord, framed b o)
+    ∷ (Refusal.UnknownKind, known b o)
+    ∷ (Refusal.WrongLength, rightLength (rowOf k) (lengthAt b o))
+    ∷ (Refusal.SectionOrder, inOrder k L)
+    ∷ (Refusal.TooManyRecords, hasRoom k L)
+    ∷ (Refusal.FieldRange, inRange L o (rowOf k))
+    ∷ (Refusal.RepeatedType, isNew k o L)
+    ∷ []
+
+-- The layout with one record more, at o, of kind k.
+abbrev pub add : Kind → ℕ → Layout → Layout
+add domain o L = record { image = L .image; domains = L .domains ++ (o ∷ []); types = L .types; terms = L .terms }
+add (type k) o L = record { image = L .image; domains = L .domains; types = L .types ++ (o ∷ []); terms = L .terms }
+add (term k) o L = record { image = L .image; domains = L .domains; types = L .types; terms = L .terms ++ (o ∷ []) }
+
+pub data Scan : Type 0 where
+  -- refused, at an offset
+  stopped : Refusal → ℕ → Scan
+  laid : Layout → Scan
+
+-- From offset o on, the records before it being L's. Each record takes 4 bytes or more, so f need not pass the image's length.
+unfoldable pub walk : ℕ → ℕ → Layout → Scan
+walk zero o L = elim (eqb o (length (L .image))) [ true ↦ laid L | false ↦ stopped Refusal.BrokenRecord o ]
+walk (suc f) o L =
+    elim (eqb o (length (L .image))) [
+      | true ↦ laid L
+      | false ↦
+          elim (firstFault (tests L o)) [
+            | some r ↦ stopped r o
+            | none ↦ walk f (o + lengthAt (L .image) o) (add (kindAt (L .image) o) o L)
+          ]
+    ]
+
+unfoldable pub layout : List ℕ → Scan
+layout b = walk (length b) 0 (nothing b)
+
+-- The records of an image that the walk does not refuse.
+unfoldable pub recordsOf : List ℕ → Layout
+recordsOf b = elim (layout b) [ laid L ↦ L | stopped r o ↦ nothing b ]

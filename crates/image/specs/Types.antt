@@ -1,0 +1,90 @@
+-- The records of a layout by their numbers, and the types written out in full (document 01, "The image" and "Two runs compared").
+use Prim.Native.Nat.{ℕ, zero, suc, _-_}
+use mathlib.Core.Bool.{Bool}
+use mathlib.Core.List.{List}
+use lib.ListN.{length, getD}
+use lib.Dec.{eqb}
+use Rattle.calculus.specs.Syntax.{Dom, Ty}
+use Rattle.image.specs.Bytes.{numberAt, fieldAt, fieldsFrom}
+use Rattle.image.specs.Kinds.{TypeKind, TermKind, Kind, domain, type, term, typeRow, termRow}
+use Rattle.image.specs.Layout.{Layout, kindAt, childrenAt}
+
+abbrev pub typeKindOf : Kind → TypeKind
+typeKindOf domain = TypeKind.unit
+typeKindOf (type k) = k
+typeKindOf (term k) = TypeKind.unit
+
+abbrev pub termKindOf : Kind → TermKind
+termKindOf domain = TermKind.abort
+termKindOf (type k) = TermKind.abort
+termKindOf (term k) = k
+
+module _ (L : Layout) where
+  -- The offsets of domain d, type t and term n.
+  abbrev pub domainPlace : Dom → ℕ
+  domainPlace d = getD (L .domains) d 0
+
+  abbrev pub typePlace : ℕ → ℕ
+  typePlace t = getD (L .types) t 0
+
+  abbrev pub termPlace : ℕ → ℕ
+  termPlace n = getD (L .terms) n 0
+
+  -- Type t: its kind's number, its kind, its field i.
+  abbrev pub typeNumber : ℕ → ℕ
+  typeNumber t = numberAt (L .image) (typePlace t)
+
+  abbrev pub typeKind : ℕ → TypeKind
+  typeKind t = typeKindOf (kindAt (L .image) (typePlace t))
+
+  abbrev pub typeField : ℕ → ℕ → ℕ
+  typeField t i = fieldAt (L .image) (typePlace t) i
+
+  -- Type t is of kind k.
+  abbrev pub isType : TypeKind → ℕ → Bool
+  isType k t = eqb (typeNumber t) (typeRow k .number)
+
+  -- Term n: its kind, its type number, its fields that are neither type nor child, its children.
+  abbrev pub termKind : ℕ → TermKind
+  termKind n = termKindOf (kindAt (L .image) (termPlace n))
+
+  abbrev pub typeNo : ℕ → ℕ
+  typeNo n = fieldAt (L .image) (termPlace n) 0
+
+  abbrev pub others : ℕ → List ℕ
+  others n = fieldsFrom (L .image) (termPlace n) 1 (length (termRow (termKind n) .fields) - 1)
+
+  abbrev pub children : ℕ → List ℕ
+  children n = childrenAt (L .image) (termPlace n) (termRow (termKind n))
+
+  -- The number of the root, the last term.
+  abbrev pub rootOf : ℕ
+  rootOf = length (L .terms) - 1
+
+-- A type of a kind, with the fields f, its parts written out by g.
+unfoldable pub typeOut : TypeKind → (ℕ → ℕ) → (ℕ → Ty) → Ty
+typeOut TypeKind.unit f g = Ty.unit
+typeOut TypeKind.truth f g = Ty.truth
+typeOut TypeKind.number f g = Ty.number
+typeOut TypeKind.pair f g = Ty.pair (g (f 0)) (g (f 1))
+typeOut TypeKind.fun f g = Ty.fun (g (f 0)) (f 1) (g (f 2))
+typeOut TypeKind.ref f g = Ty.ref (g (f 0)) (f 1)
+typeOut TypeKind.label f g = Ty.label (g (f 0)) (f 1)
+typeOut TypeKind.pcd f g = Ty.pcd (g (f 0)) (f 1)
+typeOut TypeKind.adv f g = Ty.adv (f 0)
+
+-- A type's parts have lower numbers, so a fuel of t + 1 is enough.
+unfoldable pub typeFrom : Layout → ℕ → ℕ → Ty
+typeFrom L zero t = Ty.unit
+typeFrom L (suc f) t = typeOut (typeKind L t) (λ i. typeField L t i) (λ a. typeFrom L f a)
+
+-- Type number t written out in full.
+unfoldable pub typeOf : Layout → ℕ → Ty
+typeOf L t = typeFrom L (suc t) t
+
+-- The type that term n states, and the root's.
+abbrev pub statedType : Layout → ℕ → Ty
+statedType L n = typeOf L (typeNo L n)
+
+abbrev pub rootType : Layout → Ty
+rootType L = statedType L (rootOf L)

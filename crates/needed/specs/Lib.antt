@@ -1,0 +1,2 @@
+-- When a domain rule is needed.
+pub mod Need

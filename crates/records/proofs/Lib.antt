@@ -1,0 +1,4 @@
+-- Laws of codes, of keys, and of what the record reader answers.
+pub mod Codes
+pub mod Keys
+pub mod Heads

@@ -1,0 +1,37 @@
+-- The key of a type: its kind's number and its fields in one number, so that two types are equal exactly if their keys are.
+use Prim.Native.Nat.{ℕ, _+_, _*_, _/_, _%_}
+use mathlib.Core.Path.{_≡_}
+use mathlib.Core.Bool.{Bool, true, false}
+use mathlib.Core.List.{List}
+use lib.ListN.{length}
+use lib.Dec.{ltb}
+use Rattle.image.specs.Bytes.{numberAt, fieldAt}
+use Rattle.image.specs.Kinds.{rowOf}
+use Rattle.image.specs.Layout.{kindAt}
+use Rattle.records.specs.Heads.{pick}
+
+abbrev pub keyOf : ℕ → ℕ → ℕ → ℕ → ℕ
+keyOf k a b c = k + 65536 * a + 4294967296 * b + 281474976710656 * c
+
+abbrev pub keyKind : ℕ → ℕ
+keyKind x = x % 65536
+
+abbrev pub keyField0 : ℕ → ℕ
+keyField0 x = x / 65536 % 65536
+
+abbrev pub keyField1 : ℕ → ℕ
+keyField1 x = x / 4294967296 % 65536
+
+abbrev pub keyField2 : ℕ → ℕ
+keyField2 x = x / 281474976710656
+
+-- Field i of the record at o, 0 where its kind has none.
+abbrev pub fieldOr0 : List ℕ → ℕ → ℕ → ℕ
+fieldOr0 b o i = pick (ltb i (length (rowOf (kindAt b o) .fields))) (fieldAt b o i) 0
+
+-- The number x is the key of the type at o.
+pub record Key (b : List ℕ) (o x : ℕ) : Type 0 where
+  pub kind : keyKind x ≡ numberAt b o
+  pub field0 : keyField0 x ≡ fieldOr0 b o 0
+  pub field1 : keyField1 x ≡ fieldOr0 b o 1
+  pub field2 : keyField2 x ≡ fieldOr0 b o 2

@@ -1,0 +1,19 @@
+-- What the validator's tables hold of an image that is laid out: the offsets of its domains and terms, and the keys of its types.
+use Prim.Native.Nat.{ℕ, _≤_, _<_}
+use mathlib.Core.Path.{_≡_}
+use mathlib.Core.List.{List}
+use lib.ListN.{length, getD, take}
+use Rattle.image.specs.Limits.{imageLimit}
+use Rattle.image.specs.Layout.{laid, layout, recordsOf}
+use Rattle.image.specs.Types.{typePlace}
+use Rattle.records.specs.Keys.{Key}
+
+pub record Tables (b domain-table term-table key-table : List ℕ) : Type 0 where
+  -- the image is laid out, and no longer than an image may be
+  pub laid-out : layout b ≡ laid (recordsOf b)
+  pub short : length b ≤ imageLimit
+  -- the tables are long enough, and their first places hold the offsets
+  pub domains : take (length (recordsOf b .domains)) domain-table ≡ recordsOf b .domains
+  pub terms : take (length (recordsOf b .terms)) term-table ≡ recordsOf b .terms
+  pub enough : length (recordsOf b .types) ≤ length key-table
+  pub keys : (t : ℕ) → t < length (recordsOf b .types) → Key b (typePlace (recordsOf b) t) (getD key-table t 0)
