@@ -1,7 +1,6 @@
 -- The key of a type: its kind's number and its fields in one number, so that two types are equal exactly if their keys are.
 use Prim.Native.Nat.{ℕ, _+_, _*_, _/_, _%_}
 use mathlib.Core.Path.{_≡_}
-use mathlib.Core.Bool.{Bool, true, false}
 use mathlib.Core.List.{List}
 use lib.ListN.{length}
 use lib.Dec.{ltb}

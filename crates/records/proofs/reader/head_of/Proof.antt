@@ -1,11 +1,8 @@
 -- `records::reader::head_of` meets its contract: each answer is the definition's.
 use borrow.Author.Needs.{needs}
-use Prim.Native.Nat.{_-_, _<_, _≤_}
+use Prim.Native.Nat.{_-_}
 use native.Mathlib.Omega.{arith}
-use mathlib.Core.Path.{_≡_, ap, _∙_}
-use lib.ListN.{length}
 use denote.Ref.{now}
-use Rattle.image.specs.Bytes.{le16}
 use Rattle.records.proofs.Heads.{at-end, cut-off, too-short, too-long, whole}
 use Rattle.records.proofs.reader.head_of.Statement.{statement}
 use Rattle.records.proofs.reader.head_of.Tie as tie

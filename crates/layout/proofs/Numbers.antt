@@ -1,0 +1,86 @@
+-- Laws of the tests on numbers: what a loop over the keys has tested so far.
+use Prim.Native.Nat.{ℕ, _+_, _*_, _≤_, _<_}
+use native.Mathlib.Omega.{arith}
+use native.Mathlib.Numerals.{add-one}
+use mathlib.Core.Path.{_≡_, refl, sym, _∙_}
+use mathlib.Core.Bool.{Bool, true, false, not}
+use mathlib.Core.List.{List, [], _∷_}
+use mathlib.Core.Option.{none, some}
+use lib.ListN.{getD}
+use lib.Dec.{eqb}
+use borrow.Author.Tests.{eq-eqb, ne-eqb, not-true, not-false}
+use Rattle.image.specs.declared.Refusal.{Refusal}
+use Rattle.image.specs.Tests.{all, allBelow, firstFault}
+use Rattle.image.proofs.Facts.{no-path, le-of, each, all-below}
+use Rattle.records.specs.Codes.{countOf, leastOf}
+use Rattle.layout.specs.Numbers.{lengthFits, newKey}
+
+module _ (ks : List ℕ) (x : ℕ) where
+  pub new-more : (i : ℕ) → newKey i ks x ≡ true → (x ≡ getD ks i 0 → ⊥) → newKey (i + 1) ks x ≡ true
+  unfolding allBelow
+  new-more i h n = rw (add-one i, h, ne-eqb x (getD ks i 0) n)
+
+  pub not-new : (n i : ℕ) → i < n → x ≡ getD ks i 0 → newKey n ks x ≡ false
+  not-new n i l e = go (newKey n ks x) refl
+    where
+      go : (t : Bool) → newKey n ks x ≡ t → newKey n ks x ≡ false
+      go true q = no-path (sym (all-below n (λ j. not (eqb x (getD ks j 0))) q i l) ∙ rw (eq-eqb x (getD ks i 0) e))
+      go false q = q
+
+-- A record of the right length has its kind's fields.
+pub fits-count : (code n : ℕ) → lengthFits code n ≡ true → 4 + 2 * countOf code ≤ n
+fits-count code n h = let z : 4 + 2 * (countOf code + leastOf code) ≤ n = le-of (each _ h .0) in omega arith
+
+-- A test that a function answers, and whose answer a branch goes by.
+pub yes-of : (r t : Bool) → r ≡ t → not r ≡ false → t ≡ true
+yes-of r t e h = sym e ∙ not-false r h
+
+pub no-of : (r t : Bool) → r ≡ t → not r ≡ true → t ≡ false
+no-of r t e h = sym e ∙ not-true r h
+
+-- 4 to 7: the first that fails.
+module _ (a b c d : Bool) where
+  abbrev pub four : List (Refusal × Bool)
+  four = (Refusal.WrongLength, a) ∷ (Refusal.SectionOrder, b) ∷ (Refusal.TooManyRecords, c) ∷ (Refusal.FieldRange, d) ∷ []
+
+  pub fault4 : a ≡ false → some Refusal.WrongLength ≡ firstFault four
+  unfolding firstFault
+  fault4 h = rw h
+
+  pub fault5 : a ≡ true → b ≡ false → some Refusal.SectionOrder ≡ firstFault four
+  unfolding firstFault
+  fault5 h i = rw (h, i)
+
+  pub fault6 : a ≡ true → b ≡ true → c ≡ false → some Refusal.TooManyRecords ≡ firstFault four
+  unfolding firstFault
+  fault6 h i j = rw (h, i, j)
+
+  pub fault7 : a ≡ true → b ≡ true → c ≡ true → d ≡ false → some Refusal.FieldRange ≡ firstFault four
+  unfolding firstFault
+  fault7 h i j k = rw (h, i, j, k)
+
+  pub no-fault : a ≡ true → b ≡ true → c ≡ true → d ≡ true → none ≡ firstFault four
+  unfolding firstFault
+  no-fault h i j k = rw (h, i, j, k)
+
+-- Two tests as one.
+pub first-fails : (a b : Bool) → a ≡ false → all (a ∷ b ∷ []) ≡ false
+unfolding all
+first-fails a b h = rw h
+
+pub second-fails : (a b : Bool) → a ≡ true → b ≡ false → all (a ∷ b ∷ []) ≡ false
+unfolding all
+second-fails a b h i = rw (h, i)
+
+pub both-hold : (a b : Bool) → a ≡ true → b ≡ true → all (a ∷ b ∷ []) ≡ true
+unfolding all
+both-hold a b h i = rw (h, i)
+
+-- 8: the last test.
+pub repeated : (a : Bool) → a ≡ false → some Refusal.RepeatedType ≡ firstFault ((Refusal.RepeatedType, a) ∷ [])
+unfolding firstFault
+repeated a h = rw h
+
+pub not-repeated : (a : Bool) → a ≡ true → none ≡ firstFault ((Refusal.RepeatedType, a) ∷ [])
+unfolding firstFault
+not-repeated a h = rw h

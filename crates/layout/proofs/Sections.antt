@@ -1,0 +1,70 @@
+-- 4, 5, 6 and 8 of a record of kind k, as tests on numbers.
+use Prim.Native.Nat.{ℕ, suc, _<_}
+use native.Mathlib.Omega.{arith}
+use mathlib.Core.Path.{_≡_, refl, sym, ap, _∙_}
+use mathlib.Core.Bool.{Bool, true, false, not}
+use mathlib.Core.List.{List, [], _∷_}
+use mathlib.Core.Option.{some}
+use lib.ListN.{length, getD}
+use lib.Dec.{eqb, eqb·suc-zero}
+use Rattle.image.specs.Bytes.{numberAt}
+use Rattle.image.specs.Kinds.{TypeKind, Kind, domain, type, term, rowOf, kindOf}
+use Rattle.image.specs.Tests.{allOf, allBelow}
+use Rattle.image.specs.Layout.{Layout, rightLength, isNil, inOrder, hasRoom, isNew}
+use Rattle.image.specs.Types.{typePlace}
+use Rattle.image.proofs.Facts.{and-i, all-of, all-below, below-all}
+use Rattle.records.specs.Codes.{sectionNumber, sectionOf}
+use Rattle.records.specs.Keys.{Key}
+use Rattle.records.proofs.Codes.{Packs}
+use Rattle.records.proofs.Keys.{same-key}
+use Rattle.layout.specs.Sizes.{typeCount, domainCount, termCount}
+use Rattle.layout.specs.Numbers.{lengthFits, orderFits, roomFits, newKey}
+use Rattle.layout.specs.Tables.{Keyed}
+
+-- 4
+pub right-length : (k : Kind) (x n : ℕ) → Packs k x → rightLength (rowOf k) n ≡ lengthFits x n
+right-length k x n P = rw (P .count, P .least, P .most)
+
+nil-length : (xs : List ℕ) → isNil xs ≡ eqb (length xs) 0
+nil-length [] = refl
+nil-length (x ∷ xs) = sym (eqb·suc-zero (length xs))
+
+same-truth : (a b : Bool) → (a ≡ true → b ≡ true) → (b ≡ true → a ≡ true) → a ≡ b
+same-truth true b f g = sym (f refl)
+same-truth false true f g = g refl
+same-truth false false f g = refl
+
+of-all : (ok : ℕ → Bool) (ns : List ℕ) → ((i : ℕ) → i < length ns → ok (getD ns i 0) ≡ true) → allOf ok ns ≡ true
+unfolding allOf
+of-all ok [] h = refl
+of-all ok (n ∷ ns) h = and-i (h 0 (omega arith)) (of-all ok ns (λ i l. h (suc i) (omega arith)))
+
+-- A test of each element is a test at each place.
+all-places : (ok : ℕ → Bool) (ns : List ℕ) (at : ℕ → Bool) → ((i : ℕ) → i < length ns → ok (getD ns i 0) ≡ at i) → allOf ok ns ≡ allBelow (length ns) at
+all-places ok ns at e =
+    same-truth _ _ (λ h. below-all (length ns) at (λ i l. sym (e i l) ∙ all-of ok ns h i 0 l)) (λ h. of-all ok ns (λ i l. e i l ∙ all-below (length ns) at h i l))
+
+module _ (L : Layout) (ss : List ℕ) (types : length (L .types) ≡ typeCount ss) (domains : length (L .domains) ≡ domainCount ss) (terms : length (L .terms) ≡ termCount ss) where
+  -- 5
+  in-order : (k : Kind) → inOrder k L ≡ orderFits (sectionNumber k) ss
+  in-order domain = rw (nil-length (L .types), nil-length (L .terms), types, terms)
+  in-order (type k) = rw (nil-length (L .terms), terms)
+  in-order (term k) = refl
+
+  -- 6
+  has-room : (k : Kind) → hasRoom k L ≡ roomFits (sectionNumber k) ss
+  has-room domain = rw domains
+  has-room (type k) = rw types
+  has-room (term k) = rw terms
+
+  pub order-law : (k : Kind) (x : ℕ) → Packs k x → inOrder k L ≡ orderFits (sectionOf x) ss
+  order-law k x P = in-order k ∙ ap (λ s. orderFits s ss) (sym (P .section))
+
+  pub room-law : (k : Kind) (x : ℕ) → Packs k x → hasRoom k L ≡ roomFits (sectionOf x) ss
+  room-law k x P = has-room k ∙ ap (λ s. roomFits s ss) (sym (P .section))
+
+  -- 8
+  pub new-law : (o : ℕ) (k : TypeKind) (ks : List ℕ) (x : ℕ) → kindOf (numberAt (L .image) o) ≡ some (type k) → Key (L .image) o x → Keyed L ks → isNew (type k) o L ≡ newKey (typeCount ss) ks x
+  new-law o k ks x h X K =
+      all-places _ (L .types) (λ i. not (eqb x (getD ks i 0))) (λ i l. ap not (same-key (L .image) o (typePlace L i) k h x (getD ks i 0) X (K .at i l)))
+      ∙ ap (λ n. newKey n ks x) types
