@@ -22,9 +22,9 @@ depthLimit = 64
 abbrev pub pointcutLimit : ℕ
 pointcutLimit = 8
 
--- The published length of the work area, and the length that every report fits in.
+-- The published length of the work area (3,905 words of 8 bytes and 513 single bytes), and the length that every report fits in.
 abbrev pub workLength : ℕ
-workLength = 31744
+workLength = 31753
 
 abbrev pub reportLength : ℕ
 reportLength = 17994

@@ -1,0 +1,9 @@
+-- The bytes of log and report: laws and theorems, and the proofs of the functions that write them.
+pub mod Lengths
+pub mod Put
+pub mod ReadRecords
+pub mod Narrow
+pub mod ReadBack
+pub mod SameBytes
+pub mod Accepted
+pub mod Examples

@@ -1,0 +1,40 @@
+use native.Mathlib.Omega.{arith}
+use denote.Ref.{now}
+use mathlib.Core.Path.{refl}
+use Rattle.area.specs.Bytes.{bytesOf}
+use Rattle.report.proofs.Put.{record-written}
+use Rattle.report.specs.Records.{bytes16}
+use Rattle.report.specs.Written.{otherCellKind}
+use borrow.Author.Needs.{needs}
+use Rattle.report.proofs.cells.put_other_cell.Statement.{statement}
+use Rattle.report.proofs.cells.put_other_cell.Tie as tie
+use Rattle.report.proofs.cells.put_other_cell.Reads as reads
+use Rattle.report.proofs.cells.put_other_cell.Lts as lts
+use Rattle.report.proofs.numbers.put16.Reads as put16-reads
+use Rattle.report.proofs.numbers.put_header.Reads as put-header-reads
+
+put-header-requires : tie.Need-put-header-requires
+put-header-requires c κs = search needs
+
+add-put16 : tie.Need-add-put16
+add-put16 c = search needs
+
+put16-requires : tie.Need-put16-requires
+put16-requires c κs = search needs
+
+add-result : tie.Need-add-result
+add-result c = search needs
+
+same-length : tie.Need-same-length
+same-length c = search needs
+
+returns : tie.Need-returns
+unfolding bytesOf
+returns c =
+    let a = c .before .before .before .before .before .before .before .before .before .args in
+    (refl, record-written otherCellKind (now (a .report)) (a .at) (bytes16 (a .dom)) 6 refl (c .before .before .before .before .before .before .put-header .ensures) (c .before .before .put16 .ensures) (omega arith))
+
+pub put-other-cell-spec : {M : Type 1} → statement M
+put-other-cell-spec =
+    tie.close
+    (tie.spec put-header-requires add-put16 put16-requires add-result same-length returns)

@@ -1,0 +1,39 @@
+use Prim.Native.Nat.{_%_}
+use native.Mathlib.Omega.{arith}
+use denote.Ref.{now}
+use lib.ListN.{length-set}
+use Rattle.area.proofs.Bytes.{bytes2, stores, stores-over}
+use borrow.Author.Needs.{needs}
+use Rattle.report.proofs.numbers.put16.Statement.{statement}
+use Rattle.report.proofs.numbers.put16.Tie as tie
+use Rattle.report.proofs.numbers.put16.Reads as reads
+use Rattle.report.proofs.numbers.put16.Lts as lts
+
+cast-out : tie.Need-cast-out
+cast-out c = search needs
+
+slice-write-out : tie.Need-slice-write-out
+slice-write-out c = search needs
+
+cast-out-2 : tie.Need-cast-out-2
+cast-out-2 c = search needs
+
+add-out : tie.Need-add-out
+add-out c = search needs
+
+slice-write-out-2 : tie.Need-slice-write-out-2
+slice-write-out-2 c = simp length-set (omega arith)
+
+same-length : tie.Need-same-length
+same-length c = search needs
+
+returns : tie.Need-returns
+unfolding stores
+returns c =
+    let a = c .args in
+    rw (← bytes2 (a .v)) (stores-over (now (a .out)) (a .at) (a .v % 256) _ (omega arith))
+
+pub put16-spec : {M : Type 1} → statement M
+put16-spec =
+    tie.close
+    (tie.spec cast-out slice-write-out cast-out-2 add-out slice-write-out-2 same-length returns)

@@ -1,0 +1,35 @@
+use Prim.Native.Nat.{_+_}
+use native.Mathlib.Omega.{arith}
+use denote.Ref.{now}
+use mathlib.Core.Path.{refl}
+use Rattle.area.specs.Bytes.{bytesOf}
+use Rattle.area.proofs.Over.{onward}
+use Rattle.report.specs.Records.{bytes16}
+use borrow.Author.Needs.{needs}
+use Rattle.report.proofs.numbers.put_header.Statement.{statement}
+use Rattle.report.proofs.numbers.put_header.Tie as tie
+use Rattle.report.proofs.numbers.put_header.Reads as reads
+use Rattle.report.proofs.numbers.put_header.Lts as lts
+use Rattle.report.proofs.numbers.put16.Reads as put16-reads
+
+put16-requires : tie.Need-put16-requires
+put16-requires c κs = search needs
+
+add-put16 : tie.Need-add-put16
+add-put16 c = search needs
+
+put16-requires-2 : tie.Need-put16-requires-2
+put16-requires-2 c κs = search needs
+
+same-length : tie.Need-same-length
+same-length c = search needs
+
+returns : tie.Need-returns
+unfolding bytesOf
+returns c =
+    let a = c .before .before .before .before .before .before .before .before .before .args in
+    onward (bytes16 (a .size)) (bytes16 (a .kind)) (now (a .out)) (a .at) (a .at + 2) (c .before .before .before .before .before .before .put16 .ensures) (c .before .before .put162 .ensures) refl (omega arith)
+
+pub put-header-spec : {M : Type 1} → statement M
+put-header-spec =
+    tie.close (tie.spec put16-requires add-put16 put16-requires-2 same-length returns)

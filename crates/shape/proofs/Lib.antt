@@ -1,0 +1,7 @@
+-- Laws of the passes of refusals 9 to 12.
+pub mod Orders
+pub mod Answers
+pub mod TermRecords
+pub mod UseCounts
+pub mod DepthMarks
+pub mod Zeros

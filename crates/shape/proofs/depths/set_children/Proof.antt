@@ -1,0 +1,78 @@
+-- The loop sets one child after another; the rest of the list is left.
+use borrow.Author.Needs.{needs}
+use Prim.Native.Nat.{_+_, _-_, _≤_, _<_}
+use native.Mathlib.Omega.{arith}
+use mathlib.Core.Path.{_≡_, refl, ap, sym, _∙_}
+use lib.ListN.{length, getD, drop, set}
+use denote.Ref.{now}
+use Rattle.verdicts.specs.Shape.{setAll}
+use Rattle.shape.specs.Records.{childrenOf}
+use Rattle.shape.proofs.DepthMarks.{set-next, set-end}
+use Rattle.shape.proofs.depths.set_children.Statement.{statement}
+use Rattle.shape.proofs.depths.set_children.Tie as tie
+
+abbrev Inv-loop : tie.InvT-loop
+Inv-loop image kinds at d depths₀ first count j₀ depths j = (j ≤ count) × (length depths ≡ length depths₀) × (setAll (childrenOf image at) d depths₀ ≡ setAll (drop j (childrenOf image at)) d depths)
+
+abbrev μ-loop : tie.MeasureT-loop
+μ-loop image kinds at d depths₀ first count j₀ depths j = count - j
+
+first-child-requires : tie.Need-first-child-requires Inv-loop μ-loop
+first-child-requires c κs = search needs
+
+child-count-requires : tie.Need-child-count-requires Inv-loop μ-loop
+child-count-requires c κs = search needs
+
+loop-holds : tie.Need-loop-holds Inv-loop μ-loop
+loop-holds c = (search needs, refl, refl)
+
+child-requires : tie.Need-child-requires Inv-loop μ-loop
+child-requires c κs =
+    let p = c .before .before .before .before .before .before .before .pre in (c .before .before .before .first-child .ensures, p .1, omega (arith, c .before .before .child-count .ensures))
+
+set-mark-requires : tie.Need-set-mark-requires Inv-loop μ-loop
+set-mark-requires c κs =
+    let l = c .before .before .before .loop in
+    let h = c .before .before .before .before .before .before .before .before .before .pre .2 .at (l .j) (omega (arith, c .before .before .before .before .child-count .ensures)) in
+    omega (arith, c .before .child .ensures)
+
+add-j : tie.Need-add-j Inv-loop μ-loop
+add-j c = search needs
+
+loop-less : tie.Need-loop-less Inv-loop μ-loop
+loop-less c = search needs
+
+loop-again : tie.Need-loop-again Inv-loop μ-loop
+loop-again c =
+    let l = c .before .before .before .before .before .before .loop in
+    let a = c .before .before .before .before .before .before .before .before .before .before .before .before .args in
+    let cs = childrenOf (now (a .image)) (a .at) in
+    let h : l .j < length cs = omega (arith, c .before .before .before .before .before .before .before .child-count .ensures) in
+    let q : c .before .before .set-mark .last .0 ≡ set (l .depths) (getD cs (l .j) 0) (a .d) = rw (c .before .before .before .before .child .ensures) at (c .before .before .set-mark .ensures) in
+    (search needs, c .before .before .set-mark .kept .0 ∙ l .inv .1, l .inv .2 ∙ set-next cs (l .depths) (a .d) (l .j) h ∙ ap (λ ds. setAll (drop (l .j + 1) cs) (a .d) ds) (sym q))
+
+same-length : tie.Need-same-length Inv-loop μ-loop
+same-length c = search needs
+
+returns : tie.Need-returns Inv-loop μ-loop
+returns c =
+    let l = c .before .loop in
+    let a = c .before .before .before .before .before .before .before .args in
+    sym (l .inv .2 ∙ set-end (childrenOf (now (a .image)) (a .at)) (l .depths) (a .d) (l .j) (omega (arith, c .before .before .child-count .ensures)))
+
+pub set-children-spec : {M : Type 1} → statement M
+set-children-spec =
+    tie.close
+    (tie.spec
+    Inv-loop
+    μ-loop
+    first-child-requires
+    child-count-requires
+    loop-holds
+    child-requires
+    set-mark-requires
+    add-j
+    loop-less
+    loop-again
+    same-length
+    returns)

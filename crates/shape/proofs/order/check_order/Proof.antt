@@ -1,0 +1,22 @@
+-- The rows stand for the order of the layout.
+use borrow.Author.Needs.{needs}
+use mathlib.Core.Path.{_∙_}
+use denote.Ref.{now}
+use Rattle.image.specs.Layout.{recordsOf}
+use Rattle.shape.proofs.Orders.{order-same}
+use Rattle.shape.proofs.order.check_order.Statement.{statement}
+use Rattle.shape.proofs.order.check_order.Tie as tie
+
+order-of-requires : tie.Need-order-of-requires
+order-of-requires c κs = search needs
+
+first-unordered-requires : tie.Need-first-unordered-requires
+first-unordered-requires c κs = search needs
+
+returns : tie.Need-returns
+returns c =
+    let a = c .before .before .before .before .args in
+    c .first-unordered .ensures ∙ order-same (recordsOf (now (a .image))) (now (a .image)) (now (a .doms)) (c .before .before .before .before .pre) (c .before .order-of .result) (c .before .order-of .ensures)
+
+pub check-order-spec : {M : Type 1} → statement M
+check-order-spec = tie.close (tie.spec order-of-requires first-unordered-requires returns)

@@ -1,0 +1,6 @@
+-- What the passes of refusals 9 to 12 ask of the tables, and what they hold on their way.
+pub mod Records
+pub mod Faults
+pub mod Marks
+pub mod Checks
+pub mod Counted

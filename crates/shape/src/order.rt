@@ -1,0 +1,128 @@
+// Refusal 10: the order of the domains, as sixteen rows of sixteen truths, by value, and the first domain at fault in it.
+use image::Refusal;
+use verdicts::Verdict;
+ghost use mathlib.Core.Path.{_≡_};
+ghost use Prim.Native.Nat.{_≤_, _<_};
+ghost use mathlib.Core.Bool.{not, _&&_, _||_};
+ghost use lib.ListN.{length};
+ghost use Rattle.image.specs.Limits.{domainLimit};
+ghost use Rattle.image.specs.Layout.{recordsOf};
+ghost use Rattle.verdicts.specs.Order.{bits};
+ghost use Rattle.shape.specs.Faults.{gapIn, faultIn, faulty, orderFrom, Rows};
+ghost use Rattle.shape.specs.Records.{Domains};
+ghost use Rattle.shape.specs.Checks.{domainsOrdered};
+
+// The bits of a mask, lowest first.
+fn row_of(mask: u16) -> [bool; 16]
+    ensures { λ r. ⌜ r ≡ bits domainLimit mask ⌝ }
+{
+    let mut row = [false; 16];
+    let mut m = mask;
+    let mut q: usize = 0;
+    while q < 16 {
+        row[q] = m % 2 == 1;
+        m = m / 2;
+        q += 1;
+    }
+    row
+}
+
+// The order; the rows of absent domains are all false.
+pub fn order_of(image: &[u8], doms: &[u16]) -> [[bool; 16]; 16]
+    requires { ⌜ Domains (now image) (now doms) ⌝ }
+    ensures { λ r. ⌜ Rows (recordsOf (now (image .entry))) r ⌝ }
+{
+    let mut o = [[false; 16]; 16];
+    let mut d: usize = 0;
+    while d < doms.len() {
+        let at = records::numbers::domain_offset(doms, records::numbers::DomainNo(d as u16));
+        let row = row_of(records::words::field_at(image, at, 0));
+        o[d] = row;
+        d += 1;
+    }
+    o
+}
+
+fn either(a: bool, b: bool) -> bool
+    ensures { λ r. ⌜ r ≡ (a || b) ⌝ }
+{
+    a || b
+}
+
+fn lacking(a: bool, b: bool) -> bool
+    ensures { λ r. ⌜ r ≡ (a && not b) ⌝ }
+{
+    a && !b
+}
+
+// A domain with the row b names some domain, present or not, that one with the row a does not name.
+fn gap_in(a: [bool; 16], b: [bool; 16]) -> bool
+    ensures { λ r. ⌜ r ≡ gapIn a b ⌝ }
+{
+    let mut found = false;
+    let mut f: usize = 0;
+    while f < 16 {
+        found = either(found, lacking(b[f], a[f]));
+        f += 1;
+    }
+    found
+}
+
+// Domain e, with the row b, puts domain d, with the row a, at fault, of n domains.
+fn fault_in(a: [bool; 16], b: [bool; 16], n: usize, d: usize, e: usize) -> bool
+    requires { ⌜ (d < domainLimit) × (e < domainLimit) ⌝ }
+    ensures { λ r. ⌜ r ≡ faultIn a b n d e ⌝ }
+{
+    if !a[e] {
+        return false;
+    }
+    if n <= e {
+        return true;
+    }
+    if e != d {
+        if b[d] {
+            return true;
+        }
+    }
+    gap_in(a, b)
+}
+
+// Domain d, of n, is at fault.
+fn at_fault(o: [[bool; 16]; 16], n: usize, d: usize) -> bool
+    requires { ⌜ d < domainLimit ⌝ }
+    ensures { λ r. ⌜ r ≡ faulty o n d ⌝ }
+{
+    if !o[d][d] {
+        return true;
+    }
+    let mut found = false;
+    let mut e: usize = 0;
+    while e < 16 {
+        found = either(found, fault_in(o[d], o[e], n, d, e));
+        e += 1;
+    }
+    found
+}
+
+// Refused at the first domain at fault.
+fn first_unordered(o: [[bool; 16]; 16], doms: &[u16]) -> Verdict
+    requires { ⌜ length (now doms) ≤ domainLimit ⌝ }
+    ensures { λ r. ⌜ r ≡ orderFrom (now (doms .entry)) o (length (now (doms .entry))) 0 ⌝ }
+{
+    let mut d: usize = 0;
+    while d < doms.len() {
+        if at_fault(o, doms.len(), d) {
+            let at = records::numbers::domain_offset(doms, records::numbers::DomainNo(d as u16));
+            return Verdict::Refused(Refusal::DomainOrder, at);
+        }
+        d += 1;
+    }
+    Verdict::Accepted
+}
+
+pub fn check_order(image: &[u8], doms: &[u16]) -> Verdict
+    requires { ⌜ Domains (now image) (now doms) ⌝ }
+    ensures { λ r. ⌜ r ≡ domainsOrdered (recordsOf (now (image .entry))) ⌝ }
+{
+    first_unordered(order_of(image, doms), doms)
+}
