@@ -1,0 +1,3 @@
+-- What a finished scan gives.
+pub mod Filling
+pub mod Passes

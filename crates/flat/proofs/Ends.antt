@@ -1,0 +1,104 @@
+-- What it says that the flat machine ended as a run of the calculus did.
+use Prim.Native.Nat.{ℕ, _+_, _*_, _≤_, _<_}
+use mathlib.Core.Path.{_≡_, refl, sym, _∙_}
+use mathlib.Core.Bool.{true, false, true≢false}
+use mathlib.Core.List.{List, _++_}
+use mathlib.Core.Option.{some}
+use lib.ListN.{length, getD, drop, length-map, List·getD-map}
+use Rattle.calculus.specs.declared.Outcome.{Outcome}
+use Rattle.calculus.specs.Combinators.{choose}
+use Rattle.calculus.specs.Syntax.{Val, Tm}
+use Rattle.calculus.specs.State.{Cell, Given, logOf, noCell, fresh}
+use Rattle.calculus.specs.Run.{EndOf, done, stopped, Ended, ended, run}
+use Rattle.calculus.specs.Report.{outcomeNumber, outcomeOf}
+use Rattle.machine.specs.Closure.{CVal, CState, plainVal, plainCell, plainAdvice, plainState}
+use Rattle.flat.specs.Memory.{boundValue, cellAt, cellNote}
+use Rattle.flat.specs.States.{State, withRegs}
+use Rattle.flat.specs.Rows.{Program}
+use Rattle.flat.specs.Turn.{opened}
+use Rattle.flat.proofs.Relations.{sizes, IsVal}
+use Rattle.flat.proofs.Sound.{Sound}
+use Rattle.flat.proofs.Store.{logBytes, Store}
+use Rattle.flat.proofs.Now.{Halted, halted-done, halted-stopped}
+
+module _ (term : ℕ → Tm) (S : State) where
+  -- The word w of the machine's tables stands for the value v.
+  pub record Stands (w : ℕ) (v : Val) : Type 0 where
+    pub value : CVal
+    pub is : IsVal term (S .memory) (sizes (S .regs)) w value
+    pub plain : plainVal value ≡ v
+
+  -- Cell i is the cell c.
+  pub record StandsCell (i : ℕ) (c : Cell Val) : Type 0 where
+    pub held : Stands (boundValue (cellAt (S .memory) i)) (c .held)
+    pub note : cellNote (cellAt (S .memory) i) ≡ c .dom + choose (c .plain) 16 0
+    pub low : c .dom < 16
+
+  -- N was the budget, L the log at the start; E is the ended run.
+  pub record FlatEnds (N : ℕ) (L : List ℕ) (E : Ended) : Type 0 where
+    pub outcome : Outcome
+    pub ends : outcomeOf (E .end) ≡ some outcome
+    pub mode : S .regs .mode ≡ 16 + outcomeNumber outcome
+    pub steps : E .steps + S .regs .left ≡ N
+    -- if the run is done, c has its value
+    pub result : (v : Val) → E .end ≡ done v → Stands (S .regs .c) v
+    pub log : S .log ≡ logBytes (logOf (E .state .trace)) ++ drop (S .regs .at) L
+    pub log-at : S .regs .at ≡ 10 * length (logOf (E .state .trace))
+    pub log-fits : S .regs .at ≤ length L
+    pub cells : (i : ℕ) → i < S .regs .nc → StandsCell i (getD (E .state .cells) i (noCell Val.unit))
+    pub cells-count : S .regs .nc ≡ length (E .state .cells)
+    pub cells-used : S .regs .nc ≡ E .state .used .cells
+    pub cells-fit : S .regs .nc ≤ 256
+    pub bindings : S .regs .nb ≡ E .state .used .bindings
+    pub bindings-fit : S .regs .nb ≤ 2048
+    pub pieces : S .regs .np ≡ E .state .used .pieces
+    pub pieces-fit : S .regs .np ≤ 512
+    pub labels : S .regs .nl ≡ length (E .state .labels)
+    pub labels-fit : S .regs .nl ≤ 64
+    pub advices : S .regs .ni ≡ length (E .state .advices)
+    pub advices-fit : S .regs .ni ≤ 64
+
+module _ (term : ℕ → Tm) (S : State) (N : ℕ) (L : List ℕ) where
+  -- From the closure machine's state to the calculus's.
+  ends-of : (e : EndOf Val) (o : Outcome) (k : ℕ) (s : CState) → outcomeOf e ≡ some o → S .regs .mode ≡ 16 + outcomeNumber o → k + S .regs .left ≡ N
+      → ((v : Val) → e ≡ done v → Stands term S (S .regs .c) v) → Store term L (S .memory) (S .log) (sizes (S .regs)) s → FlatEnds term S N L (ended e k (plainState s))
+  unfolding plainVal
+  ends-of e o k s p q b r st =
+      record {
+        outcome = o;
+        ends = p;
+        mode = q;
+        steps = b;
+        result = r;
+        log = st .logged;
+        log-at = st .log-at;
+        log-fits = st .log-fits;
+        cells = λ i h.
+            let c = st .are-cells i h in
+            let cell : StandsCell term S i (plainCell (getD (s .cells) i (noCell CVal.unit))) =
+            record { held = record { value = getD (s .cells) i (noCell CVal.unit) .held; is = c .value; plain = refl }; note = c .note; low = c .low } in
+            rw (List·getD-map plainCell (s .cells) i (noCell CVal.unit)) cell;
+        cells-count = st .cells-count ∙ sym (length-map (s .cells) plainCell);
+        cells-used = st .cells;
+        cells-fit = st .cells-fit;
+        bindings = st .bindings;
+        bindings-fit = st .bindings-fit;
+        pieces = st .pieces;
+        pieces-fit = st .pieces-fit;
+        labels = st .labels;
+        labels-fit = st .labels-fit;
+        advices = st .advices ∙ sym (length-map (s .advices) plainAdvice);
+        advices-fit = st .advices-fit;
+      }
+
+module _ (C : Program) (term : ℕ → Tm) (G : Given) (e₀ : Tm) (Ω : Sound G e₀) (N : ℕ) (L : List ℕ) where
+  done-only : {v u : Val} → _≡_ {A = EndOf Val} (done v) (done u) → v ≡ u
+  done-only p = cc
+
+  not-done : {A : Type 0} (o : Outcome) (v : Val) → _≡_ {A = EndOf Val} (stopped o) (done v) → A
+  not-done o v p = let t : true ≡ false = cc in absurd (true≢false t)
+
+  pub halted-ends : (S : State) → Halted C term G e₀ Ω N L (withRegs (opened (S .regs)) S) → FlatEnds term S N L (run N G 0 fresh e₀)
+  halted-ends S (halted-done {k = k} {s = s} {v = u} m e st iv b) =
+      rw e (ends-of term S N L (done (plainVal u)) Outcome.Done k s refl m b (λ v q. record { value = u; is = iv; plain = done-only q }) st)
+  halted-ends S (halted-stopped {k = k} {s = s} o m e st b) = rw e (ends-of term S N L (stopped o) o k s refl m b (λ v q. not-done o v q) st)

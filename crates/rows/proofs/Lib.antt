@@ -1,0 +1,12 @@
+-- That the rows of an image say what its terms are.
+pub mod Pack
+pub mod Table
+pub mod Ranges
+pub mod Nodes
+pub mod Operands
+pub mod Fields
+pub mod Decoded
+pub mod Noted
+pub mod Arranged
+pub mod Keyed
+pub mod Reading

@@ -1,0 +1,109 @@
+-- What stands in the image at the offsets of a table of terms.
+use Prim.Native.Nat.{ℕ, zero, suc, _+_, _-_, _*_, _≤_, _<_}
+use native.Mathlib.Omega.{arith}
+use mathlib.Core.Path.{_≡_, sym, ap, subst, _∙_}
+use mathlib.Core.List.{List, [], _∷_}
+use lib.ListN.{length, getD}
+use lib.Dec.{lit≤}
+use Rattle.image.specs.Bytes.{le16, lengthAt, numberAt, fieldCount, fieldAt}
+use Rattle.image.specs.Kinds.{TermKind, term, termRow}
+use Rattle.image.specs.Layout.{laid, layout, recordsOf, childrenAt}
+use Rattle.image.specs.Types.{termPlace, termKind, typeNo, others, children}
+use Rattle.image.proofs.Words.{words-length, words-at}
+use Rattle.image.proofs.Laid.{Below, TermOk, Good, layout-good, image-kept}
+use Rattle.verdicts.specs.Check.{typeNos}
+use Rattle.records.specs.Codes.{countOf, codeAt}
+use Rattle.records.proofs.Codes.{known-code}
+use Rattle.rules.specs.Lent.{Terms, IsTerm}
+use Rattle.rules.proofs.Lists.{map-at, table-long, table-at}
+
+-- Every term has a type.
+typed-first : (k : TermKind) → 1 ≤ length (termRow k .fields)
+typed-first TermKind.unit = lit≤ tt
+typed-first TermKind.truth = lit≤ tt
+typed-first TermKind.number = lit≤ tt
+typed-first TermKind.var = lit≤ tt
+typed-first TermKind.seq = lit≤ tt
+typed-first TermKind.print = lit≤ tt
+typed-first TermKind.ite = lit≤ tt
+typed-first TermKind.pair = lit≤ tt
+typed-first TermKind.split = lit≤ tt
+typed-first TermKind.fun = lit≤ tt
+typed-first TermKind.app = lit≤ tt
+typed-first TermKind.arith = lit≤ tt
+typed-first TermKind.newLabel = lit≤ tt
+typed-first TermKind.mark = lit≤ tt
+typed-first TermKind.pcd = lit≤ tt
+typed-first TermKind.adv = lit≤ tt
+typed-first TermKind.install = lit≤ tt
+typed-first TermKind.newCell = lit≤ tt
+typed-first TermKind.read = lit≤ tt
+typed-first TermKind.store = lit≤ tt
+typed-first TermKind.lower = lit≤ tt
+typed-first TermKind.abort = lit≤ tt
+typed-first TermKind.byte = lit≤ tt
+
+pub below-at : (n : ℕ) (es : List ℕ) (i : ℕ) → Below n es → i < length es → getD es i 0 < n
+below-at n [] i b h = absurd (omega arith)
+below-at n (e ∷ es) zero b h = b .0
+below-at n (e ∷ es) (suc i) b h = below-at n es i (b .1) (omega arith)
+
+module _ (b : List ℕ) (laid-out : layout b ≡ laid (recordsOf b)) where
+  pub good-of : Good (recordsOf b)
+  good-of = layout-good b (recordsOf b) laid-out
+
+  pub image-is : recordsOf b .image ≡ b
+  image-is = image-kept b (recordsOf b) laid-out
+
+module _ (b table : List ℕ) (T : Terms b table) (n : ℕ) (h : IsTerm b n) where
+  pub term-ok : TermOk b (length (recordsOf b .domains)) (length (recordsOf b .types)) (termKind (recordsOf b) n) n (termPlace (recordsOf b) n)
+  term-ok =
+      subst (λ i. TermOk i (length (recordsOf b .domains)) (length (recordsOf b .types)) (termKind (recordsOf b) n) n (termPlace (recordsOf b) n))
+      (image-is b (T .laid-out)) (good-of b (T .laid-out) .terms n h)
+
+  pub in-table : n < length table
+  in-table = let z = table-long table (recordsOf b .terms) (T .offsets) in omega arith
+
+  pub place-is : getD table n 0 ≡ termPlace (recordsOf b) n
+  place-is = table-at table (recordsOf b .terms) (T .offsets) n h
+
+  -- The record is whole, and as long as its fields and children ask.
+  pub inside : termPlace (recordsOf b) n + lengthAt b (termPlace (recordsOf b) n) ≤ length b
+  inside = term-ok .stands .inside
+
+  pub children-is : children (recordsOf b) n ≡ childrenAt b (termPlace (recordsOf b) n) (termRow (termKind (recordsOf b) n))
+  children-is = ap (λ i. childrenAt i (termPlace (recordsOf b) n) (termRow (termKind (recordsOf b) n))) (image-is b (T .laid-out))
+
+  pub size : lengthAt b (termPlace (recordsOf b) n) ≡ 4 + 2 * (length (termRow (termKind (recordsOf b) n) .fields) + length (children (recordsOf b) n))
+  size = rw children-is (term-ok .stands .size)
+
+  pub has-type : 1 ≤ length (termRow (termKind (recordsOf b) n) .fields)
+  has-type = typed-first (termKind (recordsOf b) n)
+
+  pub type-is : typeNo (recordsOf b) n ≡ fieldAt b (termPlace (recordsOf b) n) 0
+  type-is = ap (λ i. fieldAt i (termPlace (recordsOf b) n) 0) (image-is b (T .laid-out))
+
+  pub lead-is : countOf (codeAt (numberAt b (termPlace (recordsOf b) n))) ≡ length (termRow (termKind (recordsOf b) n) .fields)
+  lead-is = known-code (numberAt b (termPlace (recordsOf b) n)) (term (termKind (recordsOf b) n)) (term-ok .kind) .count
+
+  -- Child i is the field behind the lead fields and i children.
+  pub child-is : (i : ℕ) → i < length (children (recordsOf b) n)
+      → (fieldAt b (termPlace (recordsOf b) n) (length (termRow (termKind (recordsOf b) n) .fields) + i) ≡ getD (children (recordsOf b) n) i 0) × (getD (children (recordsOf b) n) i 0 < n)
+  child-is i l =
+      let k : ℕ = length (termRow (termKind (recordsOf b) n) .fields) in
+      let o : ℕ = termPlace (recordsOf b) n in
+      let m : i < fieldCount b o - k = rw (children-is, words-length) at l in
+      let e : o + 4 + 2 * k + 2 * i ≡ o + 4 + 2 * (k + i) = omega arith in
+      let w : getD (childrenAt b o (termRow (termKind (recordsOf b) n))) i 0 ≡ fieldAt b o (k + i) = words-at b (o + 4 + 2 * k) (fieldCount b o - k) i m ∙ ap (λ j. le16 b j) e in
+      (sym w ∙ ap (λ es. getD es i 0) (sym children-is), rw children-is (below-at n (childrenAt b o (termRow (termKind (recordsOf b) n))) i (term-ok .below) (rw children-is at l)))
+
+  pub child-type-is : (i : ℕ) → i < length (children (recordsOf b) n) → getD (typeNos (recordsOf b) (children (recordsOf b) n)) i 0 ≡ typeNo (recordsOf b) (getD (children (recordsOf b) n) i 0)
+  child-type-is i l = map-at (λ e. typeNo (recordsOf b) e) (children (recordsOf b) n) i 0 0 l
+
+  -- The field behind the type, where it is no child.
+  pub other-is : 1 < length (termRow (termKind (recordsOf b) n) .fields) → getD (others (recordsOf b) n) 0 0 ≡ fieldAt b (termPlace (recordsOf b) n) 1
+  other-is l =
+      let o : ℕ = termPlace (recordsOf b) n in
+      let k : ℕ = length (termRow (termKind (recordsOf b) n) .fields) in
+      let e : o + 4 + 2 * 1 + 2 * 0 ≡ o + 4 + 2 * 1 = omega arith in
+      words-at (recordsOf b .image) (o + 4 + 2 * 1) (k - 1) 0 (omega arith) ∙ ap (λ i. le16 i (o + 4 + 2 * 1 + 2 * 0)) (image-is b (T .laid-out)) ∙ ap (λ j. le16 b j) e

@@ -1,0 +1,14 @@
+-- `rules::judge::both` meets its contract.
+use mathlib.Core.Path.{_∙_, sym}
+use Rattle.rules.proofs.Small.{alone, holds-first, fails-first}
+use Rattle.rules.proofs.judge.both.Statement.{statement}
+use Rattle.rules.proofs.judge.both.Tie as tie
+
+returns : tie.Need-returns
+returns c = sym (alone (c .before .args .b)) ∙ holds-first (c .before .args .a) _ (c .if1 .taken)
+
+returns-2 : tie.Need-returns-2
+returns-2 c = fails-first (c .before .args .a) _ (c .if1 .left)
+
+pub both-spec : {M : Type 1} → statement M
+both-spec = tie.close (tie.spec returns returns-2)

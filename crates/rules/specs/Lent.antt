@@ -1,0 +1,65 @@
+-- What the functions of this crate are lent: the offsets of the domains and the terms, the keys of the types and the masks of the domains of an image that is laid out, each in a table of its own; and the context of variables, in the first places of a scope.
+use Prim.Native.Nat.{ℕ, zero, suc, _≤_, _<_}
+use mathlib.Core.Path.{_≡_}
+use mathlib.Core.List.{List, [], _∷_}
+use lib.ListN.{length, getD, take}
+use Rattle.calculus.specs.Syntax.{Dom}
+use Rattle.image.specs.Limits.{domainLimit}
+use Rattle.image.specs.Bytes.{numberAt}
+use Rattle.image.specs.Kinds.{TermKind, termRow}
+use Rattle.image.specs.Layout.{laid, layout, recordsOf}
+use Rattle.image.specs.Types.{typePlace, termPlace, children}
+use Rattle.verdicts.specs.Order.{masks}
+use Rattle.verdicts.specs.Settings.{Setting}
+use Rattle.verdicts.specs.Check.{typeNos}
+use Rattle.records.specs.Codes.{kindCodes}
+use Rattle.records.specs.Keys.{Key}
+
+pub record Domains (b table : List ℕ) : Type 0 where
+  pub laid-out : layout b ≡ laid (recordsOf b)
+  pub offsets : take (length (recordsOf b .domains)) table ≡ recordsOf b .domains
+
+pub record Terms (b table : List ℕ) : Type 0 where
+  pub laid-out : layout b ≡ laid (recordsOf b)
+  pub offsets : take (length (recordsOf b .terms)) table ≡ recordsOf b .terms
+
+pub record Types (b table : List ℕ) : Type 0 where
+  pub laid-out : layout b ≡ laid (recordsOf b)
+  pub enough : length (recordsOf b .types) ≤ length table
+  pub keys : (t : ℕ) → t < length (recordsOf b .types) → Key b (typePlace (recordsOf b) t) (getD table t 0)
+
+-- The mask of each domain, 0 where there is none.
+pub record Masks (b table : List ℕ) : Type 0 where
+  pub sixteen : length table ≡ domainLimit
+  pub each : (d : ℕ) → getD table d 0 ≡ getD (masks (recordsOf b)) d 0
+
+-- All that the rules read: the table of kinds, and those of domains, terms and types.
+pub record Lent (b kind-table mask-table term-table key-table : List ℕ) : Type 0 where
+  pub kinds : kind-table ≡ kindCodes
+  pub masks : Masks b mask-table
+  pub terms : Terms b term-table
+  pub types : Types b key-table
+
+-- The number of one of the image's terms; of one of its types.
+abbrev pub IsTerm : List ℕ → ℕ → Type 0
+IsTerm b n = n < length (recordsOf b .terms)
+
+abbrev pub IsType : List ℕ → ℕ → Type 0
+IsType b t = t < length (recordsOf b .types)
+
+-- The types that the children of term n state.
+abbrev pub childTypes : List ℕ → ℕ → List ℕ
+childTypes b n = typeNos (recordsOf b) (children (recordsOf b) n)
+
+-- The types of the variables, innermost first: they stand in the first places of a scope, the innermost last.
+unfoldable pub contextIn : List ℕ → ℕ → List ℕ
+contextIn scope zero = []
+contextIn scope (suc n) = getD scope n 0 ∷ contextIn scope n
+
+abbrev pub settingIn : List ℕ → ℕ → Dom → Setting ℕ
+settingIn scope n c = record { context = contextIn scope n; dom = c }
+
+-- Term n is of a kind with a fixed number of children that is no variable: neither 35 nor 46.
+pub record Fixed (b : List ℕ) (n : ℕ) : Type 0 where
+  pub no-variable : numberAt b (termPlace (recordsOf b) n) ≡ termRow TermKind.var .number → ⊥
+  pub no-pointcut : numberAt b (termPlace (recordsOf b) n) ≡ termRow TermKind.pcd .number → ⊥

@@ -1,0 +1,5 @@
+-- Laws of the leaves of plain types, of the scope, and of the pass over the terms.
+pub mod PlainTypes
+pub mod ChildSettings
+pub mod TermPass
+pub mod Root

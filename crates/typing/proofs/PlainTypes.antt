@@ -1,0 +1,145 @@
+-- The leaves of plain types, from their keys.
+use Prim.Native.Nat.{ℕ, _+_, _≤_, _<_}
+use native.Mathlib.Omega.{arith}
+use mathlib.Core.Path.{_≡_, refl, sym, ap, _∙_}
+use mathlib.Core.Bool.{Bool, true, false}
+use mathlib.Core.List.{List}
+use mathlib.Core.Option.{Option, none, some}
+use lib.ListN.{length, getD}
+use lib.Dec.{eqb, ltb, leb, lit<}
+use borrow.Author.Tests.{leb-false, lt-leb, lt-ltb, ne-eqb}
+use Rattle.calculus.specs.Limits.{leafLimit}
+use Rattle.calculus.specs.Syntax.{Ty}
+use Rattle.calculus.specs.Plain.{bothLeaves, leafCount, isPlain}
+use Rattle.image.specs.Bytes.{numberAt}
+use Rattle.image.specs.Kinds.{TypeKind, typeRow}
+use Rattle.image.specs.Layout.{recordsOf}
+use Rattle.image.specs.Types.{typePlace, typeKind, typeField, isType, typeOut, typeOf}
+use Rattle.image.proofs.Facts.{no-path, le-of, of-eq}
+use Rattle.image.proofs.Laid.{Good, layout-good, image-kept}
+use Rattle.image.proofs.TypeNumbers.{type-out, type-kind}
+use Rattle.records.specs.Keys.{keyKind, keyField0, keyField1}
+use Rattle.rules.specs.Lent.{Types}
+use Rattle.rules.proofs.Keys.{key-says}
+use Rattle.typing.specs.Leaves.{atMost, plainLeaves, joinLeaves, leavesOf}
+
+-- Every type of plain parts has a leaf.
+pub some-leaf : (t : Ty) (n : ℕ) → leafCount t ≡ some n → 1 ≤ n
+some-leaf Ty.unit n h = let z : 1 ≡ n = cc in omega arith
+some-leaf Ty.truth n h = let z : 1 ≡ n = cc in omega arith
+some-leaf Ty.number n h = let z : 1 ≡ n = cc in omega arith
+some-leaf (Ty.pair a b) n h = go (leafCount a) (leafCount b) (some-leaf a) h
+  where
+    go : (x y : Option ℕ) → ((m : ℕ) → x ≡ some m → 1 ≤ m) → bothLeaves x y ≡ some n → 1 ≤ n
+    go none y f e = no-path cc
+    go (some m) none f e = no-path cc
+    go (some m) (some k) f e = let z : m + k ≡ n = cc in let w = f m refl in omega arith
+some-leaf (Ty.fun a p b) n h = no-path cc
+some-leaf (Ty.ref a p) n h = no-path cc
+some-leaf (Ty.label a p) n h = no-path cc
+some-leaf (Ty.pcd a p) n h = no-path cc
+some-leaf (Ty.adv p) n h = no-path cc
+
+at-most-few : (x : Option ℕ) → atMost x ≤ leafLimit
+at-most-few none = omega arith
+at-most-few (some n) = go (leb n leafLimit) refl
+  where
+    go : (b : Bool) → leb n leafLimit ≡ b → atMost (some n) ≤ leafLimit
+    go true e = rw e (le-of e)
+    go false e = rw e (omega arith)
+
+pub plain-few : (t : Ty) → plainLeaves t ≤ leafLimit
+unfolding plainLeaves
+plain-few t = at-most-few (leafCount t)
+
+join-zero : (m : ℕ) → joinLeaves m 0 ≡ 0
+unfolding joinLeaves
+join-zero m = go (eqb m 0) refl
+  where
+    go : (b : Bool) → eqb m 0 ≡ b → joinLeaves m 0 ≡ 0
+    go true e = rw e
+    go false e = rw e
+
+-- The leaves of a pair are joined from its parts'.
+join-right : (x y : Option ℕ) → ((m : ℕ) → x ≡ some m → 1 ≤ m) → ((n : ℕ) → y ≡ some n → 1 ≤ n) → joinLeaves (atMost x) (atMost y) ≡ atMost (bothLeaves x y)
+unfolding joinLeaves
+join-right none y f g = refl
+join-right (some m) none f g = join-zero (atMost (some m))
+join-right (some m) (some n) f g = go (leb m leafLimit) refl (leb n leafLimit) refl
+  where
+    a : 1 ≤ m
+    a = f m refl
+
+    b : 1 ≤ n
+    b = g n refl
+
+    past : leafLimit < m → 1 ≤ n → leafLimit < m + n
+    past h k = omega arith
+
+    past′ : leafLimit < n → 1 ≤ m → leafLimit < m + n
+    past′ h k = omega arith
+
+    go : (p : Bool) → leb m leafLimit ≡ p → (q : Bool) → leb n leafLimit ≡ q → joinLeaves (atMost (some m)) (atMost (some n)) ≡ atMost (bothLeaves (some m) (some n))
+    go true d true e = simp (d, e, ne-eqb m 0 (λ z. let w = a in omega arith), ne-eqb n 0 (λ z. let w = b in omega arith))
+    go false d q e = simp (d, lt-leb (m + n) leafLimit (past (leb-false m leafLimit d) b))
+    go true d false e = simp (d, e, lt-leb (m + n) leafLimit (past′ (leb-false n leafLimit e) a)) (join-zero m)
+
+pub join-plain : (a b : Ty) → joinLeaves (plainLeaves a) (plainLeaves b) ≡ plainLeaves (Ty.pair a b)
+unfolding plainLeaves
+join-plain a b = join-right (leafCount a) (leafCount b) (some-leaf a) (some-leaf b)
+
+-- The leaves of a type of kind k, with the fields f and its parts written out by g, from its key and a table that has its parts.
+by-kind : (k : TypeKind) (f : ℕ → ℕ) (g : ℕ → Ty) (x : ℕ) (table : List ℕ) → keyKind x ≡ typeRow k .number
+    → (typeRow k .number ≡ 19 → (getD table (keyField0 x) 0 ≡ plainLeaves (g (f 0))) × (getD table (keyField1 x) 0 ≡ plainLeaves (g (f 1)))) → leavesOf x table ≡ plainLeaves (typeOut k f g)
+unfolding leavesOf typeOut plainLeaves
+by-kind TypeKind.unit f g x table e h = rw e
+by-kind TypeKind.truth f g x table e h = rw e
+by-kind TypeKind.number f g x table e h = rw e
+by-kind TypeKind.pair f g x table e h = let z = h refl in rw (e, z .0, z .1) (join-plain (g (f 0)) (g (f 1)))
+by-kind TypeKind.fun f g x table e h = rw e
+by-kind TypeKind.ref f g x table e h = rw e
+by-kind TypeKind.label f g x table e h = rw e
+by-kind TypeKind.pcd f g x table e h = rw e
+by-kind TypeKind.adv f g x table e h = rw e
+
+-- Type t, after the types before it.
+module _ (b keys : List ℕ) (T : Types b keys) (t : ℕ) (h : t < length (recordsOf b .types)) where
+  good-types : Good (recordsOf b)
+  good-types = layout-good b (recordsOf b) (T .laid-out)
+
+  kind-key : keyKind (getD keys t 0) ≡ typeRow (typeKind (recordsOf b) t) .number
+  kind-key = T .keys t h .kind ∙ sym (ap (λ i. numberAt i (typePlace (recordsOf b) t)) (image-kept b (recordsOf b) (T .laid-out))) ∙ good-types .types t h .stands .number
+
+  is-pair : keyKind (getD keys t 0) ≡ 19 → isType (recordsOf b) TypeKind.pair t ≡ true
+  is-pair e = key-says b keys T t h .is TypeKind.pair ∙ of-eq e
+
+  -- The parts of a pair: fields of the key, and lower types.
+  pub pair-parts : keyKind (getD keys t 0) ≡ 19
+      → (typeField (recordsOf b) t 0 ≡ keyField0 (getD keys t 0)) × (typeField (recordsOf b) t 1 ≡ keyField1 (getD keys t 0)) × (keyField0 (getD keys t 0) < t) × (keyField1 (getD keys t 0) < t)
+  pair-parts e =
+      let s = key-says b keys T t h in
+      let p = is-pair e in
+      let k = type-kind (recordsOf b) good-types TypeKind.pair t h p in
+      let x = s .field0 TypeKind.pair p (lit< tt) in
+      let y = s .field1 TypeKind.pair p (lit< tt) in
+      let l = good-types .types t h .lower in
+      (x, y, rw (← x) (l 0 (rw k refl)), rw (← y) (l 1 (rw k refl)))
+
+  pub leaves-right : (table : List ℕ) → ((u : ℕ) → u < t → getD table u 0 ≡ plainLeaves (typeOf (recordsOf b) u)) → leavesOf (getD keys t 0) table ≡ plainLeaves (typeOf (recordsOf b) t)
+  leaves-right table before =
+      by-kind (typeKind (recordsOf b) t) (λ i. typeField (recordsOf b) t i) (λ a. typeOf (recordsOf b) a) (getD keys t 0) table kind-key
+      (λ e. let p = pair-parts (kind-key ∙ e) in (before _ (p .2) ∙ ap (λ a. plainLeaves (typeOf (recordsOf b) a)) (sym (p .0)), before _ (p .3) ∙ ap (λ a. plainLeaves (typeOf (recordsOf b) a)) (sym (p .1))))
+      ∙ ap plainLeaves (sym (type-out (recordsOf b) good-types t h))
+
+-- A type is plain where it has leaves in the table.
+pub plain-is : (t : Ty) → isPlain t ≡ ltb 0 (plainLeaves t)
+unfolding plainLeaves
+plain-is t = go (leafCount t) refl
+  where
+    go : (x : Option ℕ) → leafCount t ≡ x → isPlain t ≡ ltb 0 (plainLeaves t)
+    go none e = rw e
+    go (some n) e = small (leb n leafLimit) refl
+      where
+        small : (q : Bool) → leb n leafLimit ≡ q → isPlain t ≡ ltb 0 (plainLeaves t)
+        small true d = rw (e, d) (sym (lt-ltb 0 n (some-leaf t n e)))
+        small false d = rw (e, d)

@@ -1,0 +1,53 @@
+-- The typing pass in parts: verdicts in turn, a child of a term where it stands in a scope, the root.
+use Prim.Native.Nat.{ℕ, _+_, _≤_, _<_}
+use mathlib.Core.Path.{_≡_}
+use mathlib.Core.Bool.{Bool, true, false}
+use mathlib.Core.List.{List}
+use lib.ListN.{take, length}
+use lib.Dec.{ltb}
+use Rattle.calculus.specs.Plain.{isPlain}
+use Rattle.image.specs.declared.Refusal.{Refusal}
+use Rattle.image.specs.Layout.{Layout, recordsOf}
+use Rattle.image.specs.Types.{termPlace, children, rootOf, rootType}
+use Rattle.verdicts.specs.declared.Verdict.{Verdict}
+use Rattle.verdicts.specs.Answers.{require}
+use Rattle.verdicts.specs.Check.{settingAt, check, rootSetting}
+use Rattle.rules.specs.Lent.{Lent, IsTerm, settingIn}
+use Rattle.rules.specs.Scalars.{ruleVerdict}
+
+abbrev pub isRefused : Verdict → Bool
+isRefused Verdict.Accepted = false
+isRefused (Verdict.Refused r place) = true
+
+-- Term n of the image b passes its rule in the scope, at the domain c, and has a child i; and there is room for two variables more.
+pub record Passed (b kinds masks terms keys scope : List ℕ) (len c n i : ℕ) : Type 0 where
+  pub lent : Lent b kinds masks terms keys
+  pub term : IsTerm b n
+  pub ruled : ruleVerdict (recordsOf b) (settingIn scope len c) n ≡ Verdict.Accepted
+  pub child : i < length (children (recordsOf b) n)
+  pub room : len + 2 ≤ length scope
+
+-- Child i stands in the first m places of the scope after, at the domain d; the first places that were used are kept.
+pub record ChildAt (b before after : List ℕ) (len c n i m d : ℕ) : Type 0 where
+  pub stands : settingIn after m d ≡ settingAt (recordsOf b) (settingIn before len c) n i
+  pub kept : take len after ≡ take len before
+  pub grown : len ≤ m
+  pub little : m ≤ len + 2
+
+-- So many domains, types and terms, of these one at least.
+pub record Counted (b : List ℕ) (domains types terms : ℕ) : Type 0 where
+  pub domain-count : domains ≡ length (recordsOf b .domains)
+  pub type-count : types ≡ length (recordsOf b .types)
+  pub term-count : terms ≡ length (recordsOf b .terms)
+  pub some-term : 0 < terms
+
+-- The two parts of the typing pass: 13 to 15 from the root on, and 16.
+unfoldable pub rootChecked : Layout → Verdict
+rootChecked L = check L (length (L .terms)) (rootSetting L) (rootOf L)
+
+unfoldable pub rootPlain : Layout → Verdict
+rootPlain L = require (isPlain (rootType L)) Refusal.RootNotPlain (termPlace L (rootOf L))
+
+-- 16 at an offset, from the number of leaves.
+unfoldable pub plainAt : ℕ → ℕ → Verdict
+plainAt leaves place = require (ltb 0 leaves) Refusal.RootNotPlain place

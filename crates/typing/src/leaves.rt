@@ -1,0 +1,61 @@
+// The leaves of the plain types, by number.
+use records::numbers::TypeNo;
+use records::numbers::type_key;
+use rules::types::first_type;
+use rules::types::is_kind;
+use rules::types::second_type;
+ghost use mathlib.Core.Path.{_≡_};
+ghost use Prim.Native.Nat.{_≤_, _<_};
+ghost use lib.ListN.{length, getD};
+ghost use Rattle.calculus.specs.Limits.{leafLimit};
+ghost use Rattle.image.specs.Layout.{recordsOf};
+ghost use Rattle.records.specs.Keys.{keyKind, keyField0, keyField1};
+ghost use Rattle.rules.specs.Lent.{Types};
+ghost use Rattle.typing.specs.Leaves.{joinLeaves, leavesOf, Part, LeafTable};
+
+fn join_leaves(m: u8, n: u8) -> u8
+    requires { ⌜ (m ≤ leafLimit) × (n ≤ leafLimit) ⌝ }
+    ensures { λ r. ⌜ r ≡ joinLeaves m n ⌝ }
+{
+    if m == 0 {
+        return 0;
+    }
+    if n == 0 {
+        return 0;
+    }
+    if m + n <= 8 { m + n } else { 0 }
+}
+
+pub fn leaves_at(table: &[u8], t: TypeNo) -> u8
+    requires { ⌜ t .0 < length (now table) ⌝ }
+    ensures { λ r. ⌜ r ≡ getD (now (table .entry)) (t .0) 0 ⌝ }
+{
+    table[t.0 as usize]
+}
+
+// Of the type with a key, the types before it being in the table.
+fn leaves_of(key: u64, table: &[u8]) -> u8
+    requires { ⌜ (keyKind key ≡ 19 → Part (now table) (keyField0 key) × Part (now table) (keyField1 key)) ⌝ }
+    ensures { λ r. ⌜ r ≡ leavesOf key (now (table .entry)) ⌝ }
+{
+    let kind = records::numbers::key_kind(key);
+    if kind == 19 {
+        let m = leaves_at(table, first_type(key));
+        let n = leaves_at(table, second_type(key));
+        return join_leaves(m, n);
+    }
+    if kind < 19 { 1 } else { 0 }
+}
+
+// Fills the first places of a table with the leaves of the types.
+pub fn set_leaves(image: &[u8], keys: &[u64], count: usize, table: &mut [u8])
+    requires { ⌜ Types (now image) (now keys) × (count ≡ length (recordsOf (now image) .types)) × (count ≤ length (now table)) ⌝ }
+    ensures { λ _. ⌜ LeafTable (now (image .entry)) (now (table .entry)) (now (table .exit)) ⌝ }
+{
+    let mut t: usize = 0;
+    while t < count {
+        let n = leaves_of(keys[t], table);
+        table[t] = n;
+        t += 1;
+    }
+}

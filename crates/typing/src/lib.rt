@@ -1,0 +1,89 @@
+// An inner crate: refusals 13 to 16, the typing pass (document 01, "Typing" and "Turned back at the gate"). It is linear in
+// the image.
+use records::numbers::DomainNo;
+use records::numbers::TermNo;
+use verdicts::Verdict;
+ghost use mathlib.Core.Path.{_≡_};
+ghost use Prim.Native.Nat.{_<_};
+ghost use lib.ListN.{length, getD};
+ghost use Rattle.image.specs.Layout.{recordsOf};
+ghost use Rattle.verdicts.specs.Check.{typing};
+ghost use Rattle.records.specs.Codes.{kindCodes};
+ghost use Rattle.records.specs.Tables.{Tables};
+ghost use Rattle.rules.specs.Lent.{Lent, Terms, Types, IsTerm};
+ghost use Rattle.typing.specs.Turns.{Counted, rootChecked, rootPlain, plainAt};
+
+pub mod leaves;
+pub mod pass;
+pub mod scope;
+
+// The root is the last term. It is checked with no variables, at domain 0.
+fn check_root(
+    image: &[u8],
+    kinds: &[u32],
+    masks: &[u16],
+    terms: &[u16],
+    keys: &[u64],
+    count: usize,
+) -> Verdict
+    requires { ⌜ Lent (now image) (now kinds) (now masks) (now terms) (now keys) × (count ≡ length (recordsOf (now image) .terms)) × (0 < count) ⌝ }
+    ensures { λ r. ⌜ r ≡ rootChecked (recordsOf (now (image .entry))) ⌝ }
+{
+    let mut scope = [0u8; 2048];
+    let root = TermNo((count - 1) as u16);
+    pass::check_term(
+        image,
+        kinds,
+        masks,
+        terms,
+        keys,
+        &mut scope,
+        0,
+        DomainNo(0),
+        root,
+    )
+}
+
+// 16 for a term at an offset, from the leaves of its type.
+fn plain_at(leaves: u8, at: usize) -> Verdict
+    ensures { λ r. ⌜ r ≡ plainAt leaves at ⌝ }
+{
+    if 0 < leaves {
+        return Verdict::Accepted;
+    }
+    Verdict::Refused(image::Refusal::RootNotPlain, at)
+}
+
+fn check_plain(image: &[u8], terms: &[u16], keys: &[u64], types: usize, count: usize) -> Verdict
+    requires { ⌜ Terms (now image) (now terms) × Types (now image) (now keys) × (types ≡ length (recordsOf (now image) .types)) × (count ≡ length (recordsOf (now image) .terms)) × (0 < count) ⌝ }
+    ensures { λ r. ⌜ r ≡ rootPlain (recordsOf (now (image .entry))) ⌝ }
+{
+    let mut table = [0u8; 128];
+    leaves::set_leaves(image, keys, types, &mut table);
+    let root = TermNo((count - 1) as u16);
+    let n = leaves::leaves_at(&table, rules::terms::term_type(image, terms, root));
+    plain_at(n, rules::terms::term_place(image, terms, root))
+}
+
+// Refusals 13 to 16 of an image with so many domains, types and terms, and the tables that hold them.
+pub fn check_typing(
+    image: &[u8],
+    kinds: &[u32],
+    domains: usize,
+    types: usize,
+    count: usize,
+    doms: &[u16],
+    terms: &[u16],
+    keys: &[u64],
+) -> Verdict
+    requires { ⌜ Tables (now image) (now doms) (now terms) (now keys) × (now kinds ≡ kindCodes) × Counted (now image) domains types count ⌝ }
+    ensures { λ r. ⌜ r ≡ typing (recordsOf (now (image .entry))) ⌝ }
+{
+    let mut masks = [0u16; 16];
+    rules::domains::set_masks(image, doms, domains, &mut masks);
+    let v = check_root(image, kinds, &masks, terms, keys, count);
+    if pass::is_refused(v) {
+        return v;
+    }
+    check_plain(image, terms, keys, types, count)
+}

@@ -1,0 +1,2 @@
+-- The verdict by its parts.
+pub mod Parts

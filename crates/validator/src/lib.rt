@@ -1,0 +1,52 @@
+// The validator (document 01, "Turned back at the gate"): which images are accepted, and the one refusal of every other.
+// It reads the image alone and writes no lent memory.
+use image::Refusal;
+use verdicts::Verdict;
+ghost use mathlib.Core.Path.{_≡_};
+ghost use Prim.Native.Nat.{_≤_};
+ghost use lib.ListN.{length};
+ghost use Rattle.image.specs.Limits.{imageLimit};
+ghost use Rattle.verdicts.specs.Verdicts.{verdict};
+ghost use Rattle.examine.specs.Examined.{examined};
+
+// Refusals 2 to 16, with tables of its own.
+fn examine_whole(image: &[u8]) -> Verdict
+    requires { ⌜ length (now image) ≤ imageLimit ⌝ }
+    ensures { λ r. ⌜ r ≡ examined (now (image .entry)) ⌝ }
+{
+    let kinds = records::kinds::kind_codes();
+    let mut sizes = layout::start_sizes();
+    let mut doms = [0u16; 16];
+    let mut types = [0u16; 128];
+    let mut keys = [0u64; 128];
+    let mut terms = [0u16; 1024];
+    examine::examine_image(
+        image,
+        &kinds,
+        &mut sizes,
+        &mut doms,
+        &mut types,
+        &mut keys,
+        &mut terms,
+    )
+}
+
+// The verdict on an image, for a work area and a report of so many bytes: refusals 1 to 18 in their order.
+pub fn validate(image: &[u8], work: usize, report: usize) -> Verdict
+    ensures { λ r. ⌜ r ≡ verdict (now (image .entry)) work report ⌝ }
+{
+    if 16384 < image.len() {
+        return Verdict::Refused(Refusal::ImageTooLong, 0);
+    }
+    let v = examine_whole(image);
+    if typing::pass::is_refused(v) {
+        return v;
+    }
+    if work < 31753 {
+        return Verdict::Refused(Refusal::ShortWorkArea, 0);
+    }
+    if report < 17994 {
+        return Verdict::Refused(Refusal::ShortReport, 0);
+    }
+    Verdict::Accepted
+}
