@@ -8,6 +8,7 @@ ghost use lib.ListN.{length};
 ghost use Rattle.image.specs.Limits.{imageLimit};
 ghost use Rattle.verdicts.specs.Verdicts.{verdict};
 ghost use Rattle.examine.specs.Examined.{examined};
+ghost use Rattle.validator.specs.Numbers.{verdictNumber, verdictPlace};
 
 // Refusals 2 to 16, with tables of its own.
 fn examine_whole(image: &[u8]) -> Verdict
@@ -49,4 +50,38 @@ pub fn validate(image: &[u8], work: usize, report: usize) -> Verdict
         return Verdict::Refused(Refusal::ShortReport, 0);
     }
     Verdict::Accepted
+}
+
+// A verdict's number, 0 for accepted, and its place.
+pub fn verdict_number(v: Verdict) -> u16
+    ensures { λ r. ⌜ r ≡ verdictNumber v ⌝ }
+{
+    match v {
+        Verdict::Accepted => 0,
+        Verdict::Refused(why, _) => image::refusal_number(why),
+    }
+}
+
+pub fn verdict_place(v: Verdict) -> usize
+    ensures { λ r. ⌜ r ≡ verdictPlace v ⌝ }
+{
+    match v {
+        Verdict::Accepted => 0,
+        Verdict::Refused(_, place) => place,
+    }
+}
+
+// The same for callers in other languages.
+#[no_mangle]
+pub extern "C" fn validate_number(image: &[u8], work: usize, report: usize) -> u16
+    ensures { λ r. ⌜ r ≡ verdictNumber (verdict (now (image .entry)) work report) ⌝ }
+{
+    verdict_number(validate(image, work, report))
+}
+
+#[no_mangle]
+pub extern "C" fn validate_place(image: &[u8], work: usize, report: usize) -> usize
+    ensures { λ r. ⌜ r ≡ verdictPlace (verdict (now (image .entry)) work report) ⌝ }
+{
+    verdict_place(validate(image, work, report))
 }

@@ -1,0 +1,24 @@
+use borrow.Author.Needs.{needs}
+use mathlib.Core.Path.{ap, _∙_}
+use Rattle.validator.specs.Numbers.{verdictNumber}
+use Rattle.validator.proofs.validate_number.Statement.{statement}
+use Rattle.validator.proofs.validate_number.Tie as tie
+use Rattle.validator.proofs.validate_number.Reads as reads
+use Rattle.validator.proofs.validate_number.Lts as lts
+use Rattle.validator.proofs.validate.Reads as validate-reads
+use Rattle.validator.proofs.verdict_number.Reads as verdict-number-reads
+
+-- src/lib.rt:79:20
+validate-requires : tie.Need-validate-requires
+validate-requires c κs = search needs
+
+-- src/lib.rt:79:5
+verdict-number-requires : tie.Need-verdict-number-requires
+verdict-number-requires c κs = search needs
+
+-- src/lib.rt:75:1
+returns : tie.Need-returns
+returns c = c .verdict-number .ensures ∙ ap verdictNumber (c .before .validate .ensures)
+
+pub validate-number-spec : {M : Type 1} → statement M
+validate-number-spec = tie.close (tie.spec validate-requires verdict-number-requires returns)

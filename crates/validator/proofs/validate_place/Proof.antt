@@ -1,0 +1,24 @@
+use borrow.Author.Needs.{needs}
+use mathlib.Core.Path.{ap, _∙_}
+use Rattle.validator.specs.Numbers.{verdictPlace}
+use Rattle.validator.proofs.validate_place.Statement.{statement}
+use Rattle.validator.proofs.validate_place.Tie as tie
+use Rattle.validator.proofs.validate_place.Reads as reads
+use Rattle.validator.proofs.validate_place.Lts as lts
+use Rattle.validator.proofs.validate.Reads as validate-reads
+use Rattle.validator.proofs.verdict_place.Reads as verdict-place-reads
+
+-- src/lib.rt:86:19
+validate-requires : tie.Need-validate-requires
+validate-requires c κs = search needs
+
+-- src/lib.rt:86:5
+verdict-place-requires : tie.Need-verdict-place-requires
+verdict-place-requires c κs = search needs
+
+-- src/lib.rt:82:1
+returns : tie.Need-returns
+returns c = c .verdict-place .ensures ∙ ap verdictPlace (c .before .validate .ensures)
+
+pub validate-place-spec : {M : Type 1} → statement M
+validate-place-spec = tie.close (tie.spec validate-requires verdict-place-requires returns)

@@ -1,0 +1,2 @@
+-- A verdict in numbers.
+pub mod Numbers
