@@ -1,0 +1,2 @@
+-- What the demands say of images.
+pub mod Images

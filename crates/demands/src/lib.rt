@@ -1,0 +1,1 @@
+// The demands, about accepted images: definitions in specs/, theorems in proofs/.
