@@ -52,5 +52,3 @@ module _ (L : Layout) (ms : List ℕ) (order : (d q : ℕ) → leq L d q ≡ bit
   leaf-right TermKind.lower h v = absurd (omega arith)
   leaf-right TermKind.abort h v = refl
   leaf-right TermKind.byte h v = absurd (omega arith)
-
--- x

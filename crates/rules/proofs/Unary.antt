@@ -10,7 +10,7 @@ use Rattle.image.specs.Layout.{Layout}
 use Rattle.image.proofs.Facts.{each}
 use Rattle.verdicts.specs.Order.{leq}
 use Rattle.verdicts.specs.Check.{rule}
-use Rattle.rules.specs.Scalars.{judged, bitOf, unaryRule}
+use Rattle.rules.specs.Scalars.{judged, bitOf, unaryAtDomain, unaryRule}
 use Rattle.rules.proofs.Alike.{next, fits-alike}
 use Rattle.rules.proofs.Keys.{Says}
 
@@ -18,7 +18,7 @@ module _ (L : Layout) (ms : List ℕ) (order : (d q : ℕ) → leq L d q ≡ bit
   -- The field behind the type counts for a lower alone.
   pub unary-right : (k : TermKind) → termRow k .most ≡ 1 → (termRow k .number ≡ 52 → getD vs 0 0 ≡ f)
       → judged place (rule L Γ c t vs ts k) ≡ judged place (unaryRule ms (termRow k .number) t o f (getD ts 0 0) x c)
-  unfolding unaryRule
+  unfolding unaryRule unaryAtDomain
   unary-right TermKind.unit h F = absurd (omega arith)
   unary-right TermKind.truth h F = absurd (omega arith)
   unary-right TermKind.number h F = absurd (omega arith)
@@ -63,5 +63,3 @@ module _ (L : Layout) (ms : List ℕ) (order : (d q : ℕ) → leq L d q ≡ bit
       fits-alike place _ _ _ _
       (next _ _ _ _ (O .is TypeKind.number) (λ _. next _ _ _ _ (X .is TypeKind.number) (λ _. refl)))
       (λ _. refl)
-
--- x

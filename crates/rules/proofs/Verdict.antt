@@ -18,7 +18,7 @@ use Rattle.verdicts.specs.Settings.{Setting}
 use Rattle.verdicts.specs.Check.{rule}
 use Rattle.records.specs.Codes.{kindCodes, countOf, codeAt}
 use Rattle.records.proofs.Codes.{known-code}
-use Rattle.rules.specs.Lent.{Lent, Terms, IsTerm, IsType, Fixed, childTypes, contextIn, settingIn}
+use Rattle.rules.specs.Lent.{Lent, Masks, Terms, IsTerm, IsType, Fixed, childTypes, contextIn, settingIn}
 use Rattle.rules.specs.Scalars.{judged, ruleVerdict, leafRule, unaryRule, binaryRule, chooseRule, pointcutRule}
 use Rattle.rules.proofs.Small.{unbound}
 use Rattle.rules.proofs.Keys.{Says, key-says}
@@ -94,7 +94,7 @@ module _ (b terms : List ℕ) (T : Terms b terms) (n : ℕ) (h : IsTerm b n) whe
       ap (λ q. judged (termPlace (recordsOf b) n) (rule (recordsOf b) (p .context) (p .dom) (typeNo (recordsOf b) n) (others (recordsOf b) n) (childTypes b n) q)) (sym e)
 
 -- Where the tables are lent.
-module _ (b kinds masks terms keys : List ℕ) (G : Lent b kinds masks terms keys) where
+module _ (b terms keys : List ℕ) (G : Lent b terms keys) where
   pub own-type : (n : ℕ) → IsTerm b n → IsType b (typeNo (recordsOf b) n)
   own-type n h = rw (type-is b terms (G .terms) n h) (term-ok b terms (G .terms) n h .typed)
 
@@ -115,14 +115,14 @@ module _ (b kinds masks terms keys : List ℕ) (G : Lent b kinds masks terms key
   pub child-says : (n : ℕ) → IsTerm b n → (i : ℕ) → i < length (childTypes b n) → Says (recordsOf b) (getD (childTypes b n) i 0) (getD keys (getD (childTypes b n) i 0) 0)
   child-says n h i l = key-says b keys (G .types) (getD (childTypes b n) i 0) (child-typed n h i l)
 
-  module _ (n : ℕ) (h : IsTerm b n) (Γ : List ℕ) (c : ℕ) where
+  module _ (n : ℕ) (h : IsTerm b n) (Γ : List ℕ) (c : ℕ) (masks : List ℕ) (M : Masks b masks) where
     pub leaf-verdict : Fixed b n → length (children (recordsOf b) n) ≡ 0
         → judged (termPlace (recordsOf b) n) (leafRule masks (numberAt b (termPlace (recordsOf b) n)) (getD keys (typeNo (recordsOf b) n) 0) c) ≡ ruleVerdict (recordsOf b) (record { context = Γ; dom = c }) n
     leaf-verdict F z =
         let e = number-is b terms (G .terms) n h in
         let m = count-is b terms (G .terms) n h (F .no-pointcut) in
         rw e
-        (sym (leaf-right (recordsOf b) masks (order-is b masks (G .masks)) (termPlace (recordsOf b) n) Γ c (typeNo (recordsOf b) n) (others (recordsOf b) n) (childTypes b n) _ (own-says n h) (termKind (recordsOf b) n) (m ∙ z) (λ q. F .no-variable (e ∙ q)))
+        (sym (leaf-right (recordsOf b) masks (order-is b masks M) (termPlace (recordsOf b) n) Γ c (typeNo (recordsOf b) n) (others (recordsOf b) n) (childTypes b n) _ (own-says n h) (termKind (recordsOf b) n) (m ∙ z) (λ q. F .no-variable (e ∙ q)))
         ∙ rule-of b terms (G .terms) n h (termKind (recordsOf b) n) refl (record { context = Γ; dom = c }))
 
     pub unary-verdict : Fixed b n → length (children (recordsOf b) n) ≡ 1
@@ -135,7 +135,7 @@ module _ (b kinds masks terms keys : List ℕ) (G : Lent b kinds masks terms key
         let m = count-is b terms (G .terms) n h (F .no-pointcut) in
         let t = types-long n in
         rw e
-        (sym (unary-right (recordsOf b) masks (order-is b masks (G .masks)) (termPlace (recordsOf b) n) Γ c (typeNo (recordsOf b) n) (others (recordsOf b) n) (childTypes b n) _ (own-says n h) _ (child-says n h 0 (omega arith)) _
+        (sym (unary-right (recordsOf b) masks (order-is b masks M) (termPlace (recordsOf b) n) Γ c (typeNo (recordsOf b) n) (others (recordsOf b) n) (childTypes b n) _ (own-says n h) _ (child-says n h 0 (omega arith)) _
         (termKind (recordsOf b) n) (m ∙ z) (other-of b terms (G .terms) n h 52 refl))
         ∙ rule-of b terms (G .terms) n h (termKind (recordsOf b) n) refl (record { context = Γ; dom = c }))
 
@@ -150,25 +150,26 @@ module _ (b kinds masks terms keys : List ℕ) (G : Lent b kinds masks terms key
         let m = count-is b terms (G .terms) n h (F .no-pointcut) in
         let t = types-long n in
         rw e
-        (sym (binary-right (recordsOf b) masks (order-is b masks (G .masks)) (termPlace (recordsOf b) n) Γ c (typeNo (recordsOf b) n) (others (recordsOf b) n) (childTypes b n) _ (own-says n h) _ (child-says n h 0 (omega arith)) _ (child-says n h 1 (omega arith)) _
+        (sym (binary-right (recordsOf b) masks (order-is b masks M) (termPlace (recordsOf b) n) Γ c (typeNo (recordsOf b) n) (others (recordsOf b) n) (childTypes b n) _ (own-says n h) _ (child-says n h 0 (omega arith)) _ (child-says n h 1 (omega arith)) _
         (termKind (recordsOf b) n) (m ∙ z) (other-of b terms (G .terms) n h 43 refl))
         ∙ rule-of b terms (G .terms) n h (termKind (recordsOf b) n) refl (record { context = Γ; dom = c }))
 
+    pub pointcut-verdict : numberAt b (termPlace (recordsOf b) n) ≡ 46
+        → judged (termPlace (recordsOf b) n) (pointcutRule masks keys (getD keys (typeNo (recordsOf b) n) 0) (childTypes b n)) ≡ ruleVerdict (recordsOf b) (record { context = Γ; dom = c }) n
+    unfolding find
+    pointcut-verdict e =
+        sym (pointcut-right (recordsOf b) masks (order-is b masks M) (termPlace (recordsOf b) n) Γ c (typeNo (recordsOf b) n) (others (recordsOf b) n) (childTypes b n) _ (own-says n h) keys (child-says n h))
+        ∙ rule-of b terms (G .terms) n h TermKind.pcd (kind-is b terms (G .terms) n h TermKind.pcd refl e) (record { context = Γ; dom = c })
+
+  module _ (n : ℕ) (h : IsTerm b n) (Γ : List ℕ) (c : ℕ) where
     pub choice-verdict : Fixed b n → 2 < length (children (recordsOf b) n)
         → judged (termPlace (recordsOf b) n) (chooseRule (typeNo (recordsOf b) n) (getD keys (getD (childTypes b n) 0 0) 0) (getD (childTypes b n) 1 0) (getD (childTypes b n) 2 0)) ≡ ruleVerdict (recordsOf b) (record { context = Γ; dom = c }) n
     choice-verdict F z =
         let m = count-is b terms (G .terms) n h (F .no-pointcut) in
         let l = no-more-than-three b terms (G .terms) n h (F .no-pointcut) in
         let t = types-long n in
-        sym (choose-right (recordsOf b) masks (order-is b masks (G .masks)) (termPlace (recordsOf b) n) Γ c (typeNo (recordsOf b) n) (others (recordsOf b) n) (childTypes b n) _ (own-says n h) _ (child-says n h 0 (omega arith)) (termKind (recordsOf b) n) (omega arith))
+        sym (choose-right (recordsOf b) (termPlace (recordsOf b) n) Γ c (typeNo (recordsOf b) n) (others (recordsOf b) n) (childTypes b n) _ (child-says n h 0 (omega arith)) (termKind (recordsOf b) n) (omega arith))
         ∙ rule-of b terms (G .terms) n h (termKind (recordsOf b) n) refl (record { context = Γ; dom = c })
-
-    pub pointcut-verdict : numberAt b (termPlace (recordsOf b) n) ≡ 46
-        → judged (termPlace (recordsOf b) n) (pointcutRule masks keys (getD keys (typeNo (recordsOf b) n) 0) (childTypes b n)) ≡ ruleVerdict (recordsOf b) (record { context = Γ; dom = c }) n
-    unfolding find
-    pointcut-verdict e =
-        sym (pointcut-right (recordsOf b) masks (order-is b masks (G .masks)) (termPlace (recordsOf b) n) Γ c (typeNo (recordsOf b) n) (others (recordsOf b) n) (childTypes b n) _ (own-says n h) keys (child-says n h))
-        ∙ rule-of b terms (G .terms) n h TermKind.pcd (kind-is b terms (G .terms) n h TermKind.pcd refl e) (record { context = Γ; dom = c })
 
 -- A variable, in a scope whose first places hold the context.
 module _ (b terms : List ℕ) (T : Terms b terms) (n : ℕ) (h : IsTerm b n) (e : numberAt b (termPlace (recordsOf b) n) ≡ 35) (scope : List ℕ) (len c : ℕ) where

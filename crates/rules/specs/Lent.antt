@@ -12,7 +12,6 @@ use Rattle.image.specs.Types.{typePlace, termPlace, children}
 use Rattle.verdicts.specs.Order.{masks}
 use Rattle.verdicts.specs.Settings.{Setting}
 use Rattle.verdicts.specs.Check.{typeNos}
-use Rattle.records.specs.Codes.{kindCodes}
 use Rattle.records.specs.Keys.{Key}
 
 pub record Domains (b table : List ℕ) : Type 0 where
@@ -33,10 +32,8 @@ pub record Masks (b table : List ℕ) : Type 0 where
   pub sixteen : length table ≡ domainLimit
   pub each : (d : ℕ) → getD table d 0 ≡ getD (masks (recordsOf b)) d 0
 
--- All that the rules read: the table of kinds, and those of domains, terms and types.
-pub record Lent (b kind-table mask-table term-table key-table : List ℕ) : Type 0 where
-  pub kinds : kind-table ≡ kindCodes
-  pub masks : Masks b mask-table
+-- The tables of the terms and of the types.
+pub record Lent (b term-table key-table : List ℕ) : Type 0 where
   pub terms : Terms b term-table
   pub types : Types b key-table
 

@@ -44,18 +44,30 @@ leafRule ms n o c =
     (pick (numberIs n TermKind.newLabel) (fitsAt (keyIs o TypeKind.label ∷ []) (bitOf ms (keyField1 o) c))
     (fits []))))
 
--- Of a term with one child, of type a with the key x; f is the field behind the term's type.
+-- Of a term with one child, of type a with the key x; f is the field behind the term's type. First the kinds that ask for a domain.
+unfoldable pub unaryAtDomain : List ℕ → ℕ → ℕ → ℕ → ℕ → ℕ → ℕ → ℕ → Rule
+unaryAtDomain ms n t o f a x c =
+    pick (numberIs n TermKind.install) (fitsAt (keyIs o TypeKind.unit ∷ keyIs x TypeKind.adv ∷ []) (bitOf ms (keyField0 x) c))
+    (pick (numberIs n TermKind.newCell) (fitsAt (keyIs o TypeKind.ref ∷ eqb (keyField0 o) a ∷ []) (bitOf ms (keyField1 o) c))
+    (pick (numberIs n TermKind.read) (fitsAt (keyIs x TypeKind.ref ∷ eqb (keyField0 x) t ∷ []) (bitOf ms c (keyField1 x)))
+    (fitsAt (keyIs o TypeKind.unit ∷ keyIs x TypeKind.unit ∷ []) (bitOf ms f c))))
+
 unfoldable pub unaryRule : List ℕ → ℕ → ℕ → ℕ → ℕ → ℕ → ℕ → ℕ → Rule
 unaryRule ms n t o f a x c =
     pick (numberIs n TermKind.print) (fits (keyIs o TypeKind.unit ∷ keyIs x TypeKind.number ∷ []))
     (pick (numberIs n TermKind.fun) (fits (keyIs o TypeKind.fun ∷ eqb (keyField2 o) a ∷ []))
-    (pick (numberIs n TermKind.install) (fitsAt (keyIs o TypeKind.unit ∷ keyIs x TypeKind.adv ∷ []) (bitOf ms (keyField0 x) c))
-    (pick (numberIs n TermKind.newCell) (fitsAt (keyIs o TypeKind.ref ∷ eqb (keyField0 o) a ∷ []) (bitOf ms (keyField1 o) c))
-    (pick (numberIs n TermKind.read) (fitsAt (keyIs x TypeKind.ref ∷ eqb (keyField0 x) t ∷ []) (bitOf ms c (keyField1 x)))
-    (pick (numberIs n TermKind.lower) (fitsAt (keyIs o TypeKind.unit ∷ keyIs x TypeKind.unit ∷ []) (bitOf ms f c))
-    (fits (keyIs o TypeKind.number ∷ keyIs x TypeKind.number ∷ [])))))))
+    (pick (numberIs n TermKind.byte) (fits (keyIs o TypeKind.number ∷ keyIs x TypeKind.number ∷ []))
+    (unaryAtDomain ms n t o f a x c)))
 
 -- Of a term with two children, of types a and e with the keys x and y.
+unfoldable pub binaryAtDomain : List ℕ → ℕ → ℕ → ℕ → ℕ → ℕ → ℕ → ℕ → Rule
+binaryAtDomain ms n t o x e y c =
+    pick (numberIs n TermKind.app) (fitsAt (keyIs x TypeKind.fun ∷ eqb (keyField0 x) e ∷ eqb (keyField2 x) t ∷ []) (eqb (keyField1 x) c))
+    (pick (numberIs n TermKind.mark) (fitsAt (keyIs o TypeKind.unit ∷ keyIs x TypeKind.label ∷ eqb (keyField0 x) e ∷ []) (eqb (keyField1 x) c))
+    (pick (numberIs n TermKind.adv) (fitsAt (keyIs o TypeKind.adv ∷ keyIs x TypeKind.pcd ∷ keyIs y TypeKind.unit ∷ []) (bitOf ms (keyField0 o) (keyField1 x)))
+    (fitsAt (keyIs o TypeKind.unit ∷ keyIs x TypeKind.ref ∷ eqb (keyField0 x) e ∷ []) (bitOf ms (keyField1 x) c))))
+
+-- The kind of type that arithmetic gives.
 abbrev pub resultKind : ℕ → ℕ
 resultKind f = pick (ltb f 2) (typeRow TypeKind.number .number) (typeRow TypeKind.truth .number)
 
@@ -64,11 +76,8 @@ binaryRule ms n t o f a x e y c =
     pick (numberIs n TermKind.seq) (fits (keyIs x TypeKind.unit ∷ eqb e t ∷ []))
     (pick (numberIs n TermKind.pair) (fits (keyIs o TypeKind.pair ∷ eqb (keyField0 o) a ∷ eqb (keyField1 o) e ∷ []))
     (pick (numberIs n TermKind.split) (fits (keyIs x TypeKind.pair ∷ eqb e t ∷ []))
-    (pick (numberIs n TermKind.app) (fitsAt (keyIs x TypeKind.fun ∷ eqb (keyField0 x) e ∷ eqb (keyField2 x) t ∷ []) (eqb (keyField1 x) c))
     (pick (numberIs n TermKind.arith) (fits (eqb (keyKind o) (resultKind f) ∷ keyIs x TypeKind.number ∷ keyIs y TypeKind.number ∷ []))
-    (pick (numberIs n TermKind.mark) (fitsAt (keyIs o TypeKind.unit ∷ keyIs x TypeKind.label ∷ eqb (keyField0 x) e ∷ []) (eqb (keyField1 x) c))
-    (pick (numberIs n TermKind.adv) (fitsAt (keyIs o TypeKind.adv ∷ keyIs x TypeKind.pcd ∷ keyIs y TypeKind.unit ∷ []) (bitOf ms (keyField0 o) (keyField1 x)))
-    (fitsAt (keyIs o TypeKind.unit ∷ keyIs x TypeKind.ref ∷ eqb (keyField0 x) e ∷ []) (bitOf ms (keyField1 x) c))))))))
+    (binaryAtDomain ms n t o x e y c))))
 
 -- Of an if: x is the key of the test's type, e and g are the types of its two branches.
 unfoldable pub chooseRule : ℕ → ℕ → ℕ → ℕ → Rule

@@ -29,19 +29,19 @@ ghost use lib.ListN.{length, getD};
 ghost use Rattle.image.specs.Bytes.{numberAt};
 ghost use Rattle.image.specs.Layout.{recordsOf};
 ghost use Rattle.image.specs.Types.{termPlace, children};
-ghost use Rattle.rules.specs.Lent.{Lent, Terms, IsTerm, Fixed, settingIn};
+ghost use Rattle.records.specs.Codes.{kindCodes};
+ghost use Rattle.rules.specs.Lent.{Lent, Masks, Terms, IsTerm, Fixed, settingIn};
 ghost use Rattle.rules.specs.Scalars.{ruleVerdict};
 
 fn check_leaf(
     image: &[u8],
-    kinds: &[u32],
     masks: &[u16],
     terms: &[u16],
     keys: &[u64],
     c: DomainNo,
     n: TermNo,
 ) -> Verdict
-    requires { ⌜ Lent (now image) (now kinds) (now masks) (now terms) (now keys) × IsTerm (now image) (n .0) × Fixed (now image) (n .0) × (length (children (recordsOf (now image)) (n .0)) ≡ 0) ⌝ }
+    requires { ⌜ Lent (now image) (now terms) (now keys) × IsTerm (now image) (n .0) × Fixed (now image) (n .0) × (length (children (recordsOf (now image)) (n .0)) ≡ 0) × Masks (now image) (now masks) ⌝ }
     ensures { λ r. ⌜ ((Γ : List ℕ) → r ≡ ruleVerdict (recordsOf (now (image .entry))) (record { context = Γ; dom = c .0 }) (n .0)) ⌝ }
 {
     let own = type_key(keys, term_type(image, terms, n));
@@ -63,7 +63,7 @@ fn check_unary(
     c: DomainNo,
     n: TermNo,
 ) -> Verdict
-    requires { ⌜ Lent (now image) (now kinds) (now masks) (now terms) (now keys) × IsTerm (now image) (n .0) × Fixed (now image) (n .0) × (length (children (recordsOf (now image)) (n .0)) ≡ 1) ⌝ }
+    requires { ⌜ Lent (now image) (now terms) (now keys) × IsTerm (now image) (n .0) × Fixed (now image) (n .0) × (length (children (recordsOf (now image)) (n .0)) ≡ 1) × Masks (now image) (now masks) × (now kinds ≡ kindCodes) ⌝ }
     ensures { λ r. ⌜ ((Γ : List ℕ) → r ≡ ruleVerdict (recordsOf (now (image .entry))) (record { context = Γ; dom = c .0 }) (n .0)) ⌝ }
 {
     let t = term_type(image, terms, n);
@@ -93,7 +93,7 @@ fn check_binary(
     c: DomainNo,
     n: TermNo,
 ) -> Verdict
-    requires { ⌜ Lent (now image) (now kinds) (now masks) (now terms) (now keys) × IsTerm (now image) (n .0) × Fixed (now image) (n .0) × (length (children (recordsOf (now image)) (n .0)) ≡ 2) ⌝ }
+    requires { ⌜ Lent (now image) (now terms) (now keys) × IsTerm (now image) (n .0) × Fixed (now image) (n .0) × (length (children (recordsOf (now image)) (n .0)) ≡ 2) × Masks (now image) (now masks) × (now kinds ≡ kindCodes) ⌝ }
     ensures { λ r. ⌜ ((Γ : List ℕ) → r ≡ ruleVerdict (recordsOf (now (image .entry))) (record { context = Γ; dom = c .0 }) (n .0)) ⌝ }
 {
     let t = term_type(image, terms, n);
@@ -119,17 +119,9 @@ fn check_binary(
 }
 
 // An if, the one kind with three children.
-fn check_choice(
-    image: &[u8],
-    kinds: &[u32],
-    masks: &[u16],
-    terms: &[u16],
-    keys: &[u64],
-    c: DomainNo,
-    n: TermNo,
-) -> Verdict
-    requires { ⌜ Lent (now image) (now kinds) (now masks) (now terms) (now keys) × IsTerm (now image) (n .0) × Fixed (now image) (n .0) × (2 < length (children (recordsOf (now image)) (n .0))) ⌝ }
-    ensures { λ r. ⌜ ((Γ : List ℕ) → r ≡ ruleVerdict (recordsOf (now (image .entry))) (record { context = Γ; dom = c .0 }) (n .0)) ⌝ }
+fn check_choice(image: &[u8], kinds: &[u32], terms: &[u16], keys: &[u64], n: TermNo) -> Verdict
+    requires { ⌜ Lent (now image) (now terms) (now keys) × IsTerm (now image) (n .0) × Fixed (now image) (n .0) × (2 < length (children (recordsOf (now image)) (n .0))) × (now kinds ≡ kindCodes) ⌝ }
+    ensures { λ r. ⌜ ((Γ : List ℕ) (c : ℕ) → r ≡ ruleVerdict (recordsOf (now (image .entry))) (record { context = Γ; dom = c }) (n .0)) ⌝ }
 {
     let t = term_type(image, terms, n);
     let a = child_type(image, kinds, terms, n, 0);
@@ -151,11 +143,11 @@ fn check_pointcut(
     keys: &[u64],
     n: TermNo,
 ) -> Verdict
-    requires { ⌜ Lent (now image) (now kinds) (now masks) (now terms) (now keys) × IsTerm (now image) (n .0) × (numberAt (now image) (termPlace (recordsOf (now image)) (n .0)) ≡ 46) ⌝ }
+    requires { ⌜ Lent (now image) (now terms) (now keys) × IsTerm (now image) (n .0) × (numberAt (now image) (termPlace (recordsOf (now image)) (n .0)) ≡ 46) × (now kinds ≡ kindCodes) × Masks (now image) (now masks) ⌝ }
     ensures { λ r. ⌜ ((Γ : List ℕ) (c : ℕ) → r ≡ ruleVerdict (recordsOf (now (image .entry))) (record { context = Γ; dom = c }) (n .0)) ⌝ }
 {
     let own = type_key(keys, term_type(image, terms, n));
-    let fit = labels_fit(image, kinds, masks, terms, keys, n, first_type(own));
+    let fit = labels_fit(image, kinds, terms, keys, n, first_type(own));
     let above = labels_above(image, kinds, masks, terms, keys, n, second_domain(own));
     judge(
         term_place(image, terms, n),
@@ -202,7 +194,7 @@ pub fn check_rule(
     c: DomainNo,
     n: TermNo,
 ) -> Verdict
-    requires { ⌜ Lent (now image) (now kinds) (now masks) (now terms) (now keys) × IsTerm (now image) (n .0) × (len ≤ length (now scope)) ⌝ }
+    requires { ⌜ Lent (now image) (now terms) (now keys) × IsTerm (now image) (n .0) × (len ≤ length (now scope)) × (now kinds ≡ kindCodes) × Masks (now image) (now masks) ⌝ }
     ensures { λ r. ⌜ r ≡ ruleVerdict (recordsOf (now (image .entry))) (settingIn (now (scope .entry)) len (c .0)) (n .0) ⌝ }
 {
     let kind = term_kind(image, terms, n);
@@ -214,7 +206,7 @@ pub fn check_rule(
     }
     let k = child_count(image, kinds, terms, n);
     if k == 0 {
-        return check_leaf(image, kinds, masks, terms, keys, c, n);
+        return check_leaf(image, masks, terms, keys, c, n);
     }
     if k == 1 {
         return check_unary(image, kinds, masks, terms, keys, c, n);
@@ -222,5 +214,5 @@ pub fn check_rule(
     if k == 2 {
         return check_binary(image, kinds, masks, terms, keys, c, n);
     }
-    check_choice(image, kinds, masks, terms, keys, c, n)
+    check_choice(image, kinds, terms, keys, n)
 }

@@ -18,7 +18,7 @@ use verdicts::Verdict;
 ghost use mathlib.Core.Path.{_≡_};
 ghost use lib.ListN.{length};
 ghost use Rattle.image.specs.Limits.{domainLimit};
-ghost use Rattle.rules.specs.Scalars.{judged, leafRule, unaryRule, binaryRule, resultKind};
+ghost use Rattle.rules.specs.Scalars.{judged, leafRule, unaryAtDomain, unaryRule, binaryAtDomain, binaryRule, resultKind};
 
 // Constants, new label and abort.
 pub fn leaf_rule(masks: &[u16], at: usize, kind: u16, own: u64, c: DomainNo) -> Verdict
@@ -34,7 +34,46 @@ pub fn leaf_rule(masks: &[u16], at: usize, kind: u16, own: u64, c: DomainNo) -> 
     }
 }
 
-// Print, function, install, new cell, read, lower and frame byte.
+// Install, new cell, read and lower, which ask for a domain.
+fn unary_at_domain(
+    masks: &[u16],
+    at: usize,
+    kind: u16,
+    t: TypeNo,
+    own: u64,
+    f: u16,
+    a: TypeNo,
+    first: u64,
+    c: DomainNo,
+) -> Verdict
+    requires { ⌜ length (now masks) ≡ domainLimit ⌝ }
+    ensures { λ r. ⌜ r ≡ judged at (unaryAtDomain (now (masks .entry)) kind (t .0) own f (a .0) first (c .0)) ⌝ }
+{
+    match kind {
+        48 => judge(
+            at,
+            both(is_kind(own, 16), is_kind(first, 24)),
+            leq(masks, first_domain(first), c),
+        ),
+        49 => judge(
+            at,
+            both(is_kind(own, 21), same_type(first_type(own), a)),
+            leq(masks, second_domain(own), c),
+        ),
+        50 => judge(
+            at,
+            both(is_kind(first, 21), same_type(first_type(first), t)),
+            leq(masks, c, second_domain(first)),
+        ),
+        _ => judge(
+            at,
+            both(is_kind(own, 16), is_kind(first, 16)),
+            leq(masks, DomainNo(f), c),
+        ),
+    }
+}
+
+// And print, function and frame byte.
 pub fn unary_rule(
     masks: &[u16],
     at: usize,
@@ -56,27 +95,48 @@ pub fn unary_rule(
             both(is_kind(own, 20), same_type(third_type(own), a)),
             true,
         ),
-        48 => judge(
+        60 => judge(at, both(is_kind(own, 18), is_kind(first, 18)), true),
+        _ => unary_at_domain(masks, at, kind, t, own, f, a, first, c),
+    }
+}
+
+// Apply, mark, advice and store, which ask for a domain.
+fn binary_at_domain(
+    masks: &[u16],
+    at: usize,
+    kind: u16,
+    t: TypeNo,
+    own: u64,
+    first: u64,
+    e: TypeNo,
+    second: u64,
+    c: DomainNo,
+) -> Verdict
+    requires { ⌜ length (now masks) ≡ domainLimit ⌝ }
+    ensures { λ r. ⌜ r ≡ judged at (binaryAtDomain (now (masks .entry)) kind (t .0) own first (e .0) second (c .0)) ⌝ }
+{
+    let held = same_type(first_type(first), e);
+    match kind {
+        42 => judge(
             at,
-            both(is_kind(own, 16), is_kind(first, 24)),
-            leq(masks, first_domain(first), c),
+            all_three(is_kind(first, 20), held, same_type(third_type(first), t)),
+            same_domain(second_domain(first), c),
         ),
-        49 => judge(
+        45 => judge(
             at,
-            both(is_kind(own, 21), same_type(first_type(own), a)),
-            leq(masks, second_domain(own), c),
+            all_three(is_kind(own, 16), is_kind(first, 22), held),
+            same_domain(second_domain(first), c),
         ),
-        50 => judge(
+        47 => judge(
             at,
-            both(is_kind(first, 21), same_type(first_type(first), t)),
-            leq(masks, c, second_domain(first)),
+            all_three(is_kind(own, 24), is_kind(first, 23), is_kind(second, 16)),
+            leq(masks, first_domain(own), second_domain(first)),
         ),
-        52 => judge(
+        _ => judge(
             at,
-            both(is_kind(own, 16), is_kind(first, 16)),
-            leq(masks, DomainNo(f), c),
+            all_three(is_kind(own, 16), is_kind(first, 21), held),
+            leq(masks, second_domain(first), c),
         ),
-        _ => judge(at, both(is_kind(own, 18), is_kind(first, 18)), true),
     }
 }
 
@@ -87,7 +147,7 @@ fn result_kind(f: u16) -> u16
     if f < 2 { 18 } else { 17 }
 }
 
-// Sequence, pair, split, apply, arithmetic, mark, advice and store.
+// And sequence, pair, split and arithmetic.
 pub fn binary_rule(
     masks: &[u16],
     at: usize,
@@ -116,15 +176,6 @@ pub fn binary_rule(
             true,
         ),
         40 => judge(at, both(is_kind(first, 19), same_type(e, t)), true),
-        42 => judge(
-            at,
-            all_three(
-                is_kind(first, 20),
-                same_type(first_type(first), e),
-                same_type(third_type(first), t),
-            ),
-            same_domain(second_domain(first), c),
-        ),
         43 => judge(
             at,
             all_three(
@@ -134,28 +185,6 @@ pub fn binary_rule(
             ),
             true,
         ),
-        45 => judge(
-            at,
-            all_three(
-                is_kind(own, 16),
-                is_kind(first, 22),
-                same_type(first_type(first), e),
-            ),
-            same_domain(second_domain(first), c),
-        ),
-        47 => judge(
-            at,
-            all_three(is_kind(own, 24), is_kind(first, 23), is_kind(second, 16)),
-            leq(masks, first_domain(own), second_domain(first)),
-        ),
-        _ => judge(
-            at,
-            all_three(
-                is_kind(own, 16),
-                is_kind(first, 21),
-                same_type(first_type(first), e),
-            ),
-            leq(masks, second_domain(first), c),
-        ),
+        _ => binary_at_domain(masks, at, kind, t, own, first, e, second, c),
     }
 }

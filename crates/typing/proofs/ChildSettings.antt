@@ -93,7 +93,7 @@ module _ (b keys : List ℕ) (T : Types b keys) (t : ℕ) (h : IsType b t) where
   unfolding typeOut
   advice-domain e = ap domOf (out-as (recordsOf b) (good-of b (T .laid-out)) TypeKind.adv t h e)
 
-module _ (b kinds masks terms keys scope : List ℕ) (len c n i : ℕ) (P : Passed b kinds masks terms keys scope len c n i) where
+module _ (b terms keys scope : List ℕ) (len c n i : ℕ) (P : Passed b terms keys scope len c n i) where
   -- Where child j of a term of kind k stands.
   abbrev inBody : ℕ → TermKind → Setting ℕ
   inBody j k =
@@ -120,13 +120,13 @@ module _ (b kinds masks terms keys scope : List ℕ) (len c n i : ℕ) (P : Pass
   first = getD keys (getD (childTypes b n) 0 0) 0
 
   says-own : Says (recordsOf b) (typeNo (recordsOf b) n) own
-  says-own = own-says b kinds masks terms keys (P .lent) n (P .term)
+  says-own = own-says b terms keys (P .lent) n (P .term)
 
   has-child : 0 < length (childTypes b n)
-  has-child = let t = types-long b kinds masks terms keys (P .lent) n in let z = P .child in omega arith
+  has-child = let t = types-long b terms keys (P .lent) n in let z = P .child in omega arith
 
   says-first : Says (recordsOf b) (getD (childTypes b n) 0 0) first
-  says-first = child-says b kinds masks terms keys (P .lent) n (P .term) 0 has-child
+  says-first = child-says b terms keys (P .lent) n (P .term) 0 has-child
 
   -- The first child's type, whatever stands for none.
   first-type : (t : ℕ) → getD (childTypes b n) 0 t ≡ getD (childTypes b n) 0 0
@@ -146,14 +146,14 @@ module _ (b kinds masks terms keys scope : List ℕ) (len c n i : ℕ) (P : Pass
     pub function-small : keyField0 own < 256
     function-small =
         rw (← says-own .field0 TypeKind.fun function-type (lit< tt))
-        (part-small b keys (P .lent .types) (typeNo (recordsOf b) n) (own-type b kinds masks terms keys (P .lent) n (P .term)) TypeKind.fun 0 function-type refl)
+        (part-small b keys (P .lent .types) (typeNo (recordsOf b) n) (own-type b terms keys (P .lent) n (P .term)) TypeKind.fun 0 function-type refl)
 
     pub function-at : ChildAt b scope (set scope len (keyField0 own)) len c n i (len + 1) (keyField1 own)
     function-at =
         let r = P .room in
         let x = says-own .field0 TypeKind.fun function-type (lit< tt) in
         let y = says-own .field1 TypeKind.fun function-type (lit< tt) in
-        let d = function-domain b keys (P .lent .types) (typeNo (recordsOf b) n) (own-type b kinds masks terms keys (P .lent) n (P .term)) function-type in
+        let d = function-domain b keys (P .lent .types) (typeNo (recordsOf b) n) (own-type b terms keys (P .lent) n (P .term)) function-type in
         record {
           stands = settings-alike (bound-context scope len (keyField0 own) (omega arith) ∙ ap (λ a. a ∷ contextIn scope len) (sym x)) (sym y ∙ sym d) ∙ body-of i refl TermKind.fun is-function;
           kept = take-set-le len scope len (keyField0 own) (omega arith);
@@ -162,7 +162,7 @@ module _ (b kinds masks terms keys scope : List ℕ) (len c n i : ℕ) (P : Pass
         }
 
   first-typed : IsType b (getD (childTypes b n) 0 0)
-  first-typed = child-typed b kinds masks terms keys (P .lent) n (P .term) 0 has-child
+  first-typed = child-typed b terms keys (P .lent) n (P .term) 0 has-child
 
   -- The body of an advice.
   module _ (e : numberAt b (termPlace (recordsOf b) n) ≡ 47) (one : i ≡ 1) where
@@ -184,7 +184,7 @@ module _ (b kinds masks terms keys scope : List ℕ) (len c n i : ℕ) (P : Pass
         let r = P .room in
         let x = says-first .field0 TypeKind.pcd pointcut-type (lit< tt) in
         let y = says-own .field0 TypeKind.adv advice-type (lit< tt) in
-        let d = advice-domain b keys (P .lent .types) (typeNo (recordsOf b) n) (own-type b kinds masks terms keys (P .lent) n (P .term)) advice-type in
+        let d = advice-domain b keys (P .lent .types) (typeNo (recordsOf b) n) (own-type b terms keys (P .lent) n (P .term)) advice-type in
         record {
           stands =
               settings-alike

@@ -20,8 +20,8 @@ isRefused Verdict.Accepted = false
 isRefused (Verdict.Refused r place) = true
 
 -- Term n of the image b passes its rule in the scope, at the domain c, and has a child i; and there is room for two variables more.
-pub record Passed (b kinds masks terms keys scope : List ℕ) (len c n i : ℕ) : Type 0 where
-  pub lent : Lent b kinds masks terms keys
+pub record Passed (b terms keys scope : List ℕ) (len c n i : ℕ) : Type 0 where
+  pub lent : Lent b terms keys
   pub term : IsTerm b n
   pub ruled : ruleVerdict (recordsOf b) (settingIn scope len c) n ≡ Verdict.Accepted
   pub child : i < length (children (recordsOf b) n)

@@ -5,12 +5,12 @@ use records::numbers::TermNo;
 use verdicts::Verdict;
 ghost use mathlib.Core.Path.{_≡_};
 ghost use Prim.Native.Nat.{_<_};
-ghost use lib.ListN.{length, getD};
+ghost use lib.ListN.{length};
 ghost use Rattle.image.specs.Layout.{recordsOf};
 ghost use Rattle.verdicts.specs.Check.{typing};
 ghost use Rattle.records.specs.Codes.{kindCodes};
 ghost use Rattle.records.specs.Tables.{Tables};
-ghost use Rattle.rules.specs.Lent.{Lent, Terms, Types, IsTerm};
+ghost use Rattle.rules.specs.Lent.{Lent, Masks, Terms, Types};
 ghost use Rattle.typing.specs.Turns.{Counted, rootChecked, rootPlain, plainAt};
 
 pub mod leaves;
@@ -26,7 +26,7 @@ fn check_root(
     keys: &[u64],
     count: usize,
 ) -> Verdict
-    requires { ⌜ Lent (now image) (now kinds) (now masks) (now terms) (now keys) × (count ≡ length (recordsOf (now image) .terms)) × (0 < count) ⌝ }
+    requires { ⌜ Lent (now image) (now terms) (now keys) × (count ≡ length (recordsOf (now image) .terms)) × (0 < count) × (now kinds ≡ kindCodes) × Masks (now image) (now masks) ⌝ }
     ensures { λ r. ⌜ r ≡ rootChecked (recordsOf (now (image .entry))) ⌝ }
 {
     let mut scope = [0u8; 2048];

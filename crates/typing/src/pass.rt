@@ -11,7 +11,8 @@ ghost use Prim.Native.Nat.{_+_, _*_, _≤_};
 ghost use lib.ListN.{length, take};
 ghost use Rattle.image.specs.Layout.{recordsOf};
 ghost use Rattle.verdicts.specs.Check.{checked};
-ghost use Rattle.rules.specs.Lent.{Lent, IsTerm, settingIn};
+ghost use Rattle.records.specs.Codes.{kindCodes};
+ghost use Rattle.rules.specs.Lent.{Lent, Masks, IsTerm, settingIn};
 ghost use Rattle.typing.specs.Turns.{isRefused};
 
 pub fn is_refused(v: Verdict) -> bool
@@ -36,7 +37,7 @@ pub fn check_term(
     c: DomainNo,
     n: TermNo,
 ) -> Verdict
-    requires { ⌜ Lent (now image) (now kinds) (now masks) (now terms) (now keys) × IsTerm (now image) (n .0) × (len + 2 * n .0 + 2 ≤ length (now scope)) ⌝ }
+    requires { ⌜ Lent (now image) (now terms) (now keys) × IsTerm (now image) (n .0) × (len + 2 * n .0 + 2 ≤ length (now scope)) × (now kinds ≡ kindCodes) × Masks (now image) (now masks) ⌝ }
     ensures { λ r. ⌜ (r ≡ checked (recordsOf (now (image .entry))) (settingIn (now (scope .entry)) len (c .0)) (n .0)) × (take len (now (scope .exit)) ≡ take len (now (scope .entry))) ⌝ }
 {
     let v = check_rule(image, kinds, masks, terms, keys, scope, len, c, n);
@@ -47,7 +48,7 @@ pub fn check_term(
     let mut i: usize = 0;
     while i < k {
         let e = child(image, kinds, terms, n, i);
-        let s = child_setting(image, kinds, masks, terms, keys, scope, len, c, n, i);
+        let s = child_setting(image, kinds, terms, keys, scope, len, c, n, i);
         let inner = s.len;
         let dom = s.dom;
         let r = check_term(image, kinds, masks, terms, keys, scope, inner, dom, e);

@@ -18,6 +18,7 @@ ghost use lib.ListN.{length, set};
 ghost use Rattle.image.specs.Bytes.{numberAt};
 ghost use Rattle.image.specs.Layout.{recordsOf};
 ghost use Rattle.image.specs.Types.{termPlace};
+ghost use Rattle.records.specs.Codes.{kindCodes};
 ghost use Rattle.typing.specs.Turns.{Passed, ChildAt};
 
 // How many places of the scope are used, and the current domain.
@@ -36,8 +37,6 @@ fn bind(scope: &mut [u8], len: usize, t: TypeNo)
 // The body of a function stands under its parameter, at its type's domain.
 fn function_setting(
     image: &[u8],
-    kinds: &[u32],
-    masks: &[u16],
     terms: &[u16],
     keys: &[u64],
     scope: &mut [u8],
@@ -46,7 +45,7 @@ fn function_setting(
     n: TermNo,
     i: usize,
 ) -> Setting
-    requires { ⌜ Passed (now image) (now kinds) (now masks) (now terms) (now keys) (now scope) len (c .0) (n .0) i × (numberAt (now image) (termPlace (recordsOf (now image)) (n .0)) ≡ 41) ⌝ }
+    requires { ⌜ Passed (now image) (now terms) (now keys) (now scope) len (c .0) (n .0) i × (numberAt (now image) (termPlace (recordsOf (now image)) (n .0)) ≡ 41) ⌝ }
     ensures { λ r. ⌜ ChildAt (now (image .entry)) (now (scope .entry)) (now (scope .exit)) len (c .0) (n .0) i (r .len) (r .dom .0) ⌝ }
 {
     let own = type_key(keys, term_type(image, terms, n));
@@ -61,7 +60,6 @@ fn function_setting(
 fn split_setting(
     image: &[u8],
     kinds: &[u32],
-    masks: &[u16],
     terms: &[u16],
     keys: &[u64],
     scope: &mut [u8],
@@ -69,12 +67,14 @@ fn split_setting(
     c: DomainNo,
     n: TermNo,
 ) -> Setting
-    requires { ⌜ Passed (now image) (now kinds) (now masks) (now terms) (now keys) (now scope) len (c .0) (n .0) 1 × (numberAt (now image) (termPlace (recordsOf (now image)) (n .0)) ≡ 40) ⌝ }
+    requires { ⌜ Passed (now image) (now terms) (now keys) (now scope) len (c .0) (n .0) 1 × (numberAt (now image) (termPlace (recordsOf (now image)) (n .0)) ≡ 40) × (now kinds ≡ kindCodes) ⌝ }
     ensures { λ r. ⌜ ChildAt (now (image .entry)) (now (scope .entry)) (now (scope .exit)) len (c .0) (n .0) 1 (r .len) (r .dom .0) ⌝ }
 {
     let pair = type_key(keys, child_type(image, kinds, terms, n, 0));
-    bind(scope, len, first_type(pair));
-    bind(scope, len + 1, second_type(pair));
+    let first = first_type(pair);
+    let second = second_type(pair);
+    bind(scope, len, first);
+    bind(scope, len + 1, second);
     Setting {
         len: len + 2,
         dom: c,
@@ -85,7 +85,6 @@ fn split_setting(
 fn advice_setting(
     image: &[u8],
     kinds: &[u32],
-    masks: &[u16],
     terms: &[u16],
     keys: &[u64],
     scope: &mut [u8],
@@ -93,7 +92,7 @@ fn advice_setting(
     c: DomainNo,
     n: TermNo,
 ) -> Setting
-    requires { ⌜ Passed (now image) (now kinds) (now masks) (now terms) (now keys) (now scope) len (c .0) (n .0) 1 × (numberAt (now image) (termPlace (recordsOf (now image)) (n .0)) ≡ 47) ⌝ }
+    requires { ⌜ Passed (now image) (now terms) (now keys) (now scope) len (c .0) (n .0) 1 × (numberAt (now image) (termPlace (recordsOf (now image)) (n .0)) ≡ 47) × (now kinds ≡ kindCodes) ⌝ }
     ensures { λ r. ⌜ ChildAt (now (image .entry)) (now (scope .entry)) (now (scope .exit)) len (c .0) (n .0) 1 (r .len) (r .dom .0) ⌝ }
 {
     let own = type_key(keys, term_type(image, terms, n));
@@ -109,7 +108,6 @@ fn advice_setting(
 pub fn child_setting(
     image: &[u8],
     kinds: &[u32],
-    masks: &[u16],
     terms: &[u16],
     keys: &[u64],
     scope: &mut [u8],
@@ -118,25 +116,26 @@ pub fn child_setting(
     n: TermNo,
     i: usize,
 ) -> Setting
-    requires { ⌜ Passed (now image) (now kinds) (now masks) (now terms) (now keys) (now scope) len (c .0) (n .0) i ⌝ }
+    requires { ⌜ Passed (now image) (now terms) (now keys) (now scope) len (c .0) (n .0) i × (now kinds ≡ kindCodes) ⌝ }
     ensures { λ r. ⌜ ChildAt (now (image .entry)) (now (scope .entry)) (now (scope .exit)) len (c .0) (n .0) i (r .len) (r .dom .0) ⌝ }
 {
     let kind = term_kind(image, terms, n);
     if kind == 41 {
-        return function_setting(image, kinds, masks, terms, keys, scope, len, c, n, i);
+        return function_setting(image, terms, keys, scope, len, c, n, i);
     }
     if kind == 52 {
+        let lower = DomainNo(field_behind(image, terms, n));
         return Setting {
             len: len,
-            dom: DomainNo(field_behind(image, terms, n)),
+            dom: lower,
         };
     }
     if i == 1 {
         if kind == 40 {
-            return split_setting(image, kinds, masks, terms, keys, scope, len, c, n);
+            return split_setting(image, kinds, terms, keys, scope, len, c, n);
         }
         if kind == 47 {
-            return advice_setting(image, kinds, masks, terms, keys, scope, len, c, n);
+            return advice_setting(image, kinds, terms, keys, scope, len, c, n);
         }
     }
     Setting { len: len, dom: c }

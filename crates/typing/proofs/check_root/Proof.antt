@@ -22,7 +22,7 @@ slice-aggregate-check-term : tie.Need-slice-aggregate-check-term
 slice-aggregate-check-term c = search needs
 
 check-term-requires : tie.Need-check-term-requires
-check-term-requires c κs = let f = (good-of (now (c .before .before .before .before .before .before .args .image)) ((c .before .before .before .before .before .before .pre .0) .terms .laid-out)) .few-terms in let e = (c .before .before .before .before .before .before .pre .1) in let z = (c .before .before .before .before .before .before .pre .2) in ((c .before .before .before .before .before .before .pre .0), omega arith, omega arith)
+check-term-requires c κs = let f = (good-of (now (c .before .before .before .before .before .before .args .image)) ((c .before .before .before .before .before .before .pre .0) .terms .laid-out)) .few-terms in let e = (c .before .before .before .before .before .before .pre .1) in let z = (c .before .before .before .before .before .before .pre .2) in ((c .before .before .before .before .before .before .pre .0), omega arith, omega arith, (c .before .before .before .before .before .before .pre .3), (c .before .before .before .before .before .before .pre .4))
 
 returns : tie.Need-returns
 returns c =

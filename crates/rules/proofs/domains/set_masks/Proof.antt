@@ -80,5 +80,3 @@ set-masks-spec =
     loop-again
     same-length
     returns)
-
--- x

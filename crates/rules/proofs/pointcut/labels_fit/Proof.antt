@@ -15,10 +15,10 @@ use Rattle.rules.specs.Scalars.{labelOf}
 use Rattle.rules.proofs.Lists.{test-more, test-fails, test-ends}
 
 abbrev Inv-loop : tie.InvT-loop
-Inv-loop image kinds masks terms keys n a k i₀ i = (i ≤ k) × (allOf (labelOf keys (a .0)) (drop i (childTypes image (n .0))) ≡ allOf (labelOf keys (a .0)) (childTypes image (n .0)))
+Inv-loop image kinds terms keys n a k i₀ i = (i ≤ k) × (allOf (labelOf keys (a .0)) (drop i (childTypes image (n .0))) ≡ allOf (labelOf keys (a .0)) (childTypes image (n .0)))
 
 abbrev μ-loop : tie.MeasureT-loop
-μ-loop image kinds masks terms keys n a k i₀ i = k - i
+μ-loop image kinds terms keys n a k i₀ i = k - i
 
 child-count-requires : tie.Need-child-count-requires Inv-loop μ-loop
 child-count-requires c κs = search needs
@@ -37,18 +37,18 @@ loop-less c = search needs
 
 loop-again : tie.Need-loop-again Inv-loop μ-loop
 loop-again c =
-    let len : length (childTypes (now (c .before .before .before .before .before .before .before .before .before .before .args .image)) (c .before .before .before .before .before .before .before .before .before .before .args .n .0)) ≡ length (children (recordsOf (now (c .before .before .before .before .before .before .before .before .before .before .args .image))) (c .before .before .before .before .before .before .before .before .before .before .args .n .0)) = length-map (children (recordsOf (now (c .before .before .before .before .before .before .before .before .before .before .args .image))) (c .before .before .before .before .before .before .before .before .before .before .args .n .0)) (λ e. typeNo (recordsOf (now (c .before .before .before .before .before .before .before .before .before .before .args .image))) e) in let k = (c .before .before .before .before .child-count .ensures) in
-    (omega arith, test-more (labelOf (now (c .before .before .before .before .before .before .before .before .before .before .args .keys)) (c .before .before .before .before .before .before .before .before .before .before .args .a .0)) (childTypes (now (c .before .before .before .before .before .before .before .before .before .before .args .image)) (c .before .before .before .before .before .before .before .before .before .before .args .n .0)) (c .before .before .before .loop .i) (omega arith) (sym (c .before .label-fits .ensures) ∙ (c .if1 .taken)) ∙ (c .before .before .before .loop .inv .1))
+    let len : length (childTypes (now (c .before .before .before .before .before .before .before .before .before .args .image)) (c .before .before .before .before .before .before .before .before .before .args .n .0)) ≡ length (children (recordsOf (now (c .before .before .before .before .before .before .before .before .before .args .image))) (c .before .before .before .before .before .before .before .before .before .args .n .0)) = length-map (children (recordsOf (now (c .before .before .before .before .before .before .before .before .before .args .image))) (c .before .before .before .before .before .before .before .before .before .args .n .0)) (λ e. typeNo (recordsOf (now (c .before .before .before .before .before .before .before .before .before .args .image))) e) in let k = (c .before .before .before .before .child-count .ensures) in
+    (omega arith, test-more (labelOf (now (c .before .before .before .before .before .before .before .before .before .args .keys)) (c .before .before .before .before .before .before .before .before .before .args .a .0)) (childTypes (now (c .before .before .before .before .before .before .before .before .before .args .image)) (c .before .before .before .before .before .before .before .before .before .args .n .0)) (c .before .before .before .loop .i) (omega arith) (sym (c .before .label-fits .ensures) ∙ (c .if1 .taken)) ∙ (c .before .before .before .loop .inv .1))
 
 returns : tie.Need-returns Inv-loop μ-loop
 returns c =
-    let len : length (childTypes (now (c .before .before .before .before .before .before .before .before .before .before .args .image)) (c .before .before .before .before .before .before .before .before .before .before .args .n .0)) ≡ length (children (recordsOf (now (c .before .before .before .before .before .before .before .before .before .before .args .image))) (c .before .before .before .before .before .before .before .before .before .before .args .n .0)) = length-map (children (recordsOf (now (c .before .before .before .before .before .before .before .before .before .before .args .image))) (c .before .before .before .before .before .before .before .before .before .before .args .n .0)) (λ e. typeNo (recordsOf (now (c .before .before .before .before .before .before .before .before .before .before .args .image))) e) in let k = (c .before .before .before .before .child-count .ensures) in
-    test-fails (labelOf (now (c .before .before .before .before .before .before .before .before .before .before .args .keys)) (c .before .before .before .before .before .before .before .before .before .before .args .a .0)) (childTypes (now (c .before .before .before .before .before .before .before .before .before .before .args .image)) (c .before .before .before .before .before .before .before .before .before .before .args .n .0)) (c .before .before .before .loop .i) (omega arith) (sym (c .before .label-fits .ensures) ∙ (c .if1 .left)) ∙ (c .before .before .before .loop .inv .1)
+    let len : length (childTypes (now (c .before .before .before .before .before .before .before .before .before .args .image)) (c .before .before .before .before .before .before .before .before .before .args .n .0)) ≡ length (children (recordsOf (now (c .before .before .before .before .before .before .before .before .before .args .image))) (c .before .before .before .before .before .before .before .before .before .args .n .0)) = length-map (children (recordsOf (now (c .before .before .before .before .before .before .before .before .before .args .image))) (c .before .before .before .before .before .before .before .before .before .args .n .0)) (λ e. typeNo (recordsOf (now (c .before .before .before .before .before .before .before .before .before .args .image))) e) in let k = (c .before .before .before .before .child-count .ensures) in
+    test-fails (labelOf (now (c .before .before .before .before .before .before .before .before .before .args .keys)) (c .before .before .before .before .before .before .before .before .before .args .a .0)) (childTypes (now (c .before .before .before .before .before .before .before .before .before .args .image)) (c .before .before .before .before .before .before .before .before .before .args .n .0)) (c .before .before .before .loop .i) (omega arith) (sym (c .before .label-fits .ensures) ∙ (c .if1 .left)) ∙ (c .before .before .before .loop .inv .1)
 
 returns-2 : tie.Need-returns-2 Inv-loop μ-loop
 returns-2 c =
-    let len : length (childTypes (now (c .before .before .before .before .before .before .before .before .args .image)) (c .before .before .before .before .before .before .before .before .args .n .0)) ≡ length (children (recordsOf (now (c .before .before .before .before .before .before .before .before .args .image))) (c .before .before .before .before .before .before .before .before .args .n .0)) = length-map (children (recordsOf (now (c .before .before .before .before .before .before .before .before .args .image))) (c .before .before .before .before .before .before .before .before .args .n .0)) (λ e. typeNo (recordsOf (now (c .before .before .before .before .before .before .before .before .args .image))) e) in let k = (c .before .before .child-count .ensures) in
-    test-ends (labelOf (now (c .before .before .before .before .before .before .before .before .args .keys)) (c .before .before .before .before .before .before .before .before .args .a .0)) (childTypes (now (c .before .before .before .before .before .before .before .before .args .image)) (c .before .before .before .before .before .before .before .before .args .n .0)) (c .before .loop .i) (omega arith) ∙ (c .before .loop .inv .1)
+    let len : length (childTypes (now (c .before .before .before .before .before .before .before .args .image)) (c .before .before .before .before .before .before .before .args .n .0)) ≡ length (children (recordsOf (now (c .before .before .before .before .before .before .before .args .image))) (c .before .before .before .before .before .before .before .args .n .0)) = length-map (children (recordsOf (now (c .before .before .before .before .before .before .before .args .image))) (c .before .before .before .before .before .before .before .args .n .0)) (λ e. typeNo (recordsOf (now (c .before .before .before .before .before .before .before .args .image))) e) in let k = (c .before .before .child-count .ensures) in
+    test-ends (labelOf (now (c .before .before .before .before .before .before .before .args .keys)) (c .before .before .before .before .before .before .before .args .a .0)) (childTypes (now (c .before .before .before .before .before .before .before .args .image)) (c .before .before .before .before .before .before .before .args .n .0)) (c .before .loop .i) (omega arith) ∙ (c .before .loop .inv .1)
 
 pub labels-fit-spec : {M : Type 1} → statement M
 labels-fit-spec =
@@ -64,5 +64,3 @@ labels-fit-spec =
     loop-again
     returns
     returns-2)
-
--- x

@@ -36,10 +36,10 @@ term-kind-requires : tie.Need-term-kind-requires
 term-kind-requires c κs = ((c .before .before .before .before .before .before .before .before .before .before .before .before .before .pre .0) .terms, (c .before .before .before .before .before .before .before .before .before .before .before .before .before .pre .1))
 
 binary-rule-requires : tie.Need-binary-rule-requires
-binary-rule-requires c κs = (c .before .before .before .before .before .before .before .before .before .before .before .before .before .before .pre .0) .masks .sixteen
+binary-rule-requires c κs = (c .before .before .before .before .before .before .before .before .before .before .before .before .before .before .pre .4) .sixteen
 
 returns : tie.Need-returns
-returns c = λ Γ. (c .binary-rule .ensures) ∙ simp ((c .before .before .before .before .before .before .type-key .ensures), (c .before .before .before .before .before .type-key2 .ensures), (c .before .before .before .before .type-key3 .ensures), (c .before .before .before .before .before .before .before .before .before .term-type .ensures .0), (c .before .before .before .before .before .before .before .before .child-type .ensures .0), (c .before .before .before .before .before .before .before .child-type2 .ensures .0), (c .before .before .before .field-behind .ensures), (c .before .before .term-place .ensures .0), (c .before .term-kind .ensures)) (binary-verdict (now (c .before .before .before .before .before .before .before .before .before .before .before .before .before .before .before .args .image)) (now (c .before .before .before .before .before .before .before .before .before .before .before .before .before .before .before .args .kinds)) (now (c .before .before .before .before .before .before .before .before .before .before .before .before .before .before .before .args .masks)) (now (c .before .before .before .before .before .before .before .before .before .before .before .before .before .before .before .args .terms)) (now (c .before .before .before .before .before .before .before .before .before .before .before .before .before .before .before .args .keys)) (c .before .before .before .before .before .before .before .before .before .before .before .before .before .before .before .pre .0) (c .before .before .before .before .before .before .before .before .before .before .before .before .before .before .before .args .n .0) (c .before .before .before .before .before .before .before .before .before .before .before .before .before .before .before .pre .1) Γ (c .before .before .before .before .before .before .before .before .before .before .before .before .before .before .before .args .c .0) (c .before .before .before .before .before .before .before .before .before .before .before .before .before .before .before .pre .2) (c .before .before .before .before .before .before .before .before .before .before .before .before .before .before .before .pre .3))
+returns c = λ Γ. (c .binary-rule .ensures) ∙ simp ((c .before .before .before .before .before .before .type-key .ensures), (c .before .before .before .before .before .type-key2 .ensures), (c .before .before .before .before .type-key3 .ensures), (c .before .before .before .before .before .before .before .before .before .term-type .ensures .0), (c .before .before .before .before .before .before .before .before .child-type .ensures .0), (c .before .before .before .before .before .before .before .child-type2 .ensures .0), (c .before .before .before .field-behind .ensures), (c .before .before .term-place .ensures .0), (c .before .term-kind .ensures)) (binary-verdict (now (c .before .before .before .before .before .before .before .before .before .before .before .before .before .before .before .args .image)) (now (c .before .before .before .before .before .before .before .before .before .before .before .before .before .before .before .args .terms)) (now (c .before .before .before .before .before .before .before .before .before .before .before .before .before .before .before .args .keys)) (c .before .before .before .before .before .before .before .before .before .before .before .before .before .before .before .pre .0) (c .before .before .before .before .before .before .before .before .before .before .before .before .before .before .before .args .n .0) (c .before .before .before .before .before .before .before .before .before .before .before .before .before .before .before .pre .1) Γ (c .before .before .before .before .before .before .before .before .before .before .before .before .before .before .before .args .c .0) (now (c .before .before .before .before .before .before .before .before .before .before .before .before .before .before .before .args .masks)) (c .before .before .before .before .before .before .before .before .before .before .before .before .before .before .before .pre .4) (c .before .before .before .before .before .before .before .before .before .before .before .before .before .before .before .pre .2) (c .before .before .before .before .before .before .before .before .before .before .before .before .before .before .before .pre .3))
 
 pub check-binary-spec : {M : Type 1} → statement M
 check-binary-spec =
@@ -56,5 +56,3 @@ check-binary-spec =
     term-kind-requires
     binary-rule-requires
     returns)
-
--- x

@@ -42,7 +42,7 @@ judge-requires c κs = tt
 
 returns : tie.Need-returns
 unfolding chooseRule
-returns c = λ Γ. (c .judge .ensures) ∙ simp ((c .before .all-three .ensures), (c .before .before .before .before .is-kind .ensures), (c .before .before .before .same-type .ensures), (c .before .before .same-type2 .ensures), (c .before .before .before .before .before .before .type-key .ensures), (c .before .before .before .before .before .before .before .before .before .before .term-type .ensures .0), (c .before .before .before .before .before .before .before .before .before .child-type .ensures .0), (c .before .before .before .before .before .before .before .before .child-type2 .ensures .0), (c .before .before .before .before .before .before .before .child-type3 .ensures .0), (c .before .before .before .before .before .term-place .ensures .0)) (choice-verdict (now (c .before .before .before .before .before .before .before .before .before .before .before .before .before .before .before .before .args .image)) (now (c .before .before .before .before .before .before .before .before .before .before .before .before .before .before .before .before .args .kinds)) (now (c .before .before .before .before .before .before .before .before .before .before .before .before .before .before .before .before .args .masks)) (now (c .before .before .before .before .before .before .before .before .before .before .before .before .before .before .before .before .args .terms)) (now (c .before .before .before .before .before .before .before .before .before .before .before .before .before .before .before .before .args .keys)) (c .before .before .before .before .before .before .before .before .before .before .before .before .before .before .before .before .pre .0) (c .before .before .before .before .before .before .before .before .before .before .before .before .before .before .before .before .args .n .0) (c .before .before .before .before .before .before .before .before .before .before .before .before .before .before .before .before .pre .1) Γ (c .before .before .before .before .before .before .before .before .before .before .before .before .before .before .before .before .args .c .0) (c .before .before .before .before .before .before .before .before .before .before .before .before .before .before .before .before .pre .2) (c .before .before .before .before .before .before .before .before .before .before .before .before .before .before .before .before .pre .3))
+returns c = λ Γ d. (c .judge .ensures) ∙ simp ((c .before .all-three .ensures), (c .before .before .before .before .is-kind .ensures), (c .before .before .before .same-type .ensures), (c .before .before .same-type2 .ensures), (c .before .before .before .before .before .before .type-key .ensures), (c .before .before .before .before .before .before .before .before .before .before .term-type .ensures .0), (c .before .before .before .before .before .before .before .before .before .child-type .ensures .0), (c .before .before .before .before .before .before .before .before .child-type2 .ensures .0), (c .before .before .before .before .before .before .before .child-type3 .ensures .0), (c .before .before .before .before .before .term-place .ensures .0)) (choice-verdict (now (c .before .before .before .before .before .before .before .before .before .before .before .before .before .before .before .args .image)) (now (c .before .before .before .before .before .before .before .before .before .before .before .before .before .before .before .args .terms)) (now (c .before .before .before .before .before .before .before .before .before .before .before .before .before .before .before .args .keys)) (c .before .before .before .before .before .before .before .before .before .before .before .before .before .before .before .pre .0) (c .before .before .before .before .before .before .before .before .before .before .before .before .before .before .before .args .n .0) (c .before .before .before .before .before .before .before .before .before .before .before .before .before .before .before .pre .1) Γ d (c .before .before .before .before .before .before .before .before .before .before .before .before .before .before .before .pre .2) (c .before .before .before .before .before .before .before .before .before .before .before .before .before .before .before .pre .3))
 
 pub check-choice-spec : {M : Type 1} → statement M
 check-choice-spec =
@@ -60,5 +60,3 @@ check-choice-spec =
     all-three-requires
     judge-requires
     returns)
-
--- x

@@ -22,7 +22,7 @@ leaf-rule-requires : tie.Need-leaf-rule-requires
 leaf-rule-requires c κs = search needs
 
 returns : tie.Need-returns
-returns c = λ Γ. (c .leaf-rule .ensures) ∙ simp ((c .before .before .before .type-key .ensures), (c .before .before .before .before .term-type .ensures .0), (c .before .before .term-place .ensures .0), (c .before .term-kind .ensures)) (leaf-verdict (now (c .before .before .before .before .before .before .before .before .before .before .args .image)) (now (c .before .before .before .before .before .before .before .before .before .before .args .kinds)) (now (c .before .before .before .before .before .before .before .before .before .before .args .masks)) (now (c .before .before .before .before .before .before .before .before .before .before .args .terms)) (now (c .before .before .before .before .before .before .before .before .before .before .args .keys)) (c .before .before .before .before .before .before .before .before .before .before .pre .0) (c .before .before .before .before .before .before .before .before .before .before .args .n .0) (c .before .before .before .before .before .before .before .before .before .before .pre .1) Γ (c .before .before .before .before .before .before .before .before .before .before .args .c .0) (c .before .before .before .before .before .before .before .before .before .before .pre .2) (c .before .before .before .before .before .before .before .before .before .before .pre .3))
+returns c = λ Γ. (c .leaf-rule .ensures) ∙ simp ((c .before .before .before .type-key .ensures), (c .before .before .before .before .term-type .ensures .0), (c .before .before .term-place .ensures .0), (c .before .term-kind .ensures)) (leaf-verdict (now (c .before .before .before .before .before .before .before .before .before .args .image)) (now (c .before .before .before .before .before .before .before .before .before .args .terms)) (now (c .before .before .before .before .before .before .before .before .before .args .keys)) (c .before .before .before .before .before .before .before .before .before .pre .0) (c .before .before .before .before .before .before .before .before .before .args .n .0) (c .before .before .before .before .before .before .before .before .before .pre .1) Γ (c .before .before .before .before .before .before .before .before .before .args .c .0) (now (c .before .before .before .before .before .before .before .before .before .args .masks)) (c .before .before .before .before .before .before .before .before .before .pre .4) (c .before .before .before .before .before .before .before .before .before .pre .2) (c .before .before .before .before .before .before .before .before .before .pre .3))
 
 pub check-leaf-spec : {M : Type 1} → statement M
 check-leaf-spec =

@@ -39,7 +39,7 @@ judge-requires c κs = tt
 
 returns : tie.Need-returns
 unfolding pointcutRule
-returns c = λ Γ d. (c .judge .ensures) ∙ simp ((c .before .both .ensures), (c .before .before .is-kind .ensures), (c .before .before .before .before .before .before .labels-fit .ensures), (c .before .before .before .before .labels-above .ensures), (c .before .before .before .before .before .before .before .first-type .ensures), (c .before .before .before .before .before .second-domain .ensures), (c .before .before .before .before .before .before .before .before .type-key .ensures), (c .before .before .before .before .before .before .before .before .before .term-type .ensures .0), (c .before .before .before .term-place .ensures .0)) (pointcut-verdict (now (c .before .before .before .before .before .before .before .before .before .before .before .before .before .before .before .args .image)) (now (c .before .before .before .before .before .before .before .before .before .before .before .before .before .before .before .args .kinds)) (now (c .before .before .before .before .before .before .before .before .before .before .before .before .before .before .before .args .masks)) (now (c .before .before .before .before .before .before .before .before .before .before .before .before .before .before .before .args .terms)) (now (c .before .before .before .before .before .before .before .before .before .before .before .before .before .before .before .args .keys)) (c .before .before .before .before .before .before .before .before .before .before .before .before .before .before .before .pre .0) (c .before .before .before .before .before .before .before .before .before .before .before .before .before .before .before .args .n .0) (c .before .before .before .before .before .before .before .before .before .before .before .before .before .before .before .pre .1) Γ d (c .before .before .before .before .before .before .before .before .before .before .before .before .before .before .before .pre .2))
+returns c = λ Γ d. (c .judge .ensures) ∙ simp ((c .before .both .ensures), (c .before .before .is-kind .ensures), (c .before .before .before .before .before .before .labels-fit .ensures), (c .before .before .before .before .labels-above .ensures), (c .before .before .before .before .before .before .before .first-type .ensures), (c .before .before .before .before .before .second-domain .ensures), (c .before .before .before .before .before .before .before .before .type-key .ensures), (c .before .before .before .before .before .before .before .before .before .term-type .ensures .0), (c .before .before .before .term-place .ensures .0)) (pointcut-verdict (now (c .before .before .before .before .before .before .before .before .before .before .before .before .before .before .before .args .image)) (now (c .before .before .before .before .before .before .before .before .before .before .before .before .before .before .before .args .terms)) (now (c .before .before .before .before .before .before .before .before .before .before .before .before .before .before .before .args .keys)) (c .before .before .before .before .before .before .before .before .before .before .before .before .before .before .before .pre .0) (c .before .before .before .before .before .before .before .before .before .before .before .before .before .before .before .args .n .0) (c .before .before .before .before .before .before .before .before .before .before .before .before .before .before .before .pre .1) Γ d (now (c .before .before .before .before .before .before .before .before .before .before .before .before .before .before .before .args .masks)) (c .before .before .before .before .before .before .before .before .before .before .before .before .before .before .before .pre .4) (c .before .before .before .before .before .before .before .before .before .before .before .before .before .before .before .pre .2))
 
 pub check-pointcut-spec : {M : Type 1} → statement M
 check-pointcut-spec =
@@ -56,5 +56,3 @@ check-pointcut-spec =
     both-requires
     judge-requires
     returns)
-
--- x

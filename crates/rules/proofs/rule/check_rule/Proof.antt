@@ -45,7 +45,7 @@ check-choice-requires : tie.Need-check-choice-requires
 check-choice-requires c κs = search needs
 
 returns-6 : tie.Need-returns-6
-returns-6 c = (c .check-choice .ensures) (contextIn (now (c .before .before .before .before .before .before .before .before .before .before .before .before .before .before .args .scope)) (c .before .before .before .before .before .before .before .before .before .before .before .before .before .before .args .len))
+returns-6 c = (c .check-choice .ensures) (contextIn (now (c .before .before .before .before .before .before .before .before .before .before .before .before .before .before .args .scope)) (c .before .before .before .before .before .before .before .before .before .before .before .before .before .before .args .len)) (c .before .before .before .before .before .before .before .before .before .before .before .before .before .before .args .c .0)
 
 pub check-rule-spec : {M : Type 1} → statement M
 check-rule-spec =
@@ -65,5 +65,3 @@ check-rule-spec =
     returns-5
     check-choice-requires
     returns-6)
-
--- x

@@ -33,7 +33,7 @@ unary-rule-requires : tie.Need-unary-rule-requires
 unary-rule-requires c κs = search needs
 
 returns : tie.Need-returns
-returns c = λ Γ. (c .unary-rule .ensures) ∙ simp ((c .before .before .before .before .before .type-key .ensures), (c .before .before .before .before .type-key2 .ensures), (c .before .before .before .before .before .before .before .term-type .ensures .0), (c .before .before .before .before .before .before .child-type .ensures .0), (c .before .before .before .field-behind .ensures), (c .before .before .term-place .ensures .0), (c .before .term-kind .ensures)) (unary-verdict (now (c .before .before .before .before .before .before .before .before .before .before .before .before .before .args .image)) (now (c .before .before .before .before .before .before .before .before .before .before .before .before .before .args .kinds)) (now (c .before .before .before .before .before .before .before .before .before .before .before .before .before .args .masks)) (now (c .before .before .before .before .before .before .before .before .before .before .before .before .before .args .terms)) (now (c .before .before .before .before .before .before .before .before .before .before .before .before .before .args .keys)) (c .before .before .before .before .before .before .before .before .before .before .before .before .before .pre .0) (c .before .before .before .before .before .before .before .before .before .before .before .before .before .args .n .0) (c .before .before .before .before .before .before .before .before .before .before .before .before .before .pre .1) Γ (c .before .before .before .before .before .before .before .before .before .before .before .before .before .args .c .0) (c .before .before .before .before .before .before .before .before .before .before .before .before .before .pre .2) (c .before .before .before .before .before .before .before .before .before .before .before .before .before .pre .3))
+returns c = λ Γ. (c .unary-rule .ensures) ∙ simp ((c .before .before .before .before .before .type-key .ensures), (c .before .before .before .before .type-key2 .ensures), (c .before .before .before .before .before .before .before .term-type .ensures .0), (c .before .before .before .before .before .before .child-type .ensures .0), (c .before .before .before .field-behind .ensures), (c .before .before .term-place .ensures .0), (c .before .term-kind .ensures)) (unary-verdict (now (c .before .before .before .before .before .before .before .before .before .before .before .before .before .args .image)) (now (c .before .before .before .before .before .before .before .before .before .before .before .before .before .args .terms)) (now (c .before .before .before .before .before .before .before .before .before .before .before .before .before .args .keys)) (c .before .before .before .before .before .before .before .before .before .before .before .before .before .pre .0) (c .before .before .before .before .before .before .before .before .before .before .before .before .before .args .n .0) (c .before .before .before .before .before .before .before .before .before .before .before .before .before .pre .1) Γ (c .before .before .before .before .before .before .before .before .before .before .before .before .before .args .c .0) (now (c .before .before .before .before .before .before .before .before .before .before .before .before .before .args .masks)) (c .before .before .before .before .before .before .before .before .before .before .before .before .before .pre .4) (c .before .before .before .before .before .before .before .before .before .before .before .before .before .pre .2) (c .before .before .before .before .before .before .before .before .before .before .before .before .before .pre .3))
 
 pub check-unary-spec : {M : Type 1} → statement M
 check-unary-spec =
@@ -48,5 +48,3 @@ check-unary-spec =
     term-kind-requires
     unary-rule-requires
     returns)
-
--- x

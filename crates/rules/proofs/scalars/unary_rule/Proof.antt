@@ -41,83 +41,11 @@ is-kind-requires-5 c κs = tt
 both-requires-3 : tie.Need-both-requires-3
 both-requires-3 c κs = tt
 
-first-domain-requires : tie.Need-first-domain-requires
-first-domain-requires c κs = tt
-
-leq-requires : tie.Need-leq-requires
-leq-requires c κs = search needs
-
 judge-requires-3 : tie.Need-judge-requires-3
 judge-requires-3 c κs = tt
 
-is-kind-requires-6 : tie.Need-is-kind-requires-6
-is-kind-requires-6 c κs = tt
-
-first-type-requires : tie.Need-first-type-requires
-first-type-requires c κs = tt
-
-same-type-requires-2 : tie.Need-same-type-requires-2
-same-type-requires-2 c κs = tt
-
-both-requires-4 : tie.Need-both-requires-4
-both-requires-4 c κs = tt
-
-second-domain-requires : tie.Need-second-domain-requires
-second-domain-requires c κs = tt
-
-leq-requires-2 : tie.Need-leq-requires-2
-leq-requires-2 c κs = search needs
-
-judge-requires-4 : tie.Need-judge-requires-4
-judge-requires-4 c κs = tt
-
-is-kind-requires-7 : tie.Need-is-kind-requires-7
-is-kind-requires-7 c κs = tt
-
-first-type-requires-2 : tie.Need-first-type-requires-2
-first-type-requires-2 c κs = tt
-
-same-type-requires-3 : tie.Need-same-type-requires-3
-same-type-requires-3 c κs = tt
-
-both-requires-5 : tie.Need-both-requires-5
-both-requires-5 c κs = tt
-
-second-domain-requires-2 : tie.Need-second-domain-requires-2
-second-domain-requires-2 c κs = tt
-
-leq-requires-3 : tie.Need-leq-requires-3
-leq-requires-3 c κs = search needs
-
-judge-requires-5 : tie.Need-judge-requires-5
-judge-requires-5 c κs = tt
-
-is-kind-requires-8 : tie.Need-is-kind-requires-8
-is-kind-requires-8 c κs = tt
-
-is-kind-requires-9 : tie.Need-is-kind-requires-9
-is-kind-requires-9 c κs = tt
-
-both-requires-6 : tie.Need-both-requires-6
-both-requires-6 c κs = tt
-
-leq-requires-4 : tie.Need-leq-requires-4
-leq-requires-4 c κs = search needs
-
-judge-requires-6 : tie.Need-judge-requires-6
-judge-requires-6 c κs = tt
-
-is-kind-requires-10 : tie.Need-is-kind-requires-10
-is-kind-requires-10 c κs = tt
-
-is-kind-requires-11 : tie.Need-is-kind-requires-11
-is-kind-requires-11 c κs = tt
-
-both-requires-7 : tie.Need-both-requires-7
-both-requires-7 c κs = tt
-
-judge-requires-7 : tie.Need-judge-requires-7
-judge-requires-7 c κs = tt
+unary-at-domain-requires : tie.Need-unary-at-domain-requires
+unary-at-domain-requires c κs = search needs
 
 returns : tie.Need-returns
 unfolding unaryRule
@@ -129,23 +57,11 @@ returns-2 c = simp ((c .before .before .before .before .before .match .keys2), (
 
 returns-3 : tie.Need-returns-3
 unfolding unaryRule
-returns-3 c = simp ((c .before .before .before .before .before .before .match .keys3), (c .before .before .before .before .before .is-kind4 .ensures), (c .before .before .before .before .is-kind5 .ensures), (c .before .before .before .both3 .ensures), (c .before .before .first-domain .ensures), (c .before .leq .ensures), (c .judge3 .ensures))
+returns-3 c = simp ((c .before .before .before .before .match .keys3), (c .before .before .before .is-kind4 .ensures), (c .before .before .is-kind5 .ensures), (c .before .both3 .ensures), (c .judge3 .ensures))
 
 returns-4 : tie.Need-returns-4
 unfolding unaryRule
-returns-4 c = simp ((c .before .before .before .before .before .before .before .match .keys4), (c .before .before .before .before .before .before .is-kind6 .ensures), (c .before .before .before .before .before .first-type .ensures), (c .before .before .before .before .same-type2 .ensures), (c .before .before .before .both4 .ensures), (c .before .before .second-domain .ensures), (c .before .leq2 .ensures), (c .judge4 .ensures))
-
-returns-5 : tie.Need-returns-5
-unfolding unaryRule
-returns-5 c = simp ((c .before .before .before .before .before .before .before .match .keys5), (c .before .before .before .before .before .before .is-kind7 .ensures), (c .before .before .before .before .before .first-type2 .ensures), (c .before .before .before .before .same-type3 .ensures), (c .before .before .before .both5 .ensures), (c .before .before .second-domain2 .ensures), (c .before .leq3 .ensures), (c .judge5 .ensures))
-
-returns-6 : tie.Need-returns-6
-unfolding unaryRule
-returns-6 c = simp ((c .before .before .before .before .before .match .keys6), (c .before .before .before .before .is-kind8 .ensures), (c .before .before .before .is-kind9 .ensures), (c .before .before .both6 .ensures), (c .before .leq4 .ensures), (c .judge6 .ensures))
-
-returns-7 : tie.Need-returns-7
-unfolding unaryRule
-returns-7 c = simp (ne-eqb _ _ (c .before .before .before .before .match .rest .1), ne-eqb _ _ (c .before .before .before .before .match .rest .0 .1), ne-eqb _ _ (c .before .before .before .before .match .rest .0 .0 .1), ne-eqb _ _ (c .before .before .before .before .match .rest .0 .0 .0 .1), ne-eqb _ _ (c .before .before .before .before .match .rest .0 .0 .0 .0 .1), ne-eqb _ _ (c .before .before .before .before .match .rest .0 .0 .0 .0 .0 .1), (c .before .before .before .is-kind10 .ensures), (c .before .before .is-kind11 .ensures), (c .before .both7 .ensures), (c .judge7 .ensures))
+returns-4 c = simp (ne-eqb _ _ (c .before .match .rest .1), ne-eqb _ _ (c .before .match .rest .0 .1), ne-eqb _ _ (c .before .match .rest .0 .0 .1), (c .unary-at-domain .ensures))
 
 pub unary-rule-spec : {M : Type 1} → statement M
 unary-rule-spec =
@@ -163,38 +79,9 @@ unary-rule-spec =
     is-kind-requires-4
     is-kind-requires-5
     both-requires-3
-    first-domain-requires
-    leq-requires
     judge-requires-3
-    is-kind-requires-6
-    first-type-requires
-    same-type-requires-2
-    both-requires-4
-    second-domain-requires
-    leq-requires-2
-    judge-requires-4
-    is-kind-requires-7
-    first-type-requires-2
-    same-type-requires-3
-    both-requires-5
-    second-domain-requires-2
-    leq-requires-3
-    judge-requires-5
-    is-kind-requires-8
-    is-kind-requires-9
-    both-requires-6
-    leq-requires-4
-    judge-requires-6
-    is-kind-requires-10
-    is-kind-requires-11
-    both-requires-7
-    judge-requires-7
+    unary-at-domain-requires
     returns
     returns-2
     returns-3
-    returns-4
-    returns-5
-    returns-6
-    returns-7)
-
--- x
+    returns-4)

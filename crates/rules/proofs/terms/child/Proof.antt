@@ -33,5 +33,3 @@ returns c =
 pub child-spec : {M : Type 1} → statement M
 child-spec =
     tie.close (tie.spec term-place-requires lead-requires add-child-at child-at-requires returns)
-
--- x

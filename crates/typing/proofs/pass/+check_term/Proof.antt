@@ -157,7 +157,7 @@ check-term-child-requires : (t : ℕ) → check-term-lts.Need-child-requires (
   check-term-below t,
   check-term.Post,
 ) (check-term-at t) check-term.Post check-term-Inv-loop check-term-μ-loop
-check-term-child-requires t c κs = let k = (c .before .before .child-count .ensures) in ((c .before .before .before .before .before .before .before .before .before .before .before .before .before .pre .1 .0) .terms, (c .before .before .before .before .before .before .before .before .before .before .before .before .before .pre .1 .1), (c .before .before .before .before .before .before .before .before .before .before .before .before .before .pre .1 .0) .kinds, omega arith)
+check-term-child-requires t c κs = let k = (c .before .before .child-count .ensures) in ((c .before .before .before .before .before .before .before .before .before .before .before .before .before .pre .1 .0) .terms, (c .before .before .before .before .before .before .before .before .before .before .before .before .before .pre .1 .1), (c .before .before .before .before .before .before .before .before .before .before .before .before .before .pre .1 .3), omega arith)
 
 check-term-child-setting-requires : (t : ℕ) → check-term-lts.Need-child-setting-requires (
   check-rule-reads.Asked,
@@ -178,7 +178,7 @@ check-term-child-setting-requires t c κs =
     let e : (c .before .before .before .before .before .before .before .check-rule .result) ≡ ruleVerdict (recordsOf (now (c .before .before .before .before .before .before .before .before .before .before .before .before .before .before .before .args .image))) (settingIn (now (c .before .before .before .before .before .before .before .before .before .before .before .before .before .before .before .args .scope)) (c .before .before .before .before .before .before .before .before .before .before .before .before .before .before .before .args .len) (c .before .before .before .before .before .before .before .before .before .before .before .before .before .before .before .args .c .0)) (c .before .before .before .before .before .before .before .before .before .before .before .before .before .before .before .args .n .0) = (c .before .before .before .before .before .before .before .check-rule .ensures) in
     let room = (c .before .before .before .before .before .before .before .before .before .before .before .before .before .before .before .pre .1 .2) in
     let i = (c .before .before .before .loop .inv) in
-    record { lent = (c .before .before .before .before .before .before .before .before .before .before .before .before .before .before .before .pre .1 .0); term = (c .before .before .before .before .before .before .before .before .before .before .before .before .before .before .before .pre .1 .1); ruled = still-ruled (now (c .before .before .before .before .before .before .before .before .before .before .before .before .before .before .before .args .image)) (now (c .before .before .before .before .before .before .before .before .before .before .before .before .before .before .before .args .scope)) (c .before .before .before .loop .scope) (c .before .before .before .before .before .before .before .before .before .before .before .before .before .before .before .args .len) (c .before .before .before .before .before .before .before .before .before .before .before .before .before .before .before .args .c .0) (c .before .before .before .before .before .before .before .before .before .before .before .before .before .before .before .args .n .0) (c .before .before .before .loop .i) (c .before .before .before .loop .inv .2) (sym e ∙ accepted-is (c .before .before .before .before .before .before .before .check-rule .result) (sym (c .before .before .before .before .before .before .is-refused .ensures) ∙ (c .before .before .before .before .before .if1 .left))); child = l; room = omega arith }
+    (record { lent = (c .before .before .before .before .before .before .before .before .before .before .before .before .before .before .before .pre .1 .0); term = (c .before .before .before .before .before .before .before .before .before .before .before .before .before .before .before .pre .1 .1); ruled = still-ruled (now (c .before .before .before .before .before .before .before .before .before .before .before .before .before .before .before .args .image)) (now (c .before .before .before .before .before .before .before .before .before .before .before .before .before .before .before .args .scope)) (c .before .before .before .loop .scope) (c .before .before .before .before .before .before .before .before .before .before .before .before .before .before .before .args .len) (c .before .before .before .before .before .before .before .before .before .before .before .before .before .before .before .args .c .0) (c .before .before .before .before .before .before .before .before .before .before .before .before .before .before .before .args .n .0) (c .before .before .before .loop .i) (c .before .before .before .loop .inv .2) (sym e ∙ accepted-is (c .before .before .before .before .before .before .before .check-rule .result) (sym (c .before .before .before .before .before .before .is-refused .ensures) ∙ (c .before .before .before .before .before .if1 .left))); child = l; room = omega arith }, (c .before .before .before .before .before .before .before .before .before .before .before .before .before .before .before .pre .1 .3))
 
 check-term-check-term-requires : (t : ℕ) → check-term-lts.Need-check-term-requires (
   check-rule-reads.Asked,
@@ -201,8 +201,8 @@ check-term-check-term-requires t c κs =
     let m = (c .before .before .before .before .before .before .before .before .before .before .before .before .before .before .before .before .before .before .before .before .pre .0) in
     let i = (c .before .before .before .before .before .before .before .before .loop .inv) in
     let C = (c .before .before .before .before .child-setting .ensures) in
-    let keep = (c .before .before .before .before .child-setting .kept .1 .1 .1 .1 .1 .0) in
-    (omega arith, ((c .before .before .before .before .before .before .before .before .before .before .before .before .before .before .before .before .before .before .before .before .pre .1 .0), omega arith, omega arith))
+    let keep = (c .before .before .before .before .child-setting .kept .1 .1 .1 .1 .0) in
+    (omega arith, ((c .before .before .before .before .before .before .before .before .before .before .before .before .before .before .before .before .before .before .before .before .pre .1 .0), omega arith, omega arith, (c .before .before .before .before .before .before .before .before .before .before .before .before .before .before .before .before .before .before .before .before .pre .1 .3), (c .before .before .before .before .before .before .before .before .before .before .before .before .before .before .before .before .before .before .before .before .pre .1 .4)))
 
 check-term-is-refused-requires-2 : (t : ℕ) → check-term-lts.Need-is-refused-requires-2 (
   check-rule-reads.Asked,
@@ -252,8 +252,8 @@ check-term-returns-2 : (t : ℕ) → check-term-lts.Need-returns-2 (
 ) (check-term-at t) check-term.Post check-term-Inv-loop check-term-μ-loop
 check-term-returns-2 t c =
     let k = (c .before .before .before .before .before .before .before .before .before .before .before .before .before .before .child-count .ensures) in let l : (c .before .before .before .before .before .before .before .before .before .before .before .before .before .loop .i) < length (children (recordsOf (now (c .before .before .before .before .before .before .before .before .before .before .before .before .before .before .before .before .before .before .before .before .before .before .before .before .before .args .image))) (c .before .before .before .before .before .before .before .before .before .before .before .before .before .before .before .before .before .before .before .before .before .before .before .before .before .args .n .0)) = omega arith in
-    let v = child-checked (now (c .before .before .before .before .before .before .before .before .before .before .before .before .before .before .before .before .before .before .before .before .before .before .before .before .before .args .image)) (now (c .before .before .before .before .before .before .before .before .before .before .before .before .before .before .before .before .before .before .before .before .before .before .before .before .before .args .scope)) (c .before .before .before .before .before .before .before .before .before .before .before .before .before .loop .scope) (c .before .before .before .before .before .before .before .before .before .before .before .before .before .before .before .before .before .before .before .before .before .before .before .before .before .args .len) (c .before .before .before .before .before .before .before .before .before .before .before .before .before .before .before .before .before .before .before .before .before .before .before .before .before .args .c .0) (c .before .before .before .before .before .before .before .before .before .before .before .before .before .before .before .before .before .before .before .before .before .before .before .before .before .args .n .0) (c .before .before .before .before .before .before .before .before .before .before .before .before .before .loop .i) (c .before .before .before .before .before .before .before .before .before .before .before .before .before .loop .inv .2) (c .before .before .before .before .before .before .before .before .before .child-setting .last .1 .1 .1 .1 .1 .0) _ _ (c .before .before .before .before .before .before .before .before .before .child-setting .ensures) (c .before .before .before .before .check-term .result) (c .before .before .before .before .before .before .before .before .before .before .before .child .result .0) (c .before .before .before .before .before .before .before .before .before .before .before .child .ensures .0) (c .before .before .before .before .check-term .ensures .0) in
-    (step-stops (recordsOf (now (c .before .before .before .before .before .before .before .before .before .before .before .before .before .before .before .before .before .before .before .before .before .before .before .before .before .args .image))) (good-of (now (c .before .before .before .before .before .before .before .before .before .before .before .before .before .before .before .before .before .before .before .before .before .before .before .before .before .args .image)) ((c .before .before .before .before .before .before .before .before .before .before .before .before .before .before .before .before .before .before .before .before .before .before .before .before .before .pre .1 .0) .terms .laid-out)) (settingIn (now (c .before .before .before .before .before .before .before .before .before .before .before .before .before .before .before .before .before .before .before .before .before .before .before .before .before .args .scope)) (c .before .before .before .before .before .before .before .before .before .before .before .before .before .before .before .before .before .before .before .before .before .before .before .before .before .args .len) (c .before .before .before .before .before .before .before .before .before .before .before .before .before .before .before .before .before .before .before .before .before .before .before .before .before .args .c .0)) (c .before .before .before .before .before .before .before .before .before .before .before .before .before .before .before .before .before .before .before .before .before .before .before .before .before .args .n .0) (c .before .before .before .before .before .before .before .before .before .before .before .before .before .before .before .before .before .before .before .before .before .before .before .before .before .pre .1 .1) (c .before .before .before .before .before .before .before .before .before .before .before .before .before .loop .i) (c .before .before .before .before .check-term .result) l v (sym (c .before .is-refused2 .ensures) ∙ (c .if2 .taken)) ∙ (c .before .before .before .before .before .before .before .before .before .before .before .before .before .loop .inv .3), still-kept (now (c .before .before .before .before .before .before .before .before .before .before .before .before .before .before .before .before .before .before .before .before .before .before .before .before .before .args .image)) (now (c .before .before .before .before .before .before .before .before .before .before .before .before .before .before .before .before .before .before .before .before .before .before .before .before .before .args .scope)) (c .before .before .before .before .before .before .before .before .before .before .before .before .before .loop .scope) (c .before .before .before .before .before .before .before .before .before .before .before .before .before .before .before .before .before .before .before .before .before .before .before .before .before .args .len) (c .before .before .before .before .before .before .before .before .before .before .before .before .before .before .before .before .before .before .before .before .before .before .before .before .before .args .c .0) (c .before .before .before .before .before .before .before .before .before .before .before .before .before .before .before .before .before .before .before .before .before .before .before .before .before .args .n .0) (c .before .before .before .before .before .before .before .before .before .before .before .before .before .loop .i) (c .before .before .before .before .before .before .before .before .before .before .before .before .before .loop .inv .2) (c .before .before .before .before .before .before .before .before .before .child-setting .last .1 .1 .1 .1 .1 .0) _ _ (c .before .before .before .before .before .before .before .before .before .child-setting .ensures) _ (c .before .before .before .before .check-term .ensures .1))
+    let v = child-checked (now (c .before .before .before .before .before .before .before .before .before .before .before .before .before .before .before .before .before .before .before .before .before .before .before .before .before .args .image)) (now (c .before .before .before .before .before .before .before .before .before .before .before .before .before .before .before .before .before .before .before .before .before .before .before .before .before .args .scope)) (c .before .before .before .before .before .before .before .before .before .before .before .before .before .loop .scope) (c .before .before .before .before .before .before .before .before .before .before .before .before .before .before .before .before .before .before .before .before .before .before .before .before .before .args .len) (c .before .before .before .before .before .before .before .before .before .before .before .before .before .before .before .before .before .before .before .before .before .before .before .before .before .args .c .0) (c .before .before .before .before .before .before .before .before .before .before .before .before .before .before .before .before .before .before .before .before .before .before .before .before .before .args .n .0) (c .before .before .before .before .before .before .before .before .before .before .before .before .before .loop .i) (c .before .before .before .before .before .before .before .before .before .before .before .before .before .loop .inv .2) (c .before .before .before .before .before .before .before .before .before .child-setting .last .1 .1 .1 .1 .0) _ _ (c .before .before .before .before .before .before .before .before .before .child-setting .ensures) (c .before .before .before .before .check-term .result) (c .before .before .before .before .before .before .before .before .before .before .before .child .result .0) (c .before .before .before .before .before .before .before .before .before .before .before .child .ensures .0) (c .before .before .before .before .check-term .ensures .0) in
+    (step-stops (recordsOf (now (c .before .before .before .before .before .before .before .before .before .before .before .before .before .before .before .before .before .before .before .before .before .before .before .before .before .args .image))) (good-of (now (c .before .before .before .before .before .before .before .before .before .before .before .before .before .before .before .before .before .before .before .before .before .before .before .before .before .args .image)) ((c .before .before .before .before .before .before .before .before .before .before .before .before .before .before .before .before .before .before .before .before .before .before .before .before .before .pre .1 .0) .terms .laid-out)) (settingIn (now (c .before .before .before .before .before .before .before .before .before .before .before .before .before .before .before .before .before .before .before .before .before .before .before .before .before .args .scope)) (c .before .before .before .before .before .before .before .before .before .before .before .before .before .before .before .before .before .before .before .before .before .before .before .before .before .args .len) (c .before .before .before .before .before .before .before .before .before .before .before .before .before .before .before .before .before .before .before .before .before .before .before .before .before .args .c .0)) (c .before .before .before .before .before .before .before .before .before .before .before .before .before .before .before .before .before .before .before .before .before .before .before .before .before .args .n .0) (c .before .before .before .before .before .before .before .before .before .before .before .before .before .before .before .before .before .before .before .before .before .before .before .before .before .pre .1 .1) (c .before .before .before .before .before .before .before .before .before .before .before .before .before .loop .i) (c .before .before .before .before .check-term .result) l v (sym (c .before .is-refused2 .ensures) ∙ (c .if2 .taken)) ∙ (c .before .before .before .before .before .before .before .before .before .before .before .before .before .loop .inv .3), still-kept (now (c .before .before .before .before .before .before .before .before .before .before .before .before .before .before .before .before .before .before .before .before .before .before .before .before .before .args .image)) (now (c .before .before .before .before .before .before .before .before .before .before .before .before .before .before .before .before .before .before .before .before .before .before .before .before .before .args .scope)) (c .before .before .before .before .before .before .before .before .before .before .before .before .before .loop .scope) (c .before .before .before .before .before .before .before .before .before .before .before .before .before .before .before .before .before .before .before .before .before .before .before .before .before .args .len) (c .before .before .before .before .before .before .before .before .before .before .before .before .before .before .before .before .before .before .before .before .before .before .before .before .before .args .c .0) (c .before .before .before .before .before .before .before .before .before .before .before .before .before .before .before .before .before .before .before .before .before .before .before .before .before .args .n .0) (c .before .before .before .before .before .before .before .before .before .before .before .before .before .loop .i) (c .before .before .before .before .before .before .before .before .before .before .before .before .before .loop .inv .2) (c .before .before .before .before .before .before .before .before .before .child-setting .last .1 .1 .1 .1 .0) _ _ (c .before .before .before .before .before .before .before .before .before .child-setting .ensures) _ (c .before .before .before .before .check-term .ensures .1))
 
 check-term-add-i : (t : ℕ) → check-term-lts.Need-add-i (
   check-rule-reads.Asked,
@@ -303,11 +303,11 @@ check-term-loop-again : (t : ℕ) → check-term-lts.Need-loop-again (
 ) (check-term-at t) check-term.Post check-term-Inv-loop check-term-μ-loop
 check-term-loop-again t c =
     let k = (c .before .before .before .before .before .before .before .before .before .before .before .before .before .before .child-count .ensures) in let l : (c .before .before .before .before .before .before .before .before .before .before .before .before .before .loop .i) < length (children (recordsOf (now (c .before .before .before .before .before .before .before .before .before .before .before .before .before .before .before .before .before .before .before .before .before .before .before .before .before .args .image))) (c .before .before .before .before .before .before .before .before .before .before .before .before .before .before .before .before .before .before .before .before .before .before .before .before .before .args .n .0)) = omega arith in
-    let v = child-checked (now (c .before .before .before .before .before .before .before .before .before .before .before .before .before .before .before .before .before .before .before .before .before .before .before .before .before .args .image)) (now (c .before .before .before .before .before .before .before .before .before .before .before .before .before .before .before .before .before .before .before .before .before .before .before .before .before .args .scope)) (c .before .before .before .before .before .before .before .before .before .before .before .before .before .loop .scope) (c .before .before .before .before .before .before .before .before .before .before .before .before .before .before .before .before .before .before .before .before .before .before .before .before .before .args .len) (c .before .before .before .before .before .before .before .before .before .before .before .before .before .before .before .before .before .before .before .before .before .before .before .before .before .args .c .0) (c .before .before .before .before .before .before .before .before .before .before .before .before .before .before .before .before .before .before .before .before .before .before .before .before .before .args .n .0) (c .before .before .before .before .before .before .before .before .before .before .before .before .before .loop .i) (c .before .before .before .before .before .before .before .before .before .before .before .before .before .loop .inv .2) (c .before .before .before .before .before .before .before .before .before .child-setting .last .1 .1 .1 .1 .1 .0) _ _ (c .before .before .before .before .before .before .before .before .before .child-setting .ensures) (c .before .before .before .before .check-term .result) (c .before .before .before .before .before .before .before .before .before .before .before .child .result .0) (c .before .before .before .before .before .before .before .before .before .before .before .child .ensures .0) (c .before .before .before .before .check-term .ensures .0) in
+    let v = child-checked (now (c .before .before .before .before .before .before .before .before .before .before .before .before .before .before .before .before .before .before .before .before .before .before .before .before .before .args .image)) (now (c .before .before .before .before .before .before .before .before .before .before .before .before .before .before .before .before .before .before .before .before .before .before .before .before .before .args .scope)) (c .before .before .before .before .before .before .before .before .before .before .before .before .before .loop .scope) (c .before .before .before .before .before .before .before .before .before .before .before .before .before .before .before .before .before .before .before .before .before .before .before .before .before .args .len) (c .before .before .before .before .before .before .before .before .before .before .before .before .before .before .before .before .before .before .before .before .before .before .before .before .before .args .c .0) (c .before .before .before .before .before .before .before .before .before .before .before .before .before .before .before .before .before .before .before .before .before .before .before .before .before .args .n .0) (c .before .before .before .before .before .before .before .before .before .before .before .before .before .loop .i) (c .before .before .before .before .before .before .before .before .before .before .before .before .before .loop .inv .2) (c .before .before .before .before .before .before .before .before .before .child-setting .last .1 .1 .1 .1 .0) _ _ (c .before .before .before .before .before .before .before .before .before .child-setting .ensures) (c .before .before .before .before .check-term .result) (c .before .before .before .before .before .before .before .before .before .before .before .child .result .0) (c .before .before .before .before .before .before .before .before .before .before .before .child .ensures .0) (c .before .before .before .before .check-term .ensures .0) in
     let i = (c .before .before .before .before .before .before .before .before .before .before .before .before .before .loop .inv) in
-    let kept = (c .before .before .before .before .before .before .before .before .before .child-setting .kept .1 .1 .1 .1 .1 .0) in
+    let kept = (c .before .before .before .before .before .before .before .before .before .child-setting .kept .1 .1 .1 .1 .0) in
     let kept2 = (c .before .before .before .before .check-term .kept .1 .1 .1 .1 .1 .0) in
-    (omega arith, kept2 ∙ kept ∙ i .1, still-kept (now (c .before .before .before .before .before .before .before .before .before .before .before .before .before .before .before .before .before .before .before .before .before .before .before .before .before .args .image)) (now (c .before .before .before .before .before .before .before .before .before .before .before .before .before .before .before .before .before .before .before .before .before .before .before .before .before .args .scope)) (c .before .before .before .before .before .before .before .before .before .before .before .before .before .loop .scope) (c .before .before .before .before .before .before .before .before .before .before .before .before .before .before .before .before .before .before .before .before .before .before .before .before .before .args .len) (c .before .before .before .before .before .before .before .before .before .before .before .before .before .before .before .before .before .before .before .before .before .before .before .before .before .args .c .0) (c .before .before .before .before .before .before .before .before .before .before .before .before .before .before .before .before .before .before .before .before .before .before .before .before .before .args .n .0) (c .before .before .before .before .before .before .before .before .before .before .before .before .before .loop .i) (c .before .before .before .before .before .before .before .before .before .before .before .before .before .loop .inv .2) (c .before .before .before .before .before .before .before .before .before .child-setting .last .1 .1 .1 .1 .1 .0) _ _ (c .before .before .before .before .before .before .before .before .before .child-setting .ensures) _ (c .before .before .before .before .check-term .ensures .1), step-passes (recordsOf (now (c .before .before .before .before .before .before .before .before .before .before .before .before .before .before .before .before .before .before .before .before .before .before .before .before .before .args .image))) (good-of (now (c .before .before .before .before .before .before .before .before .before .before .before .before .before .before .before .before .before .before .before .before .before .before .before .before .before .args .image)) ((c .before .before .before .before .before .before .before .before .before .before .before .before .before .before .before .before .before .before .before .before .before .before .before .before .before .pre .1 .0) .terms .laid-out)) (settingIn (now (c .before .before .before .before .before .before .before .before .before .before .before .before .before .before .before .before .before .before .before .before .before .before .before .before .before .args .scope)) (c .before .before .before .before .before .before .before .before .before .before .before .before .before .before .before .before .before .before .before .before .before .before .before .before .before .args .len) (c .before .before .before .before .before .before .before .before .before .before .before .before .before .before .before .before .before .before .before .before .before .before .before .before .before .args .c .0)) (c .before .before .before .before .before .before .before .before .before .before .before .before .before .before .before .before .before .before .before .before .before .before .before .before .before .args .n .0) (c .before .before .before .before .before .before .before .before .before .before .before .before .before .before .before .before .before .before .before .before .before .before .before .before .before .pre .1 .1) (c .before .before .before .before .before .before .before .before .before .before .before .before .before .loop .i) (c .before .before .before .before .check-term .result) l v (sym (c .before .is-refused2 .ensures) ∙ (c .if2 .left)) ∙ i .3)
+    (omega arith, kept2 ∙ kept ∙ i .1, still-kept (now (c .before .before .before .before .before .before .before .before .before .before .before .before .before .before .before .before .before .before .before .before .before .before .before .before .before .args .image)) (now (c .before .before .before .before .before .before .before .before .before .before .before .before .before .before .before .before .before .before .before .before .before .before .before .before .before .args .scope)) (c .before .before .before .before .before .before .before .before .before .before .before .before .before .loop .scope) (c .before .before .before .before .before .before .before .before .before .before .before .before .before .before .before .before .before .before .before .before .before .before .before .before .before .args .len) (c .before .before .before .before .before .before .before .before .before .before .before .before .before .before .before .before .before .before .before .before .before .before .before .before .before .args .c .0) (c .before .before .before .before .before .before .before .before .before .before .before .before .before .before .before .before .before .before .before .before .before .before .before .before .before .args .n .0) (c .before .before .before .before .before .before .before .before .before .before .before .before .before .loop .i) (c .before .before .before .before .before .before .before .before .before .before .before .before .before .loop .inv .2) (c .before .before .before .before .before .before .before .before .before .child-setting .last .1 .1 .1 .1 .0) _ _ (c .before .before .before .before .before .before .before .before .before .child-setting .ensures) _ (c .before .before .before .before .check-term .ensures .1), step-passes (recordsOf (now (c .before .before .before .before .before .before .before .before .before .before .before .before .before .before .before .before .before .before .before .before .before .before .before .before .before .args .image))) (good-of (now (c .before .before .before .before .before .before .before .before .before .before .before .before .before .before .before .before .before .before .before .before .before .before .before .before .before .args .image)) ((c .before .before .before .before .before .before .before .before .before .before .before .before .before .before .before .before .before .before .before .before .before .before .before .before .before .pre .1 .0) .terms .laid-out)) (settingIn (now (c .before .before .before .before .before .before .before .before .before .before .before .before .before .before .before .before .before .before .before .before .before .before .before .before .before .args .scope)) (c .before .before .before .before .before .before .before .before .before .before .before .before .before .before .before .before .before .before .before .before .before .before .before .before .before .args .len) (c .before .before .before .before .before .before .before .before .before .before .before .before .before .before .before .before .before .before .before .before .before .before .before .before .before .args .c .0)) (c .before .before .before .before .before .before .before .before .before .before .before .before .before .before .before .before .before .before .before .before .before .before .before .before .before .args .n .0) (c .before .before .before .before .before .before .before .before .before .before .before .before .before .before .before .before .before .before .before .before .before .before .before .before .before .pre .1 .1) (c .before .before .before .before .before .before .before .before .before .before .before .before .before .loop .i) (c .before .before .before .before .check-term .result) l v (sym (c .before .is-refused2 .ensures) ∙ (c .if2 .left)) ∙ i .3)
 
 check-term-same-length-3 : (t : ℕ) → check-term-lts.Need-same-length-3 (
   check-rule-reads.Asked,

@@ -29,13 +29,13 @@ first-type-requires c κs = search needs
 
 bind-requires : tie.Need-bind-requires
 bind-requires c κs =
-    let first : (c .before .before .type-key2 .result) ≡ getD (now (c .before .before .before .before .before .before .before .before .before .before .before .before .args .keys)) (getD (childTypes (now (c .before .before .before .before .before .before .before .before .before .before .before .before .args .image)) (c .before .before .before .before .before .before .before .before .before .before .before .before .args .n .0)) 0 0) 0 = (c .before .before .type-key2 .ensures) ∙ ap (λ t. getD (now (c .before .before .before .before .before .before .before .before .before .before .before .before .args .keys)) t 0) (c .before .before .before .child-type .ensures .0) in
-    let f : (c .first-type .result) .0 ≡ keyField0 (getD (now (c .before .before .before .before .before .before .before .before .before .before .before .before .args .keys)) (getD (childTypes (now (c .before .before .before .before .before .before .before .before .before .before .before .before .args .image)) (c .before .before .before .before .before .before .before .before .before .before .before .before .args .n .0)) 0 0) 0) = (c .first-type .ensures) ∙ ap keyField0 first in
-    let r = (c .before .before .before .before .before .before .before .before .before .before .before .before .pre .0) .room in
-    (omega arith, rw f (advice-small (now (c .before .before .before .before .before .before .before .before .before .before .before .before .args .image)) (now (c .before .before .before .before .before .before .before .before .before .before .before .before .args .kinds)) (now (c .before .before .before .before .before .before .before .before .before .before .before .before .args .masks)) (now (c .before .before .before .before .before .before .before .before .before .before .before .before .args .terms)) (now (c .before .before .before .before .before .before .before .before .before .before .before .before .args .keys)) (now (c .before .before .before .before .before .before .before .before .before .before .before .before .args .scope)) (c .before .before .before .before .before .before .before .before .before .before .before .before .args .len) (c .before .before .before .before .before .before .before .before .before .before .before .before .args .c .0) (c .before .before .before .before .before .before .before .before .before .before .before .before .args .n .0) 1 (c .before .before .before .before .before .before .before .before .before .before .before .before .pre .0) (c .before .before .before .before .before .before .before .before .before .before .before .before .pre .1) refl))
+    let first : (c .before .before .type-key2 .result) ≡ getD (now (c .before .before .before .before .before .before .before .before .before .before .before .args .keys)) (getD (childTypes (now (c .before .before .before .before .before .before .before .before .before .before .before .args .image)) (c .before .before .before .before .before .before .before .before .before .before .before .args .n .0)) 0 0) 0 = (c .before .before .type-key2 .ensures) ∙ ap (λ t. getD (now (c .before .before .before .before .before .before .before .before .before .before .before .args .keys)) t 0) (c .before .before .before .child-type .ensures .0) in
+    let f : (c .first-type .result) .0 ≡ keyField0 (getD (now (c .before .before .before .before .before .before .before .before .before .before .before .args .keys)) (getD (childTypes (now (c .before .before .before .before .before .before .before .before .before .before .before .args .image)) (c .before .before .before .before .before .before .before .before .before .before .before .args .n .0)) 0 0) 0) = (c .first-type .ensures) ∙ ap keyField0 first in
+    let r = (c .before .before .before .before .before .before .before .before .before .before .before .pre .0) .room in
+    (omega arith, rw f (advice-small (now (c .before .before .before .before .before .before .before .before .before .before .before .args .image)) (now (c .before .before .before .before .before .before .before .before .before .before .before .args .terms)) (now (c .before .before .before .before .before .before .before .before .before .before .before .args .keys)) (now (c .before .before .before .before .before .before .before .before .before .before .before .args .scope)) (c .before .before .before .before .before .before .before .before .before .before .before .args .len) (c .before .before .before .before .before .before .before .before .before .before .before .args .c .0) (c .before .before .before .before .before .before .before .before .before .before .before .args .n .0) 1 (c .before .before .before .before .before .before .before .before .before .before .before .pre .0) (c .before .before .before .before .before .before .before .before .before .before .before .pre .1) refl))
 
-add-t16 : tie.Need-add-t16
-add-t16 c = let r = (c .before .before .before .before .before .before .before .before .before .before .before .before .before .before .before .pre .0 .room) in let g = (c .before .before .before .before .before .before .before .before .before .before .before .before .before .before .before .good) in omega arith
+add-t15 : tie.Need-add-t15
+add-t15 c = search needs
 
 first-domain-requires : tie.Need-first-domain-requires
 first-domain-requires c κs = search needs
@@ -45,11 +45,11 @@ same-length c = search needs
 
 returns : tie.Need-returns
 returns c =
-    let own : (c .before .before .before .before .before .before .before .before .type-key .result) ≡ getD (now (c .before .before .before .before .before .before .before .before .before .before .before .before .before .before .before .before .args .keys)) (typeNo (recordsOf (now (c .before .before .before .before .before .before .before .before .before .before .before .before .before .before .before .before .args .image))) (c .before .before .before .before .before .before .before .before .before .before .before .before .before .before .before .before .args .n .0)) 0 = (c .before .before .before .before .before .before .before .before .type-key .ensures) ∙ ap (λ t. getD (now (c .before .before .before .before .before .before .before .before .before .before .before .before .before .before .before .before .args .keys)) t 0) (c .before .before .before .before .before .before .before .before .before .term-type .ensures .0) in
-    let first : (c .before .before .before .before .before .before .type-key2 .result) ≡ getD (now (c .before .before .before .before .before .before .before .before .before .before .before .before .before .before .before .before .args .keys)) (getD (childTypes (now (c .before .before .before .before .before .before .before .before .before .before .before .before .before .before .before .before .args .image)) (c .before .before .before .before .before .before .before .before .before .before .before .before .before .before .before .before .args .n .0)) 0 0) 0 = (c .before .before .before .before .before .before .type-key2 .ensures) ∙ ap (λ t. getD (now (c .before .before .before .before .before .before .before .before .before .before .before .before .before .before .before .before .args .keys)) t 0) (c .before .before .before .before .before .before .before .child-type .ensures .0) in
-    let f : (c .before .before .before .before .first-type .result) .0 ≡ keyField0 (getD (now (c .before .before .before .before .before .before .before .before .before .before .before .before .before .before .before .before .args .keys)) (getD (childTypes (now (c .before .before .before .before .before .before .before .before .before .before .before .before .before .before .before .before .args .image)) (c .before .before .before .before .before .before .before .before .before .before .before .before .before .before .before .before .args .n .0)) 0 0) 0) = (c .before .before .before .before .first-type .ensures) ∙ ap keyField0 first in
-    let d : (c .first-domain .result) .0 ≡ keyField0 (getD (now (c .before .before .before .before .before .before .before .before .before .before .before .before .before .before .before .before .args .keys)) (typeNo (recordsOf (now (c .before .before .before .before .before .before .before .before .before .before .before .before .before .before .before .before .args .image))) (c .before .before .before .before .before .before .before .before .before .before .before .before .before .before .before .before .args .n .0)) 0) = (c .first-domain .ensures) ∙ ap keyField0 own in
-    rw ((c .before .before .before .bind .ensures), f, d) (advice-at (now (c .before .before .before .before .before .before .before .before .before .before .before .before .before .before .before .before .args .image)) (now (c .before .before .before .before .before .before .before .before .before .before .before .before .before .before .before .before .args .kinds)) (now (c .before .before .before .before .before .before .before .before .before .before .before .before .before .before .before .before .args .masks)) (now (c .before .before .before .before .before .before .before .before .before .before .before .before .before .before .before .before .args .terms)) (now (c .before .before .before .before .before .before .before .before .before .before .before .before .before .before .before .before .args .keys)) (now (c .before .before .before .before .before .before .before .before .before .before .before .before .before .before .before .before .args .scope)) (c .before .before .before .before .before .before .before .before .before .before .before .before .before .before .before .before .args .len) (c .before .before .before .before .before .before .before .before .before .before .before .before .before .before .before .before .args .c .0) (c .before .before .before .before .before .before .before .before .before .before .before .before .before .before .before .before .args .n .0) 1 (c .before .before .before .before .before .before .before .before .before .before .before .before .before .before .before .before .pre .0) (c .before .before .before .before .before .before .before .before .before .before .before .before .before .before .before .before .pre .1) refl)
+    let own : (c .before .before .before .before .before .before .before .before .type-key .result) ≡ getD (now (c .before .before .before .before .before .before .before .before .before .before .before .before .before .before .before .args .keys)) (typeNo (recordsOf (now (c .before .before .before .before .before .before .before .before .before .before .before .before .before .before .before .args .image))) (c .before .before .before .before .before .before .before .before .before .before .before .before .before .before .before .args .n .0)) 0 = (c .before .before .before .before .before .before .before .before .type-key .ensures) ∙ ap (λ t. getD (now (c .before .before .before .before .before .before .before .before .before .before .before .before .before .before .before .args .keys)) t 0) (c .before .before .before .before .before .before .before .before .before .term-type .ensures .0) in
+    let first : (c .before .before .before .before .before .before .type-key2 .result) ≡ getD (now (c .before .before .before .before .before .before .before .before .before .before .before .before .before .before .before .args .keys)) (getD (childTypes (now (c .before .before .before .before .before .before .before .before .before .before .before .before .before .before .before .args .image)) (c .before .before .before .before .before .before .before .before .before .before .before .before .before .before .before .args .n .0)) 0 0) 0 = (c .before .before .before .before .before .before .type-key2 .ensures) ∙ ap (λ t. getD (now (c .before .before .before .before .before .before .before .before .before .before .before .before .before .before .before .args .keys)) t 0) (c .before .before .before .before .before .before .before .child-type .ensures .0) in
+    let f : (c .before .before .before .before .first-type .result) .0 ≡ keyField0 (getD (now (c .before .before .before .before .before .before .before .before .before .before .before .before .before .before .before .args .keys)) (getD (childTypes (now (c .before .before .before .before .before .before .before .before .before .before .before .before .before .before .before .args .image)) (c .before .before .before .before .before .before .before .before .before .before .before .before .before .before .before .args .n .0)) 0 0) 0) = (c .before .before .before .before .first-type .ensures) ∙ ap keyField0 first in
+    let d : (c .first-domain .result) .0 ≡ keyField0 (getD (now (c .before .before .before .before .before .before .before .before .before .before .before .before .before .before .before .args .keys)) (typeNo (recordsOf (now (c .before .before .before .before .before .before .before .before .before .before .before .before .before .before .before .args .image))) (c .before .before .before .before .before .before .before .before .before .before .before .before .before .before .before .args .n .0)) 0) = (c .first-domain .ensures) ∙ ap keyField0 own in
+    rw ((c .before .before .before .bind .ensures), f, d) (advice-at (now (c .before .before .before .before .before .before .before .before .before .before .before .before .before .before .before .args .image)) (now (c .before .before .before .before .before .before .before .before .before .before .before .before .before .before .before .args .terms)) (now (c .before .before .before .before .before .before .before .before .before .before .before .before .before .before .before .args .keys)) (now (c .before .before .before .before .before .before .before .before .before .before .before .before .before .before .before .args .scope)) (c .before .before .before .before .before .before .before .before .before .before .before .before .before .before .before .args .len) (c .before .before .before .before .before .before .before .before .before .before .before .before .before .before .before .args .c .0) (c .before .before .before .before .before .before .before .before .before .before .before .before .before .before .before .args .n .0) 1 (c .before .before .before .before .before .before .before .before .before .before .before .before .before .before .before .pre .0) (c .before .before .before .before .before .before .before .before .before .before .before .before .before .before .before .pre .1) refl)
 
 pub advice-setting-spec : {M : Type 1} → statement M
 advice-setting-spec =
@@ -61,7 +61,7 @@ advice-setting-spec =
     type-key-requires-2
     first-type-requires
     bind-requires
-    add-t16
+    add-t15
     first-domain-requires
     same-length
     returns)

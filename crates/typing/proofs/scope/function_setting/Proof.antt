@@ -22,13 +22,13 @@ first-type-requires c κs = search needs
 
 bind-requires : tie.Need-bind-requires
 bind-requires c κs =
-    let own : (c .before .before .type-key .result) ≡ getD (now (c .before .before .before .before .before .before .before .before .before .before .args .keys)) (typeNo (recordsOf (now (c .before .before .before .before .before .before .before .before .before .before .args .image))) (c .before .before .before .before .before .before .before .before .before .before .args .n .0)) 0 = (c .before .before .type-key .ensures) ∙ ap (λ t. getD (now (c .before .before .before .before .before .before .before .before .before .before .args .keys)) t 0) (c .before .before .before .term-type .ensures .0) in
-    let f : (c .first-type .result) .0 ≡ keyField0 (getD (now (c .before .before .before .before .before .before .before .before .before .before .args .keys)) (typeNo (recordsOf (now (c .before .before .before .before .before .before .before .before .before .before .args .image))) (c .before .before .before .before .before .before .before .before .before .before .args .n .0)) 0) = (c .first-type .ensures) ∙ ap keyField0 own in
-    let r = (c .before .before .before .before .before .before .before .before .before .before .pre .0) .room in
-    (omega arith, rw f (function-small (now (c .before .before .before .before .before .before .before .before .before .before .args .image)) (now (c .before .before .before .before .before .before .before .before .before .before .args .kinds)) (now (c .before .before .before .before .before .before .before .before .before .before .args .masks)) (now (c .before .before .before .before .before .before .before .before .before .before .args .terms)) (now (c .before .before .before .before .before .before .before .before .before .before .args .keys)) (now (c .before .before .before .before .before .before .before .before .before .before .args .scope)) (c .before .before .before .before .before .before .before .before .before .before .args .len) (c .before .before .before .before .before .before .before .before .before .before .args .c .0) (c .before .before .before .before .before .before .before .before .before .before .args .n .0) (c .before .before .before .before .before .before .before .before .before .before .args .i) (c .before .before .before .before .before .before .before .before .before .before .pre .0) (c .before .before .before .before .before .before .before .before .before .before .pre .1)))
+    let own : (c .before .before .type-key .result) ≡ getD (now (c .before .before .before .before .before .before .before .before .args .keys)) (typeNo (recordsOf (now (c .before .before .before .before .before .before .before .before .args .image))) (c .before .before .before .before .before .before .before .before .args .n .0)) 0 = (c .before .before .type-key .ensures) ∙ ap (λ t. getD (now (c .before .before .before .before .before .before .before .before .args .keys)) t 0) (c .before .before .before .term-type .ensures .0) in
+    let f : (c .first-type .result) .0 ≡ keyField0 (getD (now (c .before .before .before .before .before .before .before .before .args .keys)) (typeNo (recordsOf (now (c .before .before .before .before .before .before .before .before .args .image))) (c .before .before .before .before .before .before .before .before .args .n .0)) 0) = (c .first-type .ensures) ∙ ap keyField0 own in
+    let r = (c .before .before .before .before .before .before .before .before .pre .0) .room in
+    (omega arith, rw f (function-small (now (c .before .before .before .before .before .before .before .before .args .image)) (now (c .before .before .before .before .before .before .before .before .args .terms)) (now (c .before .before .before .before .before .before .before .before .args .keys)) (now (c .before .before .before .before .before .before .before .before .args .scope)) (c .before .before .before .before .before .before .before .before .args .len) (c .before .before .before .before .before .before .before .before .args .c .0) (c .before .before .before .before .before .before .before .before .args .n .0) (c .before .before .before .before .before .before .before .before .args .i) (c .before .before .before .before .before .before .before .before .pre .0) (c .before .before .before .before .before .before .before .before .pre .1)))
 
-add-t16 : tie.Need-add-t16
-add-t16 c = search needs
+add-t14 : tie.Need-add-t14
+add-t14 c = search needs
 
 second-domain-requires : tie.Need-second-domain-requires
 second-domain-requires c κs = search needs
@@ -38,10 +38,10 @@ same-length c = search needs
 
 returns : tie.Need-returns
 returns c =
-    let own : (c .before .before .before .before .before .before .type-key .result) ≡ getD (now (c .before .before .before .before .before .before .before .before .before .before .before .before .before .before .args .keys)) (typeNo (recordsOf (now (c .before .before .before .before .before .before .before .before .before .before .before .before .before .before .args .image))) (c .before .before .before .before .before .before .before .before .before .before .before .before .before .before .args .n .0)) 0 = (c .before .before .before .before .before .before .type-key .ensures) ∙ ap (λ t. getD (now (c .before .before .before .before .before .before .before .before .before .before .before .before .before .before .args .keys)) t 0) (c .before .before .before .before .before .before .before .term-type .ensures .0) in
-    let f : (c .before .before .before .before .first-type .result) .0 ≡ keyField0 (getD (now (c .before .before .before .before .before .before .before .before .before .before .before .before .before .before .args .keys)) (typeNo (recordsOf (now (c .before .before .before .before .before .before .before .before .before .before .before .before .before .before .args .image))) (c .before .before .before .before .before .before .before .before .before .before .before .before .before .before .args .n .0)) 0) = (c .before .before .before .before .first-type .ensures) ∙ ap keyField0 own in
-    let d : (c .second-domain .result) .0 ≡ keyField1 (getD (now (c .before .before .before .before .before .before .before .before .before .before .before .before .before .before .args .keys)) (typeNo (recordsOf (now (c .before .before .before .before .before .before .before .before .before .before .before .before .before .before .args .image))) (c .before .before .before .before .before .before .before .before .before .before .before .before .before .before .args .n .0)) 0) = (c .second-domain .ensures) ∙ ap keyField1 own in
-    rw ((c .before .before .before .bind .ensures), f, d) (function-at (now (c .before .before .before .before .before .before .before .before .before .before .before .before .before .before .args .image)) (now (c .before .before .before .before .before .before .before .before .before .before .before .before .before .before .args .kinds)) (now (c .before .before .before .before .before .before .before .before .before .before .before .before .before .before .args .masks)) (now (c .before .before .before .before .before .before .before .before .before .before .before .before .before .before .args .terms)) (now (c .before .before .before .before .before .before .before .before .before .before .before .before .before .before .args .keys)) (now (c .before .before .before .before .before .before .before .before .before .before .before .before .before .before .args .scope)) (c .before .before .before .before .before .before .before .before .before .before .before .before .before .before .args .len) (c .before .before .before .before .before .before .before .before .before .before .before .before .before .before .args .c .0) (c .before .before .before .before .before .before .before .before .before .before .before .before .before .before .args .n .0) (c .before .before .before .before .before .before .before .before .before .before .before .before .before .before .args .i) (c .before .before .before .before .before .before .before .before .before .before .before .before .before .before .pre .0) (c .before .before .before .before .before .before .before .before .before .before .before .before .before .before .pre .1))
+    let own : (c .before .before .before .before .before .before .type-key .result) ≡ getD (now (c .before .before .before .before .before .before .before .before .before .before .before .before .args .keys)) (typeNo (recordsOf (now (c .before .before .before .before .before .before .before .before .before .before .before .before .args .image))) (c .before .before .before .before .before .before .before .before .before .before .before .before .args .n .0)) 0 = (c .before .before .before .before .before .before .type-key .ensures) ∙ ap (λ t. getD (now (c .before .before .before .before .before .before .before .before .before .before .before .before .args .keys)) t 0) (c .before .before .before .before .before .before .before .term-type .ensures .0) in
+    let f : (c .before .before .before .before .first-type .result) .0 ≡ keyField0 (getD (now (c .before .before .before .before .before .before .before .before .before .before .before .before .args .keys)) (typeNo (recordsOf (now (c .before .before .before .before .before .before .before .before .before .before .before .before .args .image))) (c .before .before .before .before .before .before .before .before .before .before .before .before .args .n .0)) 0) = (c .before .before .before .before .first-type .ensures) ∙ ap keyField0 own in
+    let d : (c .second-domain .result) .0 ≡ keyField1 (getD (now (c .before .before .before .before .before .before .before .before .before .before .before .before .args .keys)) (typeNo (recordsOf (now (c .before .before .before .before .before .before .before .before .before .before .before .before .args .image))) (c .before .before .before .before .before .before .before .before .before .before .before .before .args .n .0)) 0) = (c .second-domain .ensures) ∙ ap keyField1 own in
+    rw ((c .before .before .before .bind .ensures), f, d) (function-at (now (c .before .before .before .before .before .before .before .before .before .before .before .before .args .image)) (now (c .before .before .before .before .before .before .before .before .before .before .before .before .args .terms)) (now (c .before .before .before .before .before .before .before .before .before .before .before .before .args .keys)) (now (c .before .before .before .before .before .before .before .before .before .before .before .before .args .scope)) (c .before .before .before .before .before .before .before .before .before .before .before .before .args .len) (c .before .before .before .before .before .before .before .before .before .before .before .before .args .c .0) (c .before .before .before .before .before .before .before .before .before .before .before .before .args .n .0) (c .before .before .before .before .before .before .before .before .before .before .before .before .args .i) (c .before .before .before .before .before .before .before .before .before .before .before .before .pre .0) (c .before .before .before .before .before .before .before .before .before .before .before .before .pre .1))
 
 pub function-setting-spec : {M : Type 1} → statement M
 function-setting-spec =
@@ -51,7 +51,7 @@ function-setting-spec =
     type-key-requires
     first-type-requires
     bind-requires
-    add-t16
+    add-t14
     second-domain-requires
     same-length
     returns)
