@@ -26,8 +26,10 @@ bind-requires : tie.Need-bind-requires
 bind-requires c κs =
     let first : (c .before .before .before .type-key .result) ≡ getD (now (c .before .before .before .before .before .before .before .before .before .before .args .keys)) (getD (childTypes (now (c .before .before .before .before .before .before .before .before .before .before .args .image)) (c .before .before .before .before .before .before .before .before .before .before .args .n .0)) 0 0) 0 = (c .before .before .before .type-key .ensures) ∙ ap (λ t. getD (now (c .before .before .before .before .before .before .before .before .before .before .args .keys)) t 0) (c .before .before .before .before .child-type .ensures .0) in
     let f : (c .before .before .first-type .result) .0 ≡ keyField0 (getD (now (c .before .before .before .before .before .before .before .before .before .before .args .keys)) (getD (childTypes (now (c .before .before .before .before .before .before .before .before .before .before .args .image)) (c .before .before .before .before .before .before .before .before .before .before .args .n .0)) 0 0) 0) = (c .before .before .first-type .ensures) ∙ ap keyField0 first in
+    let g : (c .before .second-type .result) .0 ≡ keyField1 (getD (now (c .before .before .before .before .before .before .before .before .before .before .args .keys)) (getD (childTypes (now (c .before .before .before .before .before .before .before .before .before .before .args .image)) (c .before .before .before .before .before .before .before .before .before .before .args .n .0)) 0 0) 0) = (c .before .second-type .ensures) ∙ ap keyField1 first in
     let r = (c .before .before .before .before .before .before .before .before .before .before .pre .0) .room in
-    (omega arith, rw f (split-small (now (c .before .before .before .before .before .before .before .before .before .before .args .image)) (now (c .before .before .before .before .before .before .before .before .before .before .args .terms)) (now (c .before .before .before .before .before .before .before .before .before .before .args .keys)) (now (c .before .before .before .before .before .before .before .before .before .before .args .scope)) (c .before .before .before .before .before .before .before .before .before .before .args .len) (c .before .before .before .before .before .before .before .before .before .before .args .c .0) (c .before .before .before .before .before .before .before .before .before .before .args .n .0) 1 (c .before .before .before .before .before .before .before .before .before .before .pre .0) (c .before .before .before .before .before .before .before .before .before .before .pre .1) refl .0))
+    let s = split-small (now (c .before .before .before .before .before .before .before .before .before .before .args .image)) (now (c .before .before .before .before .before .before .before .before .before .before .args .terms)) (now (c .before .before .before .before .before .before .before .before .before .before .args .keys)) (now (c .before .before .before .before .before .before .before .before .before .before .args .scope)) (c .before .before .before .before .before .before .before .before .before .before .args .len) (c .before .before .before .before .before .before .before .before .before .before .args .c .0) (c .before .before .before .before .before .before .before .before .before .before .args .n .0) 1 (c .before .before .before .before .before .before .before .before .before .before .pre .0) (c .before .before .before .before .before .before .before .before .before .before .pre .1) refl in
+    (omega arith, omega arith)
 
 add-bind : tie.Need-add-bind
 add-bind c = search needs
@@ -35,9 +37,11 @@ add-bind c = search needs
 bind-requires-2 : tie.Need-bind-requires-2
 bind-requires-2 c κs =
     let first : (c .before .before .before .before .before .before .before .type-key .result) ≡ getD (now (c .before .before .before .before .before .before .before .before .before .before .before .before .before .before .args .keys)) (getD (childTypes (now (c .before .before .before .before .before .before .before .before .before .before .before .before .before .before .args .image)) (c .before .before .before .before .before .before .before .before .before .before .before .before .before .before .args .n .0)) 0 0) 0 = (c .before .before .before .before .before .before .before .type-key .ensures) ∙ ap (λ t. getD (now (c .before .before .before .before .before .before .before .before .before .before .before .before .before .before .args .keys)) t 0) (c .before .before .before .before .before .before .before .before .child-type .ensures .0) in
+    let f : (c .before .before .before .before .before .before .first-type .result) .0 ≡ keyField0 (getD (now (c .before .before .before .before .before .before .before .before .before .before .before .before .before .before .args .keys)) (getD (childTypes (now (c .before .before .before .before .before .before .before .before .before .before .before .before .before .before .args .image)) (c .before .before .before .before .before .before .before .before .before .before .before .before .before .before .args .n .0)) 0 0) 0) = (c .before .before .before .before .before .before .first-type .ensures) ∙ ap keyField0 first in
     let g : (c .before .before .before .before .before .second-type .result) .0 ≡ keyField1 (getD (now (c .before .before .before .before .before .before .before .before .before .before .before .before .before .before .args .keys)) (getD (childTypes (now (c .before .before .before .before .before .before .before .before .before .before .before .before .before .before .args .image)) (c .before .before .before .before .before .before .before .before .before .before .before .before .before .before .args .n .0)) 0 0) 0) = (c .before .before .before .before .before .second-type .ensures) ∙ ap keyField1 first in
     let r = (c .before .before .before .before .before .before .before .before .before .before .before .before .before .before .pre .0) .room in
-    (rw ((c .before .before .before .bind .ensures), length-set) (omega arith), rw g (split-small (now (c .before .before .before .before .before .before .before .before .before .before .before .before .before .before .args .image)) (now (c .before .before .before .before .before .before .before .before .before .before .before .before .before .before .args .terms)) (now (c .before .before .before .before .before .before .before .before .before .before .before .before .before .before .args .keys)) (now (c .before .before .before .before .before .before .before .before .before .before .before .before .before .before .args .scope)) (c .before .before .before .before .before .before .before .before .before .before .before .before .before .before .args .len) (c .before .before .before .before .before .before .before .before .before .before .before .before .before .before .args .c .0) (c .before .before .before .before .before .before .before .before .before .before .before .before .before .before .args .n .0) 1 (c .before .before .before .before .before .before .before .before .before .before .before .before .before .before .pre .0) (c .before .before .before .before .before .before .before .before .before .before .before .before .before .before .pre .1) refl .1))
+    let s = split-small (now (c .before .before .before .before .before .before .before .before .before .before .before .before .before .before .args .image)) (now (c .before .before .before .before .before .before .before .before .before .before .before .before .before .before .args .terms)) (now (c .before .before .before .before .before .before .before .before .before .before .before .before .before .before .args .keys)) (now (c .before .before .before .before .before .before .before .before .before .before .before .before .before .before .args .scope)) (c .before .before .before .before .before .before .before .before .before .before .before .before .before .before .args .len) (c .before .before .before .before .before .before .before .before .before .before .before .before .before .before .args .c .0) (c .before .before .before .before .before .before .before .before .before .before .before .before .before .before .args .n .0) 1 (c .before .before .before .before .before .before .before .before .before .before .before .before .before .before .pre .0) (c .before .before .before .before .before .before .before .before .before .before .before .before .before .before .pre .1) refl in
+    (rw ((c .before .before .before .bind .ensures), length-set) (omega arith), omega arith)
 
 add-t18 : tie.Need-add-t18
 add-t18 c = search needs

@@ -1,0 +1,3 @@
+-- Laws of the tables in the work area, and the proofs of the functions.
+pub mod Stored
+pub mod Found

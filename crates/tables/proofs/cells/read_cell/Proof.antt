@@ -1,0 +1,46 @@
+use Rattle.tables.proofs.Found.{cell-none, cell-held}
+use mathlib.Core.Path.{sym, _∙_}
+use borrow.Author.Needs.{needs}
+use Rattle.tables.proofs.cells.read_cell.Statement.{statement}
+use Rattle.tables.proofs.cells.read_cell.Tie as tie
+use Rattle.tables.proofs.cells.read_cell.Reads as reads
+use Rattle.tables.proofs.cells.read_cell.Lts as lts
+use Rattle.tables.proofs.bindings.bound_value.Reads as bound-value-reads
+use Rattle.tables.proofs.cells.cell_at.Reads as cell-at-reads
+use Rattle.values.proofs.no_value.Reads as no-value-reads
+use Rattle.values.proofs.tag.Reads as tag-reads
+
+-- src/cells.rt:45:8
+tag-requires : tie.Need-tag-requires
+tag-requires c κs = search needs
+
+-- src/cells.rt:46:9
+no-value-requires : tie.Need-no-value-requires
+no-value-requires c κs = search needs
+
+-- src/cells.rt:46:9
+returns : tie.Need-returns
+returns c = c .no-value .ensures ∙ sym (cell-none _ _ _ (c .before .before .tag .ensures) (c .before .if1 .taken))
+
+-- src/cells.rt:48:17
+cell-at-requires : tie.Need-cell-at-requires
+cell-at-requires c κs = search needs
+
+-- src/cells.rt:48:5
+bound-value-requires : tie.Need-bound-value-requires
+bound-value-requires c κs = search needs
+
+-- src/cells.rt:41:1
+returns-2 : tie.Need-returns-2
+returns-2 c = c .bound-value .ensures ∙ sym (cell-held _ _ _ _ (c .before .before .before .tag .ensures) (c .before .before .if1 .left) (c .before .cell-at .ensures))
+
+pub read-cell-spec : {M : Type 1} → statement M
+read-cell-spec =
+    tie.close
+    (tie.spec
+    tag-requires
+    no-value-requires
+    returns
+    cell-at-requires
+    bound-value-requires
+    returns-2)

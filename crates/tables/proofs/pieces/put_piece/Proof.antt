@@ -1,0 +1,57 @@
+use Rattle.tables.proofs.Stored.{and-word}
+use borrow.Author.Needs.{needs}
+use Rattle.tables.proofs.pieces.put_piece.Statement.{statement}
+use Rattle.tables.proofs.pieces.put_piece.Tie as tie
+use Rattle.tables.proofs.pieces.put_piece.Reads as reads
+use Rattle.tables.proofs.pieces.put_piece.Lts as lts
+use Rattle.tables.proofs.words.put_word.Reads as put-word-reads
+
+-- src/pieces.rt:19:29
+mul-put-word : tie.Need-mul-put-word
+mul-put-word c = search needs
+
+-- src/pieces.rt:19:20
+add-put-word : tie.Need-add-put-word
+add-put-word c = search needs
+
+-- src/pieces.rt:19:5
+put-word-requires : tie.Need-put-word-requires
+put-word-requires c κs = search needs
+
+-- src/pieces.rt:20:29
+mul-put-word-2 : tie.Need-mul-put-word-2
+mul-put-word-2 c = search needs
+
+-- src/pieces.rt:20:20
+add-put-word-2 : tie.Need-add-put-word-2
+add-put-word-2 c = search needs
+
+-- src/pieces.rt:20:20
+add-put-word-3 : tie.Need-add-put-word-3
+add-put-word-3 c = search needs
+
+-- src/pieces.rt:20:5
+put-word-requires-2 : tie.Need-put-word-requires-2
+put-word-requires-2 c κs = search needs
+
+-- src/pieces.rt:15:1
+same-length : tie.Need-same-length
+same-length c = search needs
+
+-- src/pieces.rt:15:1
+returns : tie.Need-returns
+returns c = and-word _ _ _ _ _ _ (c .before .before .before .before .before .before .put-word .ensures) (c .before .before .put-word2 .ensures)
+
+pub put-piece-spec : {M : Type 1} → statement M
+put-piece-spec =
+    tie.close
+    (tie.spec
+    mul-put-word
+    add-put-word
+    put-word-requires
+    mul-put-word-2
+    add-put-word-2
+    add-put-word-3
+    put-word-requires-2
+    same-length
+    returns)

@@ -1,0 +1,22 @@
+use Rattle.tables.proofs.Stored.{store-word}
+use borrow.Author.Needs.{needs}
+use Rattle.tables.proofs.words.put_word.Statement.{statement}
+use Rattle.tables.proofs.words.put_word.Tie as tie
+use Rattle.tables.proofs.words.put_word.Reads as reads
+use Rattle.tables.proofs.words.put_word.Lts as lts
+use Rattle.area.proofs.store.Reads as store-reads
+
+-- src/words.rt:28:5
+store-requires : tie.Need-store-requires
+store-requires c κs = search needs
+
+-- src/words.rt:24:1
+same-length : tie.Need-same-length
+same-length c = search needs
+
+-- src/words.rt:24:1
+returns : tie.Need-returns
+returns c = store-word _ _ _ _ (c .before .before .before .before .before .pre .0) (c .before .before .before .before .before .pre .1) (search needs) (c .before .before .store .ensures)
+
+pub put-word-spec : {M : Type 1} → statement M
+put-word-spec = tie.close (tie.spec store-requires same-length returns)

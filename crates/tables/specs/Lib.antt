@@ -1,0 +1,2 @@
+-- The machine's tables as they lie in the lent work area.
+pub mod View

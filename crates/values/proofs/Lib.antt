@@ -1,0 +1,2 @@
+-- Laws of the operations on values, and the proofs of the functions.
+pub mod Chosen

@@ -1,0 +1,34 @@
+use lib.Dec.{lit<}
+use borrow.Author.Tests.{lt-ltb, le-ltb}
+use mathlib.Core.Path.{sym, ap, _∙_}
+use native.Mathlib.Omega.{arith}
+use borrow.Author.Needs.{needs}
+use Rattle.values.proofs.frame_byte.Statement.{statement}
+use Rattle.values.proofs.frame_byte.Tie as tie
+use Rattle.values.proofs.frame_byte.Reads as reads
+use Rattle.values.proofs.frame_byte.Lts as lts
+use Rattle.values.proofs.wide.Reads as wide-reads
+
+-- src/lib.rt:136:25
+shared-slice-read-wide : tie.Need-shared-slice-read-wide
+shared-slice-read-wide c = search needs
+
+-- src/lib.rt:136:13
+wide-requires : tie.Need-wide-requires
+wide-requires c κs = search needs
+
+-- src/lib.rt:136:13
+returns : tie.Need-returns
+returns c = (c .wide .ensures .0 ∙ simp (lt-ltb _ _ (c .before .before .before .if1 .taken), lt-ltb _ _ (c .before .before .if2 .taken)), c .wide .ensures .1)
+
+-- src/lib.rt:130:1
+returns-2 : tie.Need-returns-2
+returns-2 c = (simp (lt-ltb _ _ (c .before .if1 .taken), le-ltb _ _ (c .if2 .left)), lit< tt)
+
+-- src/lib.rt:130:1
+returns-3 : tie.Need-returns-3
+returns-3 c = (simp (le-ltb _ _ (c .if1 .left)), lit< tt)
+
+pub frame-byte-spec : {M : Type 1} → statement M
+frame-byte-spec =
+    tie.close (tie.spec shared-slice-read-wide wide-requires returns returns-2 returns-3)
