@@ -1,0 +1,3 @@
+-- Laws of operands, and the proofs of the functions.
+pub mod Valued
+pub mod Fetched

@@ -1,0 +1,2 @@
+-- What a part of a turn promises.
+pub mod Phases
