@@ -2,18 +2,22 @@
 use libc::STDOUT_FILENO;
 use verdicts::Verdict;
 
-// `accepted`, or `refused N PLACE`: a line. Answers whether it was written.
-pub fn tell_verdict(v: Verdict) -> bool {
-    match v {
-        Verdict::Accepted => io::write_all(STDOUT_FILENO, b"accepted\n"),
-        Verdict::Refused(why, place) => tell_refusal(image::refusal_number(why), place),
-    }
-}
-
-fn tell_refusal(number: u16, place: usize) -> bool {
+fn tell_refusal(number: u16, place: usize) {
     io::write_all(STDOUT_FILENO, b"refused ");
     io::print_decimal(STDOUT_FILENO, number as u64);
     io::write_all(STDOUT_FILENO, b" ");
     io::print_decimal(STDOUT_FILENO, place as u64);
-    io::write_all(STDOUT_FILENO, b"\n")
+    io::write_all(STDOUT_FILENO, b"\n");
+}
+
+// `accepted`, or `refused N PLACE`: a line.
+pub fn tell_verdict(v: Verdict) {
+    match v {
+        Verdict::Accepted => {
+            io::write_all(STDOUT_FILENO, b"accepted\n");
+        }
+        Verdict::Refused(why, place) => {
+            tell_refusal(image::refusal_number(why), place);
+        }
+    }
 }
