@@ -1,0 +1,2 @@
+-- Laws of marks, and the proofs of the functions.
+pub mod Marked

@@ -1,0 +1,2 @@
+-- What the binding of matching advice promises.
+pub mod Binds

@@ -1,0 +1,2 @@
+// An inner crate: the reduction of a mark, which binds its value for all matching advice.
+pub mod mark;

@@ -1,0 +1,2 @@
+-- Laws of prints, and the proofs of the functions.
+pub mod Printed

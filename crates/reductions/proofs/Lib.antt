@@ -1,0 +1,2 @@
+-- Laws of reductions, and the proofs of the functions.
+pub mod Reduced

@@ -1,0 +1,202 @@
+-- What a reduction makes of the state, by the tests that lead there.
+use Prim.Native.Nat.{ℕ, _+_, _-_, _%_, _≤_, _<_}
+use native.Mathlib.Omega.{arith}
+use mathlib.Core.Path.{_≡_, refl, sym, ap, subst, _∙_}
+use mathlib.Core.Bool.{Bool, true, false}
+use mathlib.Core.List.{List}
+use lib.ListN.{length}
+use lib.Dec.{eqb}
+use borrow.Author.Tests.{eq-eqb, ne-eqb}
+use Rattle.calculus.specs.declared.Outcome.{Outcome}
+use Rattle.calculus.specs.Combinators.{choose}
+use Rattle.flat.specs.declared.Regs.{Regs}
+use Rattle.flat.specs.Values.{tagOf, bodyOf, nothingTag}
+use Rattle.flat.specs.Rows.{term2, term3}
+use Rattle.flat.specs.Registers.{setEnv, setNb, setNp, setNc, setNl, setNi}
+use Rattle.flat.specs.Memory.{Memory, binding, putBinding, pieceFirst, pieceSecond}
+use Rattle.flat.specs.States.{State, withRegs, withMemory, halt, stuck, give, goOn}
+use Rattle.flat.specs.Reduce.{needs, ifRoom, giveIf, newPiece}
+use Rattle.tables.specs.View.{memoryOf, Holds}
+use Rattle.operands.specs.Phases.{RegsFit, stateOf, Moved, Phase}
+
+pub chosen-yes : {A : Type 0} (b : Bool) (x y : A) → b ≡ true → choose b x y ≡ x
+chosen-yes b x y e = ap (λ (t : Bool). choose t x y) e
+
+pub chosen-no : {A : Type 0} (b : Bool) (x y : A) → b ≡ false → choose b x y ≡ y
+chosen-no b x y e = ap (λ (t : Bool). choose t x y) e
+
+-- A part of a turn that makes the same of the states with these tables and registers.
+pub as-phase : (f g : State → State) (w w′ : List ℕ) (r q : Regs) → ((log : List ℕ) → f (stateOf w log r) ≡ g (stateOf w log r)) → Phase f w w′ r q → Phase g w w′ r q
+as-phase f g w w′ r q e p = record { moved = λ log fit. subst (λ (S : State). Moved S w w′ log q) (e log) (p .moved log fit) }
+
+-- The tables become M and the registers p, which fit where those before do.
+pub stored-made : (T : State → State) (M : Memory) (w w′ : List ℕ) (r q p : Regs) → ((log : List ℕ) → withMemory M p (stateOf w log r) ≡ T (stateOf w log r)) → q ≡ p → Holds M w w′ → ((n : ℕ) → RegsFit n r → RegsFit n p) → Phase T w w′ r q
+stored-made T M w w′ r q p s e h f =
+    as-phase (withMemory M p) T w w′ r q s (record {
+      moved = λ log fit. record { regs = e; memory = h; logged = refl; fits = subst (λ (s : Regs). RegsFit (length log) s) (sym e) (f (length log) fit) };
+    })
+
+-- Nothing is stored.
+pub regs-made : (T : State → State) (w : List ℕ) (r q p : Regs) → ((log : List ℕ) → withRegs p (stateOf w log r) ≡ T (stateOf w log r)) → q ≡ p → ((n : ℕ) → RegsFit n r → RegsFit n p) → Phase T w w r q
+regs-made T w r q p s e f = stored-made T (memoryOf w) w w r q p s e (record { memory = refl; rest = refl }) f
+
+-- The first operand has not the tag that is needed; or has it, and T goes on.
+module _ (tag : ℕ) (T : State → State) (w w′ : List ℕ) (r q : Regs) (t : ℕ) (d : t ≡ tagOf (r .v1)) where
+  pub stuck-made : (t ≡ tag → ⊥) → q ≡ stuck r → Phase (λ S. needs tag (S .regs .v1) S (T S)) w w r q
+  stuck-made n e =
+      regs-made (λ S. needs tag (S .regs .v1) S (T S)) w r q (stuck r) (λ log. sym (chosen-no _ _ _ (ne-eqb (tagOf (r .v1)) tag (λ z. n (d ∙ z))))) e (λ _ f. f)
+
+  pub tagged-made : t ≡ tag → Phase T w w′ r q → Phase (λ S. needs tag (S .regs .v1) S (T S)) w w′ r q
+  tagged-made n p =
+      as-phase T (λ S. needs tag (S .regs .v1) S (T S)) w w′ r q (λ log. sym (chosen-yes _ _ _ (eq-eqb (tagOf (r .v1)) tag (sym d ∙ n)))) p
+
+-- No room is left; or it is, and T goes on.
+module _ (b : State → Bool) (o : Outcome) (T : State → State) (w w′ : List ℕ) (r q : Regs) where
+  pub full-made : ((log : List ℕ) → b (stateOf w log r) ≡ false) → q ≡ halt o r → Phase (λ S. ifRoom (b S) o S (T S)) w w r q
+  full-made n e =
+      regs-made (λ S. ifRoom (b S) o S (T S)) w r q (halt o r) (λ log. sym (chosen-no _ _ _ (n log))) e (λ _ f. f)
+
+  pub room-made : ((log : List ℕ) → b (stateOf w log r) ≡ true) → Phase T w w′ r q → Phase (λ S. ifRoom (b S) o S (T S)) w w′ r q
+  room-made n p = as-phase T (λ S. ifRoom (b S) o S (T S)) w w′ r q (λ log. sym (chosen-yes _ _ _ (n log))) p
+
+-- The registers still fit: with another term; with one more label, piece, cell, installed advice; with bindings.
+pub term-fits : (r : Regs) (t : ℕ) → t < 1024 → (n : ℕ) → RegsFit n r → RegsFit n (goOn t r)
+term-fits r t h n f =
+    record {
+      env-fits = f .env-fits;
+      dom-fits = f .dom-fits;
+      sp-fits = f .sp-fits;
+      nb-fits = f .nb-fits;
+      np-fits = f .np-fits;
+      nc-fits = f .nc-fits;
+      nl-fits = f .nl-fits;
+      ni-fits = f .ni-fits;
+      at-fits = f .at-fits;
+      t-fits = h;
+    }
+
+pub label-fits : (r : Regs) (v : ℕ) → r .nl < 64 → (n : ℕ) → RegsFit n r → RegsFit n (give v (setNl (r .nl + 1) r))
+label-fits r v h n f =
+    record {
+      env-fits = f .env-fits;
+      dom-fits = f .dom-fits;
+      sp-fits = f .sp-fits;
+      nb-fits = f .nb-fits;
+      np-fits = f .np-fits;
+      nc-fits = f .nc-fits;
+      nl-fits = omega arith;
+      ni-fits = f .ni-fits;
+      at-fits = f .at-fits;
+      t-fits = f .t-fits;
+    }
+
+pub piece-fits : (r : Regs) (v : ℕ) → r .np < 512 → (n : ℕ) → RegsFit n r → RegsFit n (give v (setNp (r .np + 1) r))
+piece-fits r v h n f =
+    record {
+      env-fits = f .env-fits;
+      dom-fits = f .dom-fits;
+      sp-fits = f .sp-fits;
+      nb-fits = f .nb-fits;
+      np-fits = omega arith;
+      nc-fits = f .nc-fits;
+      nl-fits = f .nl-fits;
+      ni-fits = f .ni-fits;
+      at-fits = f .at-fits;
+      t-fits = f .t-fits;
+    }
+
+pub cell-fits : (r : Regs) (v : ℕ) → r .nc < 256 → (n : ℕ) → RegsFit n r → RegsFit n (give v (setNc (r .nc + 1) r))
+cell-fits r v h n f =
+    record {
+      env-fits = f .env-fits;
+      dom-fits = f .dom-fits;
+      sp-fits = f .sp-fits;
+      nb-fits = f .nb-fits;
+      np-fits = f .np-fits;
+      nc-fits = omega arith;
+      nl-fits = f .nl-fits;
+      ni-fits = f .ni-fits;
+      at-fits = f .at-fits;
+      t-fits = f .t-fits;
+    }
+
+pub install-fits : (r : Regs) (v : ℕ) → r .ni < 64 → (n : ℕ) → RegsFit n r → RegsFit n (give v (setNi (r .ni + 1) r))
+install-fits r v h n f =
+    record {
+      env-fits = f .env-fits;
+      dom-fits = f .dom-fits;
+      sp-fits = f .sp-fits;
+      nb-fits = f .nb-fits;
+      np-fits = f .np-fits;
+      nc-fits = f .nc-fits;
+      nl-fits = f .nl-fits;
+      ni-fits = omega arith;
+      at-fits = f .at-fits;
+      t-fits = f .t-fits;
+    }
+
+pub bound-fits : (r : Regs) (t k : ℕ) → t < 1024 → k ≤ 2048 → (n : ℕ) → RegsFit n r → RegsFit n (goOn t (setEnv k (setNb k r)))
+bound-fits r t k h h1 n f =
+    record {
+      env-fits = omega arith;
+      dom-fits = f .dom-fits;
+      sp-fits = f .sp-fits;
+      nb-fits = h1;
+      np-fits = f .np-fits;
+      nc-fits = f .nc-fits;
+      nl-fits = f .nl-fits;
+      ni-fits = f .ni-fits;
+      at-fits = f .at-fits;
+      t-fits = h;
+    }
+
+pub below-1024 : (x : ℕ) → x % 1024 < 1024
+below-1024 x = omega arith
+
+-- A value is given, if it is one.
+module _ (v : ℕ) (w : List ℕ) (r q : Regs) (t : ℕ) (d : t ≡ tagOf v) where
+  pub nothing-made : t ≡ nothingTag → q ≡ stuck r → Phase (giveIf v) w w r q
+  nothing-made n e = regs-made (giveIf v) w r q (stuck r) (λ log. sym (chosen-yes _ _ _ (eq-eqb (tagOf v) nothingTag (sym d ∙ n)))) e (λ _ f. f)
+
+  pub given-made : (t ≡ nothingTag → ⊥) → q ≡ give v r → Phase (giveIf v) w w r q
+  given-made n e = regs-made (giveIf v) w r q (give v r) (λ log. sym (chosen-no _ _ _ (ne-eqb (tagOf v) nothingTag (λ z. n (d ∙ z))))) e (λ _ f. f)
+
+-- The chosen term of two.
+pub branch-yes : (v n b t : ℕ) → b ≡ bodyOf v → b ≡ 0 → t ≡ term3 n → t ≡ choose (eqb (bodyOf v) 0) (term3 n) (term2 n)
+branch-yes v n b t d e f = f ∙ sym (chosen-yes _ _ _ (eq-eqb (bodyOf v) 0 (sym d ∙ e)))
+
+pub branch-no : (v n b t : ℕ) → b ≡ bodyOf v → (b ≡ 0 → ⊥) → t ≡ term2 n → t ≡ choose (eqb (bodyOf v) 0) (term3 n) (term2 n)
+branch-no v n b t d e f = f ∙ sym (chosen-no _ _ _ (ne-eqb (bodyOf v) 0 (λ z. e (d ∙ z))))
+
+pub branch-fits : (v n : ℕ) → choose (eqb (bodyOf v) 0) (term3 n) (term2 n) < 1024
+branch-fits v n = either (eqb (bodyOf v) 0)
+  where
+    either : (b : Bool) → choose b (term3 n) (term2 n) < 1024
+    either true = below-1024 _
+    either false = below-1024 _
+
+-- A value v is given that is u.
+pub value-made : (T : State → State) (w : List ℕ) (r q : Regs) (v u : ℕ) → ((log : List ℕ) → giveIf u (stateOf w log r) ≡ T (stateOf w log r)) → v ≡ u → Phase (giveIf v) w w r q → Phase T w w r q
+value-made T w r q v u s e p = as-phase (giveIf u) T w w r q s (subst (λ (x : ℕ). Phase (giveIf x) w w r q) e p)
+
+-- One more piece, of the words a and b that are x and y.
+pub piece-made : (T : State → State) (w w′ : List ℕ) (r q : Regs) (tag a x b y : ℕ) → ((log : List ℕ) → newPiece tag x y (stateOf w log r) ≡ T (stateOf w log r)) → a ≡ x → b ≡ y → Phase (newPiece tag a b) w w′ r q → Phase T w w′ r q
+piece-made T w w′ r q tag a x b y s d e p =
+    as-phase (newPiece tag x y) T w w′ r q s (subst (λ (i : ℕ). Phase (newPiece tag x i) w w′ r q) e (subst (λ (i : ℕ). Phase (newPiece tag i b) w w′ r q) d p))
+
+-- Room for one more binding, and for two.
+pub one-more : (k : ℕ) → k < 2048 → k + 1 ≤ 2048
+one-more k h = omega arith
+
+pub two-more : (k : ℕ) → k < 2047 → k + 2 ≤ 2048
+two-more k h = omega arith
+
+pub no-two-more : (k : ℕ) → 2047 ≤ k → 2048 < k + 2
+no-two-more k h = omega arith
+
+pub parts-made : (w w₁ w₂ : List ℕ) (i p env a b : ℕ) → a ≡ pieceFirst (memoryOf w) p → b ≡ pieceSecond (memoryOf w) p → Holds (putBinding i (binding a 0 env) (memoryOf w)) w w₁ → Holds (putBinding (i + 1) (binding b 0 (i + 1)) (memoryOf w₁)) w₁ w₂ → Holds (putBinding (i + 1) (binding (pieceSecond (memoryOf w) p) 0 (i + 1)) (putBinding i (binding (pieceFirst (memoryOf w) p) 0 env) (memoryOf w))) w w₂
+parts-made w w₁ w₂ i p env a b d e g h =
+    record {
+      memory = h .memory ∙ ap (λ (M : Memory). putBinding (i + 1) (binding b 0 (i + 1)) M) (g .memory) ∙ ap (λ (x : ℕ). putBinding (i + 1) (binding x 0 (i + 1)) (putBinding i (binding a 0 env) (memoryOf w))) e ∙ ap (λ (x : ℕ). putBinding (i + 1) (binding (pieceSecond (memoryOf w) p) 0 (i + 1)) (putBinding i (binding x 0 env) (memoryOf w))) d;
+      rest = h .rest ∙ g .rest;
+    }

@@ -1,0 +1,30 @@
+-- A wrong operand; or the chosen term goes on.
+use Rattle.reductions.proofs.Reduced.{stuck-made, tagged-made, regs-made, term-fits, branch-fits}
+use Rattle.flat.specs.States.{goOn}
+use mathlib.Core.Path.{refl, ap, _∙_}
+use borrow.Author.Needs.{needs}
+use Rattle.reductions.proofs.simple.reduce_if.Statement.{statement}
+use Rattle.reductions.proofs.simple.reduce_if.Tie as tie
+
+tag-requires : tie.Need-tag-requires
+tag-requires c κs = search needs
+
+stuck-requires : tie.Need-stuck-requires
+stuck-requires c κs = search needs
+
+returns : tie.Need-returns
+returns c = λ w. stuck-made 1 _ w w (c .before .before .before .args .r) _ _ (c .before .before .tag .ensures) (c .before .if1 .taken) (c .stuck .ensures)
+
+branch-requires : tie.Need-branch-requires
+branch-requires c κs = search needs
+
+go-on-requires : tie.Need-go-on-requires
+go-on-requires c κs = search needs
+
+returns-2 : tie.Need-returns-2
+returns-2 c = λ w. tagged-made 1 _ w w (c .before .before .before .before .args .r) _ _ (c .before .before .before .tag .ensures) (c .before .before .if1 .left) (regs-made _ w (c .before .before .before .before .args .r) _ _ (λ log. refl) (c .go-on .ensures ∙ ap (λ x. goOn x (c .before .before .before .before .args .r)) (c .before .branch .ensures)) (term-fits (c .before .before .before .before .args .r) _ (branch-fits (c .before .before .before .before .args .r .v1) (c .before .before .before .before .args .r .n))))
+
+pub reduce-if-spec : {M : Type 1} → statement M
+reduce-if-spec =
+    tie.close
+    (tie.spec tag-requires stuck-requires returns branch-requires go-on-requires returns-2)

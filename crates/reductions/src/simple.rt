@@ -1,0 +1,113 @@
+// The reductions that store nothing.
+ghost use mathlib.Core.Path.{_≡_};
+ghost use mathlib.Core.List.{List};
+ghost use Prim.Native.Nat.{ℕ, _≤_, _<_};
+ghost use lib.ListN.{length};
+ghost use lib.Dec.{eqb};
+ghost use Rattle.area.specs.Memory.{memoryLength};
+ghost use Rattle.calculus.specs.Combinators.{choose};
+ghost use Rattle.flat.specs.Values.{bodyOf};
+ghost use Rattle.flat.specs.Rows as flat;
+ghost use Rattle.flat.specs.Reduce.{giveIf, reduceSeq, reduceIf, reduceArithmetic, reduceLabel, reduceRead, reduceLower, reduceAbort, reduceByte};
+ghost use Rattle.operands.specs.Phases.{Phase};
+use flat::Regs;
+use operands::regs::give;
+use operands::regs::go_on;
+use operands::regs::halt;
+use operands::regs::stuck;
+use rows::row::field3;
+use rows::row::term2;
+use rows::row::term3;
+use tables::cells::read_cell;
+use values::body;
+use values::tag;
+
+// The value v is given, if it is one.
+pub fn give_if(r: Regs, v: u64) -> Regs
+    requires { ⌜ 0 < r .left ⌝ }
+    ensures { λ q. ⌜ ((w : List ℕ) → Phase (giveIf v) w w r q) ⌝ }
+{
+    if tag(v) == values::NOTHING {
+        return stuck(r);
+    }
+    give(r, v)
+}
+
+pub fn reduce_seq(r: Regs) -> Regs
+    requires { ⌜ 0 < r .left ⌝ }
+    ensures { λ q. ⌜ ((w : List ℕ) → Phase reduceSeq w w r q) ⌝ }
+{
+    if tag(r.v1) != values::UNIT {
+        return stuck(r);
+    }
+    go_on(r, term2(r.n))
+}
+
+// The term that a truth v chooses of a row n.
+fn branch(v: u64, n: u64) -> usize
+    ensures { λ t. ⌜ t ≡ choose (eqb (bodyOf v) 0) (flat.term3 n) (flat.term2 n) ⌝ }
+{
+    if body(v) == 0 { term3(n) } else { term2(n) }
+}
+
+pub fn reduce_if(r: Regs) -> Regs
+    requires { ⌜ 0 < r .left ⌝ }
+    ensures { λ q. ⌜ ((w : List ℕ) → Phase reduceIf w w r q) ⌝ }
+{
+    if tag(r.v1) != values::TRUTH {
+        return stuck(r);
+    }
+    go_on(r, branch(r.v1, r.n))
+}
+
+pub fn reduce_arithmetic(r: Regs) -> Regs
+    requires { ⌜ 0 < r .left ⌝ }
+    ensures { λ q. ⌜ ((w : List ℕ) → Phase reduceArithmetic w w r q) ⌝ }
+{
+    give_if(r, values::calculate(field3(r.n), r.v1, r.v))
+}
+
+pub fn reduce_label(r: Regs) -> Regs
+    requires { ⌜ 0 < r .left ⌝ }
+    ensures { λ q. ⌜ ((w : List ℕ) → Phase reduceLabel w w r q) ⌝ }
+{
+    if r.nl < 64 {
+        let mut q = give(r, values::value(values::LABEL, r.nl as u64));
+        q.nl = r.nl + 1;
+        return q;
+    }
+    halt(r, 6)
+}
+
+pub fn reduce_read(work: &[u8], r: Regs) -> Regs
+    requires { ⌜ (memoryLength ≤ length (now work)) × (0 < r .left) ⌝ }
+    ensures { λ q. ⌜ Phase reduceRead (now (work .entry)) (now (work .entry)) r q ⌝ }
+{
+    give_if(r, read_cell(work, r.v1))
+}
+
+pub fn reduce_lower(r: Regs) -> Regs
+    requires { ⌜ 0 < r .left ⌝ }
+    ensures { λ q. ⌜ ((w : List ℕ) → Phase reduceLower w w r q) ⌝ }
+{
+    if tag(r.v1) != values::UNIT {
+        return stuck(r);
+    }
+    give(r, 0)
+}
+
+pub fn reduce_abort(r: Regs) -> Regs
+    requires { ⌜ 0 < r .left ⌝ }
+    ensures { λ q. ⌜ ((w : List ℕ) → Phase reduceAbort w w r q) ⌝ }
+{
+    let mut q = halt(r, 2);
+    q.left = r.left - 1;
+    q
+}
+
+pub fn reduce_byte(frame: &[u8], r: Regs) -> Regs
+    requires { ⌜ 0 < r .left ⌝ }
+    ensures { λ q. ⌜ ((w : List ℕ) → Phase (reduceByte (now (frame .entry))) w w r q) ⌝ }
+{
+    give_if(r, values::read_byte(frame, r.v1))
+}
