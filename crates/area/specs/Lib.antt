@@ -1,3 +1,4 @@
--- Numbers in bytes, bytes written over others, and the lent work area as a memory.
+-- Numbers in bytes, bytes written over others, records on bytes, and the lent work area as a memory.
 pub mod Bytes
+pub mod Records
 pub mod Memory

@@ -1,5 +1,5 @@
--- The lent work area as the machine's memory: words of 8 bytes from offset 0 on, then single bytes.
-use Prim.Native.Nat.{ℕ, zero, suc, _*_}
+-- The lent work area as the machine's memory: words of 8 bytes from offset 0 on, then single bytes, up to its published length (document 01, "Turned back at the gate", refusal 17).
+use Prim.Native.Nat.{ℕ, zero, suc, _+_, _*_}
 use mathlib.Core.List.{List, [], _∷_}
 use lib.ListN.{take, drop}
 use Rattle.area.specs.Bytes.{numberOf, numberAt}
@@ -21,10 +21,10 @@ abbrev pub besideCount : ℕ
 besideCount = 513
 
 abbrev pub besideBase : ℕ
-besideBase = 31240
+besideBase = 8 * wordCount
 
 abbrev pub memoryLength : ℕ
-memoryLength = 31753
+memoryLength = besideBase + besideCount
 
 -- The words and the single bytes of the work area.
 abbrev pub wordsOf : List ℕ → List ℕ

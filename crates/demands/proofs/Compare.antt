@@ -1,27 +1,49 @@
--- Demand 3 for runs of the calculus: two accepted images that differ only in low bodies (document 01, "Two runs compared").
+-- Demand 3 for runs of the calculus, and for the bytes that they write: two accepted images that differ only in low bodies (document 01, "Two runs compared").
 use Prim.Native.Nat.{ℕ}
-use mathlib.Core.Path.{_≡_, refl, sym, subst}
+use native.Mathlib.Omega.{arith}
+use mathlib.Core.Path.{_≡_, refl, sym, subst, _∙_}
 use mathlib.Core.Bool.{Bool}
 use mathlib.Core.List.{List}
 use Rattle.calculus.specs.Syntax.{Dom}
 use Rattle.calculus.specs.Typing.{Policy}
 use Rattle.image.specs.Layout.{recordsOf}
-use Rattle.image.specs.Program.{toTm}
+use Rattle.image.specs.Program.{toTm, blanked}
 use Rattle.image.proofs.Blanked.{same-but-low}
 use Rattle.verdicts.specs.Order.{policy}
-use Rattle.verdicts.proofs.Accept.{accepted-order}
+use Rattle.verdicts.proofs.Accept.{accepted-iff, accepted-good, accepted-order}
 use Rattle.verdicts.proofs.Order.{leq-same}
 use Rattle.noninterference.specs.Observe as Observe
 use Rattle.noninterference.specs.Observe.{Highs, Same}
 use Rattle.noninterference.proofs.Theorem.{demand3}
-use Rattle.demands.specs.Images.{programOf, givenBy, runOf, Compared}
-use Rattle.demands.proofs.Accepted.{transitive, typed}
+use Rattle.report.specs.Same.{SameBytes, writtenLog, writtenReport}
+use Rattle.report.specs.Fits.{byField}
+use Rattle.report.proofs.Accepted.{demand3-bytes}
+use Rattle.calls.specs.Runs.{Accepts, programOf, givenBy, runOf}
+use Rattle.demands.specs.Compare.{Compared}
+use Rattle.calls.proofs.Accepted.{transitive, typed}
+use Rattle.demands.proofs.ByField.{small-field, program-same}
 
-module _ (high : Dom → Bool) (b b′ : List ℕ) (C : Compared high b b′) where
+-- The program of an accepted image names no domain that its 2 bytes could change.
+program-by-field : (high : Dom → Bool) (b : List ℕ) → Accepts b → blanked (byField high) (programOf b) ≡ blanked high (programOf b)
+program-by-field high b A =
+    program-same (byField high) high (small-field high) (recordsOf b) (accepted-good b (A .work) (A .report) (A .verdict-is)) (accepted-iff b (A .work) (A .report) .0 (A .verdict-is) .shaped .has-terms)
+
+module _ (high : Dom → Bool) (b b′ : List ℕ) (A : Accepts b) (A′ : Accepts b′) (C : Compared high b b′) where
   highs : Highs (policy (recordsOf b)) high
   highs = record {
     mainline = C .highs .mainline;
-    up = λ d q h l. (let t = accepted-order b (C .left .work) (C .left .report) (C .left .verdict-is) .there d q l in C .highs .up d q (t .0) (t .1) h l);
+    up = λ d q h l. (let t = accepted-order b (A .work) (A .report) (A .verdict-is) .there d q l in C .highs .up d q (t .0) (t .1) h l);
+  }
+
+  highs-by-field : Highs (policy (recordsOf b)) (byField high)
+  highs-by-field = record {
+    mainline = C .highs .mainline;
+    up = λ d q h l.
+        let t = accepted-order b (A .work) (A .report) (A .verdict-is) .there d q l in
+        let few = accepted-good b (A .work) (A .report) (A .verdict-is) .few-domains in
+        let d-small = t .0 in
+        let q-small = t .1 in
+        small-field high q (omega arith) ∙ highs .up d q (sym (small-field high d (omega arith)) ∙ h) l;
   }
 
   same-order : policy (recordsOf b) ≡ policy (recordsOf b′)
@@ -29,9 +51,16 @@ module _ (high : Dom → Bool) (b b′ : List ℕ) (C : Compared high b b′) wh
 
   -- The right image's program, typed by the left one's order, which is the same.
   right-typed : Observe.Accepted (policy (recordsOf b)) (toTm (programOf b′))
-  right-typed = subst (λ (D : Policy). Observe.Accepted D (toTm (programOf b′))) (sym same-order) (typed b′ (C .right))
+  right-typed = subst (λ (D : Policy). Observe.Accepted D (toTm (programOf b′))) (sym same-order) (typed b′ A′)
 
   pub demand3-images : (frame : List ℕ) (budget budget′ : ℕ) (log log′ : List ℕ) → Same high (runOf b frame budget log) (runOf b′ frame budget′ log′)
   demand3-images frame budget budget′ log log′ =
-      demand3 (policy (recordsOf b)) high (transitive b (C .left)) highs (toTm (programOf b)) (toTm (programOf b′)) (typed b (C .left)) right-typed
+      demand3 (policy (recordsOf b)) high (transitive b A) highs (toTm (programOf b)) (toTm (programOf b′)) (typed b A) right-typed
       (same-but-low high (programOf b) (programOf b′) (C .programs)) (givenBy frame log) (givenBy frame log′) refl budget budget′
+
+  pub demand3-written : (frame : List ℕ) (budget budget′ : ℕ) (log log′ : List ℕ)
+      → SameBytes high (writtenLog (runOf b frame budget log)) (writtenLog (runOf b′ frame budget′ log′)) (writtenReport (runOf b frame budget log)) (writtenReport (runOf b′ frame budget′ log′))
+  demand3-written frame budget budget′ log log′ =
+      demand3-bytes (policy (recordsOf b)) high (transitive b A) highs-by-field (toTm (programOf b)) (toTm (programOf b′)) (typed b A) right-typed
+      (same-but-low (byField high) (programOf b) (programOf b′) (program-by-field high b A ∙ (C .programs ∙ sym (program-by-field high b′ A′))))
+      (givenBy frame log) (givenBy frame log′) refl budget budget′

@@ -1,2 +1,3 @@
--- What the demands say of images.
-pub mod Images
+-- What the demands say of images and of whole calls.
+pub mod Calls
+pub mod Compare

@@ -1,7 +1,7 @@
 -- The answers of the parts, one after another, are the definition's.
 use Prim.Native.Nat.{ℕ, _≤_, _<_}
 use mathlib.Core.Path.{_≡_, refl, sym, ap, subst, _∙_}
-use mathlib.Core.Bool.{Bool, true, false, true≢false}
+use mathlib.Core.Bool.{true, false, true≢false}
 use mathlib.Core.List.{List, [], _∷_}
 use native.Mathlib.Omega.{arith}
 use lib.ListN.{length}
@@ -9,7 +9,7 @@ use Rattle.image.specs.declared.Refusal.{Refusal}
 use Rattle.image.specs.Limits.{imageLimit}
 use Rattle.image.specs.Layout.{layout, recordsOf, stopped, laid}
 use Rattle.verdicts.specs.declared.Verdict.{Verdict}
-use Rattle.verdicts.specs.Answers.{inTurn}
+use Rattle.verdicts.specs.Answers.{isRefused, inTurn}
 use Rattle.verdicts.specs.Shape.{shape}
 use Rattle.verdicts.specs.Check.{typing}
 use Rattle.verdicts.specs.Verdicts.{laidOut}
@@ -19,7 +19,7 @@ use Rattle.records.specs.Codes.{kindCodes}
 use Rattle.layout.specs.declared.Scan.{Scan}
 use Rattle.layout.specs.Sizes.{typeCount, domainCount, termCount}
 use Rattle.layout.specs.Tables.{Scanned}
-use Rattle.typing.specs.Turns.{isRefused, Counted}
+use Rattle.typing.specs.Turns.{Counted}
 use Rattle.examine.specs.Examined.{checkedRecords, examined, Filled, Answered}
 use Rattle.examine.proofs.Filling.{filled}
 

@@ -1,4 +1,4 @@
--- Refusals 2 to 16 in their order, and what the tables then hold.
+-- Refusals 2 to 16 in their order (document 01, "Turned back at the gate"), and what the tables then hold.
 use Prim.Native.Nat.{ℕ}
 use mathlib.Core.Path.{_≡_}
 use mathlib.Core.List.{List, [], _∷_}

@@ -29,7 +29,7 @@ pub fn check_records(
         terms: sizes[5],
     };
     let v = shape::check_shape(image, kinds, counts, doms, terms);
-    if typing::pass::is_refused(v) {
+    if verdicts::is_refused(v) {
         return v;
     }
     typing::check_typing(

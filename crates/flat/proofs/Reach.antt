@@ -1,7 +1,7 @@
 -- Where a run has come to: the closure machine that stands for it after k steps, whatever the budget.
 use Prim.Native.Nat.{ℕ, suc, _+_, _-_, _≤_, _<_}
 use native.Mathlib.Omega.{arith}
-use mathlib.Core.Path.{_≡_, refl, sym, ap, _∙_, subst}
+use mathlib.Core.Path.{_≡_, sym, ap, _∙_, subst}
 use mathlib.Core.List.{List, [], _∷_, map}
 use mathlib.Core.Option.{none, some}
 use lib.ListN.{length}
@@ -14,26 +14,13 @@ use Rattle.calculus.specs.View.{labelOf}
 use Rattle.calculus.specs.Answer.{carry, go, full, halt, wrong, if-room}
 use Rattle.calculus.specs.Run.{done, stopped, ended, after, run}
 use Rattle.machine.specs.Closure.{CVal, Env, empty, CState, lookup, plainVal, plainState}
-use Rattle.machine.specs.Machine.{Control, eval, ret, pcdN, Frame, op1F, op2L, op2R, opNF, seqF, triggeredF, iteF, splitF, advF, lowerF, Stack, plainControl, unload, placeAt, CAnswer, Transition, moves, due, over, push, redex, move}
+use Rattle.machine.specs.Machine.{Control, eval, ret, pcdN, Frame, opNF, Stack, plainControl, unload, CAnswer, Transition, moves, due, over, push, redex, move}
 use Rattle.machine.specs.Settle.{measure}
 use Rattle.machine.proofs.Close.{close-nil}
+use Rattle.machine.proofs.Plug.{place-depth}
 use Rattle.machine.proofs.Runs.{Simulates, move-simulates}
 use Rattle.machine.proofs.Loop.{remaining, remaining-start, remaining-moves, remaining-due, remaining-over, remaining-spent, remaining-deep, unfinished-frame}
 use Rattle.flat.proofs.Sound.{Sound, Keeps, move-keeps, variable-bound}
-
--- The depth of a stack's open place.
-pub place-depth : (K : Stack) → placeAt K .depth ≡ length K
-place-depth [] = refl
-place-depth (op1F o t ∷ K) = ap suc (place-depth K)
-place-depth (op2L o t f ρ ∷ K) = ap suc (place-depth K)
-place-depth (op2R o t v ∷ K) = ap suc (place-depth K)
-place-depth (opNF o vs es ρ ∷ K) = ap suc (place-depth K)
-place-depth (seqF f ρ ∷ K) = ap suc (place-depth K)
-place-depth (triggeredF w x ∷ K) = ap suc (place-depth K)
-place-depth (iteF f g ρ ∷ K) = ap suc (place-depth K)
-place-depth (splitF f ρ ∷ K) = ap suc (place-depth K)
-place-depth (advF p b ρ ∷ K) = ap suc (place-depth K)
-place-depth (lowerF p ∷ K) = ap suc (place-depth K)
 
 -- A redex under frames enough.
 pub redex-due : (K : Stack) (a : CAnswer) → length K ≤ frameLimit → redex K a ≡ due a K

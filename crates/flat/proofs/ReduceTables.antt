@@ -23,7 +23,9 @@ use Rattle.flat.specs.Registers.{setNc, setNl, setNi, setAt}
 use Rattle.flat.specs.Values.{value}
 use Rattle.flat.specs.Rows.{field2, Program}
 use Rattle.flat.specs.Memory.{Memory, wordAt, putWord, boundValue, installedAt, cellAt, cellNote, putCell, putInstalled, pieceOf}
-use Rattle.flat.specs.States.{State, withRegs, withMemory, give, logRecord, over}
+use Rattle.flat.specs.States.{State, withRegs, withMemory, give}
+use Rattle.area.specs.Bytes.{bytesOf, over}
+use Rattle.area.specs.Records.{logRecord}
 use Rattle.flat.specs.Reduce.{reducePrint, reduceLabel, reduceInstall, reduceCell, reduceStore}
 use Rattle.flat.proofs.Relations.{sizes, IsVal, is-unit, is-cell, is-label, IsAdvice, at-piece, val-bound, val-at, Grows, val-grows, advice-grows}
 use Rattle.flat.proofs.Sound.{Sound}
@@ -35,7 +37,7 @@ use Rattle.flat.proofs.Now.{Now}
 use Rattle.flat.proofs.Steps.{leb-iff, spend-cell, Redexed, gives, right-kind, if-there-is-room}
 
 record-length : (d n : ℕ) → length (logRecord d n) ≡ 10
-unfolding logRecord
+unfolding bytesOf
 record-length d n = refl
 
 -- A record after those of the log.

@@ -11,7 +11,9 @@ use Rattle.calculus.proofs.Sheet.{sheet, marked, p6}
 use Rattle.flat.specs.Values.{calculate, readByte}
 use Rattle.flat.specs.Rows.{Program}
 use Rattle.flat.specs.Memory.{lookup, hasDigit, readCell}
-use Rattle.flat.specs.States.{State, logRecord, over}
+use Rattle.flat.specs.States.{State}
+use Rattle.area.specs.Bytes.{bytesOf, over}
+use Rattle.area.specs.Records.{logRecord}
 use Rattle.flat.specs.Operands.{simpleValue, firstOperand, secondOperand}
 use Rattle.flat.specs.Reduce.{bindMatching, reduceMark, reduceKind}
 use Rattle.flat.specs.Turn.{begin, nextAdvice, resume, nextLabel, turn}
@@ -59,7 +61,7 @@ unfoldable pub flatRow : State → FlatRow
 flatRow S = record { mode = S .regs .mode; left = S .regs .left; result = S .regs .c; log = take 20 (S .log); bindings = S .regs .nb; pieces = S .regs .np }
 
 p6-turns : flatRow (turns 45 markedProgram [] (start 100000)) ≡ record { mode = 16; left = 100000 - 17; result = 0; log = logBytes (sheet 100000 marked .log); bindings = 3; pieces = 4 }
-unfolding flatRow turns turn begin nextAdvice resume nextLabel firstOperand secondOperand simpleValue reduceKind reduceMark bindMatching lookup hasDigit readCell calculate readByte logRecord over markedProgram start logBytes
+unfolding flatRow turns turn begin nextAdvice resume nextLabel firstOperand secondOperand simpleValue reduceKind reduceMark bindMatching lookup hasDigit readCell calculate readByte bytesOf over markedProgram start logBytes
 p6-turns = rw p6 refl
 
 -- A halted machine stays as it is.
@@ -92,7 +94,7 @@ unfoldable lowerProgram : Program
 lowerProgram = record { rows = 327714 ∷ 37 ∷ 4295032884 ∷ []; image = [] }
 
 flat-lower : take 10 (turns 6 lowerProgram [] (record { memory = record { words = replicate 3905 0; beside = [] }; log = replicate 10 0; regs = startRegs 2 10 }) .log) ≡ logRecord 1 5
-unfolding turns turn begin nextAdvice resume nextLabel firstOperand secondOperand simpleValue reduceKind reduceMark bindMatching lookup hasDigit readCell calculate readByte logRecord over lowerProgram
+unfolding turns turn begin nextAdvice resume nextLabel firstOperand secondOperand simpleValue reduceKind reduceMark bindMatching lookup hasDigit readCell calculate readByte bytesOf over lowerProgram
 flat-lower = refl
 
 -- A number under n frame bytes, one inside another: term i stands in term i + 1. The step of 513 terms is made under 512 frames, that of 514 is not.

@@ -1,6 +1,6 @@
 -- What the flat machine asks of a program: a property of states and terms that steps keep, and that rules out a wrong redex, a variable without a value, and a pointcut of what is no label.
 -- Type safety gives it for every accepted program.
-use Prim.Native.Nat.{ℕ, zero, suc, _+_}
+use Prim.Native.Nat.{ℕ, zero, suc}
 use native.Mathlib.Nat.{sub-zero}
 use mathlib.Core.Path.{_≡_, refl}
 use mathlib.Core.List.{List, [], _∷_}
@@ -13,9 +13,10 @@ use Rattle.calculus.specs.View.{labelOf}
 use Rattle.calculus.specs.Step.{before, step}
 use Rattle.calculus.specs.declared.Outcome.{Outcome}
 use Rattle.calculus.specs.Combinators.{choose}
-use Rattle.machine.specs.Closure.{CVal, Env, empty, link, Body, CState, lookup, found, close, plainVal, plainEnv, plainTm, plainState}
+use Rattle.machine.specs.Closure.{CVal, Env, link, Body, CState, lookup, found, close, plainVal, plainEnv, plainTm, plainState}
 use Rattle.machine.specs.Machine.{Control, eval, ret, triggered, pcdN, Frame, op1F, op2L, op2R, opNF, seqF, triggeredF, iteF, splitF, advF, lowerF, Stack, plainControl, fill, plug, unload, Transition, moves, due, over, frameRoom, push, moveVar, moveEval, moveRet, moveTriggered, move}
 use Rattle.machine.proofs.Close.{closed-plain, subst-close}
+use Rattle.machine.proofs.Runs.{lookup-some, lookup-none}
 use mathlib.Core.Bool.{Bool, true, false}
 use lib.Dec.{leb·suc-zero}
 
@@ -28,19 +29,7 @@ pub record Sound (G : Given) (e₀ : Tm) : Type 1 where
   pub labels : (s : State) (K : Stack) (vs : List Val) (v : Val) (es : Tms) → holds s (plug K (pcd (before vs (more (val v) es)))) → labelOf v ≡ none → ⊥
   pub function : (s : State) (K : Stack) (t : Ty) (b : Tm) → holds s (plug K (lam t b)) → holds s (plug K (val (Val.fun t b)))
 
--- A variable that is bound, and one that is not, in the calculus.
-found-some : (ρ : Env) (i : ℕ) (v : CVal) → lookup ρ i ≡ some v → found 0 (plainEnv ρ) i ≡ val (plainVal v)
-unfolding plainVal
-found-some empty i v p = cc
-found-some (link u ρ) zero v p = cc
-found-some (link u ρ) (suc i) v p = found-some ρ i v p
-
-found-none : (ρ : Env) (i : ℕ) → lookup ρ i ≡ none → (j : ℕ) × (found 0 (plainEnv ρ) i ≡ var j)
-unfolding plainVal
-found-none empty i p = (0 + i, refl)
-found-none (link u ρ) zero p = (0, cc)
-found-none (link u ρ) (suc i) p = found-none ρ i p
-
+-- A variable in an environment.
 plain-var : (ρ : Env) (i : ℕ) → plainTm 0 ρ (var i) ≡ found 0 (plainEnv ρ) i
 unfolding close
 plain-var ρ i = rw (leb·suc-zero i, sub-zero)
@@ -69,7 +58,7 @@ module _ (G : Given) (e₀ : Tm) (Ω : Sound G e₀) (s : CState) where
     where
       try : (o : Option CVal) → lookup ρ i ≡ o → Keeps (moveVar o K)
       try none p = tt
-      try (some v) p = rw (plain-var ρ i, found-some ρ i v p) at h
+      try (some v) p = rw (plain-var ρ i, lookup-some ρ i v p) at h
 
   eval-keeps : (e : Tm) (ρ : Env) (K : Stack) → Ho (plug K (plainTm 0 ρ e)) → Keeps (moveEval e ρ K G s)
   unfolding close plainVal
@@ -118,5 +107,5 @@ module _ (G : Given) (e₀ : Tm) (Ω : Sound G e₀) (s : CState) where
   variable-bound i ρ K h = try (lookup ρ i) refl
     where
       try : (o : Option CVal) → lookup ρ i ≡ o → (v : CVal) × (lookup ρ i ≡ some v)
-      try none p = let j = found-none ρ i p in absurd (Ω .bound (plainState s) K (j .0) (rw (plain-var ρ i, j .1) at h))
+      try none p = let j = lookup-none ρ i p in absurd (Ω .bound (plainState s) K (j .0) (rw (plain-var ρ i, j .1) at h))
       try (some v) p = (v, p)

@@ -9,7 +9,8 @@ use Rattle.calculus.specs.Syntax.{Tm}
 use Rattle.calculus.specs.State.{Cell, Advice, Counts, Event, Said, prints, Print, picked, logOf, noCell, charged}
 use Rattle.machine.specs.Closure.{CVal, Body, CState}
 use Rattle.flat.specs.Memory.{Memory, wordAt, boundValue, installedBase, installedAt, cellAt, cellNote}
-use Rattle.flat.specs.States.{logRecord}
+use Rattle.area.specs.Bytes.{bytesOf}
+use Rattle.area.specs.Records.{logRecord}
 use Rattle.flat.proofs.Relations.{Sizes, IsVal, IsAdvice, Grows, val-grows, advice-grows}
 use Rattle.flat.proofs.Tables.{Apart}
 
@@ -113,11 +114,11 @@ log-one (e ∷ t) d n = try (e .said) (log-one t d n)
     try (prints m) h = ap (λ x. record { dom = e .dom; shown = m } ∷ x) h
 
 pub bytes-one : (ps : List Print) (p : Print) → logBytes (ps ++ (p ∷ [])) ≡ logBytes ps ++ logRecord (p .dom) (p .shown)
-unfolding logBytes logRecord
+unfolding logBytes bytesOf
 bytes-one [] p = refl
 bytes-one (q ∷ ps) p = ap (λ x. logRecord (q .dom) (q .shown) ++ x) (bytes-one ps p) ∙ sym (append-assoc (logRecord (q .dom) (q .shown)) (logBytes ps) (logRecord (p .dom) (p .shown)))
 
 pub bytes-length : (ps : List Print) → length (logBytes ps) ≡ 10 * length ps
-unfolding logBytes logRecord
+unfolding logBytes bytesOf
 bytes-length [] = refl
 bytes-length (p ∷ ps) = omega (arith, bytes-length ps)

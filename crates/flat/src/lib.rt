@@ -4,6 +4,8 @@
 pub struct Regs {
     // what is to be done next, or how the machine halted
     pub mode: u32,
+    // what is left of the budget
+    pub left: u32,
     // a term to be worked out, a value that was reached, the advice that is left of a mark, or the rest of a pointcut
     pub c: u64,
     // the environment: a link
@@ -12,8 +14,6 @@ pub struct Regs {
     pub dom: u64,
     // frames in use
     pub sp: usize,
-    // what is left of the budget
-    pub left: u32,
     // bindings, pieces, cells, labels, installed advice and bytes of log in use
     pub nb: usize,
     pub np: usize,

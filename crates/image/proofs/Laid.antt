@@ -99,7 +99,7 @@ in-fields L o (g ∷ fs) j h (suc i) f e =
     let z : suc j + i ≡ j + suc i = omega arith in
     subst (λ m. within L f (fieldAt (L .image) o m) ≡ true) z (in-fields L o fs (suc j) (and-r (within L g (fieldAt (L .image) o j)) (fieldsIn L o fs (suc j)) h) i f e)
 
-in-field : (L : Layout) (o : ℕ) (fs : List Field) → fieldsIn L o fs 0 ≡ true → (i : ℕ) (f : Field) → getD fs i free ≡ f → within L f (fieldAt (L .image) o i) ≡ true
+pub in-field : (L : Layout) (o : ℕ) (fs : List Field) → fieldsIn L o fs 0 ≡ true → (i : ℕ) (f : Field) → getD fs i free ≡ f → within L f (fieldAt (L .image) o i) ≡ true
 in-field L o fs h i f e = let z : 0 + i ≡ i = omega arith in subst (λ m. within L f (fieldAt (L .image) o m) ≡ true) z (in-fields L o fs 0 h i f e)
 
 in-children : (m : ℕ) (es : List ℕ) → allOf (λ e. ltb e m) es ≡ true → Below m es

@@ -1,4 +1,4 @@
--- Tests and numbers on the bytes that a record's fields occupy.
+-- Tests and numbers on the bytes that a record's fields occupy (document 01, "The image": "hands each record's fields on as the part of the image that they occupy"; refusal 7).
 use Prim.Native.Nat.{ℕ, zero, suc, _-_, _*_, _/_, _%_}
 use mathlib.Core.Path.{_≡_}
 use mathlib.Core.Bool.{Bool, true, _&&_}

@@ -1,4 +1,4 @@
--- The refusals 4 to 8 as tests on numbers: a kind's code, the sizes, the keys.
+-- The refusals 4 to 8 (document 01, "Turned back at the gate") as tests on numbers: a kind's code, the sizes, the keys.
 use Prim.Native.Nat.{ℕ, _+_, _*_, _%_}
 use mathlib.Core.Bool.{Bool, true, not}
 use mathlib.Core.List.{List, [], _∷_}

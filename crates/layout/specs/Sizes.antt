@@ -1,4 +1,4 @@
--- The sizes: the bound of each class of fields, at the class's place. So many types, domains and terms so far; 4 operations; 2 truths; and 65,536, which no field reaches.
+-- The sizes: the bound of each class of fields, at the class's place (document 01, "Turned back at the gate", refusals 6 and 7). So many types, domains and terms so far; 4 operations; 2 truths; and 65,536, which no field reaches.
 use Prim.Native.Nat.{ℕ, _≤_}
 use mathlib.Core.Path.{_≡_}
 use mathlib.Core.List.{List, [], _∷_}

@@ -1,4 +1,4 @@
--- The tables of records as the definition's layout, and what each function does to them.
+-- The tables of records as the definition's layout (document 01, "The image"), and what each function does to them, record by record (document 01, "Turned back at the gate", refusals 2 to 8).
 use Prim.Native.Nat.{ℕ, _+_, _≤_, _<_}
 use mathlib.Core.Path.{_≡_}
 use mathlib.Core.List.{List, [], _∷_}

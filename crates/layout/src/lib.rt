@@ -5,7 +5,7 @@ ghost use Rattle.layout.specs.Sizes.{startSizes};
 ghost use Rattle.layout.specs.Tables.{Lent, Scanned, Entering, Entered};
 
 pub mod fields;
-pub mod tables;
+pub mod places;
 pub mod tests;
 
 pub enum Scan {
@@ -51,14 +51,14 @@ fn enter(
     }
     let section = records::kinds::section_of(code);
     if section == 1 {
-        tables::put(at, 1, sizes, doms);
+        places::put(at, 1, sizes, doms);
         return tests::Tested::Passed;
     }
     if section == 2 {
         let key = fields::key_of(&image[a..e], code, kind);
-        return tables::put_type(at, key, sizes, types, keys);
+        return places::put_type(at, key, sizes, types, keys);
     }
-    tables::put(at, 5, sizes, terms);
+    places::put(at, 5, sizes, terms);
     tests::Tested::Passed
 }
 

@@ -17,7 +17,7 @@ use Rattle.flat.specs.States.{State, withMemory, halt, give}
 use Rattle.flat.specs.Reduce.{Bound, bindOne, bindMatching, needs, reduceMark}
 use Rattle.tables.specs.View.{memoryOf, Holds}
 use Rattle.operands.specs.Phases.{RegsFit, stateOf, Phase}
-use Rattle.reductions.proofs.Reduced.{chosen-yes, chosen-no, stored-made}
+use Rattle.operands.proofs.Made.{chosen-yes, chosen-no, stored-made}
 use Rattle.marks.specs.Binds.{boundIn, Binds}
 
 -- The bindings are those of a B that is known by its tables.

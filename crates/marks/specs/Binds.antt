@@ -1,4 +1,4 @@
--- Bindings made in the lent work area, and how many there are.
+-- Bindings made in the lent work area, and how many there are (document 01, "A run": mark makes "one for each matching advice").
 use Prim.Native.Nat.{ℕ}
 use mathlib.Core.Path.{_≡_}
 use mathlib.Core.List.{List}

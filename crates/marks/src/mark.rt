@@ -8,6 +8,7 @@ ghost use Rattle.flat.specs.Reduce.{bindOne, bindMatching, reduceMark};
 ghost use Rattle.operands.specs.Phases.{Phase};
 ghost use Rattle.marks.specs.Binds.{boundIn, Binds};
 use flat::Regs;
+use operands::outcomes;
 use operands::regs::give;
 use operands::regs::halt;
 use operands::regs::same;
@@ -75,7 +76,7 @@ pub fn reduce_mark(work: &mut [u8], r: Regs) -> Regs
     }
     let m = bind_matching(work, r.ni, r.v1 % 64, r.v, r.nb);
     if 2048 < m {
-        return halt(r, 4);
+        return halt(r, outcomes::BINDINGS);
     }
     if m == r.nb {
         return give(r, 0);

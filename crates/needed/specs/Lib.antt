@@ -1,2 +1,2 @@
--- When a domain rule is needed.
+-- When a domain rule (document 01, "Typing") is needed for demand 3.
 pub mod Need

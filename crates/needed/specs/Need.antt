@@ -1,4 +1,4 @@
--- When an instance of a typing rule must not hold: with it, two programs that differ only in low bodies would be accepted, and demand 3 would fail for them.
+-- When an instance of a typing rule (document 01, "Typing") must not hold: with it, two programs that differ only in low bodies would be accepted, and demand 3 ("Two runs compared") would fail for them.
 use Prim.Native.Nat.{ℕ}
 use mathlib.Core.Path.{_≡_}
 use mathlib.Core.Bool.{Bool, true}

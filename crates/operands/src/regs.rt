@@ -2,12 +2,15 @@
 ghost use mathlib.Core.Path.{_≡_};
 ghost use Prim.Native.Nat.{_+_, _<_};
 ghost use lib.Dec.{eqb};
+ghost use Rattle.calculus.specs.declared.Outcome.{Outcome};
 ghost use Rattle.calculus.specs.Combinators.{choose};
+ghost use Rattle.calculus.specs.Report.{outcomeNumber};
 ghost use Rattle.flat.specs.Rows.{kindOf, isBinary};
 ghost use Rattle.flat.specs.Registers.{secondMode, readyMode, haltedMode, setMode};
 ghost use Rattle.flat.specs.States.{noFrames, goOn};
 ghost use Rattle.flat.specs.States as flat;
 ghost use Rattle.flat.specs.Operands.{afterFirst, afterSecond};
+use crate::outcomes;
 use flat::Regs;
 use rows::row::is_binary;
 use rows::row::kind;
@@ -76,9 +79,13 @@ pub fn stuck(r: Regs) -> Regs
 
 // The mode where no frame is left: spent comes before.
 fn no_frames_mode(left: u32) -> u32
-    ensures { λ m. ⌜ m ≡ choose (eqb left 0) 17 19 ⌝ }
+    ensures { λ m. ⌜ m ≡ choose (eqb left 0) (haltedMode + outcomeNumber Outcome.Spent) (haltedMode + outcomeNumber Outcome.Frames) ⌝ }
 {
-    if left == 0 { 17 } else { 19 }
+    if left == 0 {
+        HALTED + outcomes::SPENT
+    } else {
+        HALTED + outcomes::FRAMES
+    }
 }
 
 pub fn no_frames(r: Regs) -> Regs

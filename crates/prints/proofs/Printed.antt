@@ -9,23 +9,20 @@ use Rattle.calculus.specs.declared.Outcome.{Outcome}
 use Rattle.flat.specs.declared.Regs.{Regs}
 use Rattle.flat.specs.Registers.{setAt}
 use Rattle.flat.specs.Values.{tagOf, bodyOf}
-use Rattle.flat.specs.States.{State, withRegs, halt, stuck, give, logRecord, over}
+use Rattle.area.specs.Bytes.{over}
+use Rattle.area.specs.Records.{logRecord}
+use Rattle.flat.specs.States.{State, withRegs, halt, stuck, give}
 use Rattle.flat.specs.Reduce.{reducePrint}
 use Rattle.operands.specs.Phases.{RegsFit, stateOf, Moved}
-use Rattle.reductions.proofs.Reduced.{chosen-yes, chosen-no}
-
--- Nothing is written.
-kept : (S : State) (w log : List ℕ) (r q p : Regs) → withRegs p (stateOf w log r) ≡ S → q ≡ p → RegsFit (length log) p → Moved S w w log q
-kept S w log r q p s e f =
-    subst (λ (T : State). Moved T w w log q) s (record { regs = e; memory = record { memory = refl; rest = refl }; logged = refl; fits = subst (λ (x : Regs). RegsFit (length log) x) (sym e) f })
+use Rattle.operands.proofs.Made.{chosen-yes, chosen-no, made-regs}
 
 module _ (w log : List ℕ) (r q : Regs) (t : ℕ) (d : t ≡ tagOf (r .v1)) (f : RegsFit (length log) r) where
   pub no-number : (t ≡ 2 → ⊥) → q ≡ stuck r → Moved (reducePrint (stateOf w log r)) w w log q
-  no-number n e = kept _ w log r q (stuck r) (sym (chosen-no _ _ _ (ne-eqb (tagOf (r .v1)) 2 (λ z. n (d ∙ z))))) e f
+  no-number n e = made-regs _ w log r q (stuck r) (sym (chosen-no _ _ _ (ne-eqb (tagOf (r .v1)) 2 (λ z. n (d ∙ z))))) e f
 
   pub no-room : t ≡ 2 → length log - r .at < 10 → q ≡ halt Outcome.Log r → Moved (reducePrint (stateOf w log r)) w w log q
   no-room n h e =
-      kept _ w log r q (halt Outcome.Log r) (sym (chosen-yes _ _ _ (eq-eqb (tagOf (r .v1)) 2 (sym d ∙ n)) ∙ chosen-no _ _ _ (lt-leb 10 (length log - r .at) h))) e f
+      made-regs _ w log r q (halt Outcome.Log r) (sym (chosen-yes _ _ _ (eq-eqb (tagOf (r .v1)) 2 (sym d ∙ n)) ∙ chosen-no _ _ _ (lt-leb 10 (length log - r .at) h))) e f
 
   pub printed : (log′ : List ℕ) (x : ℕ) → t ≡ 2 → 10 ≤ length log - r .at → r .at ≤ length log → x ≡ bodyOf (r .v1) → log′ ≡ over (r .at) (logRecord (r .dom) x) log → length log′ ≡ length log → q ≡ give 0 (setAt (r .at + 10) r) → Moved (reducePrint (stateOf w log r)) w w log′ q
   printed log′ x n h a b o l e =

@@ -1,4 +1,4 @@
--- The table of kinds in numbers: a code packs a kind's section, how many fields it has before its children, how many children at least and at most, and the classes of its fields. The number 0 is no kind's code.
+-- The table of kinds (document 01, "The image") in numbers: a code packs a kind's section, how many fields it has before its children, how many children at least and at most, and the classes of its fields. The number 0 is no kind's code.
 use Prim.Native.Nat.{ℕ, _+_, _*_, _/_, _%_}
 use mathlib.Core.List.{List, [], _∷_}
 use lib.ListN.{length, getD}

@@ -1,4 +1,4 @@
--- The key of a type: its kind's number and its fields in one number, so that two types are equal exactly if their keys are.
+-- The key of a type: its kind's number and its fields in one number, so that two types are equal exactly if their keys are (document 01, "The image"; refusal 8, "type equal to an earlier one").
 use Prim.Native.Nat.{ℕ, _+_, _*_, _/_, _%_}
 use mathlib.Core.Path.{_≡_}
 use mathlib.Core.List.{List}

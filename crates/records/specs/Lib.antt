@@ -1,5 +1,6 @@
--- What the functions that read records are proved equal to: codes of kinds, keys of types, and what stands at an offset.
+-- What the functions that read records are proved equal to: codes of kinds, keys of types, what stands at an offset, and what the tables of an image hold.
 pub mod Codes
 pub mod Keys
 pub mod Heads
 pub mod Tables
+pub mod Leaves

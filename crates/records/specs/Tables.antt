@@ -1,4 +1,4 @@
--- What the validator's tables hold of an image that is laid out: the offsets of its domains and terms, and the keys of its types.
+-- What the validator's tables hold of an image that is laid out: the offsets of its domains and terms, and the keys of its types (document 01, "The image": "Three sections in order: domains, types, terms. Each is numbered from 0 on its own").
 use Prim.Native.Nat.{ℕ, _≤_, _<_}
 use mathlib.Core.Path.{_≡_}
 use mathlib.Core.List.{List}

@@ -1,10 +1,9 @@
 -- What a reduction makes of the state, by the tests that lead there.
-use Prim.Native.Nat.{ℕ, _+_, _-_, _%_, _≤_, _<_}
+use Prim.Native.Nat.{ℕ, _+_, _%_, _≤_, _<_}
 use native.Mathlib.Omega.{arith}
-use mathlib.Core.Path.{_≡_, refl, sym, ap, subst, _∙_}
+use mathlib.Core.Path.{_≡_, sym, ap, subst, _∙_}
 use mathlib.Core.Bool.{Bool, true, false}
 use mathlib.Core.List.{List}
-use lib.ListN.{length}
 use lib.Dec.{eqb}
 use borrow.Author.Tests.{eq-eqb, ne-eqb}
 use Rattle.calculus.specs.declared.Outcome.{Outcome}
@@ -14,31 +13,11 @@ use Rattle.flat.specs.Values.{tagOf, bodyOf, nothingTag}
 use Rattle.flat.specs.Rows.{term2, term3}
 use Rattle.flat.specs.Registers.{setEnv, setNb, setNp, setNc, setNl, setNi}
 use Rattle.flat.specs.Memory.{Memory, binding, putBinding, pieceFirst, pieceSecond}
-use Rattle.flat.specs.States.{State, withRegs, withMemory, halt, stuck, give, goOn}
+use Rattle.flat.specs.States.{State, halt, stuck, give, goOn}
 use Rattle.flat.specs.Reduce.{needs, ifRoom, giveIf, newPiece}
 use Rattle.tables.specs.View.{memoryOf, Holds}
-use Rattle.operands.specs.Phases.{RegsFit, stateOf, Moved, Phase}
-
-pub chosen-yes : {A : Type 0} (b : Bool) (x y : A) → b ≡ true → choose b x y ≡ x
-chosen-yes b x y e = ap (λ (t : Bool). choose t x y) e
-
-pub chosen-no : {A : Type 0} (b : Bool) (x y : A) → b ≡ false → choose b x y ≡ y
-chosen-no b x y e = ap (λ (t : Bool). choose t x y) e
-
--- A part of a turn that makes the same of the states with these tables and registers.
-pub as-phase : (f g : State → State) (w w′ : List ℕ) (r q : Regs) → ((log : List ℕ) → f (stateOf w log r) ≡ g (stateOf w log r)) → Phase f w w′ r q → Phase g w w′ r q
-as-phase f g w w′ r q e p = record { moved = λ log fit. subst (λ (S : State). Moved S w w′ log q) (e log) (p .moved log fit) }
-
--- The tables become M and the registers p, which fit where those before do.
-pub stored-made : (T : State → State) (M : Memory) (w w′ : List ℕ) (r q p : Regs) → ((log : List ℕ) → withMemory M p (stateOf w log r) ≡ T (stateOf w log r)) → q ≡ p → Holds M w w′ → ((n : ℕ) → RegsFit n r → RegsFit n p) → Phase T w w′ r q
-stored-made T M w w′ r q p s e h f =
-    as-phase (withMemory M p) T w w′ r q s (record {
-      moved = λ log fit. record { regs = e; memory = h; logged = refl; fits = subst (λ (s : Regs). RegsFit (length log) s) (sym e) (f (length log) fit) };
-    })
-
--- Nothing is stored.
-pub regs-made : (T : State → State) (w : List ℕ) (r q p : Regs) → ((log : List ℕ) → withRegs p (stateOf w log r) ≡ T (stateOf w log r)) → q ≡ p → ((n : ℕ) → RegsFit n r → RegsFit n p) → Phase T w w r q
-regs-made T w r q p s e f = stored-made T (memoryOf w) w w r q p s e (record { memory = refl; rest = refl }) f
+use Rattle.operands.specs.Phases.{RegsFit, stateOf, Phase}
+use Rattle.operands.proofs.Made.{chosen-yes, chosen-no, as-phase, regs-made, refits}
 
 -- The first operand has not the tag that is needed; or has it, and T goes on.
 module _ (tag : ℕ) (T : State → State) (w w′ : List ℕ) (r q : Regs) (t : ℕ) (d : t ≡ tagOf (r .v1)) where
@@ -61,19 +40,7 @@ module _ (b : State → Bool) (o : Outcome) (T : State → State) (w w′ : List
 
 -- The registers still fit: with another term; with one more label, piece, cell, installed advice; with bindings.
 pub term-fits : (r : Regs) (t : ℕ) → t < 1024 → (n : ℕ) → RegsFit n r → RegsFit n (goOn t r)
-term-fits r t h n f =
-    record {
-      env-fits = f .env-fits;
-      dom-fits = f .dom-fits;
-      sp-fits = f .sp-fits;
-      nb-fits = f .nb-fits;
-      np-fits = f .np-fits;
-      nc-fits = f .nc-fits;
-      nl-fits = f .nl-fits;
-      ni-fits = f .ni-fits;
-      at-fits = f .at-fits;
-      t-fits = h;
-    }
+term-fits r t h n f = refits r n _ _ _ _ (f .env-fits) (f .dom-fits) (f .sp-fits) h f
 
 pub label-fits : (r : Regs) (v : ℕ) → r .nl < 64 → (n : ℕ) → RegsFit n r → RegsFit n (give v (setNl (r .nl + 1) r))
 label-fits r v h n f =

@@ -5,6 +5,7 @@ ghost use Rattle.area.specs.Memory.{memoryLength};
 ghost use Rattle.flat.specs.Reduce.{newPiece, reducePair, reducePointcut, reduceAdvice, reduceInstall};
 ghost use Rattle.operands.specs.Phases.{Phase};
 use flat::Regs;
+use operands::outcomes;
 use operands::regs::give;
 use operands::regs::halt;
 use operands::regs::stuck;
@@ -29,7 +30,7 @@ pub fn new_piece(work: &mut [u8], kind: u64, a: u64, b: u64, r: Regs) -> Regs
         q.np = r.np + 1;
         return q;
     }
-    halt(r, 8)
+    halt(r, outcomes::PIECES)
 }
 
 pub fn reduce_pair(work: &mut [u8], r: Regs) -> Regs
@@ -73,5 +74,5 @@ pub fn reduce_install(work: &mut [u8], r: Regs) -> Regs
         q.ni = r.ni + 1;
         return q;
     }
-    halt(r, 7)
+    halt(r, outcomes::ADVICE)
 }

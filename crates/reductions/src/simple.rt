@@ -11,6 +11,7 @@ ghost use Rattle.flat.specs.Rows as flat;
 ghost use Rattle.flat.specs.Reduce.{giveIf, reduceSeq, reduceIf, reduceArithmetic, reduceLabel, reduceRead, reduceLower, reduceAbort, reduceByte};
 ghost use Rattle.operands.specs.Phases.{Phase};
 use flat::Regs;
+use operands::outcomes;
 use operands::regs::give;
 use operands::regs::go_on;
 use operands::regs::halt;
@@ -76,7 +77,7 @@ pub fn reduce_label(r: Regs) -> Regs
         q.nl = r.nl + 1;
         return q;
     }
-    halt(r, 6)
+    halt(r, outcomes::LABELS)
 }
 
 pub fn reduce_read(work: &[u8], r: Regs) -> Regs
@@ -100,7 +101,7 @@ pub fn reduce_abort(r: Regs) -> Regs
     requires { ⌜ 0 < r .left ⌝ }
     ensures { λ q. ⌜ ((w : List ℕ) → Phase reduceAbort w w r q) ⌝ }
 {
-    let mut q = halt(r, 2);
+    let mut q = halt(r, outcomes::ABORTED);
     q.left = r.left - 1;
     q
 }

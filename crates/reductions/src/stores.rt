@@ -7,6 +7,7 @@ ghost use Rattle.flat.specs.Memory.{binding, putBinding, pieceFirst, pieceSecon
 ghost use Rattle.tables.specs.View.{memoryOf, Holds};
 ghost use Rattle.operands.specs.Phases.{Phase};
 use flat::Regs;
+use operands::outcomes;
 use operands::regs::give;
 use operands::regs::go_on;
 use operands::regs::halt;
@@ -37,7 +38,7 @@ pub fn reduce_apply(work: &mut [u8], r: Regs) -> Regs
         q.env = r.nb + 1;
         return q;
     }
-    halt(r, 4)
+    halt(r, outcomes::BINDINGS)
 }
 
 // Bindings i and i + 1 of the two parts of pair p, the first outside the second.
@@ -65,7 +66,7 @@ pub fn reduce_split(work: &mut [u8], r: Regs) -> Regs
         q.env = r.nb + 2;
         return q;
     }
-    halt(r, 4)
+    halt(r, outcomes::BINDINGS)
 }
 
 pub fn reduce_cell(work: &mut [u8], r: Regs) -> Regs
@@ -78,7 +79,7 @@ pub fn reduce_cell(work: &mut [u8], r: Regs) -> Regs
         q.nc = r.nc + 1;
         return q;
     }
-    halt(r, 5)
+    halt(r, outcomes::CELLS)
 }
 
 pub fn reduce_store(work: &mut [u8], r: Regs) -> Regs

@@ -15,7 +15,8 @@ use Rattle.calculus.specs.Report.{CellReport}
 use Rattle.area.specs.Bytes.{bytesOf}
 use Rattle.safety.proofs.Lists.{All, All.all-nil, All.all-cons}
 use Rattle.report.specs.declared.Slot.{Slot}
-use Rattle.report.specs.Records.{Record, recordBytes, recordsBytes}
+use Rattle.area.specs.Records.{Record, recordBytes}
+use Rattle.report.specs.Records.{recordsBytes}
 use Rattle.report.specs.Written.{logBytes, leafRecord, leafBytes, leavesBytes, leavesIn, heldRecord, cellRecord, cellBytes, cellsBytes, headBytes, reportBytes}
 use Rattle.report.specs.Fits.{FewLeaves}
 
@@ -66,7 +67,7 @@ unfolding bytesOf recordsBytes
 length-log [] = refl
 length-log (p ∷ x) = let i : length (logBytes x) ≡ 10 * length x = length-log x in omega arith
 
-held-short : (d : Dom) (h : Option (List Leaf)) → FewLeaves h → length (recordBytes (heldRecord d h)) ≤ 70
+pub held-short : (d : Dom) (h : Option (List Leaf)) → FewLeaves h → length (recordBytes (heldRecord d h)) ≤ 70
 unfolding bytesOf
 held-short d none f = omega arith
 held-short d (some ls) f = let n = leaves-short ls in omega arith
@@ -80,7 +81,7 @@ cells-short (all-cons {x = c} {xs = cs} f h) =
     let i : length (cellsBytes cs) ≤ 70 * length cs = cells-short h in
     omega arith
 
-length-parts : (o k : ℕ) (ls : List Leaf) (cs : List CellReport) → length (reportBytes o k ls cs) ≡ 10 + length (leavesBytes ls) + length (cellsBytes cs)
+pub length-parts : (o k : ℕ) (ls : List Leaf) (cs : List CellReport) → length (reportBytes o k ls cs) ≡ 10 + length (leavesBytes ls) + length (cellsBytes cs)
 unfolding bytesOf
 length-parts o k ls cs =
     let n = length-append (headBytes o k ++ leavesBytes ls) (cellsBytes cs) in

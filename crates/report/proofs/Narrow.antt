@@ -14,8 +14,9 @@ use Rattle.calculus.specs.Report.{CellReport}
 use Rattle.safety.proofs.Lists.{All, All.all-nil, All.all-cons}
 use Rattle.area.specs.Bytes.{bytesOf, numberOf, numberAt}
 use Rattle.area.proofs.Bytes.{number-bytes}
-use Rattle.report.specs.Records.{Record, recordsBytes, recordsIn}
-use Rattle.report.specs.Written.{printRecord, logBytes, leafRecord, leavesBytes, heldRecord, cellRecord, cellsBytes, headRecord, headBytes, reportBytes}
+use Rattle.area.specs.Records.{Record}
+use Rattle.report.specs.Records.{recordsBytes, recordsIn}
+use Rattle.report.specs.Written.{recordOf, logBytes, leafRecord, leavesBytes, heldRecord, cellRecord, cellsBytes, headRecord, headBytes, reportBytes}
 use Rattle.report.specs.Read.{printIn, leafIn, cellIn, readLog, readReport}
 use Rattle.report.specs.Fits.{shortSize, FewLeaves}
 use Rattle.report.proofs.Lengths.{records-append, leaves-short}
@@ -68,19 +69,19 @@ abbrev pub narrowCell : CellReport → CellReport
 narrowCell c = record { dom = c .dom % shortSize; held = narrowHeld (c .held) }
 
 -- The log.
-print-short : (p : Print) → Short (printRecord p)
+print-short : (p : Print) → Short (recordOf p)
 unfolding bytesOf
 print-short p = record { kind = omega arith; length = omega arith }
 
-print-in : (p : Print) → printIn (printRecord p) ≡ some (narrowPrint p)
+print-in : (p : Print) → printIn (recordOf p) ≡ some (narrowPrint p)
 unfolding bytesOf numberAt
 print-in p =
-    let d : numberAt 2 0 (printRecord p .fields) ≡ p .dom % shortSize = number-bytes 2 (p .dom) in
-    let n : numberAt 4 2 (printRecord p .fields) ≡ p .shown % wordSize = number-bytes 4 (p .shown) in
+    let d : numberAt 2 0 (recordOf p .fields) ≡ p .dom % shortSize = number-bytes 2 (p .dom) in
+    let n : numberAt 4 2 (recordOf p .fields) ≡ p .shown % wordSize = number-bytes 4 (p .shown) in
     ap some (λ t. record { dom = d t; shown = n t })
 
 pub log-read : (x : List Print) → readLog (logBytes x) ≡ map narrowPrint x
-log-read x = ap (picked printIn) (read-records (all-of printRecord print-short x)) ∙ picked-some printIn printRecord narrowPrint print-in x
+log-read x = ap (picked printIn) (read-records (all-of recordOf print-short x)) ∙ picked-some printIn recordOf narrowPrint print-in x
 
 -- Leaves.
 leaf-record-short : (l : Leaf) → Short (leafRecord l)

@@ -7,7 +7,7 @@ use lib.ListN.{length, getD, length-append}
 use Rattle.area.specs.Bytes.{bytesOf, over}
 use Rattle.area.proofs.Over.{length-over, onward, over-before}
 use Rattle.report.specs.declared.Slot.{Slot}
-use Rattle.report.specs.Records.{bytes16, recordBytes}
+use Rattle.area.specs.Records.{bytes16, recordBytes}
 use Rattle.report.specs.Written.{leafBytes, leavesBytes, leavesIn}
 use Rattle.report.proofs.Lengths.{leaves-more, leaf-short}
 

@@ -8,7 +8,8 @@ use lib.Seq.{take-append-seam, drop-append-seam}
 use borrow.Author.Tests.{le-leb}
 use Rattle.safety.proofs.Lists.{All, All.all-nil, All.all-cons}
 use Rattle.area.specs.Bytes.{bytesOf, numberOf, numberAt}
-use Rattle.report.specs.Records.{Record, recordBytes, recordsBytes, lengthOf, recordsAfter, recordsIn}
+use Rattle.area.specs.Records.{Record, recordBytes}
+use Rattle.report.specs.Records.{recordsBytes, lengthOf, recordsAfter, recordsIn}
 
 -- After so many bytes.
 after-drop : (k : ℕ) (b : List ℕ) → recordsAfter k b ≡ recordsIn (drop k b)

@@ -1,4 +1,4 @@
--- What fits the fields that it is written to: domains in 2 bytes, numbers in 4, and the leaves of a plain cell in its length.
+-- What fits the fields that it is written to (document 01, "A run"): domains in 2 bytes, numbers in 4, and the leaves of a plain cell in its length.
 use Prim.Native.Nat.{ℕ, _%_, _≤_, _<_}
 use mathlib.Core.Bool.{Bool}
 use mathlib.Core.List.{List}

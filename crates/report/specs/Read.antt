@@ -10,8 +10,9 @@ use Rattle.calculus.specs.Combinators.{choose}
 use Rattle.calculus.specs.State.{Print, picked}
 use Rattle.calculus.specs.Report.{leafKind, CellReport}
 use Rattle.area.specs.Bytes.{numberAt}
-use Rattle.report.specs.Records.{Record, recordsIn}
-use Rattle.report.specs.Written.{logKind, plainCellKind, otherCellKind}
+use Rattle.area.specs.Records.{Record, logKind}
+use Rattle.report.specs.Records.{recordsIn}
+use Rattle.report.specs.Written.{plainCellKind, otherCellKind}
 
 -- The printed number, leaf or cell that a record says, if it is one.
 abbrev pub printIn : Record → Option Print

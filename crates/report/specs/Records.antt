@@ -1,26 +1,12 @@
--- Records on bytes (document 01, "The image": "Records stand end to end. A record is a length (whole record, in bytes), a kind, then fields"): written, and read back from any bytes.
-use Prim.Native.Nat.{ℕ, zero, suc, _+_, _-_}
+-- Records end to end on bytes (document 01, "The image": "Records stand end to end"): written, and read back from any bytes.
+use Prim.Native.Nat.{ℕ, zero, suc, _-_}
 use mathlib.Core.Bool.{Bool, _&&_}
 use mathlib.Core.List.{List, [], _∷_, _++_}
 use lib.ListN.{length, take, drop}
 use lib.Dec.{leb}
 use Rattle.calculus.specs.Combinators.{choose}
-use Rattle.area.specs.Bytes.{bytesOf, numberAt}
-
--- "Unsigned 16-bit little-endian, save a number's 4 bytes".
-abbrev pub bytes16 : ℕ → List ℕ
-bytes16 n = bytesOf 2 n
-
-abbrev pub bytes32 : ℕ → List ℕ
-bytes32 n = bytesOf 4 n
-
-pub record Record : Type 0 where
-  pub kind : ℕ
-  -- the bytes of its fields
-  pub fields : List ℕ
-
-abbrev pub recordBytes : Record → List ℕ
-recordBytes r = bytes16 (4 + length (r .fields)) ++ bytes16 (r .kind) ++ r .fields
+use Rattle.area.specs.Bytes.{numberAt}
+use Rattle.area.specs.Records.{Record, recordBytes}
 
 unfoldable pub recordsBytes : List Record → List ℕ
 recordsBytes [] = []

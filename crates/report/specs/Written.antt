@@ -7,11 +7,9 @@ use Rattle.calculus.specs.declared.Leaf.{Leaf}
 use Rattle.calculus.specs.Syntax.{Dom}
 use Rattle.calculus.specs.State.{Print}
 use Rattle.calculus.specs.Report.{leafKind, leafValue, CellReport}
+use Rattle.area.specs.Records.{bytes16, bytes32, Record, recordBytes, printRecord}
 use Rattle.report.specs.declared.Slot.{Slot}
-use Rattle.report.specs.Records.{bytes16, bytes32, Record, recordBytes, recordsBytes}
-
-abbrev pub logKind : ℕ
-logKind = 64
+use Rattle.report.specs.Records.{recordsBytes}
 
 abbrev pub plainCellKind : ℕ
 plainCellKind = 68
@@ -23,14 +21,11 @@ abbrev pub reportKind : ℕ
 reportKind = 70
 
 -- "Log record: length 10, kind 64, the current domain, number."
-abbrev pub printRecord : Print → Record
-printRecord p = record { kind = logKind; fields = bytes16 (p .dom) ++ bytes32 (p .shown) }
-
-abbrev pub logRecord : Dom → ℕ → List ℕ
-logRecord d n = recordBytes (printRecord (record { dom = d; shown = n }))
+abbrev pub recordOf : Print → Record
+recordOf p = printRecord (p .dom) (p .shown)
 
 abbrev pub logBytes : List Print → List ℕ
-logBytes x = recordsBytes (map printRecord x)
+logBytes x = recordsBytes (map recordOf x)
 
 -- "Kind 65 unit, 66 truth (2 bytes), 67 number (4 bytes)."
 abbrev pub leafFields : Leaf → List ℕ

@@ -1,6 +1,5 @@
--- The rows of an image that is laid out, the leaves of its types, and its terms by number.
+-- The rows of an image that is laid out, and its terms by number (document 01, "The image").
 pub mod RowsOf
-pub mod Leaves
 pub mod TermAt
 pub mod Noted
 pub mod Readable

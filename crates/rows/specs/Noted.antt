@@ -1,4 +1,4 @@
--- What is read off a type's key (the crate records, specs/Keys.antt) and the table of leaf counts.
+-- What is read off a type's key (the crate records, specs/Keys.antt) and the table of leaf counts: the p of document 01's types 20 to 24 ("The image"), and whether a cell is plain ("A run": "a plain cell is kind 68, its domain").
 use Prim.Native.Nat.{ℕ, _+_}
 use mathlib.Core.Bool.{Bool, not, _&&_}
 use mathlib.Core.List.{List}

@@ -1,4 +1,4 @@
--- What the functions of this crate are lent: the offsets of the domains and the terms, the keys of the types and the masks of the domains of an image that is laid out, each in a table of its own; and the context of variables, in the first places of a scope.
+-- What the functions of this crate are lent: the offsets of the domains and the terms, the keys of the types and the masks of the domains of an image that is laid out, each in a table of its own; and the context of variables, in the first places of a scope (document 01, "The image": "variable k (0 the innermost)"; "Typing": "outer variables stay visible").
 use Prim.Native.Nat.{ℕ, zero, suc, _≤_, _<_}
 use mathlib.Core.Path.{_≡_}
 use mathlib.Core.List.{List, [], _∷_}

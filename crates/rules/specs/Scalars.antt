@@ -1,4 +1,4 @@
--- The rules of terms (the crate verdicts, Check) on the numbers that a function reads: a term's kind and type, the keys of its own type and of its children's, the current domain.
+-- The rules of terms (document 01, "Typing"; the crate verdicts, Check) on the numbers that a function reads: a term's kind and type, the keys of its own type and of its children's, the current domain.
 use Prim.Native.Nat.{ℕ, _/_, _%_, _^_}
 use mathlib.Core.Bool.{Bool, true, false, _&&_}
 use mathlib.Core.List.{List, [], _∷_}

@@ -11,9 +11,9 @@ use Rattle.image.specs.declared.Refusal.{Refusal}
 use Rattle.image.specs.Layout.{Layout, isNil}
 use Rattle.image.specs.Tests.{all}
 use Rattle.verdicts.specs.declared.Verdict.{Verdict}
-use Rattle.verdicts.specs.Answers.{require, requireFrom, inTurn}
+use Rattle.verdicts.specs.Answers.{isRefused, require, requireFrom, inTurn}
 use Rattle.verdicts.specs.Shape.{noneEmpty, shape}
-use Rattle.shape.specs.Checks.{refused, passes}
+use Rattle.shape.specs.Checks.{passes}
 use Rattle.image.proofs.Facts.{no-path, and-r, lt-of}
 
 pub from-start : (r : Refusal) (place : ℕ → ℕ) (ok : ℕ → Bool) (n : ℕ) → requireFrom n 0 r place ok ≡ requireFrom (n - 0) 0 r place ok
@@ -49,7 +49,7 @@ from-same r p q f g (suc n) i hp hf = go (f i) refl (from-same r p q f g n (suc 
 
 -- Of checks in turn, the first: it refuses, it passes, it is the last.
 module _ (v : Unit {0} → Verdict) (vs : List (Unit {0} → Verdict)) where
-  pub turn-stops : refused (v tt) ≡ true → inTurn (v ∷ vs) ≡ v tt
+  pub turn-stops : isRefused (v tt) ≡ true → inTurn (v ∷ vs) ≡ v tt
   unfolding inTurn
   turn-stops h = go (v tt) refl
     where
@@ -57,7 +57,7 @@ module _ (v : Unit {0} → Verdict) (vs : List (Unit {0} → Verdict)) where
       go Verdict.Accepted e = let z : false ≡ true = rw e at h in no-path (sym z)
       go (Verdict.Refused r p) e = rw (e, inTurn) refl
 
-  pub turn-goes : refused (v tt) ≡ false → inTurn (v ∷ vs) ≡ inTurn vs
+  pub turn-goes : isRefused (v tt) ≡ false → inTurn (v ∷ vs) ≡ inTurn vs
   unfolding inTurn
   turn-goes h = go (v tt) refl
     where
@@ -77,11 +77,11 @@ turn-last v = go (v tt) refl
 module _ (L : Layout) (size : ℕ) where
   pub shape-empty : noneEmpty L ≡ false → shape L size ≡ Verdict.Refused Refusal.EmptySection size
   unfolding shape
-  shape-empty h = let e : require (noneEmpty L) Refusal.EmptySection size ≡ Verdict.Refused Refusal.EmptySection size = rw h refl in turn-stops _ _ (ap refused e) ∙ e
+  shape-empty h = let e : require (noneEmpty L) Refusal.EmptySection size ≡ Verdict.Refused Refusal.EmptySection size = rw h refl in turn-stops _ _ (ap isRefused e) ∙ e
 
   pub shape-passes : noneEmpty L ≡ true → shape L size ≡ passes L
   unfolding shape
-  shape-passes h = turn-goes _ _ (ap refused (ap (λ t. require t Refusal.EmptySection size) h))
+  shape-passes h = turn-goes _ _ (ap isRefused (ap (λ t. require t Refusal.EmptySection size) h))
 
 -- A section is empty if it has no records.
 some : (xs : List ℕ) → not (isNil xs) ≡ ltb 0 (length xs)

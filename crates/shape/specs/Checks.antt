@@ -1,5 +1,5 @@
--- Refusals 10, 11 and 12 of a layout, each by itself, as the crate verdicts defines them one after the other.
-use mathlib.Core.Bool.{Bool, true, false, not}
+-- Refusals 10, 11 and 12 (document 01, "Turned back at the gate") of a layout, each by itself, as the crate verdicts defines them one after the other.
+use mathlib.Core.Bool.{not}
 use mathlib.Core.List.{[], _∷_}
 use lib.ListN.{length, getD}
 use lib.Dec.{leb}
@@ -25,7 +25,3 @@ module _ (L : Layout) where
   -- The three in turn.
   abbrev pub passes : Verdict
   passes = inTurn ((λ u. domainsOrdered) ∷ (λ u. termsUsedOnce) ∷ (λ u. noTermDeep) ∷ [])
-
-abbrev pub refused : Verdict → Bool
-refused Verdict.Accepted = false
-refused (Verdict.Refused r place) = true

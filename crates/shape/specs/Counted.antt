@@ -1,4 +1,4 @@
--- What the scan of an image leaves for the shape: the tables, and how many records each section has.
+-- What the scan of an image leaves for the shape: the tables, and how many records each section has (document 01, "Turned back at the gate", refusals 9 to 12).
 use Prim.Native.Nat.{ℕ}
 use mathlib.Core.Path.{_≡_}
 use mathlib.Core.List.{List}

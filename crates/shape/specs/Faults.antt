@@ -1,4 +1,4 @@
--- The order of the domains as rows of truths, and which domain is at fault in it: what the crate verdicts defines of a layout, here of the rows that stand for it.
+-- The order of the domains as rows of truths, and which domain is at fault in it (document 01, "Turned back at the gate": "Domain d is at fault in 10 if .."): what the crate verdicts defines of a layout, here of the rows that stand for it.
 use Prim.Native.Nat.{ℕ}
 use mathlib.Core.Path.{_≡_}
 use mathlib.Core.Bool.{Bool, false, not, _&&_, _||_}

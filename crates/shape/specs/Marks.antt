@@ -1,4 +1,4 @@
--- What the passes over the terms keep for each term: how often it is used, up to 2, and its depth, up to one past the limit.
+-- What the passes of refusals 11 and 12 over the terms keep for each term (document 01, "Turned back at the gate"): how often it is used, up to 2, and its depth, up to one past the limit.
 use Prim.Native.Nat.{ℕ, zero, suc, min, _<_}
 use mathlib.Core.Path.{_≡_}
 use mathlib.Core.List.{List, [], _∷_}

@@ -1,4 +1,4 @@
--- What the tables hold of an image that is laid out, as the passes need it: where its domains and its terms stand, and where the children of a term are.
+-- What the tables hold of an image that is laid out (document 01, "The image"), as the passes need it: where its domains and its terms stand, and where the children of a term are.
 use Prim.Native.Nat.{ℕ, _+_, _*_, _≤_, _<_}
 use mathlib.Core.Path.{_≡_}
 use mathlib.Core.List.{List}

@@ -23,7 +23,7 @@ fn set_children(image: &[u8], kinds: &[u32], at: usize, d: u8, depths: &mut [u8]
     let mut j: usize = 0;
     while j < count {
         let e = crate::children::child(image, first, at, j);
-        crate::marks::set_mark(depths, e, d);
+        crate::notes::set_mark(depths, e, d);
         j += 1;
     }
 }
@@ -36,7 +36,7 @@ fn set_depths(image: &[u8], kinds: &[u32], terms: &[u16], depths: &mut [u8])
     let mut i: usize = terms.len();
     while 0 < i {
         i -= 1;
-        let d = crate::marks::one_more(65, crate::marks::mark_of(depths, TermNo(i as u16)));
+        let d = crate::notes::one_more(65, crate::notes::mark_of(depths, TermNo(i as u16)));
         let at = records::numbers::term_offset(terms, TermNo(i as u16));
         set_children(image, kinds, at, d, depths);
     }
@@ -49,7 +49,7 @@ fn first_deep(depths: &[u8], terms: &[u16], n: usize) -> Verdict
 {
     let mut i: usize = 0;
     while i < n {
-        if 64 < crate::marks::mark_of(depths, TermNo(i as u16)) {
+        if 64 < crate::notes::mark_of(depths, TermNo(i as u16)) {
             let at = records::numbers::term_offset(terms, TermNo(i as u16));
             return Verdict::Refused(Refusal::TooDeep, at);
         }

@@ -2,6 +2,7 @@
 // linear in the image.
 use image::Refusal;
 use verdicts::Verdict;
+use verdicts::is_refused;
 ghost use mathlib.Core.Path.{_≡_};
 ghost use Prim.Native.Nat.{_<_};
 ghost use mathlib.Core.Bool.{_&&_};
@@ -11,12 +12,12 @@ ghost use Rattle.image.specs.Layout.{recordsOf};
 ghost use Rattle.verdicts.specs.Shape.{shape};
 ghost use Rattle.records.specs.Codes.{kindCodes};
 ghost use Rattle.shape.specs.Records.{Domains, Terms};
-ghost use Rattle.shape.specs.Checks.{refused, passes};
+ghost use Rattle.shape.specs.Checks.{passes};
 ghost use Rattle.shape.specs.Counted.{Counted};
 
 pub mod children;
 pub mod depths;
-pub mod marks;
+pub mod notes;
 pub mod order;
 pub mod uses;
 
@@ -31,15 +32,6 @@ fn none_empty(n: Counts) -> bool
     ensures { λ r. ⌜ r ≡ (ltb 0 (n .domains) && (ltb 0 (n .types) && ltb 0 (n .terms))) ⌝ }
 {
     0 < n.domains && (0 < n.types && 0 < n.terms)
-}
-
-fn is_refused(v: Verdict) -> bool
-    ensures { λ r. ⌜ r ≡ refused v ⌝ }
-{
-    match v {
-        Verdict::Accepted => false,
-        Verdict::Refused(_, _) => true,
-    }
 }
 
 // Refusals 10 to 12, with the offsets of the domains and of the terms.

@@ -18,7 +18,7 @@ fn use_term(uses: &mut [u8], e: TermNo)
     ensures { λ _. ⌜ now (uses .exit) ≡ set (now (uses .entry)) (e .0) (more 2 (getD (now (uses .entry)) (e .0) 0)) ⌝ }
 {
     let i = e.0 as usize;
-    uses[i] = crate::marks::one_more(2, uses[i]);
+    uses[i] = crate::notes::one_more(2, uses[i]);
 }
 
 // One use more of each child of the term at an offset.
@@ -56,7 +56,7 @@ fn first_misused(uses: &[u8], terms: &[u16], n: usize) -> Verdict
 {
     let mut i: usize = 0;
     while i < n {
-        if crate::marks::mark_of(uses, TermNo(i as u16)) != 1 {
+        if crate::notes::mark_of(uses, TermNo(i as u16)) != 1 {
             let at = records::numbers::term_offset(terms, TermNo(i as u16));
             return Verdict::Refused(Refusal::UseCount, at);
         }

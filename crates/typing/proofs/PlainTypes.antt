@@ -21,7 +21,8 @@ use Rattle.image.proofs.TypeNumbers.{type-out, type-kind}
 use Rattle.records.specs.Keys.{keyKind, keyField0, keyField1}
 use Rattle.rules.specs.Lent.{Types}
 use Rattle.rules.proofs.Keys.{key-says}
-use Rattle.typing.specs.Leaves.{atMost, plainLeaves, joinLeaves, leavesOf}
+use Rattle.records.specs.Leaves.{fewOr0, plainLeaves}
+use Rattle.typing.specs.Leaves.{joinLeaves, leavesOf}
 
 -- Every type of plain parts has a leaf.
 pub some-leaf : (t : Ty) (n : ℕ) → leafCount t ≡ some n → 1 ≤ n
@@ -40,17 +41,17 @@ some-leaf (Ty.label a p) n h = no-path cc
 some-leaf (Ty.pcd a p) n h = no-path cc
 some-leaf (Ty.adv p) n h = no-path cc
 
-at-most-few : (x : Option ℕ) → atMost x ≤ leafLimit
-at-most-few none = omega arith
-at-most-few (some n) = go (leb n leafLimit) refl
+few-or-0 : (x : Option ℕ) → fewOr0 x ≤ leafLimit
+few-or-0 none = omega arith
+few-or-0 (some n) = go (leb n leafLimit) refl
   where
-    go : (b : Bool) → leb n leafLimit ≡ b → atMost (some n) ≤ leafLimit
+    go : (b : Bool) → leb n leafLimit ≡ b → fewOr0 (some n) ≤ leafLimit
     go true e = rw e (le-of e)
     go false e = rw e (omega arith)
 
 pub plain-few : (t : Ty) → plainLeaves t ≤ leafLimit
 unfolding plainLeaves
-plain-few t = at-most-few (leafCount t)
+plain-few t = few-or-0 (leafCount t)
 
 join-zero : (m : ℕ) → joinLeaves m 0 ≡ 0
 unfolding joinLeaves
@@ -61,10 +62,10 @@ join-zero m = go (eqb m 0) refl
     go false e = rw e
 
 -- The leaves of a pair are joined from its parts'.
-join-right : (x y : Option ℕ) → ((m : ℕ) → x ≡ some m → 1 ≤ m) → ((n : ℕ) → y ≡ some n → 1 ≤ n) → joinLeaves (atMost x) (atMost y) ≡ atMost (bothLeaves x y)
+join-right : (x y : Option ℕ) → ((m : ℕ) → x ≡ some m → 1 ≤ m) → ((n : ℕ) → y ≡ some n → 1 ≤ n) → joinLeaves (fewOr0 x) (fewOr0 y) ≡ fewOr0 (bothLeaves x y)
 unfolding joinLeaves
 join-right none y f g = refl
-join-right (some m) none f g = join-zero (atMost (some m))
+join-right (some m) none f g = join-zero (fewOr0 (some m))
 join-right (some m) (some n) f g = go (leb m leafLimit) refl (leb n leafLimit) refl
   where
     a : 1 ≤ m
@@ -79,7 +80,7 @@ join-right (some m) (some n) f g = go (leb m leafLimit) refl (leb n leafLimit) r
     past′ : leafLimit < n → 1 ≤ m → leafLimit < m + n
     past′ h k = omega arith
 
-    go : (p : Bool) → leb m leafLimit ≡ p → (q : Bool) → leb n leafLimit ≡ q → joinLeaves (atMost (some m)) (atMost (some n)) ≡ atMost (bothLeaves (some m) (some n))
+    go : (p : Bool) → leb m leafLimit ≡ p → (q : Bool) → leb n leafLimit ≡ q → joinLeaves (fewOr0 (some m)) (fewOr0 (some n)) ≡ fewOr0 (bothLeaves (some m) (some n))
     go true d true e = simp (d, e, ne-eqb m 0 (λ z. let w = a in omega arith), ne-eqb n 0 (λ z. let w = b in omega arith))
     go false d q e = simp (d, lt-leb (m + n) leafLimit (past (leb-false m leafLimit d) b))
     go true d false e = simp (d, e, lt-leb (m + n) leafLimit (past′ (leb-false n leafLimit e) a)) (join-zero m)

@@ -10,11 +10,11 @@ use Rattle.image.specs.Layout.{Layout}
 use Rattle.image.specs.Types.{termPlace, typeNo, typeOf, rootOf}
 use Rattle.image.proofs.Facts.{no-path}
 use Rattle.verdicts.specs.declared.Verdict.{Verdict}
-use Rattle.verdicts.specs.Answers.{require, inTurn}
+use Rattle.verdicts.specs.Answers.{isRefused, require, inTurn}
 use Rattle.verdicts.specs.Check.{check, checked, rootSetting, typing}
 use Rattle.rules.specs.Lent.{contextIn, settingIn}
-use Rattle.typing.specs.Turns.{isRefused, rootChecked, rootPlain, plainAt}
-use Rattle.typing.specs.Leaves.{plainLeaves}
+use Rattle.typing.specs.Turns.{rootChecked, rootPlain, plainAt}
+use Rattle.records.specs.Leaves.{plainLeaves}
 use Rattle.typing.proofs.PlainTypes.{plain-is}
 
 module _ (L : Layout) where

@@ -14,13 +14,14 @@ use Rattle.image.specs.Types.{termPlace, children}
 use Rattle.image.proofs.Facts.{no-path}
 use Rattle.image.proofs.Laid.{Good}
 use Rattle.verdicts.specs.declared.Verdict.{Verdict}
+use Rattle.verdicts.specs.Answers.{isRefused}
 use Rattle.verdicts.specs.Settings.{Setting}
 use Rattle.verdicts.specs.Check.{ruleFaults, ruleAt, settingAt, checkAll, checked}
 use Rattle.verdicts.proofs.Fuel.{checked-refused, checked-children}
 use Rattle.rules.specs.Lent.{settingIn}
 use Rattle.rules.specs.Scalars.{judged, ruleVerdict}
 use Rattle.rules.proofs.Scopes.{context-kept}
-use Rattle.typing.specs.Turns.{isRefused, ChildAt}
+use Rattle.typing.specs.Turns.{ChildAt}
 
 -- From child i on.
 unfoldable pub rest : Layout → Setting ℕ → ℕ → ℕ → Verdict

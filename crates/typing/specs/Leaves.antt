@@ -1,26 +1,13 @@
--- The number of leaves of a plain type (document 01, "The image"), and 0 for a type that is not plain.
+-- The leaves of plain types from their keys, type by type (document 01, "The image": "a pair of plain types, with at most 8 leaves").
 use Prim.Native.Nat.{ℕ, _+_, _≤_, _<_}
-use mathlib.Core.Path.{_≡_}
 use mathlib.Core.List.{List}
-use mathlib.Core.Option.{Option, none, some}
-use lib.ListN.{length, getD, drop}
+use lib.ListN.{length, getD}
 use lib.Dec.{eqb, leb, ltb}
 use Rattle.calculus.specs.Limits.{leafLimit}
-use Rattle.calculus.specs.Syntax.{Ty}
-use Rattle.calculus.specs.Plain.{leafCount}
 use Rattle.image.specs.Kinds.{TypeKind, typeRow}
-use Rattle.image.specs.Layout.{recordsOf}
-use Rattle.image.specs.Types.{typeOf}
 use Rattle.records.specs.Heads.{pick}
 use Rattle.records.specs.Keys.{keyKind, keyField0, keyField1}
 use Rattle.rules.specs.Scalars.{keyIs}
-
-abbrev pub atMost : Option ℕ → ℕ
-atMost none = 0
-atMost (some n) = pick (leb n leafLimit) n 0
-
-unfoldable pub plainLeaves : Ty → ℕ
-plainLeaves t = atMost (leafCount t)
 
 -- The leaves of a pair, from its parts'.
 unfoldable pub joinLeaves : ℕ → ℕ → ℕ
@@ -36,8 +23,3 @@ leavesOf x table =
 pub record Part (table : List ℕ) (t : ℕ) : Type 0 where
   pub inside : t < length table
   pub few : getD table t 0 ≤ leafLimit
-
--- A table of the leaves of the image's types, what stood behind them being kept.
-pub record LeafTable (b before table : List ℕ) : Type 0 where
-  pub each : (t : ℕ) → t < length (recordsOf b .types) → getD table t 0 ≡ plainLeaves (typeOf (recordsOf b) t)
-  pub behind : drop (length (recordsOf b .types)) table ≡ drop (length (recordsOf b .types)) before

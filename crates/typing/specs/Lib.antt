@@ -1,3 +1,3 @@
--- What the functions of the typing pass are proved equal to, beside the definition: verdicts in turn, and the leaves of plain types.
+-- What the functions of the typing pass are proved equal to, beside the definition: a term's children in turn, and the leaves of plain types (document 01, "Typing").
 pub mod Turns
 pub mod Leaves

@@ -1,7 +1,6 @@
--- The typing pass in parts: verdicts in turn, a child of a term where it stands in a scope, the root.
+-- The typing pass in parts: a child of a term where it stands in a scope, the root (document 01, "Typing"; "Turned back at the gate", refusals 13 to 16, "parent before children, left first").
 use Prim.Native.Nat.{ℕ, _+_, _≤_, _<_}
 use mathlib.Core.Path.{_≡_}
-use mathlib.Core.Bool.{Bool, true, false}
 use mathlib.Core.List.{List}
 use lib.ListN.{take, length}
 use lib.Dec.{ltb}
@@ -14,10 +13,6 @@ use Rattle.verdicts.specs.Answers.{require}
 use Rattle.verdicts.specs.Check.{settingAt, check, rootSetting}
 use Rattle.rules.specs.Lent.{Lent, IsTerm, settingIn}
 use Rattle.rules.specs.Scalars.{ruleVerdict}
-
-abbrev pub isRefused : Verdict → Bool
-isRefused Verdict.Accepted = false
-isRefused (Verdict.Refused r place) = true
 
 -- Term n of the image b passes its rule in the scope, at the domain c, and has a child i; and there is room for two variables more.
 pub record Passed (b terms keys scope : List ℕ) (len c n i : ℕ) : Type 0 where

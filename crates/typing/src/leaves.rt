@@ -6,12 +6,13 @@ use rules::types::is_kind;
 use rules::types::second_type;
 ghost use mathlib.Core.Path.{_≡_};
 ghost use Prim.Native.Nat.{_≤_, _<_};
-ghost use lib.ListN.{length, getD};
+ghost use lib.ListN.{length, getD, drop};
 ghost use Rattle.calculus.specs.Limits.{leafLimit};
 ghost use Rattle.image.specs.Layout.{recordsOf};
 ghost use Rattle.records.specs.Keys.{keyKind, keyField0, keyField1};
+ghost use Rattle.records.specs.Leaves.{Leaves};
 ghost use Rattle.rules.specs.Lent.{Types};
-ghost use Rattle.typing.specs.Leaves.{joinLeaves, leavesOf, Part, LeafTable};
+ghost use Rattle.typing.specs.Leaves.{joinLeaves, leavesOf, Part};
 
 fn join_leaves(m: u8, n: u8) -> u8
     requires { ⌜ (m ≤ leafLimit) × (n ≤ leafLimit) ⌝ }
@@ -47,10 +48,10 @@ fn leaves_of(key: u64, table: &[u8]) -> u8
     if kind < 19 { 1 } else { 0 }
 }
 
-// Fills the first places of a table with the leaves of the types.
+// Fills the first places of a table with the leaves of the types; what stands behind them is kept.
 pub fn set_leaves(image: &[u8], keys: &[u64], count: usize, table: &mut [u8])
     requires { ⌜ Types (now image) (now keys) × (count ≡ length (recordsOf (now image) .types)) × (count ≤ length (now table)) ⌝ }
-    ensures { λ _. ⌜ LeafTable (now (image .entry)) (now (table .entry)) (now (table .exit)) ⌝ }
+    ensures { λ _. ⌜ Leaves (now (image .entry)) (now (table .exit)) × (drop count (now (table .exit)) ≡ drop count (now (table .entry))) ⌝ }
 {
     let mut t: usize = 0;
     while t < count {

@@ -82,7 +82,7 @@ pub fn check_typing(
     let mut masks = [0u16; 16];
     rules::domains::set_masks(image, doms, domains, &mut masks);
     let v = check_root(image, kinds, &masks, terms, keys, count);
-    if pass::is_refused(v) {
+    if verdicts::is_refused(v) {
         return v;
     }
     check_plain(image, terms, keys, types, count)

@@ -6,6 +6,7 @@ use rules::rule::check_rule;
 use rules::terms::child;
 use rules::terms::child_count;
 use verdicts::Verdict;
+use verdicts::is_refused;
 ghost use mathlib.Core.Path.{_≡_};
 ghost use Prim.Native.Nat.{_+_, _*_, _≤_};
 ghost use lib.ListN.{length, take};
@@ -13,16 +14,6 @@ ghost use Rattle.image.specs.Layout.{recordsOf};
 ghost use Rattle.verdicts.specs.Check.{checked};
 ghost use Rattle.records.specs.Codes.{kindCodes};
 ghost use Rattle.rules.specs.Lent.{Lent, Masks, IsTerm, settingIn};
-ghost use Rattle.typing.specs.Turns.{isRefused};
-
-pub fn is_refused(v: Verdict) -> bool
-    ensures { λ r. ⌜ r ≡ isRefused v ⌝ }
-{
-    match v {
-        Verdict::Accepted => false,
-        Verdict::Refused(_, _) => true,
-    }
-}
 
 // A term and the terms below it. Each level goes to a lower number and binds two variables at most, which bounds the places
 // of the scope that are used.

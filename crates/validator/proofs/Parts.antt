@@ -10,11 +10,10 @@ use Rattle.image.specs.declared.Refusal.{Refusal}
 use Rattle.image.specs.Limits.{imageLimit, workLength, reportLength}
 use Rattle.image.specs.Layout.{layout, recordsOf}
 use Rattle.verdicts.specs.declared.Verdict.{Verdict}
-use Rattle.verdicts.specs.Answers.{require, inTurn}
+use Rattle.verdicts.specs.Answers.{isRefused, require, inTurn}
 use Rattle.verdicts.specs.Shape.{shape}
 use Rattle.verdicts.specs.Check.{typing}
 use Rattle.verdicts.specs.Verdicts.{laidOut, verdict}
-use Rattle.typing.specs.Turns.{isRefused}
 use Rattle.examine.specs.Examined.{checkedRecords, examined}
 
 -- The second answer, if the first accepts.

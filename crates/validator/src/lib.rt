@@ -40,7 +40,7 @@ pub fn validate(image: &[u8], work: usize, report: usize) -> Verdict
         return Verdict::Refused(Refusal::ImageTooLong, 0);
     }
     let v = examine_whole(image);
-    if typing::pass::is_refused(v) {
+    if verdicts::is_refused(v) {
         return v;
     }
     if work < 31753 {

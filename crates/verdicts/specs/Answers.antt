@@ -12,6 +12,10 @@ abbrev pub refusalOf : Verdict → Option (ℕ × ℕ)
 refusalOf Verdict.Accepted = none
 refusalOf (Verdict.Refused r place) = some (refusalNumber r, place)
 
+abbrev pub isRefused : Verdict → Bool
+isRefused Verdict.Accepted = false
+isRefused (Verdict.Refused r place) = true
+
 -- Refused at a place, unless the test holds.
 abbrev pub require : Bool → Refusal → ℕ → Verdict
 require true r place = Verdict.Accepted

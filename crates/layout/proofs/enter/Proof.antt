@@ -20,8 +20,8 @@ use Rattle.layout.proofs.enter.Tie as tie
 use Rattle.layout.proofs.enter.Reads as reads
 use Rattle.layout.proofs.enter.Lts as lts
 use Rattle.layout.proofs.fields.key_of.Reads as key-of-reads
-use Rattle.layout.proofs.tables.put.Reads as put-reads
-use Rattle.layout.proofs.tables.put_type.Reads as put-type-reads
+use Rattle.layout.proofs.places.put.Reads as put-reads
+use Rattle.layout.proofs.places.put_type.Reads as put-type-reads
 use Rattle.layout.proofs.tests.first_fault.Reads as first-fault-reads
 use Rattle.records.proofs.kinds.code_of.Reads as code-of-reads
 use Rattle.records.proofs.kinds.section_of.Reads as section-of-reads

@@ -2,8 +2,10 @@
 use Rattle.prints.proofs.Printed.{no-number, no-room, printed}
 use Rattle.flat.specs.Registers.{setAt}
 use denote.Ref.{now}
+use native.Mathlib.Omega.{arith}
 use mathlib.Core.Path.{ap}
-use Prim.Native.Nat.{_+_}
+use Prim.Native.Nat.{_+_, _≤_}
+use lib.ListN.{length}
 use borrow.Author.Needs.{needs}
 use Rattle.prints.proofs.reduce_print.Statement.{statement}
 use Rattle.prints.proofs.reduce_print.Tie as tie
@@ -26,23 +28,33 @@ halt-requires c κs = search needs
 returns-2 : tie.Need-returns-2
 returns-2 c = let a = c .before .before .before .before .before .before .args in λ w f. no-room w (now (a .log)) (a .r) _ _ (c .before .before .before .before .tag .ensures) f (c .before .before .before .if1 .left) (c .before .if2 .taken) (c .halt .ensures)
 
+cast-put-log : tie.Need-cast-put-log
+cast-put-log c = search needs
+
 body-requires : tie.Need-body-requires
 body-requires c κs = search needs
 
-put-record-requires : tie.Need-put-record-requires
-put-record-requires c κs = search needs
+cast-put-log-2 : tie.Need-cast-put-log-2
+cast-put-log-2 c = search needs
+
+put-log-requires : tie.Need-put-log-requires
+put-log-requires c κs = search needs
 
 give-requires : tie.Need-give-requires
 give-requires c κs = search needs
 
 add-q : tie.Need-add-q
-add-q c = search needs
+add-q c =
+    let s = c .before .before .before .before .before .before .before .before .before .before .before .before .before in
+    let i = c .before .before .before .before .before .before .before .before .if2 .left in let h : s .args .r .at + 10 ≤ length (now (s .args .log)) = omega arith in search needs
 
 same-length : tie.Need-same-length
 same-length c = search needs
 
 returns-3 : tie.Need-returns-3
-returns-3 c = let a = c .before .before .before .before .before .before .before .before .before .before .before .before .args in λ w f. printed w (now (a .log)) (a .r) _ _ (c .before .before .before .before .before .before .before .before .before .before .tag .ensures) f _ _ (c .before .before .before .before .before .before .before .before .before .if1 .left) (c .before .before .before .before .before .before .before .if2 .left) (search needs) (c .before .before .before .before .before .body .ensures) (c .before .before .before .before .put-record .ensures) (search needs) (ap (setAt (a .r .at + 10)) (c .before .give .ensures))
+returns-3 c =
+    let a = c .before .before .before .before .before .before .before .before .before .before .before .before .before .args in
+    λ w f. printed w (now (a .log)) (a .r) _ _ (c .before .before .before .before .before .before .before .before .before .before .before .tag .ensures) f _ _ (c .before .before .before .before .before .before .before .before .before .before .if1 .left) (c .before .before .before .before .before .before .before .before .if2 .left) (search needs) (c .before .before .before .before .before .body .ensures) (c .before .before .before .before .put-log .ensures) (search needs) (ap (setAt (a .r .at + 10)) (c .before .give .ensures))
 
 pub reduce-print-spec : {M : Type 1} → statement M
 reduce-print-spec =
@@ -54,8 +66,10 @@ reduce-print-spec =
     sub-if2
     halt-requires
     returns-2
+    cast-put-log
     body-requires
-    put-record-requires
+    cast-put-log-2
+    put-log-requires
     give-requires
     add-q
     same-length

@@ -9,7 +9,7 @@ use Rattle.image.specs.Layout.{recordsOf}
 use Rattle.image.specs.Types.{termPlace, typeNo, typeOf, rootOf}
 use Rattle.rules.proofs.Located.{good-of}
 use Prim.Native.Nat.{_-_}
-use Rattle.typing.specs.Leaves.{plainLeaves}
+use Rattle.records.specs.Leaves.{plainLeaves}
 use Rattle.typing.proofs.Root.{root-plain}
 
 slice-aggregate-set-leaves : tie.Need-slice-aggregate-set-leaves
@@ -47,7 +47,7 @@ returns : tie.Need-returns
 returns c =
     let r : (c .before .before .before .before .before .before .before .before .before .before .before .args .count) - 1 ≡ rootOf (recordsOf (now (c .before .before .before .before .before .before .before .before .before .before .before .args .image))) = ap (λ m. m - 1) (c .before .before .before .before .before .before .before .before .before .before .before .pre .3) in
     let t : (c .before .before .before .term-type .result) .0 ≡ typeNo (recordsOf (now (c .before .before .before .before .before .before .before .before .before .before .before .args .image))) (rootOf (recordsOf (now (c .before .before .before .before .before .before .before .before .before .before .before .args .image)))) = (c .before .before .before .term-type .ensures .0) ∙ ap (λ n. typeNo (recordsOf (now (c .before .before .before .before .before .before .before .before .before .before .before .args .image))) n) r in
-    let n : (c .before .before .leaves-at .result) ≡ plainLeaves (typeOf (recordsOf (now (c .before .before .before .before .before .before .before .before .before .before .before .args .image))) (typeNo (recordsOf (now (c .before .before .before .before .before .before .before .before .before .before .before .args .image))) (rootOf (recordsOf (now (c .before .before .before .before .before .before .before .before .before .before .before .args .image)))))) = (c .before .before .leaves-at .ensures) ∙ (c .before .before .before .before .before .before .set-leaves .ensures) .each (c .before .before .before .term-type .result .0) (c .before .before .before .term-type .ensures .1) ∙ ap (λ a. plainLeaves (typeOf (recordsOf (now (c .before .before .before .before .before .before .before .before .before .before .before .args .image))) a)) t in
+    let n : (c .before .before .leaves-at .result) ≡ plainLeaves (typeOf (recordsOf (now (c .before .before .before .before .before .before .before .before .before .before .before .args .image))) (typeNo (recordsOf (now (c .before .before .before .before .before .before .before .before .before .before .before .args .image))) (rootOf (recordsOf (now (c .before .before .before .before .before .before .before .before .before .before .before .args .image)))))) = (c .before .before .leaves-at .ensures) ∙ (c .before .before .before .before .before .before .set-leaves .ensures .0) .counts (c .before .before .before .term-type .result .0) (c .before .before .before .term-type .ensures .1) ∙ ap (λ a. plainLeaves (typeOf (recordsOf (now (c .before .before .before .before .before .before .before .before .before .before .before .args .image))) a)) t in
     let o : (c .before .term-place .result) ≡ termPlace (recordsOf (now (c .before .before .before .before .before .before .before .before .before .before .before .args .image))) (rootOf (recordsOf (now (c .before .before .before .before .before .before .before .before .before .before .before .args .image)))) = (c .before .term-place .ensures .0) ∙ ap (λ n. termPlace (recordsOf (now (c .before .before .before .before .before .before .before .before .before .before .before .args .image))) n) r in
     (c .plain-at .ensures) ∙ rw (n, o) (root-plain (recordsOf (now (c .before .before .before .before .before .before .before .before .before .before .before .args .image))))
 

@@ -5,7 +5,7 @@ use Rattle.validator.proofs.validate.Statement.{statement}
 use Rattle.validator.proofs.validate.Tie as tie
 use Rattle.validator.proofs.validate.Reads as reads
 use Rattle.validator.proofs.validate.Lts as lts
-use Rattle.typing.proofs.pass.is_refused.Reads as is-refused-reads
+use Rattle.verdicts.proofs.is_refused.Reads as is-refused-reads
 use Rattle.validator.proofs.examine_whole.Reads as examine-whole-reads
 
 -- src/lib.rt:31:9

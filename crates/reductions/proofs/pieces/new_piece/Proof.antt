@@ -1,5 +1,6 @@
 -- One more piece; or no room is left.
-use Rattle.reductions.proofs.Reduced.{full-made, room-made, stored-made, piece-fits}
+use Rattle.reductions.proofs.Reduced.{full-made, room-made, piece-fits}
+use Rattle.operands.proofs.Made.{stored-made}
 use Rattle.flat.specs.States.{State, give}
 use lib.Dec.{ltb}
 use Rattle.flat.specs.Registers.{setNp}

@@ -1,5 +1,6 @@
 -- A wrong operand; one more installed advice; or no room is left.
-use Rattle.reductions.proofs.Reduced.{stuck-made, tagged-made, full-made, room-made, stored-made, install-fits}
+use Rattle.reductions.proofs.Reduced.{stuck-made, tagged-made, full-made, room-made, install-fits}
+use Rattle.operands.proofs.Made.{stored-made}
 use Rattle.flat.specs.States.{State}
 use lib.Dec.{ltb}
 use Rattle.tables.specs.View.{memoryOf, Holds}

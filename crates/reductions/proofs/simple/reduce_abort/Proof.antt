@@ -1,5 +1,5 @@
 -- A step is made, and the machine halts.
-use Rattle.reductions.proofs.Reduced.{regs-made}
+use Rattle.operands.proofs.Made.{regs-made}
 use Rattle.flat.specs.Registers.{setLeft}
 use mathlib.Core.Path.{refl, ap}
 use Prim.Native.Nat.{_-_}

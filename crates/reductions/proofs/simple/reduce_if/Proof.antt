@@ -1,5 +1,6 @@
 -- A wrong operand; or the chosen term goes on.
-use Rattle.reductions.proofs.Reduced.{stuck-made, tagged-made, regs-made, term-fits, branch-fits}
+use Rattle.reductions.proofs.Reduced.{stuck-made, tagged-made, term-fits, branch-fits}
+use Rattle.operands.proofs.Made.{regs-made}
 use Rattle.flat.specs.States.{goOn}
 use mathlib.Core.Path.{refl, ap, _∙_}
 use borrow.Author.Needs.{needs}

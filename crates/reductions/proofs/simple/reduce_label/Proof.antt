@@ -1,5 +1,6 @@
 -- One more label; or no room is left.
-use Rattle.reductions.proofs.Reduced.{full-made, room-made, regs-made, label-fits}
+use Rattle.reductions.proofs.Reduced.{full-made, room-made, label-fits}
+use Rattle.operands.proofs.Made.{regs-made}
 use Rattle.flat.specs.States.{State, give}
 use lib.Dec.{ltb}
 use Rattle.flat.specs.declared.Regs.{Regs}

@@ -1,5 +1,6 @@
 -- A wrong operand; or unit is given.
-use Rattle.reductions.proofs.Reduced.{stuck-made, tagged-made, regs-made}
+use Rattle.reductions.proofs.Reduced.{stuck-made, tagged-made}
+use Rattle.operands.proofs.Made.{regs-made}
 use mathlib.Core.Path.{refl}
 use borrow.Author.Needs.{needs}
 use Rattle.reductions.proofs.simple.reduce_lower.Statement.{statement}

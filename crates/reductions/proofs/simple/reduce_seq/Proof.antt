@@ -1,5 +1,6 @@
 -- A wrong operand; or the second term goes on.
-use Rattle.reductions.proofs.Reduced.{stuck-made, tagged-made, regs-made, term-fits, below-1024}
+use Rattle.reductions.proofs.Reduced.{stuck-made, tagged-made, term-fits, below-1024}
+use Rattle.operands.proofs.Made.{regs-made}
 use Rattle.flat.specs.States.{goOn}
 use mathlib.Core.Path.{refl, ap, _∙_}
 use borrow.Author.Needs.{needs}

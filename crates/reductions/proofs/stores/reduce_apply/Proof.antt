@@ -1,5 +1,6 @@
 -- A wrong operand; the argument bound and the body going on; or no room is left.
-use Rattle.reductions.proofs.Reduced.{stuck-made, tagged-made, full-made, room-made, stored-made, bound-fits, below-1024, one-more}
+use Rattle.reductions.proofs.Reduced.{stuck-made, tagged-made, full-made, room-made, bound-fits, below-1024, one-more}
+use Rattle.operands.proofs.Made.{stored-made}
 use Rattle.flat.specs.States.{State}
 use lib.Dec.{ltb}
 use Prim.Native.Nat.{ℕ, _+_, _/_, _%_}

@@ -1,5 +1,6 @@
 -- One more cell; or no room is left.
-use Rattle.reductions.proofs.Reduced.{full-made, room-made, stored-made, cell-fits}
+use Rattle.reductions.proofs.Reduced.{full-made, room-made, cell-fits}
+use Rattle.operands.proofs.Made.{stored-made}
 use Rattle.flat.specs.States.{State, give}
 use lib.Dec.{ltb}
 use Rattle.tables.specs.View.{memoryOf, Holds}

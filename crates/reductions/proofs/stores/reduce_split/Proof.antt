@@ -1,5 +1,6 @@
 -- A wrong operand; both parts bound and the body going on; or no room is left.
-use Rattle.reductions.proofs.Reduced.{stuck-made, tagged-made, full-made, room-made, stored-made, bound-fits, below-1024, two-more, no-two-more}
+use Rattle.reductions.proofs.Reduced.{stuck-made, tagged-made, full-made, room-made, bound-fits, below-1024, two-more, no-two-more}
+use Rattle.operands.proofs.Made.{stored-made}
 use Rattle.tables.specs.View.{memoryOf, Holds}
 use Rattle.flat.specs.Memory.{putBinding, binding, pieceFirst, pieceSecond}
 use Rattle.flat.specs.States.{State, goOn}

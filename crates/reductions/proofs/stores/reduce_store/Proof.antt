@@ -1,5 +1,6 @@
 -- A wrong operand; or the cell's value is another.
-use Rattle.reductions.proofs.Reduced.{stuck-made, tagged-made, stored-made}
+use Rattle.reductions.proofs.Reduced.{stuck-made, tagged-made}
+use Rattle.operands.proofs.Made.{stored-made}
 use Rattle.tables.specs.View.{memoryOf, Holds}
 use Rattle.flat.specs.Memory.{putCell, cellNote}
 use denote.Ref.{now}

@@ -4,7 +4,7 @@ use denote.Ref.{now}
 use mathlib.Core.Path.{_≡_, refl}
 use lib.ListN.{length}
 use Rattle.area.specs.Bytes.{bytesOf}
-use Rattle.report.specs.Records.{bytes16}
+use Rattle.area.specs.Records.{bytes16}
 use Rattle.report.specs.Written.{plainCellKind, leavesBytes, leavesIn}
 use Rattle.report.proofs.Lengths.{slots-short}
 use Rattle.report.proofs.Put.{header-last}

@@ -4,7 +4,7 @@ use denote.Ref.{now}
 use mathlib.Core.Path.{refl}
 use Rattle.area.specs.Bytes.{bytesOf}
 use Rattle.area.proofs.Over.{onward}
-use Rattle.report.specs.Records.{bytes16}
+use Rattle.area.specs.Records.{bytes16}
 use borrow.Author.Needs.{needs}
 use Rattle.report.proofs.numbers.put_header.Statement.{statement}
 use Rattle.report.proofs.numbers.put_header.Tie as tie

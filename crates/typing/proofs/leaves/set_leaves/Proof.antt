@@ -10,7 +10,7 @@ use Rattle.image.specs.Layout.{recordsOf}
 use Rattle.image.specs.Types.{typeOf}
 use Prim.Native.Nat.{ℕ, _-_, _≤_, _<_}
 use lib.Seq.{drop-set-lt, getD-set-same, getD-set-other}
-use Rattle.typing.specs.Leaves.{plainLeaves}
+use Rattle.records.specs.Leaves.{plainLeaves}
 use Rattle.typing.proofs.PlainTypes.{plain-few, pair-parts, leaves-right}
 use borrow.Author.Count.{below-more}
 
@@ -67,7 +67,8 @@ returns : tie.Need-returns Inv-loop μ-loop
 returns c =
     let i = (c .before .loop .inv) in
     let m = (c .before .before .before .before .before .pre .1) in
-    record { each = λ u z. i .2 u (omega arith); behind = rw (← m) (i .3) }
+    let l = (c .before .before .before .before .before .pre .2) in
+    (record { enough = omega (arith, i .1); counts = λ u z. i .2 u (omega arith) }, i .3)
 
 pub set-leaves-spec : {M : Type 1} → statement M
 set-leaves-spec =

@@ -9,7 +9,7 @@ use Rattle.typing.proofs.pass.+check_term.Lts-check_term as check-term-
 use Rattle.rules.proofs.rule.check_rule.Reads as check-rule-reads
 use Rattle.rules.proofs.terms.child.Reads as child-reads
 use Rattle.rules.proofs.terms.child_count.Reads as child-count-reads
-use Rattle.typing.proofs.pass.is_refused.Reads as is-refused-reads
+use Rattle.verdicts.proofs.is_refused.Reads as is-refused-reads
 use Rattle.typing.proofs.scope.child_setting.Reads as child-setting-reads
 use Rattle.typing.proofs.pass.+check_term.{statement}
 use Rattle.typing.proofs.pass.+check_term.Tie.{close}
@@ -23,7 +23,7 @@ use Rattle.verdicts.specs.Check.{checked}
 use Rattle.rules.specs.Lent.{settingIn}
 use Rattle.rules.specs.Scalars.{ruleVerdict}
 use Rattle.rules.proofs.Located.{good-of}
-use Rattle.typing.specs.Turns.{isRefused}
+use Rattle.verdicts.specs.Answers.{isRefused}
 use Rattle.typing.proofs.TermPass.{rest, start, refused-here, step-passes, step-stops, finish, accepted-is, still-ruled, child-checked, still-kept}
 
 abbrev μ-check-term : Measures 6 check-term-kinds.ps ℕ

@@ -1,0 +1,2 @@
+-- The machine's run of an image.
+pub mod Machine

@@ -1,0 +1,2 @@
+// The machine's run of an accepted image says what the calculus's run of its program says: definitions in specs/, theorems in
+// proofs/.

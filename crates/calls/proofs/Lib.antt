@@ -1,0 +1,2 @@
+-- Runs of accepted images.
+pub mod Accepted

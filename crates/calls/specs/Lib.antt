@@ -1,0 +1,3 @@
+-- What a whole call answers and leaves.
+pub mod Runs
+pub mod Calls

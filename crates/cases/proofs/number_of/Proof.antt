@@ -1,0 +1,65 @@
+use Prim.Native.Nat.{_+_, _-_, _≤_}
+use native.Mathlib.Omega.{arith}
+use mathlib.Core.Path.{_≡_, refl, sym, ap, _∙_}
+use lib.ListN.{length, drop}
+use Rattle.cases.specs.Numerals.{numeralAfter, numeral}
+use Rattle.cases.proofs.Digits.{digits-more, digits-all}
+use borrow.Author.Needs.{needs}
+use Rattle.cases.proofs.number_of.Statement.{statement}
+use Rattle.cases.proofs.number_of.Tie as tie
+use Rattle.cases.proofs.number_of.Reads as reads
+use Rattle.cases.proofs.number_of.Lts as lts
+use Rattle.cases.proofs.with_digit.Reads as with-digit-reads
+
+abbrev Inv-loop : tie.InvT-loop
+Inv-loop digits n₀ i₀ n i = (i ≤ length digits) × (numeral digits ≡ numeralAfter n (drop i digits))
+
+abbrev μ-loop : tie.MeasureT-loop
+μ-loop digits n₀ i₀ n i = length digits - i
+
+-- src/main.rt:20:5
+loop-holds : tie.Need-loop-holds Inv-loop μ-loop
+loop-holds c = (omega arith, refl)
+
+-- src/main.rt:21:27
+shared-slice-read-with-digit : tie.Need-shared-slice-read-with-digit Inv-loop μ-loop
+shared-slice-read-with-digit c = search needs
+
+-- src/main.rt:21:9
+with-digit-requires : tie.Need-with-digit-requires Inv-loop μ-loop
+with-digit-requires c κs = search needs
+
+-- src/main.rt:22:9
+add-i : tie.Need-add-i Inv-loop μ-loop
+add-i c = search needs
+
+-- src/main.rt:20:5
+loop-less : tie.Need-loop-less Inv-loop μ-loop
+loop-less c = search needs
+
+-- src/main.rt:20:5
+loop-again : tie.Need-loop-again Inv-loop μ-loop
+loop-again c =
+    let l = c .before .before .before .loop in
+    let ds = c .before .before .before .before .before .args .digits .now in
+    (search needs, l .inv .1 ∙ digits-more ds (l .n) (l .i) (search needs) ∙ ap (λ n. numeralAfter n (drop (l .i + 1) ds)) (sym (c .with-digit .ensures)))
+
+-- src/main.rt:15:1
+returns : tie.Need-returns Inv-loop μ-loop
+returns c =
+    let l = c .before .loop in
+    sym (l .inv .1 ∙ digits-all _ (l .n) (l .i) (search needs))
+
+pub number-of-spec : {M : Type 1} → statement M
+number-of-spec =
+    tie.close
+    (tie.spec
+    Inv-loop
+    μ-loop
+    loop-holds
+    shared-slice-read-with-digit
+    with-digit-requires
+    add-i
+    loop-less
+    loop-again
+    returns)

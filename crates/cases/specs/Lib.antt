@@ -1,0 +1,2 @@
+-- Decimal numbers in arguments.
+pub mod Numerals

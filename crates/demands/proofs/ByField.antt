@@ -1,0 +1,79 @@
+-- The domains that an accepted image names are below 16, so that high by the 2 bytes that a domain is written to is high.
+use Prim.Native.Nat.{ℕ, zero, suc, _-_, _%_, _<_}
+use native.Mathlib.Omega.{arith}
+use native.Mathlib.Nat.{mod-eq-of-lt}
+use mathlib.Core.Path.{_≡_, refl, ap, ap₂, fun-ext, _∙_}
+use mathlib.Core.Bool.{Bool, true, false, not}
+use mathlib.Core.List.{List, [], _∷_}
+use lib.ListN.{length, getD}
+use Rattle.calculus.specs.Syntax.{Dom, Ty}
+use Rattle.calculus.specs.Plain.{domOf}
+use Rattle.image.specs.Limits.{domainLimit}
+use Rattle.image.specs.Bytes.{fieldAt, fieldsFrom, words}
+use Rattle.image.specs.Kinds.{a-domain, free, TermKind, termRow}
+use Rattle.image.specs.Layout.{Layout}
+use Rattle.image.specs.Types.{termPlace, termKind, statedType, others, children, rootOf}
+use Rattle.image.specs.Program.{Program, node, blank, more, subtrees, tree, program, lowBody, blanked, blankeds}
+use Rattle.image.proofs.Laid.{Below, Good}
+use Rattle.rows.proofs.Fields.{type-domain}
+use Rattle.report.specs.Fits.{shortSize, byField}
+
+pub small-field : (high : Dom → Bool) (d : Dom) → d < domainLimit → byField high d ≡ high d
+small-field high d l = let e : d % shortSize ≡ d = mod-eq-of-lt (omega arith) in ap high e
+
+-- Two sets that have the same domains below 16 tell the same low bodies of the term at o, of kind k and type t.
+module _ (hi hi′ : Dom → Bool) (same : (d : Dom) → d < domainLimit → hi d ≡ hi′ d) where
+  low-same : (b : List ℕ) (o : ℕ) (t : Ty) → domOf t < domainLimit → (k : TermKind) → ((i : ℕ) → getD (termRow k .fields) i free ≡ a-domain → fieldAt b o i < domainLimit)
+      → (i : ℕ) → lowBody hi k t (fieldsFrom b o 1 (length (termRow k .fields) - 1)) i ≡ lowBody hi′ k t (fieldsFrom b o 1 (length (termRow k .fields) - 1)) i
+  unfolding words
+  low-same b o t l TermKind.unit h i = refl
+  low-same b o t l TermKind.truth h i = refl
+  low-same b o t l TermKind.number h i = refl
+  low-same b o t l TermKind.var h i = refl
+  low-same b o t l TermKind.seq h i = refl
+  low-same b o t l TermKind.print h i = refl
+  low-same b o t l TermKind.ite h i = refl
+  low-same b o t l TermKind.pair h i = refl
+  low-same b o t l TermKind.split h i = refl
+  low-same b o t l TermKind.fun h i = ap not (same (domOf t) l)
+  low-same b o t l TermKind.app h i = refl
+  low-same b o t l TermKind.arith h i = refl
+  low-same b o t l TermKind.newLabel h i = refl
+  low-same b o t l TermKind.mark h i = refl
+  low-same b o t l TermKind.pcd h i = refl
+  low-same b o t l TermKind.adv h zero = refl
+  low-same b o t l TermKind.adv h (suc i) = ap not (same (domOf t) l)
+  low-same b o t l TermKind.install h i = refl
+  low-same b o t l TermKind.newCell h i = refl
+  low-same b o t l TermKind.read h i = refl
+  low-same b o t l TermKind.store h i = refl
+  low-same b o t l TermKind.lower h i = ap not (same (fieldAt b o 1) (h 1 refl))
+  low-same b o t l TermKind.abort h i = refl
+  low-same b o t l TermKind.byte h i = refl
+
+  -- Subtrees that are blanked to the same are so beside each other, whichever of them are low bodies.
+  subtrees-same : (g : ℕ → Program) (m : ℕ) → ((e : ℕ) → e < m → blanked hi (g e) ≡ blanked hi′ (g e)) → (es : List ℕ) → Below m es
+      → (low : ℕ → Bool) → blankeds hi (subtrees g es) low ≡ blankeds hi′ (subtrees g es) low
+  unfolding blanked
+  subtrees-same g m h [] l low = refl
+  subtrees-same g m h (e ∷ es) l low = ap₂ more (pick (low 0) (h e (l .0))) (subtrees-same g m h es (l .1) (λ i. low (suc i)))
+    where
+      pick : (s : Bool) → blanked hi (g e) ≡ blanked hi′ (g e) → _≡_ {A = Program} (elim s [ true ↦ blank | false ↦ blanked hi (g e) ]) (elim s [ true ↦ blank | false ↦ blanked hi′ (g e) ])
+      pick true q = refl
+      pick false q = q
+
+  module _ (L : Layout) (good : Good L) where
+    tree-same : (f n : ℕ) → n < length (L .terms) → blanked hi (tree L f n) ≡ blanked hi′ (tree L f n)
+    unfolding tree blanked
+    tree-same zero n l = refl
+    tree-same (suc f) n l =
+        let ok = good .terms n l in
+        let few = good .few-domains in
+        let low = low-same (L .image) (termPlace L n) (statedType L n) (type-domain L good _ (ok .typed)) (termKind L n) (λ i e. let z = ok .domained i e in omega arith) in
+        ap (node (termKind L n) (statedType L n) (others L n))
+        (subtrees-same (λ e. tree L f e) n (λ e m. tree-same f e (omega arith)) (children L n) (ok .below) (lowBody hi (termKind L n) (statedType L n) (others L n))
+        ∙ ap (blankeds hi′ (subtrees (λ e. tree L f e) (children L n))) (fun-ext low))
+
+    pub program-same : 0 < length (L .terms) → blanked hi (program L) ≡ blanked hi′ (program L)
+    unfolding program
+    program-same h = tree-same (length (L .terms)) (rootOf L) (omega arith)

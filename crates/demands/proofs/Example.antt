@@ -1,0 +1,78 @@
+-- Two calls compared: images that print different numbers at domain 1, below 0, seen from domain 0 (document 01, "Two runs compared").
+use Prim.Native.Nat.{ℕ, zero, suc, _<_}
+use native.Mathlib.Omega.{arith}
+use mathlib.Core.Path.{_≡_, refl, sym}
+use mathlib.Core.Bool.{Bool, true}
+use mathlib.Core.List.{List, [], _∷_}
+use lib.ListN.{length, replicate}
+use lib.Dec.{eqb}
+use Rattle.calculus.specs.Combinators.{cases}
+use Rattle.calculus.specs.Syntax.{Dom}
+use Rattle.calculus.specs.State.{picked}
+use Rattle.calculus.specs.Subst.{subst}
+use Rattle.calculus.specs.Answer.{carry, if-room, with, spend}
+use Rattle.calculus.specs.Step.{step}
+use Rattle.calculus.specs.Run.{after, run}
+use Rattle.calculus.specs.Report.{leaves}
+use Rattle.image.specs.Limits.{workLength, reportLength}
+use Rattle.image.specs.Tests.{all, allOf, allBelow, anyBelow, firstFault}
+use Rattle.image.specs.Bytes.{words}
+use Rattle.image.specs.Kinds.{find}
+use Rattle.image.specs.Layout.{fieldsIn, tests, walk, layout, recordsOf}
+use Rattle.image.specs.Types.{typeOut, typeFrom, typeOf}
+use Rattle.image.specs.Program.{tree, program, assemble, toTm}
+use Rattle.image.proofs.Facts.{no-path, eq-of}
+use Rattle.verdicts.specs.Answers.{requireFrom, inTurn}
+use Rattle.verdicts.specs.Order.{bits, order, leq, atFault}
+use Rattle.verdicts.specs.Shape.{count, uses, depthsFrom, depths, shape}
+use Rattle.verdicts.specs.Check.{checkAll, check, typing}
+use Rattle.verdicts.specs.Verdicts.{verdict}
+use Rattle.verdicts.proofs.Images.{little, rec, image, one-domain, two-domains, unit, number, literal}
+use Rattle.verdicts.proofs.Examples.{lowered, same-lowered}
+use Rattle.area.specs.Bytes.{bytesOf, over, cleared}
+use Rattle.report.specs.Records.{recordsBytes}
+use Rattle.calls.specs.Calls.{Left, called}
+use Rattle.demands.specs.Calls.{Runs, logWritten}
+use Rattle.demands.specs.Compare.{HighSet, Compared, SameLeft}
+use Rattle.demands.proofs.Demands.{demand3}
+
+abbrev mainlineOnly : Dom → Bool
+mainlineOnly d = eqb d 0
+
+high-mainline : HighSet (recordsOf (lowered 1)) mainlineOnly
+unfolding lowered leq order bits recordsOf layout walk tests find words fieldsIn all allOf allBelow firstFault little rec image two-domains number unit literal
+high-mainline = record { mainline = refl; up = up }
+  where
+    up : (d q : Dom) → d < 2 → q < 2 → eqb d 0 ≡ true → leq (recordsOf (lowered 1)) d q ≡ true → eqb q 0 ≡ true
+    up zero zero l m h k = refl
+    up zero (suc zero) l m h k = no-path (sym k)
+    up zero (suc (suc q)) l m h k = absurd (omega arith)
+    up (suc d) q l m h k = let z : suc d ≡ 0 = eq-of h in absurd (omega arith)
+
+compared : Compared mainlineOnly (lowered 1) (lowered 2)
+unfolding lowered recordsOf layout walk tests find words fieldsIn all allOf allBelow firstFault little rec image two-domains number unit literal
+compared = record { domains = refl; highs = high-mainline; programs = same-lowered }
+
+abbrev zeros : ℕ → List ℕ
+zeros n = replicate n 0
+
+-- Calls with an empty frame, budget 100 and a log of 20 bytes: both run.
+unfoldable pub lowCall : ℕ → Left
+lowCall n = called (lowered n) [] 100 (zeros 20) (zeros reportLength) (zeros workLength)
+
+low-runs : Runs (lowered 1) (zeros reportLength) (zeros workLength) × Runs (lowered 2) (zeros reportLength) (zeros workLength)
+unfolding lowered verdict inTurn requireFrom walk layout recordsOf tests find words fieldsIn all allOf allBelow anyBelow firstFault shape atFault leq order bits count uses depths depthsFrom typing check checkAll typeOf typeFrom typeOut
+    little rec image one-domain two-domains unit number literal
+low-runs = (refl, refl)
+
+-- Their logs differ, at domain 1; what is seen from domain 0 does not.
+pub low-logs : (logWritten (lowCall 1) ≡ 10 ∷ 0 ∷ 64 ∷ 0 ∷ 1 ∷ 0 ∷ 1 ∷ 0 ∷ 0 ∷ 0 ∷ []) × (logWritten (lowCall 2) ≡ 10 ∷ 0 ∷ 64 ∷ 0 ∷ 1 ∷ 0 ∷ 2 ∷ 0 ∷ 0 ∷ 0 ∷ [])
+unfolding lowCall called lowered verdict inTurn requireFrom walk layout recordsOf tests find words fieldsIn all allOf allBelow anyBelow firstFault shape atFault leq order bits count uses depths depthsFrom typing check checkAll typeOf typeFrom typeOut
+    little rec image one-domain two-domains unit number literal
+    program tree toTm assemble run after cases step subst carry if-room with spend picked leaves
+    over cleared bytesOf recordsBytes
+low-logs = (refl, refl)
+
+pub low-same : SameLeft mainlineOnly (lowCall 1) (lowCall 2)
+unfolding lowCall
+low-same = demand3 mainlineOnly (lowered 1) (lowered 2) compared [] 100 100 (zeros 20) (zeros 20) (zeros reportLength) (zeros reportLength) (zeros workLength) (zeros workLength) (low-runs .0) (low-runs .1)

@@ -1,0 +1,2 @@
+-- The reduction of each kind.
+pub mod ByKind

@@ -1,0 +1,3 @@
+-- The engine's call.
+pub mod Ran
+pub mod Gate

@@ -1,0 +1,88 @@
+-- What the run of an accepted image leaves, from what the machine, the report and the clearing leave.
+use Prim.Native.Nat.{ℕ, _+_, _-_, _*_, _%_, _≤_, _<_}
+use native.Mathlib.Omega.{arith}
+use mathlib.Core.Path.{_≡_, sym, ap, ap₂, subst, _∙_}
+use mathlib.Core.List.{List, _++_}
+use lib.ListN.{length, drop, replicate}
+use Rattle.image.specs.declared.Refusal.{Refusal}
+use Rattle.image.specs.Refusals.{refusalNumber}
+use Rattle.image.specs.Limits.{workLength}
+use Rattle.image.specs.Layout.{recordsOf}
+use Rattle.verdicts.specs.declared.Verdict.{Verdict}
+use Rattle.verdicts.proofs.Accept.{accepted-iff}
+use Rattle.records.specs.Tables.{Tables}
+use Rattle.rules.specs.Lent.{Types}
+use Rattle.rules.proofs.Located.{good-of}
+use Rattle.area.specs.Bytes.{over, cleared}
+use Rattle.area.specs.Memory.{wordCount}
+use Rattle.area.proofs.Memory.{length-words, length-beside}
+use Rattle.flat.specs.declared.Regs.{Regs}
+use Rattle.flat.specs.Memory.{Memory}
+use Rattle.flat.specs.States.{State}
+use Rattle.flat.specs.FlatRun.{flatRun}
+use Rattle.rows.specs.RowsOf.{rowsOf}
+use Rattle.rows.specs.TermAt.{AreBytes}
+use Rattle.tables.specs.View.{memoryOf}
+use Rattle.operands.specs.Phases.{Moved}
+use Rattle.calls.specs.declared.Answer.{Answer}
+use Rattle.calls.specs.Runs.{Accepts, runOf}
+use Rattle.calls.specs.Calls.{leftBy, verdictAsNumber, callNumber}
+use Rattle.results.specs.Ended.{reportIn, answerIn}
+use Rattle.agreement.specs.Machine.{SameRows, LeavesRun}
+use Rattle.agreement.proofs.Machine.{padded-rows}
+use Rattle.agreement.proofs.Tables.{image-leaves}
+
+-- The keys are those of the image's types, which are at most 128.
+pub types-in : (b ds ts ks : List ℕ) → Tables b ds ts ks → Types b ks
+types-in b ds ts ks T = record { laid-out = T .laid-out; enough = T .enough; keys = T .keys }
+
+pub few-types : (b ds ts ks : List ℕ) (n : ℕ) → Tables b ds ts ks → n ≡ length (recordsOf b .types) → n ≤ 128
+few-types b ds ts ks n T e = let f = good-of b (T .laid-out) .few-types in omega arith
+
+-- An accepted image has a term.
+pub some-term : (b : List ℕ) (count : ℕ) → Accepts b → count ≡ length (recordsOf b .terms) → 0 < count
+some-term b count A e = let h = accepted-iff b (A .work) (A .report) .0 (A .verdict-is) .shaped .has-terms in omega arith
+
+-- A table of rows that was zero.
+pub rows-read : (rows b : List ℕ) (count : ℕ) → rows ≡ rowsOf (recordsOf b) ++ drop count (replicate 1024 0) → count ≡ length (recordsOf b .terms) → SameRows rows b
+rows-read rows b count e n = padded-rows rows b (e ∙ ap (λ k. rowsOf (recordsOf b) ++ drop k (replicate 1024 0)) n)
+
+module _ (b frame : List ℕ) (A : Accepts b) (bytes : AreBytes b) (frame-bytes : AreBytes frame) (budget : ℕ) (log rows work : List ℕ) (same : SameRows rows b) (enough : workLength ≤ length work)
+    (count : ℕ) (terms : count ≡ length (recordsOf b .terms)) where
+  abbrev M : Memory
+  M = memoryOf work
+
+  -- The root is the last term.
+  abbrev S : State
+  S = flatRun (record { rows = rows; image = b }) frame (count - 1) budget M log
+
+  pub leaves-run : LeavesRun S budget log (runOf b frame budget log)
+  leaves-run =
+      let w : 3905 ≤ length (M .words) = omega (arith, length-words wordCount work) in
+      let e : 513 ≤ length (M .beside) = omega (arith, length-beside work enough) in
+      subst (λ (r : ℕ). LeavesRun (flatRun (record { rows = rows; image = b }) frame r budget M log) budget log (runOf b frame budget log)) (ap (λ n. n - 1) (sym terms))
+      (image-leaves b A bytes frame frame-bytes budget log rows same M w e)
+
+  -- What the report asks of the registers.
+  pub report-asks : (q : Regs) → q ≡ S .regs → (q .nc ≤ 256) × (q .left ≤ budget) × (16 ≤ q .mode) × (q .mode ≤ 25)
+  report-asks q e = rw e (leaves-run .cells, leaves-run .left, leaves-run .halted, leaves-run .outcomes)
+
+  pub run-left : (work′ work″ log′ report report′ : List ℕ) (q : Regs) (a : Answer) → Moved S work work′ log′ q → a ≡ answerIn (memoryOf work′) q budget
+      → report′ ≡ over 0 (reportIn (memoryOf work′) q budget) report → work″ ≡ cleared workLength work′ → record { answer = a; log = log′; report = report′; work = work″ } ≡ leftBy (runOf b frame budget log) log report work
+  unfolding cleared
+  run-left work′ work″ log′ report report′ q a m p r w =
+      let t : a ≡ answerIn (S .memory) (S .regs) budget = p ∙ ap₂ (λ N s. answerIn N s budget) (m .memory .memory) (m .regs) in
+      let u : report′ ≡ over 0 (reportIn (S .memory) (S .regs) budget) report = r ∙ ap₂ (λ N s. over 0 (reportIn N s budget) report) (m .memory .memory) (m .regs) in
+      let answered = t ∙ leaves-run .answer in
+      let logged = m .logged ∙ leaves-run .log in
+      let reported = u ∙ ap (λ x. over 0 x report) (leaves-run .report) in
+      let clear : work″ ≡ cleared workLength work = w ∙ ap (λ x. replicate workLength 0 ++ x) (m .memory .rest) in
+      λ i. record { answer = answered i; log = logged i; report = reported i; work = clear i }
+
+-- An answer as a number.
+module _ (a : Answer) where
+  pub run-number : a .verdict ≡ Verdict.Accepted → a .report % 65536 + 65536 * (a .log % 281474976710656) ≡ callNumber a
+  run-number e = sym (ap (λ v. verdictAsNumber v (a .log) (a .report)) e)
+
+  pub refused-number : (r : Refusal) (place n : ℕ) → a .verdict ≡ Verdict.Refused r place → n ≡ refusalNumber r → 65536 * n + 16777216 * (place % 549755813888) ≡ callNumber a
+  refused-number r place n e d = ap (λ k. 65536 * k + 16777216 * (place % 549755813888)) d ∙ sym (ap (λ v. verdictAsNumber v (a .log) (a .report)) e)

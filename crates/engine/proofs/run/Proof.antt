@@ -1,0 +1,109 @@
+-- Too long; refused by an examination; or the tables are filled.
+use denote.Ref.{now}
+use native.Mathlib.Omega.{arith}
+use mathlib.Core.Path.{sym, _∙_}
+use Rattle.engine.proofs.Gate.{too-long-left, examined-left}
+use borrow.Author.Needs.{needs}
+use Rattle.engine.proofs.run.Statement.{statement}
+use Rattle.engine.proofs.run.Tie as tie
+
+refused-requires : tie.Need-refused-requires
+refused-requires c κs = search needs
+
+returns : tie.Need-returns
+returns c = let s = c .before .before .before .before .before .before .before in too-long-left (now (s .args .image)) (now (s .args .frame)) (s .args .budget) (now (s .args .log)) (now (s .args .report)) (now (s .args .work)) _ (c .before .if1 .taken) (c .refused .ensures)
+
+kind-codes-requires : tie.Need-kind-codes-requires
+kind-codes-requires c κs = search needs
+
+start-sizes-requires : tie.Need-start-sizes-requires
+start-sizes-requires c κs = search needs
+
+slice-aggregate-examine-image : tie.Need-slice-aggregate-examine-image
+slice-aggregate-examine-image c = search needs
+
+slice-aggregate-examine-image-2 : tie.Need-slice-aggregate-examine-image-2
+slice-aggregate-examine-image-2 c = search needs
+
+slice-aggregate-examine-image-3 : tie.Need-slice-aggregate-examine-image-3
+slice-aggregate-examine-image-3 c = search needs
+
+slice-aggregate-examine-image-4 : tie.Need-slice-aggregate-examine-image-4
+slice-aggregate-examine-image-4 c = search needs
+
+slice-aggregate-examine-image-5 : tie.Need-slice-aggregate-examine-image-5
+slice-aggregate-examine-image-5 c = search needs
+
+slice-aggregate-examine-image-6 : tie.Need-slice-aggregate-examine-image-6
+slice-aggregate-examine-image-6 c = search needs
+
+examine-image-requires : tie.Need-examine-image-requires
+examine-image-requires c κs = search needs
+
+enum-known-v : tie.Need-enum-known-v
+enum-known-v c = search needs
+
+refused-requires-2 : tie.Need-refused-requires-2
+refused-requires-2 c κs = search needs
+
+enum-told : tie.Need-enum-told
+enum-told c = search needs
+
+slice-aggregate-run-lent : tie.Need-slice-aggregate-run-lent
+slice-aggregate-run-lent c = search needs
+
+slice-aggregate-run-lent-2 : tie.Need-slice-aggregate-run-lent-2
+slice-aggregate-run-lent-2 c = search needs
+
+array-read-run-lent : tie.Need-array-read-run-lent
+array-read-run-lent c = search needs
+
+array-read-run-lent-2 : tie.Need-array-read-run-lent-2
+array-read-run-lent-2 c = search needs
+
+run-lent-requires : tie.Need-run-lent-requires
+run-lent-requires c κs = let e = c .before .before .before .before .before .before .before .before .before .before .before .before .examine-image .ensures in let f = e .filled (c .before .before .before .before .before .enum-told .given .1) in (c .before .before .before .before .before .before .before .before .before .before .before .before .before .before .before .before .before .before .before .before .before .if1 .left, sym (e .answer) ∙ c .before .before .before .before .before .enum-told .given .1, (_, f .tables), f .types, f .terms)
+
+returns-2 : tie.Need-returns-2
+returns-2 c = let s = c .before .before .before .before .before .before .before .before .before .before .before .before .before .before .before .before .before .before .before .before .before .before .before .before in examined-left (now (s .args .image)) (now (s .args .frame)) (s .args .budget) (now (s .args .log)) (now (s .args .report)) (now (s .args .work)) (c .before .before .before .before .before .before .before .before .before .before .before .before .before .before .before .before .before .before .if1 .left) _ _ _ (sym (c .before .before .v .given .1) ∙ c .before .before .before .before .before .before .before .before .before .examine-image .ensures .answer) (c .refused2 .ensures)
+
+same-length : tie.Need-same-length
+same-length c = search needs
+
+same-length-2 : tie.Need-same-length-2
+same-length-2 c = search needs
+
+same-length-3 : tie.Need-same-length-3
+same-length-3 c = search needs
+
+returns-3 : tie.Need-returns-3
+returns-3 c = c .before .before .before .before .before .before .run-lent .ensures
+
+pub run-spec : {M : Type 1} → statement M
+run-spec =
+    tie.close
+    (tie.spec
+    refused-requires
+    returns
+    kind-codes-requires
+    start-sizes-requires
+    slice-aggregate-examine-image
+    slice-aggregate-examine-image-2
+    slice-aggregate-examine-image-3
+    slice-aggregate-examine-image-4
+    slice-aggregate-examine-image-5
+    slice-aggregate-examine-image-6
+    examine-image-requires
+    enum-known-v
+    refused-requires-2
+    enum-told
+    slice-aggregate-run-lent
+    slice-aggregate-run-lent-2
+    array-read-run-lent
+    array-read-run-lent-2
+    run-lent-requires
+    returns-2
+    same-length
+    same-length-2
+    same-length-3
+    returns-3)

@@ -1,0 +1,69 @@
+// The watch engine (document 01): it accepts or refuses an image, and runs an accepted one over a frame up to a budget of
+// steps. It writes no lent memory of a call that it refuses.
+mod accepted;
+mod answers;
+
+use calls::Answer;
+use image::Refusal;
+use verdicts::Verdict;
+ghost use mathlib.Core.Path.{_≡_};
+ghost use Rattle.calls.specs.Calls.{called, callNumber};
+
+// One call: image and frame are only read; log, report and work area may have any length and content.
+pub fn run(
+    image: &[u8],
+    frame: &[u8],
+    budget: u32,
+    log: &mut [u8],
+    report: &mut [u8],
+    work: &mut [u8],
+) -> Answer
+    ensures { λ r. ⌜ record { answer = r; log = now (log .exit); report = now (report .exit); work = now (work .exit) } ≡ called (now (image .entry)) (now (frame .entry)) budget (now (log .entry)) (now (report .entry)) (now (work .entry)) ⌝ }
+{
+    if 16384 < image.len() {
+        return answers::refused(Refusal::ImageTooLong, 0);
+    }
+    let kinds = records::kinds::kind_codes();
+    let mut sizes = layout::start_sizes();
+    let mut doms = [0u16; 16];
+    let mut types = [0u16; 128];
+    let mut keys = [0u64; 128];
+    let mut terms = [0u16; 1024];
+    let v = examine::examine_image(
+        image,
+        &kinds,
+        &mut sizes,
+        &mut doms,
+        &mut types,
+        &mut keys,
+        &mut terms,
+    );
+    match v {
+        Verdict::Refused(why, place) => answers::refused(why, place),
+        Verdict::Accepted => accepted::run_lent(
+            image,
+            &keys,
+            &terms,
+            sizes[0],
+            sizes[5],
+            frame,
+            budget,
+            log,
+            report,
+            work,
+        ),
+    }
+}
+
+// The same for callers in other languages: the bytes written, or the refusal, as one number.
+#[no_mangle]
+pub extern "C" fn run_watched(
+    image: &[u8],
+    frame: &[u8],
+    budget: u32,
+    log: &mut [u8],
+    report: &mut [u8],
+    work: &mut [u8],
+) -> u64 {
+    answers::call_number(run(image, frame, budget, log, report, work))
+}

@@ -1,0 +1,2 @@
+-- The parts of what a turn begins with.
+pub mod Parts

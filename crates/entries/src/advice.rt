@@ -1,0 +1,73 @@
+// The next advice of a mark.
+ghost use mathlib.Core.Path.{_≡_};
+ghost use mathlib.Core.List.{List};
+ghost use mathlib.Core.Bool.{not, _&&_, _||_};
+ghost use Prim.Native.Nat.{ℕ, _≤_, _<_, _-_};
+ghost use lib.ListN.{length};
+ghost use lib.Dec.{eqb, leb};
+ghost use Rattle.area.specs.Memory.{memoryLength};
+ghost use Rattle.calculus.specs.Limits.{frameLimit};
+ghost use Rattle.flat.specs.Turn.{nextAdvice};
+ghost use Rattle.operands.specs.Phases.{RegsFit, Phase};
+ghost use Rattle.entries.specs.Parts.{advised};
+use flat::Regs;
+use operands::regs::EVAL;
+use operands::regs::no_frames;
+use operands::regs::same;
+use operands::regs::stuck;
+use rows::row::is_atom;
+use rows::row::kind;
+use tables::bindings::binding_at;
+use tables::bindings::bound_piece;
+use tables::bindings::no_link;
+use tables::frames::put_frame;
+use tables::pieces::advice_dom;
+use tables::pieces::advice_term;
+use tables::pieces::piece_first;
+
+// Whether no frame is left for an advice's body: its sequence and its lower stand around it, and it may need one more.
+fn no_room(sp: usize, atom: bool) -> bool
+    requires { ⌜ sp ≤ 513 ⌝ }
+    ensures { λ b. ⌜ b ≡ (leb frameLimit sp || (eqb sp (frameLimit - 1) && not atom)) ⌝ }
+{
+    if 512 <= sp {
+        return true;
+    }
+    if sp == 511 {
+        return !atom;
+    }
+    false
+}
+
+// The advice with first word a runs, bound at link b, under a frame of what is left of the mark.
+fn run_body(work: &mut [u8], a: u64, b: usize, r: Regs) -> Regs
+    requires { ⌜ (memoryLength ≤ length (now work)) × (b ≤ 2048) × (r .sp < 512) × ((size : ℕ) × RegsFit size r) ⌝ }
+    ensures { λ q. ⌜ Phase (advised a b) (now (work .entry)) (now (work .exit)) r q ⌝ }
+{
+    let end = r.c / 4096 % 4096;
+    let held = (b as u64) + 1 + 4096 * end + 16777216 * r.dom;
+    put_frame(work, r.sp + 1, tables::frames::ADVICE, 0, 0, held);
+    let mut q = same(r);
+    q.sp = r.sp + 2;
+    q.env = b;
+    q.dom = advice_dom(a);
+    q.t = advice_term(a);
+    q.mode = EVAL;
+    q
+}
+
+pub fn next_advice(rows: &[u64], work: &mut [u8], r: Regs) -> Regs
+    requires { ⌜ (1024 ≤ length (now rows)) × (memoryLength ≤ length (now work)) × ((size : ℕ) × RegsFit size r) ⌝ }
+    ensures { λ q. ⌜ ((image : List ℕ) → Phase (nextAdvice (record { rows = now (rows .entry); image = image })) (now (work .entry)) (now (work .exit)) r q) ⌝ }
+{
+    let b = (r.c % 4096) as usize;
+    if no_link(b) {
+        return stuck(r);
+    }
+    let a = piece_first(work, bound_piece(binding_at(work, b)));
+    let atom = is_atom(kind(rows[advice_term(a)]));
+    if no_room(r.sp, atom) {
+        return no_frames(r);
+    }
+    run_body(work, a, b, r)
+}

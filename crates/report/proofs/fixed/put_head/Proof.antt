@@ -1,0 +1,50 @@
+use native.Mathlib.Omega.{arith}
+use denote.Ref.{now}
+use mathlib.Core.Path.{refl}
+use Rattle.area.specs.Bytes.{bytesOf}
+use Rattle.report.proofs.Put.{fields-written}
+use Rattle.calculus.specs.Report.{outcomeNumber}
+use Rattle.area.specs.Records.{bytes16, bytes32}
+use Rattle.report.specs.Written.{reportKind}
+use borrow.Author.Needs.{needs}
+use Rattle.report.proofs.fixed.put_head.Statement.{statement}
+use Rattle.report.proofs.fixed.put_head.Tie as tie
+use Rattle.report.proofs.fixed.put_head.Reads as reads
+use Rattle.report.proofs.fixed.put_head.Lts as lts
+use Rattle.calculus.proofs.outcome_number.Reads as outcome-number-reads
+use Rattle.report.proofs.numbers.put16.Reads as put16-reads
+use Rattle.report.proofs.numbers.put32.Reads as put32-reads
+use Rattle.report.proofs.numbers.put_header.Reads as put-header-reads
+
+put-header-requires : tie.Need-put-header-requires
+put-header-requires c κs = search needs
+
+outcome-number-requires : tie.Need-outcome-number-requires
+outcome-number-requires c κs = search needs
+
+put16-requires : tie.Need-put16-requires
+put16-requires c κs = search needs
+
+put32-requires : tie.Need-put32-requires
+put32-requires c κs = search needs
+
+same-length : tie.Need-same-length
+same-length c = search needs
+
+returns : tie.Need-returns
+unfolding bytesOf
+returns c =
+    let a = c .before .before .before .before .before .before .before .before .before .before .before .before .before .before .args in
+    let e = c .before .before .before .before .before .before .before .outcome-number .ensures in
+    fields-written reportKind (now (a .report)) 0 (bytes16 (outcomeNumber (a .outcome))) (bytes32 (a .steps)) 10 6 refl refl (c .before .before .before .before .before .before .before .before .before .before .before .put-header .ensures) (rw e at (c .before .before .before .before .before .before .put16 .ensures)) (c .before .before .put32 .ensures) (omega arith)
+
+pub put-head-spec : {M : Type 1} → statement M
+put-head-spec =
+    tie.close
+    (tie.spec
+    put-header-requires
+    outcome-number-requires
+    put16-requires
+    put32-requires
+    same-length
+    returns)

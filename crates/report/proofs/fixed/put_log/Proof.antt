@@ -1,0 +1,51 @@
+use Prim.Native.Nat.{_+_}
+use native.Mathlib.Omega.{arith}
+use denote.Ref.{now}
+use mathlib.Core.Path.{refl}
+use Rattle.area.specs.Bytes.{bytesOf}
+use Rattle.report.proofs.Put.{fields-written}
+use Rattle.area.specs.Records.{bytes16, bytes32, logKind}
+use borrow.Author.Needs.{needs}
+use Rattle.report.proofs.fixed.put_log.Statement.{statement}
+use Rattle.report.proofs.fixed.put_log.Tie as tie
+use Rattle.report.proofs.fixed.put_log.Reads as reads
+use Rattle.report.proofs.fixed.put_log.Lts as lts
+use Rattle.report.proofs.numbers.put16.Reads as put16-reads
+use Rattle.report.proofs.numbers.put32.Reads as put32-reads
+use Rattle.report.proofs.numbers.put_header.Reads as put-header-reads
+
+put-header-requires : tie.Need-put-header-requires
+put-header-requires c κs = search needs
+
+add-put16 : tie.Need-add-put16
+add-put16 c = search needs
+
+put16-requires : tie.Need-put16-requires
+put16-requires c κs = search needs
+
+add-put32 : tie.Need-add-put32
+add-put32 c = search needs
+
+put32-requires : tie.Need-put32-requires
+put32-requires c κs = search needs
+
+same-length : tie.Need-same-length
+same-length c = search needs
+
+returns : tie.Need-returns
+unfolding bytesOf
+returns c =
+    let a = c .before .before .before .before .before .before .before .before .before .before .before .before .before .args in
+    fields-written logKind (now (a .log)) (a .at) (bytes16 (a .dom)) (bytes32 (a .number)) 10 (a .at + 6) refl (omega arith) (c .before .before .before .before .before .before .before .before .before .before .put-header .ensures) (c .before .before .before .before .before .before .put16 .ensures) (c .before .before .put32 .ensures) (omega arith)
+
+pub put-log-spec : {M : Type 1} → statement M
+put-log-spec =
+    tie.close
+    (tie.spec
+    put-header-requires
+    add-put16
+    put16-requires
+    add-put32
+    put32-requires
+    same-length
+    returns)

@@ -1,0 +1,30 @@
+use mathlib.Core.Path.{sym, ap, _∙_}
+use Rattle.results.specs.Gathered.{withLeaf}
+use Rattle.results.proofs.Gathering.{word-none, word-leaf}
+use borrow.Author.Needs.{needs}
+use Rattle.results.proofs.leaves.with_word.Statement.{statement}
+use Rattle.results.proofs.leaves.with_word.Tie as tie
+use Rattle.results.proofs.leaves.with_word.Reads as reads
+use Rattle.results.proofs.leaves.with_word.Lts as lts
+use Rattle.results.proofs.leaves.leaf_of.Reads as leaf-of-reads
+use Rattle.results.proofs.leaves.with_leaf.Reads as with-leaf-reads
+use Rattle.values.proofs.tag.Reads as tag-reads
+
+tag-requires : tie.Need-tag-requires
+tag-requires c κs = search needs
+
+returns : tie.Need-returns
+returns c = sym (word-none _ _ (c .before .tag .ensures) (c .before .before .args .held) (c .if1 .taken))
+
+leaf-of-requires : tie.Need-leaf-of-requires
+leaf-of-requires c κs = search needs
+
+with-leaf-requires : tie.Need-with-leaf-requires
+with-leaf-requires c κs = search needs
+
+returns-2 : tie.Need-returns-2
+returns-2 c = let a = c .before .before .before .before .args in c .with-leaf .ensures ∙ ap (withLeaf (a .held)) (c .before .leaf-of .ensures) ∙ sym (word-leaf _ _ (c .before .before .before .tag .ensures) (a .held) (c .before .before .if1 .left))
+
+pub with-word-spec : {M : Type 1} → statement M
+with-word-spec =
+    tie.close (tie.spec tag-requires returns leaf-of-requires with-leaf-requires returns-2)

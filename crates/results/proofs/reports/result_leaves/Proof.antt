@@ -1,0 +1,28 @@
+use denote.Ref.{now}
+use mathlib.Core.Path.{ap, _∙_}
+use Rattle.tables.specs.View.{memoryOf}
+use Rattle.results.specs.Gathered.{gathered}
+use Rattle.results.proofs.WholeReport.{done-leaves, other-leaves}
+use borrow.Author.Needs.{needs}
+use Rattle.results.proofs.reports.result_leaves.Statement.{statement}
+use Rattle.results.proofs.reports.result_leaves.Tie as tie
+use Rattle.results.proofs.reports.result_leaves.Reads as reads
+use Rattle.results.proofs.reports.result_leaves.Lts as lts
+use Rattle.results.proofs.leaves.no_leaves.Reads as no-leaves-reads
+use Rattle.results.proofs.leaves.plain_leaves.Reads as plain-leaves-reads
+
+plain-leaves-requires : tie.Need-plain-leaves-requires
+plain-leaves-requires c κs = search needs
+
+returns : tie.Need-returns
+returns c = let a = c .before .before .before .args in c .plain-leaves .ensures ∙ ap gathered (done-leaves (memoryOf (now (a .work))) (a .mode) (a .c) (c .before .if1 .taken))
+
+no-leaves-requires : tie.Need-no-leaves-requires
+no-leaves-requires c κs = search needs
+
+returns-2 : tie.Need-returns-2
+returns-2 c = let a = c .before .before .before .args in c .no-leaves .ensures ∙ ap gathered (other-leaves (memoryOf (now (a .work))) (a .mode) (a .c) (c .before .if1 .left))
+
+pub result-leaves-spec : {M : Type 1} → statement M
+result-leaves-spec =
+    tie.close (tie.spec plain-leaves-requires returns no-leaves-requires returns-2)

@@ -1,0 +1,2 @@
+-- The sheet's frame, and records by their offset.
+pub mod Sheet

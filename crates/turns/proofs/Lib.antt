@@ -1,0 +1,3 @@
+-- Turns, one after another.
+pub mod Turned
+pub mod Repeated

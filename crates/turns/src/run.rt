@@ -1,0 +1,61 @@
+// Turns until the machine halts.
+ghost use mathlib.Core.Path.{_≡_};
+ghost use Prim.Native.Nat.{_≤_, _<_};
+ghost use lib.ListN.{length};
+ghost use Rattle.area.specs.Memory.{memoryLength};
+ghost use Rattle.flat.specs.FlatRun.{startRegs, flatRun};
+ghost use Rattle.tables.specs.View.{memoryOf};
+ghost use Rattle.operands.specs.Phases.{Moved};
+use crate::turn::turn;
+use flat::Regs;
+use operands::regs::EVAL;
+use operands::regs::HALTED;
+
+// The registers at the start: the root is to be worked out, with nothing in use.
+fn start_regs(root: usize, budget: u32) -> Regs
+    ensures { λ r. ⌜ r ≡ startRegs root budget ⌝ }
+{
+    Regs {
+        mode: EVAL,
+        left: budget,
+        c: root as u64,
+        env: 0,
+        dom: 0,
+        sp: 0,
+        nb: 0,
+        np: 0,
+        nc: 0,
+        nl: 0,
+        ni: 0,
+        at: 0,
+        t: 0,
+        n: 0,
+        v1: 0,
+        v: 0,
+    }
+}
+
+// A run of the program from its root, with a budget.
+pub fn run_program(
+    rows: &[u64],
+    image: &[u8],
+    work: &mut [u8],
+    frame: &[u8],
+    log: &mut [u8],
+    root: usize,
+    budget: u32,
+) -> Regs
+    requires { ⌜ (1024 ≤ length (now rows)) × (memoryLength ≤ length (now work)) ⌝ }
+    ensures { λ q. ⌜ Moved (flatRun (record { rows = now (rows .entry); image = now (image .entry) }) (now (frame .entry)) root budget (memoryOf (now (work .entry))) (now (log .entry))) (now (work .entry)) (now (work .exit)) (now (log .exit)) q ⌝ }
+{
+    let mut r = start_regs(root, budget);
+    let mut fuel = (budget as u64 + 1) * 16384;
+    while 0 < fuel {
+        if HALTED <= r.mode {
+            return r;
+        }
+        r = turn(rows, image, work, frame, log, r);
+        fuel -= 1;
+    }
+    r
+}
