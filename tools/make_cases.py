@@ -4,140 +4,27 @@
 Run in the repository's root: python3 tools/make_cases.py
 It writes crates/cases/data/*.img and crates/cases/args: for each case its budget and its file.
 """
-import struct
 from pathlib import Path
+
+from watchlang.terms import (abort, advice, apply, branch, function, install, lay_out, less, let, lower, mark, minus,
+                             new_cell, new_label, number, pair, plus, pointcut, read, sequence, show, store, unit,
+                             variable)
+from watchlang.types import NUMBER, UNIT, function as function_type, label as label_type, reference as reference_type
 
 CRATE = Path("crates/cases")
 BUDGET = 100_000
 
-# Types: a kind, then types and domains.
-UNIT, TRUTH, NUMBER = (16,), (17,), (18,)
+
+def types_of(e):
+    """The types of a tree, each term's before its children's."""
+    yield e.type
+    for child in e.children:
+        yield from types_of(child)
 
 
-def pair_type(a, b):
-    return (19, a, b)
-
-
-def function_type(a, p, b):
-    return (20, a, p, b)
-
-
-def reference_type(a, p):
-    return (21, a, p)
-
-
-def label_type(a, p):
-    return (22, a, p)
-
-
-def pointcut_type(a, p):
-    return (23, a, p)
-
-
-def advice_type(p):
-    return (24, p)
-
-
-class Term:
-    """A kind, a type, and fields: a 16-bit number, four bytes, a variable's name, or a child term.
-    `binds` has the names that the last child's scope gains."""
-
-    def __init__(self, kind, type, *fields, binds=()):
-        self.kind, self.type, self.fields, self.binds = kind, type, fields, binds
-
-
-# Terms. Variables are named; an image has their numbers.
-def unit():
-    return Term(32, UNIT)
-
-
-def number(n):
-    return Term(34, NUMBER, struct.pack("<i", n))
-
-
-def variable(name, type):
-    return Term(35, type, name)
-
-
-def sequence(first, *rest):
-    return Term(36, (then := sequence(*rest)).type, first, then) if rest else first
-
-
-def show(e):
-    return Term(37, UNIT, e)
-
-
-def branch(test, yes, no):
-    return Term(38, yes.type, test, yes, no)
-
-
-def pair(a, b):
-    return Term(39, pair_type(a.type, b.type), a, b)
-
-
-def function(name, a, body, p=0):
-    return Term(41, function_type(a, p, body.type), body, binds=(name,))
-
-
-def apply(f, x):
-    return Term(42, f.type[3], f, x)
-
-
-def plus(a, b):
-    return Term(43, NUMBER, 0, a, b)
-
-
-def minus(a, b):
-    return Term(43, NUMBER, 1, a, b)
-
-
-def less(a, b):
-    return Term(43, TRUTH, 2, a, b)
-
-
-def new_label(a, p=0):
-    return Term(44, label_type(a, p))
-
-
-def mark(label, value):
-    return Term(45, UNIT, label, value)
-
-
-def pointcut(a, *labels, p=0):
-    return Term(46, pointcut_type(a, p), *labels)
-
-
-def advice(cut, name, body, p=0):
-    return Term(47, advice_type(p), cut, body, binds=(name,))
-
-
-def install(e):
-    return Term(48, UNIT, e)
-
-
-def new_cell(value, p=0):
-    return Term(49, reference_type(value.type, p), value)
-
-
-def read(cell):
-    return Term(50, cell.type[1], cell)
-
-
-def store(cell, value):
-    return Term(51, UNIT, cell, value)
-
-
-def lower(p, body):
-    return Term(52, UNIT, p, body)
-
-
-def abort(type):
-    return Term(53, type)
-
-
-def let(name, value, body):
-    """The body with a name for a value: one binding."""
-    return apply(function(name, value.type, body), value)
+def image(root, masks=(1,)):
+    """The bytes of an image, its types in the order of a walk from the root."""
+    return lay_out(root, masks, types_of(root)).image
 
 
 def recursive(name, body, start, result):
@@ -162,38 +49,6 @@ def nested(depth):
     for _ in range(depth - 1):
         e = plus(number(1), e)
     return e
-
-
-def record(kind, *fields):
-    body = b"".join(f if isinstance(f, bytes) else struct.pack("<H", f) for f in fields)
-    return struct.pack("<HH", 4 + len(body), kind) + body
-
-
-def image(root, masks=(1,)):
-    """The bytes of an image: domains, types, terms, each child before its parent."""
-    types, terms = [], []
-
-    def type_number(t):
-        fields = [type_number(f) if isinstance(f, tuple) else f for f in t[1:]]
-        made = record(t[0], *fields)
-        if made not in types:
-            types.append(made)
-        return types.index(made)
-
-    def term_number(e, scope):
-        fields = [type_number(e.type)]
-        for i, f in enumerate(e.fields):
-            inner = scope + e.binds if i == len(e.fields) - 1 else scope
-            if isinstance(f, Term):
-                f = term_number(f, inner)
-            elif isinstance(f, str):
-                f = scope[::-1].index(f)
-            fields.append(f)
-        terms.append(record(e.kind, *fields))
-        return len(terms) - 1
-
-    term_number(root, ())
-    return b"".join([record(1, m) for m in masks] + types + terms)
 
 
 def chain(domains):
@@ -310,4 +165,5 @@ def main():
     (CRATE / "args").write_text("\n".join(args) + "\n")
 
 
-main()
+if __name__ == "__main__":
+    main()

@@ -4,6 +4,7 @@ mod accepted;
 mod answers;
 
 use calls::Answer;
+use image::IMAGE_LIMIT;
 use image::Refusal;
 use verdicts::Verdict;
 ghost use mathlib.Core.Path.{_≡_};
@@ -20,7 +21,7 @@ pub fn run(
 ) -> Answer
     ensures { λ r. ⌜ record { answer = r; log = now (log .exit); report = now (report .exit); work = now (work .exit) } ≡ called (now (image .entry)) (now (frame .entry)) budget (now (log .entry)) (now (report .entry)) (now (work .entry)) ⌝ }
 {
-    if 16384 < image.len() {
+    if IMAGE_LIMIT < image.len() {
         return answers::refused(Refusal::ImageTooLong, 0);
     }
     let kinds = records::kinds::kind_codes();

@@ -1,7 +1,14 @@
-// The image: its bytes, kinds, records and program in specs/, their laws in proofs/; and here the refusals, which the
-// layout and the validator share.
+// The image: its bytes, kinds, records and program in specs/, their laws in proofs/; and here the refusals and the lengths
+// that the validator and the engine share.
 ghost use mathlib.Core.Path.{_≡_};
 ghost use Rattle.image.specs.Refusals.{refusalNumber};
+
+// The longest image, and the least lengths of a work area and a report (document 01, "Turned back at the gate").
+pub const IMAGE_LIMIT: usize = 16384;
+
+pub const WORK_LENGTH: usize = 31753;
+
+pub const REPORT_LENGTH: usize = 17994;
 
 // Why an image is refused (document 01, "Turned back at the gate").
 pub enum Refusal {

@@ -7,6 +7,8 @@ mod text;
 
 use calculus::Outcome;
 use calls::Answer;
+use image::REPORT_LENGTH;
+use image::WORK_LENGTH;
 use verdicts::Verdict;
 ghost use mathlib.Core.Path.{_≡_};
 ghost use lib.ListN.{take};
@@ -65,8 +67,8 @@ fn print_call(a: Answer, log: &[u8], report: &[u8]) {
 pub fn watch_image(image: &[u8], budget: u32) {
     let frame = frame_bytes();
     let mut log = [0u8; 16384];
-    let mut report = [0u8; 17994];
-    let mut work = [0u8; 31753];
+    let mut report = [0u8; REPORT_LENGTH];
+    let mut work = [0u8; WORK_LENGTH];
     let a = engine::run(image, &frame, budget, &mut log, &mut report, &mut work);
     print_call(a, &log, &report);
 }

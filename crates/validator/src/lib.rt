@@ -1,6 +1,9 @@
 // The validator (document 01, "Turned back at the gate"): which images are accepted, and the one refusal of every other.
 // It reads the image alone and writes no lent memory.
+use image::IMAGE_LIMIT;
+use image::REPORT_LENGTH;
 use image::Refusal;
+use image::WORK_LENGTH;
 use verdicts::Verdict;
 ghost use mathlib.Core.Path.{_≡_};
 ghost use Prim.Native.Nat.{_≤_};
@@ -36,17 +39,17 @@ fn examine_whole(image: &[u8]) -> Verdict
 pub fn validate(image: &[u8], work: usize, report: usize) -> Verdict
     ensures { λ r. ⌜ r ≡ verdict (now (image .entry)) work report ⌝ }
 {
-    if 16384 < image.len() {
+    if IMAGE_LIMIT < image.len() {
         return Verdict::Refused(Refusal::ImageTooLong, 0);
     }
     let v = examine_whole(image);
     if verdicts::is_refused(v) {
         return v;
     }
-    if work < 31753 {
+    if work < WORK_LENGTH {
         return Verdict::Refused(Refusal::ShortWorkArea, 0);
     }
-    if report < 17994 {
+    if report < REPORT_LENGTH {
         return Verdict::Refused(Refusal::ShortReport, 0);
     }
     Verdict::Accepted

@@ -1,0 +1,27 @@
+#!/usr/bin/env bash
+# Measures the verified engine, and a plain Rust engine beside it if its folder is given:
+#     bench/run.sh [FOLDER_OF_PLAIN_ENGINE] [--quick] [--dump DIR] [--write]
+# The plain engine is a crate named `baseline` with `engine(image, frame, budget, log, report, work) -> Answer`.
+# --quick measures less often; --dump DIR writes the images and measures nothing; --write writes what was measured into
+# docs/PERFORMANCE.md and docs/performance.svg.
+set -euo pipefail
+bench=$(cd "$(dirname "$0")" && pwd)
+package=$bench
+if [ $# -gt 0 ] && [ "${1#--}" = "$1" ]; then
+    ln -sfn "$(cd "$1" && pwd)" "$bench/plain"
+    package=$bench/compare
+    shift
+fi
+options=()
+while [ $# -gt 0 ]; do
+    case $1 in
+    --write) options+=(--write "$bench/../docs") ;;
+    *) options+=("$1") ;;
+    esac
+    shift
+done
+# The library as the sources are now, unless another one is named.
+if [ -z "${BUKZARN_LIBRARY:-}" ]; then
+    said=$(cd "$bench/.." && rt staticlib engine 2>&1) || { printf '%s\n' "$said" >&2; exit 1; }
+fi
+CARGO_TARGET_DIR=$bench/target cargo run --quiet --release --manifest-path "$package/Cargo.toml" -- "${options[@]}"

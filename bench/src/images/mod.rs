@@ -1,0 +1,87 @@
+//! The images that are measured.
+mod decode;
+mod large;
+mod loops;
+mod marks;
+mod varied;
+
+use std::fs;
+use std::path::Path;
+
+/// An image with its name.
+pub struct Image {
+    pub name: &'static str,
+    pub bytes: Vec<u8>,
+}
+
+impl Image {
+    /// How many term records it has.
+    pub fn terms(&self) -> usize {
+        let word = |at: usize| u16::from_le_bytes([self.bytes[at], self.bytes[at + 1]]);
+        let (mut at, mut terms) = (0, 0);
+        while at < self.bytes.len() {
+            terms += usize::from(word(at + 2) >= 32);
+            at += usize::from(word(at));
+        }
+        terms
+    }
+}
+
+/// Every image, in the order of the tables.
+pub fn all() -> Vec<Image> {
+    let image = |name, bytes| Image { name, bytes };
+    vec![
+        image("constant (P2)", large::constant()),
+        image("recursion through a cell", loops::tail(2_040)),
+        image("240 bytes decoded", decode::decode(240)),
+        image("marks, 1 advice", marks::marks(1, 1_000)),
+        image("marks, 8 advices", marks::marks(8, 220)),
+        image("marks, 64 advices", marks::marks(64, 30)),
+        image("deep recursion", loops::deep(500, 4)),
+        image("nested sums", large::nested()),
+        image("largest accepted", large::largest()),
+        image("1,024 varied terms", varied::varied()),
+        image("16,384 bytes, refused", large::refused()),
+    ]
+}
+
+/// Writes each image as a file of a folder.
+pub fn dump(images: &[Image], folder: &Path) {
+    fs::create_dir_all(folder).unwrap_or_else(|error| panic!("{}: {error}", folder.display()));
+    for image in images {
+        let name: String = image.name.chars().filter(|c| c.is_alphanumeric() || *c == ' ').collect();
+        let path = folder.join(name.replace(' ', "-") + ".img");
+        fs::write(&path, &image.bytes).unwrap_or_else(|error| panic!("{}: {error}", path.display()));
+    }
+}
+
+#[cfg(test)]
+mod tests {
+    use super::*;
+    use bukzarn::{run, Cause, Lent, Outcome};
+
+    /// How an image ends over a frame of 240 bytes.
+    fn end(image: &Image) -> Result<Outcome, Cause> {
+        let mut lent = Lent::new(16_384);
+        run(&image.bytes, &[9; 240], u32::MAX, &mut lent).map(|run| run.outcome()).map_err(|refusal| refusal.cause)
+    }
+
+    #[test]
+    fn all_but_the_last_are_done() {
+        let images = all();
+        let (last, others) = images.split_last().unwrap();
+        assert!(others.iter().all(|image| end(image) == Ok(Outcome::Done)));
+        assert_eq!((end(last), last.bytes.len(), last.terms()), (Err(Cause::UseCount), 16_384, 1_024));
+    }
+
+    #[test]
+    fn sizes_are_as_named() {
+        let sizes = |name: &str| {
+            let image = all().into_iter().find(|image| image.name == name).unwrap();
+            (image.bytes.len(), image.terms())
+        };
+        assert_eq!(sizes("constant (P2)"), (20, 1));
+        assert_eq!(sizes("largest accepted"), (12_630, 1_024));
+        assert_eq!(sizes("1,024 varied terms").1, 1_024);
+    }
+}

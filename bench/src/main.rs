@@ -1,0 +1,5 @@
+//! Measures the verified engine alone.
+
+fn main() {
+    bench::main(None);
+}

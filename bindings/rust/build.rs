@@ -1,0 +1,32 @@
+//! Links the static libraries of the engine. They stand in the folder that BUKZARN_LIBRARY names, or where
+//! `rt staticlib engine` and `rt staticlib validator` write them, in the repository's target/staticlib.
+use std::env;
+use std::path::{Path, PathBuf};
+
+fn folder() -> PathBuf {
+    match env::var_os("BUKZARN_LIBRARY") {
+        Some(folder) => PathBuf::from(folder),
+        None => Path::new(&env::var_os("CARGO_MANIFEST_DIR").unwrap()).join("../../target/staticlib"),
+    }
+}
+
+fn link(folder: &Path, name: &str) {
+    let archive = folder.join(format!("lib{name}.a"));
+    assert!(
+        archive.exists(),
+        "{} is missing: run `rt staticlib {name}` in the repository's root, or name its folder in BUKZARN_LIBRARY",
+        archive.display()
+    );
+    println!("cargo:rerun-if-changed={}", archive.display());
+    println!("cargo:rustc-link-lib=static={name}");
+}
+
+fn main() {
+    println!("cargo:rerun-if-env-changed=BUKZARN_LIBRARY");
+    let folder = folder();
+    println!("cargo:rustc-link-search=native={}", folder.display());
+    link(&folder, "engine");
+    if env::var_os("CARGO_FEATURE_VALIDATOR").is_some() {
+        link(&folder, "validator");
+    }
+}

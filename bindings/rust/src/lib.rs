@@ -1,0 +1,51 @@
+//! The watch engine for Rust.
+//!
+//! An *image* is a small program with marked points; the engine accepts or refuses it, and runs an accepted one over a
+//! received *frame* up to a budget of steps. The engine is a library that is proved to meet its contract for every
+//! input (`crates/calls/specs/Calls.antt`, `called`); this crate lends it memory and reads what it wrote. "Document 01"
+//! is the paper that decides layouts, numbers and limits.
+//!
+//! ```
+//! use bukzarn::program::Program;
+//! use bukzarn::{run, Leaf, Lent, Outcome};
+//!
+//! let mut program = Program::new(&[1]);
+//! let (a, b) = (program.number(2), program.number(3));
+//! let sum = program.plus(a, b);
+//! let image = program.image(&sum);
+//!
+//! let mut lent = Lent::new(16_384);
+//! let run = run(&image, &[], 100, &mut lent).unwrap();
+//! assert_eq!((run.outcome(), run.steps()), (Outcome::Done, 1));
+//! assert_eq!(run.result().collect::<Vec<_>>(), [Leaf::Number(5)]);
+//! ```
+//!
+//! [`run`] keeps the lent memory in one value and cannot be called with too little of it. [`call`] takes slices of any
+//! length, and refuses short ones. `validate` (with the feature `validator`) answers the verdict alone.
+#![deny(missing_docs, unsafe_code)]
+
+mod call;
+mod lent;
+mod outcome;
+pub mod program;
+#[allow(unsafe_code)]
+mod raw;
+mod records;
+mod refusal;
+
+#[cfg(feature = "validator")]
+pub use call::validate;
+pub use call::{call, Written};
+pub use lent::{run, Lent};
+pub use outcome::Outcome;
+pub use records::{Cell, Leaf, Leaves, LogRecord, Run};
+pub use refusal::{Cause, Refusal};
+
+/// The longest image that can be accepted, in bytes.
+pub const IMAGE_LIMIT: usize = 16_384;
+
+/// The published length of the work area, in bytes.
+pub const WORK_LENGTH: usize = 31_753;
+
+/// The length of a report that every run fits in, in bytes.
+pub const REPORT_LENGTH: usize = 17_994;

@@ -1,0 +1,77 @@
+//! Writing images: programs as trees of terms, written as the bytes of an image (document 01, "The image").
+//!
+//! A [`Program`] keeps the masks of the domains and the types, each once. Its methods make terms with the types that
+//! their parts ask for. Nothing here decides whether an image is accepted: the engine does.
+//!
+//! Variables are named by level: the outermost binding is level 0, the one inside it level 1. The image has the number
+//! that counts from the innermost.
+mod terms;
+mod types;
+mod write;
+
+pub use types::{Shape, Type};
+
+/// A term with its type and its parts.
+#[derive(Clone, Debug)]
+pub struct Term {
+    kind: u16,
+    of: Type,
+    fields: Vec<Field>,
+}
+
+/// A field of a term, in the order of the record.
+#[derive(Clone, Debug)]
+enum Field {
+    Word(u16),
+    Number(i32),
+    Level(u16),
+    Child(Term),
+}
+
+impl Term {
+    /// The type that the term states.
+    pub fn of(&self) -> Type {
+        self.of
+    }
+
+    /// How many terms the tree has.
+    pub fn size(&self) -> usize {
+        1 + self.children().map(Term::size).sum::<usize>()
+    }
+
+    /// How deep the tree is; a term without parts has depth 1.
+    pub fn depth(&self) -> usize {
+        1 + self.children().map(Term::depth).max().unwrap_or(0)
+    }
+
+    fn children(&self) -> impl Iterator<Item = &Term> {
+        self.fields.iter().filter_map(|field| match field {
+            Field::Child(child) => Some(child),
+            _ => None,
+        })
+    }
+}
+
+/// The domains and types of a program, and the maker of its terms.
+#[derive(Clone, Debug)]
+pub struct Program {
+    masks: Vec<u16>,
+    types: Vec<Shape>,
+}
+
+impl Program {
+    /// A program with these domains: bit q of a mask is set if the domain is at or below domain q.
+    pub fn new(masks: &[u16]) -> Program {
+        Program { masks: masks.to_vec(), types: Vec::new() }
+    }
+
+    /// How many domains there are.
+    pub fn domains(&self) -> u16 {
+        self.masks.len() as u16
+    }
+
+    /// Is domain `p` at or below domain `q`?
+    pub fn below(&self, p: u16, q: u16) -> bool {
+        self.masks[usize::from(p)] >> q & 1 == 1
+    }
+}

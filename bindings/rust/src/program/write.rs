@@ -1,0 +1,60 @@
+//! The bytes of an image.
+use super::{Field, Program, Term};
+
+/// A record: its length, its kind, its fields as bytes.
+fn record(image: &mut Vec<u8>, kind: u16, fields: &[u8]) {
+    image.extend((4 + fields.len() as u16).to_le_bytes());
+    image.extend(kind.to_le_bytes());
+    image.extend(fields);
+}
+
+/// 16-bit fields as bytes.
+fn words(fields: &[u16]) -> Vec<u8> {
+    fields.iter().flat_map(|word| word.to_le_bytes()).collect()
+}
+
+/// How many variables a child's scope gains: two in a split's second child, one in a function's and an advice's body.
+fn bound(kind: u16, child: usize) -> u16 {
+    match (kind, child) {
+        (40, 1) => 2,
+        (41, 0) | (47, 1) => 1,
+        _ => 0,
+    }
+}
+
+/// Writes a term after its children, left to right, and answers its number.
+fn write_term(image: &mut Vec<u8>, next: &mut u16, term: &Term, scope: u16) -> u16 {
+    let mut fields = words(&[term.of.0]);
+    let mut child = 0;
+    for field in &term.fields {
+        match field {
+            Field::Word(word) => fields.extend(word.to_le_bytes()),
+            Field::Number(number) => fields.extend(number.to_le_bytes()),
+            Field::Level(level) => fields.extend(scope.wrapping_sub(1).wrapping_sub(*level).to_le_bytes()),
+            Field::Child(term_below) => {
+                let number = write_term(image, next, term_below, scope + bound(term.kind, child));
+                fields.extend(number.to_le_bytes());
+                child += 1;
+            }
+        }
+    }
+    record(image, term.kind, &fields);
+    *next += 1;
+    *next - 1
+}
+
+impl Program {
+    /// The image of the program with this root.
+    pub fn image(&self, root: &Term) -> Vec<u8> {
+        let mut image = Vec::new();
+        for mask in &self.masks {
+            record(&mut image, 1, &words(&[*mask]));
+        }
+        for shape in &self.types {
+            let (kind, fields) = shape.record();
+            record(&mut image, kind, &words(&fields));
+        }
+        write_term(&mut image, &mut 0, root, 0);
+        image
+    }
+}

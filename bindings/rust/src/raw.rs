@@ -1,0 +1,56 @@
+//! The library's functions. This is the one module with unsafe code.
+
+extern "C" {
+    fn run_watched(
+        image: *const u8,
+        image_length: usize,
+        frame: *const u8,
+        frame_length: usize,
+        budget: u32,
+        log: *mut u8,
+        log_length: usize,
+        report: *mut u8,
+        report_length: usize,
+        work: *mut u8,
+        work_length: usize,
+    ) -> u64;
+
+    #[cfg(feature = "validator")]
+    fn validate_number(image: *const u8, image_length: usize, work_length: usize, report_length: usize) -> u16;
+
+    #[cfg(feature = "validator")]
+    fn validate_place(image: *const u8, image_length: usize, work_length: usize, report_length: usize) -> usize;
+}
+
+/// One call, answered as one number.
+pub fn run(image: &[u8], frame: &[u8], budget: u32, log: &mut [u8], report: &mut [u8], work: &mut [u8]) -> u64 {
+    // Safe: each pointer and length is a slice that lives through the call; the three that are written are lent to
+    // nobody else.
+    unsafe {
+        run_watched(
+            image.as_ptr(),
+            image.len(),
+            frame.as_ptr(),
+            frame.len(),
+            budget,
+            log.as_mut_ptr(),
+            log.len(),
+            report.as_mut_ptr(),
+            report.len(),
+            work.as_mut_ptr(),
+            work.len(),
+        )
+    }
+}
+
+/// The verdict's number and place.
+#[cfg(feature = "validator")]
+pub fn validate(image: &[u8], work: usize, report: usize) -> (u16, usize) {
+    // Safe: pointer and length are a slice that lives through the calls, which only read it.
+    unsafe {
+        (
+            validate_number(image.as_ptr(), image.len(), work, report),
+            validate_place(image.as_ptr(), image.len(), work, report),
+        )
+    }
+}

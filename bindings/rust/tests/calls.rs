@@ -1,0 +1,123 @@
+//! The safe functions: what they answer and how it is read.
+use bukzarn::program::{Program, Shape};
+use bukzarn::{call, run, Cause, Leaf, Lent, LogRecord, Outcome, Refusal, Run, Written, REPORT_LENGTH, WORK_LENGTH};
+
+/// The bench sheet's P2: the constant 5.
+const P2: [u8; 20] = [6, 0, 1, 0, 1, 0, 4, 0, 18, 0, 10, 0, 34, 0, 0, 0, 5, 0, 0, 0];
+
+/// The bench sheet's P6: a function of a label, applied to a new label, that installs "print x", then "print 7", then
+/// marks with 3.
+fn p6() -> Vec<u8> {
+    let mut program = Program::new(&[1]);
+    let number = program.number_type();
+    let label = program.make(Shape::Label(number, 0));
+    let label = program.variable(label, 0);
+    let x = program.variable(number, 1);
+    let (seven, three) = (program.number(7), program.number(3));
+    let installs = [x, seven].map(|printed| {
+        let body = program.print(printed);
+        let pointcut = program.pointcut(number, 0, vec![label.clone()]);
+        let advice = program.advice(0, pointcut, body);
+        program.install(advice)
+    });
+    let mark = program.mark(label, three);
+    let [first, second] = installs;
+    let rest = program.sequence(second, mark);
+    let body = program.sequence(first, rest);
+    let new = program.new_label(number, 0);
+    let root = program.bind(0, new, body);
+    program.image(&root)
+}
+
+#[test]
+fn a_constant_is_done_at_budget_0() {
+    let mut lent = Lent::new(0);
+    let run = run(&P2, &[], 0, &mut lent).unwrap();
+    assert_eq!((run.outcome(), run.steps()), (Outcome::Done, 0));
+    assert_eq!(run.result().collect::<Vec<_>>(), [Leaf::Number(5)]);
+    assert_eq!((run.log().count(), run.cells().count()), (0, 0));
+}
+
+#[test]
+fn marks_run_advice_in_order_of_installation() {
+    let mut lent = Lent::new(100);
+    let run = run(&p6(), &[], 100_000, &mut lent).unwrap();
+    assert_eq!((run.outcome(), run.steps()), (Outcome::Done, 17));
+    assert_eq!(run.log().collect::<Vec<_>>(), [3, 7].map(|number| LogRecord { domain: 0, number }));
+    assert_eq!(run.result().collect::<Vec<_>>(), [Leaf::Unit]);
+}
+
+#[test]
+fn lent_memory_serves_again() {
+    let mut lent = Lent::new(15);
+    let full = run(&p6(), &[], 16, &mut lent).unwrap();
+    assert_eq!((full.outcome(), full.steps()), (Outcome::Log, 14));
+    let done = run(&P2, &[], 16, &mut lent).unwrap();
+    assert_eq!((done.outcome(), done.log_bytes().len(), done.report_bytes().len()), (Outcome::Done, 0, 18));
+}
+
+#[test]
+fn cells_are_read() {
+    let mut program = Program::new(&[1, 3]);
+    let (truth, unit, number) = (program.truth(true), program.unit(), program.number(-4));
+    let number_type = program.number_type();
+    let inner = program.pair(unit.clone(), number);
+    let pair = program.pair(truth, inner);
+    let plain = program.new_cell(1, pair);
+    let label = program.new_label(number_type, 0);
+    let other = program.new_cell(0, label);
+    let inside = program.bind(0, other, unit);
+    let root = program.bind(0, plain, inside);
+    let image = program.image(&root);
+    let mut lent = Lent::new(0);
+    let run = run(&image, &[], 1_000, &mut lent).unwrap();
+    let cells: Vec<_> =
+        run.cells().map(|cell| (cell.domain, cell.leaves.map(|leaves| leaves.collect::<Vec<_>>()))).collect();
+    let leaves = vec![Leaf::Truth(true), Leaf::Unit, Leaf::Number(-4)];
+    assert_eq!(cells, [(1, Some(leaves)), (0, None)]);
+}
+
+#[test]
+fn refusals_say_why_and_where() {
+    let mut lent = Lent::new(0);
+    let empty = run(&[], &[], 0, &mut lent).unwrap_err();
+    assert_eq!(empty, Refusal { cause: Cause::EmptySection, place: 0 });
+    assert_eq!(empty.to_string(), "refused 9 0");
+    let long = run(&[0; 16_385], &[], 0, &mut lent).unwrap_err();
+    assert_eq!(long, Refusal { cause: Cause::ImageTooLong, place: 0 });
+    let broken = run(&P2[..18], &[], 0, &mut lent).unwrap_err();
+    assert_eq!(broken, Refusal { cause: Cause::BrokenRecord, place: 10 });
+}
+
+#[test]
+fn slices_of_any_length() {
+    let (mut report, mut work) = (vec![7; REPORT_LENGTH + 1], vec![7; WORK_LENGTH + 1]);
+    let short = call(&P2, &[], 0, &mut [], &mut report, &mut work[..WORK_LENGTH - 1]).unwrap_err();
+    assert_eq!(short, Refusal { cause: Cause::ShortWorkArea, place: 0 });
+    let short = call(&P2, &[], 0, &mut [], &mut [], &mut work).unwrap_err();
+    assert_eq!(short, Refusal { cause: Cause::ShortReport, place: 0 });
+    assert!(report.iter().chain(&work).all(|byte| *byte == 7));
+    let written = call(&P2, &[], 0, &mut [], &mut report, &mut work).unwrap();
+    assert_eq!(written, Written { log: 0, report: 18 });
+    assert!(report[18..].iter().all(|byte| *byte == 7) && work[WORK_LENGTH] == 7);
+    assert_eq!(Run::read(&[], &report[..18]).unwrap().outcome(), Outcome::Done);
+    assert!(Run::read(&[], &report[..9]).is_none());
+}
+
+#[test]
+#[cfg(feature = "validator")]
+fn the_verdict_alone() {
+    use bukzarn::validate;
+    assert_eq!(validate(&P2, WORK_LENGTH, REPORT_LENGTH), Ok(()));
+    let short = Refusal { cause: Cause::ShortReport, place: 0 };
+    assert_eq!(validate(&P2, WORK_LENGTH, REPORT_LENGTH - 1), Err(short));
+}
+
+#[test]
+fn numbers_and_names() {
+    assert!((0..10).all(|n| Outcome::from_number(n).unwrap().number() == n));
+    assert!((1..=18).all(|n| Cause::from_number(n).unwrap().number() == n));
+    assert!([0, 19].iter().all(|n| Cause::from_number(*n).is_none()));
+    assert!(Outcome::from_number(10).is_none());
+    assert_eq!(Outcome::Bindings.to_string(), "bindings");
+}

@@ -1,0 +1,100 @@
+//! One call of the library beside the reference, every lent byte compared.
+use crate::random::Random;
+use crate::reference::{self, Ran, Refused};
+use bukzarn::{Refusal, Run, Written};
+
+/// Bytes of noise around each lent part, which no call may touch.
+const GUARD: usize = 16;
+
+/// What is given to a call; log, report and work area by their lengths.
+#[derive(Clone)]
+pub struct Given<'a> {
+    pub image: &'a [u8],
+    pub frame: Vec<u8>,
+    pub budget: u32,
+    pub log: usize,
+    pub report: usize,
+    pub work: usize,
+}
+
+/// The three lent parts in one piece of memory, with guards around them.
+struct Memory {
+    bytes: Vec<u8>,
+    starts: [usize; 3],
+    lengths: [usize; 3],
+}
+
+impl Memory {
+    fn new(random: &mut Random, lengths: [usize; 3]) -> Memory {
+        let starts = [GUARD, 2 * GUARD + lengths[0], 3 * GUARD + lengths[0] + lengths[1]];
+        let mut bytes = vec![0; starts[2] + lengths[2] + GUARD];
+        random.fill(&mut bytes);
+        Memory { bytes, starts, lengths }
+    }
+
+    fn parts(&mut self) -> [&mut [u8]; 3] {
+        let (before, work) = self.bytes.split_at_mut(self.starts[2]);
+        let (before, report) = before.split_at_mut(self.starts[1]);
+        let log = &mut before[self.starts[0]..];
+        [&mut log[..self.lengths[0]], &mut report[..self.lengths[1]], &mut work[..self.lengths[2]]]
+    }
+
+    /// "Bytes past these are unchanged. The work area is zero over its published length and unchanged past it."
+    fn after(&self, ran: &Ran) -> Vec<u8> {
+        let mut bytes = self.bytes.clone();
+        bytes[self.starts[0]..][..ran.log.len()].copy_from_slice(&ran.log);
+        bytes[self.starts[1]..][..ran.report.len()].copy_from_slice(&ran.report);
+        bytes[self.starts[2]..][..reference::WORK].fill(0);
+        bytes
+    }
+}
+
+/// Calls the library and the reference; panics where they differ.
+pub fn compare(random: &mut Random, given: &Given) -> Result<Ran, Refused> {
+    let expected = reference::call(given.image, &given.frame, given.budget, given.log, given.report, given.work);
+    let mut memory = Memory::new(random, [given.log, given.report, given.work]);
+    let after = match &expected {
+        Ok(ran) => memory.after(ran),
+        Err(_) => memory.bytes.clone(),
+    };
+    let read_only = (given.image.to_vec(), given.frame.clone());
+    let [log, report, work] = memory.parts();
+    let answer = bukzarn::call(given.image, &given.frame, given.budget, log, report, work);
+    same_answer(given, &expected, answer);
+    agree(given, memory.bytes == after, "lent memory");
+    agree(given, (given.image, &given.frame) == (&read_only.0, &read_only.1), "what is only read");
+    if let (Ok(ran), Ok(written)) = (&expected, answer) {
+        let [log, report, _] = memory.parts();
+        let run = Run::read(&log[..written.log], &report[..written.report]).unwrap();
+        agree(given, run.outcome().number() == ran.outcome, "the outcome that is read");
+    }
+    expected
+}
+
+fn same_answer(given: &Given, expected: &Result<Ran, Refused>, answer: Result<Written, Refusal>) {
+    let expected = match expected {
+        Ok(ran) => Ok((ran.log.len(), ran.report.len())),
+        Err(refused) => Err(*refused),
+    };
+    let refused = |refusal: Refusal| Refused(refusal.cause.number(), refusal.place);
+    let answered = answer.map(|written| (written.log, written.report)).map_err(refused);
+    agree(given, answered == expected, &format!("answers: {answered:?}, by the reference {expected:?}"));
+    if cfg!(feature = "validator") {
+        let verdict = bukzarn::validate(given.image, given.work, given.report).map_err(refused);
+        agree(given, verdict == expected.map(|_| ()), &format!("verdicts: {verdict:?}, by the reference {expected:?}"));
+    }
+}
+
+fn agree(given: &Given, agreed: bool, what: &str) {
+    let hex = || given.image.iter().map(|byte| format!("{byte:02x}")).collect::<String>();
+    assert!(
+        agreed,
+        "difference in {what}\nframe {:?}\nbudget {} log {} report {} work {}\nimage {}",
+        given.frame,
+        given.budget,
+        given.log,
+        given.report,
+        given.work,
+        hex()
+    );
+}

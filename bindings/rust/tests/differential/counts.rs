@@ -1,0 +1,39 @@
+//! How often each refusal and each outcome occurred.
+use crate::reference::{Ran, Refused};
+
+#[derive(Default)]
+pub struct Counts {
+    pub images: usize,
+    pub accepted: usize,
+    pub calls: usize,
+    refusals: [usize; 19],
+    outcomes: [usize; 10],
+}
+
+impl Counts {
+    /// Counts one call.
+    pub fn call(&mut self, answer: &Result<Ran, Refused>) {
+        self.calls += 1;
+        match answer {
+            Ok(ran) => self.outcomes[usize::from(ran.outcome)] += 1,
+            Err(refused) => self.refusals[usize::from(refused.0)] += 1,
+        }
+    }
+
+    /// Counts one image by its first call, which has ample memory.
+    pub fn image(&mut self, answer: &Result<Ran, Refused>) {
+        self.images += 1;
+        self.accepted += usize::from(answer.is_ok());
+    }
+
+    pub fn print(&self) {
+        println!("images {}, accepted {}, calls {}", self.images, self.accepted, self.calls);
+        println!("refusals 1 to 18: {:?}", &self.refusals[1..]);
+        println!("outcomes 0 to 9: {:?}", self.outcomes);
+    }
+
+    /// Did each refusal and each outcome occur?
+    pub fn complete(&self) -> bool {
+        self.refusals[1..].iter().chain(&self.outcomes).all(|count| *count > 0)
+    }
+}

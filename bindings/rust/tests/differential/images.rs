@@ -1,0 +1,149 @@
+//! Random whole images: well-typed, looped, damaged.
+use crate::damage;
+use crate::generate::Maker;
+use crate::random::Random;
+use crate::watched;
+use bukzarn::program::{Shape, Term, Type};
+
+/// A random image; a third are damaged.
+pub fn image(random: &mut Random) -> Vec<u8> {
+    let mut image = match random.below(10) {
+        0..=2 => looped(random),
+        3..=5 => watched::image(random),
+        _ => straight(random),
+    };
+    if random.chance(33) {
+        damage::damage(random, &mut image);
+    }
+    image
+}
+
+/// Labels and cells bound around a random body.
+fn straight(random: &mut Random) -> Vec<u8> {
+    let fuel = [5, 20, 60, 150, 400, 1000][random.below(6)];
+    let deepest = if random.chance(10) { 80 } else { 30 };
+    let depth = random.between(4, deepest);
+    let mut maker = Maker::new(random, fuel);
+    let root = bound(&mut maker, |maker, scope| {
+        let of = result_type(maker);
+        maker.term(of, 0, scope, depth)
+    });
+    maker.program.image(&root)
+}
+
+/// A plain type; rarely any.
+fn result_type(maker: &mut Maker) -> Type {
+    loop {
+        let of = maker.any_type(2);
+        if maker.program.is_plain(of) || maker.random.chance(2) {
+            return of;
+        }
+    }
+}
+
+/// Some labels and cells, each bound outside of the next, and the body inside them.
+fn bound(maker: &mut Maker, body: impl FnOnce(&mut Maker, &[Type]) -> Term) -> Term {
+    let mut scope = vec![];
+    let mut values = vec![];
+    for _ in 0..maker.random.below(6) {
+        let p = maker.domain_below(0);
+        let a = maker.type_at(0, 1);
+        let value = match maker.random.chance(60) {
+            true => maker.program.new_label(a, p),
+            false => {
+                let first = maker.smallest(a, 0, &scope);
+                maker.program.new_cell(p, first)
+            }
+        };
+        scope.push(value.of());
+        values.push(value);
+    }
+    let body = body(maker, &scope);
+    values.into_iter().rev().fold(body, |body, value| maker.program.bind(0, value, body))
+}
+
+/// How often a loop turns: a little, about a limit of room, or any number.
+pub fn turns(random: &mut Random) -> usize {
+    match random.below(4) {
+        0 => random.below(20),
+        1 => [63, 64, 65, 255, 256, 257, 511, 512, 513, 2046, 2047, 2048][random.below(12)],
+        _ => random.below(2500),
+    }
+}
+
+/// A function that calls itself through a cell, from n down to 0.
+fn looped(random: &mut Random) -> Vec<u8> {
+    let turns = turns(random);
+    let fuel = random.between(5, 60);
+    let mut maker = Maker::new(random, fuel);
+    let root = bound(&mut maker, |maker, scope| knot(maker, scope, turns));
+    maker.program.image(&root)
+}
+
+/// A number, by so many turns of a loop. The cell of the knot is the next variable, its argument the one after.
+pub fn knot(maker: &mut Maker, scope: &[Type], turns: usize) -> Term {
+    let number = maker.program.number_type();
+    let function = maker.program.make(Shape::Function(number, 0, number));
+    let cell = maker.program.make(Shape::Reference(function, 0));
+    let level = scope.len() as u16;
+    let inner = [scope, &[cell, number]].concat();
+    let cell_here = maker.program.variable(cell, level);
+    let argument = maker.program.variable(number, level + 1);
+    let end = maker.term(number, 0, &inner, 6);
+    let next = turn(maker, &cell_here, &argument, &inner);
+    let one = maker.program.number(1);
+    let test = maker.program.less(argument, one);
+    let body = maker.program.choose(test, end, next);
+    let body = maker.program.function(number, 0, body);
+    let tie = maker.program.store(cell_here.clone(), body);
+    let start = maker.program.number(turns as i32);
+    let read = maker.program.read(cell_here);
+    let go = maker.program.apply(read, start);
+    let tied = maker.program.sequence(tie, go);
+    let zero = maker.program.number(0);
+    let first = maker.program.function(number, 0, zero);
+    let first = maker.program.new_cell(0, first);
+    maker.program.bind(0, first, tied)
+}
+
+/// One turn of the knot: a random statement, a mark, or one that takes room, then the call for one less, last or inside
+/// a sum.
+fn turn(maker: &mut Maker, cell: &Term, argument: &Term, scope: &[Type]) -> Term {
+    let one = maker.program.number(1);
+    let less = maker.program.minus(argument.clone(), one);
+    let function = maker.program.read(cell.clone());
+    let call = maker.program.apply(function, less);
+    let call = match maker.random.chance(30) {
+        true => maker.program.plus(argument.clone(), call),
+        false => call,
+    };
+    let statement = match maker.random.below(10) {
+        0..=3 => maker.statement(0, scope, 8),
+        4..=6 => watched::mark(maker, 0, scope),
+        _ => take_room(maker, argument, scope),
+    };
+    maker.program.sequence(statement, call)
+}
+
+/// A statement that takes room each time: a cell, a label, a piece, installed advice, or a record of log.
+fn take_room(maker: &mut Maker, argument: &Term, scope: &[Type]) -> Term {
+    let number = maker.program.number_type();
+    let p = maker.domain_below(0);
+    let value = match maker.random.below(5) {
+        0 => maker.program.new_cell(p, argument.clone()),
+        1 => maker.program.new_label(number, p),
+        2 => maker.program.pair(argument.clone(), argument.clone()),
+        3 => {
+            let advice = maker.program.make(Shape::Advice(p));
+            let advice = maker.term(advice, 0, scope, 5);
+            maker.program.install(advice)
+        }
+        _ => maker.program.print(argument.clone()),
+    };
+    let unit = maker.program.unit();
+    match maker.program.shape(value.of()) {
+        Shape::Unit => value,
+        Shape::Pair(..) => maker.program.split(value, unit),
+        _ => maker.program.bind(0, value, unit),
+    }
+}

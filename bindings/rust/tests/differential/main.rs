@@ -1,0 +1,116 @@
+//! The library against an independent implementation of documents 01 and 003: answers, log, report and work area of
+//! calls on random images (well-typed, looped, damaged) and on images made for each refusal and each outcome.
+//!
+//! IMAGES is how many random images are tried, SEED where they begin:
+//!     IMAGES=100000 SEED=7 cargo test --test differential
+mod compare;
+mod constructors;
+mod counts;
+mod damage;
+mod generate;
+mod images;
+mod made;
+mod random;
+mod reference;
+mod rules;
+mod watched;
+
+use compare::{compare, Given};
+use counts::Counts;
+use random::Random;
+use reference::{Ran, Refused, REPORT, WORK};
+
+/// A number from the environment.
+fn setting(name: &str, default: u64) -> u64 {
+    match std::env::var(name) {
+        Ok(text) => text.parse().unwrap_or_else(|_| panic!("{name} is a number")),
+        Err(_) => default,
+    }
+}
+
+/// Calls once and counts it.
+fn call(random: &mut Random, counts: &mut Counts, given: &Given) -> Result<Ran, Refused> {
+    let answer = compare(random, given);
+    counts.call(&answer);
+    answer
+}
+
+/// The images that are made for one refusal or outcome.
+fn made_images(random: &mut Random, counts: &mut Counts) {
+    for (number, image) in made::refused() {
+        let answer = call(random, counts, &made::ample(&image));
+        assert_eq!(answer.err().map(|refused| refused.0), Some(number), "image made for refusal {number}");
+    }
+    for (number, given) in made::short(&made::constant()) {
+        let answer = call(random, counts, &given);
+        assert_eq!(answer.err(), Some(Refused(number, 0)), "call made for refusal {number}");
+    }
+    for (outcome, image) in made::ending() {
+        let budget = if outcome == 1 { 3 } else { u32::MAX };
+        let answer = call(random, counts, &Given { budget, ..made::ample(&image) });
+        assert_eq!(answer.ok().map(|ran| ran.outcome), Some(outcome), "image made for outcome {outcome}");
+    }
+}
+
+/// Every case of the rules, in small images.
+fn rule_images(random: &mut Random, counts: &mut Counts) {
+    for image in rules::type_rules().iter().chain(&rules::domain_rules()) {
+        let given = Given { log: 0, ..made::ample(image) };
+        let answer = call(random, counts, &given);
+        counts.image(&answer);
+    }
+}
+
+/// A length about `length`: a little less, the same, or more.
+fn about(random: &mut Random, length: usize) -> usize {
+    match random.below(10) {
+        0 => random.below(length + 1),
+        1 => length.saturating_sub(random.between(1, 12)),
+        2..=4 => length,
+        _ => length + random.below(100),
+    }
+}
+
+/// One random image: a call with ample memory, then calls with budgets and lengths about those that the first one used.
+fn random_image(random: &mut Random, counts: &mut Counts) {
+    let image = images::image(random);
+    let mut frame = vec![0; random.below(300)];
+    random.fill(&mut frame);
+    let first = Given { frame, ..made::ample(&image) };
+    let answer = call(random, counts, &first);
+    counts.image(&answer);
+    let (steps, log) = match &answer {
+        Ok(ran) => (u32::from_le_bytes(ran.report[6..10].try_into().unwrap()), ran.log.len()),
+        Err(_) => (0, 0),
+    };
+    for _ in 0..3 {
+        let budget = match random.below(4) {
+            0 => steps.saturating_add(random.below(3) as u32).saturating_sub(1),
+            1 => random.bits() as u32,
+            _ => random.below(steps as usize + 1) as u32,
+        };
+        let log = about(random, log);
+        let (report, work) = (about(random, REPORT), about(random, WORK));
+        let frame = first.frame[..random.below(first.frame.len() + 1)].to_vec();
+        let _ = call(random, counts, &Given { image: &image, frame, budget, log, report, work });
+    }
+}
+
+fn main() {
+    let (images, seed) = (setting("IMAGES", 4_000), setting("SEED", 1));
+    let mut counts = Counts::default();
+    made_images(&mut Random::new(seed), &mut counts);
+    rule_images(&mut Random::new(seed), &mut counts);
+    println!("made for a refusal, an outcome or a rule:");
+    counts.print();
+    for i in 0..images {
+        // Each image has a seed of its own, so that one alone can be tried again.
+        let result = std::panic::catch_unwind(std::panic::AssertUnwindSafe(|| {
+            random_image(&mut Random::new(seed.wrapping_add(i)), &mut counts)
+        }));
+        assert!(result.is_ok(), "the image of SEED={} differs", seed.wrapping_add(i));
+    }
+    println!("and with random images:");
+    counts.print();
+    assert!(counts.complete(), "a refusal or an outcome did not occur");
+}

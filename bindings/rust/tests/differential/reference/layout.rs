@@ -1,0 +1,143 @@
+//! Refusals 1 to 9: the records of an image, front to back (document 01, "The image").
+use super::Refused;
+
+/// A record: where it stands, its kind, its fields after the kind as 16-bit words (a number's 4 bytes are two).
+#[derive(Debug, PartialEq, Eq)]
+pub struct Record {
+    pub offset: usize,
+    pub kind: u16,
+    pub fields: Vec<u16>,
+}
+
+/// The three sections.
+pub struct Records {
+    pub domains: Vec<Record>,
+    pub types: Vec<Record>,
+    pub terms: Vec<Record>,
+}
+
+/// What a field must be.
+enum Field {
+    /// A type below the record's own, of a type record.
+    Part,
+    /// A type, of a term record.
+    Type,
+    /// A term below the record's own.
+    Child,
+    Domain,
+    Op,
+    Truth,
+    /// A mask, a variable, half a number.
+    Any,
+}
+
+/// Which section a kind belongs to.
+fn section(kind: u16) -> Option<usize> {
+    match kind {
+        1 => Some(0),
+        16..=24 => Some(1),
+        32..=53 | 60 => Some(2),
+        _ => None,
+    }
+}
+
+/// The fields of a kind; a pointcut term has as many children as its length says.
+fn fields(kind: u16, length: usize) -> Vec<Field> {
+    use Field::*;
+    match kind {
+        1 => vec![Any],
+        16..=18 => vec![],
+        19 => vec![Part, Part],
+        20 => vec![Part, Domain, Part],
+        21..=23 => vec![Part, Domain],
+        24 => vec![Domain],
+        32 | 44 | 53 => vec![Type],
+        33 => vec![Type, Truth],
+        34 => vec![Type, Any, Any],
+        35 => vec![Type, Any],
+        38 => vec![Type, Child, Child, Child],
+        37 | 41 | 48 | 49 | 50 | 60 => vec![Type, Child],
+        36 | 39 | 40 | 42 | 45 | 47 | 51 => vec![Type, Child, Child],
+        43 => vec![Type, Op, Child, Child],
+        46 => {
+            let labels = (length.saturating_sub(6) / 2).min(8);
+            [Type].into_iter().chain((0..labels).map(|_| Child)).collect()
+        }
+        52 => vec![Type, Domain, Child],
+        _ => unreachable!("section() knows the kinds"),
+    }
+}
+
+impl Records {
+    fn section(&self, section: usize) -> &Vec<Record> {
+        [&self.domains, &self.types, &self.terms][section]
+    }
+
+    fn in_range(&self, field: &Field, value: u16) -> bool {
+        let limit = match field {
+            Field::Part | Field::Type => self.types.len(),
+            Field::Child => self.terms.len(),
+            Field::Domain => self.domains.len(),
+            Field::Op => 4,
+            Field::Truth => 2,
+            Field::Any => return true,
+        };
+        usize::from(value) < limit
+    }
+}
+
+fn word(image: &[u8], at: usize) -> u16 {
+    u16::from(image[at]) + 256 * u16::from(image[at + 1])
+}
+
+/// The record at an offset, if it meets none of 2 to 8; `current` is the section of the one before it.
+fn record(image: &[u8], offset: usize, before: &Records, current: usize) -> Result<(usize, Record), Refused> {
+    let refuse = |number| Err(Refused(number, offset));
+    let left = image.len() - offset;
+    if left < 4 {
+        return refuse(2);
+    }
+    let length = usize::from(word(image, offset));
+    if length < 4 || length > left {
+        return refuse(2);
+    }
+    let kind = word(image, offset + 2);
+    let Some(section) = section(kind) else { return refuse(3) };
+    let wanted = fields(kind, length);
+    if length != 4 + 2 * wanted.len() {
+        return refuse(4);
+    }
+    if section < current {
+        return refuse(5);
+    }
+    if before.section(section).len() == [16, 128, 1024][section] {
+        return refuse(6);
+    }
+    let fields: Vec<u16> = (0..wanted.len()).map(|i| word(image, offset + 4 + 2 * i)).collect();
+    if !wanted.iter().zip(&fields).all(|(field, value)| before.in_range(field, *value)) {
+        return refuse(7);
+    }
+    if section == 1 && before.types.iter().any(|earlier| earlier.kind == kind && earlier.fields == fields) {
+        return refuse(8);
+    }
+    Ok((section, Record { offset, kind, fields }))
+}
+
+/// The records of an image that meets none of 1 to 9.
+pub fn read(image: &[u8]) -> Result<Records, Refused> {
+    if image.len() > 16_384 {
+        return Err(Refused(1, 0));
+    }
+    let mut records = Records { domains: vec![], types: vec![], terms: vec![] };
+    let (mut offset, mut current) = (0, 0);
+    while offset < image.len() {
+        let (section, record) = record(image, offset, &records, current)?;
+        offset += usize::from(word(image, offset));
+        current = section;
+        [&mut records.domains, &mut records.types, &mut records.terms][section].push(record);
+    }
+    match (0..3).any(|section| records.section(section).is_empty()) {
+        true => Err(Refused(9, image.len())),
+        false => Ok(records),
+    }
+}

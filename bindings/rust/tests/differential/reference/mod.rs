@@ -1,0 +1,40 @@
+//! What a call answers and leaves, written from documents 01 and 003 alone and as literally as possible: the check rule
+//! by rule, the run by substitution. It shares no text with the engine.
+mod decode;
+mod layout;
+mod report;
+mod run;
+mod shape;
+mod step;
+mod term;
+mod typing;
+
+/// The published length of the work area, and the least length of a report.
+pub const WORK: usize = 31_753;
+pub const REPORT: usize = 17_994;
+
+/// Number and place of a refusal.
+#[derive(Clone, Copy, Debug, PartialEq, Eq)]
+pub struct Refused(pub u16, pub usize);
+
+/// What a run left: its outcome, and the bytes that it wrote.
+pub struct Ran {
+    pub outcome: u16,
+    pub log: Vec<u8>,
+    pub report: Vec<u8>,
+}
+
+/// One call with lent parts of these lengths.
+pub fn call(image: &[u8], frame: &[u8], budget: u32, log: usize, report: usize, work: usize) -> Result<Ran, Refused> {
+    let records = layout::read(image)?;
+    shape::check(&records)?;
+    typing::check(&records)?;
+    if work < WORK {
+        return Err(Refused(17, 0));
+    }
+    if report < REPORT {
+        return Err(Refused(18, 0));
+    }
+    let ended = run::run(decode::root(&records), frame, budget, log);
+    Ok(Ran { outcome: ended.outcome, report: report::report(&ended), log: ended.log })
+}

@@ -1,0 +1,176 @@
+/* The watch engine for C: the functions of libengine.a and libvalidator.a.
+
+   Build the libraries in the repository's root with
+       rt staticlib engine && rt staticlib validator
+   which writes target/staticlib/libengine.a and target/staticlib/libvalidator.a.
+   Each needs memcpy and memset and nothing else: no heap, no files, no global state, so calls from several threads at
+   once are safe as long as the memory that they write is different. Recursion is at most 64 deep; on the images tried a
+   call took under 40,000 bytes of stack (tried, not proved).
+
+   "Document 01" is the paper that decides layouts, numbers and limits. What a call answers and leaves is the definition
+   `called` in crates/calls/specs/Calls.antt, and the library is proved to meet it for every input. */
+#ifndef BUKZARN_H
+#define BUKZARN_H
+
+#include <stddef.h>
+#include <stdint.h>
+
+#ifdef __cplusplus
+extern "C" {
+#endif
+
+/* Lengths, in bytes. */
+enum {
+    BUKZARN_IMAGE_LIMIT = 16384,  /* longest image that can be accepted */
+    BUKZARN_WORK_LENGTH = 31753,  /* published length of the work area */
+    BUKZARN_REPORT_LENGTH = 17994 /* every report fits in this */
+};
+
+/* How a run ended (document 01, "A run"). */
+enum bukzarn_outcome {
+    BUKZARN_DONE = 0,
+    BUKZARN_SPENT = 1,   /* the steps equal the budget */
+    BUKZARN_ABORTED = 2, /* the program aborted */
+    BUKZARN_FRAMES = 3,  /* more than 512 unfinished terms */
+    BUKZARN_BINDINGS = 4,
+    BUKZARN_CELLS = 5,
+    BUKZARN_LABELS = 6,
+    BUKZARN_ADVICE = 7, /* installed advice */
+    BUKZARN_PIECES = 8,
+    BUKZARN_LOG = 9 /* a print found under 10 bytes left in the log */
+};
+
+/* Why a call is refused (document 01, "Turned back at the gate"). The place is an offset in the image, or 0, or the
+   image's length, as said here. */
+enum bukzarn_refusal {
+    BUKZARN_ACCEPTED = 0,
+    BUKZARN_IMAGE_TOO_LONG = 1,    /* over 16,384 bytes; place 0 */
+    BUKZARN_BROKEN_RECORD = 2,     /* 1 to 3 bytes left, a length under 4 or past the end; the record */
+    BUKZARN_UNKNOWN_KIND = 3,      /* the record */
+    BUKZARN_WRONG_LENGTH = 4,      /* for its kind; the record */
+    BUKZARN_SECTION_ORDER = 5,     /* the record */
+    BUKZARN_TOO_MANY_RECORDS = 6,  /* in one section; the record */
+    BUKZARN_FIELD_RANGE = 7,       /* a type, child, domain, op or truth out of range; the record */
+    BUKZARN_REPEATED_TYPE = 8,     /* the later record */
+    BUKZARN_EMPTY_SECTION = 9,     /* the image's length */
+    BUKZARN_DOMAIN_ORDER = 10,     /* the first domain at fault */
+    BUKZARN_USE_COUNT = 11,        /* the first term, other than the root, not used exactly once */
+    BUKZARN_TOO_DEEP = 12,         /* the first term deeper than 64 */
+    BUKZARN_UNBOUND_VARIABLE = 13, /* the record */
+    BUKZARN_TYPE_RULE = 14,        /* the record */
+    BUKZARN_DOMAIN_RULE = 15,      /* the record */
+    BUKZARN_ROOT_NOT_PLAIN = 16,   /* the root */
+    BUKZARN_SHORT_WORK_AREA = 17,  /* place 0 */
+    BUKZARN_SHORT_REPORT = 18      /* place 0 */
+};
+
+/* Kinds of the records in log and report. A record is its length in bytes, its kind, then its fields; all are
+   unsigned, 16 bits, little-endian, but for numbers and steps, which are 4 bytes, little-endian (a number in two's
+   complement). */
+enum bukzarn_record {
+    BUKZARN_PRINTED = 64,    /* 10 bytes, log: domain, number */
+    BUKZARN_UNIT = 65,       /* 4 bytes, a leaf */
+    BUKZARN_TRUTH = 66,      /* 6 bytes, a leaf: 0 or 1 */
+    BUKZARN_NUMBER = 67,     /* 8 bytes, a leaf: number */
+    BUKZARN_PLAIN_CELL = 68, /* its domain, then its leaves inside its length */
+    BUKZARN_OTHER_CELL = 69, /* 6 bytes: its domain */
+    BUKZARN_REPORT = 70      /* 10 bytes, first in the report: outcome, steps */
+};
+
+/* One call: accepts or refuses the image, and runs an accepted one over the frame for at most `budget` steps.
+
+   Lent: five parts, each a pointer and a length in bytes. Every pointer is to that many bytes and not NULL, also where
+   the length is 0. `image` and `frame` are only read. `log`, `report` and `work` are written; none of them overlaps any
+   other part. Every length and every content is allowed: a report shorter than BUKZARN_REPORT_LENGTH or a work area
+   shorter than BUKZARN_WORK_LENGTH is refused, and no log is too short to start.
+
+   Answered, one number (take it apart with the functions below):
+     of a run      the bytes written to the report, which are never 0, plus 2^16 times the bytes written to the log;
+     of a refusal  2^16 times its number plus 2^24 times its place; its low 16 bits are 0.
+
+   Left by a run: the log begins with the written records, one of 10 bytes for each number printed, in order; the report
+   begins with the record of outcome and steps, then, if the outcome is done, the leaves of the result, then, done or
+   not, each cell in order of creation. Bytes of log and report past the written ones are unchanged. The work area is
+   zero over BUKZARN_WORK_LENGTH bytes and unchanged past them.
+
+   Left by a refusal: all lent memory as it was. */
+uint64_t run_watched(const uint8_t *image, size_t image_length,
+                     const uint8_t *frame, size_t frame_length,
+                     uint32_t budget,
+                     uint8_t *log, size_t log_length,
+                     uint8_t *report, size_t report_length,
+                     uint8_t *work, size_t work_length);
+
+/* The verdict on an image that would be run with a work area and a report of so many bytes, without a run: 0 if the
+   call would run, else the number of its refusal. Only reads the image. In libvalidator.a. */
+uint16_t validate_number(const uint8_t *image, size_t image_length, size_t work_length, size_t report_length);
+
+/* The place of that refusal, 0 if the call would run. In libvalidator.a. */
+size_t validate_place(const uint8_t *image, size_t image_length, size_t work_length, size_t report_length);
+
+/* Is this the answer of a run, not of a refusal? */
+static inline int bukzarn_is_run(uint64_t answer)
+{
+    return (answer & 0xFFFFu) != 0;
+}
+
+/* Of a run: the bytes written to the report. */
+static inline size_t bukzarn_report_bytes(uint64_t answer)
+{
+    return (size_t)(answer & 0xFFFFu);
+}
+
+/* Of a run: the bytes written to the log. */
+static inline size_t bukzarn_log_bytes(uint64_t answer)
+{
+    return (size_t)(answer >> 16);
+}
+
+/* The number of a refusal, 1 to 18; BUKZARN_ACCEPTED for the answer of a run. */
+static inline enum bukzarn_refusal bukzarn_refusal_number(uint64_t answer)
+{
+    return bukzarn_is_run(answer) ? BUKZARN_ACCEPTED : (enum bukzarn_refusal)((answer >> 16) & 0xFFu);
+}
+
+/* Of a refusal: its place. */
+static inline size_t bukzarn_place(uint64_t answer)
+{
+    return (size_t)(answer >> 24);
+}
+
+/* A 16-bit field at a byte of log or report. */
+static inline uint16_t bukzarn_word(const uint8_t *at)
+{
+    return (uint16_t)(at[0] | (uint16_t)(at[1] << 8));
+}
+
+/* A count of steps, or the bits of a number. */
+static inline uint32_t bukzarn_double_word(const uint8_t *at)
+{
+    return (uint32_t)bukzarn_word(at) | ((uint32_t)bukzarn_word(at + 2) << 16);
+}
+
+/* A printed or reported number. */
+static inline int32_t bukzarn_number(const uint8_t *at)
+{
+    uint32_t bits = bukzarn_double_word(at);
+    return bits <= INT32_MAX ? (int32_t)bits : (int32_t)(bits - 0x80000000u) + INT32_MIN;
+}
+
+/* How the run that wrote this report ended. */
+static inline enum bukzarn_outcome bukzarn_outcome_of(const uint8_t *report)
+{
+    return (enum bukzarn_outcome)bukzarn_word(report + 4);
+}
+
+/* The steps of the run that wrote this report. */
+static inline uint32_t bukzarn_steps_of(const uint8_t *report)
+{
+    return bukzarn_double_word(report + 6);
+}
+
+#ifdef __cplusplus
+}
+#endif
+
+#endif

@@ -1,0 +1,94 @@
+"""The examples: images from their texts, the crate that runs them, and watches that leave the decoder alone."""
+import unittest
+from pathlib import Path
+
+import common
+import make_cases
+import make_examples
+from watchlang import kinds, refusals
+from watchlang.disassembler import tree
+from watchlang.layout import laid_out
+from watchlang.terms import body_domain
+
+FOLDER = common.ROOT / "examples"
+CRATE = common.ROOT / "crates/examples_run"
+WITH_WATCHES = ("count", "trace", "watched", "plausible")
+
+
+def high_log(name):
+    """The log lines of domain 0 in an example's listing."""
+    return [line for line in (FOLDER / f"{name}.txt").read_text().splitlines() if line.startswith("log 0 ")]
+
+
+def blanked(name):
+    """The program of an example with its low bodies left out: kinds, types and fields as nested tuples."""
+    def blank(e, here):
+        if here != 0:
+            return "low"
+        inner = [blank(c, here) for c in e.children[:-1]]
+        inner += [blank(c, body_domain(e, here)) for c in e.children[-1:]]
+        fields = [f for f in e.fields if isinstance(f, int)]
+        return (e.kind, e.type, fields, inner)
+    return blank(tree(laid_out((FOLDER / f"{name}.img").read_bytes())), 0)
+
+
+class Examples(unittest.TestCase):
+    def test_images_are_what_the_texts_give(self):
+        for name, files in make_examples.examples(FOLDER):
+            made = make_examples.assembled(files, FOLDER).image
+            self.assertEqual((FOLDER / f"{name}.img").read_bytes(), made, name)
+            self.assertEqual((CRATE / "data" / f"{name}.img").read_bytes(), made, name)
+
+    def test_the_crate_expects_the_listings(self):
+        args, stdout = make_examples.crate_files(FOLDER)
+        self.assertEqual((CRATE / "args").read_text(), args)
+        self.assertEqual((CRATE / "stdout").read_text(), stdout)
+        self.assertEqual({f"{p.name}\n" for p in (CRATE / "data").iterdir()}, set(args.splitlines(keepends=True)))
+
+    def test_watches_differ_only_in_low_bodies(self):
+        for name in WITH_WATCHES:
+            self.assertEqual(blanked(name), blanked("plain"), name)
+
+    def test_the_decoders_log_is_the_same_with_watches(self):
+        plain = high_log("plain")
+        self.assertEqual(len(plain), 18)
+        for name in ("count", "trace", "watched"):
+            self.assertEqual(high_log(name), plain, name)
+        stopped = high_log("plausible")
+        self.assertEqual(stopped, plain[:len(stopped)])
+        self.assertLess(len(stopped), len(plain))
+
+    def test_refused_watches_are_explained(self):
+        """The README has what the tool says of them, with the number and the place of the listing."""
+        readme = (FOLDER / "README.md").read_text()
+        for name, files in make_examples.examples(FOLDER):
+            listing = (FOLDER / f"{name}.txt").read_text()
+            if listing.startswith("refused"):
+                made = make_examples.assembled(files, FOLDER)
+                _, number, place = listing.split()
+                said = refusals.explain(made.image, int(number), int(place), made.places, made.domains)
+                for line in said.splitlines():
+                    self.assertIn(line.strip(), readme)
+
+    def test_every_text_is_used(self):
+        used = {f for _, files in make_examples.examples(FOLDER) for f in files}
+        self.assertEqual(used, {p.name for p in FOLDER.iterdir() if p.suffix in (".proc", ".watch")})
+
+
+class Cases(unittest.TestCase):
+    def test_the_cases_are_what_their_script_makes(self):
+        crate, args = common.ROOT / make_cases.CRATE, []
+        for name, image, budget in make_cases.all_cases():
+            self.assertEqual((crate / "data" / f"{name}.img").read_bytes(), image, name)
+            args += [str(budget), f"{name}.img"]
+        self.assertEqual((crate / "args").read_text().split(), args)
+
+
+class Files(unittest.TestCase):
+    def test_no_file_is_long(self):
+        for file in Path(common.ROOT / "tools").rglob("*.py"):
+            self.assertLessEqual(len(file.read_text().splitlines()), 400, file)
+
+
+if __name__ == "__main__":
+    unittest.main()

@@ -1,0 +1,179 @@
+"""The text form: what it gives, how types are worked out, and what is said of its errors."""
+import unittest
+
+import common
+from watchlang.assembler import assemble
+from watchlang.disassembler import disassemble
+from watchlang.gate import verdict
+from watchlang.lexer import SourceError
+
+HEAD = "domain main\ndomain watch <= main\n"
+
+
+def text_of(program):
+    """The text that the disassembler gives for a program, without its head."""
+    made = disassemble(assemble(HEAD + program).image)
+    return made.split("\n\n", 1)[1].strip()
+
+
+class Text(unittest.TestCase):
+    def test_the_bench_sheets_second_case(self):
+        image = assemble("domain main\n5").image
+        self.assertEqual(image.hex(" "), "06 00 01 00 01 00 04 00 12 00 0a 00 22 00 00 00 05 00 00 00")
+
+    def test_every_construct(self):
+        """Each text is its own normal form, and is accepted."""
+        for program in (
+                "()", "true", "-2147483648", "print 1 + 2;\n()", "if 1 < 2 then 3 else 4", "(1, (true, ()))",
+                "let (x0, x1) = (1, true) in\nx0", "let x0 = function (x0 : number) at d0 { x0 + 1 } in\nx0(2)",
+                "frame[255] == 255", "let x0 = new label unit at d0 in\nmark x0 with ()",
+                "install advice on pointcut {} of number at d1 as x0 at d1 { print x0 }",
+                "let x0 = new cell 1 at d1 in\nx0 := 2", "let x0 = new cell 1 at d0 in\nread x0 - (1 + 1)",
+                "lower to d1 { abort unit }", "abort (number, truth)", "(function (x0 : number) at d0 { x0 })(1)"):
+            with self.subTest(program):
+                text = program.replace("d0", "main").replace("d1", "watch")
+                self.assertIsNone(verdict(assemble(HEAD + text).image))
+                if not program.startswith("(function"):
+                    self.assertEqual(text_of(text), program)
+
+    def test_an_application_of_a_function_is_a_let(self):
+        self.assertEqual(text_of("(function (x : number) { x })(1)"), "let x0 = 1 in\nx0")
+
+    def test_grouping(self):
+        self.assertEqual(text_of("{ print 1; print 2 }; print 3"), "{\n    print 1;\n    print 2\n};\nprint 3")
+        self.assertEqual(text_of("1 - (2 - 3) - 4"), "1 - (2 - 3) - 4")
+        self.assertEqual(text_of("let p = (1, 2) in let f = function (q : (number, number)) { 0 } in f(3, 4) + f(p)"),
+                         "let x0 = (1, 2) in\nlet x1 = function (x1 : (number, number)) at d0 { 0 } in\n"
+                         "x1(3, 4) + x1(x0)")
+
+    def test_left_out_domains_are_the_current_one(self):
+        self.assertEqual(text_of("lower to watch { let c = new cell 1 in c := 2 }"),
+                         "lower to d1 {\n    let x0 = new cell 1 at d1 in\n    x0 := 2\n}")
+
+    def test_a_recursive_function_stands_in_a_cell(self):
+        made = text_of("define f (n : number) to number { if n < 1 then 0 else f(n - 1) } in f(3)")
+        self.assertEqual(made, "let x0 = new cell function (x0 : number) at d0 { abort number } at d0 in\n"
+                               "x0 := function (x1 : number) at d0 { if x1 < 1 then 0 else (read x0)(x1 - 1) };\n"
+                               "(read x0)(3)")
+
+    def test_a_function_that_does_not_call_itself_does_not(self):
+        made = text_of("define f (n : number) to number { n } in f(3)")
+        self.assertEqual(made, "let x0 = function (x0 : number) at d0 { x0 } in\nx0(3)")
+
+    def test_stated_types_are_not_checked(self):
+        self.assertEqual(verdict(assemble(HEAD + "print (true : number)").image).number, 14)
+        self.assertEqual(verdict(assemble(HEAD + "(var 3 : unit)").image).number, 13)
+
+    def test_names_of_inner_variables_hide_outer_ones(self):
+        self.assertEqual(text_of("let x = 1 in let x = x + 1 in x"), "let x0 = 1 in\nlet x1 = x0 + 1 in\nx1")
+
+    def test_domains_are_closed_upwards(self):
+        image = assemble("domain a\ndomain c <= b\ndomain b <= a\n()").image
+        self.assertEqual([image[4], image[10], image[16]], [1, 7, 5])
+
+    def test_types_by_name(self):
+        text = "type level = (number, number)\nlet l = new label level in mark l with (1, 2)"
+        self.assertIsNone(verdict(assemble(HEAD + text).image))
+
+
+class Frames(unittest.TestCase):
+    def field(self, how, program="frame.f"):
+        return text_of(f"frame {{ f at {how} }}\n{program}").rsplit(" in\n")[-1]
+
+    def test_fields(self):
+        self.assertEqual(self.field("9"), "frame[9]")
+        self.assertEqual(self.field("9 width 2"), "x0(x0(frame[9])) + frame[10]")
+        self.assertEqual(self.field("9 width 2 little"), "x0(x0(frame[10])) + frame[9]")
+        self.assertEqual(self.field("9 width 2 signed"), "x1(x0(x0(frame[9])) + frame[10])")
+        self.assertEqual(self.field("9 signed"), "x0(frame[9])")
+        self.assertEqual(self.field("9", "frame.f[20]"), "frame[29]")
+        self.assertEqual(self.field("9", "let b = 1 in frame.f[b]"), "frame[x0 + 9]")
+
+    def test_each_domain_has_its_own_functions(self):
+        made = assemble(HEAD + "frame { f at 1 width 2 }\nlower to watch { print frame.f }; frame.f")
+        self.assertIsNone(verdict(made.image))
+
+    def test_a_watch_binds_its_own_functions(self):
+        """So the procedure around it is the same with it and without."""
+        procedure = HEAD + "frame { f at 1 width 2 }\nwatches at watch"
+        made = disassemble(assemble(procedure, "p", [("print frame.f", "w")]).image)
+        self.assertIn("lower to d1 {\n    let x0 = function (x0 : number) at d1 {", made)
+
+
+ERRORS = (
+    ("5", "line 1: a text starts with its domains"),
+    ("domain a\n\nx", "line 3: x is not bound here; in scope are: none"),
+    ("domain a\nlet y = 1 in x", "line 2: x is not bound here; in scope are: y"),
+    ("domain a\nprint", "line 2: expected a name for a variable, but found 'the end of the text'"),
+    ("domain a\n(1", "line 2: expected ')' after the term"),
+    ("domain a\n5 $", "line 2: the sign '$' is not part of the language"),
+    ("domain a\n5 6", "line 2: expected the end of the text, but found '6'"),
+    ("domain a\nlower to b { () }", "line 2: there is no domain b; the domains are a"),
+    ("domain a\ndomain a\n()", "line 2: a domain is declared twice: a"),
+    ("domain a\n1(2)", "what is applied must be a function"),
+    ("domain a\nread 1", "what is read must be a reference"),
+    ("domain a\nfunction (x) { () }", "the parameter x needs a type"),
+    ("domain a\npointcut {}", "say of which values"),
+    ("domain a\nnew label t", "there is no type t"),
+    ("domain a\n2147483648", "must be from -2147483648 to 2147483647"),
+    ("domain a\nframe.p", "the frame has no field p"),
+    ("domain a\nframe { p at 3 width 5 }\n()", "a width must be from 1 to 4, but is 5"),
+    ("domain a\nframe { p at 3 }\nframe.p[1 + 1]", "expected ']'"),
+    ("domain a\nframe { p at 3 }\nframe.p[(1 + 1)]", "must be a variable or a number"),
+    ("domain a\nframe { p at 3 }\nframe.p[40000]", "must be from -32768 to 32767, but is 40000"),
+    ("domain a\nlet in = 1 in 2", "expected a name for a variable, but found 'in', which is a word of the language"),
+    ("domain a\nwatches at a;\nwatches at a", "line 3: the watches have a place already: text, line 2"),
+    ("domain a\ndefine f (n : number) to truth { f(n); 1 } in f(1)", "does not have the type that is said"),
+    ("domain a\npointcut {" + ", ".join(["1"] * 9) + "}", "a pointcut has at most 8 labels, this one has 9"),
+    ("\n".join(f"domain d{i}" for i in range(17)) + "\n()", "line 17: an image has at most 16 domains"),
+    ("records\nterm 0: number 5", "line 2: a term ends with 'as'"),
+    ("records\nterm 1: unit as 0", "line 2: this is term 0, but the line says 1"),
+    ("records\nterm 0: units as 0", "no term is called units"),
+    ("records\ntype 0: pair 1", "pair does not have 1 fields"),
+    ("records\ntype 0: pair 1 70000", "70000 is not from 0 to 65535"),
+    ("records\nbytes 1 2 xy", "bytes are written as hexadecimal"),
+    ("records\nnonsense", "expected domain, type or term"),
+)
+
+
+class Page(unittest.TestCase):
+    def test_the_texts_of_the_page_are_accepted_or_read(self):
+        """docs/LANGUAGE.md: its first text is accepted, its text of records is one with stray bytes."""
+        _, first, _, last, _ = (common.ROOT / "docs/LANGUAGE.md").read_text().split("```")
+        self.assertIsNone(verdict(assemble(first).image))
+        self.assertEqual(verdict(assemble(last).image).number, 2)
+
+
+class Errors(unittest.TestCase):
+    def test_errors_name_line_and_cause(self):
+        for text, words in ERRORS:
+            with self.subTest(text), self.assertRaises(SourceError) as caught:
+                assemble(text)
+            self.assertIn(words, str(caught.exception))
+
+    def test_watches_have_names_of_their_own(self):
+        watch = "type t = number\nframe { f at 1 }\nprint (frame.f : t)"
+        assemble(HEAD + "watches at watch", "p", [(watch, "w"), (watch, "v")])
+
+    def test_a_watch_inside_a_function_may_call_it(self):
+        procedure = "define f (n : number) to unit { watches at main } in f(1)"
+        made = assemble(HEAD + procedure, "p", [("if n < 1 then () else f(n - 1)", "w")]).image
+        self.assertIsNone(verdict(made))
+
+    def test_errors_of_watches(self):
+        for procedure, watch, words in (
+                ("()", "()", "the procedure has no place for watches"),
+                ("watches at watch", "domain b\n()", "w, line 1: a watch has no domains of its own"),
+                ("watches at watch", "\nlevel", "w, line 2: level is not bound here")):
+            with self.subTest(words), self.assertRaises(SourceError) as caught:
+                assemble(HEAD + procedure, "p", [(watch, "w")])
+            self.assertIn(words, str(caught.exception))
+
+    def test_deep_texts(self):
+        with self.assertRaises(SourceError) as caught:
+            assemble("domain a\n" + "(" * 100_000)
+        self.assertIn("nested too deeply", str(caught.exception))
+
+
+if __name__ == "__main__":
+    unittest.main()

@@ -1,0 +1,36 @@
+"""From text to an image."""
+from dataclasses import dataclass
+
+from . import recordform, terms
+from .header import Head
+from .lexer import SourceError, tokens
+from .parser import Parser, Watches
+
+
+@dataclass
+class Assembled:
+    """An image, the places of its terms in the text by offset, and the names of its domains."""
+    image: bytes
+    places: dict
+    domains: list
+
+
+def assemble(text, file="text", watches=()):
+    """The image of a procedure's text with the texts of watches (pairs of text and file name) in its place for them.
+    What is wrong in a text is a SourceError."""
+    if recordform.is_records(text):
+        if watches:
+            raise SourceError(tokens(text, file)[0].place, "a text of records takes no watches")
+        return Assembled(*recordform.assemble(text, file), [])
+    head, hung = Head(), Watches(list(watches))
+    try:
+        parser = Parser(text, file, head, hung)
+        parser.headlines()
+        if not head.domains:
+            parser.fail("a text starts with its domains: domain NAME")
+        laid = terms.lay_out(parser.whole(), head.masks(), head.types.values())
+    except RecursionError:
+        raise SourceError(tokens(text, file)[0].place, "the terms are nested too deeply to be read") from None
+    if hung.texts and not hung.place:
+        raise SourceError(tokens(text, file)[-1].place, "the procedure has no place for watches: watches at DOMAIN")
+    return Assembled(laid.image, laid.places, head.domains)

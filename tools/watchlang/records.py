@@ -1,0 +1,56 @@
+"""Records as bytes (document 01, "The image"): a length, a kind, then fields, all little-endian."""
+import struct
+from dataclasses import dataclass
+
+from . import kinds
+
+
+@dataclass(frozen=True)
+class Record:
+    """A record as it stands in an image. A number is one field, with its sign."""
+    offset: int
+    kind: int
+    fields: tuple
+
+    def parts(self, letter):
+        """The fields of one letter: "a" types, "e" terms, "p" domains and so on."""
+        letters = kinds.fields(self.kind, len(self.fields) - 1)
+        return [f for f, l in zip(self.fields, letters) if l == letter]
+
+
+def record(kind, *fields):
+    """The bytes of a record. A field is a 16-bit number, or bytes that are taken as they are."""
+    body = b"".join(f if isinstance(f, bytes) else struct.pack("<H", f) for f in fields)
+    return struct.pack("<HH", 4 + len(body), kind) + body
+
+
+def written(kind, fields):
+    """The bytes of a record whose number, if it has one, is a Python number with its sign."""
+    letters = kinds.fields(kind, len(fields) - 1)
+    return record(kind, *(struct.pack("<i", f) if l == "n" else f for f, l in zip(fields, letters)))
+
+
+def word(data, offset):
+    return struct.unpack_from("<H", data, offset)[0]
+
+
+def lengths(kind):
+    """The lengths that a record of a kind may have."""
+    if kind == kinds.POINTCUT:
+        return range(6, 6 + 2 * kinds.LABEL_LIMIT + 1, 2)
+    letters = kinds.fields(kind)
+    return (4 + sum(4 if l == "n" else 2 for l in letters),)
+
+
+def record_at(data, offset):
+    """The record at an offset, or the number of the refusal (2, 3 or 4) that it meets."""
+    if len(data) - offset < 4 or word(data, offset) < 4 or offset + word(data, offset) > len(data):
+        return 2
+    length, kind = word(data, offset), word(data, offset + 2)
+    if kind not in kinds.KINDS:
+        return 3
+    if length not in lengths(kind):
+        return 4
+    letters = kinds.fields(kind, (length - 6) // 2)
+    layout = "<" + "".join("i" if l == "n" else "H" for l in letters)
+    return Record(offset, kind, struct.unpack_from(layout, data, offset + 4))

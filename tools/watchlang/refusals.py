@@ -1,0 +1,122 @@
+"""The eighteen refusals of document 01 in words, and what to do about each."""
+from . import kinds
+from .assembler import assemble
+from .disassembler import disassemble
+from .gate import verdict
+from .records import Record, record_at, word
+
+# For each number: the cause, and how to mend it.
+REFUSALS = {
+    1: ("the image has more than 16,384 bytes",
+        "Shorten the program: code that stands twice can be one function."),
+    2: ("1 to 3 bytes are left over, or a record's length is under 4 or goes past the image's end",
+        "The image was cut off or damaged on its way: send it again, or assemble it again."),
+    3: ("a record of a kind that does not exist",
+        "The image was damaged, or it was written for a newer engine: assemble it again from its text."),
+    4: ("a record whose length is wrong for its kind; a pointcut has at most 8 labels",
+        "Assemble it again from its text; split a pointcut of more than 8 labels into two watches."),
+    5: ("a domain after a type or term, or a type after a term",
+        "Domains come first, then types, then terms: the assembler writes them so."),
+    6: ("more than 16 domains, 128 types or 1,024 terms",
+        "Use fewer: share domains, share types, make code that stands twice one function."),
+    7: ("a field names a type, term, domain or operation that is not there, or a truth that is neither 0 nor 1",
+        "Parts and children are lower numbers than their record's own: the assembler writes them so."),
+    8: ("a type that equals an earlier one",
+        "Use the number of the earlier one: the assembler writes each type once."),
+    9: ("no domain, no type or no term",
+        "The image is empty or was cut off: an image has at least one record of each section."),
+    10: ("the masks of the domains are no order, or name a domain that is not there",
+         "Each domain's mask has its own bit and every domain above it. With 'domain a <= b' the assembler sees to it; "
+         "no two domains may be below each other."),
+    11: ("a term that is used by no other, or by more than one",
+         "Each term but the last is the child of exactly one other: shared code is a function."),
+    12: ("terms nested deeper than 64",
+         "Make part of it a function, or put parentheses around the first half of a long sequence. Each 'let' is two "
+         "deep, each ';' one."),
+    13: ("a variable that is not bound",
+         "A variable's number must be below the count of variables in scope; by name the assembler sees to it."),
+    14: ("a term whose parts do not have the types that it needs",
+         "Change the part that is named, or its stated type."),
+    15: ("a term that the order of the domains forbids",
+         "Low code may read high cells and make low cells, but it may not store to a high cell, mark a high label or "
+         "call a high function. Let the watch keep a cell of its own domain, or let it print."),
+    16: ("the program's result is not plain",
+         "End with a unit, truth, number or pairs of these with at most 8 leaves."),
+    17: ("the work area that the engine was lent is shorter than its published length",
+         "Lend the engine a work area of the published length. The image is not at fault."),
+    18: ("the report that the engine was lent is shorter than 17,994 bytes",
+         "Lend the engine a report of at least 17,994 bytes. The image is not at fault."),
+}
+
+# For each kind of term that has a domain rule, how to keep it.
+DOMAIN_MENDS = {
+    kinds.APPLY: "Call a function of the current domain: a watch defines its own, with 'define'.",
+    kinds.MARK: "Mark a label of the current domain: only code of a label's own domain may mark it.",
+    kinds.NEW_LABEL: "Make the label at the current domain or below it.",
+    kinds.POINTCUT: "Make the pointcut at a domain at or below that of each of its labels.",
+    kinds.ADVICE: "Make the advice at the domain of its pointcut or below it.",
+    kinds.INSTALL: "Install advice of the current domain or below it: a watch cannot hang advice above itself.",
+    kinds.NEW_CELL: "Make the cell at the current domain or below it.",
+    kinds.READ: "Read a cell of the current domain or above it: high code may not see what low code wrote.",
+    kinds.STORE: "Store to a cell of the current domain or below it: a watch keeps cells of its own domain, or prints.",
+    kinds.LOWER: "Lower to a domain at or below the current one.",
+}
+
+
+def table():
+    """All refusals, a paragraph each."""
+    return "\n".join(f"{n:2}  {cause}\n    {mend}" for n, (cause, mend) in REFUSALS.items()) + "\n"
+
+
+def explain(image, number, place, places=None, domains=None):
+    """A refusal of an image in words: the cause, the record at the place, the line of the text, how to mend it."""
+    if number not in REFUSALS:
+        return f"there is no refusal {number}: they are numbered from 1 to 18\n"
+    lines = [f"refused {number} at byte {place}: {REFUSALS[number][0]}."]
+    found = verdict(image, domains)
+    lines += describe(image, place, number, places or shown_places(image), domains)
+    if found and (found.number, found.place) == (number, place):
+        lines.append(f"Here: {found.words}.")
+    elif number < 17:
+        other = f"refused {found.number} {found.place}" if found else "accepted"
+        lines.append(f"By these rules this image is {other}: is it the image that was refused?")
+    return "\n".join(lines + [f"To mend it: {mend_of(image, number, place)}"]) + "\n"
+
+
+def mend_of(image, number, place):
+    """How to mend a refusal; a domain rule's by the kind of its term."""
+    found = record_at(image, place) if number == 15 and place < len(image) else None
+    return DOMAIN_MENDS.get(getattr(found, "kind", None), REFUSALS[number][1])
+
+
+def describe(image, place, number, places, domains):
+    """The record at a place: which one it is, and where it stands in the text."""
+    if number in (1, 9, 17, 18):
+        return []
+    found = record_at(image, place) if place < len(image) else 2
+    if not isinstance(found, Record):
+        return [f"The bytes there: {image[place:place + 8].hex(' ')}."]
+    sections = ("domain", "type", "term")
+    own = sections[kinds.section(found.kind)]
+    n = count_before(image, place, found.kind)
+    lines = [f"The record is {own} {n}, {kinds.name(found.kind)} (kind {found.kind})."]
+    if places.get(place):
+        lines.append(f"It comes from {places[place]}:\n    {places[place].text}")
+    elif own == "domain" and domains:
+        lines.append(f"It is the domain {domains[n]}.")
+    return lines
+
+
+def shown_places(image):
+    """The places of an image's records in the text that the disassembler gives."""
+    return assemble(disassemble(image), "the text that disasm gives").places
+
+
+def count_before(image, place, kind):
+    """How many records of a kind's section stand before a place."""
+    offset = count = 0
+    while offset < place:
+        found = record_at(image, offset)
+        count += isinstance(found, Record) and kinds.section(found.kind) == kinds.section(kind)
+        offset += max(4, word(image, offset)) if offset + 4 <= place else 4
+    return count

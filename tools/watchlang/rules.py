@@ -1,0 +1,216 @@
+"""The typing rules (document 01, "Typing"): refusals 13 to 16, each with its cause in words.
+
+At each term first 13, then 14, then 15, then its children from left to right. A rule of a kind is one function. It is
+given the term as `Judged`, whose methods say what must hold.
+"""
+from dataclasses import dataclass
+
+from . import kinds, types
+from .layout import Refused
+
+
+@dataclass
+class Judged:
+    """A term under its rule: its record, its type, its children's types, the current domain and the scope."""
+    record: object
+    type: object
+    kids: list
+    here: int
+    scope: tuple
+    tables: object
+    writer: object
+
+    def refuse(self, number, words):
+        raise Refused(number, self.record.offset, "; ".join([words, *self.writer.legend()]))
+
+    def show(self, t):
+        return self.writer.text(t)
+
+    def is_(self, t, want, what):
+        """The type `t` of `what` is the type wanted (14)."""
+        if t is not want:
+            self.refuse(14, f"{what} must have type {self.show(want)}, but has {self.show(t)}")
+
+    def kind(self, t, kind, what):
+        """The type `t` of `what` is of a kind (14)."""
+        if t.kind != kind:
+            self.refuse(14, f"{what} must be a {kinds.name(kind)} type, but is {self.show(t)}")
+
+    def same(self, p, what):
+        """The domain p of `what` equals the current domain (15)."""
+        name = self.writer.domain
+        if p != self.here:
+            self.refuse(15, f"{what} is {name(p)}, and must equal the current domain, {name(self.here)}")
+
+    def below(self, p, q, low, high):
+        """p ≤ q (15); the words name both."""
+        name = self.writer.domain
+        if not self.tables.below(p, q):
+            self.refuse(15, f"{low} is {name(p)}, and must be at or below {high}, {name(q)}")
+
+    def below_here(self, p, what):
+        self.below(p, self.here, what, "the current domain")
+
+
+def variable(j):
+    k = j.record.fields[1]
+    if k >= len(j.scope):
+        j.refuse(13, f"variable {k} is not bound: {len(j.scope)} variables are in scope here")
+    j.is_(j.type, j.scope[-1 - k], "the variable")
+
+
+def sequence(j):
+    j.is_(j.kids[0], types.UNIT, "the first of a sequence")
+    j.is_(j.type, j.kids[1], "a sequence, as its second,")
+
+
+def branch(j):
+    j.is_(j.kids[0], types.TRUTH, "the test of an if")
+    j.is_(j.kids[1], j.type, "the first branch, as the whole if,")
+    j.is_(j.kids[2], j.type, "the second branch, as the whole if,")
+
+
+def pair(j):
+    j.is_(j.type, types.pair(*j.kids), "a pair")
+
+
+def split(j):
+    j.kind(j.kids[0], kinds.PAIR_T, "what is split")
+    j.is_(j.type, j.kids[1], "a split, as its body,")
+
+
+def function(j):
+    j.kind(j.type, kinds.FUNCTION_T, "a function's type")
+    j.is_(j.kids[0], j.type.last, "the function's body")
+
+
+def apply(j):
+    j.kind(j.kids[0], kinds.FUNCTION_T, "what is applied")
+    j.is_(j.kids[1], j.kids[0].first, "the argument")
+    j.is_(j.type, j.kids[0].last, "the application")
+    j.same(j.kids[0].domain, "the function's domain")
+
+
+def arithmetic(j):
+    op = j.record.fields[1]
+    for kid in j.kids:
+        j.is_(kid, types.NUMBER, f"an operand of {kinds.OPERATIONS[op]}")
+    j.is_(j.type, types.NUMBER if op < 2 else types.TRUTH, kinds.OPERATIONS[op])
+
+
+def new_label(j):
+    j.kind(j.type, kinds.LABEL_T, "a new label's type")
+    j.below_here(j.type.domain, "the label's domain")
+
+
+def mark(j):
+    j.kind(j.kids[0], kinds.LABEL_T, "what is marked")
+    j.is_(j.kids[1], j.kids[0].first, "the value at the mark")
+    j.is_(j.type, types.UNIT, "a mark")
+    j.same(j.kids[0].domain, "the label's domain")
+
+
+def pointcut(j):
+    j.kind(j.type, kinds.POINTCUT_T, "a pointcut's type")
+    for kid in j.kids:
+        j.kind(kid, kinds.LABEL_T, "each of a pointcut's labels")
+        j.is_(kid.first, j.type.first, "the value at each of the pointcut's labels")
+    for kid in j.kids:
+        j.below(j.type.domain, kid.domain, "the pointcut's domain", "each label's domain")
+
+
+def advice(j):
+    j.kind(j.type, kinds.ADVICE_T, "an advice's type")
+    j.kind(j.kids[0], kinds.POINTCUT_T, "what an advice hangs on")
+    j.is_(j.kids[1], types.UNIT, "the advice's body")
+    j.below(j.type.domain, j.kids[0].domain, "the advice's domain", "its pointcut's domain")
+
+
+def install(j):
+    j.kind(j.kids[0], kinds.ADVICE_T, "what is installed")
+    j.is_(j.type, types.UNIT, "an install")
+    j.below_here(j.kids[0].domain, "the advice's domain")
+
+
+def new_cell(j):
+    j.kind(j.type, kinds.REFERENCE_T, "a new cell's type")
+    j.is_(j.kids[0], j.type.first, "the cell's first value")
+    j.below_here(j.type.domain, "the cell's domain")
+
+
+def read(j):
+    j.kind(j.kids[0], kinds.REFERENCE_T, "what is read")
+    j.is_(j.type, j.kids[0].first, "the read")
+    j.below(j.here, j.kids[0].domain, "the current domain", "the domain of the cell that is read")
+
+
+def store(j):
+    j.kind(j.kids[0], kinds.REFERENCE_T, "what is stored to")
+    j.is_(j.kids[1], j.kids[0].first, "the stored value")
+    j.is_(j.type, types.UNIT, "a store")
+    j.below_here(j.kids[0].domain, "the domain of the cell that is stored to")
+
+
+def lower(j):
+    j.is_(j.type, types.UNIT, "a lower")
+    j.is_(j.kids[0], types.UNIT, "the lowered body")
+    j.below_here(j.record.fields[1], "the domain that is lowered to")
+
+
+def constant(want):
+    return lambda j: j.is_(j.type, want, "the constant")
+
+
+def numeric(result, what):
+    """Print and frame byte: they take a number."""
+    def rule(j):
+        j.is_(j.kids[0], types.NUMBER, f"what {what} takes")
+        j.is_(j.type, result, what)
+    return rule
+
+
+RULES = {
+    kinds.UNIT: constant(types.UNIT), kinds.TRUTH: constant(types.TRUTH), kinds.NUMBER: constant(types.NUMBER),
+    kinds.VARIABLE: variable, kinds.SEQUENCE: sequence, kinds.PRINT: numeric(types.UNIT, "print"), kinds.IF: branch,
+    kinds.PAIR: pair, kinds.SPLIT: split, kinds.FUNCTION: function, kinds.APPLY: apply, kinds.ARITHMETIC: arithmetic,
+    kinds.NEW_LABEL: new_label, kinds.MARK: mark, kinds.POINTCUT: pointcut, kinds.ADVICE: advice,
+    kinds.INSTALL: install, kinds.NEW_CELL: new_cell, kinds.READ: read, kinds.STORE: store, kinds.LOWER: lower,
+    kinds.ABORT: lambda j: None, kinds.FRAME_BYTE: numeric(types.NUMBER, "frame byte"),
+}
+
+
+def bound(kind, own, first):
+    """The types that the last child's scope gains; `first` is the first child's type."""
+    if kind == kinds.SPLIT:
+        return (first.first, first.last)
+    if kind == kinds.FUNCTION:
+        return (own.first,)
+    return (first.first,) if kind == kinds.ADVICE else ()
+
+
+def body_domain(record, own, here):
+    """The domain at which the last child is checked."""
+    if record.kind in (kinds.FUNCTION, kinds.ADVICE):
+        return own.domain
+    return record.fields[1] if record.kind == kinds.LOWER else here
+
+
+def well_typed(tables, writer):
+    """Refusals 13 to 16, from the root, parent before children, left first."""
+    def judge(n, here, scope):
+        record = tables.terms[n]
+        own, children = tables.types[record.fields[0]], record.parts("e")
+        kids = [tables.types[tables.terms[c].fields[0]] for c in children]
+        RULES[record.kind](Judged(record, own, kids, here, scope, tables, writer))
+        gains = bound(record.kind, own, kids[0] if kids else None)
+        for i, c in enumerate(children):
+            if i == len(children) - 1:
+                judge(c, body_domain(record, own, here), scope + gains)
+            else:
+                judge(c, here, scope)
+
+    root = len(tables.terms) - 1
+    judge(root, 0, ())
+    own = tables.types[tables.terms[root].fields[0]]
+    if not types.leaves(tables.types)[own]:
+        raise Refused(16, tables.terms[root].offset, f"the program's result has type {writer.text(own)}")

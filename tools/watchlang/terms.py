@@ -1,0 +1,217 @@
+"""Terms as trees, with their types worked out from below, and the image of a tree.
+
+A term has a kind, a type, and the fields after the type: domains, numbers, children. A variable's field is its name,
+or its number if it is known. `names` are the variables that the last child's scope gains. A type is None where it
+cannot be worked out; `why` then says why, and `typed` sets it by hand.
+"""
+from dataclasses import dataclass, field, replace
+
+from . import kinds, types
+from .records import written
+
+
+@dataclass(frozen=True, eq=False)
+class Term:
+    kind: int
+    type: object
+    fields: tuple = ()
+    names: tuple = ()
+    place: object = None
+    why: str = ""
+
+    @property
+    def children(self):
+        return [f for f in self.fields if isinstance(f, Term)]
+
+
+def typed(e, t):
+    """The term with a type set by hand, whatever its parts are."""
+    return replace(e, type=t, why="")
+
+
+def unit():
+    return Term(kinds.UNIT, types.UNIT)
+
+
+def truth(b):
+    return Term(kinds.TRUTH, types.TRUTH, (int(b),))
+
+
+def number(n):
+    return Term(kinds.NUMBER, types.NUMBER, (n,))
+
+
+def variable(name, t):
+    return Term(kinds.VARIABLE, t, (name,), why=f"the type of {name} is not known here")
+
+
+def sequence(first, *rest):
+    if not rest:
+        return first
+    then = sequence(*rest)
+    return Term(kinds.SEQUENCE, then.type, (first, then))
+
+
+def show(e):
+    return Term(kinds.PRINT, types.UNIT, (e,))
+
+
+def branch(test, yes, no):
+    return Term(kinds.IF, yes.type, (test, yes, no))
+
+
+def pair(a, b):
+    return Term(kinds.PAIR, types.pair(a.type, b.type), (a, b))
+
+
+def split(e, first, second, body):
+    return Term(kinds.SPLIT, body.type, (e, body), (first, second))
+
+
+def function(name, a, body, p=0):
+    if a is None:
+        return Term(kinds.FUNCTION, None, (body,), (name,), why=f"the parameter {name} needs a type: ({name} : type)")
+    return Term(kinds.FUNCTION, types.function(a, p, body.type), (body,), (name,))
+
+
+def part_of(e, kind, what, take):
+    """The type that `take` gets from the type of `e` if that is of a kind, and the reason where it is not."""
+    if types.has_kind(e.type, kind):
+        return {"type": take(e.type)}
+    return {"type": None, "why": f"{what} must be a {kinds.name(kind)}"}
+
+
+def apply(f, x):
+    return Term(kinds.APPLY, fields=(f, x), **part_of(f, kinds.FUNCTION_T, "what is applied", lambda t: t.last))
+
+
+def arithmetic(op, a, b):
+    return Term(kinds.ARITHMETIC, types.NUMBER if op < 2 else types.TRUTH, (op, a, b))
+
+
+def plus(a, b):
+    return arithmetic(0, a, b)
+
+
+def minus(a, b):
+    return arithmetic(1, a, b)
+
+
+def less(a, b):
+    return arithmetic(2, a, b)
+
+
+def equal(a, b):
+    return arithmetic(3, a, b)
+
+
+def new_label(a, p=0):
+    return Term(kinds.NEW_LABEL, types.label(a, p))
+
+
+def mark(label, value):
+    return Term(kinds.MARK, types.UNIT, (label, value))
+
+
+def pointcut(a, *labels, p=0):
+    """A pointcut of values of type a; where a is None, of the values of its first label."""
+    if a is None and labels and types.has_kind(labels[0].type, kinds.LABEL_T):
+        a = labels[0].type.first
+    if a is None:
+        why = "say of which values, as no label tells it: pointcut {} of type at domain"
+        return Term(kinds.POINTCUT, None, labels, why=why)
+    return Term(kinds.POINTCUT, types.pointcut(a, p), labels)
+
+
+def advice(cut, name, body, p=0):
+    return Term(kinds.ADVICE, types.advice(p), (cut, body), (name,))
+
+
+def install(e):
+    return Term(kinds.INSTALL, types.UNIT, (e,))
+
+
+def new_cell(value, p=0):
+    return Term(kinds.NEW_CELL, types.reference(value.type, p), (value,))
+
+
+def read(cell):
+    return Term(kinds.READ, fields=(cell,), **part_of(cell, kinds.REFERENCE_T, "what is read", lambda t: t.first))
+
+
+def store(cell, value):
+    return Term(kinds.STORE, types.UNIT, (cell, value))
+
+
+def lower(p, body):
+    return Term(kinds.LOWER, types.UNIT, (p, body))
+
+
+def abort(t):
+    return Term(kinds.ABORT, t)
+
+
+def frame_byte(index):
+    return Term(kinds.FRAME_BYTE, types.NUMBER, (index,))
+
+
+def let(name, value, body, p=0):
+    """The body with a name for a value, at the current domain p: one binding."""
+    return apply(function(name, value.type, body, p), value)
+
+
+def body_domain(e, here):
+    """The domain at which the last child of a term runs; where its type does not tell, the current one."""
+    if e.kind == kinds.LOWER:
+        return e.fields[0]
+    if (e.kind, getattr(e.type, "kind", 0)) in ((kinds.FUNCTION, kinds.FUNCTION_T), (kinds.ADVICE, kinds.ADVICE_T)):
+        return e.type.domain
+    return here
+
+
+@dataclass
+class Laid:
+    """An image, and for the offset of each term the place in the text that it comes from."""
+    image: bytes
+    places: dict = field(default_factory=dict)
+
+
+class Layout:
+    """Numbers types and terms in the order in which they are written: terms children first, left to right; types as the
+    terms first have them, each after its own parts."""
+
+    def __init__(self, declared):
+        self.types, self.terms, self.places = {}, [], []
+        for t in declared:
+            self.type_number(t)
+
+    def type_number(self, t):
+        if t not in self.types:
+            fields = [self.type_number(f) if isinstance(f, types.Type) else f for f in t.fields]
+            self.types[t] = (len(self.types), written(t.kind, fields))
+        return self.types[t][0]
+
+    def term_number(self, e, scope=(), place=None):
+        """Writes a term after its children. Its place is the nearest that is known, from itself outwards."""
+        fields, place = [], e.place or place
+        for i, f in enumerate(e.fields):
+            if isinstance(f, Term):
+                f = self.term_number(f, scope + e.names if i == len(e.fields) - 1 else scope, place)
+            elif isinstance(f, str):
+                f = scope[::-1].index(f)
+            fields.append(f)
+        self.terms.append(written(e.kind, [self.type_number(e.type), *fields]))
+        self.places.append(place)
+        return len(self.terms) - 1
+
+
+def lay_out(root, masks=(1,), declared=()):
+    """The image of a tree. `declared` are types that come first, in this order."""
+    layout = Layout(declared)
+    layout.term_number(root)
+    head = b"".join([written(kinds.DOMAIN, [m]) for m in masks] + [made for _, made in layout.types.values()])
+    places, offset = {}, len(head)
+    for made, place in zip(layout.terms, layout.places):
+        places[offset] = place
+        offset += len(made)
+    return Laid(head + b"".join(layout.terms), places)
