@@ -10,7 +10,7 @@ use borrow.Author.Tests.{ne-eqb, le-leb, lt-leb}
 use Rattle.flat.specs.declared.Regs.{Regs}
 use Rattle.flat.specs.Registers.{labelsMode, firstMode, readyMode, setMode, setDom, setN, setV}
 use Rattle.flat.specs.Values.{functionValue}
-use Rattle.flat.specs.Rows.{kindOf, field1, field2, term1, constant, isAtom, Program}
+use Rattle.flat.specs.Rows.{kindOf, field1, field2, term1, isAtom, Program}
 use Rattle.flat.specs.Memory.{lookup, lowerFrame}
 use Rattle.flat.specs.States.{State, withRegs, noFrames}
 use Rattle.flat.specs.Operands.{pushed}
@@ -61,39 +61,42 @@ module _ (rows image w : List ℕ) (r q : Regs) (k : ℕ) (e : k ≡ kindOf (r .
   abbrev D : Program
   D = record { rows = rows; image = image }
 
-  pub constant-begun : (v : ℕ) → k ≤ 34 → v ≡ constant (r .n) → q ≡ reached v r → Phase (beginRow D) w w r q
-  constant-begun v h d g =
+  -- The tests of the kind's place.
+  below : k < 41 → leb 41 (kindOf (r .n)) ≡ false
+  below h = lt-leb 41 (kindOf (r .n)) (subst (λ (i : ℕ). i < 41) e h)
+
+  pub operator-begun : 41 ≤ k → q ≡ setMode firstMode r → Phase (beginRow D) w w r q
+  operator-begun h g =
+      let l : 41 ≤ kindOf (r .n) = subst (λ (i : ℕ). 41 ≤ i) e h in
+      regs-made (beginRow D) w r q (setMode firstMode r) (λ log. sym (chosen-yes _ _ _ (le-leb 41 (kindOf (r .n)) l))) g (λ _ f. f)
+
+  pub constant-begun : k ≤ 34 → q ≡ reached (r .n) r → Phase (beginRow D) w w r q
+  constant-begun h g =
       let l : kindOf (r .n) ≤ 34 = subst (λ (i : ℕ). i ≤ 34) e h in
-      regs-made (beginRow D) w r q (reached (constant (r .n)) r) (λ log. sym (chosen-yes _ _ _ (le-leb (kindOf (r .n)) 34 l))) (g ∙ ap (λ (i : ℕ). reached i r) d) (λ _ f. f)
+      regs-made (beginRow D) w r q (reached (r .n) r) (λ log. sym (chosen-no _ _ _ (below (omega arith)) ∙ chosen-yes _ _ _ (le-leb (kindOf (r .n)) 34 l))) g (λ _ f. f)
 
   pub variable-begun : (i v : ℕ) → k ≡ 35 → i ≡ field1 (r .n) → v ≡ lookup (memoryOf w) (r .env) i → q ≡ reached v r → Phase (beginRow D) w w r q
   variable-begun i v h d f g =
       let z : kindOf (r .n) ≡ 35 = sym e ∙ h in
       regs-made (beginRow D) w r q (reached (lookup (memoryOf w) (r .env) (field1 (r .n))) r) (λ log. rw z) (g ∙ ap (λ (j : ℕ). reached j r) (f ∙ ap (lookup (memoryOf w) (r .env)) d)) (λ _ s. s)
 
-  pub function-begun : (i v : ℕ) → k ≡ 41 → i ≡ field1 (r .n) → v ≡ functionValue (r .env) i → q ≡ reached v r → Phase (beginRow D) w w r q
+  pub function-begun : (i v : ℕ) → k ≡ 36 → i ≡ field1 (r .n) → v ≡ functionValue (r .env) i → q ≡ reached v r → Phase (beginRow D) w w r q
   function-begun i v h d f g =
-      let z : kindOf (r .n) ≡ 41 = sym e ∙ h in
+      let z : kindOf (r .n) ≡ 36 = sym e ∙ h in
       regs-made (beginRow D) w r q (reached (functionValue (r .env) (field1 (r .n))) r) (λ log. rw z) (g ∙ ap (λ (j : ℕ). reached j r) (f ∙ ap (functionValue (r .env)) d)) (λ _ s. s)
 
-  pub label-begun : k ≡ 44 → q ≡ setMode readyMode r → Phase (beginRow D) w w r q
-  label-begun h g = let z : kindOf (r .n) ≡ 44 = sym e ∙ h in regs-made (beginRow D) w r q (setMode readyMode r) (λ log. rw z) g (λ _ s. s)
-
-  pub abort-begun : k ≡ 53 → q ≡ setMode readyMode r → Phase (beginRow D) w w r q
-  abort-begun h g = let z : kindOf (r .n) ≡ 53 = sym e ∙ h in regs-made (beginRow D) w r q (setMode readyMode r) (λ log. rw z) g (λ _ s. s)
-
-  pub pointcut-begun : k ≡ 46 → q ≡ setMode labelsMode (setV (r .t) r) → Phase (beginRow D) w w r q
+  pub pointcut-begun : k ≡ 38 → q ≡ setMode labelsMode (setV (r .t) r) → Phase (beginRow D) w w r q
   pointcut-begun h g =
-      let z : kindOf (r .n) ≡ 46 = sym e ∙ h in regs-made (beginRow D) w r q (setMode labelsMode (setV (r .t) r)) (λ log. rw z) g (λ _ s. s)
+      let z : kindOf (r .n) ≡ 38 = sym e ∙ h in regs-made (beginRow D) w r q (setMode labelsMode (setV (r .t) r)) (λ log. rw z) g (λ _ s. s)
 
-  pub lower-begun : (w′ : List ℕ) → k ≡ 52 → Phase (enterLower D) w w′ r q → Phase (beginRow D) w w′ r q
-  lower-begun w′ h p = let z : kindOf (r .n) ≡ 52 = sym e ∙ h in as-phase (enterLower D) (beginRow D) w w′ r q (λ log. rw z) p
+  pub lower-begun : (w′ : List ℕ) → k ≡ 39 → Phase (enterLower D) w w′ r q → Phase (beginRow D) w w′ r q
+  lower-begun w′ h p = let z : kindOf (r .n) ≡ 39 = sym e ∙ h in as-phase (enterLower D) (beginRow D) w w′ r q (λ log. rw z) p
 
-  pub other-begun : 34 < k → (k ≡ 35 → ⊥) → (k ≡ 41 → ⊥) → (k ≡ 44 → ⊥) → (k ≡ 46 → ⊥) → (k ≡ 52 → ⊥) → (k ≡ 53 → ⊥) → q ≡ setMode firstMode r → Phase (beginRow D) w w r q
-  other-begun l a b c d f h g =
+  pub ready-begun : k < 41 → 34 < k → (k ≡ 35 → ⊥) → (k ≡ 36 → ⊥) → (k ≡ 38 → ⊥) → (k ≡ 39 → ⊥) → q ≡ setMode readyMode r → Phase (beginRow D) w w r q
+  ready-begun u l a b c d g =
       let no : (i : ℕ) → (k ≡ i → ⊥) → eqb (kindOf (r .n)) i ≡ false = λ i n. ne-eqb (kindOf (r .n)) i (λ z. n (e ∙ z)) in
       let z : leb (kindOf (r .n)) 34 ≡ false = lt-leb (kindOf (r .n)) 34 (subst (λ (i : ℕ). 34 < i) e l) in
-      regs-made (beginRow D) w r q (setMode firstMode r) (λ log. rw (z, no 35 a, no 41 b, no 44 c, no 53 h, no 46 d, no 52 f)) g (λ _ s. s)
+      regs-made (beginRow D) w r q (setMode readyMode r) (λ log. rw (below u, z, no 35 a, no 36 b, no 38 c, no 39 d)) g (λ _ s. s)
 
 -- The row of term t is in n.
 pub row-begun : (rows image w w′ : List ℕ) (r s q : Regs) → s ≡ r → Phase (beginRow (record { rows = rows; image = image })) w w′ (setN (getD rows (r .t) 0) s) q → Phase (begin (record { rows = rows; image = image })) w w′ r q

@@ -11,7 +11,7 @@ use Rattle.calculus.specs.Combinators.{choose}
 use Rattle.image.specs.Bytes.{le16}
 use Rattle.flat.specs.declared.Regs.{Regs}
 use Rattle.flat.specs.Registers.{evalMode, readyMode, setMode, setSp, setT, setN, setV1, setV}
-use Rattle.flat.specs.Values.{tagOf, labelTag}
+use Rattle.flat.specs.Values.{tagOf, labelTag, bodyOf}
 use Rattle.flat.specs.Rows.{kindOf, field1, field2, Program}
 use Rattle.flat.specs.Memory.{lookup, withLabel, putLabels}
 use Rattle.flat.specs.States.{State, withRegs, stuck, noFrames}
@@ -33,9 +33,9 @@ module _ (w log : List ℕ) (n m : ℕ) (r : Regs) (i v t : ℕ) (d : i ≡ fiel
   pub other-value : (q : Regs) → (t ≡ 6 → ⊥) → q ≡ stuck r → q ≡ takenLabel n m (stateOf w log r)
   other-value q h g = g ∙ sym (tagged-no labelTag held t _ _ (f ∙ ap tagOf is-held) h)
 
-  pub label-value : (s : Regs) (z u : ℕ) → t ≡ 6 → s ≡ r → z ≡ withLabel (r .c / 65536) (v % 64) → u ≡ labelsState (r .c % 1024) (r .c / 1024 % 64 + 1) z → setV u (setN n s) ≡ takenLabel n m (stateOf w log r)
-  label-value s z u h g a b =
-      let c : u ≡ labelsState (r .c % 1024) (r .c / 1024 % 64 + 1) (withLabel (r .c / 65536) (held % 64)) = b ∙ ap (labelsState (r .c % 1024) (r .c / 1024 % 64 + 1)) (a ∙ ap (λ (j : ℕ). withLabel (r .c / 65536) (j % 64)) is-held) in
+  pub label-value : (s : Regs) (y z u : ℕ) → t ≡ 6 → s ≡ r → y ≡ bodyOf v → z ≡ withLabel (r .c / 65536) (y % 64) → u ≡ labelsState (r .c % 1024) (r .c / 1024 % 64 + 1) z → setV u (setN n s) ≡ takenLabel n m (stateOf w log r)
+  label-value s y z u h g i a b =
+      let c : u ≡ labelsState (r .c % 1024) (r .c / 1024 % 64 + 1) (withLabel (r .c / 65536) (bodyOf held % 64)) = b ∙ ap (labelsState (r .c % 1024) (r .c / 1024 % 64 + 1)) (a ∙ ap (λ (j : ℕ). withLabel (r .c / 65536) (j % 64)) (i ∙ ap bodyOf is-held)) in
       ap (λ (p : Regs). setV u (setN n p)) g ∙ ap (λ (j : ℕ). setV j (setN n r)) c ∙ sym (tagged-yes labelTag held t _ _ (f ∙ ap tagOf is-held) h)
 
 -- A child is worked out under a frame; s are the registers before.
@@ -92,7 +92,7 @@ module _ (rows image w : List ℕ) (r q : Regs) where
       unfolding nextLabel
       label-taken a b =
           let u : ℕ = lookup (memoryOf w) (r .env) (field1 (getD rows x 0)) in
-          regs-made (nextLabel C) w r q (takenLabel n (getD rows x 0) (stateOf w image r)) (λ log. chosen-regs (eqb (tagOf u) labelTag) (setV (labelsState (r .c % 1024) (done + 1) (withLabel (r .c / 65536) (u % 64))) (setN n r)) (stuck r) (stateOf w log r) ∙ sym (chosen-no _ _ _ left ∙ chosen-no _ _ _ there ∙ chosen-yes _ _ _ (eq-eqb (kindOf (getD rows x 0)) 35 (sym is-kind ∙ a)))) (b image ∙ ap (λ (j : ℕ). takenLabel n (getD rows j 0) (stateOf w image r)) is-child) (λ c s. chosen-fits (eqb (tagOf u) labelTag) _ _ c s s)
+          regs-made (nextLabel C) w r q (takenLabel n (getD rows x 0) (stateOf w image r)) (λ log. chosen-regs (eqb (tagOf u) labelTag) (setV (labelsState (r .c % 1024) (done + 1) (withLabel (r .c / 65536) (bodyOf u % 64))) (setN n r)) (stuck r) (stateOf w log r) ∙ sym (chosen-no _ _ _ left ∙ chosen-no _ _ _ there ∙ chosen-yes _ _ _ (eq-eqb (kindOf (getD rows x 0)) 35 (sym is-kind ∙ a)))) (b image ∙ ap (λ (j : ℕ). takenLabel n (getD rows j 0) (stateOf w image r)) is-child) (λ c s. chosen-fits (eqb (tagOf u) labelTag) _ _ c s s)
 
       pub no-frame : (κ ≡ 35 → ⊥) → 512 ≤ r .sp → q ≡ noFrames r → Phase (nextLabel C) w w r q
       unfolding nextLabel

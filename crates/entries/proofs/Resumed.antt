@@ -10,7 +10,7 @@ use borrow.Author.Tests.{eq-eqb, ne-eqb, lt-ltb, le-ltb}
 use Rattle.calculus.specs.declared.Outcome.{Outcome}
 use Rattle.flat.specs.declared.Regs.{Regs}
 use Rattle.flat.specs.Registers.{readyMode, labelsMode, adviceMode, setMode, setEnv, setDom, setSp, setLeft, setT, setN, setV1, setV}
-use Rattle.flat.specs.Values.{tagOf, unitTag, labelTag}
+use Rattle.flat.specs.Values.{tagOf, unitTag, labelTag, bodyOf}
 use Rattle.flat.specs.Rows.{Program}
 use Rattle.flat.specs.Memory.{withLabel, labelDigits, frameAt, frameKind, frameHeld, frameEnv, frameTerm, frameDone, secondFrame, lowerFrame, adviceFrame, pointcutFrame}
 use Rattle.flat.specs.States.{State, halt, stuck}
@@ -55,11 +55,11 @@ module _ (f : ℕ) (w log : List ℕ) (r : Regs) (t : ℕ) (d : t ≡ tagOf (r .
   pub no-label : (q : Regs) → (t ≡ 6 → ⊥) → q ≡ stuck r → q ≡ resumeLabels f (stateOf w log r)
   no-label q n e = e ∙ sym (tagged-no labelTag (r .v) t _ _ d n)
 
-  pub one-label : (s : Regs) (y z env x n v : ℕ) → t ≡ 6 → s ≡ r → y ≡ labelDigits (memoryOf w) (r .sp - 1) f → z ≡ withLabel y (r .v % 64) → env ≡ frameEnv f → x ≡ frameTerm f → n ≡ frameDone f → v ≡ labelsState x (n + 1) z → setMode labelsMode (setV v (setEnv env (setSp (r .sp - 1) s))) ≡ resumeLabels f (stateOf w log r)
-  one-label s y z env x n v h e a b c g i j =
-      let k : z ≡ withLabel (labelDigits (memoryOf w) (r .sp - 1) f) (r .v % 64) = b ∙ ap (λ (o : ℕ). withLabel o (r .v % 64)) a in
-      let u : v ≡ labelsState (frameTerm f) (frameDone f + 1) (withLabel (labelDigits (memoryOf w) (r .sp - 1) f) (r .v % 64)) = j ∙ ap (λ (o : ℕ). labelsState o (n + 1) z) g ∙ ap (λ (o : ℕ). labelsState (frameTerm f) (o + 1) z) i ∙ ap (labelsState (frameTerm f) (frameDone f + 1)) k in
-      ap (λ (p : Regs). setMode labelsMode (setV v (setEnv env (setSp (r .sp - 1) p)))) e ∙ ap (λ (o : ℕ). setMode labelsMode (setV o (setEnv env (setSp (r .sp - 1) r)))) u ∙ ap (λ (o : ℕ). setMode labelsMode (setV (labelsState (frameTerm f) (frameDone f + 1) (withLabel (labelDigits (memoryOf w) (r .sp - 1) f) (r .v % 64))) (setEnv o (setSp (r .sp - 1) r)))) c ∙ sym (tagged-yes labelTag (r .v) t _ _ d h)
+  pub one-label : (s : Regs) (y o z env x n v : ℕ) → t ≡ 6 → s ≡ r → y ≡ labelDigits (memoryOf w) (r .sp - 1) f → o ≡ bodyOf (r .v) → z ≡ withLabel y (o % 64) → env ≡ frameEnv f → x ≡ frameTerm f → n ≡ frameDone f → v ≡ labelsState x (n + 1) z → setMode labelsMode (setV v (setEnv env (setSp (r .sp - 1) s))) ≡ resumeLabels f (stateOf w log r)
+  one-label s y o z env x n v h e a l b c g i j =
+      let k : z ≡ withLabel (labelDigits (memoryOf w) (r .sp - 1) f) (bodyOf (r .v) % 64) = b ∙ (ap (λ (p : ℕ). withLabel y (p % 64)) l ∙ ap (λ (p : ℕ). withLabel p (bodyOf (r .v) % 64)) a) in
+      let u : v ≡ labelsState (frameTerm f) (frameDone f + 1) (withLabel (labelDigits (memoryOf w) (r .sp - 1) f) (bodyOf (r .v) % 64)) = j ∙ ap (λ (o : ℕ). labelsState o (n + 1) z) g ∙ ap (λ (o : ℕ). labelsState (frameTerm f) (o + 1) z) i ∙ ap (labelsState (frameTerm f) (frameDone f + 1)) k in
+      ap (λ (p : Regs). setMode labelsMode (setV v (setEnv env (setSp (r .sp - 1) p)))) e ∙ ap (λ (o : ℕ). setMode labelsMode (setV o (setEnv env (setSp (r .sp - 1) r)))) u ∙ ap (λ (o : ℕ). setMode labelsMode (setV (labelsState (frameTerm f) (frameDone f + 1) (withLabel (labelDigits (memoryOf w) (r .sp - 1) f) (bodyOf (r .v) % 64))) (setEnv o (setSp (r .sp - 1) r)))) c ∙ sym (tagged-yes labelTag (r .v) t _ _ d h)
 
 -- A frame of an operand, of kind k and term t.
 module _ (rows image : List ℕ) (f : ℕ) (r s : Regs) (k t env : ℕ) (e : s ≡ r) (d : k ≡ frameKind f) (a : t ≡ frameTerm f) (b : env ≡ frameEnv f) where
@@ -72,9 +72,9 @@ module _ (rows image : List ℕ) (f : ℕ) (r s : Regs) (k t env : ℕ) (e : s �
   came-back : back t env s ≡ back (frameTerm f) (frameEnv f) r
   came-back = ap (λ (p : Regs). back t env p) e ∙ ap (λ (x : ℕ). back x env r) a ∙ ap (λ (y : ℕ). back (frameTerm f) y r) b
 
-  pub second-back : (h : ℕ) → k ≡ 1 → h ≡ frameHeld f → setMode readyMode (setV1 h (back t env s)) ≡ resumeOperand C f r
-  second-back h n g =
-      ap (λ (p : Regs). setMode readyMode (setV1 h p)) came-back ∙ ap (λ (i : ℕ). setMode readyMode (setV1 i (back (frameTerm f) (frameEnv f) r))) g ∙ sym (chosen-yes _ _ _ (eq-eqb (frameKind f) secondFrame (sym d ∙ n)))
+  pub second-back : k ≡ 1 → setMode readyMode (setV1 f (back t env s)) ≡ resumeOperand C f r
+  second-back n =
+      ap (λ (p : Regs). setMode readyMode (setV1 f p)) came-back ∙ sym (chosen-yes _ _ _ (eq-eqb (frameKind f) secondFrame (sym d ∙ n)))
 
   pub lower-back : (h : ℕ) (q : Regs) → (k ≡ 1 → ⊥) → k ≡ 3 → h ≡ frameHeld f → q ≡ afterFirst (r .v) (setDom (h % 16) (back t env s)) → q ≡ resumeOperand C f r
   lower-back h q m n g i =

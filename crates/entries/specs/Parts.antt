@@ -4,7 +4,7 @@ use lib.Dec.{eqb}
 use Rattle.calculus.specs.Combinators.{choose}
 use Rattle.flat.specs.declared.Regs.{Regs}
 use Rattle.flat.specs.Registers.{evalMode, adviceMode, setMode, setEnv, setDom, setSp, setLeft, setT, setN, setV}
-use Rattle.flat.specs.Values.{labelTag, tagOf}
+use Rattle.flat.specs.Values.{labelTag, tagOf, bodyOf}
 use Rattle.flat.specs.Rows.{field1}
 use Rattle.flat.specs.Memory.{lookup, adviceTerm, adviceDom, withLabel, adviceFrame, frameWord, putFrame, putLabels}
 use Rattle.flat.specs.States.{State, withMemory, stuck}
@@ -29,7 +29,7 @@ abbrev pub takenLabel : ℕ → ℕ → State → Regs
 takenLabel n m S =
     let r : Regs = S .regs in
     let v : ℕ = lookup (S .memory) (r .env) (field1 m) in
-    choose (eqb (tagOf v) labelTag) (setV (labelsState (r .c % 1024) (r .c / 1024 % 64 + 1) (withLabel (r .c / 65536) (v % 64))) (setN n r)) (stuck r)
+    choose (eqb (tagOf v) labelTag) (setV (labelsState (r .c % 1024) (r .c / 1024 % 64 + 1) (withLabel (r .c / 65536) (bodyOf v % 64))) (setN n r)) (stuck r)
 
 -- Child x of a pointcut with row n is worked out under a frame.
 abbrev pub pushedLabel : ℕ → ℕ → State → State

@@ -17,7 +17,7 @@ use operands::regs::LABELS;
 use operands::regs::READY;
 use operands::regs::no_frames;
 use operands::regs::same;
-use rows::row::constant;
+use rows::row::FIRST_OPERATOR;
 use rows::row::field1;
 use rows::row::field2;
 use rows::row::is_atom;
@@ -58,17 +58,18 @@ fn begin_row(rows: &[u64], work: &mut [u8], r: Regs) -> Regs
     ensures { λ q. ⌜ ((image : List ℕ) → Phase (beginRow (record { rows = now (rows .entry); image = image })) (now (work .entry)) (now (work .exit)) r q) ⌝ }
 {
     let k = kind(r.n);
+    if FIRST_OPERATOR <= k {
+        return with_mode(r, FIRST);
+    }
     if k <= 34 {
-        return reached(r, constant(r.n));
+        return reached(r, r.n);
     }
     match k {
         35 => reached(r, lookup(work, r.env, field1(r.n))),
-        41 => reached(r, values::function(r.env, field1(r.n))),
-        44 => with_mode(r, READY),
-        46 => begin_labels(r),
-        52 => enter_lower(rows, work, r),
-        53 => with_mode(r, READY),
-        _ => with_mode(r, FIRST),
+        36 => reached(r, values::function(r.env, field1(r.n))),
+        38 => begin_labels(r),
+        39 => enter_lower(rows, work, r),
+        _ => with_mode(r, READY),
     }
 }
 

@@ -22,6 +22,7 @@ use rows::row::kind;
 use tables::bindings::lookup;
 use tables::frames::put_labels;
 use tables::pieces::with_label;
+use values::body;
 use values::tag;
 
 // All labels are there: their digits are the first operand of a pointcut with row n.
@@ -45,7 +46,7 @@ fn take_label(work: &[u8], n: u64, m: u64, r: Regs) -> Regs
         return stuck(r);
     }
     let t = (r.c % 1024) as usize;
-    let digits = with_label(r.c / 65536, v % 64);
+    let digits = with_label(r.c / 65536, body(v) % 64);
     let mut q = same(r);
     q.n = n;
     q.v = labels_state(t, r.c / 1024 % 64 + 1, digits);

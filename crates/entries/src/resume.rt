@@ -26,6 +26,7 @@ use tables::frames::frame_kind;
 use tables::frames::frame_term;
 use tables::frames::label_digits;
 use tables::pieces::with_label;
+use values::body;
 use values::tag;
 
 // The registers behind an advice's body whose frame held h: two steps are made, and what is left of the mark goes on.
@@ -79,7 +80,7 @@ fn resume_labels(work: &[u8], f: u64, r: Regs) -> Regs
     if tag(r.v) != values::LABEL {
         return stuck(r);
     }
-    let digits = with_label(label_digits(work, r.sp - 1, f), r.v % 64);
+    let digits = with_label(label_digits(work, r.sp - 1, f), body(r.v) % 64);
     let mut q = same(r);
     q.sp = r.sp - 1;
     q.env = frame_env(f);
@@ -101,7 +102,7 @@ fn resume_operand(rows: &[u64], f: u64, r: Regs) -> Regs
     q.n = rows[t];
     let k = frame_kind(f);
     if k == tables::frames::SECOND {
-        q.v1 = frame_held(f);
+        q.v1 = f;
         q.mode = READY;
         return q;
     }

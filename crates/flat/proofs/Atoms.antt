@@ -19,7 +19,7 @@ use Rattle.flat.proofs.Sound.{Sound}
 use Rattle.flat.proofs.Reach.{Reach, reach-moves, reach-var}
 use Rattle.flat.proofs.Nodes.{Strict, strict-kind, Shape, constant-shape, variable-shape, function-shape, label-shape, abort-shape, pointcut-shape, lower-shape, strict-shape}
 
-pub function-word : (env t : ℕ) → env ≤ 2048 → t < 1024 → (tagOf (functionValue env t) ≡ 3) × (functionValue env t % 1024 ≡ t) × (bodyOf (functionValue env t) / 65536 ≡ env)
+pub function-word : (env t : ℕ) → env ≤ 2048 → t < 1024 → (tagOf (functionValue env t) ≡ 3) × (bodyOf (functionValue env t) % 1024 ≡ t) × (bodyOf (functionValue env t) / 65536 ≡ env)
 function-word env t h g = (omega arith, omega arith, omega arith)
 
 module _ (C : Program) (term : ℕ → Tm) where
@@ -27,12 +27,12 @@ module _ (C : Program) (term : ℕ → Tm) where
   atom-strict f = strict-kind C term (λ k. isAtom k ≡ false) f refl refl refl refl refl refl refl refl refl refl refl refl refl refl
 
   constant-atom : (k : ℕ) → leb k 34 ≡ true → isAtom k ≡ true
-  constant-atom k p = rw (le-leb k 35 (omega (arith, leb-true k 34 p)))
+  constant-atom k p = rw (le-leb k 36 (omega (arith, leb-true k 34 p)))
 
   -- What is no atom is no value.
   pub no-atom : {n : ℕ} {e : Tm} → Shape C term n e → isAtom (kindOf n) ≡ false → (ρ : Env) → asValue (plainTm 0 ρ e) ≡ none
   unfolding close
-  no-atom {n} (constant-shape p h) q ρ = absurd (true≢false (sym (constant-atom (kindOf n) p) ∙ q))
+  no-atom {n} (constant-shape p t h) q ρ = absurd (true≢false (sym (constant-atom (kindOf n) p) ∙ q))
   no-atom (variable-shape p) q ρ = absurd (true≢false (rw p at q))
   no-atom (function-shape p h) q ρ = absurd (true≢false (rw p at q))
   no-atom (label-shape p) q ρ = refl
@@ -44,9 +44,9 @@ module _ (C : Program) (term : ℕ → Tm) where
   module _ (G : Given) (e₀ : Tm) (Ω : Sound G e₀) where
     pub atom-shape : {n : ℕ} {e : Tm} → Shape C term n e → isAtom (kindOf n) ≡ true → (M : Memory) (z : Sizes) (env : ℕ) (ρ : Env) → z .nb ≤ 2048 → IsEnv term M z env ρ
         → (k : ℕ) (s : CState) (K : Stack) → Reach G e₀ Ω k s (eval e ρ) K → (v : CVal) × IsVal term M z (atomValue M env n) v × Reach G e₀ Ω k s (ret v) K
-    atom-shape {n} {e} (constant-shape {v = v} p h) q M z env ρ b ε k s K r =
+    atom-shape {n} {e} (constant-shape {v = v} p t h) q M z env ρ b ε k s K r =
         let g : kindOf n ≤ 34 = leb-true (kindOf n) 34 p in
-        (closed v, rw (ne-eqb (kindOf n) 41 (λ x. omega arith), ne-eqb (kindOf n) 35 (λ x. omega arith)) (h M z), reach-moves G e₀ Ω k s (eval e ρ) K r (ret (closed v)) K refl)
+        (closed v, rw (ne-eqb (kindOf n) 36 (λ x. omega arith), ne-eqb (kindOf n) 35 (λ x. omega arith)) (h M z), reach-moves G e₀ Ω k s (eval e ρ) K r (ret (closed v)) K refl)
     atom-shape {n} (variable-shape p) q M z env ρ b ε k s K r =
         let f = reach-var G e₀ Ω k s (field1 n) ρ K r in
         (f .0, rw p (lookup-is term M z (field1 n) b ε (f .1)), f .2)

@@ -6,7 +6,7 @@ use mathlib.Core.Bool.{Bool, true, false, _||_}
 use mathlib.Core.List.{List, [], _∷_}
 use lib.ListN.{length, getD}
 use lib.Dec.{eqb, leb}
-use borrow.Author.Tests.{leb-true, leb-false}
+use borrow.Author.Tests.{leb-true, leb-false, lt-leb}
 use Rattle.calculus.specs.Limits.{frameLimit}
 use Rattle.calculus.specs.Combinators.{choose}
 use Rattle.calculus.specs.Syntax.{Tm, pcd, lower, newLabel, abort}
@@ -15,7 +15,7 @@ use Rattle.machine.specs.Closure.{CVal, Env, CState, closed}
 use Rattle.machine.specs.Machine.{eval, ret, pcdN, Frame, opNF, lowerF, Stack, placeAt, reduce0C, reduceNC}
 use Rattle.flat.specs.Registers.{labelsMode, firstMode, readyMode, setMode, setN, setV, setDom}
 use Rattle.flat.specs.Values.{functionValue}
-use Rattle.flat.specs.Rows.{kindOf, field1, field2, term1, isAtom, constant, Program, rowAt}
+use Rattle.flat.specs.Rows.{kindOf, field1, field2, term1, isAtom, Program, rowAt, firstOperator}
 use Rattle.flat.specs.Memory.{Memory, lookup, frameWord, putFrame, frameAt}
 use Rattle.flat.specs.States.{State, withRegs, noFrames}
 use Rattle.flat.specs.Operands.{pushed}
@@ -57,7 +57,7 @@ module _ (C : Program) (term : ℕ → Tm) (coded : Coded C term) (G : Given) (e
     same m = sym (stack-length C term (S .memory) (sizes (S .regs)) (m .stack))
 
     -- A lower whose body is no value.
-    lower-pushed : kindOf (S .regs .n) ≡ 52 → field2 (S .regs .n) < 16 → S .regs .sp < 512 → Reach G e₀ Ω k s (eval (term (term1 (S .regs .n))) ρ) (lowerF (field2 (S .regs .n)) ∷ K)
+    lower-pushed : kindOf (S .regs .n) ≡ 39 → field2 (S .regs .n) < 16 → S .regs .sp < 512 → Reach G e₀ Ω k s (eval (term (term1 (S .regs .n))) ρ) (lowerF (field2 (S .regs .n)) ∷ K)
         → After (let T : State = pushed 3 (S .regs .dom) (term1 (S .regs .n)) S in withRegs (setDom (field2 (S .regs .n) % 16) (T .regs)) T)
     lower-pushed p small lt r =
         let w : ℕ = frameWord 3 (S .regs .t) (S .regs .env) 0 (S .regs .dom) in
@@ -67,7 +67,7 @@ module _ (C : Program) (term : ℕ → Tm) (coded : Coded C term) (G : Given) (e
         let parts : FrameParts 3 (S .regs .t) (S .regs .env) 0 (S .regs .dom) w =
         frame-parts 3 (S .regs .t) (S .regs .env) 0 (S .regs .dom) (omega arith) t (omega (arith, env-bound term (S .memory) (sizes (S .regs)) e, m .store .bindings-fit)) (omega arith) in
         let row : rowAt C (S .regs .t) ≡ S .regs .n = sym n in
-        let held : S .regs .dom % 68719476736 % 16 ≡ S .regs .dom = omega (arith, m .low) in
+        let held : S .regs .dom % 16 ≡ S .regs .dom = omega (arith, m .low) in
         let f : IsFrame C term M′ (sizes (S .regs)) w (getD (M′ .beside) (S .regs .sp) 0) (placeAt K .dom) (lowerF (field2 (S .regs .n))) =
         lower-frame (parts .kind-part) (rw (parts .term-part, row) p) (ap (λ (h : ℕ). h % 16) (parts .held-part) ∙ held ∙ m .place) in
         let f′ : IsFrame C term M′ (sizes (S .regs)) (frameAt M′ (S .regs .sp)) (getD (M′ .beside) (S .regs .sp) 0) (placeAt K .dom) (lowerF (field2 (S .regs .n))) = rw at f in
@@ -82,7 +82,7 @@ module _ (C : Program) (term : ℕ → Tm) (coded : Coded C term) (G : Given) (e
         })
         (env-grows term (S .memory) (sizes (S .regs)) M′ (sizes (S .regs)) g e) (omega arith) (omega arith) (λ a. omega arith) r (omega arith)
 
-    lower-now : kindOf (S .regs .n) ≡ 52 → field2 (S .regs .n) < 16 → Reach G e₀ Ω k s (eval (lower (field2 (S .regs .n)) (term (term1 (S .regs .n)))) ρ) K → After (enterLower C S)
+    lower-now : kindOf (S .regs .n) ≡ 39 → field2 (S .regs .n) < 16 → Reach G e₀ Ω k s (eval (lower (field2 (S .regs .n)) (term (term1 (S .regs .n)))) ρ) K → After (enterLower C S)
     lower-now p small r = atom (isAtom (kindOf (rowAt C (term1 (S .regs .n))))) refl
       where
         few : S .regs .sp ≤ 512
@@ -114,11 +114,11 @@ module _ (C : Program) (term : ℕ → Tm) (coded : Coded C term) (G : Given) (e
     strict-begins f h =
         strict-kind C term
         (λ k. After
-        (choose (leb k 34) (withRegs (reached (constant (S .regs .n)) (S .regs)) S)
+        (choose (leb firstOperator k) (withRegs (setMode firstMode (S .regs)) S)
+        (choose (leb k 34) (withRegs (reached (S .regs .n) (S .regs)) S)
         (choose (eqb k 35) (withRegs (reached (lookup (S .memory) (S .regs .env) (field1 (S .regs .n))) (S .regs)) S)
-        (choose (eqb k 41) (withRegs (reached (functionValue (S .regs .env) (field1 (S .regs .n))) (S .regs)) S)
-        (choose (eqb k 44 || eqb k 53) (withRegs (setMode readyMode (S .regs)) S)
-        (choose (eqb k 46) (withRegs (setMode labelsMode (setV (S .regs .t) (S .regs))) S) (choose (eqb k 52) (enterLower C S) (withRegs (setMode firstMode (S .regs)) S))))))))
+        (choose (eqb k 36) (withRegs (reached (functionValue (S .regs .env) (field1 (S .regs .n))) (S .regs)) S)
+        (choose (eqb k 38) (withRegs (setMode labelsMode (setV (S .regs .t) (S .regs))) S) (choose (eqb k 39) (enterLower C S) (withRegs (setMode readyMode (S .regs)) S))))))))
         f h h h h h h h h h h h h h h
 
     -- A value is at hand.
@@ -126,8 +126,8 @@ module _ (C : Program) (term : ℕ → Tm) (coded : Coded C term) (G : Given) (e
     value-now w v iv r = now-return refl (record { store = m .store; stack = m .stack; place = m .place; low = m .low; budget = m .budget }) iv fits r (omega arith)
 
     row-now : {f : Tm} → Shape C term (S .regs .n) f → Reach G e₀ Ω k s (eval f ρ) K → After (beginRow C S)
-    row-now {f} (constant-shape {v = v} p h) r =
-        rw p (value-now (constant (S .regs .n)) (closed v) (h (S .memory) (sizes (S .regs))) (reach-moves G e₀ Ω k s (eval f ρ) K r (ret (closed v)) K refl))
+    row-now {f} (constant-shape {v = v} p q h) r =
+        rw (lt-leb firstOperator (kindOf (S .regs .n)) (omega (arith, leb-true (kindOf (S .regs .n)) 34 p)), p) (value-now (S .regs .n) (closed v) (h (S .memory) (sizes (S .regs))) (reach-moves G e₀ Ω k s (eval f ρ) K r (ret (closed v)) K refl))
     row-now (variable-shape p) r =
         let x = reach-var G e₀ Ω k s (field1 (S .regs .n)) ρ K r in
         rw p

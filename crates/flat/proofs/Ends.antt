@@ -12,7 +12,7 @@ use Rattle.calculus.specs.State.{Cell, Given, logOf, noCell, fresh}
 use Rattle.calculus.specs.Run.{EndOf, done, stopped, Ended, ended, run}
 use Rattle.calculus.specs.Report.{outcomeNumber, outcomeOf}
 use Rattle.machine.specs.Closure.{CVal, CState, plainVal, plainCell, plainAdvice, plainState}
-use Rattle.flat.specs.Memory.{boundValue, cellAt, cellNote}
+use Rattle.flat.specs.Memory.{cellAt, cellNote}
 use Rattle.flat.specs.States.{State, withRegs}
 use Rattle.flat.specs.Rows.{Program}
 use Rattle.flat.specs.Turn.{opened}
@@ -30,7 +30,7 @@ module _ (term : ℕ → Tm) (S : State) where
 
   -- Cell i is the cell c.
   pub record StandsCell (i : ℕ) (c : Cell Val) : Type 0 where
-    pub held : Stands (boundValue (cellAt (S .memory) i)) (c .held)
+    pub held : Stands (cellAt (S .memory) i) (c .held)
     pub note : cellNote (cellAt (S .memory) i) ≡ c .dom + choose (c .plain) 16 0
     pub low : c .dom < 16
 

@@ -13,9 +13,9 @@ use Rattle.calculus.specs.Syntax.{Tm}
 use Rattle.calculus.specs.State.{Advice}
 use Rattle.calculus.specs.Compose.{member, matching}
 use Rattle.machine.specs.Closure.{CVal, link, Body}
-use Rattle.flat.specs.Memory.{Memory, wordAt, binding, boundValue, boundPiece, boundLink, bindingAt, putBinding, pieceFirst, pieceSecond, hasDigit, hasLabel, adviceTerm, adviceDom, adviceEnv, installedAt}
+use Rattle.flat.specs.Memory.{Memory, wordAt, binding, boundPiece, boundLink, bindingAt, putBinding, pieceFirst, pieceSecond, hasDigit, hasLabel, adviceTerm, adviceDom, adviceEnv, installedAt}
 use Rattle.flat.specs.Reduce.{Bound, bindOne, bindMatching}
-use Rattle.flat.proofs.Relations.{Sizes, digitsOf, Labels, no-labels, one-more, onto, IsLabels, is-word, IsVal, IsEnv, is-link, IsAdvice, at-piece, IsTriggered, no-more, one-left, val-at, env-at, val-bound, Grows, val-grows, env-grows}
+use Rattle.flat.proofs.Relations.{Sizes, digitsOf, Labels, no-labels, one-more, onto, IsLabels, is-word, IsVal, IsEnv, is-link, IsAdvice, at-piece, IsTriggered, no-more, one-left, val-at, env-at, val-like, Grows, val-grows, env-grows}
 use Rattle.flat.proofs.Tables.{word-same, word-other, grows-put, grows-sizes, grows-refl, grows-trans, Apart, apart-put, apart-refl, apart-trans, SameFrames, same-put, same-refl, same-trans}
 use Rattle.flat.proofs.Store.{AreAdvices, none-installed, one-installed, resized}
 use Rattle.flat.proofs.ReducePieces.{digits-fit}
@@ -108,13 +108,13 @@ module _ (term : ℕ → Tm) (M : Memory) (z : Sizes) (np : z .np ≤ 512) (long
           let here : wordAt W (B .count) ≡ word = ap (λ (m : Memory). wordAt m (B .count)) made ∙ start (B .count) word (B .memory) len in
           let kept : bindingAt M′ (suc (B .count)) ≡ word = ap (λ (j : ℕ). wordAt M′ j) i ∙ m .earlier (B .count) (omega arith) room ∙ here in
           let same : pieceFirst (B .memory) p ≡ pieceFirst M p = k .grows .firsts p lt in
-          let parts = binding-word v p (adviceEnv (pieceFirst (B .memory) p)) (val-bound term M z iv) small in
+          let parts = binding-word v p (adviceEnv (pieceFirst (B .memory) p)) small (omega arith) in
           let g : Grows M z M′ z′ = grows-trans (m .written .grows) (grows-sizes M′ z z′ (omega (arith, m .count)) (omega arith) (omega arith)) in
-          let piece : boundPiece (bindingAt M′ (suc (B .count))) ≡ p = ap boundPiece kept ∙ parts .1 in
+          let piece : boundPiece (bindingAt M′ (suc (B .count))) ≡ p = ap boundPiece kept ∙ parts .2 in
           let at : pieceFirst M′ (boundPiece (bindingAt M′ (suc (B .count)))) ≡ pieceFirst M p = ap (λ (j : ℕ). pieceFirst M′ j) piece ∙ g .firsts p lt in
           let e′ : IsEnv term M′ z′ (suc (B .count)) (link w ρ) =
-          is-link {l = suc (B .count)} (omega arith) (omega (arith, m .count)) (val-at term M′ z′ (ap boundValue kept ∙ parts .0) (val-grows term M z M′ z′ g iv))
-          (env-at term M′ z′ (ap boundLink kept ∙ parts .2 ∙ ap adviceEnv same) (env-grows term M z M′ z′ g e)) in
+          is-link {l = suc (B .count)} (omega arith) (omega (arith, m .count)) (val-at term M′ z′ kept (val-like term M′ z′ (parts .0) (parts .1) (val-grows term M z M′ z′ g iv)))
+          (env-at term M′ z′ (ap boundLink kept ∙ parts .3 ∙ ap adviceEnv same) (env-grows term M z M′ z′ g e)) in
           let next : suc (B .count) ≡ B .count + 1 = omega arith in
           let rest : IsTriggered term M′ z′ (suc (suc (B .count))) (suc (B′ .count)) w x = rw next (m .triggered h) in
           one-left {b = suc (B .count)} {e = suc (B′ .count)} (omega (arith, m .count)) e′ (rw piece lt) (ap (λ (f : ℕ). term (adviceTerm f)) at ∙ t) (ap adviceDom at ∙ d) rest

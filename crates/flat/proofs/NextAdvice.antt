@@ -34,8 +34,8 @@ use Rattle.flat.proofs.Now.{Common, halted-stopped, Now, now-eval, now-
 use Rattle.flat.proofs.Push.{FrameParts, frame-parts, grows-framed, store-framed, at-framed, stack-framed}
 
 -- What an advice's frame holds.
-held-parts : (n e d h : ℕ) → n < 4096 → e < 4096 → d < 16 → h ≡ n + 4096 * e + 16777216 * d → (h % 4096 ≡ n) × (h / 4096 % 4096 ≡ e) × (h / 16777216 % 16 ≡ d) × (h % 68719476736 ≡ h)
-held-parts n e d h a b c p = (omega arith, omega arith, omega arith, omega arith)
+held-parts : (n e d h : ℕ) → n < 4096 → e < 4096 → d < 16 → h ≡ n + 4096 * e + 16777216 * d → (h % 4096 ≡ n) × (h / 4096 % 4096 ≡ e) × (h / 16777216 % 16 ≡ d)
+held-parts n e d h a b c p = (omega arith, omega arith, omega arith)
 
 module _ (C : Program) (term : ℕ → Tm) (coded : Coded C term) (G : Given) (e₀ : Tm) (Ω : Sound G e₀) (N : ℕ) (L : List ℕ) (b : ℕ) (S : State) (k : ℕ) (s : CState) (K : Stack) (m : Common C term G e₀ Ω N L S k s K)
     (same : S .regs .c ≡ S .regs .v) (fits : S .regs .sp ≤ 512) (turns : 16384 * S .regs .left + 24 * (514 - S .regs .sp) ≤ b) where
@@ -88,7 +88,7 @@ module _ (C : Program) (term : ℕ → Tm) (coded : Coded C term) (G : Given) (e
             let at′ : frameAt M′ (suc (S .regs .sp)) ≡ wd = ap (frameAt M′) i ∙ at in
             let parts : FrameParts 4 0 0 0 H wd = frame-parts 4 0 0 0 H (omega arith) (omega arith) (omega arith) (omega arith) in
             let hp = held-parts (S .regs .c % 4096 + 1) (S .regs .c / 4096 % 4096) (S .regs .dom) H (omega (arith, m .store .bindings-fit)) (omega arith) (m .low) refl in
-            let held : frameHeld (frameAt M′ (suc (S .regs .sp))) ≡ H = ap frameHeld at′ ∙ parts .held-part ∙ hp .3 in
+            let held : frameHeld (frameAt M′ (suc (S .regs .sp))) ≡ H = ap frameHeld at′ ∙ parts .held-part in
             let n : S .regs .c % 4096 + 1 ≡ suc (S .regs .c % 4096) = omega arith in
             let tr : IsTriggered term M′ z (frameHeld (frameAt M′ (suc (S .regs .sp))) % 4096) (frameHeld (frameAt M′ (suc (S .regs .sp))) / 4096 % 4096) w x =
             triggered-at term M′ z (ap (λ (q : ℕ). q % 4096) held ∙ hp .0 ∙ n) (ap (λ (q : ℕ). q / 4096 % 4096) held ∙ hp .1) (triggered-grows term (S .memory) z M′ z grow rest) in

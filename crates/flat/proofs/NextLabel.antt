@@ -2,22 +2,22 @@
 use Prim.Native.Nat.{ℕ, suc, _+_, _-_, _*_, _/_, _%_, _≤_, _<_}
 use native.Mathlib.Omega.{arith}
 use mathlib.Core.Path.{_≡_, refl, sym, ap, _∙_}
-use mathlib.Core.Bool.{Bool, true, false}
+use mathlib.Core.Bool.{Bool, true, false, true≢false}
 use mathlib.Core.List.{List, _∷_, map}
 use lib.ListN.{length, getD, set, length-set}
 use lib.Seq.{getD-set-same, getD-set-other}
 use lib.Dec.{eqb, leb}
-use borrow.Author.Tests.{eqb-true, leb-true, leb-false, le-leb, lt-leb}
+use borrow.Author.Tests.{eqb-true, leb-true, leb-false, le-leb, lt-leb, ne-eqb}
 use Rattle.calculus.specs.Limits.{frameLimit}
 use Rattle.calculus.specs.Combinators.{choose}
 use Rattle.calculus.specs.Syntax.{Tm}
 use Rattle.calculus.specs.State.{Given}
-use Rattle.machine.specs.Closure.{CVal, Env, CState}
+use Rattle.machine.specs.Closure.{CVal, Env, CState, empty}
 use Rattle.machine.specs.Machine.{eval, ret, Stack, placeAt}
 use Rattle.flat.specs.declared.Regs.{Regs}
 use Rattle.flat.specs.Registers.{evalMode, labelsMode, setMode, setSp, setT, setN, setV}
-use Rattle.flat.specs.Values.{tagOf, functionValue}
-use Rattle.flat.specs.Rows.{kindOf, field1, field2, isAtom, constant, Program, rowAt}
+use Rattle.flat.specs.Values.{tagOf, bodyOf, functionValue}
+use Rattle.flat.specs.Rows.{kindOf, field1, field2, isAtom, Program, rowAt}
 use Rattle.flat.specs.Memory.{Memory, lookup, withLabel, frameWord, frameTerm, frameHeld, frameAt, putFrame, putLabels}
 use Rattle.flat.specs.States.{State, withRegs, withMemory, noFrames, stuck}
 use Rattle.flat.specs.Operands.{atomValue}
@@ -27,8 +27,8 @@ use Rattle.flat.proofs.Relations.{Sizes, sizes, digitsOf, Labels, one-m
 use Rattle.flat.proofs.Sound.{Sound}
 use Rattle.flat.proofs.Reach.{Reach, reach-label}
 use Rattle.flat.proofs.Tables.{grows-trans, SameFrames, same-trans}
-use Rattle.flat.proofs.Nodes.{tag-value, shape}
-use Rattle.flat.proofs.Atoms.{no-atom, atom-shape}
+use Rattle.flat.proofs.Nodes.{tag-value, Shape, constant-shape, variable-shape, function-shape, label-shape, abort-shape, pointcut-shape, lower-shape, strict-shape, shape}
+use Rattle.flat.proofs.Atoms.{atom-strict, no-atom, atom-shape}
 use Rattle.flat.proofs.Stack.{IsPointcut, labelsFrame, IsFrame, pointcut-frame, one-frame, stack-length, stack-grows, children-count}
 use Rattle.flat.proofs.Store.{Store, store-charged}
 use Rattle.flat.proofs.Views.{AsLabel, a-label, no-label, as-label}
@@ -61,14 +61,20 @@ digits-split : (d h : ℕ) → d < 4398046511104 → h ≡ d % 68719476736 → h
 digits-split d h lt p = omega arith
 
 -- A constant or function is no label.
-atom-tag : (M : Memory) (env n : ℕ) → env ≤ 2048 → eqb (kindOf n) 35 ≡ false → tagOf (atomValue M env n) ≡ 6 → ⊥
-atom-tag M env n h p q = try (eqb (kindOf n) 41) q
-  where
-    try : (t : Bool) → tagOf (choose t (functionValue env (field1 n)) (choose (eqb (kindOf n) 35) (lookup M env (field1 n)) (constant n))) ≡ 6 → ⊥
-    try true q = omega (arith, tag-value 3 (65536 * env + field1 n) (omega arith))
-    try false q =
-        let r : tagOf (constant n) ≡ 6 = rw p at q in
-        omega (arith, tag-value (kindOf n % 4) (n / 65536 % 4294967296) (omega arith))
+atom-tag : (C : Program) (term : ℕ → Tm) {n : ℕ} {e : Tm} → Shape C term n e → eqb (kindOf n) 35 ≡ false → isAtom (kindOf n) ≡ true → (M : Memory) (env : ℕ) → tagOf (atomValue M env n) ≡ 6 → ⊥
+atom-tag C term {n} (constant-shape p t h) x q M env w =
+    let g : kindOf n ≤ 34 = leb-true (kindOf n) 34 p in
+    let y : tagOf n ≡ 6 = rw (ne-eqb (kindOf n) 36 (λ z. omega arith), ne-eqb (kindOf n) 35 (λ z. omega arith)) at w in
+    omega arith
+atom-tag C term (variable-shape p) x q M env w = true≢false (rw p at x)
+atom-tag C term {n} (function-shape p h) x q M env w =
+    let y : tagOf (functionValue env (field1 n)) ≡ 6 = rw p at w in
+    omega (arith, tag-value 3 (65536 * env + field1 n) (omega arith))
+atom-tag C term (label-shape p) x q M env w = true≢false (sym (rw p at q))
+atom-tag C term (abort-shape p) x q M env w = true≢false (sym (rw p at q))
+atom-tag C term (pointcut-shape p h i) x q M env w = true≢false (sym (rw p at q))
+atom-tag C term (lower-shape p h) x q M env w = true≢false (sym (rw p at q))
+atom-tag C term (strict-shape F f v m) x q M env w = true≢false (sym q ∙ atom-strict C term (f empty))
 
 module _ (C : Program) (term : ℕ → Tm) (coded : Coded C term) (G : Given) (e₀ : Tm) (Ω : Sound G e₀) (N : ℕ) (L : List ℕ) (bytes : Bytes (G .frame)) (b : ℕ) (S : State) (k : ℕ) (s : CState) (K : Stack)
     (m : Common C term G e₀ Ω N L S k s K) (fits : S .regs .sp ≤ 512) (ρ : Env) (e : IsEnv term (S .memory) (sizes (S .regs)) (S .regs .env) ρ) where
@@ -101,9 +107,9 @@ module _ (C : Program) (term : ℕ → Tm) (coded : Coded C term) (G : Given) (e
       (reach : Reach G e₀ Ω k s (eval (term x) ρ) (labelsFrame C term n ds ρ ∷ K)) (turns : 16384 * S .regs .left + 24 * (513 - S .regs .sp) + 3 * (field2 n - length ds) ≤ b) where
     -- A label at hand.
     at-hand : (v : ℕ) (u : CVal) → AsLabel term (S .memory) (sizes (S .regs)) v u → Reach G e₀ Ω k s (ret u) (labelsFrame C term n ds ρ ∷ K)
-        → After (choose (eqb (tagOf v) 6) (withRegs (setV (labelsState t (done + 1) (withLabel digits (v % 64))) r) S) (withRegs (stuck (S .regs)) S))
+        → After (choose (eqb (tagOf v) 6) (withRegs (setV (labelsState t (done + 1) (withLabel digits (bodyOf v % 64))) r) S) (withRegs (stuck (S .regs)) S))
     at-hand v u (a-label {l = l} a q) r′ =
-        let D : ℕ = withLabel digits (v % 64) in
+        let D : ℕ = withLabel digits (bodyOf v % 64) in
         let W : ℕ = labelsState t (done + 1) D in
         let parts = labels-parts t (done + 1) D (omega arith) (omega (arith, pc .few)) in
         let row : rowAt C (W % 1024) ≡ n = ap (rowAt C) (parts .0) in
@@ -120,21 +126,21 @@ module _ (C : Program) (term : ℕ → Tm) (coded : Coded C term) (G : Given) (e
     no-value : eqb (kindOf (rowAt C x)) 35 ≡ false → isAtom (kindOf (rowAt C x)) ≡ false
     no-value p = try (isAtom (kindOf (rowAt C x))) refl
       where
-        bad : (u : CVal) → AsLabel term (S .memory) (sizes (S .regs)) (atomValue (S .memory) (S .regs .env) (rowAt C x)) u → Reach G e₀ Ω k s (ret u) (labelsFrame C term n ds ρ ∷ K) → ⊥
-        bad u (a-label a q) r′ = atom-tag (S .memory) (S .regs .env) (rowAt C x) (omega (arith, env-bound term (S .memory) (sizes (S .regs)) e, m .store .bindings-fit)) p a
-        bad u (no-label h) r′ = reach-label G e₀ Ω k s u (map CVal.label ds) _ ρ K r′ h
+        bad : isAtom (kindOf (rowAt C x)) ≡ true → (u : CVal) → AsLabel term (S .memory) (sizes (S .regs)) (atomValue (S .memory) (S .regs .env) (rowAt C x)) u → Reach G e₀ Ω k s (ret u) (labelsFrame C term n ds ρ ∷ K) → ⊥
+        bad z u (a-label a q) r′ = atom-tag C term (shape C term (coded .node x)) p z (S .memory) (S .regs .env) a
+        bad z u (no-label h) r′ = reach-label G e₀ Ω k s u (map CVal.label ds) _ ρ K r′ h
 
         try : (z : Bool) → isAtom (kindOf (rowAt C x)) ≡ z → z ≡ false
         try true q =
             let a = atom-shape C term G e₀ Ω (shape C term (coded .node x)) q (S .memory) (sizes (S .regs)) (S .regs .env) ρ (m .store .bindings-fit) e k s (labelsFrame C term n ds ρ ∷ K) reach in
-            absurd (bad (a .0) (as-label term (S .memory) (sizes (S .regs)) (a .1)) (a .2))
+            absurd (bad q (a .0) (as-label term (S .memory) (sizes (S .regs)) (a .1)) (a .2))
         try false q = refl
 
     -- The child goes under a frame.
     under : S .regs .sp < 512 → After (withMemory (putLabels (S .regs .sp) t (S .regs .env) done digits (S .memory)) (setMode evalMode (setT x (setSp (S .regs .sp + 1) r))) S)
     under h =
         let z : Sizes = sizes (S .regs) in
-        let w : ℕ = frameWord 2 t (S .regs .env) done digits in
+        let w : ℕ = frameWord 2 t (S .regs .env) done (digits % 68719476736) in
         let M′ : Memory = putFrame (S .regs .sp) w (S .memory) in
         let byte : ℕ = digits / 68719476736 % 256 in
         let st′ = store-framed C term L (S .memory) (S .log) z s (m .store) (S .regs .sp) w (omega arith) in
@@ -142,8 +148,8 @@ module _ (C : Program) (term : ℕ → Tm) (coded : Coded C term) (G : Given) (e
         let grow : Grows (S .memory) z M″ z = grows-trans (grows-framed C term L (S .memory) (S .log) z s (m .store) (S .regs .sp) w (omega arith)) (grows-besides C term L M′ (S .log) z s st′ (S .regs .sp) byte) in
         let at : frameAt M″ (S .regs .sp) ≡ w = at-framed C term L (S .memory) (S .log) z s (m .store) (S .regs .sp) w (omega arith) in
         let at-byte : getD (M″ .beside) (S .regs .sp) 0 ≡ byte = getD-set-same (S .memory .beside) (S .regs .sp) byte 0 (omega (arith, m .store .beside)) in
-        let parts : FrameParts 2 t (S .regs .env) done digits w =
-        frame-parts 2 t (S .regs .env) done digits (omega arith) (omega arith) (omega (arith, env-bound term (S .memory) z e, m .store .bindings-fit)) (omega (arith, pc .few)) in
+        let parts : FrameParts 2 t (S .regs .env) done (digits % 68719476736) w =
+        frame-parts 2 t (S .regs .env) done (digits % 68719476736) (omega arith) (omega arith) (omega (arith, env-bound term (S .memory) z e, m .store .bindings-fit)) (omega (arith, pc .few)) in
         let row : rowAt C (frameTerm w) ≡ n = ap (rowAt C) (parts .term-part) in
         let small : digitsOf ds < 4398046511104 = digits-fit 7 ls (omega (arith, pc .few)) in
         let sum : frameHeld w + 68719476736 * byte ≡ digitsOf ds = digits-split digits (frameHeld w) (rw word at small) (parts .held-part) ∙ sym word in
@@ -167,7 +173,7 @@ module _ (C : Program) (term : ℕ → Tm) (coded : Coded C term) (G : Given) (e
         → After
         (choose z
         (choose (eqb (tagOf (lookup (S .memory) (S .regs .env) (field1 (rowAt C x)))) 6)
-        (withRegs (setV (labelsState t (done + 1) (withLabel digits (lookup (S .memory) (S .regs .env) (field1 (rowAt C x)) % 64))) r) S) (withRegs (stuck (S .regs)) S))
+        (withRegs (setV (labelsState t (done + 1) (withLabel digits (bodyOf (lookup (S .memory) (S .regs .env) (field1 (rowAt C x))) % 64))) r) S) (withRegs (stuck (S .regs)) S))
         (choose (leb frameLimit (S .regs .sp)) (withRegs (noFrames (S .regs)) S)
         (withMemory (putLabels (S .regs .sp) t (S .regs .env) done digits (S .memory)) (setMode evalMode (setT x (setSp (S .regs .sp + 1) r))) S)))
     child-now true p =

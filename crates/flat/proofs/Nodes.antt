@@ -15,33 +15,33 @@ use Rattle.image.specs.Program.{opOf}
 use Rattle.machine.specs.Closure.{Env, CState, close, closed, plainTm}
 use Rattle.machine.specs.Machine.{eval, Frame, op1F, op2L, seqF, iteF, splitF, advF, Stack, push, placeAt, moveEval}
 use Rattle.flat.specs.Values.{value, tagOf, bodyOf}
-use Rattle.flat.specs.Rows.{kindOf, field1, field2, field3, term1, term2, term3, constant, Program}
+use Rattle.flat.specs.Rows.{kindOf, field1, field2, field3, term1, term2, term3, Program}
 use Rattle.flat.specs.Memory.{Memory}
 use Rattle.flat.specs.Coded.{childrenFrom, NodeOf, no-node, unit-node, truth-node, number-node, var-node, seq-node, print-node, ite-node, pair-node, split-node, function-node, apply-node, arithmetic-node, label-node, mark-node, pointcut-node, advice-node, install-node, cell-node, read-node, store-node, lower-node, abort-node, byte-node}
 use Rattle.flat.proofs.Relations.{Sizes, IsVal, is-unit, is-truth, is-num}
 
 -- The parts of a value's word.
-pub tag-value : (t b : ℕ) → b < 4294967296 → tagOf (value t b) ≡ t
+pub tag-value : (t b : ℕ) → t < 16 → tagOf (value t b) ≡ t
 tag-value t b h = omega arith
 
-pub body-value : (t b : ℕ) → b < 4294967296 → bodyOf (value t b) ≡ b
+pub body-value : (t b : ℕ) → t < 16 → bodyOf (value t b) ≡ b
 body-value t b h = omega arith
 
 -- The operator of a row with two operands.
 pub data Op2Of (n : ℕ) : Op2 → Type 0 where
-  pair-op : kindOf n ≡ 39 → Op2Of n Op2.pair
-  apply-op : kindOf n ≡ 42 → Op2Of n app
-  arithmetic-op : {o : Op2} → kindOf n ≡ 43 → field3 n < 4 → opOf (field3 n) ≡ o → Op2Of n o
-  mark-op : kindOf n ≡ 45 → Op2Of n mark
-  store-op : kindOf n ≡ 51 → Op2Of n store
+  pair-op : kindOf n ≡ 64 → Op2Of n Op2.pair
+  apply-op : kindOf n ≡ 65 → Op2Of n app
+  arithmetic-op : {o : Op2} → kindOf n ≡ 66 → field3 n < 4 → opOf (field3 n) ≡ o → Op2Of n o
+  mark-op : kindOf n ≡ 67 → Op2Of n mark
+  store-op : kindOf n ≡ 68 → Op2Of n store
 
 module _ (C : Program) (term : ℕ → Tm) where
   -- A row with one operand: the frame of that, in an environment.
   pub data Unary (n : ℕ) (ρ : Env) : Frame → Type 0 where
-    seq-frame : kindOf n ≡ 36 → Unary n ρ (seqF (term (term2 n)) ρ)
-    print-frame : {t : Ty} → kindOf n ≡ 37 → Unary n ρ (op1F print t)
-    ite-frame : kindOf n ≡ 38 → Unary n ρ (iteF (term (term2 n)) (term (term3 n)) ρ)
-    split-frame : kindOf n ≡ 40 → Unary n ρ (splitF (term (term2 n)) ρ)
+    seq-frame : kindOf n ≡ 41 → Unary n ρ (seqF (term (term2 n)) ρ)
+    print-frame : {t : Ty} → kindOf n ≡ 42 → Unary n ρ (op1F print t)
+    ite-frame : kindOf n ≡ 43 → Unary n ρ (iteF (term (term2 n)) (term (term3 n)) ρ)
+    split-frame : kindOf n ≡ 44 → Unary n ρ (splitF (term (term2 n)) ρ)
     advice-frame : kindOf n ≡ 47 → field2 n < 1024 → field3 n < 16 → Unary n ρ (advF (field3 n) (term (field2 n)) ρ)
     install-frame : {t : Ty} → kindOf n ≡ 48 → Unary n ρ (op1F install t)
     cell-frame : {t : Ty} → kindOf n ≡ 49 → domOf t < 16 → field2 n ≡ domOf t + choose (heldPlain t) 16 0 → Unary n ρ (op1F newCell t)
@@ -54,30 +54,22 @@ module _ (C : Program) (term : ℕ → Tm) where
     binary : {o : Op2} {t : Ty} → Op2Of n o → Strict n ρ (op2L o t (term (term2 n)) ρ)
 
   pub data Shape (n : ℕ) : Tm → Type 0 where
-    constant-shape : {v : Val} → leb (kindOf n) 34 ≡ true → ((M : Memory) (z : Sizes) → IsVal term M z (constant n) (closed v)) → Shape n (val v)
+    constant-shape : {v : Val} → leb (kindOf n) 34 ≡ true → tagOf n < 3 → ((M : Memory) (z : Sizes) → IsVal term M z n (closed v)) → Shape n (val v)
     variable-shape : kindOf n ≡ 35 → Shape n (var (field1 n))
-    function-shape : {t : Ty} → kindOf n ≡ 41 → field1 n < 1024 → Shape n (lam t (term (field1 n)))
-    label-shape : {t : Ty} → kindOf n ≡ 44 → Shape n (op0 newLabel t)
-    abort-shape : {t : Ty} → kindOf n ≡ 53 → Shape n (op0 abort t)
-    pointcut-shape : kindOf n ≡ 46 → field2 n ≤ 8 → field1 n + 2 * field2 n ≤ length (C .image) → Shape n (pcd (childrenFrom C term n 0 (field2 n)))
-    lower-shape : kindOf n ≡ 52 → field2 n < 16 → Shape n (lower (field2 n) (term (term1 n)))
+    function-shape : {t : Ty} → kindOf n ≡ 36 → field1 n < 1024 → Shape n (lam t (term (field1 n)))
+    label-shape : {t : Ty} → kindOf n ≡ 37 → Shape n (op0 newLabel t)
+    abort-shape : {t : Ty} → kindOf n ≡ 40 → Shape n (op0 abort t)
+    pointcut-shape : kindOf n ≡ 38 → field2 n ≤ 8 → field1 n + 2 * field2 n ≤ length (C .image) → Shape n (pcd (childrenFrom C term n 0 (field2 n)))
+    lower-shape : kindOf n ≡ 39 → field2 n < 16 → Shape n (lower (field2 n) (term (term1 n)))
     strict-shape : {e : Tm} (F : Env → Frame) → ((ρ : Env) → Strict n ρ (F ρ)) → ((ρ : Env) → asValue (plainTm 0 ρ e) ≡ none)
         → ((ρ : Env) (K : Stack) (G : Given) (s : CState) → moveEval e ρ K G s ≡ push (F ρ) K (eval (term (term1 n)) ρ)) → Shape n e
 
-  constant-tag : (n k : ℕ) → kindOf n % 4 ≡ k → tagOf (constant n) ≡ k
-  constant-tag n k p = tag-value (kindOf n % 4) (n / 65536 % 4294967296) (omega arith) ∙ p
-
-  constant-body : (n : ℕ) → bodyOf (constant n) ≡ n / 65536 % 4294967296
-  constant-body n = body-value (kindOf n % 4) (n / 65536 % 4294967296) (omega arith)
-
   pub shape : {n : ℕ} {e : Tm} → NodeOf C term n e → Shape n e
   unfolding close closed
-  shape {n} (no-node p q) = constant-shape (rw p) (λ M z. is-unit (constant-tag n 0 (omega arith)))
-  shape {n} (unit-node p) = constant-shape (rw p) (λ M z. is-unit (constant-tag n 0 (omega arith)))
-  shape {n} (truth-node p q) =
-      constant-shape (rw p) (λ M z. is-truth (constant-tag n 1 (omega arith)) (constant-body n ∙ q))
-  shape {n} (number-node p q) =
-      constant-shape (rw p) (λ M z. is-num (constant-tag n 2 (omega arith)) (constant-body n ∙ q))
+  shape (no-node p q) = constant-shape (rw p) (omega arith) (λ M z. is-unit q)
+  shape (unit-node p q) = constant-shape (rw p) (omega arith) (λ M z. is-unit q)
+  shape (truth-node p q r) = constant-shape (rw p) (omega arith) (λ M z. is-truth q r)
+  shape (number-node p q r) = constant-shape (rw p) (omega arith) (λ M z. is-num q r)
   shape {n} (var-node p q) = rw (← q) (variable-shape p)
   shape (seq-node p) = strict-shape (λ ρ. seqF _ ρ) (λ ρ. unary (seq-frame p)) (λ ρ. refl) (λ ρ K G s. refl)
   shape (print-node p) = strict-shape (λ ρ. op1F print _) (λ ρ. unary (print-frame p)) (λ ρ. refl) (λ ρ K G s. refl)
@@ -101,7 +93,7 @@ module _ (C : Program) (term : ℕ → Tm) where
 
   -- What holds of every kind of strict row.
   pub strict-kind : {n : ℕ} {ρ : Env} {F : Frame} (P : ℕ → Type 0) → Strict n ρ F
-      → P 36 → P 37 → P 38 → P 39 → P 40 → P 42 → P 43 → P 45 → P 47 → P 48 → P 49 → P 50 → P 51 → P 60 → P (kindOf n)
+      → P 41 → P 42 → P 43 → P 64 → P 44 → P 65 → P 66 → P 67 → P 47 → P 48 → P 49 → P 50 → P 68 → P 60 → P (kindOf n)
   strict-kind P (unary (seq-frame p)) a b c d e f g h i j k l m o = rw p a
   strict-kind P (unary (print-frame p)) a b c d e f g h i j k l m o = rw p b
   strict-kind P (unary (ite-frame p)) a b c d e f g h i j k l m o = rw p c

@@ -31,15 +31,15 @@ module _ (C : Program) (term : ℕ → Tm) (G : Given) where
   -- The frame of a first operand that is wanted; a lower's only where that is at hand.
   pub data First (n : ℕ) (ρ : Env) : Frame → Type 0 where
     strict-first : {F : Frame} → Strict C term n ρ F → First n ρ F
-    lower-first : {p : ℕ} → kindOf n ≡ 52 → isAtom (kindOf (rowAt C (term1 n))) ≡ true → First n ρ (lowerF p)
+    lower-first : {p : ℕ} → kindOf n ≡ 39 → isAtom (kindOf (rowAt C (term1 n))) ≡ true → First n ρ (lowerF p)
 
   -- The reduction of row n in an environment, with the operands v1 and v, at a place and in a state.
   pub data Redex (M : Memory) (z : Sizes) (n env v1 v : ℕ) (P : Place) (s : CState) : CAnswer → Type 0 where
-    seq-redex : {ρ : Env} {u : CVal} → kindOf n ≡ 36 → IsEnv term M z env ρ → IsVal term M z v1 u → Redex M z n env v1 v P s (reduceSeqC s (eval (term (term2 n)) ρ) u)
-    print-redex : (y : Ty) {u : CVal} → kindOf n ≡ 37 → IsVal term M z v1 u → Redex M z n env v1 v P s (reduce1C G P s print y u)
-    ite-redex : {ρ : Env} {u : CVal} → kindOf n ≡ 38 → IsEnv term M z env ρ → IsVal term M z v1 u
+    seq-redex : {ρ : Env} {u : CVal} → kindOf n ≡ 41 → IsEnv term M z env ρ → IsVal term M z v1 u → Redex M z n env v1 v P s (reduceSeqC s (eval (term (term2 n)) ρ) u)
+    print-redex : (y : Ty) {u : CVal} → kindOf n ≡ 42 → IsVal term M z v1 u → Redex M z n env v1 v P s (reduce1C G P s print y u)
+    ite-redex : {ρ : Env} {u : CVal} → kindOf n ≡ 43 → IsEnv term M z env ρ → IsVal term M z v1 u
         → Redex M z n env v1 v P s (reduceIteC s (term (term2 n)) (term (term3 n)) ρ u)
-    split-redex : {ρ : Env} {u : CVal} → kindOf n ≡ 40 → IsEnv term M z env ρ → IsVal term M z v1 u → Redex M z n env v1 v P s (reduceSplitC s (term (term2 n)) ρ u)
+    split-redex : {ρ : Env} {u : CVal} → kindOf n ≡ 44 → IsEnv term M z env ρ → IsVal term M z v1 u → Redex M z n env v1 v P s (reduceSplitC s (term (term2 n)) ρ u)
     advice-redex : {ρ : Env} {u : CVal} → kindOf n ≡ 47 → field2 n < 1024 → field3 n < 16 → IsEnv term M z env ρ → IsVal term M z v1 u
         → Redex M z n env v1 v P s (reduceAdvC s (field3 n) (term (field2 n)) ρ u)
     install-redex : (y : Ty) {u : CVal} → kindOf n ≡ 48 → IsVal term M z v1 u → Redex M z n env v1 v P s (reduce1C G P s install y u)
@@ -48,9 +48,9 @@ module _ (C : Program) (term : ℕ → Tm) (G : Given) where
     read-redex : (y : Ty) {u : CVal} → kindOf n ≡ 50 → IsVal term M z v1 u → Redex M z n env v1 v P s (reduce1C G P s read y u)
     byte-redex : (y : Ty) {u : CVal} → kindOf n ≡ 60 → IsVal term M z v1 u → Redex M z n env v1 v P s (reduce1C G P s byte y u)
     binary-redex : {o : Op2} (y : Ty) {u w : CVal} → Op2Of n o → IsVal term M z v1 u → IsVal term M z v w → Redex M z n env v1 v P s (reduce2C G P s o y u w)
-    lower-redex : {u : CVal} → kindOf n ≡ 52 → IsVal term M z v1 u → Redex M z n env v1 v P s (reduceSeqC s (ret CVal.unit) u)
-    label-redex : (y : Ty) → kindOf n ≡ 44 → Redex M z n env v1 v P s (reduce0C G P s newLabel y)
-    abort-redex : (y : Ty) → kindOf n ≡ 53 → Redex M z n env v1 v P s (reduce0C G P s abort y)
+    lower-redex : {u : CVal} → kindOf n ≡ 39 → IsVal term M z v1 u → Redex M z n env v1 v P s (reduceSeqC s (ret CVal.unit) u)
+    label-redex : (y : Ty) → kindOf n ≡ 37 → Redex M z n env v1 v P s (reduce0C G P s newLabel y)
+    abort-redex : (y : Ty) → kindOf n ≡ 40 → Redex M z n env v1 v P s (reduce0C G P s abort y)
     pointcut-redex : (ρ : Env) (ds : List ℕ) → IsPointcut C n → Labels ds → length ds ≡ field2 n → digitsOf ds ≡ v1
         → Redex M z n env v1 v P s (reduceNC G P s pcdN ρ (map CVal.label ds))
 

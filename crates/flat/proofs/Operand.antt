@@ -6,13 +6,13 @@ use mathlib.Core.Bool.{true}
 use mathlib.Core.List.{List, _∷_}
 use lib.ListN.{length}
 use lib.Dec.{leb}
-use borrow.Author.Tests.{leb-true, ne-eqb}
+use borrow.Author.Tests.{le-leb, leb-true, ne-eqb}
 use Rattle.calculus.specs.Syntax.{Ty, Tm, Op2, read, byte}
 use Rattle.calculus.specs.State.{Given}
 use Rattle.image.specs.Program.{opOf}
 use Rattle.machine.specs.Closure.{CVal, Env, CState}
 use Rattle.machine.specs.Machine.{eval, ret, Frame, op1F, op2L, op2R, Stack, placeAt, moves, push, moveEval, reduce1C, reduce2C}
-use Rattle.flat.specs.Rows.{kindOf, field3, term1, term2, isAtom, Program, rowAt}
+use Rattle.flat.specs.Rows.{kindOf, field3, term1, term2, isAtom, firstOperator, Program, rowAt}
 use Rattle.flat.specs.Memory.{Memory}
 use Rattle.flat.specs.Operands.{leafValue, atomValue, simpleValue}
 use Rattle.flat.specs.Coded.{SimpleNode, simple-read, simple-byte, simple-arithmetic, Coded}
@@ -24,30 +24,22 @@ use Rattle.flat.proofs.Atoms.{atom-shape}
 use Rattle.flat.proofs.Store.{Store}
 use Rattle.flat.proofs.ValueSteps.{Bytes, byte-step, arith-step, read-step}
 
--- The kinds of simple operands.
-record SimpleKind (k : ℕ) : Type 0 where
-  high : 42 < k
-  no-label : k ≡ 44 → ⊥
-  no-pointcut : k ≡ 46 → ⊥
-  no-lower : k ≡ 52 → ⊥
-  no-abort : k ≡ 53 → ⊥
-
 module _ (C : Program) (term : ℕ → Tm) where
-  simple-kind : {n : ℕ} → SimpleNode C term n → SimpleKind (kindOf n)
-  simple-kind (simple-read p a) = record { high = omega arith; no-label = λ e. omega arith; no-pointcut = λ e. omega arith; no-lower = λ e. omega arith; no-abort = λ e. omega arith }
-  simple-kind (simple-byte p a) = record { high = omega arith; no-label = λ e. omega arith; no-pointcut = λ e. omega arith; no-lower = λ e. omega arith; no-abort = λ e. omega arith }
-  simple-kind (simple-arithmetic p a c) = record { high = omega arith; no-label = λ e. omega arith; no-pointcut = λ e. omega arith; no-lower = λ e. omega arith; no-abort = λ e. omega arith }
+  simple-kind : {n : ℕ} → SimpleNode C term n → firstOperator ≤ kindOf n
+  simple-kind (simple-read p a) = omega arith
+  simple-kind (simple-byte p a) = omega arith
+  simple-kind (simple-arithmetic p a c) = omega arith
 
   -- A simple operand is strict.
-  simple-strict : {n : ℕ} {e : Tm} → Shape C term n e → SimpleKind (kindOf n) → (ρ : Env)
+  simple-strict : {n : ℕ} {e : Tm} → Shape C term n e → firstOperator ≤ kindOf n → (ρ : Env)
       → (F : Frame) × Strict C term n ρ F × ((K : Stack) (G : Given) (s : CState) → moveEval e ρ K G s ≡ push F K (eval (term (term1 n)) ρ))
-  simple-strict {n} (constant-shape p h) k ρ = absurd (omega (arith, leb-true (kindOf n) 34 p, k .high))
-  simple-strict (variable-shape p) k ρ = absurd (omega (arith, k .high))
-  simple-strict (function-shape p h) k ρ = absurd (omega (arith, k .high))
-  simple-strict (label-shape p) k ρ = absurd (k .no-label p)
-  simple-strict (abort-shape p) k ρ = absurd (k .no-abort p)
-  simple-strict (pointcut-shape p h i) k ρ = absurd (k .no-pointcut p)
-  simple-strict (lower-shape p h) k ρ = absurd (k .no-lower p)
+  simple-strict {n} (constant-shape p q h) k ρ = absurd (omega (arith, leb-true (kindOf n) 34 p))
+  simple-strict (variable-shape p) k ρ = absurd (omega arith)
+  simple-strict (function-shape p h) k ρ = absurd (omega arith)
+  simple-strict (label-shape p) k ρ = absurd (omega arith)
+  simple-strict (abort-shape p) k ρ = absurd (omega arith)
+  simple-strict (pointcut-shape p h i) k ρ = absurd (omega arith)
+  simple-strict (lower-shape p h) k ρ = absurd (omega arith)
   simple-strict (strict-shape F f v m) k ρ = (F ρ, f ρ, m ρ)
 
   read-strict : {n : ℕ} {ρ : Env} {F : Frame} → Strict C term n ρ F → kindOf n ≡ 50 → (t : Ty) × (F ≡ op1F read t)
@@ -82,7 +74,7 @@ module _ (C : Program) (term : ℕ → Tm) where
   byte-strict (binary (mark-op p)) q = absurd (omega arith)
   byte-strict (binary (store-op p)) q = absurd (omega arith)
 
-  arith-strict : {n : ℕ} {ρ : Env} {F : Frame} → Strict C term n ρ F → kindOf n ≡ 43 → (t : Ty) × (F ≡ op2L (opOf (field3 n)) t (term (term2 n)) ρ) × (field3 n < 4)
+  arith-strict : {n : ℕ} {ρ : Env} {F : Frame} → Strict C term n ρ F → kindOf n ≡ 66 → (t : Ty) × (F ≡ op2L (opOf (field3 n)) t (term (term2 n)) ρ) × (field3 n < 4)
   arith-strict (unary (seq-frame p)) q = absurd (omega arith)
   arith-strict (unary (print-frame p)) q = absurd (omega arith)
   arith-strict (unary (ite-frame p)) q = absurd (omega arith)
@@ -104,9 +96,9 @@ module _ (C : Program) (term : ℕ → Tm) where
         → Reach G e₀ Ω k s (eval (term y) ρ) K → (v : CVal) × IsVal term M z (leafValue M env (rowAt C y)) v × Reach G e₀ Ω k s (ret v) K
     leaf-now M z env y k s ρ K b p e r =
         let h : kindOf (rowAt C y) ≤ 35 = leb-true (kindOf (rowAt C y)) 35 p in
-        let t : isAtom (kindOf (rowAt C y)) ≡ true = rw p in
+        let t : isAtom (kindOf (rowAt C y)) ≡ true = le-leb (kindOf (rowAt C y)) 36 (omega arith) in
         let a = atom-shape C term G e₀ Ω (shape C term (coded .node y)) t M z env ρ b e k s K r in
-        let same : leafValue M env (rowAt C y) ≡ atomValue M env (rowAt C y) = rw (ne-eqb (kindOf (rowAt C y)) 41 (λ q. omega arith)) in
+        let same : leafValue M env (rowAt C y) ≡ atomValue M env (rowAt C y) = rw (ne-eqb (kindOf (rowAt C y)) 36 (λ q. omega arith)) in
         (a .0, val-at term M z same (a .1), a .2)
 
     -- A simple operand takes one step and gives a value.

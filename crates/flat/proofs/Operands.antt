@@ -18,11 +18,11 @@ use Rattle.machine.specs.Machine.{Control, eval, ret, Frame, op2R, lowerF, Stac
 use Rattle.flat.specs.declared.Regs.{Regs}
 use Rattle.flat.specs.Registers.{setLeft}
 use Rattle.flat.specs.Rows.{kindOf, isSimple, term1, term2, isAtom, isBinary, Program, rowAt}
-use Rattle.flat.specs.Memory.{Memory, frameWord, putFrame, frameAt}
+use Rattle.flat.specs.Memory.{Memory, frameWord, putFrame, frameAt, upper}
 use Rattle.flat.specs.States.{State, withRegs, halt, noFrames}
 use Rattle.flat.specs.Operands.{atomValue, simpleValue, afterFirst, afterSecond, pushed, operand, firstOperand, secondOperand}
 use Rattle.flat.specs.Coded.{Coded}
-use Rattle.flat.proofs.Relations.{sizes, IsVal, IsEnv, env-bound, env-grows, val-grows, val-bound, val-at, env-at}
+use Rattle.flat.proofs.Relations.{sizes, IsVal, IsEnv, env-bound, env-grows, val-grows, val-like, val-at, env-at}
 use Rattle.flat.proofs.Sound.{Sound}
 use Rattle.flat.proofs.Reach.{Reach, reach-moves, ends-spent, ends-deep, under-frame, redex-due}
 use Rattle.flat.proofs.Nodes.{Op2Of, pair-op, apply-op, arithmetic-op, mark-op, store-op, Unary, seq-frame, print-frame, ite-frame, split-frame, advice-frame, install-frame, cell-frame, read-frame, byte-frame, unary, binary, strict-dom, shape}
@@ -31,7 +31,7 @@ use Rattle.flat.proofs.Stack.{IsFrame, first-frame, second-frame, one-f
 use Rattle.flat.proofs.Now.{First, strict-first, lower-first, binary-redex, lower-redex, unary-redex, Common, halted-stopped, Now, now-eval, now-second, now-ready, now-halted}
 use Rattle.flat.proofs.Steps.{one-more}
 use Rattle.flat.proofs.ValueSteps.{Bytes}
-use Rattle.flat.proofs.Push.{FrameParts, frame-parts, grows-framed, store-framed, at-framed, stack-framed}
+use Rattle.flat.proofs.Push.{FrameParts, frame-parts, grows-framed, store-framed, at-framed, stack-framed, held-value}
 use Rattle.flat.proofs.Operand.{simple-now}
 
 unary-kind : (C : Program) (term : ℕ → Tm) {n : ℕ} {ρ : Env} {F : Frame} → Unary C term n ρ F → isBinary (kindOf n) ≡ false
@@ -160,7 +160,7 @@ module _ (C : Program) (term : ℕ → Tm) (coded : Coded C term) (G : Given) (e
       (now-ready (omega arith) refl (record { store = m .store; stack = m .stack; place = m .place; low = m .low; budget = m .budget }) fits r (x .1 ∙ redex-due K (x .0) few) (x .2) turns)
 
   -- After a lower's body.
-  pub after-lower : g < 3 → (S : State) (k : ℕ) (s : CState) (K : Stack) (p v : ℕ) (u : CVal) → Common C term G e₀ Ω N L S k s K → S .regs .sp ≤ 512 → kindOf (S .regs .n) ≡ 52
+  pub after-lower : g < 3 → (S : State) (k : ℕ) (s : CState) (K : Stack) (p v : ℕ) (u : CVal) → Common C term G e₀ Ω N L S k s K → S .regs .sp ≤ 512 → kindOf (S .regs .n) ≡ 39
       → IsVal term (S .memory) (sizes (S .regs)) v u → Reach G e₀ Ω k s (ret u) (lowerF p ∷ K) → 16384 * S .regs .left ≤ b → Now C term G e₀ Ω N L g b (withRegs (afterFirst v (S .regs)) S)
   after-lower stage S k s K p v u m fits kind iv r turns =
       let few : length K ≤ 512 = omega (arith, stack-length C term (S .memory) (sizes (S .regs)) (m .stack)) in
@@ -206,17 +206,17 @@ module _ (C : Program) (term : ℕ → Tm) (coded : Coded C term) (G : Given) (e
       → 16384 * S .regs .left + 24 * (513 - S .regs .sp) + 1 < b → Now C term G e₀ Ω N L g b (secondOperand C (G .frame) S)
   unfolding secondOperand
   second-now stage S k s K ρ o y u m e t n fits f iu r turns =
-      operand-now S k s K ρ (op2R o y u) m e fits (term2 (S .regs .n)) r 1 (S .regs .v1) afterSecond
+      operand-now S k s K ρ (op2R o y u) m e fits (term2 (S .regs .n)) r 1 (upper (S .regs .v1)) afterSecond
       (λ j k′ v w eq le iv r′.
       let few : length K ≤ 512 = omega (arith, stack-length C term (S .memory) (sizes (S .regs)) (m .stack)) in
       now-ready (omega arith) refl (record { store = m .store; stack = m .stack; place = m .place; low = m .low; budget = eq }) fits r′ (redex-due K (reduce2C G (placeAt K) s o y u w) few) (binary-redex y f iu iv) (omega arith))
       (λ a lt.
-      under-now S k s K ρ (op2R o y u) m e (term2 (S .regs .n)) (omega arith) r lt 1 (S .regs .v1)
+      under-now S k s K ρ (op2R o y u) m e (term2 (S .regs .n)) (omega arith) r lt 1 (upper (S .regs .v1))
       (λ M′ e′ vals byte.
-      let w : ℕ = frameWord 1 (S .regs .t) (S .regs .env) 0 (S .regs .v1) in
-      let parts : FrameParts 1 (S .regs .t) (S .regs .env) 0 (S .regs .v1) w =
-      frame-parts 1 (S .regs .t) (S .regs .env) 0 (S .regs .v1) (omega arith) t (omega (arith, env-bound term (S .memory) (sizes (S .regs)) e, m .store .bindings-fit)) (omega arith) in
+      let w : ℕ = frameWord 1 (S .regs .t) (S .regs .env) 0 (upper (S .regs .v1)) in
+      let parts : FrameParts 1 (S .regs .t) (S .regs .env) 0 (upper (S .regs .v1)) w =
+      frame-parts 1 (S .regs .t) (S .regs .env) 0 (upper (S .regs .v1)) (omega arith) t (omega (arith, env-bound term (S .memory) (sizes (S .regs)) e, m .store .bindings-fit)) (omega arith) in
       let row : rowAt C (S .regs .t) ≡ S .regs .n = sym n in
-      let low : S .regs .v1 % 68719476736 ≡ S .regs .v1 = omega (arith, val-bound term (S .memory) (sizes (S .regs)) iu) in
-      second-frame (parts .kind-part) (rw (parts .term-part, row) f) (val-at term M′ (sizes (S .regs)) (parts .held-part ∙ low) (vals (S .regs .v1) u iu)))
+      let held = held-value (S .regs .v1) w (parts .held-part) in
+      second-frame (parts .kind-part) (rw (parts .term-part, row) f) (val-like term M′ (sizes (S .regs)) (held .0) (held .1) (vals (S .regs .v1) u iu)))
       refl (omega arith))

@@ -1,5 +1,5 @@
 -- A frame is pushed.
-use Prim.Native.Nat.{ℕ, _+_, _%_, _≤_, _<_}
+use Prim.Native.Nat.{ℕ, _+_, _≤_, _<_}
 use native.Mathlib.Omega.{arith}
 use mathlib.Core.Path.{_≡_, refl}
 use mathlib.Core.List.{List}
@@ -7,7 +7,8 @@ use Rattle.calculus.specs.Syntax.{Tm}
 use Rattle.machine.specs.Closure.{CState}
 use Rattle.machine.specs.Machine.{Stack}
 use Rattle.flat.specs.Rows.{Program}
-use Rattle.flat.specs.Memory.{Memory, frameWord, frameEnv, frameTerm, frameKind, frameDone, frameHeld, frameAt, putFrame}
+use Rattle.flat.specs.Values.{tagOf, bodyOf}
+use Rattle.flat.specs.Memory.{Memory, frameWord, frameEnv, frameTerm, frameKind, frameDone, frameHeld, frameAt, putFrame, upper}
 use Rattle.flat.proofs.Relations.{Sizes, Grows}
 use Rattle.flat.proofs.Tables.{word-same, word-other, grows-put, apart-put, SameFrames, same-put}
 use Rattle.flat.proofs.Stack.{IsStack, stack-grows}
@@ -19,7 +20,11 @@ pub record FrameParts (kind t env done held w : ℕ) : Type 0 where
   pub term-part : frameTerm w ≡ t
   pub kind-part : frameKind w ≡ kind
   pub done-part : frameDone w ≡ done
-  pub held-part : frameHeld w ≡ held % 68719476736
+  pub held-part : frameHeld w ≡ held
+
+-- A frame that holds the upper bits of a value is a word of that value.
+pub held-value : (v w : ℕ) → frameHeld w ≡ upper v → (tagOf w ≡ tagOf v) × (bodyOf w ≡ bodyOf v)
+held-value v w h = (omega arith, omega arith)
 
 pub frame-parts : (kind t env done held : ℕ) → kind < 8 → t < 1024 → env < 4096 → done < 8 → FrameParts kind t env done held (frameWord kind t env done held)
 frame-parts kind t env done held a b c d =

@@ -15,12 +15,12 @@ use Rattle.machine.specs.Closure.{CVal, Env, link, CState}
 use Rattle.machine.specs.Machine.{Control, eval, Stack, placeAt, CAnswer, due, reduce2C, reduceSplitC, move}
 use Rattle.flat.specs.declared.Regs.{Regs}
 use Rattle.flat.specs.Registers.{setEnv, setNb}
-use Rattle.flat.specs.Values.{bodyOf}
+use Rattle.flat.specs.Values.{bodyOf, tagOf}
 use Rattle.flat.specs.Rows.{term2, Program}
-use Rattle.flat.specs.Memory.{Memory, wordAt, binding, boundValue, boundPiece, boundLink, bindingAt, putBinding, pieceFirst, pieceSecond}
+use Rattle.flat.specs.Memory.{Memory, wordAt, binding, boundPiece, boundLink, bindingAt, putBinding, pieceFirst, pieceSecond}
 use Rattle.flat.specs.States.{State, withMemory, goOn}
 use Rattle.flat.specs.Reduce.{reduceApply, reduceSplit}
-use Rattle.flat.proofs.Relations.{Sizes, sizes, IsVal, IsEnv, is-link, val-bound, val-at, env-at, Grows, val-grows, env-grows}
+use Rattle.flat.proofs.Relations.{Sizes, sizes, IsVal, IsEnv, is-link, env-bound, val-like, val-at, env-at, Grows, val-grows, env-grows}
 use Rattle.flat.proofs.Sound.{Sound}
 use Rattle.flat.proofs.Tables.{word-same, word-other, grows-put, grows-sizes, grows-trans, Apart, apart-put, apart-trans, SameFrames, same-put, same-trans}
 use Rattle.flat.proofs.Store.{Store, resized, store-charged}
@@ -29,8 +29,8 @@ use Rattle.flat.proofs.Now.{Now}
 use Rattle.flat.proofs.Steps.{leb-iff, spend-bindings, Redexed, goes-on, right-kind, if-there-is-room}
 
 -- The parts of a binding.
-pub binding-word : (v p l : ℕ) → v < 68719476736 → p < 512 → (boundValue (binding v p l) ≡ v) × (boundPiece (binding v p l) ≡ p) × (boundLink (binding v p l) ≡ l)
-binding-word v p l h g = (omega arith, omega arith, omega arith)
+pub binding-word : (v p l : ℕ) → p < 512 → l < 65536 → (tagOf (binding v p l) ≡ tagOf v) × (bodyOf (binding v p l) ≡ bodyOf v) × (boundPiece (binding v p l) ≡ p) × (boundLink (binding v p l) ≡ l)
+binding-word v p l h g = (omega arith, omega arith, omega arith, omega arith)
 
 -- One more binding: number nb, whose link is nb + 1.
 module _ (term : ℕ → Tm) (M : Memory) (z : Sizes) (words : 3905 ≤ length (M .words)) (room : z .nb < 2048) (fit : z .np ≤ 512) (w : ℕ) where
@@ -49,10 +49,11 @@ module _ (term : ℕ → Tm) (M : Memory) (z : Sizes) (words : 3905 ≤ length (
 
   pub env-bound-to : (v p l : ℕ) → binding v p l ≡ w → p < 512 → {u : CVal} {ρ : Env} → IsVal term M z v u → IsEnv term M z l ρ → IsEnv term bound longer (z .nb + 1) (link u ρ)
   env-bound-to v p l e h iv ie =
-      let parts = binding-word v p l (val-bound term M z iv) h in
+      let small : l ≤ z .nb = env-bound term M z ie in
+      let parts = binding-word v p l h (omega arith) in
       is-link {l = z .nb + 1} (omega arith) (omega arith)
-      (val-at term bound longer (ap boundValue (at-bound ∙ sym e) ∙ parts .0) (val-grows term M z bound longer grows-bound iv))
-      (env-at term bound longer (ap boundLink (at-bound ∙ sym e) ∙ parts .2) (env-grows term M z bound longer grows-bound ie))
+      (val-at term bound longer (at-bound ∙ sym e) (val-like term bound longer (parts .0) (parts .1) (val-grows term M z bound longer grows-bound iv)))
+      (env-at term bound longer (ap boundLink (at-bound ∙ sym e) ∙ parts .3) (env-grows term M z bound longer grows-bound ie))
 
   pub apart-bound : Apart M bound
   apart-bound = apart-put M (0 + z .nb) w (omega arith)
@@ -91,7 +92,7 @@ module _ (C : Program) (term : ℕ → Tm) (G : Given) (e₀ : Tm) (Ω : Sound G
       M′ = putBinding (S .regs .nb) B (S .memory)
 
       after : Regs
-      after = goOn (S .regs .v1 % 1024) (setEnv (S .regs .nb + 1) (setNb (S .regs .nb + 1) (S .regs)))
+      after = goOn (bodyOf (S .regs .v1) % 1024) (setEnv (S .regs .nb + 1) (setNb (S .regs .nb + 1) (S .regs)))
 
       try : {f : CVal} → AsFunction term (S .memory) (sizes (S .regs)) (S .regs .v1) f → move c K′ G s ≡ due (reduce2C G (placeAt K) s app y f w) K → After (reduceApply S)
       try (a-function {b = e} {ρ = ρ} a d f ie) q =
@@ -117,10 +118,10 @@ module _ (C : Program) (term : ℕ → Tm) (G : Given) (e₀ : Tm) (Ω : Sound G
   split-now {ρ} ie iv p = try (as-pair term (S .memory) (sizes (S .regs)) iv) p
     where
       v : ℕ
-      v = pieceFirst (S .memory) (S .regs .v1 % 512)
+      v = pieceFirst (S .memory) (bodyOf (S .regs .v1) % 512)
 
       v′ : ℕ
-      v′ = pieceSecond (S .memory) (S .regs .v1 % 512)
+      v′ = pieceSecond (S .memory) (bodyOf (S .regs .v1) % 512)
 
       B : ℕ
       B = binding v 0 (S .regs .env)

@@ -18,9 +18,9 @@ use Rattle.calculus.specs.Reduce.{piece, collect}
 use Rattle.machine.specs.Closure.{CVal, Env, CState, plainVal}
 use Rattle.machine.specs.Machine.{Control, ret, pcdN, Stack, placeAt, CAnswer, due, reduce2C, reduceNC, reduceAdvC, move}
 use Rattle.flat.specs.Registers.{setNp}
-use Rattle.flat.specs.Values.{value}
+use Rattle.flat.specs.Values.{value, bodyOf}
 use Rattle.flat.specs.Rows.{field2, field3, Program}
-use Rattle.flat.specs.Memory.{Memory, putWord, pieceFirst, pieceSecond, putPiece, labelsWord, adviceWord, adviceTerm, adviceDom, adviceEnv}
+use Rattle.flat.specs.Memory.{Memory, putWord, pieceFirst, pieceSecond, putPiece, labelsWord, adviceWord, adviceTerm, adviceDom, adviceEnv, pieceOf}
 use Rattle.flat.specs.States.{State, withMemory, give}
 use Rattle.flat.specs.Reduce.{newPiece, reducePair, reducePointcut, reduceAdvice}
 use Rattle.flat.proofs.Relations.{Sizes, sizes, digitsOf, Labels, no-labels, one-more, onto, is-word, IsVal, is-pair, is-labels, is-advice, IsEnv, env-bound, val-at, env-at, labels-at, Grows, val-grows, env-grows}
@@ -33,8 +33,8 @@ use Rattle.flat.proofs.Views.{AsPointcut, a-pointcut, no-pointcut, as-p
 use Rattle.flat.proofs.Now.{Now}
 use Rattle.flat.proofs.Steps.{leb-iff, spend-piece, Redexed, gives, right-kind, if-there-is-room}
 
-piece-word : (t p : ℕ) → p < 512 → value t p % 512 ≡ p
-piece-word t p h = omega arith
+piece-word : (t p : ℕ) → t < 16 → p < 512 → pieceOf (value t p) ≡ p
+piece-word t p h g = omega arith
 
 -- Labels have digits.
 pub digits-fit : {ds : List ℕ} (m : ℕ) → Labels ds → length ds ≤ m → digitsOf ds < 64 ^ m
@@ -111,7 +111,7 @@ module _ (C : Program) (term : ℕ → Tm) (G : Given) (e₀ : Tm) (Ω : Sound G
   pair-now y {u} {w} iu iw p =
       new-piece 4 (S .regs .v1) (S .regs .v) (CVal.pair u w) p
       (λ room g first second.
-      let word : value 4 (S .regs .np) % 512 ≡ S .regs .np = piece-word 4 (S .regs .np) room in
+      let word : pieceOf (value 4 (S .regs .np)) ≡ S .regs .np = piece-word 4 (S .regs .np) (omega arith) room in
       let M′ : Memory = tables (S .regs .v1) (S .regs .v) in
       is-pair (tag-value 4 (S .regs .np) (omega arith)) (omega arith)
       (val-at term M′ larger (ap (λ (j : ℕ). pieceFirst M′ j) word ∙ first) (val-grows term (S .memory) (sizes (S .regs)) M′ larger g iu))
@@ -124,7 +124,7 @@ module _ (C : Program) (term : ℕ → Tm) (G : Given) (e₀ : Tm) (Ω : Sound G
       new-piece 7 0 (labelsWord (S .regs .v1) (field2 (S .regs .n))) (CVal.labels (onto ds []))
       (p ∙ ap (λ (o : Option (List ℕ)). due (with o (λ (ls : List ℕ). piece s (ret (CVal.labels ls)))) K) (collected ds []))
       (λ room g first second.
-      let word : value 7 (S .regs .np) % 512 ≡ S .regs .np = piece-word 7 (S .regs .np) room in
+      let word : pieceOf (value 7 (S .regs .np)) ≡ S .regs .np = piece-word 7 (S .regs .np) (omega arith) room in
       let M′ : Memory = tables 0 (labelsWord (S .regs .v1) (field2 (S .regs .n))) in
       let low : digitsOf ds < 281474976710656 = digits-fit 8 ls (omega (arith, pc .few)) in
       let same : labelsWord (S .regs .v1) (field2 (S .regs .n)) ≡ digitsOf ds + 281474976710656 * length ds = omega arith in
@@ -139,7 +139,7 @@ module _ (C : Program) (term : ℕ → Tm) (G : Given) (e₀ : Tm) (Ω : Sound G
       x = adviceWord (field2 (S .regs .n)) (field3 (S .regs .n)) (S .regs .env)
 
       y : ℕ
-      y = pieceSecond (S .memory) (S .regs .v1 % 512)
+      y = pieceSecond (S .memory) (bodyOf (S .regs .v1) % 512)
 
       try : {w : CVal} → AsPointcut term (S .memory) (sizes (S .regs)) (S .regs .v1) w → move c K′ G s ≡ due (reduceAdvC s (field3 (S .regs .n)) (term (field2 (S .regs .n))) ρ w) K
           → After (reduceAdvice S)
@@ -147,8 +147,8 @@ module _ (C : Program) (term : ℕ → Tm) (G : Given) (e₀ : Tm) (Ω : Sound G
           rw a
           (new-piece 8 x y (CVal.advice (field3 (S .regs .n)) ls (term (field2 (S .regs .n))) ρ) q
           (λ room g first second.
-          let word : value 8 (S .regs .np) % 512 ≡ S .regs .np = piece-word 8 (S .regs .np) room in
-          let f : pieceFirst (tables x y) (value 8 (S .regs .np) % 512) ≡ x = ap (λ (j : ℕ). pieceFirst (tables x y) j) word ∙ first in
+          let word : pieceOf (value 8 (S .regs .np)) ≡ S .regs .np = piece-word 8 (S .regs .np) (omega arith) room in
+          let f : pieceFirst (tables x y) (pieceOf (value 8 (S .regs .np))) ≡ x = ap (λ (j : ℕ). pieceFirst (tables x y) j) word ∙ first in
           let parts = advice-word (field2 (S .regs .n)) (field3 (S .regs .n)) (S .regs .env) low2 low3 (omega (arith, env-bound term (S .memory) (sizes (S .regs)) ie, st .bindings-fit)) in
           is-advice (tag-value 8 (S .regs .np) (omega arith)) (omega arith) (ap (λ (w : ℕ). term (adviceTerm w)) f ∙ ap term (parts .0)) (ap adviceDom f ∙ parts .1)
           (env-at term (tables x y) larger (ap adviceEnv f ∙ parts .2) (env-grows term (S .memory) (sizes (S .regs)) (tables x y) larger g ie))

@@ -20,14 +20,14 @@ use Rattle.machine.specs.Closure.{CVal, Body, CState, plainVal}
 use Rattle.machine.specs.Machine.{Control, ret, Stack, placeAt, CAnswer, due, reduce0C, reduce1C, reduce2C, move}
 use Rattle.flat.specs.declared.Regs.{Regs}
 use Rattle.flat.specs.Registers.{setNc, setNl, setNi, setAt}
-use Rattle.flat.specs.Values.{value}
+use Rattle.flat.specs.Values.{value, tagOf, bodyOf}
 use Rattle.flat.specs.Rows.{field2, Program}
-use Rattle.flat.specs.Memory.{Memory, wordAt, putWord, boundValue, installedAt, cellAt, cellNote, putCell, putInstalled, pieceOf}
+use Rattle.flat.specs.Memory.{Memory, wordAt, putWord, above, installedAt, cellAt, cellNote, putCell, putInstalled, pieceOf}
 use Rattle.flat.specs.States.{State, withRegs, withMemory, give}
 use Rattle.area.specs.Bytes.{bytesOf, over}
 use Rattle.area.specs.Records.{logRecord}
 use Rattle.flat.specs.Reduce.{reducePrint, reduceLabel, reduceInstall, reduceCell, reduceStore}
-use Rattle.flat.proofs.Relations.{sizes, IsVal, is-unit, is-cell, is-label, IsAdvice, at-piece, val-bound, val-at, Grows, val-grows, advice-grows}
+use Rattle.flat.proofs.Relations.{sizes, IsVal, is-unit, is-cell, is-label, IsAdvice, at-piece, val-like, val-at, Grows, val-grows, advice-grows}
 use Rattle.flat.proofs.Sound.{Sound}
 use Rattle.flat.proofs.Tables.{word-same, word-other, grows-put, grows-sizes, grows-trans, same-put, same-refl}
 use Rattle.flat.proofs.Nodes.{tag-value}
@@ -48,6 +48,10 @@ log-over A D at R X p q e =
     let i : at + length R ≡ length A + 10 = omega arith in
     let d : drop (at + length R) (A ++ D) ≡ X = ap (λ (i : ℕ). drop i (A ++ D)) i ∙ drop-append-add A D 10 ∙ e in
     rw (t, d)
+
+-- The parts of a cell.
+cell-word : (v n : ℕ) → n < 65536 → (tagOf (above v n) ≡ tagOf v) × (bodyOf (above v n) ≡ bodyOf v) × (cellNote (above v n) ≡ n)
+cell-word v n h = (omega arith, omega arith, omega arith)
 
 module _ (C : Program) (term : ℕ → Tm) (G : Given) (e₀ : Tm) (Ω : Sound G e₀) (N : ℕ) (L : List ℕ) (b : ℕ) (S : State) (k : ℕ) (s : CState) (K : Stack) (c : Control) (K′ : Stack)
     (R : Redexed C term G e₀ Ω N L b S k s K c K′) where
@@ -178,12 +182,12 @@ module _ (C : Program) (term : ℕ → Tm) (G : Given) (e₀ : Tm) (Ω : Sound G
           grows-trans (grows-put (S .memory) (sizes (S .regs)) (3841 + S .regs .ni) (pieceOf (S .regs .v1)) (omega (arith, st .bindings-fit)) (λ i h e. omega (arith, st .pieces-fit)))
           (grows-sizes tables (sizes (S .regs)) (sizes after) (omega arith) (omega arith) (omega arith))
 
-      made : (a : Advice Body) → length (s .advices) < adviceLimit → IsAdvice term (S .memory) (sizes (S .regs)) (S .regs .v1 % 512) a → move c K′ G s ≡ due (go (installed a s) (ret CVal.unit)) K
+      made : (a : Advice Body) → length (s .advices) < adviceLimit → IsAdvice term (S .memory) (sizes (S .regs)) (bodyOf (S .regs .v1) % 512) a → move c K′ G s ≡ due (go (installed a s) (ret CVal.unit)) K
           → After (withMemory tables after S)
       made a h ia q =
           let e : 3841 + (0 + length (s .advices)) ≡ 3841 + S .regs .ni = omega (arith, st .advices) in
-          let twice : S .regs .v1 % 512 % 512 ≡ S .regs .v1 % 512 = omega arith in
-          let now : installedAt tables (0 + length (s .advices)) ≡ S .regs .v1 % 512 =
+          let twice : bodyOf (S .regs .v1) % 512 % 512 ≡ bodyOf (S .regs .v1) % 512 = omega arith in
+          let now : installedAt tables (0 + length (s .advices)) ≡ bodyOf (S .regs .v1) % 512 =
           ap (λ (j : ℕ). wordAt tables j % 512) e ∙ ap (λ (w : ℕ). w % 512) (word-same (S .memory) (3841 + S .regs .ni) (pieceOf (S .regs .v1)) (omega (arith, st .words, st .advices))) ∙ twice in
           gives C term G e₀ Ω N L b S k s K c K′ R tables (S .log) after (installed a s) CVal.unit refl refl refl refl q
           (record {
@@ -223,18 +227,16 @@ module _ (C : Program) (term : ℕ → Tm) (G : Given) (e₀ : Tm) (Ω : Sound G
       made : (r : ℕ) → r < S .regs .nc → move c K′ G s ≡ due (go (stored CVal.unit s r w) (ret CVal.unit)) K
           → After (withMemory (putCell r (S .regs .v) (cellNote (cellAt (S .memory) r)) (S .memory)) (give 0 (S .regs)) S)
       made r h q =
-          let word : ℕ = S .regs .v % 68719476736 + 281474976710656 * cellNote (cellAt (S .memory) r) in
+          let word : ℕ = above (S .regs .v) (cellNote (cellAt (S .memory) r)) in
           let tables : Memory = putWord (3585 + r) word (S .memory) in
           let old : Cell CVal = getD (s .cells) r (noCell CVal.unit) in
           let new : Cell CVal = record { dom = old .dom; plain = old .plain; held = w } in
           let g : Grows (S .memory) (sizes (S .regs)) tables (sizes (S .regs)) =
           grows-put (S .memory) (sizes (S .regs)) (3585 + r) word (omega (arith, st .bindings-fit)) (λ i h e. omega (arith, st .pieces-fit)) in
           let here : cellAt tables r ≡ word = word-same (S .memory) (3585 + r) word (omega (arith, st .words, st .cells-fit)) in
-          let low : S .regs .v < 68719476736 = val-bound term (S .memory) (sizes (S .regs)) iw in
-          let same : boundValue word ≡ S .regs .v = omega arith in
-          let note : cellNote word ≡ cellNote (cellAt (S .memory) r) = omega arith in
+          let parts = cell-word (S .regs .v) (cellNote (cellAt (S .memory) r)) (omega arith) in
           let is : IsCell term tables (sizes (S .regs)) word new =
-          record { value = val-at term tables (sizes (S .regs)) same (val-grows term (S .memory) (sizes (S .regs)) tables (sizes (S .regs)) g iw); note = note ∙ st .are-cells r h .note; low = st .are-cells r h .low } in
+          record { value = val-like term tables (sizes (S .regs)) (parts .0) (parts .1) (val-grows term (S .memory) (sizes (S .regs)) tables (sizes (S .regs)) g iw); note = parts .2 ∙ st .are-cells r h .note; low = st .are-cells r h .low } in
           gives C term G e₀ Ω N L b S k s K c K′ R tables (S .log) (give 0 (S .regs)) (stored CVal.unit s r w) CVal.unit refl refl refl refl q
           (record {
             words = rw (length-set (S .memory .words) (3585 + r) word) (st .words);
@@ -283,7 +285,7 @@ module _ (C : Program) (term : ℕ → Tm) (G : Given) (e₀ : Tm) (Ω : Sound G
       new = record { dom = domOf y; plain = heldPlain y; held = u }
 
       word : ℕ
-      word = S .regs .v1 % 68719476736 + 281474976710656 * field2 (S .regs .n)
+      word = above (S .regs .v1) (field2 (S .regs .n))
 
       tables : Memory
       tables = putWord (3585 + S .regs .nc) word (S .memory)
@@ -302,11 +304,9 @@ module _ (C : Program) (term : ℕ → Tm) (G : Given) (e₀ : Tm) (Ω : Sound G
       at-cell : 1 ≤ cellLimit - s .used .cells → (i : ℕ) → i < S .regs .nc + 1 → (t : Bool) → eqb i (S .regs .nc) ≡ t
           → IsCell term tables (sizes after) (cellAt tables i) (getD (s .cells ++ (new ∷ [])) i (noCell CVal.unit))
       at-cell h i lt true e =
-          let low′ : S .regs .v1 < 68719476736 = val-bound term (S .memory) (sizes (S .regs)) iv in
-          let same : boundValue word ≡ S .regs .v1 = omega arith in
-          let noted : cellNote word ≡ field2 (S .regs .n) = omega arith in
+          let parts = cell-word (S .regs .v1) (field2 (S .regs .n)) (omega arith) in
           let is : IsCell term tables (sizes after) word new =
-          record { value = val-at term tables (sizes after) same (val-grows term (S .memory) (sizes (S .regs)) tables (sizes after) g iv); note = noted ∙ note; low = low } in
+          record { value = val-like term tables (sizes after) (parts .0) (parts .1) (val-grows term (S .memory) (sizes (S .regs)) tables (sizes after) g iv); note = parts .2 ∙ note; low = low } in
           let here : cellAt tables (S .regs .nc) ≡ word = word-same (S .memory) (3585 + S .regs .nc) word (omega (arith, st .words, st .cells)) in
           let there : getD (s .cells ++ (new ∷ [])) (S .regs .nc) (noCell CVal.unit) ≡ new =
           ap (λ (j : ℕ). getD (s .cells ++ (new ∷ [])) j (noCell CVal.unit)) (st .cells-count) ∙ getD-append-seam (s .cells) new [] (noCell CVal.unit) in

@@ -1,7 +1,7 @@
 -- Which closure values and environments the words of the tables stand for; and that this holds on where the tables grow.
 use Prim.Native.Nat.{ℕ, zero, suc, _+_, _*_, _/_, _%_, _≤_, _<_}
 use native.Mathlib.Omega.{arith}
-use mathlib.Core.Path.{_≡_, ap, _∙_}
+use mathlib.Core.Path.{_≡_, sym, ap, subst, _∙_}
 use mathlib.Core.Bool.{Bool, false}
 use mathlib.Core.List.{List, [], _∷_}
 use mathlib.Core.Option.{some, Option·none-ne-some}
@@ -13,7 +13,7 @@ use Rattle.calculus.specs.State.{Advice}
 use Rattle.machine.specs.Closure.{CVal, Env, empty, link, Body, lookup}
 use Rattle.flat.specs.declared.Regs.{Regs}
 use Rattle.flat.specs.Values.{tagOf, bodyOf}
-use Rattle.flat.specs.Memory.{Memory, bindingAt, boundValue, boundPiece, boundLink, noLink, pieceFirst, pieceSecond, adviceTerm, adviceDom, adviceEnv}
+use Rattle.flat.specs.Memory.{Memory, bindingAt, boundPiece, boundLink, noLink, pieceFirst, pieceSecond, adviceTerm, adviceDom, adviceEnv}
 use Rattle.flat.specs.Memory as Flat
 
 -- How much of each table is in use.
@@ -56,19 +56,19 @@ module _ (term : ℕ → Tm) (M : Memory) (z : Sizes) where
       is-unit : {w : ℕ} → tagOf w ≡ 0 → IsVal w CVal.unit
       is-truth : {w : ℕ} {b : Bool} → tagOf w ≡ 1 → bodyOf w ≡ choose b 1 0 → IsVal w (CVal.truth b)
       is-num : {w n : ℕ} → tagOf w ≡ 2 → bodyOf w ≡ n → IsVal w (CVal.num n)
-      is-fun : {w l : ℕ} {y : Ty} {b : Tm} {ρ : Env} → tagOf w ≡ 3 → term (w % 1024) ≡ b → bodyOf w / 65536 ≡ l → IsEnv l ρ → IsVal w (CVal.fun y b ρ)
-      is-pair : {w : ℕ} {v u : CVal} → tagOf w ≡ 4 → w % 512 < z .np → IsVal (pieceFirst M (w % 512)) v → IsVal (pieceSecond M (w % 512)) u
+      is-fun : {w l : ℕ} {y : Ty} {b : Tm} {ρ : Env} → tagOf w ≡ 3 → term (bodyOf w % 1024) ≡ b → bodyOf w / 65536 ≡ l → IsEnv l ρ → IsVal w (CVal.fun y b ρ)
+      is-pair : {w : ℕ} {v u : CVal} → tagOf w ≡ 4 → bodyOf w % 512 < z .np → IsVal (pieceFirst M (bodyOf w % 512)) v → IsVal (pieceSecond M (bodyOf w % 512)) u
           → IsVal w (CVal.pair v u)
-      is-cell : {w r : ℕ} → tagOf w ≡ 5 → w % 256 ≡ r → r < z .nc → IsVal w (CVal.cell r)
-      is-label : {w l : ℕ} → tagOf w ≡ 6 → w % 64 ≡ l → IsVal w (CVal.label l)
-      is-labels : {w : ℕ} {ls : List ℕ} → tagOf w ≡ 7 → w % 512 < z .np → IsLabels (pieceSecond M (w % 512)) ls → IsVal w (CVal.labels ls)
-      is-advice : {w d : ℕ} {b : Tm} {ls : List ℕ} {ρ : Env} → tagOf w ≡ 8 → w % 512 < z .np → term (adviceTerm (pieceFirst M (w % 512))) ≡ b → adviceDom (pieceFirst M (w % 512)) ≡ d
-          → IsEnv (adviceEnv (pieceFirst M (w % 512))) ρ → IsLabels (pieceSecond M (w % 512)) ls → IsVal w (CVal.advice d ls b ρ)
+      is-cell : {w r : ℕ} → tagOf w ≡ 5 → bodyOf w % 256 ≡ r → r < z .nc → IsVal w (CVal.cell r)
+      is-label : {w l : ℕ} → tagOf w ≡ 6 → bodyOf w % 64 ≡ l → IsVal w (CVal.label l)
+      is-labels : {w : ℕ} {ls : List ℕ} → tagOf w ≡ 7 → bodyOf w % 512 < z .np → IsLabels (pieceSecond M (bodyOf w % 512)) ls → IsVal w (CVal.labels ls)
+      is-advice : {w d : ℕ} {b : Tm} {ls : List ℕ} {ρ : Env} → tagOf w ≡ 8 → bodyOf w % 512 < z .np → term (adviceTerm (pieceFirst M (bodyOf w % 512))) ≡ b → adviceDom (pieceFirst M (bodyOf w % 512)) ≡ d
+          → IsEnv (adviceEnv (pieceFirst M (bodyOf w % 512))) ρ → IsLabels (pieceSecond M (bodyOf w % 512)) ls → IsVal w (CVal.advice d ls b ρ)
 
     -- The environment that begins at a link.
     pub data IsEnv : ℕ → Env → Type 0 where
       is-empty : {l : ℕ} → l ≡ 0 → IsEnv l empty
-      is-link : {l : ℕ} {v : CVal} {ρ : Env} → 0 < l → l ≤ z .nb → IsVal (boundValue (bindingAt M l)) v → IsEnv (boundLink (bindingAt M l)) ρ → IsEnv l (link v ρ)
+      is-link : {l : ℕ} {v : CVal} {ρ : Env} → 0 < l → l ≤ z .nb → IsVal (bindingAt M l) v → IsEnv (boundLink (bindingAt M l)) ρ → IsEnv l (link v ρ)
 
   -- An advice at a piece.
   pub data IsAdvice (p : ℕ) : Advice Body → Type 0 where
@@ -86,17 +86,6 @@ module _ (term : ℕ → Tm) (M : Memory) (z : Sizes) where
   env-bound (is-empty p) = omega arith
   env-bound (is-link h g v e) = g
 
-  pub val-bound : {w : ℕ} {v : CVal} → IsVal w v → w < 68719476736
-  val-bound (is-unit p) = omega arith
-  val-bound (is-truth p q) = omega arith
-  val-bound (is-num p q) = omega arith
-  val-bound (is-fun p q r e) = omega arith
-  val-bound (is-pair p q h g) = omega arith
-  val-bound (is-cell p q r) = omega arith
-  val-bound (is-label p q) = omega arith
-  val-bound (is-labels p q h) = omega arith
-  val-bound (is-advice p q h g e f) = omega arith
-
   -- A value has one of the tags.
   pub val-tag : {w : ℕ} {v : CVal} → IsVal w v → tagOf w < 15
   val-tag (is-unit p) = omega arith
@@ -112,6 +101,21 @@ module _ (term : ℕ → Tm) (M : Memory) (z : Sizes) where
   pub triggered-order : {b e : ℕ} {w : CVal} {x : List (Advice Body)} → IsTriggered b e w x → b ≤ e
   triggered-order (no-more p) = omega arith
   triggered-order (one-left h e g p q r) = omega arith
+
+  -- Another word with the same tag and body.
+  pub val-like : {a b : ℕ} {v : CVal} → tagOf a ≡ tagOf b → bodyOf a ≡ bodyOf b → IsVal b v → IsVal a v
+  val-like p q (is-unit t) = is-unit (p ∙ t)
+  val-like p q (is-truth t h) = is-truth (p ∙ t) (q ∙ h)
+  val-like p q (is-num t h) = is-num (p ∙ t) (q ∙ h)
+  val-like p q (is-fun t h g e) = is-fun (p ∙ t) (ap (λ x. term (x % 1024)) q ∙ h) (ap (λ x. x / 65536) q ∙ g) e
+  val-like p q (is-pair {v = v} {u = u} t h g k) =
+      is-pair (p ∙ t) (rw q h) (subst (λ x. IsVal (pieceFirst M (x % 512)) v) (sym q) g) (subst (λ x. IsVal (pieceSecond M (x % 512)) u) (sym q) k)
+  val-like p q (is-cell t h g) = is-cell (p ∙ t) (ap (λ x. x % 256) q ∙ h) g
+  val-like p q (is-label t h) = is-label (p ∙ t) (ap (λ x. x % 64) q ∙ h)
+  val-like p q (is-labels {ls = ls} t h g) = is-labels (p ∙ t) (rw q h) (subst (λ x. IsLabels (pieceSecond M (x % 512)) ls) (sym q) g)
+  val-like p q (is-advice {ls = ls} {ρ = ρ} t h g k e l) =
+      is-advice (p ∙ t) (rw q h) (ap (λ x. term (adviceTerm (pieceFirst M (x % 512)))) q ∙ g) (ap (λ x. adviceDom (pieceFirst M (x % 512))) q ∙ k)
+      (subst (λ x. IsEnv (adviceEnv (pieceFirst M (x % 512))) ρ) (sym q) e) (subst (λ x. IsLabels (pieceSecond M (x % 512)) ls) (sym q) l)
 
   -- The same word, written otherwise.
   pub val-at : {a b : ℕ} {v : CVal} → a ≡ b → IsVal b v → IsVal a v
@@ -153,18 +157,18 @@ module _ (term : ℕ → Tm) (M : Memory) (z : Sizes) (M′ : Memory) (z′ : Si
     val-grows (is-num p q) = is-num p q
     val-grows (is-fun p q r e) = is-fun p q r (env-grows e)
     val-grows (is-pair {w = w} p q a b) =
-        is-pair p (omega (arith, g .more-pieces)) (val-at term M′ z′ (g .firsts (w % 512) q) (val-grows a)) (val-at term M′ z′ (g .seconds (w % 512) q) (val-grows b))
+        is-pair p (omega (arith, g .more-pieces)) (val-at term M′ z′ (g .firsts (bodyOf w % 512) q) (val-grows a)) (val-at term M′ z′ (g .seconds (bodyOf w % 512) q) (val-grows b))
     val-grows (is-cell p q r) = is-cell p q (omega (arith, g .more-cells))
     val-grows (is-label p q) = is-label p q
-    val-grows (is-labels {w = w} p q a) = is-labels p (omega (arith, g .more-pieces)) (labels-at (g .seconds (w % 512) q) a)
+    val-grows (is-labels {w = w} p q a) = is-labels p (omega (arith, g .more-pieces)) (labels-at (g .seconds (bodyOf w % 512) q) a)
     val-grows (is-advice {w = w} p q a b e c) =
-        is-advice p (omega (arith, g .more-pieces)) (ap (λ f. term (adviceTerm f)) (g .firsts (w % 512) q) ∙ a) (ap adviceDom (g .firsts (w % 512) q) ∙ b)
-        (env-at term M′ z′ (ap adviceEnv (g .firsts (w % 512) q)) (env-grows e)) (labels-at (g .seconds (w % 512) q) c)
+        is-advice p (omega (arith, g .more-pieces)) (ap (λ f. term (adviceTerm f)) (g .firsts (bodyOf w % 512) q) ∙ a) (ap adviceDom (g .firsts (bodyOf w % 512) q) ∙ b)
+        (env-at term M′ z′ (ap adviceEnv (g .firsts (bodyOf w % 512) q)) (env-grows e)) (labels-at (g .seconds (bodyOf w % 512) q) c)
 
     pub env-grows : {l : ℕ} {ρ : Env} → IsEnv term M z l ρ → IsEnv term M′ z′ l ρ
     env-grows (is-empty p) = is-empty p
     env-grows (is-link {l = l} a b v e) =
-        is-link a (omega (arith, g .more-bindings)) (val-at term M′ z′ (ap boundValue (g .bindings l a b)) (val-grows v)) (env-at term M′ z′ (ap boundLink (g .bindings l a b)) (env-grows e))
+        is-link a (omega (arith, g .more-bindings)) (val-at term M′ z′ (g .bindings l a b) (val-grows v)) (env-at term M′ z′ (ap boundLink (g .bindings l a b)) (env-grows e))
 
   pub advice-grows : {p : ℕ} {a : Advice Body} → IsAdvice term M z p a → IsAdvice term M′ z′ p a
   advice-grows {p} (at-piece h a b e c) =

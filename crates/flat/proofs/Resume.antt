@@ -16,7 +16,7 @@ use Rattle.machine.specs.Closure.{CVal, Env, Body, CState, plainVal}
 use Rattle.machine.specs.Machine.{ret, triggered, Frame, triggeredF, lowerF, Stack, placeAt, reduce2C, reduceSeqC}
 use Rattle.flat.specs.declared.Regs.{Regs}
 use Rattle.flat.specs.Registers.{returnMode, adviceMode, labelsMode, readyMode, setMode, setEnv, setDom, setSp, setLeft, setT, setN, setV1, setV}
-use Rattle.flat.specs.Values.{tagOf}
+use Rattle.flat.specs.Values.{tagOf, bodyOf}
 use Rattle.flat.specs.Rows.{field2, Program, rowAt}
 use Rattle.flat.specs.Memory.{withLabel, frameEnv, frameTerm, frameKind, frameDone, frameHeld, frameAt, labelDigits}
 use Rattle.flat.specs.States.{State, withRegs, halt, stuck}
@@ -66,7 +66,7 @@ module _ (C : Program) (term : ℕ → Tm) (coded : Coded C term) (G : Given) (e
         → labelDigits (S .memory) (S .regs .sp - 1) f ≡ frameHeld f + 68719476736 * byte → After (withRegs (resumeLabels f S) S)
     labels-back byte v ρ ds e pc ls n lt dg d (a-label {l = l} a q) r turns digits =
         let done : ℕ = frameDone f + 1 in
-        let D : ℕ = withLabel (labelDigits (S .memory) (S .regs .sp - 1) f) (S .regs .v % 64) in
+        let D : ℕ = withLabel (labelDigits (S .memory) (S .regs .sp - 1) f) (bodyOf (S .regs .v) % 64) in
         let W : ℕ = labelsState (frameTerm f) done D in
         let parts = labels-parts (frameTerm f) done D (omega arith) (omega arith) in
         let row : rowAt C (W % 1024) ≡ rowAt C (frameTerm f) = ap (rowAt C) (parts .0) in
@@ -94,7 +94,7 @@ module _ (C : Program) (term : ℕ → Tm) (coded : Coded C term) (G : Given) (e
         (after-first C term coded G e₀ Ω N L bytes 0 b (omega arith) (withRegs (popped f) S) k s K ρ F (S .regs .v) v (common (popped f) refl refl d low refl) e (omega arith) refl (omega arith) (strict-first (binary o)) iv r (omega arith))
     operand-back byte v (second-frame {o = o} {t = y} {v = u} p op iu) d iv r turns digits =
         rw p
-        (now-ready (omega arith) refl (common (setMode readyMode (setV1 (frameHeld f) (popped f))) refl refl d low refl) (omega arith) r (redex-due K (reduce2C G (placeAt K) s o y u v) few) (binary-redex y op iu iv) (omega arith))
+        (now-ready (omega arith) refl (common (setMode readyMode (setV1 f (popped f))) refl refl d low refl) (omega arith) r (redex-due K (reduce2C G (placeAt K) s o y u v) few) (binary-redex y op iu iv) (omega arith))
     operand-back byte v (pointcut-frame {ρ = ρ} ds p e pc ls n lt dg) d iv r turns digits =
         rw p (labels-back byte v ρ ds e pc ls n lt dg d (as-label term (S .memory) (sizes (S .regs)) iv) r turns digits)
     operand-back byte v (lower-frame {p = q} p kind held) d iv r turns digits =

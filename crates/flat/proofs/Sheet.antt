@@ -26,21 +26,21 @@ markedProgram =
     record {
       rows =
           35
-          ∷ 37
-          ∷ 4294967342
+          ∷ 42
+          ∷ 4294967334
           ∷ 4295098415
           ∷ 196656
-          ∷ 458786
-          ∷ 327717
+          ∷ 30601642018
+          ∷ 327722
           ∷ 25769934895
           ∷ 458800
-          ∷ 196642
-          ∷ 38654705709
-          ∷ 42950197284
-          ∷ 47244902436
-          ∷ 786473
-          ∷ 44
-          ∷ 60130394154
+          ∷ 13421772834
+          ∷ 38654705731
+          ∷ 42950197289
+          ∷ 47244902441
+          ∷ 786468
+          ∷ 37
+          ∷ 60130394177
           ∷ [];
       image = 0 ∷ 0 ∷ [];
     }
@@ -91,7 +91,7 @@ flat-p6 = ap flatRow (turns-more 45 1638416339 markedProgram [] (start 100000) (
 
 -- 1<print 5> prints at domain 1.
 unfoldable lowerProgram : Program
-lowerProgram = record { rows = 327714 ∷ 37 ∷ 4295032884 ∷ []; image = [] }
+lowerProgram = record { rows = 22011707426 ∷ 42 ∷ 4295032871 ∷ []; image = [] }
 
 flat-lower : take 10 (turns 6 lowerProgram [] (record { memory = record { words = replicate 3905 0; beside = [] }; log = replicate 10 0; regs = startRegs 2 10 }) .log) ≡ logRecord 1 5
 unfolding turns turn begin nextAdvice resume nextLabel firstOperand secondOperand simpleValue reduceKind reduceMark bindMatching lookup hasDigit readCell calculate readByte bytesOf over lowerProgram
@@ -104,7 +104,7 @@ nest (suc n) i = (60 + 65536 * i) ∷ nest n (suc i)
 
 unfoldable nested : ℕ → State
 nested n =
-    turns (n + 1) (record { rows = 34 ∷ nest n 0; image = [] }) [] (record { memory = record { words = replicate 3905 0; beside = [] }; log = []; regs = startRegs n 1 })
+    turns (n + 1) (record { rows = 536870946 ∷ nest n 0; image = [] }) [] (record { memory = record { words = replicate 3905 0; beside = [] }; log = []; regs = startRegs n 1 })
 
 flat-fits : nested 513 .regs .mode ≡ 17
 unfolding nested nest turns turn begin nextAdvice resume nextLabel firstOperand secondOperand simpleValue reduceKind reduceMark bindMatching lookup hasDigit readCell calculate readByte

@@ -18,7 +18,7 @@ use Rattle.flat.proofs.Nodes.{Op2Of, Unary, seq-frame, print-frame, ite
 
 -- A row of a pointcut: so many of its children are worked out.
 pub record IsPointcut (C : Program) (n : ℕ) : Type 0 where
-  pub kind : kindOf n ≡ 46
+  pub kind : kindOf n ≡ 38
   pub few : field2 n ≤ 8
   pub inside : field1 n + 2 * field2 n ≤ length (C .image)
 
@@ -31,10 +31,10 @@ module _ (C : Program) (term : ℕ → Tm) where
     -- The frame that the word f stands for, with its byte, over a stack at a domain.
     pub data IsFrame (f byte dom : ℕ) : Frame → Type 0 where
       first-frame : {ρ : Env} {F : Frame} → frameKind f ≡ 0 → IsEnv term M z (frameEnv f) ρ → Strict C term (rowAt C (frameTerm f)) ρ F → IsFrame f byte dom F
-      second-frame : {o : Op2} {t : Ty} {v : CVal} → frameKind f ≡ 1 → Op2Of (rowAt C (frameTerm f)) o → IsVal term M z (frameHeld f) v → IsFrame f byte dom (op2R o t v)
+      second-frame : {o : Op2} {t : Ty} {v : CVal} → frameKind f ≡ 1 → Op2Of (rowAt C (frameTerm f)) o → IsVal term M z f v → IsFrame f byte dom (op2R o t v)
       pointcut-frame : {ρ : Env} (ds : List ℕ) → frameKind f ≡ 2 → IsEnv term M z (frameEnv f) ρ → IsPointcut C (rowAt C (frameTerm f)) → Labels ds → length ds ≡ frameDone f
           → length ds < field2 (rowAt C (frameTerm f)) → frameHeld f + 68719476736 * byte ≡ digitsOf ds → IsFrame f byte dom (labelsFrame (rowAt C (frameTerm f)) ds ρ)
-      lower-frame : {p : ℕ} → frameKind f ≡ 3 → kindOf (rowAt C (frameTerm f)) ≡ 52 → frameHeld f % 16 ≡ dom → IsFrame f byte dom (lowerF p)
+      lower-frame : {p : ℕ} → frameKind f ≡ 3 → kindOf (rowAt C (frameTerm f)) ≡ 39 → frameHeld f % 16 ≡ dom → IsFrame f byte dom (lowerF p)
 
     pub data IsStack : ℕ → Stack → Type 0 where
       no-frames : {i : ℕ} → i ≡ 0 → IsStack i []

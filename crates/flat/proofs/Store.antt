@@ -8,7 +8,7 @@ use Rattle.calculus.specs.Combinators.{choose}
 use Rattle.calculus.specs.Syntax.{Tm}
 use Rattle.calculus.specs.State.{Cell, Advice, Counts, Event, Said, prints, Print, picked, logOf, noCell, charged}
 use Rattle.machine.specs.Closure.{CVal, Body, CState}
-use Rattle.flat.specs.Memory.{Memory, wordAt, boundValue, installedBase, installedAt, cellAt, cellNote}
+use Rattle.flat.specs.Memory.{Memory, wordAt, installedBase, installedAt, cellAt, cellNote}
 use Rattle.area.specs.Bytes.{bytesOf}
 use Rattle.area.specs.Records.{logRecord}
 use Rattle.flat.proofs.Relations.{Sizes, IsVal, IsAdvice, Grows, val-grows, advice-grows}
@@ -22,7 +22,7 @@ logBytes (p ∷ ps) = logRecord (p .dom) (p .shown) ++ logBytes ps
 module _ (term : ℕ → Tm) (M : Memory) (z : Sizes) where
   -- The cell that a word stands for.
   pub record IsCell (w : ℕ) (c : Cell CVal) : Type 0 where
-    pub value : IsVal term M z (boundValue w) (c .held)
+    pub value : IsVal term M z w (c .held)
     pub note : cellNote w ≡ c .dom + choose (c .plain) 16 0
     pub low : c .dom < 16
 

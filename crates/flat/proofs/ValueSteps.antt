@@ -40,7 +40,7 @@ byte-fits f n h = try (ltb n signBit && ltb n (length f))
 
 module _ (term : ℕ → Tm) (M : Memory) (z : Sizes) where
   pub number-is : (n : ℕ) → n < 4294967296 → IsVal term M z (value 2 n) (CVal.num n)
-  number-is n h = is-num (tag-value 2 n h) (body-value 2 n h)
+  number-is n h = is-num (tag-value 2 n (omega arith)) (body-value 2 n (omega arith))
 
   truth-is : (b : Bool) → IsVal term M z (value 1 (choose b 1 0)) (CVal.truth b)
   truth-is true = is-truth refl refl

@@ -62,7 +62,7 @@ module _ (term : ℕ → Tm) (M : Memory) (z : Sizes) where
   as-number (is-advice p q a d e c) = no-number refl
 
   pub data AsPair (w : ℕ) : CVal → Type 0 where
-    a-pair : {u s : CVal} → tagOf w ≡ 4 → w % 512 < z .np → IsVal term M z (pieceFirst M (w % 512)) u → IsVal term M z (pieceSecond M (w % 512)) s → AsPair w (CVal.pair u s)
+    a-pair : {u s : CVal} → tagOf w ≡ 4 → bodyOf w % 512 < z .np → IsVal term M z (pieceFirst M (bodyOf w % 512)) u → IsVal term M z (pieceSecond M (bodyOf w % 512)) s → AsPair w (CVal.pair u s)
     no-pair : {v : CVal} → pairOfC v ≡ none → AsPair w v
 
   pub as-pair : {w : ℕ} {v : CVal} → IsVal term M z w v → AsPair w v
@@ -78,7 +78,7 @@ module _ (term : ℕ → Tm) (M : Memory) (z : Sizes) where
   as-pair (is-advice p q a d e c) = no-pair refl
 
   pub data AsFunction (w : ℕ) : CVal → Type 0 where
-    a-function : {l : ℕ} {y : Ty} {b : Tm} {ρ : Env} → tagOf w ≡ 3 → term (w % 1024) ≡ b → bodyOf w / 65536 ≡ l → IsEnv term M z l ρ → AsFunction w (CVal.fun y b ρ)
+    a-function : {l : ℕ} {y : Ty} {b : Tm} {ρ : Env} → tagOf w ≡ 3 → term (bodyOf w % 1024) ≡ b → bodyOf w / 65536 ≡ l → IsEnv term M z l ρ → AsFunction w (CVal.fun y b ρ)
     no-function : {v : CVal} → bodyOfC v ≡ none → AsFunction w v
 
   pub as-function : {w : ℕ} {v : CVal} → IsVal term M z w v → AsFunction w v
@@ -94,7 +94,7 @@ module _ (term : ℕ → Tm) (M : Memory) (z : Sizes) where
   as-function (is-advice p q a d e c) = no-function refl
 
   pub data AsLabel (w : ℕ) : CVal → Type 0 where
-    a-label : {l : ℕ} → tagOf w ≡ 6 → w % 64 ≡ l → AsLabel w (CVal.label l)
+    a-label : {l : ℕ} → tagOf w ≡ 6 → bodyOf w % 64 ≡ l → AsLabel w (CVal.label l)
     no-label : {v : CVal} → labelOf (plainVal v) ≡ none → AsLabel w v
 
   pub as-label : {w : ℕ} {v : CVal} → IsVal term M z w v → AsLabel w v
@@ -110,7 +110,7 @@ module _ (term : ℕ → Tm) (M : Memory) (z : Sizes) where
   as-label (is-advice p q a d e c) = no-label refl
 
   pub data AsCell (w : ℕ) : CVal → Type 0 where
-    a-cell : {r : ℕ} → tagOf w ≡ 5 → w % 256 ≡ r → r < z .nc → AsCell w (CVal.cell r)
+    a-cell : {r : ℕ} → tagOf w ≡ 5 → bodyOf w % 256 ≡ r → r < z .nc → AsCell w (CVal.cell r)
     no-cell : {v : CVal} → cellOf (plainVal v) ≡ none → AsCell w v
 
   pub as-cell : {w : ℕ} {v : CVal} → IsVal term M z w v → AsCell w v
@@ -126,7 +126,7 @@ module _ (term : ℕ → Tm) (M : Memory) (z : Sizes) where
   as-cell (is-advice p q a d e c) = no-cell refl
 
   pub data AsPointcut (w : ℕ) : CVal → Type 0 where
-    a-pointcut : {ls : List ℕ} → tagOf w ≡ 7 → w % 512 < z .np → IsLabels (pieceSecond M (w % 512)) ls → AsPointcut w (CVal.labels ls)
+    a-pointcut : {ls : List ℕ} → tagOf w ≡ 7 → bodyOf w % 512 < z .np → IsLabels (pieceSecond M (bodyOf w % 512)) ls → AsPointcut w (CVal.labels ls)
     no-pointcut : {v : CVal} → labelsOf (plainVal v) ≡ none → AsPointcut w v
 
   pub as-pointcut : {w : ℕ} {v : CVal} → IsVal term M z w v → AsPointcut w v
@@ -142,7 +142,7 @@ module _ (term : ℕ → Tm) (M : Memory) (z : Sizes) where
   as-pointcut (is-advice p q a d e c) = no-pointcut refl
 
   pub data AsAdvice (w : ℕ) : CVal → Type 0 where
-    a-advice : {d : ℕ} {b : Tm} {ls : List ℕ} {ρ : Env} → tagOf w ≡ 8 → w % 512 < z .np → term (adviceTerm (pieceFirst M (w % 512))) ≡ b → adviceDom (pieceFirst M (w % 512)) ≡ d → IsEnv term M z (adviceEnv (pieceFirst M (w % 512))) ρ → IsLabels (pieceSecond M (w % 512)) ls → AsAdvice w (CVal.advice d ls b ρ)
+    a-advice : {d : ℕ} {b : Tm} {ls : List ℕ} {ρ : Env} → tagOf w ≡ 8 → bodyOf w % 512 < z .np → term (adviceTerm (pieceFirst M (bodyOf w % 512))) ≡ b → adviceDom (pieceFirst M (bodyOf w % 512)) ≡ d → IsEnv term M z (adviceEnv (pieceFirst M (bodyOf w % 512))) ρ → IsLabels (pieceSecond M (bodyOf w % 512)) ls → AsAdvice w (CVal.advice d ls b ρ)
     no-advice : {v : CVal} → adviceOfC v ≡ none → AsAdvice w v
 
   pub as-advice : {w : ℕ} {v : CVal} → IsVal term M z w v → AsAdvice w v

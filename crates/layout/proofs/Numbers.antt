@@ -1,9 +1,8 @@
 -- Laws of the tests on numbers: what a loop over the keys has tested so far.
-use Prim.Native.Nat.{ℕ, _+_, _*_, _≤_, _<_}
+use Prim.Native.Nat.{ℕ, suc, _+_, _-_, _*_, _≤_, _<_}
 use native.Mathlib.Omega.{arith}
-use native.Mathlib.Numerals.{add-one}
-use mathlib.Core.Path.{_≡_, refl, sym, _∙_}
-use mathlib.Core.Bool.{Bool, true, false, not}
+use mathlib.Core.Path.{_≡_, refl, sym, ap, _∙_}
+use mathlib.Core.Bool.{Bool, true, false, not, and-true}
 use mathlib.Core.List.{List, [], _∷_}
 use mathlib.Core.Option.{none, some}
 use lib.ListN.{getD}
@@ -16,9 +15,9 @@ use Rattle.records.specs.Codes.{countOf, leastOf}
 use Rattle.layout.specs.Numbers.{lengthFits, newKey}
 
 module _ (ks : List ℕ) (x : ℕ) where
-  pub new-more : (i : ℕ) → newKey i ks x ≡ true → (x ≡ getD ks i 0 → ⊥) → newKey (i + 1) ks x ≡ true
+  pub new-less : (i : ℕ) → 0 < i → (x ≡ getD ks (i - 1) 0 → ⊥) → newKey i ks x ≡ newKey (i - 1) ks x
   unfolding allBelow
-  new-more i h n = rw (add-one i, h, ne-eqb x (getD ks i 0) n)
+  new-less i l n = let e : i ≡ suc (i - 1) = omega arith in ap (λ k. newKey k ks x) e ∙ rw (ne-eqb x (getD ks (i - 1) 0) n) (and-true (newKey (i - 1) ks x))
 
   pub not-new : (n i : ℕ) → i < n → x ≡ getD ks i 0 → newKey n ks x ≡ false
   not-new n i l e = go (newKey n ks x) refl

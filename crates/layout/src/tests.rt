@@ -3,6 +3,7 @@ ghost use mathlib.Core.Path.{_≡_};
 ghost use Prim.Native.Nat.{_+_, _≤_};
 ghost use lib.ListN.{length};
 ghost use Rattle.image.specs.Tests.{firstFault};
+ghost use Rattle.records.specs.Codes.{Sized};
 ghost use Rattle.layout.specs.Sizes.{Sizes};
 ghost use Rattle.layout.specs.Numbers.{lengthFits, orderFits, roomFits, newKey, numberTests, toldOf};
 
@@ -13,13 +14,17 @@ pub enum Tested {
 
 // 4
 pub fn right_length(code: u32, len: usize) -> bool
+    requires { ⌜ Sized code ⌝ }
     ensures { λ r. ⌜ r ≡ lengthFits code len ⌝ }
 {
-    let n = records::kinds::field_count(code);
-    let least = 4 + 2 * (n + records::kinds::least_children(code));
+    let least = records::kinds::least_length(code);
+    if len == least {
+        return true;
+    }
     if len < least {
         return false;
     }
+    let n = records::kinds::field_count(code);
     let most = 4 + 2 * (n + records::kinds::most_children(code));
     if most < len {
         return false;
@@ -63,19 +68,19 @@ pub fn is_new(keys: &[u64], n: usize, key: u64) -> bool
     requires { ⌜ n ≤ length (now keys) ⌝ }
     ensures { λ r. ⌜ r ≡ newKey n (now (keys .entry)) key ⌝ }
 {
-    let mut i: usize = 0;
-    while i < n {
+    let mut i: usize = n;
+    while 0 < i {
+        i -= 1;
         if key == keys[i] {
             return false;
         }
-        i += 1;
     }
     true
 }
 
 // 4 to 7 of a record with these fields.
 pub fn first_fault(fields: &[u8], code: u32, sizes: &[usize]) -> Tested
-    requires { ⌜ (length (now fields) ≤ 65535) × Sizes (now sizes) ⌝ }
+    requires { ⌜ (length (now fields) ≤ 65535) × Sizes (now sizes) × Sized code ⌝ }
     ensures { λ r. ⌜ toldOf r ≡ firstFault (numberTests (now (fields .entry)) code (now (sizes .entry))) ⌝ }
 {
     if !right_length(code, fields.len() + 4) {

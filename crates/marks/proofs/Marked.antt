@@ -11,6 +11,7 @@ use Rattle.area.specs.Memory.{memoryLength}
 use Rattle.calculus.specs.declared.Outcome.{Outcome}
 use Rattle.calculus.specs.Combinators.{choose}
 use Rattle.flat.specs.declared.Regs.{Regs}
+use Rattle.flat.specs.Values.{bodyOf}
 use Rattle.flat.specs.Registers.{setMode, setV, setLeft, setNb}
 use Rattle.flat.specs.Memory.{Memory, binding, putBinding, installedAt, hasLabel, pieceFirst, pieceSecond, adviceEnv}
 use Rattle.flat.specs.States.{State, withMemory, halt, give}
@@ -70,7 +71,7 @@ matching-done B n i l v w w′ m h e r =
 
 -- The bindings of a mark, and what follows from them.
 abbrev matched : State → Bound
-matched S = bindMatching (S .regs .ni) 0 (S .regs .v1 % 64) (S .regs .v) (record { memory = S .memory; count = S .regs .nb })
+matched S = bindMatching (S .regs .ni) 0 (bodyOf (S .regs .v1) % 64) (S .regs .v) (record { memory = S .memory; count = S .regs .nb })
 
 abbrev pub marked : State → State
 marked S =
@@ -83,9 +84,13 @@ pub mark-made : (w w′ : List ℕ) (r q : Regs) → Phase (λ (S : State). need
 unfolding reduceMark
 mark-made w w′ r q p = p
 
-module _ (w w′ : List ℕ) (r q : Regs) (m : ℕ) (b : Binds (bindMatching (r .ni) 0 (r .v1 % 64) (r .v) (boundIn w (r .nb))) w w′ m) where
+-- Its label is that of the body x.
+pub label-of : (w w′ : List ℕ) (r : Regs) (m x : ℕ) → x ≡ bodyOf (r .v1) → Binds (bindMatching (r .ni) 0 (x % 64) (r .v) (boundIn w (r .nb))) w w′ m → Binds (bindMatching (r .ni) 0 (bodyOf (r .v1) % 64) (r .v) (boundIn w (r .nb))) w w′ m
+label-of w w′ r m x e b = subst (λ (i : ℕ). Binds (bindMatching (r .ni) 0 (i % 64) (r .v) (boundIn w (r .nb))) w w′ m) e b
+
+module _ (w w′ : List ℕ) (r q : Regs) (m : ℕ) (b : Binds (bindMatching (r .ni) 0 (bodyOf (r .v1) % 64) (r .v) (boundIn w (r .nb))) w w′ m) where
   abbrev B : Bound
-  B = bindMatching (r .ni) 0 (r .v1 % 64) (r .v) (boundIn w (r .nb))
+  B = bindMatching (r .ni) 0 (bodyOf (r .v1) % 64) (r .v) (boundIn w (r .nb))
 
   within : {c : Bool} → leb m 2048 ≡ c → leb (B .count) 2048 ≡ c
   within h = ap (λ (x : ℕ). leb x 2048) (sym (b .count)) ∙ h

@@ -19,6 +19,7 @@ use tables::pieces::has_label;
 use tables::pieces::installed_at;
 use tables::pieces::piece_first;
 use tables::pieces::piece_second;
+use values::body;
 use values::tag;
 
 // The binding of installed advice i, where label l triggers it; b bindings are there. A binding past the table is
@@ -74,7 +75,7 @@ pub fn reduce_mark(work: &mut [u8], r: Regs) -> Regs
     if tag(r.v1) != values::LABEL {
         return stuck(r);
     }
-    let m = bind_matching(work, r.ni, r.v1 % 64, r.v, r.nb);
+    let m = bind_matching(work, r.ni, body(r.v1) % 64, r.v, r.nb);
     if 2048 < m {
         return halt(r, outcomes::BINDINGS);
     }

@@ -1,17 +1,17 @@
 -- The table of codes is right at every number: one test, computed over the whole table, and the laws that follow from it.
 use Prim.Native.Nat.{ℕ, zero, suc, _+_, _≤_, _<_}
 use native.Mathlib.Omega.{arith}
-use mathlib.Core.Path.{_≡_, refl, sym, subst}
+use mathlib.Core.Path.{_≡_, refl, sym, subst, _∙_}
 use mathlib.Core.Bool.{Bool, true, false, not, _&&_}
 use mathlib.Core.List.{List, [], _∷_}
 use mathlib.Core.Option.{Option, none, some}
 use lib.ListN.{length, getD, List·getD-eq-default}
-use lib.Dec.{eqb, ltb}
+use lib.Dec.{eqb, ltb, leb}
 use borrow.Author.Tests.{ne-eqb}
 use Rattle.image.specs.Tests.{all}
 use Rattle.image.specs.Kinds.{Kind, rowOf, find, kindOf}
-use Rattle.image.proofs.Facts.{and-l, and-r, not-t, lt-of, ge-of, eq-of, of-eq, each}
-use Rattle.records.specs.Codes.{sectionNumber, classNumbers, codeOf, sectionOf, countOf, leastOf, mostOf, classesOf, kindCodes, codeAt}
+use Rattle.image.proofs.Facts.{no-path, and-l, and-r, not-t, lt-of, le-of, ge-of, eq-of, of-eq, each}
+use Rattle.records.specs.Codes.{sectionNumber, classNumbers, codeOf, sectionOf, countOf, leastOf, mostOf, classesOf, sizeOf, Sized, leastLength, kindCodes, codeAt}
 
 -- The number x is the code of the kind that is found, and its parts are the kind's; where no kind is found it is 0.
 unfoldable fits : Option Kind → ℕ → Bool
@@ -19,7 +19,7 @@ fits none x = eqb x 0
 fits (some k) x =
     all
     (eqb x (codeOf k) ∷ not (eqb x 0) ∷ eqb (sectionOf x) (sectionNumber k) ∷ eqb (countOf x) (length (rowOf k .fields)) ∷ eqb (leastOf x) (rowOf k .least)
-    ∷ eqb (mostOf x) (rowOf k .most) ∷ eqb (classesOf x) (classNumbers (rowOf k .fields)) ∷ [])
+    ∷ eqb (mostOf x) (rowOf k .most) ∷ eqb (classesOf x) (classNumbers (rowOf k .fields)) ∷ eqb (sizeOf x) (leastLength k) ∷ leb (leastOf x) (mostOf x) ∷ [])
 
 -- The test passes at each entry of a table, whose places are counted from i.
 unfoldable every : (ℕ → ℕ → Bool) → ℕ → List ℕ → Bool
@@ -74,6 +74,8 @@ pub record Packs (k : Kind) (x : ℕ) : Type 0 where
   pub least : leastOf x ≡ rowOf k .least
   pub most : mostOf x ≡ rowOf k .most
   pub classes : classesOf x ≡ classNumbers (rowOf k .fields)
+  pub size : sizeOf x ≡ leastLength k
+  pub between : leastOf x ≤ mostOf x
 
 pub known-code : (n : ℕ) (k : Kind) → kindOf n ≡ some k → Packs k (codeAt n)
 unfolding fits
@@ -87,8 +89,27 @@ known-code n k h =
       least = eq-of (z .1 .1 .1 .1 .0);
       most = eq-of (z .1 .1 .1 .1 .1 .0);
       classes = eq-of (z .1 .1 .1 .1 .1 .1 .0);
+      size = eq-of (z .1 .1 .1 .1 .1 .1 .1 .0);
+      between = le-of (z .1 .1 .1 .1 .1 .1 .1 .1 .0);
     }
 
 pub unknown-code : (n : ℕ) → kindOf n ≡ none → codeAt n ≡ 0
 unfolding fits
 unknown-code n h = eq-of (subst (λ q. fits q (codeAt n) ≡ true) h (code-fits n))
+
+-- A kind's number is at most 60.
+pub kind-small : (n : ℕ) (k : Kind) → kindOf n ≡ some k → n < 61
+unfolding kindCodes
+kind-small n k h = go (ltb n 61) refl
+  where
+    go : (t : Bool) → ltb n 61 ≡ t → n < 61
+    go true e = lt-of e
+    go false e = let z : none ≡ some k = sym (none-past n (ge-of e)) ∙ h in no-path cc
+
+-- Every code but 0 says its least length.
+pub code-sized : (n : ℕ) → (codeAt n ≡ 0 → ⊥) → Sized (codeAt n)
+code-sized n h = go (kindOf n) refl
+  where
+    go : (q : Option Kind) → kindOf n ≡ q → Sized (codeAt n)
+    go none e = absurd (h (unknown-code n e))
+    go (some k) e = let p = known-code n k e in let c = p .count in let l = p .least in let s = p .size in record { length = omega arith; between = p .between }

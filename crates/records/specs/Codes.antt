@@ -1,5 +1,6 @@
--- The table of kinds (document 01, "The image") in numbers: a code packs a kind's section, how many fields it has before its children, how many children at least and at most, and the classes of its fields. The number 0 is no kind's code.
-use Prim.Native.Nat.{ℕ, _+_, _*_, _/_, _%_}
+-- The table of kinds (document 01, "The image") in numbers: a code packs a kind's section, how many fields it has before its children, how many children at least and at most, the classes of its fields, and its least length. The number 0 is no kind's code.
+use Prim.Native.Nat.{ℕ, _+_, _*_, _/_, _%_, _≤_}
+use mathlib.Core.Path.{_≡_}
 use mathlib.Core.List.{List, [], _∷_}
 use lib.ListN.{length, getD}
 use Rattle.image.specs.Kinds.{Field, a-type, a-domain, an-op, a-truth, free, Kind, domain, type, term, rowOf}
@@ -22,8 +23,12 @@ unfoldable pub classNumbers : List Field → ℕ
 classNumbers [] = 0
 classNumbers (f ∷ fs) = classNumber f + 8 * classNumbers fs
 
+-- The length of a record with the fewest children.
+abbrev pub leastLength : Kind → ℕ
+leastLength k = 4 + 2 * (length (rowOf k .fields) + rowOf k .least)
+
 abbrev pub codeOf : Kind → ℕ
-codeOf k = sectionNumber k + 4 * length (rowOf k .fields) + 16 * rowOf k .least + 64 * rowOf k .most + 1024 * classNumbers (rowOf k .fields)
+codeOf k = sectionNumber k + 4 * length (rowOf k .fields) + 16 * rowOf k .least + 64 * rowOf k .most + 1024 * classNumbers (rowOf k .fields) + 524288 * leastLength k
 
 -- The parts of a code.
 abbrev pub sectionOf : ℕ → ℕ
@@ -39,12 +44,20 @@ abbrev pub mostOf : ℕ → ℕ
 mostOf x = x / 64 % 16
 
 abbrev pub classesOf : ℕ → ℕ
-classesOf x = x / 1024
+classesOf x = x / 1024 % 512
+
+abbrev pub sizeOf : ℕ → ℕ
+sizeOf x = x / 524288
 
 -- The code of each number up to the last kind's.
 unfoldable pub kindCodes : List ℕ
 kindCodes =
-    0 ∷ 4101 ∷ 0 ∷ 0 ∷ 0 ∷ 0 ∷ 0 ∷ 0 ∷ 0 ∷ 0 ∷ 0 ∷ 0 ∷ 0 ∷ 0 ∷ 0 ∷ 0 ∷ 2 ∷ 2 ∷ 2 ∷ 10 ∷ 8206 ∷ 8202 ∷ 8202 ∷ 8202 ∷ 1030 ∷ 0 ∷ 0 ∷ 0 ∷ 0 ∷ 0 ∷ 0 ∷ 0 ∷ 7 ∷ 24587 ∷ 294927 ∷ 32779 ∷ 167 ∷ 87 ∷ 247 ∷ 167 ∷ 167 ∷ 87 ∷ 167 ∷ 16555 ∷ 7 ∷ 167 ∷ 519 ∷ 167 ∷ 87 ∷ 87 ∷ 87 ∷ 167 ∷ 8283 ∷ 7 ∷ 0 ∷ 0 ∷ 0 ∷ 0 ∷ 0 ∷ 0 ∷ 87 ∷ []
+    0 ∷ 3149829 ∷ 0 ∷ 0 ∷ 0 ∷ 0 ∷ 0 ∷ 0 ∷ 0 ∷ 0 ∷ 0 ∷ 0 ∷ 0 ∷ 0 ∷ 0 ∷ 0 ∷ 2097154 ∷ 2097154 ∷ 2097154 ∷ 4194314 ∷ 5251086 ∷ 4202506 ∷ 4202506 ∷ 4202506 ∷ 3146758 ∷ 0 ∷ 0 ∷ 0 ∷ 0 ∷ 0 ∷ 0 ∷ 0 ∷ 3145735 ∷ 4218891 ∷ 5537807 ∷ 4227083 ∷ 5243047 ∷ 4194391 ∷ 6291703 ∷ 5243047 ∷ 5243047 ∷ 4194391 ∷ 5243047 ∷ 6308011 ∷ 3145735 ∷ 5243047 ∷ 3146247 ∷ 5243047 ∷ 4194391 ∷ 4194391 ∷ 4194391 ∷ 5243047 ∷ 5251163 ∷ 3145735 ∷ 0 ∷ 0 ∷ 0 ∷ 0 ∷ 0 ∷ 0 ∷ 4194391 ∷ []
 
 abbrev pub codeAt : ℕ → ℕ
 codeAt n = getD kindCodes n 0
+
+-- What a kind's code says of lengths: the least is that of the fields and the fewest children, and not more than the most.
+pub record Sized (x : ℕ) : Type 0 where
+  pub length : sizeOf x ≡ 4 + 2 * (countOf x + leastOf x)
+  pub between : leastOf x ≤ mostOf x

@@ -1,10 +1,11 @@
 // The table of kinds in numbers. It is built once, by kind_codes, and lent from there on.
 ghost use mathlib.Core.Path.{_≡_};
-ghost use Rattle.records.specs.Codes.{kindCodes, codeAt, sectionOf, countOf, leastOf, mostOf, classesOf};
+ghost use Prim.Native.Nat.{_<_};
+ghost use Rattle.records.specs.Codes.{kindCodes, codeAt, sectionOf, countOf, leastOf, mostOf, classesOf, sizeOf};
 
 const KINDS: [u32; 61] = [
     0,
-    4101,
+    3149829,
     0,
     0,
     0,
@@ -19,15 +20,15 @@ const KINDS: [u32; 61] = [
     0,
     0,
     0,
-    2,
-    2,
-    2,
-    10,
-    8206,
-    8202,
-    8202,
-    8202,
-    1030,
+    2097154,
+    2097154,
+    2097154,
+    4194314,
+    5251086,
+    4202506,
+    4202506,
+    4202506,
+    3146758,
     0,
     0,
     0,
@@ -35,35 +36,35 @@ const KINDS: [u32; 61] = [
     0,
     0,
     0,
-    7,
-    24587,
-    294927,
-    32779,
-    167,
-    87,
-    247,
-    167,
-    167,
-    87,
-    167,
-    16555,
-    7,
-    167,
-    519,
-    167,
-    87,
-    87,
-    87,
-    167,
-    8283,
-    7,
+    3145735,
+    4218891,
+    5537807,
+    4227083,
+    5243047,
+    4194391,
+    6291703,
+    5243047,
+    5243047,
+    4194391,
+    5243047,
+    6308011,
+    3145735,
+    5243047,
+    3146247,
+    5243047,
+    4194391,
+    4194391,
+    4194391,
+    5243047,
+    5251163,
+    3145735,
     0,
     0,
     0,
     0,
     0,
     0,
-    87,
+    4194391,
 ];
 
 pub fn kind_codes() -> [u32; 61]
@@ -78,6 +79,14 @@ pub fn code_of(kinds: &[u32], kind: u16) -> u32
     ensures { λ r. ⌜ r ≡ codeAt kind ⌝ }
 {
     if kind < 61 { kinds[kind as usize] } else { 0 }
+}
+
+// The code of a number that is in the table.
+pub fn known_code(kinds: &[u32], kind: u16) -> u32
+    requires { ⌜ (now kinds ≡ kindCodes) × (kind < 61) ⌝ }
+    ensures { λ r. ⌜ r ≡ codeAt kind ⌝ }
+{
+    kinds[kind as usize]
 }
 
 // 1 for a domain, 2 for a type, 3 for a term.
@@ -111,5 +120,12 @@ pub fn most_children(code: u32) -> usize
 pub fn field_classes(code: u32) -> u32
     ensures { λ r. ⌜ r ≡ classesOf code ⌝ }
 {
-    code / 1024
+    code / 1024 % 512
+}
+
+// The length of a record with the fewest children.
+pub fn least_length(code: u32) -> usize
+    ensures { λ r. ⌜ r ≡ sizeOf code ⌝ }
+{
+    (code / 524288) as usize
 }

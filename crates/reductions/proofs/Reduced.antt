@@ -8,13 +8,14 @@ use lib.Dec.{eqb}
 use borrow.Author.Tests.{eq-eqb, ne-eqb}
 use Rattle.calculus.specs.declared.Outcome.{Outcome}
 use Rattle.calculus.specs.Combinators.{choose}
+use Rattle.calculus.specs.Numbers.{sum, difference, isLess, isEqual}
 use Rattle.flat.specs.declared.Regs.{Regs}
-use Rattle.flat.specs.Values.{tagOf, bodyOf, nothingTag}
-use Rattle.flat.specs.Rows.{term2, term3}
+use Rattle.flat.specs.Values.{tagOf, bodyOf, nothingTag, value, operate, calculate, numberValue, truthValue}
+use Rattle.flat.specs.Rows.{term2, term3, field3}
 use Rattle.flat.specs.Registers.{setEnv, setNb, setNp, setNc, setNl, setNi}
-use Rattle.flat.specs.Memory.{Memory, binding, putBinding, pieceFirst, pieceSecond}
+use Rattle.flat.specs.Memory.{Memory, binding, putBinding, pieceFirst, pieceSecond, cellAt, cellNote, putCell}
 use Rattle.flat.specs.States.{State, halt, stuck, give, goOn}
-use Rattle.flat.specs.Reduce.{needs, ifRoom, giveIf, newPiece}
+use Rattle.flat.specs.Reduce.{needs, ifRoom, giveIf, newPiece, reduceArithmetic}
 use Rattle.tables.specs.View.{memoryOf, Holds}
 use Rattle.operands.specs.Phases.{RegsFit, stateOf, Phase}
 use Rattle.operands.proofs.Made.{chosen-yes, chosen-no, as-phase, regs-made, refits}
@@ -167,3 +168,46 @@ parts-made w w₁ w₂ i p env a b d e g h =
       memory = h .memory ∙ ap (λ (M : Memory). putBinding (i + 1) (binding b 0 (i + 1)) M) (g .memory) ∙ ap (λ (x : ℕ). putBinding (i + 1) (binding x 0 (i + 1)) (putBinding i (binding a 0 env) (memoryOf w))) e ∙ ap (λ (x : ℕ). putBinding (i + 1) (binding (pieceSecond (memoryOf w) p) 0 (i + 1)) (putBinding i (binding x 0 env) (memoryOf w))) d;
       rest = h .rest ∙ g .rest;
     }
+
+-- A cell's value is another; b is the body that names it, x its word and n its note.
+pub cell-stored : (w w′ : List ℕ) (v u b x n : ℕ) → b ≡ bodyOf v → x ≡ cellAt (memoryOf w) (b % 256) → n ≡ cellNote x → Holds (putCell (b % 256) u n (memoryOf w)) w w′
+    → Holds (putCell (bodyOf v % 256) u (cellNote (cellAt (memoryOf w) (bodyOf v % 256))) (memoryOf w)) w w′
+cell-stored w w′ v u b x n d e f h =
+    let g : n ≡ cellNote (cellAt (memoryOf w) (b % 256)) = f ∙ ap cellNote e in
+    subst (λ (i : ℕ). Holds (putCell (i % 256) u (cellNote (cellAt (memoryOf w) (i % 256))) (memoryOf w)) w w′) d (subst (λ (i : ℕ). Holds (putCell (b % 256) u i (memoryOf w)) w w′) g h)
+
+-- An operation's result is a value.
+number-tag : (t b : ℕ) → t < 15 → tagOf (value t b) ≡ 15 → ⊥
+number-tag t b h e = omega arith
+
+operate-tag : (op x y : ℕ) → tagOf (operate op x y) ≡ 15 → ⊥
+operate-tag op x y = go (eqb op 0) (eqb op 1) (eqb op 2)
+  where
+    go : (a b c : Bool) → tagOf (choose a (numberValue (sum x y)) (choose b (numberValue (difference x y)) (choose c (truthValue (isLess x y)) (truthValue (isEqual x y))))) ≡ 15 → ⊥
+    go true b c e = number-tag 2 (sum x y) (omega arith) e
+    go false true c e = number-tag 2 (difference x y) (omega arith) e
+    go false false true e = number-tag 1 _ (omega arith) e
+    go false false false e = number-tag 1 _ (omega arith) e
+
+-- Arithmetic over the operands, whose tags are t and u.
+module _ (w : List ℕ) (r q : Regs) (t : ℕ) (d : t ≡ tagOf (r .v1)) where
+  pub first-no-number : (t ≡ 2 → ⊥) → q ≡ stuck r → Phase reduceArithmetic w w r q
+  unfolding calculate
+  first-no-number n e = regs-made reduceArithmetic w r q (stuck r) (λ log. rw (ne-eqb (tagOf (r .v1)) 2 (λ z. n (d ∙ z)))) e (λ _ f. f)
+
+  module _ (h : t ≡ 2) (u : ℕ) (g : u ≡ tagOf (r .v)) where
+    one : eqb (tagOf (r .v1)) 2 ≡ true
+    one = eq-eqb (tagOf (r .v1)) 2 (sym d ∙ h)
+
+    pub second-no-number : (u ≡ 2 → ⊥) → q ≡ stuck r → Phase reduceArithmetic w w r q
+    unfolding calculate
+    second-no-number n e = regs-made reduceArithmetic w r q (stuck r) (λ log. rw (one, ne-eqb (tagOf (r .v)) 2 (λ z. n (g ∙ z)))) e (λ _ f. f)
+
+    pub both-numbers : (op x y v : ℕ) → u ≡ 2 → op ≡ field3 (r .n) → x ≡ bodyOf (r .v1) → y ≡ bodyOf (r .v) → v ≡ operate op x y → q ≡ give v r → Phase reduceArithmetic w w r q
+    unfolding calculate
+    both-numbers op x y v k a b c e f =
+        let z : ℕ = operate (field3 (r .n)) (bodyOf (r .v1)) (bodyOf (r .v)) in
+        let is : v ≡ z = e ∙ (ap (λ (i : ℕ). operate i x y) a ∙ (ap (λ (i : ℕ). operate (field3 (r .n)) i y) b ∙ ap (operate (field3 (r .n)) (bodyOf (r .v1))) c)) in
+        regs-made reduceArithmetic w r q (give z r)
+        (λ log. rw (one, eq-eqb (tagOf (r .v)) 2 (sym g ∙ k)) (sym (chosen-no _ _ _ (ne-eqb (tagOf z) 15 (operate-tag (field3 (r .n)) (bodyOf (r .v1)) (bodyOf (r .v)))))))
+        (f ∙ ap (λ (i : ℕ). give i r) is) (λ _ s. s)

@@ -65,7 +65,13 @@ pub fn reduce_arithmetic(r: Regs) -> Regs
     requires { ⌜ 0 < r .left ⌝ }
     ensures { λ q. ⌜ ((w : List ℕ) → Phase reduceArithmetic w w r q) ⌝ }
 {
-    give_if(r, values::calculate(field3(r.n), r.v1, r.v))
+    if tag(r.v1) != values::NUMBER {
+        return stuck(r);
+    }
+    if tag(r.v) != values::NUMBER {
+        return stuck(r);
+    }
+    give(r, values::operate(field3(r.n), body(r.v1), body(r.v)))
 }
 
 pub fn reduce_label(r: Regs) -> Regs

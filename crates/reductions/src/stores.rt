@@ -32,8 +32,9 @@ pub fn reduce_apply(work: &mut [u8], r: Regs) -> Regs
         return stuck(r);
     }
     if r.nb < 2048 {
-        bind(work, r.nb, r.v, 0, (body(r.v1) / 65536) as usize);
-        let mut q = go_on(r, (r.v1 % 1024) as usize);
+        let b = body(r.v1);
+        bind(work, r.nb, r.v, 0, (b / 65536) as usize);
+        let mut q = go_on(r, (b % 1024) as usize);
         q.nb = r.nb + 1;
         q.env = r.nb + 1;
         return q;
@@ -89,7 +90,7 @@ pub fn reduce_store(work: &mut [u8], r: Regs) -> Regs
     if tag(r.v1) != values::CELL {
         return stuck(r);
     }
-    let i = (r.v1 % 256) as usize;
+    let i = (body(r.v1) % 256) as usize;
     let note = cell_note(cell_at(work, i));
     put_cell(work, i, r.v, note);
     give(r, 0)

@@ -18,7 +18,7 @@ use Rattle.report.specs.Records.{recordsBytes}
 use Rattle.report.specs.Written.{leavesIn, cellRecord, cellBytes, cellsBytes}
 use Rattle.report.specs.Fits.{FewLeaves}
 use Rattle.report.proofs.Lengths.{records-last, held-short}
-use Rattle.flat.specs.Memory.{Memory, boundValue, cellAt, cellNote}
+use Rattle.flat.specs.Memory.{Memory, cellAt, cellNote}
 use Rattle.results.specs.declared.Gathered.{Gathered}
 use Rattle.results.specs.Gathered.{gathered}
 use Rattle.results.specs.Ended.{plainLeavesIn, cellIn, cellsFrom}
@@ -34,22 +34,22 @@ module _ (M : Memory) (i w note : ℕ) (a : w ≡ cellAt M i) (b : note ≡ cell
   is-note = b ∙ ap cellNote a
 
   abbrev held-if : Bool → CellReport
-  held-if q = record { dom = cellNote (cellAt M i) % 16; held = choose q (some (plainLeavesIn M (boundValue (cellAt M i)))) none }
+  held-if q = record { dom = cellNote (cellAt M i) % 16; held = choose q (some (plainLeavesIn M (cellAt M i))) none }
 
   -- Cell i, by its note.
   pub other-cell : note < 16 → record { dom = note % 16; held = none } ≡ cellIn M i
   other-cell h =
       ap (λ n. record { dom = n % 16; held = none }) is-note ∙ ap held-if (sym (ap (leb 16) (sym is-note) ∙ lt-leb 16 note h))
 
-  pub plain-cell : (v : ℕ) (g : Gathered) → 16 ≤ note → v ≡ boundValue w → g ≡ gathered (plainLeavesIn M v)
+  pub plain-cell : (g : Gathered) → 16 ≤ note → g ≡ gathered (plainLeavesIn M w)
       → record { dom = note % 16; held = some (leavesIn (g .count) (g .slots)) } ≡ cellIn M i
-  plain-cell v g h e f =
-      let l = gathered-leaves (plainLeavesIn M v) f (plain-few M v) ∙ ap (plainLeavesIn M) (e ∙ ap boundValue a) in
+  plain-cell g h f =
+      let l = gathered-leaves (plainLeavesIn M w) f (plain-few M w) ∙ ap (plainLeavesIn M) a in
       ap₂ {C = CellReport} (λ n x. record { dom = n % 16; held = some x }) is-note l ∙ ap held-if (sym (ap (leb 16) (sym is-note) ∙ le-leb 16 note h))
 
 module _ (M : Memory) where
-  few-held : (i : ℕ) (b : Bool) → FewLeaves (choose b (some (plainLeavesIn M (boundValue (cellAt M i)))) none)
-  few-held i true = plain-few M (boundValue (cellAt M i))
+  few-held : (i : ℕ) (b : Bool) → FewLeaves (choose b (some (plainLeavesIn M (cellAt M i))) none)
+  few-held i true = plain-few M (cellAt M i)
   few-held i false = tt
 
   cell-short : (i : ℕ) → length (cellBytes (cellIn M i)) ≤ 70

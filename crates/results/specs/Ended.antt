@@ -13,7 +13,7 @@ use Rattle.verdicts.specs.declared.Verdict.{Verdict}
 use Rattle.report.specs.Written.{reportBytes}
 use Rattle.flat.specs.declared.Regs.{Regs}
 use Rattle.flat.specs.Registers.{haltedMode}
-use Rattle.flat.specs.Memory.{Memory, boundValue, cellAt, cellNote}
+use Rattle.flat.specs.Memory.{Memory, cellAt, cellNote}
 use Rattle.flat.specs.Leaves.{leavesOf}
 use Rattle.calls.specs.declared.Answer.{Answer}
 use Rattle.calls.specs.Calls.{slotsOf}
@@ -47,7 +47,7 @@ resultIn M r = choose (eqb (r .mode) haltedMode) (plainLeavesIn M (r .c)) []
 abbrev pub cellIn : Memory → ℕ → CellReport
 cellIn M i =
     let w : ℕ = cellAt M i in
-    record { dom = cellNote w % 16; held = choose (leb 16 (cellNote w)) (some (plainLeavesIn M (boundValue w))) none }
+    record { dom = cellNote w % 16; held = choose (leb 16 (cellNote w)) (some (plainLeavesIn M w)) none }
 
 -- n cells from i on.
 unfoldable pub cellsFrom : Memory → ℕ → ℕ → List CellReport

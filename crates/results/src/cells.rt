@@ -2,7 +2,6 @@
 use crate::leaves::plain_leaves;
 use report::cells::put_other_cell;
 use report::cells::put_plain_cell;
-use tables::bindings::bound_value;
 use tables::cells::cell_at;
 use tables::cells::cell_note;
 ghost use mathlib.Core.Path.{_≡_};
@@ -25,7 +24,7 @@ pub fn put_cell(report: &mut [u8], at: usize, work: &[u8], i: usize) -> usize
     if note < 16 {
         return put_other_cell(report, at, dom);
     }
-    let g = plain_leaves(work, bound_value(w));
+    let g = plain_leaves(work, w);
     let count = g.count;
     let slots = g.slots;
     put_plain_cell(report, at, dom, slots, count)

@@ -16,15 +16,16 @@ use Rattle.image.specs.Types.{termPlace, termKind, typeNo, others, children}
 use Rattle.verdicts.specs.declared.Verdict.{Verdict}
 use Rattle.verdicts.specs.Settings.{Setting}
 use Rattle.verdicts.specs.Check.{rule}
+use Rattle.records.specs.Keys.{keyKind}
 use Rattle.records.specs.Codes.{kindCodes, countOf, codeAt}
 use Rattle.records.proofs.Codes.{known-code}
 use Rattle.rules.specs.Lent.{Lent, Masks, Terms, IsTerm, IsType, Fixed, childTypes, contextIn, settingIn}
 use Rattle.rules.specs.Scalars.{judged, ruleVerdict, leafRule, unaryRule, binaryRule, chooseRule, pointcutRule}
-use Rattle.rules.proofs.Small.{unbound}
+use Rattle.rules.proofs.Small.{unbound, alone}
 use Rattle.rules.proofs.Keys.{Says, key-says}
 use Rattle.rules.proofs.Masks.{order-is}
 use Rattle.rules.proofs.Located.{term-ok, children-is, size, type-is, lead-is, child-is, child-type-is, other-is}
-use Rattle.rules.proofs.Leaf.{leaf-right}
+use Rattle.rules.proofs.Leaf.{leaf-right, constant-right}
 use Rattle.rules.proofs.Unary.{unary-right}
 use Rattle.rules.proofs.Binary.{binary-right, choose-right}
 use Rattle.rules.proofs.LabelRule.{pointcut-right}
@@ -56,6 +57,31 @@ fixed-count TermKind.lower h = refl
 fixed-count TermKind.abort h = refl
 fixed-count TermKind.byte h = refl
 
+low-childless : (k : TermKind) → termRow k .number < 36 → termRow k .most ≡ 0
+low-childless TermKind.unit h = refl
+low-childless TermKind.truth h = refl
+low-childless TermKind.number h = refl
+low-childless TermKind.var h = refl
+low-childless TermKind.seq h = absurd (omega arith)
+low-childless TermKind.print h = absurd (omega arith)
+low-childless TermKind.ite h = absurd (omega arith)
+low-childless TermKind.pair h = absurd (omega arith)
+low-childless TermKind.split h = absurd (omega arith)
+low-childless TermKind.fun h = absurd (omega arith)
+low-childless TermKind.app h = absurd (omega arith)
+low-childless TermKind.arith h = absurd (omega arith)
+low-childless TermKind.newLabel h = absurd (omega arith)
+low-childless TermKind.mark h = absurd (omega arith)
+low-childless TermKind.pcd h = absurd (omega arith)
+low-childless TermKind.adv h = absurd (omega arith)
+low-childless TermKind.install h = absurd (omega arith)
+low-childless TermKind.newCell h = absurd (omega arith)
+low-childless TermKind.read h = absurd (omega arith)
+low-childless TermKind.store h = absurd (omega arith)
+low-childless TermKind.lower h = absurd (omega arith)
+low-childless TermKind.abort h = absurd (omega arith)
+low-childless TermKind.byte h = absurd (omega arith)
+
 module _ (b terms : List ℕ) (T : Terms b terms) (n : ℕ) (h : IsTerm b n) where
   pub number-is : numberAt b (termPlace (recordsOf b) n) ≡ termRow (termKind (recordsOf b) n) .number
   number-is = term-ok b terms T n h .stands .number
@@ -72,6 +98,12 @@ module _ (b terms : List ℕ) (T : Terms b terms) (n : ℕ) (h : IsTerm b n) whe
       let y = s .least in
       let z = s .most in
       omega arith
+
+  -- Constants and variables have no children.
+  pub childless : numberAt b (termPlace (recordsOf b) n) < 36 → length (children (recordsOf b) n) ≡ 0
+  childless l =
+      let e = number-is in
+      sym (count-is (λ q. absurd (omega arith))) ∙ low-childless (termKind (recordsOf b) n) (omega arith)
 
   no-more-than-three : (numberAt b (termPlace (recordsOf b) n) ≡ 46 → ⊥) → termRow (termKind (recordsOf b) n) .most ≤ 3
   no-more-than-three p =
@@ -162,6 +194,16 @@ module _ (b terms keys : List ℕ) (G : Lent b terms keys) where
         ∙ rule-of b terms (G .terms) n h TermKind.pcd (kind-is b terms (G .terms) n h TermKind.pcd refl e) (record { context = Γ; dom = c })
 
   module _ (n : ℕ) (h : IsTerm b n) (Γ : List ℕ) (c : ℕ) where
+    pub constant-verdict : numberAt b (termPlace (recordsOf b) n) < 35
+        → judged (termPlace (recordsOf b) n) (record { bound = true; typed = eqb (keyKind (getD keys (typeNo (recordsOf b) n) 0)) (numberAt b (termPlace (recordsOf b) n) - 16); allowed = true })
+        ≡ ruleVerdict (recordsOf b) (record { context = Γ; dom = c }) n
+    constant-verdict l =
+        let e = number-is b terms (G .terms) n h in
+        rw e
+        (ap (λ q. judged (termPlace (recordsOf b) n) (record { bound = true; typed = q; allowed = true })) (sym (alone (eqb (keyKind (getD keys (typeNo (recordsOf b) n) 0)) (termRow (termKind (recordsOf b) n) .number - 16))))
+        ∙ sym (constant-right (recordsOf b) (termPlace (recordsOf b) n) Γ c (typeNo (recordsOf b) n) (others (recordsOf b) n) (childTypes b n) _ (own-says n h) (termKind (recordsOf b) n) (omega arith))
+        ∙ rule-of b terms (G .terms) n h (termKind (recordsOf b) n) refl (record { context = Γ; dom = c }))
+
     pub choice-verdict : Fixed b n → 2 < length (children (recordsOf b) n)
         → judged (termPlace (recordsOf b) n) (chooseRule (typeNo (recordsOf b) n) (getD keys (getD (childTypes b n) 0 0) 0) (getD (childTypes b n) 1 0) (getD (childTypes b n) 2 0)) ≡ ruleVerdict (recordsOf b) (record { context = Γ; dom = c }) n
     choice-verdict F z =

@@ -24,7 +24,7 @@ use records::numbers::type_key;
 use verdicts::Verdict;
 ghost use mathlib.Core.Path.{_≡_};
 ghost use mathlib.Core.List.{List};
-ghost use Prim.Native.Nat.{ℕ, _≤_, _<_};
+ghost use Prim.Native.Nat.{ℕ, _-_, _≤_, _<_};
 ghost use lib.ListN.{length, getD};
 ghost use Rattle.image.specs.Bytes.{numberAt};
 ghost use Rattle.image.specs.Layout.{recordsOf};
@@ -181,6 +181,44 @@ fn check_variable(image: &[u8], terms: &[u16], scope: &[u8], len: usize, n: Term
     }
     let a = scope_type(scope, len - 1 - k);
     judge(at, same_type(a, term_type(image, terms, n)), true)
+}
+
+// A unit, truth or number, whose kind's number is 16 more than its type's.
+fn check_constant(image: &[u8], terms: &[u16], keys: &[u64], kind: u16, n: TermNo) -> Verdict
+    requires { ⌜ Lent (now image) (now terms) (now keys) × IsTerm (now image) (n .0) × (kind ≡ numberAt (now image) (termPlace (recordsOf (now image)) (n .0))) × (kind < 35) ⌝ }
+    ensures { λ r. ⌜ ((Γ : List ℕ) (c : ℕ) → r ≡ ruleVerdict (recordsOf (now (image .entry))) (record { context = Γ; dom = c }) (n .0)) ⌝ }
+{
+    let own = type_key(keys, term_type(image, terms, n));
+    judge(
+        term_place(image, terms, n),
+        is_kind(own, constant_type(kind)),
+        true,
+    )
+}
+
+fn constant_type(kind: u16) -> u16
+    ensures { λ r. ⌜ r ≡ kind - 16 ⌝ }
+{
+    if kind < 16 { 0 } else { kind - 16 }
+}
+
+// A constant or variable: the kinds up to 35.
+pub fn check_leaf_kind(
+    image: &[u8],
+    terms: &[u16],
+    keys: &[u64],
+    scope: &[u8],
+    len: usize,
+    kind: u16,
+    n: TermNo,
+) -> Verdict
+    requires { ⌜ Lent (now image) (now terms) (now keys) × IsTerm (now image) (n .0) × (kind ≡ numberAt (now image) (termPlace (recordsOf (now image)) (n .0))) × (kind < 36) × (len ≤ length (now scope)) ⌝ }
+    ensures { λ r. ⌜ ((c : ℕ) → r ≡ ruleVerdict (recordsOf (now (image .entry))) (settingIn (now (scope .entry)) len c) (n .0)) ⌝ }
+{
+    if kind == 35 {
+        return check_variable(image, terms, scope, len, n);
+    }
+    check_constant(image, terms, keys, kind, n)
 }
 
 pub fn check_rule(

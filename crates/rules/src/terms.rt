@@ -1,6 +1,6 @@
 // What the records of the terms say: a term's offset, kind, type, the field behind its type, and its children.
-use records::kinds::code_of;
 use records::kinds::field_count;
+use records::kinds::known_code;
 use records::numbers::TermNo;
 use records::numbers::TypeNo;
 use records::words::word;
@@ -47,7 +47,7 @@ pub fn lead(image: &[u8], kinds: &[u32], terms: &[u16], n: TermNo) -> usize
     requires { ⌜ Terms (now image) (now terms) × IsTerm (now image) (n .0) × (now kinds ≡ kindCodes) ⌝ }
     ensures { λ r. ⌜ r ≡ length (termRow (termKind (recordsOf (now (image .entry))) (n .0)) .fields) ⌝ }
 {
-    field_count(code_of(kinds, term_kind(image, terms, n)))
+    field_count(known_code(kinds, term_kind(image, terms, n)))
 }
 
 pub fn child_count(image: &[u8], kinds: &[u32], terms: &[u16], n: TermNo) -> usize

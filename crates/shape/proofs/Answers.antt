@@ -9,12 +9,12 @@ use lib.ListN.{length}
 use lib.Dec.{ltb}
 use Rattle.image.specs.declared.Refusal.{Refusal}
 use Rattle.image.specs.Layout.{Layout, isNil}
-use Rattle.image.specs.Tests.{all}
+use Rattle.image.specs.Tests.{all, allBelow}
 use Rattle.verdicts.specs.declared.Verdict.{Verdict}
 use Rattle.verdicts.specs.Answers.{isRefused, require, requireFrom, inTurn}
 use Rattle.verdicts.specs.Shape.{noneEmpty, shape}
 use Rattle.shape.specs.Checks.{passes}
-use Rattle.image.proofs.Facts.{no-path, and-r, lt-of}
+use Rattle.image.proofs.Facts.{no-path, and-r, lt-of, all-below}
 
 pub from-start : (r : Refusal) (place : ℕ → ℕ) (ok : ℕ → Bool) (n : ℕ) → requireFrom n 0 r place ok ≡ requireFrom (n - 0) 0 r place ok
 from-start r place ok n = let z : n - 0 ≡ n = omega arith in rw z refl
@@ -32,6 +32,20 @@ module _ (r : Refusal) (place : ℕ → ℕ) (ok : ℕ → Bool) (n i : ℕ) whe
   pub from-here : i < n → ok i ≡ false → requireFrom (n - i) i r place ok ≡ Verdict.Refused r (place i)
   unfolding requireFrom
   from-here h e = let z : n - i ≡ suc (n - (i + 1)) = omega arith in rw (z, e, requireFrom) refl
+
+-- Where each test holds, nothing is refused.
+pub from-hold : (r : Refusal) (place : ℕ → ℕ) (ok : ℕ → Bool) (n : ℕ) → allBelow n ok ≡ true → requireFrom n 0 r place ok ≡ Verdict.Accepted
+unfolding requireFrom
+from-hold r place ok n h = go n 0 (λ k l. all-below n ok h k (omega arith))
+  where
+    go : (m i : ℕ) → ((k : ℕ) → k < i + m → ok k ≡ true) → requireFrom m i r place ok ≡ Verdict.Accepted
+    go zero i f = refl
+    go (suc m) i f = let e : ok i ≡ true = f i (omega arith) in rw (e, requireFrom) (go m (suc i) (λ k l. f k (omega arith)))
+
+-- One more test.
+pub below-more : (n : ℕ) (ok : ℕ → Bool) (b t : Bool) → b ≡ allBelow n ok → t ≡ (b && ok n) → t ≡ allBelow (n + 1) ok
+unfolding allBelow
+below-more n ok b t e h = let w : n + 1 ≡ suc n = omega arith in rw w (h ∙ ap (λ x. x && ok n) e)
 
 -- The same places and the same tests give the same answer.
 pub from-same : (r : Refusal) (p q : ℕ → ℕ) (f g : ℕ → Bool) (n i : ℕ) → ((k : ℕ) → k < i + n → p k ≡ q k) → ((k : ℕ) → k < i + n → f k ≡ g k)

@@ -10,7 +10,7 @@ use Rattle.records.specs.Tables.{Tables}
 use Rattle.shape.specs.Records.{firstChild, childrenOf, Lower, DomainsOf, Domains, TermsOf, Terms}
 use Rattle.image.proofs.Words.{words-length, words-at}
 use Rattle.image.proofs.Laid.{Below, Good, layout-good, image-kept}
-use Rattle.records.proofs.Codes.{known-code}
+use Rattle.records.proofs.Codes.{known-code, kind-small}
 
 -- Child j is field j of those after the first ones.
 pub child-is : (b : List ℕ) (o j : ℕ) → j < length (childrenOf b o) → fieldAt b o (firstChild b o + j) ≡ getD (childrenOf b o) j 0
@@ -48,7 +48,7 @@ module _ (L : Layout) (G : Good L) where
       record {
         offsets = refl;
         few = G .few-terms;
-        stands = λ n l. let g = G .terms n l in record { code = known-code _ _ (g .kind) .count; size = g .stands .size; inside = g .stands .inside };
+        stands = λ n l. let g = G .terms n l in record { known = kind-small _ _ (g .kind); code = known-code _ _ (g .kind) .count; size = g .stands .size; inside = g .stands .inside };
         lower = λ n l. below-lower n _ (G .terms n l .below);
         same = λ n l. refl;
       }

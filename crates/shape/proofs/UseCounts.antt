@@ -54,16 +54,29 @@ use-count (m ∷ es) us n u h e = go (λ w q. use-count es (set us m (more 2 (ge
         let x : getD next n 0 ≡ getD us n 0 = getD-set-other us m n (more 2 (getD us m 0)) 0 (eqb-false n m t) in
         rw t (omega (arith, ih u (x ∙ e)))
 
--- After the m first terms, and after one more, which has the children es.
-pub used-more : (L : Layout) (m : ℕ) (us es : List ℕ) → children L m ≡ es → Used L m us → Used L (m + 1) (useAll es us)
+-- The terms from i to m are counted: a term's uses in the i first, and those that are counted, are its uses in the m first.
+pub record UsedFrom (L : Layout) (i m : ℕ) (us : List ℕ) : Type 0 where
+  pub at : (n : ℕ) → n < length us → min 2 (uses L i n + getD us n 0) ≡ min 2 (uses L m n)
+  pub few : (n : ℕ) → n < length us → getD us n 0 ≤ 2
+
+-- At first, after one term more, which has the children es, and at last.
+pub from-none : (L : Layout) (m : ℕ) (us : List ℕ) → Used L 0 us → UsedFrom L m m us
 unfolding uses
-used-more L m us es c U = record { at = at }
+from-none L m us U = record { at = λ n h. let e : getD us n 0 ≡ min 2 0 = U .at n h in omega arith; few = λ n h. let e : getD us n 0 ≡ min 2 0 = U .at n h in omega arith }
+
+pub from-more : (L : Layout) (i m : ℕ) (us es : List ℕ) → 0 < i → children L (i - 1) ≡ es → UsedFrom L i m us → UsedFrom L (i - 1) m (useAll es us)
+unfolding uses
+from-more L i m us es p c U = record { at = λ n h. let x = counted n h in let y = last n in let l : n < length us = rw (use-length es us) at h in let z = U .at n l in omega arith; few = λ n h. let x = counted n h in omega arith }
   where
-    at : (n : ℕ) → n < length (useAll es us) → getD (useAll es us) n 0 ≡ min 2 (uses L (m + 1) n)
-    at n h =
-        let l : n < length us = rw (use-length es us) at h in
-        let e : m + 1 ≡ suc m = omega arith in
-        rw (e, c) (use-count es us n (uses L m n) l (U .at n l))
+    counted : (n : ℕ) → n < length (useAll es us) → getD (useAll es us) n 0 ≡ min 2 (getD us n 0 + count n es)
+    counted n h = let l : n < length us = rw (use-length es us) at h in let f = U .few n l in use-count es us n (getD us n 0) l (omega arith)
+
+    last : (n : ℕ) → uses L i n ≡ uses L (i - 1) n + count n es
+    last n = let e : i ≡ suc (i - 1) = omega arith in ap (λ k. uses L k n) e ∙ ap (λ cs. uses L (i - 1) n + count n cs) c
+
+pub from-all : (L : Layout) (i m : ℕ) (us : List ℕ) → i ≤ 0 → UsedFrom L i m us → Used L m us
+unfolding uses
+from-all L i m us z U = record { at = λ n h. let e : i ≡ 0 = omega arith in let x : min 2 (uses L 0 n + getD us n 0) ≡ min 2 (uses L m n) = rw e at (U .at n h) in let f = U .few n h in omega arith }
 
 -- At first no term is used.
 pub used-none : (L : Layout) (m : ℕ) (us : List ℕ) → us ≡ replicate m 0 → Used L 0 us

@@ -22,6 +22,10 @@ module _ (L : Layout) where
   abbrev pub noTermDeep : Verdict
   noTermDeep = requireFrom (length (L .terms)) 0 Refusal.TooDeep (λ n. termPlace L n) (λ n. leb (getD (depths L) n 0) depthLimit)
 
+  -- The two of the terms in turn.
+  abbrev pub termsRight : Verdict
+  termsRight = inTurn ((λ u. termsUsedOnce) ∷ (λ u. noTermDeep) ∷ [])
+
   -- The three in turn.
   abbrev pub passes : Verdict
   passes = inTurn ((λ u. domainsOrdered) ∷ (λ u. termsUsedOnce) ∷ (λ u. noTermDeep) ∷ [])

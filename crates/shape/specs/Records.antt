@@ -30,6 +30,7 @@ childrenOf b o = childrenAt b o (termRow (termKindOf (kindAt b o)))
 
 -- The record at o is a whole one, with its fields and its children.
 pub record TermAt (b : List ℕ) (o : ℕ) : Type 0 where
+  pub known : numberAt b o < 61
   pub code : countOf (codeAt (numberAt b o)) ≡ firstChild b o
   pub size : lengthAt b o ≡ 4 + 2 * (firstChild b o + length (childrenOf b o))
   pub inside : o + lengthAt b o ≤ length b

@@ -11,7 +11,10 @@ pub fn first_child(image: &[u8], kinds: &[u32], at: usize) -> usize
     requires { ⌜ (now kinds ≡ kindCodes) × TermAt (now image) at ⌝ }
     ensures { λ r. ⌜ r ≡ firstChild (now (image .entry)) at ⌝ }
 {
-    records::kinds::field_count(records::kinds::code_of(kinds, records::words::kind_at(image, at)))
+    records::kinds::field_count(records::kinds::known_code(
+        kinds,
+        records::words::kind_at(image, at),
+    ))
 }
 
 // How many children it has.

@@ -17,6 +17,7 @@ ghost use Rattle.shape.specs.Counted.{Counted};
 
 pub mod children;
 pub mod depths;
+pub mod descent;
 pub mod notes;
 pub mod order;
 pub mod uses;
@@ -43,11 +44,7 @@ fn check_passes(image: &[u8], kinds: &[u32], doms: &[u16], terms: &[u16]) -> Ver
     if is_refused(order) {
         return order;
     }
-    let uses = uses::check_uses(image, kinds, terms);
-    if is_refused(uses) {
-        return uses;
-    }
-    depths::check_depths(image, kinds, terms)
+    descent::check_terms(image, kinds, terms)
 }
 
 // Refusals 9 to 12, with the tables that hold the offsets in their first places.

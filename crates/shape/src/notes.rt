@@ -2,6 +2,7 @@
 use records::numbers::TermNo;
 ghost use mathlib.Core.Path.{_≡_};
 ghost use Prim.Native.Nat.{_<_};
+ghost use mathlib.Core.Bool.{_&&_};
 ghost use lib.ListN.{length, getD, set};
 ghost use Rattle.shape.specs.Marks.{more};
 
@@ -25,4 +26,10 @@ pub fn set_mark(marks: &mut [u8], n: TermNo, v: u8)
     ensures { λ _. ⌜ now (marks .exit) ≡ set (now (marks .entry)) (n .0) v ⌝ }
 {
     marks[n.0 as usize] = v;
+}
+
+pub fn both(a: bool, b: bool) -> bool
+    ensures { λ r. ⌜ r ≡ (a && b) ⌝ }
+{
+    a && b
 }

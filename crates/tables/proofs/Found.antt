@@ -8,9 +8,9 @@ use lib.Dec.{eqb, ltb}
 use borrow.Author.Tests.{eqb-false, ltb-false, eq-eqb, ne-eqb}
 use Rattle.calculus.specs.Combinators.{choose}
 use Rattle.image.proofs.Facts.{or-false-l, or-false-r}
-use Rattle.flat.specs.Values.{tagOf, noValue, cellTag, tagged}
+use Rattle.flat.specs.Values.{tagOf, bodyOf, noValue, cellTag, tagged}
 use Rattle.values.proofs.Chosen.{tagged-yes, tagged-no}
-use Rattle.flat.specs.Memory.{Memory, noLink, lookup, boundValue, boundLink, bindingAt, hasDigit, cellAt, readCell}
+use Rattle.flat.specs.Memory.{Memory, noLink, lookup, boundLink, bindingAt, hasDigit, cellAt, readCell}
 
 -- A link that names a place of the table.
 pub named : (l : ℕ) (b : Bool) → b ≡ noLink l → b ≡ false → (0 < l) × (l ≤ 2048)
@@ -22,7 +22,7 @@ module _ (M : Memory) (l : ℕ) (b : Bool) (d : b ≡ noLink l) where
   -- No binding there.
   pub lookup-none : (k : ℕ) → b ≡ true → lookup M l k ≡ noValue
   unfolding lookup
-  lookup-none zero e = ap (λ (x : Bool). choose x noValue (boundValue (bindingAt M l))) (sym d ∙ e)
+  lookup-none zero e = ap (λ (x : Bool). choose x noValue (bindingAt M l)) (sym d ∙ e)
   lookup-none (suc k) e = ap (λ (x : Bool). choose x noValue (lookup M (boundLink (bindingAt M l)) k)) (sym d ∙ e)
 
   -- The variable is one further on.
@@ -34,9 +34,9 @@ module _ (M : Memory) (l : ℕ) (b : Bool) (d : b ≡ noLink l) where
       ap (λ (x : Bool). choose x noValue (lookup M (boundLink (bindingAt M l)) k)) (sym d ∙ e) ∙ rw (q, n)
 
   -- The variable is here.
-  pub lookup-here : (k w : ℕ) → k ≡ 0 → b ≡ false → w ≡ bindingAt M l → lookup M l k ≡ boundValue w
+  pub lookup-here : (k w : ℕ) → k ≡ 0 → b ≡ false → w ≡ bindingAt M l → lookup M l k ≡ w
   unfolding lookup
-  lookup-here k w z e q = rw z (ap (λ (x : Bool). choose x noValue (boundValue (bindingAt M l))) (sym d ∙ e) ∙ ap boundValue (sym q))
+  lookup-here k w z e q = rw z (ap (λ (x : Bool). choose x noValue (bindingAt M l)) (sym d ∙ e) ∙ sym q)
 
 -- Whether a label is among digits.
 pub digit-none : (n d l : ℕ) → n ≡ 0 → hasDigit n d l ≡ false
@@ -56,8 +56,8 @@ digit-on (suc n) d l h e = let m : suc n - 1 ≡ n = omega arith in rw (ne-eqb (
 -- What a cell holds, by the value's tag t.
 pub cell-none : (M : Memory) (v t : ℕ) → t ≡ tagOf v → (t ≡ 5 → ⊥) → readCell M v ≡ noValue
 unfolding readCell
-cell-none M v t e h = tagged-no cellTag v t (boundValue (cellAt M (v % 256))) noValue e h
+cell-none M v t e h = tagged-no cellTag v t (cellAt M (bodyOf v % 256)) noValue e h
 
-pub cell-held : (M : Memory) (v t w : ℕ) → t ≡ tagOf v → t ≡ 5 → w ≡ cellAt M (v % 256) → readCell M v ≡ boundValue w
+pub cell-held : (M : Memory) (v t b w : ℕ) → t ≡ tagOf v → t ≡ 5 → b ≡ bodyOf v → w ≡ cellAt M (b % 256) → readCell M v ≡ w
 unfolding readCell
-cell-held M v t w e h q = tagged-yes cellTag v t (boundValue (cellAt M (v % 256))) noValue e h ∙ ap boundValue (sym q)
+cell-held M v t b w e h d q = tagged-yes cellTag v t (cellAt M (bodyOf v % 256)) noValue e h ∙ (ap (λ i. cellAt M (i % 256)) (sym d) ∙ sym q)

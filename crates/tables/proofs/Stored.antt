@@ -51,7 +51,7 @@ put-first w w′ i x y e a =
     record { memory = b .memory ∙ ap (λ k. putWord k y (memoryOf w)) z; rest = b .rest }
 
 -- A pointcut's frame is its word and the byte beside it.
-pub labels-stored : (w w′ w″ : List ℕ) (i t env done digits x : ℕ) → memoryLength ≤ length w′ → i < besideCount → x ≡ frameWord pointcutFrame t env done digits → Holds (putWord (frameBase + i) x (memoryOf w)) w w′ → w″ ≡ set w′ (31240 + i) (digits / 68719476736 % 256) → Holds (putLabels i t env done digits (memoryOf w)) w w″
+pub labels-stored : (w w′ w″ : List ℕ) (i t env done digits x : ℕ) → memoryLength ≤ length w′ → i < besideCount → x ≡ frameWord pointcutFrame t env done (digits % 68719476736) → Holds (putWord (frameBase + i) x (memoryOf w)) w w′ → w″ ≡ set w′ (31240 + i) (digits / 68719476736 % 256) → Holds (putLabels i t env done digits (memoryOf w)) w w″
 labels-stored w w′ w″ i t env done digits x l h f a e =
     and-beside _ w w′ w″ i (digits / 68719476736 % 256) l h (put-as w w′ (frameBase + i) x _ f a) e
 

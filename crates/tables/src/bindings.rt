@@ -1,13 +1,14 @@
-// Bindings: value + 2^36 * piece + 2^48 * link. Links count from 1; 0 is no binding. The piece is that of the advice
+// Bindings: link + 2^16 * piece, and the value above 2^28. Links count from 1; 0 is no binding. The piece is that of the advice
 // whose variable it is, 0 for any other.
 ghost use mathlib.Core.Path.{_≡_};
 ghost use mathlib.Core.Bool.{_||_};
 ghost use Prim.Native.Nat.{_+_, _*_, _<_, _≤_};
 ghost use lib.ListN.{length};
 ghost use Rattle.area.specs.Memory.{memoryLength};
-ghost use Rattle.flat.specs.Memory.{putBinding, bindingAt, boundValue, boundPiece, boundLink, noLink};
+ghost use Rattle.flat.specs.Memory.{putBinding, bindingAt, boundPiece, boundLink, noLink};
 ghost use Rattle.flat.specs.Memory as flat;
 ghost use Rattle.tables.specs.View.{memoryOf, Holds};
+use crate::words::above;
 use crate::words::put_word;
 use crate::words::word;
 
@@ -15,7 +16,7 @@ pub fn binding(v: u64, piece: usize, link: usize) -> u64
     requires { ⌜ (piece < 4096) × (link < 65536) ⌝ }
     ensures { λ r. ⌜ r ≡ flat.binding v piece link ⌝ }
 {
-    v % 68719476736 + 68719476736 * (piece as u64) + 281474976710656 * (link as u64)
+    above(v, link as u64 + 65536 * (piece as u64))
 }
 
 // Binding i, from 0 on.
@@ -26,22 +27,16 @@ pub fn bind(work: &mut [u8], i: usize, v: u64, piece: usize, link: usize)
     put_word(work, i, binding(v, piece, link));
 }
 
-pub fn bound_value(w: u64) -> u64
-    ensures { λ r. ⌜ r ≡ boundValue w ⌝ }
-{
-    w % 68719476736
-}
-
 pub fn bound_piece(w: u64) -> usize
     ensures { λ r. ⌜ r ≡ boundPiece w ⌝ }
 {
-    (w / 68719476736 % 512) as usize
+    (w / 65536 % 512) as usize
 }
 
 pub fn bound_link(w: u64) -> usize
     ensures { λ r. ⌜ r ≡ boundLink w ⌝ }
 {
-    (w / 281474976710656) as usize
+    (w % 65536) as usize
 }
 
 // The binding that link l names.
@@ -82,5 +77,5 @@ pub fn lookup(work: &[u8], env: usize, k: u64) -> u64
     if no_link(l) {
         return values::no_value();
     }
-    bound_value(binding_at(work, l))
+    binding_at(work, l)
 }

@@ -1,12 +1,12 @@
-// Cells: value + 2^48 * note; the note is the cell's domain, and 16 more where it is plain.
+// Cells: the note, and the value above 2^28; the note is the cell's domain, and 16 more where it is plain.
 ghost use mathlib.Core.Path.{_≡_};
 ghost use Prim.Native.Nat.{_+_, _*_, _%_, _<_, _≤_};
 ghost use lib.ListN.{length};
 ghost use Rattle.area.specs.Memory.{memoryLength};
 ghost use Rattle.flat.specs.Memory.{cellAt, putCell, cellNote, readCell};
 ghost use Rattle.tables.specs.View.{memoryOf, Holds};
-use crate::bindings::bound_value;
 use crate::words::CELLS;
+use crate::words::above;
 use crate::words::put_word;
 use crate::words::word;
 
@@ -17,24 +17,17 @@ pub fn cell_at(work: &[u8], r: usize) -> u64
     word(work, CELLS + r)
 }
 
-fn cell_word(v: u64, note: u64) -> u64
-    requires { ⌜ note < 65536 ⌝ }
-    ensures { λ x. ⌜ x ≡ v % 68719476736 + 281474976710656 * note ⌝ }
-{
-    v % 68719476736 + 281474976710656 * note
-}
-
 pub fn put_cell(work: &mut [u8], r: usize, v: u64, note: u64)
     requires { ⌜ (memoryLength ≤ length (now work)) × (r < 256) × (note < 65536) ⌝ }
     ensures { λ _. ⌜ Holds (putCell r v note (memoryOf (now (work .entry)))) (now (work .entry)) (now (work .exit)) ⌝ }
 {
-    put_word(work, CELLS + r, cell_word(v, note));
+    put_word(work, CELLS + r, above(v, note));
 }
 
 pub fn cell_note(w: u64) -> u64
     ensures { λ r. ⌜ r ≡ cellNote w ⌝ }
 {
-    w / 281474976710656
+    w % 65536
 }
 
 // What the cell holds that a value refers to; no value where it refers to none.
@@ -45,5 +38,5 @@ pub fn read_cell(work: &[u8], v: u64) -> u64
     if values::tag(v) != values::CELL {
         return values::no_value();
     }
-    bound_value(cell_at(work, (v % 256) as usize))
+    cell_at(work, (values::body(v) % 256) as usize)
 }

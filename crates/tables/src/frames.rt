@@ -25,19 +25,15 @@ pub const LOWER: u64 = 3;
 pub const ADVICE: u64 = 4;
 
 pub fn frame_word(kind: u64, t: usize, env: usize, done: u64, held: u64) -> u64
-    requires { ⌜ (kind < 8) × (t < 1024) × (env < 4096) ⌝ }
+    requires { ⌜ (kind < 8) × (t < 1024) × (env < 4096) × (held < 68719476736) ⌝ }
     ensures { λ r. ⌜ r ≡ frameWord kind t env done held ⌝ }
 {
-    (env as u64)
-        + 4096 * (t as u64)
-        + 4194304 * kind
-        + 33554432 * (done % 8)
-        + 268435456 * (held % 68719476736)
+    (env as u64) + 4096 * (t as u64) + 4194304 * kind + 33554432 * (done % 8) + 268435456 * held
 }
 
 // Frame i, from 0 on, of a term t in an environment.
 pub fn put_frame(work: &mut [u8], i: usize, kind: u64, t: usize, env: usize, held: u64)
-    requires { ⌜ (memoryLength ≤ length (now work)) × (i < 513) × (kind < 8) × (t < 1024) × (env < 4096) ⌝ }
+    requires { ⌜ (memoryLength ≤ length (now work)) × (i < 513) × (kind < 8) × (t < 1024) × (env < 4096) × (held < 68719476736) ⌝ }
     ensures { λ _. ⌜ Holds (putFrame i (frameWord kind t env 0 held) (memoryOf (now (work .entry)))) (now (work .entry)) (now (work .exit)) ⌝ }
 {
     put_word(work, FRAMES + i, frame_word(kind, t, env, 0, held));
@@ -93,7 +89,11 @@ pub fn put_labels(work: &mut [u8], i: usize, t: usize, env: usize, done: u64, di
     requires { ⌜ (memoryLength ≤ length (now work)) × (i < 513) × (t < 1024) × (env < 4096) ⌝ }
     ensures { λ _. ⌜ Holds (putLabels i t env done digits (memoryOf (now (work .entry)))) (now (work .entry)) (now (work .exit)) ⌝ }
 {
-    put_word(work, FRAMES + i, frame_word(POINTCUT, t, env, done, digits));
+    put_word(
+        work,
+        FRAMES + i,
+        frame_word(POINTCUT, t, env, done, digits % 68719476736),
+    );
     put_beside(work, i, digits);
 }
 

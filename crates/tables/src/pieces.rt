@@ -38,7 +38,7 @@ pub fn piece_second(work: &[u8], p: usize) -> u64
 pub fn piece_of(v: u64) -> usize
     ensures { λ r. ⌜ r ≡ pieceOf v ⌝ }
 {
-    (v % 512) as usize
+    (values::body(v) % 512) as usize
 }
 
 pub fn labels_word(digits: u64, n: u64) -> u64
@@ -102,7 +102,7 @@ pub fn installed_at(work: &[u8], i: usize) -> usize
     requires { ⌜ (memoryLength ≤ length (now work)) × (i < 64) ⌝ }
     ensures { λ r. ⌜ r ≡ installedAt (memoryOf (now (work .entry))) i ⌝ }
 {
-    piece_of(word(work, INSTALLED + i))
+    (word(work, INSTALLED + i) % 512) as usize
 }
 
 pub fn put_installed(work: &mut [u8], i: usize, p: usize)

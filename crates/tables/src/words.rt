@@ -4,6 +4,7 @@ ghost use Prim.Native.Nat.{_+_, _*_, _<_, _≤_};
 ghost use lib.ListN.{length};
 ghost use Rattle.area.specs.Memory.{memoryLength, wordCount};
 ghost use Rattle.flat.specs.Memory.{wordAt, putWord};
+ghost use Rattle.flat.specs.Memory as flat;
 ghost use Rattle.tables.specs.View.{memoryOf, Holds};
 
 // Where each table begins, in words; the single bytes beside the frames, in bytes.
@@ -24,6 +25,20 @@ pub fn word(work: &[u8], i: usize) -> u64
     ensures { λ r. ⌜ r ≡ wordAt (memoryOf (now (work .entry))) i ⌝ }
 {
     area::load(work, i)
+}
+
+// The tag and body of a value; and they above 2^28, x below.
+pub fn upper(v: u64) -> u64
+    ensures { λ r. ⌜ (r ≡ flat.upper v) × (r < 68719476736) ⌝ }
+{
+    v / 268435456
+}
+
+pub fn above(v: u64, x: u64) -> u64
+    requires { ⌜ x < 268435456 ⌝ }
+    ensures { λ r. ⌜ r ≡ flat.above v x ⌝ }
+{
+    x + 268435456 * (v / 268435456)
 }
 
 pub fn put_word(work: &mut [u8], i: usize, v: u64)

@@ -1,8 +1,9 @@
 -- The pass over the terms, child by child, with no fuel.
 use Prim.Native.Nat.{ℕ, suc, _+_, _≤_, _<_}
+use native.Mathlib.Omega.{arith}
 use native.Mathlib.Numerals.{add-one}
 use mathlib.Core.Path.{_≡_, refl, sym, ap, _∙_}
-use mathlib.Core.Bool.{true, false}
+use mathlib.Core.Bool.{Bool, true, false}
 use mathlib.Core.List.{List, _∷_}
 use mathlib.Core.Option.{Option, none, some}
 use lib.ListN.{length, getD, take, drop, drop-of-length-le}
@@ -69,6 +70,14 @@ module _ (L : Layout) (good : Good L) where
 pub accepted-is : (v : Verdict) → isRefused v ≡ false → v ≡ Verdict.Accepted
 accepted-is Verdict.Accepted h = refl
 accepted-is (Verdict.Refused r o) h = no-path h
+
+-- A term without children is checked once its rule is.
+pub childless-checked : (L : Layout) (good : Good L) (p : Setting ℕ) (n : ℕ) → n < length (L .terms) → length (children L n) ≡ 0 → ruleVerdict L p n ≡ checked L p n
+childless-checked L good p n t h = go (isRefused (ruleVerdict L p n)) refl
+  where
+    go : (x : Bool) → isRefused (ruleVerdict L p n) ≡ x → ruleVerdict L p n ≡ checked L p n
+    go true e = refused-here L good p n t e
+    go false e = let a = accepted-is (ruleVerdict L p n) e in a ∙ finish L good p n t 0 (omega arith) ∙ start L good p n t a
 
 -- What is kept of a scope is kept of its first places.
 take-fewer : (m n : ℕ) (xs ys : List ℕ) → m ≤ n → take n xs ≡ take n ys → take m xs ≡ take m ys

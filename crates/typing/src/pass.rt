@@ -2,9 +2,11 @@
 use crate::scope::child_setting;
 use records::numbers::DomainNo;
 use records::numbers::TermNo;
+use rules::rule::check_leaf_kind;
 use rules::rule::check_rule;
 use rules::terms::child;
 use rules::terms::child_count;
+use rules::terms::term_kind;
 use verdicts::Verdict;
 use verdicts::is_refused;
 ghost use mathlib.Core.Path.{_≡_};
@@ -15,8 +17,8 @@ ghost use Rattle.verdicts.specs.Check.{checked};
 ghost use Rattle.records.specs.Codes.{kindCodes};
 ghost use Rattle.rules.specs.Lent.{Lent, Masks, IsTerm, settingIn};
 
-// A term and the terms below it. Each level goes to a lower number and binds two variables at most, which bounds the places
-// of the scope that are used.
+// A term and the terms below it; its children that are constants or variables, which have none, are checked in place. Each
+// level goes to a lower number and binds two variables at most, which bounds the places of the scope that are used.
 pub fn check_term(
     image: &[u8],
     kinds: &[u32],
@@ -42,9 +44,17 @@ pub fn check_term(
         let s = child_setting(image, kinds, terms, keys, scope, len, c, n, i);
         let inner = s.len;
         let dom = s.dom;
-        let r = check_term(image, kinds, masks, terms, keys, scope, inner, dom, e);
-        if is_refused(r) {
-            return r;
+        let kind = term_kind(image, terms, e);
+        if kind < 36 {
+            let r = check_leaf_kind(image, terms, keys, scope, inner, kind, e);
+            if is_refused(r) {
+                return r;
+            }
+        } else {
+            let r = check_term(image, kinds, masks, terms, keys, scope, inner, dom, e);
+            if is_refused(r) {
+                return r;
+            }
         }
         i += 1;
     }

@@ -1,4 +1,5 @@
-// An inner crate: the machine's values as words of 64 bits, a body of 32 bits and a tag, body + 2^32 * tag.
+// An inner crate: the machine's values as words of 64 bits, a tag of 4 bits and a body of 32 bits, 2^28 * tag + 2^32 * body;
+// the low 28 bits say nothing, so a word of a table that holds a value is one.
 ghost use mathlib.Core.Path.{_≡_};
 ghost use Prim.Native.Nat.{_+_, _<_, _≤_};
 ghost use Rattle.calculus.specs.Numbers.{isLess, frameByte};
@@ -27,42 +28,42 @@ pub const ADVICE: u64 = 8;
 pub const NOTHING: u64 = 15;
 
 pub fn value(tag: u64, body: u64) -> u64
-    requires { ⌜ (tag < 4294967296) × (body < 4294967296) ⌝ }
+    requires { ⌜ (tag < 16) × (body < 4294967296) ⌝ }
     ensures { λ r. ⌜ r ≡ flat.value tag body ⌝ }
 {
-    body + 4294967296 * tag
+    268435456 * tag + 4294967296 * body
 }
 
 pub fn tag(v: u64) -> u64
     ensures { λ r. ⌜ r ≡ tagOf v ⌝ }
 {
-    v / 4294967296
+    v / 268435456 % 16
 }
 
 pub fn body(v: u64) -> u64
     ensures { λ r. ⌜ r ≡ bodyOf v ⌝ }
 {
-    v % 4294967296
+    v / 4294967296
 }
 
 // No value: a variable without a binding, or an operand of a wrong kind.
 pub fn no_value() -> u64
     ensures { λ r. ⌜ r ≡ noValue ⌝ }
 {
-    64424509440
+    4026531840
 }
 
 pub fn number(n: u64) -> u64
     requires { ⌜ n < 4294967296 ⌝ }
     ensures { λ r. ⌜ r ≡ flat.numberValue n ⌝ }
 {
-    n + 8589934592
+    4294967296 * n + 536870912
 }
 
 pub fn truth(b: bool) -> u64
     ensures { λ r. ⌜ r ≡ truthValue b ⌝ }
 {
-    if b { 4294967297 } else { 4294967296 }
+    if b { 4563402752 } else { 268435456 }
 }
 
 // A function's value over an environment.
@@ -70,7 +71,7 @@ pub fn function(env: usize, term: u64) -> u64
     requires { ⌜ (env < 65536) × (term < 65536) ⌝ }
     ensures { λ r. ⌜ r ≡ functionValue env term ⌝ }
 {
-    65536 * (env as u64) + term + 12884901888
+    4294967296 * (65536 * (env as u64) + term) + 805306368
 }
 
 // Plus and minus wrap modulo 2^32.
@@ -89,11 +90,11 @@ fn difference(x: u64, y: u64) -> u64
 }
 
 // A pattern with its sign bit flipped: signed numbers are ordered as these are.
-fn flipped(x: u64) -> u64
+fn flipped(x: u64) -> u32
     requires { ⌜ x < 4294967296 ⌝ }
     ensures { λ r. ⌜ r ≡ numbers.flipped x ⌝ }
 {
-    (x + 2147483648) % 4294967296
+    std::num::wrapping_add_u32(x as u32, 2147483648)
 }
 
 fn less(x: u64, y: u64) -> bool
@@ -104,7 +105,7 @@ fn less(x: u64, y: u64) -> bool
 }
 
 // Operation op over two numbers: 0 plus, 1 minus, 2 less, any other equal.
-fn operate(op: u64, x: u64, y: u64) -> u64
+pub fn operate(op: u64, x: u64, y: u64) -> u64
     requires { ⌜ (x < 4294967296) × (y < 4294967296) ⌝ }
     ensures { λ r. ⌜ r ≡ flat.operate op x y ⌝ }
 {

@@ -71,7 +71,7 @@ stuck-requires c κs = search needs
 
 returns : tie.Need-returns
 unfolding reduceKind
-returns c = let a = c .before .before .before .before .before .before .args in kind-made (now (a .frame)) (now (a .work)) _ (now (a .log)) (a .r) _ _ (c .before .before .kind .ensures) (c .before .before .before .before .before .before .pre .2) 36 reduceSeq (c .before .match .keys1) (λ S. refl) (c .reduce-seq .ensures (now (a .work)))
+returns c = let a = c .before .before .before .before .before .before .args in kind-made (now (a .frame)) (now (a .work)) _ (now (a .log)) (a .r) _ _ (c .before .before .kind .ensures) (c .before .before .before .before .before .before .pre .2) 41 reduceSeq (c .before .match .keys1) (λ S. refl) (c .reduce-seq .ensures (now (a .work)))
 
 same-length : tie.Need-same-length
 same-length c = search needs
@@ -82,50 +82,50 @@ returns-2 c = let a = c .before .before .before .before .before .before .before 
 
 returns-3 : tie.Need-returns-3
 unfolding reduceKind
-returns-3 c = let a = c .before .before .before .before .before .before .args in kind-made (now (a .frame)) (now (a .work)) _ (now (a .log)) (a .r) _ _ (c .before .before .kind .ensures) (c .before .before .before .before .before .before .pre .2) 38 reduceIf (c .before .match .keys3) (λ S. refl) (c .reduce-if .ensures (now (a .work)))
+returns-3 c = let a = c .before .before .before .before .before .before .args in kind-made (now (a .frame)) (now (a .work)) _ (now (a .log)) (a .r) _ _ (c .before .before .kind .ensures) (c .before .before .before .before .before .before .pre .2) 43 reduceIf (c .before .match .keys3) (λ S. refl) (c .reduce-if .ensures (now (a .work)))
 
 same-length-2 : tie.Need-same-length-2
 same-length-2 c = search needs
 
 returns-4 : tie.Need-returns-4
 unfolding reduceKind
-returns-4 c = let a = c .before .before .before .before .before .before .before .before .before .args in kind-made (now (a .frame)) (now (a .work)) _ (now (a .log)) (a .r) _ _ (c .before .before .before .before .before .kind .ensures) (c .before .before .before .before .before .before .before .before .before .pre .2) 39 reducePair (c .before .before .before .before .match .keys4) (λ S. refl) (c .before .before .reduce-pair .ensures)
+returns-4 c = let a = c .before .before .before .before .before .before .before .before .before .args in kind-made (now (a .frame)) (now (a .work)) _ (now (a .log)) (a .r) _ _ (c .before .before .before .before .before .kind .ensures) (c .before .before .before .before .before .before .before .before .before .pre .2) 64 reducePair (c .before .before .before .before .match .keys4) (λ S. refl) (c .before .before .reduce-pair .ensures)
 
 same-length-3 : tie.Need-same-length-3
 same-length-3 c = search needs
 
 returns-5 : tie.Need-returns-5
 unfolding reduceKind
-returns-5 c = let a = c .before .before .before .before .before .before .before .before .before .args in kind-made (now (a .frame)) (now (a .work)) _ (now (a .log)) (a .r) _ _ (c .before .before .before .before .before .kind .ensures) (c .before .before .before .before .before .before .before .before .before .pre .2) 40 reduceSplit (c .before .before .before .before .match .keys5) (λ S. refl) (c .before .before .reduce-split .ensures)
+returns-5 c = let a = c .before .before .before .before .before .before .before .before .before .args in kind-made (now (a .frame)) (now (a .work)) _ (now (a .log)) (a .r) _ _ (c .before .before .before .before .before .kind .ensures) (c .before .before .before .before .before .before .before .before .before .pre .2) 44 reduceSplit (c .before .before .before .before .match .keys5) (λ S. refl) (c .before .before .reduce-split .ensures)
 
 same-length-4 : tie.Need-same-length-4
 same-length-4 c = search needs
 
 returns-6 : tie.Need-returns-6
 unfolding reduceKind
-returns-6 c = let a = c .before .before .before .before .before .before .before .before .before .args in kind-made (now (a .frame)) (now (a .work)) _ (now (a .log)) (a .r) _ _ (c .before .before .before .before .before .kind .ensures) (c .before .before .before .before .before .before .before .before .before .pre .2) 42 reduceApply (c .before .before .before .before .match .keys6) (λ S. refl) (c .before .before .reduce-apply .ensures)
+returns-6 c = let a = c .before .before .before .before .before .before .before .before .before .args in kind-made (now (a .frame)) (now (a .work)) _ (now (a .log)) (a .r) _ _ (c .before .before .before .before .before .kind .ensures) (c .before .before .before .before .before .before .before .before .before .pre .2) 65 reduceApply (c .before .before .before .before .match .keys6) (λ S. refl) (c .before .before .reduce-apply .ensures)
 
 returns-7 : tie.Need-returns-7
 unfolding reduceKind
-returns-7 c = let a = c .before .before .before .before .before .before .args in kind-made (now (a .frame)) (now (a .work)) _ (now (a .log)) (a .r) _ _ (c .before .before .kind .ensures) (c .before .before .before .before .before .before .pre .2) 43 reduceArithmetic (c .before .match .keys7) (λ S. refl) (c .reduce-arithmetic .ensures (now (a .work)))
+returns-7 c = let a = c .before .before .before .before .before .before .args in kind-made (now (a .frame)) (now (a .work)) _ (now (a .log)) (a .r) _ _ (c .before .before .kind .ensures) (c .before .before .before .before .before .before .pre .2) 66 reduceArithmetic (c .before .match .keys7) (λ S. refl) (c .reduce-arithmetic .ensures (now (a .work)))
 
 returns-8 : tie.Need-returns-8
 unfolding reduceKind
-returns-8 c = let a = c .before .before .before .before .before .before .args in kind-made (now (a .frame)) (now (a .work)) _ (now (a .log)) (a .r) _ _ (c .before .before .kind .ensures) (c .before .before .before .before .before .before .pre .2) 44 reduceLabel (c .before .match .keys8) (λ S. refl) (c .reduce-label .ensures (now (a .work)))
+returns-8 c = let a = c .before .before .before .before .before .before .args in kind-made (now (a .frame)) (now (a .work)) _ (now (a .log)) (a .r) _ _ (c .before .before .kind .ensures) (c .before .before .before .before .before .before .pre .2) 37 reduceLabel (c .before .match .keys8) (λ S. refl) (c .reduce-label .ensures (now (a .work)))
 
 same-length-5 : tie.Need-same-length-5
 same-length-5 c = search needs
 
 returns-9 : tie.Need-returns-9
 unfolding reduceKind
-returns-9 c = let a = c .before .before .before .before .before .before .before .before .before .args in kind-made (now (a .frame)) (now (a .work)) _ (now (a .log)) (a .r) _ _ (c .before .before .before .before .before .kind .ensures) (c .before .before .before .before .before .before .before .before .before .pre .2) 45 reduceMark (c .before .before .before .before .match .keys9) (λ S. refl) (c .before .before .reduce-mark .ensures)
+returns-9 c = let a = c .before .before .before .before .before .before .before .before .before .args in kind-made (now (a .frame)) (now (a .work)) _ (now (a .log)) (a .r) _ _ (c .before .before .before .before .before .kind .ensures) (c .before .before .before .before .before .before .before .before .before .pre .2) 67 reduceMark (c .before .before .before .before .match .keys9) (λ S. refl) (c .before .before .reduce-mark .ensures)
 
 same-length-6 : tie.Need-same-length-6
 same-length-6 c = search needs
 
 returns-10 : tie.Need-returns-10
 unfolding reduceKind
-returns-10 c = let a = c .before .before .before .before .before .before .before .before .before .args in kind-made (now (a .frame)) (now (a .work)) _ (now (a .log)) (a .r) _ _ (c .before .before .before .before .before .kind .ensures) (c .before .before .before .before .before .before .before .before .before .pre .2) 46 reducePointcut (c .before .before .before .before .match .keys10) (λ S. refl) (c .before .before .reduce-pointcut .ensures)
+returns-10 c = let a = c .before .before .before .before .before .before .before .before .before .args in kind-made (now (a .frame)) (now (a .work)) _ (now (a .log)) (a .r) _ _ (c .before .before .before .before .before .kind .ensures) (c .before .before .before .before .before .before .before .before .before .pre .2) 38 reducePointcut (c .before .before .before .before .match .keys10) (λ S. refl) (c .before .before .reduce-pointcut .ensures)
 
 same-length-7 : tie.Need-same-length-7
 same-length-7 c = search needs
@@ -160,15 +160,15 @@ same-length-11 c = search needs
 
 returns-15 : tie.Need-returns-15
 unfolding reduceKind
-returns-15 c = let a = c .before .before .before .before .before .before .before .before .before .args in kind-made (now (a .frame)) (now (a .work)) _ (now (a .log)) (a .r) _ _ (c .before .before .before .before .before .kind .ensures) (c .before .before .before .before .before .before .before .before .before .pre .2) 51 reduceStore (c .before .before .before .before .match .keys15) (λ S. refl) (c .before .before .reduce-store .ensures)
+returns-15 c = let a = c .before .before .before .before .before .before .before .before .before .args in kind-made (now (a .frame)) (now (a .work)) _ (now (a .log)) (a .r) _ _ (c .before .before .before .before .before .kind .ensures) (c .before .before .before .before .before .before .before .before .before .pre .2) 68 reduceStore (c .before .before .before .before .match .keys15) (λ S. refl) (c .before .before .reduce-store .ensures)
 
 returns-16 : tie.Need-returns-16
 unfolding reduceKind
-returns-16 c = let a = c .before .before .before .before .before .before .args in kind-made (now (a .frame)) (now (a .work)) _ (now (a .log)) (a .r) _ _ (c .before .before .kind .ensures) (c .before .before .before .before .before .before .pre .2) 52 reduceLower (c .before .match .keys16) (λ S. refl) (c .reduce-lower .ensures (now (a .work)))
+returns-16 c = let a = c .before .before .before .before .before .before .args in kind-made (now (a .frame)) (now (a .work)) _ (now (a .log)) (a .r) _ _ (c .before .before .kind .ensures) (c .before .before .before .before .before .before .pre .2) 39 reduceLower (c .before .match .keys16) (λ S. refl) (c .reduce-lower .ensures (now (a .work)))
 
 returns-17 : tie.Need-returns-17
 unfolding reduceKind
-returns-17 c = let a = c .before .before .before .before .before .before .args in kind-made (now (a .frame)) (now (a .work)) _ (now (a .log)) (a .r) _ _ (c .before .before .kind .ensures) (c .before .before .before .before .before .before .pre .2) 53 reduceAbort (c .before .match .keys17) (λ S. refl) (c .reduce-abort .ensures (now (a .work)))
+returns-17 c = let a = c .before .before .before .before .before .before .args in kind-made (now (a .frame)) (now (a .work)) _ (now (a .log)) (a .r) _ _ (c .before .before .kind .ensures) (c .before .before .before .before .before .before .pre .2) 40 reduceAbort (c .before .match .keys17) (λ S. refl) (c .reduce-abort .ensures (now (a .work)))
 
 returns-18 : tie.Need-returns-18
 unfolding reduceKind

@@ -2,13 +2,14 @@
 use borrow.Author.Needs.{needs}
 use Prim.Native.Nat.{ℕ, _+_, _-_, _≤_}
 use native.Mathlib.Omega.{arith}
-use mathlib.Core.Path.{_≡_, sym, ap, _∙_}
+use mathlib.Core.Path.{_≡_, sym, ap, subst, _∙_}
 use mathlib.Core.List.{List}
 use mathlib.Core.Option.{none}
 use lib.ListN.{length, take, drop}
 use denote.Ref.{now}
 use Rattle.image.specs.Tests.{firstFault}
-use Rattle.records.specs.Codes.{sectionOf, countOf, codeAt}
+use Rattle.records.specs.Codes.{sectionOf, countOf, codeAt, Sized}
+use Rattle.records.proofs.Codes.{code-sized}
 use Rattle.records.proofs.Heads.{Whole, whole-of}
 use Rattle.layout.specs.Fields.{KeyFrom}
 use Rattle.layout.specs.Numbers.{numberTests, toldOf}
@@ -117,7 +118,8 @@ first-fault-requires c κs =
     let W = whole s in
     let h = s .pre .short in
     let z = lent-length (now (s .args .image)) (s .args .at) (s .args .len) (W .long) (W .inside) in
-    (omega arith, s .pre .tables .sizes)
+    let e = c .before .before .before .code-of .ensures in
+    (omega arith, s .pre .tables .sizes, subst Sized (sym e) (code-sized (s .args .kind) (λ q. (c .before .before .if1 .left) (e ∙ q))))
 
 enum-known-tested : tie.Need-enum-known-tested
 enum-known-tested c = search needs

@@ -20,6 +20,9 @@ sub-label-digits c = search needs
 label-digits-requires : tie.Need-label-digits-requires
 label-digits-requires c κs = search needs
 
+body-requires : tie.Need-body-requires
+body-requires c κs = search needs
+
 with-label-requires : tie.Need-with-label-requires
 with-label-requires c κs = search needs
 
@@ -45,7 +48,7 @@ labels-state-requires : tie.Need-labels-state-requires
 labels-state-requires c κs = search needs
 
 returns-2 : tie.Need-returns-2
-returns-2 c = let a = c .before .before .before .before .before .before .before .before .before .before .before .before .before .args in λ log. one-label (a .f) (now (a .work)) log (a .r) _ (c .before .before .before .before .before .before .before .before .before .before .before .tag .ensures) (c .before .before .before .before .before .same .result) _ _ _ _ _ _ (c .before .before .before .before .before .before .before .before .before .before .if1 .left) (c .before .before .before .before .before .same .ensures) (c .before .before .before .before .before .before .before .before .label-digits .ensures) (c .before .before .before .before .before .before .with-label .ensures) (c .before .before .before .frame-env .ensures) (c .before .before .frame-term .ensures) (c .before .frame-done .ensures) (c .labels-state .ensures)
+returns-2 c = let a = c .before .before .before .before .before .before .before .before .before .before .before .before .before .args in λ log. one-label (a .f) (now (a .work)) log (a .r) _ (c .before .before .before .before .before .before .before .before .before .before .before .tag .ensures) (c .before .before .before .before .before .same .result) _ _ _ _ _ _ _ (c .before .before .before .before .before .before .before .before .before .before .if1 .left) (c .before .before .before .before .before .same .ensures) (c .before .before .before .before .before .before .before .before .label-digits .ensures) (c .before .before .before .before .before .before .before .body .ensures) (c .before .before .before .before .before .before .with-label .ensures) (c .before .before .before .frame-env .ensures) (c .before .before .frame-term .ensures) (c .before .frame-done .ensures) (c .labels-state .ensures)
 
 pub resume-labels-spec : {M : Type 1} → statement M
 resume-labels-spec =
@@ -56,6 +59,7 @@ resume-labels-spec =
     returns
     sub-label-digits
     label-digits-requires
+    body-requires
     with-label-requires
     same-requires
     sub-q

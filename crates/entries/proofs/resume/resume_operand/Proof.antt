@@ -26,20 +26,17 @@ shared-slice-read-q c = search needs
 frame-kind-requires : tie.Need-frame-kind-requires
 frame-kind-requires c κs = search needs
 
+returns : tie.Need-returns
+returns c = let a = c .before .before .before .before .before .before .before .before .args in λ image. second-back (now (a .rows)) image (a .f) (a .r) (c .before .before .before .before .before .same .result) _ _ _ (c .before .before .before .before .before .same .ensures) (c .before .frame-kind .ensures) (c .before .before .before .before .before .before .frame-term .ensures) (c .before .before .before .frame-env .ensures) (c .if1 .taken)
+
 frame-held-requires : tie.Need-frame-held-requires
 frame-held-requires c κs = search needs
-
-returns : tie.Need-returns
-returns c = let a = c .before .before .before .before .before .before .before .before .before .args in λ image. second-back (now (a .rows)) image (a .f) (a .r) (c .before .before .before .before .before .before .same .result) _ _ _ (c .before .before .before .before .before .before .same .ensures) (c .before .before .frame-kind .ensures) (c .before .before .before .before .before .before .before .frame-term .ensures) (c .before .before .before .before .frame-env .ensures) _ (c .before .if1 .taken) (c .frame-held .ensures)
-
-frame-held-requires-2 : tie.Need-frame-held-requires-2
-frame-held-requires-2 c κs = search needs
 
 after-first-requires : tie.Need-after-first-requires
 after-first-requires c κs = search needs
 
 returns-2 : tie.Need-returns-2
-returns-2 c = let a = c .before .before .before .before .before .before .before .before .before .before .before .args in λ image. lower-back (now (a .rows)) image (a .f) (a .r) (c .before .before .before .before .before .before .before .before .same .result) _ _ _ (c .before .before .before .before .before .before .before .before .same .ensures) (c .before .before .before .before .frame-kind .ensures) (c .before .before .before .before .before .before .before .before .before .frame-term .ensures) (c .before .before .before .before .before .before .frame-env .ensures) _ _ (c .before .before .before .if1 .left) (c .before .before .if2 .taken) (c .before .frame-held2 .ensures) (c .after-first .ensures)
+returns-2 c = let a = c .before .before .before .before .before .before .before .before .before .before .before .args in λ image. lower-back (now (a .rows)) image (a .f) (a .r) (c .before .before .before .before .before .before .before .before .same .result) _ _ _ (c .before .before .before .before .before .before .before .before .same .ensures) (c .before .before .before .before .frame-kind .ensures) (c .before .before .before .before .before .before .before .before .before .frame-term .ensures) (c .before .before .before .before .before .before .frame-env .ensures) _ _ (c .before .before .before .if1 .left) (c .before .before .if2 .taken) (c .before .frame-held .ensures) (c .after-first .ensures)
 
 after-first-requires-2 : tie.Need-after-first-requires-2
 after-first-requires-2 c κs = search needs
@@ -58,9 +55,8 @@ resume-operand-spec =
     mul-q
     shared-slice-read-q
     frame-kind-requires
-    frame-held-requires
     returns
-    frame-held-requires-2
+    frame-held-requires
     after-first-requires
     returns-2
     after-first-requires-2

@@ -1,5 +1,5 @@
 -- A wrong operand; no room for the bindings; no matching advice; or the advice is to run.
-use Rattle.marks.proofs.Marked.{marked, mark-made, over-made, none-made, some-made}
+use Rattle.marks.proofs.Marked.{marked, mark-made, label-of, over-made, none-made, some-made}
 use Rattle.reductions.proofs.Reduced.{stuck-made, tagged-made}
 use denote.Ref.{now}
 use borrow.Author.Needs.{needs}
@@ -15,6 +15,9 @@ stuck-requires c κs = search needs
 returns : tie.Need-returns
 returns c = let a = c .before .before .before .before .args in mark-made (now (a .work)) (now (a .work)) (a .r) _ (stuck-made 6 marked (now (a .work)) (now (a .work)) (a .r) _ _ (c .before .before .tag .ensures) (c .before .if1 .taken) (c .stuck .ensures))
 
+body-requires : tie.Need-body-requires
+body-requires c κs = search needs
+
 bind-matching-requires : tie.Need-bind-matching-requires
 bind-matching-requires c κs = search needs
 
@@ -25,7 +28,7 @@ same-length : tie.Need-same-length
 same-length c = search needs
 
 returns-2 : tie.Need-returns-2
-returns-2 c = let a = c .before .before .before .before .before .before .before .before .before .before .args in mark-made (now (a .work)) _ (a .r) _ (tagged-made 6 marked (now (a .work)) _ (a .r) _ _ (c .before .before .before .before .before .before .before .before .tag .ensures) (c .before .before .before .before .before .before .before .if1 .left) (over-made (now (a .work)) _ (a .r) _ _ (c .before .before .before .before .bind-matching .ensures .0) (c .before .if2 .taken) (c .halt .ensures)))
+returns-2 c = let a = c .before .before .before .before .before .before .before .before .before .before .args in mark-made (now (a .work)) _ (a .r) _ (tagged-made 6 marked (now (a .work)) _ (a .r) _ _ (c .before .before .before .before .before .before .before .before .tag .ensures) (c .before .before .before .before .before .before .before .if1 .left) (over-made (now (a .work)) _ (a .r) _ _ (label-of (now (a .work)) _ (a .r) _ _ (c .before .before .before .before .before .body .ensures) (c .before .before .before .before .bind-matching .ensures .0)) (c .before .if2 .taken) (c .halt .ensures)))
 
 give-requires : tie.Need-give-requires
 give-requires c κs = search needs
@@ -34,7 +37,7 @@ same-length-2 : tie.Need-same-length-2
 same-length-2 c = search needs
 
 returns-3 : tie.Need-returns-3
-returns-3 c = let a = c .before .before .before .before .before .before .before .before .before .before .before .before .args in mark-made (now (a .work)) _ (a .r) _ (tagged-made 6 marked (now (a .work)) _ (a .r) _ _ (c .before .before .before .before .before .before .before .before .before .before .tag .ensures) (c .before .before .before .before .before .before .before .before .before .if1 .left) (none-made (now (a .work)) _ (a .r) _ _ (c .before .before .before .before .before .before .bind-matching .ensures .0) (c .before .before .before .if2 .left) (c .before .if3 .taken) (c .give .ensures)))
+returns-3 c = let a = c .before .before .before .before .before .before .before .before .before .before .before .before .args in mark-made (now (a .work)) _ (a .r) _ (tagged-made 6 marked (now (a .work)) _ (a .r) _ _ (c .before .before .before .before .before .before .before .before .before .before .tag .ensures) (c .before .before .before .before .before .before .before .before .before .if1 .left) (none-made (now (a .work)) _ (a .r) _ _ (label-of (now (a .work)) _ (a .r) _ _ (c .before .before .before .before .before .before .before .body .ensures) (c .before .before .before .before .before .before .bind-matching .ensures .0)) (c .before .before .before .if2 .left) (c .before .if3 .taken) (c .give .ensures)))
 
 run-advice-requires : tie.Need-run-advice-requires
 run-advice-requires c κs = search needs
@@ -43,7 +46,7 @@ same-length-3 : tie.Need-same-length-3
 same-length-3 c = search needs
 
 returns-4 : tie.Need-returns-4
-returns-4 c = let a = c .before .before .before .before .before .before .before .before .before .before .before .before .args in mark-made (now (a .work)) _ (a .r) _ (tagged-made 6 marked (now (a .work)) _ (a .r) _ _ (c .before .before .before .before .before .before .before .before .before .before .tag .ensures) (c .before .before .before .before .before .before .before .before .before .if1 .left) (some-made (now (a .work)) _ (a .r) _ _ (c .before .before .before .before .before .before .bind-matching .ensures .0) (c .before .before .before .if2 .left) (c .before .if3 .left) (c .run-advice .ensures)))
+returns-4 c = let a = c .before .before .before .before .before .before .before .before .before .before .before .before .args in mark-made (now (a .work)) _ (a .r) _ (tagged-made 6 marked (now (a .work)) _ (a .r) _ _ (c .before .before .before .before .before .before .before .before .before .before .tag .ensures) (c .before .before .before .before .before .before .before .before .before .if1 .left) (some-made (now (a .work)) _ (a .r) _ _ (label-of (now (a .work)) _ (a .r) _ _ (c .before .before .before .before .before .before .before .body .ensures) (c .before .before .before .before .before .before .bind-matching .ensures .0)) (c .before .before .before .if2 .left) (c .before .if3 .left) (c .run-advice .ensures)))
 
 pub reduce-mark-spec : {M : Type 1} → statement M
 reduce-mark-spec =
@@ -52,6 +55,7 @@ reduce-mark-spec =
     tag-requires
     stuck-requires
     returns
+    body-requires
     bind-matching-requires
     halt-requires
     same-length

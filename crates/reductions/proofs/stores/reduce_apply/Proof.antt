@@ -1,7 +1,7 @@
 -- A wrong operand; the argument bound and the body going on; or no room is left.
 use Rattle.reductions.proofs.Reduced.{stuck-made, tagged-made, full-made, room-made, bound-fits, below-1024, one-more}
 use Rattle.operands.proofs.Made.{stored-made}
-use Rattle.flat.specs.States.{State}
+use Rattle.flat.specs.States.{State, goOn}
 use lib.Dec.{ltb}
 use Prim.Native.Nat.{ℕ, _+_, _/_, _%_}
 use Rattle.tables.specs.View.{memoryOf, Holds}
@@ -11,7 +11,8 @@ use Rattle.flat.specs.declared.Regs.{Regs}
 use Rattle.calculus.specs.declared.Outcome.{Outcome}
 use denote.Ref.{now}
 use borrow.Author.Tests.{lt-ltb, le-ltb}
-use mathlib.Core.Path.{refl, ap, subst}
+use mathlib.Core.Path.{refl, ap, subst, _∙_}
+use Rattle.flat.specs.Values.{bodyOf}
 use borrow.Author.Needs.{needs}
 use Rattle.reductions.proofs.stores.reduce_apply.Statement.{statement}
 use Rattle.reductions.proofs.stores.reduce_apply.Tie as tie
@@ -44,7 +45,7 @@ same-length : tie.Need-same-length
 same-length c = search needs
 
 returns-2 : tie.Need-returns-2
-returns-2 c = let a = c .before .before .before .before .before .before .before .before .before .before .before .before .before .before .args in tagged-made 3 _ (now (a .work)) _ (a .r) _ _ (c .before .before .before .before .before .before .before .before .before .before .before .before .tag .ensures) (c .before .before .before .before .before .before .before .before .before .before .before .if1 .left) (room-made (λ (S : State). ltb (S .regs .nb) 2048) Outcome.Bindings _ (now (a .work)) _ (a .r) _ (λ log. lt-ltb (a .r .nb) 2048 (c .before .before .before .before .before .before .before .before .before .if2 .taken)) (stored-made _ _ (now (a .work)) _ (a .r) _ _ (λ log. refl) (ap (λ (q : Regs). setEnv (a .r .nb + 1) (setNb (a .r .nb + 1) q)) (c .before .before .go-on .ensures)) (subst (λ (x : ℕ). Holds (putBinding (a .r .nb) (binding (a .r .v) 0 (x / 65536)) (memoryOf (now (a .work)))) (now (a .work)) (c .before .before .before .before .before .before .bind .last .0)) (c .before .before .before .before .before .before .before .body .ensures) (c .before .before .before .before .before .before .bind .ensures)) (bound-fits (a .r) (a .r .v1 % 1024) (a .r .nb + 1) (below-1024 _) (one-more _ (c .before .before .before .before .before .before .before .before .before .if2 .taken)))))
+returns-2 c = let a = c .before .before .before .before .before .before .before .before .before .before .before .before .before .args in tagged-made 3 _ (now (a .work)) _ (a .r) _ _ (c .before .before .before .before .before .before .before .before .before .before .before .tag .ensures) (c .before .before .before .before .before .before .before .before .before .before .if1 .left) (room-made (λ (S : State). ltb (S .regs .nb) 2048) Outcome.Bindings _ (now (a .work)) _ (a .r) _ (λ log. lt-ltb (a .r .nb) 2048 (c .before .before .before .before .before .before .before .before .if2 .taken)) (stored-made _ _ (now (a .work)) _ (a .r) _ _ (λ log. refl) (ap (λ (q : Regs). setEnv (a .r .nb + 1) (setNb (a .r .nb + 1) q)) (c .before .before .go-on .ensures ∙ ap (λ (x : ℕ). goOn (x % 1024) (a .r)) (c .before .before .before .before .before .before .before .body .ensures))) (subst (λ (x : ℕ). Holds (putBinding (a .r .nb) (binding (a .r .v) 0 (x / 65536)) (memoryOf (now (a .work)))) (now (a .work)) (c .before .before .before .before .before .bind .last .0)) (c .before .before .before .before .before .before .before .body .ensures) (c .before .before .before .before .before .bind .ensures)) (bound-fits (a .r) (bodyOf (a .r .v1) % 1024) (a .r .nb + 1) (below-1024 _) (one-more _ (c .before .before .before .before .before .before .before .before .if2 .taken)))))
 
 halt-requires : tie.Need-halt-requires
 halt-requires c κs = search needs

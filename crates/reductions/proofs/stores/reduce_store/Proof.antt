@@ -1,11 +1,8 @@
 -- A wrong operand; or the cell's value is another.
-use Rattle.reductions.proofs.Reduced.{stuck-made, tagged-made}
+use Rattle.reductions.proofs.Reduced.{stuck-made, tagged-made, cell-stored}
 use Rattle.operands.proofs.Made.{stored-made}
-use Rattle.tables.specs.View.{memoryOf, Holds}
-use Rattle.flat.specs.Memory.{putCell, cellNote}
 use denote.Ref.{now}
-use mathlib.Core.Path.{refl, ap, subst, _∙_}
-use Prim.Native.Nat.{ℕ, _%_}
+use mathlib.Core.Path.{refl}
 use borrow.Author.Needs.{needs}
 use Rattle.reductions.proofs.stores.reduce_store.Statement.{statement}
 use Rattle.reductions.proofs.stores.reduce_store.Tie as tie
@@ -18,6 +15,9 @@ stuck-requires c κs = search needs
 
 returns : tie.Need-returns
 returns c = let a = c .before .before .before .before .args in stuck-made 5 _ (now (a .work)) (now (a .work)) (a .r) _ _ (c .before .before .tag .ensures) (c .before .if1 .taken) (c .stuck .ensures)
+
+body-requires : tie.Need-body-requires
+body-requires c κs = search needs
 
 cell-at-requires : tie.Need-cell-at-requires
 cell-at-requires c κs = search needs
@@ -35,7 +35,7 @@ same-length : tie.Need-same-length
 same-length c = search needs
 
 returns-2 : tie.Need-returns-2
-returns-2 c = let a = c .before .before .before .before .before .before .before .before .before .before .before .before .args in tagged-made 5 _ (now (a .work)) _ (a .r) _ _ (c .before .before .before .before .before .before .before .before .before .before .tag .ensures) (c .before .before .before .before .before .before .before .before .before .if1 .left) (stored-made _ _ (now (a .work)) _ (a .r) _ _ (λ log. refl) (c .give .ensures) (subst (λ (x : ℕ). Holds (putCell (a .r .v1 % 256) (a .r .v) x (memoryOf (now (a .work)))) (now (a .work)) (c .before .before .before .put-cell .last .0)) (c .before .before .before .before .before .cell-note .ensures ∙ ap cellNote (c .before .before .before .before .before .before .cell-at .ensures)) (c .before .before .before .put-cell .ensures)) (λ _ f. f))
+returns-2 c = let a = c .before .before .before .before .before .before .before .before .before .before .before .before .args in tagged-made 5 _ (now (a .work)) _ (a .r) _ _ (c .before .before .before .before .before .before .before .before .before .before .tag .ensures) (c .before .before .before .before .before .before .before .before .before .if1 .left) (stored-made _ _ (now (a .work)) _ (a .r) _ _ (λ log. refl) (c .give .ensures) (cell-stored (now (a .work)) _ (a .r .v1) (a .r .v) _ _ _ (c .before .before .before .before .before .before .before .before .body .ensures) (c .before .before .before .before .before .before .cell-at .ensures) (c .before .before .before .before .before .cell-note .ensures) (c .before .before .before .put-cell .ensures)) (λ _ f. f))
 
 pub reduce-store-spec : {M : Type 1} → statement M
 reduce-store-spec =
@@ -44,6 +44,7 @@ reduce-store-spec =
     tag-requires
     stuck-requires
     returns
+    body-requires
     cell-at-requires
     cell-note-requires
     put-cell-requires

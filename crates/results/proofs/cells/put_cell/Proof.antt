@@ -12,7 +12,6 @@ use Rattle.results.proofs.cells.put_cell.Lts as lts
 use Rattle.report.proofs.cells.put_other_cell.Reads as put-other-cell-reads
 use Rattle.report.proofs.cells.put_plain_cell.Reads as put-plain-cell-reads
 use Rattle.results.proofs.leaves.plain_leaves.Reads as plain-leaves-reads
-use Rattle.tables.proofs.bindings.bound_value.Reads as bound-value-reads
 use Rattle.tables.proofs.cells.cell_at.Reads as cell-at-reads
 use Rattle.tables.proofs.cells.cell_note.Reads as cell-note-reads
 
@@ -37,16 +36,13 @@ returns c =
     let a = s .before .before .before .before .before .args in
     cell-written (now (a .report)) (a .at) (other-cell (memoryOf (now (a .work))) (a .i) _ _ (s .before .before .cell-at .ensures) (s .before .cell-note .ensures) (s .if1 .taken)) (c .before .before .put-other-cell .ensures)
 
-bound-value-requires : tie.Need-bound-value-requires
-bound-value-requires c κs = search needs
-
 plain-leaves-requires : tie.Need-plain-leaves-requires
 plain-leaves-requires c κs = search needs
 
 put-plain-cell-requires : tie.Need-put-plain-cell-requires
 put-plain-cell-requires c κs =
-    let M = memoryOf (now (c .before .before .before .before .before .before .before .before .before .args .work)) in
-    let v = c .before .before .before .bound-value .result in
+    let M = memoryOf (now (c .before .before .before .before .before .before .before .before .args .work)) in
+    let v = c .before .before .before .before .before .cell-at .result in
     let n = gathered-few (plainLeavesIn M v) (c .before .before .plain-leaves .ensures) (plain-few M v) in
     (n, omega arith)
 
@@ -56,9 +52,9 @@ same-length-2 c = search needs
 returns-2 : tie.Need-returns-2
 returns-2 c =
     let w = c .before .before .before .before .before in
-    let s = w .before .before in
+    let s = w .before in
     let a = s .before .before .before .before .before .args in
-    cell-written (now (a .report)) (a .at) (plain-cell (memoryOf (now (a .work))) (a .i) _ _ (s .before .before .cell-at .ensures) (s .before .cell-note .ensures) _ _ (s .if1 .left) (w .before .bound-value .ensures) (w .plain-leaves .ensures)) (c .before .before .put-plain-cell .ensures)
+    cell-written (now (a .report)) (a .at) (plain-cell (memoryOf (now (a .work))) (a .i) _ _ (s .before .before .cell-at .ensures) (s .before .cell-note .ensures) _ (s .if1 .left) (w .plain-leaves .ensures)) (c .before .before .put-plain-cell .ensures)
 
 pub put-cell-spec : {M : Type 1} → statement M
 put-cell-spec =
@@ -70,7 +66,6 @@ put-cell-spec =
     put-other-cell-requires
     same-length
     returns
-    bound-value-requires
     plain-leaves-requires
     put-plain-cell-requires
     same-length-2

@@ -9,7 +9,7 @@ use denote.Ref.{now}
 use Rattle.image.specs.declared.Refusal.{Refusal}
 use Rattle.verdicts.specs.declared.Verdict.{Verdict}
 use Rattle.shape.specs.Marks.{deepFrom}
-use Rattle.shape.proofs.Answers.{from-start, from-end, from-next, from-here}
+use Rattle.shape.proofs.Answers.{from-start, from-hold, from-end, from-next, from-here}
 use Rattle.shape.proofs.depths.first_deep.Statement.{statement}
 use Rattle.shape.proofs.depths.first_deep.Tie as tie
 
@@ -19,27 +19,33 @@ Inv-loop depths terms n i₀ i = (i ≤ n) × (deepFrom terms depths n 0 ≡ dee
 abbrev μ-loop : tie.MeasureT-loop
 μ-loop depths terms n i₀ i = n - i
 
+none-deep-requires : tie.Need-none-deep-requires Inv-loop μ-loop
+none-deep-requires c κs = search needs
+
+returns : tie.Need-returns Inv-loop μ-loop
+returns c = sym (from-hold _ _ _ _ (sym (c .before .none-deep .ensures) ∙ c .if1 .taken))
+
 loop-holds : tie.Need-loop-holds Inv-loop μ-loop
 loop-holds c = (search needs, from-start _ _ _ _)
 
-cast-t8 : tie.Need-cast-t8 Inv-loop μ-loop
-cast-t8 c = search needs
+cast-t9 : tie.Need-cast-t9 Inv-loop μ-loop
+cast-t9 c = search needs
 
 mark-of-requires : tie.Need-mark-of-requires Inv-loop μ-loop
 mark-of-requires c κs = search needs
 
-cast-t10 : tie.Need-cast-t10 Inv-loop μ-loop
-cast-t10 c = search needs
+cast-t11 : tie.Need-cast-t11 Inv-loop μ-loop
+cast-t11 c = search needs
 
 term-offset-requires : tie.Need-term-offset-requires Inv-loop μ-loop
 term-offset-requires c κs = search needs
 
-returns : tie.Need-returns Inv-loop μ-loop
-returns c =
+returns-2 : tie.Need-returns-2 Inv-loop μ-loop
+returns-2 c =
     let l = c .before .before .before .before .loop in
-    let d = getD (now (c .before .before .before .before .before .before .before .args .depths)) (l .i) 0 in
+    let d = getD (now (c .before .before .before .before .before .before .before .before .before .args .depths)) (l .i) 0 in
     let z = c .before .before .mark-of .ensures in
-    let deep = lt-leb d 64 (omega (arith, c .before .if1 .taken)) in
+    let deep = lt-leb d 64 (omega (arith, c .before .if2 .taken)) in
     sym (l .inv .1 ∙ from-here _ _ _ _ (l .i) (omega arith) deep ∙ ap (λ o. Verdict.Refused Refusal.TooDeep o) (sym (c .term-offset .ensures)))
 
 add-i : tie.Need-add-i Inv-loop μ-loop
@@ -51,12 +57,12 @@ loop-less c = search needs
 loop-again : tie.Need-loop-again Inv-loop μ-loop
 loop-again c =
     let l = c .before .before .before .loop in
-    let d = getD (now (c .before .before .before .before .before .before .args .depths)) (l .i) 0 in
+    let d = getD (now (c .before .before .before .before .before .before .before .before .args .depths)) (l .i) 0 in
     let z = c .before .mark-of .ensures in
-    (search needs, l .inv .1 ∙ from-next _ _ _ _ (l .i) (omega arith) (le-leb d 64 (omega (arith, c .if1 .left))))
+    (search needs, l .inv .1 ∙ from-next _ _ _ _ (l .i) (omega arith) (le-leb d 64 (omega (arith, c .if2 .left))))
 
-returns-2 : tie.Need-returns-2 Inv-loop μ-loop
-returns-2 c =
+returns-3 : tie.Need-returns-3 Inv-loop μ-loop
+returns-3 c =
     let l = c .before .loop in
     sym (l .inv .1 ∙ from-end _ _ _ _ (l .i) (omega arith))
 
@@ -66,13 +72,15 @@ first-deep-spec =
     (tie.spec
     Inv-loop
     μ-loop
-    loop-holds
-    cast-t8
-    mark-of-requires
-    cast-t10
-    term-offset-requires
+    none-deep-requires
     returns
+    loop-holds
+    cast-t9
+    mark-of-requires
+    cast-t11
+    term-offset-requires
+    returns-2
     add-i
     loop-less
     loop-again
-    returns-2)
+    returns-3)

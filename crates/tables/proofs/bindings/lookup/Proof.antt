@@ -12,7 +12,6 @@ use Rattle.tables.proofs.bindings.lookup.Reads as reads
 use Rattle.tables.proofs.bindings.lookup.Lts as lts
 use Rattle.tables.proofs.bindings.binding_at.Reads as binding-at-reads
 use Rattle.tables.proofs.bindings.bound_link.Reads as bound-link-reads
-use Rattle.tables.proofs.bindings.bound_value.Reads as bound-value-reads
 use Rattle.tables.proofs.bindings.no_link.Reads as no-link-reads
 use Rattle.values.proofs.no_value.Reads as no-value-reads
 
@@ -74,13 +73,9 @@ returns-2 c = c .no-value2 .ensures ∙ sym (c .before .before .before .before .
 binding-at-requires-2 : tie.Need-binding-at-requires-2 Inv-loop μ-loop
 binding-at-requires-2 c κs = let p = named _ _ (c .before .no-link2 .ensures) (c .if2 .left) in (c .before .before .before .before .before .pre, p .0, p .1)
 
--- src/bindings.rt:85:5
-bound-value-requires : tie.Need-bound-value-requires Inv-loop μ-loop
-bound-value-requires c κs = search needs
-
 -- src/bindings.rt:69:1
 returns-3 : tie.Need-returns-3 Inv-loop μ-loop
-returns-3 c = c .bound-value .ensures ∙ sym (c .before .before .before .before .before .loop .inv ∙ lookup-here _ _ _ (c .before .before .before .no-link2 .ensures) _ _ (omega arith) (c .before .before .if2 .left) (c .before .binding-at2 .ensures))
+returns-3 c = sym (c .before .before .before .before .loop .inv ∙ lookup-here _ _ _ (c .before .before .no-link2 .ensures) _ _ (omega arith) (c .before .if2 .left) (c .binding-at2 .ensures))
 
 pub lookup-spec : {M : Type 1} → statement M
 lookup-spec =
@@ -101,5 +96,4 @@ lookup-spec =
     no-value-requires-2
     returns-2
     binding-at-requires-2
-    bound-value-requires
     returns-3)

@@ -6,7 +6,7 @@ use Rattle.tables.proofs.cells.put_cell.Statement.{statement}
 use Rattle.tables.proofs.cells.put_cell.Tie as tie
 use Rattle.tables.proofs.cells.put_cell.Reads as reads
 use Rattle.tables.proofs.cells.put_cell.Lts as lts
-use Rattle.tables.proofs.cells.cell_word.Reads as cell-word-reads
+use Rattle.tables.proofs.words.above.Reads as above-reads
 use Rattle.tables.proofs.words.put_word.Reads as put-word-reads
 
 -- src/cells.rt:31:20
@@ -14,8 +14,8 @@ add-put-word : tie.Need-add-put-word
 add-put-word c = search needs
 
 -- src/cells.rt:31:31
-cell-word-requires : tie.Need-cell-word-requires
-cell-word-requires c κs = search needs
+above-requires : tie.Need-above-requires
+above-requires c κs = search needs
 
 -- src/cells.rt:31:5
 put-word-requires : tie.Need-put-word-requires
@@ -27,8 +27,8 @@ same-length c = search needs
 
 -- src/cells.rt:27:1
 returns : tie.Need-returns
-returns c = let a = c .before .before .before .before .before .before .args in put-as (now (a .work)) _ (3585 + a .r) _ _ (c .before .before .before .cell-word .ensures) (c .before .before .put-word .ensures)
+returns c = let a = c .before .before .before .before .before .before .args in put-as (now (a .work)) _ (3585 + a .r) _ _ (c .before .before .before .above .ensures) (c .before .before .put-word .ensures)
 
 pub put-cell-spec : {M : Type 1} → statement M
 put-cell-spec =
-    tie.close (tie.spec add-put-word cell-word-requires put-word-requires same-length returns)
+    tie.close (tie.spec add-put-word above-requires put-word-requires same-length returns)

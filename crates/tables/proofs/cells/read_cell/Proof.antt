@@ -5,7 +5,6 @@ use Rattle.tables.proofs.cells.read_cell.Statement.{statement}
 use Rattle.tables.proofs.cells.read_cell.Tie as tie
 use Rattle.tables.proofs.cells.read_cell.Reads as reads
 use Rattle.tables.proofs.cells.read_cell.Lts as lts
-use Rattle.tables.proofs.bindings.bound_value.Reads as bound-value-reads
 use Rattle.tables.proofs.cells.cell_at.Reads as cell-at-reads
 use Rattle.values.proofs.no_value.Reads as no-value-reads
 use Rattle.values.proofs.tag.Reads as tag-reads
@@ -26,13 +25,12 @@ returns c = c .no-value .ensures ∙ sym (cell-none _ _ _ (c .before .before .ta
 cell-at-requires : tie.Need-cell-at-requires
 cell-at-requires c κs = search needs
 
--- src/cells.rt:48:5
-bound-value-requires : tie.Need-bound-value-requires
-bound-value-requires c κs = search needs
+body-requires : tie.Need-body-requires
+body-requires c κs = search needs
 
 -- src/cells.rt:41:1
 returns-2 : tie.Need-returns-2
-returns-2 c = c .bound-value .ensures ∙ sym (cell-held _ _ _ _ (c .before .before .before .tag .ensures) (c .before .before .if1 .left) (c .before .cell-at .ensures))
+returns-2 c = sym (cell-held _ _ _ _ _ (c .before .before .before .tag .ensures) (c .before .before .if1 .left) (c .before .body .ensures) (c .cell-at .ensures))
 
 pub read-cell-spec : {M : Type 1} → statement M
 read-cell-spec =
@@ -41,6 +39,6 @@ read-cell-spec =
     tag-requires
     no-value-requires
     returns
+    body-requires
     cell-at-requires
-    bound-value-requires
     returns-2)
