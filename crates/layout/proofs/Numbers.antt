@@ -1,30 +1,24 @@
 -- Laws of the tests on numbers: what a loop over the keys has tested so far.
-use Prim.Native.Nat.{ℕ, suc, _+_, _-_, _*_, _≤_, _<_}
+use Prim.Native.Nat.{ℕ, _+_, _*_, _≤_, _<_}
 use native.Mathlib.Omega.{arith}
+use native.Mathlib.Numerals.{add-one}
 use mathlib.Core.Path.{_≡_, refl, sym, ap, _∙_}
-use mathlib.Core.Bool.{Bool, true, false, not, and-true}
+use mathlib.Core.Bool.{Bool, true, false, not, _&&_}
 use mathlib.Core.List.{List, [], _∷_}
 use mathlib.Core.Option.{none, some}
 use lib.ListN.{getD}
 use lib.Dec.{eqb}
-use borrow.Author.Tests.{eq-eqb, ne-eqb, not-true, not-false}
+use borrow.Author.Tests.{not-true, not-false}
 use Rattle.image.specs.declared.Refusal.{Refusal}
 use Rattle.image.specs.Tests.{all, allBelow, firstFault}
-use Rattle.image.proofs.Facts.{no-path, le-of, each, all-below}
+use Rattle.image.proofs.Facts.{le-of, each}
 use Rattle.records.specs.Codes.{countOf, leastOf}
 use Rattle.layout.specs.Numbers.{lengthFits, newKey}
 
 module _ (ks : List ℕ) (x : ℕ) where
-  pub new-less : (i : ℕ) → 0 < i → (x ≡ getD ks (i - 1) 0 → ⊥) → newKey i ks x ≡ newKey (i - 1) ks x
+  pub new-more : (i : ℕ) (b t : Bool) → b ≡ newKey i ks x → t ≡ (b && not (eqb x (getD ks i 0))) → t ≡ newKey (i + 1) ks x
   unfolding allBelow
-  new-less i l n = let e : i ≡ suc (i - 1) = omega arith in ap (λ k. newKey k ks x) e ∙ rw (ne-eqb x (getD ks (i - 1) 0) n) (and-true (newKey (i - 1) ks x))
-
-  pub not-new : (n i : ℕ) → i < n → x ≡ getD ks i 0 → newKey n ks x ≡ false
-  not-new n i l e = go (newKey n ks x) refl
-    where
-      go : (t : Bool) → newKey n ks x ≡ t → newKey n ks x ≡ false
-      go true q = no-path (sym (all-below n (λ j. not (eqb x (getD ks j 0))) q i l) ∙ rw (eq-eqb x (getD ks i 0) e))
-      go false q = q
+  new-more i b t e h = rw (add-one i) (h ∙ ap (λ y. y && not (eqb x (getD ks i 0))) e)
 
 -- A record of the right length has its kind's fields.
 pub fits-count : (code n : ℕ) → lengthFits code n ≡ true → 4 + 2 * countOf code ≤ n

@@ -1,6 +1,7 @@
 // The refusals 4 to 8, each a function, and 4 to 7 in their order.
 ghost use mathlib.Core.Path.{_≡_};
 ghost use Prim.Native.Nat.{_+_, _≤_};
+ghost use mathlib.Core.Bool.{_&&_};
 ghost use lib.ListN.{length};
 ghost use Rattle.image.specs.Tests.{firstFault};
 ghost use Rattle.records.specs.Codes.{Sized};
@@ -63,19 +64,25 @@ pub fn has_room(section: u32, sizes: &[usize]) -> bool
     sizes[5] < 1024
 }
 
-// 8: the key of a type is none of the first n.
+fn both(a: bool, b: bool) -> bool
+    ensures { λ r. ⌜ r ≡ (a && b) ⌝ }
+{
+    a && b
+}
+
+// 8: the key of a type is none of the first n. All are compared, with no way out of the loop: so several are compared at
+// once.
 pub fn is_new(keys: &[u64], n: usize, key: u64) -> bool
     requires { ⌜ n ≤ length (now keys) ⌝ }
     ensures { λ r. ⌜ r ≡ newKey n (now (keys .entry)) key ⌝ }
 {
-    let mut i: usize = n;
-    while 0 < i {
-        i -= 1;
-        if key == keys[i] {
-            return false;
-        }
+    let mut new = true;
+    let mut i: usize = 0;
+    while i < n {
+        new = both(new, key != keys[i]);
+        i += 1;
     }
-    true
+    new
 }
 
 // 4 to 7 of a record with these fields.

@@ -14,7 +14,7 @@ use Rattle.flat.specs.Values.{tagOf, bodyOf, nothingTag, value, operate, calcul
 use Rattle.flat.specs.Rows.{term2, term3, field3}
 use Rattle.flat.specs.Registers.{setEnv, setNb, setNp, setNc, setNl, setNi}
 use Rattle.flat.specs.Memory.{Memory, binding, putBinding, pieceFirst, pieceSecond, cellAt, cellNote, putCell}
-use Rattle.flat.specs.States.{State, halt, stuck, give, goOn}
+use Rattle.flat.specs.States.{State, halt, stuck, give, goOn, withRegs}
 use Rattle.flat.specs.Reduce.{needs, ifRoom, giveIf, newPiece, reduceArithmetic}
 use Rattle.tables.specs.View.{memoryOf, Holds}
 use Rattle.operands.specs.Phases.{RegsFit, stateOf, Phase}
@@ -129,19 +129,24 @@ module _ (v : ℕ) (w : List ℕ) (r q : Regs) (t : ℕ) (d : t ≡ tagOf v) whe
   pub given-made : (t ≡ nothingTag → ⊥) → q ≡ give v r → Phase (giveIf v) w w r q
   given-made n e = regs-made (giveIf v) w r q (give v r) (λ log. sym (chosen-no _ _ _ (ne-eqb (tagOf v) nothingTag (λ z. n (d ∙ z))))) e (λ _ f. f)
 
--- The chosen term of two.
-pub branch-yes : (v n b t : ℕ) → b ≡ bodyOf v → b ≡ 0 → t ≡ term3 n → t ≡ choose (eqb (bodyOf v) 0) (term3 n) (term2 n)
-branch-yes v n b t d e f = f ∙ sym (chosen-yes _ _ _ (eq-eqb (bodyOf v) 0 (sym d ∙ e)))
+-- The chosen term of two, by the truth b.
+module _ (w : List ℕ) (r q : Regs) (b : ℕ) (d : b ≡ bodyOf (r .v1)) where
+  abbrev pub chosen : State → State
+  chosen S =
+      choose (eqb (bodyOf (S .regs .v1)) 0) (withRegs (goOn (term3 (S .regs .n)) (S .regs)) S)
+      (choose (eqb (bodyOf (S .regs .v1)) 1) (withRegs (goOn (term2 (S .regs .n)) (S .regs)) S) (withRegs (stuck (S .regs)) S))
 
-pub branch-no : (v n b t : ℕ) → b ≡ bodyOf v → (b ≡ 0 → ⊥) → t ≡ term2 n → t ≡ choose (eqb (bodyOf v) 0) (term3 n) (term2 n)
-branch-no v n b t d e f = f ∙ sym (chosen-no _ _ _ (ne-eqb (bodyOf v) 0 (λ z. e (d ∙ z))))
+  pub false-made : (t : ℕ) → b ≡ 0 → t ≡ term3 (r .n) → q ≡ goOn t r → Phase chosen w w r q
+  false-made t e f g =
+      regs-made chosen w r q (goOn (term3 (r .n)) r) (λ log. sym (chosen-yes _ _ _ (eq-eqb (bodyOf (r .v1)) 0 (sym d ∙ e)))) (g ∙ ap (λ (x : ℕ). goOn x r) f) (term-fits r _ (below-1024 _))
 
-pub branch-fits : (v n : ℕ) → choose (eqb (bodyOf v) 0) (term3 n) (term2 n) < 1024
-branch-fits v n = either (eqb (bodyOf v) 0)
-  where
-    either : (b : Bool) → choose b (term3 n) (term2 n) < 1024
-    either true = below-1024 _
-    either false = below-1024 _
+  pub true-made : (t : ℕ) → b ≡ 1 → t ≡ term2 (r .n) → q ≡ goOn t r → Phase chosen w w r q
+  true-made t e f g =
+      regs-made chosen w r q (goOn (term2 (r .n)) r) (λ log. sym (chosen-no _ _ _ (ne-eqb (bodyOf (r .v1)) 0 (λ z. omega arith)) ∙ chosen-yes _ _ _ (eq-eqb (bodyOf (r .v1)) 1 (sym d ∙ e)))) (g ∙ ap (λ (x : ℕ). goOn x r) f) (term-fits r _ (below-1024 _))
+
+  pub neither-made : (b ≡ 0 → ⊥) → (b ≡ 1 → ⊥) → q ≡ stuck r → Phase chosen w w r q
+  neither-made m n g =
+      regs-made chosen w r q (stuck r) (λ log. sym (chosen-no _ _ _ (ne-eqb (bodyOf (r .v1)) 0 (λ z. m (d ∙ z))) ∙ chosen-no _ _ _ (ne-eqb (bodyOf (r .v1)) 1 (λ z. n (d ∙ z))))) g (λ _ f. f)
 
 -- A value v is given that is u.
 pub value-made : (T : State → State) (w : List ℕ) (r q : Regs) (v u : ℕ) → ((log : List ℕ) → giveIf u (stateOf w log r) ≡ T (stateOf w log r)) → v ≡ u → Phase (giveIf v) w w r q → Phase T w w r q

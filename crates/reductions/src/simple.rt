@@ -1,13 +1,8 @@
 // The reductions that store nothing.
-ghost use mathlib.Core.Path.{_≡_};
 ghost use mathlib.Core.List.{List};
 ghost use Prim.Native.Nat.{ℕ, _≤_, _<_};
 ghost use lib.ListN.{length};
-ghost use lib.Dec.{eqb};
 ghost use Rattle.area.specs.Memory.{memoryLength};
-ghost use Rattle.calculus.specs.Combinators.{choose};
-ghost use Rattle.flat.specs.Values.{bodyOf};
-ghost use Rattle.flat.specs.Rows as flat;
 ghost use Rattle.flat.specs.Reduce.{giveIf, reduceSeq, reduceIf, reduceArithmetic, reduceLabel, reduceRead, reduceLower, reduceAbort, reduceByte};
 ghost use Rattle.operands.specs.Phases.{Phase};
 use flat::Regs;
@@ -44,13 +39,8 @@ pub fn reduce_seq(r: Regs) -> Regs
     go_on(r, term2(r.n))
 }
 
-// The term that a truth v chooses of a row n.
-fn branch(v: u64, n: u64) -> usize
-    ensures { λ t. ⌜ t ≡ choose (eqb (bodyOf v) 0) (flat.term3 n) (flat.term2 n) ⌝ }
-{
-    if body(v) == 0 { term3(n) } else { term2(n) }
-}
-
+// Two tests, and not a choice of the term: the processor then goes on with the term that it foresees, and does not wait
+// for the truth.
 pub fn reduce_if(r: Regs) -> Regs
     requires { ⌜ 0 < r .left ⌝ }
     ensures { λ q. ⌜ ((w : List ℕ) → Phase reduceIf w w r q) ⌝ }
@@ -58,7 +48,14 @@ pub fn reduce_if(r: Regs) -> Regs
     if tag(r.v1) != values::TRUTH {
         return stuck(r);
     }
-    go_on(r, branch(r.v1, r.n))
+    let b = body(r.v1);
+    if b == 0 {
+        return go_on(r, term3(r.n));
+    }
+    if b == 1 {
+        return go_on(r, term2(r.n));
+    }
+    stuck(r)
 }
 
 pub fn reduce_arithmetic(r: Regs) -> Regs

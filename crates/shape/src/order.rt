@@ -98,7 +98,9 @@ fn at_fault(o: [[bool; 16]; 16], n: usize, d: usize) -> bool
     let mut found = false;
     let mut e: usize = 0;
     while e < 16 {
-        found = either(found, fault_in(o[d], o[e], n, d, e));
+        if o[d][e] {
+            found = either(found, fault_in(o[d], o[e], n, d, e));
+        }
         e += 1;
     }
     found

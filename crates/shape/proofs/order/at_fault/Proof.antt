@@ -4,8 +4,9 @@ use borrow.Author.Needs.{needs}
 use Prim.Native.Nat.{_-_, _≤_}
 use native.Mathlib.Omega.{arith}
 use mathlib.Core.List.{[]}
-use mathlib.Core.Bool.{_||_}
-use mathlib.Core.Path.{_≡_, ap, _∙_}
+use mathlib.Core.Bool.{_||_, or-false}
+use mathlib.Core.Logic.{⊎-elim}
+use mathlib.Core.Path.{_≡_, sym, ap, _∙_}
 use lib.ListN.{getD}
 use Rattle.image.specs.Tests.{anyBelow}
 use Rattle.shape.specs.Faults.{names, faultIn}
@@ -36,6 +37,15 @@ returns c =
 loop-holds : tie.Need-loop-holds Inv-loop μ-loop
 loop-holds c = (search needs, any-none _)
 
+mul-if2 : tie.Need-mul-if2 Inv-loop μ-loop
+mul-if2 c = search needs
+
+index-1-if2 : tie.Need-index-1-if2 Inv-loop μ-loop
+index-1-if2 c = search needs
+
+index-2-if2 : tie.Need-index-2-if2 Inv-loop μ-loop
+index-2-if2 c = search needs
+
 mul-fault-in : tie.Need-mul-fault-in Inv-loop μ-loop
 mul-fault-in c = search needs
 
@@ -62,8 +72,13 @@ loop-less c = search needs
 
 loop-again : tie.Need-loop-again Inv-loop μ-loop
 loop-again c =
-    let l = c .before .before .before .before .before .loop in
-    (search needs, c .either .ensures ∙ ap (l .found ||_) (c .before .fault-in .ensures) ∙ any-more (l .e) _ (l .found) (l .inv .1))
+    let l = c .before .before .before .loop in
+    let a = c .before .before .before .before .before .before .args in
+    let fault = faultIn (getD (a .t1) (a .d) []) (getD (a .t1) (l .e) []) (a .n) (a .d) (l .e) in
+    let got : c .if2 .found ≡ (l .found || fault) =
+    ⊎-elim (λ w. w .5 ∙ w .4 .ensures ∙ ap (l .found ||_) (w .3 .ensures))
+    (λ w. w .1 ∙ sym (simp (w .0 .left, or-false))) (c .if2 .came) in
+    (search needs, got ∙ any-more (l .e) _ (l .found) (l .inv .1))
 
 returns-2 : tie.Need-returns-2 Inv-loop μ-loop
 returns-2 c =
@@ -82,6 +97,9 @@ at-fault-spec =
     index-2-if1
     returns
     loop-holds
+    mul-if2
+    index-1-if2
+    index-2-if2
     mul-fault-in
     array-copy-out-fault-in
     mul-fault-in-2
