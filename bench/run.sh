@@ -1,8 +1,9 @@
 #!/usr/bin/env bash
 # Measures the verified engine, and a plain Rust engine beside it if its folder is given:
-#     bench/run.sh [FOLDER_OF_PLAIN_ENGINE] [--quick] [--dump DIR] [--write]
+#     bench/run.sh [FOLDER_OF_PLAIN_ENGINE] [--quick] [--places N] [--dump DIR] [--write]
 # The plain engine is a crate named `baseline` with `engine(image, frame, budget, log, report, work) -> Answer`.
-# --quick measures less often; --dump DIR writes the images and measures nothing; --write writes what was measured into
+# --quick measures less often; --places N measures with the code of both engines in N places of memory, 9 at most, and
+# prints the means; --dump DIR writes the images and measures nothing; --write writes what was measured into
 # docs/PERFORMANCE.md and docs/performance.svg.
 set -euo pipefail
 bench=$(cd "$(dirname "$0")" && pwd)
@@ -13,9 +14,11 @@ if [ $# -gt 0 ] && [ "${1#--}" = "$1" ]; then
     shift
 fi
 options=()
+places=1
 while [ $# -gt 0 ]; do
     case $1 in
     --write) options+=(--write "$bench/../docs") ;;
+    --places) places=$2; shift ;;
     *) options+=("$1") ;;
     esac
     shift
@@ -24,4 +27,15 @@ done
 if [ -z "${BUKZARN_LIBRARY:-}" ]; then
     said=$(cd "$bench/.." && rt staticlib engine 2>&1) || { printf '%s\n' "$said" >&2; exit 1; }
 fi
-CARGO_TARGET_DIR=$bench/target cargo run --quiet --release --manifest-path "$package/Cargo.toml" -- "${options[@]}"
+measured() {
+    CARGO_TARGET_DIR=$bench/target cargo run --quiet --release --manifest-path "$package/Cargo.toml" -- "$@"
+}
+if [ "$places" -gt 1 ]; then
+    times=$(mktemp)
+    trap 'rm -f "$times"' EXIT
+    for ((place = 1; place < places; place++)); do
+        BENCH_PLACE=$place measured --save "$times" "${options[@]}"
+    done
+    options+=(--means "$times")
+fi
+measured "${options[@]}"

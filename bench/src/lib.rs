@@ -1,12 +1,14 @@
 //! Times of the watch engine, alone or beside a plain Rust engine, on the same images in one run.
 //!
-//! Options: `--quick` measures less often, `--dump DIR` writes the images and measures nothing, `--write DOCS` writes
-//! the tables into DOCS/PERFORMANCE.md and the plot DOCS/performance.svg.
+//! Options: `--quick` measures less often, `--dump DIR` writes the images and measures nothing, `--save FILE` adds the
+//! times to a file, `--means FILE` adds them too and then prints the means of all runs in the file, `--write DOCS`
+//! writes the tables into DOCS/PERFORMANCE.md and the plot DOCS/performance.svg.
 #![deny(missing_docs)]
 mod document;
 mod images;
 mod measure;
 mod plot;
+mod saved;
 mod table;
 
 use std::path::Path;
@@ -28,7 +30,7 @@ fn verified(image: &[u8], frame: &[u8], budget: u32, log: &mut [u8], report: &mu
 /// The argument after an option.
 fn after<'a>(arguments: &'a [String], option: &str) -> Option<&'a str> {
     let at = arguments.iter().position(|argument| argument == option)?;
-    Some(arguments.get(at + 1).unwrap_or_else(|| panic!("{option} takes a folder")))
+    Some(arguments.get(at + 1).unwrap_or_else(|| panic!("{option} takes a path")))
 }
 
 /// The program: measures the verified engine and, if there is one, a plain one.
@@ -40,7 +42,15 @@ pub fn main(plain: Option<Engine>) {
     }
     let repetitions = if arguments.iter().any(|argument| argument == "--quick") { 31 } else { 301 };
     let engines: Vec<Engine> = [Some(verified as Engine), plain].into_iter().flatten().collect();
-    let rows: Vec<measure::Row> = images.iter().map(|image| measure::measure(image, &engines, repetitions)).collect();
+    let mut rows: Vec<measure::Row> =
+        images.iter().map(|image| measure::measure(image, &engines, repetitions)).collect();
+    if let Some(file) = after(&arguments, "--save") {
+        return saved::append(Path::new(file), &rows);
+    }
+    if let Some(file) = after(&arguments, "--means") {
+        saved::append(Path::new(file), &rows);
+        saved::means(Path::new(file), &mut rows);
+    }
     let text = table::text(&rows);
     print!("{text}");
     if let Some(folder) = after(&arguments, "--write") {

@@ -21,6 +21,8 @@ pub struct Time {
 pub struct Times {
     /// A whole call.
     pub call: Time,
+    /// A call with a budget of no steps.
+    pub start: Time,
     /// The check alone: a call with a report of no bytes, which is refused with 18 after everything else is checked.
     pub check: Time,
 }
@@ -50,8 +52,8 @@ impl Lent {
         Lent { frame, log: vec![0; LOG], report: vec![0; REPORT], work: vec![0; WORK] }
     }
 
-    fn call(&mut self, engine: Engine, image: &[u8]) -> Answer {
-        engine(image, &self.frame, u32::MAX, &mut self.log, &mut self.report, &mut self.work)
+    fn call(&mut self, engine: Engine, image: &[u8], budget: u32) -> Answer {
+        engine(image, &self.frame, budget, &mut self.log, &mut self.report, &mut self.work)
     }
 
     fn check(&mut self, engine: Engine, image: &[u8]) -> Answer {
@@ -77,7 +79,7 @@ fn summary(mut times: Vec<f64>) -> Time {
 fn end(image: &Image, engines: &[Engine]) -> Result<(u16, u32), u16> {
     let left = |engine: Engine| {
         let mut lent = Lent::new();
-        let answer = lent.call(engine, &image.bytes);
+        let answer = lent.call(engine, &image.bytes, u32::MAX);
         (answer, lent.log, lent.report)
     };
     let (answer, log, report) = left(engines[0]);
@@ -99,14 +101,18 @@ pub fn measure(image: &Image, engines: &[Engine], repetitions: usize) -> Row {
     let mut lent = Lent::new();
     let bytes = &image.bytes;
     // As many calls at a time as take about 100 microseconds.
-    let calls = (100_000.0 / time(5, || lent.call(engines[0], bytes))).clamp(1.0, 1000.0) as usize;
-    let mut times = vec![(vec![], vec![]); engines.len()];
+    let calls = (100_000.0 / time(5, || lent.call(engines[0], bytes, u32::MAX))).clamp(1.0, 1000.0) as usize;
+    let mut times = vec![(vec![], vec![], vec![]); engines.len()];
     for _ in 0..repetitions {
-        for (engine, (whole, check)) in engines.iter().zip(&mut times) {
-            whole.push(time(calls, || lent.call(*engine, black_box(bytes))));
+        for (engine, (whole, start, check)) in engines.iter().zip(&mut times) {
+            whole.push(time(calls, || lent.call(*engine, black_box(bytes), u32::MAX)));
+            start.push(time(calls, || lent.call(*engine, black_box(bytes), 0)));
             check.push(time(calls, || lent.check(*engine, black_box(bytes))));
         }
     }
-    let engines = times.into_iter().map(|(call, check)| Times { call: summary(call), check: summary(check) }).collect();
+    let engines = times
+        .into_iter()
+        .map(|(call, start, check)| Times { call: summary(call), start: summary(start), check: summary(check) })
+        .collect();
     Row { name: image.name, bytes: bytes.len(), terms: image.terms(), end, engines }
 }

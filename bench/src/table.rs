@@ -14,9 +14,9 @@ type Choose = fn(Time) -> f64;
 
 /// The rates of one engine.
 pub fn rates(row: &Row, times: &Times, choose: Choose) -> Rates {
-    let (call, check) = (choose(times.call), choose(times.check));
+    let (call, start, check) = (choose(times.call), choose(times.start), choose(times.check));
     let steps = row.end.map_or(0, |(_, steps)| steps);
-    let step = (steps > 0).then(|| (call - check).max(0.0) / f64::from(steps));
+    let step = (steps > 0).then(|| (call - start).max(0.0) / f64::from(steps));
     Rates { call, step, byte: check / row.bytes as f64 }
 }
 
@@ -28,7 +28,7 @@ pub fn ratios(row: &Row, choose: Choose) -> Option<Rates> {
 }
 
 /// The geometric mean.
-fn mean(numbers: impl Iterator<Item = f64>) -> f64 {
+pub fn mean(numbers: impl Iterator<Item = f64>) -> f64 {
     let logs: Vec<f64> = numbers.map(f64::ln).collect();
     (logs.iter().sum::<f64>() / logs.len() as f64).exp()
 }

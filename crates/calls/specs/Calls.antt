@@ -1,5 +1,6 @@
 -- What a whole call answers and leaves, from any image, frame, budget, log, report and work area (document 01, "Turned back at the gate" and "A run").
 use Prim.Native.Nat.{ℕ, _+_, _*_, _%_}
+use mathlib.Core.Path.{_≡_}
 use mathlib.Core.List.{List, [], _++_, map}
 use mathlib.Core.Option.{Option, none, some}
 use lib.ListN.{length, take, replicate}
@@ -75,3 +76,10 @@ verdictAsNumber (Verdict.Refused r place) log report = 65536 * refusalNumber r +
 
 abbrev pub callNumber : Answer → ℕ
 callNumber a = verdictAsNumber (a .verdict) (a .log) (a .report)
+
+-- A call with its answer as one number: n is that of what the call answers, and log, report and work area hold l, r and w as it leaves them.
+pub record Numbered (L : Left) (n : ℕ) (l r w : List ℕ) : Type 0 where
+  pub number : n ≡ callNumber (L .answer)
+  pub log : l ≡ L .log
+  pub report : r ≡ L .report
+  pub work : w ≡ L .work

@@ -1,4 +1,4 @@
--- Decimal numbers in arguments.
+-- Decimal numbers in the arguments of the program that runs cases at the limits (document 01, "Bench sheet").
 use Prim.Native.Nat.{ℕ, _+_, _*_, _%_, _^_}
 use mathlib.Core.List.{List, [], _∷_}
 

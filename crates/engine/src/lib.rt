@@ -8,7 +8,7 @@ use image::IMAGE_LIMIT;
 use image::Refusal;
 use verdicts::Verdict;
 ghost use mathlib.Core.Path.{_≡_};
-ghost use Rattle.calls.specs.Calls.{called, callNumber};
+ghost use Rattle.calls.specs.Calls.{called, Numbered};
 
 // One call: image and frame are only read; log, report and work area may have any length and content.
 pub fn run(
@@ -28,7 +28,7 @@ pub fn run(
     let mut sizes = layout::start_sizes();
     let mut doms = [0u16; 16];
     let mut types = [0u16; 128];
-    let mut keys = [0u64; 128];
+    let mut keys = [0u32; 128];
     let mut terms = [0u16; 1024];
     let v = examine::examine_image(
         image,
@@ -65,6 +65,8 @@ pub extern "C" fn run_watched(
     log: &mut [u8],
     report: &mut [u8],
     work: &mut [u8],
-) -> u64 {
+) -> u64
+    ensures { λ n. ⌜ Numbered (called (now (image .entry)) (now (frame .entry)) budget (now (log .entry)) (now (report .entry)) (now (work .entry))) n (now (log .exit)) (now (report .exit)) (now (work .exit)) ⌝ }
+{
     answers::call_number(run(image, frame, budget, log, report, work))
 }

@@ -1,4 +1,4 @@
--- The parts of what a turn begins with (the crate flat, specs/Turn.antt).
+-- The parts of what a turn begins with (the crate flat, specs/Turn.antt; document 01, "A run": "no frames (3) if more than 512 unfinished terms enclose the next one to reduce"; "each matching advice's body lowered to its domain, in sequence").
 use Prim.Native.Nat.{ℕ, _+_, _-_, _*_, _/_, _%_}
 use lib.Dec.{eqb}
 use Rattle.calculus.specs.Combinators.{choose}

@@ -13,6 +13,7 @@ use Rattle.verdicts.specs.Answers.{isRefused, inTurn}
 use Rattle.verdicts.specs.Shape.{shape}
 use Rattle.verdicts.specs.Check.{typing}
 use Rattle.verdicts.specs.Verdicts.{laidOut}
+use Rattle.verdicts.specs.Acceptable.{Shaped}
 use Rattle.verdicts.proofs.Answered.{not-refused}
 use Rattle.verdicts.proofs.Accept.{shape-accepts}
 use Rattle.records.specs.Codes.{kindCodes}
@@ -54,10 +55,13 @@ typing-decides b v w e h f =
     ∙ ap (λ x. inTurn ((λ u. x) ∷ (λ u. w) ∷ [])) e
     ∙ ap (λ x. inTurn ((λ u. shape (recordsOf b) (length b)) ∷ (λ u. x) ∷ [])) f
 
--- An image whose shape is accepted has a term.
+-- An image whose shape is accepted has a term, each term but the root is used once, and none is too deep.
+pub shaped : (b : List ℕ) (v : Verdict) → v ≡ shape (recordsOf b) (length b) → isRefused v ≡ false → Shaped (recordsOf b)
+shaped b v e h = shape-accepts (recordsOf b) (length b) .0 (sym e ∙ is-accepted v h)
+
 pub counted : (b ss ds ks es : List ℕ) → Filled b ss ds ks es → (v : Verdict) → v ≡ shape (recordsOf b) (length b) → isRefused v ≡ false → Counted b (domainCount ss) (typeCount ss) (termCount ss)
 counted b ss ds ks es F v e h =
-    let s = shape-accepts (recordsOf b) (length b) .0 (sym e ∙ is-accepted v h) in
+    let s = shaped b v e h in
     record { domain-count = F .domains; type-count = F .types; term-count = F .terms; some-term = (let z = s .has-terms in let y = F .terms in omega arith) }
 
 -- The scan stopped, or laid the image out.

@@ -17,7 +17,7 @@ pub fn check_records(
     kinds: &[u32],
     sizes: &[usize],
     doms: &[u16],
-    keys: &[u64],
+    keys: &[u32],
     terms: &[u16],
 ) -> Verdict
     requires { ⌜ (now kinds ≡ kindCodes) × Filled (now image) (now sizes) (now doms) (now keys) (now terms) × (5 < length (now sizes)) ⌝ }
@@ -50,7 +50,7 @@ pub fn examine_image(
     sizes: &mut [usize],
     doms: &mut [u16],
     types: &mut [u16],
-    keys: &mut [u64],
+    keys: &mut [u32],
     terms: &mut [u16],
 ) -> Verdict
     requires { ⌜ Lent (now image) (now kinds) (now sizes) (now doms) (now types) (now keys) (now terms) ⌝ }

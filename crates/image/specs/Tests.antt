@@ -1,4 +1,4 @@
--- Tests over lists and over the numbers below a bound, and the first test that fails.
+-- Tests over lists and over the numbers below a bound, and the first test that fails (document 01, "Turned back at the gate": one refusal, the first in order).
 use Prim.Native.Nat.{ℕ, zero, suc}
 use mathlib.Core.Bool.{Bool, true, false, _&&_, _||_}
 use mathlib.Core.List.{List, [], _∷_}

@@ -13,18 +13,19 @@ use Rattle.image.specs.Bytes.{numberAt}
 use Rattle.image.specs.Kinds.{TypeKind, TermKind, Kind, domain, type, term, rowOf, kindOf}
 use Rattle.image.specs.Layout.{Layout, kindAt, isNew, tests, add}
 use Rattle.image.specs.Layout as Image
-use Rattle.image.proofs.Facts.{no-path, lt-of, of-eq, passed}
-use Rattle.records.specs.Codes.{sectionNumber, sectionOf, countOf, codeAt}
+use Rattle.image.proofs.Facts.{no-path, lt-of, of-eq, each, passed}
+use Rattle.records.specs.Codes.{sectionNumber, sectionOf, countOf, classesOf, codeAt}
 use Rattle.records.specs.Keys.{Key}
-use Rattle.records.proofs.Codes.{Packs, known-code, unknown-code}
+use Rattle.records.proofs.Codes.{Packs, known-code, unknown-code, kind-small}
 use Rattle.records.proofs.Heads.{Whole, whole-of}
 use Rattle.layout.specs.declared.tests.Tested.{Tested}
 use Rattle.layout.specs.Sizes.{typeCount, domainCount, termCount}
-use Rattle.layout.specs.Fields.{KeyFrom}
+use Rattle.layout.specs.Fields.{Narrow, KeyFrom, rangesFrom}
 use Rattle.layout.specs.Numbers.{lengthFits, roomFits, newKey, numberTests, toldOf}
 use Rattle.layout.specs.Tables.{layoutOf, Tables, Put, PutType, entering, Entering, Entered}
 use Rattle.layout.proofs.Numbers.{fits-count, repeated, not-repeated}
 use Rattle.layout.proofs.Parts.{part, part-length, key-part}
+use Rattle.layout.proofs.Narrow.{narrow}
 use Rattle.layout.proofs.Sections.{new-law}
 use Rattle.layout.proofs.Kept.{type-count, domain-count, term-count, domain-more, term-more, type-more, domain-kept, term-kept, type-kept}
 use Rattle.layout.proofs.Steps.{orElse, unknown, known-law}
@@ -80,6 +81,10 @@ module _ {b kinds : List ℕ} {o n k : ℕ} {ss ds ts ks es : List ℕ} (R : Ent
     pub kind : Kind
     pub is : kindOf (numberAt b o) ≡ some kind
 
+  pub record KnownType : Type 0 where
+    pub kind : TypeKind
+    pub is : kindOf (numberAt b o) ≡ some (type kind)
+
   known-kind : (codeAt k ≡ 0 → ⊥) → Known
   known-kind h = go (kindOf (numberAt b o)) refl
     where
@@ -103,12 +108,29 @@ module _ {b kinds : List ℕ} {o n k : ℕ} {ss ds ts ks es : List ℕ} (R : Ent
     pub room : roomFits (sectionOf (codeAt k)) ss ≡ true
     room = passed _ _ _ (passed _ _ _ (passed _ _ _ (sym h) .1) .1) .0
 
+    ranges : rangesFrom (countOf (codeAt k)) (classesOf (codeAt k)) fs ss 0 ≡ true
+    ranges = each _ (passed _ _ _ (passed _ _ _ (passed _ _ _ (passed _ _ _ (sym h) .1) .1) .1) .0) .0
+
     -- What is left is 8.
     last-test : (K : Kind) → kindOf (numberAt b o) ≡ some K → firstFault (tests L o) ≡ firstFault ((Refusal.RepeatedType, isNew K o L) ∷ [])
     last-test K e = known-law entry (R .tables) K e ∙ ap (λ q. orElse q (firstFault ((Refusal.RepeatedType, isNew K o L) ∷ []))) (sym h)
 
     packs : (K : Kind) → kindOf (numberAt b o) ≡ some K → Packs K (codeAt k)
     packs K e = rw (entry .kind) (known-code (numberAt b o) K e)
+
+    -- A record of section 2 is a type's.
+    known-type : sectionOf (codeAt k) ≡ 2 → KnownType
+    known-type s =
+        let K = known-kind u in
+        let t = is-type (K .kind) (sym (packs (K .kind) (K .is) .section) ∙ s) in
+        record { kind = t .kind; is = K .is ∙ ap some (t .is) }
+
+    -- The kind's number and the fields of a type fit in eight bits each.
+    pub kind-narrow : k < 256
+    kind-narrow = let K = known-kind u in let l = kind-small (numberAt b o) (K .kind) (K .is) in omega (arith, entry .kind)
+
+    pub fields-narrow : sectionOf (codeAt k) ≡ 2 → Narrow fs (countOf (codeAt k))
+    fields-narrow s = let t = known-type s in let P = packs (type (t .kind)) (t .is) in narrow fs ss (R .tables .sizes) (t .kind) _ _ (P .count) (P .classes) ranges
 
     at-kind : (K : Kind) → kindOf (numberAt b o) ≡ some K → kindAt b o ≡ K
     at-kind K e = ap (λ q. Image.orElse q domain) e
@@ -156,17 +178,11 @@ module _ {b kinds : List ℕ} {o n k : ℕ} {ss ds ts ks es : List ℕ} (R : Ent
         → Entered r b o ss ds ts es ss′ ds ts′ ks′ es
     type-entry s {x} F {r} {ss′} {ts′} {ks′} p = go (newKey (typeCount ss) ks x) refl
       where
-        K : Known
-        K = known-kind u
-
-        P : Packs (K .kind) (codeAt k)
-        P = packs (K .kind) (K .is)
-
-        t : IsType (K .kind)
-        t = is-type (K .kind) (sym (P .section) ∙ s)
+        t : KnownType
+        t = known-type s
 
         e : kindOf (numberAt b o) ≡ some (type (t .kind))
-        e = K .is ∙ ap some (t .is)
+        e = t .is
 
         X : Key b o x
         X =

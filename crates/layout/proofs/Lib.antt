@@ -2,6 +2,7 @@
 pub mod Numbers
 pub mod Ranges
 pub mod Parts
+pub mod Narrow
 pub mod Sections
 pub mod Kept
 pub mod Steps

@@ -10,10 +10,10 @@ use lib.ListN.{getD}
 use lib.Dec.{eqb}
 use borrow.Author.Tests.{not-true, not-false}
 use Rattle.image.specs.declared.Refusal.{Refusal}
-use Rattle.image.specs.Tests.{all, allBelow, firstFault}
+use Rattle.image.specs.Tests.{allBelow, firstFault}
 use Rattle.image.proofs.Facts.{le-of, each}
-use Rattle.records.specs.Codes.{countOf, leastOf}
-use Rattle.layout.specs.Numbers.{lengthFits, newKey}
+use Rattle.records.specs.Codes.{countOf, leastOf, mostOf}
+use Rattle.layout.specs.Numbers.{lengthFits, Between, newKey}
 
 module _ (ks : List ℕ) (x : ℕ) where
   pub new-more : (i : ℕ) (b t : Bool) → b ≡ newKey i ks x → t ≡ (b && not (eqb x (getD ks i 0))) → t ≡ newKey (i + 1) ks x
@@ -23,6 +23,14 @@ module _ (ks : List ℕ) (x : ℕ) where
 -- A record of the right length has its kind's fields.
 pub fits-count : (code n : ℕ) → lengthFits code n ≡ true → 4 + 2 * countOf code ≤ n
 fits-count code n h = let z : 4 + 2 * (countOf code + leastOf code) ≤ n = le-of (each _ h .0) in omega arith
+
+-- Its fields are not shorter or longer than the kind's.
+pub fits-between : (code n : ℕ) → lengthFits code (n + 4) ≡ true → Between code n
+fits-between code n h =
+    let t = each _ h in
+    let l : 4 + 2 * (countOf code + leastOf code) ≤ n + 4 = le-of (t .0) in
+    let m : n + 4 ≤ 4 + 2 * (countOf code + mostOf code) = le-of (t .1 .0) in
+    (omega arith, omega arith)
 
 -- A test that a function answers, and whose answer a branch goes by.
 pub yes-of : (r t : Bool) → r ≡ t → not r ≡ false → t ≡ true
@@ -55,19 +63,6 @@ module _ (a b c d : Bool) where
   pub no-fault : a ≡ true → b ≡ true → c ≡ true → d ≡ true → none ≡ firstFault four
   unfolding firstFault
   no-fault h i j k = rw (h, i, j, k)
-
--- Two tests as one.
-pub first-fails : (a b : Bool) → a ≡ false → all (a ∷ b ∷ []) ≡ false
-unfolding all
-first-fails a b h = rw h
-
-pub second-fails : (a b : Bool) → a ≡ true → b ≡ false → all (a ∷ b ∷ []) ≡ false
-unfolding all
-second-fails a b h i = rw (h, i)
-
-pub both-hold : (a b : Bool) → a ≡ true → b ≡ true → all (a ∷ b ∷ []) ≡ true
-unfolding all
-both-hold a b h i = rw (h, i)
 
 -- 8: the last test.
 pub repeated : (a : Bool) → a ≡ false → some Refusal.RepeatedType ≡ firstFault ((Refusal.RepeatedType, a) ∷ [])

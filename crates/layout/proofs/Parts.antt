@@ -41,10 +41,10 @@ low an-op = omega arith
 low a-truth = omega arith
 low free = omega arith
 
-first-class : (f : Field) (n : ℕ) → (classNumber f + 8 * n) % 8 ≡ classNumber f
+pub first-class : (f : Field) (n : ℕ) → (classNumber f + 8 * n) % 8 ≡ classNumber f
 first-class f n = let l = low f in omega arith
 
-other-classes : (f : Field) (n : ℕ) → (classNumber f + 8 * n) / 8 ≡ n
+pub other-classes : (f : Field) (n : ℕ) → (classNumber f + 8 * n) / 8 ≡ n
 other-classes f n = let l = low f in omega arith
 
 module _ (L : Layout) (ss : List ℕ) (S : Sizes ss) (types : length (L .types) ≡ typeCount ss) (domains : length (L .domains) ≡ domainCount ss) where

@@ -3,16 +3,18 @@ use Prim.Native.Nat.{ℕ, suc, _+_, _-_, _*_, _/_, _%_, _≤_, _<_}
 use native.Mathlib.Omega.{arith}
 use native.Mathlib.Numerals.{add-one}
 use mathlib.Core.Path.{_≡_, refl}
-use mathlib.Core.Bool.{Bool, true, false}
+use mathlib.Core.Bool.{Bool, true, false, _&&_, and-true}
 use mathlib.Core.List.{List}
-use lib.ListN.{getD}
+use lib.ListN.{length, getD}
 use lib.Dec.{eqb, ltb}
 use borrow.Author.Tests.{ne-eqb, lt-ltb, le-ltb}
 use Rattle.image.specs.Bytes.{le16, words}
-use Rattle.image.specs.Tests.{allOf}
+use Rattle.image.specs.Tests.{all, allOf}
 use Rattle.records.specs.Heads.{pick}
-use Rattle.layout.specs.Sizes.{Sizes}
+use Rattle.records.specs.Codes.{countOf, leastOf, mostOf, classesOf}
+use Rattle.layout.specs.Sizes.{Sizes, termCount}
 use Rattle.layout.specs.Fields.{inClass, rangesFrom}
+use Rattle.layout.specs.Numbers.{Between, rangeFits}
 
 -- A field below its class's bound is in range, a free one too; one that is not below it is out of range, since every field is below the bound of the free ones.
 pub class-in : (ss : List ℕ) (c v : ℕ) → v < getD ss c 0 → inClass ss c v ≡ true
@@ -49,3 +51,12 @@ module _ (fs : List ℕ) (m n : ℕ) where
   pub child-stop : (i : ℕ) → i < n → m ≤ le16 fs (2 * i) → from i ≡ false
   unfolding allOf words
   child-stop i l h = let e : n - i ≡ suc (n - (i + 1)) = omega arith in rw (e, le-ltb (le16 fs (2 * i)) m h)
+
+-- 7 of a record whose kind's code is x, with as many children at least as at most.
+pub exact-range : (fs ss : List ℕ) (code x : ℕ) → code ≡ x → leastOf x ≡ mostOf x → Between code (length fs)
+    → rangeFits fs code ss ≡ (rangesFrom (countOf x) (classesOf x) fs ss 0 && allOf (λ e. ltb e (termCount ss)) (words fs (2 * countOf x) (leastOf x)))
+unfolding all
+exact-range fs ss code x e p b =
+    let d : Between x (length fs) = rw e at b in
+    let z : length fs / 2 - countOf x ≡ leastOf x = omega arith in
+    rw (e, z, and-true)

@@ -1,5 +1,5 @@
 -- Tests and numbers on the bytes that a record's fields occupy (document 01, "The image": "hands each record's fields on as the part of the image that they occupy"; refusal 7).
-use Prim.Native.Nat.{ℕ, zero, suc, _-_, _*_, _/_, _%_}
+use Prim.Native.Nat.{ℕ, zero, suc, _-_, _*_, _/_, _%_, _<_}
 use mathlib.Core.Path.{_≡_}
 use mathlib.Core.Bool.{Bool, true, _&&_}
 use mathlib.Core.List.{List}
@@ -13,6 +13,10 @@ use Rattle.records.specs.Keys.{keyKind, keyField0, keyField1, keyField2}
 -- Field i of n, 0 where it is none of them.
 abbrev pub fieldFrom : List ℕ → ℕ → ℕ → ℕ
 fieldFrom fs n i = pick (ltb i n) (le16 fs (2 * i)) 0
+
+-- Each of the n fields fits in eight bits.
+abbrev pub Narrow : List ℕ → ℕ → Type 0
+Narrow fs n = (i : ℕ) → fieldFrom fs n i < 256
 
 -- The number x is the key of a type with the kind's number k and these n fields.
 pub record KeyFrom (fs : List ℕ) (n k x : ℕ) : Type 0 where

@@ -1,5 +1,5 @@
 -- The refusals 4 to 8 (document 01, "Turned back at the gate") as tests on numbers: a kind's code, the sizes, the keys.
-use Prim.Native.Nat.{ℕ, _+_, _*_, _%_}
+use Prim.Native.Nat.{ℕ, _+_, _*_, _%_, _≤_}
 use mathlib.Core.Bool.{Bool, true, not}
 use mathlib.Core.List.{List, [], _∷_}
 use mathlib.Core.Option.{Option, none, some}
@@ -17,6 +17,10 @@ use Rattle.layout.specs.Fields.{rangesFrom, childrenBelow}
 -- 4: a length.
 abbrev pub lengthFits : ℕ → ℕ → Bool
 lengthFits code n = all (leb (4 + 2 * (countOf code + leastOf code)) n ∷ leb n (4 + 2 * (countOf code + mostOf code)) ∷ eqb (n % 2) 0 ∷ [])
+
+-- n bytes hold a kind's fields and its fewest children, and not more than its most.
+abbrev pub Between : ℕ → ℕ → Type 0
+Between code n = (2 * (countOf code + leastOf code) ≤ n) × (n ≤ 2 * (countOf code + mostOf code))
 
 -- 5 and 6: a section.
 abbrev pub orderFits : ℕ → List ℕ → Bool

@@ -30,7 +30,7 @@ fn enter(
     sizes: &mut [usize],
     doms: &mut [u16],
     types: &mut [u16],
-    keys: &mut [u64],
+    keys: &mut [u32],
     terms: &mut [u16],
 ) -> tests::Tested
     requires { ⌜ Entering (now image) (now kinds) at len kind (now sizes) (now doms) (now types) (now keys) (now terms) ⌝ }
@@ -68,7 +68,7 @@ pub fn scan_records(
     sizes: &mut [usize],
     doms: &mut [u16],
     types: &mut [u16],
-    keys: &mut [u64],
+    keys: &mut [u32],
     terms: &mut [u16],
 ) -> Scan
     requires { ⌜ Lent (now image) (now kinds) (now sizes) (now doms) (now types) (now keys) (now terms) ⌝ }

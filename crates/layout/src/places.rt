@@ -17,10 +17,10 @@ pub fn put(at: usize, class: usize, sizes: &mut [usize], table: &mut [u16])
 // 8, and one more type.
 pub fn put_type(
     at: usize,
-    key: u64,
+    key: u32,
     sizes: &mut [usize],
     types: &mut [u16],
-    keys: &mut [u64],
+    keys: &mut [u32],
 ) -> crate::tests::Tested
     requires { ⌜ (at < 65536) × (0 < length (now sizes)) × (getD (now sizes) 0 0 < length (now types)) × (getD (now sizes) 0 0 < length (now keys)) ⌝ }
     ensures { λ r. ⌜ PutType r at key (now (sizes .entry)) (now (types .entry)) (now (keys .entry)) (now (sizes .exit)) (now (types .exit)) (now (keys .exit)) ⌝ }

@@ -1,7 +1,6 @@
 // The refusals 4 to 8, each a function, and 4 to 7 in their order.
 ghost use mathlib.Core.Path.{_≡_};
 ghost use Prim.Native.Nat.{_+_, _≤_};
-ghost use mathlib.Core.Bool.{_&&_};
 ghost use lib.ListN.{length};
 ghost use Rattle.image.specs.Tests.{firstFault};
 ghost use Rattle.records.specs.Codes.{Sized};
@@ -64,22 +63,16 @@ pub fn has_room(section: u32, sizes: &[usize]) -> bool
     sizes[5] < 1024
 }
 
-fn both(a: bool, b: bool) -> bool
-    ensures { λ r. ⌜ r ≡ (a && b) ⌝ }
-{
-    a && b
-}
-
 // 8: the key of a type is none of the first n. All are compared, with no way out of the loop: so several are compared at
 // once.
-pub fn is_new(keys: &[u64], n: usize, key: u64) -> bool
+pub fn is_new(keys: &[u32], n: usize, key: u32) -> bool
     requires { ⌜ n ≤ length (now keys) ⌝ }
     ensures { λ r. ⌜ r ≡ newKey n (now (keys .entry)) key ⌝ }
 {
     let mut new = true;
     let mut i: usize = 0;
     while i < n {
-        new = both(new, key != keys[i]);
+        new = crate::fields::both(new, key != keys[i]);
         i += 1;
     }
     new
@@ -100,10 +93,7 @@ pub fn first_fault(fields: &[u8], code: u32, sizes: &[usize]) -> Tested
     if !has_room(section, sizes) {
         return Tested::Fault(image::Refusal::TooManyRecords);
     }
-    if !crate::fields::fields_in_range(fields, code, sizes) {
-        return Tested::Fault(image::Refusal::FieldRange);
-    }
-    if !crate::fields::children_in_range(fields, code, sizes) {
+    if !crate::fields::in_range(fields, code, sizes) {
         return Tested::Fault(image::Refusal::FieldRange);
     }
     Tested::Passed

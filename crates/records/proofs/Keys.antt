@@ -17,7 +17,7 @@ use Rattle.records.specs.Keys.{keyOf, keyKind, keyField0, keyField1, key
 use Rattle.records.proofs.Codes.{known-code}
 
 -- A key has the parts that it is made of, and is made of its parts.
-pub made : (k a b c : ℕ) → k < 65536 → a < 65536 → b < 65536
+pub made : (k a b c : ℕ) → k < 256 → a < 256 → b < 256
     → (keyKind (keyOf k a b c) ≡ k) × (keyField0 (keyOf k a b c) ≡ a) × (keyField1 (keyOf k a b c) ≡ b) × (keyField2 (keyOf k a b c) ≡ c)
 made k a b c hk ha hb = (omega arith, omega arith, omega arith, omega arith)
 

@@ -1,4 +1,4 @@
--- The key of a type: its kind's number and its fields in one number, so that two types are equal exactly if their keys are (document 01, "The image"; refusal 8, "type equal to an earlier one").
+-- The key of a type: its kind's number and its fields in one number, each in eight bits of it, so that two types are equal exactly if their keys are (document 01, "The image"; refusal 8, "type equal to an earlier one").
 use Prim.Native.Nat.{ℕ, _+_, _*_, _/_, _%_}
 use mathlib.Core.Path.{_≡_}
 use mathlib.Core.List.{List}
@@ -10,19 +10,19 @@ use Rattle.image.specs.Layout.{kindAt}
 use Rattle.records.specs.Heads.{pick}
 
 abbrev pub keyOf : ℕ → ℕ → ℕ → ℕ → ℕ
-keyOf k a b c = k + 65536 * a + 4294967296 * b + 281474976710656 * c
+keyOf k a b c = k + 256 * a + 65536 * b + 16777216 * c
 
 abbrev pub keyKind : ℕ → ℕ
-keyKind x = x % 65536
+keyKind x = x % 256
 
 abbrev pub keyField0 : ℕ → ℕ
-keyField0 x = x / 65536 % 65536
+keyField0 x = x / 256 % 256
 
 abbrev pub keyField1 : ℕ → ℕ
-keyField1 x = x / 4294967296 % 65536
+keyField1 x = x / 65536 % 256
 
 abbrev pub keyField2 : ℕ → ℕ
-keyField2 x = x / 281474976710656
+keyField2 x = x / 16777216
 
 -- Field i of the record at o, 0 where its kind has none.
 abbrev pub fieldOr0 : List ℕ → ℕ → ℕ → ℕ

@@ -18,10 +18,10 @@ fn wide(x: u16) -> usize
     x as usize
 }
 
-fn wide64(x: u16) -> u64
-    ensures { λ r. ⌜ (r ≡ x) × (r < 65536) ⌝ }
+fn wide32(x: u16) -> u32
+    ensures { λ r. ⌜ r ≡ x ⌝ }
 {
-    x as u64
+    x as u32
 }
 
 // The offset of a domain's record.
@@ -49,7 +49,7 @@ pub fn term_offset(terms: &[u16], n: TermNo) -> usize
 }
 
 // The key of a type.
-pub fn type_key(keys: &[u64], t: TypeNo) -> u64
+pub fn type_key(keys: &[u32], t: TypeNo) -> u32
     requires { ⌜ t .0 < length (now keys) ⌝ }
     ensures { λ r. ⌜ r ≡ getD (now (keys .entry)) (t .0) 0 ⌝ }
 {
@@ -80,34 +80,35 @@ pub fn domain_at(image: &[u8], at: usize, i: usize) -> DomainNo
     DomainNo(crate::words::field_at(image, at, i))
 }
 
-// A kind and three fields as one number.
-pub fn key_with(kind: u16, a: u16, b: u16, c: u16) -> u64
+// A kind and three fields as one number, each a byte of it.
+pub fn key_with(kind: u16, a: u16, b: u16, c: u16) -> u32
+    requires { ⌜ (kind < 256) × (a < 256) × (b < 256) × (c < 256) ⌝ }
     ensures { λ r. ⌜ r ≡ keyOf kind a b c ⌝ }
 {
-    wide64(kind) + 65536 * wide64(a) + 4294967296 * wide64(b) + 281474976710656 * wide64(c)
+    wide32(kind) + 256 * wide32(a) + 65536 * wide32(b) + 16777216 * wide32(c)
 }
 
 // The parts of a key.
-pub fn key_kind(k: u64) -> u16
+pub fn key_kind(k: u32) -> u16
     ensures { λ r. ⌜ r ≡ keyKind k ⌝ }
 {
-    (k % 65536) as u16
+    (k % 256) as u16
 }
 
-pub fn key_field0(k: u64) -> u16
+pub fn key_field0(k: u32) -> u16
     ensures { λ r. ⌜ r ≡ keyField0 k ⌝ }
 {
-    (k / 65536 % 65536) as u16
+    (k / 256 % 256) as u16
 }
 
-pub fn key_field1(k: u64) -> u16
+pub fn key_field1(k: u32) -> u16
     ensures { λ r. ⌜ r ≡ keyField1 k ⌝ }
 {
-    (k / 4294967296 % 65536) as u16
+    (k / 65536 % 256) as u16
 }
 
-pub fn key_field2(k: u64) -> u16
+pub fn key_field2(k: u32) -> u16
     ensures { λ r. ⌜ r ≡ keyField2 k ⌝ }
 {
-    (k / 281474976710656) as u16
+    (k / 16777216) as u16
 }

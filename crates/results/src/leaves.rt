@@ -79,10 +79,13 @@ fn gather(work: &[u8], depth: usize, w: u64, held: Gathered) -> Gathered
     gather(work, depth - 1, b, first)
 }
 
-// The leaves of a value: at most eight.
+// The leaves of a value: at most eight. Most values are no pairs, and those need no walk.
 pub fn plain_leaves(work: &[u8], w: u64) -> Gathered
     requires { ⌜ memoryLength ≤ length (now work) ⌝ }
     ensures { λ r. ⌜ r ≡ gathered (plainLeavesIn (memoryOf (now (work .entry))) w) ⌝ }
 {
+    if values::tag(w) != values::PAIR {
+        return with_word(no_leaves(), w);
+    }
     gather(work, 8, w, no_leaves())
 }

@@ -4,6 +4,7 @@ pub mod Table
 pub mod Ranges
 pub mod Nodes
 pub mod Operands
+pub mod KindNumbers
 pub mod Fields
 pub mod Decoded
 pub mod Noted

@@ -10,7 +10,7 @@ use records::numbers::key_field1;
 use records::numbers::key_kind;
 
 // The domain that a type names, 0 where it names none.
-pub fn domain_of(key: u64) -> u64
+pub fn domain_of(key: u32) -> u64
     ensures { λ r. ⌜ (r ≡ keyDomain key) × (r < 65536) ⌝ }
 {
     let k = key_kind(key);
@@ -24,7 +24,7 @@ pub fn domain_of(key: u64) -> u64
 }
 
 // A reference type, and what it refers to is plain.
-pub fn refers_to_plain(key: u64, leaves: &[u8]) -> bool
+pub fn refers_to_plain(key: u32, leaves: &[u8]) -> bool
     requires { ⌜ (keyKind key ≡ 21 → keyField0 key < length (now leaves)) ⌝ }
     ensures { λ r. ⌜ r ≡ keyPlain (now (leaves .entry)) key ⌝ }
 {
@@ -36,7 +36,7 @@ pub fn refers_to_plain(key: u64, leaves: &[u8]) -> bool
 }
 
 // The domain of the type of a new cell, and 16 more where what the cell holds is plain.
-pub fn note_of(key: u64, leaves: &[u8]) -> u64
+pub fn note_of(key: u32, leaves: &[u8]) -> u64
     requires { ⌜ (keyKind key ≡ 21 → keyField0 key < length (now leaves)) ⌝ }
     ensures { λ r. ⌜ r ≡ keyNote (now (leaves .entry)) key ⌝ }
 {

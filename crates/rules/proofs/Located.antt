@@ -14,7 +14,7 @@ use Rattle.image.proofs.Laid.{Below, TermOk, Good, layout-good, image-kept}
 use Rattle.verdicts.specs.Check.{typeNos}
 use Rattle.records.specs.Codes.{countOf, codeAt}
 use Rattle.records.proofs.Codes.{known-code}
-use Rattle.rules.specs.Lent.{Terms, IsTerm}
+use Rattle.rules.specs.Lent.{Terms, IsTerm, IsChild, leadOf}
 use Rattle.rules.proofs.Lists.{map-at, table-long, table-at}
 
 -- Every term has a type.
@@ -86,16 +86,27 @@ module _ (b table : List ℕ) (T : Terms b table) (n : ℕ) (h : IsTerm b n) whe
   pub lead-is : countOf (codeAt (numberAt b (termPlace (recordsOf b) n))) ≡ length (termRow (termKind (recordsOf b) n) .fields)
   lead-is = known-code (numberAt b (termPlace (recordsOf b) n)) (term (termKind (recordsOf b) n)) (term-ok .kind) .count
 
-  -- Child i is the field behind the lead fields and i children.
-  pub child-is : (i : ℕ) → i < length (children (recordsOf b) n)
-      → (fieldAt b (termPlace (recordsOf b) n) (length (termRow (termKind (recordsOf b) n) .fields) + i) ≡ getD (children (recordsOf b) n) i 0) × (getD (children (recordsOf b) n) i 0 < n)
-  child-is i l =
-      let k : ℕ = length (termRow (termKind (recordsOf b) n) .fields) in
+  -- Behind k fields stands child k - lead, inside the image; a child's number is lower.
+  pub child-room : (k : ℕ) → IsChild b n k → termPlace (recordsOf b) n + 4 + 2 * k + 1 < length b
+  child-room k l =
+      let i = inside in
+      let s = size in
+      let p = l .1 in
+      omega arith
+
+  pub child-is : (k : ℕ) → IsChild b n k → fieldAt b (termPlace (recordsOf b) n) k ≡ getD (children (recordsOf b) n) (k - leadOf b n) 0
+  child-is k l =
+      let d : ℕ = leadOf b n in
       let o : ℕ = termPlace (recordsOf b) n in
-      let m : i < fieldCount b o - k = rw (children-is, words-length) at l in
-      let e : o + 4 + 2 * k + 2 * i ≡ o + 4 + 2 * (k + i) = omega arith in
-      let w : getD (childrenAt b o (termRow (termKind (recordsOf b) n))) i 0 ≡ fieldAt b o (k + i) = words-at b (o + 4 + 2 * k) (fieldCount b o - k) i m ∙ ap (λ j. le16 b j) e in
-      (sym w ∙ ap (λ es. getD es i 0) (sym children-is), rw children-is (below-at n (childrenAt b o (termRow (termKind (recordsOf b) n))) i (term-ok .below) (rw children-is at l)))
+      let p : d ≤ k = l .0 in
+      let q : k < d + length (children (recordsOf b) n) = l .1 in
+      let z : length (children (recordsOf b) n) ≡ fieldCount b o - d = ap length children-is ∙ words-length b (o + 4 + 2 * d) (fieldCount b o - d) in
+      let e : o + 4 + 2 * k ≡ o + 4 + 2 * d + 2 * (k - d) = omega arith in
+      ap (λ j. le16 b j) e ∙ sym (words-at b (o + 4 + 2 * d) (fieldCount b o - d) (k - d) (omega arith)) ∙ ap (λ es. getD es (k - d) 0) (sym children-is)
+
+  pub child-lower : (i : ℕ) → i < length (children (recordsOf b) n) → getD (children (recordsOf b) n) i 0 < n
+  child-lower i l =
+      rw children-is (below-at n (childrenAt b (termPlace (recordsOf b) n) (termRow (termKind (recordsOf b) n))) i (term-ok .below) (rw children-is at l))
 
   pub child-type-is : (i : ℕ) → i < length (children (recordsOf b) n) → getD (typeNos (recordsOf b) (children (recordsOf b) n)) i 0 ≡ typeNo (recordsOf b) (getD (children (recordsOf b) n) i 0)
   child-type-is i l = map-at (λ e. typeNo (recordsOf b) e) (children (recordsOf b) n) i 0 0 l

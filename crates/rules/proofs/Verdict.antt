@@ -19,15 +19,15 @@ use Rattle.verdicts.specs.Check.{rule}
 use Rattle.records.specs.Keys.{keyKind}
 use Rattle.records.specs.Codes.{kindCodes, countOf, codeAt}
 use Rattle.records.proofs.Codes.{known-code}
-use Rattle.rules.specs.Lent.{Lent, Masks, Terms, IsTerm, IsType, Fixed, childTypes, contextIn, settingIn}
-use Rattle.rules.specs.Scalars.{judged, ruleVerdict, leafRule, unaryRule, binaryRule, chooseRule, pointcutRule}
+use Rattle.rules.specs.Lent.{Lent, Masks, Terms, IsTerm, IsType, Fixed, leadOf, childTypes, contextIn, settingIn}
+use Rattle.rules.specs.Scalars.{judged, ruleVerdict, leafRule, unaryRule, binaryRule, arithmeticRule, chooseRule, pointcutRule}
 use Rattle.rules.proofs.Small.{unbound, alone}
 use Rattle.rules.proofs.Keys.{Says, key-says}
 use Rattle.rules.proofs.Masks.{order-is}
-use Rattle.rules.proofs.Located.{term-ok, children-is, size, type-is, lead-is, child-is, child-type-is, other-is}
+use Rattle.rules.proofs.Located.{term-ok, children-is, size, type-is, lead-is, child-lower, child-type-is, other-is}
 use Rattle.rules.proofs.Leaf.{leaf-right, constant-right}
 use Rattle.rules.proofs.Unary.{unary-right}
-use Rattle.rules.proofs.Binary.{binary-right, choose-right}
+use Rattle.rules.proofs.Binary.{binary-right, arithmetic-right, choose-right}
 use Rattle.rules.proofs.LabelRule.{pointcut-right}
 use Rattle.rules.proofs.Scopes.{context-length, context-at}
 
@@ -56,6 +56,32 @@ fixed-count TermKind.store h = refl
 fixed-count TermKind.lower h = refl
 fixed-count TermKind.abort h = refl
 fixed-count TermKind.byte h = refl
+
+-- But for arithmetic, a kind with two children has only its type before them.
+one-field : (k : TermKind) → termRow k .most ≡ 2 → (termRow k .number ≡ 43 → ⊥) → length (termRow k .fields) ≡ 1
+one-field TermKind.unit h N = absurd (omega arith)
+one-field TermKind.truth h N = absurd (omega arith)
+one-field TermKind.number h N = absurd (omega arith)
+one-field TermKind.var h N = absurd (omega arith)
+one-field TermKind.seq h N = refl
+one-field TermKind.print h N = absurd (omega arith)
+one-field TermKind.ite h N = absurd (omega arith)
+one-field TermKind.pair h N = refl
+one-field TermKind.split h N = refl
+one-field TermKind.fun h N = absurd (omega arith)
+one-field TermKind.app h N = refl
+one-field TermKind.arith h N = absurd (N refl)
+one-field TermKind.newLabel h N = absurd (omega arith)
+one-field TermKind.mark h N = refl
+one-field TermKind.pcd h N = absurd (omega arith)
+one-field TermKind.adv h N = refl
+one-field TermKind.install h N = absurd (omega arith)
+one-field TermKind.newCell h N = absurd (omega arith)
+one-field TermKind.read h N = absurd (omega arith)
+one-field TermKind.store h N = refl
+one-field TermKind.lower h N = absurd (omega arith)
+one-field TermKind.abort h N = absurd (omega arith)
+one-field TermKind.byte h N = absurd (omega arith)
 
 low-childless : (k : TermKind) → termRow k .number < 36 → termRow k .most ≡ 0
 low-childless TermKind.unit h = refl
@@ -105,6 +131,10 @@ module _ (b terms : List ℕ) (T : Terms b terms) (n : ℕ) (h : IsTerm b n) whe
       let e = number-is in
       sym (count-is (λ q. absurd (omega arith))) ∙ low-childless (termKind (recordsOf b) n) (omega arith)
 
+  -- The children of a term with two, but for arithmetic, stand right behind the type.
+  pub right-behind : (numberAt b (termPlace (recordsOf b) n) ≡ 46 → ⊥) → (numberAt b (termPlace (recordsOf b) n) ≡ 43 → ⊥) → length (children (recordsOf b) n) ≡ 2 → leadOf b n ≡ 1
+  right-behind p q z = one-field (termKind (recordsOf b) n) (count-is p ∙ z) (λ e. q (number-is ∙ e))
+
   no-more-than-three : (numberAt b (termPlace (recordsOf b) n) ≡ 46 → ⊥) → termRow (termKind (recordsOf b) n) .most ≤ 3
   no-more-than-three p =
       let e = fixed-count (termKind (recordsOf b) n) (λ q. p (number-is ∙ q)) in
@@ -125,6 +155,16 @@ module _ (b terms : List ℕ) (T : Terms b terms) (n : ℕ) (h : IsTerm b n) whe
   rule-of k e p =
       ap (λ q. judged (termPlace (recordsOf b) n) (rule (recordsOf b) (p .context) (p .dom) (typeNo (recordsOf b) n) (others (recordsOf b) n) (childTypes b n) q)) (sym e)
 
+-- Arithmetic.
+module _ (b terms : List ℕ) (T : Terms b terms) (n : ℕ) (h : IsTerm b n) (e : numberAt b (termPlace (recordsOf b) n) ≡ 43) where
+  is-arithmetic : termKind (recordsOf b) n ≡ TermKind.arith
+  unfolding find
+  is-arithmetic = kind-is b terms T n h TermKind.arith refl e
+
+  pub operands : (leadOf b n ≡ 2) × (length (children (recordsOf b) n) ≡ 2)
+  operands =
+      (ap (λ k. length (termRow k .fields)) is-arithmetic, sym (count-is b terms T n h (λ q. absurd (omega arith))) ∙ ap (λ k. termRow k .most) is-arithmetic)
+
 -- Where the tables are lent.
 module _ (b terms keys : List ℕ) (G : Lent b terms keys) where
   pub own-type : (n : ℕ) → IsTerm b n → IsType b (typeNo (recordsOf b) n)
@@ -140,7 +180,7 @@ module _ (b terms keys : List ℕ) (G : Lent b terms keys) where
   child-typed n h i l =
       let t = types-long n in
       let m : i < length (children (recordsOf b) n) = omega arith in
-      let c = child-is b terms (G .terms) n h i m in
+      let c = child-lower b terms (G .terms) n h i m in
       let e : getD (childTypes b n) i 0 ≡ typeNo (recordsOf b) (getD (children (recordsOf b) n) i 0) = child-type-is b terms (G .terms) n h i m in
       rw e (own-type (getD (children (recordsOf b) n) i 0) (omega arith))
 
@@ -171,19 +211,18 @@ module _ (b terms keys : List ℕ) (G : Lent b terms keys) where
         (termKind (recordsOf b) n) (m ∙ z) (other-of b terms (G .terms) n h 52 refl))
         ∙ rule-of b terms (G .terms) n h (termKind (recordsOf b) n) refl (record { context = Γ; dom = c }))
 
-    pub binary-verdict : Fixed b n → length (children (recordsOf b) n) ≡ 2
+    pub binary-verdict : Fixed b n → length (children (recordsOf b) n) ≡ 2 → (numberAt b (termPlace (recordsOf b) n) ≡ 43 → ⊥)
         → judged (termPlace (recordsOf b) n)
-        (binaryRule masks (numberAt b (termPlace (recordsOf b) n)) (typeNo (recordsOf b) n) (getD keys (typeNo (recordsOf b) n) 0) (fieldAt b (termPlace (recordsOf b) n) 1) (getD (childTypes b n) 0 0) (getD keys (getD (childTypes b n) 0 0) 0)
+        (binaryRule masks (numberAt b (termPlace (recordsOf b) n)) (typeNo (recordsOf b) n) (getD keys (typeNo (recordsOf b) n) 0) (getD (childTypes b n) 0 0) (getD keys (getD (childTypes b n) 0 0) 0)
         (getD (childTypes b n) 1 0) (getD keys (getD (childTypes b n) 1 0) 0) c)
         ≡ ruleVerdict (recordsOf b) (record { context = Γ; dom = c }) n
-    unfolding kindCodes
-    binary-verdict F z =
+    binary-verdict F z N =
         let e = number-is b terms (G .terms) n h in
         let m = count-is b terms (G .terms) n h (F .no-pointcut) in
         let t = types-long n in
         rw e
-        (sym (binary-right (recordsOf b) masks (order-is b masks M) (termPlace (recordsOf b) n) Γ c (typeNo (recordsOf b) n) (others (recordsOf b) n) (childTypes b n) _ (own-says n h) _ (child-says n h 0 (omega arith)) _ (child-says n h 1 (omega arith)) _
-        (termKind (recordsOf b) n) (m ∙ z) (other-of b terms (G .terms) n h 43 refl))
+        (sym (binary-right (recordsOf b) masks (order-is b masks M) (termPlace (recordsOf b) n) Γ c (typeNo (recordsOf b) n) (others (recordsOf b) n) (childTypes b n) _ (own-says n h) _ (child-says n h 0 (omega arith)) _ (child-says n h 1 (omega arith))
+        (termKind (recordsOf b) n) (m ∙ z) (λ q. N (e ∙ q)))
         ∙ rule-of b terms (G .terms) n h (termKind (recordsOf b) n) refl (record { context = Γ; dom = c }))
 
     pub pointcut-verdict : numberAt b (termPlace (recordsOf b) n) ≡ 46
@@ -203,6 +242,17 @@ module _ (b terms keys : List ℕ) (G : Lent b terms keys) where
         (ap (λ q. judged (termPlace (recordsOf b) n) (record { bound = true; typed = q; allowed = true })) (sym (alone (eqb (keyKind (getD keys (typeNo (recordsOf b) n) 0)) (termRow (termKind (recordsOf b) n) .number - 16))))
         ∙ sym (constant-right (recordsOf b) (termPlace (recordsOf b) n) Γ c (typeNo (recordsOf b) n) (others (recordsOf b) n) (childTypes b n) _ (own-says n h) (termKind (recordsOf b) n) (omega arith))
         ∙ rule-of b terms (G .terms) n h (termKind (recordsOf b) n) refl (record { context = Γ; dom = c }))
+
+    pub arithmetic-verdict : numberAt b (termPlace (recordsOf b) n) ≡ 43
+        → judged (termPlace (recordsOf b) n)
+        (arithmeticRule (getD keys (typeNo (recordsOf b) n) 0) (fieldAt b (termPlace (recordsOf b) n) 1) (getD keys (getD (childTypes b n) 0 0) 0) (getD keys (getD (childTypes b n) 1 0) 0))
+        ≡ ruleVerdict (recordsOf b) (record { context = Γ; dom = c }) n
+    arithmetic-verdict e =
+        let l = operands b terms (G .terms) n h e in
+        let t = types-long n in
+        rw (← other-is b terms (G .terms) n h (omega arith))
+        (sym (arithmetic-right (recordsOf b) (termPlace (recordsOf b) n) Γ c (typeNo (recordsOf b) n) (others (recordsOf b) n) (childTypes b n) _ (own-says n h) _ (child-says n h 0 (omega arith)) _ (child-says n h 1 (omega arith)))
+        ∙ rule-of b terms (G .terms) n h TermKind.arith (is-arithmetic b terms (G .terms) n h e) (record { context = Γ; dom = c }))
 
     pub choice-verdict : Fixed b n → 2 < length (children (recordsOf b) n)
         → judged (termPlace (recordsOf b) n) (chooseRule (typeNo (recordsOf b) n) (getD keys (getD (childTypes b n) 0 0) 0) (getD (childTypes b n) 1 0) (getD (childTypes b n) 2 0)) ≡ ruleVerdict (recordsOf b) (record { context = Γ; dom = c }) n

@@ -1,5 +1,5 @@
 -- What the functions of this crate are lent: the offsets of the domains and the terms, the keys of the types and the masks of the domains of an image that is laid out, each in a table of its own; and the context of variables, in the first places of a scope (document 01, "The image": "variable k (0 the innermost)"; "Typing": "outer variables stay visible").
-use Prim.Native.Nat.{ℕ, zero, suc, _≤_, _<_}
+use Prim.Native.Nat.{ℕ, zero, suc, _+_, _≤_, _<_}
 use mathlib.Core.Path.{_≡_}
 use mathlib.Core.List.{List, [], _∷_}
 use lib.ListN.{length, getD, take}
@@ -8,7 +8,7 @@ use Rattle.image.specs.Limits.{domainLimit}
 use Rattle.image.specs.Bytes.{numberAt}
 use Rattle.image.specs.Kinds.{TermKind, termRow}
 use Rattle.image.specs.Layout.{laid, layout, recordsOf}
-use Rattle.image.specs.Types.{typePlace, termPlace, children}
+use Rattle.image.specs.Types.{typePlace, termPlace, termKind, children}
 use Rattle.verdicts.specs.Order.{masks}
 use Rattle.verdicts.specs.Settings.{Setting}
 use Rattle.verdicts.specs.Check.{typeNos}
@@ -43,6 +43,13 @@ IsTerm b n = n < length (recordsOf b .terms)
 
 abbrev pub IsType : List ℕ → ℕ → Type 0
 IsType b t = t < length (recordsOf b .types)
+
+-- How many fields stand before the children of term n; behind k fields stands one of them.
+abbrev pub leadOf : List ℕ → ℕ → ℕ
+leadOf b n = length (termRow (termKind (recordsOf b) n) .fields)
+
+abbrev pub IsChild : List ℕ → ℕ → ℕ → Type 0
+IsChild b n k = (leadOf b n ≤ k) × (k < leadOf b n + length (children (recordsOf b) n))
 
 -- The types that the children of term n state.
 abbrev pub childTypes : List ℕ → ℕ → List ℕ

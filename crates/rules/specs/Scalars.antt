@@ -59,7 +59,7 @@ unaryRule ms n t o f a x c =
     (pick (numberIs n TermKind.byte) (fits (keyIs o TypeKind.number ∷ keyIs x TypeKind.number ∷ []))
     (unaryAtDomain ms n t o f a x c)))
 
--- Of a term with two children, of types a and e with the keys x and y.
+-- Of a term with two children, of types a and e with the keys x and y, that is no arithmetic.
 unfoldable pub binaryAtDomain : List ℕ → ℕ → ℕ → ℕ → ℕ → ℕ → ℕ → ℕ → Rule
 binaryAtDomain ms n t o x e y c =
     pick (numberIs n TermKind.app) (fitsAt (keyIs x TypeKind.fun ∷ eqb (keyField0 x) e ∷ eqb (keyField2 x) t ∷ []) (eqb (keyField1 x) c))
@@ -67,17 +67,20 @@ binaryAtDomain ms n t o x e y c =
     (pick (numberIs n TermKind.adv) (fitsAt (keyIs o TypeKind.adv ∷ keyIs x TypeKind.pcd ∷ keyIs y TypeKind.unit ∷ []) (bitOf ms (keyField0 o) (keyField1 x)))
     (fitsAt (keyIs o TypeKind.unit ∷ keyIs x TypeKind.ref ∷ eqb (keyField0 x) e ∷ []) (bitOf ms (keyField1 x) c))))
 
+unfoldable pub binaryRule : List ℕ → ℕ → ℕ → ℕ → ℕ → ℕ → ℕ → ℕ → ℕ → Rule
+binaryRule ms n t o a x e y c =
+    pick (numberIs n TermKind.seq) (fits (keyIs x TypeKind.unit ∷ eqb e t ∷ []))
+    (pick (numberIs n TermKind.pair) (fits (keyIs o TypeKind.pair ∷ eqb (keyField0 o) a ∷ eqb (keyField1 o) e ∷ []))
+    (pick (numberIs n TermKind.split) (fits (keyIs x TypeKind.pair ∷ eqb e t ∷ []))
+    (binaryAtDomain ms n t o x e y c)))
+
 -- The kind of type that arithmetic gives.
 abbrev pub resultKind : ℕ → ℕ
 resultKind f = pick (ltb f 2) (typeRow TypeKind.number .number) (typeRow TypeKind.truth .number)
 
-unfoldable pub binaryRule : List ℕ → ℕ → ℕ → ℕ → ℕ → ℕ → ℕ → ℕ → ℕ → ℕ → Rule
-binaryRule ms n t o f a x e y c =
-    pick (numberIs n TermKind.seq) (fits (keyIs x TypeKind.unit ∷ eqb e t ∷ []))
-    (pick (numberIs n TermKind.pair) (fits (keyIs o TypeKind.pair ∷ eqb (keyField0 o) a ∷ eqb (keyField1 o) e ∷ []))
-    (pick (numberIs n TermKind.split) (fits (keyIs x TypeKind.pair ∷ eqb e t ∷ []))
-    (pick (numberIs n TermKind.arith) (fits (eqb (keyKind o) (resultKind f) ∷ keyIs x TypeKind.number ∷ keyIs y TypeKind.number ∷ []))
-    (binaryAtDomain ms n t o x e y c))))
+-- Of arithmetic: f is its operation, x and y are the keys of its operands' types.
+unfoldable pub arithmeticRule : ℕ → ℕ → ℕ → ℕ → Rule
+arithmeticRule o f x y = fits (eqb (keyKind o) (resultKind f) ∷ keyIs x TypeKind.number ∷ keyIs y TypeKind.number ∷ [])
 
 -- Of an if: x is the key of the test's type, e and g are the types of its two branches.
 unfoldable pub chooseRule : ℕ → ℕ → ℕ → ℕ → Rule

@@ -6,6 +6,7 @@ use crate::pointcut::labels_above;
 use crate::pointcut::labels_fit;
 use crate::scalars::binary_rule;
 use crate::scalars::leaf_rule;
+use crate::scalars::result_kind;
 use crate::scalars::unary_rule;
 use crate::terms::child_count;
 use crate::terms::child_type;
@@ -13,6 +14,7 @@ use crate::terms::field_behind;
 use crate::terms::term_kind;
 use crate::terms::term_place;
 use crate::terms::term_type;
+use crate::terms::type_behind;
 use crate::types::first_type;
 use crate::types::is_kind;
 use crate::types::same_type;
@@ -37,7 +39,7 @@ fn check_leaf(
     image: &[u8],
     masks: &[u16],
     terms: &[u16],
-    keys: &[u64],
+    keys: &[u32],
     c: DomainNo,
     n: TermNo,
 ) -> Verdict
@@ -59,7 +61,7 @@ fn check_unary(
     kinds: &[u32],
     masks: &[u16],
     terms: &[u16],
-    keys: &[u64],
+    keys: &[u32],
     c: DomainNo,
     n: TermNo,
 ) -> Verdict
@@ -84,32 +86,30 @@ fn check_unary(
     )
 }
 
+// A term with two children, right behind its type.
 fn check_binary(
     image: &[u8],
-    kinds: &[u32],
     masks: &[u16],
     terms: &[u16],
-    keys: &[u64],
+    keys: &[u32],
     c: DomainNo,
     n: TermNo,
 ) -> Verdict
-    requires { ⌜ Lent (now image) (now terms) (now keys) × IsTerm (now image) (n .0) × Fixed (now image) (n .0) × (length (children (recordsOf (now image)) (n .0)) ≡ 2) × Masks (now image) (now masks) × (now kinds ≡ kindCodes) ⌝ }
+    requires { ⌜ Lent (now image) (now terms) (now keys) × IsTerm (now image) (n .0) × Fixed (now image) (n .0) × (length (children (recordsOf (now image)) (n .0)) ≡ 2) × Masks (now image) (now masks) × (numberAt (now image) (termPlace (recordsOf (now image)) (n .0)) ≡ 43 → ⊥) ⌝ }
     ensures { λ r. ⌜ ((Γ : List ℕ) → r ≡ ruleVerdict (recordsOf (now (image .entry))) (record { context = Γ; dom = c .0 }) (n .0)) ⌝ }
 {
     let t = term_type(image, terms, n);
-    let a = child_type(image, kinds, terms, n, 0);
-    let e = child_type(image, kinds, terms, n, 1);
+    let a = type_behind(image, terms, n, 1);
+    let e = type_behind(image, terms, n, 2);
     let own = type_key(keys, t);
     let first = type_key(keys, a);
     let second = type_key(keys, e);
-    let f = field_behind(image, terms, n);
     binary_rule(
         masks,
         term_place(image, terms, n),
         term_kind(image, terms, n),
         t,
         own,
-        f,
         a,
         first,
         e,
@@ -118,8 +118,28 @@ fn check_binary(
     )
 }
 
+// Arithmetic, the one kind whose two children stand behind one more field, the operation.
+fn check_arithmetic(image: &[u8], terms: &[u16], keys: &[u32], n: TermNo) -> Verdict
+    requires { ⌜ Lent (now image) (now terms) (now keys) × IsTerm (now image) (n .0) × (numberAt (now image) (termPlace (recordsOf (now image)) (n .0)) ≡ 43) ⌝ }
+    ensures { λ r. ⌜ ((Γ : List ℕ) (c : ℕ) → r ≡ ruleVerdict (recordsOf (now (image .entry))) (record { context = Γ; dom = c }) (n .0)) ⌝ }
+{
+    let own = type_key(keys, term_type(image, terms, n));
+    let first = type_key(keys, type_behind(image, terms, n, 2));
+    let second = type_key(keys, type_behind(image, terms, n, 3));
+    let f = field_behind(image, terms, n);
+    judge(
+        term_place(image, terms, n),
+        all_three(
+            is_kind(own, result_kind(f)),
+            is_kind(first, 18),
+            is_kind(second, 18),
+        ),
+        true,
+    )
+}
+
 // An if, the one kind with three children.
-fn check_choice(image: &[u8], kinds: &[u32], terms: &[u16], keys: &[u64], n: TermNo) -> Verdict
+fn check_choice(image: &[u8], kinds: &[u32], terms: &[u16], keys: &[u32], n: TermNo) -> Verdict
     requires { ⌜ Lent (now image) (now terms) (now keys) × IsTerm (now image) (n .0) × Fixed (now image) (n .0) × (2 < length (children (recordsOf (now image)) (n .0))) × (now kinds ≡ kindCodes) ⌝ }
     ensures { λ r. ⌜ ((Γ : List ℕ) (c : ℕ) → r ≡ ruleVerdict (recordsOf (now (image .entry))) (record { context = Γ; dom = c }) (n .0)) ⌝ }
 {
@@ -140,7 +160,7 @@ fn check_pointcut(
     kinds: &[u32],
     masks: &[u16],
     terms: &[u16],
-    keys: &[u64],
+    keys: &[u32],
     n: TermNo,
 ) -> Verdict
     requires { ⌜ Lent (now image) (now terms) (now keys) × IsTerm (now image) (n .0) × (numberAt (now image) (termPlace (recordsOf (now image)) (n .0)) ≡ 46) × (now kinds ≡ kindCodes) × Masks (now image) (now masks) ⌝ }
@@ -184,7 +204,7 @@ fn check_variable(image: &[u8], terms: &[u16], scope: &[u8], len: usize, n: Term
 }
 
 // A unit, truth or number, whose kind's number is 16 more than its type's.
-fn check_constant(image: &[u8], terms: &[u16], keys: &[u64], kind: u16, n: TermNo) -> Verdict
+fn check_constant(image: &[u8], terms: &[u16], keys: &[u32], kind: u16, n: TermNo) -> Verdict
     requires { ⌜ Lent (now image) (now terms) (now keys) × IsTerm (now image) (n .0) × (kind ≡ numberAt (now image) (termPlace (recordsOf (now image)) (n .0))) × (kind < 35) ⌝ }
     ensures { λ r. ⌜ ((Γ : List ℕ) (c : ℕ) → r ≡ ruleVerdict (recordsOf (now (image .entry))) (record { context = Γ; dom = c }) (n .0)) ⌝ }
 {
@@ -206,7 +226,7 @@ fn constant_type(kind: u16) -> u16
 pub fn check_leaf_kind(
     image: &[u8],
     terms: &[u16],
-    keys: &[u64],
+    keys: &[u32],
     scope: &[u8],
     len: usize,
     kind: u16,
@@ -226,7 +246,7 @@ pub fn check_rule(
     kinds: &[u32],
     masks: &[u16],
     terms: &[u16],
-    keys: &[u64],
+    keys: &[u32],
     scope: &[u8],
     len: usize,
     c: DomainNo,
@@ -239,6 +259,9 @@ pub fn check_rule(
     if kind == 35 {
         return check_variable(image, terms, scope, len, n);
     }
+    if kind == 43 {
+        return check_arithmetic(image, terms, keys, n);
+    }
     if kind == 46 {
         return check_pointcut(image, kinds, masks, terms, keys, n);
     }
@@ -250,7 +273,7 @@ pub fn check_rule(
         return check_unary(image, kinds, masks, terms, keys, c, n);
     }
     if k == 2 {
-        return check_binary(image, kinds, masks, terms, keys, c, n);
+        return check_binary(image, masks, terms, keys, c, n);
     }
     check_choice(image, kinds, terms, keys, n)
 }

@@ -21,7 +21,7 @@ ghost use Rattle.image.specs.Limits.{domainLimit};
 ghost use Rattle.rules.specs.Scalars.{judged, leafRule, unaryAtDomain, unaryRule, binaryAtDomain, binaryRule, resultKind};
 
 // Constants, new label and abort.
-pub fn leaf_rule(masks: &[u16], at: usize, kind: u16, own: u64, c: DomainNo) -> Verdict
+pub fn leaf_rule(masks: &[u16], at: usize, kind: u16, own: u32, c: DomainNo) -> Verdict
     requires { ⌜ length (now masks) ≡ domainLimit ⌝ }
     ensures { λ r. ⌜ r ≡ judged at (leafRule (now (masks .entry)) kind own (c .0)) ⌝ }
 {
@@ -40,10 +40,10 @@ fn unary_at_domain(
     at: usize,
     kind: u16,
     t: TypeNo,
-    own: u64,
+    own: u32,
     f: u16,
     a: TypeNo,
-    first: u64,
+    first: u32,
     c: DomainNo,
 ) -> Verdict
     requires { ⌜ length (now masks) ≡ domainLimit ⌝ }
@@ -79,10 +79,10 @@ pub fn unary_rule(
     at: usize,
     kind: u16,
     t: TypeNo,
-    own: u64,
+    own: u32,
     f: u16,
     a: TypeNo,
-    first: u64,
+    first: u32,
     c: DomainNo,
 ) -> Verdict
     requires { ⌜ length (now masks) ≡ domainLimit ⌝ }
@@ -106,10 +106,10 @@ fn binary_at_domain(
     at: usize,
     kind: u16,
     t: TypeNo,
-    own: u64,
-    first: u64,
+    own: u32,
+    first: u32,
     e: TypeNo,
-    second: u64,
+    second: u32,
     c: DomainNo,
 ) -> Verdict
     requires { ⌜ length (now masks) ≡ domainLimit ⌝ }
@@ -140,29 +140,21 @@ fn binary_at_domain(
     }
 }
 
-// The kind of type that arithmetic gives: a number for plus and minus, truth for less and equal.
-fn result_kind(f: u16) -> u16
-    ensures { λ r. ⌜ r ≡ resultKind f ⌝ }
-{
-    if f < 2 { 18 } else { 17 }
-}
-
-// And sequence, pair, split and arithmetic.
+// And sequence, pair and split.
 pub fn binary_rule(
     masks: &[u16],
     at: usize,
     kind: u16,
     t: TypeNo,
-    own: u64,
-    f: u16,
+    own: u32,
     a: TypeNo,
-    first: u64,
+    first: u32,
     e: TypeNo,
-    second: u64,
+    second: u32,
     c: DomainNo,
 ) -> Verdict
     requires { ⌜ length (now masks) ≡ domainLimit ⌝ }
-    ensures { λ r. ⌜ r ≡ judged at (binaryRule (now (masks .entry)) kind (t .0) own f (a .0) first (e .0) second (c .0)) ⌝ }
+    ensures { λ r. ⌜ r ≡ judged at (binaryRule (now (masks .entry)) kind (t .0) own (a .0) first (e .0) second (c .0)) ⌝ }
 {
     match kind {
         36 => judge(at, both(is_kind(first, 16), same_type(e, t)), true),
@@ -176,15 +168,13 @@ pub fn binary_rule(
             true,
         ),
         40 => judge(at, both(is_kind(first, 19), same_type(e, t)), true),
-        43 => judge(
-            at,
-            all_three(
-                is_kind(own, result_kind(f)),
-                is_kind(first, 18),
-                is_kind(second, 18),
-            ),
-            true,
-        ),
         _ => binary_at_domain(masks, at, kind, t, own, first, e, second, c),
     }
+}
+
+// The kind of type that arithmetic gives: a number for plus and minus, truth for less and equal.
+pub fn result_kind(f: u16) -> u16
+    ensures { λ r. ⌜ r ≡ resultKind f ⌝ }
+{
+    if f < 2 { 18 } else { 17 }
 }

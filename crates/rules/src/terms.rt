@@ -5,14 +5,13 @@ use records::numbers::TermNo;
 use records::numbers::TypeNo;
 use records::words::word;
 ghost use mathlib.Core.Path.{_≡_};
-ghost use Prim.Native.Nat.{_+_, _<_};
+ghost use Prim.Native.Nat.{_+_, _-_, _<_};
 ghost use lib.ListN.{length, getD};
 ghost use Rattle.image.specs.Bytes.{numberAt, fieldCount, fieldAt};
 ghost use Rattle.image.specs.Layout.{recordsOf};
-ghost use Rattle.image.specs.Kinds.{termRow};
-ghost use Rattle.image.specs.Types.{termPlace, termKind, typeNo, children};
+ghost use Rattle.image.specs.Types.{termPlace, typeNo, children};
 ghost use Rattle.records.specs.Codes.{kindCodes};
-ghost use Rattle.rules.specs.Lent.{Terms, IsTerm, IsType, childTypes};
+ghost use Rattle.rules.specs.Lent.{Terms, IsTerm, IsType, IsChild, leadOf, childTypes};
 
 pub fn term_place(image: &[u8], terms: &[u16], n: TermNo) -> usize
     requires { ⌜ Terms (now image) (now terms) × IsTerm (now image) (n .0) ⌝ }
@@ -45,7 +44,7 @@ pub fn field_behind(image: &[u8], terms: &[u16], n: TermNo) -> u16
 // How many fields stand before the children.
 pub fn lead(image: &[u8], kinds: &[u32], terms: &[u16], n: TermNo) -> usize
     requires { ⌜ Terms (now image) (now terms) × IsTerm (now image) (n .0) × (now kinds ≡ kindCodes) ⌝ }
-    ensures { λ r. ⌜ r ≡ length (termRow (termKind (recordsOf (now (image .entry))) (n .0)) .fields) ⌝ }
+    ensures { λ r. ⌜ r ≡ leadOf (now (image .entry)) (n .0) ⌝ }
 {
     field_count(known_code(kinds, term_kind(image, terms, n)))
 }
@@ -60,18 +59,33 @@ pub fn child_count(image: &[u8], kinds: &[u32], terms: &[u16], n: TermNo) -> usi
     (len - 4) / 2 - k
 }
 
+// The child behind k fields of the record; and its type.
+pub fn child_behind(image: &[u8], terms: &[u16], n: TermNo, k: usize) -> TermNo
+    requires { ⌜ Terms (now image) (now terms) × IsTerm (now image) (n .0) × IsChild (now image) (n .0) k ⌝ }
+    ensures { λ r. ⌜ (r .0 ≡ getD (children (recordsOf (now (image .entry))) (n .0)) (k - leadOf (now (image .entry)) (n .0)) 0) × (r .0 < n .0) ⌝ }
+{
+    records::numbers::child_at(image, term_place(image, terms, n), k)
+}
+
+pub fn type_behind(image: &[u8], terms: &[u16], n: TermNo, k: usize) -> TypeNo
+    requires { ⌜ Terms (now image) (now terms) × IsTerm (now image) (n .0) × IsChild (now image) (n .0) k ⌝ }
+    ensures { λ r. ⌜ (r .0 ≡ getD (childTypes (now (image .entry)) (n .0)) (k - leadOf (now (image .entry)) (n .0)) 0) × IsType (now (image .entry)) (r .0) ⌝ }
+{
+    term_type(image, terms, child_behind(image, terms, n, k))
+}
+
 pub fn child(image: &[u8], kinds: &[u32], terms: &[u16], n: TermNo, i: usize) -> TermNo
     requires { ⌜ Terms (now image) (now terms) × IsTerm (now image) (n .0) × (now kinds ≡ kindCodes) × (i < length (children (recordsOf (now image)) (n .0))) ⌝ }
     ensures { λ r. ⌜ (r .0 ≡ getD (children (recordsOf (now (image .entry))) (n .0)) i 0) × (r .0 < n .0) ⌝ }
 {
-    let at = term_place(image, terms, n);
     let k = lead(image, kinds, terms, n);
-    records::numbers::child_at(image, at, k + i)
+    child_behind(image, terms, n, k + i)
 }
 
 pub fn child_type(image: &[u8], kinds: &[u32], terms: &[u16], n: TermNo, i: usize) -> TypeNo
     requires { ⌜ Terms (now image) (now terms) × IsTerm (now image) (n .0) × (now kinds ≡ kindCodes) × (i < length (children (recordsOf (now image)) (n .0))) ⌝ }
     ensures { λ r. ⌜ (r .0 ≡ getD (childTypes (now (image .entry)) (n .0)) i 0) × IsType (now (image .entry)) (r .0) ⌝ }
 {
-    term_type(image, terms, child(image, kinds, terms, n, i))
+    let k = lead(image, kinds, terms, n);
+    type_behind(image, terms, n, k + i)
 }

@@ -42,6 +42,14 @@ from-hold r place ok n h = go n 0 (λ k l. all-below n ok h k (omega arith))
     go zero i f = refl
     go (suc m) i f = let e : ok i ≡ true = f i (omega arith) in rw (e, requireFrom) (go m (suc i) (λ k l. f k (omega arith)))
 
+-- Where each test before f holds, and that of f does not, it is refused there.
+pub from-first : (r : Refusal) (place : ℕ → ℕ) (ok : ℕ → Bool) (n f : ℕ) → f < n → ((k : ℕ) → k < f → ok k ≡ true) → ok f ≡ false → requireFrom n 0 r place ok ≡ Verdict.Refused r (place f)
+from-first r place ok n f h before e = go f (omega arith) ∙ from-here r place ok n f h e
+  where
+    go : (i : ℕ) → i ≤ f → requireFrom n 0 r place ok ≡ requireFrom (n - i) i r place ok
+    go zero l = from-start r place ok n
+    go (suc i) l = let w : i + 1 ≡ suc i = omega arith in go i (omega arith) ∙ rw w at (from-next r place ok n i (omega arith) (before i (omega arith)))
+
 -- One more test.
 pub below-more : (n : ℕ) (ok : ℕ → Bool) (b t : Bool) → b ≡ allBelow n ok → t ≡ (b && ok n) → t ≡ allBelow (n + 1) ok
 unfolding allBelow

@@ -1,53 +1,63 @@
-// Refusal 11: every term but the root is a child exactly once. Uses are kept up to 2.
-use image::Refusal;
+// Refusal 11: every term but the root is a child exactly once. The depths tell: a term has depth 0 until it is a child, and the lowest term that is a child again is kept.
 use records::numbers::TermNo;
-use verdicts::Verdict;
 ghost use mathlib.Core.Path.{_≡_};
-ghost use Prim.Native.Nat.{_≤_, _<_};
-ghost use lib.ListN.{length, getD, set};
+ghost use Prim.Native.Nat.{_≤_};
+ghost use mathlib.Core.Bool.{not};
+ghost use lib.ListN.{length, getD};
 ghost use lib.Dec.{eqb};
 ghost use Rattle.image.specs.Tests.{allBelow};
-ghost use Rattle.image.specs.Limits.{termLimit};
-ghost use Rattle.shape.specs.Marks.{more, usesFrom};
+ghost use Rattle.shape.specs.Marks.{lowered, FirstUnused, FirstMisused};
 
-// One use more of a term.
-pub fn use_term(uses: &mut [u8], e: TermNo)
-    requires { ⌜ e .0 < length (now uses) ⌝ }
-    ensures { λ _. ⌜ now (uses .exit) ≡ set (now (uses .entry)) (e .0) (more 2 (getD (now (uses .entry)) (e .0) 0)) ⌝ }
+// The lowest term used again, with one child more: it is used again if its depth is not 0.
+pub fn lowest(low: usize, depth: u8, e: TermNo) -> usize
+    ensures { λ r. ⌜ r ≡ lowered low depth (e .0) ⌝ }
 {
     let i = e.0 as usize;
-    uses[i] = crate::notes::one_more(2, uses[i]);
+    if depth != 0 {
+        if i < low {
+            return i;
+        }
+    }
+    low
 }
 
-// Each of the n first terms is used once.
-fn all_once(uses: &[u8], n: usize) -> bool
-    requires { ⌜ n ≤ length (now uses) ⌝ }
-    ensures { λ r. ⌜ r ≡ allBelow n (λ k. eqb (getD (now (uses .entry)) k 0) 1) ⌝ }
+// Each of the n first terms is used. There is no way out of the loop, so that many are tested at once.
+fn all_used(depths: &[u8], n: usize) -> bool
+    requires { ⌜ n ≤ length (now depths) ⌝ }
+    ensures { λ r. ⌜ r ≡ allBelow n (λ k. not (eqb (getD (now (depths .entry)) k 0) 0)) ⌝ }
 {
     let mut ok = true;
     let mut i: usize = 0;
     while i < n {
-        ok = crate::notes::both(ok, uses[i] == 1);
+        ok = crate::notes::both(ok, depths[i] != 0);
         i += 1;
     }
     ok
 }
 
-// Refused at the first of the n first terms that is not used once.
-pub fn first_misused(uses: &[u8], terms: &[u16], n: usize) -> Verdict
-    requires { ⌜ (n ≤ length (now uses)) × (n ≤ length (now terms)) × (n ≤ termLimit) ⌝ }
-    ensures { λ r. ⌜ r ≡ usesFrom (now (terms .entry)) (now (uses .entry)) n 0 ⌝ }
+// The first of the n first terms that is not used; n if each is.
+fn first_unused(depths: &[u8], n: usize) -> usize
+    requires { ⌜ n ≤ length (now depths) ⌝ }
+    ensures { λ r. ⌜ FirstUnused (now (depths .entry)) n r ⌝ }
 {
-    if all_once(uses, n) {
-        return Verdict::Accepted;
+    if all_used(depths, n) {
+        return n;
     }
     let mut i: usize = 0;
     while i < n {
-        if crate::notes::mark_of(uses, TermNo(i as u16)) != 1 {
-            let at = records::numbers::term_offset(terms, TermNo(i as u16));
-            return Verdict::Refused(Refusal::UseCount, at);
+        if depths[i] == 0 {
+            return i;
         }
         i += 1;
     }
-    Verdict::Accepted
+    n
+}
+
+// The first of the n first terms that is not used or is used again; n or more if there is none.
+pub fn first_misused(depths: &[u8], low: usize, n: usize) -> usize
+    requires { ⌜ n ≤ length (now depths) ⌝ }
+    ensures { λ r. ⌜ FirstMisused (now (depths .entry)) low n r ⌝ }
+{
+    let unused = first_unused(depths, n);
+    if low < unused { low } else { unused }
 }

@@ -3,9 +3,9 @@ ghost use mathlib.Core.Path.{_≡_};
 ghost use Prim.Native.Nat.{_≤_, _<_};
 ghost use lib.ListN.{length};
 ghost use Rattle.area.specs.Memory.{memoryLength};
-ghost use Rattle.flat.specs.FlatRun.{startRegs, flatRun};
+ghost use Rattle.flat.specs.FlatRun.{startRegs, turns, flatRun};
 ghost use Rattle.tables.specs.View.{memoryOf};
-ghost use Rattle.operands.specs.Phases.{Moved};
+ghost use Rattle.operands.specs.Phases.{RegsFit, stateOf, Moved};
 use crate::turn::turn;
 use flat::Regs;
 use operands::regs::EVAL;
@@ -35,7 +35,33 @@ fn start_regs(root: usize, budget: u32) -> Regs
     }
 }
 
-// A run of the program from its root, with a budget.
+// So many turns at most, from some registers on.
+fn run_turns(
+    rows: &[u64],
+    image: &[u8],
+    work: &mut [u8],
+    frame: &[u8],
+    log: &mut [u8],
+    start: Regs,
+    count: u64,
+) -> Regs
+    requires { ⌜ (1024 ≤ length (now rows)) × (memoryLength ≤ length (now work)) × RegsFit (length (now log)) start ⌝ }
+    ensures { λ q. ⌜ Moved (turns count (record { rows = now (rows .entry); image = now (image .entry) }) (now (frame .entry)) (stateOf (now (work .entry)) (now (log .entry)) start)) (now (work .entry)) (now (work .exit)) (now (log .exit)) q ⌝ }
+{
+    let mut r = start;
+    let mut fuel = count;
+    while 0 < fuel {
+        if HALTED <= r.mode {
+            return r;
+        }
+        r = turn(rows, image, work, frame, log, r);
+        fuel -= 1;
+    }
+    r
+}
+
+// A run of the program from its root, with a budget. It is made in two halves, the second of which finds the machine halted
+// in all but the longest runs: a function that is called twice is compiled as one of its own, and its loop is faster so.
 pub fn run_program(
     rows: &[u64],
     image: &[u8],
@@ -48,14 +74,15 @@ pub fn run_program(
     requires { ⌜ (1024 ≤ length (now rows)) × (memoryLength ≤ length (now work)) ⌝ }
     ensures { λ q. ⌜ Moved (flatRun (record { rows = now (rows .entry); image = now (image .entry) }) (now (frame .entry)) root budget (memoryOf (now (work .entry))) (now (log .entry))) (now (work .entry)) (now (work .exit)) (now (log .exit)) q ⌝ }
 {
-    let mut r = start_regs(root, budget);
-    let mut fuel = (budget as u64 + 1) * 16384;
-    while 0 < fuel {
-        if HALTED <= r.mode {
-            return r;
-        }
-        r = turn(rows, image, work, frame, log, r);
-        fuel -= 1;
-    }
-    r
+    let half = (budget as u64 + 1) * 8192;
+    let r = run_turns(
+        rows,
+        image,
+        work,
+        frame,
+        log,
+        start_regs(root, budget),
+        half,
+    );
+    run_turns(rows, image, work, frame, log, r, half)
 }

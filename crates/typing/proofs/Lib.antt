@@ -2,4 +2,5 @@
 pub mod PlainTypes
 pub mod ChildSettings
 pub mod TermPass
+pub mod ScopeRoom
 pub mod Root

@@ -1,16 +1,20 @@
 -- The typing pass in parts: a child of a term where it stands in a scope, the root (document 01, "Typing"; "Turned back at the gate", refusals 13 to 16, "parent before children, left first").
-use Prim.Native.Nat.{ℕ, _+_, _≤_, _<_}
+use Prim.Native.Nat.{ℕ, _+_, _*_, _≤_, _<_}
 use mathlib.Core.Path.{_≡_}
 use mathlib.Core.List.{List}
-use lib.ListN.{take, length}
+use lib.ListN.{take, length, getD}
 use lib.Dec.{ltb}
 use Rattle.calculus.specs.Plain.{isPlain}
 use Rattle.image.specs.declared.Refusal.{Refusal}
+use Rattle.image.specs.Limits.{depthLimit}
 use Rattle.image.specs.Layout.{Layout, recordsOf}
 use Rattle.image.specs.Types.{termPlace, children, rootOf, rootType}
 use Rattle.verdicts.specs.declared.Verdict.{Verdict}
 use Rattle.verdicts.specs.Answers.{require}
-use Rattle.verdicts.specs.Check.{settingAt, check, rootSetting}
+use Rattle.verdicts.specs.Settings.{Setting}
+use Rattle.verdicts.specs.Shape.{depths}
+use Rattle.verdicts.specs.Acceptable.{Shaped}
+use Rattle.verdicts.specs.Check.{settingAt, check, checkAll, checked, rootSetting}
 use Rattle.rules.specs.Lent.{Lent, IsTerm, settingIn}
 use Rattle.rules.specs.Scalars.{ruleVerdict}
 
@@ -28,6 +32,16 @@ pub record ChildAt (b before after : List ℕ) (len c n i m d : ℕ) : Type 0 wh
   pub kept : take len after ≡ take len before
   pub grown : len ≤ m
   pub little : m ≤ len + 2
+
+-- The scope has room for all that term n and the terms below it bind. The image has passed refusals 11 and 12 (document 01, "Turned back at the gate"): each term but the root is a child once, and none is deeper than 64, the root having depth 1. A level binds two variables at most, so at depth d at most 2 * (d - 1) places are used, and 2 * 64 are enough.
+pub record Room (b scope : List ℕ) (len n : ℕ) : Type 0 where
+  pub shaped : Shaped (recordsOf b)
+  pub few : len + 2 ≤ 2 * getD (depths (recordsOf b)) n 0
+  pub places : 2 * depthLimit ≤ length scope
+
+-- The verdict on the first k children of term n, which stands at p, and on the terms below them: "parent before children, left first".
+unfoldable pub front : Layout → Setting ℕ → ℕ → ℕ → Verdict
+front L p n k = checkAll L (λ i e. checked L (settingAt L p n i) e) 0 (take k (children L n))
 
 -- So many domains, types and terms, of these one at least.
 pub record Counted (b : List ℕ) (domains types terms : ℕ) : Type 0 where

@@ -35,7 +35,7 @@ pub fn leaves_at(table: &[u8], t: TypeNo) -> u8
 }
 
 // Of the type with a key, the types before it being in the table.
-fn leaves_of(key: u64, table: &[u8]) -> u8
+fn leaves_of(key: u32, table: &[u8]) -> u8
     requires { ⌜ (keyKind key ≡ 19 → Part (now table) (keyField0 key) × Part (now table) (keyField1 key)) ⌝ }
     ensures { λ r. ⌜ r ≡ leavesOf key (now (table .entry)) ⌝ }
 {
@@ -49,7 +49,7 @@ fn leaves_of(key: u64, table: &[u8]) -> u8
 }
 
 // Fills the first places of a table with the leaves of the types; what stands behind them is kept.
-pub fn set_leaves(image: &[u8], keys: &[u64], count: usize, table: &mut [u8])
+pub fn set_leaves(image: &[u8], keys: &[u32], count: usize, table: &mut [u8])
     requires { ⌜ Types (now image) (now keys) × (count ≡ length (recordsOf (now image) .types)) × (count ≤ length (now table)) ⌝ }
     ensures { λ _. ⌜ Leaves (now (image .entry)) (now (table .exit)) × (drop count (now (table .exit)) ≡ drop count (now (table .entry))) ⌝ }
 {

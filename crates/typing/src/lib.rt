@@ -8,6 +8,7 @@ ghost use Prim.Native.Nat.{_<_};
 ghost use lib.ListN.{length};
 ghost use Rattle.image.specs.Layout.{recordsOf};
 ghost use Rattle.verdicts.specs.Check.{typing};
+ghost use Rattle.verdicts.specs.Acceptable.{Shaped};
 ghost use Rattle.records.specs.Codes.{kindCodes};
 ghost use Rattle.records.specs.Tables.{Tables};
 ghost use Rattle.rules.specs.Lent.{Lent, Masks, Terms, Types};
@@ -17,19 +18,20 @@ pub mod leaves;
 pub mod pass;
 pub mod scope;
 
-// The root is the last term. It is checked with no variables, at domain 0.
+// The root is the last term. It is checked with no variables, at domain 0. No term is deeper than 64 (refusal 12), and a level
+// binds two variables at most, so a scope of 128 places is enough.
 fn check_root(
     image: &[u8],
     kinds: &[u32],
     masks: &[u16],
     terms: &[u16],
-    keys: &[u64],
+    keys: &[u32],
     count: usize,
 ) -> Verdict
-    requires { ⌜ Lent (now image) (now terms) (now keys) × (count ≡ length (recordsOf (now image) .terms)) × (0 < count) × (now kinds ≡ kindCodes) × Masks (now image) (now masks) ⌝ }
+    requires { ⌜ Lent (now image) (now terms) (now keys) × (count ≡ length (recordsOf (now image) .terms)) × (0 < count) × (now kinds ≡ kindCodes) × Masks (now image) (now masks) × Shaped (recordsOf (now image)) ⌝ }
     ensures { λ r. ⌜ r ≡ rootChecked (recordsOf (now (image .entry))) ⌝ }
 {
-    let mut scope = [0u8; 2048];
+    let mut scope = [0u8; 128];
     let root = TermNo((count - 1) as u16);
     pass::check_term(
         image,
@@ -54,7 +56,7 @@ fn plain_at(leaves: u8, at: usize) -> Verdict
     Verdict::Refused(image::Refusal::RootNotPlain, at)
 }
 
-fn check_plain(image: &[u8], terms: &[u16], keys: &[u64], types: usize, count: usize) -> Verdict
+fn check_plain(image: &[u8], terms: &[u16], keys: &[u32], types: usize, count: usize) -> Verdict
     requires { ⌜ Terms (now image) (now terms) × Types (now image) (now keys) × (types ≡ length (recordsOf (now image) .types)) × (count ≡ length (recordsOf (now image) .terms)) × (0 < count) ⌝ }
     ensures { λ r. ⌜ r ≡ rootPlain (recordsOf (now (image .entry))) ⌝ }
 {
@@ -65,7 +67,7 @@ fn check_plain(image: &[u8], terms: &[u16], keys: &[u64], types: usize, count: u
     plain_at(n, rules::terms::term_place(image, terms, root))
 }
 
-// Refusals 13 to 16 of an image with so many domains, types and terms, and the tables that hold them.
+// Refusals 13 to 16 of an image that has passed 9 to 12, with so many domains, types and terms, and the tables that hold them.
 pub fn check_typing(
     image: &[u8],
     kinds: &[u32],
@@ -74,9 +76,9 @@ pub fn check_typing(
     count: usize,
     doms: &[u16],
     terms: &[u16],
-    keys: &[u64],
+    keys: &[u32],
 ) -> Verdict
-    requires { ⌜ Tables (now image) (now doms) (now terms) (now keys) × (now kinds ≡ kindCodes) × Counted (now image) domains types count ⌝ }
+    requires { ⌜ Tables (now image) (now doms) (now terms) (now keys) × (now kinds ≡ kindCodes) × Counted (now image) domains types count × Shaped (recordsOf (now image)) ⌝ }
     ensures { λ r. ⌜ r ≡ typing (recordsOf (now (image .entry))) ⌝ }
 {
     let mut masks = [0u16; 16];

@@ -1,4 +1,6 @@
-// 13, 14 and 15 at each term, parent before children, left first (document 01, "Turned back at the gate").
+// 13, 14 and 15 at each term, parent before children, left first (document 01, "Turned back at the gate"). The check recurses
+// over a term's children, and the term number falls: check_term calls check_front, which calls check_term for each child before
+// the last. Behind the last child nothing of the term is left to check, so it is the term of check_term's next turn.
 use crate::scope::child_setting;
 use records::numbers::DomainNo;
 use records::numbers::TermNo;
@@ -10,34 +12,30 @@ use rules::terms::term_kind;
 use verdicts::Verdict;
 use verdicts::is_refused;
 ghost use mathlib.Core.Path.{_≡_};
-ghost use Prim.Native.Nat.{_+_, _*_, _≤_};
-ghost use lib.ListN.{length, take};
+ghost use lib.ListN.{take};
 ghost use Rattle.image.specs.Layout.{recordsOf};
 ghost use Rattle.verdicts.specs.Check.{checked};
 ghost use Rattle.records.specs.Codes.{kindCodes};
 ghost use Rattle.rules.specs.Lent.{Lent, Masks, IsTerm, settingIn};
+ghost use Rattle.typing.specs.Turns.{Passed, Room, front};
 
-// A term and the terms below it; its children that are constants or variables, which have none, are checked in place. Each
-// level goes to a lower number and binds two variables at most, which bounds the places of the scope that are used.
-pub fn check_term(
+// The children of term n before child k: those that are constants or variables, which have none, are checked in place, the
+// others, whose numbers are lower than n, by recursion.
+fn check_front(
     image: &[u8],
     kinds: &[u32],
     masks: &[u16],
     terms: &[u16],
-    keys: &[u64],
+    keys: &[u32],
     scope: &mut [u8],
     len: usize,
     c: DomainNo,
     n: TermNo,
+    k: usize,
 ) -> Verdict
-    requires { ⌜ Lent (now image) (now terms) (now keys) × IsTerm (now image) (n .0) × (len + 2 * n .0 + 2 ≤ length (now scope)) × (now kinds ≡ kindCodes) × Masks (now image) (now masks) ⌝ }
-    ensures { λ r. ⌜ (r ≡ checked (recordsOf (now (image .entry))) (settingIn (now (scope .entry)) len (c .0)) (n .0)) × (take len (now (scope .exit)) ≡ take len (now (scope .entry))) ⌝ }
+    requires { ⌜ Passed (now image) (now terms) (now keys) (now scope) len (c .0) (n .0) k × Room (now image) (now scope) len (n .0) × (now kinds ≡ kindCodes) × Masks (now image) (now masks) ⌝ }
+    ensures { λ r. ⌜ (r ≡ front (recordsOf (now (image .entry))) (settingIn (now (scope .entry)) len (c .0)) (n .0) k) × (take len (now (scope .exit)) ≡ take len (now (scope .entry))) ⌝ }
 {
-    let v = check_rule(image, kinds, masks, terms, keys, scope, len, c, n);
-    if is_refused(v) {
-        return v;
-    }
-    let k = child_count(image, kinds, terms, n);
     let mut i: usize = 0;
     while i < k {
         let e = child(image, kinds, terms, n, i);
@@ -59,4 +57,50 @@ pub fn check_term(
         i += 1;
     }
     Verdict::Accepted
+}
+
+// A term and the terms below it: its rule, its children before the last, and then its last child, where that one stands. Each
+// level, and each turn, goes to a lower number, one deeper, and binds two variables at most: the depth bounds the places of the
+// scope that are used.
+pub fn check_term(
+    image: &[u8],
+    kinds: &[u32],
+    masks: &[u16],
+    terms: &[u16],
+    keys: &[u32],
+    scope: &mut [u8],
+    len: usize,
+    c: DomainNo,
+    n: TermNo,
+) -> Verdict
+    requires { ⌜ Lent (now image) (now terms) (now keys) × IsTerm (now image) (n .0) × Room (now image) (now scope) len (n .0) × (now kinds ≡ kindCodes) × Masks (now image) (now masks) ⌝ }
+    ensures { λ r. ⌜ (r ≡ checked (recordsOf (now (image .entry))) (settingIn (now (scope .entry)) len (c .0)) (n .0)) × (take len (now (scope .exit)) ≡ take len (now (scope .entry))) ⌝ }
+{
+    let mut n = n;
+    let mut len = len;
+    let mut c = c;
+    loop {
+        let v = check_rule(image, kinds, masks, terms, keys, scope, len, c, n);
+        if is_refused(v) {
+            return v;
+        }
+        let k = child_count(image, kinds, terms, n);
+        if k == 0 {
+            return Verdict::Accepted;
+        }
+        let i = k - 1;
+        let r = check_front(image, kinds, masks, terms, keys, scope, len, c, n, i);
+        if is_refused(r) {
+            return r;
+        }
+        let e = child(image, kinds, terms, n, i);
+        let s = child_setting(image, kinds, terms, keys, scope, len, c, n, i);
+        len = s.len;
+        c = s.dom;
+        let kind = term_kind(image, terms, e);
+        if kind < 36 {
+            return check_leaf_kind(image, terms, keys, scope, len, kind, e);
+        }
+        n = e;
+    }
 }

@@ -22,7 +22,7 @@ fn examine_whole(image: &[u8]) -> Verdict
     let mut sizes = layout::start_sizes();
     let mut doms = [0u16; 16];
     let mut types = [0u16; 128];
-    let mut keys = [0u64; 128];
+    let mut keys = [0u32; 128];
     let mut terms = [0u16; 1024];
     examine::examine_image(
         image,

@@ -1,5 +1,5 @@
 use mathlib.Core.Path.{sym, _∙_}
-use Rattle.examine.proofs.Passes.{shape-refuses, typing-decides, counted}
+use Rattle.examine.proofs.Passes.{shape-refuses, typing-decides, shaped, counted}
 use borrow.Author.Needs.{needs}
 use Rattle.examine.proofs.check_records.Statement.{statement}
 use Rattle.examine.proofs.check_records.Tie as tie
@@ -47,7 +47,11 @@ shared-slice-read-check-typing-6 c = search needs
 
 -- src/lib.rt:31:5
 check-typing-requires : tie.Need-check-typing-requires
-check-typing-requires c κs = (c .before .before .before .before .before .before .before .before .before .before .before .before .before .before .before .pre .1 .tables, c .before .before .before .before .before .before .before .before .before .before .before .before .before .before .before .pre .0, counted _ _ _ _ _ (c .before .before .before .before .before .before .before .before .before .before .before .before .before .before .before .pre .1) _ (c .before .before .before .before .before .check-shape .ensures) (sym (c .before .before .before .before .is-refused .ensures) ∙ c .before .before .before .if1 .left))
+check-typing-requires c κs =
+    let s = c .before .before .before .before .before .before .before .before .before .before .before .before .before .before .before in
+    let v = c .before .before .before .before .before .check-shape .ensures in
+    let a = sym (c .before .before .before .before .is-refused .ensures) ∙ c .before .before .before .if1 .left in
+    (s .pre .1 .tables, s .pre .0, counted _ _ _ _ _ (s .pre .1) _ v a, shaped _ _ v a)
 
 -- src/lib.rt:15:1
 returns-2 : tie.Need-returns-2

@@ -11,11 +11,11 @@ use Rattle.image.specs.Tests.{firstFault}
 use Rattle.records.specs.Codes.{sectionOf, countOf, codeAt, Sized}
 use Rattle.records.proofs.Codes.{code-sized}
 use Rattle.records.proofs.Heads.{Whole, whole-of}
-use Rattle.layout.specs.Fields.{KeyFrom}
+use Rattle.layout.specs.Fields.{Narrow, KeyFrom}
 use Rattle.layout.specs.Numbers.{numberTests, toldOf}
 use Rattle.layout.proofs.Numbers.{fits-count}
 use Rattle.layout.proofs.Parts.{part, part-length}
-use Rattle.layout.proofs.Entry.{unknown-entry, fault-entry, fits, domain-room, type-room, term-room, domain-entry, type-entry, term-entry}
+use Rattle.layout.proofs.Entry.{unknown-entry, fault-entry, fits, kind-narrow, fields-narrow, domain-room, type-room, term-room, domain-entry, type-entry, term-entry}
 use Rattle.layout.proofs.enter.Statement.{statement}
 use Rattle.layout.proofs.enter.Tie as tie
 use Rattle.layout.proofs.enter.Reads as reads
@@ -73,6 +73,9 @@ tests-of b o n k x ss e = let z : o + n - (o + 4) ≡ n - 4 = omega arith in rw 
 
 key-of-lent : (b : List ℕ) (o n k x y : ℕ) → x ≡ codeAt k → KeyFrom (take (o + n - (o + 4)) (drop (o + 4) b)) (countOf x) k y → KeyFrom (part b (o + 4) (n - 4)) (countOf (codeAt k)) k y
 key-of-lent b o n k x y e F = let z : o + n - (o + 4) ≡ n - 4 = omega arith in rw (z, e) at F
+
+narrow-lent : (b : List ℕ) (o n k x : ℕ) → x ≡ codeAt k → Narrow (part b (o + 4) (n - 4)) (countOf (codeAt k)) → Narrow (take (o + n - (o + 4)) (drop (o + 4) b)) (countOf x)
+narrow-lent b o n k x e h = let z : o + n - (o + 4) ≡ n - 4 = omega arith in rw (z, e) h
 
 lent-length : (b : List ℕ) (o n : ℕ) → 4 ≤ n → o + n ≤ length b → length (take (o + n - (o + 4)) (drop (o + 4) b)) ≡ n - 4
 lent-length b o n l h = let z : o + n - (o + 4) ≡ n - 4 = omega arith in rw z (part-length b (o + 4) (n - 4) (omega arith))
@@ -185,7 +188,8 @@ key-of-requires c κs =
     let q = fits-count (codeAt (a .kind)) (a .len) (fits (s .pre) (known x) (passes t)) in
     let e = x .before .code-of .ensures in
     let z = lent-length (now (a .image)) (a .at) (a .len) (W .long) (W .inside) in
-    rw (e, z) (omega arith)
+    let d = fields-narrow (s .pre) (known x) (passes t) (sym (section (c .before .before .before)) ∙ c .before .if3 .taken) in
+    (rw (e, z) (omega arith), kind-narrow (s .pre) (known x) (passes t), narrow-lent (now (a .image)) (a .at) (a .len) (a .kind) _ e d)
 
 put-type-requires : tie.Need-put-type-requires
 put-type-requires c κs =

@@ -11,6 +11,7 @@ use Rattle.verdicts.specs.Check.{checked}
 use Rattle.rules.specs.Lent.{settingIn}
 use Rattle.rules.proofs.Located.{good-of}
 use Rattle.typing.proofs.Root.{root-checked}
+use Rattle.typing.proofs.ScopeRoom.{root-room}
 
 sub-t9 : tie.Need-sub-t9
 sub-t9 c = search needs
@@ -22,7 +23,11 @@ slice-aggregate-check-term : tie.Need-slice-aggregate-check-term
 slice-aggregate-check-term c = search needs
 
 check-term-requires : tie.Need-check-term-requires
-check-term-requires c κs = let f = (good-of (now (c .before .before .before .before .before .before .args .image)) ((c .before .before .before .before .before .before .pre .0) .terms .laid-out)) .few-terms in let e = (c .before .before .before .before .before .before .pre .1) in let z = (c .before .before .before .before .before .before .pre .2) in ((c .before .before .before .before .before .before .pre .0), omega arith, omega arith, (c .before .before .before .before .before .before .pre .3), (c .before .before .before .before .before .before .pre .4))
+check-term-requires c κs =
+    let s = c .before .before .before .before .before .before in
+    let e = s .pre .1 in
+    let z = s .pre .2 in
+    (s .pre .0, omega arith, root-room (now (s .args .image)) (now (s .args .terms)) (s .pre .0 .terms) _ (s .args .count) (s .pre .5) e (omega arith), s .pre .3, s .pre .4)
 
 returns : tie.Need-returns
 returns c =

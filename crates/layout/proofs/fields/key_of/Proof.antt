@@ -1,10 +1,12 @@
 -- `layout::fields::key_of` meets its contract: the parts of the key are the kind and the fields.
 use borrow.Author.Needs.{needs}
+use Prim.Native.Nat.{ℕ, _<_}
+use mathlib.Core.List.{List}
 use Rattle.records.specs.Keys.{keyKind, keyField0, keyField1, keyField2}
 use denote.Ref.{now}
-use Rattle.layout.specs.Fields.{fieldFrom}
+use Rattle.layout.specs.Fields.{fieldFrom, Narrow}
 use Rattle.records.proofs.Keys.{made}
-use mathlib.Core.Path.{_∙_, ap}
+use mathlib.Core.Path.{_≡_, _∙_, ap}
 use Rattle.layout.proofs.fields.key_of.Statement.{statement}
 use Rattle.layout.proofs.fields.key_of.Tie as tie
 
@@ -20,8 +22,18 @@ field-or-0-requires-2 c κs = search needs
 field-or-0-requires-3 : tie.Need-field-or-0-requires-3
 field-or-0-requires-3 c κs = search needs
 
+-- A field that is read is below 256.
+small : (fs : List ℕ) (n m i x : ℕ) → Narrow fs n → m ≡ n → x ≡ fieldFrom fs m i → x < 256
+small fs n m i x h d e = rw (e, d) (h i)
+
 key-with-requires : tie.Need-key-with-requires
-key-with-requires c κs = search needs
+key-with-requires c κs =
+    let f1 = c .before in
+    let f0 = f1 .before in
+    let s = f0 .before .before .before in
+    let n = f0 .before .field-count .ensures in
+    let h = small (now (s .args .fields)) _ _ in
+    (s .pre .1, h 0 _ (s .pre .2) n (f0 .field-or-0 .ensures), h 1 _ (s .pre .2) n (f1 .field-or-02 .ensures), h 2 _ (s .pre .2) n (c .field-or-03 .ensures))
 
 returns : tie.Need-returns
 returns c =
@@ -30,7 +42,8 @@ returns c =
     let f0 = f1 .before in
     let a = f0 .before .before .before .args in
     let n = f0 .before .field-count .ensures in
-    let m = made (a .kind) (f0 .field-or-0 .result) (f1 .field-or-02 .result) (f2 .field-or-03 .result) (search needs) (search needs) (search needs) in
+    let q = key-with-requires f2 (c .key-with .lifetimes) in
+    let m = made (a .kind) (f0 .field-or-0 .result) (f1 .field-or-02 .result) (f2 .field-or-03 .result) (q .0) (q .1) (q .2) in
     record {
       kind = ap keyKind (c .key-with .ensures) ∙ m .0;
       field0 = ap keyField0 (c .key-with .ensures) ∙ (m .1 ∙ (f0 .field-or-0 .ensures ∙ ap (λ k. fieldFrom (now (a .fields)) k 0) n));

@@ -1,12 +1,10 @@
 -- `layout::tests::first_fault` meets its contract: each answer is the first test that fails.
 use borrow.Author.Needs.{needs}
-use native.Mathlib.Omega.{arith}
 use mathlib.Core.Path.{ap, _∙_}
-use Prim.Native.Nat.{_+_}
 use lib.ListN.{length}
 use denote.Ref.{now}
 use Rattle.layout.specs.Numbers.{orderFits, roomFits}
-use Rattle.layout.proofs.Numbers.{fits-count, yes-of, no-of, fault4, fault5, fault6, fault7, no-fault, first-fails, second-fails, both-hold}
+use Rattle.layout.proofs.Numbers.{fits-between, yes-of, no-of, fault4, fault5, fault6, fault7, no-fault}
 use Rattle.layout.proofs.tests.first_fault.Statement.{statement}
 use Rattle.layout.proofs.tests.first_fault.Tie as tie
 
@@ -41,12 +39,11 @@ returns-3 c =
     let a = n .before .before .before .before .before .args in
     fault6 _ _ _ _ (yes-of _ _ (n .before .before .right-length .ensures) (n .before .if1 .left)) (yes-of _ _ (o .before .in-order .ensures ∙ ap (λ s. orderFits s (now (a .sizes))) (n .section-of .ensures)) (o .if2 .left)) (no-of _ _ (c .before .has-room .ensures ∙ ap (λ s. roomFits s (now (a .sizes))) (n .section-of .ensures)) (c .if3 .taken))
 
-fields-in-range-requires : tie.Need-fields-in-range-requires
-fields-in-range-requires c κs =
+in-range-requires : tie.Need-in-range-requires
+in-range-requires c κs =
     let n = c .before .before .before .before in
-    let a = n .before .before .before .before .before .args in
-    let z = fits-count (a .code) (length (now (a .fields)) + 4) (yes-of _ _ (n .before .before .right-length .ensures) (n .before .if1 .left)) in
-    (omega arith, n .before .before .before .before .before .pre .1)
+    let s = n .before .before .before .before .before in
+    (fits-between (s .args .code) (length (now (s .args .fields))) (yes-of _ _ (n .before .before .right-length .ensures) (n .before .if1 .left)), s .pre .1)
 
 returns-4 : tie.Need-returns-4
 returns-4 c =
@@ -54,32 +51,15 @@ returns-4 c =
     let o = h .before .before in
     let n = o .before .before in
     let a = n .before .before .before .before .before .args in
-    fault7 _ _ _ _ (yes-of _ _ (n .before .before .right-length .ensures) (n .before .if1 .left)) (yes-of _ _ (o .before .in-order .ensures ∙ ap (λ s. orderFits s (now (a .sizes))) (n .section-of .ensures)) (o .if2 .left)) (yes-of _ _ (h .before .has-room .ensures ∙ ap (λ s. roomFits s (now (a .sizes))) (n .section-of .ensures)) (h .if3 .left)) (first-fails _ _ (no-of _ _ (c .before .fields-in-range .ensures) (c .if4 .taken)))
-
-children-in-range-requires : tie.Need-children-in-range-requires
-children-in-range-requires c κs =
-    let n = c .before .before .before .before .before .before in
-    let a = n .before .before .before .before .before .args in
-    let z = fits-count (a .code) (length (now (a .fields)) + 4) (yes-of _ _ (n .before .before .right-length .ensures) (n .before .if1 .left)) in
-    (omega arith, n .before .before .before .before .before .pre .1)
+    fault7 _ _ _ _ (yes-of _ _ (n .before .before .right-length .ensures) (n .before .if1 .left)) (yes-of _ _ (o .before .in-order .ensures ∙ ap (λ s. orderFits s (now (a .sizes))) (n .section-of .ensures)) (o .if2 .left)) (yes-of _ _ (h .before .has-room .ensures ∙ ap (λ s. roomFits s (now (a .sizes))) (n .section-of .ensures)) (h .if3 .left)) (no-of _ _ (c .before .in-range .ensures) (c .if4 .taken))
 
 returns-5 : tie.Need-returns-5
 returns-5 c =
-    let f = c .before .before in
-    let h = f .before .before in
+    let h = c .before .before in
     let o = h .before .before in
     let n = o .before .before in
     let a = n .before .before .before .before .before .args in
-    fault7 _ _ _ _ (yes-of _ _ (n .before .before .right-length .ensures) (n .before .if1 .left)) (yes-of _ _ (o .before .in-order .ensures ∙ ap (λ s. orderFits s (now (a .sizes))) (n .section-of .ensures)) (o .if2 .left)) (yes-of _ _ (h .before .has-room .ensures ∙ ap (λ s. roomFits s (now (a .sizes))) (n .section-of .ensures)) (h .if3 .left)) (second-fails _ _ (yes-of _ _ (f .before .fields-in-range .ensures) (f .if4 .left)) (no-of _ _ (c .before .children-in-range .ensures) (c .if5 .taken)))
-
-returns-6 : tie.Need-returns-6
-returns-6 c =
-    let f = c .before .before in
-    let h = f .before .before in
-    let o = h .before .before in
-    let n = o .before .before in
-    let a = n .before .before .before .before .before .args in
-    no-fault _ _ _ _ (yes-of _ _ (n .before .before .right-length .ensures) (n .before .if1 .left)) (yes-of _ _ (o .before .in-order .ensures ∙ ap (λ s. orderFits s (now (a .sizes))) (n .section-of .ensures)) (o .if2 .left)) (yes-of _ _ (h .before .has-room .ensures ∙ ap (λ s. roomFits s (now (a .sizes))) (n .section-of .ensures)) (h .if3 .left)) (both-hold _ _ (yes-of _ _ (f .before .fields-in-range .ensures) (f .if4 .left)) (yes-of _ _ (c .before .children-in-range .ensures) (c .if5 .left)))
+    no-fault _ _ _ _ (yes-of _ _ (n .before .before .right-length .ensures) (n .before .if1 .left)) (yes-of _ _ (o .before .in-order .ensures ∙ ap (λ s. orderFits s (now (a .sizes))) (n .section-of .ensures)) (o .if2 .left)) (yes-of _ _ (h .before .has-room .ensures ∙ ap (λ s. roomFits s (now (a .sizes))) (n .section-of .ensures)) (h .if3 .left)) (yes-of _ _ (c .before .in-range .ensures) (c .if4 .left))
 
 pub first-fault-spec : {M : Type 1} → statement M
 first-fault-spec =
@@ -93,8 +73,6 @@ first-fault-spec =
     returns-2
     has-room-requires
     returns-3
-    fields-in-range-requires
+    in-range-requires
     returns-4
-    children-in-range-requires
-    returns-5
-    returns-6)
+    returns-5)

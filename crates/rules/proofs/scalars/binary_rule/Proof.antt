@@ -50,24 +50,6 @@ both-requires-2 c κs = tt
 judge-requires-3 : tie.Need-judge-requires-3
 judge-requires-3 c κs = tt
 
-result-kind-requires : tie.Need-result-kind-requires
-result-kind-requires c κs = tt
-
-is-kind-requires-4 : tie.Need-is-kind-requires-4
-is-kind-requires-4 c κs = tt
-
-is-kind-requires-5 : tie.Need-is-kind-requires-5
-is-kind-requires-5 c κs = tt
-
-is-kind-requires-6 : tie.Need-is-kind-requires-6
-is-kind-requires-6 c κs = tt
-
-all-three-requires-2 : tie.Need-all-three-requires-2
-all-three-requires-2 c κs = tt
-
-judge-requires-4 : tie.Need-judge-requires-4
-judge-requires-4 c κs = tt
-
 binary-at-domain-requires : tie.Need-binary-at-domain-requires
 binary-at-domain-requires c κs = search needs
 
@@ -85,11 +67,7 @@ returns-3 c = simp ((c .before .before .before .before .match .keys3), (c .befor
 
 returns-4 : tie.Need-returns-4
 unfolding binaryRule
-returns-4 c = simp ((c .before .before .before .before .before .before .match .keys4), (c .before .before .before .before .before .result-kind .ensures), (c .before .before .before .before .is-kind4 .ensures), (c .before .before .before .is-kind5 .ensures), (c .before .before .is-kind6 .ensures), (c .before .all-three2 .ensures), (c .judge4 .ensures))
-
-returns-5 : tie.Need-returns-5
-unfolding binaryRule
-returns-5 c = simp (ne-eqb _ _ (c .before .match .rest .1), ne-eqb _ _ (c .before .match .rest .0 .1), ne-eqb _ _ (c .before .match .rest .0 .0 .1), ne-eqb _ _ (c .before .match .rest .0 .0 .0 .1), (c .binary-at-domain .ensures))
+returns-4 c = simp (ne-eqb _ _ (c .before .match .rest .1), ne-eqb _ _ (c .before .match .rest .0 .1), ne-eqb _ _ (c .before .match .rest .0 .0 .1), (c .binary-at-domain .ensures))
 
 pub binary-rule-spec : {M : Type 1} → statement M
 binary-rule-spec =
@@ -110,15 +88,8 @@ binary-rule-spec =
     same-type-requires-4
     both-requires-2
     judge-requires-3
-    result-kind-requires
-    is-kind-requires-4
-    is-kind-requires-5
-    is-kind-requires-6
-    all-three-requires-2
-    judge-requires-4
     binary-at-domain-requires
     returns
     returns-2
     returns-3
-    returns-4
-    returns-5)
+    returns-4)

@@ -3,21 +3,33 @@ use borrow.Author.Needs.{needs}
 use Rattle.rules.proofs.terms.child_type.Statement.{statement}
 use Rattle.rules.proofs.terms.child_type.Tie as tie
 use denote.Ref.{now}
-use mathlib.Core.Path.{sym, ap, _∙_}
-use Rattle.image.specs.Layout.{recordsOf}
-use Rattle.image.specs.Types.{typeNo}
-use Rattle.rules.proofs.Located.{child-type-is}
+use native.Mathlib.Omega.{arith}
+use Prim.Native.Nat.{_+_, _-_}
+use mathlib.Core.Path.{_≡_, ap, _∙_}
+use lib.ListN.{getD}
+use Rattle.rules.specs.Lent.{leadOf, childTypes}
+use Rattle.rules.proofs.Located.{child-room}
 
-child-requires : tie.Need-child-requires
-child-requires c κs = search needs
+lead-requires : tie.Need-lead-requires
+lead-requires c κs = search needs
 
-term-type-requires : tie.Need-term-type-requires
-term-type-requires c κs = search needs
+add-type-behind : tie.Need-add-type-behind
+add-type-behind c =
+    let s = c .before .before .before .before in
+    let l = c .lead .ensures in
+    let p = s .pre .3 in
+    let r = child-room (now (s .args .image)) (now (s .args .terms)) (s .pre .0) (s .args .n .0) (s .pre .1) (c .lead .result + s .args .i) (omega arith, omega arith) in
+    omega arith
+
+type-behind-requires : tie.Need-type-behind-requires
+type-behind-requires c κs = search needs
 
 returns : tie.Need-returns
 returns c =
-    let e = (c .term-type .ensures .0) ∙ ap (λ n. typeNo (recordsOf (now (c .before .before .before .before .before .args .image))) n) (c .before .child .ensures .0) ∙ sym (child-type-is (now (c .before .before .before .before .before .args .image)) (now (c .before .before .before .before .before .args .terms)) (c .before .before .before .before .before .pre .0) (c .before .before .before .before .before .args .n .0) (c .before .before .before .before .before .pre .1) (c .before .before .before .before .before .args .i) (c .before .before .before .before .before .pre .3)) in
-    (e, (c .term-type .ensures .1))
+    let s = c .before .before .before .before .before in
+    let l = c .before .lead .ensures in
+    let e : (c .before .lead .result + s .args .i) - leadOf (now (s .args .image)) (s .args .n .0) ≡ s .args .i = omega arith in
+    (c .type-behind .ensures .0 ∙ ap (λ j. getD (childTypes (now (s .args .image)) (s .args .n .0)) j 0) e, c .type-behind .ensures .1)
 
 pub child-type-spec : {M : Type 1} → statement M
-child-type-spec = tie.close (tie.spec child-requires term-type-requires returns)
+child-type-spec = tie.close (tie.spec lead-requires add-type-behind type-behind-requires returns)

@@ -6,18 +6,18 @@ use mathlib.Core.Path.{_≡_, refl, ap, sym, _∙_}
 use lib.ListN.{length, getD, drop, set}
 use denote.Ref.{now}
 use Rattle.verdicts.specs.Shape.{setAll}
-use Rattle.shape.specs.Marks.{more, useAll}
+use Rattle.shape.specs.Marks.{lowered, lowAll}
 use Rattle.shape.specs.Records.{childrenOf}
-use Rattle.shape.proofs.UseCounts.{use-next, use-end}
+use Rattle.shape.proofs.UseCounts.{low-next, low-end}
 use Rattle.shape.proofs.DepthMarks.{set-next, set-end}
 use Rattle.shape.proofs.descent.mark_children.Statement.{statement}
 use Rattle.shape.proofs.descent.mark_children.Tie as tie
 
 abbrev Inv-loop : tie.InvT-loop
-Inv-loop image kinds at d uses₀ depths₀ first count j₀ uses depths j = (j ≤ count) × (length uses ≡ length uses₀) × (length depths ≡ length depths₀) × (useAll (childrenOf image at) uses₀ ≡ useAll (drop j (childrenOf image at)) uses) × (setAll (childrenOf image at) d depths₀ ≡ setAll (drop j (childrenOf image at)) d depths)
+Inv-loop image kinds at d low depths₀ first count next₀ j₀ depths next j = (j ≤ count) × (length depths ≡ length depths₀) × (lowAll (childrenOf image at) d low depths₀ ≡ lowAll (drop j (childrenOf image at)) d next depths) × (setAll (childrenOf image at) d depths₀ ≡ setAll (drop j (childrenOf image at)) d depths)
 
 abbrev μ-loop : tie.MeasureT-loop
-μ-loop image kinds at d uses₀ depths₀ first count j₀ uses depths j = count - j
+μ-loop image kinds at d low depths₀ first count next₀ j₀ depths next j = count - j
 
 first-child-requires : tie.Need-first-child-requires Inv-loop μ-loop
 first-child-requires c κs = search needs
@@ -26,23 +26,27 @@ child-count-requires : tie.Need-child-count-requires Inv-loop μ-loop
 child-count-requires c κs = search needs
 
 loop-holds : tie.Need-loop-holds Inv-loop μ-loop
-loop-holds c = (search needs, refl, refl, refl, refl)
+loop-holds c = (search needs, refl, refl, refl)
 
 child-requires : tie.Need-child-requires Inv-loop μ-loop
 child-requires c κs =
-    let p = c .before .before .before .before .before .before .before .before .pre in ((c .before .before .before .first-child .ensures), p .1, omega (arith, c .before .before .child-count .ensures))
+    let p = c .before .before .before .before .before .before .before .pre in
+    ((c .before .before .before .first-child .ensures), p .1, omega (arith, c .before .before .child-count .ensures))
 
-use-term-requires : tie.Need-use-term-requires Inv-loop μ-loop
-use-term-requires c κs =
+mark-of-requires : tie.Need-mark-of-requires Inv-loop μ-loop
+mark-of-requires c κs =
     let l = c .before .before .before .loop in
-    let h = c .before .before .before .before .before .before .before .before .before .before .pre .2 .at (l .j) (omega (arith, c .before .before .before .before .child-count .ensures)) in
+    let h = c .before .before .before .before .before .before .before .before .before .pre .2 .at (l .j) (omega (arith, c .before .before .before .before .child-count .ensures)) in
     omega (arith, c .before .child .ensures)
+
+lowest-requires : tie.Need-lowest-requires Inv-loop μ-loop
+lowest-requires c κs = search needs
 
 set-mark-requires : tie.Need-set-mark-requires Inv-loop μ-loop
 set-mark-requires c κs =
-    let l = c .before .before .before .before .before .before .before .loop in
-    let h = c .before .before .before .before .before .before .before .before .before .before .before .before .before .before .pre .3 .at (l .j) (omega (arith, c .before .before .before .before .before .before .before .before .child-count .ensures)) in
-    omega (arith, c .before .before .before .before .before .child .ensures)
+    let l = c .before .before .before .before .before .before .loop in
+    let h = c .before .before .before .before .before .before .before .before .before .before .before .before .pre .2 .at (l .j) (omega (arith, c .before .before .before .before .before .before .before .child-count .ensures)) in
+    omega (arith, c .before .before .before .before .child .ensures)
 
 add-j : tie.Need-add-j Inv-loop μ-loop
 add-j c = search needs
@@ -52,29 +56,27 @@ loop-less c = search needs
 
 loop-again : tie.Need-loop-again Inv-loop μ-loop
 loop-again c =
-    let l = c .before .before .before .before .before .before .before .before .before .before .loop in
-    let a = c .before .before .before .before .before .before .before .before .before .before .before .before .before .before .before .before .before .args in
+    let l = c .before .before .before .before .before .before .before .before .before .loop in
+    let a = c .before .before .before .before .before .before .before .before .before .before .before .before .before .before .before .args in
     let cs = childrenOf (now (a .image)) (a .at) in
-    let h : l .j < length cs = omega (arith, c .before .before .before .before .before .before .before .before .before .before .before .child-count .ensures) in
-    let e = c .before .before .before .before .before .before .before .before .child .ensures in
-    let u = c .before .before .before .before .before .before .use-term in
+    let h : l .j < length cs = omega (arith, c .before .before .before .before .before .before .before .before .before .before .child-count .ensures) in
+    let e = c .before .before .before .before .before .before .before .child .ensures in
     let m = c .before .before .set-mark in
-    let q : u .last .0 ≡ set (l .uses) (getD cs (l .j) 0) (more 2 (getD (l .uses) (getD cs (l .j) 0) 0)) = rw e at (u .ensures) in
+    let q : c .before .before .before .before .lowest .result ≡ lowered (l .next) (getD (l .depths) (getD cs (l .j) 0) 0) (getD cs (l .j) 0) = rw (c .before .before .before .before .before .mark-of .ensures, e) at (c .before .before .before .before .lowest .ensures) in
     let r : m .last .0 ≡ set (l .depths) (getD cs (l .j) 0) (a .d) = rw e at (m .ensures) in
-    (search needs, u .kept .0 ∙ l .inv .1, m .kept .0 ∙ l .inv .2, l .inv .3 ∙ use-next cs (l .uses) (l .j) h ∙ ap (λ us. useAll (drop (l .j + 1) cs) us) (sym q), l .inv .4 ∙ set-next cs (l .depths) (a .d) (l .j) h ∙ ap (λ ds. setAll (drop (l .j + 1) cs) (a .d) ds) (sym r))
+    let next : lowAll (drop (l .j) cs) (a .d) (l .next) (l .depths) ≡ lowAll (drop (l .j + 1) cs) (a .d) (c .before .before .before .before .lowest .result) (m .last .0) = rw (q, r) (low-next cs (l .depths) (a .d) (l .next) (l .j) h) in
+    (search needs, m .kept .0 ∙ l .inv .1, l .inv .2 ∙ next, l .inv .3 ∙ set-next cs (l .depths) (a .d) (l .j) h ∙ ap (λ ds. setAll (drop (l .j + 1) cs) (a .d) ds) (sym r))
 
 same-length : tie.Need-same-length Inv-loop μ-loop
 same-length c = search needs
 
-same-length-2 : tie.Need-same-length-2 Inv-loop μ-loop
-same-length-2 c = search needs
-
 returns : tie.Need-returns Inv-loop μ-loop
 returns c =
     let l = c .before .loop in
-    let a = c .before .before .before .before .before .before .before .before .args in
+    let a = c .before .before .before .before .before .before .before .args in
     let cs = childrenOf (now (a .image)) (a .at) in
-    (sym (l .inv .3 ∙ use-end cs (l .uses) (l .j) (omega (arith, c .before .before .child-count .ensures))), sym (l .inv .4 ∙ set-end cs (l .depths) (a .d) (l .j) (omega (arith, c .before .before .child-count .ensures))))
+    let h : length cs ≤ l .j = omega (arith, c .before .before .child-count .ensures) in
+    (sym (l .inv .2 ∙ low-end cs (l .depths) (a .d) (l .next) (l .j) h), sym (l .inv .3 ∙ set-end cs (l .depths) (a .d) (l .j) h))
 
 pub mark-children-spec : {M : Type 1} → statement M
 mark-children-spec =
@@ -86,11 +88,11 @@ mark-children-spec =
     child-count-requires
     loop-holds
     child-requires
-    use-term-requires
+    mark-of-requires
+    lowest-requires
     set-mark-requires
     add-j
     loop-less
     loop-again
     same-length
-    same-length-2
     returns)

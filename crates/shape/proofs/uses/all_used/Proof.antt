@@ -1,21 +1,21 @@
 -- So far each test holds, or one does not.
 use borrow.Author.Needs.{needs}
 use Prim.Native.Nat.{_-_, _≤_}
-use native.Mathlib.Omega.{arith}
 use mathlib.Core.Path.{_≡_, refl}
 use lib.ListN.{getD}
 use denote.Ref.{now}
+use mathlib.Core.Bool.{not}
 use lib.Dec.{eqb}
 use Rattle.image.specs.Tests.{allBelow}
 use Rattle.shape.proofs.Answers.{below-more}
-use Rattle.shape.proofs.uses.all_once.Statement.{statement}
-use Rattle.shape.proofs.uses.all_once.Tie as tie
+use Rattle.shape.proofs.uses.all_used.Statement.{statement}
+use Rattle.shape.proofs.uses.all_used.Tie as tie
 
 abbrev Inv-loop : tie.InvT-loop
-Inv-loop uses n ok₀ i₀ ok i = (i ≤ n) × (ok ≡ allBelow i (λ k. eqb (getD uses k 0) 1))
+Inv-loop depths n ok₀ i₀ ok i = (i ≤ n) × (ok ≡ allBelow i (λ k. not (eqb (getD depths k 0) 0)))
 
 abbrev μ-loop : tie.MeasureT-loop
-μ-loop uses n ok₀ i₀ ok i = n - i
+μ-loop depths n ok₀ i₀ ok i = n - i
 
 loop-holds : tie.Need-loop-holds Inv-loop μ-loop
 unfolding allBelow
@@ -36,7 +36,7 @@ loop-less c = search needs
 loop-again : tie.Need-loop-again Inv-loop μ-loop
 loop-again c =
     let l = c .before .before .before .loop in
-    (search needs, below-more (l .i) (λ k. eqb (getD (now (c .before .before .before .before .before .args .uses)) k 0) 1) (l .ok) _ (l .inv .1) (c .both .ensures))
+    (search needs, below-more (l .i) (λ k. not (eqb (getD (now (c .before .before .before .before .before .args .depths)) k 0) 0)) (l .ok) _ (l .inv .1) (c .both .ensures))
 
 returns : tie.Need-returns Inv-loop μ-loop
 returns c =
@@ -44,5 +44,5 @@ returns c =
     let e : l .i ≡ c .before .before .before .args .n = search needs in
     rw e at (l .inv .1)
 
-pub all-once-spec : {M : Type 1} → statement M
-all-once-spec = tie.close (tie.spec Inv-loop μ-loop loop-holds shared-slice-read-both both-requires add-i loop-less loop-again returns)
+pub all-used-spec : {M : Type 1} → statement M
+all-used-spec = tie.close (tie.spec Inv-loop μ-loop loop-holds shared-slice-read-both both-requires add-i loop-less loop-again returns)
