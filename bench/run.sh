@@ -1,10 +1,10 @@
 #!/usr/bin/env bash
 # Measures the verified engine, and a plain Rust engine beside it if its folder is given:
-#     bench/run.sh [FOLDER_OF_PLAIN_ENGINE] [--quick] [--places N] [--dump DIR] [--write]
+#     bench/run.sh [FOLDER_OF_PLAIN_ENGINE] [--images DIR] [--quick] [--places N] [--dump DIR] [--write]
 # The plain engine is a crate named `baseline` with `engine(image, frame, budget, log, report, work) -> Answer`.
-# --quick measures less often; --places N measures with the code of both engines in N places of memory, 9 at most, and
-# prints the means; --dump DIR writes the images and measures nothing; --write writes what was measured into
-# docs/PERFORMANCE.md and docs/performance.svg.
+# --images DIR measures the images in a folder's files and not the bench's own; --quick measures less often; --places N
+# measures with the code of both engines in N places of memory, 9 at most, and prints the means; --dump DIR writes the
+# images and measures nothing; --write writes what was measured into docs/PERFORMANCE.md and docs/performance.svg.
 set -euo pipefail
 bench=$(cd "$(dirname "$0")" && pwd)
 package=$bench
@@ -19,6 +19,7 @@ while [ $# -gt 0 ]; do
     case $1 in
     --write) options+=(--write "$bench/../docs") ;;
     --places) places=$2; shift ;;
+    --images) options+=(--images "$(cd "$2" && pwd)"); shift ;;
     *) options+=("$1") ;;
     esac
     shift

@@ -1,8 +1,9 @@
 //! Times of the watch engine, alone or beside a plain Rust engine, on the same images in one run.
 //!
-//! Options: `--quick` measures less often, `--dump DIR` writes the images and measures nothing, `--save FILE` adds the
-//! times to a file, `--means FILE` adds them too and then prints the means of all runs in the file, `--write DOCS`
-//! writes the tables into DOCS/PERFORMANCE.md and the plot DOCS/performance.svg.
+//! Options: `--images DIR` measures the images in files of a folder and not its own, `--quick` measures less often,
+//! `--dump DIR` writes the images and measures nothing, `--save FILE` adds the times to a file, `--means FILE` adds them
+//! too and then prints the means of all runs in the file, `--write DOCS` writes the tables into DOCS/PERFORMANCE.md and
+//! the plot DOCS/performance.svg.
 #![deny(missing_docs)]
 mod document;
 mod images;
@@ -36,7 +37,8 @@ fn after<'a>(arguments: &'a [String], option: &str) -> Option<&'a str> {
 /// The program: measures the verified engine and, if there is one, a plain one.
 pub fn main(plain: Option<Engine>) {
     let arguments: Vec<String> = std::env::args().collect();
-    let images = images::all();
+    let folder = after(&arguments, "--images");
+    let images = folder.map_or_else(images::all, |folder| images::read(Path::new(folder)));
     if let Some(folder) = after(&arguments, "--dump") {
         return images::dump(&images, Path::new(folder));
     }
@@ -54,6 +56,9 @@ pub fn main(plain: Option<Engine>) {
     let text = table::text(&rows);
     print!("{text}");
     if let Some(folder) = after(&arguments, "--write") {
-        document::write(Path::new(folder), &text, &plot::svg(&rows));
+        match after(&arguments, "--images") {
+            None => document::write(Path::new(folder), "measured", &text, Some(&plot::svg(&rows))),
+            Some(_) => document::write(Path::new(folder), "measured on files", &text, None),
+        }
     }
 }

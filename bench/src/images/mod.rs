@@ -6,7 +6,7 @@ mod marks;
 mod varied;
 
 use std::fs;
-use std::path::Path;
+use std::path::{Path, PathBuf};
 
 /// An image with its name.
 pub struct Image {
@@ -43,6 +43,21 @@ pub fn all() -> Vec<Image> {
         image("1,024 varied terms", varied::varied()),
         image("16,384 bytes, refused", large::refused()),
     ]
+}
+
+/// The images in a folder's files that end in .img, in the order of their names.
+pub fn read(folder: &Path) -> Vec<Image> {
+    let entries = fs::read_dir(folder).unwrap_or_else(|error| panic!("{}: {error}", folder.display()));
+    let mut paths: Vec<_> = entries.map(|entry| entry.expect("an entry of the folder").path()).collect();
+    paths.retain(|path| path.extension().is_some_and(|end| end == "img"));
+    paths.sort();
+    let image = |path: PathBuf| {
+        let name = path.file_stem().map_or_else(String::new, |name| name.to_string_lossy().replace('_', " "));
+        let bytes = fs::read(&path).unwrap_or_else(|error| panic!("{}: {error}", path.display()));
+        // A name is kept as long as the program runs.
+        Image { name: name.trim().to_string().leak(), bytes }
+    };
+    paths.into_iter().map(image).collect()
 }
 
 /// Writes each image as a file of a folder.

@@ -25,7 +25,11 @@ use Rattle.rules.specs.Scalars.{judged, ruleVerdict}
 use Rattle.rules.proofs.Located.{good-of}
 use Rattle.rules.proofs.Scopes.{context-kept}
 use Rattle.rules.proofs.Verdict.{childless}
-use Rattle.typing.specs.Turns.{ChildAt, front}
+use Rattle.typing.specs.Turns.{ChildAt}
+
+-- The verdict on the first k children of term n, which stands at p, and on the terms below them: "parent before children, left first".
+unfoldable pub front : Layout → Setting ℕ → ℕ → ℕ → Verdict
+front L p n k = checkAll L (λ i e. checked L (settingAt L p n i) e) 0 (take k (children L n))
 
 pub accepted-is : (v : Verdict) → isRefused v ≡ false → v ≡ Verdict.Accepted
 accepted-is Verdict.Accepted h = refl

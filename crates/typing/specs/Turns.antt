@@ -11,10 +11,9 @@ use Rattle.image.specs.Layout.{Layout, recordsOf}
 use Rattle.image.specs.Types.{termPlace, children, rootOf, rootType}
 use Rattle.verdicts.specs.declared.Verdict.{Verdict}
 use Rattle.verdicts.specs.Answers.{require}
-use Rattle.verdicts.specs.Settings.{Setting}
 use Rattle.verdicts.specs.Shape.{depths}
 use Rattle.verdicts.specs.Acceptable.{Shaped}
-use Rattle.verdicts.specs.Check.{settingAt, check, checkAll, checked, rootSetting}
+use Rattle.verdicts.specs.Check.{settingAt, check, rootSetting}
 use Rattle.rules.specs.Lent.{Lent, IsTerm, settingIn}
 use Rattle.rules.specs.Scalars.{ruleVerdict}
 
@@ -38,10 +37,6 @@ pub record Room (b scope : List ℕ) (len n : ℕ) : Type 0 where
   pub shaped : Shaped (recordsOf b)
   pub few : len + 2 ≤ 2 * getD (depths (recordsOf b)) n 0
   pub places : 2 * depthLimit ≤ length scope
-
--- The verdict on the first k children of term n, which stands at p, and on the terms below them: "parent before children, left first".
-unfoldable pub front : Layout → Setting ℕ → ℕ → ℕ → Verdict
-front L p n k = checkAll L (λ i e. checked L (settingAt L p n i) e) 0 (take k (children L n))
 
 -- So many domains, types and terms, of these one at least.
 pub record Counted (b : List ℕ) (domains types terms : ℕ) : Type 0 where

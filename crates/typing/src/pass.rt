@@ -1,6 +1,6 @@
 // 13, 14 and 15 at each term, parent before children, left first (document 01, "Turned back at the gate"). The check recurses
-// over a term's children, and the term number falls: check_term calls check_front, which calls check_term for each child before
-// the last. Behind the last child nothing of the term is left to check, so it is the term of check_term's next turn.
+// over a term's children before the last, and the term number falls. Behind the last child nothing of the term is left to check,
+// so it is the term of the next turn.
 use crate::scope::child_setting;
 use records::numbers::DomainNo;
 use records::numbers::TermNo;
@@ -17,51 +17,13 @@ ghost use Rattle.image.specs.Layout.{recordsOf};
 ghost use Rattle.verdicts.specs.Check.{checked};
 ghost use Rattle.records.specs.Codes.{kindCodes};
 ghost use Rattle.rules.specs.Lent.{Lent, Masks, IsTerm, settingIn};
-ghost use Rattle.typing.specs.Turns.{Passed, Room, front};
+ghost use Rattle.typing.specs.Turns.{Room};
 
-// The children of term n before child k: those that are constants or variables, which have none, are checked in place, the
-// others, whose numbers are lower than n, by recursion.
-fn check_front(
-    image: &[u8],
-    kinds: &[u32],
-    masks: &[u16],
-    terms: &[u16],
-    keys: &[u32],
-    scope: &mut [u8],
-    len: usize,
-    c: DomainNo,
-    n: TermNo,
-    k: usize,
-) -> Verdict
-    requires { ⌜ Passed (now image) (now terms) (now keys) (now scope) len (c .0) (n .0) k × Room (now image) (now scope) len (n .0) × (now kinds ≡ kindCodes) × Masks (now image) (now masks) ⌝ }
-    ensures { λ r. ⌜ (r ≡ front (recordsOf (now (image .entry))) (settingIn (now (scope .entry)) len (c .0)) (n .0) k) × (take len (now (scope .exit)) ≡ take len (now (scope .entry))) ⌝ }
-{
-    let mut i: usize = 0;
-    while i < k {
-        let e = child(image, kinds, terms, n, i);
-        let s = child_setting(image, kinds, terms, keys, scope, len, c, n, i);
-        let inner = s.len;
-        let dom = s.dom;
-        let kind = term_kind(image, terms, e);
-        if kind < 36 {
-            let r = check_leaf_kind(image, terms, keys, scope, inner, kind, e);
-            if is_refused(r) {
-                return r;
-            }
-        } else {
-            let r = check_term(image, kinds, masks, terms, keys, scope, inner, dom, e);
-            if is_refused(r) {
-                return r;
-            }
-        }
-        i += 1;
-    }
-    Verdict::Accepted
-}
-
-// A term and the terms below it: its rule, its children before the last, and then its last child, where that one stands. Each
-// level, and each turn, goes to a lower number, one deeper, and binds two variables at most: the depth bounds the places of the
-// scope that are used.
+// A term and the terms below it: its rule, its children before the last, and then its last child, where that one stands. Children
+// that are constants or variables, which have none, are checked in place. Each level, and each turn, goes to a lower number, one
+// deeper, and binds two variables at most: the depth bounds the places of the scope that are used. The loop over the children
+// before the last stands inside the loop over the terms for speed: a function of its own would be called with six slices at each
+// term, and most of these calls would lead to no recursion.
 pub fn check_term(
     image: &[u8],
     kinds: &[u32],
@@ -89,9 +51,25 @@ pub fn check_term(
             return Verdict::Accepted;
         }
         let i = k - 1;
-        let r = check_front(image, kinds, masks, terms, keys, scope, len, c, n, i);
-        if is_refused(r) {
-            return r;
+        let mut j: usize = 0;
+        while j < i {
+            let e = child(image, kinds, terms, n, j);
+            let s = child_setting(image, kinds, terms, keys, scope, len, c, n, j);
+            let inner = s.len;
+            let dom = s.dom;
+            let kind = term_kind(image, terms, e);
+            if kind < 36 {
+                let r = check_leaf_kind(image, terms, keys, scope, inner, kind, e);
+                if is_refused(r) {
+                    return r;
+                }
+            } else {
+                let r = check_term(image, kinds, masks, terms, keys, scope, inner, dom, e);
+                if is_refused(r) {
+                    return r;
+                }
+            }
+            j += 1;
         }
         let e = child(image, kinds, terms, n, i);
         let s = child_setting(image, kinds, terms, keys, scope, len, c, n, i);
