@@ -21,6 +21,7 @@ use Rattle.layout.specs.declared.Scan.{Scan}
 use Rattle.layout.specs.Sizes.{typeCount, domainCount, termCount}
 use Rattle.layout.specs.Tables.{Scanned}
 use Rattle.typing.specs.Turns.{Counted}
+use Rattle.typing.proofs.TermPass.{accepted-is}
 use Rattle.examine.specs.Examined.{checkedRecords, examined, Filled, Answered}
 use Rattle.examine.proofs.Filling.{filled}
 
@@ -40,10 +41,6 @@ unfolding inTurn
 accepted-turn Verdict.Accepted w h = last-turn w
 accepted-turn (Verdict.Refused r o) w h = absurd (true≢false h)
 
-is-accepted : (v : Verdict) → isRefused v ≡ false → v ≡ Verdict.Accepted
-is-accepted Verdict.Accepted h = refl
-is-accepted (Verdict.Refused r o) h = absurd (true≢false h)
-
 pub shape-refuses : (b : List ℕ) (v : Verdict) → v ≡ shape (recordsOf b) (length b) → isRefused v ≡ true → v ≡ checkedRecords b
 unfolding checkedRecords
 shape-refuses b v e h = sym (refused-turn v (typing (recordsOf b)) h) ∙ ap (λ x. inTurn ((λ u. x) ∷ (λ u. typing (recordsOf b)) ∷ [])) e
@@ -57,7 +54,7 @@ typing-decides b v w e h f =
 
 -- An image whose shape is accepted has a term, each term but the root is used once, and none is too deep.
 pub shaped : (b : List ℕ) (v : Verdict) → v ≡ shape (recordsOf b) (length b) → isRefused v ≡ false → Shaped (recordsOf b)
-shaped b v e h = shape-accepts (recordsOf b) (length b) .0 (sym e ∙ is-accepted v h)
+shaped b v e h = shape-accepts (recordsOf b) (length b) .0 (sym e ∙ accepted-is v h)
 
 pub counted : (b ss ds ks es : List ℕ) → Filled b ss ds ks es → (v : Verdict) → v ≡ shape (recordsOf b) (length b) → isRefused v ≡ false → Counted b (domainCount ss) (typeCount ss) (termCount ss)
 counted b ss ds ks es F v e h =
