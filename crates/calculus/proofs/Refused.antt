@@ -2,12 +2,11 @@
 use Prim.Native.Nat.{ℕ}
 use mathlib.Core.Path.{_≡_, sym}
 use mathlib.Core.Bool.{true, false, _&&_, _||_, true≢false}
-use mathlib.Core.List.{List, [], _∷_}
-use mathlib.Core.Option.{some}
+use mathlib.Core.List.{[], _∷_}
 use lib.Dec.{eqb}
 use native.Mathlib.Omega.{arith}
-use Rattle.calculus.specs.Syntax.{Dom, Ty, Val, Tm, Op2, val, var, op0, op1, op2, pcd, adv, lower, end, more, newLabel, install, read, newCell, app, mark, store}
-use Rattle.calculus.specs.Typing.{Policy, noStore, TmTy, LabelTys, a-type, t-newLabel, t-install, t-read, t-newCell, t-app, t-mark, t-store, is-val, is-var, is-op0, is-op1, is-op2, is-pcd, is-adv, is-lower, is-end, is-more}
+use Rattle.calculus.specs.Syntax.{Dom, Ty, Val, Tm, val, var, op0, op1, op2, pcd, adv, lower, end, more, newLabel, install, read, newCell, app, mark, store}
+use Rattle.calculus.specs.Typing.{Policy, noStore, TmTy, a-type, t-newLabel, t-install, t-read, t-newCell, t-app, t-mark, t-store, is-var, is-op0, is-op1, is-op2, is-pcd, is-adv, is-lower, is-end, is-more}
 
 -- Two domains, 1 ≤ 0: the mainline is high, the watch low.
 abbrev pub watched : Policy

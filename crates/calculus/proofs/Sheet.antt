@@ -6,7 +6,7 @@ use mathlib.Core.List.{List, [], _∷_}
 use Rattle.calculus.specs.declared.Outcome.{Outcome}
 use Rattle.calculus.specs.Combinators.{cases}
 use Rattle.calculus.specs.Syntax.{Ty, Val, Tm, Op2, val, var, lam, op0, op1, op2, seq, pcd, adv, end, more, newLabel, print, install, app, mark, plus, minus, less}
-use Rattle.calculus.specs.State.{Given, Counts, Print, picked, logOf, noCounts, fresh}
+use Rattle.calculus.specs.State.{Counts, Print, picked, logOf, noCounts, fresh}
 use Rattle.calculus.specs.Subst.{subst}
 use Rattle.calculus.specs.Answer.{carry, if-room, with, spend}
 use Rattle.calculus.specs.Step.{step}

@@ -1,6 +1,5 @@
 -- What a report says of an ended run (document 01, "A run"): the outcome's number, the steps, the result's leaves if the run is done, and each cell.
 use Prim.Native.Nat.{ℕ}
-use mathlib.Core.Bool.{Bool, true, false}
 use mathlib.Core.List.{List, [], _∷_, _++_, map}
 use mathlib.Core.Option.{Option, none, some}
 use Rattle.calculus.specs.declared.Outcome.{Outcome}

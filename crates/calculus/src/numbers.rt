@@ -1,7 +1,5 @@
 // Numbers of 32 bits, two's complement, as bit patterns (document 01, "A run" and "The image").
 ghost use mathlib.Core.Path.{_≡_};
-ghost use mir.Syntax.{w32};
-ghost use mir.Val.{toZ, ofZ};
 ghost use Rattle.calculus.specs.Numbers.{sum, difference, isLess, isEqual, frameByte};
 
 pub fn plus32(a: u32, b: u32) -> u32

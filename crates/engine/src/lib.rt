@@ -29,6 +29,7 @@ pub fn run(
     let mut doms = [0u16; 16];
     let mut types = [0u16; 128];
     let mut keys = [0u32; 128];
+    let mut seen = [false; 256];
     let mut terms = [0u16; 1024];
     let v = examine::examine_image(
         image,
@@ -37,6 +38,7 @@ pub fn run(
         &mut doms,
         &mut types,
         &mut keys,
+        &mut seen,
         &mut terms,
     );
     match v {

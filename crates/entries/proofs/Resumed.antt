@@ -1,54 +1,69 @@
 -- What a value that comes back to a frame makes of the state, by the tests that lead there.
 use Prim.Native.Nat.{ℕ, _+_, _-_, _/_, _%_, _≤_, _<_}
 use native.Mathlib.Omega.{arith}
-use mathlib.Core.Path.{_≡_, sym, ap, _∙_}
+use mathlib.Core.Path.{_≡_, sym, ap, subst, _∙_}
 use mathlib.Core.Bool.{true, false}
 use mathlib.Core.List.{List}
-use lib.ListN.{getD}
-use lib.Dec.{eqb, ltb}
+use lib.ListN.{length, getD}
+use lib.Dec.{eqb}
 use borrow.Author.Tests.{eq-eqb, ne-eqb, lt-ltb, le-ltb}
 use Rattle.calculus.specs.declared.Outcome.{Outcome}
 use Rattle.flat.specs.declared.Regs.{Regs}
-use Rattle.flat.specs.Registers.{readyMode, labelsMode, adviceMode, setMode, setEnv, setDom, setSp, setLeft, setT, setN, setV1, setV}
+use Rattle.flat.specs.Registers.{readyMode, labelsMode, setMode, setEnv, setDom, setSp, setLeft, setT, setN, setV1, setV}
 use Rattle.flat.specs.Values.{tagOf, unitTag, labelTag, bodyOf}
 use Rattle.flat.specs.Rows.{Program}
 use Rattle.flat.specs.Memory.{withLabel, labelDigits, frameAt, frameKind, frameHeld, frameEnv, frameTerm, frameDone, secondFrame, lowerFrame, adviceFrame, pointcutFrame}
 use Rattle.flat.specs.States.{State, halt, stuck}
 use Rattle.flat.specs.Operands.{afterFirst}
-use Rattle.flat.specs.Turn.{leaveAdvice, labelsState, resumeLabels, resumeOperand, resume}
+use Rattle.flat.specs.Turn.{adviceFrom, leaveAdvice, labelsState, resumeLabels, resumeOperand, resume}
 use Rattle.tables.specs.View.{memoryOf}
 use Rattle.values.proofs.Chosen.{tagged-yes, tagged-no}
-use Rattle.operands.specs.Phases.{RegsFit, stateOf, Phase}
-use Rattle.operands.proofs.Made.{chosen-yes, chosen-no, regs-made, chosen-fits, refits}
-use Rattle.entries.specs.Parts.{afterAdvice}
+use Rattle.operands.specs.Phases.{RegsFit, stateOf, Moved, Phase}
+use Rattle.operands.proofs.Made.{chosen-yes, chosen-no, as-phase, regs-made, chosen-fits, refits}
+use Rattle.entries.specs.Parts.{behindAdvice, afterAdvice}
 
--- Behind an advice's body: the mark is done, or more advice is left. s are the registers before.
-module _ (h : ℕ) (r s : Regs) (e : s ≡ r) where
-  abbrev behind : Regs → Regs
-  behind p = setDom (h / 16777216 % 16) (setSp (r .sp - 2) (setLeft (r .left - 2) p))
+-- The registers behind an advice's body still fit.
+pub behind-fits : (h : ℕ) (r : Regs) (n : ℕ) → RegsFit n r → RegsFit n (behindAdvice h r)
+behind-fits h r n g = refits r n _ _ _ _ (g .env-fits) (omega arith) (omega (arith, g .sp-fits)) (g .t-fits) g
 
-  pub mark-done : h % 4096 ≡ h / 4096 % 4096 → behind s ≡ afterAdvice h r
-  mark-done n = ap (λ (p : Regs). behind p) e ∙ sym (chosen-yes _ _ _ (eq-eqb (h % 4096) (h / 4096 % 4096) n))
+module _ (rows image w : List ℕ) where
+  abbrev B : Program
+  B = record { rows = rows; image = image }
 
-  pub mark-on : (h % 4096 ≡ h / 4096 % 4096 → ⊥) → setMode adviceMode (setV (h % 16777216) (behind s)) ≡ afterAdvice h r
-  mark-on n = ap (λ (p : Regs). setMode adviceMode (setV (h % 16777216) (behind p))) e ∙ sym (chosen-no _ _ _ (ne-eqb (h % 4096) (h / 4096 % 4096) n))
+  -- Behind an advice's body, with registers s: the mark is done, or its next advice runs.
+  module _ (h : ℕ) (r s : Regs) (e : s ≡ behindAdvice h r) where
+    pub mark-done : h % 4096 ≡ h / 4096 % 4096 → Phase (afterAdvice B h) w w r s
+    mark-done n = regs-made (afterAdvice B h) w r s (behindAdvice h r) (λ log. sym (chosen-yes _ _ _ (eq-eqb (h % 4096) (h / 4096 % 4096) n))) e (behind-fits h r)
 
--- An advice's body is done: no two steps are left.
-pub advice-spent : (f : ℕ) (r p : Regs) → r .left < 2 → p ≡ halt Outcome.Spent r → setLeft 0 p ≡ leaveAdvice f r
-advice-spent f r p h e = ap (setLeft 0) e ∙ sym (chosen-yes _ _ _ (lt-ltb (r .left) 2 h))
+    pub mark-on : (w′ : List ℕ) (q : Regs) → (h % 4096 ≡ h / 4096 % 4096 → ⊥) → Phase (adviceFrom B h) w w′ s q → Phase (afterAdvice B h) w w′ r q
+    mark-on w′ q n P =
+        record {
+          moved = λ log fit.
+              subst (λ (T : State). Moved T w w′ log q)
+              (ap (λ (p : Regs). adviceFrom B h (stateOf w log p)) e ∙ sym (chosen-no _ _ _ (ne-eqb (h % 4096) (h / 4096 % 4096) n)))
+              (P .moved log (rw e (behind-fits h r (length log) fit)));
+        }
 
--- Two steps are left, and the value has tag t.
-module _ (f : ℕ) (r q : Regs) (t : ℕ) (l : 2 ≤ r .left) (d : t ≡ tagOf (r .v)) where
-  pub advice-no-unit : (t ≡ 0 → ⊥) → q ≡ stuck r → q ≡ leaveAdvice f r
-  advice-no-unit n e = e ∙ sym (chosen-no _ _ _ (le-ltb (r .left) 2 l) ∙ tagged-no unitTag (r .v) t _ _ d n)
+  -- An advice's body is done: no two steps are left.
+  pub advice-spent : (f : ℕ) (r p : Regs) → r .left < 2 → p ≡ halt Outcome.Spent r → Phase (leaveAdvice B f) w w r (setLeft 0 p)
+  advice-spent f r p h e =
+      regs-made (leaveAdvice B f) w r (setLeft 0 p) (halt Outcome.Spent (setLeft 0 r)) (λ log. sym (chosen-yes _ _ _ (lt-ltb (r .left) 2 h))) (ap (setLeft 0) e) (λ _ g. g)
 
-  pub advice-no-frame : t ≡ 0 → r .sp < 2 → q ≡ stuck r → q ≡ leaveAdvice f r
-  advice-no-frame n h e =
-      e ∙ sym (chosen-no _ _ _ (le-ltb (r .left) 2 l) ∙ tagged-yes unitTag (r .v) t _ _ d n ∙ chosen-yes _ _ _ (lt-ltb (r .sp) 2 h))
+  -- Two steps are left, and the value has tag t.
+  module _ (f : ℕ) (r q : Regs) (t : ℕ) (l : 2 ≤ r .left) (d : t ≡ tagOf (r .v)) where
+    pub advice-no-unit : (t ≡ 0 → ⊥) → q ≡ stuck r → Phase (leaveAdvice B f) w w r q
+    advice-no-unit n e =
+        regs-made (leaveAdvice B f) w r q (stuck r) (λ log. sym (chosen-no _ _ _ (le-ltb (r .left) 2 l) ∙ tagged-no unitTag (r .v) t _ _ d n)) e (λ _ g. g)
 
-  pub advice-done : (i : ℕ) → t ≡ 0 → 2 ≤ r .sp → i ≡ frameHeld f → q ≡ afterAdvice i r → q ≡ leaveAdvice f r
-  advice-done i n h g e =
-      e ∙ ap (λ (j : ℕ). afterAdvice j r) g ∙ sym (chosen-no _ _ _ (le-ltb (r .left) 2 l) ∙ tagged-yes unitTag (r .v) t _ _ d n ∙ chosen-no _ _ _ (le-ltb (r .sp) 2 h))
+    pub advice-no-frame : t ≡ 0 → r .sp < 2 → q ≡ stuck r → Phase (leaveAdvice B f) w w r q
+    advice-no-frame n h e =
+        regs-made (leaveAdvice B f) w r q (stuck r) (λ log. sym (chosen-no _ _ _ (le-ltb (r .left) 2 l) ∙ tagged-yes unitTag (r .v) t _ _ d n ∙ chosen-yes _ _ _ (lt-ltb (r .sp) 2 h))) e
+        (λ _ g. g)
+
+    pub advice-done : (w′ : List ℕ) (i : ℕ) → t ≡ 0 → 2 ≤ r .sp → i ≡ frameHeld f → Phase (afterAdvice B i) w w′ r q → Phase (leaveAdvice B f) w w′ r q
+    advice-done w′ i n h g P =
+        as-phase (afterAdvice B i) (leaveAdvice B f) w w′ r q
+        (λ log. ap (λ (j : ℕ). afterAdvice B j (stateOf w log r)) g ∙ sym (chosen-no _ _ _ (le-ltb (r .left) 2 l) ∙ tagged-yes unitTag (r .v) t _ _ d n ∙ chosen-no _ _ _ (le-ltb (r .sp) 2 h))) P
 
 -- A child of a pointcut is worked out; its value has tag t.
 module _ (f : ℕ) (w log : List ℕ) (r : Regs) (t : ℕ) (d : t ≡ tagOf (r .v)) where
@@ -85,11 +100,6 @@ module _ (rows image : List ℕ) (f : ℕ) (r s : Regs) (k t env : ℕ) (e : s �
       i ∙ ap (λ (p : Regs). afterFirst (r .v) p) came-back ∙ sym (chosen-no _ _ _ (ne-eqb (frameKind f) secondFrame (λ z. m (d ∙ z))) ∙ chosen-no _ _ _ (ne-eqb (frameKind f) lowerFrame (λ z. n (d ∙ z))))
 
 -- The registers still fit.
-leave-fits : (f : ℕ) (r : Regs) (n : ℕ) → RegsFit n r → RegsFit n (leaveAdvice f r)
-leave-fits f r n g =
-    let q : RegsFit n (setDom (frameHeld f / 16777216 % 16) (setSp (r .sp - 2) (setLeft (r .left - 2) r))) = refits r n _ _ _ _ (g .env-fits) (omega arith) (omega (arith, g .sp-fits)) (g .t-fits) g in
-    chosen-fits (ltb (r .left) 2) _ _ n g (chosen-fits (eqb (tagOf (r .v)) unitTag) _ _ n (chosen-fits (ltb (r .sp) 2) _ _ n g (chosen-fits (eqb (frameHeld f % 4096) (frameHeld f / 4096 % 4096)) _ _ n q q)) g)
-
 labels-fits : (f : ℕ) (S : State) (n : ℕ) → RegsFit n (S .regs) → RegsFit n (resumeLabels f S)
 labels-fits f S n g =
     chosen-fits (eqb (tagOf (S .regs .v)) labelTag) _ _ n (refits (S .regs) n _ _ _ _ (omega arith) (g .dom-fits) (omega (arith, g .sp-fits)) (g .t-fits) g) g
@@ -119,10 +129,10 @@ module _ (rows image w : List ℕ) (r q : Regs) (f k : ℕ) (h : r .sp ≡ 0 →
   no-kind : (i : ℕ) → (k ≡ i → ⊥) → eqb (frameKind top) i ≡ false
   no-kind i n = ne-eqb (frameKind top) i (λ z. n (e ∙ ap frameKind d ∙ z))
 
-  pub advice-came : k ≡ 4 → q ≡ leaveAdvice f r → Phase (resume D) w w r q
+  pub advice-came : (w′ : List ℕ) → k ≡ 4 → Phase (leaveAdvice D f) w w′ r q → Phase (resume D) w w′ r q
   unfolding resume
-  advice-came n g =
-      regs-made (resume D) w r q (leaveAdvice top r) (λ log. sym (chosen-no _ _ _ (ne-eqb (r .sp) 0 h) ∙ chosen-yes _ _ _ (is-kind adviceFrame n))) (g ∙ ap (λ (i : ℕ). leaveAdvice i r) d) (leave-fits top r)
+  advice-came w′ n P =
+      as-phase (leaveAdvice D f) (resume D) w w′ r q (λ log. ap (λ (i : ℕ). leaveAdvice D i (stateOf w log r)) d ∙ sym (chosen-no _ _ _ (ne-eqb (r .sp) 0 h) ∙ chosen-yes _ _ _ (is-kind adviceFrame n))) P
 
   pub label-came : (k ≡ 4 → ⊥) → k ≡ 2 → ((log : List ℕ) → q ≡ resumeLabels f (stateOf w log r)) → Phase (resume D) w w r q
   unfolding resume

@@ -7,11 +7,11 @@ ghost use Rattle.area.specs.Memory.{memoryLength};
 ghost use Rattle.flat.specs.Turn as flat;
 ghost use Rattle.flat.specs.Turn.{leaveAdvice, labelsState, resumeLabels, resumeOperand};
 ghost use Rattle.operands.specs.Phases.{RegsFit, stateOf, Phase};
-ghost use Rattle.entries.specs.Parts.{afterAdvice};
+ghost use Rattle.entries.specs.Parts.{behindAdvice, afterAdvice};
+use crate::advice::advice_from;
 use flat::Regs;
 use operands::outcomes::DONE;
 use operands::outcomes::SPENT;
-use operands::regs::ADVICE;
 use operands::regs::LABELS;
 use operands::regs::READY;
 use operands::regs::after_first;
@@ -29,26 +29,34 @@ use tables::pieces::with_label;
 use values::body;
 use values::tag;
 
-// The registers behind an advice's body whose frame held h: two steps are made, and what is left of the mark goes on.
-fn left_advice(h: u64, r: Regs) -> Regs
+// The registers behind an advice's body whose frame held h: two steps are made, and the domain of what is around holds again.
+fn behind_advice(h: u64, r: Regs) -> Regs
     requires { ⌜ (2 ≤ r .left) × (2 ≤ r .sp) ⌝ }
-    ensures { λ q. ⌜ q ≡ afterAdvice h r ⌝ }
+    ensures { λ q. ⌜ q ≡ behindAdvice h r ⌝ }
 {
     let mut q = same(r);
     q.dom = h / 16777216 % 16;
     q.sp = r.sp - 2;
     q.left = r.left - 2;
-    if h % 4096 == h / 4096 % 4096 {
-        return q;
-    }
-    q.v = h % 16777216;
-    q.mode = ADVICE;
     q
 }
 
+// The mark is done, or its next advice runs in the same turn.
+fn after_advice(rows: &[u64], work: &mut [u8], h: u64, r: Regs) -> Regs
+    requires { ⌜ (1024 ≤ length (now rows)) × (memoryLength ≤ length (now work)) × (2 ≤ r .left) × (2 ≤ r .sp) × ((size : ℕ) × RegsFit size r) ⌝ }
+    ensures { λ q. ⌜ ((image : List ℕ) → Phase (afterAdvice (record { rows = now (rows .entry); image = image }) h) (now (work .entry)) (now (work .exit)) r q) ⌝ }
+{
+    let q = behind_advice(h, r);
+    if h % 4096 == h / 4096 % 4096 {
+        return q;
+    }
+    advice_from(rows, work, h, q)
+}
+
 // An advice's body is done.
-fn leave_advice(f: u64, r: Regs) -> Regs
-    ensures { λ q. ⌜ q ≡ leaveAdvice f r ⌝ }
+fn leave_advice(rows: &[u64], work: &mut [u8], f: u64, r: Regs) -> Regs
+    requires { ⌜ (1024 ≤ length (now rows)) × (memoryLength ≤ length (now work)) × ((size : ℕ) × RegsFit size r) ⌝ }
+    ensures { λ q. ⌜ ((image : List ℕ) → Phase (leaveAdvice (record { rows = now (rows .entry); image = image }) f) (now (work .entry)) (now (work .exit)) r q) ⌝ }
 {
     if r.left < 2 {
         let mut q = halt(r, SPENT);
@@ -61,7 +69,7 @@ fn leave_advice(f: u64, r: Regs) -> Regs
     if r.sp < 2 {
         return stuck(r);
     }
-    left_advice(frame_held(f), r)
+    after_advice(rows, work, frame_held(f), r)
 }
 
 // Of a pointcut that is worked out: its term, how many labels are done, their digits.
@@ -113,9 +121,9 @@ fn resume_operand(rows: &[u64], f: u64, r: Regs) -> Regs
     after_first(q, r.v)
 }
 
-pub fn resume(rows: &[u64], work: &[u8], r: Regs) -> Regs
+pub fn resume(rows: &[u64], work: &mut [u8], r: Regs) -> Regs
     requires { ⌜ (1024 ≤ length (now rows)) × (memoryLength ≤ length (now work)) × ((size : ℕ) × RegsFit size r) ⌝ }
-    ensures { λ q. ⌜ ((image : List ℕ) → Phase (flat.resume (record { rows = now (rows .entry); image = image })) (now (work .entry)) (now (work .entry)) r q) ⌝ }
+    ensures { λ q. ⌜ ((image : List ℕ) → Phase (flat.resume (record { rows = now (rows .entry); image = image })) (now (work .entry)) (now (work .exit)) r q) ⌝ }
 {
     if r.sp == 0 {
         return halt(r, DONE);
@@ -123,7 +131,7 @@ pub fn resume(rows: &[u64], work: &[u8], r: Regs) -> Regs
     let f = frame_at(work, r.sp - 1);
     let k = frame_kind(f);
     if k == tables::frames::ADVICE {
-        return leave_advice(f, r);
+        return leave_advice(rows, work, f, r);
     }
     if k == tables::frames::POINTCUT {
         return resume_labels(work, f, r);

@@ -1,16 +1,15 @@
 -- A scan that laid the image out filled the tables.
 use Prim.Native.Nat.{ℕ, _≤_, _<_}
-use mathlib.Core.Path.{_≡_, refl, sym, ap, subst, _∙_}
-use mathlib.Core.List.{List, [], _∷_}
+use mathlib.Core.Path.{_≡_, sym, ap, subst, _∙_}
+use mathlib.Core.List.{List}
 use native.Mathlib.Omega.{arith}
 use lib.ListN.{length, getD, take}
 use lib.Seq.{length-take-le}
 use Rattle.image.specs.Limits.{imageLimit}
-use Rattle.image.specs.Layout.{Layout, laid, layout, recordsOf}
+use Rattle.image.specs.Layout.{laid, recordsOf}
 use Rattle.image.specs.Types.{typePlace}
 use Rattle.image.proofs.Laid.{records-of}
 use Rattle.records.specs.Keys.{Key}
-use Rattle.records.specs.Tables.{Tables}
 use Rattle.layout.specs.declared.Scan.{Scan}
 use Rattle.layout.specs.Sizes.{typeCount, domainCount, termCount}
 use Rattle.layout.specs.Tables.{layoutOf, Scanned}

@@ -1,45 +1,35 @@
 -- The answers of the parts, one after another, are the definition's.
 use Prim.Native.Nat.{ℕ, _≤_, _<_}
 use mathlib.Core.Path.{_≡_, refl, sym, ap, subst, _∙_}
-use mathlib.Core.Bool.{true, false, true≢false}
+use mathlib.Core.Bool.{true, false}
 use mathlib.Core.List.{List, [], _∷_}
 use native.Mathlib.Omega.{arith}
 use lib.ListN.{length}
 use Rattle.image.specs.declared.Refusal.{Refusal}
 use Rattle.image.specs.Limits.{imageLimit}
-use Rattle.image.specs.Layout.{layout, recordsOf, stopped, laid}
+use Rattle.image.specs.Layout.{layout, recordsOf}
 use Rattle.verdicts.specs.declared.Verdict.{Verdict}
 use Rattle.verdicts.specs.Answers.{isRefused, inTurn}
 use Rattle.verdicts.specs.Shape.{shape}
 use Rattle.verdicts.specs.Check.{typing}
 use Rattle.verdicts.specs.Verdicts.{laidOut}
 use Rattle.verdicts.specs.Acceptable.{Shaped}
-use Rattle.verdicts.proofs.Answered.{not-refused}
+use Rattle.verdicts.proofs.Answered.{not-refused, accepted-is, turn-stops, turn-goes, last-turn}
 use Rattle.verdicts.proofs.Accept.{shape-accepts}
 use Rattle.records.specs.Codes.{kindCodes}
 use Rattle.layout.specs.declared.Scan.{Scan}
 use Rattle.layout.specs.Sizes.{typeCount, domainCount, termCount}
 use Rattle.layout.specs.Tables.{Scanned}
 use Rattle.typing.specs.Turns.{Counted}
-use Rattle.typing.proofs.TermPass.{accepted-is}
 use Rattle.examine.specs.Examined.{checkedRecords, examined, Filled, Answered}
 use Rattle.examine.proofs.Filling.{filled}
 
 -- Two checks in turn.
 refused-turn : (v w : Verdict) → isRefused v ≡ true → inTurn ((λ u. v) ∷ (λ u. w) ∷ []) ≡ v
-unfolding inTurn
-refused-turn Verdict.Accepted w h = absurd (true≢false (sym h))
-refused-turn (Verdict.Refused r o) w h = refl
-
-last-turn : (w : Verdict) → inTurn ((λ u. w) ∷ []) ≡ w
-unfolding inTurn
-last-turn Verdict.Accepted = refl
-last-turn (Verdict.Refused r o) = refl
+refused-turn v w h = turn-stops (λ u. v) _ h
 
 accepted-turn : (v w : Verdict) → isRefused v ≡ false → inTurn ((λ u. v) ∷ (λ u. w) ∷ []) ≡ w
-unfolding inTurn
-accepted-turn Verdict.Accepted w h = last-turn w
-accepted-turn (Verdict.Refused r o) w h = absurd (true≢false h)
+accepted-turn v w h = turn-goes (λ u. v) _ h ∙ last-turn (λ u. w)
 
 pub shape-refuses : (b : List ℕ) (v : Verdict) → v ≡ shape (recordsOf b) (length b) → isRefused v ≡ true → v ≡ checkedRecords b
 unfolding checkedRecords

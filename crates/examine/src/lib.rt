@@ -2,9 +2,6 @@
 // goes on with the tables of an accepted image.
 use verdicts::Verdict;
 ghost use mathlib.Core.Path.{_≡_};
-ghost use Rattle.verdicts.specs.Shape.{shape};
-ghost use Rattle.verdicts.specs.Check.{typing};
-ghost use Rattle.image.specs.Layout.{recordsOf};
 ghost use Rattle.records.specs.Codes.{kindCodes};
 ghost use Rattle.layout.specs.Tables.{Lent};
 ghost use Rattle.examine.specs.Examined.{Filled, checkedRecords, Answered};
@@ -51,12 +48,13 @@ pub fn examine_image(
     doms: &mut [u16],
     types: &mut [u16],
     keys: &mut [u32],
+    seen: &mut [bool],
     terms: &mut [u16],
 ) -> Verdict
-    requires { ⌜ Lent (now image) (now kinds) (now sizes) (now doms) (now types) (now keys) (now terms) ⌝ }
+    requires { ⌜ Lent (now image) (now kinds) (now sizes) (now doms) (now types) (now keys) (now seen) (now terms) ⌝ }
     ensures { λ r. ⌜ Answered r (now (image .entry)) (now (sizes .exit)) (now (doms .exit)) (now (keys .exit)) (now (terms .exit)) ⌝ }
 {
-    let scanned = layout::scan_records(image, kinds, sizes, doms, types, keys, terms);
+    let scanned = layout::scan_records(image, kinds, sizes, doms, types, keys, seen, terms);
     match scanned {
         layout::Scan::Stopped(why, at) => Verdict::Refused(why, at),
         layout::Scan::Laid => check_records(image, kinds, sizes, doms, keys, terms),

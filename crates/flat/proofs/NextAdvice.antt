@@ -22,7 +22,7 @@ use Rattle.flat.specs.Registers.{evalMode, setMode, setEnv, setDom, setS
 use Rattle.flat.specs.Rows.{kindOf, isAtom, Program, rowAt}
 use Rattle.flat.specs.Memory.{Memory, bindingAt, boundPiece, pieceFirst, adviceTerm, adviceDom, frameWord, frameHeld, frameKind, frameAt, putFrame}
 use Rattle.flat.specs.States.{State, withRegs, withMemory, halt, noFrames}
-use Rattle.flat.specs.Turn.{nextAdvice}
+use Rattle.flat.specs.Turn.{adviceFrom}
 use Rattle.flat.specs.Coded.{Coded}
 use Rattle.flat.proofs.Relations.{Sizes, sizes, IsEnv, is-link, IsTriggered, one-left, no-link-false, triggered-at, env-grows, triggered-grows}
 use Rattle.flat.proofs.Sound.{Sound}
@@ -38,7 +38,7 @@ held-parts : (n e d h : ℕ) → n < 4096 → e < 4096 → d < 16 → h ≡ n + 
 held-parts n e d h a b c p = (omega arith, omega arith, omega arith)
 
 module _ (C : Program) (term : ℕ → Tm) (coded : Coded C term) (G : Given) (e₀ : Tm) (Ω : Sound G e₀) (N : ℕ) (L : List ℕ) (b : ℕ) (S : State) (k : ℕ) (s : CState) (K : Stack) (m : Common C term G e₀ Ω N L S k s K)
-    (same : S .regs .c ≡ S .regs .v) (fits : S .regs .sp ≤ 512) (turns : 16384 * S .regs .left + 24 * (514 - S .regs .sp) ≤ b) where
+    (p : ℕ) (fits : S .regs .sp ≤ 512) (turns : 16384 * S .regs .left + 24 * (514 - S .regs .sp) ≤ b) where
   abbrev After : State → Type 0
   After T = Now C term G e₀ Ω N L 0 b T
 
@@ -54,24 +54,24 @@ module _ (C : Program) (term : ℕ → Tm) (coded : Coded C term) (G : Given) (e
     abbrev first : Advice Body
     first = record { dom = d; labels = ls; body = record { term = f; env = ρ } }
 
-    advice-now : S .regs .c % 4096 < S .regs .c / 4096 % 4096 → IsEnv term (S .memory) (sizes (S .regs)) (S .regs .c % 4096) (link w ρ)
-        → term (adviceTerm (pieceFirst (S .memory) (boundPiece (bindingAt (S .memory) (S .regs .c % 4096))))) ≡ f
-        → adviceDom (pieceFirst (S .memory) (boundPiece (bindingAt (S .memory) (S .regs .c % 4096)))) ≡ d → IsTriggered term (S .memory) (sizes (S .regs)) (suc (S .regs .c % 4096)) (S .regs .c / 4096 % 4096) w x
-        → Reach G e₀ Ω k s (triggered w (first ∷ x)) K → After (nextAdvice C S)
-    unfolding nextAdvice
-    advice-now lt (is-link low high iv ie) tm dm rest r = rw (no-link-false (S .regs .c % 4096) low (omega (arith, m .store .bindings-fit))) (room (leb frameLimit (S .regs .sp)) refl)
+    advice-now : p % 4096 < p / 4096 % 4096 → IsEnv term (S .memory) (sizes (S .regs)) (p % 4096) (link w ρ)
+        → term (adviceTerm (pieceFirst (S .memory) (boundPiece (bindingAt (S .memory) (p % 4096))))) ≡ f
+        → adviceDom (pieceFirst (S .memory) (boundPiece (bindingAt (S .memory) (p % 4096)))) ≡ d → IsTriggered term (S .memory) (sizes (S .regs)) (suc (p % 4096)) (p / 4096 % 4096) w x
+        → Reach G e₀ Ω k s (triggered w (first ∷ x)) K → After (adviceFrom C p S)
+    unfolding adviceFrom
+    advice-now lt (is-link low high iv ie) tm dm rest r = rw (no-link-false (p % 4096) low (omega (arith, m .store .bindings-fit))) (room (leb frameLimit (S .regs .sp)) refl)
       where
         a : ℕ
-        a = pieceFirst (S .memory) (boundPiece (bindingAt (S .memory) (S .regs .c % 4096)))
+        a = pieceFirst (S .memory) (boundPiece (bindingAt (S .memory) (p % 4096)))
 
         H : ℕ
-        H = S .regs .c % 4096 + 1 + 4096 * (S .regs .c / 4096 % 4096) + 16777216 * S .regs .dom
+        H = p % 4096 + 1 + 4096 * (p / 4096 % 4096) + 16777216 * S .regs .dom
 
         M′ : Memory
         M′ = putFrame (S .regs .sp + 1) (frameWord 4 0 0 0 H) (S .memory)
 
         after : Regs
-        after = setMode evalMode (setT (adviceTerm a) (setDom (adviceDom a) (setEnv (S .regs .c % 4096) (setSp (S .regs .sp + 2) (S .regs)))))
+        after = setMode evalMode (setT (adviceTerm a) (setDom (adviceDom a) (setEnv (p % 4096) (setSp (S .regs .sp + 2) (S .regs)))))
 
         deep : S .regs .sp ≤ 511 → Reach G e₀ Ω k s (eval f (link w ρ)) (lowerF d ∷ triggeredF w x ∷ K)
         deep h =
@@ -87,9 +87,9 @@ module _ (C : Program) (term : ℕ → Tm) (coded : Coded C term) (G : Given) (e
             let i : suc (S .regs .sp) ≡ S .regs .sp + 1 = omega arith in
             let at′ : frameAt M′ (suc (S .regs .sp)) ≡ wd = ap (frameAt M′) i ∙ at in
             let parts : FrameParts 4 0 0 0 H wd = frame-parts 4 0 0 0 H (omega arith) (omega arith) (omega arith) (omega arith) in
-            let hp = held-parts (S .regs .c % 4096 + 1) (S .regs .c / 4096 % 4096) (S .regs .dom) H (omega (arith, m .store .bindings-fit)) (omega arith) (m .low) refl in
+            let hp = held-parts (p % 4096 + 1) (p / 4096 % 4096) (S .regs .dom) H (omega (arith, m .store .bindings-fit)) (omega arith) (m .low) refl in
             let held : frameHeld (frameAt M′ (suc (S .regs .sp))) ≡ H = ap frameHeld at′ ∙ parts .held-part in
-            let n : S .regs .c % 4096 + 1 ≡ suc (S .regs .c % 4096) = omega arith in
+            let n : p % 4096 + 1 ≡ suc (p % 4096) = omega arith in
             let tr : IsTriggered term M′ z (frameHeld (frameAt M′ (suc (S .regs .sp))) % 4096) (frameHeld (frameAt M′ (suc (S .regs .sp))) / 4096 % 4096) w x =
             triggered-at term M′ z (ap (λ (q : ℕ). q % 4096) held ∙ hp .0 ∙ n) (ap (λ (q : ℕ). q / 4096 % 4096) held ∙ hp .1) (triggered-grows term (S .memory) z M′ z grow rest) in
             now-eval refl
@@ -128,10 +128,6 @@ module _ (C : Program) (term : ℕ → Tm) (coded : Coded C term) (G : Given) (e
                 (omega (arith, stack-length C term (S .memory) (sizes (S .regs)) (m .stack))))
             last false t u v = pushed-now short (λ z. omega (arith, short, eqb-false (S .regs .sp) 511 t))
 
-  from-c : {w : CVal} {a : Advice Body} {x : List (Advice Body)} → IsTriggered term (S .memory) (sizes (S .regs)) (S .regs .c % 4096) (S .regs .c / 4096 % 4096) w (a ∷ x)
-      → Reach G e₀ Ω k s (triggered w (a ∷ x)) K → After (nextAdvice C S)
-  from-c {w} (one-left {d = d} {f = f} {ls = ls} {ρ = ρ} {x = x} lt e p q t rest) r = advice-now w d ls f ρ x lt e q t rest r
-
-  pub next-advice : {w : CVal} {a : Advice Body} {x : List (Advice Body)} → IsTriggered term (S .memory) (sizes (S .regs)) (S .regs .v % 4096) (S .regs .v / 4096 % 4096) w (a ∷ x)
-      → Reach G e₀ Ω k s (triggered w (a ∷ x)) K → After (nextAdvice C S)
-  next-advice tr r = from-c (triggered-at term (S .memory) (sizes (S .regs)) (ap (λ (q : ℕ). q % 4096) same) (ap (λ (q : ℕ). q / 4096 % 4096) same) tr) r
+  pub next-advice : {w : CVal} {a : Advice Body} {x : List (Advice Body)} → IsTriggered term (S .memory) (sizes (S .regs)) (p % 4096) (p / 4096 % 4096) w (a ∷ x)
+      → Reach G e₀ Ω k s (triggered w (a ∷ x)) K → After (adviceFrom C p S)
+  next-advice {w} (one-left {d = d} {f = f} {ls = ls} {ρ = ρ} {x = x} lt e i q t rest) r = advice-now w d ls f ρ x lt e q t rest r

@@ -1,5 +1,5 @@
 -- The first and the second operand of the current term.
-use Prim.Native.Nat.{ℕ, suc, _+_, _-_, _*_, _%_, _≤_, _<_}
+use Prim.Native.Nat.{ℕ, suc, _+_, _-_, _*_, _≤_, _<_}
 use native.Mathlib.Omega.{arith}
 use mathlib.Core.Path.{_≡_, refl, sym, _∙_}
 use mathlib.Core.Bool.{Bool, true, false, true≢false}
@@ -22,7 +22,7 @@ use Rattle.flat.specs.Memory.{Memory, frameWord, putFrame, frameAt, uppe
 use Rattle.flat.specs.States.{State, withRegs, halt, noFrames}
 use Rattle.flat.specs.Operands.{atomValue, simpleValue, afterFirst, afterSecond, pushed, operand, firstOperand, secondOperand}
 use Rattle.flat.specs.Coded.{Coded}
-use Rattle.flat.proofs.Relations.{sizes, IsVal, IsEnv, env-bound, env-grows, val-grows, val-like, val-at, env-at}
+use Rattle.flat.proofs.Relations.{sizes, IsVal, IsEnv, env-bound, env-grows, val-grows, val-like, env-at}
 use Rattle.flat.proofs.Sound.{Sound}
 use Rattle.flat.proofs.Reach.{Reach, reach-moves, ends-spent, ends-deep, under-frame, redex-due}
 use Rattle.flat.proofs.Nodes.{Op2Of, pair-op, apply-op, arithmetic-op, mark-op, store-op, Unary, seq-frame, print-frame, ite-frame, split-frame, advice-frame, install-frame, cell-frame, read-frame, byte-frame, unary, binary, strict-dom, shape}

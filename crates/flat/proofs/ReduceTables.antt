@@ -27,7 +27,7 @@ use Rattle.flat.specs.States.{State, withRegs, withMemory, give}
 use Rattle.area.specs.Bytes.{bytesOf, over}
 use Rattle.area.specs.Records.{logRecord}
 use Rattle.flat.specs.Reduce.{reducePrint, reduceLabel, reduceInstall, reduceCell, reduceStore}
-use Rattle.flat.proofs.Relations.{sizes, IsVal, is-unit, is-cell, is-label, IsAdvice, at-piece, val-like, val-at, Grows, val-grows, advice-grows}
+use Rattle.flat.proofs.Relations.{sizes, IsVal, is-unit, is-cell, is-label, IsAdvice, at-piece, val-like, Grows, val-grows, advice-grows}
 use Rattle.flat.proofs.Sound.{Sound}
 use Rattle.flat.proofs.Tables.{word-same, word-other, grows-put, grows-sizes, grows-trans, same-put, same-refl}
 use Rattle.flat.proofs.Nodes.{tag-value}

@@ -15,12 +15,12 @@ use Rattle.calculus.specs.Answer.{with}
 use Rattle.machine.specs.Closure.{CVal, Env, Body, CState, plainVal}
 use Rattle.machine.specs.Machine.{ret, triggered, Frame, triggeredF, lowerF, Stack, placeAt, reduce2C, reduceSeqC}
 use Rattle.flat.specs.declared.Regs.{Regs}
-use Rattle.flat.specs.Registers.{returnMode, adviceMode, labelsMode, readyMode, setMode, setEnv, setDom, setSp, setLeft, setT, setN, setV1, setV}
+use Rattle.flat.specs.Registers.{returnMode, labelsMode, readyMode, setMode, setEnv, setDom, setSp, setLeft, setT, setN, setV1, setV}
 use Rattle.flat.specs.Values.{tagOf, bodyOf}
 use Rattle.flat.specs.Rows.{field2, Program, rowAt}
 use Rattle.flat.specs.Memory.{withLabel, frameEnv, frameTerm, frameKind, frameDone, frameHeld, frameAt, labelDigits}
 use Rattle.flat.specs.States.{State, withRegs, halt, stuck}
-use Rattle.flat.specs.Turn.{leaveAdvice, labelsState, resumeLabels, resumeOperand, resume}
+use Rattle.flat.specs.Turn.{adviceFrom, leaveAdvice, labelsState, resumeLabels, resumeOperand, resume}
 use Rattle.flat.specs.Coded.{Coded}
 use Rattle.flat.proofs.Relations.{sizes, digitsOf, Labels, one-more, IsVal, is-unit, IsEnv, IsTriggered, no-more, one-left}
 use Rattle.flat.proofs.Sound.{Sound}
@@ -29,9 +29,10 @@ use Rattle.flat.proofs.Nodes.{unary, binary, strict-dom}
 use Rattle.flat.proofs.Stack.{IsPointcut, labelsFrame, IsFrame, first-frame, second-frame, pointcut-frame, lower-frame, IsStack, no-frames, one-frame, advice-frames, stack-length, topOf, topFrame, children-count, stack-top}
 use Rattle.flat.proofs.Store.{Store}
 use Rattle.flat.proofs.Views.{AsUnit, a-unit, no-unit, as-unit, AsLabel, a-label, no-label, as-label}
-use Rattle.flat.proofs.Now.{strict-first, binary-redex, Common, halted-done, halted-stopped, Labelling, Now, now-return, now-advice, now-labels, now-ready, now-halted}
+use Rattle.flat.proofs.Now.{strict-first, binary-redex, Common, halted-done, halted-stopped, Labelling, Now, now-return, now-labels, now-ready, now-halted}
 use Rattle.flat.proofs.ValueSteps.{Bytes}
 use Rattle.flat.proofs.Operands.{after-unary, after-lower, after-first}
+use Rattle.flat.proofs.NextAdvice.{next-advice}
 use Rattle.flat.proofs.Labelled.{labels-parts, with-label, labelled-next}
 
 module _ (C : Program) (term : ℕ → Tm) (coded : Coded C term) (G : Given) (e₀ : Tm) (Ω : Sound G e₀) (N : ℕ) (L : List ℕ) (bytes : Bytes (G .frame)) (b : ℕ) (S : State) (k : ℕ) (s : CState)
@@ -85,7 +86,7 @@ module _ (C : Program) (term : ℕ → Tm) (coded : Coded C term) (G : Given) (e
     operand-back : {F : Frame} (byte : ℕ) (v : CVal) → IsFrame C term (S .memory) (sizes (S .regs)) f byte (placeAt K .dom) F → S .regs .dom ≡ placeAt (F ∷ K) .dom → Val (S .regs .v) v
         → Reach G e₀ Ω k s (ret v) (F ∷ K) → 16384 * S .regs .left + 24 * (514 - S .regs .sp) + topFrame F ≤ b → labelDigits (S .memory) (S .regs .sp - 1) f ≡ frameHeld f + 68719476736 * byte
         → After
-        (choose (eqb (frameKind f) 4) (withRegs (leaveAdvice f (S .regs)) S) (choose (eqb (frameKind f) 2) (withRegs (resumeLabels f S) S) (withRegs (resumeOperand C f (S .regs)) S)))
+        (choose (eqb (frameKind f) 4) (leaveAdvice C f S) (choose (eqb (frameKind f) 2) (withRegs (resumeLabels f S) S) (withRegs (resumeOperand C f (S .regs)) S)))
     operand-back byte v (first-frame {ρ = ρ} {F = F} p e (unary u)) d iv r turns digits =
         rw p
         (after-unary C term coded G e₀ Ω N L bytes 0 b (omega arith) (withRegs (popped f) S) k s K ρ F (S .regs .v) v (common (popped f) refl refl (d ∙ strict-dom C term (unary u) K) low refl) e (omega arith) u iv r (omega arith))
@@ -155,13 +156,11 @@ module _ (C : Program) (term : ℕ → Tm) (coded : Coded C term) (G : Given) (e
     leave-now : (x : List (Advice Body)) (u : CVal) → IsTriggered term (S .memory) (sizes (S .regs)) (frameHeld f % 4096) (frameHeld f / 4096 % 4096) w x → Val (S .regs .v) u
         → Reach G e₀ Ω k s (ret u) (lowerF d ∷ triggeredF w x ∷ K) → (t : Bool) → ltb (S .regs .left) 2 ≡ t
         → After
-        (withRegs
-        (choose t (halt Outcome.Spent (setLeft 0 (S .regs)))
+        (choose t (withRegs (halt Outcome.Spent (setLeft 0 (S .regs))) S)
         (choose (eqb (tagOf (S .regs .v)) 0)
-        (choose (ltb (S .regs .sp) 2) (stuck (S .regs))
-        (choose (eqb (frameHeld f % 4096) (frameHeld f / 4096 % 4096)) left-regs (setMode adviceMode (setV (frameHeld f % 16777216) left-regs))))
-        (stuck (S .regs))))
-        S)
+        (choose (ltb (S .regs .sp) 2) (withRegs (stuck (S .regs)) S)
+        (choose (eqb (frameHeld f % 4096) (frameHeld f / 4096 % 4096)) (withRegs left-regs S) (adviceFrom C (frameHeld f) (withRegs left-regs S))))
+        (withRegs (stuck (S .regs)) S)))
     leave-now x u tr iv r true e = spent-now x u iv r (ltb-true (S .regs .left) 2 e) (eqb (S .regs .left) 0) refl
     leave-now [] u (no-more same) iv r false e =
         let h : 2 ≤ S .regs .left = ltb-false (S .regs .left) 2 e in
@@ -172,12 +171,9 @@ module _ (C : Program) (term : ℕ → Tm) (coded : Coded C term) (G : Given) (e
     leave-now (a ∷ x) u (one-left lt ie p q t rest) iv r false e =
         let h : 2 ≤ S .regs .left = ltb-false (S .regs .left) 2 e in
         let o = lowered (a ∷ x) (as-unit term (S .memory) (sizes (S .regs)) iv) r in
-        let after : Regs = setMode adviceMode (setV (frameHeld f % 16777216) left-regs) in
-        let lo : frameHeld f % 16777216 % 4096 ≡ frameHeld f % 4096 = omega arith in
-        let hi : frameHeld f % 16777216 / 4096 % 4096 ≡ frameHeld f / 4096 % 4096 = omega arith in
-        let tr : IsTriggered term (S .memory) (sizes (S .regs)) (frameHeld f % 16777216 % 4096) (frameHeld f % 16777216 / 4096 % 4096) w (a ∷ x) = rw (lo, hi) (one-left lt ie p q t rest) in
         rw (o .0, le-ltb (S .regs .sp) 2 (omega arith), ne-eqb (frameHeld f % 4096) (frameHeld f / 4096 % 4096) (λ z. omega arith))
-        (now-advice refl (left-common h after refl refl refl refl) tr (omega arith) (sequenced (a ∷ x) (o .1)) (omega arith))
+        (next-advice C term coded G e₀ Ω N L b (withRegs left-regs S) (suc (suc k)) s K (left-common h left-regs refl refl refl refl) (frameHeld f) (omega arith) (omega arith)
+        (one-left lt ie p q t rest) (sequenced (a ∷ x) (o .1)))
 
   pub resume-now : (K : Stack) (v : CVal) → IsStack C term (S .memory) (sizes (S .regs)) (S .regs .sp) K → S .regs .dom ≡ placeAt K .dom → Val (S .regs .v) v → Reach G e₀ Ω k s (ret v) K
       → 16384 * S .regs .left + 24 * (514 - S .regs .sp) + topOf K ≤ b → After (resume C S)

@@ -16,7 +16,7 @@ use Rattle.area.specs.Bytes.{bytesOf, over}
 use Rattle.area.specs.Records.{logRecord}
 use Rattle.flat.specs.Operands.{simpleValue, firstOperand, secondOperand}
 use Rattle.flat.specs.Reduce.{bindMatching, reduceMark, reduceKind}
-use Rattle.flat.specs.Turn.{begin, nextAdvice, resume, nextLabel, turn}
+use Rattle.flat.specs.Turn.{begin, adviceFrom, resume, nextLabel, turn}
 use Rattle.flat.specs.FlatRun.{startRegs, turns, flatRun}
 use Rattle.flat.proofs.Store.{logBytes}
 
@@ -61,7 +61,7 @@ unfoldable pub flatRow : State → FlatRow
 flatRow S = record { mode = S .regs .mode; left = S .regs .left; result = S .regs .c; log = take 20 (S .log); bindings = S .regs .nb; pieces = S .regs .np }
 
 p6-turns : flatRow (turns 45 markedProgram [] (start 100000)) ≡ record { mode = 16; left = 100000 - 17; result = 0; log = logBytes (sheet 100000 marked .log); bindings = 3; pieces = 4 }
-unfolding flatRow turns turn begin nextAdvice resume nextLabel firstOperand secondOperand simpleValue reduceKind reduceMark bindMatching lookup hasDigit readCell calculate readByte bytesOf over markedProgram start logBytes
+unfolding flatRow turns turn begin adviceFrom resume nextLabel firstOperand secondOperand simpleValue reduceKind reduceMark bindMatching lookup hasDigit readCell calculate readByte bytesOf over markedProgram start logBytes
 p6-turns = rw p6 refl
 
 -- A halted machine stays as it is.
@@ -94,7 +94,7 @@ unfoldable lowerProgram : Program
 lowerProgram = record { rows = 22011707426 ∷ 42 ∷ 4295032871 ∷ []; image = [] }
 
 flat-lower : take 10 (turns 6 lowerProgram [] (record { memory = record { words = replicate 3905 0; beside = [] }; log = replicate 10 0; regs = startRegs 2 10 }) .log) ≡ logRecord 1 5
-unfolding turns turn begin nextAdvice resume nextLabel firstOperand secondOperand simpleValue reduceKind reduceMark bindMatching lookup hasDigit readCell calculate readByte bytesOf over lowerProgram
+unfolding turns turn begin adviceFrom resume nextLabel firstOperand secondOperand simpleValue reduceKind reduceMark bindMatching lookup hasDigit readCell calculate readByte bytesOf over lowerProgram
 flat-lower = refl
 
 -- A number under n frame bytes, one inside another: term i stands in term i + 1. The step of 513 terms is made under 512 frames, that of 514 is not.
@@ -107,9 +107,9 @@ nested n =
     turns (n + 1) (record { rows = 536870946 ∷ nest n 0; image = [] }) [] (record { memory = record { words = replicate 3905 0; beside = [] }; log = []; regs = startRegs n 1 })
 
 flat-fits : nested 513 .regs .mode ≡ 17
-unfolding nested nest turns turn begin nextAdvice resume nextLabel firstOperand secondOperand simpleValue reduceKind reduceMark bindMatching lookup hasDigit readCell calculate readByte
+unfolding nested nest turns turn begin adviceFrom resume nextLabel firstOperand secondOperand simpleValue reduceKind reduceMark bindMatching lookup hasDigit readCell calculate readByte
 flat-fits = refl
 
 flat-too-deep : nested 514 .regs .mode ≡ 19
-unfolding nested nest turns turn begin nextAdvice resume nextLabel firstOperand secondOperand simpleValue reduceKind reduceMark bindMatching lookup hasDigit readCell calculate readByte
+unfolding nested nest turns turn begin adviceFrom resume nextLabel firstOperand secondOperand simpleValue reduceKind reduceMark bindMatching lookup hasDigit readCell calculate readByte
 flat-too-deep = refl

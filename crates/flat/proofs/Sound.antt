@@ -1,6 +1,6 @@
 -- What the flat machine asks of a program: a property of states and terms that steps keep, and that rules out a wrong redex, a variable without a value, and a pointcut of what is no label.
 -- Type safety gives it for every accepted program.
-use Prim.Native.Nat.{ℕ, zero, suc}
+use Prim.Native.Nat.{ℕ}
 use native.Mathlib.Nat.{sub-zero}
 use mathlib.Core.Path.{_≡_, refl}
 use mathlib.Core.List.{List, [], _∷_}

@@ -18,7 +18,7 @@ use Rattle.flat.specs.Reduce.{reduce}
 use Rattle.flat.specs.Turn.{opened, closed, enter, inMode, turn}
 use Rattle.flat.specs.Coded.{Coded}
 use Rattle.machine.specs.Machine.{eval}
-use Rattle.flat.proofs.Relations.{sizes, IsTriggered, val-at}
+use Rattle.flat.proofs.Relations.{sizes, IsTriggered, triggered-at, val-at}
 use Rattle.flat.proofs.Sound.{Sound}
 use Rattle.flat.proofs.Reach.{Reach}
 use Rattle.flat.proofs.Now.{Labelling, Halted, halted-done, halted-stopped, Now, now-eval, now-return, now-advice, now-labels, now-first, now-second, now-ready, now-halted}
@@ -48,7 +48,8 @@ module _ (C : Program) (term : ℕ → Tm) (coded : Coded C term) (G : Given) (e
   enter-now b S (now-return {k = k} {s = s} {K = K} {v = v} p m iv fits r turns) same h =
       rw (test S 1 0 p, test S 1 1 p) (resume-now C term coded G e₀ Ω N L bytes b S k s (m .store) (m .low) (m .budget) p fits K v (m .stack) (m .place) iv r (omega arith))
   enter-now b S (now-advice {k = k} {s = s} {K = K} p m tr fits r turns) same h =
-      rw (test S 2 0 p, test S 2 1 p, test S 2 2 p) (next-advice C term coded G e₀ Ω N L b S k s K m same fits (omega arith) tr r)
+      rw (test S 2 0 p, test S 2 1 p, test S 2 2 p) (next-advice C term coded G e₀ Ω N L b S k s K m (S .regs .c) fits (omega arith)
+      (triggered-at term (S .memory) (sizes (S .regs)) (ap (λ (q : ℕ). q % 4096) same) (ap (λ (q : ℕ). q / 4096 % 4096) same) tr) r)
   enter-now b S (now-labels {k = k} {s = s} {K = K} {ρ = ρ} ds p m e fits pc ls count word l turns) same h =
       let row : rowAt C (S .regs .v % 1024) ≡ rowAt C (S .regs .c % 1024) = ap (λ (i : ℕ). rowAt C (i % 1024)) (sym same) in
       rw (test S 3 0 p, test S 3 1 p, test S 3 2 p)

@@ -22,6 +22,11 @@ abbrev pub Below : ℕ → List ℕ → Type 0
 Below n [] = Unit {0}
 Below n (e ∷ es) = (e < n) × Below n es
 
+pub below-at : (n : ℕ) (es : List ℕ) (i : ℕ) → Below n es → i < length es → getD es i 0 < n
+below-at n [] i b h = absurd (omega arith)
+below-at n (e ∷ es) zero b h = b .0
+below-at n (e ∷ es) (suc i) b h = below-at n es i (b .1) (omega arith)
+
 -- The record at o is whole and has the row r's number, fields and children.
 pub record Stands (b : List ℕ) (r : Row) (o : ℕ) : Type 0 where
   pub number : numberAt b o ≡ r .number

@@ -1,6 +1,7 @@
--- What the walk assures of the records that it lays out; types and their numbers; programs that differ only in low bodies.
+-- What the walk assures of the records that it lays out; kinds and types by their numbers; programs that differ only in low bodies.
 pub mod Facts
 pub mod Words
+pub mod KindNumbers
 pub mod Laid
 pub mod TypeNumbers
 pub mod Fuel

@@ -4,29 +4,16 @@ use native.Mathlib.Omega.{arith}
 use mathlib.Core.Path.{_≡_, refl, sym, ap, subst, _∙_}
 use mathlib.Core.Bool.{Bool, true, false}
 use mathlib.Core.Logic.{_↔_}
-use mathlib.Core.Option.{some}
 use lib.ListN.{length, getD}
 use lib.Dec.{eqb, ltb}
 use Rattle.calculus.specs.Syntax.{Ty}
 use Rattle.image.specs.Tests.{allBelow}
-use Rattle.image.specs.Kinds.{a-type, free, TypeKind, type, typeRow, kindOf, find}
+use Rattle.image.specs.Kinds.{a-type, free, TypeKind, type, typeRow}
 use Rattle.image.specs.Layout.{Layout, sameType}
-use Rattle.image.specs.Types.{typePlace, typeNumber, typeKind, typeField, isType, typeOut, typeFrom, typeOf}
+use Rattle.image.specs.Types.{typeKindOf, typePlace, typeNumber, typeKind, typeField, isType, typeOut, typeFrom, typeOf}
 use Rattle.image.proofs.Facts.{no-path, and-i, lt-of, ge-of, eq-of, of-eq, of-each}
+use Rattle.image.proofs.KindNumbers.{same-kind}
 use Rattle.image.proofs.Laid.{Good, kind-number}
-
--- A kind is known by its number.
-kind-of-row : (k : TypeKind) → kindOf (typeRow k .number) ≡ some (type k)
-unfolding find
-kind-of-row TypeKind.unit = refl
-kind-of-row TypeKind.truth = refl
-kind-of-row TypeKind.number = refl
-kind-of-row TypeKind.pair = refl
-kind-of-row TypeKind.fun = refl
-kind-of-row TypeKind.ref = refl
-kind-of-row TypeKind.label = refl
-kind-of-row TypeKind.pcd = refl
-kind-of-row TypeKind.adv = refl
 
 -- The kind that a type is of.
 abbrev pub headOf : Ty → TypeKind
@@ -106,20 +93,18 @@ module _ (L : Layout) (good : Good L) where
       out-cong (typeKind L t) (λ i. typeField L t i) (λ a. typeFrom L t a) (λ a. typeOf L a)
       (λ i e. let z = good .types t n .lower i e in any-fuel t (suc (typeField L t i)) (typeField L t i) z (omega arith) (omega arith))
 
+  kind-row : (t : ℕ) → t < length (L .types) → typeNumber L t ≡ typeRow (typeKind L t) .number
+  kind-row t n = kind-number (typeNumber L t) (type (typeKind L t)) (good .types t n .kind)
+
   -- The kind that a type's number tells.
   pub type-kind : (k : TypeKind) (t : ℕ) → t < length (L .types) → isType L k t ≡ true → typeKind L t ≡ k
-  type-kind k t n h =
-      let z : some (type (typeKind L t)) ≡ some (type k) = sym (good .types t n .kind) ∙ ap (λ m. kindOf m) (eq-of h) ∙ kind-of-row k in
-      cc
+  type-kind k t n h = ap typeKindOf (same-kind (type (typeKind L t)) (type k) (sym (kind-row t n) ∙ eq-of h))
 
   pub out-as : (k : TypeKind) (t : ℕ) → t < length (L .types) → isType L k t ≡ true → typeOf L t ≡ typeOut k (λ i. typeField L t i) (λ a. typeOf L a)
   out-as k t n h = type-out t n ∙ ap (λ j. typeOut j (λ i. typeField L t i) (λ a. typeOf L a)) (type-kind k t n h)
 
   pub kind-head : (t : ℕ) → t < length (L .types) → typeKind L t ≡ headOf (typeOf L t)
   kind-head t n = rw (type-out t n) (sym (head-out (typeKind L t) (λ i. typeField L t i) (λ a. typeOf L a)))
-
-  kind-row : (t : ℕ) → t < length (L .types) → typeNumber L t ≡ typeRow (typeKind L t) .number
-  kind-row t n = kind-number (typeNumber L t) (type (typeKind L t)) (good .types t n .kind)
 
   pub is-head : (k : TypeKind) (t : ℕ) → t < length (L .types) → headOf (typeOf L t) ≡ k → isType L k t ≡ true
   is-head k t n h = of-eq (kind-row t n ∙ ap (λ j. typeRow j .number) (kind-head t n ∙ h))

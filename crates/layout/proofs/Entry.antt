@@ -22,12 +22,12 @@ use Rattle.layout.specs.declared.tests.Tested.{Tested}
 use Rattle.layout.specs.Sizes.{typeCount, domainCount, termCount}
 use Rattle.layout.specs.Fields.{Narrow, KeyFrom, rangesFrom}
 use Rattle.layout.specs.Numbers.{lengthFits, roomFits, newKey, numberTests, toldOf}
-use Rattle.layout.specs.Tables.{layoutOf, Tables, Put, PutType, entering, Entering, Entered}
+use Rattle.layout.specs.Tables.{layoutOf, Tables, Noted, Put, PutType, entering, Entering, Entered}
 use Rattle.layout.proofs.Numbers.{fits-count, repeated, not-repeated}
 use Rattle.layout.proofs.Parts.{part, part-length, key-part}
 use Rattle.layout.proofs.Narrow.{narrow}
 use Rattle.layout.proofs.Sections.{new-law}
-use Rattle.layout.proofs.Kept.{type-count, domain-count, term-count, domain-more, term-more, type-more, domain-kept, term-kept, type-kept}
+use Rattle.layout.proofs.Kept.{other, type-count, domain-count, term-count, domain-more, term-more, type-more, domain-kept, term-kept, type-kept}
 use Rattle.layout.proofs.Steps.{orElse, unknown, known-law}
 
 -- The section tells the sort of kind.
@@ -54,7 +54,7 @@ is-term domain a b = absurd (a refl)
 is-term (type k) a b = absurd (b refl)
 is-term (term k) a b = record { kind = k; is = refl }
 
-module _ {b kinds : List ℕ} {o n k : ℕ} {ss ds ts ks es : List ℕ} (R : Entering b kinds o n k ss ds ts ks es) where
+module _ {b kinds : List ℕ} {o n k : ℕ} {ss ds ts ks : List ℕ} {rs : List Bool} {es : List ℕ} (R : Entering b kinds o n k ss ds ts ks rs es) where
   pub entry : Whole b o n k
   entry = whole-of b o n k (R .head)
 
@@ -66,14 +66,14 @@ module _ {b kinds : List ℕ} {o n k : ℕ} {ss ds ts ks es : List ℕ} (R : Ent
   fs = part b (o + 4) (n - 4)
 
   -- A refusal leaves the tables as they were.
-  refused : (r : Refusal) → firstFault (tests L o) ≡ some r → Entered (Tested.Fault r) b o ss ds ts es ss ds ts ks es
-  refused r h = record { answer = ap (λ q. entering q o (add (kindAt b o) o L)) (sym h); tables = R .tables }
+  refused : (r : Refusal) → firstFault (tests L o) ≡ some r → Entered (Tested.Fault r) b o ss ds ts es ss ds ts ks rs es
+  refused r h = record { answer = ap (λ q. entering q o (add (kindAt b o) o L)) (sym h); tables = R .tables; noted = R .noted }
 
   -- 3
-  pub unknown-entry : codeAt k ≡ 0 → Entered (Tested.Fault Refusal.UnknownKind) b o ss ds ts es ss ds ts ks es
+  pub unknown-entry : codeAt k ≡ 0 → Entered (Tested.Fault Refusal.UnknownKind) b o ss ds ts es ss ds ts ks rs es
   unknown-entry h = go (kindOf (numberAt b o)) refl
     where
-      go : (q : Option Kind) → kindOf (numberAt b o) ≡ q → Entered (Tested.Fault Refusal.UnknownKind) b o ss ds ts es ss ds ts ks es
+      go : (q : Option Kind) → kindOf (numberAt b o) ≡ q → Entered (Tested.Fault Refusal.UnknownKind) b o ss ds ts es ss ds ts ks rs es
       go none e = refused Refusal.UnknownKind (unknown entry (R .tables) e)
       go (some K) e = let z : codeAt (numberAt b o) ≡ 0 = rw (entry .kind) at h in no-path (sym (of-eq z) ∙ known-code (numberAt b o) K e .used)
 
@@ -93,7 +93,7 @@ module _ {b kinds : List ℕ} {o n k : ℕ} {ss ds ts ks es : List ℕ} (R : Ent
       go (some K) e = record { kind = K; is = e }
 
   -- 4 to 7
-  pub fault-entry : (codeAt k ≡ 0 → ⊥) → (r : Refusal) → some r ≡ firstFault (numberTests fs (codeAt k) ss) → Entered (Tested.Fault r) b o ss ds ts es ss ds ts ks es
+  pub fault-entry : (codeAt k ≡ 0 → ⊥) → (r : Refusal) → some r ≡ firstFault (numberTests fs (codeAt k) ss) → Entered (Tested.Fault r) b o ss ds ts es ss ds ts ks rs es
   fault-entry u r h =
       let K = known-kind u in
       refused r (known-law entry (R .tables) (K .kind) (K .is) ∙ ap (λ q. orElse q (firstFault ((Refusal.RepeatedType, isNew (K .kind) o L) ∷ []))) (sym h))
@@ -137,12 +137,13 @@ module _ {b kinds : List ℕ} {o n k : ℕ} {ss ds ts ks es : List ℕ} (R : Ent
 
     -- A kind's record, where the test of 8 is e, with the tables that it leaves.
     enters : (K : Kind) → kindOf (numberAt b o) ≡ some K → (r : Tested) → toldOf r ≡ firstFault ((Refusal.RepeatedType, isNew K o L) ∷ [])
-        → (ss′ ds′ ts′ ks′ es′ : List ℕ) → entering (toldOf r) o (layoutOf b ss′ ds′ ts′ es′) ≡ entering (toldOf r) o (add K o L) → Tables b ss′ ds′ ts′ ks′ es′
-        → Entered r b o ss ds ts es ss′ ds′ ts′ ks′ es′
-    enters K e r t ss′ ds′ ts′ ks′ es′ l T′ =
+        → (ss′ ds′ ts′ ks′ : List ℕ) (rs′ : List Bool) (es′ : List ℕ) → entering (toldOf r) o (layoutOf b ss′ ds′ ts′ es′) ≡ entering (toldOf r) o (add K o L) → Tables b ss′ ds′ ts′ ks′ es′
+        → Noted (typeCount ss′) ks′ rs′ → Entered r b o ss ds ts es ss′ ds′ ts′ ks′ rs′ es′
+    enters K e r t ss′ ds′ ts′ ks′ rs′ es′ l T′ N′ =
         record {
           answer = l ∙ (ap (λ q. entering q o (add K o L)) (t ∙ sym (last-test K e)) ∙ ap (λ J. entering (firstFault (tests L o)) o (add J o L)) (sym (at-kind K e)));
           tables = T′;
+          noted = N′;
         }
 
     room-at : (s : ℕ) → sectionOf (codeAt k) ≡ s → roomFits s ss ≡ true
@@ -157,26 +158,26 @@ module _ {b kinds : List ℕ} {o n k : ℕ} {ss ds ts ks es : List ℕ} (R : Ent
     pub term-room : (sectionOf (codeAt k) ≡ 1 → ⊥) → (sectionOf (codeAt k) ≡ 2 → ⊥) → termCount ss < termLimit
     term-room a c = let K = known-kind u in let P = packs (K .kind) (K .is) in let t = is-term (K .kind) (λ e. a (P .section ∙ e)) (λ e. c (P .section ∙ e)) in lt-of (room-at 3 (P .section ∙ ap sectionNumber (t .is)))
 
-    pub domain-entry : sectionOf (codeAt k) ≡ 1 → {ss′ ds′ : List ℕ} → Put o 1 ss ds ss′ ds′ → Entered Tested.Passed b o ss ds ts es ss′ ds′ ts ks es
+    pub domain-entry : sectionOf (codeAt k) ≡ 1 → {ss′ ds′ : List ℕ} → Put o 1 ss ds ss′ ds′ → Entered Tested.Passed b o ss ds ts es ss′ ds′ ts ks rs es
     domain-entry s p =
         let K = known-kind u in
         let P = packs (K .kind) (K .is) in
         let e : kindOf (numberAt b o) ≡ some domain = K .is ∙ ap some (is-domain (K .kind) (sym (P .section) ∙ s)) in
         let m = domain-room s in
-        rw (p .sizes, p .table) (enters domain e Tested.Passed (not-repeated true refl) _ _ ts ks es (ap Image.laid (domain-more (R .tables) o m)) (domain-kept (R .tables) o m))
+        rw (p .sizes, p .table) (enters domain e Tested.Passed (not-repeated true refl) _ _ ts ks rs es (ap Image.laid (domain-more (R .tables) o m)) (domain-kept (R .tables) o m) (rw (other ss 1 0 (domainCount ss + 1) refl) (R .noted)))
 
-    pub term-entry : (sectionOf (codeAt k) ≡ 1 → ⊥) → (sectionOf (codeAt k) ≡ 2 → ⊥) → {ss′ es′ : List ℕ} → Put o 5 ss es ss′ es′ → Entered Tested.Passed b o ss ds ts es ss′ ds ts ks es′
+    pub term-entry : (sectionOf (codeAt k) ≡ 1 → ⊥) → (sectionOf (codeAt k) ≡ 2 → ⊥) → {ss′ es′ : List ℕ} → Put o 5 ss es ss′ es′ → Entered Tested.Passed b o ss ds ts es ss′ ds ts ks rs es′
     term-entry a c p =
         let K = known-kind u in
         let P = packs (K .kind) (K .is) in
         let t = is-term (K .kind) (λ e. a (P .section ∙ e)) (λ e. c (P .section ∙ e)) in
         let e : kindOf (numberAt b o) ≡ some (term (t .kind)) = K .is ∙ ap some (t .is) in
         let m = term-room a c in
-        rw (p .sizes, p .table) (enters (term (t .kind)) e Tested.Passed (not-repeated true refl) _ ds ts ks _ (ap Image.laid (term-more (R .tables) o (t .kind) m)) (term-kept (R .tables) o (t .kind) m))
+        rw (p .sizes, p .table) (enters (term (t .kind)) e Tested.Passed (not-repeated true refl) _ ds ts ks rs _ (ap Image.laid (term-more (R .tables) o (t .kind) m)) (term-kept (R .tables) o (t .kind) m) (rw (other ss 5 0 (termCount ss + 1) refl) (R .noted)))
 
-    pub type-entry : sectionOf (codeAt k) ≡ 2 → {x : ℕ} → KeyFrom fs (countOf (codeAt k)) k x → {r : Tested} {ss′ ts′ ks′ : List ℕ} → PutType r o x ss ts ks ss′ ts′ ks′
-        → Entered r b o ss ds ts es ss′ ds ts′ ks′ es
-    type-entry s {x} F {r} {ss′} {ts′} {ks′} p = go (newKey (typeCount ss) ks x) refl
+    pub type-entry : sectionOf (codeAt k) ≡ 2 → {x : ℕ} → KeyFrom fs (countOf (codeAt k)) k x → {r : Tested} {ss′ ts′ ks′ : List ℕ} {rs′ : List Bool} → PutType r o x ss ts ks ss′ ts′ ks′ rs′
+        → Entered r b o ss ds ts es ss′ ds ts′ ks′ rs′ es
+    type-entry s {x} F {r} {ss′} {ts′} {ks′} {rs′} p = let g = go (newKey (typeCount ss) ks x) refl in enters (type (t .kind)) e r told ss′ ds ts′ ks′ rs′ es (g .0) (g .1) (p .noted)
       where
         t : KnownType
         t = known-type s
@@ -198,9 +199,6 @@ module _ {b kinds : List ℕ} {o n k : ℕ} {ss ds ts ks es : List ℕ} (R : Ent
         stops : (q : Option Refusal) → some Refusal.RepeatedType ≡ q → (M N : Layout) → entering q o M ≡ entering q o N
         stops q w M N = rw (← w)
 
-        go : (a : Bool) → newKey (typeCount ss) ks x ≡ a → Entered r b o ss ds ts es ss′ ds ts′ ks′ es
-        go true a =
-            let m = type-room s in
-            rw (p .sizes, p .types, p .keys, a)
-            (enters (type (t .kind)) e r told _ ds _ _ es (ap (entering (toldOf r) o) (type-more (R .tables) o (t .kind) m)) (type-kept (R .tables) o (t .kind) x m X))
-        go false a = rw (p .sizes, p .types, p .keys, a) (enters (type (t .kind)) e r told ss ds ts ks es (stops (toldOf r) (repeated _ a ∙ sym (p .answer)) L (add (type (t .kind)) o L)) (R .tables))
+        go : (a : Bool) → newKey (typeCount ss) ks x ≡ a → (entering (toldOf r) o (layoutOf b ss′ ds ts′ es) ≡ entering (toldOf r) o (add (type (t .kind)) o L)) × Tables b ss′ ds ts′ ks′ es
+        go true a = let m = type-room s in rw (p .sizes, p .types, p .keys, a) (ap (entering (toldOf r) o) (type-more (R .tables) o (t .kind) m), type-kept (R .tables) o (t .kind) x m X)
+        go false a = rw (p .sizes, p .types, p .keys, a) (stops (toldOf r) (repeated _ a ∙ sym (p .answer)) L (add (type (t .kind)) o L), R .tables)

@@ -17,7 +17,7 @@ use Rattle.layout.specs.Sizes.{typeCount, domainCount, termCount, Sizes}
 use Rattle.layout.specs.Tables.{layoutOf, Keyed, Tables}
 
 -- Sizes with one of them set.
-other : (ss : List ℕ) (c j v : ℕ) → eqb j c ≡ false → getD (set ss c v) j 0 ≡ getD ss j 0
+pub other : (ss : List ℕ) (c j v : ℕ) → eqb j c ≡ false → getD (set ss c v) j 0 ≡ getD ss j 0
 other ss c j v h = getD-set-other ss c j v 0 (λ e. no-path (sym (of-eq e) ∙ h))
 
 bounded : (ss : List ℕ) (c v j m : ℕ) → c < length ss → getD ss j 0 ≤ m → (c ≡ j → v ≤ m) → getD (set ss c v) j 0 ≤ m

@@ -10,7 +10,7 @@ use lib.Dec.{eqb, ltb}
 use borrow.Author.Tests.{ne-eqb, lt-ltb, le-ltb}
 use Rattle.image.specs.Bytes.{le16, words}
 use Rattle.image.specs.Tests.{all, allOf}
-use Rattle.records.specs.Heads.{pick}
+use Rattle.calculus.specs.Combinators.{choose}
 use Rattle.records.specs.Codes.{countOf, leastOf, mostOf, classesOf}
 use Rattle.layout.specs.Sizes.{Sizes, termCount}
 use Rattle.layout.specs.Fields.{inClass, rangesFrom}
@@ -20,7 +20,7 @@ use Rattle.layout.specs.Numbers.{Between, rangeFits}
 pub class-in : (ss : List ℕ) (c v : ℕ) → v < getD ss c 0 → inClass ss c v ≡ true
 class-in ss c v h = rw (lt-ltb v (getD ss c 0) h) (either (eqb c 4))
   where
-    either : (t : Bool) → pick t true true ≡ true
+    either : (t : Bool) → choose t true true ≡ true
     either true = refl
     either false = refl
 

@@ -7,12 +7,12 @@ use lib.ListN.{length, getD}
 use lib.Dec.{eqb, ltb}
 use Rattle.image.specs.Bytes.{le16, words}
 use Rattle.image.specs.Tests.{allOf}
-use Rattle.records.specs.Heads.{pick}
+use Rattle.calculus.specs.Combinators.{choose}
 use Rattle.records.specs.Keys.{keyKind, keyField0, keyField1, keyField2}
 
 -- Field i of n, 0 where it is none of them.
 abbrev pub fieldFrom : List ℕ → ℕ → ℕ → ℕ
-fieldFrom fs n i = pick (ltb i n) (le16 fs (2 * i)) 0
+fieldFrom fs n i = choose (ltb i n) (le16 fs (2 * i)) 0
 
 -- Each of the n fields fits in eight bits.
 abbrev pub Narrow : List ℕ → ℕ → Type 0
@@ -27,7 +27,7 @@ pub record KeyFrom (fs : List ℕ) (n k x : ℕ) : Type 0 where
 
 -- A field of class c, with the sizes ss: a free field, of class 4, may be any number.
 abbrev pub inClass : List ℕ → ℕ → ℕ → Bool
-inClass ss c v = pick (eqb c 4) true (ltb v (getD ss c 0))
+inClass ss c v = choose (eqb c 4) true (ltb v (getD ss c 0))
 
 -- 7, of n fields from field i on, with their classes cs.
 unfoldable pub rangesFrom : ℕ → ℕ → List ℕ → List ℕ → ℕ → Bool

@@ -8,7 +8,7 @@ use lib.Dec.{eqb, ltb, leb}
 use Rattle.image.specs.declared.Refusal.{Refusal}
 use Rattle.image.specs.Limits.{domainLimit, typeLimit, termLimit}
 use Rattle.image.specs.Tests.{all, allBelow}
-use Rattle.records.specs.Heads.{pick}
+use Rattle.calculus.specs.Combinators.{choose}
 use Rattle.records.specs.Codes.{sectionOf, countOf, leastOf, mostOf, classesOf}
 use Rattle.layout.specs.declared.tests.Tested.{Tested}
 use Rattle.layout.specs.Sizes.{typeCount, domainCount, termCount}
@@ -24,10 +24,10 @@ Between code n = (2 * (countOf code + leastOf code) ≤ n) × (n ≤ 2 * (countO
 
 -- 5 and 6: a section.
 abbrev pub orderFits : ℕ → List ℕ → Bool
-orderFits s ss = pick (eqb s 1) (all (eqb (typeCount ss) 0 ∷ eqb (termCount ss) 0 ∷ [])) (pick (eqb s 2) (eqb (termCount ss) 0) true)
+orderFits s ss = choose (eqb s 1) (all (eqb (typeCount ss) 0 ∷ eqb (termCount ss) 0 ∷ [])) (choose (eqb s 2) (eqb (termCount ss) 0) true)
 
 abbrev pub roomFits : ℕ → List ℕ → Bool
-roomFits s ss = pick (eqb s 1) (ltb (domainCount ss) domainLimit) (pick (eqb s 2) (ltb (typeCount ss) typeLimit) (ltb (termCount ss) termLimit))
+roomFits s ss = choose (eqb s 1) (ltb (domainCount ss) domainLimit) (choose (eqb s 2) (ltb (typeCount ss) typeLimit) (ltb (termCount ss) termLimit))
 
 -- 7: the fields and the children.
 abbrev pub rangeFits : List ℕ → ℕ → List ℕ → Bool

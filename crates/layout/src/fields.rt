@@ -10,7 +10,17 @@ ghost use Rattle.layout.specs.Fields.{fieldFrom, Narrow, KeyFrom, ranges
 ghost use Rattle.layout.specs.Sizes.{Sizes, termCount};
 ghost use Rattle.layout.specs.Numbers.{Between, rangeFits};
 
-// The codes of the most frequent kinds of terms, by what such a record has: a type alone.
+// The codes of the most frequent kinds of terms and types, by what such a record has: nothing (the types of the unit,
+// of truths and of numbers).
+const NOTHING: u32 = 2097154;
+
+// A type and a domain: the type of references, of labels or of pointcuts.
+const TYPE_AND_DOMAIN: u32 = 4202506;
+
+// A type, a domain and a type: a function type.
+const TYPE_DOMAIN_AND_TYPE: u32 = 5251086;
+
+// A type alone.
 const TYPE: u32 = 3145735;
 
 // A type and a free field: a variable.
@@ -81,15 +91,22 @@ fn below(fields: &[u8], i: usize, bound: usize) -> bool
     (records::words::word(fields, 2 * i) as usize) < bound
 }
 
-// 7. The most frequent kinds of terms are tested in straight line, since their fields and children are known from the
-// code; all others go through the loops.
+// 7. The most frequent kinds of terms and types are tested in straight line, since their fields and children are known
+// from the code; all others go through the loops.
 pub fn in_range(fields: &[u8], code: u32, sizes: &[usize]) -> bool
     requires { ⌜ Between code (length (now fields)) × Sizes (now sizes) ⌝ }
     ensures { λ r. ⌜ r ≡ rangeFits (now (fields .entry)) code (now (sizes .entry)) ⌝ }
 {
     let types = sizes[0];
+    let domains = sizes[1];
     let terms = sizes[5];
     match code {
+        NOTHING => true,
+        TYPE_AND_DOMAIN => both(below(fields, 0, types), below(fields, 1, domains)),
+        TYPE_DOMAIN_AND_TYPE => both(
+            below(fields, 0, types),
+            both(below(fields, 1, domains), below(fields, 2, types)),
+        ),
         TYPE | TYPE_AND_FREE | TYPE_AND_TWO_FREE => below(fields, 0, types),
         TYPE_AND_CHILD => both(below(fields, 0, types), below(fields, 1, terms)),
         TYPE_AND_TWO_CHILDREN => both(

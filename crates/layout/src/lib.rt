@@ -31,10 +31,11 @@ fn enter(
     doms: &mut [u16],
     types: &mut [u16],
     keys: &mut [u32],
+    seen: &mut [bool],
     terms: &mut [u16],
 ) -> tests::Tested
-    requires { ⌜ Entering (now image) (now kinds) at len kind (now sizes) (now doms) (now types) (now keys) (now terms) ⌝ }
-    ensures { λ r. ⌜ Entered r (now (image .entry)) at (now (sizes .entry)) (now (doms .entry)) (now (types .entry)) (now (terms .entry)) (now (sizes .exit)) (now (doms .exit)) (now (types .exit)) (now (keys .exit)) (now (terms .exit)) ⌝ }
+    requires { ⌜ Entering (now image) (now kinds) at len kind (now sizes) (now doms) (now types) (now keys) (now seen) (now terms) ⌝ }
+    ensures { λ r. ⌜ Entered r (now (image .entry)) at (now (sizes .entry)) (now (doms .entry)) (now (types .entry)) (now (terms .entry)) (now (sizes .exit)) (now (doms .exit)) (now (types .exit)) (now (keys .exit)) (now (seen .exit)) (now (terms .exit)) ⌝ }
 {
     let code = records::kinds::code_of(kinds, kind);
     if code == 0 {
@@ -56,12 +57,14 @@ fn enter(
     }
     if section == 2 {
         let key = fields::key_of(&image[a..e], code, kind);
-        return places::put_type(at, key, sizes, types, keys);
+        return places::put_type(at, key, sizes, types, keys, seen);
     }
     places::put(at, 5, sizes, terms);
     tests::Tested::Passed
 }
 
+// The table of remainders, seen, serves the scan alone: it may hold anything at first (with all false the fewest keys are
+// compared), and what it holds in the end says nothing to the caller.
 pub fn scan_records(
     image: &[u8],
     kinds: &[u32],
@@ -69,9 +72,10 @@ pub fn scan_records(
     doms: &mut [u16],
     types: &mut [u16],
     keys: &mut [u32],
+    seen: &mut [bool],
     terms: &mut [u16],
 ) -> Scan
-    requires { ⌜ Lent (now image) (now kinds) (now sizes) (now doms) (now types) (now keys) (now terms) ⌝ }
+    requires { ⌜ Lent (now image) (now kinds) (now sizes) (now doms) (now types) (now keys) (now seen) (now terms) ⌝ }
     ensures { λ r. ⌜ Scanned r (now (image .entry)) (now (sizes .exit)) (now (doms .exit)) (now (types .exit)) (now (keys .exit)) (now (terms .exit)) ⌝ }
 {
     let mut at: usize = 0;
@@ -79,7 +83,19 @@ pub fn scan_records(
         let head = records::reader::head_from(image, at);
         match head {
             records::reader::Head::Record { len, kind } => {
-                let entered = enter(image, kinds, at, len, kind, sizes, doms, types, keys, terms);
+                let entered = enter(
+                    image,
+                    kinds,
+                    at,
+                    len,
+                    kind,
+                    sizes,
+                    doms,
+                    types,
+                    keys,
+                    seen,
+                    terms,
+                );
                 match entered {
                     tests::Tested::Fault(why) => {
                         return Scan::Stopped(why, at);

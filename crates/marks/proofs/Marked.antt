@@ -1,11 +1,11 @@
 -- What a mark makes of the tables and of the state.
-use Prim.Native.Nat.{ℕ, zero, suc, _+_, _-_, _*_, _%_, _≤_, _<_}
+use Prim.Native.Nat.{ℕ, suc, _+_, _-_, _*_, _%_, _≤_, _<_}
 use native.Mathlib.Omega.{arith}
 use mathlib.Core.Path.{_≡_, refl, sym, ap, subst, _∙_}
 use mathlib.Core.Bool.{Bool, true, false}
 use mathlib.Core.List.{List}
-use lib.ListN.{length, drop}
-use lib.Dec.{eqb, ltb, leb}
+use lib.ListN.{drop}
+use lib.Dec.{eqb, leb}
 use borrow.Author.Tests.{eq-eqb, ne-eqb, le-leb, lt-leb, lt-ltb, le-ltb}
 use Rattle.area.specs.Memory.{memoryLength}
 use Rattle.calculus.specs.declared.Outcome.{Outcome}
@@ -17,7 +17,7 @@ use Rattle.flat.specs.Memory.{Memory, binding, putBinding, installedAt, hasLabe
 use Rattle.flat.specs.States.{State, withMemory, halt, give}
 use Rattle.flat.specs.Reduce.{Bound, bindOne, bindMatching, needs, reduceMark}
 use Rattle.tables.specs.View.{memoryOf, Holds}
-use Rattle.operands.specs.Phases.{RegsFit, stateOf, Phase}
+use Rattle.operands.specs.Phases.{RegsFit, Phase}
 use Rattle.operands.proofs.Made.{chosen-yes, chosen-no, stored-made}
 use Rattle.marks.specs.Binds.{boundIn, Binds}
 

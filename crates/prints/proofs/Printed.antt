@@ -11,7 +11,7 @@ use Rattle.flat.specs.Registers.{setAt}
 use Rattle.flat.specs.Values.{tagOf, bodyOf}
 use Rattle.area.specs.Bytes.{over}
 use Rattle.area.specs.Records.{logRecord}
-use Rattle.flat.specs.States.{State, withRegs, halt, stuck, give}
+use Rattle.flat.specs.States.{State, halt, stuck, give}
 use Rattle.flat.specs.Reduce.{reducePrint}
 use Rattle.operands.specs.Phases.{RegsFit, stateOf, Moved}
 use Rattle.operands.proofs.Made.{chosen-yes, chosen-no, made-regs}

@@ -12,7 +12,7 @@ use Rattle.image.specs.Bytes.{numberAt, fieldAt}
 use Rattle.image.specs.Kinds.{TypeKind, Kind, domain, type, typeRow, rowOf, kindOf}
 use Rattle.image.specs.Layout.{orElse, kindAt, sameType}
 use Rattle.image.proofs.Facts.{no-path, lt-of, eq-of, of-eq, each, of-each, all-below, below-all}
-use Rattle.records.specs.Heads.{pick}
+use Rattle.calculus.specs.Combinators.{choose}
 use Rattle.records.specs.Keys.{keyOf, keyKind, keyField0, keyField1, keyField2, fieldOr0, Key}
 use Rattle.records.proofs.Codes.{known-code}
 
@@ -46,7 +46,7 @@ three P a b c (suc (suc (suc i))) l = absurd (omega arith)
 
 -- Field i of a record of kind K at o, 0 where the kind has none.
 abbrev fieldIn : List ℕ → Kind → ℕ → ℕ → ℕ
-fieldIn b K o i = pick (ltb i (length (rowOf K .fields))) (fieldAt b o i) 0
+fieldIn b K o i = choose (ltb i (length (rowOf K .fields))) (fieldAt b o i) 0
 
 module _ (b : List ℕ) (o p : ℕ) (k : TypeKind) (known : kindOf (numberAt b o) ≡ some (type k)) where
   at-o : kindAt b o ≡ type k

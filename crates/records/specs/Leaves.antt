@@ -10,11 +10,11 @@ use Rattle.calculus.specs.Syntax.{Ty}
 use Rattle.calculus.specs.Plain.{leafCount}
 use Rattle.image.specs.Layout.{recordsOf}
 use Rattle.image.specs.Types.{typeOf}
-use Rattle.records.specs.Heads.{pick}
+use Rattle.calculus.specs.Combinators.{choose}
 
 abbrev pub fewOr0 : Option ℕ → ℕ
 fewOr0 none = 0
-fewOr0 (some n) = pick (leb n leafLimit) n 0
+fewOr0 (some n) = choose (leb n leafLimit) n 0
 
 -- How many leaves a plain type has; 0 for a type that is not plain.
 unfoldable pub plainLeaves : Ty → ℕ

@@ -1,7 +1,6 @@
 // The record reader (document 01, "The image": "A walk keeps the lent image and the offset of its next record").
 ghost use mathlib.Core.Path.{_≡_};
-ghost use Prim.Native.Nat.{_+_, _≤_, _<_};
-ghost use lib.ListN.{length};
+ghost use Prim.Native.Nat.{_+_, _<_};
 ghost use Rattle.records.specs.Heads.{headAt};
 
 pub struct Walk<'a> {

@@ -8,7 +8,7 @@ use Rattle.calculus.specs.State.{picked}
 use Rattle.area.specs.Bytes.{bytesOf, numberOf, numberAt}
 use Rattle.report.specs.Records.{recordsBytes, recordsAfter}
 use Rattle.report.specs.Written.{logBytes, reportBytes}
-use Rattle.report.specs.Read.{readLog, readReport}
+use Rattle.report.specs.Read.{readLog}
 
 -- Bench sheet, P2: done after 0 steps with the value 5.
 pub p2-report : reportBytes 0 0 (Leaf.Number 5 ∷ []) [] ≡ 10 ∷ 0 ∷ 70 ∷ 0 ∷ 0 ∷ 0 ∷ 0 ∷ 0 ∷ 0 ∷ 0 ∷ 8 ∷ 0 ∷ 67 ∷ 0 ∷ 5 ∷ 0 ∷ 0 ∷ 0 ∷ []

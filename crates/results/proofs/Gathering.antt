@@ -49,15 +49,25 @@ module _ (w t : ℕ) (e : t ≡ tagOf w) where
   unfolding withLeaves
   word-none g h = rw (sym e, lt-ltb 2 t h)
 
+  one-leaf : t ≤ 2 → oneLeaf w ≡ leafOf w ∷ []
+  one-leaf h = ap (λ b. choose b [] (leafOf w ∷ [])) (ap (ltb 2) (sym e) ∙ le-ltb 2 t h)
+
   pub word-leaf : (g : Gathered) → t ≤ 2 → withLeaves g (oneLeaf w) ≡ withLeaf g (leafOf w)
   unfolding withLeaves
-  word-leaf g h = ap (λ b. withLeaves g (choose b [] (leafOf w ∷ []))) (ap (ltb 2) (sym e) ∙ le-ltb 2 t h)
+  word-leaf g h = ap (withLeaves g) (one-leaf h)
+
+  leaves-one : (M : Memory) (d : ℕ) → (t ≡ 4 → ⊥) → leavesOf M d w ≡ oneLeaf w
+  unfolding leavesOf
+  leaves-one M zero h = tagged-no pairTag w t [] (oneLeaf w) e h
+  leaves-one M (suc d) h = tagged-no pairTag w t (leavesOf M d (pieceFirst M (pieceOf w)) ++ leavesOf M d (pieceSecond M (pieceOf w))) (oneLeaf w) e h
+
+  -- A value that is one leaf.
+  pub plain-one : (M : Memory) → t ≤ 2 → plainLeavesIn M w ≡ leafOf w ∷ []
+  plain-one M h = ap (take 8) (leaves-one M 8 (λ q. absurd (omega arith)) ∙ one-leaf h)
 
   module _ (M : Memory) (g : Gathered) where
     pub leaves-word : (d : ℕ) → (t ≡ 4 → ⊥) → withLeaves g (leavesOf M d w) ≡ withLeaves g (oneLeaf w)
-    unfolding leavesOf
-    leaves-word zero h = ap (withLeaves g) (tagged-no pairTag w t [] (oneLeaf w) e h)
-    leaves-word (suc d) h = ap (withLeaves g) (tagged-no pairTag w t (leavesOf M d (pieceFirst M (pieceOf w)) ++ leavesOf M d (pieceSecond M (pieceOf w))) (oneLeaf w) e h)
+    leaves-word d h = ap (withLeaves g) (leaves-one M d h)
 
     -- A pair that is too deep.
     pub leaves-deep : (d : ℕ) → t ≡ 4 → d ≡ 0 → withLeaves g (leavesOf M d w) ≡ g

@@ -41,7 +41,7 @@ fn with_leaf(held: Gathered, leaf: Leaf) -> Gathered
 }
 
 // The leaf of a word whose tag is at most that of a number.
-fn leaf_of(w: u64) -> Leaf
+pub fn leaf_of(w: u64) -> Leaf
     ensures { λ r. ⌜ r ≡ leafOf w ⌝ }
 {
     match values::tag(w) {

@@ -1,13 +1,19 @@
 // The answer and the report.
 use crate::Gathered;
 use crate::cells::put_cells;
+use crate::leaves::leaf_of;
 use crate::leaves::no_leaves;
 use crate::leaves::plain_leaves;
+use calculus::Leaf;
 use calculus::Outcome;
 use calls::Answer;
 use flat::Regs;
+use report::Slot;
 use report::fixed::put_head;
+use report::leaves::put_leaf;
 use report::leaves::put_leaves;
+use values::NUMBER;
+use values::tag;
 use verdicts::Verdict;
 ghost use mathlib.Core.Path.{_≡_};
 ghost use mathlib.Core.List.{[]};
@@ -21,7 +27,7 @@ ghost use Rattle.area.specs.Memory.{memoryLength};
 ghost use Rattle.flat.specs.Registers.{haltedMode};
 ghost use Rattle.tables.specs.View.{memoryOf};
 ghost use Rattle.results.specs.Gathered.{gathered};
-ghost use Rattle.results.specs.Ended.{outcomeWith, plainLeavesIn, reportIn, answerIn};
+ghost use Rattle.results.specs.Ended.{outcomeWith, plainLeavesIn, reportIn, answerIn, oneLeafIn, oneLeafAnswer};
 
 // The mode of a machine that is done; the other outcomes' modes come after it.
 const HALTED: u32 = 16;
@@ -55,7 +61,31 @@ fn result_leaves(work: &[u8], mode: u32, c: u64) -> Gathered
     no_leaves()
 }
 
-// The report of a machine that halted, and its answer.
+// The report past its head, and the answer, of a run that is done and whose result is one leaf. The leaf goes straight from
+// its word to its record: one that is stored in a slot and read back at once makes the processor wait. The slots are only
+// for the answer.
+fn put_one_leaf(report: &mut [u8], work: &[u8], r: Regs, steps: u32) -> Answer
+    requires { ⌜ (memoryLength ≤ length (now work)) × (reportLength ≤ length (now report)) × (r .nc ≤ 256) ⌝ }
+    ensures { λ a. ⌜ (a ≡ oneLeafAnswer (memoryOf (now (work .entry))) r steps) × (now (report .exit) ≡ over 10 (oneLeafIn (memoryOf (now (work .entry))) r) (now (report .entry))) ⌝ }
+{
+    let leaf = leaf_of(r.c);
+    let at = put_leaf(report, 10, leaf);
+    let end = put_cells(report, at, work, r.nc);
+    let unit = Slot { leaf: Leaf::Unit };
+    let mut slots = [unit; 8];
+    slots[0] = Slot { leaf: leaf };
+    Answer {
+        verdict: Verdict::Accepted,
+        outcome: Outcome::Done,
+        steps: steps,
+        log: r.at,
+        report: end,
+        count: 1,
+        leaves: slots,
+    }
+}
+
+// The report of a machine that halted, and its answer. Most results are one leaf.
 pub fn put_report(report: &mut [u8], work: &[u8], r: Regs, budget: u32) -> Answer
     requires { ⌜ (memoryLength ≤ length (now work)) × (reportLength ≤ length (now report)) × (r .nc ≤ 256) × (r .left ≤ budget) × (16 ≤ r .mode) × (r .mode ≤ 25) ⌝ }
     ensures { λ a. ⌜ (a ≡ answerIn (memoryOf (now (work .entry))) r budget) × (now (report .exit) ≡ over 0 (reportIn (memoryOf (now (work .entry))) r budget) (now (report .entry))) ⌝ }
@@ -63,6 +93,11 @@ pub fn put_report(report: &mut [u8], work: &[u8], r: Regs, budget: u32) -> Answe
     let outcome = outcome_with(r.mode - HALTED);
     let steps = budget - r.left;
     put_head(report, outcome, steps);
+    if r.mode == HALTED {
+        if tag(r.c) <= NUMBER {
+            return put_one_leaf(report, work, r, steps);
+        }
+    }
     let g = result_leaves(work, r.mode, r.c);
     let count = g.count;
     let slots = g.slots;

@@ -1,8 +1,8 @@
 -- What stands in the image at the offsets of a table of terms.
-use Prim.Native.Nat.{ℕ, zero, suc, _+_, _-_, _*_, _≤_, _<_}
+use Prim.Native.Nat.{ℕ, _+_, _-_, _*_, _≤_, _<_}
 use native.Mathlib.Omega.{arith}
 use mathlib.Core.Path.{_≡_, sym, ap, subst, _∙_}
-use mathlib.Core.List.{List, [], _∷_}
+use mathlib.Core.List.{List}
 use lib.ListN.{length, getD}
 use lib.Dec.{lit≤}
 use Rattle.image.specs.Bytes.{le16, lengthAt, numberAt, fieldCount, fieldAt}
@@ -10,7 +10,7 @@ use Rattle.image.specs.Kinds.{TermKind, term, termRow}
 use Rattle.image.specs.Layout.{laid, layout, recordsOf, childrenAt}
 use Rattle.image.specs.Types.{termPlace, termKind, typeNo, others, children}
 use Rattle.image.proofs.Words.{words-length, words-at}
-use Rattle.image.proofs.Laid.{Below, TermOk, Good, layout-good, image-kept}
+use Rattle.image.proofs.Laid.{TermOk, below-at, Good, layout-good, image-kept}
 use Rattle.verdicts.specs.Check.{typeNos}
 use Rattle.records.specs.Codes.{countOf, codeAt}
 use Rattle.records.proofs.Codes.{known-code}
@@ -43,11 +43,6 @@ typed-first TermKind.lower = lit≤ tt
 typed-first TermKind.abort = lit≤ tt
 typed-first TermKind.byte = lit≤ tt
 
-pub below-at : (n : ℕ) (es : List ℕ) (i : ℕ) → Below n es → i < length es → getD es i 0 < n
-below-at n [] i b h = absurd (omega arith)
-below-at n (e ∷ es) zero b h = b .0
-below-at n (e ∷ es) (suc i) b h = below-at n es i (b .1) (omega arith)
-
 module _ (b : List ℕ) (laid-out : layout b ≡ laid (recordsOf b)) where
   pub good-of : Good (recordsOf b)
   good-of = layout-good b (recordsOf b) laid-out
@@ -74,16 +69,16 @@ module _ (b table : List ℕ) (T : Terms b table) (n : ℕ) (h : IsTerm b n) whe
   pub children-is : children (recordsOf b) n ≡ childrenAt b (termPlace (recordsOf b) n) (termRow (termKind (recordsOf b) n))
   children-is = ap (λ i. childrenAt i (termPlace (recordsOf b) n) (termRow (termKind (recordsOf b) n))) (image-is b (T .laid-out))
 
-  pub size : lengthAt b (termPlace (recordsOf b) n) ≡ 4 + 2 * (length (termRow (termKind (recordsOf b) n) .fields) + length (children (recordsOf b) n))
+  pub size : lengthAt b (termPlace (recordsOf b) n) ≡ 4 + 2 * (leadOf b n + length (children (recordsOf b) n))
   size = rw children-is (term-ok .stands .size)
 
-  pub has-type : 1 ≤ length (termRow (termKind (recordsOf b) n) .fields)
+  pub has-type : 1 ≤ leadOf b n
   has-type = typed-first (termKind (recordsOf b) n)
 
   pub type-is : typeNo (recordsOf b) n ≡ fieldAt b (termPlace (recordsOf b) n) 0
   type-is = ap (λ i. fieldAt i (termPlace (recordsOf b) n) 0) (image-is b (T .laid-out))
 
-  pub lead-is : countOf (codeAt (numberAt b (termPlace (recordsOf b) n))) ≡ length (termRow (termKind (recordsOf b) n) .fields)
+  pub lead-is : countOf (codeAt (numberAt b (termPlace (recordsOf b) n))) ≡ leadOf b n
   lead-is = known-code (numberAt b (termPlace (recordsOf b) n)) (term (termKind (recordsOf b) n)) (term-ok .kind) .count
 
   -- Behind k fields stands child k - lead, inside the image; a child's number is lower.
@@ -112,9 +107,9 @@ module _ (b table : List ℕ) (T : Terms b table) (n : ℕ) (h : IsTerm b n) whe
   child-type-is i l = map-at (λ e. typeNo (recordsOf b) e) (children (recordsOf b) n) i 0 0 l
 
   -- The field behind the type, where it is no child.
-  pub other-is : 1 < length (termRow (termKind (recordsOf b) n) .fields) → getD (others (recordsOf b) n) 0 0 ≡ fieldAt b (termPlace (recordsOf b) n) 1
+  pub other-is : 1 < leadOf b n → getD (others (recordsOf b) n) 0 0 ≡ fieldAt b (termPlace (recordsOf b) n) 1
   other-is l =
       let o : ℕ = termPlace (recordsOf b) n in
-      let k : ℕ = length (termRow (termKind (recordsOf b) n) .fields) in
+      let k : ℕ = leadOf b n in
       let e : o + 4 + 2 * 1 + 2 * 0 ≡ o + 4 + 2 * 1 = omega arith in
       words-at (recordsOf b .image) (o + 4 + 2 * 1) (k - 1) 0 (omega arith) ∙ ap (λ i. le16 i (o + 4 + 2 * 1 + 2 * 0)) (image-is b (T .laid-out)) ∙ ap (λ j. le16 b j) e

@@ -4,15 +4,15 @@ use native.Mathlib.Omega.{arith}
 use mathlib.Core.Path.{_≡_, refl, sym, ap, _∙_}
 use mathlib.Core.Bool.{true}
 use mathlib.Core.List.{List}
-use mathlib.Core.Option.{some}
 use lib.ListN.{length, getD, length-map}
 use lib.Dec.{eqb, ltb}
 use borrow.Author.Tests.{lt-ltb, le-ltb}
 use Rattle.image.specs.declared.Refusal.{Refusal}
 use Rattle.image.specs.Bytes.{numberAt, fieldCount, fieldAt}
-use Rattle.image.specs.Kinds.{TermKind, term, termRow, find, kindOf}
+use Rattle.image.specs.Kinds.{TermKind, term, termRow}
 use Rattle.image.specs.Layout.{recordsOf}
 use Rattle.image.specs.Types.{termPlace, termKind, typeNo, others, children}
+use Rattle.image.proofs.KindNumbers.{same-term-kind}
 use Rattle.verdicts.specs.declared.Verdict.{Verdict}
 use Rattle.verdicts.specs.Settings.{Setting}
 use Rattle.verdicts.specs.Check.{rule}
@@ -113,8 +113,8 @@ module _ (b terms : List ℕ) (T : Terms b terms) (n : ℕ) (h : IsTerm b n) whe
   number-is = term-ok b terms T n h .stands .number
 
   -- The kind that a term's number tells.
-  pub kind-is : (k : TermKind) → kindOf (termRow k .number) ≡ some (term k) → numberAt b (termPlace (recordsOf b) n) ≡ termRow k .number → termKind (recordsOf b) n ≡ k
-  kind-is k f e = let z : some (term (termKind (recordsOf b) n)) ≡ some (term k) = sym (term-ok b terms T n h .kind) ∙ ap (λ m. kindOf m) e ∙ f in cc
+  pub kind-is : (k : TermKind) → numberAt b (termPlace (recordsOf b) n) ≡ termRow k .number → termKind (recordsOf b) n ≡ k
+  kind-is k e = same-term-kind (termKind (recordsOf b) n) k (sym number-is ∙ e)
 
   pub count-is : (numberAt b (termPlace (recordsOf b) n) ≡ 46 → ⊥) → termRow (termKind (recordsOf b) n) .most ≡ length (children (recordsOf b) n)
   count-is p =
@@ -158,8 +158,7 @@ module _ (b terms : List ℕ) (T : Terms b terms) (n : ℕ) (h : IsTerm b n) whe
 -- Arithmetic.
 module _ (b terms : List ℕ) (T : Terms b terms) (n : ℕ) (h : IsTerm b n) (e : numberAt b (termPlace (recordsOf b) n) ≡ 43) where
   is-arithmetic : termKind (recordsOf b) n ≡ TermKind.arith
-  unfolding find
-  is-arithmetic = kind-is b terms T n h TermKind.arith refl e
+  is-arithmetic = kind-is b terms T n h TermKind.arith e
 
   pub operands : (leadOf b n ≡ 2) × (length (children (recordsOf b) n) ≡ 2)
   operands =
@@ -227,10 +226,9 @@ module _ (b terms keys : List ℕ) (G : Lent b terms keys) where
 
     pub pointcut-verdict : numberAt b (termPlace (recordsOf b) n) ≡ 46
         → judged (termPlace (recordsOf b) n) (pointcutRule masks keys (getD keys (typeNo (recordsOf b) n) 0) (childTypes b n)) ≡ ruleVerdict (recordsOf b) (record { context = Γ; dom = c }) n
-    unfolding find
     pointcut-verdict e =
         sym (pointcut-right (recordsOf b) masks (order-is b masks M) (termPlace (recordsOf b) n) Γ c (typeNo (recordsOf b) n) (others (recordsOf b) n) (childTypes b n) _ (own-says n h) keys (child-says n h))
-        ∙ rule-of b terms (G .terms) n h TermKind.pcd (kind-is b terms (G .terms) n h TermKind.pcd refl e) (record { context = Γ; dom = c })
+        ∙ rule-of b terms (G .terms) n h TermKind.pcd (kind-is b terms (G .terms) n h TermKind.pcd e) (record { context = Γ; dom = c })
 
   module _ (n : ℕ) (h : IsTerm b n) (Γ : List ℕ) (c : ℕ) where
     pub constant-verdict : numberAt b (termPlace (recordsOf b) n) < 35
@@ -266,13 +264,12 @@ module _ (b terms keys : List ℕ) (G : Lent b terms keys) where
 -- A variable, in a scope whose first places hold the context.
 module _ (b terms : List ℕ) (T : Terms b terms) (n : ℕ) (h : IsTerm b n) (e : numberAt b (termPlace (recordsOf b) n) ≡ 35) (scope : List ℕ) (len c : ℕ) where
   is-variable : termKind (recordsOf b) n ≡ TermKind.var
-  unfolding find
-  is-variable = kind-is b terms T n h TermKind.var refl e
+  is-variable = kind-is b terms T n h TermKind.var e
 
   pub variable-field : 1 < fieldCount b (termPlace (recordsOf b) n)
   variable-field =
       let s = size b terms T n h in
-      let z : length (termRow (termKind (recordsOf b) n) .fields) ≡ 2 = ap (λ k. length (termRow k .fields)) is-variable in
+      let z : leadOf b n ≡ 2 = ap (λ k. length (termRow k .fields)) is-variable in
       omega arith
 
   index-is : getD (others (recordsOf b) n) 0 0 ≡ fieldAt b (termPlace (recordsOf b) n) 1

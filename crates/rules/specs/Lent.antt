@@ -8,10 +8,11 @@ use Rattle.image.specs.Limits.{domainLimit}
 use Rattle.image.specs.Bytes.{numberAt}
 use Rattle.image.specs.Kinds.{TermKind, termRow}
 use Rattle.image.specs.Layout.{laid, layout, recordsOf}
-use Rattle.image.specs.Types.{typePlace, termPlace, termKind, children}
+use Rattle.image.specs.Types.{typePlace, termPlace, children}
 use Rattle.verdicts.specs.Order.{masks}
 use Rattle.verdicts.specs.Settings.{Setting}
 use Rattle.verdicts.specs.Check.{typeNos}
+use Rattle.records.specs.Heads.{firstChild}
 use Rattle.records.specs.Keys.{Key}
 
 pub record Domains (b table : List ℕ) : Type 0 where
@@ -46,7 +47,7 @@ IsType b t = t < length (recordsOf b .types)
 
 -- How many fields stand before the children of term n; behind k fields stands one of them.
 abbrev pub leadOf : List ℕ → ℕ → ℕ
-leadOf b n = length (termRow (termKind (recordsOf b) n) .fields)
+leadOf b n = firstChild (recordsOf b .image) (termPlace (recordsOf b) n)
 
 abbrev pub IsChild : List ℕ → ℕ → ℕ → Type 0
 IsChild b n k = (leadOf b n ≤ k) × (k < leadOf b n + length (children (recordsOf b) n))

@@ -1,6 +1,6 @@
 -- The rules of terms (document 01, "Typing"; the crate verdicts, Check) on the numbers that a function reads: a term's kind and type, the keys of its own type and of its children's, the current domain.
 use Prim.Native.Nat.{ℕ, _/_, _%_, _^_}
-use mathlib.Core.Bool.{Bool, true, false, _&&_}
+use mathlib.Core.Bool.{Bool, false}
 use mathlib.Core.List.{List, [], _∷_}
 use mathlib.Core.Option.{none, some}
 use lib.ListN.{getD}
@@ -13,7 +13,7 @@ use Rattle.image.specs.Types.{termPlace}
 use Rattle.verdicts.specs.declared.Verdict.{Verdict}
 use Rattle.verdicts.specs.Settings.{Setting}
 use Rattle.verdicts.specs.Check.{Rule, fits, fitsAt, ruleFaults, ruleAt}
-use Rattle.records.specs.Heads.{pick}
+use Rattle.calculus.specs.Combinators.{choose}
 use Rattle.records.specs.Keys.{keyKind, keyField0, keyField1, keyField2}
 
 -- What a rule comes to, for a term whose record stands at a place.
@@ -33,50 +33,50 @@ numberIs n k = eqb n (termRow k .number)
 
 -- Bit q of domain d's mask.
 unfoldable pub bitOf : List ℕ → ℕ → ℕ → Bool
-bitOf ms d q = pick (ltb d domainLimit) (pick (ltb q domainLimit) (eqb (getD ms d 0 / 2 ^ q % 2) 1) false) false
+bitOf ms d q = choose (ltb d domainLimit) (choose (ltb q domainLimit) (eqb (getD ms d 0 / 2 ^ q % 2) 1) false) false
 
 -- The rules: ms are the masks, n is the kind's number, t the term's type with the key o, c the current domain. Of a term without children.
 unfoldable pub leafRule : List ℕ → ℕ → ℕ → ℕ → Rule
 leafRule ms n o c =
-    pick (numberIs n TermKind.unit) (fits (keyIs o TypeKind.unit ∷ []))
-    (pick (numberIs n TermKind.truth) (fits (keyIs o TypeKind.truth ∷ []))
-    (pick (numberIs n TermKind.number) (fits (keyIs o TypeKind.number ∷ []))
-    (pick (numberIs n TermKind.newLabel) (fitsAt (keyIs o TypeKind.label ∷ []) (bitOf ms (keyField1 o) c))
+    choose (numberIs n TermKind.unit) (fits (keyIs o TypeKind.unit ∷ []))
+    (choose (numberIs n TermKind.truth) (fits (keyIs o TypeKind.truth ∷ []))
+    (choose (numberIs n TermKind.number) (fits (keyIs o TypeKind.number ∷ []))
+    (choose (numberIs n TermKind.newLabel) (fitsAt (keyIs o TypeKind.label ∷ []) (bitOf ms (keyField1 o) c))
     (fits []))))
 
 -- Of a term with one child, of type a with the key x; f is the field behind the term's type. First the kinds that ask for a domain.
 unfoldable pub unaryAtDomain : List ℕ → ℕ → ℕ → ℕ → ℕ → ℕ → ℕ → ℕ → Rule
 unaryAtDomain ms n t o f a x c =
-    pick (numberIs n TermKind.install) (fitsAt (keyIs o TypeKind.unit ∷ keyIs x TypeKind.adv ∷ []) (bitOf ms (keyField0 x) c))
-    (pick (numberIs n TermKind.newCell) (fitsAt (keyIs o TypeKind.ref ∷ eqb (keyField0 o) a ∷ []) (bitOf ms (keyField1 o) c))
-    (pick (numberIs n TermKind.read) (fitsAt (keyIs x TypeKind.ref ∷ eqb (keyField0 x) t ∷ []) (bitOf ms c (keyField1 x)))
+    choose (numberIs n TermKind.install) (fitsAt (keyIs o TypeKind.unit ∷ keyIs x TypeKind.adv ∷ []) (bitOf ms (keyField0 x) c))
+    (choose (numberIs n TermKind.newCell) (fitsAt (keyIs o TypeKind.ref ∷ eqb (keyField0 o) a ∷ []) (bitOf ms (keyField1 o) c))
+    (choose (numberIs n TermKind.read) (fitsAt (keyIs x TypeKind.ref ∷ eqb (keyField0 x) t ∷ []) (bitOf ms c (keyField1 x)))
     (fitsAt (keyIs o TypeKind.unit ∷ keyIs x TypeKind.unit ∷ []) (bitOf ms f c))))
 
 unfoldable pub unaryRule : List ℕ → ℕ → ℕ → ℕ → ℕ → ℕ → ℕ → ℕ → Rule
 unaryRule ms n t o f a x c =
-    pick (numberIs n TermKind.print) (fits (keyIs o TypeKind.unit ∷ keyIs x TypeKind.number ∷ []))
-    (pick (numberIs n TermKind.fun) (fits (keyIs o TypeKind.fun ∷ eqb (keyField2 o) a ∷ []))
-    (pick (numberIs n TermKind.byte) (fits (keyIs o TypeKind.number ∷ keyIs x TypeKind.number ∷ []))
+    choose (numberIs n TermKind.print) (fits (keyIs o TypeKind.unit ∷ keyIs x TypeKind.number ∷ []))
+    (choose (numberIs n TermKind.fun) (fits (keyIs o TypeKind.fun ∷ eqb (keyField2 o) a ∷ []))
+    (choose (numberIs n TermKind.byte) (fits (keyIs o TypeKind.number ∷ keyIs x TypeKind.number ∷ []))
     (unaryAtDomain ms n t o f a x c)))
 
 -- Of a term with two children, of types a and e with the keys x and y, that is no arithmetic.
 unfoldable pub binaryAtDomain : List ℕ → ℕ → ℕ → ℕ → ℕ → ℕ → ℕ → ℕ → Rule
 binaryAtDomain ms n t o x e y c =
-    pick (numberIs n TermKind.app) (fitsAt (keyIs x TypeKind.fun ∷ eqb (keyField0 x) e ∷ eqb (keyField2 x) t ∷ []) (eqb (keyField1 x) c))
-    (pick (numberIs n TermKind.mark) (fitsAt (keyIs o TypeKind.unit ∷ keyIs x TypeKind.label ∷ eqb (keyField0 x) e ∷ []) (eqb (keyField1 x) c))
-    (pick (numberIs n TermKind.adv) (fitsAt (keyIs o TypeKind.adv ∷ keyIs x TypeKind.pcd ∷ keyIs y TypeKind.unit ∷ []) (bitOf ms (keyField0 o) (keyField1 x)))
+    choose (numberIs n TermKind.app) (fitsAt (keyIs x TypeKind.fun ∷ eqb (keyField0 x) e ∷ eqb (keyField2 x) t ∷ []) (eqb (keyField1 x) c))
+    (choose (numberIs n TermKind.mark) (fitsAt (keyIs o TypeKind.unit ∷ keyIs x TypeKind.label ∷ eqb (keyField0 x) e ∷ []) (eqb (keyField1 x) c))
+    (choose (numberIs n TermKind.adv) (fitsAt (keyIs o TypeKind.adv ∷ keyIs x TypeKind.pcd ∷ keyIs y TypeKind.unit ∷ []) (bitOf ms (keyField0 o) (keyField1 x)))
     (fitsAt (keyIs o TypeKind.unit ∷ keyIs x TypeKind.ref ∷ eqb (keyField0 x) e ∷ []) (bitOf ms (keyField1 x) c))))
 
 unfoldable pub binaryRule : List ℕ → ℕ → ℕ → ℕ → ℕ → ℕ → ℕ → ℕ → ℕ → Rule
 binaryRule ms n t o a x e y c =
-    pick (numberIs n TermKind.seq) (fits (keyIs x TypeKind.unit ∷ eqb e t ∷ []))
-    (pick (numberIs n TermKind.pair) (fits (keyIs o TypeKind.pair ∷ eqb (keyField0 o) a ∷ eqb (keyField1 o) e ∷ []))
-    (pick (numberIs n TermKind.split) (fits (keyIs x TypeKind.pair ∷ eqb e t ∷ []))
+    choose (numberIs n TermKind.seq) (fits (keyIs x TypeKind.unit ∷ eqb e t ∷ []))
+    (choose (numberIs n TermKind.pair) (fits (keyIs o TypeKind.pair ∷ eqb (keyField0 o) a ∷ eqb (keyField1 o) e ∷ []))
+    (choose (numberIs n TermKind.split) (fits (keyIs x TypeKind.pair ∷ eqb e t ∷ []))
     (binaryAtDomain ms n t o x e y c)))
 
 -- The kind of type that arithmetic gives.
 abbrev pub resultKind : ℕ → ℕ
-resultKind f = pick (ltb f 2) (typeRow TypeKind.number .number) (typeRow TypeKind.truth .number)
+resultKind f = choose (ltb f 2) (typeRow TypeKind.number .number) (typeRow TypeKind.truth .number)
 
 -- Of arithmetic: f is its operation, x and y are the keys of its operands' types.
 unfoldable pub arithmeticRule : ℕ → ℕ → ℕ → ℕ → Rule

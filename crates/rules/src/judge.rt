@@ -1,13 +1,10 @@
 // The rules of the terms of fixed kinds, on numbers that were read; and what a rule comes to.
-use records::numbers::DomainNo;
-use records::numbers::TypeNo;
 use verdicts::Verdict;
 ghost use mathlib.Core.Path.{_≡_};
 ghost use mathlib.Core.Bool.{true};
 ghost use mathlib.Core.List.{[], _∷_};
-ghost use lib.ListN.{length};
 ghost use Rattle.image.specs.Tests.{all};
-ghost use Rattle.rules.specs.Scalars.{judged, leafRule, unaryRule, binaryRule, resultKind};
+ghost use Rattle.rules.specs.Scalars.{judged};
 
 // Each of two tests; of three.
 pub fn both(a: bool, b: bool) -> bool

@@ -1,4 +1,4 @@
--- Laws of requirements in a row and of checks in turn.
+-- Laws of requirements in a row, and of the first check.
 use borrow.Author.Tests.{lt-ltb}
 use Prim.Native.Nat.{ℕ, zero, suc, _+_, _-_, _≤_, _<_}
 use native.Mathlib.Omega.{arith}
@@ -11,10 +11,11 @@ use Rattle.image.specs.declared.Refusal.{Refusal}
 use Rattle.image.specs.Layout.{Layout, isNil}
 use Rattle.image.specs.Tests.{all, allBelow}
 use Rattle.verdicts.specs.declared.Verdict.{Verdict}
-use Rattle.verdicts.specs.Answers.{isRefused, require, requireFrom, inTurn}
+use Rattle.verdicts.specs.Answers.{isRefused, require, requireFrom}
 use Rattle.verdicts.specs.Shape.{noneEmpty, shape}
+use Rattle.verdicts.proofs.Answered.{each-required, turn-stops, turn-goes}
 use Rattle.shape.specs.Checks.{passes}
-use Rattle.image.proofs.Facts.{no-path, and-r, lt-of, all-below}
+use Rattle.image.proofs.Facts.{and-r, lt-of, all-below}
 
 pub from-start : (r : Refusal) (place : ℕ → ℕ) (ok : ℕ → Bool) (n : ℕ) → requireFrom n 0 r place ok ≡ requireFrom (n - 0) 0 r place ok
 from-start r place ok n = let z : n - 0 ≡ n = omega arith in rw z refl
@@ -35,12 +36,7 @@ module _ (r : Refusal) (place : ℕ → ℕ) (ok : ℕ → Bool) (n i : ℕ) whe
 
 -- Where each test holds, nothing is refused.
 pub from-hold : (r : Refusal) (place : ℕ → ℕ) (ok : ℕ → Bool) (n : ℕ) → allBelow n ok ≡ true → requireFrom n 0 r place ok ≡ Verdict.Accepted
-unfolding requireFrom
-from-hold r place ok n h = go n 0 (λ k l. all-below n ok h k (omega arith))
-  where
-    go : (m i : ℕ) → ((k : ℕ) → k < i + m → ok k ≡ true) → requireFrom m i r place ok ≡ Verdict.Accepted
-    go zero i f = refl
-    go (suc m) i f = let e : ok i ≡ true = f i (omega arith) in rw (e, requireFrom) (go m (suc i) (λ k l. f k (omega arith)))
+from-hold r place ok n h = each-required n 0 r place ok (λ k l m. all-below n ok h k (omega arith))
 
 -- Where each test before f holds, and that of f does not, it is refused there.
 pub from-first : (r : Refusal) (place : ℕ → ℕ) (ok : ℕ → Bool) (n f : ℕ) → f < n → ((k : ℕ) → k < f → ok k ≡ true) → ok f ≡ false → requireFrom n 0 r place ok ≡ Verdict.Refused r (place f)
@@ -68,32 +64,6 @@ from-same r p q f g (suc n) i hp hf = go (f i) refl (from-same r p q f g n (suc 
         let w : g i ≡ false = sym (hf i (omega arith)) ∙ e in
         let x : p i ≡ q i = hp i (omega arith) in
         rw (e, w, x, requireFrom) refl
-
--- Of checks in turn, the first: it refuses, it passes, it is the last.
-module _ (v : Unit {0} → Verdict) (vs : List (Unit {0} → Verdict)) where
-  pub turn-stops : isRefused (v tt) ≡ true → inTurn (v ∷ vs) ≡ v tt
-  unfolding inTurn
-  turn-stops h = go (v tt) refl
-    where
-      go : (w : Verdict) → v tt ≡ w → inTurn (v ∷ vs) ≡ v tt
-      go Verdict.Accepted e = let z : false ≡ true = rw e at h in no-path (sym z)
-      go (Verdict.Refused r p) e = rw (e, inTurn) refl
-
-  pub turn-goes : isRefused (v tt) ≡ false → inTurn (v ∷ vs) ≡ inTurn vs
-  unfolding inTurn
-  turn-goes h = go (v tt) refl
-    where
-      go : (w : Verdict) → v tt ≡ w → inTurn (v ∷ vs) ≡ inTurn vs
-      go Verdict.Accepted e = rw (e, inTurn) refl
-      go (Verdict.Refused r p) e = let z : true ≡ false = rw e at h in no-path z
-
-pub turn-last : (v : Unit {0} → Verdict) → inTurn (v ∷ []) ≡ v tt
-unfolding inTurn
-turn-last v = go (v tt) refl
-  where
-    go : (w : Verdict) → v tt ≡ w → inTurn (v ∷ []) ≡ v tt
-    go Verdict.Accepted e = rw (e, inTurn) refl
-    go (Verdict.Refused r p) e = rw (e, inTurn) refl
 
 -- Refusal 9, and what comes after it.
 module _ (L : Layout) (size : ℕ) where

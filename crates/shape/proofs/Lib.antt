@@ -1,5 +1,6 @@
 -- Laws of the passes of refusals 9 to 12.
 pub mod Orders
+pub mod Named
 pub mod Answers
 pub mod TermRecords
 pub mod UseCounts

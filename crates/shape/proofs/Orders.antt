@@ -28,7 +28,7 @@ pub any-more : (n : ℕ) (p : ℕ → Bool) (b : Bool) → b ≡ anyBelow n p �
 unfolding anyBelow
 any-more n p b e = rw (add-one, e)
 
-any-same : (n : ℕ) (p q : ℕ → Bool) → ((i : ℕ) → p i ≡ q i) → anyBelow n p ≡ anyBelow n q
+pub any-same : (n : ℕ) (p q : ℕ → Bool) → ((i : ℕ) → p i ≡ q i) → anyBelow n p ≡ anyBelow n q
 unfolding anyBelow
 any-same zero p q h = refl
 any-same (suc n) p q h = rw (any-same n p q h, h n)
@@ -56,7 +56,7 @@ pub record RowsTo (L : Layout) (n : ℕ) (o : List (List Bool)) : Type 0 where
   pub before : (d : ℕ) → d < n → getD o d [] ≡ getD (order L) d []
   pub beyond : (d q : ℕ) → n ≤ d → names o d q ≡ false
 
-row-blank : (n q : ℕ) → getD (replicate n false) q false ≡ false
+pub row-blank : (n q : ℕ) → getD (replicate n false) q false ≡ false
 row-blank zero q = refl
 row-blank (suc n) zero = refl
 row-blank (suc n) (suc q) = row-blank n q

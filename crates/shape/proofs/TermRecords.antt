@@ -1,20 +1,21 @@
 -- Laws of the children of a term: what a layout says of them, and what stands in the record.
-use Prim.Native.Nat.{ℕ, zero, suc, _+_, _-_, _*_, _≤_, _<_}
+use Prim.Native.Nat.{ℕ, _+_, _-_, _*_, _≤_, _<_}
 use native.Mathlib.Omega.{arith}
 use mathlib.Core.Path.{_≡_, refl, ap, subst, sym, _∙_}
-use mathlib.Core.List.{List, [], _∷_}
+use mathlib.Core.List.{List}
 use lib.ListN.{length, getD, take}
 use Rattle.image.specs.Bytes.{le16, fieldAt, fieldCount}
 use Rattle.image.specs.Layout.{Layout, recordsOf}
+use Rattle.records.specs.Heads.{firstChild}
 use Rattle.records.specs.Tables.{Tables}
-use Rattle.shape.specs.Records.{firstChild, childrenOf, Lower, DomainsOf, Domains, TermsOf, Terms}
+use Rattle.shape.specs.Records.{childrenOf, Lower, DomainsOf, Domains, TermsOf, Terms}
 use Rattle.image.proofs.Words.{words-length, words-at}
-use Rattle.image.proofs.Laid.{Below, Good, layout-good, image-kept}
+use Rattle.image.proofs.Laid.{Below, Good, below-at, layout-good, image-kept}
 use Rattle.records.proofs.Codes.{known-code, kind-small}
 
 -- Child j is field j of those after the first ones.
 pub child-is : (b : List ℕ) (o j : ℕ) → j < length (childrenOf b o) → fieldAt b o (firstChild b o + j) ≡ getD (childrenOf b o) j 0
-unfolding childrenOf firstChild
+unfolding childrenOf
 child-is b o j h =
     let n : length (childrenOf b o) ≡ fieldCount b o - firstChild b o = words-length b _ _ in
     let e : o + 4 + 2 * (firstChild b o + j) ≡ o + 4 + 2 * firstChild b o + 2 * j = omega arith in
@@ -25,12 +26,7 @@ lower-up n m es h l = record { at = λ j k. let z = l .at j k in omega arith }
 
 -- What a good layout says of its domains and terms.
 below-lower : (n : ℕ) (es : List ℕ) → Below n es → Lower n es
-below-lower n es h = record { at = go es h }
-  where
-    go : (es : List ℕ) → Below n es → (j : ℕ) → j < length es → getD es j 0 < n
-    go [] h j l = absurd (omega arith)
-    go (e ∷ es) h zero l = h .0
-    go (e ∷ es) h (suc j) l = go es (h .1) j (omega arith)
+below-lower n es h = record { at = λ j l. below-at n es j h l }
 
 module _ (L : Layout) (G : Good L) where
   good-domains : DomainsOf L (L .image) (L .domains)
@@ -43,7 +39,7 @@ module _ (L : Layout) (G : Good L) where
       }
 
   good-terms : TermsOf L (L .image) (L .terms)
-  unfolding firstChild childrenOf
+  unfolding childrenOf
   good-terms =
       record {
         offsets = refl;

@@ -2,7 +2,7 @@
 use Prim.Native.Nat.{ℕ}
 use mathlib.Core.Path.{_≡_}
 use mathlib.Core.Bool.{Bool, false, not, _&&_, _||_}
-use mathlib.Core.List.{List, []}
+use mathlib.Core.List.{List, [], _∷_}
 use lib.ListN.{length, getD}
 use lib.Dec.{eqb, leb}
 use Rattle.image.specs.declared.Refusal.{Refusal}
@@ -20,6 +20,12 @@ names o d e = getD (getD o d []) e false
 -- Of two domains with the rows a and b: "names e where e names f and d does not".
 abbrev pub gapIn : List Bool → List Bool → Bool
 gapIn a b = anyBelow domainLimit (λ f. getD b f false && not (getD a f false))
+
+-- What either of two rows names.
+unfoldable pub eitherRow : List Bool → List Bool → List Bool
+eitherRow [] b = b
+eitherRow (p ∷ a) [] = p ∷ a
+eitherRow (p ∷ a) (q ∷ b) = (p || q) ∷ eitherRow a b
 
 -- Of n domains, e, with the row b, puts d, with the row a, at fault; d is at fault.
 abbrev pub faultIn : List Bool → List Bool → ℕ → ℕ → ℕ → Bool

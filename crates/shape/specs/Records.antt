@@ -9,6 +9,7 @@ use Rattle.image.specs.Kinds.{termRow}
 use Rattle.image.specs.Layout.{Layout, kindAt, childrenAt, recordsOf}
 use Rattle.image.specs.Types.{termKindOf, children}
 use Rattle.records.specs.Codes.{countOf, codeAt}
+pub use Rattle.records.specs.Heads.{firstChild}
 
 -- The offsets ds are those of the domains of a layout of the image b.
 pub record DomainsOf (L : Layout) (b ds : List ℕ) : Type 0 where
@@ -21,10 +22,7 @@ pub record DomainsOf (L : Layout) (b ds : List ℕ) : Type 0 where
 abbrev pub Domains : List ℕ → List ℕ → Type 0
 Domains b ds = DomainsOf (recordsOf b) b ds
 
--- Of the term at o: how many fields it has before its children, and its children.
-unfoldable pub firstChild : List ℕ → ℕ → ℕ
-firstChild b o = length (termRow (termKindOf (kindAt b o)) .fields)
-
+-- The children of the term at o.
 unfoldable pub childrenOf : List ℕ → ℕ → List ℕ
 childrenOf b o = childrenAt b o (termRow (termKindOf (kindAt b o)))
 

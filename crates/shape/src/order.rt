@@ -1,4 +1,4 @@
-// Refusal 10: the order of the domains, as sixteen rows of sixteen truths, by value, and the first domain at fault in it.
+// Refusal 10: the order of the domains, as sixteen rows of sixteen truths, and the first domain at fault in it.
 use image::Refusal;
 use verdicts::Verdict;
 ghost use mathlib.Core.Path.{_≡_};
@@ -8,7 +8,7 @@ ghost use lib.ListN.{length};
 ghost use Rattle.image.specs.Limits.{domainLimit};
 ghost use Rattle.image.specs.Layout.{recordsOf};
 ghost use Rattle.verdicts.specs.Order.{bits};
-ghost use Rattle.shape.specs.Faults.{gapIn, faultIn, faulty, orderFrom, Rows};
+ghost use Rattle.shape.specs.Faults.{gapIn, eitherRow, faulty, orderFrom, Rows};
 ghost use Rattle.shape.specs.Records.{Domains};
 ghost use Rattle.shape.specs.Checks.{domainsOrdered};
 
@@ -27,7 +27,7 @@ fn row_of(mask: u16) -> [bool; 16]
     row
 }
 
-// The order; the rows of absent domains are all false.
+// The order, an array that is handed over by value, as document 01 asks; the rows of absent domains are all false.
 pub fn order_of(image: &[u8], doms: &[u16]) -> [[bool; 16]; 16]
     requires { ⌜ Domains (now image) (now doms) ⌝ }
     ensures { λ r. ⌜ Rows (recordsOf (now (image .entry))) r ⌝ }
@@ -68,48 +68,49 @@ fn gap_in(a: [bool; 16], b: [bool; 16]) -> bool
     found
 }
 
-// Domain e, with the row b, puts domain d, with the row a, at fault, of n domains.
-fn fault_in(a: [bool; 16], b: [bool; 16], n: usize, d: usize, e: usize) -> bool
-    requires { ⌜ (d < domainLimit) × (e < domainLimit) ⌝ }
-    ensures { λ r. ⌜ r ≡ faultIn a b n d e ⌝ }
+// What either of two rows names.
+fn either_row(a: [bool; 16], b: [bool; 16]) -> [bool; 16]
+    ensures { λ r. ⌜ r ≡ eitherRow a b ⌝ }
 {
-    if !a[e] {
-        return false;
+    let mut row = [false; 16];
+    let mut f: usize = 0;
+    while f < 16 {
+        row[f] = either(a[f], b[f]);
+        f += 1;
     }
-    if n <= e {
-        return true;
-    }
-    if e != d {
-        if b[d] {
-            return true;
-        }
-    }
-    gap_in(a, b)
+    row
 }
 
-// Domain d, of n, is at fault.
-fn at_fault(o: [[bool; 16]; 16], n: usize, d: usize) -> bool
+// Domain d, of n, is at fault. What the other domains that it names name is gathered in one row, which is then searched
+// once, for d and for a gap, and not again for each of them. Its own row is left out: it has d, and no gap to itself.
+fn at_fault(o: &[[bool; 16]; 16], n: usize, d: usize) -> bool
     requires { ⌜ d < domainLimit ⌝ }
-    ensures { λ r. ⌜ r ≡ faulty o n d ⌝ }
+    ensures { λ r. ⌜ r ≡ faulty (now (o .entry)) n d ⌝ }
 {
-    if !o[d][d] {
+    let own = o[d];
+    if !own[d] {
         return true;
     }
-    let mut found = false;
+    let mut named = [false; 16];
     let mut e: usize = 0;
     while e < 16 {
-        if o[d][e] {
-            found = either(found, fault_in(o[d], o[e], n, d, e));
+        if own[e] {
+            if n <= e {
+                return true;
+            }
+            if e != d {
+                named = either_row(named, o[e]);
+            }
         }
         e += 1;
     }
-    found
+    either(named[d], gap_in(own, named))
 }
 
-// Refused at the first domain at fault.
-fn first_unordered(o: [[bool; 16]; 16], doms: &[u16]) -> Verdict
+// Refused at the first domain at fault. The order is lent: by value, it would be copied for each domain.
+fn first_unordered(o: &[[bool; 16]; 16], doms: &[u16]) -> Verdict
     requires { ⌜ length (now doms) ≤ domainLimit ⌝ }
-    ensures { λ r. ⌜ r ≡ orderFrom (now (doms .entry)) o (length (now (doms .entry))) 0 ⌝ }
+    ensures { λ r. ⌜ r ≡ orderFrom (now (doms .entry)) (now (o .entry)) (length (now (doms .entry))) 0 ⌝ }
 {
     let mut d: usize = 0;
     while d < doms.len() {
@@ -126,5 +127,6 @@ pub fn check_order(image: &[u8], doms: &[u16]) -> Verdict
     requires { ⌜ Domains (now image) (now doms) ⌝ }
     ensures { λ r. ⌜ r ≡ domainsOrdered (recordsOf (now (image .entry))) ⌝ }
 {
-    first_unordered(order_of(image, doms), doms)
+    let o = order_of(image, doms);
+    first_unordered(&o, doms)
 }

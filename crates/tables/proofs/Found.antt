@@ -1,14 +1,13 @@
 -- Lookups in the tables, link by link and label by label.
-use Prim.Native.Nat.{ℕ, zero, suc, _+_, _-_, _*_, _/_, _%_, _≤_, _<_}
+use Prim.Native.Nat.{ℕ, zero, suc, _-_, _/_, _%_, _≤_, _<_}
 use native.Mathlib.Omega.{arith}
-use mathlib.Core.Path.{_≡_, refl, sym, ap, _∙_}
-use mathlib.Core.Bool.{Bool, true, false, _||_}
-use mathlib.Core.List.{List}
+use mathlib.Core.Path.{_≡_, sym, ap, _∙_}
+use mathlib.Core.Bool.{Bool, true, false}
 use lib.Dec.{eqb, ltb}
 use borrow.Author.Tests.{eqb-false, ltb-false, eq-eqb, ne-eqb}
 use Rattle.calculus.specs.Combinators.{choose}
 use Rattle.image.proofs.Facts.{or-false-l, or-false-r}
-use Rattle.flat.specs.Values.{tagOf, bodyOf, noValue, cellTag, tagged}
+use Rattle.flat.specs.Values.{tagOf, bodyOf, noValue, cellTag}
 use Rattle.values.proofs.Chosen.{tagged-yes, tagged-no}
 use Rattle.flat.specs.Memory.{Memory, noLink, lookup, boundLink, bindingAt, hasDigit, cellAt, readCell}
 

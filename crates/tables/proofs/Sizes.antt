@@ -1,5 +1,5 @@
 -- The tables stand end to end in the work area, each with the room of document 01, "A run", and fill its published length.
-use Prim.Native.Nat.{ℕ, _+_, _*_}
+use Prim.Native.Nat.{_+_, _*_}
 use mathlib.Core.Path.{_≡_, refl}
 use Rattle.calculus.specs.Limits.{frameLimit, bindingLimit, cellLimit, adviceLimit, pieceLimit}
 use Rattle.image.specs.Limits.{workLength}

@@ -1,11 +1,11 @@
 -- What a store leaves of the tables, and what a load answers.
-use Prim.Native.Nat.{ℕ, zero, suc, _+_, _*_, _/_, _%_, _^_, _≤_, _<_}
+use Prim.Native.Nat.{ℕ, _+_, _*_, _/_, _%_, _≤_, _<_}
 use native.Mathlib.Omega.{arith}
-use mathlib.Core.Path.{_≡_, refl, sym, ap, _∙_}
+use mathlib.Core.Path.{_≡_, sym, ap, _∙_}
 use mathlib.Core.List.{List}
 use lib.ListN.{length, getD, set, drop}
 use Rattle.area.specs.Bytes.{bytesOf, over}
-use Rattle.area.specs.Memory.{wordCount, besideCount, besideBase, memoryLength, wordsOf, besideOf}
+use Rattle.area.specs.Memory.{wordCount, besideCount, memoryLength}
 use Rattle.area.specs.Memory as area
 use Rattle.area.proofs.Memory.{words-at, store-words, store-past, store-beside, beside-past, beside-at}
 use Rattle.flat.specs.Memory.{Memory, bindingBase, putBinding, wordAt, putWord, putLabels, labelDigits, frameBase, frameHeld, frameWord, pointcutFrame}

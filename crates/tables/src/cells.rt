@@ -1,6 +1,6 @@
 // Cells: the note, and the value above 2^28; the note is the cell's domain, and 16 more where it is plain.
 ghost use mathlib.Core.Path.{_≡_};
-ghost use Prim.Native.Nat.{_+_, _*_, _%_, _<_, _≤_};
+ghost use Prim.Native.Nat.{_+_, _%_, _<_, _≤_};
 ghost use lib.ListN.{length};
 ghost use Rattle.area.specs.Memory.{memoryLength};
 ghost use Rattle.flat.specs.Memory.{cellAt, putCell, cellNote, readCell};

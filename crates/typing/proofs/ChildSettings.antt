@@ -11,7 +11,7 @@ use lib.Dec.{eqb, lit<}
 use borrow.Author.Tests.{eqb-false}
 use Rattle.calculus.specs.Plain.{domOf}
 use Rattle.image.specs.Bytes.{numberAt, fieldCount, fieldAt}
-use Rattle.image.specs.Kinds.{no-body, a-type, free, TypeKind, typeRow, TermKind, termRow, find}
+use Rattle.image.specs.Kinds.{no-body, a-type, free, TypeKind, typeRow, TermKind, termRow}
 use Rattle.image.specs.Layout.{recordsOf}
 use Rattle.image.specs.Types.{termPlace, termKind, typeNo, typeKind, typeField, isType, typeOut, typeOf, others, children}
 use Rattle.image.proofs.Facts.{no-path, eq-of, each}
@@ -137,8 +137,7 @@ module _ (b terms keys scope : List ℕ) (len c n i : ℕ) (P : Passed b terms k
   -- The body of a function.
   module _ (e : numberAt b (termPlace (recordsOf b) n) ≡ 41) where
     is-function : termKind (recordsOf b) n ≡ TermKind.fun
-    unfolding find
-    is-function = kind-is b terms (P .lent .terms) n (P .term) TermKind.fun refl e
+    is-function = kind-is b terms (P .lent .terms) n (P .term) TermKind.fun e
 
     function-type : isType (recordsOf b) TypeKind.fun (typeNo (recordsOf b) n) ≡ true
     function-type = each _ (types-fit _ _ (ruled-as TermKind.fun is-function)) .0
@@ -167,8 +166,7 @@ module _ (b terms keys scope : List ℕ) (len c n i : ℕ) (P : Passed b terms k
   -- The body of an advice.
   module _ (e : numberAt b (termPlace (recordsOf b) n) ≡ 47) (one : i ≡ 1) where
     is-advice : termKind (recordsOf b) n ≡ TermKind.adv
-    unfolding find
-    is-advice = kind-is b terms (P .lent .terms) n (P .term) TermKind.adv refl e
+    is-advice = kind-is b terms (P .lent .terms) n (P .term) TermKind.adv e
 
     advice-type : isType (recordsOf b) TypeKind.adv (typeNo (recordsOf b) n) ≡ true
     advice-type = each _ (types-fit _ _ (ruled-as TermKind.adv is-advice)) .0
@@ -199,8 +197,7 @@ module _ (b terms keys scope : List ℕ) (len c n i : ℕ) (P : Passed b terms k
   -- The body of a split: the second part is the innermost variable.
   module _ (e : numberAt b (termPlace (recordsOf b) n) ≡ 40) (one : i ≡ 1) where
     is-split : termKind (recordsOf b) n ≡ TermKind.split
-    unfolding find
-    is-split = kind-is b terms (P .lent .terms) n (P .term) TermKind.split refl e
+    is-split = kind-is b terms (P .lent .terms) n (P .term) TermKind.split e
 
     pair-type : isType (recordsOf b) TypeKind.pair (getD (childTypes b n) 0 0) ≡ true
     pair-type = each _ (types-fit _ _ (ruled-as TermKind.split is-split)) .0
@@ -241,9 +238,9 @@ module _ (b terms keys scope : List ℕ) (len c n i : ℕ) (P : Passed b terms k
         omega arith
 
     pub lower-at : ChildAt b scope scope len c n i len (fieldAt b (termPlace (recordsOf b) n) 1)
-    unfolding find kindCodes
+    unfolding kindCodes
     lower-at =
-        let k = kind-is b terms (P .lent .terms) n (P .term) TermKind.lower refl e in
+        let k = kind-is b terms (P .lent .terms) n (P .term) TermKind.lower e in
         let f = other-of b terms (P .lent .terms) n (P .term) 52 refl (sym (number-is b terms (P .lent .terms) n (P .term)) ∙ e) in
         record { stands = settings-alike refl (sym f) ∙ body-of i refl TermKind.lower k; kept = refl; grown = omega arith; little = omega arith }
 
@@ -267,14 +264,13 @@ module _ (b terms keys scope : List ℕ) (len c n i : ℕ) (P : Passed b terms k
         omega arith
 
     pub not-second-at : (i ≡ 1 → ⊥) → ChildAt b scope scope len c n i len c
-    unfolding find
     not-second-at h = go (eqb (numberAt b (termPlace (recordsOf b) n)) 40) refl (eqb (numberAt b (termPlace (recordsOf b) n)) 47) refl
       where
         go : (x : Bool) → eqb (numberAt b (termPlace (recordsOf b) n)) 40 ≡ x → (y : Bool) → eqb (numberAt b (termPlace (recordsOf b) n)) 47 ≡ y → ChildAt b scope scope len c n i len c
         go true x y d =
-            let k = kind-is b terms (P .lent .terms) n (P .term) TermKind.split refl (eq-of x) in
+            let k = kind-is b terms (P .lent .terms) n (P .term) TermKind.split (eq-of x) in
             same-stands 0 (first-of-two TermKind.split k refl (λ q. absurd (omega arith)) h) TermKind.split k refl
         go false x true d =
-            let k = kind-is b terms (P .lent .terms) n (P .term) TermKind.adv refl (eq-of d) in
+            let k = kind-is b terms (P .lent .terms) n (P .term) TermKind.adv (eq-of d) in
             same-stands 0 (first-of-two TermKind.adv k refl (λ q. absurd (omega arith)) h) TermKind.adv k refl
         go false x false d = same-at (eqb-false _ _ x) (eqb-false _ _ d)

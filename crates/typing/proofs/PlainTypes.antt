@@ -3,7 +3,7 @@ use Prim.Native.Nat.{ℕ, _+_, _≤_, _<_}
 use native.Mathlib.Omega.{arith}
 use mathlib.Core.Path.{_≡_, refl, sym, ap, _∙_}
 use mathlib.Core.Bool.{Bool, true, false}
-use mathlib.Core.List.{List}
+use mathlib.Core.List.{List, []}
 use mathlib.Core.Option.{Option, none, some}
 use lib.ListN.{length, getD}
 use lib.Dec.{eqb, ltb, leb, lit<}
@@ -130,6 +130,16 @@ module _ (b keys : List ℕ) (T : Types b keys) (t : ℕ) (h : t < length (recor
   leaves-right table before =
       by-kind (typeKind (recordsOf b) t) (λ i. typeField (recordsOf b) t i) (λ a. typeOf (recordsOf b) a) (getD keys t 0) table kind-key
       (λ e. let p = pair-parts (kind-key ∙ e) in (before _ (p .2) ∙ ap (λ a. plainLeaves (typeOf (recordsOf b) a)) (sym (p .0)), before _ (p .3) ∙ ap (λ a. plainLeaves (typeOf (recordsOf b) a)) (sym (p .1))))
+      ∙ ap plainLeaves (sym (type-out (recordsOf b) good-types t h))
+
+  -- A unit, truth or number has one leaf.
+  pub scalar-leaf : keyKind (getD keys t 0) < 19 → 1 ≡ plainLeaves (typeOf (recordsOf b) t)
+  unfolding leavesOf
+  scalar-leaf l =
+      let x = getD keys t 0 in
+      let one : leavesOf x [] ≡ 1 = simp (ne-eqb (keyKind x) 19 (λ e. omega arith), lt-ltb (keyKind x) 19 l) in
+      sym one
+      ∙ by-kind (typeKind (recordsOf b) t) (λ i. typeField (recordsOf b) t i) (λ a. typeOf (recordsOf b) a) x [] kind-key (λ e. let k : keyKind x ≡ 19 = kind-key ∙ e in absurd (omega arith))
       ∙ ap plainLeaves (sym (type-out (recordsOf b) good-types t h))
 
 -- A type is plain where it has leaves in the table.

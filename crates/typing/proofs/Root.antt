@@ -1,9 +1,9 @@
 -- The typing pass from the root: 13 to 15, then 16.
 use Prim.Native.Nat.{ℕ, suc, _-_, _<_}
 use native.Mathlib.Omega.{arith}
-use mathlib.Core.Path.{_≡_, refl, sym, ap}
+use mathlib.Core.Path.{_≡_, sym, ap}
 use mathlib.Core.Bool.{true, false}
-use mathlib.Core.List.{List, [], _∷_}
+use mathlib.Core.List.{List}
 use lib.ListN.{length}
 use Rattle.image.specs.declared.Refusal.{Refusal}
 use Rattle.image.specs.Layout.{Layout}
@@ -12,6 +12,7 @@ use Rattle.image.proofs.Facts.{no-path}
 use Rattle.verdicts.specs.declared.Verdict.{Verdict}
 use Rattle.verdicts.specs.Answers.{isRefused, require, inTurn}
 use Rattle.verdicts.specs.Check.{check, checked, rootSetting, typing}
+use Rattle.verdicts.proofs.Answered.{last-turn}
 use Rattle.rules.specs.Lent.{contextIn, settingIn}
 use Rattle.typing.specs.Turns.{rootChecked, rootPlain, plainAt}
 use Rattle.records.specs.Leaves.{plainLeaves}
@@ -27,11 +28,6 @@ module _ (L : Layout) where
   root-plain = ap (λ t. require t Refusal.RootNotPlain (termPlace L (rootOf L))) (sym (plain-is (typeOf L (typeNo L (rootOf L)))))
 
   -- The two in turn.
-  last-turn : (v : Verdict) → inTurn ((λ u. v) ∷ []) ≡ v
-  unfolding inTurn
-  last-turn Verdict.Accepted = refl
-  last-turn (Verdict.Refused r o) = refl
-
   pub typing-refused : (v : Verdict) → v ≡ rootChecked L → isRefused v ≡ true → v ≡ typing L
   unfolding typing inTurn rootChecked
   typing-refused Verdict.Accepted e h = no-path (sym h)
@@ -39,5 +35,5 @@ module _ (L : Layout) where
 
   pub typing-plain : (v : Verdict) → v ≡ rootChecked L → isRefused v ≡ false → rootPlain L ≡ typing L
   unfolding typing inTurn rootChecked rootPlain
-  typing-plain Verdict.Accepted e h = rw (← e, inTurn) (sym (last-turn (rootPlain L)))
+  typing-plain Verdict.Accepted e h = rw (← e, inTurn) (sym (last-turn (λ u. rootPlain L)))
   typing-plain (Verdict.Refused r o) e h = no-path h

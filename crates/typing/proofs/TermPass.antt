@@ -19,6 +19,7 @@ use Rattle.verdicts.specs.declared.Verdict.{Verdict}
 use Rattle.verdicts.specs.Answers.{isRefused}
 use Rattle.verdicts.specs.Settings.{Setting}
 use Rattle.verdicts.specs.Check.{ruleFaults, ruleAt, settingAt, checkAll, checked}
+use Rattle.verdicts.proofs.Answered.{accepted-is}
 use Rattle.verdicts.proofs.Fuel.{checked-refused, checked-children}
 use Rattle.rules.specs.Lent.{Terms, IsTerm, settingIn}
 use Rattle.rules.specs.Scalars.{judged, ruleVerdict}
@@ -30,10 +31,6 @@ use Rattle.typing.specs.Turns.{ChildAt}
 -- The verdict on the first k children of term n, which stands at p, and on the terms below them: "parent before children, left first".
 unfoldable pub front : Layout → Setting ℕ → ℕ → ℕ → Verdict
 front L p n k = checkAll L (λ i e. checked L (settingAt L p n i) e) 0 (take k (children L n))
-
-pub accepted-is : (v : Verdict) → isRefused v ≡ false → v ≡ Verdict.Accepted
-accepted-is Verdict.Accepted h = refl
-accepted-is (Verdict.Refused r o) h = no-path h
 
 -- Children in a row: a refusal among the first of them stands; where they pass, one more has the word.
 module _ (L : Layout) (f : ℕ → ℕ → Verdict) where

@@ -5,19 +5,19 @@ use lib.ListN.{length, getD}
 use lib.Dec.{eqb, leb, ltb}
 use Rattle.calculus.specs.Limits.{leafLimit}
 use Rattle.image.specs.Kinds.{TypeKind, typeRow}
-use Rattle.records.specs.Heads.{pick}
+use Rattle.calculus.specs.Combinators.{choose}
 use Rattle.records.specs.Keys.{keyKind, keyField0, keyField1}
 use Rattle.rules.specs.Scalars.{keyIs}
 
 -- The leaves of a pair, from its parts'.
 unfoldable pub joinLeaves : ℕ → ℕ → ℕ
-joinLeaves m n = pick (eqb m 0) 0 (pick (eqb n 0) 0 (pick (leb (m + n) leafLimit) (m + n) 0))
+joinLeaves m n = choose (eqb m 0) 0 (choose (eqb n 0) 0 (choose (leb (m + n) leafLimit) (m + n) 0))
 
 -- The leaves of the type with the key x, from a table of the leaves of the types before it: the kinds before a pair's are unit, truth and number.
 unfoldable pub leavesOf : ℕ → List ℕ → ℕ
 leavesOf x table =
-    pick (keyIs x TypeKind.pair) (joinLeaves (getD table (keyField0 x) 0) (getD table (keyField1 x) 0))
-    (pick (ltb (keyKind x) (typeRow TypeKind.pair .number)) 1 0)
+    choose (keyIs x TypeKind.pair) (joinLeaves (getD table (keyField0 x) 0) (getD table (keyField1 x) 0))
+    (choose (ltb (keyKind x) (typeRow TypeKind.pair .number)) 1 0)
 
 -- Type t stands in a table of leaves, with no more than a plain type has.
 pub record Part (table : List ℕ) (t : ℕ) : Type 0 where

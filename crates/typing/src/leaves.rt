@@ -2,7 +2,6 @@
 use records::numbers::TypeNo;
 use records::numbers::type_key;
 use rules::types::first_type;
-use rules::types::is_kind;
 use rules::types::second_type;
 ghost use mathlib.Core.Path.{_≡_};
 ghost use Prim.Native.Nat.{_≤_, _<_};
@@ -10,8 +9,9 @@ ghost use lib.ListN.{length, getD, drop};
 ghost use Rattle.calculus.specs.Limits.{leafLimit};
 ghost use Rattle.image.specs.Layout.{recordsOf};
 ghost use Rattle.records.specs.Keys.{keyKind, keyField0, keyField1};
-ghost use Rattle.records.specs.Leaves.{Leaves};
-ghost use Rattle.rules.specs.Lent.{Types};
+ghost use Rattle.image.specs.Types.{typeOf};
+ghost use Rattle.records.specs.Leaves.{Leaves, plainLeaves};
+ghost use Rattle.rules.specs.Lent.{Types, IsType};
 ghost use Rattle.typing.specs.Leaves.{joinLeaves, leavesOf, Part};
 
 fn join_leaves(m: u8, n: u8) -> u8
@@ -59,4 +59,17 @@ pub fn set_leaves(image: &[u8], keys: &[u32], count: usize, table: &mut [u8])
         table[t] = n;
         t += 1;
     }
+}
+
+// The leaves of one type. A unit, truth or number has one; for any other type those of all types before it are worked out.
+pub fn type_leaves(image: &[u8], keys: &[u32], count: usize, t: TypeNo) -> u8
+    requires { ⌜ Types (now image) (now keys) × (count ≡ length (recordsOf (now image) .types)) × IsType (now image) (t .0) ⌝ }
+    ensures { λ r. ⌜ r ≡ plainLeaves (typeOf (recordsOf (now (image .entry))) (t .0)) ⌝ }
+{
+    if records::numbers::key_kind(type_key(keys, t)) < 19 {
+        return 1;
+    }
+    let mut table = [0u8; 128];
+    set_leaves(image, keys, count, &mut table);
+    leaves_at(&table, t)
 }

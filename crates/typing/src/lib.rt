@@ -60,10 +60,13 @@ fn check_plain(image: &[u8], terms: &[u16], keys: &[u32], types: usize, count: u
     requires { ⌜ Terms (now image) (now terms) × Types (now image) (now keys) × (types ≡ length (recordsOf (now image) .types)) × (count ≡ length (recordsOf (now image) .terms)) × (0 < count) ⌝ }
     ensures { λ r. ⌜ r ≡ rootPlain (recordsOf (now (image .entry))) ⌝ }
 {
-    let mut table = [0u8; 128];
-    leaves::set_leaves(image, keys, types, &mut table);
     let root = TermNo((count - 1) as u16);
-    let n = leaves::leaves_at(&table, rules::terms::term_type(image, terms, root));
+    let n = leaves::type_leaves(
+        image,
+        keys,
+        types,
+        rules::terms::term_type(image, terms, root),
+    );
     plain_at(n, rules::terms::term_place(image, terms, root))
 }
 

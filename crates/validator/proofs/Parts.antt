@@ -1,7 +1,7 @@
 -- The verdict is the image's length, then what an examination answers, then the lengths of lent memory.
 use Prim.Native.Nat.{ℕ, _≤_, _<_}
 use mathlib.Core.Path.{_≡_, refl, sym, ap, _∙_}
-use mathlib.Core.Bool.{Bool, true, false, true≢false}
+use mathlib.Core.Bool.{true, false, true≢false}
 use mathlib.Core.List.{List, [], _∷_}
 use lib.ListN.{length}
 use lib.Dec.{leb}
@@ -14,16 +14,13 @@ use Rattle.verdicts.specs.Answers.{isRefused, require, inTurn}
 use Rattle.verdicts.specs.Shape.{shape}
 use Rattle.verdicts.specs.Check.{typing}
 use Rattle.verdicts.specs.Verdicts.{laidOut, verdict}
+use Rattle.verdicts.proofs.Answered.{last-turn}
 use Rattle.examine.specs.Examined.{checkedRecords, examined}
 
 -- The second answer, if the first accepts.
 abbrev after : Verdict → Verdict → Verdict
 after Verdict.Accepted w = w
 after (Verdict.Refused r o) w = Verdict.Refused r o
-
-after-nothing : (v : Verdict) → after v Verdict.Accepted ≡ v
-after-nothing Verdict.Accepted = refl
-after-nothing (Verdict.Refused r o) = refl
 
 after-after : (u v w : Verdict) → after (after u v) w ≡ after u (after v w)
 after-after Verdict.Accepted v w = refl
@@ -37,15 +34,8 @@ turn-after v vs = by (v tt)
     by Verdict.Accepted = refl
     by (Verdict.Refused r o) = refl
 
-nothing-left : inTurn [] ≡ Verdict.Accepted
-unfolding inTurn
-nothing-left = refl
-
-last : (v : Unit {0} → Verdict) → inTurn (v ∷ []) ≡ v tt
-last v = turn-after v [] ∙ ap (after (v tt)) nothing-left ∙ after-nothing (v tt)
-
 both : (v w : Unit {0} → Verdict) → inTurn (v ∷ w ∷ []) ≡ after (v tt) (w tt)
-both v w = turn-after v (w ∷ []) ∙ ap (after (v tt)) (last w)
+both v w = turn-after v (w ∷ []) ∙ ap (after (v tt)) (last-turn w)
 
 examined-is : (b : List ℕ) → examined b ≡ after (laidOut (layout b)) (after (shape (recordsOf b) (length b)) (typing (recordsOf b)))
 unfolding examined checkedRecords

@@ -23,6 +23,7 @@ fn examine_whole(image: &[u8]) -> Verdict
     let mut doms = [0u16; 16];
     let mut types = [0u16; 128];
     let mut keys = [0u32; 128];
+    let mut seen = [false; 256];
     let mut terms = [0u16; 1024];
     examine::examine_image(
         image,
@@ -31,6 +32,7 @@ fn examine_whole(image: &[u8]) -> Verdict
         &mut doms,
         &mut types,
         &mut keys,
+        &mut seen,
         &mut terms,
     )
 }

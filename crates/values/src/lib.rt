@@ -1,7 +1,7 @@
 // An inner crate: the machine's values as words of 64 bits, a tag of 4 bits and a body of 32 bits, 2^28 * tag + 2^32 * body;
 // the low 28 bits say nothing, so a word of a table that holds a value is one.
 ghost use mathlib.Core.Path.{_≡_};
-ghost use Prim.Native.Nat.{_+_, _<_, _≤_};
+ghost use Prim.Native.Nat.{_+_, _<_};
 ghost use Rattle.calculus.specs.Numbers.{isLess, frameByte};
 ghost use Rattle.calculus.specs.Numbers as numbers;
 ghost use Rattle.flat.specs.Values.{tagOf, bodyOf, truthValue, functionValue, noValue, readByte};

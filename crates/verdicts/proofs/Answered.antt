@@ -1,17 +1,21 @@
 -- Verdicts that accept: what each check in turn has passed, and the other way round.
 use Prim.Native.Nat.{ℕ, zero, suc, _+_, _≤_, _<_}
 use native.Mathlib.Omega.{arith}
-use mathlib.Core.Path.{_≡_, refl}
+use mathlib.Core.Path.{_≡_, refl, sym}
 use mathlib.Core.Bool.{Bool, true, false}
 use mathlib.Core.List.{List, [], _∷_}
 use lib.Dec.{ltb}
 use Rattle.image.specs.declared.Refusal.{Refusal}
 use Rattle.image.proofs.Facts.{no-path, lt-of, ge-of}
 use Rattle.verdicts.specs.declared.Verdict.{Verdict}
-use Rattle.verdicts.specs.Answers.{require, requireFrom, inTurn}
+use Rattle.verdicts.specs.Answers.{isRefused, require, requireFrom, inTurn}
 
 pub not-refused : {A : Type 0} {r : Refusal} {o : ℕ} → Verdict.Refused r o ≡ Verdict.Accepted → A
 not-refused h = no-path cc
+
+pub accepted-is : (v : Verdict) → isRefused v ≡ false → v ≡ Verdict.Accepted
+accepted-is Verdict.Accepted h = refl
+accepted-is (Verdict.Refused r o) h = no-path h
 
 pub in-turn : (v : Unit {0} → Verdict) (vs : List (Unit {0} → Verdict)) → inTurn (v ∷ vs) ≡ Verdict.Accepted → (v tt ≡ Verdict.Accepted) × (inTurn vs ≡ Verdict.Accepted)
 unfolding inTurn
@@ -28,6 +32,32 @@ turn-in v vs h k = rw (h, inTurn) k
 pub turned : inTurn [] ≡ Verdict.Accepted
 unfolding inTurn
 turned = refl
+
+-- Of checks in turn, the first: it refuses, it passes, it is the last.
+module _ (v : Unit {0} → Verdict) (vs : List (Unit {0} → Verdict)) where
+  pub turn-stops : isRefused (v tt) ≡ true → inTurn (v ∷ vs) ≡ v tt
+  unfolding inTurn
+  turn-stops h = go (v tt) refl
+    where
+      go : (w : Verdict) → v tt ≡ w → inTurn (v ∷ vs) ≡ v tt
+      go Verdict.Accepted e = let z : false ≡ true = rw e at h in no-path (sym z)
+      go (Verdict.Refused r p) e = rw (e, inTurn) refl
+
+  pub turn-goes : isRefused (v tt) ≡ false → inTurn (v ∷ vs) ≡ inTurn vs
+  unfolding inTurn
+  turn-goes h = go (v tt) refl
+    where
+      go : (w : Verdict) → v tt ≡ w → inTurn (v ∷ vs) ≡ inTurn vs
+      go Verdict.Accepted e = rw (e, inTurn) refl
+      go (Verdict.Refused r p) e = let z : true ≡ false = rw e at h in no-path z
+
+pub last-turn : (v : Unit {0} → Verdict) → inTurn (v ∷ []) ≡ v tt
+unfolding inTurn
+last-turn v = go (v tt) refl
+  where
+    go : (w : Verdict) → v tt ≡ w → inTurn (v ∷ []) ≡ v tt
+    go Verdict.Accepted e = rw (e, inTurn) refl
+    go (Verdict.Refused r p) e = rw (e, inTurn) refl
 
 pub required : (b : Bool) (r : Refusal) (o : ℕ) → require b r o ≡ Verdict.Accepted → b ≡ true
 required true r o h = refl

@@ -15,7 +15,7 @@ use Rattle.image.specs.Layout.{Layout}
 use Rattle.image.specs.Types.{typeField, isType, typeOut, typeOf}
 use Rattle.image.specs.Program.{assemble}
 use Rattle.image.proofs.Facts.{no-path, and-i, of-each, of-lt, of-eq}
-use Rattle.image.proofs.Laid.{Below, Good}
+use Rattle.image.proofs.Laid.{Below, Good, below-at}
 use Rattle.image.proofs.TypeNumbers.{headOf, out-as, is-head, types-apart}
 use Rattle.verdicts.specs.Order.{leq, policy}
 use Rattle.verdicts.specs.Check.{opGives, Rule, rule}
@@ -23,11 +23,6 @@ use Rattle.verdicts.specs.WellTyped.{aborts}
 use Rattle.verdicts.proofs.Local.{one-of, two-of, three-of, outs}
 use Rattle.verdicts.proofs.Contexts.{part-there}
 use Rattle.verdicts.proofs.Inversion.{opTy, of-unit, of-truth, of-number, of-var, of-seq, of-print, of-ite, of-pair, of-split, of-fun, of-app, of-arith, of-newLabel, of-mark, of-pcd, of-adv, of-install, of-newCell, of-read, of-store, of-lower, of-byte}
-
-below-at : (n : ℕ) (Γ : List ℕ) (k : ℕ) → k < length Γ → Below n Γ → getD Γ k 0 < n
-below-at n [] k h b = absurd (omega arith)
-below-at n (a ∷ Γ) zero h b = b .0
-below-at n (a ∷ Γ) (suc k) h b = below-at n Γ k (omega arith) (b .1)
 
 -- What 13, 14 and 15 ask is there.
 pub record Passes (r : Rule) : Type 0 where
@@ -117,7 +112,7 @@ module _ (L : Layout) (good : Good L) where
       λ o ks g d.
       let e = of-var (policy L) (outs L Γ) c d in
       let f = found Γ (getD vs 0 0) (typeOf L t) e in
-      record { bound = of-lt (f .0); typed = same (below-at (length (L .types)) Γ (getD vs 0 0) (f .0) g) o (f .1); allowed = refl }
+      record { bound = of-lt (f .0); typed = same (below-at (length (L .types)) Γ (getD vs 0 0) g (f .0)) o (f .1); allowed = refl }
   local-complete TermKind.seq Γ c t vs ts l m =
       two-of (LocalComplete TermKind.seq Γ c t vs)
       (λ a b o ks g d.

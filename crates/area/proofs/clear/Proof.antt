@@ -8,8 +8,6 @@ use Rattle.area.specs.Bytes.{cleared}
 use borrow.Author.Needs.{needs}
 use Rattle.area.proofs.clear.Statement.{statement}
 use Rattle.area.proofs.clear.Tie as tie
-use Rattle.area.proofs.clear.Reads as reads
-use Rattle.area.proofs.clear.Lts as lts
 
 abbrev Inv-loop : tie.InvT-loop
 Inv-loop area₀ n i₀ area i = (i ≤ n) × (length area ≡ length area₀) × (area ≡ replicate i 0 ++ drop i area₀)

@@ -3,8 +3,6 @@ use Rattle.area.specs.Bytes.{numberOf}
 use borrow.Author.Needs.{needs}
 use Rattle.area.proofs.join64.Statement.{statement}
 use Rattle.area.proofs.join64.Tie as tie
-use Rattle.area.proofs.join64.Reads as reads
-use Rattle.area.proofs.join64.Lts as lts
 
 mul-result : tie.Need-mul-result
 mul-result c = search needs

@@ -7,9 +7,6 @@ use Rattle.area.proofs.Bytes.{gets, bytes-at}
 use borrow.Author.Needs.{needs}
 use Rattle.area.proofs.load.Statement.{statement}
 use Rattle.area.proofs.load.Tie as tie
-use Rattle.area.proofs.load.Reads as reads
-use Rattle.area.proofs.load.Lts as lts
-use Rattle.area.proofs.join64.Reads as join64-reads
 
 mul-k : tie.Need-mul-k
 mul-k c = search needs

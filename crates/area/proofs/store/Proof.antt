@@ -6,8 +6,6 @@ use Rattle.area.proofs.Bytes.{bytes8, stores, stores-over}
 use borrow.Author.Needs.{needs}
 use Rattle.area.proofs.store.Statement.{statement}
 use Rattle.area.proofs.store.Tie as tie
-use Rattle.area.proofs.store.Reads as reads
-use Rattle.area.proofs.store.Lts as lts
 
 mul-k : tie.Need-mul-k
 mul-k c = search needs

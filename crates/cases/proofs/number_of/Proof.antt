@@ -7,9 +7,6 @@ use Rattle.cases.proofs.Digits.{digits-more, digits-all}
 use borrow.Author.Needs.{needs}
 use Rattle.cases.proofs.number_of.Statement.{statement}
 use Rattle.cases.proofs.number_of.Tie as tie
-use Rattle.cases.proofs.number_of.Reads as reads
-use Rattle.cases.proofs.number_of.Lts as lts
-use Rattle.cases.proofs.with_digit.Reads as with-digit-reads
 
 abbrev Inv-loop : tie.InvT-loop
 Inv-loop digits n₀ i₀ n i = (i ≤ length digits) × (numeral digits ≡ numeralAfter n (drop i digits))

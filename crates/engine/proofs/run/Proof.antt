@@ -1,6 +1,5 @@
 -- Too long; refused by an examination; or the tables are filled.
 use denote.Ref.{now}
-use native.Mathlib.Omega.{arith}
 use mathlib.Core.Path.{sym, _∙_}
 use Rattle.engine.proofs.Gate.{too-long-left, examined-left}
 use borrow.Author.Needs.{needs}
@@ -37,6 +36,9 @@ slice-aggregate-examine-image-5 c = search needs
 slice-aggregate-examine-image-6 : tie.Need-slice-aggregate-examine-image-6
 slice-aggregate-examine-image-6 c = search needs
 
+slice-aggregate-examine-image-7 : tie.Need-slice-aggregate-examine-image-7
+slice-aggregate-examine-image-7 c = search needs
+
 examine-image-requires : tie.Need-examine-image-requires
 examine-image-requires c κs = search needs
 
@@ -62,10 +64,19 @@ array-read-run-lent-2 : tie.Need-array-read-run-lent-2
 array-read-run-lent-2 c = search needs
 
 run-lent-requires : tie.Need-run-lent-requires
-run-lent-requires c κs = let e = c .before .before .before .before .before .before .before .before .before .before .before .before .examine-image .ensures in let f = e .filled (c .before .before .before .before .before .enum-told .given .1) in (c .before .before .before .before .before .before .before .before .before .before .before .before .before .before .before .before .before .before .before .before .before .if1 .left, sym (e .answer) ∙ c .before .before .before .before .before .enum-told .given .1, (_, f .tables), f .types, f .terms)
+run-lent-requires c κs =
+    let t = c .before .before .before .before .before .enum-told .given .1 in
+    let n = c .before .before .before .before .before .before .before .before .before .before .before .before .before in
+    let e = n .examine-image .ensures in
+    let f = e .filled t in
+    (n .before .before .before .before .before .before .before .before .before .before .if1 .left, sym (e .answer) ∙ t, (_, f .tables), f .types, f .terms)
 
 returns-2 : tie.Need-returns-2
-returns-2 c = let s = c .before .before .before .before .before .before .before .before .before .before .before .before .before .before .before .before .before .before .before .before .before .before .before .before in examined-left (now (s .args .image)) (now (s .args .frame)) (s .args .budget) (now (s .args .log)) (now (s .args .report)) (now (s .args .work)) (c .before .before .before .before .before .before .before .before .before .before .before .before .before .before .before .before .before .before .if1 .left) _ _ _ (sym (c .before .before .v .given .1) ∙ c .before .before .before .before .before .before .before .before .before .examine-image .ensures .answer) (c .refused2 .ensures)
+returns-2 c =
+    let n = c .before .before .before .before .before .before .before .before .before .before in
+    let i = n .before .before .before .before .before .before .before .before .before .before in
+    let s = i .before .before .before .before .before .before in
+    examined-left (now (s .args .image)) (now (s .args .frame)) (s .args .budget) (now (s .args .log)) (now (s .args .report)) (now (s .args .work)) (i .if1 .left) _ _ _ (sym (c .before .before .v .given .1) ∙ n .examine-image .ensures .answer) (c .refused2 .ensures)
 
 same-length : tie.Need-same-length
 same-length c = search needs
@@ -93,6 +104,7 @@ run-spec =
     slice-aggregate-examine-image-4
     slice-aggregate-examine-image-5
     slice-aggregate-examine-image-6
+    slice-aggregate-examine-image-7
     examine-image-requires
     enum-known-v
     refused-requires-2

@@ -3,11 +3,6 @@ use Rattle.examine.proofs.Passes.{shape-refuses, typing-decides, shaped
 use borrow.Author.Needs.{needs}
 use Rattle.examine.proofs.check_records.Statement.{statement}
 use Rattle.examine.proofs.check_records.Tie as tie
-use Rattle.examine.proofs.check_records.Reads as reads
-use Rattle.examine.proofs.check_records.Lts as lts
-use Rattle.shape.proofs.check_shape.Reads as check-shape-reads
-use Rattle.typing.proofs.check_typing.Reads as check-typing-reads
-use Rattle.verdicts.proofs.is_refused.Reads as is-refused-reads
 
 -- src/lib.rt:26:43
 shared-slice-read-check-typing : tie.Need-shared-slice-read-check-typing

@@ -3,8 +3,6 @@ use mathlib.Core.Path.{refl}
 use borrow.Author.Needs.{needs}
 use Rattle.image.proofs.refusal_number.Statement.{statement}
 use Rattle.image.proofs.refusal_number.Tie as tie
-use Rattle.image.proofs.refusal_number.Reads as reads
-use Rattle.image.proofs.refusal_number.Lts as lts
 
 -- src/lib.rt:32:34
 enum-told : tie.Need-enum-told

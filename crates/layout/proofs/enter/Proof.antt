@@ -54,7 +54,7 @@ abbrev Passed : Type 0
 Passed = lts.After-enum-told claims reads.Pre reads.Post
 
 abbrev start : Known → Start
-start c = c .before .before .before .before .before .before .before .before .before
+start c = c .before .before .before .before .before .before .before .before .before .before
 
 abbrev known-of : Passed → Known
 known-of c = c .before .before .before .before .before
@@ -97,7 +97,7 @@ code-of-requires c κs = search needs
 
 returns : tie.Need-returns
 returns c =
-    let s = c .before .before .before .before .before .before .before .before .before in
+    let s = c .before .before .before .before .before .before .before .before .before .before in
     unknown-entry (s .pre) (sym (c .before .code-of .ensures) ∙ c .if1 .taken)
 
 add-a : tie.Need-add-a
@@ -117,7 +117,7 @@ part-first-fault-end c = let W = whole (start c) in search needs
 
 first-fault-requires : tie.Need-first-fault-requires
 first-fault-requires c κs =
-    let s = c .before .before .before .before .before .before .before .before .before .before .before in
+    let s = c .before .before .before .before .before .before .before .before .before .before .before .before in
     let W = whole s in
     let h = s .pre .short in
     let z = lent-length (now (s .args .image)) (s .args .at) (s .args .len) (W .long) (W .inside) in
@@ -193,16 +193,16 @@ key-of-requires c κs =
 
 put-type-requires : tie.Need-put-type-requires
 put-type-requires c κs =
-    let t = c .before .before .before .before .before .before .before .before in
+    let t = c .before .before .before .before .before .before .before .before .before in
     let x = known-of t in
     let s = start x in
     let W = whole s in
     let h = s .pre .short in
-    let r = type-room (s .pre) (known x) (passes t) (sym (section (c .before .before .before .before .before .before .before)) ∙ c .before .before .before .before .before .if3 .taken) in
+    let r = type-room (s .pre) (known x) (passes t) (sym (section (c .before .before .before .before .before .before .before .before)) ∙ c .before .before .before .before .before .before .if3 .taken) in
     let p = s .pre .tables .sizes .places in
     let d = s .pre .tables .types in
     let k = s .pre .tables .keys in
-    (omega arith, omega arith, omega arith, omega arith)
+    (omega arith, omega arith, omega arith, omega arith, s .pre .noted)
 
 same-length-4 : tie.Need-same-length-4
 same-length-4 c = search needs
@@ -213,13 +213,18 @@ same-length-5 c = search needs
 same-length-6 : tie.Need-same-length-6
 same-length-6 c = search needs
 
+same-length-7 : tie.Need-same-length-7
+same-length-7 c = search needs
+
 returns-4 : tie.Need-returns-4
 returns-4 c =
-    let t = c .before .before .before .before .before .before .before .before .before .before .before .before .before .before .before in
+    let k = c .before .before .before .before .before .before .before .before .before .before .before .before .before in
+    let f = k .before .before in
+    let t = f .before .before .before in
     let x = known-of t in
     let s = start x in
     let a = s .args in
-    type-entry (s .pre) (known x) (passes t) (sym (section (c .before .before .before .before .before .before .before .before .before .before .before .before .before .before)) ∙ c .before .before .before .before .before .before .before .before .before .before .before .before .if3 .taken) (key-of-lent (now (a .image)) (a .at) (a .len) (a .kind) _ _ (x .before .code-of .ensures) (c .before .before .before .before .before .before .before .before .before .before .key-of .ensures)) (c .before .before .before .before .before .before .put-type .ensures)
+    type-entry (s .pre) (known x) (passes t) (sym (section (f .before .before)) ∙ f .if3 .taken) (key-of-lent (now (a .image)) (a .at) (a .len) (a .kind) _ _ (x .before .code-of .ensures) (k .key-of .ensures)) (c .before .before .before .before .before .before .before .before .put-type .ensures)
 
 put-requires-2 : tie.Need-put-requires-2
 put-requires-2 c κs =
@@ -233,11 +238,11 @@ put-requires-2 c κs =
     let d = s .pre .tables .terms in
     (omega arith, omega arith, omega arith)
 
-same-length-7 : tie.Need-same-length-7
-same-length-7 c = search needs
-
 same-length-8 : tie.Need-same-length-8
 same-length-8 c = search needs
+
+same-length-9 : tie.Need-same-length-9
+same-length-9 c = search needs
 
 returns-5 : tie.Need-returns-5
 returns-5 c =
@@ -275,8 +280,9 @@ enter-spec =
     same-length-4
     same-length-5
     same-length-6
+    same-length-7
     returns-4
     put-requires-2
-    same-length-7
     same-length-8
+    same-length-9
     returns-5)

@@ -17,12 +17,12 @@ use Rattle.layout.proofs.enter.Reads as enter-reads
 use Rattle.records.proofs.reader.head_from.Reads as head-from-reads
 
 abbrev Inv-loop : tie.InvT-loop
-Inv-loop image kinds sizes₀ doms₀ types₀ keys₀ terms₀ at₀ sizes doms types keys terms at =
-    Stage image at sizes doms types keys terms
-    × (length sizes ≡ length sizes₀) × (length doms ≡ length doms₀) × (length types ≡ length types₀) × (length keys ≡ length keys₀) × (length terms ≡ length terms₀)
+Inv-loop image kinds sizes₀ doms₀ types₀ keys₀ seen₀ terms₀ at₀ sizes doms types keys seen terms at =
+    Stage image at sizes doms types keys seen terms
+    × (length sizes ≡ length sizes₀) × (length doms ≡ length doms₀) × (length types ≡ length types₀) × (length keys ≡ length keys₀) × (length seen ≡ length seen₀) × (length terms ≡ length terms₀)
 
 abbrev μ-loop : tie.MeasureT-loop
-μ-loop image kinds sizes₀ doms₀ types₀ keys₀ terms₀ at₀ sizes doms types keys terms at = length image - at
+μ-loop image kinds sizes₀ doms₀ types₀ keys₀ seen₀ terms₀ at₀ sizes doms types keys seen terms at = length image - at
 
 abbrev claims : lts.Claims
 claims = (head-from-reads.Asked, head-from-reads.Learnt, enter-reads.Asked, enter-reads.Learnt)
@@ -41,13 +41,13 @@ abbrev Entered : Type 0
 Entered = lts.After-enter claims reads.Pre reads.Post Inv-loop μ-loop
 
 abbrev start-of : Loop → Start
-start-of c = c .before .before .before .before .before .before .before .before
+start-of c = c .before .before .before .before .before .before .before .before .before
 
 abbrev loop-of : Record → Loop
 loop-of c = c .before .before .before .before .before
 
 abbrev record-of : Entered → Record
-record-of c = c .before .before .before .before .before .before
+record-of c = c .before .before .before .before .before .before .before
 
 -- What stands at the record's offset.
 head-at : (c : Record) → headAt (now (start-of (loop-of c) .args .image)) (loop-of c .loop .at) ≡ Head.Record (c .before .head .given .0 .0) (c .before .head .given .0 .1 .0)
@@ -58,7 +58,7 @@ whole : (c : Record) → Whole (now (start-of (loop-of c) .args .image)) (loop-o
 whole c = whole-of (now (start-of (loop-of c) .args .image)) (loop-of c .loop .at) (c .before .head .given .0 .0) (c .before .head .given .0 .1 .0) (head-at c)
 
 loop-holds : tie.Need-loop-holds Inv-loop μ-loop
-loop-holds c = let s = c .before .before .before .before .before .before .before in (start (s .pre), refl, refl, refl, refl, refl)
+loop-holds c = let s = c .before .before .before .before .before .before .before .before in (start (s .pre), refl, refl, refl, refl, refl, refl)
 
 head-from-requires : tie.Need-head-from-requires Inv-loop μ-loop
 head-from-requires c κs = search needs
@@ -68,10 +68,10 @@ enum-known-head c = search needs
 
 enter-requires : tie.Need-enter-requires Inv-loop μ-loop
 enter-requires c κs =
-    let x = c .before .before .before .before .before in
+    let x = c .before .before .before .before .before .before in
     let l = loop-of x in
     let s = start-of l in
-    record { head = head-at x; short = s .pre .short; codes = s .pre .codes; tables = l .loop .inv .0 .tables }
+    record { head = head-at x; short = s .pre .short; codes = s .pre .codes; tables = l .loop .inv .0 .tables; noted = l .loop .inv .0 .noted }
 
 enum-known-entered : tie.Need-enum-known-entered Inv-loop μ-loop
 enum-known-entered c = search needs
@@ -91,9 +91,12 @@ same-length-4 c = search needs
 same-length-5 : tie.Need-same-length-5 Inv-loop μ-loop
 same-length-5 c = search needs
 
+same-length-6 : tie.Need-same-length-6 Inv-loop μ-loop
+same-length-6 c = search needs
+
 returns : tie.Need-returns Inv-loop μ-loop
 returns c =
-    let e = c .before .before .before .before .before .before .before .before .before .before .before .before .before in
+    let e = c .before .before .before .before .before .before .before .before .before .before .before .before .before .before .before in
     refuses (loop-of (record-of e) .loop .inv .0) (search needs) (e .enter .ensures) (c .before .entered .given .1)
 
 enum-told : tie.Need-enum-told Inv-loop μ-loop
@@ -101,25 +104,22 @@ enum-told c = search needs
 
 add-at : tie.Need-add-at Inv-loop μ-loop
 add-at c =
-    let x = record-of (c .before .before .before .before .before .before .before .before .before .before .before .before) in
+    let x = record-of (c .before .before .before .before .before .before .before .before .before .before .before .before .before .before) in
     let W = whole x in
     let h = start-of (loop-of x) .pre .short in
     record { fits = omega arith }
 
 loop-less : tie.Need-loop-less Inv-loop μ-loop
-loop-less c = let W = whole (record-of (c .before .before .before .before .before .before .before .before .before .before .before .before)) in omega arith
+loop-less c = let W = whole (record-of (c .before .before .before .before .before .before .before .before .before .before .before .before .before .before)) in omega arith
 
 loop-again : tie.Need-loop-again Inv-loop μ-loop
 loop-again c =
-    let e = c .before .before .before .before .before .before .before .before .before .before .before .before in
+    let e = c .before .before .before .before .before .before .before .before .before .before .before .before .before .before in
     let x = record-of e in
-    (goes-on (loop-of x .loop .inv .0) (search needs) (e .enter .ensures) (c .enum-told .given .1) (head-at x), search needs, search needs, search needs, search needs, search needs)
+    (goes-on (loop-of x .loop .inv .0) (search needs) (e .enter .ensures) (c .enum-told .given .1) (head-at x), search needs, search needs, search needs, search needs, search needs, search needs)
 
 enum-known-head-2 : tie.Need-enum-known-head-2 Inv-loop μ-loop
 enum-known-head-2 c = search needs
-
-same-length-6 : tie.Need-same-length-6 Inv-loop μ-loop
-same-length-6 c = search needs
 
 same-length-7 : tie.Need-same-length-7 Inv-loop μ-loop
 same-length-7 c = search needs
@@ -133,17 +133,17 @@ same-length-9 c = search needs
 same-length-10 : tie.Need-same-length-10 Inv-loop μ-loop
 same-length-10 c = search needs
 
-returns-2 : tie.Need-returns-2 Inv-loop μ-loop
-returns-2 c = stops (c .before .before .before .before .before .loop .inv .0) (search needs) (sym (c .before .before .before .head-from .ensures) ∙ c .before .head2 .given .1)
-
-enum-told-2 : tie.Need-enum-told-2 Inv-loop μ-loop
-enum-told-2 c = search needs
-
 same-length-11 : tie.Need-same-length-11 Inv-loop μ-loop
 same-length-11 c = search needs
 
 same-length-12 : tie.Need-same-length-12 Inv-loop μ-loop
 same-length-12 c = search needs
+
+returns-2 : tie.Need-returns-2 Inv-loop μ-loop
+returns-2 c = stops (c .before .before .before .before .before .loop .inv .0) (search needs) (sym (c .before .before .before .head-from .ensures) ∙ c .before .head2 .given .1)
+
+enum-told-2 : tie.Need-enum-told-2 Inv-loop μ-loop
+enum-told-2 c = search needs
 
 same-length-13 : tie.Need-same-length-13 Inv-loop μ-loop
 same-length-13 c = search needs
@@ -154,11 +154,6 @@ same-length-14 c = search needs
 same-length-15 : tie.Need-same-length-15 Inv-loop μ-loop
 same-length-15 c = search needs
 
-returns-3 : tie.Need-returns-3 Inv-loop μ-loop
-returns-3 c =
-    let l = c .before .before .before .before in
-    ends (l .loop .inv .0) (end-of (now (start-of l .args .image)) (l .loop .at) (sym (c .before .before .head-from .ensures) ∙ c .enum-told2 .given .1))
-
 same-length-16 : tie.Need-same-length-16 Inv-loop μ-loop
 same-length-16 c = search needs
 
@@ -168,11 +163,28 @@ same-length-17 c = search needs
 same-length-18 : tie.Need-same-length-18 Inv-loop μ-loop
 same-length-18 c = search needs
 
+returns-3 : tie.Need-returns-3 Inv-loop μ-loop
+returns-3 c =
+    let l = c .before .before .before .before in
+    ends (l .loop .inv .0) (end-of (now (start-of l .args .image)) (l .loop .at) (sym (c .before .before .head-from .ensures) ∙ c .enum-told2 .given .1))
+
 same-length-19 : tie.Need-same-length-19 Inv-loop μ-loop
 same-length-19 c = search needs
 
 same-length-20 : tie.Need-same-length-20 Inv-loop μ-loop
 same-length-20 c = search needs
+
+same-length-21 : tie.Need-same-length-21 Inv-loop μ-loop
+same-length-21 c = search needs
+
+same-length-22 : tie.Need-same-length-22 Inv-loop μ-loop
+same-length-22 c = search needs
+
+same-length-23 : tie.Need-same-length-23 Inv-loop μ-loop
+same-length-23 c = search needs
+
+same-length-24 : tie.Need-same-length-24 Inv-loop μ-loop
+same-length-24 c = search needs
 
 returns-4 : tie.Need-returns-4 Inv-loop μ-loop
 returns-4 c = ends (c .before .loop .inv .0) (search needs)
@@ -193,28 +205,32 @@ scan-records-spec =
     same-length-3
     same-length-4
     same-length-5
+    same-length-6
     returns
     enum-told
     add-at
     loop-less
     loop-again
     enum-known-head-2
-    same-length-6
     same-length-7
     same-length-8
     same-length-9
     same-length-10
-    returns-2
-    enum-told-2
     same-length-11
     same-length-12
+    returns-2
+    enum-told-2
     same-length-13
     same-length-14
     same-length-15
-    returns-3
     same-length-16
     same-length-17
     same-length-18
+    returns-3
     same-length-19
     same-length-20
+    same-length-21
+    same-length-22
+    same-length-23
+    same-length-24
     returns-4)

@@ -2,7 +2,7 @@
 use borrow.Author.Needs.{needs}
 use mathlib.Core.Path.{ap, sym, _∙_}
 use Rattle.verdicts.specs.Answers.{isRefused}
-use Rattle.shape.proofs.Answers.{turn-stops, turn-goes}
+use Rattle.verdicts.proofs.Answered.{turn-stops, turn-goes}
 use Rattle.shape.proofs.check_passes.Statement.{statement}
 use Rattle.shape.proofs.check_passes.Tie as tie
 

@@ -7,8 +7,6 @@ use Rattle.sheet.proofs.Frame.{frame-more, frame-all}
 use borrow.Author.Needs.{needs}
 use Rattle.sheet.proofs.frame_bytes.Statement.{statement}
 use Rattle.sheet.proofs.frame_bytes.Tie as tie
-use Rattle.sheet.proofs.frame_bytes.Reads as reads
-use Rattle.sheet.proofs.frame_bytes.Lts as lts
 
 abbrev Inv-loop : tie.InvT-loop
 Inv-loop frame₀ i₀ frame i = (i ≤ 256) × (length frame ≡ 256) × (take i frame ≡ upTo i)

@@ -6,8 +6,6 @@ use lib.Seq.{take-all}
 use borrow.Author.Needs.{needs}
 use Rattle.sheet.proofs.front.Statement.{statement}
 use Rattle.sheet.proofs.front.Tie as tie
-use Rattle.sheet.proofs.front.Reads as reads
-use Rattle.sheet.proofs.front.Lts as lts
 
 -- src/lib.rt:46:16
 sub-result : tie.Need-sub-result

@@ -2,10 +2,6 @@ use borrow.Author.Needs.{needs}
 use Prim.Native.Nat.{_-_, _<_}
 use Rattle.validate_all.proofs.main.Statement.{statement}
 use Rattle.validate_all.proofs.main.Tie as tie
-use Rattle.validate_all.proofs.main.Reads as reads
-use Rattle.validate_all.proofs.main.Lts as lts
-use Rattle.os.proofs.arg_count.Reads as arg-count-reads
-use Rattle.validate_all.proofs.validate_arg.Reads as validate-arg-reads
 
 abbrev Inv-loop : tie.InvT-loop
 Inv-loop n i₀ i = 0 < i

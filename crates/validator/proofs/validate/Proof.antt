@@ -3,10 +3,6 @@ use Rattle.validator.proofs.Parts.{too-long, examined-refuses, short-wo
 use borrow.Author.Needs.{needs}
 use Rattle.validator.proofs.validate.Statement.{statement}
 use Rattle.validator.proofs.validate.Tie as tie
-use Rattle.validator.proofs.validate.Reads as reads
-use Rattle.validator.proofs.validate.Lts as lts
-use Rattle.verdicts.proofs.is_refused.Reads as is-refused-reads
-use Rattle.validator.proofs.examine_whole.Reads as examine-whole-reads
 
 -- src/lib.rt:31:9
 returns : tie.Need-returns

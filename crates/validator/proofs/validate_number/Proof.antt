@@ -3,10 +3,6 @@ use mathlib.Core.Path.{ap, _∙_}
 use Rattle.validator.specs.Numbers.{verdictNumber}
 use Rattle.validator.proofs.validate_number.Statement.{statement}
 use Rattle.validator.proofs.validate_number.Tie as tie
-use Rattle.validator.proofs.validate_number.Reads as reads
-use Rattle.validator.proofs.validate_number.Lts as lts
-use Rattle.validator.proofs.validate.Reads as validate-reads
-use Rattle.validator.proofs.verdict_number.Reads as verdict-number-reads
 
 -- src/lib.rt:79:20
 validate-requires : tie.Need-validate-requires

@@ -3,10 +3,6 @@ use mathlib.Core.Path.{ap, _∙_}
 use Rattle.validator.specs.Numbers.{verdictPlace}
 use Rattle.validator.proofs.validate_place.Statement.{statement}
 use Rattle.validator.proofs.validate_place.Tie as tie
-use Rattle.validator.proofs.validate_place.Reads as reads
-use Rattle.validator.proofs.validate_place.Lts as lts
-use Rattle.validator.proofs.validate.Reads as validate-reads
-use Rattle.validator.proofs.verdict_place.Reads as verdict-place-reads
 
 -- src/lib.rt:86:19
 validate-requires : tie.Need-validate-requires

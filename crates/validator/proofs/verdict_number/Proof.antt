@@ -1,9 +1,6 @@
 use borrow.Author.Needs.{needs}
 use Rattle.validator.proofs.verdict_number.Statement.{statement}
 use Rattle.validator.proofs.verdict_number.Tie as tie
-use Rattle.validator.proofs.verdict_number.Reads as reads
-use Rattle.validator.proofs.verdict_number.Lts as lts
-use Rattle.image.proofs.refusal_number.Reads as refusal-number-reads
 
 -- src/lib.rt:60:30
 enum-told : tie.Need-enum-told

@@ -2,8 +2,6 @@ use borrow.Author.Needs.{needs}
 use mathlib.Core.Path.{refl}
 use Rattle.validator.proofs.verdict_place.Statement.{statement}
 use Rattle.validator.proofs.verdict_place.Tie as tie
-use Rattle.validator.proofs.verdict_place.Reads as reads
-use Rattle.validator.proofs.verdict_place.Lts as lts
 
 -- src/lib.rt:69:30
 enum-told : tie.Need-enum-told

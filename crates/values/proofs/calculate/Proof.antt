@@ -1,14 +1,8 @@
 use Rattle.values.proofs.Chosen.{first-no, second-no, both-numbers}
-use mathlib.Core.Path.{sym, ap, _∙_}
+use mathlib.Core.Path.{sym, _∙_}
 use borrow.Author.Needs.{needs}
 use Rattle.values.proofs.calculate.Statement.{statement}
 use Rattle.values.proofs.calculate.Tie as tie
-use Rattle.values.proofs.calculate.Reads as reads
-use Rattle.values.proofs.calculate.Lts as lts
-use Rattle.values.proofs.body.Reads as body-reads
-use Rattle.values.proofs.no_value.Reads as no-value-reads
-use Rattle.values.proofs.operate.Reads as operate-reads
-use Rattle.values.proofs.tag.Reads as tag-reads
 
 -- src/lib.rt:114:8
 tag-requires : tie.Need-tag-requires

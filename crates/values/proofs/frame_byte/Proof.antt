@@ -1,13 +1,9 @@
 use lib.Dec.{lit<}
 use borrow.Author.Tests.{lt-ltb, le-ltb}
-use mathlib.Core.Path.{sym, ap, _∙_}
-use native.Mathlib.Omega.{arith}
+use mathlib.Core.Path.{_∙_}
 use borrow.Author.Needs.{needs}
 use Rattle.values.proofs.frame_byte.Statement.{statement}
 use Rattle.values.proofs.frame_byte.Tie as tie
-use Rattle.values.proofs.frame_byte.Reads as reads
-use Rattle.values.proofs.frame_byte.Lts as lts
-use Rattle.values.proofs.wide.Reads as wide-reads
 
 -- src/lib.rt:136:25
 shared-slice-read-wide : tie.Need-shared-slice-read-wide

@@ -1,9 +1,6 @@
 use borrow.Author.Needs.{needs}
 use Rattle.values.proofs.less.Statement.{statement}
 use Rattle.values.proofs.less.Tie as tie
-use Rattle.values.proofs.less.Reads as reads
-use Rattle.values.proofs.less.Lts as lts
-use Rattle.values.proofs.flipped.Reads as flipped-reads
 
 -- src/lib.rt:94:5
 flipped-requires : tie.Need-flipped-requires

@@ -4,13 +4,6 @@ use mathlib.Core.Path.{sym, ap, _∙_}
 use borrow.Author.Needs.{needs}
 use Rattle.values.proofs.operate.Statement.{statement}
 use Rattle.values.proofs.operate.Tie as tie
-use Rattle.values.proofs.operate.Reads as reads
-use Rattle.values.proofs.operate.Lts as lts
-use Rattle.values.proofs.difference.Reads as difference-reads
-use Rattle.values.proofs.less.Reads as less-reads
-use Rattle.values.proofs.number.Reads as number-reads
-use Rattle.values.proofs.sum.Reads as sum-reads
-use Rattle.values.proofs.truth.Reads as truth-reads
 
 -- src/lib.rt:103:21
 sum-requires : tie.Need-sum-requires

@@ -4,13 +4,6 @@ use mathlib.Core.Path.{sym, ap, _∙_}
 use borrow.Author.Needs.{needs}
 use Rattle.values.proofs.read_byte.Statement.{statement}
 use Rattle.values.proofs.read_byte.Tie as tie
-use Rattle.values.proofs.read_byte.Reads as reads
-use Rattle.values.proofs.read_byte.Lts as lts
-use Rattle.values.proofs.body.Reads as body-reads
-use Rattle.values.proofs.frame_byte.Reads as frame-byte-reads
-use Rattle.values.proofs.no_value.Reads as no-value-reads
-use Rattle.values.proofs.number.Reads as number-reads
-use Rattle.values.proofs.tag.Reads as tag-reads
 
 -- src/lib.rt:146:8
 tag-requires : tie.Need-tag-requires

@@ -1,8 +1,5 @@
-use borrow.Author.Needs.{needs}
 use Rattle.values.proofs.truth.Statement.{statement}
 use Rattle.values.proofs.truth.Tie as tie
-use Rattle.values.proofs.truth.Reads as reads
-use Rattle.values.proofs.truth.Lts as lts
 
 -- src/lib.rt:53:1
 returns : tie.Need-returns

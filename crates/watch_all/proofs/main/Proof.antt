@@ -2,10 +2,6 @@ use Prim.Native.Nat.{_-_, _<_}
 use borrow.Author.Needs.{needs}
 use Rattle.watch_all.proofs.main.Statement.{statement}
 use Rattle.watch_all.proofs.main.Tie as tie
-use Rattle.watch_all.proofs.main.Reads as reads
-use Rattle.watch_all.proofs.main.Lts as lts
-use Rattle.listings.proofs.watch_arg.Reads as watch-arg-reads
-use Rattle.os.proofs.arg_count.Reads as arg-count-reads
 
 abbrev Inv-loop : tie.InvT-loop
 Inv-loop n i₀ i = 0 < i

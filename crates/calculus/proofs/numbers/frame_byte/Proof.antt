@@ -3,9 +3,6 @@ use borrow.Author.Tests.{lt-ltb, le-ltb}
 use mathlib.Core.Path.{_∙_}
 use Rattle.calculus.proofs.numbers.frame_byte.Statement.{statement}
 use Rattle.calculus.proofs.numbers.frame_byte.Tie as tie
-use Rattle.calculus.proofs.numbers.frame_byte.Reads as reads
-use Rattle.calculus.proofs.numbers.frame_byte.Lts as lts
-use Rattle.calculus.proofs.numbers.wide.Reads as wide-reads
 
 -- src/numbers.rt:48:25
 shared-slice-read-wide : tie.Need-shared-slice-read-wide

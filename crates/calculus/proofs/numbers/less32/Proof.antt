@@ -1,9 +1,6 @@
 use borrow.Author.Needs.{needs}
 use Rattle.calculus.proofs.numbers.less32.Statement.{statement}
 use Rattle.calculus.proofs.numbers.less32.Tie as tie
-use Rattle.calculus.proofs.numbers.less32.Reads as reads
-use Rattle.calculus.proofs.numbers.less32.Lts as lts
-use Rattle.std.proofs.num.wrapping_add_u32.Reads as wrapping-add-u32-reads
 
 -- src/numbers.rt:26:5
 wrapping-add-u32-requires : tie.Need-wrapping-add-u32-requires

@@ -42,7 +42,10 @@ same-length : tie.Need-same-length
 same-length c = search needs
 
 returns : tie.Need-returns
-returns c = let a = c .before .before .before .before .before .before .before .before .before .before .before .before .args in body-run (now (a .work)) _ (a .r) (c .before .before .before .same .result) (a .a) (a .b) _ _ (search needs) (search needs) (c .before .before .before .same .ensures) (c .before .advice-dom .ensures) (c .advice-term .ensures) (c .before .before .before .before .before .before .put-frame .ensures)
+returns c =
+    let a = c .before .before .before .before .before .before .before .before .before .before .before .args in
+    body-run (now (a .work)) _ (a .r) (c .before .before .before .same .result) (a .a) (a .p) _ _ (search needs) (search needs) (c .before .before .before .same .ensures) (c .before .advice-dom .ensures) (c .advice-term .ensures)
+    (c .before .before .before .before .before .before .put-frame .ensures)
 
 pub run-body-spec : {M : Type 1} → statement M
 run-body-spec =

@@ -9,7 +9,9 @@ halt-requires : tie.Need-halt-requires
 halt-requires c κs = search needs
 
 returns : tie.Need-returns
-returns c = let a = c .before .before .before .before .before .args in λ image. all-done (now (a .rows)) image (now (a .work)) (a .r) _ (c .before .if1 .taken) (c .halt .ensures)
+returns c =
+    let a = c .before .before .before .before .before .args in
+    λ image. all-done (now (a .rows)) image (now (a .work)) (a .r) _ (c .before .if1 .taken) (c .halt .ensures)
 
 sub-frame-at : tie.Need-sub-frame-at
 sub-frame-at c = search needs
@@ -23,20 +25,35 @@ frame-kind-requires c κs = search needs
 leave-advice-requires : tie.Need-leave-advice-requires
 leave-advice-requires c κs = search needs
 
+same-length : tie.Need-same-length
+same-length c = search needs
+
 returns-2 : tie.Need-returns-2
-returns-2 c = let a = c .before .before .before .before .before .before .before .before .before .args in λ image. advice-came (now (a .rows)) image (now (a .work)) (a .r) _ _ _ (c .before .before .before .before .before .if1 .left) (c .before .before .before .frame-at .ensures) (c .before .before .frame-kind .ensures) (c .before .if2 .taken) (c .leave-advice .ensures)
+returns-2 c =
+    let a = c .before .before .before .before .before .before .before .before .before .before .before .before .before .args in
+    λ image. advice-came (now (a .rows)) image (now (a .work)) (a .r) _ _ _ (c .before .before .before .before .before .before .before .before .before .if1 .left) (c .before .before .before .before .before .before .frame-at .ensures) (c .before .before .before .before .before .frame-kind .ensures) _ (c .before .before .before .before .if2 .taken) (c .before .before .leave-advice .ensures image)
 
 resume-labels-requires : tie.Need-resume-labels-requires
 resume-labels-requires c κs = search needs
 
+same-length-2 : tie.Need-same-length-2
+same-length-2 c = search needs
+
 returns-3 : tie.Need-returns-3
-returns-3 c = let a = c .before .before .before .before .before .before .before .before .before .before .args in λ image. label-came (now (a .rows)) image (now (a .work)) (a .r) _ _ _ (c .before .before .before .before .before .before .if1 .left) (c .before .before .before .before .frame-at .ensures) (c .before .before .before .frame-kind .ensures) (c .before .before .if2 .left) (c .before .if3 .taken) (c .resume-labels .ensures)
+returns-3 c =
+    let a = c .before .before .before .before .before .before .before .before .before .before .before .before .args in
+    λ image. label-came (now (a .rows)) image (now (a .work)) (a .r) _ _ _ (c .before .before .before .before .before .before .before .before .if1 .left) (c .before .before .before .before .before .frame-at .ensures) (c .before .before .before .before .frame-kind .ensures) (c .before .before .before .if2 .left) (c .before .before .if3 .taken) (c .resume-labels .ensures)
 
 resume-operand-requires : tie.Need-resume-operand-requires
 resume-operand-requires c κs = search needs
 
+same-length-3 : tie.Need-same-length-3
+same-length-3 c = search needs
+
 returns-4 : tie.Need-returns-4
-returns-4 c = let a = c .before .before .before .before .before .before .before .before .before .before .args in λ image. operand-came (now (a .rows)) image (now (a .work)) (a .r) _ _ _ (c .before .before .before .before .before .before .if1 .left) (c .before .before .before .before .frame-at .ensures) (c .before .before .before .frame-kind .ensures) (c .before .before .if2 .left) (c .before .if3 .left) (c .resume-operand .ensures image)
+returns-4 c =
+    let a = c .before .before .before .before .before .before .before .before .before .before .before .args in
+    λ image. operand-came (now (a .rows)) image (now (a .work)) (a .r) _ _ _ (c .before .before .before .before .before .before .before .if1 .left) (c .before .before .before .before .frame-at .ensures) (c .before .before .before .frame-kind .ensures) (c .before .before .if2 .left) (c .before .if3 .left) (c .resume-operand .ensures image)
 
 pub resume-spec : {M : Type 1} → statement M
 resume-spec =
@@ -48,8 +65,11 @@ resume-spec =
     frame-at-requires
     frame-kind-requires
     leave-advice-requires
+    same-length
     returns-2
     resume-labels-requires
+    same-length-2
     returns-3
     resume-operand-requires
+    same-length-3
     returns-4)

@@ -3,7 +3,6 @@ use Rattle.reductions.proofs.Reduced.{full-made, room-made, label-fits}
 use Rattle.operands.proofs.Made.{regs-made}
 use Rattle.flat.specs.States.{State, give}
 use lib.Dec.{ltb}
-use Rattle.flat.specs.declared.Regs.{Regs}
 use Rattle.flat.specs.Registers.{setNl}
 use Rattle.calculus.specs.declared.Outcome.{Outcome}
 use borrow.Author.Tests.{lt-ltb, le-ltb}

@@ -1,8 +1,6 @@
 -- Two bindings, one after the other.
 use Rattle.reductions.proofs.Reduced.{parts-made}
 use denote.Ref.{now}
-use mathlib.Core.Path.{ap, _∙_}
-use Prim.Native.Nat.{ℕ, _+_}
 use borrow.Author.Needs.{needs}
 use Rattle.reductions.proofs.stores.bind_parts.Statement.{statement}
 use Rattle.reductions.proofs.stores.bind_parts.Tie as tie

@@ -9,11 +9,10 @@ use Rattle.flat.specs.Registers.{setEnv, setNb}
 use Rattle.flat.specs.declared.Regs.{Regs}
 use Rattle.calculus.specs.declared.Outcome.{Outcome}
 use denote.Ref.{now}
-use native.Mathlib.Omega.{arith}
 use borrow.Author.Tests.{le-leb, lt-leb}
 use lib.Dec.{leb}
 use mathlib.Core.Path.{refl, ap, subst, _∙_}
-use Prim.Native.Nat.{ℕ, _+_, _/_, _%_}
+use Prim.Native.Nat.{ℕ, _+_}
 use borrow.Author.Needs.{needs}
 use Rattle.reductions.proofs.stores.reduce_split.Statement.{statement}
 use Rattle.reductions.proofs.stores.reduce_split.Tie as tie

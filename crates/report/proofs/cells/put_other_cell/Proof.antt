@@ -8,10 +8,6 @@ use Rattle.report.specs.Written.{otherCellKind}
 use borrow.Author.Needs.{needs}
 use Rattle.report.proofs.cells.put_other_cell.Statement.{statement}
 use Rattle.report.proofs.cells.put_other_cell.Tie as tie
-use Rattle.report.proofs.cells.put_other_cell.Reads as reads
-use Rattle.report.proofs.cells.put_other_cell.Lts as lts
-use Rattle.report.proofs.numbers.put16.Reads as put16-reads
-use Rattle.report.proofs.numbers.put_header.Reads as put-header-reads
 
 put-header-requires : tie.Need-put-header-requires
 put-header-requires c κs = search needs

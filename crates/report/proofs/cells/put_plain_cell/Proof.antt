@@ -11,11 +11,6 @@ use Rattle.report.proofs.Put.{header-last}
 use borrow.Author.Needs.{needs}
 use Rattle.report.proofs.cells.put_plain_cell.Statement.{statement}
 use Rattle.report.proofs.cells.put_plain_cell.Tie as tie
-use Rattle.report.proofs.cells.put_plain_cell.Reads as reads
-use Rattle.report.proofs.cells.put_plain_cell.Lts as lts
-use Rattle.report.proofs.leaves.put_leaves.Reads as put-leaves-reads
-use Rattle.report.proofs.numbers.put16.Reads as put16-reads
-use Rattle.report.proofs.numbers.put_header.Reads as put-header-reads
 
 add-put-leaves : tie.Need-add-put-leaves
 add-put-leaves c = search needs

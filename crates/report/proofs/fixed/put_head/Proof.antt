@@ -9,12 +9,6 @@ use Rattle.report.specs.Written.{reportKind}
 use borrow.Author.Needs.{needs}
 use Rattle.report.proofs.fixed.put_head.Statement.{statement}
 use Rattle.report.proofs.fixed.put_head.Tie as tie
-use Rattle.report.proofs.fixed.put_head.Reads as reads
-use Rattle.report.proofs.fixed.put_head.Lts as lts
-use Rattle.calculus.proofs.outcome_number.Reads as outcome-number-reads
-use Rattle.report.proofs.numbers.put16.Reads as put16-reads
-use Rattle.report.proofs.numbers.put32.Reads as put32-reads
-use Rattle.report.proofs.numbers.put_header.Reads as put-header-reads
 
 put-header-requires : tie.Need-put-header-requires
 put-header-requires c κs = search needs

@@ -8,11 +8,6 @@ use Rattle.area.specs.Records.{bytes16, bytes32, logKind}
 use borrow.Author.Needs.{needs}
 use Rattle.report.proofs.fixed.put_log.Statement.{statement}
 use Rattle.report.proofs.fixed.put_log.Tie as tie
-use Rattle.report.proofs.fixed.put_log.Reads as reads
-use Rattle.report.proofs.fixed.put_log.Lts as lts
-use Rattle.report.proofs.numbers.put16.Reads as put16-reads
-use Rattle.report.proofs.numbers.put32.Reads as put32-reads
-use Rattle.report.proofs.numbers.put_header.Reads as put-header-reads
 
 put-header-requires : tie.Need-put-header-requires
 put-header-requires c κs = search needs

@@ -8,12 +8,6 @@ use Rattle.report.proofs.Put.{record-written}
 use borrow.Author.Needs.{needs}
 use Rattle.report.proofs.leaves.put_leaf.Statement.{statement}
 use Rattle.report.proofs.leaves.put_leaf.Tie as tie
-use Rattle.report.proofs.leaves.put_leaf.Reads as reads
-use Rattle.report.proofs.leaves.put_leaf.Lts as lts
-use Rattle.report.proofs.leaves.bit.Reads as bit-reads
-use Rattle.report.proofs.numbers.put16.Reads as put16-reads
-use Rattle.report.proofs.numbers.put32.Reads as put32-reads
-use Rattle.report.proofs.numbers.put_header.Reads as put-header-reads
 
 enum-told : tie.Need-enum-told
 enum-told c = search needs

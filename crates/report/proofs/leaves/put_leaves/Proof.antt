@@ -11,9 +11,6 @@ use Rattle.report.proofs.Put.{leaves-step}
 use borrow.Author.Needs.{needs}
 use Rattle.report.proofs.leaves.put_leaves.Statement.{statement}
 use Rattle.report.proofs.leaves.put_leaves.Tie as tie
-use Rattle.report.proofs.leaves.put_leaves.Reads as reads
-use Rattle.report.proofs.leaves.put_leaves.Lts as lts
-use Rattle.report.proofs.leaves.put_leaf.Reads as put-leaf-reads
 
 abbrev Inv-loop : tie.InvT-loop
 Inv-loop report₀ at count slots o₀ i₀ report o i =

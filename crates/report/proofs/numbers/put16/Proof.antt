@@ -6,8 +6,6 @@ use Rattle.area.proofs.Bytes.{bytes2, stores, stores-over}
 use borrow.Author.Needs.{needs}
 use Rattle.report.proofs.numbers.put16.Statement.{statement}
 use Rattle.report.proofs.numbers.put16.Tie as tie
-use Rattle.report.proofs.numbers.put16.Reads as reads
-use Rattle.report.proofs.numbers.put16.Lts as lts
 
 cast-out : tie.Need-cast-out
 cast-out c = search needs

@@ -6,8 +6,6 @@ use Rattle.area.proofs.Bytes.{bytes4, stores, stores-over}
 use borrow.Author.Needs.{needs}
 use Rattle.report.proofs.numbers.put32.Statement.{statement}
 use Rattle.report.proofs.numbers.put32.Tie as tie
-use Rattle.report.proofs.numbers.put32.Reads as reads
-use Rattle.report.proofs.numbers.put32.Lts as lts
 
 cast-out : tie.Need-cast-out
 cast-out c = search needs

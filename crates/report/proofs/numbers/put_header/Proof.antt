@@ -8,9 +8,6 @@ use Rattle.area.specs.Records.{bytes16}
 use borrow.Author.Needs.{needs}
 use Rattle.report.proofs.numbers.put_header.Statement.{statement}
 use Rattle.report.proofs.numbers.put_header.Tie as tie
-use Rattle.report.proofs.numbers.put_header.Reads as reads
-use Rattle.report.proofs.numbers.put_header.Lts as lts
-use Rattle.report.proofs.numbers.put16.Reads as put16-reads
 
 put16-requires : tie.Need-put16-requires
 put16-requires c κs = search needs

@@ -7,13 +7,6 @@ use Rattle.results.proofs.CellRecords.{cell-written, other-cell, plain-
 use borrow.Author.Needs.{needs}
 use Rattle.results.proofs.cells.put_cell.Statement.{statement}
 use Rattle.results.proofs.cells.put_cell.Tie as tie
-use Rattle.results.proofs.cells.put_cell.Reads as reads
-use Rattle.results.proofs.cells.put_cell.Lts as lts
-use Rattle.report.proofs.cells.put_other_cell.Reads as put-other-cell-reads
-use Rattle.report.proofs.cells.put_plain_cell.Reads as put-plain-cell-reads
-use Rattle.results.proofs.leaves.plain_leaves.Reads as plain-leaves-reads
-use Rattle.tables.proofs.cells.cell_at.Reads as cell-at-reads
-use Rattle.tables.proofs.cells.cell_note.Reads as cell-note-reads
 
 cell-at-requires : tie.Need-cell-at-requires
 cell-at-requires c κs = search needs

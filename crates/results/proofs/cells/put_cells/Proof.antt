@@ -11,9 +11,6 @@ use Rattle.results.proofs.CellRecords.{no-cells, cells-step}
 use borrow.Author.Needs.{needs}
 use Rattle.results.proofs.cells.put_cells.Statement.{statement}
 use Rattle.results.proofs.cells.put_cells.Tie as tie
-use Rattle.results.proofs.cells.put_cells.Reads as reads
-use Rattle.results.proofs.cells.put_cells.Lts as lts
-use Rattle.results.proofs.cells.put_cell.Reads as put-cell-reads
 
 abbrev Inv-loop : tie.InvT-loop
 Inv-loop report₀ at work n o₀ i₀ report o i =

@@ -6,10 +6,6 @@ use Rattle.results.proofs.Gathering.{leaf-unit, leaf-truth, leaf-number
 use borrow.Author.Needs.{needs}
 use Rattle.results.proofs.leaves.leaf_of.Statement.{statement}
 use Rattle.results.proofs.leaves.leaf_of.Tie as tie
-use Rattle.results.proofs.leaves.leaf_of.Reads as reads
-use Rattle.results.proofs.leaves.leaf_of.Lts as lts
-use Rattle.values.proofs.body.Reads as body-reads
-use Rattle.values.proofs.tag.Reads as tag-reads
 
 tag-requires : tie.Need-tag-requires
 tag-requires c κs = search needs

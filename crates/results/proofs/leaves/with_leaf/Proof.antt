@@ -3,8 +3,6 @@ use Rattle.results.proofs.Gathering.{leaf-added, leaf-left-out}
 use borrow.Author.Needs.{needs}
 use Rattle.results.proofs.leaves.with_leaf.Statement.{statement}
 use Rattle.results.proofs.leaves.with_leaf.Tie as tie
-use Rattle.results.proofs.leaves.with_leaf.Reads as reads
-use Rattle.results.proofs.leaves.with_leaf.Lts as lts
 
 returns : tie.Need-returns
 returns c = sym (leaf-left-out (c .before .args .held) _ (c .if1 .taken))

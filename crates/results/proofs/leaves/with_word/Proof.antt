@@ -4,11 +4,6 @@ use Rattle.results.proofs.Gathering.{word-none, word-leaf}
 use borrow.Author.Needs.{needs}
 use Rattle.results.proofs.leaves.with_word.Statement.{statement}
 use Rattle.results.proofs.leaves.with_word.Tie as tie
-use Rattle.results.proofs.leaves.with_word.Reads as reads
-use Rattle.results.proofs.leaves.with_word.Lts as lts
-use Rattle.results.proofs.leaves.leaf_of.Reads as leaf-of-reads
-use Rattle.results.proofs.leaves.with_leaf.Reads as with-leaf-reads
-use Rattle.values.proofs.tag.Reads as tag-reads
 
 tag-requires : tie.Need-tag-requires
 tag-requires c κs = search needs

@@ -1,8 +1,6 @@
 use borrow.Author.Tests.{ne-eqb}
 use Rattle.results.proofs.reports.outcome_with.Statement.{statement}
 use Rattle.results.proofs.reports.outcome_with.Tie as tie
-use Rattle.results.proofs.reports.outcome_with.Reads as reads
-use Rattle.results.proofs.reports.outcome_with.Lts as lts
 
 returns : tie.Need-returns
 returns c = rw (c .match .keys1)

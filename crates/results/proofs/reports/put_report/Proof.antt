@@ -4,17 +4,10 @@ use denote.Ref.{now}
 use Rattle.tables.specs.View.{memoryOf}
 use Rattle.results.specs.Ended.{resultIn}
 use Rattle.results.proofs.Gathering.{gathered-few}
-use Rattle.results.proofs.WholeReport.{result-few, reported}
+use Rattle.results.proofs.WholeReport.{result-few, reported, one-leaf-reported}
 use borrow.Author.Needs.{needs}
 use Rattle.results.proofs.reports.put_report.Statement.{statement}
 use Rattle.results.proofs.reports.put_report.Tie as tie
-use Rattle.results.proofs.reports.put_report.Reads as reads
-use Rattle.results.proofs.reports.put_report.Lts as lts
-use Rattle.report.proofs.leaves.put_leaves.Reads as put-leaves-reads
-use Rattle.report.proofs.fixed.put_head.Reads as put-head-reads
-use Rattle.results.proofs.cells.put_cells.Reads as put-cells-reads
-use Rattle.results.proofs.reports.outcome_with.Reads as outcome-with-reads
-use Rattle.results.proofs.reports.result_leaves.Reads as result-leaves-reads
 
 sub-outcome-with : tie.Need-sub-outcome-with
 sub-outcome-with c = search needs
@@ -28,42 +21,60 @@ sub-steps c = search needs
 put-head-requires : tie.Need-put-head-requires
 put-head-requires c κs = search needs
 
-result-leaves-requires : tie.Need-result-leaves-requires
-result-leaves-requires c κs = search needs
+tag-requires : tie.Need-tag-requires
+tag-requires c κs = search needs
 
-put-leaves-requires : tie.Need-put-leaves-requires
-put-leaves-requires c κs =
-    let a = c .before .before .before .before .before .before .before .before .before .before .before .before .args in
-    let M = memoryOf (now (a .work)) in
-    let n = gathered-few (resultIn M (a .r)) (c .before .before .result-leaves .ensures) (result-few M (a .r)) in
-    let k = c .before .before .before .before .before .put-head .kept in
-    (n, omega arith)
-
-put-cells-requires : tie.Need-put-cells-requires
-put-cells-requires c κs =
-    let s = c .before .before .before .before .before .before .before .before .before .before .before .before .before .before .before .before in
-    let a = s .args in
-    let g = c .before .before .before .before .before .before .result-leaves in
-    let M = memoryOf (now (a .work)) in
-    let n = gathered-few (resultIn M (a .r)) (g .ensures) (result-few M (a .r)) in
-    let k = c .before .before .before .before .before .before .before .before .before .put-head .kept in
-    let w = c .before .before .before .put-leaves in
-    let m = slots-short (g .result .count) (g .result .slots) in
-    (s .pre .0, s .pre .2, omega (arith, w .ensures .0))
+put-one-leaf-requires : tie.Need-put-one-leaf-requires
+put-one-leaf-requires c κs = search needs
 
 same-length : tie.Need-same-length
 same-length c = search needs
 
 returns : tie.Need-returns
 returns c =
-    let s = c .before .before .before .before .before .before .before .before .before .before .before .before .before .before .before .before .before .before .before in
+    let s = c .before .before .before .before .before .before .before .before .before .before .before .before .before .before .before .before .before in
+    let a = s .args in
+    let o = c .before .before .before .before .before .before .before .before .before .before .before .before .before .outcome-with in
+    let h = c .before .before .before .before .before .before .before .before .before .before .put-head in
+    let w = c .before .before .put-one-leaf in
+    one-leaf-reported (memoryOf (now (a .work))) (a .r) _ (a .budget) (now (a .report)) (o .result) (c .before .before .before .before .before .before .if1 .taken) (c .before .before .before .before .before .tag .ensures) (c .before .before .before .before .if2 .taken) (o .ensures) (h .ensures) (w .ensures) (w .kept .0) (h .kept .0) (s .pre .1)
+
+result-leaves-requires : tie.Need-result-leaves-requires
+result-leaves-requires c κs = search needs
+
+put-leaves-requires : tie.Need-put-leaves-requires
+put-leaves-requires c κs =
+    let a = c .before .before .before .before .before .before .before .before .before .before .before .before .before .before .args in
+    let M = memoryOf (now (a .work)) in
+    let n = gathered-few (resultIn M (a .r)) (c .before .before .result-leaves .ensures) (result-few M (a .r)) in
+    let k = c .before .before .before .before .before .before .before .put-head .kept in
+    (n, omega arith)
+
+put-cells-requires : tie.Need-put-cells-requires
+put-cells-requires c κs =
+    let s = c .before .before .before .before .before .before .before .before .before .before .before .before .before .before .before .before .before .before in
+    let a = s .args in
+    let g = c .before .before .before .before .before .before .result-leaves in
+    let M = memoryOf (now (a .work)) in
+    let n = gathered-few (resultIn M (a .r)) (g .ensures) (result-few M (a .r)) in
+    let k = c .before .before .before .before .before .before .before .before .before .before .before .put-head .kept in
+    let w = c .before .before .before .put-leaves in
+    let m = slots-short (g .result .count) (g .result .slots) in
+    (s .pre .0, s .pre .2, omega (arith, w .ensures .0))
+
+same-length-2 : tie.Need-same-length-2
+same-length-2 c = search needs
+
+returns-2 : tie.Need-returns-2
+returns-2 c =
+    let s = c .before .before .before .before .before .before .before .before .before .before .before .before .before .before .before .before .before .before .before .before .before in
     let a = s .args in
     let M = memoryOf (now (a .work)) in
     let g = c .before .before .before .before .before .before .before .before .before .result-leaves in
-    let h = c .before .before .before .before .before .before .before .before .before .before .before .before .put-head in
+    let h = c .before .before .before .before .before .before .before .before .before .before .before .before .before .before .put-head in
     let w = c .before .before .before .before .before .before .put-leaves in
     let u = c .before .before .put-cells in
-    let o = c .before .before .before .before .before .before .before .before .before .before .before .before .before .before .before .outcome-with in
+    let o = c .before .before .before .before .before .before .before .before .before .before .before .before .before .before .before .before .before .outcome-with in
     reported M (a .r) _ (g .ensures) (a .budget) (now (a .report)) (o .result) _ _ (o .ensures) (h .ensures) (w .ensures) (u .ensures) (s .pre .2) (s .pre .1)
 
 pub put-report-spec : {M : Type 1} → statement M
@@ -74,8 +85,12 @@ put-report-spec =
     outcome-with-requires
     sub-steps
     put-head-requires
+    tag-requires
+    put-one-leaf-requires
+    same-length
+    returns
     result-leaves-requires
     put-leaves-requires
     put-cells-requires
-    same-length
-    returns)
+    same-length-2
+    returns-2)

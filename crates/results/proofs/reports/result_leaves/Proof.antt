@@ -6,10 +6,6 @@ use Rattle.results.proofs.WholeReport.{done-leaves, other-leaves}
 use borrow.Author.Needs.{needs}
 use Rattle.results.proofs.reports.result_leaves.Statement.{statement}
 use Rattle.results.proofs.reports.result_leaves.Tie as tie
-use Rattle.results.proofs.reports.result_leaves.Reads as reads
-use Rattle.results.proofs.reports.result_leaves.Lts as lts
-use Rattle.results.proofs.leaves.no_leaves.Reads as no-leaves-reads
-use Rattle.results.proofs.leaves.plain_leaves.Reads as plain-leaves-reads
 
 plain-leaves-requires : tie.Need-plain-leaves-requires
 plain-leaves-requires c κs = search needs

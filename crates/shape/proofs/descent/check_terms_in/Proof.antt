@@ -10,7 +10,7 @@ use Rattle.image.specs.Layout.{recordsOf}
 use Rattle.image.specs.Limits.{termLimit}
 use Rattle.verdicts.specs.declared.Verdict.{Verdict}
 use Rattle.verdicts.specs.Answers.{isRefused}
-use Rattle.shape.proofs.Answers.{turn-stops, turn-goes, turn-last}
+use Rattle.verdicts.proofs.Answered.{turn-stops, turn-goes, last-turn}
 use Rattle.shape.proofs.Zeros.{zeros-length, front-length, whole-length}
 use Rattle.shape.proofs.UseCounts.{misused, none-misused}
 use Rattle.shape.proofs.DepthMarks.{deep-same}
@@ -123,7 +123,7 @@ returns-2 c =
     let m = c .before .before .before .first-misused in
     let u = none-misused L (now (a .depths)) (s .last .1 .1 .1 .0) _ (s .result) (m .result) (p .3) (now (a .image)) (now (a .terms)) (p .1) (p .1 .few, s .ensures .0, s .ensures .1, k, m .ensures) (omega arith) in
     let d = c .first-deep .ensures ∙ deep-same L (now (a .depths)) (s .last .1 .1 .1 .0) _ termLimit (p .3) (now (a .image)) (now (a .terms)) (p .1) (p .2) (p .1 .few) k (s .ensures .1) in
-    d ∙ sym (turn-goes _ _ (ap isRefused u) ∙ turn-last _)
+    d ∙ sym (turn-goes _ _ (ap isRefused u) ∙ last-turn _)
 
 pub check-terms-in-spec : {M : Type 1} → statement M
 check-terms-in-spec =

@@ -1,68 +1,63 @@
--- The loop keeps: some e so far.
+-- The loop keeps: the row gathered so far shows a fault if some e so far is one.
 use borrow.Author.Tests.{not-true, not-false}
 use borrow.Author.Needs.{needs}
 use Prim.Native.Nat.{_-_, _≤_}
 use native.Mathlib.Omega.{arith}
-use mathlib.Core.List.{[]}
-use mathlib.Core.Bool.{_||_, or-false}
 use mathlib.Core.Logic.{⊎-elim}
 use mathlib.Core.Path.{_≡_, sym, ap, _∙_}
+use mathlib.Core.Bool.{false, not, _||_, or-true}
 use lib.ListN.{getD}
-use Rattle.image.specs.Tests.{anyBelow}
-use Rattle.shape.specs.Faults.{names, faultIn}
-use Rattle.shape.proofs.Orders.{any-none, any-more}
+use denote.Ref.{now}
+use Rattle.image.specs.Limits.{domainLimit}
+use Rattle.shape.specs.Faults.{names}
+use Rattle.shape.proofs.Named.{FoundTo, found-none, found-absent, found-unnamed, found-own, found-other}
 use Rattle.shape.proofs.order.at_fault.Statement.{statement}
 use Rattle.shape.proofs.order.at_fault.Tie as tie
 
 abbrev Inv-loop : tie.InvT-loop
-Inv-loop n d o found₀ e₀ found e = (e ≤ 16) × (found ≡ anyBelow e (λ k. faultIn (getD o d []) (getD o k []) n d k))
+Inv-loop o n d own named₀ e₀ named e = (e ≤ 16) × FoundTo o n d e named
 
 abbrev μ-loop : tie.MeasureT-loop
-μ-loop n d o found₀ e₀ found e = 16 - e
+μ-loop o n d own named₀ e₀ named e = 16 - e
 
-mul-if1 : tie.Need-mul-if1 Inv-loop μ-loop
-mul-if1 c = search needs
+mul-own : tie.Need-mul-own Inv-loop μ-loop
+mul-own c = search needs
 
-index-1-if1 : tie.Need-index-1-if1 Inv-loop μ-loop
-index-1-if1 c = search needs
+element-copy-out-own : tie.Need-element-copy-out-own Inv-loop μ-loop
+element-copy-out-own c = search needs
 
-index-2-if1 : tie.Need-index-2-if1 Inv-loop μ-loop
-index-2-if1 c = search needs
+array-read-if1 : tie.Need-array-read-if1 Inv-loop μ-loop
+array-read-if1 c = search needs
 
 returns : tie.Need-returns Inv-loop μ-loop
 returns c =
     let a = c .before .before .args in
-    simp (not-true (names (a .t1) (a .d) (a .d)) (c .if1 .taken))
+    simp (not-true (names (now (a .o)) (a .d) (a .d)) (c .if1 .taken))
 
 loop-holds : tie.Need-loop-holds Inv-loop μ-loop
-loop-holds c = (search needs, any-none _)
+loop-holds c =
+    let a = c .before .before .args in
+    (search needs, found-none (now (a .o)) (a .n) (a .d) domainLimit)
 
-mul-if2 : tie.Need-mul-if2 Inv-loop μ-loop
-mul-if2 c = search needs
+array-read-if2 : tie.Need-array-read-if2 Inv-loop μ-loop
+array-read-if2 c = search needs
 
-index-1-if2 : tie.Need-index-1-if2 Inv-loop μ-loop
-index-1-if2 c = search needs
+returns-2 : tie.Need-returns-2 Inv-loop μ-loop
+returns-2 c =
+    let a = c .before .before .before .before .before .before .args in
+    let l = c .before .before .before .loop in
+    let unnamed = not (names (now (a .o)) (a .d) (a .d)) in
+    let some = found-absent (now (a .o)) (a .n) (a .d) (l .e) (omega arith) (c .before .if2 .taken) (c .if3 .taken) in
+    sym (ap (unnamed ||_) some ∙ or-true unnamed)
 
-index-2-if2 : tie.Need-index-2-if2 Inv-loop μ-loop
-index-2-if2 c = search needs
+mul-either-row : tie.Need-mul-either-row Inv-loop μ-loop
+mul-either-row c = search needs
 
-mul-fault-in : tie.Need-mul-fault-in Inv-loop μ-loop
-mul-fault-in c = search needs
+element-copy-out-either-row : tie.Need-element-copy-out-either-row Inv-loop μ-loop
+element-copy-out-either-row c = search needs
 
-array-copy-out-fault-in : tie.Need-array-copy-out-fault-in Inv-loop μ-loop
-array-copy-out-fault-in c = search needs
-
-mul-fault-in-2 : tie.Need-mul-fault-in-2 Inv-loop μ-loop
-mul-fault-in-2 c = search needs
-
-array-copy-out-fault-in-2 : tie.Need-array-copy-out-fault-in-2 Inv-loop μ-loop
-array-copy-out-fault-in-2 c = search needs
-
-fault-in-requires : tie.Need-fault-in-requires Inv-loop μ-loop
-fault-in-requires c κs = search needs
-
-either-requires : tie.Need-either-requires Inv-loop μ-loop
-either-requires c κs = search needs
+either-row-requires : tie.Need-either-row-requires Inv-loop μ-loop
+either-row-requires c κs = search needs
 
 add-e : tie.Need-add-e Inv-loop μ-loop
 add-e c = search needs
@@ -72,19 +67,31 @@ loop-less c = search needs
 
 loop-again : tie.Need-loop-again Inv-loop μ-loop
 loop-again c =
-    let l = c .before .before .before .loop in
-    let a = c .before .before .before .before .before .before .args in
-    let fault = faultIn (getD (a .t1) (a .d) []) (getD (a .t1) (l .e) []) (a .n) (a .d) (l .e) in
-    let got : c .if2 .found ≡ (l .found || fault) =
-    ⊎-elim (λ w. w .5 ∙ w .4 .ensures ∙ ap (l .found ||_) (w .3 .ensures))
-    (λ w. w .1 ∙ sym (simp (w .0 .left, or-false))) (c .if2 .came) in
-    (search needs, got ∙ any-more (l .e) _ (l .found) (l .inv .1))
+    let a = c .before .before .before .before .before .args in
+    let l = c .before .before .loop in
+    let o = now (a .o) in (
+      omega arith,
+      ⊎-elim (λ w. rw (w .5 ∙ w .4 .ensures) (found-other o (a .n) (a .d) (l .e) (l .named) (l .inv .1) (w .0 .taken) (w .1 .left) (w .2 .taken)))
+          (⊎-elim (λ w. rw (w .3) (found-own o (a .n) (a .d) (l .e) (l .named) (l .inv .1) (w .1 .left) (w .2 .left)))
+          (λ w. rw (w .1) (found-unnamed o (a .n) (a .d) (l .e) (l .named) (l .inv .1) (w .0 .left)))) (c .if2 .came),
+    )
 
-returns-2 : tie.Need-returns-2 Inv-loop μ-loop
-returns-2 c =
-    let a = c .before .before .before .before .args in
-    let h : c .before .loop .e ≡ 16 = omega arith in
-    simp (not-false (names (a .t1) (a .d) (a .d)) (c .before .before .if1 .left)) (rw h at (c .before .loop .inv .1))
+array-read-either : tie.Need-array-read-either Inv-loop μ-loop
+array-read-either c = search needs
+
+gap-in-requires : tie.Need-gap-in-requires Inv-loop μ-loop
+gap-in-requires c κs = search needs
+
+either-requires : tie.Need-either-requires Inv-loop μ-loop
+either-requires c κs = search needs
+
+returns-3 : tie.Need-returns-3 Inv-loop μ-loop
+returns-3 c =
+    let a = c .before .before .before .before .before .before .args in
+    let l = c .before .before .before .loop in
+    let h : l .e ≡ 16 = omega arith in
+    let own = not-false (names (now (a .o)) (a .d) (a .d)) (c .before .before .before .before .if1 .left) in
+    simp own (c .either .ensures ∙ ap (getD (l .named) (a .d) false ||_) (c .before .gap-in .ensures) ∙ rw h at (l .inv .1))
 
 pub at-fault-spec : {M : Type 1} → statement M
 at-fault-spec =
@@ -92,21 +99,20 @@ at-fault-spec =
     (tie.spec
     Inv-loop
     μ-loop
-    mul-if1
-    index-1-if1
-    index-2-if1
+    mul-own
+    element-copy-out-own
+    array-read-if1
     returns
     loop-holds
-    mul-if2
-    index-1-if2
-    index-2-if2
-    mul-fault-in
-    array-copy-out-fault-in
-    mul-fault-in-2
-    array-copy-out-fault-in-2
-    fault-in-requires
-    either-requires
+    array-read-if2
+    returns-2
+    mul-either-row
+    element-copy-out-either-row
+    either-row-requires
     add-e
     loop-less
     loop-again
-    returns-2)
+    array-read-either
+    gap-in-requires
+    either-requires
+    returns-3)

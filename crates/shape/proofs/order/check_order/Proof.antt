@@ -15,8 +15,10 @@ first-unordered-requires c κs = search needs
 
 returns : tie.Need-returns
 returns c =
-    let a = c .before .before .before .before .args in
-    c .first-unordered .ensures ∙ order-same (recordsOf (now (a .image))) (now (a .image)) (now (a .doms)) (c .before .before .before .before .pre) (c .before .order-of .result) (c .before .order-of .ensures)
+    let w = c .before .before .before .before .before in
+    let a = w .args in
+    let o = c .before .before .order-of in
+    c .first-unordered .ensures ∙ order-same (recordsOf (now (a .image))) (now (a .image)) (now (a .doms)) (w .pre) (o .result) (o .ensures)
 
 pub check-order-spec : {M : Type 1} → statement M
 check-order-spec = tie.close (tie.spec order-of-requires first-unordered-requires returns)

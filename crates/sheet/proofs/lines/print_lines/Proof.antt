@@ -5,10 +5,6 @@ use Rattle.sheet.proofs.Offsets.{size-within}
 use borrow.Author.Needs.{needs}
 use Rattle.sheet.proofs.lines.print_lines.Statement.{statement}
 use Rattle.sheet.proofs.lines.print_lines.Tie as tie
-use Rattle.sheet.proofs.lines.print_lines.Reads as reads
-use Rattle.sheet.proofs.lines.print_lines.Lts as lts
-use Rattle.sheet.proofs.lines.print_line.Reads as print-line-reads
-use Rattle.sheet.proofs.sizes.size_at.Reads as size-at-reads
 
 abbrev Inv-loop : tie.InvT-loop
 Inv-loop s at₀ size₀ at size = at + size ≤ length s

@@ -2,9 +2,6 @@ use Rattle.sheet.proofs.Offsets.{size-short, size-past, size-whole}
 use borrow.Author.Needs.{needs}
 use Rattle.sheet.proofs.sizes.size_at.Statement.{statement}
 use Rattle.sheet.proofs.sizes.size_at.Tie as tie
-use Rattle.sheet.proofs.sizes.size_at.Reads as reads
-use Rattle.sheet.proofs.sizes.size_at.Lts as lts
-use Rattle.sheet.proofs.sizes.word.Reads as word-reads
 
 -- src/sizes.rt:33:16
 word-requires : tie.Need-word-requires

@@ -3,9 +3,6 @@ use Rattle.sheet.proofs.Offsets.{word-two, word-one, word-none}
 use borrow.Author.Needs.{needs}
 use Rattle.sheet.proofs.sizes.word.Statement.{statement}
 use Rattle.sheet.proofs.sizes.word.Tie as tie
-use Rattle.sheet.proofs.sizes.word.Reads as reads
-use Rattle.sheet.proofs.sizes.word.Lts as lts
-use Rattle.sheet.proofs.sizes.join.Reads as join-reads
 
 -- src/sizes.rt:19:20
 add-next : tie.Need-add-next

@@ -3,10 +3,6 @@ use denote.Ref.{now}
 use borrow.Author.Needs.{needs}
 use Rattle.tables.proofs.bindings.bind.Statement.{statement}
 use Rattle.tables.proofs.bindings.bind.Tie as tie
-use Rattle.tables.proofs.bindings.bind.Reads as reads
-use Rattle.tables.proofs.bindings.bind.Lts as lts
-use Rattle.tables.proofs.bindings.binding.Reads as binding-reads
-use Rattle.tables.proofs.words.put_word.Reads as put-word-reads
 
 -- src/bindings.rt:26:23
 binding-requires : tie.Need-binding-requires

@@ -7,9 +7,6 @@ use Prim.Native.Nat.{_+_, _-_}
 use borrow.Author.Needs.{needs}
 use Rattle.tables.proofs.bindings.binding_at.Statement.{statement}
 use Rattle.tables.proofs.bindings.binding_at.Tie as tie
-use Rattle.tables.proofs.bindings.binding_at.Reads as reads
-use Rattle.tables.proofs.bindings.binding_at.Lts as lts
-use Rattle.tables.proofs.words.word.Reads as word-reads
 
 -- src/bindings.rt:52:16
 sub-word : tie.Need-sub-word

@@ -8,12 +8,6 @@ use mathlib.Core.Path.{_≡_, refl, sym, ap, _∙_}
 use borrow.Author.Needs.{needs}
 use Rattle.tables.proofs.bindings.lookup.Statement.{statement}
 use Rattle.tables.proofs.bindings.lookup.Tie as tie
-use Rattle.tables.proofs.bindings.lookup.Reads as reads
-use Rattle.tables.proofs.bindings.lookup.Lts as lts
-use Rattle.tables.proofs.bindings.binding_at.Reads as binding-at-reads
-use Rattle.tables.proofs.bindings.bound_link.Reads as bound-link-reads
-use Rattle.tables.proofs.bindings.no_link.Reads as no-link-reads
-use Rattle.values.proofs.no_value.Reads as no-value-reads
 
 abbrev Inv-loop : tie.InvT-loop
 Inv-loop work env k l₀ i₀ l i = flat.lookup (memoryOf work) env k ≡ flat.lookup (memoryOf work) l i

@@ -4,10 +4,6 @@ use Rattle.tables.proofs.Stored.{put-as}
 use borrow.Author.Needs.{needs}
 use Rattle.tables.proofs.cells.put_cell.Statement.{statement}
 use Rattle.tables.proofs.cells.put_cell.Tie as tie
-use Rattle.tables.proofs.cells.put_cell.Reads as reads
-use Rattle.tables.proofs.cells.put_cell.Lts as lts
-use Rattle.tables.proofs.words.above.Reads as above-reads
-use Rattle.tables.proofs.words.put_word.Reads as put-word-reads
 
 -- src/cells.rt:31:20
 add-put-word : tie.Need-add-put-word

@@ -3,11 +3,6 @@ use mathlib.Core.Path.{sym, _∙_}
 use borrow.Author.Needs.{needs}
 use Rattle.tables.proofs.cells.read_cell.Statement.{statement}
 use Rattle.tables.proofs.cells.read_cell.Tie as tie
-use Rattle.tables.proofs.cells.read_cell.Reads as reads
-use Rattle.tables.proofs.cells.read_cell.Lts as lts
-use Rattle.tables.proofs.cells.cell_at.Reads as cell-at-reads
-use Rattle.values.proofs.no_value.Reads as no-value-reads
-use Rattle.values.proofs.tag.Reads as tag-reads
 
 -- src/cells.rt:45:8
 tag-requires : tie.Need-tag-requires

@@ -3,10 +3,6 @@ use Rattle.tables.proofs.Stored.{digits-loaded}
 use borrow.Author.Needs.{needs}
 use Rattle.tables.proofs.frames.label_digits.Statement.{statement}
 use Rattle.tables.proofs.frames.label_digits.Tie as tie
-use Rattle.tables.proofs.frames.label_digits.Reads as reads
-use Rattle.tables.proofs.frames.label_digits.Lts as lts
-use Rattle.tables.proofs.frames.frame_held.Reads as frame-held-reads
-use Rattle.tables.proofs.frames.join.Reads as join-reads
 
 -- src/frames.rt:108:10
 frame-held-requires : tie.Need-frame-held-requires

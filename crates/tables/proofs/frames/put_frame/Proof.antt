@@ -4,10 +4,6 @@ use Rattle.tables.proofs.Stored.{put-as}
 use borrow.Author.Needs.{needs}
 use Rattle.tables.proofs.frames.put_frame.Statement.{statement}
 use Rattle.tables.proofs.frames.put_frame.Tie as tie
-use Rattle.tables.proofs.frames.put_frame.Reads as reads
-use Rattle.tables.proofs.frames.put_frame.Lts as lts
-use Rattle.tables.proofs.frames.frame_word.Reads as frame-word-reads
-use Rattle.tables.proofs.words.put_word.Reads as put-word-reads
 
 -- src/frames.rt:39:20
 add-put-word : tie.Need-add-put-word

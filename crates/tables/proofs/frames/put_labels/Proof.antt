@@ -3,11 +3,6 @@ use Rattle.tables.proofs.Stored.{labels-stored}
 use borrow.Author.Needs.{needs}
 use Rattle.tables.proofs.frames.put_labels.Statement.{statement}
 use Rattle.tables.proofs.frames.put_labels.Tie as tie
-use Rattle.tables.proofs.frames.put_labels.Reads as reads
-use Rattle.tables.proofs.frames.put_labels.Lts as lts
-use Rattle.tables.proofs.frames.frame_word.Reads as frame-word-reads
-use Rattle.tables.proofs.frames.put_beside.Reads as put-beside-reads
-use Rattle.tables.proofs.words.put_word.Reads as put-word-reads
 
 -- src/frames.rt:92:20
 add-put-word : tie.Need-add-put-word

@@ -1,12 +1,10 @@
 use Rattle.tables.proofs.Found.{digit-none, digit-here, digit-on}
 use Rattle.flat.specs.Memory.{hasLabel, hasDigit}
-use mathlib.Core.Path.{_≡_, refl, sym, ap, _∙_}
+use mathlib.Core.Path.{_≡_, refl, sym, _∙_}
 use native.Mathlib.Omega.{arith}
 use borrow.Author.Needs.{needs}
 use Rattle.tables.proofs.pieces.has_label.Statement.{statement}
 use Rattle.tables.proofs.pieces.has_label.Tie as tie
-use Rattle.tables.proofs.pieces.has_label.Reads as reads
-use Rattle.tables.proofs.pieces.has_label.Lts as lts
 
 abbrev Inv-loop : tie.InvT-loop
 Inv-loop w l d₀ n₀ d n = hasLabel w l ≡ hasDigit n d l

@@ -2,9 +2,6 @@ use Rattle.tables.proofs.Stored.{and-word}
 use borrow.Author.Needs.{needs}
 use Rattle.tables.proofs.pieces.put_piece.Statement.{statement}
 use Rattle.tables.proofs.pieces.put_piece.Tie as tie
-use Rattle.tables.proofs.pieces.put_piece.Reads as reads
-use Rattle.tables.proofs.pieces.put_piece.Lts as lts
-use Rattle.tables.proofs.words.put_word.Reads as put-word-reads
 
 -- src/pieces.rt:19:29
 mul-put-word : tie.Need-mul-put-word

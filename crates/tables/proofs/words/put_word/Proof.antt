@@ -2,9 +2,6 @@ use Rattle.tables.proofs.Stored.{store-word}
 use borrow.Author.Needs.{needs}
 use Rattle.tables.proofs.words.put_word.Statement.{statement}
 use Rattle.tables.proofs.words.put_word.Tie as tie
-use Rattle.tables.proofs.words.put_word.Reads as reads
-use Rattle.tables.proofs.words.put_word.Lts as lts
-use Rattle.area.proofs.store.Reads as store-reads
 
 -- src/words.rt:28:5
 store-requires : tie.Need-store-requires

@@ -3,9 +3,6 @@ use mathlib.Core.Path.{_∙_}
 use borrow.Author.Needs.{needs}
 use Rattle.tables.proofs.words.word.Statement.{statement}
 use Rattle.tables.proofs.words.word.Tie as tie
-use Rattle.tables.proofs.words.word.Reads as reads
-use Rattle.tables.proofs.words.word.Lts as lts
-use Rattle.area.proofs.load.Reads as load-reads
 
 -- src/words.rt:21:5
 load-requires : tie.Need-load-requires

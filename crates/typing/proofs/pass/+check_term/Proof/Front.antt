@@ -13,7 +13,8 @@ use mathlib.Core.List.{List}
 use lib.ListN.{length, take}
 use Rattle.image.specs.Layout.{recordsOf}
 use Rattle.verdicts.specs.declared.Verdict.{Verdict}
-use Rattle.typing.proofs.TermPass.{accepted-is, front-start}
+use Rattle.verdicts.proofs.Answered.{accepted-is}
+use Rattle.typing.proofs.TermPass.{front-start}
 use Rattle.typing.proofs.ScopeRoom.{two-more}
 
 module _ (t : ℕ) where

@@ -17,11 +17,12 @@ use Rattle.verdicts.specs.declared.Verdict.{Verdict}
 use Rattle.verdicts.specs.Answers.{isRefused}
 use Rattle.verdicts.specs.Settings.{Setting}
 use Rattle.verdicts.specs.Check.{checked}
+use Rattle.verdicts.proofs.Answered.{accepted-is}
 use Rattle.rules.specs.Lent.{IsTerm, settingIn}
 use Rattle.rules.specs.Scalars.{ruleVerdict}
 use Rattle.rules.proofs.Located.{good-of}
 use Rattle.typing.specs.Turns.{Passed, ChildAt, Room}
-use Rattle.typing.proofs.TermPass.{front, accepted-is, front-stops, front-whole, leaf-checked, take-fewer, still-ruled, child-next, still-kept}
+use Rattle.typing.proofs.TermPass.{front, front-stops, front-whole, leaf-checked, take-fewer, still-ruled, child-next, still-kept}
 use Rattle.typing.proofs.ScopeRoom.{two-more, child-room}
 
 -- The outer loop: the verdict is that on the current term, where it stands; the first places of the scope are kept, and there is room for what the terms below bind.

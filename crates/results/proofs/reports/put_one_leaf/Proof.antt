@@ -1,0 +1,46 @@
+use native.Mathlib.Omega.{arith}
+use denote.Ref.{now}
+use Rattle.report.proofs.Lengths.{leaf-short}
+use Rattle.tables.specs.View.{memoryOf}
+use Rattle.results.proofs.WholeReport.{one-leaf-written}
+use borrow.Author.Needs.{needs}
+use Rattle.results.proofs.reports.put_one_leaf.Statement.{statement}
+use Rattle.results.proofs.reports.put_one_leaf.Tie as tie
+
+leaf-of-requires : tie.Need-leaf-of-requires
+leaf-of-requires c κs = search needs
+
+put-leaf-requires : tie.Need-put-leaf-requires
+put-leaf-requires c κs = search needs
+
+put-cells-requires : tie.Need-put-cells-requires
+put-cells-requires c κs =
+    let s = c .before .before .before .before .before .before .before .before in
+    let w = c .before .before .before .put-leaf in
+    let n = leaf-short (c .before .before .before .before .before .leaf-of .result) in
+    (s .pre .0, s .pre .2, omega (arith, w .ensures .0, w .kept .0))
+
+array-set-from-slots : tie.Need-array-set-from-slots
+array-set-from-slots c = search needs
+
+same-length : tie.Need-same-length
+same-length c = search needs
+
+returns : tie.Need-returns
+returns c =
+    let s = c .before .before .before .before .before .before .before .before .before .before .before in
+    let a = s .args in
+    let l = c .before .before .before .before .before .before .before .before .leaf-of in
+    let w = c .before .before .before .before .before .before .put-leaf in
+    one-leaf-written (memoryOf (now (a .work))) (a .r) (a .steps) (now (a .report)) (l .result) _ _ (l .ensures) (w .ensures) (c .before .before .put-cells .ensures) (s .pre .2) (s .pre .1)
+
+pub put-one-leaf-spec : {M : Type 1} → statement M
+put-one-leaf-spec =
+    tie.close
+    (tie.spec
+    leaf-of-requires
+    put-leaf-requires
+    put-cells-requires
+    array-set-from-slots
+    same-length
+    returns)
