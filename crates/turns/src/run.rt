@@ -37,7 +37,7 @@ fn start_regs(root: usize, budget: u32) -> Regs
 }
 
 // So many turns at most, from some registers on, which are those between turns. They are settled again, which changes none of
-// them: so the compiler knows that four are 0 at each turn's begin, and does not carry them along.
+// them: so the compiler knows that four are 0 at each turn's begin, and its loop is faster so.
 fn run_turns(
     rows: &[u64],
     image: &[u8],
