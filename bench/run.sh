@@ -2,6 +2,7 @@
 # Measures the verified engine, and a plain Rust engine beside it if its folder is given:
 #     bench/run.sh [FOLDER_OF_PLAIN_ENGINE] [--images DIR] [--quick] [--places N] [--dump DIR] [--write]
 # The plain engine is a crate named `baseline` with `engine(image, frame, budget, log, report, work) -> Answer`.
+# The decoding job is also measured in Lua 5.4 and LuaJIT, as far as the commands lua5.4 and luajit are installed.
 # --images DIR measures the images in a folder's files and not the bench's own; --quick measures less often; --places N
 # measures with the code of both engines in N places of memory, 9 at most, and prints the means; --dump DIR writes the
 # images and measures nothing; --write writes what was measured into docs/PERFORMANCE.md and docs/performance.svg.

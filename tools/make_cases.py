@@ -1,17 +1,12 @@
-#!/usr/bin/env python3
-"""Makes the images and the arguments of the program `cases` (document 01, "Bench sheet": the cases that are run).
+"""The cases of document 01 ("Bench sheet") that are run, and others at the limits: each an image with a budget.
 
-Run in the repository's root: python3 tools/make_cases.py
-It writes crates/cases/data/*.img and crates/cases/args: for each case its budget and its file.
+make_stored.py puts them among the images of the program `stored_images`.
 """
-from pathlib import Path
-
 from watchlang.terms import (abort, advice, apply, branch, function, install, lay_out, less, let, lower, mark, minus,
                              new_cell, new_label, number, pair, plus, pointcut, read, sequence, show, store, unit,
                              variable)
 from watchlang.types import NUMBER, UNIT, function as function_type, label as label_type, reference as reference_type
 
-CRATE = Path("crates/cases")
 BUDGET = 100_000
 
 
@@ -124,6 +119,17 @@ def low_stores_high():
     return let("c", new_cell(number(1)), lower(1, store(c, number(2))))
 
 
+def arithmetic(op):
+    """An image of two numbers under an operation, as bytes: one that is out of range cannot be laid out."""
+    five = bytes.fromhex("0a0022000000" "05000000")
+    return bytes.fromhex("060001000100" "04001200") + five + five + bytes.fromhex("0c002b000000") + bytes([op, 0, 0, 0, 1, 0])
+
+
+def type_twice():
+    """An image with the type number twice."""
+    return bytes.fromhex("060001000100" "04001200" "04001200")
+
+
 def all_cases():
     """Each case: its name, its image, its budget."""
     i = variable("i", NUMBER)
@@ -154,16 +160,5 @@ def all_cases():
     yield "picked-at-the-start", image(picked_at_the_start()), BUDGET
     yield "low-marks-high", image(low_marks_high(), chain(2)), BUDGET
     yield "low-stores-high", image(low_stores_high(), chain(2)), BUDGET
-
-
-def main():
-    args = []
-    (CRATE / "data").mkdir(exist_ok=True)
-    for name, made, budget in all_cases():
-        (CRATE / "data" / f"{name}.img").write_bytes(made)
-        args += [str(budget), f"{name}.img"]
-    (CRATE / "args").write_text("\n".join(args) + "\n")
-
-
-if __name__ == "__main__":
-    main()
+    yield "operation-4", arithmetic(4), BUDGET
+    yield "type-twice", type_twice(), BUDGET

@@ -1,10 +1,9 @@
 #!/usr/bin/env python3
-"""Makes the images of examples/ from their texts, and the data of the crate examples_run.
+"""Makes the images of examples/ from their texts.
 
 Run in the repository's root: python3 tools/make_examples.py [PROGRAM]
-It writes examples/NAME.img for each line of examples/LIST, and crates/examples_run/data, args and stdout from the
-images and the listings examples/NAME.txt. With PROGRAM (target/bin/watch) it first makes the listings anew: what
-PROGRAM prints for each image.
+It writes examples/NAME.img for each line of examples/LIST. With PROGRAM (target/bin/watch) it also writes the listings
+examples/NAME.txt: what PROGRAM prints for each image. make_stored.py puts the images among those that the gate runs.
 """
 import subprocess
 import sys
@@ -13,7 +12,6 @@ from pathlib import Path
 from watchlang.assembler import assemble
 
 EXAMPLES = Path("examples")
-CRATE = Path("crates/examples_run")
 
 
 def examples(folder=EXAMPLES):
@@ -30,25 +28,13 @@ def assembled(files, folder=EXAMPLES):
     return assemble(*texts[0], texts[1:])
 
 
-def crate_files(folder=EXAMPLES):
-    """The crate's args and stdout: each image's name, and its listing under its name."""
-    names = [name for name, _ in examples(folder)]
-    args = "".join(f"{name}.img\n" for name in names)
-    return args, "".join(f"{name}.img\n" + (folder / f"{name}.txt").read_text() for name in names)
-
-
 def main(program=None):
-    (CRATE / "data").mkdir(parents=True, exist_ok=True)
     for name, files in examples():
         image = assembled(files).image
         (EXAMPLES / f"{name}.img").write_bytes(image)
-        (CRATE / "data" / f"{name}.img").write_bytes(image)
         if program:
             said = subprocess.run([program], input=image, capture_output=True, check=True).stdout
             (EXAMPLES / f"{name}.txt").write_bytes(said)
-    args, stdout = crate_files()
-    (CRATE / "args").write_text(args)
-    (CRATE / "stdout").write_text(stdout)
 
 
 if __name__ == "__main__":

@@ -1,4 +1,5 @@
-//! Times of the watch engine, alone or beside a plain Rust engine, on the same images in one run.
+//! Times of the watch engine, alone or beside a plain Rust engine, on the same images in one run; one image's job is
+//! also done in Lua.
 //!
 //! Options: `--images DIR` measures the images in files of a folder and not its own, `--quick` measures less often,
 //! `--dump DIR` writes the images and measures nothing, `--save FILE` adds the times to a file, `--means FILE` adds them
@@ -7,11 +8,14 @@
 #![deny(missing_docs)]
 mod document;
 mod images;
+mod lua;
 mod measure;
 mod plot;
 mod saved;
 mod table;
 
+use lua::Compared;
+use measure::{Row, Time};
 use std::path::Path;
 
 /// What a call answers: bytes of log and report, or number and place of a refusal.
@@ -34,6 +38,24 @@ fn after<'a>(arguments: &'a [String], option: &str) -> Option<&'a str> {
     Some(arguments.get(at + 1).unwrap_or_else(|| panic!("{option} takes a path")))
 }
 
+/// Prints the tables and, if there is a folder for them, writes them and the plot. Only the bench's own images are
+/// compared with Lua, and plotted.
+fn show(rows: &[Row], compared: Option<&Compared>, docs: Option<&Path>) {
+    let tables = match compared {
+        None => vec![("measured on files", table::text(rows))],
+        Some(compared) => vec![("measured", table::text(rows)), ("measured in Lua", table::compared(compared))],
+    };
+    for (mark, text) in &tables {
+        println!("{text}");
+        if let Some(docs) = docs {
+            document::write(docs, mark, text);
+        }
+    }
+    if let (Some(docs), Some(_)) = (docs, compared) {
+        document::draw(docs, &plot::svg(rows));
+    }
+}
+
 /// The program: measures the verified engine and, if there is one, a plain one.
 pub fn main(plain: Option<Engine>) {
     let arguments: Vec<String> = std::env::args().collect();
@@ -44,21 +66,17 @@ pub fn main(plain: Option<Engine>) {
     }
     let repetitions = if arguments.iter().any(|argument| argument == "--quick") { 31 } else { 301 };
     let engines: Vec<Engine> = [Some(verified as Engine), plain].into_iter().flatten().collect();
-    let mut rows: Vec<measure::Row> =
-        images.iter().map(|image| measure::measure(image, &engines, repetitions)).collect();
+    let mut rows: Vec<Row> = images.iter().map(|image| measure::measure(image, &engines, repetitions)).collect();
+    let decoded = images.iter().find(|image| folder.is_none() && image.name == images::DECODED);
+    let mut compared = decoded.map(|image| lua::compare(image, &engines, repetitions));
+    let times = rows.iter_mut().flat_map(Row::times).chain(compared.iter_mut().flat_map(Compared::times));
+    let times: Vec<&mut Time> = times.collect();
     if let Some(file) = after(&arguments, "--save") {
-        return saved::append(Path::new(file), &rows);
+        return saved::append(Path::new(file), &times);
     }
     if let Some(file) = after(&arguments, "--means") {
-        saved::append(Path::new(file), &rows);
-        saved::means(Path::new(file), &mut rows);
+        saved::append(Path::new(file), &times);
+        saved::means(Path::new(file), times);
     }
-    let text = table::text(&rows);
-    print!("{text}");
-    if let Some(folder) = after(&arguments, "--write") {
-        match after(&arguments, "--images") {
-            None => document::write(Path::new(folder), "measured", &text, Some(&plot::svg(&rows))),
-            Some(_) => document::write(Path::new(folder), "measured on files", &text, None),
-        }
-    }
+    show(&rows, compared.as_ref(), after(&arguments, "--write").map(Path::new));
 }

@@ -38,21 +38,28 @@ pub struct Row {
     pub engines: Vec<Times>,
 }
 
+impl Row {
+    /// All its times.
+    pub fn times(&mut self) -> impl Iterator<Item = &mut Time> {
+        self.engines.iter_mut().flat_map(|times| [&mut times.call, &mut times.start, &mut times.check])
+    }
+}
+
 /// The memory that is lent to a call.
-struct Lent {
-    frame: Vec<u8>,
-    log: Vec<u8>,
-    report: Vec<u8>,
+pub struct Lent {
+    pub frame: Vec<u8>,
+    pub log: Vec<u8>,
+    pub report: Vec<u8>,
     work: Vec<u8>,
 }
 
 impl Lent {
-    fn new() -> Lent {
+    pub fn new() -> Lent {
         let frame = (0..240u32).map(|i| (i * 83 % 241) as u8).collect();
         Lent { frame, log: vec![0; LOG], report: vec![0; REPORT], work: vec![0; WORK] }
     }
 
-    fn call(&mut self, engine: Engine, image: &[u8], budget: u32) -> Answer {
+    pub fn call(&mut self, engine: Engine, image: &[u8], budget: u32) -> Answer {
         engine(image, &self.frame, budget, &mut self.log, &mut self.report, &mut self.work)
     }
 
@@ -70,7 +77,7 @@ fn time(calls: usize, mut call: impl FnMut() -> Answer) -> f64 {
     start.elapsed().as_nanos() as f64 / calls as f64
 }
 
-fn summary(mut times: Vec<f64>) -> Time {
+pub fn summary(mut times: Vec<f64>) -> Time {
     times.sort_by(f64::total_cmp);
     Time { least: times[0], median: times[times.len() / 2] }
 }

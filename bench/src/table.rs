@@ -1,4 +1,6 @@
 //! The tables that are printed.
+use crate::images::DECODED;
+use crate::lua::Compared;
 use crate::measure::{Row, Time, Times};
 
 /// Nanoseconds of a call, per step of its run, per byte of its check.
@@ -37,6 +39,12 @@ pub fn mean(numbers: impl Iterator<Item = f64>) -> f64 {
 fn line(cells: &[String]) -> String {
     let rest: String = cells[1..].iter().map(|cell| format!(" {cell:>10} |")).collect();
     format!("| {:<24} |{rest}\n", cells[0])
+}
+
+/// The head of a table.
+fn head(cells: &[String]) -> String {
+    let rule: String = cells[1..].iter().map(|_| " ---------: |").collect();
+    format!("{}| {} |{rule}\n", line(cells), "-".repeat(24))
 }
 
 fn optional(number: Option<f64>) -> String {
@@ -87,9 +95,7 @@ fn table(rows: &[Row], choose: Choose) -> String {
     for group in groups {
         heads.extend(["call", "step", "byte"].map(|head| format!("{group}{head}")));
     }
-    let rule: String = (1..heads.len()).map(|_| " ---------: |").collect();
-    let mut text = line(&heads);
-    text += &format!("| {} |{rule}\n", "-".repeat(24));
+    let mut text = head(&heads);
     text.extend(rows.iter().map(|row| image_line(row, choose)));
     text.extend(mean_line(rows, choose));
     text
@@ -100,4 +106,20 @@ pub fn text(rows: &[Row]) -> String {
     let least = table(rows, |time| time.least);
     let median = table(rows, |time| time.median);
     format!("Least times, in nanoseconds:\n\n{least}\nMedians, in nanoseconds:\n\n{median}")
+}
+
+/// The table of the job in Lua.
+pub fn compared(compared: &Compared) -> String {
+    let mut text = "The decoding job beside Lua, in nanoseconds:\n\n".to_string();
+    text += &head(&[DECODED, "step limit", "least", "median", "ratio"].map(String::from));
+    for of in &compared.lines {
+        let limit = of.kept.map_or("none", |kept| if kept { "kept" } else { "not kept" });
+        let ratio = compared.lines[0].time.least / of.time.least;
+        let times = [of.time.least, of.time.median].map(|time| format!("{time:.0}"));
+        text += &line(&[&[of.name.into(), limit.into()], &times[..], &[format!("{ratio:.2}")]].concat());
+    }
+    if !compared.absent.is_empty() {
+        text += &format!("\nNot installed, and so left out: {}.\n", compared.absent.join(", "));
+    }
+    text
 }

@@ -3,6 +3,7 @@ import sys
 from pathlib import Path
 
 ROOT = Path(__file__).resolve().parents[2]
+STORED = ROOT / "crates/stored_images"
 sys.path.insert(0, str(ROOT / "tools"))
 sys.setrecursionlimit(50_000)
 
@@ -13,14 +14,12 @@ def stored_images():
 
 
 def stored_listings():
-    """Each image that a program of the gate runs, with the listing that is expected: pairs of file and text."""
-    for crate in ("watch_all", "cases", "examples_run"):
-        name, lines = None, []
-        for line in (ROOT / "crates" / crate / "stdout").read_text().splitlines(keepends=True):
-            if line.endswith(".img\n"):
-                if name:
-                    yield ROOT / "crates" / crate / "data" / name, "".join(lines)
-                name, lines = line.split()[-1], []
-            else:
-                lines.append(line)
-        yield ROOT / "crates" / crate / "data" / name, "".join(lines)
+    """Each image that the gate runs, with the listing that is expected: pairs of file and text. In the output a line with
+    budget and file stands before them, then the validator's verdict."""
+    entries = []
+    for line in (STORED / "stdout").read_text().splitlines(keepends=True):
+        if line.endswith(".img\n"):
+            entries.append((STORED / "data" / line.split()[-1], []))
+        else:
+            entries[-1][1].append(line)
+    return [(file, "".join(lines[1:])) for file, lines in entries]

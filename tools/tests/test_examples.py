@@ -1,17 +1,17 @@
-"""The examples: images from their texts, the crate that runs them, and watches that leave the decoder alone."""
+"""The examples and the cases: images from their texts, the program that runs them, and watches that leave the decoder
+alone."""
 import unittest
 from pathlib import Path
 
 import common
-import make_cases
 import make_examples
+import make_stored
 from watchlang import kinds, refusals
 from watchlang.disassembler import tree
 from watchlang.layout import laid_out
 from watchlang.terms import body_domain
 
 FOLDER = common.ROOT / "examples"
-CRATE = common.ROOT / "crates/examples_run"
 WITH_WATCHES = ("count", "trace", "watched", "plausible")
 
 
@@ -37,13 +37,11 @@ class Examples(unittest.TestCase):
         for name, files in make_examples.examples(FOLDER):
             made = make_examples.assembled(files, FOLDER).image
             self.assertEqual((FOLDER / f"{name}.img").read_bytes(), made, name)
-            self.assertEqual((CRATE / "data" / f"{name}.img").read_bytes(), made, name)
 
-    def test_the_crate_expects_the_listings(self):
-        args, stdout = make_examples.crate_files(FOLDER)
-        self.assertEqual((CRATE / "args").read_text(), args)
-        self.assertEqual((CRATE / "stdout").read_text(), stdout)
-        self.assertEqual({f"{p.name}\n" for p in (CRATE / "data").iterdir()}, set(args.splitlines(keepends=True)))
+    def test_the_gate_expects_the_listings(self):
+        expected = dict(common.stored_listings())
+        for name, _ in make_examples.examples(FOLDER):
+            self.assertEqual(expected[common.STORED / "data" / f"{name}.img"], (FOLDER / f"{name}.txt").read_text(), name)
 
     def test_watches_differ_only_in_low_bodies(self):
         for name in WITH_WATCHES:
@@ -75,13 +73,20 @@ class Examples(unittest.TestCase):
         self.assertEqual(used, {p.name for p in FOLDER.iterdir() if p.suffix in (".proc", ".watch")})
 
 
-class Cases(unittest.TestCase):
-    def test_the_cases_are_what_their_script_makes(self):
-        crate, args = common.ROOT / make_cases.CRATE, []
-        for name, image, budget in make_cases.all_cases():
-            self.assertEqual((crate / "data" / f"{name}.img").read_bytes(), image, name)
-            args += [str(budget), f"{name}.img"]
-        self.assertEqual((crate / "args").read_text().split(), args)
+class Stored(unittest.TestCase):
+    def test_the_images_are_what_the_scripts_make(self):
+        for name, image, _ in make_stored.made(FOLDER):
+            self.assertEqual((common.STORED / "data" / f"{name}.img").read_bytes(), image, name)
+
+    def test_every_image_is_run(self):
+        args = make_stored.arguments(common.STORED, FOLDER)
+        self.assertEqual((common.STORED / "args").read_text().split(), args)
+        self.assertEqual({p.name for p in (common.STORED / "data").iterdir()}, set(args[1::2]))
+
+    def test_the_validator_says_what_the_engine_says(self):
+        for entry in (common.STORED / "stdout").read_text().split("100000 ")[1:]:
+            name, verdict, first = entry.splitlines()[:3]
+            self.assertEqual(verdict, first if first.startswith("refused") else "accepted", name)
 
 
 class Files(unittest.TestCase):

@@ -42,7 +42,7 @@ class Report(unittest.TestCase):
         self.assertEqual(outcomes, set(range(10)))
 
     def test_the_largest_report(self):
-        listing = dict(common.stored_listings())[common.ROOT / "crates/cases/data/report-17994.img"]
+        listing = dict(common.stored_listings())[common.STORED / "data/report-17994.img"]
         self.assertEqual(len(as_bytes(listing)[0]), 17_994)
 
     def test_in_words(self):

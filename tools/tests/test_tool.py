@@ -59,9 +59,9 @@ class Tool(unittest.TestCase):
             self.assertEqual(run("report", report, "--words")[0], b"The run was aborted after 7 steps.\n")
 
     def test_errors(self):
-        for words in (("asm", "no such file"), ("picture", common.ROOT / "crates/watch_all/data/076-refused-2.img"),
+        for words in (("asm", "no such file"), ("picture", common.STORED / "data/076-refused-2.img"),
                       ("report", EXAMPLES / "plain.txt"), ("asm", EXAMPLES / "count.watch"),
-                      ("disasm", "--program", common.ROOT / "crates/watch_all/data/052-refused-11.img")):
+                      ("disasm", "--program", common.STORED / "data/052-refused-11.img")):
             with self.assertRaises(SystemExit) as caught:
                 run(*words)
             self.assertTrue(str(caught.exception).startswith("watchtool: "), words)

@@ -8,6 +8,9 @@ mod varied;
 use std::fs;
 use std::path::{Path, PathBuf};
 
+/// The image whose job is also done in Lua.
+pub const DECODED: &str = "240 bytes decoded";
+
 /// An image with its name.
 pub struct Image {
     pub name: &'static str,
@@ -33,7 +36,7 @@ pub fn all() -> Vec<Image> {
     vec![
         image("constant (P2)", large::constant()),
         image("recursion through a cell", loops::tail(2_040)),
-        image("240 bytes decoded", decode::decode(240)),
+        image(DECODED, decode::decode(240)),
         image("marks, 1 advice", marks::marks(1, 1_000)),
         image("marks, 8 advices", marks::marks(8, 220)),
         image("marks, 64 advices", marks::marks(64, 30)),

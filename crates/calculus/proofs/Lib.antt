@@ -1,4 +1,6 @@
--- The bench sheet's cases, and the order of signed numbers.
-pub mod Sheet
+-- What the definitions say: arithmetic, small runs, terms that a domain rule refuses, cells and labels that are not there.
 pub mod Signed
+pub mod Examples
 pub mod Refused
+pub mod Absent
+pub mod Lookup

@@ -1,5 +1,5 @@
--- The test on bit patterns with flipped sign bits is the order of signed numbers.
-use Prim.Native.Nat.{ℕ, suc, _-_, _<_, _≤_}
+-- Arithmetic on bit patterns: plus wraps modulo 2^32, minus undoes it, and the test on patterns with flipped sign bits is the order of signed numbers.
+use Prim.Native.Nat.{ℕ, suc, _+_, _-_, _^_, _<_, _≤_}
 use mathlib.Core.Path.{_≡_, refl, sym, _∙_}
 use mathlib.Core.Bool.{Bool, true, false}
 use native.Mathlib.Omega.{arith}
@@ -11,7 +11,16 @@ use mir.Syntax.{w32}
 use mir.Val.{toZ}
 use mir.Facts.{toZ-pos, toZ-neg}
 use Rattle.calculus.specs.Limits.{wordSize, signBit, minusOne}
-use Rattle.calculus.specs.Numbers.{flipped, isLess}
+use Rattle.calculus.specs.Numbers.{sum, difference, flipped, isLess}
+
+pub sum-fits : (m n : ℕ) → m + n < 2 ^ 32 → sum m n ≡ m + n
+sum-fits m n h = omega arith
+
+pub sum-wraps : (m n : ℕ) → m < 2 ^ 32 → n < 2 ^ 32 → 2 ^ 32 ≤ m + n → sum m n + 2 ^ 32 ≡ m + n
+sum-wraps m n hm hn h = omega arith
+
+pub difference-undoes : (m n : ℕ) → m < 2 ^ 32 → n < 2 ^ 32 → difference (sum m n) n ≡ m
+difference-undoes m n hm hn = omega arith
 
 -- The number of a pattern with the sign bit.
 negative : (x : ℕ) → signBit ≤ x → x < wordSize → toZ w32 x ≡ negsuc (minusOne - x)

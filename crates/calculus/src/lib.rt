@@ -1,9 +1,7 @@
-// The calculus of harmless advice: definitions in specs/, cases and laws in proofs/; and here what the engine shares with
-// it, the enums of the outcomes and leaves and the arithmetic, each function proved equal to its definition.
-mod numbers;
-
+// The calculus of harmless advice: definitions in specs/, laws and examples in proofs/; and here what the engine shares
+// with it, the enums of the outcomes and of the leaves, and the outcomes' numbers.
 ghost use mathlib.Core.Path.{_≡_};
-ghost use Rattle.calculus.specs.Report.{outcomeNumber, leafKind, leafValue};
+ghost use Rattle.calculus.specs.Report.{outcomeNumber};
 
 // How a run ends (document 01, "A run").
 pub enum Outcome {
@@ -40,26 +38,5 @@ pub fn outcome_number(o: Outcome) -> u16
         Outcome::Advice => 7,
         Outcome::Pieces => 8,
         Outcome::Log => 9,
-    }
-}
-
-pub fn leaf_kind(l: Leaf) -> u16
-    ensures { λ r. ⌜ r ≡ leafKind l ⌝ }
-{
-    match l {
-        Leaf::Unit => 65,
-        Leaf::Truth(_) => 66,
-        Leaf::Number(_) => 67,
-    }
-}
-
-// The value of a leaf as bits.
-pub fn leaf_value(l: Leaf) -> u32
-    ensures { λ r. ⌜ r ≡ leafValue l ⌝ }
-{
-    match l {
-        Leaf::Unit => 0,
-        Leaf::Truth(b) => if b { 1 } else { 0 },
-        Leaf::Number(n) => n,
     }
 }

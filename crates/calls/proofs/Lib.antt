@@ -1,2 +1,4 @@
--- Runs of accepted images.
+-- Leaves in slots, a call by its verdict, and runs of accepted images.
+pub mod Slots
+pub mod Called
 pub mod Accepted

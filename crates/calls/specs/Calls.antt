@@ -2,9 +2,7 @@
 use Prim.Native.Nat.{ℕ, _+_, _*_, _%_}
 use mathlib.Core.Path.{_≡_}
 use mathlib.Core.List.{List, [], _++_, map}
-use mathlib.Core.Option.{Option, none, some}
 use lib.ListN.{length, take, replicate}
-use Rattle.calculus.specs.declared.Outcome.{Outcome}
 use Rattle.calculus.specs.declared.Leaf.{Leaf}
 use Rattle.calculus.specs.Limits.{leafLimit}
 use Rattle.calculus.specs.Run.{Ended}
@@ -15,8 +13,9 @@ use Rattle.image.specs.Limits.{workLength}
 use Rattle.verdicts.specs.declared.Verdict.{Verdict}
 use Rattle.verdicts.specs.Verdicts.{verdict}
 use Rattle.area.specs.Bytes.{over, cleared}
+use Rattle.report.specs.declared.Ending.{Ending}
 use Rattle.report.specs.declared.Slot.{Slot}
-use Rattle.report.specs.Same.{writtenLog, writtenReport}
+use Rattle.report.specs.Same.{endingOf, writtenLog, writtenReport}
 use Rattle.calls.specs.declared.Answer.{Answer}
 use Rattle.calls.specs.Runs.{runOf}
 
@@ -27,17 +26,12 @@ slotOf l = record { leaf = l }
 abbrev pub slotsOf : List Leaf → List Slot
 slotsOf ls = take leafLimit (map slotOf ls ++ replicate leafLimit (slotOf Leaf.Unit))
 
--- The run of an accepted image is never stuck (the crate demands, `one-of-ten`), so the outcome that stands here for none is never answered.
-abbrev pub outcomeOr : Option Outcome → Outcome
-outcomeOr none = Outcome.Done
-outcomeOr (some o) = o
-
 -- "A run returns how many bytes of log and of report it wrote", with its outcome, its steps and its result's leaves.
 abbrev pub answerOf : Ended → Answer
 answerOf E =
     record {
       verdict = Verdict.Accepted;
-      outcome = outcomeOr (report E .outcome);
+      ending = endingOf (report E .outcome);
       steps = report E .steps;
       log = length (writtenLog E);
       report = length (writtenReport E);
@@ -45,9 +39,10 @@ answerOf E =
       leaves = slotsOf (report E .result);
     }
 
+-- "A call turned back at the gate makes no run": its answer has no outcome.
 abbrev pub refusedAnswer : Refusal → ℕ → Answer
 refusedAnswer r place =
-    record { verdict = Verdict.Refused r place; outcome = Outcome.Done; steps = 0; log = 0; report = 0; count = 0; leaves = slotsOf [] }
+    record { verdict = Verdict.Refused r place; ending = Ending.NoOutcome; steps = 0; log = 0; report = 0; count = 0; leaves = slotsOf [] }
 
 -- What a call answers, and what the lent memory then holds.
 pub record Left : Type 0 where

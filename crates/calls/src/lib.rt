@@ -1,13 +1,13 @@
 // What a whole call answers and leaves: the definition in specs/, and here the struct that answers.
-use calculus::Outcome;
+use report::Ending;
 use report::Slot;
 use verdicts::Verdict;
 
-// The answer of a call (document 01, "A run"). Of a call that is refused the verdict alone says something: the rest is
-// that of a run that did nothing.
+// The answer of a call (document 01, "A run"): the outcome enum with the result's leaves beside it. Of a call that is
+// refused the verdict alone says something: it has no outcome, and its numbers are 0.
 pub struct Answer {
     pub verdict: Verdict,
-    pub outcome: Outcome,
+    pub ending: Ending,
     pub steps: u32,
     // bytes written
     pub log: usize,

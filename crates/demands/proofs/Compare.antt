@@ -10,7 +10,8 @@ use Rattle.image.specs.Layout.{recordsOf}
 use Rattle.image.specs.Program.{toTm, blanked}
 use Rattle.image.proofs.Blanked.{same-but-low}
 use Rattle.verdicts.specs.Order.{policy}
-use Rattle.verdicts.proofs.Accept.{accepted-iff, accepted-good, accepted-order}
+use Rattle.verdicts.proofs.Passed.{passed-iff}
+use Rattle.verdicts.proofs.Accept.{accepted-good, accepted-order}
 use Rattle.verdicts.proofs.Order.{leq-same}
 use Rattle.noninterference.specs.Observe as Observe
 use Rattle.noninterference.specs.Observe.{Highs, Same}
@@ -26,7 +27,7 @@ use Rattle.demands.proofs.ByField.{small-field, program-same}
 -- The program of an accepted image names no domain that its 2 bytes could change.
 program-by-field : (high : Dom → Bool) (b : List ℕ) → Accepts b → blanked (byField high) (programOf b) ≡ blanked high (programOf b)
 program-by-field high b A =
-    program-same (byField high) high (small-field high) (recordsOf b) (accepted-good b (A .work) (A .report) (A .verdict-is)) (accepted-iff b (A .work) (A .report) .0 (A .verdict-is) .shaped .has-terms)
+    program-same (byField high) high (small-field high) (recordsOf b) (accepted-good b (A .work) (A .report) (A .verdict-is)) (passed-iff b (A .work) (A .report) .0 (A .verdict-is) .shaped .has-terms)
 
 module _ (high : Dom → Bool) (b b′ : List ℕ) (A : Accepts b) (A′ : Accepts b′) (C : Compared high b b′) where
   highs : Highs (policy (recordsOf b)) high

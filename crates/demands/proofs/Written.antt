@@ -1,24 +1,18 @@
--- Laws of what a whole call answers and leaves: its outcome, bytes written at the front of lent memory, and a work area with its first bytes cleared.
+-- Laws of what a whole call answers and leaves: its outcome's number, bytes written at the front of lent memory, and a work area with its first bytes cleared.
 use Prim.Native.Nat.{ℕ, _%_, _≤_}
 use native.Mathlib.Omega.{arith}
 use mathlib.Core.Path.{_≡_, refl, sym, ap, _∙_}
 use mathlib.Core.List.{List, _++_}
-use mathlib.Core.Option.{Option, some}
 use lib.ListN.{length, take, drop, replicate, length-append, length-drop, length-replicate}
 use lib.Seq.{take-at, take-append-seam, drop-append-seam}
 use Rattle.calculus.specs.declared.Outcome.{Outcome}
 use Rattle.calculus.specs.Report.{outcomeNumber}
 use Rattle.area.specs.Bytes.{over, cleared}
 use Rattle.area.proofs.Over.{over-front, length-over}
-use Rattle.report.specs.Same.{reportedNumber}
 use Rattle.report.specs.Fits.{shortSize}
-use Rattle.calls.specs.Calls.{outcomeOr}
 
--- The outcome that a run which is not stuck answers, and the number that its report has.
-pub outcome-given : (x : Option Outcome) (o : Outcome) → x ≡ some o → x ≡ some (outcomeOr x)
-outcome-given x o e = rw e refl
-
-outcome-fits : (o : Outcome) → outcomeNumber o % shortSize ≡ outcomeNumber o
+-- An outcome's number fits its field of the report.
+pub outcome-fits : (o : Outcome) → outcomeNumber o % shortSize ≡ outcomeNumber o
 outcome-fits Outcome.Done = refl
 outcome-fits Outcome.Spent = refl
 outcome-fits Outcome.Aborted = refl
@@ -29,9 +23,6 @@ outcome-fits Outcome.Labels = refl
 outcome-fits Outcome.Advice = refl
 outcome-fits Outcome.Pieces = refl
 outcome-fits Outcome.Log = refl
-
-pub number-given : (x : Option Outcome) (o : Outcome) → x ≡ some o → reportedNumber x % shortSize ≡ outcomeNumber (outcomeOr x)
-number-given x o e = rw e (outcome-fits o)
 
 -- Bytes written at the front.
 pub take-front : (bs xs : List ℕ) → take (length bs) (over 0 bs xs) ≡ bs

@@ -1,16 +1,20 @@
 -- What a whole call wrote, and what demand 1 says of a call that runs (document 01, "A run" and "Turned back at the gate").
-use Prim.Native.Nat.{ℕ, _≤_, _<_}
+use Prim.Native.Nat.{ℕ, _*_, _≤_, _<_}
 use mathlib.Core.Path.{_≡_}
 use mathlib.Core.List.{List}
 use mathlib.Core.Option.{some}
 use lib.ListN.{length, take, drop, replicate}
-use Rattle.calculus.specs.Limits.{wordSize}
+use Rattle.calculus.specs.declared.Outcome.{Outcome}
+use Rattle.calculus.specs.Limits.{wordSize, logRecordLength}
+use Rattle.calculus.specs.State.{logOf}
+use Rattle.calculus.specs.Run.{Ended}
 use Rattle.calculus.specs.Report.{outcomeNumber, report as reported}
 use Rattle.image.specs.Limits.{workLength, reportLength}
 use Rattle.verdicts.specs.declared.Verdict.{Verdict}
 use Rattle.verdicts.specs.Verdicts.{verdict}
+use Rattle.report.specs.declared.Ending.{Ending}
+use Rattle.report.specs.Written.{leavesIn, logBytes, reportBytes}
 use Rattle.report.specs.Read.{readReport}
-use Rattle.calls.specs.Runs.{runOf}
 use Rattle.calls.specs.Calls.{Left}
 
 -- "A call turned back at the gate makes no run": a call with image b, this report and this work area makes one.
@@ -24,14 +28,26 @@ logWritten X = take (X .answer .log) (X .log)
 abbrev pub reportWritten : Left → List ℕ
 reportWritten X = take (X .answer .report) (X .report)
 
--- Of a call that runs and what it leaves, X.
-pub record RunsOut (b frame : List ℕ) (budget : ℕ) (log report work : List ℕ) (X : Left) : Type 0 where
-  -- one of the ten outcomes, and its number stands in the report
-  pub outcome : reported (runOf b frame budget log) .outcome ≡ some (X .answer .outcome)
-  pub number : readReport (reportWritten X) .outcome ≡ outcomeNumber (X .answer .outcome)
-  -- "the budget and step count are 32-bit unsigned"
-  pub steps : X .answer .steps ≤ budget
-  pub steps-said : budget < wordSize → readReport (reportWritten X) .steps ≡ X .answer .steps
+-- Of a call that runs: E is the calculus's run of the image's program, and X what the call answers and leaves.
+pub record RunsOut (E : Ended) (budget : ℕ) (log report work : List ℕ) (X : Left) : Type 0 where
+  -- one of the ten outcomes: the run's, and the call's
+  pub outcome : Outcome
+  pub outcome-is : reported E .outcome ≡ some outcome
+  pub answered : X .answer .ending ≡ Ending.Ended outcome
+  -- "the steps counted are the steps of this definition"; "spent if steps equal the budget"
+  pub steps : X .answer .steps ≡ E .steps
+  pub within : E .steps ≤ budget
+  pub spent : outcome ≡ Outcome.Spent → E .steps ≡ budget
+  -- the result's leaves, left to right, if done
+  pub leaves : leavesIn (X .answer .count) (X .answer .leaves) ≡ reported E .result
+  -- "Log record: length 10, kind 64, the current domain, number": one for each print of the run, in order
+  pub log-is : logWritten X ≡ logBytes (logOf (E .state .trace))
+  pub log-count : X .answer .log ≡ logRecordLength * length (logOf (E .state .trace))
+  -- "Report: length 10, kind 70, outcome, steps; if done, the result's leaves; then, done or not, each cell in order of creation"
+  pub report-is : reportWritten X ≡ reportBytes (outcomeNumber outcome) (E .steps) (reported E .result) (reported E .cells)
+  -- what demand 3 reads back from it; "the budget and step count are 32-bit unsigned"
+  pub outcome-read : readReport (reportWritten X) .outcome ≡ outcomeNumber outcome
+  pub steps-read : budget < wordSize → readReport (reportWritten X) .steps ≡ E .steps
   -- what is written fits, "bytes past these are unchanged"
   pub log-fits : X .answer .log ≤ length log
   pub log-past : drop (X .answer .log) (X .log) ≡ drop (X .answer .log) log

@@ -1,6 +1,6 @@
 -- A call, from its verdict.
 use Prim.Native.Nat.{ℕ, _≤_, _<_}
-use mathlib.Core.Path.{_≡_, refl, sym, ap, _∙_}
+use mathlib.Core.Path.{_≡_, refl, sym, _∙_}
 use mathlib.Core.List.{List}
 use lib.ListN.{length}
 use Rattle.image.specs.declared.Refusal.{Refusal}
@@ -11,17 +11,14 @@ use Rattle.examine.specs.Examined.{examined}
 use Rattle.validator.proofs.Parts.{too-long, examined-refuses, short-work, short-report, all-enough}
 use Rattle.calls.specs.declared.Answer.{Answer}
 use Rattle.calls.specs.Runs.{Accepts, runOf}
-use Rattle.calls.specs.Calls.{refusedAnswer, Left, leftBy, afterVerdict, called}
+use Rattle.calls.specs.Calls.{refusedAnswer, Left, leftBy, called}
+use Rattle.calls.proofs.Called.{refused-leaves, accepted-leaves}
 
 module _ (b frame : List ℕ) (budget : ℕ) (log report work : List ℕ) where
-  by-verdict : (v : Verdict) → v ≡ verdict b (length work) (length report) → afterVerdict v (runOf b frame budget log) log report work ≡ called b frame budget log report work
-  unfolding called
-  by-verdict v e = ap (λ x. afterVerdict x (runOf b frame budget log) log report work) e
-
   -- A refusal that is the verdict: nothing is written.
   pub refusal-left : (r : Refusal) (place : ℕ) (a : Answer) → Verdict.Refused r place ≡ verdict b (length work) (length report) → a ≡ refusedAnswer r place
       → record { answer = a; log = log; report = report; work = work } ≡ called b frame budget log report work
-  refusal-left r place a e d = (λ i. record { answer = d i; log = log; report = report; work = work }) ∙ by-verdict (Verdict.Refused r place) e
+  refusal-left r place a e d = (λ i. record { answer = d i; log = log; report = report; work = work }) ∙ sym (refused-leaves b frame budget log report work r place (sym e))
 
   pub too-long-left : (a : Answer) → imageLimit < length b → a ≡ refusedAnswer Refusal.ImageTooLong 0 → record { answer = a; log = log; report = report; work = work } ≡ called b frame budget log report work
   too-long-left a h d = refusal-left Refusal.ImageTooLong 0 a (too-long b (length work) (length report) h) d
@@ -47,4 +44,4 @@ module _ (b frame : List ℕ) (budget : ℕ) (log report work : List ℕ) where
         image-accepted = record { work = length work; report = length report; verdict-is = sym accepted }
 
         pub run-called : (X : Left) → X ≡ leftBy (runOf b frame budget log) log report work → X ≡ called b frame budget log report work
-        run-called X e = e ∙ by-verdict Verdict.Accepted accepted
+        run-called X e = e ∙ sym (accepted-leaves b frame budget log report work (sym accepted))

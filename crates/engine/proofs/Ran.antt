@@ -9,7 +9,7 @@ use Rattle.image.specs.Refusals.{refusalNumber}
 use Rattle.image.specs.Limits.{workLength}
 use Rattle.image.specs.Layout.{recordsOf}
 use Rattle.verdicts.specs.declared.Verdict.{Verdict}
-use Rattle.verdicts.proofs.Accept.{accepted-iff}
+use Rattle.verdicts.proofs.Passed.{passed-iff}
 use Rattle.records.specs.Tables.{Tables}
 use Rattle.rules.specs.Lent.{Types}
 use Rattle.rules.proofs.Located.{good-of}
@@ -41,7 +41,7 @@ few-types b ds ts ks n T e = let f = good-of b (T .laid-out) .few-types in omega
 
 -- An accepted image has a term.
 pub some-term : (b : List ℕ) (count : ℕ) → Accepts b → count ≡ length (recordsOf b .terms) → 0 < count
-some-term b count A e = let h = accepted-iff b (A .work) (A .report) .0 (A .verdict-is) .shaped .has-terms in omega arith
+some-term b count A e = let h = passed-iff b (A .work) (A .report) .0 (A .verdict-is) .shaped .has-terms in omega arith
 
 -- A table of rows that was zero.
 pub rows-read : (rows b : List ℕ) (count : ℕ) → rows ≡ rowsOf (recordsOf b) ++ drop count (replicate 1024 0) → count ≡ length (recordsOf b .terms) → SameRows rows b

@@ -1,21 +1,24 @@
 // Answers.
 use calculus::Leaf;
-use calculus::Outcome;
 use calls::Answer;
 use image::Refusal;
+use report::Ending;
 use report::Slot;
 use verdicts::Verdict;
 ghost use mathlib.Core.Path.{_≡_};
 ghost use Rattle.calls.specs.Calls.{refusedAnswer, callNumber};
 
+// The answer of a call that makes no run: it has no outcome.
 pub fn refused(why: Refusal, place: usize) -> Answer
     ensures { λ r. ⌜ r ≡ refusedAnswer why place ⌝ }
 {
     let unit = Slot { leaf: Leaf::Unit };
     let slots = [unit; 8];
+    let verdict = Verdict::Refused(why, place);
+    let ending = Ending::NoOutcome;
     Answer {
-        verdict: Verdict::Refused(why, place),
-        outcome: Outcome::Done,
+        verdict: verdict,
+        ending: ending,
         steps: 0,
         log: 0,
         report: 0,

@@ -4,9 +4,9 @@ mod accepted;
 mod answers;
 
 use calls::Answer;
+use examine::Checked;
 use image::IMAGE_LIMIT;
 use image::Refusal;
-use verdicts::Verdict;
 ghost use mathlib.Core.Path.{_≡_};
 ghost use Rattle.calls.specs.Calls.{called, Numbered};
 
@@ -25,30 +25,25 @@ pub fn run(
         return answers::refused(Refusal::ImageTooLong, 0);
     }
     let kinds = records::kinds::kind_codes();
-    let mut sizes = layout::start_sizes();
     let mut doms = [0u16; 16];
     let mut types = [0u16; 128];
     let mut keys = [0u32; 128];
-    let mut seen = [false; 256];
     let mut terms = [0u16; 1024];
-    let v = examine::examine_image(
+    let checked = examine::examine_image(
         image,
         &kinds,
-        &mut sizes,
         &mut doms,
         &mut types,
         &mut keys,
-        &mut seen,
         &mut terms,
     );
-    match v {
-        Verdict::Refused(why, place) => answers::refused(why, place),
-        Verdict::Accepted => accepted::run_lent(
+    match checked {
+        Checked::Refused(why, place) => answers::refused(why, place),
+        Checked::Accepted(counts) => accepted::run_lent(
             image,
             &keys,
             &terms,
-            sizes[0],
-            sizes[5],
+            counts,
             frame,
             budget,
             log,

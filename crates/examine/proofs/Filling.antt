@@ -6,54 +6,56 @@ use native.Mathlib.Omega.{arith}
 use lib.ListN.{length, getD, take}
 use lib.Seq.{length-take-le}
 use Rattle.image.specs.Limits.{imageLimit}
-use Rattle.image.specs.Layout.{laid, recordsOf}
+use Rattle.image.specs.Layout.{laid, layout, recordsOf}
 use Rattle.image.specs.Types.{typePlace}
 use Rattle.image.proofs.Laid.{records-of}
+use Rattle.records.specs.declared.numbers.Counts.{Counts}
 use Rattle.records.specs.Keys.{Key}
-use Rattle.layout.specs.declared.Scan.{Scan}
-use Rattle.layout.specs.Sizes.{typeCount, domainCount, termCount}
-use Rattle.layout.specs.Tables.{layoutOf, Scanned}
+use Rattle.layout.specs.Tables.{layoutOf, Tables}
 use Rattle.examine.specs.Examined.{Filled}
 
-module _ (b ss ds ts ks es : List ℕ) (short : length b ≤ imageLimit) (s : Scanned Scan.Laid b ss ds ts ks es) where
-  held : recordsOf b ≡ layoutOf b ss ds ts es
-  held = records-of b (layoutOf b ss ds ts es) (sym (s .answer))
+module _ (b : List ℕ) (n : Counts) (ds ts ks es : List ℕ) (short : length b ≤ imageLimit) (answer : laid (layoutOf b n ds ts es) ≡ layout b) (T : Tables b n ds ts ks es) where
+  held : recordsOf b ≡ layoutOf b n ds ts es
+  held = records-of b (layoutOf b n ds ts es) (sym answer)
 
-  domain-count : length (take (domainCount ss) ds) ≡ domainCount ss
-  domain-count = let z = s .tables .sizes .few-domains in let y = s .tables .doms in length-take-le (domainCount ss) ds (omega arith)
+  domain-count : length (take (n .domains) ds) ≡ n .domains
+  domain-count = let z = T .few .domains in let y = T .long .doms in length-take-le (n .domains) ds (omega arith)
 
-  type-count : length (take (typeCount ss) ts) ≡ typeCount ss
-  type-count = let z = s .tables .sizes .few-types in let y = s .tables .types in length-take-le (typeCount ss) ts (omega arith)
+  type-count : length (take (n .types) ts) ≡ n .types
+  type-count = let z = T .few .types in let y = T .long .types in length-take-le (n .types) ts (omega arith)
 
-  term-count : length (take (termCount ss) es) ≡ termCount ss
-  term-count = let z = s .tables .sizes .few-terms in let y = s .tables .terms in length-take-le (termCount ss) es (omega arith)
+  term-count : length (take (n .terms) es) ≡ n .terms
+  term-count = let z = T .few .terms in let y = T .long .terms in length-take-le (n .terms) es (omega arith)
 
-  domains-held : recordsOf b .domains ≡ take (domainCount ss) ds
+  domains-held : recordsOf b .domains ≡ take (n .domains) ds
   domains-held = ap (λ L. L .domains) held
 
-  types-held : recordsOf b .types ≡ take (typeCount ss) ts
+  types-held : recordsOf b .types ≡ take (n .types) ts
   types-held = ap (λ L. L .types) held
 
-  terms-held : recordsOf b .terms ≡ take (termCount ss) es
+  terms-held : recordsOf b .terms ≡ take (n .terms) es
   terms-held = ap (λ L. L .terms) held
 
-  counted : length (recordsOf b .types) ≡ typeCount ss
+  counted : length (recordsOf b .types) ≡ n .types
   counted = ap length types-held ∙ type-count
 
   key-held : (t : ℕ) → t < length (recordsOf b .types) → Key b (typePlace (recordsOf b) t) (getD ks t 0)
-  key-held t h = subst (λ L. Key b (typePlace L t) (getD ks t 0)) (sym held) (s .tables .keyed .at t (let e = counted in let f = type-count in omega arith))
+  key-held t h = subst (λ L. Key b (typePlace L t) (getD ks t 0)) (sym held) (T .keyed .at t (let e = counted in let f = type-count in omega arith))
 
-  pub filled : Filled b ss ds ks es
+  pub filled : Filled b n ds ts ks es
   filled = record {
     tables = record {
-      laid-out = sym (s .answer) ∙ ap laid (sym held);
+      laid-out = sym answer ∙ ap laid (sym held);
       short = short;
-      domains = ap (λ x. take (length x) ds) domains-held ∙ ap (λ n. take n ds) domain-count ∙ sym domains-held;
-      terms = ap (λ x. take (length x) es) terms-held ∙ ap (λ n. take n es) term-count ∙ sym terms-held;
-      enough = (let e = counted in let f = s .tables .sizes .few-types in let g = s .tables .keys in omega arith);
+      domains = ap (λ x. take (length x) ds) domains-held ∙ ap (λ m. take m ds) domain-count ∙ sym domains-held;
+      terms = ap (λ x. take (length x) es) terms-held ∙ ap (λ m. take m es) term-count ∙ sym terms-held;
+      enough = (let e = counted in let f = T .few .types in let g = T .long .keys in omega arith);
       keys = key-held;
     };
-    domains = sym (ap length domains-held ∙ domain-count);
-    types = sym counted;
-    terms = sym (ap length terms-held ∙ term-count);
+    types = sym types-held;
+    counts = record {
+      domains = sym (ap length domains-held ∙ domain-count);
+      types = sym counted;
+      terms = sym (ap length terms-held ∙ term-count);
+    };
   }

@@ -7,21 +7,22 @@ use native.Mathlib.Omega.{arith}
 use lib.ListN.{length}
 use Rattle.image.specs.declared.Refusal.{Refusal}
 use Rattle.image.specs.Limits.{imageLimit}
-use Rattle.image.specs.Layout.{layout, recordsOf}
+use Rattle.image.specs.Layout.{stopped, laid, layout, recordsOf}
+use Rattle.image.proofs.Facts.{no-path}
 use Rattle.verdicts.specs.declared.Verdict.{Verdict}
 use Rattle.verdicts.specs.Answers.{isRefused, inTurn}
-use Rattle.verdicts.specs.Shape.{shape}
+use Rattle.verdicts.specs.Shape.{shape, Shaped}
 use Rattle.verdicts.specs.Check.{typing}
 use Rattle.verdicts.specs.Verdicts.{laidOut}
-use Rattle.verdicts.specs.Acceptable.{Shaped}
-use Rattle.verdicts.proofs.Answered.{not-refused, accepted-is, turn-stops, turn-goes, last-turn}
-use Rattle.verdicts.proofs.Accept.{shape-accepts}
-use Rattle.records.specs.Codes.{kindCodes}
+use Rattle.verdicts.proofs.Answered.{accepted-is, turn-stops, turn-goes, last-turn}
+use Rattle.verdicts.proofs.Passed.{shape-accepts}
+use Rattle.records.specs.declared.numbers.Counts.{Counts}
+use Rattle.records.specs.Tables.{Counted}
 use Rattle.layout.specs.declared.Scan.{Scan}
-use Rattle.layout.specs.Sizes.{typeCount, domainCount, termCount}
-use Rattle.layout.specs.Tables.{Scanned}
-use Rattle.typing.specs.Turns.{Counted}
-use Rattle.examine.specs.Examined.{checkedRecords, examined, Filled, Answered}
+use Rattle.layout.specs.Tables.{layoutOf, scanOf, Scanned}
+use Rattle.typing.specs.Turns as Turns
+use Rattle.examine.specs.declared.Checked.{Checked}
+use Rattle.examine.specs.Examined.{checkedRecords, examined, verdictOf, withCounts, Filled, Answered}
 use Rattle.examine.proofs.Filling.{filled}
 
 -- Two checks in turn.
@@ -46,33 +47,48 @@ typing-decides b v w e h f =
 pub shaped : (b : List ℕ) (v : Verdict) → v ≡ shape (recordsOf b) (length b) → isRefused v ≡ false → Shaped (recordsOf b)
 shaped b v e h = shape-accepts (recordsOf b) (length b) .0 (sym e ∙ accepted-is v h)
 
-pub counted : (b ss ds ks es : List ℕ) → Filled b ss ds ks es → (v : Verdict) → v ≡ shape (recordsOf b) (length b) → isRefused v ≡ false → Counted b (domainCount ss) (typeCount ss) (termCount ss)
-counted b ss ds ks es F v e h =
+pub counted : (b : List ℕ) (n : Counts) → Counted b n → (v : Verdict) → v ≡ shape (recordsOf b) (length b) → isRefused v ≡ false → Turns.Counted b (n .domains) (n .types) (n .terms)
+counted b n C v e h =
     let s = shaped b v e h in
-    record { domain-count = F .domains; type-count = F .types; term-count = F .terms; some-term = (let z = s .has-terms in let y = F .terms in omega arith) }
+    record { domain-count = C .domains; type-count = C .types; term-count = C .terms; some-term = (let z = s .has-terms in let y = C .terms in omega arith) }
 
 -- The scan stopped, or laid the image out.
-pub stopped-answer : (b ss ds ts ks es : List ℕ) (x : Scan) (r : Refusal) (o : ℕ) → x ≡ Scan.Stopped r o → Scanned x b ss ds ts ks es → Answered (Verdict.Refused r o) b ss ds ks es
-unfolding examined inTurn
-stopped-answer b ss ds ts ks es x r o e s =
-    let q : Scanned (Scan.Stopped r o) b ss ds ts ks es = subst (λ y. Scanned y b ss ds ts ks es) e s in
-    record {
-      answer = sym (refused-turn (Verdict.Refused r o) (checkedRecords b) refl) ∙ ap (λ y. inTurn ((λ u. laidOut y) ∷ (λ u. checkedRecords b) ∷ [])) (q .answer);
-      filled = λ h. not-refused h;
-    }
+module _ (b ds ts ks es : List ℕ) (x : Scan) (short : length b ≤ imageLimit) (s : Scanned x b ds ts ks es) where
+  pub stopped-answer : (r : Refusal) (o : ℕ) → x ≡ Scan.Stopped r o → Answered (Checked.Refused r o) b ds ts ks es
+  unfolding examined inTurn
+  stopped-answer r o e =
+      let a : stopped r o ≡ layout b = ap (λ y. scanOf y b ds ts es) (sym e) ∙ s .answer in
+      record {
+        answer = sym (refused-turn (Verdict.Refused r o) (checkedRecords b) refl) ∙ ap (λ y. inTurn ((λ u. laidOut y) ∷ (λ u. checkedRecords b) ∷ [])) a;
+        filled = λ n h. no-path cc;
+        entered = s .counts;
+        holds = s .holds;
+      }
 
--- What the checks of the records ask, once they are laid out.
-pub laid-tables : (b kinds ss ds ts ks es : List ℕ) (x : Scan) → x ≡ Scan.Laid → length b ≤ imageLimit → kinds ≡ kindCodes → Scanned x b ss ds ts ks es
-    → (kinds ≡ kindCodes) × Filled b ss ds ks es × (5 < length ss)
-laid-tables b kinds ss ds ts ks es x e short k s =
-    let q : Scanned Scan.Laid b ss ds ts ks es = subst (λ y. Scanned y b ss ds ts ks es) e s in
-    (k, filled b ss ds ts ks es short q, let z = s .tables .sizes .places in omega arith)
+  module _ (n : Counts) (e : x ≡ Scan.Laid n) where
+    laid-answer : laid (layoutOf b n ds ts es) ≡ layout b
+    laid-answer = ap (λ y. scanOf y b ds ts es) (sym e) ∙ s .answer
 
-pub laid-answer : (b ss ds ts ks es : List ℕ) (x : Scan) (v : Verdict) → x ≡ Scan.Laid → length b ≤ imageLimit → Scanned x b ss ds ts ks es → v ≡ checkedRecords b → Answered v b ss ds ks es
-unfolding examined
-laid-answer b ss ds ts ks es x v l short s e =
-    let q : Scanned Scan.Laid b ss ds ts ks es = subst (λ y. Scanned y b ss ds ts ks es) l s in
-    record {
-      answer = sym (accepted-turn Verdict.Accepted v refl) ∙ ap (λ y. inTurn ((λ u. laidOut y) ∷ (λ u. v) ∷ [])) (q .answer) ∙ ap (λ y. inTurn ((λ u. laidOut (layout b)) ∷ (λ u. y) ∷ [])) e;
-      filled = λ h. filled b ss ds ts ks es short q;
-    }
+    -- What the checks of the records ask, and what they answer.
+    pub laid-tables : Filled b n ds ts ks es
+    laid-tables = filled b n ds ts ks es short laid-answer (rw (s .counted n e) at (s .holds .tables))
+
+    pub checked-answer : (v : Verdict) (r : Checked) → v ≡ checkedRecords b → r ≡ withCounts v n → Answered r b ds ts ks es
+    unfolding examined
+    checked-answer v r c d =
+        record {
+          answer =
+              ap verdictOf d ∙ back v ∙ sym (accepted-turn Verdict.Accepted v refl) ∙ ap (λ y. inTurn ((λ u. laidOut y) ∷ (λ u. v) ∷ [])) laid-answer
+              ∙ ap (λ y. inTurn ((λ u. laidOut (layout b)) ∷ (λ u. y) ∷ [])) c;
+          filled = λ m h. subst (λ k. Filled b k ds ts ks es) (same v m (sym d ∙ h)) laid-tables;
+          entered = s .counts;
+          holds = s .holds;
+        }
+      where
+        back : (w : Verdict) → verdictOf (withCounts w n) ≡ w
+        back Verdict.Accepted = refl
+        back (Verdict.Refused r o) = refl
+
+        same : (w : Verdict) (m : Counts) → withCounts w n ≡ Checked.Accepted m → n ≡ m
+        same Verdict.Accepted m h = cc
+        same (Verdict.Refused r o) m h = no-path cc

@@ -2,15 +2,17 @@
 use Prim.Native.Nat.{ℕ}
 use mathlib.Core.Path.{_≡_}
 use mathlib.Core.List.{List, [], _∷_}
-use lib.ListN.{length}
+use lib.ListN.{length, take}
 use Rattle.image.specs.Layout.{layout, recordsOf}
-use Rattle.records.specs.Tables.{Tables}
+use Rattle.records.specs.declared.numbers.Counts.{Counts}
+use Rattle.records.specs.Tables.{Tables, Counted}
 use Rattle.verdicts.specs.declared.Verdict.{Verdict}
 use Rattle.verdicts.specs.Answers.{inTurn}
 use Rattle.verdicts.specs.Shape.{shape}
 use Rattle.verdicts.specs.Check.{typing}
 use Rattle.verdicts.specs.Verdicts.{laidOut}
-use Rattle.layout.specs.Sizes.{typeCount, domainCount, termCount}
+use Rattle.layout.specs.Tables.{endOf, Holds}
+use Rattle.examine.specs.declared.Checked.{Checked}
 
 -- 9 to 16.
 unfoldable pub checkedRecords : List ℕ → Verdict
@@ -20,14 +22,24 @@ checkedRecords b = inTurn ((λ u. shape (recordsOf b) (length b)) ∷ (λ u. typ
 unfoldable pub examined : List ℕ → Verdict
 examined b = inTurn ((λ u. laidOut (layout b)) ∷ (λ u. checkedRecords b) ∷ [])
 
--- How many records each section has, and the tables.
-pub record Filled (b size-table domain-table key-table term-table : List ℕ) : Type 0 where
-  pub tables : Tables b domain-table term-table key-table
-  pub domains : domainCount size-table ≡ length (recordsOf b .domains)
-  pub types : typeCount size-table ≡ length (recordsOf b .types)
-  pub terms : termCount size-table ≡ length (recordsOf b .terms)
+-- The verdict in an answer, and an answer from a verdict and the counts.
+abbrev pub verdictOf : Checked → Verdict
+verdictOf (Checked.Refused r o) = Verdict.Refused r o
+verdictOf (Checked.Accepted n) = Verdict.Accepted
 
--- The answer r, and the tables where the image is accepted.
-pub record Answered (r : Verdict) (b size-table domain-table key-table term-table : List ℕ) : Type 0 where
-  pub answer : r ≡ examined b
-  pub filled : r ≡ Verdict.Accepted → Filled b size-table domain-table key-table term-table
+abbrev pub withCounts : Verdict → Counts → Checked
+withCounts (Verdict.Refused r o) n = Checked.Refused r o
+withCounts Verdict.Accepted n = Checked.Accepted n
+
+-- The tables of an image that is laid out, with so many records of each section.
+pub record Filled (b : List ℕ) (n : Counts) (domain-table type-table key-table term-table : List ℕ) : Type 0 where
+  pub tables : Tables b domain-table term-table key-table
+  pub types : take (n .types) type-table ≡ recordsOf b .types
+  pub counts : Counted b n
+
+-- The answer r, and the tables: they hold all records of an accepted image, and of any image those before the first that 2 to 8 refuse.
+pub record Answered (r : Checked) (b domain-table type-table key-table term-table : List ℕ) : Type 0 where
+  pub answer : verdictOf r ≡ examined b
+  pub filled : (n : Counts) → r ≡ Checked.Accepted n → Filled b n domain-table type-table key-table term-table
+  pub entered : Counts
+  pub holds : Holds b (endOf (layout b) b) entered domain-table type-table key-table term-table

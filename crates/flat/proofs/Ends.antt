@@ -4,13 +4,14 @@ use mathlib.Core.Path.{_≡_, refl, sym, _∙_}
 use mathlib.Core.Bool.{true, false, true≢false}
 use mathlib.Core.List.{List, _++_}
 use mathlib.Core.Option.{some}
-use lib.ListN.{length, getD, drop, length-map, List·getD-map}
+use lib.ListN.{length, getElem?, drop, length-map}
 use Rattle.calculus.specs.declared.Outcome.{Outcome}
 use Rattle.calculus.specs.Combinators.{choose}
 use Rattle.calculus.specs.Syntax.{Val, Tm}
-use Rattle.calculus.specs.State.{Cell, Given, logOf, noCell, fresh}
+use Rattle.calculus.specs.State.{Cell, Given, logOf, fresh}
 use Rattle.calculus.specs.Run.{EndOf, done, stopped, Ended, ended, run}
 use Rattle.calculus.specs.Report.{outcomeNumber, outcomeOf}
+use Rattle.calculus.proofs.Lookup.{get-map}
 use Rattle.machine.specs.Closure.{CVal, CState, plainVal, plainCell, plainAdvice, plainState}
 use Rattle.flat.specs.Memory.{cellAt, cellNote}
 use Rattle.flat.specs.States.{State, withRegs}
@@ -45,7 +46,7 @@ module _ (term : ℕ → Tm) (S : State) where
     pub log : S .log ≡ logBytes (logOf (E .state .trace)) ++ drop (S .regs .at) L
     pub log-at : S .regs .at ≡ 10 * length (logOf (E .state .trace))
     pub log-fits : S .regs .at ≤ length L
-    pub cells : (i : ℕ) → i < S .regs .nc → StandsCell i (getD (E .state .cells) i (noCell Val.unit))
+    pub cells : (i : ℕ) (c : Cell Val) → getElem? (E .state .cells) i ≡ some c → StandsCell i c
     pub cells-count : S .regs .nc ≡ length (E .state .cells)
     pub cells-used : S .regs .nc ≡ E .state .used .cells
     pub cells-fit : S .regs .nc ≤ 256
@@ -73,11 +74,11 @@ module _ (term : ℕ → Tm) (S : State) (N : ℕ) (L : List ℕ) where
         log = st .logged;
         log-at = st .log-at;
         log-fits = st .log-fits;
-        cells = λ i h.
-            let c = st .are-cells i h in
-            let cell : StandsCell term S i (plainCell (getD (s .cells) i (noCell CVal.unit))) =
-            record { held = record { value = getD (s .cells) i (noCell CVal.unit) .held; is = c .value; plain = refl }; note = c .note; low = c .low } in
-            rw (List·getD-map plainCell (s .cells) i (noCell CVal.unit)) cell;
+        cells = λ i c e.
+            let m = get-map plainCell (s .cells) i e in
+            let h = st .are-cells i (m .0) (m .1) in
+            let cell : StandsCell term S i (plainCell (m .0)) = record { held = record { value = m .0 .held; is = h .value; plain = refl }; note = h .note; low = h .low } in
+            rw (m .2) at cell;
         cells-count = st .cells-count ∙ sym (length-map (s .cells) plainCell);
         cells-used = st .cells;
         cells-fit = st .cells-fit;

@@ -4,6 +4,7 @@ use native.Mathlib.Omega.{arith}
 use mathlib.Core.Path.{_≡_, refl}
 use mathlib.Core.Bool.{Bool, true, false}
 use mathlib.Core.List.{List, []}
+use mathlib.Core.Option.{Option·none-ne-some}
 use lib.ListN.{length}
 use lib.Dec.{ltb}
 use borrow.Author.Tests.{ltb-true, ltb-false}
@@ -85,7 +86,7 @@ module _ (C : Program) (term : ℕ → Tm) (coded : Coded C term) (G : Given) (b
               labels-fit = omega arith;
               advices = refl;
               advices-fit = omega arith;
-              are-cells = λ i h. absurd (omega arith);
+              are-cells = λ i c e. absurd (Option·none-ne-some _ e);
               are-advices = none-installed;
               logged = refl;
               log-at = refl;

@@ -39,7 +39,7 @@ module _ (term : ℕ → Tm) (M : Memory) (z : Sizes) where
   leaves-is zero (is-num p q) h = rw (p, q)
   leaves-is zero (is-fun p q r e) h = rw p
   leaves-is zero (is-pair p q a c) h = absurd (omega arith)
-  leaves-is zero (is-cell p q r) h = rw p
+  leaves-is zero (is-cell p q) h = rw p
   leaves-is zero (is-label p q) h = rw p
   leaves-is zero (is-labels p q a) h = rw p
   leaves-is zero (is-advice p q a b e c) h = rw p
@@ -49,7 +49,7 @@ module _ (term : ℕ → Tm) (M : Memory) (z : Sizes) where
   leaves-is (suc d) (is-num p q) h = rw (p, q)
   leaves-is (suc d) (is-fun p q r e) h = rw p
   leaves-is (suc d) (is-pair p q a c) h = rw p (rw (leaves-is d a (omega arith), leaves-is d c (omega arith)))
-  leaves-is (suc d) (is-cell p q r) h = rw p
+  leaves-is (suc d) (is-cell p q) h = rw p
   leaves-is (suc d) (is-label p q) h = rw p
   leaves-is (suc d) (is-labels p q a) h = rw p
   leaves-is (suc d) (is-advice p q a b e c) h = rw p

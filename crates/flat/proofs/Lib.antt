@@ -32,4 +32,4 @@ pub mod Ends
 pub mod Theorem
 pub mod Leaves
 pub mod Typed
-pub mod Sheet
+pub mod Examples

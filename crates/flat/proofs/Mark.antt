@@ -4,16 +4,17 @@ use native.Mathlib.Omega.{arith}
 use mathlib.Core.Path.{_≡_, refl, ap, _∙_}
 use mathlib.Core.Bool.{Bool, true, false}
 use mathlib.Core.List.{List, [], _∷_}
-use lib.ListN.{length}
+use mathlib.Core.Option.{Option, none, some}
+use lib.ListN.{length, getElem?}
 use lib.Dec.{eqb, leb}
 use borrow.Author.Tests.{leb-true, eq-eqb, ne-eqb}
 use Rattle.calculus.specs.declared.Outcome.{Outcome}
 use Rattle.calculus.specs.Limits.{bindingLimit}
 use Rattle.calculus.specs.Combinators.{choose}
-use Rattle.calculus.specs.Syntax.{Ty, Tm, mark}
+use Rattle.calculus.specs.Syntax.{Dom, Ty, Tm, mark}
 use Rattle.calculus.specs.State.{Advice, Given, charged, addCounts, someBindings}
 use Rattle.calculus.specs.Compose.{matching}
-use Rattle.calculus.specs.Answer.{go, full, wrong, if-room, with}
+use Rattle.calculus.specs.Answer.{go, full, if-room, with}
 use Rattle.machine.specs.Closure.{CVal, Body, CState, plainVal}
 use Rattle.machine.specs.Machine.{Control, ret, triggered, Stack, placeAt, CAnswer, due, reduce2C, move}
 use Rattle.flat.specs.declared.Regs.{Regs}
@@ -23,14 +24,14 @@ use Rattle.flat.specs.States.{State, withMemory, give, halt}
 use Rattle.flat.specs.Reduce.{Bound, bindMatching, reduceMark}
 use Rattle.flat.proofs.Relations.{sizes, IsVal, is-unit, IsTriggered, Grows}
 use Rattle.flat.proofs.Sound.{Sound}
-use Rattle.flat.proofs.Reach.{Reach, reach-go, reach-moves, ends-full}
+use Rattle.flat.proofs.Reach.{no-wrong, Reach, reach-go, reach-moves, ends-full}
 use Rattle.flat.proofs.Tables.{grows-sizes, grows-trans}
 use Rattle.flat.proofs.Stack.{topOf, stack-top}
 use Rattle.flat.proofs.Store.{Store, resized, store-charged}
 use Rattle.flat.proofs.Views.{AsLabel, a-label, no-label, as-label}
 use Rattle.flat.proofs.Matching.{Made, made-all, written-refl}
 use Rattle.flat.proofs.Now.{halted-stopped, Now, now-return, now-advice, now-halted}
-use Rattle.flat.proofs.Steps.{leb-iff, spend-bindings, after-step′, Redexed, common-after, right-kind}
+use Rattle.flat.proofs.Steps.{leb-iff, spend-bindings, after-step′, Redexed, common-after}
 
 -- The two links of what is left of a mark.
 pub two-links : (a e : ℕ) → a < 4096 → e < 4096 → ((a + 4096 * e) % 4096 ≡ a) × ((a + 4096 * e) / 4096 % 4096 ≡ e)
@@ -44,9 +45,6 @@ module _ (C : Program) (term : ℕ → Tm) (G : Given) (e₀ : Tm) (Ω : Sound G
   abbrev st : Store term L (S .memory) (S .log) (sizes (S .regs)) s
   st = R .common .store
 
-  no-wrong : (a : CAnswer) → move c K′ G s ≡ due a K → a ≡ wrong → ⊥
-  no-wrong a p q = right-kind C term G e₀ Ω N L b S k s K c K′ R (p ∙ ap (λ (x : CAnswer). due x K) q)
-
   -- The loop's result for a mark's label and value.
   abbrev all : ℕ → Bound
   all l = bindMatching (S .regs .ni) 0 l (S .regs .v) (record { memory = S .memory; count = S .regs .nb })
@@ -56,7 +54,7 @@ module _ (C : Program) (term : ℕ → Tm) (G : Given) (e₀ : Tm) (Ω : Sound G
 
   module _ (w : CVal) (x : List (Advice Body)) (B : Bound) (m : Made term (S .memory) (sizes (S .regs)) w x (record { memory = S .memory; count = S .regs .nb }) B) where
     grown : Grows (S .memory) (sizes (S .regs)) (B .memory) (resized (B .count) (S .regs .np) (sizes (S .regs)))
-    grown = grows-trans (m .written .grows) (grows-sizes (B .memory) (sizes (S .regs)) (resized (B .count) (S .regs .np) (sizes (S .regs))) (omega (arith, m .count)) (omega arith) (omega arith))
+    grown = grows-trans (m .written .grows) (grows-sizes (B .memory) (sizes (S .regs)) (resized (B .count) (S .regs .np) (sizes (S .regs))) (omega (arith, m .count)) (omega arith))
 
     stored : B .count ≤ 2048 → Store term L (B .memory) (S .log) (resized (B .count) (S .regs .np) (sizes (S .regs))) (used (length x))
     stored h =
@@ -124,6 +122,11 @@ module _ (C : Program) (term : ℕ → Tm) (G : Given) (e₀ : Tm) (Ω : Sound G
   unfolding with plainVal reduceMark
   mark-now y {w = w} iu iw p = try (as-label term (S .memory) (sizes (S .regs)) iu) p
     where
+      -- The label is there.
+      there : (o : Option Dom) (a : CAnswer) → move c K′ G s ≡ due (with o (λ p. a)) K → move c K′ G s ≡ due a K
+      there none a q = absurd (no-wrong G e₀ Ω k s c K′ (R .reach) q refl)
+      there (some p) a q = q
+
       try : {f : CVal} → AsLabel term (S .memory) (sizes (S .regs)) (S .regs .v1) f → move c K′ G s ≡ due (reduce2C G (placeAt K) s mark y f w) K → After (reduceMark S)
       try (a-label {l = l} a d) q =
           rw (a, d)
@@ -131,5 +134,5 @@ module _ (C : Program) (term : ℕ → Tm) (G : Given) (e₀ : Tm) (Ω : Sound G
           (made-all term (S .memory) (sizes (S .regs)) (st .pieces-fit) (st .words) l (S .regs .v) w iw (st .are-advices) (S .regs .ni) (st .advices) (record { memory = S .memory; count = S .regs .nb }) (omega arith)
           (written-refl (S .memory) (sizes (S .regs))))
           (leb (length (matching l (s .advices))) (bindingLimit - s .used .bindings)) refl
-          (q ∙ ap (λ (a : CAnswer). due a K) (spend-bindings s (λ s′. go s′ (triggered w (matching l (s .advices)))) (length (matching l (s .advices))))))
-      try (no-label h) q = absurd (no-wrong _ q (rw h))
+          (there (getElem? (s .labels) l) _ q ∙ ap (λ (a : CAnswer). due a K) (spend-bindings s (λ s′. go s′ (triggered w (matching l (s .advices)))) (length (matching l (s .advices))))))
+      try (no-label h) q = absurd (no-wrong G e₀ Ω k s c K′ (R .reach) q (rw h))

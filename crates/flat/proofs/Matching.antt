@@ -109,7 +109,7 @@ module _ (term : ℕ → Tm) (M : Memory) (z : Sizes) (np : z .np ≤ 512) (long
           let kept : bindingAt M′ (suc (B .count)) ≡ word = ap (λ (j : ℕ). wordAt M′ j) i ∙ m .earlier (B .count) (omega arith) room ∙ here in
           let same : pieceFirst (B .memory) p ≡ pieceFirst M p = k .grows .firsts p lt in
           let parts = binding-word v p (adviceEnv (pieceFirst (B .memory) p)) small (omega arith) in
-          let g : Grows M z M′ z′ = grows-trans (m .written .grows) (grows-sizes M′ z z′ (omega (arith, m .count)) (omega arith) (omega arith)) in
+          let g : Grows M z M′ z′ = grows-trans (m .written .grows) (grows-sizes M′ z z′ (omega (arith, m .count)) (omega arith)) in
           let piece : boundPiece (bindingAt M′ (suc (B .count))) ≡ p = ap boundPiece kept ∙ parts .2 in
           let at : pieceFirst M′ (boundPiece (bindingAt M′ (suc (B .count)))) ≡ pieceFirst M p = ap (λ (j : ℕ). pieceFirst M′ j) piece ∙ g .firsts p lt in
           let e′ : IsEnv term M′ z′ (suc (B .count)) (link w ρ) =

@@ -16,7 +16,7 @@ use Rattle.calculus.specs.Answer.{full}
 use Rattle.calculus.specs.Run.{stopped, ended, run}
 use Rattle.machine.specs.Closure.{CVal, Env, link, Body, CState, plainState}
 use Rattle.machine.specs.Machine.{eval, triggered, triggeredF, lowerF, Stack, due, move}
-use Rattle.machine.proofs.Loop.{unfinished-due}
+use Rattle.machine.proofs.Loop.{unfinished-frame, unfinished-due}
 use Rattle.flat.specs.declared.Regs.{Regs}
 use Rattle.flat.specs.Registers.{evalMode, setMode, setEnv, setDom, setSp, setT}
 use Rattle.flat.specs.Rows.{kindOf, isAtom, Program, rowAt}
@@ -26,7 +26,7 @@ use Rattle.flat.specs.Turn.{adviceFrom}
 use Rattle.flat.specs.Coded.{Coded}
 use Rattle.flat.proofs.Relations.{Sizes, sizes, IsEnv, is-link, IsTriggered, one-left, no-link-false, triggered-at, env-grows, triggered-grows}
 use Rattle.flat.proofs.Sound.{Sound}
-use Rattle.flat.proofs.Reach.{Reach, reach-moves, push-moves, ends-spent, ends-full, ends-deep, under-frame}
+use Rattle.flat.proofs.Reach.{Reach, reach-moves, push-moves, ends-spent, ends-full, ends-deep}
 use Rattle.flat.proofs.Nodes.{shape}
 use Rattle.flat.proofs.Atoms.{no-atom}
 use Rattle.flat.proofs.Stack.{advice-frames, stack-length}
@@ -123,7 +123,7 @@ module _ (C : Program) (term : ℕ → Tm) (coded : Coded C term) (G : Given) (e
                 let sp : S .regs .sp ≡ 511 = eqb-true (S .regs .sp) 511 t in
                 let r′ : Reach G e₀ Ω k s (eval (term (adviceTerm a)) (link w ρ)) (lowerF d ∷ triggeredF w x ∷ K) = rw tm (deep short) in
                 no-frames-if
-                (λ z. ends-spent G e₀ Ω k s (eval (term (adviceTerm a)) (link w ρ)) (lowerF d ∷ triggeredF w x ∷ K) r′ N (S .regs .left) (m .budget) z (under-frame G e₀ Ω (eval (term (adviceTerm a)) (link w ρ)) (lowerF d) (triggeredF w x ∷ K)))
+                (λ z. ends-spent G e₀ Ω k s (eval (term (adviceTerm a)) (link w ρ)) (lowerF d ∷ triggeredF w x ∷ K) r′ N (S .regs .left) (m .budget) z (unfinished-frame (eval (term (adviceTerm a)) (link w ρ)) (lowerF d) (triggeredF w x ∷ K)))
                 (λ z. ends-deep G e₀ Ω k s (eval (term (adviceTerm a)) (link w ρ)) (lowerF d ∷ triggeredF w x ∷ K) r′ N (S .regs .left) (m .budget) z (no-atom C term (shape C term (coded .node (adviceTerm a))) u (link w ρ))
                 (omega (arith, stack-length C term (S .memory) (sizes (S .regs)) (m .stack))))
             last false t u v = pushed-now short (λ z. omega (arith, short, eqb-false (S .regs .sp) 511 t))

@@ -46,7 +46,7 @@ module _ (C : Program) (term : ℕ → Tm) (L : List ℕ) (M : Memory) (log : Li
 
   grows-besides : Grows M z besides z
   grows-besides =
-      record { more-bindings = omega arith; more-pieces = omega arith; more-cells = omega arith; bindings = λ l p q. refl; firsts = λ p q. refl; seconds = λ p q. refl }
+      record { more-bindings = omega arith; more-pieces = omega arith; bindings = λ l p q. refl; firsts = λ p q. refl; seconds = λ p q. refl }
 
   store-besides : Store term L besides log z s
   store-besides =

@@ -15,6 +15,7 @@ use Rattle.calculus.specs.Syntax.{Ty, Tm, Op2, asValue}
 use Rattle.calculus.specs.State.{Given}
 use Rattle.machine.specs.Closure.{CVal, Env, CState}
 use Rattle.machine.specs.Machine.{Control, eval, ret, Frame, op2R, lowerF, Stack, placeAt, plainControl, reduce2C, reduceSeqC}
+use Rattle.machine.proofs.Loop.{unfinished-frame}
 use Rattle.flat.specs.declared.Regs.{Regs}
 use Rattle.flat.specs.Registers.{setLeft}
 use Rattle.flat.specs.Rows.{kindOf, isSimple, term1, term2, isAtom, isBinary, Program, rowAt}
@@ -24,7 +25,7 @@ use Rattle.flat.specs.Operands.{atomValue, simpleValue, afterFirst, afte
 use Rattle.flat.specs.Coded.{Coded}
 use Rattle.flat.proofs.Relations.{sizes, IsVal, IsEnv, env-bound, env-grows, val-grows, val-like, env-at}
 use Rattle.flat.proofs.Sound.{Sound}
-use Rattle.flat.proofs.Reach.{Reach, reach-moves, ends-spent, ends-deep, under-frame, redex-due}
+use Rattle.flat.proofs.Reach.{Reach, reach-moves, ends-spent, ends-deep, redex-due}
 use Rattle.flat.proofs.Nodes.{Op2Of, pair-op, apply-op, arithmetic-op, mark-op, store-op, Unary, seq-frame, print-frame, ite-frame, split-frame, advice-frame, install-frame, cell-frame, read-frame, byte-frame, unary, binary, strict-dom, shape}
 use Rattle.flat.proofs.Atoms.{no-atom, atom-shape}
 use Rattle.flat.proofs.Stack.{IsFrame, first-frame, second-frame, one-frame, stack-length, topFrame, strict-top}
@@ -61,7 +62,7 @@ module _ (C : Program) (term : ℕ → Tm) (coded : Coded C term) (G : Given) (e
       try : (t : Bool) → eqb (S .regs .left) 0 ≡ t → Now C term G e₀ Ω N L g b (withRegs (choose t (halt Outcome.Spent (S .regs)) (halt Outcome.Frames (S .regs))) S)
       try true e =
           now-halted
-          (halted-stopped Outcome.Spent refl (ends-spent G e₀ Ω k s c (F ∷ K) r N (S .regs .left) (m .budget) (eqb-true (S .regs .left) 0 e) (under-frame G e₀ Ω c F K)) (m .store) (m .budget))
+          (halted-stopped Outcome.Spent refl (ends-spent G e₀ Ω k s c (F ∷ K) r N (S .regs .left) (m .budget) (eqb-true (S .regs .left) 0 e) (unfinished-frame c F K)) (m .store) (m .budget))
       try false e =
           now-halted
           (halted-stopped Outcome.Frames refl
@@ -85,7 +86,7 @@ module _ (C : Program) (term : ℕ → Tm) (coded : Coded C term) (G : Given) (e
             (withRegs (kont (simpleValue C (G .frame) (S .memory) (S .regs .env) (rowAt C x)) (setLeft (S .regs .left - 1) (S .regs))) S))
         simple lt p true q =
             now-halted
-            (halted-stopped Outcome.Spent refl (ends-spent G e₀ Ω k s (eval (term x) ρ) (F ∷ K) r N (S .regs .left) (m .budget) (eqb-true (S .regs .left) 0 q) (under-frame G e₀ Ω (eval (term x) ρ) F K)) (m .store)
+            (halted-stopped Outcome.Spent refl (ends-spent G e₀ Ω k s (eval (term x) ρ) (F ∷ K) r N (S .regs .left) (m .budget) (eqb-true (S .regs .left) 0 q) (unfinished-frame (eval (term x) ρ) F K)) (m .store)
             (m .budget))
         simple lt p false q =
             let few : length (F ∷ K) ≤ 512 = omega (arith, stack-length C term (S .memory) (sizes (S .regs)) (m .stack)) in

@@ -15,11 +15,9 @@ use Rattle.calculus.specs.Answer.{carry, go, full, halt, wrong, if-room}
 use Rattle.calculus.specs.Run.{done, stopped, ended, after, run}
 use Rattle.machine.specs.Closure.{CVal, Env, empty, CState, lookup, plainVal, plainState}
 use Rattle.machine.specs.Machine.{Control, eval, ret, pcdN, Frame, opNF, Stack, plainControl, unload, CAnswer, Transition, moves, due, over, push, redex, move}
-use Rattle.machine.specs.Settle.{measure}
 use Rattle.machine.proofs.Close.{close-nil}
 use Rattle.machine.proofs.Plug.{place-depth}
-use Rattle.machine.proofs.Runs.{Simulates, move-simulates}
-use Rattle.machine.proofs.Loop.{remaining, remaining-start, remaining-moves, remaining-due, remaining-over, remaining-spent, remaining-deep, unfinished-frame}
+use Rattle.machine.proofs.Loop.{remaining, remaining-start, remaining-moves, remaining-due, remaining-over, remaining-spent, remaining-deep, said}
 use Rattle.flat.proofs.Sound.{Sound, Keeps, move-keeps, variable-bound}
 
 -- A redex under frames enough.
@@ -46,21 +44,21 @@ module _ (G : Given) (e₀ : Tm) (Ω : Sound G e₀) where
     reach-moves c′ K′ p =
         record { runs = λ m. r .runs m ∙ remaining-moves G s c K c′ K′ p m k; sound = subst (λ (t : Transition). Keeps G e₀ Ω s t) p (move-keeps G e₀ Ω s c K (r .sound)) }
 
-    said : (T : Transition) → move c K G s ≡ T → Simulates G s (unload c K) (measure c K) T
-    said T p = subst (λ (t : Transition). Simulates G s (unload c K) (measure c K) t) p (move-simulates G s c K)
-
     -- A step.
     pub reach-go : (s′ : CState) (c′ : Control) (K′ : Stack) → move c K G s ≡ due (go s′ c′) K′ → Reach (suc k) s′ c′ K′
     unfolding carry after
     reach-go s′ c′ K′ p =
         record {
           runs = λ m. let z : suc k + m ≡ k + suc m = omega arith in ap (λ (i : ℕ). run i G 0 fresh e₀) z ∙ r .runs (suc m) ∙ remaining-due G s c K (go s′ c′) K′ p m k;
-          sound = Ω .kept (plainState s) (plainState s′) (unload c K) (unload c′ K′) (r .sound) (said (due (go s′ c′) K′) p .answer);
+          sound = Ω .kept (plainState s) (plainState s′) (unload c K) (unload c′ K′) (r .sound) (said G s c K (due (go s′ c′) K′) p .answer);
         }
 
-    pub not-wrong : (K′ : Stack) → move c K G s ≡ due wrong K′ → ⊥
+    -- No answer is wrong: every operand is of its kind, and a cell or label that is asked for is there.
+    pub no-wrong : {a : CAnswer} {K′ : Stack} → move c K G s ≡ due a K′ → a ≡ wrong → ⊥
     unfolding carry
-    not-wrong K′ p = let d = said (due wrong K′) p in Ω .right (plainState s) (unload c K) (r .sound) (d .unfinished) (d .answer)
+    no-wrong {a} {K′} p q =
+        let d = said G s c K (due wrong K′) (p ∙ ap (λ (x : CAnswer). due x K′) q) in
+        Ω .right (plainState s) (unload c K) (r .sound) (d .unfinished) (d .answer)
 
     -- The ends, at a budget n of which m is left.
     module _ (n m : ℕ) (b : k + m ≡ n) where
@@ -86,10 +84,6 @@ module _ (G : Given) (e₀ : Tm) (Ω : Sound G e₀) where
 
       pub ends-deep : (m ≡ 0 → ⊥) → asValue (plainControl c) ≡ none → frameLimit < length K → run n G 0 fresh e₀ ≡ ended (stopped Outcome.Frames) k (plainState s)
       ends-deep h p g = at-budget ∙ ap (λ (i : ℕ). remaining i G k s c K) (more-left h) ∙ remaining-deep G s c K p g (m - 1) k
-
-  -- Nothing that is under frames is done.
-  pub under-frame : (c : Control) (F : Frame) (K : Stack) → asValue (unload c (F ∷ K)) ≡ none
-  under-frame c F K = unfinished-frame c F K
 
   -- A variable has a value.
   pub reach-var : (k : ℕ) (s : CState) (i : ℕ) (ρ : Env) (K : Stack) → Reach k s (eval (var i) ρ) K → (v : CVal) × (lookup ρ i ≡ some v) × Reach k s (ret v) K

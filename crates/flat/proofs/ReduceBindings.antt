@@ -10,7 +10,7 @@ use Rattle.calculus.specs.declared.Outcome.{Outcome}
 use Rattle.calculus.specs.Limits.{bindingLimit}
 use Rattle.calculus.specs.Syntax.{Ty, Tm, app}
 use Rattle.calculus.specs.State.{Given, charged, addCounts, someBindings}
-use Rattle.calculus.specs.Answer.{go, wrong, with}
+use Rattle.calculus.specs.Answer.{go, with}
 use Rattle.machine.specs.Closure.{CVal, Env, link, CState}
 use Rattle.machine.specs.Machine.{Control, eval, Stack, placeAt, CAnswer, due, reduce2C, reduceSplitC, move}
 use Rattle.flat.specs.declared.Regs.{Regs}
@@ -22,11 +22,12 @@ use Rattle.flat.specs.States.{State, withMemory, goOn}
 use Rattle.flat.specs.Reduce.{reduceApply, reduceSplit}
 use Rattle.flat.proofs.Relations.{Sizes, sizes, IsVal, IsEnv, is-link, env-bound, val-like, val-at, env-at, Grows, val-grows, env-grows}
 use Rattle.flat.proofs.Sound.{Sound}
+use Rattle.flat.proofs.Reach.{no-wrong}
 use Rattle.flat.proofs.Tables.{word-same, word-other, grows-put, grows-sizes, grows-trans, Apart, apart-put, apart-trans, SameFrames, same-put, same-trans}
 use Rattle.flat.proofs.Store.{Store, resized, store-charged}
 use Rattle.flat.proofs.Views.{AsFunction, a-function, no-function, as-function, AsPair, a-pair, no-pair, as-pair}
 use Rattle.flat.proofs.Now.{Now}
-use Rattle.flat.proofs.Steps.{leb-iff, spend-bindings, Redexed, goes-on, right-kind, if-there-is-room}
+use Rattle.flat.proofs.Steps.{leb-iff, spend-bindings, Redexed, goes-on, if-there-is-room}
 
 -- The parts of a binding.
 pub binding-word : (v p l : ℕ) → p < 512 → l < 65536 → (tagOf (binding v p l) ≡ tagOf v) × (bodyOf (binding v p l) ≡ bodyOf v) × (boundPiece (binding v p l) ≡ p) × (boundLink (binding v p l) ≡ l)
@@ -42,7 +43,7 @@ module _ (term : ℕ → Tm) (M : Memory) (z : Sizes) (words : 3905 ≤ length (
 
   pub grows-bound : Grows M z bound longer
   grows-bound =
-      grows-trans (grows-put M z (0 + z .nb) w (omega arith) (λ i h e. omega arith)) (grows-sizes bound z longer (omega arith) (omega arith) (omega arith))
+      grows-trans (grows-put M z (0 + z .nb) w (omega arith) (λ i h e. omega arith)) (grows-sizes bound z longer (omega arith) (omega arith))
 
   pub at-bound : bindingAt bound (z .nb + 1) ≡ w
   at-bound = let e : 0 + (z .nb + 1) - 1 ≡ 0 + z .nb = omega arith in ap (λ (i : ℕ). wordAt bound i) e ∙ word-same M (0 + z .nb) w (omega arith)
@@ -74,9 +75,6 @@ module _ (C : Program) (term : ℕ → Tm) (G : Given) (e₀ : Tm) (Ω : Sound G
 
   abbrev st : Store term L (S .memory) (S .log) (sizes (S .regs)) s
   st = R .common .store
-
-  no-wrong : (a : CAnswer) → move c K′ G s ≡ due a K → a ≡ wrong → ⊥
-  no-wrong a p q = right-kind C term G e₀ Ω N L b S k s K c K′ R (p ∙ ap (λ (x : CAnswer). due x K) q)
 
   pub apply-now : (y : Ty) {u w : CVal} → Val (S .regs .v1) u → Val (S .regs .v) w → move c K′ G s ≡ due (reduce2C G (placeAt K) s app y u w) K → After (reduceApply S)
   unfolding with
@@ -110,7 +108,7 @@ module _ (C : Program) (term : ℕ → Tm) (G : Given) (e₀ : Tm) (Ω : Sound G
           (omega (arith, st .bindings)) (omega arith) (omega (arith, st .pieces)) (st .pieces-fit) (omega arith))
           (env-bound-to term (S .memory) (sizes (S .regs)) (st .words) fit (st .pieces-fit) B (S .regs .v) 0 l refl (omega arith) iw (env-at term (S .memory) (sizes (S .regs)) f ie))
           (omega arith) g (frames-bound term (S .memory) (sizes (S .regs)) (st .words) fit (st .pieces-fit) B (S .regs .sp))))
-      try (no-function h) q = absurd (no-wrong _ q (rw h))
+      try (no-function h) q = absurd (no-wrong G e₀ Ω k s c K′ (R .reach) q (rw h))
 
   pub split-now : {ρ : Env} {u : CVal} → IsEnv term (S .memory) (sizes (S .regs)) (S .regs .env) ρ → Val (S .regs .v1) u
       → move c K′ G s ≡ due (reduceSplitC s (term (term2 (S .regs .n))) ρ u) K → After (reduceSplit S)
@@ -170,4 +168,4 @@ module _ (C : Program) (term : ℕ → Tm) (G : Given) (e₀ : Tm) (Ω : Sound G
           (leb-iff (S .regs .nb + 2) bindingLimit 2 (bindingLimit - s .used .bindings) (λ h. omega (arith, st .bindings)) (λ h. omega (arith, st .bindings)))
           (q ∙ ap (λ (a : CAnswer). due a K) (spend-bindings s (λ s′. go s′ (eval (term (term2 (S .regs .n))) (link w (link u ρ)))) 2))
           (λ room q′. made (leb-true 2 (bindingLimit - s .used .bindings) room) iu iw q′))
-      try (no-pair h) q = absurd (no-wrong _ q (rw h))
+      try (no-pair h) q = absurd (no-wrong G e₀ Ω k s c K′ (R .reach) q (rw h))

@@ -13,7 +13,7 @@ use Rattle.calculus.specs.Limits.{pieceLimit}
 use Rattle.calculus.specs.Combinators.{cases}
 use Rattle.calculus.specs.Syntax.{Ty, Tm, Op2}
 use Rattle.calculus.specs.State.{Given, charged, addCounts, onePiece}
-use Rattle.calculus.specs.Answer.{go, wrong, with}
+use Rattle.calculus.specs.Answer.{go, with}
 use Rattle.calculus.specs.Reduce.{piece, collect}
 use Rattle.machine.specs.Closure.{CVal, Env, CState, plainVal}
 use Rattle.machine.specs.Machine.{Control, ret, pcdN, Stack, placeAt, CAnswer, due, reduce2C, reduceNC, reduceAdvC, move}
@@ -25,13 +25,14 @@ use Rattle.flat.specs.States.{State, withMemory, give}
 use Rattle.flat.specs.Reduce.{newPiece, reducePair, reducePointcut, reduceAdvice}
 use Rattle.flat.proofs.Relations.{Sizes, sizes, digitsOf, Labels, no-labels, one-more, onto, is-word, IsVal, is-pair, is-labels, is-advice, IsEnv, env-bound, val-at, env-at, labels-at, Grows, val-grows, env-grows}
 use Rattle.flat.proofs.Sound.{Sound}
+use Rattle.flat.proofs.Reach.{no-wrong}
 use Rattle.flat.proofs.Tables.{word-same, word-other, grows-put, grows-sizes, grows-trans, apart-put, apart-trans, same-put, same-trans}
 use Rattle.flat.proofs.Nodes.{tag-value}
 use Rattle.flat.proofs.Stack.{IsPointcut}
 use Rattle.flat.proofs.Store.{Store, store-charged}
 use Rattle.flat.proofs.Views.{AsPointcut, a-pointcut, no-pointcut, as-pointcut}
 use Rattle.flat.proofs.Now.{Now}
-use Rattle.flat.proofs.Steps.{leb-iff, spend-piece, Redexed, gives, right-kind, if-there-is-room}
+use Rattle.flat.proofs.Steps.{leb-iff, spend-piece, Redexed, gives, if-there-is-room}
 
 piece-word : (t p : ℕ) → t < 16 → p < 512 → pieceOf (value t p) ≡ p
 piece-word t p h g = omega arith
@@ -63,9 +64,6 @@ module _ (C : Program) (term : ℕ → Tm) (G : Given) (e₀ : Tm) (Ω : Sound G
   abbrev st : Store term L (S .memory) (S .log) (sizes (S .regs)) s
   st = R .common .store
 
-  no-wrong : (a : CAnswer) → move c K′ G s ≡ due a K → a ≡ wrong → ⊥
-  no-wrong a p q = right-kind C term G e₀ Ω N L b S k s K c K′ R (p ∙ ap (λ (x : CAnswer). due x K) q)
-
   -- The tables and sizes with a piece more.
   abbrev tables : ℕ → ℕ → Memory
   tables x y = putPiece (S .regs .np) x y (S .memory)
@@ -91,7 +89,7 @@ module _ (C : Program) (term : ℕ → Tm) (G : Given) (e₀ : Tm) (Ω : Sound G
       g =
           grows-trans (grows-put (S .memory) (sizes (S .regs)) i x (omega (arith, st .bindings-fit)) (λ j h e. omega arith))
           (grows-trans (grows-put half (sizes (S .regs)) (i + 1) y (omega (arith, st .bindings-fit)) (λ j h e. omega arith))
-          (grows-sizes (tables x y) (sizes (S .regs)) larger (omega arith) (omega arith) (omega arith)))
+          (grows-sizes (tables x y) (sizes (S .regs)) larger (omega arith) (omega arith)))
 
       is : 1 ≤ pieceLimit - s .used .pieces → move c K′ G s ≡ due (go (charged (addCounts (s .used) onePiece) s) (ret v)) K
           → After (withMemory (tables x y) (give (value t (S .regs .np)) (setNp (S .regs .np + 1) (S .regs))) S)
@@ -153,4 +151,4 @@ module _ (C : Program) (term : ℕ → Tm) (G : Given) (e₀ : Tm) (Ω : Sound G
           is-advice (tag-value 8 (S .regs .np) (omega arith)) (omega arith) (ap (λ (w : ℕ). term (adviceTerm w)) f ∙ ap term (parts .0)) (ap adviceDom f ∙ parts .1)
           (env-at term (tables x y) larger (ap adviceEnv f ∙ parts .2) (env-grows term (S .memory) (sizes (S .regs)) (tables x y) larger g ie))
           (labels-at (ap (λ (j : ℕ). pieceSecond (tables x y) j) word ∙ second) il)))
-      try (no-pointcut h) q = absurd (no-wrong _ q (rw h))
+      try (no-pointcut h) q = absurd (no-wrong G e₀ Ω k s c K′ (R .reach) q (rw h))

@@ -2,20 +2,22 @@
 use Prim.Native.Nat.{ℕ, suc, _+_, _-_, _*_, _%_, _≤_, _<_}
 use native.Mathlib.Omega.{arith}
 use mathlib.Core.Path.{_≡_, refl, sym, ap, _∙_}
-use mathlib.Core.Bool.{Bool, true, false}
+use mathlib.Core.Logic.{_⊎_, inl, inr}
 use mathlib.Core.List.{List, [], _∷_, _++_}
-use lib.ListN.{length, getD, set, take, drop, length-append, length-drop, length-set, List·getD-append}
-use lib.Seq.{getD-set-same, getD-set-other, getD-append-seam, take-at, drop-append-add, drop-drop}
-use lib.Dec.{eqb, ltb, leb}
-use borrow.Author.Tests.{eqb-true, eqb-false, leb-true, ltb-true}
+use mathlib.Core.Option.{Option, none, some}
+use lib.ListN.{length, getElem?, take, drop, length-append, length-drop, length-set}
+use lib.Seq.{take-at, drop-append-add, drop-drop}
+use lib.Dec.{ltb, leb}
+use borrow.Author.Tests.{leb-true, ltb-true}
 use Rattle.calculus.specs.declared.Outcome.{Outcome}
 use Rattle.calculus.specs.Limits.{labelLimit, adviceLimit, cellLimit, logRecordLength}
 use Rattle.calculus.specs.Combinators.{choose}
 use Rattle.calculus.specs.Syntax.{Ty, Tm, newLabel, print, install, newCell, store}
 use Rattle.calculus.specs.Plain.{domOf, heldPlain}
-use Rattle.calculus.specs.State.{Cell, Advice, Given, Event, prints, Print, logOf, noCell, stored, charged, addCounts, oneCell, celled, labelled, installed, told}
-use Rattle.calculus.specs.Answer.{go, wrong, with}
+use Rattle.calculus.specs.State.{Cell, Advice, Given, Event, prints, Print, logOf, stored, charged, addCounts, oneCell, celled, labelled, installed, told}
+use Rattle.calculus.specs.Answer.{go, with}
 use Rattle.calculus.specs.Reduce.{labelRoom, adviceRoom, logRoom}
+use Rattle.calculus.proofs.Lookup.{place-below, get-set, get-snoc}
 use Rattle.machine.specs.Closure.{CVal, Body, CState, plainVal}
 use Rattle.machine.specs.Machine.{Control, ret, Stack, placeAt, CAnswer, due, reduce0C, reduce1C, reduce2C, move}
 use Rattle.flat.specs.declared.Regs.{Regs}
@@ -29,12 +31,13 @@ use Rattle.area.specs.Records.{logRecord}
 use Rattle.flat.specs.Reduce.{reducePrint, reduceLabel, reduceInstall, reduceCell, reduceStore}
 use Rattle.flat.proofs.Relations.{sizes, IsVal, is-unit, is-cell, is-label, IsAdvice, at-piece, val-like, Grows, val-grows, advice-grows}
 use Rattle.flat.proofs.Sound.{Sound}
+use Rattle.flat.proofs.Reach.{no-wrong}
 use Rattle.flat.proofs.Tables.{word-same, word-other, grows-put, grows-sizes, grows-trans, same-put, same-refl}
 use Rattle.flat.proofs.Nodes.{tag-value}
 use Rattle.flat.proofs.Store.{logBytes, IsCell, install-more, advices-change, Store, cell-change, cells-change, log-one, bytes-one, bytes-length}
 use Rattle.flat.proofs.Views.{AsNumber, a-number, no-number, as-number, AsCell, a-cell, no-cell, as-cell, AsAdvice, a-advice, no-advice, as-advice}
 use Rattle.flat.proofs.Now.{Now}
-use Rattle.flat.proofs.Steps.{leb-iff, spend-cell, Redexed, gives, right-kind, if-there-is-room}
+use Rattle.flat.proofs.Steps.{leb-iff, spend-cell, Redexed, gives, if-there-is-room}
 
 record-length : (d n : ℕ) → length (logRecord d n) ≡ 10
 unfolding bytesOf
@@ -64,9 +67,6 @@ module _ (C : Program) (term : ℕ → Tm) (G : Given) (e₀ : Tm) (Ω : Sound G
   abbrev st : Store term L (S .memory) (S .log) (sizes (S .regs)) s
   st = R .common .store
 
-  no-wrong : (a : CAnswer) → move c K′ G s ≡ due a K → a ≡ wrong → ⊥
-  no-wrong a p q = right-kind C term G e₀ Ω N L b S k s K c K′ R (p ∙ ap (λ (x : CAnswer). due x K) q)
-
   pub label-now : (y : Ty) → move c K′ G s ≡ due (reduce0C G (placeAt K) s newLabel y) K → After (reduceLabel S)
   label-now y p =
       if-there-is-room C term G e₀ Ω N L b S k s K c K′ R (labelRoom s) Outcome.Labels _ _ (ltb (S .regs .nl) labelLimit) (ap (λ (i : ℕ). ltb i labelLimit) (st .labels)) p
@@ -76,7 +76,7 @@ module _ (C : Program) (term : ℕ → Tm) (G : Given) (e₀ : Tm) (Ω : Sound G
       after = give (value 6 (S .regs .nl)) (setNl (S .regs .nl + 1) (S .regs))
 
       g : Grows (S .memory) (sizes (S .regs)) (S .memory) (sizes after)
-      g = grows-sizes (S .memory) (sizes (S .regs)) (sizes after) (omega arith) (omega arith) (omega arith)
+      g = grows-sizes (S .memory) (sizes (S .regs)) (sizes after) (omega arith) (omega arith)
 
       made : length (s .labels) < labelLimit → move c K′ G s ≡ due (go (labelled (domOf y) s) (ret (CVal.label (length (s .labels))))) K → After (withRegs after S)
       made h q =
@@ -95,7 +95,7 @@ module _ (C : Program) (term : ℕ → Tm) (G : Given) (e₀ : Tm) (Ω : Sound G
             labels-fit = omega (arith, st .labels);
             advices = st .advices;
             advices-fit = st .advices-fit;
-            are-cells = λ i lt. cells-change term (S .memory) (sizes (S .regs)) (S .memory) (sizes after) g _ _ (st .are-cells i lt);
+            are-cells = λ i c e. cells-change term (S .memory) (sizes (S .regs)) (S .memory) (sizes after) g _ c (st .are-cells i c e);
             are-advices = advices-change term (S .memory) (sizes (S .regs)) (S .memory) (sizes after) g (st .are-advices) (λ i lt. refl);
             logged = st .logged;
             log-at = st .log-at;
@@ -125,7 +125,7 @@ module _ (C : Program) (term : ℕ → Tm) (G : Given) (e₀ : Tm) (Ω : Sound G
       said n = record { dom = placeAt K .dom; said = prints n }
 
       g : Grows (S .memory) (sizes (S .regs)) (S .memory) (sizes after)
-      g = grows-sizes (S .memory) (sizes (S .regs)) (sizes after) (omega arith) (omega arith) (omega arith)
+      g = grows-sizes (S .memory) (sizes (S .regs)) (sizes after) (omega arith) (omega arith)
 
       made : (n : ℕ) → 10 ≤ length (S .log) - S .regs .at → move c K′ G s ≡ due (go (told (said n) s) (ret CVal.unit)) K
           → After (record { memory = S .memory; log = over (S .regs .at) (logRecord (S .regs .dom) n) (S .log); regs = after })
@@ -147,7 +147,7 @@ module _ (C : Program) (term : ℕ → Tm) (G : Given) (e₀ : Tm) (Ω : Sound G
             labels-fit = st .labels-fit;
             advices = st .advices;
             advices-fit = st .advices-fit;
-            are-cells = λ i lt. cells-change term (S .memory) (sizes (S .regs)) (S .memory) (sizes after) g _ _ (st .are-cells i lt);
+            are-cells = λ i c e. cells-change term (S .memory) (sizes (S .regs)) (S .memory) (sizes after) g _ c (st .are-cells i c e);
             are-advices = advices-change term (S .memory) (sizes (S .regs)) (S .memory) (sizes after) g (st .are-advices) (λ i lt. refl);
             logged =
                 ap (λ x. over (S .regs .at) (logRecord (S .regs .dom) n) x) (st .logged)
@@ -165,7 +165,7 @@ module _ (C : Program) (term : ℕ → Tm) (G : Given) (e₀ : Tm) (Ω : Sound G
           rw (a, d)
           (if-there-is-room C term G e₀ Ω N L b S k s K c K′ R (logRoom G s) Outcome.Log _ _ (leb logRecordLength (length (S .log) - S .regs .at)) tests q
           (λ room q′. made n (leb-true 10 (length (S .log) - S .regs .at) (tests ∙ room)) q′))
-      try (no-number h) q = absurd (no-wrong _ q (rw h))
+      try (no-number h) q = absurd (no-wrong G e₀ Ω k s c K′ (R .reach) q (rw h))
 
   pub install-now : (y : Ty) {u : CVal} → Val (S .regs .v1) u → move c K′ G s ≡ due (reduce1C G (placeAt K) s install y u) K → After (reduceInstall S)
   unfolding with
@@ -180,7 +180,7 @@ module _ (C : Program) (term : ℕ → Tm) (G : Given) (e₀ : Tm) (Ω : Sound G
       g : Grows (S .memory) (sizes (S .regs)) tables (sizes after)
       g =
           grows-trans (grows-put (S .memory) (sizes (S .regs)) (3841 + S .regs .ni) (pieceOf (S .regs .v1)) (omega (arith, st .bindings-fit)) (λ i h e. omega (arith, st .pieces-fit)))
-          (grows-sizes tables (sizes (S .regs)) (sizes after) (omega arith) (omega arith) (omega arith))
+          (grows-sizes tables (sizes (S .regs)) (sizes after) (omega arith) (omega arith))
 
       made : (a : Advice Body) → length (s .advices) < adviceLimit → IsAdvice term (S .memory) (sizes (S .regs)) (bodyOf (S .regs .v1) % 512) a → move c K′ G s ≡ due (go (installed a s) (ret CVal.unit)) K
           → After (withMemory tables after S)
@@ -204,7 +204,7 @@ module _ (C : Program) (term : ℕ → Tm) (G : Given) (e₀ : Tm) (Ω : Sound G
             labels-fit = st .labels-fit;
             advices = omega (arith, st .advices, length-append (s .advices) (a ∷ []));
             advices-fit = omega (arith, st .advices);
-            are-cells = λ i lt. cell-change term (S .memory) (sizes (S .regs)) tables (sizes after) g (word-other (S .memory) (3841 + S .regs .ni) (pieceOf (S .regs .v1)) (3585 + i) (λ e. omega (arith, st .cells-fit))) (st .are-cells i lt);
+            are-cells = λ i c e. cell-change term (S .memory) (sizes (S .regs)) tables (sizes after) g (word-other (S .memory) (3841 + S .regs .ni) (pieceOf (S .regs .v1)) (3585 + i) (λ z. omega (arith, st .cells-fit, st .cells-count, place-below (s .cells) i e))) (st .are-cells i c e);
             are-advices = install-more term tables (sizes after) 0 (advices-change term (S .memory) (sizes (S .regs)) tables (sizes after) g (st .are-advices) (λ i lt. word-other (S .memory) (3841 + S .regs .ni) (pieceOf (S .regs .v1)) (3841 + i) (λ e. omega (arith, st .advices)))) (rw now (advice-grows term (S .memory) (sizes (S .regs)) tables (sizes after) g ia));
             logged = st .logged;
             log-at = st .log-at;
@@ -217,27 +217,27 @@ module _ (C : Program) (term : ℕ → Tm) (G : Given) (e₀ : Tm) (Ω : Sound G
           rw a
           (if-there-is-room C term G e₀ Ω N L b S k s K c K′ R (adviceRoom s) Outcome.Advice _ _ (ltb (S .regs .ni) adviceLimit) (ap (λ (i : ℕ). ltb i adviceLimit) (st .advices)) q
           (λ room q′. made _ (ltb-true (length (s .advices)) adviceLimit room) (at-piece d f h i l) q′))
-      try (no-advice h) q = absurd (no-wrong _ q (rw h))
+      try (no-advice h) q = absurd (no-wrong G e₀ Ω k s c K′ (R .reach) q (rw h))
 
   -- A cell that is there is written.
   pub store-now : (y : Ty) {u w : CVal} → Val (S .regs .v1) u → Val (S .regs .v) w → move c K′ G s ≡ due (reduce2C G (placeAt K) s store y u w) K → After (reduceStore S)
   unfolding with plainVal
   store-now y {w = w} iu iw p = try (as-cell term (S .memory) (sizes (S .regs)) iu) p
     where
-      made : (r : ℕ) → r < S .regs .nc → move c K′ G s ≡ due (go (stored CVal.unit s r w) (ret CVal.unit)) K
+      made : (r : ℕ) (old : Cell CVal) → getElem? (s .cells) r ≡ some old → move c K′ G s ≡ due (go (stored r old w s) (ret CVal.unit)) K
           → After (withMemory (putCell r (S .regs .v) (cellNote (cellAt (S .memory) r)) (S .memory)) (give 0 (S .regs)) S)
-      made r h q =
+      made r old there q =
+          let h : r < S .regs .nc = omega (arith, st .cells-count, place-below (s .cells) r there) in
           let word : ℕ = above (S .regs .v) (cellNote (cellAt (S .memory) r)) in
           let tables : Memory = putWord (3585 + r) word (S .memory) in
-          let old : Cell CVal = getD (s .cells) r (noCell CVal.unit) in
           let new : Cell CVal = record { dom = old .dom; plain = old .plain; held = w } in
           let g : Grows (S .memory) (sizes (S .regs)) tables (sizes (S .regs)) =
           grows-put (S .memory) (sizes (S .regs)) (3585 + r) word (omega (arith, st .bindings-fit)) (λ i h e. omega (arith, st .pieces-fit)) in
           let here : cellAt tables r ≡ word = word-same (S .memory) (3585 + r) word (omega (arith, st .words, st .cells-fit)) in
           let parts = cell-word (S .regs .v) (cellNote (cellAt (S .memory) r)) (omega arith) in
           let is : IsCell term tables (sizes (S .regs)) word new =
-          record { value = val-like term tables (sizes (S .regs)) (parts .0) (parts .1) (val-grows term (S .memory) (sizes (S .regs)) tables (sizes (S .regs)) g iw); note = parts .2 ∙ st .are-cells r h .note; low = st .are-cells r h .low } in
-          gives C term G e₀ Ω N L b S k s K c K′ R tables (S .log) (give 0 (S .regs)) (stored CVal.unit s r w) CVal.unit refl refl refl refl q
+          record { value = val-like term tables (sizes (S .regs)) (parts .0) (parts .1) (val-grows term (S .memory) (sizes (S .regs)) tables (sizes (S .regs)) g iw); note = parts .2 ∙ st .are-cells r old there .note; low = st .are-cells r old there .low } in
+          gives C term G e₀ Ω N L b S k s K c K′ R tables (S .log) (give 0 (S .regs)) (stored r old w s) CVal.unit refl refl refl refl q
           (record {
             words = rw (length-set (S .memory .words) (3585 + r) word) (st .words);
             beside = st .beside;
@@ -252,7 +252,7 @@ module _ (C : Program) (term : ℕ → Tm) (G : Given) (e₀ : Tm) (Ω : Sound G
             labels-fit = st .labels-fit;
             advices = st .advices;
             advices-fit = st .advices-fit;
-            are-cells = λ i lt. at-cell r word tables new g (rw here is) h i lt (eqb i r) refl;
+            are-cells = λ i c e. at-cell r word new g (rw here is) i c (get-set (s .cells) r i new e);
             are-advices = advices-change term (S .memory) (sizes (S .regs)) tables (sizes (S .regs)) g (st .are-advices) (λ i lt. word-other (S .memory) (3585 + r) word (3841 + i) (λ e. omega (arith, st .cells-fit)));
             logged = st .logged;
             log-at = st .log-at;
@@ -260,18 +260,22 @@ module _ (C : Program) (term : ℕ → Tm) (G : Given) (e₀ : Tm) (Ω : Sound G
           })
           (is-unit refl) g (same-put (S .memory) (S .regs .sp) (3585 + r) word (λ i h e. omega (arith, R .fits)))
         where
-          at-cell : (r word : ℕ) (tables : Memory) (new : Cell CVal) → Grows (S .memory) (sizes (S .regs)) (putWord (3585 + r) word (S .memory)) (sizes (S .regs))
-              → IsCell term (putWord (3585 + r) word (S .memory)) (sizes (S .regs)) (cellAt (putWord (3585 + r) word (S .memory)) r) new → r < S .regs .nc → (i : ℕ) → i < S .regs .nc → (t : Bool) → eqb i r ≡ t
-              → IsCell term (putWord (3585 + r) word (S .memory)) (sizes (S .regs)) (cellAt (putWord (3585 + r) word (S .memory)) i) (getD (set (s .cells) r new) i (noCell CVal.unit))
-          at-cell r word tables new g is h i lt true e =
-              rw (eqb-true i r e, getD-set-same (s .cells) r new (noCell CVal.unit) (omega (arith, st .cells-count))) is
-          at-cell r word tables new g is h i lt false e =
-              rw (getD-set-other (s .cells) r i new (noCell CVal.unit) (eqb-false i r e))
-              (cell-change term (S .memory) (sizes (S .regs)) (putWord (3585 + r) word (S .memory)) (sizes (S .regs)) g (word-other (S .memory) (3585 + r) word (3585 + i) (λ x. eqb-false i r e (omega arith))) (st .are-cells i lt))
+          at-cell : (r word : ℕ) (new : Cell CVal) → Grows (S .memory) (sizes (S .regs)) (putWord (3585 + r) word (S .memory)) (sizes (S .regs))
+              → IsCell term (putWord (3585 + r) word (S .memory)) (sizes (S .regs)) (cellAt (putWord (3585 + r) word (S .memory)) r) new → (i : ℕ) (c : Cell CVal)
+              → ((i ≡ r) × (new ≡ c)) ⊎ ((i ≡ r → ⊥) × (getElem? (s .cells) i ≡ some c))
+              → IsCell term (putWord (3585 + r) word (S .memory)) (sizes (S .regs)) (cellAt (putWord (3585 + r) word (S .memory)) i) c
+          at-cell r word new g is i c (inl (e, f)) = rw (e, ← f) is
+          at-cell r word new g is i c (inr (n, e)) =
+              cell-change term (S .memory) (sizes (S .regs)) (putWord (3585 + r) word (S .memory)) (sizes (S .regs)) g (word-other (S .memory) (3585 + r) word (3585 + i) (λ x. n (omega arith))) (st .are-cells i c e)
+
+      found : (r : ℕ) (o : Option (Cell CVal)) → getElem? (s .cells) r ≡ o → move c K′ G s ≡ due (with o (λ old. go (stored r old w s) (ret CVal.unit))) K
+          → After (withMemory (putCell r (S .regs .v) (cellNote (cellAt (S .memory) r)) (S .memory)) (give 0 (S .regs)) S)
+      found r none e q = absurd (no-wrong G e₀ Ω k s c K′ (R .reach) q refl)
+      found r (some old) e q = made r old e q
 
       try : {t : CVal} → AsCell term (S .memory) (sizes (S .regs)) (S .regs .v1) t → move c K′ G s ≡ due (reduce2C G (placeAt K) s store y t w) K → After (reduceStore S)
-      try (a-cell {r = r} a d h) q = rw (a, d) (made r h q)
-      try (no-cell h) q = absurd (no-wrong _ q (rw h))
+      try (a-cell {r = r} a d) q = rw (a, d) (found r (getElem? (s .cells) r) refl q)
+      try (no-cell h) q = absurd (no-wrong G e₀ Ω k s c K′ (R .reach) q (rw h))
 
   -- A new cell.
   pub cell-now : (y : Ty) {u : CVal} → domOf y < 16 → field2 (S .regs .n) ≡ domOf y + choose (heldPlain y) 16 0 → Val (S .regs .v1) u
@@ -299,23 +303,18 @@ module _ (C : Program) (term : ℕ → Tm) (G : Given) (e₀ : Tm) (Ω : Sound G
       g : Grows (S .memory) (sizes (S .regs)) tables (sizes after)
       g =
           grows-trans (grows-put (S .memory) (sizes (S .regs)) (3585 + S .regs .nc) word (omega (arith, st .bindings-fit)) (λ i h e. omega (arith, st .pieces-fit)))
-          (grows-sizes tables (sizes (S .regs)) (sizes after) (omega arith) (omega arith) (omega arith))
+          (grows-sizes tables (sizes (S .regs)) (sizes after) (omega arith) (omega arith))
 
-      at-cell : 1 ≤ cellLimit - s .used .cells → (i : ℕ) → i < S .regs .nc + 1 → (t : Bool) → eqb i (S .regs .nc) ≡ t
-          → IsCell term tables (sizes after) (cellAt tables i) (getD (s .cells ++ (new ∷ [])) i (noCell CVal.unit))
-      at-cell h i lt true e =
+      at-cell : 1 ≤ cellLimit - s .used .cells → (i : ℕ) (c : Cell CVal) → ((i ≡ length (s .cells)) × (new ≡ c)) ⊎ (getElem? (s .cells) i ≡ some c) → IsCell term tables (sizes after) (cellAt tables i) c
+      at-cell h i c (inl (e, f)) =
           let parts = cell-word (S .regs .v1) (field2 (S .regs .n)) (omega arith) in
           let is : IsCell term tables (sizes after) word new =
           record { value = val-like term tables (sizes after) (parts .0) (parts .1) (val-grows term (S .memory) (sizes (S .regs)) tables (sizes after) g iv); note = parts .2 ∙ note; low = low } in
           let here : cellAt tables (S .regs .nc) ≡ word = word-same (S .memory) (3585 + S .regs .nc) word (omega (arith, st .words, st .cells)) in
-          let there : getD (s .cells ++ (new ∷ [])) (S .regs .nc) (noCell CVal.unit) ≡ new =
-          ap (λ (j : ℕ). getD (s .cells ++ (new ∷ [])) j (noCell CVal.unit)) (st .cells-count) ∙ getD-append-seam (s .cells) new [] (noCell CVal.unit) in
-          rw (eqb-true i (S .regs .nc) e, here, there) is
-      at-cell h i lt false e =
-          let n : i ≡ S .regs .nc → ⊥ = eqb-false i (S .regs .nc) e in
-          let m : i < S .regs .nc = omega arith in
-          rw (List·getD-append (s .cells) (new ∷ []) (noCell CVal.unit) i (omega (arith, st .cells-count)))
-          (cell-change term (S .memory) (sizes (S .regs)) tables (sizes after) g (word-other (S .memory) (3585 + S .regs .nc) word (3585 + i) (λ x. n (omega arith))) (st .are-cells i m))
+          rw (e ∙ sym (st .cells-count), here, ← f) is
+      at-cell h i c (inr e) =
+          cell-change term (S .memory) (sizes (S .regs)) tables (sizes after) g
+          (word-other (S .memory) (3585 + S .regs .nc) word (3585 + i) (λ x. omega (arith, st .cells-count, place-below (s .cells) i e))) (st .are-cells i c e)
 
       made : 1 ≤ cellLimit - s .used .cells → move c K′ G s ≡ due (go s′ (ret (CVal.cell (length (s .cells))))) K → After (withMemory tables after S)
       made h q =
@@ -334,12 +333,12 @@ module _ (C : Program) (term : ℕ → Tm) (G : Given) (e₀ : Tm) (Ω : Sound G
             labels-fit = st .labels-fit;
             advices = st .advices;
             advices-fit = st .advices-fit;
-            are-cells = λ i lt. at-cell h i lt (eqb i (S .regs .nc)) refl;
+            are-cells = λ i c e. at-cell h i c (get-snoc (s .cells) i new e);
             are-advices = advices-change term (S .memory) (sizes (S .regs)) tables (sizes after) g (st .are-advices)
                 (λ i lt. word-other (S .memory) (3585 + S .regs .nc) word (3841 + i) (λ e. omega (arith, st .cells)));
             logged = st .logged;
             log-at = st .log-at;
             log-fits = st .log-fits;
           })
-          (is-cell (tag-value 5 (S .regs .nc) (omega (arith, st .cells-fit))) (omega (arith, st .cells-count, st .cells)) (omega (arith, st .cells-count))) g
+          (is-cell (tag-value 5 (S .regs .nc) (omega (arith, st .cells-fit))) (omega (arith, st .cells-count, st .cells))) g
           (same-put (S .memory) (S .regs .sp) (3585 + S .regs .nc) word (λ i h e. omega (arith, R .fits)))

@@ -59,7 +59,7 @@ module _ (term : ℕ → Tm) (M : Memory) (z : Sizes) where
       is-fun : {w l : ℕ} {y : Ty} {b : Tm} {ρ : Env} → tagOf w ≡ 3 → term (bodyOf w % 1024) ≡ b → bodyOf w / 65536 ≡ l → IsEnv l ρ → IsVal w (CVal.fun y b ρ)
       is-pair : {w : ℕ} {v u : CVal} → tagOf w ≡ 4 → bodyOf w % 512 < z .np → IsVal (pieceFirst M (bodyOf w % 512)) v → IsVal (pieceSecond M (bodyOf w % 512)) u
           → IsVal w (CVal.pair v u)
-      is-cell : {w r : ℕ} → tagOf w ≡ 5 → bodyOf w % 256 ≡ r → r < z .nc → IsVal w (CVal.cell r)
+      is-cell : {w r : ℕ} → tagOf w ≡ 5 → bodyOf w % 256 ≡ r → IsVal w (CVal.cell r)
       is-label : {w l : ℕ} → tagOf w ≡ 6 → bodyOf w % 64 ≡ l → IsVal w (CVal.label l)
       is-labels : {w : ℕ} {ls : List ℕ} → tagOf w ≡ 7 → bodyOf w % 512 < z .np → IsLabels (pieceSecond M (bodyOf w % 512)) ls → IsVal w (CVal.labels ls)
       is-advice : {w d : ℕ} {b : Tm} {ls : List ℕ} {ρ : Env} → tagOf w ≡ 8 → bodyOf w % 512 < z .np → term (adviceTerm (pieceFirst M (bodyOf w % 512))) ≡ b → adviceDom (pieceFirst M (bodyOf w % 512)) ≡ d
@@ -93,14 +93,10 @@ module _ (term : ℕ → Tm) (M : Memory) (z : Sizes) where
   val-tag (is-num p q) = omega arith
   val-tag (is-fun p q r e) = omega arith
   val-tag (is-pair p q h g) = omega arith
-  val-tag (is-cell p q r) = omega arith
+  val-tag (is-cell p q) = omega arith
   val-tag (is-label p q) = omega arith
   val-tag (is-labels p q h) = omega arith
   val-tag (is-advice p q h g e f) = omega arith
-
-  pub triggered-order : {b e : ℕ} {w : CVal} {x : List (Advice Body)} → IsTriggered b e w x → b ≤ e
-  triggered-order (no-more p) = omega arith
-  triggered-order (one-left h e g p q r) = omega arith
 
   -- Another word with the same tag and body.
   pub val-like : {a b : ℕ} {v : CVal} → tagOf a ≡ tagOf b → bodyOf a ≡ bodyOf b → IsVal b v → IsVal a v
@@ -110,7 +106,7 @@ module _ (term : ℕ → Tm) (M : Memory) (z : Sizes) where
   val-like p q (is-fun t h g e) = is-fun (p ∙ t) (ap (λ x. term (x % 1024)) q ∙ h) (ap (λ x. x / 65536) q ∙ g) e
   val-like p q (is-pair {v = v} {u = u} t h g k) =
       is-pair (p ∙ t) (rw q h) (subst (λ x. IsVal (pieceFirst M (x % 512)) v) (sym q) g) (subst (λ x. IsVal (pieceSecond M (x % 512)) u) (sym q) k)
-  val-like p q (is-cell t h g) = is-cell (p ∙ t) (ap (λ x. x % 256) q ∙ h) g
+  val-like p q (is-cell t h) = is-cell (p ∙ t) (ap (λ x. x % 256) q ∙ h)
   val-like p q (is-label t h) = is-label (p ∙ t) (ap (λ x. x % 64) q ∙ h)
   val-like p q (is-labels {ls = ls} t h g) = is-labels (p ∙ t) (rw q h) (subst (λ x. IsLabels (pieceSecond M (x % 512)) ls) (sym q) g)
   val-like p q (is-advice {ls = ls} {ρ = ρ} t h g k e l) =
@@ -144,7 +140,6 @@ labels-at p h = rw p h
 pub record Grows (M : Memory) (z : Sizes) (M′ : Memory) (z′ : Sizes) : Type 0 where
   pub more-bindings : z .nb ≤ z′ .nb
   pub more-pieces : z .np ≤ z′ .np
-  pub more-cells : z .nc ≤ z′ .nc
   pub bindings : (l : ℕ) → 0 < l → l ≤ z .nb → bindingAt M′ l ≡ bindingAt M l
   pub firsts : (p : ℕ) → p < z .np → pieceFirst M′ p ≡ pieceFirst M p
   pub seconds : (p : ℕ) → p < z .np → pieceSecond M′ p ≡ pieceSecond M p
@@ -158,7 +153,7 @@ module _ (term : ℕ → Tm) (M : Memory) (z : Sizes) (M′ : Memory) (z′ : Si
     val-grows (is-fun p q r e) = is-fun p q r (env-grows e)
     val-grows (is-pair {w = w} p q a b) =
         is-pair p (omega (arith, g .more-pieces)) (val-at term M′ z′ (g .firsts (bodyOf w % 512) q) (val-grows a)) (val-at term M′ z′ (g .seconds (bodyOf w % 512) q) (val-grows b))
-    val-grows (is-cell p q r) = is-cell p q (omega (arith, g .more-cells))
+    val-grows (is-cell p q) = is-cell p q
     val-grows (is-label p q) = is-label p q
     val-grows (is-labels {w = w} p q a) = is-labels p (omega (arith, g .more-pieces)) (labels-at (g .seconds (bodyOf w % 512) q) a)
     val-grows (is-advice {w = w} p q a b e c) =

@@ -14,6 +14,7 @@ use Rattle.calculus.specs.State.{Advice, Given}
 use Rattle.calculus.specs.Answer.{with}
 use Rattle.machine.specs.Closure.{CVal, Env, Body, CState, plainVal}
 use Rattle.machine.specs.Machine.{ret, triggered, Frame, triggeredF, lowerF, Stack, placeAt, reduce2C, reduceSeqC}
+use Rattle.machine.proofs.Loop.{unfinished-frame}
 use Rattle.flat.specs.declared.Regs.{Regs}
 use Rattle.flat.specs.Registers.{returnMode, labelsMode, readyMode, setMode, setEnv, setDom, setSp, setLeft, setT, setN, setV1, setV}
 use Rattle.flat.specs.Values.{tagOf, bodyOf}
@@ -24,7 +25,7 @@ use Rattle.flat.specs.Turn.{adviceFrom, leaveAdvice, labelsState, resume
 use Rattle.flat.specs.Coded.{Coded}
 use Rattle.flat.proofs.Relations.{sizes, digitsOf, Labels, one-more, IsVal, is-unit, IsEnv, IsTriggered, no-more, one-left}
 use Rattle.flat.proofs.Sound.{Sound}
-use Rattle.flat.proofs.Reach.{Reach, reach-moves, reach-go, reach-label, not-wrong, ends-over, ends-spent, under-frame, redex-due}
+use Rattle.flat.proofs.Reach.{Reach, reach-moves, reach-go, reach-label, no-wrong, ends-over, ends-spent, redex-due}
 use Rattle.flat.proofs.Nodes.{unary, binary, strict-dom}
 use Rattle.flat.proofs.Stack.{IsPointcut, labelsFrame, IsFrame, first-frame, second-frame, pointcut-frame, lower-frame, IsStack, no-frames, one-frame, advice-frames, stack-length, topOf, topFrame, children-count, stack-top}
 use Rattle.flat.proofs.Store.{Store}
@@ -120,8 +121,7 @@ module _ (C : Program) (term : ℕ → Tm) (coded : Coded C term) (G : Given) (e
     )
     lowered x {u} (no-unit h) r =
         absurd
-        (not-wrong G e₀ Ω k s (ret u) (lowerF d ∷ triggeredF w x ∷ K) r (triggeredF w x ∷ K)
-        (redex-due (triggeredF w x ∷ K) (reduceSeqC s (ret CVal.unit) u) (omega (arith, short)) ∙ rw h))
+        (no-wrong G e₀ Ω k s (ret u) (lowerF d ∷ triggeredF w x ∷ K) r (redex-due (triggeredF w x ∷ K) (reduceSeqC s (ret CVal.unit) u) (omega (arith, short))) (rw h))
 
     -- The step of the sequence.
     sequenced : (x : List (Advice Body)) → Reach G e₀ Ω (suc k) s (ret CVal.unit) (triggeredF w x ∷ K) → Reach G e₀ Ω (suc (suc k)) s (triggered w x) K
@@ -138,14 +138,14 @@ module _ (C : Program) (term : ℕ → Tm) (coded : Coded C term) (G : Given) (e
         let z : S .regs .left ≡ 0 = eqb-true (S .regs .left) 0 e in
         now-halted
         (halted-stopped Outcome.Spent refl
-        (ends-spent G e₀ Ω k s (ret u) (lowerF d ∷ triggeredF w x ∷ K) r N (S .regs .left) budget z (under-frame G e₀ Ω (ret u) (lowerF d) (triggeredF w x ∷ K))) st (omega arith))
+        (ends-spent G e₀ Ω k s (ret u) (lowerF d ∷ triggeredF w x ∷ K) r N (S .regs .left) budget z (unfinished-frame (ret u) (lowerF d) (triggeredF w x ∷ K))) st (omega arith))
     spent-now x u iv r h false e =
         let n : S .regs .left ≡ 0 → ⊥ = eqb-false (S .regs .left) 0 e in
         let o = lowered x (as-unit term (S .memory) (sizes (S .regs)) iv) r in
         let all : suc k + 0 ≡ N = omega arith in
         now-halted
         (halted-stopped Outcome.Spent refl
-        (ends-spent G e₀ Ω (suc k) s (ret CVal.unit) (triggeredF w x ∷ K) (o .1) N 0 all refl (under-frame G e₀ Ω (ret CVal.unit) (triggeredF w x) K)) st all)
+        (ends-spent G e₀ Ω (suc k) s (ret CVal.unit) (triggeredF w x ∷ K) (o .1) N 0 all refl (unfinished-frame (ret CVal.unit) (triggeredF w x) K)) st all)
 
     left-common : 2 ≤ S .regs .left → (q : Regs) → sizes q ≡ sizes (S .regs) → q .sp ≡ S .regs .sp - 2 → q .dom ≡ frameHeld f / 16777216 % 16 → q .left ≡ S .regs .left - 2
         → Common C term G e₀ Ω N L (withRegs q S) (suc (suc k)) s K

@@ -1,4 +1,4 @@
--- What the flat machine asks of a program: a property of states and terms that steps keep, and that rules out a wrong redex, a variable without a value, and a pointcut of what is no label.
+-- What the flat machine asks of a program: a property of states and terms that steps keep, and that rules out a wrong redex (an operand of a wrong kind, a cell or label that is not there), a variable without a value, and a pointcut of what is no label.
 -- Type safety gives it for every accepted program.
 use Prim.Native.Nat.{ℕ}
 use native.Mathlib.Nat.{sub-zero}

@@ -4,11 +4,10 @@ use native.Mathlib.Omega.{arith}
 use mathlib.Core.Path.{_≡_, refl, ap, _∙_}
 use mathlib.Core.List.{List, [], _∷_, map}
 use lib.ListN.{length, getD}
-use Rattle.calculus.specs.Syntax.{Ty, Tm, Op2}
+use Rattle.calculus.specs.Syntax.{Ty, Tm, Tms, Op2, end, more}
 use Rattle.calculus.specs.State.{Advice}
 use Rattle.machine.specs.Closure.{CVal, Env, Body}
 use Rattle.machine.specs.Machine.{pcdN, Frame, op1F, op2L, op2R, opNF, seqF, triggeredF, iteF, splitF, advF, lowerF, Stack, placeAt}
-use Rattle.machine.proofs.Rank.{operands}
 use Rattle.flat.specs.Rows.{kindOf, field1, field2, Program, rowAt}
 use Rattle.flat.specs.Memory.{Memory, frameEnv, frameTerm, frameKind, frameDone, frameHeld, frameAt}
 use Rattle.flat.specs.Coded.{childrenFrom}
@@ -71,6 +70,11 @@ module _ (C : Program) (term : ℕ → Tm) where
         let s = e .word (suc i) (omega arith) in
         advice-frames p (ap frameKind s ∙ a) (ap (λ (f : ℕ). frameHeld f / 16777216 % 16) s ∙ b) (triggered-at (ap frameHeld s) (triggered-grows term M z M′ z′ g c))
         (stack-grows k (record { word = λ q h. e .word q (omega arith); byte = λ q h. e .byte q (omega arith) }))
+
+-- How many operands are left.
+unfoldable pub operands : Tms → ℕ
+operands end = 0
+operands (more e es) = suc (operands es)
 
 -- How many turns a frame asks for before the next step.
 abbrev pub topFrame : Frame → ℕ

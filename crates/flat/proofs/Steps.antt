@@ -10,7 +10,7 @@ use Rattle.calculus.specs.declared.Outcome.{Outcome}
 use Rattle.calculus.specs.Limits.{bindingLimit, cellLimit, pieceLimit}
 use Rattle.calculus.specs.Syntax.{Tm}
 use Rattle.calculus.specs.State.{Given, someBindings, oneCell, onePiece, addCounts, charged}
-use Rattle.calculus.specs.Answer.{go, full, wrong, if-room, spend}
+use Rattle.calculus.specs.Answer.{go, full, if-room, spend}
 use Rattle.machine.specs.Closure.{CVal, Env, CState}
 use Rattle.machine.specs.Machine.{Control, eval, ret, Stack, CAnswer, due, move}
 use Rattle.flat.specs.declared.Regs.{Regs}
@@ -21,7 +21,7 @@ use Rattle.flat.specs.States.{State, withRegs, halt as halted}
 use Rattle.flat.specs.Reduce.{ifRoom}
 use Rattle.flat.proofs.Relations.{sizes, IsVal, IsEnv, Grows}
 use Rattle.flat.proofs.Sound.{Sound}
-use Rattle.flat.proofs.Reach.{Reach, reach-go, not-wrong, ends-full}
+use Rattle.flat.proofs.Reach.{Reach, reach-go, ends-full}
 use Rattle.flat.proofs.Tables.{SameFrames}
 use Rattle.flat.proofs.Stack.{stack-grows, topOf, stack-top}
 use Rattle.flat.proofs.Store.{Store}
@@ -104,9 +104,6 @@ module _ (C : Program) (term : ℕ → Tm) (G : Given) (e₀ : Tm) (Ω : Sound G
     pub no-room : (o : Outcome) → move c K′ G s ≡ due (full o) K → Now C term G e₀ Ω N L 3 b (withRegs (halted o (S .regs)) S)
     no-room o p =
         now-halted (halted-stopped o refl (ends-full G e₀ Ω k s c K′ (R .reach) N (S .regs .left) (R .common .budget) o K (R .some-left) p) (R .common .store) (R .common .budget))
-
-    pub right-kind : move c K′ G s ≡ due wrong K → ⊥
-    right-kind p = not-wrong G e₀ Ω k s c K′ (R .reach) K p
 
     -- A step that needs room, where the two machines' tests agree.
     pub if-there-is-room : (t : Bool) (o : Outcome) (a : CAnswer) (T : State) (u : Bool) → u ≡ t → move c K′ G s ≡ due (if-room t o a) K

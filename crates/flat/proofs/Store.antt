@@ -3,10 +3,11 @@ use Prim.Native.Nat.{ℕ, suc, _+_, _*_, _%_, _≤_, _<_}
 use native.Mathlib.Omega.{arith}
 use mathlib.Core.Path.{_≡_, refl, sym, ap, _∙_}
 use mathlib.Core.List.{List, [], _∷_, _++_, append-assoc}
-use lib.ListN.{length, getD, drop}
+use mathlib.Core.Option.{some}
+use lib.ListN.{length, getElem?, drop}
 use Rattle.calculus.specs.Combinators.{choose}
 use Rattle.calculus.specs.Syntax.{Tm}
-use Rattle.calculus.specs.State.{Cell, Advice, Counts, Event, Said, prints, Print, picked, logOf, noCell, charged}
+use Rattle.calculus.specs.State.{Cell, Advice, Counts, Event, Said, prints, Print, picked, logOf, charged}
 use Rattle.machine.specs.Closure.{CVal, Body, CState}
 use Rattle.flat.specs.Memory.{Memory, wordAt, installedBase, installedAt, cellAt, cellNote}
 use Rattle.area.specs.Bytes.{bytesOf}
@@ -59,7 +60,7 @@ pub record Store (term : ℕ → Tm) (L : List ℕ) (M : Memory) (log : List ℕ
   pub labels-fit : z .nl ≤ 64
   pub advices : z .ni ≡ length (s .advices)
   pub advices-fit : z .ni ≤ 64
-  pub are-cells : (i : ℕ) → i < z .nc → IsCell term M z (cellAt M i) (getD (s .cells) i (noCell CVal.unit))
+  pub are-cells : (i : ℕ) (c : Cell CVal) → getElem? (s .cells) i ≡ some c → IsCell term M z (cellAt M i) c
   pub are-advices : AreAdvices term M z 0 (s .advices)
   pub logged : log ≡ logBytes (logOf (s .trace)) ++ drop (z .at) L
   pub log-at : z .at ≡ 10 * length (logOf (s .trace))
@@ -96,7 +97,7 @@ store-charged term L M log z s h M′ b p u g a i eb fb ep fp ec =
       labels-fit = h .labels-fit;
       advices = h .advices;
       advices-fit = h .advices-fit;
-      are-cells = λ q lt. cell-change term M z M′ (resized b p z) g (a .cells q) (h .are-cells q lt);
+      are-cells = λ q c e. cell-change term M z M′ (resized b p z) g (a .cells q) (h .are-cells q c e);
       are-advices = advices-change term M z M′ (resized b p z) g (h .are-advices) (λ q lt. i q);
       logged = h .logged;
       log-at = h .log-at;

@@ -19,26 +19,24 @@ grows-put M z j v h g =
     record {
       more-bindings = omega arith;
       more-pieces = omega arith;
-      more-cells = omega arith;
       bindings = λ l p q. word-other M j v (bindingBase + l - 1) (λ e. omega arith);
       firsts = λ p q. word-other M j v (pieceBase + 2 * p) (λ e. g (2 * p) (omega arith) e);
       seconds = λ p q. word-other M j v (pieceBase + 2 * p + 1) (λ e. g (2 * p + 1) (omega arith) (omega arith));
     }
 
 -- More may come into use.
-pub grows-sizes : (M : Memory) (z z′ : Sizes) → z .nb ≤ z′ .nb → z .np ≤ z′ .np → z .nc ≤ z′ .nc → Grows M z M z′
-grows-sizes M z z′ a b c =
-    record { more-bindings = a; more-pieces = b; more-cells = c; bindings = λ l p q. refl; firsts = λ p q. refl; seconds = λ p q. refl }
+pub grows-sizes : (M : Memory) (z z′ : Sizes) → z .nb ≤ z′ .nb → z .np ≤ z′ .np → Grows M z M z′
+grows-sizes M z z′ a b =
+    record { more-bindings = a; more-pieces = b; bindings = λ l p q. refl; firsts = λ p q. refl; seconds = λ p q. refl }
 
 pub grows-refl : (M : Memory) (z : Sizes) → Grows M z M z
-grows-refl M z = grows-sizes M z z (omega arith) (omega arith) (omega arith)
+grows-refl M z = grows-sizes M z z (omega arith) (omega arith)
 
 pub grows-trans : {M M′ M″ : Memory} {z z′ z″ : Sizes} → Grows M z M′ z′ → Grows M′ z′ M″ z″ → Grows M z M″ z″
 grows-trans g h =
     record {
       more-bindings = omega (arith, g .more-bindings, h .more-bindings);
       more-pieces = omega (arith, g .more-pieces, h .more-pieces);
-      more-cells = omega (arith, g .more-cells, h .more-cells);
       bindings = λ l p q. h .bindings l p (omega (arith, g .more-bindings)) ∙ g .bindings l p q;
       firsts = λ p q. h .firsts p (omega (arith, g .more-pieces)) ∙ g .firsts p q;
       seconds = λ p q. h .seconds p (omega (arith, g .more-pieces)) ∙ g .seconds p q;

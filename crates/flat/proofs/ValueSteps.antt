@@ -4,14 +4,14 @@ use native.Mathlib.Omega.{arith}
 use mathlib.Core.Path.{_≡_, refl, ap, _∙_}
 use mathlib.Core.Bool.{Bool, true, false, _&&_}
 use mathlib.Core.List.{List}
-use mathlib.Core.Option.{none}
-use lib.ListN.{length, getD}
+use mathlib.Core.Option.{Option, none, some}
+use lib.ListN.{length, getD, getElem?}
 use lib.Dec.{ltb}
 use Rattle.calculus.specs.Limits.{signBit}
 use Rattle.calculus.specs.Combinators.{choose}
 use Rattle.calculus.specs.Numbers.{sum, difference, isLess, isEqual, frameByte}
 use Rattle.calculus.specs.Syntax.{Ty, Tm, read, byte}
-use Rattle.calculus.specs.State.{Given, noCell}
+use Rattle.calculus.specs.State.{Cell, Given}
 use Rattle.calculus.specs.Place.{Place}
 use Rattle.calculus.specs.View.{numberOf}
 use Rattle.calculus.specs.Answer.{go, wrong, with}
@@ -22,7 +22,7 @@ use Rattle.flat.specs.Values.{value, operate, calculate, readByte}
 use Rattle.flat.specs.Memory.{Memory, readCell}
 use Rattle.flat.proofs.Relations.{Sizes, IsVal, is-truth, is-num}
 use Rattle.flat.proofs.Sound.{Sound}
-use Rattle.flat.proofs.Reach.{Reach, not-wrong}
+use Rattle.flat.proofs.Reach.{Reach, no-wrong}
 use Rattle.flat.proofs.Nodes.{tag-value, body-value}
 use Rattle.flat.proofs.Store.{Store}
 use Rattle.flat.proofs.Views.{AsNumber, a-number, no-number, as-number, AsCell, a-cell, no-cell, as-cell}
@@ -77,16 +77,13 @@ module _ (term : ℕ → Tm) (G : Given) (e₀ : Tm) (Ω : Sound G e₀) (k : �
   abbrev pub GivesValue : ℕ → Type 0
   GivesValue v = (a : CVal) × IsVal term M z v a × (move c K′ G s ≡ due (go s (ret a)) K)
 
-  wrong-kind : (a : CAnswer) → move c K′ G s ≡ due a K → a ≡ wrong → ⊥
-  wrong-kind a p q = not-wrong G e₀ Ω k s c K′ r K (p ∙ ap (λ (x : CAnswer). due x K) q)
-
   pub byte-step : Bytes (G .frame) → (t : Ty) {v : ℕ} {u : CVal} → IsVal term M z v u → move c K′ G s ≡ due (reduce1C G P s byte t u) K → GivesValue (readByte (G .frame) v)
   unfolding readByte with plainVal
   byte-step h t {v} {u} iv p = try (as-number term M z iv) p
     where
       try : {w : CVal} → AsNumber term M z v w → move c K′ G s ≡ due (reduce1C G P s byte t w) K → GivesValue (readByte (G .frame) v)
       try (a-number {n = n} a b) q = (CVal.num (frameByte (G .frame) n), rw (a, b) (number-is term M z (frameByte (G .frame) n) (byte-fits (G .frame) n h)), q)
-      try (no-number e) q = absurd (wrong-kind _ q (rw e))
+      try (no-number e) q = absurd (no-wrong G e₀ Ω k s c K′ r q (rw e))
 
   pub arith-step : (f : ℕ) → f < 4 → (t : Ty) {v v′ : ℕ} {u u′ : CVal} → IsVal term M z v u → IsVal term M z v′ u′ → move c K′ G s ≡ due (reduce2C G P s (opOf f) t u u′) K
       → GivesValue (calculate f v v′)
@@ -97,13 +94,17 @@ module _ (term : ℕ → Tm) (G : Given) (e₀ : Tm) (Ω : Sound G e₀) (k : �
       try (a-number {n = x} a b) (a-number {n = y} a′ b′) q =
           let o = operate-is term M z f x y h G P s t in
           (o .0, rw (a, a′, b, b′) (o .1), q ∙ ap (λ (a : CAnswer). due a K) (o .2))
-      try (a-number {n = x} a b) (no-number {v = w′} e) q = absurd (wrong-kind _ q (arith-none′ f G P s t x w′ e))
-      try {w′ = w′} (no-number {v = w} e) y q = absurd (wrong-kind _ q (arith-none f G P s t w w′ e))
+      try (a-number {n = x} a b) (no-number {v = w′} e) q = absurd (no-wrong G e₀ Ω k s c K′ r q (arith-none′ f G P s t x w′ e))
+      try {w′ = w′} (no-number {v = w} e) y q = absurd (no-wrong G e₀ Ω k s c K′ r q (arith-none f G P s t w w′ e))
 
   pub read-step : (L log : List ℕ) → Store term L M log z s → (t : Ty) {v : ℕ} {u : CVal} → IsVal term M z v u → move c K′ G s ≡ due (reduce1C G P s read t u) K → GivesValue (readCell M v)
   unfolding readCell with plainVal
   read-step L log st t {v} iv p = try (as-cell term M z iv) p
     where
       try : {w : CVal} → AsCell term M z v w → move c K′ G s ≡ due (reduce1C G P s read t w) K → GivesValue (readCell M v)
-      try (a-cell {r = i} a b h) q = (getD (s .cells) i (noCell CVal.unit) .held, rw (a, b) (st .are-cells i h .value), q)
-      try (no-cell e) q = absurd (wrong-kind _ q (rw e))
+      try (a-cell {r = i} a b) q = found (getElem? (s .cells) i) refl q
+        where
+          found : (o : Option (Cell CVal)) → getElem? (s .cells) i ≡ o → move c K′ G s ≡ due (with o (λ h. go s (ret (h .held)))) K → GivesValue (readCell M v)
+          found none e q = absurd (no-wrong G e₀ Ω k s c K′ r q refl)
+          found (some h) e q = (h .held, rw (a, b) (st .are-cells i h e .value), q)
+      try (no-cell e) q = absurd (no-wrong G e₀ Ω k s c K′ r q (rw e))

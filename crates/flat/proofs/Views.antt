@@ -24,7 +24,7 @@ module _ (term : ℕ → Tm) (M : Memory) (z : Sizes) where
   as-unit (is-num p q) = no-unit refl
   as-unit (is-fun p q r e) = no-unit refl
   as-unit (is-pair p q a c) = no-unit refl
-  as-unit (is-cell p q r) = no-unit refl
+  as-unit (is-cell p q) = no-unit refl
   as-unit (is-label p q) = no-unit refl
   as-unit (is-labels p q a) = no-unit refl
   as-unit (is-advice p q a d e c) = no-unit refl
@@ -40,7 +40,7 @@ module _ (term : ℕ → Tm) (M : Memory) (z : Sizes) where
   as-truth (is-num p q) = no-truth refl
   as-truth (is-fun p q r e) = no-truth refl
   as-truth (is-pair p q a c) = no-truth refl
-  as-truth (is-cell p q r) = no-truth refl
+  as-truth (is-cell p q) = no-truth refl
   as-truth (is-label p q) = no-truth refl
   as-truth (is-labels p q a) = no-truth refl
   as-truth (is-advice p q a d e c) = no-truth refl
@@ -56,7 +56,7 @@ module _ (term : ℕ → Tm) (M : Memory) (z : Sizes) where
   as-number (is-num p q) = a-number p q
   as-number (is-fun p q r e) = no-number refl
   as-number (is-pair p q a c) = no-number refl
-  as-number (is-cell p q r) = no-number refl
+  as-number (is-cell p q) = no-number refl
   as-number (is-label p q) = no-number refl
   as-number (is-labels p q a) = no-number refl
   as-number (is-advice p q a d e c) = no-number refl
@@ -72,7 +72,7 @@ module _ (term : ℕ → Tm) (M : Memory) (z : Sizes) where
   as-pair (is-num p q) = no-pair refl
   as-pair (is-fun p q r e) = no-pair refl
   as-pair (is-pair p q a c) = a-pair p q a c
-  as-pair (is-cell p q r) = no-pair refl
+  as-pair (is-cell p q) = no-pair refl
   as-pair (is-label p q) = no-pair refl
   as-pair (is-labels p q a) = no-pair refl
   as-pair (is-advice p q a d e c) = no-pair refl
@@ -88,7 +88,7 @@ module _ (term : ℕ → Tm) (M : Memory) (z : Sizes) where
   as-function (is-num p q) = no-function refl
   as-function (is-fun p q r e) = a-function p q r e
   as-function (is-pair p q a c) = no-function refl
-  as-function (is-cell p q r) = no-function refl
+  as-function (is-cell p q) = no-function refl
   as-function (is-label p q) = no-function refl
   as-function (is-labels p q a) = no-function refl
   as-function (is-advice p q a d e c) = no-function refl
@@ -104,13 +104,13 @@ module _ (term : ℕ → Tm) (M : Memory) (z : Sizes) where
   as-label (is-num p q) = no-label refl
   as-label (is-fun p q r e) = no-label refl
   as-label (is-pair p q a c) = no-label refl
-  as-label (is-cell p q r) = no-label refl
+  as-label (is-cell p q) = no-label refl
   as-label (is-label p q) = a-label p q
   as-label (is-labels p q a) = no-label refl
   as-label (is-advice p q a d e c) = no-label refl
 
   pub data AsCell (w : ℕ) : CVal → Type 0 where
-    a-cell : {r : ℕ} → tagOf w ≡ 5 → bodyOf w % 256 ≡ r → r < z .nc → AsCell w (CVal.cell r)
+    a-cell : {r : ℕ} → tagOf w ≡ 5 → bodyOf w % 256 ≡ r → AsCell w (CVal.cell r)
     no-cell : {v : CVal} → cellOf (plainVal v) ≡ none → AsCell w v
 
   pub as-cell : {w : ℕ} {v : CVal} → IsVal term M z w v → AsCell w v
@@ -120,7 +120,7 @@ module _ (term : ℕ → Tm) (M : Memory) (z : Sizes) where
   as-cell (is-num p q) = no-cell refl
   as-cell (is-fun p q r e) = no-cell refl
   as-cell (is-pair p q a c) = no-cell refl
-  as-cell (is-cell p q r) = a-cell p q r
+  as-cell (is-cell p q) = a-cell p q
   as-cell (is-label p q) = no-cell refl
   as-cell (is-labels p q a) = no-cell refl
   as-cell (is-advice p q a d e c) = no-cell refl
@@ -136,7 +136,7 @@ module _ (term : ℕ → Tm) (M : Memory) (z : Sizes) where
   as-pointcut (is-num p q) = no-pointcut refl
   as-pointcut (is-fun p q r e) = no-pointcut refl
   as-pointcut (is-pair p q a c) = no-pointcut refl
-  as-pointcut (is-cell p q r) = no-pointcut refl
+  as-pointcut (is-cell p q) = no-pointcut refl
   as-pointcut (is-label p q) = no-pointcut refl
   as-pointcut (is-labels p q a) = a-pointcut p q a
   as-pointcut (is-advice p q a d e c) = no-pointcut refl
@@ -152,7 +152,7 @@ module _ (term : ℕ → Tm) (M : Memory) (z : Sizes) where
   as-advice (is-num p q) = no-advice refl
   as-advice (is-fun p q r e) = no-advice refl
   as-advice (is-pair p q a c) = no-advice refl
-  as-advice (is-cell p q r) = no-advice refl
+  as-advice (is-cell p q) = no-advice refl
   as-advice (is-label p q) = no-advice refl
   as-advice (is-labels p q a) = no-advice refl
   as-advice (is-advice p q a d e c) = a-advice p q a d e c

@@ -9,7 +9,8 @@ use lib.ListN.{length}
 use lib.Dec.{eqb}
 use Rattle.image.specs.declared.Refusal.{Refusal}
 use Rattle.image.specs.Bytes.{lengthAt}
-use Rattle.image.specs.Layout.{Layout, kindAt, framed, tests, add, walk}
+use Rattle.image.specs.Records.{Layout, kindAt}
+use Rattle.image.specs.Layout.{framed, tests, add, walk}
 use Rattle.image.specs.Tests.{firstFault}
 use Rattle.image.specs.Types.{children}
 use Rattle.image.specs.Program.{subtrees, tree}

@@ -5,7 +5,7 @@ use Rattle.image.specs.Kinds.{TypeKind, TermKind, Kind, domain, type, te
 use Rattle.image.specs.Types.{termKindOf}
 
 -- A kind is found by its number, so that it is the only one that has it.
-found : (k : Kind) → kindOf (rowOf k .number) ≡ some k
+pub found : (k : Kind) → kindOf (rowOf k .number) ≡ some k
 unfolding find
 found domain = refl
 found (type TypeKind.unit) = refl

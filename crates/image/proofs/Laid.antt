@@ -11,29 +11,20 @@ use Rattle.image.specs.declared.Refusal.{Refusal}
 use Rattle.image.specs.Limits.{domainLimit, typeLimit, termLimit}
 use Rattle.image.specs.Tests.{allOf, firstFault}
 use Rattle.image.specs.Bytes.{lengthAt, numberAt, fieldAt}
-use Rattle.image.specs.Kinds.{Field, a-type, a-domain, free, TypeKind, TermKind, Kind, domain, type, term, Row, domainRow, typeRow, termRow, rowOf, kindOf, find}
-use Rattle.image.specs.Layout.{Layout, nothing, kindAt, childrenAt, framed, known, rightLength, isNil, inOrder, hasRoom, within, fieldsIn, inRange, sameType, isNew, tests, add, stopped, laid, walk, layout, recordsOf}
+use Rattle.image.specs.Kinds.{Field, a-type, a-domain, an-op, a-truth, free, TypeKind, TermKind, Kind, domain, type, term, domainRow, typeRow, termRow, rowOf, kindOf, find}
+use Rattle.image.specs.Records.{Layout, kindAt, childrenAt}
+use Rattle.image.specs.Layout.{nothing, framed, known, rightLength, isNil, inOrder, hasRoom, within, fieldsIn, inRange, sameType, isNew, tests, add, stopped, laid, walk, layout, recordsOf}
 use Rattle.image.specs.Types.{typeKindOf, termKindOf, domainPlace, typePlace, termPlace, typeKind, termKind}
+pub use Rattle.image.specs.LaidOut.{Below, Stands}
+use Rattle.image.specs.LaidOut.{Within}
 use Rattle.image.proofs.Facts.{no-path, and-l, and-r, not-t, lt-of, le-of, eq-of, each, all-of, passed, each-snoc}
 use Rattle.image.proofs.Words.{words-length}
-
--- Each number of a list is below n.
-abbrev pub Below : ℕ → List ℕ → Type 0
-Below n [] = Unit {0}
-Below n (e ∷ es) = (e < n) × Below n es
+use Rattle.image.proofs.EveryKind.{type-first}
 
 pub below-at : (n : ℕ) (es : List ℕ) (i : ℕ) → Below n es → i < length es → getD es i 0 < n
 below-at n [] i b h = absurd (omega arith)
 below-at n (e ∷ es) zero b h = b .0
 below-at n (e ∷ es) (suc i) b h = below-at n es i (b .1) (omega arith)
-
--- The record at o is whole and has the row r's number, fields and children.
-pub record Stands (b : List ℕ) (r : Row) (o : ℕ) : Type 0 where
-  pub number : numberAt b o ≡ r .number
-  pub inside : o + lengthAt b o ≤ length b
-  pub size : lengthAt b o ≡ 4 + 2 * (length (r .fields) + length (childrenAt b o r))
-  pub least : r .least ≤ length (childrenAt b o r)
-  pub most : length (childrenAt b o r) ≤ r .most
 
 -- The record at o is type t, of kind k, behind the types ts, over so many domains.
 pub record TypeOk (b : List ℕ) (domains : ℕ) (ts : List ℕ) (k : TypeKind) (t o : ℕ) : Type 0 where
@@ -41,6 +32,7 @@ pub record TypeOk (b : List ℕ) (domains : ℕ) (ts : List ℕ) (k : TypeKind) 
   pub stands : Stands b (typeRow k) o
   pub lower : (i : ℕ) → getD (typeRow k .fields) i free ≡ a-type → fieldAt b o i < t
   pub domained : (i : ℕ) → getD (typeRow k .fields) i free ≡ a-domain → fieldAt b o i < domains
+  pub ranged : (i : ℕ) → i < length (typeRow k .fields) → Within domains t (getD (typeRow k .fields) i free) (fieldAt b o i)
   pub apart : (u : ℕ) → u < t → sameType b (typeRow k) o (getD ts u 0) ≡ false
 
 -- The record at o is term n, of kind k, over so many domains and types.
@@ -49,6 +41,7 @@ pub record TermOk (b : List ℕ) (domains types : ℕ) (k : TermKind) (n o : ℕ
   pub stands : Stands b (termRow k) o
   pub typed : fieldAt b o 0 < types
   pub domained : (i : ℕ) → getD (termRow k .fields) i free ≡ a-domain → fieldAt b o i < domains
+  pub ranged : (i : ℕ) → i < length (termRow k .fields) → Within domains types (getD (termRow k .fields) i free) (fieldAt b o i)
   pub below : Below n (childrenAt b o (termRow k))
 
 pub record Good (L : Layout) : Type 0 where
@@ -107,52 +100,33 @@ in-fields L o (g ∷ fs) j h (suc i) f e =
 pub in-field : (L : Layout) (o : ℕ) (fs : List Field) → fieldsIn L o fs 0 ≡ true → (i : ℕ) (f : Field) → getD fs i free ≡ f → within L f (fieldAt (L .image) o i) ≡ true
 in-field L o fs h i f e = let z : 0 + i ≡ i = omega arith in subst (λ m. within L f (fieldAt (L .image) o m) ≡ true) z (in-fields L o fs 0 h i f e)
 
+in-range : (L : Layout) (f : Field) (v : ℕ) → within L f v ≡ true → Within (length (L .domains)) (length (L .types)) f v
+in-range L a-type v h = lt-of h
+in-range L a-domain v h = lt-of h
+in-range L an-op v h = le-of h
+in-range L a-truth v h = le-of h
+in-range L free v h = tt
+
 in-children : (m : ℕ) (es : List ℕ) → allOf (λ e. ltb e m) es ≡ true → Below m es
 unfolding allOf
 in-children m [] h = tt
 in-children m (e ∷ es) h = (lt-of (and-l (ltb e m) (allOf (λ e. ltb e m) es) h), in-children m es (and-r (ltb e m) (allOf (λ e. ltb e m) es) h))
-
--- Every term's first field is its type.
-type-first : (k : TermKind) → getD (termRow k .fields) 0 free ≡ a-type
-type-first TermKind.unit = refl
-type-first TermKind.truth = refl
-type-first TermKind.number = refl
-type-first TermKind.var = refl
-type-first TermKind.seq = refl
-type-first TermKind.print = refl
-type-first TermKind.ite = refl
-type-first TermKind.pair = refl
-type-first TermKind.split = refl
-type-first TermKind.fun = refl
-type-first TermKind.app = refl
-type-first TermKind.arith = refl
-type-first TermKind.newLabel = refl
-type-first TermKind.mark = refl
-type-first TermKind.pcd = refl
-type-first TermKind.adv = refl
-type-first TermKind.install = refl
-type-first TermKind.newCell = refl
-type-first TermKind.read = refl
-type-first TermKind.store = refl
-type-first TermKind.lower = refl
-type-first TermKind.abort = refl
-type-first TermKind.byte = refl
 
 nil : (xs : List ℕ) → isNil xs ≡ true → length xs ≡ 0
 nil [] h = refl
 nil (x ∷ xs) h = no-path (sym h)
 
 -- What 2 to 8 assure of a record of kind k.
-record Passes (L : Layout) (o : ℕ) (k : Kind) : Type 0 where
-  whole : framed (L .image) o ≡ true
-  kind : kindOf (numberAt (L .image) o) ≡ some k
-  right : rightLength (rowOf k) (lengthAt (L .image) o) ≡ true
-  order : inOrder k L ≡ true
-  room : hasRoom k L ≡ true
-  range : inRange L o (rowOf k) ≡ true
-  new : isNew k o L ≡ true
+pub record Passes (L : Layout) (o : ℕ) (k : Kind) : Type 0 where
+  pub whole : framed (L .image) o ≡ true
+  pub kind : kindOf (numberAt (L .image) o) ≡ some k
+  pub right : rightLength (rowOf k) (lengthAt (L .image) o) ≡ true
+  pub order : inOrder k L ≡ true
+  pub room : hasRoom k L ≡ true
+  pub range : inRange L o (rowOf k) ≡ true
+  pub new : isNew k o L ≡ true
 
-tests-passed : (L : Layout) (o : ℕ) → firstFault (tests L o) ≡ none → Passes L o (kindAt (L .image) o)
+pub tests-passed : (L : Layout) (o : ℕ) → firstFault (tests L o) ≡ none → Passes L o (kindAt (L .image) o)
 unfolding tests
 tests-passed L o h =
     let h2 = passed _ _ _ h in
@@ -192,6 +166,7 @@ add-good L o (type k) e p g =
       stands = stands b o (type k) (p .whole) (p .kind) (p .right);
       lower = λ i q. lt-of (in-field L o (typeRow k .fields) (range .0) i a-type q);
       domained = λ i q. lt-of (in-field L o (typeRow k .fields) (range .0) i a-domain q);
+      ranged = λ i l. in-range L (getD (typeRow k .fields) i free) (fieldAt b o i) (in-field L o (typeRow k .fields) (range .0) i _ refl);
       apart = λ u l. rw (before u l) (not-t (sameType b (typeRow k) o (getD (L .types) u 0)) (all-of (λ q. not (sameType b (typeRow k) o q)) (L .types) (p .new) u 0 l));
     } in
     record {
@@ -201,7 +176,7 @@ add-good L o (type k) e p g =
       domains = g .domains;
       types =
           each-snoc (λ t r. TypeOk b (length (L .domains)) ts (typeKindOf (kindAt b r)) t r) (L .types) o 0
-          (λ t l. let old = g .types t l in record { kind = old .kind; stands = old .stands; lower = old .lower; domained = old .domained; apart = λ u m. rw (before u (omega arith)) (old .apart u m) })
+          (λ t l. let old = g .types t l in record { kind = old .kind; stands = old .stands; lower = old .lower; domained = old .domained; ranged = old .ranged; apart = λ u m. rw (before u (omega arith)) (old .apart u m) })
           (subst (λ j. TypeOk b (length (L .domains)) ts j (length (L .types)) o) (sym (ap typeKindOf e)) ok);
       terms = λ n l. absurd (omega arith);
     }
@@ -215,6 +190,7 @@ add-good L o (term k) e p g =
       stands = stands b o (term k) (p .whole) (p .kind) (p .right);
       typed = lt-of (in-field L o (termRow k .fields) (range .0) 0 a-type (type-first k));
       domained = λ i q. lt-of (in-field L o (termRow k .fields) (range .0) i a-domain q);
+      ranged = λ i l. in-range L (getD (termRow k .fields) i free) (fieldAt b o i) (in-field L o (termRow k .fields) (range .0) i _ refl);
       below = in-children (length (L .terms)) (childrenAt b o (termRow k)) (range .1 .0);
     } in
     record {
@@ -239,29 +215,33 @@ nothing-good b =
       terms = λ n l. absurd (omega arith);
     }
 
--- What each record that passes keeps, the walk keeps.
-module _ (P : Layout → Type 0) (keep : (o : ℕ) (L : Layout) → firstFault (tests L o) ≡ none → P L → P (add (kindAt (L .image) o) o L)) where
-  pub walk-keeps : (f o : ℕ) (L M : Layout) → walk f o L ≡ laid M → P L → P M
+-- What each record that passes keeps of an offset and the records before it, the walk keeps to the image's end.
+module _ (P : ℕ → Layout → Type 0) (keep : (o : ℕ) (L : Layout) → firstFault (tests L o) ≡ none → P o L → P (o + lengthAt (L .image) o) (add (kindAt (L .image) o) o L)) where
+  pub walk-reaches : (f o : ℕ) (L M : Layout) → walk f o L ≡ laid M → P o L → P (length (M .image)) M
   unfolding walk
-  walk-keeps zero o L M h g = end (eqb o (length (L .image))) refl
+  walk-reaches zero o L M h g = end (eqb o (length (L .image))) refl
     where
-      end : (t : Bool) → eqb o (length (L .image)) ≡ t → P M
-      end true e = let z : laid L ≡ laid M = rw (e, walk) at h in let q : L ≡ M = cc in subst P q g
+      end : (t : Bool) → eqb o (length (L .image)) ≡ t → P (length (M .image)) M
+      end true e = let z : laid L ≡ laid M = rw (e, walk) at h in let q : L ≡ M = cc in subst (λ K. P (length (K .image)) K) q (subst (λ p. P p L) (eq-of e) g)
       end false e = let z : stopped Refusal.BrokenRecord o ≡ laid M = rw (e, walk) at h in no-path cc
-  walk-keeps (suc f) o L M h g = end (λ p K z g′. walk-keeps f p K M z g′) (eqb o (length (L .image))) refl
+  walk-reaches (suc f) o L M h g = end (λ p K z g′. walk-reaches f p K M z g′) (eqb o (length (L .image))) refl
     where
       Next : Type 0
-      Next = (p : ℕ) (K : Layout) → walk f p K ≡ laid M → P K → P M
+      Next = (p : ℕ) (K : Layout) → walk f p K ≡ laid M → P p K → P (length (M .image)) M
 
-      read : Next → eqb o (length (L .image)) ≡ false → (x : Option Refusal) → firstFault (tests L o) ≡ x → P M
+      read : Next → eqb o (length (L .image)) ≡ false → (x : Option Refusal) → firstFault (tests L o) ≡ x → P (length (M .image)) M
       read next e (some r) q = let z : stopped r o ≡ laid M = rw (e, q, walk) at h in no-path cc
       read next e none q =
           let z : walk f (o + lengthAt (L .image) o) (add (kindAt (L .image) o) o L) ≡ laid M = rw (e, q, walk) at h in
           next (o + lengthAt (L .image) o) (add (kindAt (L .image) o) o L) z (keep o L q g)
 
-      end : Next → (t : Bool) → eqb o (length (L .image)) ≡ t → P M
-      end next true e = let z : laid L ≡ laid M = rw (e, walk) at h in let q : L ≡ M = cc in subst P q g
+      end : Next → (t : Bool) → eqb o (length (L .image)) ≡ t → P (length (M .image)) M
+      end next true e = let z : laid L ≡ laid M = rw (e, walk) at h in let q : L ≡ M = cc in subst (λ K. P (length (K .image)) K) q (subst (λ p. P p L) (eq-of e) g)
       end next false e = read next e (firstFault (tests L o)) refl
+
+-- The same of the records alone.
+pub walk-keeps : (P : Layout → Type 0) → ((o : ℕ) (L : Layout) → firstFault (tests L o) ≡ none → P L → P (add (kindAt (L .image) o) o L)) → (f o : ℕ) (L M : Layout) → walk f o L ≡ laid M → P L → P M
+walk-keeps P keep f o L M h g = walk-reaches (λ p K. P K) keep f o L M h g
 
 pub layout-good : (b : List ℕ) (L : Layout) → layout b ≡ laid L → Good L
 unfolding layout

@@ -2,8 +2,10 @@
 pub mod Facts
 pub mod Words
 pub mod KindNumbers
+pub mod EveryKind
 pub mod Laid
 pub mod TypeNumbers
 pub mod Fuel
+pub mod LaidOut
 pub mod Blanked
 pub mod Lengths

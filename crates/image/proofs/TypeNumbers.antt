@@ -9,7 +9,8 @@ use lib.Dec.{eqb, ltb}
 use Rattle.calculus.specs.Syntax.{Ty}
 use Rattle.image.specs.Tests.{allBelow}
 use Rattle.image.specs.Kinds.{a-type, free, TypeKind, type, typeRow}
-use Rattle.image.specs.Layout.{Layout, sameType}
+use Rattle.image.specs.Records.{Layout}
+use Rattle.image.specs.Layout.{sameType}
 use Rattle.image.specs.Types.{typeKindOf, typePlace, typeNumber, typeKind, typeField, isType, typeOut, typeFrom, typeOf}
 use Rattle.image.proofs.Facts.{no-path, and-i, lt-of, ge-of, eq-of, of-eq, of-each}
 use Rattle.image.proofs.KindNumbers.{same-kind}

@@ -84,7 +84,7 @@ rowOf domain = domainRow
 rowOf (type k) = typeRow k
 rowOf (term k) = termRow k
 
-abbrev kinds : List Kind
+abbrev pub kinds : List Kind
 kinds =
     domain
     ∷ type TypeKind.unit ∷ type TypeKind.truth ∷ type TypeKind.number ∷ type TypeKind.pair ∷ type TypeKind.fun

@@ -1,5 +1,5 @@
 -- The layout of an image: the walk over its records, front to back, with the refusals 2 to 8 (document 01, "Turned back at the gate").
-use Prim.Native.Nat.{ℕ, zero, suc, _+_, _-_, _*_, _%_}
+use Prim.Native.Nat.{ℕ, zero, suc, _+_, _*_, _%_}
 use mathlib.Core.Bool.{Bool, true, false, not, _&&_}
 use mathlib.Core.List.{List, [], _∷_, _++_}
 use mathlib.Core.Option.{Option, none, some}
@@ -8,34 +8,17 @@ use lib.Dec.{eqb, ltb, leb}
 use Rattle.image.specs.declared.Refusal.{Refusal}
 use Rattle.image.specs.Limits.{domainLimit, typeLimit, termLimit}
 use Rattle.image.specs.Tests.{all, allOf, allBelow, firstFault}
-use Rattle.image.specs.Bytes.{lengthAt, numberAt, fieldCount, fieldAt, fieldsFrom}
+use Rattle.image.specs.Bytes.{lengthAt, numberAt, fieldAt}
 use Rattle.image.specs.Kinds.{Field, a-type, a-domain, an-op, a-truth, free, Kind, domain, type, term, Row, typeRow, rowOf, kindOf}
+pub use Rattle.image.specs.Records.{Layout, orElse, kindAt, childrenAt}
 
--- An image and the offsets of its records, section by section, in order: a domain, a type or a term is its place in its list.
-pub record Layout : Type 0 where
-  pub image : List ℕ
-  pub domains : List ℕ
-  pub types : List ℕ
-  pub terms : List ℕ
-
+-- Before the walk: no records yet.
 abbrev pub nothing : List ℕ → Layout
 nothing b = record { image = b; domains = []; types = []; terms = [] }
 
 abbrev pub isSome : {A : Type 0} → Option A → Bool
 isSome none = false
 isSome (some a) = true
-
-abbrev pub orElse : {A : Type 0} → Option A → A → A
-orElse none d = d
-orElse (some a) d = a
-
--- The kind of the record at o, if its number is one; a domain stands for no kind.
-abbrev pub kindAt : List ℕ → ℕ → Kind
-kindAt b o = orElse (kindOf (numberAt b o)) domain
-
--- The children of the record at o, of a kind with the row r: its last fields.
-abbrev pub childrenAt : List ℕ → ℕ → Row → List ℕ
-childrenAt b o r = fieldsFrom b o (length (r .fields)) (fieldCount b o - length (r .fields))
 
 -- 2, not: 1 to 3 bytes left, length under 4 or past the end.
 abbrev pub framed : List ℕ → ℕ → Bool

@@ -4,6 +4,8 @@ pub mod Refusals
 pub mod Tests
 pub mod Bytes
 pub mod Kinds
-pub mod Layout
+pub mod Records
 pub mod Types
+pub mod LaidOut
 pub mod Program
+pub mod Layout

@@ -8,7 +8,7 @@ use lib.Dec.{eqb}
 use Rattle.calculus.specs.Syntax.{Dom, Ty, Val, Tm, Tms, Op2, val, var, lam, op0, op1, op2, seq, ite, split, pcd, adv, lower, newLabel, abort, print, install, read, byte, newCell, app, mark, store, plus, minus, less, equal}
 use Rattle.calculus.specs.Plain.{domOf}
 use Rattle.image.specs.Kinds.{Body, no-body, function-body, advice-body, split-body, lower-body, TermKind, termRow}
-use Rattle.image.specs.Layout.{Layout}
+use Rattle.image.specs.Records.{Layout}
 use Rattle.image.specs.Types.{termKind, statedType, others, children, rootOf}
 
 -- A program: a term's kind, its type, its fields that are neither type nor child, and its subtrees; or the blank.

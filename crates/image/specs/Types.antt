@@ -7,7 +7,7 @@ use lib.Dec.{eqb}
 use Rattle.calculus.specs.Syntax.{Dom, Ty}
 use Rattle.image.specs.Bytes.{numberAt, fieldAt, fieldsFrom}
 use Rattle.image.specs.Kinds.{TypeKind, TermKind, Kind, domain, type, term, typeRow, termRow}
-use Rattle.image.specs.Layout.{Layout, kindAt, childrenAt}
+use Rattle.image.specs.Records.{Layout, kindAt, childrenAt}
 
 abbrev pub typeKindOf : Kind → TypeKind
 typeKindOf domain = TypeKind.unit

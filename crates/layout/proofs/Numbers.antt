@@ -2,7 +2,7 @@
 use Prim.Native.Nat.{ℕ, _+_, _*_, _≤_}
 use native.Mathlib.Omega.{arith}
 use native.Mathlib.Numerals.{add-one}
-use mathlib.Core.Path.{_≡_, sym, ap, _∙_}
+use mathlib.Core.Path.{_≡_, refl, sym, ap, _∙_}
 use mathlib.Core.Bool.{Bool, true, false, not, _&&_}
 use mathlib.Core.List.{List, [], _∷_}
 use mathlib.Core.Option.{none, some}
@@ -11,9 +11,9 @@ use lib.Dec.{eqb}
 use borrow.Author.Tests.{not-true, not-false}
 use Rattle.image.specs.declared.Refusal.{Refusal}
 use Rattle.image.specs.Tests.{allBelow, firstFault}
-use Rattle.image.proofs.Facts.{le-of, each}
+use Rattle.image.proofs.Facts.{no-path, le-of, each}
 use Rattle.records.specs.Codes.{countOf, leastOf, mostOf}
-use Rattle.layout.specs.Numbers.{lengthFits, Between, newKey}
+use Rattle.layout.specs.Numbers.{lengthFits, newKey}
 
 module _ (ks : List ℕ) (x : ℕ) where
   pub new-more : (i : ℕ) (b t : Bool) → b ≡ newKey i ks x → t ≡ (b && not (eqb x (getD ks i 0))) → t ≡ newKey (i + 1) ks x
@@ -25,12 +25,8 @@ pub fits-count : (code n : ℕ) → lengthFits code n ≡ true → 4 + 2 * count
 fits-count code n h = let z : 4 + 2 * (countOf code + leastOf code) ≤ n = le-of (each _ h .0) in omega arith
 
 -- Its fields are not shorter or longer than the kind's.
-pub fits-between : (code n : ℕ) → lengthFits code (n + 4) ≡ true → Between code n
-fits-between code n h =
-    let t = each _ h in
-    let l : 4 + 2 * (countOf code + leastOf code) ≤ n + 4 = le-of (t .0) in
-    let m : n + 4 ≤ 4 + 2 * (countOf code + mostOf code) = le-of (t .1 .0) in
-    (omega arith, omega arith)
+pub fits-between : (code n : ℕ) → lengthFits code n ≡ true → (4 + 2 * (countOf code + leastOf code) ≤ n) × (n ≤ 4 + 2 * (countOf code + mostOf code))
+fits-between code n h = let t = each _ h in (le-of (t .0), le-of (t .1 .0))
 
 -- A test that a function answers, and whose answer a branch goes by.
 pub yes-of : (r t : Bool) → r ≡ t → not r ≡ false → t ≡ true
@@ -72,3 +68,18 @@ repeated a h = rw h
 pub not-repeated : (a : Bool) → a ≡ true → none ≡ firstFault ((Refusal.RepeatedType, a) ∷ [])
 unfolding firstFault
 not-repeated a h = rw h
+
+-- What its answer tells of the key.
+pub old-key : (a : Bool) {r : Refusal} → some r ≡ firstFault ((Refusal.RepeatedType, a) ∷ []) → a ≡ false
+old-key a {r} h = go a refl
+  where
+    go : (t : Bool) → a ≡ t → a ≡ false
+    go true e = let z : some r ≡ none = h ∙ sym (not-repeated a e) in no-path cc
+    go false e = e
+
+pub new-key : (a : Bool) → none ≡ firstFault ((Refusal.RepeatedType, a) ∷ []) → a ≡ true
+new-key a h = go a refl
+  where
+    go : (t : Bool) → a ≡ t → a ≡ true
+    go true e = e
+    go false e = let z : none ≡ some Refusal.RepeatedType = h ∙ sym (repeated a e) in no-path cc

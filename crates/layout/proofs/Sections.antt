@@ -13,11 +13,11 @@ use Rattle.image.specs.Tests.{allOf, allBelow}
 use Rattle.image.specs.Layout.{Layout, rightLength, isNil, inOrder, hasRoom, isNew}
 use Rattle.image.specs.Types.{typePlace}
 use Rattle.image.proofs.Facts.{and-i, all-of, all-below, below-all}
+use Rattle.records.specs.declared.numbers.Counts.{Counts}
 use Rattle.records.specs.Codes.{sectionNumber, sectionOf}
 use Rattle.records.specs.Keys.{Key}
 use Rattle.records.proofs.Codes.{Packs}
 use Rattle.records.proofs.Keys.{same-key}
-use Rattle.layout.specs.Sizes.{typeCount, domainCount, termCount}
 use Rattle.layout.specs.Numbers.{lengthFits, orderFits, roomFits, newKey}
 use Rattle.layout.specs.Tables.{Keyed}
 
@@ -44,27 +44,27 @@ all-places : (ok : ℕ → Bool) (ns : List ℕ) (at : ℕ → Bool) → ((i : �
 all-places ok ns at e =
     same-truth _ _ (λ h. below-all (length ns) at (λ i l. sym (e i l) ∙ all-of ok ns h i 0 l)) (λ h. of-all ok ns (λ i l. e i l ∙ all-below (length ns) at h i l))
 
-module _ (L : Layout) (ss : List ℕ) (types : length (L .types) ≡ typeCount ss) (domains : length (L .domains) ≡ domainCount ss) (terms : length (L .terms) ≡ termCount ss) where
+module _ (L : Layout) (n : Counts) (types : length (L .types) ≡ n .types) (domains : length (L .domains) ≡ n .domains) (terms : length (L .terms) ≡ n .terms) where
   -- 5
-  in-order : (k : Kind) → inOrder k L ≡ orderFits (sectionNumber k) ss
+  in-order : (k : Kind) → inOrder k L ≡ orderFits (sectionNumber k) n
   in-order domain = rw (nil-length (L .types), nil-length (L .terms), types, terms)
   in-order (type k) = rw (nil-length (L .terms), terms)
   in-order (term k) = refl
 
   -- 6
-  has-room : (k : Kind) → hasRoom k L ≡ roomFits (sectionNumber k) ss
+  has-room : (k : Kind) → hasRoom k L ≡ roomFits (sectionNumber k) n
   has-room domain = rw domains
   has-room (type k) = rw types
   has-room (term k) = rw terms
 
-  pub order-law : (k : Kind) (x : ℕ) → Packs k x → inOrder k L ≡ orderFits (sectionOf x) ss
-  order-law k x P = in-order k ∙ ap (λ s. orderFits s ss) (sym (P .section))
+  pub order-law : (k : Kind) (x : ℕ) → Packs k x → inOrder k L ≡ orderFits (sectionOf x) n
+  order-law k x P = in-order k ∙ ap (λ s. orderFits s n) (sym (P .section))
 
-  pub room-law : (k : Kind) (x : ℕ) → Packs k x → hasRoom k L ≡ roomFits (sectionOf x) ss
-  room-law k x P = has-room k ∙ ap (λ s. roomFits s ss) (sym (P .section))
+  pub room-law : (k : Kind) (x : ℕ) → Packs k x → hasRoom k L ≡ roomFits (sectionOf x) n
+  room-law k x P = has-room k ∙ ap (λ s. roomFits s n) (sym (P .section))
 
   -- 8
-  pub new-law : (o : ℕ) (k : TypeKind) (ks : List ℕ) (x : ℕ) → kindOf (numberAt (L .image) o) ≡ some (type k) → Key (L .image) o x → Keyed L ks → isNew (type k) o L ≡ newKey (typeCount ss) ks x
+  pub new-law : (o : ℕ) (k : TypeKind) (ks : List ℕ) (x : ℕ) → kindOf (numberAt (L .image) o) ≡ some (type k) → Key (L .image) o x → Keyed L ks → isNew (type k) o L ≡ newKey (n .types) ks x
   new-law o k ks x h X K =
       all-places _ (L .types) (λ i. not (eqb x (getD ks i 0))) (λ i l. ap not (same-key (L .image) o (typePlace L i) k h x (getD ks i 0) X (K .at i l)))
-      ∙ ap (λ n. newKey n ks x) types
+      ∙ ap (λ m. newKey m ks x) types

@@ -7,64 +7,90 @@ use mathlib.Core.List.{List}
 use mathlib.Core.Option.{some}
 use lib.ListN.{length}
 use Rattle.image.specs.declared.Refusal.{Refusal}
-use Rattle.image.specs.Layout.{Layout}
+use Rattle.image.specs.Layout.{Layout, layout}
+use Rattle.image.proofs.Facts.{no-path}
+use Rattle.records.specs.declared.numbers.Counts.{Counts}
+use Rattle.records.specs.Counts.{noRecords}
 use Rattle.records.specs.declared.reader.Head.{Head}
 use Rattle.records.specs.Heads.{headAt}
 use Rattle.records.proofs.Heads.{whole-of, broken-of}
 use Rattle.layout.specs.declared.Scan.{Scan}
-use Rattle.layout.specs.declared.tests.Tested.{Tested}
-use Rattle.layout.specs.Sizes.{typeCount}
-use Rattle.layout.specs.Numbers.{toldOf}
-use Rattle.layout.specs.Tables.{layoutOf, Tables, Noted, entering, Entered, Lent, Scanned}
+use Rattle.layout.specs.declared.Entry.{Entry}
+use Rattle.layout.specs.Tables.{layoutOf, remainders, Filters, entryOf, countsBehind, Entered, Lent, Reached, scanOf, endOf, Holds, ScannedWith}
 use Rattle.layout.proofs.Going.{Going, going-start, going-end, going-stop, going-on, broken, told-fault, told-none}
 
 -- The records before o are in the tables, and the walk is as far.
-pub record Stage (b : List ℕ) (o : ℕ) (ss ds ts ks : List ℕ) (rs : List Bool) (es : List ℕ) : Type 0 where
+pub record Stage (b : List ℕ) (o : ℕ) (n : Counts) (ds ts ks : List ℕ) (rs : List Bool) (es : List ℕ) : Type 0 where
   pub inside : o ≤ length b
-  pub tables : Tables b ss ds ts ks es
-  pub noted : Noted (typeCount ss) ks rs
-  pub going : Going b o (layoutOf b ss ds ts es)
+  pub holds : Holds b o n ds ts ks es
+  pub filter : Filters (n .types) ks rs
+  pub going : Going b o (layoutOf b n ds ts es)
 
-pub start : {b kinds ss ds ts ks : List ℕ} {rs : List Bool} {es : List ℕ} → Lent b kinds ss ds ts ks rs es → Stage b 0 ss ds ts ks rs es
-start {b} {kinds} {ss} {ds} {ts} {ks} {rs} {es} l =
-    rw (l .sizes)
-    (record {
+pub start-stage : {b kinds ds ts ks : List ℕ} {rs : List Bool} {es : List ℕ} → Lent b kinds ds ts ks es → remainders ≤ length rs → Stage b 0 noRecords ds ts ks rs es
+start-stage {b} l r =
+    record {
       inside = omega arith;
-      tables =
+      holds =
           record {
-            sizes = record { places = refl; few-types = omega arith; few-domains = omega arith; few-terms = omega arith; ops = refl; truths = refl; numbers = refl };
-            doms = l .doms;
-            types = l .types;
-            keys = l .keys;
-            terms = l .terms;
-            keyed = record { at = λ t h. absurd (omega arith) };
+            reached = Reached.start;
+            tables =
+                record {
+                  few = record { domains = omega arith; types = omega arith; terms = omega arith };
+                  long = l .long;
+                  keyed = record { at = λ t h. absurd (omega arith) };
+                };
           };
-      noted = record { places = l .seen; at = λ i h. absurd (omega arith) };
+      filter = record { places = r; at = λ i h. absurd (omega arith) };
       going = going-start b;
-    })
+    }
 
-module _ {b : List ℕ} {o : ℕ} {ss ds ts ks : List ℕ} {rs : List Bool} {es : List ℕ} (S : Stage b o ss ds ts ks rs es) where
+module _ {b : List ℕ} {o : ℕ} {n : Counts} {ds ts ks : List ℕ} {rs : List Bool} {es : List ℕ} (S : Stage b o n ds ts ks rs es) where
   abbrev L : Layout
-  L = layoutOf b ss ds ts es
+  L = layoutOf b n ds ts es
 
-  pub ends : length b ≤ o → Scanned Scan.Laid b ss ds ts ks es
-  ends h = let i = S .inside in record { answer = sym (going-end o L (S .going) (omega arith)); tables = S .tables }
+  -- The scan ends here.
+  scanned : (r : Scan) → scanOf r b ds ts es ≡ layout b → ((m : Counts) → r ≡ Scan.Laid m → n ≡ m) → endOf (layout b) b ≡ o → ScannedWith r b ds ts ks rs es
+  scanned r a c e = record { scanned = record { answer = a; counts = n; counted = c; holds = rw e (S .holds) }; filter = S .filter }
 
-  pub stops : o < length b → {r : Refusal} → headAt b o ≡ Head.Refused r → Scanned (Scan.Stopped r o) b ss ds ts ks es
+  pub ends : length b ≤ o → ScannedWith (Scan.Laid n) b ds ts ks rs es
+  ends h =
+      let i = S .inside in
+      let e = going-end o L (S .going) (omega arith) in
+      scanned (Scan.Laid n) (sym e) (λ m d. cc) (ap (λ x. endOf x b) e ∙ (omega arith))
+
+  pub stops : o < length b → {r : Refusal} → headAt b o ≡ Head.Refused r → ScannedWith (Scan.Stopped r o) b ds ts ks rs es
   stops l {r} h =
       let z = broken-of b o r h in
-      record { answer = sym (going-stop o L (S .going) l r (broken o L (z .0) ∙ ap some (sym (z .1)))); tables = S .tables }
+      let e = going-stop o L (S .going) l r (broken o L (z .0) ∙ ap some (sym (z .1))) in
+      scanned (Scan.Stopped r o) (sym e) (λ m d. no-path cc) (ap (λ x. endOf x b) e)
 
-  module _ (l : o < length b) {t : Tested} {ss′ ds′ ts′ ks′ : List ℕ} {rs′ : List Bool} {es′ : List ℕ} (E : Entered t b o ss ds ts es ss′ ds′ ts′ ks′ rs′ es′) where
-    pub refuses : {r : Refusal} → t ≡ Tested.Fault r → Scanned (Scan.Stopped r o) b ss′ ds′ ts′ ks′ es′
-    refuses {r} e =
-        let a = ap (λ q. entering (toldOf q) o (layoutOf b ss′ ds′ ts′ es′)) (sym e) ∙ E .answer in
-        record { answer = sym (going-stop o L (S .going) l r (told-fault r _ o _ a)); tables = E .tables }
+  module _ (l : o < length b) {t : Entry} {ds′ ts′ ks′ : List ℕ} {rs′ : List Bool} {es′ : List ℕ} (E : Entered t b o n ds ts es ds′ ts′ ks′ rs′ es′) where
+    pub refuses : {r : Refusal} → t ≡ Entry.Fault r → ScannedWith (Scan.Stopped r o) b ds′ ts′ ks′ rs′ es′
+    refuses {r} d =
+        let a = ap (λ x. entryOf x b o ds′ ts′ es′) (sym d) ∙ E .answer in
+        let e = going-stop o L (S .going) l r (told-fault r _ o _ a) in
+        let c : countsBehind t n ≡ n = ap (λ x. countsBehind x n) d in
+        record {
+          scanned =
+              record {
+                answer = sym e;
+                counts = n;
+                counted = λ m f. no-path cc;
+                holds = rw (ap (λ x. endOf x b) e) (record { reached = rw (E .kept r d) (S .holds .reached); tables = rw c at (E .tables) });
+              };
+          filter = rw c at (E .filter);
+        }
 
-    pub goes-on : t ≡ Tested.Passed → {n k : ℕ} → headAt b o ≡ Head.Record n k → Stage b (o + n) ss′ ds′ ts′ ks′ rs′ es′
-    goes-on e {n} {k} h =
-        let W = whole-of b o n k h in
-        let a = ap (λ q. entering (toldOf q) o (layoutOf b ss′ ds′ ts′ es′)) (sym e) ∙ E .answer in
+    pub goes-on : {m : Counts} → t ≡ Entry.Laid m → {q k : ℕ} → headAt b o ≡ Head.Record q k → Stage b (o + q) m ds′ ts′ ks′ rs′ es′
+    goes-on {m} d {q} {k} h =
+        let W = whole-of b o q k h in
+        let a = ap (λ x. entryOf x b o ds′ ts′ es′) (sym d) ∙ E .answer in
         let z = told-none _ o _ _ a in
         let g = going-on o L (S .going) l (omega arith) (z .0) in
-        record { inside = W .inside; tables = E .tables; noted = E .noted; going = rw (W .len, z .1) g }
+        let c : countsBehind t n ≡ m = ap (λ x. countsBehind x n) d in
+        record {
+          inside = W .inside;
+          holds = record { reached = rw (W .len, z .1) (Reached.next (S .holds .reached) l (z .0)); tables = rw c at (E .tables) };
+          filter = rw c at (E .filter);
+          going = rw (W .len, z .1) g;
+        }

@@ -12,14 +12,16 @@ use Rattle.image.specs.Bytes.{lengthAt, numberAt}
 use Rattle.image.specs.Kinds.{Kind, rowOf, kindOf}
 use Rattle.image.specs.Layout.{Layout, framed, rightLength, inOrder, hasRoom, inRange, isNew, tests}
 use Rattle.image.proofs.Facts.{no-path}
+use Rattle.records.specs.declared.numbers.Counts.{Counts}
 use Rattle.records.specs.Codes.{codeAt}
-use Rattle.records.proofs.Codes.{known-code}
+use Rattle.records.specs.Heads.{fieldBytes, fieldsAt}
+use Rattle.records.proofs.Codes.{known-code, kind-sized, children-count}
 use Rattle.records.proofs.Heads.{Whole}
-use Rattle.layout.specs.Sizes.{termCount}
+use Rattle.records.proofs.Parts.{fields-length, children-are}
 use Rattle.layout.specs.Numbers.{lengthFits, rangeFits, numberTests}
 use Rattle.layout.specs.Tables.{layoutOf, Tables}
-use Rattle.layout.proofs.Numbers.{four, fits-count}
-use Rattle.layout.proofs.Parts.{part, part-length, fields-part, children-part}
+use Rattle.layout.proofs.Numbers.{four, fits-between}
+use Rattle.layout.proofs.Parts.{fields-part}
 use Rattle.layout.proofs.Sections.{right-length, order-law, room-law}
 use Rattle.layout.proofs.Kept.{type-count, domain-count, term-count}
 
@@ -41,9 +43,9 @@ same-five true true true false false e h = refl
 same-five true true true true false e h = no-path (h refl)
 same-five true true true false true e h = no-path (sym (h refl))
 
-module _ {b : List ℕ} {o n k : ℕ} (W : Whole b o n k) {ss ds ts ks es : List ℕ} (T : Tables b ss ds ts ks es) where
+module _ {b : List ℕ} {o q k : ℕ} (W : Whole b o q k) {n : Counts} {ds ts ks es : List ℕ} (T : Tables b n ds ts ks es) where
   abbrev L : Layout
-  L = layoutOf b ss ds ts es
+  L = layoutOf b n ds ts es
 
   -- 3
   pub unknown : kindOf (numberAt b o) ≡ none → firstFault (tests L o) ≡ some Refusal.UnknownKind
@@ -56,22 +58,23 @@ module _ {b : List ℕ} {o n k : ℕ} (W : Whole b o n k) {ss ds ts ks es : List
   known-tests K e = rw (W .framed, e)
 
   range-law : (K : Kind) → kindOf (numberAt b o) ≡ some K → lengthFits (codeAt (numberAt b o)) (lengthAt b o) ≡ true
-      → inRange L o (rowOf K) ≡ rangeFits (part b (o + 4) (lengthAt b o - 4)) (codeAt (numberAt b o)) ss
+      → inRange L o (rowOf K) ≡ rangeFits (fieldsAt b o) (codeAt (numberAt b o)) n
   range-law K e f =
       let P = known-code (numberAt b o) K e in
-      let q = fits-count (codeAt (numberAt b o)) (lengthAt b o) f in
+      let t : 4 + (lengthAt b o - 4) ≡ lengthAt b o = omega arith in
+      let m = fits-between (codeAt (numberAt b o)) (lengthAt b o) f in
+      let c = children-count (codeAt (numberAt b o)) (lengthAt b o - 4) (kind-sized K (codeAt (numberAt b o)) P) (omega arith) (omega arith) in
       let l : 4 + 2 * length (rowOf K .fields) ≤ lengthAt b o = omega (arith, P .count) in
-      let i : o + lengthAt b o ≤ length b = omega arith in
-      let x = fields-part L ss (T .sizes) (type-count T) (domain-count T) o (lengthAt b o - 4) (rowOf K .fields) 0 (omega arith) in
-      let y = children-part b o (termCount ss) (rowOf K) i l in
-      rw (P .count, P .classes, ← x, ← y, term-count T)
+      let x = fields-part L n (type-count T) (domain-count T) o (lengthAt b o) (rowOf K .fields) 0 (omega arith) in
+      let y = children-are b o (rowOf K) (codeAt (numberAt b o)) (omega arith, omega arith) (P .count) c l in
+      rw (y, P .count, P .classes, ← x, term-count T)
 
   pub known-law : (K : Kind) → kindOf (numberAt b o) ≡ some K
-      → firstFault (tests L o) ≡ orElse (firstFault (numberTests (part b (o + 4) (n - 4)) (codeAt k) ss)) (firstFault ((Refusal.RepeatedType, isNew K o L) ∷ []))
+      → firstFault (tests L o) ≡ orElse (firstFault (numberTests (fieldBytes b o q) (codeAt k) n)) (firstFault ((Refusal.RepeatedType, isNew K o L) ∷ []))
   known-law K e =
       let P = known-code (numberAt b o) K e in
-      let full : length (part b (o + 4) (lengthAt b o - 4)) + 4 ≡ lengthAt b o = let z = part-length b (o + 4) (lengthAt b o - 4) (omega arith) in omega arith in
+      let full : length (fieldsAt b o) + 4 ≡ lengthAt b o = let z = fields-length b o (omega arith, omega arith) in omega arith in
       let x = right-length K (codeAt (numberAt b o)) (lengthAt b o) P in
-      let y = order-law L ss (type-count T) (domain-count T) (term-count T) K (codeAt (numberAt b o)) P in
-      let z = room-law L ss (type-count T) (domain-count T) (term-count T) K (codeAt (numberAt b o)) P in
+      let y = order-law L n (type-count T) (domain-count T) (term-count T) K (codeAt (numberAt b o)) P in
+      let z = room-law L n (type-count T) (domain-count T) (term-count T) K (codeAt (numberAt b o)) P in
       rw (W .len, W .kind, full) (known-tests K e ∙ rw (x, y, z) (same-five _ _ _ _ _ _ (range-law K e)))

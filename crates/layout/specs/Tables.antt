@@ -8,89 +8,128 @@ use lib.ListN.{length, getD, take, set}
 use Rattle.image.specs.declared.Refusal.{Refusal}
 use Rattle.image.specs.Limits.{imageLimit, domainLimit, typeLimit, termLimit}
 use Rattle.image.specs.Tests.{firstFault}
-use Rattle.image.specs.Layout.{Layout, kindAt, tests, add, stopped, laid, layout}
+use Rattle.image.specs.Bytes.{lengthAt}
+use Rattle.image.specs.Layout.{Layout, nothing, kindAt, tests, add, stopped, laid, layout}
 use Rattle.image.specs.Layout as Image
 use Rattle.image.specs.Types.{typePlace}
-use Rattle.records.specs.declared.reader.Head.{Head}
-use Rattle.records.specs.Heads.{headAt}
 use Rattle.calculus.specs.Combinators.{choose}
+use Rattle.records.specs.declared.numbers.Counts.{Counts}
+use Rattle.records.specs.declared.reader.Head.{Head}
+use Rattle.records.specs.Counts.{Few}
+use Rattle.records.specs.Heads.{headAt, fieldBytes}
 use Rattle.records.specs.Codes.{kindCodes}
 use Rattle.records.specs.Keys.{Key}
 use Rattle.layout.specs.declared.Scan.{Scan}
+use Rattle.layout.specs.declared.Entry.{Entry}
 use Rattle.layout.specs.declared.tests.Tested.{Tested}
-use Rattle.layout.specs.Sizes.{typeCount, domainCount, termCount, startSizes, Sizes}
 use Rattle.layout.specs.Numbers.{newKey, toldOf}
 
--- The layout of an image b that the sizes ss and the tables of domains, types and terms hold.
-abbrev pub layoutOf : List ℕ → List ℕ → List ℕ → List ℕ → List ℕ → Layout
-layoutOf b ss ds ts es = record { image = b; domains = take (domainCount ss) ds; types = take (typeCount ss) ts; terms = take (termCount ss) es }
+-- The layout of an image b of which the tables of domains, types and terms hold so many records.
+abbrev pub layoutOf : List ℕ → Counts → List ℕ → List ℕ → List ℕ → Layout
+layoutOf b n ds ts es = record { image = b; domains = take (n .domains) ds; types = take (n .types) ts; terms = take (n .terms) es }
 
 -- The table of keys holds the key of each type.
 pub record Keyed (L : Layout) (ks : List ℕ) : Type 0 where
   pub at : (t : ℕ) → t < length (L .types) → Key (L .image) (typePlace L t) (getD ks t 0)
 
-pub record Tables (b ss ds ts ks es : List ℕ) : Type 0 where
-  pub sizes : Sizes ss
+-- The tables are long enough for every image.
+pub record Long (ds ts ks es : List ℕ) : Type 0 where
   pub doms : domainLimit ≤ length ds
   pub types : typeLimit ≤ length ts
   pub keys : typeLimit ≤ length ks
   pub terms : termLimit ≤ length es
-  pub keyed : Keyed (layoutOf b ss ds ts es) ks
 
--- The table of remainders: true at the remainder of each of the first n keys, so that a key with another remainder is none of them.
+pub record Tables (b : List ℕ) (n : Counts) (ds ts ks es : List ℕ) : Type 0 where
+  pub few : Few n
+  pub long : Long ds ts ks es
+  pub keyed : Keyed (layoutOf b n ds ts es) ks
+
+-- The filter of the first n keys: true at the remainder of each, so that a key with another remainder is none of them.
 abbrev pub remainders : ℕ
 remainders = 251
 
-pub record Noted (n : ℕ) (ks : List ℕ) (rs : List Bool) : Type 0 where
+pub record Filters (n : ℕ) (ks : List ℕ) (rs : List Bool) : Type 0 where
   pub places : remainders ≤ length rs
   pub at : (i : ℕ) → i < n → getD rs (getD ks i 0 % remainders) false ≡ true
 
--- One more offset in a table of offsets.
-pub record Put (o class : ℕ) (ss ts ss′ ts′ : List ℕ) : Type 0 where
-  pub sizes : ss′ ≡ set ss class (getD ss class 0 + 1)
-  pub table : ts′ ≡ set ts (getD ss class 0) o
-
--- One more type, unless its key is there already.
-pub record PutType (r : Tested) (o x : ℕ) (ss ts ks ss′ ts′ ks′ : List ℕ) (rs′ : List Bool) : Type 0 where
-  pub answer : toldOf r ≡ firstFault ((Refusal.RepeatedType, newKey (typeCount ss) ks x) ∷ [])
-  pub sizes : ss′ ≡ choose (newKey (typeCount ss) ks x) (set ss 0 (typeCount ss + 1)) ss
-  pub types : ts′ ≡ choose (newKey (typeCount ss) ks x) (set ts (typeCount ss) o) ts
-  pub keys : ks′ ≡ choose (newKey (typeCount ss) ks x) (set ks (typeCount ss) x) ks
-  pub noted : Noted (typeCount ss′) ks′ rs′
+-- Type t is put into the tables, with the offset o and the key x, unless the key is there already.
+pub record PutType (r : Tested) (o x t : ℕ) (ts ks : List ℕ) (rs : List Bool) (ts′ ks′ : List ℕ) (rs′ : List Bool) : Type 0 where
+  pub answer : toldOf r ≡ firstFault ((Refusal.RepeatedType, newKey t ks x) ∷ [])
+  pub types : ts′ ≡ choose (newKey t ks x) (set ts t o) ts
+  pub keys : ks′ ≡ choose (newKey t ks x) (set ks t x) ks
+  pub filter : rs′ ≡ choose (newKey t ks x) (set rs (x % remainders) true) rs
 
 -- What becomes of a record at o: refused, or one more in the layout, which is L then.
 abbrev pub entering : Option Refusal → ℕ → Layout → Image.Scan
 entering (some r) o L = stopped r o
 entering none o L = laid L
 
-pub record Entering (b kinds : List ℕ) (o n k : ℕ) (ss ds ts ks : List ℕ) (rs : List Bool) (es : List ℕ) : Type 0 where
-  pub head : headAt b o ≡ Head.Record n k
+-- The answer to a record at o, with the tables that it leaves, as the definition's; and how many records they hold, n of them before.
+abbrev pub entryOf : Entry → List ℕ → ℕ → List ℕ → List ℕ → List ℕ → Image.Scan
+entryOf (Entry.Fault r) b o ds ts es = stopped r o
+entryOf (Entry.Laid n) b o ds ts es = laid (layoutOf b n ds ts es)
+
+abbrev pub countsBehind : Entry → Counts → Counts
+countsBehind (Entry.Fault r) n = n
+countsBehind (Entry.Laid m) n = m
+
+-- A record of q bytes and of kind k at o, in an image b: its fields are fs.
+pub record Entering (b fs kinds : List ℕ) (o q k : ℕ) (n : Counts) (ds ts ks : List ℕ) (rs : List Bool) (es : List ℕ) : Type 0 where
+  pub head : headAt b o ≡ Head.Record q k
+  pub fields : fs ≡ fieldBytes b o q
   pub short : length b ≤ imageLimit
   pub codes : kinds ≡ kindCodes
-  pub tables : Tables b ss ds ts ks es
-  pub noted : Noted (typeCount ss) ks rs
+  pub tables : Tables b n ds ts ks es
+  pub filter : Filters (n .types) ks rs
 
-pub record Entered (r : Tested) (b : List ℕ) (o : ℕ) (ss ds ts es ss′ ds′ ts′ ks′ : List ℕ) (rs′ : List Bool) (es′ : List ℕ) : Type 0 where
-  pub answer : entering (toldOf r) o (layoutOf b ss′ ds′ ts′ es′) ≡ entering (firstFault (tests (layoutOf b ss ds ts es) o)) o (add (kindAt b o) o (layoutOf b ss ds ts es))
-  pub tables : Tables b ss′ ds′ ts′ ks′ es′
-  pub noted : Noted (typeCount ss′) ks′ rs′
+pub record Entered (r : Entry) (b : List ℕ) (o : ℕ) (n : Counts) (ds ts es ds′ ts′ ks′ : List ℕ) (rs′ : List Bool) (es′ : List ℕ) : Type 0 where
+  pub answer : entryOf r b o ds′ ts′ es′ ≡ entering (firstFault (tests (layoutOf b n ds ts es) o)) o (add (kindAt b o) o (layoutOf b n ds ts es))
+  pub kept : (q : Refusal) → r ≡ Entry.Fault q → layoutOf b n ds′ ts′ es′ ≡ layoutOf b n ds ts es
+  pub tables : Tables b (countsBehind r n) ds′ ts′ ks′ es′
+  pub filter : Filters (countsBehind r n .types) ks′ rs′
 
--- What scan_records is lent. The table of remainders may hold anything: before the first key, none is missing.
-pub record Lent (b kinds ss ds ts ks : List ℕ) (rs : List Bool) (es : List ℕ) : Type 0 where
+-- What enter is lent: the fields of a record of some image. What it does is the same for every such image.
+pub record Enterable (fs kinds : List ℕ) (o k : ℕ) (n : Counts) (ds ts ks : List ℕ) (rs : List Bool) (es : List ℕ) : Type 0 where
+  pub image : List ℕ
+  pub len : ℕ
+  pub is : Entering image fs kinds o len k n ds ts ks rs es
+
+pub record Enters (r : Entry) (fs kinds : List ℕ) (o k : ℕ) (n : Counts) (ds ts ks : List ℕ) (rs : List Bool) (es ds′ ts′ ks′ : List ℕ) (rs′ : List Bool) (es′ : List ℕ) : Type 0 where
+  pub in-image : (b : List ℕ) (q : ℕ) → Entering b fs kinds o q k n ds ts ks rs es → Entered r b o n ds ts es ds′ ts′ ks′ rs′ es′
+
+-- What scan_records is lent.
+pub record Lent (b kinds ds ts ks es : List ℕ) : Type 0 where
   pub short : length b ≤ imageLimit
   pub codes : kinds ≡ kindCodes
-  pub sizes : ss ≡ startSizes
-  pub doms : domainLimit ≤ length ds
-  pub types : typeLimit ≤ length ts
-  pub keys : typeLimit ≤ length ks
-  pub seen : remainders ≤ length rs
-  pub terms : termLimit ≤ length es
+  pub long : Long ds ts ks es
 
--- The answer and the tables at exit, as the definition's.
-abbrev pub scanOf : Scan → Layout → Image.Scan
-scanOf (Scan.Stopped r o) L = stopped r o
-scanOf Scan.Laid L = laid L
+-- The scan comes to the offset o with the records of a layout: none of them is refused.
+pub data Reached (b : List ℕ) : ℕ → Layout → Type 0 where
+  start : Reached b 0 (nothing b)
+  next : {o : ℕ} {L : Layout} → Reached b o L → o < length b → firstFault (tests L o) ≡ none → Reached b (o + lengthAt b o) (add (kindAt b o) o L)
 
-pub record Scanned (r : Scan) (b ss ds ts ks es : List ℕ) : Type 0 where
-  pub answer : scanOf r (layoutOf b ss ds ts es) ≡ layout b
-  pub tables : Tables b ss ds ts ks es
+-- The answer and the tables at exit, as the definition's; and how far the scan came.
+abbrev pub scanOf : Scan → List ℕ → List ℕ → List ℕ → List ℕ → Image.Scan
+scanOf (Scan.Stopped r o) b ds ts es = stopped r o
+scanOf (Scan.Laid n) b ds ts es = laid (layoutOf b n ds ts es)
+
+abbrev pub endOf : Image.Scan → List ℕ → ℕ
+endOf (stopped r o) b = o
+endOf (laid L) b = length b
+
+-- The tables hold the n records that stand before the offset o.
+pub record Holds (b : List ℕ) (o : ℕ) (n : Counts) (ds ts ks es : List ℕ) : Type 0 where
+  pub reached : Reached b o (layoutOf b n ds ts es)
+  pub tables : Tables b n ds ts ks es
+
+-- All records, where none is refused; else those before the refused one.
+pub record Scanned (r : Scan) (b ds ts ks es : List ℕ) : Type 0 where
+  pub answer : scanOf r b ds ts es ≡ layout b
+  pub counts : Counts
+  pub counted : (n : Counts) → r ≡ Scan.Laid n → counts ≡ n
+  pub holds : Holds b (endOf (layout b) b) counts ds ts ks es
+
+-- The same of a scan with a filter, which then has the keys of the types.
+pub record ScannedWith (r : Scan) (b ds ts ks : List ℕ) (rs : List Bool) (es : List ℕ) : Type 0 where
+  pub scanned : Scanned r b ds ts ks es
+  pub filter : Filters (scanned .counts .types) ks rs

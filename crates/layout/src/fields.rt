@@ -1,13 +1,13 @@
 // The decoders of a record's fields: each is lent the part of the image that the fields occupy.
+use records::numbers::Counts;
 ghost use mathlib.Core.Path.{_≡_};
-ghost use Prim.Native.Nat.{_+_, _*_, _/_, _≤_, _<_};
+ghost use Prim.Native.Nat.{_+_, _*_, _≤_, _<_};
 ghost use mathlib.Core.Bool.{_&&_};
 ghost use lib.ListN.{length};
 ghost use lib.Dec.{ltb};
-ghost use Rattle.image.specs.Bytes.{le16};
-ghost use Rattle.records.specs.Codes.{countOf, classesOf};
-ghost use Rattle.layout.specs.Fields.{fieldFrom, Narrow, KeyFrom, rangesFrom, childrenBelow};
-ghost use Rattle.layout.specs.Sizes.{Sizes, termCount};
+ghost use Rattle.records.specs.Codes.{countOf, childrenIn, classesOf, Sized};
+ghost use Rattle.records.specs.Heads.{fieldIn};
+ghost use Rattle.layout.specs.Fields.{fieldFrom, Narrow, KeyFrom, inClass, rangesFrom, childrenBelow};
 ghost use Rattle.layout.specs.Numbers.{Between, rangeFits};
 
 // The codes of the most frequent kinds of terms and types, by what such a record has: nothing (the types of the unit,
@@ -35,8 +35,28 @@ const TYPE_AND_CHILD: u32 = 4194391;
 // A type and two children.
 const TYPE_AND_TWO_CHILDREN: u32 = 5243047;
 
+// A type and three children: a choice.
+const TYPE_AND_THREE_CHILDREN: u32 = 6291703;
+
+// A type and up to eight children: a pointcut.
+const TYPE_AND_CHILDREN: u32 = 3146247;
+
 // A type, an operation and two children: arithmetic.
 const TYPE_OPERATION_AND_TWO_CHILDREN: u32 = 6308011;
+
+// The classes of fields, as a kind's code has them; a field of any other class may be any number.
+const CLASS_TYPE: u32 = 0;
+
+const CLASS_DOMAIN: u32 = 1;
+
+const CLASS_OPERATION: u32 = 2;
+
+const CLASS_TRUTH: u32 = 3;
+
+// Operations are 0 to 3, truths 0 and 1.
+const OPERATIONS: u16 = 4;
+
+const TRUTHS: u16 = 2;
 
 // Of two tests that are both made: both hold.
 pub fn both(a: bool, b: bool) -> bool
@@ -45,18 +65,60 @@ pub fn both(a: bool, b: bool) -> bool
     a && b
 }
 
+// Field i is the number of a type that is there; of a domain; of a term.
+fn names_type(fields: &[u8], i: usize, counts: Counts) -> bool
+    requires { ⌜ 2 * i + 1 < length (now fields) ⌝ }
+    ensures { λ r. ⌜ r ≡ ltb (fieldIn (now (fields .entry)) i) (counts .types) ⌝ }
+{
+    counts.has_type(records::fields::type_field(fields, i))
+}
+
+fn names_domain(fields: &[u8], i: usize, counts: Counts) -> bool
+    requires { ⌜ 2 * i + 1 < length (now fields) ⌝ }
+    ensures { λ r. ⌜ r ≡ ltb (fieldIn (now (fields .entry)) i) (counts .domains) ⌝ }
+{
+    counts.has_domain(records::fields::domain_field(fields, i))
+}
+
+fn names_term(fields: &[u8], i: usize, counts: Counts) -> bool
+    requires { ⌜ 2 * i + 1 < length (now fields) ⌝ }
+    ensures { λ r. ⌜ r ≡ ltb (fieldIn (now (fields .entry)) i) (counts .terms) ⌝ }
+{
+    counts.has_term(records::fields::term_field(fields, i))
+}
+
+// Field i is below the bound.
+fn below(fields: &[u8], i: usize, bound: u16) -> bool
+    requires { ⌜ 2 * i + 1 < length (now fields) ⌝ }
+    ensures { λ r. ⌜ r ≡ ltb (fieldIn (now (fields .entry)) i) bound ⌝ }
+{
+    records::fields::field(fields, i) < bound
+}
+
+// Field i is in the range of its class.
+fn in_class(class: u32, fields: &[u8], i: usize, counts: Counts) -> bool
+    requires { ⌜ 2 * i + 1 < length (now fields) ⌝ }
+    ensures { λ r. ⌜ r ≡ inClass counts class (fieldIn (now (fields .entry)) i) ⌝ }
+{
+    match class {
+        CLASS_TYPE => names_type(fields, i, counts),
+        CLASS_DOMAIN => names_domain(fields, i, counts),
+        CLASS_OPERATION => below(fields, i, OPERATIONS),
+        CLASS_TRUTH => below(fields, i, TRUTHS),
+        _ => true,
+    }
+}
+
 // 7, of the fields before the children.
-fn fields_in_range(fields: &[u8], code: u32, sizes: &[usize]) -> bool
-    requires { ⌜ (2 * countOf code ≤ length (now fields)) × Sizes (now sizes) ⌝ }
-    ensures { λ r. ⌜ r ≡ rangesFrom (countOf code) (classesOf code) (now (fields .entry)) (now (sizes .entry)) 0 ⌝ }
+fn fields_in_range(fields: &[u8], code: u32, counts: Counts) -> bool
+    requires { ⌜ 2 * countOf code ≤ length (now fields) ⌝ }
+    ensures { λ r. ⌜ r ≡ rangesFrom (countOf code) (classesOf code) (now (fields .entry)) counts 0 ⌝ }
 {
     let n = records::kinds::field_count(code);
     let mut classes = records::kinds::field_classes(code);
     let mut i: usize = 0;
     while i < n {
-        let v = records::words::word(fields, 2 * i) as usize;
-        let class = (classes % 8) as usize;
-        if sizes[class] <= v {
+        if !in_class(classes % 8, fields, i, counts) {
             return false;
         }
         classes = classes / 8;
@@ -66,16 +128,14 @@ fn fields_in_range(fields: &[u8], code: u32, sizes: &[usize]) -> bool
 }
 
 // 7, of the children.
-fn children_in_range(fields: &[u8], code: u32, sizes: &[usize]) -> bool
-    requires { ⌜ (2 * countOf code ≤ length (now fields)) × Sizes (now sizes) ⌝ }
-    ensures { λ r. ⌜ r ≡ childrenBelow (termCount (now (sizes .entry))) (now (fields .entry)) (countOf code) ⌝ }
+fn children_in_range(fields: &[u8], code: u32, counts: Counts) -> bool
+    requires { ⌜ 2 * (countOf code + childrenIn code (length (now fields))) ≤ length (now fields) ⌝ }
+    ensures { λ r. ⌜ r ≡ childrenBelow (counts .terms) (now (fields .entry)) code ⌝ }
 {
-    let n = fields.len() / 2;
-    let bound = sizes[5];
     let mut i = records::kinds::field_count(code);
+    let n = i + records::kinds::child_count(code, fields.len());
     while i < n {
-        let v = records::words::word(fields, 2 * i) as usize;
-        if bound <= v {
+        if !names_term(fields, i, counts) {
             return false;
         }
         i += 1;
@@ -83,43 +143,49 @@ fn children_in_range(fields: &[u8], code: u32, sizes: &[usize]) -> bool
     true
 }
 
-// Field i is below the bound.
-fn below(fields: &[u8], i: usize, bound: usize) -> bool
-    requires { ⌜ 2 * i + 1 < length (now fields) ⌝ }
-    ensures { λ r. ⌜ r ≡ ltb (le16 (now (fields .entry)) (2 * i)) bound ⌝ }
-{
-    (records::words::word(fields, 2 * i) as usize) < bound
-}
-
 // 7. The most frequent kinds of terms and types are tested in straight line, since their fields and children are known
 // from the code; all others go through the loops.
-pub fn in_range(fields: &[u8], code: u32, sizes: &[usize]) -> bool
-    requires { ⌜ Between code (length (now fields)) × Sizes (now sizes) ⌝ }
-    ensures { λ r. ⌜ r ≡ rangeFits (now (fields .entry)) code (now (sizes .entry)) ⌝ }
+pub fn in_range(fields: &[u8], code: u32, counts: Counts) -> bool
+    requires { ⌜ Between code (length (now fields)) × Sized code ⌝ }
+    ensures { λ r. ⌜ r ≡ rangeFits (now (fields .entry)) code counts ⌝ }
 {
-    let types = sizes[0];
-    let domains = sizes[1];
-    let terms = sizes[5];
     match code {
         NOTHING => true,
-        TYPE_AND_DOMAIN => both(below(fields, 0, types), below(fields, 1, domains)),
-        TYPE_DOMAIN_AND_TYPE => both(
-            below(fields, 0, types),
-            both(below(fields, 1, domains), below(fields, 2, types)),
+        TYPE_AND_DOMAIN => both(
+            names_type(fields, 0, counts),
+            names_domain(fields, 1, counts),
         ),
-        TYPE | TYPE_AND_FREE | TYPE_AND_TWO_FREE => below(fields, 0, types),
-        TYPE_AND_CHILD => both(below(fields, 0, types), below(fields, 1, terms)),
+        TYPE_DOMAIN_AND_TYPE => both(
+            names_type(fields, 0, counts),
+            both(
+                names_domain(fields, 1, counts),
+                names_type(fields, 2, counts),
+            ),
+        ),
+        TYPE | TYPE_AND_FREE | TYPE_AND_TWO_FREE => names_type(fields, 0, counts),
+        TYPE_AND_CHILD => both(names_type(fields, 0, counts), names_term(fields, 1, counts)),
         TYPE_AND_TWO_CHILDREN => both(
-            below(fields, 0, types),
-            both(below(fields, 1, terms), below(fields, 2, terms)),
+            names_type(fields, 0, counts),
+            both(names_term(fields, 1, counts), names_term(fields, 2, counts)),
+        ),
+        TYPE_AND_THREE_CHILDREN => both(
+            names_type(fields, 0, counts),
+            both(
+                names_term(fields, 1, counts),
+                both(names_term(fields, 2, counts), names_term(fields, 3, counts)),
+            ),
         ),
         TYPE_OPERATION_AND_TWO_CHILDREN => both(
-            both(below(fields, 0, types), below(fields, 1, 4)),
-            both(below(fields, 2, terms), below(fields, 3, terms)),
+            both(names_type(fields, 0, counts), below(fields, 1, OPERATIONS)),
+            both(names_term(fields, 2, counts), names_term(fields, 3, counts)),
+        ),
+        TYPE_AND_CHILDREN => both(
+            names_type(fields, 0, counts),
+            children_in_range(fields, code, counts),
         ),
         _ => both(
-            fields_in_range(fields, code, sizes),
-            children_in_range(fields, code, sizes),
+            fields_in_range(fields, code, counts),
+            children_in_range(fields, code, counts),
         ),
     }
 }
@@ -130,7 +196,7 @@ fn field_or_0(fields: &[u8], n: usize, i: usize) -> u16
     ensures { λ r. ⌜ r ≡ fieldFrom (now (fields .entry)) n i ⌝ }
 {
     if i < n {
-        records::words::word(fields, 2 * i)
+        records::fields::field(fields, i)
     } else {
         0
     }

@@ -1,107 +1,113 @@
 // An inner crate: the refusals 2 to 8 (document 01, "Turned back at the gate"), record by record, front to back, and the
 // tables of the records that are not refused.
-ghost use mathlib.Core.Path.{_≡_};
-ghost use Rattle.layout.specs.Sizes.{startSizes};
-ghost use Rattle.layout.specs.Tables.{Lent, Scanned, Entering, Entered};
+use records::numbers::Counts;
+ghost use Prim.Native.Nat.{_≤_};
+ghost use lib.ListN.{length};
+ghost use Rattle.layout.specs.Tables.{remainders, Lent, Scanned, ScannedWith, Enterable, Enters};
 
 pub mod fields;
 pub mod places;
 pub mod tests;
 
+// Refused, at a record's offset; or all records are in the tables, so many of each section.
 pub enum Scan {
     Stopped(image::Refusal, usize),
-    Laid,
+    Laid(Counts),
 }
 
-// The sizes before the first record.
-pub fn start_sizes() -> [usize; 8]
-    ensures { λ r. ⌜ r ≡ startSizes ⌝ }
-{
-    [0, 0, 4, 2, 65536, 0, 0, 0]
+// What becomes of a record: refused, or in its table, with the counts behind it.
+pub enum Entry {
+    Fault(image::Refusal),
+    Laid(Counts),
 }
 
-// One record: 3 to 8, and its place in its table.
+// One record: 3 to 8, and its place in its table. It is lent the record's fields.
 fn enter(
-    image: &[u8],
+    fields: &[u8],
     kinds: &[u32],
     at: usize,
-    len: usize,
     kind: u16,
-    sizes: &mut [usize],
+    counts: Counts,
     doms: &mut [u16],
     types: &mut [u16],
     keys: &mut [u32],
-    seen: &mut [bool],
+    filter: &mut [bool],
     terms: &mut [u16],
-) -> tests::Tested
-    requires { ⌜ Entering (now image) (now kinds) at len kind (now sizes) (now doms) (now types) (now keys) (now seen) (now terms) ⌝ }
-    ensures { λ r. ⌜ Entered r (now (image .entry)) at (now (sizes .entry)) (now (doms .entry)) (now (types .entry)) (now (terms .entry)) (now (sizes .exit)) (now (doms .exit)) (now (types .exit)) (now (keys .exit)) (now (seen .exit)) (now (terms .exit)) ⌝ }
+) -> Entry
+    requires { ⌜ Enterable (now fields) (now kinds) at kind counts (now doms) (now types) (now keys) (now filter) (now terms) ⌝ }
+    ensures { λ r. ⌜ Enters r (now (fields .entry)) (now (kinds .entry)) at kind counts (now (doms .entry)) (now (types .entry)) (now (keys .entry)) (now (filter .entry)) (now (terms .entry)) (now (doms .exit)) (now (types .exit)) (now (keys .exit)) (now (filter .exit)) (now (terms .exit)) ⌝ }
 {
     let code = records::kinds::code_of(kinds, kind);
     if code == 0 {
-        return tests::Tested::Fault(image::Refusal::UnknownKind);
+        return Entry::Fault(image::Refusal::UnknownKind);
     }
-    let a = at + 4;
-    let e = at + len;
-    let tested = tests::first_fault(&image[a..e], code, sizes);
+    let tested = tests::first_fault(fields, code, counts);
     match tested {
         tests::Tested::Fault(why) => {
-            return tests::Tested::Fault(why);
+            return Entry::Fault(why);
         }
         tests::Tested::Passed => {}
     }
     let section = records::kinds::section_of(code);
-    if section == 1 {
-        places::put(at, 1, sizes, doms);
-        return tests::Tested::Passed;
+    if section == tests::DOMAINS {
+        places::put_domain(at, counts.next_domain(), doms);
+        return Entry::Laid(counts.with_domain());
     }
-    if section == 2 {
-        let key = fields::key_of(&image[a..e], code, kind);
-        return places::put_type(at, key, sizes, types, keys, seen);
+    if section == tests::TYPES {
+        let key = fields::key_of(fields, code, kind);
+        let new = places::put_type(at, key, counts.next_type(), types, keys, filter);
+        match new {
+            tests::Tested::Fault(why) => {
+                return Entry::Fault(why);
+            }
+            tests::Tested::Passed => {
+                return Entry::Laid(counts.with_type());
+            }
+        }
     }
-    places::put(at, 5, sizes, terms);
-    tests::Tested::Passed
+    places::put_term(at, counts.next_term(), terms);
+    Entry::Laid(counts.with_term())
 }
 
-// The table of remainders, seen, serves the scan alone: it may hold anything at first (with all false the fewest keys are
-// compared), and what it holds in the end says nothing to the caller.
-pub fn scan_records(
+// The scan with a filter of keys, which may hold anything at first: with all false the fewest keys are compared.
+fn scan_with(
     image: &[u8],
     kinds: &[u32],
-    sizes: &mut [usize],
     doms: &mut [u16],
     types: &mut [u16],
     keys: &mut [u32],
-    seen: &mut [bool],
+    filter: &mut [bool],
     terms: &mut [u16],
 ) -> Scan
-    requires { ⌜ Lent (now image) (now kinds) (now sizes) (now doms) (now types) (now keys) (now seen) (now terms) ⌝ }
-    ensures { λ r. ⌜ Scanned r (now (image .entry)) (now (sizes .exit)) (now (doms .exit)) (now (types .exit)) (now (keys .exit)) (now (terms .exit)) ⌝ }
+    requires { ⌜ Lent (now image) (now kinds) (now doms) (now types) (now keys) (now terms) × (remainders ≤ length (now filter)) ⌝ }
+    ensures { λ r. ⌜ ScannedWith r (now (image .entry)) (now (doms .exit)) (now (types .exit)) (now (keys .exit)) (now (filter .exit)) (now (terms .exit)) ⌝ }
 {
     let mut at: usize = 0;
+    let mut counts = Counts::none();
     while at < image.len() {
         let head = records::reader::head_from(image, at);
         match head {
             records::reader::Head::Record { len, kind } => {
+                let fields = records::reader::fields_from(image, at, len);
                 let entered = enter(
-                    image,
+                    fields,
                     kinds,
                     at,
-                    len,
                     kind,
-                    sizes,
+                    counts,
                     doms,
                     types,
                     keys,
-                    seen,
+                    filter,
                     terms,
                 );
                 match entered {
-                    tests::Tested::Fault(why) => {
+                    Entry::Fault(why) => {
                         return Scan::Stopped(why, at);
                     }
-                    tests::Tested::Passed => {
-                        at = at + len;
+                    Entry::Laid(next) => {
+                        counts = next;
+                        at = records::reader::next_from(image, at, len);
                     }
                 }
             }
@@ -109,9 +115,24 @@ pub fn scan_records(
                 return Scan::Stopped(why, at);
             }
             records::reader::Head::End => {
-                return Scan::Laid;
+                return Scan::Laid(counts);
             }
         }
     }
-    Scan::Laid
+    Scan::Laid(counts)
+}
+
+pub fn scan_records(
+    image: &[u8],
+    kinds: &[u32],
+    doms: &mut [u16],
+    types: &mut [u16],
+    keys: &mut [u32],
+    terms: &mut [u16],
+) -> Scan
+    requires { ⌜ Lent (now image) (now kinds) (now doms) (now types) (now keys) (now terms) ⌝ }
+    ensures { λ r. ⌜ Scanned r (now (image .entry)) (now (doms .exit)) (now (types .exit)) (now (keys .exit)) (now (terms .exit)) ⌝ }
+{
+    let mut filter = [false; 256];
+    scan_with(image, kinds, doms, types, keys, &mut filter, terms)
 }

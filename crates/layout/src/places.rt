@@ -1,43 +1,52 @@
-// The tables of records: the offset of each, section by section, the keys of the types and the remainders of the keys.
+// The tables of records: the offset of each, section by section, by its number; the keys of the types, and the filter of
+// the keys.
+use records::numbers::DomainNo;
+use records::numbers::TermNo;
+use records::numbers::TypeNo;
+ghost use mathlib.Core.Path.{_≡_};
 ghost use Prim.Native.Nat.{_<_};
-ghost use lib.ListN.{length, getD};
-ghost use Rattle.layout.specs.Tables.{Noted, Put, PutType};
+ghost use lib.ListN.{length, set};
+ghost use Rattle.layout.specs.Tables.{Filters, PutType};
 
 // Most keys differ in their remainders by this prime.
 const REMAINDERS: u32 = 251;
 
-// One more offset in the table whose size stands at class.
-pub fn put(at: usize, class: usize, sizes: &mut [usize], table: &mut [u16])
-    requires { ⌜ (at < 65536) × (class < length (now sizes)) × (getD (now sizes) class 0 < length (now table)) ⌝ }
-    ensures { λ _. ⌜ Put at class (now (sizes .entry)) (now (table .entry)) (now (sizes .exit)) (now (table .exit)) ⌝ }
+pub fn put_domain(at: usize, d: DomainNo, doms: &mut [u16])
+    requires { ⌜ (at < 65536) × (d .0 < length (now doms)) ⌝ }
+    ensures { λ _. ⌜ now (doms .exit) ≡ set (now (doms .entry)) (d .0) at ⌝ }
 {
-    let n = sizes[class];
-    table[n] = at as u16;
-    sizes[class] = n + 1;
+    doms[d.0 as usize] = at as u16;
 }
 
-// 8, and one more type. A key whose remainder was not seen before is none of the earlier keys, and is not compared with
-// them.
+pub fn put_term(at: usize, n: TermNo, terms: &mut [u16])
+    requires { ⌜ (at < 65536) × (n .0 < length (now terms)) ⌝ }
+    ensures { λ _. ⌜ now (terms .exit) ≡ set (now (terms .entry)) (n .0) at ⌝ }
+{
+    terms[n.0 as usize] = at as u16;
+}
+
+// 8, and the offset and the key of the type t. A key whose remainder is not in the filter is none of the earlier keys, and
+// is not compared with them.
 pub fn put_type(
     at: usize,
     key: u32,
-    sizes: &mut [usize],
+    t: TypeNo,
     types: &mut [u16],
     keys: &mut [u32],
-    seen: &mut [bool],
+    filter: &mut [bool],
 ) -> crate::tests::Tested
-    requires { ⌜ (at < 65536) × (0 < length (now sizes)) × (getD (now sizes) 0 0 < length (now types)) × (getD (now sizes) 0 0 < length (now keys)) × Noted (getD (now sizes) 0 0) (now keys) (now seen) ⌝ }
-    ensures { λ r. ⌜ PutType r at key (now (sizes .entry)) (now (types .entry)) (now (keys .entry)) (now (sizes .exit)) (now (types .exit)) (now (keys .exit)) (now (seen .exit)) ⌝ }
+    requires { ⌜ (at < 65536) × (t .0 < length (now types)) × (t .0 < length (now keys)) × Filters (t .0) (now keys) (now filter) ⌝ }
+    ensures { λ r. ⌜ PutType r at key (t .0) (now (types .entry)) (now (keys .entry)) (now (filter .entry)) (now (types .exit)) (now (keys .exit)) (now (filter .exit)) ⌝ }
 {
-    let n = sizes[0];
     let remainder = (key % REMAINDERS) as usize;
-    if seen[remainder] {
-        if !crate::tests::is_new(keys, n, key) {
+    if filter[remainder] {
+        if !crate::tests::is_new(keys, t, key) {
             return crate::tests::Tested::Fault(image::Refusal::RepeatedType);
         }
     }
-    keys[n] = key;
-    seen[remainder] = true;
-    put(at, 0, sizes, types);
+    let i = t.0 as usize;
+    types[i] = at as u16;
+    keys[i] = key;
+    filter[remainder] = true;
     crate::tests::Tested::Passed
 }

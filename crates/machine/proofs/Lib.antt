@@ -5,7 +5,4 @@ pub mod Reduce
 pub mod Runs
 pub mod Theorem
 pub mod Loop
-pub mod Frames
-pub mod Rank
-pub mod Depth
-pub mod Sheet
+pub mod Examples

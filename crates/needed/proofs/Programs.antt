@@ -1,9 +1,9 @@
--- The programs, each with a low body b left open, and what two runs of them show.
+-- The programs, each with a place left open, and what two runs of them show.
 use Prim.Native.Nat.{ℕ}
 use mathlib.Core.Path.{_≡_, ap}
 use mathlib.Core.List.{List, [], _∷_}
 use lib.ListN.{length}
-use Rattle.calculus.specs.Syntax.{Dom, Ty, Val, Tm, val, var, lam, op0, op1, op2, seq, pcd, adv, lower, end, more, newLabel, print, install, read, newCell, app, mark}
+use Rattle.calculus.specs.Syntax.{Dom, Ty, Val, Tm, val, var, lam, op0, op1, op2, seq, pcd, adv, end, more, newLabel, print, install, read, newCell, app, mark, store}
 use Rattle.calculus.specs.State.{Print}
 use Rattle.calculus.specs.Run.{done, Ended}
 use Rattle.noninterference.specs.Observe.{highPrints, highCells, Same}
@@ -18,17 +18,30 @@ unit = val Val.unit
 abbrev pub say : Tm → Tm
 say e = op1 print Ty.unit e
 
--- ⇑ {{l}.x →0 print x}, with l the innermost variable
-abbrev pub watch : Tm
-watch = op1 install Ty.unit (adv 0 (pcd (more (var 0) end)) (say (var 0)))
+-- {{l}.x →0 print x}, with l the innermost variable, and its pointcut
+abbrev pub onLabel : Tm
+onLabel = pcd (more (var 0) end)
 
--- (λ r. 1<b>; !r) (ref_q 0)
-abbrev pub withCell : Dom → Tm → Tm
-withCell q b = op2 app Ty.number (lam (Ty.fun (Ty.ref Ty.number q) 0 Ty.number) (seq (lower 1 b) (op1 read Ty.number (var 0)))) (op1 newCell (Ty.ref Ty.number q) (number 0))
+abbrev pub watching : Tm → Tm
+watching e = adv 0 e (say (var 0))
 
--- (λ l. e) new_q
-abbrev pub withLabel : Dom → Tm → Tm
-withLabel q e = op2 app Ty.unit (lam (Ty.fun (Ty.label Ty.number q) 0 Ty.unit) e) (op0 newLabel (Ty.label Ty.number q))
+abbrev pub put : Tm → Tm
+put e = op1 install Ty.unit e
+
+-- (λ r. e; f) (ref_q 0)
+abbrev pub withCell : Dom → Tm → Tm → Tm
+withCell q e f = op2 app Ty.number (lam (Ty.fun (Ty.ref Ty.number q) 0 Ty.number) (seq e f)) (op1 newCell (Ty.ref Ty.number q) (number 0))
+
+-- !r, r := 3
+abbrev pub readIt : Tm
+readIt = op1 read Ty.number (var 0)
+
+abbrev pub storeIt : Tm
+storeIt = op2 store Ty.unit (var 0) (number 3)
+
+-- (λ l. e; f; print 5) new_q
+abbrev pub withLabel : Dom → Tm → Tm → Tm
+withLabel q e f = op2 app Ty.unit (lam (Ty.fun (Ty.label Ty.number q) 0 Ty.unit) (seq e (seq f (say (number 5))))) (op0 newLabel (Ty.label Ty.number q))
 
 -- l[3]
 abbrev pub markIt : Tm

@@ -1,24 +1,17 @@
 -- Substitution leaves a term without free variables alone.
-use Prim.Native.Nat.{ℕ, zero, suc, _-_, _≤_, _<_}
+use Prim.Native.Nat.{ℕ, suc, _-_, _≤_, _<_}
 use native.Mathlib.Omega.{arith}
 use mathlib.Core.Path.{_≡_, refl, ap, ap₂}
 use mathlib.Core.Bool.{Bool, true, false}
 use mathlib.Core.List.{List, [], _∷_}
-use mathlib.Core.Option.{some}
-use lib.ListN.{length, getElem?}
+use lib.ListN.{length}
 use lib.Dec.{eqb, ltb, eqb→eq, ltb→lt}
 use Rattle.calculus.specs.Combinators.{choose}
 use Rattle.calculus.specs.Syntax.{Dom, Ty, Val, Tm, Tms, val, var, lam, op1, op2, seq, split, pcd, adv, lower, more}
 use Rattle.calculus.specs.Subst.{subst, substs, substVar}
 use Rattle.calculus.specs.Typing.{Policy, StoreTyping, TmTy, TmsTy, is-val, is-var, is-lam, is-op0, is-op1, is-op2, is-seq, is-ite, is-split, is-pcd, is-adv, is-lower, is-end, is-more}
-use Rattle.noninterference.proofs.Clash.{no-some}
+use Rattle.calculus.proofs.Lookup.{place-below}
 use Rattle.noninterference.proofs.Related.{ClosedBody}
-
--- A variable's place in the context is below the context's length.
-place-below : {A : Type 0} (x : List A) (i : ℕ) {a : A} → getElem? x i ≡ some a → i < length x
-place-below [] i p = no-some p
-place-below (b ∷ x) zero p = omega arith
-place-below (b ∷ x) (suc i) p = let h = place-below x i p in omega arith
 
 nearer-var : (k i : ℕ) (v : Val) → i < k → substVar k v i ≡ var i
 nearer-var k i v h = pick (eqb i k) refl (ltb k i) refl

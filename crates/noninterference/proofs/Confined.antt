@@ -4,11 +4,11 @@ use mathlib.Core.Path.{_≡_, refl, subst as transp}
 use mathlib.Core.Bool.{Bool, true, false}
 use mathlib.Core.List.{List, [], _∷_, _++_}
 use mathlib.Core.Option.{Option, none, some}
-use lib.ListN.{getD}
+use lib.ListN.{getElem?}
 use Rattle.calculus.specs.declared.Outcome.{Outcome}
 use Rattle.calculus.specs.Combinators.{cases}
 use Rattle.calculus.specs.Syntax.{Dom, Ty, Val, Tm, Tms, Op0, Op1, Op2, asValue}
-use Rattle.calculus.specs.State.{Cell, Advice, Event, Counts, State, Given, charged, celled, stored, labelled, installed, told, noCell}
+use Rattle.calculus.specs.State.{Cell, Advice, Event, Counts, State, Given, charged, celled, stored, labelled, installed, told}
 use Rattle.calculus.specs.View.{unitOf, truthOf, numberOf, pairOf, bodyOf, labelOf, cellOf, labelsOf}
 use Rattle.calculus.specs.Numbers.{sum, difference, isLess, isEqual}
 use Rattle.calculus.specs.Answer.{Answer, go, full, halt, wrong, carry, within, if-room, with, spend}
@@ -30,7 +30,7 @@ module _ (hi : Dom → Bool) where
   pub data Effect (c : Dom) (s : State) : State → Type 0 where
     e-charge : {u : Counts} → Effect c s (charged u s)
     e-cell : {u : Counts} (a : Cell Val) → Under (a .dom) c → Effect c s (celled (s .cells ++ (a ∷ [])) (charged u s))
-    e-store : (r : ℕ) (v : Val) → Under (getD (s .cells) r (noCell Val.unit) .dom) c → Effect c s (stored Val.unit s r v)
+    e-store : (r : ℕ) (a : Cell Val) (v : Val) → getElem? (s .cells) r ≡ some a → Under (a .dom) c → Effect c s (stored r a v s)
     -- a label may be of any domain: the rule for new labels is not needed here
     e-label : (p : Dom) → Effect c s (labelled p s)
     e-advice : (a : Advice Tm) → Under (a .dom) c → Effect c s (installed a s)
@@ -39,7 +39,7 @@ module _ (hi : Dom → Bool) where
   effect-up : {c p : Dom} {s s′ : State} → Under p c → Effect p s s′ → Effect c s s′
   effect-up u e-charge = e-charge
   effect-up u (e-cell a x) = e-cell a (λ h. u (x h))
-  effect-up u (e-store r v x) = e-store r v (λ h. u (x h))
+  effect-up u (e-store r a v e x) = e-store r a v e (λ h. u (x h))
   effect-up u (e-label p) = e-label p
   effect-up u (e-advice a x) = e-advice a (λ h. u (x h))
   effect-up u (e-event a x) = e-event a (λ h. u (x h))
@@ -79,9 +79,9 @@ module _ (hi : Dom → Bool) where
     confined-with none k m = c-wrong
     confined-with (some a) k m = m a
 
-    confined-some : {A : Type 0} {a : A} (k : A → Answer State Tm) → Confined c s (k a) → Confined c s (with (some a) k)
+    confined-some : {A : Type 0} {o : Option A} {a : A} (k : A → Answer State Tm) → o ≡ some a → Confined c s (k a) → Confined c s (with o k)
     unfolding with
-    confined-some k m = m
+    confined-some k e m = rw e m
 
     confined-cases : {A : Type 0} (o : Option A) (k : A → Answer State Tm) (a : Unit {0} → Answer State Tm) → ((v : A) → o ≡ some v → Confined c s (k v)) → Confined c s (a tt) → Confined c s (cases o k a)
     unfolding cases
@@ -99,8 +99,8 @@ module _ (hi : Dom → Bool) where
 
     confined1 : {Σ : StoreTyping} {c : Dom} {o : Op1} {t a : Ty} {v : Val} (G : Given) (P : Place) (s : State) → Rule1 D c o t a → ValTy D Σ v a → StateFits D Σ s → Confined c s (reduce1 G (at c P) s o t v)
     confined1 {v} G P s t-print h k = confined-with (numberOf v) _ (λ n. confined-room _ _ (c-go (e-event _ (λ x. x))))
-    confined1 G P s (t-install l) (v-advice x y z) k = confined-some _ (confined-room _ _ (c-go (e-advice _ (under l))))
-    confined1 {v} G P s (t-read l) h k = confined-with (cellOf v) _ (λ n. c-go e-charge)
+    confined1 G P s (t-install l) (v-advice x y z) k = confined-some _ refl (confined-room _ _ (c-go (e-advice _ (under l))))
+    confined1 {v} G P s (t-read l) h k = confined-with (cellOf v) _ (λ r. confined-with (getElem? (s .cells) r) _ (λ a. c-go e-charge))
     confined1 {v} G P s t-byte h k = confined-with (numberOf v) _ (λ n. c-go e-charge)
     confined1 G P s (t-newCell l) h k = confined-spend _ _ (λ u. c-go (e-cell _ (under l)))
 
@@ -110,8 +110,10 @@ module _ (hi : Dom → Bool) where
     confined2 : {Σ : StoreTyping} {c : Dom} {o : Op2} {t a b : Ty} {v : Val} (w : Val) (G : Given) (P : Place) (s : State) → Rule2 D c o t a b → ValTy D Σ v a → StateFits D Σ s → Confined c s (reduce2 G (at c P) s o t v w)
     confined2 w G P s t-pair h k = confined-spend _ _ (λ u. c-go e-charge)
     confined2 {v} w G P s t-app h k = confined-with (bodyOf v) _ (λ n. confined-spend _ _ (λ u. c-go e-charge))
-    confined2 {v} w G P s t-mark h k = confined-with (labelOf v) _ (λ n. confined-spend _ _ (λ u. c-go e-charge))
-    confined2 {Σ} w G P s (t-store {p} l) (v-cell {r} {a} x) k = confined-some _ (c-go (e-store r w (λ y. under l (rw (cell-dom D Σ s r a p k x) at y))))
+    confined2 {v} w G P s t-mark h k = confined-with (labelOf v) _ (λ l. confined-with (getElem? (s .labels) l) _ (λ p. confined-spend _ _ (λ u. c-go e-charge)))
+    confined2 {Σ} w G P s (t-store {p} l) (v-cell {r} {a} x) k =
+        let q = cell-dom D Σ s r a p k x in
+        confined-some _ refl (confined-some _ (q .1) (c-go (e-store r (q .0) w (q .1) (λ y. under l (rw (q .2) at y)))))
     confined2 {v} w G P s t-plus h k = confined-arith s num sum v w
     confined2 {v} w G P s t-minus h k = confined-arith s num difference v w
     confined2 {v} w G P s t-less h k = confined-arith s truth isLess v w

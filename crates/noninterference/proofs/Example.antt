@@ -1,11 +1,12 @@
 -- The theorem applied: two accepted programs that differ in the body of a low advice, and what they print.
-use Prim.Native.Nat.{ℕ, _≤_}
-use native.Mathlib.Omega.{arith}
+use Prim.Native.Nat.{ℕ}
+use native.Mathlib.Nat.{le-trans}
 use mathlib.Core.Path.{_≡_, refl}
-use mathlib.Core.Bool.{Bool, true}
+use mathlib.Core.Bool.{Bool}
 use mathlib.Core.List.{List, [], _∷_}
 use mathlib.Core.Option.{some}
-use lib.Dec.{T, leb, leb→le, le→leb}
+use lib.Dec.{leb}
+use borrow.Author.Tests.{le-leb, leb-true}
 use Rattle.calculus.specs.Combinators.{cases}
 use Rattle.calculus.specs.Syntax.{Dom, Ty, Val, Tm, val, var, lam, op0, op1, op2, seq, pcd, adv, end, more, newLabel, print, install, read, newCell, app, mark}
 use Rattle.calculus.specs.State.{Given, Print, picked, logOf, fresh}
@@ -13,36 +14,18 @@ use Rattle.calculus.specs.Subst.{subst}
 use Rattle.calculus.specs.Answer.{carry, if-room, with, spend}
 use Rattle.calculus.specs.Step.{step}
 use Rattle.calculus.specs.Run.{End, done, after, run}
-use Rattle.calculus.specs.Typing.{Policy, noStore, TmTy, t-newLabel, t-print, t-install, t-read, t-newCell, t-app, t-mark, no-types, a-type, v-num, is-val, is-var, is-lam, is-op0, is-op1, is-op2, is-seq, is-pcd, is-adv, is-end, is-more}
+use Rattle.calculus.specs.Typing.{noStore, TmTy, t-newLabel, t-print, t-install, t-read, t-newCell, t-app, t-mark, no-types, a-type, v-num, is-val, is-var, is-lam, is-op0, is-op1, is-op2, is-seq, is-pcd, is-adv, is-end, is-more}
 use Rattle.calculus.specs.Blank.{blank}
-use Rattle.safety.proofs.Order.{Transitive}
+use Rattle.safety.proofs.Example.{falling, falling-trans}
 use Rattle.noninterference.specs.Observe.{Highs, Accepted, Shown, highOf, highPrints, highCells, Same}
 use Rattle.noninterference.proofs.Theorem.{demand3}
 
-true-T : {b : Bool} → b ≡ true → T b
-true-T p = rw p tt
-
-T-true : (b : Bool) → T b → b ≡ true
-T-true true t = refl
-
--- A greater number is a lower domain; only domain 0 is high.
-abbrev D : Policy
-D = record { leq = λ p q. leb q p }
-
-abbrev hi : Dom → Bool
+-- Only domain 0, the highest, is high.
+abbrev pub hi : Dom → Bool
 hi p = leb p 0
 
-le-of : (m n : ℕ) → leb m n ≡ true → m ≤ n
-le-of m n p = leb→le m n (true-T p)
-
-leb-of : (m n : ℕ) → m ≤ n → leb m n ≡ true
-leb-of m n h = T-true (leb m n) (le→leb m n h)
-
-transitive : Transitive D
-transitive p q r x y = let a = le-of q p x in let b = le-of r q y in leb-of r p (omega arith)
-
-highs : Highs D hi
-highs = record { mainline = refl; up = λ p q x y. (let a = le-of p 0 x in let b = le-of q p y in leb-of q 0 (omega arith)) }
+pub highs : Highs falling hi
+highs = record { mainline = refl; up = λ p q x y. le-leb q 0 (le-trans (leb-true q p y) (leb-true p 0 x)) }
 
 -- A program with an advice of domain 1, whose body is b, on a label of the mainline's:
 -- (λ l. ⇑ {{l}.x →1 b}; l[3]; print 5; !(ref 7)) (new label)
@@ -57,7 +40,7 @@ program b =
     (seq (op2 mark Ty.unit (var 0) (val (Val.num 3))) (seq (say (val (Val.num 5))) (op1 read Ty.number (op1 newCell (Ty.ref Ty.number 0) (val (Val.num 7))))))))
     (op0 newLabel (Ty.label Ty.number 0))
 
-accepted : {b : Tm} → TmTy D noStore (Ty.number ∷ Ty.label Ty.number 0 ∷ []) 1 b Ty.unit → Accepted D (program b)
+accepted : {b : Tm} → TmTy falling noStore (Ty.number ∷ Ty.label Ty.number 0 ∷ []) 1 b Ty.unit → Accepted falling (program b)
 accepted h = record {
   type = Ty.number;
   typed =
@@ -81,7 +64,7 @@ abbrev right : Tm
 right = seq (say (val (Val.num 8))) (say (val (Val.num 9)))
 
 same : (G : Given) (n n′ : ℕ) → Same hi (run n G 0 fresh (program left)) (run n′ G 0 fresh (program right))
-same G n n′ = demand3 D hi transitive highs (program left) (program right) (accepted (is-op1 t-print (is-var refl))) (accepted (is-seq (is-op1 t-print (is-val v-num)) (is-op1 t-print (is-val v-num)))) (alike left right) G G refl n n′
+same G n n′ = demand3 falling hi falling-trans highs (program left) (program right) (accepted (is-op1 t-print (is-var refl))) (accepted (is-seq (is-op1 t-print (is-val v-num)) (is-op1 t-print (is-val v-num)))) (alike left right) G G refl n n′
 
 -- What is computed of a run of 100 steps: how it ends, its log, its high prints and its high cells.
 abbrev G : Given

@@ -2,7 +2,8 @@
 use Prim.Native.Nat.{ℕ, zero, suc}
 use mathlib.Core.Path.{_≡_, refl, sym, _∙_}
 use mathlib.Core.List.{List, [], _∷_, _++_}
-use lib.ListN.{length, getD, set}
+use mathlib.Core.Option.{some, Option·some-injective}
+use lib.ListN.{length, set, getElem?}
 use lib.Dec.{eqb, eqb·zero-suc, eqb·suc-zero, eqb·suc-suc}
 use Rattle.safety.proofs.Lists.{Prefix, Prefix.pre-cons, All2, all2-map}
 
@@ -81,12 +82,12 @@ module _ {A : Type 0} {H : A → A → Type 0} {L : A → Type 0} where
   matched-last (i-left l k) = past-left (matched-last k)
   matched-last (i-right l k) = past-right (matched-last k)
 
-  -- What stands at matched places is related.
-  pub get-both : {w : List Side} {x y : List A} {i j : ℕ} (d : A) → Matched w i j → Interleaving H L w x y → H (getD x i d) (getD y j d)
-  get-both d here (i-both h k) = h
-  get-both d (past-both m) (i-both h k) = get-both d m k
-  get-both d (past-left m) (i-left l k) = get-both d m k
-  get-both d (past-right m) (i-right l k) = get-both d m k
+  -- What stands at matched places is there, and related.
+  pub get-both : {w : List Side} {x y : List A} {i j : ℕ} → Matched w i j → Interleaving H L w x y → (a b : A) × (getElem? x i ≡ some a) × (getElem? y j ≡ some b) × H a b
+  get-both here (i-both {a} {b} h k) = (a, b, refl, refl, h)
+  get-both (past-both m) (i-both h k) = get-both m k
+  get-both (past-left m) (i-left l k) = get-both m k
+  get-both (past-right m) (i-right l k) = get-both m k
 
   -- Another element at matched places.
   pub set-both : {w : List Side} {x y : List A} {i j : ℕ} {a b : A} → Interleaving H L w x y → H a b → Matched w i j → Interleaving H L w (set x i a) (set y j b)
@@ -95,19 +96,19 @@ module _ {A : Type 0} {H : A → A → Type 0} {L : A → Type 0} where
   set-both (i-left l k) n (past-left m) = i-left l (set-both k n m)
   set-both (i-right l k) n (past-right m) = i-right l (set-both k n m)
 
-  -- Another element on one side alone, where whatever related the old one, or was said of it, holds of the new one.
-  pub set-left : {w : List Side} {x y : List A} (i : ℕ) (d n : A) → Interleaving H L w x y → ((b : A) → H (getD x i d) b → H n b) → (L (getD x i d) → L n) → Interleaving H L w (set x i n) y
-  set-left i d n i-nil f g = i-nil
-  set-left zero d n (i-both h k) f g = i-both (f _ h) k
-  set-left (suc i) d n (i-both h k) f g = i-both h (set-left i d n k f g)
-  set-left zero d n (i-left l k) f g = i-left (g l) k
-  set-left (suc i) d n (i-left l k) f g = i-left l (set-left i d n k f g)
-  set-left i d n (i-right l k) f g = i-right l (set-left i d n k f g)
+  -- Another element n in the place of a on one side alone, where whatever related a, or was said of it, holds of n.
+  pub set-left : {w : List Side} {x y : List A} (i : ℕ) (n : A) {a : A} → Interleaving H L w x y → getElem? x i ≡ some a → ((b : A) → H a b → H n b) → (L a → L n) → Interleaving H L w (set x i n) y
+  set-left i n i-nil e f g = i-nil
+  set-left zero n (i-both h k) e f g = i-both (f _ (rw (Option·some-injective _ _ e) at h)) k
+  set-left (suc i) n (i-both h k) e f g = i-both h (set-left i n k e f g)
+  set-left zero n (i-left l k) e f g = i-left (g (rw (Option·some-injective _ _ e) at l)) k
+  set-left (suc i) n (i-left l k) e f g = i-left l (set-left i n k e f g)
+  set-left i n (i-right l k) e f g = i-right l (set-left i n k e f g)
 
-  pub set-right : {w : List Side} {x y : List A} (i : ℕ) (d n : A) → Interleaving H L w x y → ((a : A) → H a (getD y i d) → H a n) → (L (getD y i d) → L n) → Interleaving H L w x (set y i n)
-  set-right i d n i-nil f g = i-nil
-  set-right zero d n (i-both h k) f g = i-both (f _ h) k
-  set-right (suc i) d n (i-both h k) f g = i-both h (set-right i d n k f g)
-  set-right zero d n (i-right l k) f g = i-right (g l) k
-  set-right (suc i) d n (i-right l k) f g = i-right l (set-right i d n k f g)
-  set-right i d n (i-left l k) f g = i-left l (set-right i d n k f g)
+  pub set-right : {w : List Side} {x y : List A} (i : ℕ) (n : A) {b : A} → Interleaving H L w x y → getElem? y i ≡ some b → ((a : A) → H a b → H a n) → (L b → L n) → Interleaving H L w x (set y i n)
+  set-right i n i-nil e f g = i-nil
+  set-right zero n (i-both h k) e f g = i-both (f _ (rw (Option·some-injective _ _ e) at h)) k
+  set-right (suc i) n (i-both h k) e f g = i-both h (set-right i n k e f g)
+  set-right zero n (i-right l k) e f g = i-right (g (rw (Option·some-injective _ _ e) at l)) k
+  set-right (suc i) n (i-right l k) e f g = i-right l (set-right i n k e f g)
+  set-right i n (i-left l k) e f g = i-left l (set-right i n k e f g)

@@ -20,4 +20,5 @@ pub mod FirstStep
 pub mod Runs
 pub mod Theorem
 pub mod Example
+pub mod Rank
 pub mod Reported

@@ -74,6 +74,10 @@ module _ (hi : Dom → Bool) where
     unfolding with
     two-some k k′ t = t
 
+    pub two-found : {A B : Type 0} {o : Option A} {o′ : Option B} {a : A} {b : B} (k : A → Answer State Tm) (k′ : B → Answer State Tm) → o ≡ some a → o′ ≡ some b → Two W (k a) (k′ b) → Two W (with o k) (with o′ k′)
+    unfolding with
+    two-found k k′ e e′ t = rw (e, e′) t
+
     pub two-none : {A B : Type 0} (k : A → Answer State Tm) (k′ : B → Answer State Tm) → Two W (with none k) (with none k′)
     unfolding with
     two-none k k′ = none-left n-wrong

@@ -1,15 +1,15 @@
 -- Related values of a plain type are equal, so what is shown of the high cells of related states is equal.
-use Prim.Native.Nat.{ℕ, zero, suc}
+use Prim.Native.Nat.{ℕ}
 use mathlib.Core.Path.{_≡_, refl, sym, ap, ap₂, _∙_}
 use mathlib.Core.Bool.{Bool, true, false}
 use mathlib.Core.List.{List, _∷_, map}
 use mathlib.Core.Option.{Option, none, some}
-use lib.ListN.{getD}
 use Rattle.calculus.specs.Combinators.{choose}
 use Rattle.calculus.specs.Syntax.{Dom, Ty, Val}
-use Rattle.calculus.specs.State.{Cell, State, noCell}
+use Rattle.calculus.specs.State.{Cell, State}
 use Rattle.calculus.specs.Plain.{isPlain, leafCount}
 use Rattle.calculus.specs.Typing.{Policy, StoreTyping, ValTy}
+use Rattle.safety.proofs.Lists.{All, All.all-cons}
 use Rattle.safety.proofs.StoreFits.{StateFits}
 use Rattle.noninterference.specs.Observe.{shown, highOf}
 use Rattle.noninterference.proofs.Clash.{clash, no-some}
@@ -58,15 +58,15 @@ module _ {D : Policy} {hi : Dom → Bool} {Σ : StoreTyping} {W : World} where
       λ i. record { dom = h .same-dom i; value = v i }
 
 module _ (D : Policy) (hi : Dom → Bool) (Σ : StoreTyping) where
-  cells-same : {W : World} {w : List Side} {x y : List (Cell Val)} → Cells hi W w x y → ((r : ℕ) → PlainCell D Σ (getD x r (noCell Val.unit))) → map shown (highOf hi (λ a. a .dom) x) ≡ map shown (highOf hi (λ a. a .dom) y)
+  cells-same : {W : World} {w : List Side} {x y : List (Cell Val)} → Cells hi W w x y → All (PlainCell D Σ) x → map shown (highOf hi (λ a. a .dom) x) ≡ map shown (highOf hi (λ a. a .dom) y)
   unfolding highOf
   cells-same i-nil f = refl
-  cells-same (i-both {a} {b} {x} {y} h k) f = pick (hi (a .dom)) refl (cells-same k (λ r. f (suc r)))
+  cells-same (i-both {a} {b} {x} {y} h k) (all-cons q f) = pick (hi (a .dom)) refl (cells-same k f)
     where
       pick : (o : Bool) → hi (a .dom) ≡ o → map shown (highOf hi (λ a. a .dom) x) ≡ map shown (highOf hi (λ a. a .dom) y) → map shown (highOf hi (λ a. a .dom) (a ∷ x)) ≡ map shown (highOf hi (λ a. a .dom) (b ∷ y))
-      pick true e ih = let l : hi (b .dom) ≡ true = rw (h .same-dom) at e in rw (e, l) (ap₂ _∷_ (shown-same {Σ = Σ} (f zero) h e) ih)
+      pick true e ih = let l : hi (b .dom) ≡ true = rw (h .same-dom) at e in rw (e, l) (ap₂ _∷_ (shown-same {Σ = Σ} q h e) ih)
       pick false e ih = let l : hi (b .dom) ≡ false = rw (h .same-dom) at e in rw (e, l) ih
-  cells-same (i-left l k) f = rw (l, cells-same k (λ r. f (suc r)))
+  cells-same (i-left l k) (all-cons q f) = rw (l, cells-same k f)
   cells-same (i-right l k) f = rw (l, cells-same k f)
 
   -- What is shown of the high cells of related states is equal.

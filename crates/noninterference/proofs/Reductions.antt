@@ -1,13 +1,13 @@
 -- Two related redexes at a high domain, over related states: what they reduce to is related.
 use Prim.Native.Nat.{ℕ}
-use mathlib.Core.Path.{_≡_, refl, subst as transp}
+use mathlib.Core.Path.{_≡_, refl, sym, _∙_, subst as transp}
 use mathlib.Core.Bool.{Bool, true}
 use mathlib.Core.List.{List}
-use mathlib.Core.Option.{Option, none, some}
-use lib.ListN.{getD, getElem?}
+use mathlib.Core.Option.{Option, none, some, Option·some-injective}
+use lib.ListN.{getElem?}
 use Rattle.calculus.specs.Combinators.{cases}
 use Rattle.calculus.specs.Syntax.{Dom, Ty, Val, Tm, Op0, Op1, Op2, val}
-use Rattle.calculus.specs.State.{State, Given, Counts, noCell}
+use Rattle.calculus.specs.State.{Cell, State, Given, Counts}
 use Rattle.calculus.specs.Numbers.{frameByte, sum, difference, isLess, isEqual}
 use Rattle.calculus.specs.Answer.{go, with, spend}
 use Rattle.calculus.specs.Place.{Place, at}
@@ -17,12 +17,12 @@ use Rattle.safety.proofs.Lists.{All2.all2-nil, All2.all2-cons}
 use Rattle.safety.proofs.StoreFits.{StateFits}
 use Rattle.noninterference.specs.Observe.{Highs}
 use Rattle.noninterference.proofs.Clash.{clash}
-use Rattle.noninterference.proofs.Interleave.{both, Matched, Matches, matched-last, get-both}
-use Rattle.noninterference.proofs.Related.{World, grows-refl, RelV, RelT, RelB, RelVs, b-rel, b-low, v-unit, v-truth, v-num, v-pair, v-fun, v-label, v-cell, v-labels, v-advice, r-val, RelS}
+use Rattle.noninterference.proofs.Interleave.{both, Matches, matched-last, get-both}
+use Rattle.noninterference.proofs.Related.{World, grows-refl, RelCell, RelV, RelT, RelB, RelVs, b-rel, b-low, v-unit, v-truth, v-num, v-pair, v-fun, v-label, v-cell, v-labels, v-advice, r-val, RelS}
 use Rattle.noninterference.proofs.Substitute.{rel-choose, relT-subst}
 use Rattle.noninterference.proofs.Store.{cell-dom}
 use Rattle.noninterference.proofs.States.{grows-cell, grows-label, rel-charged, cell-both, store-both, label-both, advice-both, event-both}
-use Rattle.noninterference.proofs.Paired.{n-halt, Two, two-go, none-left, two-room, two-spend, two-some, two-none}
+use Rattle.noninterference.proofs.Paired.{n-halt, Two, two-go, none-left, two-room, two-spend, two-some, two-found, two-none}
 use Rattle.noninterference.proofs.Marks.{composed-rel}
 
 module _ (hi : Dom → Bool) (W : World) where
@@ -86,13 +86,16 @@ module _ (hi : Dom → Bool) {D : Policy} (H : Highs D hi) {W : World} {s s′ :
   two0 t-abort = none-left n-halt
 
   -- A cell that is read at c is high, so what it holds is related.
-  two-read : {p : Dom} {a : Ty} {r r′ : ℕ} → D .leq c p ≡ true → getElem? (Σ .cells) r ≡ some (Ty.ref a p) → Matched (W .cells) r r′ → RelV hi W (getD (s .cells) r (noCell Val.unit) .held) (getD (s′ .cells) r′ (noCell Val.unit) .held)
-  two-read {p} {a} {r} l x m = get-both (noCell Val.unit) m (R .cells) .held (rw (cell-dom D Σ s r a p K x) (H .up c p h l))
+  two-read : (r : ℕ) {p : Dom} {a : Ty} {k k′ : Cell Val} → D .leq c p ≡ true → getElem? (Σ .cells) r ≡ some (Ty.ref a p) → getElem? (s .cells) r ≡ some k → RelCell hi W k k′ → RelV hi W (k .held) (k′ .held)
+  two-read r {p} {a} {k} l x e m =
+      let q = cell-dom D Σ s r a p K x in
+      let same : q .0 ≡ k = Option·some-injective _ _ (sym (q .1) ∙ e) in
+      m .held (rw (← same, q .2) (H .up c p h l))
 
   pub two1 : {o : Op1} {t a : Ty} {v v′ : Val} → G .frame ≡ G′ .frame → Rule1 D c o t a → ValTy D Σ v a → RelV hi W v v′ → Two hi W (reduce1 G (at c P) s o t v) (reduce1 G′ (at c P′) s′ o t v′)
   two1 frame t-print (ValTy.v-num {n}) v-num = two-some hi _ _ (two-room hi _ _ _ _ (two-go (grows-refl W) (event-both hi R _ h) (r-val v-unit)))
   two1 frame (t-install l) (ValTy.v-advice x y z) (v-advice m r) = two-some hi _ _ (two-room hi _ _ _ _ (two-go (grows-refl W) (advice-both hi R (record { same-dom = refl; labels = m; body = r })) (r-val v-unit)))
-  two1 frame (t-read l) (ValTy.v-cell x) (v-cell m) = two-some hi _ _ (two-stay hi R (r-val (two-read l x m)))
+  two1 frame (t-read l) (ValTy.v-cell {r} x) (v-cell m) = let k = get-both m (R .cells) in two-some hi _ _ (two-found hi _ _ (k .2) (k .3) (two-stay hi R (r-val (two-read r l x (k .2) (k .4)))))
   two1 frame t-byte (ValTy.v-num {n}) v-num = two-some hi _ _ (transp (λ (f : List ℕ). Two hi W (go s (val (Val.num (frameByte (G .frame) n)))) (go s′ (val (Val.num (frameByte f n))))) frame (two-stay hi R (r-val v-num)))
   two1 frame (t-newCell l) x r = two-spend hi s s′ _ _ _ _ (λ u u′. two-go (grows-cell W both) (cell-both hi R u u′ (record { same-dom = refl; same-plain = refl; held = λ o. r })) (r-val (v-cell (matched-last (R .cells)))))
 
@@ -100,8 +103,8 @@ module _ (hi : Dom → Bool) {D : Policy} (H : Highs D hi) {W : World} {s s′ :
   two2 t-pair x y r u = two-charge hi R _ _ (r-val (v-pair r u))
   two2 t-app (ValTy.v-fun x) y (v-fun (b-rel r)) u = two-some hi _ _ (two-charge hi R _ _ (relT-subst hi r 0 u))
   two2 t-app (ValTy.v-fun x) y (v-fun (b-low f)) u = clash h f
-  two2 t-mark (ValTy.v-label x) y (v-label m) u = two-some hi _ _ (two-charge hi R _ _ (composed-rel hi (R .advices) m u))
-  two2 (t-store l) (ValTy.v-cell x) y (v-cell m) u = two-some hi _ _ (two-go (grows-refl W) (store-both hi R m u) (r-val v-unit))
+  two2 t-mark (ValTy.v-label x) y (v-label m) u = let k = get-both m (R .labels) in two-some hi _ _ (two-found hi _ _ (k .2) (k .3) (two-charge hi R _ _ (composed-rel hi (R .advices) m u)))
+  two2 (t-store l) (ValTy.v-cell x) y (v-cell m) u = let k = get-both m (R .cells) in two-some hi _ _ (two-found hi _ _ (k .2) (k .3) (two-go (grows-refl W) (store-both hi R m (k .4) u) (r-val v-unit)))
   two2 t-plus (ValTy.v-num {n = m}) (ValTy.v-num {n}) v-num v-num = two-arith hi R num sum m n (r-val v-num)
   two2 t-minus (ValTy.v-num {n = m}) (ValTy.v-num {n}) v-num v-num = two-arith hi R num difference m n (r-val v-num)
   two2 t-less (ValTy.v-num {n = m}) (ValTy.v-num {n}) v-num v-num = two-arith hi R truth isLess m n (r-val v-truth)

@@ -3,12 +3,13 @@ use Prim.Native.Nat.{ℕ}
 use mathlib.Core.Path.{_≡_, refl}
 use mathlib.Core.Bool.{Bool, true, false}
 use mathlib.Core.List.{List, [], _∷_, _++_}
-use lib.ListN.{getD}
+use mathlib.Core.Option.{some}
+use lib.ListN.{getElem?}
 use Rattle.calculus.specs.Syntax.{Dom, Val, Tm}
-use Rattle.calculus.specs.State.{Cell, Advice, Event, Counts, State, charged, celled, stored, labelled, installed, told, noCell}
+use Rattle.calculus.specs.State.{Cell, Advice, Event, Counts, State, charged, celled, stored, labelled, installed, told}
 use Rattle.safety.proofs.Lists.{prefix-refl, prefix-append}
 use Rattle.noninterference.proofs.Clash.{clash}
-use Rattle.noninterference.proofs.Interleave.{Side, both, left, right, Matched, interleaving-map, append-both, append-left, append-right, get-both, set-both, set-left, set-right}
+use Rattle.noninterference.proofs.Interleave.{Side, both, left, right, Matched, interleaving-map, append-both, append-left, append-right, set-both, set-left, set-right}
 use Rattle.noninterference.proofs.Related.{World, Grows, grows-refl, RelV, RelCell, RelAdvice, Cells, Labels, Advices, Events, RelS, cell-mono, advice-mono}
 use Rattle.noninterference.proofs.Confined.{Under, Effect, e-charge, e-cell, e-store, e-label, e-advice, e-event}
 
@@ -60,10 +61,8 @@ module _ (hi : Dom → Bool) {W : World} {s s′ : State} (R : RelS hi W s s′)
   pub cell-both : (u u′ : Counts) {a b : Cell Val} → RelCell hi W a b → RelS hi (withCell W both) (celled (s .cells ++ (a ∷ [])) (charged u s)) (celled (s′ .cells ++ (b ∷ [])) (charged u′ s′))
   cell-both u u′ {a} {b} h = grow-cells hi (rel-charged hi R u u′) both (λ k. append-both k (cell-mono hi (grows-cell W both) a b h))
 
-  pub store-both : {r r′ : ℕ} {v v′ : Val} → Matched (W .cells) r r′ → RelV hi W v v′ → RelS hi W (stored Val.unit s r v) (stored Val.unit s′ r′ v′)
-  store-both m u =
-      let c : RelCell hi W _ _ = get-both (noCell Val.unit) m (R .cells) in
-      put-cells hi R (set-both (R .cells) (record { same-dom = c .same-dom; same-plain = c .same-plain; held = λ h. u }) m)
+  pub store-both : {r r′ : ℕ} {a a′ : Cell Val} {v v′ : Val} → Matched (W .cells) r r′ → RelCell hi W a a′ → RelV hi W v v′ → RelS hi W (stored r a v s) (stored r′ a′ v′ s′)
+  store-both m c u = put-cells hi R (set-both (R .cells) (record { same-dom = c .same-dom; same-plain = c .same-plain; held = λ h. u }) m)
 
   pub label-both : (p : Dom) → RelS hi (withLabel W both) (labelled p s) (labelled p s′)
   label-both p = grow-labels hi R both (append-both (R .labels) refl)
@@ -91,17 +90,17 @@ module _ (hi : Dom → Bool) {W : World} {s s′ : State} (R : RelS hi W s s′)
   later : {t t′ : State} → RelS hi W t t′ → Later hi W t t′
   later r = record { world = W; grows = grows-refl W; rel = r }
 
-  store-left : (r : ℕ) (v : Val) → hi (getD (s .cells) r (noCell Val.unit) .dom) ≡ false → RelS hi W (stored Val.unit s r v) s′
-  store-left r v l = put-cells hi R (set-left r (noCell Val.unit) _ (R .cells) (λ b h. record { same-dom = h .same-dom; same-plain = h .same-plain; held = λ o. clash o l }) (λ h. h))
+  store-left : (r : ℕ) (a : Cell Val) (v : Val) → getElem? (s .cells) r ≡ some a → hi (a .dom) ≡ false → RelS hi W (stored r a v s) s′
+  store-left r a v e l = put-cells hi R (set-left r _ (R .cells) e (λ b h. record { same-dom = h .same-dom; same-plain = h .same-plain; held = λ o. clash o l }) (λ h. h))
 
-  store-right : (r : ℕ) (v : Val) → hi (getD (s′ .cells) r (noCell Val.unit) .dom) ≡ false → RelS hi W s (stored Val.unit s′ r v)
-  store-right r v l = put-cells hi R (set-right r (noCell Val.unit) _ (R .cells) (λ a h. record { same-dom = h .same-dom; same-plain = h .same-plain; held = λ o. clash (rw (h .same-dom) at o) l }) (λ h. h))
+  store-right : (r : ℕ) (b : Cell Val) (v : Val) → getElem? (s′ .cells) r ≡ some b → hi (b .dom) ≡ false → RelS hi W s (stored r b v s′)
+  store-right r b v e l = put-cells hi R (set-right r _ (R .cells) e (λ a h. record { same-dom = h .same-dom; same-plain = h .same-plain; held = λ o. clash (rw (h .same-dom) at o) l }) (λ h. h))
 
   -- The left alone makes a step at a low domain.
   pub effect-left : {c : Dom} {t : State} → hi c ≡ false → Effect hi c s t → Later hi W t s′
   effect-left f (e-charge {u}) = later (rel-charged hi R u (s′ .used))
   effect-left f (e-cell {u} a x) = record { world = withCell W left; grows = grows-cell W left; rel = grow-cells hi (rel-charged hi R u (s′ .used)) left (λ k. append-left k (low-of hi x f)) }
-  effect-left f (e-store r v x) = later (store-left r v (low-of hi x f))
+  effect-left f (e-store r a v e x) = later (store-left r a v e (low-of hi x f))
   effect-left f (e-label p) = record { world = withLabel W left; grows = grows-label W left; rel = grow-labels hi R left (append-left (R .labels) tt) }
   effect-left f (e-advice a x) = later (put-advices hi R (append-left (R .advices) (low-of hi x f)))
   effect-left f (e-event a x) = later (put-trace hi R (append-left (R .trace) (low-of hi x f)))
@@ -110,7 +109,7 @@ module _ (hi : Dom → Bool) {W : World} {s s′ : State} (R : RelS hi W s s′)
   pub effect-right : {c : Dom} {t : State} → hi c ≡ false → Effect hi c s′ t → Later hi W s t
   effect-right f (e-charge {u}) = later (rel-charged hi R (s .used) u)
   effect-right f (e-cell {u} a x) = record { world = withCell W right; grows = grows-cell W right; rel = grow-cells hi (rel-charged hi R (s .used) u) right (λ k. append-right k (low-of hi x f)) }
-  effect-right f (e-store r v x) = later (store-right r v (low-of hi x f))
+  effect-right f (e-store r b v e x) = later (store-right r b v e (low-of hi x f))
   effect-right f (e-label p) = record { world = withLabel W right; grows = grows-label W right; rel = grow-labels hi R right (append-right (R .labels) tt) }
   effect-right f (e-advice a x) = later (put-advices hi R (append-right (R .advices) (low-of hi x f)))
   effect-right f (e-event a x) = later (put-trace hi R (append-right (R .trace) (low-of hi x f)))

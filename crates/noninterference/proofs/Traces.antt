@@ -67,7 +67,7 @@ module _ (hi : Dom → Bool) where
   pub effect-events : {c : Dom} {s t : State} → Effect hi c s t → Prefix (highEvents (s .trace)) (highEvents (t .trace))
   effect-events e-charge = prefix-refl _
   effect-events (e-cell a u) = prefix-refl _
-  effect-events (e-store r v u) = prefix-refl _
+  effect-events (e-store r a v e u) = prefix-refl _
   effect-events (e-label p) = prefix-refl _
   effect-events (e-advice a u) = prefix-refl _
   effect-events (e-event a u) = events-more _ _

@@ -1,6 +1,6 @@
 // An inner crate: the reduction of a print, which writes a record of the log.
 ghost use mathlib.Core.List.{List};
-ghost use Prim.Native.Nat.{ℕ, _≤_, _<_};
+ghost use Prim.Native.Nat.{ℕ, _<_};
 ghost use lib.ListN.{length};
 ghost use Rattle.flat.specs.Reduce.{reducePrint};
 ghost use Rattle.operands.specs.Phases.{RegsFit, stateOf, Moved};
@@ -14,8 +14,8 @@ use values::body;
 use values::tag;
 
 pub fn reduce_print(log: &mut [u8], r: Regs) -> Regs
-    requires { ⌜ (0 < r .left) × (r .dom < 16) × (r .at ≤ length (now log)) ⌝ }
-    ensures { λ q. ⌜ ((w : List ℕ) → RegsFit (length (now (log .entry))) r → Moved (reducePrint (stateOf w (now (log .entry)) r)) w w (now (log .exit)) q) ⌝ }
+    requires { ⌜ (0 < r .left) × RegsFit (length (now log)) r ⌝ }
+    ensures { λ q. ⌜ ((w : List ℕ) → Moved (reducePrint (stateOf w (now (log .entry)) r)) w w (now (log .exit)) q) ⌝ }
 {
     if tag(r.v1) != values::NUMBER {
         return stuck(r);

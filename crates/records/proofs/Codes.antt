@@ -1,17 +1,19 @@
 -- The table of codes is right at every number: one test, computed over the whole table, and the laws that follow from it.
-use Prim.Native.Nat.{ℕ, zero, suc, _+_, _≤_, _<_}
+use Prim.Native.Nat.{ℕ, zero, suc, _+_, _-_, _*_, _/_, _≤_, _<_}
 use native.Mathlib.Omega.{arith}
 use mathlib.Core.Path.{_≡_, refl, sym, subst, _∙_}
-use mathlib.Core.Bool.{Bool, true, false, not, _&&_}
+use mathlib.Core.Bool.{Bool, true, false, not, _&&_, _||_}
 use mathlib.Core.List.{List, [], _∷_}
 use mathlib.Core.Option.{Option, none, some}
 use lib.ListN.{length, getD, List·getD-eq-default}
 use lib.Dec.{eqb, ltb, leb}
-use borrow.Author.Tests.{ne-eqb}
+use borrow.Author.Tests.{eqb-false, ne-eqb}
+use Rattle.calculus.specs.Combinators.{choose}
+use Rattle.image.specs.Limits.{pointcutLimit}
 use Rattle.image.specs.Tests.{all}
 use Rattle.image.specs.Kinds.{Kind, rowOf, find, kindOf}
 use Rattle.image.proofs.Facts.{no-path, and-l, and-r, not-t, lt-of, le-of, ge-of, eq-of, of-eq, each}
-use Rattle.records.specs.Codes.{sectionNumber, classNumbers, codeOf, sectionOf, countOf, leastOf, mostOf, classesOf, sizeOf, Sized, leastLength, kindCodes, codeAt}
+use Rattle.records.specs.Codes.{sectionNumber, classNumbers, codeOf, sectionOf, countOf, leastOf, mostOf, classesOf, sizeOf, childrenIn, Sized, leastLength, kindCodes, codeAt}
 
 -- The number x is the code of the kind that is found, and its parts are the kind's; where no kind is found it is 0.
 unfoldable fits : Option Kind → ℕ → Bool
@@ -19,7 +21,8 @@ fits none x = eqb x 0
 fits (some k) x =
     all
     (eqb x (codeOf k) ∷ not (eqb x 0) ∷ eqb (sectionOf x) (sectionNumber k) ∷ eqb (countOf x) (length (rowOf k .fields)) ∷ eqb (leastOf x) (rowOf k .least)
-    ∷ eqb (mostOf x) (rowOf k .most) ∷ eqb (classesOf x) (classNumbers (rowOf k .fields)) ∷ eqb (sizeOf x) (leastLength k) ∷ leb (leastOf x) (mostOf x) ∷ [])
+    ∷ eqb (mostOf x) (rowOf k .most) ∷ eqb (classesOf x) (classNumbers (rowOf k .fields)) ∷ eqb (sizeOf x) (leastLength k) ∷ leb (leastOf x) (mostOf x)
+    ∷ (eqb (mostOf x) pointcutLimit || eqb (leastOf x) (mostOf x)) ∷ [])
 
 -- The test passes at each entry of a table, whose places are counted from i.
 unfoldable every : (ℕ → ℕ → Bool) → ℕ → List ℕ → Bool
@@ -76,6 +79,7 @@ pub record Packs (k : Kind) (x : ℕ) : Type 0 where
   pub classes : classesOf x ≡ classNumbers (rowOf k .fields)
   pub size : sizeOf x ≡ leastLength k
   pub between : leastOf x ≤ mostOf x
+  pub exact : (eqb (mostOf x) pointcutLimit || eqb (leastOf x) (mostOf x)) ≡ true
 
 pub known-code : (n : ℕ) (k : Kind) → kindOf n ≡ some k → Packs k (codeAt n)
 unfolding fits
@@ -91,6 +95,7 @@ known-code n k h =
       classes = eq-of (z .1 .1 .1 .1 .1 .1 .0);
       size = eq-of (z .1 .1 .1 .1 .1 .1 .1 .0);
       between = le-of (z .1 .1 .1 .1 .1 .1 .1 .1 .0);
+      exact = z .1 .1 .1 .1 .1 .1 .1 .1 .1 .0;
     }
 
 pub unknown-code : (n : ℕ) → kindOf n ≡ none → codeAt n ≡ 0
@@ -106,10 +111,29 @@ kind-small n k h = go (ltb n 61) refl
     go true e = lt-of e
     go false e = let z : none ≡ some k = sym (none-past n (ge-of e)) ∙ h in no-path cc
 
--- Every code but 0 says its least length.
+-- A code of another kind than the pointcuts has as many children at least as at most.
+exact-of : (x : ℕ) → (eqb (mostOf x) pointcutLimit || eqb (leastOf x) (mostOf x)) ≡ true → (mostOf x ≡ pointcutLimit → ⊥) → leastOf x ≡ mostOf x
+exact-of x h n = go (eqb (mostOf x) pointcutLimit) refl
+  where
+    go : (t : Bool) → eqb (mostOf x) pointcutLimit ≡ t → leastOf x ≡ mostOf x
+    go true e = absurd (n (eq-of e))
+    go false e = eq-of (rw e at h)
+
+-- What every code but 0 says of lengths.
+pub kind-sized : (k : Kind) (x : ℕ) → Packs k x → Sized x
+kind-sized k x p = let c = p .count in let l = p .least in let s = p .size in record { length = omega arith; between = p .between; exact = exact-of x (p .exact) }
+
 pub code-sized : (n : ℕ) → (codeAt n ≡ 0 → ⊥) → Sized (codeAt n)
 code-sized n h = go (kindOf n) refl
   where
     go : (q : Option Kind) → kindOf n ≡ q → Sized (codeAt n)
     go none e = absurd (h (unknown-code n e))
-    go (some k) e = let p = known-code n k e in let c = p .count in let l = p .least in let s = p .size in record { length = omega arith; between = p .between }
+    go (some k) e = kind-sized k (codeAt n) (known-code n k e)
+
+-- In a record of a right length the children take what the fields leave.
+pub children-count : (x n : ℕ) → Sized x → 2 * (countOf x + leastOf x) ≤ n → n ≤ 2 * (countOf x + mostOf x) → childrenIn x n ≡ n / 2 - countOf x
+children-count x n S l m = go (eqb (mostOf x) pointcutLimit) refl
+  where
+    go : (t : Bool) → eqb (mostOf x) pointcutLimit ≡ t → choose t (n / 2 - countOf x) (mostOf x) ≡ n / 2 - countOf x
+    go true e = refl
+    go false e = let z = S .exact (eqb-false _ _ e) in omega arith

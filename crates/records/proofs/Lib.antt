@@ -1,4 +1,5 @@
--- Laws of codes, of keys, and of what the record reader answers.
+-- Laws of codes, of keys, of what the record reader answers, and of the part of an image that a record's fields occupy.
 pub mod Codes
 pub mod Keys
 pub mod Heads
+pub mod Parts

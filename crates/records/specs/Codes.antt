@@ -1,8 +1,11 @@
 -- The table of kinds (document 01, "The image") in numbers: a code packs a kind's section, how many fields it has before its children, how many children at least and at most, the classes of its fields, and its least length. The number 0 is no kind's code.
-use Prim.Native.Nat.{ℕ, _+_, _*_, _/_, _%_, _≤_}
+use Prim.Native.Nat.{ℕ, _+_, _-_, _*_, _/_, _%_, _≤_}
 use mathlib.Core.Path.{_≡_}
 use mathlib.Core.List.{List, [], _∷_}
 use lib.ListN.{length, getD}
+use lib.Dec.{eqb}
+use Rattle.calculus.specs.Combinators.{choose}
+use Rattle.image.specs.Limits.{pointcutLimit}
 use Rattle.image.specs.Kinds.{Field, a-type, a-domain, an-op, a-truth, free, Kind, domain, type, term, rowOf}
 
 abbrev pub sectionNumber : Kind → ℕ
@@ -10,7 +13,7 @@ sectionNumber domain = 1
 sectionNumber (type k) = 2
 sectionNumber (term k) = 3
 
--- The place of a field's bound among the sizes (the crate layout).
+-- What a field may be, as a number.
 abbrev pub classNumber : Field → ℕ
 classNumber a-type = 0
 classNumber a-domain = 1
@@ -43,6 +46,10 @@ leastOf x = x / 16 % 4
 abbrev pub mostOf : ℕ → ℕ
 mostOf x = x / 64 % 16
 
+-- How many children stand in a record whose fields and children take n bytes: as many as its kind has; of a pointcut, the only kind with a number that varies, as many as the length says.
+abbrev pub childrenIn : ℕ → ℕ → ℕ
+childrenIn x n = choose (eqb (mostOf x) pointcutLimit) (n / 2 - countOf x) (mostOf x)
+
 abbrev pub classesOf : ℕ → ℕ
 classesOf x = x / 1024 % 512
 
@@ -57,7 +64,8 @@ kindCodes =
 abbrev pub codeAt : ℕ → ℕ
 codeAt n = getD kindCodes n 0
 
--- What a kind's code says of lengths: the least is that of the fields and the fewest children, and not more than the most.
+-- What a kind's code says of lengths: the least is that of the fields and the fewest children, which are not more than the most, and as many but for a pointcut.
 pub record Sized (x : ℕ) : Type 0 where
   pub length : sizeOf x ≡ 4 + 2 * (countOf x + leastOf x)
   pub between : leastOf x ≤ mostOf x
+  pub exact : (mostOf x ≡ pointcutLimit → ⊥) → leastOf x ≡ mostOf x

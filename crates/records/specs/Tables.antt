@@ -6,6 +6,7 @@ use lib.ListN.{length, getD, take}
 use Rattle.image.specs.Limits.{imageLimit}
 use Rattle.image.specs.Layout.{laid, layout, recordsOf}
 use Rattle.image.specs.Types.{typePlace}
+use Rattle.records.specs.declared.numbers.Counts.{Counts}
 use Rattle.records.specs.Keys.{Key}
 
 pub record Tables (b domain-table term-table key-table : List ℕ) : Type 0 where
@@ -17,3 +18,9 @@ pub record Tables (b domain-table term-table key-table : List ℕ) : Type 0 wher
   pub terms : take (length (recordsOf b .terms)) term-table ≡ recordsOf b .terms
   pub enough : length (recordsOf b .types) ≤ length key-table
   pub keys : (t : ℕ) → t < length (recordsOf b .types) → Key b (typePlace (recordsOf b) t) (getD key-table t 0)
+
+-- So many records has each section of an image that is laid out.
+pub record Counted (b : List ℕ) (n : Counts) : Type 0 where
+  pub domains : n .domains ≡ length (recordsOf b .domains)
+  pub types : n .types ≡ length (recordsOf b .types)
+  pub terms : n .terms ≡ length (recordsOf b .terms)

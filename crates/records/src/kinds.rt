@@ -1,7 +1,10 @@
 // The table of kinds in numbers. It is built once, by kind_codes, and lent from there on.
 ghost use mathlib.Core.Path.{_≡_};
-ghost use Prim.Native.Nat.{_<_};
-ghost use Rattle.records.specs.Codes.{kindCodes, codeAt, sectionOf, countOf, leastOf, mostOf, classesOf, sizeOf};
+ghost use Prim.Native.Nat.{_*_, _≤_, _<_};
+ghost use Rattle.records.specs.Codes.{kindCodes, codeAt, sectionOf, countOf, mostOf, childrenIn, classesOf, sizeOf};
+
+// The labels of a pointcut.
+const POINTCUT_LIMIT: usize = 8;
 
 const KINDS: [u32; 61] = [
     0,
@@ -103,17 +106,24 @@ pub fn field_count(code: u32) -> usize
     (code / 4 % 4) as usize
 }
 
-// How many children follow, at least and at most.
-pub fn least_children(code: u32) -> usize
-    ensures { λ r. ⌜ r ≡ leastOf code ⌝ }
-{
-    (code / 16 % 4) as usize
-}
-
+// How many children follow, at most.
 pub fn most_children(code: u32) -> usize
     ensures { λ r. ⌜ r ≡ mostOf code ⌝ }
 {
     (code / 64 % 16) as usize
+}
+
+// How many children stand in a record whose fields and children take so many bytes: as many as its kind has; of a pointcut,
+// the only kind with a number that varies, as many as the length says.
+pub fn child_count(code: u32, bytes: usize) -> usize
+    requires { ⌜ 2 * countOf code ≤ bytes ⌝ }
+    ensures { λ r. ⌜ r ≡ childrenIn code bytes ⌝ }
+{
+    let most = most_children(code);
+    if most == POINTCUT_LIMIT {
+        return bytes / 2 - field_count(code);
+    }
+    most
 }
 
 // What its fields are, three bits each, the first field's lowest.

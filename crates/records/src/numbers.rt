@@ -1,9 +1,11 @@
-// Domain numbers, type numbers and term numbers, which are never used for one another (document 01, "The image"), what the
-// validator's tables hold of each, and the parts of a type's key.
+// Domain numbers, type numbers and term numbers, which are never used for one another (document 01, "The image"), how many
+// there are of each, what the validator's tables hold of each, and the parts of a type's key.
 ghost use mathlib.Core.Path.{_≡_};
 ghost use Prim.Native.Nat.{_+_, _*_, _<_};
 ghost use lib.ListN.{length, getD};
+ghost use lib.Dec.{ltb};
 ghost use Rattle.image.specs.Bytes.{fieldAt};
+ghost use Rattle.records.specs.Counts.{noRecords, withDomain, withType, withTerm, Few};
 ghost use Rattle.records.specs.Keys.{keyKind, keyField0, keyField1, keyField2, keyOf};
 
 pub struct DomainNo(pub u16);
@@ -11,6 +13,101 @@ pub struct DomainNo(pub u16);
 pub struct TypeNo(pub u16);
 
 pub struct TermNo(pub u16);
+
+// How many records each section has. Those of a section are numbered from 0 on: so the count is also the number that the
+// section's next record gets.
+pub struct Counts {
+    pub domains: usize,
+    pub types: usize,
+    pub terms: usize,
+}
+
+impl Counts {
+    pub fn none() -> Self
+        ensures { λ r. ⌜ r ≡ noRecords ⌝ }
+    {
+        Self {
+            domains: 0,
+            types: 0,
+            terms: 0,
+        }
+    }
+
+    // The domain, the type or the term of that number is there.
+    pub fn has_domain(self, d: DomainNo) -> bool
+        ensures { λ r. ⌜ r ≡ ltb (d .0) (self .domains) ⌝ }
+    {
+        (d.0 as usize) < self.domains
+    }
+
+    pub fn has_type(self, t: TypeNo) -> bool
+        ensures { λ r. ⌜ r ≡ ltb (t .0) (self .types) ⌝ }
+    {
+        (t.0 as usize) < self.types
+    }
+
+    pub fn has_term(self, n: TermNo) -> bool
+        ensures { λ r. ⌜ r ≡ ltb (n .0) (self .terms) ⌝ }
+    {
+        (n.0 as usize) < self.terms
+    }
+
+    // The number that the next domain, type or term gets.
+    pub fn next_domain(self) -> DomainNo
+        requires { ⌜ Few self ⌝ }
+        ensures { λ r. ⌜ r .0 ≡ self .domains ⌝ }
+    {
+        DomainNo(self.domains as u16)
+    }
+
+    pub fn next_type(self) -> TypeNo
+        requires { ⌜ Few self ⌝ }
+        ensures { λ r. ⌜ r .0 ≡ self .types ⌝ }
+    {
+        TypeNo(self.types as u16)
+    }
+
+    pub fn next_term(self) -> TermNo
+        requires { ⌜ Few self ⌝ }
+        ensures { λ r. ⌜ r .0 ≡ self .terms ⌝ }
+    {
+        TermNo(self.terms as u16)
+    }
+
+    // One domain, type or term more.
+    pub fn with_domain(self) -> Self
+        requires { ⌜ Few self ⌝ }
+        ensures { λ r. ⌜ r ≡ withDomain self ⌝ }
+    {
+        Self {
+            domains: self.domains + 1,
+            types: self.types,
+            terms: self.terms,
+        }
+    }
+
+    pub fn with_type(self) -> Self
+        requires { ⌜ Few self ⌝ }
+        ensures { λ r. ⌜ r ≡ withType self ⌝ }
+    {
+        Self {
+            domains: self.domains,
+            types: self.types + 1,
+            terms: self.terms,
+        }
+    }
+
+    pub fn with_term(self) -> Self
+        requires { ⌜ Few self ⌝ }
+        ensures { λ r. ⌜ r ≡ withTerm self ⌝ }
+    {
+        Self {
+            domains: self.domains,
+            types: self.types,
+            terms: self.terms + 1,
+        }
+    }
+}
 
 fn wide(x: u16) -> usize
     ensures { λ r. ⌜ r ≡ x ⌝ }
@@ -30,14 +127,6 @@ pub fn domain_offset(doms: &[u16], d: DomainNo) -> usize
     ensures { λ r. ⌜ r ≡ getD (now (doms .entry)) (d .0) 0 ⌝ }
 {
     wide(doms[d.0 as usize])
-}
-
-// The offset of a type's record.
-pub fn type_offset(types: &[u16], t: TypeNo) -> usize
-    requires { ⌜ t .0 < length (now types) ⌝ }
-    ensures { λ r. ⌜ r ≡ getD (now (types .entry)) (t .0) 0 ⌝ }
-{
-    wide(types[t.0 as usize])
 }
 
 // The offset of a term's record.
@@ -70,14 +159,6 @@ pub fn child_at(image: &[u8], at: usize, i: usize) -> TermNo
     ensures { λ r. ⌜ r .0 ≡ fieldAt (now (image .entry)) at i ⌝ }
 {
     TermNo(crate::words::field_at(image, at, i))
-}
-
-// Field i of a record, where it is a domain.
-pub fn domain_at(image: &[u8], at: usize, i: usize) -> DomainNo
-    requires { ⌜ at + 4 + 2 * i + 1 < length (now image) ⌝ }
-    ensures { λ r. ⌜ r .0 ≡ fieldAt (now (image .entry)) at i ⌝ }
-{
-    DomainNo(crate::words::field_at(image, at, i))
 }
 
 // A kind and three fields as one number, each a byte of it.

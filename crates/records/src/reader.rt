@@ -1,7 +1,9 @@
-// The record reader (document 01, "The image": "A walk keeps the lent image and the offset of its next record").
+// The record reader (document 01, "The image": "A walk keeps the lent image and the offset of its next record, and hands
+// each record's fields on as the part of the image that they occupy").
 ghost use mathlib.Core.Path.{_≡_};
-ghost use Prim.Native.Nat.{_+_, _<_};
-ghost use Rattle.records.specs.Heads.{headAt};
+ghost use Prim.Native.Nat.{_+_, _<_, _≤_, _^_};
+ghost use lib.ListN.{length};
+ghost use Rattle.records.specs.Heads.{headAt, fieldBytes, IsWhole, fieldsAt};
 
 pub struct Walk<'a> {
     pub image: &'a [u8],
@@ -38,11 +40,21 @@ pub fn head_of(image: &[u8], at: usize) -> Head
     }
 }
 
-// A walk from the image's start.
-pub fn new<'a>(image: &'a [u8]) -> Walk<'a>
-    ensures { λ r. ⌜ (r .image ≡ image .entry) × (r .at ≡ 0) ⌝ }
+// The fields of a record of len bytes: the part of the image that they occupy.
+pub fn fields_of(image: &[u8], at: usize, len: usize) -> &[u8]
+    requires { ⌜ (4 ≤ len) × (at + len ≤ length (now image)) ⌝ }
+    ensures { λ r. ⌜ now r ≡ fieldBytes (now (image .entry)) at len ⌝ }
 {
-    Walk { image, at: 0 }
+    let a = at + 4;
+    let e = at + len;
+    &image[a..e]
+}
+
+// A walk whose next record is at an offset.
+pub fn new<'a>(image: &'a [u8], at: usize) -> Walk<'a>
+    ensures { λ r. ⌜ (r .image ≡ image .entry) × (r .at ≡ at) ⌝ }
+{
+    Walk { image, at }
 }
 
 // What the walk stands at.
@@ -52,16 +64,59 @@ pub fn next<'a>(w: Walk<'a>) -> Head
     head_of(w.image, w.at)
 }
 
-// The walk at another offset.
-pub fn moved<'a>(w: Walk<'a>, at: usize) -> Walk<'a>
-    ensures { λ q. ⌜ (q .image ≡ w .entry .image) × (q .at ≡ at) ⌝ }
+// The fields of the record of len bytes that the walk stands at.
+pub fn fields<'a>(w: Walk<'a>, len: usize) -> &'a [u8]
+    requires { ⌜ (4 ≤ len) × (w .at + len ≤ length (now (w .image))) ⌝ }
+    ensures { λ r. ⌜ now r ≡ fieldBytes (now (w .entry .image)) (w .entry .at) len ⌝ }
 {
-    Walk { image: w.image, at }
+    fields_of(w.image, w.at, len)
 }
 
-// What stands at an offset, by a walk that is moved there: plain parameters, for every caller.
+// The walk past the record of len bytes that it stands at.
+pub fn past<'a>(w: Walk<'a>, len: usize) -> Walk<'a>
+    requires { ⌜ w .at + len < 2 ^ 64 ⌝ }
+    ensures { λ q. ⌜ (q .image ≡ w .entry .image) × (q .at ≡ w .entry .at + len) ⌝ }
+{
+    Walk {
+        image: w.image,
+        at: w.at + len,
+    }
+}
+
+// The offset of the walk's next record.
+pub fn offset<'a>(w: Walk<'a>) -> usize
+    ensures { λ n. ⌜ n ≡ w .entry .at ⌝ }
+{
+    w.at
+}
+
+// The same with plain parameters, for every caller: what stands at an offset, the fields of the record there, and the
+// offset of the next one.
 pub fn head_from(image: &[u8], at: usize) -> Head
     ensures { λ r. ⌜ r ≡ headAt (now (image .entry)) at ⌝ }
 {
-    next(moved(new(image), at))
+    next(new(image, at))
+}
+
+pub fn fields_from(image: &[u8], at: usize, len: usize) -> &[u8]
+    requires { ⌜ (4 ≤ len) × (at + len ≤ length (now image)) ⌝ }
+    ensures { λ r. ⌜ now r ≡ fieldBytes (now (image .entry)) at len ⌝ }
+{
+    fields(new(image, at), len)
+}
+
+pub fn next_from(image: &[u8], at: usize, len: usize) -> usize
+    requires { ⌜ at + len < 2 ^ 64 ⌝ }
+    ensures { λ r. ⌜ r ≡ at + len ⌝ }
+{
+    offset(past(new(image, at), len))
+}
+
+// The fields of the record at an offset where a whole record stands.
+pub fn fields_at(image: &[u8], at: usize) -> &[u8]
+    requires { ⌜ IsWhole (now image) at ⌝ }
+    ensures { λ r. ⌜ now r ≡ fieldsAt (now (image .entry)) at ⌝ }
+{
+    let len = crate::words::word(image, at) as usize;
+    fields_from(image, at, len)
 }

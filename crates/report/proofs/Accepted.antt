@@ -75,6 +75,9 @@ module _ (D : Policy) (trans : Transitive D) (G : Given) (n : ℕ) where
   pub program-cells-few : {e : Tm} {t : Ty} → TmTy D noStore [] 0 e t → CellsFew (run n G 0 fresh e)
   program-cells-few h = cells-few (program-safe D trans G h n .state .cells)
 
+  pub program-result-few : {e : Tm} → Accepted D e → length (report (run n G 0 fresh e) .result) ≤ leafLimit
+  program-result-few A = result-few (A .plain) (program-safe D trans G (A .typed) n .end)
+
   -- The report of an accepted program fits in 17,994 bytes, and its log in the log that it was given.
   pub program-report-short : {e : Tm} → Accepted D e → length (writtenReport (run n G 0 fresh e)) ≤ 17994
   program-report-short {e} A =
@@ -82,7 +85,7 @@ module _ (D : Policy) (trans : Transitive D) (G : Given) (n : ℕ) where
       let w = program-within G n e in
       let m = length-map (E .state .cells) (cellReport leaves) in
       let c : length (report E .cells) ≤ cellLimit = omega (arith, w .counted, w .cells) in
-      report-short _ _ (report E .result) (result-few (A .plain) (program-safe D trans G (A .typed) n .end)) c (program-cells-few (A .typed))
+      report-short _ _ (report E .result) (program-result-few A) c (program-cells-few (A .typed))
 
 pub program-log-short : (G : Given) (n : ℕ) (e : Tm) → length (writtenLog (run n G 0 fresh e)) ≤ G .logLength
 program-log-short G n e =

@@ -10,11 +10,6 @@ use Rattle.report.specs.Records.{recordsBytes, recordsAfter}
 use Rattle.report.specs.Written.{logBytes, reportBytes}
 use Rattle.report.specs.Read.{readLog}
 
--- Bench sheet, P2: done after 0 steps with the value 5.
-pub p2-report : reportBytes 0 0 (Leaf.Number 5 ∷ []) [] ≡ 10 ∷ 0 ∷ 70 ∷ 0 ∷ 0 ∷ 0 ∷ 0 ∷ 0 ∷ 0 ∷ 0 ∷ 8 ∷ 0 ∷ 67 ∷ 0 ∷ 5 ∷ 0 ∷ 0 ∷ 0 ∷ []
-unfolding bytesOf recordsBytes
-p2-report = refl
-
 -- Spent after 258 steps, with a plain cell of domain 1 that holds unit and truth, and another cell of domain 2.
 pub cells-report : reportBytes 1 258 [] (record { dom = 1; held = some (Leaf.Unit ∷ Leaf.Truth true ∷ []) } ∷ record { dom = 2; held = none } ∷ [])
     ≡ 10 ∷ 0 ∷ 70 ∷ 0 ∷ 1 ∷ 0 ∷ 2 ∷ 1 ∷ 0 ∷ 0 ∷ 16 ∷ 0 ∷ 68 ∷ 0 ∷ 1 ∷ 0 ∷ 4 ∷ 0 ∷ 65 ∷ 0 ∷ 6 ∷ 0 ∷ 66 ∷ 0 ∷ 1 ∷ 0 ∷ 6 ∷ 0 ∷ 69 ∷ 0 ∷ 2 ∷ 0 ∷ []

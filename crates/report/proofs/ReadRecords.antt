@@ -1,15 +1,17 @@
 -- Reading back records that stand end to end.
 use Prim.Native.Nat.{ℕ, zero, suc, _+_, _-_, _/_, _%_, _≤_, _<_}
 use native.Mathlib.Omega.{arith}
-use mathlib.Core.Path.{_≡_, refl, ap, ap₂, _∙_}
+use mathlib.Core.Path.{_≡_, refl, sym, ap, ap₂, _∙_}
+use mathlib.Core.Bool.{false}
 use mathlib.Core.List.{List, [], _∷_, _++_}
 use lib.ListN.{length, take, drop, length-append}
 use lib.Seq.{take-append-seam, drop-append-seam}
 use borrow.Author.Tests.{le-leb}
+use Rattle.calculus.specs.Combinators.{choose}
 use Rattle.safety.proofs.Lists.{All, All.all-nil, All.all-cons}
 use Rattle.area.specs.Bytes.{bytesOf, numberOf, numberAt}
 use Rattle.area.specs.Records.{Record, recordBytes}
-use Rattle.report.specs.Records.{recordsBytes, lengthOf, recordsAfter, recordsIn}
+use Rattle.report.specs.Records.{recordsBytes, lengthOf, isWhole, firstRecord, recordsAfter, recordsIn}
 
 -- After so many bytes.
 after-drop : (k : ℕ) (b : List ℕ) → recordsAfter k b ≡ recordsIn (drop k b)
@@ -17,6 +19,12 @@ unfolding recordsAfter
 after-drop zero b = refl
 after-drop (suc k) [] = refl
 after-drop (suc k) (a ∷ b) = after-drop k b
+
+-- Bytes that begin with no whole record hold none.
+pub read-none : (b : List ℕ) → isWhole b ≡ false → recordsIn b ≡ []
+unfolding recordsAfter
+read-none [] e = refl
+read-none (a ∷ b) e = ap (λ w. choose w (firstRecord (a ∷ b) ∷ recordsAfter (lengthOf (a ∷ b) - 1) b) []) e
 
 -- A whole record and the bytes after it.
 read-first : (a : ℕ) (b : List ℕ) (n : ℕ) → lengthOf (a ∷ b) ≡ suc n → 4 ≤ suc n → suc n ≤ length (a ∷ b)
@@ -26,6 +34,13 @@ read-first a b n e h l =
     let m : suc n - 1 ≡ n = omega arith in
     let r : Record = record { kind = numberAt 2 2 (a ∷ b); fields = take (suc n - 4) (drop 4 (a ∷ b)) } in
     rw (e, le-leb 4 (suc n) h, le-leb (suc n) (length (a ∷ b)) l, m) (ap (r ∷_) (after-drop n b))
+
+pub read-whole : (b : List ℕ) → 4 ≤ lengthOf b → lengthOf b ≤ length b → recordsIn b ≡ firstRecord b ∷ recordsIn (drop (lengthOf b) b)
+read-whole [] h l = absurd (omega arith)
+read-whole (a ∷ b) h l =
+    let n : lengthOf (a ∷ b) ≡ suc (lengthOf (a ∷ b) - 1) = omega arith in
+    read-first a b (lengthOf (a ∷ b) - 1) n (omega arith) (omega arith)
+    ∙ ap₂ _∷_ (ap (λ m. record { kind = numberAt 2 2 (a ∷ b); fields = take (m - 4) (drop 4 (a ∷ b)) }) (sym n)) (ap (λ m. recordsIn (drop m (a ∷ b))) (sym n))
 
 -- A record whose kind and length fit their fields.
 pub record Short (r : Record) : Type 0 where

@@ -1,7 +1,6 @@
 -- Demand 3 about the bytes of log and report, from demand 3 about what two runs report (document 01, "Two runs compared").
-use Prim.Native.Nat.{ℕ, zero, suc, _%_, _<_}
+use Prim.Native.Nat.{ℕ, zero, suc, _%_}
 use native.Mathlib.Omega.{arith}
-use native.Mathlib.Nat.{mod-eq-of-lt}
 use mathlib.Core.Path.{_≡_, refl, sym, ap, _∙_}
 use mathlib.Core.Bool.{Bool, true, false}
 use mathlib.Core.List.{List, [], _∷_, map}
@@ -15,10 +14,9 @@ use Rattle.calculus.specs.State.{logOf}
 use Rattle.calculus.specs.Run.{Ended}
 use Rattle.calculus.specs.Report.{report}
 use Rattle.noninterference.specs.Observe.{highOf, highPrints, CutEqual, SameReported}
-use Rattle.safety.proofs.Lists.{All, All.all-nil, All.all-cons}
 use Rattle.report.specs.Read.{readReport}
 use Rattle.report.specs.Same.{highPrintsIn, highCellsIn, SaysDone, SameBytes, reportedNumber, writtenLog, writtenReport}
-use Rattle.report.specs.Fits.{shortSize, CellsFew, DomainsFit, byField}
+use Rattle.report.specs.Fits.{shortSize, CellsFew, byField}
 use Rattle.report.proofs.Narrow.{narrowPrint, narrowLeaf, narrowCell, log-read, report-read}
 
 -- The high ones of a list whose domains are read back.
@@ -75,20 +73,4 @@ same-bytes hi E E′ F F′ S =
       prints = rw (prints-read hi E, prints-read hi E′) (cut-map narrowPrint (highPrints (byField hi) E) (highPrints (byField hi) E′) (S .prints));
       result = λ p q. ap (λ r. r .result) (written hi E F) ∙ ap (map narrowLeaf) (S .result (says-done hi E F p) (says-done hi E′ F′ q)) ∙ sym (ap (λ r. r .result) (written hi E′ F′));
       cells = λ p q. cells-read hi E F ∙ ap (map narrowCell) (S .cells (says-done hi E F p) (says-done hi E′ F′ q)) ∙ sym (cells-read hi E′ F′);
-    }
-
--- Where the domains fit their fields, high is high by the field.
-high-field : (hi : Dom → Bool) {A : Type 0} (dom : A → Dom) {x : List A} → All (λ a. dom a < shortSize) x → highOf hi dom x ≡ highOf (byField hi) dom x
-unfolding highOf
-high-field hi dom all-nil = refl
-high-field hi dom (all-cons {x = a} h k) =
-    let e : dom a % shortSize ≡ dom a = mod-eq-of-lt h in
-    rw (e, high-field hi dom k)
-
-pub same-by-field : (hi : Dom → Bool) (E E′ : Ended) → DomainsFit E → DomainsFit E′ → SameReported hi E E′ → SameReported (byField hi) E E′
-same-by-field hi E E′ F F′ S =
-    record {
-      prints = rw (← high-field hi (λ a. a .dom) (F .prints), ← high-field hi (λ a. a .dom) (F′ .prints)) (S .prints);
-      result = S .result;
-      cells = λ p q. sym (high-field hi (λ a. a .dom) (F .cells)) ∙ S .cells p q ∙ high-field hi (λ a. a .dom) (F′ .cells);
     }

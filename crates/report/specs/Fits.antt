@@ -7,7 +7,7 @@ use lib.ListN.{length}
 use Rattle.calculus.specs.declared.Leaf.{Leaf}
 use Rattle.calculus.specs.Limits.{leafLimit, wordSize}
 use Rattle.calculus.specs.Syntax.{Dom}
-use Rattle.calculus.specs.State.{Print, logOf}
+use Rattle.calculus.specs.State.{Print}
 use Rattle.calculus.specs.Run.{Ended}
 use Rattle.calculus.specs.Report.{CellReport, report}
 use Rattle.safety.proofs.Lists.{All}
@@ -40,11 +40,6 @@ pub record CellFits (c : CellReport) : Type 0 where
 -- Of a reported run: every plain cell has at most 8 leaves.
 abbrev pub CellsFew : Ended → Type 0
 CellsFew E = All (λ c. FewLeaves (c .held)) (report E .cells)
-
--- Every domain that it writes fits.
-pub record DomainsFit (E : Ended) : Type 0 where
-  pub prints : All (λ p. p .dom < shortSize) (logOf (E .state .trace))
-  pub cells : All (λ c. c .dom < shortSize) (report E .cells)
 
 -- High by the 2 bytes that a domain is written to.
 abbrev pub byField : (Dom → Bool) → Dom → Bool

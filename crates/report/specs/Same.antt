@@ -10,6 +10,7 @@ use Rattle.calculus.specs.State.{Print, logOf}
 use Rattle.calculus.specs.Run.{Ended}
 use Rattle.calculus.specs.Report.{outcomeNumber, CellReport, Report, report}
 use Rattle.noninterference.specs.Observe.{highOf, CutEqual}
+use Rattle.report.specs.declared.Ending.{Ending}
 use Rattle.report.specs.Written.{logBytes, reportBytes}
 use Rattle.report.specs.Read.{readLog, readReport}
 
@@ -33,10 +34,18 @@ pub record SameBytes (high : Dom → Bool) (log log′ report report′ : List �
   pub result : SaysDone report → SaysDone report′ → readReport report .result ≡ readReport report′ .result
   pub cells : SaysDone report → SaysDone report′ → highCellsIn high report ≡ highCellsIn high report′
 
--- The number of a reported outcome. A stuck run has none of document 01's; no accepted program ends so.
+-- How a run with this outcome ended. A stuck run has none; no accepted program ends so.
+abbrev pub endingOf : Option Outcome → Ending
+endingOf none = Ending.NoOutcome
+endingOf (some o) = Ending.Ended o
+
+-- Its number in a report. No outcome of document 01 has the greatest number of 16 bits.
+abbrev pub endingNumber : Ending → ℕ
+endingNumber Ending.NoOutcome = 65535
+endingNumber (Ending.Ended o) = outcomeNumber o
+
 abbrev pub reportedNumber : Option Outcome → ℕ
-reportedNumber none = 10
-reportedNumber (some o) = outcomeNumber o
+reportedNumber o = endingNumber (endingOf o)
 
 -- The bytes that a run of the calculus writes.
 abbrev pub writtenLog : Ended → List ℕ

@@ -6,6 +6,14 @@ pub mod leaves;
 pub mod numbers;
 
 use calculus::Leaf;
+use calculus::Outcome;
+
+// How a run ended: with one of document 01's outcomes, or with none. A call that is refused makes no run and has none; so
+// has a run that is stuck, which no accepted image's is.
+pub enum Ending {
+    NoOutcome,
+    Ended(Outcome),
+}
 
 // A leaf of a result; eight of these stand beside a count.
 pub struct Slot {

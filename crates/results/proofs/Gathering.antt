@@ -5,7 +5,7 @@ use mathlib.Core.Path.{_≡_, refl, sym, ap, ap₂, _∙_}
 use mathlib.Core.Bool.{Bool, true, false, not}
 use mathlib.Core.List.{List, [], _∷_, _++_, map, map-append, append-nil}
 use lib.ListN.{length, set, take, replicate, length-append, length-map, length-take}
-use lib.Seq.{take-all, take-at, take-take, take-append-le, append-snoc}
+use lib.Seq.{take-all, take-append-le, append-snoc}
 use lib.Dec.{eqb, ltb}
 use borrow.Author.Tests.{lt-ltb, le-ltb, ltb-true, ltb-false, ne-eqb}
 use Rattle.calculus.specs.declared.Leaf.{Leaf}
@@ -16,6 +16,7 @@ use Rattle.values.proofs.Chosen.{tagged-yes, tagged-no}
 use Rattle.flat.specs.Memory.{Memory, pieceFirst, pieceSecond, pieceOf}
 use Rattle.flat.specs.Leaves.{leafOf, oneLeaf, leavesOf}
 use Rattle.calls.specs.Calls.{slotOf, slotsOf}
+use Rattle.calls.proofs.Slots.{leaves-back}
 use Rattle.results.specs.declared.Gathered.{Gathered}
 use Rattle.results.specs.Gathered.{withLeaf, withLeaves, gathered}
 use Rattle.results.specs.Ended.{plainLeavesIn}
@@ -134,15 +135,6 @@ pub from-none : (M : Memory) (w : ℕ) {g r : Gathered} → g ≡ gathered [] �
 from-none M w a b = b ∙ ap (λ g. withLeaves g (leavesOf M 8 w)) a ∙ first-leaves [] (leavesOf M 8 w)
 
 -- The leaves in slots are those gathered.
-leaves-of-slots : (x : List Leaf) → map (λ s. s .leaf) (map slotOf x) ≡ x
-leaves-of-slots [] = refl
-leaves-of-slots (l ∷ x) = ap (l ∷_) (leaves-of-slots x)
-
-leaves-back : (x : List Leaf) → length x ≤ 8 → leavesIn (length x) (slotsOf x) ≡ x
-leaves-back x h =
-    ap (map (λ s. s .leaf)) (take-take (length x) 8 (map slotOf x ++ replicate 8 (slotOf Leaf.Unit)) h ∙ take-at (map slotOf x) (replicate 8 (slotOf Leaf.Unit)) (length x) (length-map x slotOf))
-    ∙ leaves-of-slots x
-
 pub gathered-leaves : {g : Gathered} (x : List Leaf) → g ≡ gathered x → length x ≤ 8 → leavesIn (g .count) (g .slots) ≡ x
 gathered-leaves x e h = ap (λ g. leavesIn (g .count) (g .slots)) e ∙ leaves-back x h
 

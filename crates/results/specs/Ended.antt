@@ -1,6 +1,6 @@
 -- What the machine's registers and tables say of a run that ended (document 01, "A run"): outcome, steps, the result's leaves, and each cell.
-use Prim.Native.Nat.{ℕ, zero, suc, _+_, _-_, _%_}
-use mathlib.Core.List.{List, [], _∷_, _++_}
+use Prim.Native.Nat.{ℕ, zero, suc, _-_, _%_}
+use mathlib.Core.List.{List, [], _∷_}
 use mathlib.Core.Option.{none, some}
 use lib.ListN.{length, take}
 use lib.Dec.{eqb, leb}
@@ -10,11 +10,12 @@ use Rattle.calculus.specs.Combinators.{choose}
 use Rattle.calculus.specs.Limits.{leafLimit}
 use Rattle.calculus.specs.Report.{outcomeNumber, CellReport}
 use Rattle.verdicts.specs.declared.Verdict.{Verdict}
-use Rattle.report.specs.Written.{leafBytes, cellsBytes, reportBytes}
+use Rattle.report.specs.declared.Ending.{Ending}
+use Rattle.report.specs.Written.{reportBytes}
 use Rattle.flat.specs.declared.Regs.{Regs}
 use Rattle.flat.specs.Registers.{haltedMode}
 use Rattle.flat.specs.Memory.{Memory, cellAt, cellNote}
-use Rattle.flat.specs.Leaves.{leafOf, leavesOf}
+use Rattle.flat.specs.Leaves.{leavesOf}
 use Rattle.calls.specs.declared.Answer.{Answer}
 use Rattle.calls.specs.Calls.{slotsOf}
 
@@ -65,26 +66,10 @@ abbrev pub answerIn : Memory → Regs → ℕ → Answer
 answerIn M r budget =
     record {
       verdict = Verdict.Accepted;
-      outcome = haltedWith r;
+      ending = Ending.Ended (haltedWith r);
       steps = budget - r .left;
       log = r .at;
       report = length (reportIn M r budget);
       count = length (resultIn M r);
       leaves = slotsOf (resultIn M r);
-    }
-
--- Of a run that is done and whose result is one leaf: what stands in the report past its head of 10 bytes, and the answer.
-abbrev pub oneLeafIn : Memory → Regs → List ℕ
-oneLeafIn M r = leafBytes (leafOf (r .c)) ++ cellsBytes (cellsIn M r)
-
-abbrev pub oneLeafAnswer : Memory → Regs → ℕ → Answer
-oneLeafAnswer M r steps =
-    record {
-      verdict = Verdict.Accepted;
-      outcome = Outcome.Done;
-      steps = steps;
-      log = r .at;
-      report = 10 + length (oneLeafIn M r);
-      count = 1;
-      leaves = slotsOf (leafOf (r .c) ∷ []);
     }

@@ -5,7 +5,7 @@ use mathlib.Core.Bool.{Bool, true, false}
 use mathlib.Core.List.{List, _∷_}
 use Rattle.image.specs.Tests.{all}
 use Rattle.verdicts.specs.Check.{fitsAt}
-use Rattle.rules.specs.Scalars.{judged}
+use Rattle.rules.specs.Judged.{judged}
 use Rattle.rules.proofs.Small.{holds-first, fails-first, mistyped}
 
 -- One more test in front: the others need agree only where it holds.

@@ -13,7 +13,7 @@ use Rattle.image.proofs.TypeNumbers.{type-kind}
 use Rattle.records.specs.Keys.{keyField0, keyField1, keyField2, fieldOr0, Key}
 use Rattle.records.proofs.Keys.{has-field}
 use Rattle.rules.specs.Lent.{Types}
-use Rattle.rules.specs.Scalars.{keyIs}
+use Rattle.rules.specs.Judged.{keyIs}
 
 -- The kind of type t is the kind of the key x; where t is of a kind, the fields of that kind are those of x.
 pub record Says (L : Layout) (t x : ℕ) : Type 0 where

@@ -1,13 +1,11 @@
--- Laws of the rules on numbers, and that they are the rules of the definition.
+-- Laws of the rules on keys and masks, and that they are the rules of the definition; what the fields of a term hold.
 pub mod Small
 pub mod Alike
 pub mod Keys
-pub mod Leaf
-pub mod Unary
-pub mod Binary
 pub mod Lists
 pub mod Masks
-pub mod Located
-pub mod LabelRule
 pub mod Scopes
+pub mod Elimination
+pub mod Located
+pub mod ByKind
 pub mod Verdict

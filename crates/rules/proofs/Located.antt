@@ -1,47 +1,58 @@
--- What stands in the image at the offsets of a table of terms.
-use Prim.Native.Nat.{ℕ, _+_, _-_, _*_, _≤_, _<_}
+-- What stands in the image at the offsets of a table of terms: the fields of a term, as the part of the image that they occupy.
+use Prim.Native.Nat.{ℕ, zero, suc, _+_, _-_, _*_, _≤_, _<_}
 use native.Mathlib.Omega.{arith}
-use mathlib.Core.Path.{_≡_, sym, ap, subst, _∙_}
+use mathlib.Core.Path.{_≡_, refl, sym, ap, subst, _∙_}
+use mathlib.Core.Bool.{Bool, true, false}
 use mathlib.Core.List.{List}
-use lib.ListN.{length, getD}
-use lib.Dec.{lit≤}
-use Rattle.image.specs.Bytes.{le16, lengthAt, numberAt, fieldCount, fieldAt}
-use Rattle.image.specs.Kinds.{TermKind, term, termRow}
+use lib.ListN.{length, getD, take, drop, length-take, length-drop}
+use lib.Dec.{eqb, lit≤}
+use Rattle.image.specs.Bytes.{le16, words, lengthAt, numberAt, fieldCount, fieldAt}
+use Rattle.image.specs.Kinds.{TermKind, termRow}
 use Rattle.image.specs.Layout.{laid, layout, recordsOf, childrenAt}
 use Rattle.image.specs.Types.{termPlace, termKind, typeNo, others, children}
-use Rattle.image.proofs.Words.{words-length, words-at}
+use Rattle.image.proofs.Facts.{eq-of}
+use Rattle.image.proofs.Words.{words-at, le16-part}
+use Rattle.image.proofs.KindNumbers.{same-term-kind}
 use Rattle.image.proofs.Laid.{TermOk, below-at, Good, layout-good, image-kept}
-use Rattle.verdicts.specs.Check.{typeNos}
-use Rattle.records.specs.Codes.{countOf, codeAt}
-use Rattle.records.proofs.Codes.{known-code}
-use Rattle.rules.specs.Lent.{Terms, IsTerm, IsChild, leadOf}
-use Rattle.rules.proofs.Lists.{map-at, table-long, table-at}
+use Rattle.rules.specs.Lent.{Terms, IsTerm}
+use Rattle.rules.specs.Fields.{fieldsOf, fieldIn, leadOf, countIn, othersIn, childrenIn, Typed, Behind, Labels}
+use Rattle.rules.proofs.Lists.{table-long, table-at}
 
--- Every term has a type.
-typed-first : (k : TermKind) → 1 ≤ length (termRow k .fields)
-typed-first TermKind.unit = lit≤ tt
-typed-first TermKind.truth = lit≤ tt
-typed-first TermKind.number = lit≤ tt
-typed-first TermKind.var = lit≤ tt
-typed-first TermKind.seq = lit≤ tt
-typed-first TermKind.print = lit≤ tt
-typed-first TermKind.ite = lit≤ tt
-typed-first TermKind.pair = lit≤ tt
-typed-first TermKind.split = lit≤ tt
-typed-first TermKind.fun = lit≤ tt
-typed-first TermKind.app = lit≤ tt
-typed-first TermKind.arith = lit≤ tt
-typed-first TermKind.newLabel = lit≤ tt
-typed-first TermKind.mark = lit≤ tt
-typed-first TermKind.pcd = lit≤ tt
-typed-first TermKind.adv = lit≤ tt
-typed-first TermKind.install = lit≤ tt
-typed-first TermKind.newCell = lit≤ tt
-typed-first TermKind.read = lit≤ tt
-typed-first TermKind.store = lit≤ tt
-typed-first TermKind.lower = lit≤ tt
-typed-first TermKind.abort = lit≤ tt
-typed-first TermKind.byte = lit≤ tt
+-- Numbers in a part of the image, n bytes from a on, are the numbers in the image.
+words-part : (b : List ℕ) (a n i m : ℕ) → i + 2 * m ≤ n → words (take n (drop a b)) i m ≡ words b (a + i) m
+unfolding words
+words-part b a n i zero h = refl
+words-part b a n i (suc m) h =
+    let x = le16-part b a n i (omega arith) in
+    let e : a + (i + 2) ≡ a + i + 2 = omega arith in
+    let y : words (take n (drop a b)) (i + 2) m ≡ words b (a + i + 2) m = words-part b a n (i + 2) m (omega arith) ∙ ap (λ j. words b j m) e in
+    cc
+
+-- Every term has a type, and a number from 32 on.
+every-term : (k : TermKind) → (1 ≤ leadOf k) × (32 ≤ termRow k .number)
+every-term TermKind.unit = (lit≤ tt, lit≤ tt)
+every-term TermKind.truth = (lit≤ tt, lit≤ tt)
+every-term TermKind.number = (lit≤ tt, lit≤ tt)
+every-term TermKind.var = (lit≤ tt, lit≤ tt)
+every-term TermKind.seq = (lit≤ tt, lit≤ tt)
+every-term TermKind.print = (lit≤ tt, lit≤ tt)
+every-term TermKind.ite = (lit≤ tt, lit≤ tt)
+every-term TermKind.pair = (lit≤ tt, lit≤ tt)
+every-term TermKind.split = (lit≤ tt, lit≤ tt)
+every-term TermKind.fun = (lit≤ tt, lit≤ tt)
+every-term TermKind.app = (lit≤ tt, lit≤ tt)
+every-term TermKind.arith = (lit≤ tt, lit≤ tt)
+every-term TermKind.newLabel = (lit≤ tt, lit≤ tt)
+every-term TermKind.mark = (lit≤ tt, lit≤ tt)
+every-term TermKind.pcd = (lit≤ tt, lit≤ tt)
+every-term TermKind.adv = (lit≤ tt, lit≤ tt)
+every-term TermKind.install = (lit≤ tt, lit≤ tt)
+every-term TermKind.newCell = (lit≤ tt, lit≤ tt)
+every-term TermKind.read = (lit≤ tt, lit≤ tt)
+every-term TermKind.store = (lit≤ tt, lit≤ tt)
+every-term TermKind.lower = (lit≤ tt, lit≤ tt)
+every-term TermKind.abort = (lit≤ tt, lit≤ tt)
+every-term TermKind.byte = (lit≤ tt, lit≤ tt)
 
 module _ (b : List ℕ) (laid-out : layout b ≡ laid (recordsOf b)) where
   pub good-of : Good (recordsOf b)
@@ -50,8 +61,8 @@ module _ (b : List ℕ) (laid-out : layout b ≡ laid (recordsOf b)) where
   pub image-is : recordsOf b .image ≡ b
   image-is = image-kept b (recordsOf b) laid-out
 
-module _ (b table : List ℕ) (T : Terms b table) (n : ℕ) (h : IsTerm b n) where
-  pub term-ok : TermOk b (length (recordsOf b .domains)) (length (recordsOf b .types)) (termKind (recordsOf b) n) n (termPlace (recordsOf b) n)
+module _ {b table : List ℕ} (T : Terms b table) {n : ℕ} (h : IsTerm b n) where
+  term-ok : TermOk b (length (recordsOf b .domains)) (length (recordsOf b .types)) (termKind (recordsOf b) n) n (termPlace (recordsOf b) n)
   term-ok =
       subst (λ i. TermOk i (length (recordsOf b .domains)) (length (recordsOf b .types)) (termKind (recordsOf b) n) n (termPlace (recordsOf b) n))
       (image-is b (T .laid-out)) (good-of b (T .laid-out) .terms n h)
@@ -62,54 +73,121 @@ module _ (b table : List ℕ) (T : Terms b table) (n : ℕ) (h : IsTerm b n) whe
   pub place-is : getD table n 0 ≡ termPlace (recordsOf b) n
   place-is = table-at table (recordsOf b .terms) (T .offsets) n h
 
+  -- The kind that its number tells.
+  pub number-is : numberAt b (termPlace (recordsOf b) n) ≡ termRow (termKind (recordsOf b) n) .number
+  number-is = term-ok .stands .number
+
+  pub kind-is : (k : TermKind) → numberAt b (termPlace (recordsOf b) n) ≡ termRow k .number → termKind (recordsOf b) n ≡ k
+  kind-is k e = same-term-kind (termKind (recordsOf b) n) k (sym number-is ∙ e)
+
+  pub number-from : 32 ≤ numberAt b (termPlace (recordsOf b) n)
+  number-from = rw number-is (every-term (termKind (recordsOf b) n) .1)
+
   -- The record is whole, and as long as its fields and children ask.
   pub inside : termPlace (recordsOf b) n + lengthAt b (termPlace (recordsOf b) n) ≤ length b
   inside = term-ok .stands .inside
 
-  pub children-is : children (recordsOf b) n ≡ childrenAt b (termPlace (recordsOf b) n) (termRow (termKind (recordsOf b) n))
+  children-is : children (recordsOf b) n ≡ childrenAt b (termPlace (recordsOf b) n) (termRow (termKind (recordsOf b) n))
   children-is = ap (λ i. childrenAt i (termPlace (recordsOf b) n) (termRow (termKind (recordsOf b) n))) (image-is b (T .laid-out))
 
-  pub size : lengthAt b (termPlace (recordsOf b) n) ≡ 4 + 2 * (leadOf b n + length (children (recordsOf b) n))
+  size : lengthAt b (termPlace (recordsOf b) n) ≡ 4 + 2 * (leadOf (termKind (recordsOf b) n) + length (children (recordsOf b) n))
   size = rw children-is (term-ok .stands .size)
 
-  pub has-type : 1 ≤ leadOf b n
-  has-type = typed-first (termKind (recordsOf b) n)
-
-  pub type-is : typeNo (recordsOf b) n ≡ fieldAt b (termPlace (recordsOf b) n) 0
-  type-is = ap (λ i. fieldAt i (termPlace (recordsOf b) n) 0) (image-is b (T .laid-out))
-
-  pub lead-is : countOf (codeAt (numberAt b (termPlace (recordsOf b) n))) ≡ leadOf b n
-  lead-is = known-code (numberAt b (termPlace (recordsOf b) n)) (term (termKind (recordsOf b) n)) (term-ok .kind) .count
-
-  -- Behind k fields stands child k - lead, inside the image; a child's number is lower.
-  pub child-room : (k : ℕ) → IsChild b n k → termPlace (recordsOf b) n + 4 + 2 * k + 1 < length b
-  child-room k l =
-      let i = inside in
+  pub long-enough : 6 ≤ lengthAt b (termPlace (recordsOf b) n)
+  long-enough =
       let s = size in
-      let p = l .1 in
+      let t = every-term (termKind (recordsOf b) n) .0 in
       omega arith
 
-  pub child-is : (k : ℕ) → IsChild b n k → fieldAt b (termPlace (recordsOf b) n) k ≡ getD (children (recordsOf b) n) (k - leadOf b n) 0
-  child-is k l =
-      let d : ℕ = leadOf b n in
+  fields-length : length (fieldsOf b n) ≡ 2 * (leadOf (termKind (recordsOf b) n) + length (children (recordsOf b) n))
+  fields-length =
       let o : ℕ = termPlace (recordsOf b) n in
-      let p : d ≤ k = l .0 in
-      let q : k < d + length (children (recordsOf b) n) = l .1 in
-      let z : length (children (recordsOf b) n) ≡ fieldCount b o - d = ap length children-is ∙ words-length b (o + 4 + 2 * d) (fieldCount b o - d) in
-      let e : o + 4 + 2 * k ≡ o + 4 + 2 * d + 2 * (k - d) = omega arith in
-      ap (λ j. le16 b j) e ∙ sym (words-at b (o + 4 + 2 * d) (fieldCount b o - d) (k - d) (omega arith)) ∙ ap (λ es. getD es (k - d) 0) (sym children-is)
+      let s = size in
+      let i = inside in
+      omega (arith, length-take (lengthAt b o - 4) (drop (o + 4) b), length-drop (o + 4) b)
 
-  pub child-lower : (i : ℕ) → i < length (children (recordsOf b) n) → getD (children (recordsOf b) n) i 0 < n
-  child-lower i l =
-      rw children-is (below-at n (childrenAt b (termPlace (recordsOf b) n) (termRow (termKind (recordsOf b) n))) i (term-ok .below) (rw children-is at l))
-
-  pub child-type-is : (i : ℕ) → i < length (children (recordsOf b) n) → getD (typeNos (recordsOf b) (children (recordsOf b) n)) i 0 ≡ typeNo (recordsOf b) (getD (children (recordsOf b) n) i 0)
-  child-type-is i l = map-at (λ e. typeNo (recordsOf b) e) (children (recordsOf b) n) i 0 0 l
-
-  -- The field behind the type, where it is no child.
-  pub other-is : 1 < leadOf b n → getD (others (recordsOf b) n) 0 0 ≡ fieldAt b (termPlace (recordsOf b) n) 1
-  other-is l =
+  field-is : (i : ℕ) → 2 * i + 1 < length (fieldsOf b n) → fieldIn (fieldsOf b n) i ≡ fieldAt b (termPlace (recordsOf b) n) i
+  field-is i l =
       let o : ℕ = termPlace (recordsOf b) n in
-      let k : ℕ = leadOf b n in
-      let e : o + 4 + 2 * 1 + 2 * 0 ≡ o + 4 + 2 * 1 = omega arith in
-      words-at (recordsOf b .image) (o + 4 + 2 * 1) (k - 1) 0 (omega arith) ∙ ap (λ i. le16 i (o + 4 + 2 * 1 + 2 * 0)) (image-is b (T .laid-out)) ∙ ap (λ j. le16 b j) e
+      let s = size in
+      let m = fields-length in
+      le16-part b (o + 4) (lengthAt b o - 4) (2 * i) (omega arith)
+
+  -- Its type.
+  pub typed-in : Typed b (fieldsOf b n)
+  typed-in =
+      let m = fields-length in
+      let t = every-term (termKind (recordsOf b) n) .0 in
+      let l : 1 < length (fieldsOf b n) = omega arith in
+      record { long = l; type = rw (field-is 0 l) (term-ok .typed) }
+
+  pub type-in : fieldIn (fieldsOf b n) 0 ≡ typeNo (recordsOf b) n
+  type-in = field-is 0 (typed-in .long) ∙ ap (λ i. fieldAt i (termPlace (recordsOf b) n) 0) (sym (image-is b (T .laid-out)))
+
+  module _ {k : TermKind} (e : termKind (recordsOf b) n ≡ k) where
+    size-of : length (fieldsOf b n) ≡ 2 * (leadOf k + length (children (recordsOf b) n))
+    size-of = fields-length ∙ ap (λ j. 2 * (leadOf j + length (children (recordsOf b) n))) e
+
+    -- Behind the type there may be one more field.
+    pub second-in : leadOf k ≡ 2 → 3 < length (fieldsOf b n)
+    second-in l = let s = size-of in omega arith
+
+    -- Its children are as many as the kind has, or as the part holds.
+    pub count-is : countIn (fieldsOf b n) k ≡ length (children (recordsOf b) n)
+    count-is = go (eqb (termRow k .least) (termRow k .most)) refl
+      where
+        least : termRow k .least ≤ length (children (recordsOf b) n)
+        least = subst (λ j. termRow j .least ≤ length (children (recordsOf b) n)) e (rw children-is (term-ok .stands .least))
+
+        most : length (children (recordsOf b) n) ≤ termRow k .most
+        most = subst (λ j. length (children (recordsOf b) n) ≤ termRow j .most) e (rw children-is (term-ok .stands .most))
+
+        go : (x : Bool) → eqb (termRow k .least) (termRow k .most) ≡ x → countIn (fieldsOf b n) k ≡ length (children (recordsOf b) n)
+        go true q = let z : termRow k .least ≡ termRow k .most = eq-of q in rw q (omega (arith, least, most))
+        go false q = rw q (omega (arith, size-of))
+
+    pub children-in : childrenIn (fieldsOf b n) k ≡ children (recordsOf b) n
+    children-in =
+        let o : ℕ = termPlace (recordsOf b) n in
+        let s = size-of in
+        let c = count-is in
+        let m = fields-length in
+        let r = size in
+        let z : length (children (recordsOf b) n) ≡ fieldCount b o - leadOf k = omega arith in
+        words-part b (o + 4) (lengthAt b o - 4) (2 * leadOf k) (countIn (fieldsOf b n) k) (omega arith)
+        ∙ ap (λ j. words b (o + 4 + 2 * leadOf k) j) (c ∙ z)
+        ∙ ap (λ j. childrenAt b o (termRow j)) (sym e)
+        ∙ sym children-is
+
+    pub others-in : othersIn (fieldsOf b n) k ≡ others (recordsOf b) n
+    others-in =
+        let o : ℕ = termPlace (recordsOf b) n in
+        let s = size-of in
+        let r = size in
+        let m = fields-length in
+        let t = every-term k .0 in
+        words-part b (o + 4) (lengthAt b o - 4) 2 (leadOf k - 1) (omega arith)
+        ∙ ap (λ i. words i (o + 4 + 2) (leadOf k - 1)) (sym (image-is b (T .laid-out)))
+        ∙ ap (λ j. words (recordsOf b .image) (o + 4 + 2) (leadOf j - 1)) (sym e)
+
+    -- A child stands behind the fields and the children before it, with a lower number.
+    pub child-in : (i : ℕ) → i < countIn (fieldsOf b n) k → fieldIn (fieldsOf b n) (leadOf k + i) ≡ getD (children (recordsOf b) n) i 0
+    child-in i l =
+        let q : 2 * leadOf k + 2 * i ≡ 2 * (leadOf k + i) = omega arith in
+        ap (le16 (fieldsOf b n)) (sym q) ∙ sym (words-at (fieldsOf b n) (2 * leadOf k) (countIn (fieldsOf b n) k) i l) ∙ ap (λ es. getD es i 0) children-in
+
+    pub child-lower : (i : ℕ) → i < countIn (fieldsOf b n) k → getD (children (recordsOf b) n) i 0 < n
+    child-lower i l =
+        let c = count-is in
+        let m : i < length (children (recordsOf b) n) = omega arith in
+        rw children-is (below-at n (childrenAt b (termPlace (recordsOf b) n) (termRow (termKind (recordsOf b) n))) i (term-ok .below) (rw children-is at m))
+
+    pub behind-in : (i : ℕ) → i < countIn (fieldsOf b n) k → Behind b (fieldsOf b n) (leadOf k + i)
+    behind-in i l =
+        let s = size-of in
+        let c = count-is in
+        let z = child-lower i l in
+        record { long = omega arith; term = rw (child-in i l) (omega arith) }
+
+  pub labels-in : termKind (recordsOf b) n ≡ TermKind.pcd → Labels b (fieldsOf b n)
+  labels-in e = record { long = typed-in .long; each = λ i l. behind-in e i l }

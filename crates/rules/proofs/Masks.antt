@@ -1,5 +1,5 @@
 -- Bits of the masks are the order of the domains.
-use Prim.Native.Nat.{ℕ, zero, suc, _+_, _/_, _%_, _^_, _≤_, _<_}
+use Prim.Native.Nat.{ℕ, zero, suc, _+_, _-_, _/_, _%_, _^_, _≤_, _<_}
 use native.Mathlib.Omega.{arith}
 use native.Mathlib.Nat.{div-div-eq-div-mul, pow-succ', div-one}
 use mathlib.Core.Path.{_≡_, refl, sym, ap, subst, _∙_}
@@ -8,15 +8,17 @@ use mathlib.Core.List.{List, [], _∷_, map}
 use lib.ListN.{length, getD, List·getD-eq-default}
 use lib.Dec.{eqb, ltb}
 use Rattle.image.specs.Limits.{domainLimit}
-use Rattle.image.specs.Bytes.{fieldAt}
+use Rattle.image.specs.Bytes.{le16, lengthAt, fieldAt}
 use Rattle.image.specs.Kinds.{domainRow}
 use Rattle.image.specs.Layout.{recordsOf}
 use Rattle.image.specs.Types.{domainPlace}
 use Rattle.image.proofs.Facts.{lt-of, ge-of}
+use Rattle.image.proofs.Words.{le16-part}
 use Rattle.image.proofs.Laid.{Stands, layout-good, image-kept}
 use Rattle.verdicts.specs.Order.{bits, masks, order, leq}
+use Rattle.records.specs.Heads.{fieldBytes}
 use Rattle.rules.specs.Lent.{Domains, Masks}
-use Rattle.rules.specs.Scalars.{bitOf}
+use Rattle.rules.specs.Judged.{bitOf}
 use Rattle.rules.proofs.Lists.{map-at, table-long, table-at}
 
 bits-at : (n m q : ℕ) → q < n → getD (bits n m) q false ≡ eqb (m / 2 ^ q % 2) 1
@@ -57,8 +59,8 @@ order-is b table M d q = row-at (masks (recordsOf b)) d q ∙ sym (ap (λ m. get
         let z : getD table d 0 ≡ 0 = List·getD-eq-default table 0 {n = d} (omega (arith, M .sixteen)) in
         rw (e, z) (bits-zero domainLimit q)
 
--- What stands in the image at the offsets of a table of domains.
-module _ (b table : List ℕ) (D : Domains b table) (d : ℕ) (h : d < length (recordsOf b .domains)) where
+-- What stands in the image at the offsets of a table of domains: the mask is the first field.
+module _ {b table : List ℕ} (D : Domains b table) {d : ℕ} (h : d < length (recordsOf b .domains)) where
   pub domain-in-table : d < length table
   domain-in-table = let z = table-long table (recordsOf b .domains) (D .offsets) in omega arith
 
@@ -68,10 +70,16 @@ module _ (b table : List ℕ) (D : Domains b table) (d : ℕ) (h : d < length (r
   domain-stands : Stands b domainRow (domainPlace (recordsOf b) d)
   domain-stands = subst (λ i. Stands i domainRow (domainPlace (recordsOf b) d)) (image-kept b (recordsOf b) (D .laid-out)) (layout-good b (recordsOf b) (D .laid-out) .domains d h)
 
-  pub domain-inside : domainPlace (recordsOf b) d + 5 < length b
-  domain-inside = let s = domain-stands in let i = s .inside in let z = s .size in omega arith
+  pub domain-inside : domainPlace (recordsOf b) d + lengthAt b (domainPlace (recordsOf b) d) ≤ length b
+  domain-inside = domain-stands .inside
 
-  pub mask-is : fieldAt b (domainPlace (recordsOf b) d) 0 ≡ getD (masks (recordsOf b)) d 0
+  pub domain-long : 6 ≤ lengthAt b (domainPlace (recordsOf b) d)
+  domain-long = let z = domain-stands .size in omega arith
+
+  pub mask-is : le16 (fieldBytes b (domainPlace (recordsOf b) d) (lengthAt b (domainPlace (recordsOf b) d))) 0 ≡ getD (masks (recordsOf b)) d 0
   mask-is =
-      sym (ap (λ i. fieldAt i (domainPlace (recordsOf b) d) 0) (image-kept b (recordsOf b) (D .laid-out)))
+      let o : ℕ = domainPlace (recordsOf b) d in
+      let l = domain-long in
+      le16-part b (o + 4) (lengthAt b o - 4) 0 (omega arith)
+      ∙ sym (ap (λ i. fieldAt i o 0) (image-kept b (recordsOf b) (D .laid-out)))
       ∙ sym (map-at (λ o. fieldAt (recordsOf b .image) o 0) (recordsOf b .domains) d 0 0 h)

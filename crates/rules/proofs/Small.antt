@@ -7,7 +7,7 @@ use Rattle.image.specs.declared.Refusal.{Refusal}
 use Rattle.image.specs.Tests.{all, firstFault}
 use Rattle.image.proofs.Facts.{no-path}
 use Rattle.verdicts.specs.declared.Verdict.{Verdict}
-use Rattle.rules.specs.Scalars.{judged}
+use Rattle.rules.specs.Judged.{judged}
 
 -- Tests in a row: of one alone, of one that holds before others, and of one that fails.
 pub alone : (a : Bool) → all (a ∷ []) ≡ a

@@ -1,18 +1,14 @@
 -- What the functions of this crate are lent: the offsets of the domains and the terms, the keys of the types and the masks of the domains of an image that is laid out, each in a table of its own; and the context of variables, in the first places of a scope (document 01, "The image": "variable k (0 the innermost)"; "Typing": "outer variables stay visible").
-use Prim.Native.Nat.{ℕ, zero, suc, _+_, _≤_, _<_}
+use Prim.Native.Nat.{ℕ, zero, suc, _≤_, _<_}
 use mathlib.Core.Path.{_≡_}
 use mathlib.Core.List.{List, [], _∷_}
 use lib.ListN.{length, getD, take}
 use Rattle.calculus.specs.Syntax.{Dom}
 use Rattle.image.specs.Limits.{domainLimit}
-use Rattle.image.specs.Bytes.{numberAt}
-use Rattle.image.specs.Kinds.{TermKind, termRow}
 use Rattle.image.specs.Layout.{laid, layout, recordsOf}
-use Rattle.image.specs.Types.{typePlace, termPlace, children}
+use Rattle.image.specs.Types.{typePlace}
 use Rattle.verdicts.specs.Order.{masks}
 use Rattle.verdicts.specs.Settings.{Setting}
-use Rattle.verdicts.specs.Check.{typeNos}
-use Rattle.records.specs.Heads.{firstChild}
 use Rattle.records.specs.Keys.{Key}
 
 pub record Domains (b table : List ℕ) : Type 0 where
@@ -45,17 +41,6 @@ IsTerm b n = n < length (recordsOf b .terms)
 abbrev pub IsType : List ℕ → ℕ → Type 0
 IsType b t = t < length (recordsOf b .types)
 
--- How many fields stand before the children of term n; behind k fields stands one of them.
-abbrev pub leadOf : List ℕ → ℕ → ℕ
-leadOf b n = firstChild (recordsOf b .image) (termPlace (recordsOf b) n)
-
-abbrev pub IsChild : List ℕ → ℕ → ℕ → Type 0
-IsChild b n k = (leadOf b n ≤ k) × (k < leadOf b n + length (children (recordsOf b) n))
-
--- The types that the children of term n state.
-abbrev pub childTypes : List ℕ → ℕ → List ℕ
-childTypes b n = typeNos (recordsOf b) (children (recordsOf b) n)
-
 -- The types of the variables, innermost first: they stand in the first places of a scope, the innermost last.
 unfoldable pub contextIn : List ℕ → ℕ → List ℕ
 contextIn scope zero = []
@@ -63,8 +48,3 @@ contextIn scope (suc n) = getD scope n 0 ∷ contextIn scope n
 
 abbrev pub settingIn : List ℕ → ℕ → Dom → Setting ℕ
 settingIn scope n c = record { context = contextIn scope n; dom = c }
-
--- Term n is of a kind with a fixed number of children that is no variable: neither 35 nor 46.
-pub record Fixed (b : List ℕ) (n : ℕ) : Type 0 where
-  pub no-variable : numberAt b (termPlace (recordsOf b) n) ≡ termRow TermKind.var .number → ⊥
-  pub no-pointcut : numberAt b (termPlace (recordsOf b) n) ≡ termRow TermKind.pcd .number → ⊥

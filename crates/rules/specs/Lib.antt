@@ -1,3 +1,4 @@
--- What the functions of this crate are lent, and the rules of terms on the numbers that they read (document 01, "Typing").
+-- What the functions of this crate are lent, the fields of a term and its rule on them, and what a rule comes to (document 01, "Typing").
 pub mod Lent
-pub mod Scalars
+pub mod Fields
+pub mod Judged

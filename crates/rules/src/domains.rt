@@ -2,13 +2,13 @@
 use records::numbers::DomainNo;
 ghost use mathlib.Core.Path.{_≡_};
 ghost use Prim.Native.Nat.{_<_, _/_, _%_, _^_};
-ghost use lib.ListN.{length, getD, replicate};
+ghost use lib.ListN.{length, getD, set, replicate};
 ghost use lib.Dec.{eqb};
 ghost use Rattle.image.specs.Limits.{domainLimit};
 ghost use Rattle.image.specs.Layout.{recordsOf};
 ghost use Rattle.verdicts.specs.Order.{masks};
 ghost use Rattle.rules.specs.Lent.{Domains, Masks};
-ghost use Rattle.rules.specs.Scalars.{bitOf};
+ghost use Rattle.rules.specs.Judged.{bitOf};
 
 // Bit q of a mask.
 fn bit(mask: u16, q: u16) -> bool
@@ -18,36 +18,53 @@ fn bit(mask: u16, q: u16) -> bool
     (mask >> q) % 2 == 1
 }
 
+// The mask of a domain in the table.
+fn mask_at(masks: &[u16; 16], d: DomainNo) -> u16
+    requires { ⌜ d .0 < domainLimit ⌝ }
+    ensures { λ r. ⌜ r ≡ getD (now (masks .entry)) (d .0) 0 ⌝ }
+{
+    masks[d.0 as usize]
+}
+
 // d ≤ q.
-pub fn leq(masks: &[u16], d: DomainNo, q: DomainNo) -> bool
-    requires { ⌜ length (now masks) ≡ domainLimit ⌝ }
+pub fn leq(masks: &[u16; 16], d: DomainNo, q: DomainNo) -> bool
     ensures { λ r. ⌜ r ≡ bitOf (now (masks .entry)) (d .0) (q .0) ⌝ }
 {
     if d.0 < 16 {
         if q.0 < 16 {
-            return bit(masks[d.0 as usize], q.0);
+            return bit(mask_at(masks, d), q.0);
         }
     }
     false
 }
 
-// The mask of a domain, which its record says.
+// The mask of a domain, which its record says: its one field.
 fn mask_of(image: &[u8], doms: &[u16], d: DomainNo) -> u16
     requires { ⌜ Domains (now image) (now doms) × (d .0 < length (recordsOf (now image) .domains)) ⌝ }
     ensures { λ r. ⌜ r ≡ getD (masks (recordsOf (now (image .entry)))) (d .0) 0 ⌝ }
 {
-    records::words::field_at(image, records::numbers::domain_offset(doms, d), 0)
+    let at = records::numbers::domain_offset(doms, d);
+    let len = records::words::word(image, at) as usize;
+    records::words::word(records::reader::fields_from(image, at, len), 0)
+}
+
+fn set_mask(table: &mut [u16; 16], d: DomainNo, mask: u16)
+    requires { ⌜ d .0 < domainLimit ⌝ }
+    ensures { λ _. ⌜ now (table .exit) ≡ set (now (table .entry)) (d .0) mask ⌝ }
+{
+    table[d.0 as usize] = mask;
 }
 
 // Fills the table, which is 0 everywhere, with the masks of the domains.
-pub fn set_masks(image: &[u8], doms: &[u16], count: usize, table: &mut [u16])
+pub fn set_masks(image: &[u8], doms: &[u16], count: usize, table: &mut [u16; 16])
     requires { ⌜ Domains (now image) (now doms) × (count ≡ length (recordsOf (now image) .domains)) × (now table ≡ replicate domainLimit 0) ⌝ }
     ensures { λ _. ⌜ Masks (now (image .entry)) (now (table .exit)) ⌝ }
 {
-    let mut d: usize = 0;
-    while d < count {
-        let mask = mask_of(image, doms, DomainNo(d as u16));
-        table[d] = mask;
-        d += 1;
+    let mut i: usize = 0;
+    while i < count {
+        let d = DomainNo(i as u16);
+        let mask = mask_of(image, doms, d);
+        set_mask(table, d, mask);
+        i += 1;
     }
 }

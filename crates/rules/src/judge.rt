@@ -1,10 +1,10 @@
-// The rules of the terms of fixed kinds, on numbers that were read; and what a rule comes to.
+// What a rule comes to: its tests, and the refusal of the first that fails.
 use verdicts::Verdict;
 ghost use mathlib.Core.Path.{_≡_};
 ghost use mathlib.Core.Bool.{true};
 ghost use mathlib.Core.List.{[], _∷_};
 ghost use Rattle.image.specs.Tests.{all};
-ghost use Rattle.rules.specs.Scalars.{judged};
+ghost use Rattle.rules.specs.Judged.{judged};
 
 // Each of two tests; of three.
 pub fn both(a: bool, b: bool) -> bool

@@ -1,18 +1,21 @@
-// What the records of the terms say: a term's offset, kind, type, the field behind its type, and its children.
-use records::kinds::field_count;
-use records::kinds::known_code;
+// The records of the terms. The table has their offsets; the head of a record tells its kind; its fields are handed on as the
+// part of the image that they occupy, and a decoder takes its own fields from the front of that part.
+use crate::kinds;
 use records::numbers::TermNo;
 use records::numbers::TypeNo;
+use records::numbers::type_key;
 use records::words::word;
 ghost use mathlib.Core.Path.{_≡_};
-ghost use Prim.Native.Nat.{_+_, _-_, _<_};
+ghost use Prim.Native.Nat.{_+_, _*_, _<_};
 ghost use lib.ListN.{length, getD};
-ghost use Rattle.image.specs.Bytes.{numberAt, fieldCount, fieldAt};
+ghost use Rattle.image.specs.Bytes.{numberAt};
+ghost use Rattle.image.specs.Kinds.{TermKind, termRow};
 ghost use Rattle.image.specs.Layout.{recordsOf};
-ghost use Rattle.image.specs.Types.{termPlace, typeNo, children};
-ghost use Rattle.records.specs.Codes.{kindCodes};
-ghost use Rattle.rules.specs.Lent.{Terms, IsTerm, IsType, IsChild, leadOf, childTypes};
+ghost use Rattle.image.specs.Types.{termPlace, typeNo};
+ghost use Rattle.rules.specs.Lent.{Terms, Types, IsTerm, IsType};
+ghost use Rattle.rules.specs.Fields.{fieldsOf, fieldIn, leadOf, countIn, Behind};
 
+// The offset of a term's record.
 pub fn term_place(image: &[u8], terms: &[u16], n: TermNo) -> usize
     requires { ⌜ Terms (now image) (now terms) × IsTerm (now image) (n .0) ⌝ }
     ensures { λ r. ⌜ (r ≡ termPlace (recordsOf (now (image .entry))) (n .0)) × (r + 5 < length (now (image .entry))) ⌝ }
@@ -20,6 +23,7 @@ pub fn term_place(image: &[u8], terms: &[u16], n: TermNo) -> usize
     records::numbers::term_offset(terms, n)
 }
 
+// The number of its kind.
 pub fn term_kind(image: &[u8], terms: &[u16], n: TermNo) -> u16
     requires { ⌜ Terms (now image) (now terms) × IsTerm (now image) (n .0) ⌝ }
     ensures { λ r. ⌜ r ≡ numberAt (now (image .entry)) (termPlace (recordsOf (now (image .entry))) (n .0)) ⌝ }
@@ -27,65 +31,116 @@ pub fn term_kind(image: &[u8], terms: &[u16], n: TermNo) -> u16
     records::words::kind_at(image, term_place(image, terms, n))
 }
 
-pub fn term_type(image: &[u8], terms: &[u16], n: TermNo) -> TypeNo
+// Its fields.
+pub fn term_fields<'a>(image: &'a [u8], terms: &[u16], n: TermNo) -> &'a [u8]
+    requires { ⌜ Terms (now image) (now terms) × IsTerm (now image) (n .0) ⌝ }
+    ensures { λ r. ⌜ now r ≡ fieldsOf (now (image .entry)) (n .0) ⌝ }
+{
+    let at = term_place(image, terms, n);
+    let len = word(image, at) as usize;
+    records::reader::fields_from(image, at, len)
+}
+
+// The type, which every term has first.
+pub fn own_type(fields: &[u8]) -> TypeNo
+    requires { ⌜ 1 < length (now fields) ⌝ }
+    ensures { λ r. ⌜ r .0 ≡ fieldIn (now (fields .entry)) 0 ⌝ }
+{
+    TypeNo(word(fields, 0))
+}
+
+// Its key.
+pub fn own_key(keys: &[u32], fields: &[u8]) -> u32
+    requires { ⌜ (1 < length (now fields)) × (fieldIn (now fields) 0 < length (now keys)) ⌝ }
+    ensures { λ r. ⌜ r ≡ getD (now (keys .entry)) (fieldIn (now (fields .entry)) 0) 0 ⌝ }
+{
+    type_key(keys, own_type(fields))
+}
+
+// The field behind the type: a variable's number, an operation, a domain.
+pub fn other_field(fields: &[u8]) -> u16
+    requires { ⌜ 3 < length (now fields) ⌝ }
+    ensures { λ r. ⌜ r ≡ fieldIn (now (fields .entry)) 1 ⌝ }
+{
+    word(fields, 2)
+}
+
+// The child behind k fields.
+pub fn child_behind(fields: &[u8], k: usize) -> TermNo
+    requires { ⌜ 2 * k + 1 < length (now fields) ⌝ }
+    ensures { λ r. ⌜ r .0 ≡ fieldIn (now (fields .entry)) k ⌝ }
+{
+    TermNo(word(fields, 2 * k))
+}
+
+// The type that a term states, in its own fields.
+pub fn stated_type(image: &[u8], terms: &[u16], n: TermNo) -> TypeNo
     requires { ⌜ Terms (now image) (now terms) × IsTerm (now image) (n .0) ⌝ }
     ensures { λ r. ⌜ (r .0 ≡ typeNo (recordsOf (now (image .entry))) (n .0)) × IsType (now (image .entry)) (r .0) ⌝ }
 {
-    records::numbers::type_of_term(image, term_place(image, terms, n))
+    own_type(term_fields(image, terms, n))
 }
 
-pub fn field_behind(image: &[u8], terms: &[u16], n: TermNo) -> u16
-    requires { ⌜ Terms (now image) (now terms) × IsTerm (now image) (n .0) × (1 < fieldCount (now image) (termPlace (recordsOf (now image)) (n .0))) ⌝ }
-    ensures { λ r. ⌜ r ≡ fieldAt (now (image .entry)) (termPlace (recordsOf (now (image .entry))) (n .0)) 1 ⌝ }
+// The type of the child behind k fields; and its key.
+pub fn type_behind(image: &[u8], terms: &[u16], fields: &[u8], k: usize) -> TypeNo
+    requires { ⌜ Terms (now image) (now terms) × Behind (now image) (now fields) k ⌝ }
+    ensures { λ r. ⌜ (r .0 ≡ typeNo (recordsOf (now (image .entry))) (fieldIn (now (fields .entry)) k)) × IsType (now (image .entry)) (r .0) ⌝ }
 {
-    records::words::field_at(image, term_place(image, terms, n), 1)
+    stated_type(image, terms, child_behind(fields, k))
 }
 
-// How many fields stand before the children.
-pub fn lead(image: &[u8], kinds: &[u32], terms: &[u16], n: TermNo) -> usize
-    requires { ⌜ Terms (now image) (now terms) × IsTerm (now image) (n .0) × (now kinds ≡ kindCodes) ⌝ }
-    ensures { λ r. ⌜ r ≡ leadOf (now (image .entry)) (n .0) ⌝ }
+pub fn key_behind(image: &[u8], terms: &[u16], keys: &[u32], fields: &[u8], k: usize) -> u32
+    requires { ⌜ Terms (now image) (now terms) × Types (now image) (now keys) × Behind (now image) (now fields) k ⌝ }
+    ensures { λ r. ⌜ r ≡ getD (now (keys .entry)) (typeNo (recordsOf (now (image .entry))) (fieldIn (now (fields .entry)) k)) 0 ⌝ }
 {
-    field_count(known_code(kinds, term_kind(image, terms, n)))
+    type_key(keys, type_behind(image, terms, fields, k))
 }
 
-pub fn child_count(image: &[u8], kinds: &[u32], terms: &[u16], n: TermNo) -> usize
-    requires { ⌜ Terms (now image) (now terms) × IsTerm (now image) (n .0) × (now kinds ≡ kindCodes) ⌝ }
-    ensures { λ r. ⌜ r ≡ length (children (recordsOf (now (image .entry))) (n .0)) ⌝ }
+// How many fields stand before the children of a kind.
+pub fn lead_of(kind: u16) -> usize
+    ensures { λ r. ⌜ ((k : TermKind) → kind ≡ termRow k .number → r ≡ leadOf k) ⌝ }
 {
-    let at = term_place(image, terms, n);
-    let k = lead(image, kinds, terms, n);
-    let len = word(image, at) as usize;
-    (len - 4) / 2 - k
+    match kind {
+        kinds::TRUTH => 2,
+        kinds::NUMBER => 3,
+        kinds::VARIABLE => 2,
+        kinds::ARITHMETIC => 2,
+        kinds::LOWER => 2,
+        _ => 1,
+    }
 }
 
-// The child behind k fields of the record; and its type.
-pub fn child_behind(image: &[u8], terms: &[u16], n: TermNo, k: usize) -> TermNo
-    requires { ⌜ Terms (now image) (now terms) × IsTerm (now image) (n .0) × IsChild (now image) (n .0) k ⌝ }
-    ensures { λ r. ⌜ (r .0 ≡ getD (children (recordsOf (now (image .entry))) (n .0)) (k - leadOf (now (image .entry)) (n .0)) 0) × (r .0 < n .0) ⌝ }
+// How many labels the fields of a pointcut hold.
+pub fn labels_in(fields: &[u8]) -> usize
+    requires { ⌜ 1 < length (now fields) ⌝ }
+    ensures { λ r. ⌜ r ≡ countIn (now (fields .entry)) TermKind.pcd ⌝ }
 {
-    records::numbers::child_at(image, term_place(image, terms, n), k)
+    fields.len() / 2 - 1
 }
 
-pub fn type_behind(image: &[u8], terms: &[u16], n: TermNo, k: usize) -> TypeNo
-    requires { ⌜ Terms (now image) (now terms) × IsTerm (now image) (n .0) × IsChild (now image) (n .0) k ⌝ }
-    ensures { λ r. ⌜ (r .0 ≡ getD (childTypes (now (image .entry)) (n .0)) (k - leadOf (now (image .entry)) (n .0)) 0) × IsType (now (image .entry)) (r .0) ⌝ }
+// How many children there are: as many as the kind has; a pointcut has as many as its fields hold.
+pub fn child_count(kind: u16, fields: &[u8]) -> usize
+    requires { ⌜ 1 < length (now fields) ⌝ }
+    ensures { λ r. ⌜ ((k : TermKind) → kind ≡ termRow k .number → r ≡ countIn (now (fields .entry)) k) ⌝ }
 {
-    term_type(image, terms, child_behind(image, terms, n, k))
-}
-
-pub fn child(image: &[u8], kinds: &[u32], terms: &[u16], n: TermNo, i: usize) -> TermNo
-    requires { ⌜ Terms (now image) (now terms) × IsTerm (now image) (n .0) × (now kinds ≡ kindCodes) × (i < length (children (recordsOf (now image)) (n .0))) ⌝ }
-    ensures { λ r. ⌜ (r .0 ≡ getD (children (recordsOf (now (image .entry))) (n .0)) i 0) × (r .0 < n .0) ⌝ }
-{
-    let k = lead(image, kinds, terms, n);
-    child_behind(image, terms, n, k + i)
-}
-
-pub fn child_type(image: &[u8], kinds: &[u32], terms: &[u16], n: TermNo, i: usize) -> TypeNo
-    requires { ⌜ Terms (now image) (now terms) × IsTerm (now image) (n .0) × (now kinds ≡ kindCodes) × (i < length (children (recordsOf (now image)) (n .0))) ⌝ }
-    ensures { λ r. ⌜ (r .0 ≡ getD (childTypes (now (image .entry)) (n .0)) i 0) × IsType (now (image .entry)) (r .0) ⌝ }
-{
-    let k = lead(image, kinds, terms, n);
-    type_behind(image, terms, n, k + i)
+    match kind {
+        kinds::SEQUENCE => 2,
+        kinds::PRINT => 1,
+        kinds::CHOICE => 3,
+        kinds::PAIR => 2,
+        kinds::SPLIT => 2,
+        kinds::FUNCTION => 1,
+        kinds::APPLY => 2,
+        kinds::ARITHMETIC => 2,
+        kinds::MARK => 2,
+        kinds::POINTCUT => labels_in(fields),
+        kinds::ADVICE => 2,
+        kinds::INSTALL => 1,
+        kinds::NEW_CELL => 1,
+        kinds::READ => 1,
+        kinds::STORE => 2,
+        kinds::LOWER => 1,
+        kinds::FRAME_BYTE => 1,
+        _ => 0,
+    }
 }

@@ -1,10 +1,10 @@
 -- An order of domains with the law assumed, and a program with the type assumed: the theorems speak of something.
-use Prim.Native.Nat.{ℕ, _≤_}
+use Prim.Native.Nat.{ℕ}
 use native.Mathlib.Nat.{le-trans}
-use mathlib.Core.Path.{_≡_, refl}
-use mathlib.Core.Bool.{Bool, true}
+use mathlib.Core.Path.{refl}
 use mathlib.Core.List.{[]}
-use lib.Dec.{T, leb, leb→le, le→leb}
+use lib.Dec.{leb}
+use borrow.Author.Tests.{le-leb, leb-true}
 use Rattle.calculus.specs.Syntax.{Ty, Val, Tm, val, var, lam, op0, op1, op2, seq, pcd, adv, end, more, newLabel, print, install, app, mark}
 use Rattle.calculus.specs.State.{Given, fresh}
 use Rattle.calculus.specs.Run.{run}
@@ -12,18 +12,12 @@ use Rattle.calculus.specs.Typing.{Policy, noStore, LabelTys, TmTy, TmsTy, ValTy
 use Rattle.safety.proofs.Order.{Transitive}
 use Rattle.safety.proofs.Runs.{EndsWell, program-safe}
 
-true-of : (b : Bool) → T b → b ≡ true
-true-of true t = refl
-
--- 0 is the highest domain.
-abbrev falling : Policy
+-- 0 is the highest domain: a greater number is a lower domain.
+abbrev pub falling : Policy
 falling = record { leq = λ p q. leb q p }
 
-falling-trans : Transitive falling
-falling-trans p q r h k =
-    let h′ : q ≤ p = leb→le q p (rw h tt) in
-    let k′ : r ≤ q = leb→le r q (rw k tt) in
-    true-of (leb r p) (le→leb r p (le-trans k′ h′))
+pub falling-trans : Transitive falling
+falling-trans p q r h k = le-leb r p (le-trans (leb-true r q k) (leb-true q p h))
 
 -- The main program at 0 makes a label and marks it; advice at 1, below it, prints what it is marked with.
 abbrev shown : Tm

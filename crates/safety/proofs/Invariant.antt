@@ -24,9 +24,6 @@ module _ (Q : State → Type 0) where
     makes-halt : Makes halt
     makes-wrong : Makes wrong
 
-  pub made-state : {s : State} {e : Tm} → Makes (go s e) → Q s
-  made-state (makes-go q) = q
-
   pub makes-room : (b : Bool) (o : Outcome) {r : Answer State Tm} → (T b → Makes r) → Makes (if-room b o r)
   unfolding if-room
   makes-room true o f = f tt
@@ -94,9 +91,6 @@ module _ {G : Given} {Q : State → Type 0} {s : State} (R : Reduces G Q s) wher
     steps-first (more e es) = λ P vs k r h. makes-cases Q _ _ _ (λ v. steps-first es P (v ∷ vs) k r h) (makes-within Q _ (step-makes e (deeper P)))
 
 module _ (G : Given) (Q : State → Type 0) (keeps : (s : State) → Q s → Reduces G Q s) where
-  pub step-keeps : (e : Tm) (P : Place) (s : State) → Q s → (s′ : State) (e′ : Tm) → step e G P s ≡ go s′ e′ → Q s′
-  step-keeps e P s q s′ e′ m = made-state Q (rw m at (step-makes (keeps s q) e P))
-
   pub run-keeps : (n k : ℕ) (s : State) (e : Tm) → Q s → Q (run n G k s e .state)
   unfolding run after cases
   run-keeps zero k s e q = look (asValue e) refl

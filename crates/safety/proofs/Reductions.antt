@@ -7,16 +7,16 @@ use mathlib.Core.Option.{some}
 use lib.ListN.{length, getElem?}
 use Rattle.calculus.specs.Combinators.{choose, cases}
 use Rattle.calculus.specs.Syntax.{Dom, Ty, Val, Tm, Op0, Op1, Op2, val}
-use Rattle.calculus.specs.State.{Cell, State, Given, noCell}
+use Rattle.calculus.specs.State.{Cell, State, Given}
 use Rattle.calculus.specs.Answer.{go, with}
 use Rattle.calculus.specs.Place.{Place, at}
 use Rattle.calculus.specs.Reduce.{reduce0, reduce1, reduce2, reduceSeq, reduceIte, reduceSplit, reduceAdv, reduceLower, reducePcd, collect}
 use Rattle.calculus.specs.Typing.{StoreTyping, Policy, LabelsOf, LabelTys, ValTy, TmTy, Rule0, Rule1, Rule2}
-use Rattle.safety.proofs.Lists.{All2, All2.all2-nil, All2.all2-cons, all-snoc, all2-snoc, all2-get, all2-set, all2-length, get-last}
+use Rattle.safety.proofs.Lists.{All2, All2.all2-nil, All2.all2-cons, all-snoc, all2-snoc, all2-set, all2-length, get-last}
 use Rattle.safety.proofs.Order.{Transitive}
 use Rattle.safety.proofs.Extend.{extends-cell, extends-label, grow-val}
 use Rattle.safety.proofs.Substitute.{Without.here, Without.there, subst-tm}
-use Rattle.safety.proofs.StoreFits.{CellFits, CellFits.cell-fits, LabelFits.label-fits, AdviceFits.advice-fits, StateFits, grow-cells, grow-advices}
+use Rattle.safety.proofs.StoreFits.{CellFits, CellFits.cell-fits, LabelFits.label-fits, AdviceFits.advice-fits, StateFits, cell-there, label-there, grow-cells, grow-advices}
 use Rattle.safety.proofs.Safe.{Safe, Safe.safe-go, Safe.safe-halt, safe-here, safe-room, safe-spend}
 use Rattle.safety.proofs.Composed.{composed-typed}
 
@@ -55,7 +55,7 @@ module _ (D : Policy) {Σ : StoreTyping} {c : Dom} (s : State) (fits : StateFits
     safe1 Rule1.t-print ValTy.v-num = safe-room D _ _ tt (here-val _ fits ValTy.v-unit)
     safe1 (Rule1.t-install h) (ValTy.v-advice ls o b) =
         safe-room D _ _ tt (here-val _ (record { cells = fits .cells; labels = fits .labels; advices = all-snoc (fits .advices) (advice-fits ls o b) }) ValTy.v-unit)
-    safe1 (Rule1.t-read h) (ValTy.v-cell {r} g) = here-val _ fits (held-typed D (all2-get (fits .cells) r (noCell Val.unit) g))
+    safe1 (Rule1.t-read h) (ValTy.v-cell {r} g) = let k = cell-there D s fits r g in rw (k .1) (here-val _ fits (held-typed D (k .2)))
     safe1 Rule1.t-byte ValTy.v-num = here-val _ fits ValTy.v-num
     safe1 (Rule1.t-newCell {a} {p} h) hv =
         let x = extends-cell Σ (Ty.ref a p) in
@@ -69,9 +69,11 @@ module _ (D : Policy) {Σ : StoreTyping} {c : Dom} (s : State) (fits : StateFits
     unfolding with
     safe2 trans Rule2.t-pair hv hw = safe-spend D _ s _ (here-val _ fits (ValTy.v-pair hv hw))
     safe2 trans Rule2.t-app (ValTy.v-fun h) hw = safe-spend D _ s _ (safe-here D _ fits (subst-tm D hw h here))
-    safe2 trans Rule2.t-mark (ValTy.v-label {l} g) hw = safe-spend D _ s _ (safe-here D _ fits (composed-typed D trans hw l g (fits .advices)))
+    safe2 trans Rule2.t-mark (ValTy.v-label {l} g) hw =
+        rw (label-there D s fits l g) (safe-spend D _ s _ (safe-here D _ fits (composed-typed D trans hw l g (fits .advices))))
     safe2 trans (Rule2.t-store h) (ValTy.v-cell {r} g) hw =
-        here-val _ (record { cells = all2-set (fits .cells) r g (held-set D (all2-get (fits .cells) r (noCell Val.unit) g) hw); labels = fits .labels; advices = fits .advices }) ValTy.v-unit
+        let k = cell-there D s fits r g in
+        rw (k .1) (here-val _ (record { cells = all2-set (fits .cells) r g (held-set D (k .2) hw); labels = fits .labels; advices = fits .advices }) ValTy.v-unit)
     safe2 trans Rule2.t-plus ValTy.v-num ValTy.v-num = here-val _ fits ValTy.v-num
     safe2 trans Rule2.t-minus ValTy.v-num ValTy.v-num = here-val _ fits ValTy.v-num
     safe2 trans Rule2.t-less ValTy.v-num ValTy.v-num = here-val _ fits ValTy.v-truth

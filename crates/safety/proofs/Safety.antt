@@ -117,7 +117,7 @@ module _ (D : Policy) (Σ : StoreTyping) where
         → (Σ′ : StoreTyping) × Extends Σ Σ′ × StateFits D Σ′ s′ × TmTy D Σ′ [] c e′ t
     preservation {c} {e} h P s f s′ e′ m = made (rw m at (safe trans G h refl (step-none e G (at c P) s m) P s f))
 
-    -- Progress.
+    -- Progress: no rule is missing, so what a typed term reads, stores to or marks is in the store.
     pub progress : {c : Dom} {e : Tm} {t : Ty} → TmTy D Σ [] c e t → asValue e ≡ none → (P : Place) (s : State) → StateFits D Σ s
         → ¬ (step e G (at c P) s ≡ wrong)
     progress h n P s f w = not-wrong (rw w at (safe trans G h refl n P s f))

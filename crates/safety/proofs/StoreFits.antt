@@ -1,13 +1,15 @@
 -- A state that fits a store typing (document 003, section 2.3, figure 6).
 use Prim.Native.Nat.{ℕ}
-use mathlib.Core.Path.{_≡_}
+use mathlib.Core.Path.{_≡_, refl, ap, _∙_}
 use mathlib.Core.Bool.{true}
 use mathlib.Core.List.{List, [], _∷_}
+use mathlib.Core.Option.{some}
+use lib.ListN.{getElem?}
 use Rattle.calculus.specs.Syntax.{Dom, Ty, Val, Tm}
 use Rattle.calculus.specs.State.{Cell, Advice, State, fresh}
 use Rattle.calculus.specs.Plain.{isPlain}
 use Rattle.calculus.specs.Typing.{StoreTyping, Policy, LabelsOf, ValTy, TmTy, noStore}
-use Rattle.safety.proofs.Lists.{All, All2, all-map, all2-map, All.all-nil, All2.all2-nil}
+use Rattle.safety.proofs.Lists.{All, All2, all-map, all2-map, all2-get, All.all-nil, All2.all2-nil}
 use Rattle.safety.proofs.Extend.{Extends, grow-labels, grow-val, grow-tm}
 
 -- A label's domain is its type's.
@@ -31,6 +33,17 @@ module _ (D : Policy) where
   -- The counts and the trace play no part.
   abbrev pub StateFits : StoreTyping → State → Type 0
   StateFits Σ s = Fits Σ (s .cells) (s .labels) (s .advices)
+
+  module _ {Σ : StoreTyping} (s : State) (f : StateFits Σ s) where
+    -- A cell or a label that has a type is in the store.
+    pub cell-there : {a : Ty} {p : Dom} (r : ℕ) → getElem? (Σ .cells) r ≡ some (Ty.ref a p) → (k : Cell Val) × (getElem? (s .cells) r ≡ some k) × CellFits Σ (Ty.ref a p) k
+    cell-there r g = all2-get (f .cells) r g
+
+    pub label-there : {a : Ty} {p : Dom} (l : ℕ) → getElem? (Σ .labels) l ≡ some (Ty.label a p) → getElem? (s .labels) l ≡ some p
+    label-there l g = let k = all2-get (f .labels) l g in k .1 ∙ ap some (same (k .2))
+      where
+        same : {a : Ty} {p q : Dom} → LabelFits (Ty.label a p) q → q ≡ p
+        same label-fits = refl
 
   pub fits-fresh : StateFits noStore fresh
   fits-fresh = record { cells = all2-nil; labels = all2-nil; advices = all-nil }

@@ -12,9 +12,8 @@ use Rattle.calculus.specs.State.{Cell, Advice, Event, State, Given, Counts, con
 use Rattle.calculus.specs.Answer.{go, with, spend}
 use Rattle.calculus.specs.Place.{Place}
 use Rattle.calculus.specs.Reduce.{reduce0, reduce1, reduce2}
-use Rattle.calculus.specs.Step.{step}
 use Rattle.calculus.specs.Run.{run}
-use Rattle.safety.proofs.Invariant.{Makes, Makes.makes-go, Makes.makes-halt, makes-room, makes-with, makes-spend, Reduces, step-keeps, run-keeps}
+use Rattle.safety.proofs.Invariant.{Makes, Makes.makes-go, Makes.makes-halt, makes-room, makes-with, makes-spend, Reduces, run-keeps}
 
 -- What holds of every state that a run comes to.
 pub record Within (G : Given) (s : State) : Type 0 where
@@ -94,15 +93,15 @@ module _ (G : Given) where
         makes-with (Within G) _ _
         (λ n. makes-room (Within G) _ _ (λ b. makes-go (within-told _ (leb→le logRecordLength (G .logLength - logRecordLength * length (logOf (s .trace))) b))))
     within1 P install t v = makes-with (Within G) _ _ (λ a. makes-room (Within G) _ _ (λ b. makes-go (within-advice a (ltb→lt (length (s .advices)) adviceLimit b))))
-    within1 P read t v = makes-with (Within G) _ _ (λ r. makes-go W)
+    within1 P read t v = makes-with (Within G) _ _ (λ r. makes-with (Within G) _ _ (λ c. makes-go W))
     within1 P byte t v = makes-with (Within G) _ _ (λ n. makes-go W)
     within1 P newCell t v = makes-spend (Within G) oneCell s _ (λ b c p. makes-go (within-charged oneCell (s .cells ++ (_ ∷ [])) (length-append (s .cells) _) b c p))
 
     within2 : (P : Place) (o : Op2) (t : Ty) (v w : Val) → Makes (Within G) (reduce2 G P s o t v w)
     within2 P Op2.pair t v w = within-spent onePiece _ refl
     within2 P app t v w = makes-with (Within G) _ _ (λ e. within-spent (someBindings 1) _ refl)
-    within2 P mark t v w = makes-with (Within G) _ _ (λ l. within-spent (someBindings _) _ refl)
-    within2 P store t v w = makes-with (Within G) _ _ (λ r. makes-go (within-stored r _))
+    within2 P mark t v w = makes-with (Within G) _ _ (λ l. makes-with (Within G) _ _ (λ p. within-spent (someBindings _) _ refl))
+    within2 P store t v w = makes-with (Within G) _ _ (λ r. makes-with (Within G) _ _ (λ c. makes-go (within-stored r _)))
     within2 P plus t v w = within-arith _ _ _
     within2 P minus t v w = within-arith _ _ _
     within2 P less t v w = within-arith _ _ _
@@ -111,10 +110,7 @@ module _ (G : Given) where
     within-reduces : Reduces G (Within G) s
     within-reduces = record { stays = W; binds = λ n e. within-spent (someBindings n) e refl; pieces = λ e. within-spent onePiece e refl; reduces0 = within0; reduces1 = within1; reduces2 = within2 }
 
-  -- Every step keeps it, and so does every run.
-  pub within-step : (e : Tm) (P : Place) (s : State) → Within G s → (s′ : State) (e′ : Tm) → step e G P s ≡ go s′ e′ → Within G s′
-  within-step = step-keeps G (Within G) within-reduces
-
+  -- Every run keeps it.
   pub within-run : (n k : ℕ) (s : State) (e : Tm) → Within G s → Within G (run n G k s e .state)
   within-run = run-keeps G (Within G) within-reduces
 

@@ -1,25 +1,31 @@
--- Laws of the children of a term: what a layout says of them, and what stands in the record.
-use Prim.Native.Nat.{ℕ, _+_, _-_, _*_, _≤_, _<_}
+-- Laws of the records of domains and terms: what a layout says of them, and what stands in their fields.
+use Prim.Native.Nat.{ℕ, _+_, _-_, _*_, _/_, _≤_, _<_}
 use native.Mathlib.Omega.{arith}
 use mathlib.Core.Path.{_≡_, refl, ap, subst, sym, _∙_}
 use mathlib.Core.List.{List}
+use mathlib.Core.Option.{some}
 use lib.ListN.{length, getD, take}
-use Rattle.image.specs.Bytes.{le16, fieldAt, fieldCount}
-use Rattle.image.specs.Layout.{Layout, recordsOf}
-use Rattle.records.specs.Heads.{firstChild}
-use Rattle.records.specs.Tables.{Tables}
-use Rattle.shape.specs.Records.{childrenOf, Lower, DomainsOf, Domains, TermsOf, Terms}
+use Rattle.image.specs.Bytes.{le16, lengthAt, numberAt}
+use Rattle.image.specs.Kinds.{TermKind, term, termRow, kindOf}
+use Rattle.image.specs.Layout.{Layout, childrenAt, recordsOf}
 use Rattle.image.proofs.Words.{words-length, words-at}
-use Rattle.image.proofs.Laid.{Below, Good, below-at, layout-good, image-kept}
-use Rattle.records.proofs.Codes.{known-code, kind-small}
+use Rattle.image.proofs.Laid.{Below, Stands, Good, below-at, layout-good, image-kept}
+use Rattle.records.specs.Codes.{countOf, childrenIn, codeAt}
+use Rattle.records.specs.Heads.{IsWhole, fieldIn, childrenOf}
+use Rattle.records.specs.Tables.{Tables}
+use Rattle.records.proofs.Codes.{Packs, known-code, kind-small, kind-sized, children-count}
+use Rattle.records.proofs.Parts.{fields-length, children-are}
+use Rattle.shape.specs.Records.{TermAt, childrenOfTerm, Lower, DomainsOf, Domains, TermsOf, Terms}
 
--- Child j is field j of those after the first ones.
-pub child-is : (b : List ℕ) (o j : ℕ) → j < length (childrenOf b o) → fieldAt b o (firstChild b o + j) ≡ getD (childrenOf b o) j 0
-unfolding childrenOf
-child-is b o j h =
-    let n : length (childrenOf b o) ≡ fieldCount b o - firstChild b o = words-length b _ _ in
-    let e : o + 4 + 2 * (firstChild b o + j) ≡ o + 4 + 2 * firstChild b o + 2 * j = omega arith in
-    ap (λ i. le16 b i) e ∙ sym (words-at b (o + 4 + 2 * firstChild b o) (fieldCount b o - firstChild b o) j (omega arith))
+-- The children in the fields fs of a record whose kind has the code x: how many there are, and child j.
+module _ (x : ℕ) (fs : List ℕ) where
+  pub children-length : length (childrenOf x fs) ≡ childrenIn x (length fs)
+  children-length = words-length fs (2 * countOf x) (childrenIn x (length fs))
+
+  pub child-is : (j : ℕ) → j < childrenIn x (length fs) → fieldIn fs (countOf x + j) ≡ getD (childrenOf x fs) j 0
+  child-is j h =
+      let e : 2 * (countOf x + j) ≡ 2 * countOf x + 2 * j = omega arith in
+      ap (le16 fs) e ∙ sym (words-at fs (2 * countOf x) (childrenIn x (length fs)) j h)
 
 pub lower-up : (n m : ℕ) (es : List ℕ) → n ≤ m → Lower n es → Lower m es
 lower-up n m es h l = record { at = λ j k. let z = l .at j k in omega arith }
@@ -35,18 +41,53 @@ module _ (L : Layout) (G : Good L) where
         image = refl;
         offsets = refl;
         few = G .few-domains;
-        inside = λ d l. let s = G .domains d l in omega (arith, s .size, s .inside);
+        stands = λ d l. let s = G .domains d l in record { whole = (omega (arith, s .size), s .inside); mask = omega (arith, s .size) };
       }
 
+  -- A term's record, of the kind k, and its children.
+  module _ (o : ℕ) (k : TermKind) (known : kindOf (numberAt (L .image) o) ≡ some (term k)) (S : Stands (L .image) (termRow k) o) where
+    abbrev b : List ℕ
+    b = L .image
+
+    abbrev x : ℕ
+    x = codeAt (numberAt b o)
+
+    packs : Packs (term k) x
+    packs = known-code (numberAt b o) (term k) known
+
+    whole : IsWhole b o
+    whole = (omega (arith, S .size), S .inside)
+
+    count : childrenIn x (lengthAt b o - 4) ≡ (lengthAt b o - 4) / 2 - countOf x
+    count =
+        let P = packs in
+        let c = P .count in
+        let l = P .least in
+        let m = P .most in
+        let s = S .size in
+        let u = S .least in
+        let v = S .most in
+        children-count x (lengthAt b o - 4) (kind-sized (term k) x P) (omega arith) (omega arith)
+
+    good-children : childrenAt b o (termRow k) ≡ childrenOfTerm b o
+    good-children = sym (children-are b o (termRow k) x whole (packs .count) count (omega (arith, S .size)))
+
+    good-term : TermAt b o
+    good-term =
+        record {
+          known = kind-small _ _ known;
+          whole = whole;
+          fitting = rw (fields-length b o whole, count) (let c = packs .count in let s = S .size in omega arith);
+        }
+
   good-terms : TermsOf L (L .image) (L .terms)
-  unfolding childrenOf
   good-terms =
       record {
         offsets = refl;
         few = G .few-terms;
-        stands = λ n l. let g = G .terms n l in record { known = kind-small _ _ (g .kind); code = known-code _ _ (g .kind) .count; size = g .stands .size; inside = g .stands .inside };
-        lower = λ n l. below-lower n _ (G .terms n l .below);
-        same = λ n l. refl;
+        stands = λ n l. let g = G .terms n l in good-term _ _ (g .kind) (g .stands);
+        lower = λ n l. let g = G .terms n l in rw (← good-children _ _ (g .kind) (g .stands)) (below-lower n _ (g .below));
+        same = λ n l. let g = G .terms n l in good-children _ _ (g .kind) (g .stands);
       }
 
 -- The tables hold them.

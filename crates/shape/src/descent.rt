@@ -1,6 +1,11 @@
 // Refusals 11 and 12: the depth of each term is set in one pass, from the root down, which shows how often each is used, and both are judged in their order.
+use crate::depths::TOO_DEEP;
+use crate::marks::mark_of;
+use crate::marks::one_more;
+use crate::marks::set_mark;
 use image::Refusal;
 use records::numbers::TermNo;
+use records::numbers::term_offset;
 use verdicts::Verdict;
 ghost use mathlib.Core.Path.{_≡_};
 ghost use Prim.Native.Nat.{_<_};
@@ -9,47 +14,47 @@ ghost use Rattle.image.specs.Limits.{termLimit};
 ghost use Rattle.image.specs.Layout.{recordsOf};
 ghost use Rattle.verdicts.specs.Shape.{setAll};
 ghost use Rattle.records.specs.Codes.{kindCodes};
-ghost use Rattle.shape.specs.Records.{childrenOf, TermAt, Lower, Terms};
+ghost use Rattle.records.specs.Heads.{childrenOf, Fitting};
+ghost use Rattle.shape.specs.Records.{Lower, Terms};
 ghost use Rattle.shape.specs.Marks.{lowAll, lowFrom, cappedFrom};
 ghost use Rattle.shape.specs.Checks.{termsRight};
 
-// The depth d for each child of the term at an offset, and the lowest term used again.
-fn mark_children(
-    image: &[u8],
-    kinds: &[u32],
-    at: usize,
-    d: u8,
-    low: usize,
-    depths: &mut [u8],
-) -> usize
-    requires { ⌜ (now kinds ≡ kindCodes) × TermAt (now image) at × Lower (length (now depths)) (childrenOf (now image) at) ⌝ }
-    ensures { λ r. ⌜ (r ≡ lowAll (childrenOf (now (image .entry)) at) d low (now (depths .entry))) × (now (depths .exit) ≡ setAll (childrenOf (now (image .entry)) at) d (now (depths .entry))) ⌝ }
+// The number of no term.
+const TERM_LIMIT: u16 = 1024;
+
+// The depth d for each child in a term's fields, and the lowest term used again.
+fn mark_children(fields: &[u8], code: u32, d: u8, low: TermNo, depths: &mut [u8]) -> TermNo
+    requires { ⌜ Fitting code (now fields) × Lower (length (now depths)) (childrenOf code (now fields)) ⌝ }
+    ensures { λ r. ⌜ (r .0 ≡ lowAll (childrenOf code (now (fields .entry))) d (low .0) (now (depths .entry))) × (now (depths .exit) ≡ setAll (childrenOf code (now (fields .entry))) d (now (depths .entry))) ⌝ }
 {
-    let first = crate::children::first_child(image, kinds, at);
-    let count = crate::children::child_count(image, first, at);
+    let first = records::kinds::field_count(code);
+    let count = records::kinds::child_count(code, fields.len());
     let mut next = low;
     let mut j: usize = 0;
     while j < count {
-        let e = crate::children::child(image, first, at, j);
-        next = crate::uses::lowest(next, crate::notes::mark_of(depths, e), e);
-        crate::notes::set_mark(depths, e, d);
+        let e = records::fields::term_field(fields, first + j);
+        next = crate::uses::lowest(next, mark_of(depths, e), e);
+        set_mark(depths, e, d);
         j += 1;
     }
     next
 }
 
-// The depth of each term, and the lowest term used again, 1,024 if there is none.
-fn mark_terms(image: &[u8], kinds: &[u32], terms: &[u16], depths: &mut [u8]) -> usize
+// The depth of each term, and the lowest term used again, the number of no term if there is none.
+fn mark_terms(image: &[u8], kinds: &[u32], terms: &[u16], depths: &mut [u8]) -> TermNo
     requires { ⌜ (now kinds ≡ kindCodes) × Terms (now image) (now terms) × (length (now depths) ≡ length (now terms)) ⌝ }
-    ensures { λ r. ⌜ (r ≡ lowFrom (recordsOf (now (image .entry))) (length (now (terms .entry))) termLimit (now (depths .entry))) × (now (depths .exit) ≡ cappedFrom (recordsOf (now (image .entry))) (length (now (terms .entry))) (now (depths .entry))) ⌝ }
+    ensures { λ r. ⌜ (r .0 ≡ lowFrom (recordsOf (now (image .entry))) (length (now (terms .entry))) termLimit (now (depths .entry))) × (now (depths .exit) ≡ cappedFrom (recordsOf (now (image .entry))) (length (now (terms .entry))) (now (depths .entry))) ⌝ }
 {
-    let mut low: usize = 1024;
+    let mut low = TermNo(TERM_LIMIT);
     let mut i: usize = terms.len();
     while 0 < i {
         i -= 1;
-        let d = crate::notes::one_more(65, crate::notes::mark_of(depths, TermNo(i as u16)));
-        let at = records::numbers::term_offset(terms, TermNo(i as u16));
-        low = mark_children(image, kinds, at, d, low, depths);
+        let n = TermNo(i as u16);
+        let d = one_more(TOO_DEEP, mark_of(depths, n));
+        let at = term_offset(terms, n);
+        let code = records::kinds::known_code(kinds, records::words::kind_at(image, at));
+        let fields = records::reader::fields_at(image, at);
+        low = mark_children(fields, code, d, low, depths);
     }
     low
 }
@@ -60,14 +65,14 @@ fn check_terms_in(image: &[u8], kinds: &[u32], terms: &[u16], depths: &mut [u8])
     ensures { λ r. ⌜ r ≡ termsRight (recordsOf (now (image .entry))) ⌝ }
 {
     let n = terms.len();
-    depths[n - 1] = 1;
+    let root = TermNo((n - 1) as u16);
+    set_mark(depths, root, 1);
     let low = mark_terms(image, kinds, terms, &mut depths[..n]);
-    let first = crate::uses::first_misused(depths, low, n - 1);
-    if first < n - 1 {
-        let at = records::numbers::term_offset(terms, TermNo(first as u16));
-        return Verdict::Refused(Refusal::UseCount, at);
+    let first = crate::uses::first_misused(depths, low, root);
+    if first.0 < root.0 {
+        return Verdict::Refused(Refusal::UseCount, term_offset(terms, first));
     }
-    crate::depths::first_deep(depths, terms, n)
+    crate::depths::first_deep(depths, terms, TermNo(n as u16))
 }
 
 // Refusals 11 and 12.

@@ -1,6 +1,7 @@
 // An inner crate: refusals 9 to 12, once the records are laid out (document 01, "Turned back at the gate"). Each pass is
 // linear in the image.
 use image::Refusal;
+use records::numbers::Counts;
 use verdicts::Verdict;
 use verdicts::is_refused;
 ghost use mathlib.Core.Path.{_≡_};
@@ -15,19 +16,11 @@ ghost use Rattle.shape.specs.Records.{Domains, Terms};
 ghost use Rattle.shape.specs.Checks.{passes};
 ghost use Rattle.shape.specs.Counted.{Counted};
 
-pub mod children;
 pub mod depths;
 pub mod descent;
-pub mod notes;
+pub mod marks;
 pub mod order;
 pub mod uses;
-
-// How many records each section has.
-pub struct Counts {
-    pub domains: usize,
-    pub types: usize,
-    pub terms: usize,
-}
 
 fn none_empty(n: Counts) -> bool
     ensures { λ r. ⌜ r ≡ (ltb 0 (n .domains) && (ltb 0 (n .types) && ltb 0 (n .terms))) ⌝ }

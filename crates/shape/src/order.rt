@@ -1,5 +1,7 @@
 // Refusal 10: the order of the domains, as sixteen rows of sixteen truths, and the first domain at fault in it.
 use image::Refusal;
+use records::numbers::DomainNo;
+use records::numbers::domain_offset;
 use verdicts::Verdict;
 ghost use mathlib.Core.Path.{_≡_};
 ghost use Prim.Native.Nat.{_≤_, _<_};
@@ -8,6 +10,7 @@ ghost use lib.ListN.{length};
 ghost use Rattle.image.specs.Limits.{domainLimit};
 ghost use Rattle.image.specs.Layout.{recordsOf};
 ghost use Rattle.verdicts.specs.Order.{bits};
+ghost use Rattle.records.specs.Heads.{fieldIn};
 ghost use Rattle.shape.specs.Faults.{gapIn, eitherRow, faulty, orderFrom, Rows};
 ghost use Rattle.shape.specs.Records.{Domains};
 ghost use Rattle.shape.specs.Checks.{domainsOrdered};
@@ -27,6 +30,14 @@ fn row_of(mask: u16) -> [bool; 16]
     row
 }
 
+// The only field of a domain.
+fn mask_of(fields: &[u8]) -> u16
+    requires { ⌜ 1 < length (now fields) ⌝ }
+    ensures { λ r. ⌜ r ≡ fieldIn (now (fields .entry)) 0 ⌝ }
+{
+    records::fields::field(fields, 0)
+}
+
 // The order, an array that is handed over by value, as document 01 asks; the rows of absent domains are all false.
 pub fn order_of(image: &[u8], doms: &[u16]) -> [[bool; 16]; 16]
     requires { ⌜ Domains (now image) (now doms) ⌝ }
@@ -35,8 +46,8 @@ pub fn order_of(image: &[u8], doms: &[u16]) -> [[bool; 16]; 16]
     let mut o = [[false; 16]; 16];
     let mut d: usize = 0;
     while d < doms.len() {
-        let at = records::numbers::domain_offset(doms, records::numbers::DomainNo(d as u16));
-        let row = row_of(records::words::field_at(image, at, 0));
+        let fields = records::reader::fields_at(image, domain_offset(doms, DomainNo(d as u16)));
+        let row = row_of(mask_of(fields));
         o[d] = row;
         d += 1;
     }
@@ -83,12 +94,13 @@ fn either_row(a: [bool; 16], b: [bool; 16]) -> [bool; 16]
 
 // Domain d, of n, is at fault. What the other domains that it names name is gathered in one row, which is then searched
 // once, for d and for a gap, and not again for each of them. Its own row is left out: it has d, and no gap to itself.
-fn at_fault(o: &[[bool; 16]; 16], n: usize, d: usize) -> bool
-    requires { ⌜ d < domainLimit ⌝ }
-    ensures { λ r. ⌜ r ≡ faulty (now (o .entry)) n d ⌝ }
+fn at_fault(o: [[bool; 16]; 16], n: usize, d: DomainNo) -> bool
+    requires { ⌜ d .0 < domainLimit ⌝ }
+    ensures { λ r. ⌜ r ≡ faulty o n (d .0) ⌝ }
 {
-    let own = o[d];
-    if !own[d] {
+    let i = d.0 as usize;
+    let own = o[i];
+    if !own[i] {
         return true;
     }
     let mut named = [false; 16];
@@ -98,25 +110,25 @@ fn at_fault(o: &[[bool; 16]; 16], n: usize, d: usize) -> bool
             if n <= e {
                 return true;
             }
-            if e != d {
+            if e != i {
                 named = either_row(named, o[e]);
             }
         }
         e += 1;
     }
-    either(named[d], gap_in(own, named))
+    either(named[i], gap_in(own, named))
 }
 
-// Refused at the first domain at fault. The order is lent: by value, it would be copied for each domain.
-fn first_unordered(o: &[[bool; 16]; 16], doms: &[u16]) -> Verdict
+// Refused at the first domain at fault.
+fn first_unordered(o: [[bool; 16]; 16], doms: &[u16]) -> Verdict
     requires { ⌜ length (now doms) ≤ domainLimit ⌝ }
-    ensures { λ r. ⌜ r ≡ orderFrom (now (doms .entry)) (now (o .entry)) (length (now (doms .entry))) 0 ⌝ }
+    ensures { λ r. ⌜ r ≡ orderFrom (now (doms .entry)) o (length (now (doms .entry))) 0 ⌝ }
 {
     let mut d: usize = 0;
     while d < doms.len() {
-        if at_fault(o, doms.len(), d) {
-            let at = records::numbers::domain_offset(doms, records::numbers::DomainNo(d as u16));
-            return Verdict::Refused(Refusal::DomainOrder, at);
+        let next = DomainNo(d as u16);
+        if at_fault(o, doms.len(), next) {
+            return Verdict::Refused(Refusal::DomainOrder, domain_offset(doms, next));
         }
         d += 1;
     }
@@ -128,5 +140,5 @@ pub fn check_order(image: &[u8], doms: &[u16]) -> Verdict
     ensures { λ r. ⌜ r ≡ domainsOrdered (recordsOf (now (image .entry))) ⌝ }
 {
     let o = order_of(image, doms);
-    first_unordered(&o, doms)
+    first_unordered(o, doms)
 }

@@ -1,3 +1,3 @@
--- Laws of records by their offset and of the frame, and the proofs of the functions.
-pub mod Offsets
+-- Laws of the frame and of the sheet's call, and the proofs of the functions.
 pub mod Frame
+pub mod Listed

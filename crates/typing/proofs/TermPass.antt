@@ -1,5 +1,5 @@
 -- The pass over the terms, child by child, with no fuel.
-use Prim.Native.Nat.{ℕ, suc, _+_, _≤_, _<_}
+use Prim.Native.Nat.{ℕ, suc, _+_, _*_, _≤_, _<_}
 use native.Mathlib.Omega.{arith}
 use native.Mathlib.Numerals.{add-one}
 use mathlib.Core.Path.{_≡_, refl, sym, ap, _∙_}
@@ -10,27 +10,30 @@ use lib.ListN.{length, getD, take, drop, take-append-drop}
 use lib.Seq.{take-all, take-suc, take-take, length-take-le}
 use Rattle.image.specs.declared.Refusal.{Refusal}
 use Rattle.image.specs.Tests.{firstFault}
-use Rattle.image.specs.Bytes.{numberAt}
+use Rattle.image.specs.Bytes.{le16, numberAt}
+use Rattle.image.specs.Kinds.{TermKind}
 use Rattle.image.specs.Layout.{Layout, recordsOf}
-use Rattle.image.specs.Types.{termPlace, children}
+use Rattle.image.specs.Types.{termPlace, termKind, children}
 use Rattle.image.proofs.Facts.{no-path}
-use Rattle.image.proofs.Laid.{Good}
+use Rattle.image.proofs.Words.{words-length, words-at}
 use Rattle.verdicts.specs.declared.Verdict.{Verdict}
 use Rattle.verdicts.specs.Answers.{isRefused}
 use Rattle.verdicts.specs.Settings.{Setting}
-use Rattle.verdicts.specs.Check.{ruleFaults, ruleAt, settingAt, checkAll, checked}
+use Rattle.verdicts.specs.Check.{Rule, ruleFaults, ruleAt, checkAll, checked}
 use Rattle.verdicts.proofs.Answered.{accepted-is}
 use Rattle.verdicts.proofs.Fuel.{checked-refused, checked-children}
 use Rattle.rules.specs.Lent.{Terms, IsTerm, settingIn}
-use Rattle.rules.specs.Scalars.{judged, ruleVerdict}
-use Rattle.rules.proofs.Located.{good-of}
+use Rattle.rules.specs.Judged.{judged, ruleVerdict}
+use Rattle.rules.specs.Fields.{fieldsOf, fieldIn, leadOf, countIn, childrenIn, settingFrom}
+use Rattle.rules.proofs.Elimination.{leaf-childless}
+use Rattle.rules.proofs.Small.{unbound, mistyped}
+use Rattle.rules.proofs.Located.{good-of, number-is, children-in}
+use Rattle.rules.proofs.Verdict.{setting-in}
 use Rattle.rules.proofs.Scopes.{context-kept}
-use Rattle.rules.proofs.Verdict.{childless}
-use Rattle.typing.specs.Turns.{ChildAt}
 
--- The verdict on the first k children of term n, which stands at p, and on the terms below them: "parent before children, left first".
-unfoldable pub front : Layout → Setting ℕ → ℕ → ℕ → Verdict
-front L p n k = checkAll L (λ i e. checked L (settingAt L p n i) e) 0 (take k (children L n))
+-- The verdict on the first j children of a term of kind k, with the fields fs, which stands at p, and on the terms below them: "parent before children, left first".
+unfoldable pub front : List ℕ → List ℕ → TermKind → Setting ℕ → ℕ → Verdict
+front b fs k p j = checkAll (recordsOf b) (λ i e. checked (recordsOf b) (settingFrom b fs k p i) e) 0 (take j (childrenIn fs k))
 
 -- Children in a row: a refusal among the first of them stands; where they pass, one more has the word.
 module _ (L : Layout) (f : ℕ → ℕ → Verdict) where
@@ -63,84 +66,97 @@ module _ (L : Layout) (f : ℕ → ℕ → Verdict) where
           rw (q, checkAll) (more g ∙ ap (λ j. f j e) s)
       go (Verdict.Refused r o) q more = let g = rw (q, checkAll) at h in no-path cc
 
--- The first children of term n.
-module _ (L : Layout) (p : Setting ℕ) (n : ℕ) where
-  abbrev at : ℕ → ℕ → Verdict
-  at i e = checked L (settingAt L p n i) e
+-- Two ways to check a child that agree.
+all-alike : (L : Layout) (f g : ℕ → ℕ → Verdict) → ((i e : ℕ) → f i e ≡ g i e) → (i : ℕ) (es : List ℕ) → checkAll L f i es ≡ checkAll L g i es
+unfolding checkAll
+all-alike L f g h i [] = refl
+all-alike L f g h i (e ∷ es) = go (g i e) refl (all-alike L f g h (suc i) es)
+  where
+    go : (v : Verdict) → g i e ≡ v → checkAll L f (suc i) es ≡ checkAll L g (suc i) es → checkAll L f i (e ∷ es) ≡ checkAll L g i (e ∷ es)
+    go Verdict.Accepted q more = let z : f i e ≡ Verdict.Accepted = h i e ∙ q in rw (z, q, checkAll) more
+    go (Verdict.Refused r o) q more = let z : f i e ≡ Verdict.Refused r o = h i e ∙ q in rw (z, q, checkAll) refl
 
-  pub front-start : Verdict.Accepted ≡ front L p n 0
+module _ (b fs : List ℕ) (k : TermKind) (p : Setting ℕ) where
+  abbrev at : ℕ → ℕ → Verdict
+  at i e = checked (recordsOf b) (settingFrom b fs k p i) e
+
+  pub front-start : Verdict.Accepted ≡ front b fs k p 0
   unfolding front checkAll
   front-start = refl
 
-  pub front-next : (i : ℕ) → i < length (children L n) → front L p n i ≡ Verdict.Accepted → front L p n (i + 1) ≡ checked L (settingAt L p n i) (getD (children L n) i 0)
+  pub front-next : (i : ℕ) → i < countIn fs k → front b fs k p i ≡ Verdict.Accepted → front b fs k p (i + 1) ≡ checked (recordsOf b) (settingFrom b fs k p i) (fieldIn fs (leadOf k + i))
   unfolding front
   front-next i h e =
-      let one : take (i + 1) (children L n) ≡ take i (children L n) ++ (getD (children L n) i 0 ∷ []) = rw (add-one i) (take-suc (children L n) i 0 h) in
-      let l : 0 + length (take i (children L n)) ≡ i = omega (arith, length-take-le i (children L n) (omega arith)) in
-      ap (checkAll L at 0) one ∙ all-next L at 0 (take i (children L n)) (getD (children L n) i 0) e ∙ ap (λ j. at j (getD (children L n) i 0)) l
+      let es : List ℕ = childrenIn fs k in
+      let n : length es ≡ countIn fs k = words-length fs (2 * leadOf k) (countIn fs k) in
+      let one : take (i + 1) es ≡ take i es ++ (getD es i 0 ∷ []) = rw (add-one i) (take-suc es i 0 (omega arith)) in
+      let l : 0 + length (take i es) ≡ i = omega (arith, length-take-le i es (omega arith)) in
+      let q : 2 * leadOf k + 2 * i ≡ 2 * (leadOf k + i) = omega arith in
+      let c : getD es i 0 ≡ fieldIn fs (leadOf k + i) = words-at fs (2 * leadOf k) (countIn fs k) i h ∙ ap (le16 fs) q in
+      ap (checkAll (recordsOf b) at 0) one ∙ all-next (recordsOf b) at 0 (take i es) (getD es i 0) e ∙ ap (λ j. at j (getD es i 0)) l ∙ ap (at i) c
 
-  pub front-stops : (v : Verdict) (i k : ℕ) → i ≤ k → v ≡ front L p n i → isRefused v ≡ true → v ≡ front L p n k
+  pub front-stops : (v : Verdict) (i j : ℕ) → i ≤ j → v ≡ front b fs k p i → isRefused v ≡ true → v ≡ front b fs k p j
   unfolding front
-  front-stops v i k h e r =
-      let xs = take k (children L n) in
-      let e' : v ≡ checkAll L at 0 (take i xs) = e ∙ ap (checkAll L at 0) (sym (take-take i k (children L n) h)) in
+  front-stops v i j h e r =
+      let L : Layout = recordsOf b in
+      let xs = take j (childrenIn fs k) in
+      let e' : v ≡ checkAll L at 0 (take i xs) = e ∙ ap (checkAll L at 0) (sym (take-take i j (childrenIn fs k) h)) in
       e' ∙ sym (all-stops L at 0 (take i xs) (drop i xs) (ap isRefused (sym e') ∙ r)) ∙ ap (checkAll L at 0) (take-append-drop i xs)
 
--- A term that passes its rule is checked when its children are; one that does not is refused.
-module _ (L : Layout) (good : Good L) (p : Setting ℕ) (n : ℕ) (t : n < length (L .terms)) where
-  pub front-whole : ruleVerdict L p n ≡ Verdict.Accepted → (k : ℕ) → length (children L n) ≤ k → front L p n k ≡ checked L p n
-  unfolding ruleVerdict judged front
-  front-whole h k l = go (firstFault (ruleFaults (ruleAt L p n))) refl
-    where
-      go : (x : Option Refusal) → firstFault (ruleFaults (ruleAt L p n)) ≡ x → front L p n k ≡ checked L p n
-      go none q = ap (checkAll L (λ i e. checked L (settingAt L p n i) e) 0) (take-all k (children L n) l) ∙ sym (checked-children L good p n t q)
-      go (some r) q = let z : Verdict.Refused r (termPlace L n) ≡ Verdict.Accepted = rw (q, judged, ruleVerdict) at h in no-path cc
-
-  pub refused-here : (v : Verdict) → v ≡ ruleVerdict L p n → isRefused v ≡ true → v ≡ checked L p n
+-- A term that does not pass its rule is refused; one that passes it is checked when its children are.
+module _ {b terms : List ℕ} (T : Terms b terms) {n : ℕ} (h : IsTerm b n) (p : Setting ℕ) where
+  pub refused-here : (v : Verdict) → v ≡ ruleVerdict (recordsOf b) p n → isRefused v ≡ true → v ≡ checked (recordsOf b) p n
   unfolding ruleVerdict judged
-  refused-here v w f = go (firstFault (ruleFaults (ruleAt L p n))) refl
+  refused-here v w f = go (firstFault (ruleFaults (ruleAt (recordsOf b) p n))) refl
     where
-      h : isRefused (ruleVerdict L p n) ≡ true
-      h = ap isRefused (sym w) ∙ f
+      r : isRefused (ruleVerdict (recordsOf b) p n) ≡ true
+      r = ap isRefused (sym w) ∙ f
 
-      go : (x : Option Refusal) → firstFault (ruleFaults (ruleAt L p n)) ≡ x → v ≡ checked L p n
-      go none q = let z : false ≡ true = rw (q, judged, ruleVerdict) at h in no-path (sym z)
-      go (some r) q = w ∙ rw (q, judged, ruleVerdict) (sym (checked-refused L good p n r q))
+      go : (x : Option Refusal) → firstFault (ruleFaults (ruleAt (recordsOf b) p n)) ≡ x → v ≡ checked (recordsOf b) p n
+      go none q = let z : false ≡ true = rw (q, judged, ruleVerdict) at r in no-path (sym z)
+      go (some u) q = w ∙ rw (q, judged, ruleVerdict) (sym (checked-refused (recordsOf b) (good-of b (T .laid-out)) p n u q))
 
-  -- A term without children is checked once its rule is.
-  childless-checked : length (children L n) ≡ 0 → ruleVerdict L p n ≡ checked L p n
-  childless-checked h = go (isRefused (ruleVerdict L p n)) refl
+  pub front-whole : ruleVerdict (recordsOf b) p n ≡ Verdict.Accepted → {k : TermKind} → termKind (recordsOf b) n ≡ k → (j : ℕ) → countIn (fieldsOf b n) k ≤ j → front b (fieldsOf b n) k p j ≡ checked (recordsOf b) p n
+  unfolding ruleVerdict judged front
+  front-whole a {k} e j l = go (firstFault (ruleFaults (ruleAt (recordsOf b) p n))) refl
     where
-      go : (x : Bool) → isRefused (ruleVerdict L p n) ≡ x → ruleVerdict L p n ≡ checked L p n
-      go true e = refused-here (ruleVerdict L p n) refl e
-      go false e = let a = accepted-is (ruleVerdict L p n) e in a ∙ front-start L p n ∙ front-whole a 0 (omega arith)
+      L : Layout
+      L = recordsOf b
 
--- So is a constant or a variable.
-pub leaf-checked : (b terms : List ℕ) (lent : Terms b terms) (p : Setting ℕ) (e kind : ℕ) → IsTerm b e → kind ≡ numberAt b (termPlace (recordsOf b) e) → kind < 36
-    → ruleVerdict (recordsOf b) p e ≡ checked (recordsOf b) p e
-leaf-checked b terms lent p e kind t q l = childless-checked (recordsOf b) (good-of b (lent .laid-out)) p e t (childless b terms lent e t (rw (← q) l))
+      go : (x : Option Refusal) → firstFault (ruleFaults (ruleAt L p n)) ≡ x → front b (fieldsOf b n) k p j ≡ checked L p n
+      go none q =
+          ap (checkAll L (λ i e. checked L (settingFrom b (fieldsOf b n) k p i) e) 0) (take-all j (childrenIn (fieldsOf b n) k) (rw (words-length (fieldsOf b n) (2 * leadOf k) (countIn (fieldsOf b n) k)) l) ∙ children-in T h e)
+          ∙ all-alike L _ _ (λ i m. ap (λ s. checked L s m) (setting-in T h e p i)) 0 (children L n)
+          ∙ sym (checked-children L (good-of b (T .laid-out)) p n h q)
+      go (some r) q = let z : Verdict.Refused r (termPlace L n) ≡ Verdict.Accepted = rw (q, judged, ruleVerdict) at a in no-path cc
+
+  -- A constant or a variable, which has no children, is checked once its rule is.
+  pub leaf-checked : numberAt b (termPlace (recordsOf b) n) ≤ 35 → ruleVerdict (recordsOf b) p n ≡ checked (recordsOf b) p n
+  leaf-checked l = go (isRefused (ruleVerdict (recordsOf b) p n)) refl
+    where
+      k : TermKind
+      k = termKind (recordsOf b) n
+
+      none : countIn (fieldsOf b n) k ≡ 0
+      none = let e = number-is T h in leaf-childless (fieldsOf b n) k (omega arith)
+
+      go : (x : Bool) → isRefused (ruleVerdict (recordsOf b) p n) ≡ x → ruleVerdict (recordsOf b) p n ≡ checked (recordsOf b) p n
+      go true e = refused-here (ruleVerdict (recordsOf b) p n) refl e
+      go false e = let a = accepted-is (ruleVerdict (recordsOf b) p n) e in a ∙ front-start b (fieldsOf b n) k p ∙ front-whole a refl 0 (omega (arith, none))
 
 -- What is kept of a scope is kept of its first places.
 pub take-fewer : (m n : ℕ) (xs ys : List ℕ) → m ≤ n → take n xs ≡ take n ys → take m xs ≡ take m ys
 take-fewer m n xs ys h e = sym (take-take m n xs h) ∙ ap (take m) e ∙ take-take m n ys h
 
 -- In a scope s that keeps the first places of the scope s₀ a term stands as in s₀.
-same-setting : (s₀ s : List ℕ) (len c : ℕ) → take len s ≡ take len s₀ → settingIn s len c ≡ settingIn s₀ len c
+pub same-setting : (s₀ s : List ℕ) (len c : ℕ) → take len s ≡ take len s₀ → settingIn s len c ≡ settingIn s₀ len c
 same-setting s₀ s len c keep = ap (λ Γ. record { context = Γ; dom = c }) (context-kept s s₀ len keep)
 
-pub still-ruled : (b s₀ s : List ℕ) (len c n : ℕ) → take len s ≡ take len s₀ → ruleVerdict (recordsOf b) (settingIn s₀ len c) n ≡ Verdict.Accepted
-    → ruleVerdict (recordsOf b) (settingIn s len c) n ≡ Verdict.Accepted
-still-ruled b s₀ s len c n keep h = ap (λ p. ruleVerdict (recordsOf b) p n) (same-setting s₀ s len c keep) ∙ h
-
--- A child in such a scope.
-module _ {b s after : List ℕ} {len c n i m d : ℕ} (C : ChildAt b s after len c n i m d) (s₀ : List ℕ) (keep : take len s ≡ take len s₀) where
-  -- It is checked where it stands, behind those before it.
-  pub child-next : i < length (children (recordsOf b) n) → front (recordsOf b) (settingIn s₀ len c) n i ≡ Verdict.Accepted
-      → (e : ℕ) → e ≡ getD (children (recordsOf b) n) i 0 → checked (recordsOf b) (settingIn after m d) e ≡ front (recordsOf b) (settingIn s₀ len c) n (i + 1)
-  child-next l h e q =
-      ap (λ p. checked (recordsOf b) p e) (C .stands ∙ ap (λ p. settingAt (recordsOf b) p n i) (same-setting s₀ s len c keep))
-      ∙ ap (λ k. checked (recordsOf b) (settingAt (recordsOf b) (settingIn s₀ len c) n i) k) q
-      ∙ sym (front-next (recordsOf b) (settingIn s₀ len c) n i l h)
-
-  pub still-kept : (last : List ℕ) → take m last ≡ take m after → take len last ≡ take len s₀
-  still-kept last h = take-fewer len m last after (C .grown) h ∙ C .kept ∙ keep
+-- A rule that passes has the types that it asks for.
+pub types-fit : (place : ℕ) (r : Rule) → judged place r ≡ Verdict.Accepted → r .typed ≡ true
+types-fit place r h = go (r .bound) (r .typed) refl refl
+  where
+    go : (x y : Bool) → r .bound ≡ x → r .typed ≡ y → r .typed ≡ true
+    go x true e f = f
+    go true false e f = let z = mistyped place (r .bound) (r .typed) (r .allowed) e f ∙ h in no-path cc
+    go false false e f = let z = unbound place (r .bound) (r .typed) (r .allowed) e ∙ h in no-path cc

@@ -7,7 +7,7 @@ use Rattle.calculus.specs.Limits.{leafLimit}
 use Rattle.image.specs.Kinds.{TypeKind, typeRow}
 use Rattle.calculus.specs.Combinators.{choose}
 use Rattle.records.specs.Keys.{keyKind, keyField0, keyField1}
-use Rattle.rules.specs.Scalars.{keyIs}
+use Rattle.rules.specs.Judged.{keyIs}
 
 -- The leaves of a pair, from its parts'.
 unfoldable pub joinLeaves : ℕ → ℕ → ℕ

@@ -1,42 +1,44 @@
 -- The typing pass in parts: a child of a term where it stands in a scope, the root (document 01, "Typing"; "Turned back at the gate", refusals 13 to 16, "parent before children, left first").
 use Prim.Native.Nat.{ℕ, _+_, _*_, _≤_, _<_}
 use mathlib.Core.Path.{_≡_}
+use mathlib.Core.Bool.{true}
 use mathlib.Core.List.{List}
 use lib.ListN.{take, length, getD}
 use lib.Dec.{ltb}
 use Rattle.calculus.specs.Plain.{isPlain}
 use Rattle.image.specs.declared.Refusal.{Refusal}
 use Rattle.image.specs.Limits.{depthLimit}
+use Rattle.image.specs.Kinds.{TermKind}
 use Rattle.image.specs.Layout.{Layout, recordsOf}
-use Rattle.image.specs.Types.{termPlace, children, rootOf, rootType}
+use Rattle.image.specs.Types.{termPlace, rootOf, rootType}
 use Rattle.verdicts.specs.declared.Verdict.{Verdict}
 use Rattle.verdicts.specs.Answers.{require}
-use Rattle.verdicts.specs.Shape.{depths}
-use Rattle.verdicts.specs.Acceptable.{Shaped}
-use Rattle.verdicts.specs.Check.{settingAt, check, rootSetting}
-use Rattle.rules.specs.Lent.{Lent, IsTerm, settingIn}
-use Rattle.rules.specs.Scalars.{ruleVerdict}
+use Rattle.verdicts.specs.Shape.{depths, Shaped}
+use Rattle.verdicts.specs.Check.{check, rootSetting}
+use Rattle.rules.specs.Lent.{settingIn}
+use Rattle.rules.specs.Fields.{leadOf, countIn, ruleIn, settingFrom, Typed, Behind}
 
--- Term n of the image b passes its rule in the scope, at the domain c, and has a child i; and there is room for two variables more.
-pub record Passed (b terms keys scope : List ℕ) (len c n i : ℕ) : Type 0 where
-  pub lent : Lent b terms keys
-  pub term : IsTerm b n
-  pub ruled : ruleVerdict (recordsOf b) (settingIn scope len c) n ≡ Verdict.Accepted
-  pub child : i < length (children (recordsOf b) n)
-  pub room : len + 2 ≤ length scope
+-- A term of kind k, with the fields fs, has the types that its rule asks for, in the scope, at the domain c; and there is room for two variables more.
+pub record Passed (b fs : List ℕ) (k : TermKind) (scope : List ℕ) (len c : ℕ) : Type 0 where
+  pub typed : Typed b fs
+  pub children : (i : ℕ) → i < countIn fs k → Behind b fs (leadOf k + i)
+  pub fits : ruleIn b fs k (settingIn scope len c) .typed ≡ true
+  pub places : length scope ≡ 2 * depthLimit
+  pub room : len + 2 ≤ 2 * depthLimit
 
--- Child i stands in the first m places of the scope after, at the domain d; the first places that were used are kept.
-pub record ChildAt (b before after : List ℕ) (len c n i m d : ℕ) : Type 0 where
-  pub stands : settingIn after m d ≡ settingAt (recordsOf b) (settingIn before len c) n i
+-- Its child i stands in the first m places of the scope after, at the domain d; the first places that were used are kept.
+pub record ChildAt (b fs : List ℕ) (k : TermKind) (i : ℕ) (before after : List ℕ) (len c m d : ℕ) : Type 0 where
+  pub stands : settingIn after m d ≡ settingFrom b fs k (settingIn before len c) i
   pub kept : take len after ≡ take len before
+  pub same : length after ≡ length before
   pub grown : len ≤ m
   pub little : m ≤ len + 2
 
 -- The scope has room for all that term n and the terms below it bind. The image has passed refusals 11 and 12 (document 01, "Turned back at the gate"): each term but the root is a child once, and none is deeper than 64, the root having depth 1. A level binds two variables at most, so at depth d at most 2 * (d - 1) places are used, and 2 * 64 are enough.
 pub record Room (b scope : List ℕ) (len n : ℕ) : Type 0 where
+  pub places : length scope ≡ 2 * depthLimit
   pub shaped : Shaped (recordsOf b)
   pub few : len + 2 ≤ 2 * getD (depths (recordsOf b)) n 0
-  pub places : 2 * depthLimit ≤ length scope
 
 -- So many domains, types and terms, of these one at least.
 pub record Counted (b : List ℕ) (domains types terms : ℕ) : Type 0 where

@@ -1,11 +1,12 @@
 // The leaves of the plain types, by number.
 use records::numbers::TypeNo;
 use records::numbers::type_key;
+use rules::kinds;
 use rules::types::first_type;
 use rules::types::second_type;
 ghost use mathlib.Core.Path.{_≡_};
 ghost use Prim.Native.Nat.{_≤_, _<_};
-ghost use lib.ListN.{length, getD, drop};
+ghost use lib.ListN.{length, getD, set, drop};
 ghost use Rattle.calculus.specs.Limits.{leafLimit};
 ghost use Rattle.image.specs.Layout.{recordsOf};
 ghost use Rattle.records.specs.Keys.{keyKind, keyField0, keyField1};
@@ -27,6 +28,7 @@ fn join_leaves(m: u8, n: u8) -> u8
     if m + n <= 8 { m + n } else { 0 }
 }
 
+// The leaves of a type in the table.
 pub fn leaves_at(table: &[u8], t: TypeNo) -> u8
     requires { ⌜ t .0 < length (now table) ⌝ }
     ensures { λ r. ⌜ r ≡ getD (now (table .entry)) (t .0) 0 ⌝ }
@@ -40,12 +42,19 @@ fn leaves_of(key: u32, table: &[u8]) -> u8
     ensures { λ r. ⌜ r ≡ leavesOf key (now (table .entry)) ⌝ }
 {
     let kind = records::numbers::key_kind(key);
-    if kind == 19 {
+    if kind == kinds::PAIR_TYPE {
         let m = leaves_at(table, first_type(key));
         let n = leaves_at(table, second_type(key));
         return join_leaves(m, n);
     }
-    if kind < 19 { 1 } else { 0 }
+    if kind < kinds::PAIR_TYPE { 1 } else { 0 }
+}
+
+fn set_leaf(table: &mut [u8], t: TypeNo, n: u8)
+    requires { ⌜ t .0 < length (now table) ⌝ }
+    ensures { λ _. ⌜ now (table .exit) ≡ set (now (table .entry)) (t .0) n ⌝ }
+{
+    table[t.0 as usize] = n;
 }
 
 // Fills the first places of a table with the leaves of the types; what stands behind them is kept.
@@ -53,11 +62,12 @@ pub fn set_leaves(image: &[u8], keys: &[u32], count: usize, table: &mut [u8])
     requires { ⌜ Types (now image) (now keys) × (count ≡ length (recordsOf (now image) .types)) × (count ≤ length (now table)) ⌝ }
     ensures { λ _. ⌜ Leaves (now (image .entry)) (now (table .exit)) × (drop count (now (table .exit)) ≡ drop count (now (table .entry))) ⌝ }
 {
-    let mut t: usize = 0;
-    while t < count {
-        let n = leaves_of(keys[t], table);
-        table[t] = n;
-        t += 1;
+    let mut i: usize = 0;
+    while i < count {
+        let t = TypeNo(i as u16);
+        let n = leaves_of(type_key(keys, t), table);
+        set_leaf(table, t, n);
+        i += 1;
     }
 }
 
@@ -66,7 +76,7 @@ pub fn type_leaves(image: &[u8], keys: &[u32], count: usize, t: TypeNo) -> u8
     requires { ⌜ Types (now image) (now keys) × (count ≡ length (recordsOf (now image) .types)) × IsType (now image) (t .0) ⌝ }
     ensures { λ r. ⌜ r ≡ plainLeaves (typeOf (recordsOf (now (image .entry))) (t .0)) ⌝ }
 {
-    if records::numbers::key_kind(type_key(keys, t)) < 19 {
+    if records::numbers::key_kind(type_key(keys, t)) < kinds::PAIR_TYPE {
         return 1;
     }
     let mut table = [0u8; 128];

@@ -8,7 +8,7 @@ ghost use Prim.Native.Nat.{_<_};
 ghost use lib.ListN.{length};
 ghost use Rattle.image.specs.Layout.{recordsOf};
 ghost use Rattle.verdicts.specs.Check.{typing};
-ghost use Rattle.verdicts.specs.Acceptable.{Shaped};
+ghost use Rattle.verdicts.specs.Shape.{Shaped};
 ghost use Rattle.records.specs.Codes.{kindCodes};
 ghost use Rattle.records.specs.Tables.{Tables};
 ghost use Rattle.rules.specs.Lent.{Lent, Masks, Terms, Types};
@@ -20,30 +20,13 @@ pub mod scope;
 
 // The root is the last term. It is checked with no variables, at domain 0. No term is deeper than 64 (refusal 12), and a level
 // binds two variables at most, so a scope of 128 places is enough.
-fn check_root(
-    image: &[u8],
-    kinds: &[u32],
-    masks: &[u16],
-    terms: &[u16],
-    keys: &[u32],
-    count: usize,
-) -> Verdict
-    requires { ⌜ Lent (now image) (now terms) (now keys) × (count ≡ length (recordsOf (now image) .terms)) × (0 < count) × (now kinds ≡ kindCodes) × Masks (now image) (now masks) × Shaped (recordsOf (now image)) ⌝ }
+fn check_root(image: &[u8], terms: &[u16], keys: &[u32], count: usize, masks: &[u16; 16]) -> Verdict
+    requires { ⌜ Lent (now image) (now terms) (now keys) × (count ≡ length (recordsOf (now image) .terms)) × (0 < count) × Masks (now image) (now masks) × Shaped (recordsOf (now image)) ⌝ }
     ensures { λ r. ⌜ r ≡ rootChecked (recordsOf (now (image .entry))) ⌝ }
 {
     let mut scope = [0u8; 128];
     let root = TermNo((count - 1) as u16);
-    pass::check_term(
-        image,
-        kinds,
-        masks,
-        terms,
-        keys,
-        &mut scope,
-        0,
-        DomainNo(0),
-        root,
-    )
+    pass::check_term(image, terms, keys, root, DomainNo(0), masks, &mut scope, 0)
 }
 
 // 16 for a term at an offset, from the leaves of its type.
@@ -65,7 +48,7 @@ fn check_plain(image: &[u8], terms: &[u16], keys: &[u32], types: usize, count: u
         image,
         keys,
         types,
-        rules::terms::term_type(image, terms, root),
+        rules::terms::stated_type(image, terms, root),
     );
     plain_at(n, rules::terms::term_place(image, terms, root))
 }
@@ -86,7 +69,7 @@ pub fn check_typing(
 {
     let mut masks = [0u16; 16];
     rules::domains::set_masks(image, doms, domains, &mut masks);
-    let v = check_root(image, kinds, &masks, terms, keys, count);
+    let v = check_root(image, terms, keys, count, &masks);
     if verdicts::is_refused(v) {
         return v;
     }

@@ -1,24 +1,21 @@
 // Where a child of a term stands: the types of the variables, in the first places of a lent scope, the innermost last; and
 // the current domain (document 01, "Typing").
 use records::numbers::DomainNo;
-use records::numbers::TermNo;
 use records::numbers::TypeNo;
-use records::numbers::type_key;
-use rules::terms::child_type;
-use rules::terms::field_behind;
-use rules::terms::term_kind;
-use rules::terms::term_type;
+use rules::kinds;
+use rules::terms::key_behind;
+use rules::terms::other_field;
+use rules::terms::own_key;
 use rules::types::first_domain;
 use rules::types::first_type;
 use rules::types::second_domain;
 use rules::types::second_type;
 ghost use mathlib.Core.Path.{_≡_};
-ghost use Prim.Native.Nat.{_<_};
-ghost use lib.ListN.{length, set};
-ghost use Rattle.image.specs.Bytes.{numberAt};
-ghost use Rattle.image.specs.Layout.{recordsOf};
-ghost use Rattle.image.specs.Types.{termPlace};
-ghost use Rattle.records.specs.Codes.{kindCodes};
+ghost use Prim.Native.Nat.{ℕ, _<_};
+ghost use lib.ListN.{set};
+ghost use Rattle.image.specs.Kinds.{TermKind, termRow};
+ghost use Rattle.rules.specs.Lent.{Types, Lent};
+ghost use Rattle.rules.specs.Fields.{countIn};
 ghost use Rattle.typing.specs.Turns.{Passed, ChildAt};
 
 // How many places of the scope are used, and the current domain.
@@ -27,8 +24,8 @@ pub struct Setting {
     pub dom: DomainNo,
 }
 
-fn bind(scope: &mut [u8], len: usize, t: TypeNo)
-    requires { ⌜ (len < length (now scope)) × (t .0 < 256) ⌝ }
+fn bind(scope: &mut [u8; 128], len: usize, t: TypeNo)
+    requires { ⌜ (len < 128) × (t .0 < 256) ⌝ }
     ensures { λ _. ⌜ now (scope .exit) ≡ set (now (scope .entry)) len (t .0) ⌝ }
 {
     scope[len] = t.0 as u8;
@@ -37,46 +34,43 @@ fn bind(scope: &mut [u8], len: usize, t: TypeNo)
 // The body of a function stands under its parameter, at its type's domain.
 fn function_setting(
     image: &[u8],
-    terms: &[u16],
     keys: &[u32],
-    scope: &mut [u8],
-    len: usize,
-    c: DomainNo,
-    n: TermNo,
-    i: usize,
+    scope: &mut [u8; 128],
+    p: Setting,
+    fields: &[u8],
 ) -> Setting
-    requires { ⌜ Passed (now image) (now terms) (now keys) (now scope) len (c .0) (n .0) i × (numberAt (now image) (termPlace (recordsOf (now image)) (n .0)) ≡ 41) ⌝ }
-    ensures { λ r. ⌜ ChildAt (now (image .entry)) (now (scope .entry)) (now (scope .exit)) len (c .0) (n .0) i (r .len) (r .dom .0) ⌝ }
+    requires { ⌜ Types (now image) (now keys) × Passed (now image) (now fields) TermKind.fun (now scope) (p .len) (p .dom .0) ⌝ }
+    ensures { λ r. ⌜ ((i : ℕ) → ChildAt (now (image .entry)) (now (fields .entry)) TermKind.fun i (now (scope .entry)) (now (scope .exit)) (p .len) (p .dom .0) (r .len) (r .dom .0)) ⌝ }
 {
-    let own = type_key(keys, term_type(image, terms, n));
-    bind(scope, len, first_type(own));
+    let own = own_key(keys, fields);
+    bind(scope, p.len, first_type(own));
+    let inner = second_domain(own);
     Setting {
-        len: len + 1,
-        dom: second_domain(own),
+        len: p.len + 1,
+        dom: inner,
     }
 }
 
 // The body of a split stands under both parts of the pair.
 fn split_setting(
     image: &[u8],
-    kinds: &[u32],
     terms: &[u16],
     keys: &[u32],
-    scope: &mut [u8],
-    len: usize,
-    c: DomainNo,
-    n: TermNo,
+    scope: &mut [u8; 128],
+    p: Setting,
+    fields: &[u8],
 ) -> Setting
-    requires { ⌜ Passed (now image) (now terms) (now keys) (now scope) len (c .0) (n .0) 1 × (numberAt (now image) (termPlace (recordsOf (now image)) (n .0)) ≡ 40) × (now kinds ≡ kindCodes) ⌝ }
-    ensures { λ r. ⌜ ChildAt (now (image .entry)) (now (scope .entry)) (now (scope .exit)) len (c .0) (n .0) 1 (r .len) (r .dom .0) ⌝ }
+    requires { ⌜ Lent (now image) (now terms) (now keys) × Passed (now image) (now fields) TermKind.split (now scope) (p .len) (p .dom .0) ⌝ }
+    ensures { λ r. ⌜ ChildAt (now (image .entry)) (now (fields .entry)) TermKind.split 1 (now (scope .entry)) (now (scope .exit)) (p .len) (p .dom .0) (r .len) (r .dom .0) ⌝ }
 {
-    let pair = type_key(keys, child_type(image, kinds, terms, n, 0));
+    let pair = key_behind(image, terms, keys, fields, 1);
     let first = first_type(pair);
     let second = second_type(pair);
-    bind(scope, len, first);
-    bind(scope, len + 1, second);
+    bind(scope, p.len, first);
+    bind(scope, p.len + 1, second);
+    let c = p.dom;
     Setting {
-        len: len + 2,
+        len: p.len + 2,
         dom: c,
     }
 }
@@ -84,59 +78,68 @@ fn split_setting(
 // The body of an advice stands under the value of its pointcut, at its type's domain.
 fn advice_setting(
     image: &[u8],
-    kinds: &[u32],
     terms: &[u16],
     keys: &[u32],
-    scope: &mut [u8],
-    len: usize,
-    c: DomainNo,
-    n: TermNo,
+    scope: &mut [u8; 128],
+    p: Setting,
+    fields: &[u8],
 ) -> Setting
-    requires { ⌜ Passed (now image) (now terms) (now keys) (now scope) len (c .0) (n .0) 1 × (numberAt (now image) (termPlace (recordsOf (now image)) (n .0)) ≡ 47) × (now kinds ≡ kindCodes) ⌝ }
-    ensures { λ r. ⌜ ChildAt (now (image .entry)) (now (scope .entry)) (now (scope .exit)) len (c .0) (n .0) 1 (r .len) (r .dom .0) ⌝ }
+    requires { ⌜ Lent (now image) (now terms) (now keys) × Passed (now image) (now fields) TermKind.adv (now scope) (p .len) (p .dom .0) ⌝ }
+    ensures { λ r. ⌜ ChildAt (now (image .entry)) (now (fields .entry)) TermKind.adv 1 (now (scope .entry)) (now (scope .exit)) (p .len) (p .dom .0) (r .len) (r .dom .0) ⌝ }
 {
-    let own = type_key(keys, term_type(image, terms, n));
-    let pointcut = type_key(keys, child_type(image, kinds, terms, n, 0));
-    bind(scope, len, first_type(pointcut));
+    let own = own_key(keys, fields);
+    let pointcut = key_behind(image, terms, keys, fields, 1);
+    bind(scope, p.len, first_type(pointcut));
+    let inner = first_domain(own);
     Setting {
-        len: len + 1,
-        dom: first_domain(own),
+        len: p.len + 1,
+        dom: inner,
     }
 }
 
-// Child i of a term that has passed its rule.
+// The body of a lower stands at the domain in its field.
+fn lower_setting(image: &[u8], scope: &[u8; 128], p: Setting, fields: &[u8]) -> Setting
+    requires { ⌜ Passed (now image) (now fields) TermKind.lower (now scope) (p .len) (p .dom .0) ⌝ }
+    ensures { λ r. ⌜ ((i : ℕ) → ChildAt (now (image .entry)) (now (fields .entry)) TermKind.lower i (now (scope .entry)) (now (scope .entry)) (p .len) (p .dom .0) (r .len) (r .dom .0)) ⌝ }
+{
+    let lower = DomainNo(other_field(fields));
+    Setting {
+        len: p.len,
+        dom: lower,
+    }
+}
+
+// Child i of a term that stands at p and has passed its rule.
 pub fn child_setting(
     image: &[u8],
-    kinds: &[u32],
     terms: &[u16],
     keys: &[u32],
-    scope: &mut [u8],
-    len: usize,
-    c: DomainNo,
-    n: TermNo,
+    scope: &mut [u8; 128],
+    p: Setting,
+    kind: u16,
+    fields: &[u8],
     i: usize,
 ) -> Setting
-    requires { ⌜ Passed (now image) (now terms) (now keys) (now scope) len (c .0) (n .0) i × (now kinds ≡ kindCodes) ⌝ }
-    ensures { λ r. ⌜ ChildAt (now (image .entry)) (now (scope .entry)) (now (scope .exit)) len (c .0) (n .0) i (r .len) (r .dom .0) ⌝ }
+    requires { ⌜ Lent (now image) (now terms) (now keys) × ((k : TermKind) → kind ≡ termRow k .number → Passed (now image) (now fields) k (now scope) (p .len) (p .dom .0) × (i < countIn (now fields) k)) ⌝ }
+    ensures { λ r. ⌜ ((k : TermKind) → kind ≡ termRow k .number → ChildAt (now (image .entry)) (now (fields .entry)) k i (now (scope .entry)) (now (scope .exit)) (p .len) (p .dom .0) (r .len) (r .dom .0)) ⌝ }
 {
-    let kind = term_kind(image, terms, n);
-    if kind == 41 {
-        return function_setting(image, terms, keys, scope, len, c, n, i);
-    }
-    if kind == 52 {
-        let lower = DomainNo(field_behind(image, terms, n));
-        return Setting {
-            len: len,
-            dom: lower,
-        };
-    }
-    if i == 1 {
-        if kind == 40 {
-            return split_setting(image, kinds, terms, keys, scope, len, c, n);
+    match kind {
+        kinds::FUNCTION => function_setting(image, keys, scope, p, fields),
+        kinds::LOWER => lower_setting(image, scope, p, fields),
+        kinds::SPLIT => {
+            if i == 1 {
+                split_setting(image, terms, keys, scope, p, fields)
+            } else {
+                p
+            }
         }
-        if kind == 47 {
-            return advice_setting(image, kinds, terms, keys, scope, len, c, n);
+        kinds::ADVICE => {
+            if i == 1 {
+                advice_setting(image, terms, keys, scope, p, fields)
+            } else {
+                p
+            }
         }
+        _ => p,
     }
-    Setting { len: len, dom: c }
 }

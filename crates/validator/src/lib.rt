@@ -19,22 +19,19 @@ fn examine_whole(image: &[u8]) -> Verdict
     ensures { λ r. ⌜ r ≡ examined (now (image .entry)) ⌝ }
 {
     let kinds = records::kinds::kind_codes();
-    let mut sizes = layout::start_sizes();
     let mut doms = [0u16; 16];
     let mut types = [0u16; 128];
     let mut keys = [0u32; 128];
-    let mut seen = [false; 256];
     let mut terms = [0u16; 1024];
-    examine::examine_image(
+    let checked = examine::examine_image(
         image,
         &kinds,
-        &mut sizes,
         &mut doms,
         &mut types,
         &mut keys,
-        &mut seen,
         &mut terms,
-    )
+    );
+    examine::verdict_of(checked)
 }
 
 // The verdict on an image, for a work area and a report of so many bytes: refusals 1 to 18 in their order.

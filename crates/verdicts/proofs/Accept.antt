@@ -1,132 +1,96 @@
--- What acceptance means, both ways: an image is accepted exactly if it is laid out, its program is well typed by the calculus's rules with a plain root, and the lent memory is long enough.
+-- What acceptance means, both ways: an image is accepted exactly if it is laid out, its domains are partially ordered, its terms are a tree that is not too deep, its program is well typed by the calculus's rules with a plain root, and the lent memory is long enough.
 use Prim.Native.Nat.{ℕ, zero, suc, _<_}
 use native.Mathlib.Omega.{arith}
 use mathlib.Core.Path.{_≡_, refl, sym, ap, subst, _∙_}
 use mathlib.Core.Logic.{_↔_}
-use mathlib.Core.Bool.{true, not}
-use mathlib.Core.List.{List, [], _∷_}
+use mathlib.Core.Bool.{true}
+use mathlib.Core.List.{List, []}
 use lib.ListN.{length}
-use Rattle.calculus.specs.Syntax.{Dom}
 use Rattle.calculus.specs.Plain.{isPlain}
 use Rattle.calculus.specs.Typing.{noStore, TmTy}
-use Rattle.image.specs.Layout.{Layout, isNil, Scan, stopped, laid, layout, recordsOf}
+use Rattle.image.specs.Records.{Layout}
+use Rattle.image.specs.Layout.{laid, layout, recordsOf}
 use Rattle.image.specs.Types.{typeOf, statedType, rootOf, rootType}
 use Rattle.image.specs.Program.{tree, program, toTm}
-use Rattle.image.proofs.Facts.{no-path, not-t, le-of, of-le, each, of-each}
 use Rattle.image.proofs.TypeNumbers.{same-number}
-use Rattle.image.proofs.Laid.{Good, layout-good, records-of}
+use Rattle.image.proofs.Laid.{Good, layout-good, records-of, image-kept}
+use Rattle.image.proofs.LaidOut.{laid-iff}
 use Rattle.verdicts.specs.declared.Verdict.{Verdict}
-use Rattle.verdicts.specs.Order.{leq, policy, atFault}
-use Rattle.verdicts.specs.Shape.{shape}
-use Rattle.verdicts.specs.Check.{rootSetting, typing}
-use Rattle.verdicts.specs.Verdicts.{laidOut, verdict}
+use Rattle.verdicts.specs.Domains.{policy}
+use Rattle.verdicts.specs.Shape.{usedOnce, Shaped}
+use Rattle.verdicts.specs.Verdicts.{verdict}
 use Rattle.verdicts.specs.WellTyped.{stated, WellTyped}
-use Rattle.verdicts.specs.Acceptable.{Shaped, mainline, Acceptable}
-use Rattle.verdicts.proofs.Answered.{not-refused, in-turn, turn-in, turned, required, of-required, required-each, each-required}
-use Rattle.verdicts.proofs.Order.{leq-there, leq-reflexive, leq-antisymmetric, leq-transitive}
-use Rattle.verdicts.proofs.Sound.{ChildSound, check-sound}
-use Rattle.verdicts.proofs.Complete.{ChildComplete, check-complete}
+use Rattle.verdicts.specs.Acceptable.{PartialOrder, mainline, Acceptable}
+use Rattle.verdicts.proofs.Order.{order-iff}
+use Rattle.verdicts.proofs.Uses.{once-iff}
+use Rattle.verdicts.proofs.Depths.{shallow-iff}
+use Rattle.verdicts.proofs.Passed.{Passed, passed-iff}
 use Rattle.verdicts.proofs.Term.{well-term}
 
-not-nil : (xs : List ℕ) → not (isNil xs) ≡ true → 0 < length xs
-not-nil [] h = no-path (sym h)
-not-nil (x ∷ xs) h = omega arith
+-- What passes is acceptable, by the records that the walk has found.
+passed-acceptable : (b : List ℕ) (work report : ℕ) → Passed b work report → Acceptable b work report
+passed-acceptable b work report p =
+    let L : Layout = recordsOf b in
+    let s = p .shaped in
+    let good = layout-good b L (p .laid-out) in
+    let e : L .image ≡ b = image-kept b L (p .laid-out) in
+    record {
+      short = p .short;
+      records = L;
+      image = e;
+      laid-out = laid-iff L .0 (ap (λ c. layout c) e ∙ p .laid-out);
+      has-domains = s .has-domains;
+      has-types = s .has-types;
+      has-terms = s .has-terms;
+      ordered = order-iff L .0 (s .ordered);
+      used = λ n l. once-iff L n .0 (s .used n l);
+      shallow = shallow-iff L good (s .has-terms) (s .used) .0 (s .shallow);
+      well-typed = p .well-typed;
+      plain = p .plain;
+      work-enough = p .work-enough;
+      report-enough = p .report-enough;
+    }
 
-some-there : (xs : List ℕ) → 0 < length xs → not (isNil xs) ≡ true
-some-there [] h = absurd (omega arith)
-some-there (x ∷ xs) h = refl
+-- The walk finds the records of what is acceptable.
+acceptable-laid : {b : List ℕ} {work report : ℕ} (a : Acceptable b work report) → layout b ≡ laid (a .records)
+acceptable-laid a = ap (λ c. layout c) (sym (a .image)) ∙ laid-iff (a .records) .1 (a .laid-out)
 
-pub shape-accepts : (L : Layout) (size : ℕ) → shape L size ≡ Verdict.Accepted ↔ Shaped L
-unfolding shape
-shape-accepts L size = (there, back)
-  where
-    there : shape L size ≡ Verdict.Accepted → Shaped L
-    there h =
-        let t9 = in-turn _ _ h in
-        let t10 = in-turn _ _ (t9 .1) in
-        let t11 = in-turn _ _ (t10 .1) in
-        let t12 = in-turn _ _ (t11 .1) in
-        let s = each _ (required _ _ _ (t9 .0)) in
-        record {
-          has-domains = not-nil (L .domains) (s .0);
-          has-types = not-nil (L .types) (s .1 .0);
-          has-terms = not-nil (L .terms) (s .1 .1 .0);
-          ordered = λ d l. not-t (atFault L d) (required-each _ _ _ _ _ (t10 .0) d (omega arith) (omega arith));
-          used = λ n l. required-each _ _ _ _ _ (t11 .0) n (omega arith) (omega arith);
-          shallow = λ n l. le-of (required-each _ _ _ _ _ (t12 .0) n (omega arith) (omega arith));
-        }
+-- An image has no other records.
+pub acceptable-records : {b : List ℕ} {work report : ℕ} (a : Acceptable b work report) → a .records ≡ recordsOf b
+acceptable-records {b} a = sym (records-of b (a .records) (acceptable-laid a))
 
-    back : Shaped L → shape L size ≡ Verdict.Accepted
-    back s =
-        turn-in _ _ (of-required _ _ (of-each _ (some-there (L .domains) (s .has-domains), (some-there (L .types) (s .has-types), (some-there (L .terms) (s .has-terms), tt)))))
-        (turn-in _ _ (each-required _ _ _ _ _ (λ d l m. let q = s .ordered d (omega arith) in rw q refl))
-        (turn-in _ _ (each-required _ _ _ _ _ (λ n l m. s .used n (omega arith)))
-        (turn-in _ _ (each-required _ _ _ _ _ (λ n l m. of-le (s .shallow n (omega arith)))) turned)))
-
-root-there : (L : Layout) → 0 < length (L .terms) → rootOf L < length (L .terms)
-root-there L h = omega arith
-
-pub typing-accepts : (L : Layout) → Good L → 0 < length (L .terms) → typing L ≡ Verdict.Accepted ↔ (WellTyped (policy L) mainline (program L) × (isPlain (rootType L) ≡ true))
-unfolding typing program ChildSound ChildComplete
-typing-accepts L good l = (there, back)
-  where
-    there : typing L ≡ Verdict.Accepted → WellTyped (policy L) mainline (program L) × (isPlain (rootType L) ≡ true)
-    there h =
-        let t13 = in-turn _ _ h in
-        let t16 = in-turn _ _ (t13 .1) in
-        (check-sound L good (length (L .terms)) (rootSetting L) (rootOf L) (root-there L l) (t13 .0), required _ _ _ (t16 .0))
-
-    back : WellTyped (policy L) mainline (program L) × (isPlain (rootType L) ≡ true) → typing L ≡ Verdict.Accepted
-    back w = turn-in _ _ (check-complete L good (length (L .terms)) (rootSetting L) (rootOf L) (root-there L l) tt (w .0)) (turn-in _ _ (of-required _ _ (w .1)) turned)
-
-laid-there : (b : List ℕ) → laidOut (layout b) ≡ Verdict.Accepted → layout b ≡ laid (recordsOf b)
-unfolding recordsOf
-laid-there b h = go (layout b) refl
-  where
-    go : (x : Scan) → layout b ≡ x → layout b ≡ laid (recordsOf b)
-    go (stopped r o) e = let z : Verdict.Refused r o ≡ Verdict.Accepted = rw e at h in not-refused z
-    go (laid L) e = e ∙ ap laid (sym (records-of b L e))
+acceptable-passed : (b : List ℕ) (work report : ℕ) → Acceptable b work report → Passed b work report
+acceptable-passed b work report a =
+    let L : Layout = a .records in
+    let good = layout-good b L (acceptable-laid a) in
+    let once : (n : ℕ) → n < rootOf L → usedOnce L n ≡ true = λ n l. once-iff L n .1 (a .used n l) in
+    let s : Shaped L =
+    record {
+      has-domains = a .has-domains;
+      has-types = a .has-types;
+      has-terms = a .has-terms;
+      ordered = order-iff L .1 (a .ordered);
+      used = once;
+      shallow = shallow-iff L good (a .has-terms) once .1 (a .shallow);
+    } in
+    let e : L ≡ recordsOf b = acceptable-records a in
+    record {
+      short = a .short;
+      laid-out = acceptable-laid a ∙ ap laid e;
+      shaped = subst Shaped e s;
+      well-typed = subst (λ K. WellTyped (policy K) mainline (program K)) e (a .well-typed);
+      plain = subst (λ K. isPlain (rootType K) ≡ true) e (a .plain);
+      work-enough = a .work-enough;
+      report-enough = a .report-enough;
+    }
 
 -- The validator accepts exactly what is acceptable.
 pub accepted-iff : (b : List ℕ) (work report : ℕ) → verdict b work report ≡ Verdict.Accepted ↔ Acceptable b work report
-unfolding verdict
-accepted-iff b work report = (there, back)
-  where
-    L : Layout
-    L = recordsOf b
-
-    there : verdict b work report ≡ Verdict.Accepted → Acceptable b work report
-    there h =
-        let t1 = in-turn _ _ h in
-        let t2 = in-turn _ _ (t1 .1) in
-        let t9 = in-turn _ _ (t2 .1) in
-        let t13 = in-turn _ _ (t9 .1) in
-        let t17 = in-turn _ _ (t13 .1) in
-        let t18 = in-turn _ _ (t17 .1) in
-        let l = laid-there b (t2 .0) in
-        let s = shape-accepts (recordsOf b) (length b) .0 (t9 .0) in
-        let t = typing-accepts (recordsOf b) (layout-good b (recordsOf b) l) (s .has-terms) .0 (t13 .0) in
-        record {
-          short = le-of (required _ _ _ (t1 .0));
-          laid-out = l;
-          shaped = s;
-          well-typed = t .0;
-          plain = t .1;
-          work-enough = le-of (required _ _ _ (t17 .0));
-          report-enough = le-of (required _ _ _ (t18 .0));
-        }
-
-    back : Acceptable b work report → verdict b work report ≡ Verdict.Accepted
-    back a =
-        let l = a .laid-out in
-        turn-in _ _ (of-required _ _ (of-le (a .short)))
-        (turn-in _ _ (ap laidOut l)
-        (turn-in _ _ (shape-accepts (recordsOf b) (length b) .1 (a .shaped))
-        (turn-in _ _ (typing-accepts (recordsOf b) (layout-good b (recordsOf b) l) (a .shaped .has-terms) .1 (a .well-typed, a .plain))
-        (turn-in _ _ (of-required _ _ (of-le (a .work-enough))) (turn-in _ _ (of-required _ _ (of-le (a .report-enough))) turned)))))
+accepted-iff b work report =
+    (λ h. passed-acceptable b work report (passed-iff b work report .0 h), λ a. passed-iff b work report .1 (acceptable-passed b work report a))
 
 pub accepted-good : (b : List ℕ) (work report : ℕ) → verdict b work report ≡ Verdict.Accepted → Good (recordsOf b)
-accepted-good b work report h = layout-good b (recordsOf b) (accepted-iff b work report .0 h .laid-out)
+accepted-good b work report h = layout-good b (recordsOf b) (passed-iff b work report .0 h .laid-out)
 
 tree-stated : (L : Layout) (f n : ℕ) → 0 < f → stated (tree L f n) ≡ statedType L n
 unfolding tree
@@ -137,26 +101,17 @@ tree-stated L (suc f) n h = refl
 pub accepted-typed : (b : List ℕ) (work report : ℕ) → verdict b work report ≡ Verdict.Accepted → TmTy (policy (recordsOf b)) noStore [] 0 (toTm (program (recordsOf b))) (rootType (recordsOf b))
 unfolding program
 accepted-typed b work report h =
-    let a = accepted-iff b work report .0 h in
+    let a = passed-iff b work report .0 h in
     let L : Layout = recordsOf b in
     subst (λ t. TmTy (policy L) noStore [] 0 (toTm (program L)) t) (tree-stated L (length (L .terms)) (rootOf L) (a .shaped .has-terms)) (well-term (policy L) mainline (program L) (a .well-typed))
 
 pub accepted-plain : (b : List ℕ) (work report : ℕ) → verdict b work report ≡ Verdict.Accepted → isPlain (rootType (recordsOf b)) ≡ true
-accepted-plain b work report h = accepted-iff b work report .0 h .plain
+accepted-plain b work report h = passed-iff b work report .0 h .plain
 
 -- The order of an accepted image's domains is a partial order.
-pub record PartialOrder (L : Layout) : Type 0 where
-  pub there : (d e : Dom) → leq L d e ≡ true → (d < length (L .domains)) × (e < length (L .domains))
-  pub reflexive : (d : Dom) → d < length (L .domains) → leq L d d ≡ true
-  pub antisymmetric : (d e : Dom) → leq L d e ≡ true → leq L e d ≡ true → d ≡ e
-  pub transitive : (d e f : Dom) → leq L d e ≡ true → leq L e f ≡ true → leq L d f ≡ true
-
 pub accepted-order : (b : List ℕ) (work report : ℕ) → verdict b work report ≡ Verdict.Accepted → PartialOrder (recordsOf b)
 accepted-order b work report h =
-    let L : Layout = recordsOf b in
-    let few = accepted-good b work report h .few-domains in
-    let ok = accepted-iff b work report .0 h .shaped .ordered in
-    record { there = leq-there L few ok; reflexive = leq-reflexive L few ok; antisymmetric = leq-antisymmetric L few ok; transitive = leq-transitive L few ok }
+    order-iff (recordsOf b) .0 (passed-iff b work report .0 h .shaped .ordered)
 
 -- Types of an accepted image are compared by number: equal numbers are equal types, and different numbers different types.
 pub accepted-types : (b : List ℕ) (work report : ℕ) → verdict b work report ≡ Verdict.Accepted → (t u : ℕ) → t < length (recordsOf b .types) → u < length (recordsOf b .types)

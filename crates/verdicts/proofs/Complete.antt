@@ -7,12 +7,12 @@ use lib.ListN.{length}
 use Rattle.calculus.specs.Syntax.{Ty}
 use Rattle.calculus.specs.Typing.{noStore, TmTy}
 use Rattle.image.specs.Tests.{firstFault}
-use Rattle.image.specs.Layout.{Layout}
+use Rattle.image.specs.Records.{Layout}
 use Rattle.image.specs.Types.{termKind, typeNo, statedType, others, children}
 use Rattle.image.specs.Program.{subtrees, tree, assemble}
 use Rattle.image.proofs.Laid.{Below, Good}
 use Rattle.verdicts.specs.declared.Verdict.{Verdict}
-use Rattle.verdicts.specs.Order.{policy}
+use Rattle.verdicts.specs.Domains.{policy}
 use Rattle.verdicts.specs.Settings.{Setting}
 use Rattle.verdicts.specs.Check.{Rule, ruleFaults, typeNos, ruleAt, settingAt, checkAll, check}
 use Rattle.verdicts.specs.WellTyped.{stateds, aborts, childSetting, WellTyped, EachWellTyped}

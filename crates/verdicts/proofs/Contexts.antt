@@ -7,7 +7,7 @@ use mathlib.Core.List.{List, [], _∷_}
 use lib.ListN.{length, getD}
 use Rattle.calculus.specs.Syntax.{Dom, Ty}
 use Rattle.image.specs.Kinds.{a-type, free, TypeKind, TermKind, typeRow, termRow}
-use Rattle.image.specs.Layout.{Layout}
+use Rattle.image.specs.Records.{Layout}
 use Rattle.image.specs.Types.{typeField, isType, typeOut, typeOf}
 use Rattle.image.proofs.Facts.{each}
 use Rattle.image.proofs.Laid.{Below, Good}

@@ -9,7 +9,7 @@ use lib.ListN.{length, getD, set, replicate, length-set, length-replicate}
 use lib.Seq.{getD-set-same, getD-set-other}
 use lib.Dec.{eqb, ltb}
 use Rattle.calculus.specs.Combinators.{choose}
-use Rattle.image.specs.Layout.{Layout}
+use Rattle.image.specs.Records.{Layout}
 use Rattle.image.specs.Types.{children, rootOf}
 use Rattle.image.proofs.Facts.{no-path, lt-of, ge-of, eq-of, of-eq}
 use Rattle.image.proofs.Laid.{Below, Good}
@@ -84,7 +84,7 @@ module _ (L : Layout) where
           cc
 
   -- Uses by one term, and by two, are among all uses.
-  uses-one : (e m n : ℕ) → n < m → count e (children L n) ≤ uses L m e
+  pub uses-one : (e m n : ℕ) → n < m → count e (children L n) ≤ uses L m e
   unfolding uses
   uses-one e zero n l = absurd (omega arith)
   uses-one e (suc m) n l = go (ltb n m) refl (λ z. uses-one e m n z)
@@ -93,7 +93,7 @@ module _ (L : Layout) where
       go true q ih = let z = ih (lt-of q) in omega arith
       go false q ih = let z : m ≤ n = ge-of q in let nm : n ≡ m = omega arith in rw nm (omega arith)
 
-  uses-two : (e m k n : ℕ) → k < n → n < m → count e (children L k) + count e (children L n) ≤ uses L m e
+  pub uses-two : (e m k n : ℕ) → k < n → n < m → count e (children L k) + count e (children L n) ≤ uses L m e
   unfolding uses
   uses-two e zero k n l lm = absurd (omega arith)
   uses-two e (suc m) k n l lm = go (ltb n m) refl (λ z. uses-two e m k n l z)

@@ -4,7 +4,7 @@ use mathlib.Core.Path.{_≡_, refl}
 use mathlib.Core.Bool.{Bool}
 use mathlib.Core.List.{List, [], _∷_}
 use lib.Dec.{eqb}
-use Rattle.calculus.specs.Syntax.{Dom}
+use Rattle.calculus.specs.Syntax.{Dom, Tm}
 use Rattle.calculus.specs.Blank.{blank}
 use Rattle.calculus.specs.Typing.{noStore, TmTy, v-unit, is-val, is-seq}
 use Rattle.image.specs.declared.Refusal.{Refusal}
@@ -18,12 +18,16 @@ use Rattle.image.specs.Program.{tree, program, assemble, toTm, blanked}
 use Rattle.image.proofs.Blanked.{same-but-low}
 use Rattle.verdicts.specs.declared.Verdict.{Verdict}
 use Rattle.verdicts.specs.Answers.{requireFrom, inTurn}
-use Rattle.verdicts.specs.Order.{bits, order, leq, policy, atFault}
+use Rattle.verdicts.specs.Domains.{bits, order, leq, policy}
+use Rattle.verdicts.specs.Order.{atFault}
 use Rattle.verdicts.specs.Shape.{count, uses, depthsFrom, depths, shape}
 use Rattle.verdicts.specs.Check.{checkAll, check, typing}
 use Rattle.verdicts.specs.Verdicts.{verdict}
 use Rattle.verdicts.proofs.Images.{little, rec, image, one-domain, two-domains, unit, number, literal}
-use Rattle.verdicts.proofs.Sheet.{termOf}
+
+-- The program of an image, as a term.
+unfoldable pub termOf : List ℕ → Tm
+termOf b = toTm (program (recordsOf b))
 
 -- A sequence that states the type number, but is one of units, as the first of a sequence.
 unfoldable pub misstated : List ℕ

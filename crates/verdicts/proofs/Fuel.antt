@@ -9,7 +9,7 @@ use lib.ListN.{length}
 use Rattle.image.specs.declared.Refusal.{Refusal}
 use Rattle.image.specs.Refusals.{refusalNumber}
 use Rattle.image.specs.Tests.{firstFault}
-use Rattle.image.specs.Layout.{Layout}
+use Rattle.image.specs.Records.{Layout}
 use Rattle.image.specs.Types.{termPlace, children}
 use Rattle.image.proofs.Facts.{no-path}
 use Rattle.image.proofs.Laid.{Below, Good}

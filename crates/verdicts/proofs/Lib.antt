@@ -8,9 +8,12 @@ pub mod Sound
 pub mod Inversion
 pub mod LocalComplete
 pub mod Complete
-pub mod Accept
 pub mod Depth
+pub mod Uses
+pub mod Depths
+pub mod Passed
+pub mod Accept
 pub mod Fuel
 pub mod Images
-pub mod Sheet
+pub mod Refusals
 pub mod Examples

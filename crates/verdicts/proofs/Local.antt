@@ -11,21 +11,17 @@ use Rattle.calculus.specs.Syntax.{Dom, Ty, op0, abort}
 use Rattle.calculus.specs.Typing.{noStore, t-newLabel, t-abort, t-print, t-install, t-read, t-byte, t-newCell, t-pair, t-app, t-mark, t-store, t-plus, t-minus, t-less, t-equal, LabelTys, no-types, a-type, TmTy, TmsTy, Rule2, v-unit, v-truth, v-num, is-val, is-var, is-lam, is-op0, is-op1, is-op2, is-seq, is-ite, is-split, is-pcd, is-adv, is-lower, is-end, is-more}
 use Rattle.image.specs.Tests.{allOf}
 use Rattle.image.specs.Kinds.{TypeKind, TermKind, termRow}
-use Rattle.image.specs.Layout.{Layout}
+use Rattle.image.specs.Records.{Layout}
 use Rattle.image.specs.Types.{typeField, isType, typeOut, typeOf}
 use Rattle.image.specs.Program.{opOf, assemble}
 use Rattle.image.proofs.Facts.{and-l, and-r, each, lt-of, eq-of}
 use Rattle.image.proofs.Laid.{Below, Good}
 use Rattle.image.proofs.TypeNumbers.{out-as}
-use Rattle.verdicts.specs.Order.{leq, policy}
+use Rattle.verdicts.specs.Domains.{leq, policy}
 use Rattle.verdicts.specs.Check.{opGives, rule}
 use Rattle.verdicts.specs.WellTyped.{aborts}
 
 -- A list of so many elements.
-pub none-of : (P : List ℕ → Type 0) → P [] → (ts : List ℕ) → 0 ≤ length ts → length ts ≤ 0 → P ts
-none-of P h [] l m = h
-none-of P h (a ∷ ts) l m = absurd (omega arith)
-
 pub one-of : (P : List ℕ → Type 0) → ((a : ℕ) → P (a ∷ [])) → (ts : List ℕ) → 1 ≤ length ts → length ts ≤ 1 → P ts
 one-of P h [] l m = absurd (omega arith)
 one-of P h (a ∷ []) l m = h a

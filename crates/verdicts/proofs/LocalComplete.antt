@@ -11,13 +11,13 @@ use Rattle.calculus.specs.Syntax.{Dom, Ty}
 use Rattle.calculus.specs.Typing.{noStore, LabelTys, a-type, TmTy}
 use Rattle.image.specs.Tests.{allOf}
 use Rattle.image.specs.Kinds.{TypeKind, TermKind, termRow}
-use Rattle.image.specs.Layout.{Layout}
+use Rattle.image.specs.Records.{Layout}
 use Rattle.image.specs.Types.{typeField, isType, typeOut, typeOf}
 use Rattle.image.specs.Program.{assemble}
 use Rattle.image.proofs.Facts.{no-path, and-i, of-each, of-lt, of-eq}
 use Rattle.image.proofs.Laid.{Below, Good, below-at}
 use Rattle.image.proofs.TypeNumbers.{headOf, out-as, is-head, types-apart}
-use Rattle.verdicts.specs.Order.{leq, policy}
+use Rattle.verdicts.specs.Domains.{leq, policy}
 use Rattle.verdicts.specs.Check.{opGives, Rule, rule}
 use Rattle.verdicts.specs.WellTyped.{aborts}
 use Rattle.verdicts.proofs.Local.{one-of, two-of, three-of, outs}

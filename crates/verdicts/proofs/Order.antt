@@ -1,7 +1,8 @@
--- The domains of an accepted image are partially ordered, as their masks say.
+-- No domain is at fault exactly if the domains are partially ordered, as their masks say.
 use Prim.Native.Nat.{ℕ, zero, suc, _≤_, _<_}
 use native.Mathlib.Omega.{arith}
 use mathlib.Core.Path.{_≡_, refl, sym, ap, _∙_}
+use mathlib.Core.Logic.{_↔_}
 use mathlib.Core.Bool.{Bool, true, false, not, _&&_, _||_}
 use mathlib.Core.List.{List, [], _∷_, map}
 use lib.ListN.{length, getD, length-map, List·getD-eq-default}
@@ -9,9 +10,11 @@ use lib.Dec.{eqb, ltb, leb}
 use Rattle.calculus.specs.Syntax.{Dom}
 use Rattle.image.specs.Limits.{domainLimit}
 use Rattle.image.specs.Tests.{anyBelow}
-use Rattle.image.specs.Layout.{Layout}
-use Rattle.image.proofs.Facts.{no-path, or-false-l, or-false-r, none-below, lt-of, ge-of, eq-of, of-le}
-use Rattle.verdicts.specs.Order.{bits, masks, order, leq, faultAt, atFault}
+use Rattle.image.specs.Records.{Layout}
+use Rattle.image.proofs.Facts.{no-path, or-false-l, or-false-r, none-below, lt-of, ge-of, le-of, of-le, eq-of, of-eq}
+use Rattle.verdicts.specs.Domains.{bits, masks, order, leq}
+use Rattle.verdicts.specs.Order.{faultAt, atFault}
+use Rattle.verdicts.specs.Acceptable.{PartialOrder}
 
 bits-length : (n m : ℕ) → length (bits n m) ≡ n
 unfolding bits
@@ -41,11 +44,11 @@ not-false false h = sym h
 
 module _ (L : Layout) where
   -- Whatever names a domain is one, and has 16 bits to do so.
-  pub leq-bounds : (d q : Dom) → leq L d q ≡ true → (d < length (L .domains)) × (q < domainLimit)
+  leq-bounds : (d q : Dom) → leq L d q ≡ true → (d < length (L .domains)) × (q < domainLimit)
   unfolding leq order
   leq-bounds d q h = let r = rows-length (masks L) d q h in (rw length-map at (r .0), r .1)
 
-module _ (L : Layout) (few : length (L .domains) ≤ domainLimit) (ok : (d : ℕ) → d < length (L .domains) → atFault L d ≡ false) where
+module _ (L : Layout) (ok : (d : ℕ) → d < length (L .domains) → atFault L d ≡ false) where
   -- What is not at fault at e.
   fine : (d e : Dom) → leq L d e ≡ true → leb (length (L .domains)) e || ((not (eqb e d) && leq L e d) || anyBelow domainLimit (λ f. leq L e f && not (leq L d f))) ≡ false
   unfolding atFault
@@ -56,18 +59,18 @@ module _ (L : Layout) (few : length (L .domains) ≤ domainLimit) (ok : (d : ℕ
       and-false (leq L d e) _ here h
 
   -- Both of two domains that are ordered are there.
-  pub leq-there : (d e : Dom) → leq L d e ≡ true → (d < length (L .domains)) × (e < length (L .domains))
+  leq-there : (d e : Dom) → leq L d e ≡ true → (d < length (L .domains)) × (e < length (L .domains))
   leq-there d e h = (leq-bounds L d e h .0, go (ltb e (length (L .domains))) refl)
     where
       go : (t : Bool) → ltb e (length (L .domains)) ≡ t → e < length (L .domains)
       go true q = lt-of q
       go false q = no-path (sym (of-le {m = length (L .domains)} {n = e} (ge-of q)) ∙ or-false-l (leb (length (L .domains)) e) _ (fine d e h))
 
-  pub leq-reflexive : (d : Dom) → d < length (L .domains) → leq L d d ≡ true
+  leq-reflexive : (d : Dom) → d < length (L .domains) → leq L d d ≡ true
   unfolding atFault
   leq-reflexive d l = not-false (leq L d d) (or-false-l (not (leq L d d)) _ (ok d l))
 
-  pub leq-antisymmetric : (d e : Dom) → leq L d e ≡ true → leq L e d ≡ true → d ≡ e
+  leq-antisymmetric : (d e : Dom) → leq L d e ≡ true → leq L e d ≡ true → d ≡ e
   leq-antisymmetric d e h k =
       let x = or-false-r (leb (length (L .domains)) e) _ (fine d e h) in
       let y : not (eqb e d) && leq L e d ≡ false = or-false-l (not (eqb e d) && leq L e d) _ x in
@@ -77,12 +80,51 @@ module _ (L : Layout) (few : length (L .domains) ≤ domainLimit) (ok : (d : ℕ
       go true q y = sym (eq-of q)
       go false q y = let z : leq L e d ≡ false = rw q at y in no-path (sym k ∙ z)
 
-  pub leq-transitive : (d e f : Dom) → leq L d e ≡ true → leq L e f ≡ true → leq L d f ≡ true
+  leq-transitive : (d e f : Dom) → leq L d e ≡ true → leq L e f ≡ true → leq L d f ≡ true
   leq-transitive d e f h k =
       let x = or-false-r (leb (length (L .domains)) e) _ (fine d e h) in
       let y : anyBelow domainLimit (λ f. leq L e f && not (leq L d f)) ≡ false = or-false-r (not (eqb e d) && leq L e d) _ x in
       let z = none-below domainLimit (λ f. leq L e f && not (leq L d f)) y f (leq-bounds L e f k .1) in
       not-false (leq L d f) (and-false (leq L e f) (not (leq L d f)) z k)
+
+below-none : (n : ℕ) (ok : ℕ → Bool) → ((i : ℕ) → ok i ≡ false) → anyBelow n ok ≡ false
+unfolding anyBelow
+below-none zero ok h = refl
+below-none (suc n) ok h = or-false (below-none n ok h) (h n)
+  where
+    or-false : {a b : Bool} → a ≡ false → b ≡ false → a || b ≡ false
+    or-false p q = rw p q
+
+module _ (L : Layout) (P : PartialOrder L) where
+  present : (d e : Dom) → leq L d e ≡ true → (t : Bool) → leb (length (L .domains)) e ≡ t → leb (length (L .domains)) e ≡ false
+  present d e h true q = let z : length (L .domains) ≤ e = le-of q in let y = P .there d e h .1 in absurd (omega arith)
+  present d e h false q = q
+
+  one-way : (d e : Dom) → leq L d e ≡ true → (t : Bool) → eqb e d ≡ t → (u : Bool) → leq L e d ≡ u → not (eqb e d) && leq L e d ≡ false
+  one-way d e h true q u r = rw q refl
+  one-way d e h false q true r = no-path (sym (of-eq (sym (P .antisymmetric d e h r))) ∙ q)
+  one-way d e h false q false r = rw (q, r) refl
+
+  onward : (d e f : Dom) → leq L d e ≡ true → (t : Bool) → leq L e f ≡ t → leq L e f && not (leq L d f) ≡ false
+  onward d e f h true q = rw (q, P .transitive d e f h q) refl
+  onward d e f h false q = rw q refl
+
+  fault-free : (d e : Dom) (t : Bool) → leq L d e ≡ t → faultAt L d e ≡ false
+  fault-free d e false q = rw q refl
+  fault-free d e true q =
+      rw (q, present d e q (leb (length (L .domains)) e) refl, one-way d e q (eqb e d) refl (leq L e d) refl)
+      (below-none domainLimit (λ f. leq L e f && not (leq L d f)) (λ f. onward d e f q (leq L e f) refl))
+
+  none-at-fault : (d : Dom) → d < length (L .domains) → atFault L d ≡ false
+  unfolding atFault
+  none-at-fault d l = rw (P .reflexive d l) (below-none domainLimit (λ e. faultAt L d e) (λ e. fault-free d e (leq L d e) refl))
+
+-- No domain is at fault exactly if the domains are partially ordered.
+pub order-iff : (L : Layout) → ((d : Dom) → d < length (L .domains) → atFault L d ≡ false) ↔ PartialOrder L
+order-iff L = (
+  λ ok. record { there = leq-there L ok; reflexive = leq-reflexive L ok; antisymmetric = leq-antisymmetric L ok; transitive = leq-transitive L ok },
+  λ P. none-at-fault L P,
+)
 
 -- Images with the same masks have the same order.
 pub leq-same : (L M : Layout) → masks L ≡ masks M → (d e : Dom) → leq L d e ≡ leq M d e

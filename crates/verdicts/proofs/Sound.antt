@@ -10,13 +10,13 @@ use Rattle.calculus.specs.Syntax.{Ty}
 use Rattle.image.specs.declared.Refusal.{Refusal}
 use Rattle.image.specs.Tests.{firstFault}
 use Rattle.image.specs.Kinds.{termRow}
-use Rattle.image.specs.Layout.{Layout}
+use Rattle.image.specs.Records.{Layout}
 use Rattle.image.specs.Types.{termPlace, termKind, typeNo, statedType, others, children}
 use Rattle.image.specs.Program.{subtrees, tree}
 use Rattle.image.proofs.Facts.{passed}
 use Rattle.image.proofs.Laid.{Below, Good}
 use Rattle.verdicts.specs.declared.Verdict.{Verdict}
-use Rattle.verdicts.specs.Order.{policy}
+use Rattle.verdicts.specs.Domains.{policy}
 use Rattle.verdicts.specs.Settings.{Setting}
 use Rattle.verdicts.specs.Check.{ruleFaults, typeNos, ruleAt, settingAt, checkAll, check}
 use Rattle.verdicts.specs.WellTyped.{stateds, childSetting, WellTyped, EachWellTyped}

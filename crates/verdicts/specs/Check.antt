@@ -10,11 +10,11 @@ use Rattle.calculus.specs.Plain.{isPlain}
 use Rattle.image.specs.declared.Refusal.{Refusal}
 use Rattle.image.specs.Tests.{all, allOf, firstFault}
 use Rattle.image.specs.Kinds.{TypeKind, TermKind, termRow}
-use Rattle.image.specs.Layout.{Layout}
+use Rattle.image.specs.Records.{Layout}
 use Rattle.image.specs.Types.{termPlace, typeField, isType, termKind, typeNo, typeOf, others, children, rootOf, rootType}
 use Rattle.verdicts.specs.declared.Verdict.{Verdict}
 use Rattle.verdicts.specs.Answers.{require, inTurn}
-use Rattle.verdicts.specs.Order.{leq}
+use Rattle.verdicts.specs.Domains.{leq}
 use Rattle.verdicts.specs.Settings.{Setting, contextOf, domainOf}
 
 -- What 13, 14 and 15 ask of a term.

@@ -4,7 +4,7 @@ use mathlib.Core.List.{List, _∷_}
 use lib.ListN.{getD}
 use Rattle.calculus.specs.Syntax.{Dom, Ty}
 use Rattle.image.specs.Kinds.{Body, no-body, function-body, advice-body, split-body, lower-body}
-use Rattle.image.specs.Layout.{orElse}
+use Rattle.image.specs.Records.{orElse}
 use Rattle.image.specs.Program.{ownDomain}
 
 -- The context of variables, innermost first, and the current domain. A is what types are: numbers, or types in full.

@@ -1,14 +1,17 @@
 -- Refusals 9 to 12: sections, order of the domains, uses and depth of the terms (document 01, "Turned back at the gate").
-use Prim.Native.Nat.{ℕ, zero, suc, _+_}
-use mathlib.Core.Bool.{Bool, not}
+use Prim.Native.Nat.{ℕ, zero, suc, _+_, _≤_, _<_}
+use mathlib.Core.Path.{_≡_}
+use mathlib.Core.Bool.{Bool, true, false, not}
 use mathlib.Core.List.{List, [], _∷_}
 use lib.ListN.{length, getD, set, replicate}
 use lib.Dec.{eqb, leb}
 use Rattle.calculus.specs.Combinators.{choose}
+use Rattle.calculus.specs.Syntax.{Dom}
 use Rattle.image.specs.declared.Refusal.{Refusal}
 use Rattle.image.specs.Limits.{depthLimit}
 use Rattle.image.specs.Tests.{all}
-use Rattle.image.specs.Layout.{Layout, isNil}
+use Rattle.image.specs.Records.{Layout}
+use Rattle.image.specs.Layout.{isNil}
 use Rattle.image.specs.Types.{domainPlace, termPlace, children, rootOf}
 use Rattle.verdicts.specs.declared.Verdict.{Verdict}
 use Rattle.verdicts.specs.Answers.{require, requireFrom, inTurn}
@@ -55,3 +58,12 @@ module _ (L : Layout) where
       ∷ (λ u. requireFrom (rootOf L) 0 Refusal.UseCount (λ n. termPlace L n) (λ n. usedOnce n))
       ∷ (λ u. let ds = depths in requireFrom (length (L .terms)) 0 Refusal.TooDeep (λ n. termPlace L n) (λ n. leb (getD ds n 0) depthLimit))
       ∷ [])
+
+-- What 9 to 12 have found of records that they pass.
+pub record Shaped (L : Layout) : Type 0 where
+  pub has-domains : 0 < length (L .domains)
+  pub has-types : 0 < length (L .types)
+  pub has-terms : 0 < length (L .terms)
+  pub ordered : (d : Dom) → d < length (L .domains) → atFault L d ≡ false
+  pub used : (n : ℕ) → n < rootOf L → usedOnce L n ≡ true
+  pub shallow : (n : ℕ) → n < length (L .terms) → getD (depths L) n 0 ≤ depthLimit

@@ -78,7 +78,7 @@ same-length c = search needs
 
 returns-2 : tie.Need-returns-2
 unfolding reduceKind
-returns-2 c = let a = c .before .before .before .before .before .before .before .before .before .args in print-made (now (a .frame)) (now (a .work)) _ (now (a .log)) _ (a .r) _ _ (c .before .before .before .before .before .kind .ensures) (c .before .before .before .before .match .keys2) (c .before .before .reduce-print .ensures (now (a .work)) (c .before .before .before .before .before .before .before .before .before .pre .2))
+returns-2 c = let a = c .before .before .before .before .before .before .before .before .before .args in print-made (now (a .frame)) (now (a .work)) _ (now (a .log)) _ (a .r) _ _ (c .before .before .before .before .before .kind .ensures) (c .before .before .before .before .match .keys2) (c .before .before .reduce-print .ensures (now (a .work)))
 
 returns-3 : tie.Need-returns-3
 unfolding reduceKind

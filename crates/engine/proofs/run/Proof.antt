@@ -1,6 +1,7 @@
 -- Too long; refused by an examination; or the tables are filled.
 use denote.Ref.{now}
-use mathlib.Core.Path.{sym, _∙_}
+use mathlib.Core.Path.{sym, ap, _∙_}
+use Rattle.examine.specs.Examined.{verdictOf}
 use Rattle.engine.proofs.Gate.{too-long-left, examined-left}
 use borrow.Author.Needs.{needs}
 use Rattle.engine.proofs.run.Statement.{statement}
@@ -14,9 +15,6 @@ returns c = let s = c .before .before .before .before .before .before .before in
 
 kind-codes-requires : tie.Need-kind-codes-requires
 kind-codes-requires c κs = search needs
-
-start-sizes-requires : tie.Need-start-sizes-requires
-start-sizes-requires c κs = search needs
 
 slice-aggregate-examine-image : tie.Need-slice-aggregate-examine-image
 slice-aggregate-examine-image c = search needs
@@ -33,23 +31,17 @@ slice-aggregate-examine-image-4 c = search needs
 slice-aggregate-examine-image-5 : tie.Need-slice-aggregate-examine-image-5
 slice-aggregate-examine-image-5 c = search needs
 
-slice-aggregate-examine-image-6 : tie.Need-slice-aggregate-examine-image-6
-slice-aggregate-examine-image-6 c = search needs
-
-slice-aggregate-examine-image-7 : tie.Need-slice-aggregate-examine-image-7
-slice-aggregate-examine-image-7 c = search needs
-
 examine-image-requires : tie.Need-examine-image-requires
 examine-image-requires c κs = search needs
 
-enum-known-v : tie.Need-enum-known-v
-enum-known-v c = search needs
+enum-known-checked : tie.Need-enum-known-checked
+enum-known-checked c = search needs
 
 refused-requires-2 : tie.Need-refused-requires-2
 refused-requires-2 c κs = search needs
 
-enum-told : tie.Need-enum-told
-enum-told c = search needs
+enum-known-checked-2 : tie.Need-enum-known-checked-2
+enum-known-checked-2 c = search needs
 
 slice-aggregate-run-lent : tie.Need-slice-aggregate-run-lent
 slice-aggregate-run-lent c = search needs
@@ -57,26 +49,17 @@ slice-aggregate-run-lent c = search needs
 slice-aggregate-run-lent-2 : tie.Need-slice-aggregate-run-lent-2
 slice-aggregate-run-lent-2 c = search needs
 
-array-read-run-lent : tie.Need-array-read-run-lent
-array-read-run-lent c = search needs
-
-array-read-run-lent-2 : tie.Need-array-read-run-lent-2
-array-read-run-lent-2 c = search needs
-
 run-lent-requires : tie.Need-run-lent-requires
 run-lent-requires c κs =
-    let t = c .before .before .before .before .before .enum-told .given .1 in
-    let n = c .before .before .before .before .before .before .before .before .before .before .before .before .before in
-    let e = n .examine-image .ensures in
-    let f = e .filled t in
-    (n .before .before .before .before .before .before .before .before .before .before .if1 .left, sym (e .answer) ∙ t, (_, f .tables), f .types, f .terms)
+    let t = c .before .before .before .before .before .before .checked2 .given .1 in
+    let e = c .before .before .before .before .before .before .before .before .before .before .before .before .examine-image .ensures in
+    let f = e .filled _ t in
+    (c .before .before .before .before .before .before .before .before .before .before .before .before .before .before .before .before .before .before .before .if1 .left, sym (e .answer) ∙ ap verdictOf t, (_, f .tables), f .counts)
 
 returns-2 : tie.Need-returns-2
 returns-2 c =
-    let n = c .before .before .before .before .before .before .before .before .before .before in
-    let i = n .before .before .before .before .before .before .before .before .before .before in
-    let s = i .before .before .before .before .before .before in
-    examined-left (now (s .args .image)) (now (s .args .frame)) (s .args .budget) (now (s .args .log)) (now (s .args .report)) (now (s .args .work)) (i .if1 .left) _ _ _ (sym (c .before .before .v .given .1) ∙ n .examine-image .ensures .answer) (c .refused2 .ensures)
+    let s = c .before .before .before .before .before .before .before .before .before .before .before .before .before .before .before .before .before .before .before .before .before in
+    examined-left (now (s .args .image)) (now (s .args .frame)) (s .args .budget) (now (s .args .log)) (now (s .args .report)) (now (s .args .work)) (c .before .before .before .before .before .before .before .before .before .before .before .before .before .before .before .if1 .left) _ _ _ (ap verdictOf (sym (c .before .before .checked .given .1)) ∙ c .before .before .before .before .before .before .before .before .examine-image .ensures .answer) (c .refused2 .ensures)
 
 same-length : tie.Need-same-length
 same-length c = search needs
@@ -88,7 +71,7 @@ same-length-3 : tie.Need-same-length-3
 same-length-3 c = search needs
 
 returns-3 : tie.Need-returns-3
-returns-3 c = c .before .before .before .before .before .before .run-lent .ensures
+returns-3 c = search needs
 
 pub run-spec : {M : Type 1} → statement M
 run-spec =
@@ -97,22 +80,17 @@ run-spec =
     refused-requires
     returns
     kind-codes-requires
-    start-sizes-requires
     slice-aggregate-examine-image
     slice-aggregate-examine-image-2
     slice-aggregate-examine-image-3
     slice-aggregate-examine-image-4
     slice-aggregate-examine-image-5
-    slice-aggregate-examine-image-6
-    slice-aggregate-examine-image-7
     examine-image-requires
-    enum-known-v
+    enum-known-checked
     refused-requires-2
-    enum-told
+    enum-known-checked-2
     slice-aggregate-run-lent
     slice-aggregate-run-lent-2
-    array-read-run-lent
-    array-read-run-lent-2
     run-lent-requires
     returns-2
     same-length

@@ -17,7 +17,7 @@ stuck-requires : tie.Need-stuck-requires
 stuck-requires c κs = search needs
 
 returns : tie.Need-returns
-returns c = let a = c .before .before .before .before .args in λ w f. no-number w (now (a .log)) (a .r) _ _ (c .before .before .tag .ensures) f (c .before .if1 .taken) (c .stuck .ensures)
+returns c = let s = c .before .before .before .before in let a = s .args in λ w. no-number w (now (a .log)) (a .r) _ _ (c .before .before .tag .ensures) (s .pre .1) (c .before .if1 .taken) (c .stuck .ensures)
 
 sub-if2 : tie.Need-sub-if2
 sub-if2 c = search needs
@@ -26,7 +26,7 @@ halt-requires : tie.Need-halt-requires
 halt-requires c κs = search needs
 
 returns-2 : tie.Need-returns-2
-returns-2 c = let a = c .before .before .before .before .before .before .args in λ w f. no-room w (now (a .log)) (a .r) _ _ (c .before .before .before .before .tag .ensures) f (c .before .before .before .if1 .left) (c .before .if2 .taken) (c .halt .ensures)
+returns-2 c = let s = c .before .before .before .before .before .before in let a = s .args in λ w. no-room w (now (a .log)) (a .r) _ _ (c .before .before .before .before .tag .ensures) (s .pre .1) (c .before .before .before .if1 .left) (c .before .if2 .taken) (c .halt .ensures)
 
 cast-put-log : tie.Need-cast-put-log
 cast-put-log c = search needs
@@ -53,8 +53,9 @@ same-length c = search needs
 
 returns-3 : tie.Need-returns-3
 returns-3 c =
-    let a = c .before .before .before .before .before .before .before .before .before .before .before .before .before .args in
-    λ w f. printed w (now (a .log)) (a .r) _ _ (c .before .before .before .before .before .before .before .before .before .before .before .tag .ensures) f _ _ (c .before .before .before .before .before .before .before .before .before .before .if1 .left) (c .before .before .before .before .before .before .before .before .if2 .left) (search needs) (c .before .before .before .before .before .body .ensures) (c .before .before .before .before .put-log .ensures) (search needs) (ap (setAt (a .r .at + 10)) (c .before .give .ensures))
+    let s = c .before .before .before .before .before .before .before .before .before .before .before .before .before in
+    let a = s .args in
+    λ w. printed w (now (a .log)) (a .r) _ _ (c .before .before .before .before .before .before .before .before .before .before .before .tag .ensures) (s .pre .1) _ _ (c .before .before .before .before .before .before .before .before .before .before .if1 .left) (c .before .before .before .before .before .before .before .before .if2 .left) (search needs) (c .before .before .before .before .before .body .ensures) (c .before .before .before .before .put-log .ensures) (search needs) (ap (setAt (a .r .at + 10)) (c .before .give .ensures))
 
 pub reduce-print-spec : {M : Type 1} → statement M
 reduce-print-spec =

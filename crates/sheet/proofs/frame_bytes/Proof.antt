@@ -2,7 +2,7 @@ use Prim.Native.Nat.{_-_, _≤_}
 use mathlib.Core.Path.{_≡_, refl, _∙_}
 use lib.ListN.{length, take, length-set}
 use native.Mathlib.Omega.{arith}
-use Rattle.sheet.specs.Sheet.{upTo}
+use Rattle.listing.specs.Sheet.{upTo}
 use Rattle.sheet.proofs.Frame.{frame-more, frame-all}
 use borrow.Author.Needs.{needs}
 use Rattle.sheet.proofs.frame_bytes.Statement.{statement}
@@ -14,34 +14,27 @@ Inv-loop frame₀ i₀ frame i = (i ≤ 256) × (length frame ≡ 256) × (take 
 abbrev μ-loop : tie.MeasureT-loop
 μ-loop frame₀ i₀ frame i = 256 - i
 
--- src/lib.rt:21:5
 loop-holds : tie.Need-loop-holds Inv-loop μ-loop
 unfolding upTo
 loop-holds c = (omega arith, refl, refl)
 
--- src/lib.rt:22:20
 cast-frame : tie.Need-cast-frame Inv-loop μ-loop
 cast-frame c = search needs
 
--- src/lib.rt:22:9
 array-write-frame : tie.Need-array-write-frame Inv-loop μ-loop
 array-write-frame c = search needs
 
--- src/lib.rt:23:9
 add-i : tie.Need-add-i Inv-loop μ-loop
 add-i c = search needs
 
--- src/lib.rt:21:5
 loop-less : tie.Need-loop-less Inv-loop μ-loop
 loop-less c = search needs
 
--- src/lib.rt:21:5
 loop-again : tie.Need-loop-again Inv-loop μ-loop
 loop-again c =
     let l = c .before .loop in
     (search needs, length-set (l .frame) (l .i) (l .i) ∙ l .inv .1, frame-more (l .frame) (l .i) (search needs) (l .inv .2))
 
--- src/lib.rt:16:1
 returns : tie.Need-returns Inv-loop μ-loop
 returns c =
     let l = c .before .loop in

@@ -21,8 +21,8 @@ cast-t9 c =
     let e = s .pre .3 in
     record { fits = omega arith }
 
-term-type-requires : tie.Need-term-type-requires
-term-type-requires c κs = search needs
+stated-type-requires : tie.Need-stated-type-requires
+stated-type-requires c κs = search needs
 
 type-leaves-requires : tie.Need-type-leaves-requires
 type-leaves-requires c κs = search needs
@@ -38,7 +38,7 @@ returns c =
     let s = c .before .before .before .before .before .before .before in
     let L = recordsOf (now (s .args .image)) in
     let r : s .args .count - 1 ≡ rootOf L = ap (λ m. m - 1) (s .pre .3) in
-    c .plain-at .ensures ∙ rw (c .before .before .type-leaves .ensures, c .before .before .before .term-type .ensures .0, c .before .term-place .ensures .0, r) (root-plain L)
+    c .plain-at .ensures ∙ rw (c .before .before .type-leaves .ensures, c .before .before .before .stated-type .ensures .0, c .before .term-place .ensures .0, r) (root-plain L)
 
 pub check-plain-spec : {M : Type 1} → statement M
 check-plain-spec =
@@ -46,7 +46,7 @@ check-plain-spec =
     (tie.spec
     sub-t8
     cast-t9
-    term-type-requires
+    stated-type-requires
     type-leaves-requires
     term-place-requires
     plain-at-requires

@@ -2,39 +2,41 @@
 use borrow.Author.Needs.{needs}
 use Rattle.typing.proofs.check_root.Statement.{statement}
 use Rattle.typing.proofs.check_root.Tie as tie
-use denote.Ref.{now}
 use native.Mathlib.Omega.{arith}
-use mathlib.Core.Path.{ap, _∙_}
-use Rattle.image.specs.Layout.{recordsOf}
+use mathlib.Core.Path.{refl, ap, _∙_}
 use Prim.Native.Nat.{_-_}
+use denote.Ref.{now}
+use Rattle.image.specs.Layout.{recordsOf}
 use Rattle.verdicts.specs.Check.{checked}
 use Rattle.rules.specs.Lent.{settingIn}
 use Rattle.rules.proofs.Located.{good-of}
 use Rattle.typing.proofs.Root.{root-checked}
 use Rattle.typing.proofs.ScopeRoom.{root-room}
 
-sub-t9 : tie.Need-sub-t9
-sub-t9 c = search needs
+sub-t8 : tie.Need-sub-t8
+sub-t8 c = search needs
 
-cast-t10 : tie.Need-cast-t10
-cast-t10 c = let f = (good-of (now (c .before .before .before .before .before .args .image)) ((c .before .before .before .before .before .pre .0) .terms .laid-out)) .few-terms in let e = (c .before .before .before .before .before .pre .1) in omega arith
-
-slice-aggregate-check-term : tie.Need-slice-aggregate-check-term
-slice-aggregate-check-term c = search needs
+cast-t9 : tie.Need-cast-t9
+cast-t9 c =
+    let s = c .before .before .before in
+    let f = good-of (now (s .args .image)) (s .pre .0 .terms .laid-out) .few-terms in
+    let e = s .pre .1 in
+    record { fits = omega arith }
 
 check-term-requires : tie.Need-check-term-requires
 check-term-requires c κs =
-    let s = c .before .before .before .before .before .before in
+    let s = c .before .before .before .before in
     let e = s .pre .1 in
     let z = s .pre .2 in
-    (s .pre .0, omega arith, root-room (now (s .args .image)) (now (s .args .terms)) (s .pre .0 .terms) _ (s .args .count) (s .pre .5) e (omega arith), s .pre .3, s .pre .4)
+    (s .pre .0, omega arith, s .pre .3, root-room (s .pre .0 .terms) _ (s .args .count) (s .pre .4) e refl)
 
 returns : tie.Need-returns
 returns c =
-    let e = (c .before .before .before .before .before .before .before .before .pre .1) in
-    let z = (c .before .before .before .before .before .before .before .before .pre .2) in
-    (c .before .check-term .ensures .0) ∙ ap (λ n. checked (recordsOf (now (c .before .before .before .before .before .before .before .before .args .image))) (settingIn _ 0 0) (n - 1)) e ∙ root-checked (recordsOf (now (c .before .before .before .before .before .before .before .before .args .image))) (omega arith) _
+    let s = c .before .before .before .before .before in
+    let e = s .pre .1 in
+    let z = s .pre .2 in
+    let L = recordsOf (now (s .args .image)) in
+    c .check-term .ensures .0 ∙ ap (λ n. checked L (settingIn _ 0 0) (n - 1)) e ∙ root-checked L (omega arith) _
 
 pub check-root-spec : {M : Type 1} → statement M
-check-root-spec =
-    tie.close (tie.spec sub-t9 cast-t10 slice-aggregate-check-term check-term-requires returns)
+check-root-spec = tie.close (tie.spec sub-t8 cast-t9 check-term-requires returns)

@@ -4,31 +4,24 @@ use borrow.Author.Needs.{needs}
 use Rattle.validator.proofs.validate.Statement.{statement}
 use Rattle.validator.proofs.validate.Tie as tie
 
--- src/lib.rt:31:9
 returns : tie.Need-returns
 returns c = too-long _ _ _ (c .if1 .taken)
 
--- src/lib.rt:33:9
 examine-whole-requires : tie.Need-examine-whole-requires
 examine-whole-requires c κs = search needs
 
--- src/lib.rt:34:8
 is-refused-requires : tie.Need-is-refused-requires
 is-refused-requires c κs = search needs
 
--- src/lib.rt:35:9
 returns-2 : tie.Need-returns-2
 returns-2 c = examined-refuses _ _ _ (c .before .before .before .if1 .left) _ (c .before .before .examine-whole .ensures) (sym (c .before .is-refused .ensures) ∙ c .if2 .taken)
 
--- src/lib.rt:38:9
 returns-3 : tie.Need-returns-3
 returns-3 c = short-work _ _ _ (c .before .before .before .before .if1 .left) _ (c .before .before .before .examine-whole .ensures) (sym (c .before .before .is-refused .ensures) ∙ c .before .if2 .left) (c .if3 .taken)
 
--- src/lib.rt:41:9
 returns-4 : tie.Need-returns-4
 returns-4 c = short-report _ _ _ (c .before .before .before .before .before .if1 .left) _ (c .before .before .before .before .examine-whole .ensures) (sym (c .before .before .before .is-refused .ensures) ∙ c .before .before .if2 .left) (c .before .if3 .left) (c .if4 .taken)
 
--- src/lib.rt:27:1
 returns-5 : tie.Need-returns-5
 returns-5 c = all-enough _ _ _ (c .before .before .before .before .before .if1 .left) _ (c .before .before .before .before .examine-whole .ensures) (sym (c .before .before .before .is-refused .ensures) ∙ c .before .before .if2 .left) (c .before .if3 .left) (c .if4 .left)
 

@@ -4,15 +4,12 @@ use Rattle.validator.specs.Numbers.{verdictNumber}
 use Rattle.validator.proofs.validate_number.Statement.{statement}
 use Rattle.validator.proofs.validate_number.Tie as tie
 
--- src/lib.rt:79:20
 validate-requires : tie.Need-validate-requires
 validate-requires c κs = search needs
 
--- src/lib.rt:79:5
 verdict-number-requires : tie.Need-verdict-number-requires
 verdict-number-requires c κs = search needs
 
--- src/lib.rt:75:1
 returns : tie.Need-returns
 returns c = c .verdict-number .ensures ∙ ap verdictNumber (c .before .validate .ensures)
 

@@ -4,15 +4,12 @@ use Rattle.validator.specs.Numbers.{verdictPlace}
 use Rattle.validator.proofs.validate_place.Statement.{statement}
 use Rattle.validator.proofs.validate_place.Tie as tie
 
--- src/lib.rt:86:19
 validate-requires : tie.Need-validate-requires
 validate-requires c κs = search needs
 
--- src/lib.rt:86:5
 verdict-place-requires : tie.Need-verdict-place-requires
 verdict-place-requires c κs = search needs
 
--- src/lib.rt:82:1
 returns : tie.Need-returns
 returns c = c .verdict-place .ensures ∙ ap verdictPlace (c .before .validate .ensures)
 

@@ -3,19 +3,15 @@ use mathlib.Core.Path.{refl}
 use Rattle.validator.proofs.verdict_place.Statement.{statement}
 use Rattle.validator.proofs.verdict_place.Tie as tie
 
--- src/lib.rt:69:30
 enum-told : tie.Need-enum-told
 enum-told c = search needs
 
--- src/lib.rt:70:29
 enum-known-v : tie.Need-enum-known-v
 enum-known-v c = search needs
 
--- src/lib.rt:65:1
 returns : tie.Need-returns
 returns c = search needs
 
--- src/lib.rt:65:1
 returns-2 : tie.Need-returns-2
 returns-2 c = rw (c .before .v .given .1) refl
 

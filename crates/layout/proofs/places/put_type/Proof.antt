@@ -1,20 +1,14 @@
 -- `layout::places::put_type` meets its contract: a key is new since its remainder is, or since it was compared.
-use borrow.Author.Needs.{needs}
-use Prim.Native.Nat.{_+_}
 use mathlib.Core.Path.{_≡_}
 use mathlib.Core.Bool.{true, false}
 use mathlib.Core.Logic.{⊎-elim}
 use denote.Ref.{now}
-use lib.Seq.{getD-set-same}
-use Rattle.layout.specs.Sizes.{typeCount}
 use Rattle.layout.specs.Numbers.{newKey}
 use Rattle.layout.proofs.Numbers.{yes-of, no-of, repeated, not-repeated}
-use Rattle.layout.proofs.Remainders.{unseen, noted-more}
+use Rattle.layout.proofs.Filter.{unseen}
+use borrow.Author.Needs.{needs}
 use Rattle.layout.proofs.places.put_type.Statement.{statement}
 use Rattle.layout.proofs.places.put_type.Tie as tie
-
-slice-read-n : tie.Need-slice-read-n
-slice-read-n c = search needs
 
 cast-remainder : tie.Need-cast-remainder
 cast-remainder c = search needs
@@ -30,10 +24,21 @@ same-length c = search needs
 
 returns : tie.Need-returns
 returns c =
-    let s = c .before .before .before .before .before .before .before .before .before .before in
-    let a = s .args in
-    let h : newKey (typeCount (now (a .sizes))) (now (a .keys)) (a .key) ≡ false = no-of _ _ (c .before .is-new .ensures) (c .if2 .taken) in
-    record { answer = repeated _ h; sizes = rw h; types = rw h; keys = rw h; noted = s .pre .4 }
+    let a = c .before .before .before .before .before .before .before .before .args in
+    let h : newKey (a .t .0) (now (a .keys)) (a .key) ≡ false = no-of _ _ (c .before .is-new .ensures) (c .if2 .taken) in
+    record { answer = repeated _ h; types = rw h; keys = rw h; filter = rw h }
+
+cast-i : tie.Need-cast-i
+cast-i c = search needs
+
+cast-types : tie.Need-cast-types
+cast-types c = search needs
+
+mul-types : tie.Need-mul-types
+mul-types c = search needs
+
+slice-write-types : tie.Need-slice-write-types
+slice-write-types c = search needs
 
 mul-keys : tie.Need-mul-keys
 mul-keys c = search needs
@@ -41,11 +46,8 @@ mul-keys c = search needs
 slice-write-keys : tie.Need-slice-write-keys
 slice-write-keys c = search needs
 
-slice-write-seen : tie.Need-slice-write-seen
-slice-write-seen c = search needs
-
-put-requires : tie.Need-put-requires
-put-requires c κs = search needs
+slice-write-filter : tie.Need-slice-write-filter
+slice-write-filter c = search needs
 
 same-length-2 : tie.Need-same-length-2
 same-length-2 c = search needs
@@ -56,40 +58,30 @@ same-length-3 c = search needs
 same-length-4 : tie.Need-same-length-4
 same-length-4 c = search needs
 
-same-length-5 : tie.Need-same-length-5
-same-length-5 c = search needs
-
 returns-2 : tie.Need-returns-2
 returns-2 c =
-    let p = c .before .before .before .before in
-    let j = p .before .before .before in
-    let s = j .before .before .before .before .before .before .before in
+    let s = c .before .before .before .before .before .before in
     let a = s .args in
-    let h : newKey (typeCount (now (a .sizes))) (now (a .keys)) (a .key) ≡ true = ⊎-elim (λ w. yes-of _ _ (w .2 .ensures) (w .3 .left)) (λ w. unseen (s .pre .4) (a .key) (w .left)) (j .if1 .came) in
-    record {
-      answer = not-repeated _ h;
-      sizes = rw h (p .put .ensures .sizes);
-      types = rw h (p .put .ensures .table);
-      keys = rw h;
-      noted = rw (p .put .ensures .sizes, getD-set-same (now (a .sizes)) 0 (typeCount (now (a .sizes)) + 1) 0 (s .pre .1)) (noted-more (s .pre .4) (a .key) (s .pre .3));
-    }
+    let h : newKey (a .t .0) (now (a .keys)) (a .key) ≡ true = ⊎-elim (λ w. yes-of _ _ (w .2 .ensures) (w .3 .left)) (λ w. unseen (s .pre .3) (a .key) (w .left)) (c .before .if1 .came) in
+    record { answer = not-repeated _ h; types = rw h; keys = rw h; filter = rw h }
 
 pub put-type-spec : {M : Type 1} → statement M
 put-type-spec =
     tie.close
     (tie.spec
-    slice-read-n
     cast-remainder
     slice-read-if1
     is-new-requires
     same-length
     returns
+    cast-i
+    cast-types
+    mul-types
+    slice-write-types
     mul-keys
     slice-write-keys
-    slice-write-seen
-    put-requires
+    slice-write-filter
     same-length-2
     same-length-3
     same-length-4
-    same-length-5
     returns-2)

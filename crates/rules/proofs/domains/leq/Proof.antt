@@ -1,26 +1,20 @@
 -- `rules::domains::leq` meets its contract.
-use mathlib.Core.Path.{_∙_}
-use borrow.Author.Tests.{lt-ltb, le-ltb}
-use Rattle.rules.specs.Scalars.{bitOf}
 use borrow.Author.Needs.{needs}
 use Rattle.rules.proofs.domains.leq.Statement.{statement}
 use Rattle.rules.proofs.domains.leq.Tie as tie
+use mathlib.Core.Path.{_∙_}
+use borrow.Author.Tests.{lt-ltb, le-ltb}
+use Rattle.rules.specs.Judged.{bitOf}
 
-cast-bit : tie.Need-cast-bit
-cast-bit c = search needs
-
-mul-bit : tie.Need-mul-bit
-mul-bit c = search needs
-
-shared-slice-read-bit : tie.Need-shared-slice-read-bit
-shared-slice-read-bit c = search needs
+mask-at-requires : tie.Need-mask-at-requires
+mask-at-requires c κs = search needs
 
 bit-requires : tie.Need-bit-requires
 bit-requires c κs = search needs
 
 returns : tie.Need-returns
 unfolding bitOf
-returns c = (c .bit .ensures) ∙ simp (lt-ltb _ _ (c .before .before .before .before .before .if1 .taken), lt-ltb _ _ (c .before .before .before .if2 .taken))
+returns c = c .bit .ensures ∙ simp (lt-ltb _ _ (c .before .before .before .before .if1 .taken), lt-ltb _ _ (c .before .before .if2 .taken), c .before .mask-at .ensures)
 
 returns-2 : tie.Need-returns-2
 unfolding bitOf
@@ -31,6 +25,4 @@ unfolding bitOf
 returns-3 c = simp (le-ltb _ _ (c .if1 .left))
 
 pub leq-spec : {M : Type 1} → statement M
-leq-spec =
-    tie.close
-    (tie.spec cast-bit mul-bit shared-slice-read-bit bit-requires returns returns-2 returns-3)
+leq-spec = tie.close (tie.spec mask-at-requires bit-requires returns returns-2 returns-3)

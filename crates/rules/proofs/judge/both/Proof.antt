@@ -1,8 +1,8 @@
 -- `rules::judge::both` meets its contract.
-use mathlib.Core.Path.{_∙_, sym}
-use Rattle.rules.proofs.Small.{alone, holds-first, fails-first}
 use Rattle.rules.proofs.judge.both.Statement.{statement}
 use Rattle.rules.proofs.judge.both.Tie as tie
+use mathlib.Core.Path.{sym, _∙_}
+use Rattle.rules.proofs.Small.{alone, holds-first, fails-first}
 
 returns : tie.Need-returns
 returns c = sym (alone (c .before .args .b)) ∙ holds-first (c .before .args .a) _ (c .if1 .taken)

@@ -1,9 +1,9 @@
 -- `rules::judge::judge` meets its contract.
+use Rattle.rules.proofs.judge.judge.Statement.{statement}
+use Rattle.rules.proofs.judge.judge.Tie as tie
 use mathlib.Core.Path.{refl}
 use borrow.Author.Tests.{not-true, not-false}
 use Rattle.rules.proofs.Small.{mistyped, not-allowed, accepted}
-use Rattle.rules.proofs.judge.judge.Statement.{statement}
-use Rattle.rules.proofs.judge.judge.Tie as tie
 
 returns : tie.Need-returns
 returns c = mistyped _ _ _ _ refl (not-true (c .before .args .typed) (c .if1 .taken))

@@ -1,9 +1,9 @@
 -- The rows stand for the order of the layout.
-use borrow.Author.Needs.{needs}
 use mathlib.Core.Path.{_∙_}
 use denote.Ref.{now}
 use Rattle.image.specs.Layout.{recordsOf}
 use Rattle.shape.proofs.Orders.{order-same}
+use borrow.Author.Needs.{needs}
 use Rattle.shape.proofs.order.check_order.Statement.{statement}
 use Rattle.shape.proofs.order.check_order.Tie as tie
 
@@ -15,9 +15,9 @@ first-unordered-requires c κs = search needs
 
 returns : tie.Need-returns
 returns c =
-    let w = c .before .before .before .before .before in
+    let o = c .before .order-of in
+    let w = c .before .before .before .before in
     let a = w .args in
-    let o = c .before .before .order-of in
     c .first-unordered .ensures ∙ order-same (recordsOf (now (a .image))) (now (a .image)) (now (a .doms)) (w .pre) (o .result) (o .ensures)
 
 pub check-order-spec : {M : Type 1} → statement M

@@ -1,5 +1,4 @@
 -- The loop keeps what is required of the domains from d on.
-use borrow.Author.Needs.{needs}
 use Prim.Native.Nat.{_-_, _≤_}
 use native.Mathlib.Omega.{arith}
 use mathlib.Core.Bool.{not}
@@ -9,6 +8,7 @@ use Rattle.image.specs.declared.Refusal.{Refusal}
 use Rattle.verdicts.specs.declared.Verdict.{Verdict}
 use Rattle.shape.specs.Faults.{orderFrom}
 use Rattle.shape.proofs.Answers.{from-start, from-end, from-next, from-here}
+use borrow.Author.Needs.{needs}
 use Rattle.shape.proofs.order.first_unordered.Statement.{statement}
 use Rattle.shape.proofs.order.first_unordered.Tie as tie
 
@@ -21,11 +21,11 @@ abbrev μ-loop : tie.MeasureT-loop
 loop-holds : tie.Need-loop-holds Inv-loop μ-loop
 loop-holds c = (search needs, from-start _ _ _ _)
 
+cast-t7 : tie.Need-cast-t7 Inv-loop μ-loop
+cast-t7 c = search needs
+
 at-fault-requires : tie.Need-at-fault-requires Inv-loop μ-loop
 at-fault-requires c κs = search needs
-
-cast-t8 : tie.Need-cast-t8 Inv-loop μ-loop
-cast-t8 c = search needs
 
 domain-offset-requires : tie.Need-domain-offset-requires Inv-loop μ-loop
 domain-offset-requires c κs = search needs
@@ -58,8 +58,8 @@ first-unordered-spec =
     Inv-loop
     μ-loop
     loop-holds
+    cast-t7
     at-fault-requires
-    cast-t8
     domain-offset-requires
     returns
     add-d

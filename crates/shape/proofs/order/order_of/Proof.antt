@@ -1,15 +1,18 @@
 -- The loop keeps: the rows of the d first domains, and no others.
-use borrow.Author.Needs.{needs}
+use Rattle.image.specs.Bytes.{lengthAt}
 use Prim.Native.Nat.{_-_, _≤_}
 use native.Mathlib.Omega.{arith}
 use mathlib.Core.Path.{_≡_, ap, _∙_}
-use lib.ListN.{length}
+use lib.ListN.{length, getD}
 use denote.Ref.{now}
-use Rattle.image.specs.Bytes.{fieldAt}
 use Rattle.image.specs.Limits.{domainLimit}
 use Rattle.image.specs.Layout.{recordsOf}
 use Rattle.verdicts.specs.Order.{bits}
+use Rattle.records.specs.Heads.{fieldsAt, fieldIn}
+use Rattle.records.proofs.Parts.{fields-length, field-is}
+use Rattle.shape.specs.Records.{DomainAt}
 use Rattle.shape.proofs.Orders.{RowsTo, rows-none, rows-more, rows-all}
+use borrow.Author.Needs.{needs}
 use Rattle.shape.proofs.order.order_of.Statement.{statement}
 use Rattle.shape.proofs.order.order_of.Tie as tie
 
@@ -28,12 +31,18 @@ cast-row-of c = search needs
 domain-offset-requires : tie.Need-domain-offset-requires Inv-loop μ-loop
 domain-offset-requires c κs = search needs
 
-field-at-requires : tie.Need-field-at-requires Inv-loop μ-loop
-field-at-requires c κs =
-    let p = c .before .before .before .before .before .pre in
+fields-at-requires : tie.Need-fields-at-requires Inv-loop μ-loop
+fields-at-requires c κs =
     let l = c .before .before .loop in
-    let h = p .inside (l .d) (omega arith) in
-    omega (arith, c .domain-offset .ensures)
+    rw (c .domain-offset .ensures) (c .before .before .before .before .before .pre .stands (l .d) (omega arith) .whole)
+
+mask-of-requires : tie.Need-mask-of-requires Inv-loop μ-loop
+mask-of-requires c κs =
+    let l = c .before .before .before .loop in
+    let s = c .before .before .before .before .before .before in
+    let D = s .pre .stands (l .d) (omega arith) in
+    let m = D .mask in
+    rw (c .fields-at .ensures, c .before .domain-offset .ensures) (omega (arith, fields-length (now (s .args .image)) (getD (now (s .args .doms)) (l .d) 0) (D .whole)))
 
 row-of-requires : tie.Need-row-of-requires Inv-loop μ-loop
 row-of-requires c κs = search needs
@@ -52,19 +61,26 @@ loop-less c = search needs
 
 loop-again : tie.Need-loop-again Inv-loop μ-loop
 loop-again c =
-    let l = c .before .before .before .before .loop in
-    let b = now (c .before .before .before .before .before .before .before .args .image) in
-    let mask = c .before .field-at .ensures ∙ ap (λ o. fieldAt b o 0) (c .before .before .domain-offset .ensures) in
-    let row = c .row-of .ensures ∙ ap (λ m. bits domainLimit m) mask in
-    (omega arith, rows-more (recordsOf b) b (now (c .before .before .before .before .before .before .before .args .doms)) (c .before .before .before .before .before .before .before .pre) (l .o) (l .d) (omega arith) (l .inv .1) _ row)
+    let l = c .before .before .before .before .before .loop in
+    let s = c .before .before .before .before .before .before .before .before in
+    let b = now (s .args .image) in
+    let ds = now (s .args .doms) in
+    let o = getD ds (l .d) 0 in
+    let D = s .pre .stands (l .d) (omega arith) in
+    let m = D .mask in
+    let at = ap (fieldsAt b) (c .before .before .before .domain-offset .ensures) in
+    let mask = c .before .mask-of .ensures ∙ ap (λ fs. fieldIn fs 0) (c .before .before .fields-at .ensures ∙ at) ∙ field-is b o (lengthAt b o) 0 (omega arith) in
+    let row = c .row-of .ensures ∙ ap (bits domainLimit) mask in
+    (omega arith, rows-more (recordsOf b) b ds (s .pre) (l .o) (l .d) (omega arith) (l .inv .1) _ row)
 
 returns : tie.Need-returns Inv-loop μ-loop
 returns c =
     let l = c .before .loop in
-    let b = now (c .before .before .before .before .args .image) in
-    let ds = now (c .before .before .before .before .args .doms) in
+    let s = c .before .before .before .before in
+    let b = now (s .args .image) in
+    let ds = now (s .args .doms) in
     let e : l .d ≡ length ds = omega arith in
-    rows-all (recordsOf b) b ds (c .before .before .before .before .pre) (l .o) (rw e at (l .inv .1))
+    rows-all (recordsOf b) b ds (s .pre) (l .o) (rw e at (l .inv .1))
 
 pub order-of-spec : {M : Type 1} → statement M
 order-of-spec =
@@ -75,7 +91,8 @@ order-of-spec =
     loop-holds
     cast-row-of
     domain-offset-requires
-    field-at-requires
+    fields-at-requires
+    mask-of-requires
     row-of-requires
     mul-o
     array-set-from-o

@@ -5,42 +5,51 @@ use borrow.Fn.PlainCycle.{Measures, is, falls, and}
 use Rattle.typing.proofs.pass.check_term.Reads as check-term
 use Rattle.typing.proofs.pass.check_term.Kinds as check-term-kinds
 use Rattle.typing.proofs.pass.+check_term.Lts-check_term as lts
-use Rattle.rules.proofs.rule.check_leaf_kind.Reads as check-leaf-kind-reads
+use Rattle.rules.proofs.leaf.check_leaf.Reads as check-leaf-reads
+use Rattle.rules.proofs.leaf.is_leaf.Reads as is-leaf-reads
 use Rattle.rules.proofs.rule.check_rule.Reads as check-rule-reads
-use Rattle.rules.proofs.terms.child.Reads as child-reads
+use Rattle.rules.proofs.terms.child_behind.Reads as child-behind-reads
 use Rattle.rules.proofs.terms.child_count.Reads as child-count-reads
+use Rattle.rules.proofs.terms.lead_of.Reads as lead-of-reads
+use Rattle.rules.proofs.terms.term_fields.Reads as term-fields-reads
 use Rattle.rules.proofs.terms.term_kind.Reads as term-kind-reads
 use Rattle.typing.proofs.scope.child_setting.Reads as child-setting-reads
 use Rattle.verdicts.proofs.is_refused.Reads as is-refused-reads
 
 -- The term number falls.
-abbrev pub μ-check-term : Measures 6 check-term-kinds.ps ℕ
-μ-check-term κs a = a .1 .1 .1 .1 .1 .1 .1 .1 .0 .0
+abbrev pub μ-check-term : Measures 5 check-term-kinds.ps ℕ
+μ-check-term κs a = a .1 .1 .1 .0 .0
 
-abbrev pub check-term-at : ℕ → In 6 check-term-kinds.ps
+abbrev pub check-term-at : ℕ → In 5 check-term-kinds.ps
 check-term-at t =
-    and 6 check-term-kinds.ps (is 6 check-term-kinds.ps μ-check-term t) check-term.Pre
+    and 5 check-term-kinds.ps (is 5 check-term-kinds.ps μ-check-term t) check-term.Pre
 
-abbrev pub check-term-below : ℕ → In 6 check-term-kinds.ps
+abbrev pub check-term-below : ℕ → In 5 check-term-kinds.ps
 check-term-below t =
-    and 6 check-term-kinds.ps (falls 6 check-term-kinds.ps _<_ μ-check-term t) check-term.Pre
+    and 5 check-term-kinds.ps (falls 5 check-term-kinds.ps _<_ μ-check-term t) check-term.Pre
 
 abbrev pub claims : ℕ → lts.Claims
 claims t = (
+  is-leaf-reads.Asked,
+  is-leaf-reads.Learnt,
+  check-leaf-reads.Asked,
+  check-leaf-reads.Learnt,
   check-rule-reads.Asked,
   check-rule-reads.Learnt,
   is-refused-reads.Asked,
   is-refused-reads.Learnt,
-  child-count-reads.Asked,
-  child-count-reads.Learnt,
-  child-reads.Asked,
-  child-reads.Learnt,
-  child-setting-reads.Asked,
-  child-setting-reads.Learnt,
   term-kind-reads.Asked,
   term-kind-reads.Learnt,
-  check-leaf-kind-reads.Asked,
-  check-leaf-kind-reads.Learnt,
+  term-fields-reads.Asked,
+  term-fields-reads.Learnt,
+  child-count-reads.Asked,
+  child-count-reads.Learnt,
+  lead-of-reads.Asked,
+  lead-of-reads.Learnt,
+  child-behind-reads.Asked,
+  child-behind-reads.Learnt,
+  child-setting-reads.Asked,
+  child-setting-reads.Learnt,
   check-term-below t,
   check-term.Post,
 )

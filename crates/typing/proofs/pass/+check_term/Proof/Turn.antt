@@ -1,153 +1,212 @@
--- The two loops of `typing::pass::check_term`, what holds in them, and what follows at a child of the turn's term.
+-- The loop of `typing::pass::check_term` over a term's children: what holds in it, and what follows at a child.
 use Prim.Native.Nat.{ℕ, _<_, _+_, _-_, _≤_}
 use Rattle.typing.proofs.pass.check_term.Reads as reads
 use Rattle.typing.proofs.pass.+check_term.Lts-check_term as lts
 use Rattle.typing.proofs.pass.+check_term.Proof.Cycle.{check-term-at, claims}
 use denote.Ref.{now}
 use native.Mathlib.Omega.{arith}
-use mathlib.Core.Path.{_≡_, sym, _∙_}
+use mathlib.Core.Path.{_≡_, refl, sym, ap, subst, _∙_}
 use mathlib.Core.Bool.{true}
 use mathlib.Core.List.{List}
 use lib.ListN.{length, getD, take}
-use Rattle.image.specs.Bytes.{numberAt}
+use Rattle.image.specs.Kinds.{TermKind, termRow}
 use Rattle.image.specs.Layout.{recordsOf}
-use Rattle.image.specs.Types.{termPlace, children}
-use Rattle.image.proofs.Laid.{Good}
+use Rattle.image.specs.Types.{termKind, children}
 use Rattle.verdicts.specs.declared.Verdict.{Verdict}
 use Rattle.verdicts.specs.Answers.{isRefused}
 use Rattle.verdicts.specs.Settings.{Setting}
 use Rattle.verdicts.specs.Check.{checked}
 use Rattle.verdicts.proofs.Answered.{accepted-is}
-use Rattle.rules.specs.Lent.{IsTerm, settingIn}
-use Rattle.rules.specs.Scalars.{ruleVerdict}
-use Rattle.rules.proofs.Located.{good-of}
+use Rattle.rules.specs.Lent.{IsTerm, contextIn, settingIn}
+use Rattle.rules.specs.Fields.{fieldsOf, fieldIn, leadOf, countIn, settingFrom, Behind}
+use Rattle.rules.specs.Judged.{ruleVerdict}
+use Rattle.rules.proofs.Located.{number-is, kind-is, typed-in, count-is, child-in, child-lower, behind-in}
+use Rattle.rules.proofs.Verdict.{verdict-in}
 use Rattle.typing.specs.Turns.{Passed, ChildAt, Room}
-use Rattle.typing.proofs.TermPass.{front, front-stops, front-whole, leaf-checked, take-fewer, still-ruled, child-next, still-kept}
+use Rattle.typing.proofs.TermPass.{front, front-next, front-stops, front-whole, types-fit, take-fewer, same-setting}
 use Rattle.typing.proofs.ScopeRoom.{two-more, child-room}
 
--- The outer loop: the verdict is that on the current term, where it stands; the first places of the scope are kept, and there is room for what the terms below bind.
+-- The children before child j pass, and the first places of the scope are kept.
 abbrev pub Inv-loop : lts.InvT-loop
-Inv-loop image kinds masks terms keys scope₀ arg n₀ len₀ c₀ scope n len c =
-    (checked (recordsOf image) (settingIn scope len (c .0)) (n .0) ≡ checked (recordsOf image) (settingIn scope₀ len₀ (c₀ .0)) (n₀ .0))
-    × (length scope ≡ length scope₀) × (take len₀ scope ≡ take len₀ scope₀) × (len₀ ≤ len) × IsTerm image (n .0) × (n .0 ≤ n₀ .0) × Room image scope len (n .0)
+Inv-loop image terms keys masks scope₀ len kind fields k lead here j₀ scope j =
+    (j ≤ k) × (length scope ≡ length scope₀) × (take len scope ≡ take len scope₀)
+    × ((m : TermKind) → kind ≡ termRow m .number → front image fields m (settingIn scope₀ len (here .dom .0)) j ≡ Verdict.Accepted)
 
 abbrev pub μ-loop : lts.MeasureT-loop
-μ-loop image kinds masks terms keys scope₀ arg n₀ len₀ c₀ scope n len c = n .0
+μ-loop image terms keys masks scope₀ len kind fields k lead here j₀ scope j = k - j
 
--- The inner loop: the children before child j pass, and the first places of the scope are those of the turn's begin.
-abbrev pub Inv-loop2 : lts.InvT-loop2
-Inv-loop2 image kinds masks terms keys scope₀ arg n len c k i j₀ scope j =
-    (j ≤ i) × (length scope ≡ length scope₀) × (take len scope ≡ take len scope₀) × (front (recordsOf image) (settingIn scope₀ len (c .0)) (n .0) j ≡ Verdict.Accepted)
-
-abbrev pub μ-loop2 : lts.MeasureT-loop2
-μ-loop2 image kinds masks terms keys scope₀ arg n len c k i j₀ scope j = i - j
-
--- The places that the proof goes back to: the start, a turn of the outer loop, its term that has passed its rule, and a turn of the inner loop.
+-- The places that the proof goes back to: the start, the term that has passed its rule, a turn of the loop, and a child where it stands.
 abbrev pub Term : ℕ → Type 0
-Term t = lts.Start (claims t) (check-term-at t) reads.Post Inv-loop2 μ-loop2 Inv-loop μ-loop
-
-abbrev pub Turn : ℕ → Type 0
-Turn t = lts.At-loop (claims t) (check-term-at t) reads.Post Inv-loop2 μ-loop2 Inv-loop μ-loop
+Term t = lts.Start (claims t) (check-term-at t) reads.Post Inv-loop μ-loop
 
 abbrev pub Ruled : ℕ → Type 0
-Ruled t = lts.Else1 (claims t) (check-term-at t) reads.Post Inv-loop2 μ-loop2 Inv-loop μ-loop
+Ruled t = lts.Else2 (claims t) (check-term-at t) reads.Post Inv-loop μ-loop
 
-abbrev pub Front : ℕ → Type 0
-Front t = lts.At-loop2 (claims t) (check-term-at t) reads.Post Inv-loop2 μ-loop2 Inv-loop μ-loop
+abbrev pub Counted : ℕ → Type 0
+Counted t = lts.After-lead-of (claims t) (check-term-at t) reads.Post Inv-loop μ-loop
+
+abbrev pub Turn : ℕ → Type 0
+Turn t = lts.At-loop (claims t) (check-term-at t) reads.Post Inv-loop μ-loop
+
+abbrev pub Child : ℕ → Type 0
+Child t = lts.After-dom (claims t) (check-term-at t) reads.Post Inv-loop μ-loop
 
 module _ {t : ℕ} where
-  abbrev pub term-of : Turn t → Term t
-  term-of c = c .before .before .before .before .before .before .before
+  -- The term's image and its kind; where it stands; the verdict that is asked for.
+  abbrev pub image-of : Term t → List ℕ
+  image-of s = now (s .args .image)
 
-  abbrev pub turn-of : Ruled t → Turn t
-  turn-of c = c .before .before .before .before
+  abbrev pub kind-of : Term t → TermKind
+  kind-of s = termKind (recordsOf (image-of s)) (s .args .n .0)
 
-  abbrev pub turn-at : Front t → Turn t
-  turn-at c = turn-of (c .before .before .before)
+  abbrev pub setting-of : Term t → Setting ℕ
+  setting-of s = settingIn (now (s .args .scope)) (s .args .len) (s .args .c .0)
 
-  -- The turn's image and setting; the verdict that is asked for.
-  abbrev pub image-of : Turn t → List ℕ
-  image-of c = now (term-of c .args .image)
+  abbrev pub asked-of : Term t → Verdict
+  asked-of s = checked (recordsOf (image-of s)) (setting-of s) (s .args .n .0)
 
-  abbrev pub setting-of : Turn t → Setting ℕ
-  setting-of c = settingIn (c .loop .scope) (c .loop .len) (c .loop .c .0)
+  abbrev pub term-of : Ruled t → Term t
+  term-of c = c .before .before .before .before .before .before .before .before
 
-  abbrev pub front-of : Turn t → ℕ → Verdict
-  front-of c k = front (recordsOf (image-of c)) (setting-of c) (c .loop .n .0) k
+  -- Its rule is passed, whatever the variables are.
+  pub ruled : (c : Ruled t) (Γ : List ℕ) → ruleVerdict (recordsOf (image-of (term-of c))) (record { context = Γ; dom = term-of c .args .c .0 }) (term-of c .args .n .0) ≡ Verdict.Accepted
+  ruled c Γ = sym (c .before .before .check-rule .ensures Γ) ∙ accepted-is (c .before .before .check-rule .result) (sym (c .before .is-refused .ensures) ∙ c .if2 .left)
 
-  abbrev pub asked-of : Turn t → Verdict
-  asked-of c = let a = term-of c .args in checked (recordsOf (image-of c)) (settingIn (now (a .scope)) (a .len) (a .c .0)) (a .n .0)
+  -- Its fields; the number of its kind; how many children it has, and how many fields before them.
+  abbrev pub start-of : Counted t → Term t
+  start-of c = term-of (c .before .before .before .before)
 
-  pub good : (c : Turn t) → Good (recordsOf (image-of c))
-  good c = good-of (image-of c) (term-of c .pre .1 .0 .terms .laid-out)
+  abbrev pub fields-of : Counted t → List ℕ
+  fields-of c = now (c .before .before .term-fields .result)
 
-  pub ruled : (c : Ruled t) → ruleVerdict (recordsOf (image-of (turn-of c))) (setting-of (turn-of c)) (turn-of c .loop .n .0) ≡ Verdict.Accepted
-  ruled c = sym (c .before .before .check-rule .ensures) ∙ accepted-is (c .before .before .check-rule .result) (sym (c .before .is-refused .ensures) ∙ c .if1 .left)
+  pub fields-are : (c : Counted t) → fields-of c ≡ fieldsOf (image-of (start-of c)) (start-of c .args .n .0)
+  fields-are c = c .before .before .term-fields .ensures
 
-  -- Where its rule is passed, the verdict on all its children is the one that is asked for.
-  pub whole : (c : Ruled t) (k : ℕ) → length (children (recordsOf (image-of (turn-of c))) (turn-of c .loop .n .0)) ≤ k → front-of (turn-of c) k ≡ asked-of (turn-of c)
-  whole c k h = let l = turn-of c in front-whole (recordsOf (image-of l)) (good l) (setting-of l) (l .loop .n .0) (l .loop .inv .4) (ruled c) k h ∙ l .loop .inv .0
+  pub numbered : (c : Counted t) → c .before .before .before .term-kind .result ≡ termRow (kind-of (start-of c)) .number
+  numbered c = let s = start-of c in c .before .before .before .term-kind .ensures ∙ number-is (s .pre .1 .0 .terms) (s .pre .1 .1)
 
-  -- What is kept of the turn's scope is kept of the one that was lent.
-  pub outer-kept : (c : Turn t) (last : List ℕ) → take (c .loop .len) last ≡ take (c .loop .len) (c .loop .scope) → take (term-of c .args .len) last ≡ take (term-of c .args .len) (now (term-of c .args .scope))
-  outer-kept c last h = take-fewer (term-of c .args .len) (c .loop .len) last (c .loop .scope) (c .loop .inv .3) h ∙ c .loop .inv .2
+  pub kinded : (c : Counted t) (m : TermKind) → c .before .before .before .term-kind .result ≡ termRow m .number → kind-of (start-of c) ≡ m
+  kinded c m e = let s = start-of c in kind-is (s .pre .1 .0 .terms) (s .pre .1 .1) m (sym (c .before .before .before .term-kind .ensures) ∙ e)
 
-  -- A lower number is a term too.
-  pub lower-is : (c : Turn t) (e : ℕ) → e < c .loop .n .0 → IsTerm (image-of c) e
-  lower-is c e below = let h = c .loop .inv .4 in omega arith
+  -- Where all its children pass, the verdict on them is the one that is asked for.
+  pub whole : (c : Counted t) (j : ℕ) → c .before .child-count .result ≤ j → front (image-of (start-of c)) (fields-of c) (kind-of (start-of c)) (setting-of (start-of c)) j ≡ asked-of (start-of c)
+  whole c j h =
+      let s = start-of c in
+      let k = c .before .child-count .ensures (kind-of s) (numbered c) in
+      let n : countIn (fields-of c) (kind-of s) ≤ j = omega arith in
+      rw (fields-are c) (front-whole (s .pre .1 .0 .terms) (s .pre .1 .1) (setting-of s) (ruled (c .before .before .before .before) (contextIn (now (s .args .scope)) (s .args .len))) refl j (rw (fields-are c) at n))
 
-  -- What child i asks of the turn's term.
-  pub passed : (c : Front t) (i : ℕ) → i ≤ c .before .before .child-count .result - 1
-      → Passed (image-of (turn-at c)) (now (term-of (turn-at c) .args .terms)) (now (term-of (turn-at c) .args .keys)) (c .loop2 .scope) (turn-at c .loop .len) (turn-at c .loop .c .0) (turn-at c .loop .n .0) i
-  passed c i h =
-      let l = turn-at c in
-      let k = c .before .before .child-count .ensures in
-      let some = c .before .if2 .left in
-      let same = c .loop2 .inv .1 in
-      let r = two-more (l .loop .inv .6) (l .loop .inv .4) in
+  -- What child j asks of the term, whose kind is m.
+  pub behind : (c : Counted t) (m : TermKind) → kind-of (start-of c) ≡ m → (i : ℕ) → i < countIn (fields-of c) m → Behind (image-of (start-of c)) (fields-of c) (leadOf m + i)
+  behind c m e i l = let s = start-of c in rw (fields-are c) (behind-in (s .pre .1 .0 .terms) (s .pre .1 .1) e i (rw (fields-are c) at l))
+
+  pub passed : (c : Turn t) (m : TermKind) → kind-of (start-of (c .before)) ≡ m
+      → Passed (image-of (start-of (c .before))) (fields-of (c .before)) m (c .loop .scope) (start-of (c .before) .args .len) (start-of (c .before) .args .c .0)
+  passed c m e =
+      let d = c .before in
+      let s = start-of d in
+      let Γ = contextIn (c .loop .scope) (s .args .len) in
+      let T = s .pre .1 .0 .terms in
+      let h = s .pre .1 .1 in
+      let a = verdict-in T h e (record { context = Γ; dom = s .args .c .0 }) ∙ ruled (d .before .before .before .before) Γ in
       record {
-        lent = term-of l .pre .1 .0;
-        term = l .loop .inv .4;
-        ruled = still-ruled (image-of l) (l .loop .scope) (c .loop2 .scope) (l .loop .len) (l .loop .c .0) (l .loop .n .0) (c .loop2 .inv .2) (ruled (c .before .before .before));
-        child = omega arith;
-        room = omega arith;
+        typed = rw (fields-are d) (typed-in T h);
+        children = behind d m e;
+        fits = rw (fields-are d) (types-fit _ _ a);
+        places = c .loop .inv .1 ∙ s .pre .1 .3 .places;
+        room = two-more (s .pre .1 .3) h;
       }
 
--- Child i of the turn's term, of number e, in the first m places of the scope after, at the domain d.
-pub record Child (t : ℕ) (c : Front t) (after : List ℕ) (i m d e : ℕ) : Type 0 where
-  pub at : ChildAt (image-of (turn-at c)) (c .loop2 .scope) after (turn-at c .loop .len) (turn-at c .loop .c .0) (turn-at c .loop .n .0) i m d
-  pub index : i < length (children (recordsOf (image-of (turn-at c))) (turn-at c .loop .n .0))
-  pub same : length after ≡ length (c .loop2 .scope)
-  pub number : (e ≡ getD (children (recordsOf (image-of (turn-at c))) (turn-at c .loop .n .0)) i 0) × (e < turn-at c .loop .n .0)
+  -- Of a child: its turn and its term; the scope that it stands in, how many places of it are used, the domain, and its number.
+  abbrev pub turn-of : Child t → Turn t
+  turn-of c = c .before .before .before .before .before
 
-module _ {t : ℕ} {c : Front t} {after : List ℕ} {i m d e : ℕ} (C : Child t c after i m d e) where
-  pub inside : IsTerm (image-of (turn-at c)) e
-  inside = lower-is (turn-at c) e (C .number .1)
+  abbrev pub parent-of : Child t → Term t
+  parent-of c = start-of (turn-of c .before)
 
-  pub same-length : length after ≡ length (now (term-of (turn-at c) .args .scope))
-  same-length = C .same ∙ c .loop2 .inv .1 ∙ turn-at c .loop .inv .1
+  abbrev pub scope-of : Child t → List ℕ
+  scope-of c = c .before .child-setting .last .1 .1 .1 .0
 
-  pub room : Room (image-of (turn-at c)) after m e
-  room =
-      let l = turn-at c in
-      child-room (image-of l) (now (term-of l .args .terms)) (term-of l .pre .1 .0 .terms) (l .loop .scope) after (l .loop .len) (l .loop .n .0) i m e (l .loop .inv .6) (l .loop .inv .4) (C .index) (C .number .0) (C .at .little) (C .same ∙ c .loop2 .inv .1)
+  abbrev pub len-of : Child t → ℕ
+  len-of c = c .before .child-setting .result .len
 
-  pub kept : (last : List ℕ) → take m last ≡ take m after → take (turn-at c .loop .len) last ≡ take (turn-at c .loop .len) (turn-at c .loop .scope)
-  kept last h = still-kept (C .at) (turn-at c .loop .scope) (c .loop2 .inv .2) last h
+  abbrev pub dom-of : Child t → ℕ
+  dom-of c = c .before .child-setting .result .dom .0
 
-  -- It is checked where it stands, behind those before it; a constant or a variable, by its rule alone.
-  pub child-is : front-of (turn-at c) i ≡ Verdict.Accepted → checked (recordsOf (image-of (turn-at c))) (settingIn after m d) e ≡ front-of (turn-at c) (i + 1)
-  child-is h = child-next (C .at) (turn-at c .loop .scope) (c .loop2 .inv .2) (C .index) h e (C .number .0)
+  abbrev pub number-of : Child t → ℕ
+  number-of c = c .before .before .before .child-behind .result .0
 
-  pub leaf-is : (kind : ℕ) → kind ≡ numberAt (image-of (turn-at c)) (termPlace (recordsOf (image-of (turn-at c))) e) → kind < 36
-      → ruleVerdict (recordsOf (image-of (turn-at c))) (settingIn after m d) e ≡ checked (recordsOf (image-of (turn-at c))) (settingIn after m d) e
-  leaf-is kind q h = let s = term-of (turn-at c) in leaf-checked (now (s .args .image)) (now (s .args .terms)) (s .pre .1 .0 .terms) (settingIn after m d) e kind inside q h
+  abbrev pub index-of : Child t → ℕ
+  index-of c = turn-of c .loop .j
+
+  pub indexed : (c : Child t) (m : TermKind) → turn-of c .before .before .before .before .term-kind .result ≡ termRow m .number → index-of c < countIn (fields-of (turn-of c .before)) m
+  indexed c m e =
+      let l = turn-of c in
+      let k = l .before .before .child-count .ensures m e in
+      let h = c .before .before .before .before .loop-test .taken in
+      omega arith
+
+  -- Its number stands behind the fields and the children before it, and is lower than the term's.
+  number-is-in : (c : Child t) (m : TermKind) → turn-of c .before .before .before .before .term-kind .result ≡ termRow m .number → number-of c ≡ fieldIn (fields-of (turn-of c .before)) (leadOf m + index-of c)
+  number-is-in c m e =
+      let f = fields-of (turn-of c .before) in
+      c .before .before .before .child-behind .ensures ∙ ap (λ l. fieldIn f (l + index-of c)) (turn-of c .before .lead-of .ensures m e)
+
+  index-in : (c : Child t) → index-of c < countIn (fieldsOf (image-of (parent-of c)) (parent-of c .args .n .0)) (kind-of (parent-of c))
+  index-in c = subst (λ fs. index-of c < countIn fs (kind-of (parent-of c))) (fields-are (turn-of c .before)) (indexed c (kind-of (parent-of c)) (numbered (turn-of c .before)))
+
+  child-number : (c : Child t) → number-of c ≡ getD (children (recordsOf (image-of (parent-of c))) (parent-of c .args .n .0)) (index-of c) 0
+  child-number c =
+      let s = parent-of c in
+      number-is-in c (kind-of s) (numbered (turn-of c .before)) ∙ ap (λ fs. fieldIn fs (leadOf (kind-of s) + index-of c)) (fields-are (turn-of c .before)) ∙ child-in (s .pre .1 .0 .terms) (s .pre .1 .1) refl (index-of c) (index-in c)
+
+  pub lower : (c : Child t) → number-of c < parent-of c .args .n .0
+  lower c = let s = parent-of c in subst (λ e. e < s .args .n .0) (sym (child-number c)) (child-lower (s .pre .1 .0 .terms) (s .pre .1 .1) {k = kind-of s} refl (index-of c) (index-in c))
+
+  pub inside : (c : Child t) → IsTerm (image-of (parent-of c)) (number-of c)
+  inside c =
+      let l = lower c in
+      let h = parent-of c .pre .1 .1 in
+      omega arith
+
+  at : (c : Child t) (m : TermKind) → turn-of c .before .before .before .before .term-kind .result ≡ termRow m .number
+      → ChildAt (image-of (parent-of c)) (fields-of (turn-of c .before)) m (index-of c) (turn-of c .loop .scope) (scope-of c) (parent-of c .args .len) (parent-of c .args .c .0) (len-of c) (dom-of c)
+  at c m e = c .before .child-setting .ensures m e
+
+  pub same-length : (c : Child t) → length (scope-of c) ≡ length (now (parent-of c .args .scope))
+  same-length c = at c (kind-of (parent-of c)) (numbered (turn-of c .before)) .same ∙ turn-of c .loop .inv .1
+
+  pub room : (c : Child t) → Room (image-of (parent-of c)) (scope-of c) (len-of c) (number-of c)
+  room c =
+      let s = parent-of c in
+      let k = count-is (s .pre .1 .0 .terms) (s .pre .1 .1) {k = kind-of s} refl in
+      let i = index-in c in
+      child-room (s .pre .1 .0 .terms) (s .pre .1 .3) (s .pre .1 .1) (scope-of c) (index-of c) (len-of c) (number-of c) (omega arith) (child-number c) (at c (kind-of s) (numbered (turn-of c .before)) .little) (same-length c)
+
+  -- The places that the child's check keeps are the term's own.
+  pub kept : (c : Child t) (last : List ℕ) → take (len-of c) last ≡ take (len-of c) (scope-of c) → take (parent-of c .args .len) last ≡ take (parent-of c .args .len) (now (parent-of c .args .scope))
+  kept c last h =
+      let C = at c (kind-of (parent-of c)) (numbered (turn-of c .before)) in
+      take-fewer (parent-of c .args .len) (len-of c) last (scope-of c) (C .grown) h ∙ C .kept ∙ turn-of c .loop .inv .2
+
+  -- The child is checked where it stands, behind those before it.
+  pub child-is : (c : Child t) (m : TermKind) → turn-of c .before .before .before .before .term-kind .result ≡ termRow m .number
+      → checked (recordsOf (image-of (parent-of c))) (settingIn (scope-of c) (len-of c) (dom-of c)) (number-of c) ≡ front (image-of (parent-of c)) (fields-of (turn-of c .before)) m (setting-of (parent-of c)) (index-of c + 1)
+  child-is c m e =
+      let s = parent-of c in
+      let L = recordsOf (image-of s) in
+      let fs = fields-of (turn-of c .before) in
+      let l = turn-of c .loop in
+      let stands = at c m e .stands ∙ ap (λ p. settingFrom (image-of s) fs m p (index-of c)) (same-setting (now (s .args .scope)) (l .scope) (s .args .len) (s .args .c .0) (l .inv .2)) in
+      ap (λ p. checked L p (number-of c)) stands
+      ∙ ap (checked L (settingFrom (image-of s) fs m (setting-of s) (index-of c))) (number-is-in c m e)
+      ∙ sym (front-next (image-of s) fs m (setting-of s) (index-of c) (indexed c m e) (l .inv .3 m e))
 
   -- A refusal of the child is the answer.
-  pub stops : front-of (turn-at c) i ≡ Verdict.Accepted → (v : Verdict) → v ≡ checked (recordsOf (image-of (turn-at c))) (settingIn after m d) e → isRefused v ≡ true → v ≡ asked-of (turn-at c)
-  stops a v q r =
-      let l = turn-at c in
-      let k = c .before .before .child-count .ensures in
-      let h = C .index in
-      front-stops (recordsOf (image-of l)) (setting-of l) (l .loop .n .0) v (i + 1) (c .before .before .child-count .result) (omega arith) (q ∙ child-is a) r
-      ∙ whole (c .before .before .before) (c .before .before .child-count .result) (omega arith)
+  pub stops : (c : Child t) (v : Verdict) → v ≡ checked (recordsOf (image-of (parent-of c))) (settingIn (scope-of c) (len-of c) (dom-of c)) (number-of c) → isRefused v ≡ true → v ≡ asked-of (parent-of c)
+  stops c v q r =
+      let s = parent-of c in
+      let d = turn-of c .before in
+      let k = d .before .child-count .result in
+      let h = c .before .before .before .before .loop-test .taken in
+      front-stops (image-of s) (fields-of d) (kind-of s) (setting-of s) v (index-of c + 1) k (omega arith) (q ∙ child-is c (kind-of s) (numbered d)) r ∙ whole d k (omega arith)

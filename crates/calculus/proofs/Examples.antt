@@ -1,0 +1,68 @@
+-- Runs of small terms, by computation of the definitions; each shows a point of document 01, "A run".
+use Prim.Native.Nat.{ℕ, zero, suc}
+use mathlib.Core.Path.{_≡_, refl}
+use mathlib.Core.List.{List, [], _∷_}
+use Rattle.calculus.specs.declared.Outcome.{Outcome}
+use Rattle.calculus.specs.Combinators.{cases}
+use Rattle.calculus.specs.Syntax.{Ty, Val, Tm, val, var, op0, op1, op2, seq, abort, print, byte, mark, minus}
+use Rattle.calculus.specs.State.{Advice, State, Given, Print, picked, logOf, fresh, labelled, installed}
+use Rattle.calculus.specs.Subst.{subst}
+use Rattle.calculus.specs.Answer.{carry, if-room, with, spend}
+use Rattle.calculus.specs.Step.{step}
+use Rattle.calculus.specs.Run.{End, done, stopped, after, run}
+
+abbrev G : Given
+G = record { frame = []; logLength = 100 }
+
+-- What is looked at.
+record Facts : Type 0 where
+  end : End
+  steps : ℕ
+  log : List Print
+
+abbrev facts : State → Tm → Facts
+facts s e = let E = run 100 G 0 s e in record { end = E .end; steps = E .steps; log = logOf (E .state .trace) }
+
+abbrev number : ℕ → Tm
+number n = val (Val.num n)
+
+abbrev say : Tm → Tm
+say e = op1 print Ty.unit e
+
+-- "Evaluation is left to right": (print 1; 5) minus (print 2; 3)
+left-first : facts fresh (op2 minus Ty.number (seq (say (number 1)) (number 5)) (seq (say (number 2)) (number 3)))
+    ≡ record { end = done (Val.num 2); steps = 5; log = record { dom = 0; shown = 1 } ∷ record { dom = 0; shown = 2 } ∷ [] }
+unfolding run after cases step carry if-room with picked
+left-first = refl
+
+-- Label 0, and two advice on it: print x at domain 1, installed first, and print 7 at domain 0.
+abbrev on : ℕ → Tm → Advice Tm
+on p b = record { dom = p; labels = 0 ∷ []; body = b }
+
+abbrev advised : State
+advised = installed (on 0 (say (number 7))) (installed (on 1 (say (var 0))) (labelled 0 fresh))
+
+-- "In order of installation, each matching advice's body lowered to its domain, in sequence, ending in unit": the mark, then three steps for each.
+advice-in-order : facts advised (op2 mark Ty.unit (val (Val.label 0)) (number 3))
+    ≡ record { end = done Val.unit; steps = 7; log = record { dom = 1; shown = 3 } ∷ record { dom = 0; shown = 7 } ∷ [] }
+unfolding run after cases step subst carry if-room with spend picked
+advice-in-order = refl
+
+-- Abort "is one step besides".
+abort-counted : facts fresh (op0 abort Ty.unit) ≡ record { end = stopped Outcome.Aborted; steps = 1; log = [] }
+unfolding run after cases step if-room picked
+abort-counted = refl
+
+-- n frame bytes, one inside another.
+unfoldable pub nest : ℕ → Tm
+nest zero = number 0
+nest (suc n) = op1 byte Ty.number (nest n)
+
+-- "No frames (3) if more than 512 unfinished terms enclose the next one to reduce": of 513 terms 512 enclose the innermost.
+frames-512 : run 1 G 0 fresh (nest 513) .end ≡ stopped Outcome.Spent
+unfolding run after cases step carry if-room with nest
+frames-512 = refl
+
+frames-513 : run 1 G 0 fresh (nest 514) .end ≡ stopped Outcome.Frames
+unfolding run after cases step carry if-room with nest
+frames-513 = refl

@@ -1,0 +1,265 @@
+-- The walk lays out exactly the images that are laid out, and their records are the only ones.
+use Prim.Native.Nat.{ℕ, zero, suc, _+_, _*_, _%_, _≤_, _<_}
+use native.Mathlib.Omega.{arith}
+use mathlib.Core.Path.{_≡_, refl, sym, ap, subst, _∙_}
+use mathlib.Core.Bool.{Bool, true, false, not}
+use mathlib.Core.List.{List, [], _∷_, _++_, append-assoc, append-nil}
+use mathlib.Core.Logic.{_↔_}
+use mathlib.Core.Option.{none, some}
+use lib.ListN.{length, getD, length-append, List·getD-append}
+use lib.Seq.{getD-append-seam}
+use lib.Dec.{eqb, ltb}
+use Rattle.image.specs.Limits.{domainLimit, typeLimit, termLimit}
+use Rattle.image.specs.Tests.{allOf, firstFault}
+use Rattle.image.specs.Bytes.{lengthAt, numberAt, fieldAt}
+use Rattle.image.specs.Kinds.{Field, a-type, a-domain, an-op, a-truth, free, TypeKind, Kind, domain, type, term, Row, domainRow, typeRow, termRow, rowOf, kindOf}
+use Rattle.image.specs.Records.{Layout, kindAt, childrenAt}
+use Rattle.image.specs.Layout.{nothing, known, rightLength, isNil, inOrder, hasRoom, within, fieldsIn, inRange, sameType, isNew, tests, add, laid, walk, layout}
+use Rattle.image.specs.Types.{typePlace, typeKind, termKind}
+use Rattle.image.specs.LaidOut.{Below, EndToEnd, Stands, Within, IsRecord, SameType, LaidOut}
+use Rattle.image.proofs.Facts.{no-path, and-i, of-lt, of-le, eq-of, of-eq, each, of-each, all-below, below-all}
+use Rattle.image.proofs.KindNumbers.{found}
+use Rattle.image.proofs.EveryKind.{type-childless}
+use Rattle.image.proofs.Fuel.{walk-fuel}
+use Rattle.image.proofs.Laid.{tests-passed, walk-reaches, layout-good}
+
+-- There: the records of a walk stand end to end.
+abbrev listed : Layout → List ℕ → List ℕ
+listed L rest = L .domains ++ (L .types ++ (L .terms ++ rest))
+
+-- Whatever stands end to end from o on, stands so behind the records of L.
+abbrev Joins : ℕ → Layout → Type 0
+Joins o L = (rest : List ℕ) → EndToEnd (L .image) o rest → EndToEnd (L .image) 0 (listed L rest)
+
+is-nil : (xs : List ℕ) → isNil xs ≡ true → xs ≡ []
+is-nil [] h = refl
+is-nil (x ∷ xs) h = no-path (sym h)
+
+join-one : (o : ℕ) (L : Layout) (k : Kind) → inOrder k L ≡ true → Joins o L → Joins (o + lengthAt (L .image) o) (add k o L)
+join-one o L domain h j rest e =
+    let n = each _ h in
+    let t : L .types ≡ [] = is-nil (L .types) (n .0) in
+    let s : L .terms ≡ [] = is-nil (L .terms) (n .1 .0) in
+    let q : L .domains ++ (o ∷ rest) ≡ (L .domains ++ (o ∷ [])) ++ rest = sym (append-assoc (L .domains) (o ∷ []) rest) in
+    let z : EndToEnd (L .image) 0 (L .domains ++ (o ∷ rest)) = rw (t, s) at (j (o ∷ rest) (refl, e)) in
+    rw (t, s) (subst (EndToEnd (L .image) 0) q z)
+join-one o L (type k) h j rest e =
+    let s : L .terms ≡ [] = is-nil (L .terms) h in
+    let q : L .types ++ (o ∷ rest) ≡ (L .types ++ (o ∷ [])) ++ rest = sym (append-assoc (L .types) (o ∷ []) rest) in
+    let z : EndToEnd (L .image) 0 (L .domains ++ (L .types ++ (o ∷ rest))) = rw s at (j (o ∷ rest) (refl, e)) in
+    rw s (subst (λ xs. EndToEnd (L .image) 0 (L .domains ++ xs)) q z)
+join-one o L (term k) h j rest e =
+    let q : L .terms ++ (o ∷ rest) ≡ (L .terms ++ (o ∷ [])) ++ rest = sym (append-assoc (L .terms) (o ∷ []) rest) in
+    subst (λ xs. EndToEnd (L .image) 0 (L .domains ++ (L .types ++ xs))) q (j (o ∷ rest) (refl, e))
+
+end-to-end : (b : List ℕ) (L : Layout) → layout b ≡ laid L → EndToEnd (L .image) 0 (L .domains ++ (L .types ++ L .terms))
+unfolding layout
+end-to-end b L h =
+    let j = walk-reaches Joins (λ o K q g. join-one o K (kindAt (K .image) o) (tests-passed K o q .order) g) (length b) 0 (nothing b) L h (λ rest e. e) in
+    rw append-nil at (j [] refl)
+
+same-type : (L : Layout) (t u : ℕ) → SameType L t u → sameType (L .image) (typeRow (typeKind L t)) (typePlace L t) (typePlace L u) ≡ true
+same-type L t u s = of-each _ (of-eq (s .0), (below-all _ _ (λ i l. of-eq (s .1 i l)), tt))
+
+type-same : (b : List ℕ) (r : Row) (o p : ℕ) → sameType b r o p ≡ true → (numberAt b o ≡ numberAt b p) × ((i : ℕ) → i < length (r .fields) → fieldAt b o i ≡ fieldAt b p i)
+type-same b r o p h = let s = each _ h in (eq-of (s .0), λ i l. eq-of (all-below (length (r .fields)) (λ i. eqb (fieldAt b o i) (fieldAt b p i)) (s .1 .0) i l))
+
+childless : (b : List ℕ) (r : Row) (o n : ℕ) → r .most ≡ 0 → Stands b r o → Below n (childrenAt b o r)
+childless b r o n z s = go (childrenAt b o r) (let m = s .most in omega arith)
+  where
+    go : (es : List ℕ) → length es ≡ 0 → Below n es
+    go [] h = tt
+    go (e ∷ es) h = absurd (omega arith)
+
+walked-out : (b : List ℕ) (L : Layout) → layout b ≡ laid L → LaidOut L
+walked-out b L h =
+    let g = layout-good b L h in
+    record {
+      in-order = end-to-end b L h;
+      few-domains = g .few-domains;
+      few-types = g .few-types;
+      few-terms = g .few-terms;
+      domains = g .domains;
+      types = λ t l. let ok = g .types t l in record { stands = ok .stands; fields = ok .ranged; children = childless (L .image) (typeRow (typeKind L t)) (typePlace L t) 0 (type-childless (typeKind L t)) (ok .stands) };
+      terms = λ n l. let ok = g .terms n l in record { stands = ok .stands; fields = ok .ranged; children = ok .below };
+      apart = λ t u l m s. no-path (sym (same-type L t u s) ∙ g .types t l .apart u m);
+    }
+
+-- Back: a record that is one behind the records of K passes.
+record Follows (K : Layout) (o : ℕ) (k : Kind) : Type 0 where
+  is : IsRecord (K .image) (rowOf k) o (length (K .domains)) (length (K .types)) (length (K .terms))
+  order : inOrder k K ≡ true
+  room : hasRoom k K ≡ true
+  new : isNew k o K ≡ true
+
+of-within : (K : Layout) (f : Field) (v : ℕ) → Within (length (K .domains)) (length (K .types)) f v → within K f v ≡ true
+of-within K a-type v h = of-lt h
+of-within K a-domain v h = of-lt h
+of-within K an-op v h = of-le h
+of-within K a-truth v h = of-le h
+of-within K free v h = refl
+
+of-fields : (K : Layout) (o : ℕ) (fs : List Field) (i : ℕ)
+    → ((j : ℕ) → j < length fs → Within (length (K .domains)) (length (K .types)) (getD fs j free) (fieldAt (K .image) o (i + j))) → fieldsIn K o fs i ≡ true
+unfolding fieldsIn
+of-fields K o [] i h = refl
+of-fields K o (f ∷ fs) i h =
+    let z : i + 0 ≡ i = omega arith in
+    let here : within K f (fieldAt (K .image) o i) ≡ true = subst (λ m. within K f (fieldAt (K .image) o m) ≡ true) z (of-within K f _ (h 0 (omega arith))) in
+    and-i here
+    (of-fields K o fs (suc i) (λ j l. let q : i + suc j ≡ suc i + j = omega arith in subst (λ m. Within (length (K .domains)) (length (K .types)) (getD fs j free) (fieldAt (K .image) o m)) q (h (suc j) (omega arith))))
+
+of-below : (m : ℕ) (es : List ℕ) → Below m es → allOf (λ e. ltb e m) es ≡ true
+unfolding allOf
+of-below m [] b = refl
+of-below m (e ∷ es) b = and-i (of-lt (b .0)) (of-below m es (b .1))
+
+of-all : (ok : ℕ → Bool) (ns : List ℕ) → ((i : ℕ) → i < length ns → ok (getD ns i 0) ≡ true) → allOf ok ns ≡ true
+unfolding allOf
+of-all ok [] h = refl
+of-all ok (n ∷ ns) h = and-i (h 0 (omega arith)) (of-all ok ns (λ i l. h (suc i) (omega arith)))
+
+pass : {A : Type 0} (a : A) (t : Bool) (ts : List (A × Bool)) → t ≡ true → firstFault ts ≡ none → firstFault ((a, t) ∷ ts) ≡ none
+unfolding firstFault
+pass a true ts h k = k
+pass a false ts h k = no-path (sym h)
+
+pass-all : {A : Type 0} → firstFault {A = A} [] ≡ none
+unfolding firstFault
+pass-all = refl
+
+kind-there : (K : Layout) (o : ℕ) (k : Kind) → Follows K o k → kindOf (numberAt (K .image) o) ≡ some k
+kind-there K o k w = ap (λ n. kindOf n) (w .is .stands .number) ∙ found k
+
+kind-at : (K : Layout) (o : ℕ) (k : Kind) → Follows K o k → kindAt (K .image) o ≡ k
+kind-at K o k w = rw (kind-there K o k w) refl
+
+follows-passes : (K : Layout) (o : ℕ) (k : Kind) → Follows K o k → firstFault (tests K o) ≡ none
+unfolding tests
+follows-passes K o k w =
+    let b : List ℕ = K .image in
+    let s = w .is .stands in
+    let size = s .size in
+    let inside = s .inside in
+    let least = s .least in
+    let most = s .most in
+    let q : k ≡ kindAt b o = sym (kind-at K o k w) in
+    let w0 : o + 4 ≤ length b = omega arith in
+    let w1 : 4 ≤ lengthAt b o = omega arith in
+    let r0 : 4 + 2 * (length (rowOf k .fields) + rowOf k .least) ≤ lengthAt b o = omega arith in
+    let r1 : lengthAt b o ≤ 4 + 2 * (length (rowOf k .fields) + rowOf k .most) = omega arith in
+    let r2 : lengthAt b o % 2 ≡ 0 = omega arith in
+    let right : rightLength (rowOf k) (lengthAt b o) ≡ true = of-each _ (of-le r0, (of-le r1, (of-eq r2, tt))) in
+    let there : known b o ≡ true = rw (kind-there K o k w) refl in
+    let range : inRange K o (rowOf k) ≡ true = of-each _ (of-fields K o (rowOf k .fields) 0 (λ j l. let z : j ≡ 0 + j = omega arith in subst (λ m. Within (length (K .domains)) (length (K .types)) (getD (rowOf k .fields) j free) (fieldAt b o m)) z (w .is .fields j l)), (of-below _ _ (w .is .children), tt)) in
+    pass _ _ _ (of-each _ (of-le w0, (of-le w1, (of-le inside, tt))))
+    (pass _ _ _ there
+    (pass _ _ _ (subst (λ j. rightLength (rowOf j) (lengthAt b o) ≡ true) q right)
+    (pass _ _ _ (subst (λ j. inOrder j K ≡ true) q (w .order))
+    (pass _ _ _ (subst (λ j. hasRoom j K ≡ true) q (w .room))
+    (pass _ _ _ (subst (λ j. inRange K o (rowOf j) ≡ true) q range)
+    (pass _ _ _ (subst (λ j. isNew j o K ≡ true) q (w .new)) pass-all))))))
+
+follows-walks : (f o : ℕ) (K M : Layout) (k : Kind) → Follows K o k → walk f (o + lengthAt (K .image) o) (add k o K) ≡ laid M → walk (suc f) o K ≡ laid M
+unfolding walk
+follows-walks f o K M k w h = go (eqb o (length (K .image))) refl
+  where
+    go : (t : Bool) → eqb o (length (K .image)) ≡ t → walk (suc f) o K ≡ laid M
+    go true e = let z : o ≡ length (K .image) = eq-of e in let i = w .is .stands .inside in let n = w .is .stands .size in absurd (omega arith)
+    go false e = rw (e, follows-passes K o k w, walk) (subst (λ j. walk f (o + lengthAt (K .image) o) (add j o K) ≡ laid M) (sym (kind-at K o k w)) h)
+
+ended : (f o : ℕ) (K : Layout) → o ≡ length (K .image) → walk f o K ≡ laid K
+unfolding walk
+ended zero o K h = let e : eqb o (length (K .image)) ≡ true = of-eq h in rw (e, walk) refl
+ended (suc f) o K h = let e : eqb o (length (K .image)) ≡ true = of-eq h in rw (e, walk) refl
+
+-- The next of the offsets xs behind the offsets that were walked.
+seam : (xs ys : List ℕ) (p : ℕ) (rest : List ℕ) → ys ++ (p ∷ rest) ≡ xs → (getD xs (length ys) 0 ≡ p) × (length ys < length xs)
+seam xs ys p rest e = (subst (λ zs. getD zs (length ys) 0 ≡ p) e (getD-append-seam ys p rest 0), subst (λ zs. length ys < length zs) e (omega (arith, length-append ys (p ∷ rest))))
+
+onward : (xs ys : List ℕ) (p o : ℕ) (rest : List ℕ) → p ≡ o → ys ++ (p ∷ rest) ≡ xs → (ys ++ (o ∷ [])) ++ rest ≡ xs
+onward xs ys p o rest q e = append-assoc ys (o ∷ []) rest ∙ ap (λ x. ys ++ (x ∷ rest)) (sym q) ∙ e
+
+module _ (L : Layout) (l : LaidOut L) where
+  abbrev upto : List ℕ → List ℕ → List ℕ → Layout
+  upto xs ys zs = record { image = L .image; domains = xs; types = ys; terms = zs }
+
+  walk-terms : (rest zs : List ℕ) (f o : ℕ) → zs ++ rest ≡ L .terms → EndToEnd (L .image) o rest → length rest ≤ f → walk f o (upto (L .domains) (L .types) zs) ≡ laid L
+  walk-terms [] zs f o e j n = ended f o _ j ∙ ap (λ xs. laid (upto (L .domains) (L .types) xs)) (sym (append-nil zs) ∙ e)
+  walk-terms (p ∷ rest) zs zero o e j n = absurd (omega arith)
+  walk-terms (p ∷ rest) zs (suc f) o e j n =
+      let s = seam (L .terms) zs p rest e in
+      let few = l .few-terms in
+      let m = s .1 in
+      let room : length zs < termLimit = omega arith in
+      follows-walks f o _ L (term (termKind L (length zs)))
+      (record {
+        is = subst (λ q. IsRecord (L .image) (termRow (termKind L (length zs))) q (length (L .domains)) (length (L .types)) (length zs)) (s .0 ∙ j .0) (l .terms (length zs) m);
+        order = refl;
+        room = of-lt room;
+        new = refl;
+      })
+      (walk-terms rest (zs ++ (o ∷ [])) f _ (onward (L .terms) zs p o rest (j .0) e) (j .1) (omega arith))
+
+  walk-types : (rest ys : List ℕ) (f o : ℕ) → ys ++ rest ≡ L .types → EndToEnd (L .image) o (rest ++ L .terms) → length rest + length (L .terms) ≤ f → walk f o (upto (L .domains) ys []) ≡ laid L
+  walk-types [] ys f o e j n = ap (λ xs. walk f o (upto (L .domains) xs [])) (sym (append-nil ys) ∙ e) ∙ walk-terms (L .terms) [] f o refl j (omega arith)
+  walk-types (p ∷ rest) ys zero o e j n = absurd (omega arith)
+  walk-types (p ∷ rest) ys (suc f) o e j n =
+      let s = seam (L .types) ys p rest e in
+      let few = l .few-types in
+      let m = s .1 in
+      let room : length ys < typeLimit = omega arith in
+      follows-walks f o _ L (type (typeKind L (length ys)))
+      (record {
+        is = subst (λ q. IsRecord (L .image) (typeRow (typeKind L (length ys))) q (length (L .domains)) (length ys) 0) (s .0 ∙ j .0) (l .types (length ys) m);
+        order = refl;
+        room = of-lt room;
+        new = of-all _ ys (λ u k. other u k (sameType (L .image) (typeRow (typeKind L (length ys))) o (getD ys u 0)) refl);
+      })
+      (walk-types rest (ys ++ (o ∷ [])) f _ (onward (L .types) ys p o rest (j .0) e) (j .1) (omega arith))
+    where
+      other : (u : ℕ) → u < length ys → (t : Bool) → sameType (L .image) (typeRow (typeKind L (length ys))) o (getD ys u 0) ≡ t → not (sameType (L .image) (typeRow (typeKind L (length ys))) o (getD ys u 0)) ≡ true
+      other u k false q = rw q refl
+      other u k true q =
+          let s = seam (L .types) ys p rest e in
+          let a : o ≡ typePlace L (length ys) = sym (s .0 ∙ j .0) in
+          let c : getD ys u 0 ≡ typePlace L u = sym (List·getD-append ys (p ∷ rest) 0 u k) ∙ ap (λ xs. getD xs u 0) e in
+          let same : SameType L (length ys) u = type-same (L .image) (typeRow (typeKind L (length ys))) (typePlace L (length ys)) (typePlace L u) (subst (λ x. sameType (L .image) (typeRow (typeKind L (length ys))) x (typePlace L u) ≡ true) a (subst (λ x. sameType (L .image) (typeRow (typeKind L (length ys))) o x ≡ true) c q)) in
+          absurd (l .apart (length ys) u (s .1) k same)
+
+  walk-domains : (rest xs : List ℕ) (f o : ℕ) → xs ++ rest ≡ L .domains → EndToEnd (L .image) o (rest ++ (L .types ++ L .terms)) → length rest + (length (L .types) + length (L .terms)) ≤ f → walk f o (upto xs [] []) ≡ laid L
+  walk-domains [] xs f o e j n = ap (λ ys. walk f o (upto ys [] [])) (sym (append-nil xs) ∙ e) ∙ walk-types (L .types) [] f o refl j (omega arith)
+  walk-domains (p ∷ rest) xs zero o e j n = absurd (omega arith)
+  walk-domains (p ∷ rest) xs (suc f) o e j n =
+      let s = seam (L .domains) xs p rest e in
+      let few = l .few-domains in
+      let m = s .1 in
+      let room : length xs < domainLimit = omega arith in
+      let st : Stands (L .image) domainRow o = subst (λ q. Stands (L .image) domainRow q) (s .0 ∙ j .0) (l .domains (length xs) m) in
+      follows-walks f o _ L domain
+      (record {
+        is = record { stands = st; fields = λ i k. mask i k; children = childless (L .image) domainRow o 0 refl st };
+        order = of-each _ (refl, (refl, tt));
+        room = of-lt room;
+        new = refl;
+      })
+      (walk-domains rest (xs ++ (o ∷ [])) f _ (onward (L .domains) xs p o rest (j .0) e) (j .1) (omega arith))
+    where
+      mask : (i : ℕ) → i < 1 → Within (length xs) 0 (getD (free ∷ []) i free) (fieldAt (L .image) o i)
+      mask zero k = tt
+      mask (suc i) k = absurd (omega arith)
+
+  out-walked : layout (L .image) ≡ laid L
+  unfolding layout
+  out-walked =
+      let n : ℕ = length (L .domains) + (length (L .types) + length (L .terms)) in
+      walk-fuel (length (L .image)) (n + length (L .image)) 0 (nothing (L .image)) (omega arith) (omega arith)
+      ∙ walk-domains (L .domains) [] (n + length (L .image)) 0 refl (l .in-order) (omega arith)
+
+-- The walk lays out the records L of their image exactly if they are laid out.
+pub laid-iff : (L : Layout) → layout (L .image) ≡ laid L ↔ LaidOut L
+laid-iff L = (walked-out (L .image) L, out-walked L)
+
+-- So an image has no other records than those.
+pub laid-once : (L M : Layout) → L .image ≡ M .image → LaidOut L → LaidOut M → L ≡ M
+laid-once L M e l m = let z : laid L ≡ laid M = sym (out-walked L l) ∙ ap layout e ∙ out-walked M m in cc

@@ -1,0 +1,46 @@
+-- `layout::fields::in_class` meets its contract, class by class.
+use borrow.Author.Tests.{ne-eqb}
+use borrow.Author.Needs.{needs}
+use Rattle.layout.proofs.fields.in_class.Statement.{statement}
+use Rattle.layout.proofs.fields.in_class.Tie as tie
+
+names-type-requires : tie.Need-names-type-requires
+names-type-requires c κs = search needs
+
+names-domain-requires : tie.Need-names-domain-requires
+names-domain-requires c κs = search needs
+
+below-requires : tie.Need-below-requires
+below-requires c κs = search needs
+
+below-requires-2 : tie.Need-below-requires-2
+below-requires-2 c κs = search needs
+
+returns : tie.Need-returns
+returns c = simp (c .before .match .keys1, c .names-type .ensures)
+
+returns-2 : tie.Need-returns-2
+returns-2 c = simp (c .before .match .keys2, c .names-domain .ensures)
+
+returns-3 : tie.Need-returns-3
+returns-3 c = simp (c .before .match .keys3, c .below .ensures)
+
+returns-4 : tie.Need-returns-4
+returns-4 c = simp (c .before .match .keys4, c .below2 .ensures)
+
+returns-5 : tie.Need-returns-5
+returns-5 c = simp (ne-eqb _ _ (c .match .rest .0 .0 .0 .1), ne-eqb _ _ (c .match .rest .0 .0 .1), ne-eqb _ _ (c .match .rest .0 .1), ne-eqb _ _ (c .match .rest .1))
+
+pub in-class-spec : {M : Type 1} → statement M
+in-class-spec =
+    tie.close
+    (tie.spec
+    names-type-requires
+    names-domain-requires
+    below-requires
+    below-requires-2
+    returns
+    returns-2
+    returns-3
+    returns-4
+    returns-5)

@@ -1,0 +1,39 @@
+-- No outcome, or one.
+use Rattle.listing.proofs.Puts.{as-text, puts-nothing, then}
+use Rattle.listing.proofs.Said.{no-ending, ending-said}
+use borrow.Author.Needs.{needs}
+use Rattle.listing.proofs.endings.put_ending.Statement.{statement}
+use Rattle.listing.proofs.endings.put_ending.Tie as tie
+
+enum-told : tie.Need-enum-told
+enum-told c = search needs
+
+enum-known-ending : tie.Need-enum-known-ending
+enum-known-ending c = search needs
+
+put-outcome-requires : tie.Need-put-outcome-requires
+put-outcome-requires c κs = search needs
+
+put-result-requires : tie.Need-put-result-requires
+put-result-requires c κs = search needs
+
+returns : tie.Need-returns
+returns c = as-text (no-ending (c .before .before .before .before .args .steps) _ (c .enum-told .given .1)) (puts-nothing _ _)
+
+same-length : tie.Need-same-length
+same-length c = search needs
+
+returns-2 : tie.Need-returns-2
+returns-2 c = as-text (ending-said (c .before .before .before .before .before .before .before .before .before .before .before .before .before .args .steps) _ (c .before .before .before .before .before .before .before .before .before .ending .given .1)) (then (c .before .before .before .before .before .before .put-outcome .ensures) (c .before .before .put-result .ensures))
+
+pub put-ending-spec : {M : Type 1} → statement M
+put-ending-spec =
+    tie.close
+    (tie.spec
+    enum-told
+    enum-known-ending
+    put-outcome-requires
+    put-result-requires
+    returns
+    same-length
+    returns-2)

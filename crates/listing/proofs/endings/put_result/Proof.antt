@@ -1,0 +1,25 @@
+-- Done, or not.
+use Rattle.listing.proofs.Puts.{as-text, puts-nothing}
+use Rattle.listing.proofs.Said.{result-said, no-result}
+use borrow.Author.Needs.{needs}
+use Rattle.listing.proofs.endings.put_result.Statement.{statement}
+use Rattle.listing.proofs.endings.put_result.Tie as tie
+
+outcome-number-requires : tie.Need-outcome-number-requires
+outcome-number-requires c κs = search needs
+
+put-value-requires : tie.Need-put-value-requires
+put-value-requires c κs = search needs
+
+same-length : tie.Need-same-length
+same-length c = search needs
+
+returns : tie.Need-returns
+returns c = as-text (result-said (c .before .before .before .before .before .before .before .before .args .outcome) _ (c .before .before .before .before .before .outcome-number .ensures) _ (c .before .before .before .before .if1 .taken)) (c .before .before .put-value .ensures)
+
+returns-2 : tie.Need-returns-2
+returns-2 c = as-text (no-result (c .before .before .before .before .args .outcome) _ (c .before .outcome-number .ensures) _ (c .if1 .left)) (puts-nothing _ _)
+
+pub put-result-spec : {M : Type 1} → statement M
+put-result-spec =
+    tie.close (tie.spec outcome-number-requires put-value-requires same-length returns returns-2)

@@ -1,0 +1,24 @@
+-- The space, then the number.
+use Rattle.listing.proofs.Puts.{then}
+use borrow.Author.Needs.{needs}
+use Rattle.listing.proofs.leaves.put_number.Statement.{statement}
+use Rattle.listing.proofs.leaves.put_number.Tie as tie
+
+slice-aggregate-put : tie.Need-slice-aggregate-put
+slice-aggregate-put c = search needs
+
+put-requires : tie.Need-put-requires
+put-requires c κs = search needs
+
+put-signed-requires : tie.Need-put-signed-requires
+put-signed-requires c κs = search needs
+
+same-length : tie.Need-same-length
+same-length c = search needs
+
+returns : tie.Need-returns
+returns c = then (c .before .before .before .before .before .before .put .ensures) (c .before .before .put-signed .ensures)
+
+pub put-number-spec : {M : Type 1} → statement M
+put-number-spec =
+    tie.close (tie.spec slice-aggregate-put put-requires put-signed-requires same-length returns)

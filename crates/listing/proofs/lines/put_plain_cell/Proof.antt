@@ -1,0 +1,42 @@
+-- The word, the domain, the leaves, the end of the line.
+use Rattle.listing.proofs.Puts.{then}
+use borrow.Author.Needs.{needs}
+use Rattle.listing.proofs.lines.put_plain_cell.Statement.{statement}
+use Rattle.listing.proofs.lines.put_plain_cell.Tie as tie
+
+slice-aggregate-put : tie.Need-slice-aggregate-put
+slice-aggregate-put c = search needs
+
+put-requires : tie.Need-put-requires
+put-requires c κs = search needs
+
+put-decimal-requires : tie.Need-put-decimal-requires
+put-decimal-requires c κs = search needs
+
+put-leaves-requires : tie.Need-put-leaves-requires
+put-leaves-requires c κs = search needs
+
+slice-aggregate-put-2 : tie.Need-slice-aggregate-put-2
+slice-aggregate-put-2 c = search needs
+
+put-requires-2 : tie.Need-put-requires-2
+put-requires-2 c κs = search needs
+
+same-length : tie.Need-same-length
+same-length c = search needs
+
+returns : tie.Need-returns
+returns c = then (then (then (c .before .before .before .before .before .before .before .before .before .before .before .before .before .before .before .put .ensures) (c .before .before .before .before .before .before .before .before .before .before .before .put-decimal .ensures)) (c .before .before .before .before .before .before .before .put-leaves .ensures)) (c .before .before .put2 .ensures)
+
+pub put-plain-cell-spec : {M : Type 1} → statement M
+put-plain-cell-spec =
+    tie.close
+    (tie.spec
+    slice-aggregate-put
+    put-requires
+    put-decimal-requires
+    put-leaves-requires
+    slice-aggregate-put-2
+    put-requires-2
+    same-length
+    returns)

@@ -1,0 +1,59 @@
+use mathlib.Core.Path.{ap, _∙_}
+use lib.ListN.{length, length-take}
+-- By the verdict.
+use native.Mathlib.Omega.{arith}
+use denote.Ref.{now}
+use Rattle.listing.proofs.Puts.{as-short, longer}
+use Rattle.listing.proofs.Said.{refusal-listed, run-listed}
+use borrow.Author.Needs.{needs}
+use Rattle.listing.proofs.put_listing.Statement.{statement}
+use Rattle.listing.proofs.put_listing.Tie as tie
+
+enum-known-verdict : tie.Need-enum-known-verdict
+enum-known-verdict c = search needs
+
+put-refusal-requires : tie.Need-put-refusal-requires
+put-refusal-requires c κs = search needs
+
+enum-told : tie.Need-enum-told
+enum-told c = search needs
+
+front-requires : tie.Need-front-requires
+front-requires c κs = search needs
+
+front-requires-2 : tie.Need-front-requires-2
+front-requires-2 c κs = search needs
+
+put-run-requires : tie.Need-put-run-requires
+put-run-requires c κs = search needs
+
+same-length : tie.Need-same-length
+same-length c = search needs
+
+returns : tie.Need-returns
+returns c = as-short (refusal-listed (c .before .before .before .before .before .before .before .before .before .before .args .a) (now (c .before .before .before .before .before .before .before .before .before .before .args .log)) (now (c .before .before .before .before .before .before .before .before .before .before .args .report)) (c .before .before .before .before .before .verdict .given .1)) (longer (omega arith) (c .before .before .put-refusal .ensures))
+
+same-length-2 : tie.Need-same-length-2
+same-length-2 c = search needs
+
+returns-2 : tie.Need-returns-2
+returns-2 c =
+    let a = c .before .before .before .before .before .before .before .before .before .before .before .args in
+    let l = ap length (c .before .before .before .before .front .ensures) ∙ length-take (a .a .log) (now (a .log)) in
+    let r = ap length (c .before .before .before .front2 .ensures) ∙ length-take (a .a .report) (now (a .report)) in
+    as-short (run-listed (a .a) (now (a .log)) (now (a .report)) (c .before .before .before .before .before .before .enum-told .given .1) (c .before .before .before .before .front .ensures) (c .before .before .before .front2 .ensures)) (longer (omega arith) (c .before .before .put-run .ensures))
+
+pub put-listing-spec : {M : Type 1} → statement M
+put-listing-spec =
+    tie.close
+    (tie.spec
+    enum-known-verdict
+    put-refusal-requires
+    enum-told
+    front-requires
+    front-requires-2
+    put-run-requires
+    same-length
+    returns
+    same-length-2
+    returns-2)

@@ -1,0 +1,32 @@
+-- What was printed, how it ended, the cells.
+use native.Mathlib.Omega.{arith}
+use denote.Ref.{now}
+use Rattle.listing.proofs.Puts.{then, within-limit}
+use Rattle.listing.proofs.Bounds.{run-short}
+use borrow.Author.Needs.{needs}
+use Rattle.listing.proofs.put_run.Statement.{statement}
+use Rattle.listing.proofs.put_run.Tie as tie
+
+put-prints-requires : tie.Need-put-prints-requires
+put-prints-requires c κs = search needs
+
+put-ending-requires : tie.Need-put-ending-requires
+put-ending-requires c κs = search needs
+
+put-cells-requires : tie.Need-put-cells-requires
+put-cells-requires c κs = search needs
+
+same-length : tie.Need-same-length
+same-length c = search needs
+
+returns : tie.Need-returns
+returns c =
+    let a = c .before .before .before .before .before .before .before .before .before .before .before .before .before .before .before .args in
+    within-limit
+    (then (then (c .before .before .before .before .before .before .before .before .before .before .put-prints .ensures) (c .before .before .before .before .before .before .put-ending .ensures)) (c .before .before .put-cells .ensures))
+    (run-short (a .ending) (a .steps) (now (a .log)) (now (a .report)) (search needs) (λ i. omega (arith, c .before .before .before .before .before .before .before .before .before .before .before .before .before .shared-slice-known .given i)) (λ i. omega (arith, c .before .before .before .before .before .before .before .before .before .before .before .before .shared-slice-known2 .given i)))
+
+pub put-run-spec : {M : Type 1} → statement M
+put-run-spec =
+    tie.close
+    (tie.spec put-prints-requires put-ending-requires put-cells-requires same-length returns)

@@ -1,0 +1,49 @@
+-- By the verdict.
+use native.Mathlib.Omega.{arith}
+use mathlib.Core.Path.{sym, ap}
+use Rattle.listing.specs.Lines.{verdictLine}
+use Rattle.listing.proofs.Puts.{as-short, within-limit}
+use borrow.Author.Needs.{needs}
+use Rattle.listing.proofs.put_verdict.Statement.{statement}
+use Rattle.listing.proofs.put_verdict.Tie as tie
+
+enum-told : tie.Need-enum-told
+enum-told c = search needs
+
+slice-aggregate-put : tie.Need-slice-aggregate-put
+slice-aggregate-put c = search needs
+
+put-requires : tie.Need-put-requires
+put-requires c κs = search needs
+
+enum-known-v : tie.Need-enum-known-v
+enum-known-v c = search needs
+
+put-refusal-requires : tie.Need-put-refusal-requires
+put-refusal-requires c κs = search needs
+
+same-length : tie.Need-same-length
+same-length c = search needs
+
+returns : tie.Need-returns
+returns c = as-short (ap verdictLine (sym (c .before .before .before .before .before .enum-told .given .1))) (within-limit (c .before .before .put .ensures) (omega arith))
+
+same-length-2 : tie.Need-same-length-2
+same-length-2 c = search needs
+
+returns-2 : tie.Need-returns-2
+returns-2 c = as-short (ap verdictLine (sym (c .before .before .before .before .before .v .given .1))) (c .before .before .put-refusal .ensures)
+
+pub put-verdict-spec : {M : Type 1} → statement M
+put-verdict-spec =
+    tie.close
+    (tie.spec
+    enum-told
+    slice-aggregate-put
+    put-requires
+    enum-known-v
+    put-refusal-requires
+    same-length
+    returns
+    same-length-2
+    returns-2)

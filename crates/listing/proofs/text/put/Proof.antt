@@ -1,0 +1,57 @@
+use native.Mathlib.Omega.{arith}
+use denote.Ref.{now}
+use lib.Seq.{take-all}
+use Rattle.listing.proofs.Puts.{puts-nothing, kept, as-text, one-more}
+use Prim.Native.Nat.{_-_, _≤_}
+use lib.ListN.{length, take}
+use Rattle.listing.specs.Puts.{Puts}
+use borrow.Author.Needs.{needs}
+use Rattle.listing.proofs.text.put.Statement.{statement}
+use Rattle.listing.proofs.text.put.Tie as tie
+
+abbrev Inv-loop : tie.InvT-loop
+Inv-loop out₀ at text o₀ i₀ out o i = (i ≤ length text) × Puts out₀ at (take i text) out o
+
+abbrev μ-loop : tie.MeasureT-loop
+μ-loop out₀ at text o₀ i₀ out o i = length text - i
+
+loop-holds : tie.Need-loop-holds Inv-loop μ-loop
+loop-holds c = let a = c .before .before .args in (omega arith, puts-nothing (now (a .out)) (a .at))
+
+shared-slice-read-put-byte : tie.Need-shared-slice-read-put-byte Inv-loop μ-loop
+shared-slice-read-put-byte c = search needs
+
+put-byte-requires : tie.Need-put-byte-requires Inv-loop μ-loop
+put-byte-requires c κs = search needs
+
+add-i : tie.Need-add-i Inv-loop μ-loop
+add-i c = search needs
+
+loop-less : tie.Need-loop-less Inv-loop μ-loop
+loop-less c = search needs
+
+loop-again : tie.Need-loop-again Inv-loop μ-loop
+loop-again c =
+    let l = c .before .before .before .before .before .before .loop in
+    (search needs, one-more (now (c .before .before .before .before .before .before .before .before .before .args .text)) (l .i) (search needs) (l .inv .1) (c .before .before .put-byte .ensures))
+
+same-length : tie.Need-same-length Inv-loop μ-loop
+same-length c = kept (c .before .loop .inv .1)
+
+returns : tie.Need-returns Inv-loop μ-loop
+returns c = as-text (take-all (c .before .loop .i) (now (c .before .before .before .before .args .text)) (search needs)) (c .before .loop .inv .1)
+
+pub put-spec : {M : Type 1} → statement M
+put-spec =
+    tie.close
+    (tie.spec
+    Inv-loop
+    μ-loop
+    loop-holds
+    shared-slice-read-put-byte
+    put-byte-requires
+    add-i
+    loop-less
+    loop-again
+    same-length
+    returns)

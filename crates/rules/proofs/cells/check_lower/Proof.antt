@@ -1,0 +1,50 @@
+-- `rules::cells::check_lower` meets its contract.
+use borrow.Author.Needs.{needs}
+use Rattle.rules.proofs.cells.check_lower.Statement.{statement}
+use Rattle.rules.proofs.cells.check_lower.Tie as tie
+use Rattle.rules.proofs.ByKind.{lower-right}
+
+own-key-requires : tie.Need-own-key-requires
+own-key-requires c κs = search needs
+
+key-behind-requires : tie.Need-key-behind-requires
+key-behind-requires c κs = search needs
+
+other-field-requires : tie.Need-other-field-requires
+other-field-requires c κs = search needs
+
+is-kind-requires : tie.Need-is-kind-requires
+is-kind-requires c κs = search needs
+
+is-kind-requires-2 : tie.Need-is-kind-requires-2
+is-kind-requires-2 c κs = search needs
+
+both-requires : tie.Need-both-requires
+both-requires c κs = search needs
+
+leq-requires : tie.Need-leq-requires
+leq-requires c κs = search needs
+
+judge-requires : tie.Need-judge-requires
+judge-requires c κs = search needs
+
+returns : tie.Need-returns
+returns c =
+    let s = c .before .before .before .before .before .before .before .before .before .before .before .before in
+    λ Γ.
+    let z = lower-right (s .pre .0) (s .args .at) (record { context = Γ; dom = s .args .c .0 }) (s .pre .3) (s .pre .1) (s .pre .2) in
+    cc
+
+pub check-lower-spec : {M : Type 1} → statement M
+check-lower-spec =
+    tie.close
+    (tie.spec
+    own-key-requires
+    key-behind-requires
+    other-field-requires
+    is-kind-requires
+    is-kind-requires-2
+    both-requires
+    leq-requires
+    judge-requires
+    returns)

@@ -1,0 +1,53 @@
+-- `rules::core::check_choice` meets its contract.
+use borrow.Author.Needs.{needs}
+use Rattle.rules.proofs.core.check_choice.Statement.{statement}
+use Rattle.rules.proofs.core.check_choice.Tie as tie
+use Rattle.rules.proofs.ByKind.{choice-right}
+use mathlib.Core.Path.{_∙_}
+
+own-type-requires : tie.Need-own-type-requires
+own-type-requires c κs = search needs
+
+key-behind-requires : tie.Need-key-behind-requires
+key-behind-requires c κs = search needs
+
+type-behind-requires : tie.Need-type-behind-requires
+type-behind-requires c κs = search needs
+
+type-behind-requires-2 : tie.Need-type-behind-requires-2
+type-behind-requires-2 c κs = search needs
+
+is-kind-requires : tie.Need-is-kind-requires
+is-kind-requires c κs = search needs
+
+same-type-requires : tie.Need-same-type-requires
+same-type-requires c κs = search needs
+
+same-type-requires-2 : tie.Need-same-type-requires-2
+same-type-requires-2 c κs = search needs
+
+all-three-requires : tie.Need-all-three-requires
+all-three-requires c κs = search needs
+
+judge-requires : tie.Need-judge-requires
+judge-requires c κs = search needs
+
+returns : tie.Need-returns
+returns c =
+    let s = c .before .before .before .before .before .before .before .before .before .before .before .before .before in
+    λ p. c .judge .ensures ∙ simp (c .before .all-three .ensures, c .before .before .before .before .is-kind .ensures, c .before .before .before .same-type .ensures, c .before .before .same-type2 .ensures, c .before .before .before .before .before .before .before .key-behind .ensures, c .before .before .before .before .before .before .type-behind .ensures .0, c .before .before .before .before .before .type-behind2 .ensures .0, c .before .before .before .before .before .before .before .before .own-type .ensures) (choice-right (s .pre .0) (s .args .at) p (s .pre .2))
+
+pub check-choice-spec : {M : Type 1} → statement M
+check-choice-spec =
+    tie.close
+    (tie.spec
+    own-type-requires
+    key-behind-requires
+    type-behind-requires
+    type-behind-requires-2
+    is-kind-requires
+    same-type-requires
+    same-type-requires-2
+    all-three-requires
+    judge-requires
+    returns)

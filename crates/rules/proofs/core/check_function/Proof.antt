@@ -1,0 +1,46 @@
+-- `rules::core::check_function` meets its contract.
+use borrow.Author.Needs.{needs}
+use Rattle.rules.proofs.core.check_function.Statement.{statement}
+use Rattle.rules.proofs.core.check_function.Tie as tie
+use Rattle.rules.proofs.ByKind.{function-right}
+
+own-key-requires : tie.Need-own-key-requires
+own-key-requires c κs = search needs
+
+type-behind-requires : tie.Need-type-behind-requires
+type-behind-requires c κs = search needs
+
+is-kind-requires : tie.Need-is-kind-requires
+is-kind-requires c κs = search needs
+
+third-type-requires : tie.Need-third-type-requires
+third-type-requires c κs = search needs
+
+same-type-requires : tie.Need-same-type-requires
+same-type-requires c κs = search needs
+
+both-requires : tie.Need-both-requires
+both-requires c κs = search needs
+
+judge-requires : tie.Need-judge-requires
+judge-requires c κs = search needs
+
+returns : tie.Need-returns
+returns c =
+    let s = c .before .before .before .before .before .before .before .before .before .before .before in
+    λ p.
+    let z = function-right (s .pre .0) (s .args .at) p (s .pre .1) in
+    cc
+
+pub check-function-spec : {M : Type 1} → statement M
+check-function-spec =
+    tie.close
+    (tie.spec
+    own-key-requires
+    type-behind-requires
+    is-kind-requires
+    third-type-requires
+    same-type-requires
+    both-requires
+    judge-requires
+    returns)

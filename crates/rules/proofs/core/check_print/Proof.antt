@@ -1,0 +1,42 @@
+-- `rules::core::check_print` meets its contract.
+use borrow.Author.Needs.{needs}
+use Rattle.rules.proofs.core.check_print.Statement.{statement}
+use Rattle.rules.proofs.core.check_print.Tie as tie
+use Rattle.rules.proofs.ByKind.{print-right}
+
+own-key-requires : tie.Need-own-key-requires
+own-key-requires c κs = search needs
+
+key-behind-requires : tie.Need-key-behind-requires
+key-behind-requires c κs = search needs
+
+is-kind-requires : tie.Need-is-kind-requires
+is-kind-requires c κs = search needs
+
+is-kind-requires-2 : tie.Need-is-kind-requires-2
+is-kind-requires-2 c κs = search needs
+
+both-requires : tie.Need-both-requires
+both-requires c κs = search needs
+
+judge-requires : tie.Need-judge-requires
+judge-requires c κs = search needs
+
+returns : tie.Need-returns
+returns c =
+    let s = c .before .before .before .before .before .before .before .before .before .before in
+    λ p.
+    let z = print-right (s .pre .0) (s .args .at) p (s .pre .1) (s .pre .2) in
+    cc
+
+pub check-print-spec : {M : Type 1} → statement M
+check-print-spec =
+    tie.close
+    (tie.spec
+    own-key-requires
+    key-behind-requires
+    is-kind-requires
+    is-kind-requires-2
+    both-requires
+    judge-requires
+    returns)

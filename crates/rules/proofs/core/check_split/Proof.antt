@@ -1,0 +1,46 @@
+-- `rules::core::check_split` meets its contract.
+use borrow.Author.Needs.{needs}
+use Rattle.rules.proofs.core.check_split.Statement.{statement}
+use Rattle.rules.proofs.core.check_split.Tie as tie
+use Rattle.rules.proofs.ByKind.{split-right}
+
+own-type-requires : tie.Need-own-type-requires
+own-type-requires c κs = search needs
+
+key-behind-requires : tie.Need-key-behind-requires
+key-behind-requires c κs = search needs
+
+type-behind-requires : tie.Need-type-behind-requires
+type-behind-requires c κs = search needs
+
+is-kind-requires : tie.Need-is-kind-requires
+is-kind-requires c κs = search needs
+
+same-type-requires : tie.Need-same-type-requires
+same-type-requires c κs = search needs
+
+both-requires : tie.Need-both-requires
+both-requires c κs = search needs
+
+judge-requires : tie.Need-judge-requires
+judge-requires c κs = search needs
+
+returns : tie.Need-returns
+returns c =
+    let s = c .before .before .before .before .before .before .before .before .before .before .before in
+    λ p.
+    let z = split-right (s .pre .0) (s .args .at) p (s .pre .2) in
+    cc
+
+pub check-split-spec : {M : Type 1} → statement M
+check-split-spec =
+    tie.close
+    (tie.spec
+    own-type-requires
+    key-behind-requires
+    type-behind-requires
+    is-kind-requires
+    same-type-requires
+    both-requires
+    judge-requires
+    returns)

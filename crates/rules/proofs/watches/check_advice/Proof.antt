@@ -1,0 +1,62 @@
+-- `rules::watches::check_advice` meets its contract.
+use borrow.Author.Needs.{needs}
+use Rattle.rules.proofs.watches.check_advice.Statement.{statement}
+use Rattle.rules.proofs.watches.check_advice.Tie as tie
+use Rattle.rules.proofs.ByKind.{advice-right}
+
+own-key-requires : tie.Need-own-key-requires
+own-key-requires c κs = search needs
+
+key-behind-requires : tie.Need-key-behind-requires
+key-behind-requires c κs = search needs
+
+key-behind-requires-2 : tie.Need-key-behind-requires-2
+key-behind-requires-2 c κs = search needs
+
+is-kind-requires : tie.Need-is-kind-requires
+is-kind-requires c κs = search needs
+
+is-kind-requires-2 : tie.Need-is-kind-requires-2
+is-kind-requires-2 c κs = search needs
+
+is-kind-requires-3 : tie.Need-is-kind-requires-3
+is-kind-requires-3 c κs = search needs
+
+all-three-requires : tie.Need-all-three-requires
+all-three-requires c κs = search needs
+
+first-domain-requires : tie.Need-first-domain-requires
+first-domain-requires c κs = search needs
+
+second-domain-requires : tie.Need-second-domain-requires
+second-domain-requires c κs = search needs
+
+leq-requires : tie.Need-leq-requires
+leq-requires c κs = search needs
+
+judge-requires : tie.Need-judge-requires
+judge-requires c κs = search needs
+
+returns : tie.Need-returns
+returns c =
+    let s = c .before .before .before .before .before .before .before .before .before .before .before .before .before .before .before in
+    λ p.
+    let z = advice-right (s .pre .0) (s .args .at) p (s .pre .4) (s .pre .1) (s .pre .2) (s .pre .3) in
+    cc
+
+pub check-advice-spec : {M : Type 1} → statement M
+check-advice-spec =
+    tie.close
+    (tie.spec
+    own-key-requires
+    key-behind-requires
+    key-behind-requires-2
+    is-kind-requires
+    is-kind-requires-2
+    is-kind-requires-3
+    all-three-requires
+    first-domain-requires
+    second-domain-requires
+    leq-requires
+    judge-requires
+    returns)

@@ -1,0 +1,50 @@
+-- `rules::watches::check_install` meets its contract.
+use borrow.Author.Needs.{needs}
+use Rattle.rules.proofs.watches.check_install.Statement.{statement}
+use Rattle.rules.proofs.watches.check_install.Tie as tie
+use Rattle.rules.proofs.ByKind.{install-right}
+
+own-key-requires : tie.Need-own-key-requires
+own-key-requires c κs = search needs
+
+key-behind-requires : tie.Need-key-behind-requires
+key-behind-requires c κs = search needs
+
+is-kind-requires : tie.Need-is-kind-requires
+is-kind-requires c κs = search needs
+
+is-kind-requires-2 : tie.Need-is-kind-requires-2
+is-kind-requires-2 c κs = search needs
+
+both-requires : tie.Need-both-requires
+both-requires c κs = search needs
+
+first-domain-requires : tie.Need-first-domain-requires
+first-domain-requires c κs = search needs
+
+leq-requires : tie.Need-leq-requires
+leq-requires c κs = search needs
+
+judge-requires : tie.Need-judge-requires
+judge-requires c κs = search needs
+
+returns : tie.Need-returns
+returns c =
+    let s = c .before .before .before .before .before .before .before .before .before .before .before .before in
+    λ Γ.
+    let z = install-right (s .pre .0) (s .args .at) (record { context = Γ; dom = s .args .c .0 }) (s .pre .3) (s .pre .1) (s .pre .2) in
+    cc
+
+pub check-install-spec : {M : Type 1} → statement M
+check-install-spec =
+    tie.close
+    (tie.spec
+    own-key-requires
+    key-behind-requires
+    is-kind-requires
+    is-kind-requires-2
+    both-requires
+    first-domain-requires
+    leq-requires
+    judge-requires
+    returns)

@@ -1,0 +1,215 @@
+// The rules of the terms that compute: sequence, print, if, pairs, functions, arithmetic and frame byte (document 01, "Typing").
+use crate::judge::all_three;
+use crate::judge::both;
+use crate::judge::judge;
+use crate::kinds::FUNCTION_TYPE;
+use crate::kinds::NUMBER_TYPE;
+use crate::kinds::PAIR_TYPE;
+use crate::kinds::TRUTH_TYPE;
+use crate::kinds::UNIT_TYPE;
+use crate::terms::key_behind;
+use crate::terms::other_field;
+use crate::terms::own_key;
+use crate::terms::own_type;
+use crate::terms::type_behind;
+use crate::types::first_type;
+use crate::types::is_kind;
+use crate::types::same_domain;
+use crate::types::same_type;
+use crate::types::second_domain;
+use crate::types::second_type;
+use crate::types::third_type;
+use records::numbers::DomainNo;
+use verdicts::Verdict;
+ghost use mathlib.Core.Path.{_≡_};
+ghost use mathlib.Core.List.{List};
+ghost use Prim.Native.Nat.{ℕ};
+ghost use Rattle.image.specs.Kinds.{TermKind};
+ghost use Rattle.verdicts.specs.Settings.{Setting};
+ghost use Rattle.rules.specs.Lent.{Lent};
+ghost use Rattle.rules.specs.Fields.{ruleIn, Typed, Behind};
+ghost use Rattle.rules.specs.Judged.{judged, resultKind};
+
+// Sequence: the first is unit, the second gives the type.
+pub fn check_sequence(
+    image: &[u8],
+    terms: &[u16],
+    keys: &[u32],
+    at: usize,
+    fields: &[u8],
+) -> Verdict
+    requires { ⌜ Lent (now image) (now terms) (now keys) × Typed (now image) (now fields) × Behind (now image) (now fields) 1 × Behind (now image) (now fields) 2 ⌝ }
+    ensures { λ r. ⌜ ((p : Setting ℕ) → r ≡ judged at (ruleIn (now (image .entry)) (now (fields .entry)) TermKind.seq p)) ⌝ }
+{
+    let t = own_type(fields);
+    let first = key_behind(image, terms, keys, fields, 1);
+    let second = type_behind(image, terms, fields, 2);
+    judge(
+        at,
+        both(is_kind(first, UNIT_TYPE), same_type(second, t)),
+        true,
+    )
+}
+
+// Print takes a number and gives unit.
+pub fn check_print(image: &[u8], terms: &[u16], keys: &[u32], at: usize, fields: &[u8]) -> Verdict
+    requires { ⌜ Lent (now image) (now terms) (now keys) × Typed (now image) (now fields) × Behind (now image) (now fields) 1 ⌝ }
+    ensures { λ r. ⌜ ((p : Setting ℕ) → r ≡ judged at (ruleIn (now (image .entry)) (now (fields .entry)) TermKind.print p)) ⌝ }
+{
+    let own = own_key(keys, fields);
+    let first = key_behind(image, terms, keys, fields, 1);
+    judge(
+        at,
+        both(is_kind(own, UNIT_TYPE), is_kind(first, NUMBER_TYPE)),
+        true,
+    )
+}
+
+// If: a test, and two branches of its type.
+pub fn check_choice(image: &[u8], terms: &[u16], keys: &[u32], at: usize, fields: &[u8]) -> Verdict
+    requires { ⌜ Lent (now image) (now terms) (now keys) × Typed (now image) (now fields) × Behind (now image) (now fields) 1 × Behind (now image) (now fields) 2 × Behind (now image) (now fields) 3 ⌝ }
+    ensures { λ r. ⌜ ((p : Setting ℕ) → r ≡ judged at (ruleIn (now (image .entry)) (now (fields .entry)) TermKind.ite p)) ⌝ }
+{
+    let t = own_type(fields);
+    let first = key_behind(image, terms, keys, fields, 1);
+    let second = type_behind(image, terms, fields, 2);
+    let third = type_behind(image, terms, fields, 3);
+    judge(
+        at,
+        all_three(
+            is_kind(first, TRUTH_TYPE),
+            same_type(second, t),
+            same_type(third, t),
+        ),
+        true,
+    )
+}
+
+// A pair has the types of its parts.
+pub fn check_pair(image: &[u8], terms: &[u16], keys: &[u32], at: usize, fields: &[u8]) -> Verdict
+    requires { ⌜ Lent (now image) (now terms) (now keys) × Typed (now image) (now fields) × Behind (now image) (now fields) 1 × Behind (now image) (now fields) 2 ⌝ }
+    ensures { λ r. ⌜ ((p : Setting ℕ) → r ≡ judged at (ruleIn (now (image .entry)) (now (fields .entry)) TermKind.pair p)) ⌝ }
+{
+    let own = own_key(keys, fields);
+    let first = type_behind(image, terms, fields, 1);
+    let second = type_behind(image, terms, fields, 2);
+    judge(
+        at,
+        all_three(
+            is_kind(own, PAIR_TYPE),
+            same_type(first_type(own), first),
+            same_type(second_type(own), second),
+        ),
+        true,
+    )
+}
+
+// Split takes a pair; its body gives the type.
+pub fn check_split(image: &[u8], terms: &[u16], keys: &[u32], at: usize, fields: &[u8]) -> Verdict
+    requires { ⌜ Lent (now image) (now terms) (now keys) × Typed (now image) (now fields) × Behind (now image) (now fields) 1 × Behind (now image) (now fields) 2 ⌝ }
+    ensures { λ r. ⌜ ((p : Setting ℕ) → r ≡ judged at (ruleIn (now (image .entry)) (now (fields .entry)) TermKind.split p)) ⌝ }
+{
+    let t = own_type(fields);
+    let first = key_behind(image, terms, keys, fields, 1);
+    let second = type_behind(image, terms, fields, 2);
+    judge(
+        at,
+        both(is_kind(first, PAIR_TYPE), same_type(second, t)),
+        true,
+    )
+}
+
+// A function goes to the type of its body.
+pub fn check_function(
+    image: &[u8],
+    terms: &[u16],
+    keys: &[u32],
+    at: usize,
+    fields: &[u8],
+) -> Verdict
+    requires { ⌜ Lent (now image) (now terms) (now keys) × Typed (now image) (now fields) × Behind (now image) (now fields) 1 ⌝ }
+    ensures { λ r. ⌜ ((p : Setting ℕ) → r ≡ judged at (ruleIn (now (image .entry)) (now (fields .entry)) TermKind.fun p)) ⌝ }
+{
+    let own = own_key(keys, fields);
+    let first = type_behind(image, terms, fields, 1);
+    judge(
+        at,
+        both(
+            is_kind(own, FUNCTION_TYPE),
+            same_type(third_type(own), first),
+        ),
+        true,
+    )
+}
+
+// Apply: a function at the current domain, and what it takes.
+pub fn check_apply(
+    image: &[u8],
+    terms: &[u16],
+    keys: &[u32],
+    at: usize,
+    fields: &[u8],
+    c: DomainNo,
+) -> Verdict
+    requires { ⌜ Lent (now image) (now terms) (now keys) × Typed (now image) (now fields) × Behind (now image) (now fields) 1 × Behind (now image) (now fields) 2 ⌝ }
+    ensures { λ r. ⌜ ((Γ : List ℕ) → r ≡ judged at (ruleIn (now (image .entry)) (now (fields .entry)) TermKind.app (record { context = Γ; dom = c .0 }))) ⌝ }
+{
+    let t = own_type(fields);
+    let first = key_behind(image, terms, keys, fields, 1);
+    let second = type_behind(image, terms, fields, 2);
+    judge(
+        at,
+        all_three(
+            is_kind(first, FUNCTION_TYPE),
+            same_type(first_type(first), second),
+            same_type(third_type(first), t),
+        ),
+        same_domain(second_domain(first), c),
+    )
+}
+
+// The kind of type that arithmetic gives: a number for plus and minus, truth for less and equal.
+fn result_kind(f: u16) -> u16
+    ensures { λ r. ⌜ r ≡ resultKind f ⌝ }
+{
+    if f < 2 { NUMBER_TYPE } else { TRUTH_TYPE }
+}
+
+// Arithmetic takes two numbers, which stand behind its operation.
+pub fn check_arithmetic(
+    image: &[u8],
+    terms: &[u16],
+    keys: &[u32],
+    at: usize,
+    fields: &[u8],
+) -> Verdict
+    requires { ⌜ Lent (now image) (now terms) (now keys) × Typed (now image) (now fields) × Behind (now image) (now fields) 2 × Behind (now image) (now fields) 3 ⌝ }
+    ensures { λ r. ⌜ ((p : Setting ℕ) → r ≡ judged at (ruleIn (now (image .entry)) (now (fields .entry)) TermKind.arith p)) ⌝ }
+{
+    let own = own_key(keys, fields);
+    let first = key_behind(image, terms, keys, fields, 2);
+    let second = key_behind(image, terms, keys, fields, 3);
+    judge(
+        at,
+        all_three(
+            is_kind(own, result_kind(other_field(fields))),
+            is_kind(first, NUMBER_TYPE),
+            is_kind(second, NUMBER_TYPE),
+        ),
+        true,
+    )
+}
+
+// Frame byte takes a number and gives one.
+pub fn check_byte(image: &[u8], terms: &[u16], keys: &[u32], at: usize, fields: &[u8]) -> Verdict
+    requires { ⌜ Lent (now image) (now terms) (now keys) × Typed (now image) (now fields) × Behind (now image) (now fields) 1 ⌝ }
+    ensures { λ r. ⌜ ((p : Setting ℕ) → r ≡ judged at (ruleIn (now (image .entry)) (now (fields .entry)) TermKind.byte p)) ⌝ }
+{
+    let own = own_key(keys, fields);
+    let first = key_behind(image, terms, keys, fields, 1);
+    judge(
+        at,
+        both(is_kind(own, NUMBER_TYPE), is_kind(first, NUMBER_TYPE)),
+        true,
+    )
+}

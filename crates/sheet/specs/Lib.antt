@@ -1,2 +1,0 @@
--- The sheet's frame, and records by their offset.
-pub mod Sheet

@@ -1,0 +1,49 @@
+#!/usr/bin/env python3
+"""The definitions that a reader of the demands must believe.
+
+They are the statements of the demands and of acceptance, what the engine's contract cites, and all definitions that
+these use, file by file: the closure of their imports. docs/CLAIMS.md lists the same files, and a test compares the two.
+"""
+import re
+import sys
+from pathlib import Path
+
+ROOT = Path(__file__).resolve().parents[1]
+STATEMENTS = ("demands/specs", "calls/specs", "verdicts/specs/Acceptable.antt", "listing/specs/Listing.antt")
+IMPORT = re.compile(r"\s*use Rattle·(\w+?)(?:·specs)?\.specs\.([\w.]+?)\.\{")
+
+
+def imports(file):
+    """The files of definitions that a file names; what a crate's code declares stands in its src/."""
+    for line in file.read_text(encoding="utf-8").splitlines():
+        found = IMPORT.match(line)
+        if not found:
+            continue
+        crate, module = ROOT / "crates" / found[1], found[2].split(".")
+        yield crate / "src" if module[0] == "declared" else crate.joinpath("specs", *module).with_suffix(".antt")
+
+
+def closure(files):
+    """The files and all that they use, as paths from the repository's root."""
+    seen, todo = set(), list(files)
+    while todo:
+        file = todo.pop()
+        if file in seen:
+            continue
+        seen.add(file)
+        if file.is_file():
+            todo += imports(file)
+    return sorted(str(f.relative_to(ROOT)) for f in seen)
+
+
+def believed():
+    """The files of the statements, and all that they use."""
+    places = [ROOT / "crates" / place for place in STATEMENTS]
+    return closure(f for p in places for f in ([p] if p.is_file() else p.glob("*.antt")) if f.name != "Lib.antt")
+
+
+if __name__ == "__main__":
+    try:
+        print("\n".join(believed()))
+    except BrokenPipeError:
+        sys.exit(0)

@@ -1,0 +1,36 @@
+"""What the documents list of the repository is what stands there."""
+import re
+import unittest
+
+import common
+from believed import believed
+
+
+class Documents(unittest.TestCase):
+    def test_what_must_be_believed(self):
+        """docs/CLAIMS.md lists the definitions that the statements use, crate by crate: all of them, and no others."""
+        text = (common.ROOT / "docs" / "CLAIMS.md").read_text(encoding="utf-8")
+        table = text.split("<!-- believed -->")[1]
+        listed = set()
+        for crate, files in re.findall(r"^\| (\w+) \| (.*) \|$", table.split("|---|---|")[1], re.M):
+            for name in files.split(", "):
+                listed.add(f"crates/{crate}/src" if name == "src" else f"crates/{crate}/specs/{name}.antt")
+        self.assertEqual(sorted(listed), believed())
+
+    def test_the_map_of_crates(self):
+        """README.md has a row for every crate, and for no other."""
+        readme = (common.ROOT / "README.md").read_text(encoding="utf-8").split("## Crates")[1].split("\n## ")[0]
+        rows = re.findall(r"^\| ([\w, ]+) \|", readme, re.M)
+        named = {name for row in rows for name in row.split(", ")} - {"crate"}
+        crates = {line.split(":")[0] for line in (common.ROOT / "crates.txt").read_text().splitlines() if ":" in line}
+        self.assertEqual(named, crates)
+
+    def test_edits_name_text_that_is_there(self):
+        """The text that an edit of must-fail/ replaces stands once in its file."""
+        for edit in sorted(common.ROOT.glob("crates/*/must-fail/*.edit")):
+            file = None
+            for line in edit.read_text(encoding="utf-8").splitlines():
+                if line.startswith("file: "):
+                    file = edit.parents[1] / line[6:]
+                elif line.startswith("old: "):
+                    self.assertEqual(file.read_text(encoding="utf-8").count(line[5:]), 1, edit.name)

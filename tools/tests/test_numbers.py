@@ -1,0 +1,87 @@
+"""The numbers in include/, bindings/rust and tools/ are those of the definitions in specs/."""
+import re
+import unittest
+
+import common
+from watchlang import kinds, refusals, report
+
+
+def text(*path):
+    return common.ROOT.joinpath(*path).read_text(encoding="utf-8")
+
+
+def cases(crate, module, function, enum):
+    """What a function of specs/ gives each constructor of an enum."""
+    found = re.findall(rf"^{function} \(?{enum}\.(\w+)[^=\n]*= (\d+)$", text("crates", crate, "specs", module), re.M)
+    return {name: int(number) for name, number in found}
+
+
+def constants(crate, module):
+    """The numbers that specs/ name."""
+    return {name: int(n) for name, n in re.findall(r"^(\w+) = (\d+)$", text("crates", crate, "specs", module), re.M)}
+
+
+def rows(data):
+    """The numbers of the kinds of a section, in the order of the table."""
+    found = re.findall(rf"^\w+Row {data}\.(\w+) = [^\n]*?(\d+)", text("crates", "image", "specs", "Kinds.antt"), re.M)
+    return {name: int(number) for name, number in found}
+
+
+def upper(name):
+    """ImageTooLong and imageLimit as the header writes them."""
+    return re.sub(r"(?<=[a-z])(?=[A-Z])", "_", name).upper()
+
+
+def header():
+    return {name: int(n) for name, n in re.findall(r"BUKZARN_(\w+) = (\d+)", text("include", "bukzarn.h"))}
+
+
+def rust(module):
+    """The numbers that Rust's enum of a module gives its variants."""
+    return {name: int(n) for name, n in re.findall(r"^    (\w+) = (\d+),$", text("bindings", "rust", "src", module), re.M)}
+
+
+class Numbers(unittest.TestCase):
+    def header_has(self, numbers):
+        self.assertTrue(numbers)
+        self.assertEqual({upper(n): v for n, v in numbers.items()}, {n: v for n, v in header().items() if n in map(upper, numbers)})
+
+    def test_outcomes(self):
+        outcomes = cases("calculus", "Report.antt", "outcomeNumber", "Outcome")
+        self.assertEqual(sorted(outcomes.values()), list(range(len(outcomes))))
+        self.assertEqual(rust("outcome.rs"), outcomes)
+        self.assertEqual(list(report.OUTCOMES), [name.lower() for name in sorted(outcomes, key=outcomes.get)])
+        self.header_has(outcomes)
+
+    def test_refusals(self):
+        causes = cases("image", "Refusals.antt", "refusalNumber", "Refusal")
+        self.assertEqual(rust("refusal.rs"), causes)
+        self.assertEqual(sorted(refusals.REFUSALS), sorted(causes.values()))
+        self.header_has(causes)
+
+    def test_lengths(self):
+        limits = constants("image", "Limits.antt")
+        lengths = {name: limits[name] for name in ("imageLimit", "workLength", "reportLength")}
+        self.header_has(lengths)
+        for name, length in lengths.items():
+            self.assertIn(f"pub const {upper(name)}: usize = {length:_};", text("bindings", "rust", "src", "lib.rs"))
+
+    def test_limits(self):
+        limits = constants("image", "Limits.antt")
+        self.assertEqual(
+            (kinds.IMAGE_LIMIT, kinds.DOMAIN_LIMIT, kinds.TYPE_LIMIT, kinds.TERM_LIMIT, kinds.DEPTH_LIMIT, kinds.LABEL_LIMIT),
+            tuple(limits[name] for name in ("imageLimit", "domainLimit", "typeLimit", "termLimit", "depthLimit", "pointcutLimit")))
+        self.assertEqual(kinds.LEAF_LIMIT, constants("calculus", "Limits.antt")["leafLimit"])
+
+    def test_records_of_log_and_report(self):
+        leaves = cases("calculus", "Report.antt", "leafKind", "Leaf")
+        self.header_has(leaves)
+        self.assertEqual(header()["PRINTED"], constants("area", "Records.antt")["logKind"])
+
+    def test_kinds(self):
+        types, terms = rows("TypeKind"), rows("TermKind")
+        self.assertEqual(set(types.values()) | set(terms.values()) | {kinds.DOMAIN}, set(kinds.KINDS))
+        of_types = re.findall(r"Shape::\w+(?:\([^)]*\))? => \((\d+),", text("bindings", "rust", "src", "program", "types.rs"))
+        self.assertEqual(sorted(map(int, of_types)), sorted(types.values()))
+        of_terms = re.findall(r"(?:over\(|kind: )(\d+)", text("bindings", "rust", "src", "program", "terms.rs"))
+        self.assertEqual({int(n) for n in of_terms}, set(terms.values()))
