@@ -8,7 +8,7 @@ use Rattle.calculus.specs.Report.{report}
 use Rattle.image.specs.Layout.{recordsOf}
 use Rattle.image.specs.Types.{rootType}
 use Rattle.image.specs.Program.{toTm}
-use Rattle.verdicts.specs.Order.{policy}
+use Rattle.verdicts.specs.Domains.{policy}
 use Rattle.verdicts.proofs.Accept.{accepted-typed, accepted-plain, accepted-order}
 use Rattle.safety.proofs.Order.{Transitive}
 use Rattle.safety.proofs.Runs.{reports-outcome}

@@ -1,20 +1,21 @@
 -- The domains that an accepted image names are below 16, so that high by the 2 bytes that a domain is written to is high.
-use Prim.Native.Nat.{ℕ, zero, suc, _-_, _%_, _<_}
+use Prim.Native.Nat.{ℕ, zero, suc, _%_, _<_}
 use native.Mathlib.Omega.{arith}
 use native.Mathlib.Nat.{mod-eq-of-lt}
-use mathlib.Core.Path.{_≡_, refl, ap, ap₂, fun-ext, _∙_}
+use mathlib.Core.Path.{_≡_, refl, sym, ap, ap₂, subst, fun-ext, _∙_}
 use mathlib.Core.Bool.{Bool, true, false, not}
 use mathlib.Core.List.{List, [], _∷_}
 use lib.ListN.{length, getD}
 use Rattle.calculus.specs.Syntax.{Dom, Ty}
 use Rattle.calculus.specs.Plain.{domOf}
 use Rattle.image.specs.Limits.{domainLimit}
-use Rattle.image.specs.Bytes.{fieldAt, fieldsFrom, words}
-use Rattle.image.specs.Kinds.{a-domain, free, TermKind, termRow}
-use Rattle.image.specs.Layout.{Layout}
+use Rattle.image.specs.Bytes.{words}
+use Rattle.image.specs.Kinds.{a-domain, free, Body, here, function-body, advice-body, split-body, lower-body, TermKind, termRow, bodyOf}
+use Rattle.image.specs.Records.{Layout, fieldsAt, numbersAt, othersAt}
 use Rattle.image.specs.Types.{termPlace, termKind, statedType, others, children, rootOf}
-use Rattle.image.specs.Program.{Program, node, blank, more, subtrees, tree, program, lowBody, blanked, blankeds}
+use Rattle.image.specs.Program.{Program, node, blank, more, subtrees, tree, program, ownDomain, isLow, lowBody, blanked, blankeds}
 use Rattle.image.proofs.Laid.{Below, Good}
+use Rattle.image.proofs.Bodies.{Owner, body-owner}
 use Rattle.rows.proofs.Fields.{type-domain}
 use Rattle.report.specs.Fits.{shortSize, byField}
 
@@ -23,33 +24,23 @@ small-field high d l = let e : d % shortSize ≡ d = mod-eq-of-lt (omega arith) 
 
 -- Two sets that have the same domains below 16 tell the same low bodies of the term at o, of kind k and type t.
 module _ (hi hi′ : Dom → Bool) (same : (d : Dom) → d < domainLimit → hi d ≡ hi′ d) where
-  low-same : (b : List ℕ) (o : ℕ) (t : Ty) → domOf t < domainLimit → (k : TermKind) → ((i : ℕ) → getD (termRow k .fields) i free ≡ a-domain → fieldAt b o i < domainLimit)
-      → (i : ℕ) → lowBody hi k t (fieldsFrom b o 1 (length (termRow k .fields) - 1)) i ≡ lowBody hi′ k t (fieldsFrom b o 1 (length (termRow k .fields) - 1)) i
+  abbrev Domained : List ℕ → ℕ → TermKind → Type 0
+  Domained b o k = (i : ℕ) → getD (fieldsAt b o (termRow k)) i free ≡ a-domain → getD (numbersAt b o (termRow k)) i 0 < domainLimit
+
+  low-same : (b : List ℕ) (o : ℕ) (t : Ty) → domOf t < domainLimit → (k : TermKind) → Domained b o k → (i : ℕ) → lowBody hi k t (othersAt b o (termRow k)) i ≡ lowBody hi′ k t (othersAt b o (termRow k)) i
   unfolding words
-  low-same b o t l TermKind.unit h i = refl
-  low-same b o t l TermKind.truth h i = refl
-  low-same b o t l TermKind.number h i = refl
-  low-same b o t l TermKind.var h i = refl
-  low-same b o t l TermKind.seq h i = refl
-  low-same b o t l TermKind.print h i = refl
-  low-same b o t l TermKind.ite h i = refl
-  low-same b o t l TermKind.pair h i = refl
-  low-same b o t l TermKind.split h i = refl
-  low-same b o t l TermKind.fun h i = ap not (same (domOf t) l)
-  low-same b o t l TermKind.app h i = refl
-  low-same b o t l TermKind.arith h i = refl
-  low-same b o t l TermKind.newLabel h i = refl
-  low-same b o t l TermKind.mark h i = refl
-  low-same b o t l TermKind.pcd h i = refl
-  low-same b o t l TermKind.adv h zero = refl
-  low-same b o t l TermKind.adv h (suc i) = ap not (same (domOf t) l)
-  low-same b o t l TermKind.install h i = refl
-  low-same b o t l TermKind.newCell h i = refl
-  low-same b o t l TermKind.read h i = refl
-  low-same b o t l TermKind.store h i = refl
-  low-same b o t l TermKind.lower h i = ap not (same (fieldAt b o 1) (h 1 refl))
-  low-same b o t l TermKind.abort h i = refl
-  low-same b o t l TermKind.byte h i = refl
+  low-same b o t l k h i = go (bodyOf k i) (body-owner k i)
+    where
+      -- the field p of a lower
+      own : k ≡ TermKind.lower → getD (othersAt b o (termRow k)) 0 0 < domainLimit
+      own e = subst (λ j. Domained b o j → getD (othersAt b o (termRow j)) 0 0 < domainLimit) (sym e) (λ f. f 1 refl) h
+
+      go : (body : Body) → Owner k body → isLow hi (ownDomain body t (othersAt b o (termRow k)) i) ≡ isLow hi′ (ownDomain body t (othersAt b o (termRow k)) i)
+      go here w = refl
+      go function-body w = ap not (same (domOf t) l)
+      go advice-body w = ap not (same (domOf t) l)
+      go split-body w = refl
+      go lower-body w = ap not (same _ (own w))
 
   -- Subtrees that are blanked to the same are so beside each other, whichever of them are low bodies.
   subtrees-same : (g : ℕ → Program) (m : ℕ) → ((e : ℕ) → e < m → blanked hi (g e) ≡ blanked hi′ (g e)) → (es : List ℕ) → Below m es

@@ -9,7 +9,7 @@ use Rattle.calculus.specs.Typing.{Policy}
 use Rattle.image.specs.Layout.{recordsOf}
 use Rattle.image.specs.Program.{toTm, blanked}
 use Rattle.image.proofs.Blanked.{same-but-low}
-use Rattle.verdicts.specs.Order.{policy}
+use Rattle.verdicts.specs.Domains.{policy}
 use Rattle.verdicts.proofs.Passed.{passed-iff}
 use Rattle.verdicts.proofs.Accept.{accepted-good, accepted-order}
 use Rattle.verdicts.proofs.Order.{leq-same}

@@ -17,7 +17,7 @@ use Rattle.image.specs.Layout.{recordsOf}
 use Rattle.image.specs.Program.{toTm}
 use Rattle.verdicts.specs.declared.Verdict.{Verdict}
 use Rattle.verdicts.specs.Verdicts.{verdict}
-use Rattle.verdicts.specs.Order.{policy}
+use Rattle.verdicts.specs.Domains.{policy}
 use Rattle.verdicts.specs.Acceptable.{Acceptable}
 use Rattle.verdicts.proofs.Accept.{accepted-iff}
 use Rattle.report.specs.Read.{readReport}

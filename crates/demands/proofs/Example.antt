@@ -15,15 +15,16 @@ use Rattle.calculus.specs.Step.{step}
 use Rattle.calculus.specs.Run.{after, run}
 use Rattle.calculus.specs.Report.{leaves}
 use Rattle.image.specs.Limits.{workLength, reportLength}
-use Rattle.image.specs.Tests.{all, allOf, allBelow, anyBelow, firstFault}
+use Rattle.image.specs.Tests.{all, allOf, anyBelow, firstFault}
 use Rattle.image.specs.Bytes.{words}
 use Rattle.image.specs.Kinds.{find}
-use Rattle.image.specs.Layout.{fieldsIn, tests, walk, layout, recordsOf}
+use Rattle.image.specs.Layout.{allWithin, tests, walk, layout, recordsOf}
 use Rattle.image.specs.Types.{typeOut, typeFrom, typeOf}
 use Rattle.image.specs.Program.{tree, program, assemble, toTm}
 use Rattle.image.proofs.Facts.{no-path, eq-of}
 use Rattle.verdicts.specs.Answers.{requireFrom, inTurn}
-use Rattle.verdicts.specs.Order.{bits, order, leq, atFault}
+use Rattle.verdicts.specs.Domains.{bits, order, leq}
+use Rattle.verdicts.specs.Order.{atFault}
 use Rattle.verdicts.specs.Shape.{count, uses, depthsFrom, depths, shape}
 use Rattle.verdicts.specs.Check.{checkAll, check, typing}
 use Rattle.verdicts.specs.Verdicts.{verdict}
@@ -40,7 +41,7 @@ abbrev mainlineOnly : Dom → Bool
 mainlineOnly d = eqb d 0
 
 high-mainline : HighSet (recordsOf (lowered 1)) mainlineOnly
-unfolding lowered leq order bits recordsOf layout walk tests find words fieldsIn all allOf allBelow firstFault little rec image two-domains number unit literal
+unfolding lowered leq order bits recordsOf layout walk tests find words allWithin all allOf firstFault little rec image two-domains number unit literal
 high-mainline = record { mainline = refl; up = up }
   where
     up : (d q : Dom) → d < 2 → q < 2 → eqb d 0 ≡ true → leq (recordsOf (lowered 1)) d q ≡ true → eqb q 0 ≡ true
@@ -50,7 +51,7 @@ high-mainline = record { mainline = refl; up = up }
     up (suc d) q l m h k = let z : suc d ≡ 0 = eq-of h in absurd (omega arith)
 
 compared : Compared mainlineOnly (lowered 1) (lowered 2)
-unfolding lowered recordsOf layout walk tests find words fieldsIn all allOf allBelow firstFault little rec image two-domains number unit literal
+unfolding lowered recordsOf layout walk tests find words allWithin all allOf firstFault little rec image two-domains number unit literal
 compared = record { domains = refl; highs = high-mainline; programs = same-lowered }
 
 abbrev zeros : ℕ → List ℕ
@@ -61,13 +62,13 @@ unfoldable pub lowCall : ℕ → Left
 lowCall n = called (lowered n) [] 100 (zeros 20) (zeros reportLength) (zeros workLength)
 
 low-runs : Runs (lowered 1) (zeros reportLength) (zeros workLength) × Runs (lowered 2) (zeros reportLength) (zeros workLength)
-unfolding lowered verdict inTurn requireFrom walk layout recordsOf tests find words fieldsIn all allOf allBelow anyBelow firstFault shape atFault leq order bits count uses depths depthsFrom typing check checkAll typeOf typeFrom typeOut
+unfolding lowered verdict inTurn requireFrom walk layout recordsOf tests find words allWithin all allOf anyBelow firstFault shape atFault leq order bits count uses depths depthsFrom typing check checkAll typeOf typeFrom typeOut
     little rec image one-domain two-domains unit number literal
 low-runs = (refl, refl)
 
 -- Their logs differ, at domain 1; what is seen from domain 0 does not.
 pub low-logs : (logWritten (lowCall 1) ≡ 10 ∷ 0 ∷ 64 ∷ 0 ∷ 1 ∷ 0 ∷ 1 ∷ 0 ∷ 0 ∷ 0 ∷ []) × (logWritten (lowCall 2) ≡ 10 ∷ 0 ∷ 64 ∷ 0 ∷ 1 ∷ 0 ∷ 2 ∷ 0 ∷ 0 ∷ 0 ∷ [])
-unfolding lowCall called lowered verdict inTurn requireFrom walk layout recordsOf tests find words fieldsIn all allOf allBelow anyBelow firstFault shape atFault leq order bits count uses depths depthsFrom typing check checkAll typeOf typeFrom typeOut
+unfolding lowCall called lowered verdict inTurn requireFrom walk layout recordsOf tests find words allWithin all allOf anyBelow firstFault shape atFault leq order bits count uses depths depthsFrom typing check checkAll typeOf typeFrom typeOut
     little rec image one-domain two-domains unit number literal
     program tree toTm assemble run after cases step subst carry if-room with spend picked leaves
     over cleared bytesOf recordsBytes

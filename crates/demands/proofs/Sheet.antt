@@ -16,15 +16,16 @@ use Rattle.calculus.specs.Step.{step}
 use Rattle.calculus.specs.Run.{Ended, after, run}
 use Rattle.calculus.specs.Report.{leaves}
 use Rattle.image.specs.declared.Refusal.{Refusal}
-use Rattle.image.specs.Tests.{all, allOf, allBelow, anyBelow, firstFault}
+use Rattle.image.specs.Tests.{all, allOf, anyBelow, firstFault}
 use Rattle.image.specs.Bytes.{words}
 use Rattle.image.specs.Kinds.{find}
-use Rattle.image.specs.Layout.{fieldsIn, tests, walk, layout, recordsOf}
+use Rattle.image.specs.Layout.{allWithin, tests, walk, layout, recordsOf}
 use Rattle.image.specs.Types.{typeOut, typeFrom, typeOf}
 use Rattle.image.specs.Program.{tree, program, assemble, toTm}
 use Rattle.verdicts.specs.declared.Verdict.{Verdict}
 use Rattle.verdicts.specs.Answers.{refusalOf, requireFrom, inTurn}
-use Rattle.verdicts.specs.Order.{bits, order, leq, atFault}
+use Rattle.verdicts.specs.Domains.{bits, order, leq}
+use Rattle.verdicts.specs.Order.{atFault}
 use Rattle.verdicts.specs.Shape.{count, uses, depthsFrom, depths, shape}
 use Rattle.verdicts.specs.Check.{checkAll, check, typing}
 use Rattle.verdicts.specs.Verdicts.{verdict}
@@ -121,7 +122,7 @@ sheet =
 
 pub sheet-holds : map said sheet ≡ map (λ c. c .says) sheet
 unfolding sheet said sheetCall upTo called
-    verdict inTurn requireFrom walk layout recordsOf tests find words fieldsIn all allOf allBelow anyBelow firstFault shape atFault leq order bits count uses depths depthsFrom typing check checkAll typeOf typeFrom typeOut
+    verdict inTurn requireFrom walk layout recordsOf tests find words allWithin all allOf anyBelow firstFault shape atFault leq order bits count uses depths depthsFrom typing check checkAll typeOf typeFrom typeOut
     little rec image one-domain two-domains unit number literal p2-image p6-image p8-image arithmetic
     program tree toTm assemble run after cases step subst carry if-room with spend picked leaves
     over cleared bytesOf recordsBytes

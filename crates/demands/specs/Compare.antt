@@ -5,9 +5,10 @@ use mathlib.Core.Bool.{Bool, true}
 use mathlib.Core.List.{List}
 use lib.ListN.{length}
 use Rattle.calculus.specs.Syntax.{Dom}
-use Rattle.image.specs.Layout.{Layout, recordsOf}
+use Rattle.image.specs.Records.{Layout}
+use Rattle.image.specs.Layout.{recordsOf}
 use Rattle.image.specs.Program.{blanked}
-use Rattle.verdicts.specs.Order.{masks, leq}
+use Rattle.verdicts.specs.Domains.{masks, leq}
 use Rattle.report.specs.Same.{SameBytes}
 use Rattle.calls.specs.Runs.{programOf}
 use Rattle.calls.specs.Calls.{Left, called}

@@ -6,8 +6,8 @@ use mathlib.Core.List.{List, [], _∷_}
 use mathlib.Core.Option.{none, some}
 use lib.ListN.{length, getD}
 use lib.Dec.{eqb, leb}
-use Rattle.image.specs.Kinds.{Field, a-type, a-domain, an-op, a-truth, free, TypeKind, TermKind, Kind, domain, type, term, typeRow, termRow, rowOf, find, kinds}
-use Rattle.image.proofs.Facts.{no-path, and-l, and-r, le-of, eq-of}
+use Rattle.image.specs.Kinds.{Field, a-type, own, free, a-term, an-entry, TypeKind, TermKind, Kind, domain, type, term, termRow, rowOf, find, kinds}
+use Rattle.image.proofs.Facts.{no-path, and-l, and-r, le-of}
 use Rattle.image.proofs.KindNumbers.{found}
 
 unfoldable pub everyOf : (Kind → Bool) → List Kind → Bool
@@ -52,29 +52,22 @@ or-else true b h n = absurd (n refl)
 or-else false b h n = h
 
 -- A term's record has a field for its type, and it is the first.
-pub has-type : (k : TermKind) → 1 ≤ length (termRow k .fields)
+pub has-type : (k : TermKind) → 1 ≤ length (termRow k .first)
 unfolding everyOf
-has-type k = le-of (at-term (λ k. leb 1 (length (termRow k .fields))) refl k)
+has-type k = le-of (at-term (λ k. leb 1 (length (termRow k .first))) refl k)
 
 abbrev isType : Field → Bool
 isType a-type = true
-isType a-domain = false
-isType an-op = false
-isType a-truth = false
-isType free = false
+isType (own r) = false
+isType (a-term b) = false
+isType an-entry = false
 
 is-type : (f : Field) → isType f ≡ true → f ≡ a-type
 is-type a-type h = refl
-is-type a-domain h = no-path (sym h)
-is-type an-op h = no-path (sym h)
-is-type a-truth h = no-path (sym h)
-is-type free h = no-path (sym h)
+is-type (own r) h = no-path (sym h)
+is-type (a-term b) h = no-path (sym h)
+is-type an-entry h = no-path (sym h)
 
-pub type-first : (k : TermKind) → getD (termRow k .fields) 0 free ≡ a-type
+pub type-first : (k : TermKind) → getD (termRow k .first) 0 free ≡ a-type
 unfolding everyOf
-type-first k = is-type (getD (termRow k .fields) 0 free) (at-term (λ k. isType (getD (termRow k .fields) 0 free)) refl k)
-
--- A type has no children.
-pub type-childless : (k : TypeKind) → typeRow k .most ≡ 0
-unfolding everyOf
-type-childless k = eq-of (at-type (λ k. eqb (typeRow k .most) 0) refl k)
+type-first k = is-type (getD (termRow k .first) 0 free) (at-term (λ k. isType (getD (termRow k .first) 0 free)) refl k)

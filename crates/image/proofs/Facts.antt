@@ -36,6 +36,11 @@ pub not-t : (a : Bool) → not a ≡ true → a ≡ false
 not-t true h = sym h
 not-t false h = refl
 
+pub same-truth : (a b : Bool) → (a ≡ true → b ≡ true) → (b ≡ true → a ≡ true) → a ≡ b
+same-truth true b f g = sym (f refl)
+same-truth false true f g = g refl
+same-truth false false f g = refl
+
 pub T-of : {a : Bool} → a ≡ true → T a
 T-of h = rw h tt
 
@@ -85,6 +90,11 @@ unfolding allOf
 all-of ok [] h i d l = absurd (omega arith)
 all-of ok (n ∷ ns) h zero d l = and-l (ok n) (allOf ok ns) h
 all-of ok (n ∷ ns) h (suc i) d l = all-of ok ns (and-r (ok n) (allOf ok ns) h) i d (omega arith)
+
+pub of-all : (ok : ℕ → Bool) (ns : List ℕ) → ((i : ℕ) → i < length ns → ok (getD ns i 0) ≡ true) → allOf ok ns ≡ true
+unfolding allOf
+of-all ok [] h = refl
+of-all ok (n ∷ ns) h = and-i (h 0 (omega arith)) (of-all ok ns (λ i l. h (suc i) (omega arith)))
 
 pub all-below : (n : ℕ) (ok : ℕ → Bool) → allBelow n ok ≡ true → (i : ℕ) → i < n → ok i ≡ true
 unfolding allBelow

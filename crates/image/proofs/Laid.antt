@@ -1,25 +1,29 @@
 -- What the walk assures of the records that it lays out.
-use Prim.Native.Nat.{ℕ, zero, suc, _+_, _-_, _*_, _/_, _%_, _≤_, _<_}
+use Prim.Native.Nat.{ℕ, zero, suc, _+_, _≤_, _<_}
 use native.Mathlib.Omega.{arith}
 use mathlib.Core.Path.{_≡_, refl, sym, ap, subst, _∙_}
 use mathlib.Core.Bool.{Bool, true, false, not}
 use mathlib.Core.List.{List, [], _∷_, _++_}
 use mathlib.Core.Option.{Option, none, some}
 use lib.ListN.{length, getD, length-append, List·getD-append}
-use lib.Dec.{eqb, ltb}
+use lib.Dec.{eqb}
 use Rattle.image.specs.declared.Refusal.{Refusal}
 use Rattle.image.specs.Limits.{domainLimit, typeLimit, termLimit}
-use Rattle.image.specs.Tests.{allOf, firstFault}
+use Rattle.image.specs.Tests.{firstFault}
 use Rattle.image.specs.Bytes.{lengthAt, numberAt, fieldAt}
-use Rattle.image.specs.Kinds.{Field, a-type, a-domain, an-op, a-truth, free, TypeKind, TermKind, Kind, domain, type, term, domainRow, typeRow, termRow, rowOf, kindOf, find}
-use Rattle.image.specs.Records.{Layout, kindAt, childrenAt}
-use Rattle.image.specs.Layout.{nothing, framed, known, rightLength, isNil, inOrder, hasRoom, within, fieldsIn, inRange, sameType, isNew, tests, add, stopped, laid, walk, layout, recordsOf}
+use Rattle.image.specs.Kinds.{in-domains, in-operations, in-truths, any-number, Field, a-type, a-domain, own, free, a-term, an-entry, TypeKind, TermKind, Kind, domain, type, term, domainRow, typeRow, termRow, rowOf, kindOf, find, again}
+use Rattle.image.specs.Records.{Layout, kindAt, times, fieldsAt, numbersAt, asChild, given, childrenAt}
+use Rattle.image.specs.Layout.{nothing, framed, known, rightLength, isNil, inOrder, hasRoom, within, allWithin, inRange, sameNumbers, sameType, isNew, tests, add, stopped, laid, walk, layout, recordsOf}
 use Rattle.image.specs.Types.{typeKindOf, termKindOf, domainPlace, typePlace, termPlace, typeKind, termKind}
-pub use Rattle.image.specs.LaidOut.{Below, Stands}
-use Rattle.image.specs.LaidOut.{Within}
-use Rattle.image.proofs.Facts.{no-path, and-l, and-r, not-t, lt-of, le-of, eq-of, each, all-of, passed, each-snoc}
-use Rattle.image.proofs.Words.{words-length}
+use Rattle.image.specs.LaidOut.{Stands, Within, IsRecord}
+use Rattle.image.proofs.Facts.{no-path, and-l, and-r, and-i, not-t, lt-of, le-of, eq-of, of-eq, each, all-of, passed, each-snoc}
+use Rattle.image.proofs.Words.{words-length, words-at}
 use Rattle.image.proofs.EveryKind.{type-first}
+
+-- Each number of a list is below n.
+abbrev pub Below : ℕ → List ℕ → Type 0
+Below n [] = Unit {0}
+Below n (e ∷ es) = (e < n) × Below n es
 
 pub below-at : (n : ℕ) (es : List ℕ) (i : ℕ) → Below n es → i < length es → getD es i 0 < n
 below-at n [] i b h = absurd (omega arith)
@@ -29,19 +33,17 @@ below-at n (e ∷ es) (suc i) b h = below-at n es i (b .1) (omega arith)
 -- The record at o is type t, of kind k, behind the types ts, over so many domains.
 pub record TypeOk (b : List ℕ) (domains : ℕ) (ts : List ℕ) (k : TypeKind) (t o : ℕ) : Type 0 where
   pub kind : kindOf (numberAt b o) ≡ some (type k)
-  pub stands : Stands b (typeRow k) o
-  pub lower : (i : ℕ) → getD (typeRow k .fields) i free ≡ a-type → fieldAt b o i < t
-  pub domained : (i : ℕ) → getD (typeRow k .fields) i free ≡ a-domain → fieldAt b o i < domains
-  pub ranged : (i : ℕ) → i < length (typeRow k .fields) → Within domains t (getD (typeRow k .fields) i free) (fieldAt b o i)
+  pub is : IsRecord b (typeRow k) o domains t 0
+  pub lower : (i : ℕ) → getD (fieldsAt b o (typeRow k)) i free ≡ a-type → getD (numbersAt b o (typeRow k)) i 0 < t
+  pub domained : (i : ℕ) → getD (fieldsAt b o (typeRow k)) i free ≡ a-domain → getD (numbersAt b o (typeRow k)) i 0 < domains
   pub apart : (u : ℕ) → u < t → sameType b (typeRow k) o (getD ts u 0) ≡ false
 
 -- The record at o is term n, of kind k, over so many domains and types.
 pub record TermOk (b : List ℕ) (domains types : ℕ) (k : TermKind) (n o : ℕ) : Type 0 where
   pub kind : kindOf (numberAt b o) ≡ some (term k)
-  pub stands : Stands b (termRow k) o
+  pub is : IsRecord b (termRow k) o domains types n
   pub typed : fieldAt b o 0 < types
-  pub domained : (i : ℕ) → getD (termRow k .fields) i free ≡ a-domain → fieldAt b o i < domains
-  pub ranged : (i : ℕ) → i < length (termRow k .fields) → Within domains types (getD (termRow k .fields) i free) (fieldAt b o i)
+  pub domained : (i : ℕ) → getD (fieldsAt b o (termRow k)) i free ≡ a-domain → getD (numbersAt b o (termRow k)) i 0 < domains
   pub below : Below n (childrenAt b o (termRow k))
 
 pub record Good (L : Layout) : Type 0 where
@@ -77,44 +79,84 @@ stands : (b : List ℕ) (o : ℕ) (k : Kind) → framed b o ≡ true → kindOf 
 stands b o k f q r =
     let fs = each _ f in
     let rs = each _ r in
-    let n : ℕ = lengthAt b o in
-    let lead : ℕ = length (rowOf k .fields) in
-    let inside : o + n ≤ length b = le-of (fs .1 .1 .0) in
-    let long : 4 + 2 * (lead + rowOf k .least) ≤ n = le-of (rs .0) in
-    let short : n ≤ 4 + 2 * (lead + rowOf k .most) = le-of (rs .1 .0) in
-    let even : n % 2 ≡ 0 = eq-of (rs .1 .1 .0) in
-    let c : length (childrenAt b o (rowOf k)) ≡ (n - 4) / 2 - lead = words-length b _ _ in
-    record { number = kind-number (numberAt b o) k q; inside = inside; size = omega arith; least = omega arith; most = omega arith }
+    let inside : o + lengthAt b o ≤ length b = le-of (fs .1 .1 .0) in
+    record { number = kind-number (numberAt b o) k q; inside = inside; size = eq-of (rs .1 .1 .0); least = le-of (rs .0); most = le-of (rs .1 .0) }
 
 -- Fields in range.
-in-fields : (L : Layout) (o : ℕ) (fs : List Field) (j : ℕ) → fieldsIn L o fs j ≡ true → (i : ℕ) (f : Field) → getD fs i free ≡ f → within L f (fieldAt (L .image) o (j + i)) ≡ true
-unfolding fieldsIn
-in-fields L o [] j h i f e = rw (← e) refl
-in-fields L o (g ∷ fs) j h zero f e =
-    let z : j ≡ j + 0 = omega arith in
-    rw (← e) (subst (λ m. within L g (fieldAt (L .image) o m) ≡ true) z (and-l (within L g (fieldAt (L .image) o j)) (fieldsIn L o fs (suc j)) h))
-in-fields L o (g ∷ fs) j h (suc i) f e =
-    let z : suc j + i ≡ j + suc i = omega arith in
-    subst (λ m. within L f (fieldAt (L .image) o m) ≡ true) z (in-fields L o fs (suc j) (and-r (within L g (fieldAt (L .image) o j)) (fieldsIn L o fs (suc j)) h) i f e)
+in-field : (L : Layout) (fs : List Field) (vs : List ℕ) → length vs ≡ length fs → allWithin L fs vs ≡ true → (i : ℕ) (f : Field) → getD fs i free ≡ f → within L f (getD vs i 0) ≡ true
+unfolding allWithin
+in-field L [] vs n h i f e = rw (← e) refl
+in-field L (g ∷ fs) [] n h i f e = absurd (omega arith)
+in-field L (g ∷ fs) (v ∷ vs) n h zero f e = rw (← e) (and-l (within L g v) (allWithin L fs vs) h)
+in-field L (g ∷ fs) (v ∷ vs) n h (suc i) f e = in-field L fs vs (omega arith) (and-r (within L g v) (allWithin L fs vs) h) i f e
 
-pub in-field : (L : Layout) (o : ℕ) (fs : List Field) → fieldsIn L o fs 0 ≡ true → (i : ℕ) (f : Field) → getD fs i free ≡ f → within L f (fieldAt (L .image) o i) ≡ true
-in-field L o fs h i f e = let z : 0 + i ≡ i = omega arith in subst (λ m. within L f (fieldAt (L .image) o m) ≡ true) z (in-fields L o fs 0 h i f e)
-
-in-range : (L : Layout) (f : Field) (v : ℕ) → within L f v ≡ true → Within (length (L .domains)) (length (L .types)) f v
+in-range : (L : Layout) (f : Field) (v : ℕ) → within L f v ≡ true → Within (length (L .domains)) (length (L .types)) (length (L .terms)) f v
 in-range L a-type v h = lt-of h
-in-range L a-domain v h = lt-of h
-in-range L an-op v h = le-of h
-in-range L a-truth v h = le-of h
-in-range L free v h = tt
+in-range L (own in-domains) v h = lt-of h
+in-range L (own in-operations) v h = lt-of h
+in-range L (own in-truths) v h = le-of h
+in-range L (own any-number) v h = tt
+in-range L (a-term b) v h = lt-of h
+in-range L an-entry v h = le-of h
 
-in-children : (m : ℕ) (es : List ℕ) → allOf (λ e. ltb e m) es ≡ true → Below m es
-unfolding allOf
-in-children m [] h = tt
-in-children m (e ∷ es) h = (lt-of (and-l (ltb e m) (allOf (λ e. ltb e m) es) h), in-children m es (and-r (ltb e m) (allOf (λ e. ltb e m) es) h))
+-- The record at o, of a kind that is not refused.
+module _ (L : Layout) (o : ℕ) (k : Kind) (range : inRange L o (rowOf k) ≡ true) where
+  abbrev fs : List Field
+  fs = fieldsAt (L .image) o (rowOf k)
+
+  abbrev vs : List ℕ
+  vs = numbersAt (L .image) o (rowOf k)
+
+  field-within : (i : ℕ) → Within (length (L .domains)) (length (L .types)) (length (L .terms)) (getD fs i free) (getD vs i 0)
+  field-within i = in-range L (getD fs i free) (getD vs i 0) (in-field L fs vs (words-length (L .image) (o + 4) (length fs)) range i _ refl)
+
+  field-as : (i : ℕ) (f : Field) → getD fs i free ≡ f → Within (length (L .domains)) (length (L .types)) (length (L .terms)) f (getD vs i 0)
+  field-as i f e = subst (λ g. Within (length (L .domains)) (length (L .types)) (length (L .terms)) g (getD vs i 0)) e (field-within i)
+
+below-append : (n : ℕ) (xs ys : List ℕ) → Below n xs → Below n ys → Below n (xs ++ ys)
+below-append n [] ys h k = k
+below-append n (x ∷ xs) ys h k = (h .0, below-append n xs ys (h .1) k)
+
+child-below : (L : Layout) (f : Field) (v : ℕ) → within L f v ≡ true → Below (length (L .terms)) (asChild f v)
+child-below L a-type v h = tt
+child-below L (own r) v h = tt
+child-below L (a-term b) v h = (lt-of h, tt)
+child-below L an-entry zero h = tt
+child-below L an-entry (suc e) h = let z : suc e ≤ length (L .terms) = le-of h in (omega arith, tt)
+
+in-children : (L : Layout) (fs : List Field) (vs : List ℕ) → allWithin L fs vs ≡ true → Below (length (L .terms)) (given asChild fs vs)
+unfolding allWithin
+in-children L [] vs h = tt
+in-children L (f ∷ fs) [] h = tt
+in-children L (f ∷ fs) (v ∷ vs) h =
+    below-append (length (L .terms)) (asChild f v) (given asChild fs vs) (child-below L f v (and-l (within L f v) (allWithin L fs vs) h))
+    (in-children L fs vs (and-r (within L f v) (allWithin L fs vs) h))
+
+-- A term's first field is its type.
+first-there : (fs gs : List Field) → getD fs 0 free ≡ a-type → (getD (fs ++ gs) 0 free ≡ a-type) × (0 < length (fs ++ gs))
+first-there [] gs h = let z : free ≡ a-type = h in no-path cc
+first-there (f ∷ fs) gs h = (h, omega arith)
+
+pub type-there : (k : TermKind) (b : List ℕ) (o : ℕ) → (getD (fieldsAt b o (termRow k)) 0 free ≡ a-type) × (0 < length (fieldsAt b o (termRow k)))
+type-there k b o = first-there (termRow k .first) (again (times (termRow k) (lengthAt b o)) (termRow k .group) ++ termRow k .last) (type-first k)
 
 nil : (xs : List ℕ) → isNil xs ≡ true → length xs ≡ 0
 nil [] h = refl
 nil (x ∷ xs) h = no-path (sym h)
+
+-- The same numbers.
+pub same-numbers : (vs : List ℕ) → sameNumbers vs vs ≡ true
+same-numbers [] = refl
+same-numbers (v ∷ vs) = and-i (of-eq {m = v} refl) (same-numbers vs)
+
+pub numbers-same : (vs ws : List ℕ) → sameNumbers vs ws ≡ true → vs ≡ ws
+numbers-same [] [] h = refl
+numbers-same [] (w ∷ ws) h = no-path (sym h)
+numbers-same (v ∷ vs) [] h = no-path (sym h)
+numbers-same (v ∷ vs) (w ∷ ws) h =
+    let e : v ≡ w = eq-of (and-l (eqb v w) (sameNumbers vs ws) h) in
+    let i = numbers-same vs ws (and-r (eqb v w) (sameNumbers vs ws) h) in
+    cc
 
 -- What 2 to 8 assure of a record of kind k.
 pub record Passes (L : Layout) (o : ℕ) (k : Kind) : Type 0 where
@@ -156,17 +198,15 @@ add-good L o domain e p g =
 add-good L o (type k) e p g =
     let no-terms : length (L .terms) ≡ 0 = nil (L .terms) (p .order) in
     let room : length (L .types) < typeLimit = lt-of (p .room) in
-    let range = each _ (p .range) in
     let b : List ℕ = L .image in
     let ts : List ℕ = L .types ++ (o ∷ []) in
     let before : (u : ℕ) → u < length (L .types) → getD ts u 0 ≡ getD (L .types) u 0 = λ u l. List·getD-append (L .types) (o ∷ []) 0 u l in
     let ok : TypeOk b (length (L .domains)) ts k (length (L .types)) o =
     record {
       kind = p .kind;
-      stands = stands b o (type k) (p .whole) (p .kind) (p .right);
-      lower = λ i q. lt-of (in-field L o (typeRow k .fields) (range .0) i a-type q);
-      domained = λ i q. lt-of (in-field L o (typeRow k .fields) (range .0) i a-domain q);
-      ranged = λ i l. in-range L (getD (typeRow k .fields) i free) (fieldAt b o i) (in-field L o (typeRow k .fields) (range .0) i _ refl);
+      is = record { stands = stands b o (type k) (p .whole) (p .kind) (p .right); fields = λ i l. rw no-terms at (field-within L o (type k) (p .range) i) };
+      lower = λ i q. field-as L o (type k) (p .range) i a-type q;
+      domained = λ i q. field-as L o (type k) (p .range) i a-domain q;
       apart = λ u l. rw (before u l) (not-t (sameType b (typeRow k) o (getD (L .types) u 0)) (all-of (λ q. not (sameType b (typeRow k) o q)) (L .types) (p .new) u 0 l));
     } in
     record {
@@ -176,22 +216,22 @@ add-good L o (type k) e p g =
       domains = g .domains;
       types =
           each-snoc (λ t r. TypeOk b (length (L .domains)) ts (typeKindOf (kindAt b r)) t r) (L .types) o 0
-          (λ t l. let old = g .types t l in record { kind = old .kind; stands = old .stands; lower = old .lower; domained = old .domained; ranged = old .ranged; apart = λ u m. rw (before u (omega arith)) (old .apart u m) })
+          (λ t l. let old = g .types t l in record { kind = old .kind; is = old .is; lower = old .lower; domained = old .domained; apart = λ u m. rw (before u (omega arith)) (old .apart u m) })
           (subst (λ j. TypeOk b (length (L .domains)) ts j (length (L .types)) o) (sym (ap typeKindOf e)) ok);
       terms = λ n l. absurd (omega arith);
     }
 add-good L o (term k) e p g =
     let room : length (L .terms) < termLimit = lt-of (p .room) in
-    let range = each _ (p .range) in
     let b : List ℕ = L .image in
+    let first = type-there k b o in
+    let at-first : getD (numbersAt b o (termRow k)) 0 0 ≡ fieldAt b o 0 = words-at b (o + 4) (length (fieldsAt b o (termRow k))) 0 (first .1) in
     let ok : TermOk b (length (L .domains)) (length (L .types)) k (length (L .terms)) o =
     record {
       kind = p .kind;
-      stands = stands b o (term k) (p .whole) (p .kind) (p .right);
-      typed = lt-of (in-field L o (termRow k .fields) (range .0) 0 a-type (type-first k));
-      domained = λ i q. lt-of (in-field L o (termRow k .fields) (range .0) i a-domain q);
-      ranged = λ i l. in-range L (getD (termRow k .fields) i free) (fieldAt b o i) (in-field L o (termRow k .fields) (range .0) i _ refl);
-      below = in-children (length (L .terms)) (childrenAt b o (termRow k)) (range .1 .0);
+      is = record { stands = stands b o (term k) (p .whole) (p .kind) (p .right); fields = λ i l. field-within L o (term k) (p .range) i };
+      typed = subst (λ v. v < length (L .types)) at-first (field-as L o (term k) (p .range) 0 a-type (first .0));
+      domained = λ i q. field-as L o (term k) (p .range) i a-domain q;
+      below = in-children L (fieldsAt b o (termRow k)) (numbersAt b o (termRow k)) (p .range);
     } in
     record {
       few-domains = g .few-domains;

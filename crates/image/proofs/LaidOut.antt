@@ -1,5 +1,5 @@
 -- The walk lays out exactly the images that are laid out, and their records are the only ones.
-use Prim.Native.Nat.{ℕ, zero, suc, _+_, _*_, _%_, _≤_, _<_}
+use Prim.Native.Nat.{ℕ, zero, suc, _+_, _≤_, _<_}
 use native.Mathlib.Omega.{arith}
 use mathlib.Core.Path.{_≡_, refl, sym, ap, subst, _∙_}
 use mathlib.Core.Bool.{Bool, true, false, not}
@@ -8,20 +8,19 @@ use mathlib.Core.Logic.{_↔_}
 use mathlib.Core.Option.{none, some}
 use lib.ListN.{length, getD, length-append, List·getD-append}
 use lib.Seq.{getD-append-seam}
-use lib.Dec.{eqb, ltb}
+use lib.Dec.{eqb}
 use Rattle.image.specs.Limits.{domainLimit, typeLimit, termLimit}
-use Rattle.image.specs.Tests.{allOf, firstFault}
-use Rattle.image.specs.Bytes.{lengthAt, numberAt, fieldAt}
-use Rattle.image.specs.Kinds.{Field, a-type, a-domain, an-op, a-truth, free, TypeKind, Kind, domain, type, term, Row, domainRow, typeRow, termRow, rowOf, kindOf}
-use Rattle.image.specs.Records.{Layout, kindAt, childrenAt}
-use Rattle.image.specs.Layout.{nothing, known, rightLength, isNil, inOrder, hasRoom, within, fieldsIn, inRange, sameType, isNew, tests, add, laid, walk, layout}
-use Rattle.image.specs.Types.{typePlace, typeKind, termKind}
-use Rattle.image.specs.LaidOut.{Below, EndToEnd, Stands, Within, IsRecord, SameType, LaidOut}
-use Rattle.image.proofs.Facts.{no-path, and-i, of-lt, of-le, eq-of, of-eq, each, of-each, all-below, below-all}
+use Rattle.image.specs.Tests.{firstFault}
+use Rattle.image.specs.Bytes.{lengthAt, numberAt}
+use Rattle.image.specs.Kinds.{in-domains, in-operations, in-truths, any-number, Field, a-type, own, free, a-term, an-entry, Kind, domain, type, term, domainRow, typeRow, termRow, rowOf, kindOf}
+use Rattle.image.specs.Records.{Layout, orElse, kindAt, fieldsAt, numbersAt}
+use Rattle.image.specs.Layout.{nothing, known, rightLength, isNil, inOrder, hasRoom, within, allWithin, inRange, sameType, isNew, tests, add, laid, walk, layout}
+use Rattle.image.specs.Types.{typeKindOf, typePlace, typeNumber, typeKind, typeFields, termKind}
+use Rattle.image.specs.LaidOut.{EndToEnd, Stands, Within, IsRecord, SameType, LaidOut}
+use Rattle.image.proofs.Facts.{no-path, and-i, of-lt, of-le, eq-of, of-eq, each, of-each, of-all}
 use Rattle.image.proofs.KindNumbers.{found}
-use Rattle.image.proofs.EveryKind.{type-childless}
 use Rattle.image.proofs.Fuel.{walk-fuel}
-use Rattle.image.proofs.Laid.{tests-passed, walk-reaches, layout-good}
+use Rattle.image.proofs.Laid.{same-numbers, numbers-same, tests-passed, walk-reaches, layout-good}
 
 -- There: the records of a walk stand end to end.
 abbrev listed : Layout → List ℕ → List ℕ
@@ -58,18 +57,19 @@ end-to-end b L h =
     let j = walk-reaches Joins (λ o K q g. join-one o K (kindAt (K .image) o) (tests-passed K o q .order) g) (length b) 0 (nothing b) L h (λ rest e. e) in
     rw append-nil at (j [] refl)
 
-same-type : (L : Layout) (t u : ℕ) → SameType L t u → sameType (L .image) (typeRow (typeKind L t)) (typePlace L t) (typePlace L u) ≡ true
-same-type L t u s = of-each _ (of-eq (s .0), (below-all _ _ (λ i l. of-eq (s .1 i l)), tt))
+-- Equal types, by their numbers: types of one number are of one kind.
+module _ (L : Layout) (t u : ℕ) where
+  one-kind : typeNumber L t ≡ typeNumber L u → numbersAt (L .image) (typePlace L u) (typeRow (typeKind L t)) ≡ typeFields L u
+  one-kind e = ap (λ n. numbersAt (L .image) (typePlace L u) (typeRow (typeKindOf (orElse (kindOf n) domain)))) e
 
-type-same : (b : List ℕ) (r : Row) (o p : ℕ) → sameType b r o p ≡ true → (numberAt b o ≡ numberAt b p) × ((i : ℕ) → i < length (r .fields) → fieldAt b o i ≡ fieldAt b p i)
-type-same b r o p h = let s = each _ h in (eq-of (s .0), λ i l. eq-of (all-below (length (r .fields)) (λ i. eqb (fieldAt b o i) (fieldAt b p i)) (s .1 .0) i l))
+  same-type : SameType L t u → sameType (L .image) (typeRow (typeKind L t)) (typePlace L t) (typePlace L u) ≡ true
+  same-type s = of-each _ (of-eq (s .0), (rw (one-kind (s .0), ← s .1) (same-numbers (typeFields L t)), tt))
 
-childless : (b : List ℕ) (r : Row) (o n : ℕ) → r .most ≡ 0 → Stands b r o → Below n (childrenAt b o r)
-childless b r o n z s = go (childrenAt b o r) (let m = s .most in omega arith)
-  where
-    go : (es : List ℕ) → length es ≡ 0 → Below n es
-    go [] h = tt
-    go (e ∷ es) h = absurd (omega arith)
+  type-same : sameType (L .image) (typeRow (typeKind L t)) (typePlace L t) (typePlace L u) ≡ true → SameType L t u
+  type-same h =
+      let s = each _ h in
+      let e : typeNumber L t ≡ typeNumber L u = eq-of (s .0) in
+      (e, numbers-same (typeFields L t) (numbersAt (L .image) (typePlace L u) (typeRow (typeKind L t))) (s .1 .0) ∙ one-kind e)
 
 walked-out : (b : List ℕ) (L : Layout) → layout b ≡ laid L → LaidOut L
 walked-out b L h =
@@ -80,8 +80,8 @@ walked-out b L h =
       few-types = g .few-types;
       few-terms = g .few-terms;
       domains = g .domains;
-      types = λ t l. let ok = g .types t l in record { stands = ok .stands; fields = ok .ranged; children = childless (L .image) (typeRow (typeKind L t)) (typePlace L t) 0 (type-childless (typeKind L t)) (ok .stands) };
-      terms = λ n l. let ok = g .terms n l in record { stands = ok .stands; fields = ok .ranged; children = ok .below };
+      types = λ t l. g .types t l .is;
+      terms = λ n l. g .terms n l .is;
       apart = λ t u l m s. no-path (sym (same-type L t u s) ∙ g .types t l .apart u m);
     }
 
@@ -92,32 +92,20 @@ record Follows (K : Layout) (o : ℕ) (k : Kind) : Type 0 where
   room : hasRoom k K ≡ true
   new : isNew k o K ≡ true
 
-of-within : (K : Layout) (f : Field) (v : ℕ) → Within (length (K .domains)) (length (K .types)) f v → within K f v ≡ true
+of-within : (K : Layout) (f : Field) (v : ℕ) → Within (length (K .domains)) (length (K .types)) (length (K .terms)) f v → within K f v ≡ true
 of-within K a-type v h = of-lt h
-of-within K a-domain v h = of-lt h
-of-within K an-op v h = of-le h
-of-within K a-truth v h = of-le h
-of-within K free v h = refl
+of-within K (own in-domains) v h = of-lt h
+of-within K (own in-operations) v h = of-lt h
+of-within K (own in-truths) v h = of-le h
+of-within K (own any-number) v h = refl
+of-within K (a-term b) v h = of-lt h
+of-within K an-entry v h = of-le h
 
-of-fields : (K : Layout) (o : ℕ) (fs : List Field) (i : ℕ)
-    → ((j : ℕ) → j < length fs → Within (length (K .domains)) (length (K .types)) (getD fs j free) (fieldAt (K .image) o (i + j))) → fieldsIn K o fs i ≡ true
-unfolding fieldsIn
-of-fields K o [] i h = refl
-of-fields K o (f ∷ fs) i h =
-    let z : i + 0 ≡ i = omega arith in
-    let here : within K f (fieldAt (K .image) o i) ≡ true = subst (λ m. within K f (fieldAt (K .image) o m) ≡ true) z (of-within K f _ (h 0 (omega arith))) in
-    and-i here
-    (of-fields K o fs (suc i) (λ j l. let q : i + suc j ≡ suc i + j = omega arith in subst (λ m. Within (length (K .domains)) (length (K .types)) (getD fs j free) (fieldAt (K .image) o m)) q (h (suc j) (omega arith))))
-
-of-below : (m : ℕ) (es : List ℕ) → Below m es → allOf (λ e. ltb e m) es ≡ true
-unfolding allOf
-of-below m [] b = refl
-of-below m (e ∷ es) b = and-i (of-lt (b .0)) (of-below m es (b .1))
-
-of-all : (ok : ℕ → Bool) (ns : List ℕ) → ((i : ℕ) → i < length ns → ok (getD ns i 0) ≡ true) → allOf ok ns ≡ true
-unfolding allOf
-of-all ok [] h = refl
-of-all ok (n ∷ ns) h = and-i (h 0 (omega arith)) (of-all ok ns (λ i l. h (suc i) (omega arith)))
+of-fields : (K : Layout) (fs : List Field) (vs : List ℕ) → ((i : ℕ) → i < length fs → Within (length (K .domains)) (length (K .types)) (length (K .terms)) (getD fs i free) (getD vs i 0)) → allWithin K fs vs ≡ true
+unfolding allWithin
+of-fields K [] vs h = refl
+of-fields K (f ∷ fs) [] h = refl
+of-fields K (f ∷ fs) (v ∷ vs) h = and-i (of-within K f v (h 0 (omega arith))) (of-fields K fs vs (λ i l. h (suc i) (omega arith)))
 
 pass : {A : Type 0} (a : A) (t : Bool) (ts : List (A × Bool)) → t ≡ true → firstFault ts ≡ none → firstFault ((a, t) ∷ ts) ≡ none
 unfolding firstFault
@@ -146,12 +134,9 @@ follows-passes K o k w =
     let q : k ≡ kindAt b o = sym (kind-at K o k w) in
     let w0 : o + 4 ≤ length b = omega arith in
     let w1 : 4 ≤ lengthAt b o = omega arith in
-    let r0 : 4 + 2 * (length (rowOf k .fields) + rowOf k .least) ≤ lengthAt b o = omega arith in
-    let r1 : lengthAt b o ≤ 4 + 2 * (length (rowOf k .fields) + rowOf k .most) = omega arith in
-    let r2 : lengthAt b o % 2 ≡ 0 = omega arith in
-    let right : rightLength (rowOf k) (lengthAt b o) ≡ true = of-each _ (of-le r0, (of-le r1, (of-eq r2, tt))) in
+    let right : rightLength (rowOf k) (lengthAt b o) ≡ true = of-each _ (of-le least, (of-le most, (of-eq size, tt))) in
     let there : known b o ≡ true = rw (kind-there K o k w) refl in
-    let range : inRange K o (rowOf k) ≡ true = of-each _ (of-fields K o (rowOf k .fields) 0 (λ j l. let z : j ≡ 0 + j = omega arith in subst (λ m. Within (length (K .domains)) (length (K .types)) (getD (rowOf k .fields) j free) (fieldAt b o m)) z (w .is .fields j l)), (of-below _ _ (w .is .children), tt)) in
+    let range : inRange K o (rowOf k) ≡ true = of-fields K (fieldsAt b o (rowOf k)) (numbersAt b o (rowOf k)) (w .is .fields) in
     pass _ _ _ (of-each _ (of-le w0, (of-le w1, (of-le inside, tt))))
     (pass _ _ _ there
     (pass _ _ _ (subst (λ j. rightLength (rowOf j) (lengthAt b o) ≡ true) q right)
@@ -224,7 +209,7 @@ module _ (L : Layout) (l : LaidOut L) where
           let s = seam (L .types) ys p rest e in
           let a : o ≡ typePlace L (length ys) = sym (s .0 ∙ j .0) in
           let c : getD ys u 0 ≡ typePlace L u = sym (List·getD-append ys (p ∷ rest) 0 u k) ∙ ap (λ xs. getD xs u 0) e in
-          let same : SameType L (length ys) u = type-same (L .image) (typeRow (typeKind L (length ys))) (typePlace L (length ys)) (typePlace L u) (subst (λ x. sameType (L .image) (typeRow (typeKind L (length ys))) x (typePlace L u) ≡ true) a (subst (λ x. sameType (L .image) (typeRow (typeKind L (length ys))) o x ≡ true) c q)) in
+          let same : SameType L (length ys) u = type-same L (length ys) u (subst (λ x. sameType (L .image) (typeRow (typeKind L (length ys))) x (typePlace L u) ≡ true) a (subst (λ x. sameType (L .image) (typeRow (typeKind L (length ys))) o x ≡ true) c q)) in
           absurd (l .apart (length ys) u (s .1) k same)
 
   walk-domains : (rest xs : List ℕ) (f o : ℕ) → xs ++ rest ≡ L .domains → EndToEnd (L .image) o (rest ++ (L .types ++ L .terms)) → length rest + (length (L .types) + length (L .terms)) ≤ f → walk f o (upto xs [] []) ≡ laid L
@@ -238,14 +223,14 @@ module _ (L : Layout) (l : LaidOut L) where
       let st : Stands (L .image) domainRow o = subst (λ q. Stands (L .image) domainRow q) (s .0 ∙ j .0) (l .domains (length xs) m) in
       follows-walks f o _ L domain
       (record {
-        is = record { stands = st; fields = λ i k. mask i k; children = childless (L .image) domainRow o 0 refl st };
+        is = record { stands = st; fields = λ i k. mask i k };
         order = of-each _ (refl, (refl, tt));
         room = of-lt room;
         new = refl;
       })
       (walk-domains rest (xs ++ (o ∷ [])) f _ (onward (L .domains) xs p o rest (j .0) e) (j .1) (omega arith))
     where
-      mask : (i : ℕ) → i < 1 → Within (length xs) 0 (getD (free ∷ []) i free) (fieldAt (L .image) o i)
+      mask : (i : ℕ) → i < 1 → Within (length xs) 0 0 (getD (free ∷ []) i free) (getD (numbersAt (L .image) o domainRow) i 0)
       mask zero k = tt
       mask (suc i) k = absurd (omega arith)
 

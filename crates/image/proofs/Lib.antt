@@ -4,6 +4,10 @@ pub mod Words
 pub mod KindNumbers
 pub mod EveryKind
 pub mod Laid
+pub mod Bodies
+pub mod Counts
+pub mod TermFields
+pub mod Offsets
 pub mod TypeNumbers
 pub mod Fuel
 pub mod LaidOut

@@ -24,7 +24,3 @@ fieldCount b o = (lengthAt b o - 4) / 2
 
 abbrev pub fieldAt : List ℕ → ℕ → ℕ → ℕ
 fieldAt b o i = le16 b (o + 4 + 2 * i)
-
--- n of its fields, from field i on.
-abbrev pub fieldsFrom : List ℕ → ℕ → ℕ → ℕ → List ℕ
-fieldsFrom b o i n = words b (o + 4 + 2 * i) n

@@ -1,18 +1,43 @@
--- The table of kinds: the section, the number, the fields and the children of each (document 01, "The image").
-use Prim.Native.Nat.{ℕ}
+-- The table of kinds: the section, the number and the fields of each, children among them (document 01, "The image").
+use Prim.Native.Nat.{ℕ, zero, suc}
 use mathlib.Core.Bool.{true, false}
-use mathlib.Core.List.{List, [], _∷_}
+use mathlib.Core.List.{List, [], _∷_, _++_}
 use mathlib.Core.Option.{Option, none, some}
+use lib.ListN.{getD}
 use lib.Dec.{eqb}
 use Rattle.image.specs.Limits.{pointcutLimit}
 
-pub data Field : Type 0 where
-  -- a type number (of a type: a lower one); a domain number; 0 to 3; 0 or 1; any number
-  a-type a-domain an-op a-truth free : Field
+-- What the number of a field may be that names neither a type nor a term: a domain; an operation, 0 to 3; 0 or 1; any number.
+pub data Range : Type 0 where
+  in-domains in-operations in-truths any-number : Range
 
--- Whether a child of a term stands elsewhere than the term, under more variables or at a domain of its own: a function's only child, the second of an advice, the second of a split, the only child of a lower.
+-- Where a child of a term stands: where the term itself does; or, as the body of a function, of an advice, of a split, of a lower, under more variables or at a domain of its own.
 pub data Body : Type 0 where
-  no-body function-body advice-body split-body lower-body : Body
+  here function-body advice-body split-body lower-body : Body
+
+pub data Field : Type 0 where
+  -- a type number (of a type: a lower one); a number of its own
+  a-type : Field
+  own : Range → Field
+  -- a lower term number, and where that term stands; 0, or a lower term number plus 1
+  a-term : Body → Field
+  an-entry : Field
+
+abbrev pub a-domain : Field
+a-domain = own in-domains
+
+abbrev pub an-op : Field
+an-op = own in-operations
+
+abbrev pub a-truth : Field
+a-truth = own in-truths
+
+abbrev pub free : Field
+free = own any-number
+
+-- A child that stands where its parent does.
+abbrev pub a-child : Field
+a-child = a-term here
 
 -- The kinds of each section.
 pub data TypeKind : Type 0 where
@@ -26,58 +51,57 @@ pub data Kind : Type 0 where
   type : TypeKind → Kind
   term : TermKind → Kind
 
--- A kind's number; its fields before its children; how many children follow, at least and at most; its body.
+-- A kind's number; its first fields; the group of fields that stands behind these again and again, at least and at most so often; its last fields.
 pub record Row : Type 0 where
   pub number : ℕ
-  pub fields : List Field
+  pub first : List Field
+  pub group : List Field
   pub least : ℕ
   pub most : ℕ
-  pub body : Body
+  pub last : List Field
 
-abbrev row : ℕ → List Field → ℕ → Row
-row n fs c = record { number = n; fields = fs; least = c; most = c; body = no-body }
-
-abbrev rowWith : Body → ℕ → List Field → ℕ → Row
-rowWith r n fs c = record { number = n; fields = fs; least = c; most = c; body = r }
+-- A kind without a group.
+abbrev row : ℕ → List Field → Row
+row n fs = record { number = n; first = fs; group = []; least = 0; most = 0; last = [] }
 
 abbrev pub domainRow : Row
-domainRow = row 1 (free ∷ []) 0
+domainRow = row 1 (free ∷ [])
 
 abbrev pub typeRow : TypeKind → Row
-typeRow TypeKind.unit = row 16 [] 0
-typeRow TypeKind.truth = row 17 [] 0
-typeRow TypeKind.number = row 18 [] 0
-typeRow TypeKind.pair = row 19 (a-type ∷ a-type ∷ []) 0
-typeRow TypeKind.fun = row 20 (a-type ∷ a-domain ∷ a-type ∷ []) 0
-typeRow TypeKind.ref = row 21 (a-type ∷ a-domain ∷ []) 0
-typeRow TypeKind.label = row 22 (a-type ∷ a-domain ∷ []) 0
-typeRow TypeKind.pcd = row 23 (a-type ∷ a-domain ∷ []) 0
-typeRow TypeKind.adv = row 24 (a-domain ∷ []) 0
+typeRow TypeKind.unit = row 16 []
+typeRow TypeKind.truth = row 17 []
+typeRow TypeKind.number = row 18 []
+typeRow TypeKind.pair = row 19 (a-type ∷ a-type ∷ [])
+typeRow TypeKind.fun = row 20 (a-type ∷ a-domain ∷ a-type ∷ [])
+typeRow TypeKind.ref = row 21 (a-type ∷ a-domain ∷ [])
+typeRow TypeKind.label = row 22 (a-type ∷ a-domain ∷ [])
+typeRow TypeKind.pcd = row 23 (a-type ∷ a-domain ∷ [])
+typeRow TypeKind.adv = row 24 (a-domain ∷ [])
 
 abbrev pub termRow : TermKind → Row
-termRow TermKind.unit = row 32 (a-type ∷ []) 0
-termRow TermKind.truth = row 33 (a-type ∷ a-truth ∷ []) 0
-termRow TermKind.number = row 34 (a-type ∷ free ∷ free ∷ []) 0
-termRow TermKind.var = row 35 (a-type ∷ free ∷ []) 0
-termRow TermKind.seq = row 36 (a-type ∷ []) 2
-termRow TermKind.print = row 37 (a-type ∷ []) 1
-termRow TermKind.ite = row 38 (a-type ∷ []) 3
-termRow TermKind.pair = row 39 (a-type ∷ []) 2
-termRow TermKind.split = rowWith split-body 40 (a-type ∷ []) 2
-termRow TermKind.fun = rowWith function-body 41 (a-type ∷ []) 1
-termRow TermKind.app = row 42 (a-type ∷ []) 2
-termRow TermKind.arith = row 43 (a-type ∷ an-op ∷ []) 2
-termRow TermKind.newLabel = row 44 (a-type ∷ []) 0
-termRow TermKind.mark = row 45 (a-type ∷ []) 2
-termRow TermKind.pcd = record { number = 46; fields = a-type ∷ []; least = 0; most = pointcutLimit; body = no-body }
-termRow TermKind.adv = rowWith advice-body 47 (a-type ∷ []) 2
-termRow TermKind.install = row 48 (a-type ∷ []) 1
-termRow TermKind.newCell = row 49 (a-type ∷ []) 1
-termRow TermKind.read = row 50 (a-type ∷ []) 1
-termRow TermKind.store = row 51 (a-type ∷ []) 2
-termRow TermKind.lower = rowWith lower-body 52 (a-type ∷ a-domain ∷ []) 1
-termRow TermKind.abort = row 53 (a-type ∷ []) 0
-termRow TermKind.byte = row 60 (a-type ∷ []) 1
+termRow TermKind.unit = row 32 (a-type ∷ [])
+termRow TermKind.truth = row 33 (a-type ∷ a-truth ∷ [])
+termRow TermKind.number = row 34 (a-type ∷ free ∷ free ∷ [])
+termRow TermKind.var = row 35 (a-type ∷ free ∷ [])
+termRow TermKind.seq = row 36 (a-type ∷ a-child ∷ a-child ∷ [])
+termRow TermKind.print = row 37 (a-type ∷ a-child ∷ [])
+termRow TermKind.ite = row 38 (a-type ∷ a-child ∷ a-child ∷ a-child ∷ [])
+termRow TermKind.pair = row 39 (a-type ∷ a-child ∷ a-child ∷ [])
+termRow TermKind.split = row 40 (a-type ∷ a-child ∷ a-term split-body ∷ [])
+termRow TermKind.fun = row 41 (a-type ∷ a-term function-body ∷ [])
+termRow TermKind.app = row 42 (a-type ∷ a-child ∷ a-child ∷ [])
+termRow TermKind.arith = row 43 (a-type ∷ an-op ∷ a-child ∷ a-child ∷ [])
+termRow TermKind.newLabel = row 44 (a-type ∷ [])
+termRow TermKind.mark = row 45 (a-type ∷ a-child ∷ a-child ∷ [])
+termRow TermKind.pcd = record { number = 46; first = a-type ∷ []; group = a-child ∷ []; least = 0; most = pointcutLimit; last = [] }
+termRow TermKind.adv = row 47 (a-type ∷ a-child ∷ a-term advice-body ∷ [])
+termRow TermKind.install = row 48 (a-type ∷ a-child ∷ [])
+termRow TermKind.newCell = row 49 (a-type ∷ a-child ∷ [])
+termRow TermKind.read = row 50 (a-type ∷ a-child ∷ [])
+termRow TermKind.store = row 51 (a-type ∷ a-child ∷ a-child ∷ [])
+termRow TermKind.lower = row 52 (a-type ∷ a-domain ∷ a-term lower-body ∷ [])
+termRow TermKind.abort = row 53 (a-type ∷ [])
+termRow TermKind.byte = row 60 (a-type ∷ a-child ∷ [])
 
 abbrev pub rowOf : Kind → Row
 rowOf domain = domainRow
@@ -102,3 +126,33 @@ find n (k ∷ ks) = elim (eqb (rowOf k .number) n) [ true ↦ some k | false ↦
 -- The kind of a number, if it is one.
 abbrev pub kindOf : ℕ → Option Kind
 kindOf n = find n kinds
+
+-- The fields of a record of the row r in which the group stands n times.
+abbrev pub again : ℕ → List Field → List Field
+again zero fs = []
+again (suc n) fs = fs ++ again n fs
+
+abbrev pub fieldsOf : Row → ℕ → List Field
+fieldsOf r n = r .first ++ (again n (r .group) ++ r .last)
+
+-- Where the children among some fields stand, and where child i of a term of kind k does: behind the first fields' children come those of the group, which are all alike.
+abbrev pub bodies : List Field → List Body
+bodies [] = []
+bodies (a-type ∷ fs) = bodies fs
+bodies (own r ∷ fs) = bodies fs
+bodies (a-term b ∷ fs) = b ∷ bodies fs
+bodies (an-entry ∷ fs) = here ∷ bodies fs
+
+abbrev pub bodyOf : TermKind → ℕ → Body
+bodyOf k i = getD (bodies (termRow k .first)) i (getD (bodies (termRow k .group)) 0 here)
+
+-- How many fields stand before the first child of a term.
+abbrev pub lead : List Field → ℕ
+lead [] = 0
+lead (a-type ∷ fs) = suc (lead fs)
+lead (own r ∷ fs) = suc (lead fs)
+lead (a-term b ∷ fs) = 0
+lead (an-entry ∷ fs) = 0
+
+abbrev pub leadOf : TermKind → ℕ
+leadOf k = lead (termRow k .first)

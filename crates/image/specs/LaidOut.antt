@@ -3,48 +3,44 @@ use Prim.Native.Nat.{ℕ, _+_, _*_, _≤_, _<_}
 use mathlib.Core.Path.{_≡_}
 use mathlib.Core.List.{List, [], _∷_, _++_}
 use lib.ListN.{length, getD}
-use Rattle.image.specs.Limits.{domainLimit, typeLimit, termLimit}
-use Rattle.image.specs.Bytes.{lengthAt, numberAt, fieldAt}
-use Rattle.image.specs.Kinds.{Field, a-type, a-domain, an-op, a-truth, free, Row, domainRow, typeRow, termRow}
-use Rattle.image.specs.Records.{Layout, childrenAt}
-use Rattle.image.specs.Types.{domainPlace, typePlace, termPlace, typeNumber, typeKind, typeField, termKind}
-
--- Each number of a list is below n.
-abbrev pub Below : ℕ → List ℕ → Type 0
-Below n [] = Unit {0}
-Below n (e ∷ es) = (e < n) × Below n es
+use Rattle.image.specs.Limits.{domainLimit, typeLimit, termLimit, operationCount}
+use Rattle.image.specs.Bytes.{lengthAt, numberAt}
+use Rattle.image.specs.Kinds.{in-domains, in-operations, in-truths, any-number, Field, a-type, own, free, a-term, an-entry, Row, domainRow, typeRow, termRow}
+use Rattle.image.specs.Records.{Layout, times, fieldsAt, numbersAt}
+use Rattle.image.specs.Types.{domainPlace, typePlace, termPlace, typeNumber, typeKind, typeFields, termKind}
 
 -- "Records stand end to end": the first at o, each next one where the one before it ends, and behind the last no byte is left.
 abbrev pub EndToEnd : List ℕ → ℕ → List ℕ → Type 0
 EndToEnd b o [] = o ≡ length b
 EndToEnd b o (p ∷ ps) = (p ≡ o) × EndToEnd b (o + lengthAt b o) ps
 
--- The record at o is whole (2), has the row r's number (3), and the length that its fields and children take (4).
+-- The record at o is whole (2), has the row r's number (3), and the length that its fields take, the group standing as often as it may (4).
 pub record Stands (b : List ℕ) (r : Row) (o : ℕ) : Type 0 where
   pub number : numberAt b o ≡ r .number
   pub inside : o + lengthAt b o ≤ length b
-  pub size : lengthAt b o ≡ 4 + 2 * (length (r .fields) + length (childrenAt b o r))
-  pub least : r .least ≤ length (childrenAt b o r)
-  pub most : length (childrenAt b o r) ≤ r .most
+  pub size : lengthAt b o ≡ 4 + 2 * length (fieldsAt b o r)
+  pub least : r .least ≤ times r (lengthAt b o)
+  pub most : times r (lengthAt b o) ≤ r .most
 
--- The range of a field where there are so many domains, and so many types that it may name.
-abbrev pub Within : ℕ → ℕ → Field → ℕ → Type 0
-Within domains types a-type v = v < types
-Within domains types a-domain v = v < domains
-Within domains types an-op v = v ≤ 3
-Within domains types a-truth v = v ≤ 1
-Within domains types free v = Unit {0}
+-- The range of a field where there are so many domains, and so many types and terms that it may name.
+abbrev pub Within : ℕ → ℕ → ℕ → Field → ℕ → Type 0
+Within domains types terms a-type v = v < types
+Within domains types terms (own in-domains) v = v < domains
+Within domains types terms (own in-operations) v = v < operationCount
+Within domains types terms (own in-truths) v = v ≤ 1
+Within domains types terms (own any-number) v = Unit {0}
+Within domains types terms (a-term b) v = v < terms
+Within domains types terms an-entry v = v ≤ terms
 
--- Such a record, with its fields in their ranges and its children below so many terms (7).
+-- Such a record, with its fields, children among them, in their ranges (7).
 pub record IsRecord (b : List ℕ) (r : Row) (o domains types terms : ℕ) : Type 0 where
   pub stands : Stands b r o
-  pub fields : (i : ℕ) → i < length (r .fields) → Within domains types (getD (r .fields) i free) (fieldAt b o i)
-  pub children : Below terms (childrenAt b o r)
+  pub fields : (i : ℕ) → i < length (fieldsAt b o r) → Within domains types terms (getD (fieldsAt b o r) i free) (getD (numbersAt b o r) i 0)
 
 module _ (L : Layout) where
   -- Types t and u are equal: of one kind, with the same fields.
   abbrev pub SameType : ℕ → ℕ → Type 0
-  SameType t u = (typeNumber L t ≡ typeNumber L u) × ((i : ℕ) → i < length (typeRow (typeKind L t) .fields) → typeField L t i ≡ typeField L u i)
+  SameType t u = (typeNumber L t ≡ typeNumber L u) × (typeFields L t ≡ typeFields L u)
 
   pub record LaidOut : Type 0 where
     -- "Three sections in order: domains, types, terms" (2, 5).

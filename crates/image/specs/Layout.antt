@@ -1,15 +1,16 @@
 -- The layout of an image: the walk over its records, front to back, with the refusals 2 to 8 (document 01, "Turned back at the gate").
-use Prim.Native.Nat.{ℕ, zero, suc, _+_, _*_, _%_}
+use Prim.Native.Nat.{ℕ, zero, suc, _+_, _*_}
 use mathlib.Core.Bool.{Bool, true, false, not, _&&_}
 use mathlib.Core.List.{List, [], _∷_, _++_}
 use mathlib.Core.Option.{Option, none, some}
 use lib.ListN.{length}
 use lib.Dec.{eqb, ltb, leb}
 use Rattle.image.specs.declared.Refusal.{Refusal}
-use Rattle.image.specs.Limits.{domainLimit, typeLimit, termLimit}
-use Rattle.image.specs.Tests.{all, allOf, allBelow, firstFault}
-use Rattle.image.specs.Bytes.{lengthAt, numberAt, fieldAt}
-use Rattle.image.specs.Kinds.{Field, a-type, a-domain, an-op, a-truth, free, Kind, domain, type, term, Row, typeRow, rowOf, kindOf}
+use Rattle.image.specs.Limits.{domainLimit, typeLimit, termLimit, operationCount}
+use Rattle.image.specs.Tests.{all, allOf, firstFault}
+use Rattle.image.specs.Bytes.{lengthAt, numberAt}
+use Rattle.image.specs.Kinds.{in-domains, in-operations, in-truths, any-number, Field, a-type, own, a-term, an-entry, Kind, domain, type, term, Row, typeRow, rowOf, kindOf, fieldsOf}
+use Rattle.image.specs.Records.{times, fieldsAt, numbersAt}
 pub use Rattle.image.specs.Records.{Layout, orElse, kindAt, childrenAt}
 
 -- Before the walk: no records yet.
@@ -28,12 +29,11 @@ framed b o = all (leb (o + 4) (length b) ∷ leb 4 (lengthAt b o) ∷ leb (o + l
 abbrev pub known : List ℕ → ℕ → Bool
 known b o = isSome (kindOf (numberAt b o))
 
--- 4: the length n is 4, and 2 for each field and child.
+-- 4: the length n is 4, and 2 for each field, the group standing as often as it may.
 abbrev pub rightLength : Row → ℕ → Bool
 rightLength r n =
-    let least : ℕ = 4 + 2 * (length (r .fields) + r .least) in
-    let most : ℕ = 4 + 2 * (length (r .fields) + r .most) in
-    all (leb least n ∷ leb n most ∷ eqb (n % 2) 0 ∷ [])
+    let c : ℕ = times r n in
+    all (leb (r .least) c ∷ leb c (r .most) ∷ eqb n (4 + 2 * length (fieldsOf r c)) ∷ [])
 
 -- 5: no record stands behind one of a later section.
 abbrev pub isNil : List ℕ → Bool
@@ -54,21 +54,30 @@ hasRoom (term k) L = ltb (length (L .terms)) termLimit
 -- 7: each field is in its range, the records so far being L's: so a type's parts are lower types, and a term's children lower terms.
 abbrev pub within : Layout → Field → ℕ → Bool
 within L a-type v = ltb v (length (L .types))
-within L a-domain v = ltb v (length (L .domains))
-within L an-op v = leb v 3
-within L a-truth v = leb v 1
-within L free v = true
+within L (own in-domains) v = ltb v (length (L .domains))
+within L (own in-operations) v = ltb v operationCount
+within L (own in-truths) v = leb v 1
+within L (own any-number) v = true
+within L (a-term b) v = ltb v (length (L .terms))
+within L an-entry v = leb v (length (L .terms))
 
-unfoldable pub fieldsIn : Layout → ℕ → List Field → ℕ → Bool
-fieldsIn L o [] i = true
-fieldsIn L o (f ∷ fs) i = within L f (fieldAt (L .image) o i) && fieldsIn L o fs (suc i)
+unfoldable pub allWithin : Layout → List Field → List ℕ → Bool
+allWithin L [] vs = true
+allWithin L (f ∷ fs) [] = true
+allWithin L (f ∷ fs) (v ∷ vs) = within L f v && allWithin L fs vs
 
 abbrev pub inRange : Layout → ℕ → Row → Bool
-inRange L o r = all (fieldsIn L o (r .fields) 0 ∷ allOf (λ e. ltb e (length (L .terms))) (childrenAt (L .image) o r) ∷ [])
+inRange L o r = allWithin L (fieldsAt (L .image) o r) (numbersAt (L .image) o r)
 
 -- 8: the type at o, of a kind with the row r, is equal to none before it; equal types have the same kind and the same fields.
+abbrev pub sameNumbers : List ℕ → List ℕ → Bool
+sameNumbers [] [] = true
+sameNumbers [] (w ∷ ws) = false
+sameNumbers (v ∷ vs) [] = false
+sameNumbers (v ∷ vs) (w ∷ ws) = eqb v w && sameNumbers vs ws
+
 abbrev pub sameType : List ℕ → Row → ℕ → ℕ → Bool
-sameType b r o p = all (eqb (numberAt b o) (numberAt b p) ∷ allBelow (length (r .fields)) (λ i. eqb (fieldAt b o i) (fieldAt b p i)) ∷ [])
+sameType b r o p = all (eqb (numberAt b o) (numberAt b p) ∷ sameNumbers (numbersAt b o r) (numbersAt b p r) ∷ [])
 
 abbrev pub isNew : Kind → ℕ → Layout → Bool
 isNew domain o L = true

@@ -8,4 +8,5 @@ pub mod Records
 pub mod Types
 pub mod LaidOut
 pub mod Program
+pub mod TermFields
 pub mod Layout

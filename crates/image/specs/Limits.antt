@@ -22,6 +22,10 @@ depthLimit = 64
 abbrev pub pointcutLimit : ℕ
 pointcutLimit = 8
 
+-- The operations of arithmetic: plus, minus, less, equal.
+abbrev pub operationCount : ℕ
+operationCount = 4
+
 -- The published length of the work area (3,905 words of 8 bytes and 513 single bytes), and the length that every report fits in.
 abbrev pub workLength : ℕ
 workLength = 31753

@@ -7,7 +7,7 @@ use lib.ListN.{length, getD}
 use lib.Dec.{eqb}
 use Rattle.calculus.specs.Syntax.{Dom, Ty, Val, Tm, Tms, Op2, val, var, lam, op0, op1, op2, seq, ite, split, pcd, adv, lower, newLabel, abort, print, install, read, byte, newCell, app, mark, store, plus, minus, less, equal}
 use Rattle.calculus.specs.Plain.{domOf}
-use Rattle.image.specs.Kinds.{Body, no-body, function-body, advice-body, split-body, lower-body, TermKind, termRow}
+use Rattle.image.specs.Kinds.{Body, here, function-body, advice-body, split-body, lower-body, TermKind, bodyOf}
 use Rattle.image.specs.Records.{Layout}
 use Rattle.image.specs.Types.{termKind, statedType, others, children, rootOf}
 
@@ -81,12 +81,11 @@ unfoldable mutual
   toTms end = Tms.end
   toTms (more e es) = Tms.more (toTm e) (toTms es)
 
--- The domain that child i of a term has of its own, if it has one: a body of function or advice its type's p, a body of lower its field p.
+-- The domain that child i of a term of type t has of its own, if it has one: a body of function or advice its type's p, a body of lower its field p.
 abbrev pub ownDomain : Body → Ty → List ℕ → ℕ → Option Dom
-ownDomain no-body t vs i = none
+ownDomain here t vs i = none
 ownDomain function-body t vs i = some (domOf t)
-ownDomain advice-body t vs zero = none
-ownDomain advice-body t vs (suc i) = some (domOf t)
+ownDomain advice-body t vs i = some (domOf t)
 ownDomain split-body t vs i = none
 ownDomain lower-body t vs i = some (getD vs 0 0)
 
@@ -97,7 +96,7 @@ module _ (high : Dom → Bool) where
 
   -- "A low body is the body of a function or advice whose type's p is low, or of a lower whose field p is low": whether child i is one.
   abbrev pub lowBody : TermKind → Ty → List ℕ → ℕ → Bool
-  lowBody k t vs i = isLow (ownDomain (termRow k .body) t vs i)
+  lowBody k t vs i = isLow (ownDomain (bodyOf k i) t vs i)
 
   -- "Every low body, with all inside it, gives way to one and the same blank." low says of each child, from the left, whether it is a low body.
   unfoldable mutual

@@ -5,9 +5,9 @@ use mathlib.Core.List.{List}
 use lib.ListN.{length, getD}
 use lib.Dec.{eqb}
 use Rattle.calculus.specs.Syntax.{Dom, Ty}
-use Rattle.image.specs.Bytes.{numberAt, fieldAt, fieldsFrom}
+use Rattle.image.specs.Bytes.{numberAt, fieldAt}
 use Rattle.image.specs.Kinds.{TypeKind, TermKind, Kind, domain, type, term, typeRow, termRow}
-use Rattle.image.specs.Records.{Layout, kindAt, childrenAt}
+use Rattle.image.specs.Records.{Layout, kindAt, numbersAt, childrenAt, othersAt}
 
 abbrev pub typeKindOf : Kind → TypeKind
 typeKindOf domain = TypeKind.unit
@@ -30,15 +30,18 @@ module _ (L : Layout) where
   abbrev pub termPlace : ℕ → ℕ
   termPlace n = getD (L .terms) n 0
 
-  -- Type t: its kind's number, its kind, its field i.
+  -- Type t: its kind's number, its kind, its fields, its field i.
   abbrev pub typeNumber : ℕ → ℕ
   typeNumber t = numberAt (L .image) (typePlace t)
 
   abbrev pub typeKind : ℕ → TypeKind
   typeKind t = typeKindOf (kindAt (L .image) (typePlace t))
 
+  abbrev pub typeFields : ℕ → List ℕ
+  typeFields t = numbersAt (L .image) (typePlace t) (typeRow (typeKind t))
+
   abbrev pub typeField : ℕ → ℕ → ℕ
-  typeField t i = fieldAt (L .image) (typePlace t) i
+  typeField t i = getD (typeFields t) i 0
 
   -- Type t is of kind k.
   abbrev pub isType : TypeKind → ℕ → Bool
@@ -52,7 +55,7 @@ module _ (L : Layout) where
   typeNo n = fieldAt (L .image) (termPlace n) 0
 
   abbrev pub others : ℕ → List ℕ
-  others n = fieldsFrom (L .image) (termPlace n) 1 (length (termRow (termKind n) .fields) - 1)
+  others n = othersAt (L .image) (termPlace n) (termRow (termKind n))
 
   abbrev pub children : ℕ → List ℕ
   children n = childrenAt (L .image) (termPlace n) (termRow (termKind n))
@@ -61,22 +64,22 @@ module _ (L : Layout) where
   abbrev pub rootOf : ℕ
   rootOf = length (L .terms) - 1
 
--- A type of a kind, with the fields f, its parts written out by g.
-unfoldable pub typeOut : TypeKind → (ℕ → ℕ) → (ℕ → Ty) → Ty
-typeOut TypeKind.unit f g = Ty.unit
-typeOut TypeKind.truth f g = Ty.truth
-typeOut TypeKind.number f g = Ty.number
-typeOut TypeKind.pair f g = Ty.pair (g (f 0)) (g (f 1))
-typeOut TypeKind.fun f g = Ty.fun (g (f 0)) (f 1) (g (f 2))
-typeOut TypeKind.ref f g = Ty.ref (g (f 0)) (f 1)
-typeOut TypeKind.label f g = Ty.label (g (f 0)) (f 1)
-typeOut TypeKind.pcd f g = Ty.pcd (g (f 0)) (f 1)
-typeOut TypeKind.adv f g = Ty.adv (f 0)
+-- A type of a kind, with the fields vs, its parts written out by g.
+unfoldable pub typeOut : TypeKind → List ℕ → (ℕ → Ty) → Ty
+typeOut TypeKind.unit vs g = Ty.unit
+typeOut TypeKind.truth vs g = Ty.truth
+typeOut TypeKind.number vs g = Ty.number
+typeOut TypeKind.pair vs g = Ty.pair (g (getD vs 0 0)) (g (getD vs 1 0))
+typeOut TypeKind.fun vs g = Ty.fun (g (getD vs 0 0)) (getD vs 1 0) (g (getD vs 2 0))
+typeOut TypeKind.ref vs g = Ty.ref (g (getD vs 0 0)) (getD vs 1 0)
+typeOut TypeKind.label vs g = Ty.label (g (getD vs 0 0)) (getD vs 1 0)
+typeOut TypeKind.pcd vs g = Ty.pcd (g (getD vs 0 0)) (getD vs 1 0)
+typeOut TypeKind.adv vs g = Ty.adv (getD vs 0 0)
 
 -- A type's parts have lower numbers, so a fuel of t + 1 is enough.
 unfoldable pub typeFrom : Layout → ℕ → ℕ → Ty
 typeFrom L zero t = Ty.unit
-typeFrom L (suc f) t = typeOut (typeKind L t) (λ i. typeField L t i) (λ a. typeFrom L f a)
+typeFrom L (suc f) t = typeOut (typeKind L t) (typeFields L t) (λ a. typeFrom L f a)
 
 -- Type number t written out in full.
 unfoldable pub typeOf : Layout → ℕ → Ty

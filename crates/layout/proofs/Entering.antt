@@ -1,5 +1,5 @@
 -- One record of the walk: each way that it ends leaves the tables as the definition says.
-use Prim.Native.Nat.{ℕ, _+_, _-_, _<_}
+use Prim.Native.Nat.{ℕ, _+_, _-_, _*_, _≤_, _<_}
 use native.Mathlib.Omega.{arith}
 use mathlib.Core.Path.{_≡_, refl, sym, ap, _∙_}
 use mathlib.Core.Bool.{Bool, true, false}
@@ -11,35 +11,32 @@ use Rattle.image.specs.Limits.{domainLimit, typeLimit, termLimit}
 use Rattle.image.specs.Tests.{firstFault}
 use Rattle.image.specs.Bytes.{numberAt}
 use Rattle.image.specs.Kinds.{TypeKind, TermKind, Kind, domain, type, term, rowOf, kindOf}
-use Rattle.image.specs.Layout.{Layout, kindAt, isNew, tests, add}
+use Rattle.image.specs.Records.{Layout, kindAt, fieldsAt}
+use Rattle.image.specs.Layout.{isNew, tests, add}
 use Rattle.image.specs.Layout as Image
 use Rattle.image.proofs.Facts.{no-path, lt-of, of-eq, each, passed}
 use Rattle.records.specs.declared.numbers.Counts.{Counts}
 use Rattle.records.specs.Counts.{withDomain, withType, withTerm}
-use Rattle.records.specs.Codes.{sectionNumber, sectionOf, countOf, classesOf, codeAt}
+use Rattle.records.specs.Codes.{sectionNumber, countOf, classesOf, sectionOf, firstOf, codeAt}
 use Rattle.records.specs.Keys.{Key}
 use Rattle.records.proofs.Codes.{Packs, known-code, unknown-code, kind-small}
+use Rattle.records.proofs.Keys.{type-fields}
 use Rattle.records.proofs.Heads.{Whole, whole-of}
 use Rattle.records.proofs.Parts.{part-length}
 use Rattle.layout.specs.declared.Entry.{Entry}
 use Rattle.layout.specs.declared.tests.Tested.{Tested}
 use Rattle.layout.specs.Fields.{Narrow, KeyFrom, rangesFrom}
-use Rattle.layout.specs.Numbers.{lengthFits, roomFits, newKey, numberTests, toldOf}
+use Rattle.layout.specs.Numbers.{lengthFits, Held, roomFits, newKey, numberTests, toldOf}
 use Rattle.layout.specs.Tables.{layoutOf, Tables, Filters, PutType, entering, Entering, Entered}
-use Rattle.layout.proofs.Numbers.{fits-count, not-repeated, old-key, new-key}
+use Rattle.layout.proofs.Numbers.{fits-held, not-repeated, old-key, new-key}
 use Rattle.layout.proofs.Filter.{filters-more}
 use Rattle.layout.proofs.Parts.{key-part}
-use Rattle.layout.proofs.Narrow.{narrow}
+use Rattle.layout.proofs.Narrow.{type-lead, type-first, narrow}
 use Rattle.layout.proofs.Sections.{new-law}
 use Rattle.layout.proofs.Kept.{type-count, domain-count, term-count, domain-more, term-more, type-more, domain-kept, term-kept, type-kept}
 use Rattle.layout.proofs.Steps.{orElse, unknown, known-law}
 
 -- The section tells the sort of kind.
-is-domain : (K : Kind) → sectionNumber K ≡ 1 → K ≡ domain
-is-domain domain e = refl
-is-domain (type k) e = absurd (omega arith)
-is-domain (term k) e = absurd (omega arith)
-
 pub record IsType (K : Kind) : Type 0 where
   pub kind : TypeKind
   pub is : K ≡ type kind
@@ -53,10 +50,15 @@ pub record IsTerm (K : Kind) : Type 0 where
   pub kind : TermKind
   pub is : K ≡ term kind
 
-is-term : (K : Kind) → (sectionNumber K ≡ 1 → ⊥) → (sectionNumber K ≡ 2 → ⊥) → IsTerm K
-is-term domain a b = absurd (a refl)
-is-term (type k) a b = absurd (b refl)
-is-term (term k) a b = record { kind = k; is = refl }
+is-term : (K : Kind) → sectionNumber K ≡ 3 → IsTerm K
+is-term domain e = absurd (omega arith)
+is-term (type k) e = absurd (omega arith)
+is-term (term k) e = record { kind = k; is = refl }
+
+is-domain : (K : Kind) → (sectionNumber K ≡ 3 → ⊥) → (sectionNumber K ≡ 2 → ⊥) → K ≡ domain
+is-domain domain a b = refl
+is-domain (type k) a b = absurd (b refl)
+is-domain (term k) a b = absurd (a refl)
 
 module _ {b fs kinds : List ℕ} {o q k : ℕ} {n : Counts} {ds ts ks : List ℕ} {rs : List Bool} {es : List ℕ} (R : Entering b fs kinds o q k n ds ts ks rs es) where
   pub entry : Whole b o q k
@@ -113,7 +115,7 @@ module _ {b fs kinds : List ℕ} {o q k : ℕ} {n : Counts} {ds ts ks : List ℕ
     pub room : roomFits (sectionOf (codeAt k)) n ≡ true
     room = passed _ _ _ (passed _ _ _ (passed _ _ _ (sym h) .1) .1) .0
 
-    ranges : rangesFrom (countOf (codeAt k)) (classesOf (codeAt k)) fs n 0 ≡ true
+    ranges : rangesFrom (firstOf (codeAt k)) (classesOf (codeAt k)) fs n 0 ≡ true
     ranges = each _ (passed _ _ _ (passed _ _ _ (passed _ _ _ (passed _ _ _ (sym h) .1) .1) .1) .0) .0
 
     -- What is left is 8.
@@ -135,7 +137,14 @@ module _ {b fs kinds : List ℕ} {o q k : ℕ} {n : Counts} {ds ts ks : List ℕ
     kind-narrow = let K = known-kind u in let l = kind-small (numberAt b o) (K .kind) (K .is) in omega (arith, entry .kind)
 
     pub fields-narrow : sectionOf (codeAt k) ≡ 2 → Narrow fs (countOf (codeAt k))
-    fields-narrow s = let t = known-type s in let P = packs (type (t .kind)) (t .is) in narrow fs n (R .tables .few) (t .kind) _ _ (P .count) (P .classes) ranges
+    fields-narrow s = let t = known-type s in narrow fs n (R .tables .few) (t .kind) (codeAt k) (packs (type (t .kind)) (t .is)) ranges
+
+    -- The fields hold the kind's, those of a type among them.
+    pub held : Held (codeAt k) (length fs)
+    held = fits-held (codeAt k) (length fs) (rw (← full) at fits)
+
+    pub type-held : sectionOf (codeAt k) ≡ 2 → 2 * countOf (codeAt k) ≤ length fs
+    type-held s = let t = known-type s in let P = packs (type (t .kind)) (t .is) in let e = P .count ∙ (type-first (t .kind) ∙ sym (P .first)) in let h = held in omega arith
 
     at-kind : (K : Kind) → kindOf (numberAt b o) ≡ some K → kindAt b o ≡ K
     at-kind K e = ap (λ x. Image.orElse x domain) e
@@ -154,30 +163,28 @@ module _ {b fs kinds : List ℕ} {o q k : ℕ} {n : Counts} {ds ts ks : List ℕ
     room-at : (s : ℕ) → sectionOf (codeAt k) ≡ s → roomFits s n ≡ true
     room-at s e = ap (λ x. roomFits x n) (sym e) ∙ room
 
-    pub domain-room : sectionOf (codeAt k) ≡ 1 → n .domains < domainLimit
-    domain-room e = lt-of (room-at 1 e)
+    -- A record of neither section 3 nor section 2 is a domain's.
+    known-domain : (sectionOf (codeAt k) ≡ 3 → ⊥) → (sectionOf (codeAt k) ≡ 2 → ⊥) → kindOf (numberAt b o) ≡ some domain
+    known-domain a c = let K = known-kind u in let P = packs (K .kind) (K .is) in K .is ∙ ap some (is-domain (K .kind) (λ e. a (P .section ∙ e)) (λ e. c (P .section ∙ e)))
+
+    pub domain-room : (sectionOf (codeAt k) ≡ 3 → ⊥) → (sectionOf (codeAt k) ≡ 2 → ⊥) → n .domains < domainLimit
+    domain-room a c = lt-of (room-at 1 (packs domain (known-domain a c) .section))
 
     pub type-room : sectionOf (codeAt k) ≡ 2 → n .types < typeLimit
     type-room e = lt-of (room-at 2 e)
 
-    pub term-room : (sectionOf (codeAt k) ≡ 1 → ⊥) → (sectionOf (codeAt k) ≡ 2 → ⊥) → n .terms < termLimit
-    term-room a c = let K = known-kind u in let P = packs (K .kind) (K .is) in let t = is-term (K .kind) (λ e. a (P .section ∙ e)) (λ e. c (P .section ∙ e)) in lt-of (room-at 3 (P .section ∙ ap sectionNumber (t .is)))
+    pub term-room : sectionOf (codeAt k) ≡ 3 → n .terms < termLimit
+    term-room e = lt-of (room-at 3 e)
 
-    pub domain-entry : sectionOf (codeAt k) ≡ 1 → Entered (Entry.Laid (withDomain n)) b o n ds ts es (set ds (n .domains) o) ts ks rs es
-    domain-entry s =
-        let K = known-kind u in
-        let P = packs (K .kind) (K .is) in
-        let e : kindOf (numberAt b o) ≡ some domain = K .is ∙ ap some (is-domain (K .kind) (sym (P .section) ∙ s)) in
-        let m = domain-room s in
-        enters domain e refl (withDomain n) _ ts ks rs es (domain-more (R .tables) o m) (domain-kept (R .tables) o m) (R .filter)
+    pub domain-entry : (sectionOf (codeAt k) ≡ 3 → ⊥) → (sectionOf (codeAt k) ≡ 2 → ⊥) → Entered (Entry.Laid (withDomain n)) b o n ds ts es (set ds (n .domains) o) ts ks rs es
+    domain-entry a c = let m = domain-room a c in enters domain (known-domain a c) refl (withDomain n) _ ts ks rs es (domain-more (R .tables) o m) (domain-kept (R .tables) o m) (R .filter)
 
-    pub term-entry : (sectionOf (codeAt k) ≡ 1 → ⊥) → (sectionOf (codeAt k) ≡ 2 → ⊥) → Entered (Entry.Laid (withTerm n)) b o n ds ts es ds ts ks rs (set es (n .terms) o)
-    term-entry a c =
+    pub term-entry : sectionOf (codeAt k) ≡ 3 → Entered (Entry.Laid (withTerm n)) b o n ds ts es ds ts ks rs (set es (n .terms) o)
+    term-entry s =
         let K = known-kind u in
-        let P = packs (K .kind) (K .is) in
-        let t = is-term (K .kind) (λ e. a (P .section ∙ e)) (λ e. c (P .section ∙ e)) in
+        let t = is-term (K .kind) (sym (packs (K .kind) (K .is) .section) ∙ s) in
         let e : kindOf (numberAt b o) ≡ some (term (t .kind)) = K .is ∙ ap some (t .is) in
-        let m = term-room a c in
+        let m = term-room s in
         enters (term (t .kind)) e refl (withTerm n) ds ts ks rs _ (term-more (R .tables) o (t .kind) m) (term-kept (R .tables) o (t .kind) m) (R .filter)
 
     -- A type, whose key is x.
@@ -187,9 +194,13 @@ module _ {b fs kinds : List ℕ} {o q k : ℕ} {n : Counts} {ds ts ks : List ℕ
 
       key-is : Key b o x
       key-is =
-          let l = fits-count (codeAt k) q fits in
+          let K = type-is .kind in
           let e = type-is .is in
-          key-part b o q (countOf (codeAt k)) k x l (packs (type (type-is .kind)) e .count ∙ ap (λ J. length (rowOf J .fields)) (sym (at-kind (type (type-is .kind)) e))) (entry .kind) (rw (R .fields) at F)
+          let P = packs (type K) e in
+          let h = type-held s in
+          let f = full in
+          let c : countOf (codeAt k) ≡ length (fieldsAt b o (rowOf (kindAt b o))) = P .count ∙ (type-lead K ∙ (sym (type-fields K _) ∙ ap (λ J. length (fieldsAt b o (rowOf J))) (sym (at-kind (type K) e)))) in
+          key-part b o q (countOf (codeAt k)) k x (omega arith) c (entry .kind) (rw (R .fields) at F)
 
       new : isNew (type (type-is .kind)) o L ≡ newKey (n .types) ks x
       new = new-law L n (type-count (R .tables)) (domain-count (R .tables)) (term-count (R .tables)) o (type-is .kind) ks x (type-is .is) key-is (R .tables .keyed)

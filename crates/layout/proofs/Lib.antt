@@ -1,7 +1,8 @@
 -- The laws that turn tests on numbers into the definition's, and the tables into its layout.
 pub mod Numbers
+pub mod Lengths
 pub mod Filter
-pub mod Ranges
+pub mod RangeLoops
 pub mod Parts
 pub mod Narrow
 pub mod Sections

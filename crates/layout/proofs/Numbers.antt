@@ -1,5 +1,5 @@
 -- Laws of the tests on numbers: what a loop over the keys has tested so far.
-use Prim.Native.Nat.{ℕ, _+_, _*_, _≤_}
+use Prim.Native.Nat.{ℕ, _+_, _-_, _*_, _≤_}
 use native.Mathlib.Omega.{arith}
 use native.Mathlib.Numerals.{add-one}
 use mathlib.Core.Path.{_≡_, refl, sym, ap, _∙_}
@@ -11,22 +11,27 @@ use lib.Dec.{eqb}
 use borrow.Author.Tests.{not-true, not-false}
 use Rattle.image.specs.declared.Refusal.{Refusal}
 use Rattle.image.specs.Tests.{allBelow, firstFault}
-use Rattle.image.proofs.Facts.{no-path, le-of, each}
-use Rattle.records.specs.Codes.{countOf, leastOf, mostOf}
-use Rattle.layout.specs.Numbers.{lengthFits, newKey}
+use Rattle.image.proofs.Facts.{no-path, eq-of, each}
+use Rattle.records.specs.Codes.{groupOf, lastOf, firstOf, timesIn}
+use Rattle.layout.specs.Numbers.{lengthFits, Held, newKey}
 
 module _ (ks : List ℕ) (x : ℕ) where
   pub new-more : (i : ℕ) (b t : Bool) → b ≡ newKey i ks x → t ≡ (b && not (eqb x (getD ks i 0))) → t ≡ newKey (i + 1) ks x
   unfolding allBelow
   new-more i b t e h = rw (add-one i) (h ∙ ap (λ y. y && not (eqb x (getD ks i 0))) e)
 
--- A record of the right length has its kind's fields.
-pub fits-count : (code n : ℕ) → lengthFits code n ≡ true → 4 + 2 * countOf code ≤ n
-fits-count code n h = let z : 4 + 2 * (countOf code + leastOf code) ≤ n = le-of (each _ h .0) in omega arith
+-- A record of the right length has its kind's fields, and holds them.
+pub fits-size : (x n : ℕ) → lengthFits x n ≡ true → n ≡ 4 + 2 * (firstOf x + (timesIn x (n - 4) * groupOf x + lastOf x))
+fits-size x n h = eq-of (each _ h .1 .1 .0)
 
--- Its fields are not shorter or longer than the kind's.
-pub fits-between : (code n : ℕ) → lengthFits code n ≡ true → (4 + 2 * (countOf code + leastOf code) ≤ n) × (n ≤ 4 + 2 * (countOf code + mostOf code))
-fits-between code n h = let t = each _ h in (le-of (t .0), le-of (t .1 .0))
+pub fits-held : (x n : ℕ) → lengthFits x (n + 4) ≡ true → Held x n
+fits-held x n h =
+    let e : n + 4 - 4 ≡ n = omega arith in
+    let z = rw e at (fits-size x (n + 4) h) in
+    omega arith
+
+pub first-held : (x y n : ℕ) → x ≡ y → Held x n → 2 * firstOf y ≤ n
+first-held x y n e h = rw (← e) (omega arith)
 
 -- A test that a function answers, and whose answer a branch goes by.
 pub yes-of : (r t : Bool) → r ≡ t → not r ≡ false → t ≡ true

@@ -1,8 +1,7 @@
 -- 4, 5, 6 and 8 of a record of kind k, as tests on numbers.
-use Prim.Native.Nat.{ℕ, suc, _<_}
-use native.Mathlib.Omega.{arith}
+use Prim.Native.Nat.{ℕ, _<_}
 use mathlib.Core.Path.{_≡_, refl, sym, ap, _∙_}
-use mathlib.Core.Bool.{Bool, true, false, not}
+use mathlib.Core.Bool.{Bool, not}
 use mathlib.Core.List.{List, [], _∷_}
 use mathlib.Core.Option.{some}
 use lib.ListN.{length, getD}
@@ -12,7 +11,9 @@ use Rattle.image.specs.Kinds.{TypeKind, Kind, domain, type, term, rowOf, kindOf
 use Rattle.image.specs.Tests.{allOf, allBelow}
 use Rattle.image.specs.Layout.{Layout, rightLength, isNil, inOrder, hasRoom, isNew}
 use Rattle.image.specs.Types.{typePlace}
-use Rattle.image.proofs.Facts.{and-i, all-of, all-below, below-all}
+use Rattle.image.specs.Records.{times}
+use Rattle.image.proofs.Facts.{same-truth, all-of, of-all, all-below, below-all}
+use Rattle.image.proofs.Counts.{fields-length}
 use Rattle.records.specs.declared.numbers.Counts.{Counts}
 use Rattle.records.specs.Codes.{sectionNumber, sectionOf}
 use Rattle.records.specs.Keys.{Key}
@@ -23,21 +24,11 @@ use Rattle.layout.specs.Tables.{Keyed}
 
 -- 4
 pub right-length : (k : Kind) (x n : ℕ) → Packs k x → rightLength (rowOf k) n ≡ lengthFits x n
-right-length k x n P = rw (P .count, P .least, P .most)
+right-length k x n P = rw (P .most, P .first, P .least, P .group, P .last, fields-length (rowOf k) (times (rowOf k) n))
 
 nil-length : (xs : List ℕ) → isNil xs ≡ eqb (length xs) 0
 nil-length [] = refl
 nil-length (x ∷ xs) = sym (eqb·suc-zero (length xs))
-
-same-truth : (a b : Bool) → (a ≡ true → b ≡ true) → (b ≡ true → a ≡ true) → a ≡ b
-same-truth true b f g = sym (f refl)
-same-truth false true f g = g refl
-same-truth false false f g = refl
-
-of-all : (ok : ℕ → Bool) (ns : List ℕ) → ((i : ℕ) → i < length ns → ok (getD ns i 0) ≡ true) → allOf ok ns ≡ true
-unfolding allOf
-of-all ok [] h = refl
-of-all ok (n ∷ ns) h = and-i (h 0 (omega arith)) (of-all ok ns (λ i l. h (suc i) (omega arith)))
 
 -- A test of each element is a test at each place.
 all-places : (ok : ℕ → Bool) (ns : List ℕ) (at : ℕ → Bool) → ((i : ℕ) → i < length ns → ok (getD ns i 0) ≡ at i) → allOf ok ns ≡ allBelow (length ns) at

@@ -1,27 +1,28 @@
 -- The first of 2 to 8 that a whole record fails, from its tests on numbers.
-use Prim.Native.Nat.{ℕ, _+_, _-_, _*_, _≤_}
+use Prim.Native.Nat.{ℕ, _+_, _-_, _*_}
 use native.Mathlib.Omega.{arith}
-use mathlib.Core.Path.{_≡_, refl, sym, _∙_}
-use mathlib.Core.Bool.{Bool, true, false}
-use mathlib.Core.List.{List, [], _∷_}
+use mathlib.Core.Path.{_≡_, refl, sym, ap, _∙_}
+use mathlib.Core.Bool.{Bool, true, false, and-true}
+use mathlib.Core.List.{List, [], _∷_, _++_}
 use mathlib.Core.Option.{Option, none, some}
 use lib.ListN.{length}
 use Rattle.image.specs.declared.Refusal.{Refusal}
-use Rattle.image.specs.Tests.{firstFault}
-use Rattle.image.specs.Bytes.{lengthAt, numberAt}
-use Rattle.image.specs.Kinds.{Kind, rowOf, kindOf}
-use Rattle.image.specs.Layout.{Layout, framed, rightLength, inOrder, hasRoom, inRange, isNew, tests}
+use Rattle.image.specs.Tests.{all, firstFault}
+use Rattle.image.specs.Bytes.{words, lengthAt, numberAt}
+use Rattle.image.specs.Kinds.{Kind, Row, rowOf, kindOf, fieldsOf}
+use Rattle.image.specs.Records.{times}
+use Rattle.image.specs.Layout.{Layout, framed, rightLength, inOrder, hasRoom, allWithin, inRange, isNew, tests}
 use Rattle.image.proofs.Facts.{no-path}
 use Rattle.records.specs.declared.numbers.Counts.{Counts}
-use Rattle.records.specs.Codes.{codeAt}
+use Rattle.records.specs.Codes.{classNumbers, timesIn, codeAt}
 use Rattle.records.specs.Heads.{fieldBytes, fieldsAt}
-use Rattle.records.proofs.Codes.{known-code, kind-sized, children-count}
+use Rattle.records.proofs.Codes.{known-code, times-in}
 use Rattle.records.proofs.Heads.{Whole}
-use Rattle.records.proofs.Parts.{fields-length, children-are}
+use Rattle.records.proofs.Parts.{bytes-length}
 use Rattle.layout.specs.Numbers.{lengthFits, rangeFits, numberTests}
 use Rattle.layout.specs.Tables.{layoutOf, Tables}
-use Rattle.layout.proofs.Numbers.{four, fits-between}
-use Rattle.layout.proofs.Parts.{fields-part}
+use Rattle.layout.proofs.Numbers.{four, fits-size}
+use Rattle.layout.proofs.Parts.{classes-past, past-both, all-part}
 use Rattle.layout.proofs.Sections.{right-length, order-law, room-law}
 use Rattle.layout.proofs.Kept.{type-count, domain-count, term-count}
 
@@ -57,23 +58,31 @@ module _ {b : List ℕ} {o q k : ℕ} (W : Whole b o q k) {n : Counts} {ds ts ks
   unfolding tests firstFault five
   known-tests K e = rw (W .framed, e)
 
+  -- 7 need only be the same where 4 holds.
   range-law : (K : Kind) → kindOf (numberAt b o) ≡ some K → lengthFits (codeAt (numberAt b o)) (lengthAt b o) ≡ true
       → inRange L o (rowOf K) ≡ rangeFits (fieldsAt b o) (codeAt (numberAt b o)) n
+  unfolding all
   range-law K e f =
+      let r : Row = rowOf K in
+      let x : ℕ = codeAt (numberAt b o) in
       let P = known-code (numberAt b o) K e in
-      let t : 4 + (lengthAt b o - 4) ≡ lengthAt b o = omega arith in
-      let m = fits-between (codeAt (numberAt b o)) (lengthAt b o) f in
-      let c = children-count (codeAt (numberAt b o)) (lengthAt b o - 4) (kind-sized K (codeAt (numberAt b o)) P) (omega arith) (omega arith) in
-      let l : 4 + 2 * length (rowOf K .fields) ≤ lengthAt b o = omega (arith, P .count) in
-      let x = fields-part L n (type-count T) (domain-count T) o (lengthAt b o) (rowOf K .fields) 0 (omega arith) in
-      let y = children-are b o (rowOf K) (codeAt (numberAt b o)) (omega arith, omega arith) (P .count) c l in
-      rw (y, P .count, P .classes, ← x, term-count T)
+      let m : ℕ = lengthAt b o in
+      let c : timesIn x (m - 4) ≡ times r m = times-in K x m P in
+      let size = rw (c, P .first, P .group, P .last) at (fits-size x m f) in
+      let full : length (fieldsAt b o) ≡ m - 4 = bytes-length b o (omega arith, omega arith) in
+      let y = all-part L n (type-count T) (domain-count T) (term-count T) o m r (times r m) (omega arith) in
+      let u = classes-past (r .first) (r .group ++ r .last) in
+      let v = past-both (length (r .first)) (length (r .group)) (classNumbers (r .first ++ (r .group ++ r .last))) in
+      let w = classes-past (r .group) (r .last) in
+      let z : o + 4 ≡ o + 4 + 2 * 0 = omega arith in
+      let q : inRange L o r ≡ allWithin L (fieldsOf r (times r m)) (words (L .image) (o + 4 + 2 * 0) (length (fieldsOf r (times r m)))) = ap (λ p. allWithin L (fieldsOf r (times r m)) (words (L .image) p (length (fieldsOf r (times r m))))) z in
+      q ∙ y ∙ rw (full, c, P .first, P .group, P .last, P .classes, v, u, w) (simp and-true)
 
   pub known-law : (K : Kind) → kindOf (numberAt b o) ≡ some K
       → firstFault (tests L o) ≡ orElse (firstFault (numberTests (fieldBytes b o q) (codeAt k) n)) (firstFault ((Refusal.RepeatedType, isNew K o L) ∷ []))
   known-law K e =
       let P = known-code (numberAt b o) K e in
-      let full : length (fieldsAt b o) + 4 ≡ lengthAt b o = let z = fields-length b o (omega arith, omega arith) in omega arith in
+      let full : length (fieldsAt b o) + 4 ≡ lengthAt b o = let z = bytes-length b o (omega arith, omega arith) in omega arith in
       let x = right-length K (codeAt (numberAt b o)) (lengthAt b o) P in
       let y = order-law L n (type-count T) (domain-count T) (term-count T) K (codeAt (numberAt b o)) P in
       let z = room-law L n (type-count T) (domain-count T) (term-count T) K (codeAt (numberAt b o)) P in

@@ -1,6 +1,6 @@
 -- The refusals 4 to 8 (document 01, "Turned back at the gate") as tests on numbers: a kind's code, the counts, the keys.
-use Prim.Native.Nat.{ℕ, _+_, _*_, _%_, _≤_}
-use mathlib.Core.Bool.{Bool, true, not}
+use Prim.Native.Nat.{ℕ, _+_, _-_, _*_, _/_, _%_, _≤_}
+use mathlib.Core.Bool.{Bool, true, not, _&&_}
 use mathlib.Core.List.{List, [], _∷_}
 use mathlib.Core.Option.{Option, none, some}
 use lib.ListN.{length, getD}
@@ -9,29 +9,41 @@ use Rattle.image.specs.declared.Refusal.{Refusal}
 use Rattle.image.specs.Limits.{domainLimit, typeLimit, termLimit}
 use Rattle.image.specs.Tests.{all, allBelow}
 use Rattle.calculus.specs.Combinators.{choose}
-use Rattle.records.specs.Codes.{sectionOf, countOf, leastOf, mostOf, classesOf}
+use Rattle.records.specs.Codes.{groupOf, lastOf, leastOf, classesOf, sectionOf, firstOf, groupLimit, mostOf, timesIn}
 use Rattle.records.specs.declared.numbers.Counts.{Counts}
 use Rattle.layout.specs.declared.tests.Tested.{Tested}
-use Rattle.layout.specs.Fields.{rangesFrom, childrenBelow}
+use Rattle.layout.specs.Fields.{rangesFrom, groupsFrom, classesPast}
 
--- 4: a length.
+-- 4: a length; the group stands as often as it says.
 abbrev pub lengthFits : ℕ → ℕ → Bool
-lengthFits code n = all (leb (4 + 2 * (countOf code + leastOf code)) n ∷ leb n (4 + 2 * (countOf code + mostOf code)) ∷ eqb (n % 2) 0 ∷ [])
+lengthFits x n =
+    let c : ℕ = timesIn x (n - 4) in
+    all (leb (leastOf x) c ∷ leb c (mostOf x) ∷ eqb n (4 + 2 * (firstOf x + (c * groupOf x + lastOf x))) ∷ [])
 
--- n bytes hold a kind's fields and its fewest children, and not more than its most.
-abbrev pub Between : ℕ → ℕ → Type 0
-Between code n = (2 * (countOf code + leastOf code) ≤ n) × (n ≤ 2 * (countOf code + mostOf code))
+-- So many bytes are the fields of the group, each time that it stands more often than it must.
+abbrev pub groupsFill : ℕ → ℕ → Bool
+groupsFill x n = eqb (n % (2 * groupOf x)) 0 && leb (n / (2 * groupOf x)) (groupLimit - leastOf x)
+
+-- n bytes hold all fields of a record, the group standing as often as they say.
+abbrev pub Held : ℕ → ℕ → Type 0
+Held x n = 2 * (firstOf x + (timesIn x n * groupOf x + lastOf x)) ≤ n
 
 -- 5 and 6: a section.
 abbrev pub orderFits : ℕ → Counts → Bool
-orderFits s n = choose (eqb s 1) (all (eqb (n .types) 0 ∷ eqb (n .terms) 0 ∷ [])) (choose (eqb s 2) (eqb (n .terms) 0) true)
+orderFits s n = choose (eqb s 3) true (choose (eqb s 2) (eqb (n .terms) 0) (all (eqb (n .types) 0 ∷ eqb (n .terms) 0 ∷ [])))
 
 abbrev pub roomFits : ℕ → Counts → Bool
-roomFits s n = choose (eqb s 1) (ltb (n .domains) domainLimit) (choose (eqb s 2) (ltb (n .types) typeLimit) (ltb (n .terms) termLimit))
+roomFits s n = choose (eqb s 3) (ltb (n .terms) termLimit) (choose (eqb s 2) (ltb (n .types) typeLimit) (ltb (n .domains) domainLimit))
 
--- 7: the fields and the children.
+-- 7: the first fields, the group's each time that it stands, and the last ones.
 abbrev pub rangeFits : List ℕ → ℕ → Counts → Bool
-rangeFits fs code n = all (rangesFrom (countOf code) (classesOf code) fs n 0 ∷ childrenBelow (n .terms) fs code ∷ [])
+rangeFits fs x n =
+    let c : ℕ = timesIn x (length fs) in
+    all
+    (rangesFrom (firstOf x) (classesOf x) fs n 0
+    ∷ groupsFrom c (groupOf x) (classesPast (firstOf x) (classesOf x)) fs n (firstOf x)
+    ∷ rangesFrom (lastOf x) (classesPast (firstOf x + groupOf x) (classesOf x)) fs n (firstOf x + c * groupOf x)
+    ∷ [])
 
 -- 8: a key is none of the first n.
 abbrev pub newKey : ℕ → List ℕ → ℕ → Bool

@@ -7,6 +7,7 @@ ghost use Rattle.layout.specs.Tables.{remainders, Lent, Scanned, Scanned
 
 pub mod fields;
 pub mod places;
+pub mod ranges;
 pub mod tests;
 
 // Refused, at a record's offset; or all records are in the tables, so many of each section.
@@ -48,12 +49,11 @@ fn enter(
         }
         tests::Tested::Passed => {}
     }
-    let section = records::kinds::section_of(code);
-    if section == tests::DOMAINS {
-        places::put_domain(at, counts.next_domain(), doms);
-        return Entry::Laid(counts.with_domain());
+    if records::kinds::is_term(code) {
+        places::put_term(at, counts.next_term(), terms);
+        return Entry::Laid(counts.with_term());
     }
-    if section == tests::TYPES {
+    if records::kinds::section_of(code) == records::kinds::TYPES {
         let key = fields::key_of(fields, code, kind);
         let new = places::put_type(at, key, counts.next_type(), types, keys, filter);
         match new {
@@ -65,8 +65,8 @@ fn enter(
             }
         }
     }
-    places::put_term(at, counts.next_term(), terms);
-    Entry::Laid(counts.with_term())
+    places::put_domain(at, counts.next_domain(), doms);
+    Entry::Laid(counts.with_domain())
 }
 
 // The scan with a filter of keys, which may hold anything at first: with all false the fewest keys are compared.

@@ -1,18 +1,18 @@
 // The refusals 4 to 8, each a function, and 4 to 7 in their order.
+use crate::fields::both;
+use records::kinds::TYPES;
 use records::numbers::Counts;
 use records::numbers::TypeNo;
 use records::numbers::type_key;
 ghost use mathlib.Core.Path.{_≡_};
-ghost use Prim.Native.Nat.{_+_, _≤_};
+ghost use Prim.Native.Nat.{_+_, _≤_, _<_};
 ghost use lib.ListN.{length};
 ghost use Rattle.image.specs.Tests.{firstFault};
-ghost use Rattle.records.specs.Codes.{Sized};
-ghost use Rattle.layout.specs.Numbers.{lengthFits, orderFits, roomFits, newKey, numberTests, toldOf};
+ghost use Rattle.records.specs.Codes.{groupOf, sectionOf, Sized};
+ghost use Rattle.layout.specs.Numbers.{groupsFill, lengthFits, orderFits, roomFits, newKey, numberTests, toldOf};
 
-// The sections of the domains and of the types, as a kind's code has them, and how many records a section may have.
-pub const DOMAINS: u32 = 1;
-
-pub const TYPES: u32 = 2;
+// How often a group stands, at most; and how many records a section may have.
+const GROUP_LIMIT: usize = 8;
 
 const DOMAIN_LIMIT: usize = 16;
 
@@ -25,7 +25,20 @@ pub enum Tested {
     Passed,
 }
 
-// 4
+// So many bytes are the fields of the group, each time that it stands more often than it must.
+fn groups_fill(code: u32, bytes: usize) -> bool
+    requires { ⌜ 0 < groupOf code ⌝ }
+    ensures { λ r. ⌜ r ≡ groupsFill code bytes ⌝ }
+{
+    let most = GROUP_LIMIT - records::kinds::least_times(code);
+    let group = records::kinds::group_count(code);
+    if group == 1 {
+        return both(bytes % 2 == 0, bytes / 2 <= most);
+    }
+    both(bytes % (2 * group) == 0, bytes / (2 * group) <= most)
+}
+
+// 4: a record has its kind's least length, or so much more that the group stands more often, up to its limit.
 pub fn right_length(code: u32, len: usize) -> bool
     requires { ⌜ Sized code ⌝ }
     ensures { λ r. ⌜ r ≡ lengthFits code len ⌝ }
@@ -37,41 +50,39 @@ pub fn right_length(code: u32, len: usize) -> bool
     if len < least {
         return false;
     }
-    let n = records::kinds::field_count(code);
-    let most = 4 + 2 * (n + records::kinds::most_children(code));
-    if most < len {
+    if records::kinds::group_count(code) == 0 {
         return false;
     }
-    len % 2 == 0
+    groups_fill(code, len - least)
 }
 
 // 5
-pub fn in_order(section: u32, counts: Counts) -> bool
-    ensures { λ r. ⌜ r ≡ orderFits section counts ⌝ }
+pub fn in_order(code: u32, counts: Counts) -> bool
+    ensures { λ r. ⌜ r ≡ orderFits (sectionOf code) counts ⌝ }
 {
-    if section == DOMAINS {
-        if counts.types == 0 {
-            return counts.terms == 0;
-        }
-        return false;
+    if records::kinds::is_term(code) {
+        return true;
     }
-    if section == TYPES {
+    if records::kinds::section_of(code) == TYPES {
         return counts.terms == 0;
     }
-    true
+    if counts.types == 0 {
+        return counts.terms == 0;
+    }
+    false
 }
 
 // 6
-pub fn has_room(section: u32, counts: Counts) -> bool
-    ensures { λ r. ⌜ r ≡ roomFits section counts ⌝ }
+pub fn has_room(code: u32, counts: Counts) -> bool
+    ensures { λ r. ⌜ r ≡ roomFits (sectionOf code) counts ⌝ }
 {
-    if section == DOMAINS {
-        return counts.domains < DOMAIN_LIMIT;
+    if records::kinds::is_term(code) {
+        return counts.terms < TERM_LIMIT;
     }
-    if section == TYPES {
+    if records::kinds::section_of(code) == TYPES {
         return counts.types < TYPE_LIMIT;
     }
-    counts.terms < TERM_LIMIT
+    counts.domains < DOMAIN_LIMIT
 }
 
 // 8: the key is that of no type before t. All are compared, with no way out of the loop: so several are compared at once.
@@ -82,7 +93,7 @@ pub fn is_new(keys: &[u32], t: TypeNo, key: u32) -> bool
     let mut new = true;
     let mut i: u16 = 0;
     while i < t.0 {
-        new = crate::fields::both(new, key != type_key(keys, TypeNo(i)));
+        new = both(new, key != type_key(keys, TypeNo(i)));
         i += 1;
     }
     new
@@ -96,14 +107,13 @@ pub fn first_fault(fields: &[u8], code: u32, counts: Counts) -> Tested
     if !right_length(code, fields.len() + 4) {
         return Tested::Fault(image::Refusal::WrongLength);
     }
-    let section = records::kinds::section_of(code);
-    if !in_order(section, counts) {
+    if !in_order(code, counts) {
         return Tested::Fault(image::Refusal::SectionOrder);
     }
-    if !has_room(section, counts) {
+    if !has_room(code, counts) {
         return Tested::Fault(image::Refusal::TooManyRecords);
     }
-    if !crate::fields::in_range(fields, code, counts) {
+    if !crate::ranges::in_range(fields, code, counts) {
         return Tested::Fault(image::Refusal::FieldRange);
     }
     Tested::Passed

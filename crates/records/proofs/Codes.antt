@@ -1,45 +1,72 @@
--- The table of codes is right at every number: one test, computed over the whole table, and the laws that follow from it.
+-- The parts of each kind's code are what the table of kinds says: one test, computed at every kind, and the laws that follow from it.
 use Prim.Native.Nat.{ℕ, zero, suc, _+_, _-_, _*_, _/_, _≤_, _<_}
 use native.Mathlib.Omega.{arith}
-use mathlib.Core.Path.{_≡_, refl, sym, subst, _∙_}
-use mathlib.Core.Bool.{Bool, true, false, not, _&&_, _||_}
-use mathlib.Core.List.{List, [], _∷_}
+use native.Mathlib.Nat.{zero-mul, one-mul, div-le-self}
+use mathlib.Core.Path.{_≡_, refl, sym, ap, _∙_}
+use mathlib.Core.Bool.{Bool, true, false, not, _&&_}
+use mathlib.Core.List.{List, [], _∷_, _++_}
 use mathlib.Core.Option.{Option, none, some}
 use lib.ListN.{length, getD, List·getD-eq-default}
 use lib.Dec.{eqb, ltb, leb}
-use borrow.Author.Tests.{eqb-false, ne-eqb}
-use Rattle.calculus.specs.Combinators.{choose}
-use Rattle.image.specs.Limits.{pointcutLimit}
+use borrow.Author.Tests.{ne-eqb}
 use Rattle.image.specs.Tests.{all}
-use Rattle.image.specs.Kinds.{Kind, rowOf, find, kindOf}
-use Rattle.image.proofs.Facts.{no-path, and-l, and-r, not-t, lt-of, le-of, ge-of, eq-of, of-eq, each}
-use Rattle.records.specs.Codes.{sectionNumber, classNumbers, codeOf, sectionOf, countOf, leastOf, mostOf, classesOf, sizeOf, childrenIn, Sized, leastLength, kindCodes, codeAt}
+use Rattle.image.specs.Kinds.{Kind, Row, rowOf, find, kinds, kindOf, lead}
+use Rattle.image.specs.Records.{goesInto, times, asChild}
+use Rattle.image.specs.TermFields.{giving}
+use Rattle.image.proofs.Facts.{no-path, and-l, and-r, not-t, same-truth, lt-of, le-of, of-le, ge-of, eq-of, of-eq, each}
+use Rattle.image.proofs.EveryKind.{everyOf, at-kind}
+use Rattle.image.proofs.Counts.{fields-length}
+use Rattle.records.specs.Codes.{sectionNumber, classNumbers, leastLength, codeOf, sizeOf, firstChildrenOf, groupOf, countOf, lastOf, leastOf, classesOf, sectionOf, firstOf, mostOf, Sized, timesIn, codeNumber, codesFrom, codeCount, kindCodes, codeAt}
 
--- The number x is the code of the kind that is found, and its parts are the kind's; where no kind is found it is 0.
-unfoldable fits : Option Kind → ℕ → Bool
-fits none x = eqb x 0
-fits (some k) x =
+abbrev packs : Kind → Bool
+packs k =
+    let r : Row = rowOf k in
+    let x : ℕ = codeOf k in
     all
-    (eqb x (codeOf k) ∷ not (eqb x 0) ∷ eqb (sectionOf x) (sectionNumber k) ∷ eqb (countOf x) (length (rowOf k .fields)) ∷ eqb (leastOf x) (rowOf k .least)
-    ∷ eqb (mostOf x) (rowOf k .most) ∷ eqb (classesOf x) (classNumbers (rowOf k .fields)) ∷ eqb (sizeOf x) (leastLength k) ∷ leb (leastOf x) (mostOf x)
-    ∷ (eqb (mostOf x) pointcutLimit || eqb (leastOf x) (mostOf x)) ∷ [])
+    (not (eqb x 0) ∷ eqb (sectionOf x) (sectionNumber k) ∷ eqb (countOf x) (lead (r .first)) ∷ eqb (firstChildrenOf x) (giving asChild 0 (r .first))
+    ∷ eqb (firstOf x) (length (r .first)) ∷ eqb (groupOf x) (length (r .group)) ∷ eqb (lastOf x) (length (r .last))
+    ∷ eqb (leastOf x) (r .least) ∷ eqb (mostOf x) (r .most) ∷ leb (r .least) (r .most) ∷ leb (length (r .group)) 2 ∷ eqb (sizeOf x) (leastLength r)
+    ∷ eqb (classesOf x) (classNumbers (r .first ++ (r .group ++ r .last)))
+    ∷ [])
 
--- The test passes at each entry of a table, whose places are counted from i.
-unfoldable every : (ℕ → ℕ → Bool) → ℕ → List ℕ → Bool
-every f i [] = true
-every f i (x ∷ xs) = f i x && every f (suc i) xs
+-- The code of a kind, taken apart.
+pub record Packs (k : Kind) (x : ℕ) : Type 0 where
+  pub used : eqb x 0 ≡ false
+  pub section : sectionOf x ≡ sectionNumber k
+  pub count : countOf x ≡ lead (rowOf k .first)
+  pub children : firstChildrenOf x ≡ giving asChild 0 (rowOf k .first)
+  pub first : firstOf x ≡ length (rowOf k .first)
+  pub group : groupOf x ≡ length (rowOf k .group)
+  pub last : lastOf x ≡ length (rowOf k .last)
+  pub least : leastOf x ≡ rowOf k .least
+  pub most : mostOf x ≡ rowOf k .most
+  pub between : rowOf k .least ≤ rowOf k .most
+  pub few : length (rowOf k .group) ≤ 2
+  pub size : sizeOf x ≡ leastLength (rowOf k)
+  pub classes : classesOf x ≡ classNumbers (rowOf k .first ++ (rowOf k .group ++ rowOf k .last))
 
-every-at : (f : ℕ → ℕ → Bool) (i : ℕ) (xs : List ℕ) → every f i xs ≡ true → (k : ℕ) → k < length xs → f (i + k) (getD xs k 0) ≡ true
-unfolding every
-every-at f i [] h k l = absurd (omega arith)
-every-at f i (x ∷ xs) h zero l = let e : i ≡ i + 0 = omega arith in subst (λ m. f m x ≡ true) e (and-l (f i x) (every f (suc i) xs) h)
-every-at f i (x ∷ xs) h (suc k) l =
-    let e : suc i + k ≡ i + suc k = omega arith in
-    subst (λ m. f m (getD xs k 0) ≡ true) e (every-at f (suc i) xs (and-r (f i x) (every f (suc i) xs) h) k (omega arith))
+every-packs : (k : Kind) → packs k ≡ true
+unfolding everyOf all classNumbers
+every-packs k = at-kind packs refl k
 
-table : every (λ n x. fits (kindOf n) x) 0 kindCodes ≡ true
-unfolding every fits find all classNumbers kindCodes
-table = refl
+code-packs : (k : Kind) → Packs k (codeOf k)
+code-packs k =
+    let z = each _ (every-packs k) in
+    record {
+      used = not-t (eqb (codeOf k) 0) (z .0);
+      section = eq-of (z .1 .0);
+      count = eq-of (z .1 .1 .0);
+      children = eq-of (z .1 .1 .1 .0);
+      first = eq-of (z .1 .1 .1 .1 .0);
+      group = eq-of (z .1 .1 .1 .1 .1 .0);
+      last = eq-of (z .1 .1 .1 .1 .1 .1 .0);
+      least = eq-of (z .1 .1 .1 .1 .1 .1 .1 .0);
+      most = eq-of (z .1 .1 .1 .1 .1 .1 .1 .1 .0);
+      between = le-of (z .1 .1 .1 .1 .1 .1 .1 .1 .1 .0);
+      few = le-of (z .1 .1 .1 .1 .1 .1 .1 .1 .1 .1 .0);
+      size = eq-of (z .1 .1 .1 .1 .1 .1 .1 .1 .1 .1 .1 .0);
+      classes = eq-of (z .1 .1 .1 .1 .1 .1 .1 .1 .1 .1 .1 .1 .0);
+    }
 
 -- No kind's number is past the table.
 unfoldable under : ℕ → List Kind → Bool
@@ -53,75 +80,66 @@ find-past m n h (k ∷ ks) u =
     let l : rowOf k .number < m = lt-of (and-l (ltb (rowOf k .number) m) (under m ks) u) in
     rw (ne-eqb (rowOf k .number) n (λ e. omega arith), find) (find-past m n h ks (and-r (ltb (rowOf k .number) m) (under m ks) u))
 
-none-past : (n : ℕ) → length kindCodes ≤ n → kindOf n ≡ none
-unfolding under kindCodes
-none-past n h = find-past 61 n h _ refl
+none-past : (n : ℕ) → codeCount ≤ n → kindOf n ≡ none
+unfolding under
+none-past n h = find-past codeCount n h kinds refl
 
-code-fits : (n : ℕ) → fits (kindOf n) (codeAt n) ≡ true
-unfolding fits
-code-fits n = go (ltb n (length kindCodes)) refl
+-- The table has the code of each number.
+from-length : (m i : ℕ) → length (codesFrom m i) ≡ m
+unfolding codesFrom
+from-length zero i = refl
+from-length (suc m) i = ap suc (from-length m (suc i))
+
+pub codes-length : length kindCodes ≡ codeCount
+unfolding kindCodes
+codes-length = from-length codeCount 0
+
+from-at : (m i k : ℕ) → k < m → getD (codesFrom m i) k 0 ≡ codeNumber (i + k)
+unfolding codesFrom
+from-at zero i k l = absurd (omega arith)
+from-at (suc m) i zero l = let e : i ≡ i + 0 = omega arith in ap (λ n. codeNumber n) e
+from-at (suc m) i (suc k) l = let e : suc i + k ≡ i + suc k = omega arith in from-at m (suc i) k (omega arith) ∙ ap (λ n. codeNumber n) e
+
+code-at : (n : ℕ) → codeAt n ≡ codeNumber n
+unfolding kindCodes codeNumber
+code-at n = go (ltb n codeCount) refl
   where
-    go : (t : Bool) → ltb n (length kindCodes) ≡ t → fits (kindOf n) (codeAt n) ≡ true
-    go true e = let z : 0 + n ≡ n = omega arith in subst (λ m. fits (kindOf m) (codeAt n) ≡ true) z (every-at (λ m x. fits (kindOf m) x) 0 kindCodes table n (lt-of e))
+    go : (t : Bool) → ltb n codeCount ≡ t → codeAt n ≡ codeNumber n
+    go true e = let z : 0 + n ≡ n = omega arith in from-at codeCount 0 n (lt-of e) ∙ ap (λ m. codeNumber m) z
     go false e =
-        let h : length kindCodes ≤ n = ge-of e in
-        let x : codeAt n ≡ 0 = List·getD-eq-default kindCodes 0 {n = n} h in
-        subst (λ q. fits q (codeAt n) ≡ true) (sym (none-past n h)) (of-eq x)
-
--- The code of a kind, taken apart.
-pub record Packs (k : Kind) (x : ℕ) : Type 0 where
-  pub code : x ≡ codeOf k
-  pub used : eqb x 0 ≡ false
-  pub section : sectionOf x ≡ sectionNumber k
-  pub count : countOf x ≡ length (rowOf k .fields)
-  pub least : leastOf x ≡ rowOf k .least
-  pub most : mostOf x ≡ rowOf k .most
-  pub classes : classesOf x ≡ classNumbers (rowOf k .fields)
-  pub size : sizeOf x ≡ leastLength k
-  pub between : leastOf x ≤ mostOf x
-  pub exact : (eqb (mostOf x) pointcutLimit || eqb (leastOf x) (mostOf x)) ≡ true
+        let h : codeCount ≤ n = ge-of e in
+        let l : length kindCodes ≤ n = omega (arith, codes-length) in
+        let q = none-past n h in
+        List·getD-eq-default kindCodes 0 {n = n} l ∙ rw (q, codeNumber) refl
 
 pub known-code : (n : ℕ) (k : Kind) → kindOf n ≡ some k → Packs k (codeAt n)
-unfolding fits
+unfolding codeNumber
 known-code n k h =
-    let z = each _ (subst (λ q. fits q (codeAt n) ≡ true) h (code-fits n)) in
-    record {
-      code = eq-of (z .0);
-      used = not-t (eqb (codeAt n) 0) (z .1 .0);
-      section = eq-of (z .1 .1 .0);
-      count = eq-of (z .1 .1 .1 .0);
-      least = eq-of (z .1 .1 .1 .1 .0);
-      most = eq-of (z .1 .1 .1 .1 .1 .0);
-      classes = eq-of (z .1 .1 .1 .1 .1 .1 .0);
-      size = eq-of (z .1 .1 .1 .1 .1 .1 .1 .0);
-      between = le-of (z .1 .1 .1 .1 .1 .1 .1 .1 .0);
-      exact = z .1 .1 .1 .1 .1 .1 .1 .1 .1 .0;
-    }
+    let e : codeAt n ≡ codeOf k = code-at n ∙ rw (h, codeNumber) refl in
+    rw e (code-packs k)
 
 pub unknown-code : (n : ℕ) → kindOf n ≡ none → codeAt n ≡ 0
-unfolding fits
-unknown-code n h = eq-of (subst (λ q. fits q (codeAt n) ≡ true) h (code-fits n))
+unfolding codeNumber
+unknown-code n h = code-at n ∙ rw (h, codeNumber) refl
 
--- A kind's number is at most 60.
-pub kind-small : (n : ℕ) (k : Kind) → kindOf n ≡ some k → n < 61
-unfolding kindCodes
-kind-small n k h = go (ltb n 61) refl
+-- A kind's number is below the table's length.
+pub kind-small : (n : ℕ) (k : Kind) → kindOf n ≡ some k → n < codeCount
+kind-small n k h = go (ltb n codeCount) refl
   where
-    go : (t : Bool) → ltb n 61 ≡ t → n < 61
+    go : (t : Bool) → ltb n codeCount ≡ t → n < codeCount
     go true e = lt-of e
     go false e = let z : none ≡ some k = sym (none-past n (ge-of e)) ∙ h in no-path cc
 
--- A code of another kind than the pointcuts has as many children at least as at most.
-exact-of : (x : ℕ) → (eqb (mostOf x) pointcutLimit || eqb (leastOf x) (mostOf x)) ≡ true → (mostOf x ≡ pointcutLimit → ⊥) → leastOf x ≡ mostOf x
-exact-of x h n = go (eqb (mostOf x) pointcutLimit) refl
-  where
-    go : (t : Bool) → eqb (mostOf x) pointcutLimit ≡ t → leastOf x ≡ mostOf x
-    go true e = absurd (n (eq-of e))
-    go false e = eq-of (rw e at h)
+-- How often the group stands, by the code.
+pub times-in : (k : Kind) (x n : ℕ) → Packs k x → timesIn x (n - 4) ≡ times (rowOf k) n
+times-in k x n P = rw (P .first, P .group, P .last) refl
 
--- What every code but 0 says of lengths.
+-- The parts of a kind's code agree.
 pub kind-sized : (k : Kind) (x : ℕ) → Packs k x → Sized x
-kind-sized k x p = let c = p .count in let l = p .least in let s = p .size in record { length = omega arith; between = p .between; exact = exact-of x (p .exact) }
+kind-sized k x P =
+    let r : Row = rowOf k in
+    let s : sizeOf x ≡ 4 + 2 * (length (r .first) + (r .least * length (r .group) + length (r .last))) = P .size ∙ ap (λ m. 4 + 2 * m) (fields-length r (r .least)) in
+    record { length = rw (P .first, P .least, P .group, P .last) s; between = rw (P .least, P .most) (P .between); group = rw (P .group) (P .few) }
 
 pub code-sized : (n : ℕ) → (codeAt n ≡ 0 → ⊥) → Sized (codeAt n)
 code-sized n h = go (kindOf n) refl
@@ -130,10 +148,23 @@ code-sized n h = go (kindOf n) refl
     go none e = absurd (h (unknown-code n e))
     go (some k) e = kind-sized k (codeAt n) (known-code n k e)
 
--- In a record of a right length the children take what the fields leave.
-pub children-count : (x n : ℕ) → Sized x → 2 * (countOf x + leastOf x) ≤ n → n ≤ 2 * (countOf x + mostOf x) → childrenIn x n ≡ n / 2 - countOf x
-children-count x n S l m = go (eqb (mostOf x) pointcutLimit) refl
-  where
-    go : (t : Bool) → eqb (mostOf x) pointcutLimit ≡ t → choose t (n / 2 - countOf x) (mostOf x) ≡ n / 2 - countOf x
-    go true e = refl
-    go false e = let z = S .exact (eqb-false _ _ e) in omega arith
+-- A group goes into n fields as often as their number says: never if it has no field, and no more than n times.
+pub goes-into : (g n : ℕ) → (g ≡ 0 → ⊥) → n / g ≡ goesInto g n
+goes-into zero n h = absurd (h refl)
+goes-into (suc g) n h = refl
+
+pub into-most : (g n : ℕ) → goesInto g n ≤ n
+into-most zero n = omega arith
+into-most (suc g) n = div-le-self n (suc g)
+
+-- What stands at most once takes no more than its fields.
+pub once-most : (a g : ℕ) → a < 2 → a * g ≤ g
+once-most zero g h = rw (zero-mul g) (omega arith)
+once-most (suc zero) g h = rw (one-mul g) (omega arith)
+once-most (suc (suc a)) g h = absurd (omega arith)
+
+-- The section of the terms is the last.
+pub last-section : (x : ℕ) → x < 4294967296 → leb 3221225472 x ≡ eqb (sectionOf x) 3
+last-section x l =
+    same-truth (leb 3221225472 x) (eqb (sectionOf x) 3) (λ h. let z : 3221225472 ≤ x = le-of h in of-eq {m = sectionOf x} {n = 3} (omega arith))
+    (λ h. let z : sectionOf x ≡ 3 = eq-of h in of-le {m = 3221225472} {n = x} (omega arith))

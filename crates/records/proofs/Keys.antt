@@ -1,20 +1,24 @@
 -- The keys of two types are equal exactly if the types are.
-use Prim.Native.Nat.{ℕ, zero, suc, _≤_, _<_}
+use Prim.Native.Nat.{ℕ, zero, suc, _+_, _*_, _≤_, _<_}
 use native.Mathlib.Omega.{arith}
 use mathlib.Core.Path.{_≡_, refl, sym, ap, _∙_}
 use mathlib.Core.Bool.{Bool, true, false}
-use mathlib.Core.List.{List}
+use mathlib.Core.List.{List, [], _∷_}
 use mathlib.Core.Option.{some}
-use lib.ListN.{length}
-use lib.Dec.{eqb, ltb}
-use borrow.Author.Tests.{lt-ltb, le-ltb}
+use lib.ListN.{length, getD}
+use lib.Dec.{eqb, leb}
+use Rattle.image.specs.Tests.{all}
 use Rattle.image.specs.Bytes.{numberAt, fieldAt}
-use Rattle.image.specs.Kinds.{TypeKind, Kind, domain, type, typeRow, rowOf, kindOf}
-use Rattle.image.specs.Layout.{orElse, kindAt, sameType}
-use Rattle.image.proofs.Facts.{no-path, lt-of, eq-of, of-eq, each, of-each, all-below, below-all}
-use Rattle.calculus.specs.Combinators.{choose}
+use Rattle.image.specs.Kinds.{TypeKind, domain, type, typeRow, rowOf, kindOf, fieldsOf}
+use Rattle.image.specs.Records.{orElse, kindAt, times, fieldsAt, numbersAt}
+use Rattle.image.specs.Layout.{sameType}
+use Rattle.image.proofs.Facts.{no-path, le-of, eq-of, of-eq, each, of-each}
+use Rattle.image.proofs.Words.{words-length}
+use Rattle.image.proofs.EveryKind.{everyOf, at-type}
+use Rattle.image.proofs.Counts.{fields-length}
+use Rattle.image.proofs.Laid.{same-numbers, numbers-same}
+use Rattle.image.proofs.Offsets.{number-at, no-number}
 use Rattle.records.specs.Keys.{keyOf, keyKind, keyField0, keyField1, keyField2, fieldOr0, Key}
-use Rattle.records.proofs.Codes.{known-code}
 
 -- A key has the parts that it is made of, and is made of its parts.
 pub made : (k a b c : ℕ) → k < 256 → a < 256 → b < 256
@@ -27,26 +31,45 @@ of-parts x = omega arith
 parts-same : (x y : ℕ) → keyKind x ≡ keyKind y → keyField0 x ≡ keyField0 y → keyField1 x ≡ keyField1 y → keyField2 x ≡ keyField2 y → x ≡ y
 parts-same x y k a b c = of-parts x ∙ rw (k, a, b, c) (sym (of-parts y))
 
--- A field that the kind has, and one that it has not.
-pub has-field : (b : List ℕ) (o i : ℕ) → i < length (rowOf (kindAt b o) .fields) → fieldOr0 b o i ≡ fieldAt b o i
-has-field b o i h = simp (lt-ltb _ _ h)
+-- A field that the record has, and one that it has not.
+pub has-field : (b : List ℕ) (o i : ℕ) → i < length (fieldsAt b o (rowOf (kindAt b o))) → fieldOr0 b o i ≡ fieldAt b o i
+has-field b o i h = number-at b o (rowOf (kindAt b o)) i h
 
-pub no-field : (b : List ℕ) (o i : ℕ) → length (rowOf (kindAt b o) .fields) ≤ i → fieldOr0 b o i ≡ 0
-no-field b o i h = simp (le-ltb _ _ h)
+pub no-field : (b : List ℕ) (o i : ℕ) → length (fieldsAt b o (rowOf (kindAt b o))) ≤ i → fieldOr0 b o i ≡ 0
+no-field b o i h = no-number b o (rowOf (kindAt b o)) i h
 
--- Every type has at most three fields.
-pub few-fields : (n : ℕ) (k : Kind) → kindOf n ≡ some k → length (rowOf k .fields) ≤ 3
-few-fields n k h = let e = known-code n k h .count in omega arith
+-- Every type has at most three fields, and as many in each record of its kind.
+abbrev fewRow : TypeKind → Bool
+fewRow k = all (eqb (length (typeRow k .group)) 0 ∷ leb (length (typeRow k .first) + length (typeRow k .last)) 3 ∷ [])
+
+every-few : (k : TypeKind) → fewRow k ≡ true
+unfolding everyOf all
+every-few k = at-type fewRow refl k
+
+pub type-fields : (k : TypeKind) (n : ℕ) → length (fieldsOf (typeRow k) (times (typeRow k) n)) ≡ length (typeRow k .first) + length (typeRow k .last)
+type-fields k n =
+    let c : ℕ = times (typeRow k) n in
+    let g : length (typeRow k .group) ≡ 0 = eq-of (each _ (every-few k) .0) in
+    let e : length (fieldsOf (typeRow k) c) ≡ length (typeRow k .first) + (c * 0 + length (typeRow k .last)) = fields-length (typeRow k) c ∙ ap (λ m. length (typeRow k .first) + (c * m + length (typeRow k .last))) g in
+    omega arith
+
+pub few-fields : (k : TypeKind) → length (typeRow k .first) + length (typeRow k .last) ≤ 3
+few-fields k = le-of (each _ (every-few k) .1 .0)
+
+same-lists : (vs ws : List ℕ) → length vs ≡ length ws → ((i : ℕ) → i < length vs → getD vs i 0 ≡ getD ws i 0) → vs ≡ ws
+same-lists [] [] l h = refl
+same-lists [] (w ∷ ws) l h = absurd (omega arith)
+same-lists (v ∷ vs) [] l h = absurd (omega arith)
+same-lists (v ∷ vs) (w ∷ ws) l h =
+    let e : v ≡ w = h 0 (omega arith) in
+    let i = same-lists vs ws (omega arith) (λ i m. h (suc i) (omega arith)) in
+    cc
 
 three : (P : ℕ → Type 0) → P 0 → P 1 → P 2 → (i : ℕ) → i < 3 → P i
 three P a b c zero l = a
 three P a b c (suc zero) l = b
 three P a b c (suc (suc zero)) l = c
 three P a b c (suc (suc (suc i))) l = absurd (omega arith)
-
--- Field i of a record of kind K at o, 0 where the kind has none.
-abbrev fieldIn : List ℕ → Kind → ℕ → ℕ → ℕ
-fieldIn b K o i = choose (ltb i (length (rowOf K .fields))) (fieldAt b o i) 0
 
 module _ (b : List ℕ) (o p : ℕ) (k : TypeKind) (known : kindOf (numberAt b o) ≡ some (type k)) where
   at-o : kindAt b o ≡ type k
@@ -55,18 +78,15 @@ module _ (b : List ℕ) (o p : ℕ) (k : TypeKind) (known : kindOf (numberAt b o
   at-p : numberAt b o ≡ numberAt b p → kindAt b p ≡ type k
   at-p e = ap (λ n. orElse (kindOf n) domain) (sym e) ∙ at-o
 
-  -- Where the kinds are the same, equal fields stand in both keys.
-  to-key : numberAt b o ≡ numberAt b p → ((i : ℕ) → i < length (typeRow k .fields) → fieldAt b o i ≡ fieldAt b p i) → (i : ℕ) → fieldOr0 b o i ≡ fieldOr0 b p i
-  to-key e h i = ap (λ K. fieldIn b K o i) at-o ∙ (go (ltb i (length (typeRow k .fields))) refl ∙ sym (ap (λ K. fieldIn b K p i) (at-p e)))
-    where
-      go : (t : Bool) → ltb i (length (typeRow k .fields)) ≡ t → fieldIn b (type k) o i ≡ fieldIn b (type k) p i
-      go true q = simp q (h i (lt-of q))
-      go false q = simp q
+  -- The fields of the two, as of kind k.
+  in-o : (i : ℕ) → fieldOr0 b o i ≡ getD (numbersAt b o (typeRow k)) i 0
+  in-o i = ap (λ K. getD (numbersAt b o (rowOf K)) i 0) at-o
 
-  from-key : numberAt b o ≡ numberAt b p → (i : ℕ) → fieldOr0 b o i ≡ fieldOr0 b p i → i < length (typeRow k .fields) → fieldAt b o i ≡ fieldAt b p i
-  from-key e i h l =
-      let z : fieldIn b (type k) o i ≡ fieldIn b (type k) p i = sym (ap (λ K. fieldIn b K o i) at-o) ∙ (h ∙ ap (λ K. fieldIn b K p i) (at-p e)) in
-      simp (lt-ltb _ _ l) at z
+  in-p : numberAt b o ≡ numberAt b p → (i : ℕ) → fieldOr0 b p i ≡ getD (numbersAt b p (typeRow k)) i 0
+  in-p e i = ap (λ K. getD (numbersAt b p (rowOf K)) i 0) (at-p e)
+
+  count : (q : ℕ) → length (numbersAt b q (typeRow k)) ≡ length (typeRow k .first) + length (typeRow k .last)
+  count q = words-length b (q + 4) (length (fieldsAt b q (typeRow k))) ∙ type-fields k _
 
   pub same-key : (x y : ℕ) → Key b o x → Key b p y → sameType b (typeRow k) o p ≡ eqb x y
   same-key x y X Y = go (eqb x y) refl (sameType b (typeRow k) o p) refl
@@ -75,14 +95,17 @@ module _ (b : List ℕ) (o p : ℕ) (k : TypeKind) (known : kindOf (numberAt b o
       same e =
           let n : numberAt b o ≡ numberAt b p = sym (X .kind) ∙ (ap keyKind e ∙ Y .kind) in
           let f : (i : ℕ) → i < 3 → fieldOr0 b o i ≡ fieldOr0 b p i = three (λ i. fieldOr0 b o i ≡ fieldOr0 b p i) (sym (X .field0) ∙ (ap keyField0 e ∙ Y .field0)) (sym (X .field1) ∙ (ap keyField1 e ∙ Y .field1)) (sym (X .field2) ∙ (ap keyField2 e ∙ Y .field2)) in
-          let few : length (typeRow k .fields) ≤ 3 = few-fields (numberAt b o) (type k) known in
-          of-each _ (of-eq n, (below-all _ _ (λ i l. of-eq (from-key n i (f i (omega arith)) l)), tt))
+          let few = few-fields k in
+          let c = count o in
+          let v : numbersAt b o (typeRow k) ≡ numbersAt b p (typeRow k) = same-lists _ _ (count o ∙ sym (count p)) (λ i l. sym (in-o i) ∙ (f i (omega arith) ∙ in-p n i)) in
+          of-each _ (of-eq n, (rw (← v) (same-numbers (numbersAt b o (typeRow k))), tt))
 
       equal : sameType b (typeRow k) o p ≡ true → x ≡ y
       equal s =
           let z = each _ s in
           let n : numberAt b o ≡ numberAt b p = eq-of (z .0) in
-          let f = to-key n (λ i l. eq-of (all-below _ _ (z .1 .0) i l)) in
+          let v = numbers-same (numbersAt b o (typeRow k)) (numbersAt b p (typeRow k)) (z .1 .0) in
+          let f : (i : ℕ) → fieldOr0 b o i ≡ fieldOr0 b p i = λ i. in-o i ∙ (ap (λ vs. getD vs i 0) v ∙ sym (in-p n i)) in
           parts-same x y (X .kind ∙ (n ∙ sym (Y .kind))) (X .field0 ∙ (f 0 ∙ sym (Y .field0))) (X .field1 ∙ (f 1 ∙ sym (Y .field1))) (X .field2 ∙ (f 2 ∙ sym (Y .field2)))
 
       go : (t : Bool) → eqb x y ≡ t → (u : Bool) → sameType b (typeRow k) o p ≡ u → sameType b (typeRow k) o p ≡ eqb x y

@@ -2,15 +2,27 @@
 use Prim.Native.Nat.{ℕ, zero, suc, _+_, _-_, _*_, _/_, _≤_, _<_}
 use native.Mathlib.Omega.{arith}
 use mathlib.Core.Path.{_≡_, refl, sym, ap, _∙_}
-use mathlib.Core.List.{List}
+use mathlib.Core.Bool.{Bool, true, false}
+use mathlib.Core.List.{List, [], _∷_}
 use lib.ListN.{length, take, drop, length-drop}
+use lib.Dec.{eqb}
 use lib.Seq.{length-take-le}
+use Rattle.calculus.specs.Combinators.{choose}
+use Rattle.image.specs.Tests.{all}
 use Rattle.image.specs.Bytes.{le16, words, lengthAt, fieldAt}
-use Rattle.image.specs.Kinds.{Row}
-use Rattle.image.specs.Layout.{childrenAt}
+use Rattle.image.specs.Kinds.{TermKind, term, Row, termRow, lead, leadOf}
+use Rattle.image.specs.Records.{times, asChild, childrenAt}
+use Rattle.image.specs.Records as Records
+use Rattle.image.specs.TermFields.{giving}
+use Rattle.image.specs.LaidOut.{Stands}
+use Rattle.image.proofs.Facts.{eq-of, each}
 use Rattle.image.proofs.Words.{le16-part}
-use Rattle.records.specs.Codes.{countOf, childrenIn}
-use Rattle.records.specs.Heads.{fieldBytes, IsWhole, fieldsAt, fieldIn, childrenOf}
+use Rattle.image.proofs.EveryKind.{everyOf, at-term}
+use Rattle.image.proofs.Counts.{fields-length}
+use Rattle.image.proofs.Offsets.{children-at}
+use Rattle.records.specs.Codes.{firstChildrenOf, groupOf, countOf, childrenIn}
+use Rattle.records.specs.Heads.{fieldBytes, IsWhole, fieldsAt, fieldIn, Fitting, childrenOf}
+use Rattle.records.proofs.Codes.{Packs}
 
 -- n bytes from a on.
 abbrev pub part : List ℕ → ℕ → ℕ → List ℕ
@@ -29,18 +41,63 @@ words-part b a n (suc m) i h =
     cc
 
 module _ (b : List ℕ) (o : ℕ) where
-  pub fields-length : IsWhole b o → length (fieldsAt b o) ≡ lengthAt b o - 4
-  fields-length W = part-length b (o + 4) (lengthAt b o - 4) (omega arith)
+  pub bytes-length : IsWhole b o → length (fieldsAt b o) ≡ lengthAt b o - 4
+  bytes-length W = part-length b (o + 4) (lengthAt b o - 4) (omega arith)
 
   pub field-is : (n i : ℕ) → 2 * i + 1 < n - 4 → fieldIn (fieldBytes b o n) i ≡ fieldAt b o i
   field-is n i h = le16-part b (o + 4) (n - 4) (2 * i) h
 
-  -- The children of a record with the row r, whose kind has the code x.
-  pub children-are : (r : Row) (x : ℕ) → IsWhole b o → countOf x ≡ length (r .fields) → childrenIn x (lengthAt b o - 4) ≡ (lengthAt b o - 4) / 2 - countOf x → 4 + 2 * length (r .fields) ≤ lengthAt b o
-      → childrenOf x (fieldsAt b o) ≡ childrenAt b o r
-  children-are r x W c q l =
-      let n : ℕ = lengthAt b o - 4 in
-      ap (λ m. words (fieldsAt b o) (2 * countOf x) (childrenIn x m)) (fields-length W)
-      ∙ (ap (words (fieldsAt b o) (2 * countOf x)) q
-      ∙ (words-part b (o + 4) n (n / 2 - countOf x) (2 * countOf x) (omega arith)
-      ∙ ap (λ k. words b (o + 4 + 2 * k) (n / 2 - k)) c))
+-- Of each term's kind: its children stand side by side behind its other fields.
+abbrev inOneRun : TermKind → Bool
+inOneRun k = let r : Row = termRow k in all (eqb (lead (r .first) + giving asChild 0 (r .first)) (length (r .first)) ∷ eqb (length (r .last)) 0 ∷ [])
+
+every-run : (k : TermKind) → inOneRun k ≡ true
+unfolding everyOf all
+every-run k = at-term inOneRun refl k
+
+-- The children of a term of the kind k, whose code is x, in the part of the image that its fields occupy.
+module _ (b : List ℕ) (o : ℕ) (k : TermKind) (x : ℕ) (P : Packs (term k) x) (S : Stands b (termRow k) o) where
+  abbrev r : Row
+  r = termRow k
+
+  abbrev n : ℕ
+  n = lengthAt b o
+
+  pub whole : IsWhole b o
+  whole = (omega (arith, S .size), S .inside)
+
+  fields-counted : length (Records.fieldsAt b o r) ≡ countOf x + firstChildrenOf x + times r n * groupOf x
+  fields-counted =
+      let t = each _ (every-run k) in
+      let f : lead (r .first) + giving asChild 0 (r .first) ≡ length (r .first) = eq-of (t .0) in
+      let l : length (r .last) ≡ 0 = eq-of (t .1 .0) in
+      let e : length (Records.fieldsAt b o r) ≡ length (r .first) + (times r n * groupOf x + length (r .last)) = rw (P .group) (fields-length r (times r n)) in
+      let p = P .count in
+      let q = P .children in
+      omega arith
+
+  children-counted : countOf x + childrenIn x (n - 4) ≡ length (Records.fieldsAt b o r)
+  children-counted = go (eqb (groupOf x) 0) refl
+    where
+      go : (t : Bool) → eqb (groupOf x) 0 ≡ t → countOf x + choose t (firstChildrenOf x) ((n - 4) / 2 - countOf x) ≡ length (Records.fieldsAt b o r)
+      go true e =
+          let f : length (Records.fieldsAt b o r) ≡ countOf x + firstChildrenOf x + times r n * 0 = fields-counted ∙ ap (λ g. countOf x + firstChildrenOf x + times r n * g) (eq-of e) in
+          omega arith
+      go false e = let f = fields-counted in let s = S .size in omega arith
+
+  pub children-fit : Fitting x (fieldsAt b o)
+  children-fit =
+      let c = children-counted in
+      let s = S .size in
+      rw (bytes-length b o whole) (omega arith)
+
+  pub children-are : childrenOf x (fieldsAt b o) ≡ childrenAt b o r
+  children-are =
+      let c = children-counted in
+      let s = S .size in
+      let p : countOf x ≡ leadOf k = P .count in
+      let m : childrenIn x (n - 4) ≡ length (Records.fieldsAt b o r) - leadOf k = omega arith in
+      ap (λ q. words (fieldsAt b o) (2 * countOf x) (childrenIn x q)) (bytes-length b o whole)
+      ∙ (words-part b (o + 4) (n - 4) (childrenIn x (n - 4)) (2 * countOf x) (omega arith)
+      ∙ (ap (λ q. words b (o + 4 + 2 * q) (childrenIn x (n - 4))) p
+      ∙ (ap (words b (o + 4 + 2 * leadOf k)) m ∙ sym (children-at k b o))))

@@ -6,8 +6,9 @@ use lib.Dec.{leb}
 use Rattle.calculus.specs.Combinators.{choose}
 use Rattle.image.specs.declared.Refusal.{Refusal}
 use Rattle.image.specs.Bytes.{le16, words, lengthAt, numberAt}
-use Rattle.image.specs.Kinds.{termRow}
-use Rattle.image.specs.Layout.{kindAt, framed}
+use Rattle.image.specs.Kinds.{leadOf}
+use Rattle.image.specs.Records.{kindAt}
+use Rattle.image.specs.Layout.{framed}
 use Rattle.image.specs.Types.{termKindOf}
 use Rattle.records.specs.declared.reader.Head.{Head}
 use Rattle.records.specs.Codes.{countOf, childrenIn}
@@ -42,4 +43,4 @@ childrenOf x fs = words fs (2 * countOf x) (childrenIn x (length fs))
 
 -- How many fields the term at o has before its children.
 abbrev pub firstChild : List ℕ → ℕ → ℕ
-firstChild b o = length (termRow (termKindOf (kindAt b o)) .fields)
+firstChild b o = leadOf (termKindOf (kindAt b o))

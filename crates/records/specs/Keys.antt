@@ -2,12 +2,10 @@
 use Prim.Native.Nat.{ℕ, _+_, _*_, _/_, _%_}
 use mathlib.Core.Path.{_≡_}
 use mathlib.Core.List.{List}
-use lib.ListN.{length}
-use lib.Dec.{ltb}
-use Rattle.image.specs.Bytes.{numberAt, fieldAt}
+use lib.ListN.{getD}
+use Rattle.image.specs.Bytes.{numberAt}
 use Rattle.image.specs.Kinds.{rowOf}
-use Rattle.image.specs.Layout.{kindAt}
-use Rattle.calculus.specs.Combinators.{choose}
+use Rattle.image.specs.Records.{kindAt, numbersAt}
 
 abbrev pub keyOf : ℕ → ℕ → ℕ → ℕ → ℕ
 keyOf k a b c = k + 256 * a + 65536 * b + 16777216 * c
@@ -26,7 +24,7 @@ keyField2 x = x / 16777216
 
 -- Field i of the record at o, 0 where its kind has none.
 abbrev pub fieldOr0 : List ℕ → ℕ → ℕ → ℕ
-fieldOr0 b o i = choose (ltb i (length (rowOf (kindAt b o) .fields))) (fieldAt b o i) 0
+fieldOr0 b o i = getD (numbersAt b o (rowOf (kindAt b o))) i 0
 
 -- The number x is the key of the type at o.
 pub record Key (b : List ℕ) (o x : ℕ) : Type 0 where

@@ -1,14 +1,127 @@
-// The table of kinds in numbers. It is built once, by kind_codes, and lent from there on.
+// The table of kinds in numbers, one code for each kind: what a record of the kind has. It is built once, by kind_codes, and
+// lent from there on.
 ghost use mathlib.Core.Path.{_≡_};
 ghost use Prim.Native.Nat.{_*_, _≤_, _<_};
-ghost use Rattle.records.specs.Codes.{kindCodes, codeAt, sectionOf, countOf, mostOf, childrenIn, classesOf, sizeOf};
+ghost use lib.Dec.{eqb};
+ghost use Rattle.records.specs.Codes.{codeCount, kindCodes, codeAt, sizeOf, firstChildrenOf, groupOf, countOf, lastOf, leastOf, classesOf, sectionOf, firstOf, Sized, timesIn, childrenIn};
 
-// The labels of a pointcut.
-const POINTCUT_LIMIT: usize = 8;
+// The sections.
+pub const DOMAINS: u32 = 1;
+
+pub const TYPES: u32 = 2;
+
+pub const TERMS: u32 = 3;
+
+// The classes of fields. A field of the class CLASS_FREE may be any number.
+pub const CLASS_TYPE: u32 = 0;
+
+pub const CLASS_DOMAIN: u32 = 1;
+
+pub const CLASS_OPERATION: u32 = 2;
+
+pub const CLASS_TRUTH: u32 = 3;
+
+pub const CLASS_FREE: u32 = 4;
+
+pub const CLASS_TERM: u32 = 5;
+
+pub const CLASS_ENTRY: u32 = 6;
+
+// The places of a code's parts, from its lowest bits on: the length of a record in which the group stands as seldom as it
+// may; how many children are among the first fields; how many fields the group has; how many fields stand before the
+// children; how many stand last; how often the group stands, at least; the classes of the fields; and the section.
+const CHILDREN: u32 = 16;
+
+const GROUP: u32 = 64;
+
+const LEAD: u32 = 256;
+
+const LAST: u32 = 1024;
+
+const LEAST: u32 = 2048;
+
+const CLASSES: u32 = 4096;
+
+const SECTION: u32 = 1073741824;
+
+const SECOND: u32 = 8;
+
+const THIRD: u32 = 64;
+
+const FOURTH: u32 = 512;
+
+// The codes, by what such a record has. A domain has a mask.
+pub const MASK: u32 = 6 + SECTION * DOMAINS + LEAD + CLASSES * CLASS_FREE;
+
+// The types of the unit, of truths and of numbers; of pairs; of functions; of references, labels and pointcuts; of advice.
+pub const NO_FIELDS: u32 = 4 + SECTION * TYPES;
+
+pub const TWO_TYPES: u32 = 8 + SECTION * TYPES + LEAD * 2;
+
+pub const TYPE_DOMAIN_AND_TYPE: u32 = 10
+    + SECTION * TYPES
+    + LEAD * 3
+    + CLASSES * SECOND * CLASS_DOMAIN;
+
+pub const TYPE_AND_DOMAIN: u32 = 8 + SECTION * TYPES + LEAD * 2 + CLASSES * SECOND * CLASS_DOMAIN;
+
+pub const DOMAIN: u32 = 6 + SECTION * TYPES + LEAD + CLASSES * CLASS_DOMAIN;
+
+// The terms, each of which has its type first.
+pub const TYPE: u32 = 6 + SECTION * TERMS + LEAD;
+
+pub const TYPE_AND_TRUTH: u32 = 8 + SECTION * TERMS + LEAD * 2 + CLASSES * SECOND * CLASS_TRUTH;
+
+pub const TYPE_AND_FREE: u32 = 8 + SECTION * TERMS + LEAD * 2 + CLASSES * SECOND * CLASS_FREE;
+
+pub const TYPE_AND_TWO_FREE: u32 = 10
+    + SECTION * TERMS
+    + LEAD * 3
+    + CLASSES * (SECOND * CLASS_FREE + THIRD * CLASS_FREE);
+
+pub const TYPE_AND_CHILD: u32 = 8
+    + SECTION * TERMS
+    + LEAD
+    + CHILDREN
+    + CLASSES * SECOND * CLASS_TERM;
+
+pub const TYPE_AND_TWO_CHILDREN: u32 = 10
+    + SECTION * TERMS
+    + LEAD
+    + CHILDREN * 2
+    + CLASSES * (SECOND * CLASS_TERM + THIRD * CLASS_TERM);
+
+pub const TYPE_AND_THREE_CHILDREN: u32 = 12
+    + SECTION * TERMS
+    + LEAD
+    + CHILDREN * 3
+    + CLASSES * (SECOND * CLASS_TERM + THIRD * CLASS_TERM + FOURTH * CLASS_TERM);
+
+pub const TYPE_OPERATION_AND_TWO_CHILDREN: u32 = 12
+    + SECTION * TERMS
+    + LEAD * 2
+    + CHILDREN * 2
+    + CLASSES * (SECOND * CLASS_OPERATION + THIRD * CLASS_TERM + FOURTH * CLASS_TERM);
+
+pub const TYPE_DOMAIN_AND_CHILD: u32 = 10
+    + SECTION * TERMS
+    + LEAD * 2
+    + CHILDREN
+    + CLASSES * (SECOND * CLASS_DOMAIN + THIRD * CLASS_TERM);
+
+// A type and up to eight children: a pointcut.
+pub const TYPE_AND_CHILDREN: u32 = 6
+    + SECTION * TERMS
+    + LEAD
+    + CLASSES * SECOND * CLASS_TERM
+    + GROUP;
+
+// How many numbers the table has a place for: up to the last kind's.
+const KIND_COUNT: u16 = 61;
 
 const KINDS: [u32; 61] = [
     0,
-    3149829,
+    MASK,
     0,
     0,
     0,
@@ -23,15 +136,15 @@ const KINDS: [u32; 61] = [
     0,
     0,
     0,
-    2097154,
-    2097154,
-    2097154,
-    4194314,
-    5251086,
-    4202506,
-    4202506,
-    4202506,
-    3146758,
+    NO_FIELDS,
+    NO_FIELDS,
+    NO_FIELDS,
+    TWO_TYPES,
+    TYPE_DOMAIN_AND_TYPE,
+    TYPE_AND_DOMAIN,
+    TYPE_AND_DOMAIN,
+    TYPE_AND_DOMAIN,
+    DOMAIN,
     0,
     0,
     0,
@@ -39,35 +152,35 @@ const KINDS: [u32; 61] = [
     0,
     0,
     0,
-    3145735,
-    4218891,
-    5537807,
-    4227083,
-    5243047,
-    4194391,
-    6291703,
-    5243047,
-    5243047,
-    4194391,
-    5243047,
-    6308011,
-    3145735,
-    5243047,
-    3146247,
-    5243047,
-    4194391,
-    4194391,
-    4194391,
-    5243047,
-    5251163,
-    3145735,
+    TYPE,
+    TYPE_AND_TRUTH,
+    TYPE_AND_TWO_FREE,
+    TYPE_AND_FREE,
+    TYPE_AND_TWO_CHILDREN,
+    TYPE_AND_CHILD,
+    TYPE_AND_THREE_CHILDREN,
+    TYPE_AND_TWO_CHILDREN,
+    TYPE_AND_TWO_CHILDREN,
+    TYPE_AND_CHILD,
+    TYPE_AND_TWO_CHILDREN,
+    TYPE_OPERATION_AND_TWO_CHILDREN,
+    TYPE,
+    TYPE_AND_TWO_CHILDREN,
+    TYPE_AND_CHILDREN,
+    TYPE_AND_TWO_CHILDREN,
+    TYPE_AND_CHILD,
+    TYPE_AND_CHILD,
+    TYPE_AND_CHILD,
+    TYPE_AND_TWO_CHILDREN,
+    TYPE_DOMAIN_AND_CHILD,
+    TYPE,
     0,
     0,
     0,
     0,
     0,
     0,
-    4194391,
+    TYPE_AND_CHILD,
 ];
 
 pub fn kind_codes() -> [u32; 61]
@@ -81,61 +194,119 @@ pub fn code_of(kinds: &[u32], kind: u16) -> u32
     requires { ⌜ now kinds ≡ kindCodes ⌝ }
     ensures { λ r. ⌜ r ≡ codeAt kind ⌝ }
 {
-    if kind < 61 { kinds[kind as usize] } else { 0 }
+    if kind < KIND_COUNT {
+        kinds[kind as usize]
+    } else {
+        0
+    }
 }
 
 // The code of a number that is in the table.
 pub fn known_code(kinds: &[u32], kind: u16) -> u32
-    requires { ⌜ (now kinds ≡ kindCodes) × (kind < 61) ⌝ }
+    requires { ⌜ (now kinds ≡ kindCodes) × (kind < codeCount) ⌝ }
     ensures { λ r. ⌜ r ≡ codeAt kind ⌝ }
 {
     kinds[kind as usize]
 }
 
-// 1 for a domain, 2 for a type, 3 for a term.
-pub fn section_of(code: u32) -> u32
-    ensures { λ r. ⌜ r ≡ sectionOf code ⌝ }
+// The length of a record in which the group stands as seldom as it may; of a kind without a group, the length of a record.
+pub fn least_length(code: u32) -> usize
+    ensures { λ r. ⌜ r ≡ sizeOf code ⌝ }
 {
-    code % 4
+    (code % CHILDREN) as usize
+}
+
+// How many children are among the first fields.
+pub fn first_children(code: u32) -> usize
+    ensures { λ r. ⌜ r ≡ firstChildrenOf code ⌝ }
+{
+    (code / CHILDREN % 4) as usize
+}
+
+// How many fields the group has, which stands behind the first fields again and again.
+pub fn group_count(code: u32) -> usize
+    ensures { λ r. ⌜ r ≡ groupOf code ⌝ }
+{
+    (code / GROUP % 4) as usize
 }
 
 // How many fields stand before the children.
 pub fn field_count(code: u32) -> usize
     ensures { λ r. ⌜ r ≡ countOf code ⌝ }
 {
-    (code / 4 % 4) as usize
+    (code / LEAD % 4) as usize
 }
 
-// How many children follow, at most.
-pub fn most_children(code: u32) -> usize
-    ensures { λ r. ⌜ r ≡ mostOf code ⌝ }
+// How many fields stand last.
+pub fn last_count(code: u32) -> usize
+    ensures { λ r. ⌜ r ≡ lastOf code ⌝ }
 {
-    (code / 64 % 16) as usize
+    (code / LAST % 2) as usize
 }
 
-// How many children stand in a record whose fields and children take so many bytes: as many as its kind has; of a pointcut,
-// the only kind with a number that varies, as many as the length says.
+// How often the group stands, at least.
+pub fn least_times(code: u32) -> usize
+    ensures { λ r. ⌜ r ≡ leastOf code ⌝ }
+{
+    (code / LEAST % 2) as usize
+}
+
+// What the first fields, the group's and the last ones are, three bits each, the first field's lowest.
+pub fn field_classes(code: u32) -> u32
+    ensures { λ r. ⌜ r ≡ classesOf code ⌝ }
+{
+    code / CLASSES % 262144
+}
+
+pub fn section_of(code: u32) -> u32
+    ensures { λ r. ⌜ r ≡ sectionOf code ⌝ }
+{
+    code / SECTION
+}
+
+// The section is that of the terms.
+pub fn is_term(code: u32) -> bool
+    ensures { λ r. ⌜ r ≡ eqb (sectionOf code) 3 ⌝ }
+{
+    SECTION * TERMS <= code
+}
+
+// How many fields stand first.
+pub fn first_count(code: u32) -> usize
+    requires { ⌜ Sized code ⌝ }
+    ensures { λ r. ⌜ r ≡ firstOf code ⌝ }
+{
+    let fields = (least_length(code) - 4) / 2;
+    fields - (least_times(code) * group_count(code) + last_count(code))
+}
+
+// How often the group stands in a record whose fields take so many bytes.
+pub fn group_times(code: u32, bytes: usize) -> usize
+    requires { ⌜ Sized code ⌝ }
+    ensures { λ r. ⌜ r ≡ timesIn code bytes ⌝ }
+{
+    let group = group_count(code);
+    if group == 0 {
+        return 0;
+    }
+    let others = first_count(code) + last_count(code);
+    let all = bytes / 2;
+    if all < others {
+        return 0;
+    }
+    (all - others) / group
+}
+
+// How many children stand in a record whose fields take so many bytes: as many as its kind has; where there is a group,
+// which is one child, as many as the length leaves behind the other fields. The children among the first fields stand in the
+// code right below the group's fields, and both are read at once.
 pub fn child_count(code: u32, bytes: usize) -> usize
     requires { ⌜ 2 * countOf code ≤ bytes ⌝ }
     ensures { λ r. ⌜ r ≡ childrenIn code bytes ⌝ }
 {
-    let most = most_children(code);
-    if most == POINTCUT_LIMIT {
-        return bytes / 2 - field_count(code);
+    let told = (code / CHILDREN % 16) as usize;
+    if told < 4 {
+        return told;
     }
-    most
-}
-
-// What its fields are, three bits each, the first field's lowest.
-pub fn field_classes(code: u32) -> u32
-    ensures { λ r. ⌜ r ≡ classesOf code ⌝ }
-{
-    code / 1024 % 512
-}
-
-// The length of a record with the fewest children.
-pub fn least_length(code: u32) -> usize
-    ensures { λ r. ⌜ r ≡ sizeOf code ⌝ }
-{
-    (code / 524288) as usize
+    bytes / 2 - field_count(code)
 }

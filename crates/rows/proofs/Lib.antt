@@ -1,7 +1,6 @@
 -- That the rows of an image say what its terms are.
 pub mod Pack
 pub mod Table
-pub mod Ranges
 pub mod Nodes
 pub mod Operands
 pub mod KindNumbers

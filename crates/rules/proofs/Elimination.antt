@@ -1,116 +1,90 @@
 -- What is left of the kinds where a number is none of some: what stands behind the last arm of a match.
 use Prim.Native.Nat.{ℕ, _≤_, _<_}
 use native.Mathlib.Omega.{arith}
-use mathlib.Core.Path.{_≡_, refl}
+use mathlib.Core.Path.{_≡_, refl, sym, _∙_}
+use mathlib.Core.Bool.{Bool, true, false, _||_}
 use mathlib.Core.List.{List, [], _∷_}
-use Rattle.image.specs.Kinds.{TermKind, termRow}
-use Rattle.rules.specs.Fields.{leadOf, countIn}
+use lib.Dec.{eqb, leb, ltb}
+use Rattle.image.specs.Tests.{all}
+use Rattle.image.specs.Kinds.{TermKind, termRow, leadOf}
+use Rattle.image.proofs.Facts.{no-path, lt-of, le-of, eq-of}
+use Rattle.image.proofs.KindNumbers.{same-term-kind}
+use Rattle.image.proofs.EveryKind.{everyOf, Everywhere, ofTerms, at-term, or-else}
+use Rattle.rules.specs.Fields.{countIn}
+use Rattle.rules.proofs.Counts.{childless, no-children}
 
--- The number m is none of a list, the last first.
-abbrev pub apart : ℕ → List ℕ → Type 0
+-- The number m is none of some kinds', the last first; k has the number of one of them.
+abbrev pub apart : ℕ → List TermKind → Type 0
 apart m [] = Unit {0}
-apart m (x ∷ xs) = apart m xs × (m ≡ x → ⊥)
+apart m (j ∷ js) = apart m js × (m ≡ termRow j .number → ⊥)
 
--- The kinds with a type alone before their children.
-pub one-before : (k : TermKind) → apart (termRow k .number) (52 ∷ 43 ∷ 35 ∷ 34 ∷ 33 ∷ []) → leadOf k ≡ 1
-one-before TermKind.unit r = refl
-one-before TermKind.truth r = absurd (r .0 .0 .0 .0 .1 refl)
-one-before TermKind.number r = absurd (r .0 .0 .0 .1 refl)
-one-before TermKind.var r = absurd (r .0 .0 .1 refl)
-one-before TermKind.seq r = refl
-one-before TermKind.print r = refl
-one-before TermKind.ite r = refl
-one-before TermKind.pair r = refl
-one-before TermKind.split r = refl
-one-before TermKind.fun r = refl
-one-before TermKind.app r = refl
-one-before TermKind.arith r = absurd (r .0 .1 refl)
-one-before TermKind.newLabel r = refl
-one-before TermKind.mark r = refl
-one-before TermKind.pcd r = refl
-one-before TermKind.adv r = refl
-one-before TermKind.install r = refl
-one-before TermKind.newCell r = refl
-one-before TermKind.read r = refl
-one-before TermKind.store r = refl
-one-before TermKind.lower r = absurd (r .1 refl)
-one-before TermKind.abort r = refl
-one-before TermKind.byte r = refl
+abbrev pub isOne : List TermKind → TermKind → Bool
+isOne [] k = false
+isOne (j ∷ js) k = eqb (termRow k .number) (termRow j .number) || isOne js k
 
--- The kinds without children.
-pub childless : (fs : List ℕ) (k : TermKind) → apart (termRow k .number) (60 ∷ 52 ∷ 51 ∷ 50 ∷ 49 ∷ 48 ∷ 47 ∷ 46 ∷ 45 ∷ 43 ∷ 42 ∷ 41 ∷ 40 ∷ 39 ∷ 38 ∷ 37 ∷ 36 ∷ []) → countIn fs k ≡ 0
-childless fs TermKind.unit r = refl
-childless fs TermKind.truth r = refl
-childless fs TermKind.number r = refl
-childless fs TermKind.var r = refl
-childless fs TermKind.seq r = absurd (r .0 .0 .0 .0 .0 .0 .0 .0 .0 .0 .0 .0 .0 .0 .0 .0 .1 refl)
-childless fs TermKind.print r = absurd (r .0 .0 .0 .0 .0 .0 .0 .0 .0 .0 .0 .0 .0 .0 .0 .1 refl)
-childless fs TermKind.ite r = absurd (r .0 .0 .0 .0 .0 .0 .0 .0 .0 .0 .0 .0 .0 .0 .1 refl)
-childless fs TermKind.pair r = absurd (r .0 .0 .0 .0 .0 .0 .0 .0 .0 .0 .0 .0 .0 .1 refl)
-childless fs TermKind.split r = absurd (r .0 .0 .0 .0 .0 .0 .0 .0 .0 .0 .0 .0 .1 refl)
-childless fs TermKind.fun r = absurd (r .0 .0 .0 .0 .0 .0 .0 .0 .0 .0 .0 .1 refl)
-childless fs TermKind.app r = absurd (r .0 .0 .0 .0 .0 .0 .0 .0 .0 .0 .1 refl)
-childless fs TermKind.arith r = absurd (r .0 .0 .0 .0 .0 .0 .0 .0 .0 .1 refl)
-childless fs TermKind.newLabel r = refl
-childless fs TermKind.mark r = absurd (r .0 .0 .0 .0 .0 .0 .0 .0 .1 refl)
-childless fs TermKind.pcd r = absurd (r .0 .0 .0 .0 .0 .0 .0 .1 refl)
-childless fs TermKind.adv r = absurd (r .0 .0 .0 .0 .0 .0 .1 refl)
-childless fs TermKind.install r = absurd (r .0 .0 .0 .0 .0 .1 refl)
-childless fs TermKind.newCell r = absurd (r .0 .0 .0 .0 .1 refl)
-childless fs TermKind.read r = absurd (r .0 .0 .0 .1 refl)
-childless fs TermKind.store r = absurd (r .0 .0 .1 refl)
-childless fs TermKind.lower r = absurd (r .0 .1 refl)
-childless fs TermKind.abort r = refl
-childless fs TermKind.byte r = absurd (r .1 refl)
+not-one : (m : ℕ) (js : List TermKind) → apart m js → (k : TermKind) → m ≡ termRow k .number → isOne js k ≡ true → ⊥
+not-one m [] r k e h = no-path (sym h)
+not-one m (j ∷ js) r k e h = not-one m js (r .0) k e (or-else (eqb (termRow k .number) (termRow j .number)) (isOne js k) h (λ z. r .1 (e ∙ eq-of z)))
 
--- The last of the kinds that may have children.
-pub last-kind : (k : TermKind) → apart (termRow k .number) (53 ∷ 52 ∷ 51 ∷ 50 ∷ 49 ∷ 48 ∷ 47 ∷ 46 ∷ 45 ∷ 44 ∷ 43 ∷ 42 ∷ 41 ∷ 40 ∷ 39 ∷ 38 ∷ 37 ∷ 36 ∷ []) → 35 < termRow k .number → k ≡ TermKind.byte
-last-kind TermKind.unit r l = absurd (omega arith)
-last-kind TermKind.truth r l = absurd (omega arith)
-last-kind TermKind.number r l = absurd (omega arith)
-last-kind TermKind.var r l = absurd (omega arith)
-last-kind TermKind.seq r l = absurd (r .0 .0 .0 .0 .0 .0 .0 .0 .0 .0 .0 .0 .0 .0 .0 .0 .0 .1 refl)
-last-kind TermKind.print r l = absurd (r .0 .0 .0 .0 .0 .0 .0 .0 .0 .0 .0 .0 .0 .0 .0 .0 .1 refl)
-last-kind TermKind.ite r l = absurd (r .0 .0 .0 .0 .0 .0 .0 .0 .0 .0 .0 .0 .0 .0 .0 .1 refl)
-last-kind TermKind.pair r l = absurd (r .0 .0 .0 .0 .0 .0 .0 .0 .0 .0 .0 .0 .0 .0 .1 refl)
-last-kind TermKind.split r l = absurd (r .0 .0 .0 .0 .0 .0 .0 .0 .0 .0 .0 .0 .0 .1 refl)
-last-kind TermKind.fun r l = absurd (r .0 .0 .0 .0 .0 .0 .0 .0 .0 .0 .0 .0 .1 refl)
-last-kind TermKind.app r l = absurd (r .0 .0 .0 .0 .0 .0 .0 .0 .0 .0 .0 .1 refl)
-last-kind TermKind.arith r l = absurd (r .0 .0 .0 .0 .0 .0 .0 .0 .0 .0 .1 refl)
-last-kind TermKind.newLabel r l = absurd (r .0 .0 .0 .0 .0 .0 .0 .0 .0 .1 refl)
-last-kind TermKind.mark r l = absurd (r .0 .0 .0 .0 .0 .0 .0 .0 .1 refl)
-last-kind TermKind.pcd r l = absurd (r .0 .0 .0 .0 .0 .0 .0 .1 refl)
-last-kind TermKind.adv r l = absurd (r .0 .0 .0 .0 .0 .0 .1 refl)
-last-kind TermKind.install r l = absurd (r .0 .0 .0 .0 .0 .1 refl)
-last-kind TermKind.newCell r l = absurd (r .0 .0 .0 .0 .1 refl)
-last-kind TermKind.read r l = absurd (r .0 .0 .0 .1 refl)
-last-kind TermKind.store r l = absurd (r .0 .0 .1 refl)
-last-kind TermKind.lower r l = absurd (r .0 .1 refl)
-last-kind TermKind.abort r l = absurd (r .1 refl)
-last-kind TermKind.byte r l = refl
+-- A test that passes at every kind but these passes at a kind whose number m is none of theirs.
+pub left-over : (f : TermKind → Bool) (js : List TermKind) → Everywhere (ofTerms (λ k. isOne js k || f k)) → (m : ℕ) → apart m js → (k : TermKind) → m ≡ termRow k .number → f k ≡ true
+left-over f js h m r k e = or-else (isOne js k) (f k) (at-term (λ k. isOne js k || f k) h k) (not-one m js r k e)
+
+-- The kinds with more than a type before their children.
+abbrev pub longLead : List TermKind
+longLead = TermKind.lower ∷ TermKind.arith ∷ TermKind.var ∷ TermKind.number ∷ TermKind.truth ∷ []
+
+pub one-before : (m : ℕ) → apart m longLead → (k : TermKind) → m ≡ termRow k .number → leadOf k ≡ 1
+unfolding everyOf
+one-before m r k e = eq-of (left-over (λ k. eqb (leadOf k) 1) longLead refl m r k e)
+
+-- The kinds with children.
+abbrev pub withChildren : List TermKind
+withChildren =
+    TermKind.byte ∷ TermKind.lower ∷ TermKind.store ∷ TermKind.read ∷ TermKind.newCell ∷ TermKind.install ∷ TermKind.adv ∷ TermKind.pcd ∷ TermKind.mark
+    ∷ TermKind.arith ∷ TermKind.app ∷ TermKind.fun ∷ TermKind.split ∷ TermKind.pair ∷ TermKind.ite ∷ TermKind.print ∷ TermKind.seq ∷ []
+
+pub none-below : (fs : List ℕ) (m : ℕ) → apart m withChildren → (k : TermKind) → m ≡ termRow k .number → countIn fs k ≡ 0
+unfolding everyOf all
+none-below fs m r k e = no-children fs k (left-over childless withChildren refl m r k e)
+
+-- The kinds that may have children, but the last.
+abbrev pub beforeLast : List TermKind
+beforeLast =
+    TermKind.abort ∷ TermKind.lower ∷ TermKind.store ∷ TermKind.read ∷ TermKind.newCell ∷ TermKind.install ∷ TermKind.adv ∷ TermKind.pcd ∷ TermKind.mark ∷ TermKind.newLabel
+    ∷ TermKind.arith ∷ TermKind.app ∷ TermKind.fun ∷ TermKind.split ∷ TermKind.pair ∷ TermKind.ite ∷ TermKind.print ∷ TermKind.seq ∷ []
+
+pub last-kind : (m : ℕ) → apart m beforeLast → (k : TermKind) → m ≡ termRow k .number → 35 < m → k ≡ TermKind.byte
+unfolding everyOf
+last-kind m r k e l =
+    let isLast : TermKind → Bool = λ k. leb (termRow k .number) 35 || eqb (termRow k .number) 60 in
+    let n : termRow k .number ≤ 35 → ⊥ = λ z. omega arith in
+    same-term-kind k TermKind.byte (eq-of (or-else (leb (termRow k .number) 35) (eqb (termRow k .number) 60) (left-over isLast beforeLast refl m r k e) (λ z. n (le-of z))))
 
 -- Constants and variables have no children.
 pub leaf-childless : (fs : List ℕ) (k : TermKind) → termRow k .number ≤ 35 → countIn fs k ≡ 0
-leaf-childless fs TermKind.unit l = refl
-leaf-childless fs TermKind.truth l = refl
-leaf-childless fs TermKind.number l = refl
-leaf-childless fs TermKind.var l = refl
-leaf-childless fs TermKind.seq l = absurd (omega arith)
-leaf-childless fs TermKind.print l = absurd (omega arith)
-leaf-childless fs TermKind.ite l = absurd (omega arith)
-leaf-childless fs TermKind.pair l = absurd (omega arith)
-leaf-childless fs TermKind.split l = absurd (omega arith)
-leaf-childless fs TermKind.fun l = absurd (omega arith)
-leaf-childless fs TermKind.app l = absurd (omega arith)
-leaf-childless fs TermKind.arith l = absurd (omega arith)
-leaf-childless fs TermKind.newLabel l = absurd (omega arith)
-leaf-childless fs TermKind.mark l = absurd (omega arith)
-leaf-childless fs TermKind.pcd l = absurd (omega arith)
-leaf-childless fs TermKind.adv l = absurd (omega arith)
-leaf-childless fs TermKind.install l = absurd (omega arith)
-leaf-childless fs TermKind.newCell l = absurd (omega arith)
-leaf-childless fs TermKind.read l = absurd (omega arith)
-leaf-childless fs TermKind.store l = absurd (omega arith)
-leaf-childless fs TermKind.lower l = absurd (omega arith)
-leaf-childless fs TermKind.abort l = absurd (omega arith)
-leaf-childless fs TermKind.byte l = absurd (omega arith)
+unfolding everyOf all
+leaf-childless fs k l =
+    let n : 35 < termRow k .number → ⊥ = λ z. omega arith in
+    no-children fs k (or-else (ltb 35 (termRow k .number)) (childless k) (at-term (λ k. ltb 35 (termRow k .number) || childless k) refl k) (λ z. n (lt-of z)))
+
+-- What holds of some kinds holds of a kind that has the number of one of them.
+abbrev Each : (TermKind → Type 0) → List TermKind → Type 0
+Each P [] = Unit {0}
+Each P (j ∷ js) = P j × Each P js
+
+one-of : (P : TermKind → Type 0) (js : List TermKind) → Each P js → (k : TermKind) → isOne js k ≡ true → P k
+one-of P [] h k e = no-path (sym e)
+one-of P (j ∷ js) h k e = go (λ z. one-of P js (h .1) k z) (eqb (termRow k .number) (termRow j .number)) refl
+  where
+    go : (isOne js k ≡ true → P k) → (x : Bool) → eqb (termRow k .number) (termRow j .number) ≡ x → P k
+    go next true q = rw (same-term-kind k j (eq-of q)) (h .0)
+    go next false q = next (or-else (eqb (termRow k .number) (termRow j .number)) (isOne js k) e (λ z. no-path (sym z ∙ q)))
+
+-- The constants: the kinds before a variable's.
+pub constants : (P : TermKind → Type 0) → P TermKind.unit → P TermKind.truth → P TermKind.number → (k : TermKind) → termRow k .number < 35 → P k
+unfolding everyOf
+constants P u t n k l =
+    let three : List TermKind = TermKind.unit ∷ TermKind.truth ∷ TermKind.number ∷ [] in
+    let m : 35 ≤ termRow k .number → ⊥ = λ z. omega arith in
+    one-of P three (u, (t, (n, tt))) k (or-else (leb 35 (termRow k .number)) (isOne three k) (at-term (λ k. leb 35 (termRow k .number) || isOne three k) refl k) (λ z. m (le-of z)))

@@ -1,45 +1,45 @@
--- What a type's key says of the type.
-use Prim.Native.Nat.{ℕ, _<_}
-use mathlib.Core.Path.{_≡_, sym, ap, subst, _∙_}
-use mathlib.Core.Bool.{true}
-use mathlib.Core.List.{List}
+-- A type's key says all that the rules ask of the type: its descriptor.
+use Prim.Native.Nat.{ℕ, zero, suc, _+_, _<_}
+use native.Mathlib.Omega.{arith}
+use mathlib.Core.Path.{_≡_, refl, sym, ap, subst, _∙_}
+use mathlib.Core.List.{List, [], _∷_}
 use lib.ListN.{length, getD}
-use lib.Dec.{eqb}
-use Rattle.image.specs.Kinds.{TypeKind, domain, type, typeRow, rowOf}
-use Rattle.image.specs.Layout.{Layout, orElse, kindAt, recordsOf}
-use Rattle.image.specs.Types.{typePlace, typeField, isType}
+use Rattle.image.specs.Kinds.{domain, type, typeRow, rowOf}
+use Rattle.image.specs.Records.{Layout, orElse, kindAt, fieldsAt, numbersAt}
+use Rattle.image.specs.Layout.{recordsOf}
+use Rattle.image.specs.Types.{typePlace, typeKind, typeField}
 use Rattle.image.proofs.Laid.{Good, layout-good, image-kept}
-use Rattle.image.proofs.TypeNumbers.{type-kind}
-use Rattle.records.specs.Keys.{keyField0, keyField1, keyField2, fieldOr0, Key}
-use Rattle.records.proofs.Keys.{has-field}
-use Rattle.rules.specs.Lent.{Types}
-use Rattle.rules.specs.Judged.{keyIs}
+use Rattle.image.proofs.Offsets.{no-number}
+use Rattle.verdicts.specs.Rules.{Descriptor}
+use Rattle.verdicts.specs.Check.{describe}
+use Rattle.verdicts.proofs.Descriptors.{same-descriptor}
+use Rattle.records.specs.Keys.{keyKind, keyField0, keyField1, keyField2, fieldOr0, Key}
+use Rattle.records.proofs.Keys.{type-fields, few-fields}
+use Rattle.rules.specs.Lent.{Types, IsType}
 
--- The kind of type t is the kind of the key x; where t is of a kind, the fields of that kind are those of x.
-pub record Says (L : Layout) (t x : ℕ) : Type 0 where
-  pub is : (k : TypeKind) → isType L k t ≡ keyIs x k
-  pub field0 : (k : TypeKind) → isType L k t ≡ true → 0 < length (typeRow k .fields) → typeField L t 0 ≡ keyField0 x
-  pub field1 : (k : TypeKind) → isType L k t ≡ true → 1 < length (typeRow k .fields) → typeField L t 1 ≡ keyField1 x
-  pub field2 : (k : TypeKind) → isType L k t ≡ true → 2 < length (typeRow k .fields) → typeField L t 2 ≡ keyField2 x
+-- What the key x says of type t. No type has more than three fields.
+abbrev pub keyed : ℕ → ℕ → Descriptor
+keyed t x = record { number = t; kind = keyKind x; part = λ i. getD (keyField0 x ∷ keyField1 x ∷ keyField2 x ∷ []) i 0 }
 
 module _ (L : Layout) (good : Good L) (t : ℕ) (h : t < length (L .types)) where
-  kind-at : (k : TypeKind) → isType L k t ≡ true → kindAt (L .image) (typePlace L t) ≡ type k
-  kind-at k e = ap (λ q. orElse q domain) (good .types t h .kind) ∙ ap type (type-kind L good k t h e)
+  kind-at : kindAt (L .image) (typePlace L t) ≡ type (typeKind L t)
+  kind-at = ap (λ q. orElse q domain) (good .types t h .kind)
 
-  has : (k : TypeKind) → isType L k t ≡ true → (i : ℕ) → i < length (typeRow k .fields) → fieldOr0 (L .image) (typePlace L t) i ≡ typeField L t i
-  has k e i l = has-field (L .image) (typePlace L t) i (subst (λ q. i < length (rowOf q .fields)) (sym (kind-at k e)) l)
+  read : (i : ℕ) → typeField L t i ≡ fieldOr0 (L .image) (typePlace L t) i
+  read i = ap (λ K. getD (numbersAt (L .image) (typePlace L t) (rowOf K)) i 0) (sym kind-at)
 
-  says : (x : ℕ) → Key (L .image) (typePlace L t) x → Says L t x
-  says x key =
-      record {
-        is = λ k. ap (λ n. eqb n (typeRow k .number)) (sym (key .kind));
-        field0 = λ k e l. sym (has k e 0 l) ∙ sym (key .field0);
-        field1 = λ k e l. sym (has k e 1 l) ∙ sym (key .field1);
-        field2 = λ k e l. sym (has k e 2 l) ∙ sym (key .field2);
-      }
+  part-is : (x : ℕ) → Key (L .image) (typePlace L t) x → (i : ℕ) → typeField L t i ≡ keyed t x .part i
+  part-is x key zero = read 0 ∙ sym (key .field0)
+  part-is x key (suc zero) = read 1 ∙ sym (key .field1)
+  part-is x key (suc (suc zero)) = read 2 ∙ sym (key .field2)
+  part-is x key (suc (suc (suc i))) =
+      let n : length (fieldsAt (L .image) (typePlace L t) (typeRow (typeKind L t))) ≡ length (typeRow (typeKind L t) .first) + length (typeRow (typeKind L t) .last) = type-fields (typeKind L t) _ in
+      let few = few-fields (typeKind L t) in
+      no-number (L .image) (typePlace L t) (typeRow (typeKind L t)) (suc (suc (suc i))) (omega arith)
 
-pub key-says : (b table : List ℕ) → Types b table → (t : ℕ) → t < length (recordsOf b .types) → Says (recordsOf b) t (getD table t 0)
-key-says b table T t h =
-    let e : recordsOf b .image ≡ b = image-kept b (recordsOf b) (T .laid-out) in
-    says (recordsOf b) (layout-good b (recordsOf b) (T .laid-out)) t h (getD table t 0)
-    (subst (λ i. Key i (typePlace (recordsOf b) t) (getD table t 0)) (sym e) (T .keys t h))
+pub describes : {b keys : List ℕ} → Types b keys → {t : ℕ} → IsType b t → describe (recordsOf b) t ≡ keyed t (getD keys t 0)
+describes {b} {keys} T {t} h =
+    let L : Layout = recordsOf b in
+    let e : L .image ≡ b = image-kept b L (T .laid-out) in
+    let key : Key (L .image) (typePlace L t) (getD keys t 0) = subst (λ i. Key i (typePlace L t) (getD keys t 0)) (sym e) (T .keys t h) in
+    same-descriptor (describe L t) (keyed t (getD keys t 0)) refl (sym (key .kind)) (part-is L (layout-good b L (T .laid-out)) t h (getD keys t 0) key)

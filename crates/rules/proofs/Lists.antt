@@ -61,11 +61,11 @@ module _ (ok : ℕ → Bool) (xs : List ℕ) (i : ℕ) where
   unfolding allOf
   test-ends h = rw (drop-of-length-le xs h)
 
--- Tests that agree on each element.
-pub tests-agree : (p q : ℕ → Bool) (xs : List ℕ) → ((i : ℕ) → i < length xs → p (getD xs i 0) ≡ q (getD xs i 0)) → allOf p xs ≡ allOf q xs
-unfolding allOf
-tests-agree p q [] h = refl
-tests-agree p q (x ∷ xs) h = let a : p x ≡ q x = h 0 (omega arith) in rw (a, tests-agree p q xs (λ i l. h (suc i) (omega arith)))
+-- Tests of each element of a mapped list.
+pub tests-mapped : {A : Type 0} (f : ℕ → A) (p : A → Bool) (xs : List ℕ) → all (map p (map f xs)) ≡ allOf (λ x. p (f x)) xs
+unfolding all allOf
+tests-mapped f p [] = refl
+tests-mapped f p (x ∷ xs) = ap (λ b. p (f x) && b) (tests-mapped f p xs)
 
 -- Two tests of each element.
 pub tests-both : (p q : ℕ → Bool) (xs : List ℕ) → all (allOf p xs ∷ allOf q xs ∷ []) ≡ allOf (λ x. all (p x ∷ q x ∷ [])) xs

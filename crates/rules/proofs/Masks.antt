@@ -12,11 +12,13 @@ use Rattle.image.specs.Bytes.{le16, lengthAt, fieldAt}
 use Rattle.image.specs.Kinds.{domainRow}
 use Rattle.image.specs.Layout.{recordsOf}
 use Rattle.image.specs.Types.{domainPlace}
+use Rattle.image.specs.LaidOut.{Stands}
 use Rattle.image.proofs.Facts.{lt-of, ge-of}
 use Rattle.image.proofs.Words.{le16-part}
-use Rattle.image.proofs.Laid.{Stands, layout-good, image-kept}
-use Rattle.verdicts.specs.Order.{bits, masks, order, leq}
-use Rattle.records.specs.Heads.{fieldBytes}
+use Rattle.image.proofs.Laid.{layout-good, image-kept}
+use Rattle.verdicts.specs.Domains.{bits, masks, order, leq}
+use Rattle.records.specs.Heads.{IsWhole, fieldsAt}
+use Rattle.records.proofs.Parts.{bytes-length}
 use Rattle.rules.specs.Lent.{Domains, Masks}
 use Rattle.rules.specs.Judged.{bitOf}
 use Rattle.rules.proofs.Lists.{map-at, table-long, table-at}
@@ -70,16 +72,15 @@ module _ {b table : List ℕ} (D : Domains b table) {d : ℕ} (h : d < length (r
   domain-stands : Stands b domainRow (domainPlace (recordsOf b) d)
   domain-stands = subst (λ i. Stands i domainRow (domainPlace (recordsOf b) d)) (image-kept b (recordsOf b) (D .laid-out)) (layout-good b (recordsOf b) (D .laid-out) .domains d h)
 
-  pub domain-inside : domainPlace (recordsOf b) d + lengthAt b (domainPlace (recordsOf b) d) ≤ length b
-  domain-inside = domain-stands .inside
+  pub domain-whole : IsWhole b (domainPlace (recordsOf b) d)
+  domain-whole = (omega (arith, domain-stands .size), domain-stands .inside)
 
-  pub domain-long : 6 ≤ lengthAt b (domainPlace (recordsOf b) d)
-  domain-long = let z = domain-stands .size in omega arith
+  pub mask-there : 1 < length (fieldsAt b (domainPlace (recordsOf b) d))
+  mask-there = rw (bytes-length b (domainPlace (recordsOf b) d) domain-whole) (omega (arith, domain-stands .size))
 
-  pub mask-is : le16 (fieldBytes b (domainPlace (recordsOf b) d) (lengthAt b (domainPlace (recordsOf b) d))) 0 ≡ getD (masks (recordsOf b)) d 0
+  pub mask-is : le16 (fieldsAt b (domainPlace (recordsOf b) d)) 0 ≡ getD (masks (recordsOf b)) d 0
   mask-is =
       let o : ℕ = domainPlace (recordsOf b) d in
-      let l = domain-long in
-      le16-part b (o + 4) (lengthAt b o - 4) 0 (omega arith)
+      le16-part b (o + 4) (lengthAt b o - 4) 0 (omega (arith, domain-stands .size))
       ∙ sym (ap (λ i. fieldAt i o 0) (image-kept b (recordsOf b) (D .laid-out)))
       ∙ sym (map-at (λ o. fieldAt (recordsOf b .image) o 0) (recordsOf b .domains) d 0 0 h)

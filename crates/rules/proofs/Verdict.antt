@@ -10,12 +10,13 @@ use Rattle.image.specs.declared.Refusal.{Refusal}
 use Rattle.image.specs.Bytes.{words}
 use Rattle.image.specs.Kinds.{TermKind}
 use Rattle.image.specs.Layout.{recordsOf}
-use Rattle.image.specs.Types.{termPlace, termKind}
+use Rattle.image.specs.Types.{termPlace, termKind, children}
 use Rattle.verdicts.specs.declared.Verdict.{Verdict}
 use Rattle.verdicts.specs.Settings.{Setting}
 use Rattle.verdicts.specs.Check.{ruleAt, settingAt}
+use Rattle.records.specs.Heads.{fieldIn}
 use Rattle.rules.specs.Lent.{Terms, IsTerm, contextIn, settingIn}
-use Rattle.rules.specs.Fields.{fieldsOf, fieldIn, ruleIn, settingFrom}
+use Rattle.rules.specs.Fields.{fieldsOf, ruleIn, settingFrom}
 use Rattle.rules.specs.Judged.{judged, ruleVerdict}
 use Rattle.rules.proofs.Small.{unbound}
 use Rattle.rules.proofs.Scopes.{context-length, context-at}

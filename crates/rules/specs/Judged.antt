@@ -1,4 +1,4 @@
--- What a term's rule (document 01, "Typing"; the crate verdicts, Check) comes to, and the tests that a rule is made of, on the keys of types and the masks of domains.
+-- What a term's rule (document 01, "Typing"; the crate verdicts, Rules) comes to, and the tests that a rule is made of, on the keys of types and the masks of domains.
 use Prim.Native.Nat.{ℕ, _/_, _%_, _^_}
 use mathlib.Core.Bool.{Bool, false}
 use mathlib.Core.List.{List, [], _∷_}
@@ -8,11 +8,12 @@ use lib.Dec.{eqb, ltb}
 use Rattle.image.specs.Limits.{domainLimit}
 use Rattle.image.specs.Tests.{all, firstFault}
 use Rattle.image.specs.Kinds.{TypeKind, typeRow}
-use Rattle.image.specs.Layout.{Layout}
+use Rattle.image.specs.Records.{Layout}
 use Rattle.image.specs.Types.{termPlace}
 use Rattle.verdicts.specs.declared.Verdict.{Verdict}
 use Rattle.verdicts.specs.Settings.{Setting}
-use Rattle.verdicts.specs.Check.{Rule, ruleFaults, ruleAt}
+use Rattle.verdicts.specs.Rules.{Rule, ruleFaults}
+use Rattle.verdicts.specs.Check.{ruleAt}
 use Rattle.calculus.specs.Combinators.{choose}
 use Rattle.records.specs.Keys.{keyKind, keyField0, keyField1}
 
@@ -31,10 +32,6 @@ keyIs x k = eqb (keyKind x) (typeRow k .number)
 -- Bit q of domain d's mask.
 unfoldable pub bitOf : List ℕ → ℕ → ℕ → Bool
 bitOf ms d q = choose (ltb d domainLimit) (choose (ltb q domainLimit) (eqb (getD ms d 0 / 2 ^ q % 2) 1) false) false
-
--- The kind of type that arithmetic gives, by its operation.
-abbrev pub resultKind : ℕ → ℕ
-resultKind f = choose (ltb f 2) (typeRow TypeKind.number .number) (typeRow TypeKind.truth .number)
 
 -- Of a pointcut's label, whose type is t, keys being the keys of the types by number: it is a label of a; its domain is one that d is below.
 abbrev pub labelOf : List ℕ → ℕ → ℕ → Bool

@@ -7,7 +7,7 @@ use Rattle.calculus.specs.Syntax.{Dom}
 use Rattle.image.specs.Limits.{domainLimit}
 use Rattle.image.specs.Layout.{laid, layout, recordsOf}
 use Rattle.image.specs.Types.{typePlace}
-use Rattle.verdicts.specs.Order.{masks}
+use Rattle.verdicts.specs.Domains.{masks}
 use Rattle.verdicts.specs.Settings.{Setting}
 use Rattle.records.specs.Keys.{Key}
 

@@ -24,11 +24,12 @@ use verdicts::Verdict;
 ghost use mathlib.Core.Path.{_≡_};
 ghost use mathlib.Core.List.{List};
 ghost use Prim.Native.Nat.{ℕ};
-ghost use Rattle.image.specs.Kinds.{TermKind};
+ghost use Rattle.image.specs.Kinds.{TermKind, typeRow};
 ghost use Rattle.verdicts.specs.Settings.{Setting};
+ghost use Rattle.verdicts.specs.Rules.{opGives};
 ghost use Rattle.rules.specs.Lent.{Lent};
 ghost use Rattle.rules.specs.Fields.{ruleIn, Typed, Behind};
-ghost use Rattle.rules.specs.Judged.{judged, resultKind};
+ghost use Rattle.rules.specs.Judged.{judged};
 
 // Sequence: the first is unit, the second gives the type.
 pub fn check_sequence(
@@ -170,7 +171,7 @@ pub fn check_apply(
 
 // The kind of type that arithmetic gives: a number for plus and minus, truth for less and equal.
 fn result_kind(f: u16) -> u16
-    ensures { λ r. ⌜ r ≡ resultKind f ⌝ }
+    ensures { λ r. ⌜ r ≡ typeRow (opGives f) .number ⌝ }
 {
     if f < 2 { NUMBER_TYPE } else { TRUTH_TYPE }
 }

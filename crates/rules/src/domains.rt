@@ -6,7 +6,7 @@ ghost use lib.ListN.{length, getD, set, replicate};
 ghost use lib.Dec.{eqb};
 ghost use Rattle.image.specs.Limits.{domainLimit};
 ghost use Rattle.image.specs.Layout.{recordsOf};
-ghost use Rattle.verdicts.specs.Order.{masks};
+ghost use Rattle.verdicts.specs.Domains.{masks};
 ghost use Rattle.rules.specs.Lent.{Domains, Masks};
 ghost use Rattle.rules.specs.Judged.{bitOf};
 
@@ -44,8 +44,7 @@ fn mask_of(image: &[u8], doms: &[u16], d: DomainNo) -> u16
     ensures { λ r. ⌜ r ≡ getD (masks (recordsOf (now (image .entry)))) (d .0) 0 ⌝ }
 {
     let at = records::numbers::domain_offset(doms, d);
-    let len = records::words::word(image, at) as usize;
-    records::words::word(records::reader::fields_from(image, at, len), 0)
+    records::words::word(records::reader::fields_at(image, at), 0)
 }
 
 fn set_mask(table: &mut [u16; 16], d: DomainNo, mask: u16)

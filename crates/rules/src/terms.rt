@@ -9,11 +9,12 @@ ghost use mathlib.Core.Path.{_≡_};
 ghost use Prim.Native.Nat.{_+_, _*_, _<_};
 ghost use lib.ListN.{length, getD};
 ghost use Rattle.image.specs.Bytes.{numberAt};
-ghost use Rattle.image.specs.Kinds.{TermKind, termRow};
+ghost use Rattle.image.specs.Kinds.{TermKind, termRow, leadOf};
 ghost use Rattle.image.specs.Layout.{recordsOf};
 ghost use Rattle.image.specs.Types.{termPlace, typeNo};
+ghost use Rattle.records.specs.Heads.{fieldIn};
 ghost use Rattle.rules.specs.Lent.{Terms, Types, IsTerm, IsType};
-ghost use Rattle.rules.specs.Fields.{fieldsOf, fieldIn, leadOf, countIn, Behind};
+ghost use Rattle.rules.specs.Fields.{fieldsOf, countIn, Behind};
 
 // The offset of a term's record.
 pub fn term_place(image: &[u8], terms: &[u16], n: TermNo) -> usize
@@ -36,9 +37,7 @@ pub fn term_fields<'a>(image: &'a [u8], terms: &[u16], n: TermNo) -> &'a [u8]
     requires { ⌜ Terms (now image) (now terms) × IsTerm (now image) (n .0) ⌝ }
     ensures { λ r. ⌜ now r ≡ fieldsOf (now (image .entry)) (n .0) ⌝ }
 {
-    let at = term_place(image, terms, n);
-    let len = word(image, at) as usize;
-    records::reader::fields_from(image, at, len)
+    records::reader::fields_at(image, term_place(image, terms, n))
 }
 
 // The type, which every term has first.

@@ -1,20 +1,20 @@
 -- Laws of the records of domains and terms: what a layout says of them, and what stands in their fields.
-use Prim.Native.Nat.{ℕ, _+_, _-_, _*_, _/_, _≤_, _<_}
+use Prim.Native.Nat.{ℕ, _+_, _*_, _≤_, _<_}
 use native.Mathlib.Omega.{arith}
 use mathlib.Core.Path.{_≡_, refl, ap, subst, sym, _∙_}
 use mathlib.Core.List.{List}
-use mathlib.Core.Option.{some}
 use lib.ListN.{length, getD, take}
-use Rattle.image.specs.Bytes.{le16, lengthAt, numberAt}
-use Rattle.image.specs.Kinds.{TermKind, term, termRow, kindOf}
-use Rattle.image.specs.Layout.{Layout, childrenAt, recordsOf}
+use Rattle.image.specs.Bytes.{le16}
+use Rattle.image.specs.Records.{Layout}
+use Rattle.image.specs.Layout.{recordsOf}
+use Rattle.image.specs.Types.{termPlace, termKind, children}
 use Rattle.image.proofs.Words.{words-length, words-at}
-use Rattle.image.proofs.Laid.{Below, Stands, Good, below-at, layout-good, image-kept}
-use Rattle.records.specs.Codes.{countOf, childrenIn, codeAt}
-use Rattle.records.specs.Heads.{IsWhole, fieldIn, childrenOf}
+use Rattle.image.proofs.Laid.{Below, Good, below-at, layout-good, image-kept}
+use Rattle.records.specs.Codes.{countOf, childrenIn}
+use Rattle.records.specs.Heads.{fieldIn, childrenOf}
 use Rattle.records.specs.Tables.{Tables}
-use Rattle.records.proofs.Codes.{Packs, known-code, kind-small, kind-sized, children-count}
-use Rattle.records.proofs.Parts.{fields-length, children-are}
+use Rattle.records.proofs.Codes.{known-code, kind-small}
+use Rattle.records.proofs.Parts.{whole, children-fit, children-are}
 use Rattle.shape.specs.Records.{TermAt, childrenOfTerm, Lower, DomainsOf, Domains, TermsOf, Terms}
 
 -- The children in the fields fs of a record whose kind has the code x: how many there are, and child j.
@@ -44,40 +44,19 @@ module _ (L : Layout) (G : Good L) where
         stands = λ d l. let s = G .domains d l in record { whole = (omega (arith, s .size), s .inside); mask = omega (arith, s .size) };
       }
 
-  -- A term's record, of the kind k, and its children.
-  module _ (o : ℕ) (k : TermKind) (known : kindOf (numberAt (L .image) o) ≡ some (term k)) (S : Stands (L .image) (termRow k) o) where
-    abbrev b : List ℕ
-    b = L .image
+  -- A term's record, and its children.
+  module _ (n : ℕ) (l : n < length (L .terms)) where
+    good-children : children L n ≡ childrenOfTerm (L .image) (termPlace L n)
+    good-children = let g = G .terms n l in sym (children-are (L .image) (termPlace L n) (termKind L n) _ (known-code _ _ (g .kind)) (g .is .stands))
 
-    abbrev x : ℕ
-    x = codeAt (numberAt b o)
-
-    packs : Packs (term k) x
-    packs = known-code (numberAt b o) (term k) known
-
-    whole : IsWhole b o
-    whole = (omega (arith, S .size), S .inside)
-
-    count : childrenIn x (lengthAt b o - 4) ≡ (lengthAt b o - 4) / 2 - countOf x
-    count =
-        let P = packs in
-        let c = P .count in
-        let l = P .least in
-        let m = P .most in
-        let s = S .size in
-        let u = S .least in
-        let v = S .most in
-        children-count x (lengthAt b o - 4) (kind-sized (term k) x P) (omega arith) (omega arith)
-
-    good-children : childrenAt b o (termRow k) ≡ childrenOfTerm b o
-    good-children = sym (children-are b o (termRow k) x whole (packs .count) count (omega (arith, S .size)))
-
-    good-term : TermAt b o
+    good-term : TermAt (L .image) (termPlace L n)
     good-term =
+        let g = G .terms n l in
+        let P = known-code _ _ (g .kind) in
         record {
-          known = kind-small _ _ known;
-          whole = whole;
-          fitting = rw (fields-length b o whole, count) (let c = packs .count in let s = S .size in omega arith);
+          known = kind-small _ _ (g .kind);
+          whole = whole (L .image) (termPlace L n) (termKind L n) _ P (g .is .stands);
+          fitting = children-fit (L .image) (termPlace L n) (termKind L n) _ P (g .is .stands);
         }
 
   good-terms : TermsOf L (L .image) (L .terms)
@@ -85,9 +64,9 @@ module _ (L : Layout) (G : Good L) where
       record {
         offsets = refl;
         few = G .few-terms;
-        stands = λ n l. let g = G .terms n l in good-term _ _ (g .kind) (g .stands);
-        lower = λ n l. let g = G .terms n l in rw (← good-children _ _ (g .kind) (g .stands)) (below-lower n _ (g .below));
-        same = λ n l. let g = G .terms n l in good-children _ _ (g .kind) (g .stands);
+        stands = good-term;
+        lower = λ n l. rw (← good-children n l) (below-lower n _ (G .terms n l .below));
+        same = good-children;
       }
 
 -- The tables hold them.

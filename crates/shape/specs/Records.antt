@@ -7,7 +7,7 @@ use Rattle.image.specs.Limits.{domainLimit, termLimit}
 use Rattle.image.specs.Bytes.{numberAt, lengthAt}
 use Rattle.image.specs.Layout.{Layout, recordsOf}
 use Rattle.image.specs.Types.{children}
-use Rattle.records.specs.Codes.{codeAt}
+use Rattle.records.specs.Codes.{codeCount, codeAt}
 use Rattle.records.specs.Heads.{IsWhole, fieldsAt, Fitting, childrenOf}
 
 -- The record at o is a whole one, and has a mask.
@@ -28,7 +28,7 @@ Domains b ds = DomainsOf (recordsOf b) b ds
 
 -- The record at o is a whole one of a known kind, with the kind's fields and children; these.
 pub record TermAt (b : List ℕ) (o : ℕ) : Type 0 where
-  pub known : numberAt b o < 61
+  pub known : numberAt b o < codeCount
   pub whole : IsWhole b o
   pub fitting : Fitting (codeAt (numberAt b o)) (fieldsAt b o)
 

@@ -2,7 +2,7 @@
 use Prim.Native.Nat.{ℕ, _+_, _<_}
 use native.Mathlib.Omega.{arith}
 use native.Mathlib.Numerals.{add-one}
-use mathlib.Core.Path.{_≡_, refl, sym, ap, subst, _∙_}
+use mathlib.Core.Path.{_≡_, refl, sym, ap, _∙_}
 use mathlib.Core.Bool.{true}
 use mathlib.Core.List.{List, [], _∷_}
 use lib.ListN.{length, getD, set, length-set}
@@ -10,19 +10,24 @@ use lib.Seq.{getD-set-same, take-set-le}
 use lib.Dec.{lit<}
 use Rattle.calculus.specs.Plain.{domOf}
 use Rattle.image.specs.Bytes.{words}
-use Rattle.image.specs.Kinds.{no-body, a-type, free, TypeKind, typeRow, TermKind, termRow}
+use Rattle.image.specs.Kinds.{a-type, free, Body, here, function-body, advice-body, split-body, lower-body, TypeKind, typeRow, TermKind, termRow, bodyOf}
+use Rattle.image.specs.Records.{fieldsAt}
 use Rattle.image.specs.Layout.{recordsOf}
-use Rattle.image.specs.Types.{typeKind, typeField, isType, typeOut, typeOf}
+use Rattle.image.specs.Types.{typePlace, typeField, isType, typeOut, typeOf}
 use Rattle.image.proofs.Facts.{each}
-use Rattle.image.proofs.TypeNumbers.{type-kind, out-as}
+use Rattle.image.proofs.Bodies.{Owner, body-owner}
+use Rattle.image.proofs.TypeNumbers.{out-as}
 use Rattle.verdicts.specs.Settings.{Setting}
+use Rattle.verdicts.proofs.Contexts.{part-there}
+use Rattle.records.specs.Heads.{fieldIn}
 use Rattle.records.specs.Keys.{keyField0, keyField1}
 use Rattle.rules.specs.Lent.{Types, Lent, IsType, contextIn, settingIn}
-use Rattle.rules.specs.Fields.{fieldIn, countIn}
+use Rattle.rules.specs.Fields.{countIn}
+use Rattle.rules.proofs.Keys.{keyed, describes}
 use Rattle.rules.proofs.Located.{good-of}
 use Rattle.rules.proofs.Scopes.{context-kept}
 use Rattle.rules.proofs.Elimination.{apart}
-use Rattle.rules.proofs.ByKind.{ownKey, typeBehind, keyBehind, own-says, behind-typed, behind-says}
+use Rattle.rules.proofs.OnKeys.{ownKey, typeBehind, keyBehind, behind-typed}
 use Rattle.typing.specs.Turns.{Passed, ChildAt}
 
 -- One variable more.
@@ -33,40 +38,29 @@ bound-context scope len v h =
     let k : contextIn (set scope len v) len ≡ contextIn scope len = context-kept (set scope len v) scope len (take-set-le len scope len v (omega arith)) in
     rw (add-one len, a, k)
 
--- The kinds whose children all stand where the term does.
-no-own-body : (k : TermKind) → apart (termRow k .number) (47 ∷ 40 ∷ 52 ∷ 41 ∷ []) → termRow k .body ≡ no-body
-no-own-body TermKind.unit r = refl
-no-own-body TermKind.truth r = refl
-no-own-body TermKind.number r = refl
-no-own-body TermKind.var r = refl
-no-own-body TermKind.seq r = refl
-no-own-body TermKind.print r = refl
-no-own-body TermKind.ite r = refl
-no-own-body TermKind.pair r = refl
-no-own-body TermKind.split r = absurd (r .0 .1 refl)
-no-own-body TermKind.fun r = absurd (r .0 .0 .0 .1 refl)
-no-own-body TermKind.app r = refl
-no-own-body TermKind.arith r = refl
-no-own-body TermKind.newLabel r = refl
-no-own-body TermKind.mark r = refl
-no-own-body TermKind.pcd r = refl
-no-own-body TermKind.adv r = absurd (r .1 refl)
-no-own-body TermKind.install r = refl
-no-own-body TermKind.newCell r = refl
-no-own-body TermKind.read r = refl
-no-own-body TermKind.store r = refl
-no-own-body TermKind.lower r = absurd (r .0 .0 .1 refl)
-no-own-body TermKind.abort r = refl
-no-own-body TermKind.byte r = refl
+-- The kinds that have a body which stands elsewhere; the children of any other kind stand where the term does.
+abbrev pub withBody : List TermKind
+withBody = TermKind.adv ∷ TermKind.split ∷ TermKind.lower ∷ TermKind.fun ∷ []
+
+is-here : (body : Body) (k : TermKind) → Owner k body → (m : ℕ) → apart m withBody → m ≡ termRow k .number → body ≡ here
+is-here here k w m r e = refl
+is-here function-body k w m r e = absurd (r .0 .0 .0 .1 (e ∙ ap (λ j. termRow j .number) w))
+is-here advice-body k w m r e = absurd (r .1 (e ∙ ap (λ j. termRow j .number) w))
+is-here split-body k w m r e = absurd (r .0 .1 (e ∙ ap (λ j. termRow j .number) w))
+is-here lower-body k w m r e = absurd (r .0 .0 .1 (e ∙ ap (λ j. termRow j .number) w))
 
 module _ {b keys : List ℕ} (T : Types b keys) {t : ℕ} (h : IsType b t) where
+  -- What its key says of a type's fields.
+  part-is : (i : ℕ) → typeField (recordsOf b) t i ≡ keyed t (getD keys t 0) .part i
+  part-is i = ap (λ d. d .part i) (describes T h)
+
   -- A type that is a part of another has a number of one byte.
-  part-small : (k : TypeKind) (i : ℕ) → isType (recordsOf b) k t ≡ true → getD (typeRow k .fields) i free ≡ a-type → typeField (recordsOf b) t i < 256
+  part-small : (k : TypeKind) (i : ℕ) → isType (recordsOf b) k t ≡ true → getD (fieldsAt (recordsOf b .image) (typePlace (recordsOf b) t) (typeRow k)) i free ≡ a-type → keyed t (getD keys t 0) .part i < 256
   part-small k i e q =
       let g = good-of b (T .laid-out) in
-      let y : typeKind (recordsOf b) t ≡ k = type-kind (recordsOf b) g k t h e in
-      let l = g .types t h .lower i (subst (λ j. getD (typeRow j .fields) i free ≡ a-type) (sym y) q) in
+      let l = part-there (recordsOf b) g k i t h e q in
       let f = g .few-types in
+      let p = part-is i in
       omega arith
 
   -- The domain that a function's type names, and an advice's.
@@ -87,15 +81,14 @@ module _ {b keys fs scope : List ℕ} {len c : ℕ} (T : Types b keys) (P : Pass
   function-type = each _ (P .fits) .0
 
   pub function-small : keyField0 (ownKey keys fs) < 256
-  function-small = rw (← own-says T (P .typed) .field0 TypeKind.fun function-type (lit< tt)) (part-small T (P .typed .type) TypeKind.fun 0 function-type refl)
+  function-small = part-small T (P .typed .type) TypeKind.fun 0 function-type refl
 
-  pub function-at : (i : ℕ) → ChildAt b fs TermKind.fun i scope (set scope len (keyField0 (ownKey keys fs))) len c (len + 1) (keyField1 (ownKey keys fs))
-  function-at i =
+  pub function-at : ChildAt b fs TermKind.fun 0 scope (set scope len (keyField0 (ownKey keys fs))) len c (len + 1) (keyField1 (ownKey keys fs))
+  function-at =
       let r = P .room in
       let l = P .places in
-      let O = own-says T (P .typed) in
-      let x = O .field0 TypeKind.fun function-type (lit< tt) in
-      let y = O .field1 TypeKind.fun function-type (lit< tt) in
+      let x : typeField (recordsOf b) (fieldIn fs 0) 0 ≡ keyField0 (ownKey keys fs) = part-is T (P .typed .type) 0 in
+      let y : typeField (recordsOf b) (fieldIn fs 0) 1 ≡ keyField1 (ownKey keys fs) = part-is T (P .typed .type) 1 in
       let d = function-domain T (P .typed .type) function-type in
       record {
         stands = settings-alike (bound-context scope len (keyField0 (ownKey keys fs)) (omega arith) ∙ ap (λ a. a ∷ contextIn scope len) (sym x)) (sym y ∙ sym d);
@@ -115,17 +108,15 @@ module _ {b terms keys fs scope : List ℕ} {len c : ℕ} (G : Lent b terms keys
   pointcut-type = each _ (P .fits) .1 .0
 
   pub advice-small : keyField0 (keyBehind b keys fs 1) < 256
-  advice-small =
-      let u = P .children 0 (lit< tt) in
-      rw (← behind-says G u .field0 TypeKind.pcd pointcut-type (lit< tt)) (part-small (G .types) (behind-typed G u) TypeKind.pcd 0 pointcut-type refl)
+  advice-small = part-small (G .types) (behind-typed G (P .children 0 (lit< tt))) TypeKind.pcd 0 pointcut-type refl
 
   pub advice-at : ChildAt b fs TermKind.adv 1 scope (set scope len (keyField0 (keyBehind b keys fs 1))) len c (len + 1) (keyField0 (ownKey keys fs))
   unfolding words
   advice-at =
       let r = P .room in
       let l = P .places in
-      let x = behind-says G (P .children 0 (lit< tt)) .field0 TypeKind.pcd pointcut-type (lit< tt) in
-      let y = own-says (G .types) (P .typed) .field0 TypeKind.adv advice-type (lit< tt) in
+      let x : typeField (recordsOf b) (typeBehind b fs 1) 0 ≡ keyField0 (keyBehind b keys fs 1) = part-is (G .types) (behind-typed G (P .children 0 (lit< tt))) 0 in
+      let y : typeField (recordsOf b) (fieldIn fs 0) 0 ≡ keyField0 (ownKey keys fs) = part-is (G .types) (P .typed .type) 0 in
       let d = advice-domain (G .types) (P .typed .type) advice-type in
       record {
         stands = settings-alike (bound-context scope len (keyField0 (keyBehind b keys fs 1)) (omega arith) ∙ ap (λ a. a ∷ contextIn scope len) (sym x)) (sym y ∙ sym d);
@@ -141,13 +132,11 @@ module _ {b terms keys fs scope : List ℕ} {len c : ℕ} (G : Lent b terms keys
   unfolding words
   pair-type = each _ (P .fits) .0
 
+  pair-there : IsType b (typeBehind b fs 1)
+  pair-there = behind-typed G (P .children 0 (lit< tt))
+
   pub split-small : (keyField0 (keyBehind b keys fs 1) < 256) × (keyField1 (keyBehind b keys fs 1) < 256)
-  split-small =
-      let u = P .children 0 (lit< tt) in
-      let X = behind-says G u in (
-        rw (← X .field0 TypeKind.pair pair-type (lit< tt)) (part-small (G .types) (behind-typed G u) TypeKind.pair 0 pair-type refl),
-        rw (← X .field1 TypeKind.pair pair-type (lit< tt)) (part-small (G .types) (behind-typed G u) TypeKind.pair 1 pair-type refl),
-      )
+  split-small = (part-small (G .types) pair-there TypeKind.pair 0 pair-type refl, part-small (G .types) pair-there TypeKind.pair 1 pair-type refl)
 
   pub split-at : ChildAt b fs TermKind.split 1 scope (set (set scope len (keyField0 (keyBehind b keys fs 1))) (len + 1) (keyField1 (keyBehind b keys fs 1))) len c (len + 2) c
   unfolding words
@@ -158,9 +147,8 @@ module _ {b terms keys fs scope : List ℕ} {len c : ℕ} (G : Lent b terms keys
       let second : ℕ = keyField1 (keyBehind b keys fs 1) in
       let s : List ℕ = set scope len first in
       let m = length-set scope len first in
-      let X = behind-says G (P .children 0 (lit< tt)) in
-      let x = X .field0 TypeKind.pair pair-type (lit< tt) in
-      let y = X .field1 TypeKind.pair pair-type (lit< tt) in
+      let x : typeField (recordsOf b) (typeBehind b fs 1) 0 ≡ first = part-is (G .types) pair-there 0 in
+      let y : typeField (recordsOf b) (typeBehind b fs 1) 1 ≡ second = part-is (G .types) pair-there 1 in
       let two : len + 2 ≡ len + 1 + 1 = omega arith in
       let inner : contextIn (set s (len + 1) second) (len + 1 + 1) ≡ second ∷ contextIn s (len + 1) = bound-context s (len + 1) second (omega arith) in
       let outer : contextIn s (len + 1) ≡ first ∷ contextIn scope len = bound-context scope len first (omega arith) in
@@ -173,17 +161,20 @@ module _ {b terms keys fs scope : List ℕ} {len c : ℕ} (G : Lent b terms keys
       }
 
 -- The body of a lower.
-pub lower-at : (b fs scope : List ℕ) (len c i : ℕ) → ChildAt b fs TermKind.lower i scope scope len c len (fieldIn fs 1)
+pub lower-at : (b fs scope : List ℕ) (len c : ℕ) → ChildAt b fs TermKind.lower 0 scope scope len c len (fieldIn fs 1)
 unfolding words
-lower-at b fs scope len c i = record { stands = refl; kept = refl; same = refl; grown = omega arith; little = omega arith }
+lower-at b fs scope len c = record { stands = refl; kept = refl; same = refl; grown = omega arith; little = omega arith }
 
 -- Any other child stands where the term does.
 module _ (b fs scope : List ℕ) (len c i : ℕ) where
-  pub same-at : (k : TermKind) → apart (termRow k .number) (47 ∷ 40 ∷ 52 ∷ 41 ∷ []) → ChildAt b fs k i scope scope len c len c
-  same-at k r = record { stands = rw (no-own-body k r) refl; kept = refl; same = refl; grown = omega arith; little = omega arith }
+  here-at : (k : TermKind) → bodyOf k i ≡ here → ChildAt b fs k i scope scope len c len c
+  here-at k e = record { stands = rw e refl; kept = refl; same = refl; grown = omega arith; little = omega arith }
+
+  pub same-at : (m : ℕ) → apart m withBody → (k : TermKind) → m ≡ termRow k .number → ChildAt b fs k i scope scope len c len c
+  same-at m r k e = here-at k (is-here (bodyOf k i) k (body-owner k i) m r e)
 
   pub split-first : i < countIn fs TermKind.split → (i ≡ 1 → ⊥) → ChildAt b fs TermKind.split i scope scope len c len c
-  split-first l h = let z : 0 ≡ i = omega arith in subst (λ j. ChildAt b fs TermKind.split j scope scope len c len c) z (record { stands = refl; kept = refl; same = refl; grown = omega arith; little = omega arith })
+  split-first l h = let z : i ≡ 0 = omega arith in here-at TermKind.split (ap (bodyOf TermKind.split) z)
 
   pub advice-first : i < countIn fs TermKind.adv → (i ≡ 1 → ⊥) → ChildAt b fs TermKind.adv i scope scope len c len c
-  advice-first l h = let z : 0 ≡ i = omega arith in subst (λ j. ChildAt b fs TermKind.adv j scope scope len c len c) z (record { stands = refl; kept = refl; same = refl; grown = omega arith; little = omega arith })
+  advice-first l h = let z : i ≡ 0 = omega arith in here-at TermKind.adv (ap (bodyOf TermKind.adv) z)

@@ -1,26 +1,28 @@
 -- The leaves of plain types, from their keys.
 use Prim.Native.Nat.{ℕ, _+_, _≤_, _<_}
 use native.Mathlib.Omega.{arith}
-use mathlib.Core.Path.{_≡_, refl, sym, ap, _∙_}
+use mathlib.Core.Path.{_≡_, refl, sym, ap, subst, _∙_}
 use mathlib.Core.Bool.{Bool, true, false}
 use mathlib.Core.List.{List, []}
 use mathlib.Core.Option.{Option, none, some}
 use lib.ListN.{length, getD}
-use lib.Dec.{eqb, ltb, leb, lit<}
+use lib.Dec.{eqb, ltb, leb}
 use borrow.Author.Tests.{leb-false, lt-leb, lt-ltb, ne-eqb}
 use Rattle.calculus.specs.Limits.{leafLimit}
 use Rattle.calculus.specs.Syntax.{Ty}
 use Rattle.calculus.specs.Plain.{bothLeaves, leafCount, isPlain}
 use Rattle.image.specs.Bytes.{numberAt}
-use Rattle.image.specs.Kinds.{TypeKind, typeRow}
+use Rattle.image.specs.Kinds.{a-type, free, TypeKind, typeRow}
+use Rattle.image.specs.Records.{Layout, fieldsAt}
 use Rattle.image.specs.Layout.{recordsOf}
-use Rattle.image.specs.Types.{typePlace, typeKind, typeField, isType, typeOut, typeOf}
+use Rattle.image.specs.Types.{typePlace, typeKind, typeFields, typeField, isType, typeOut, typeOf}
 use Rattle.image.proofs.Facts.{no-path, le-of, of-eq}
 use Rattle.image.proofs.Laid.{Good, layout-good, image-kept}
 use Rattle.image.proofs.TypeNumbers.{type-out, type-kind}
 use Rattle.records.specs.Keys.{keyKind, keyField0, keyField1}
 use Rattle.rules.specs.Lent.{Types}
-use Rattle.rules.proofs.Keys.{key-says}
+use Rattle.verdicts.specs.Rules.{is}
+use Rattle.rules.proofs.Keys.{describes}
 use Rattle.records.specs.Leaves.{fewOr0, plainLeaves}
 use Rattle.typing.specs.Leaves.{joinLeaves, leavesOf}
 
@@ -89,19 +91,19 @@ pub join-plain : (a b : Ty) → joinLeaves (plainLeaves a) (plainLeaves b) ≡ p
 unfolding plainLeaves
 join-plain a b = join-right (leafCount a) (leafCount b) (some-leaf a) (some-leaf b)
 
--- The leaves of a type of kind k, with the fields f and its parts written out by g, from its key and a table that has its parts.
-by-kind : (k : TypeKind) (f : ℕ → ℕ) (g : ℕ → Ty) (x : ℕ) (table : List ℕ) → keyKind x ≡ typeRow k .number
-    → (typeRow k .number ≡ 19 → (getD table (keyField0 x) 0 ≡ plainLeaves (g (f 0))) × (getD table (keyField1 x) 0 ≡ plainLeaves (g (f 1)))) → leavesOf x table ≡ plainLeaves (typeOut k f g)
+-- The leaves of a type of kind k, with the fields vs and its parts written out by g, from its key and a table that has its parts.
+by-kind : (k : TypeKind) (vs : List ℕ) (g : ℕ → Ty) (x : ℕ) (table : List ℕ) → keyKind x ≡ typeRow k .number
+    → (typeRow k .number ≡ 19 → (getD table (keyField0 x) 0 ≡ plainLeaves (g (getD vs 0 0))) × (getD table (keyField1 x) 0 ≡ plainLeaves (g (getD vs 1 0)))) → leavesOf x table ≡ plainLeaves (typeOut k vs g)
 unfolding leavesOf typeOut plainLeaves
-by-kind TypeKind.unit f g x table e h = rw e
-by-kind TypeKind.truth f g x table e h = rw e
-by-kind TypeKind.number f g x table e h = rw e
-by-kind TypeKind.pair f g x table e h = let z = h refl in rw (e, z .0, z .1) (join-plain (g (f 0)) (g (f 1)))
-by-kind TypeKind.fun f g x table e h = rw e
-by-kind TypeKind.ref f g x table e h = rw e
-by-kind TypeKind.label f g x table e h = rw e
-by-kind TypeKind.pcd f g x table e h = rw e
-by-kind TypeKind.adv f g x table e h = rw e
+by-kind TypeKind.unit vs g x table e h = rw e
+by-kind TypeKind.truth vs g x table e h = rw e
+by-kind TypeKind.number vs g x table e h = rw e
+by-kind TypeKind.pair vs g x table e h = let z = h refl in rw (e, z .0, z .1) (join-plain (g (getD vs 0 0)) (g (getD vs 1 0)))
+by-kind TypeKind.fun vs g x table e h = rw e
+by-kind TypeKind.ref vs g x table e h = rw e
+by-kind TypeKind.label vs g x table e h = rw e
+by-kind TypeKind.pcd vs g x table e h = rw e
+by-kind TypeKind.adv vs g x table e h = rw e
 
 -- Type t, after the types before it.
 module _ (b keys : List ℕ) (T : Types b keys) (t : ℕ) (h : t < length (recordsOf b .types)) where
@@ -109,26 +111,26 @@ module _ (b keys : List ℕ) (T : Types b keys) (t : ℕ) (h : t < length (recor
   good-types = layout-good b (recordsOf b) (T .laid-out)
 
   kind-key : keyKind (getD keys t 0) ≡ typeRow (typeKind (recordsOf b) t) .number
-  kind-key = T .keys t h .kind ∙ sym (ap (λ i. numberAt i (typePlace (recordsOf b) t)) (image-kept b (recordsOf b) (T .laid-out))) ∙ good-types .types t h .stands .number
+  kind-key = T .keys t h .kind ∙ sym (ap (λ i. numberAt i (typePlace (recordsOf b) t)) (image-kept b (recordsOf b) (T .laid-out))) ∙ good-types .types t h .is .stands .number
 
   is-pair : keyKind (getD keys t 0) ≡ 19 → isType (recordsOf b) TypeKind.pair t ≡ true
-  is-pair e = key-says b keys T t h .is TypeKind.pair ∙ of-eq e
+  is-pair e = ap (is TypeKind.pair) (describes T h) ∙ of-eq e
 
   -- The parts of a pair: fields of the key, and lower types.
   pub pair-parts : keyKind (getD keys t 0) ≡ 19
       → (typeField (recordsOf b) t 0 ≡ keyField0 (getD keys t 0)) × (typeField (recordsOf b) t 1 ≡ keyField1 (getD keys t 0)) × (keyField0 (getD keys t 0) < t) × (keyField1 (getD keys t 0) < t)
   pair-parts e =
-      let s = key-says b keys T t h in
-      let p = is-pair e in
-      let k = type-kind (recordsOf b) good-types TypeKind.pair t h p in
-      let x = s .field0 TypeKind.pair p (lit< tt) in
-      let y = s .field1 TypeKind.pair p (lit< tt) in
-      let l = good-types .types t h .lower in
-      (x, y, rw (← x) (l 0 (rw k refl)), rw (← y) (l 1 (rw k refl)))
+      let L : Layout = recordsOf b in
+      let k = type-kind L good-types TypeKind.pair t h (is-pair e) in
+      let x : typeField L t 0 ≡ keyField0 (getD keys t 0) = ap (λ d. d .part 0) (describes T h) in
+      let y : typeField L t 1 ≡ keyField1 (getD keys t 0) = ap (λ d. d .part 1) (describes T h) in
+      let lower : (i : ℕ) → getD (fieldsAt (L .image) (typePlace L t) (typeRow TypeKind.pair)) i free ≡ a-type → typeField L t i < t =
+      λ i q. good-types .types t h .lower i (subst (λ j. getD (fieldsAt (L .image) (typePlace L t) (typeRow j)) i free ≡ a-type) (sym k) q) in
+      (x, y, rw (← x) (lower 0 refl), rw (← y) (lower 1 refl))
 
   pub leaves-right : (table : List ℕ) → ((u : ℕ) → u < t → getD table u 0 ≡ plainLeaves (typeOf (recordsOf b) u)) → leavesOf (getD keys t 0) table ≡ plainLeaves (typeOf (recordsOf b) t)
   leaves-right table before =
-      by-kind (typeKind (recordsOf b) t) (λ i. typeField (recordsOf b) t i) (λ a. typeOf (recordsOf b) a) (getD keys t 0) table kind-key
+      by-kind (typeKind (recordsOf b) t) (typeFields (recordsOf b) t) (λ a. typeOf (recordsOf b) a) (getD keys t 0) table kind-key
       (λ e. let p = pair-parts (kind-key ∙ e) in (before _ (p .2) ∙ ap (λ a. plainLeaves (typeOf (recordsOf b) a)) (sym (p .0)), before _ (p .3) ∙ ap (λ a. plainLeaves (typeOf (recordsOf b) a)) (sym (p .1))))
       ∙ ap plainLeaves (sym (type-out (recordsOf b) good-types t h))
 
@@ -139,7 +141,7 @@ module _ (b keys : List ℕ) (T : Types b keys) (t : ℕ) (h : t < length (recor
       let x = getD keys t 0 in
       let one : leavesOf x [] ≡ 1 = simp (ne-eqb (keyKind x) 19 (λ e. omega arith), lt-ltb (keyKind x) 19 l) in
       sym one
-      ∙ by-kind (typeKind (recordsOf b) t) (λ i. typeField (recordsOf b) t i) (λ a. typeOf (recordsOf b) a) x [] kind-key (λ e. let k : keyKind x ≡ 19 = kind-key ∙ e in absurd (omega arith))
+      ∙ by-kind (typeKind (recordsOf b) t) (typeFields (recordsOf b) t) (λ a. typeOf (recordsOf b) a) x [] kind-key (λ e. let k : keyKind x ≡ 19 = kind-key ∙ e in absurd (omega arith))
       ∙ ap plainLeaves (sym (type-out (recordsOf b) good-types t h))
 
 -- A type is plain where it has leaves in the table.

@@ -1,5 +1,5 @@
 -- The pass over the terms, child by child, with no fuel.
-use Prim.Native.Nat.{ℕ, suc, _+_, _*_, _≤_, _<_}
+use Prim.Native.Nat.{ℕ, suc, _+_, _≤_, _<_}
 use native.Mathlib.Omega.{arith}
 use native.Mathlib.Numerals.{add-one}
 use mathlib.Core.Path.{_≡_, refl, sym, ap, _∙_}
@@ -10,21 +10,23 @@ use lib.ListN.{length, getD, take, drop, take-append-drop}
 use lib.Seq.{take-all, take-suc, take-take, length-take-le}
 use Rattle.image.specs.declared.Refusal.{Refusal}
 use Rattle.image.specs.Tests.{firstFault}
-use Rattle.image.specs.Bytes.{le16, numberAt}
+use Rattle.image.specs.Bytes.{numberAt}
 use Rattle.image.specs.Kinds.{TermKind}
-use Rattle.image.specs.Layout.{Layout, recordsOf}
+use Rattle.image.specs.Records.{Layout}
+use Rattle.image.specs.Layout.{recordsOf}
 use Rattle.image.specs.Types.{termPlace, termKind, children}
 use Rattle.image.proofs.Facts.{no-path}
-use Rattle.image.proofs.Words.{words-length, words-at}
 use Rattle.verdicts.specs.declared.Verdict.{Verdict}
 use Rattle.verdicts.specs.Answers.{isRefused}
 use Rattle.verdicts.specs.Settings.{Setting}
-use Rattle.verdicts.specs.Check.{Rule, ruleFaults, ruleAt, checkAll, checked}
+use Rattle.verdicts.specs.Rules.{Rule, ruleFaults}
+use Rattle.verdicts.specs.Check.{ruleAt, checkAll, checked}
 use Rattle.verdicts.proofs.Answered.{accepted-is}
 use Rattle.verdicts.proofs.Fuel.{checked-refused, checked-children}
 use Rattle.rules.specs.Lent.{Terms, IsTerm, settingIn}
 use Rattle.rules.specs.Judged.{judged, ruleVerdict}
-use Rattle.rules.specs.Fields.{fieldsOf, fieldIn, leadOf, countIn, childrenIn, settingFrom}
+use Rattle.rules.specs.Fields.{fieldsOf, countIn, childrenIn, settingFrom}
+use Rattle.rules.proofs.Counts.{children-counted}
 use Rattle.rules.proofs.Elimination.{leaf-childless}
 use Rattle.rules.proofs.Small.{unbound, mistyped}
 use Rattle.rules.proofs.Located.{good-of, number-is, children-in}
@@ -84,16 +86,14 @@ module _ (b fs : List ℕ) (k : TermKind) (p : Setting ℕ) where
   unfolding front checkAll
   front-start = refl
 
-  pub front-next : (i : ℕ) → i < countIn fs k → front b fs k p i ≡ Verdict.Accepted → front b fs k p (i + 1) ≡ checked (recordsOf b) (settingFrom b fs k p i) (fieldIn fs (leadOf k + i))
+  pub front-next : (i : ℕ) → i < countIn fs k → front b fs k p i ≡ Verdict.Accepted → front b fs k p (i + 1) ≡ checked (recordsOf b) (settingFrom b fs k p i) (getD (childrenIn fs k) i 0)
   unfolding front
   front-next i h e =
       let es : List ℕ = childrenIn fs k in
-      let n : length es ≡ countIn fs k = words-length fs (2 * leadOf k) (countIn fs k) in
+      let n : length es ≡ countIn fs k = children-counted fs k in
       let one : take (i + 1) es ≡ take i es ++ (getD es i 0 ∷ []) = rw (add-one i) (take-suc es i 0 (omega arith)) in
       let l : 0 + length (take i es) ≡ i = omega (arith, length-take-le i es (omega arith)) in
-      let q : 2 * leadOf k + 2 * i ≡ 2 * (leadOf k + i) = omega arith in
-      let c : getD es i 0 ≡ fieldIn fs (leadOf k + i) = words-at fs (2 * leadOf k) (countIn fs k) i h ∙ ap (le16 fs) q in
-      ap (checkAll (recordsOf b) at 0) one ∙ all-next (recordsOf b) at 0 (take i es) (getD es i 0) e ∙ ap (λ j. at j (getD es i 0)) l ∙ ap (at i) c
+      ap (checkAll (recordsOf b) at 0) one ∙ all-next (recordsOf b) at 0 (take i es) (getD es i 0) e ∙ ap (λ j. at j (getD es i 0)) l
 
   pub front-stops : (v : Verdict) (i j : ℕ) → i ≤ j → v ≡ front b fs k p i → isRefused v ≡ true → v ≡ front b fs k p j
   unfolding front
@@ -125,7 +125,7 @@ module _ {b terms : List ℕ} (T : Terms b terms) {n : ℕ} (h : IsTerm b n) (p 
 
       go : (x : Option Refusal) → firstFault (ruleFaults (ruleAt L p n)) ≡ x → front b (fieldsOf b n) k p j ≡ checked L p n
       go none q =
-          ap (checkAll L (λ i e. checked L (settingFrom b (fieldsOf b n) k p i) e) 0) (take-all j (childrenIn (fieldsOf b n) k) (rw (words-length (fieldsOf b n) (2 * leadOf k) (countIn (fieldsOf b n) k)) l) ∙ children-in T h e)
+          ap (checkAll L (λ i e. checked L (settingFrom b (fieldsOf b n) k p i) e) 0) (take-all j (childrenIn (fieldsOf b n) k) (rw (children-counted (fieldsOf b n) k) l) ∙ children-in T h e)
           ∙ all-alike L _ _ (λ i m. ap (λ s. checked L s m) (setting-in T h e p i)) 0 (children L n)
           ∙ sym (checked-children L (good-of b (T .laid-out)) p n h q)
       go (some r) q = let z : Verdict.Refused r (termPlace L n) ≡ Verdict.Accepted = rw (q, judged, ruleVerdict) at a in no-path cc

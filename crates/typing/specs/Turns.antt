@@ -8,15 +8,16 @@ use lib.Dec.{ltb}
 use Rattle.calculus.specs.Plain.{isPlain}
 use Rattle.image.specs.declared.Refusal.{Refusal}
 use Rattle.image.specs.Limits.{depthLimit}
-use Rattle.image.specs.Kinds.{TermKind}
-use Rattle.image.specs.Layout.{Layout, recordsOf}
+use Rattle.image.specs.Kinds.{TermKind, leadOf}
+use Rattle.image.specs.Records.{Layout}
+use Rattle.image.specs.Layout.{recordsOf}
 use Rattle.image.specs.Types.{termPlace, rootOf, rootType}
 use Rattle.verdicts.specs.declared.Verdict.{Verdict}
 use Rattle.verdicts.specs.Answers.{require}
 use Rattle.verdicts.specs.Shape.{depths, Shaped}
 use Rattle.verdicts.specs.Check.{check, rootSetting}
 use Rattle.rules.specs.Lent.{settingIn}
-use Rattle.rules.specs.Fields.{leadOf, countIn, ruleIn, settingFrom, Typed, Behind}
+use Rattle.rules.specs.Fields.{countIn, ruleIn, settingFrom, Typed, Behind}
 
 -- A term of kind k, with the fields fs, has the types that its rule asks for, in the scope, at the domain c; and there is room for two variables more.
 pub record Passed (b fs : List ℕ) (k : TermKind) (scope : List ℕ) (len c : ℕ) : Type 0 where

@@ -11,7 +11,7 @@ use rules::types::first_type;
 use rules::types::second_domain;
 use rules::types::second_type;
 ghost use mathlib.Core.Path.{_≡_};
-ghost use Prim.Native.Nat.{ℕ, _<_};
+ghost use Prim.Native.Nat.{_<_};
 ghost use lib.ListN.{set};
 ghost use Rattle.image.specs.Kinds.{TermKind, termRow};
 ghost use Rattle.rules.specs.Lent.{Types, Lent};
@@ -40,7 +40,7 @@ fn function_setting(
     fields: &[u8],
 ) -> Setting
     requires { ⌜ Types (now image) (now keys) × Passed (now image) (now fields) TermKind.fun (now scope) (p .len) (p .dom .0) ⌝ }
-    ensures { λ r. ⌜ ((i : ℕ) → ChildAt (now (image .entry)) (now (fields .entry)) TermKind.fun i (now (scope .entry)) (now (scope .exit)) (p .len) (p .dom .0) (r .len) (r .dom .0)) ⌝ }
+    ensures { λ r. ⌜ ChildAt (now (image .entry)) (now (fields .entry)) TermKind.fun 0 (now (scope .entry)) (now (scope .exit)) (p .len) (p .dom .0) (r .len) (r .dom .0) ⌝ }
 {
     let own = own_key(keys, fields);
     bind(scope, p.len, first_type(own));
@@ -100,7 +100,7 @@ fn advice_setting(
 // The body of a lower stands at the domain in its field.
 fn lower_setting(image: &[u8], scope: &[u8; 128], p: Setting, fields: &[u8]) -> Setting
     requires { ⌜ Passed (now image) (now fields) TermKind.lower (now scope) (p .len) (p .dom .0) ⌝ }
-    ensures { λ r. ⌜ ((i : ℕ) → ChildAt (now (image .entry)) (now (fields .entry)) TermKind.lower i (now (scope .entry)) (now (scope .entry)) (p .len) (p .dom .0) (r .len) (r .dom .0)) ⌝ }
+    ensures { λ r. ⌜ ChildAt (now (image .entry)) (now (fields .entry)) TermKind.lower 0 (now (scope .entry)) (now (scope .entry)) (p .len) (p .dom .0) (r .len) (r .dom .0) ⌝ }
 {
     let lower = DomainNo(other_field(fields));
     Setting {

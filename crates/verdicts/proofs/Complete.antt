@@ -14,7 +14,8 @@ use Rattle.image.proofs.Laid.{Below, Good}
 use Rattle.verdicts.specs.declared.Verdict.{Verdict}
 use Rattle.verdicts.specs.Domains.{policy}
 use Rattle.verdicts.specs.Settings.{Setting}
-use Rattle.verdicts.specs.Check.{Rule, ruleFaults, typeNos, ruleAt, settingAt, checkAll, check}
+use Rattle.verdicts.specs.Rules.{Rule, ruleFaults}
+use Rattle.verdicts.specs.Check.{typeNos, ruleAt, settingAt, checkAll, check}
 use Rattle.verdicts.specs.WellTyped.{stateds, aborts, childSetting, WellTyped, EachWellTyped}
 use Rattle.verdicts.proofs.Local.{outs}
 use Rattle.verdicts.proofs.Contexts.{contexts}

@@ -15,7 +15,8 @@ use Rattle.image.proofs.Facts.{no-path}
 use Rattle.image.proofs.Laid.{Below, Good}
 use Rattle.verdicts.specs.declared.Verdict.{Verdict}
 use Rattle.verdicts.specs.Settings.{Setting}
-use Rattle.verdicts.specs.Check.{Rule, ruleFaults, ruleAt, settingAt, checkAll, check, checked}
+use Rattle.verdicts.specs.Rules.{Rule, ruleFaults}
+use Rattle.verdicts.specs.Check.{ruleAt, settingAt, checkAll, check, checked}
 
 module _ (L : Layout) (good : Good L) where
   children-cong : (u v : ℕ → ℕ → Verdict) (m : ℕ) → ((i e : ℕ) → e < m → u i e ≡ v i e) → (i : ℕ) (es : List ℕ) → Below m es → checkAll L u i es ≡ checkAll L v i es

@@ -1,6 +1,7 @@
 -- What acceptance means.
 pub mod Order
 pub mod Term
+pub mod Descriptors
 pub mod Local
 pub mod Contexts
 pub mod Answered

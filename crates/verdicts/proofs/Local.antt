@@ -9,16 +9,18 @@ use lib.ListN.{length, getD, getElem?}
 use lib.Dec.{eqb}
 use Rattle.calculus.specs.Syntax.{Dom, Ty, op0, abort}
 use Rattle.calculus.specs.Typing.{noStore, t-newLabel, t-abort, t-print, t-install, t-read, t-byte, t-newCell, t-pair, t-app, t-mark, t-store, t-plus, t-minus, t-less, t-equal, LabelTys, no-types, a-type, TmTy, TmsTy, Rule2, v-unit, v-truth, v-num, is-val, is-var, is-lam, is-op0, is-op1, is-op2, is-seq, is-ite, is-split, is-pcd, is-adv, is-lower, is-end, is-more}
-use Rattle.image.specs.Tests.{allOf}
+use Rattle.image.specs.Tests.{all}
 use Rattle.image.specs.Kinds.{TypeKind, TermKind, termRow}
 use Rattle.image.specs.Records.{Layout}
 use Rattle.image.specs.Types.{typeField, isType, typeOut, typeOf}
 use Rattle.image.specs.Program.{opOf, assemble}
 use Rattle.image.proofs.Facts.{and-l, and-r, each, lt-of, eq-of}
 use Rattle.image.proofs.Laid.{Below, Good}
+use Rattle.image.proofs.Counts.{leastChildren, mostChildren}
 use Rattle.image.proofs.TypeNumbers.{out-as}
 use Rattle.verdicts.specs.Domains.{leq, policy}
-use Rattle.verdicts.specs.Check.{opGives, rule}
+use Rattle.verdicts.specs.Rules.{is, opGives}
+use Rattle.verdicts.specs.Check.{described, ruleBy}
 use Rattle.verdicts.specs.WellTyped.{aborts}
 
 -- A list of so many elements.
@@ -58,15 +60,15 @@ module _ (L : Layout) (good : Good L) where
   op-rule c (suc (suc zero)) t n h = rw (out-as L good TypeKind.truth t n h) t-less
   op-rule c (suc (suc (suc x))) t n h = rw (out-as L good TypeKind.truth t n h) t-equal
 
-  labels-sound : (a : ℕ) (p : Dom) (ts : List ℕ) → Below (length (L .types)) ts → allOf (λ b. isType L TypeKind.label b) ts ≡ true → allOf (λ b. eqb (typeField L b 0) a) ts ≡ true
-      → allOf (λ b. leq L p (typeField L b 1)) ts ≡ true → LabelTys (policy L) (typeOf L a) p (outs L ts)
-  unfolding typeOut allOf
+  labels-sound : (a : ℕ) (p : Dom) (ts : List ℕ) → Below (length (L .types)) ts → all (map (λ b. is TypeKind.label b) (described L ts)) ≡ true → all (map (λ b. eqb (b .part 0) a) (described L ts)) ≡ true
+      → all (map (λ b. leq L p (b .part 1)) (described L ts)) ≡ true → LabelTys (policy L) (typeOf L a) p (outs L ts)
+  unfolding typeOut all
   labels-sound a p [] ks h i j = no-types
   labels-sound a p (b ∷ ts) ks h i j =
-      let e = out-as L good TypeKind.label b (ks .0) (and-l (isType L TypeKind.label b) (allOf (λ b. isType L TypeKind.label b) ts) h) in
-      let q : typeField L b 0 ≡ a = eq-of (and-l (eqb (typeField L b 0) a) (allOf (λ b. eqb (typeField L b 0) a) ts) i) in
-      let d = and-l (leq L p (typeField L b 1)) (allOf (λ b. leq L p (typeField L b 1)) ts) j in
-      let rest = labels-sound a p ts (ks .1) (and-r (isType L TypeKind.label b) (allOf (λ b. isType L TypeKind.label b) ts) h) (and-r (eqb (typeField L b 0) a) (allOf (λ b. eqb (typeField L b 0) a) ts) i) (and-r (leq L p (typeField L b 1)) (allOf (λ b. leq L p (typeField L b 1)) ts) j) in
+      let e = out-as L good TypeKind.label b (ks .0) (and-l (isType L TypeKind.label b) (all (map (λ b. is TypeKind.label b) (described L ts))) h) in
+      let q : typeField L b 0 ≡ a = eq-of (and-l (eqb (typeField L b 0) a) (all (map (λ b. eqb (b .part 0) a) (described L ts))) i) in
+      let d = and-l (leq L p (typeField L b 1)) (all (map (λ b. leq L p (b .part 1)) (described L ts))) j in
+      let rest = labels-sound a p ts (ks .1) (and-r (isType L TypeKind.label b) (all (map (λ b. is TypeKind.label b) (described L ts))) h) (and-r (eqb (typeField L b 0) a) (all (map (λ b. eqb (b .part 0) a) (described L ts))) i) (and-r (leq L p (typeField L b 1)) (all (map (λ b. leq L p (b .part 1)) (described L ts))) j) in
       rw (e, q) (a-type d rest)
 
   aborted : {Γ : List Ty} {c : Dom} {t : Ty} → TmTy (policy L) noStore Γ c (op0 abort t) t
@@ -79,10 +81,10 @@ module _ (L : Layout) (good : Good L) where
   abbrev pub LocalSound : TermKind → List ℕ → Dom → ℕ → List ℕ → List ℕ → Type 0
   LocalSound k Γ c t vs ts =
       t < length (L .types) → Below (length (L .types)) ts
-      → rule L Γ c t vs ts k .bound ≡ true → rule L Γ c t vs ts k .typed ≡ true → rule L Γ c t vs ts k .allowed ≡ true
+      → ruleBy L Γ c t vs ts k .bound ≡ true → ruleBy L Γ c t vs ts k .typed ≡ true → ruleBy L Γ c t vs ts k .allowed ≡ true
       → TmTy (policy L) noStore (outs L Γ) c (assemble k (typeOf L t) vs (aborts (outs L ts))) (typeOf L t)
 
-  pub local-sound : (k : TermKind) (Γ : List ℕ) (c : Dom) (t : ℕ) (vs ts : List ℕ) → termRow k .least ≤ length ts → length ts ≤ termRow k .most → LocalSound k Γ c t vs ts
+  pub local-sound : (k : TermKind) (Γ : List ℕ) (c : Dom) (t : ℕ) (vs ts : List ℕ) → leastChildren (termRow k) ≤ length ts → length ts ≤ mostChildren (termRow k) → LocalSound k Γ c t vs ts
   unfolding typeOut assemble
   local-sound TermKind.unit Γ c t vs ts l m =
       λ o ks h13 h14 h15.

@@ -3,22 +3,24 @@ use Prim.Native.Nat.{ℕ, zero, suc, _≤_, _<_}
 use native.Mathlib.Omega.{arith}
 use mathlib.Core.Path.{_≡_, refl, sym, ap, _∙_}
 use mathlib.Core.Bool.{true}
-use mathlib.Core.List.{List, [], _∷_}
+use mathlib.Core.List.{List, [], _∷_, map}
 use mathlib.Core.Option.{some}
 use lib.ListN.{length, getD, getElem?}
 use lib.Dec.{eqb}
 use Rattle.calculus.specs.Syntax.{Dom, Ty}
 use Rattle.calculus.specs.Typing.{noStore, LabelTys, a-type, TmTy}
-use Rattle.image.specs.Tests.{allOf}
+use Rattle.image.specs.Tests.{all}
 use Rattle.image.specs.Kinds.{TypeKind, TermKind, termRow}
 use Rattle.image.specs.Records.{Layout}
 use Rattle.image.specs.Types.{typeField, isType, typeOut, typeOf}
 use Rattle.image.specs.Program.{assemble}
 use Rattle.image.proofs.Facts.{no-path, and-i, of-each, of-lt, of-eq}
 use Rattle.image.proofs.Laid.{Below, Good, below-at}
+use Rattle.image.proofs.Counts.{leastChildren, mostChildren}
 use Rattle.image.proofs.TypeNumbers.{headOf, out-as, is-head, types-apart}
 use Rattle.verdicts.specs.Domains.{leq, policy}
-use Rattle.verdicts.specs.Check.{opGives, Rule, rule}
+use Rattle.verdicts.specs.Rules.{is, opGives, Rule}
+use Rattle.verdicts.specs.Check.{described, ruleBy}
 use Rattle.verdicts.specs.WellTyped.{aborts}
 use Rattle.verdicts.proofs.Local.{one-of, two-of, three-of, outs}
 use Rattle.verdicts.proofs.Contexts.{part-there}
@@ -77,8 +79,8 @@ module _ (L : Layout) (good : Good L) where
   label-parts (a-type {q = q} h ls) = (q, refl, h, ls)
 
   labels-complete : (a p : ℕ) (ts : List ℕ) → a < length (L .types) → Below (length (L .types)) ts → (x : Ty) → typeOf L a ≡ x → LabelTys (policy L) x p (outs L ts)
-      → (allOf (λ b. isType L TypeKind.label b) ts ≡ true) × (allOf (λ b. eqb (typeField L b 0) a) ts ≡ true) × (allOf (λ b. leq L p (typeField L b 1)) ts ≡ true)
-  unfolding allOf
+      → (all (map (λ b. is TypeKind.label b) (described L ts)) ≡ true) × (all (map (λ b. eqb (b .part 0) a) (described L ts)) ≡ true) × (all (map (λ b. leq L p (b .part 1)) (described L ts)) ≡ true)
+  unfolding all
   labels-complete a p [] n ks x h ls = (refl, refl, refl)
   labels-complete a p (b ∷ ts) n ks x h ls =
       let e = label-parts ls in
@@ -92,9 +94,9 @@ module _ (L : Layout) (good : Good L) where
   abbrev LocalComplete : TermKind → List ℕ → Dom → ℕ → List ℕ → List ℕ → Type 0
   LocalComplete k Γ c t vs ts =
       t < length (L .types) → Below (length (L .types)) ts → Below (length (L .types)) Γ
-      → TmTy (policy L) noStore (outs L Γ) c (assemble k (typeOf L t) vs (aborts (outs L ts))) (typeOf L t) → Passes (rule L Γ c t vs ts k)
+      → TmTy (policy L) noStore (outs L Γ) c (assemble k (typeOf L t) vs (aborts (outs L ts))) (typeOf L t) → Passes (ruleBy L Γ c t vs ts k)
 
-  pub local-complete : (k : TermKind) (Γ : List ℕ) (c : Dom) (t : ℕ) (vs ts : List ℕ) → termRow k .least ≤ length ts → length ts ≤ termRow k .most → LocalComplete k Γ c t vs ts
+  pub local-complete : (k : TermKind) (Γ : List ℕ) (c : Dom) (t : ℕ) (vs ts : List ℕ) → leastChildren (termRow k) ≤ length ts → length ts ≤ mostChildren (termRow k) → LocalComplete k Γ c t vs ts
   unfolding assemble
   local-complete TermKind.unit Γ c t vs ts l m =
       λ o ks g d.

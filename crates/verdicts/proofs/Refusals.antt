@@ -8,10 +8,10 @@ use lib.Dec.{leb}
 use borrow.Author.Tests.{lt-leb}
 use Rattle.image.specs.declared.Refusal.{Refusal}
 use Rattle.image.specs.Limits.{imageLimit, workLength, reportLength}
-use Rattle.image.specs.Tests.{all, allOf, allBelow, anyBelow, firstFault}
+use Rattle.image.specs.Tests.{all, allOf, anyBelow, firstFault}
 use Rattle.image.specs.Bytes.{words}
 use Rattle.image.specs.Kinds.{find}
-use Rattle.image.specs.Layout.{fieldsIn, tests, walk, layout, recordsOf}
+use Rattle.image.specs.Layout.{allWithin, tests, walk, layout, recordsOf}
 use Rattle.image.specs.Types.{typeOut, typeFrom, typeOf}
 use Rattle.verdicts.specs.declared.Verdict.{Verdict}
 use Rattle.verdicts.specs.Answers.{requireFrom, inTurn}
@@ -87,7 +87,7 @@ verdicts =
     ∷ []
 
 pub each-verdict : map (λ c. verdict (c .bytes) workLength reportLength) verdicts ≡ map (λ c. c .says) verdicts
-unfolding verdicts verdict inTurn requireFrom walk layout recordsOf tests find words fieldsIn all allOf allBelow anyBelow firstFault shape atFault leq order bits count uses depths depthsFrom typing check checkAll typeOf typeFrom typeOut
+unfolding verdicts verdict inTurn requireFrom walk layout recordsOf tests find words allWithin all allOf anyBelow firstFault shape atFault leq order bits count uses depths depthsFrom typing check checkAll typeOf typeFrom typeOut
     little rec image one-domain two-domains domains unit number literal chain deep new-labels up-to labelled
 each-verdict = refl
 
@@ -98,5 +98,5 @@ too-long b work report h = let e : leb (length b) imageLimit ≡ false = lt-leb 
 
 -- 17 and 18: a work area and a report that are too short.
 pub short-lengths : (verdict p2-image 31752 17993 ≡ Verdict.Refused Refusal.ShortWorkArea 0) × (verdict p2-image 31753 17993 ≡ Verdict.Refused Refusal.ShortReport 0)
-unfolding p2-image verdict inTurn requireFrom walk layout recordsOf tests find words fieldsIn all allOf allBelow anyBelow firstFault shape atFault leq order bits count uses depths depthsFrom typing check checkAll typeOf typeFrom typeOut
+unfolding p2-image verdict inTurn requireFrom walk layout recordsOf tests find words allWithin all allOf anyBelow firstFault shape atFault leq order bits count uses depths depthsFrom typing check checkAll typeOf typeFrom typeOut
 short-lengths = (refl, refl)

@@ -9,16 +9,20 @@ use lib.ListN.{length, length-map}
 use Rattle.calculus.specs.Syntax.{Ty}
 use Rattle.image.specs.declared.Refusal.{Refusal}
 use Rattle.image.specs.Tests.{firstFault}
+use Rattle.image.specs.Bytes.{lengthAt}
 use Rattle.image.specs.Kinds.{termRow}
-use Rattle.image.specs.Records.{Layout}
+use Rattle.image.specs.Records.{Layout, times}
 use Rattle.image.specs.Types.{termPlace, termKind, typeNo, statedType, others, children}
 use Rattle.image.specs.Program.{subtrees, tree}
 use Rattle.image.proofs.Facts.{passed}
+use Rattle.image.proofs.Words.{words-length}
 use Rattle.image.proofs.Laid.{Below, Good}
+use Rattle.image.proofs.Counts.{leastChildren, mostChildren, children-between}
 use Rattle.verdicts.specs.declared.Verdict.{Verdict}
 use Rattle.verdicts.specs.Domains.{policy}
 use Rattle.verdicts.specs.Settings.{Setting}
-use Rattle.verdicts.specs.Check.{ruleFaults, typeNos, ruleAt, settingAt, checkAll, check}
+use Rattle.verdicts.specs.Rules.{ruleFaults}
+use Rattle.verdicts.specs.Check.{typeNos, ruleAt, settingAt, checkAll, check}
 use Rattle.verdicts.specs.WellTyped.{stateds, childSetting, WellTyped, EachWellTyped}
 use Rattle.verdicts.proofs.Answered.{not-refused}
 use Rattle.verdicts.proofs.Local.{outs, local-sound}
@@ -40,8 +44,8 @@ module _ (L : Layout) (good : Good L) where
   -- What is known of term n.
   pub record TermFacts (n : ℕ) : Type 0 where
     pub own : typeNo L n < length (L .types)
-    pub least : termRow (termKind L n) .least ≤ length (typeNos L (children L n))
-    pub most : length (typeNos L (children L n)) ≤ termRow (termKind L n) .most
+    pub least : leastChildren (termRow (termKind L n)) ≤ length (typeNos L (children L n))
+    pub most : length (typeNos L (children L n)) ≤ mostChildren (termRow (termKind L n))
     pub below : Below (length (L .terms)) (children L n)
     pub types : Below (length (L .types)) (typeNos L (children L n))
 
@@ -50,7 +54,8 @@ module _ (L : Layout) (good : Good L) where
       let t = good .terms n l in
       let m : length (typeNos L (children L n)) ≡ length (children L n) = length-map (children L n) (λ e. typeNo L e) in
       let b : Below (length (L .terms)) (children L n) = below-le (children L n) (omega arith) (t .below) in
-      record { own = t .typed; least = rw m (t .stands .least); most = rw m (t .stands .most); below = b; types = types-below (children L n) b }
+      let c = children-between (termRow (termKind L n)) (times (termRow (termKind L n)) (lengthAt (L .image) (termPlace L n))) _ (words-length (L .image) _ _) (t .is .stands .least) (t .is .stands .most) in
+      record { own = t .typed; least = rw m (c .0); most = rw m (c .1); below = b; types = types-below (children L n) b }
 
   -- The types that trees state.
   pub trees-stated : (f : ℕ) (es : List ℕ) → stateds (subtrees (λ e. tree L (suc f) e) es) ≡ outs L (typeNos L es)

@@ -6,5 +6,6 @@ pub mod Acceptable
 pub mod Answers
 pub mod Order
 pub mod Shape
+pub mod Rules
 pub mod Check
 pub mod Verdicts

@@ -3,7 +3,7 @@ use Prim.Native.Nat.{ℕ, suc}
 use mathlib.Core.List.{List, [], _∷_}
 use Rattle.calculus.specs.Syntax.{Ty, Tms, op0, abort}
 use Rattle.calculus.specs.Typing.{Policy, noStore, TmTy}
-use Rattle.image.specs.Kinds.{TermKind, termRow}
+use Rattle.image.specs.Kinds.{TermKind, bodyOf}
 use Rattle.image.specs.Program.{Program, Programs, node, blank, end, more, assemble}
 use Rattle.verdicts.specs.Settings.{Setting, contextOf, domainOf}
 
@@ -47,7 +47,7 @@ aborts (t ∷ ts) = Tms.more (op0 abort t) (aborts ts)
 -- Where child i of a term stands, types in full.
 abbrev pub childSetting : Setting Ty → TermKind → Ty → List ℕ → List Ty → ℕ → Setting Ty
 childSetting p k t vs ts i =
-    record { context = contextOf firstOf secondOf (termRow k .body) t ts (p .context) i; dom = domainOf (termRow k .body) t vs (p .dom) i }
+    record { context = contextOf firstOf secondOf (bodyOf k i) t vs ts (p .context); dom = domainOf (bodyOf k i) t vs (p .dom) i }
 
 module _ (D : Policy) where
   -- A program is well typed where it stands if, by the calculus's rules, its root term would have the type that it states over any children of the types that they state, and each child is well typed where it stands.

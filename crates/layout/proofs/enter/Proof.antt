@@ -1,18 +1,16 @@
 -- `layout::enter` meets its contract: what is known at each place goes to the laws of one record (`Entering`).
-use Prim.Native.Nat.{_<_}
 use native.Mathlib.Omega.{arith}
 use mathlib.Core.Path.{_≡_, sym, ap, subst, _∙_}
 use mathlib.Core.Option.{none}
-use lib.ListN.{length}
 use denote.Ref.{now}
 use Rattle.image.specs.Tests.{firstFault}
+use Rattle.image.proofs.Facts.{no-path, eq-of, of-eq}
 use Rattle.records.specs.Codes.{sectionOf, countOf, codeAt, Sized}
 use Rattle.records.proofs.Codes.{code-sized}
 use Rattle.records.proofs.Heads.{Whole, whole-of}
 use Rattle.layout.specs.Fields.{KeyFrom}
 use Rattle.layout.specs.Numbers.{numberTests, toldOf}
-use Rattle.layout.proofs.Numbers.{fits-count}
-use Rattle.layout.proofs.Entering.{full, unknown-entry, fault-entry, fits, kind-narrow, fields-narrow, domain-room, type-room, term-room, domain-entry, repeated-entry, type-entry, term-entry}
+use Rattle.layout.proofs.Entering.{full, unknown-entry, fault-entry, kind-narrow, fields-narrow, type-held, domain-room, type-room, term-room, domain-entry, repeated-entry, type-entry, term-entry}
 use borrow.Author.Needs.{needs}
 use Rattle.layout.proofs.enter.Statement.{statement}
 use Rattle.layout.proofs.enter.Tie as tie
@@ -24,6 +22,7 @@ use Rattle.layout.proofs.places.put_term.Reads as put-term-reads
 use Rattle.layout.proofs.places.put_type.Reads as put-type-reads
 use Rattle.layout.proofs.tests.first_fault.Reads as first-fault-reads
 use Rattle.records.proofs.kinds.code_of.Reads as code-of-reads
+use Rattle.records.proofs.kinds.is_term.Reads as is-term-reads
 use Rattle.records.proofs.kinds.section_of.Reads as section-of-reads
 use Rattle.records.proofs.numbers.Counts.next_domain.Reads as next-domain-reads
 use Rattle.records.proofs.numbers.Counts.next_term.Reads as next-term-reads
@@ -38,14 +37,16 @@ claims = (
   code-of-reads.Learnt,
   first-fault-reads.Asked,
   first-fault-reads.Learnt,
+  is-term-reads.Asked,
+  is-term-reads.Learnt,
+  next-term-reads.Asked,
+  next-term-reads.Learnt,
+  put-term-reads.Asked,
+  put-term-reads.Learnt,
+  with-term-reads.Asked,
+  with-term-reads.Learnt,
   section-of-reads.Asked,
   section-of-reads.Learnt,
-  next-domain-reads.Asked,
-  next-domain-reads.Learnt,
-  put-domain-reads.Asked,
-  put-domain-reads.Learnt,
-  with-domain-reads.Asked,
-  with-domain-reads.Learnt,
   key-of-reads.Asked,
   key-of-reads.Learnt,
   next-type-reads.Asked,
@@ -54,12 +55,12 @@ claims = (
   put-type-reads.Learnt,
   with-type-reads.Asked,
   with-type-reads.Learnt,
-  next-term-reads.Asked,
-  next-term-reads.Learnt,
-  put-term-reads.Asked,
-  put-term-reads.Learnt,
-  with-term-reads.Asked,
-  with-term-reads.Learnt,
+  next-domain-reads.Asked,
+  next-domain-reads.Learnt,
+  put-domain-reads.Asked,
+  put-domain-reads.Learnt,
+  with-domain-reads.Asked,
+  with-domain-reads.Learnt,
 )
 
 -- The places that the proof goes back to: the start, behind the tests of 3 and of 4 to 7, and where the section is a type's.
@@ -82,7 +83,7 @@ abbrev known-of : Passed → Known
 known-of c = c .before .before .before
 
 abbrev passed-of : Keyed → Passed
-passed-of c = c .before .before .before .before
+passed-of c = c .before .before .before .before .before
 
 -- The record is whole.
 whole : (c : Start) → Whole (c .pre .image) (c .args .at) (c .pre .len) (c .args .kind)
@@ -100,13 +101,20 @@ passes c =
     let a = start x .args in
     ap toldOf (sym (c .enum-told .given .1)) ∙ (f .first-fault .ensures ∙ ap (λ y. firstFault (numberTests (now (a .fields)) y (a .counts))) (x .before .code-of .ensures))
 
+-- It is a term; it is none.
+is-term : (c : lts.Then2 claims reads.Pre reads.Post) → sectionOf (codeAt (start (known-of (c .before .before)) .args .kind)) ≡ 3
+is-term c = ap sectionOf (sym (known-of (c .before .before) .before .code-of .ensures)) ∙ eq-of (sym (c .before .is-term .ensures) ∙ c .if2 .taken)
+
+no-term : (c : lts.Else2 claims reads.Pre reads.Post) → sectionOf (codeAt (start (known-of (c .before .before)) .args .kind)) ≡ 3 → ⊥
+no-term c e = no-path (sym (c .before .is-term .ensures ∙ of-eq (ap sectionOf (known-of (c .before .before) .before .code-of .ensures) ∙ e)) ∙ c .if2 .left)
+
 -- Its section.
-section : (c : lts.After-section-of claims reads.Pre reads.Post) → c .section-of .result ≡ sectionOf (codeAt (start (known-of (c .before)) .args .kind))
-section c = c .section-of .ensures ∙ ap sectionOf (known-of (c .before) .before .code-of .ensures)
+section : (c : lts.After-section-of claims reads.Pre reads.Post) → c .section-of .result ≡ sectionOf (codeAt (start (known-of (c .before .before .before)) .args .kind))
+section c = c .section-of .ensures ∙ ap sectionOf (known-of (c .before .before .before) .before .code-of .ensures)
 
 -- A type's section and key.
 typed : (c : Keyed) → sectionOf (codeAt (start (known-of (passed-of c)) .args .kind)) ≡ 2
-typed c = sym (section (c .before .before .before)) ∙ c .before .if3 .taken
+typed c = sym (section (c .before .before)) ∙ c .before .if3 .taken
 
 keyed : (c : Keyed) → let a = start (known-of (passed-of c)) .args in KeyFrom (now (a .fields)) (countOf (codeAt (a .kind))) (a .kind) (c .key-of .result)
 keyed c =
@@ -142,27 +150,28 @@ returns-2 c =
 enum-told : tie.Need-enum-told
 enum-told c = search needs
 
-section-of-requires : tie.Need-section-of-requires
-section-of-requires c κs = search needs
+is-term-requires : tie.Need-is-term-requires
+is-term-requires c κs = search needs
 
-next-domain-requires : tie.Need-next-domain-requires
-next-domain-requires c κs = search needs
+next-term-requires : tie.Need-next-term-requires
+next-term-requires c κs = search needs
 
-put-domain-requires : tie.Need-put-domain-requires
-put-domain-requires c κs =
+put-term-requires : tie.Need-put-term-requires
+put-term-requires c κs =
     let n = c .before in
-    let t = n .before .before .before in
+    let i = n .before in
+    let t = i .before .before in
     let x = known-of t in
     let s = start x in
     let W = whole s in
     let h = s .pre .is .short in
-    let r = domain-room (s .pre .is) (known x) (passes t) (sym (section (n .before .before)) ∙ n .before .if2 .taken) in
-    let d = s .pre .is .tables .long .doms in
-    let e = n .next-domain .ensures in
+    let r = term-room (s .pre .is) (known x) (passes t) (is-term i) in
+    let d = s .pre .is .tables .long .terms in
+    let e = n .next-term .ensures in
     (omega arith, omega arith)
 
-with-domain-requires : tie.Need-with-domain-requires
-with-domain-requires c κs = search needs
+with-term-requires : tie.Need-with-term-requires
+with-term-requires c κs = search needs
 
 same-length : tie.Need-same-length
 same-length c = search needs
@@ -171,22 +180,21 @@ returns-3 : tie.Need-returns-3
 returns-3 c =
     let p = c .before .before .before in
     let n = p .before .before in
-    let t = n .before .before .before in
-    let x = known-of t in
-    record { in-image = λ b q R. rw (c .with-domain .ensures, p .put-domain .ensures, n .next-domain .ensures) (domain-entry R (known x) (passes t) (sym (section (n .before .before)) ∙ n .before .if2 .taken)) }
+    let i = n .before in
+    let t = i .before .before in
+    record { in-image = λ b q R. rw (c .with-term .ensures, p .put-term .ensures, n .next-term .ensures) (term-entry R (known (known-of t)) (passes t) (is-term i)) }
+
+section-of-requires : tie.Need-section-of-requires
+section-of-requires c κs = search needs
 
 key-of-requires : tie.Need-key-of-requires
 key-of-requires c κs =
-    let t = c .before .before .before in
+    let t = c .before .before .before .before in
     let x = known-of t in
     let s = start x in
-    let a = s .args in
-    let W = whole s in
-    let q = fits-count (codeAt (a .kind)) (s .pre .len) (fits (s .pre .is) (known x) (passes t)) in
     let e = x .before .code-of .ensures in
-    let z = full (s .pre .is) in
-    let d = fields-narrow (s .pre .is) (known x) (passes t) (sym (section (c .before .before)) ∙ c .if3 .taken) in
-    (rw e (omega arith), kind-narrow (s .pre .is) (known x) (passes t), rw e d)
+    let o = sym (section (c .before)) ∙ c .if3 .taken in
+    (rw e (type-held (s .pre .is) (known x) (passes t) o), kind-narrow (s .pre .is) (known x) (passes t), rw e (fields-narrow (s .pre .is) (known x) (passes t) o))
 
 next-type-requires : tie.Need-next-type-requires
 next-type-requires c κs = search needs
@@ -249,26 +257,26 @@ returns-5 c =
     let t = passed-of k in
     record { in-image = λ b q R. rw (c .with-type .ensures) (type-entry R (known (known-of t)) (passes t) (typed k) (keyed k) (rw (n .next-type .ensures) at (p .put-type .ensures)) (c .before .enum-told2 .given .1)) }
 
-next-term-requires : tie.Need-next-term-requires
-next-term-requires c κs = search needs
+next-domain-requires : tie.Need-next-domain-requires
+next-domain-requires c κs = search needs
 
-put-term-requires : tie.Need-put-term-requires
-put-term-requires c κs =
+put-domain-requires : tie.Need-put-domain-requires
+put-domain-requires c κs =
     let n = c .before in
     let i = n .before in
-    let t = i .before .before .before in
+    let e2 = i .before .before in
+    let t = e2 .before .before in
     let x = known-of t in
     let s = start x in
     let W = whole s in
     let h = s .pre .is .short in
-    let o = section (i .before .before) in
-    let r = term-room (s .pre .is) (known x) (passes t) (λ e. i .before .if2 .left (o ∙ e)) (λ e. i .if3 .left (o ∙ e)) in
-    let d = s .pre .is .tables .long .terms in
-    let e = n .next-term .ensures in
+    let r = domain-room (s .pre .is) (known x) (passes t) (no-term e2) (λ e. i .if3 .left (section (i .before) ∙ e)) in
+    let d = s .pre .is .tables .long .doms in
+    let e = n .next-domain .ensures in
     (omega arith, omega arith)
 
-with-term-requires : tie.Need-with-term-requires
-with-term-requires c κs = search needs
+with-domain-requires : tie.Need-with-domain-requires
+with-domain-requires c κs = search needs
 
 same-length-8 : tie.Need-same-length-8
 same-length-8 c = search needs
@@ -278,9 +286,9 @@ returns-6 c =
     let p = c .before .before .before in
     let n = p .before .before in
     let i = n .before in
-    let t = i .before .before .before in
-    let o = section (i .before .before) in
-    record { in-image = λ b q R. rw (c .with-term .ensures, p .put-term .ensures, n .next-term .ensures) (term-entry R (known (known-of t)) (passes t) (λ e. i .before .if2 .left (o ∙ e)) (λ e. i .if3 .left (o ∙ e))) }
+    let e2 = i .before .before in
+    let t = e2 .before .before in
+    record { in-image = λ b q R. rw (c .with-domain .ensures, p .put-domain .ensures, n .next-domain .ensures) (domain-entry R (known (known-of t)) (passes t) (no-term e2) (λ e. i .if3 .left (section (i .before) ∙ e))) }
 
 pub enter-spec : {M : Type 1} → statement M
 enter-spec =
@@ -292,12 +300,13 @@ enter-spec =
     enum-known-tested
     returns-2
     enum-told
-    section-of-requires
-    next-domain-requires
-    put-domain-requires
-    with-domain-requires
+    is-term-requires
+    next-term-requires
+    put-term-requires
+    with-term-requires
     same-length
     returns-3
+    section-of-requires
     key-of-requires
     next-type-requires
     put-type-requires
@@ -312,8 +321,8 @@ enter-spec =
     same-length-6
     same-length-7
     returns-5
-    next-term-requires
-    put-term-requires
-    with-term-requires
+    next-domain-requires
+    put-domain-requires
+    with-domain-requires
     same-length-8
     returns-6)

@@ -1,6 +1,4 @@
 -- `layout::fields::names_domain` meets its contract.
-use mathlib.Core.Path.{ap, _∙_}
-use lib.Dec.{ltb}
 use borrow.Author.Needs.{needs}
 use Rattle.layout.proofs.fields.names_domain.Statement.{statement}
 use Rattle.layout.proofs.fields.names_domain.Tie as tie

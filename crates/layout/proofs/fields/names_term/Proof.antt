@@ -1,6 +1,4 @@
 -- `layout::fields::names_term` meets its contract.
-use mathlib.Core.Path.{ap, _∙_}
-use lib.Dec.{ltb}
 use borrow.Author.Needs.{needs}
 use Rattle.layout.proofs.fields.names_term.Statement.{statement}
 use Rattle.layout.proofs.fields.names_term.Tie as tie

@@ -1,6 +1,4 @@
 -- `layout::fields::names_type` meets its contract.
-use mathlib.Core.Path.{ap, _∙_}
-use lib.Dec.{ltb}
 use borrow.Author.Needs.{needs}
 use Rattle.layout.proofs.fields.names_type.Statement.{statement}
 use Rattle.layout.proofs.fields.names_type.Tie as tie

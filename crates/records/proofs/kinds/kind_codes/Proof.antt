@@ -1,11 +1,12 @@
--- The table is the literal list.
+-- The literal list is the table of codes, computed.
 use mathlib.Core.Path.{refl}
-use Rattle.records.specs.Codes.{kindCodes}
+use Rattle.image.specs.Kinds.{find}
+use Rattle.records.specs.Codes.{classNumbers, codeNumber, codesFrom, kindCodes}
 use Rattle.records.proofs.kinds.kind_codes.Statement.{statement}
 use Rattle.records.proofs.kinds.kind_codes.Tie as tie
 
 returns : tie.Need-returns
-unfolding kindCodes
+unfolding kindCodes codesFrom codeNumber find classNumbers
 returns c = refl
 
 pub kind-codes-spec : {M : Type 1} → statement M

@@ -1,10 +1,11 @@
--- The table has 61 codes.
+-- The table has a code for each number below codeCount.
 use borrow.Author.Needs.{needs}
 use mathlib.Core.Path.{_≡_, ap}
 use native.Mathlib.Omega.{arith}
 use denote.Ref.{now}
 use lib.ListN.{length, getD}
-use Rattle.records.specs.Codes.{kindCodes}
+use Rattle.records.specs.Codes.{codeCount}
+use Rattle.records.proofs.Codes.{codes-length}
 use Rattle.records.proofs.kinds.known_code.Statement.{statement}
 use Rattle.records.proofs.kinds.known_code.Tie as tie
 
@@ -12,8 +13,7 @@ mul-result : tie.Need-mul-result
 mul-result c = search needs
 
 shared-slice-read-result : tie.Need-shared-slice-read-result
-unfolding kindCodes
-shared-slice-read-result c = let h : length (now (c .before .args .kinds)) ≡ 61 = rw (c .before .pre .0) in omega arith
+shared-slice-read-result c = let h : length (now (c .before .args .kinds)) ≡ codeCount = rw (c .before .pre .0) codes-length in omega arith
 
 returns : tie.Need-returns
 returns c = ap (λ xs. getD xs (c .before .args .kind) 0) (c .before .pre .0)

@@ -2,7 +2,9 @@
 use borrow.Author.Needs.{needs}
 use Rattle.rules.proofs.cells.check_store.Statement.{statement}
 use Rattle.rules.proofs.cells.check_store.Tie as tie
-use Rattle.rules.proofs.ByKind.{store-right}
+use Rattle.image.specs.Bytes.{words}
+use Rattle.image.specs.Kinds.{TermKind}
+use Rattle.rules.proofs.OnKeys.{behind-typed, on-masks}
 
 own-key-requires : tie.Need-own-key-requires
 own-key-requires c κs = search needs
@@ -38,10 +40,11 @@ judge-requires : tie.Need-judge-requires
 judge-requires c κs = search needs
 
 returns : tie.Need-returns
+unfolding words
 returns c =
     let s = c .before .before .before .before .before .before .before .before .before .before .before .before .before .before .before in
     λ Γ.
-    let z = store-right (s .pre .0) (s .args .at) (record { context = Γ; dom = s .args .c .0 }) (s .pre .4) (s .pre .1) (s .pre .2) in
+    let z = on-masks (s .pre .0 .types) (s .pre .1) (s .args .at) TermKind.store (record { context = Γ; dom = s .args .c .0 }) (behind-typed (s .pre .0) (s .pre .2), (behind-typed (s .pre .0) (s .pre .3), tt)) (s .pre .4) in
     cc
 
 pub check-store-spec : {M : Type 1} → statement M

@@ -2,7 +2,9 @@
 use borrow.Author.Needs.{needs}
 use Rattle.rules.proofs.core.check_arithmetic.Statement.{statement}
 use Rattle.rules.proofs.core.check_arithmetic.Tie as tie
-use Rattle.rules.proofs.ByKind.{arithmetic-right}
+use Rattle.image.specs.Bytes.{words}
+use Rattle.image.specs.Kinds.{TermKind}
+use Rattle.rules.proofs.OnKeys.{behind-typed, on-keys}
 use mathlib.Core.Path.{_∙_}
 
 own-key-requires : tie.Need-own-key-requires
@@ -36,9 +38,10 @@ judge-requires : tie.Need-judge-requires
 judge-requires c κs = search needs
 
 returns : tie.Need-returns
+unfolding words
 returns c =
     let s = c .before .before .before .before .before .before .before .before .before .before .before .before .before .before in
-    λ p. c .judge .ensures ∙ simp (c .before .all-three .ensures, c .before .before .before .before .is-kind .ensures, c .before .before .before .is-kind2 .ensures, c .before .before .is-kind3 .ensures, c .before .before .before .before .before .result-kind .ensures, c .before .before .before .before .before .before .other-field .ensures, c .before .before .before .before .before .before .before .before .key-behind .ensures, c .before .before .before .before .before .before .before .key-behind2 .ensures, c .before .before .before .before .before .before .before .before .before .own-key .ensures) (arithmetic-right (s .pre .0) (s .args .at) p (s .pre .1) (s .pre .2) (s .pre .3))
+    λ p. c .judge .ensures ∙ simp (c .before .all-three .ensures, c .before .before .before .before .is-kind .ensures, c .before .before .before .is-kind2 .ensures, c .before .before .is-kind3 .ensures, c .before .before .before .before .before .result-kind .ensures, c .before .before .before .before .before .before .other-field .ensures, c .before .before .before .before .before .before .before .before .key-behind .ensures, c .before .before .before .before .before .before .before .key-behind2 .ensures, c .before .before .before .before .before .before .before .before .before .own-key .ensures) (on-keys (s .pre .0 .types) (s .pre .1) (s .args .at) TermKind.arith p (behind-typed (s .pre .0) (s .pre .2), (behind-typed (s .pre .0) (s .pre .3), tt)))
 
 pub check-arithmetic-spec : {M : Type 1} → statement M
 check-arithmetic-spec =

@@ -2,7 +2,9 @@
 use borrow.Author.Needs.{needs}
 use Rattle.rules.proofs.core.check_choice.Statement.{statement}
 use Rattle.rules.proofs.core.check_choice.Tie as tie
-use Rattle.rules.proofs.ByKind.{choice-right}
+use Rattle.image.specs.Bytes.{words}
+use Rattle.image.specs.Kinds.{TermKind}
+use Rattle.rules.proofs.OnKeys.{behind-typed, on-keys}
 use mathlib.Core.Path.{_∙_}
 
 own-type-requires : tie.Need-own-type-requires
@@ -33,9 +35,10 @@ judge-requires : tie.Need-judge-requires
 judge-requires c κs = search needs
 
 returns : tie.Need-returns
+unfolding words
 returns c =
     let s = c .before .before .before .before .before .before .before .before .before .before .before .before .before in
-    λ p. c .judge .ensures ∙ simp (c .before .all-three .ensures, c .before .before .before .before .is-kind .ensures, c .before .before .before .same-type .ensures, c .before .before .same-type2 .ensures, c .before .before .before .before .before .before .before .key-behind .ensures, c .before .before .before .before .before .before .type-behind .ensures .0, c .before .before .before .before .before .type-behind2 .ensures .0, c .before .before .before .before .before .before .before .before .own-type .ensures) (choice-right (s .pre .0) (s .args .at) p (s .pre .2))
+    λ p. c .judge .ensures ∙ simp (c .before .all-three .ensures, c .before .before .before .before .is-kind .ensures, c .before .before .before .same-type .ensures, c .before .before .same-type2 .ensures, c .before .before .before .before .before .before .before .key-behind .ensures, c .before .before .before .before .before .before .type-behind .ensures .0, c .before .before .before .before .before .type-behind2 .ensures .0, c .before .before .before .before .before .before .before .before .own-type .ensures) (on-keys (s .pre .0 .types) (s .pre .1) (s .args .at) TermKind.ite p (behind-typed (s .pre .0) (s .pre .2), (behind-typed (s .pre .0) (s .pre .3), (behind-typed (s .pre .0) (s .pre .4), tt))))
 
 pub check-choice-spec : {M : Type 1} → statement M
 check-choice-spec =

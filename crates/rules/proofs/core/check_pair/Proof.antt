@@ -2,7 +2,9 @@
 use borrow.Author.Needs.{needs}
 use Rattle.rules.proofs.core.check_pair.Statement.{statement}
 use Rattle.rules.proofs.core.check_pair.Tie as tie
-use Rattle.rules.proofs.ByKind.{pair-right}
+use Rattle.image.specs.Bytes.{words}
+use Rattle.image.specs.Kinds.{TermKind}
+use Rattle.rules.proofs.OnKeys.{behind-typed, on-keys}
 use mathlib.Core.Path.{_∙_}
 
 own-key-requires : tie.Need-own-key-requires
@@ -36,9 +38,10 @@ judge-requires : tie.Need-judge-requires
 judge-requires c κs = search needs
 
 returns : tie.Need-returns
+unfolding words
 returns c =
     let s = c .before .before .before .before .before .before .before .before .before .before .before .before .before .before in
-    λ p. c .judge .ensures ∙ simp (c .before .all-three .ensures, c .before .before .before .before .before .before .is-kind .ensures, c .before .before .before .before .same-type .ensures, c .before .before .same-type2 .ensures, c .before .before .before .before .before .first-type .ensures, c .before .before .before .second-type .ensures, c .before .before .before .before .before .before .before .before .type-behind .ensures .0, c .before .before .before .before .before .before .before .type-behind2 .ensures .0, c .before .before .before .before .before .before .before .before .before .own-key .ensures) (pair-right (s .pre .0) (s .args .at) p (s .pre .1))
+    λ p. c .judge .ensures ∙ simp (c .before .all-three .ensures, c .before .before .before .before .before .before .is-kind .ensures, c .before .before .before .before .same-type .ensures, c .before .before .same-type2 .ensures, c .before .before .before .before .before .first-type .ensures, c .before .before .before .second-type .ensures, c .before .before .before .before .before .before .before .before .type-behind .ensures .0, c .before .before .before .before .before .before .before .type-behind2 .ensures .0, c .before .before .before .before .before .before .before .before .before .own-key .ensures) (on-keys (s .pre .0 .types) (s .pre .1) (s .args .at) TermKind.pair p (behind-typed (s .pre .0) (s .pre .2), (behind-typed (s .pre .0) (s .pre .3), tt)))
 
 pub check-pair-spec : {M : Type 1} → statement M
 check-pair-spec =

@@ -2,7 +2,9 @@
 use borrow.Author.Needs.{needs}
 use Rattle.rules.proofs.core.check_print.Statement.{statement}
 use Rattle.rules.proofs.core.check_print.Tie as tie
-use Rattle.rules.proofs.ByKind.{print-right}
+use Rattle.image.specs.Bytes.{words}
+use Rattle.image.specs.Kinds.{TermKind}
+use Rattle.rules.proofs.OnKeys.{behind-typed, on-keys}
 
 own-key-requires : tie.Need-own-key-requires
 own-key-requires c κs = search needs
@@ -23,10 +25,11 @@ judge-requires : tie.Need-judge-requires
 judge-requires c κs = search needs
 
 returns : tie.Need-returns
+unfolding words
 returns c =
     let s = c .before .before .before .before .before .before .before .before .before .before in
     λ p.
-    let z = print-right (s .pre .0) (s .args .at) p (s .pre .1) (s .pre .2) in
+    let z = on-keys (s .pre .0 .types) (s .pre .1) (s .args .at) TermKind.print p (behind-typed (s .pre .0) (s .pre .2), tt) in
     cc
 
 pub check-print-spec : {M : Type 1} → statement M

@@ -2,7 +2,9 @@
 use borrow.Author.Needs.{needs}
 use Rattle.rules.proofs.core.check_sequence.Statement.{statement}
 use Rattle.rules.proofs.core.check_sequence.Tie as tie
-use Rattle.rules.proofs.ByKind.{sequence-right}
+use Rattle.image.specs.Bytes.{words}
+use Rattle.image.specs.Kinds.{TermKind}
+use Rattle.rules.proofs.OnKeys.{behind-typed, on-keys}
 
 own-type-requires : tie.Need-own-type-requires
 own-type-requires c κs = search needs
@@ -26,10 +28,11 @@ judge-requires : tie.Need-judge-requires
 judge-requires c κs = search needs
 
 returns : tie.Need-returns
+unfolding words
 returns c =
     let s = c .before .before .before .before .before .before .before .before .before .before .before in
     λ p.
-    let z = sequence-right (s .pre .0) (s .args .at) p (s .pre .2) in
+    let z = on-keys (s .pre .0 .types) (s .pre .1) (s .args .at) TermKind.seq p (behind-typed (s .pre .0) (s .pre .2), (behind-typed (s .pre .0) (s .pre .3), tt)) in
     cc
 
 pub check-sequence-spec : {M : Type 1} → statement M

@@ -1,13 +1,13 @@
 -- `rules::core::result_kind` meets its contract.
 use Rattle.rules.proofs.core.result_kind.Statement.{statement}
 use Rattle.rules.proofs.core.result_kind.Tie as tie
-use borrow.Author.Tests.{lt-ltb, le-ltb}
+use Rattle.rules.proofs.Small.{gives-number, gives-truth}
 
 returns : tie.Need-returns
-returns c = simp (lt-ltb _ _ (c .if1 .taken))
+returns c = gives-number (c .before .args .f) (c .if1 .taken)
 
 returns-2 : tie.Need-returns-2
-returns-2 c = simp (le-ltb _ _ (c .if1 .left))
+returns-2 c = gives-truth (c .before .args .f) (c .if1 .left)
 
 pub result-kind-spec : {M : Type 1} → statement M
 result-kind-spec = tie.close (tie.spec returns returns-2)

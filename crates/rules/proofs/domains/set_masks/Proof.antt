@@ -12,7 +12,7 @@ use Rattle.image.specs.Limits.{domainLimit}
 use Rattle.image.specs.Bytes.{fieldAt}
 use Rattle.image.specs.Layout.{recordsOf}
 use Rattle.image.proofs.Laid.{layout-good}
-use Rattle.verdicts.specs.Order.{masks}
+use Rattle.verdicts.specs.Domains.{masks}
 use Rattle.rules.proofs.Lists.{filled-none, filled-more}
 use lib.ListN.{length-set}
 

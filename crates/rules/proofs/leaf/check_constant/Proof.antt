@@ -6,7 +6,7 @@ use mathlib.Core.Path.{_∙_}
 use native.Mathlib.Omega.{arith}
 use Prim.Native.Nat.{_-_, _<_}
 use Rattle.image.specs.Kinds.{termRow}
-use Rattle.rules.proofs.ByKind.{constant-right}
+use Rattle.rules.proofs.OnKeys.{constant-right}
 
 own-key-requires : tie.Need-own-key-requires
 own-key-requires c κs = search needs

@@ -3,17 +3,16 @@ use borrow.Author.Needs.{needs}
 use Rattle.rules.proofs.rule.check_rule.Statement.{statement}
 use Rattle.rules.proofs.rule.check_rule.Tie as tie
 use native.Mathlib.Omega.{arith}
-use mathlib.Core.Path.{sym, subst, _∙_}
-use mathlib.Core.List.{[], _∷_}
+use mathlib.Core.Path.{sym, _∙_}
 use denote.Ref.{now}
 use lib.Dec.{lit<}
 use Rattle.image.specs.Kinds.{TermKind}
 use Rattle.image.specs.Layout.{recordsOf}
 use Rattle.image.specs.Types.{termKind}
-use Rattle.rules.proofs.Elimination.{apart, last-kind}
+use Rattle.rules.proofs.Elimination.{last-kind}
 use Rattle.rules.proofs.Located.{number-is, kind-is, typed-in, behind-in, labels-in}
 use Rattle.rules.proofs.Verdict.{verdict-in}
-use Rattle.rules.proofs.ByKind.{abort-right}
+use Rattle.rules.proofs.OnKeys.{abort-right}
 use Rattle.image.specs.Types.{termPlace}
 use Rattle.rules.specs.Fields.{fieldsOf}
 
@@ -131,7 +130,7 @@ check-lower-requires c κs =
 check-byte-requires : tie.Need-check-byte-requires
 check-byte-requires c κs =
     let s = c .before .before .before .before .before .before .before in
-    let e = last-kind (termKind (recordsOf (now (s .args .image))) (s .args .n .0)) (subst (λ m. apart m (53 ∷ 52 ∷ 51 ∷ 50 ∷ 49 ∷ 48 ∷ 47 ∷ 46 ∷ 45 ∷ 44 ∷ 43 ∷ 42 ∷ 41 ∷ 40 ∷ 39 ∷ 38 ∷ 37 ∷ 36 ∷ [])) (c .before .term-kind .ensures ∙ number-is (s .pre .0 .terms) (s .pre .1)) (c .match .rest)) (rw (← number-is (s .pre .0 .terms) (s .pre .1)) (s .pre .2)) in
+    let e = last-kind _ (c .match .rest) (termKind (recordsOf (now (s .args .image))) (s .args .n .0)) (c .before .term-kind .ensures ∙ number-is (s .pre .0 .terms) (s .pre .1)) (rw (c .before .term-kind .ensures) (s .pre .2)) in
     rw (c .before .before .term-fields .ensures) (s .pre .0, typed-in (s .pre .0 .terms) (s .pre .1), behind-in (s .pre .0 .terms) (s .pre .1) e 0 (lit< tt))
 
 returns : tie.Need-returns
@@ -245,7 +244,7 @@ returns-18 c =
 returns-19 : tie.Need-returns-19
 returns-19 c =
     let s = c .before .before .before .before .before .before .before .before in
-    let e = last-kind (termKind (recordsOf (now (s .args .image))) (s .args .n .0)) (subst (λ m. apart m (53 ∷ 52 ∷ 51 ∷ 50 ∷ 49 ∷ 48 ∷ 47 ∷ 46 ∷ 45 ∷ 44 ∷ 43 ∷ 42 ∷ 41 ∷ 40 ∷ 39 ∷ 38 ∷ 37 ∷ 36 ∷ [])) (c .before .before .term-kind .ensures ∙ number-is (s .pre .0 .terms) (s .pre .1)) (c .before .match .rest)) (rw (← number-is (s .pre .0 .terms) (s .pre .1)) (s .pre .2)) in
+    let e = last-kind _ (c .before .match .rest) (termKind (recordsOf (now (s .args .image))) (s .args .n .0)) (c .before .before .term-kind .ensures ∙ number-is (s .pre .0 .terms) (s .pre .1)) (rw (c .before .before .term-kind .ensures) (s .pre .2)) in
     λ Γ. c .check-byte .ensures (record { context = Γ; dom = s .args .c .0 }) ∙ rw (c .before .before .before .before .term-place .ensures .0, c .before .before .before .term-fields .ensures) (verdict-in (s .pre .0 .terms) (s .pre .1) e (record { context = Γ; dom = s .args .c .0 }))
 
 pub check-rule-spec : {M : Type 1} → statement M

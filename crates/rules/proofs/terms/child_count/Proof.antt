@@ -2,13 +2,12 @@
 use borrow.Author.Needs.{needs}
 use Rattle.rules.proofs.terms.child_count.Statement.{statement}
 use Rattle.rules.proofs.terms.child_count.Tie as tie
-use mathlib.Core.Path.{sym, ap, _∙_, subst}
-use mathlib.Core.List.{[], _∷_}
+use mathlib.Core.Path.{sym, ap, _∙_}
 use denote.Ref.{now}
 use Rattle.image.specs.Kinds.{TermKind}
 use Rattle.image.proofs.KindNumbers.{same-term-kind}
 use Rattle.rules.specs.Fields.{countIn}
-use Rattle.rules.proofs.Elimination.{apart, childless}
+use Rattle.rules.proofs.Elimination.{none-below}
 
 labels-in-requires : tie.Need-labels-in-requires
 labels-in-requires c κs = search needs
@@ -65,7 +64,7 @@ returns-17 : tie.Need-returns-17
 returns-17 c = λ k e. ap (countIn (now (c .before .before .args .fields))) (same-term-kind TermKind.byte k (sym (c .match .keys17) ∙ e))
 
 returns-18 : tie.Need-returns-18
-returns-18 c = λ k e. sym (childless (now (c .before .before .args .fields)) k (subst (λ m. apart m (60 ∷ 52 ∷ 51 ∷ 50 ∷ 49 ∷ 48 ∷ 47 ∷ 46 ∷ 45 ∷ 43 ∷ 42 ∷ 41 ∷ 40 ∷ 39 ∷ 38 ∷ 37 ∷ 36 ∷ [])) e (c .match .rest)))
+returns-18 c = λ k e. sym (none-below (now (c .before .before .args .fields)) _ (c .match .rest) k e)
 
 pub child-count-spec : {M : Type 1} → statement M
 child-count-spec =

@@ -1,12 +1,10 @@
 -- `rules::terms::lead_of` meets its contract.
 use Rattle.rules.proofs.terms.lead_of.Statement.{statement}
 use Rattle.rules.proofs.terms.lead_of.Tie as tie
-use mathlib.Core.Path.{sym, ap, _∙_, subst}
-use Rattle.image.specs.Kinds.{TermKind}
+use mathlib.Core.Path.{sym, ap, _∙_}
+use Rattle.image.specs.Kinds.{TermKind, leadOf}
 use Rattle.image.proofs.KindNumbers.{same-term-kind}
-use Rattle.rules.specs.Fields.{leadOf}
-use Rattle.rules.proofs.Elimination.{apart, one-before}
-use mathlib.Core.List.{[], _∷_}
+use Rattle.rules.proofs.Elimination.{one-before}
 
 returns : tie.Need-returns
 returns c = λ k e. ap leadOf (same-term-kind TermKind.truth k (sym (c .match .keys1) ∙ e))
@@ -24,7 +22,7 @@ returns-5 : tie.Need-returns-5
 returns-5 c = λ k e. ap leadOf (same-term-kind TermKind.lower k (sym (c .match .keys5) ∙ e))
 
 returns-6 : tie.Need-returns-6
-returns-6 c = λ k e. sym (one-before k (subst (λ m. apart m (52 ∷ 43 ∷ 35 ∷ 34 ∷ 33 ∷ [])) e (c .match .rest)))
+returns-6 c = λ k e. sym (one-before _ (c .match .rest) k e)
 
 pub lead-of-spec : {M : Type 1} → statement M
 lead-of-spec = tie.close (tie.spec returns returns-2 returns-3 returns-4 returns-5 returns-6)

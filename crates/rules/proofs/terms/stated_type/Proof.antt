@@ -3,7 +3,7 @@ use borrow.Author.Needs.{needs}
 use Rattle.rules.proofs.terms.stated_type.Statement.{statement}
 use Rattle.rules.proofs.terms.stated_type.Tie as tie
 use mathlib.Core.Path.{ap, _∙_}
-use Rattle.rules.specs.Fields.{fieldIn}
+use Rattle.records.specs.Heads.{fieldIn}
 use Rattle.rules.proofs.Located.{typed-in, type-in}
 
 term-fields-requires : tie.Need-term-fields-requires

@@ -2,7 +2,9 @@
 use borrow.Author.Needs.{needs}
 use Rattle.rules.proofs.watches.check_mark.Statement.{statement}
 use Rattle.rules.proofs.watches.check_mark.Tie as tie
-use Rattle.rules.proofs.ByKind.{mark-right}
+use Rattle.image.specs.Bytes.{words}
+use Rattle.image.specs.Kinds.{TermKind}
+use Rattle.rules.proofs.OnKeys.{behind-typed, on-keys}
 use mathlib.Core.Path.{_∙_}
 
 own-key-requires : tie.Need-own-key-requires
@@ -39,9 +41,10 @@ judge-requires : tie.Need-judge-requires
 judge-requires c κs = search needs
 
 returns : tie.Need-returns
+unfolding words
 returns c =
     let s = c .before .before .before .before .before .before .before .before .before .before .before .before .before .before .before in
-    λ Γ. c .judge .ensures ∙ simp (c .before .before .before .all-three .ensures, c .before .before .before .before .before .before .before .is-kind .ensures, c .before .before .before .before .before .before .is-kind2 .ensures, c .before .before .before .before .same-type .ensures, c .before .same-domain .ensures, c .before .before .before .before .before .first-type .ensures, c .before .before .second-domain .ensures, c .before .before .before .before .before .before .before .before .type-behind .ensures .0, c .before .before .before .before .before .before .before .before .before .key-behind .ensures, c .before .before .before .before .before .before .before .before .before .before .own-key .ensures) (mark-right (s .pre .0) (s .args .at) (record { context = Γ; dom = s .args .c .0 }) (s .pre .1) (s .pre .2))
+    λ Γ. c .judge .ensures ∙ simp (c .before .before .before .all-three .ensures, c .before .before .before .before .before .before .before .is-kind .ensures, c .before .before .before .before .before .before .is-kind2 .ensures, c .before .before .before .before .same-type .ensures, c .before .same-domain .ensures, c .before .before .before .before .before .first-type .ensures, c .before .before .second-domain .ensures, c .before .before .before .before .before .before .before .before .type-behind .ensures .0, c .before .before .before .before .before .before .before .before .before .key-behind .ensures, c .before .before .before .before .before .before .before .before .before .before .own-key .ensures) (on-keys (s .pre .0 .types) (s .pre .1) (s .args .at) TermKind.mark (record { context = Γ; dom = s .args .c .0 }) (behind-typed (s .pre .0) (s .pre .2), (behind-typed (s .pre .0) (s .pre .3), tt)))
 
 pub check-mark-spec : {M : Type 1} → statement M
 check-mark-spec =

@@ -2,7 +2,7 @@
 use borrow.Author.Needs.{needs}
 use Rattle.rules.proofs.watches.check_new_label.Statement.{statement}
 use Rattle.rules.proofs.watches.check_new_label.Tie as tie
-use Rattle.rules.proofs.ByKind.{new-label-right}
+use Rattle.rules.proofs.OnKeys.{new-label-right}
 
 own-key-requires : tie.Need-own-key-requires
 own-key-requires c κs = search needs

@@ -3,7 +3,7 @@ use borrow.Author.Needs.{needs}
 use Rattle.rules.proofs.watches.check_pointcut.Statement.{statement}
 use Rattle.rules.proofs.watches.check_pointcut.Tie as tie
 use mathlib.Core.Path.{_∙_}
-use Rattle.rules.proofs.ByKind.{pointcut-right}
+use Rattle.rules.proofs.OnKeys.{pointcut-right}
 
 own-key-requires : tie.Need-own-key-requires
 own-key-requires c κs = search needs

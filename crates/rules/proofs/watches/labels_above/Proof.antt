@@ -12,7 +12,7 @@ use Rattle.image.specs.Kinds.{TermKind}
 use Rattle.rules.specs.Fields.{typesIn}
 use Rattle.rules.specs.Judged.{labelAbove}
 use Rattle.rules.proofs.Lists.{test-more, test-fails, test-ends}
-use Rattle.rules.proofs.ByKind.{label-count, label-at}
+use Rattle.rules.proofs.OnKeys.{labels-length, label-at}
 
 abbrev Inv-loop : tie.InvT-loop
 Inv-loop image masks terms keys fields d k i₀ i = (i ≤ k) × (allOf (labelAbove masks keys (d .0)) (drop i (typesIn image fields TermKind.pcd)) ≡ allOf (labelAbove masks keys (d .0)) (typesIn image fields TermKind.pcd))
@@ -51,7 +51,7 @@ loop-again : tie.Need-loop-again Inv-loop μ-loop
 loop-again c =
     let s = c .before .before .before .before .before .before .before .before .before .before .before in
     let k = c .before .before .before .before .before .before .labels-in .ensures in
-    let n = label-count (now (s .args .image)) (now (s .args .fields)) in
+    let n = labels-length (now (s .args .image)) (now (s .args .fields)) in
     let l = label-at (now (s .args .image)) (now (s .args .fields)) (c .before .before .before .before .before .loop .i) (omega arith) in
     let e : labelAbove (now (s .args .masks)) (now (s .args .keys)) (s .args .d .0) (getD (typesIn (now (s .args .image)) (now (s .args .fields)) TermKind.pcd) (c .before .before .before .before .before .loop .i) 0) ≡ c .before .leq .result = sym (c .before .leq .ensures ∙ simp (c .before .before .second-domain .ensures, c .before .before .before .key-behind .ensures, ← l)) in
     (omega arith, test-more _ _ (c .before .before .before .before .before .loop .i) (omega arith) (e ∙ c .if1 .taken) ∙ c .before .before .before .before .before .loop .inv .1)
@@ -60,7 +60,7 @@ returns : tie.Need-returns Inv-loop μ-loop
 returns c =
     let s = c .before .before .before .before .before .before .before .before .before .before .before in
     let k = c .before .before .before .before .before .before .labels-in .ensures in
-    let n = label-count (now (s .args .image)) (now (s .args .fields)) in
+    let n = labels-length (now (s .args .image)) (now (s .args .fields)) in
     let l = label-at (now (s .args .image)) (now (s .args .fields)) (c .before .before .before .before .before .loop .i) (omega arith) in
     let e : labelAbove (now (s .args .masks)) (now (s .args .keys)) (s .args .d .0) (getD (typesIn (now (s .args .image)) (now (s .args .fields)) TermKind.pcd) (c .before .before .before .before .before .loop .i) 0) ≡ c .before .leq .result = sym (c .before .leq .ensures ∙ simp (c .before .before .second-domain .ensures, c .before .before .before .key-behind .ensures, ← l)) in
     test-fails _ _ (c .before .before .before .before .before .loop .i) (omega arith) (e ∙ c .if1 .left) ∙ c .before .before .before .before .before .loop .inv .1
@@ -69,7 +69,7 @@ returns-2 : tie.Need-returns-2 Inv-loop μ-loop
 returns-2 c =
     let s = c .before .before .before .before .before .before .before in
     let k = c .before .before .labels-in .ensures in
-    let n = label-count (now (s .args .image)) (now (s .args .fields)) in
+    let n = labels-length (now (s .args .image)) (now (s .args .fields)) in
     test-ends _ _ (c .before .loop .i) (omega arith) ∙ c .before .loop .inv .1
 
 pub labels-above-spec : {M : Type 1} → statement M

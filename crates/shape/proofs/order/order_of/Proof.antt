@@ -9,7 +9,7 @@ use Rattle.image.specs.Limits.{domainLimit}
 use Rattle.image.specs.Layout.{recordsOf}
 use Rattle.verdicts.specs.Order.{bits}
 use Rattle.records.specs.Heads.{fieldsAt, fieldIn}
-use Rattle.records.proofs.Parts.{fields-length, field-is}
+use Rattle.records.proofs.Parts.{bytes-length, field-is}
 use Rattle.shape.specs.Records.{DomainAt}
 use Rattle.shape.proofs.Orders.{RowsTo, rows-none, rows-more, rows-all}
 use borrow.Author.Needs.{needs}
@@ -42,7 +42,7 @@ mask-of-requires c κs =
     let s = c .before .before .before .before .before .before in
     let D = s .pre .stands (l .d) (omega arith) in
     let m = D .mask in
-    rw (c .fields-at .ensures, c .before .domain-offset .ensures) (omega (arith, fields-length (now (s .args .image)) (getD (now (s .args .doms)) (l .d) 0) (D .whole)))
+    rw (c .fields-at .ensures, c .before .domain-offset .ensures) (omega (arith, bytes-length (now (s .args .image)) (getD (now (s .args .doms)) (l .d) 0) (D .whole)))
 
 row-of-requires : tie.Need-row-of-requires Inv-loop μ-loop
 row-of-requires c κs = search needs

@@ -8,7 +8,7 @@ use Prim.Native.Nat.{_<_}
 use denote.Ref.{now}
 use lib.Dec.{lit<}
 use Rattle.records.specs.Keys.{keyField0}
-use Rattle.rules.proofs.ByKind.{ownKey, keyBehind}
+use Rattle.rules.proofs.OnKeys.{ownKey, keyBehind}
 use Rattle.typing.proofs.ChildSettings.{advice-small, advice-at}
 
 own-key-requires : tie.Need-own-key-requires

@@ -1,12 +1,11 @@
 -- `typing::scope::child_setting` meets its contract.
 use Rattle.typing.proofs.scope.child_setting.Statement.{statement}
 use Rattle.typing.proofs.scope.child_setting.Tie as tie
-use mathlib.Core.Path.{_≡_, sym, subst, _∙_}
-use mathlib.Core.List.{[], _∷_}
+use native.Mathlib.Omega.{arith}
+use mathlib.Core.Path.{_≡_, sym, _∙_}
 use denote.Ref.{now}
 use Rattle.image.specs.Kinds.{TermKind}
 use Rattle.image.proofs.KindNumbers.{same-term-kind}
-use Rattle.rules.proofs.Elimination.{apart}
 use Rattle.typing.proofs.ChildSettings.{same-at, split-first, advice-first}
 
 function-setting-requires : tie.Need-function-setting-requires
@@ -26,14 +25,18 @@ returns c =
     let s = c .before .before .before .before .before .before .before in
     λ k e.
     let z : k ≡ TermKind.fun = same-term-kind k TermKind.fun (sym e ∙ c .before .before .match .keys1) in
-    rw z (c .function-setting .ensures (s .args .i))
+    let l = s .pre .1 TermKind.fun (c .before .before .match .keys1) .1 in
+    let i : s .args .i ≡ 0 = omega arith in
+    rw (z, i) (c .function-setting .ensures)
 
 returns-2 : tie.Need-returns-2
 returns-2 c =
     let s = c .before .before .before .before .before .before .before in
     λ k e.
     let z : k ≡ TermKind.lower = same-term-kind k TermKind.lower (sym e ∙ c .before .before .match .keys2) in
-    rw z (c .lower-setting .ensures (s .args .i))
+    let l = s .pre .1 TermKind.lower (c .before .before .match .keys2) .1 in
+    let i : s .args .i ≡ 0 = omega arith in
+    rw (z, i) (c .lower-setting .ensures)
 
 returns-3 : tie.Need-returns-3
 returns-3 c =
@@ -66,7 +69,7 @@ returns-6 c =
 returns-7 : tie.Need-returns-7
 returns-7 c =
     let s = c .before .before .before .before .before in
-    λ k e. same-at (now (s .args .image)) (now (s .args .fields)) (now (s .args .scope)) (s .args .p .len) (s .args .p .dom .0) (s .args .i) k (subst (λ m. apart m (47 ∷ 40 ∷ 52 ∷ 41 ∷ [])) e (c .match .rest))
+    λ k e. same-at (now (s .args .image)) (now (s .args .fields)) (now (s .args .scope)) (s .args .p .len) (s .args .p .dom .0) (s .args .i) _ (c .match .rest) k e
 
 pub child-setting-spec : {M : Type 1} → statement M
 child-setting-spec =

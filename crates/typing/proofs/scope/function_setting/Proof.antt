@@ -6,7 +6,7 @@ use native.Mathlib.Omega.{arith}
 use mathlib.Core.Path.{_≡_, ap, _∙_}
 use denote.Ref.{now}
 use Rattle.records.specs.Keys.{keyField0, keyField1}
-use Rattle.rules.proofs.ByKind.{ownKey}
+use Rattle.rules.proofs.OnKeys.{ownKey}
 use Rattle.typing.proofs.ChildSettings.{function-small, function-at}
 
 own-key-requires : tie.Need-own-key-requires
@@ -32,10 +32,9 @@ add-t11 c = search needs
 returns : tie.Need-returns
 returns c =
     let s = c .before .before .before .before .before .before .before .before .before in
-    λ i.
     let e : c .before .before .before .first-type .result .0 ≡ keyField0 (ownKey (now (s .args .keys)) (now (s .args .fields))) = c .before .before .before .first-type .ensures ∙ ap keyField0 (c .before .before .before .before .before .own-key .ensures) in
     let d : c .before .second-domain .result .0 ≡ keyField1 (ownKey (now (s .args .keys)) (now (s .args .fields))) = c .before .second-domain .ensures ∙ ap keyField1 (c .before .before .before .before .before .own-key .ensures) in
-    rw (c .before .before .bind .ensures, e, d) (function-at (s .pre .0) (s .pre .1) i)
+    rw (c .before .before .bind .ensures, e, d) (function-at (s .pre .0) (s .pre .1))
 
 pub function-setting-spec : {M : Type 1} → statement M
 function-setting-spec =

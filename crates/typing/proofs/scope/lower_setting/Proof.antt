@@ -15,7 +15,7 @@ other-field-requires c κs =
 returns : tie.Need-returns
 returns c =
     let s = c .before .before .before in
-    λ i. rw (c .other-field .ensures) (lower-at (now (s .args .image)) (now (s .args .fields)) (now (s .args .scope)) (s .args .p .len) (s .args .p .dom .0) i)
+    rw (c .other-field .ensures) (lower-at (now (s .args .image)) (now (s .args .fields)) (now (s .args .scope)) (s .args .p .len) (s .args .p .dom .0))
 
 pub lower-setting-spec : {M : Type 1} → statement M
 lower-setting-spec = tie.close (tie.spec other-field-requires returns)

@@ -8,7 +8,7 @@ use Prim.Native.Nat.{_<_}
 use denote.Ref.{now}
 use lib.Dec.{lit<}
 use Rattle.records.specs.Keys.{keyField0, keyField1}
-use Rattle.rules.proofs.ByKind.{keyBehind}
+use Rattle.rules.proofs.OnKeys.{keyBehind}
 use Rattle.typing.proofs.ChildSettings.{split-small, split-at}
 
 key-behind-requires : tie.Need-key-behind-requires

@@ -9,7 +9,7 @@ use mathlib.Core.Path.{_≡_, refl, sym, ap, subst, _∙_}
 use mathlib.Core.Bool.{true}
 use mathlib.Core.List.{List}
 use lib.ListN.{length, getD, take}
-use Rattle.image.specs.Kinds.{TermKind, termRow}
+use Rattle.image.specs.Kinds.{TermKind, termRow, leadOf}
 use Rattle.image.specs.Layout.{recordsOf}
 use Rattle.image.specs.Types.{termKind, children}
 use Rattle.verdicts.specs.declared.Verdict.{Verdict}
@@ -17,10 +17,11 @@ use Rattle.verdicts.specs.Answers.{isRefused}
 use Rattle.verdicts.specs.Settings.{Setting}
 use Rattle.verdicts.specs.Check.{checked}
 use Rattle.verdicts.proofs.Answered.{accepted-is}
+use Rattle.records.specs.Heads.{fieldIn}
 use Rattle.rules.specs.Lent.{IsTerm, contextIn, settingIn}
-use Rattle.rules.specs.Fields.{fieldsOf, fieldIn, leadOf, countIn, settingFrom, Behind}
+use Rattle.rules.specs.Fields.{fieldsOf, countIn, childrenIn, settingFrom, Behind}
 use Rattle.rules.specs.Judged.{ruleVerdict}
-use Rattle.rules.proofs.Located.{number-is, kind-is, typed-in, count-is, child-in, child-lower, behind-in}
+use Rattle.rules.proofs.Located.{number-is, kind-is, typed-in, children-in, count-is, child-in, child-lower, behind-in}
 use Rattle.rules.proofs.Verdict.{verdict-in}
 use Rattle.typing.specs.Turns.{Passed, ChildAt, Room}
 use Rattle.typing.proofs.TermPass.{front, front-next, front-stops, front-whole, types-fit, take-fewer, same-setting}
@@ -147,18 +148,23 @@ module _ {t : ℕ} where
       omega arith
 
   -- Its number stands behind the fields and the children before it, and is lower than the term's.
-  number-is-in : (c : Child t) (m : TermKind) → turn-of c .before .before .before .before .term-kind .result ≡ termRow m .number → number-of c ≡ fieldIn (fields-of (turn-of c .before)) (leadOf m + index-of c)
-  number-is-in c m e =
-      let f = fields-of (turn-of c .before) in
-      c .before .before .before .child-behind .ensures ∙ ap (λ l. fieldIn f (l + index-of c)) (turn-of c .before .lead-of .ensures m e)
-
   index-in : (c : Child t) → index-of c < countIn (fieldsOf (image-of (parent-of c)) (parent-of c .args .n .0)) (kind-of (parent-of c))
   index-in c = subst (λ fs. index-of c < countIn fs (kind-of (parent-of c))) (fields-are (turn-of c .before)) (indexed c (kind-of (parent-of c)) (numbered (turn-of c .before)))
 
   child-number : (c : Child t) → number-of c ≡ getD (children (recordsOf (image-of (parent-of c))) (parent-of c .args .n .0)) (index-of c) 0
   child-number c =
       let s = parent-of c in
-      number-is-in c (kind-of s) (numbered (turn-of c .before)) ∙ ap (λ fs. fieldIn fs (leadOf (kind-of s) + index-of c)) (fields-are (turn-of c .before)) ∙ child-in (s .pre .1 .0 .terms) (s .pre .1 .1) refl (index-of c) (index-in c)
+      let d = turn-of c .before in
+      c .before .before .before .child-behind .ensures
+      ∙ ap (λ l. fieldIn (fields-of d) (l + index-of c)) (d .lead-of .ensures (kind-of s) (numbered d))
+      ∙ ap (λ fs. fieldIn fs (leadOf (kind-of s) + index-of c)) (fields-are d)
+      ∙ child-in (s .pre .1 .0 .terms) (s .pre .1 .1) refl (index-of c) (index-in c)
+
+  number-is-in : (c : Child t) (m : TermKind) → turn-of c .before .before .before .before .term-kind .result ≡ termRow m .number → number-of c ≡ getD (childrenIn (fields-of (turn-of c .before)) m) (index-of c) 0
+  number-is-in c m e =
+      let s = parent-of c in
+      let d = turn-of c .before in
+      child-number c ∙ ap (λ es. getD es (index-of c) 0) (sym (children-in (s .pre .1 .0 .terms) (s .pre .1 .1) (kinded d m e)) ∙ ap (λ fs. childrenIn fs m) (sym (fields-are d)))
 
   pub lower : (c : Child t) → number-of c < parent-of c .args .n .0
   lower c = let s = parent-of c in subst (λ e. e < s .args .n .0) (sym (child-number c)) (child-lower (s .pre .1 .0 .terms) (s .pre .1 .1) {k = kind-of s} refl (index-of c) (index-in c))

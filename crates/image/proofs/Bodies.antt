@@ -1,0 +1,53 @@
+-- Which kinds have which bodies.
+use Prim.Native.Nat.{ℕ, zero, suc}
+use mathlib.Core.Path.{_≡_, refl}
+use mathlib.Core.Bool.{Bool, true, _&&_}
+use mathlib.Core.List.{List, [], _∷_}
+use lib.ListN.{getD}
+use lib.Dec.{eqb}
+use Rattle.image.specs.Kinds.{Body, here, function-body, advice-body, split-body, lower-body, TermKind, termRow, bodies, bodyOf}
+use Rattle.image.proofs.Facts.{and-l, and-r, eq-of}
+use Rattle.image.proofs.KindNumbers.{same-term-kind}
+use Rattle.image.proofs.EveryKind.{everyOf, at-term}
+
+abbrev numbered : TermKind → TermKind → Bool
+numbered j k = eqb (termRow j .number) (termRow k .number)
+
+-- A body of a function is a function's, and so on.
+abbrev owned : TermKind → Body → Bool
+owned k here = true
+owned k function-body = numbered k TermKind.fun
+owned k advice-body = numbered k TermKind.adv
+owned k split-body = numbered k TermKind.split
+owned k lower-body = numbered k TermKind.lower
+
+abbrev allOwned : TermKind → List Body → Bool
+allOwned k [] = true
+allOwned k (b ∷ bs) = owned k b && allOwned k bs
+
+owned-at : (k : TermKind) (bs : List Body) (d : Body) (i : ℕ) → allOwned k bs ≡ true → owned k d ≡ true → owned k (getD bs i d) ≡ true
+owned-at k [] d i h g = g
+owned-at k (b ∷ bs) d zero h g = and-l (owned k b) (allOwned k bs) h
+owned-at k (b ∷ bs) d (suc i) h g = owned-at k bs d i (and-r (owned k b) (allOwned k bs) h) g
+
+-- The one kind that has a body.
+abbrev pub Owner : TermKind → Body → Type 0
+Owner k here = Unit {0}
+Owner k function-body = k ≡ TermKind.fun
+Owner k advice-body = k ≡ TermKind.adv
+Owner k split-body = k ≡ TermKind.split
+Owner k lower-body = k ≡ TermKind.lower
+
+owner : (k : TermKind) (b : Body) → owned k b ≡ true → Owner k b
+owner k here h = tt
+owner k function-body h = same-term-kind k TermKind.fun (eq-of h)
+owner k advice-body h = same-term-kind k TermKind.adv (eq-of h)
+owner k split-body h = same-term-kind k TermKind.split (eq-of h)
+owner k lower-body h = same-term-kind k TermKind.lower (eq-of h)
+
+pub body-owner : (k : TermKind) (i : ℕ) → Owner k (bodyOf k i)
+unfolding everyOf
+body-owner k i =
+    owner k (bodyOf k i)
+    (owned-at k (bodies (termRow k .first)) (getD (bodies (termRow k .group)) 0 here) i (at-term (λ k. allOwned k (bodies (termRow k .first))) refl k)
+    (owned-at k (bodies (termRow k .group)) here 0 (at-term (λ k. allOwned k (bodies (termRow k .group))) refl k) refl))

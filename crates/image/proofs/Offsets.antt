@@ -1,0 +1,168 @@
+-- Fields and children as a program that reads bytes finds them: field i at its offset; of a term, its own fields right behind its type, and its children, side by side, behind these.
+use Prim.Native.Nat.{ℕ, zero, suc, _+_, _-_, _*_, _≤_, _<_}
+use native.Mathlib.Omega.{arith}
+use mathlib.Core.Path.{_≡_, refl, sym, ap, _∙_}
+use mathlib.Core.Bool.{Bool, true, false}
+use mathlib.Core.List.{List, [], _∷_, _++_}
+use lib.ListN.{length, getD}
+use Rattle.image.specs.Tests.{all}
+use Rattle.image.specs.Bytes.{le16, words, lengthAt, fieldAt}
+use Rattle.image.specs.Kinds.{Field, a-type, own, a-term, an-entry, TermKind, Row, termRow, again, lead, leadOf}
+use Rattle.image.specs.Records.{times, fieldsAt, numbersAt, asChild, asOther, given, childrenAt, othersAt}
+use Rattle.image.proofs.Facts.{no-path, each}
+use Rattle.image.proofs.Words.{words-length, words-at}
+use Rattle.image.proofs.EveryKind.{everyOf, at-term}
+
+-- Field i of a record that has it; 0 where it has not.
+pub number-at : (b : List ℕ) (o : ℕ) (r : Row) (i : ℕ) → i < length (fieldsAt b o r) → getD (numbersAt b o r) i 0 ≡ fieldAt b o i
+number-at b o r i h = words-at b (o + 4) (length (fieldsAt b o r)) i h
+
+past-end : (vs : List ℕ) (i : ℕ) → length vs ≤ i → getD vs i 0 ≡ 0
+past-end [] i h = refl
+past-end (v ∷ vs) zero h = absurd (omega arith)
+past-end (v ∷ vs) (suc i) h = past-end vs i (omega arith)
+
+pub no-number : (b : List ℕ) (o : ℕ) (r : Row) (i : ℕ) → length (fieldsAt b o r) ≤ i → getD (numbersAt b o r) i 0 ≡ 0
+no-number b o r i h = past-end (numbersAt b o r) i (let e = words-length b (o + 4) (length (fieldsAt b o r)) in omega arith)
+
+-- All are children; and own fields, then children.
+abbrev allTerms : List Field → Bool
+allTerms [] = true
+allTerms (a-type ∷ fs) = false
+allTerms (own r ∷ fs) = false
+allTerms (a-term b ∷ fs) = allTerms fs
+allTerms (an-entry ∷ fs) = false
+
+abbrev ownFirst : List Field → Bool
+ownFirst [] = true
+ownFirst (a-type ∷ fs) = false
+ownFirst (own r ∷ fs) = ownFirst fs
+ownFirst (a-term b ∷ fs) = allTerms fs
+ownFirst (an-entry ∷ fs) = false
+
+terms-append : (fs gs : List Field) → allTerms fs ≡ true → allTerms gs ≡ true → allTerms (fs ++ gs) ≡ true
+terms-append [] gs h g = g
+terms-append (a-type ∷ fs) gs h g = no-path (sym h)
+terms-append (own r ∷ fs) gs h g = no-path (sym h)
+terms-append (a-term b ∷ fs) gs h g = terms-append fs gs h g
+terms-append (an-entry ∷ fs) gs h g = no-path (sym h)
+
+terms-again : (n : ℕ) (fs : List Field) → allTerms fs ≡ true → allTerms (again n fs) ≡ true
+terms-again zero fs h = refl
+terms-again (suc n) fs h = terms-append fs (again n fs) h (terms-again n fs h)
+
+terms-own : (fs : List Field) → allTerms fs ≡ true → ownFirst fs ≡ true
+terms-own [] h = refl
+terms-own (a-type ∷ fs) h = no-path (sym h)
+terms-own (own r ∷ fs) h = no-path (sym h)
+terms-own (a-term b ∷ fs) h = h
+terms-own (an-entry ∷ fs) h = no-path (sym h)
+
+terms-lead : (fs : List Field) → allTerms fs ≡ true → lead fs ≡ 0
+terms-lead [] h = refl
+terms-lead (a-type ∷ fs) h = no-path (sym h)
+terms-lead (own r ∷ fs) h = no-path (sym h)
+terms-lead (a-term b ∷ fs) h = refl
+terms-lead (an-entry ∷ fs) h = no-path (sym h)
+
+own-append : (fs gs : List Field) → ownFirst fs ≡ true → allTerms gs ≡ true → (ownFirst (fs ++ gs) ≡ true) × (lead (fs ++ gs) ≡ lead fs)
+own-append [] gs h g = (terms-own gs g, terms-lead gs g)
+own-append (a-type ∷ fs) gs h g = no-path (sym h)
+own-append (own r ∷ fs) gs h g = let i = own-append fs gs h g in (i .0, ap suc (i .1))
+own-append (a-term b ∷ fs) gs h g = (terms-append fs gs h g, refl)
+own-append (an-entry ∷ fs) gs h g = no-path (sym h)
+
+-- What such fields give.
+terms-given : (fs : List Field) (b : List ℕ) (o : ℕ) → allTerms fs ≡ true → (given asChild fs (words b o (length fs)) ≡ words b o (length fs)) × (given asOther fs (words b o (length fs)) ≡ [])
+unfolding words
+terms-given [] b o h = (refl, refl)
+terms-given (a-type ∷ fs) b o h = no-path (sym h)
+terms-given (own r ∷ fs) b o h = no-path (sym h)
+terms-given (a-term x ∷ fs) b o h = let i = terms-given fs b (o + 2) h in (ap (λ vs. le16 b o ∷ vs) (i .0), i .1)
+terms-given (an-entry ∷ fs) b o h = no-path (sym h)
+
+own-given : (fs : List Field) (b : List ℕ) (o : ℕ) → ownFirst fs ≡ true
+    → (given asChild fs (words b o (length fs)) ≡ words b (o + 2 * lead fs) (length fs - lead fs)) × (given asOther fs (words b o (length fs)) ≡ words b o (lead fs)) × (lead fs ≤ length fs)
+unfolding words
+own-given [] b o h = (refl, refl, omega arith)
+own-given (a-type ∷ fs) b o h = no-path (sym h)
+own-given (own r ∷ fs) b o h =
+    let i = own-given fs b (o + 2) h in
+    let e : o + 2 + 2 * lead fs ≡ o + 2 * suc (lead fs) = omega arith in
+    let n : length fs - lead fs ≡ suc (length fs) - suc (lead fs) = omega arith in
+    (i .0 ∙ ap (λ p. words b p (length fs - lead fs)) e ∙ ap (λ m. words b (o + 2 * suc (lead fs)) m) n, ap (λ vs. le16 b o ∷ vs) (i .1), let l = i .2 in omega arith)
+own-given (a-term x ∷ fs) b o h =
+    let i = terms-given (a-term x ∷ fs) b o h in
+    let e : o ≡ o + 2 * 0 = omega arith in
+    let n : suc (length fs) ≡ suc (length fs) - 0 = omega arith in
+    (i .0 ∙ ap (λ p. words b p (suc (length fs))) e ∙ ap (λ m. words b (o + 2 * 0) m) n, i .1, omega arith)
+own-given (an-entry ∷ fs) b o h = no-path (sym h)
+
+-- A term's type, then own fields, then children.
+abbrev ordered : List Field → Bool
+ordered [] = false
+ordered (a-type ∷ fs) = ownFirst fs
+ordered (own r ∷ fs) = false
+ordered (a-term b ∷ fs) = false
+ordered (an-entry ∷ fs) = false
+
+abbrev orderedRow : Row → Bool
+orderedRow r = all (ordered (r .first) ∷ allTerms (r .group) ∷ allTerms (r .last) ∷ [])
+
+-- What is read of such fields.
+record Read (fs : List Field) (d : ℕ) (b : List ℕ) (o : ℕ) : Type 0 where
+  children : given asChild fs (words b o (length fs)) ≡ words b (o + 2 * d) (length fs - d)
+  others : given asOther fs (words b o (length fs)) ≡ words b (o + 2) (d - 1)
+  fits : (1 ≤ d) × (d ≤ length fs)
+
+read-of : (fs gs : List Field) (b : List ℕ) (o : ℕ) → ordered fs ≡ true → allTerms gs ≡ true → Read (fs ++ gs) (lead fs) b o
+unfolding words
+read-of [] gs b o h g = no-path (sym h)
+read-of (own r ∷ fs) gs b o h g = no-path (sym h)
+read-of (a-term x ∷ fs) gs b o h g = no-path (sym h)
+read-of (an-entry ∷ fs) gs b o h g = no-path (sym h)
+read-of (a-type ∷ fs) gs b o h g =
+    let a = own-append fs gs h g in
+    let i = own-given (fs ++ gs) b (o + 2) (a .0) in
+    let l : lead (fs ++ gs) ≡ lead fs = a .1 in
+    let e : o + 2 + 2 * lead (fs ++ gs) ≡ o + 2 * suc (lead fs) = omega arith in
+    let n : length (fs ++ gs) - lead (fs ++ gs) ≡ suc (length (fs ++ gs)) - suc (lead fs) = omega arith in
+    let m : lead (fs ++ gs) ≡ suc (lead fs) - 1 = omega arith in
+    let z = i .2 in
+    record {
+      children = i .0 ∙ ap (λ p. words b p (length (fs ++ gs) - lead (fs ++ gs))) e ∙ ap (λ k. words b (o + 2 * suc (lead fs)) k) n;
+      others = i .1 ∙ ap (λ k. words b (o + 2) k) m;
+      fits = (omega arith, omega arith);
+    }
+
+module _ (k : TermKind) (b : List ℕ) (o : ℕ) where
+  abbrev r : Row
+  r = termRow k
+
+  read : Read (fieldsAt b o r) (leadOf k) b (o + 4)
+  unfolding everyOf all
+  read =
+      let t = each (ordered (r .first) ∷ allTerms (r .group) ∷ allTerms (r .last) ∷ []) (at-term (λ k. orderedRow (termRow k)) refl k) in
+      let c : ℕ = times r (lengthAt b o) in
+      read-of (r .first) (again c (r .group) ++ r .last) b (o + 4) (t .0) (terms-append (again c (r .group)) (r .last) (terms-again c (r .group) (t .1 .0)) (t .1 .1 .0))
+
+  -- The children are the fields behind the lead, and the others those between it and the type.
+  pub children-at : childrenAt b o r ≡ words b (o + 4 + 2 * leadOf k) (length (fieldsAt b o r) - leadOf k)
+  children-at = read .children
+
+  pub others-at : othersAt b o r ≡ words b (o + 6) (leadOf k - 1)
+  others-at = let e : o + 4 + 2 ≡ o + 6 = omega arith in read .others ∙ ap (λ p. words b p (leadOf k - 1)) e
+
+  pub fields-count : length (fieldsAt b o r) ≡ leadOf k + length (childrenAt b o r)
+  fields-count = let n = ap length children-at ∙ words-length b (o + 4 + 2 * leadOf k) (length (fieldsAt b o r) - leadOf k) in let f = read .fits .1 in omega arith
+
+  pub child-at : (i : ℕ) → i < length (childrenAt b o r) → getD (childrenAt b o r) i 0 ≡ fieldAt b o (leadOf k + i)
+  child-at i h =
+      let n = fields-count in
+      let e : o + 4 + 2 * leadOf k + 2 * i ≡ o + 4 + 2 * (leadOf k + i) = omega arith in
+      ap (λ es. getD es i 0) children-at ∙ words-at b (o + 4 + 2 * leadOf k) (length (fieldsAt b o r) - leadOf k) i (omega arith) ∙ ap (λ p. le16 b p) e
+
+  pub other-at : (i : ℕ) → suc i < leadOf k → getD (othersAt b o r) i 0 ≡ fieldAt b o (suc i)
+  other-at i h =
+      let e : o + 6 + 2 * i ≡ o + 4 + 2 * suc i = omega arith in
+      ap (λ vs. getD vs i 0) others-at ∙ words-at b (o + 6) (leadOf k - 1) i (omega arith) ∙ ap (λ p. le16 b p) e
