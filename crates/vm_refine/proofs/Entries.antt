@@ -1,0 +1,149 @@
+-- The first instruction of a term, found from code words; and which words are atoms.
+use Prim.Native.Nat.{ℕ, zero, suc, _<_}
+use native.Mathlib.Omega.{arith}
+use mathlib.Core.Path.{_≡_, refl, sym, ap, _∙_}
+use mathlib.Core.Bool.{Bool, true, false, true≢false}
+use lib.Dec.{ltb}
+use borrow.Author.Tests.{le-ltb}
+use Rattle.calculus.specs.Combinators.{choose}
+use Rattle.calculus.specs.Syntax.{Tm, val, var, lam, op0, op1, op2, seq, ite, split, pcd, adv, lower}
+use Rattle.vm_theory.specs.Code.{isAtom}
+use Rattle.vm_theory.specs.Table.{Node, Table, termOf, entryOf, isAtomAt, Linked}
+use Rattle.vm_theory.proofs.Located.{one-no-atom, two-no-atom, many-no-atom}
+use Rattle.vm_code.specs.Words.{classOf, fieldA, operandB, termCount}
+use Rattle.vm_code.specs.Classes as classes
+use Rattle.vm_code.specs.Classes.{Mode, worked, variable, constant, atom, Class, unary, binary, classWith}
+use Rattle.vm_code.specs.Says.{termMode, termField, unaryOf, binaryOf, Says, says-unit, says-truth, says-number, says-variable, says-function, says-label, says-abort, says-one, says-two, says-pointcut, SaysCode}
+use Rattle.vm_code.proofs.Numbers.{unary-class, binary-class}
+use Rattle.vm_machine.specs.Fetch.{Program, codeAt}
+use Rattle.vm_machine.specs.Turn.{enteredBy, entryFrom}
+
+-- The mode of an atom, and the field of what was worked out.
+atom-field : (e : Tm) (x : ℕ) → isAtom e ≡ false → termField e x ≡ x
+atom-field (val v) x a = refl
+atom-field (var k) x a = absurd (true≢false a)
+atom-field (lam t b) x a = refl
+atom-field (op0 o t) x a = refl
+atom-field (op1 o t i) x a = refl
+atom-field (op2 o t i g) x a = refl
+atom-field (seq i g) x a = refl
+atom-field (ite i g j) x a = refl
+atom-field (split i g) x a = refl
+atom-field (pcd es) x a = refl
+atom-field (adv d i g) x a = refl
+atom-field (lower d i) x a = refl
+
+-- What a term's mode says of where to begin: with its operand, or with the term itself.
+abbrev begun : Mode → ℕ → ℕ → ℕ
+begun worked t x = x
+begun variable t x = t
+begun constant t x = t
+begun atom t x = t
+
+begun-mode : (e : Tm) (t x : ℕ) → begun (termMode e) t x ≡ choose (isAtom e) t x
+begun-mode (val v) t x = refl
+begun-mode (var k) t x = try (ltb k 1024)
+  where
+    try : (b : Bool) → begun (choose b variable atom) t x ≡ t
+    try true = refl
+    try false = refl
+begun-mode (lam y b) t x = refl
+begun-mode (op0 o y) t x = refl
+begun-mode (op1 o y i) t x = refl
+begun-mode (op2 o y i g) t x = refl
+begun-mode (seq i g) t x = refl
+begun-mode (ite i g j) t x = refl
+begun-mode (split i g) t x = refl
+begun-mode (pcd es) t x = refl
+begun-mode (adv d i g) t x = refl
+begun-mode (lower d i) t x = refl
+
+module _ (T : Table) (root : ℕ) (L : Linked T 0 root) (C : Program) (says : SaysCode T (C .image) (C .code)) where
+  node-term : {x : ℕ} {n : Node} → T .node x ≡ n → T .term x ≡ termOf T n
+  node-term {x} q = L .coded x ∙ ap (termOf T) q
+
+  -- A word is an atom's if its term is an atom.
+  word-by : (x w : ℕ) (n : Node) → T .node x ≡ n → Says T (C .image) w n → classes.isAtom w ≡ isAtomAt T x
+  word-by x w n q (says-unit c t) = rw (c, node-term q)
+  word-by x w n q (says-truth c t b) = rw (c, node-term q)
+  word-by x w n q (says-number c t b) = rw (c, node-term q)
+  word-by x w n q (says-variable c k) = rw (c, node-term q)
+  word-by x w n q (says-function c g) = rw (c, node-term q)
+  word-by x w n q (says-label c) = rw (c, node-term q)
+  word-by x w n q (says-abort c) = rw (c, node-term q)
+  word-by x w n q (says-one c f h) = le-ltb (classOf w) 4 (omega arith) ∙ sym (one-no-atom T 0 root L q)
+  word-by x w n q (says-two c f g) = le-ltb (classOf w) 4 (omega arith) ∙ sym (two-no-atom T 0 root L q)
+  word-by x w n q (says-pointcut c m f i h) = le-ltb (classOf w) 4 (omega arith) ∙ sym (many-no-atom T 0 root L q)
+
+  pub word-atom : (x : ℕ) → x < termCount → classes.isAtom (codeAt C x) ≡ isAtomAt T x
+  word-atom x h = word-by x (codeAt C x) (T .node x) refl (says .node x h)
+
+  abbrev Enters : ℕ → ℕ → Type 0
+  Enters n t = t < termCount → isAtomAt T t ≡ false → t < n → entryFrom n C t ≡ T .entry t
+
+  unary-entry : (o : classes.Unary) (d : Mode) (t w : ℕ) (go : ℕ → ℕ) → enteredBy (unary o d) t w go ≡ begun d t (go (fieldA w))
+  unary-entry o worked t w go = refl
+  unary-entry o variable t w go = refl
+  unary-entry o constant t w go = refl
+  unary-entry o atom t w go = refl
+
+  binary-entry : (o : classes.Binary) (d f : Mode) (t w : ℕ) (go : ℕ → ℕ) → enteredBy (binary o d f) t w go ≡ begun d (begun f t (go (operandB w))) (go (fieldA w))
+  binary-entry o worked f t w go = refl
+  binary-entry o variable worked t w go = refl
+  binary-entry o variable variable t w go = refl
+  binary-entry o variable constant t w go = refl
+  binary-entry o variable atom t w go = refl
+  binary-entry o constant worked t w go = refl
+  binary-entry o constant variable t w go = refl
+  binary-entry o constant constant t w go = refl
+  binary-entry o constant atom t w go = refl
+  binary-entry o atom worked t w go = refl
+  binary-entry o atom variable t w go = refl
+  binary-entry o atom constant t w go = refl
+  binary-entry o atom atom t w go = refl
+
+  -- An operand x whose number is in the field f.
+  operand-entry : (n x f : ℕ) → ((y : ℕ) → Enters n y) → f ≡ termField (T .term x) x → f < termCount → x < n → (t : ℕ) → choose (isAtomAt T x) t (entryFrom n C f) ≡ choose (isAtomAt T x) t (T .entry x)
+  operand-entry n x f ih q h l t = try (isAtomAt T x) refl
+    where
+      try : (b : Bool) → isAtomAt T x ≡ b → choose b t (entryFrom n C f) ≡ choose b t (T .entry x)
+      try true a = refl
+      try false a =
+          let same : f ≡ x = q ∙ atom-field (T .term x) x a in
+          rw same (ih x (omega arith) a l)
+
+  entry-by : (n t : ℕ) (N : Node) → T .node t ≡ N → Says T (C .image) (codeAt C t) N → ((y : ℕ) → Enters n y) → isAtomAt T t ≡ false → t < suc n
+      → enteredBy (classWith (classOf (codeAt C t))) t (codeAt C t) (entryFrom n C) ≡ T .entry t
+  unfolding classWith
+  entry-by n t N q (says-unit c x) ih a l = absurd (true≢false (sym (ap isAtom (node-term q)) ∙ a))
+  entry-by n t N q (says-truth c x b) ih a l = absurd (true≢false (sym (ap isAtom (node-term q)) ∙ a))
+  entry-by n t N q (says-number c x b) ih a l = absurd (true≢false (sym (ap isAtom (node-term q)) ∙ a))
+  entry-by n t N q (says-variable c k) ih a l = absurd (true≢false (sym (ap isAtom (node-term q)) ∙ a))
+  entry-by n t N q (says-function c g) ih a l = absurd (true≢false (sym (ap isAtom (node-term q)) ∙ a))
+  entry-by n t N q (says-label c) ih a l = rw c (sym (L .entered t ∙ ap (entryOf T t) q))
+  entry-by n t N q (says-abort c) ih a l = rw c (sym (L .entered t ∙ ap (entryOf T t) q))
+  entry-by n t N q (says-one {H = H} {x = x} c f h) ih a l =
+      ap (λ (d : Class). enteredBy d t (codeAt C t) (entryFrom n C)) (ap classWith c ∙ unary-class (unaryOf H) (termMode (T .term x)))
+      ∙ unary-entry (unaryOf H) (termMode (T .term x)) t (codeAt C t) (entryFrom n C)
+      ∙ begun-mode (T .term x) t (entryFrom n C (fieldA (codeAt C t)))
+      ∙ operand-entry n x (fieldA (codeAt C t)) ih f (omega arith) (omega (arith, L .one-below t H x q)) t
+      ∙ sym (L .entered t ∙ ap (entryOf T t) q)
+  entry-by n t N q (says-two {o = o} {y = y} {x = x} {z = z} c f g) ih a l =
+      let below = L .two-below t o y x z q in
+      let inner : begun (termMode (T .term z)) t (entryFrom n C (operandB (codeAt C t))) ≡ choose (isAtomAt T z) t (T .entry z) =
+      begun-mode (T .term z) t (entryFrom n C (operandB (codeAt C t))) ∙ operand-entry n z (operandB (codeAt C t)) ih g (omega arith) (omega (arith, below .1)) t in
+      ap (λ (d : Class). enteredBy d t (codeAt C t) (entryFrom n C)) (ap classWith c ∙ binary-class (binaryOf o) (termMode (T .term x)) (termMode (T .term z)))
+      ∙ binary-entry (binaryOf o) (termMode (T .term x)) (termMode (T .term z)) t (codeAt C t) (entryFrom n C)
+      ∙ ap (λ (j : ℕ). begun (termMode (T .term x)) j (entryFrom n C (fieldA (codeAt C t)))) inner
+      ∙ begun-mode (T .term x) (choose (isAtomAt T z) t (T .entry z)) (entryFrom n C (fieldA (codeAt C t)))
+      ∙ operand-entry n x (fieldA (codeAt C t)) ih f (omega arith) (omega (arith, below .0)) (choose (isAtomAt T z) t (T .entry z))
+      ∙ sym (L .entered t ∙ ap (entryOf T t) q)
+  entry-by n t N q (says-pointcut c m f i h) ih a l = rw c (sym (L .entered t ∙ ap (entryOf T t) q))
+
+  entry-below : (n t : ℕ) → Enters n t
+  unfolding entryFrom
+  entry-below zero t h a l = absurd (omega arith)
+  entry-below (suc n) t h a l = entry-by n t (T .node t) refl (says .node t h) (entry-below n) a l
+
+  pub entry-from : (t : ℕ) → t < termCount → isAtomAt T t ≡ false → entryFrom termCount C t ≡ T .entry t
+  entry-from t h a = entry-below termCount t h a h

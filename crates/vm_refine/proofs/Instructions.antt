@@ -1,0 +1,216 @@
+-- One instruction, but for pointcuts and returns: the machine makes the step that the run makes.
+use Prim.Native.Nat.{ℕ, suc, _+_, _-_}
+use native.Mathlib.Omega.{arith}
+use mathlib.Core.Path.{_≡_, refl, sym, ap, _∙_}
+use mathlib.Core.Bool.{false}
+use mathlib.Core.List.{List, _∷_}
+use lib.ListN.{length}
+use Rattle.calculus.specs.Combinators.{choose}
+use Rattle.calculus.specs.Plain.{domOf}
+use Rattle.calculus.specs.Syntax.{Ty, Tm, Op0, Op1, Op2, op0, newLabel, abort, print, install, read, byte, newCell, app, mark, store, plus, minus, less, equal}
+use Rattle.calculus.specs.State.{Given}
+use Rattle.calculus.specs.Place.{Place, framed}
+use Rattle.machine.specs.Closure.{CVal, Env, CState, close, plainVal, plainEnv, plainState}
+use Rattle.machine.specs.Machine.{Control, eval, ret, op2R, Stack, CAnswer, due, placeAt, reduce0C, reduce2C, move}
+use Rattle.vm_theory.specs.Code.{Head, op1H, seqH, iteH, splitH, advH, lowerH, hand, slot, inPlace, Instr, one, two, fetch}
+use Rattle.vm_theory.specs.Conf.{Site, Chain, Slots, Conf, depthAt, domAt, placeOf}
+use Rattle.vm_theory.specs.Stands.{headFrame, stackAt}
+use Rattle.vm_theory.specs.Turn.{reduceHead}
+use Rattle.vm_theory.specs.Table.{HeadN, op1N, seqN, iteN, splitN, advN, lowerN, oneN, twoN, Table, headOf, operandAt, isAtomAt, Linked}
+use Rattle.vm_theory.proofs.Sound.{Sound}
+use Rattle.vm_theory.proofs.Reach.{Reach}
+use Rattle.vm_theory.proofs.Places.{site-place}
+use Rattle.vm_theory.proofs.Located.{Located, l-operand, l-rest, l-then, l-else, l-split, l-advice, l-first, l-second, describes}
+use Rattle.vm_code.specs.Words.{classOf, fieldA, operandB, depthOf, domainOf}
+use Rattle.vm_code.specs.Classes.{Mode, Unary, Binary, Class, label, abort as aborted, unary, binary, labelClass, abortClass, unaryClass, binaryClass, classWith}
+use Rattle.vm_code.specs.Says.{termMode, termField, unaryOp, unaryOf, binaryOf, SaysOp, SaysHead, SaysCode}
+use Rattle.vm_code.proofs.Numbers.{unary-class, binary-class}
+use Rattle.vm_machine.specs.declared.Regs.{Regs}
+use Rattle.vm_machine.specs.Memory.{Memory, wordAt, slotAt}
+use Rattle.vm_machine.specs.States.{State, judged}
+use Rattle.vm_machine.specs.Fetch.{Program, codeAt, onlyOperand, firstOperand, secondOperand}
+use Rattle.vm_machine.specs.Moves.{unaryMove, binaryMove, moveBy, moveOf}
+use Rattle.vm_machine.specs.Reduce.{reduceLabel, reduceAbort}
+use Rattle.vm_machine.specs.Turn.{performed, turn}
+use Rattle.vm_machine.proofs.Branch.{branch-performed}
+use Rattle.vm_refine.proofs.Relations.{sizes, IsVal}
+use Rattle.vm_refine.proofs.Slots.{slotOf, slot-word}
+use Rattle.vm_refine.proofs.Now.{InPlace, Now}
+use Rattle.vm_refine.proofs.Steps.{measure, After, Redexed, Stepping, judged-now, aborts}
+use Rattle.vm_refine.proofs.Operands.{only-is, first-is, second-is}
+use Rattle.vm_refine.proofs.Values.{a-plus, a-minus, a-less, an-equal, lower-now, seq-now, ite-now, byte-now, read-now, arithmetic-now}
+use Rattle.vm_refine.proofs.ReduceTables.{label-now, print-now, install-now}
+use Rattle.vm_refine.proofs.ReduceCells.{store-now, cell-now}
+use Rattle.vm_refine.proofs.ReducePieces.{pair-now, advice-now}
+use Rattle.vm_refine.proofs.ReduceBindings.{apply-now, split-now}
+use Rattle.vm_refine.proofs.Mark.{mark-now}
+
+module _ (T : Table) (root : ℕ) (L : Linked T 0 root) (G : Given) (e₀ : Tm) (Ω : Sound G e₀) (N : ℕ) (B : List ℕ) (logged : G .logLength ≡ length B) (C : Program) (says : SaysCode T (C .image) (C .code))
+    (S : State) (k : ℕ) (s : CState) (m : ℕ) (hv : CVal) (P : Site) (A : Chain) (D : Slots) (no-atom : isAtomAt T m ≡ false) (located : Located T 0 root L m (P .skel) (P .dom)) (pc : S .regs .pc ≡ m) where
+  abbrev conf : Instr → Conf
+  conf i = record { instr = i; hand = hv; site = P; chain = A; slots = D }
+
+  abbrev Then : State → Type 0
+  Then S′ = After T root L G e₀ Ω N B (measure S) S′
+
+  abbrev M : Memory
+  M = S .memory
+
+  abbrev r : Regs
+  r = S .regs
+
+  abbrev w : ℕ
+  w = codeAt C m
+
+  abbrev K : Stack
+  K = stackAt P A D
+
+  -- What the turn does, by the class of its word.
+  pub turn-by : (d : Class) → classWith (classOf w) ≡ d → turn C (G .frame) S ≡ performed C w (moveBy C (G .frame) M r w d) S
+  unfolding turn moveOf
+  turn-by d q = rw (pc, q)
+
+  turn-unary : (o : Unary) (d : Mode) → classOf w ≡ unaryClass o d → turn C (G .frame) S ≡ performed C w (unaryMove (G .frame) M o (onlyOperand C M d r w)) S
+  turn-unary o d q = turn-by (unary o d) (ap classWith q ∙ unary-class o d)
+
+  turn-binary : (o : Binary) (d f : Mode) → classOf w ≡ binaryClass o d f → turn C (G .frame) S ≡ performed C w (binaryMove o (firstOperand C M d f r w) (secondOperand C M f r w)) S
+  turn-binary o d f q = turn-by (binary o d f) (ap classWith q ∙ binary-class o d f)
+
+  module _ (i : Instr) (now : Now T root L G e₀ Ω N B S k s (conf i)) where
+    pub in-place-of : InPlace T root L G e₀ Ω N B S k s m P A D
+    in-place-of =
+        record {
+          common = now .common;
+          no-atom = no-atom;
+          located = located;
+          stood = (now .good .dom, now .good .bound .1);
+          fine = now .good .fine;
+          env = now .env;
+          env-fits = now .env-fits;
+          room = now .room;
+          waits = now .waits;
+          chain = now .chain;
+        }
+
+  -- The closure machine has come to the same redex.
+  module _ (p : InPlace T root L G e₀ Ω N B S k s m P A D) where
+    at : placeAt K ≡ placeOf P A
+    at = site-place P A D (p .stood .0) (p .fine)
+
+    abbrev Red : Control → Stack → CAnswer → Type 0
+    Red c F a = Redexed T root L G e₀ Ω N B C says S k s m P A D c F a
+
+    nullary-red : (o : Op0) (y : Ty) → Reach G e₀ Ω k s (eval (op0 o y) (P .env)) K → Red (eval (op0 o y) (P .env)) K (reduce0C G (placeOf P A) s o y)
+    nullary-red o y reach = record { place = p; pc = pc; reach = reach; is = rw at }
+
+    head-red : (H : Head) (v : CVal) → Reach G e₀ Ω k s (ret v) (headFrame H (P .env) ∷ K) → Red (ret v) (headFrame H (P .env) ∷ K) (reduceHead G (placeOf P A) s H (P .env) v)
+    head-red H v reach = record { place = p; pc = pc; reach = reach; is = by H }
+      where
+        by : (H : Head) → move (ret v) (headFrame H (P .env) ∷ K) G s ≡ due (framed (placeOf P A) (reduceHead G (placeOf P A) s H (P .env) v)) K
+        by (op1H o y) = rw at
+        by (seqH f) = rw at
+        by (iteH f g) = rw at
+        by (splitH f) = rw at
+        by (advH d b) = rw at
+        by (lowerH d) = rw at
+
+    two-red : (o : Op2) (y : Ty) (v u : CVal) → Reach G e₀ Ω k s (ret u) (op2R o y v ∷ K) → Red (ret u) (op2R o y v ∷ K) (reduce2C G (placeOf P A) s o y v u)
+    two-red o y v u reach = record { place = p; pc = pc; reach = reach; is = rw at }
+
+    deep : depthOf w ≡ length (P .skel)
+    deep = says .around m no-atom .depth ∙ describes T 0 root L located no-atom .depth
+
+    domain : domainOf w ≡ domAt P
+    domain = says .around m no-atom .domain ∙ describes T 0 root L located no-atom .dom
+
+    -- A term without operands.
+    pub label-turn : (y : Ty) → Reach G e₀ Ω k s (eval (op0 newLabel y) (P .env)) K → classOf w ≡ labelClass → Then (turn C (G .frame) S)
+    unfolding performed classWith
+    label-turn y reach q =
+        rw (turn-by label (ap classWith q))
+        (judged-now T root L G e₀ Ω N B C says S k s m P A D (eval (op0 newLabel y) (P .env)) K (measure S) (reduceLabel w S) (nullary-red newLabel y reach)
+        (λ R. label-now T root L G e₀ Ω N B C says S k s m P A D (eval (op0 newLabel y) (P .env)) K (placeOf P A) y R))
+
+    pub abort-turn : (y : Ty) → Reach G e₀ Ω k s (eval (op0 abort y) (P .env)) K → classOf w ≡ abortClass → Then (turn C (G .frame) S)
+    unfolding performed classWith
+    abort-turn y reach q =
+        rw (turn-by aborted (ap classWith q))
+        (judged-now T root L G e₀ Ω N B C says S k s m P A D (eval (op0 abort y) (P .env)) K (measure S) (reduceAbort S) (nullary-red abort y reach)
+        (λ R. aborts T root L G e₀ Ω N B C says S k s m P A D (eval (op0 abort y) (P .env)) K (measure S) R))
+
+    -- One operand: its word x stands for its value v.
+    module _ (x : ℕ) (v : CVal) (is : IsVal T root L M (sizes r) x v) where
+      abbrev Heading : Head → Type 0
+      Heading H = Reach G e₀ Ω k s (ret v) (headFrame H (P .env) ∷ K)
+
+      judge : (H : Head) (S′ : State) → Heading H
+          → (Stepping T root L G e₀ Ω N B C says S k s m P A D (ret v) (headFrame H (P .env) ∷ K) (reduceHead G (placeOf P A) s H (P .env) v) → Then S′) → Then (judged w S S′)
+      judge H S′ reach h = judged-now T root L G e₀ Ω N B C says S k s m P A D (ret v) (headFrame H (P .env) ∷ K) (measure S) S′ (head-red H v reach) h
+
+      operator-now : (o : Op1) (y : Ty) → Heading (op1H o y) → SaysOp T w o y → Then (performed C w (unaryMove (G .frame) M (unaryOp o) x) S)
+      unfolding performed
+      operator-now print y reach q = judge (op1H print y) _ reach (λ R. print-now T root L G e₀ Ω N B C says S k s m P A D (ret v) _ logged (placeOf P A) domain y is R)
+      operator-now install y reach q = judge (op1H install y) _ reach (λ R. install-now T root L G e₀ Ω N B C says S k s m P A D (ret v) _ (placeOf P A) y is R)
+      operator-now read y reach q = judge (op1H read y) _ reach (λ R. read-now T root L G e₀ Ω N B C says S k s m P A D (ret v) _ (placeOf P A) y is R)
+      operator-now byte y reach q = judge (op1H byte y) _ reach (λ R. byte-now T root L G e₀ Ω N B C says S k s m P A D (ret v) _ (placeOf P A) y is R)
+      operator-now newCell y reach q = judge (op1H newCell y) _ reach (λ R. cell-now T root L G e₀ Ω N B C says S k s m P A D (ret v) _ (placeOf P A) y (q .1) (q .0) is R)
+
+      head-now : (H : HeadN) (y : ℕ) → T .node m ≡ oneN H y → Heading (headOf T H) → SaysHead T w H → Then (performed C w (unaryMove (G .frame) M (unaryOf H) x) S)
+      unfolding performed
+      head-now (op1N o t) y n reach q = operator-now o t reach q
+      head-now (seqN f) y n reach q = judge (seqH (T .term f)) _ reach (λ R. seq-now T root L G e₀ Ω N B C says S k s m P A D (ret v) _ f is q (l-rest located n) R)
+      head-now (iteN f g) y n reach q =
+          rw (branch-performed C (G .frame) M w x S)
+          (judge (iteH (T .term f) (T .term g)) _ reach (λ R. ite-now T root L G e₀ Ω N B C says S k s m P A D (ret v) _ f g is (q .0) (q .1) (l-then located n) (l-else located n) R))
+      head-now (splitN f) y n reach q =
+          judge (splitH (T .term f)) _ reach
+          (λ R. split-now T root L G e₀ Ω N B C says S k s m P A D (ret v) _ (T .term f) (record { number = f; begins = q; term = refl; located = l-split located n }) is R)
+      head-now (advN d b) y n reach q =
+          judge (advH d (T .term b)) _ reach
+          (λ R. advice-now T root L G e₀ Ω N B C says S k s m P A D (ret v) _ d (T .term b) (record { number = b; begins = q .0; term = refl; located = l-advice located n }) (q .1) (q .2) is R)
+      head-now (lowerN d) y n reach q = judge (lowerH d) _ reach (λ R. lower-now T root L G e₀ Ω N B C says S k s m P A D (ret v) _ is R)
+
+      -- Two operands: the second's word x′ stands for its value v′.
+      module _ (x′ : ℕ) (v′ : CVal) (is′ : IsVal T root L M (sizes r) x′ v′) where
+        judge2 : (o : Op2) (y : Ty) (S′ : State) → Reach G e₀ Ω k s (ret v′) (op2R o y v ∷ K)
+            → (Stepping T root L G e₀ Ω N B C says S k s m P A D (ret v′) (op2R o y v ∷ K) (reduce2C G (placeOf P A) s o y v v′) → Then S′) → Then (judged w S S′)
+        judge2 o y S′ reach h = judged-now T root L G e₀ Ω N B C says S k s m P A D (ret v′) (op2R o y v ∷ K) (measure S) S′ (two-red o y v v′ reach) h
+
+        -- A call is made at the domain that the function's type names.
+        called-at : (y t : Ty) (e : Tm) (ρ : Env) → Reach G e₀ Ω k s (ret v′) (op2R app y v ∷ K) → v ≡ CVal.fun t e ρ → domOf t ≡ domAt P
+        unfolding plainVal
+        called-at y t e ρ reach q =
+            Ω .calls (plainState s) K y t (close 1 (plainEnv ρ) e) (plainVal v′) (rw q at (reach .sound)) ∙ ap (λ (X : Place). X .dom) at
+
+        two-now : (o : Op2) (y : Ty) → Reach G e₀ Ω k s (ret v′) (op2R o y v ∷ K) → Then (performed C w (binaryMove (binaryOf o) x x′) S)
+        unfolding performed
+        two-now Op2.pair y reach = judge2 Op2.pair y _ reach (λ R. pair-now T root L G e₀ Ω N B C says S k s m P A D (ret v′) _ (placeOf P A) y is is′ R)
+        two-now app y reach = judge2 app y _ reach (λ R. apply-now T root L G e₀ Ω N B C says S k s m P A D (ret v′) _ (placeOf P A) y (λ t e ρ q. called-at y t e ρ reach q) is is′ R)
+        two-now mark y reach = judge2 mark y _ reach (λ R. mark-now T root L G e₀ Ω N B C says S k s m P A D (ret v′) _ (placeOf P A) y is is′ R)
+        two-now store y reach = judge2 store y _ reach (λ R. store-now T root L G e₀ Ω N B C says S k s m P A D (ret v′) _ (placeOf P A) y is is′ R)
+        two-now plus y reach = judge2 plus y _ reach (λ R. arithmetic-now T root L G e₀ Ω N B C says S k s m P A D (ret v′) _ a-plus (placeOf P A) y is is′ R)
+        two-now minus y reach = judge2 minus y _ reach (λ R. arithmetic-now T root L G e₀ Ω N B C says S k s m P A D (ret v′) _ a-minus (placeOf P A) y is is′ R)
+        two-now less y reach = judge2 less y _ reach (λ R. arithmetic-now T root L G e₀ Ω N B C says S k s m P A D (ret v′) _ a-less (placeOf P A) y is is′ R)
+        two-now equal y reach = judge2 equal y _ reach (λ R. arithmetic-now T root L G e₀ Ω N B C says S k s m P A D (ret v′) _ an-equal (placeOf P A) y is is′ R)
+
+  -- The turn of a term with one operand, and of one with two.
+  pub one-turn : (H : HeadN) (x : ℕ) → T .node m ≡ oneN H x → classOf w ≡ unaryClass (unaryOf H) (termMode (T .term x)) → fieldA w ≡ termField (T .term x) x → SaysHead T w H
+      → Now T root L G e₀ Ω N B S k s (conf (one (headOf T H) (operandAt T x))) → Then (turn C (G .frame) S)
+  one-turn H x n c f h now =
+      rw (turn-unary (unaryOf H) (termMode (T .term x)) c)
+      (head-now (in-place-of _ now) (onlyOperand C M (termMode (T .term x)) r w) (fetch (operandAt T x) hv (P .env) (D (suc (depthAt P A))))
+      (only-is T root L C says M (sizes r) r (P .env) (now .env) (now .env-fits) hv (slotOf M (suc (depthAt P A))) (D (suc (depthAt P A))) w x f (l-operand located n) (now .good .bound .0) (now .ready))
+      H x n (now .good .runs) h)
+
+  pub two-turn : (o : Op2) (y : Ty) (x z : ℕ) → T .node m ≡ twoN o y x z → classOf w ≡ binaryClass (binaryOf o) (termMode (T .term x)) (termMode (T .term z)) → fieldA w ≡ termField (T .term x) x
+      → operandB w ≡ termField (T .term z) z → Now T root L G e₀ Ω N B S k s (conf (two o y (choose (isAtomAt T x) (inPlace (T .term x)) (choose (isAtomAt T z) hand slot)) (operandAt T z))) → Then (turn C (G .frame) S)
+  two-turn o y x z n c f g now =
+      let p : InPlace T root L G e₀ Ω N B S k s m P A D = in-place-of _ now in
+      let i : slotAt M (r .room) (depthOf w + 1) ≡ slotOf M (suc (depthAt P A)) =
+      ap (λ (j : ℕ). wordAt M j) (omega (arith, deep p, now .room)) ∙ sym (slot-word M (suc (depthAt P A)) (omega arith)) in
+      rw (turn-binary (binaryOf o) (termMode (T .term x)) (termMode (T .term z)) c)
+      (two-now p (firstOperand C M (termMode (T .term x)) (termMode (T .term z)) r w) (fetch (choose (isAtomAt T x) (inPlace (T .term x)) (choose (isAtomAt T z) hand slot)) hv (P .env) (D (suc (depthAt P A))))
+      (first-is T root L C says M (sizes r) r (P .env) (now .env) (now .env-fits) hv (slotOf M (suc (depthAt P A))) (D (suc (depthAt P A))) w x z i f (l-first located n) (now .good .bound .0 .0) (now .ready .0))
+      (secondOperand C M (termMode (T .term z)) r w) (fetch (operandAt T z) hv (P .env) (D (suc (depthAt P A))))
+      (second-is T root L C says M (sizes r) r (P .env) (now .env) (now .env-fits) hv (slotOf M (suc (depthAt P A))) (D (suc (depthAt P A))) w z g (l-second located n) (now .good .bound .0 .1) (now .ready .1))
+      o y (now .good .runs))

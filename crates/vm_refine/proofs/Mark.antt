@@ -1,0 +1,330 @@
+-- The reduction of a mark (document 003, section 2.3, figure 5): all its bindings are made at its own step, and the first advice begins.
+use Prim.Native.Nat.{ℕ, suc, _+_, _-_, _≤_, _<_}
+use native.Mathlib.Omega.{arith}
+use mathlib.Core.Path.{_≡_, refl, sym, ap, _∙_}
+use mathlib.Core.Bool.{Bool, true, false, not}
+use mathlib.Core.List.{List, [], _∷_}
+use mathlib.Core.Option.{Option, none, some}
+use lib.ListN.{length, getElem?}
+use lib.Dec.{eqb, ltb, leb}
+use borrow.Author.Tests.{leb-true, leb-false, eq-eqb, ne-eqb, le-leb, lt-leb, lt-ltb, le-ltb}
+use Rattle.calculus.specs.declared.Outcome.{Outcome}
+use Rattle.calculus.specs.Limits.{frameLimit, bindingLimit}
+use Rattle.calculus.specs.Combinators.{choose}
+use Rattle.calculus.specs.Syntax.{Dom, Ty, Tm, mark}
+use Rattle.calculus.specs.State.{Advice, Given, fresh, charged, addCounts, someBindings}
+use Rattle.calculus.specs.Compose.{matching}
+use Rattle.calculus.specs.Place.{Place}
+use Rattle.calculus.specs.Run.{stopped, ended, run}
+use Rattle.calculus.specs.Answer.{go, full, if-room, with}
+use Rattle.machine.specs.Closure.{CVal, Env, Body, CState, plainVal, plainState}
+use Rattle.machine.specs.Machine.{Control, ret, triggered, triggeredF, Stack, CAnswer, due, reduce2C, move}
+use Rattle.machine.proofs.Loop.{unfinished-due}
+use Rattle.vm_theory.specs.Conf.{Site, adviceA, Chain, Slots, base, depthAt, trigger}
+use Rattle.vm_theory.specs.Stands.{stackAt}
+use Rattle.vm_theory.specs.Table.{Table, Linked}
+use Rattle.vm_theory.proofs.Sound.{Sound}
+use Rattle.vm_theory.proofs.Reach.{Reach, reach-go, reach-moves, ends-spent, ends-full}
+use Rattle.vm_theory.proofs.Located.{describes}
+use Rattle.vm_theory.proofs.Kept.{IsChain, waits-kept, chain-kept}
+use Rattle.vm_code.specs.Words.{depthOf, termCount}
+use Rattle.vm_code.specs.Says.{SaysCode}
+use Rattle.vm_machine.specs.declared.Regs.{Regs}
+use Rattle.vm_machine.specs.Registers.{headroom, fullRoom, setPc, setHand, setEnv, setRoom, setPools, stepped, boundTo, halt}
+use Rattle.vm_machine.specs.Memory.{Memory, wordAt, slotBase, cellBase, slotIn, slotWord, slotKind, slotPc, slotEnv, adviceFrame, bindingsLeft, nextBinding, endBinding, putAdvice, bindingAt, boundTarget, hasBit}
+use Rattle.vm_machine.specs.States.{State, withRegs, withMemory, completed, lacking}
+use Rattle.vm_machine.specs.Fetch.{Program, codeAt}
+use Rattle.vm_machine.specs.Reduce.{given, Bound, bindMatching, bodyAt, startAdvice, reduceMark}
+use Rattle.vm_refine.proofs.Relations.{Sizes, sizes, IsVal, is-unit, IsEnv, env-at, IsTriggered, one-left, Grows, env-grows, triggered-at, triggered-grows}
+use Rattle.vm_refine.proofs.Tables.{word-same, word-other, grows-put, grows-sizes, grows-trans, Above, above-put, SameSlots}
+use Rattle.vm_refine.proofs.Store.{Store, store-charged}
+use Rattle.vm_refine.proofs.Slots.{slotOf, slot-word, slot-same, Held, Back, held-kept, same-to}
+use Rattle.vm_refine.proofs.Now.{InPlace, Now, Halted, halted-stopped}
+use Rattle.vm_refine.proofs.Views.{AsLabel, a-label, no-label, as-label}
+use Rattle.vm_refine.proofs.Arrives.{completed-now}
+use Rattle.vm_refine.proofs.Steps.{leb-iff, spend-bindings, measure, After, after-halted, fits-in, Stepping, no-wrong}
+use Rattle.vm_refine.proofs.Gives.{Left, still, falls}
+use Rattle.vm_refine.proofs.Advice.{stack-depth, advised}
+use Rattle.vm_refine.proofs.Matching.{Written, written-refl, Made, made-all, none-named}
+
+-- The parts of an advice's frame.
+pub advice-frame : (pc env next end : ℕ) → pc < 1024 → env < 2048 → next < 4096 → end < 4096
+    → (slotKind (slotWord adviceFrame pc env (bindingsLeft next end)) ≡ adviceFrame) × (slotPc (slotWord adviceFrame pc env (bindingsLeft next end)) ≡ pc) × (slotEnv (slotWord adviceFrame pc env (bindingsLeft next end)) ≡ env)
+    × (nextBinding (slotWord adviceFrame pc env (bindingsLeft next end)) ≡ next) × (endBinding (slotWord adviceFrame pc env (bindingsLeft next end)) ≡ end)
+advice-frame pc env next end h g i j = (omega arith, omega arith, omega arith, omega arith, omega arith)
+
+module _ (T : Table) (root : ℕ) (L : Linked T 0 root) (G : Given) (e₀ : Tm) (Ω : Sound G e₀) (N : ℕ) (B : List ℕ) (C : Program) (says : SaysCode T (C .image) (C .code)) where
+  -- The activation frame of a mark m at a place, in the slot two unfinished terms inside; next and end are the bindings that are left.
+  module _ (S : State) (k : ℕ) (s : CState) (m : ℕ) (P : Site) (A : Chain) (D : Slots) (p : InPlace T root L G e₀ Ω N B S k s m P A D) (next end : ℕ) (within : depthAt P A + 2 ≤ fullRoom)
+      (pc env : ℕ) (at : pc ≡ m) (fits : env < 2048) (ie : IsEnv T root L (S .memory) (sizes (S .regs)) env (P .env)) (d room′ : ℕ) (index : slotIn room′ d ≡ slotBase + fullRoom - (depthAt P A + 2)) where
+    abbrev M : Memory
+    M = S .memory
+
+    abbrev z : Sizes
+    z = sizes (S .regs)
+
+    abbrev word : ℕ
+    word = slotWord adviceFrame pc env (bindingsLeft next end)
+
+    abbrev framed : Memory
+    framed = putAdvice room′ d pc env next end M
+
+    st : Store T root L B M (S .log) z s
+    st = p .common .store
+
+    here : slotOf framed (depthAt P A + 2) ≡ word
+    here = slot-word framed (depthAt P A + 2) (omega arith) ∙ ap (λ (i : ℕ). wordAt framed i) (sym index) ∙ word-same M (slotIn room′ d) word (omega (arith, index, st .words))
+
+    elsewhere : (i : ℕ) → i < depthAt P A + 2 → slotOf framed i ≡ slotOf M i
+    elsewhere i h = slot-same M framed i (λ n. word-other M (slotIn room′ d) word (slotBase + fullRoom - i) (λ e. omega (arith, index)))
+
+    pub frame-grows : Grows M z framed z
+    frame-grows = grows-put M z (slotIn room′ d) word (omega (arith, index, st .bindings-fit)) (λ i h e. omega (arith, index))
+
+    pub frame-store : Store T root L B framed (S .log) z s
+    frame-store =
+        store-charged T root L B M (S .log) z s st framed (z .nb) (z .np) (s .used) frame-grows (above-put M cellBase (slotIn room′ d) word (omega (arith, index))) (st .beside)
+        (st .bindings) (st .bindings-fit) (st .pieces) (st .pieces-fit) refl
+
+    pub frame-chain : (q : Dom) (w : CVal) (x : List (Advice Body)) → next < 4096 → end < 4096 → IsTriggered T root L M z next end w x
+        → IsChain T 0 root L (Held T root L framed z) (Back T root L framed z) D (adviceA q w x P ∷ A)
+    frame-chain q w x small small′ left =
+        let low = says .few m (p .no-atom) in
+        let parts = advice-frame pc env next end (omega (arith, at)) fits small small′ in
+        let same : suc (suc (depthAt P A)) ≡ depthAt P A + 2 = omega arith in
+        let h : slotOf framed (suc (suc (depthAt P A))) ≡ word = ap (λ (i : ℕ). slotOf framed i) same ∙ here in (
+          record {
+            number = m;
+            no-atom = p .no-atom;
+            located = p .located;
+            says = (
+              record { kind = ap slotKind h ∙ parts .0; pc = ap slotPc h ∙ parts .1 ∙ at; env = env-at T root L framed z (ap slotEnv h ∙ parts .2) (env-grows T root L M z framed z frame-grows ie) },
+              triggered-at T root L framed z (ap nextBinding h ∙ parts .3) (ap endBinding h ∙ parts .4) (triggered-grows T root L M z framed z frame-grows left),
+            );
+            waiting =
+                waits-kept T 0 root L (Held T root L M z) (Back T root L M z) D (Held T root L framed z) (Back T root L framed z) D (P .skel) (base A)
+                (λ i g v y. held-kept T root L M z framed z frame-grows i (elsewhere i (omega arith)) v y) (λ i g. refl) (p .waits);
+          },
+          chain-kept T 0 root L (Held T root L M z) (Back T root L M z) D (Held T root L framed z) (Back T root L framed z) D A
+              (same-to T root L M z framed z frame-grows (base A) D D (λ i g. elsewhere i (omega arith)) (λ i g. refl) (λ i g. refl)) (p .chain),
+        )
+
+  module _ (S : State) (k : ℕ) (s : CState) (m : ℕ) (P : Site) (A : Chain) (D : Slots) (c : Control) (F : Stack) where
+    abbrev At : CAnswer → Type 0
+    At a = Stepping T root L G e₀ Ω N B C says S k s m P A D c F a
+
+    abbrev Then : State → Type 0
+    Then S′ = After T root L G e₀ Ω N B (measure S) S′
+
+    abbrev r : Regs
+    r = S .regs
+
+    abbrev n : ℕ
+    n = r .pools .bindings
+
+    abbrev w : ℕ
+    w = codeAt C m
+
+    abbrev K : Stack
+    K = stackAt P A D
+
+    abbrev Changed : Memory → Regs → CState → Type 0
+    Changed M′ q s′ = Left T root L G e₀ Ω N B C says S k s m P A D c F M′ (S .log) q s′
+
+    -- Nothing is triggered.
+    quiet : (v : CVal) (M′ : Memory) (q : Regs) (s′ : CState) → At (go s′ (triggered v [])) → Changed M′ q s′ → Then (completed w 0 (record { memory = M′; log = S .log; regs = q }))
+    quiet v M′ q s′ R l =
+        falls T root L G e₀ Ω N B C says S k s m P A D c F R M′ (S .log) q s′ l refl
+        (completed-now T root L G e₀ Ω N B C says (record { memory = M′; log = S .log; regs = q }) (suc k) s′ m P A D (still T root L G e₀ Ω N B C says S k s m P A D c F R M′ (S .log) q s′ l) (omega (arith, R .shallow)) 0 CVal.unit (is-unit refl)
+        (reach-moves G e₀ Ω (suc k) s′ (triggered v []) K (reach-go G e₀ Ω k s c F (R .reach) s′ (triggered v []) K (R .is)) (ret CVal.unit) K refl))
+
+    -- The first advice begins.
+    start-now : (v : CVal) (d : Dom) (ls : List ℕ) (e : Tm) (ρ : Env) (x : List (Advice Body)) (M′ : Memory) (q : Regs) (s′ : CState) (end : ℕ) → end ≤ 2048
+        → At (go s′ (triggered v (record { dom = d; labels = ls; body = record { term = e; env = ρ } } ∷ x))) → Changed M′ q s′
+        → IsTriggered T root L M′ (sizes q) n end v (record { dom = d; labels = ls; body = record { term = e; env = ρ } } ∷ x) → Then (startAdvice w n end (record { memory = M′; log = S .log; regs = q }))
+    start-now v d ls e ρ x M′ q s′ end few R l (one-left lt ie b rest) = try (leb (q .room) (depthOf w + 1)) refl
+      where
+        S′ : State
+        S′ = record { memory = M′; log = S .log; regs = q }
+
+        p : InPlace T root L G e₀ Ω N B S′ (suc k) s′ m P A D
+        p = still T root L G e₀ Ω N B C says S k s m P A D c F R M′ (S .log) q s′ l
+
+        deep : depthOf w ≡ length (P .skel)
+        deep = says .around m (p .no-atom) .depth ∙ describes T 0 root L (p .located) (p .no-atom) .depth
+
+        first : Advice Body
+        first = record { dom = d; labels = ls; body = record { term = e; env = ρ } }
+
+        reach : Reach G e₀ Ω (suc k) s′ (triggered v (first ∷ x)) K
+        reach = reach-go G e₀ Ω k s c F (R .reach) s′ (triggered v (first ∷ x)) K (R .is)
+
+        small : m < termCount
+        small = says .few m (p .no-atom)
+
+        -- no frame for it
+        halted : (o : Outcome) → run N G 0 fresh e₀ ≡ ended (stopped o) (suc k) (plainState s′) → Halted T root L G e₀ Ω N B (withRegs (halt o q) S′)
+        halted o ran =
+            halted-stopped o refl refl ran (p .common .store) (omega (arith, p .common .budget, p .common .running))
+            (fits-in T root L G e₀ Ω N B M′ (S .log) (halt o q) s′ (p .common .store) (omega (arith, l .pc, R .pc, small)) (p .env-fits) (omega (arith, p .room)))
+
+        none-left : q .room ≤ depthOf w + 1 → Then (withRegs (lacking q) S′)
+        none-left h = left (leb (q .left) headroom) refl
+          where
+            long : frameLimit < length (triggeredF v x ∷ K)
+            long = omega (arith, deep, p .room, stack-depth P A D (p .stood) (p .fine))
+
+            is : move (triggered v (first ∷ x)) K G s′ ≡ due (full Outcome.Frames) []
+            is = rw (lt-leb (length (triggeredF v x ∷ K)) frameLimit long)
+
+            left : (t : Bool) → leb (q .left) headroom ≡ t → Then (withRegs (choose t (halt Outcome.Spent q) (halt Outcome.Frames q)) S′)
+            left true t =
+                after-halted
+                (halted Outcome.Spent
+                (ends-spent G e₀ Ω (suc k) s′ (triggered v (first ∷ x)) K reach N 0 (omega (arith, leb-true (q .left) headroom t, p .common .budget, p .common .running)) refl
+                (unfinished-due G s′ (triggered v (first ∷ x)) K (full Outcome.Frames) [] is)))
+            left false t =
+                after-halted
+                (halted Outcome.Frames
+                (ends-full G e₀ Ω (suc k) s′ (triggered v (first ∷ x)) K reach N (q .left - headroom) (omega (arith, leb-false (q .left) headroom t, p .common .budget)) Outcome.Frames [] (λ i. omega (arith, leb-false (q .left) headroom t)) is))
+
+        begins : depthOf w + 1 < q .room
+            → Then (withMemory (putAdvice (q .room) (depthOf w + 2) (q .pc) (q .env) (n + 1) end M′) (setPc (bodyAt M′ n) (setHand 0 (setEnv n (setRoom (q .room - (depthOf w + 2)) q)))) S′)
+        begins h =
+            let within : depthAt P A + 2 ≤ fullRoom = omega (arith, deep, p .room) in
+            let index : slotIn (q .room) (depthOf w + 2) ≡ slotBase + fullRoom - (depthAt P A + 2) = omega (arith, deep, p .room) in
+            let next : suc n ≡ n + 1 = omega arith in
+            let M″ : Memory = putAdvice (q .room) (depthOf w + 2) (q .pc) (q .env) (n + 1) end M′ in
+            let S″ : State = withMemory M″ (setPc (bodyAt M′ n) (setHand 0 (setEnv n (setRoom (q .room - (depthOf w + 2)) q)))) S′ in
+            let g = frame-grows S′ (suc k) s′ m P A D p (n + 1) end within (q .pc) (q .env) (l .pc ∙ R .pc) (p .env-fits) (p .env) (depthOf w + 2) (q .room) index in
+            let now : Now T root L G e₀ Ω N B S″ (suc k) s′ (trigger v (first ∷ x) P A D) =
+            advised T root L G e₀ Ω N B C says S″ (suc k) s′ P A D v d ls e ρ x (boundTarget (bindingAt M′ n))
+            (record {
+              budget = p .common .budget;
+              running = p .common .running;
+              store = frame-store S′ (suc k) s′ m P A D p (n + 1) end within (q .pc) (q .env) (l .pc ∙ R .pc) (p .env-fits) (p .env) (depthOf w + 2) (q .room) index;
+            })
+            (p .stood) (p .fine) b refl refl (env-grows T root L M′ (sizes q) M″ (sizes q) g ie) (omega arith) (omega (arith, deep, p .room))
+            (frame-chain S′ (suc k) s′ m P A D p (n + 1) end within (q .pc) (q .env) (l .pc ∙ R .pc) (p .env-fits) (p .env) (depthOf w + 2) (q .room) index d v x (omega arith) (omega arith)
+            (triggered-at T root L M′ (sizes q) (sym next) refl rest)) reach in
+            falls T root L G e₀ Ω N B C says S k s m P A D c F R M′ (S .log) q s′ l {S″ = S″} refl now
+
+        try : (t : Bool) → leb (q .room) (depthOf w + 1) ≡ t
+            → Then (choose t (withRegs (lacking q) S′) (withMemory (putAdvice (q .room) (depthOf w + 2) (q .pc) (q .env) (n + 1) end M′) (setPc (bodyAt M′ n) (setHand 0 (setEnv n (setRoom (q .room - (depthOf w + 2)) q)))) S′))
+        try true t = none-left (leb-true (q .room) (depthOf w + 1) t)
+        try false t = begins (leb-false (q .room) (depthOf w + 1) t)
+
+    -- The room for all bindings is tested, and then whether there is advice.
+    pub mark-now : (X : Place) (y : Ty) {x x′ : ℕ} {v v′ : CVal} → IsVal T root L (S .memory) (sizes r) x v → IsVal T root L (S .memory) (sizes r) x′ v′ → At (reduce2C G X s mark y v v′) → Then (reduceMark w x x′ S)
+    unfolding with plainVal reduceMark if-room
+    mark-now X y {x} {x′} {v′ = v′} i i′ R = try (as-label T root L (S .memory) (sizes r) i) R
+      where
+        st : Store T root L B (S .memory) (S .log) (sizes r) s
+        st = R .place .common .store
+
+        used : ℕ → CState
+        used j = charged (addCounts (s .used) (someBindings j)) s
+
+        all : ℕ → Bound
+        all l = bindMatching (r .installed) 0 l x′ (record { memory = S .memory; count = n })
+
+        slots : {M′ : Memory} → Written (S .memory) (sizes r) M′ → SameSlots (S .memory) M′
+        slots k = record { word = λ j h g. k .above .kept j h; byte = k .beside }
+
+        cells : {M′ : Memory} → Written (S .memory) (sizes r) M′ → Above cellBase (S .memory) M′
+        cells k = record { words = k .above .words; kept = λ j h. k .above .kept j (omega arith) }
+
+        bytes : {M′ : Memory} → Written (S .memory) (sizes r) M′ → 513 ≤ length (M′ .beside)
+        bytes k = rw (k .beside) (st .beside)
+
+        -- no advice: the tables M′ have no more bindings
+        none-now : (M′ : Memory) → Written (S .memory) (sizes r) M′ → At (go (used 0) (triggered v′ [])) → Then (given w 0 (withMemory M′ r S))
+        none-now M′ k Q =
+            quiet v′ M′ (stepped r) (used 0) Q
+            (record {
+              env = refl;
+              room = refl;
+              left = refl;
+              pc = refl;
+              store =
+                  store-charged T root L B (S .memory) (S .log) (sizes r) s st M′ n (sizes r .np) (addCounts (s .used) (someBindings 0)) (k .grows) (cells k) (bytes k) (omega (arith, st .bindings)) (st .bindings-fit)
+                  (omega (arith, st .pieces)) (st .pieces-fit) (omega arith);
+              grows = k .grows;
+              slots = slots k;
+            })
+
+        some-now : (d : Dom) (ls : List ℕ) (e : Tm) (ρ : Env) (a : List (Advice Body)) (b : Bound) → Made T root L (S .memory) (sizes r) v′ (record { dom = d; labels = ls; body = record { term = e; env = ρ } } ∷ a) (record { memory = S .memory; count = n }) b → b .count ≤ 2048
+            → At (go (used (suc (length a))) (triggered v′ (record { dom = d; labels = ls; body = record { term = e; env = ρ } } ∷ a)))
+            → Then (startAdvice w n (b .count) (withMemory (b .memory) (setPools (boundTo (b .count) (r .pools)) (stepped r)) S))
+        some-now d ls e ρ a b k few Q =
+            let q : Regs = setPools (boundTo (b .count) (r .pools)) (stepped r) in
+            let g : Grows (S .memory) (sizes r) (b .memory) (sizes q) =
+            grows-trans (k .written .grows) (grows-sizes (b .memory) (sizes r) (sizes q) (omega (arith, k .count)) (omega arith)) in
+            start-now v′ d ls e ρ a (b .memory) q (used (suc (length a))) (b .count) few Q
+            (record {
+              env = refl;
+              room = refl;
+              left = refl;
+              pc = refl;
+              store =
+                  store-charged T root L B (S .memory) (S .log) (sizes r) s st (b .memory) (b .count) (sizes r .np) (addCounts (s .used) (someBindings (suc (length a)))) g (cells (k .written)) (bytes (k .written))
+                  (omega (arith, k .count, st .bindings)) few (omega (arith, st .pieces)) (st .pieces-fit) (omega arith);
+              grows = g;
+              slots = slots (k .written);
+            })
+            (k .triggered few)
+
+        -- no room for all of them: none is made
+        full-now : {a : CAnswer} (b : Bound) → Written (S .memory) (sizes r) (b .memory) → At a → a ≡ full Outcome.Bindings → Then (withMemory (b .memory) (halt Outcome.Bindings r) S)
+        full-now {a} b wr Q e =
+            let small = says .few m (Q .place .no-atom) in
+            let st′ : Store T root L B (b .memory) (S .log) (sizes r) s =
+            store-charged T root L B (S .memory) (S .log) (sizes r) s st (b .memory) n (sizes r .np) (s .used) (wr .grows) (cells wr) (bytes wr) (st .bindings) (st .bindings-fit) (st .pieces) (st .pieces-fit) refl in
+            after-halted
+            (halted-stopped Outcome.Bindings refl refl
+            (ends-full G e₀ Ω k s c F (Q .reach) N (r .left - headroom) (omega (arith, Q .place .common .budget, Q .some-left)) Outcome.Bindings K (λ j. omega (arith, Q .some-left)) (Q .is ∙ ap (λ (j : CAnswer). due j K) e))
+            st′ (omega (arith, Q .place .common .budget, Q .some-left))
+            (fits-in T root L G e₀ Ω N B (b .memory) (S .log) (halt Outcome.Bindings r) s st′ (omega (arith, Q .pc, small)) (Q .place .env-fits) (omega (arith, Q .place .room))))
+
+        tests : (a : List (Advice Body)) (b : Bound) → Made T root L (S .memory) (sizes r) v′ a (record { memory = S .memory; count = n }) b → leb (b .count) bindingLimit ≡ leb (length a) (bindingLimit - s .used .bindings)
+        tests a b k =
+            leb-iff (b .count) bindingLimit (length a) (bindingLimit - s .used .bindings) (λ h. omega (arith, k .count, st .bindings, st .bindings-fit)) (λ h. omega (arith, k .count, st .bindings, st .bindings-fit))
+
+        rest-now : (a : List (Advice Body)) (b : Bound) → Made T root L (S .memory) (sizes r) v′ a (record { memory = S .memory; count = n }) b → (t : Bool) → leb (length a) (bindingLimit - s .used .bindings) ≡ t → At (if-room t Outcome.Bindings (go (used (length a)) (triggered v′ a)))
+            → Then
+            (choose (ltb bindingLimit (b .count)) (withMemory (b .memory) (halt Outcome.Bindings r) S)
+            (choose (eqb (b .count) n) (given w 0 (withMemory (b .memory) r S)) (startAdvice w n (b .count) (withMemory (b .memory) (setPools (boundTo (b .count) (r .pools)) (stepped r)) S))))
+        rest-now a b wr false e Q =
+            rw (lt-ltb bindingLimit (b .count) (leb-false (b .count) bindingLimit (tests a b wr ∙ e))) (full-now b (wr .written) Q refl)
+        rest-now [] b wr true e Q =
+            rw (le-ltb bindingLimit (b .count) (leb-true (b .count) bindingLimit (tests [] b wr ∙ e)), eq-eqb (b .count) n (omega (arith, wr .count))) (none-now (b .memory) (wr .written) Q)
+        rest-now (f ∷ a) b wr true e Q =
+            let few : b .count ≤ 2048 = leb-true (b .count) bindingLimit (tests (f ∷ a) b wr ∙ e) in
+            rw (le-ltb bindingLimit (b .count) few, ne-eqb (b .count) n (λ j. omega (arith, wr .count))) (some-now (f .dom) (f .labels) (f .body .term) (f .body .env) a b wr few Q)
+
+        -- a label that no installed advice names
+        named : (l : ℕ) → l < 64 → (t : Bool) → hasBit (r .named) l ≡ t → At (if-room (leb (length (matching l (s .advices))) (bindingLimit - s .used .bindings)) Outcome.Bindings (go (used (length (matching l (s .advices)))) (triggered v′ (matching l (s .advices)))))
+            → Then
+            (choose (not t) (given w 0 S)
+            (choose (ltb bindingLimit (all l .count)) (withMemory (all l .memory) (halt Outcome.Bindings r) S)
+            (choose (eqb (all l .count) n) (given w 0 (withMemory (all l .memory) r S)) (startAdvice w n (all l .count) (withMemory (all l .memory) (setPools (boundTo (all l .count) (r .pools)) (stepped r)) S)))))
+        named l h true t Q =
+            rest-now (matching l (s .advices)) (all l)
+            (made-all T root L (S .memory) (sizes r) (st .pieces-fit) (st .words) l h x′ v′ i′ (st .are-advices) (r .installed) (st .advices) (record { memory = S .memory; count = n }) (omega arith) (written-refl (S .memory) (sizes r)))
+            (leb (length (matching l (s .advices))) (bindingLimit - s .used .bindings)) refl Q
+        named l h false t Q =
+            let none : matching l (s .advices) ≡ [] = none-named T root L (S .memory) (sizes r) l h t (st .are-advices) in
+            none-now (S .memory) (written-refl (S .memory) (sizes r)) (at-room (rw none at Q))
+          where
+            at-room : At (if-room (leb 0 (bindingLimit - s .used .bindings)) Outcome.Bindings (go (used 0) (triggered v′ []))) → At (go (used 0) (triggered v′ []))
+            at-room Q = rw (le-leb 0 (bindingLimit - s .used .bindings) (omega arith)) at Q
+
+        -- the label is there
+        there : (o : Option Dom) (a : CAnswer) → At (with o (λ p. a)) → At a
+        there none a Q = absurd (no-wrong T root L G e₀ Ω N B C says S k s m P A D c F Q refl)
+        there (some p) a Q = Q
+
+        try : {u : CVal} → AsLabel T root L (S .memory) (sizes r) x u → At (reduce2C G X s mark y u v′) → Then (reduceMark w x x′ S)
+        try (a-label {l = l} p q) Q =
+            rw q (named l (omega arith) (hasBit (r .named) l) refl (rw (spend-bindings s (λ s′. go s′ (triggered v′ (matching l (s .advices)))) (length (matching l (s .advices)))) at (there (getElem? (s .labels) l) _ Q)))
+        try (no-label p) Q = absurd (no-wrong T root L G e₀ Ω N B C says S k s m P A D c F Q (rw p))

@@ -1,0 +1,125 @@
+-- The bindings that a mark makes: one for each advice that its label triggers, in order of installation.
+use Prim.Native.Nat.{ℕ, suc, _+_, _-_, _%_, _≤_, _<_}
+use native.Mathlib.Omega.{arith}
+use mathlib.Core.Path.{_≡_, refl, sym, ap, _∙_}
+use mathlib.Core.Bool.{Bool, true, false}
+use mathlib.Core.List.{List, [], _∷_}
+use lib.ListN.{length}
+use lib.Dec.{ltb}
+use borrow.Author.Tests.{lt-ltb, ltb-true}
+use Rattle.calculus.specs.Limits.{bindingLimit}
+use Rattle.calculus.specs.Combinators.{choose}
+use Rattle.calculus.specs.Syntax.{Dom, Tm}
+use Rattle.calculus.specs.State.{Advice}
+use Rattle.calculus.specs.Compose.{member, matching}
+use Rattle.machine.specs.Closure.{CVal, Env, link, Body}
+use Rattle.vm_theory.specs.Table.{Table, Linked}
+use Rattle.vm_machine.specs.Memory.{Memory, slotBase, installedBase, binding, boundTarget, boundLink, bindingAt, putBinding, pieceFirst, pieceSecond, adviceTarget, adviceEnv, hasBit, installedAt}
+use Rattle.vm_machine.specs.Reduce.{Bound, bindOne, bindMatching}
+use Rattle.vm_refine.proofs.Relations.{Sizes, body-at, IsVal, IsEnv, is-link, env-outside, IsAdvice, at-piece, IsTriggered, no-more, one-left, val-at, env-at, val-like, Grows, val-grows, env-grows}
+use Rattle.vm_refine.proofs.Tables.{word-same, word-other, grows-put, grows-sizes, grows-refl, grows-trans, Above, above-put, above-refl, above-trans}
+use Rattle.vm_refine.proofs.Store.{AreAdvices, none-installed, one-installed, resized}
+use Rattle.vm_refine.proofs.ReduceBindings.{binding-word}
+
+-- Bindings past those of z were written, and nothing else.
+pub record Written (M : Memory) (z : Sizes) (M′ : Memory) : Type 0 where
+  pub grows : Grows M z M′ z
+  pub above : Above slotBase M M′
+  pub beside : M′ .beside ≡ M .beside
+
+pub written-refl : (M : Memory) (z : Sizes) → Written M z M
+written-refl M z = record { grows = grows-refl M z; above = above-refl slotBase M; beside = refl }
+
+-- Another one.
+written-more : (M : Memory) (z : Sizes) (M′ : Memory) (j w : ℕ) → z .np ≤ 512 → z .nb ≤ j → j < 2048 → Written M z M′ → Written M z (putBinding j w M′)
+written-more M z M′ j w f h g k =
+    record {
+      grows = grows-trans (k .grows) (grows-put M′ z (0 + j) w (omega arith) (λ i lt e. omega arith));
+      above = above-trans (k .above) (above-put M′ slotBase (0 + j) w (omega arith));
+      beside = k .beside;
+    }
+
+module _ (T : Table) (root : ℕ) (L : Linked T 0 root) where
+  -- What the loop leaves: how many bindings there are, what was written, and that the bindings made before the loop stay.
+  pub record Made (M : Memory) (z : Sizes) (w : CVal) (x : List (Advice Body)) (B B′ : Bound) : Type 0 where
+    pub count : B′ .count ≡ B .count + length x
+    pub written : Written M z (B′ .memory)
+    pub earlier : (j : ℕ) → j < B .count → j < 2048 → bindingAt (B′ .memory) j ≡ bindingAt (B .memory) j
+    pub triggered : B′ .count ≤ 2048 → IsTriggered T root L (B′ .memory) (resized T root L (B′ .count) (z .np) z) (B .count) (B′ .count) w x
+
+  module _ (M : Memory) (z : Sizes) (np : z .np ≤ 512) (long : 3905 ≤ length (M .words)) (l : ℕ) (label : l < 64) (v : ℕ) (w : CVal) (iv : IsVal T root L M z v w) where
+    -- One advice, that the label triggers, and then the others.
+    made-one : (p : ℕ) (d : Dom) (ls : List ℕ) (f : Tm) (ρ : Env) (x : List (Advice Body)) (B B′ : Bound) → IsAdvice T root L M z p d ls f ρ → z .nb ≤ B .count → Written M z (B .memory) → (W : Memory)
+        → W ≡ choose (ltb (B .count) bindingLimit) (putBinding (B .count) (binding v (adviceTarget (pieceFirst (B .memory) p)) (adviceEnv (pieceFirst (B .memory) p))) (B .memory)) (B .memory)
+        → Made M z w x (record { memory = W; count = B .count + 1 }) B′ → Made M z w (record { dom = d; labels = ls; body = record { term = f; env = ρ } } ∷ x) B B′
+    made-one p d ls f ρ x B B′ (at-piece lt b q e hs) low k W is m =
+        record { count = omega (arith, m .count); written = m .written; earlier = λ j h g. m .earlier j (omega arith) g ∙ other j h (ltb (B .count) bindingLimit) refl; triggered = first }
+      where
+        a : ℕ
+        a = pieceFirst (B .memory) p
+
+        word : ℕ
+        word = binding v (adviceTarget a) (adviceEnv a)
+
+        other : (j : ℕ) → j < B .count → (t : Bool) → ltb (B .count) bindingLimit ≡ t → bindingAt W j ≡ bindingAt (B .memory) j
+        other j h true q = rw (is, q) (word-other (B .memory) (0 + B .count) word (0 + j) (λ e. omega arith))
+        other j h false q = rw (is, q)
+
+        first : B′ .count ≤ 2048 → IsTriggered T root L (B′ .memory) (resized T root L (B′ .count) (z .np) z) (B .count) (B′ .count) w (record { dom = d; labels = ls; body = record { term = f; env = ρ } } ∷ x)
+        first h =
+            let M′ : Memory = B′ .memory in
+            let z′ : Sizes = resized T root L (B′ .count) (z .np) z in
+            let room : B .count < 2048 = omega (arith, m .count) in
+            let made : W ≡ putBinding (B .count) word (B .memory) = is ∙ ap (λ (t : Bool). choose t (putBinding (B .count) word (B .memory)) (B .memory)) (lt-ltb (B .count) bindingLimit room) in
+            let here : bindingAt W (B .count) ≡ word = ap (λ (m : Memory). bindingAt m (B .count)) made ∙ word-same (B .memory) (0 + B .count) word (omega (arith, k .above .words)) in
+            let kept : bindingAt M′ (B .count) ≡ word = m .earlier (B .count) (omega arith) room ∙ here in
+            let same : a ≡ pieceFirst M p = k .grows .firsts p lt in
+            let parts = binding-word v (adviceTarget a) (adviceEnv a) (omega arith) (omega arith) in
+            let g : Grows M z M′ z′ = grows-trans (m .written .grows) (grows-sizes M′ z z′ (omega (arith, m .count)) (omega arith)) in
+            let at : boundLink (bindingAt M′ (B .count)) ≡ adviceEnv (pieceFirst M p) = ap boundLink kept ∙ parts .3 ∙ ap adviceEnv same in
+            let e′ : IsEnv T root L M′ z′ (B .count) (link w ρ) =
+            is-link {l = B .count} (omega (arith, m .count)) (val-at T root L M′ z′ kept (val-like T root L M′ z′ (parts .0) (parts .1) (val-grows T root L M z M′ z′ g iv)))
+            (env-at T root L M′ z′ at (env-grows T root L M z M′ z′ g e)) (λ o. env-outside T root L M z (omega arith) e (sym at ∙ o)) in
+            let next : suc (B .count) ≡ B .count + 1 = omega arith in
+            let rest : IsTriggered T root L M′ z′ (suc (B .count)) (B′ .count) w x = rw next (m .triggered h) in
+            one-left {b = B .count} {e = B′ .count} (omega (arith, m .count)) e′ (body-at T root L (ap boundTarget kept ∙ parts .2 ∙ ap adviceTarget same) b) rest
+
+    has-advice : (p : ℕ) (d : Dom) (ls : List ℕ) (f : Tm) (ρ : Env) (M′ : Memory) → IsAdvice T root L M z p d ls f ρ → Written M z M′ → hasBit (pieceSecond M′ p) l ≡ member l ls
+    has-advice p d ls f ρ M′ (at-piece lt b q e hs) k = ap (λ (w : ℕ). hasBit w l) (k .grows .seconds p lt) ∙ hs .has l label
+
+    pub made-all : {i : ℕ} {x : List (Advice Body)} → AreAdvices T root L M z i x → (n : ℕ) → n ≡ length x → (B : Bound) → z .nb ≤ B .count → Written M z (B .memory)
+        → Made M z w (matching l x) B (bindMatching n i l v B)
+    unfolding bindMatching
+    made-all {i} none-installed n e B low k = rw e (record { count = omega arith; written = k; earlier = λ j h g. refl; triggered = λ h. no-more refl })
+    made-all {i} (one-installed {a = a} {x = x} ia u more) n e B low k =
+        rw e (try (member l (a .labels)) (has-advice p (a .dom) (a .labels) (a .body .term) (a .body .env) (B .memory) ia′ k) (made-all more (length x) refl))
+      where
+        p : ℕ
+        p = installedAt (B .memory) i
+
+        ia′ : IsAdvice T root L M z p (a .dom) (a .labels) (a .body .term) (a .body .env)
+        ia′ = rw (ap (λ (w : ℕ). w % 512) (k .above .kept (installedBase + i) (omega arith))) ia
+
+        word : ℕ
+        word = binding v (adviceTarget (pieceFirst (B .memory) p)) (adviceEnv (pieceFirst (B .memory) p))
+
+        W : Memory
+        W = choose (ltb (B .count) bindingLimit) (putBinding (B .count) word (B .memory)) (B .memory)
+
+        writes : (t : Bool) → ltb (B .count) bindingLimit ≡ t → Written M z (choose t (putBinding (B .count) word (B .memory)) (B .memory))
+        writes true q = written-more M z (B .memory) (B .count) word np low (ltb-true (B .count) bindingLimit q) k
+        writes false q = k
+
+        try : (t : Bool) → hasBit (pieceSecond (B .memory) p) l ≡ t
+            → ((B : Bound) → z .nb ≤ B .count → Written M z (B .memory) → Made M z w (matching l x) B (bindMatching (length x) (suc i) l v B))
+            → Made M z w (choose t (a ∷ matching l x) (matching l x)) B (bindMatching (length x) (suc i) l v (bindOne l v i B))
+        try true q ih =
+            rw q
+            (made-one p (a .dom) (a .labels) (a .body .term) (a .body .env) (matching l x) B (bindMatching (length x) (suc i) l v (record { memory = W; count = B .count + 1 })) ia′ low k W refl
+            (ih (record { memory = W; count = B .count + 1 }) (omega arith) (writes (ltb (B .count) bindingLimit) refl)))
+        try false q ih = rw q (ih B low k)
+
+  -- A label that is not named triggers nothing.
+  pub none-named : (M : Memory) (z : Sizes) (l : ℕ) → l < 64 → hasBit (z .named) l ≡ false → {i : ℕ} {x : List (Advice Body)} → AreAdvices T root L M z i x → matching l x ≡ []
+  none-named M z l h q none-installed = refl
+  none-named M z l h q (one-installed {a = a} ia u more) = rw (u l h q) (none-named M z l h q more)

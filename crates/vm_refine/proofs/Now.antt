@@ -1,0 +1,113 @@
+-- Where the machine stands: its registers, tables and slots are those of a configuration of threaded code that the run has reached.
+use Prim.Native.Nat.{ℕ, suc, _+_, _-_, _≤_, _<_}
+use mathlib.Core.Path.{_≡_, refl}
+use mathlib.Core.Bool.{Bool, true, false, true≢false}
+use mathlib.Core.List.{List, _∷_}
+use mathlib.Core.Option.{some}
+use lib.ListN.{length}
+use Rattle.calculus.specs.declared.Outcome.{Outcome}
+use Rattle.calculus.specs.Combinators.{choose}
+use Rattle.calculus.specs.Syntax.{Tm, val, var, lam, op0, op1, op2, seq, ite, split, pcd, adv, lower}
+use Rattle.calculus.specs.State.{Given, fresh}
+use Rattle.calculus.specs.Report.{outcomeNumber}
+use Rattle.calculus.specs.Run.{done, stopped, ended, run}
+use Rattle.machine.specs.Closure.{CVal, CState, plainVal, plainState}
+use Rattle.vm_theory.specs.Code.{Head, op1H, seqH, iteH, splitH, advH, lowerH, Operand, hand, slot, inPlace, Instr, back, nullary, one, two, many, oneB, firstB, secondB, Skel, isAtom, Pc, entry}
+use Rattle.vm_theory.specs.Conf.{Site, Chain, Slots, Conf, base, depthAt}
+use Rattle.vm_theory.specs.Table.{Table, Target, Linked, isAtomAt}
+use Rattle.vm_theory.proofs.Sound.{Sound}
+use Rattle.vm_theory.proofs.Good.{Good}
+use Rattle.vm_theory.proofs.Places.{Stood, Fine}
+use Rattle.vm_theory.proofs.Located.{Located, Points}
+use Rattle.vm_theory.proofs.Kept.{Waits, IsChain}
+use Rattle.vm_code.specs.Says.{targetNumber}
+use Rattle.vm_machine.specs.Registers.{headroom, fullRoom}
+use Rattle.vm_machine.specs.States.{State}
+use Rattle.vm_machine.specs.Fits.{Fits}
+use Rattle.vm_refine.proofs.Relations.{sizes, IsVal, IsEnv}
+use Rattle.vm_refine.proofs.Store.{Store}
+use Rattle.vm_refine.proofs.Slots.{slotOf, Held, Back}
+
+-- The operands that an instruction does not fetch in place: hw is the word at hand, hv its value; sw the word in the instruction's slot, sv its value.
+module _ (Is : ℕ → CVal → Type 0) (hw : ℕ) (hv : CVal) (sw : ℕ) (sv : CVal) where
+  abbrev pub Ready : Operand → Type 0
+  Ready hand = Is hw hv
+  Ready slot = Is sw sv
+  Ready (inPlace x) = Unit {0}
+
+  abbrev pub ReadyFor : Instr → Type 0
+  ReadyFor back = Is hw hv
+  ReadyFor (nullary o t) = Unit {0}
+  ReadyFor (one H a) = Ready a
+  ReadyFor (two o t a b) = Ready a × Ready b
+  ReadyFor (many o es) = Unit {0}
+
+  -- The first instruction of a term fetches all its operands in place.
+  ready-one : (H : Head) (x : Tm) (σ : Skel) → (isAtom x ≡ false → ReadyFor (entry x (oneB H ∷ σ) .0)) → ReadyFor (choose {A = Pc} (isAtom x) (one H (inPlace x), σ) (entry x (oneB H ∷ σ)) .0)
+  ready-one H x σ ih = try (isAtom x) refl
+    where
+      try : (b : Bool) → isAtom x ≡ b → ReadyFor (choose {A = Pc} b (one H (inPlace x), σ) (entry x (oneB H ∷ σ)) .0)
+      try true p = tt
+      try false p = ih p
+
+  pub entry-ready : (e : Tm) (σ : Skel) → isAtom e ≡ false → ReadyFor (entry e σ .0)
+  unfolding entry
+  entry-ready (val v) σ p = absurd (true≢false p)
+  entry-ready (var i) σ p = absurd (true≢false p)
+  entry-ready (lam t b) σ p = absurd (true≢false p)
+  entry-ready (op0 o t) σ p = tt
+  entry-ready (op1 o t x) σ p = ready-one (op1H o t) x σ (entry-ready x (oneB (op1H o t) ∷ σ))
+  entry-ready (op2 o t x y) σ p = try (isAtom x) refl (isAtom y) refl (entry-ready x (firstB o t y ∷ σ)) (entry-ready y (secondB o t (some x) ∷ σ))
+    where
+      try : (b : Bool) → isAtom x ≡ b → (c : Bool) → isAtom y ≡ c → (isAtom x ≡ false → ReadyFor (entry x (firstB o t y ∷ σ) .0)) → (isAtom y ≡ false → ReadyFor (entry y (secondB o t (some x) ∷ σ) .0))
+          → ReadyFor (choose {A = Pc} b (choose {A = Pc} c (two o t (inPlace x) (inPlace y), σ) (entry y (secondB o t (some x) ∷ σ))) (entry x (firstB o t y ∷ σ)) .0)
+      try true q true r ihx ihy = (tt, tt)
+      try true q false r ihx ihy = ihy r
+      try false q c r ihx ihy = ihx q
+  entry-ready (seq x f) σ p = ready-one (seqH f) x σ (entry-ready x (oneB (seqH f) ∷ σ))
+  entry-ready (ite x f g) σ p = ready-one (iteH f g) x σ (entry-ready x (oneB (iteH f g) ∷ σ))
+  entry-ready (split x f) σ p = ready-one (splitH f) x σ (entry-ready x (oneB (splitH f) ∷ σ))
+  entry-ready (pcd es) σ p = tt
+  entry-ready (adv q x b) σ p = ready-one (advH q b) x σ (entry-ready x (oneB (advH q b) ∷ σ))
+  entry-ready (lower q x) σ p = ready-one (lowerH q) x σ (entry-ready x (oneB (lowerH q) ∷ σ))
+
+module _ (T : Table) (root : ℕ) (L : Linked T 0 root) (G : Given) (e₀ : Tm) (Ω : Sound G e₀) (N : ℕ) (B : List ℕ) where
+  -- What holds of tables, log and budget between two instructions, after k steps of the budget N.
+  pub record Common (S : State) (k : ℕ) (s : CState) : Type 0 where
+    pub budget : k + S .regs .left ≡ N + headroom
+    pub running : headroom ≤ S .regs .left
+    pub store : Store T root L B (S .memory) (S .log) (sizes (S .regs)) s
+
+  -- The machine is at a place of an activation: instruction m is there, its operands aside.
+  pub record InPlace (S : State) (k : ℕ) (s : CState) (m : ℕ) (P : Site) (A : Chain) (D : Slots) : Type 0 where
+    pub common : Common S k s
+    pub no-atom : isAtomAt T m ≡ false
+    pub located : Located T 0 root L m (P .skel) (P .dom)
+    pub stood : Stood P A
+    pub fine : Fine A
+    pub env : IsEnv T root L (S .memory) (sizes (S .regs)) (S .regs .env) (P .env)
+    pub env-fits : S .regs .env < 2048
+    pub room : S .regs .room + base A ≡ fullRoom
+    pub waits : Waits T 0 root L (Held T root L (S .memory) (sizes (S .regs))) D (P .skel) (base A)
+    pub chain : IsChain T 0 root L (Held T root L (S .memory) (sizes (S .regs))) (Back T root L (S .memory) (sizes (S .regs))) D A
+
+  -- It is about to run an instruction.
+  pub record Now (S : State) (k : ℕ) (s : CState) (C : Conf) : Type 0 where
+    pub common : Common S k s
+    pub good : Good G e₀ Ω k s C
+    pub target : Target
+    pub pc : S .regs .pc ≡ targetNumber target
+    pub points : Points T 0 root L (C .site .dom) target (C .instr, C .site .skel)
+    pub env : IsEnv T root L (S .memory) (sizes (S .regs)) (S .regs .env) (C .site .env)
+    pub env-fits : S .regs .env < 2048
+    pub room : S .regs .room + base (C .chain) ≡ fullRoom
+    pub ready : ReadyFor (IsVal T root L (S .memory) (sizes (S .regs))) (S .regs .hand) (C .hand) (slotOf (S .memory) (suc (depthAt (C .site) (C .chain)))) (C .slots (suc (depthAt (C .site) (C .chain)))) (C .instr)
+    pub waits : Waits T 0 root L (Held T root L (S .memory) (sizes (S .regs))) (C .slots) (C .site .skel) (base (C .chain))
+    pub chain : IsChain T 0 root L (Held T root L (S .memory) (sizes (S .regs))) (Back T root L (S .memory) (sizes (S .regs))) (C .slots) (C .chain)
+
+  -- The run has ended, and the machine with it.
+  pub data Halted (S : State) : Type 0 where
+    halted-done : {k : ℕ} {s : CState} {v : CVal} → S .regs .left ≡ 0 → S .regs .outcome ≡ 0 → run N G 0 fresh e₀ ≡ ended (done (plainVal v)) k (plainState s)
+        → Store T root L B (S .memory) (S .log) (sizes (S .regs)) s → IsVal T root L (S .memory) (sizes (S .regs)) (S .regs .hand) v → k + S .regs .rest ≡ N → Fits (length B) (S .regs) → Halted S
+    halted-stopped : {k : ℕ} {s : CState} (o : Outcome) → S .regs .left ≡ 0 → S .regs .outcome ≡ outcomeNumber o → run N G 0 fresh e₀ ≡ ended (stopped o) k (plainState s)
+        → Store T root L B (S .memory) (S .log) (sizes (S .regs)) s → k + S .regs .rest ≡ N → Fits (length B) (S .regs) → Halted S

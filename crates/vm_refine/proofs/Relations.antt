@@ -1,0 +1,169 @@
+-- Which closure values and environments the words of the tables stand for; and that this holds on where the tables grow.
+use Prim.Native.Nat.{ℕ, zero, suc, _/_, _%_, _≤_, _<_}
+use native.Mathlib.Omega.{arith}
+use mathlib.Core.Path.{_≡_, refl, sym, ap, subst, _∙_}
+use mathlib.Core.Bool.{Bool, true, false}
+use mathlib.Core.List.{List, [], _∷_}
+use mathlib.Core.Option.{some, Option·none-ne-some}
+use lib.Dec.{eqb}
+use borrow.Author.Tests.{eqb-true}
+use Rattle.calculus.specs.Combinators.{choose}
+use Rattle.calculus.specs.Plain.{domOf}
+use Rattle.calculus.specs.Syntax.{Dom, Ty, Tm}
+use Rattle.calculus.specs.State.{Advice}
+use Rattle.calculus.specs.Compose.{member}
+use Rattle.machine.specs.Closure.{CVal, Env, empty, link, Body, lookup}
+use Rattle.vm_theory.specs.Table.{Table, Linked}
+use Rattle.vm_theory.proofs.Located.{Located}
+use Rattle.vm_code.specs.Values.{tagOf, bodyOf}
+use Rattle.vm_code.specs.Says.{SaysTarget}
+use Rattle.vm_machine.specs.declared.Regs.{Regs}
+use Rattle.vm_machine.specs.Memory.{Memory, bindingAt, boundTarget, boundLink, noBinding, pieceFirst, pieceSecond, adviceTarget, adviceEnv, adviceDom, hasBit}
+use Rattle.vm_machine.specs.Memory as words
+
+-- How much of each table is in use, and the labels that installed advice names.
+pub record Sizes : Type 0 where
+  pub nb : ℕ
+  pub np : ℕ
+  pub nc : ℕ
+  pub nl : ℕ
+  pub ni : ℕ
+  pub named : ℕ
+  pub at : ℕ
+
+abbrev pub sizes : Regs → Sizes
+sizes r = record { nb = r .pools .bindings; np = r .pools .pieces; nc = r .pools .cells; nl = r .labels; ni = r .installed; named = r .named; at = r .logged }
+
+-- A set of labels has those of a list.
+pub record HasLabels (w : ℕ) (ls : List ℕ) : Type 0 where
+  pub has : (l : ℕ) → l < 64 → hasBit w l ≡ member l ls
+
+pub labels-at : {a b : ℕ} {ls : List ℕ} → a ≡ b → HasLabels b ls → HasLabels a ls
+labels-at p h = rw p h
+
+module _ (T : Table) (root : ℕ) (L : Linked T 0 root) where
+  -- The term e is a body, at the domain p, and begins at the target g.
+  pub record IsBody (g : ℕ) (e : Tm) (p : Dom) : Type 0 where
+    pub number : ℕ
+    pub begins : SaysTarget T g number
+    pub term : T .term number ≡ e
+    pub located : Located T 0 root L number [] p
+
+  pub body-at : {g h : ℕ} {e : Tm} {p : Dom} → g ≡ h → IsBody h e p → IsBody g e p
+  body-at q b = rw q b
+
+  module _ (M : Memory) (z : Sizes) where
+    mutual
+      -- The value that a word stands for.
+      pub data IsVal : ℕ → CVal → Type 0 where
+        is-unit : {w : ℕ} → tagOf w ≡ 0 → IsVal w CVal.unit
+        is-truth : {w : ℕ} {b : Bool} → tagOf w ≡ 1 → bodyOf w ≡ choose b 1 0 → IsVal w (CVal.truth b)
+        is-num : {w n : ℕ} → tagOf w ≡ 2 → bodyOf w ≡ n → IsVal w (CVal.num n)
+        is-fun : {w : ℕ} {y : Ty} {e : Tm} {ρ : Env} → tagOf w ≡ 3 → IsBody (bodyOf w % 2048) e (domOf y) → IsEnv (bodyOf w / 65536 % 2048) ρ → IsVal w (CVal.fun y e ρ)
+        is-pair : {w : ℕ} {v u : CVal} → tagOf w ≡ 4 → bodyOf w % 512 < z .np → IsVal (pieceFirst M (bodyOf w % 512)) v → IsVal (pieceSecond M (bodyOf w % 512)) u → IsVal w (CVal.pair v u)
+        is-cell : {w r : ℕ} → tagOf w ≡ 5 → bodyOf w % 256 ≡ r → IsVal w (CVal.cell r)
+        is-label : {w l : ℕ} → tagOf w ≡ 6 → bodyOf w % 64 ≡ l → IsVal w (CVal.label l)
+        is-labels : {w : ℕ} {ls : List ℕ} → tagOf w ≡ 7 → bodyOf w % 512 < z .np → HasLabels (pieceSecond M (bodyOf w % 512)) ls → IsVal w (CVal.labels ls)
+        is-advice : {w : ℕ} {d : Dom} {e : Tm} {ls : List ℕ} {ρ : Env} → tagOf w ≡ 8 → IsAdvice (bodyOf w % 512) d ls e ρ → IsVal w (CVal.advice d ls e ρ)
+
+      -- The environment whose innermost binding is l.
+      pub data IsEnv : ℕ → Env → Type 0 where
+        is-empty : {l : ℕ} → IsEnv l empty
+        is-link : {l : ℕ} {v : CVal} {ρ : Env} → l < z .nb → IsVal (bindingAt M l) v → IsEnv (boundLink (bindingAt M l)) ρ → (boundLink (bindingAt M l) ≡ noBinding → ρ ≡ empty) → IsEnv l (link v ρ)
+
+      -- An advice at a piece.
+      pub data IsAdvice : ℕ → Dom → List ℕ → Tm → Env → Type 0 where
+        at-piece : {p : ℕ} {d : Dom} {e : Tm} {ls : List ℕ} {ρ : Env} → p < z .np → IsBody (adviceTarget (pieceFirst M p)) e d → adviceDom (pieceFirst M p) ≡ d
+            → IsEnv (adviceEnv (pieceFirst M p)) ρ → HasLabels (pieceSecond M p) ls → IsAdvice p d ls e ρ
+
+    -- The advice that is left of a mark: the bindings from b up to e, one for each, with the mark's value.
+    pub data IsTriggered : ℕ → ℕ → CVal → List (Advice Body) → Type 0 where
+      no-more : {b e : ℕ} {w : CVal} → b ≡ e → IsTriggered b e w []
+      one-left : {b e : ℕ} {d : Dom} {f : Tm} {w : CVal} {ls : List ℕ} {ρ : Env} {x : List (Advice Body)} → b < e → IsEnv b (link w ρ) → IsBody (boundTarget (bindingAt M b)) f d
+          → IsTriggered (suc b) e w x → IsTriggered b e w (record { dom = d; labels = ls; body = record { term = f; env = ρ } } ∷ x)
+
+    -- An environment that is not empty begins at a binding in use.
+    pub env-used : {l : ℕ} {v : CVal} {ρ : Env} → IsEnv l (link v ρ) → l < z .nb
+    env-used (is-link h v e o) = h
+
+    pub env-outside : {l : ℕ} {ρ : Env} → z .nb ≤ noBinding → IsEnv l ρ → l ≡ noBinding → ρ ≡ empty
+    env-outside h is-empty p = refl
+    env-outside h (is-link g v e o) p = absurd (omega arith)
+
+    -- Another word with the same tag and body.
+    pub val-like : {a b : ℕ} {v : CVal} → tagOf a ≡ tagOf b → bodyOf a ≡ bodyOf b → IsVal b v → IsVal a v
+    val-like p q (is-unit t) = is-unit (p ∙ t)
+    val-like p q (is-truth t h) = is-truth (p ∙ t) (q ∙ h)
+    val-like p q (is-num t h) = is-num (p ∙ t) (q ∙ h)
+    val-like p q (is-fun {ρ = ρ} t h e) = is-fun (p ∙ t) (body-at (ap (λ (x : ℕ). x % 2048) q) h) (subst (λ (x : ℕ). IsEnv (x / 65536 % 2048) ρ) (sym q) e)
+    val-like p q (is-pair {v = v} {u = u} t h g k) =
+        is-pair (p ∙ t) (rw q h) (subst (λ (x : ℕ). IsVal (pieceFirst M (x % 512)) v) (sym q) g) (subst (λ (x : ℕ). IsVal (pieceSecond M (x % 512)) u) (sym q) k)
+    val-like p q (is-cell t h) = is-cell (p ∙ t) (ap (λ (x : ℕ). x % 256) q ∙ h)
+    val-like p q (is-label t h) = is-label (p ∙ t) (ap (λ (x : ℕ). x % 64) q ∙ h)
+    val-like p q (is-labels {ls = ls} t h g) = is-labels (p ∙ t) (rw q h) (subst (λ (x : ℕ). HasLabels (pieceSecond M (x % 512)) ls) (sym q) g)
+    val-like p q (is-advice {d = d} {e = e} {ls = ls} {ρ = ρ} t a) = is-advice (p ∙ t) (subst (λ (x : ℕ). IsAdvice (x % 512) d ls e ρ) (sym q) a)
+
+    -- The same word, written otherwise.
+    pub val-at : {a b : ℕ} {v : CVal} → a ≡ b → IsVal b v → IsVal a v
+    val-at p h = rw p h
+
+    pub env-at : {a b : ℕ} {ρ : Env} → a ≡ b → IsEnv b ρ → IsEnv a ρ
+    env-at p h = rw p h
+
+    pub triggered-at : {a b c d : ℕ} {w : CVal} {x : List (Advice Body)} → a ≡ b → c ≡ d → IsTriggered b d w x → IsTriggered a c w x
+    triggered-at p q h = rw (p, q) h
+
+    -- A variable.
+    pub lookup-is : (k : ℕ) {l : ℕ} {ρ : Env} {v : CVal} → IsEnv l ρ → lookup ρ k ≡ some v → IsVal (words.lookup M l k) v
+    unfolding words.lookup
+    lookup-is zero is-empty q = absurd (Option·none-ne-some _ q)
+    lookup-is zero {l} {v = v} (is-link {v = u} h g e o) q =
+        let same : u ≡ v = cc in
+        rw (← same) g
+    lookup-is (suc k) is-empty q = absurd (Option·none-ne-some _ q)
+    lookup-is (suc k) {l} {v = v} (is-link {ρ = ρ} h g e o) q = try (eqb (boundLink (bindingAt M l)) noBinding) refl (lookup-is k e q)
+      where
+        outside : ρ ≡ empty → ⊥
+        outside p = absurd (Option·none-ne-some _ (sym (ap (λ (x : Env). lookup x k) p) ∙ q))
+
+        try : (b : Bool) → eqb (boundLink (bindingAt M l)) noBinding ≡ b → IsVal (words.lookup M (boundLink (bindingAt M l)) k) v
+            → IsVal (choose b 0 (words.lookup M (boundLink (bindingAt M l)) k)) v
+        try true p ih = absurd (outside (o (eqb-true _ _ p)))
+        try false p ih = ih
+
+-- The tables M′ have all that M has of bindings and pieces.
+pub record Grows (M : Memory) (z : Sizes) (M′ : Memory) (z′ : Sizes) : Type 0 where
+  pub more-bindings : z .nb ≤ z′ .nb
+  pub more-pieces : z .np ≤ z′ .np
+  pub bindings : (l : ℕ) → l < z .nb → bindingAt M′ l ≡ bindingAt M l
+  pub firsts : (p : ℕ) → p < z .np → pieceFirst M′ p ≡ pieceFirst M p
+  pub seconds : (p : ℕ) → p < z .np → pieceSecond M′ p ≡ pieceSecond M p
+
+module _ (T : Table) (root : ℕ) (L : Linked T 0 root) (M : Memory) (z : Sizes) (M′ : Memory) (z′ : Sizes) (g : Grows M z M′ z′) where
+  mutual
+    pub val-grows : {w : ℕ} {v : CVal} → IsVal T root L M z w v → IsVal T root L M′ z′ w v
+    val-grows (is-unit p) = is-unit p
+    val-grows (is-truth p q) = is-truth p q
+    val-grows (is-num p q) = is-num p q
+    val-grows (is-fun p q e) = is-fun p q (env-grows e)
+    val-grows (is-pair {w = w} p q a b) =
+        is-pair p (omega (arith, g .more-pieces)) (val-at T root L M′ z′ (g .firsts (bodyOf w % 512) q) (val-grows a)) (val-at T root L M′ z′ (g .seconds (bodyOf w % 512) q) (val-grows b))
+    val-grows (is-cell p q) = is-cell p q
+    val-grows (is-label p q) = is-label p q
+    val-grows (is-labels {w = w} p q a) = is-labels p (omega (arith, g .more-pieces)) (labels-at (g .seconds (bodyOf w % 512) q) a)
+    val-grows (is-advice p a) = is-advice p (advice-grows a)
+
+    pub env-grows : {l : ℕ} {ρ : Env} → IsEnv T root L M z l ρ → IsEnv T root L M′ z′ l ρ
+    env-grows is-empty = is-empty
+    env-grows (is-link {l = l} a v e o) =
+        is-link {l = l} (omega (arith, g .more-bindings)) (val-at T root L M′ z′ (g .bindings l a) (val-grows v)) (env-at T root L M′ z′ (ap boundLink (g .bindings l a)) (env-grows e))
+        (λ p. o (sym (ap boundLink (g .bindings l a)) ∙ p))
+
+    pub advice-grows : {p : ℕ} {d : Dom} {ls : List ℕ} {e : Tm} {ρ : Env} → IsAdvice T root L M z p d ls e ρ → IsAdvice T root L M′ z′ p d ls e ρ
+    advice-grows {p} (at-piece h b c e l) =
+        at-piece {p = p} (omega (arith, g .more-pieces)) (body-at T root L (ap adviceTarget (g .firsts p h)) b) (ap adviceDom (g .firsts p h) ∙ c) (env-at T root L M′ z′ (ap adviceEnv (g .firsts p h)) (env-grows e)) (labels-at (g .seconds p h) l)
+
+  pub triggered-grows : {b e : ℕ} {w : CVal} {x : List (Advice Body)} → IsTriggered T root L M z b e w x → IsTriggered T root L M′ z′ b e w x
+  triggered-grows (no-more p) = no-more p
+  triggered-grows (one-left {b = b} h e q x) =
+      one-left h (env-grows e) (body-at T root L (ap boundTarget (g .bindings b (env-used T root L M z e))) q) (triggered-grows x)

@@ -1,0 +1,363 @@
+-- A body's value comes back: to no one, to a call or split, to a mark, to a pointcut.
+use Prim.Native.Nat.{ℕ, suc, _+_, _-_, _*_, _%_, _≤_, _<_}
+use native.Mathlib.Omega.{arith}
+use mathlib.Core.Path.{_≡_, refl, sym, ap, subst, _∙_}
+use mathlib.Core.Bool.{Bool, true, false, true≢false}
+use mathlib.Core.List.{List, [], _∷_, map}
+use mathlib.Core.Option.{none, some}
+use lib.ListN.{length, getD, drop}
+use lib.Dec.{eqb, ltb}
+use borrow.Author.Tests.{eqb-true, eqb-false, eq-eqb, ne-eqb, ltb-true, ltb-false, lt-ltb, le-ltb}
+use Rattle.calculus.specs.declared.Outcome.{Outcome}
+use Rattle.calculus.specs.Limits.{frameLimit}
+use Rattle.calculus.specs.Combinators.{choose}
+use Rattle.calculus.specs.Syntax.{Dom, Tm, Tms, val, var, lam, op0, op1, op2, seq, ite, split, pcd, adv, lower}
+use Rattle.calculus.specs.State.{Advice, Given, fresh}
+use Rattle.calculus.specs.Run.{stopped, ended, run}
+use Rattle.calculus.specs.Report.{outcomeNumber}
+use Rattle.calculus.specs.Answer.{with}
+use Rattle.machine.specs.Closure.{CVal, Env, Body, CState, plainVal, plainState}
+use Rattle.machine.specs.Machine.{ret, triggered, pcdN, opNF, lowerF, triggeredF, Stack, reduceSeqC}
+use Rattle.vm_theory.specs.Code.{Head, op1H, seqH, iteH, splitH, advH, lowerH, Instr, back, nullary, one, two, many, inPlace, hand, oneB, firstB, secondB, Skel, isAtom, Pc, entry, next}
+use Rattle.vm_theory.specs.Conf.{Site, callA, adviceA, restA, manyA, Chain, Slots, Conf, base, depthAt, body, trigger}
+use Rattle.vm_theory.specs.Stands.{stackOf, stackAt}
+use Rattle.vm_theory.specs.Table.{Node, manyN, pcdM, Table, Target, home, termsOf, Linked}
+use Rattle.vm_theory.proofs.Sound.{Sound}
+use Rattle.vm_theory.proofs.Debt.{paid-none}
+use Rattle.vm_theory.proofs.Reach.{Reach, reach-moves, reach-go, reach-label, redex-due, under-frame, ends-over, ends-spent}
+use Rattle.vm_theory.proofs.Places.{Stood, Fine}
+use Rattle.vm_theory.proofs.Located.{Points, p-home, p-to, describes}
+use Rattle.vm_theory.proofs.Kept.{Kept, a-call, an-advice, some-operands, Slot, IsChain}
+use Rattle.vm_code.specs.Values.{bodyOf}
+use Rattle.vm_code.specs.Words.{classOf, depthOf, nextOf, termCount}
+use Rattle.vm_code.specs.Words as code
+use Rattle.vm_code.specs.Classes.{return, classWith, pointcutClass}
+use Rattle.vm_code.specs.Says.{targetNumber, Says, says-pointcut, SaysCode}
+use Rattle.vm_machine.specs.declared.Regs.{Regs}
+use Rattle.vm_machine.specs.Registers.{headroom, fullRoom, setPc, setHand, setEnv, setRoom, setLeft, haltWith, halt, stuck}
+use Rattle.vm_machine.specs.Memory.{Memory, wordAt, slotBase, slotIn, slotAt, slotKind, slotPc, slotEnv, slotHeld, callFrame, adviceFrame, pointcutFrame, nextBinding, endBinding, putAdvice, bindingAt, boundTarget, digitsAt, digitCount, withDigit}
+use Rattle.vm_machine.specs.States.{State, withRegs, withMemory, completed}
+use Rattle.vm_machine.specs.Fetch.{Program, codeAt}
+use Rattle.vm_machine.specs.Moves.{returnMove, moveOf}
+use Rattle.vm_machine.specs.Reduce.{bodyAt, nextAdvice}
+use Rattle.vm_machine.specs.Turn.{labelsFrom, resumeLabels, returned, performed, turn}
+use Rattle.vm_refine.proofs.Relations.{Sizes, sizes, is-unit, IsEnv, env-used, env-grows, IsTriggered, no-more, one-left, triggered-at}
+use Rattle.vm_refine.proofs.Views.{AsLabel, a-label, no-label, as-label}
+use Rattle.vm_refine.proofs.Labels.{digitsOf, one-more, with-digit, digit-count}
+use Rattle.vm_refine.proofs.Slots.{slotOf, byteOf, slot-word, FrameIs, LabelsAre, Held, Back}
+use Rattle.vm_refine.proofs.Now.{InPlace, Now, Halted, halted-done, halted-stopped}
+use Rattle.vm_refine.proofs.Arrives.{completed-now}
+use Rattle.vm_refine.proofs.Steps.{level, measure, After, after-halted, after-now, fits-in, step-falls}
+use Rattle.vm_refine.proofs.Advice.{stack-depth, body-unit, advised}
+use Rattle.vm_refine.proofs.Mark.{frame-grows, frame-store, frame-chain}
+use Rattle.vm_refine.proofs.Labelling.{some-done}
+use Rattle.vm_refine.proofs.Pointcuts.{labels-now}
+
+-- The first instruction of a term is at least as deep as the term.
+long-one : (H : Head) (x : Tm) (σ : Skel) → suc (length σ) ≤ length (entry x (oneB H ∷ σ) .1) → length σ ≤ length (choose {A = Pc} (isAtom x) (one H (inPlace x), σ) (entry x (oneB H ∷ σ)) .1)
+long-one H x σ h = try (isAtom x)
+  where
+    try : (b : Bool) → length σ ≤ length (choose {A = Pc} b (one H (inPlace x), σ) (entry x (oneB H ∷ σ)) .1)
+    try true = omega arith
+    try false = omega arith
+
+entry-long : (e : Tm) (σ : Skel) → length σ ≤ length (entry e σ .1)
+unfolding entry
+entry-long (val v) σ = omega arith
+entry-long (var i) σ = omega arith
+entry-long (lam t b) σ = omega arith
+entry-long (op0 o t) σ = omega arith
+entry-long (op1 o t x) σ = long-one (op1H o t) x σ (entry-long x (oneB (op1H o t) ∷ σ))
+entry-long (op2 o t x y) σ = try (isAtom x) (isAtom y) (entry-long x (firstB o t y ∷ σ)) (entry-long y (secondB o t (some x) ∷ σ))
+  where
+    try : (b c : Bool) → suc (length σ) ≤ length (entry x (firstB o t y ∷ σ) .1) → suc (length σ) ≤ length (entry y (secondB o t (some x) ∷ σ) .1)
+        → length σ ≤ length (choose {A = Pc} b (choose {A = Pc} c (two o t (inPlace x) (inPlace y), σ) (entry y (secondB o t (some x) ∷ σ))) (entry x (firstB o t y ∷ σ)) .1)
+    try true true p q = omega arith
+    try true false p q = omega arith
+    try false c p q = omega arith
+entry-long (seq x f) σ = long-one (seqH f) x σ (entry-long x (oneB (seqH f) ∷ σ))
+entry-long (ite x f g) σ = long-one (iteH f g) x σ (entry-long x (oneB (iteH f g) ∷ σ))
+entry-long (split x f) σ = long-one (splitH f) x σ (entry-long x (oneB (splitH f) ∷ σ))
+entry-long (pcd es) σ = omega arith
+entry-long (adv p x b) σ = long-one (advH p b) x σ (entry-long x (oneB (advH p b) ∷ σ))
+entry-long (lower p x) σ = long-one (lowerH p) x σ (entry-long x (oneB (lowerH p) ∷ σ))
+
+-- After a value inside a body its own body goes on.
+abbrev isBack : Instr → Bool
+isBack back = true
+isBack (nullary o t) = false
+isBack (one H a) = false
+isBack (two o t a b) = false
+isBack (many o es) = false
+
+next-inside : (σ : Skel) → 0 < length σ → next σ ≡ (back, []) → ⊥
+next-inside [] h p = omega arith
+next-inside (oneB H ∷ σ) h p = true≢false (sym (ap (λ (E : Pc). isBack (E .0)) p))
+next-inside (firstB o t y ∷ σ) h p = try (isAtom y) p
+  where
+    try : (b : Bool) → choose {A = Pc} b (two o t hand (inPlace y), σ) (entry y (secondB o t none ∷ σ)) ≡ (back, []) → ⊥
+    try true q = true≢false (sym (ap (λ (E : Pc). isBack (E .0)) q))
+    try false q = omega (arith, entry-long y (secondB o t none ∷ σ), ap (λ (E : Pc). length (E .1)) q)
+next-inside (secondB o t a ∷ σ) h p = true≢false (sym (ap (λ (E : Pc). isBack (E .0)) p))
+
+module _ (T : Table) (root : ℕ) (L : Linked T 0 root) (G : Given) (e₀ : Tm) (Ω : Sound G e₀) (N : ℕ) (B : List ℕ) (C : Program) (says : SaysCode T (C .image) (C .code)) where
+  -- The instruction after a value inside a body has a number.
+  number-below : {c : Dom} {g : Target} {E : Pc} → Points T 0 root L c g E → (E ≡ (back, []) → ⊥) → targetNumber g < termCount
+  number-below p-home h = absurd (h refl)
+  number-below (p-to m i n q l) h = says .few m n
+
+  module _ (S : State) (k : ℕ) (s : CState) (v : CVal) (ρ : Env) (c : Dom) (A₀ : Chain) (D : Slots) (pc : S .regs .pc ≡ code.home)
+      (now : Now T root L G e₀ Ω N B S k s (record { instr = back; hand = v; site = body ρ c; chain = A₀; slots = D })) where
+    abbrev Then : State → Type 0
+    Then S′ = After T root L G e₀ Ω N B (measure S) S′
+
+    abbrev M : Memory
+    M = S .memory
+
+    abbrev r : Regs
+    r = S .regs
+
+    abbrev z : Sizes
+    z = sizes r
+
+    -- What the turn does.
+    turn-home : turn C (G .frame) S ≡ performed C (codeAt C code.home) (returnMove M r) S
+    unfolding turn moveOf classWith
+    turn-home = let q : classWith (classOf (codeAt C code.home)) ≡ return = ap classWith (says .return) in rw (pc, q)
+
+    home-done : r .room ≡ fullRoom → turn C (G .frame) S ≡ withRegs (halt Outcome.Done r) S
+    unfolding performed
+    home-done q = turn-home ∙ rw (eq-eqb (r .room) fullRoom q)
+
+    module _ (f : ℕ) (is : slotAt M (r .room) 0 ≡ f) (inside : r .room < fullRoom) where
+      no-top : eqb (r .room) fullRoom ≡ false
+      no-top = ne-eqb (r .room) fullRoom (λ x. omega arith)
+
+      home-call : slotKind f ≡ callFrame → turn C (G .frame) S ≡ returned C f S
+      unfolding performed
+      home-call q = turn-home ∙ rw (no-top, is, q)
+
+      home-advice : slotKind f ≡ adviceFrame → turn C (G .frame) S ≡ nextAdvice C f S
+      unfolding performed
+      home-advice q = turn-home ∙ rw (no-top, is, q)
+
+      home-pointcut : slotKind f ≡ pointcutFrame → turn C (G .frame) S ≡ resumeLabels C f S
+      unfolding performed
+      home-pointcut q = turn-home ∙ rw (no-top, is, q)
+
+    -- The slot that the body runs over.
+    over-slot : 0 < base A₀ → slotAt M (r .room) 0 ≡ slotOf M (base A₀)
+    over-slot h = ap (λ (i : ℕ). wordAt M i) (omega (arith, now .room)) ∙ sym (slot-word M (base A₀) h)
+
+    at-home : level r ≡ fullRoom + 2
+    at-home = ap (λ (b : Bool). choose b (fullRoom + 2) (r .room + 1)) (eq-eqb (r .pc) code.home pc)
+
+    -- The body of the program is done.
+    done-now : A₀ ≡ [] → Then (turn C (G .frame) S)
+    done-now q =
+        let top : r .room ≡ fullRoom = omega (arith, now .room, ap base q) in
+        let reach : Reach G e₀ Ω k s (ret v) [] = subst (λ (X : Chain). Reach G e₀ Ω k s (ret v) (stackOf X D)) q (now .good .runs) in
+        rw (home-done top)
+        (after-halted
+        (halted-done refl refl (ends-over G e₀ Ω k s (ret v) [] reach N (r .left - headroom) (omega (arith, now .common .budget, now .common .running)) v refl) (now .common .store) (now .ready)
+        (omega (arith, now .common .budget, now .common .running))
+        (fits-in T root L G e₀ Ω N B M (S .log) (halt Outcome.Done r) s (now .common .store) (omega (arith, pc)) (now .env-fits) (omega (arith, top)))))
+
+    -- The place of an activation that waits.
+    module _ (P : Site) (A : Chain) (κ : Kept) (i : ℕ) (slot : Slot T 0 root L (Held T root L M z) (Back T root L M z) D i (base A) κ P) (chain : IsChain T 0 root L (Held T root L M z) (Back T root L M z) D A)
+        (stood : Stood P A) (fine : Fine A) where
+      abbrev m : ℕ
+      m = slot .number
+
+      abbrev w : ℕ
+      w = codeAt C m
+
+      deep : depthOf w ≡ length (P .skel)
+      deep = says .around m (slot .no-atom) .depth ∙ describes T 0 root L (slot .located) (slot .no-atom) .depth
+
+      -- The machine stands there, at t, with n left of the budget after k′ steps; the body ran x unfinished terms inside of it.
+      abbrev there : ℕ → ℕ → ℕ → ℕ → State
+      there t env x n = withRegs (setPc t (setEnv env (setRoom (r .room + x) (setLeft n r)))) S
+
+      stands : (t env x n k′ : ℕ) → IsEnv T root L M z env (P .env) → env < 2048 → base A₀ ≡ base A + x → k′ + n ≡ N + headroom → headroom ≤ n → InPlace T root L G e₀ Ω N B (there t env x n) k′ s m P A D
+      stands t env x n k′ ie fits b e h =
+          record {
+            common = record { budget = e; running = h; store = now .common .store };
+            no-atom = slot .no-atom;
+            located = slot .located;
+            stood = stood;
+            fine = fine;
+            env = ie;
+            env-fits = fits;
+            room = omega (arith, now .room);
+            waits = slot .waiting;
+            chain = chain;
+          }
+
+      -- A call or split.
+      call-now : (f : ℕ) → FrameIs T root L M z f callFrame m (P .env) → base A₀ ≡ depthAt P A → 0 < length (P .skel) → Reach G e₀ Ω k s (ret v) (stackAt P A D) → Then (returned C f S)
+      call-now f F b inside reach =
+          let S′ : State = withRegs (setEnv (slotEnv f) (setRoom (r .room + depthOf w) r)) S in
+          let p : InPlace T root L G e₀ Ω N B S′ k s m P A D = stands (r .pc) (slotEnv f) (depthOf w) (r .left) k (F .env) (omega arith) (omega (arith, deep)) (now .common .budget) (now .common .running) in
+          let on = completed-now T root L G e₀ Ω N B C says S′ k s m P A D p (omega (arith, now .room)) (r .hand) v (now .ready) reach in
+          let q : nextOf w < termCount = rw (says .around m (slot .no-atom) .next) (number-below (describes T 0 root L (slot .located) (slot .no-atom) .next) (λ e. next-inside (P .skel) inside (sym (paid-none (P .skel) .1) ∙ e))) in
+          let low : level (completed w (r .hand) S′ .regs) ≡ r .room + depthOf w + 1 = ap (λ (x : Bool). choose x (fullRoom + 2) (r .room + depthOf w + 1)) (ne-eqb (nextOf w) code.home (λ e. omega arith)) in
+          rw (F .pc) (after-now on (omega (arith, at-home, low, deep, now .room)))
+
+      -- The body of an advice is left in two steps.
+      module _ (d : Dom) (x : List (Advice Body)) (u : CVal) (f : ℕ) (F : FrameIs T root L M z f adviceFrame m (P .env)) (b : base A₀ ≡ depthAt P A + 2) (left : IsTriggered T root L M z (nextBinding f) (endBinding f) u x)
+          (reach : Reach G e₀ Ω k s (ret v) (stackOf (adviceA d u x P ∷ A) D)) where
+        abbrev K : Stack
+        K = stackAt P A D
+
+        -- the next advice of the mark begins; the mark, whose number is i, is done
+        abbrev begun : State
+        begun = withMemory (putAdvice (r .room) 0 (slotPc f) (slotEnv f) (nextBinding f + 1) (endBinding f) M) (setPc (bodyAt M (nextBinding f % 2048)) (setHand 0 (setEnv (nextBinding f % 2048) (setLeft (r .left - 2) r)))) S
+
+        abbrev finished : ℕ → State
+        finished i = completed (codeAt C i) 0 (withRegs (setEnv (slotEnv f) (setRoom (r .room + (depthOf (codeAt C i) + 2)) (setLeft (r .left - 2) r))) S)
+
+        few : length (triggeredF u x ∷ K) ≤ frameLimit
+        few = omega (arith, stack-depth P A D stood fine, now .room)
+
+        unit-value : v ≡ CVal.unit
+        unit-value = body-unit T root L G e₀ Ω N B C says k s P A D u d x v reach few
+
+        lowered : Reach G e₀ Ω (suc k) s (ret CVal.unit) (triggeredF u x ∷ K)
+        unfolding with plainVal
+        lowered =
+            let F₀ : Stack = stackOf (adviceA d u x P ∷ A) D in
+            reach-go G e₀ Ω k s (ret v) F₀ reach s (ret CVal.unit) (triggeredF u x ∷ K) (redex-due (triggeredF u x ∷ K) (reduceSeqC s (ret CVal.unit) v) few ∙ rw unit-value)
+
+        sequenced : Reach G e₀ Ω (suc (suc k)) s (triggered u x) K
+        unfolding with plainVal
+        sequenced = reach-go G e₀ Ω (suc k) s (ret CVal.unit) (triggeredF u x ∷ K) lowered s (triggered u x) K (redex-due K (reduceSeqC s (triggered u x) CVal.unit) (omega (arith, few)))
+
+        -- the budget ends with the first step, or before it
+        spent : r .left < headroom + 2 → Halted T root L G e₀ Ω N B (withRegs (haltWith (outcomeNumber Outcome.Spent) headroom r) S)
+        spent h = try (eqb (r .left) headroom) refl
+          where
+            ends : {k′ : ℕ} → run N G 0 fresh e₀ ≡ ended (stopped Outcome.Spent) k′ (plainState s) → k′ ≡ N → Halted T root L G e₀ Ω N B (withRegs (haltWith (outcomeNumber Outcome.Spent) headroom r) S)
+            ends ran e =
+                halted-stopped Outcome.Spent refl refl ran (now .common .store) (omega arith)
+                (fits-in T root L G e₀ Ω N B M (S .log) (haltWith (outcomeNumber Outcome.Spent) headroom r) s (now .common .store) (omega (arith, pc)) (now .env-fits) (omega (arith, now .room)))
+
+            try : (t : Bool) → eqb (r .left) headroom ≡ t → Halted T root L G e₀ Ω N B (withRegs (haltWith (outcomeNumber Outcome.Spent) headroom r) S)
+            try true t =
+                let n : k ≡ N = omega (arith, eqb-true (r .left) headroom t, now .common .budget) in
+                ends (ends-spent G e₀ Ω k s (ret v) (stackOf (adviceA d u x P ∷ A) D) reach N 0 (omega arith) refl (under-frame G e₀ Ω (ret v) (lowerF d) (triggeredF u x ∷ K))) n
+            try false t =
+                let n : suc k ≡ N = omega (arith, eqb-false (r .left) headroom t, now .common .budget, now .common .running) in
+                ends (ends-spent G e₀ Ω (suc k) s (ret CVal.unit) (triggeredF u x ∷ K) lowered N 0 (omega arith) refl (under-frame G e₀ Ω (ret CVal.unit) (triggeredF u x) K)) n
+
+        module _ (enough : headroom + 2 ≤ r .left) where
+          -- the mark's place, after the two steps
+          place : (t y : ℕ) → y ≡ depthOf w + 2 → InPlace T root L G e₀ Ω N B (there t (slotEnv f) y (r .left - 2)) (suc (suc k)) s m P A D
+          place t y e = stands t (slotEnv f) y (r .left - 2) (suc (suc k)) (F .env) (omega arith) (omega (arith, deep)) (omega (arith, now .common .budget)) (omega arith)
+
+          falls : {S′ : State} {s′ : CState} {E : Conf} → S′ .regs .left ≡ r .left - 2 → Now T root L G e₀ Ω N B S′ (suc (suc k)) s′ E → Then S′
+          falls {S′} e n = after-now n (step-falls T root L G e₀ Ω N B S S′ (omega arith) (omega (arith, now .room)) (omega (arith, n .room)))
+
+          -- no advice is left
+          mark-done : x ≡ [] → Then (finished m)
+          mark-done q =
+              let over : Reach G e₀ Ω (suc (suc k)) s (triggered u []) K = subst (λ (y : List (Advice Body)). Reach G e₀ Ω (suc (suc k)) s (triggered u y) K) q sequenced in
+              falls refl
+              (completed-now T root L G e₀ Ω N B C says (there (r .pc) (slotEnv f) (depthOf w + 2) (r .left - 2)) (suc (suc k)) s m P A D (place (r .pc) (depthOf w + 2) refl) (omega (arith, now .room)) 0 CVal.unit (is-unit refl)
+              (reach-moves G e₀ Ω (suc (suc k)) s (triggered u []) K over (ret CVal.unit) K refl))
+
+          -- the next one begins
+          next-now : (d′ : Dom) (ls : List ℕ) (e : Tm) (σ : Env) (y : List (Advice Body)) → x ≡ record { dom = d′; labels = ls; body = record { term = e; env = σ } } ∷ y
+              → IsTriggered T root L M z (nextBinding f) (endBinding f) u (record { dom = d′; labels = ls; body = record { term = e; env = σ } } ∷ y)
+              → Then begun
+          next-now d′ ls e σ y q (one-left lt ie g rest) =
+              let n : ℕ = nextBinding f in
+              let small : n < 2048 = omega (arith, env-used T root L M z ie, now .common .store .bindings-fit) in
+              let same : n % 2048 ≡ n = omega arith in
+              let next : suc n ≡ n + 1 = omega arith in
+              let within : depthAt P A + 2 ≤ fullRoom = omega (arith, now .room) in
+              let index : slotIn (r .room) 0 ≡ slotBase + fullRoom - (depthAt P A + 2) = omega (arith, now .room) in
+              let S₁ : State = there (r .pc) (slotEnv f) (depthOf w + 2) (r .left - 2) in
+              let p : InPlace T root L G e₀ Ω N B S₁ (suc (suc k)) s m P A D = place (r .pc) (depthOf w + 2) refl in
+              let M′ : Memory = putAdvice (r .room) 0 (slotPc f) (slotEnv f) (n + 1) (endBinding f) M in
+              let S′ : State = withMemory M′ (setPc (bodyAt M n) (setHand 0 (setEnv n (setLeft (r .left - 2) r)))) S in
+              let first : Advice Body = record { dom = d′; labels = ls; body = record { term = e; env = σ } } in
+              let grown = frame-grows T root L G e₀ Ω N B C says S₁ (suc (suc k)) s m P A D p (n + 1) (endBinding f) within (slotPc f) (slotEnv f) (F .pc) (omega arith) (F .env) 0 (r .room) index in
+              let on : Now T root L G e₀ Ω N B S′ (suc (suc k)) s (trigger u (first ∷ y) P A D) =
+              advised T root L G e₀ Ω N B C says S′ (suc (suc k)) s P A D u d′ ls e σ y (boundTarget (bindingAt M n))
+              (record {
+                budget = p .common .budget;
+                running = p .common .running;
+                store = frame-store T root L G e₀ Ω N B C says S₁ (suc (suc k)) s m P A D p (n + 1) (endBinding f) within (slotPc f) (slotEnv f) (F .pc) (omega arith) (F .env) 0 (r .room) index;
+              })
+              stood fine g refl refl (env-grows T root L M z M′ z grown ie) small (omega (arith, now .room))
+              (frame-chain T root L G e₀ Ω N B C says S₁ (suc (suc k)) s m P A D p (n + 1) (endBinding f) within (slotPc f) (slotEnv f) (F .pc) (omega arith) (F .env) 0 (r .room) index d′ u y (omega arith) (omega arith)
+              (triggered-at T root L M z (sym next) refl rest))
+              (subst (λ (a : List (Advice Body)). Reach G e₀ Ω (suc (suc k)) s (triggered u a) K) q sequenced) in
+              rw same (falls {S′ = S′} refl on)
+
+        advice-now : Then (nextAdvice C f S)
+        advice-now = try (ltb (r .left) (headroom + 2)) refl
+          where
+            -- the next advice of the mark, if one is left
+            on : headroom + 2 ≤ r .left → {y : List (Advice Body)} → x ≡ y → IsTriggered T root L M z (nextBinding f) (endBinding f) u y
+                → Then (choose (ltb (nextBinding f) (endBinding f)) begun (finished m))
+            on h q (no-more e) = rw (le-ltb (nextBinding f) (endBinding f) (omega arith)) (mark-done h q)
+            on h q (one-left {d = d′} {f = e} {ls = ls} {ρ = σ} {x = y} lt ie g rest) = rw (lt-ltb (nextBinding f) (endBinding f) lt) (next-now h d′ ls e σ y q (one-left lt ie g rest))
+
+            try : (t : Bool) → ltb (r .left) (headroom + 2) ≡ t
+                → Then (choose t (withRegs (haltWith (outcomeNumber Outcome.Spent) headroom r) S) (choose (ltb (nextBinding f) (endBinding f)) begun (finished (slotPc f))))
+            try true t = after-halted (spent (ltb-true (r .left) (headroom + 2) t))
+            try false t = subst (λ (i : ℕ). Then (choose (ltb (nextBinding f) (endBinding f)) begun (finished i))) (sym (F .pc)) (on (ltb-false (r .left) (headroom + 2) t) refl left)
+
+      -- A child of a pointcut is a label.
+      pointcut-now : (vs : List CVal) (es : Tms) (f : ℕ) → FrameIs T root L M z f pointcutFrame m (P .env) → (R : LabelsAre T root L f (byteOf M (base A₀)) m vs es) → base A₀ ≡ suc (depthAt P A)
+          → Reach G e₀ Ω k s (ret v) (opNF pcdN vs es (P .env) ∷ stackAt P A D) → Then (resumeLabels C f S)
+      unfolding resumeLabels
+      pointcut-now vs es f F R b reach = rw (F .pc) (by (subst (λ (n : Node). Says T (C .image) w n) (R .node) (says .node m (says .few m (slot .no-atom)))))
+        where
+          digits : digitsAt M (r .room) f ≡ digitsOf (R .done)
+          digits = ap (λ (i : ℕ). slotHeld f + 68719476736 * getD (M .beside) i 0) (omega (arith, now .room)) ∙ R .digits
+
+          S′ : State
+          S′ = withRegs (setPc m (setEnv (slotEnv f) (setRoom (r .room + (depthOf w + 1)) r))) S
+
+          p : InPlace T root L G e₀ Ω N B S′ k s m P A D
+          p = stands m (slotEnv f) (depthOf w + 1) (r .left) k (F .env) (omega arith) (omega (arith, deep)) (now .common .budget) (now .common .running)
+
+          by : Says T (C .image) w (manyN pcdM (R .children))
+              → Then (choose (eqb (classOf w) pointcutClass) (labelsFrom C m (digitCount 8 (digitsAt M (r .room) f) + 1) (withDigit (digitsAt M (r .room) f) (bodyOf (r .hand) % 64)) S′) (withRegs (stuck r) S))
+          by (says-pointcut a count few in-image children) = rw (eq-eqb (classOf w) pointcutClass a) (view (as-label T root L M z (now .ready)) reach)
+            where
+              view : {u : CVal} → AsLabel T root L M z (r .hand) u → Reach G e₀ Ω k s (ret u) (opNF pcdN vs es (P .env) ∷ stackAt P A D)
+                  → Then (labelsFrom C m (digitCount 8 (digitsAt M (r .room) f) + 1) (withDigit (digitsAt M (r .room) f) (bodyOf (r .hand) % 64)) S′)
+              view (a-label {l = l} t e) reach′ =
+                  let low : l < 64 = omega arith in
+                  let counted : digitCount 8 (digitsOf (R .done)) + 1 ≡ suc (length (R .done)) = omega (arith, digit-count 8 (R .labels) (omega (arith, R .fewer))) in
+                  rw (digits, e, with-digit (R .labels) (omega (arith, R .fewer)) l, counted)
+                  (labels-now T root L G e₀ Ω N B C says S′ k s m P A D p refl (R .children) (R .node) count few children (measure S) (omega (arith, at-home, deep, now .room)) (l ∷ R .done) (ret (CVal.label l)) (opNF pcdN (map CVal.label (R .done)) (termsOf T (drop (suc (length (R .done))) (R .children))) (P .env) ∷ stackAt P A D)
+                  (one-more low (R .labels)) (R .fewer) some-done (rw (← R .are, ← R .left) reach′))
+              view (no-label {v = u} n) reach′ = absurd (reach-label G e₀ Ω k s u vs es (P .env) (stackAt P A D) reach′ n)
+
+    -- To whom the value goes.
+    chain-now : (A : Chain) → A₀ ≡ A → IsChain T 0 root L (Held T root L M z) (Back T root L M z) D A → Fine A → Reach G e₀ Ω k s (ret v) (stackOf A D) → Then (turn C (G .frame) S)
+    chain-now [] q c f reach = done-now q
+    chain-now (callA P ∷ A) q c f reach =
+        let b : base A₀ ≡ depthAt P A = ap base q in
+        let e : slotAt M (r .room) 0 ≡ slotOf M (depthAt P A) = over-slot (omega (arith, f .2)) ∙ ap (λ (i : ℕ). slotOf M i) b in
+        rw (home-call (slotOf M (depthAt P A)) e (omega (arith, now .room, f .2)) (c .0 .says .kind)) (call-now P A a-call _ (c .0) (c .1) (f .0) (f .1) (slotOf M (depthAt P A)) (c .0 .says) b (f .2) reach)
+    chain-now (adviceA d u x P ∷ A) q c f reach =
+        let b : base A₀ ≡ depthAt P A + 2 = omega (arith, ap base q) in
+        let i : ℕ = suc (suc (depthAt P A)) in
+        let e : slotAt M (r .room) 0 ≡ slotOf M i = over-slot (omega arith) ∙ ap (λ (j : ℕ). slotOf M j) (ap base q) in
+        rw (home-advice (slotOf M i) e (omega (arith, now .room)) (c .0 .says .0 .kind)) (advice-now P A (an-advice u x) _ (c .0) (c .1) (f .0) (f .1) d x u (slotOf M i) (c .0 .says .0) b (c .0 .says .1) reach)
+    chain-now (restA u x P ∷ A) q c f reach = absurd (c .0 .says)
+    chain-now (manyA pcdN vs es P ∷ A) q c f reach =
+        let b : base A₀ ≡ suc (depthAt P A) = ap base q in
+        let i : ℕ = suc (depthAt P A) in
+        let e : slotAt M (r .room) 0 ≡ slotOf M i = over-slot (omega arith) ∙ ap (λ (j : ℕ). slotOf M j) b in
+        rw (home-pointcut (slotOf M i) e (omega (arith, now .room)) (c .0 .says .0 .kind))
+        (pointcut-now P A (some-operands pcdN vs es) _ (c .0) (c .1) (f .0) (f .1) vs es (slotOf M i) (c .0 .says .0) (rw b (c .0 .says .1)) b reach)
+
+    pub return-now : Then (turn C (G .frame) S)
+    return-now = chain-now A₀ refl (now .chain) (now .good .fine) (now .good .runs)

@@ -1,0 +1,200 @@
+-- The theorem of the machine: from any tables that are long enough its run halts, and it ends as the calculus's run of the root's term does; its registers fit at every turn.
+use Prim.Native.Nat.{ℕ, zero, suc, _+_, _%_, _≤_, _<_}
+use native.Mathlib.Omega.{arith}
+use mathlib.Core.Path.{_≡_, refl}
+use mathlib.Core.Bool.{Bool, true, false}
+use mathlib.Core.List.{List, []}
+use mathlib.Core.Option.{Option·none-ne-some}
+use lib.ListN.{length}
+use borrow.Author.Tests.{eq-eqb, ne-eqb, le-leb, lt-leb}
+use Rattle.calculus.specs.Combinators.{choose}
+use Rattle.calculus.specs.Syntax.{Dom, Tm}
+use Rattle.calculus.specs.State.{Given, fresh, picked}
+use Rattle.calculus.specs.Run.{run}
+use Rattle.machine.specs.Closure.{CVal, empty, CState}
+use Rattle.vm_theory.specs.Code.{atomOf, Pc}
+use Rattle.vm_theory.specs.Conf.{Slots, Conf, body, complete, begin}
+use Rattle.vm_theory.specs.Runs.{start}
+use Rattle.vm_theory.specs.Table.{Table, Target, home, to, isAtomAt, Linked}
+use Rattle.vm_theory.proofs.Sound.{Sound}
+use Rattle.vm_theory.proofs.Reach.{reach-start}
+use Rattle.vm_theory.proofs.Bound.{bound-tm}
+use Rattle.vm_theory.proofs.Good.{Good}
+use Rattle.vm_theory.proofs.Located.{Points, p-home, p-to, l-root, entry-points}
+use Rattle.vm_theory.proofs.Arrive.{entry-has}
+use Rattle.vm_theory.proofs.Theorem.{start-good}
+use Rattle.vm_code.specs.Words.{isInstruction, termCount}
+use Rattle.vm_code.specs.Words as code
+use Rattle.vm_code.specs.Says.{targetNumber, SaysTarget, SaysCode}
+use Rattle.vm_machine.specs.Registers.{headroom}
+use Rattle.vm_machine.specs.Memory.{Memory, noBinding}
+use Rattle.vm_machine.specs.States.{State}
+use Rattle.vm_machine.specs.Fetch.{Program, codeAt, atomValue}
+use Rattle.vm_machine.specs.Turn.{turn}
+use Rattle.vm_machine.specs.Run.{startRegs, startState, hasHalted, turns, turnsFor, runFrom, vmRun}
+use Rattle.vm_machine.specs.Fits.{Fits, Safe}
+use Rattle.vm_refine.proofs.Relations.{sizes, IsVal, is-empty}
+use Rattle.vm_refine.proofs.Store.{logBytes, Store, none-installed}
+use Rattle.vm_refine.proofs.Slots.{Held}
+use Rattle.vm_refine.proofs.Now.{entry-ready, Common, Now, Halted, halted-done, halted-stopped}
+use Rattle.vm_refine.proofs.Fetch.{atom-is}
+use Rattle.vm_refine.proofs.Arrives.{instruction-of}
+use Rattle.vm_refine.proofs.Steps.{measure, level-bounds, After, after-halted, after-now, fits-in}
+use Rattle.vm_refine.proofs.Turn.{turn-now}
+use Rattle.vm_refine.proofs.Ends.{VmEnds, halted-ends}
+
+module _ (T : Table) (root : ℕ) (L : Linked T 0 root) (G : Given) (Ω : Sound G (T .term root)) (N : ℕ) (B : List ℕ) (logged : G .logLength ≡ length B) (C : Program) (says : SaysCode T (C .image) (C .code)) where
+  abbrev e₀ : Tm
+  e₀ = T .term root
+
+  abbrev frame : List ℕ
+  frame = G .frame
+
+  abbrev Halting : State → Type 0
+  Halting S = Halted T root L G e₀ Ω N B S
+
+  abbrev Standing : State → ℕ → CState → Conf → Type 0
+  Standing S k s E = Now T root L G e₀ Ω N B S k s E
+
+  abbrev Comes : ℕ → State → Type 0
+  Comes b S = After T root L G e₀ Ω N B b S
+
+  -- Whether it has halted.
+  has-halted : {S : State} → Halting S → hasHalted S ≡ true
+  has-halted {S} (halted-done m o e st iv b f) = eq-eqb (S .regs .left) 0 m
+  has-halted {S} (halted-stopped o m n e st b f) = eq-eqb (S .regs .left) 0 m
+
+  goes-on : {S : State} {k : ℕ} {s : CState} {E : Conf} → Standing S k s E → hasHalted S ≡ false
+  goes-on {S} now = ne-eqb (S .regs .left) 0 (λ e. omega (arith, now .common .running))
+
+  -- Its registers fit.
+  halted-fits : {S : State} → Halting S → Fits (length B) (S .regs)
+  halted-fits (halted-done m o e st iv b f) = f
+  halted-fits (halted-stopped o m n e st b f) = f
+
+  number-fits : {c : Dom} {g : Target} {E : Pc} → Points T 0 root L c g E → targetNumber g ≤ code.home
+  number-fits p-home = omega arith
+  number-fits (p-to m i n q l) = omega (arith, says .few m n)
+
+  now-fits : {S : State} {k : ℕ} {s : CState} {E : Conf} → Standing S k s E → Fits (length B) (S .regs)
+  now-fits {S} {s = s} now =
+      fits-in T root L G e₀ Ω N B (S .memory) (S .log) (S .regs) s (now .common .store) (omega (arith, now .pc, number-fits (now .points))) (now .env-fits) (omega (arith, now .room))
+
+  -- As many turns as the measure says are enough, and each leaves registers that fit.
+  pub halts : (n b : ℕ) (S : State) → Comes b S → b ≤ n → Halting (turns n C frame S)
+  unfolding turns
+  halts zero b S (after-halted h) l = h
+  halts zero b S (after-now now m) l = absurd (omega arith)
+  halts (suc n) b S (after-halted h) l = rw (has-halted h) h
+  halts (suc n) b S (after-now {k = k} {s = s} now m) l = rw (goes-on now) (halts n (measure S) (turn C frame S) (turn-now T root L G e₀ Ω N B logged C says S k s now) (omega arith))
+
+  pub all-fit : (n b : ℕ) (S : State) → Comes b S → Fits (length B) (turns n C frame S .regs)
+  unfolding turns
+  all-fit zero b S (after-halted h) = halted-fits h
+  all-fit zero b S (after-now now m) = now-fits now
+  all-fit (suc n) b S (after-halted h) = rw (has-halted h) (halted-fits h)
+  all-fit (suc n) b S (after-now {k = k} {s = s} now m) = rw (goes-on now) (all-fit n (measure S) (turn C frame S) (turn-now T root L G e₀ Ω N B logged C says S k s now))
+
+  module _ (M : Memory) (words : 3905 ≤ length (M .words)) (beside : 513 ≤ length (M .beside)) (g : ℕ) (target : SaysTarget T g root) where
+    -- The tables at the start stand for the calculus's first state.
+    start-store : (pc v : ℕ) → Store T root L B M B (sizes (startRegs pc v N)) fresh
+    unfolding logBytes picked
+    start-store pc v =
+        record {
+          words = words;
+          beside = beside;
+          bindings = refl;
+          bindings-fit = omega arith;
+          pieces = refl;
+          pieces-fit = omega arith;
+          cells = refl;
+          cells-count = refl;
+          cells-fit = omega arith;
+          labels = refl;
+          labels-fit = omega arith;
+          advices = refl;
+          advices-fit = omega arith;
+          are-cells = λ i c e. absurd (Option·none-ne-some _ e);
+          are-advices = none-installed;
+          logged = refl;
+          log-at = refl;
+          log-fits = omega arith;
+        }
+
+    abbrev S₀ : State
+    S₀ = startState C g N M B
+
+    abbrev at : ℕ → ℕ → State
+    at pc v = record { memory = M; log = B; regs = startRegs pc v N }
+
+    no-slots : Slots
+    no-slots i = CVal.unit
+
+    start-common : (pc v : ℕ) → Common T root L G e₀ Ω N B (at pc v) 0 fresh
+    start-common pc v = record { budget = omega arith; running = omega arith; store = start-store pc v }
+
+    -- The root is begun: its value is at hand at once, or its first instruction is to be run.
+    started : Standing S₀ 0 fresh (start e₀)
+    unfolding no-slots
+    started = try (isAtomAt T root) refl (start-good G e₀ Ω)
+      where
+        target-when : (b : Bool) → isAtomAt T root ≡ b → g ≡ choose b root (termCount + T .entry root)
+        target-when b a = rw (← a) (target .0)
+
+        try : (b : Bool) → isAtomAt T root ≡ b → Good G e₀ Ω 0 fresh (choose b (complete (atomOf e₀ empty) (body empty 0) [] no-slots) (begin e₀ (body empty 0) [] no-slots))
+            → Standing S₀ 0 fresh (choose b (complete (atomOf e₀ empty) (body empty 0) [] no-slots) (begin e₀ (body empty 0) [] no-slots))
+        try true a good =
+            let t : isInstruction g ≡ false = lt-leb termCount g (omega (arith, target-when true a, target .1)) in
+            let i : g % termCount ≡ root = omega (arith, target-when true a, target .1) in
+            let v : ℕ = atomValue C M noBinding (codeAt C root) in
+            rw (t, i)
+            (record {
+              common = start-common code.home v;
+              good = good;
+              target = home;
+              pc = refl;
+              points = p-home;
+              env = is-empty;
+              env-fits = omega arith;
+              room = omega arith;
+              ready = atom-is T root L C says M (sizes (startRegs code.home v N)) noBinding empty is-empty (omega arith) root (target .1) a l-root (bound-tm G e₀ Ω 0 fresh e₀ empty [] (reach-start G e₀ Ω));
+              waits = tt;
+              chain = tt;
+            })
+        try false a good =
+            let points = entry-points T 0 root L root [] 0 a l-root in
+            let few : T .entry root < termCount = says .few (T .entry root) (instruction-of T root L points) in
+            let t : isInstruction g ≡ true = le-leb termCount g (omega (arith, target-when false a)) in
+            let i : g % termCount ≡ T .entry root = omega (arith, target-when false a) in
+            let z = sizes (startRegs (T .entry root) 0 N) in
+            rw (t, i)
+            (record {
+              common = start-common (T .entry root) 0;
+              good = good;
+              target = to (T .entry root);
+              pc = refl;
+              points = points;
+              env = is-empty;
+              env-fits = omega arith;
+              room = omega arith;
+              ready = entry-ready (IsVal T root L M z) 0 CVal.unit _ _ e₀ [] a;
+              waits = entry-has T 0 root L (Held T root L M z) no-slots 0 e₀ [] tt;
+              chain = tt;
+            })
+
+    start-left : S₀ .regs .left ≡ N + headroom
+    start-left = try (isInstruction g)
+      where
+        try : (b : Bool) → choose b (startRegs (g % termCount) 0 N) (startRegs code.home (atomValue C M noBinding (codeAt C (g % termCount))) N) .left ≡ N + headroom
+        try true = refl
+        try false = refl
+
+    comes : Comes (turnsFor N) S₀
+    comes = after-now started (omega (arith, start-left, level-bounds (S₀ .regs) (omega (arith, started .room)) .1))
+
+    pub vm-runs : VmEnds T root L (vmRun C frame g N M B) N B (run N G 0 fresh e₀)
+    unfolding vmRun runFrom
+    vm-runs = halted-ends T root L G e₀ Ω N B (vmRun C frame g N M B) (halts (turnsFor N) (turnsFor N) S₀ comes (omega arith))
+
+    pub vm-safe : Safe C frame (turnsFor N) S₀
+    vm-safe = record { fits = λ n. all-fit n (turnsFor N) S₀ comes; halts = has-halted (halts (turnsFor N) (turnsFor N) S₀ comes (omega arith)) }

@@ -1,0 +1,92 @@
+-- Every turn makes what the run makes, and lowers its measure.
+use Prim.Native.Nat.{ℕ, _+_, _≤_, _<_}
+use native.Mathlib.Omega.{arith}
+use mathlib.Core.Path.{_≡_, refl, sym, ap, subst, _∙_}
+use mathlib.Core.Bool.{Bool, true, false, true≢false}
+use mathlib.Core.List.{List, []}
+use lib.ListN.{length, getD}
+use borrow.Author.Tests.{ne-eqb}
+use Rattle.calculus.specs.Combinators.{choose}
+use Rattle.calculus.specs.Syntax.{Dom, Tm, pcd}
+use Rattle.calculus.specs.State.{Given}
+use Rattle.machine.specs.Closure.{CVal, Env, CState}
+use Rattle.machine.specs.Machine.{eval}
+use Rattle.vm_theory.specs.Code.{Instr, Pc, isAtom}
+use Rattle.vm_theory.specs.Conf.{Site, Chain, Slots, Conf}
+use Rattle.vm_theory.specs.Stands.{stackAt}
+use Rattle.vm_theory.specs.Table.{Node, manyN, pcdM, Table, Target, termOf, termsOf, instrOf, isAtomAt, Linked}
+use Rattle.vm_theory.proofs.Sound.{Sound}
+use Rattle.vm_theory.proofs.Located.{Located, Points, p-home, p-to}
+use Rattle.vm_code.specs.Words.{classOf, countOf, termCount}
+use Rattle.vm_code.specs.Words as code
+use Rattle.vm_code.specs.Classes.{pointcut, classWith, pointcutClass}
+use Rattle.vm_code.specs.Says.{targetNumber, Says, says-unit, says-truth, says-number, says-variable, says-function, says-label, says-abort, says-one, says-two, says-pointcut, SaysCode}
+use Rattle.vm_machine.specs.declared.Regs.{Regs}
+use Rattle.vm_machine.specs.Registers.{fullRoom}
+use Rattle.vm_machine.specs.Memory.{noDigits}
+use Rattle.vm_machine.specs.States.{State}
+use Rattle.vm_machine.specs.Fetch.{Program, codeAt}
+use Rattle.vm_machine.specs.Turn.{childAt, labelsFrom, beginLabels, performed, turn}
+use Rattle.vm_refine.proofs.Labels.{digitsOf, no-labels}
+use Rattle.vm_refine.proofs.Now.{Now}
+use Rattle.vm_refine.proofs.Steps.{level, measure, After}
+use Rattle.vm_refine.proofs.Instructions.{turn-by, in-place-of, label-turn, abort-turn, one-turn, two-turn}
+use Rattle.vm_refine.proofs.Labelling.{none-done}
+use Rattle.vm_refine.proofs.Pointcuts.{labels-now}
+use Rattle.vm_refine.proofs.Returns.{return-now}
+
+module _ (T : Table) (root : ℕ) (L : Linked T 0 root) (G : Given) (e₀ : Tm) (Ω : Sound G e₀) (N : ℕ) (B : List ℕ) (logged : G .logLength ≡ length B) (C : Program) (says : SaysCode T (C .image) (C .code))
+    (S : State) (k : ℕ) (s : CState) where
+  abbrev Then : State → Type 0
+  Then S′ = After T root L G e₀ Ω N B (measure S) S′
+
+  abbrev r : Regs
+  r = S .regs
+
+  -- At instruction m of a body.
+  module _ (m : ℕ) (hv : CVal) (P : Site) (A : Chain) (D : Slots) (no-atom : isAtomAt T m ≡ false) (located : Located T 0 root L m (P .skel) (P .dom)) (pc : r .pc ≡ m) where
+    abbrev w : ℕ
+    w = codeAt C m
+
+    abbrev At : Instr → Type 0
+    At i = Now T root L G e₀ Ω N B S k s (record { instr = i; hand = hv; site = P; chain = A; slots = D })
+
+    atom-not : (n : Node) → T .node m ≡ n → isAtom (termOf T n) ≡ true → Then (turn C (G .frame) S)
+    atom-not n q a = absurd (true≢false (sym a ∙ sym (ap isAtom (L .coded m ∙ ap (termOf T) q)) ∙ no-atom))
+
+    -- A pointcut is begun.
+    pointcut-turn : (xs : List ℕ) → T .node m ≡ manyN pcdM xs → classOf w ≡ pointcutClass → countOf w ≡ length xs → length xs ≤ 8 → ((i : ℕ) → i < length xs → childAt C w i ≡ getD xs i 0)
+        → At (instrOf T (manyN pcdM xs)) → Then (turn C (G .frame) S)
+    unfolding performed classWith digitsOf beginLabels
+    pointcut-turn xs n q count few children now =
+        let small : m < termCount = says .few m no-atom in
+        let low : level r ≡ r .room + 1 = ap (λ (b : Bool). choose b (fullRoom + 2) (r .room + 1)) (ne-eqb (r .pc) code.home (λ e. omega (arith, pc))) in
+        rw (turn-by T root L G e₀ Ω N B logged C says S k s m hv P A D no-atom located pc pointcut (ap classWith q) ∙ ap (λ (i : ℕ). labelsFrom C i 0 noDigits S) pc)
+        (labels-now T root L G e₀ Ω N B C says S k s m P A D (in-place-of T root L G e₀ Ω N B logged C says S k s m hv P A D no-atom located pc _ now) pc xs n count few children (measure S) (omega (arith, low))
+        [] (eval (pcd (termsOf T xs)) (P .env)) (stackAt P A D) no-labels (omega arith) none-done (now .good .runs))
+
+    node-now : (n : Node) → T .node m ≡ n → Says T (C .image) w n → At (instrOf T n) → Then (turn C (G .frame) S)
+    node-now n q (says-unit c t) now = atom-not n q refl
+    node-now n q (says-truth c t b) now = atom-not n q refl
+    node-now n q (says-number c t b) now = atom-not n q refl
+    node-now n q (says-variable c h) now = atom-not n q refl
+    node-now n q (says-function c g) now = atom-not n q refl
+    node-now n q (says-label {y = y} c) now =
+        label-turn T root L G e₀ Ω N B logged C says S k s m hv P A D no-atom located pc (in-place-of T root L G e₀ Ω N B logged C says S k s m hv P A D no-atom located pc _ now) y (now .good .runs) c
+    node-now n q (says-abort {y = y} c) now =
+        abort-turn T root L G e₀ Ω N B logged C says S k s m hv P A D no-atom located pc (in-place-of T root L G e₀ Ω N B logged C says S k s m hv P A D no-atom located pc _ now) y (now .good .runs) c
+    node-now n q (says-one {H = H} {x = x} c f h) now = one-turn T root L G e₀ Ω N B logged C says S k s m hv P A D no-atom located pc H x q c f h now
+    node-now n q (says-two {o = o} {y = y} {x = x} {z = z} c f g) now = two-turn T root L G e₀ Ω N B logged C says S k s m hv P A D no-atom located pc o y x z q c f g now
+    node-now n q (says-pointcut {xs = xs} c count few i children) now = pointcut-turn xs q c count few children now
+
+  -- Where the machine stands.
+  points-now : {g : Target} {E : Pc} (hv : CVal) (ρ : Env) (c : Dom) (A : Chain) (D : Slots) → Points T 0 root L c g E → r .pc ≡ targetNumber g
+      → Now T root L G e₀ Ω N B S k s (record { instr = E .0; hand = hv; site = record { skel = E .1; env = ρ; dom = c }; chain = A; slots = D }) → Then (turn C (G .frame) S)
+  points-now hv ρ c A D p-home pc now = return-now T root L G e₀ Ω N B C says S k s hv ρ c A D pc now
+  points-now hv ρ c A D (p-to m i {σ} n q l) pc now =
+      let P : Site = record { skel = σ; env = ρ; dom = c } in
+      node-now m hv P A D n l pc (T .node m) refl (says .node m (says .few m n))
+      (subst (λ (j : Instr). Now T root L G e₀ Ω N B S k s (record { instr = j; hand = hv; site = P; chain = A; slots = D })) q now)
+
+  pub turn-now : {E : Conf} → Now T root L G e₀ Ω N B S k s E → Then (turn C (G .frame) S)
+  turn-now {E} now = points-now (E .hand) (E .site .env) (E .site .dom) (E .chain) (E .slots) (now .points) (now .pc) now

@@ -1,0 +1,30 @@
+-- The tables stand end to end in the work area, each with the room of document 01, "A run", and fill its published length.
+use Prim.Native.Nat.{_+_, _*_}
+use mathlib.Core.Path.{_≡_, refl}
+use Rattle.calculus.specs.Limits.{frameLimit, bindingLimit, cellLimit, adviceLimit, pieceLimit}
+use Rattle.image.specs.Limits.{workLength}
+use Rattle.area.specs.Memory.{wordCount, besideCount, memoryLength}
+use Rattle.vm_machine.specs.Memory.{bindingBase, slotBase, pieceBase, cellBase, installedBase}
+
+-- One slot beyond the limit of frames; two words for a piece.
+pub slots-begin : slotBase ≡ bindingBase + bindingLimit
+slots-begin = refl
+
+pub pieces-begin : pieceBase ≡ slotBase + (frameLimit + 1)
+pieces-begin = refl
+
+pub cells-begin : cellBase ≡ pieceBase + 2 * pieceLimit
+cells-begin = refl
+
+pub installed-begin : installedBase ≡ cellBase + cellLimit
+installed-begin = refl
+
+pub words-end : wordCount ≡ installedBase + adviceLimit
+words-end = refl
+
+-- A byte beside each slot.
+pub bytes-beside : besideCount ≡ frameLimit + 1
+bytes-beside = refl
+
+pub memory-whole : memoryLength ≡ workLength
+memory-whole = refl

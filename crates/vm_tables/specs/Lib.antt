@@ -1,0 +1,2 @@
+-- The machine's tables in the lent work area.
+pub mod View

@@ -1,0 +1,56 @@
+// Sets of labels, a bit each; and labels as digits in base 64 under a leading 1, the latest lowest.
+ghost use mathlib.Core.Path.{_≡_};
+ghost use Prim.Native.Nat.{_<_};
+ghost use Rattle.vm_machine.specs.Memory.{hasBit, withBit, withDigit, digitCount, labelSet};
+
+pub fn has_bit(s: u64, l: u64) -> bool
+    requires { ⌜ l < 64 ⌝ }
+    ensures { λ r. ⌜ r ≡ hasBit s l ⌝ }
+{
+    (s >> l) % 2 == 1
+}
+
+fn with_bit(s: u64, l: u64) -> u64
+    requires { ⌜ l < 64 ⌝ }
+    ensures { λ r. ⌜ r ≡ withBit s l ⌝ }
+{
+    s | (1 << l)
+}
+
+pub fn with_digit(d: u64, l: u64) -> u64
+    requires { ⌜ l < 64 ⌝ }
+    ensures { λ r. ⌜ r ≡ withDigit d l ⌝ }
+{
+    64 * (d % 288230376151711744) + l
+}
+
+// How many digits there are, at most n.
+pub fn digit_count(n: usize, digits: u64) -> usize
+    ensures { λ r. ⌜ r ≡ digitCount n digits ⌝ }
+{
+    let mut d = digits;
+    let mut i: usize = 0;
+    while i < n {
+        if d <= 1 {
+            return i;
+        }
+        d = d / 64;
+        i += 1;
+    }
+    i
+}
+
+// The set of the n lowest.
+pub fn label_set(n: usize, digits: u64) -> u64
+    ensures { λ r. ⌜ r ≡ labelSet n digits 0 ⌝ }
+{
+    let mut d = digits;
+    let mut s: u64 = 0;
+    let mut i: usize = 0;
+    while i < n {
+        s = with_bit(s, d % 64);
+        d = d / 64;
+        i += 1;
+    }
+    s
+}

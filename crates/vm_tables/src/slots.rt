@@ -1,0 +1,156 @@
+// Slots, a word each: env + 2^16 * pc + 2^26 * kind + 2^28 * held. The slot of what is d unfinished terms inside a body is
+// number room - d, with the room of the body. It is the activation frame of a body, or holds the value of an operand that
+// waits, or both: a call's frame leaves the value as it is.
+ghost use mathlib.Core.Path.{_≡_};
+ghost use Prim.Native.Nat.{_+_, _-_, _*_, _/_, _%_, _<_, _≤_};
+ghost use lib.ListN.{length, set};
+ghost use Rattle.area.specs.Memory.{memoryLength};
+ghost use Rattle.vm_machine.specs.Memory.{slotWord, slotEnv, slotPc, slotKind, slotHeld, slotIn, slotAt, putSlot, putWaiting, putReturn, putAdvice, nextBinding, endBinding, putDigits, digitsAt};
+ghost use Rattle.vm_tables.specs.View.{memoryOf, Holds};
+use crate::words::BESIDE;
+use crate::words::SLOTS;
+use crate::words::above;
+use crate::words::put_word;
+use crate::words::word;
+
+const CALL: u64 = 0;
+
+const ADVICE: u64 = 1;
+
+const POINTCUT: u64 = 2;
+
+fn slot_word(kind: u64, pc: usize, env: usize, held: u64) -> u64
+    requires { ⌜ (kind < 3) × (pc ≤ 1024) × (env < 2048) × (held < 68719476736) ⌝ }
+    ensures { λ r. ⌜ r ≡ slotWord kind pc env held ⌝ }
+{
+    (env as u64) + 65536 * (pc as u64) + 67108864 * kind + 268435456 * held
+}
+
+pub fn slot_env(f: u64) -> usize
+    ensures { λ r. ⌜ r ≡ slotEnv f ⌝ }
+{
+    (f % 2048) as usize
+}
+
+pub fn slot_pc(f: u64) -> usize
+    ensures { λ r. ⌜ r ≡ slotPc f ⌝ }
+{
+    (f / 65536 % 1024) as usize
+}
+
+pub fn slot_kind(f: u64) -> u64
+    ensures { λ r. ⌜ r ≡ slotKind f ⌝ }
+{
+    f / 67108864 % 4
+}
+
+fn slot_held(f: u64) -> u64
+    ensures { λ r. ⌜ r ≡ slotHeld f ⌝ }
+{
+    f / 268435456
+}
+
+// The place of a slot. (The base comes first: so no number is too low to take d from.)
+fn slot_in(room: usize, d: usize) -> usize
+    requires { ⌜ (room ≤ 513) × (d ≤ 66) ⌝ }
+    ensures { λ r. ⌜ r ≡ slotIn room d ⌝ }
+{
+    SLOTS + room - d
+}
+
+pub fn slot_at(work: &[u8], room: usize, d: usize) -> u64
+    requires { ⌜ (memoryLength ≤ length (now work)) × (room ≤ 513) × (d ≤ 66) ⌝ }
+    ensures { λ r. ⌜ r ≡ slotAt (memoryOf (now (work .entry))) room d ⌝ }
+{
+    word(work, slot_in(room, d))
+}
+
+fn put_slot(work: &mut [u8], room: usize, d: usize, w: u64)
+    requires { ⌜ (memoryLength ≤ length (now work)) × (room ≤ 513) × (d ≤ 66) ⌝ }
+    ensures { λ _. ⌜ Holds (putSlot room d w (memoryOf (now (work .entry)))) (now (work .entry)) (now (work .exit)) ⌝ }
+{
+    put_word(work, slot_in(room, d), w);
+}
+
+// A value waits there.
+pub fn put_waiting(work: &mut [u8], room: usize, d: usize, v: u64)
+    requires { ⌜ (memoryLength ≤ length (now work)) × (room ≤ 513) × (d ≤ 66) ⌝ }
+    ensures { λ _. ⌜ Holds (putWaiting room d v (memoryOf (now (work .entry)))) (now (work .entry)) (now (work .exit)) ⌝ }
+{
+    put_slot(work, room, d, above(v, 0));
+}
+
+// A call's frame is there: the instruction that called and its environment.
+pub fn put_return(work: &mut [u8], room: usize, d: usize, pc: usize, env: usize)
+    requires { ⌜ (memoryLength ≤ length (now work)) × (room ≤ 513) × (d ≤ 66) × (pc ≤ 1024) × (env < 2048) ⌝ }
+    ensures { λ _. ⌜ Holds (putReturn room d pc env (memoryOf (now (work .entry)))) (now (work .entry)) (now (work .exit)) ⌝ }
+{
+    let held = slot_held(slot_at(work, room, d));
+    put_slot(work, room, d, slot_word(CALL, pc, env, held));
+}
+
+// A mark's frame is there: the mark, its environment, and the bindings that are left.
+pub fn put_advice(
+    work: &mut [u8],
+    room: usize,
+    d: usize,
+    pc: usize,
+    env: usize,
+    next: usize,
+    end: usize,
+)
+    requires { ⌜ (memoryLength ≤ length (now work)) × (room ≤ 513) × (d ≤ 66) × (pc ≤ 1024) × (env < 2048) × (next ≤ 4096) × (end < 4096) ⌝ }
+    ensures { λ _. ⌜ Holds (putAdvice room d pc env next end (memoryOf (now (work .entry)))) (now (work .entry)) (now (work .exit)) ⌝ }
+{
+    let held = (next as u64) + 4096 * (end as u64);
+    put_slot(work, room, d, slot_word(ADVICE, pc, env, held));
+}
+
+pub fn next_binding(f: u64) -> usize
+    ensures { λ r. ⌜ r ≡ nextBinding f ⌝ }
+{
+    (slot_held(f) % 4096) as usize
+}
+
+pub fn end_binding(f: u64) -> usize
+    ensures { λ r. ⌜ r ≡ endBinding f ⌝ }
+{
+    (slot_held(f) / 4096 % 4096) as usize
+}
+
+// The byte beside slot i becomes the digits' high bits.
+fn put_beside(work: &mut [u8], i: usize, digits: u64)
+    requires { ⌜ (memoryLength ≤ length (now work)) × (i < 513) ⌝ }
+    ensures { λ _. ⌜ now (work .exit) ≡ set (now (work .entry)) (31240 + i) (digits / 68719476736 % 256) ⌝ }
+{
+    work[BESIDE + i] = (digits / 68719476736 % 256) as u8;
+}
+
+// A pointcut's frame is there: it, its environment, and the digits of the labels that are done.
+pub fn put_digits(work: &mut [u8], room: usize, d: usize, pc: usize, env: usize, digits: u64)
+    requires { ⌜ (memoryLength ≤ length (now work)) × (room ≤ 513) × (0 < d) × (d ≤ 66) × (d ≤ room) × (pc ≤ 1024) × (env < 2048) ⌝ }
+    ensures { λ _. ⌜ Holds (putDigits room d pc env digits (memoryOf (now (work .entry)))) (now (work .entry)) (now (work .exit)) ⌝ }
+{
+    put_slot(
+        work,
+        room,
+        d,
+        slot_word(POINTCUT, pc, env, digits % 68719476736),
+    );
+    put_beside(work, room - d, digits);
+}
+
+fn join(low: u64, high: u8) -> u64
+    requires { ⌜ low < 68719476736 ⌝ }
+    ensures { λ r. ⌜ r ≡ low + 68719476736 * high ⌝ }
+{
+    low + 68719476736 * (high as u64)
+}
+
+// The digits in the slot of a body with so much room; f is its word.
+pub fn digits_at(work: &[u8], room: usize, f: u64) -> u64
+    requires { ⌜ (memoryLength ≤ length (now work)) × (room < 513) ⌝ }
+    ensures { λ r. ⌜ r ≡ digitsAt (memoryOf (now (work .entry))) room f ⌝ }
+{
+    join(slot_held(f), work[BESIDE + room])
+}

@@ -1,0 +1,22 @@
+use borrow.Author.Needs.{needs}
+use Rattle.vm_words.proofs.value.is_less.Statement.{statement}
+use Rattle.vm_words.proofs.value.is_less.Tie as tie
+
+body-requires : tie.Need-body-requires
+body-requires c κs = search needs
+
+body-requires-2 : tie.Need-body-requires-2
+body-requires-2 c κs = search needs
+
+less-requires : tie.Need-less-requires
+less-requires c κs = search needs
+
+truth-requires : tie.Need-truth-requires
+truth-requires c κs = search needs
+
+returns : tie.Need-returns
+returns c = cc
+
+pub is-less-spec : {M : Type 1} → statement M
+is-less-spec =
+    tie.close (tie.spec body-requires body-requires-2 less-requires truth-requires returns)

@@ -1,0 +1,3 @@
+// An inner crate: the words of code and of values, numbers of 64 bits, and what is read off them.
+pub mod code;
+pub mod value;
