@@ -16,7 +16,7 @@ use Rattle.image.specs.Types.{termPlace, termKind, statedType, others, children
 use Rattle.image.specs.Program.{Program, node, blank, more, subtrees, tree, program, ownDomain, isLow, lowBody, blanked, blankeds}
 use Rattle.image.proofs.Laid.{Below, Good}
 use Rattle.image.proofs.Bodies.{Owner, body-owner}
-use Rattle.rows.proofs.Fields.{type-domain}
+use Rattle.image.proofs.TypeDomains.{type-domain}
 use Rattle.report.specs.Fits.{shortSize, byField}
 
 pub small-field : (high : Dom → Bool) (d : Dom) → d < domainLimit → byField high d ≡ high d

@@ -1,9 +1,9 @@
 -- What the run of an accepted image leaves, from what the machine, the report and the clearing leave.
-use Prim.Native.Nat.{ℕ, _+_, _-_, _*_, _%_, _≤_, _<_}
+use Prim.Native.Nat.{ℕ, _+_, _*_, _%_, _≤_, _<_}
 use native.Mathlib.Omega.{arith}
-use mathlib.Core.Path.{_≡_, sym, ap, ap₂, subst, _∙_}
+use mathlib.Core.Path.{_≡_, sym, ap, ap₂, _∙_}
 use mathlib.Core.List.{List, _++_}
-use lib.ListN.{length, drop, replicate}
+use lib.ListN.{length, replicate}
 use Rattle.image.specs.declared.Refusal.{Refusal}
 use Rattle.image.specs.Refusals.{refusalNumber}
 use Rattle.image.specs.Limits.{workLength}
@@ -16,20 +16,22 @@ use Rattle.rules.proofs.Located.{good-of}
 use Rattle.area.specs.Bytes.{over, cleared}
 use Rattle.area.specs.Memory.{wordCount}
 use Rattle.area.proofs.Memory.{length-words, length-beside}
-use Rattle.flat.specs.declared.Regs.{Regs}
-use Rattle.flat.specs.Memory.{Memory}
-use Rattle.flat.specs.States.{State}
-use Rattle.flat.specs.FlatRun.{flatRun}
-use Rattle.rows.specs.RowsOf.{rowsOf}
-use Rattle.rows.specs.TermAt.{AreBytes}
-use Rattle.tables.specs.View.{memoryOf}
-use Rattle.operands.specs.Phases.{Moved}
+use Rattle.vm_code.specs.Words.{home}
+use Rattle.vm_code.specs.Code.{codeOf, rootTarget}
+use Rattle.vm_machine.specs.declared.Regs.{Regs}
+use Rattle.vm_machine.specs.Memory.{Memory}
+use Rattle.vm_machine.specs.States.{State}
+use Rattle.vm_machine.specs.Run.{startState, turnsFor, vmRun}
+use Rattle.vm_machine.specs.Fits.{Safe}
+use Rattle.vm_linked.specs.TableOf.{AreBytes}
+use Rattle.vm_tables.specs.View.{memoryOf}
+use Rattle.vm_states.specs.Phases.{Moved}
 use Rattle.calls.specs.declared.Answer.{Answer}
 use Rattle.calls.specs.Runs.{Accepts, runOf}
 use Rattle.calls.specs.Calls.{leftBy, verdictAsNumber, callNumber}
 use Rattle.results.specs.Ended.{reportIn, answerIn}
-use Rattle.agreement.specs.Machine.{SameRows, LeavesRun}
-use Rattle.agreement.proofs.Machine.{padded-rows}
+use Rattle.agreement.specs.Machine.{LeavesRun}
+use Rattle.agreement.proofs.Machine.{image-fits, image-safe}
 use Rattle.agreement.proofs.Tables.{image-leaves}
 
 -- The keys are those of the image's types, which are at most 128.
@@ -43,29 +45,35 @@ few-types b ds ts ks n T e = let f = good-of b (T .laid-out) .few-types in omega
 pub some-term : (b : List ℕ) (count : ℕ) → Accepts b → count ≡ length (recordsOf b .terms) → 0 < count
 some-term b count A e = let h = passed-iff b (A .work) (A .report) .0 (A .verdict-is) .shaped .has-terms in omega arith
 
--- A table of rows that was zero.
-pub rows-read : (rows b : List ℕ) (count : ℕ) → rows ≡ rowsOf (recordsOf b) ++ drop count (replicate 1024 0) → count ≡ length (recordsOf b .terms) → SameRows rows b
-rows-read rows b count e n = padded-rows rows b (e ∙ ap (λ k. rowsOf (recordsOf b) ++ drop k (replicate 1024 0)) n)
-
-module _ (b frame : List ℕ) (A : Accepts b) (bytes : AreBytes b) (frame-bytes : AreBytes frame) (budget : ℕ) (log rows work : List ℕ) (same : SameRows rows b) (enough : workLength ≤ length work)
-    (count : ℕ) (terms : count ≡ length (recordsOf b .terms)) where
+-- The code of an accepted image is run from its root's target; M is what the tables hold at the start.
+module _ (b frame : List ℕ) (A : Accepts b) (bytes : AreBytes b) (budget : ℕ) (log code work : List ℕ) (target : ℕ) (same : code ≡ codeOf (recordsOf b)) (root : target ≡ rootTarget (recordsOf b))
+    (enough : workLength ≤ length work) where
   abbrev M : Memory
   M = memoryOf work
 
-  -- The root is the last term.
   abbrev S : State
-  S = flatRun (record { rows = rows; image = b }) frame (count - 1) budget M log
+  S = vmRun (record { code = code; image = b }) frame target budget M log
+
+  -- The tables are long enough.
+  words : 3905 ≤ length (M .words)
+  words = omega (arith, length-words wordCount work)
+
+  beside : 513 ≤ length (M .beside)
+  beside = omega (arith, length-beside work enough)
+
+  -- The code has the word that goes back to a caller; and the run is safe.
+  pub code-long : home < length code
+  code-long = rw same (image-fits b A bytes .long)
+
+  pub run-safe : Safe (record { code = code; image = b }) frame (turnsFor budget) (startState (record { code = code; image = b }) target budget M log)
+  run-safe = rw (same, root) (image-safe b A bytes frame budget log M words beside)
 
   pub leaves-run : LeavesRun S budget log (runOf b frame budget log)
-  leaves-run =
-      let w : 3905 ≤ length (M .words) = omega (arith, length-words wordCount work) in
-      let e : 513 ≤ length (M .beside) = omega (arith, length-beside work enough) in
-      subst (λ (r : ℕ). LeavesRun (flatRun (record { rows = rows; image = b }) frame r budget M log) budget log (runOf b frame budget log)) (ap (λ n. n - 1) (sym terms))
-      (image-leaves b A bytes frame frame-bytes budget log rows same M w e)
+  leaves-run = rw (same, root) (image-leaves b A bytes frame budget log M words beside)
 
   -- What the report asks of the registers.
-  pub report-asks : (q : Regs) → q ≡ S .regs → (q .nc ≤ 256) × (q .left ≤ budget) × (16 ≤ q .mode) × (q .mode ≤ 25)
-  report-asks q e = rw e (leaves-run .cells, leaves-run .left, leaves-run .halted, leaves-run .outcomes)
+  pub report-asks : (q : Regs) → q ≡ S .regs → (q .pools .cells ≤ 256) × (q .rest ≤ budget)
+  report-asks q e = rw e (leaves-run .cells, leaves-run .rest)
 
   pub run-left : (work′ work″ log′ report report′ : List ℕ) (q : Regs) (a : Answer) → Moved S work work′ log′ q → a ≡ answerIn (memoryOf work′) q budget
       → report′ ≡ over 0 (reportIn (memoryOf work′) q budget) report → work″ ≡ cleared workLength work′ → record { answer = a; log = log′; report = report′; work = work″ } ≡ leftBy (runOf b frame budget log) log report work

@@ -9,6 +9,7 @@ pub mod Counts
 pub mod TermFields
 pub mod Offsets
 pub mod TypeNumbers
+pub mod TypeDomains
 pub mod Fuel
 pub mod LaidOut
 pub mod Blanked

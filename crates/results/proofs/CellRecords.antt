@@ -18,7 +18,7 @@ use Rattle.report.specs.Records.{recordsBytes}
 use Rattle.report.specs.Written.{leavesIn, cellRecord, cellBytes, cellsBytes}
 use Rattle.report.specs.Fits.{FewLeaves}
 use Rattle.report.proofs.Lengths.{records-last, held-short}
-use Rattle.flat.specs.Memory.{Memory, cellAt, cellNote}
+use Rattle.vm_machine.specs.Memory.{Memory, cellAt, cellNote}
 use Rattle.results.specs.declared.Gathered.{Gathered}
 use Rattle.results.specs.Gathered.{gathered}
 use Rattle.results.specs.Ended.{plainLeavesIn, cellIn, cellsFrom}

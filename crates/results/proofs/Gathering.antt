@@ -7,19 +7,26 @@ use mathlib.Core.List.{List, [], _∷_, _++_, map, map-append, append-nil}
 use lib.ListN.{length, set, take, replicate, length-append, length-map, length-take}
 use lib.Seq.{take-all, take-append-le, append-snoc}
 use lib.Dec.{eqb, ltb}
-use borrow.Author.Tests.{lt-ltb, le-ltb, ltb-true, ltb-false, ne-eqb}
+use borrow.Author.Tests.{lt-ltb, le-ltb, ltb-true, ltb-false, eq-eqb, ne-eqb}
 use Rattle.calculus.specs.declared.Leaf.{Leaf}
 use Rattle.calculus.specs.Combinators.{choose}
 use Rattle.report.specs.Written.{leavesIn}
-use Rattle.flat.specs.Values.{tagOf, bodyOf, pairTag}
-use Rattle.values.proofs.Chosen.{tagged-yes, tagged-no}
-use Rattle.flat.specs.Memory.{Memory, pieceFirst, pieceSecond, pieceOf}
-use Rattle.flat.specs.Leaves.{leafOf, oneLeaf, leavesOf}
+use Rattle.vm_code.specs.Values.{tagOf, bodyOf, pairTag}
+use Rattle.vm_machine.specs.Memory.{Memory, pieceFirst, pieceSecond, pieceOf}
+use Rattle.vm_machine.specs.Leaves.{leafOf, oneLeaf, leavesOf}
 use Rattle.calls.specs.Calls.{slotOf, slotsOf}
 use Rattle.calls.proofs.Slots.{leaves-back}
 use Rattle.results.specs.declared.Gathered.{Gathered}
 use Rattle.results.specs.Gathered.{withLeaf, withLeaves, gathered}
 use Rattle.results.specs.Ended.{plainLeavesIn}
+
+-- A word by its tag t.
+module _ {A : Type 0} (tag v t : ℕ) (a b : A) (e : t ≡ tagOf v) where
+  tagged-yes : t ≡ tag → choose (eqb (tagOf v) tag) a b ≡ a
+  tagged-yes h = ap (λ (x : Bool). choose x a b) (eq-eqb (tagOf v) tag (sym e ∙ h))
+
+  tagged-no : (t ≡ tag → ⊥) → choose (eqb (tagOf v) tag) a b ≡ b
+  tagged-no h = ap (λ (x : Bool). choose x a b) (ne-eqb (tagOf v) tag (λ q. h (e ∙ q)))
 
 -- Leaves end to end.
 with-append : (g : Gathered) (x y : List Leaf) → withLeaves g (x ++ y) ≡ withLeaves (withLeaves g x) y

@@ -5,7 +5,6 @@ use mathlib.Core.Path.{_≡_, refl, sym, ap, _∙_}
 use mathlib.Core.Bool.{Bool, true, false}
 use mathlib.Core.List.{List, [], _∷_, _++_, append-nil}
 use lib.ListN.{length, length-append}
-use lib.Dec.{eqb}
 use borrow.Author.Tests.{eq-eqb, ne-eqb}
 use Rattle.calculus.specs.declared.Outcome.{Outcome}
 use Rattle.calculus.specs.declared.Leaf.{Leaf}
@@ -18,30 +17,30 @@ use Rattle.report.specs.declared.Ending.{Ending}
 use Rattle.report.specs.Records.{recordsBytes}
 use Rattle.report.specs.Written.{leavesIn, leafBytes, leavesBytes, cellsBytes, headBytes, reportBytes}
 use Rattle.report.proofs.Lengths.{leaves-short, length-parts}
-use Rattle.flat.specs.declared.Regs.{Regs}
-use Rattle.flat.specs.Memory.{Memory}
-use Rattle.flat.specs.Values.{tagOf}
-use Rattle.flat.specs.Leaves.{leafOf}
+use Rattle.vm_machine.specs.declared.Regs.{Regs}
+use Rattle.vm_machine.specs.Memory.{Memory}
+use Rattle.vm_code.specs.Values.{tagOf}
+use Rattle.vm_machine.specs.Leaves.{leafOf}
 use Rattle.calls.specs.declared.Answer.{Answer}
 use Rattle.calls.specs.Calls.{slotsOf}
 use Rattle.results.specs.declared.Gathered.{Gathered}
 use Rattle.results.specs.Gathered.{gathered}
-use Rattle.results.specs.Ended.{haltedWith, plainLeavesIn, resultIn, cellsIn, reportIn, answerIn}
+use Rattle.results.specs.Ended.{haltedWith, isDone, plainLeavesIn, resultIn, cellsIn, reportIn, answerIn}
 use Rattle.results.proofs.Gathering.{gathered-leaves, plain-few, plain-one}
 
--- The result's leaves, by the mode.
-pub done-leaves : (M : Memory) (mode w : ℕ) → mode ≡ 16 → plainLeavesIn M w ≡ choose (eqb mode 16) (plainLeavesIn M w) []
-done-leaves M mode w h = rw (eq-eqb mode 16 h)
+-- The result's leaves, by the outcome's number n.
+pub done-leaves : (M : Memory) (n w : ℕ) → n ≡ 0 → plainLeavesIn M w ≡ choose (isDone n) (plainLeavesIn M w) []
+done-leaves M n w h = rw (eq-eqb n 0 h)
 
-pub other-leaves : (M : Memory) (mode w : ℕ) → (mode ≡ 16 → ⊥) → [] ≡ choose (eqb mode 16) (plainLeavesIn M w) []
-other-leaves M mode w h = ap (λ b. choose b (plainLeavesIn M w) []) (sym (ne-eqb mode 16 h))
+pub other-leaves : (M : Memory) (n w : ℕ) → (n ≡ 0 → ⊥) → [] ≡ choose (isDone n) (plainLeavesIn M w) []
+other-leaves M n w h = ap (λ b. choose b (plainLeavesIn M w) []) (sym (ne-eqb n 0 h))
 
 few-of : (M : Memory) (w : ℕ) (b : Bool) → length (choose b (plainLeavesIn M w) []) ≤ 8
 few-of M w true = plain-few M w
 few-of M w false = omega arith
 
 pub result-few : (M : Memory) (r : Regs) → length (resultIn M r) ≤ 8
-result-few M r = few-of M (r .c) (eqb (r .mode) 16)
+result-few M r = few-of M (r .hand) (isDone (r .outcome))
 
 -- Head, leaves and cells end to end.
 report-written : (xs : List ℕ) (o k : ℕ) (ls : List Leaf) (cs : List CellReport) (j end : ℕ) {ys zs ws : List ℕ}
@@ -56,23 +55,23 @@ report-written xs o k ls cs j end {ys} {zs} {ws} a b i d m h =
 
 module _ (M : Memory) (r : Regs) (g : Gathered) (e : g ≡ gathered (resultIn M r)) where
   -- The report that the parts make, and its answer.
-  pub reported : (budget : ℕ) (xs : List ℕ) (o : Outcome) (j end : ℕ) {ys zs ws : List ℕ} → o ≡ haltedWith r → ys ≡ over 0 (headBytes (outcomeNumber o) (budget - r .left)) xs
+  pub reported : (budget : ℕ) (xs : List ℕ) (o : Outcome) (j end : ℕ) {ys zs ws : List ℕ} → o ≡ haltedWith r → ys ≡ over 0 (headBytes (outcomeNumber o) (budget - r .rest)) xs
       → (j ≡ 10 + length (leavesBytes (leavesIn (g .count) (g .slots)))) × (zs ≡ over 10 (leavesBytes (leavesIn (g .count) (g .slots))) ys)
-      → (end ≡ j + length (cellsBytes (cellsIn M r))) × (ws ≡ over j (cellsBytes (cellsIn M r)) zs) × (end ≤ j + 70 * r .nc) → r .nc ≤ 256 → 17994 ≤ length xs
-      → _≡_ {A = Answer} (record { verdict = Verdict.Accepted; ending = Ending.Ended o; steps = budget - r .left; log = r .at; report = end; count = g .count; leaves = g .slots }) (answerIn M r budget)
+      → (end ≡ j + length (cellsBytes (cellsIn M r))) × (ws ≡ over j (cellsBytes (cellsIn M r)) zs) × (end ≤ j + 70 * r .pools .cells) → r .pools .cells ≤ 256 → 17994 ≤ length xs
+      → _≡_ {A = Answer} (record { verdict = Verdict.Accepted; ending = Ending.Ended o; steps = budget - r .rest; log = r .logged; report = end; count = g .count; leaves = g .slots }) (answerIn M r budget)
       × (ws ≡ over 0 (reportIn M r budget) xs)
   reported budget xs o j end {ys} h a b d n k =
       let l = gathered-leaves (resultIn M r) e (result-few M r) in
       let f = result-few M r in
       let m = leaves-short (resultIn M r) in
       let i : j ≡ 10 + length (leavesBytes (resultIn M r)) = b .0 ∙ ap (λ x. 10 + length (leavesBytes x)) l in
-      let w = report-written xs (outcomeNumber (haltedWith r)) (budget - r .left) (resultIn M r) (cellsIn M r) j end (a ∙ ap (λ x. over 0 (headBytes (outcomeNumber x) (budget - r .left)) xs) h) (b .1 ∙ ap (λ x. over 10 (leavesBytes x) ys) l) i (d .1) (d .0) (omega (arith, d .2)) in
+      let w = report-written xs (outcomeNumber (haltedWith r)) (budget - r .rest) (resultIn M r) (cellsIn M r) j end (a ∙ ap (λ x. over 0 (headBytes (outcomeNumber x) (budget - r .rest)) xs) h) (b .1 ∙ ap (λ x. over 10 (leavesBytes x) ys) l) i (d .1) (d .0) (omega (arith, d .2)) in
       (rw (h, w .0, e), w .1)
 
 -- A result that is one leaf l, gathered: t is the tag of its word.
-module _ (M : Memory) (r : Regs) (t : ℕ) (e : t ≡ tagOf (r .c)) (small : t ≤ 2) (done : r .mode ≡ 16) (l : Leaf) (q : l ≡ leafOf (r .c)) where
+module _ (M : Memory) (r : Regs) (t : ℕ) (e : t ≡ tagOf (r .hand)) (small : t ≤ 2) (done : r .outcome ≡ 0) (l : Leaf) (q : l ≡ leafOf (r .hand)) where
   pub one-gathered : record { count = 1; slots = slotsOf (l ∷ []) } ≡ gathered (resultIn M r)
-  one-gathered = ap (λ x. gathered (x ∷ [])) q ∙ ap gathered (sym (sym (done-leaves M (r .mode) (r .c) done) ∙ plain-one (r .c) t e M small))
+  one-gathered = ap (λ x. gathered (x ∷ [])) q ∙ ap gathered (sym (sym (done-leaves M (r .outcome) (r .hand) done) ∙ plain-one (r .hand) t e M small))
 
   pub done-ended : Outcome.Done ≡ haltedWith r
   done-ended = rw done

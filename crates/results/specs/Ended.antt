@@ -1,5 +1,6 @@
 -- What the machine's registers and tables say of a run that ended (document 01, "A run"): outcome, steps, the result's leaves, and each cell.
 use Prim.Native.Nat.{ℕ, zero, suc, _-_, _%_}
+use mathlib.Core.Bool.{Bool}
 use mathlib.Core.List.{List, [], _∷_}
 use mathlib.Core.Option.{none, some}
 use lib.ListN.{length, take}
@@ -12,10 +13,9 @@ use Rattle.calculus.specs.Report.{outcomeNumber, CellReport}
 use Rattle.verdicts.specs.declared.Verdict.{Verdict}
 use Rattle.report.specs.declared.Ending.{Ending}
 use Rattle.report.specs.Written.{reportBytes}
-use Rattle.flat.specs.declared.Regs.{Regs}
-use Rattle.flat.specs.Registers.{haltedMode}
-use Rattle.flat.specs.Memory.{Memory, cellAt, cellNote}
-use Rattle.flat.specs.Leaves.{leavesOf}
+use Rattle.vm_machine.specs.declared.Regs.{Regs}
+use Rattle.vm_machine.specs.Memory.{Memory, cellAt, cellNote}
+use Rattle.vm_machine.specs.Leaves.{leavesOf}
 use Rattle.calls.specs.declared.Answer.{Answer}
 use Rattle.calls.specs.Calls.{slotsOf}
 
@@ -32,9 +32,12 @@ outcomeWith n =
     (choose (eqb n 7) Outcome.Advice
     (choose (eqb n 8) Outcome.Pieces Outcome.Log))))))))
 
--- How a machine halted.
+-- How a machine halted, and whether it is done.
 abbrev pub haltedWith : Regs → Outcome
-haltedWith r = outcomeWith (r .mode - haltedMode)
+haltedWith r = outcomeWith (r .outcome)
+
+abbrev pub isDone : ℕ → Bool
+isDone n = eqb n (outcomeNumber Outcome.Done)
 
 -- The leaves of a value: at most eight, of pairs at most eight deep.
 abbrev pub plainLeavesIn : Memory → ℕ → List Leaf
@@ -42,7 +45,7 @@ plainLeavesIn M w = take leafLimit (leavesOf M leafLimit w)
 
 -- The result's leaves, if the run is done.
 abbrev pub resultIn : Memory → Regs → List Leaf
-resultIn M r = choose (eqb (r .mode) haltedMode) (plainLeavesIn M (r .c)) []
+resultIn M r = choose (isDone (r .outcome)) (plainLeavesIn M (r .hand)) []
 
 -- Cell i. Its note is its domain, and 16 more where it is plain.
 abbrev pub cellIn : Memory → ℕ → CellReport
@@ -56,19 +59,19 @@ cellsFrom M zero i = []
 cellsFrom M (suc n) i = cellIn M i ∷ cellsFrom M n (suc i)
 
 abbrev pub cellsIn : Memory → Regs → List CellReport
-cellsIn M r = cellsFrom M (r .nc) 0
+cellsIn M r = cellsFrom M (r .pools .cells) 0
 
 -- The report of a run with a budget.
 abbrev pub reportIn : Memory → Regs → ℕ → List ℕ
-reportIn M r budget = reportBytes (outcomeNumber (haltedWith r)) (budget - r .left) (resultIn M r) (cellsIn M r)
+reportIn M r budget = reportBytes (outcomeNumber (haltedWith r)) (budget - r .rest) (resultIn M r) (cellsIn M r)
 
 abbrev pub answerIn : Memory → Regs → ℕ → Answer
 answerIn M r budget =
     record {
       verdict = Verdict.Accepted;
       ending = Ending.Ended (haltedWith r);
-      steps = budget - r .left;
-      log = r .at;
+      steps = budget - r .rest;
+      log = r .logged;
       report = length (reportIn M r budget);
       count = length (resultIn M r);
       leaves = slotsOf (resultIn M r);

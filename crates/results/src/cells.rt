@@ -2,15 +2,15 @@
 use crate::leaves::plain_leaves;
 use report::cells::put_other_cell;
 use report::cells::put_plain_cell;
-use tables::cells::cell_at;
-use tables::cells::cell_note;
+use vm_tables::cells::cell_at;
+use vm_tables::cells::cell_note;
 ghost use mathlib.Core.Path.{_≡_};
 ghost use Prim.Native.Nat.{_+_, _*_, _<_, _≤_};
 ghost use lib.ListN.{length};
 ghost use Rattle.area.specs.Bytes.{over};
 ghost use Rattle.area.specs.Memory.{memoryLength};
 ghost use Rattle.report.specs.Written.{cellBytes, cellsBytes};
-ghost use Rattle.tables.specs.View.{memoryOf};
+ghost use Rattle.vm_tables.specs.View.{memoryOf};
 ghost use Rattle.results.specs.Ended.{cellIn, cellsFrom};
 
 // Cell i; answers the offset past it. A plain cell's note is 16 or more.

@@ -2,18 +2,24 @@
 use crate::Gathered;
 use calculus::Leaf;
 use report::Slot;
-use tables::pieces::piece_first;
-use tables::pieces::piece_of;
-use tables::pieces::piece_second;
+use vm_tables::pieces::piece_first;
+use vm_tables::pieces::piece_of;
+use vm_tables::pieces::piece_second;
+use vm_words::value::PAIR;
+use vm_words::value::body;
+use vm_words::value::tag;
 ghost use mathlib.Core.Path.{_≡_};
 ghost use mathlib.Core.List.{[]};
 ghost use Prim.Native.Nat.{_≤_};
 ghost use lib.ListN.{length};
 ghost use Rattle.area.specs.Memory.{memoryLength};
-ghost use Rattle.flat.specs.Leaves.{leafOf, oneLeaf, leavesOf};
-ghost use Rattle.tables.specs.View.{memoryOf};
+ghost use Rattle.vm_machine.specs.Leaves.{leafOf, oneLeaf, leavesOf};
+ghost use Rattle.vm_tables.specs.View.{memoryOf};
 ghost use Rattle.results.specs.Gathered.{withLeaf, withLeaves, gathered};
 ghost use Rattle.results.specs.Ended.{plainLeavesIn};
+
+// The highest tag of a leaf.
+pub const NUMBER: u64 = 2;
 
 pub fn no_leaves() -> Gathered
     ensures { λ r. ⌜ r ≡ gathered [] ⌝ }
@@ -44,10 +50,10 @@ fn with_leaf(held: Gathered, leaf: Leaf) -> Gathered
 pub fn leaf_of(w: u64) -> Leaf
     ensures { λ r. ⌜ r ≡ leafOf w ⌝ }
 {
-    match values::tag(w) {
+    match tag(w) {
         0 => Leaf::Unit,
-        1 => Leaf::Truth(values::body(w) != 0),
-        _ => Leaf::Number(values::body(w) as u32),
+        1 => Leaf::Truth(body(w) != 0),
+        _ => Leaf::Number(body(w) as u32),
     }
 }
 
@@ -55,7 +61,7 @@ pub fn leaf_of(w: u64) -> Leaf
 fn with_word(held: Gathered, w: u64) -> Gathered
     ensures { λ r. ⌜ r ≡ withLeaves held (oneLeaf w) ⌝ }
 {
-    if values::NUMBER < values::tag(w) {
+    if NUMBER < tag(w) {
         return held;
     }
     with_leaf(held, leaf_of(w))
@@ -66,7 +72,7 @@ fn gather(work: &[u8], depth: usize, w: u64, held: Gathered) -> Gathered
     requires { ⌜ memoryLength ≤ length (now work) ⌝ }
     ensures { λ r. ⌜ r ≡ withLeaves held (leavesOf (memoryOf (now (work .entry))) depth w) ⌝ }
 {
-    if values::tag(w) != values::PAIR {
+    if tag(w) != PAIR {
         return with_word(held, w);
     }
     if depth == 0 {
@@ -84,7 +90,7 @@ pub fn plain_leaves(work: &[u8], w: u64) -> Gathered
     requires { ⌜ memoryLength ≤ length (now work) ⌝ }
     ensures { λ r. ⌜ r ≡ gathered (plainLeavesIn (memoryOf (now (work .entry))) w) ⌝ }
 {
-    if values::tag(w) != values::PAIR {
+    if tag(w) != PAIR {
         return with_word(no_leaves(), w);
     }
     gather(work, 8, w, no_leaves())

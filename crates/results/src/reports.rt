@@ -1,38 +1,36 @@
 // The answer and the report.
 use crate::Gathered;
 use crate::cells::put_cells;
+use crate::leaves::NUMBER;
 use crate::leaves::leaf_of;
 use crate::leaves::no_leaves;
 use crate::leaves::plain_leaves;
 use calculus::Leaf;
 use calculus::Outcome;
 use calls::Answer;
-use flat::Regs;
 use report::Ending;
 use report::Slot;
 use report::fixed::put_head;
 use report::leaves::put_leaf;
 use report::leaves::put_leaves;
-use values::NUMBER;
-use values::tag;
 use verdicts::Verdict;
+use vm_machine::Regs;
+use vm_words::value::tag;
 ghost use mathlib.Core.Path.{_≡_};
 ghost use mathlib.Core.List.{[]};
 ghost use Prim.Native.Nat.{_≤_};
 ghost use lib.ListN.{length};
-ghost use lib.Dec.{eqb};
 ghost use Rattle.calculus.specs.Combinators.{choose};
 ghost use Rattle.image.specs.Limits.{reportLength};
 ghost use Rattle.area.specs.Bytes.{over};
 ghost use Rattle.area.specs.Memory.{memoryLength};
-ghost use Rattle.flat.specs.Registers.{haltedMode};
-ghost use Rattle.flat.specs.Values.{tagOf, numberTag};
-ghost use Rattle.tables.specs.View.{memoryOf};
+ghost use Rattle.vm_code.specs.Values.{tagOf, numberTag};
+ghost use Rattle.vm_tables.specs.View.{memoryOf};
 ghost use Rattle.results.specs.Gathered.{gathered};
-ghost use Rattle.results.specs.Ended.{outcomeWith, plainLeavesIn, reportIn, answerIn};
+ghost use Rattle.results.specs.Ended.{outcomeWith, isDone, plainLeavesIn, reportIn, answerIn};
 
-// The mode of a machine that is done; the other outcomes' modes come after it.
-const HALTED: u32 = 16;
+// The outcome's number of a machine that is done.
+const DONE: u32 = 0;
 
 // The outcome with a number.
 fn outcome_with(n: u32) -> Outcome
@@ -53,12 +51,12 @@ fn outcome_with(n: u32) -> Outcome
 }
 
 // The result's leaves, if the run is done.
-fn result_leaves(work: &[u8], mode: u32, c: u64) -> Gathered
+fn result_leaves(work: &[u8], outcome: u32, hand: u64) -> Gathered
     requires { ⌜ memoryLength ≤ length (now work) ⌝ }
-    ensures { λ r. ⌜ r ≡ gathered (choose (eqb mode haltedMode) (plainLeavesIn (memoryOf (now (work .entry))) c) []) ⌝ }
+    ensures { λ r. ⌜ r ≡ gathered (choose (isDone outcome) (plainLeavesIn (memoryOf (now (work .entry))) hand) []) ⌝ }
 {
-    if mode == HALTED {
-        return plain_leaves(work, c);
+    if outcome == DONE {
+        return plain_leaves(work, hand);
     }
     no_leaves()
 }
@@ -67,14 +65,14 @@ fn result_leaves(work: &[u8], mode: u32, c: u64) -> Gathered
 // its record: one that is stored in a slot and read back at once makes the processor wait. The slots are only for the
 // answer.
 fn put_one_leaf(report: &mut [u8], work: &[u8], r: Regs, budget: u32) -> Answer
-    requires { ⌜ (memoryLength ≤ length (now work)) × (reportLength ≤ length (now report)) × (r .nc ≤ 256) × (r .left ≤ budget) × (r .mode ≡ haltedMode) × (tagOf (r .c) ≤ numberTag) ⌝ }
+    requires { ⌜ (memoryLength ≤ length (now work)) × (reportLength ≤ length (now report)) × (r .pools .cells ≤ 256) × (r .rest ≤ budget) × (r .outcome ≡ 0) × (tagOf (r .hand) ≤ numberTag) ⌝ }
     ensures { λ a. ⌜ (a ≡ answerIn (memoryOf (now (work .entry))) r budget) × (now (report .exit) ≡ over 0 (reportIn (memoryOf (now (work .entry))) r budget) (now (report .entry))) ⌝ }
 {
-    let steps = budget - r.left;
+    let steps = budget - (r.rest as u32);
     put_head(report, Outcome::Done, steps);
-    let leaf = leaf_of(r.c);
+    let leaf = leaf_of(r.hand);
     let at = put_leaf(report, 10, leaf);
-    let end = put_cells(report, at, work, r.nc);
+    let end = put_cells(report, at, work, r.pools.cells);
     let unit = Slot { leaf: Leaf::Unit };
     let mut slots = [unit; 8];
     slots[0] = Slot { leaf: leaf };
@@ -83,7 +81,7 @@ fn put_one_leaf(report: &mut [u8], work: &[u8], r: Regs, budget: u32) -> Answer
         verdict: Verdict::Accepted,
         ending: ending,
         steps: steps,
-        log: r.at,
+        log: r.logged,
         report: end,
         count: 1,
         leaves: slots,
@@ -92,28 +90,28 @@ fn put_one_leaf(report: &mut [u8], work: &[u8], r: Regs, budget: u32) -> Answer
 
 // The report of a machine that halted, and its answer. Most results are one leaf.
 pub fn put_report(report: &mut [u8], work: &[u8], r: Regs, budget: u32) -> Answer
-    requires { ⌜ (memoryLength ≤ length (now work)) × (reportLength ≤ length (now report)) × (r .nc ≤ 256) × (r .left ≤ budget) × (16 ≤ r .mode) × (r .mode ≤ 25) ⌝ }
+    requires { ⌜ (memoryLength ≤ length (now work)) × (reportLength ≤ length (now report)) × (r .pools .cells ≤ 256) × (r .rest ≤ budget) ⌝ }
     ensures { λ a. ⌜ (a ≡ answerIn (memoryOf (now (work .entry))) r budget) × (now (report .exit) ≡ over 0 (reportIn (memoryOf (now (work .entry))) r budget) (now (report .entry))) ⌝ }
 {
-    if r.mode == HALTED {
-        if tag(r.c) <= NUMBER {
+    if r.outcome == DONE {
+        if tag(r.hand) <= NUMBER {
             return put_one_leaf(report, work, r, budget);
         }
     }
-    let outcome = outcome_with(r.mode - HALTED);
-    let steps = budget - r.left;
+    let outcome = outcome_with(r.outcome);
+    let steps = budget - (r.rest as u32);
     put_head(report, outcome, steps);
-    let g = result_leaves(work, r.mode, r.c);
+    let g = result_leaves(work, r.outcome, r.hand);
     let count = g.count;
     let slots = g.slots;
     let at = put_leaves(report, 10, slots, count);
-    let end = put_cells(report, at, work, r.nc);
+    let end = put_cells(report, at, work, r.pools.cells);
     let ending = Ending::Ended(outcome);
     Answer {
         verdict: Verdict::Accepted,
         ending: ending,
         steps: steps,
-        log: r.at,
+        log: r.logged,
         report: end,
         count: count,
         leaves: slots,

@@ -1,6 +1,6 @@
 use native.Mathlib.Omega.{arith}
 use denote.Ref.{now}
-use Rattle.tables.specs.View.{memoryOf}
+use Rattle.vm_tables.specs.View.{memoryOf}
 use Rattle.results.specs.Ended.{plainLeavesIn}
 use Rattle.results.proofs.Gathering.{gathered-few, plain-few}
 use Rattle.results.proofs.CellRecords.{cell-written, other-cell, plain-cell}

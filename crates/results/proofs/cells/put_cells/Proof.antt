@@ -5,7 +5,7 @@ use mathlib.Core.Path.{_≡_, refl, _∙_}
 use lib.ListN.{length}
 use Rattle.area.specs.Bytes.{over}
 use Rattle.report.specs.Written.{cellsBytes}
-use Rattle.tables.specs.View.{memoryOf}
+use Rattle.vm_tables.specs.View.{memoryOf}
 use Rattle.results.specs.Ended.{cellsFrom}
 use Rattle.results.proofs.CellRecords.{no-cells, cells-step}
 use borrow.Author.Needs.{needs}

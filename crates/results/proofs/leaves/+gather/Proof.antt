@@ -6,16 +6,16 @@ use Rattle.results.proofs.leaves.gather.Reads as gather
 use Rattle.results.proofs.leaves.gather.Kinds as gather-kinds
 use Rattle.results.proofs.leaves.+gather.Lts-gather as gather-lts
 use Rattle.results.proofs.leaves.with_word.Reads as with-word-reads
-use Rattle.tables.proofs.pieces.piece_first.Reads as piece-first-reads
-use Rattle.tables.proofs.pieces.piece_of.Reads as piece-of-reads
-use Rattle.tables.proofs.pieces.piece_second.Reads as piece-second-reads
-use Rattle.values.proofs.tag.Reads as tag-reads
+use Rattle.vm_tables.proofs.pieces.piece_first.Reads as piece-first-reads
+use Rattle.vm_tables.proofs.pieces.piece_of.Reads as piece-of-reads
+use Rattle.vm_tables.proofs.pieces.piece_second.Reads as piece-second-reads
+use Rattle.vm_words.proofs.value.tag.Reads as tag-reads
 use Rattle.results.proofs.leaves.+gather.{statement}
 use Rattle.results.proofs.leaves.+gather.Tie.{close}
 use denote.Ref.{now}
 use native.Mathlib.Omega.{arith}
 use mathlib.Core.Path.{sym, _∙_}
-use Rattle.tables.specs.View.{memoryOf}
+use Rattle.vm_tables.specs.View.{memoryOf}
 use Rattle.results.proofs.Gathering.{leaves-word, leaves-deep, leaves-pair}
 
 abbrev μ-gather : Measures 1 gather-kinds.ps ℕ

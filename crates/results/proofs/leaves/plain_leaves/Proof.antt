@@ -1,6 +1,6 @@
 use denote.Ref.{now}
 use mathlib.Core.Path.{sym, _∙_}
-use Rattle.tables.specs.View.{memoryOf}
+use Rattle.vm_tables.specs.View.{memoryOf}
 use Rattle.results.proofs.Gathering.{leaves-word, from-none}
 use borrow.Author.Needs.{needs}
 use Rattle.results.proofs.leaves.plain_leaves.Statement.{statement}

@@ -1,12 +1,15 @@
 use native.Mathlib.Omega.{arith}
 use denote.Ref.{now}
 use Rattle.report.proofs.Lengths.{leaf-short}
-use Rattle.tables.specs.View.{memoryOf}
+use Rattle.vm_tables.specs.View.{memoryOf}
 use Rattle.results.proofs.WholeReport.{one-gathered, done-ended, one-leaf-bytes, reported}
 use mathlib.Core.Path.{refl}
 use borrow.Author.Needs.{needs}
 use Rattle.results.proofs.reports.put_one_leaf.Statement.{statement}
 use Rattle.results.proofs.reports.put_one_leaf.Tie as tie
+
+cast-steps : tie.Need-cast-steps
+cast-steps c = search needs
 
 sub-steps : tie.Need-sub-steps
 sub-steps c = search needs
@@ -22,10 +25,11 @@ put-leaf-requires c κs = search needs
 
 put-cells-requires : tie.Need-put-cells-requires
 put-cells-requires c κs =
-    let s = c .before .before .before .before .before .before .before .before .before .before .before .before .before in
-    let w = c .before .before .before .put-leaf in
-    let n = leaf-short (c .before .before .before .before .before .leaf-of .result) in
-    (s .pre .0, s .pre .2, omega (arith, w .ensures .0, w .kept .0, c .before .before .before .before .before .before .before .before .put-head .kept .0))
+    let l = c .before .before .before .before .before in
+    let h = l .before .before .before in
+    let s = h .before .before .before .before .before in
+    let n = leaf-short (l .leaf-of .result) in
+    (s .pre .0, s .pre .2, omega (arith, c .before .before .before .put-leaf .ensures .0, c .before .before .before .put-leaf .kept .0, h .put-head .kept .0))
 
 array-set-from-slots : tie.Need-array-set-from-slots
 array-set-from-slots c = search needs
@@ -35,18 +39,21 @@ same-length c = search needs
 
 returns : tie.Need-returns
 returns c =
-    let s = c .before .before .before .before .before .before .before .before .before .before .before .before .before .before .before .before in
+    let p = c .before .before .before .before .before .before in
+    let l = p .before .before in
+    let h = l .before .before .before in
+    let s = h .before .before .before .before .before in
     let a = s .args in
     let M = memoryOf (now (a .work)) in
-    let l = c .before .before .before .before .before .before .before .before .leaf-of in
-    let h = c .before .before .before .before .before .before .before .before .before .before .before .put-head in
-    reported M (a .r) _ (one-gathered M (a .r) _ refl (s .pre .5) (s .pre .4) (l .result) (l .ensures)) (a .budget) (now (a .report)) _ _ _
-    (done-ended M (a .r) _ refl (s .pre .5) (s .pre .4) (l .result) (l .ensures)) (h .ensures) (one-leaf-bytes (l .result) _ 10 (c .before .before .before .before .before .before .put-leaf .ensures)) (c .before .before .put-cells .ensures) (s .pre .2) (s .pre .1)
+    let f = l .leaf-of in
+    reported M (a .r) _ (one-gathered M (a .r) _ refl (s .pre .5) (s .pre .4) (f .result) (f .ensures)) (a .budget) (now (a .report)) _ _ _
+    (done-ended M (a .r) _ refl (s .pre .5) (s .pre .4) (f .result) (f .ensures)) (h .put-head .ensures) (one-leaf-bytes (f .result) _ 10 (p .put-leaf .ensures)) (c .before .before .put-cells .ensures) (s .pre .2) (s .pre .1)
 
 pub put-one-leaf-spec : {M : Type 1} → statement M
 put-one-leaf-spec =
     tie.close
     (tie.spec
+    cast-steps
     sub-steps
     put-head-requires
     leaf-of-requires

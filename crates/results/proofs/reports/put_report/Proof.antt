@@ -1,7 +1,7 @@
 use native.Mathlib.Omega.{arith}
 use denote.Ref.{now}
 use Rattle.report.proofs.Lengths.{slots-short}
-use Rattle.tables.specs.View.{memoryOf}
+use Rattle.vm_tables.specs.View.{memoryOf}
 use Rattle.results.specs.Ended.{resultIn}
 use Rattle.results.proofs.Gathering.{gathered-few}
 use Rattle.results.proofs.WholeReport.{result-few, reported}
@@ -24,11 +24,11 @@ same-length c = search needs
 returns : tie.Need-returns
 returns c = c .before .before .put-one-leaf .ensures
 
-sub-outcome-with : tie.Need-sub-outcome-with
-sub-outcome-with c = search needs
-
 outcome-with-requires : tie.Need-outcome-with-requires
 outcome-with-requires c κs = search needs
+
+cast-steps : tie.Need-cast-steps
+cast-steps c = search needs
 
 sub-steps : tie.Need-sub-steps
 sub-steps c = search needs
@@ -41,31 +41,40 @@ result-leaves-requires c κs = search needs
 
 put-leaves-requires : tie.Need-put-leaves-requires
 put-leaves-requires c κs =
-    let a = c .before .before .before .before .before .before .before .before .before .before .before .before .before .before .args in
+    let g = c .before .before in
+    let h = g .before .before .before in
+    let s = h .before .before .before .before .before .before .before .before in
+    let a = s .args in
     let M = memoryOf (now (a .work)) in
-    let n = gathered-few (resultIn M (a .r)) (c .before .before .result-leaves .ensures) (result-few M (a .r)) in
-    let k = c .before .before .before .before .before .put-head .kept in
-    (n, omega arith)
+    let n = gathered-few (resultIn M (a .r)) (g .result-leaves .ensures) (result-few M (a .r)) in
+    (n, omega (arith, n, s .pre .1, h .put-head .kept .0))
 
 put-cells-requires : tie.Need-put-cells-requires
 put-cells-requires c κs =
-    let s = c .before .before .before .before .before .before .before .before .before .before .before .before .before .before .before .before .before .before in
+    let l = c .before .before .before in
+    let g = l .before .before .before in
+    let h = g .before .before .before in
+    let s = h .before .before .before .before .before .before .before .before in
     let a = s .args in
-    let g = c .before .before .before .before .before .before .result-leaves in
+    let r = g .result-leaves in
     let M = memoryOf (now (a .work)) in
-    let n = gathered-few (resultIn M (a .r)) (g .ensures) (result-few M (a .r)) in
-    let k = c .before .before .before .before .before .before .before .before .before .put-head .kept in
-    let m = slots-short (g .result .count) (g .result .slots) in
-    (s .pre .0, s .pre .2, omega (arith, c .before .before .before .put-leaves .ensures .0))
+    let n = gathered-few (resultIn M (a .r)) (r .ensures) (result-few M (a .r)) in
+    let m = slots-short (r .result .count) (r .result .slots) in
+    (s .pre .0, s .pre .2, omega (arith, l .put-leaves .ensures .0, h .put-head .kept .0))
 
 same-length-2 : tie.Need-same-length-2
 same-length-2 c = search needs
 
 returns-2 : tie.Need-returns-2
 returns-2 c =
-    let s = c .before .before .before .before .before .before .before .before .before .before .before .before .before .before .before .before .before .before .before .before .before in
+    let d = c .before .before in
+    let l = d .before .before .before .before in
+    let g = l .before .before .before in
+    let h = g .before .before .before in
+    let o = h .before .before .before in
+    let s = o .before .before .before .before .before in
     let a = s .args in
-    reported (memoryOf (now (a .work))) (a .r) _ (c .before .before .before .before .before .before .before .before .before .result-leaves .ensures) (a .budget) (now (a .report)) (c .before .before .before .before .before .before .before .before .before .before .before .before .before .before .before .outcome-with .result) _ _ (c .before .before .before .before .before .before .before .before .before .before .before .before .before .before .before .outcome-with .ensures) (c .before .before .before .before .before .before .before .before .before .before .before .before .put-head .ensures) (c .before .before .before .before .before .before .put-leaves .ensures) (c .before .before .put-cells .ensures) (s .pre .2) (s .pre .1)
+    reported (memoryOf (now (a .work))) (a .r) _ (g .result-leaves .ensures) (a .budget) (now (a .report)) (o .outcome-with .result) _ _ (o .outcome-with .ensures) (h .put-head .ensures) (l .put-leaves .ensures) (d .put-cells .ensures) (s .pre .2) (s .pre .1)
 
 pub put-report-spec : {M : Type 1} → statement M
 put-report-spec =
@@ -75,8 +84,8 @@ put-report-spec =
     put-one-leaf-requires
     same-length
     returns
-    sub-outcome-with
     outcome-with-requires
+    cast-steps
     sub-steps
     put-head-requires
     result-leaves-requires

@@ -1,6 +1,6 @@
 use denote.Ref.{now}
 use mathlib.Core.Path.{ap, _∙_}
-use Rattle.tables.specs.View.{memoryOf}
+use Rattle.vm_tables.specs.View.{memoryOf}
 use Rattle.results.specs.Gathered.{gathered}
 use Rattle.results.proofs.WholeReport.{done-leaves, other-leaves}
 use borrow.Author.Needs.{needs}
@@ -11,13 +11,13 @@ plain-leaves-requires : tie.Need-plain-leaves-requires
 plain-leaves-requires c κs = search needs
 
 returns : tie.Need-returns
-returns c = let a = c .before .before .before .args in c .plain-leaves .ensures ∙ ap gathered (done-leaves (memoryOf (now (a .work))) (a .mode) (a .c) (c .before .if1 .taken))
+returns c = let a = c .before .before .before .args in c .plain-leaves .ensures ∙ ap gathered (done-leaves (memoryOf (now (a .work))) (a .outcome) (a .hand) (c .before .if1 .taken))
 
 no-leaves-requires : tie.Need-no-leaves-requires
 no-leaves-requires c κs = search needs
 
 returns-2 : tie.Need-returns-2
-returns-2 c = let a = c .before .before .before .args in c .no-leaves .ensures ∙ ap gathered (other-leaves (memoryOf (now (a .work))) (a .mode) (a .c) (c .before .if1 .left))
+returns-2 c = let a = c .before .before .before .args in c .no-leaves .ensures ∙ ap gathered (other-leaves (memoryOf (now (a .work))) (a .outcome) (a .hand) (c .before .if1 .left))
 
 pub result-leaves-spec : {M : Type 1} → statement M
 result-leaves-spec =

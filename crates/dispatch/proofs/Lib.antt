@@ -1,2 +1,0 @@
--- The reduction of each kind.
-pub mod ByKind

@@ -1,2 +1,0 @@
--- The parts of what a turn begins with.
-pub mod Parts

@@ -1,2 +1,0 @@
--- Laws of marks, and the proofs of the functions.
-pub mod Marked

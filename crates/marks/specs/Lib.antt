@@ -1,2 +1,0 @@
--- What the binding of matching advice promises.
-pub mod Binds

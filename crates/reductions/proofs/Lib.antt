@@ -1,2 +1,0 @@
--- Laws of reductions, and the proofs of the functions.
-pub mod Reduced

@@ -1,4 +1,0 @@
--- Laws of the tables in the work area, and the proofs of the functions.
-pub mod Stored
-pub mod Found
-pub mod Sizes

@@ -1,2 +1,0 @@
--- The machine's tables as they lie in the lent work area.
-pub mod View

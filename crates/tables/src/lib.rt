@@ -1,6 +1,0 @@
-// An inner crate: the machine's tables in the lent work area.
-pub mod bindings;
-pub mod cells;
-pub mod frames;
-pub mod pieces;
-pub mod words;

@@ -1,3 +1,0 @@
--- Turns, one after another.
-pub mod Turned
-pub mod Repeated

@@ -1,0 +1,3 @@
+-- Laws of steps, and the proofs of the functions.
+pub mod Judged
+pub mod RareSteps

@@ -1,0 +1,54 @@
+use native.Mathlib.Omega.{arith}
+use denote.Ref.{now}
+use mathlib.Core.Path.{refl, ap}
+use Prim.Native.Nat.{_+_}
+use Rattle.vm_machine.specs.Registers.{setEnv, setRoom}
+use Rattle.vm_acts.proofs.Judged.{returned-made, returned-room}
+use borrow.Author.Needs.{needs}
+use Rattle.vm_acts.proofs.ends.returned.Statement.{statement}
+use Rattle.vm_acts.proofs.ends.returned.Tie as tie
+
+slot-pc-requires : tie.Need-slot-pc-requires
+slot-pc-requires c κs = search needs
+
+mul-w : tie.Need-mul-w
+mul-w c = search needs
+
+shared-slice-read-w : tie.Need-shared-slice-read-w
+shared-slice-read-w c = search needs
+
+same-requires : tie.Need-same-requires
+same-requires c κs = search needs
+
+slot-env-requires : tie.Need-slot-env-requires
+slot-env-requires c κs = search needs
+
+depth-of-requires : tie.Need-depth-of-requires
+depth-of-requires c κs = search needs
+
+add-q : tie.Need-add-q
+add-q c = search needs
+
+completed-requires : tie.Need-completed-requires
+completed-requires c κs = let s = c .before .before .before .before .before .before .before .before .before in (search needs, returned-room (now (s .args .code)) (s .args .f) _ _ (s .args .r .room) (c .before .before .before .before .before .before .slot-pc .ensures) (c .before .before .depth-of .ensures) (s .pre .2))
+
+same-length : tie.Need-same-length
+same-length c = search needs
+
+returns : tie.Need-returns
+returns c = let a = c .before .before .before .before .before .before .before .before .before .before .before .before .args in λ image. returned-made (record { code = now (a .code); image = image }) (a .f) _ _ (a .r) _ _ _ _ _ _ (c .before .before .before .before .before .before .before .before .before .slot-pc .ensures) refl (c .before .before .before .before .before .depth-of .ensures) (c .before .before .before .before .before .before .slot-env .ensures) (ap (setEnv (c .before .before .before .before .before .before .slot-env .result)) (ap (setRoom (a .r .room + c .before .before .before .before .before .depth-of .result)) (c .before .before .before .before .before .before .before .same .ensures))) (c .before .before .completed .ensures)
+
+pub returned-spec : {M : Type 1} → statement M
+returned-spec =
+    tie.close
+    (tie.spec
+    slot-pc-requires
+    mul-w
+    shared-slice-read-w
+    same-requires
+    slot-env-requires
+    depth-of-requires
+    add-q
+    completed-requires
+    same-length
+    returns)

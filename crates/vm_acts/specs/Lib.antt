@@ -1,0 +1,2 @@
+-- The rarer steps.
+pub mod Rare

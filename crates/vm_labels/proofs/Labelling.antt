@@ -1,0 +1,187 @@
+-- A pointcut is begun or resumed, by the tests that lead there.
+use Prim.Native.Nat.{ℕ, zero, suc, _+_, _-_, _/_, _%_, _≤_, _<_}
+use native.Mathlib.Omega.{arith}
+use mathlib.Core.Path.{_≡_, refl, sym, ap, ap₂, subst, _∙_}
+use mathlib.Core.Bool.{Bool, true, false, not, false≢true}
+use mathlib.Core.List.{List}
+use lib.Dec.{eqb, leb, ltb}
+use borrow.Author.Tests.{le-leb, lt-leb, not-true, not-false}
+use Rattle.calculus.specs.declared.Outcome.{Outcome}
+use Rattle.calculus.specs.Combinators.{choose}
+use Rattle.calculus.specs.Limits.{pieceLimit}
+use Rattle.vm_code.specs.Values.{pointcutTag, bodyOf}
+use Rattle.vm_code.specs.Words.{classOf, depthOf, countOf, termCount, home}
+use Rattle.vm_code.specs.Classes.{pointcutClass}
+use Rattle.vm_machine.specs.declared.Regs.{Regs}
+use Rattle.vm_machine.specs.Registers.{headroom, fullRoom, setPc, setEnv, setRoom, halt, stuck}
+use Rattle.vm_machine.specs.Memory.{Memory, slotPc, slotEnv, digitsAt, digitCount, noDigits, withDigit, labelSet, putDigits}
+use Rattle.vm_machine.specs.States.{State, withRegs, lacking, judged}
+use Rattle.vm_machine.specs.Fetch.{Program, codeAt}
+use Rattle.vm_machine.specs.Reduce.{newPiece}
+use Rattle.vm_machine.specs.Turn.{Taken, childAt, entryFrom, takeLabels, labelsFrom, beginLabels, resumeLabels}
+use Rattle.vm_tables.specs.View.{memoryOf, Holds}
+use Rattle.vm_tables.proofs.Chosen.{chosen-yes, chosen-no}
+use Rattle.vm_states.specs.Phases.{stateOf, Moved, Phase}
+use Rattle.vm_states.proofs.Made.{as-phase, stored-made, regs-made}
+use Rattle.vm_labels.specs.declared.Part.{Part}
+use Rattle.vm_labels.specs.Parts.{RoomAfter, childBegun, begunPart, partOf, isStrange, labelled}
+
+-- There are at most n of n digits.
+pub few-digits : (n d : ℕ) → digitCount n d ≤ n
+unfolding digitCount
+few-digits zero d = omega arith
+few-digits (suc n) d = try (leb d noDigits) (few-digits n (d / 64))
+  where
+    try : (b : Bool) → digitCount n (d / 64) ≤ n → choose b 0 (suc (digitCount n (d / 64))) ≤ suc n
+    try true h = omega arith
+    try false h = omega arith
+
+-- The instruction with word w makes its step f, or a limit is met first.
+module _ (f : State → State) (a b : List ℕ) (r q : Regs) (w : ℕ) where
+  abbrev ruled : State → State
+  ruled S = judged w S (f S)
+
+  pub judged-spent : r .left ≤ headroom → q ≡ halt Outcome.Spent r → Phase ruled a a r q
+  judged-spent h e = regs-made ruled a r q (halt Outcome.Spent r) (λ log. sym (chosen-yes _ _ _ (le-leb (r .left) headroom h))) e
+
+  module _ (h : headroom < r .left) where
+    some-left : (log : List ℕ) → ruled (stateOf a log r) ≡ choose (leb (r .room) (depthOf w)) (withRegs (halt Outcome.Frames r) (stateOf a log r)) (f (stateOf a log r))
+    some-left log = chosen-no _ _ _ (lt-leb (r .left) headroom h)
+
+    pub judged-frames : (d : ℕ) → d ≡ depthOf w → r .room ≤ d → q ≡ halt Outcome.Frames r → Phase ruled a a r q
+    judged-frames d k l e =
+        regs-made ruled a r q (halt Outcome.Frames r) (λ log. sym (some-left log ∙ chosen-yes _ _ _ (le-leb (r .room) (depthOf w) (omega arith)))) e
+
+    pub judged-made : (d : ℕ) → d ≡ depthOf w → d < r .room → Phase f a b r q → Phase ruled a b r q
+    judged-made d k l p =
+        as-phase f ruled a b r q (λ log. sym (some-left log ∙ chosen-no _ _ _ (lt-leb (r .room) (depthOf w) (omega arith)))) p
+
+-- The pointcut with word w and n children is made; s is the set of its labels.
+pub pointcut-as : (a b : List ℕ) (r q : Regs) (w n s digits : ℕ) → n ≡ countOf w → s ≡ labelSet n digits 0 → Phase (newPiece w pointcutTag 0 s) a b r q
+    → Phase (newPiece w pointcutTag 0 (labelSet (countOf w) digits 0)) a b r q
+pointcut-as a b r q w n s digits e d p = subst (λ (x : ℕ). Phase (newPiece w pointcutTag 0 x) a b r q) (d ∙ ap (λ i. labelSet i digits 0) e) p
+
+-- A pointcut that is made, or not, leaves the room as it is.
+room-of : (b : Bool) (S T : State) (n : ℕ) → S .regs .room ≡ n → T .regs .room ≡ n → choose b S T .regs .room ≡ n
+room-of true S T n d e = d
+room-of false S T n d e = e
+
+pub made-room : (w s : ℕ) (S : State) → judged w S (newPiece w pointcutTag 0 s S) .regs .room ≡ S .regs .room
+made-room w s S =
+    room-of (leb (S .regs .left) headroom) _ _ (S .regs .room) refl
+    (room-of (leb (S .regs .room) (depthOf w)) _ _ (S .regs .room) refl (room-of (ltb (S .regs .pools .pieces) pieceLimit) _ _ (S .regs .room) refl refl))
+
+-- A child is begun under d unfinished terms: m is the room of its body.
+pub child-made : (C : Program) (a b : List ℕ) (r s : Regs) (w m d x e : ℕ) (k : Taken) → s ≡ r → d ≡ depthOf w → m ≡ r .room - (d + 1) → d + 1 < r .room → x ≡ childAt C w (k .count) → e ≡ entryFrom termCount C x
+    → Holds (putDigits (m + 1) 1 (r .pc) (r .env) (k .digits) (memoryOf a)) a b → Phase (childBegun C (r .pc) w k) a b r (setPc e (setRoom m s))
+child-made C a b r s w m d x e k same depth room h child entry held =
+    let M : Memory = memoryOf a in
+    let i : 2048 + (m + 1) - 1 ≡ 2048 + r .room - (depthOf w + 1) = omega arith in
+    let j : m + 1 - 1 ≡ r .room - (depthOf w + 1) = omega arith in
+    let n : m ≡ r .room - (depthOf w + 1) = omega arith in
+    let f : Regs → ℕ → ℕ → Regs = λ p y z. setPc z (setRoom y p) in
+    stored-made (childBegun C (r .pc) w k) (putDigits (r .room) (depthOf w + 1) (r .pc) (r .env) (k .digits) M) a b r (setPc e (setRoom m s))
+    (setPc (entryFrom termCount C (childAt C w (k .count))) (setRoom (r .room - (depthOf w + 1)) r)) (λ log. refl)
+    (ap (λ p. f p m e) same ∙ ap₂ (f r) n (entry ∙ ap (entryFrom termCount C) child)) (rw (i, j) at held)
+
+-- The children of pointcut t, from child i on: those that are atoms are taken, k.
+module _ (C : Program) (a b : List ℕ) (r q : Regs) (t i d : ℕ) (k : Taken) (taken : k ≡ takeLabels C (memoryOf a) (r .env) (codeAt C t) (countOf (codeAt C t) - i) i d) (n : ℕ)
+    (count : n ≡ countOf (codeAt C t)) where
+  abbrev w : ℕ
+  w = codeAt C t
+
+  abbrev make : State → State
+  make S = judged w S (newPiece w pointcutTag 0 (labelSet (countOf w) (k .digits) 0) S)
+
+  abbrev by : Taken → State → State
+  by x S =
+      choose (leb (countOf w) (x .count)) (judged w S (newPiece w pointcutTag 0 (labelSet (countOf w) (x .digits) 0) S))
+      (choose (leb (S .regs .room) (depthOf w + 1)) (withRegs (lacking (S .regs)) S) (childBegun C t w x S))
+
+  known : (log : List ℕ) → by k (stateOf a log r) ≡ labelsFrom C t i d (stateOf a log r)
+  known log = ap (λ x. by x (stateOf a log r)) taken
+
+  all-by : n ≤ k .count → (log : List ℕ) → make (stateOf a log r) ≡ labelsFrom C t i d (stateOf a log r)
+  all-by h log = sym (chosen-yes _ _ _ (le-leb (countOf w) (k .count) (omega arith))) ∙ known log
+
+  pub all-done : n ≤ k .count → Phase make a b r q → Phase (labelsFrom C t i d) a b r q
+  all-done h p = as-phase make (labelsFrom C t i d) a b r q (all-by h) p
+
+  -- Then the room is that after them.
+  pub all-room : n ≤ k .count → (log : List ℕ) → labelsFrom C t i d (stateOf a log r) .regs .room ≤ fullRoom → r .room ≤ fullRoom
+  all-room h log l =
+      let e : labelsFrom C t i d (stateOf a log r) .regs .room ≡ r .room = ap (λ S. S .regs .room) (sym (all-by h log)) ∙ made-room w _ (stateOf a log r) in
+      rw e at l
+
+  module _ (more : k .count < n) (m : ℕ) (depth : m ≡ depthOf w) where
+    more-by : (log : List ℕ) → choose (leb (r .room) (depthOf w + 1)) (withRegs (lacking r) (stateOf a log r)) (childBegun C t w k (stateOf a log r)) ≡ labelsFrom C t i d (stateOf a log r)
+    more-by log = sym (chosen-no _ _ _ (lt-leb (countOf w) (k .count) (omega arith))) ∙ known log
+
+    pub no-room : r .room ≤ m + 1 → q ≡ lacking r → Phase (labelsFrom C t i d) a a r q
+    no-room h e = regs-made (labelsFrom C t i d) a r q (lacking r) (λ log. (sym (chosen-yes _ _ _ (le-leb (r .room) (depthOf w + 1) (omega arith))) ∙ more-by log)) e
+
+    pub one-begun : m + 1 < r .room → Phase (childBegun C t w k) a b r q → Phase (labelsFrom C t i d) a b r q
+    one-begun h p = as-phase (childBegun C t w k) (labelsFrom C t i d) a b r q (λ log. (sym (chosen-no _ _ _ (lt-leb (r .room) (depthOf w + 1) (omega arith))) ∙ more-by log)) p
+
+-- Where its children go on.
+pub resumed-part : (C : Program) (M : Memory) (resumed : Bool) (f : ℕ) (r : Regs) (pc env d n x y m : ℕ) → resumed ≡ true → pc ≡ slotPc f → env ≡ slotEnv f → d ≡ digitsAt M (r .room) f → n ≡ digitCount 8 d
+    → x ≡ bodyOf (r .hand) → y ≡ withDigit d (x % 64) → m ≡ depthOf (codeAt C pc) → record { pc = pc; env = env; room = r .room + (m + 1); done = record { count = n + 1; digits = y } } ≡ partOf C M resumed f r
+resumed-part C M resumed f r pc env d n x y m t a b e g h i j = rw (t, j, i, h, g, e, b, a)
+
+pub begun-part : (C : Program) (M : Memory) (resumed : Bool) (f : ℕ) (r : Regs) → resumed ≡ false → begunPart r ≡ partOf C M resumed f r
+begun-part C M resumed f r t = rw t
+
+module _ (C : Program) (M : Memory) (f : ℕ) (r : Regs) (p : Part) where
+  pub part-pc : (resumed : Bool) → p ≡ partOf C M resumed f r → r .pc ≤ home → p .pc ≤ home
+  part-pc true e h = rw e (omega arith)
+  part-pc false e h = rw e h
+
+  pub part-env : (resumed : Bool) → p ≡ partOf C M resumed f r → r .env < 2048 → p .env < 2048
+  part-env true e h = rw e (omega arith)
+  part-env false e h = rw e h
+
+  pub part-room : (resumed : Bool) → p ≡ partOf C M resumed f r → r .room ≤ fullRoom → (resumed ≡ true → r .room < fullRoom) → p .room ≤ fullRoom + depthOf (codeAt C (p .pc))
+  part-room true e h k = let l = k refl in rw e (omega arith)
+  part-room false e h k = rw e (omega arith)
+
+pub strange-as : (resumed : Bool) (w k : ℕ) → resumed ≡ true → k ≡ classOf w → not (eqb k pointcutClass) ≡ isStrange resumed w
+strange-as resumed w k t e = rw (t, e)
+
+-- What is resumed is a pointcut, or not.
+module _ (C : Program) (a b : List ℕ) (r q : Regs) (f : ℕ) (p : Part) where
+  -- The registers where its children go on.
+  abbrev moved : Regs → Regs
+  moved s = setPc (p .pc) (setEnv (p .env) (setRoom (p .room) s))
+
+  abbrev onward : State → State
+  onward = labelsFrom C (p .pc) (p .done .count) (p .done .digits)
+
+  resumed-class : (x : Bool) → p ≡ partOf C (memoryOf a) true f r → isStrange true (codeAt C (p .pc)) ≡ x → not (eqb (classOf (codeAt C (slotPc f))) pointcutClass) ≡ x
+  resumed-class x e n = ap (λ (y : Part). not (eqb (classOf (codeAt C (y .pc))) pointcutClass)) (sym e) ∙ n
+
+  by-part : (y : Part) → p ≡ y → (log : List ℕ) → onward (stateOf a log (moved r)) ≡ labelsFrom C (y .pc) (y .done .count) (y .done .digits) (stateOf a log (setPc (y .pc) (setEnv (y .env) (setRoom (y .room) r))))
+  by-part y e log = ap (λ (x : Part). labelsFrom C (x .pc) (x .done .count) (x .done .digits) (stateOf a log (setPc (x .pc) (setEnv (x .env) (setRoom (x .room) r))))) e
+
+  on-by : (resumed : Bool) → p ≡ partOf C (memoryOf a) resumed f r → isStrange resumed (codeAt C (p .pc)) ≡ false → (log : List ℕ) → onward (stateOf a log (moved r)) ≡ labelled C resumed f (stateOf a log r)
+  unfolding beginLabels resumeLabels
+  on-by true e n log =
+      let t : eqb (classOf (codeAt C (slotPc f))) pointcutClass ≡ true = not-false _ (resumed-class false e n) in
+      by-part (partOf C (memoryOf a) true f r) e log ∙ sym (chosen-yes _ _ (withRegs (stuck r) (stateOf a log r)) t)
+  on-by false e n log = by-part (partOf C (memoryOf a) false f r) e log
+
+  module _ (resumed : Bool) (part : p ≡ partOf C (memoryOf a) resumed f r) (s : Regs) (same : s ≡ r) (n : isStrange resumed (codeAt C (p .pc)) ≡ false) where
+    pub labelled-on : Phase onward a b (moved s) q → Phase (labelled C resumed f) a b r q
+    labelled-on h =
+        let k : Phase onward a b (moved r) q = subst (λ (x : Regs). Phase onward a b (moved x) q) same h in
+        record { moved = λ log. subst (λ (S : State). Moved S a b log q) (on-by resumed part n log) (k .moved log) }
+
+    pub room-on : RoomAfter (labelled C resumed f) a r → RoomAfter onward a (moved s)
+    room-on h =
+        subst (λ (x : Regs). RoomAfter onward a (moved x)) (sym same) (h .0, subst (λ (S : State). S .regs .room ≤ fullRoom) (sym (on-by resumed part n (h .0))) (h .1))
+
+  pub strange-stuck : (resumed : Bool) → p ≡ partOf C (memoryOf a) resumed f r → isStrange resumed (codeAt C (p .pc)) ≡ true → q ≡ stuck r → Phase (labelled C resumed f) a a r q
+  unfolding resumeLabels
+  strange-stuck true e n h =
+      let t : eqb (classOf (codeAt C (slotPc f))) pointcutClass ≡ false = not-true _ (resumed-class true e n) in
+      regs-made (labelled C true f) a r q (stuck r) (λ log. rw t) h
+  strange-stuck false e n h = absurd (false≢true n)

@@ -1,0 +1,73 @@
+use Rattle.vm_labels.proofs.Labelling.{part-pc, part-env, part-room, labelled-on, room-on, strange-stuck}
+use denote.Ref.{now}
+use native.Mathlib.Omega.{arith}
+use mathlib.Core.Path.{sym, _∙_}
+use Rattle.vm_tables.specs.View.{memoryOf}
+use borrow.Author.Needs.{needs}
+use Rattle.vm_labels.proofs.labels.labels.Statement.{statement}
+use Rattle.vm_labels.proofs.labels.labels.Tie as tie
+
+part-of-requires : tie.Need-part-of-requires
+part-of-requires c κs = search needs
+
+mul-is-strange : tie.Need-mul-is-strange
+mul-is-strange c = let s = c .before .before .before .before .before in let a = s .args in let h = part-pc (record { code = now (a .code); image = now (a .image) }) (memoryOf (now (a .work))) (a .f) (a .r) _ (a .resumed) (c .part-of .ensures (now (a .image))) (s .pre .2) in omega (arith, h)
+
+shared-slice-read-is-strange : tie.Need-shared-slice-read-is-strange
+shared-slice-read-is-strange c = let s = c .before .before .before .before .before .before in let a = s .args in let h = part-pc (record { code = now (a .code); image = now (a .image) }) (memoryOf (now (a .work))) (a .f) (a .r) _ (a .resumed) (c .before .part-of .ensures (now (a .image))) (s .pre .2) in omega (arith, h, s .pre .0)
+
+is-strange-requires : tie.Need-is-strange-requires
+is-strange-requires c κs = search needs
+
+stuck-requires : tie.Need-stuck-requires
+stuck-requires c κs = search needs
+
+same-length : tie.Need-same-length
+same-length c = search needs
+
+returns : tie.Need-returns
+returns c =
+    let p = c .before .before .before .before in
+    let a = p .before .before .before .before .before .args in
+    strange-stuck (record { code = now (a .code); image = now (a .image) }) (now (a .work)) (now (a .work)) (a .r) _ (a .f) (p .part-of .result) (a .resumed) (p .part-of .ensures (now (a .image))) (sym (c .before .before .is-strange .ensures) ∙ c .before .if1 .taken) (c .stuck .ensures)
+
+same-requires : tie.Need-same-requires
+same-requires c κs = search needs
+
+labels-from-requires : tie.Need-labels-from-requires
+labels-from-requires c κs =
+    let p = c .before .before .before .before .before in
+    let s = p .before .before .before .before .before in
+    let a = s .args in (
+      s .pre .0,
+      s .pre .1,
+      part-pc (record { code = now (a .code); image = now (a .image) }) (memoryOf (now (a .work))) (a .f) (a .r) (p .part-of .result) (a .resumed) (p .part-of .ensures (now (a .image))) (s .pre .2),
+      part-env (record { code = now (a .code); image = now (a .image) }) (memoryOf (now (a .work))) (a .f) (a .r) (p .part-of .result) (a .resumed) (p .part-of .ensures (now (a .image))) (s .pre .3),
+      part-room (record { code = now (a .code); image = now (a .image) }) (memoryOf (now (a .work))) (a .f) (a .r) (p .part-of .result) (a .resumed) (p .part-of .ensures (now (a .image))) (s .pre .4) (s .pre .5),
+      room-on (record { code = now (a .code); image = now (a .image) }) (now (a .work)) (now (a .work)) (a .r) (a .r) (a .f) (p .part-of .result) (a .resumed) (p .part-of .ensures (now (a .image))) _ (c .before .same .ensures) (sym (c .before .before .before .is-strange .ensures) ∙ c .before .before .if1 .left) (s .pre .6),
+    )
+
+same-length-2 : tie.Need-same-length-2
+same-length-2 c = search needs
+
+returns-2 : tie.Need-returns-2
+returns-2 c =
+    let p = c .before .before .before .before .before .before .before .before in
+    let a = p .before .before .before .before .before .args in
+    labelled-on (record { code = now (a .code); image = now (a .image) }) (now (a .work)) _ (a .r) _ (a .f) (p .part-of .result) (a .resumed) (p .part-of .ensures (now (a .image))) _ (c .before .before .before .before .same .ensures) (sym (c .before .before .before .before .before .before .is-strange .ensures) ∙ c .before .before .before .before .before .if1 .left) (c .before .before .labels-from .ensures)
+
+pub labels-spec : {M : Type 1} → statement M
+labels-spec =
+    tie.close
+    (tie.spec
+    part-of-requires
+    mul-is-strange
+    shared-slice-read-is-strange
+    is-strange-requires
+    stuck-requires
+    same-length
+    returns
+    same-requires
+    labels-from-requires
+    same-length-2
+    returns-2)

@@ -1,0 +1,2 @@
+-- Parts of what a pointcut's children are.
+pub mod Parts

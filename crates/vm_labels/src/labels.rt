@@ -1,0 +1,155 @@
+// A pointcut is begun, or a child of it is worked out: its children from there on.
+ghost use mathlib.Core.Path.{_≡_};
+ghost use mathlib.Core.Bool.{true};
+ghost use mathlib.Core.List.{List};
+ghost use Prim.Native.Nat.{ℕ, _+_, _≤_, _<_};
+ghost use lib.ListN.{length};
+ghost use Rattle.area.specs.Memory.{memoryLength};
+ghost use Rattle.vm_code.specs.Values.{pointcutTag};
+ghost use Rattle.vm_code.specs.Words.{termCount, home, countOf, depthOf};
+ghost use Rattle.vm_machine.specs.Registers.{fullRoom};
+ghost use Rattle.vm_machine.specs.Memory.{labelSet};
+ghost use Rattle.vm_machine.specs.States.{judged};
+ghost use Rattle.vm_machine.specs.Fetch.{codeAt};
+ghost use Rattle.vm_machine.specs.Reduce.{newPiece};
+ghost use Rattle.vm_machine.specs.Turn.{labelsFrom};
+ghost use Rattle.vm_tables.specs.View.{memoryOf};
+ghost use Rattle.vm_states.specs.Phases.{Phase};
+ghost use Rattle.vm_labels.specs.Parts.{RoomAfter, childBegun, isStrange, labelled};
+ghost use Rattle.vm_labels.specs.Parts as parts;
+use crate::Done;
+use crate::Part;
+use crate::children::child_at;
+use crate::children::take_labels;
+use crate::entry::entry_from;
+use vm_machine::Regs;
+use vm_states::outcomes::FRAMES;
+use vm_states::outcomes::SPENT;
+use vm_states::pieces::new_piece;
+use vm_states::regs::HEADROOM;
+use vm_states::regs::halt;
+use vm_states::regs::lacking;
+use vm_states::regs::same;
+use vm_states::regs::stuck;
+use vm_tables::labels::digit_count;
+use vm_tables::labels::label_set;
+use vm_tables::labels::with_digit;
+use vm_tables::slots::digits_at;
+use vm_tables::slots::put_digits;
+use vm_tables::slots::slot_env;
+use vm_tables::slots::slot_pc;
+use vm_words::code::class_of;
+use vm_words::code::count_of;
+use vm_words::code::depth_of;
+use vm_words::value::POINTCUT;
+use vm_words::value::body;
+
+// The class of a pointcut.
+const POINTCUT_CLASS: u64 = 5;
+
+// The digits of no labels; and the most labels that a pointcut has.
+const NO_DIGITS: u64 = 1;
+
+const MOST_LABELS: usize = 8;
+
+// Labels are numbers below this.
+const LABELS: u64 = 64;
+
+// All children are done: the pointcut with word w is made.
+fn make_pointcut(work: &mut [u8], r: Regs, w: u64, digits: u64) -> Regs
+    requires { ⌜ (memoryLength ≤ length (now work)) × (r .room ≤ fullRoom) ⌝ }
+    ensures { λ q. ⌜ Phase (λ S. judged w S (newPiece w pointcutTag 0 (labelSet (countOf w) digits 0) S)) (now (work .entry)) (now (work .exit)) r q ⌝ }
+{
+    if r.left <= HEADROOM {
+        return halt(r, SPENT);
+    }
+    if r.room <= depth_of(w) {
+        return halt(r, FRAMES);
+    }
+    new_piece(work, r, w, POINTCUT, 0, label_set(count_of(w), digits))
+}
+
+// The next child is begun: it is a body of its own.
+fn begin_child(code: &[u64], image: &[u8], work: &mut [u8], r: Regs, w: u64, done: Done) -> Regs
+    requires { ⌜ (termCount ≤ length (now code)) × (memoryLength ≤ length (now work)) × (r .pc ≤ home) × (r .env < 2048) × (depthOf w + 1 < r .room) × (r .room ≤ fullRoom + depthOf w) × (done .count < 16) ⌝ }
+    ensures { λ q. ⌜ Phase (childBegun (record { code = now (code .entry); image = now (image .entry) }) (r .pc) w (record { count = done .count; digits = done .digits })) (now (work .entry)) (now (work .exit)) r q ⌝ }
+{
+    let room = r.room - (depth_of(w) + 1);
+    put_digits(work, room + 1, 1, r.pc, r.env, done.digits);
+    let mut q = same(r);
+    q.room = room;
+    q.pc = entry_from(code, child_at(image, w, done.count));
+    q
+}
+
+// The children of the pointcut at hand, from those on that are done.
+fn labels_from(code: &[u64], image: &[u8], work: &mut [u8], r: Regs, from: Done) -> Regs
+    requires { ⌜ (home < length (now code)) × (memoryLength ≤ length (now work)) × (r .pc ≤ home) × (r .env < 2048) × (r .room ≤ fullRoom + depthOf (codeAt (record { code = now code; image = now image }) (r .pc))) × RoomAfter (labelsFrom (record { code = now code; image = now image }) (r .pc) (from .count) (from .digits)) (now work) r ⌝ }
+    ensures { λ q. ⌜ Phase (labelsFrom (record { code = now (code .entry); image = now (image .entry) }) (r .pc) (from .count) (from .digits)) (now (work .entry)) (now (work .exit)) r q ⌝ }
+{
+    let pc = r.pc;
+    let w = code[pc];
+    let done = take_labels(code, image, work, r.env, w, from);
+    if count_of(w) <= done.count {
+        return make_pointcut(work, r, w, done.digits);
+    }
+    if r.room <= depth_of(w) + 1 {
+        return lacking(r);
+    }
+    begin_child(code, image, work, r, w, done)
+}
+
+// Where they go on, of a pointcut that is begun or resumed.
+fn part_of(code: &[u64], work: &[u8], r: Regs, resumed: bool, f: u64) -> Part
+    requires { ⌜ (termCount ≤ length (now code)) × (memoryLength ≤ length (now work)) × (r .room ≤ fullRoom) × (resumed ≡ true → r .room < fullRoom) ⌝ }
+    ensures { λ p. ⌜ ((image : List ℕ) → p ≡ parts.partOf (record { code = now (code .entry); image = image }) (memoryOf (now (work .entry))) resumed f r) ⌝ }
+{
+    if resumed {
+        let pc = slot_pc(f);
+        let d = digits_at(work, r.room, f);
+        let done = Done {
+            count: digit_count(MOST_LABELS, d) + 1,
+            digits: with_digit(d, body(r.hand) % LABELS),
+        };
+        return Part {
+            pc: pc,
+            env: slot_env(f),
+            room: r.room + (depth_of(code[pc]) + 1),
+            done: done,
+        };
+    }
+    let none = Done {
+        count: 0,
+        digits: NO_DIGITS,
+    };
+    Part {
+        pc: r.pc,
+        env: r.env,
+        room: r.room,
+        done: none,
+    }
+}
+
+// What is resumed is no pointcut.
+fn is_strange(resumed: bool, w: u64) -> bool
+    ensures { λ b. ⌜ b ≡ isStrange resumed w ⌝ }
+{
+    resumed && class_of(w) != POINTCUT_CLASS
+}
+
+// A pointcut is begun; or, resumed, a child of it is worked out, and f is the word of its slot.
+pub fn labels(code: &[u64], image: &[u8], work: &mut [u8], r: Regs, resumed: bool, f: u64) -> Regs
+    requires { ⌜ (home < length (now code)) × (memoryLength ≤ length (now work)) × (r .pc ≤ home) × (r .env < 2048) × (r .room ≤ fullRoom) × (resumed ≡ true → r .room < fullRoom) × RoomAfter (labelled (record { code = now code; image = now image }) resumed f) (now work) r ⌝ }
+    ensures { λ q. ⌜ Phase (labelled (record { code = now (code .entry); image = now (image .entry) }) resumed f) (now (work .entry)) (now (work .exit)) r q ⌝ }
+{
+    let p = part_of(code, work, r, resumed, f);
+    let pc = p.pc;
+    if is_strange(resumed, code[pc]) {
+        return stuck(r);
+    }
+    let mut q = same(r);
+    q.room = p.room;
+    q.env = p.env;
+    q.pc = pc;
+    labels_from(code, image, work, q, p.done)
+}

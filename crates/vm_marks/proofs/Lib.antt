@@ -1,0 +1,4 @@
+-- Laws of marks and their advice, and the proofs of the functions.
+pub mod Matched
+pub mod Advised
+pub mod Marked

@@ -1,0 +1,62 @@
+-- The bindings that a mark makes, one advice after another.
+use Prim.Native.Nat.{ℕ, suc, _+_, _-_, _≤_, _<_}
+use native.Mathlib.Omega.{arith}
+use mathlib.Core.Path.{_≡_, refl, sym, ap, subst, _∙_}
+use mathlib.Core.Bool.{Bool, true, false}
+use mathlib.Core.List.{List}
+use lib.ListN.{drop}
+use borrow.Author.Tests.{lt-ltb, le-ltb}
+use Rattle.area.specs.Memory.{memoryLength}
+use Rattle.vm_machine.specs.Memory.{Memory, binding, putBinding, installedAt, hasBit, pieceFirst, pieceSecond, adviceTarget, adviceEnv}
+use Rattle.vm_machine.specs.Reduce.{Bound, bindOne, bindMatching}
+use Rattle.vm_tables.specs.View.{memoryOf, Holds}
+use Rattle.vm_tables.proofs.Chosen.{chosen-yes, chosen-no}
+use Rattle.vm_marks.specs.Binds.{boundIn, Binds}
+
+-- The bindings are those of a B that is known by its tables.
+binds-by : (A B : Bound) (w w′ : List ℕ) (n : ℕ) → A ≡ B → Binds A w w′ n → Binds B w w′ n
+binds-by A B w w′ n e b = subst (λ (C : Bound). Binds C w w′ n) e b
+
+-- Installed advice i, of piece p; x is the word of its labels and h whether l is one of them.
+module _ (w : List ℕ) (l v i n p x : ℕ) (h : Bool) (d : p ≡ installedAt (memoryOf w) i) (e : x ≡ pieceSecond (memoryOf w) p) (f : h ≡ hasBit x l) where
+  matches : {c : Bool} → h ≡ c → hasBit (pieceSecond (memoryOf w) (installedAt (memoryOf w) i)) l ≡ c
+  matches g = ap (λ (j : ℕ). hasBit (pieceSecond (memoryOf w) j) l) (sym d) ∙ ap (λ (j : ℕ). hasBit j l) (sym e) ∙ sym f ∙ g
+
+  pub other-bound : h ≡ false → Binds (bindOne l v i (boundIn w n)) w w n
+  other-bound g =
+      binds-by (boundIn w n) (bindOne l v i (boundIn w n)) w w n (sym (chosen-no _ _ _ (matches g))) (record { memory = record { memory = refl; rest = refl }; count = refl })
+
+  pub past-bound : h ≡ true → 2048 ≤ n → Binds (bindOne l v i (boundIn w n)) w w (n + 1)
+  past-bound g k =
+      binds-by (boundIn w (n + 1)) (bindOne l v i (boundIn w n)) w w (n + 1) (sym (chosen-yes _ _ _ (matches g) ∙ ap (λ (M : Memory). record { memory = M; count = n + 1 }) (chosen-no _ _ _ (le-ltb n 2048 k)))) (record { memory = record { memory = refl; rest = refl }; count = refl })
+
+  pub one-bound : (y t env : ℕ) (w′ : List ℕ) → h ≡ true → n < 2048 → y ≡ pieceFirst (memoryOf w) p → t ≡ adviceTarget y → env ≡ adviceEnv y → Holds (putBinding n (binding v t env) (memoryOf w)) w w′ → Binds (bindOne l v i (boundIn w n)) w w′ (n + 1)
+  one-bound y t env w′ g k a b c m =
+      let M : ℕ → Memory = λ j. putBinding n (binding v (adviceTarget j) (adviceEnv j)) (memoryOf w) in
+      let z : y ≡ pieceFirst (memoryOf w) (installedAt (memoryOf w) i) = a ∙ ap (pieceFirst (memoryOf w)) d in
+      let held : Holds (M y) w w′ = subst (λ (j : ℕ). Holds (putBinding n (binding v (adviceTarget y) j) (memoryOf w)) w w′) c (subst (λ (j : ℕ). Holds (putBinding n (binding v j env) (memoryOf w)) w w′) b m) in
+      binds-by (record { memory = M (pieceFirst (memoryOf w) (installedAt (memoryOf w) i)); count = n + 1 }) (bindOne l v i (boundIn w n)) w w′ (n + 1) (sym (chosen-yes _ _ _ (matches g) ∙ ap (λ (N : Memory). record { memory = N; count = n + 1 }) (chosen-yes _ _ _ (lt-ltb n 2048 k)))) (record { memory = subst (λ (j : ℕ). Holds (M j) w w′) z held; count = refl })
+
+-- The tables and the count that a Binds tells of.
+bound-is : (B : Bound) (w w′ : List ℕ) (n : ℕ) → Binds B w w′ n → B ≡ boundIn w′ n
+bound-is B w w′ n b = ap (λ (M : Memory). record { memory = M; count = B .count }) (sym (b .memory .memory)) ∙ ap (λ (k : ℕ). record { memory = memoryOf w′; count = k }) (sym (b .count))
+
+-- None is done yet.
+pub matching-start : (n l v : ℕ) (B : Bound) → bindMatching n 0 l v B ≡ bindMatching (n - 0) 0 l v B
+matching-start n l v B = let k : n ≡ n - 0 = omega arith in ap (λ (x : ℕ). bindMatching x 0 l v B) k
+
+-- One advice more.
+pub matching-on : (n i l v : ℕ) (w w′ : List ℕ) (m m′ : ℕ) → i < n → Binds (bindOne l v i (boundIn w m)) w w′ m′ → bindMatching (n - i) i l v (boundIn w m) ≡ bindMatching (n - (i + 1)) (i + 1) l v (boundIn w′ m′)
+unfolding bindMatching
+matching-on n i l v w w′ m m′ h b =
+    let k : n - i ≡ suc (n - (i + 1)) = omega arith in
+    let j : suc i ≡ i + 1 = omega arith in
+    ap (λ (x : ℕ). bindMatching x i l v (boundIn w m)) k ∙ ap (λ (x : ℕ). bindMatching (n - (i + 1)) x l v (bindOne l v i (boundIn w m))) j ∙ ap (bindMatching (n - (i + 1)) (i + 1) l v) (bound-is (bindOne l v i (boundIn w m)) w w′ m′ b)
+
+-- All are done.
+pub matching-done : (B : Bound) (n i l v : ℕ) (w w′ : List ℕ) (m : ℕ) → n ≤ i → B ≡ bindMatching (n - i) i l v (boundIn w′ m) → drop memoryLength w′ ≡ drop memoryLength w → Binds B w w′ m
+unfolding bindMatching
+matching-done B n i l v w w′ m h e r =
+    let k : n - i ≡ 0 = omega arith in
+    let z : B ≡ boundIn w′ m = e ∙ ap (λ (x : ℕ). bindMatching x i l v (boundIn w′ m)) k in
+    binds-by (boundIn w′ m) B w w′ m (sym z) (record { memory = record { memory = refl; rest = r }; count = refl })

@@ -1,0 +1,67 @@
+use denote.Ref.{now}
+use mathlib.Core.List.{[]}
+use Rattle.vm_marks.proofs.Advised.{advice-spent, advice-next, advice-done, room-of-mark}
+use borrow.Author.Needs.{needs}
+use Rattle.vm_marks.proofs.advice.next_advice.Statement.{statement}
+use Rattle.vm_marks.proofs.advice.next_advice.Tie as tie
+
+add-if1 : tie.Need-add-if1
+add-if1 c = search needs
+
+halt-with-requires : tie.Need-halt-with-requires
+halt-with-requires c κs = search needs
+
+returns : tie.Need-returns
+returns c = let a = c .before .before .before .before .before .args in λ image. advice-spent (record { code = now (a .code); image = image }) (now (a .work)) (now (a .work)) (a .r) _ (a .f) (c .before .if1 .taken) (c .halt-with .ensures)
+
+next-binding-requires : tie.Need-next-binding-requires
+next-binding-requires c κs = search needs
+
+end-binding-requires : tie.Need-end-binding-requires
+end-binding-requires c κs = search needs
+
+next-body-requires : tie.Need-next-body-requires
+next-body-requires c κs = search needs
+
+same-length : tie.Need-same-length
+same-length c = search needs
+
+returns-2 : tie.Need-returns-2
+returns-2 c = let a = c .before .before .before .before .before .before .before .before .before .before .before .args in λ image. advice-next (record { code = now (a .code); image = image }) (now (a .work)) _ (a .r) _ (a .f) (c .before .before .before .before .before .before .before .if1 .left) _ _ (c .before .before .before .before .before .before .next-binding .ensures) (c .before .before .before .before .before .end-binding .ensures) (c .before .before .before .before .if2 .taken) (c .before .before .next-body .ensures)
+
+slot-pc-requires : tie.Need-slot-pc-requires
+slot-pc-requires c κs = search needs
+
+mul-mark-left : tie.Need-mul-mark-left
+mul-mark-left c = search needs
+
+shared-slice-read-mark-left : tie.Need-shared-slice-read-mark-left
+shared-slice-read-mark-left c = search needs
+
+mark-left-requires : tie.Need-mark-left-requires
+mark-left-requires c κs = let a = c .before .before .before .before .before .before .before .before .before .before .args in (search needs, room-of-mark (record { code = now (a .code); image = [] }) (now (a .work)) (now (a .work)) (a .r) (a .r) (a .f) (c .before .before .before .before .before .before .if1 .left) _ _ (c .before .before .before .before .before .next-binding .ensures) (c .before .before .before .before .end-binding .ensures) _ [] (c .before .before .before .if2 .left) (c .before .slot-pc .ensures) (c .before .before .before .before .before .before .before .before .before .before .pre .3 [] []), search needs)
+
+same-length-2 : tie.Need-same-length-2
+same-length-2 c = search needs
+
+returns-3 : tie.Need-returns-3
+returns-3 c = let a = c .before .before .before .before .before .before .before .before .before .before .before .before .before .args in λ image. advice-done (record { code = now (a .code); image = image }) (now (a .work)) _ (a .r) _ (a .f) (c .before .before .before .before .before .before .before .before .before .if1 .left) _ _ (c .before .before .before .before .before .before .before .before .next-binding .ensures) (c .before .before .before .before .before .before .before .end-binding .ensures) _ (c .before .before .before .before .before .before .if2 .left) (c .before .before .before .before .slot-pc .ensures) (c .before .before .mark-left .ensures)
+
+pub next-advice-spec : {M : Type 1} → statement M
+next-advice-spec =
+    tie.close
+    (tie.spec
+    add-if1
+    halt-with-requires
+    returns
+    next-binding-requires
+    end-binding-requires
+    next-body-requires
+    same-length
+    returns-2
+    slot-pc-requires
+    mul-mark-left
+    shared-slice-read-mark-left
+    mark-left-requires
+    same-length-2
+    returns-3)

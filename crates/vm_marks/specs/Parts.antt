@@ -1,0 +1,23 @@
+-- Parts of the definition of nextAdvice (crate vm_machine, specs/Reduce.antt).
+use Prim.Native.Nat.{ℕ, _+_, _-_, _%_}
+use Rattle.calculus.specs.Limits.{bindingLimit}
+use Rattle.vm_code.specs.Values.{unitValue}
+use Rattle.vm_code.specs.Words.{depthOf}
+use Rattle.vm_machine.specs.declared.Regs.{Regs}
+use Rattle.vm_machine.specs.Registers.{setPc, setHand, setEnv, setRoom, setLeft}
+use Rattle.vm_machine.specs.Memory.{slotEnv, slotPc, nextBinding, endBinding, putAdvice}
+use Rattle.vm_machine.specs.States.{State, withRegs, withMemory, completed}
+use Rattle.vm_machine.specs.Reduce.{bodyAt}
+
+-- The next advice of the mark whose slot has the word f.
+abbrev pub nextBody : ℕ → State → State
+nextBody f S =
+    let r : Regs = S .regs in
+    let b : ℕ = nextBinding f % bindingLimit in
+    withMemory (putAdvice (r .room) 0 (slotPc f) (slotEnv f) (nextBinding f + 1) (endBinding f) (S .memory)) (setPc (bodyAt (S .memory) b) (setHand unitValue (setEnv b (setLeft (r .left - 2) r)))) S
+
+-- None is left of the mark with word w.
+abbrev pub markLeft : ℕ → ℕ → State → State
+markLeft w f S =
+    let r : Regs = S .regs in
+    completed w unitValue (withRegs (setEnv (slotEnv f) (setRoom (r .room + (depthOf w + 2)) (setLeft (r .left - 2) r))) S)

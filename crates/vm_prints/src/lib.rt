@@ -1,0 +1,30 @@
+// An inner crate: the reduction of a print, which writes a record of the log.
+ghost use Prim.Native.Nat.{_≤_, _<_};
+ghost use lib.ListN.{length};
+ghost use Rattle.area.specs.Memory.{memoryLength};
+ghost use Rattle.vm_machine.specs.Fits.{Fits};
+ghost use Rattle.vm_machine.specs.Reduce.{reducePrint};
+ghost use Rattle.vm_states.specs.Phases.{stateOf, Moved};
+use report::fixed::put_log;
+use vm_machine::Regs;
+use vm_states::ends::given;
+use vm_states::limits::LOG_RECORD;
+use vm_states::outcomes;
+use vm_states::regs::halt;
+use vm_words::code::domain_of;
+use vm_words::value::body;
+
+// The number x is printed, at the domain of the instruction.
+pub fn reduce_print(work: &mut [u8], log: &mut [u8], r: Regs, w: u64, x: u64) -> Regs
+    requires { ⌜ (memoryLength ≤ length (now work)) × (0 < r .left) × Fits (length (now log)) r ⌝ }
+    ensures { λ q. ⌜ Moved (reducePrint w x (stateOf (now (work .entry)) (now (log .entry)) r)) (now (work .entry)) (now (work .exit)) (now (log .exit)) q ⌝ }
+{
+    let at = r.logged;
+    if log.len() - at < LOG_RECORD {
+        return halt(r, outcomes::LOG);
+    }
+    put_log(log, at, domain_of(w) as u16, body(x) as u32);
+    let mut q = given(work, r, w, 0);
+    q.logged = at + LOG_RECORD;
+    q
+}

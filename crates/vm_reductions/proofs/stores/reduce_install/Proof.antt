@@ -1,0 +1,46 @@
+use denote.Ref.{now}
+use Rattle.vm_reductions.proofs.Reduced.{install-made, no-install-made}
+use borrow.Author.Needs.{needs}
+use Rattle.vm_reductions.proofs.stores.reduce_install.Statement.{statement}
+use Rattle.vm_reductions.proofs.stores.reduce_install.Tie as tie
+
+piece-of-requires : tie.Need-piece-of-requires
+piece-of-requires c κs = search needs
+
+piece-second-requires : tie.Need-piece-second-requires
+piece-second-requires c κs = search needs
+
+put-installed-requires : tie.Need-put-installed-requires
+put-installed-requires c κs = search needs
+
+given-requires : tie.Need-given-requires
+given-requires c κs = search needs
+
+add-q : tie.Need-add-q
+add-q c = search needs
+
+same-length : tie.Need-same-length
+same-length c = search needs
+
+returns : tie.Need-returns
+returns c = let a = c .before .before .before .before .before .before .before .before .before .before .before .before .before .before .args in install-made (now (a .work)) _ _ (a .r) _ (a .w) (a .x) _ _ (c .before .before .before .before .before .before .before .before .before .before .before .before .if1 .taken) (c .before .before .before .before .before .before .before .before .before .before .before .piece-of .ensures) (c .before .before .before .before .before .before .before .before .before .piece-second .ensures) (c .before .before .before .before .before .before .before .put-installed .ensures) (c .before .before .before .given .ensures)
+
+halt-requires : tie.Need-halt-requires
+halt-requires c κs = search needs
+
+returns-2 : tie.Need-returns-2
+returns-2 c = let a = c .before .before .before .args in no-install-made (now (a .work)) (now (a .work)) (now (a .work)) (a .r) _ (a .w) (a .x) (c .before .if1 .left) (c .halt .ensures)
+
+pub reduce-install-spec : {M : Type 1} → statement M
+reduce-install-spec =
+    tie.close
+    (tie.spec
+    piece-of-requires
+    piece-second-requires
+    put-installed-requires
+    given-requires
+    add-q
+    same-length
+    returns
+    halt-requires
+    returns-2)

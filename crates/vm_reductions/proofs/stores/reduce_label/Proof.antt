@@ -1,0 +1,31 @@
+use denote.Ref.{now}
+use Rattle.vm_reductions.proofs.Reduced.{label-made, no-label-made}
+use borrow.Author.Needs.{needs}
+use Rattle.vm_reductions.proofs.stores.reduce_label.Statement.{statement}
+use Rattle.vm_reductions.proofs.stores.reduce_label.Tie as tie
+
+value-requires : tie.Need-value-requires
+value-requires c κs = search needs
+
+given-requires : tie.Need-given-requires
+given-requires c κs = search needs
+
+add-q : tie.Need-add-q
+add-q c = search needs
+
+same-length : tie.Need-same-length
+same-length c = search needs
+
+returns : tie.Need-returns
+returns c = let a = c .before .before .before .before .before .before .before .args in label-made (now (a .work)) _ (a .r) _ (a .w) _ (c .before .before .before .before .before .if1 .taken) (c .before .before .before .value .ensures) (c .before .before .given .ensures)
+
+halt-requires : tie.Need-halt-requires
+halt-requires c κs = search needs
+
+returns-2 : tie.Need-returns-2
+returns-2 c = let a = c .before .before .before .args in no-label-made (now (a .work)) (now (a .work)) (a .r) _ (a .w) (c .before .if1 .left) (c .halt .ensures)
+
+pub reduce-label-spec : {M : Type 1} → statement M
+reduce-label-spec =
+    tie.close
+    (tie.spec value-requires given-requires add-q same-length returns halt-requires returns-2)

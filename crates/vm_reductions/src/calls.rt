@@ -1,0 +1,82 @@
+// The reductions that bind and enter a body: calls and splits.
+ghost use mathlib.Core.Path.{_≡_};
+ghost use mathlib.Core.List.{List};
+ghost use Prim.Native.Nat.{ℕ, _+_, _/_, _%_, _≤_, _<_};
+ghost use lib.ListN.{length};
+ghost use Rattle.area.specs.Memory.{memoryLength};
+ghost use Rattle.vm_code.specs.Values.{bodyOf};
+ghost use Rattle.vm_code.specs.Words.{depthOf};
+ghost use Rattle.vm_machine.specs.Memory.{binding, putBinding, pieceFirst, pieceSecond};
+ghost use Rattle.vm_machine.specs.Fits.{Fits};
+ghost use Rattle.vm_machine.specs.Reduce.{reduceApply, reduceSplit};
+ghost use Rattle.vm_tables.specs.View.{memoryOf, Holds};
+ghost use Rattle.vm_states.specs.Phases.{Phase};
+use vm_machine::Regs;
+use vm_states::ends::called;
+use vm_states::limits::BINDINGS;
+use vm_states::outcomes;
+use vm_states::regs::halt;
+use vm_tables::bindings::bind;
+use vm_tables::pieces::piece_first;
+use vm_tables::pieces::piece_of;
+use vm_tables::pieces::piece_second;
+use vm_words::code::field_b;
+use vm_words::value::body;
+
+// The environment and the target of the body of a function's value.
+fn function_env(f: u64) -> usize
+    ensures { λ r. ⌜ r ≡ bodyOf f / 65536 % 2048 ⌝ }
+{
+    (body(f) / 65536 % 2048) as usize
+}
+
+fn function_target(f: u64) -> usize
+    ensures { λ r. ⌜ r ≡ bodyOf f % 2048 ⌝ }
+{
+    (body(f) % 2048) as usize
+}
+
+// The function x is applied to the value y.
+pub fn reduce_apply(code: &[u64], work: &mut [u8], r: Regs, w: u64, x: u64, y: u64) -> Regs
+    requires { ⌜ (1024 ≤ length (now code)) × (memoryLength ≤ length (now work)) × (0 < r .left) × (depthOf w ≤ r .room) × ((size : ℕ) × Fits size r) ⌝ }
+    ensures { λ q. ⌜ ((image : List ℕ) → Phase (reduceApply (record { code = now (code .entry); image = image }) w x y) (now (work .entry)) (now (work .exit)) r q) ⌝ }
+{
+    let n = r.pools.bindings;
+    if n < BINDINGS {
+        bind(work, n, y, 0, function_env(x));
+        let mut q = called(code, work, r, w, function_target(x), n);
+        let m = n + 1;
+        q.left = r.left - 1;
+        q.pools.bindings = m;
+        return q;
+    }
+    halt(r, outcomes::BINDINGS)
+}
+
+// Bindings i and i + 1 of the two parts of pair p, the first outside the second.
+fn bind_parts(work: &mut [u8], p: usize, i: usize, env: usize)
+    requires { ⌜ (memoryLength ≤ length (now work)) × (p < 512) × (i < 2047) × (env < 2048) ⌝ }
+    ensures { λ _. ⌜ Holds (putBinding (i + 1) (binding (pieceSecond (memoryOf (now (work .entry))) p) 0 i) (putBinding i (binding (pieceFirst (memoryOf (now (work .entry))) p) 0 env) (memoryOf (now (work .entry))))) (now (work .entry)) (now (work .exit)) ⌝ }
+{
+    let a = piece_first(work, p);
+    let b = piece_second(work, p);
+    bind(work, i, a, 0, env);
+    bind(work, i + 1, b, 0, i);
+}
+
+// The parts of the pair x are bound.
+pub fn reduce_split(code: &[u64], work: &mut [u8], r: Regs, w: u64, x: u64) -> Regs
+    requires { ⌜ (1024 ≤ length (now code)) × (memoryLength ≤ length (now work)) × (0 < r .left) × (depthOf w ≤ r .room) × ((size : ℕ) × Fits size r) ⌝ }
+    ensures { λ q. ⌜ ((image : List ℕ) → Phase (reduceSplit (record { code = now (code .entry); image = image }) w x) (now (work .entry)) (now (work .exit)) r q) ⌝ }
+{
+    let n = r.pools.bindings;
+    if n + 2 <= BINDINGS {
+        bind_parts(work, piece_of(x), n, r.env);
+        let mut q = called(code, work, r, w, field_b(w), n + 1);
+        let m = n + 2;
+        q.left = r.left - 1;
+        q.pools.bindings = m;
+        return q;
+    }
+    halt(r, outcomes::BINDINGS)
+}

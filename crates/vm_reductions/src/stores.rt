@@ -1,0 +1,100 @@
+// The reductions that make or change a cell, make a label or an advice, install an advice, or abort.
+ghost use mathlib.Core.List.{List};
+ghost use Prim.Native.Nat.{ℕ, _≤_, _<_};
+ghost use lib.ListN.{length};
+ghost use Rattle.area.specs.Memory.{memoryLength};
+ghost use Rattle.vm_machine.specs.Fits.{Fits};
+ghost use Rattle.vm_machine.specs.Reduce.{reduceStore, reduceCell, reduceLabel, reduceAdvice, reduceInstall, reduceAbort};
+ghost use Rattle.vm_states.specs.Phases.{Phase};
+use vm_machine::Regs;
+use vm_states::ends::given;
+use vm_states::limits;
+use vm_states::outcomes;
+use vm_states::pieces::new_piece;
+use vm_states::regs::halt;
+use vm_states::regs::halt_with;
+use vm_tables::cells::cell_of;
+use vm_tables::cells::put_cell;
+use vm_tables::cells::store_cell;
+use vm_tables::pieces::advice_word;
+use vm_tables::pieces::piece_of;
+use vm_tables::pieces::piece_second;
+use vm_tables::pieces::put_installed;
+use vm_words::code::field_b;
+use vm_words::code::field_c;
+use vm_words::value;
+
+// The cell x holds the value y.
+pub fn reduce_store(work: &mut [u8], r: Regs, w: u64, x: u64, y: u64) -> Regs
+    requires { ⌜ (memoryLength ≤ length (now work)) × (0 < r .left) × ((size : ℕ) × Fits size r) ⌝ }
+    ensures { λ q. ⌜ Phase (reduceStore w x y) (now (work .entry)) (now (work .exit)) r q ⌝ }
+{
+    store_cell(work, cell_of(x), y);
+    given(work, r, w, 0)
+}
+
+// One more cell, which holds the value x.
+pub fn reduce_cell(work: &mut [u8], r: Regs, w: u64, x: u64) -> Regs
+    requires { ⌜ (memoryLength ≤ length (now work)) × (0 < r .left) × ((size : ℕ) × Fits size r) ⌝ }
+    ensures { λ q. ⌜ Phase (reduceCell w x) (now (work .entry)) (now (work .exit)) r q ⌝ }
+{
+    let n = r.pools.cells;
+    if n < limits::CELLS {
+        put_cell(work, n, x, field_b(w) as u64);
+        let mut q = given(work, r, w, value::value(value::CELL, n as u64));
+        let m = n + 1;
+        q.pools.cells = m;
+        return q;
+    }
+    halt(r, outcomes::CELLS)
+}
+
+// One more label.
+pub fn reduce_label(work: &mut [u8], r: Regs, w: u64) -> Regs
+    requires { ⌜ (memoryLength ≤ length (now work)) × (0 < r .left) × ((size : ℕ) × Fits size r) ⌝ }
+    ensures { λ q. ⌜ Phase (reduceLabel w) (now (work .entry)) (now (work .exit)) r q ⌝ }
+{
+    let n = r.labels;
+    if n < limits::LABELS {
+        let mut q = given(work, r, w, value::value(value::LABEL, n as u64));
+        q.labels = n + 1;
+        return q;
+    }
+    halt(r, outcomes::LABELS)
+}
+
+// An advice on the pointcut x.
+pub fn reduce_advice(work: &mut [u8], r: Regs, w: u64, x: u64) -> Regs
+    requires { ⌜ (memoryLength ≤ length (now work)) × (0 < r .left) × ((size : ℕ) × Fits size r) ⌝ }
+    ensures { λ q. ⌜ Phase (reduceAdvice w x) (now (work .entry)) (now (work .exit)) r q ⌝ }
+{
+    let a = advice_word(field_b(w), r.env, field_c(w));
+    let b = piece_second(work, piece_of(x));
+    new_piece(work, r, w, value::ADVICE, a, b)
+}
+
+// The advice x is installed.
+pub fn reduce_install(work: &mut [u8], r: Regs, w: u64, x: u64) -> Regs
+    requires { ⌜ (memoryLength ≤ length (now work)) × (0 < r .left) × ((size : ℕ) × Fits size r) ⌝ }
+    ensures { λ q. ⌜ Phase (reduceInstall w x) (now (work .entry)) (now (work .exit)) r q ⌝ }
+{
+    let n = r.installed;
+    if n < limits::ADVICE {
+        let p = piece_of(x);
+        let s = piece_second(work, p);
+        put_installed(work, n, p);
+        let mut q = given(work, r, w, 0);
+        q.installed = n + 1;
+        q.named = r.named | s;
+        return q;
+    }
+    halt(r, outcomes::ADVICE)
+}
+
+// A step is made, and the machine halts.
+pub fn reduce_abort(r: Regs) -> Regs
+    requires { ⌜ 0 < r .left ⌝ }
+    ensures { λ q. ⌜ ((work : List ℕ) → Phase reduceAbort work work r q) ⌝ }
+{
+    halt_with(r, outcomes::ABORTED, r.left - 1)
+}

@@ -1,0 +1,3 @@
+-- Laws of the parts of a turn, and the proofs of the functions.
+pub mod Made
+pub mod Ended

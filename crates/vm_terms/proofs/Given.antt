@@ -1,0 +1,102 @@
+-- Term n of an image that is laid out, its record at o, as tables have them; and what is read of it by its kind's number.
+use Prim.Native.Nat.{ℕ, _+_, _*_, _≤_, _<_}
+use native.Mathlib.Omega.{arith}
+use mathlib.Core.Path.{_≡_, refl, sym, ap, subst, _∙_}
+use mathlib.Core.List.{List}
+use lib.ListN.{length, getD}
+use lib.Dec.{leb}
+use Rattle.calculus.specs.Plain.{domOf}
+use Rattle.image.specs.Limits.{imageLimit}
+use Rattle.image.specs.Bytes.{numberAt, fieldAt}
+use Rattle.image.specs.Kinds.{TermKind, termRow, leadOf}
+use Rattle.image.specs.Records.{Layout}
+use Rattle.image.specs.Layout.{recordsOf}
+use Rattle.image.specs.Types.{termPlace, termKind, statedType, others, children}
+use Rattle.image.proofs.Facts.{le-of}
+use Rattle.image.proofs.Counts.{leastChildren}
+use Rattle.image.proofs.EveryKind.{everyOf, at-term}
+use Rattle.records.specs.Tables.{Tables}
+use Rattle.records.specs.Leaves.{Leaves}
+use Rattle.vm_code.specs.PassUp.{cellNote}
+use Rattle.vm_terms.specs.Fields.{Lower}
+use Rattle.vm_terms.specs.Noted.{keyDomain, keyNote, KeyFits}
+use Rattle.vm_terms.proofs.KindNumbers.{NotFrom32, last-number}
+use Rattle.vm_terms.proofs.Records.{Recorded, as-kind, field-lower, few-terms, recorded, place-is, has-key, domain-is, note-is, fits}
+
+pub record Given (b ks : List ℕ) (n o : ℕ) : Type 0 where
+  pub domain-table : List ℕ
+  pub term-table : List ℕ
+  pub tables : Tables b domain-table term-table ks
+  pub there : n < length (recordsOf b .terms)
+  pub place : o ≡ getD term-table n 0
+
+-- A term's type is before its children.
+lead-some : (k : TermKind) → 1 ≤ leadOf k
+unfolding everyOf
+lead-some k = le-of (at-term (λ j. leb 1 (leadOf j)) refl k)
+
+module _ {b ks : List ℕ} {n o : ℕ} (G : Given b ks n o) where
+  abbrev L : Layout
+  L = recordsOf b
+
+  abbrev ds : List ℕ
+  ds = G .domain-table
+
+  abbrev ts : List ℕ
+  ts = G .term-table
+
+  abbrev T : Tables b ds ts ks
+  T = G .tables
+
+  abbrev l : n < length (recordsOf b .terms)
+  l = G .there
+
+  any-kind : Recorded b o n (termKind L n) (others L n) (children L n)
+  any-kind = subst (λ p. Recorded b p n (termKind L n) (others L n) (children L n)) (sym (G .place)) (recorded b ds ts ks T n l)
+
+  pub small : n < 1024
+  small = let few = few-terms b ds ts ks T in omega arith
+
+  pub short : length b ≤ imageLimit
+  short = T .short
+
+  pub place-told : o ≡ termPlace L n
+  place-told = G .place ∙ place-is b ds ts ks T n l
+
+  -- It has a type, and the type's key says its domain; with the table of leaf counts also what a cell is noted with.
+  pub typed : (o + 5 < length b) × (fieldAt b o 0 < length ks)
+  typed =
+      let z = any-kind .inside in
+      let y = lead-some (termKind L n) in
+      (omega arith, subst (λ p. fieldAt b p 0 < length ks) (sym (G .place)) (has-key b ds ts ks T n l))
+
+  abbrev pub keyOf : ℕ
+  keyOf = getD ks (fieldAt b o 0) 0
+
+  pub domain-at : keyDomain keyOf ≡ domOf (statedType L n)
+  domain-at = ap (λ p. keyDomain (getD ks (fieldAt b p 0) 0)) (G .place) ∙ domain-is b ds ts ks T n l
+
+  module _ (ls : List ℕ) (N : Leaves b ls) where
+    pub note-at : keyNote ls keyOf ≡ cellNote (statedType L n)
+    note-at = ap (λ p. keyNote ls (getD ks (fieldAt b p 0) 0)) (G .place) ∙ note-is b ds ts ks T n l ls N
+
+    pub key-fits : KeyFits ls keyOf
+    key-fits = subst (λ p. KeyFits ls (getD ks (fieldAt b p 0) 0)) (sym (G .place)) (fits b ds ts ks T n l ls N)
+
+  -- The kind of the last arm: of a number that is none of 32 to 53.
+  pub last-kind : {k : ℕ} → k ≡ numberAt b o → NotFrom32 k 22 → k ≡ 60
+  last-kind {k} e h = last-number k (termKind L n) (e ∙ any-kind .number) h
+
+  module _ (k : TermKind) (e : numberAt b o ≡ termRow k .number) where
+    pub kind-told : termKind L n ≡ k
+    kind-told = as-kind any-kind k e
+
+    pub here : Recorded b o n k (others L n) (children L n)
+    here = subst (λ j. Recorded b o n j (others L n) (children L n)) kind-told any-kind
+
+    -- The fields that every term of the kind has are there, and child i is one of them.
+    pub room : o + 4 + 2 * (leadOf k + leastChildren (termRow k)) ≤ length b
+    room = let z = here .least in let y = here .inside in omega arith
+
+    pub has-child : (i : ℕ) → i < leastChildren (termRow k) → Lower b o (leadOf k + i) n
+    has-child i h = let y = room in (omega arith, field-lower here i h)

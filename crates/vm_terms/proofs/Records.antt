@@ -1,0 +1,134 @@
+-- The record of a term by its fields (document 01, "The image": "Terms have their type t first, then lower term numbers e unless said"), and what its type's key says.
+use Prim.Native.Nat.{ℕ, suc, _+_, _*_, _≤_, _<_}
+use native.Mathlib.Omega.{arith}
+use mathlib.Core.Path.{_≡_, sym, ap, subst, _∙_}
+use mathlib.Core.List.{List}
+use lib.ListN.{length, getD, length-take}
+use lib.Seq.{getD-take}
+use Rattle.calculus.specs.Plain.{domOf}
+use Rattle.image.specs.Limits.{termLimit, operationCount}
+use Rattle.image.specs.Bytes.{lengthAt, numberAt, fieldCount, fieldAt}
+use Rattle.image.specs.Kinds.{TermKind, termRow, leadOf}
+use Rattle.image.specs.Records.{Layout, times, fieldsAt, numbersAt}
+use Rattle.image.specs.Layout.{recordsOf}
+use Rattle.image.specs.Types.{termPlace, typePlace, termKind, typeNo, statedType, others, children}
+use Rattle.image.specs.LaidOut.{IsRecord}
+use Rattle.image.proofs.Words.{words-length}
+use Rattle.image.proofs.KindNumbers.{same-term-kind}
+use Rattle.image.proofs.Laid.{Good, below-at, layout-good, image-kept}
+use Rattle.image.proofs.Counts.{leastChildren, mostChildren, children-between}
+use Rattle.image.proofs.Offsets.{number-at, fields-count, child-at, other-at}
+use Rattle.records.specs.Keys.{Key}
+use Rattle.records.specs.Tables.{Tables}
+use Rattle.records.specs.Leaves.{Leaves}
+use Rattle.vm_code.specs.PassUp.{cellNote}
+use Rattle.vm_terms.specs.Noted.{keyDomain, keyNote, KeyFits}
+use Rattle.vm_terms.proofs.Keyed.{key-domain, key-note, key-fits}
+
+-- The record at o is one of kind k, of term n: its fields behind the type that are no children are vs, and then come its children xs, which are lower terms.
+pub record Recorded (b : List ℕ) (o n : ℕ) (k : TermKind) (vs xs : List ℕ) : Type 0 where
+  pub number : numberAt b o ≡ termRow k .number
+  pub count : fieldCount b o ≡ leadOf k + length xs
+  pub size : lengthAt b o ≡ 4 + 2 * (leadOf k + length xs)
+  pub inside : o + 4 + 2 * (leadOf k + length xs) ≤ length b
+  pub least : leastChildren (termRow k) ≤ length xs
+  pub most : length xs ≤ mostChildren (termRow k)
+  pub other : (i : ℕ) → suc i < leadOf k → getD vs i 0 ≡ fieldAt b o (suc i)
+  pub child : (i : ℕ) → i < length xs → getD xs i 0 ≡ fieldAt b o (leadOf k + i)
+  pub lower : (i : ℕ) → i < length xs → getD xs i 0 < n
+  pub operation : k ≡ TermKind.arith → fieldAt b o 1 < operationCount
+
+-- Its kind is told by its number.
+pub as-kind : {b : List ℕ} {o n : ℕ} {k : TermKind} {vs xs : List ℕ} → Recorded b o n k vs xs → (j : TermKind) → numberAt b o ≡ termRow j .number → k ≡ j
+as-kind {k = k} R j e = same-term-kind k j (sym (R .number) ∙ e)
+
+-- A child that every term of the kind has, as a field: where it stands, and that it is a lower term.
+pub field-lower : {b : List ℕ} {o n : ℕ} {k : TermKind} {vs xs : List ℕ} → Recorded b o n k vs xs → (i : ℕ) → i < leastChildren (termRow k) → fieldAt b o (leadOf k + i) < n
+field-lower R i h = let e = R .child i (let z = R .least in omega arith) in let l = R .lower i (let z = R .least in omega arith) in omega arith
+
+arithmetic-field : (b : List ℕ) (o d y n : ℕ) (k : TermKind) → k ≡ TermKind.arith → IsRecord b (termRow k) o d y n → fieldAt b o 1 < operationCount
+arithmetic-field b o d y n k e =
+    subst (λ j. IsRecord b (termRow j) o d y n → fieldAt b o 1 < operationCount) (sym e)
+    (λ r. subst (λ v. v < operationCount) (number-at b o (termRow TermKind.arith) 1 (omega arith)) (r .fields 1 (omega arith)))
+
+laid-record : (L : Layout) → Good L → (n : ℕ) → n < length (L .terms) → Recorded (L .image) (termPlace L n) n (termKind L n) (others L n) (children L n)
+laid-record L good n l =
+    let b : List ℕ = L .image in
+    let o : ℕ = termPlace L n in
+    let k : TermKind = termKind L n in
+    let ok = good .terms n l in
+    let s = ok .is .stands in
+    let size = s .size in
+    let inside = s .inside in
+    let all = fields-count k b o in
+    let between = children-between (termRow k) (times (termRow k) (lengthAt b o)) (numbersAt b o (termRow k)) (words-length b (o + 4) (length (fieldsAt b o (termRow k)))) (s .least) (s .most) in
+    record {
+      number = s .number;
+      count = omega arith;
+      size = omega arith;
+      inside = omega arith;
+      least = between .0;
+      most = between .1;
+      other = other-at k b o;
+      child = child-at k b o;
+      lower = λ i h. below-at n (children L n) i (ok .below) h;
+      operation = λ e. arithmetic-field b o _ _ n k e (ok .is);
+    }
+
+-- The tables of an image that is laid out.
+module _ (b ds ts ks : List ℕ) (T : Tables b ds ts ks) where
+  abbrev L : Layout
+  L = recordsOf b
+
+  image-is : L .image ≡ b
+  image-is = image-kept b L (T .laid-out)
+
+  good : Good L
+  good = layout-good b L (T .laid-out)
+
+  pub few-terms : length (L .terms) ≤ termLimit
+  few-terms = good .few-terms
+
+  pub terms-long : length (L .terms) ≤ length ts
+  terms-long = let z = ap (λ xs. length xs) (T .terms) in let y = length-take (length (L .terms)) ts in omega arith
+
+  module _ (n : ℕ) (l : n < length (L .terms)) where
+    -- Its offset, as the table has it.
+    abbrev o : ℕ
+    o = getD ts n 0
+
+    pub place-is : o ≡ termPlace L n
+    place-is = sym (getD-take (length (L .terms)) ts n 0 l) ∙ ap (λ xs. getD xs n 0) (T .terms)
+
+    pub recorded : Recorded b o n (termKind L n) (others L n) (children L n)
+    recorded =
+        subst (λ p. Recorded b p n (termKind L n) (others L n) (children L n)) (sym place-is)
+        (subst (λ i. Recorded i (termPlace L n) n (termKind L n) (others L n) (children L n)) image-is (laid-record L good n l))
+
+    -- Its type, and the type's key.
+    type-is : fieldAt b o 0 ≡ typeNo L n
+    type-is = ap (λ p. fieldAt b p 0) place-is ∙ ap (λ i. fieldAt i (termPlace L n) 0) (sym image-is)
+
+    abbrev key : ℕ
+    key = getD ks (fieldAt b o 0) 0
+
+    typed : typeNo L n < length (L .types)
+    typed = good .terms n l .typed
+
+    pub has-key : fieldAt b o 0 < length ks
+    has-key = let e = T .enough in let t = typed in omega (arith, type-is)
+
+    keyed : Key (L .image) (typePlace L (typeNo L n)) key
+    keyed =
+        subst (λ i. Key i (typePlace L (typeNo L n)) key) (sym image-is)
+        (subst (λ t. Key b (typePlace L (typeNo L n)) (getD ks t 0)) (sym type-is) (T .keys (typeNo L n) typed))
+
+    pub domain-is : keyDomain key ≡ domOf (statedType L n)
+    domain-is = key-domain L good (typeNo L n) typed key keyed
+
+    module _ (ls : List ℕ) (N : Leaves b ls) where
+      pub note-is : keyNote ls key ≡ cellNote (statedType L n)
+      note-is = key-note L good (typeNo L n) typed key keyed ls (N .enough) (N .counts)
+
+      pub fits : KeyFits ls key
+      fits = key-fits L good (typeNo L n) typed key keyed ls (N .enough) (N .counts)

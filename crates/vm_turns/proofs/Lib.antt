@@ -1,0 +1,4 @@
+-- Turns one after another, and the proofs of the functions.
+pub mod Resumed
+pub mod Repeated
+pub mod Lent
