@@ -9,7 +9,7 @@ import sys
 from pathlib import Path
 
 ROOT = Path(__file__).resolve().parents[1]
-STATEMENTS = ("demands/specs", "calls/specs", "verdicts/specs/Acceptable.antt", "listing/specs/Listing.antt")
+STATEMENTS = ("demands/specs", "calls/specs", "verdict/specs/Acceptable.antt", "listing/specs/Listing.antt")
 IMPORT = re.compile(r"\s*use Rattle·(\w+?)(?:·specs)?\.specs\.([\w.]+?)\.\{")
 
 

@@ -76,7 +76,7 @@ class Numbers(unittest.TestCase):
     def test_records_of_log_and_report(self):
         leaves = cases("calculus", "Report.antt", "leafKind", "Leaf")
         self.header_has(leaves)
-        self.assertEqual(header()["PRINTED"], constants("area", "Records.antt")["logKind"])
+        self.assertEqual(header()["PRINTED"], constants("base_bytes", "Records.antt")["logKind"])
 
     def test_kinds(self):
         types, terms = rows("TypeKind"), rows("TermKind")

@@ -3,4 +3,3 @@ pub mod Signed
 pub mod Examples
 pub mod Refused
 pub mod Absent
-pub mod Lookup

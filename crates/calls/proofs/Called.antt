@@ -4,8 +4,8 @@ use mathlib.Core.Path.{_≡_, ap}
 use mathlib.Core.List.{List}
 use lib.ListN.{length}
 use Rattle.image.specs.declared.Refusal.{Refusal}
-use Rattle.verdicts.specs.declared.Verdict.{Verdict}
-use Rattle.verdicts.specs.Verdicts.{verdict}
+use Rattle.verdict.specs.declared.Verdict.{Verdict}
+use Rattle.verdict.specs.Verdicts.{verdict}
 use Rattle.calls.specs.Runs.{runOf}
 use Rattle.calls.specs.Calls.{refusedAnswer, leftBy, afterVerdict, called}
 

@@ -10,12 +10,12 @@ use Rattle.calculus.specs.Report.{report}
 use Rattle.image.specs.declared.Refusal.{Refusal}
 use Rattle.image.specs.Refusals.{refusalNumber}
 use Rattle.image.specs.Limits.{workLength}
-use Rattle.verdicts.specs.declared.Verdict.{Verdict}
-use Rattle.verdicts.specs.Verdicts.{verdict}
-use Rattle.area.specs.Bytes.{over, cleared}
+use Rattle.verdict.specs.declared.Verdict.{Verdict}
+use Rattle.verdict.specs.Verdicts.{verdict}
+use Rattle.base_bytes.specs.Bytes.{over, cleared}
 use Rattle.report.specs.declared.Ending.{Ending}
 use Rattle.report.specs.declared.Slot.{Slot}
-use Rattle.report.specs.Same.{endingOf, writtenLog, writtenReport}
+use Rattle.report.specs.OfRun.{endingOf, writtenLog, writtenReport}
 use Rattle.calls.specs.declared.Answer.{Answer}
 use Rattle.calls.specs.Runs.{runOf}
 

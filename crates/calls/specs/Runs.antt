@@ -7,8 +7,8 @@ use Rattle.calculus.specs.State.{Given, fresh}
 use Rattle.calculus.specs.Run.{Ended, run}
 use Rattle.image.specs.Layout.{recordsOf}
 use Rattle.image.specs.Program.{Program, program, toTm}
-use Rattle.verdicts.specs.declared.Verdict.{Verdict}
-use Rattle.verdicts.specs.Verdicts.{verdict}
+use Rattle.verdict.specs.declared.Verdict.{Verdict}
+use Rattle.verdict.specs.Verdicts.{verdict}
 
 abbrev pub programOf : List ℕ → Program
 programOf b = program (recordsOf b)

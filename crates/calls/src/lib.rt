@@ -1,7 +1,7 @@
 // What a whole call answers and leaves: the definition in specs/, and here the struct that answers.
 use report::Ending;
 use report::Slot;
-use verdicts::Verdict;
+use verdict::Verdict;
 
 // The answer of a call (document 01, "A run"): the outcome enum with the result's leaves beside it. Of a call that is
 // refused the verdict alone says something: it has no outcome, and its numbers are 0.

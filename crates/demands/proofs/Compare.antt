@@ -6,19 +6,20 @@ use mathlib.Core.Bool.{Bool}
 use mathlib.Core.List.{List}
 use Rattle.calculus.specs.Syntax.{Dom}
 use Rattle.calculus.specs.Typing.{Policy}
+use Rattle.calculus.specs.Accepted.{Accepted}
 use Rattle.image.specs.Layout.{recordsOf}
 use Rattle.image.specs.Program.{toTm, blanked}
 use Rattle.image.proofs.Blanked.{same-but-low}
-use Rattle.verdicts.specs.Domains.{policy}
-use Rattle.verdicts.proofs.Passed.{passed-iff}
-use Rattle.verdicts.proofs.Accept.{accepted-good, accepted-order}
-use Rattle.verdicts.proofs.Order.{leq-same}
-use Rattle.noninterference.specs.Observe as Observe
-use Rattle.noninterference.specs.Observe.{Highs, Same}
-use Rattle.noninterference.proofs.Theorem.{demand3}
-use Rattle.report.specs.Same.{SameBytes, writtenLog, writtenReport}
+use Rattle.verdict.specs.Domains.{policy}
+use Rattle.verdict.proofs.Passed.{passed-iff}
+use Rattle.verdict.proofs.Accept.{accepted-good, accepted-order}
+use Rattle.verdict.proofs.Order.{leq-same}
+use Rattle.calculus_noninterference.specs.Observe.{Highs, Same}
+use Rattle.calculus_noninterference.proofs.Theorem.{demand3}
+use Rattle.demands.specs.SameBytes.{SameBytes}
+use Rattle.report.specs.OfRun.{writtenLog, writtenReport}
 use Rattle.report.specs.Fits.{byField}
-use Rattle.report.proofs.Accepted.{demand3-bytes}
+use Rattle.demands.proofs.AcceptedBytes.{demand3-bytes}
 use Rattle.calls.specs.Runs.{Accepts, programOf, givenBy, runOf}
 use Rattle.demands.specs.Compare.{Compared}
 use Rattle.calls.proofs.Accepted.{transitive, typed}
@@ -51,8 +52,8 @@ module _ (high : Dom → Bool) (b b′ : List ℕ) (A : Accepts b) (A′ : Accep
   same-order = λ i. record { leq = λ d q. leq-same (recordsOf b) (recordsOf b′) (C .domains) d q i }
 
   -- The right image's program, typed by the left one's order, which is the same.
-  right-typed : Observe.Accepted (policy (recordsOf b)) (toTm (programOf b′))
-  right-typed = subst (λ (D : Policy). Observe.Accepted D (toTm (programOf b′))) (sym same-order) (typed b′ A′)
+  right-typed : Accepted (policy (recordsOf b)) (toTm (programOf b′))
+  right-typed = subst (λ (D : Policy). Accepted D (toTm (programOf b′))) (sym same-order) (typed b′ A′)
 
   pub demand3-images : (frame : List ℕ) (budget budget′ : ℕ) (log log′ : List ℕ) → Same high (runOf b frame budget log) (runOf b′ frame budget′ log′)
   demand3-images frame budget budget′ log log′ =

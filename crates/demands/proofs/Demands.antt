@@ -15,25 +15,26 @@ use Rattle.image.specs.declared.Refusal.{Refusal}
 use Rattle.image.specs.Limits.{workLength, reportLength}
 use Rattle.image.specs.Layout.{recordsOf}
 use Rattle.image.specs.Program.{toTm}
-use Rattle.verdicts.specs.declared.Verdict.{Verdict}
-use Rattle.verdicts.specs.Verdicts.{verdict}
-use Rattle.verdicts.specs.Domains.{policy}
-use Rattle.verdicts.specs.Acceptable.{Acceptable}
-use Rattle.verdicts.proofs.Accept.{accepted-iff}
+use Rattle.verdict.specs.declared.Verdict.{Verdict}
+use Rattle.verdict.specs.Verdicts.{verdict}
+use Rattle.verdict.specs.Domains.{policy}
+use Rattle.verdict.specs.Acceptable.{Acceptable}
+use Rattle.verdict.proofs.Accept.{accepted-iff}
 use Rattle.report.specs.Read.{readReport}
 use Rattle.report.specs.Written.{reportBytes}
-use Rattle.report.specs.Same.{endingOf, reportedNumber, writtenLog, writtenReport}
+use Rattle.report.specs.OfRun.{endingOf, reportedNumber, writtenLog, writtenReport}
 use Rattle.report.specs.Fits.{shortSize}
 use Rattle.report.proofs.Lengths.{length-log}
 use Rattle.report.proofs.Narrow.{report-read}
-use Rattle.report.proofs.Accepted.{program-cells-few, program-result-few, program-report-short, program-log-short}
+use Rattle.demands.proofs.AcceptedBytes.{program-cells-few, program-result-few, program-report-short, program-log-short}
 use Rattle.calls.specs.Runs.{Accepts, programOf, givenBy, runOf}
 use Rattle.calls.specs.Calls.{refusedAnswer, leftBy, called}
 use Rattle.demands.specs.Calls.{Runs, RunsOut}
 use Rattle.demands.specs.Compare.{Demand3}
 use Rattle.calls.proofs.Slots.{leaves-back}
 use Rattle.calls.proofs.Called.{refused-leaves, accepted-leaves}
-use Rattle.calls.proofs.Accepted.{transitive, typed, one-of-ten}
+use Rattle.calls.proofs.Accepted.{transitive, typed}
+use Rattle.demands.proofs.Outcomes.{one-of-ten}
 use Rattle.demands.proofs.Compare.{demand3-written}
 use Rattle.demands.proofs.Steps.{steps-within, spent-steps}
 use Rattle.demands.proofs.Written.{outcome-fits, take-front, drop-front, length-front, cleared-zero, cleared-past, length-cleared}

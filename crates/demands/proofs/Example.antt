@@ -15,22 +15,22 @@ use Rattle.calculus.specs.Step.{step}
 use Rattle.calculus.specs.Run.{after, run}
 use Rattle.calculus.specs.Report.{leaves}
 use Rattle.image.specs.Limits.{workLength, reportLength}
-use Rattle.image.specs.Tests.{all, allOf, anyBelow, firstFault}
+use Rattle.laws.specs.Tests.{all, allOf, anyBelow, firstFault}
 use Rattle.image.specs.Bytes.{words}
 use Rattle.image.specs.Kinds.{find}
 use Rattle.image.specs.Layout.{allWithin, tests, walk, layout, recordsOf}
 use Rattle.image.specs.Types.{typeOut, typeFrom, typeOf}
 use Rattle.image.specs.Program.{tree, program, assemble, toTm}
-use Rattle.image.proofs.Facts.{no-path, eq-of}
-use Rattle.verdicts.specs.Answers.{requireFrom, inTurn}
-use Rattle.verdicts.specs.Domains.{bits, order, leq}
-use Rattle.verdicts.specs.Order.{atFault}
-use Rattle.verdicts.specs.Shape.{count, uses, depthsFrom, depths, shape}
-use Rattle.verdicts.specs.Check.{checkAll, check, typing}
-use Rattle.verdicts.specs.Verdicts.{verdict}
-use Rattle.verdicts.proofs.Images.{little, rec, image, one-domain, two-domains, unit, number, literal}
-use Rattle.verdicts.proofs.Examples.{lowered, same-lowered}
-use Rattle.area.specs.Bytes.{bytesOf, over, cleared}
+use Rattle.laws.proofs.Booleans.{no-path, eq-of}
+use Rattle.verdict.specs.Answers.{requireFrom, inTurn}
+use Rattle.verdict.specs.Domains.{bits, order, leq}
+use Rattle.verdict.specs.Order.{atFault}
+use Rattle.verdict.specs.Shape.{count, uses, depthsFrom, depths, shape}
+use Rattle.verdict.specs.Check.{checkAll, check, typing}
+use Rattle.verdict.specs.Verdicts.{verdict}
+use Rattle.verdict.proofs.Images.{little, rec, image, one-domain, two-domains, unit, number, literal}
+use Rattle.verdict.proofs.Examples.{lowered, same-lowered}
+use Rattle.base_bytes.specs.Bytes.{bytesOf, over, cleared}
 use Rattle.report.specs.Records.{recordsBytes}
 use Rattle.calls.specs.Calls.{Left, called}
 use Rattle.demands.specs.Calls.{Runs, logWritten}

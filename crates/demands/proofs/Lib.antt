@@ -1,5 +1,8 @@
 -- The demands, about images and about whole calls.
+pub mod SameBytes
+pub mod AcceptedBytes
 pub mod ByField
+pub mod Outcomes
 pub mod Compare
 pub mod Written
 pub mod Steps

@@ -16,21 +16,21 @@ use Rattle.calculus.specs.Step.{step}
 use Rattle.calculus.specs.Run.{Ended, after, run}
 use Rattle.calculus.specs.Report.{leaves}
 use Rattle.image.specs.declared.Refusal.{Refusal}
-use Rattle.image.specs.Tests.{all, allOf, anyBelow, firstFault}
+use Rattle.laws.specs.Tests.{all, allOf, anyBelow, firstFault}
 use Rattle.image.specs.Bytes.{words}
 use Rattle.image.specs.Kinds.{find}
 use Rattle.image.specs.Layout.{allWithin, tests, walk, layout, recordsOf}
 use Rattle.image.specs.Types.{typeOut, typeFrom, typeOf}
 use Rattle.image.specs.Program.{tree, program, assemble, toTm}
-use Rattle.verdicts.specs.declared.Verdict.{Verdict}
-use Rattle.verdicts.specs.Answers.{refusalOf, requireFrom, inTurn}
-use Rattle.verdicts.specs.Domains.{bits, order, leq}
-use Rattle.verdicts.specs.Order.{atFault}
-use Rattle.verdicts.specs.Shape.{count, uses, depthsFrom, depths, shape}
-use Rattle.verdicts.specs.Check.{checkAll, check, typing}
-use Rattle.verdicts.specs.Verdicts.{verdict}
-use Rattle.verdicts.proofs.Images.{little, rec, image, one-domain, two-domains, unit, number, literal, p2-image, p6-image, p8-image}
-use Rattle.area.specs.Bytes.{bytesOf, numberOf, numberAt, over, cleared}
+use Rattle.verdict.specs.declared.Verdict.{Verdict}
+use Rattle.verdict.specs.Answers.{refusalOf, requireFrom, inTurn}
+use Rattle.verdict.specs.Domains.{bits, order, leq}
+use Rattle.verdict.specs.Order.{atFault}
+use Rattle.verdict.specs.Shape.{count, uses, depthsFrom, depths, shape}
+use Rattle.verdict.specs.Check.{checkAll, check, typing}
+use Rattle.verdict.specs.Verdicts.{verdict}
+use Rattle.verdict.proofs.Images.{little, rec, image, one-domain, two-domains, unit, number, literal, p2-image, p6-image, p8-image}
+use Rattle.base_bytes.specs.Bytes.{bytesOf, numberOf, numberAt, over, cleared}
 use Rattle.report.specs.declared.Ending.{Ending}
 use Rattle.report.specs.Records.{recordsBytes, recordsAfter}
 use Rattle.calls.specs.declared.Answer.{Answer}

@@ -14,10 +14,10 @@ use Rattle.calculus.specs.Step.{step}
 use Rattle.calculus.specs.Run.{End, done, stopped, stuck, Ended, ended, after, run}
 use Rattle.calculus.specs.Report.{outcomeOf, report}
 use Rattle.calculus.specs.Typing.{Policy, StoreTyping, TmTy, noStore}
-use Rattle.safety.proofs.Order.{Transitive}
-use Rattle.safety.proofs.StoreFits.{StateFits, fits-fresh}
-use Rattle.safety.proofs.Safe.{Safe, Safe.safe-go, Safe.safe-full, Safe.safe-halt}
-use Rattle.safety.proofs.Safety.{safe}
+use Rattle.calculus.specs.Accepted.{Transitive}
+use Rattle.calculus_safety.proofs.StoreFits.{StateFits, fits-fresh}
+use Rattle.calculus_safety.proofs.Safe.{Safe, Safe.safe-go, Safe.safe-full, Safe.safe-halt}
+use Rattle.calculus_safety.proofs.Safety.{safe}
 
 pub steps-within : (n : ℕ) (G : Given) (k : ℕ) (s : State) (e : Tm) → run n G k s e .steps ≤ k + n
 unfolding run cases after

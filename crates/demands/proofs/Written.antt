@@ -7,8 +7,8 @@ use lib.ListN.{length, take, drop, replicate, length-append, length-drop, length
 use lib.Seq.{take-at, take-append-seam, drop-append-seam}
 use Rattle.calculus.specs.declared.Outcome.{Outcome}
 use Rattle.calculus.specs.Report.{outcomeNumber}
-use Rattle.area.specs.Bytes.{over, cleared}
-use Rattle.area.proofs.Over.{over-front, length-over}
+use Rattle.base_bytes.specs.Bytes.{over, cleared}
+use Rattle.base_bytes.proofs.Over.{over-front, length-over}
 use Rattle.report.specs.Fits.{shortSize}
 
 -- An outcome's number fits its field of the report.

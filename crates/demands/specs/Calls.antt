@@ -10,8 +10,8 @@ use Rattle.calculus.specs.State.{logOf}
 use Rattle.calculus.specs.Run.{Ended}
 use Rattle.calculus.specs.Report.{outcomeNumber, report as reported}
 use Rattle.image.specs.Limits.{workLength, reportLength}
-use Rattle.verdicts.specs.declared.Verdict.{Verdict}
-use Rattle.verdicts.specs.Verdicts.{verdict}
+use Rattle.verdict.specs.declared.Verdict.{Verdict}
+use Rattle.verdict.specs.Verdicts.{verdict}
 use Rattle.report.specs.declared.Ending.{Ending}
 use Rattle.report.specs.Written.{leavesIn, logBytes, reportBytes}
 use Rattle.report.specs.Read.{readReport}

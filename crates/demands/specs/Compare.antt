@@ -8,8 +8,8 @@ use Rattle.calculus.specs.Syntax.{Dom}
 use Rattle.image.specs.Records.{Layout}
 use Rattle.image.specs.Layout.{recordsOf}
 use Rattle.image.specs.Program.{blanked}
-use Rattle.verdicts.specs.Domains.{masks, leq}
-use Rattle.report.specs.Same.{SameBytes}
+use Rattle.verdict.specs.Domains.{masks, leq}
+use Rattle.demands.specs.SameBytes.{SameBytes}
 use Rattle.calls.specs.Runs.{programOf}
 use Rattle.calls.specs.Calls.{Left, called}
 use Rattle.demands.specs.Calls.{Runs, logWritten, reportWritten}

@@ -1,3 +1,4 @@
 -- What the demands say of images and of whole calls.
 pub mod Calls
+pub mod SameBytes
 pub mod Compare

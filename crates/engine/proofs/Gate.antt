@@ -5,9 +5,9 @@ use mathlib.Core.List.{List}
 use lib.ListN.{length}
 use Rattle.image.specs.declared.Refusal.{Refusal}
 use Rattle.image.specs.Limits.{imageLimit, workLength, reportLength}
-use Rattle.verdicts.specs.declared.Verdict.{Verdict}
-use Rattle.verdicts.specs.Verdicts.{verdict}
-use Rattle.examine.specs.Examined.{examined}
+use Rattle.verdict.specs.declared.Verdict.{Verdict}
+use Rattle.verdict.specs.Verdicts.{verdict}
+use Rattle.validator.specs.Examined.{examined}
 use Rattle.validator.proofs.Parts.{too-long, examined-refuses, short-work, short-report, all-enough}
 use Rattle.calls.specs.declared.Answer.{Answer}
 use Rattle.calls.specs.Runs.{Accepts, runOf}

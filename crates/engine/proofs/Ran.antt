@@ -4,18 +4,19 @@ use native.Mathlib.Omega.{arith}
 use mathlib.Core.Path.{_≡_, sym, ap, ap₂, _∙_}
 use mathlib.Core.List.{List, _++_}
 use lib.ListN.{length, replicate}
+use lib.Dec.{lit<}
 use Rattle.image.specs.declared.Refusal.{Refusal}
 use Rattle.image.specs.Refusals.{refusalNumber}
 use Rattle.image.specs.Limits.{workLength}
 use Rattle.image.specs.Layout.{recordsOf}
-use Rattle.verdicts.specs.declared.Verdict.{Verdict}
-use Rattle.verdicts.proofs.Passed.{passed-iff}
-use Rattle.records.specs.Tables.{Tables}
-use Rattle.rules.specs.Lent.{Types}
-use Rattle.rules.proofs.Located.{good-of}
-use Rattle.area.specs.Bytes.{over, cleared}
-use Rattle.area.specs.Memory.{wordCount}
-use Rattle.area.proofs.Memory.{length-words, length-beside}
+use Rattle.verdict.specs.declared.Verdict.{Verdict}
+use Rattle.verdict.proofs.Passed.{passed-iff}
+use Rattle.check_records.specs.Tables.{Tables}
+use Rattle.check_rules.specs.Lent.{Types}
+use Rattle.check_rules.proofs.Located.{good-of}
+use Rattle.base_bytes.specs.Bytes.{over, cleared}
+use Rattle.base_bytes.specs.Memory.{wordCount}
+use Rattle.base_bytes.proofs.Memory.{length-words, length-beside}
 use Rattle.vm_code.specs.Words.{home}
 use Rattle.vm_code.specs.Code.{codeOf, rootTarget}
 use Rattle.vm_machine.specs.declared.Regs.{Regs}
@@ -24,6 +25,8 @@ use Rattle.vm_machine.specs.States.{State}
 use Rattle.vm_machine.specs.Run.{startState, turnsFor, vmRun}
 use Rattle.vm_machine.specs.Fits.{Safe}
 use Rattle.vm_linked.specs.TableOf.{AreBytes}
+use Rattle.vm_fusion.specs.Sequences.{Fused}
+use Rattle.vm_fuse.proofs.Laws.{zeros-fused}
 use Rattle.vm_tables.specs.View.{memoryOf}
 use Rattle.vm_states.specs.Phases.{Moved}
 use Rattle.calls.specs.declared.Answer.{Answer}
@@ -34,12 +37,20 @@ use Rattle.agreement.specs.Machine.{LeavesRun}
 use Rattle.agreement.proofs.Machine.{image-fits, image-safe}
 use Rattle.agreement.proofs.Tables.{image-leaves}
 
--- The keys are those of the image's types, which are at most 128.
+-- The descriptors are those of the image's types, which are at most 128.
 pub types-in : (b ds ts ks : List ℕ) → Tables b ds ts ks → Types b ks
-types-in b ds ts ks T = record { laid-out = T .laid-out; enough = T .enough; keys = T .keys }
+types-in b ds ts ks T = record { laid-out = T .laid-out; enough = T .enough; descriptors = T .descriptors }
 
 pub few-types : (b ds ts ks : List ℕ) (n : ℕ) → Tables b ds ts ks → n ≡ length (recordsOf b .types) → n ≤ 128
 few-types b ds ts ks n T e = let f = good-of b (T .laid-out) .few-types in omega arith
+
+-- Terms are at most 1,024, so that there is a dispatch number for each.
+pub few-terms : (b ds ts ks : List ℕ) (n : ℕ) → Tables b ds ts ks → n ≡ length (recordsOf b .terms) → n ≤ home
+few-terms b ds ts ks n T e = let f = good-of b (T .laid-out) .few-terms in omega arith
+
+-- A table of zeros says nothing, and is long enough.
+pub no-numbers : (code dispatch : List ℕ) → dispatch ≡ replicate 1025 0 → (home < length dispatch) × Fused code dispatch
+no-numbers code dispatch e = rw e (lit< tt, zeros-fused code 1025)
 
 -- An accepted image has a term.
 pub some-term : (b : List ℕ) (count : ℕ) → Accepts b → count ≡ length (recordsOf b .terms) → 0 < count

@@ -4,7 +4,7 @@ use calls::Answer;
 use image::Refusal;
 use report::Ending;
 use report::Slot;
-use verdicts::Verdict;
+use verdict::Verdict;
 ghost use mathlib.Core.Path.{_≡_};
 ghost use Rattle.calls.specs.Calls.{refusedAnswer, callNumber};
 

@@ -4,9 +4,9 @@ mod accepted;
 mod answers;
 
 use calls::Answer;
-use examine::Checked;
 use image::IMAGE_LIMIT;
 use image::Refusal;
+use validator::examine::Checked;
 ghost use mathlib.Core.Path.{_≡_};
 ghost use Rattle.calls.specs.Calls.{called, Numbered};
 
@@ -24,24 +24,24 @@ pub fn run(
     if IMAGE_LIMIT < image.len() {
         return answers::refused(Refusal::ImageTooLong, 0);
     }
-    let kinds = records::kinds::kind_codes();
+    let kinds = check_records::kinds::kind_codes();
     let mut doms = [0u16; 16];
     let mut types = [0u16; 128];
-    let mut keys = [0u32; 128];
+    let mut descriptors = [0u32; 128];
     let mut terms = [0u16; 1024];
-    let checked = examine::examine_image(
+    let checked = validator::examine::examine_image(
         image,
         &kinds,
         &mut doms,
         &mut types,
-        &mut keys,
+        &mut descriptors,
         &mut terms,
     );
     match checked {
         Checked::Refused(why, place) => answers::refused(why, place),
         Checked::Accepted(counts) => accepted::run_lent(
             image,
-            &keys,
+            &descriptors,
             &terms,
             counts,
             frame,

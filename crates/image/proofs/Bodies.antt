@@ -6,7 +6,7 @@ use mathlib.Core.List.{List, [], _∷_}
 use lib.ListN.{getD}
 use lib.Dec.{eqb}
 use Rattle.image.specs.Kinds.{Body, here, function-body, advice-body, split-body, lower-body, TermKind, termRow, bodies, bodyOf}
-use Rattle.image.proofs.Facts.{and-l, and-r, eq-of}
+use Rattle.laws.proofs.Booleans.{and-l, and-r, eq-of}
 use Rattle.image.proofs.KindNumbers.{same-term-kind}
 use Rattle.image.proofs.EveryKind.{everyOf, at-term}
 

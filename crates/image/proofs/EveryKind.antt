@@ -7,7 +7,7 @@ use mathlib.Core.Option.{none, some}
 use lib.ListN.{length, getD}
 use lib.Dec.{eqb, leb}
 use Rattle.image.specs.Kinds.{Field, a-type, own, free, a-term, an-entry, TypeKind, TermKind, Kind, domain, type, term, termRow, rowOf, find, kinds}
-use Rattle.image.proofs.Facts.{no-path, and-l, and-r, le-of}
+use Rattle.laws.proofs.Booleans.{no-path, and-l, and-r, le-of}
 use Rattle.image.proofs.KindNumbers.{found}
 
 unfoldable pub everyOf : (Kind → Bool) → List Kind → Bool

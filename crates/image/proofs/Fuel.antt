@@ -11,10 +11,11 @@ use Rattle.image.specs.declared.Refusal.{Refusal}
 use Rattle.image.specs.Bytes.{lengthAt}
 use Rattle.image.specs.Records.{Layout, kindAt}
 use Rattle.image.specs.Layout.{framed, tests, add, walk}
-use Rattle.image.specs.Tests.{firstFault}
+use Rattle.laws.specs.Tests.{firstFault}
 use Rattle.image.specs.Types.{children}
 use Rattle.image.specs.Program.{subtrees, tree}
-use Rattle.image.proofs.Facts.{le-of, each, passed}
+use Rattle.laws.proofs.Booleans.{le-of}
+use Rattle.laws.proofs.Tests.{each, passed}
 use Rattle.image.proofs.Laid.{Below, Good, same-image}
 
 -- A record that passes has 4 bytes or more, inside the image.

@@ -9,14 +9,16 @@ use lib.ListN.{length, getD, length-append, List·getD-append}
 use lib.Dec.{eqb}
 use Rattle.image.specs.declared.Refusal.{Refusal}
 use Rattle.image.specs.Limits.{domainLimit, typeLimit, termLimit}
-use Rattle.image.specs.Tests.{firstFault}
+use Rattle.laws.specs.Tests.{firstFault}
 use Rattle.image.specs.Bytes.{lengthAt, numberAt, fieldAt}
 use Rattle.image.specs.Kinds.{in-domains, in-operations, in-truths, any-number, Field, a-type, a-domain, own, free, a-term, an-entry, TypeKind, TermKind, Kind, domain, type, term, domainRow, typeRow, termRow, rowOf, kindOf, find, again}
 use Rattle.image.specs.Records.{Layout, kindAt, times, fieldsAt, numbersAt, asChild, given, childrenAt}
 use Rattle.image.specs.Layout.{nothing, framed, known, rightLength, isNil, inOrder, hasRoom, within, allWithin, inRange, sameNumbers, sameType, isNew, tests, add, stopped, laid, walk, layout, recordsOf}
 use Rattle.image.specs.Types.{typeKindOf, termKindOf, domainPlace, typePlace, termPlace, typeKind, termKind}
 use Rattle.image.specs.LaidOut.{Stands, Within, IsRecord}
-use Rattle.image.proofs.Facts.{no-path, and-l, and-r, and-i, not-t, lt-of, le-of, eq-of, of-eq, each, all-of, passed, each-snoc}
+use Rattle.laws.proofs.Booleans.{no-path, and-l, and-r, and-i, not-t, lt-of, le-of, eq-of, of-eq}
+use Rattle.laws.proofs.Tests.{each, all-of, passed}
+use Rattle.laws.proofs.Lists.{each-snoc}
 use Rattle.image.proofs.Words.{words-length, words-at}
 use Rattle.image.proofs.EveryKind.{type-first}
 

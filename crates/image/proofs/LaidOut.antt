@@ -10,14 +10,15 @@ use lib.ListN.{length, getD, length-append, List·getD-append}
 use lib.Seq.{getD-append-seam}
 use lib.Dec.{eqb}
 use Rattle.image.specs.Limits.{domainLimit, typeLimit, termLimit}
-use Rattle.image.specs.Tests.{firstFault}
+use Rattle.laws.specs.Tests.{firstFault}
 use Rattle.image.specs.Bytes.{lengthAt, numberAt}
 use Rattle.image.specs.Kinds.{in-domains, in-operations, in-truths, any-number, Field, a-type, own, free, a-term, an-entry, Kind, domain, type, term, domainRow, typeRow, termRow, rowOf, kindOf}
 use Rattle.image.specs.Records.{Layout, orElse, kindAt, fieldsAt, numbersAt}
 use Rattle.image.specs.Layout.{nothing, known, rightLength, isNil, inOrder, hasRoom, within, allWithin, inRange, sameType, isNew, tests, add, laid, walk, layout}
 use Rattle.image.specs.Types.{typeKindOf, typePlace, typeNumber, typeKind, typeFields, termKind}
 use Rattle.image.specs.LaidOut.{EndToEnd, Stands, Within, IsRecord, SameType, LaidOut}
-use Rattle.image.proofs.Facts.{no-path, and-i, of-lt, of-le, eq-of, of-eq, each, of-each, of-all}
+use Rattle.laws.proofs.Booleans.{no-path, and-i, of-lt, of-le, eq-of, of-eq}
+use Rattle.laws.proofs.Tests.{each, of-each, of-all}
 use Rattle.image.proofs.KindNumbers.{found}
 use Rattle.image.proofs.Fuel.{walk-fuel}
 use Rattle.image.proofs.Laid.{same-numbers, numbers-same, tests-passed, walk-reaches, layout-good}
@@ -153,10 +154,10 @@ follows-walks f o K M k w h = go (eqb o (length (K .image))) refl
     go true e = let z : o ≡ length (K .image) = eq-of e in let i = w .is .stands .inside in let n = w .is .stands .size in absurd (omega arith)
     go false e = rw (e, follows-passes K o k w, walk) (subst (λ j. walk f (o + lengthAt (K .image) o) (add j o K) ≡ laid M) (sym (kind-at K o k w)) h)
 
-ended : (f o : ℕ) (K : Layout) → o ≡ length (K .image) → walk f o K ≡ laid K
+pub walk-end : (f o : ℕ) (K : Layout) → o ≡ length (K .image) → walk f o K ≡ laid K
 unfolding walk
-ended zero o K h = let e : eqb o (length (K .image)) ≡ true = of-eq h in rw (e, walk) refl
-ended (suc f) o K h = let e : eqb o (length (K .image)) ≡ true = of-eq h in rw (e, walk) refl
+walk-end zero o K h = let e : eqb o (length (K .image)) ≡ true = of-eq h in rw (e, walk) refl
+walk-end (suc f) o K h = let e : eqb o (length (K .image)) ≡ true = of-eq h in rw (e, walk) refl
 
 -- The next of the offsets xs behind the offsets that were walked.
 seam : (xs ys : List ℕ) (p : ℕ) (rest : List ℕ) → ys ++ (p ∷ rest) ≡ xs → (getD xs (length ys) 0 ≡ p) × (length ys < length xs)
@@ -170,7 +171,7 @@ module _ (L : Layout) (l : LaidOut L) where
   upto xs ys zs = record { image = L .image; domains = xs; types = ys; terms = zs }
 
   walk-terms : (rest zs : List ℕ) (f o : ℕ) → zs ++ rest ≡ L .terms → EndToEnd (L .image) o rest → length rest ≤ f → walk f o (upto (L .domains) (L .types) zs) ≡ laid L
-  walk-terms [] zs f o e j n = ended f o _ j ∙ ap (λ xs. laid (upto (L .domains) (L .types) xs)) (sym (append-nil zs) ∙ e)
+  walk-terms [] zs f o e j n = walk-end f o _ j ∙ ap (λ xs. laid (upto (L .domains) (L .types) xs)) (sym (append-nil zs) ∙ e)
   walk-terms (p ∷ rest) zs zero o e j n = absurd (omega arith)
   walk-terms (p ∷ rest) zs (suc f) o e j n =
       let s = seam (L .terms) zs p rest e in

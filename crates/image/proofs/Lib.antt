@@ -1,5 +1,4 @@
 -- What the walk assures of the records that it lays out; kinds and types by their numbers; programs that differ only in low bodies.
-pub mod Facts
 pub mod Words
 pub mod KindNumbers
 pub mod EveryKind

@@ -5,11 +5,12 @@ use mathlib.Core.Path.{_≡_, refl, sym, ap, _∙_}
 use mathlib.Core.Bool.{Bool, true, false}
 use mathlib.Core.List.{List, [], _∷_, _++_}
 use lib.ListN.{length, getD}
-use Rattle.image.specs.Tests.{all}
+use Rattle.laws.specs.Tests.{all}
 use Rattle.image.specs.Bytes.{le16, words, lengthAt, fieldAt}
 use Rattle.image.specs.Kinds.{Field, a-type, own, a-term, an-entry, TermKind, Row, termRow, again, lead, leadOf}
 use Rattle.image.specs.Records.{times, fieldsAt, numbersAt, asChild, asOther, given, childrenAt, othersAt}
-use Rattle.image.proofs.Facts.{no-path, each}
+use Rattle.laws.proofs.Booleans.{no-path}
+use Rattle.laws.proofs.Tests.{each}
 use Rattle.image.proofs.Words.{words-length, words-at}
 use Rattle.image.proofs.EveryKind.{everyOf, at-term}
 

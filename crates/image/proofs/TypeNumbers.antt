@@ -13,7 +13,8 @@ use Rattle.image.specs.Kinds.{Field, a-type, free, TypeKind, type, typeR
 use Rattle.image.specs.Records.{Layout, times, fieldsAt, numbersAt}
 use Rattle.image.specs.Layout.{sameType}
 use Rattle.image.specs.Types.{typeKindOf, typePlace, typeNumber, typeKind, typeFields, typeField, isType, typeOut, typeFrom, typeOf}
-use Rattle.image.proofs.Facts.{no-path, lt-of, ge-of, eq-of, of-eq, of-each}
+use Rattle.laws.proofs.Booleans.{no-path, lt-of, ge-of, eq-of, of-eq}
+use Rattle.laws.proofs.Tests.{of-each}
 use Rattle.image.proofs.KindNumbers.{same-kind}
 use Rattle.image.proofs.Words.{words-length}
 use Rattle.image.proofs.Laid.{same-numbers, Good, kind-number}

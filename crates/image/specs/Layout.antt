@@ -7,11 +7,10 @@ use lib.ListN.{length}
 use lib.Dec.{eqb, ltb, leb}
 use Rattle.image.specs.declared.Refusal.{Refusal}
 use Rattle.image.specs.Limits.{domainLimit, typeLimit, termLimit, operationCount}
-use Rattle.image.specs.Tests.{all, allOf, firstFault}
+use Rattle.laws.specs.Tests.{all, allOf, firstFault}
 use Rattle.image.specs.Bytes.{lengthAt, numberAt}
 use Rattle.image.specs.Kinds.{in-domains, in-operations, in-truths, any-number, Field, a-type, own, a-term, an-entry, Kind, domain, type, term, Row, typeRow, rowOf, kindOf, fieldsOf}
-use Rattle.image.specs.Records.{times, fieldsAt, numbersAt}
-pub use Rattle.image.specs.Records.{Layout, orElse, kindAt, childrenAt}
+use Rattle.image.specs.Records.{Layout, kindAt, times, fieldsAt, numbersAt}
 
 -- Before the walk: no records yet.
 abbrev pub nothing : List ℕ → Layout

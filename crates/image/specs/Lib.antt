@@ -1,7 +1,6 @@
 -- The image: its limits, bytes, kinds, records and program (document 01, "The image", "Turned back at the gate" and "Two runs compared").
 pub mod Limits
 pub mod Refusals
-pub mod Tests
 pub mod Bytes
 pub mod Kinds
 pub mod Records

@@ -18,8 +18,8 @@ use Rattle.calculus.specs.State.{picked}
 use Rattle.calculus.specs.Report.{outcomeNumber}
 use Rattle.image.specs.declared.Refusal.{Refusal}
 use Rattle.image.specs.Refusals.{refusalNumber}
-use Rattle.area.specs.Bytes.{numberOf, numberAt}
-use Rattle.area.specs.Records.{Record}
+use Rattle.base_bytes.specs.Bytes.{numberOf, numberAt}
+use Rattle.base_bytes.specs.Records.{Record}
 use Rattle.report.specs.declared.Ending.{Ending}
 use Rattle.report.specs.Records.{lengthOf, isWhole, firstRecord, recordsIn}
 use Rattle.report.specs.Read.{printIn, leafIn, cellIn, readReport}

@@ -9,8 +9,8 @@ use lib.ListN.{length, getD, take, set, length-take, length-append}
 use lib.Seq.{length-take-le, take-all, take-nil, take-suc, sets-eq}
 use lib.Dec.{leb}
 use borrow.Author.Tests.{leb-true, leb-false}
-use Rattle.area.specs.Bytes.{over}
-use Rattle.area.proofs.Over.{length-over, over-nothing, over-over}
+use Rattle.base_bytes.specs.Bytes.{over}
+use Rattle.base_bytes.proofs.Over.{length-over, over-nothing, over-over}
 use Rattle.listing.specs.Puts.{fitting, Puts, PutsWithin}
 
 -- A text of which nothing fits.

@@ -14,8 +14,8 @@ use Rattle.calculus.specs.Combinators.{choose}
 use Rattle.calculus.specs.State.{picked}
 use Rattle.calculus.specs.Report.{outcomeNumber}
 use Rattle.image.specs.declared.Refusal.{Refusal}
-use Rattle.verdicts.specs.declared.Verdict.{Verdict}
-use Rattle.area.specs.Bytes.{numberOf, numberAt}
+use Rattle.verdict.specs.declared.Verdict.{Verdict}
+use Rattle.base_bytes.specs.Bytes.{numberOf, numberAt}
 use Rattle.report.specs.declared.Ending.{Ending}
 use Rattle.report.specs.Records.{recordsIn}
 use Rattle.report.specs.Read.{leafIn}

@@ -10,7 +10,7 @@ use lib.Seq.{drop-cons}
 use lib.Dec.{leb}
 use borrow.Author.Tests.{leb-true, le-leb, lt-leb}
 use Rattle.calculus.specs.Combinators.{choose}
-use Rattle.area.specs.Bytes.{numberOf, numberAt}
+use Rattle.base_bytes.specs.Bytes.{numberOf, numberAt}
 use Rattle.listing.specs.Offsets.{sizeAt}
 
 -- The 16-bit number at an offset with two bytes, one byte or none after it.

@@ -11,8 +11,8 @@ use lib.Dec.{leb}
 use borrow.Author.Tests.{leb-true}
 use Rattle.calculus.specs.Combinators.{choose}
 use Rattle.calculus.specs.State.{consOption, picked}
-use Rattle.area.specs.Bytes.{numberOf, numberAt}
-use Rattle.area.specs.Records.{Record}
+use Rattle.base_bytes.specs.Bytes.{numberOf, numberAt}
+use Rattle.base_bytes.specs.Records.{Record}
 use Rattle.report.specs.Records.{lengthOf, isWhole, firstRecord, recordsIn}
 use Rattle.report.proofs.ReadRecords.{read-none, read-whole}
 use Rattle.listing.specs.Text.{texts}

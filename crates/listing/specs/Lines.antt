@@ -12,7 +12,7 @@ use Rattle.calculus.specs.State.{Print}
 use Rattle.calculus.specs.Report.{outcomeNumber, CellReport}
 use Rattle.image.specs.declared.Refusal.{Refusal}
 use Rattle.image.specs.Refusals.{refusalNumber}
-use Rattle.verdicts.specs.declared.Verdict.{Verdict}
+use Rattle.verdict.specs.declared.Verdict.{Verdict}
 use Rattle.report.specs.declared.Ending.{Ending}
 use Rattle.listing.specs.Text.{ascii, decimal, signedDecimal, texts}
 

@@ -4,7 +4,7 @@ use mathlib.Core.List.{List, []}
 use mathlib.Core.Option.{Option, none, some}
 use lib.ListN.{drop}
 use Rattle.calculus.specs.Combinators.{choose}
-use Rattle.area.specs.Records.{Record}
+use Rattle.base_bytes.specs.Records.{Record}
 use Rattle.report.specs.Records.{lengthOf, isWhole}
 use Rattle.report.specs.Read.{printIn, leafIn, cellIn}
 use Rattle.listing.specs.Lines.{printLine, leafText, cellLine}

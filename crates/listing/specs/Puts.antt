@@ -3,7 +3,7 @@ use Prim.Native.Nat.{ℕ, _+_, _-_, _≤_}
 use mathlib.Core.Path.{_≡_}
 use mathlib.Core.List.{List}
 use lib.ListN.{length, take}
-use Rattle.area.specs.Bytes.{over}
+use Rattle.base_bytes.specs.Bytes.{over}
 
 -- What of a text fits into the buffer xs from offset o on.
 abbrev pub fitting : List ℕ → ℕ → List ℕ → List ℕ

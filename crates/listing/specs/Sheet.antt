@@ -4,7 +4,7 @@ use mathlib.Core.Path.{_≡_}
 use mathlib.Core.List.{List, [], _∷_, _++_}
 use lib.ListN.{length, replicate}
 use Rattle.image.specs.Limits.{workLength, reportLength}
-use Rattle.area.specs.Bytes.{over}
+use Rattle.base_bytes.specs.Bytes.{over}
 use Rattle.calls.specs.Calls.{Left, called}
 use Rattle.listing.specs.Listing.{listing, listingBound}
 use Rattle.listing.specs.Puts.{Front}

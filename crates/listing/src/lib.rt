@@ -11,7 +11,7 @@ use image::Refusal;
 use report::Ending;
 use text::put;
 use text::put_decimal;
-use verdicts::Verdict;
+use verdict::Verdict;
 ghost use lib.ListN.{length};
 ghost use Rattle.listing.specs.Lines.{refusalLine, verdictLine};
 ghost use Rattle.listing.specs.Listing.{runListing, listing, refusalBound, listingBound};

@@ -3,7 +3,7 @@
 ghost use mathlib.Core.Path.{_≡_};
 ghost use Prim.Native.Nat.{_+_, _*_, _≤_};
 ghost use lib.ListN.{length, take, drop};
-ghost use Rattle.area.specs.Bytes.{numberAt};
+ghost use Rattle.base_bytes.specs.Bytes.{numberAt};
 ghost use Rattle.listing.specs.Offsets.{sizeAt};
 
 fn join(lo: u8, hi: u8) -> u16

@@ -5,7 +5,7 @@ use mathlib.Core.List.{[], _∷_}
 use mathlib.Core.Option.{none, some}
 use Rattle.calculus.specs.declared.Leaf.{Leaf}
 use Rattle.calculus.specs.State.{picked}
-use Rattle.area.specs.Bytes.{bytesOf, numberOf, numberAt}
+use Rattle.base_bytes.specs.Bytes.{bytesOf, numberOf, numberAt}
 use Rattle.report.specs.Records.{recordsBytes, recordsAfter}
 use Rattle.report.specs.Written.{logBytes, reportBytes}
 use Rattle.report.specs.Read.{readLog}

@@ -12,10 +12,10 @@ use Rattle.calculus.specs.Limits.{leafLimit, cellLimit}
 use Rattle.calculus.specs.Syntax.{Dom}
 use Rattle.calculus.specs.State.{Print}
 use Rattle.calculus.specs.Report.{CellReport}
-use Rattle.area.specs.Bytes.{bytesOf}
-use Rattle.safety.proofs.Lists.{All, All.all-nil, All.all-cons}
+use Rattle.base_bytes.specs.Bytes.{bytesOf}
+use Rattle.laws.proofs.Lists.{All, All.all-nil, All.all-cons}
 use Rattle.report.specs.declared.Slot.{Slot}
-use Rattle.area.specs.Records.{Record, recordBytes}
+use Rattle.base_bytes.specs.Records.{Record, recordBytes}
 use Rattle.report.specs.Records.{recordsBytes}
 use Rattle.report.specs.Written.{logBytes, leafRecord, leafBytes, leavesBytes, leavesIn, heldRecord, cellRecord, cellBytes, cellsBytes, headBytes, reportBytes}
 use Rattle.report.specs.Fits.{FewLeaves}

@@ -4,6 +4,4 @@ pub mod Put
 pub mod ReadRecords
 pub mod Narrow
 pub mod ReadBack
-pub mod SameBytes
-pub mod Accepted
 pub mod Examples

@@ -11,10 +11,10 @@ use Rattle.calculus.specs.Limits.{wordSize}
 use Rattle.calculus.specs.Syntax.{Dom}
 use Rattle.calculus.specs.State.{Print, consOption, picked}
 use Rattle.calculus.specs.Report.{CellReport}
-use Rattle.safety.proofs.Lists.{All, All.all-nil, All.all-cons}
-use Rattle.area.specs.Bytes.{bytesOf, numberOf, numberAt}
-use Rattle.area.proofs.Bytes.{number-bytes}
-use Rattle.area.specs.Records.{Record}
+use Rattle.laws.proofs.Lists.{All, All.all-nil, All.all-cons}
+use Rattle.base_bytes.specs.Bytes.{bytesOf, numberOf, numberAt}
+use Rattle.base_bytes.proofs.Bytes.{number-bytes}
+use Rattle.base_bytes.specs.Records.{Record}
 use Rattle.report.specs.Records.{recordsBytes, recordsIn}
 use Rattle.report.specs.Written.{recordOf, logBytes, leafRecord, leavesBytes, heldRecord, cellRecord, cellsBytes, headRecord, headBytes, reportBytes}
 use Rattle.report.specs.Read.{printIn, leafIn, cellIn, readLog, readReport}

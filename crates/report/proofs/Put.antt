@@ -4,10 +4,10 @@ use native.Mathlib.Omega.{arith}
 use mathlib.Core.Path.{_≡_, refl, ap, _∙_}
 use mathlib.Core.List.{List, _++_, append-assoc}
 use lib.ListN.{length, getD, length-append}
-use Rattle.area.specs.Bytes.{bytesOf, over}
-use Rattle.area.proofs.Over.{length-over, onward, over-before}
+use Rattle.base_bytes.specs.Bytes.{bytesOf, over}
+use Rattle.base_bytes.proofs.Over.{length-over, onward, over-before}
 use Rattle.report.specs.declared.Slot.{Slot}
-use Rattle.area.specs.Records.{bytes16, recordBytes}
+use Rattle.base_bytes.specs.Records.{bytes16, recordBytes}
 use Rattle.report.specs.Written.{leafBytes, leavesBytes, leavesIn}
 use Rattle.report.proofs.Lengths.{leaves-more, leaf-short}
 

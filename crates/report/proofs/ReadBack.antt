@@ -8,7 +8,7 @@ use Rattle.calculus.specs.declared.Leaf.{Leaf}
 use Rattle.calculus.specs.Limits.{wordSize}
 use Rattle.calculus.specs.State.{Print}
 use Rattle.calculus.specs.Report.{CellReport}
-use Rattle.safety.proofs.Lists.{All, All.all-nil, All.all-cons, all-map}
+use Rattle.laws.proofs.Lists.{All, All.all-nil, All.all-cons, all-map}
 use Rattle.report.specs.Written.{logBytes, reportBytes}
 use Rattle.report.specs.Read.{readLog, readReport}
 use Rattle.report.specs.Fits.{shortSize, PrintFits, LeafFits, LeavesFit, CellFits}

@@ -8,9 +8,9 @@ use lib.ListN.{length, take, drop, length-append}
 use lib.Seq.{take-append-seam, drop-append-seam}
 use borrow.Author.Tests.{le-leb}
 use Rattle.calculus.specs.Combinators.{choose}
-use Rattle.safety.proofs.Lists.{All, All.all-nil, All.all-cons}
-use Rattle.area.specs.Bytes.{bytesOf, numberOf, numberAt}
-use Rattle.area.specs.Records.{Record, recordBytes}
+use Rattle.laws.proofs.Lists.{All, All.all-nil, All.all-cons}
+use Rattle.base_bytes.specs.Bytes.{bytesOf, numberOf, numberAt}
+use Rattle.base_bytes.specs.Records.{Record, recordBytes}
 use Rattle.report.specs.Records.{recordsBytes, lengthOf, isWhole, firstRecord, recordsAfter, recordsIn}
 
 -- After so many bytes.

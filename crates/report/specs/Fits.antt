@@ -10,7 +10,7 @@ use Rattle.calculus.specs.Syntax.{Dom}
 use Rattle.calculus.specs.State.{Print}
 use Rattle.calculus.specs.Run.{Ended}
 use Rattle.calculus.specs.Report.{CellReport, report}
-use Rattle.safety.proofs.Lists.{All}
+use Rattle.laws.proofs.Lists.{All}
 
 abbrev pub shortSize : ℕ
 shortSize = 65536

@@ -1,6 +1,6 @@
--- The bytes of log and report (document 01, "A run"), and what two runs' bytes have in common (document 01, "Two runs compared").
+-- The bytes of log and report (document 01, "A run").
 pub mod Records
 pub mod Written
 pub mod Read
-pub mod Same
+pub mod OfRun
 pub mod Fits

@@ -9,8 +9,8 @@ use Rattle.calculus.specs.declared.Leaf.{Leaf}
 use Rattle.calculus.specs.Combinators.{choose}
 use Rattle.calculus.specs.State.{Print, picked}
 use Rattle.calculus.specs.Report.{leafKind, CellReport}
-use Rattle.area.specs.Bytes.{numberAt}
-use Rattle.area.specs.Records.{Record, logKind}
+use Rattle.base_bytes.specs.Bytes.{numberAt}
+use Rattle.base_bytes.specs.Records.{Record, logKind}
 use Rattle.report.specs.Records.{recordsIn}
 use Rattle.report.specs.Written.{plainCellKind, otherCellKind}
 

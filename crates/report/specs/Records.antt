@@ -5,8 +5,8 @@ use mathlib.Core.List.{List, [], _∷_, _++_}
 use lib.ListN.{length, take, drop}
 use lib.Dec.{leb}
 use Rattle.calculus.specs.Combinators.{choose}
-use Rattle.area.specs.Bytes.{numberAt}
-use Rattle.area.specs.Records.{Record, recordBytes}
+use Rattle.base_bytes.specs.Bytes.{numberAt}
+use Rattle.base_bytes.specs.Records.{Record, recordBytes}
 
 unfoldable pub recordsBytes : List Record → List ℕ
 recordsBytes [] = []

@@ -7,7 +7,7 @@ use Rattle.calculus.specs.declared.Leaf.{Leaf}
 use Rattle.calculus.specs.Syntax.{Dom}
 use Rattle.calculus.specs.State.{Print}
 use Rattle.calculus.specs.Report.{leafKind, leafValue, CellReport}
-use Rattle.area.specs.Records.{bytes16, bytes32, Record, recordBytes, printRecord}
+use Rattle.base_bytes.specs.Records.{bytes16, bytes32, Record, recordBytes, printRecord}
 use Rattle.report.specs.declared.Slot.{Slot}
 use Rattle.report.specs.Records.{recordsBytes}
 

@@ -7,7 +7,7 @@ ghost use mathlib.Core.Path.{_≡_};
 ghost use mathlib.Core.Option.{none, some};
 ghost use Prim.Native.Nat.{_+_, _*_, _≤_};
 ghost use lib.ListN.{length};
-ghost use Rattle.area.specs.Bytes.{over};
+ghost use Rattle.base_bytes.specs.Bytes.{over};
 ghost use Rattle.report.specs.Written.{leavesIn, cellBytes};
 
 // Kinds of records.

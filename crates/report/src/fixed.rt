@@ -7,8 +7,8 @@ ghost use mathlib.Core.Path.{_≡_};
 ghost use Prim.Native.Nat.{_+_, _≤_};
 ghost use lib.ListN.{length};
 ghost use Rattle.calculus.specs.Report.{outcomeNumber};
-ghost use Rattle.area.specs.Bytes.{over};
-ghost use Rattle.area.specs.Records.{logRecord};
+ghost use Rattle.base_bytes.specs.Bytes.{over};
+ghost use Rattle.base_bytes.specs.Records.{logRecord};
 ghost use Rattle.report.specs.Written.{headBytes};
 
 // Kinds of records.

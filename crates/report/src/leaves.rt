@@ -8,7 +8,7 @@ ghost use mathlib.Core.Path.{_≡_};
 ghost use Prim.Native.Nat.{_+_, _*_, _≤_};
 ghost use lib.ListN.{length};
 ghost use Rattle.calculus.specs.Combinators.{choose};
-ghost use Rattle.area.specs.Bytes.{over};
+ghost use Rattle.base_bytes.specs.Bytes.{over};
 ghost use Rattle.report.specs.Written.{leafBytes, leavesBytes, leavesIn};
 
 // Kinds of records.

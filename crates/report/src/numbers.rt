@@ -3,8 +3,8 @@ ghost use mathlib.Core.Path.{_≡_};
 ghost use Prim.Native.Nat.{_+_, _≤_};
 ghost use mathlib.Core.List.{_++_};
 ghost use lib.ListN.{length};
-ghost use Rattle.area.specs.Bytes.{over};
-ghost use Rattle.area.specs.Records.{bytes16, bytes32};
+ghost use Rattle.base_bytes.specs.Bytes.{over};
+ghost use Rattle.base_bytes.specs.Records.{bytes16, bytes32};
 
 pub fn put16(out: &mut [u8], at: usize, v: u16)
     requires { ⌜ at + 2 ≤ length (now out) ⌝ }

@@ -12,8 +12,8 @@ use lib.Dec.{leb}
 use borrow.Author.Tests.{le-leb, lt-leb}
 use Rattle.calculus.specs.Combinators.{choose}
 use Rattle.calculus.specs.Report.{CellReport}
-use Rattle.area.specs.Bytes.{over}
-use Rattle.area.proofs.Over.{onward, over-nothing}
+use Rattle.base_bytes.specs.Bytes.{over}
+use Rattle.base_bytes.proofs.Over.{onward, over-nothing}
 use Rattle.report.specs.Records.{recordsBytes}
 use Rattle.report.specs.Written.{leavesIn, cellRecord, cellBytes, cellsBytes}
 use Rattle.report.specs.Fits.{FewLeaves}

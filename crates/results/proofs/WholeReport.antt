@@ -10,9 +10,9 @@ use Rattle.calculus.specs.declared.Outcome.{Outcome}
 use Rattle.calculus.specs.declared.Leaf.{Leaf}
 use Rattle.calculus.specs.Combinators.{choose}
 use Rattle.calculus.specs.Report.{outcomeNumber, CellReport}
-use Rattle.verdicts.specs.declared.Verdict.{Verdict}
-use Rattle.area.specs.Bytes.{bytesOf, over}
-use Rattle.area.proofs.Over.{onward}
+use Rattle.verdict.specs.declared.Verdict.{Verdict}
+use Rattle.base_bytes.specs.Bytes.{bytesOf, over}
+use Rattle.base_bytes.proofs.Over.{onward}
 use Rattle.report.specs.declared.Ending.{Ending}
 use Rattle.report.specs.Records.{recordsBytes}
 use Rattle.report.specs.Written.{leavesIn, leafBytes, leavesBytes, cellsBytes, headBytes, reportBytes}

@@ -10,7 +10,7 @@ use Rattle.calculus.specs.declared.Leaf.{Leaf}
 use Rattle.calculus.specs.Combinators.{choose}
 use Rattle.calculus.specs.Limits.{leafLimit}
 use Rattle.calculus.specs.Report.{outcomeNumber, CellReport}
-use Rattle.verdicts.specs.declared.Verdict.{Verdict}
+use Rattle.verdict.specs.declared.Verdict.{Verdict}
 use Rattle.report.specs.declared.Ending.{Ending}
 use Rattle.report.specs.Written.{reportBytes}
 use Rattle.vm_machine.specs.declared.Regs.{Regs}

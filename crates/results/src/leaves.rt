@@ -12,7 +12,7 @@ ghost use mathlib.Core.Path.{_≡_};
 ghost use mathlib.Core.List.{[]};
 ghost use Prim.Native.Nat.{_≤_};
 ghost use lib.ListN.{length};
-ghost use Rattle.area.specs.Memory.{memoryLength};
+ghost use Rattle.base_bytes.specs.Memory.{memoryLength};
 ghost use Rattle.vm_machine.specs.Leaves.{leafOf, oneLeaf, leavesOf};
 ghost use Rattle.vm_tables.specs.View.{memoryOf};
 ghost use Rattle.results.specs.Gathered.{withLeaf, withLeaves, gathered};

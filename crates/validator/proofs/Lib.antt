@@ -1,2 +1,4 @@
--- The verdict by its parts.
+-- What a finished scan gives, and the verdict by its parts.
+pub mod Filling
+pub mod Passes
 pub mod Parts

@@ -9,13 +9,13 @@ use borrow.Author.Tests.{le-leb, lt-leb}
 use Rattle.image.specs.declared.Refusal.{Refusal}
 use Rattle.image.specs.Limits.{imageLimit, workLength, reportLength}
 use Rattle.image.specs.Layout.{layout, recordsOf}
-use Rattle.verdicts.specs.declared.Verdict.{Verdict}
-use Rattle.verdicts.specs.Answers.{isRefused, require, inTurn}
-use Rattle.verdicts.specs.Shape.{shape}
-use Rattle.verdicts.specs.Check.{typing}
-use Rattle.verdicts.specs.Verdicts.{laidOut, verdict}
-use Rattle.verdicts.proofs.Answered.{last-turn}
-use Rattle.examine.specs.Examined.{checkedRecords, examined}
+use Rattle.verdict.specs.declared.Verdict.{Verdict}
+use Rattle.verdict.specs.Answers.{isRefused, require, inTurn}
+use Rattle.verdict.specs.Shape.{shape}
+use Rattle.verdict.specs.Check.{typing}
+use Rattle.verdict.specs.Verdicts.{laidOut, verdict}
+use Rattle.verdict.proofs.Answered.{last-turn}
+use Rattle.validator.specs.Examined.{checkedRecords, examined}
 
 -- The second answer, if the first accepts.
 abbrev after : Verdict → Verdict → Verdict

@@ -1,16 +1,18 @@
 // The validator (document 01, "Turned back at the gate"): which images are accepted, and the one refusal of every other.
 // It reads the image alone and writes no lent memory.
+pub mod examine;
+
 use image::IMAGE_LIMIT;
 use image::REPORT_LENGTH;
 use image::Refusal;
 use image::WORK_LENGTH;
-use verdicts::Verdict;
+use verdict::Verdict;
 ghost use mathlib.Core.Path.{_≡_};
 ghost use Prim.Native.Nat.{_≤_};
 ghost use lib.ListN.{length};
 ghost use Rattle.image.specs.Limits.{imageLimit};
-ghost use Rattle.verdicts.specs.Verdicts.{verdict};
-ghost use Rattle.examine.specs.Examined.{examined};
+ghost use Rattle.verdict.specs.Verdicts.{verdict};
+ghost use Rattle.validator.specs.Examined.{examined};
 ghost use Rattle.validator.specs.Numbers.{verdictNumber, verdictPlace};
 
 // Refusals 2 to 16, with tables of its own.
@@ -18,17 +20,17 @@ fn examine_whole(image: &[u8]) -> Verdict
     requires { ⌜ length (now image) ≤ imageLimit ⌝ }
     ensures { λ r. ⌜ r ≡ examined (now (image .entry)) ⌝ }
 {
-    let kinds = records::kinds::kind_codes();
+    let kinds = check_records::kinds::kind_codes();
     let mut doms = [0u16; 16];
     let mut types = [0u16; 128];
-    let mut keys = [0u32; 128];
+    let mut descriptors = [0u32; 128];
     let mut terms = [0u16; 1024];
     let checked = examine::examine_image(
         image,
         &kinds,
         &mut doms,
         &mut types,
-        &mut keys,
+        &mut descriptors,
         &mut terms,
     );
     examine::verdict_of(checked)
@@ -42,7 +44,7 @@ pub fn validate(image: &[u8], work: usize, report: usize) -> Verdict
         return Verdict::Refused(Refusal::ImageTooLong, 0);
     }
     let v = examine_whole(image);
-    if verdicts::is_refused(v) {
+    if verdict::is_refused(v) {
         return v;
     }
     if work < WORK_LENGTH {

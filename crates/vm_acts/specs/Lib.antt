@@ -1,2 +1,3 @@
 -- The rarer steps.
 pub mod Rare
+pub mod Assured

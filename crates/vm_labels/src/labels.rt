@@ -4,7 +4,7 @@ ghost use mathlib.Core.Bool.{true};
 ghost use mathlib.Core.List.{List};
 ghost use Prim.Native.Nat.{ℕ, _+_, _≤_, _<_};
 ghost use lib.ListN.{length};
-ghost use Rattle.area.specs.Memory.{memoryLength};
+ghost use Rattle.base_bytes.specs.Memory.{memoryLength};
 ghost use Rattle.vm_code.specs.Values.{pointcutTag};
 ghost use Rattle.vm_code.specs.Words.{termCount, home, countOf, depthOf};
 ghost use Rattle.vm_machine.specs.Registers.{fullRoom};

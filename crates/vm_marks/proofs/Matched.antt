@@ -6,7 +6,7 @@ use mathlib.Core.Bool.{Bool, true, false}
 use mathlib.Core.List.{List}
 use lib.ListN.{drop}
 use borrow.Author.Tests.{lt-ltb, le-ltb}
-use Rattle.area.specs.Memory.{memoryLength}
+use Rattle.base_bytes.specs.Memory.{memoryLength}
 use Rattle.vm_machine.specs.Memory.{Memory, binding, putBinding, installedAt, hasBit, pieceFirst, pieceSecond, adviceTarget, adviceEnv}
 use Rattle.vm_machine.specs.Reduce.{Bound, bindOne, bindMatching}
 use Rattle.vm_tables.specs.View.{memoryOf, Holds}

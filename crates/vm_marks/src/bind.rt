@@ -1,7 +1,7 @@
 // A mark makes the bindings of all matching advice at its own step, each with the target of its advice's body.
 ghost use Prim.Native.Nat.{_+_, _≤_, _<_};
 ghost use lib.ListN.{length};
-ghost use Rattle.area.specs.Memory.{memoryLength};
+ghost use Rattle.base_bytes.specs.Memory.{memoryLength};
 ghost use Rattle.vm_machine.specs.Reduce.{bindOne, bindMatching};
 ghost use Rattle.vm_marks.specs.Binds.{boundIn, Binds};
 use vm_states::limits::BINDINGS;

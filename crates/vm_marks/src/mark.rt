@@ -2,7 +2,7 @@
 ghost use mathlib.Core.Path.{_≡_};
 ghost use Prim.Native.Nat.{ℕ, _%_, _≤_, _<_};
 ghost use lib.ListN.{length};
-ghost use Rattle.area.specs.Memory.{memoryLength};
+ghost use Rattle.base_bytes.specs.Memory.{memoryLength};
 ghost use Rattle.vm_code.specs.Values.{bodyOf};
 ghost use Rattle.vm_machine.specs.Fits.{Fits};
 ghost use Rattle.vm_machine.specs.Reduce.{reduceMark};

@@ -6,8 +6,8 @@ use lib.ListN.{length}
 use borrow.Author.Tests.{le-leb, lt-leb}
 use Rattle.calculus.specs.declared.Outcome.{Outcome}
 use Rattle.calculus.specs.Limits.{logRecordLength}
-use Rattle.area.specs.Bytes.{over}
-use Rattle.area.specs.Records.{logRecord}
+use Rattle.base_bytes.specs.Bytes.{over}
+use Rattle.base_bytes.specs.Records.{logRecord}
 use Rattle.vm_code.specs.Values.{bodyOf, unitValue}
 use Rattle.vm_code.specs.Words.{domainOf}
 use Rattle.vm_machine.specs.declared.Regs.{Regs}

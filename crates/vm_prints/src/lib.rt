@@ -1,7 +1,7 @@
 // An inner crate: the reduction of a print, which writes a record of the log.
 ghost use Prim.Native.Nat.{_≤_, _<_};
 ghost use lib.ListN.{length};
-ghost use Rattle.area.specs.Memory.{memoryLength};
+ghost use Rattle.base_bytes.specs.Memory.{memoryLength};
 ghost use Rattle.vm_machine.specs.Fits.{Fits};
 ghost use Rattle.vm_machine.specs.Reduce.{reducePrint};
 ghost use Rattle.vm_states.specs.Phases.{stateOf, Moved};

@@ -14,15 +14,15 @@ use Rattle.calculus.specs.State.{Advice, Given}
 use Rattle.calculus.specs.Place.{Place}
 use Rattle.calculus.specs.View.{unitOf}
 use Rattle.calculus.specs.Answer.{with}
-use Rattle.machine.specs.Closure.{CVal, Env, link, Body, CState, plainVal}
-use Rattle.machine.specs.Machine.{ret, triggered, triggeredF, Stack, CAnswer, due, reduceSeqC, move}
+use Rattle.closure_machine.specs.Closure.{CVal, Env, link, Body, CState, plainVal}
+use Rattle.closure_machine.specs.Machine.{ret, triggered, triggeredF, Stack, CAnswer, due, reduceSeqC, move}
 use Rattle.vm_theory.specs.Code.{isAtom, atomOf, entry}
 use Rattle.vm_theory.specs.Conf.{Site, adviceA, Chain, Slots, base, depthAt, body, complete, begin, trigger}
 use Rattle.vm_theory.specs.Stands.{stackOf, stackAt}
 use Rattle.vm_theory.specs.Table.{Table, home, to, Linked, isAtomAt}
 use Rattle.vm_theory.proofs.Sound.{Sound}
 use Rattle.vm_theory.proofs.Reach.{Reach, not-wrong, redex-due}
-use Rattle.machine.proofs.Plug.{place-depth}
+use Rattle.closure_machine.proofs.Plug.{place-depth}
 use Rattle.vm_theory.proofs.Places.{Stood, Fine, site-place}
 use Rattle.vm_theory.proofs.Good.{Good, trigger-good}
 use Rattle.vm_theory.proofs.Located.{Points, p-home, entry-points}

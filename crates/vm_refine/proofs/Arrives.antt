@@ -11,8 +11,8 @@ use borrow.Author.Tests.{eqb-true, eqb-false, eq-eqb, ne-eqb, le-leb, lt-leb}
 use Rattle.calculus.specs.Combinators.{choose}
 use Rattle.calculus.specs.Syntax.{Dom, Tm}
 use Rattle.calculus.specs.State.{Given}
-use Rattle.machine.specs.Closure.{CVal, Env, CState}
-use Rattle.machine.specs.Machine.{eval, ret}
+use Rattle.closure_machine.specs.Closure.{CVal, Env, CState}
+use Rattle.closure_machine.specs.Machine.{eval, ret}
 use Rattle.vm_theory.specs.Code.{oneB, firstB, secondB, Skel, isAtom, atomOf, Pc, entry, next, waits, two, hand, inPlace}
 use Rattle.vm_theory.specs.Conf.{Site, callA, Chain, Slots, Conf, put, base, depthAt, domAt, body, complete, begin, goto, waiting, enter}
 use Rattle.vm_theory.specs.Stands.{stackAt}

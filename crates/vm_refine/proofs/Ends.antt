@@ -11,8 +11,8 @@ use Rattle.calculus.specs.Syntax.{Val, Tm}
 use Rattle.calculus.specs.State.{Cell, Given, logOf, fresh}
 use Rattle.calculus.specs.Run.{EndOf, done, stopped, Ended, ended, run}
 use Rattle.calculus.specs.Report.{outcomeNumber, outcomeOf}
-use Rattle.calculus.proofs.Lookup.{get-map}
-use Rattle.machine.specs.Closure.{CVal, CState, plainVal, plainCell, plainAdvice, plainState}
+use Rattle.laws.proofs.Lookup.{get-map}
+use Rattle.closure_machine.specs.Closure.{CVal, CState, plainVal, plainCell, plainAdvice, plainState}
 use Rattle.vm_theory.specs.Table.{Table, Linked}
 use Rattle.vm_theory.proofs.Sound.{Sound}
 use Rattle.vm_machine.specs.Memory.{cellAt, cellNote}

@@ -7,7 +7,7 @@ use lib.Dec.{ltb}
 use Rattle.calculus.specs.Combinators.{choose}
 use Rattle.calculus.specs.Plain.{domOf}
 use Rattle.calculus.specs.Syntax.{Dom, Ty, Val, Tm, val, var, lam, op0, op1, op2, seq, ite, split, pcd, adv, lower}
-use Rattle.machine.specs.Closure.{CVal, Env, lookup, closed}
+use Rattle.closure_machine.specs.Closure.{CVal, Env, lookup, closed}
 use Rattle.vm_theory.specs.Code.{Skel, isAtom, atomOf, orUnit}
 use Rattle.vm_theory.specs.Table.{Node, funN, Table, termOf, isAtomAt, Linked}
 use Rattle.vm_theory.proofs.Located.{Located, l-function, one-no-atom, two-no-atom, many-no-atom}

@@ -9,8 +9,8 @@ use Rattle.calculus.specs.Combinators.{choose}
 use Rattle.calculus.specs.Syntax.{Dom, Tm}
 use Rattle.calculus.specs.State.{Given}
 use Rattle.calculus.specs.Answer.{go}
-use Rattle.machine.specs.Closure.{CVal, Env, CState}
-use Rattle.machine.specs.Machine.{Control, eval, ret, Stack, CAnswer, due}
+use Rattle.closure_machine.specs.Closure.{CVal, Env, CState}
+use Rattle.closure_machine.specs.Machine.{Control, eval, ret, Stack, CAnswer, due}
 use Rattle.vm_theory.specs.Conf.{Site, Chain, Slots, Conf, base, domAt}
 use Rattle.vm_theory.specs.Stands.{stackAt}
 use Rattle.vm_theory.specs.Table.{Table, Linked}

@@ -10,8 +10,8 @@ use Rattle.calculus.specs.Plain.{domOf}
 use Rattle.calculus.specs.Syntax.{Ty, Tm, Op0, Op1, Op2, op0, newLabel, abort, print, install, read, byte, newCell, app, mark, store, plus, minus, less, equal}
 use Rattle.calculus.specs.State.{Given}
 use Rattle.calculus.specs.Place.{Place, framed}
-use Rattle.machine.specs.Closure.{CVal, Env, CState, close, plainVal, plainEnv, plainState}
-use Rattle.machine.specs.Machine.{Control, eval, ret, op2R, Stack, CAnswer, due, placeAt, reduce0C, reduce2C, move}
+use Rattle.closure_machine.specs.Closure.{CVal, Env, CState, close, plainVal, plainEnv, plainState}
+use Rattle.closure_machine.specs.Machine.{Control, eval, ret, op2R, Stack, CAnswer, due, placeAt, reduce0C, reduce2C, move}
 use Rattle.vm_theory.specs.Code.{Head, op1H, seqH, iteH, splitH, advH, lowerH, hand, slot, inPlace, Instr, one, two, fetch}
 use Rattle.vm_theory.specs.Conf.{Site, Chain, Slots, Conf, depthAt, domAt, placeOf}
 use Rattle.vm_theory.specs.Stands.{headFrame, stackAt}

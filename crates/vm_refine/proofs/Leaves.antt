@@ -11,7 +11,7 @@ use Rattle.calculus.specs.Syntax.{Ty, Val}
 use Rattle.calculus.specs.Plain.{leafCount, bothLeaves, fewLeaves, isPlain}
 use Rattle.calculus.specs.Report.{leaves}
 use Rattle.calculus.specs.Typing.{Policy, StoreTyping, ValTy}
-use Rattle.machine.specs.Closure.{CVal, plainVal}
+use Rattle.closure_machine.specs.Closure.{CVal, plainVal}
 use Rattle.vm_theory.specs.Table.{Table, Linked}
 use Rattle.vm_machine.specs.Memory.{Memory}
 use Rattle.vm_machine.specs.States.{State}

@@ -17,9 +17,9 @@ use Rattle.calculus.specs.Compose.{matching}
 use Rattle.calculus.specs.Place.{Place}
 use Rattle.calculus.specs.Run.{stopped, ended, run}
 use Rattle.calculus.specs.Answer.{go, full, if-room, with}
-use Rattle.machine.specs.Closure.{CVal, Env, Body, CState, plainVal, plainState}
-use Rattle.machine.specs.Machine.{Control, ret, triggered, triggeredF, Stack, CAnswer, due, reduce2C, move}
-use Rattle.machine.proofs.Loop.{unfinished-due}
+use Rattle.closure_machine.specs.Closure.{CVal, Env, Body, CState, plainVal, plainState}
+use Rattle.closure_machine.specs.Machine.{Control, ret, triggered, triggeredF, Stack, CAnswer, due, reduce2C, move}
+use Rattle.closure_machine.proofs.Loop.{unfinished-due}
 use Rattle.vm_theory.specs.Conf.{Site, adviceA, Chain, Slots, base, depthAt, trigger}
 use Rattle.vm_theory.specs.Stands.{stackAt}
 use Rattle.vm_theory.specs.Table.{Table, Linked}

@@ -12,7 +12,7 @@ use Rattle.calculus.specs.Combinators.{choose}
 use Rattle.calculus.specs.Syntax.{Dom, Tm}
 use Rattle.calculus.specs.State.{Advice}
 use Rattle.calculus.specs.Compose.{member, matching}
-use Rattle.machine.specs.Closure.{CVal, Env, link, Body}
+use Rattle.closure_machine.specs.Closure.{CVal, Env, link, Body}
 use Rattle.vm_theory.specs.Table.{Table, Linked}
 use Rattle.vm_machine.specs.Memory.{Memory, slotBase, installedBase, binding, boundTarget, boundLink, bindingAt, putBinding, pieceFirst, pieceSecond, adviceTarget, adviceEnv, hasBit, installedAt}
 use Rattle.vm_machine.specs.Reduce.{Bound, bindOne, bindMatching}

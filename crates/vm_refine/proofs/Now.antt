@@ -11,7 +11,7 @@ use Rattle.calculus.specs.Syntax.{Tm, val, var, lam, op0, op1, op2, seq, ite, s
 use Rattle.calculus.specs.State.{Given, fresh}
 use Rattle.calculus.specs.Report.{outcomeNumber}
 use Rattle.calculus.specs.Run.{done, stopped, ended, run}
-use Rattle.machine.specs.Closure.{CVal, CState, plainVal, plainState}
+use Rattle.closure_machine.specs.Closure.{CVal, CState, plainVal, plainState}
 use Rattle.vm_theory.specs.Code.{Head, op1H, seqH, iteH, splitH, advH, lowerH, Operand, hand, slot, inPlace, Instr, back, nullary, one, two, many, oneB, firstB, secondB, Skel, isAtom, Pc, entry}
 use Rattle.vm_theory.specs.Conf.{Site, Chain, Slots, Conf, base, depthAt}
 use Rattle.vm_theory.specs.Table.{Table, Target, Linked, isAtomAt}

@@ -6,7 +6,7 @@ use mathlib.Core.Bool.{Bool, true, false, true≢false}
 use lib.Dec.{ltb}
 use Rattle.calculus.specs.Combinators.{choose}
 use Rattle.calculus.specs.Syntax.{Dom, Tm, val, var, lam, op0, op1, op2, seq, ite, split, pcd, adv, lower}
-use Rattle.machine.specs.Closure.{CVal, Env}
+use Rattle.closure_machine.specs.Closure.{CVal, Env}
 use Rattle.vm_theory.specs.Code.{Operand, hand, slot, inPlace, Skel, isAtom, fetch}
 use Rattle.vm_theory.specs.Table.{Table, isAtomAt, Linked}
 use Rattle.vm_theory.proofs.Located.{Located}

@@ -15,8 +15,8 @@ use Rattle.calculus.specs.Syntax.{Tm, asValue, val, var, lam, op0, op1, op2, se
 use Rattle.calculus.specs.State.{Given, fresh}
 use Rattle.calculus.specs.Place.{Place, framed}
 use Rattle.calculus.specs.Run.{stopped, ended, run}
-use Rattle.machine.specs.Closure.{CVal, Env, CState, close, plainTm, plainState}
-use Rattle.machine.specs.Machine.{Control, eval, pcdN, opNF, Stack, placeAt, due, redex, reduceNC, move}
+use Rattle.closure_machine.specs.Closure.{CVal, Env, CState, close, plainTm, plainState}
+use Rattle.closure_machine.specs.Machine.{Control, eval, pcdN, opNF, Stack, placeAt, due, redex, reduceNC, move}
 use Rattle.vm_theory.specs.Code.{isAtom, entry}
 use Rattle.vm_theory.specs.Conf.{Site, manyA, Chain, Slots, base, depthAt, domAt, placeOf, body, begin}
 use Rattle.vm_theory.specs.Stands.{stackAt}

@@ -13,8 +13,8 @@ use Rattle.calculus.specs.Syntax.{Ty, Tm, app}
 use Rattle.calculus.specs.State.{Given, charged, addCounts, someBindings}
 use Rattle.calculus.specs.Place.{Place}
 use Rattle.calculus.specs.Answer.{go, wrong, with}
-use Rattle.machine.specs.Closure.{CVal, Env, link, CState}
-use Rattle.machine.specs.Machine.{Control, eval, Stack, CAnswer, reduce2C, reduceSplitC}
+use Rattle.closure_machine.specs.Closure.{CVal, Env, link, CState}
+use Rattle.closure_machine.specs.Machine.{Control, eval, Stack, CAnswer, reduce2C, reduceSplitC}
 use Rattle.vm_theory.specs.Conf.{Site, Chain, Slots, domAt}
 use Rattle.vm_theory.specs.Table.{Table, Linked}
 use Rattle.vm_theory.proofs.Sound.{Sound}

@@ -15,9 +15,9 @@ use Rattle.calculus.specs.Plain.{domOf, heldPlain}
 use Rattle.calculus.specs.State.{Cell, Given, stored, charged, addCounts, oneCell, celled}
 use Rattle.calculus.specs.Place.{Place}
 use Rattle.calculus.specs.Answer.{go, wrong, with}
-use Rattle.calculus.proofs.Lookup.{place-below, get-set, get-snoc}
-use Rattle.machine.specs.Closure.{CVal, CState, plainVal}
-use Rattle.machine.specs.Machine.{Control, ret, Stack, CAnswer, reduce1C, reduce2C}
+use Rattle.laws.proofs.Lookup.{place-below, get-set, get-snoc}
+use Rattle.closure_machine.specs.Closure.{CVal, CState, plainVal}
+use Rattle.closure_machine.specs.Machine.{Control, ret, Stack, CAnswer, reduce1C, reduce2C}
 use Rattle.vm_theory.specs.Conf.{Site, Chain, Slots}
 use Rattle.vm_theory.specs.Table.{Table, Linked}
 use Rattle.vm_theory.proofs.Sound.{Sound}

@@ -15,8 +15,8 @@ use Rattle.calculus.specs.State.{Given, charged, addCounts, onePiece}
 use Rattle.calculus.specs.Place.{Place}
 use Rattle.calculus.specs.Answer.{go, wrong, with}
 use Rattle.calculus.specs.Reduce.{piece, collect}
-use Rattle.machine.specs.Closure.{CVal, Env, CState, plainVal}
-use Rattle.machine.specs.Machine.{Control, ret, pcdN, Stack, CAnswer, reduce2C, reduceNC, reduceAdvC}
+use Rattle.closure_machine.specs.Closure.{CVal, Env, CState, plainVal}
+use Rattle.closure_machine.specs.Machine.{Control, ret, pcdN, Stack, CAnswer, reduce2C, reduceNC, reduceAdvC}
 use Rattle.vm_theory.specs.Conf.{Site, Chain, Slots}
 use Rattle.vm_theory.specs.Table.{Table, Linked}
 use Rattle.vm_theory.proofs.Sound.{Sound}

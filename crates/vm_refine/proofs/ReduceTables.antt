@@ -18,14 +18,14 @@ use Rattle.calculus.specs.Compose.{member}
 use Rattle.calculus.specs.Place.{Place}
 use Rattle.calculus.specs.Answer.{go, wrong, with}
 use Rattle.calculus.specs.Reduce.{labelRoom, adviceRoom, logRoom}
-use Rattle.calculus.proofs.Lookup.{place-below}
-use Rattle.machine.specs.Closure.{CVal, Env, Body, CState, plainVal}
-use Rattle.machine.specs.Machine.{Control, ret, Stack, CAnswer, reduce0C, reduce1C}
+use Rattle.laws.proofs.Lookup.{place-below}
+use Rattle.closure_machine.specs.Closure.{CVal, Env, Body, CState, plainVal}
+use Rattle.closure_machine.specs.Machine.{Control, ret, Stack, CAnswer, reduce0C, reduce1C}
 use Rattle.vm_theory.specs.Conf.{Site, Chain, Slots}
 use Rattle.vm_theory.specs.Table.{Table, Linked}
 use Rattle.vm_theory.proofs.Sound.{Sound}
-use Rattle.area.specs.Bytes.{bytesOf, over}
-use Rattle.area.specs.Records.{logRecord}
+use Rattle.base_bytes.specs.Bytes.{bytesOf, over}
+use Rattle.base_bytes.specs.Records.{logRecord}
 use Rattle.vm_code.specs.Values.{value}
 use Rattle.vm_code.specs.Words.{domainOf}
 use Rattle.vm_code.specs.Says.{SaysCode}

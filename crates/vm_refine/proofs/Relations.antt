@@ -12,7 +12,7 @@ use Rattle.calculus.specs.Plain.{domOf}
 use Rattle.calculus.specs.Syntax.{Dom, Ty, Tm}
 use Rattle.calculus.specs.State.{Advice}
 use Rattle.calculus.specs.Compose.{member}
-use Rattle.machine.specs.Closure.{CVal, Env, empty, link, Body, lookup}
+use Rattle.closure_machine.specs.Closure.{CVal, Env, empty, link, Body, lookup}
 use Rattle.vm_theory.specs.Table.{Table, Linked}
 use Rattle.vm_theory.proofs.Located.{Located}
 use Rattle.vm_code.specs.Values.{tagOf, bodyOf}

@@ -16,8 +16,8 @@ use Rattle.calculus.specs.State.{Advice, Given, fresh}
 use Rattle.calculus.specs.Run.{stopped, ended, run}
 use Rattle.calculus.specs.Report.{outcomeNumber}
 use Rattle.calculus.specs.Answer.{with}
-use Rattle.machine.specs.Closure.{CVal, Env, Body, CState, plainVal, plainState}
-use Rattle.machine.specs.Machine.{ret, triggered, pcdN, opNF, lowerF, triggeredF, Stack, reduceSeqC}
+use Rattle.closure_machine.specs.Closure.{CVal, Env, Body, CState, plainVal, plainState}
+use Rattle.closure_machine.specs.Machine.{ret, triggered, pcdN, opNF, lowerF, triggeredF, Stack, reduceSeqC}
 use Rattle.vm_theory.specs.Code.{Head, op1H, seqH, iteH, splitH, advH, lowerH, Instr, back, nullary, one, two, many, inPlace, hand, oneB, firstB, secondB, Skel, isAtom, Pc, entry, next}
 use Rattle.vm_theory.specs.Conf.{Site, callA, adviceA, restA, manyA, Chain, Slots, Conf, base, depthAt, body, trigger}
 use Rattle.vm_theory.specs.Stands.{stackOf, stackAt}

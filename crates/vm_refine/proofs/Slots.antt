@@ -10,8 +10,8 @@ use lib.Dec.{eqb}
 use borrow.Author.Tests.{ne-eqb, eqb-false}
 use Rattle.calculus.specs.Combinators.{choose}
 use Rattle.calculus.specs.Syntax.{Tms}
-use Rattle.machine.specs.Closure.{CVal, Env}
-use Rattle.machine.specs.Machine.{pcdN}
+use Rattle.closure_machine.specs.Closure.{CVal, Env}
+use Rattle.closure_machine.specs.Machine.{pcdN}
 use Rattle.vm_theory.specs.Code.{oneB, firstB, secondB, Skel, waits}
 use Rattle.vm_theory.specs.Conf.{Slots}
 use Rattle.vm_theory.specs.Table.{manyN, pcdM, Table, termsOf, Linked}

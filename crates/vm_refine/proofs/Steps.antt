@@ -16,9 +16,9 @@ use Rattle.calculus.specs.Report.{outcomeNumber}
 use Rattle.calculus.specs.State.{Given, fresh, someBindings, oneCell, onePiece, addCounts, charged}
 use Rattle.calculus.specs.Answer.{full, halt, wrong, if-room, spend}
 use Rattle.calculus.specs.Place.{framed}
-use Rattle.machine.specs.Closure.{CState, plainState}
-use Rattle.machine.specs.Machine.{Control, Stack, CAnswer, due, move}
-use Rattle.machine.proofs.Loop.{unfinished-due}
+use Rattle.closure_machine.specs.Closure.{CState, plainState}
+use Rattle.closure_machine.specs.Machine.{Control, Stack, CAnswer, due, move}
+use Rattle.closure_machine.proofs.Loop.{unfinished-due}
 use Rattle.vm_theory.specs.Conf.{Site, Chain, Slots, Conf, depthAt, placeOf}
 use Rattle.vm_theory.specs.Stands.{stackAt}
 use Rattle.vm_theory.specs.Table.{Table, home, Linked}

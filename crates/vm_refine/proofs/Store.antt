@@ -9,9 +9,9 @@ use lib.ListN.{length, getElem?, drop, length-append, length-drop}
 use Rattle.calculus.specs.Combinators.{choose}
 use Rattle.calculus.specs.State.{Cell, Advice, Counts, Event, Said, prints, Print, picked, logOf, charged}
 use Rattle.calculus.specs.Compose.{member}
-use Rattle.machine.specs.Closure.{CVal, Body, CState}
-use Rattle.area.specs.Bytes.{bytesOf}
-use Rattle.area.specs.Records.{logRecord}
+use Rattle.closure_machine.specs.Closure.{CVal, Body, CState}
+use Rattle.base_bytes.specs.Bytes.{bytesOf}
+use Rattle.base_bytes.specs.Records.{logRecord}
 use Rattle.vm_theory.specs.Table.{Table, Linked}
 use Rattle.vm_machine.specs.Memory.{Memory, wordAt, cellBase, installedBase, installedAt, cellAt, cellNote, hasBit}
 use Rattle.vm_refine.proofs.Relations.{Sizes, IsVal, IsAdvice, Grows, val-grows, advice-grows}

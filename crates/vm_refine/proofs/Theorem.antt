@@ -11,7 +11,7 @@ use Rattle.calculus.specs.Combinators.{choose}
 use Rattle.calculus.specs.Syntax.{Dom, Tm}
 use Rattle.calculus.specs.State.{Given, fresh, picked}
 use Rattle.calculus.specs.Run.{run}
-use Rattle.machine.specs.Closure.{CVal, empty, CState}
+use Rattle.closure_machine.specs.Closure.{CVal, empty, CState}
 use Rattle.vm_theory.specs.Code.{atomOf, Pc}
 use Rattle.vm_theory.specs.Conf.{Slots, Conf, body, complete, begin}
 use Rattle.vm_theory.specs.Runs.{start}

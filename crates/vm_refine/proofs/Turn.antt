@@ -9,8 +9,8 @@ use borrow.Author.Tests.{ne-eqb}
 use Rattle.calculus.specs.Combinators.{choose}
 use Rattle.calculus.specs.Syntax.{Dom, Tm, pcd}
 use Rattle.calculus.specs.State.{Given}
-use Rattle.machine.specs.Closure.{CVal, Env, CState}
-use Rattle.machine.specs.Machine.{eval}
+use Rattle.closure_machine.specs.Closure.{CVal, Env, CState}
+use Rattle.closure_machine.specs.Machine.{eval}
 use Rattle.vm_theory.specs.Code.{Instr, Pc, isAtom}
 use Rattle.vm_theory.specs.Conf.{Site, Chain, Slots, Conf}
 use Rattle.vm_theory.specs.Stands.{stackAt}

@@ -13,8 +13,8 @@ use Rattle.calculus.specs.State.{Cell, Given}
 use Rattle.calculus.specs.Place.{Place}
 use Rattle.calculus.specs.View.{numberOf}
 use Rattle.calculus.specs.Answer.{go, wrong, with}
-use Rattle.machine.specs.Closure.{CVal, CState, plainVal}
-use Rattle.machine.specs.Machine.{Control, eval, ret, Stack, CAnswer, reduce1C, reduce2C, reduceSeqC, reduceIteC}
+use Rattle.closure_machine.specs.Closure.{CVal, CState, plainVal}
+use Rattle.closure_machine.specs.Machine.{Control, eval, ret, Stack, CAnswer, reduce1C, reduce2C, reduceSeqC, reduceIteC}
 use Rattle.vm_theory.specs.Conf.{Site, Chain, Slots}
 use Rattle.vm_theory.specs.Table.{Table, Linked}
 use Rattle.vm_theory.proofs.Sound.{Sound}

@@ -8,7 +8,7 @@ use Rattle.calculus.specs.Combinators.{choose}
 use Rattle.calculus.specs.Plain.{domOf}
 use Rattle.calculus.specs.Syntax.{Dom, Ty, Tm}
 use Rattle.calculus.specs.View.{unitOf, truthOf, numberOf, labelOf, cellOf, labelsOf}
-use Rattle.machine.specs.Closure.{CVal, Env, pairOfC, bodyOfC, adviceOfC, plainVal}
+use Rattle.closure_machine.specs.Closure.{CVal, Env, pairOfC, bodyOfC, adviceOfC, plainVal}
 use Rattle.vm_theory.specs.Table.{Table, Linked}
 use Rattle.vm_code.specs.Values.{tagOf, bodyOf}
 use Rattle.vm_machine.specs.Memory.{Memory, pieceFirst, pieceSecond}

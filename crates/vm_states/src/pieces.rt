@@ -1,7 +1,7 @@
 // Pieces: pairs, pointcuts and advice.
 ghost use Prim.Native.Nat.{_≤_, _<_};
 ghost use lib.ListN.{length};
-ghost use Rattle.area.specs.Memory.{memoryLength};
+ghost use Rattle.base_bytes.specs.Memory.{memoryLength};
 ghost use Rattle.vm_machine.specs.Reduce.{newPiece};
 ghost use Rattle.vm_states.specs.Phases.{Phase};
 use crate::ends::given;

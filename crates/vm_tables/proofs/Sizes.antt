@@ -3,7 +3,7 @@ use Prim.Native.Nat.{_+_, _*_}
 use mathlib.Core.Path.{_≡_, refl}
 use Rattle.calculus.specs.Limits.{frameLimit, bindingLimit, cellLimit, adviceLimit, pieceLimit}
 use Rattle.image.specs.Limits.{workLength}
-use Rattle.area.specs.Memory.{wordCount, besideCount, memoryLength}
+use Rattle.base_bytes.specs.Memory.{wordCount, besideCount, memoryLength}
 use Rattle.vm_machine.specs.Memory.{bindingBase, slotBase, pieceBase, cellBase, installedBase}
 
 -- One slot beyond the limit of frames; two words for a piece.

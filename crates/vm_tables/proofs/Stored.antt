@@ -4,10 +4,10 @@ use native.Mathlib.Omega.{arith}
 use mathlib.Core.Path.{_≡_, refl, sym, ap, subst, _∙_}
 use mathlib.Core.List.{List}
 use lib.ListN.{length, getD, set, drop}
-use Rattle.area.specs.Bytes.{bytesOf, over}
-use Rattle.area.specs.Memory.{wordCount, besideCount, memoryLength}
-use Rattle.area.specs.Memory as area
-use Rattle.area.proofs.Memory.{words-at, store-words, store-past, store-beside, beside-past, beside-at}
+use Rattle.base_bytes.specs.Bytes.{bytesOf, over}
+use Rattle.base_bytes.specs.Memory.{wordCount, besideCount, memoryLength}
+use Rattle.base_bytes.specs.Memory as area
+use Rattle.base_bytes.proofs.Memory.{words-at, store-words, store-past, store-beside, beside-past, beside-at}
 use Rattle.vm_machine.specs.Memory.{Memory, wordAt, putWord, slotHeld, slotAt, slotIn, slotWord, pointcutFrame, callFrame, putReturn, putDigits, digitsAt, cellAt, cellNote, putCell}
 use Rattle.vm_tables.specs.View.{memoryOf, Holds}
 

@@ -3,7 +3,7 @@
 ghost use mathlib.Core.Path.{_≡_};
 ghost use Prim.Native.Nat.{_<_, _≤_};
 ghost use lib.ListN.{length};
-ghost use Rattle.area.specs.Memory.{memoryLength};
+ghost use Rattle.base_bytes.specs.Memory.{memoryLength};
 ghost use Rattle.vm_machine.specs.Memory.{putBinding, bindingAt, boundTarget, boundLink};
 ghost use Rattle.vm_machine.specs.Memory as machine;
 ghost use Rattle.vm_tables.specs.View.{memoryOf, Holds};

@@ -4,7 +4,7 @@
 ghost use mathlib.Core.Path.{_≡_};
 ghost use Prim.Native.Nat.{_+_, _-_, _*_, _/_, _%_, _<_, _≤_};
 ghost use lib.ListN.{length, set};
-ghost use Rattle.area.specs.Memory.{memoryLength};
+ghost use Rattle.base_bytes.specs.Memory.{memoryLength};
 ghost use Rattle.vm_machine.specs.Memory.{slotWord, slotEnv, slotPc, slotKind, slotHeld, slotIn, slotAt, putSlot, putWaiting, putReturn, putAdvice, nextBinding, endBinding, putDigits, digitsAt};
 ghost use Rattle.vm_tables.specs.View.{memoryOf, Holds};
 use crate::words::BESIDE;

@@ -2,7 +2,7 @@
 ghost use mathlib.Core.Path.{_≡_};
 ghost use Prim.Native.Nat.{_<_, _≤_};
 ghost use lib.ListN.{length};
-ghost use Rattle.area.specs.Memory.{memoryLength, wordCount};
+ghost use Rattle.base_bytes.specs.Memory.{memoryLength, wordCount};
 ghost use Rattle.vm_machine.specs.Memory.{wordAt, putWord};
 ghost use Rattle.vm_machine.specs.Memory as machine;
 ghost use Rattle.vm_tables.specs.View.{memoryOf, Holds};
@@ -22,14 +22,14 @@ pub fn word(work: &[u8], i: usize) -> u64
     requires { ⌜ (memoryLength ≤ length (now work)) × (i < wordCount) ⌝ }
     ensures { λ r. ⌜ r ≡ wordAt (memoryOf (now (work .entry))) i ⌝ }
 {
-    area::load(work, i)
+    base_bytes::load(work, i)
 }
 
 pub fn put_word(work: &mut [u8], i: usize, v: u64)
     requires { ⌜ (memoryLength ≤ length (now work)) × (i < wordCount) ⌝ }
     ensures { λ _. ⌜ Holds (putWord i v (memoryOf (now (work .entry)))) (now (work .entry)) (now (work .exit)) ⌝ }
 {
-    area::store(work, i, v);
+    base_bytes::store(work, i, v);
 }
 
 // The tag and body of a value above 2^28, x below.

@@ -12,16 +12,16 @@ use Rattle.image.specs.Kinds.{TermKind, termRow, leadOf}
 use Rattle.image.specs.Records.{Layout}
 use Rattle.image.specs.Layout.{recordsOf}
 use Rattle.image.specs.Types.{termPlace, termKind, statedType, others, children}
-use Rattle.image.proofs.Facts.{le-of}
+use Rattle.laws.proofs.Booleans.{le-of}
 use Rattle.image.proofs.Counts.{leastChildren}
 use Rattle.image.proofs.EveryKind.{everyOf, at-term}
-use Rattle.records.specs.Tables.{Tables}
-use Rattle.records.specs.Leaves.{Leaves}
+use Rattle.check_records.specs.Tables.{Tables}
+use Rattle.check_records.specs.Leaves.{Leaves}
 use Rattle.vm_code.specs.PassUp.{cellNote}
 use Rattle.vm_terms.specs.Fields.{Lower}
-use Rattle.vm_terms.specs.Noted.{keyDomain, keyNote, KeyFits}
+use Rattle.vm_terms.specs.Noted.{descriptorDomain, descriptorNote, DescriptorFits}
 use Rattle.vm_terms.proofs.KindNumbers.{NotFrom32, last-number}
-use Rattle.vm_terms.proofs.Records.{Recorded, as-kind, field-lower, few-terms, recorded, place-is, has-key, domain-is, note-is, fits}
+use Rattle.vm_terms.proofs.Records.{Recorded, as-kind, field-lower, few-terms, recorded, place-is, has-descriptor, domain-is, note-is, fits}
 
 pub record Given (b ks : List ℕ) (n o : ℕ) : Type 0 where
   pub domain-table : List ℕ
@@ -63,25 +63,25 @@ module _ {b ks : List ℕ} {n o : ℕ} (G : Given b ks n o) where
   pub place-told : o ≡ termPlace L n
   place-told = G .place ∙ place-is b ds ts ks T n l
 
-  -- It has a type, and the type's key says its domain; with the table of leaf counts also what a cell is noted with.
+  -- It has a type, and the type's descriptor says its domain; with the table of leaf counts also what a cell is noted with.
   pub typed : (o + 5 < length b) × (fieldAt b o 0 < length ks)
   typed =
       let z = any-kind .inside in
       let y = lead-some (termKind L n) in
-      (omega arith, subst (λ p. fieldAt b p 0 < length ks) (sym (G .place)) (has-key b ds ts ks T n l))
+      (omega arith, subst (λ p. fieldAt b p 0 < length ks) (sym (G .place)) (has-descriptor b ds ts ks T n l))
 
-  abbrev pub keyOf : ℕ
-  keyOf = getD ks (fieldAt b o 0) 0
+  abbrev pub descriptorOf : ℕ
+  descriptorOf = getD ks (fieldAt b o 0) 0
 
-  pub domain-at : keyDomain keyOf ≡ domOf (statedType L n)
-  domain-at = ap (λ p. keyDomain (getD ks (fieldAt b p 0) 0)) (G .place) ∙ domain-is b ds ts ks T n l
+  pub domain-at : descriptorDomain descriptorOf ≡ domOf (statedType L n)
+  domain-at = ap (λ p. descriptorDomain (getD ks (fieldAt b p 0) 0)) (G .place) ∙ domain-is b ds ts ks T n l
 
   module _ (ls : List ℕ) (N : Leaves b ls) where
-    pub note-at : keyNote ls keyOf ≡ cellNote (statedType L n)
-    note-at = ap (λ p. keyNote ls (getD ks (fieldAt b p 0) 0)) (G .place) ∙ note-is b ds ts ks T n l ls N
+    pub note-at : descriptorNote ls descriptorOf ≡ cellNote (statedType L n)
+    note-at = ap (λ p. descriptorNote ls (getD ks (fieldAt b p 0) 0)) (G .place) ∙ note-is b ds ts ks T n l ls N
 
-    pub key-fits : KeyFits ls keyOf
-    key-fits = subst (λ p. KeyFits ls (getD ks (fieldAt b p 0) 0)) (sym (G .place)) (fits b ds ts ks T n l ls N)
+    pub descriptor-fits : DescriptorFits ls descriptorOf
+    descriptor-fits = subst (λ p. DescriptorFits ls (getD ks (fieldAt b p 0) 0)) (sym (G .place)) (fits b ds ts ks T n l ls N)
 
   -- The kind of the last arm: of a number that is none of 32 to 53.
   pub last-kind : {k : ℕ} → k ≡ numberAt b o → NotFrom32 k 22 → k ≡ 60

@@ -5,7 +5,7 @@ use mathlib.Core.Path.{_≡_, refl, _∙_}
 use mathlib.Core.Bool.{_&&_, _||_}
 use lib.Dec.{eqb, ltb, leb}
 use Rattle.image.specs.Kinds.{TermKind, termRow}
-use Rattle.image.proofs.Facts.{and-l, and-r, lt-of, le-of, eq-of}
+use Rattle.laws.proofs.Booleans.{and-l, and-r, lt-of, le-of, eq-of}
 use Rattle.image.proofs.EveryKind.{everyOf, at-term, or-else}
 
 -- n is none of the d numbers from 32 on.

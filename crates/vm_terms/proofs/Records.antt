@@ -1,4 +1,4 @@
--- The record of a term by its fields (document 01, "The image": "Terms have their type t first, then lower term numbers e unless said"), and what its type's key says.
+-- The record of a term by its fields (document 01, "The image": "Terms have their type t first, then lower term numbers e unless said"), and what its type's descriptor says.
 use Prim.Native.Nat.{ℕ, suc, _+_, _*_, _≤_, _<_}
 use native.Mathlib.Omega.{arith}
 use mathlib.Core.Path.{_≡_, sym, ap, subst, _∙_}
@@ -18,12 +18,12 @@ use Rattle.image.proofs.KindNumbers.{same-term-kind}
 use Rattle.image.proofs.Laid.{Good, below-at, layout-good, image-kept}
 use Rattle.image.proofs.Counts.{leastChildren, mostChildren, children-between}
 use Rattle.image.proofs.Offsets.{number-at, fields-count, child-at, other-at}
-use Rattle.records.specs.Keys.{Key}
-use Rattle.records.specs.Tables.{Tables}
-use Rattle.records.specs.Leaves.{Leaves}
+use Rattle.check_records.specs.Descriptors.{Describes}
+use Rattle.check_records.specs.Tables.{Tables}
+use Rattle.check_records.specs.Leaves.{Leaves}
 use Rattle.vm_code.specs.PassUp.{cellNote}
-use Rattle.vm_terms.specs.Noted.{keyDomain, keyNote, KeyFits}
-use Rattle.vm_terms.proofs.Keyed.{key-domain, key-note, key-fits}
+use Rattle.vm_terms.specs.Noted.{descriptorDomain, descriptorNote, DescriptorFits}
+use Rattle.vm_terms.proofs.Described.{descriptor-domain, descriptor-note, descriptor-fits}
 
 -- The record at o is one of kind k, of term n: its fields behind the type that are no children are vs, and then come its children xs, which are lower terms.
 pub record Recorded (b : List ℕ) (o n : ℕ) (k : TermKind) (vs xs : List ℕ) : Type 0 where
@@ -105,30 +105,30 @@ module _ (b ds ts ks : List ℕ) (T : Tables b ds ts ks) where
         subst (λ p. Recorded b p n (termKind L n) (others L n) (children L n)) (sym place-is)
         (subst (λ i. Recorded i (termPlace L n) n (termKind L n) (others L n) (children L n)) image-is (laid-record L good n l))
 
-    -- Its type, and the type's key.
+    -- Its type, and the type's descriptor.
     type-is : fieldAt b o 0 ≡ typeNo L n
     type-is = ap (λ p. fieldAt b p 0) place-is ∙ ap (λ i. fieldAt i (termPlace L n) 0) (sym image-is)
 
-    abbrev key : ℕ
-    key = getD ks (fieldAt b o 0) 0
+    abbrev descriptor : ℕ
+    descriptor = getD ks (fieldAt b o 0) 0
 
     typed : typeNo L n < length (L .types)
     typed = good .terms n l .typed
 
-    pub has-key : fieldAt b o 0 < length ks
-    has-key = let e = T .enough in let t = typed in omega (arith, type-is)
+    pub has-descriptor : fieldAt b o 0 < length ks
+    has-descriptor = let e = T .enough in let t = typed in omega (arith, type-is)
 
-    keyed : Key (L .image) (typePlace L (typeNo L n)) key
-    keyed =
-        subst (λ i. Key i (typePlace L (typeNo L n)) key) (sym image-is)
-        (subst (λ t. Key b (typePlace L (typeNo L n)) (getD ks t 0)) (sym type-is) (T .keys (typeNo L n) typed))
+    described : Describes (L .image) (typePlace L (typeNo L n)) descriptor
+    described =
+        subst (λ i. Describes i (typePlace L (typeNo L n)) descriptor) (sym image-is)
+        (subst (λ t. Describes b (typePlace L (typeNo L n)) (getD ks t 0)) (sym type-is) (T .descriptors (typeNo L n) typed))
 
-    pub domain-is : keyDomain key ≡ domOf (statedType L n)
-    domain-is = key-domain L good (typeNo L n) typed key keyed
+    pub domain-is : descriptorDomain descriptor ≡ domOf (statedType L n)
+    domain-is = descriptor-domain L good (typeNo L n) typed descriptor described
 
     module _ (ls : List ℕ) (N : Leaves b ls) where
-      pub note-is : keyNote ls key ≡ cellNote (statedType L n)
-      note-is = key-note L good (typeNo L n) typed key keyed ls (N .enough) (N .counts)
+      pub note-is : descriptorNote ls descriptor ≡ cellNote (statedType L n)
+      note-is = descriptor-note L good (typeNo L n) typed descriptor described ls (N .enough) (N .counts)
 
-      pub fits : KeyFits ls key
-      fits = key-fits L good (typeNo L n) typed key keyed ls (N .enough) (N .counts)
+      pub fits : DescriptorFits ls descriptor
+      fits = descriptor-fits L good (typeNo L n) typed descriptor described ls (N .enough) (N .counts)

@@ -1,3 +1,3 @@
--- What the passes read of a term's record and of its type's key.
+-- What the passes read of a term's record and of its type's descriptor.
 pub mod Noted
 pub mod Fields

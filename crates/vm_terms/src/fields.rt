@@ -3,10 +3,10 @@ ghost use mathlib.Core.Path.{_≡_};
 ghost use Prim.Native.Nat.{_+_, _-_, _*_, _≤_, _<_};
 ghost use lib.ListN.{length, getD};
 ghost use Rattle.image.specs.Bytes.{lengthAt, fieldCount, fieldAt};
-use records::numbers::type_key;
-use records::numbers::type_of_term;
-use records::words::field_at;
-use records::words::word;
+use check_records::numbers::type_descriptor;
+use check_records::numbers::type_of_term;
+use check_records::words::field_at;
+use check_records::words::word;
 
 pub fn wide(x: u16) -> u64
     ensures { λ r. ⌜ (r ≡ x) × (r < 65536) ⌝ }
@@ -31,10 +31,10 @@ pub fn label_count(image: &[u8], at: usize) -> usize
     (len - 4) / 2 - 1
 }
 
-// The key of the type of the term at an offset.
-pub fn key_at(image: &[u8], at: usize, keys: &[u32]) -> u32
-    requires { ⌜ (at + 5 < length (now image)) × (fieldAt (now image) at 0 < length (now keys)) ⌝ }
-    ensures { λ r. ⌜ r ≡ getD (now (keys .entry)) (fieldAt (now (image .entry)) at 0) 0 ⌝ }
+// The descriptor of the type of the term at an offset.
+pub fn descriptor_at(image: &[u8], at: usize, descriptors: &[u32]) -> u32
+    requires { ⌜ (at + 5 < length (now image)) × (fieldAt (now image) at 0 < length (now descriptors)) ⌝ }
+    ensures { λ r. ⌜ r ≡ getD (now (descriptors .entry)) (fieldAt (now (image .entry)) at 0) 0 ⌝ }
 {
-    type_key(keys, type_of_term(image, at))
+    type_descriptor(descriptors, type_of_term(image, at))
 }

@@ -1,3 +1,3 @@
-// An inner crate: what the passes that build the code read of a term's record, and of the key of its type.
+// An inner crate: what the passes that build the code read of a term's record, and of the descriptor of its type.
+pub mod descriptors;
 pub mod fields;
-pub mod keys;

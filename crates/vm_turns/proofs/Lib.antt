@@ -2,3 +2,4 @@
 pub mod Resumed
 pub mod Repeated
 pub mod Lent
+pub mod Started

@@ -1,7 +1,7 @@
 -- Too long; refused by an examination; or the tables are filled.
 use denote.Ref.{now}
 use mathlib.Core.Path.{sym, ap, _∙_}
-use Rattle.examine.specs.Examined.{verdictOf}
+use Rattle.validator.specs.Examined.{verdictOf}
 use Rattle.engine.proofs.Gate.{too-long-left, examined-left}
 use borrow.Author.Needs.{needs}
 use Rattle.engine.proofs.run.Statement.{statement}

@@ -1,9 +1,9 @@
 use native.Mathlib.Omega.{arith}
 use denote.Ref.{now}
 use mathlib.Core.Path.{refl}
-use Rattle.area.specs.Bytes.{bytesOf}
+use Rattle.base_bytes.specs.Bytes.{bytesOf}
 use Rattle.report.proofs.Put.{record-written}
-use Rattle.area.specs.Records.{bytes16}
+use Rattle.base_bytes.specs.Records.{bytes16}
 use Rattle.report.specs.Written.{otherCellKind}
 use borrow.Author.Needs.{needs}
 use Rattle.report.proofs.cells.put_other_cell.Statement.{statement}

@@ -3,8 +3,8 @@ use native.Mathlib.Omega.{arith}
 use denote.Ref.{now}
 use mathlib.Core.Path.{_≡_, refl}
 use lib.ListN.{length}
-use Rattle.area.specs.Bytes.{bytesOf}
-use Rattle.area.specs.Records.{bytes16}
+use Rattle.base_bytes.specs.Bytes.{bytesOf}
+use Rattle.base_bytes.specs.Records.{bytes16}
 use Rattle.report.specs.Written.{plainCellKind, leavesBytes, leavesIn}
 use Rattle.report.proofs.Lengths.{slots-short}
 use Rattle.report.proofs.Put.{header-last}

@@ -1,10 +1,10 @@
 use native.Mathlib.Omega.{arith}
 use denote.Ref.{now}
 use mathlib.Core.Path.{refl}
-use Rattle.area.specs.Bytes.{bytesOf}
+use Rattle.base_bytes.specs.Bytes.{bytesOf}
 use Rattle.report.proofs.Put.{fields-written}
 use Rattle.calculus.specs.Report.{outcomeNumber}
-use Rattle.area.specs.Records.{bytes16, bytes32}
+use Rattle.base_bytes.specs.Records.{bytes16, bytes32}
 use Rattle.report.specs.Written.{reportKind}
 use borrow.Author.Needs.{needs}
 use Rattle.report.proofs.fixed.put_head.Statement.{statement}

@@ -2,9 +2,9 @@ use Prim.Native.Nat.{_+_}
 use native.Mathlib.Omega.{arith}
 use denote.Ref.{now}
 use mathlib.Core.Path.{refl}
-use Rattle.area.specs.Bytes.{bytesOf}
+use Rattle.base_bytes.specs.Bytes.{bytesOf}
 use Rattle.report.proofs.Put.{fields-written}
-use Rattle.area.specs.Records.{bytes16, bytes32, logKind}
+use Rattle.base_bytes.specs.Records.{bytes16, bytes32, logKind}
 use borrow.Author.Needs.{needs}
 use Rattle.report.proofs.fixed.put_log.Statement.{statement}
 use Rattle.report.proofs.fixed.put_log.Tie as tie

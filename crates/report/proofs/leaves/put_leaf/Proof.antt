@@ -2,8 +2,8 @@ use native.Mathlib.Omega.{arith}
 use denote.Ref.{now}
 use mathlib.Core.Path.{refl}
 use Rattle.calculus.specs.Combinators.{choose}
-use Rattle.area.specs.Bytes.{bytesOf}
-use Rattle.area.specs.Records.{bytes16, bytes32}
+use Rattle.base_bytes.specs.Bytes.{bytesOf}
+use Rattle.base_bytes.specs.Records.{bytes16, bytes32}
 use Rattle.report.proofs.Put.{record-written}
 use borrow.Author.Needs.{needs}
 use Rattle.report.proofs.leaves.put_leaf.Statement.{statement}

@@ -3,8 +3,8 @@ use native.Mathlib.Omega.{arith}
 use denote.Ref.{now}
 use mathlib.Core.Path.{_≡_, refl, sym, _∙_}
 use lib.ListN.{length}
-use Rattle.area.specs.Bytes.{over}
-use Rattle.area.proofs.Over.{over-nothing}
+use Rattle.base_bytes.specs.Bytes.{over}
+use Rattle.base_bytes.proofs.Over.{over-nothing}
 use Rattle.report.specs.Records.{recordsBytes}
 use Rattle.report.specs.Written.{leavesBytes, leavesIn}
 use Rattle.report.proofs.Put.{leaves-step}

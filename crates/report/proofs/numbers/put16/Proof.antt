@@ -2,7 +2,7 @@ use Prim.Native.Nat.{_%_}
 use native.Mathlib.Omega.{arith}
 use denote.Ref.{now}
 use lib.ListN.{length-set}
-use Rattle.area.proofs.Bytes.{bytes2, stores, stores-over}
+use Rattle.base_bytes.proofs.Bytes.{bytes2, stores, stores-over}
 use borrow.Author.Needs.{needs}
 use Rattle.report.proofs.numbers.put16.Statement.{statement}
 use Rattle.report.proofs.numbers.put16.Tie as tie

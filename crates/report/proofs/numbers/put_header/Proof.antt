@@ -2,9 +2,9 @@ use Prim.Native.Nat.{_+_}
 use native.Mathlib.Omega.{arith}
 use denote.Ref.{now}
 use mathlib.Core.Path.{refl}
-use Rattle.area.specs.Bytes.{bytesOf}
-use Rattle.area.proofs.Over.{onward}
-use Rattle.area.specs.Records.{bytes16}
+use Rattle.base_bytes.specs.Bytes.{bytesOf}
+use Rattle.base_bytes.proofs.Over.{onward}
+use Rattle.base_bytes.specs.Records.{bytes16}
 use borrow.Author.Needs.{needs}
 use Rattle.report.proofs.numbers.put_header.Statement.{statement}
 use Rattle.report.proofs.numbers.put_header.Tie as tie

@@ -3,7 +3,7 @@ use native.Mathlib.Omega.{arith}
 use denote.Ref.{now}
 use mathlib.Core.Path.{_≡_, refl, _∙_}
 use lib.ListN.{length}
-use Rattle.area.specs.Bytes.{over}
+use Rattle.base_bytes.specs.Bytes.{over}
 use Rattle.report.specs.Written.{cellsBytes}
 use Rattle.vm_tables.specs.View.{memoryOf}
 use Rattle.results.specs.Ended.{cellsFrom}

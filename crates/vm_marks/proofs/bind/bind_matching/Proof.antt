@@ -1,7 +1,7 @@
 use Rattle.vm_marks.proofs.Matched.{matching-on, matching-done, matching-start}
 use Rattle.vm_marks.specs.Binds.{boundIn}
 use Rattle.vm_machine.specs.Reduce.{bindMatching}
-use Rattle.area.specs.Memory.{memoryLength}
+use Rattle.base_bytes.specs.Memory.{memoryLength}
 use denote.Ref.{now}
 use lib.ListN.{length, drop}
 use mathlib.Core.Path.{_≡_, refl, _∙_}

@@ -1,0 +1,37 @@
+-- The lent work area as the machine's memory: words of 8 bytes from offset 0 on, then single bytes, up to its published length (document 01, "Turned back at the gate", refusal 17).
+use Prim.Native.Nat.{ℕ, zero, suc, _+_, _*_}
+use mathlib.Core.List.{List, [], _∷_}
+use lib.ListN.{take, drop}
+use Rattle.base_bytes.specs.Bytes.{numberOf, numberAt}
+
+-- The first n words.
+unfoldable pub words : ℕ → List ℕ → List ℕ
+words zero b = []
+words (suc n) b = numberOf (take 8 b) ∷ words n (drop 8 b)
+
+-- Word i.
+abbrev pub wordAt : List ℕ → ℕ → ℕ
+wordAt b i = numberAt 8 (8 * i) b
+
+-- How many words and how many single bytes there are, where the single bytes begin, and where the memory ends.
+abbrev pub wordCount : ℕ
+wordCount = 3905
+
+abbrev pub besideCount : ℕ
+besideCount = 513
+
+abbrev pub besideBase : ℕ
+besideBase = 8 * wordCount
+
+abbrev pub memoryLength : ℕ
+memoryLength = besideBase + besideCount
+
+-- The words and the single bytes of the work area.
+abbrev pub wordsOf : List ℕ → List ℕ
+wordsOf b = words wordCount b
+
+abbrev pub besideOf : List ℕ → List ℕ
+besideOf b = take besideCount (drop besideBase b)
+
+abbrev pub memoryOf : List ℕ → List ℕ × List ℕ
+memoryOf b = (wordsOf b, besideOf b)

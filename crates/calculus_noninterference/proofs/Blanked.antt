@@ -1,0 +1,110 @@
+-- Two programs that are equal once their low bodies are blanked are related (document 01, "Two runs compared").
+use Prim.Native.Nat.{ℕ}
+use mathlib.Core.Path.{_≡_, refl, sym}
+use mathlib.Core.Bool.{Bool, true, false}
+use mathlib.Core.List.{List}
+use Rattle.calculus.specs.Syntax.{Dom, Ty, Val, Tm, Tms, Op0, Op1, Op2, val, var, lam, op0, op1, op2, seq, ite, split, pcd, adv, lower, end, more}
+use Rattle.calculus.specs.Plain.{domOf}
+use Rattle.calculus.specs.Blank.{body, blank, blanks}
+use Rattle.calculus.specs.Typing.{Policy, noStore, LabelsOf, no-labels, a-label, ValTy, TmTy, TmsTy, is-val, is-var, is-lam, is-op0, is-op1, is-op2, is-seq, is-ite, is-split, is-pcd, is-adv, is-lower, is-end, is-more}
+use Rattle.laws.proofs.Lists.{none-some, All2.all2-nil}
+use Rattle.calculus_noninterference.proofs.Interleave.{Side, Matches}
+use Rattle.calculus_noninterference.proofs.Related.{World, RelV, RelT, RelB, RelTs, b-rel, b-low, v-unit, v-truth, v-num, v-pair, v-fun, v-labels, v-advice, r-val, r-var, r-lam, r-op0, r-op1, r-op2, r-seq, r-ite, r-split, r-pcd, r-adv, r-lower, r-end, r-more}
+
+module _ (hi : Dom → Bool) where
+  -- x is e with low bodies blanked: the graph of `blank`, which says nothing of a low body.
+  mutual
+    data Blanked : Tm → Tm → Type 0 where
+      b-val : {v : Val} → Blanked (val v) (val v)
+      b-var : {k : ℕ} → Blanked (var k) (var k)
+      b-lam : {t : Ty} {b x : Tm} → (hi (domOf t) ≡ true → Blanked b x) → Blanked (lam t b) (lam t x)
+      b-op0 : {o : Op0} {t : Ty} → Blanked (op0 o t) (op0 o t)
+      b-op1 : {o : Op1} {t : Ty} {e x : Tm} → Blanked e x → Blanked (op1 o t e) (op1 o t x)
+      b-op2 : {o : Op2} {t : Ty} {e x f y : Tm} → Blanked e x → Blanked f y → Blanked (op2 o t e f) (op2 o t x y)
+      b-seq : {e x f y : Tm} → Blanked e x → Blanked f y → Blanked (seq e f) (seq x y)
+      b-ite : {e x f y g z : Tm} → Blanked e x → Blanked f y → Blanked g z → Blanked (ite e f g) (ite x y z)
+      b-split : {e x f y : Tm} → Blanked e x → Blanked f y → Blanked (split e f) (split x y)
+      b-pcd : {es xs : Tms} → Blankeds es xs → Blanked (pcd es) (pcd xs)
+      b-adv : {p : Dom} {e x b y : Tm} → Blanked e x → (hi p ≡ true → Blanked b y) → Blanked (adv p e b) (adv p x y)
+      b-lower : {p : Dom} {e x : Tm} → (hi p ≡ true → Blanked e x) → Blanked (lower p e) (lower p x)
+
+    data Blankeds : Tms → Tms → Type 0 where
+      b-end : Blankeds end end
+      b-more : {e x : Tm} {es xs : Tms} → Blanked e x → Blankeds es xs → Blankeds (more e es) (more x xs)
+
+  body-high : {p : Dom} {e : Tm} → hi p ≡ true → body hi p e ≡ e
+  body-high h = rw h
+
+  blanked-body : (p : Dom) {b x : Tm} → Blanked b x → hi p ≡ true → Blanked b (body hi p x)
+  blanked-body p r h = rw (body-high h) r
+
+  mutual
+    unfolding blank blanks
+
+    blanked : (e : Tm) → Blanked e (blank hi e)
+    blanked (val v) = b-val
+    blanked (var k) = b-var
+    blanked (lam t b) = b-lam (blanked-body (domOf t) (blanked b))
+    blanked (op0 o t) = b-op0
+    blanked (op1 o t e) = b-op1 (blanked e)
+    blanked (op2 o t e f) = b-op2 (blanked e) (blanked f)
+    blanked (seq e f) = b-seq (blanked e) (blanked f)
+    blanked (ite e f g) = b-ite (blanked e) (blanked f) (blanked g)
+    blanked (split e f) = b-split (blanked e) (blanked f)
+    blanked (pcd es) = b-pcd (blankeds es)
+    blanked (adv p e b) = b-adv (blanked e) (blanked-body p (blanked b))
+    blanked (lower p e) = b-lower (blanked-body p (blanked e))
+
+    blankeds : (es : Tms) → Blankeds es (blanks hi es)
+    blankeds end = b-end
+    blankeds (more e es) = b-more (blanked e) (blankeds es)
+
+  module _ {W : World} where
+    body-rel : (p : Dom) {b b′ : Tm} (x : Tm) → (hi p ≡ true → Blanked b′ (body hi p x)) → (Blanked b′ x → RelT hi W b b′) → RelB hi W p b b′
+    body-rel p {b} {b′} x f g = pick (hi p) refl
+      where
+        pick : (o : Bool) → hi p ≡ o → RelB hi W p b b′
+        pick true h = b-rel (g (rw (body-high h) at (f h)))
+        pick false h = b-low h
+
+  -- Before a run there is no label.
+  labels-rel : {D : Policy} {w : List Side} {a : Ty} {p : Dom} {ls : List ℕ} → LabelsOf D noStore a p ls → Matches w ls ls
+  labels-rel no-labels = all2-nil
+  labels-rel (a-label x l y) = absurd (none-some x)
+
+  module _ {D : Policy} {W : World} where
+    mutual
+      unfolding blank blanks
+
+      -- The values of a program are related to themselves.
+      val-rel : {v : Val} {t : Ty} → ValTy D noStore v t → RelV hi W v v
+      val-rel ValTy.v-unit = v-unit
+      val-rel ValTy.v-truth = v-truth
+      val-rel ValTy.v-num = v-num
+      val-rel (ValTy.v-pair x y) = v-pair (val-rel x) (val-rel y)
+      val-rel (ValTy.v-fun {e} x) = v-fun (b-rel (tm-rel x (blanked e)))
+      val-rel (ValTy.v-label x) = absurd (none-some x)
+      val-rel (ValTy.v-cell x) = absurd (none-some x)
+      val-rel (ValTy.v-labels x) = v-labels (labels-rel x)
+      val-rel (ValTy.v-advice {e} x l y) = v-advice (labels-rel x) (b-rel (tm-rel y (blanked e)))
+
+      tm-rel : {Γ : List Ty} {c : Dom} {e e′ : Tm} {t : Ty} → TmTy D noStore Γ c e t → Blanked e′ (blank hi e) → RelT hi W e e′
+      tm-rel (is-val x) b-val = r-val (val-rel x)
+      tm-rel (is-var x) b-var = r-var
+      tm-rel (is-lam {p} x) (b-lam f) = r-lam (body-rel p _ f (λ y. tm-rel x y))
+      tm-rel (is-op0 r) b-op0 = r-op0
+      tm-rel (is-op1 r x) (b-op1 a) = r-op1 (tm-rel x a)
+      tm-rel (is-op2 r x y) (b-op2 a b) = r-op2 (tm-rel x a) (tm-rel y b)
+      tm-rel (is-seq x y) (b-seq a b) = r-seq (tm-rel x a) (tm-rel y b)
+      tm-rel (is-ite x y z) (b-ite a b c) = r-ite (tm-rel x a) (tm-rel y b) (tm-rel z c)
+      tm-rel (is-split x y) (b-split a b) = r-split (tm-rel x a) (tm-rel y b)
+      tm-rel (is-pcd x l) (b-pcd a) = r-pcd (tms-rel x a)
+      tm-rel (is-adv {p} x l y) (b-adv a f) = r-adv (tm-rel x a) (body-rel p _ f (λ z. tm-rel y z))
+      tm-rel (is-lower {p} l x) (b-lower f) = r-lower (body-rel p _ f (λ z. tm-rel x z))
+
+      tms-rel : {Γ ts : List Ty} {c : Dom} {es es′ : Tms} → TmsTy D noStore Γ c es ts → Blankeds es′ (blanks hi es) → RelTs hi W es es′
+      tms-rel is-end b-end = r-end
+      tms-rel (is-more x y) (b-more a b) = r-more (tm-rel x a) (tms-rel y b)
+
+    pub blank-rel : {Γ : List Ty} {c : Dom} {e e′ : Tm} {t : Ty} → TmTy D noStore Γ c e t → blank hi e ≡ blank hi e′ → RelT hi W e e′
+    blank-rel {e′} x same = tm-rel x (rw (sym same) at (blanked e′))

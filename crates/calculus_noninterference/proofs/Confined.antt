@@ -1,0 +1,151 @@
+-- Confinement: what a typed step at a domain may do to a state.
+use Prim.Native.Nat.{ℕ}
+use mathlib.Core.Path.{_≡_, refl, subst as transp}
+use mathlib.Core.Bool.{Bool, true, false}
+use mathlib.Core.List.{List, [], _∷_, _++_}
+use mathlib.Core.Option.{Option, none, some}
+use lib.ListN.{getElem?}
+use Rattle.calculus.specs.declared.Outcome.{Outcome}
+use Rattle.calculus.specs.Combinators.{cases}
+use Rattle.calculus.specs.Syntax.{Dom, Ty, Val, Tm, Tms, Op0, Op1, Op2, asValue}
+use Rattle.calculus.specs.State.{Cell, Advice, Event, Counts, State, Given, charged, celled, stored, labelled, installed, told}
+use Rattle.calculus.specs.View.{unitOf, truthOf, numberOf, pairOf, bodyOf, labelOf, cellOf, labelsOf}
+use Rattle.calculus.specs.Numbers.{sum, difference, isLess, isEqual}
+use Rattle.calculus.specs.Answer.{Answer, go, full, halt, wrong, carry, within, if-room, with, spend}
+use Rattle.calculus.specs.Place.{Place, at, deeper}
+use Rattle.calculus.specs.Reduce.{reduce0, reduce1, reduce2, num, truth, arith, collect}
+use Rattle.calculus.specs.Step.{step, stepFirst}
+use Rattle.calculus.specs.Typing.{Policy, StoreTyping, Rule0, Rule1, Rule2, ValTy, TmTy, TmsTy, t-newLabel, t-abort, t-print, t-install, t-read, t-byte, t-newCell, t-pair, t-app, t-mark, t-store, t-plus, t-minus, t-less, t-equal, v-cell, v-advice, is-val, is-var, is-lam, is-op0, is-op1, is-op2, is-seq, is-ite, is-split, is-pcd, is-adv, is-lower, is-end, is-more}
+use Rattle.calculus_safety.proofs.StoreFits.{StateFits}
+use Rattle.calculus_safety.proofs.Values.{val-ty}
+use Rattle.calculus_noninterference.specs.Observe.{Highs}
+use Rattle.calculus_noninterference.proofs.Store.{cell-dom}
+
+module _ (hi : Dom → Bool) where
+  -- p is high only where c is.
+  abbrev pub Under : Dom → Dom → Type 0
+  Under p c = hi p ≡ true → hi c ≡ true
+
+  -- What a step at c may do to a state: the cells that it makes or changes, the advice that it installs and what it says are of domains under c.
+  pub data Effect (c : Dom) (s : State) : State → Type 0 where
+    e-charge : {u : Counts} → Effect c s (charged u s)
+    e-cell : {u : Counts} (a : Cell Val) → Under (a .dom) c → Effect c s (celled (s .cells ++ (a ∷ [])) (charged u s))
+    e-store : (r : ℕ) (a : Cell Val) (v : Val) → getElem? (s .cells) r ≡ some a → Under (a .dom) c → Effect c s (stored r a v s)
+    -- a label may be of any domain: the rule for new labels is not needed here
+    e-label : (p : Dom) → Effect c s (labelled p s)
+    e-advice : (a : Advice Tm) → Under (a .dom) c → Effect c s (installed a s)
+    e-event : (a : Event) → Under (a .dom) c → Effect c s (told a s)
+
+  effect-up : {c p : Dom} {s s′ : State} → Under p c → Effect p s s′ → Effect c s s′
+  effect-up u e-charge = e-charge
+  effect-up u (e-cell a x) = e-cell a (λ h. u (x h))
+  effect-up u (e-store r a v e x) = e-store r a v e (λ h. u (x h))
+  effect-up u (e-label p) = e-label p
+  effect-up u (e-advice a x) = e-advice a (λ h. u (x h))
+  effect-up u (e-event a x) = e-event a (λ h. u (x h))
+
+  -- An answer to a step at c over s, if the step was made, had only such an effect.
+  pub data Confined (c : Dom) (s : State) : Answer State Tm → Type 0 where
+    c-go : {s′ : State} {e : Tm} → Effect c s s′ → Confined c s (go s′ e)
+    c-full : {o : Outcome} → Confined c s (full o)
+    c-halt : Confined c s halt
+    c-wrong : Confined c s wrong
+
+  confined-up : {c p : Dom} {s : State} {a : Answer State Tm} → Under p c → Confined p s a → Confined c s a
+  confined-up u (c-go m) = c-go (effect-up u m)
+  confined-up u c-full = c-full
+  confined-up u c-halt = c-halt
+  confined-up u c-wrong = c-wrong
+
+  module _ {c : Dom} {s : State} where
+    confined-within : {a : Answer State Tm} (k : Tm → Tm) → Confined c s a → Confined c s (within k a)
+    unfolding carry
+    confined-within k (c-go m) = c-go m
+    confined-within k c-full = c-full
+    confined-within k c-halt = c-halt
+    confined-within k c-wrong = c-wrong
+
+    confined-room : (b : Bool) (o : Outcome) {a : Answer State Tm} → Confined c s a → Confined c s (if-room b o a)
+    unfolding if-room
+    confined-room true o m = m
+    confined-room false o m = c-full
+
+    confined-spend : (n : Counts) (k : State → Answer State Tm) → ((u : Counts) → Confined c s (k (charged u s))) → Confined c s (spend n s k)
+    unfolding spend
+    confined-spend n k m = confined-room _ _ (confined-room _ _ (confined-room _ _ (m _)))
+
+    confined-with : {A : Type 0} (o : Option A) (k : A → Answer State Tm) → ((a : A) → Confined c s (k a)) → Confined c s (with o k)
+    unfolding with
+    confined-with none k m = c-wrong
+    confined-with (some a) k m = m a
+
+    confined-some : {A : Type 0} {o : Option A} {a : A} (k : A → Answer State Tm) → o ≡ some a → Confined c s (k a) → Confined c s (with o k)
+    unfolding with
+    confined-some k e m = rw e m
+
+    confined-cases : {A : Type 0} (o : Option A) (k : A → Answer State Tm) (a : Unit {0} → Answer State Tm) → ((v : A) → o ≡ some v → Confined c s (k v)) → Confined c s (a tt) → Confined c s (cases o k a)
+    unfolding cases
+    confined-cases none k a m n = n
+    confined-cases (some v) k a m n = m v refl
+
+  module _ {D : Policy} (H : Highs D hi) where
+    -- What is below c in the order is under c.
+    under : {p c : Dom} → D .leq p c ≡ true → Under p c
+    under {p} {c} l h = H .up p c h l
+
+    confined0 : {c : Dom} {o : Op0} {t : Ty} (G : Given) (P : Place) (s : State) → Rule0 D c o t → Confined c s (reduce0 G (at c P) s o t)
+    confined0 G P s (t-newLabel l) = confined-room _ _ (c-go (e-label _))
+    confined0 G P s t-abort = c-halt
+
+    confined1 : {Σ : StoreTyping} {c : Dom} {o : Op1} {t a : Ty} {v : Val} (G : Given) (P : Place) (s : State) → Rule1 D c o t a → ValTy D Σ v a → StateFits D Σ s → Confined c s (reduce1 G (at c P) s o t v)
+    confined1 {v} G P s t-print h k = confined-with (numberOf v) _ (λ n. confined-room _ _ (c-go (e-event _ (λ x. x))))
+    confined1 G P s (t-install l) (v-advice x y z) k = confined-some _ refl (confined-room _ _ (c-go (e-advice _ (under l))))
+    confined1 {v} G P s (t-read l) h k = confined-with (cellOf v) _ (λ r. confined-with (getElem? (s .cells) r) _ (λ a. c-go e-charge))
+    confined1 {v} G P s t-byte h k = confined-with (numberOf v) _ (λ n. c-go e-charge)
+    confined1 G P s (t-newCell l) h k = confined-spend _ _ (λ u. c-go (e-cell _ (under l)))
+
+    confined-arith : {c : Dom} {A : Type 0} (s : State) (k : A → Tm) (f : ℕ → ℕ → A) (v w : Val) → Confined c s (arith s k f (numberOf v) (numberOf w))
+    confined-arith s k f v w = confined-with (numberOf v) _ (λ m. confined-with (numberOf w) _ (λ n. c-go e-charge))
+
+    confined2 : {Σ : StoreTyping} {c : Dom} {o : Op2} {t a b : Ty} {v : Val} (w : Val) (G : Given) (P : Place) (s : State) → Rule2 D c o t a b → ValTy D Σ v a → StateFits D Σ s → Confined c s (reduce2 G (at c P) s o t v w)
+    confined2 w G P s t-pair h k = confined-spend _ _ (λ u. c-go e-charge)
+    confined2 {v} w G P s t-app h k = confined-with (bodyOf v) _ (λ n. confined-spend _ _ (λ u. c-go e-charge))
+    confined2 {v} w G P s t-mark h k = confined-with (labelOf v) _ (λ l. confined-with (getElem? (s .labels) l) _ (λ p. confined-spend _ _ (λ u. c-go e-charge)))
+    confined2 {Σ} w G P s (t-store {p} l) (v-cell {r} {a} x) k =
+        let q = cell-dom D Σ s r a p k x in
+        confined-some _ refl (confined-some _ (q .1) (c-go (e-store r (q .0) w (q .1) (λ y. under l (rw (q .2) at y)))))
+    confined2 {v} w G P s t-plus h k = confined-arith s num sum v w
+    confined2 {v} w G P s t-minus h k = confined-arith s num difference v w
+    confined2 {v} w G P s t-less h k = confined-arith s truth isLess v w
+    confined2 {v} w G P s t-equal h k = confined-arith s truth isEqual v w
+
+    closed : {Σ : StoreTyping} {Γ : List Ty} {c : Dom} {e : Tm} {t : Ty} → Γ ≡ [] → TmTy D Σ Γ c e t → TmTy D Σ [] c e t
+    closed {Σ} {c} {e} {t} p h = transp (λ Γ. TmTy D Σ Γ c e t) p h
+
+    module _ {Σ : StoreTyping} (s : State) (K : StateFits D Σ s) (G : Given) where
+      mutual
+        unfolding step
+
+        confined-step : {Γ : List Ty} {c : Dom} {e : Tm} {t : Ty} → TmTy D Σ Γ c e t → Γ ≡ [] → (P : Place) → Confined c s (step e G (at c P) s)
+        confined-step (is-val h) γ P = c-wrong
+        confined-step (is-var h) γ P = confined-room _ _ c-wrong
+        confined-step (is-lam h) γ P = c-wrong
+        confined-step (is-op0 r) γ P = confined-room _ _ (confined0 G P s r)
+        confined-step (is-op1 {e} r h) γ P = confined-cases (asValue e) _ _ (λ v p. confined-room _ _ (confined1 G P s r (val-ty (closed γ h) p) K)) (confined-within _ (confined-step h γ (deeper P)))
+        confined-step (is-op2 {e} {f} r h g) γ P =
+            confined-cases (asValue e) _ _
+            (λ v p. confined-cases (asValue f) _ _ (λ w q. confined-room _ _ (confined2 w G P s r (val-ty (closed γ h) p) K)) (confined-within _ (confined-step g γ (deeper P))))
+            (confined-within _ (confined-step h γ (deeper P)))
+        confined-step (is-seq {e} h g) γ P = confined-cases (asValue e) _ _ (λ v p. confined-room _ _ (confined-with (unitOf v) _ (λ u. c-go e-charge))) (confined-within _ (confined-step h γ (deeper P)))
+        confined-step (is-ite {e} h g f) γ P = confined-cases (asValue e) _ _ (λ v p. confined-room _ _ (confined-with (truthOf v) _ (λ u. c-go e-charge))) (confined-within _ (confined-step h γ (deeper P)))
+        confined-step (is-split {e} h g) γ P = confined-cases (asValue e) _ _ (λ v p. confined-room _ _ (confined-with (pairOf v) _ (λ u. confined-spend _ _ (λ n. c-go e-charge)))) (confined-within _ (confined-step h γ (deeper P)))
+        confined-step (is-pcd h o) γ P = confined-first h γ P [] _ _ (λ vs. confined-with (collect vs []) _ (λ l. confined-spend _ _ (λ n. c-go e-charge)))
+        confined-step (is-adv {e} h l g) γ P = confined-cases (asValue e) _ _ (λ v p. confined-room _ _ (confined-with (labelsOf v) _ (λ u. confined-spend _ _ (λ n. c-go e-charge)))) (confined-within _ (confined-step h γ (deeper P)))
+        confined-step (is-lower {e} l h) γ P = confined-cases (asValue e) _ _ (λ v p. confined-room _ _ (confined-with (unitOf v) _ (λ u. c-go e-charge))) (confined-within _ (confined-up (under l) (confined-step h γ (deeper P))))
+
+        confined-first : {Γ ts : List Ty} {c : Dom} {es : Tms} → TmsTy D Σ Γ c es ts → Γ ≡ [] → (P : Place) (vs : List Val) (k : Tms → Tm) (r : List Val → Answer State Tm) → ((ws : List Val) → Confined c s (r ws)) → Confined c s (stepFirst es G (at c P) s vs k r)
+        confined-first is-end γ P vs k r m = confined-room _ _ (m vs)
+        confined-first (is-more {e} h g) γ P vs k r m = confined-cases (asValue e) _ _ (λ v p. confined-first g γ P (v ∷ vs) k r m) (confined-within _ (confined-step h γ (deeper P)))
+
+      pub confined : {c : Dom} {e : Tm} {t : Ty} → TmTy D Σ [] c e t → (P : Place) → Confined c s (step e G (at c P) s)
+      confined h P = confined-step h refl P

@@ -1,0 +1,112 @@
+-- The next steps of two related terms, side by side, and the same seen from the terms around them.
+use mathlib.Core.Path.{_≡_, ap}
+use mathlib.Core.Bool.{Bool, true, false}
+use mathlib.Core.Option.{Option, none, some}
+use Rattle.calculus.specs.declared.Outcome.{Outcome}
+use Rattle.calculus.specs.Combinators.{cases}
+use Rattle.calculus.specs.Syntax.{Dom, Val, Tm, asValue}
+use Rattle.calculus.specs.State.{Counts, State, charged}
+use Rattle.calculus.specs.Answer.{Answer, go, full, halt, wrong, carry, within, if-room, with, spend}
+use Rattle.calculus_noninterference.proofs.Related.{World, Grows, RelV, RelT, RelS}
+
+-- No step was made.
+pub data NoStep : Answer State Tm → Type 0 where
+  n-full : {o : Outcome} → NoStep (full o)
+  n-halt : NoStep halt
+  n-wrong : NoStep wrong
+
+no-step-within : {a : Answer State Tm} (k : Tm → Tm) → NoStep a → NoStep (within k a)
+unfolding carry
+no-step-within k n-full = n-full
+no-step-within k n-halt = n-halt
+no-step-within k n-wrong = n-wrong
+
+pub no-step-room : {a : Answer State Tm} (b : Bool) (o : Outcome) → NoStep a → NoStep (if-room b o a)
+unfolding if-room
+no-step-room true o h = h
+no-step-room false o h = n-full
+
+pub cases-none : {A : Type 0} {x : Option A} (f : A → Answer State Tm) (a : Unit {0} → Answer State Tm) → x ≡ none → cases x f a ≡ a tt
+unfolding cases
+cases-none f a p = ap (λ x. cases x f a) p
+
+pub cases-some : {A : Type 0} {x : Option A} {v : A} (f : A → Answer State Tm) (a : Unit {0} → Answer State Tm) → x ≡ some v → cases x f a ≡ f v
+unfolding cases
+cases-some f a p = ap (λ x. cases x f a) p
+
+within-go : {a : Answer State Tm} {s : State} {e : Tm} (k : Tm → Tm) → a ≡ go s e → within k a ≡ go s (k e)
+unfolding carry
+within-go k p = ap (λ x. within k x) p
+
+module _ (hi : Dom → Bool) where
+  module _ (W : World) where
+    -- The answers to a step of each: if both were made, what they made is related.
+    pub data Two : Answer State Tm → Answer State Tm → Type 0 where
+      two-go : {X : World} {s s′ : State} {e e′ : Tm} → Grows W X → RelS hi X s s′ → RelT hi X e e′ → Two (go s e) (go s′ e′)
+      none-left : {a a′ : Answer State Tm} → NoStep a → Two a a′
+      none-right : {a a′ : Answer State Tm} → NoStep a′ → Two a a′
+
+    -- What comes next of e over s and of e′ over s′, whose next steps are a and a′.
+    pub data Sim (s s′ : State) (e e′ : Tm) (a a′ : Answer State Tm) : Type 0 where
+      -- both are values
+      s-values : {v v′ : Val} → asValue e ≡ some v → asValue e′ ≡ some v′ → RelV hi W v v′ → Sim s s′ e e′ a a′
+      -- both make a step
+      s-both : asValue e ≡ none → asValue e′ ≡ none → Two a a′ → Sim s s′ e e′ a a′
+      -- one makes a step that the other does not see
+      s-left : {X : World} {t : State} {f : Tm} → asValue e ≡ none → a ≡ go t f → Grows W X → RelS hi X t s′ → RelT hi X f e′ → Sim s s′ e e′ a a′
+      s-right : {X : World} {t : State} {f : Tm} → asValue e′ ≡ none → a′ ≡ go t f → Grows W X → RelS hi X s t → RelT hi X e f → Sim s s′ e e′ a a′
+      -- one ends here
+      s-none-left : asValue e ≡ none → NoStep a → Sim s s′ e e′ a a′
+      s-none-right : asValue e′ ≡ none → NoStep a′ → Sim s s′ e e′ a a′
+
+  module _ {W : World} where
+    pub two-room : {a a′ : Answer State Tm} (b b′ : Bool) (o o′ : Outcome) → Two W a a′ → Two W (if-room b o a) (if-room b′ o′ a′)
+    unfolding if-room
+    two-room true true o o′ t = t
+    two-room true false o o′ t = none-right n-full
+    two-room false b o o′ t = none-left n-full
+
+    pub two-spend : (s s′ : State) (n n′ : Counts) (k k′ : State → Answer State Tm) → ((u u′ : Counts) → Two W (k (charged u s)) (k′ (charged u′ s′))) → Two W (spend n s k) (spend n′ s′ k′)
+    unfolding spend
+    two-spend s s′ n n′ k k′ t = two-room _ _ _ _ (two-room _ _ _ _ (two-room _ _ _ _ (t _ _)))
+
+    pub two-some : {A B : Type 0} {a : A} {b : B} (k : A → Answer State Tm) (k′ : B → Answer State Tm) → Two W (k a) (k′ b) → Two W (with (some a) k) (with (some b) k′)
+    unfolding with
+    two-some k k′ t = t
+
+    pub two-found : {A B : Type 0} {o : Option A} {o′ : Option B} {a : A} {b : B} (k : A → Answer State Tm) (k′ : B → Answer State Tm) → o ≡ some a → o′ ≡ some b → Two W (k a) (k′ b) → Two W (with o k) (with o′ k′)
+    unfolding with
+    two-found k k′ e e′ t = rw (e, e′) t
+
+    pub two-none : {A B : Type 0} (k : A → Answer State Tm) (k′ : B → Answer State Tm) → Two W (with none k) (with none k′)
+    unfolding with
+    two-none k k′ = none-left n-wrong
+
+    two-within : {a a′ : Answer State Tm} {k k′ : Tm → Tm} → ((X : World) (x x′ : Tm) → Grows W X → RelT hi X x x′ → RelT hi X (k x) (k′ x′)) → Two W a a′ → Two W (within k a) (within k′ a′)
+    unfolding carry
+    two-within f (two-go x r t) = two-go x r (f _ _ _ x t)
+    two-within {k} f (none-left n) = none-left (no-step-within k n)
+    two-within {k′} f (none-right n) = none-right (no-step-within k′ n)
+
+    -- An operand's next step, seen from the whole term w: k puts the operand back, among operands that are values; a term that makes no step stays as it is.
+    pub lift-in : {s s′ : State} {e e′ w w′ : Tm} {a a′ : Answer State Tm} (k k′ : Tm → Tm) {f f′ : Val → Answer State Tm} → asValue w ≡ none → asValue w′ ≡ none
+        → ((X : World) (x x′ : Tm) → Grows W X → RelT hi X x x′ → RelT hi X (k x) (k′ x′))
+        → ((X : World) (x : Tm) → Grows W X → RelT hi X x e′ → RelT hi X (k x) w′)
+        → ((X : World) (x′ : Tm) → Grows W X → RelT hi X e x′ → RelT hi X w (k′ x′))
+        → ((v v′ : Val) → asValue e ≡ some v → asValue e′ ≡ some v′ → RelV hi W v v′ → Sim W s s′ w w′ (f v) (f′ v′))
+        → Sim W s s′ e e′ a a′
+        → Sim W s s′ w w′ (cases (asValue e) f (λ n. within k a)) (cases (asValue e′) f′ (λ n. within k′ a′))
+    lift-in k k′ p p′ g gl gr h (s-values q q′ r) = rw (cases-some _ _ q, cases-some _ _ q′) (h _ _ q q′ r)
+    lift-in k k′ p p′ g gl gr h (s-both q q′ t) = rw (cases-none _ _ q, cases-none _ _ q′) (s-both p p′ (two-within g t))
+    lift-in k k′ p p′ g gl gr h (s-left q y x r t) = rw (cases-none _ _ q) (s-left p (within-go k y) x r (gl _ _ x t))
+    lift-in k k′ p p′ g gl gr h (s-right q y x r t) = rw (cases-none _ _ q) (s-right p′ (within-go k′ y) x r (gr _ _ x t))
+    lift-in k k′ p p′ g gl gr h (s-none-left q n) = rw (cases-none _ _ q) (s-none-left p (no-step-within k n))
+    lift-in k k′ p p′ g gl gr h (s-none-right q n) = rw (cases-none _ _ q) (s-none-right p′ (no-step-within k′ n))
+
+    -- The same where no operand stands before it, so that the whole terms are k e and k′ e′; then the reductions of the whole are looked at.
+    pub lift : {s s′ : State} {e e′ : Tm} {a a′ : Answer State Tm} (k k′ : Tm → Tm) {f f′ : Val → Answer State Tm} → asValue (k e) ≡ none → asValue (k′ e′) ≡ none
+        → ((X : World) (x x′ : Tm) → Grows W X → RelT hi X x x′ → RelT hi X (k x) (k′ x′))
+        → ((v v′ : Val) → asValue e ≡ some v → asValue e′ ≡ some v′ → RelV hi W v v′ → Sim W s s′ (k e) (k′ e′) (f v) (f′ v′))
+        → Sim W s s′ e e′ a a′
+        → Sim W s s′ (k e) (k′ e′) (cases (asValue e) f (λ n. within k a)) (cases (asValue e′) f′ (λ n. within k′ a′))
+    lift k k′ p p′ g h r = lift-in k k′ p p′ g (λ X x w y. g X x _ w y) (λ X x w y. g X _ x w y) h r

@@ -1,0 +1,168 @@
+-- When two values, two terms, two states are related: they look the same from the high domains.
+use Prim.Native.Nat.{ℕ, suc}
+use mathlib.Core.Path.{_≡_}
+use mathlib.Core.Bool.{Bool, true, false}
+use mathlib.Core.List.{List, []}
+use Rattle.calculus.specs.Syntax.{Dom, Ty, Val, Tm, Tms, Op0, Op1, Op2, val, var, lam, op0, op1, op2, seq, ite, split, pcd, adv, lower, end, more}
+use Rattle.calculus.specs.Subst.{subst}
+use Rattle.calculus.specs.State.{Cell, Advice, Event, State}
+use Rattle.calculus.specs.Plain.{domOf}
+use Rattle.laws.proofs.Lists.{Prefix, prefix-refl, All2}
+use Rattle.calculus_noninterference.proofs.Interleave.{Side, Matched, Matches, matched-mono, matches-mono, Interleaving}
+
+-- The orders in which the two runs' cells and labels were made.
+pub record World : Type 0 where
+  pub cells : List Side
+  pub labels : List Side
+
+-- Before the runs there are none.
+abbrev pub noWorld : World
+noWorld = record { cells = []; labels = [] }
+
+-- X has more cells and labels than W.
+pub record Grows (W X : World) : Type 0 where
+  pub cells : Prefix (W .cells) (X .cells)
+  pub labels : Prefix (W .labels) (X .labels)
+
+pub grows-refl : (W : World) → Grows W W
+grows-refl W = record { cells = prefix-refl (W .cells); labels = prefix-refl (W .labels) }
+
+-- Substitution for a variable further out than the innermost leaves the term alone: the body of a function without free variables.
+abbrev pub ClosedBody : Tm → Type 0
+ClosedBody e = (k : ℕ) (w : Val) → subst (suc k) w e ≡ e
+
+-- Labels that both runs made have the same domain; those that one run has alone may be of any.
+abbrev pub Labels : List Side → List Dom → List Dom → Type 0
+Labels = Interleaving _≡_ (λ p. Unit {0})
+
+module _ (hi : Dom → Bool) where
+  -- What may stand in one run alone before the rest of a sequence: advice of a low domain, and what it leaves when it is done.
+  pub data Inert : Tm → Type 0 where
+    inert-lower : {p : Dom} {e : Tm} → hi p ≡ false → Inert (lower p e)
+    inert-unit : Inert (val Val.unit)
+
+  module _ (W : World) where
+    mutual
+      pub data RelV : Val → Val → Type 0 where
+        v-unit : RelV Val.unit Val.unit
+        v-truth : {b : Bool} → RelV (Val.truth b) (Val.truth b)
+        v-num : {n : ℕ} → RelV (Val.num n) (Val.num n)
+        v-pair : {v v′ w w′ : Val} → RelV v v′ → RelV w w′ → RelV (Val.pair v w) (Val.pair v′ w′)
+        v-fun : {t : Ty} {e e′ : Tm} → RelB (domOf t) e e′ → RelV (Val.fun t e) (Val.fun t e′)
+        v-label : {l l′ : ℕ} → Matched (W .labels) l l′ → RelV (Val.label l) (Val.label l′)
+        v-cell : {r r′ : ℕ} → Matched (W .cells) r r′ → RelV (Val.cell r) (Val.cell r′)
+        v-labels : {ls ls′ : List ℕ} → Matches (W .labels) ls ls′ → RelV (Val.labels ls) (Val.labels ls′)
+        v-advice : {p : Dom} {ls ls′ : List ℕ} {e e′ : Tm} → Matches (W .labels) ls ls′ → RelB p e e′ → RelV (Val.advice p ls e) (Val.advice p ls′ e′)
+
+      pub data RelT : Tm → Tm → Type 0 where
+        r-val : {v v′ : Val} → RelV v v′ → RelT (val v) (val v′)
+        r-var : {k : ℕ} → RelT (var k) (var k)
+        r-lam : {t : Ty} {e e′ : Tm} → RelB (domOf t) e e′ → RelT (lam t e) (lam t e′)
+        -- a function that the step of a later operand has put back as a value in one run and not yet in the other
+        r-val-lam : {t : Ty} {e e′ : Tm} → ClosedBody e′ → RelV (Val.fun t e) (Val.fun t e′) → RelT (val (Val.fun t e)) (lam t e′)
+        r-lam-val : {t : Ty} {e e′ : Tm} → ClosedBody e → RelV (Val.fun t e) (Val.fun t e′) → RelT (lam t e) (val (Val.fun t e′))
+        r-op0 : {o : Op0} {t : Ty} → RelT (op0 o t) (op0 o t)
+        r-op1 : {o : Op1} {t : Ty} {e e′ : Tm} → RelT e e′ → RelT (op1 o t e) (op1 o t e′)
+        r-op2 : {o : Op2} {t : Ty} {e e′ f f′ : Tm} → RelT e e′ → RelT f f′ → RelT (op2 o t e f) (op2 o t e′ f′)
+        r-seq : {e e′ f f′ : Tm} → RelT e e′ → RelT f f′ → RelT (seq e f) (seq e′ f′)
+        r-ite : {e e′ f f′ g g′ : Tm} → RelT e e′ → RelT f f′ → RelT g g′ → RelT (ite e f g) (ite e′ f′ g′)
+        r-split : {e e′ f f′ : Tm} → RelT e e′ → RelT f f′ → RelT (split e f) (split e′ f′)
+        r-pcd : {es es′ : Tms} → RelTs es es′ → RelT (pcd es) (pcd es′)
+        r-adv : {p : Dom} {e e′ b b′ : Tm} → RelT e e′ → RelB p b b′ → RelT (adv p e b) (adv p e′ b′)
+        r-lower : {p : Dom} {e e′ : Tm} → RelB p e e′ → RelT (lower p e) (lower p e′)
+        r-skip-left : {h e e′ : Tm} → Inert h → RelT e e′ → RelT (seq h e) e′
+        r-skip-right : {h e e′ : Tm} → Inert h → RelT e e′ → RelT e (seq h e′)
+
+      -- Bodies that run at p: anything where p is low.
+      pub data RelB : Dom → Tm → Tm → Type 0 where
+        b-rel : {p : Dom} {e e′ : Tm} → RelT e e′ → RelB p e e′
+        b-low : {p : Dom} {e e′ : Tm} → hi p ≡ false → RelB p e e′
+
+      pub data RelTs : Tms → Tms → Type 0 where
+        r-end : RelTs end end
+        r-more : {e e′ : Tm} {es es′ : Tms} → RelT e e′ → RelTs es es′ → RelTs (more e es) (more e′ es′)
+
+    -- Lists of values, related one by one.
+    abbrev pub RelVs : List Val → List Val → Type 0
+    RelVs = All2 RelV
+
+    -- What high code made in both runs stands in both, whatever its domain; what it holds is related only where the domain is high.
+    pub record RelCell (a b : Cell Val) : Type 0 where
+      pub same-dom : a .dom ≡ b .dom
+      pub same-plain : a .plain ≡ b .plain
+      pub held : hi (a .dom) ≡ true → RelV (a .held) (b .held)
+
+    pub record RelAdvice (a b : Advice Tm) : Type 0 where
+      pub same-dom : a .dom ≡ b .dom
+      pub labels : Matches (W .labels) (a .labels) (b .labels)
+      pub body : RelB (a .dom) (a .body) (b .body)
+
+  pub record RelEvent (a b : Event) : Type 0 where
+    pub same : a ≡ b
+    pub high : hi (a .dom) ≡ true
+
+  -- What one run has alone is of a low domain.
+  abbrev pub Low : {A : Type 0} → (A → Dom) → A → Type 0
+  Low dom a = hi (dom a) ≡ false
+
+  abbrev pub Cells : World → List Side → List (Cell Val) → List (Cell Val) → Type 0
+  Cells W = Interleaving (RelCell W) (Low (λ a. a .dom))
+
+  abbrev pub Advices : World → List Side → List (Advice Tm) → List (Advice Tm) → Type 0
+  Advices W = Interleaving (RelAdvice W) (Low (λ a. a .dom))
+
+  abbrev pub Events : List Side → List Event → List Event → Type 0
+  Events = Interleaving RelEvent (Low (λ a. a .dom))
+
+  pub record RelS (W : World) (s s′ : State) : Type 0 where
+    pub cells : Cells W (W .cells) (s .cells) (s′ .cells)
+    pub labels : Labels (W .labels) (s .labels) (s′ .labels)
+    pub advice-order : List Side
+    pub advices : Advices W advice-order (s .advices) (s′ .advices)
+    pub event-order : List Side
+    pub trace : Events event-order (s .trace) (s′ .trace)
+
+  -- Relations last as the world grows.
+  mutual
+    pub relV-mono : {W X : World} {v v′ : Val} → RelV W v v′ → Grows W X → RelV X v v′
+    relV-mono v-unit x = v-unit
+    relV-mono v-truth x = v-truth
+    relV-mono v-num x = v-num
+    relV-mono (v-pair r s) x = v-pair (relV-mono r x) (relV-mono s x)
+    relV-mono (v-fun r) x = v-fun (relB-mono r x)
+    relV-mono (v-label m) x = v-label (matched-mono m (x .labels))
+    relV-mono (v-cell m) x = v-cell (matched-mono m (x .cells))
+    relV-mono (v-labels m) x = v-labels (matches-mono m (x .labels))
+    relV-mono (v-advice m r) x = v-advice (matches-mono m (x .labels)) (relB-mono r x)
+
+    pub relT-mono : {W X : World} {e e′ : Tm} → RelT W e e′ → Grows W X → RelT X e e′
+    relT-mono (r-val r) x = r-val (relV-mono r x)
+    relT-mono r-var x = r-var
+    relT-mono (r-lam r) x = r-lam (relB-mono r x)
+    relT-mono (r-val-lam c r) x = r-val-lam c (relV-mono r x)
+    relT-mono (r-lam-val c r) x = r-lam-val c (relV-mono r x)
+    relT-mono r-op0 x = r-op0
+    relT-mono (r-op1 r) x = r-op1 (relT-mono r x)
+    relT-mono (r-op2 r s) x = r-op2 (relT-mono r x) (relT-mono s x)
+    relT-mono (r-seq r s) x = r-seq (relT-mono r x) (relT-mono s x)
+    relT-mono (r-ite r s t) x = r-ite (relT-mono r x) (relT-mono s x) (relT-mono t x)
+    relT-mono (r-split r s) x = r-split (relT-mono r x) (relT-mono s x)
+    relT-mono (r-pcd r) x = r-pcd (relTs-mono r x)
+    relT-mono (r-adv r s) x = r-adv (relT-mono r x) (relB-mono s x)
+    relT-mono (r-lower r) x = r-lower (relB-mono r x)
+    relT-mono (r-skip-left i r) x = r-skip-left i (relT-mono r x)
+    relT-mono (r-skip-right i r) x = r-skip-right i (relT-mono r x)
+
+    pub relB-mono : {W X : World} {p : Dom} {e e′ : Tm} → RelB W p e e′ → Grows W X → RelB X p e e′
+    relB-mono (b-rel r) x = b-rel (relT-mono r x)
+    relB-mono (b-low l) x = b-low l
+
+    pub relTs-mono : {W X : World} {es es′ : Tms} → RelTs W es es′ → Grows W X → RelTs X es es′
+    relTs-mono r-end x = r-end
+    relTs-mono (r-more r s) x = r-more (relT-mono r x) (relTs-mono s x)
+
+  pub cell-mono : {W X : World} → Grows W X → (a b : Cell Val) → RelCell W a b → RelCell X a b
+  cell-mono x a b r = record { same-dom = r .same-dom; same-plain = r .same-plain; held = λ h. relV-mono (r .held h) x }
+
+  pub advice-mono : {W X : World} → Grows W X → (a b : Advice Tm) → RelAdvice W a b → RelAdvice X a b
+  advice-mono x a b r = record { same-dom = r .same-dom; labels = matches-mono (r .labels) (x .labels); body = relB-mono (r .body) x }

@@ -1,0 +1,146 @@
+-- Two runs of related programs agree on what is seen from the high domains.
+use Prim.Native.Nat.{ℕ, zero, suc, _+_, _<_}
+use native.Mathlib.Omega.{arith}
+use mathlib.Core.Path.{_≡_, refl, sym, _∙_}
+use mathlib.Core.Logic.{_⊎_, inl, inr}
+use mathlib.Core.Bool.{Bool, true}
+use mathlib.Core.List.{[]}
+use mathlib.Core.Option.{Option, none, some}
+use Rattle.calculus.specs.Syntax.{Dom, Ty, Val, Tm, asValue}
+use Rattle.calculus.specs.State.{State, Given, fresh}
+use Rattle.calculus.specs.Answer.{Answer, go}
+use Rattle.calculus.specs.Place.{top}
+use Rattle.calculus.specs.Step.{step}
+use Rattle.calculus.specs.Plain.{isPlain}
+use Rattle.calculus.specs.Run.{done, Ended, ended, run}
+use Rattle.calculus.specs.Typing.{Policy, StoreTyping, noStore, ValTy, TmTy}
+use Rattle.laws.proofs.Lists.{Prefix, prefix-refl, prefix-trans}
+use Rattle.calculus.specs.Accepted.{Transitive}
+use Rattle.calculus_safety.proofs.StoreFits.{StateFits, fits-fresh}
+use Rattle.calculus_safety.proofs.Values.{val-ty}
+use Rattle.calculus_safety.proofs.Safety.{preservation}
+use Rattle.calculus_noninterference.specs.Observe.{Highs, highCells}
+use Rattle.calculus_noninterference.proofs.Interleave.{i-nil}
+use Rattle.calculus_noninterference.proofs.Related.{World, noWorld, RelV, RelT, RelS}
+use Rattle.calculus_noninterference.proofs.Confined.{Confined, c-go, c-full, c-halt, c-wrong, confined}
+use Rattle.calculus_noninterference.proofs.Paired.{n-full, n-halt, n-wrong, Two, two-go, none-left, none-right, Sim, s-values, s-both, s-left, s-right, s-none-left, s-none-right}
+use Rattle.calculus_noninterference.proofs.Simulation.{sim}
+use Rattle.calculus_noninterference.proofs.Plain.{plain-same, shown-cells}
+use Rattle.calculus_noninterference.proofs.Traces.{highEvents, events-same, effect-events}
+use Rattle.calculus_noninterference.proofs.FirstStep.{run-value, run-go, Valueless, run-spent, run-none}
+
+-- The high events of one run begin those of the other; where both are done, equal results, if the left's type u is plain, and equal high cells.
+pub record Agree (hi : Dom → Bool) (u : Ty) (E E′ : Ended) : Type 0 where
+  pub events : Prefix (highEvents hi (E .state .trace)) (highEvents hi (E′ .state .trace)) ⊎ Prefix (highEvents hi (E′ .state .trace)) (highEvents hi (E .state .trace))
+  pub result : (v v′ : Val) → E .end ≡ done v → E′ .end ≡ done v′ → isPlain u ≡ true → v ≡ v′
+  pub cells : (v v′ : Val) → E .end ≡ done v → E′ .end ≡ done v′ → highCells hi E ≡ highCells hi E′
+
+module _ {D : Policy} {hi : Dom → Bool} (H : Highs D hi) (trans : Transitive D) where
+  -- A program in the middle of its run: typed, over a state that fits.
+  record Typed (t : Ty) (s : State) (e : Tm) : Type 0 where
+    Σ : StoreTyping
+    fits : StateFits D Σ s
+    typed : TmTy D Σ [] 0 e t
+
+  typed-step : (G : Given) {t : Ty} {s s′ : State} {e e′ : Tm} → Typed t s e → step e G top s ≡ go s′ e′ → Typed t s′ e′
+  typed-step G {s} {s′} {e′} T q = let x = preservation D (T .Σ) trans G (T .typed) top s (T .fits) s′ e′ q in record { Σ = x .0; fits = x .2; typed = x .3 }
+
+  valueless-events : {s : State} {E : Ended} → Valueless s E → Prefix (highEvents hi (s .trace)) (highEvents hi (E .state .trace))
+  valueless-events S = rw (S .over) (prefix-refl _)
+
+  -- The high events of a run only become more.
+  abbrev More : ℕ → Given → Ty → Type 0
+  More n G t = (k : ℕ) (s : State) (e : Tm) → Typed t s e → Prefix (highEvents hi (s .trace)) (highEvents hi (run n G k s e .state .trace))
+
+  more-step : (n : ℕ) (G : Given) (t : Ty) → More n G t → (k : ℕ) (s : State) (e : Tm) → Typed t s e → asValue e ≡ none → {a : Answer State Tm} → step e G top s ≡ a → Confined hi 0 s a → Prefix (highEvents hi (s .trace)) (highEvents hi (run (suc n) G k s e .state .trace))
+  more-step n G t ih k s e T p q (c-go m) = rw (run-go n G k s e p q) (prefix-trans (effect-events hi m) (ih (suc k) _ _ (typed-step G T q)))
+  more-step n G t ih k s e T p q c-full = valueless-events (run-none (suc n) G k s e _ p q n-full)
+  more-step n G t ih k s e T p q c-halt = valueless-events (run-none (suc n) G k s e _ p q n-halt)
+  more-step n G t ih k s e T p q c-wrong = valueless-events (run-none (suc n) G k s e _ p q n-wrong)
+
+  more : (n : ℕ) (G : Given) (t : Ty) → More n G t
+  more zero G t k s e T = pick (asValue e) refl
+    where
+      pick : (x : Option Val) → asValue e ≡ x → Prefix (highEvents hi (s .trace)) (highEvents hi (run zero G k s e .state .trace))
+      pick none p = valueless-events (run-spent G k s e p)
+      pick (some v) p = rw (run-value zero G k s e p) (prefix-refl _)
+  more (suc n) G t k s e T = pick (more n G t) (asValue e) refl
+    where
+      pick : More n G t → (x : Option Val) → asValue e ≡ x → Prefix (highEvents hi (s .trace)) (highEvents hi (run (suc n) G k s e .state .trace))
+      pick ih none p = more-step n G t ih k s e T p refl (confined hi H s (T .fits) G (T .typed) top)
+      pick ih (some v) p = rw (run-value (suc n) G k s e p) (prefix-refl _)
+
+  module _ (t t′ : Ty) (G G′ : Given) (frame : G .frame ≡ G′ .frame) where
+    -- Two programs in the middle of their runs, related.
+    record Pair (s s′ : State) (e e′ : Tm) : Type 0 where
+      world : World
+      states : RelS hi world s s′
+      terms : RelT hi world e e′
+      left : Typed t s e
+      right : Typed t′ s′ e′
+
+    abbrev Goal : ℕ → ℕ → Type 0
+    Goal n n′ = (k k′ : ℕ) (s s′ : State) (e e′ : Tm) → Pair s s′ e e′ → Agree hi t (run n G k s e) (run n′ G′ k′ s′ e′)
+
+    -- One run ends without a value where the other still runs.
+    left-ends : {E : Ended} (n′ k′ : ℕ) {s s′ : State} {e e′ : Tm} → Pair s s′ e e′ → Valueless s E → Agree hi t E (run n′ G′ k′ s′ e′)
+    left-ends n′ k′ {s′} {e′} P S = record {
+      events = inl (rw (S .over, events-same hi (P .states .trace)) (more n′ G′ t′ k′ s′ e′ (P .right)));
+      result = λ v v′ p q. absurd (S .no-value v p);
+      cells = λ v v′ p q. absurd (S .no-value v p);
+    }
+
+    right-ends : {E′ : Ended} (n k : ℕ) {s s′ : State} {e e′ : Tm} → Pair s s′ e e′ → Valueless s′ E′ → Agree hi t (run n G k s e) E′
+    right-ends n k {s} {e} P S = record {
+      events = inr (rw (S .over, sym (events-same hi (P .states .trace))) (more n G t k s e (P .left)));
+      result = λ v v′ p q. absurd (S .no-value v′ q);
+      cells = λ v v′ p q. absurd (S .no-value v′ q);
+    }
+
+    both-end : {v v′ : Val} (k k′ : ℕ) {s s′ : State} {e e′ : Tm} → (P : Pair s s′ e e′) → RelV hi (P .world) v v′ → ValTy D (P .left .Σ) v t → Agree hi t (ended (done v) k s) (ended (done v′) k′ s′)
+    both-end k k′ P r h = record {
+      events = inl (rw (events-same hi (P .states .trace)) (prefix-refl _));
+      result = λ w w′ p q l. (let z = plain-same l h r in cc);
+      cells = λ w w′ p q. shown-cells D hi (P .left .Σ) (P .states) (P .left .fits);
+    }
+
+    abbrev Before : ℕ → ℕ → Type 0
+    Before n n′ = (j j′ : ℕ) → j + j′ < n + n′ → Goal j j′
+
+    step-both : (n n′ : ℕ) → Before n n′ → (k k′ : ℕ) {s s′ : State} {e e′ : Tm} (P : Pair s s′ e e′) {a a′ : Answer State Tm} → asValue e ≡ none → asValue e′ ≡ none → step e G top s ≡ a → step e′ G′ top s′ ≡ a′ → Two hi (P .world) a a′ → Agree hi t (run n G k s e) (run n′ G′ k′ s′ e′)
+    step-both zero n′ ih k k′ {s} {e} P p p′ q q′ w = left-ends n′ k′ P (run-spent G k s e p)
+    step-both (suc n) zero ih k k′ {s′} {e′} P p p′ q q′ w = right-ends (suc n) k P (run-spent G′ k′ s′ e′ p′)
+    step-both (suc n) (suc n′) ih k k′ {s} {s′} {e} {e′} P p p′ q q′ (two-go x R T) = rw (run-go n G k s e p q, run-go n′ G′ k′ s′ e′ p′ q′) (ih n n′ (omega arith) (suc k) (suc k′) _ _ _ _ (record { world = _; states = R; terms = T; left = typed-step G (P .left) q; right = typed-step G′ (P .right) q′ }))
+    step-both (suc n) (suc n′) ih k k′ {s} {e} P p p′ q q′ (none-left f) = left-ends (suc n′) k′ P (run-none (suc n) G k s e _ p q f)
+    step-both (suc n) (suc n′) ih k k′ {s′} {e′} P p p′ q q′ (none-right f) = right-ends (suc n) k P (run-none (suc n′) G′ k′ s′ e′ _ p′ q′ f)
+
+    step-left : (n n′ : ℕ) → Before n n′ → (k k′ : ℕ) {s s′ : State} {e e′ : Tm} → Pair s s′ e e′ → {X : World} {u : State} {f : Tm} → asValue e ≡ none → step e G top s ≡ go u f → RelS hi X u s′ → RelT hi X f e′ → Agree hi t (run n G k s e) (run n′ G′ k′ s′ e′)
+    step-left zero n′ ih k k′ {s} {e} P p q R T = left-ends n′ k′ P (run-spent G k s e p)
+    step-left (suc n) n′ ih k k′ {s} {e} P p q R T = rw (run-go n G k s e p q) (ih n n′ (omega arith) (suc k) k′ _ _ _ _ (record { world = _; states = R; terms = T; left = typed-step G (P .left) q; right = P .right }))
+
+    step-right : (n n′ : ℕ) → Before n n′ → (k k′ : ℕ) {s s′ : State} {e e′ : Tm} → Pair s s′ e e′ → {X : World} {u : State} {f : Tm} → asValue e′ ≡ none → step e′ G′ top s′ ≡ go u f → RelS hi X s u → RelT hi X e f → Agree hi t (run n G k s e) (run n′ G′ k′ s′ e′)
+    step-right n zero ih k k′ {s′} {e′} P p q R T = right-ends n k P (run-spent G′ k′ s′ e′ p)
+    step-right n (suc n′) ih k k′ {s′} {e′} P p q R T = rw (run-go n′ G′ k′ s′ e′ p q) (ih n n′ (omega arith) k (suc k′) _ _ _ _ (record { world = _; states = R; terms = T; left = P .left; right = typed-step G′ (P .right) q }))
+
+    by-step : (n n′ : ℕ) → Before n n′ → (k k′ : ℕ) {s s′ : State} {e e′ : Tm} (P : Pair s s′ e e′) {a a′ : Answer State Tm} → step e G top s ≡ a → step e′ G′ top s′ ≡ a′ → Sim hi (P .world) s s′ e e′ a a′ → Agree hi t (run n G k s e) (run n′ G′ k′ s′ e′)
+    by-step n n′ ih k k′ {s} {s′} {e} {e′} P q q′ (s-values p p′ r) = rw (run-value n G k s e p, run-value n′ G′ k′ s′ e′ p′) (both-end k k′ P r (val-ty (P .left .typed) p))
+    by-step n n′ ih k k′ P q q′ (s-both p p′ w) = step-both n n′ ih k k′ P p p′ q q′ w
+    by-step n n′ ih k k′ P q q′ (s-left p y x R T) = step-left n n′ ih k k′ P p (q ∙ y) R T
+    by-step n n′ ih k k′ P q q′ (s-right p y x R T) = step-right n n′ ih k k′ P p (q′ ∙ y) R T
+    by-step n n′ ih k k′ {s} {e} P q q′ (s-none-left p f) = left-ends n′ k′ P (run-none n G k s e _ p q f)
+    by-step n n′ ih k k′ {s′} {e′} P q q′ (s-none-right p f) = right-ends n k P (run-none n′ G′ k′ s′ e′ _ p q′ f)
+
+    -- By induction on the two budgets together.
+    agree-below : (m n n′ : ℕ) → n + n′ < m → Goal n n′
+    agree-below zero n n′ h k k′ s s′ e e′ P = absurd (omega arith)
+    agree-below (suc m) n n′ h k k′ s s′ e e′ P = by-step n n′ (λ j j′ l. agree-below m j j′ (omega arith)) k k′ P refl refl (sim hi H G G′ frame (P .states) (P .left .fits) (P .right .fits) (P .terms) 0 (H .mainline) (P .left .typed) (P .right .typed) top top)
+
+    -- Two related programs, from the start.
+    pub agree : (e e′ : Tm) → TmTy D noStore [] 0 e t → TmTy D noStore [] 0 e′ t′ → RelT hi noWorld e e′ → (n n′ : ℕ) → Agree hi t (run n G 0 fresh e) (run n′ G′ 0 fresh e′)
+    agree e e′ T T′ r n n′ = agree-below (suc (n + n′)) n n′ (omega arith) 0 0 fresh fresh e e′ (record {
+      world = noWorld;
+      states = record { cells = i-nil; labels = i-nil; advice-order = []; advices = i-nil; event-order = []; trace = i-nil };
+      terms = r;
+      left = record { Σ = noStore; fits = fits-fresh D; typed = T };
+      right = record { Σ = noStore; fits = fits-fresh D; typed = T′ };
+    })

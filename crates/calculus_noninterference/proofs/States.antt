@@ -1,0 +1,115 @@
+-- Related states stay related as both runs do the same, and as one run alone acts at a low domain.
+use Prim.Native.Nat.{ℕ}
+use mathlib.Core.Path.{_≡_, refl}
+use mathlib.Core.Bool.{Bool, true, false}
+use mathlib.Core.List.{List, [], _∷_, _++_}
+use mathlib.Core.Option.{some}
+use lib.ListN.{getElem?}
+use Rattle.calculus.specs.Syntax.{Dom, Val, Tm}
+use Rattle.calculus.specs.State.{Cell, Advice, Event, Counts, State, charged, celled, stored, labelled, installed, told}
+use Rattle.laws.proofs.Lists.{prefix-refl, prefix-append}
+use Rattle.calculus_noninterference.proofs.Clash.{clash}
+use Rattle.calculus_noninterference.proofs.Interleave.{Side, both, left, right, Matched, interleaving-map, append-both, append-left, append-right, set-both, set-left, set-right}
+use Rattle.calculus_noninterference.proofs.Related.{World, Grows, grows-refl, RelV, RelCell, RelAdvice, Cells, Labels, Advices, Events, RelS, cell-mono, advice-mono}
+use Rattle.calculus_noninterference.proofs.Confined.{Under, Effect, e-charge, e-cell, e-store, e-label, e-advice, e-event}
+
+-- A world with one more cell, one more label.
+abbrev pub withCell : World → Side → World
+withCell W v = record { cells = W .cells ++ (v ∷ []); labels = W .labels }
+
+abbrev pub withLabel : World → Side → World
+withLabel W v = record { cells = W .cells; labels = W .labels ++ (v ∷ []) }
+
+pub grows-cell : (W : World) (v : Side) → Grows W (withCell W v)
+grows-cell W v = record { cells = prefix-append (W .cells) (v ∷ []); labels = prefix-refl (W .labels) }
+
+pub grows-label : (W : World) (v : Side) → Grows W (withLabel W v)
+grows-label W v = record { cells = prefix-refl (W .cells); labels = prefix-append (W .labels) (v ∷ []) }
+
+-- A state with other labels, with other advice, with another trace.
+abbrev putLabels : List Dom → State → State
+putLabels x s = record { cells = s .cells; labels = x; advices = s .advices; used = s .used; trace = s .trace }
+
+abbrev putAdvices : List (Advice Tm) → State → State
+putAdvices x s = record { cells = s .cells; labels = s .labels; advices = x; used = s .used; trace = s .trace }
+
+abbrev putTrace : List Event → State → State
+putTrace x s = record { cells = s .cells; labels = s .labels; advices = s .advices; used = s .used; trace = x }
+
+module _ (hi : Dom → Bool) {W : World} {s s′ : State} (R : RelS hi W s s′) where
+  -- Other counts; and one field after another replaced on both sides.
+  pub rel-charged : (u u′ : Counts) → RelS hi W (charged u s) (charged u′ s′)
+  rel-charged u u′ = record { cells = R .cells; labels = R .labels; advice-order = R .advice-order; advices = R .advices; event-order = R .event-order; trace = R .trace }
+
+  put-cells : {x y : List (Cell Val)} → Cells hi W (W .cells) x y → RelS hi W (celled x s) (celled y s′)
+  put-cells k = record { cells = k; labels = R .labels; advice-order = R .advice-order; advices = R .advices; event-order = R .event-order; trace = R .trace }
+
+  grow-cells : (v : Side) {x y : List (Cell Val)} → (Cells hi (withCell W v) (W .cells) (s .cells) (s′ .cells) → Cells hi (withCell W v) (W .cells ++ (v ∷ [])) x y) → RelS hi (withCell W v) (celled x s) (celled y s′)
+  grow-cells v f = record { cells = f (interleaving-map (cell-mono hi (grows-cell W v)) (R .cells)); labels = R .labels; advice-order = R .advice-order; advices = interleaving-map (advice-mono hi (grows-cell W v)) (R .advices); event-order = R .event-order; trace = R .trace }
+
+  grow-labels : (v : Side) {x y : List Dom} → Labels (W .labels ++ (v ∷ [])) x y → RelS hi (withLabel W v) (putLabels x s) (putLabels y s′)
+  grow-labels v k = record { cells = interleaving-map (cell-mono hi (grows-label W v)) (R .cells); labels = k; advice-order = R .advice-order; advices = interleaving-map (advice-mono hi (grows-label W v)) (R .advices); event-order = R .event-order; trace = R .trace }
+
+  put-advices : {w : List Side} {x y : List (Advice Tm)} → Advices hi W w x y → RelS hi W (putAdvices x s) (putAdvices y s′)
+  put-advices k = record { cells = R .cells; labels = R .labels; advice-order = _; advices = k; event-order = R .event-order; trace = R .trace }
+
+  put-trace : {w : List Side} {x y : List Event} → Events hi w x y → RelS hi W (putTrace x s) (putTrace y s′)
+  put-trace k = record { cells = R .cells; labels = R .labels; advice-order = R .advice-order; advices = R .advices; event-order = _; trace = k }
+
+-- Both runs make, change or say the same.
+module _ (hi : Dom → Bool) {W : World} {s s′ : State} (R : RelS hi W s s′) where
+  pub cell-both : (u u′ : Counts) {a b : Cell Val} → RelCell hi W a b → RelS hi (withCell W both) (celled (s .cells ++ (a ∷ [])) (charged u s)) (celled (s′ .cells ++ (b ∷ [])) (charged u′ s′))
+  cell-both u u′ {a} {b} h = grow-cells hi (rel-charged hi R u u′) both (λ k. append-both k (cell-mono hi (grows-cell W both) a b h))
+
+  pub store-both : {r r′ : ℕ} {a a′ : Cell Val} {v v′ : Val} → Matched (W .cells) r r′ → RelCell hi W a a′ → RelV hi W v v′ → RelS hi W (stored r a v s) (stored r′ a′ v′ s′)
+  store-both m c u = put-cells hi R (set-both (R .cells) (record { same-dom = c .same-dom; same-plain = c .same-plain; held = λ h. u }) m)
+
+  pub label-both : (p : Dom) → RelS hi (withLabel W both) (labelled p s) (labelled p s′)
+  label-both p = grow-labels hi R both (append-both (R .labels) refl)
+
+  pub advice-both : {a b : Advice Tm} → RelAdvice hi W a b → RelS hi W (installed a s) (installed b s′)
+  advice-both h = put-advices hi R (append-both (R .advices) h)
+
+  pub event-both : (a : Event) → hi (a .dom) ≡ true → RelS hi W (told a s) (told a s′)
+  event-both a h = put-trace hi R (append-both (R .trace) (record { same = refl; high = h }))
+
+low-of : (hi : Dom → Bool) {p c : Dom} → Under hi p c → hi c ≡ false → hi p ≡ false
+low-of hi {p} u f = pick (hi p) refl
+  where
+    pick : (b : Bool) → hi p ≡ b → hi p ≡ false
+    pick true e = clash (u e) f
+    pick false e = e
+
+-- The new state of a run that went on alone, related to the other's in a world that grew.
+pub record Later (hi : Dom → Bool) (W : World) (s s′ : State) : Type 0 where
+  pub world : World
+  pub grows : Grows W world
+  pub rel : RelS hi world s s′
+
+module _ (hi : Dom → Bool) {W : World} {s s′ : State} (R : RelS hi W s s′) where
+  later : {t t′ : State} → RelS hi W t t′ → Later hi W t t′
+  later r = record { world = W; grows = grows-refl W; rel = r }
+
+  store-left : (r : ℕ) (a : Cell Val) (v : Val) → getElem? (s .cells) r ≡ some a → hi (a .dom) ≡ false → RelS hi W (stored r a v s) s′
+  store-left r a v e l = put-cells hi R (set-left r _ (R .cells) e (λ b h. record { same-dom = h .same-dom; same-plain = h .same-plain; held = λ o. clash o l }) (λ h. h))
+
+  store-right : (r : ℕ) (b : Cell Val) (v : Val) → getElem? (s′ .cells) r ≡ some b → hi (b .dom) ≡ false → RelS hi W s (stored r b v s′)
+  store-right r b v e l = put-cells hi R (set-right r _ (R .cells) e (λ a h. record { same-dom = h .same-dom; same-plain = h .same-plain; held = λ o. clash (rw (h .same-dom) at o) l }) (λ h. h))
+
+  -- The left alone makes a step at a low domain.
+  pub effect-left : {c : Dom} {t : State} → hi c ≡ false → Effect hi c s t → Later hi W t s′
+  effect-left f (e-charge {u}) = later (rel-charged hi R u (s′ .used))
+  effect-left f (e-cell {u} a x) = record { world = withCell W left; grows = grows-cell W left; rel = grow-cells hi (rel-charged hi R u (s′ .used)) left (λ k. append-left k (low-of hi x f)) }
+  effect-left f (e-store r a v e x) = later (store-left r a v e (low-of hi x f))
+  effect-left f (e-label p) = record { world = withLabel W left; grows = grows-label W left; rel = grow-labels hi R left (append-left (R .labels) tt) }
+  effect-left f (e-advice a x) = later (put-advices hi R (append-left (R .advices) (low-of hi x f)))
+  effect-left f (e-event a x) = later (put-trace hi R (append-left (R .trace) (low-of hi x f)))
+
+  -- The right alone makes a step at a low domain.
+  pub effect-right : {c : Dom} {t : State} → hi c ≡ false → Effect hi c s′ t → Later hi W s t
+  effect-right f (e-charge {u}) = later (rel-charged hi R (s .used) u)
+  effect-right f (e-cell {u} a x) = record { world = withCell W right; grows = grows-cell W right; rel = grow-cells hi (rel-charged hi R (s .used) u) right (λ k. append-right k (low-of hi x f)) }
+  effect-right f (e-store r b v e x) = later (store-right r b v e (low-of hi x f))
+  effect-right f (e-label p) = record { world = withLabel W right; grows = grows-label W right; rel = grow-labels hi R right (append-right (R .labels) tt) }
+  effect-right f (e-advice a x) = later (put-advices hi R (append-right (R .advices) (low-of hi x f)))
+  effect-right f (e-event a x) = later (put-trace hi R (append-right (R .trace) (low-of hi x f)))

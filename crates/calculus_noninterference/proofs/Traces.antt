@@ -1,0 +1,73 @@
+-- The high events of a trace: equal in related states, only more as a run goes on; the high prints of the log are their prints.
+use mathlib.Core.Path.{_≡_, refl, sym, ap}
+use mathlib.Core.Logic.{_⊎_, inl, inr}
+use mathlib.Core.Bool.{Bool, true, false}
+use mathlib.Core.List.{List, [], _∷_, _++_}
+use mathlib.Core.Option.{Option, none, some}
+use lib.ListN.{length}
+use lib.Seq.{take-nil}
+use Rattle.calculus.specs.Combinators.{choose}
+use Rattle.calculus.specs.Syntax.{Dom}
+use Rattle.calculus.specs.State.{Event, Said, prints, printOf, consOption, picked, logOf, State}
+use Rattle.laws.proofs.Lists.{Prefix, Prefix.pre-nil, Prefix.pre-cons, prefix-refl}
+use Rattle.calculus_noninterference.specs.Observe.{highOf, CutEqual}
+use Rattle.calculus_noninterference.proofs.Interleave.{Side, i-nil, i-both, i-left, i-right}
+use Rattle.calculus_noninterference.proofs.Related.{Events}
+use Rattle.calculus_noninterference.proofs.Confined.{Effect, e-charge, e-cell, e-store, e-label, e-advice, e-event}
+
+-- A prefix picks a prefix.
+prefix-picked : {A B : Type 0} (f : A → Option B) {x y : List A} → Prefix x y → Prefix (picked f x) (picked f y)
+unfolding picked
+prefix-picked f pre-nil = pre-nil
+prefix-picked {B} f (pre-cons {x = a} {xs} {ys} p) = pick (f a) (prefix-picked f p)
+  where
+    pick : (o : Option B) → Prefix (picked f xs) (picked f ys) → Prefix (consOption o (picked f xs)) (consOption o (picked f ys))
+    pick none h = h
+    pick (some b) h = pre-cons h
+
+prefix-cut : {A : Type 0} {x y : List A} → Prefix x y → CutEqual x y
+prefix-cut {y} pre-nil = take-nil (length y)
+prefix-cut (pre-cons {x} p) = ap (λ z. x ∷ z) (prefix-cut p)
+
+module _ (hi : Dom → Bool) where
+  abbrev pub highEvents : List Event → List Event
+  highEvents x = highOf hi (λ a. a .dom) x
+
+  -- A print has its event's domain.
+  high-logOf : (x : List Event) → highOf hi (λ a. a .dom) (logOf x) ≡ logOf (highEvents x)
+  unfolding highOf picked
+  high-logOf [] = refl
+  high-logOf (a ∷ x) = pick (a .said) (hi (a .dom)) refl (high-logOf x)
+    where
+      pick : (o : Said) (b : Bool) → hi (a .dom) ≡ b → highOf hi (λ a. a .dom) (logOf x) ≡ logOf (highEvents x) → highOf hi (λ a. a .dom) (logOf (record { dom = a .dom; said = o } ∷ x)) ≡ logOf (highEvents (record { dom = a .dom; said = o } ∷ x))
+      pick (prints n) true e h = rw e (ap (λ z. record { dom = a .dom; shown = n } ∷ z) h)
+      pick (prints n) false e h = rw e h
+
+  -- Where the high events of one trace begin those of the other, so do the high prints of the logs.
+  pub cut-prints : (x y : List Event) → Prefix (highEvents x) (highEvents y) ⊎ Prefix (highEvents y) (highEvents x) → CutEqual (highOf hi (λ a. a .dom) (logOf x)) (highOf hi (λ a. a .dom) (logOf y))
+  cut-prints x y (inl p) = rw (high-logOf x, high-logOf y) (prefix-cut (prefix-picked printOf p))
+  cut-prints x y (inr p) = rw (high-logOf x, high-logOf y) (sym (prefix-cut (prefix-picked printOf p)))
+
+  pub events-same : {w : List Side} {x y : List Event} → Events hi w x y → highEvents x ≡ highEvents y
+  unfolding highOf
+  events-same i-nil = refl
+  events-same (i-both {a} {b} h k) = rw (sym (h .same), h .high, events-same k)
+  events-same (i-left l k) = rw (l, events-same k)
+  events-same (i-right l k) = rw (l, events-same k)
+
+  events-more : (x y : List Event) → Prefix (highEvents x) (highEvents (x ++ y))
+  unfolding highOf
+  events-more [] y = pre-nil
+  events-more (a ∷ x) y = pick (hi (a .dom)) (events-more x y)
+    where
+      pick : {u v : List Event} (b : Bool) → Prefix u v → Prefix (choose b (a ∷ u) u) (choose b (a ∷ v) v)
+      pick true h = pre-cons h
+      pick false h = h
+
+  pub effect-events : {c : Dom} {s t : State} → Effect hi c s t → Prefix (highEvents (s .trace)) (highEvents (t .trace))
+  effect-events e-charge = prefix-refl _
+  effect-events (e-cell a u) = prefix-refl _
+  effect-events (e-store r a v e u) = prefix-refl _
+  effect-events (e-label p) = prefix-refl _
+  effect-events (e-advice a u) = prefix-refl _
+  effect-events (e-event a u) = events-more _ _

@@ -1,0 +1,57 @@
+-- What demand 3 compares (document 01, "Two runs compared"): the high domains, the programs, and what of an ended run is seen from the high domains.
+use mathlib.Core.Path.{_≡_}
+use mathlib.Core.Bool.{Bool, true}
+use mathlib.Core.List.{List, [], _∷_, map}
+use mathlib.Core.Option.{Option, none, some}
+use lib.ListN.{length, take}
+use Rattle.calculus.specs.declared.Outcome.{Outcome}
+use Rattle.calculus.specs.Combinators.{choose}
+use Rattle.calculus.specs.Syntax.{Dom, Val}
+use Rattle.calculus.specs.State.{Cell, Print, logOf}
+use Rattle.calculus.specs.Run.{done, Ended}
+use Rattle.calculus.specs.Report.{report}
+use Rattle.calculus.specs.Typing.{Policy}
+
+-- "The high domains are any set of the images' domains that holds 0 and, with each member d, every domain q with d ≤ q."
+pub record Highs (D : Policy) (hi : Dom → Bool) : Type 0 where
+  pub mainline : hi 0 ≡ true
+  pub up : (p q : Dom) → hi p ≡ true → D .leq p q ≡ true → hi q ≡ true
+
+-- What a report shows of a cell: its domain, whether it is plain, and if so its value.
+pub record Shown : Type 0 where
+  pub dom : Dom
+  pub value : Option Val
+
+abbrev pub shown : Cell Val → Shown
+shown a = record { dom = a .dom; value = choose (a .plain) (some (a .held)) none }
+
+module _ (hi : Dom → Bool) where
+  -- Of things with a domain, those whose domain is high, in order.
+  unfoldable pub highOf : {A : Type 0} → (A → Dom) → List A → List A
+  highOf dom [] = []
+  highOf dom (a ∷ x) = choose (hi (dom a)) (a ∷ highOf dom x) (highOf dom x)
+
+  -- "The log records it wrote whose domain is high, in order, domain and number together."
+  abbrev pub highPrints : Ended → List Print
+  highPrints E = highOf (λ a. a .dom) (logOf (E .state .trace))
+
+  -- What is shown of the cells whose domain is high, in order of creation.
+  abbrev pub highCells : Ended → List Shown
+  highCells E = map shown (highOf (λ a. a .dom) (E .state .cells))
+
+-- "Of two such lists the longer, cut to the length of the shorter, equals the shorter"; a cut to more than a list's length leaves it whole.
+abbrev pub CutEqual : {A : Type 0} → List A → List A → Type 0
+CutEqual x y = take (length y) x ≡ take (length x) y
+
+-- What two ended runs show at the high domains is equal, as far as both went.
+pub record Same (hi : Dom → Bool) (E E′ : Ended) : Type 0 where
+  pub prints : CutEqual (highPrints hi E) (highPrints hi E′)
+  -- "Where both runs are done"
+  pub result : (v v′ : Val) → E .end ≡ done v → E′ .end ≡ done v′ → v ≡ v′
+  pub cells : (v v′ : Val) → E .end ≡ done v → E′ .end ≡ done v′ → highCells hi E ≡ highCells hi E′
+
+-- The same of what the two runs report: "a run is done if its report says outcome 0; its result is the leaves reported for it; its high cells are the reported cell records whose domain is high, in order of creation."
+pub record SameReported (hi : Dom → Bool) (E E′ : Ended) : Type 0 where
+  pub prints : CutEqual (highPrints hi E) (highPrints hi E′)
+  pub result : report E .outcome ≡ some Outcome.Done → report E′ .outcome ≡ some Outcome.Done → report E .result ≡ report E′ .result
+  pub cells : report E .outcome ≡ some Outcome.Done → report E′ .outcome ≡ some Outcome.Done → highOf hi (λ a. a .dom) (report E .cells) ≡ highOf hi (λ a. a .dom) (report E′ .cells)

@@ -1,0 +1,110 @@
+-- Every reduction (document 003, section 2.3, figure 4) of values that have the operands' types is safe.
+use Prim.Native.Nat.{ℕ}
+use mathlib.Core.Path.{_≡_, refl}
+use mathlib.Core.Bool.{Bool, true, false}
+use mathlib.Core.List.{List, [], _∷_, _++_}
+use mathlib.Core.Option.{some}
+use lib.ListN.{length, getElem?}
+use Rattle.calculus.specs.Combinators.{choose, cases}
+use Rattle.calculus.specs.Syntax.{Dom, Ty, Val, Tm, Op0, Op1, Op2, val}
+use Rattle.calculus.specs.State.{Cell, State, Given}
+use Rattle.calculus.specs.Answer.{go, with}
+use Rattle.calculus.specs.Place.{Place, at}
+use Rattle.calculus.specs.Reduce.{reduce0, reduce1, reduce2, reduceSeq, reduceIte, reduceSplit, reduceAdv, reduceLower, reducePcd, collect}
+use Rattle.calculus.specs.Typing.{StoreTyping, Policy, LabelsOf, LabelTys, ValTy, TmTy, Rule0, Rule1, Rule2}
+use Rattle.laws.proofs.Lists.{All2, All2.all2-nil, All2.all2-cons, all-snoc, all2-snoc, all2-set, all2-length, get-last}
+use Rattle.calculus.specs.Accepted.{Transitive}
+use Rattle.calculus_safety.proofs.Extend.{extends-cell, extends-label, grow-val}
+use Rattle.calculus_safety.proofs.Substitute.{Without.here, Without.there, subst-tm}
+use Rattle.calculus_safety.proofs.StoreFits.{CellFits, CellFits.cell-fits, LabelFits.label-fits, AdviceFits.advice-fits, StateFits, cell-there, label-there, grow-cells, grow-advices}
+use Rattle.calculus_safety.proofs.Safe.{Safe, Safe.safe-go, Safe.safe-halt, safe-here, safe-room, safe-spend}
+use Rattle.calculus_safety.proofs.Composed.{composed-typed}
+
+module _ (D : Policy) {Σ : StoreTyping} where
+  held-typed : {a : Ty} {p : Dom} {k : Cell Val} → CellFits D Σ (Ty.ref a p) k → ValTy D Σ (k .held) a
+  held-typed (cell-fits h) = h
+
+  held-set : {a : Ty} {p : Dom} {k : Cell Val} {v : Val} → CellFits D Σ (Ty.ref a p) k → ValTy D Σ v a → CellFits D Σ (Ty.ref a p) (record { dom = k .dom; plain = k .plain; held = v })
+  held-set (cell-fits h) h′ = cell-fits h′
+
+  -- Values that are a pointcut's labels are collected.
+  collect-labels : {a : Ty} {p : Dom} {vs : List Val} {ts : List Ty} {ls : List ℕ} → All2 (ValTy D Σ) vs ts → LabelTys D a p ts → LabelsOf D Σ a p ls
+      → (ms : List ℕ) × (collect vs ls ≡ some ms) × LabelsOf D Σ a p ms
+  unfolding cases
+  collect-labels {ls} all2-nil LabelTys.no-types r = (ls, refl, r)
+  collect-labels (all2-cons (ValTy.v-label g) hs) (LabelTys.a-type o os) r = collect-labels hs os (LabelsOf.a-label g o r)
+
+module _ (D : Policy) {Σ : StoreTyping} {c : Dom} (s : State) (fits : StateFits D Σ s) where
+  -- A value, in a store typing that stays.
+  here-val : {t : Ty} {v : Val} (s′ : State) → StateFits D Σ s′ → ValTy D Σ v t → Safe D Σ c t (go s′ (val v))
+  here-val s′ f h = safe-here D s′ f (TmTy.is-val h)
+
+  module _ (G : Given) (P : Place) where
+    pub safe0 : {o : Op0} {t : Ty} → Rule0 D c o t → Safe D Σ c t (reduce0 G (at c P) s o t)
+    safe0 (Rule0.t-newLabel {a} {p} h) =
+        let x = extends-label Σ (Ty.label a p) in
+        let place : getElem? (Σ .labels ++ (Ty.label a p ∷ [])) (length (s .labels)) ≡ some (Ty.label a p) = rw (← all2-length (fits .labels)) (get-last (Σ .labels) (Ty.label a p)) in
+        safe-room D _ _ tt
+        (safe-go x
+        (record { cells = grow-cells D x (fits .cells); labels = all2-snoc (fits .labels) label-fits; advices = grow-advices D x (fits .advices) })
+        (TmTy.is-val (ValTy.v-label place)))
+    safe0 Rule0.t-abort = safe-halt
+
+    pub safe1 : {o : Op1} {t a : Ty} {v : Val} → Rule1 D c o t a → ValTy D Σ v a → Safe D Σ c t (reduce1 G (at c P) s o t v)
+    unfolding with
+    safe1 Rule1.t-print ValTy.v-num = safe-room D _ _ tt (here-val _ fits ValTy.v-unit)
+    safe1 (Rule1.t-install h) (ValTy.v-advice ls o b) =
+        safe-room D _ _ tt (here-val _ (record { cells = fits .cells; labels = fits .labels; advices = all-snoc (fits .advices) (advice-fits ls o b) }) ValTy.v-unit)
+    safe1 (Rule1.t-read h) (ValTy.v-cell {r} g) = let k = cell-there D s fits r g in rw (k .1) (here-val _ fits (held-typed D (k .2)))
+    safe1 Rule1.t-byte ValTy.v-num = here-val _ fits ValTy.v-num
+    safe1 (Rule1.t-newCell {a} {p} h) hv =
+        let x = extends-cell Σ (Ty.ref a p) in
+        let place : getElem? (Σ .cells ++ (Ty.ref a p ∷ [])) (length (s .cells)) ≡ some (Ty.ref a p) = rw (← all2-length (fits .cells)) (get-last (Σ .cells) (Ty.ref a p)) in
+        safe-spend D _ s _
+        (safe-go x
+        (record { cells = all2-snoc (grow-cells D x (fits .cells)) (cell-fits (grow-val D x hv)); labels = fits .labels; advices = grow-advices D x (fits .advices) })
+        (TmTy.is-val (ValTy.v-cell place)))
+
+    pub safe2 : Transitive D → {o : Op2} {t a b : Ty} {v w : Val} → Rule2 D c o t a b → ValTy D Σ v a → ValTy D Σ w b → Safe D Σ c t (reduce2 G (at c P) s o t v w)
+    unfolding with
+    safe2 trans Rule2.t-pair hv hw = safe-spend D _ s _ (here-val _ fits (ValTy.v-pair hv hw))
+    safe2 trans Rule2.t-app (ValTy.v-fun h) hw = safe-spend D _ s _ (safe-here D _ fits (subst-tm D hw h here))
+    safe2 trans Rule2.t-mark (ValTy.v-label {l} g) hw =
+        rw (label-there D s fits l g) (safe-spend D _ s _ (safe-here D _ fits (composed-typed D trans hw l g (fits .advices))))
+    safe2 trans (Rule2.t-store h) (ValTy.v-cell {r} g) hw =
+        let k = cell-there D s fits r g in
+        rw (k .1) (here-val _ (record { cells = all2-set (fits .cells) r g (held-set D (k .2) hw); labels = fits .labels; advices = fits .advices }) ValTy.v-unit)
+    safe2 trans Rule2.t-plus ValTy.v-num ValTy.v-num = here-val _ fits ValTy.v-num
+    safe2 trans Rule2.t-minus ValTy.v-num ValTy.v-num = here-val _ fits ValTy.v-num
+    safe2 trans Rule2.t-less ValTy.v-num ValTy.v-num = here-val _ fits ValTy.v-truth
+    safe2 trans Rule2.t-equal ValTy.v-num ValTy.v-num = here-val _ fits ValTy.v-truth
+
+  pub safe-seq : {t : Ty} {f : Tm} {v : Val} → ValTy D Σ v Ty.unit → TmTy D Σ [] c f t → Safe D Σ c t (reduceSeq s f v)
+  unfolding with
+  safe-seq ValTy.v-unit k = safe-here D s fits k
+
+  pub safe-ite : {t : Ty} {f g : Tm} {v : Val} → ValTy D Σ v Ty.truth → TmTy D Σ [] c f t → TmTy D Σ [] c g t → Safe D Σ c t (reduceIte s f g v)
+  unfolding with
+  safe-ite {t} {f} {g} (ValTy.v-truth {b}) k l = branch b
+    where
+      branch : (b : Bool) → Safe D Σ c t (go s (choose b f g))
+      branch true = safe-here D s fits k
+      branch false = safe-here D s fits l
+
+  pub safe-split : {t a b : Ty} {f : Tm} {v : Val} → ValTy D Σ v (Ty.pair a b) → TmTy D Σ (b ∷ a ∷ []) c f t → Safe D Σ c t (reduceSplit s f v)
+  unfolding with
+  safe-split (ValTy.v-pair h h′) k = safe-spend D _ s _ (safe-here D _ fits (subst-tm D h′ (subst-tm D h k (there here)) here))
+
+  pub safe-adv : {p q : Dom} {a : Ty} {b : Tm} {v : Val} → ValTy D Σ v (Ty.pcd a q) → D .leq p q ≡ true → TmTy D Σ (a ∷ []) p b Ty.unit → Safe D Σ c (Ty.adv p) (reduceAdv s p b v)
+  unfolding with
+  safe-adv (ValTy.v-labels h) o k = safe-spend D _ s _ (here-val _ fits (ValTy.v-advice h o k))
+
+  pub safe-lower : {v : Val} → ValTy D Σ v Ty.unit → Safe D Σ c Ty.unit (reduceLower s v)
+  unfolding with
+  safe-lower ValTy.v-unit = here-val _ fits ValTy.v-unit
+
+  pub safe-pcd : {a : Ty} {p : Dom} {vs : List Val} {ts : List Ty} → All2 (ValTy D Σ) vs ts → LabelTys D a p ts → Safe D Σ c (Ty.pcd a p) (reducePcd s vs)
+  unfolding with
+  safe-pcd hs os =
+      let m = collect-labels D hs os LabelsOf.no-labels in
+      rw (m .1) (safe-spend D _ s _ (here-val _ fits (ValTy.v-labels (m .2))))

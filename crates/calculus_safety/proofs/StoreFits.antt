@@ -1,0 +1,62 @@
+-- A state that fits a store typing (document 003, section 2.3, figure 6).
+use Prim.Native.Nat.{ℕ}
+use mathlib.Core.Path.{_≡_, refl, ap, _∙_}
+use mathlib.Core.Bool.{true}
+use mathlib.Core.List.{List, [], _∷_}
+use mathlib.Core.Option.{some}
+use lib.ListN.{getElem?}
+use Rattle.calculus.specs.Syntax.{Dom, Ty, Val, Tm}
+use Rattle.calculus.specs.State.{Cell, Advice, State, fresh}
+use Rattle.calculus.specs.Plain.{isPlain}
+use Rattle.calculus.specs.Typing.{StoreTyping, Policy, LabelsOf, ValTy, TmTy, noStore}
+use Rattle.laws.proofs.Lists.{All, All2, all-map, all2-map, all2-get, All.all-nil, All2.all2-nil}
+use Rattle.calculus_safety.proofs.Extend.{Extends, grow-labels, grow-val, grow-tm}
+
+-- A label's domain is its type's.
+pub data LabelFits : Ty → Dom → Type 0 where
+  label-fits : {a : Ty} {p : Dom} → LabelFits (Ty.label a p) p
+
+module _ (D : Policy) where
+  -- A cell's domain and plain flag are its type's, and what it holds has the type under the ref.
+  pub data CellFits (Σ : StoreTyping) : Ty → Cell Val → Type 0 where
+    cell-fits : {a : Ty} {p : Dom} {v : Val} → ValTy D Σ v a → CellFits Σ (Ty.ref a p) (record { dom = p; plain = isPlain a; held = v })
+
+  -- Installed advice is typed as figure 2 types the value.
+  pub data AdviceFits (Σ : StoreTyping) : Advice Tm → Type 0 where
+    advice-fits : {p q : Dom} {a : Ty} {ls : List ℕ} {e : Tm} → LabelsOf D Σ a q ls → D .leq p q ≡ true → TmTy D Σ (a ∷ []) p e Ty.unit → AdviceFits Σ (record { dom = p; labels = ls; body = e })
+
+  pub record Fits (Σ : StoreTyping) (cs : List (Cell Val)) (ls : List Dom) (as′ : List (Advice Tm)) : Type 0 where
+    pub cells : All2 (CellFits Σ) (Σ .cells) cs
+    pub labels : All2 LabelFits (Σ .labels) ls
+    pub advices : All (AdviceFits Σ) as′
+
+  -- The counts and the trace play no part.
+  abbrev pub StateFits : StoreTyping → State → Type 0
+  StateFits Σ s = Fits Σ (s .cells) (s .labels) (s .advices)
+
+  module _ {Σ : StoreTyping} (s : State) (f : StateFits Σ s) where
+    -- A cell or a label that has a type is in the store.
+    pub cell-there : {a : Ty} {p : Dom} (r : ℕ) → getElem? (Σ .cells) r ≡ some (Ty.ref a p) → (k : Cell Val) × (getElem? (s .cells) r ≡ some k) × CellFits Σ (Ty.ref a p) k
+    cell-there r g = all2-get (f .cells) r g
+
+    pub label-there : {a : Ty} {p : Dom} (l : ℕ) → getElem? (Σ .labels) l ≡ some (Ty.label a p) → getElem? (s .labels) l ≡ some p
+    label-there l g = let k = all2-get (f .labels) l g in k .1 ∙ ap some (same (k .2))
+      where
+        same : {a : Ty} {p q : Dom} → LabelFits (Ty.label a p) q → q ≡ p
+        same label-fits = refl
+
+  pub fits-fresh : StateFits noStore fresh
+  fits-fresh = record { cells = all2-nil; labels = all2-nil; advices = all-nil }
+
+  module _ {Σ Σ′ : StoreTyping} (x : Extends Σ Σ′) where
+    grow-cell : (t : Ty) (k : Cell Val) → CellFits Σ t k → CellFits Σ′ t k
+    grow-cell t k (cell-fits h) = cell-fits (grow-val D x h)
+
+    grow-advice : (a : Advice Tm) → AdviceFits Σ a → AdviceFits Σ′ a
+    grow-advice a (advice-fits l o b) = advice-fits (grow-labels D x l) o (grow-tm D x b)
+
+    pub grow-cells : {ts : List Ty} {cs : List (Cell Val)} → All2 (CellFits Σ) ts cs → All2 (CellFits Σ′) ts cs
+    grow-cells h = all2-map grow-cell h
+
+    pub grow-advices : {as′ : List (Advice Tm)} → All (AdviceFits Σ) as′ → All (AdviceFits Σ′) as′
+    grow-advices h = all-map grow-advice h

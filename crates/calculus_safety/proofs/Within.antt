@@ -1,0 +1,118 @@
+-- The counts of a state agree with what it has, and stay within their limits (document 01, "A run"); no typing is assumed.
+use Prim.Native.Nat.{ℕ, suc, _+_, _*_, _-_, _≤_, _<_}
+use native.Mathlib.Omega.{arith}
+use mathlib.Core.Path.{_≡_, refl}
+use mathlib.Core.List.{List, [], _∷_, _++_}
+use mathlib.Core.Option.{Option, none, some}
+use lib.ListN.{length, set, length-append, length-set}
+use lib.Dec.{T, leb, leb→le, ltb→lt}
+use Rattle.calculus.specs.Limits.{bindingLimit, cellLimit, pieceLimit, labelLimit, adviceLimit, logRecordLength}
+use Rattle.calculus.specs.Syntax.{Dom, Ty, Val, Tm, Op0, Op1, Op2, newLabel, abort, print, install, read, byte, newCell, app, mark, store, plus, minus, less, equal}
+use Rattle.calculus.specs.State.{Cell, Advice, Event, State, Given, Counts, consOption, picked, printOf, logOf, addCounts, charged, celled, labelled, installed, told, fresh, someBindings, oneCell, onePiece}
+use Rattle.calculus.specs.Answer.{go, with, spend}
+use Rattle.calculus.specs.Place.{Place}
+use Rattle.calculus.specs.Reduce.{reduce0, reduce1, reduce2}
+use Rattle.calculus.specs.Run.{run}
+use Rattle.calculus_safety.proofs.Invariant.{Makes, Makes.makes-go, Makes.makes-halt, makes-room, makes-with, makes-spend, Reduces, run-keeps}
+
+-- What holds of every state that a run comes to.
+pub record Within (G : Given) (s : State) : Type 0 where
+  pub counted : s .used .cells ≡ length (s .cells)
+  pub bindings : s .used .bindings ≤ bindingLimit
+  pub cells : s .used .cells ≤ cellLimit
+  pub pieces : s .used .pieces ≤ pieceLimit
+  pub labels : length (s .labels) ≤ labelLimit
+  pub advices : length (s .advices) ≤ adviceLimit
+  pub log : logRecordLength * length (logOf (s .trace)) ≤ G .logLength
+
+-- An event makes at most one log record.
+module _ {A : Type 0} where
+  cons-once : (o : Option A) (x : List A) → length (consOption o x) ≤ suc (length x)
+  cons-once none x = omega arith
+  cons-once (some a) x = omega arith
+
+  cons-keeps : (o : Option A) (x y : List A) → length x ≤ suc (length y) → length (consOption o x) ≤ suc (length (consOption o y))
+  cons-keeps none x y h = h
+  cons-keeps (some a) x y h = omega arith
+
+log-told : (x : List Event) (a : Event) → length (logOf (x ++ (a ∷ []))) ≤ suc (length (logOf x))
+unfolding picked
+log-told [] a = cons-once (printOf a) []
+log-told (b ∷ x) a = cons-keeps (printOf b) (logOf (x ++ (a ∷ []))) (logOf x) (log-told x a)
+
+module _ (G : Given) where
+  pub within-fresh : Within G fresh
+  unfolding picked
+  within-fresh = record { counted = refl; bindings = omega arith; cells = omega arith; pieces = omega arith; labels = omega arith; advices = omega arith; log = omega arith }
+
+  module _ (s : State) (W : Within G s) where
+    -- The counts grow by n, where there is room, and the cells by as many as n says.
+    within-charged : (n : Counts) (cs : List (Cell Val)) → length cs ≡ length (s .cells) + n .cells
+        → T (leb (n .bindings) (bindingLimit - s .used .bindings)) → T (leb (n .cells) (cellLimit - s .used .cells)) → T (leb (n .pieces) (pieceLimit - s .used .pieces))
+        → Within G (celled cs (charged (addCounts (s .used) n) s))
+    within-charged n cs e b c p =
+        let hb = leb→le (n .bindings) (bindingLimit - s .used .bindings) b in
+        let hc = leb→le (n .cells) (cellLimit - s .used .cells) c in
+        let hp = leb→le (n .pieces) (pieceLimit - s .used .pieces) p in
+        record { counted = omega arith; bindings = omega arith; cells = omega arith; pieces = omega arith; labels = W .labels; advices = W .advices; log = W .log }
+
+    -- A step that uses no cell.
+    within-spent : (n : Counts) (e : Tm) → n .cells ≡ 0 → Makes (Within G) (spend n s (λ s′. go s′ e))
+    within-spent n e z = makes-spend (Within G) n s _ (λ b c p. makes-go (within-charged n (s .cells) (omega arith) b c p))
+
+    within-label : (p : Dom) → length (s .labels) < labelLimit → Within G (labelled p s)
+    within-label p h =
+        let one = length-append (s .labels) (p ∷ []) in
+        record { counted = W .counted; bindings = W .bindings; cells = W .cells; pieces = W .pieces; labels = omega arith; advices = W .advices; log = W .log }
+
+    within-advice : (a : Advice Tm) → length (s .advices) < adviceLimit → Within G (installed a s)
+    within-advice a h =
+        let one = length-append (s .advices) (a ∷ []) in
+        record { counted = W .counted; bindings = W .bindings; cells = W .cells; pieces = W .pieces; labels = W .labels; advices = omega arith; log = W .log }
+
+    within-told : (a : Event) → logRecordLength ≤ G .logLength - logRecordLength * length (logOf (s .trace)) → Within G (told a s)
+    within-told a h =
+        let one = log-told (s .trace) a in
+        record { counted = W .counted; bindings = W .bindings; cells = W .cells; pieces = W .pieces; labels = W .labels; advices = W .advices; log = omega arith }
+
+    within-stored : (r : ℕ) (k : Cell Val) → Within G (celled (set (s .cells) r k) s)
+    within-stored r k =
+        let same = length-set (s .cells) r k in
+        record { counted = cc; bindings = W .bindings; cells = W .cells; pieces = W .pieces; labels = W .labels; advices = W .advices; log = W .log }
+
+    -- Arithmetic leaves the state.
+    within-arith : (a b : Option ℕ) (k : ℕ → ℕ → Tm) → Makes (Within G) (with a (λ m. with b (λ n. go s (k m n))))
+    within-arith a b k = makes-with (Within G) a _ (λ m. makes-with (Within G) b _ (λ n. makes-go W))
+
+    within0 : (P : Place) (o : Op0) (t : Ty) → Makes (Within G) (reduce0 G P s o t)
+    within0 P newLabel t = makes-room (Within G) _ _ (λ b. makes-go (within-label _ (ltb→lt (length (s .labels)) labelLimit b)))
+    within0 P abort t = makes-halt
+
+    within1 : (P : Place) (o : Op1) (t : Ty) (v : Val) → Makes (Within G) (reduce1 G P s o t v)
+    within1 P print t v =
+        makes-with (Within G) _ _
+        (λ n. makes-room (Within G) _ _ (λ b. makes-go (within-told _ (leb→le logRecordLength (G .logLength - logRecordLength * length (logOf (s .trace))) b))))
+    within1 P install t v = makes-with (Within G) _ _ (λ a. makes-room (Within G) _ _ (λ b. makes-go (within-advice a (ltb→lt (length (s .advices)) adviceLimit b))))
+    within1 P read t v = makes-with (Within G) _ _ (λ r. makes-with (Within G) _ _ (λ c. makes-go W))
+    within1 P byte t v = makes-with (Within G) _ _ (λ n. makes-go W)
+    within1 P newCell t v = makes-spend (Within G) oneCell s _ (λ b c p. makes-go (within-charged oneCell (s .cells ++ (_ ∷ [])) (length-append (s .cells) _) b c p))
+
+    within2 : (P : Place) (o : Op2) (t : Ty) (v w : Val) → Makes (Within G) (reduce2 G P s o t v w)
+    within2 P Op2.pair t v w = within-spent onePiece _ refl
+    within2 P app t v w = makes-with (Within G) _ _ (λ e. within-spent (someBindings 1) _ refl)
+    within2 P mark t v w = makes-with (Within G) _ _ (λ l. makes-with (Within G) _ _ (λ p. within-spent (someBindings _) _ refl))
+    within2 P store t v w = makes-with (Within G) _ _ (λ r. makes-with (Within G) _ _ (λ c. makes-go (within-stored r _)))
+    within2 P plus t v w = within-arith _ _ _
+    within2 P minus t v w = within-arith _ _ _
+    within2 P less t v w = within-arith _ _ _
+    within2 P equal t v w = within-arith _ _ _
+
+    within-reduces : Reduces G (Within G) s
+    within-reduces = record { stays = W; binds = λ n e. within-spent (someBindings n) e refl; pieces = λ e. within-spent onePiece e refl; reduces0 = within0; reduces1 = within1; reduces2 = within2 }
+
+  -- Every run keeps it.
+  pub within-run : (n k : ℕ) (s : State) (e : Tm) → Within G s → Within G (run n G k s e .state)
+  within-run = run-keeps G (Within G) within-reduces
+
+  pub program-within : (n : ℕ) (e : Tm) → Within G (run n G 0 fresh e .state)
+  program-within n e = within-run n 0 fresh e within-fresh

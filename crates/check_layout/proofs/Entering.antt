@@ -1,0 +1,225 @@
+-- One record of the walk: each way that it ends leaves the tables as the definition says.
+use Prim.Native.Nat.{ℕ, _+_, _-_, _*_, _≤_, _<_}
+use native.Mathlib.Omega.{arith}
+use mathlib.Core.Path.{_≡_, refl, sym, ap, _∙_}
+use mathlib.Core.Bool.{Bool, true, false}
+use mathlib.Core.List.{List, [], _∷_}
+use mathlib.Core.Option.{Option, none, some}
+use lib.ListN.{length, set}
+use Rattle.image.specs.declared.Refusal.{Refusal}
+use Rattle.image.specs.Limits.{domainLimit, typeLimit, termLimit}
+use Rattle.laws.specs.Tests.{firstFault}
+use Rattle.image.specs.Bytes.{numberAt}
+use Rattle.image.specs.Kinds.{TypeKind, TermKind, Kind, domain, type, term, rowOf, kindOf}
+use Rattle.image.specs.Records.{Layout, kindAt, fieldsAt}
+use Rattle.image.specs.Records as Records
+use Rattle.image.specs.Layout.{isNew, tests, add}
+use Rattle.image.specs.Layout as Image
+use Rattle.laws.proofs.Booleans.{no-path, lt-of, of-eq}
+use Rattle.laws.proofs.Tests.{each, passed}
+use Rattle.check_records.specs.declared.numbers.Counts.{Counts}
+use Rattle.check_records.specs.Counts.{withDomain, withType, withTerm}
+use Rattle.check_records.specs.Codes.{sectionNumber, countOf, classesOf, sectionOf, firstOf, codeAt}
+use Rattle.check_records.specs.Descriptors.{Describes}
+use Rattle.check_records.proofs.Codes.{Packs, known-code, unknown-code, kind-small}
+use Rattle.check_records.proofs.Descriptors.{type-fields}
+use Rattle.check_records.proofs.Heads.{Whole, whole-of}
+use Rattle.check_records.proofs.Parts.{part-length}
+use Rattle.check_layout.specs.declared.Entry.{Entry}
+use Rattle.check_layout.specs.declared.tests.Tested.{Tested}
+use Rattle.check_layout.specs.Fields.{Narrow, DescriptorFrom, rangesFrom}
+use Rattle.check_layout.specs.Numbers.{lengthFits, Held, roomFits, newDescriptor, numberTests, toldOf}
+use Rattle.check_layout.specs.Tables.{layoutOf, Tables, Filters, PutType, entering, Entering, Entered}
+use Rattle.check_layout.proofs.Numbers.{fits-held, not-repeated, old-descriptor, new-descriptor}
+use Rattle.check_layout.proofs.Filter.{filters-more}
+use Rattle.check_layout.proofs.Parts.{descriptor-part}
+use Rattle.check_layout.proofs.Narrow.{type-lead, type-first, narrow}
+use Rattle.check_layout.proofs.Sections.{new-law}
+use Rattle.check_layout.proofs.Kept.{type-count, domain-count, term-count, domain-more, term-more, type-more, domain-kept, term-kept, type-kept}
+use Rattle.check_layout.proofs.Steps.{orElse, unknown, known-law}
+
+-- The section tells the sort of kind.
+pub record IsType (K : Kind) : Type 0 where
+  pub kind : TypeKind
+  pub is : K ≡ type kind
+
+is-type : (K : Kind) → sectionNumber K ≡ 2 → IsType K
+is-type domain e = absurd (omega arith)
+is-type (type k) e = record { kind = k; is = refl }
+is-type (term k) e = absurd (omega arith)
+
+pub record IsTerm (K : Kind) : Type 0 where
+  pub kind : TermKind
+  pub is : K ≡ term kind
+
+is-term : (K : Kind) → sectionNumber K ≡ 3 → IsTerm K
+is-term domain e = absurd (omega arith)
+is-term (type k) e = absurd (omega arith)
+is-term (term k) e = record { kind = k; is = refl }
+
+is-domain : (K : Kind) → (sectionNumber K ≡ 3 → ⊥) → (sectionNumber K ≡ 2 → ⊥) → K ≡ domain
+is-domain domain a b = refl
+is-domain (type k) a b = absurd (b refl)
+is-domain (term k) a b = absurd (a refl)
+
+module _ {b fs kinds : List ℕ} {o q k : ℕ} {n : Counts} {ds ts ks : List ℕ} {rs : List Bool} {es : List ℕ} (R : Entering b fs kinds o q k n ds ts ks rs es) where
+  pub entry : Whole b o q k
+  entry = whole-of b o q k (R .head)
+
+  abbrev L : Layout
+  L = layoutOf b n ds ts es
+
+  -- The fields are the part of the image that they occupy.
+  known-tests : (K : Kind) → kindOf (numberAt b o) ≡ some K → firstFault (tests L o) ≡ orElse (firstFault (numberTests fs (codeAt k) n)) (firstFault ((Refusal.RepeatedType, isNew K o L) ∷ []))
+  known-tests K e = rw (R .fields) (known-law entry (R .tables) K e)
+
+  pub full : length fs + 4 ≡ q
+  full = rw (R .fields) (let W = entry in let z = part-length b (o + 4) (q - 4) (omega arith) in omega arith)
+
+  -- A refusal leaves the tables as they were.
+  refused : (r : Refusal) → firstFault (tests L o) ≡ some r → Entered (Entry.Fault r) b o n ds ts es ds ts ks rs es
+  refused r h = record { answer = ap (λ x. entering x o (add (kindAt b o) o L)) (sym h); kept = λ x e. refl; tables = R .tables; filter = R .filter }
+
+  -- 3
+  pub unknown-entry : codeAt k ≡ 0 → Entered (Entry.Fault Refusal.UnknownKind) b o n ds ts es ds ts ks rs es
+  unknown-entry h = go (kindOf (numberAt b o)) refl
+    where
+      go : (x : Option Kind) → kindOf (numberAt b o) ≡ x → Entered (Entry.Fault Refusal.UnknownKind) b o n ds ts es ds ts ks rs es
+      go none e = refused Refusal.UnknownKind (unknown entry (R .tables) e)
+      go (some K) e = let z : codeAt (numberAt b o) ≡ 0 = rw (entry .kind) at h in no-path (sym (of-eq z) ∙ known-code (numberAt b o) K e .used)
+
+  pub record Known : Type 0 where
+    pub kind : Kind
+    pub is : kindOf (numberAt b o) ≡ some kind
+
+  pub record KnownType : Type 0 where
+    pub kind : TypeKind
+    pub is : kindOf (numberAt b o) ≡ some (type kind)
+
+  known-kind : (codeAt k ≡ 0 → ⊥) → Known
+  known-kind h = go (kindOf (numberAt b o)) refl
+    where
+      go : (x : Option Kind) → kindOf (numberAt b o) ≡ x → Known
+      go none e = absurd (h (rw (entry .kind) (unknown-code (numberAt b o) e)))
+      go (some K) e = record { kind = K; is = e }
+
+  -- 4 to 7
+  pub fault-entry : (codeAt k ≡ 0 → ⊥) → (r : Refusal) → some r ≡ firstFault (numberTests fs (codeAt k) n) → Entered (Entry.Fault r) b o n ds ts es ds ts ks rs es
+  fault-entry u r h =
+      let K = known-kind u in
+      refused r (known-tests (K .kind) (K .is) ∙ ap (λ x. orElse x (firstFault ((Refusal.RepeatedType, isNew (K .kind) o L) ∷ []))) (sym h))
+
+  -- A record that passes 3 to 7.
+  module _ (u : codeAt k ≡ 0 → ⊥) (h : none ≡ firstFault (numberTests fs (codeAt k) n)) where
+    pub fits : lengthFits (codeAt k) q ≡ true
+    fits = rw full at (passed _ _ _ (sym h) .0)
+
+    pub room : roomFits (sectionOf (codeAt k)) n ≡ true
+    room = passed _ _ _ (passed _ _ _ (passed _ _ _ (sym h) .1) .1) .0
+
+    ranges : rangesFrom (firstOf (codeAt k)) (classesOf (codeAt k)) fs n 0 ≡ true
+    ranges = each _ (passed _ _ _ (passed _ _ _ (passed _ _ _ (passed _ _ _ (sym h) .1) .1) .1) .0) .0
+
+    -- What is left is 8.
+    last-test : (K : Kind) → kindOf (numberAt b o) ≡ some K → firstFault (tests L o) ≡ firstFault ((Refusal.RepeatedType, isNew K o L) ∷ [])
+    last-test K e = known-tests K e ∙ ap (λ x. orElse x (firstFault ((Refusal.RepeatedType, isNew K o L) ∷ []))) (sym h)
+
+    packs : (K : Kind) → kindOf (numberAt b o) ≡ some K → Packs K (codeAt k)
+    packs K e = rw (entry .kind) (known-code (numberAt b o) K e)
+
+    -- A record of section 2 is a type's.
+    known-type : sectionOf (codeAt k) ≡ 2 → KnownType
+    known-type s =
+        let K = known-kind u in
+        let t = is-type (K .kind) (sym (packs (K .kind) (K .is) .section) ∙ s) in
+        record { kind = t .kind; is = K .is ∙ ap some (t .is) }
+
+    -- The kind's number and the fields of a type fit in eight bits each.
+    pub kind-narrow : k < 256
+    kind-narrow = let K = known-kind u in let l = kind-small (numberAt b o) (K .kind) (K .is) in omega (arith, entry .kind)
+
+    pub fields-narrow : sectionOf (codeAt k) ≡ 2 → Narrow fs (countOf (codeAt k))
+    fields-narrow s = let t = known-type s in narrow fs n (R .tables .few) (t .kind) (codeAt k) (packs (type (t .kind)) (t .is)) ranges
+
+    -- The fields hold the kind's, those of a type among them.
+    pub held : Held (codeAt k) (length fs)
+    held = fits-held (codeAt k) (length fs) (rw (← full) at fits)
+
+    pub type-held : sectionOf (codeAt k) ≡ 2 → 2 * countOf (codeAt k) ≤ length fs
+    type-held s = let t = known-type s in let P = packs (type (t .kind)) (t .is) in let e = P .count ∙ (type-first (t .kind) ∙ sym (P .first)) in let h = held in omega arith
+
+    at-kind : (K : Kind) → kindOf (numberAt b o) ≡ some K → kindAt b o ≡ K
+    at-kind K e = ap (λ x. Records.orElse x domain) e
+
+    -- A kind's record that passes 8 too, with the tables that it leaves.
+    enters : (K : Kind) → kindOf (numberAt b o) ≡ some K → isNew K o L ≡ true → (m : Counts) (ds′ ts′ ks′ : List ℕ) (rs′ : List Bool) (es′ : List ℕ) → layoutOf b m ds′ ts′ es′ ≡ add K o L
+        → Tables b m ds′ ts′ ks′ es′ → Filters (m .types) ks′ rs′ → Entered (Entry.Laid m) b o n ds ts es ds′ ts′ ks′ rs′ es′
+    enters K e new m ds′ ts′ ks′ rs′ es′ l T′ F′ =
+        record {
+          answer = ap Image.laid l ∙ (ap (λ x. entering x o (add K o L)) (not-repeated _ new ∙ sym (last-test K e)) ∙ ap (λ J. entering (firstFault (tests L o)) o (add J o L)) (sym (at-kind K e)));
+          kept = λ x d. no-path cc;
+          tables = T′;
+          filter = F′;
+        }
+
+    room-at : (s : ℕ) → sectionOf (codeAt k) ≡ s → roomFits s n ≡ true
+    room-at s e = ap (λ x. roomFits x n) (sym e) ∙ room
+
+    -- A record of neither section 3 nor section 2 is a domain's.
+    known-domain : (sectionOf (codeAt k) ≡ 3 → ⊥) → (sectionOf (codeAt k) ≡ 2 → ⊥) → kindOf (numberAt b o) ≡ some domain
+    known-domain a c = let K = known-kind u in let P = packs (K .kind) (K .is) in K .is ∙ ap some (is-domain (K .kind) (λ e. a (P .section ∙ e)) (λ e. c (P .section ∙ e)))
+
+    pub domain-room : (sectionOf (codeAt k) ≡ 3 → ⊥) → (sectionOf (codeAt k) ≡ 2 → ⊥) → n .domains < domainLimit
+    domain-room a c = lt-of (room-at 1 (packs domain (known-domain a c) .section))
+
+    pub type-room : sectionOf (codeAt k) ≡ 2 → n .types < typeLimit
+    type-room e = lt-of (room-at 2 e)
+
+    pub term-room : sectionOf (codeAt k) ≡ 3 → n .terms < termLimit
+    term-room e = lt-of (room-at 3 e)
+
+    pub domain-entry : (sectionOf (codeAt k) ≡ 3 → ⊥) → (sectionOf (codeAt k) ≡ 2 → ⊥) → Entered (Entry.Laid (withDomain n)) b o n ds ts es (set ds (n .domains) o) ts ks rs es
+    domain-entry a c = let m = domain-room a c in enters domain (known-domain a c) refl (withDomain n) _ ts ks rs es (domain-more (R .tables) o m) (domain-kept (R .tables) o m) (R .filter)
+
+    pub term-entry : sectionOf (codeAt k) ≡ 3 → Entered (Entry.Laid (withTerm n)) b o n ds ts es ds ts ks rs (set es (n .terms) o)
+    term-entry s =
+        let K = known-kind u in
+        let t = is-term (K .kind) (sym (packs (K .kind) (K .is) .section) ∙ s) in
+        let e : kindOf (numberAt b o) ≡ some (term (t .kind)) = K .is ∙ ap some (t .is) in
+        let m = term-room s in
+        enters (term (t .kind)) e refl (withTerm n) ds ts ks rs _ (term-more (R .tables) o (t .kind) m) (term-kept (R .tables) o (t .kind) m) (R .filter)
+
+    -- A type, whose descriptor is x.
+    module _ (s : sectionOf (codeAt k) ≡ 2) {x : ℕ} (F : DescriptorFrom fs (countOf (codeAt k)) k x) where
+      type-is : KnownType
+      type-is = known-type s
+
+      descriptor-is : Describes b o x
+      descriptor-is =
+          let K = type-is .kind in
+          let e = type-is .is in
+          let P = packs (type K) e in
+          let h = type-held s in
+          let f = full in
+          let c : countOf (codeAt k) ≡ length (fieldsAt b o (rowOf (kindAt b o))) = P .count ∙ (type-lead K ∙ (sym (type-fields K _) ∙ ap (λ J. length (fieldsAt b o (rowOf J))) (sym (at-kind (type K) e)))) in
+          descriptor-part b o q (countOf (codeAt k)) k x (omega arith) c (entry .kind) (rw (R .fields) at F)
+
+      new : isNew (type (type-is .kind)) o L ≡ newDescriptor (n .types) ks x
+      new = new-law L n (type-count (R .tables)) (domain-count (R .tables)) (term-count (R .tables)) o (type-is .kind) ks x (type-is .is) descriptor-is (R .tables .described)
+
+      -- It is there already, or it is put into the tables.
+      module _ {t : Tested} {ts′ ks′ : List ℕ} {rs′ : List Bool} (p : PutType t o x (n .types) ts ks rs ts′ ks′ rs′) where
+        pub repeated-entry : {r : Refusal} → t ≡ Tested.Fault r → Entered (Entry.Fault r) b o n ds ts es ds ts′ ks′ rs′ es
+        repeated-entry {r} e =
+            let f : some r ≡ firstFault ((Refusal.RepeatedType, newDescriptor (n .types) ks x) ∷ []) = ap toldOf (sym e) ∙ p .answer in
+            let a : newDescriptor (n .types) ks x ≡ false = old-descriptor _ f in
+            let g : firstFault (tests L o) ≡ some r = last-test (type (type-is .kind)) (type-is .is) ∙ (ap (λ y. firstFault ((Refusal.RepeatedType, y) ∷ [])) new ∙ sym f) in
+            rw (p .types, p .descriptors, p .filter, a) (refused r g)
+
+        pub type-entry : t ≡ Tested.Passed → Entered (Entry.Laid (withType n)) b o n ds ts es ds ts′ ks′ rs′ es
+        type-entry e =
+            let a : newDescriptor (n .types) ks x ≡ true = new-descriptor _ (ap toldOf (sym e) ∙ p .answer) in
+            let m = type-room s in
+            let l = R .tables .long .descriptors in
+            rw (p .types, p .descriptors, p .filter, a)
+            (enters (type (type-is .kind)) (type-is .is) (new ∙ a) (withType n) ds _ _ _ es (type-more (R .tables) o (type-is .kind) m) (type-kept (R .tables) o (type-is .kind) x m descriptor-is) (filters-more (R .filter) x (omega arith)))

@@ -1,0 +1,91 @@
+-- Laws of the tests on numbers: what a loop over the descriptors has tested so far.
+use Prim.Native.Nat.{ℕ, _+_, _-_, _*_, _≤_}
+use native.Mathlib.Omega.{arith}
+use native.Mathlib.Numerals.{add-one}
+use mathlib.Core.Path.{_≡_, refl, sym, ap, _∙_}
+use mathlib.Core.Bool.{Bool, true, false, not, _&&_}
+use mathlib.Core.List.{List, [], _∷_}
+use mathlib.Core.Option.{none, some}
+use lib.ListN.{getD}
+use lib.Dec.{eqb}
+use borrow.Author.Tests.{not-true, not-false}
+use Rattle.image.specs.declared.Refusal.{Refusal}
+use Rattle.laws.specs.Tests.{allBelow, firstFault}
+use Rattle.laws.proofs.Booleans.{no-path, eq-of}
+use Rattle.laws.proofs.Tests.{each}
+use Rattle.check_records.specs.Codes.{groupOf, lastOf, firstOf, timesIn}
+use Rattle.check_layout.specs.Numbers.{lengthFits, Held, newDescriptor}
+
+module _ (ks : List ℕ) (x : ℕ) where
+  pub new-more : (i : ℕ) (b t : Bool) → b ≡ newDescriptor i ks x → t ≡ (b && not (eqb x (getD ks i 0))) → t ≡ newDescriptor (i + 1) ks x
+  unfolding allBelow
+  new-more i b t e h = rw (add-one i) (h ∙ ap (λ y. y && not (eqb x (getD ks i 0))) e)
+
+-- A record of the right length has its kind's fields, and holds them.
+pub fits-size : (x n : ℕ) → lengthFits x n ≡ true → n ≡ 4 + 2 * (firstOf x + (timesIn x (n - 4) * groupOf x + lastOf x))
+fits-size x n h = eq-of (each _ h .1 .1 .0)
+
+pub fits-held : (x n : ℕ) → lengthFits x (n + 4) ≡ true → Held x n
+fits-held x n h =
+    let e : n + 4 - 4 ≡ n = omega arith in
+    let z = rw e at (fits-size x (n + 4) h) in
+    omega arith
+
+pub first-held : (x y n : ℕ) → x ≡ y → Held x n → 2 * firstOf y ≤ n
+first-held x y n e h = rw (← e) (omega arith)
+
+-- A test that a function answers, and whose answer a branch goes by.
+pub yes-of : (r t : Bool) → r ≡ t → not r ≡ false → t ≡ true
+yes-of r t e h = sym e ∙ not-false r h
+
+pub no-of : (r t : Bool) → r ≡ t → not r ≡ true → t ≡ false
+no-of r t e h = sym e ∙ not-true r h
+
+-- 4 to 7: the first that fails.
+module _ (a b c d : Bool) where
+  abbrev pub four : List (Refusal × Bool)
+  four = (Refusal.WrongLength, a) ∷ (Refusal.SectionOrder, b) ∷ (Refusal.TooManyRecords, c) ∷ (Refusal.FieldRange, d) ∷ []
+
+  pub fault4 : a ≡ false → some Refusal.WrongLength ≡ firstFault four
+  unfolding firstFault
+  fault4 h = rw h
+
+  pub fault5 : a ≡ true → b ≡ false → some Refusal.SectionOrder ≡ firstFault four
+  unfolding firstFault
+  fault5 h i = rw (h, i)
+
+  pub fault6 : a ≡ true → b ≡ true → c ≡ false → some Refusal.TooManyRecords ≡ firstFault four
+  unfolding firstFault
+  fault6 h i j = rw (h, i, j)
+
+  pub fault7 : a ≡ true → b ≡ true → c ≡ true → d ≡ false → some Refusal.FieldRange ≡ firstFault four
+  unfolding firstFault
+  fault7 h i j k = rw (h, i, j, k)
+
+  pub no-fault : a ≡ true → b ≡ true → c ≡ true → d ≡ true → none ≡ firstFault four
+  unfolding firstFault
+  no-fault h i j k = rw (h, i, j, k)
+
+-- 8: the last test.
+pub repeated : (a : Bool) → a ≡ false → some Refusal.RepeatedType ≡ firstFault ((Refusal.RepeatedType, a) ∷ [])
+unfolding firstFault
+repeated a h = rw h
+
+pub not-repeated : (a : Bool) → a ≡ true → none ≡ firstFault ((Refusal.RepeatedType, a) ∷ [])
+unfolding firstFault
+not-repeated a h = rw h
+
+-- What its answer tells of the descriptor.
+pub old-descriptor : (a : Bool) {r : Refusal} → some r ≡ firstFault ((Refusal.RepeatedType, a) ∷ []) → a ≡ false
+old-descriptor a {r} h = go a refl
+  where
+    go : (t : Bool) → a ≡ t → a ≡ false
+    go true e = let z : some r ≡ none = h ∙ sym (not-repeated a e) in no-path cc
+    go false e = e
+
+pub new-descriptor : (a : Bool) → none ≡ firstFault ((Refusal.RepeatedType, a) ∷ []) → a ≡ true
+new-descriptor a h = go a refl
+  where
+    go : (t : Bool) → a ≡ t → a ≡ true
+    go true e = e
+    go false e = let z : none ≡ some Refusal.RepeatedType = h ∙ sym (repeated a e) in no-path cc

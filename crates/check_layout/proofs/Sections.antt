@@ -1,0 +1,62 @@
+-- 4, 5, 6 and 8 of a record of kind k, as tests on numbers.
+use Prim.Native.Nat.{ℕ, _<_}
+use mathlib.Core.Path.{_≡_, refl, sym, ap, _∙_}
+use mathlib.Core.Bool.{Bool, not}
+use mathlib.Core.List.{List, [], _∷_}
+use mathlib.Core.Option.{some}
+use lib.ListN.{length, getD}
+use lib.Dec.{eqb, eqb·suc-zero}
+use Rattle.image.specs.Bytes.{numberAt}
+use Rattle.image.specs.Kinds.{TypeKind, Kind, domain, type, term, rowOf, kindOf}
+use Rattle.laws.specs.Tests.{allOf, allBelow}
+use Rattle.image.specs.Records.{Layout, times}
+use Rattle.image.specs.Layout.{rightLength, isNil, inOrder, hasRoom, isNew}
+use Rattle.image.specs.Types.{typePlace}
+use Rattle.laws.proofs.Booleans.{same-truth}
+use Rattle.laws.proofs.Tests.{all-of, of-all, all-below, below-all}
+use Rattle.image.proofs.Counts.{fields-length}
+use Rattle.check_records.specs.declared.numbers.Counts.{Counts}
+use Rattle.check_records.specs.Codes.{sectionNumber, sectionOf}
+use Rattle.check_records.specs.Descriptors.{Describes}
+use Rattle.check_records.proofs.Codes.{Packs}
+use Rattle.check_records.proofs.Descriptors.{same-descriptor}
+use Rattle.check_layout.specs.Numbers.{lengthFits, orderFits, roomFits, newDescriptor}
+use Rattle.check_layout.specs.Tables.{Described}
+
+-- 4
+pub right-length : (k : Kind) (x n : ℕ) → Packs k x → rightLength (rowOf k) n ≡ lengthFits x n
+right-length k x n P = rw (P .most, P .first, P .least, P .group, P .last, fields-length (rowOf k) (times (rowOf k) n))
+
+nil-length : (xs : List ℕ) → isNil xs ≡ eqb (length xs) 0
+nil-length [] = refl
+nil-length (x ∷ xs) = sym (eqb·suc-zero (length xs))
+
+-- A test of each element is a test at each place.
+all-places : (ok : ℕ → Bool) (ns : List ℕ) (at : ℕ → Bool) → ((i : ℕ) → i < length ns → ok (getD ns i 0) ≡ at i) → allOf ok ns ≡ allBelow (length ns) at
+all-places ok ns at e =
+    same-truth _ _ (λ h. below-all (length ns) at (λ i l. sym (e i l) ∙ all-of ok ns h i 0 l)) (λ h. of-all ok ns (λ i l. e i l ∙ all-below (length ns) at h i l))
+
+module _ (L : Layout) (n : Counts) (types : length (L .types) ≡ n .types) (domains : length (L .domains) ≡ n .domains) (terms : length (L .terms) ≡ n .terms) where
+  -- 5
+  in-order : (k : Kind) → inOrder k L ≡ orderFits (sectionNumber k) n
+  in-order domain = rw (nil-length (L .types), nil-length (L .terms), types, terms)
+  in-order (type k) = rw (nil-length (L .terms), terms)
+  in-order (term k) = refl
+
+  -- 6
+  has-room : (k : Kind) → hasRoom k L ≡ roomFits (sectionNumber k) n
+  has-room domain = rw domains
+  has-room (type k) = rw types
+  has-room (term k) = rw terms
+
+  pub order-law : (k : Kind) (x : ℕ) → Packs k x → inOrder k L ≡ orderFits (sectionOf x) n
+  order-law k x P = in-order k ∙ ap (λ s. orderFits s n) (sym (P .section))
+
+  pub room-law : (k : Kind) (x : ℕ) → Packs k x → hasRoom k L ≡ roomFits (sectionOf x) n
+  room-law k x P = has-room k ∙ ap (λ s. roomFits s n) (sym (P .section))
+
+  -- 8
+  pub new-law : (o : ℕ) (k : TypeKind) (ks : List ℕ) (x : ℕ) → kindOf (numberAt (L .image) o) ≡ some (type k) → Describes (L .image) o x → Described L ks → isNew (type k) o L ≡ newDescriptor (n .types) ks x
+  new-law o k ks x h X K =
+      all-places _ (L .types) (λ i. not (eqb x (getD ks i 0))) (λ i l. ap not (same-descriptor (L .image) o (typePlace L i) k h x (getD ks i 0) X (K .at i l)))
+      ∙ ap (λ m. newDescriptor m ks x) types

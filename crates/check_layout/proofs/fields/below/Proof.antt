@@ -1,0 +1,13 @@
+-- `check_layout::fields::below` meets its contract.
+use borrow.Author.Needs.{needs}
+use Rattle.check_layout.proofs.fields.below.Statement.{statement}
+use Rattle.check_layout.proofs.fields.below.Tie as tie
+
+field-requires : tie.Need-field-requires
+field-requires c κs = search needs
+
+returns : tie.Need-returns
+returns c = rw (c .field .ensures)
+
+pub below-spec : {M : Type 1} → statement M
+below-spec = tie.close (tie.spec field-requires returns)

@@ -1,0 +1,136 @@
+-- The tables of records as the definition's layout (document 01, "The image"), and what each function does to them, record by record (document 01, "Turned back at the gate", refusals 2 to 8).
+use Prim.Native.Nat.{ℕ, _+_, _%_, _≤_, _<_}
+use mathlib.Core.Path.{_≡_}
+use mathlib.Core.Bool.{Bool, true, false}
+use mathlib.Core.List.{List, [], _∷_}
+use mathlib.Core.Option.{Option, none, some}
+use lib.ListN.{length, getD, take, set}
+use Rattle.image.specs.declared.Refusal.{Refusal}
+use Rattle.image.specs.Limits.{imageLimit, domainLimit, typeLimit, termLimit}
+use Rattle.laws.specs.Tests.{firstFault}
+use Rattle.image.specs.Bytes.{lengthAt}
+use Rattle.image.specs.Records.{Layout, kindAt}
+use Rattle.image.specs.Layout.{nothing, tests, add, stopped, laid, layout}
+use Rattle.image.specs.Layout as Image
+use Rattle.image.specs.Types.{typePlace}
+use Rattle.calculus.specs.Combinators.{choose}
+use Rattle.check_records.specs.declared.numbers.Counts.{Counts}
+use Rattle.check_records.specs.declared.reader.Head.{Head}
+use Rattle.check_records.specs.Counts.{Few}
+use Rattle.check_records.specs.Heads.{headAt, fieldBytes}
+use Rattle.check_records.specs.Codes.{kindCodes}
+use Rattle.check_records.specs.Descriptors.{Describes}
+use Rattle.check_layout.specs.declared.Scan.{Scan}
+use Rattle.check_layout.specs.declared.Entry.{Entry}
+use Rattle.check_layout.specs.declared.tests.Tested.{Tested}
+use Rattle.check_layout.specs.Numbers.{newDescriptor, toldOf}
+
+-- The layout of an image b of which the tables of domains, types and terms hold so many records.
+abbrev pub layoutOf : List ℕ → Counts → List ℕ → List ℕ → List ℕ → Layout
+layoutOf b n ds ts es = record { image = b; domains = take (n .domains) ds; types = take (n .types) ts; terms = take (n .terms) es }
+
+-- The table of descriptors holds the descriptor of each type.
+pub record Described (L : Layout) (ks : List ℕ) : Type 0 where
+  pub at : (t : ℕ) → t < length (L .types) → Describes (L .image) (typePlace L t) (getD ks t 0)
+
+-- The tables are long enough for every image.
+pub record Long (ds ts ks es : List ℕ) : Type 0 where
+  pub doms : domainLimit ≤ length ds
+  pub types : typeLimit ≤ length ts
+  pub descriptors : typeLimit ≤ length ks
+  pub terms : termLimit ≤ length es
+
+pub record Tables (b : List ℕ) (n : Counts) (ds ts ks es : List ℕ) : Type 0 where
+  pub few : Few n
+  pub long : Long ds ts ks es
+  pub described : Described (layoutOf b n ds ts es) ks
+
+-- The filter of the first n descriptors: true at the remainder of each, so that a descriptor with another remainder is none of them.
+abbrev pub remainders : ℕ
+remainders = 251
+
+pub record Filters (n : ℕ) (ks : List ℕ) (rs : List Bool) : Type 0 where
+  pub places : remainders ≤ length rs
+  pub at : (i : ℕ) → i < n → getD rs (getD ks i 0 % remainders) false ≡ true
+
+-- Type t is put into the tables, with the offset o and the descriptor x, unless the descriptor is there already.
+pub record PutType (r : Tested) (o x t : ℕ) (ts ks : List ℕ) (rs : List Bool) (ts′ ks′ : List ℕ) (rs′ : List Bool) : Type 0 where
+  pub answer : toldOf r ≡ firstFault ((Refusal.RepeatedType, newDescriptor t ks x) ∷ [])
+  pub types : ts′ ≡ choose (newDescriptor t ks x) (set ts t o) ts
+  pub descriptors : ks′ ≡ choose (newDescriptor t ks x) (set ks t x) ks
+  pub filter : rs′ ≡ choose (newDescriptor t ks x) (set rs (x % remainders) true) rs
+
+-- What becomes of a record at o: refused, or one more in the layout, which is L then.
+abbrev pub entering : Option Refusal → ℕ → Layout → Image.Scan
+entering (some r) o L = stopped r o
+entering none o L = laid L
+
+-- The answer to a record at o, with the tables that it leaves, as the definition's; and how many records they hold, n of them before.
+abbrev pub entryOf : Entry → List ℕ → ℕ → List ℕ → List ℕ → List ℕ → Image.Scan
+entryOf (Entry.Fault r) b o ds ts es = stopped r o
+entryOf (Entry.Laid n) b o ds ts es = laid (layoutOf b n ds ts es)
+
+abbrev pub countsBehind : Entry → Counts → Counts
+countsBehind (Entry.Fault r) n = n
+countsBehind (Entry.Laid m) n = m
+
+-- A record of q bytes and of kind k at o, in an image b: its fields are fs.
+pub record Entering (b fs kinds : List ℕ) (o q k : ℕ) (n : Counts) (ds ts ks : List ℕ) (rs : List Bool) (es : List ℕ) : Type 0 where
+  pub head : headAt b o ≡ Head.Record q k
+  pub fields : fs ≡ fieldBytes b o q
+  pub short : length b ≤ imageLimit
+  pub codes : kinds ≡ kindCodes
+  pub tables : Tables b n ds ts ks es
+  pub filter : Filters (n .types) ks rs
+
+pub record Entered (r : Entry) (b : List ℕ) (o : ℕ) (n : Counts) (ds ts es ds′ ts′ ks′ : List ℕ) (rs′ : List Bool) (es′ : List ℕ) : Type 0 where
+  pub answer : entryOf r b o ds′ ts′ es′ ≡ entering (firstFault (tests (layoutOf b n ds ts es) o)) o (add (kindAt b o) o (layoutOf b n ds ts es))
+  pub kept : (q : Refusal) → r ≡ Entry.Fault q → layoutOf b n ds′ ts′ es′ ≡ layoutOf b n ds ts es
+  pub tables : Tables b (countsBehind r n) ds′ ts′ ks′ es′
+  pub filter : Filters (countsBehind r n .types) ks′ rs′
+
+-- What enter is lent: the fields of a record of some image. What it does is the same for every such image.
+pub record Enterable (fs kinds : List ℕ) (o k : ℕ) (n : Counts) (ds ts ks : List ℕ) (rs : List Bool) (es : List ℕ) : Type 0 where
+  pub image : List ℕ
+  pub len : ℕ
+  pub is : Entering image fs kinds o len k n ds ts ks rs es
+
+pub record Enters (r : Entry) (fs kinds : List ℕ) (o k : ℕ) (n : Counts) (ds ts ks : List ℕ) (rs : List Bool) (es ds′ ts′ ks′ : List ℕ) (rs′ : List Bool) (es′ : List ℕ) : Type 0 where
+  pub in-image : (b : List ℕ) (q : ℕ) → Entering b fs kinds o q k n ds ts ks rs es → Entered r b o n ds ts es ds′ ts′ ks′ rs′ es′
+
+-- What scan_records is lent.
+pub record Lent (b kinds ds ts ks es : List ℕ) : Type 0 where
+  pub short : length b ≤ imageLimit
+  pub codes : kinds ≡ kindCodes
+  pub long : Long ds ts ks es
+
+-- The scan comes to the offset o with the records of a layout: none of them is refused.
+pub data Reached (b : List ℕ) : ℕ → Layout → Type 0 where
+  start : Reached b 0 (nothing b)
+  next : {o : ℕ} {L : Layout} → Reached b o L → o < length b → firstFault (tests L o) ≡ none → Reached b (o + lengthAt b o) (add (kindAt b o) o L)
+
+-- The answer and the tables at exit, as the definition's; and how far the scan came.
+abbrev pub scanOf : Scan → List ℕ → List ℕ → List ℕ → List ℕ → Image.Scan
+scanOf (Scan.Stopped r o) b ds ts es = stopped r o
+scanOf (Scan.Laid n) b ds ts es = laid (layoutOf b n ds ts es)
+
+abbrev pub endOf : Image.Scan → List ℕ → ℕ
+endOf (stopped r o) b = o
+endOf (laid L) b = length b
+
+-- The tables hold the n records that stand before the offset o.
+pub record Holds (b : List ℕ) (o : ℕ) (n : Counts) (ds ts ks es : List ℕ) : Type 0 where
+  pub reached : Reached b o (layoutOf b n ds ts es)
+  pub tables : Tables b n ds ts ks es
+
+-- All records, where none is refused; else those before the refused one.
+pub record Scanned (r : Scan) (b ds ts ks es : List ℕ) : Type 0 where
+  pub answer : scanOf r b ds ts es ≡ layout b
+  pub counts : Counts
+  pub counted : (n : Counts) → r ≡ Scan.Laid n → counts ≡ n
+  pub holds : Holds b (endOf (layout b) b) counts ds ts ks es
+
+-- The same of a scan with a filter, which then has the descriptors of the types.
+pub record ScannedWith (r : Scan) (b ds ts ks : List ℕ) (rs : List Bool) (es : List ℕ) : Type 0 where
+  pub scanned : Scanned r b ds ts ks es
+  pub filter : Filters (scanned .counts .types) ks rs

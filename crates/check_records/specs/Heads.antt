@@ -1,0 +1,46 @@
+-- What stands at an offset (document 01, "The image"): what the record reader answers (refusal 2), and what stands where in a record's fields.
+use Prim.Native.Nat.{ℕ, _+_, _-_, _*_, _≤_}
+use mathlib.Core.List.{List}
+use lib.ListN.{length, take, drop}
+use lib.Dec.{leb}
+use Rattle.calculus.specs.Combinators.{choose}
+use Rattle.image.specs.declared.Refusal.{Refusal}
+use Rattle.image.specs.Bytes.{le16, words, lengthAt, numberAt}
+use Rattle.image.specs.Kinds.{leadOf}
+use Rattle.image.specs.Records.{kindAt}
+use Rattle.image.specs.Layout.{framed}
+use Rattle.image.specs.Types.{termKindOf}
+use Rattle.check_records.specs.declared.reader.Head.{Head}
+use Rattle.check_records.specs.Codes.{countOf, childrenIn}
+
+-- A whole record, a refusal, or the end.
+abbrev pub headAt : List ℕ → ℕ → Head
+headAt b o =
+    choose (leb (length b) o) Head.End
+    (choose (framed b o) (Head.Record (lengthAt b o) (numberAt b o)) (Head.Refused Refusal.BrokenRecord))
+
+-- The bytes that the fields of a record of n bytes at o occupy.
+abbrev pub fieldBytes : List ℕ → ℕ → ℕ → List ℕ
+fieldBytes b o n = take (n - 4) (drop (o + 4) b)
+
+-- A whole record stands at o; its fields.
+abbrev pub IsWhole : List ℕ → ℕ → Type 0
+IsWhole b o = (4 ≤ lengthAt b o) × (o + lengthAt b o ≤ length b)
+
+abbrev pub fieldsAt : List ℕ → ℕ → List ℕ
+fieldsAt b o = fieldBytes b o (lengthAt b o)
+
+-- Field i of the fields fs.
+abbrev pub fieldIn : List ℕ → ℕ → ℕ
+fieldIn fs i = le16 fs (2 * i)
+
+-- The fields fs of a record whose kind has the code x hold all that the kind has; the children among them.
+abbrev pub Fitting : ℕ → List ℕ → Type 0
+Fitting x fs = 2 * (countOf x + childrenIn x (length fs)) ≤ length fs
+
+abbrev pub childrenOf : ℕ → List ℕ → List ℕ
+childrenOf x fs = words fs (2 * countOf x) (childrenIn x (length fs))
+
+-- How many fields the term at o has before its children.
+abbrev pub firstChild : List ℕ → ℕ → ℕ
+firstChild b o = leadOf (termKindOf (kindAt b o))

@@ -1,0 +1,45 @@
+-- The number that the table has for a type says all that the rules ask of it.
+use Prim.Native.Nat.{ℕ, zero, suc, _+_, _<_}
+use native.Mathlib.Omega.{arith}
+use mathlib.Core.Path.{_≡_, refl, sym, ap, subst, _∙_}
+use mathlib.Core.List.{List, [], _∷_}
+use lib.ListN.{length, getD}
+use Rattle.image.specs.Kinds.{domain, type, typeRow, rowOf}
+use Rattle.image.specs.Records.{Layout, orElse, kindAt, fieldsAt, numbersAt}
+use Rattle.image.specs.Layout.{recordsOf}
+use Rattle.image.specs.Types.{typePlace, typeKind, typeField}
+use Rattle.image.proofs.Laid.{Good, layout-good, image-kept}
+use Rattle.image.proofs.Offsets.{no-number}
+use Rattle.verdict.specs.Rules.{Descriptor}
+use Rattle.verdict.specs.Check.{describe}
+use Rattle.verdict.proofs.Descriptors.{same-descriptor}
+use Rattle.check_records.specs.Descriptors.{descriptorKind, descriptorField0, descriptorField1, descriptorField2, fieldOr0, Describes}
+use Rattle.check_records.proofs.Descriptors.{type-fields, few-fields}
+use Rattle.check_rules.specs.Lent.{Types, IsType}
+
+-- What the descriptor x says of type t. No type has more than three fields.
+abbrev pub unpacked : ℕ → ℕ → Descriptor
+unpacked t x = record { number = t; kind = descriptorKind x; part = λ i. getD (descriptorField0 x ∷ descriptorField1 x ∷ descriptorField2 x ∷ []) i 0 }
+
+module _ (L : Layout) (good : Good L) (t : ℕ) (h : t < length (L .types)) where
+  kind-at : kindAt (L .image) (typePlace L t) ≡ type (typeKind L t)
+  kind-at = ap (λ q. orElse q domain) (good .types t h .kind)
+
+  read : (i : ℕ) → typeField L t i ≡ fieldOr0 (L .image) (typePlace L t) i
+  read i = ap (λ K. getD (numbersAt (L .image) (typePlace L t) (rowOf K)) i 0) (sym kind-at)
+
+  part-is : (x : ℕ) → Describes (L .image) (typePlace L t) x → (i : ℕ) → typeField L t i ≡ unpacked t x .part i
+  part-is x descriptor zero = read 0 ∙ sym (descriptor .field0)
+  part-is x descriptor (suc zero) = read 1 ∙ sym (descriptor .field1)
+  part-is x descriptor (suc (suc zero)) = read 2 ∙ sym (descriptor .field2)
+  part-is x descriptor (suc (suc (suc i))) =
+      let n : length (fieldsAt (L .image) (typePlace L t) (typeRow (typeKind L t))) ≡ length (typeRow (typeKind L t) .first) + length (typeRow (typeKind L t) .last) = type-fields (typeKind L t) _ in
+      let few = few-fields (typeKind L t) in
+      no-number (L .image) (typePlace L t) (typeRow (typeKind L t)) (suc (suc (suc i))) (omega arith)
+
+pub describes : {b descriptors : List ℕ} → Types b descriptors → {t : ℕ} → IsType b t → describe (recordsOf b) t ≡ unpacked t (getD descriptors t 0)
+describes {b} {descriptors} T {t} h =
+    let L : Layout = recordsOf b in
+    let e : L .image ≡ b = image-kept b L (T .laid-out) in
+    let descriptor : Describes (L .image) (typePlace L t) (getD descriptors t 0) = subst (λ i. Describes i (typePlace L t) (getD descriptors t 0)) (sym e) (T .descriptors t h) in
+    same-descriptor (describe L t) (unpacked t (getD descriptors t 0)) refl (sym (descriptor .kind)) (part-is L (layout-good b L (T .laid-out)) t h (getD descriptors t 0) descriptor)

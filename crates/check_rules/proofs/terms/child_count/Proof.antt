@@ -1,0 +1,91 @@
+-- `check_rules::terms::child_count` meets its contract.
+use borrow.Author.Needs.{needs}
+use Rattle.check_rules.proofs.terms.child_count.Statement.{statement}
+use Rattle.check_rules.proofs.terms.child_count.Tie as tie
+use mathlib.Core.Path.{sym, ap, _∙_}
+use denote.Ref.{now}
+use Rattle.image.specs.Kinds.{TermKind}
+use Rattle.image.proofs.KindNumbers.{same-term-kind}
+use Rattle.check_rules.specs.Fields.{countIn}
+use Rattle.check_rules.proofs.Elimination.{none-below}
+
+labels-in-requires : tie.Need-labels-in-requires
+labels-in-requires c κs = search needs
+
+returns : tie.Need-returns
+returns c = λ k e. ap (countIn (now (c .before .before .args .fields))) (same-term-kind TermKind.seq k (sym (c .match .keys1) ∙ e))
+
+returns-2 : tie.Need-returns-2
+returns-2 c = λ k e. ap (countIn (now (c .before .before .args .fields))) (same-term-kind TermKind.print k (sym (c .match .keys2) ∙ e))
+
+returns-3 : tie.Need-returns-3
+returns-3 c = λ k e. ap (countIn (now (c .before .before .args .fields))) (same-term-kind TermKind.ite k (sym (c .match .keys3) ∙ e))
+
+returns-4 : tie.Need-returns-4
+returns-4 c = λ k e. ap (countIn (now (c .before .before .args .fields))) (same-term-kind TermKind.pair k (sym (c .match .keys4) ∙ e))
+
+returns-5 : tie.Need-returns-5
+returns-5 c = λ k e. ap (countIn (now (c .before .before .args .fields))) (same-term-kind TermKind.split k (sym (c .match .keys5) ∙ e))
+
+returns-6 : tie.Need-returns-6
+returns-6 c = λ k e. ap (countIn (now (c .before .before .args .fields))) (same-term-kind TermKind.fun k (sym (c .match .keys6) ∙ e))
+
+returns-7 : tie.Need-returns-7
+returns-7 c = λ k e. ap (countIn (now (c .before .before .args .fields))) (same-term-kind TermKind.app k (sym (c .match .keys7) ∙ e))
+
+returns-8 : tie.Need-returns-8
+returns-8 c = λ k e. ap (countIn (now (c .before .before .args .fields))) (same-term-kind TermKind.arith k (sym (c .match .keys8) ∙ e))
+
+returns-9 : tie.Need-returns-9
+returns-9 c = λ k e. ap (countIn (now (c .before .before .args .fields))) (same-term-kind TermKind.mark k (sym (c .match .keys9) ∙ e))
+
+returns-10 : tie.Need-returns-10
+returns-10 c = λ k e. c .labels-in .ensures ∙ ap (countIn (now (c .before .before .before .args .fields))) (same-term-kind TermKind.pcd k (sym (c .before .match .keys10) ∙ e))
+
+returns-11 : tie.Need-returns-11
+returns-11 c = λ k e. ap (countIn (now (c .before .before .args .fields))) (same-term-kind TermKind.adv k (sym (c .match .keys11) ∙ e))
+
+returns-12 : tie.Need-returns-12
+returns-12 c = λ k e. ap (countIn (now (c .before .before .args .fields))) (same-term-kind TermKind.install k (sym (c .match .keys12) ∙ e))
+
+returns-13 : tie.Need-returns-13
+returns-13 c = λ k e. ap (countIn (now (c .before .before .args .fields))) (same-term-kind TermKind.newCell k (sym (c .match .keys13) ∙ e))
+
+returns-14 : tie.Need-returns-14
+returns-14 c = λ k e. ap (countIn (now (c .before .before .args .fields))) (same-term-kind TermKind.read k (sym (c .match .keys14) ∙ e))
+
+returns-15 : tie.Need-returns-15
+returns-15 c = λ k e. ap (countIn (now (c .before .before .args .fields))) (same-term-kind TermKind.store k (sym (c .match .keys15) ∙ e))
+
+returns-16 : tie.Need-returns-16
+returns-16 c = λ k e. ap (countIn (now (c .before .before .args .fields))) (same-term-kind TermKind.lower k (sym (c .match .keys16) ∙ e))
+
+returns-17 : tie.Need-returns-17
+returns-17 c = λ k e. ap (countIn (now (c .before .before .args .fields))) (same-term-kind TermKind.byte k (sym (c .match .keys17) ∙ e))
+
+returns-18 : tie.Need-returns-18
+returns-18 c = λ k e. sym (none-below (now (c .before .before .args .fields)) _ (c .match .rest) k e)
+
+pub child-count-spec : {M : Type 1} → statement M
+child-count-spec =
+    tie.close
+    (tie.spec
+    labels-in-requires
+    returns
+    returns-2
+    returns-3
+    returns-4
+    returns-5
+    returns-6
+    returns-7
+    returns-8
+    returns-9
+    returns-10
+    returns-11
+    returns-12
+    returns-13
+    returns-14
+    returns-15
+    returns-16
+    returns-17
+    returns-18)

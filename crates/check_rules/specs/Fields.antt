@@ -1,0 +1,64 @@
+-- The fields of a term as the part of the image that they occupy (document 01, "The image"): what a decoder reads there, and the rule of a term on what it reads. A part may hold more than its kind needs: fields are counted from its front, as the kind's row has them, and only a pointcut's labels are as many as the part holds.
+use Prim.Native.Nat.{ℕ, _+_, _*_, _<_}
+use mathlib.Core.List.{List}
+use lib.ListN.{length}
+use Rattle.image.specs.Bytes.{words}
+use Rattle.image.specs.Kinds as Kinds
+use Rattle.image.specs.Kinds.{Field, TermKind, termRow, bodyOf}
+use Rattle.image.specs.Records.{times, asChild, asOther, given}
+use Rattle.image.specs.TermFields.{giving}
+use Rattle.image.specs.Layout.{recordsOf}
+use Rattle.image.specs.Types.{termPlace, typeField, typeOf}
+use Rattle.verdict.specs.Settings.{Setting, contextOf, domainOf}
+use Rattle.verdict.specs.Rules.{Rule}
+use Rattle.verdict.specs.Check.{ruleBy, typeNos}
+use Rattle.check_records.specs.Heads.{fieldsAt, fieldIn}
+use Rattle.check_rules.specs.Lent.{IsTerm, IsType}
+
+-- The fields of term n.
+abbrev pub fieldsOf : List ℕ → ℕ → List ℕ
+fieldsOf b n = fieldsAt b (termPlace (recordsOf b) n)
+
+-- Of a term of kind k whose fields are fs: what each field is, and its number.
+abbrev pub classesIn : List ℕ → TermKind → List Field
+classesIn fs k = Kinds.fieldsOf (termRow k) (times (termRow k) (4 + length fs))
+
+abbrev pub numbersIn : List ℕ → TermKind → List ℕ
+numbersIn fs k = words fs 0 (length (classesIn fs k))
+
+-- Its fields that are neither type nor child, its children, how many there are, and the types that they state.
+abbrev pub othersIn : List ℕ → TermKind → List ℕ
+othersIn fs k = given asOther (classesIn fs k) (numbersIn fs k)
+
+abbrev pub childrenIn : List ℕ → TermKind → List ℕ
+childrenIn fs k = given asChild (classesIn fs k) (numbersIn fs k)
+
+abbrev pub countIn : List ℕ → TermKind → ℕ
+countIn fs k = giving asChild 0 (classesIn fs k)
+
+abbrev pub typesIn : List ℕ → List ℕ → TermKind → List ℕ
+typesIn b fs k = typeNos (recordsOf b) (childrenIn fs k)
+
+-- Its rule at p, and where its child i stands.
+abbrev pub ruleIn : List ℕ → List ℕ → TermKind → Setting ℕ → Rule
+ruleIn b fs k p = ruleBy (recordsOf b) (p .context) (p .dom) (fieldIn fs 0) (othersIn fs k) (typesIn b fs k) k
+
+abbrev pub settingFrom : List ℕ → List ℕ → TermKind → Setting ℕ → ℕ → Setting ℕ
+settingFrom b fs k p i =
+    record {
+      context = contextOf (λ a. typeField (recordsOf b) a 0) (λ a. typeField (recordsOf b) a 1) (bodyOf k i) (fieldIn fs 0) (othersIn fs k) (typesIn b fs k) (p .context);
+      dom = domainOf (bodyOf k i) (typeOf (recordsOf b) (fieldIn fs 0)) (othersIn fs k) (p .dom) i;
+    }
+
+-- A part that begins with a type; one in which a term stands at field k; the part of a pointcut, with a term behind its type and any label before it.
+pub record Typed (b fs : List ℕ) : Type 0 where
+  pub long : 1 < length fs
+  pub type : IsType b (fieldIn fs 0)
+
+pub record AtField (b fs : List ℕ) (k : ℕ) : Type 0 where
+  pub long : 2 * k + 1 < length fs
+  pub term : IsTerm b (fieldIn fs k)
+
+pub record Labels (b fs : List ℕ) : Type 0 where
+  pub long : 1 < length fs
+  pub each : (i : ℕ) → i < countIn fs TermKind.pcd → AtField b fs (1 + i)

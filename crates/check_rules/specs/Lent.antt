@@ -1,0 +1,50 @@
+-- What the functions of this crate are lent: the offsets of the domains and the terms, the descriptors of the types and the masks of the domains of an image that is laid out, each in a table of its own; and the context of variables, in the first places of a scope (document 01, "The image": "variable k (0 the innermost)"; "Typing": "outer variables stay visible").
+use Prim.Native.Nat.{ℕ, zero, suc, _≤_, _<_}
+use mathlib.Core.Path.{_≡_}
+use mathlib.Core.List.{List, [], _∷_}
+use lib.ListN.{length, getD, take}
+use Rattle.calculus.specs.Syntax.{Dom}
+use Rattle.image.specs.Limits.{domainLimit}
+use Rattle.image.specs.Layout.{laid, layout, recordsOf}
+use Rattle.image.specs.Types.{typePlace}
+use Rattle.verdict.specs.Domains.{masks}
+use Rattle.verdict.specs.Settings.{Setting}
+use Rattle.check_records.specs.Descriptors.{Describes}
+
+pub record Domains (b table : List ℕ) : Type 0 where
+  pub laid-out : layout b ≡ laid (recordsOf b)
+  pub offsets : take (length (recordsOf b .domains)) table ≡ recordsOf b .domains
+
+pub record Terms (b table : List ℕ) : Type 0 where
+  pub laid-out : layout b ≡ laid (recordsOf b)
+  pub offsets : take (length (recordsOf b .terms)) table ≡ recordsOf b .terms
+
+pub record Types (b table : List ℕ) : Type 0 where
+  pub laid-out : layout b ≡ laid (recordsOf b)
+  pub enough : length (recordsOf b .types) ≤ length table
+  pub descriptors : (t : ℕ) → t < length (recordsOf b .types) → Describes b (typePlace (recordsOf b) t) (getD table t 0)
+
+-- The mask of each domain, 0 where there is none.
+pub record Masks (b table : List ℕ) : Type 0 where
+  pub sixteen : length table ≡ domainLimit
+  pub each : (d : ℕ) → getD table d 0 ≡ getD (masks (recordsOf b)) d 0
+
+-- The tables of the terms and of the types.
+pub record Lent (b term-table descriptor-table : List ℕ) : Type 0 where
+  pub terms : Terms b term-table
+  pub types : Types b descriptor-table
+
+-- The number of one of the image's terms; of one of its types.
+abbrev pub IsTerm : List ℕ → ℕ → Type 0
+IsTerm b n = n < length (recordsOf b .terms)
+
+abbrev pub IsType : List ℕ → ℕ → Type 0
+IsType b t = t < length (recordsOf b .types)
+
+-- The types of the variables, innermost first: they stand in the first places of a scope, the innermost last.
+unfoldable pub contextIn : List ℕ → ℕ → List ℕ
+contextIn scope zero = []
+contextIn scope (suc n) = getD scope n 0 ∷ contextIn scope n
+
+abbrev pub settingIn : List ℕ → ℕ → Dom → Setting ℕ
+settingIn scope n c = record { context = contextIn scope n; dom = c }

@@ -1,0 +1,91 @@
+// The rules of constants and variables, which have no children (document 01, "Typing").
+use crate::judge::judge;
+use crate::kinds;
+use crate::terms::other_field;
+use crate::terms::own_descriptor;
+use crate::terms::own_type;
+use crate::terms::term_fields;
+use crate::terms::term_kind;
+use crate::terms::term_place;
+use crate::types::is_kind;
+use crate::types::same_type;
+use check_records::numbers::TermNo;
+use check_records::numbers::TypeNo;
+use verdict::Verdict;
+ghost use mathlib.Core.Path.{_≡_};
+ghost use Prim.Native.Nat.{ℕ, _≤_, _<_};
+ghost use lib.ListN.{length, getD};
+ghost use lib.Dec.{leb};
+ghost use Rattle.image.specs.Bytes.{numberAt};
+ghost use Rattle.image.specs.Kinds.{TermKind, termRow};
+ghost use Rattle.image.specs.Layout.{recordsOf};
+ghost use Rattle.image.specs.Types.{termPlace};
+ghost use Rattle.verdict.specs.Settings.{Setting};
+ghost use Rattle.check_rules.specs.Lent.{Terms, Types, Lent, IsTerm, settingIn};
+ghost use Rattle.check_rules.specs.Fields.{ruleIn, Typed};
+ghost use Rattle.check_rules.specs.Judged.{judged, ruleVerdict};
+
+// The type in a place of the scope.
+fn scope_type(scope: &[u8; 128], i: usize) -> TypeNo
+    requires { ⌜ i < 128 ⌝ }
+    ensures { λ r. ⌜ r .0 ≡ getD (now (scope .entry)) i 0 ⌝ }
+{
+    TypeNo(wide(scope[i]))
+}
+
+fn wide(x: u8) -> u16
+    ensures { λ r. ⌜ r ≡ x ⌝ }
+{
+    x as u16
+}
+
+// Variable k, 0 the innermost, is in the scope, and of the type that it has there.
+fn check_variable(image: &[u8], scope: &[u8; 128], len: usize, at: usize, fields: &[u8]) -> Verdict
+    requires { ⌜ Typed (now image) (now fields) × (3 < length (now fields)) × (len ≤ 128) ⌝ }
+    ensures { λ r. ⌜ ((c : ℕ) → r ≡ judged at (ruleIn (now (image .entry)) (now (fields .entry)) TermKind.var (settingIn (now (scope .entry)) len c))) ⌝ }
+{
+    let k = other_field(fields) as usize;
+    if len <= k {
+        return Verdict::Refused(image::Refusal::UnboundVariable, at);
+    }
+    let a = scope_type(scope, len - 1 - k);
+    judge(at, same_type(a, own_type(fields)), true)
+}
+
+// A unit, truth or number, whose kind's number is 16 more than its type's.
+fn check_constant(image: &[u8], descriptors: &[u32], kind: u16, at: usize, fields: &[u8]) -> Verdict
+    requires { ⌜ Types (now image) (now descriptors) × Typed (now image) (now fields) × (16 ≤ kind) × (kind < 35) ⌝ }
+    ensures { λ r. ⌜ ((k : TermKind) → kind ≡ termRow k .number → (p : Setting ℕ) → r ≡ judged at (ruleIn (now (image .entry)) (now (fields .entry)) k p)) ⌝ }
+{
+    let own = own_descriptor(descriptors, fields);
+    judge(at, is_kind(own, kind - 16), true)
+}
+
+// Whether a term is a constant or a variable: the kinds up to 35.
+pub fn is_leaf(image: &[u8], terms: &[u16], n: TermNo) -> bool
+    requires { ⌜ Terms (now image) (now terms) × IsTerm (now image) (n .0) ⌝ }
+    ensures { λ r. ⌜ r ≡ leb (numberAt (now (image .entry)) (termPlace (recordsOf (now (image .entry))) (n .0))) 35 ⌝ }
+{
+    term_kind(image, terms, n) <= kinds::VARIABLE
+}
+
+// 13 and 14 at a constant or a variable.
+pub fn check_leaf(
+    image: &[u8],
+    terms: &[u16],
+    descriptors: &[u32],
+    n: TermNo,
+    scope: &[u8; 128],
+    len: usize,
+) -> Verdict
+    requires { ⌜ Lent (now image) (now terms) (now descriptors) × IsTerm (now image) (n .0) × (numberAt (now image) (termPlace (recordsOf (now image)) (n .0)) ≤ 35) × (len ≤ 128) ⌝ }
+    ensures { λ r. ⌜ ((c : ℕ) → r ≡ ruleVerdict (recordsOf (now (image .entry))) (settingIn (now (scope .entry)) len c) (n .0)) ⌝ }
+{
+    let at = term_place(image, terms, n);
+    let kind = term_kind(image, terms, n);
+    let fields = term_fields(image, terms, n);
+    if kind == kinds::VARIABLE {
+        return check_variable(image, scope, len, at, fields);
+    }
+    check_constant(image, descriptors, kind, at, fields)
+}

@@ -1,0 +1,78 @@
+-- The loop keeps what is required of the terms from i on.
+use borrow.Author.Tests.{le-leb, lt-leb}
+use Prim.Native.Nat.{_-_, _≤_}
+use native.Mathlib.Omega.{arith}
+use mathlib.Core.Path.{_≡_, ap, sym, _∙_}
+use lib.ListN.{getD}
+use denote.Ref.{now}
+use Rattle.image.specs.declared.Refusal.{Refusal}
+use Rattle.verdict.specs.declared.Verdict.{Verdict}
+use Rattle.check_shape.specs.Marks.{deepFrom}
+use Rattle.check_shape.proofs.Answers.{from-start, from-hold, from-end, from-next, from-here}
+use borrow.Author.Needs.{needs}
+use Rattle.check_shape.proofs.depths.first_deep.Statement.{statement}
+use Rattle.check_shape.proofs.depths.first_deep.Tie as tie
+
+abbrev Inv-loop : tie.InvT-loop
+Inv-loop depths terms end i₀ i = (i ≤ end .0) × (deepFrom terms depths (end .0) 0 ≡ deepFrom terms depths (end .0 - i) i)
+
+abbrev μ-loop : tie.MeasureT-loop
+μ-loop depths terms end i₀ i = end .0 - i
+
+none-deep-requires : tie.Need-none-deep-requires Inv-loop μ-loop
+none-deep-requires c κs = search needs
+
+returns : tie.Need-returns Inv-loop μ-loop
+returns c = sym (from-hold _ _ _ _ (sym (c .before .none-deep .ensures) ∙ c .if1 .taken))
+
+loop-holds : tie.Need-loop-holds Inv-loop μ-loop
+loop-holds c = (search needs, from-start _ _ _ _)
+
+mark-of-requires : tie.Need-mark-of-requires Inv-loop μ-loop
+mark-of-requires c κs = search needs
+
+term-offset-requires : tie.Need-term-offset-requires Inv-loop μ-loop
+term-offset-requires c κs = search needs
+
+returns-2 : tie.Need-returns-2 Inv-loop μ-loop
+returns-2 c =
+    let l = c .before .before .before .before .before .loop in
+    let d = getD (now (c .before .before .before .before .before .before .before .before .before .before .args .depths)) (l .i) 0 in
+    let z = c .before .before .mark-of .ensures in
+    let deep = lt-leb d 64 (omega (arith, c .before .if3 .taken)) in
+    sym (l .inv .1 ∙ from-here _ _ _ _ (l .i) (omega arith) deep ∙ ap (λ o. Verdict.Refused Refusal.TooDeep o) (sym (c .term-offset .ensures)))
+
+add-i : tie.Need-add-i Inv-loop μ-loop
+add-i c = search needs
+
+loop-less : tie.Need-loop-less Inv-loop μ-loop
+loop-less c = search needs
+
+loop-again : tie.Need-loop-again Inv-loop μ-loop
+loop-again c =
+    let l = c .before .before .before .before .loop in
+    let d = getD (now (c .before .before .before .before .before .before .before .before .before .args .depths)) (l .i) 0 in
+    let z = c .before .mark-of .ensures in
+    (search needs, l .inv .1 ∙ from-next _ _ _ _ (l .i) (omega arith) (le-leb d 64 (omega (arith, c .if3 .left))))
+
+returns-3 : tie.Need-returns-3 Inv-loop μ-loop
+returns-3 c =
+    let l = c .before .before .loop in
+    sym (l .inv .1 ∙ from-end _ _ _ _ (l .i) (omega arith))
+
+pub first-deep-spec : {M : Type 1} → statement M
+first-deep-spec =
+    tie.close
+    (tie.spec
+    Inv-loop
+    μ-loop
+    none-deep-requires
+    returns
+    loop-holds
+    mark-of-requires
+    term-offset-requires
+    returns-2
+    add-i
+    loop-less
+    loop-again
+    returns-3)

@@ -1,0 +1,59 @@
+-- So far each test holds, or one does not.
+use Prim.Native.Nat.{_-_, _≤_}
+use mathlib.Core.Path.{_≡_, refl}
+use lib.ListN.{getD}
+use denote.Ref.{now}
+use Rattle.laws.specs.Tests.{allBelow}
+use Rattle.check_shape.proofs.Answers.{below-more}
+use lib.Dec.{leb}
+use Rattle.image.specs.Limits.{depthLimit}
+use borrow.Author.Needs.{needs}
+use Rattle.check_shape.proofs.depths.none_deep.Statement.{statement}
+use Rattle.check_shape.proofs.depths.none_deep.Tie as tie
+
+abbrev Inv-loop : tie.InvT-loop
+Inv-loop depths end ok₀ i₀ ok i = (i ≤ end .0) × (ok ≡ allBelow i (λ k. leb (getD depths k 0) depthLimit))
+
+abbrev μ-loop : tie.MeasureT-loop
+μ-loop depths end ok₀ i₀ ok i = end .0 - i
+
+loop-holds : tie.Need-loop-holds Inv-loop μ-loop
+unfolding allBelow
+loop-holds c = (search needs, refl)
+
+mark-of-requires : tie.Need-mark-of-requires Inv-loop μ-loop
+mark-of-requires c κs = search needs
+
+both-requires : tie.Need-both-requires Inv-loop μ-loop
+both-requires c κs = search needs
+
+add-i : tie.Need-add-i Inv-loop μ-loop
+add-i c = search needs
+
+loop-less : tie.Need-loop-less Inv-loop μ-loop
+loop-less c = search needs
+
+loop-again : tie.Need-loop-again Inv-loop μ-loop
+loop-again c =
+    let l = c .before .before .before .before .loop in
+    (search needs, below-more (l .i) _ (l .ok) _ (l .inv .1) (rw (c .before .mark-of .ensures) at (c .both .ensures)))
+
+returns : tie.Need-returns Inv-loop μ-loop
+returns c =
+    let l = c .before .before .loop in
+    let e : l .i ≡ c .before .before .before .before .args .end .0 = search needs in
+    rw e at (l .inv .1)
+
+pub none-deep-spec : {M : Type 1} → statement M
+none-deep-spec =
+    tie.close
+    (tie.spec
+    Inv-loop
+    μ-loop
+    loop-holds
+    mark-of-requires
+    both-requires
+    add-i
+    loop-less
+    loop-again
+    returns)

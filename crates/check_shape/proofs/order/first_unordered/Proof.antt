@@ -1,0 +1,68 @@
+-- The loop keeps what is required of the domains from d on.
+use Prim.Native.Nat.{_-_, _≤_}
+use native.Mathlib.Omega.{arith}
+use mathlib.Core.Bool.{not}
+use mathlib.Core.Path.{_≡_, ap, sym, _∙_}
+use lib.ListN.{length}
+use Rattle.image.specs.declared.Refusal.{Refusal}
+use Rattle.verdict.specs.declared.Verdict.{Verdict}
+use Rattle.check_shape.specs.Faults.{orderFrom}
+use Rattle.check_shape.proofs.Answers.{from-start, from-end, from-next, from-here}
+use borrow.Author.Needs.{needs}
+use Rattle.check_shape.proofs.order.first_unordered.Statement.{statement}
+use Rattle.check_shape.proofs.order.first_unordered.Tie as tie
+
+abbrev Inv-loop : tie.InvT-loop
+Inv-loop o doms d₀ d = (d ≤ length doms) × (orderFrom doms o (length doms) 0 ≡ orderFrom doms o (length doms - d) d)
+
+abbrev μ-loop : tie.MeasureT-loop
+μ-loop o doms d₀ d = length doms - d
+
+loop-holds : tie.Need-loop-holds Inv-loop μ-loop
+loop-holds c = (search needs, from-start _ _ _ _)
+
+cast-t7 : tie.Need-cast-t7 Inv-loop μ-loop
+cast-t7 c = search needs
+
+at-fault-requires : tie.Need-at-fault-requires Inv-loop μ-loop
+at-fault-requires c κs = search needs
+
+domain-offset-requires : tie.Need-domain-offset-requires Inv-loop μ-loop
+domain-offset-requires c κs = search needs
+
+returns : tie.Need-returns Inv-loop μ-loop
+returns c =
+    let l = c .before .before .before .before .loop in
+    sym (l .inv .1 ∙ from-here _ _ _ _ (l .d) (omega arith) (ap not (sym (c .before .before .at-fault .ensures) ∙ c .before .if1 .taken)) ∙ ap (λ o. Verdict.Refused Refusal.DomainOrder o) (sym (c .domain-offset .ensures)))
+
+add-d : tie.Need-add-d Inv-loop μ-loop
+add-d c = search needs
+
+loop-less : tie.Need-loop-less Inv-loop μ-loop
+loop-less c = search needs
+
+loop-again : tie.Need-loop-again Inv-loop μ-loop
+loop-again c =
+    let l = c .before .before .before .loop in
+    (search needs, l .inv .1 ∙ from-next _ _ _ _ (l .d) (omega arith) (ap not (sym (c .before .at-fault .ensures) ∙ c .if1 .left)))
+
+returns-2 : tie.Need-returns-2 Inv-loop μ-loop
+returns-2 c =
+    let l = c .before .loop in
+    sym (l .inv .1 ∙ from-end _ _ _ _ (l .d) (omega arith))
+
+pub first-unordered-spec : {M : Type 1} → statement M
+first-unordered-spec =
+    tie.close
+    (tie.spec
+    Inv-loop
+    μ-loop
+    loop-holds
+    cast-t7
+    at-fault-requires
+    domain-offset-requires
+    returns
+    add-d
+    loop-less
+    loop-again
+    returns-2)

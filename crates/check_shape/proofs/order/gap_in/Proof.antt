@@ -1,0 +1,64 @@
+-- The loop keeps: some f so far.
+use borrow.Author.Needs.{needs}
+use Prim.Native.Nat.{_-_, _≤_}
+use native.Mathlib.Omega.{arith}
+use mathlib.Core.Bool.{false, not, _&&_, _||_}
+use mathlib.Core.Path.{_≡_, ap, _∙_}
+use lib.ListN.{getD}
+use Rattle.laws.specs.Tests.{anyBelow}
+use Rattle.check_shape.proofs.Orders.{any-none, any-more}
+use Rattle.check_shape.proofs.order.gap_in.Statement.{statement}
+use Rattle.check_shape.proofs.order.gap_in.Tie as tie
+
+abbrev Inv-loop : tie.InvT-loop
+Inv-loop a b found₀ f₀ found f = (f ≤ 16) × (found ≡ anyBelow f (λ k. getD b k false && not (getD a k false)))
+
+abbrev μ-loop : tie.MeasureT-loop
+μ-loop a b found₀ f₀ found f = 16 - f
+
+loop-holds : tie.Need-loop-holds Inv-loop μ-loop
+loop-holds c = (search needs, any-none _)
+
+array-read-lacking : tie.Need-array-read-lacking Inv-loop μ-loop
+array-read-lacking c = search needs
+
+array-read-lacking-2 : tie.Need-array-read-lacking-2 Inv-loop μ-loop
+array-read-lacking-2 c = search needs
+
+lacking-requires : tie.Need-lacking-requires Inv-loop μ-loop
+lacking-requires c κs = search needs
+
+either-requires : tie.Need-either-requires Inv-loop μ-loop
+either-requires c κs = search needs
+
+add-f : tie.Need-add-f Inv-loop μ-loop
+add-f c = search needs
+
+loop-less : tie.Need-loop-less Inv-loop μ-loop
+loop-less c = search needs
+
+loop-again : tie.Need-loop-again Inv-loop μ-loop
+loop-again c =
+    let l = c .before .before .before .loop in
+    (search needs, c .either .ensures ∙ ap (l .found ||_) (c .before .lacking .ensures) ∙ any-more (l .f) _ (l .found) (l .inv .1))
+
+returns : tie.Need-returns Inv-loop μ-loop
+returns c =
+    let h : c .before .loop .f ≡ 16 = omega arith in
+    rw h at (c .before .loop .inv .1)
+
+pub gap-in-spec : {M : Type 1} → statement M
+gap-in-spec =
+    tie.close
+    (tie.spec
+    Inv-loop
+    μ-loop
+    loop-holds
+    array-read-lacking
+    array-read-lacking-2
+    lacking-requires
+    either-requires
+    add-f
+    loop-less
+    loop-again
+    returns)

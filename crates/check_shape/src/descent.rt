@@ -1,0 +1,88 @@
+// Refusals 11 and 12: the depth of each term is set in one pass, from the root down, which shows how often each is used, and both are judged in their order.
+use crate::depths::TOO_DEEP;
+use crate::marks::mark_of;
+use crate::marks::one_more;
+use crate::marks::set_mark;
+use check_records::numbers::TermNo;
+use check_records::numbers::term_offset;
+use image::Refusal;
+use verdict::Verdict;
+ghost use mathlib.Core.Path.{_≡_};
+ghost use Prim.Native.Nat.{_<_};
+ghost use lib.ListN.{length, replicate};
+ghost use Rattle.image.specs.Limits.{termLimit};
+ghost use Rattle.image.specs.Layout.{recordsOf};
+ghost use Rattle.verdict.specs.Shape.{setAll};
+ghost use Rattle.check_records.specs.Codes.{kindCodes};
+ghost use Rattle.check_records.specs.Heads.{childrenOf, Fitting};
+ghost use Rattle.check_shape.specs.Records.{Lower, Terms};
+ghost use Rattle.check_shape.specs.Marks.{lowAll, lowFrom, cappedFrom};
+ghost use Rattle.check_shape.specs.Checks.{termsRight};
+
+// The number of no term.
+const TERM_LIMIT: u16 = 1024;
+
+// The depth d for each child in a term's fields, and the lowest term used again.
+fn mark_children(fields: &[u8], code: u32, d: u8, low: TermNo, depths: &mut [u8]) -> TermNo
+    requires { ⌜ Fitting code (now fields) × Lower (length (now depths)) (childrenOf code (now fields)) ⌝ }
+    ensures { λ r. ⌜ (r .0 ≡ lowAll (childrenOf code (now (fields .entry))) d (low .0) (now (depths .entry))) × (now (depths .exit) ≡ setAll (childrenOf code (now (fields .entry))) d (now (depths .entry))) ⌝ }
+{
+    let first = check_records::kinds::field_count(code);
+    let count = check_records::kinds::child_count(code, fields.len());
+    let mut next = low;
+    let mut j: usize = 0;
+    while j < count {
+        let e = check_records::fields::term_field(fields, first + j);
+        next = crate::uses::lowest(next, mark_of(depths, e), e);
+        set_mark(depths, e, d);
+        j += 1;
+    }
+    next
+}
+
+// The depth of each term, and the lowest term used again, the number of no term if there is none.
+fn mark_terms(image: &[u8], kinds: &[u32], terms: &[u16], depths: &mut [u8]) -> TermNo
+    requires { ⌜ (now kinds ≡ kindCodes) × Terms (now image) (now terms) × (length (now depths) ≡ length (now terms)) ⌝ }
+    ensures { λ r. ⌜ (r .0 ≡ lowFrom (recordsOf (now (image .entry))) (length (now (terms .entry))) termLimit (now (depths .entry))) × (now (depths .exit) ≡ cappedFrom (recordsOf (now (image .entry))) (length (now (terms .entry))) (now (depths .entry))) ⌝ }
+{
+    let mut low = TermNo(TERM_LIMIT);
+    let mut i: usize = terms.len();
+    while 0 < i {
+        i -= 1;
+        let n = TermNo(i as u16);
+        let d = one_more(TOO_DEEP, mark_of(depths, n));
+        let at = term_offset(terms, n);
+        let code = check_records::kinds::known_code(
+            kinds,
+            check_records::words::kind_at(image, at),
+        );
+        let fields = check_records::reader::fields_at(image, at);
+        low = mark_children(fields, code, d, low, depths);
+    }
+    low
+}
+
+// Refusals 11 and 12, with a lent array of zeros.
+fn check_terms_in(image: &[u8], kinds: &[u32], terms: &[u16], depths: &mut [u8]) -> Verdict
+    requires { ⌜ (now kinds ≡ kindCodes) × Terms (now image) (now terms) × (0 < length (now terms)) × (now depths ≡ replicate termLimit 0) ⌝ }
+    ensures { λ r. ⌜ r ≡ termsRight (recordsOf (now (image .entry))) ⌝ }
+{
+    let n = terms.len();
+    let root = TermNo((n - 1) as u16);
+    set_mark(depths, root, 1);
+    let low = mark_terms(image, kinds, terms, &mut depths[..n]);
+    let first = crate::uses::first_misused(depths, low, root);
+    if first.0 < root.0 {
+        return Verdict::Refused(Refusal::UseCount, term_offset(terms, first));
+    }
+    crate::depths::first_deep(depths, terms, TermNo(n as u16))
+}
+
+// Refusals 11 and 12.
+pub fn check_terms(image: &[u8], kinds: &[u32], terms: &[u16]) -> Verdict
+    requires { ⌜ (now kinds ≡ kindCodes) × Terms (now image) (now terms) × (0 < length (now terms)) ⌝ }
+    ensures { λ r. ⌜ r ≡ termsRight (recordsOf (now (image .entry))) ⌝ }
+{
+    let mut depths = [0u8; 1024];
+    check_terms_in(image, kinds, terms, &mut depths)
+}

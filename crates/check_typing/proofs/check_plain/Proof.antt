@@ -1,0 +1,53 @@
+-- `check_typing::check_plain` meets its contract.
+use borrow.Author.Needs.{needs}
+use denote.Ref.{now}
+use native.Mathlib.Omega.{arith}
+use Prim.Native.Nat.{_-_}
+use mathlib.Core.Path.{_≡_, ap, _∙_}
+use Rattle.image.specs.Layout.{recordsOf}
+use Rattle.image.specs.Types.{rootOf}
+use Rattle.check_rules.proofs.Located.{good-of}
+use Rattle.check_typing.proofs.Root.{root-plain}
+use Rattle.check_typing.proofs.check_plain.Statement.{statement}
+use Rattle.check_typing.proofs.check_plain.Tie as tie
+
+sub-t8 : tie.Need-sub-t8
+sub-t8 c = search needs
+
+cast-t9 : tie.Need-cast-t9
+cast-t9 c =
+    let s = c .before .before .before in
+    let f = good-of (now (s .args .image)) (s .pre .0 .laid-out) .few-terms in
+    let e = s .pre .3 in
+    record { fits = omega arith }
+
+stated-type-requires : tie.Need-stated-type-requires
+stated-type-requires c κs = search needs
+
+type-leaves-requires : tie.Need-type-leaves-requires
+type-leaves-requires c κs = search needs
+
+term-place-requires : tie.Need-term-place-requires
+term-place-requires c κs = search needs
+
+plain-at-requires : tie.Need-plain-at-requires
+plain-at-requires c κs = search needs
+
+returns : tie.Need-returns
+returns c =
+    let s = c .before .before .before .before .before .before .before in
+    let L = recordsOf (now (s .args .image)) in
+    let r : s .args .count - 1 ≡ rootOf L = ap (λ m. m - 1) (s .pre .3) in
+    c .plain-at .ensures ∙ rw (c .before .before .type-leaves .ensures, c .before .before .before .stated-type .ensures .0, c .before .term-place .ensures .0, r) (root-plain L)
+
+pub check-plain-spec : {M : Type 1} → statement M
+check-plain-spec =
+    tie.close
+    (tie.spec
+    sub-t8
+    cast-t9
+    stated-type-requires
+    type-leaves-requires
+    term-place-requires
+    plain-at-requires
+    returns)

@@ -1,0 +1,42 @@
+-- `check_typing::check_root` meets its contract.
+use borrow.Author.Needs.{needs}
+use Rattle.check_typing.proofs.check_root.Statement.{statement}
+use Rattle.check_typing.proofs.check_root.Tie as tie
+use native.Mathlib.Omega.{arith}
+use mathlib.Core.Path.{refl, ap, _∙_}
+use Prim.Native.Nat.{_-_}
+use denote.Ref.{now}
+use Rattle.image.specs.Layout.{recordsOf}
+use Rattle.verdict.specs.Check.{checked}
+use Rattle.check_rules.specs.Lent.{settingIn}
+use Rattle.check_rules.proofs.Located.{good-of}
+use Rattle.check_typing.proofs.Root.{root-checked}
+use Rattle.check_typing.proofs.ScopeRoom.{root-room}
+
+sub-t8 : tie.Need-sub-t8
+sub-t8 c = search needs
+
+cast-t9 : tie.Need-cast-t9
+cast-t9 c =
+    let s = c .before .before .before in
+    let f = good-of (now (s .args .image)) (s .pre .0 .terms .laid-out) .few-terms in
+    let e = s .pre .1 in
+    record { fits = omega arith }
+
+check-term-requires : tie.Need-check-term-requires
+check-term-requires c κs =
+    let s = c .before .before .before .before in
+    let e = s .pre .1 in
+    let z = s .pre .2 in
+    (s .pre .0, omega arith, s .pre .3, root-room (s .pre .0 .terms) _ (s .args .count) (s .pre .4) e refl)
+
+returns : tie.Need-returns
+returns c =
+    let s = c .before .before .before .before .before in
+    let e = s .pre .1 in
+    let z = s .pre .2 in
+    let L = recordsOf (now (s .args .image)) in
+    c .check-term .ensures .0 ∙ ap (λ n. checked L (settingIn _ 0 0) (n - 1)) e ∙ root-checked L (omega arith) _
+
+pub check-root-spec : {M : Type 1} → statement M
+check-root-spec = tie.close (tie.spec sub-t8 cast-t9 check-term-requires returns)

@@ -1,0 +1,55 @@
+-- The recursion of the pass: its measure, and what check_term may say of the functions that it calls, itself among them.
+use Prim.Native.Nat.{ℕ, _<_}
+use borrow.Fn.Kinds.{In}
+use borrow.Fn.PlainCycle.{Measures, is, falls, and}
+use Rattle.check_typing.proofs.pass.check_term.Reads as check-term
+use Rattle.check_typing.proofs.pass.check_term.Kinds as check-term-kinds
+use Rattle.check_typing.proofs.pass.+check_term.Lts-check_term as lts
+use Rattle.check_rules.proofs.leaf.check_leaf.Reads as check-leaf-reads
+use Rattle.check_rules.proofs.leaf.is_leaf.Reads as is-leaf-reads
+use Rattle.check_rules.proofs.rule.check_rule.Reads as check-rule-reads
+use Rattle.check_rules.proofs.terms.child_at_field.Reads as child-at-field-reads
+use Rattle.check_rules.proofs.terms.child_count.Reads as child-count-reads
+use Rattle.check_rules.proofs.terms.lead_of.Reads as lead-of-reads
+use Rattle.check_rules.proofs.terms.term_fields.Reads as term-fields-reads
+use Rattle.check_rules.proofs.terms.term_kind.Reads as term-kind-reads
+use Rattle.check_typing.proofs.scope.child_setting.Reads as child-setting-reads
+use Rattle.verdict.proofs.is_refused.Reads as is-refused-reads
+
+-- The term number falls.
+abbrev pub μ-check-term : Measures 5 check-term-kinds.ps ℕ
+μ-check-term κs a = a .1 .1 .1 .0 .0
+
+abbrev pub check-term-at : ℕ → In 5 check-term-kinds.ps
+check-term-at t =
+    and 5 check-term-kinds.ps (is 5 check-term-kinds.ps μ-check-term t) check-term.Pre
+
+abbrev pub check-term-below : ℕ → In 5 check-term-kinds.ps
+check-term-below t =
+    and 5 check-term-kinds.ps (falls 5 check-term-kinds.ps _<_ μ-check-term t) check-term.Pre
+
+abbrev pub claims : ℕ → lts.Claims
+claims t = (
+  is-leaf-reads.Asked,
+  is-leaf-reads.Learnt,
+  check-leaf-reads.Asked,
+  check-leaf-reads.Learnt,
+  check-rule-reads.Asked,
+  check-rule-reads.Learnt,
+  is-refused-reads.Asked,
+  is-refused-reads.Learnt,
+  term-kind-reads.Asked,
+  term-kind-reads.Learnt,
+  term-fields-reads.Asked,
+  term-fields-reads.Learnt,
+  child-count-reads.Asked,
+  child-count-reads.Learnt,
+  lead-of-reads.Asked,
+  lead-of-reads.Learnt,
+  child-at-field-reads.Asked,
+  child-at-field-reads.Learnt,
+  child-setting-reads.Asked,
+  child-setting-reads.Learnt,
+  check-term-below t,
+  check-term.Post,
+)

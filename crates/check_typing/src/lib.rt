@@ -1,0 +1,95 @@
+// An inner crate: refusals 13 to 16, the typing pass (document 01, "Typing" and "Turned back at the gate"). It is linear in
+// the image.
+use check_records::numbers::Counts;
+use check_records::numbers::DomainNo;
+use check_records::numbers::TermNo;
+use verdict::Verdict;
+ghost use mathlib.Core.Path.{_≡_};
+ghost use Prim.Native.Nat.{_<_};
+ghost use lib.ListN.{length};
+ghost use Rattle.image.specs.Layout.{recordsOf};
+ghost use Rattle.verdict.specs.Check.{typing};
+ghost use Rattle.verdict.specs.Shape.{Shaped};
+ghost use Rattle.check_records.specs.Tables.{Tables, Counted};
+ghost use Rattle.check_rules.specs.Lent.{Lent, Masks, Terms, Types};
+ghost use Rattle.check_typing.specs.Turns.{rootChecked, rootPlain, plainAt};
+
+pub mod leaves;
+pub mod pass;
+pub mod scope;
+
+// The root is the last term. It is checked with no variables, at domain 0. No term is deeper than 64 (refusal 12), and a level
+// binds two variables at most, so a scope of 128 places is enough.
+fn check_root(
+    image: &[u8],
+    terms: &[u16],
+    descriptors: &[u32],
+    count: usize,
+    masks: &[u16; 16],
+) -> Verdict
+    requires { ⌜ Lent (now image) (now terms) (now descriptors) × (count ≡ length (recordsOf (now image) .terms)) × (0 < count) × Masks (now image) (now masks) × Shaped (recordsOf (now image)) ⌝ }
+    ensures { λ r. ⌜ r ≡ rootChecked (recordsOf (now (image .entry))) ⌝ }
+{
+    let mut scope = [0u8; 128];
+    let root = TermNo((count - 1) as u16);
+    pass::check_term(
+        image,
+        terms,
+        descriptors,
+        root,
+        DomainNo(0),
+        masks,
+        &mut scope,
+        0,
+    )
+}
+
+// 16 for a term at an offset, from the leaves of its type.
+fn plain_at(leaves: u8, at: usize) -> Verdict
+    ensures { λ r. ⌜ r ≡ plainAt leaves at ⌝ }
+{
+    if 0 < leaves {
+        return Verdict::Accepted;
+    }
+    Verdict::Refused(image::Refusal::RootNotPlain, at)
+}
+
+fn check_plain(
+    image: &[u8],
+    terms: &[u16],
+    descriptors: &[u32],
+    types: usize,
+    count: usize,
+) -> Verdict
+    requires { ⌜ Terms (now image) (now terms) × Types (now image) (now descriptors) × (types ≡ length (recordsOf (now image) .types)) × (count ≡ length (recordsOf (now image) .terms)) × (0 < count) ⌝ }
+    ensures { λ r. ⌜ r ≡ rootPlain (recordsOf (now (image .entry))) ⌝ }
+{
+    let root = TermNo((count - 1) as u16);
+    let n = leaves::type_leaves(
+        image,
+        descriptors,
+        types,
+        check_rules::terms::stated_type(image, terms, root),
+    );
+    plain_at(n, check_rules::terms::term_place(image, terms, root))
+}
+
+// Refusals 13 to 16 of an image that has passed 9 to 12, with so many domains, types and terms, and the tables that hold them.
+pub fn check_typing(
+    image: &[u8],
+    counts: Counts,
+    doms: &[u16],
+    terms: &[u16],
+    descriptors: &[u32],
+) -> Verdict
+    requires { ⌜ Tables (now image) (now doms) (now terms) (now descriptors) × Counted (now image) counts × Shaped (recordsOf (now image)) ⌝ }
+    ensures { λ r. ⌜ r ≡ typing (recordsOf (now (image .entry))) ⌝ }
+{
+    let mut masks = [0u16; 16];
+    check_rules::domains::set_masks(image, doms, counts.domains, &mut masks);
+    let v = check_root(image, terms, descriptors, counts.terms, &masks);
+    if verdict::is_refused(v) {
+        return v;
+    }
+    check_plain(image, terms, descriptors, counts.types, counts.terms)
+}

@@ -1,0 +1,63 @@
+// 13, 14 and 15 at each term, parent before children, left first (document 01, "Turned back at the gate"). The check recurses
+// over a term's children, and the term number falls.
+use crate::scope::Setting;
+use crate::scope::child_setting;
+use check_records::numbers::DomainNo;
+use check_records::numbers::TermNo;
+use check_rules::leaf::check_leaf;
+use check_rules::leaf::is_leaf;
+use check_rules::rule::check_rule;
+use check_rules::terms::child_at_field;
+use check_rules::terms::child_count;
+use check_rules::terms::lead_of;
+use check_rules::terms::term_fields;
+use check_rules::terms::term_kind;
+use verdict::Verdict;
+use verdict::is_refused;
+ghost use mathlib.Core.Path.{_≡_};
+ghost use lib.ListN.{length, take};
+ghost use Rattle.image.specs.Layout.{recordsOf};
+ghost use Rattle.verdict.specs.Check.{checked};
+ghost use Rattle.check_rules.specs.Lent.{Lent, Masks, IsTerm, settingIn};
+ghost use Rattle.check_typing.specs.Turns.{Room};
+
+// A term and the terms below it: its rule, then its children, each where it stands. A constant or a variable has none. Each level
+// goes to a lower number, one deeper, and binds two variables at most: the depth bounds the places of the scope that are used.
+pub fn check_term(
+    image: &[u8],
+    terms: &[u16],
+    descriptors: &[u32],
+    n: TermNo,
+    c: DomainNo,
+    masks: &[u16; 16],
+    scope: &mut [u8; 128],
+    len: usize,
+) -> Verdict
+    requires { ⌜ Lent (now image) (now terms) (now descriptors) × IsTerm (now image) (n .0) × Masks (now image) (now masks) × Room (now image) (now scope) len (n .0) ⌝ }
+    ensures { λ r. ⌜ (r ≡ checked (recordsOf (now (image .entry))) (settingIn (now (scope .entry)) len (c .0)) (n .0)) × (take len (now (scope .exit)) ≡ take len (now (scope .entry))) × (length (now (scope .exit)) ≡ length (now (scope .entry))) ⌝ }
+{
+    if is_leaf(image, terms, n) {
+        return check_leaf(image, terms, descriptors, n, scope, len);
+    }
+    let v = check_rule(image, terms, descriptors, n, c, masks);
+    if is_refused(v) {
+        return v;
+    }
+    let kind = term_kind(image, terms, n);
+    let fields = term_fields(image, terms, n);
+    let k = child_count(kind, fields);
+    let lead = lead_of(kind);
+    let here = Setting { len: len, dom: c };
+    let mut j: usize = 0;
+    while j < k {
+        let e = child_at_field(fields, lead + j);
+        let p = child_setting(image, terms, descriptors, scope, here, kind, fields, j);
+        let dom = p.dom;
+        let r = check_term(image, terms, descriptors, e, dom, masks, scope, p.len);
+        if is_refused(r) {
+            return r;
+        }
+        j += 1;
+    }
+    Verdict::Accepted
+}

@@ -1,0 +1,145 @@
+// Where a child of a term stands: the types of the variables, in the first places of a lent scope, the innermost last; and
+// the current domain (document 01, "Typing").
+use check_records::numbers::DomainNo;
+use check_records::numbers::TypeNo;
+use check_rules::kinds;
+use check_rules::terms::descriptor_at_field;
+use check_rules::terms::other_field;
+use check_rules::terms::own_descriptor;
+use check_rules::types::first_domain;
+use check_rules::types::first_type;
+use check_rules::types::second_domain;
+use check_rules::types::second_type;
+ghost use mathlib.Core.Path.{_≡_};
+ghost use Prim.Native.Nat.{_<_};
+ghost use lib.ListN.{set};
+ghost use Rattle.image.specs.Kinds.{TermKind, termRow};
+ghost use Rattle.check_rules.specs.Lent.{Types, Lent};
+ghost use Rattle.check_rules.specs.Fields.{countIn};
+ghost use Rattle.check_typing.specs.Turns.{Passed, ChildAt};
+
+// How many places of the scope are used, and the current domain.
+pub struct Setting {
+    pub len: usize,
+    pub dom: DomainNo,
+}
+
+fn bind(scope: &mut [u8; 128], len: usize, t: TypeNo)
+    requires { ⌜ (len < 128) × (t .0 < 256) ⌝ }
+    ensures { λ _. ⌜ now (scope .exit) ≡ set (now (scope .entry)) len (t .0) ⌝ }
+{
+    scope[len] = t.0 as u8;
+}
+
+// The body of a function stands under its parameter, at its type's domain.
+fn function_setting(
+    image: &[u8],
+    descriptors: &[u32],
+    scope: &mut [u8; 128],
+    p: Setting,
+    fields: &[u8],
+) -> Setting
+    requires { ⌜ Types (now image) (now descriptors) × Passed (now image) (now fields) TermKind.fun (now scope) (p .len) (p .dom .0) ⌝ }
+    ensures { λ r. ⌜ ChildAt (now (image .entry)) (now (fields .entry)) TermKind.fun 0 (now (scope .entry)) (now (scope .exit)) (p .len) (p .dom .0) (r .len) (r .dom .0) ⌝ }
+{
+    let own = own_descriptor(descriptors, fields);
+    bind(scope, p.len, first_type(own));
+    let inner = second_domain(own);
+    Setting {
+        len: p.len + 1,
+        dom: inner,
+    }
+}
+
+// The body of a split stands under both parts of the pair.
+fn split_setting(
+    image: &[u8],
+    terms: &[u16],
+    descriptors: &[u32],
+    scope: &mut [u8; 128],
+    p: Setting,
+    fields: &[u8],
+) -> Setting
+    requires { ⌜ Lent (now image) (now terms) (now descriptors) × Passed (now image) (now fields) TermKind.split (now scope) (p .len) (p .dom .0) ⌝ }
+    ensures { λ r. ⌜ ChildAt (now (image .entry)) (now (fields .entry)) TermKind.split 1 (now (scope .entry)) (now (scope .exit)) (p .len) (p .dom .0) (r .len) (r .dom .0) ⌝ }
+{
+    let pair = descriptor_at_field(image, terms, descriptors, fields, 1);
+    let first = first_type(pair);
+    let second = second_type(pair);
+    bind(scope, p.len, first);
+    bind(scope, p.len + 1, second);
+    let c = p.dom;
+    Setting {
+        len: p.len + 2,
+        dom: c,
+    }
+}
+
+// The body of an advice stands under the value of its pointcut, at its type's domain.
+fn advice_setting(
+    image: &[u8],
+    terms: &[u16],
+    descriptors: &[u32],
+    scope: &mut [u8; 128],
+    p: Setting,
+    fields: &[u8],
+) -> Setting
+    requires { ⌜ Lent (now image) (now terms) (now descriptors) × Passed (now image) (now fields) TermKind.adv (now scope) (p .len) (p .dom .0) ⌝ }
+    ensures { λ r. ⌜ ChildAt (now (image .entry)) (now (fields .entry)) TermKind.adv 1 (now (scope .entry)) (now (scope .exit)) (p .len) (p .dom .0) (r .len) (r .dom .0) ⌝ }
+{
+    let own = own_descriptor(descriptors, fields);
+    let pointcut = descriptor_at_field(image, terms, descriptors, fields, 1);
+    bind(scope, p.len, first_type(pointcut));
+    let inner = first_domain(own);
+    Setting {
+        len: p.len + 1,
+        dom: inner,
+    }
+}
+
+// The body of a lower stands at the domain in its field.
+fn lower_setting(image: &[u8], scope: &[u8; 128], p: Setting, fields: &[u8]) -> Setting
+    requires { ⌜ Passed (now image) (now fields) TermKind.lower (now scope) (p .len) (p .dom .0) ⌝ }
+    ensures { λ r. ⌜ ChildAt (now (image .entry)) (now (fields .entry)) TermKind.lower 0 (now (scope .entry)) (now (scope .entry)) (p .len) (p .dom .0) (r .len) (r .dom .0) ⌝ }
+{
+    let lower = DomainNo(other_field(fields));
+    Setting {
+        len: p.len,
+        dom: lower,
+    }
+}
+
+// Child i of a term that stands at p and has passed its rule.
+pub fn child_setting(
+    image: &[u8],
+    terms: &[u16],
+    descriptors: &[u32],
+    scope: &mut [u8; 128],
+    p: Setting,
+    kind: u16,
+    fields: &[u8],
+    i: usize,
+) -> Setting
+    requires { ⌜ Lent (now image) (now terms) (now descriptors) × ((k : TermKind) → kind ≡ termRow k .number → Passed (now image) (now fields) k (now scope) (p .len) (p .dom .0) × (i < countIn (now fields) k)) ⌝ }
+    ensures { λ r. ⌜ ((k : TermKind) → kind ≡ termRow k .number → ChildAt (now (image .entry)) (now (fields .entry)) k i (now (scope .entry)) (now (scope .exit)) (p .len) (p .dom .0) (r .len) (r .dom .0)) ⌝ }
+{
+    match kind {
+        kinds::FUNCTION => function_setting(image, descriptors, scope, p, fields),
+        kinds::LOWER => lower_setting(image, scope, p, fields),
+        kinds::SPLIT => {
+            if i == 1 {
+                split_setting(image, terms, descriptors, scope, p, fields)
+            } else {
+                p
+            }
+        }
+        kinds::ADVICE => {
+            if i == 1 {
+                advice_setting(image, terms, descriptors, scope, p, fields)
+            } else {
+                p
+            }
+        }
+        _ => p,
+    }
+}

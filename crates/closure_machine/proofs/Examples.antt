@@ -1,0 +1,35 @@
+-- Runs of the closure machine on small terms, by computation: the order of a split's bindings, the domain under a lower, the limit of frames.
+use Prim.Native.Nat.{ℕ}
+use mathlib.Core.Path.{_≡_, refl}
+use mathlib.Core.List.{[], _∷_}
+use Rattle.calculus.specs.declared.Outcome.{Outcome}
+use Rattle.calculus.specs.Syntax.{Ty, Val, Tm, Op2, val, var, op1, op2, split, lower, print, minus}
+use Rattle.calculus.specs.State.{picked, logOf, fresh}
+use Rattle.calculus.specs.Answer.{if-room, with, spend}
+use Rattle.calculus.specs.Run.{EndedOf, done, stopped, after}
+use Rattle.calculus.proofs.Examples.{nest}
+use Rattle.closure_machine.specs.Closure.{CVal, Body, empty, plainVal, closed}
+use Rattle.closure_machine.specs.Machine.{eval}
+use Rattle.closure_machine.specs.Settle.{work, settle, mrun}
+
+abbrev ran : ℕ → Tm → EndedOf CVal Body
+ran n e = mrun n (record { frame = []; logLength = 100 }) 0 fresh (eval e empty) []
+
+-- split (x, y) = (5, 3) in x minus y
+first-bound-outside : ran 10 (split (op2 Op2.pair (Ty.pair Ty.number Ty.number) (val (Val.num 5)) (val (Val.num 3))) (op2 minus Ty.number (var 1) (var 0))) .end ≡ done (CVal.num 2)
+unfolding mrun after settle work closed plainVal if-room with spend
+first-bound-outside = refl
+
+-- 1<print 5>
+lowered-domain : logOf (ran 10 (lower 1 (op1 print Ty.unit (val (Val.num 5)))) .state .trace) ≡ record { dom = 1; shown = 5 } ∷ []
+unfolding mrun after settle work closed plainVal if-room with picked
+lowered-domain = refl
+
+-- Of 513 terms, one inside another, 512 enclose the innermost, and its step is made.
+frames-512 : ran 1 (nest 513) .end ≡ stopped Outcome.Spent
+unfolding mrun after settle work closed plainVal if-room with nest
+frames-512 = refl
+
+frames-513 : ran 1 (nest 514) .end ≡ stopped Outcome.Frames
+unfolding mrun after settle work closed plainVal if-room with nest
+frames-513 = refl

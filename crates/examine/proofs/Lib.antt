@@ -1,3 +1,0 @@
--- What a finished scan gives.
-pub mod Filling
-pub mod Passes

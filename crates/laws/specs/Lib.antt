@@ -1,0 +1,2 @@
+-- Tests that the definitions are made of.
+pub mod Tests

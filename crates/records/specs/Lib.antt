@@ -1,7 +1,0 @@
--- What the functions that read records are proved equal to: counts of records, codes of kinds, keys of types, what stands at an offset, and what the tables of an image hold.
-pub mod Counts
-pub mod Codes
-pub mod Keys
-pub mod Heads
-pub mod Tables
-pub mod Leaves

@@ -1,0 +1,98 @@
+-- What a typed term whose subterms are aborts says of their types: the calculus's rules read backwards.
+use Prim.Native.Nat.{ℕ, zero, suc}
+use mathlib.Core.Path.{_≡_, refl, subst}
+use mathlib.Core.Bool.{Bool, true}
+use mathlib.Core.List.{List, [], _∷_}
+use mathlib.Core.Option.{some}
+use lib.ListN.{getElem?}
+use Rattle.calculus.specs.Syntax.{Dom, Ty, Val, Tm, Op2, val, var, lam, op0, op1, op2, seq, ite, split, pcd, adv, lower, newLabel, abort, print, install, read, byte, newCell, app, mark, store}
+use Rattle.calculus.specs.Typing.{Policy, noStore, t-newLabel, t-print, t-install, t-read, t-byte, t-newCell, t-pair, t-app, t-mark, t-store, t-plus, t-minus, t-less, t-equal, LabelTys, TmTy, TmsTy, Rule2, v-unit, v-truth, v-num, is-val, is-var, is-lam, is-op0, is-op1, is-op2, is-seq, is-ite, is-split, is-pcd, is-adv, is-lower, is-end, is-more}
+use Rattle.image.specs.Program.{opOf}
+use Rattle.verdict.specs.WellTyped.{aborts}
+
+-- 0 plus and 1 minus give a number, 2 less and 3 equal truth.
+abbrev pub opTy : ℕ → Ty
+opTy zero = Ty.number
+opTy (suc zero) = Ty.number
+opTy (suc (suc n)) = Ty.truth
+
+module _ (D : Policy) (Γ : List Ty) (c : Dom) where
+  -- e has type u at Γ and c.
+  abbrev Has : Tm → Ty → Type 0
+  Has e u = TmTy D noStore Γ c e u
+
+  pub of-unit : {u : Ty} → Has (val Val.unit) u → u ≡ Ty.unit
+  of-unit (is-val v-unit) = refl
+
+  pub of-truth : {b : Bool} {u : Ty} → Has (val (Val.truth b)) u → u ≡ Ty.truth
+  of-truth (is-val v-truth) = refl
+
+  pub of-number : {n : ℕ} {u : Ty} → Has (val (Val.num n)) u → u ≡ Ty.number
+  of-number (is-val v-num) = refl
+
+  pub of-var : {k : ℕ} {u : Ty} → Has (var k) u → getElem? Γ k ≡ some u
+  of-var (is-var h) = h
+
+  pub of-seq : {a b u : Ty} → Has (seq (op0 abort a) (op0 abort b)) u → (a ≡ Ty.unit) × (b ≡ u)
+  of-seq (is-seq (is-op0 r) (is-op0 s)) = (refl, refl)
+
+  pub of-print : {t a u : Ty} → Has (op1 print t (op0 abort a)) u → (t ≡ Ty.unit) × (a ≡ Ty.number)
+  of-print (is-op1 t-print (is-op0 r)) = (refl, refl)
+
+  pub of-ite : {a b d u : Ty} → Has (ite (op0 abort a) (op0 abort b) (op0 abort d)) u → (a ≡ Ty.truth) × (b ≡ u) × (d ≡ u)
+  of-ite (is-ite (is-op0 r) (is-op0 s) (is-op0 q)) = (refl, refl, refl)
+
+  pub of-pair : {t a b u : Ty} → Has (op2 Op2.pair t (op0 abort a) (op0 abort b)) u → t ≡ Ty.pair a b
+  of-pair (is-op2 t-pair (is-op0 r) (is-op0 s)) = refl
+
+  pub of-split : {a b u : Ty} → Has (split (op0 abort a) (op0 abort b)) u → (x : Ty) × (y : Ty) × (a ≡ Ty.pair x y) × (b ≡ u)
+  of-split (is-split {a = x} {b = y} (is-op0 r) (is-op0 s)) = (x, y, refl, refl)
+
+  pub of-fun : {t b u : Ty} → Has (lam t (op0 abort b)) u → (x : Ty) × (p : Dom) × (t ≡ Ty.fun x p b)
+  of-fun (is-lam {p = p} {a = x} (is-op0 r)) = (x, p, refl)
+
+  pub of-app : {t a b u : Ty} → Has (op2 app t (op0 abort a) (op0 abort b)) u → a ≡ Ty.fun b c t
+  of-app (is-op2 t-app (is-op0 r) (is-op0 s)) = refl
+
+  op-types : (x : ℕ) {t a b : Ty} → Rule2 D c (opOf x) t a b → (t ≡ opTy x) × (a ≡ Ty.number) × (b ≡ Ty.number)
+  op-types zero t-plus = (refl, refl, refl)
+  op-types (suc zero) t-minus = (refl, refl, refl)
+  op-types (suc (suc zero)) t-less = (refl, refl, refl)
+  op-types (suc (suc (suc x))) t-equal = (refl, refl, refl)
+
+  pub of-arith : (x : ℕ) {t a b u : Ty} → Has (op2 (opOf x) t (op0 abort a) (op0 abort b)) u → (t ≡ opTy x) × (a ≡ Ty.number) × (b ≡ Ty.number)
+  of-arith x (is-op2 r (is-op0 s) (is-op0 q)) = op-types x r
+
+  pub of-newLabel : {t u : Ty} → Has (op0 newLabel t) u → (a : Ty) × (p : Dom) × (t ≡ Ty.label a p) × (D .leq p c ≡ true)
+  of-newLabel (is-op0 (t-newLabel {a = a} {p = p} h)) = (a, p, refl, h)
+
+  pub of-mark : {t a b u : Ty} → Has (op2 mark t (op0 abort a) (op0 abort b)) u → (t ≡ Ty.unit) × (a ≡ Ty.label b c)
+  of-mark (is-op2 t-mark (is-op0 r) (is-op0 s)) = (refl, refl)
+
+  abort-types : (ts us : List Ty) → TmsTy D noStore Γ c (aborts ts) us → us ≡ ts
+  abort-types [] us is-end = refl
+  abort-types (t ∷ ts) us (is-more {ts = vs} (is-op0 r) ds) = rw (abort-types ts vs ds) refl
+
+  pub of-pcd : (ts : List Ty) {u : Ty} → Has (pcd (aborts ts)) u → (a : Ty) × (p : Dom) × (u ≡ Ty.pcd a p) × LabelTys D a p ts
+  of-pcd ts (is-pcd {ts = us} {p = p} {a = a} ds ls) = (a, p, refl, subst (λ vs. LabelTys D a p vs) (abort-types ts us ds) ls)
+
+  pub of-adv : {p : Dom} {a b u : Ty} → Has (adv p (op0 abort a) (op0 abort b)) u → (x : Ty) × (q : Dom) × (u ≡ Ty.adv p) × (a ≡ Ty.pcd x q) × (b ≡ Ty.unit) × (D .leq p q ≡ true)
+  of-adv (is-adv {q = q} {a = x} (is-op0 r) h (is-op0 s)) = (x, q, refl, refl, refl, h)
+
+  pub of-install : {t a u : Ty} → Has (op1 install t (op0 abort a)) u → (p : Dom) × (t ≡ Ty.unit) × (a ≡ Ty.adv p) × (D .leq p c ≡ true)
+  of-install (is-op1 (t-install {p = p} h) (is-op0 r)) = (p, refl, refl, h)
+
+  pub of-newCell : {t a u : Ty} → Has (op1 newCell t (op0 abort a)) u → (p : Dom) × (t ≡ Ty.ref a p) × (D .leq p c ≡ true)
+  of-newCell (is-op1 (t-newCell {p = p} h) (is-op0 r)) = (p, refl, h)
+
+  pub of-read : {t a u : Ty} → Has (op1 read t (op0 abort a)) u → (p : Dom) × (a ≡ Ty.ref t p) × (D .leq c p ≡ true)
+  of-read (is-op1 (t-read {p = p} h) (is-op0 r)) = (p, refl, h)
+
+  pub of-store : {t a b u : Ty} → Has (op2 store t (op0 abort a) (op0 abort b)) u → (p : Dom) × (t ≡ Ty.unit) × (a ≡ Ty.ref b p) × (D .leq p c ≡ true)
+  of-store (is-op2 (t-store {p = p} h) (is-op0 r) (is-op0 s)) = (p, refl, refl, h)
+
+  pub of-lower : {p : Dom} {a u : Ty} → Has (lower p (op0 abort a)) u → (u ≡ Ty.unit) × (a ≡ Ty.unit) × (D .leq p c ≡ true)
+  of-lower (is-lower h (is-op0 r)) = (refl, refl, h)
+
+  pub of-byte : {t a u : Ty} → Has (op1 byte t (op0 abort a)) u → (t ≡ Ty.number) × (a ≡ Ty.number)
+  of-byte (is-op1 t-byte (is-op0 r)) = (refl, refl)

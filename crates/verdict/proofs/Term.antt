@@ -1,0 +1,91 @@
+-- A well-typed program is a well-typed term of the calculus.
+use Prim.Native.Nat.{ℕ, zero, suc, _+_}
+use native.Mathlib.Omega.{arith}
+use mathlib.Core.Path.{_≡_, refl, sym, ap, subst}
+use mathlib.Core.Bool.{true}
+use mathlib.Core.List.{List, [], _∷_}
+use Rattle.calculus.specs.Syntax.{Dom, Ty, Val, Tm, Tms, val, op0, split, adv, abort}
+use Rattle.calculus.specs.Typing.{Policy, noStore, t-abort, v-unit, TmTy, TmsTy, is-val, is-lam, is-op0, is-op1, is-op2, is-seq, is-ite, is-split, is-pcd, is-adv, is-lower, is-more}
+use Rattle.calculus.specs.Plain.{domOf}
+use Rattle.image.specs.Kinds.{TermKind}
+use Rattle.image.specs.Program.{Program, Programs, node, blank, end, more, nth, assemble, toTm, toTms}
+use Rattle.laws.proofs.Booleans.{no-path}
+use Rattle.verdict.specs.Settings.{Setting}
+use Rattle.verdict.specs.WellTyped.{firstOf, stated, stateds, aborts, childSetting, WellTyped, EachWellTyped}
+
+module _ (D : Policy) where
+  abort-type : {Γ : List Ty} {c : Dom} {s t : Ty} → TmTy D noStore Γ c (op0 abort s) t → s ≡ t
+  abort-type (is-op0 r) = refl
+
+  -- Wherever the aborts as are typed, the subterms es are, each where it stands.
+  record Stand (at : ℕ → Setting Ty) (as′ es : Tms) : Type 0 where
+    one : (j : ℕ) {t : Ty} → TmTy D noStore (at j .context) (at j .dom) (nth as′ j) t → TmTy D noStore (at j .context) (at j .dom) (nth es j) t
+    every : (p : Setting Ty) → ((j : ℕ) → at j ≡ p) → {ts : List Ty} → TmsTy D noStore (p .context) (p .dom) as′ ts → TmsTy D noStore (p .context) (p .dom) es ts
+
+  unit-type : {Γ : List Ty} {c : Dom} {t : Ty} → TmTy D noStore Γ c (val Val.unit) t → t ≡ Ty.unit
+  unit-type (is-val v-unit) = refl
+
+  advice-parts : {Γ : List Ty} {c p : Dom} {s t : Ty} {b : Tm} → TmTy D noStore Γ c (adv p (op0 abort s) b) t
+      → (q : Dom) × (t ≡ Ty.adv p) × (s ≡ Ty.pcd (firstOf s) q) × (D .leq p q ≡ true) × TmTy D noStore (firstOf s ∷ Γ) p b Ty.unit
+  advice-parts (is-adv {q = q} (is-op0 r) h d) = (q, refl, refl, h, d)
+
+  -- Without a first subterm there is no pair and no pointcut.
+  no-split : {Γ : List Ty} {c : Dom} {t : Ty} {e : Tm} {A : Type 0} → TmTy D noStore Γ c (split (val Val.unit) e) t → A
+  no-split (is-split {a = a} {b = b} d e) = let z : Ty.pair a b ≡ Ty.unit = unit-type d in no-path cc
+
+  no-advice : {Γ : List Ty} {c p : Dom} {t : Ty} {e : Tm} {A : Type 0} → TmTy D noStore Γ c (adv p (val Val.unit) e) t → A
+  no-advice (is-adv {q = q} {a = a} d h e) = let z : Ty.pcd a q ≡ Ty.unit = unit-type d in no-path cc
+
+  rebuilt : (p : Setting Ty) (k : TermKind) (t : Ty) (vs : List ℕ) (ts : List Ty) (es : Tms) → Stand (childSetting p k t vs ts) (aborts ts) es
+      → TmTy D noStore (p .context) (p .dom) (assemble k t vs (aborts ts)) t → TmTy D noStore (p .context) (p .dom) (assemble k t vs es) t
+  unfolding assemble
+  rebuilt p TermKind.unit t vs ts es h d = d
+  rebuilt p TermKind.truth t vs ts es h d = d
+  rebuilt p TermKind.number t vs ts es h d = d
+  rebuilt p TermKind.var t vs ts es h d = d
+  rebuilt p TermKind.seq t vs ts es h (is-seq d e) = is-seq (h .one 0 d) (h .one 1 e)
+  rebuilt p TermKind.print t vs ts es h (is-op1 r d) = is-op1 r (h .one 0 d)
+  rebuilt p TermKind.ite t vs ts es h (is-ite d e f) = is-ite (h .one 0 d) (h .one 1 e) (h .one 2 f)
+  rebuilt p TermKind.pair t vs ts es h (is-op2 r d e) = is-op2 r (h .one 0 d) (h .one 1 e)
+  rebuilt p TermKind.split t vs [] es h d = no-split d
+  rebuilt p TermKind.split t vs (s ∷ ts) es h (is-split (is-op0 r) e) = is-split (h .one 0 (is-op0 r)) (h .one 1 e)
+  rebuilt p TermKind.fun t vs ts es h (is-lam d) = is-lam (h .one 0 d)
+  rebuilt p TermKind.app t vs ts es h (is-op2 r d e) = is-op2 r (h .one 0 d) (h .one 1 e)
+  rebuilt p TermKind.arith t vs ts es h (is-op2 r d e) = is-op2 r (h .one 0 d) (h .one 1 e)
+  rebuilt p TermKind.newLabel t vs ts es h d = d
+  rebuilt p TermKind.mark t vs ts es h (is-op2 r d e) = is-op2 r (h .one 0 d) (h .one 1 e)
+  rebuilt p TermKind.pcd t vs ts es h (is-pcd ds ls) = is-pcd (h .every p (λ j. refl) ds) ls
+  rebuilt p TermKind.adv t vs [] es h d = no-advice d
+  rebuilt p TermKind.adv t vs (s ∷ ts) es h d =
+      let a = advice-parts d in
+      let first : TmTy D noStore (p .context) (p .dom) (op0 abort s) (Ty.pcd (firstOf s) (a .0)) = subst (λ u. TmTy D noStore (p .context) (p .dom) (op0 abort s) u) (a .2) (is-op0 t-abort) in
+      subst (λ u. TmTy D noStore (p .context) (p .dom) (adv (domOf t) (nth es 0) (nth es 1)) u) (sym (a .1)) (is-adv (h .one 0 first) (a .3) (h .one 1 (a .4)))
+  rebuilt p TermKind.install t vs ts es h (is-op1 r d) = is-op1 r (h .one 0 d)
+  rebuilt p TermKind.newCell t vs ts es h (is-op1 r d) = is-op1 r (h .one 0 d)
+  rebuilt p TermKind.read t vs ts es h (is-op1 r d) = is-op1 r (h .one 0 d)
+  rebuilt p TermKind.store t vs ts es h (is-op2 r d e) = is-op2 r (h .one 0 d) (h .one 1 e)
+  rebuilt p TermKind.lower t vs ts es h (is-lower r d) = is-lower r (h .one 0 d)
+  rebuilt p TermKind.abort t vs ts es h d = d
+  rebuilt p TermKind.byte t vs ts es h (is-op1 r d) = is-op1 r (h .one 0 d)
+
+  abort-at : (p q : Setting Ty) (e : Program) {t : Ty} → q ≡ p → TmTy D noStore (p .context) (p .dom) (toTm e) (stated e) → TmTy D noStore (q .context) (q .dom) (op0 abort (stated e)) t → TmTy D noStore (q .context) (q .dom) (toTm e) t
+  abort-at p q e h d a = subst (λ s. TmTy D noStore (q .context) (q .dom) (toTm e) s) (abort-type a) (subst (λ r. TmTy D noStore (r .context) (r .dom) (toTm e) (stated e)) (sym h) d)
+
+  mutual
+    unfolding toTm WellTyped
+
+    -- A well-typed program is well typed as a term, with the type that it states.
+    pub well-term : (p : Setting Ty) (e : Program) → WellTyped D p e → TmTy D noStore (p .context) (p .dom) (toTm e) (stated e)
+    well-term p (node k t vs es) w = rebuilt p k t vs (stateds es) (toTms es) (record { one = λ j d. child (childSetting p k t vs (stateds es)) 0 es (w .1) j j (omega arith) d; every = λ q h d. children (childSetting p k t vs (stateds es)) 0 es (w .1) q h d }) (w .0)
+    well-term p blank w = absurd w
+
+    child : (at : ℕ → Setting Ty) (i : ℕ) (es : Programs) → EachWellTyped D at i es → (j m : ℕ) → m ≡ i + j → {t : Ty}
+        → TmTy D noStore (at m .context) (at m .dom) (nth (aborts (stateds es)) j) t → TmTy D noStore (at m .context) (at m .dom) (nth (toTms es) j) t
+    child at i end w j m q d = d
+    child at i (more e es) w zero m q d = let r : m ≡ i = omega arith in abort-at (at i) (at m) e (ap at r) (well-term (at i) e (w .0)) d
+    child at i (more e es) w (suc j) m q d = child at (suc i) es (w .1) j m (omega arith) d
+
+    children : (at : ℕ → Setting Ty) (i : ℕ) (es : Programs) → EachWellTyped D at i es → (p : Setting Ty) → ((j : ℕ) → at j ≡ p) → {ts : List Ty}
+        → TmsTy D noStore (p .context) (p .dom) (aborts (stateds es)) ts → TmsTy D noStore (p .context) (p .dom) (toTms es) ts
+    children at i end w p h d = d
+    children at i (more e es) w p h (is-more d ds) = is-more (abort-at (at i) p e (sym (h i)) (well-term (at i) e (w .0)) d) (children at (suc i) es (w .1) p h ds)

@@ -1,0 +1,72 @@
+-- What acceptance asks (document 01, "The image", "Typing" and "Turned back at the gate"), said without an order, a place or a pass over the image: its records are laid out, its domains are partially ordered, its terms are a tree that is not too deep, its program is well typed by the calculus's rules, with a plain root, and the lent memory is long enough.
+use Prim.Native.Nat.{ℕ, suc, _≤_, _<_}
+use mathlib.Core.Path.{_≡_}
+use mathlib.Core.Bool.{true}
+use mathlib.Core.List.{List, []}
+use lib.ListN.{length, getD}
+use Rattle.calculus.specs.Syntax.{Dom, Ty}
+use Rattle.calculus.specs.Plain.{isPlain}
+use Rattle.image.specs.Limits.{imageLimit, depthLimit, workLength, reportLength}
+use Rattle.image.specs.Records.{Layout}
+use Rattle.image.specs.Types.{children, rootOf, rootType}
+use Rattle.image.specs.LaidOut.{LaidOut}
+use Rattle.image.specs.Program.{program}
+use Rattle.verdict.specs.Domains.{leq, policy}
+use Rattle.verdict.specs.Settings.{Setting}
+use Rattle.verdict.specs.WellTyped.{WellTyped}
+
+module _ (L : Layout) where
+  -- Masks name no absent domain, and are a partial order.
+  pub record PartialOrder : Type 0 where
+    pub there : (d e : Dom) → leq L d e ≡ true → (d < length (L .domains)) × (e < length (L .domains))
+    pub reflexive : (d : Dom) → d < length (L .domains) → leq L d d ≡ true
+    pub antisymmetric : (d e : Dom) → leq L d e ≡ true → leq L e d ≡ true → d ≡ e
+    pub transitive : (d e f : Dom) → leq L d e ≡ true → leq L e f ≡ true → leq L d f ≡ true
+
+  -- Term e is child i of term n.
+  pub record IsChild (n i e : ℕ) : Type 0 where
+    pub there : n < length (L .terms)
+    pub place : i < length (children L n)
+    pub is : getD (children L n) i 0 ≡ e
+
+  -- "Used exactly once": as one child of one term, and as no other.
+  pub record UsedOnce (e : ℕ) : Type 0 where
+    pub user : ℕ
+    pub place : ℕ
+    pub uses : IsChild user place e
+    pub only : (n i : ℕ) → IsChild n i e → (n ≡ user) × (i ≡ place)
+
+  -- Term e has depth d: "root 1", and a child one more than the term whose child it is. Where each term but the root is used once, each has one depth (the laws `depth-of` and `depth-is`).
+  pub data Depth : ℕ → ℕ → Type 0 where
+    at-root : Depth (rootOf L) 1
+    at-child : {n d i e : ℕ} → Depth n d → IsChild n i e → Depth e (suc d)
+
+-- Where a program stands: no variables, and the mainline's domain 0.
+abbrev pub mainline : Setting Ty
+mainline = record { context = []; dom = 0 }
+
+-- All that acceptance asks of an image, a work area and a report of so many bytes. No other records of the image are laid out (the law `acceptable-records`).
+pub record Acceptable (b : List ℕ) (work report : ℕ) : Type 0 where
+  -- 1
+  pub short : length b ≤ imageLimit
+  -- 2 to 8
+  pub records : Layout
+  pub image : records .image ≡ b
+  pub laid-out : LaidOut records
+  -- 9
+  pub has-domains : 0 < length (records .domains)
+  pub has-types : 0 < length (records .types)
+  pub has-terms : 0 < length (records .terms)
+  -- 10
+  pub ordered : PartialOrder records
+  -- 11
+  pub used : (n : ℕ) → n < rootOf records → UsedOnce records n
+  -- 12
+  pub shallow : (n d : ℕ) → Depth records n d → d ≤ depthLimit
+  -- 13 to 15
+  pub well-typed : WellTyped (policy records) mainline (program records)
+  -- 16
+  pub plain : isPlain (rootType records) ≡ true
+  -- 17 and 18
+  pub work-enough : workLength ≤ work
+  pub report-enough : reportLength ≤ report

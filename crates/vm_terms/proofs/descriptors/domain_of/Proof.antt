@@ -1,0 +1,49 @@
+-- The three cases of a descriptor's domain.
+use borrow.Author.Needs.{needs}
+use native.Mathlib.Omega.{arith}
+use mathlib.Core.Path.{sym, _∙_}
+use Rattle.vm_terms.proofs.Noted.{advice-domain, second-domain, no-domain}
+use Rattle.vm_terms.proofs.descriptors.domain_of.Statement.{statement}
+use Rattle.vm_terms.proofs.descriptors.domain_of.Tie as tie
+
+descriptor-kind-requires : tie.Need-descriptor-kind-requires
+descriptor-kind-requires c κs = search needs
+
+descriptor-field0-requires : tie.Need-descriptor-field0-requires
+descriptor-field0-requires c κs = search needs
+
+wide-requires : tie.Need-wide-requires
+wide-requires c κs = search needs
+
+returns : tie.Need-returns
+returns c =
+    let w = c .before .before in
+    (c .wide .ensures .0 ∙ (c .before .descriptor-field0 .ensures ∙ advice-domain _ (sym (w .before .descriptor-kind .ensures) ∙ w .if1 .taken)), c .wide .ensures .1)
+
+descriptor-field1-requires : tie.Need-descriptor-field1-requires
+descriptor-field1-requires c κs = search needs
+
+wide-requires-2 : tie.Need-wide-requires-2
+wide-requires-2 c κs = search needs
+
+returns-2 : tie.Need-returns-2
+returns-2 c =
+    let w = c .before .before in
+    let e = w .before .before .descriptor-kind .ensures in
+    (c .wide2 .ensures .0 ∙ (c .before .descriptor-field1 .ensures ∙ second-domain _ (λ q. w .before .if1 .left (e ∙ q)) (omega (arith, e, w .if2 .taken))), c .wide2 .ensures .1)
+
+returns-3 : tie.Need-returns-3
+returns-3 c = (no-domain (c .before .before .before .args .descriptor) (omega (arith, c .before .before .descriptor-kind .ensures, c .if2 .left)), omega arith)
+
+pub domain-of-spec : {M : Type 1} → statement M
+domain-of-spec =
+    tie.close
+    (tie.spec
+    descriptor-kind-requires
+    descriptor-field0-requires
+    wide-requires
+    returns
+    descriptor-field1-requires
+    wide-requires-2
+    returns-2
+    returns-3)

@@ -1,0 +1,2 @@
+-- The parts of words.
+pub mod Parts

@@ -1,0 +1,2 @@
+-- What the functions that make words are proved equal to.
+pub mod Words
