@@ -2,6 +2,8 @@
 
 make_stored.py puts them among the images of the program `stored_images`.
 """
+from watchlang.kinds import POINTCUT
+from watchlang.records import record, word
 from watchlang.terms import (abort, advice, apply, branch, function, install, lay_out, less, let, lower, mark, minus,
                              new_cell, new_label, number, pair, plus, pointcut, read, sequence, show, store, unit,
                              variable)
@@ -130,6 +132,29 @@ def type_twice():
     return bytes.fromhex("060001000100" "04001200" "04001200")
 
 
+def lengthened(made, kinds_too=()):
+    """An image each of whose records has bytes behind its fields, a pointcut none but for kinds_too (document 02, card
+    1); one byte more from record to record."""
+    longer, offset, more = b"", 0, 0
+    while offset < len(made):
+        length, kind = word(made, offset), word(made, offset + 2)
+        more = more % 5 + 1
+        skipped = bytes(range(more)) if kind != POINTCUT or kind in kinds_too else b""
+        longer += record(kind, made[offset + 4:offset + length] + skipped)
+        offset += length
+    return longer
+
+
+def longer_type_twice():
+    """An image with a type twice, once with two bytes behind its fields."""
+    return bytes.fromhex("060001000100" "04001200" "080015000000" "0000" "0a0015000000" "0000" "0700")
+
+
+def short_number():
+    """An image whose number has 2 bytes."""
+    return bytes.fromhex("060001000100" "04001200" "080022000000" "0500")
+
+
 def all_cases():
     """Each case: its name, its image, its budget."""
     i = variable("i", NUMBER)
@@ -162,3 +187,7 @@ def all_cases():
     yield "low-stores-high", image(low_stores_high(), chain(2)), BUDGET
     yield "operation-4", arithmetic(4), BUDGET
     yield "type-twice", type_twice(), BUDGET
+    yield "longer-records", lengthened(image(picked_at_the_start())), BUDGET
+    yield "longer-pointcut", lengthened(image(pointcut_of(2)), [POINTCUT]), BUDGET
+    yield "longer-type-twice", longer_type_twice(), BUDGET
+    yield "short-number", short_number(), BUDGET

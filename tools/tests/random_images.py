@@ -226,14 +226,28 @@ def domain_damage(made, rng):
 
 
 def other_damage(made, rng):
-    """Another byte, or a record twice, or a record left out."""
-    n, how = rng.randrange(len(made)), rng.randrange(3)
-    if how == 0 and made[n]:
+    """Another byte, or a record twice, or one with bytes put in behind it, or a record left out."""
+    n, how = rng.randrange(len(made)), rng.randrange(4)
+    if how == 3 and len(made[n]) > 3:
+        made[n] += rng.randbytes(rng.randint(1, 4))
+        made[n][:2] = len(made[n]).to_bytes(2, "little")
+    elif how == 0 and made[n]:
         made[n][rng.randrange(len(made[n]))] = rng.randrange(256)
     elif how == 1:
         made.insert(rng.randrange(len(made)), made[n][:])
     elif len(made) > 1:
         del made[n]
+
+
+def lengthened(image, rng):
+    """An image some of whose records have bytes behind their fields: the same program."""
+    made, offset = b"", 0
+    while offset < len(image):
+        length, kind = (int.from_bytes(image[at:at + 2], "little") for at in (offset, offset + 2))
+        more = 0 if kind == kinds.POINTCUT else rng.choice([0, 0, 1, 2, rng.randrange(9)])
+        made += (length + more).to_bytes(2, "little") + image[offset + 2:offset + length] + rng.randbytes(more)
+        offset += length
+    return made
 
 
 def images(seed, count):

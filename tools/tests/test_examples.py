@@ -7,7 +7,7 @@ import common
 import make_examples
 import make_stored
 from watchlang import kinds, refusals
-from watchlang.disassembler import tree
+from watchlang.disassembler import disassemble, program, tree
 from watchlang.layout import laid_out
 from watchlang.terms import body_domain
 
@@ -43,6 +43,12 @@ class Examples(unittest.TestCase):
         for name, _ in make_examples.examples(FOLDER):
             self.assertEqual(expected[common.STORED / "data" / f"{name}.img"], (FOLDER / f"{name}.txt").read_text(), name)
 
+    def test_a_newer_writers_image_runs_like_the_old_one(self):
+        image = (FOLDER / "newer.img").read_bytes()
+        self.assertEqual(program(image), program((FOLDER / "first.img").read_bytes()))
+        self.assertEqual((FOLDER / "newer.txt").read_text(), (FOLDER / "first.txt").read_text())
+        self.assertIn("skipped", disassemble(image))
+
     def test_watches_differ_only_in_low_bodies(self):
         for name in WITH_WATCHES:
             self.assertEqual(blanked(name), blanked("plain"), name)
@@ -70,7 +76,7 @@ class Examples(unittest.TestCase):
 
     def test_every_text_is_used(self):
         used = {f for _, files in make_examples.examples(FOLDER) for f in files}
-        self.assertEqual(used, {p.name for p in FOLDER.iterdir() if p.suffix in (".proc", ".watch")})
+        self.assertEqual(used, {p.name for p in FOLDER.iterdir() if p.suffix in (".proc", ".watch", ".rec")})
 
 
 class Stored(unittest.TestCase):

@@ -1,9 +1,10 @@
 """Images to text and back, byte for byte."""
+import random
 import unittest
 
 import common
 import random_images
-from watchlang import recordform
+from watchlang import kinds, recordform
 from watchlang.assembler import assemble
 from watchlang.disassembler import disassemble, program
 from watchlang.gate import verdict
@@ -32,6 +33,17 @@ class RoundTrip(unittest.TestCase):
         for n, image in enumerate(random_images.images(5, RANDOM)):
             trees += not recordform.is_records(self.back(image, n))
         self.assertGreater(trees, RANDOM // 4)
+
+    def test_longer_records(self):
+        """Skipped bytes stand in the text, and neither the verdict nor the program knows of them."""
+        rng = random.Random(9)
+        for n, image in enumerate(random_images.images(9, RANDOM // 4)):
+            if not verdict(image):
+                longer = random_images.lengthened(image, rng)
+                self.assertEqual("skipped" in self.back(longer, n), longer != image)
+                self.assertIsNone(verdict(longer) if len(longer) <= kinds.IMAGE_LIMIT else None)
+                if len(longer) <= kinds.IMAGE_LIMIT:
+                    self.assertEqual(program(longer), program(image), n)
 
     def test_any_bytes(self):
         for data in (b"", b"\x00", b"\x05", b"\xff" * 40, bytes(range(256)), bytes(20_000)):

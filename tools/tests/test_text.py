@@ -39,6 +39,14 @@ class Text(unittest.TestCase):
     def test_an_application_of_a_function_is_a_let(self):
         self.assertEqual(text_of("(function (x : number) { x })(1)"), "let x0 = 1 in\nx0")
 
+    def test_skipped_bytes(self):
+        """The text of records says bytes behind a record's known fields, also an odd number of them."""
+        text = "records\ndomain 0: mask 0x0001 skipped ff\ntype 0: number skipped 07 00\nterm 0: number 5 as 0 skipped 01 02 03\n"
+        image = assemble(text).image
+        self.assertEqual(image.hex(" "), "07 00 01 00 01 00 ff 06 00 12 00 07 00 0d 00 22 00 00 00 05 00 00 00 01 02 03")
+        self.assertEqual(disassemble(image), text)
+        self.assertIsNone(verdict(image))
+
     def test_grouping(self):
         self.assertEqual(text_of("{ print 1; print 2 }; print 3"), "{\n    print 1;\n    print 2\n};\nprint 3")
         self.assertEqual(text_of("1 - (2 - 3) - 4"), "1 - (2 - 3) - 4")

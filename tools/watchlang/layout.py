@@ -44,7 +44,7 @@ class Tables:
 CAUSES = {
     2: "the image ends inside this record, or its length is under 4",
     3: "no record has this kind",
-    4: "the record's length is wrong for its kind",
+    4: "the record is too short for its kind, or it is a pointcut of a wrong length",
 }
 SECTIONS = ("domain", "type", "term")
 LIMITS = (kinds.DOMAIN_LIMIT, kinds.TYPE_LIMIT, kinds.TERM_LIMIT)

@@ -6,8 +6,9 @@
     term 0: number 5 as 0
     bytes 04 00 ff
 
-The number before the colon counts the section's records. A term ends with `as` and the number of its type. Bytes that
-are no record of a known kind and length stand as `bytes`.
+The number before the colon counts the section's records. A term ends with `as` and the number of its type. Bytes behind
+the known fields of a record, which the engine skips, stand at the end of its line behind `skipped`. Bytes that are no
+record of a known kind and length stand as `bytes`.
 """
 from . import kinds
 from .lexer import Place, SourceError
@@ -25,6 +26,11 @@ def is_records(text):
 
 def line_of(record, number):
     """The line of a record that is so many in its section."""
+    return " ".join([known_of(record, number), *(["skipped", record.skipped.hex(" ")] if record.skipped else [])])
+
+
+def known_of(record, number):
+    """The same of its known fields alone."""
     n, name = kinds.section(record.kind), kinds.name(record.kind)
     if n == 0:
         return f"domain {number}: mask {record.fields[0]:#06x}"
@@ -68,9 +74,9 @@ def assemble(text, file):
         elif said[0] == "bytes":
             image += bytes_of(said[1:], place)
         else:
-            kind, fields = record_of(line, said, place, counts)
+            kind, fields, skipped = record_of(line, said, place, counts)
             places[len(image)] = place
-            image += written(kind, fields)
+            image += written(kind, fields, skipped)
     return image, places
 
 
@@ -82,7 +88,7 @@ def bytes_of(words, place):
 
 
 def record_of(line, said, place, counts):
-    """The kind and the fields of a record's line; the section's count goes up."""
+    """The kind, the fields and the skipped bytes of a record's line; the section's count goes up."""
     head, colon, rest = line.split("#")[0].partition(":")
     head, rest = head.split(), rest.split()
     if not colon or len(head) != 2 or head[0] not in SECTIONS or not rest:
@@ -94,12 +100,13 @@ def record_of(line, said, place, counts):
     name = "domain" if n == 0 and rest[0] == "mask" else rest[0]
     if (n, name) not in BY_NAME:
         raise SourceError(place, f"no {head[0]} is called {rest[0]}")
-    words = rest[1:]
+    words, _, skipped = " ".join(rest[1:]).partition("skipped")
+    words, skipped = words.split(), bytes_of(skipped.split(), place)
     if n == 2:
         if len(words) < 2 or words[-2] != "as":
             raise SourceError(place, "a term ends with 'as' and the number of its type")
         words = [words[-1], *words[:-2]]
-    return BY_NAME[n, name], numbers(BY_NAME[n, name], words, place)
+    return BY_NAME[n, name], numbers(BY_NAME[n, name], words, place), skipped
 
 
 def numbers(kind, words, place):

@@ -1,4 +1,8 @@
-"""Records as bytes (document 01, "The image"): a length, a kind, then fields, all little-endian."""
+"""Records as bytes (document 01, "The image"): a length, a kind, then fields, all little-endian.
+
+A record may be longer than its known fields, and the rest is skipped; a pointcut term may not, since its length says how
+many labels it has (document 02, card 1).
+"""
 import struct
 from dataclasses import dataclass
 
@@ -7,10 +11,12 @@ from . import kinds
 
 @dataclass(frozen=True)
 class Record:
-    """A record as it stands in an image. A number is one field, with its sign."""
+    """A record as it stands in an image: its known fields, and the bytes behind them. A number is one field, with its
+    sign."""
     offset: int
     kind: int
     fields: tuple
+    skipped: bytes = b""
 
     def parts(self, letter):
         """The fields of one letter: "a" types, "e" terms, "p" domains and so on."""
@@ -24,22 +30,21 @@ def record(kind, *fields):
     return struct.pack("<HH", 4 + len(body), kind) + body
 
 
-def written(kind, fields):
+def written(kind, fields, skipped=b""):
     """The bytes of a record whose number, if it has one, is a Python number with its sign."""
     letters = kinds.fields(kind, len(fields) - 1)
-    return record(kind, *(struct.pack("<i", f) if l == "n" else f for f, l in zip(fields, letters)))
+    return record(kind, *(struct.pack("<i", f) if l == "n" else f for f, l in zip(fields, letters)), skipped)
 
 
 def word(data, offset):
     return struct.unpack_from("<H", data, offset)[0]
 
 
-def lengths(kind):
-    """The lengths that a record of a kind may have."""
+def right_length(kind, length):
+    """Whether a record of a kind may have a length: that of its known fields or more; exact lengths for a pointcut."""
     if kind == kinds.POINTCUT:
-        return range(6, 6 + 2 * kinds.LABEL_LIMIT + 1, 2)
-    letters = kinds.fields(kind)
-    return (4 + sum(4 if l == "n" else 2 for l in letters),)
+        return length in range(6, 6 + 2 * kinds.LABEL_LIMIT + 1, 2)
+    return length >= 4 + sum(4 if l == "n" else 2 for l in kinds.fields(kind))
 
 
 def record_at(data, offset):
@@ -49,8 +54,9 @@ def record_at(data, offset):
     length, kind = word(data, offset), word(data, offset + 2)
     if kind not in kinds.KINDS:
         return 3
-    if length not in lengths(kind):
+    if not right_length(kind, length):
         return 4
     letters = kinds.fields(kind, (length - 6) // 2)
     layout = "<" + "".join("i" if l == "n" else "H" for l in letters)
-    return Record(offset, kind, struct.unpack_from(layout, data, offset + 4))
+    skipped = data[offset + 4 + struct.calcsize(layout):offset + length]
+    return Record(offset, kind, struct.unpack_from(layout, data, offset + 4), bytes(skipped))

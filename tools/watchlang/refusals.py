@@ -13,7 +13,7 @@ REFUSALS = {
         "The image was cut off or damaged on its way: send it again, or assemble it again."),
     3: ("a record of a kind that does not exist",
         "The image was damaged, or it was written for a newer engine: assemble it again from its text."),
-    4: ("a record whose length is wrong for its kind; a pointcut has at most 8 labels",
+    4: ("a record that is too short for its kind, or a pointcut of a wrong length; a pointcut has at most 8 labels",
         "Assemble it again from its text; split a pointcut of more than 8 labels into two watches."),
     5: ("a domain after a type or term, or a type after a term",
         "Domains come first, then types, then terms: the assembler writes them so."),

@@ -11,7 +11,7 @@ pub enum Cause {
     BrokenRecord = 2,
     /// A record has an unknown kind.
     UnknownKind = 3,
-    /// A record's length is wrong for its kind.
+    /// A record is too short for its kind, or a pointcut term of wrong length; a longer record is no fault.
     WrongLength = 4,
     /// A record stands after a later section's.
     SectionOrder = 5,

@@ -11,3 +11,4 @@ pub mod Steps
 pub mod Entering
 pub mod Going
 pub mod Stages
+pub mod Skipped

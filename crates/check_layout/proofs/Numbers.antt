@@ -7,12 +7,13 @@ use mathlib.Core.Bool.{Bool, true, false, not, _&&_}
 use mathlib.Core.List.{List, [], _∷_}
 use mathlib.Core.Option.{none, some}
 use lib.ListN.{getD}
-use lib.Dec.{eqb}
+use lib.Dec.{eqb, leb}
 use borrow.Author.Tests.{not-true, not-false}
 use Rattle.image.specs.declared.Refusal.{Refusal}
 use Rattle.laws.specs.Tests.{allBelow, firstFault}
-use Rattle.laws.proofs.Booleans.{no-path, eq-of}
+use Rattle.laws.proofs.Booleans.{no-path, le-of, eq-of}
 use Rattle.laws.proofs.Tests.{each}
+use Rattle.calculus.specs.Combinators.{choose}
 use Rattle.check_records.specs.Codes.{groupOf, lastOf, firstOf, timesIn}
 use Rattle.check_layout.specs.Numbers.{lengthFits, Held, newDescriptor}
 
@@ -21,9 +22,13 @@ module _ (ks : List ℕ) (x : ℕ) where
   unfolding allBelow
   new-more i b t e h = rw (add-one i) (h ∙ ap (λ y. y && not (eqb x (getD ks i 0))) e)
 
--- A record of the right length has its kind's fields, and holds them.
-pub fits-size : (x n : ℕ) → lengthFits x n ≡ true → n ≡ 4 + 2 * (firstOf x + (timesIn x (n - 4) * groupOf x + lastOf x))
-fits-size x n h = eq-of (each _ h .1 .1 .0)
+-- A record of the right length holds its kind's known fields.
+fits-one : (t : Bool) (m n : ℕ) → choose t (leb m n) (eqb n m) ≡ true → m ≤ n
+fits-one true m n h = le-of h
+fits-one false m n h = let e : n ≡ m = eq-of h in omega arith
+
+pub fits-size : (x n : ℕ) → lengthFits x n ≡ true → 4 + 2 * (firstOf x + (timesIn x (n - 4) * groupOf x + lastOf x)) ≤ n
+fits-size x n h = fits-one (eqb (groupOf x) 0) _ n (each _ h .1 .1 .0)
 
 pub fits-held : (x n : ℕ) → lengthFits x (n + 4) ≡ true → Held x n
 fits-held x n h =

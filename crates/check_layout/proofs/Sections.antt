@@ -5,12 +5,13 @@ use mathlib.Core.Bool.{Bool, not}
 use mathlib.Core.List.{List, [], _∷_}
 use mathlib.Core.Option.{some}
 use lib.ListN.{length, getD}
-use lib.Dec.{eqb, eqb·suc-zero}
+use lib.Dec.{eqb, leb, eqb·suc-zero}
+use Rattle.calculus.specs.Combinators.{choose}
 use Rattle.image.specs.Bytes.{numberAt}
-use Rattle.image.specs.Kinds.{TypeKind, Kind, domain, type, term, rowOf, kindOf}
+use Rattle.image.specs.Kinds.{Field, TypeKind, Kind, domain, type, term, rowOf, kindOf}
 use Rattle.laws.specs.Tests.{allOf, allBelow}
-use Rattle.image.specs.Records.{Layout, times}
-use Rattle.image.specs.Layout.{rightLength, isNil, inOrder, hasRoom, isNew}
+use Rattle.image.specs.Records.{Layout, times, knownLength}
+use Rattle.image.specs.Layout.{longEnough, rightLength, isNil, inOrder, hasRoom, isNew}
 use Rattle.image.specs.Types.{typePlace}
 use Rattle.laws.proofs.Booleans.{same-truth}
 use Rattle.laws.proofs.Tests.{all-of, of-all, all-below, below-all}
@@ -24,8 +25,12 @@ use Rattle.check_layout.specs.Numbers.{lengthFits, orderFits, roomFits, 
 use Rattle.check_layout.specs.Tables.{Described}
 
 -- 4
+long-enough : (gs : List Field) (m n : ℕ) → longEnough gs m n ≡ choose (eqb (length gs) 0) (leb m n) (eqb n m)
+long-enough [] m n = refl
+long-enough (g ∷ gs) m n = rw (eqb·suc-zero (length gs))
+
 pub right-length : (k : Kind) (x n : ℕ) → Packs k x → rightLength (rowOf k) n ≡ lengthFits x n
-right-length k x n P = rw (P .most, P .first, P .least, P .group, P .last, fields-length (rowOf k) (times (rowOf k) n))
+right-length k x n P = rw (P .most, P .first, P .least, P .group, P .last, long-enough (rowOf k .group) (knownLength (rowOf k) n) n, fields-length (rowOf k) (times (rowOf k) n))
 
 nil-length : (xs : List ℕ) → isNil xs ≡ eqb (length xs) 0
 nil-length [] = refl

@@ -14,17 +14,18 @@ use Rattle.check_records.specs.declared.numbers.Counts.{Counts}
 use Rattle.check_layout.specs.declared.tests.Tested.{Tested}
 use Rattle.check_layout.specs.Fields.{rangesFrom, groupsFrom, classesPast}
 
--- 4: a length; the group stands as often as it says.
+-- 4: a length; the group stands as often as it says, and without one there may be more bytes than the known fields take (card 1).
 abbrev pub lengthFits : ℕ → ℕ → Bool
 lengthFits x n =
     let c : ℕ = timesIn x (n - 4) in
-    all (leb (leastOf x) c ∷ leb c (mostOf x) ∷ eqb n (4 + 2 * (firstOf x + (c * groupOf x + lastOf x))) ∷ [])
+    let m : ℕ = 4 + 2 * (firstOf x + (c * groupOf x + lastOf x)) in
+    all (leb (leastOf x) c ∷ leb c (mostOf x) ∷ choose (eqb (groupOf x) 0) (leb m n) (eqb n m) ∷ [])
 
 -- So many bytes are the fields of the group, each time that it stands more often than it must.
 abbrev pub groupsFill : ℕ → ℕ → Bool
 groupsFill x n = eqb (n % (2 * groupOf x)) 0 && leb (n / (2 * groupOf x)) (groupLimit - leastOf x)
 
--- n bytes hold all fields of a record, the group standing as often as they say.
+-- n bytes hold all known fields of a record, the group standing as often as they say.
 abbrev pub Held : ℕ → ℕ → Type 0
 Held x n = 2 * (firstOf x + (timesIn x n * groupOf x + lastOf x)) ≤ n
 

@@ -38,7 +38,8 @@ fn groups_fill(code: u32, bytes: usize) -> bool
     both(bytes % (2 * group) == 0, bytes / (2 * group) <= most)
 }
 
-// 4: a record has its kind's least length, or so much more that the group stands more often, up to its limit.
+// 4: a record has its kind's least length, or is longer: by bytes that are skipped (document 02, card 1), or, where there is
+// a group, by so much that the group stands more often, up to its limit.
 pub fn right_length(code: u32, len: usize) -> bool
     requires { ⌜ Sized code ⌝ }
     ensures { λ r. ⌜ r ≡ lengthFits code len ⌝ }
@@ -51,7 +52,7 @@ pub fn right_length(code: u32, len: usize) -> bool
         return false;
     }
     if check_records::kinds::group_count(code) == 0 {
-        return false;
+        return true;
     }
     groups_fill(code, len - least)
 }

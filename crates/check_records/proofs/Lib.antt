@@ -4,3 +4,4 @@ pub mod Classes
 pub mod Descriptors
 pub mod Heads
 pub mod Parts
+pub mod Skipped

@@ -15,7 +15,7 @@ use Rattle.image.specs.Records.{times, asChild, childrenAt}
 use Rattle.image.specs.Records as Records
 use Rattle.image.specs.TermFields.{giving}
 use Rattle.image.specs.LaidOut.{Stands}
-use Rattle.laws.proofs.Booleans.{eq-of}
+use Rattle.laws.proofs.Booleans.{no-path, eq-of}
 use Rattle.laws.proofs.Tests.{each}
 use Rattle.image.proofs.Words.{le16-part}
 use Rattle.image.proofs.EveryKind.{everyOf, at-term}
@@ -56,6 +56,10 @@ every-run : (k : TermKind) → inOneRun k ≡ true
 unfolding everyOf all
 every-run k = at-term inOneRun refl k
 
+positive : (m : ℕ) → eqb m 0 ≡ false → 0 < m
+positive zero h = no-path h
+positive (suc m) h = omega arith
+
 -- The children of a term of the kind k, whose code is x, in the part of the image that its fields occupy.
 module _ (b : List ℕ) (o : ℕ) (k : TermKind) (x : ℕ) (P : Packs (term k) x) (S : Stands b (termRow k) o) where
   abbrev r : Row
@@ -84,7 +88,12 @@ module _ (b : List ℕ) (o : ℕ) (k : TermKind) (x : ℕ) (P : Packs (term k) x
       go true e =
           let f : length (Records.fieldsAt b o r) ≡ countOf x + firstChildrenOf x + times r n * 0 = fields-counted ∙ ap (λ g. countOf x + firstChildrenOf x + times r n * g) (eq-of e) in
           omega arith
-      go false e = let f = fields-counted in let s = S .size in omega arith
+      go false e =
+          let f = fields-counted in
+          let g : groupOf x ≡ length (r .group) = P .group in
+          let p = positive (groupOf x) e in
+          let s = S .exact (omega arith) in
+          omega arith
 
   pub children-fit : Fitting x (fieldsAt b o)
   children-fit =

@@ -1,5 +1,5 @@
 // The fields of a record, by place, in the part of the image that they occupy. A decoder takes what its kind has from the
-// front of the part.
+// front of the part; what stands behind that is skipped (document 02, card 1).
 use crate::numbers::DomainNo;
 use crate::numbers::TermNo;
 use crate::numbers::TypeNo;

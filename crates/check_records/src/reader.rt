@@ -40,7 +40,8 @@ pub fn head_of(image: &[u8], at: usize) -> Head
     }
 }
 
-// The fields of a record of len bytes: the part of the image that they occupy.
+// The fields of a record of len bytes: the part of the image that they occupy, not a copy. It may be longer than the kind
+// needs (document 02, card 1): each user takes its own fields from the front and leaves the rest.
 pub fn fields_of(image: &[u8], at: usize, len: usize) -> &[u8]
     requires { ⌜ (4 ≤ len) × (at + len ≤ length (now image)) ⌝ }
     ensures { λ r. ⌜ now r ≡ fieldBytes (now (image .entry)) at len ⌝ }

@@ -9,3 +9,4 @@ pub mod Elimination
 pub mod Located
 pub mod OnDescriptors
 pub mod Verdict
+pub mod Skipped

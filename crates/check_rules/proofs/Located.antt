@@ -65,14 +65,14 @@ module _ {b table : List ℕ} (T : Terms b table) {n : ℕ} (h : IsTerm b n) whe
   pub number-from : 32 ≤ numberAt b o
   number-from = rw number-is (from-32 kind)
 
-  -- The record is whole, and as long as its fields ask; one of them is its type.
+  -- The record is whole, and holds its known fields; one of them is its type.
   abbrev fields : List Field
   fields = Records.fieldsAt b o (termRow kind)
 
   pub inside : o + lengthAt b o ≤ length b
   inside = term-ok .is .stands .inside
 
-  size : lengthAt b o ≡ 4 + 2 * length fields
+  size : 4 + 2 * length fields ≤ lengthAt b o
   size = term-ok .is .stands .size
 
   some-field : 0 < length fields
@@ -87,7 +87,7 @@ module _ {b table : List ℕ} (T : Terms b table) {n : ℕ} (h : IsTerm b n) whe
   pub whole : IsWhole b o
   whole = let l = long-enough in (omega arith, inside)
 
-  fields-length : length (fieldsOf b n) ≡ 2 * length fields
+  fields-length : 2 * length fields ≤ length (fieldsOf b n)
   fields-length =
       let l = bytes-length b o whole in
       let s = size in
@@ -109,7 +109,7 @@ module _ {b table : List ℕ} (T : Terms b table) {n : ℕ} (h : IsTerm b n) whe
   -- What its fields are, and their numbers.
   classes-in : classesIn (fieldsOf b n) kind ≡ fields
   classes-in =
-      let m = fields-length in
+      let m = bytes-length b o whole in
       let s = size in
       let e : 4 + length (fieldsOf b n) ≡ lengthAt b o = omega arith in
       ap (λ j. Kinds.fieldsOf (termRow kind) (times (termRow kind) j)) e

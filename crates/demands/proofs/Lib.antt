@@ -7,5 +7,6 @@ pub mod Compare
 pub mod Written
 pub mod Steps
 pub mod Demands
+pub mod Trimmed
 pub mod Sheet
 pub mod Example

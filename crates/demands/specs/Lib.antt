@@ -2,3 +2,4 @@
 pub mod Calls
 pub mod SameBytes
 pub mod Compare
+pub mod Trimmed

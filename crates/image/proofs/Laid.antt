@@ -12,8 +12,8 @@ use Rattle.image.specs.Limits.{domainLimit, typeLimit, termLimit}
 use Rattle.laws.specs.Tests.{firstFault}
 use Rattle.image.specs.Bytes.{lengthAt, numberAt, fieldAt}
 use Rattle.image.specs.Kinds.{in-domains, in-operations, in-truths, any-number, Field, a-type, a-domain, own, free, a-term, an-entry, TypeKind, TermKind, Kind, domain, type, term, domainRow, typeRow, termRow, rowOf, kindOf, find, again}
-use Rattle.image.specs.Records.{Layout, kindAt, times, fieldsAt, numbersAt, asChild, given, childrenAt}
-use Rattle.image.specs.Layout.{nothing, framed, known, rightLength, isNil, inOrder, hasRoom, within, allWithin, inRange, sameNumbers, sameType, isNew, tests, add, stopped, laid, walk, layout, recordsOf}
+use Rattle.image.specs.Records.{Layout, kindAt, times, knownLength, fieldsAt, numbersAt, asChild, given, childrenAt}
+use Rattle.image.specs.Layout.{nothing, framed, known, longEnough, rightLength, isNil, inOrder, hasRoom, within, allWithin, inRange, sameNumbers, sameType, isNew, tests, add, stopped, laid, walk, layout, recordsOf}
 use Rattle.image.specs.Types.{typeKindOf, termKindOf, domainPlace, typePlace, termPlace, typeKind, termKind}
 use Rattle.image.specs.LaidOut.{Stands, Within, IsRecord}
 use Rattle.laws.proofs.Booleans.{no-path, and-l, and-r, and-i, not-t, lt-of, le-of, eq-of, of-eq}
@@ -70,19 +70,27 @@ pub kind-number : (n : ℕ) (k : Kind) → kindOf n ≡ some k → n ≡ rowOf k
 kind-number n k h = sym (find-number n _ k h)
 
 -- A record that passes 2, 3 and 4 stands.
-kind-known : (b : List ℕ) (o : ℕ) → known b o ≡ true → kindOf (numberAt b o) ≡ some (kindAt b o)
+pub kind-known : (b : List ℕ) (o : ℕ) → known b o ≡ true → kindOf (numberAt b o) ≡ some (kindAt b o)
 kind-known b o h = go (kindOf (numberAt b o)) refl
   where
     go : (x : Option Kind) → kindOf (numberAt b o) ≡ x → kindOf (numberAt b o) ≡ some (kindAt b o)
     go none e = let z : false ≡ true = rw e at h in no-path (sym z)
     go (some k) e = rw e refl
 
-stands : (b : List ℕ) (o : ℕ) (k : Kind) → framed b o ≡ true → kindOf (numberAt b o) ≡ some k → rightLength (rowOf k) (lengthAt b o) ≡ true → Stands b (rowOf k) o
+enough : (gs : List Field) (m n : ℕ) → longEnough gs m n ≡ true → m ≤ n
+enough [] m n h = le-of h
+enough (g ∷ gs) m n h = let e : n ≡ m = eq-of h in omega arith
+
+exactly : (gs : List Field) (m n : ℕ) → longEnough gs m n ≡ true → 0 < length gs → n ≡ m
+exactly [] m n h l = absurd (omega arith)
+exactly (g ∷ gs) m n h l = eq-of h
+
+pub stands : (b : List ℕ) (o : ℕ) (k : Kind) → framed b o ≡ true → kindOf (numberAt b o) ≡ some k → rightLength (rowOf k) (lengthAt b o) ≡ true → Stands b (rowOf k) o
 stands b o k f q r =
     let fs = each _ f in
     let rs = each _ r in
     let inside : o + lengthAt b o ≤ length b = le-of (fs .1 .1 .0) in
-    record { number = kind-number (numberAt b o) k q; inside = inside; size = eq-of (rs .1 .1 .0); least = le-of (rs .0); most = le-of (rs .1 .0) }
+    record { number = kind-number (numberAt b o) k q; inside = inside; size = enough (rowOf k .group) (knownLength (rowOf k) (lengthAt b o)) (lengthAt b o) (rs .1 .1 .0); exact = exactly (rowOf k .group) (knownLength (rowOf k) (lengthAt b o)) (lengthAt b o) (rs .1 .1 .0); least = le-of (rs .0); most = le-of (rs .1 .0) }
 
 -- Fields in range.
 in-field : (L : Layout) (fs : List Field) (vs : List ℕ) → length vs ≡ length fs → allWithin L fs vs ≡ true → (i : ℕ) (f : Field) → getD fs i free ≡ f → within L f (getD vs i 0) ≡ true

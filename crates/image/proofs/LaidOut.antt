@@ -14,7 +14,7 @@ use Rattle.laws.specs.Tests.{firstFault}
 use Rattle.image.specs.Bytes.{lengthAt, numberAt}
 use Rattle.image.specs.Kinds.{in-domains, in-operations, in-truths, any-number, Field, a-type, own, free, a-term, an-entry, Kind, domain, type, term, domainRow, typeRow, termRow, rowOf, kindOf}
 use Rattle.image.specs.Records.{Layout, orElse, kindAt, fieldsAt, numbersAt}
-use Rattle.image.specs.Layout.{nothing, known, rightLength, isNil, inOrder, hasRoom, within, allWithin, inRange, sameType, isNew, tests, add, laid, walk, layout}
+use Rattle.image.specs.Layout.{nothing, known, longEnough, rightLength, isNil, inOrder, hasRoom, within, allWithin, inRange, sameType, isNew, tests, add, laid, walk, layout}
 use Rattle.image.specs.Types.{typeKindOf, typePlace, typeNumber, typeKind, typeFields, termKind}
 use Rattle.image.specs.LaidOut.{EndToEnd, Stands, Within, IsRecord, SameType, LaidOut}
 use Rattle.laws.proofs.Booleans.{no-path, and-i, of-lt, of-le, eq-of, of-eq}
@@ -117,6 +117,10 @@ pass-all : {A : Type 0} → firstFault {A = A} [] ≡ none
 unfolding firstFault
 pass-all = refl
 
+pub of-long : (gs : List Field) (m n : ℕ) → m ≤ n → (0 < length gs → n ≡ m) → longEnough gs m n ≡ true
+of-long [] m n h e = of-le h
+of-long (g ∷ gs) m n h e = of-eq (e (omega arith))
+
 kind-there : (K : Layout) (o : ℕ) (k : Kind) → Follows K o k → kindOf (numberAt (K .image) o) ≡ some k
 kind-there K o k w = ap (λ n. kindOf n) (w .is .stands .number) ∙ found k
 
@@ -135,7 +139,7 @@ follows-passes K o k w =
     let q : k ≡ kindAt b o = sym (kind-at K o k w) in
     let w0 : o + 4 ≤ length b = omega arith in
     let w1 : 4 ≤ lengthAt b o = omega arith in
-    let right : rightLength (rowOf k) (lengthAt b o) ≡ true = of-each _ (of-le least, (of-le most, (of-eq size, tt))) in
+    let right : rightLength (rowOf k) (lengthAt b o) ≡ true = of-each _ (of-le least, (of-le most, (of-long (rowOf k .group) _ _ size (s .exact), tt))) in
     let there : known b o ≡ true = rw (kind-there K o k w) refl in
     let range : inRange K o (rowOf k) ≡ true = of-fields K (fieldsAt b o (rowOf k)) (numbersAt b o (rowOf k)) (w .is .fields) in
     pass _ _ _ (of-each _ (of-le w0, (of-le w1, (of-le inside, tt))))

@@ -48,7 +48,7 @@ abbrev fieldsIn : TypeKind → ℕ → List Field
 fieldsIn k n = fieldsOf (typeRow k) (times (typeRow k) n)
 
 -- Types agree where their parts do, and the other way round.
-out-cong : (k : TypeKind) (n : ℕ) (vs : List ℕ) (g h : ℕ → Ty) → length vs ≡ length (fieldsIn k n)
+pub out-cong : (k : TypeKind) (n : ℕ) (vs : List ℕ) (g h : ℕ → Ty) → length vs ≡ length (fieldsIn k n)
     → ((i : ℕ) → getD (fieldsIn k n) i free ≡ a-type → g (getD vs i 0) ≡ h (getD vs i 0)) → typeOut k vs g ≡ typeOut k vs h
 unfolding typeOut
 out-cong TypeKind.unit n vs g h l e = refl

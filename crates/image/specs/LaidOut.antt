@@ -1,12 +1,12 @@
 -- An image that is laid out (document 01, "The image"), said of all its records at once: where this does not hold is where 2 to 8 refuse.
-use Prim.Native.Nat.{ℕ, _+_, _*_, _≤_, _<_}
+use Prim.Native.Nat.{ℕ, _+_, _≤_, _<_}
 use mathlib.Core.Path.{_≡_}
 use mathlib.Core.List.{List, [], _∷_, _++_}
 use lib.ListN.{length, getD}
 use Rattle.image.specs.Limits.{domainLimit, typeLimit, termLimit, operationCount}
 use Rattle.image.specs.Bytes.{lengthAt, numberAt}
 use Rattle.image.specs.Kinds.{in-domains, in-operations, in-truths, any-number, Field, a-type, own, free, a-term, an-entry, Row, domainRow, typeRow, termRow}
-use Rattle.image.specs.Records.{Layout, times, fieldsAt, numbersAt}
+use Rattle.image.specs.Records.{Layout, times, knownLength, fieldsAt, numbersAt}
 use Rattle.image.specs.Types.{domainPlace, typePlace, termPlace, typeNumber, typeKind, typeFields, termKind}
 
 -- "Records stand end to end": the first at o, each next one where the one before it ends, and behind the last no byte is left.
@@ -14,11 +14,12 @@ abbrev pub EndToEnd : List ℕ → ℕ → List ℕ → Type 0
 EndToEnd b o [] = o ≡ length b
 EndToEnd b o (p ∷ ps) = (p ≡ o) × EndToEnd b (o + lengthAt b o) ps
 
--- The record at o is whole (2), has the row r's number (3), and the length that its fields take, the group standing as often as it may (4).
+-- The record at o is whole (2), has the row r's number (3), and is as long as its known fields, or longer, the group standing as often as it may (4); where there is a group, it is just as long (document 02, card 1).
 pub record Stands (b : List ℕ) (r : Row) (o : ℕ) : Type 0 where
   pub number : numberAt b o ≡ r .number
   pub inside : o + lengthAt b o ≤ length b
-  pub size : lengthAt b o ≡ 4 + 2 * length (fieldsAt b o r)
+  pub size : knownLength r (lengthAt b o) ≤ lengthAt b o
+  pub exact : 0 < length (r .group) → lengthAt b o ≡ knownLength r (lengthAt b o)
   pub least : r .least ≤ times r (lengthAt b o)
   pub most : times r (lengthAt b o) ≤ r .most
 

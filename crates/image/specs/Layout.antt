@@ -1,5 +1,5 @@
 -- The layout of an image: the walk over its records, front to back, with the refusals 2 to 8 (document 01, "Turned back at the gate").
-use Prim.Native.Nat.{ℕ, zero, suc, _+_, _*_}
+use Prim.Native.Nat.{ℕ, zero, suc, _+_}
 use mathlib.Core.Bool.{Bool, true, false, not, _&&_}
 use mathlib.Core.List.{List, [], _∷_, _++_}
 use mathlib.Core.Option.{Option, none, some}
@@ -9,8 +9,8 @@ use Rattle.image.specs.declared.Refusal.{Refusal}
 use Rattle.image.specs.Limits.{domainLimit, typeLimit, termLimit, operationCount}
 use Rattle.laws.specs.Tests.{all, allOf, firstFault}
 use Rattle.image.specs.Bytes.{lengthAt, numberAt}
-use Rattle.image.specs.Kinds.{in-domains, in-operations, in-truths, any-number, Field, a-type, own, a-term, an-entry, Kind, domain, type, term, Row, typeRow, rowOf, kindOf, fieldsOf}
-use Rattle.image.specs.Records.{Layout, kindAt, times, fieldsAt, numbersAt}
+use Rattle.image.specs.Kinds.{in-domains, in-operations, in-truths, any-number, Field, a-type, own, a-term, an-entry, Kind, domain, type, term, Row, typeRow, rowOf, kindOf}
+use Rattle.image.specs.Records.{Layout, kindAt, times, knownLength, fieldsAt, numbersAt}
 
 -- Before the walk: no records yet.
 abbrev pub nothing : List ℕ → Layout
@@ -28,11 +28,14 @@ framed b o = all (leb (o + 4) (length b) ∷ leb 4 (lengthAt b o) ∷ leb (o + l
 abbrev pub known : List ℕ → ℕ → Bool
 known b o = isSome (kindOf (numberAt b o))
 
--- 4: the length n is 4, and 2 for each field, the group standing as often as it may.
+-- 4: the length n is that of the known fields, m, or more (document 02, card 1: "read by its known fields, and the rest skipped"); a kind with a group has the length m itself, "since their length carries the count".
+abbrev pub longEnough : List Field → ℕ → ℕ → Bool
+longEnough [] m n = leb m n
+longEnough (g ∷ gs) m n = eqb n m
+
+-- Besides, the group stands as often as it may.
 abbrev pub rightLength : Row → ℕ → Bool
-rightLength r n =
-    let c : ℕ = times r n in
-    all (leb (r .least) c ∷ leb c (r .most) ∷ eqb n (4 + 2 * length (fieldsOf r c)) ∷ [])
+rightLength r n = all (leb (r .least) (times r n) ∷ leb (times r n) (r .most) ∷ longEnough (r .group) (knownLength r n) n ∷ [])
 
 -- 5: no record stands behind one of a later section.
 abbrev pub isNil : List ℕ → Bool
@@ -68,7 +71,7 @@ allWithin L (f ∷ fs) (v ∷ vs) = within L f v && allWithin L fs vs
 abbrev pub inRange : Layout → ℕ → Row → Bool
 inRange L o r = allWithin L (fieldsAt (L .image) o r) (numbersAt (L .image) o r)
 
--- 8: the type at o, of a kind with the row r, is equal to none before it; equal types have the same kind and the same fields.
+-- 8: the type at o, of a kind with the row r, is equal to none before it; equal types have the same kind and the same known fields (card 1).
 abbrev pub sameNumbers : List ℕ → List ℕ → Bool
 sameNumbers [] [] = true
 sameNumbers [] (w ∷ ws) = false

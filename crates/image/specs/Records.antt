@@ -1,5 +1,5 @@
 -- The records of an image (document 01, "The image"): three sections, each record known by its offset, with its kind, its fields and its children.
-use Prim.Native.Nat.{ℕ, zero, suc, _+_, _-_, _/_}
+use Prim.Native.Nat.{ℕ, zero, suc, _+_, _-_, _*_, _/_}
 use mathlib.Core.List.{List, [], _∷_, _++_}
 use mathlib.Core.Option.{Option, none, some}
 use lib.ListN.{length}
@@ -29,7 +29,11 @@ goesInto (suc m) n = n / suc m
 abbrev pub times : Row → ℕ → ℕ
 times r n = goesInto (length (r .group)) ((n - 4) / 2 - (length (r .first) + length (r .last)))
 
--- The fields of the record at o, of a kind with the row r: what each is, and its number.
+-- The length of such a record with its known fields alone; behind these it may have more bytes, which are skipped (document 02, card 1).
+abbrev pub knownLength : Row → ℕ → ℕ
+knownLength r n = 4 + 2 * length (fieldsOf r (times r n))
+
+-- The known fields of the record at o, of a kind with the row r: what each is, and its number.
 abbrev pub fieldsAt : List ℕ → ℕ → Row → List Field
 fieldsAt b o r = fieldsOf r (times r (lengthAt b o))
 

@@ -16,6 +16,10 @@ unfoldable pub image : List (List ℕ) → List ℕ
 image [] = []
 image (r ∷ rs) = r ++ image rs
 
+-- A record with bytes behind its fields (card 1).
+unfoldable pub longer : List ℕ → ℕ → List ℕ → List ℕ
+longer skipped k fs = little ((4 + 2 * length fs + length skipped) ∷ k ∷ fs) ++ skipped
+
 -- One domain; domain 1 below domain 0; so many domains, each ordered with itself alone, from bit m on.
 unfoldable pub one-domain : List ℕ
 one-domain = rec 1 (1 ∷ [])
@@ -50,6 +54,13 @@ deep n = image (one-domain ∷ number ∷ literal 5 ∷ chain n 0 ∷ [])
 -- P2, as the sheet has it.
 unfoldable pub p2-image : List ℕ
 p2-image = 6 ∷ 0 ∷ 1 ∷ 0 ∷ 1 ∷ 0 ∷ 4 ∷ 0 ∷ 18 ∷ 0 ∷ 10 ∷ 0 ∷ 34 ∷ 0 ∷ 0 ∷ 0 ∷ 5 ∷ 0 ∷ 0 ∷ 0 ∷ []
+
+-- Frame byte 5, every record longer than its kind's fields; and the same with those alone.
+unfoldable pub longer-image : List ℕ
+longer-image = image (longer (9 ∷ []) 1 (1 ∷ []) ∷ longer (7 ∷ 7 ∷ []) 18 [] ∷ longer (3 ∷ 0 ∷ 1 ∷ []) 34 (0 ∷ 5 ∷ 0 ∷ []) ∷ longer (0 ∷ 0 ∷ 0 ∷ 0 ∷ []) 60 (0 ∷ 0 ∷ []) ∷ [])
+
+unfoldable pub trimmed-image : List ℕ
+trimmed-image = image (one-domain ∷ number ∷ literal 5 ∷ rec 60 (0 ∷ 0 ∷ []) ∷ [])
 
 -- P6 and P7: a function of a label, applied to a new label, that installs "print x", then "print 7", then marks with 3, all at domain 0.
 unfoldable pub p6-image : List ℕ

@@ -20,7 +20,7 @@ use Rattle.verdict.specs.Order.{atFault}
 use Rattle.verdict.specs.Shape.{count, uses, depthsFrom, depths, shape}
 use Rattle.verdict.specs.Check.{checkAll, check, typing}
 use Rattle.verdict.specs.Verdicts.{verdict}
-use Rattle.verdict.proofs.Images.{little, rec, image, one-domain, two-domains, domains, unit, number, literal, chain, deep, p2-image, new-labels, up-to, labelled}
+use Rattle.verdict.proofs.Images.{little, rec, longer, longer-image, image, one-domain, two-domains, domains, unit, number, literal, chain, deep, p2-image, new-labels, up-to, labelled}
 
 -- An image, and what the validator says of it where the lent memory is long enough.
 pub record Case : Type 0 where
@@ -36,16 +36,20 @@ verdicts =
     case (deep 63) Verdict.Accepted
     ∷ case (image (domains 16 1 ∷ number ∷ literal 5 ∷ [])) Verdict.Accepted
     ∷ case (labelled 8) Verdict.Accepted
+    -- card 1: a domain, a type and terms with and without children, longer by one byte and by more
+    ∷ case longer-image Verdict.Accepted
     -- 2: 3 bytes left; a length under 4; past the end, also of an unknown kind
     ∷ case (4 ∷ 0 ∷ 1 ∷ []) (Verdict.Refused Refusal.BrokenRecord 0)
     ∷ case (one-domain ++ (3 ∷ 0 ∷ 1 ∷ 0 ∷ [])) (Verdict.Refused Refusal.BrokenRecord 6)
     ∷ case (5 ∷ 0 ∷ 2 ∷ 0 ∷ []) (Verdict.Refused Refusal.BrokenRecord 0)
     -- 3
     ∷ case (rec 2 []) (Verdict.Refused Refusal.UnknownKind 0)
-    -- 4: a domain without a mask, also behind a type; a pointcut of 9
+    -- 4: a domain without a mask, also behind a type; a number of 2 bytes; a pointcut of 9, and one that is longer by one byte
     ∷ case (rec 1 []) (Verdict.Refused Refusal.WrongLength 0)
     ∷ case (image (number ∷ rec 1 [] ∷ [])) (Verdict.Refused Refusal.WrongLength 4)
+    ∷ case (image (one-domain ∷ number ∷ rec 34 (0 ∷ 5 ∷ []) ∷ [])) (Verdict.Refused Refusal.WrongLength 10)
     ∷ case (labelled 9) (Verdict.Refused Refusal.WrongLength 90)
+    ∷ case (image (one-domain ∷ number ∷ rec 23 (0 ∷ 0 ∷ []) ∷ longer (0 ∷ []) 46 (1 ∷ []) ∷ [])) (Verdict.Refused Refusal.WrongLength 18)
     -- 5: a domain behind a type
     ∷ case (image (one-domain ∷ number ∷ one-domain ∷ [])) (Verdict.Refused Refusal.SectionOrder 10)
     -- 6: 17 domains
@@ -57,8 +61,9 @@ verdicts =
     ∷ case (image (one-domain ∷ number ∷ literal 5 ∷ literal 5 ∷ rec 43 (0 ∷ 4 ∷ 0 ∷ 1 ∷ []) ∷ [])) (Verdict.Refused Refusal.FieldRange 30)
     ∷ case (image (one-domain ∷ number ∷ rec 33 (0 ∷ 2 ∷ []) ∷ [])) (Verdict.Refused Refusal.FieldRange 10)
     ∷ case (image (one-domain ∷ number ∷ rec 60 (0 ∷ 0 ∷ []) ∷ [])) (Verdict.Refused Refusal.FieldRange 10)
-    -- 8: a reference twice, and a label with the same fields
+    -- 8: a reference twice, and a label with the same fields; a longer one is the same type
     ∷ case (image (one-domain ∷ number ∷ rec 21 (0 ∷ 0 ∷ []) ∷ rec 22 (0 ∷ 0 ∷ []) ∷ rec 21 (0 ∷ 0 ∷ []) ∷ [])) (Verdict.Refused Refusal.RepeatedType 26)
+    ∷ case (image (one-domain ∷ number ∷ rec 21 (0 ∷ 0 ∷ []) ∷ longer (1 ∷ 0 ∷ []) 21 (0 ∷ 0 ∷ []) ∷ [])) (Verdict.Refused Refusal.RepeatedType 18)
     -- 9: no terms; no domains
     ∷ case (image (one-domain ∷ number ∷ [])) (Verdict.Refused Refusal.EmptySection 10)
     ∷ case (image (number ∷ literal 5 ∷ [])) (Verdict.Refused Refusal.EmptySection 14)
@@ -88,7 +93,7 @@ verdicts =
 
 pub each-verdict : map (λ c. verdict (c .bytes) workLength reportLength) verdicts ≡ map (λ c. c .says) verdicts
 unfolding verdicts verdict inTurn requireFrom walk layout recordsOf tests find words allWithin all allOf anyBelow firstFault shape atFault leq order bits count uses depths depthsFrom typing check checkAll typeOf typeFrom typeOut
-    little rec image one-domain two-domains domains unit number literal chain deep new-labels up-to labelled
+    little rec longer image one-domain two-domains domains unit number literal longer-image chain deep new-labels up-to labelled
 each-verdict = refl
 
 -- 1: an image that is too long.

@@ -28,8 +28,10 @@ use Rattle.vm_terms.proofs.Described.{descriptor-domain, descriptor-not
 -- The record at o is one of kind k, of term n: its fields behind the type that are no children are vs, and then come its children xs, which are lower terms.
 pub record Recorded (b : List ℕ) (o n : ℕ) (k : TermKind) (vs xs : List ℕ) : Type 0 where
   pub number : numberAt b o ≡ termRow k .number
-  pub count : fieldCount b o ≡ leadOf k + length xs
-  pub size : lengthAt b o ≡ 4 + 2 * (leadOf k + length xs)
+  -- its known fields are all where its kind has a group; else there may be more bytes behind them (document 02, card 1)
+  pub count : 0 < length (termRow k .group) → fieldCount b o ≡ leadOf k + length xs
+  pub size : 4 + 2 * (leadOf k + length xs) ≤ lengthAt b o
+  pub whole : o + lengthAt b o ≤ length b
   pub inside : o + 4 + 2 * (leadOf k + length xs) ≤ length b
   pub least : leastChildren (termRow k) ≤ length xs
   pub most : length xs ≤ mostChildren (termRow k)
@@ -64,8 +66,9 @@ laid-record L good n l =
     let between = children-between (termRow k) (times (termRow k) (lengthAt b o)) (numbersAt b o (termRow k)) (words-length b (o + 4) (length (fieldsAt b o (termRow k)))) (s .least) (s .most) in
     record {
       number = s .number;
-      count = omega arith;
+      count = λ g. let exact = s .exact g in omega arith;
       size = omega arith;
+      whole = inside;
       inside = omega arith;
       least = between .0;
       most = between .1;

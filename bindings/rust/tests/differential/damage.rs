@@ -4,7 +4,7 @@ use crate::random::Random;
 /// One to three random changes.
 pub fn damage(random: &mut Random, image: &mut Vec<u8>) {
     for _ in 0..random.between(1, 3) {
-        match random.below(12) {
+        match random.below(13) {
             0 => change_byte(random, image),
             1 => truncate(random, image),
             2 => append(random, image),
@@ -12,6 +12,7 @@ pub fn damage(random: &mut Random, image: &mut Vec<u8>) {
             5 => change_word(random, image, 0),
             6 => change_word(random, image, 2),
             7 | 8 => change_meaning(random, image),
+            9 => lengthen(random, image, 0),
             _ => change_field(random, image),
         }
     }
@@ -27,6 +28,22 @@ fn records(image: &[u8]) -> Vec<usize> {
         at += length.max(4);
     }
     offsets
+}
+
+/// A few bytes behind some records, each of which is as much longer then; those of one kind stay as they are. Only
+/// pointcut terms (46) are refused for it.
+pub fn lengthen(random: &mut Random, image: &mut Vec<u8>, but: u16) {
+    for at in records(image).into_iter().rev() {
+        let word = |at: usize| u16::from_le_bytes([image[at], image[at + 1]]);
+        let (length, more) = (word(at), random.below(5));
+        let end = at + usize::from(length);
+        if random.chance(30) && length >= 4 && end <= image.len() && word(at + 2) != but {
+            let mut bytes = vec![0; more];
+            random.fill(&mut bytes);
+            image[at..at + 2].copy_from_slice(&(length + more as u16).to_le_bytes());
+            image.splice(end..end, bytes);
+        }
+    }
 }
 
 fn change_byte(random: &mut Random, image: &mut [u8]) {

@@ -5,13 +5,16 @@ use crate::random::Random;
 use crate::watched;
 use bukzarn::program::{Shape, Term, Type};
 
-/// A random image; a third are damaged.
+/// A random image; some have longer records than their kinds need, and a third are damaged.
 pub fn image(random: &mut Random) -> Vec<u8> {
     let mut image = match random.below(10) {
         0..=2 => looped(random),
         3..=5 => watched::image(random),
         _ => straight(random),
     };
+    if random.chance(20) {
+        damage::lengthen(random, &mut image, 46);
+    }
     if random.chance(33) {
         damage::damage(random, &mut image);
     }

@@ -22,7 +22,7 @@ pub fn refused() -> Vec<(u16, Vec<u8>)> {
         (1, vec![0; 16_385]),
         (2, vec![4, 0, 16]),
         (3, record(99, &[])),
-        (4, record(1, &[1, 1])),
+        (4, record(1, &[])),
         (5, [unit.clone(), domain.clone()].concat()),
         (6, domain.repeat(17)),
         (7, [domain.clone(), record(19, &[0, 0])].concat()),

@@ -1,7 +1,8 @@
 //! Refusals 1 to 9: the records of an image, front to back (document 01, "The image").
 use super::Refused;
 
-/// A record: where it stands, its kind, its fields after the kind as 16-bit words (a number's 4 bytes are two).
+/// A record: where it stands, its kind, its known fields after the kind as 16-bit words (a number's 4 bytes are two).
+/// What stands behind these is skipped (document 02, card 1).
 #[derive(Debug, PartialEq, Eq)]
 pub struct Record {
     pub offset: usize,
@@ -104,7 +105,8 @@ fn record(image: &[u8], offset: usize, before: &Records, current: usize) -> Resu
     let kind = word(image, offset + 2);
     let Some(section) = section(kind) else { return refuse(3) };
     let wanted = fields(kind, length);
-    if length != 4 + 2 * wanted.len() {
+    let known = 4 + 2 * wanted.len();
+    if length < known || (kind == 46 && length != known) {
         return refuse(4);
     }
     if section < current {

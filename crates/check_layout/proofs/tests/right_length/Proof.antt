@@ -4,7 +4,7 @@ use native.Mathlib.Omega.{arith}
 use Prim.Native.Nat.{_-_}
 use Rattle.check_records.specs.Codes.{groupOf}
 use Rattle.check_layout.specs.Numbers.{groupsFill}
-use Rattle.check_layout.proofs.Lengths.{least-fits, short-fails, none-fails, group-fits}
+use Rattle.check_layout.proofs.Lengths.{least-fits, short-fails, longer-fits, group-fits}
 use borrow.Author.Needs.{needs}
 use Rattle.check_layout.proofs.tests.right_length.Statement.{statement}
 use Rattle.check_layout.proofs.tests.right_length.Tie as tie
@@ -26,7 +26,7 @@ returns-3 c =
     let g = c .before in
     let l = g .before .before .before in
     let s = l .before in
-    none-fails (s .args .code) (s .args .len) (s .pre) (omega (arith, l .least-length .ensures, g .before .before .if1 .left)) (sym (g .group-count .ensures) ∙ c .if3 .taken)
+    longer-fits (s .args .code) (s .args .len) (s .pre) (omega (arith, l .least-length .ensures, g .before .before .if1 .left)) (sym (g .group-count .ensures) ∙ c .if3 .taken)
 
 groups-fill-requires : tie.Need-groups-fill-requires
 groups-fill-requires c κs = search needs
