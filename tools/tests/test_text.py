@@ -92,7 +92,7 @@ class Frames(unittest.TestCase):
         self.assertEqual(self.field("9"), "frame[9]")
         self.assertEqual(self.field("9 width 2"), "x0(x0(frame[9])) + frame[10]")
         self.assertEqual(self.field("9 width 2 little"), "x0(x0(frame[10])) + frame[9]")
-        self.assertEqual(self.field("9 width 2 signed"), "x1(x0(x0(frame[9])) + frame[10])")
+        self.assertEqual(self.field("9 width 2 signed"), "x1(x1(x0(frame[9]))) + frame[10]")
         self.assertEqual(self.field("9 signed"), "x0(frame[9])")
         self.assertEqual(self.field("9", "frame.f[20]"), "frame[29]")
         self.assertEqual(self.field("9", "let b = 1 in frame.f[b]"), "frame[x0 + 9]")

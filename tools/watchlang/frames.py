@@ -1,11 +1,11 @@
 """The layout of a sonde's frame: names for bytes, and the terms that read them.
 
 The calculus has no multiplication. A field of several bytes is put together with the function `times16`, which adds its
-argument to itself 16 times: 256 · hi + lo is times16(times16(hi)) + lo, for two bindings. A signed field goes through
-`signed8`, `signed16` or `signed24`, which takes 2^n off a value with the highest bit set (a field of four bytes wraps
-by itself). An apply needs a function of the current domain, so each domain that reads such a field gets its own
-functions. The assembler binds them around the whole text, and those of a watch around that watch, so that a procedure
-is the same with and without it.
+argument to itself 16 times: 256 · hi + lo is times16(times16(hi)) + lo, for two bindings. The highest byte of a signed
+field goes through `signed8`, which takes 256 off a byte with the highest bit set; so no sum on the way leaves the range
+of numbers, at whose ends sums stop (card 2). An apply needs a function of the current domain, so each domain that reads
+such a field gets its own functions. The assembler binds them around the whole text, and those of a watch around that
+watch, so that a procedure is the same with and without it.
 """
 from dataclasses import dataclass
 
@@ -32,15 +32,14 @@ def times16(p):
     return terms.function("n", types.NUMBER, total("n", 16), p)
 
 
-def signed(bits):
-    """The function that gives a value of so many bits its sign."""
+def signed8(p):
+    """The function that gives a byte its sign."""
     n = terms.variable("n", types.NUMBER)
-    test = terms.less(terms.number((1 << bits - 1) - 1), n)
-    body = terms.branch(test, terms.minus(n, terms.number(1 << bits)), n)
-    return lambda p: terms.function("n", types.NUMBER, body, p)
+    body = terms.branch(terms.less(terms.number(127), n), terms.minus(n, terms.number(256)), n)
+    return terms.function("n", types.NUMBER, body, p)
 
 
-FUNCTIONS = {"times16": times16, "signed8": signed(8), "signed16": signed(16), "signed24": signed(24)}
+FUNCTIONS = {"times16": times16, "signed8": signed8}
 
 
 class FieldFunctions:
@@ -68,9 +67,10 @@ class FieldFunctions:
         for offset in reversed(offsets) if f.little else offsets:
             byte = terms.frame_byte(moved(base, offset))
             if value is not None:
-                byte = terms.plus(self.call("times16", p, self.call("times16", p, value)), byte)
-            value = byte
-        return self.call(f"signed{8 * f.width}", p, value) if f.signed and f.width < 4 else value
+                value = terms.plus(self.call("times16", p, self.call("times16", p, value)), byte)
+            else:
+                value = self.call("signed8", p, byte) if f.signed else byte
+        return value
 
 
 def moved(base, offset):

@@ -103,10 +103,10 @@ sheet =
     refuses [] Refusal.EmptySection 9 0 "refused 9 0\n"
     -- P2: "done at budget 0. Listing in full: `done 0`, `value 5`"
     ∷ ends p2-image 0 Outcome.Done 0 (Leaf.Number 5 ∷ []) [] (head 0 0 ++ (8 ∷ 0 ∷ 67 ∷ 0 ∷ 5 ∷ 0 ∷ 0 ∷ 0 ∷ [])) noCounts "done 0\nvalue 5\n"
-    -- P3: "2147483647 plus 1 is -2147483648"
-    ∷ ends (arithmetic 0 0 2147483647 1) sheetBudget Outcome.Done 1 (Leaf.Number 2147483648 ∷ []) [] (head 0 1 ++ (8 ∷ 0 ∷ 67 ∷ 0 ∷ 0 ∷ 0 ∷ 0 ∷ 128 ∷ [])) noCounts "done 1\nvalue -2147483648\n"
-    -- P4: "-2147483648 minus 1 is 2147483647"
-    ∷ ends (arithmetic 0 1 2147483648 1) sheetBudget Outcome.Done 1 (Leaf.Number 2147483647 ∷ []) [] (head 0 1 ++ (8 ∷ 0 ∷ 67 ∷ 0 ∷ 255 ∷ 255 ∷ 255 ∷ 127 ∷ [])) noCounts "done 1\nvalue 2147483647\n"
+    -- P3, card 2: 2147483647 plus 1 is the upper end of the range, 2147483647
+    ∷ ends (arithmetic 0 0 2147483647 1) sheetBudget Outcome.Done 1 (Leaf.Number 2147483647 ∷ []) [] (head 0 1 ++ (8 ∷ 0 ∷ 67 ∷ 0 ∷ 255 ∷ 255 ∷ 255 ∷ 127 ∷ [])) noCounts "done 1\nvalue 2147483647\n"
+    -- P4, card 2: -2147483648 minus 1 is the lower end, -2147483648
+    ∷ ends (arithmetic 0 1 2147483648 1) sheetBudget Outcome.Done 1 (Leaf.Number 2147483648 ∷ []) [] (head 0 1 ++ (8 ∷ 0 ∷ 67 ∷ 0 ∷ 0 ∷ 0 ∷ 0 ∷ 128 ∷ [])) noCounts "done 1\nvalue -2147483648\n"
     -- P5: "-1 less 0: true; 0 less 0: false"
     ∷ ends (arithmetic 1 2 4294967295 0) sheetBudget Outcome.Done 1 (Leaf.Truth true ∷ []) [] (head 0 1 ++ (6 ∷ 0 ∷ 66 ∷ 0 ∷ 1 ∷ 0 ∷ [])) noCounts "done 1\nvalue true\n"
     ∷ ends (arithmetic 1 2 0 0) sheetBudget Outcome.Done 1 (Leaf.Truth false ∷ []) [] (head 0 1 ++ (6 ∷ 0 ∷ 66 ∷ 0 ∷ 0 ∷ 0 ∷ [])) noCounts "done 1\nvalue false\n"

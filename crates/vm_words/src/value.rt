@@ -57,20 +57,10 @@ pub fn function(env: usize, target: usize) -> u64
     805306368 + 4294967296 * (65536 * (env as u64) + (target as u64))
 }
 
-// Plus and minus wrap modulo 2^32.
-fn sum(x: u64, y: u64) -> u64
-    requires { ⌜ (x < 4294967296) × (y < 4294967296) ⌝ }
-    ensures { λ r. ⌜ (r ≡ numbers.sum x y) × (r < 4294967296) ⌝ }
-{
-    (x + y) % 4294967296
-}
+// The ends of the range of numbers, as patterns.
+const LOWEST: u64 = 2147483648;
 
-fn difference(x: u64, y: u64) -> u64
-    requires { ⌜ (x < 4294967296) × (y < 4294967296) ⌝ }
-    ensures { λ r. ⌜ (r ≡ numbers.difference x y) × (r < 4294967296) ⌝ }
-{
-    (x + (4294967296 - y)) % 4294967296
-}
+const HIGHEST: u64 = 2147483647;
 
 // A pattern with its sign bit flipped: signed numbers are ordered as these are.
 fn flipped(x: u64) -> u32
@@ -78,6 +68,36 @@ fn flipped(x: u64) -> u32
     ensures { λ r. ⌜ r ≡ numbers.flipped x ⌝ }
 {
     std::num::wrapping_add_u32(x as u32, 2147483648)
+}
+
+// Sums and differences stop at the ends of the range; inside it they are those of the patterns.
+fn sum(x: u64, y: u64) -> u64
+    requires { ⌜ (x < 4294967296) × (y < 4294967296) ⌝ }
+    ensures { λ r. ⌜ (r ≡ numbers.sum x y) × (r < 4294967296) ⌝ }
+{
+    let s = flipped(x) as u64 + flipped(y) as u64;
+    if s < 2147483648 {
+        return LOWEST;
+    }
+    if s < 6442450944 {
+        return (x + y) % 4294967296;
+    }
+    HIGHEST
+}
+
+fn difference(x: u64, y: u64) -> u64
+    requires { ⌜ (x < 4294967296) × (y < 4294967296) ⌝ }
+    ensures { λ r. ⌜ (r ≡ numbers.difference x y) × (r < 4294967296) ⌝ }
+{
+    let s = flipped(x) as u64 + 2147483648;
+    let t = flipped(y) as u64;
+    if s < t {
+        return LOWEST;
+    }
+    if s - t < 4294967296 {
+        return (x + (4294967296 - y)) % 4294967296;
+    }
+    HIGHEST
 }
 
 fn less(x: u64, y: u64) -> bool

@@ -74,13 +74,13 @@ impl Program {
         self.apply(function, value)
     }
 
-    /// A sum modulo 2^32.
+    /// A sum, which stops at the ends of the range of 32-bit numbers.
     pub fn plus(&mut self, a: Term, b: Term) -> Term {
         let of = self.number_type();
         self.arithmetic(of, 0, a, b)
     }
 
-    /// A difference modulo 2^32.
+    /// A difference, which stops at the ends of the range of 32-bit numbers.
     pub fn minus(&mut self, a: Term, b: Term) -> Term {
         let of = self.number_type();
         self.arithmetic(of, 1, a, b)
