@@ -47,7 +47,7 @@ enum bukzarn_refusal {
     BUKZARN_IMAGE_TOO_LONG = 1,    /* over 16,384 bytes; place 0 */
     BUKZARN_BROKEN_RECORD = 2,     /* 1 to 3 bytes left, a length under 4 or past the end; the record */
     BUKZARN_UNKNOWN_KIND = 3,      /* the record */
-    BUKZARN_WRONG_LENGTH = 4,      /* too short, or a pointcut term of wrong length; the record */
+    BUKZARN_WRONG_LENGTH = 4,      /* too short, or a pointcut, object or object type of wrong length; the record */
     BUKZARN_SECTION_ORDER = 5,     /* the record */
     BUKZARN_TOO_MANY_RECORDS = 6,  /* in one section; the record */
     BUKZARN_FIELD_RANGE = 7,       /* a type, child, domain, op or truth out of range; the record */

@@ -2,12 +2,13 @@
 
 make_stored.py puts them among the images of the program `stored_images`.
 """
-from watchlang.kinds import POINTCUT
+from watchlang.kinds import GROUPS, OBJECT, OBJECT_T, POINTCUT
 from watchlang.records import record, word
-from watchlang.terms import (abort, advice, apply, branch, function, install, lay_out, less, let, lower, mark, minus,
-                             new_cell, new_label, number, pair, plus, pointcut, read, sequence, show, store, unit,
-                             variable)
-from watchlang.types import NUMBER, UNIT, function as function_type, label as label_type, reference as reference_type
+from watchlang.terms import (abort, advice, apply, branch, call, function, install, lay_out, less, let, lower, mark,
+                             minus, new_cell, new_label, number, object_of, pair, plus, pointcut, read, sequence,
+                             show, store, typed, unit, variable)
+from watchlang.types import (NUMBER, UNIT, function as function_type, label as label_type, object_of as object_type,
+                             reference as reference_type)
 
 BUDGET = 100_000
 
@@ -133,16 +134,26 @@ def type_twice():
 
 
 def lengthened(made, kinds_too=()):
-    """An image each of whose records has bytes behind its fields, a pointcut none but for kinds_too (document 02, card
-    1); one byte more from record to record."""
+    """An image each of whose records has bytes behind its fields, those of exact lengths none but for kinds_too (document
+    02, card 1); one byte more from record to record."""
     longer, offset, more = b"", 0, 0
     while offset < len(made):
         length, kind = word(made, offset), word(made, offset + 2)
         more = more % 5 + 1
-        skipped = bytes(range(more)) if kind != POINTCUT or kind in kinds_too else b""
+        skipped = bytes(range(more)) if kind not in GROUPS or kind in kinds_too else b""
         longer += record(kind, made[offset + 4:offset + length] + skipped)
         offset += length
     return longer
+
+
+def byte_behind(made, longer):
+    """An image whose records of one kind have one byte more."""
+    whole, offset = b"", 0
+    while offset < len(made):
+        length, kind = word(made, offset), word(made, offset + 2)
+        whole += record(kind, made[offset + 4:offset + length] + bytes(kind == longer))
+        offset += length
+    return whole
 
 
 def longer_type_twice():
@@ -153,6 +164,115 @@ def longer_type_twice():
 def short_number():
     """An image whose number has 2 bytes."""
     return bytes.fromhex("060001000100" "04001200" "080022000000" "0500")
+
+
+def numbers(methods):
+    """The type of an object with so many methods of domain 0, each of which gives a number."""
+    return object_type([(0, NUMBER)] * methods)
+
+
+def adding(methods):
+    """An object with so many methods, the first of which adds up the numbers of all: each calls the next."""
+    t = numbers(methods)
+    bodies = [plus(number(m), call(variable("self", t), m + 1)) for m in range(methods - 1)]
+    return call(object_of(t, "self", *bodies, number(methods - 1)), 0)
+
+
+def endless(around):
+    """A method that calls itself for ever, with something around the call."""
+    t = object_type([(0, UNIT)])
+    return call(object_of(t, "self", around(call(variable("self", t), 0))), 0)
+
+
+def waiting(frames):
+    """A method that calls itself inside a sum until a cell has counted down: so many terms enclose the innermost
+    reduction, the sums that wait, the branch and its test."""
+    t, c = numbers(1), variable("c", reference_type(NUMBER, 0))
+    down = sequence(store(c, minus(read(c), number(1))), plus(number(1), call(variable("self", t), 0)))
+    body = branch(less(read(c), number(1)), number(0), down)
+    return let("c", new_cell(number(frames - 2)), call(object_of(t, "self", body), 0))
+
+
+def in_cells():
+    """An object in a cell, which its own method replaces by another: the next call finds that one."""
+    t = numbers(1)
+    c = variable("c", reference_type(t, 0))
+    second = object_of(t, "self", number(2))
+    first = object_of(t, "self", sequence(store(c, second), number(1)))
+    calls = sequence(show(call(read(c), 0)), show(call(read(c), 0)))
+    empty = new_cell(object_of(t, "self", number(0)))
+    return let("c", empty, sequence(store(c, first), calls))
+
+
+def outer_variables():
+    """An object that a function gives, called outside it: its bodies have the function's argument."""
+    t, x = numbers(2), variable("x", NUMBER)
+    o, itself = variable("o", t), variable("self", t)
+    made = function("x", NUMBER, object_of(t, "self", plus(x, call(itself, 1)), minus(number(0), x)))
+    calls = pair(call(o, 0), call(o, 1))
+    return let("f", made, let("o", apply(variable("f", made.type), number(7)), calls))
+
+
+def low_method(around):
+    """An object with a high method and a low one that prints; `around` has the call of the low one."""
+    t = object_type([(0, NUMBER), (1, UNIT)])
+    o = variable("o", t)
+    return let("o", object_of(t, "self", number(5), show(number(7))), sequence(around(call(o, 1)), call(o, 0)))
+
+
+def low_calls_high():
+    """A low method whose body calls the high one."""
+    t = object_type([(0, NUMBER), (1, UNIT)])
+    return call(object_of(t, "self", number(5), show(call(variable("self", t), 0))), 0)
+
+
+def bodies(n, methods):
+    """An object with n bodies whose type has so many methods."""
+    return call(object_of(numbers(methods), "self", *[number(5)] * n), 0)
+
+
+def past_the_last(m):
+    """A call of a method by its number, of an object with two."""
+    return typed(call(object_of(numbers(2), "self", number(5), number(6)), m), NUMBER)
+
+
+def alike():
+    """Two object types that differ in their last method alone, both used."""
+    s, t = object_type([(0, NUMBER), (0, NUMBER)]), object_type([(0, NUMBER), (1, NUMBER)])
+    two = (object_of(t, "self", number(5), number(6)), object_of(s, "self", number(7), number(8)))
+    return pair(call(two[0], 0), call(two[1], 1))
+
+
+def object_type_twice():
+    """An image with an object type twice, and one that differs in its last method between them."""
+    number_t = bytes.fromhex("060001000100" "04001200")
+    one, other = (record(OBJECT_T, 0, 0, 0, 0), record(OBJECT_T, 0, 0))
+    return number_t + one + other + one
+
+
+def object_cases():
+    """Cases of document 02, card 3."""
+    yield "methods-8", image(adding(8)), BUDGET
+    yield "methods-9", image(adding(9)), BUDGET
+    yield "method-calls-itself", image(endless(lambda e: e)), BUDGET
+    yield "method-calls-itself", image(endless(lambda e: e)), 2048
+    yield "method-prints-and-calls-itself", image(endless(lambda e: sequence(show(number(1)), e))), 9
+    yield "method-waits-512", image(waiting(512)), BUDGET
+    yield "method-waits-513", image(waiting(513)), BUDGET
+    yield "objects-in-cells", image(in_cells()), BUDGET
+    yield "outer-variables-in-methods", image(outer_variables()), BUDGET
+    yield "low-method-from-above", image(low_method(lambda e: e), chain(2)), BUDGET
+    yield "low-method-lowered", image(low_method(lambda e: lower(1, e)), chain(2)), BUDGET
+    yield "low-method-calls-high", image(low_calls_high(), chain(2)), BUDGET
+    yield "method-past-the-last", image(past_the_last(2)), BUDGET
+    yield "method-65535", image(past_the_last(65_535)), BUDGET
+    yield "bodies-too-few", image(bodies(1, 2)), BUDGET
+    yield "bodies-too-many", image(bodies(2, 1)), BUDGET
+    yield "object-types-alike", image(alike(), chain(2)), BUDGET
+    yield "object-type-twice", object_type_twice(), BUDGET
+    yield "longer-call", lengthened(image(adding(2))), BUDGET
+    yield "longer-object", byte_behind(image(adding(2)), OBJECT), BUDGET
+    yield "longer-object-type", byte_behind(image(adding(2)), OBJECT_T), BUDGET
 
 
 def all_cases():
@@ -191,3 +311,4 @@ def all_cases():
     yield "longer-pointcut", lengthened(image(pointcut_of(2)), [POINTCUT]), BUDGET
     yield "longer-type-twice", longer_type_twice(), BUDGET
     yield "short-number", short_number(), BUDGET
+    yield from object_cases()

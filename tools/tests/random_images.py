@@ -40,7 +40,17 @@ class Maker:
         return self.rng.choice([
             lambda: types.pair(a, self.type(fuel - 1)), lambda: types.function(a, p, self.type(fuel - 1)),
             lambda: types.reference(a, p), lambda: types.label(a, p), lambda: types.pointcut(a, p),
-            lambda: types.advice(p)])()
+            lambda: types.advice(p), lambda: self.object_type(fuel - 1)])()
+
+    def object_type(self, fuel, *wanted):
+        """An object type, maybe with a method that is wanted; one with many methods gives numbers and units."""
+        many = self.rng.random() < 0.1
+        count = self.rng.randint(4, 8) if many else self.rng.randint(1, 3)
+        methods = [(self.domain(), self.rng.choice([types.UNIT, types.NUMBER]) if many else self.type(fuel))
+                   for _ in range(count)]
+        for method in wanted:
+            methods[self.rng.randrange(count)] = method
+        return types.object_of(methods)
 
     def name(self):
         self.names += 1
@@ -72,8 +82,13 @@ class Maker:
             a = self.type(1)
             return terms.apply(make(types.function(a, here, t)), make(a))
 
+        def call():
+            known = [terms.variable(name, own) for name, own in scope if (here, t) in own.methods]
+            e = self.rng.choice(known) if known else make(self.object_type(0, (here, t)))
+            return terms.call(e, self.rng.choice([m for m, method in enumerate(e.type.methods) if method == (here, t)]))
+
         return self.rng.choice([
-            let, let, split, apply, lambda: terms.sequence(make(types.UNIT), make(t)),
+            let, let, split, apply, call, lambda: terms.sequence(make(types.UNIT), make(t)),
             lambda: terms.branch(make(types.TRUTH), make(t), make(t)),
             lambda: terms.read(make(types.reference(t, self.domain(lambda p: self.below(here, p)))))])()
 
@@ -99,6 +114,9 @@ class Maker:
         if t.kind == kinds.FUNCTION_T:
             x = self.name()
             return terms.function(x, t.first, make(t.last, ((x, t.first),), t.domain), t.domain)
+        if t.kind == kinds.OBJECT_T:
+            x = self.name()
+            return terms.object_of(t, x, *(make(of, ((x, t),), p) for p, of in t.methods))
         if t.kind == kinds.REFERENCE_T:
             return terms.new_cell(make(t.first), t.domain)
         if t.kind == kinds.LABEL_T:
@@ -174,7 +192,7 @@ def shuffled(image, rng):
     for records, place in ((tables.sections[1], type_place), (tables.terms, term_place)):
         moved = [b""] * len(records)
         for n, r in enumerate(records):
-            letters = kinds.fields(r.kind, len(r.fields) - 1)
+            letters = kinds.fields(r.kind, len(r.fields))
             moved[place[n]] = written(r.kind, [new[l][f] if l in new else f for l, f in zip(letters, r.fields)])
         made += moved
     return b"".join(made)
@@ -216,19 +234,27 @@ def field_damage(made, rng):
 
 
 def domain_damage(made, rng):
-    """Another domain in a type."""
+    """Another domain in a type, or another method in a call."""
     domains = sum(r[2] == kinds.DOMAIN for r in made if len(r) > 2)
-    with_domain = [r for r in made if len(r) > 5 and kinds.FUNCTION_T <= r[2] <= kinds.ADVICE_T]
+    others = (*range(kinds.FUNCTION_T, kinds.OBJECT_T + 1), kinds.CALL)
+    with_domain = [r for r in made if len(r) > 5 and r[2] in others]
     if with_domain and domains:
         r = rng.choice(with_domain)
-        at = 4 if r[2] == kinds.ADVICE_T else 6
+        at = 4 if r[2] in (kinds.ADVICE_T, kinds.OBJECT_T) else 8 if r[2] == kinds.CALL else 6
         r[at:at + 2] = rng.randrange(domains).to_bytes(2, "little")
 
 
 def other_damage(made, rng):
-    """Another byte, or a record twice, or one with bytes put in behind it, or a record left out."""
-    n, how = rng.randrange(len(made)), rng.randrange(4)
-    if how == 3 and len(made[n]) > 3:
+    """Another byte, or a record twice, or one with bytes put in behind it, or a record left out; or one method, body or
+    label more or less."""
+    n, how = rng.randrange(len(made)), rng.randrange(5)
+    groups = [r for r in made if len(r) > 7 and r[2] in kinds.GROUPS]
+    if how == 4 and groups:
+        r = rng.choice(groups)
+        size = 2 * len(kinds.GROUPS[r[2]][0])
+        r[-size:] = rng.choice([b"", r[-size:] * 2])
+        r[:2] = len(r).to_bytes(2, "little")
+    elif how == 3 and len(made[n]) > 3:
         made[n] += rng.randbytes(rng.randint(1, 4))
         made[n][:2] = len(made[n]).to_bytes(2, "little")
     elif how == 0 and made[n]:
@@ -244,7 +270,7 @@ def lengthened(image, rng):
     made, offset = b"", 0
     while offset < len(image):
         length, kind = (int.from_bytes(image[at:at + 2], "little") for at in (offset, offset + 2))
-        more = 0 if kind == kinds.POINTCUT else rng.choice([0, 0, 1, 2, rng.randrange(9)])
+        more = 0 if kind in kinds.GROUPS else rng.choice([0, 0, 1, 2, rng.randrange(9)])
         made += (length + more).to_bytes(2, "little") + image[offset + 2:offset + length] + rng.randbytes(more)
         offset += length
     return made

@@ -6,10 +6,11 @@ from pathlib import Path
 import common
 import make_examples
 import make_stored
-from watchlang import kinds, refusals
+from watchlang import refusals
+from watchlang.assembler import assemble
 from watchlang.disassembler import disassemble, program, tree
 from watchlang.layout import laid_out
-from watchlang.terms import body_domain
+from watchlang.terms import child_domains
 
 FOLDER = common.ROOT / "examples"
 WITH_WATCHES = ("count", "trace", "watched", "plausible")
@@ -20,16 +21,20 @@ def high_log(name):
     return [line for line in (FOLDER / f"{name}.txt").read_text().splitlines() if line.startswith("log 0 ")]
 
 
-def blanked(name):
-    """The program of an example with its low bodies left out: kinds, types and fields as nested tuples."""
+def stored(name):
+    """The image of an example."""
+    return (FOLDER / f"{name}.img").read_bytes()
+
+
+def blanked(image):
+    """The program of an image with its low bodies left out: kinds, types and fields as nested tuples."""
     def blank(e, here):
         if here != 0:
             return "low"
-        inner = [blank(c, here) for c in e.children[:-1]]
-        inner += [blank(c, body_domain(e, here)) for c in e.children[-1:]]
+        inner = [blank(c, p) for c, p in zip(e.children, child_domains(e, len(e.children), here))]
         fields = [f for f in e.fields if isinstance(f, int)]
         return (e.kind, e.type, fields, inner)
-    return blank(tree(laid_out((FOLDER / f"{name}.img").read_bytes())), 0)
+    return blank(tree(laid_out(image)), 0)
 
 
 class Examples(unittest.TestCase):
@@ -51,7 +56,29 @@ class Examples(unittest.TestCase):
 
     def test_watches_differ_only_in_low_bodies(self):
         for name in WITH_WATCHES:
-            self.assertEqual(blanked(name), blanked("plain"), name)
+            self.assertEqual(blanked(stored(name)), blanked(stored("plain")), name)
+
+    def test_low_methods_are_low_bodies(self):
+        """The procedure for two types of sonde is the same whatever their methods of the domain watch do, and not the same
+        with another method of the decoder's."""
+        text = (FOLDER / "sondes.proc").read_text()
+        for old, new, same in (("count := read count + 1; print read count", "abort unit", True),
+                               ("correction  { 0 }", "correction  { 1 }", False)):
+            self.assertEqual(text.count(old), 1)
+            changed = assemble(text.replace(old, new)).image
+            self.assertNotEqual(changed, stored("sondes"))
+            self.assertEqual(blanked(changed) == blanked(stored("sondes")), same)
+
+    def test_both_types_of_sonde_are_decoded(self):
+        """Six levels each, a pressure and a temperature of each level; the two agree within ten hectopascals and four
+        degrees."""
+        printed = [int(line.split()[2]) for line in high_log("sondes")]
+        first, second = printed[:12], printed[12:]
+        self.assertEqual(len(second), 12)
+        for p, q in zip(first[::2], second[::2]):
+            self.assertLess(abs(p - q), 100)
+        for p, q in zip(first[1::2], second[1::2]):
+            self.assertLess(abs(p - q), 40)
 
     def test_the_decoders_log_is_the_same_with_watches(self):
         plain = high_log("plain")

@@ -34,6 +34,21 @@ class Gate(unittest.TestCase):
                 self.assertIn("Here: ", said, file.name)
                 self.assertIn("To mend it: ", said)
 
+    def test_objects_have_words_of_their_own(self):
+        for name, number, words in (
+                ("method-past-the-last", 14, "Here: method 2 is called, but the methods are 0 to 1: object { m0 at d0"),
+                ("method-past-the-last", 14, "To mend it: Call a method that the type of the object has"),
+                ("bodies-too-few", 14, "Here: the object has 1 bodies, but its type has 2 methods"),
+                ("bodies-too-many", 14, "To mend it: Give the object one body for each method"),
+                ("low-method-from-above", 15, "Here: the method's domain is d1, and must equal the current domain, d0"),
+                ("low-method-calls-high", 15, "To mend it: Call a method of the current domain"),
+                ("object-type-twice", 8, "Here: this type equals type 1"),
+                ("methods-9", 4, "an object 1 to 8 methods")):
+            image = (common.STORED / "data" / f"{name}.img").read_bytes()
+            refused = verdict(image)
+            self.assertEqual(refused.number, number, name)
+            self.assertIn(words, refusals.explain(image, number, refused.place))
+
     def test_another_place(self):
         image = (common.ROOT / "examples/alter.img").read_bytes()
         self.assertIn("By these rules this image is refused 15", refusals.explain(image, 14, 450))

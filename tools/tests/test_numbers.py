@@ -69,8 +69,10 @@ class Numbers(unittest.TestCase):
     def test_limits(self):
         limits = constants("image", "Limits.antt")
         self.assertEqual(
-            (kinds.IMAGE_LIMIT, kinds.DOMAIN_LIMIT, kinds.TYPE_LIMIT, kinds.TERM_LIMIT, kinds.DEPTH_LIMIT, kinds.LABEL_LIMIT),
-            tuple(limits[name] for name in ("imageLimit", "domainLimit", "typeLimit", "termLimit", "depthLimit", "pointcutLimit")))
+            (kinds.IMAGE_LIMIT, kinds.DOMAIN_LIMIT, kinds.TYPE_LIMIT, kinds.TERM_LIMIT, kinds.DEPTH_LIMIT,
+             kinds.LABEL_LIMIT, kinds.METHOD_LIMIT),
+            tuple(limits[name] for name in ("imageLimit", "domainLimit", "typeLimit", "termLimit", "depthLimit",
+                                            "pointcutLimit", "methodLimit")))
         self.assertEqual(kinds.LEAF_LIMIT, constants("calculus", "Limits.antt")["leafLimit"])
 
     def test_records_of_log_and_report(self):

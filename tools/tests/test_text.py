@@ -29,6 +29,8 @@ class Text(unittest.TestCase):
                 "frame[255] == 255", "let x0 = new label unit at d0 in\nmark x0 with ()",
                 "install advice on pointcut {} of number at d1 as x0 at d1 { print x0 }",
                 "let x0 = new cell 1 at d1 in\nx0 := 2", "let x0 = new cell 1 at d0 in\nread x0 - (1 + 1)",
+                "let x0 = object { m0 at d0 : number; m1 at d1 : unit } as x0 {\n    m0 { 5 }\n    m1 { () }\n} in\n"
+                "lower to d1 { x0.m1 };\nx0.m0", "object { m0 at d0 : truth } as x0 { m0 { x0.m0 } }.m0",
                 "lower to d1 { abort unit }", "abort (number, truth)", "(function (x0 : number) at d0 { x0 })(1)"):
             with self.subTest(program):
                 text = program.replace("d0", "main").replace("d1", "watch")
@@ -67,6 +69,40 @@ class Text(unittest.TestCase):
     def test_a_function_that_does_not_call_itself_does_not(self):
         made = text_of("define f (n : number) to number { n } in f(3)")
         self.assertEqual(made, "let x0 = function (x0 : number) at d0 { x0 } in\nx0(3)")
+
+    def test_methods_by_name(self):
+        """Bodies may stand in any order; each is read at its method's domain, and has the object itself."""
+        head = "type t = object { a at main : number; b at watch : unit }\n"
+        made = text_of(head + "let c = 3 in object t as self { b { let c = new cell 1 in c := 2 } a { self.a + c } }.a")
+        self.assertEqual(made, "let x0 = 3 in\nobject { m0 at d0 : number; m1 at d1 : unit } as x1 {\n"
+                               "    m0 { x1.m0 + x0 }\n"
+                               "    m1 {\n        let x2 = new cell 1 at d1 in\n        x2 := 2\n    }\n}.m0")
+
+    def test_a_method_may_give_a_function(self):
+        made = text_of("object { f at main : function from number at main to number } as s {"
+                       "    f { function (n : number) { n } } }.f(3)")
+        self.assertTrue(made.endswith("}.m0(3)"), made)
+
+    def test_equal_object_types_may_have_other_names(self):
+        self.assertIsNone(verdict(assemble(HEAD + (
+            "type s = object { a at main : number; b at main : number }\n"
+            "type t = object { c at main : number; d at main : number }\n"
+            "let x = object s as s { a { 1 } b { 2 } } in x.a + x.d")).image))
+
+    def test_objects_against_the_rules(self):
+        """What the engine refuses can be written: bodies and methods by number, with a stated type."""
+        one = "object { a at main : number } as s { a { 1 } }"
+        for text, number in (
+                ("(object as s { a { 1 } b { 2 } } : object { a at main : number }).0", 14),
+                ("(object as s { a { 1 } } : number)", 14), (f"({one}.1 : number)", 14),
+                (f"({one}.65535 : number)", 14), ("(5.0 : number)", 14), ("object { a at main : number } as s { a { true } }.a", 14),
+                ("object { a at watch : number } as s { a { 1 } }.a", 15), (one, 16)):
+            with self.subTest(text):
+                image = assemble(HEAD + text).image
+                self.assertEqual(verdict(image).number, number)
+                again = disassemble(image)
+                self.assertFalse(again.startswith("records"))
+                self.assertEqual(assemble(again).image, image)
 
     def test_stated_types_are_not_checked(self):
         self.assertEqual(verdict(assemble(HEAD + "print (true : number)").image).number, 14)
@@ -134,6 +170,20 @@ ERRORS = (
     ("domain a\ndefine f (n : number) to truth { f(n); 1 } in f(1)", "does not have the type that is said"),
     ("domain a\npointcut {" + ", ".join(["1"] * 9) + "}", "a pointcut has at most 8 labels, this one has 9"),
     ("\n".join(f"domain d{i}" for i in range(17)) + "\n()", "line 17: an image has at most 16 domains"),
+    ("domain a\ntype t = object { }\n()", "line 2: an object has 1 to 8 methods, this one has 0"),
+    ("domain a\ntype t = object { " + "; ".join(f"m{i} at a : unit" for i in range(9)) + " }\n()", "this one has 9"),
+    ("domain a\ntype t = object { m at a : unit; m at a : unit }\n()", "a method is declared twice: m"),
+    ("domain a\ntype t = number\nobject t as s { }", "line 3: the type of an object must be an object type"),
+    ("domain a\nobject { m at a : unit } as s { n { () } }", "the object has no method n; its methods are m"),
+    ("domain a\nobject { m at a : unit } as s { m { () } m { () } }", "the method m has a body already"),
+    ("domain a\nobject { m at a : unit; n at a : unit } as s { m { () } }", "1 bodies, but its type has 2 methods"),
+    ("domain a\nobject as s { m { () } }", "an object's type stands after object"),
+    ("domain a\n5.m", "what m is called of must be an object"),
+    ("domain a\n5.0", "what is called must be an object with a method 0, counted from 0"),
+    ("domain a\ntype s = object { m at a : unit; n at a : unit }\ntype t = object { n at a : unit; m at a : unit }\n"
+     "object s as s { m { () } n { () } }", "line 4: m is more than one method"),
+    ("records\ntype 0: object 0", "object does not have 1 fields"),
+    ("records\nterm 0: object as 0", "object does not have 1 fields"),
     ("records\nterm 0: number 5", "line 2: a term ends with 'as'"),
     ("records\nterm 1: unit as 0", "line 2: this is term 0, but the line says 1"),
     ("records\nterm 0: units as 0", "no term is called units"),
@@ -146,9 +196,10 @@ ERRORS = (
 
 class Page(unittest.TestCase):
     def test_the_texts_of_the_page_are_accepted_or_read(self):
-        """docs/LANGUAGE.md: its first text is accepted, its text of records is one with stray bytes."""
-        _, first, _, last, _ = (common.ROOT / "docs/LANGUAGE.md").read_text().split("```")
+        """docs/LANGUAGE.md: its first texts are accepted, its text of records is one with stray bytes."""
+        _, first, _, objects, _, last, _ = (common.ROOT / "docs/LANGUAGE.md").read_text().split("```")
         self.assertIsNone(verdict(assemble(first).image))
+        self.assertIsNone(verdict(assemble(objects).image))
         self.assertEqual(verdict(assemble(last).image).number, 2)
 
 

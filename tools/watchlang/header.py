@@ -8,15 +8,21 @@ from .lexer import KEYWORDS, SourceError
 
 @dataclass
 class Head:
-    """What the head of a text declares; a watch's text stands under the head of its procedure."""
+    """What the head of a text declares; a watch's text stands under the head of its procedure. `methods` has for an
+    object type the names of its methods, as often as it is written: equal types are one, and may have other names."""
     domains: list = field(default_factory=list)
     above: list = field(default_factory=list)
     types: dict = field(default_factory=dict)
     fields: dict = field(default_factory=dict)
+    methods: dict = field(default_factory=dict)
 
     def copy(self):
         """The same head, to which a watch may add types and fields of its own."""
-        return Head(self.domains, self.above, dict(self.types), dict(self.fields))
+        return Head(self.domains, self.above, dict(self.types), dict(self.fields), dict(self.methods))
+
+    def name_methods(self, t, names):
+        """Keeps the names that a text gives the methods of an object type."""
+        self.methods[t] = (*self.methods.get(t, ()), names)
 
     def masks(self):
         """The mask of each domain: as it is said, or with all that lies above what is named above it."""
@@ -104,6 +110,8 @@ class Cursor:
             return types.function(a, p, self.type())
         if self.accept("advice"):
             return types.advice(self.type_domain())
+        if self.accept("object"):
+            return self.object_type()
         for make in (types.reference, types.label, types.pointcut):
             if self.accept(make.__name__):
                 return make(self.type(), self.type_domain())
@@ -111,6 +119,35 @@ class Cursor:
         if name not in self.head.types:
             self.fail(f"there is no type {name}; types that are named stand at the top: type {name} = ...", place)
         return self.head.types[name]
+
+    def object_type(self):
+        """The methods of an object, behind the word object: `{ name at domain : type; ... }`."""
+        place, names, methods = self.place, [], []
+        self.take("{", "before the methods of an object")
+        while not self.accept("}"):
+            if names:
+                self.take(";", "between the methods of an object")
+            names.append(self.new_name("a method", names))
+            p = self.type_domain()
+            self.take(":", f"and the type of what {names[-1]} gives")
+            methods.append((p, self.type()))
+        if not 1 <= len(names) <= kinds.METHOD_LIMIT:
+            self.fail(f"an object has 1 to {kinds.METHOD_LIMIT} methods, this one has {len(names)}", place)
+        t = types.object_of(methods)
+        self.head.name_methods(t, tuple(names))
+        return t
+
+    def method(self, t, name, place):
+        """The number of an object type's method by its name."""
+        known = self.head.methods.get(t, ())
+        found = {names.index(name) for names in known if name in names}
+        if not found:
+            said = ", ".join(dict.fromkeys(n for names in known for n in names)) or "none"
+            self.fail(f"the object has no method {name}; its methods are {said}", place)
+        if len(found) > 1:
+            self.fail(f"{name} is more than one method: object types with the same domains and types are one type, and "
+                      f"these name their methods in another order", place)
+        return found.pop()
 
     def type_domain(self):
         self.take("at", "and a domain in the type")

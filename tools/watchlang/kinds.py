@@ -1,13 +1,15 @@
-"""The kinds of records (document 01, "The image"): for each its number, its name, and its fields.
+"""The kinds of records (document 01, "The image"; document 02, card 3): for each its number, its name, and its fields.
 
 A field is one letter: m a mask, a a lower type, p a domain, t a term's own type, e a lower term, k a variable's number,
-v a truth, o an operation (all 16 bits), n a number of 4 bytes. A pointcut term has a list of 0 to 8 terms: *.
+v a truth, o an operation, i a method's number (all 16 bits), n a number of 4 bytes. Behind the fields of some kinds a
+group of fields stands so often as the record's length says.
 """
 
 DOMAIN = 1
-UNIT_T, TRUTH_T, NUMBER_T, PAIR_T, FUNCTION_T, REFERENCE_T, LABEL_T, POINTCUT_T, ADVICE_T = range(16, 25)
+(UNIT_T, TRUTH_T, NUMBER_T, PAIR_T, FUNCTION_T, REFERENCE_T, LABEL_T, POINTCUT_T, ADVICE_T,
+ OBJECT_T) = range(16, 26)
 (UNIT, TRUTH, NUMBER, VARIABLE, SEQUENCE, PRINT, IF, PAIR, SPLIT, FUNCTION, APPLY, ARITHMETIC, NEW_LABEL, MARK,
- POINTCUT, ADVICE, INSTALL, NEW_CELL, READ, STORE, LOWER, ABORT) = range(32, 54)
+ POINTCUT, ADVICE, INSTALL, NEW_CELL, READ, STORE, LOWER, ABORT, OBJECT, CALL) = range(32, 56)
 FRAME_BYTE = 60
 
 KINDS = {
@@ -21,6 +23,7 @@ KINDS = {
     LABEL_T: ("label", "ap"),
     POINTCUT_T: ("pointcut", "ap"),
     ADVICE_T: ("advice", "p"),
+    OBJECT_T: ("object", ""),
     UNIT: ("unit", "t"),
     TRUTH: ("truth", "tv"),
     NUMBER: ("number", "tn"),
@@ -35,7 +38,7 @@ KINDS = {
     ARITHMETIC: ("arithmetic", "toee"),
     NEW_LABEL: ("new-label", "t"),
     MARK: ("mark", "tee"),
-    POINTCUT: ("pointcut", "t*"),
+    POINTCUT: ("pointcut", "t"),
     ADVICE: ("advice", "tee"),
     INSTALL: ("install", "te"),
     NEW_CELL: ("new-cell", "te"),
@@ -43,6 +46,8 @@ KINDS = {
     STORE: ("store", "tee"),
     LOWER: ("lower", "tpe"),
     ABORT: ("abort", "t"),
+    OBJECT: ("object", "t"),
+    CALL: ("call", "tei"),
     FRAME_BYTE: ("frame-byte", "te"),
 }
 
@@ -53,7 +58,11 @@ IMAGE_LIMIT = 16_384
 DOMAIN_LIMIT, TYPE_LIMIT, TERM_LIMIT = 16, 128, 1_024
 DEPTH_LIMIT = 64
 LABEL_LIMIT = 8
+METHOD_LIMIT = 8
 LEAF_LIMIT = 8
+
+# The kinds with a group: its fields, and how often it stands at least and at most. Their lengths are exact.
+GROUPS = {OBJECT_T: ("pa", 1, METHOD_LIMIT), POINTCUT: ("e", 0, LABEL_LIMIT), OBJECT: ("e", 1, METHOD_LIMIT)}
 
 
 def section(kind):
@@ -66,10 +75,12 @@ def name(kind):
 
 
 def fields(kind, count=0):
-    """The letters of a kind's fields; a pointcut's list stands for so many terms."""
-    return KINDS[kind][1].replace("*", "e" * count)
+    """The letters of a kind's fields; with a group, of a record of so many fields."""
+    first, group = KINDS[kind][1], GROUPS.get(kind, ("",))[0]
+    return first + group * ((count - len(first)) // len(group)) if group else first
 
 
-def binds(kind):
-    """How many variables the last child of a term gains."""
-    return {SPLIT: 2, FUNCTION: 1, ADVICE: 1}.get(kind, 0)
+def counts(kind):
+    """How many fields a record of a kind may have."""
+    first, (group, least, most) = len(KINDS[kind][1]), GROUPS.get(kind, ("", 0, 0))
+    return [first + n * len(group) for n in range(least, most + 1)]

@@ -44,7 +44,7 @@ class Tables:
 CAUSES = {
     2: "the image ends inside this record, or its length is under 4",
     3: "no record has this kind",
-    4: "the record is too short for its kind, or it is a pointcut of a wrong length",
+    4: "the record is too short for its kind, or it is a pointcut, an object or an object type of a wrong length",
 }
 SECTIONS = ("domain", "type", "term")
 LIMITS = (kinds.DOMAIN_LIMIT, kinds.TYPE_LIMIT, kinds.TERM_LIMIT)
@@ -78,7 +78,7 @@ def take(tables, record):
     if cause:
         raise Refused(7, at, cause)
     if n == 1:
-        parts = zip(kinds.fields(record.kind), record.fields)
+        parts = zip(kinds.fields(record.kind, len(record.fields)), record.fields)
         made = types.make(record.kind, *(tables.types[f] if l == "a" else f for l, f in parts))
         if made in tables.types:
             raise Refused(8, at, f"this type equals type {tables.types.index(made)}")
@@ -97,7 +97,7 @@ def out_of_range(tables, record):
         "o": (4, "operation {}, but the operations are 0 to 3"),
         "v": (2, "truth {}, but a truth is 0 or 1"),
     }
-    for letter, f in zip(kinds.fields(record.kind, len(record.fields) - 1), record.fields):
+    for letter, f in zip(kinds.fields(record.kind, len(record.fields)), record.fields):
         limit, words = bounds.get(letter, (1 << 16, ""))
         if letter != "n" and f >= limit:
             return "the record names " + words.format(f, limit)

@@ -1,7 +1,7 @@
 """From text to a tree of terms (docs/LANGUAGE.md). Types are worked out from below while the text is read.
 
 From loose to tight: `a; b` and `let`; actions (print, mark, install, new, if, `:=`); `<` and `==`; `+` and `-`; `read`;
-application.
+application and the call of a method.
 """
 from dataclasses import dataclass, replace
 
@@ -197,9 +197,18 @@ class Parser(Cursor):
         if self.accept("read"):
             return self.make(place, terms.read, self.tight())
         e = self.primary()
-        while self.sees("("):
-            e = self.make(place, terms.apply, e, self.parenthesis())
+        while self.sees("(", "."):
+            e = self.call(place, e) if self.accept(".") else self.make(place, terms.apply, e, self.parenthesis())
         return e
+
+    def call(self, place, e):
+        """`e.name`, or `e.number`."""
+        if self.next.kind == "number":
+            return self.make(place, terms.call, e, self.number("a method's number", 0, 0xFFFF))
+        name, t = self.name("a method"), self.settled(e).type
+        if t.kind != kinds.OBJECT_T:
+            self.fail(f"what {name} is called of must be an object", place)
+        return self.make(place, terms.call, e, self.method(t, name, place))
 
     # Single things.
 
@@ -227,7 +236,7 @@ class Parser(Cursor):
             return self.braces()
         forms = {"true": self.truth, "false": self.truth, "function": self.function, "advice": self.advice,
                  "pointcut": self.pointcut, "lower": self.lower, "watches": self.hang, "abort": self.abort,
-                 "frame": self.frame, "var": self.numbered}
+                 "frame": self.frame, "var": self.numbered, "object": self.object}
         if token.kind == "name" and token.text in forms:
             self.at += 1
             return forms[token.text](place)
@@ -252,6 +261,26 @@ class Parser(Cursor):
         x, a = self.parameter()
         p = self.at_domain()
         return self.make(place, terms.function, x, a, self.braces(Entry(x, a), here=p), p=p)
+
+    def object(self, place):
+        """`object type as name { method { body } ... }`, the methods in any order. Without a type, which is stated
+        then, the bodies stand in the order of the methods, at the current domain."""
+        t = None if self.sees("as") else self.object_type() if self.sees("{") else self.type()
+        if t and t.kind != kinds.OBJECT_T:
+            self.fail("the type of an object must be an object type", place)
+        self.take("as", "and a name for the object itself")
+        x, bodies = self.name("a variable"), {}
+        self.take("{", "before the bodies of an object")
+        while not self.accept("}"):
+            at, name = self.place, self.name("a method")
+            m = self.method(t, name, at) if t else len(bodies)
+            if m in bodies:
+                self.fail(f"the method {name} has a body already", at)
+            bodies[m] = self.braces(Entry(x, t), here=t.methods[m][0] if t else None)
+        wanted = len(t.methods) if t else max(1, len(bodies))
+        if len(bodies) < wanted:
+            self.fail(f"the object has {len(bodies)} bodies, but its type has {wanted} methods", place)
+        return self.make(place, terms.object_of, t, x, *(bodies[m] for m in range(len(bodies))))
 
     def advice(self, place):
         self.take("on", "and a pointcut after advice")

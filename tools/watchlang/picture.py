@@ -5,7 +5,7 @@ at another domain than what is around it hangs on a thick line. In the order of 
 """
 from . import kinds, types
 from .layout import laid_out
-from .terms import body_domain, Term
+from .terms import child_domains, Term
 
 COLOURS = ("white", "lightyellow", "lightblue", "lightpink", "lightgreen", "lavender", "wheat", "lightcyan",
            "mistyrose", "honeydew", "thistle", "khaki", "powderblue", "peachpuff", "palegreen", "gainsboro")
@@ -24,6 +24,8 @@ def said(record, writer):
         return "true" if fields[0] else "false"
     if record.kind == kinds.LOWER:
         return f"lower to {writer.domain(fields[0])}"
+    if record.kind == kinds.CALL:
+        return f"call {types.method(fields[1])}"
     return f"{name} {fields[0]}" if record.kind in (kinds.NUMBER, kinds.VARIABLE) else name
 
 
@@ -41,10 +43,9 @@ def domains_of(tables):
     for n in range(len(tables.terms) - 1, -1, -1):
         record = tables.terms[n]
         children = record.parts("e")
-        for c in children[:-1]:
-            here[c] = here[n]
-        for c in children[-1:]:
-            here[c] = body_domain(Term(record.kind, tables.types[record.fields[0]], record.fields[1:]), here[n])
+        e = Term(record.kind, tables.types[record.fields[0]], record.fields[1:])
+        for c, domain in zip(children, child_domains(e, len(children), here[n])):
+            here[c] = domain
     return here
 
 

@@ -34,7 +34,7 @@ def known_of(record, number):
     n, name = kinds.section(record.kind), kinds.name(record.kind)
     if n == 0:
         return f"domain {number}: mask {record.fields[0]:#06x}"
-    letters = kinds.fields(record.kind, len(record.fields) - 1)
+    letters = kinds.fields(record.kind, len(record.fields))
     said = [kinds.OPERATIONS[f] if l == "o" and f < 4 else str(f) for l, f in zip(letters, record.fields)]
     if n == 1:
         return " ".join([f"type {number}: {name}", *said])
@@ -111,8 +111,8 @@ def record_of(line, said, place, counts):
 
 def numbers(kind, words, place):
     """The fields of a record from their words."""
-    letters = kinds.fields(kind, len(words) - 1)
-    if len(words) != len(letters) or kind == kinds.POINTCUT and len(words) > 1 + kinds.LABEL_LIMIT:
+    letters = kinds.fields(kind, len(words))
+    if len(words) not in kinds.counts(kind):
         raise SourceError(place, f"{kinds.name(kind)} does not have {len(words)} fields")
     return [field(l, w, place) for l, w in zip(letters, words)]
 

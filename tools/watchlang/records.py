@@ -1,7 +1,7 @@
 """Records as bytes (document 01, "The image"): a length, a kind, then fields, all little-endian.
 
-A record may be longer than its known fields, and the rest is skipped; a pointcut term may not, since its length says how
-many labels it has (document 02, card 1).
+A record may be longer than its known fields, and the rest is skipped; one of a kind with a group may not, since its
+length says how many labels, methods or bodies it has (document 02, cards 1 and 3).
 """
 import struct
 from dataclasses import dataclass
@@ -20,7 +20,7 @@ class Record:
 
     def parts(self, letter):
         """The fields of one letter: "a" types, "e" terms, "p" domains and so on."""
-        letters = kinds.fields(self.kind, len(self.fields) - 1)
+        letters = kinds.fields(self.kind, len(self.fields))
         return [f for f, l in zip(self.fields, letters) if l == letter]
 
 
@@ -32,7 +32,7 @@ def record(kind, *fields):
 
 def written(kind, fields, skipped=b""):
     """The bytes of a record whose number, if it has one, is a Python number with its sign."""
-    letters = kinds.fields(kind, len(fields) - 1)
+    letters = kinds.fields(kind, len(fields))
     return record(kind, *(struct.pack("<i", f) if l == "n" else f for f, l in zip(fields, letters)), skipped)
 
 
@@ -41,9 +41,10 @@ def word(data, offset):
 
 
 def right_length(kind, length):
-    """Whether a record of a kind may have a length: that of its known fields or more; exact lengths for a pointcut."""
-    if kind == kinds.POINTCUT:
-        return length in range(6, 6 + 2 * kinds.LABEL_LIMIT + 1, 2)
+    """Whether a record of a kind may have a length: that of its known fields or more; exact lengths for a kind with
+    a group."""
+    if kind in kinds.GROUPS:
+        return length in [4 + 2 * count for count in kinds.counts(kind)]
     return length >= 4 + sum(4 if l == "n" else 2 for l in kinds.fields(kind))
 
 
@@ -56,7 +57,7 @@ def record_at(data, offset):
         return 3
     if not right_length(kind, length):
         return 4
-    letters = kinds.fields(kind, (length - 6) // 2)
+    letters = kinds.fields(kind, (length - 4) // 2)
     layout = "<" + "".join("i" if l == "n" else "H" for l in letters)
     skipped = data[offset + 4 + struct.calcsize(layout):offset + length]
     return Record(offset, kind, struct.unpack_from(layout, data, offset + 4), bytes(skipped))

@@ -13,8 +13,10 @@ REFUSALS = {
         "The image was cut off or damaged on its way: send it again, or assemble it again."),
     3: ("a record of a kind that does not exist",
         "The image was damaged, or it was written for a newer engine: assemble it again from its text."),
-    4: ("a record that is too short for its kind, or a pointcut of a wrong length; a pointcut has at most 8 labels",
-        "Assemble it again from its text; split a pointcut of more than 8 labels into two watches."),
+    4: ("a record that is too short for its kind, or a pointcut, an object or an object type of a wrong length: a "
+        "pointcut has 0 to 8 labels, an object 1 to 8 methods",
+        "Assemble it again from its text; split a pointcut of more than 8 labels into two watches, an object of more "
+        "than 8 methods into two objects."),
     5: ("a domain after a type or term, or a type after a term",
         "Domains come first, then types, then terms: the assembler writes them so."),
     6: ("more than 16 domains, 128 types or 1,024 terms",
@@ -39,13 +41,20 @@ REFUSALS = {
          "Change the part that is named, or its stated type."),
     15: ("a term that the order of the domains forbids",
          "Low code may read high cells and make low cells, but it may not store to a high cell, mark a high label or "
-         "call a high function. Let the watch keep a cell of its own domain, or let it print."),
+         "call a high function or method. Let the watch keep a cell of its own domain, or let it print."),
     16: ("the program's result is not plain",
          "End with a unit, truth, number or pairs of these with at most 8 leaves."),
     17: ("the work area that the engine was lent is shorter than its published length",
          "Lend the engine a work area of the published length. The image is not at fault."),
     18: ("the report that the engine was lent is shorter than 17,994 bytes",
          "Lend the engine a report of at least 17,994 bytes. The image is not at fault."),
+}
+
+# For some kinds of terms, how to keep their type rule.
+TYPE_MENDS = {
+    kinds.OBJECT: "Give the object one body for each method of its type, in their order and of their types: by name the "
+                  "assembler sees to the order.",
+    kinds.CALL: "Call a method that the type of the object has: by name the assembler sees to its number.",
 }
 
 # For each kind of term that has a domain rule, how to keep it.
@@ -60,6 +69,8 @@ DOMAIN_MENDS = {
     kinds.READ: "Read a cell of the current domain or above it: high code may not see what low code wrote.",
     kinds.STORE: "Store to a cell of the current domain or below it: a watch keeps cells of its own domain, or prints.",
     kinds.LOWER: "Lower to a domain at or below the current one.",
+    kinds.CALL: "Call a method of the current domain: one of a lower domain inside 'lower to', one of a higher domain "
+                "not at all.",
 }
 
 
@@ -84,9 +95,10 @@ def explain(image, number, place, places=None, domains=None):
 
 
 def mend_of(image, number, place):
-    """How to mend a refusal; a domain rule's by the kind of its term."""
-    found = record_at(image, place) if number == 15 and place < len(image) else None
-    return DOMAIN_MENDS.get(getattr(found, "kind", None), REFUSALS[number][1])
+    """How to mend a refusal; that of a type rule or a domain rule by the kind of its term."""
+    mends = {14: TYPE_MENDS, 15: DOMAIN_MENDS}.get(number, {})
+    found = record_at(image, place) if place < len(image) else None
+    return mends.get(getattr(found, "kind", None), REFUSALS[number][1])
 
 
 def describe(image, place, number, places, domains):

@@ -157,6 +157,27 @@ def lower(j):
     j.below_here(j.record.fields[1], "the domain that is lowered to")
 
 
+def object_of(j):
+    """An object has a body for each method of its type."""
+    j.kind(j.type, kinds.OBJECT_T, "an object's type")
+    wanted = j.type.methods
+    if len(j.kids) != len(wanted):
+        j.refuse(14, f"the object has {len(j.kids)} bodies, but its type has {len(wanted)} methods: {j.show(j.type)}")
+    for m, (kid, (_, of)) in enumerate(zip(j.kids, wanted)):
+        j.is_(kid, of, f"the body of method {m}")
+
+
+def call(j):
+    """The method's domain is the current one."""
+    j.kind(j.kids[0], kinds.OBJECT_T, "what is called")
+    m, methods = j.record.fields[2], j.kids[0].methods
+    if m >= len(methods):
+        j.refuse(14, f"method {m} is called, but the methods are 0 to {len(methods) - 1}: {j.show(j.kids[0])}")
+    p, of = methods[m]
+    j.is_(j.type, of, f"the call of method {m}")
+    j.same(p, "the method's domain")
+
+
 def constant(want):
     return lambda j: j.is_(j.type, want, "the constant")
 
@@ -175,12 +196,17 @@ RULES = {
     kinds.PAIR: pair, kinds.SPLIT: split, kinds.FUNCTION: function, kinds.APPLY: apply, kinds.ARITHMETIC: arithmetic,
     kinds.NEW_LABEL: new_label, kinds.MARK: mark, kinds.POINTCUT: pointcut, kinds.ADVICE: advice,
     kinds.INSTALL: install, kinds.NEW_CELL: new_cell, kinds.READ: read, kinds.STORE: store, kinds.LOWER: lower,
-    kinds.ABORT: lambda j: None, kinds.FRAME_BYTE: numeric(types.NUMBER, "frame byte"),
+    kinds.ABORT: lambda j: None, kinds.OBJECT: object_of, kinds.CALL: call,
+    kinds.FRAME_BYTE: numeric(types.NUMBER, "frame byte"),
 }
 
 
-def bound(kind, own, first):
-    """The types that the last child's scope gains; `first` is the first child's type."""
+def bound(kind, own, first, last):
+    """The types that a child's scope gains; `first` is the first child's type, `last` whether it is the last child."""
+    if kind == kinds.OBJECT:
+        return (own,)
+    if not last:
+        return ()
     if kind == kinds.SPLIT:
         return (first.first, first.last)
     if kind == kinds.FUNCTION:
@@ -188,9 +214,11 @@ def bound(kind, own, first):
     return (first.first,) if kind == kinds.ADVICE else ()
 
 
-def body_domain(record, own, here):
-    """The domain at which the last child is checked."""
-    if record.kind in (kinds.FUNCTION, kinds.ADVICE):
+def child_domain(record, own, i, last, here):
+    """The domain at which the i-th child is checked."""
+    if record.kind == kinds.OBJECT:
+        return own.methods[i][0]
+    if last and record.kind in (kinds.FUNCTION, kinds.ADVICE):
         return own.domain
     return record.fields[1] if record.kind == kinds.LOWER else here
 
@@ -202,12 +230,9 @@ def well_typed(tables, writer):
         own, children = tables.types[record.fields[0]], record.parts("e")
         kids = [tables.types[tables.terms[c].fields[0]] for c in children]
         RULES[record.kind](Judged(record, own, kids, here, scope, tables, writer))
-        gains = bound(record.kind, own, kids[0] if kids else None)
         for i, c in enumerate(children):
-            if i == len(children) - 1:
-                judge(c, body_domain(record, own, here), scope + gains)
-            else:
-                judge(c, here, scope)
+            last = i == len(children) - 1
+            judge(c, child_domain(record, own, i, last, here), scope + bound(record.kind, own, kids[0], last))
 
     root = len(tables.terms) - 1
     judge(root, 0, ())

@@ -1,8 +1,8 @@
 """Terms as trees, with their types worked out from below, and the image of a tree.
 
 A term has a kind, a type, and the fields after the type: domains, numbers, children. A variable's field is its name,
-or its number if it is known. `names` are the variables that the last child's scope gains. A type is None where it
-cannot be worked out; `why` then says why, and `typed` sets it by hand.
+or its number if it is known. `names` are the variables that the last child's scope gains, of an object each child's. A
+type is None where it cannot be worked out; `why` then says why, and `typed` sets it by hand.
 """
 from dataclasses import dataclass, field, replace
 
@@ -151,6 +151,19 @@ def abort(t):
     return Term(kinds.ABORT, t)
 
 
+def object_of(t, name, *bodies):
+    """An object of a type with its methods' bodies, in each of which it has a name."""
+    why = "an object's type stands after object: its name, or { method at domain : type; ... }"
+    return Term(kinds.OBJECT, t, bodies, (name,), why=why)
+
+
+def call(e, m):
+    """The call of a method by its number."""
+    if types.has_kind(e.type, kinds.OBJECT_T) and m < len(e.type.methods):
+        return Term(kinds.CALL, e.type.methods[m][1], (e, m))
+    return Term(kinds.CALL, None, (e, m), why=f"what is called must be an object with a method {m}, counted from 0")
+
+
 def frame_byte(index):
     return Term(kinds.FRAME_BYTE, types.NUMBER, (index,))
 
@@ -160,13 +173,16 @@ def let(name, value, body, p=0):
     return apply(function(name, value.type, body, p), value)
 
 
-def body_domain(e, here):
-    """The domain at which the last child of a term runs; where its type does not tell, the current one."""
+def child_domains(e, count, here):
+    """The domain at which each of a term's so many children runs; where its type does not tell, the current one."""
+    domains, own = [here] * count, getattr(e.type, "kind", 0)
     if e.kind == kinds.LOWER:
-        return e.fields[0]
-    if (e.kind, getattr(e.type, "kind", 0)) in ((kinds.FUNCTION, kinds.FUNCTION_T), (kinds.ADVICE, kinds.ADVICE_T)):
-        return e.type.domain
-    return here
+        domains[-1:] = [e.fields[0]]
+    elif (e.kind, own) in ((kinds.FUNCTION, kinds.FUNCTION_T), (kinds.ADVICE, kinds.ADVICE_T)):
+        domains[-1:] = [e.type.domain]
+    elif (e.kind, own) == (kinds.OBJECT, kinds.OBJECT_T) and len(e.type.methods) == count:
+        domains = [p for p, _ in e.type.methods]
+    return domains
 
 
 @dataclass
@@ -196,7 +212,8 @@ class Layout:
         fields, place = [], e.place or place
         for i, f in enumerate(e.fields):
             if isinstance(f, Term):
-                f = self.term_number(f, scope + e.names if i == len(e.fields) - 1 else scope, place)
+                bound = e.names if i == len(e.fields) - 1 or e.kind == kinds.OBJECT else ()
+                f = self.term_number(f, scope + bound, place)
             elif isinstance(f, str):
                 f = scope[::-1].index(f)
             fields.append(f)

@@ -11,7 +11,7 @@ class Type:
 
     @property
     def domain(self):
-        """The p of a function, reference, label, pointcut or advice; None for the others."""
+        """The p of a function, reference, label, pointcut or advice; None for the others, also for an object."""
         at = kinds.fields(self.kind).find("p")
         return self.fields[at] if at >= 0 else None
 
@@ -24,6 +24,11 @@ class Type:
     def last(self):
         """The b of a pair or function."""
         return self.fields[-1]
+
+    @property
+    def methods(self):
+        """The methods of an object, each a domain and a type; none for the others."""
+        return list(zip(self.fields[::2], self.fields[1::2])) if self.kind == kinds.OBJECT_T else []
 
 
 _made = {}
@@ -66,6 +71,11 @@ def advice(p):
     return make(kinds.ADVICE_T, p)
 
 
+def object_of(methods):
+    """The type of an object with these methods, each a domain and a type."""
+    return make(kinds.OBJECT_T, *(f for method in methods for f in method))
+
+
 def has_kind(t, kind):
     return t is not None and t.kind == kind
 
@@ -83,6 +93,11 @@ def leaves(types):
         else:
             counts[t] = 0
     return counts
+
+
+def method(m):
+    """The name of a method where a text has none for it."""
+    return f"m{m}"
 
 
 class Writer:
@@ -109,6 +124,9 @@ class Writer:
             return f"function from {a[0]} at {a[1]} to {a[2]}"
         if t.kind == kinds.ADVICE_T:
             return f"advice at {a[0]}"
+        if t.kind == kinds.OBJECT_T:
+            said = zip(range(len(a)), a[::2], a[1::2])
+            return "object { " + "; ".join(f"{method(m)} at {p} : {b}" for m, p, b in said) + " }"
         return f"{kinds.name(t.kind)} {a[0]} at {a[1]}" if a else kinds.name(t.kind)
 
     def text(self, t):

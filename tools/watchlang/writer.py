@@ -35,13 +35,13 @@ class TermWriter:
 
     def plain(self, e, scope, here):
         """The text without a stated type, its tightness, and the type that the parser works out."""
-        body = terms.body_domain(e, here)
+        domains = terms.child_domains(e, len(e.children), here)
 
         def kid(i, place=SEQUENCE):
             return self.text(e.children[i], place, scope, here)
 
-        def last(*gains):
-            return self.text(e.children[-1], SEQUENCE, scope + gains, body)
+        def last(*gains, i=-1):
+            return self.text(e.children[i], SEQUENCE, scope + gains, domains[i])
 
         return WRITERS[e.kind](self, e, kid, last, scope, here)
 
@@ -183,6 +183,23 @@ def abort(w, e, kid, last, scope, here):
     return f"abort {w.types.text(e.type)}", HEAD, e.type
 
 
+def object_of(w, e, kid, last, scope, here):
+    """Without its type where that has not a method for each body: each body then has the current domain."""
+    fits = len(e.type.methods) == len(e.children)
+    own = e.type if fits else None
+    said = w.types.text(e.type) if fits else ""
+    head = said if said.startswith("object {") else f"object {said}".strip()
+    bodies = (f"{types.method(i)} {braces(last(own, i=i))}" for i in range(len(e.children)))
+    return f"{head} as x{len(scope)} " + braces("\n".join(bodies)), HEAD, own
+
+
+def call(w, e, kid, last, scope, here):
+    m, methods = e.fields[1], e.children[0].type.methods
+    if m < len(methods):
+        return f"{kid(0, HEAD)}.{types.method(m)}", HEAD, methods[m][1]
+    return f"{kid(0, HEAD)}.{m}", HEAD, None
+
+
 def frame_byte(w, e, kid, last, scope, here):
     return f"frame[{kid(0)}]", HEAD, types.NUMBER
 
@@ -195,5 +212,5 @@ WRITERS = {
     kinds.SPLIT: split, kinds.FUNCTION: function, kinds.APPLY: apply, kinds.ARITHMETIC: arithmetic,
     kinds.NEW_LABEL: new_label, kinds.MARK: mark, kinds.POINTCUT: pointcut, kinds.ADVICE: advice,
     kinds.INSTALL: install, kinds.NEW_CELL: new_cell, kinds.READ: read, kinds.STORE: store, kinds.LOWER: lower,
-    kinds.ABORT: abort, kinds.FRAME_BYTE: frame_byte,
+    kinds.ABORT: abort, kinds.OBJECT: object_of, kinds.CALL: call, kinds.FRAME_BYTE: frame_byte,
 }

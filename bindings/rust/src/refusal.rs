@@ -11,7 +11,8 @@ pub enum Cause {
     BrokenRecord = 2,
     /// A record has an unknown kind.
     UnknownKind = 3,
-    /// A record is too short for its kind, or a pointcut term of wrong length; a longer record is no fault.
+    /// A record is too short for its kind, or a pointcut term, an object or an object type of wrong length; any other
+    /// longer record is no fault.
     WrongLength = 4,
     /// A record stands after a later section's.
     SectionOrder = 5,
@@ -31,7 +32,8 @@ pub enum Cause {
     TooDeep = 12,
     /// A variable is unbound.
     UnboundVariable = 13,
-    /// A term is against a type rule.
+    /// A term is against a type rule, also a call of a method that the object's type lacks, and an object with more or
+    /// fewer bodies than its type has methods.
     TypeRule = 14,
     /// A term is against a domain rule.
     DomainRule = 15,

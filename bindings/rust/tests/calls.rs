@@ -77,6 +77,26 @@ fn cells_are_read() {
     assert_eq!(cells, [(1, Some(leaves)), (0, None)]);
 }
 
+/// A method that gives the frame's byte 2 and what another method of the object adds to it, which is bound outside.
+#[test]
+fn methods_are_called() {
+    let mut program = Program::new(&[1]);
+    let number = program.number_type();
+    let sonde = program.make(Shape::Object(vec![(0, number), (0, number)]));
+    let (added, itself) = (program.variable(number, 0), program.variable(sonde, 1));
+    let two = program.number(2);
+    let byte = program.frame_byte(two);
+    let sum = program.plus(byte, program.call(itself, 1));
+    let call = program.call(program.object(sonde, vec![sum, added]), 0);
+    let hundred = program.number(100);
+    let root = program.bind(0, hundred, call);
+    let mut lent = Lent::new(0);
+    let image = program.image(&root);
+    let run = run(&image, &[1, 2, 3], 1_000, &mut lent).unwrap();
+    assert_eq!((run.outcome(), run.steps()), (Outcome::Done, 5));
+    assert_eq!(run.result().collect::<Vec<_>>(), [Leaf::Number(103)]);
+}
+
 #[test]
 fn refusals_say_why_and_where() {
     let mut lent = Lent::new(0);

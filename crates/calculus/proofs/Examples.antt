@@ -1,11 +1,11 @@
--- Runs of small terms, by computation of the definitions; each shows a point of document 01, "A run".
+-- Runs of small terms, by computation of the definitions; each shows a point of document 01, "A run", or of a card.
 use Prim.Native.Nat.{ℕ, zero, suc}
 use mathlib.Core.Path.{_≡_, refl}
 use mathlib.Core.List.{List, [], _∷_}
 use Rattle.calculus.specs.declared.Outcome.{Outcome}
 use Rattle.calculus.specs.Combinators.{cases}
-use Rattle.calculus.specs.Syntax.{Ty, Val, Tm, val, var, op0, op1, op2, seq, abort, print, byte, mark, minus}
-use Rattle.calculus.specs.State.{Advice, State, Given, Print, picked, logOf, fresh, labelled, installed}
+use Rattle.calculus.specs.Syntax.{Ty, noMethod, method, Val, Tm, val, var, op0, op1, op2, seq, obj, end, more, abort, print, byte, call, mark, plus, minus}
+use Rattle.calculus.specs.State.{Advice, State, Given, Counts, Print, picked, logOf, fresh, labelled, installed}
 use Rattle.calculus.specs.Subst.{subst}
 use Rattle.calculus.specs.Answer.{carry, if-room, with, spend}
 use Rattle.calculus.specs.Step.{step}
@@ -66,3 +66,18 @@ frames-512 = refl
 frames-513 : run 1 G 0 fresh (nest 514) .end ≡ stopped Outcome.Frames
 unfolding run after cases step carry if-room with nest
 frames-513 = refl
+
+-- Card 3: an object of two methods; the second adds 1 to what the first, called on the object itself, gives.
+unfoldable pub called : Tm
+called =
+    let numbers : Ty = Ty.obj (method 0 Ty.number (method 0 Ty.number noMethod)) in
+    op1 (call 1) Ty.number (obj numbers (more (number 4) (more (op2 plus Ty.number (op1 (call 0) Ty.number (var 0)) (number 1)) end)))
+
+-- "A call is one step and one binding; an object takes no step and no piece": two calls and the sum.
+calls : facts fresh called ≡ record { end = done (Val.num 5); steps = 3; log = [] }
+unfolding called run after cases step subst carry if-room with spend picked
+calls = refl
+
+calls-bind : run 100 G 0 fresh called .state .used ≡ record { bindings = 2; cells = 0; pieces = 0 }
+unfolding called run after cases step subst carry if-room with spend picked
+calls-bind = refl

@@ -5,8 +5,8 @@ use mathlib.Core.Bool.{true, false, _&&_, _||_, true≢false}
 use mathlib.Core.List.{[], _∷_}
 use lib.Dec.{eqb}
 use native.Mathlib.Omega.{arith}
-use Rattle.calculus.specs.Syntax.{Dom, Ty, Val, Tm, val, var, op0, op1, op2, pcd, adv, lower, end, more, newLabel, install, read, newCell, app, mark, store}
-use Rattle.calculus.specs.Typing.{Policy, noStore, TmTy, a-type, t-newLabel, t-install, t-read, t-newCell, t-app, t-mark, t-store, is-var, is-op0, is-op1, is-op2, is-pcd, is-adv, is-lower, is-end, is-more}
+use Rattle.calculus.specs.Syntax.{Dom, Ty, noMethod, method, Val, Tm, val, var, op0, op1, op2, pcd, adv, lower, end, more, newLabel, install, read, newCell, call, app, mark, store}
+use Rattle.calculus.specs.Typing.{Policy, noStore, TmTy, a-type, has-first, t-call, t-newLabel, t-install, t-read, t-newCell, t-app, t-mark, t-store, is-var, is-op0, is-op1, is-op2, is-pcd, is-adv, is-lower, is-end, is-more}
 
 -- Two domains, 1 ≤ 0: the mainline is high, the watch low.
 abbrev pub watched : Policy
@@ -26,6 +26,10 @@ upward e = absurd (true≢false (sym e))
 -- Low code applies no high function.
 pub apply-refused : Refused (Ty.fun Ty.number 0 Ty.unit) 1 (op2 app Ty.unit (var 0) three) Ty.unit
 apply-refused (is-op2 t-app (is-var e) h) = let z : _≡_ {A = ℕ} 0 1 = cc in absurd (omega arith)
+
+-- Low code calls no high method.
+pub call-refused : Refused (Ty.obj (method 0 Ty.unit noMethod)) 1 (op1 (call 0) Ty.unit (var 0)) Ty.unit
+call-refused (is-op1 (t-call has-first) (is-var e)) = let z : _≡_ {A = ℕ} 0 1 = cc in absurd (omega arith)
 
 -- Low code marks no high label.
 pub mark-refused : Refused (Ty.label Ty.number 0) 1 (op2 mark Ty.unit (var 0) three) Ty.unit

@@ -44,6 +44,7 @@ leaves (Val.label l) = []
 leaves (Val.cell r) = []
 leaves (Val.labels ls) = []
 leaves (Val.advice p ls e) = []
+leaves (Val.object t bs) = []
 
 -- A plain cell with its leaves; of another cell its domain alone.
 pub record CellReport : Type 0 where

@@ -1,4 +1,4 @@
--- Types, values and terms of the calculus (document 003, section 2.1, figure 1, without strings and objects, with the numbers, arithmetic, frame byte and abort of document 01).
+-- Types, values and terms of the calculus (document 003, section 2.1, figure 1, without strings, with the numbers, arithmetic, frame byte and abort of document 01).
 use Prim.Native.Nat.{ℕ}
 use mathlib.Core.Bool.{Bool}
 use mathlib.Core.List.{List}
@@ -9,13 +9,21 @@ abbrev pub Dom : Type 0
 Dom = ℕ
 
 -- Figure 1, τ.
-pub data Ty : Type 0 where
-  unit truth number : Ty
-  pair : Ty → Ty → Ty
-  -- from a, running at p, to b
-  fun : Ty → Dom → Ty → Ty
-  ref label pcd : Ty → Dom → Ty
-  adv : Dom → Ty
+mutual
+  pub data Ty : Type 0 where
+    unit truth number : Ty
+    pair : Ty → Ty → Ty
+    -- from a, running at p, to b
+    fun : Ty → Dom → Ty → Ty
+    ref label pcd : Ty → Dom → Ty
+    adv : Dom → Ty
+    -- card 3: an object with these methods
+    obj : Sigs → Ty
+
+  -- The methods of an object, numbered from 0: of each the domain that it runs at, and the type of what it gives.
+  pub data Sigs : Type 0 where
+    noMethod : Sigs
+    method : Dom → Ty → Sigs → Sigs
 
 -- An operator of no, one or two operands that are worked out first, left to right.
 pub data Op0 : Type 0 where
@@ -23,6 +31,8 @@ pub data Op0 : Type 0 where
 
 pub data Op1 : Type 0 where
   print install read byte newCell : Op1
+  -- card 3: a call of the method of this number
+  call : ℕ → Op1
 
 pub data Op2 : Type 0 where
   pair app mark store plus minus less equal : Op2
@@ -41,6 +51,8 @@ mutual
     labels : List ℕ → Val
     -- advice: its domain, its pointcut's labels, its body, which binds one variable
     advice : Dom → List ℕ → Tm → Val
+    -- card 3: an object: its type, and a body for each method, which binds the object itself
+    object : Ty → Tms → Val
 
   -- Figure 1, e. Variables are numbered from the innermost.
   pub data Tm : Type 0 where
@@ -61,8 +73,10 @@ mutual
     adv : Dom → Tm → Tm → Tm
     -- p<e>
     lower : Dom → Tm → Tm
+    -- card 3: an object, with its type: a value that may name outer variables
+    obj : Ty → Tms → Tm
 
-  -- A list of operands.
+  -- A list of operands, or of bodies.
   pub data Tms : Type 0 where
     end : Tms
     more : Tm → Tms → Tms
@@ -81,3 +95,4 @@ asValue (split e f) = none
 asValue (pcd es) = none
 asValue (adv p e b) = none
 asValue (lower p e) = none
+asValue (obj t bs) = some (Val.object t bs)

@@ -1,11 +1,11 @@
 -- The typing rules (document 003, section 2.2, figures 2 and 3; where the figures are damaged, document 01, "Typing").
-use Prim.Native.Nat.{ℕ}
+use Prim.Native.Nat.{ℕ, zero, suc}
 use mathlib.Core.Path.{_≡_}
 use mathlib.Core.Bool.{Bool, true}
 use mathlib.Core.List.{List, [], _∷_}
 use mathlib.Core.Option.{some}
 use lib.ListN.{getElem?}
-use Rattle.calculus.specs.Syntax.{Dom, Ty, Val, Tm, Tms, Op0, Op1, Op2, val, var, lam, op0, op1, op2, seq, ite, split, pcd, adv, lower, end, more, newLabel, abort, print, install, read, byte, newCell, app, mark, store, plus, minus, less, equal}
+use Rattle.calculus.specs.Syntax.{Dom, Ty, Sigs, noMethod, method, Val, Tm, Tms, Op0, Op1, Op2, val, var, lam, op0, op1, op2, seq, ite, split, pcd, adv, lower, obj, end, more, newLabel, abort, print, install, read, byte, newCell, call, app, mark, store, plus, minus, less, equal}
 
 -- A store typing: the types of the cells and labels that there are, of each cell `ref a p`, of each label `label a p` (the part of figure 2's Γ that is not variables).
 pub record StoreTyping : Type 0 where
@@ -19,6 +19,11 @@ noStore = record { cells = []; labels = [] }
 -- What the protection domains permit: their order, leq p q for p ≤ q.
 pub record Policy : Type 0 where
   pub leq : Dom → Dom → Bool
+
+-- Card 3: method m runs at p and gives b.
+pub data Has (p : Dom) (b : Ty) : Sigs → ℕ → Type 0 where
+  has-first : {ms : Sigs} → Has p b (method p b ms) zero
+  has-later : {q : Dom} {a : Ty} {ms : Sigs} {m : ℕ} → Has p b ms m → Has p b (method q a ms) (suc m)
 
 module _ (D : Policy) where
   -- Figure 3, the operators: at the current domain c, an operator's own type and those of its operands.
@@ -39,6 +44,8 @@ module _ (D : Policy) where
     t-byte : Rule1 c byte Ty.number Ty.number
     -- ref_p e
     t-newCell : {a : Ty} {p : Dom} → D .leq p c ≡ true → Rule1 c newCell (Ty.ref a p) a
+    -- e.m (card 3): the method runs at the current domain
+    t-call : {b : Ty} {ms : Sigs} {m : ℕ} → Has c b ms m → Rule1 c (call m) b (Ty.obj ms)
 
   pub data Rule2 (c : Dom) : Op2 → Ty → Ty → Ty → Type 0 where
     -- (e1, e2)
@@ -87,6 +94,8 @@ module _ (D : Policy) where
         v-labels : {ls : List ℕ} {a : Ty} {p : Dom} → LabelsOf a p ls → ValTy (Val.labels ls) (Ty.pcd a p)
         -- {v.x →_p e}
         v-advice : {ls : List ℕ} {a : Ty} {p q : Dom} {e : Tm} → LabelsOf a q ls → D .leq p q ≡ true → TmTy (a ∷ []) p e Ty.unit → ValTy (Val.advice p ls e) (Ty.adv p)
+        -- [m_i = ς_p x.e_i] (card 3)
+        v-object : {ms : Sigs} {bs : Tms} → BodiesTy (Ty.obj ms ∷ []) bs ms → ValTy (Val.object (Ty.obj ms) bs) (Ty.obj ms)
 
       -- Figure 3: in the context Γ of variables, innermost first, at the current domain c, e has type t.
       pub data TmTy : List Ty → Dom → Tm → Ty → Type 0 where
@@ -112,8 +121,15 @@ module _ (D : Policy) where
         is-adv : {Γ : List Ty} {c p q : Dom} {a : Ty} {e b : Tm} → TmTy Γ c e (Ty.pcd a q) → D .leq p q ≡ true → TmTy (a ∷ Γ) p b Ty.unit → TmTy Γ c (adv p e b) (Ty.adv p)
         -- p<e>
         is-lower : {Γ : List Ty} {c p : Dom} {e : Tm} → D .leq p c ≡ true → TmTy Γ p e Ty.unit → TmTy Γ c (lower p e) Ty.unit
+        -- [m_i = ς_p x.e_i] (card 3), by figure 2 under outer variables
+        is-obj : {Γ : List Ty} {c : Dom} {ms : Sigs} {bs : Tms} → BodiesTy (Ty.obj ms ∷ Γ) bs ms → TmTy Γ c (obj (Ty.obj ms) bs) (Ty.obj ms)
 
       -- A list of operands, each with its type.
       pub data TmsTy : List Ty → Dom → Tms → List Ty → Type 0 where
         is-end : {Γ : List Ty} {c : Dom} → TmsTy Γ c end []
         is-more : {Γ ts : List Ty} {c : Dom} {a : Ty} {e : Tm} {es : Tms} → TmTy Γ c e a → TmsTy Γ c es ts → TmsTy Γ c (more e es) (a ∷ ts)
+
+      -- The bodies of an object, each at its method's domain (card 3).
+      pub data BodiesTy : List Ty → Tms → Sigs → Type 0 where
+        no-body : {Γ : List Ty} → BodiesTy Γ end noMethod
+        a-body : {Γ : List Ty} {p : Dom} {a : Ty} {e : Tm} {bs : Tms} {ms : Sigs} → TmTy Γ p e a → BodiesTy Γ bs ms → BodiesTy Γ (more e bs) (method p a ms)

@@ -3,13 +3,13 @@ use Prim.Native.Nat.{ℕ}
 use mathlib.Core.Path.{_≡_, refl, sym}
 use mathlib.Core.Bool.{Bool, true, false}
 use mathlib.Core.List.{List}
-use Rattle.calculus.specs.Syntax.{Dom, Ty, Val, Tm, Tms, Op0, Op1, Op2, val, var, lam, op0, op1, op2, seq, ite, split, pcd, adv, lower, end, more}
-use Rattle.calculus.specs.Plain.{domOf}
-use Rattle.calculus.specs.Blank.{body, blank, blanks}
-use Rattle.calculus.specs.Typing.{Policy, noStore, LabelsOf, no-labels, a-label, ValTy, TmTy, TmsTy, is-val, is-var, is-lam, is-op0, is-op1, is-op2, is-seq, is-ite, is-split, is-pcd, is-adv, is-lower, is-end, is-more}
+use Rattle.calculus.specs.Syntax.{Dom, Ty, Sigs, noMethod, method, Val, Tm, Tms, Op0, Op1, Op2, val, var, lam, op0, op1, op2, seq, ite, split, pcd, adv, lower, obj, end, more}
+use Rattle.calculus.specs.Plain.{domOf, methodsOf}
+use Rattle.calculus.specs.Blank.{body, blank, blanks, blankBodies}
+use Rattle.calculus.specs.Typing.{Policy, noStore, LabelsOf, no-labels, a-label, ValTy, TmTy, TmsTy, BodiesTy, is-val, is-var, is-lam, is-op0, is-op1, is-op2, is-seq, is-ite, is-split, is-pcd, is-adv, is-lower, is-obj, is-end, is-more, no-body, a-body}
 use Rattle.laws.proofs.Lists.{none-some, All2.all2-nil}
 use Rattle.calculus_noninterference.proofs.Interleave.{Side, Matches}
-use Rattle.calculus_noninterference.proofs.Related.{World, RelV, RelT, RelB, RelTs, b-rel, b-low, v-unit, v-truth, v-num, v-pair, v-fun, v-labels, v-advice, r-val, r-var, r-lam, r-op0, r-op1, r-op2, r-seq, r-ite, r-split, r-pcd, r-adv, r-lower, r-end, r-more}
+use Rattle.calculus_noninterference.proofs.Related.{World, RelV, RelT, RelB, RelTs, RelBs, b-rel, b-low, v-unit, v-truth, v-num, v-pair, v-fun, v-labels, v-advice, v-object, r-val, r-var, r-lam, r-op0, r-op1, r-op2, r-seq, r-ite, r-split, r-pcd, r-adv, r-lower, r-obj, r-end, r-more, r-no-body, r-body}
 
 module _ (hi : Dom → Bool) where
   -- x is e with low bodies blanked: the graph of `blank`, which says nothing of a low body.
@@ -27,10 +27,16 @@ module _ (hi : Dom → Bool) where
       b-pcd : {es xs : Tms} → Blankeds es xs → Blanked (pcd es) (pcd xs)
       b-adv : {p : Dom} {e x b y : Tm} → Blanked e x → (hi p ≡ true → Blanked b y) → Blanked (adv p e b) (adv p x y)
       b-lower : {p : Dom} {e x : Tm} → (hi p ≡ true → Blanked e x) → Blanked (lower p e) (lower p x)
+      b-obj : {t : Ty} {bs xs : Tms} → BlankedBs (methodsOf t) bs xs → Blanked (obj t bs) (obj t xs)
 
     data Blankeds : Tms → Tms → Type 0 where
       b-end : Blankeds end end
       b-more : {e x : Tm} {es xs : Tms} → Blanked e x → Blankeds es xs → Blankeds (more e es) (more x xs)
+
+    data BlankedBs : Sigs → Tms → Tms → Type 0 where
+      b-none : {ms : Sigs} → BlankedBs ms end end
+      b-over : {e x : Tm} {bs xs : Tms} → (hi 0 ≡ true → Blanked e x) → BlankedBs noMethod bs xs → BlankedBs noMethod (more e bs) (more x xs)
+      b-body : {p : Dom} {a : Ty} {ms : Sigs} {e x : Tm} {bs xs : Tms} → (hi p ≡ true → Blanked e x) → BlankedBs ms bs xs → BlankedBs (method p a ms) (more e bs) (more x xs)
 
   body-high : {p : Dom} {e : Tm} → hi p ≡ true → body hi p e ≡ e
   body-high h = rw h
@@ -39,7 +45,7 @@ module _ (hi : Dom → Bool) where
   blanked-body p r h = rw (body-high h) r
 
   mutual
-    unfolding blank blanks
+    unfolding blank blanks blankBodies
 
     blanked : (e : Tm) → Blanked e (blank hi e)
     blanked (val v) = b-val
@@ -54,10 +60,16 @@ module _ (hi : Dom → Bool) where
     blanked (pcd es) = b-pcd (blankeds es)
     blanked (adv p e b) = b-adv (blanked e) (blanked-body p (blanked b))
     blanked (lower p e) = b-lower (blanked-body p (blanked e))
+    blanked (obj t bs) = b-obj (blanked-bs (methodsOf t) bs)
 
     blankeds : (es : Tms) → Blankeds es (blanks hi es)
     blankeds end = b-end
     blankeds (more e es) = b-more (blanked e) (blankeds es)
+
+    blanked-bs : (ms : Sigs) (bs : Tms) → BlankedBs ms bs (blankBodies hi ms bs)
+    blanked-bs ms end = b-none
+    blanked-bs noMethod (more e bs) = b-over (blanked-body 0 (blanked e)) (blanked-bs noMethod bs)
+    blanked-bs (method p a ms) (more e bs) = b-body (blanked-body p (blanked e)) (blanked-bs ms bs)
 
   module _ {W : World} where
     body-rel : (p : Dom) {b b′ : Tm} (x : Tm) → (hi p ≡ true → Blanked b′ (body hi p x)) → (Blanked b′ x → RelT hi W b b′) → RelB hi W p b b′
@@ -74,7 +86,7 @@ module _ (hi : Dom → Bool) where
 
   module _ {D : Policy} {W : World} where
     mutual
-      unfolding blank blanks
+      unfolding blank blanks blankBodies
 
       -- The values of a program are related to themselves.
       val-rel : {v : Val} {t : Ty} → ValTy D noStore v t → RelV hi W v v
@@ -87,6 +99,7 @@ module _ (hi : Dom → Bool) where
       val-rel (ValTy.v-cell x) = absurd (none-some x)
       val-rel (ValTy.v-labels x) = v-labels (labels-rel x)
       val-rel (ValTy.v-advice {e} x l y) = v-advice (labels-rel x) (b-rel (tm-rel y (blanked e)))
+      val-rel (ValTy.v-object {bs} x) = v-object (bodies-rel x (blanked-bs _ bs))
 
       tm-rel : {Γ : List Ty} {c : Dom} {e e′ : Tm} {t : Ty} → TmTy D noStore Γ c e t → Blanked e′ (blank hi e) → RelT hi W e e′
       tm-rel (is-val x) b-val = r-val (val-rel x)
@@ -101,10 +114,15 @@ module _ (hi : Dom → Bool) where
       tm-rel (is-pcd x l) (b-pcd a) = r-pcd (tms-rel x a)
       tm-rel (is-adv {p} x l y) (b-adv a f) = r-adv (tm-rel x a) (body-rel p _ f (λ z. tm-rel y z))
       tm-rel (is-lower {p} l x) (b-lower f) = r-lower (body-rel p _ f (λ z. tm-rel x z))
+      tm-rel (is-obj x) (b-obj a) = r-obj (bodies-rel x a)
 
       tms-rel : {Γ ts : List Ty} {c : Dom} {es es′ : Tms} → TmsTy D noStore Γ c es ts → Blankeds es′ (blanks hi es) → RelTs hi W es es′
       tms-rel is-end b-end = r-end
       tms-rel (is-more x y) (b-more a b) = r-more (tm-rel x a) (tms-rel y b)
+
+      bodies-rel : {Γ : List Ty} {bs bs′ : Tms} {ms : Sigs} → BodiesTy D noStore Γ bs ms → BlankedBs ms bs′ (blankBodies hi ms bs) → RelBs hi W ms bs bs′
+      bodies-rel no-body b-none = r-no-body
+      bodies-rel (a-body {p} x y) (b-body f b) = r-body (body-rel p _ f (λ z. tm-rel x z)) (bodies-rel y b)
 
     pub blank-rel : {Γ : List Ty} {c : Dom} {e e′ : Tm} {t : Ty} → TmTy D noStore Γ c e t → blank hi e ≡ blank hi e′ → RelT hi W e e′
     blank-rel {e′} x same = tm-rel x (rw (sym same) at (blanked e′))

@@ -7,11 +7,11 @@ use mathlib.Core.List.{List, [], _∷_}
 use lib.ListN.{length}
 use lib.Dec.{eqb, ltb, eqb→eq, ltb→lt}
 use Rattle.calculus.specs.Combinators.{choose}
-use Rattle.calculus.specs.Syntax.{Dom, Ty, Val, Tm, Tms, val, var, lam, op1, op2, seq, split, pcd, adv, lower, more}
+use Rattle.calculus.specs.Syntax.{Dom, Ty, Sigs, Val, Tm, Tms, val, var, lam, op1, op2, seq, split, pcd, adv, lower, obj, more}
 use Rattle.calculus.specs.Subst.{subst, substs, substVar}
-use Rattle.calculus.specs.Typing.{Policy, StoreTyping, TmTy, TmsTy, is-val, is-var, is-lam, is-op0, is-op1, is-op2, is-seq, is-ite, is-split, is-pcd, is-adv, is-lower, is-end, is-more}
+use Rattle.calculus.specs.Typing.{Policy, StoreTyping, TmTy, TmsTy, BodiesTy, is-val, is-var, is-lam, is-op0, is-op1, is-op2, is-seq, is-ite, is-split, is-pcd, is-adv, is-lower, is-obj, is-end, is-more, no-body, a-body}
 use Rattle.laws.proofs.Lookup.{place-below}
-use Rattle.calculus_noninterference.proofs.Related.{ClosedBody}
+use Rattle.calculus_noninterference.proofs.Related.{ClosedBody, ClosedBodies}
 
 nearer-var : (k i : ℕ) (v : Val) → i < k → substVar k v i ≡ var i
 nearer-var k i v h = pick (eqb i k) refl (ltb k i) refl
@@ -38,10 +38,18 @@ module _ {D : Policy} {Σ : StoreTyping} (v : Val) where
     closed-tm (is-pcd h o) k l = ap pcd (closed-tms h k l)
     closed-tm (is-adv {p} h o g) k l = ap₂ (adv p) (closed-tm h k l) (closed-tm g (suc k) (omega arith))
     closed-tm (is-lower {p} o h) k l = ap (lower p) (closed-tm h k l)
+    closed-tm (is-obj {ms} h) k l = ap (obj (Ty.obj ms)) (closed-bs h (suc k) (omega arith))
 
     closed-tms : {Γ ts : List Ty} {c : Dom} {es : Tms} → TmsTy D Σ Γ c es ts → (k : ℕ) → length Γ ≤ k → substs k v es ≡ es
     closed-tms is-end k l = refl
     closed-tms (is-more h g) k l = ap₂ more (closed-tm h k l) (closed-tms g k l)
 
+    closed-bs : {Γ : List Ty} {bs : Tms} {ms : Sigs} → BodiesTy D Σ Γ bs ms → (k : ℕ) → length Γ ≤ k → substs k v bs ≡ bs
+    closed-bs no-body k l = refl
+    closed-bs (a-body h g) k l = ap₂ more (closed-tm h k l) (closed-bs g k l)
+
 pub closed-body : {D : Policy} {Σ : StoreTyping} {a t : Ty} {p : Dom} {e : Tm} → TmTy D Σ (a ∷ []) p e t → ClosedBody e
 closed-body h k w = closed-tm w h (suc k) (omega arith)
+
+pub closed-bodies : {D : Policy} {Σ : StoreTyping} {a : Ty} {bs : Tms} {ms : Sigs} → BodiesTy D Σ (a ∷ []) bs ms → ClosedBodies bs
+closed-bodies h k w = closed-bs w h (suc k) (omega arith)

@@ -9,13 +9,13 @@ use Rattle.calculus.specs.declared.Outcome.{Outcome}
 use Rattle.calculus.specs.Combinators.{cases}
 use Rattle.calculus.specs.Syntax.{Dom, Ty, Val, Tm, Tms, Op0, Op1, Op2, asValue}
 use Rattle.calculus.specs.State.{Cell, Advice, Event, Counts, State, Given, charged, celled, stored, labelled, installed, told}
-use Rattle.calculus.specs.View.{unitOf, truthOf, numberOf, pairOf, bodyOf, labelOf, cellOf, labelsOf}
+use Rattle.calculus.specs.View.{unitOf, truthOf, numberOf, pairOf, bodyOf, labelOf, cellOf, labelsOf, bodiesOf}
 use Rattle.calculus.specs.Numbers.{sum, difference, isLess, isEqual}
 use Rattle.calculus.specs.Answer.{Answer, go, full, halt, wrong, carry, within, if-room, with, spend}
 use Rattle.calculus.specs.Place.{Place, at, deeper}
-use Rattle.calculus.specs.Reduce.{reduce0, reduce1, reduce2, num, truth, arith, collect}
+use Rattle.calculus.specs.Reduce.{reduce0, reduce1, reduce2, num, truth, arith, collect, methodBody}
 use Rattle.calculus.specs.Step.{step, stepFirst}
-use Rattle.calculus.specs.Typing.{Policy, StoreTyping, Rule0, Rule1, Rule2, ValTy, TmTy, TmsTy, t-newLabel, t-abort, t-print, t-install, t-read, t-byte, t-newCell, t-pair, t-app, t-mark, t-store, t-plus, t-minus, t-less, t-equal, v-cell, v-advice, is-val, is-var, is-lam, is-op0, is-op1, is-op2, is-seq, is-ite, is-split, is-pcd, is-adv, is-lower, is-end, is-more}
+use Rattle.calculus.specs.Typing.{Policy, StoreTyping, Rule0, Rule1, Rule2, ValTy, TmTy, TmsTy, t-newLabel, t-abort, t-print, t-install, t-read, t-byte, t-newCell, t-call, t-pair, t-app, t-mark, t-store, t-plus, t-minus, t-less, t-equal, v-cell, v-advice, is-val, is-var, is-lam, is-op0, is-op1, is-op2, is-seq, is-ite, is-split, is-pcd, is-adv, is-lower, is-obj, is-end, is-more}
 use Rattle.calculus_safety.proofs.StoreFits.{StateFits}
 use Rattle.calculus_safety.proofs.Values.{val-ty}
 use Rattle.calculus_noninterference.specs.Observe.{Highs}
@@ -103,6 +103,7 @@ module _ (hi : Dom → Bool) where
     confined1 {v} G P s (t-read l) h k = confined-with (cellOf v) _ (λ r. confined-with (getElem? (s .cells) r) _ (λ a. c-go e-charge))
     confined1 {v} G P s t-byte h k = confined-with (numberOf v) _ (λ n. c-go e-charge)
     confined1 G P s (t-newCell l) h k = confined-spend _ _ (λ u. c-go (e-cell _ (under l)))
+    confined1 {v} G P s (t-call {m} x) h k = confined-with (bodiesOf v) _ (λ bs. confined-with (methodBody bs m) _ (λ e. confined-spend _ _ (λ u. c-go e-charge)))
 
     confined-arith : {c : Dom} {A : Type 0} (s : State) (k : A → Tm) (f : ℕ → ℕ → A) (v w : Val) → Confined c s (arith s k f (numberOf v) (numberOf w))
     confined-arith s k f v w = confined-with (numberOf v) _ (λ m. confined-with (numberOf w) _ (λ n. c-go e-charge))
@@ -142,6 +143,7 @@ module _ (hi : Dom → Bool) where
         confined-step (is-pcd h o) γ P = confined-first h γ P [] _ _ (λ vs. confined-with (collect vs []) _ (λ l. confined-spend _ _ (λ n. c-go e-charge)))
         confined-step (is-adv {e} h l g) γ P = confined-cases (asValue e) _ _ (λ v p. confined-room _ _ (confined-with (labelsOf v) _ (λ u. confined-spend _ _ (λ n. c-go e-charge)))) (confined-within _ (confined-step h γ (deeper P)))
         confined-step (is-lower {e} l h) γ P = confined-cases (asValue e) _ _ (λ v p. confined-room _ _ (confined-with (unitOf v) _ (λ u. c-go e-charge))) (confined-within _ (confined-up (under l) (confined-step h γ (deeper P))))
+        confined-step (is-obj h) γ P = c-wrong
 
         confined-first : {Γ ts : List Ty} {c : Dom} {es : Tms} → TmsTy D Σ Γ c es ts → Γ ≡ [] → (P : Place) (vs : List Val) (k : Tms → Tm) (r : List Val → Answer State Tm) → ((ws : List Val) → Confined c s (r ws)) → Confined c s (stepFirst es G (at c P) s vs k r)
         confined-first is-end γ P vs k r m = confined-room _ _ (m vs)

@@ -6,19 +6,20 @@ use mathlib.Core.List.{List}
 use mathlib.Core.Option.{Option, none, some, Option·some-injective}
 use lib.ListN.{getElem?}
 use Rattle.calculus.specs.Combinators.{cases}
-use Rattle.calculus.specs.Syntax.{Dom, Ty, Val, Tm, Op0, Op1, Op2, val}
+use Rattle.calculus.specs.Syntax.{Dom, Ty, Sigs, Val, Tm, Tms, Op0, Op1, Op2, val}
 use Rattle.calculus.specs.State.{Cell, State, Given, Counts}
 use Rattle.calculus.specs.Numbers.{frameByte, sum, difference, isLess, isEqual}
 use Rattle.calculus.specs.Answer.{go, with, spend}
 use Rattle.calculus.specs.Place.{Place, at}
-use Rattle.calculus.specs.Reduce.{piece, reduce0, reduce1, reduce2, arith, num, truth, reduceSeq, reduceIte, reduceSplit, reduceAdv, reduceLower, collect, reducePcd}
-use Rattle.calculus.specs.Typing.{Policy, StoreTyping, Rule0, Rule1, Rule2, ValTy, t-newLabel, t-abort, t-print, t-install, t-read, t-byte, t-newCell, t-pair, t-app, t-mark, t-store, t-plus, t-minus, t-less, t-equal}
+use Rattle.calculus.specs.Reduce.{piece, bind, reduce0, reduce1, reduce2, arith, num, truth, reduceSeq, reduceIte, reduceSplit, reduceAdv, reduceLower, collect, reducePcd, methodBody}
+use Rattle.calculus.specs.Typing.{Policy, Has, has-first, has-later, StoreTyping, Rule0, Rule1, Rule2, ValTy, t-newLabel, t-abort, t-print, t-install, t-read, t-byte, t-newCell, t-call, t-pair, t-app, t-mark, t-store, t-plus, t-minus, t-less, t-equal}
 use Rattle.laws.proofs.Lists.{All2.all2-nil, All2.all2-cons}
 use Rattle.calculus_safety.proofs.StoreFits.{StateFits}
 use Rattle.calculus_noninterference.specs.Observe.{Highs}
 use Rattle.calculus_noninterference.proofs.Clash.{clash}
 use Rattle.calculus_noninterference.proofs.Interleave.{both, Matches, matched-last, get-both}
-use Rattle.calculus_noninterference.proofs.Related.{World, grows-refl, RelCell, RelV, RelT, RelB, RelVs, b-rel, b-low, v-unit, v-truth, v-num, v-pair, v-fun, v-label, v-cell, v-labels, v-advice, r-val, RelS}
+use Rattle.calculus_noninterference.proofs.Related.{World, grows-refl, RelCell, RelV, RelT, RelB, RelVs, RelBs, b-rel, b-low, v-unit, v-truth, v-num, v-pair, v-fun, v-label, v-cell, v-labels, v-advice, v-object, r-val, r-body, RelS}
+use Rattle.calculus.specs.Subst.{subst}
 use Rattle.calculus_noninterference.proofs.Substitute.{rel-choose, relT-subst}
 use Rattle.calculus_noninterference.proofs.Store.{cell-dom}
 use Rattle.calculus_noninterference.proofs.States.{grows-cell, grows-label, rel-charged, cell-both, store-both, label-both, advice-both, event-both}
@@ -43,6 +44,7 @@ module _ (hi : Dom → Bool) (W : World) where
   collected (all2-cons (v-cell n) r) m = c-none
   collected (all2-cons (v-labels n) r) m = c-none
   collected (all2-cons (v-advice n b) r) m = c-none
+  collected (all2-cons (v-object b) r) m = c-none
 
 module _ (hi : Dom → Bool) {W : World} {s s′ : State} (R : RelS hi W s s′) where
   -- The states stay.
@@ -92,12 +94,19 @@ module _ (hi : Dom → Bool) {D : Policy} (H : Highs D hi) {W : World} {s s′ :
       let same : q .0 ≡ k = Option·some-injective _ _ (sym (q .1) ∙ e) in
       m .held (rw (← same, q .2) (H .up c p h l))
 
+  -- A method that is called at c is of the domain c, so its bodies are related (card 3).
+  two-call : {b : Ty} {ms : Sigs} {m : ℕ} {bs bs′ : Tms} {v v′ : Val} → Has c b ms m → RelBs hi W ms bs bs′ → RelV hi W v v′ → Two hi W (with (methodBody bs m) (λ e. bind 1 s (subst 0 v e))) (with (methodBody bs′ m) (λ e. bind 1 s′ (subst 0 v′ e)))
+  two-call has-first (r-body (b-rel r) k) u = two-some hi _ _ (two-charge hi R _ _ (relT-subst hi r 0 u))
+  two-call has-first (r-body (b-low f) k) u = clash h f
+  two-call (has-later x) (r-body r k) u = two-call x k u
+
   pub two1 : {o : Op1} {t a : Ty} {v v′ : Val} → G .frame ≡ G′ .frame → Rule1 D c o t a → ValTy D Σ v a → RelV hi W v v′ → Two hi W (reduce1 G (at c P) s o t v) (reduce1 G′ (at c P′) s′ o t v′)
   two1 frame t-print (ValTy.v-num {n}) v-num = two-some hi _ _ (two-room hi _ _ _ _ (two-go (grows-refl W) (event-both hi R _ h) (r-val v-unit)))
   two1 frame (t-install l) (ValTy.v-advice x y z) (v-advice m r) = two-some hi _ _ (two-room hi _ _ _ _ (two-go (grows-refl W) (advice-both hi R (record { same-dom = refl; labels = m; body = r })) (r-val v-unit)))
   two1 frame (t-read l) (ValTy.v-cell {r} x) (v-cell m) = let k = get-both m (R .cells) in two-some hi _ _ (two-found hi _ _ (k .2) (k .3) (two-stay hi R (r-val (two-read r l x (k .2) (k .4)))))
   two1 frame t-byte (ValTy.v-num {n}) v-num = two-some hi _ _ (transp (λ (f : List ℕ). Two hi W (go s (val (Val.num (frameByte (G .frame) n)))) (go s′ (val (Val.num (frameByte f n))))) frame (two-stay hi R (r-val v-num)))
   two1 frame (t-newCell l) x r = two-spend hi s s′ _ _ _ _ (λ u u′. two-go (grows-cell W both) (cell-both hi R u u′ (record { same-dom = refl; same-plain = refl; held = λ o. r })) (r-val (v-cell (matched-last (R .cells)))))
+  two1 frame (t-call {ms} x) (ValTy.v-object y) (v-object r) = two-some hi _ _ (two-call x r (v-object {t = Ty.obj ms} r))
 
   pub two2 : {o : Op2} {t a b : Ty} {v v′ w w′ : Val} → Rule2 D c o t a b → ValTy D Σ v a → ValTy D Σ w b → RelV hi W v v′ → RelV hi W w w′ → Two hi W (reduce2 G (at c P) s o t v w) (reduce2 G′ (at c P′) s′ o t v′ w′)
   two2 t-pair x y r u = two-charge hi R _ _ (r-val (v-pair r u))

@@ -3,10 +3,10 @@ use Prim.Native.Nat.{ℕ, suc}
 use mathlib.Core.Path.{_≡_}
 use mathlib.Core.Bool.{Bool, true, false}
 use mathlib.Core.List.{List, []}
-use Rattle.calculus.specs.Syntax.{Dom, Ty, Val, Tm, Tms, Op0, Op1, Op2, val, var, lam, op0, op1, op2, seq, ite, split, pcd, adv, lower, end, more}
-use Rattle.calculus.specs.Subst.{subst}
+use Rattle.calculus.specs.Syntax.{Dom, Ty, Sigs, noMethod, method, Val, Tm, Tms, Op0, Op1, Op2, val, var, lam, op0, op1, op2, seq, ite, split, pcd, adv, lower, obj, end, more}
+use Rattle.calculus.specs.Subst.{subst, substs}
 use Rattle.calculus.specs.State.{Cell, Advice, Event, State}
-use Rattle.calculus.specs.Plain.{domOf}
+use Rattle.calculus.specs.Plain.{domOf, methodsOf}
 use Rattle.laws.proofs.Lists.{Prefix, prefix-refl, All2}
 use Rattle.calculus_noninterference.proofs.Interleave.{Side, Matched, Matches, matched-mono, matches-mono, Interleaving}
 
@@ -31,6 +31,10 @@ grows-refl W = record { cells = prefix-refl (W .cells); labels = prefix-refl (W 
 abbrev pub ClosedBody : Tm → Type 0
 ClosedBody e = (k : ℕ) (w : Val) → subst (suc k) w e ≡ e
 
+-- The bodies of an object without free variables (card 3).
+abbrev pub ClosedBodies : Tms → Type 0
+ClosedBodies bs = (k : ℕ) (w : Val) → substs (suc k) w bs ≡ bs
+
 -- Labels that both runs made have the same domain; those that one run has alone may be of any.
 abbrev pub Labels : List Side → List Dom → List Dom → Type 0
 Labels = Interleaving _≡_ (λ p. Unit {0})
@@ -53,6 +57,7 @@ module _ (hi : Dom → Bool) where
         v-cell : {r r′ : ℕ} → Matched (W .cells) r r′ → RelV (Val.cell r) (Val.cell r′)
         v-labels : {ls ls′ : List ℕ} → Matches (W .labels) ls ls′ → RelV (Val.labels ls) (Val.labels ls′)
         v-advice : {p : Dom} {ls ls′ : List ℕ} {e e′ : Tm} → Matches (W .labels) ls ls′ → RelB p e e′ → RelV (Val.advice p ls e) (Val.advice p ls′ e′)
+        v-object : {t : Ty} {bs bs′ : Tms} → RelBs (methodsOf t) bs bs′ → RelV (Val.object t bs) (Val.object t bs′)
 
       pub data RelT : Tm → Tm → Type 0 where
         r-val : {v v′ : Val} → RelV v v′ → RelT (val v) (val v′)
@@ -70,6 +75,10 @@ module _ (hi : Dom → Bool) where
         r-pcd : {es es′ : Tms} → RelTs es es′ → RelT (pcd es) (pcd es′)
         r-adv : {p : Dom} {e e′ b b′ : Tm} → RelT e e′ → RelB p b b′ → RelT (adv p e b) (adv p e′ b′)
         r-lower : {p : Dom} {e e′ : Tm} → RelB p e e′ → RelT (lower p e) (lower p e′)
+        r-obj : {t : Ty} {bs bs′ : Tms} → RelBs (methodsOf t) bs bs′ → RelT (obj t bs) (obj t bs′)
+        -- an object that has been put back as a value, as a function in r-val-lam and r-lam-val
+        r-val-obj : {t : Ty} {bs bs′ : Tms} → ClosedBodies bs′ → RelV (Val.object t bs) (Val.object t bs′) → RelT (val (Val.object t bs)) (obj t bs′)
+        r-obj-val : {t : Ty} {bs bs′ : Tms} → ClosedBodies bs → RelV (Val.object t bs) (Val.object t bs′) → RelT (obj t bs) (val (Val.object t bs′))
         r-skip-left : {h e e′ : Tm} → Inert h → RelT e e′ → RelT (seq h e) e′
         r-skip-right : {h e e′ : Tm} → Inert h → RelT e e′ → RelT e (seq h e′)
 
@@ -81,6 +90,11 @@ module _ (hi : Dom → Bool) where
       pub data RelTs : Tms → Tms → Type 0 where
         r-end : RelTs end end
         r-more : {e e′ : Tm} {es es′ : Tms} → RelT e e′ → RelTs es es′ → RelTs (more e es) (more e′ es′)
+
+      -- The bodies of an object's methods (card 3).
+      pub data RelBs : Sigs → Tms → Tms → Type 0 where
+        r-no-body : RelBs noMethod end end
+        r-body : {p : Dom} {a : Ty} {ms : Sigs} {e e′ : Tm} {bs bs′ : Tms} → RelB p e e′ → RelBs ms bs bs′ → RelBs (method p a ms) (more e bs) (more e′ bs′)
 
     -- Lists of values, related one by one.
     abbrev pub RelVs : List Val → List Val → Type 0
@@ -134,6 +148,7 @@ module _ (hi : Dom → Bool) where
     relV-mono (v-cell m) x = v-cell (matched-mono m (x .cells))
     relV-mono (v-labels m) x = v-labels (matches-mono m (x .labels))
     relV-mono (v-advice m r) x = v-advice (matches-mono m (x .labels)) (relB-mono r x)
+    relV-mono (v-object r) x = v-object (relBs-mono r x)
 
     pub relT-mono : {W X : World} {e e′ : Tm} → RelT W e e′ → Grows W X → RelT X e e′
     relT-mono (r-val r) x = r-val (relV-mono r x)
@@ -150,6 +165,9 @@ module _ (hi : Dom → Bool) where
     relT-mono (r-pcd r) x = r-pcd (relTs-mono r x)
     relT-mono (r-adv r s) x = r-adv (relT-mono r x) (relB-mono s x)
     relT-mono (r-lower r) x = r-lower (relB-mono r x)
+    relT-mono (r-obj r) x = r-obj (relBs-mono r x)
+    relT-mono (r-val-obj c r) x = r-val-obj c (relV-mono r x)
+    relT-mono (r-obj-val c r) x = r-obj-val c (relV-mono r x)
     relT-mono (r-skip-left i r) x = r-skip-left i (relT-mono r x)
     relT-mono (r-skip-right i r) x = r-skip-right i (relT-mono r x)
 
@@ -160,6 +178,10 @@ module _ (hi : Dom → Bool) where
     pub relTs-mono : {W X : World} {es es′ : Tms} → RelTs W es es′ → Grows W X → RelTs X es es′
     relTs-mono r-end x = r-end
     relTs-mono (r-more r s) x = r-more (relT-mono r x) (relTs-mono s x)
+
+    relBs-mono : {W X : World} {ms : Sigs} {bs bs′ : Tms} → RelBs W ms bs bs′ → Grows W X → RelBs X ms bs bs′
+    relBs-mono r-no-body x = r-no-body
+    relBs-mono (r-body r s) x = r-body (relB-mono r x) (relBs-mono s x)
 
   pub cell-mono : {W X : World} → Grows W X → (a b : Cell Val) → RelCell W a b → RelCell X a b
   cell-mono x a b r = record { same-dom = r .same-dom; same-plain = r .same-plain; held = λ h. relV-mono (r .held h) x }

@@ -13,7 +13,7 @@ use Rattle.laws.proofs.Lists.{All2.all2-nil, All2.all2-cons}
 use Rattle.calculus_safety.proofs.StoreFits.{StateFits}
 use Rattle.calculus_safety.proofs.Values.{val-ty}
 use Rattle.calculus_noninterference.specs.Observe.{Highs}
-use Rattle.calculus_noninterference.proofs.Related.{World, Grows, RelT, RelB, RelTs, RelVs, b-rel, b-low, v-fun, r-val, r-var, r-lam, r-val-lam, r-lam-val, r-op0, r-op1, r-op2, r-seq, r-ite, r-split, r-pcd, r-adv, r-lower, r-skip-left, r-skip-right, r-end, r-more, relV-mono, relT-mono, relB-mono, relTs-mono, RelS}
+use Rattle.calculus_noninterference.proofs.Related.{World, Grows, RelT, RelB, RelTs, RelVs, b-rel, b-low, v-fun, v-object, r-val, r-var, r-lam, r-val-lam, r-lam-val, r-op0, r-op1, r-op2, r-seq, r-ite, r-split, r-pcd, r-adv, r-lower, r-obj, r-val-obj, r-obj-val, r-skip-left, r-skip-right, r-end, r-more, relV-mono, relT-mono, relB-mono, relTs-mono, RelS}
 use Rattle.calculus_noninterference.proofs.Paired.{n-wrong, no-step-room, Two, Sim, s-values, s-both, s-none-left, two-room, lift-in, lift}
 use Rattle.calculus_noninterference.proofs.Reductions.{two-pcd, two-seq, two-lower, two-ite, two-split, two-adv, two0, two1, two2}
 use Rattle.calculus_noninterference.proofs.Alone.{skips, skip-left, skip-right, sim-low}
@@ -110,6 +110,9 @@ module _ (hi : Dom → Bool) {D : Policy} (H : Highs D hi) (G G′ : Given) (fra
         (λ v v′ k k′ y. s-both refl refl (two-room hi _ _ _ _ (two-adv hi R (val-ty (inv-adv T .2) k) y q)))
         (sim r c h (inv-adv T .2) (inv-adv T′ .2) (deeper P) (deeper P′))
     sim (r-lower r) c h T T′ P P′ = sim-body r c (inv-lower T) (inv-lower T′) P P′
+    sim (r-obj r) c h T T′ P P′ = s-values refl refl (v-object r)
+    sim (r-val-obj x r) c h T T′ P P′ = s-values refl refl r
+    sim (r-obj-val x r) c h T T′ P P′ = s-values refl refl r
     sim (r-skip-left i r) c h T T′ P P′ = skip-left hi R _ (skips hi H s K G i (inv-seq T .0) P _) r
     sim (r-skip-right i r) c h T T′ P P′ = skip-right hi R _ (skips hi H s′ K′ G′ i (inv-seq T′ .0) P′ _) r
 

@@ -3,9 +3,9 @@ use Prim.Native.Nat.{ℕ, suc}
 use mathlib.Core.Bool.{Bool, true, false}
 use lib.Dec.{eqb, ltb}
 use Rattle.calculus.specs.Combinators.{choose}
-use Rattle.calculus.specs.Syntax.{Dom, Ty, Val, Tm, Tms, val, lam}
+use Rattle.calculus.specs.Syntax.{Dom, Sigs, Ty, Val, Tm, Tms, val, lam, obj}
 use Rattle.calculus.specs.Subst.{subst, substs}
-use Rattle.calculus_noninterference.proofs.Related.{World, ClosedBody, Inert, inert-lower, inert-unit, RelV, RelT, RelB, RelTs, b-rel, b-low, r-val, r-var, r-lam, r-val-lam, r-lam-val, r-op0, r-op1, r-op2, r-seq, r-ite, r-split, r-pcd, r-adv, r-lower, r-skip-left, r-skip-right, r-end, r-more}
+use Rattle.calculus_noninterference.proofs.Related.{World, ClosedBody, ClosedBodies, Inert, inert-lower, inert-unit, RelV, RelT, RelB, RelTs, RelBs, b-rel, b-low, r-val, r-var, r-lam, r-val-lam, r-lam-val, r-op0, r-op1, r-op2, r-seq, r-ite, r-split, r-pcd, r-adv, r-lower, r-obj, r-val-obj, r-obj-val, r-skip-left, r-skip-right, r-end, r-more, r-no-body, r-body}
 
 module _ (hi : Dom → Bool) where
   inert-subst : {h : Tm} (k : ℕ) (v : Val) → Inert hi h → Inert hi (subst k v h)
@@ -23,6 +23,12 @@ module _ (hi : Dom → Bool) where
 
     lam-val : {t : Ty} {e e′ : Tm} (k : ℕ) (w : Val) → ClosedBody e → RelV hi W (Val.fun t e) (Val.fun t e′) → RelT hi W (lam t (subst (suc k) w e)) (val (Val.fun t e′))
     lam-val k w c r = rw (c k w) (r-lam-val c r)
+
+    val-obj : {t : Ty} {bs bs′ : Tms} (k : ℕ) (w : Val) → ClosedBodies bs′ → RelV hi W (Val.object t bs) (Val.object t bs′) → RelT hi W (val (Val.object t bs)) (obj t (substs (suc k) w bs′))
+    val-obj k w c r = rw (c k w) (r-val-obj c r)
+
+    obj-val : {t : Ty} {bs bs′ : Tms} (k : ℕ) (w : Val) → ClosedBodies bs → RelV hi W (Val.object t bs) (Val.object t bs′) → RelT hi W (obj t (substs (suc k) w bs)) (val (Val.object t bs′))
+    obj-val k w c r = rw (c k w) (r-obj-val c r)
 
     mutual
       unfolding subst substs
@@ -42,6 +48,9 @@ module _ (hi : Dom → Bool) where
       relT-subst (r-pcd r) k u = r-pcd (relTs-subst r k u)
       relT-subst (r-adv r s) k u = r-adv (relT-subst r k u) (relB-subst s (suc k) u)
       relT-subst (r-lower r) k u = r-lower (relB-subst r k u)
+      relT-subst (r-obj r) k u = r-obj (relBs-subst r (suc k) u)
+      relT-subst {v′} (r-val-obj c r) k u = val-obj k v′ c r
+      relT-subst {v} (r-obj-val c r) k u = obj-val k v c r
       relT-subst {v} (r-skip-left i r) k u = r-skip-left (inert-subst k v i) (relT-subst r k u)
       relT-subst {v′} (r-skip-right i r) k u = r-skip-right (inert-subst k v′ i) (relT-subst r k u)
 
@@ -52,3 +61,7 @@ module _ (hi : Dom → Bool) where
       relTs-subst : {v v′ : Val} {es es′ : Tms} → RelTs hi W es es′ → (k : ℕ) → RelV hi W v v′ → RelTs hi W (substs k v es) (substs k v′ es′)
       relTs-subst r-end k u = r-end
       relTs-subst (r-more r s) k u = r-more (relT-subst r k u) (relTs-subst s k u)
+
+      relBs-subst : {ms : Sigs} {v v′ : Val} {bs bs′ : Tms} → RelBs hi W ms bs bs′ → (k : ℕ) → RelV hi W v v′ → RelBs hi W ms (substs k v bs) (substs k v′ bs′)
+      relBs-subst r-no-body k u = r-no-body
+      relBs-subst (r-body r s) k u = r-body (relB-subst r k u) (relBs-subst s k u)

@@ -3,7 +3,7 @@ use Prim.Native.Nat.{ℕ}
 use mathlib.Core.Path.{_≡_, ap}
 use mathlib.Core.List.{List, [], _∷_}
 use lib.ListN.{length}
-use Rattle.calculus.specs.Syntax.{Dom, Ty, Val, Tm, val, var, lam, op0, op1, op2, seq, pcd, adv, end, more, newLabel, print, install, read, newCell, app, mark, store}
+use Rattle.calculus.specs.Syntax.{Dom, Ty, noMethod, method, Val, Tm, val, var, lam, op0, op1, op2, seq, pcd, adv, end, more, newLabel, print, install, read, newCell, app, mark, store}
 use Rattle.calculus.specs.State.{Print}
 use Rattle.calculus.specs.Run.{done, Ended}
 use Rattle.calculus_noninterference.specs.Observe.{highPrints, highCells, Same}
@@ -14,6 +14,10 @@ number n = val (Val.num n)
 
 abbrev pub unit : Tm
 unit = val Val.unit
+
+-- The type of an object of one method (card 3).
+abbrev pub oneMethod : Dom → Ty → Ty
+oneMethod p b = Ty.obj (method p b noMethod)
 
 abbrev pub say : Tm → Tm
 say e = op1 print Ty.unit e

@@ -1,22 +1,22 @@
--- Each domain rule of document 01 but that of new labels, which demand 3 does without, is needed.
+-- Each domain rule of document 01 and of the cards but that of new labels, which demand 3 does without, is needed.
 use Prim.Native.Nat.{ℕ}
 use native.Mathlib.Omega.{arith}
 use mathlib.Core.Path.{_≡_, refl}
 use mathlib.Core.Bool.{true}
 use mathlib.Core.List.{List, [], _∷_}
 use Rattle.calculus.specs.Combinators.{cases}
-use Rattle.calculus.specs.Syntax.{Dom, Ty, Tm, var, lam, op1, op2, seq, lower, newCell, app, store}
+use Rattle.calculus.specs.Syntax.{Dom, Ty, Tm, var, lam, op1, op2, seq, lower, obj, end, more, newCell, call, app, store}
 use Rattle.calculus.specs.State.{picked}
 use Rattle.calculus.specs.Subst.{subst}
 use Rattle.calculus.specs.Answer.{carry, if-room, with, spend}
 use Rattle.calculus.specs.Step.{step}
 use Rattle.calculus.specs.Run.{after, run}
-use Rattle.calculus.specs.Typing.{Policy, noStore, TmTy, t-newLabel, t-print, t-install, t-read, t-newCell, t-app, t-mark, t-store, no-types, a-type, v-unit, v-num, is-val, is-var, is-lam, is-op0, is-op1, is-op2, is-seq, is-pcd, is-adv, is-lower, is-end, is-more}
+use Rattle.calculus.specs.Typing.{Policy, noStore, TmTy, has-first, t-newLabel, t-print, t-install, t-read, t-newCell, t-app, t-mark, t-store, no-types, a-type, v-unit, v-num, is-val, is-var, is-lam, is-op0, is-op1, is-op2, is-seq, is-pcd, is-adv, is-lower, is-obj, is-end, is-more, no-body, a-body}
 use Rattle.calculus.specs.Blank.{blank}
 use Rattle.calculus.specs.Accepted.{Accepted}
 use Rattle.calculus_noninterference.specs.Observe.{highOf}
-use Rattle.calculus_rules_needed.specs.Need.{apply-rule, mark-rule, cell-rule, store-rule, install-rule, read-rule, lower-rule, body-rule, pointcut-rule, advice-rule, but-apply, but-mark, but-cell, but-store, but-install, but-read, but-lower, but-body, but-pointcut, but-advice, Ordered, Needed}
-use Rattle.calculus_rules_needed.proofs.Programs.{number, unit, say, onLabel, watching, put, withCell, readIt, storeIt, withLabel, markIt, results-differ, prints-differ, cells-differ}
+use Rattle.calculus_rules_needed.specs.Need.{apply-rule, call-rule, mark-rule, cell-rule, store-rule, install-rule, read-rule, lower-rule, body-rule, pointcut-rule, advice-rule, but-apply, but-call, but-mark, but-cell, but-store, but-install, but-read, but-lower, but-body, but-pointcut, but-advice, Ordered, Needed}
+use Rattle.calculus_rules_needed.proofs.Programs.{number, unit, oneMethod, say, onLabel, watching, put, withCell, readIt, storeIt, withLabel, markIt, results-differ, prints-differ, cells-differ}
 
 -- What the programs have in common.
 accepted-number : {D : Policy} {e : Tm} → TmTy D noStore [] 0 e Ty.number → Accepted D e
@@ -77,6 +77,39 @@ apply-high-needed = record {
   type = Ty.unit;
   term = op2 app Ty.unit (lam (Ty.fun Ty.number 0 Ty.unit) (op2 store Ty.unit (var 1) (var 0))) (number 3);
   lacks = λ D o. but-apply (is-lam (is-op2 (t-store (o .high)) (is-var refl) (is-var refl))) (is-val v-num);
+  left = λ e. withCell 0 (lower 1 e) readIt;
+  right = λ e. withCell 0 (lower 1 unit) readIt;
+  fits = λ D o e h. (accepted-cell (o .high) (is-lower (o .below) h) (typed-read o), accepted-cell (o .high) (typed-nothing o) (typed-read o));
+  alike = refl;
+  differ = results-differ 3 0 refl refl (λ z. omega arith);
+}
+
+-- The same of calls (card 3). High code that called a low method would hand on what it gives: (λ x. x.0) [ς_1 s. 3], and with 4.
+pub call-low-needed : Needed call-rule 0
+unfolding blank highOf run after cases step carry if-room with spend picked subst
+call-low-needed = record {
+  context = oneMethod 1 Ty.number ∷ [];
+  type = Ty.number;
+  term = op1 (call 0) Ty.number (var 0);
+  lacks = λ D o. but-call has-first (is-var refl);
+  left = λ e. op2 app Ty.number (lam (Ty.fun (oneMethod 1 Ty.number) 0 Ty.number) e) (obj (oneMethod 1 Ty.number) (more (number 3) end));
+  right = λ e. op2 app Ty.number (lam (Ty.fun (oneMethod 1 Ty.number) 0 Ty.number) e) (obj (oneMethod 1 Ty.number) (more (number 4) end));
+  fits = λ D o e h. (
+    accepted-number (is-op2 t-app (is-lam h) (is-obj (a-body (is-val v-num) no-body))),
+    accepted-number (is-op2 t-app (is-lam h) (is-obj (a-body (is-val v-num) no-body))),
+  );
+  alike = refl;
+  differ = results-differ 3 4 refl refl (λ z. omega arith);
+}
+
+-- Low code that called a high method would store to high cells.
+pub call-high-needed : Needed call-rule 1
+unfolding blank highOf run after cases step carry if-room with spend picked subst
+call-high-needed = record {
+  context = Ty.ref Ty.number 0 ∷ [];
+  type = Ty.unit;
+  term = op1 (call 0) Ty.unit (obj (oneMethod 0 Ty.unit) (more (op2 store Ty.unit (var 1) (number 3)) end));
+  lacks = λ D o. but-call has-first (is-obj (a-body (is-op2 (t-store (o .high)) (is-var refl) (is-val v-num)) no-body));
   left = λ e. withCell 0 (lower 1 e) readIt;
   right = λ e. withCell 0 (lower 1 unit) readIt;
   fits = λ D o e h. (accepted-cell (o .high) (is-lower (o .below) h) (typed-read o), accepted-cell (o .high) (typed-nothing o) (typed-read o));

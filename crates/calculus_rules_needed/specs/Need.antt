@@ -4,23 +4,25 @@ use mathlib.Core.Path.{_≡_}
 use mathlib.Core.Bool.{Bool, true}
 use mathlib.Core.List.{List, [], _∷_}
 use lib.Dec.{eqb}
-use Rattle.calculus.specs.Syntax.{Dom, Ty, Tm, op1, op2, pcd, adv, lower, end, more, install, read, newCell, app, mark, store}
+use Rattle.calculus.specs.Syntax.{Dom, Ty, Sigs, Tm, op1, op2, pcd, adv, lower, end, more, install, read, newCell, call, app, mark, store}
 use Rattle.calculus.specs.State.{Given, fresh}
 use Rattle.calculus.specs.Run.{Ended, run}
-use Rattle.calculus.specs.Typing.{Policy, noStore, TmTy}
+use Rattle.calculus.specs.Typing.{Policy, Has, noStore, TmTy}
 use Rattle.calculus.specs.Blank.{blank}
 use Rattle.calculus.specs.Accepted.{Accepted}
 use Rattle.calculus_noninterference.specs.Observe.{Same}
 
--- Document 01, "Domain rules", but that of new labels, which demand 3 does without; and "the body of lower at its field p".
+-- Document 01, "Domain rules", but that of new labels, which demand 3 does without; and "the body of lower at its field p"; card 3, "a call needs that domain to be the current one".
 pub data DomainRule : Type 0 where
-  apply-rule mark-rule cell-rule store-rule install-rule read-rule lower-rule body-rule pointcut-rule advice-rule : DomainRule
+  apply-rule call-rule mark-rule cell-rule store-rule install-rule read-rule lower-rule body-rule pointcut-rule advice-rule : DomainRule
 
 module _ (D : Policy) (Γ : List Ty) (c : Dom) where
   -- A term at the current domain c that its rule in figure 3 types but for the rule's domain premise.
   pub data Lacks : DomainRule → Tm → Ty → Type 0 where
     -- e1 e2: the function's domain need not be c
     but-apply : {a b : Ty} {p : Dom} {e f : Tm} → TmTy D noStore Γ c e (Ty.fun a p b) → TmTy D noStore Γ c f a → Lacks apply-rule (op2 app b e f) b
+    -- e.m: the method's domain need not be c
+    but-call : {b : Ty} {p : Dom} {ms : Sigs} {m : ℕ} {e : Tm} → Has p b ms m → TmTy D noStore Γ c e (Ty.obj ms) → Lacks call-rule (op1 (call m) b e) b
     -- e1[e2]: the label's domain need not be c
     but-mark : {a : Ty} {p : Dom} {e f : Tm} → TmTy D noStore Γ c e (Ty.label a p) → TmTy D noStore Γ c f a → Lacks mark-rule (op2 mark Ty.unit e f) Ty.unit
     -- ref_p e: no p ≤ c

@@ -1,8 +1,8 @@
 -- Weakening: a store typing that grows keeps every type.
 use Prim.Native.Nat.{ℕ}
 use mathlib.Core.List.{List, [], _∷_, _++_}
-use Rattle.calculus.specs.Syntax.{Dom, Ty, Val, Tm, Tms}
-use Rattle.calculus.specs.Typing.{StoreTyping, Policy, LabelsOf, ValTy, TmTy, TmsTy, LabelsOf.no-labels, LabelsOf.a-label}
+use Rattle.calculus.specs.Syntax.{Dom, Ty, Sigs, Val, Tm, Tms}
+use Rattle.calculus.specs.Typing.{StoreTyping, Policy, LabelsOf, ValTy, TmTy, TmsTy, BodiesTy, LabelsOf.no-labels, LabelsOf.a-label}
 use Rattle.laws.proofs.Lists.{Prefix, prefix-refl, prefix-append, prefix-get, prefix-trans}
 
 pub record Extends (Σ Σ′ : StoreTyping) : Type 0 where
@@ -43,6 +43,7 @@ module _ (D : Policy) {Σ Σ′ : StoreTyping} (x : Extends Σ Σ′) where
     grow-val (ValTy.v-cell {r} g) = ValTy.v-cell (prefix-get (x .cells) r g)
     grow-val (ValTy.v-labels h) = ValTy.v-labels (grow-labels h)
     grow-val (ValTy.v-advice h o b) = ValTy.v-advice (grow-labels h) o (grow-tm b)
+    grow-val (ValTy.v-object h) = ValTy.v-object (grow-bodies h)
 
     pub grow-tm : {Γ : List Ty} {c : Dom} {e : Tm} {t : Ty} → TmTy D Σ Γ c e t → TmTy D Σ′ Γ c e t
     grow-tm (TmTy.is-val h) = TmTy.is-val (grow-val h)
@@ -57,7 +58,12 @@ module _ (D : Policy) {Σ Σ′ : StoreTyping} (x : Extends Σ Σ′) where
     grow-tm (TmTy.is-pcd h k) = TmTy.is-pcd (grow-tms h) k
     grow-tm (TmTy.is-adv h o b) = TmTy.is-adv (grow-tm h) o (grow-tm b)
     grow-tm (TmTy.is-lower o h) = TmTy.is-lower o (grow-tm h)
+    grow-tm (TmTy.is-obj h) = TmTy.is-obj (grow-bodies h)
 
     pub grow-tms : {Γ ts : List Ty} {c : Dom} {es : Tms} → TmsTy D Σ Γ c es ts → TmsTy D Σ′ Γ c es ts
     grow-tms TmsTy.is-end = TmsTy.is-end
     grow-tms (TmsTy.is-more h k) = TmsTy.is-more (grow-tm h) (grow-tms k)
+
+    grow-bodies : {Γ : List Ty} {bs : Tms} {ms : Sigs} → BodiesTy D Σ Γ bs ms → BodiesTy D Σ′ Γ bs ms
+    grow-bodies BodiesTy.no-body = BodiesTy.no-body
+    grow-bodies (BodiesTy.a-body h k) = BodiesTy.a-body (grow-tm h) (grow-bodies k)

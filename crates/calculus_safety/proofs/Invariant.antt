@@ -8,7 +8,7 @@ use lib.Dec.{T, leb}
 use Rattle.calculus.specs.declared.Outcome.{Outcome}
 use Rattle.calculus.specs.Limits.{bindingLimit, cellLimit, pieceLimit}
 use Rattle.calculus.specs.Combinators.{cases}
-use Rattle.calculus.specs.Syntax.{Ty, Val, Tm, Tms, Op0, Op1, Op2, asValue, val, var, lam, op0, op1, op2, seq, ite, split, pcd, adv, lower, end, more}
+use Rattle.calculus.specs.Syntax.{Ty, Val, Tm, Tms, Op0, Op1, Op2, asValue, val, var, lam, op0, op1, op2, seq, ite, split, pcd, adv, lower, obj, end, more}
 use Rattle.calculus.specs.State.{State, Given, Counts, addCounts, charged}
 use Rattle.calculus.specs.Answer.{Answer, go, full, halt, wrong, carry, within, if-room, with, spend}
 use Rattle.calculus.specs.Place.{Place, top, at, deeper}
@@ -85,6 +85,7 @@ module _ {G : Given} {Q : State → Type 0} {s : State} (R : Reduces G Q s) wher
     step-makes (pcd es) = λ P. steps-first es P [] pcd _ (λ ws. makes-with Q _ _ (λ ls. R .pieces _))
     step-makes (adv p e b) = λ P. makes-cases Q _ _ _ (λ v. makes-room Q _ _ (λ b′. makes-with Q _ _ (λ ls. R .pieces _))) (makes-within Q _ (step-makes e (deeper P)))
     step-makes (lower p e) = λ P. makes-cases Q _ _ _ (λ v. makes-room Q _ _ (λ b. makes-with Q _ _ (λ u. makes-go (R .stays)))) (makes-within Q _ (step-makes e (at p (deeper P))))
+    step-makes (obj t bs) = λ P. makes-wrong
 
     steps-first : (es : Tms) → StepsFirst es
     steps-first end = λ P vs k r h. makes-room Q _ _ (λ b. h vs)

@@ -6,12 +6,12 @@ use mathlib.Core.List.{List, [], _∷_, _++_}
 use mathlib.Core.Option.{some}
 use lib.ListN.{length, getElem?}
 use Rattle.calculus.specs.Combinators.{choose, cases}
-use Rattle.calculus.specs.Syntax.{Dom, Ty, Val, Tm, Op0, Op1, Op2, val}
+use Rattle.calculus.specs.Syntax.{Dom, Ty, Sigs, Val, Tm, Tms, Op0, Op1, Op2, val}
 use Rattle.calculus.specs.State.{Cell, State, Given}
 use Rattle.calculus.specs.Answer.{go, with}
 use Rattle.calculus.specs.Place.{Place, at}
-use Rattle.calculus.specs.Reduce.{reduce0, reduce1, reduce2, reduceSeq, reduceIte, reduceSplit, reduceAdv, reduceLower, reducePcd, collect}
-use Rattle.calculus.specs.Typing.{StoreTyping, Policy, LabelsOf, LabelTys, ValTy, TmTy, Rule0, Rule1, Rule2}
+use Rattle.calculus.specs.Reduce.{reduce0, reduce1, reduce2, reduceSeq, reduceIte, reduceSplit, reduceAdv, reduceLower, reducePcd, collect, methodBody}
+use Rattle.calculus.specs.Typing.{StoreTyping, Policy, Has, LabelsOf, LabelTys, ValTy, TmTy, BodiesTy, Rule0, Rule1, Rule2}
 use Rattle.laws.proofs.Lists.{All2, All2.all2-nil, All2.all2-cons, all-snoc, all2-snoc, all2-set, all2-length, get-last}
 use Rattle.calculus.specs.Accepted.{Transitive}
 use Rattle.calculus_safety.proofs.Extend.{extends-cell, extends-label, grow-val}
@@ -33,6 +33,11 @@ module _ (D : Policy) {Σ : StoreTyping} where
   unfolding cases
   collect-labels {ls} all2-nil LabelTys.no-types r = (ls, refl, r)
   collect-labels (all2-cons (ValTy.v-label g) hs) (LabelTys.a-type o os) r = collect-labels hs os (LabelsOf.a-label g o r)
+
+  -- A method that the type has has a body of its domain and type (card 3).
+  body-typed : {Γ : List Ty} {p : Dom} {b : Ty} {ms : Sigs} {bs : Tms} {m : ℕ} → Has p b ms m → BodiesTy D Σ Γ bs ms → (e : Tm) × (methodBody bs m ≡ some e) × TmTy D Σ Γ p e b
+  body-typed Has.has-first (BodiesTy.a-body {e} h k) = (e, refl, h)
+  body-typed (Has.has-later x) (BodiesTy.a-body h k) = body-typed x k
 
 module _ (D : Policy) {Σ : StoreTyping} {c : Dom} (s : State) (fits : StateFits D Σ s) where
   -- A value, in a store typing that stays.
@@ -64,6 +69,7 @@ module _ (D : Policy) {Σ : StoreTyping} {c : Dom} (s : State) (fits : StateFits
         (safe-go x
         (record { cells = all2-snoc (grow-cells D x (fits .cells)) (cell-fits (grow-val D x hv)); labels = fits .labels; advices = grow-advices D x (fits .advices) })
         (TmTy.is-val (ValTy.v-cell place)))
+    safe1 (Rule1.t-call x) (ValTy.v-object k) = let e = body-typed D x k in rw (e .1) (safe-spend D _ s _ (safe-here D _ fits (subst-tm D (ValTy.v-object k) (e .2) here)))
 
     pub safe2 : Transitive D → {o : Op2} {t a b : Ty} {v w : Val} → Rule2 D c o t a b → ValTy D Σ v a → ValTy D Σ w b → Safe D Σ c t (reduce2 G (at c P) s o t v w)
     unfolding with

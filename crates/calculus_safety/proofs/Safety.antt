@@ -3,7 +3,7 @@ use mathlib.Core.Path.{_≡_, refl, sym}
 use mathlib.Core.Logic.{_⊎_, inl, inr}
 use mathlib.Core.List.{List, [], _∷_}
 use mathlib.Core.Option.{Option, none, some}
-use Rattle.calculus.specs.Syntax.{Dom, Ty, Val, Tm, Tms, asValue, val, var, lam, op0, op1, op2, seq, ite, split, pcd, adv, lower}
+use Rattle.calculus.specs.Syntax.{Dom, Ty, Val, Tm, Tms, asValue, val, var, lam, op0, op1, op2, seq, ite, split, pcd, adv, lower, obj}
 use Rattle.calculus.specs.State.{State, Given}
 use Rattle.calculus.specs.Answer.{Answer, go, wrong}
 use Rattle.calculus.specs.Place.{Place, at, deeper}
@@ -80,6 +80,7 @@ module _ (D : Policy) (Σ : StoreTyping) where
           λ n P s f. safe-cases D _ _ (as-value D Σ (close nil h))
           (λ v hv. safe-room D _ _ tt (safe-lower D s f hv))
           (λ e. safe-within D _ (λ Σ′ x e′ h′. TmTy.is-lower o h′) (safe h nil e (deeper P) s f))
+      safe (TmTy.is-obj h) nil = λ n P s f. absurd (none-some (sym n))
 
       pub safes : {Γ ts : List Ty} {c : Dom} {es : Tms} → TmsTy D Σ Γ c es ts → Γ ≡ [] → StepsFirst c es ts
       safes TmsTy.is-end nil = λ t P s f vs us hs k hk r hr. safe-room D _ _ tt (hr vs us hs refl)
@@ -103,6 +104,7 @@ module _ (D : Policy) (Σ : StoreTyping) where
   step-none (pcd es) G P s m = refl
   step-none (adv p e b) G P s m = refl
   step-none (lower p e) G P s m = refl
+  step-none (obj t bs) G P s m = cc
 
   made : {c : Dom} {t : Ty} {s′ : State} {e′ : Tm} → Safe D Σ c t (go s′ e′) → (Σ′ : StoreTyping) × Extends Σ Σ′ × StateFits D Σ′ s′ × TmTy D Σ′ [] c e′ t
   made (safe-go {Σ′} x f h) = (Σ′, x, f, h)

@@ -7,10 +7,10 @@ use mathlib.Core.List.{List, _∷_}
 use mathlib.Core.Option.{some}
 use lib.ListN.{getElem?}
 use lib.Dec.{T, eqb, ltb, eqb→eq, eqb-refl, ltb→lt, nltb→le}
-use Rattle.calculus.specs.Syntax.{Dom, Ty, Val, Tm, Tms, val, var}
+use Rattle.calculus.specs.Syntax.{Dom, Ty, Sigs, Val, Tm, Tms, val, var}
 use Rattle.calculus.specs.Combinators.{choose}
 use Rattle.calculus.specs.Subst.{substVar, subst, substs}
-use Rattle.calculus.specs.Typing.{StoreTyping, Policy, ValTy, TmTy, TmsTy}
+use Rattle.calculus.specs.Typing.{StoreTyping, Policy, ValTy, TmTy, TmsTy, BodiesTy}
 
 -- Δ is Γ without its place k, where a stands.
 pub data Without (a : Ty) : ℕ → List Ty → List Ty → Type 0 where
@@ -66,7 +66,12 @@ module _ (D : Policy) {Σ : StoreTyping} where
     subst-tm hv (TmTy.is-pcd h o) w = TmTy.is-pcd (subst-tms hv h w) o
     subst-tm hv (TmTy.is-adv h o b) w = TmTy.is-adv (subst-tm hv h w) o (subst-tm hv b (there w))
     subst-tm hv (TmTy.is-lower o h) w = TmTy.is-lower o (subst-tm hv h w)
+    subst-tm hv (TmTy.is-obj h) w = TmTy.is-obj (subst-bodies hv h (there w))
 
     pub subst-tms : {a : Ty} {k : ℕ} {Γ Δ ts : List Ty} {c : Dom} {v : Val} {es : Tms} → ValTy D Σ v a → TmsTy D Σ Γ c es ts → Without a k Γ Δ → TmsTy D Σ Δ c (substs k v es) ts
     subst-tms hv TmsTy.is-end w = TmsTy.is-end
     subst-tms hv (TmsTy.is-more h r) w = TmsTy.is-more (subst-tm hv h w) (subst-tms hv r w)
+
+    subst-bodies : {a : Ty} {k : ℕ} {Γ Δ : List Ty} {v : Val} {bs : Tms} {ms : Sigs} → ValTy D Σ v a → BodiesTy D Σ Γ bs ms → Without a k Γ Δ → BodiesTy D Σ Δ (substs k v bs) ms
+    subst-bodies hv BodiesTy.no-body w = BodiesTy.no-body
+    subst-bodies hv (BodiesTy.a-body h r) w = BodiesTy.a-body (subst-tm hv h w) (subst-bodies hv r w)

@@ -24,6 +24,7 @@ module _ (D : Policy) (Σ : StoreTyping) where
   as-value (TmTy.is-pcd h o) = nothing
   as-value (TmTy.is-adv h o b) = nothing
   as-value (TmTy.is-lower o h) = nothing
+  as-value (TmTy.is-obj h) = found (ValTy.v-object h)
 
 found-some : {A : Type 0} {R : A → Type 0} {o : Option A} → Found R o → (x : A) → o ≡ some x → R x
 found-some (found {x = y} h) x e = rw (Option·some-injective y x e) at h

@@ -7,7 +7,7 @@ use mathlib.Core.Option.{Option, none, some}
 use lib.ListN.{length, set, length-append, length-set}
 use lib.Dec.{T, leb, leb→le, ltb→lt}
 use Rattle.calculus.specs.Limits.{bindingLimit, cellLimit, pieceLimit, labelLimit, adviceLimit, logRecordLength}
-use Rattle.calculus.specs.Syntax.{Dom, Ty, Val, Tm, Op0, Op1, Op2, newLabel, abort, print, install, read, byte, newCell, app, mark, store, plus, minus, less, equal}
+use Rattle.calculus.specs.Syntax.{Dom, Ty, Val, Tm, Op0, Op1, Op2, newLabel, abort, print, install, read, byte, newCell, call, app, mark, store, plus, minus, less, equal}
 use Rattle.calculus.specs.State.{Cell, Advice, Event, State, Given, Counts, consOption, picked, printOf, logOf, addCounts, charged, celled, labelled, installed, told, fresh, someBindings, oneCell, onePiece}
 use Rattle.calculus.specs.Answer.{go, with, spend}
 use Rattle.calculus.specs.Place.{Place}
@@ -96,6 +96,7 @@ module _ (G : Given) where
     within1 P read t v = makes-with (Within G) _ _ (λ r. makes-with (Within G) _ _ (λ c. makes-go W))
     within1 P byte t v = makes-with (Within G) _ _ (λ n. makes-go W)
     within1 P newCell t v = makes-spend (Within G) oneCell s _ (λ b c p. makes-go (within-charged oneCell (s .cells ++ (_ ∷ [])) (length-append (s .cells) _) b c p))
+    within1 P (call m) t v = makes-with (Within G) _ _ (λ bs. makes-with (Within G) _ _ (λ e. within-spent (someBindings 1) _ refl))
 
     within2 : (P : Place) (o : Op2) (t : Ty) (v w : Val) → Makes (Within G) (reduce2 G P s o t v w)
     within2 P Op2.pair t v w = within-spent onePiece _ refl

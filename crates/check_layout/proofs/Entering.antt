@@ -1,7 +1,7 @@
 -- One record of the walk: each way that it ends leaves the tables as the definition says.
 use Prim.Native.Nat.{ℕ, _+_, _-_, _*_, _≤_, _<_}
 use native.Mathlib.Omega.{arith}
-use mathlib.Core.Path.{_≡_, refl, sym, ap, _∙_}
+use mathlib.Core.Path.{_≡_, refl, sym, ap, subst, _∙_}
 use mathlib.Core.Bool.{Bool, true, false}
 use mathlib.Core.List.{List, [], _∷_}
 use mathlib.Core.Option.{Option, none, some}
@@ -9,32 +9,36 @@ use lib.ListN.{length, set}
 use Rattle.image.specs.declared.Refusal.{Refusal}
 use Rattle.image.specs.Limits.{domainLimit, typeLimit, termLimit}
 use Rattle.laws.specs.Tests.{firstFault}
-use Rattle.image.specs.Bytes.{numberAt}
-use Rattle.image.specs.Kinds.{TypeKind, TermKind, Kind, domain, type, term, rowOf, kindOf}
-use Rattle.image.specs.Records.{Layout, kindAt, fieldsAt}
+use Rattle.image.specs.Bytes.{lengthAt, numberAt}
+use Rattle.image.specs.Kinds.{TypeKind, TermKind, Kind, domain, type, term, typeRow, rowOf, kindOf}
+use Rattle.image.specs.Records.{Layout, kindAt, times, fieldsAt}
 use Rattle.image.specs.Records as Records
-use Rattle.image.specs.Layout.{isNew, tests, add}
+use Rattle.image.specs.Layout.{rightLength, isNew, tests, add}
 use Rattle.image.specs.Layout as Image
 use Rattle.laws.proofs.Booleans.{no-path, lt-of, of-eq}
 use Rattle.laws.proofs.Tests.{each, passed}
 use Rattle.check_records.specs.declared.numbers.Counts.{Counts}
 use Rattle.check_records.specs.Counts.{withDomain, withType, withTerm}
-use Rattle.check_records.specs.Codes.{sectionNumber, countOf, classesOf, sectionOf, firstOf, codeAt}
+use Rattle.check_records.specs.Codes.{sectionNumber, groupOf, classesOf, sectionOf, firstOf, timesIn, codeAt}
 use Rattle.check_records.specs.Descriptors.{Describes}
-use Rattle.check_records.proofs.Codes.{Packs, known-code, unknown-code, kind-small}
-use Rattle.check_records.proofs.Descriptors.{type-fields}
+use Rattle.check_records.proofs.Codes.{Packs, times-in, known-code, unknown-code, kind-small}
+use Rattle.image.proofs.Counts.{fields-length}
 use Rattle.check_records.proofs.Heads.{Whole, whole-of}
 use Rattle.check_records.proofs.Parts.{part-length}
 use Rattle.check_layout.specs.declared.Entry.{Entry}
 use Rattle.check_layout.specs.declared.tests.Tested.{Tested}
-use Rattle.check_layout.specs.Fields.{Narrow, DescriptorFrom, rangesFrom}
-use Rattle.check_layout.specs.Numbers.{lengthFits, Held, roomFits, newDescriptor, numberTests, toldOf}
-use Rattle.check_layout.specs.Tables.{layoutOf, Tables, Filters, PutType, entering, Entering, Entered}
+use Rattle.check_layout.specs.Fields.{typeCount, Narrow, DescriptorFrom, rangesFrom, groupsFrom, classesPast}
+use Rattle.check_layout.specs.Numbers.{lengthFits, Held, roomFits, newType, numberTests, toldOf}
+use Rattle.check_layout.specs.Tables.{layoutOf, Tables, Filters, Placed, PutType, entering, Entering, Entered}
 use Rattle.check_layout.proofs.Numbers.{fits-held, not-repeated, old-descriptor, new-descriptor}
 use Rattle.check_layout.proofs.Filter.{filters-more}
 use Rattle.check_layout.proofs.Parts.{descriptor-part}
-use Rattle.check_layout.proofs.Narrow.{type-lead, type-first, narrow}
-use Rattle.check_layout.proofs.Sections.{new-law}
+use Rattle.check_layout.proofs.Narrow.{type-counted, narrow}
+use Rattle.image.proofs.Laid.{stands}
+use Rattle.check_records.specs.Heads.{fieldBytes}
+use Rattle.check_records.specs.Heads as Heads
+use Rattle.check_layout.proofs.Sections.{right-length}
+use Rattle.check_layout.proofs.NewTypes.{reached-good, types-placed, new-law}
 use Rattle.check_layout.proofs.Kept.{type-count, domain-count, term-count, domain-more, term-more, type-more, domain-kept, term-kept, type-kept}
 use Rattle.check_layout.proofs.Steps.{orElse, unknown, known-law}
 
@@ -62,6 +66,9 @@ is-domain domain a b = refl
 is-domain (type k) a b = absurd (b refl)
 is-domain (term k) a b = absurd (a refl)
 
+same-sum : {f f′ t t′ g g′ l l′ : ℕ} → f ≡ f′ → t ≡ t′ → g ≡ g′ → l ≡ l′ → f + (t * g + l) ≡ f′ + (t′ * g′ + l′)
+same-sum f t g l = cc
+
 module _ {b fs kinds : List ℕ} {o q k : ℕ} {n : Counts} {ds ts ks : List ℕ} {rs : List Bool} {es : List ℕ} (R : Entering b fs kinds o q k n ds ts ks rs es) where
   pub entry : Whole b o q k
   entry = whole-of b o q k (R .head)
@@ -75,6 +82,9 @@ module _ {b fs kinds : List ℕ} {o q k : ℕ} {n : Counts} {ds ts ks : List ℕ
 
   pub full : length fs + 4 ≡ q
   full = rw (R .fields) (let W = entry in let z = part-length b (o + 4) (q - 4) (omega arith) in omega arith)
+
+  pub placed : Placed b (n .types) ts
+  placed = types-placed (R .tables) (reached-good (R .reached))
 
   -- A refusal leaves the tables as they were.
   refused : (r : Refusal) → firstFault (tests L o) ≡ some r → Entered (Entry.Fault r) b o n ds ts es ds ts ks rs es
@@ -117,8 +127,14 @@ module _ {b fs kinds : List ℕ} {o q k : ℕ} {n : Counts} {ds ts ks : List ℕ
     pub room : roomFits (sectionOf (codeAt k)) n ≡ true
     room = passed _ _ _ (passed _ _ _ (passed _ _ _ (sym h) .1) .1) .0
 
+    right : lengthFits (codeAt k) (length fs + 4) ≡ true
+    right = rw (← full) at fits
+
     ranges : rangesFrom (firstOf (codeAt k)) (classesOf (codeAt k)) fs n 0 ≡ true
     ranges = each _ (passed _ _ _ (passed _ _ _ (passed _ _ _ (passed _ _ _ (sym h) .1) .1) .1) .0) .0
+
+    groups : groupsFrom (timesIn (codeAt k) (length fs)) (groupOf (codeAt k)) (classesPast (firstOf (codeAt k)) (classesOf (codeAt k))) fs n (firstOf (codeAt k)) ≡ true
+    groups = each _ (passed _ _ _ (passed _ _ _ (passed _ _ _ (passed _ _ _ (sym h) .1) .1) .1) .0) .1 .0
 
     -- What is left is 8.
     last-test : (K : Kind) → kindOf (numberAt b o) ≡ some K → firstFault (tests L o) ≡ firstFault ((Refusal.RepeatedType, isNew K o L) ∷ [])
@@ -138,15 +154,15 @@ module _ {b fs kinds : List ℕ} {o q k : ℕ} {n : Counts} {ds ts ks : List ℕ
     pub kind-narrow : k < 256
     kind-narrow = let K = known-kind u in let l = kind-small (numberAt b o) (K .kind) (K .is) in omega (arith, entry .kind)
 
-    pub fields-narrow : sectionOf (codeAt k) ≡ 2 → Narrow fs (countOf (codeAt k))
-    fields-narrow s = let t = known-type s in narrow fs n (R .tables .few) (t .kind) (codeAt k) (packs (type (t .kind)) (t .is)) ranges
+    pub fields-narrow : sectionOf (codeAt k) ≡ 2 → Narrow fs (typeCount (codeAt k) (length fs))
+    fields-narrow s = let t = known-type s in narrow fs n (R .tables .few) (t .kind) (codeAt k) (packs (type (t .kind)) (t .is)) right ranges groups
 
     -- The fields hold the kind's, those of a type among them.
     pub held : Held (codeAt k) (length fs)
-    held = fits-held (codeAt k) (length fs) (rw (← full) at fits)
+    held = fits-held (codeAt k) (length fs) right
 
-    pub type-held : sectionOf (codeAt k) ≡ 2 → 2 * countOf (codeAt k) ≤ length fs
-    type-held s = let t = known-type s in let P = packs (type (t .kind)) (t .is) in let e = P .count ∙ (type-first (t .kind) ∙ sym (P .first)) in let h = held in omega arith
+    pub type-held : sectionOf (codeAt k) ≡ 2 → 2 * typeCount (codeAt k) (length fs) ≤ length fs
+    type-held s = let t = known-type s in let c = type-counted (t .kind) (codeAt k) (length fs) (packs (type (t .kind)) (t .is)) right in let h = held in omega arith
 
     at-kind : (K : Kind) → kindOf (numberAt b o) ≡ some K → kindAt b o ≡ K
     at-kind K e = ap (λ x. Records.orElse x domain) e
@@ -190,35 +206,46 @@ module _ {b fs kinds : List ℕ} {o q k : ℕ} {n : Counts} {ds ts ks : List ℕ
         enters (term (t .kind)) e refl (withTerm n) ds ts ks rs _ (term-more (R .tables) o (t .kind) m) (term-kept (R .tables) o (t .kind) m) (R .filter)
 
     -- A type, whose descriptor is x.
-    module _ (s : sectionOf (codeAt k) ≡ 2) {x : ℕ} (F : DescriptorFrom fs (countOf (codeAt k)) k x) where
+    module _ (s : sectionOf (codeAt k) ≡ 2) {x : ℕ} (F : DescriptorFrom fs (typeCount (codeAt k) (length fs)) k x) where
       type-is : KnownType
       type-is = known-type s
 
-      descriptor-is : Describes b o x
-      descriptor-is =
+      counted : typeCount (codeAt k) (length fs) ≡ length (fieldsAt b o (rowOf (kindAt b o)))
+      counted =
           let K = type-is .kind in
           let e = type-is .is in
           let P = packs (type K) e in
+          let f : length fs ≡ q - 4 = let z = full in omega arith in
+          let t : timesIn (codeAt k) (length fs) ≡ times (typeRow K) (lengthAt b o) = ap (λ m. timesIn (codeAt k) m) f ∙ (times-in (type K) (codeAt k) q P ∙ ap (λ m. times (typeRow K) m) (entry .len)) in
+          let c : typeCount (codeAt k) (length fs) ≡ length (typeRow K .first) + (times (typeRow K) (lengthAt b o) * length (typeRow K .group) + length (typeRow K .last)) = type-counted K (codeAt k) (length fs) P right ∙ same-sum (P .first) t (P .group) (P .last) in
+          c ∙ (sym (fields-length (typeRow K) _) ∙ ap (λ J. length (fieldsAt b o (rowOf J))) (sym (at-kind (type K) e)))
+
+      descriptor-is : Describes b o x
+      descriptor-is =
           let h = type-held s in
           let f = full in
-          let c : countOf (codeAt k) ≡ length (fieldsAt b o (rowOf (kindAt b o))) = P .count ∙ (type-lead K ∙ (sym (type-fields K _) ∙ ap (λ J. length (fieldsAt b o (rowOf J))) (sym (at-kind (type K) e)))) in
-          descriptor-part b o q (countOf (codeAt k)) k x (omega arith) c (entry .kind) (rw (R .fields) at F)
+          descriptor-part b o q (typeCount (codeAt k) (length fs)) k x (omega arith) counted (entry .kind) (subst (λ gs. DescriptorFrom gs (typeCount (codeAt k) (length fs)) k x) (R .fields) F)
 
-      new : isNew (type (type-is .kind)) o L ≡ newDescriptor (n .types) ks x
-      new = new-law L n (type-count (R .tables)) (domain-count (R .tables)) (term-count (R .tables)) o (type-is .kind) ks x (type-is .is) descriptor-is (R .tables .described)
+      new : isNew (type (type-is .kind)) o L ≡ newType b fs (n .types) ts ks x
+      new =
+          let K = type-is .kind in
+          let e = type-is .is in
+          let right : rightLength (typeRow K) (lengthAt b o) ≡ true = right-length (type K) (codeAt k) (lengthAt b o) (packs (type K) e) ∙ ap (λ m. lengthFits (codeAt k) m) (sym (entry .len)) ∙ fits in
+          let f : fs ≡ Heads.fieldsAt b o = R .fields ∙ ap (λ m. fieldBytes b o m) (entry .len) in
+          new-law (R .tables) (reached-good (R .reached)) o K x e descriptor-is (stands b o (type K) (entry .framed) e right) ∙ ap (λ gs. newType b gs (n .types) ts ks x) (sym f)
 
       -- It is there already, or it is put into the tables.
-      module _ {t : Tested} {ts′ ks′ : List ℕ} {rs′ : List Bool} (p : PutType t o x (n .types) ts ks rs ts′ ks′ rs′) where
+      module _ {t : Tested} {ts′ ks′ : List ℕ} {rs′ : List Bool} (p : PutType t b fs o x (n .types) ts ks rs ts′ ks′ rs′) where
         pub repeated-entry : {r : Refusal} → t ≡ Tested.Fault r → Entered (Entry.Fault r) b o n ds ts es ds ts′ ks′ rs′ es
         repeated-entry {r} e =
-            let f : some r ≡ firstFault ((Refusal.RepeatedType, newDescriptor (n .types) ks x) ∷ []) = ap toldOf (sym e) ∙ p .answer in
-            let a : newDescriptor (n .types) ks x ≡ false = old-descriptor _ f in
+            let f : some r ≡ firstFault ((Refusal.RepeatedType, newType b fs (n .types) ts ks x) ∷ []) = ap toldOf (sym e) ∙ p .answer in
+            let a : newType b fs (n .types) ts ks x ≡ false = old-descriptor _ f in
             let g : firstFault (tests L o) ≡ some r = last-test (type (type-is .kind)) (type-is .is) ∙ (ap (λ y. firstFault ((Refusal.RepeatedType, y) ∷ [])) new ∙ sym f) in
             rw (p .types, p .descriptors, p .filter, a) (refused r g)
 
         pub type-entry : t ≡ Tested.Passed → Entered (Entry.Laid (withType n)) b o n ds ts es ds ts′ ks′ rs′ es
         type-entry e =
-            let a : newDescriptor (n .types) ks x ≡ true = new-descriptor _ (ap toldOf (sym e) ∙ p .answer) in
+            let a : newType b fs (n .types) ts ks x ≡ true = new-descriptor _ (ap toldOf (sym e) ∙ p .answer) in
             let m = type-room s in
             let l = R .tables .long .descriptors in
             rw (p .types, p .descriptors, p .filter, a)

@@ -2,14 +2,18 @@
 use Prim.Native.Nat.{ℕ, _+_, _%_, _≤_, _<_}
 use native.Mathlib.Omega.{arith}
 use mathlib.Core.Path.{_≡_, refl, sym, _∙_}
-use mathlib.Core.Bool.{Bool, true, false, not}
+use mathlib.Core.Bool.{Bool, true, false, not, _&&_}
 use mathlib.Core.List.{List}
 use lib.ListN.{length, getD, set, length-set}
 use lib.Seq.{getD-set-same, getD-set-other}
 use lib.Dec.{eqb, ltb}
-use Rattle.laws.proofs.Booleans.{no-path, lt-of, ge-of, eq-of, of-eq}
-use Rattle.laws.proofs.Tests.{below-all}
-use Rattle.check_layout.specs.Numbers.{newDescriptor}
+use Rattle.calculus.specs.Combinators.{choose}
+use Rattle.image.specs.Kinds.{TypeKind, typeRow}
+use Rattle.check_records.specs.Heads.{fieldsAt}
+use Rattle.check_records.specs.Descriptors.{descriptorKind}
+use Rattle.laws.proofs.Booleans.{no-path, not-t, lt-of, ge-of, eq-of, of-eq}
+use Rattle.laws.proofs.Tests.{all-below, below-all}
+use Rattle.check_layout.specs.Numbers.{newDescriptor, sameFields, newObject, newType}
 use Rattle.check_layout.specs.Tables.{remainders, Filters}
 
 -- A place that is true stays so.
@@ -27,6 +31,17 @@ module _ {n : ℕ} {ks : List ℕ} {rs : List Bool} (N : Filters n ks rs) (x : �
       go : (i : ℕ) → i < n → (t : Bool) → eqb x (getD ks i 0) ≡ t → not t ≡ true
       go i l true e = let z : x ≡ getD ks i 0 = eq-of e in no-path (sym (rw z (N .at i l)) ∙ h)
       go i l false e = refl
+
+  -- A type with such a descriptor is new, whatever its fields.
+  pub unseen-type : (b fs ts : List ℕ) → getD rs (x % remainders) false ≡ false → newType b fs n ts ks x ≡ true
+  unseen-type b fs ts h = go (eqb (descriptorKind x) (typeRow TypeKind.obj .number))
+    where
+      other : (i : ℕ) → i < n → eqb x (getD ks i 0) ≡ false
+      other i l = not-t (eqb x (getD ks i 0)) (all-below n (λ i. not (eqb x (getD ks i 0))) (unseen h) i l)
+
+      go : (t : Bool) → choose t (newObject b fs n ts ks x) (newDescriptor n ks x) ≡ true
+      go true = below-all n (λ i. not (eqb x (getD ks i 0) && sameFields fs (fieldsAt b (getD ts i 0)))) (λ i l. rw (other i l) refl)
+      go false = unseen h
 
   pub filters-more : n < length ks → Filters (n + 1) (set ks n x) (set rs (x % remainders) true)
   filters-more l = record { places = rw (length-set rs (x % remainders) true) (N .places); at = λ i m. go i m (ltb i n) refl }

@@ -7,6 +7,7 @@ pub mod Parts
 pub mod Narrow
 pub mod Sections
 pub mod Kept
+pub mod NewTypes
 pub mod Steps
 pub mod Entering
 pub mod Going

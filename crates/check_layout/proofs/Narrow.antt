@@ -1,31 +1,36 @@
 -- The fields of a type that passes 7 are below 256, so that each has eight bits of the type's descriptor: they are types and domains, of which there are few.
-use Prim.Native.Nat.{ℕ, zero, suc, _+_, _<_}
+use Prim.Native.Nat.{ℕ, zero, suc, _+_, _-_, _*_, _/_, _≤_, _<_}
 use native.Mathlib.Omega.{arith}
-use mathlib.Core.Path.{_≡_, refl, sym, _∙_}
+use native.Mathlib.Nat.{suc-mul}
+use mathlib.Core.Path.{_≡_, refl, sym, ap, subst, _∙_}
 use mathlib.Core.Bool.{Bool, true, false, _&&_}
 use mathlib.Core.List.{List, [], _∷_, _++_}
 use lib.ListN.{length}
 use lib.Dec.{eqb, ltb}
+use Rattle.calculus.specs.Combinators.{choose}
 use Rattle.laws.specs.Tests.{all}
 use Rattle.image.specs.Kinds.{in-domains, in-operations, in-truths, any-number, Field, a-type, own, a-term, an-entry, TypeKind, type, Row, typeRow, lead}
-use Rattle.laws.proofs.Booleans.{no-path, and-l, and-r, lt-of, eq-of}
+use Rattle.laws.proofs.Booleans.{no-path, and-l, and-r, lt-of, ge-of, eq-of}
 use Rattle.laws.proofs.Tests.{each}
 use Rattle.image.proofs.EveryKind.{everyOf, at-type}
 use Rattle.check_records.specs.declared.numbers.Counts.{Counts}
 use Rattle.check_records.specs.Counts.{Few}
-use Rattle.check_records.specs.Codes.{classNumber, classNumbers, countOf, classesOf, firstOf}
+use Rattle.check_records.specs.Codes.{classNumber, classNumbers, groupOf, countOf, lastOf, classesOf, firstOf, timesIn}
 use Rattle.check_records.specs.Heads.{fieldIn}
 use Rattle.check_records.proofs.Codes.{Packs}
 use Rattle.check_records.proofs.Classes.{first-class}
-use Rattle.check_layout.specs.Fields.{Narrow, fieldFrom, inClass, rangesFrom}
+use Rattle.check_layout.specs.Fields.{typeCount, Narrow, fieldFrom, inClass, rangesFrom, groupsFrom, classesPast}
+use Rattle.check_layout.specs.Numbers.{lengthFits}
+use Rattle.check_layout.proofs.Numbers.{fits-exact}
+use Rattle.check_layout.proofs.Parts.{classes-past}
 
--- Every field of a type is a type or a domain, and stands first.
+-- Every field of a type is a type or a domain; none stands behind the first ones and the group.
 abbrev named : List Field → Bool
 named [] = true
 named (f ∷ fs) = ltb (classNumber f) 2 && named fs
 
 abbrev namedRow : TypeKind → Bool
-namedRow k = let r : Row = typeRow k in all (named (r .first) ∷ eqb (lead (r .first)) (length (r .first)) ∷ eqb (length (r .last)) 0 ∷ [])
+namedRow k = let r : Row = typeRow k in all (named (r .first) ∷ eqb (lead (r .first)) (length (r .first)) ∷ eqb (length (r .last)) 0 ∷ named (r .group) ∷ [])
 
 every-named : (k : TypeKind) → namedRow k ≡ true
 unfolding everyOf all
@@ -34,15 +39,31 @@ every-named k = at-type namedRow refl k
 type-named : (k : TypeKind) → named (typeRow k .first) ≡ true
 type-named k = each _ (every-named k) .0
 
-pub type-lead : (k : TypeKind) → lead (typeRow k .first) ≡ length (typeRow k .first) + length (typeRow k .last)
-type-lead k =
-    let t = each _ (every-named k) in
-    let a : lead (typeRow k .first) ≡ length (typeRow k .first) = eq-of (t .1 .0) in
-    let b : length (typeRow k .last) ≡ 0 = eq-of (t .1 .1 .0) in
-    omega arith
+group-named : (k : TypeKind) → named (typeRow k .group) ≡ true
+group-named k = each _ (every-named k) .1 .1 .1 .0
 
-pub type-first : (k : TypeKind) → lead (typeRow k .first) ≡ length (typeRow k .first)
+no-last : (k : TypeKind) → length (typeRow k .last) ≡ 0
+no-last k = eq-of (each _ (every-named k) .1 .1 .0)
+
+type-first : (k : TypeKind) → lead (typeRow k .first) ≡ length (typeRow k .first)
 type-first k = eq-of (each _ (every-named k) .1 .0)
+
+-- A type has as many fields as its kind, or as its length says.
+pub type-counted : (k : TypeKind) (x n : ℕ) → Packs (type k) x → lengthFits x (n + 4) ≡ true → typeCount x n ≡ firstOf x + (timesIn x n * groupOf x + lastOf x)
+type-counted k x n P h = go (eqb (groupOf x) 0) refl
+  where
+    go : (t : Bool) → eqb (groupOf x) 0 ≡ t → choose t (countOf x) (n / 2) ≡ firstOf x + (timesIn x n * groupOf x + lastOf x)
+    go true e =
+        let g : groupOf x ≡ 0 = eq-of e in
+        let c = P .count ∙ type-first k in
+        let f = P .first in
+        let l = P .last ∙ no-last k in
+        let z : firstOf x + (timesIn x n * groupOf x + lastOf x) ≡ firstOf x + (timesIn x n * 0 + lastOf x) = ap (λ m. firstOf x + (timesIn x n * m + lastOf x)) g in
+        omega arith
+    go false e =
+        let y : n + 4 - 4 ≡ n = omega arith in
+        let z : n + 4 ≡ 4 + 2 * (firstOf x + (timesIn x n * groupOf x + lastOf x)) = rw y at (fits-exact x (n + 4) e h) in
+        omega arith
 
 module _ (fs : List ℕ) (n : Counts) (S : Few n) where
   -- A type or a domain in its range is below 256.
@@ -71,15 +92,53 @@ module _ (fs : List ℕ) (n : Counts) (S : Few n) where
         let e : j + suc i ≡ suc j + i = omega arith in
         rw e (field-narrow gs (suc j) (and-r (ltb (classNumber g) 2) _ t) (and-r (inClass n (classNumber g) (fieldIn fs j)) _ (sym (range-parts g gs j) ∙ h)) i (omega arith))
 
+    -- A group that stands c times from field j on.
+    group-narrow : (gs : List Field) → named gs ≡ true → (c j : ℕ) → groupsFrom c (length gs) (classNumbers (gs ++ hs)) fs n j ≡ true → (i : ℕ) → i < c * length gs → fieldIn fs (j + i) < 256
+    unfolding groupsFrom
+    group-narrow gs t zero j h i l = absurd (omega arith)
+    group-narrow gs t (suc c) j h i l = go (λ z r m. group-narrow gs t c (j + length gs) z r m) (ltb i (length gs)) refl
+      where
+        here : rangesFrom (length gs) (classNumbers (gs ++ hs)) fs n j ≡ true
+        here = and-l _ (groupsFrom c (length gs) (classNumbers (gs ++ hs)) fs n (j + length gs)) h
+
+        later : groupsFrom c (length gs) (classNumbers (gs ++ hs)) fs n (j + length gs) ≡ true
+        later = and-r (rangesFrom (length gs) (classNumbers (gs ++ hs)) fs n j) _ h
+
+        go : (groupsFrom c (length gs) (classNumbers (gs ++ hs)) fs n (j + length gs) ≡ true → (r : ℕ) → r < c * length gs → fieldIn fs (j + length gs + r) < 256) → (b : Bool) → ltb i (length gs) ≡ b → fieldIn fs (j + i) < 256
+        go next true e = field-narrow gs j t here i (lt-of e)
+        go next false e =
+            let q : length gs ≤ i = ge-of e in
+            let m : suc c * length gs ≡ c * length gs + length gs = suc-mul c (length gs) in
+            let p : j + i ≡ j + length gs + (i - length gs) = omega arith in
+            rw p (next later (i - length gs) (omega arith))
+
   -- The fields of a type of the code x, and 0 where it has none.
-  pub narrow : (k : TypeKind) (x : ℕ) → Packs (type k) x → rangesFrom (firstOf x) (classesOf x) fs n 0 ≡ true → Narrow fs (countOf x)
-  narrow k x P h i = go (ltb i (countOf x)) refl
-    where
-      go : (t : Bool) → ltb i (countOf x) ≡ t → fieldFrom fs (countOf x) i < 256
-      go true t =
-          let l : i < countOf x = lt-of t in
-          let c : countOf x ≡ length (typeRow k .first) = P .count ∙ type-first k in
-          let from : 0 + i ≡ i = omega arith in
-          let z : fieldIn fs (0 + i) < 256 = field-narrow (typeRow k .group ++ typeRow k .last) (typeRow k .first) 0 (type-named k) (rw (P .first, P .classes) at h) i (omega arith) in
-          simp t (rw from at z)
-      go false t = simp t (omega arith)
+  module _ (k : TypeKind) (x : ℕ) (P : Packs (type k) x) (fit : lengthFits x (length fs + 4) ≡ true) where
+    first-narrow : rangesFrom (firstOf x) (classesOf x) fs n 0 ≡ true → (i : ℕ) → i < firstOf x → fieldIn fs i < 256
+    first-narrow h i l =
+        let c = P .first in
+        let from : 0 + i ≡ i = omega arith in
+        let z : fieldIn fs (0 + i) < 256 = field-narrow (typeRow k .group ++ typeRow k .last) (typeRow k .first) 0 (type-named k) (rw (P .first, P .classes) at h) i (omega arith) in
+        rw from at z
+
+    later-narrow : groupsFrom (timesIn x (length fs)) (groupOf x) (classesPast (firstOf x) (classesOf x)) fs n (firstOf x) ≡ true → (i : ℕ) → i < timesIn x (length fs) * groupOf x → fieldIn fs (firstOf x + i) < 256
+    later-narrow h i l =
+        let q : classesPast (firstOf x) (classesOf x) ≡ classNumbers (typeRow k .group ++ typeRow k .last) =
+        ap (λ m. classesPast m (classesOf x)) (P .first) ∙ (ap (classesPast (length (typeRow k .first))) (P .classes) ∙ classes-past (typeRow k .first) (typeRow k .group ++ typeRow k .last)) in
+        let r : groupsFrom (timesIn x (length fs)) (length (typeRow k .group)) (classNumbers (typeRow k .group ++ typeRow k .last)) fs n (firstOf x) ≡ true =
+        ap (λ g. groupsFrom (timesIn x (length fs)) g (classNumbers (typeRow k .group ++ typeRow k .last)) fs n (firstOf x)) (sym (P .group)) ∙ (ap (λ cs. groupsFrom (timesIn x (length fs)) (groupOf x) cs fs n (firstOf x)) (sym q) ∙ h) in
+        group-narrow (typeRow k .last) (typeRow k .group) (group-named k) (timesIn x (length fs)) (firstOf x) r i (subst (λ g. i < timesIn x (length fs) * g) (P .group) l)
+
+    pub narrow : rangesFrom (firstOf x) (classesOf x) fs n 0 ≡ true → groupsFrom (timesIn x (length fs)) (groupOf x) (classesPast (firstOf x) (classesOf x)) fs n (firstOf x) ≡ true → Narrow fs (typeCount x (length fs))
+    narrow h g i = go (ltb i (typeCount x (length fs))) refl (ltb i (firstOf x)) refl
+      where
+        go : (t : Bool) → ltb i (typeCount x (length fs)) ≡ t → (u : Bool) → ltb i (firstOf x) ≡ u → fieldFrom fs (typeCount x (length fs)) i < 256
+        go true t true u = simp t (first-narrow h i (lt-of u))
+        go true t false u =
+            let l : i < typeCount x (length fs) = lt-of t in
+            let m : firstOf x ≤ i = ge-of u in
+            let c = type-counted k x (length fs) P fit in
+            let z = P .last ∙ no-last k in
+            let p : firstOf x + (i - firstOf x) ≡ i = omega arith in
+            simp t (rw p at (later-narrow g (i - firstOf x) (omega arith)))
+        go false t u v = simp t (omega arith)

@@ -1,5 +1,5 @@
 -- Laws of the tests on numbers: what a loop over the descriptors has tested so far.
-use Prim.Native.Nat.{ℕ, _+_, _-_, _*_, _≤_}
+use Prim.Native.Nat.{ℕ, _+_, _-_, _*_, _≤_, _<_}
 use native.Mathlib.Omega.{arith}
 use native.Mathlib.Numerals.{add-one}
 use mathlib.Core.Path.{_≡_, refl, sym, ap, _∙_}
@@ -11,8 +11,8 @@ use lib.Dec.{eqb, leb}
 use borrow.Author.Tests.{not-true, not-false}
 use Rattle.image.specs.declared.Refusal.{Refusal}
 use Rattle.laws.specs.Tests.{allBelow, firstFault}
-use Rattle.laws.proofs.Booleans.{no-path, le-of, eq-of}
-use Rattle.laws.proofs.Tests.{each}
+use Rattle.laws.proofs.Booleans.{no-path, and-i, le-of, eq-of}
+use Rattle.laws.proofs.Tests.{each, all-below}
 use Rattle.calculus.specs.Combinators.{choose}
 use Rattle.check_records.specs.Codes.{groupOf, lastOf, firstOf, timesIn}
 use Rattle.check_layout.specs.Numbers.{lengthFits, Held, newDescriptor}
@@ -22,6 +22,22 @@ module _ (ks : List ℕ) (x : ℕ) where
   unfolding allBelow
   new-more i b t e h = rw (add-one i) (h ∙ ap (λ y. y && not (eqb x (getD ks i 0))) e)
 
+-- A test at every number below a bound: it holds further, or it does not.
+pub below-more : (ok : ℕ → Bool) (i : ℕ) → allBelow i ok ≡ true → ok i ≡ true → allBelow (i + 1) ok ≡ true
+unfolding allBelow
+below-more ok i h t = rw (add-one i) (and-i h t)
+
+pub below-not : (ok : ℕ → Bool) (n i : ℕ) → i < n → ok i ≡ false → allBelow n ok ≡ false
+below-not ok n i l h = go (allBelow n ok) refl
+  where
+    go : (t : Bool) → allBelow n ok ≡ t → allBelow n ok ≡ false
+    go true e = no-path (sym (all-below n ok e i l) ∙ h)
+    go false e = e
+
+pub and-no : (a b : Bool) → b ≡ false → false ≡ (a && b)
+and-no true b h = sym h
+and-no false b h = refl
+
 -- A record of the right length holds its kind's known fields.
 fits-one : (t : Bool) (m n : ℕ) → choose t (leb m n) (eqb n m) ≡ true → m ≤ n
 fits-one true m n h = le-of h
@@ -29,6 +45,12 @@ fits-one false m n h = let e : n ≡ m = eq-of h in omega arith
 
 pub fits-size : (x n : ℕ) → lengthFits x n ≡ true → 4 + 2 * (firstOf x + (timesIn x (n - 4) * groupOf x + lastOf x)) ≤ n
 fits-size x n h = fits-one (eqb (groupOf x) 0) _ n (each _ h .1 .1 .0)
+
+-- Where there is a group, it has nothing else.
+pub fits-exact : (x n : ℕ) → eqb (groupOf x) 0 ≡ false → lengthFits x n ≡ true → n ≡ 4 + 2 * (firstOf x + (timesIn x (n - 4) * groupOf x + lastOf x))
+fits-exact x n e h =
+    let m : ℕ = 4 + 2 * (firstOf x + (timesIn x (n - 4) * groupOf x + lastOf x)) in
+    eq-of (ap (λ t. choose t (leb m n) (eqb n m)) (sym e) ∙ each _ h .1 .1 .0)
 
 pub fits-held : (x n : ℕ) → lengthFits x (n + 4) ≡ true → Held x n
 fits-held x n h =

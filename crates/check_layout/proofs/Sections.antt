@@ -37,7 +37,7 @@ nil-length [] = refl
 nil-length (x ∷ xs) = sym (eqb·suc-zero (length xs))
 
 -- A test of each element is a test at each place.
-all-places : (ok : ℕ → Bool) (ns : List ℕ) (at : ℕ → Bool) → ((i : ℕ) → i < length ns → ok (getD ns i 0) ≡ at i) → allOf ok ns ≡ allBelow (length ns) at
+pub all-places : (ok : ℕ → Bool) (ns : List ℕ) (at : ℕ → Bool) → ((i : ℕ) → i < length ns → ok (getD ns i 0) ≡ at i) → allOf ok ns ≡ allBelow (length ns) at
 all-places ok ns at e =
     same-truth _ _ (λ h. below-all (length ns) at (λ i l. sym (e i l) ∙ all-of ok ns h i 0 l)) (λ h. of-all ok ns (λ i l. e i l ∙ all-below (length ns) at h i l))
 
@@ -59,9 +59,3 @@ module _ (L : Layout) (n : Counts) (types : length (L .types) ≡ n .types) (dom
 
   pub room-law : (k : Kind) (x : ℕ) → Packs k x → hasRoom k L ≡ roomFits (sectionOf x) n
   room-law k x P = has-room k ∙ ap (λ s. roomFits s n) (sym (P .section))
-
-  -- 8
-  pub new-law : (o : ℕ) (k : TypeKind) (ks : List ℕ) (x : ℕ) → kindOf (numberAt (L .image) o) ≡ some (type k) → Describes (L .image) o x → Described L ks → isNew (type k) o L ≡ newDescriptor (n .types) ks x
-  new-law o k ks x h X K =
-      all-places _ (L .types) (λ i. not (eqb x (getD ks i 0))) (λ i l. ap not (same-descriptor (L .image) o (typePlace L i) k h x (getD ks i 0) X (K .at i l)))
-      ∙ ap (λ m. newDescriptor m ks x) types

@@ -7,8 +7,13 @@ use lib.Dec.{eqb, ltb, leb}
 use Rattle.image.specs.Limits.{operationCount}
 use Rattle.calculus.specs.Combinators.{choose}
 use Rattle.check_records.specs.declared.numbers.Counts.{Counts}
+use Rattle.check_records.specs.Codes.{groupOf, countOf}
 use Rattle.check_records.specs.Heads.{fieldIn}
 use Rattle.check_records.specs.Descriptors.{descriptorKind, descriptorField0, descriptorField1, descriptorField2}
+
+-- How many fields a type of the code x has, whose fields take n bytes: where there is a group, as many as the bytes hold (card 3).
+abbrev pub typeCount : ℕ → ℕ → ℕ
+typeCount x n = choose (eqb (groupOf x) 0) (countOf x) (n / 2)
 
 -- Field i of n, 0 where it is none of them.
 abbrev pub fieldFrom : List ℕ → ℕ → ℕ → ℕ

@@ -17,13 +17,13 @@ use Rattle.calculus.specs.Combinators.{choose}
 use Rattle.check_records.specs.declared.numbers.Counts.{Counts}
 use Rattle.check_records.specs.declared.reader.Head.{Head}
 use Rattle.check_records.specs.Counts.{Few}
-use Rattle.check_records.specs.Heads.{headAt, fieldBytes}
+use Rattle.check_records.specs.Heads.{headAt, fieldBytes, IsWhole}
 use Rattle.check_records.specs.Codes.{kindCodes}
 use Rattle.check_records.specs.Descriptors.{Describes}
 use Rattle.check_layout.specs.declared.Scan.{Scan}
 use Rattle.check_layout.specs.declared.Entry.{Entry}
 use Rattle.check_layout.specs.declared.tests.Tested.{Tested}
-use Rattle.check_layout.specs.Numbers.{newDescriptor, toldOf}
+use Rattle.check_layout.specs.Numbers.{newType, toldOf}
 
 -- The layout of an image b of which the tables of domains, types and terms hold so many records.
 abbrev pub layoutOf : List ℕ → Counts → List ℕ → List ℕ → List ℕ → Layout
@@ -53,12 +53,16 @@ pub record Filters (n : ℕ) (ks : List ℕ) (rs : List Bool) : Type 0 where
   pub places : remainders ≤ length rs
   pub at : (i : ℕ) → i < n → getD rs (getD ks i 0 % remainders) false ≡ true
 
--- Type t is put into the tables, with the offset o and the descriptor x, unless the descriptor is there already.
-pub record PutType (r : Tested) (o x t : ℕ) (ts ks : List ℕ) (rs : List Bool) (ts′ ks′ : List ℕ) (rs′ : List Bool) : Type 0 where
-  pub answer : toldOf r ≡ firstFault ((Refusal.RepeatedType, newDescriptor t ks x) ∷ [])
-  pub types : ts′ ≡ choose (newDescriptor t ks x) (set ts t o) ts
-  pub descriptors : ks′ ≡ choose (newDescriptor t ks x) (set ks t x) ks
-  pub filter : rs′ ≡ choose (newDescriptor t ks x) (set rs (x % remainders) true) rs
+-- A whole record stands at each of the first n offsets.
+pub record Placed (b : List ℕ) (n : ℕ) (ts : List ℕ) : Type 0 where
+  pub at : (i : ℕ) → i < n → IsWhole b (getD ts i 0)
+
+-- Type t, with the fields fs, is put into the tables, with the offset o and the descriptor x, unless it is there already.
+pub record PutType (r : Tested) (b fs : List ℕ) (o x t : ℕ) (ts ks : List ℕ) (rs : List Bool) (ts′ ks′ : List ℕ) (rs′ : List Bool) : Type 0 where
+  pub answer : toldOf r ≡ firstFault ((Refusal.RepeatedType, newType b fs t ts ks x) ∷ [])
+  pub types : ts′ ≡ choose (newType b fs t ts ks x) (set ts t o) ts
+  pub descriptors : ks′ ≡ choose (newType b fs t ts ks x) (set ks t x) ks
+  pub filter : rs′ ≡ choose (newType b fs t ts ks x) (set rs (x % remainders) true) rs
 
 -- What becomes of a record at o: refused, or one more in the layout, which is L then.
 abbrev pub entering : Option Refusal → ℕ → Layout → Image.Scan
@@ -74,6 +78,11 @@ abbrev pub countsBehind : Entry → Counts → Counts
 countsBehind (Entry.Fault r) n = n
 countsBehind (Entry.Laid m) n = m
 
+-- The scan comes to the offset o with the records of a layout: none of them is refused.
+pub data Reached (b : List ℕ) : ℕ → Layout → Type 0 where
+  start : Reached b 0 (nothing b)
+  next : {o : ℕ} {L : Layout} → Reached b o L → o < length b → firstFault (tests L o) ≡ none → Reached b (o + lengthAt b o) (add (kindAt b o) o L)
+
 -- A record of q bytes and of kind k at o, in an image b: its fields are fs.
 pub record Entering (b fs kinds : List ℕ) (o q k : ℕ) (n : Counts) (ds ts ks : List ℕ) (rs : List Bool) (es : List ℕ) : Type 0 where
   pub head : headAt b o ≡ Head.Record q k
@@ -82,6 +91,7 @@ pub record Entering (b fs kinds : List ℕ) (o q k : ℕ) (n : Counts) (ds ts ks
   pub codes : kinds ≡ kindCodes
   pub tables : Tables b n ds ts ks es
   pub filter : Filters (n .types) ks rs
+  pub reached : Reached b o (layoutOf b n ds ts es)
 
 pub record Entered (r : Entry) (b : List ℕ) (o : ℕ) (n : Counts) (ds ts es ds′ ts′ ks′ : List ℕ) (rs′ : List Bool) (es′ : List ℕ) : Type 0 where
   pub answer : entryOf r b o ds′ ts′ es′ ≡ entering (firstFault (tests (layoutOf b n ds ts es) o)) o (add (kindAt b o) o (layoutOf b n ds ts es))
@@ -89,25 +99,19 @@ pub record Entered (r : Entry) (b : List ℕ) (o : ℕ) (n : Counts) (ds ts es d
   pub tables : Tables b (countsBehind r n) ds′ ts′ ks′ es′
   pub filter : Filters (countsBehind r n .types) ks′ rs′
 
--- What enter is lent: the fields of a record of some image. What it does is the same for every such image.
-pub record Enterable (fs kinds : List ℕ) (o k : ℕ) (n : Counts) (ds ts ks : List ℕ) (rs : List Bool) (es : List ℕ) : Type 0 where
-  pub image : List ℕ
+-- What enter is lent, and what it does.
+pub record Enterable (b fs kinds : List ℕ) (o k : ℕ) (n : Counts) (ds ts ks : List ℕ) (rs : List Bool) (es : List ℕ) : Type 0 where
   pub len : ℕ
-  pub is : Entering image fs kinds o len k n ds ts ks rs es
+  pub is : Entering b fs kinds o len k n ds ts ks rs es
 
-pub record Enters (r : Entry) (fs kinds : List ℕ) (o k : ℕ) (n : Counts) (ds ts ks : List ℕ) (rs : List Bool) (es ds′ ts′ ks′ : List ℕ) (rs′ : List Bool) (es′ : List ℕ) : Type 0 where
-  pub in-image : (b : List ℕ) (q : ℕ) → Entering b fs kinds o q k n ds ts ks rs es → Entered r b o n ds ts es ds′ ts′ ks′ rs′ es′
+pub record Enters (r : Entry) (b fs kinds : List ℕ) (o k : ℕ) (n : Counts) (ds ts ks : List ℕ) (rs : List Bool) (es ds′ ts′ ks′ : List ℕ) (rs′ : List Bool) (es′ : List ℕ) : Type 0 where
+  pub entered : (q : ℕ) → Entering b fs kinds o q k n ds ts ks rs es → Entered r b o n ds ts es ds′ ts′ ks′ rs′ es′
 
 -- What scan_records is lent.
 pub record Lent (b kinds ds ts ks es : List ℕ) : Type 0 where
   pub short : length b ≤ imageLimit
   pub codes : kinds ≡ kindCodes
   pub long : Long ds ts ks es
-
--- The scan comes to the offset o with the records of a layout: none of them is refused.
-pub data Reached (b : List ℕ) : ℕ → Layout → Type 0 where
-  start : Reached b 0 (nothing b)
-  next : {o : ℕ} {L : Layout} → Reached b o L → o < length b → firstFault (tests L o) ≡ none → Reached b (o + lengthAt b o) (add (kindAt b o) o L)
 
 -- The answer and the tables at exit, as the definition's; and how far the scan came.
 abbrev pub scanOf : Scan → List ℕ → List ℕ → List ℕ → List ℕ → Image.Scan

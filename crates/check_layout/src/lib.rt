@@ -6,6 +6,7 @@ ghost use lib.ListN.{length};
 ghost use Rattle.check_layout.specs.Tables.{remainders, Lent, Scanned, ScannedWith, Enterable, Enters};
 
 pub mod fields;
+pub mod objects;
 pub mod places;
 pub mod ranges;
 pub mod tests;
@@ -22,8 +23,9 @@ pub enum Entry {
     Laid(Counts),
 }
 
-// One record: 3 to 8, and its place in its table. It is lent the record's fields.
+// One record of the image: 3 to 8, and its place in its table. It is lent the record's fields.
 fn enter(
+    image: &[u8],
     fields: &[u8],
     kinds: &[u32],
     at: usize,
@@ -35,8 +37,8 @@ fn enter(
     filter: &mut [bool],
     terms: &mut [u16],
 ) -> Entry
-    requires { ⌜ Enterable (now fields) (now kinds) at kind counts (now doms) (now types) (now descriptors) (now filter) (now terms) ⌝ }
-    ensures { λ r. ⌜ Enters r (now (fields .entry)) (now (kinds .entry)) at kind counts (now (doms .entry)) (now (types .entry)) (now (descriptors .entry)) (now (filter .entry)) (now (terms .entry)) (now (doms .exit)) (now (types .exit)) (now (descriptors .exit)) (now (filter .exit)) (now (terms .exit)) ⌝ }
+    requires { ⌜ Enterable (now image) (now fields) (now kinds) at kind counts (now doms) (now types) (now descriptors) (now filter) (now terms) ⌝ }
+    ensures { λ r. ⌜ Enters r (now (image .entry)) (now (fields .entry)) (now (kinds .entry)) at kind counts (now (doms .entry)) (now (types .entry)) (now (descriptors .entry)) (now (filter .entry)) (now (terms .entry)) (now (doms .exit)) (now (types .exit)) (now (descriptors .exit)) (now (filter .exit)) (now (terms .exit)) ⌝ }
 {
     let code = check_records::kinds::code_of(kinds, kind);
     if code == 0 {
@@ -56,6 +58,8 @@ fn enter(
     if check_records::kinds::section_of(code) == check_records::kinds::TYPES {
         let descriptor = fields::descriptor_of(fields, code, kind);
         let new = places::put_type(
+            image,
+            fields,
             at,
             descriptor,
             counts.next_type(),
@@ -97,6 +101,7 @@ fn scan_with(
             check_records::reader::Head::Record { len, kind } => {
                 let fields = check_records::reader::fields_from(image, at, len);
                 let entered = enter(
+                    image,
                     fields,
                     kinds,
                     at,

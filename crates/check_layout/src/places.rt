@@ -6,7 +6,7 @@ use check_records::numbers::TypeNo;
 ghost use mathlib.Core.Path.{_≡_};
 ghost use Prim.Native.Nat.{_<_};
 ghost use lib.ListN.{length, set};
-ghost use Rattle.check_layout.specs.Tables.{Filters, PutType};
+ghost use Rattle.check_layout.specs.Tables.{Filters, Placed, PutType};
 
 // Most descriptors differ in their remainders by this prime.
 const REMAINDERS: u32 = 251;
@@ -25,9 +25,11 @@ pub fn put_term(at: usize, n: TermNo, terms: &mut [u16])
     terms[n.0 as usize] = at as u16;
 }
 
-// 8, and the offset and the descriptor of the type t. A descriptor whose remainder is not in the filter is none of the earlier descriptors, and
+// 8, and the offset and the descriptor of the type t, which has these fields. A descriptor whose remainder is not in the filter is none of the earlier descriptors, and
 // is not compared with them.
 pub fn put_type(
+    image: &[u8],
+    fields: &[u8],
     at: usize,
     descriptor: u32,
     t: TypeNo,
@@ -35,12 +37,12 @@ pub fn put_type(
     descriptors: &mut [u32],
     filter: &mut [bool],
 ) -> crate::tests::Tested
-    requires { ⌜ (at < 65536) × (t .0 < length (now types)) × (t .0 < length (now descriptors)) × Filters (t .0) (now descriptors) (now filter) ⌝ }
-    ensures { λ r. ⌜ PutType r at descriptor (t .0) (now (types .entry)) (now (descriptors .entry)) (now (filter .entry)) (now (types .exit)) (now (descriptors .exit)) (now (filter .exit)) ⌝ }
+    requires { ⌜ (at < 65536) × (t .0 < length (now types)) × (t .0 < length (now descriptors)) × Filters (t .0) (now descriptors) (now filter) × Placed (now image) (t .0) (now types) ⌝ }
+    ensures { λ r. ⌜ PutType r (now (image .entry)) (now (fields .entry)) at descriptor (t .0) (now (types .entry)) (now (descriptors .entry)) (now (filter .entry)) (now (types .exit)) (now (descriptors .exit)) (now (filter .exit)) ⌝ }
 {
     let remainder = (descriptor % REMAINDERS) as usize;
     if filter[remainder] {
-        if !crate::tests::is_new(descriptors, t, descriptor) {
+        if !crate::objects::is_new_type(image, fields, descriptor, t, types, descriptors) {
             return crate::tests::Tested::Fault(image::Refusal::RepeatedType);
         }
     }

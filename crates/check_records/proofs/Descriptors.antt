@@ -1,8 +1,8 @@
--- The descriptors of two types are equal exactly if the types are.
+-- The descriptors of two types are equal exactly if the types are; of types that may have more fields than a descriptor, exactly if these are besides.
 use Prim.Native.Nat.{ℕ, zero, suc, _+_, _*_, _≤_, _<_}
 use native.Mathlib.Omega.{arith}
 use mathlib.Core.Path.{_≡_, refl, sym, ap, _∙_}
-use mathlib.Core.Bool.{Bool, true, false}
+use mathlib.Core.Bool.{Bool, true, _&&_}
 use mathlib.Core.List.{List, [], _∷_}
 use mathlib.Core.Option.{some}
 use lib.ListN.{length, getD}
@@ -11,8 +11,8 @@ use Rattle.laws.specs.Tests.{all}
 use Rattle.image.specs.Bytes.{numberAt, fieldAt}
 use Rattle.image.specs.Kinds.{TypeKind, domain, type, typeRow, rowOf, kindOf, fieldsOf}
 use Rattle.image.specs.Records.{orElse, kindAt, times, fieldsAt, numbersAt}
-use Rattle.image.specs.Layout.{sameType}
-use Rattle.laws.proofs.Booleans.{no-path, le-of, eq-of, of-eq}
+use Rattle.image.specs.Layout.{sameNumbers, sameType}
+use Rattle.laws.proofs.Booleans.{and-l, and-r, and-i, same-truth, le-of, eq-of, of-eq}
 use Rattle.laws.proofs.Tests.{each, of-each}
 use Rattle.image.proofs.Words.{words-length}
 use Rattle.image.proofs.EveryKind.{everyOf, at-type}
@@ -39,25 +39,24 @@ has-field b o i h = number-at b o (rowOf (kindAt b o)) i h
 pub no-field : (b : List ℕ) (o i : ℕ) → length (fieldsAt b o (rowOf (kindAt b o))) ≤ i → fieldOr0 b o i ≡ 0
 no-field b o i h = no-number b o (rowOf (kindAt b o)) i h
 
--- Every type has at most three fields, and as many in each record of its kind.
+-- A type without a group has at most three fields, and as many in each record of its kind.
 abbrev fewRow : TypeKind → Bool
-fewRow k = all (eqb (length (typeRow k .group)) 0 ∷ leb (length (typeRow k .first) + length (typeRow k .last)) 3 ∷ [])
+fewRow k = leb (length (typeRow k .first) + length (typeRow k .last)) 3
 
 every-few : (k : TypeKind) → fewRow k ≡ true
-unfolding everyOf all
+unfolding everyOf
 every-few k = at-type fewRow refl k
 
-pub type-fields : (k : TypeKind) (n : ℕ) → length (fieldsOf (typeRow k) (times (typeRow k) n)) ≡ length (typeRow k .first) + length (typeRow k .last)
-type-fields k n =
+pub type-fields : (k : TypeKind) → length (typeRow k .group) ≡ 0 → (n : ℕ) → length (fieldsOf (typeRow k) (times (typeRow k) n)) ≡ length (typeRow k .first) + length (typeRow k .last)
+type-fields k g n =
     let c : ℕ = times (typeRow k) n in
-    let g : length (typeRow k .group) ≡ 0 = eq-of (each _ (every-few k) .0) in
     let e : length (fieldsOf (typeRow k) c) ≡ length (typeRow k .first) + (c * 0 + length (typeRow k .last)) = fields-length (typeRow k) c ∙ ap (λ m. length (typeRow k .first) + (c * m + length (typeRow k .last))) g in
     omega arith
 
 pub few-fields : (k : TypeKind) → length (typeRow k .first) + length (typeRow k .last) ≤ 3
-few-fields k = le-of (each _ (every-few k) .1 .0)
+few-fields k = le-of (every-few k)
 
-same-lists : (vs ws : List ℕ) → length vs ≡ length ws → ((i : ℕ) → i < length vs → getD vs i 0 ≡ getD ws i 0) → vs ≡ ws
+pub same-lists : (vs ws : List ℕ) → length vs ≡ length ws → ((i : ℕ) → i < length vs → getD vs i 0 ≡ getD ws i 0) → vs ≡ ws
 same-lists [] [] l h = refl
 same-lists [] (w ∷ ws) l h = absurd (omega arith)
 same-lists (v ∷ vs) [] l h = absurd (omega arith)
@@ -86,30 +85,40 @@ module _ (b : List ℕ) (o p : ℕ) (k : TypeKind) (known : kindOf (numberAt b o
   in-p : numberAt b o ≡ numberAt b p → (i : ℕ) → fieldOr0 b p i ≡ getD (numbersAt b p (typeRow k)) i 0
   in-p e i = ap (λ K. getD (numbersAt b p (rowOf K)) i 0) (at-p e)
 
-  count : (q : ℕ) → length (numbersAt b q (typeRow k)) ≡ length (typeRow k .first) + length (typeRow k .last)
-  count q = words-length b (q + 4) (length (fieldsAt b q (typeRow k))) ∙ type-fields k _
+  -- Equal types have equal descriptors.
+  equal : (x y : ℕ) → Describes b o x → Describes b p y → sameType b (typeRow k) o p ≡ true → x ≡ y
+  equal x y X Y s =
+      let z = each _ s in
+      let n : numberAt b o ≡ numberAt b p = eq-of (z .0) in
+      let v = numbers-same (numbersAt b o (typeRow k)) (numbersAt b p (typeRow k)) (z .1 .0) in
+      let f : (i : ℕ) → fieldOr0 b o i ≡ fieldOr0 b p i = λ i. in-o i ∙ (ap (λ vs. getD vs i 0) v ∙ sym (in-p n i)) in
+      parts-same x y (X .kind ∙ (n ∙ sym (Y .kind))) (X .field0 ∙ (f 0 ∙ sym (Y .field0))) (X .field1 ∙ (f 1 ∙ sym (Y .field1))) (X .field2 ∙ (f 2 ∙ sym (Y .field2)))
 
-  pub same-descriptor : (x y : ℕ) → Describes b o x → Describes b p y → sameType b (typeRow k) o p ≡ eqb x y
-  same-descriptor x y X Y = go (eqb x y) refl (sameType b (typeRow k) o p) refl
+  -- Types with equal descriptors and equal fields are equal.
+  pub same-fields : (x y : ℕ) → Describes b o x → Describes b p y → sameType b (typeRow k) o p ≡ (eqb x y && sameNumbers (numbersAt b o (typeRow k)) (numbersAt b p (typeRow k)))
+  same-fields x y X Y = same-truth (sameType b (typeRow k) o p) (eqb x y && sameNumbers (numbersAt b o (typeRow k)) (numbersAt b p (typeRow k))) to from
     where
-      same : x ≡ y → sameType b (typeRow k) o p ≡ true
-      same e =
-          let n : numberAt b o ≡ numberAt b p = sym (X .kind) ∙ (ap descriptorKind e ∙ Y .kind) in
-          let f : (i : ℕ) → i < 3 → fieldOr0 b o i ≡ fieldOr0 b p i = three (λ i. fieldOr0 b o i ≡ fieldOr0 b p i) (sym (X .field0) ∙ (ap descriptorField0 e ∙ Y .field0)) (sym (X .field1) ∙ (ap descriptorField1 e ∙ Y .field1)) (sym (X .field2) ∙ (ap descriptorField2 e ∙ Y .field2)) in
-          let few = few-fields k in
-          let c = count o in
-          let v : numbersAt b o (typeRow k) ≡ numbersAt b p (typeRow k) = same-lists _ _ (count o ∙ sym (count p)) (λ i l. sym (in-o i) ∙ (f i (omega arith) ∙ in-p n i)) in
-          of-each _ (of-eq n, (rw (← v) (same-numbers (numbersAt b o (typeRow k))), tt))
+      to : sameType b (typeRow k) o p ≡ true → (eqb x y && sameNumbers (numbersAt b o (typeRow k)) (numbersAt b p (typeRow k))) ≡ true
+      to s = and-i (of-eq (equal x y X Y s)) (each _ s .1 .0)
 
-      equal : sameType b (typeRow k) o p ≡ true → x ≡ y
-      equal s =
-          let z = each _ s in
-          let n : numberAt b o ≡ numberAt b p = eq-of (z .0) in
-          let v = numbers-same (numbersAt b o (typeRow k)) (numbersAt b p (typeRow k)) (z .1 .0) in
-          let f : (i : ℕ) → fieldOr0 b o i ≡ fieldOr0 b p i = λ i. in-o i ∙ (ap (λ vs. getD vs i 0) v ∙ sym (in-p n i)) in
-          parts-same x y (X .kind ∙ (n ∙ sym (Y .kind))) (X .field0 ∙ (f 0 ∙ sym (Y .field0))) (X .field1 ∙ (f 1 ∙ sym (Y .field1))) (X .field2 ∙ (f 2 ∙ sym (Y .field2)))
+      from : (eqb x y && sameNumbers (numbersAt b o (typeRow k)) (numbersAt b p (typeRow k))) ≡ true → sameType b (typeRow k) o p ≡ true
+      from s =
+          let e : x ≡ y = eq-of (and-l (eqb x y) (sameNumbers (numbersAt b o (typeRow k)) (numbersAt b p (typeRow k))) s) in
+          of-each _ (of-eq (sym (X .kind) ∙ (ap descriptorKind e ∙ Y .kind)), (and-r (eqb x y) (sameNumbers (numbersAt b o (typeRow k)) (numbersAt b p (typeRow k))) s, tt))
 
-      go : (t : Bool) → eqb x y ≡ t → (u : Bool) → sameType b (typeRow k) o p ≡ u → sameType b (typeRow k) o p ≡ eqb x y
-      go true e u f = same (eq-of e) ∙ sym e
-      go false e true f = no-path (sym (of-eq (equal f)) ∙ e)
-      go false e false f = f ∙ sym e
+  -- Without a group there are no fields but those that the descriptor has.
+  module _ (plain : length (typeRow k .group) ≡ 0) where
+    count : (q : ℕ) → length (numbersAt b q (typeRow k)) ≡ length (typeRow k .first) + length (typeRow k .last)
+    count q = words-length b (q + 4) (length (fieldsAt b q (typeRow k))) ∙ type-fields k plain _
+
+    pub same-descriptor : (x y : ℕ) → Describes b o x → Describes b p y → sameType b (typeRow k) o p ≡ eqb x y
+    same-descriptor x y X Y = same-truth (sameType b (typeRow k) o p) (eqb x y) (λ s. of-eq (equal x y X Y s)) (λ s. same (eq-of s))
+      where
+        same : x ≡ y → sameType b (typeRow k) o p ≡ true
+        same e =
+            let n : numberAt b o ≡ numberAt b p = sym (X .kind) ∙ (ap descriptorKind e ∙ Y .kind) in
+            let f : (i : ℕ) → i < 3 → fieldOr0 b o i ≡ fieldOr0 b p i = three (λ i. fieldOr0 b o i ≡ fieldOr0 b p i) (sym (X .field0) ∙ (ap descriptorField0 e ∙ Y .field0)) (sym (X .field1) ∙ (ap descriptorField1 e ∙ Y .field1)) (sym (X .field2) ∙ (ap descriptorField2 e ∙ Y .field2)) in
+            let few = few-fields k in
+            let c = count o in
+            let v : numbersAt b o (typeRow k) ≡ numbersAt b p (typeRow k) = same-lists _ _ (count o ∙ sym (count p)) (λ i l. sym (in-o i) ∙ (f i (omega arith) ∙ in-p n i)) in
+            of-each _ (of-eq n, (rw (← v) (same-numbers (numbersAt b o (typeRow k))), tt))

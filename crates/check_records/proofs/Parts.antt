@@ -2,7 +2,7 @@
 use Prim.Native.Nat.{ℕ, zero, suc, _+_, _-_, _*_, _/_, _≤_, _<_}
 use native.Mathlib.Omega.{arith}
 use mathlib.Core.Path.{_≡_, refl, sym, ap, _∙_}
-use mathlib.Core.Bool.{Bool, true, false}
+use mathlib.Core.Bool.{Bool, true, false, _||_}
 use mathlib.Core.List.{List, [], _∷_}
 use lib.ListN.{length, take, drop, length-drop}
 use lib.Dec.{eqb}
@@ -10,7 +10,7 @@ use lib.Seq.{length-take-le}
 use Rattle.calculus.specs.Combinators.{choose}
 use Rattle.laws.specs.Tests.{all}
 use Rattle.image.specs.Bytes.{le16, words, lengthAt, fieldAt}
-use Rattle.image.specs.Kinds.{TermKind, term, Row, termRow, lead, leadOf}
+use Rattle.image.specs.Kinds.{TermKind, term, Row, termRow, lead, leadOf, trailOf}
 use Rattle.image.specs.Records.{times, asChild, childrenAt}
 use Rattle.image.specs.Records as Records
 use Rattle.image.specs.TermFields.{giving}
@@ -18,7 +18,7 @@ use Rattle.image.specs.LaidOut.{Stands}
 use Rattle.laws.proofs.Booleans.{no-path, eq-of}
 use Rattle.laws.proofs.Tests.{each}
 use Rattle.image.proofs.Words.{le16-part}
-use Rattle.image.proofs.EveryKind.{everyOf, at-term}
+use Rattle.image.proofs.EveryKind.{everyOf, at-term, or-else}
 use Rattle.image.proofs.Counts.{fields-length}
 use Rattle.image.proofs.Offsets.{children-at}
 use Rattle.check_records.specs.Codes.{firstChildrenOf, groupOf, countOf, childrenIn}
@@ -48,9 +48,9 @@ module _ (b : List ℕ) (o : ℕ) where
   pub field-is : (n i : ℕ) → 2 * i + 1 < n - 4 → fieldIn (fieldBytes b o n) i ≡ fieldAt b o i
   field-is n i h = le16-part b (o + 4) (n - 4) (2 * i) h
 
--- Of each term's kind: its children stand side by side behind its other fields.
+-- Of each term's kind: its children stand side by side; a kind with a group has no fields behind these.
 abbrev inOneRun : TermKind → Bool
-inOneRun k = let r : Row = termRow k in all (eqb (lead (r .first) + giving asChild 0 (r .first)) (length (r .first)) ∷ eqb (length (r .last)) 0 ∷ [])
+inOneRun k = let r : Row = termRow k in all (eqb (lead (r .first) + giving asChild 0 (r .first)) (length (r .first)) ∷ (eqb (length (r .group)) 0 || eqb (length (r .last)) 0) ∷ [])
 
 every-run : (k : TermKind) → inOneRun k ≡ true
 unfolding everyOf all
@@ -71,27 +71,28 @@ module _ (b : List ℕ) (o : ℕ) (k : TermKind) (x : ℕ) (P : Packs (term k) x
   pub whole : IsWhole b o
   whole = (omega (arith, S .size), S .inside)
 
-  fields-counted : length (Records.fieldsAt b o r) ≡ countOf x + firstChildrenOf x + times r n * groupOf x
+  fields-counted : length (Records.fieldsAt b o r) ≡ countOf x + firstChildrenOf x + times r n * groupOf x + trailOf k
   fields-counted =
       let t = each _ (every-run k) in
       let f : lead (r .first) + giving asChild 0 (r .first) ≡ length (r .first) = eq-of (t .0) in
-      let l : length (r .last) ≡ 0 = eq-of (t .1 .0) in
       let e : length (Records.fieldsAt b o r) ≡ length (r .first) + (times r n * groupOf x + length (r .last)) = rw (P .group) (fields-length r (times r n)) in
       let p = P .count in
       let q = P .children in
       omega arith
 
-  children-counted : countOf x + childrenIn x (n - 4) ≡ length (Records.fieldsAt b o r)
+  children-counted : countOf x + childrenIn x (n - 4) + trailOf k ≡ length (Records.fieldsAt b o r)
   children-counted = go (eqb (groupOf x) 0) refl
     where
-      go : (t : Bool) → eqb (groupOf x) 0 ≡ t → countOf x + choose t (firstChildrenOf x) ((n - 4) / 2 - countOf x) ≡ length (Records.fieldsAt b o r)
+      go : (t : Bool) → eqb (groupOf x) 0 ≡ t → countOf x + choose t (firstChildrenOf x) ((n - 4) / 2 - countOf x) + trailOf k ≡ length (Records.fieldsAt b o r)
       go true e =
-          let f : length (Records.fieldsAt b o r) ≡ countOf x + firstChildrenOf x + times r n * 0 = fields-counted ∙ ap (λ g. countOf x + firstChildrenOf x + times r n * g) (eq-of e) in
+          let f : length (Records.fieldsAt b o r) ≡ countOf x + firstChildrenOf x + times r n * 0 + trailOf k = fields-counted ∙ ap (λ g. countOf x + firstChildrenOf x + times r n * g + trailOf k) (eq-of e) in
           omega arith
       go false e =
           let f = fields-counted in
           let g : groupOf x ≡ length (r .group) = P .group in
           let p = positive (groupOf x) e in
+          let t = each _ (every-run k) in
+          let l : length (r .last) ≡ 0 = eq-of (or-else (eqb (length (r .group)) 0) (eqb (length (r .last)) 0) (t .1 .0) (λ z. let q : length (r .group) ≡ 0 = eq-of z in omega arith)) in
           let s = S .exact (omega arith) in
           omega arith
 
@@ -106,7 +107,7 @@ module _ (b : List ℕ) (o : ℕ) (k : TermKind) (x : ℕ) (P : Packs (term k) x
       let c = children-counted in
       let s = S .size in
       let p : countOf x ≡ leadOf k = P .count in
-      let m : childrenIn x (n - 4) ≡ length (Records.fieldsAt b o r) - leadOf k = omega arith in
+      let m : childrenIn x (n - 4) ≡ length (Records.fieldsAt b o r) - trailOf k - leadOf k = omega arith in
       ap (λ q. words (fieldsAt b o) (2 * countOf x) (childrenIn x q)) (bytes-length b o whole)
       ∙ (words-part b (o + 4) (n - 4) (childrenIn x (n - 4)) (2 * countOf x) (omega arith)
       ∙ (ap (λ q. words b (o + 4 + 2 * q) (childrenIn x (n - 4))) p

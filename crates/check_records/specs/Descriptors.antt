@@ -1,4 +1,4 @@
--- The descriptor of a type: its kind's number and its fields in one number, each in eight bits of it, so that two types are equal exactly if their descriptors are (document 01, "The image"; refusal 8, "type equal to an earlier one").
+-- The descriptor of a type: its kind's number and its first three fields in one number, each in eight bits of it (document 01, "The image"; refusal 8, "type equal to an earlier one"). Two types are equal exactly if their descriptors are, but for the types of objects, which may have more fields (card 3).
 use Prim.Native.Nat.{ℕ, _+_, _*_, _/_, _%_}
 use mathlib.Core.Path.{_≡_}
 use mathlib.Core.List.{List}

@@ -116,6 +116,29 @@ pub const TYPE_AND_CHILDREN: u32 = 6
     + CLASSES * SECOND * CLASS_TERM
     + GROUP;
 
+// Card 3: the type of objects, a domain and a type for each of one to eight methods; objects, a type and one to eight bodies;
+// calls, a type, a child and a method's number.
+pub const METHODS: u32 = 8
+    + SECTION * TYPES
+    + CLASSES * CLASS_DOMAIN
+    + CLASSES * SECOND * CLASS_TYPE
+    + GROUP * 2
+    + LEAST;
+
+pub const TYPE_AND_BODIES: u32 = 8
+    + SECTION * TERMS
+    + LEAD
+    + CLASSES * SECOND * CLASS_TERM
+    + GROUP
+    + LEAST;
+
+pub const TYPE_CHILD_AND_FREE: u32 = 10
+    + SECTION * TERMS
+    + LEAD
+    + CHILDREN
+    + LAST
+    + CLASSES * (SECOND * CLASS_TERM + THIRD * CLASS_FREE);
+
 // How many numbers the table has a place for: up to the last kind's.
 const KIND_COUNT: u16 = 61;
 
@@ -145,7 +168,7 @@ const KINDS: [u32; 61] = [
     TYPE_AND_DOMAIN,
     TYPE_AND_DOMAIN,
     DOMAIN,
-    0,
+    METHODS,
     0,
     0,
     0,
@@ -174,8 +197,8 @@ const KINDS: [u32; 61] = [
     TYPE_AND_TWO_CHILDREN,
     TYPE_DOMAIN_AND_CHILD,
     TYPE,
-    0,
-    0,
+    TYPE_AND_BODIES,
+    TYPE_CHILD_AND_FREE,
     0,
     0,
     0,

@@ -129,6 +129,14 @@ pub fn domain_offset(doms: &[u16], d: DomainNo) -> usize
     wide(doms[d.0 as usize])
 }
 
+// The offset of a type's record.
+pub fn type_offset(types: &[u16], t: TypeNo) -> usize
+    requires { ⌜ t .0 < length (now types) ⌝ }
+    ensures { λ r. ⌜ r ≡ getD (now (types .entry)) (t .0) 0 ⌝ }
+{
+    wide(types[t.0 as usize])
+}
+
 // The offset of a term's record.
 pub fn term_offset(terms: &[u16], n: TermNo) -> usize
     requires { ⌜ n .0 < length (now terms) ⌝ }

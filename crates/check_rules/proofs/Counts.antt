@@ -55,9 +55,12 @@ children-counted fs k =
     let v = z .1 in
     omega arith
 
--- The labels of a pointcut.
+-- The labels of a pointcut, and the bodies of an object.
 pub label-count : (fs : List ℕ) → countIn fs TermKind.pcd ≡ length fs / 2 - 1
 label-count fs = let e = giving-fields 0 (times (termRow TermKind.pcd) (4 + length fs)) (termRow TermKind.pcd) in omega arith
+
+pub body-count : (fs : List ℕ) → countIn fs TermKind.obj ≡ length fs / 2 - 1
+body-count fs = let e = giving-fields 0 (times (termRow TermKind.obj) (4 + length fs)) (termRow TermKind.obj) in omega arith
 
 -- A kind without children.
 abbrev pub childless : TermKind → Bool

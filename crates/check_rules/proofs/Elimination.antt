@@ -41,7 +41,7 @@ one-before m r k e = eq-of (left-over (λ k. eqb (leadOf k) 1) longLead refl m r
 -- The kinds with children.
 abbrev pub withChildren : List TermKind
 withChildren =
-    TermKind.byte ∷ TermKind.lower ∷ TermKind.store ∷ TermKind.read ∷ TermKind.newCell ∷ TermKind.install ∷ TermKind.adv ∷ TermKind.pcd ∷ TermKind.mark
+    TermKind.call ∷ TermKind.obj ∷ TermKind.byte ∷ TermKind.lower ∷ TermKind.store ∷ TermKind.read ∷ TermKind.newCell ∷ TermKind.install ∷ TermKind.adv ∷ TermKind.pcd ∷ TermKind.mark
     ∷ TermKind.arith ∷ TermKind.app ∷ TermKind.fun ∷ TermKind.split ∷ TermKind.pair ∷ TermKind.ite ∷ TermKind.print ∷ TermKind.seq ∷ []
 
 pub none-below : (fs : List ℕ) (m : ℕ) → apart m withChildren → (k : TermKind) → m ≡ termRow k .number → countIn fs k ≡ 0
@@ -51,7 +51,7 @@ none-below fs m r k e = no-children fs k (left-over childless withChildren refl 
 -- The kinds that may have children, but the last.
 abbrev pub beforeLast : List TermKind
 beforeLast =
-    TermKind.abort ∷ TermKind.lower ∷ TermKind.store ∷ TermKind.read ∷ TermKind.newCell ∷ TermKind.install ∷ TermKind.adv ∷ TermKind.pcd ∷ TermKind.mark ∷ TermKind.newLabel
+    TermKind.call ∷ TermKind.obj ∷ TermKind.abort ∷ TermKind.lower ∷ TermKind.store ∷ TermKind.read ∷ TermKind.newCell ∷ TermKind.install ∷ TermKind.adv ∷ TermKind.pcd ∷ TermKind.mark ∷ TermKind.newLabel
     ∷ TermKind.arith ∷ TermKind.app ∷ TermKind.fun ∷ TermKind.split ∷ TermKind.pair ∷ TermKind.ite ∷ TermKind.print ∷ TermKind.seq ∷ []
 
 pub last-kind : (m : ℕ) → apart m beforeLast → (k : TermKind) → m ≡ termRow k .number → 35 < m → k ≡ TermKind.byte

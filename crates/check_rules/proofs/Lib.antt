@@ -8,5 +8,6 @@ pub mod Counts
 pub mod Elimination
 pub mod Located
 pub mod OnDescriptors
+pub mod Methods
 pub mod Verdict
 pub mod Skipped

@@ -6,7 +6,7 @@ use mathlib.Core.List.{List}
 use lib.ListN.{length, getD}
 use lib.Dec.{leb}
 use Rattle.image.specs.Bytes.{words, lengthAt, numberAt, fieldAt}
-use Rattle.image.specs.Kinds.{Field, TermKind, termRow, leadOf}
+use Rattle.image.specs.Kinds.{Field, TermKind, termRow, leadOf, trailOf}
 use Rattle.image.specs.Kinds as Kinds
 use Rattle.image.specs.Records.{times, asChild, asOther, given, childrenAt}
 use Rattle.image.specs.Records as Records
@@ -21,7 +21,7 @@ use Rattle.check_records.specs.Heads.{IsWhole, fieldIn}
 use Rattle.check_records.proofs.Parts.{words-part, bytes-length}
 use Rattle.check_records.proofs.Parts as Parts
 use Rattle.check_rules.specs.Lent.{Terms, IsTerm}
-use Rattle.check_rules.specs.Fields.{fieldsOf, classesIn, numbersIn, othersIn, childrenIn, countIn, Typed, AtField, Labels}
+use Rattle.check_rules.specs.Fields.{fieldsOf, classesIn, numbersIn, othersIn, childrenIn, countIn, Typed, AtField, Labels, Bodies}
 use Rattle.check_rules.proofs.Lists.{table-long, table-at}
 use Rattle.check_rules.proofs.Counts.{children-counted}
 
@@ -132,7 +132,7 @@ module _ {b table : List ℕ} (T : Terms b table) {n : ℕ} (h : IsTerm b n) whe
   children-are : children (recordsOf b) n ≡ childrenAt b o (termRow kind)
   children-are = ap (givenAt asChild) (image-is b (T .laid-out))
 
-  fields-counted : length fields ≡ leadOf kind + length (children (recordsOf b) n)
+  fields-counted : length fields ≡ leadOf kind + length (children (recordsOf b) n) + trailOf kind
   fields-counted = rw children-are (fields-count kind b o)
 
   -- Of a term of kind k.
@@ -182,3 +182,16 @@ module _ {b table : List ℕ} (T : Terms b table) {n : ℕ} (h : IsTerm b n) whe
 
   pub labels-in : kind ≡ TermKind.pcd → Labels b (fieldsOf b n)
   labels-in e = record { long = typed-in .long; each = λ i l. at-field-in e i l }
+
+  -- Card 3: the bodies of an object; a call, whose last field stands behind its child.
+  pub bodies-in : kind ≡ TermKind.obj → Bodies b (fieldsOf b n)
+  bodies-in e = record { long = typed-in .long; each = λ i l. at-field-in e i l }
+
+  pub call-long : kind ≡ TermKind.call → 5 < length (fieldsOf b n)
+  call-long e =
+      let l : leadOf kind ≡ 1 = ap leadOf e in
+      let t : trailOf kind ≡ 1 = ap trailOf e in
+      let c : 1 ≡ length (children (recordsOf b) n) = count-is e in
+      let f = fields-counted in
+      let m = fields-length in
+      omega arith

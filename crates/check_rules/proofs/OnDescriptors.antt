@@ -9,7 +9,7 @@ use lib.Dec.{eqb}
 use Rattle.calculus.specs.Syntax.{Dom}
 use Rattle.laws.specs.Tests.{all, allOf}
 use Rattle.image.specs.Bytes.{le16, words}
-use Rattle.image.specs.Kinds.{TypeKind, TermKind, termRow, a-child, again}
+use Rattle.image.specs.Kinds.{Body, here, method-body, a-term, TypeKind, TermKind, termRow, again}
 use Rattle.image.specs.Records.{times, asChild, given}
 use Rattle.image.specs.Layout.{recordsOf}
 use Rattle.image.specs.Types.{typeNo}
@@ -49,24 +49,24 @@ pub at-field-typed : {b terms descriptors fs : List ℕ} {k : ℕ} → Lent b te
 at-field-typed G u = rw (← type-in (G .terms) (u .term)) (typed-in (G .terms) (u .term) .type)
 
 -- What a table of descriptors says of some types.
-abbrev describedIn : List ℕ → List ℕ → List Descriptor
-describedIn descriptors ts = map (λ a. unpacked a (getD descriptors a 0)) ts
+abbrev describedIn : List ℕ → List ℕ → List ℕ → List Descriptor
+describedIn b descriptors ts = map (λ a. unpacked (recordsOf b) a (getD descriptors a 0)) ts
 
-describes-all : {b descriptors : List ℕ} → Types b descriptors → (ts : List ℕ) → Below (length (recordsOf b .types)) ts → described (recordsOf b) ts ≡ describedIn descriptors ts
+describes-all : {b descriptors : List ℕ} → Types b descriptors → (ts : List ℕ) → Below (length (recordsOf b .types)) ts → described (recordsOf b) ts ≡ describedIn b descriptors ts
 describes-all K [] w = refl
 describes-all {b} {descriptors} K (t ∷ ts) w =
-    ap (λ d. d ∷ described (recordsOf b) ts) (describes K (w .0)) ∙ ap (λ ds. unpacked t (getD descriptors t 0) ∷ ds) (describes-all K ts (w .1))
+    ap (λ d. d ∷ described (recordsOf b) ts) (describes K (w .0)) ∙ ap (λ ds. unpacked (recordsOf b) t (getD descriptors t 0) ∷ ds) (describes-all K ts (w .1))
 
 -- The rule of a term of kind k on its fields: at a kind, it computes to the tests that a program makes.
 module _ {b descriptors fs : List ℕ} (K : Types b descriptors) (t : Typed b fs) (place : ℕ) (k : TermKind) (p : Setting ℕ) (w : Below (length (recordsOf b .types)) (typesIn b fs k)) where
   abbrev ruleOn : (Dom → Dom → Bool) → Rule
-  ruleOn order = rule order (p .context) (p .dom) (unpacked (fieldIn fs 0) (ownDescriptor descriptors fs)) (othersIn fs k) (describedIn descriptors (typesIn b fs k)) k
+  ruleOn order = rule order (p .context) (p .dom) (unpacked (recordsOf b) (fieldIn fs 0) (ownDescriptor descriptors fs)) (othersIn fs k) (describedIn b descriptors (typesIn b fs k)) k
 
   on-order : (order : Dom → Dom → Bool) → ((d e : Dom) → order d e ≡ leq (recordsOf b) d e) → judged place (ruleOn order) ≡ judged place (ruleIn b fs k p)
   on-order order o =
       ap (judged place)
-      (same-rule order (leq (recordsOf b)) o (p .context) (p .dom) (unpacked (fieldIn fs 0) (ownDescriptor descriptors fs)) (describe (recordsOf b) (fieldIn fs 0)) (sym (describes K (t .type))) (othersIn fs k)
-      (describedIn descriptors (typesIn b fs k)) (described (recordsOf b) (typesIn b fs k)) (sym (describes-all K (typesIn b fs k) w)) k)
+      (same-rule order (leq (recordsOf b)) o (p .context) (p .dom) (unpacked (recordsOf b) (fieldIn fs 0) (ownDescriptor descriptors fs)) (describe (recordsOf b) (fieldIn fs 0)) (sym (describes K (t .type))) (othersIn fs k)
+      (describedIn b descriptors (typesIn b fs k)) (described (recordsOf b) (typesIn b fs k)) (sym (describes-all K (typesIn b fs k) w)) k)
 
   -- Of a kind that does not ask the order of the domains; of one that may.
   pub on-descriptors : judged place (ruleOn (leq (recordsOf b))) ≡ judged place (ruleIn b fs k p)
@@ -98,11 +98,11 @@ pub abort-right : (place : ℕ) (b fs : List ℕ) (p : Setting ℕ) → Verdict.
 unfolding all
 abort-right place b fs p = accepted place true (all []) true refl refl refl
 
--- A pointcut: its labels stand side by side behind its type.
-labels-given : (b : List ℕ) (o c : ℕ) → given asChild (again c (a-child ∷ []) ++ []) (words b o (length (again c (a-child ∷ []) ++ []))) ≡ words b o c
+-- The labels of a pointcut, or the bodies of an object (card 3), stand side by side behind its type: c children, each a term f.
+side-by-side : (b : List ℕ) (o c : ℕ) (q : Body) → given asChild (again c (a-term q ∷ []) ++ []) (words b o (length (again c (a-term q ∷ []) ++ []))) ≡ words b o c
 unfolding words
-labels-given b o zero = refl
-labels-given b o (suc c) = ap (λ es. le16 b o ∷ es) (labels-given b (o + 2) c)
+side-by-side b o zero q = refl
+side-by-side b o (suc c) q = ap (λ es. le16 b o ∷ es) (side-by-side b (o + 2) c q)
 
 labels-are : (fs : List ℕ) → childrenIn fs TermKind.pcd ≡ words fs 2 (countIn fs TermKind.pcd)
 unfolding words
@@ -110,17 +110,34 @@ labels-are fs =
     let c : ℕ = times (termRow TermKind.pcd) (4 + length fs) in
     let e = giving-fields 0 c (termRow TermKind.pcd) in
     let n : c ≡ countIn fs TermKind.pcd = omega arith in
-    labels-given fs 2 c ∙ ap (words fs 2) n
+    side-by-side fs 2 c here ∙ ap (words fs 2) n
+
+bodies-are : (fs : List ℕ) → childrenIn fs TermKind.obj ≡ words fs 2 (countIn fs TermKind.obj)
+unfolding words
+bodies-are fs =
+    let c : ℕ = times (termRow TermKind.obj) (4 + length fs) in
+    let e = giving-fields 0 c (termRow TermKind.obj) in
+    let n : c ≡ countIn fs TermKind.obj = omega arith in
+    side-by-side fs 2 c method-body ∙ ap (words fs 2) n
+
+pub types-length : (b fs : List ℕ) (k : TermKind) → length (typesIn b fs k) ≡ countIn fs k
+types-length b fs k = length-map (childrenIn fs k) (λ e. typeNo (recordsOf b) e) ∙ children-counted fs k
+
+type-at : (b fs : List ℕ) (k : TermKind) → childrenIn fs k ≡ words fs 2 (countIn fs k) → (i : ℕ) → i < countIn fs k → getD (typesIn b fs k) i 0 ≡ typeAtField b fs (1 + i)
+type-at b fs k are i l =
+    let e : 2 + 2 * i ≡ 2 * (1 + i) = omega arith in
+    let n = children-counted fs k in
+    map-at (λ e. typeNo (recordsOf b) e) (childrenIn fs k) i 0 0 (omega arith)
+    ∙ ap (λ e. typeNo (recordsOf b) e) (ap (λ es. getD es i 0) are ∙ (words-at fs 2 (countIn fs k) i l ∙ ap (le16 fs) e))
 
 pub labels-length : (b fs : List ℕ) → length (typesIn b fs TermKind.pcd) ≡ countIn fs TermKind.pcd
-labels-length b fs = length-map (childrenIn fs TermKind.pcd) (λ e. typeNo (recordsOf b) e) ∙ children-counted fs TermKind.pcd
+labels-length b fs = types-length b fs TermKind.pcd
 
 pub label-at : (b fs : List ℕ) (i : ℕ) → i < countIn fs TermKind.pcd → getD (typesIn b fs TermKind.pcd) i 0 ≡ typeAtField b fs (1 + i)
-label-at b fs i l =
-    let e : 2 + 2 * i ≡ 2 * (1 + i) = omega arith in
-    let n = children-counted fs TermKind.pcd in
-    map-at (λ e. typeNo (recordsOf b) e) (childrenIn fs TermKind.pcd) i 0 0 (omega arith)
-    ∙ ap (λ e. typeNo (recordsOf b) e) (ap (λ es. getD es i 0) (labels-are fs) ∙ (words-at fs 2 (countIn fs TermKind.pcd) i l ∙ ap (le16 fs) e))
+label-at b fs = type-at b fs TermKind.pcd (labels-are fs)
+
+pub body-at : (b fs : List ℕ) (i : ℕ) → i < countIn fs TermKind.obj → getD (typesIn b fs TermKind.obj) i 0 ≡ typeAtField b fs (1 + i)
+body-at b fs = type-at b fs TermKind.obj (bodies-are fs)
 
 below-all : (n : ℕ) (ts : List ℕ) → ((i : ℕ) → i < length ts → getD ts i 0 < n) → Below n ts
 below-all n [] h = tt
@@ -140,7 +157,7 @@ module _ {b terms descriptors ms fs : List ℕ} (G : Lent b terms descriptors) (
   unfolding all
   pointcut-right =
       let ts : List ℕ = typesIn b fs TermKind.pcd in
-      let descriptor : ℕ → Descriptor = λ a. unpacked a (getD descriptors a 0) in
+      let descriptor : ℕ → Descriptor = λ a. unpacked (recordsOf b) a (getD descriptors a 0) in
       let x = tests-mapped descriptor (λ a. is TypeKind.label a) ts in
       let y = tests-mapped descriptor (λ a. eqb (a .part 0) (descriptorField0 (ownDescriptor descriptors fs))) ts in
       let z = tests-mapped descriptor (λ a. bitOf ms (descriptorField1 (ownDescriptor descriptors fs)) (a .part 1)) ts in

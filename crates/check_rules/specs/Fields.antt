@@ -1,4 +1,4 @@
--- The fields of a term as the part of the image that they occupy (document 01, "The image"): what a decoder reads there, and the rule of a term on what it reads. A part may hold more than its kind needs: fields are counted from its front, as the kind's row has them, and only a pointcut's labels are as many as the part holds.
+-- The fields of a term as the part of the image that they occupy (document 01, "The image"): what a decoder reads there, and the rule of a term on what it reads. A part may hold more than its kind needs: fields are counted from its front, as the kind's row has them, and only a pointcut's labels and an object's bodies are as many as the part holds.
 use Prim.Native.Nat.{ℕ, _+_, _*_, _<_}
 use mathlib.Core.List.{List}
 use lib.ListN.{length}
@@ -50,7 +50,7 @@ settingFrom b fs k p i =
       dom = domainOf (bodyOf k i) (typeOf (recordsOf b) (fieldIn fs 0)) (othersIn fs k) (p .dom) i;
     }
 
--- A part that begins with a type; one in which a term stands at field k; the part of a pointcut, with a term behind its type and any label before it.
+-- A part that begins with a type; one in which a term stands at field k; the part of a pointcut, with a term behind its type and any label before it; that of an object, with a term behind its type and any body before it (card 3).
 pub record Typed (b fs : List ℕ) : Type 0 where
   pub long : 1 < length fs
   pub type : IsType b (fieldIn fs 0)
@@ -62,3 +62,7 @@ pub record AtField (b fs : List ℕ) (k : ℕ) : Type 0 where
 pub record Labels (b fs : List ℕ) : Type 0 where
   pub long : 1 < length fs
   pub each : (i : ℕ) → i < countIn fs TermKind.pcd → AtField b fs (1 + i)
+
+pub record Bodies (b fs : List ℕ) : Type 0 where
+  pub long : 1 < length fs
+  pub each : (i : ℕ) → i < countIn fs TermKind.obj → AtField b fs (1 + i)

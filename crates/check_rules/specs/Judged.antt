@@ -9,11 +9,11 @@ use Rattle.image.specs.Limits.{domainLimit}
 use Rattle.laws.specs.Tests.{all, firstFault}
 use Rattle.image.specs.Kinds.{TypeKind, typeRow}
 use Rattle.image.specs.Records.{Layout}
-use Rattle.image.specs.Types.{termPlace}
+use Rattle.image.specs.Types.{termPlace, methodCount}
 use Rattle.verdict.specs.declared.Verdict.{Verdict}
 use Rattle.verdict.specs.Settings.{Setting}
-use Rattle.verdict.specs.Rules.{Rule, ruleFaults}
-use Rattle.verdict.specs.Check.{ruleAt}
+use Rattle.verdict.specs.Rules.{Rule, ruleFaults, is, gives}
+use Rattle.verdict.specs.Check.{describe, ruleAt}
 use Rattle.calculus.specs.Combinators.{choose}
 use Rattle.check_records.specs.Descriptors.{descriptorKind, descriptorField0, descriptorField1}
 
@@ -39,3 +39,7 @@ labelOf descriptors a t = all (descriptorIs (getD descriptors t 0) TypeKind.labe
 
 abbrev pub labelAbove : List ℕ → List ℕ → ℕ → ℕ → Bool
 labelAbove ms descriptors d t = bitOf ms d (descriptorField1 (getD descriptors t 0))
+
+-- Type a is an object's, and its method m gives type t (card 3).
+abbrev pub callFits : Layout → ℕ → ℕ → ℕ → Bool
+callFits L a m t = all (is TypeKind.obj (describe L a) ∷ ltb m (methodCount L a) ∷ gives m (describe L a) (describe L t) ∷ [])

@@ -1,12 +1,14 @@
 -- What the functions of this crate are lent: the offsets of the domains and the terms, the descriptors of the types and the masks of the domains of an image that is laid out, each in a table of its own; and the context of variables, in the first places of a scope (document 01, "The image": "variable k (0 the innermost)"; "Typing": "outer variables stay visible").
 use Prim.Native.Nat.{ℕ, zero, suc, _≤_, _<_}
 use mathlib.Core.Path.{_≡_}
+use mathlib.Core.Bool.{true}
 use mathlib.Core.List.{List, [], _∷_}
 use lib.ListN.{length, getD, take}
 use Rattle.calculus.specs.Syntax.{Dom}
 use Rattle.image.specs.Limits.{domainLimit}
 use Rattle.image.specs.Layout.{laid, layout, recordsOf}
-use Rattle.image.specs.Types.{typePlace}
+use Rattle.image.specs.Kinds.{TypeKind}
+use Rattle.image.specs.Types.{typePlace, isType}
 use Rattle.verdict.specs.Domains.{masks}
 use Rattle.verdict.specs.Settings.{Setting}
 use Rattle.check_records.specs.Descriptors.{Describes}
@@ -23,6 +25,15 @@ pub record Types (b table : List ℕ) : Type 0 where
   pub laid-out : layout b ≡ laid (recordsOf b)
   pub enough : length (recordsOf b .types) ≤ length table
   pub descriptors : (t : ℕ) → t < length (recordsOf b .types) → Describes b (typePlace (recordsOf b) t) (getD table t 0)
+
+-- The offsets of the types, and a type that is an object's (card 3).
+pub record TypeOffsets (b table : List ℕ) : Type 0 where
+  pub laid-out : layout b ≡ laid (recordsOf b)
+  pub offsets : take (length (recordsOf b .types)) table ≡ recordsOf b .types
+
+pub record IsObject (b : List ℕ) (t : ℕ) : Type 0 where
+  pub there : t < length (recordsOf b .types)
+  pub object : isType (recordsOf b) TypeKind.obj t ≡ true
 
 -- The mask of each domain, 0 where there is none.
 pub record Masks (b table : List ℕ) : Type 0 where

@@ -17,6 +17,8 @@ pub const POINTCUT_TYPE: u16 = 23;
 
 pub const ADVICE_TYPE: u16 = 24;
 
+pub const OBJECT_TYPE: u16 = 25;
+
 pub const UNIT: u16 = 32;
 
 pub const TRUTH: u16 = 33;
@@ -60,5 +62,9 @@ pub const STORE: u16 = 51;
 pub const LOWER: u16 = 52;
 
 pub const ABORT: u16 = 53;
+
+pub const OBJECT: u16 = 54;
+
+pub const CALL: u16 = 55;
 
 pub const FRAME_BYTE: u16 = 60;

@@ -6,6 +6,7 @@ pub mod domains;
 pub mod judge;
 pub mod kinds;
 pub mod leaf;
+pub mod objects;
 pub mod rule;
 pub mod terms;
 pub mod types;

@@ -13,6 +13,8 @@ use crate::core::check_print;
 use crate::core::check_sequence;
 use crate::core::check_split;
 use crate::kinds;
+use crate::objects::check_call;
+use crate::objects::check_object;
 use crate::terms::term_fields;
 use crate::terms::term_kind;
 use crate::terms::term_place;
@@ -30,19 +32,20 @@ ghost use Prim.Native.Nat.{ℕ, _<_};
 ghost use Rattle.image.specs.Bytes.{numberAt};
 ghost use Rattle.image.specs.Layout.{recordsOf};
 ghost use Rattle.image.specs.Types.{termPlace};
-ghost use Rattle.check_rules.specs.Lent.{Lent, Masks, IsTerm};
+ghost use Rattle.check_rules.specs.Lent.{Lent, TypeOffsets, Masks, IsTerm};
 ghost use Rattle.check_rules.specs.Judged.{ruleVerdict};
 
 // Abort, which has any type, asks nothing.
 pub fn check_rule(
     image: &[u8],
+    types: &[u16],
     terms: &[u16],
     descriptors: &[u32],
     n: TermNo,
     c: DomainNo,
     masks: &[u16; 16],
 ) -> Verdict
-    requires { ⌜ Lent (now image) (now terms) (now descriptors) × IsTerm (now image) (n .0) × (35 < numberAt (now image) (termPlace (recordsOf (now image)) (n .0))) × Masks (now image) (now masks) ⌝ }
+    requires { ⌜ Lent (now image) (now terms) (now descriptors) × TypeOffsets (now image) (now types) × IsTerm (now image) (n .0) × (35 < numberAt (now image) (termPlace (recordsOf (now image)) (n .0))) × Masks (now image) (now masks) ⌝ }
     ensures { λ r. ⌜ ((Γ : List ℕ) → r ≡ ruleVerdict (recordsOf (now (image .entry))) (record { context = Γ; dom = c .0 }) (n .0)) ⌝ }
 {
     let at = term_place(image, terms, n);
@@ -66,6 +69,8 @@ pub fn check_rule(
         kinds::STORE => check_store(image, masks, terms, descriptors, at, fields, c),
         kinds::LOWER => check_lower(image, masks, terms, descriptors, at, fields, c),
         kinds::ABORT => Verdict::Accepted,
+        kinds::OBJECT => check_object(image, types, terms, descriptors, at, fields),
+        kinds::CALL => check_call(image, types, terms, descriptors, at, fields, c),
         _ => check_byte(image, terms, descriptors, at, fields),
     }
 }

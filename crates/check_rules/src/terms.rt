@@ -123,7 +123,15 @@ pub fn labels_in(fields: &[u8]) -> usize
     fields.len() / 2 - 1
 }
 
-// How many children there are: as many as the kind has; a pointcut has as many as its fields hold.
+// How many bodies the fields of an object hold.
+pub fn bodies_in(fields: &[u8]) -> usize
+    requires { ⌜ 1 < length (now fields) ⌝ }
+    ensures { λ r. ⌜ r ≡ countIn (now (fields .entry)) TermKind.obj ⌝ }
+{
+    fields.len() / 2 - 1
+}
+
+// How many children there are: as many as the kind has; a pointcut and an object have as many as their fields hold.
 pub fn child_count(kind: u16, fields: &[u8]) -> usize
     requires { ⌜ 1 < length (now fields) ⌝ }
     ensures { λ r. ⌜ ((k : TermKind) → kind ≡ termRow k .number → r ≡ countIn (now (fields .entry)) k) ⌝ }
@@ -146,6 +154,8 @@ pub fn child_count(kind: u16, fields: &[u8]) -> usize
         kinds::STORE => 2,
         kinds::LOWER => 1,
         kinds::FRAME_BYTE => 1,
+        kinds::OBJECT => bodies_in(fields),
+        kinds::CALL => 1,
         _ => 0,
     }
 }

@@ -1,5 +1,5 @@
 -- Where the children of a term stand, from the numbers that are read.
-use Prim.Native.Nat.{ℕ, _+_, _<_}
+use Prim.Native.Nat.{ℕ, zero, suc, _+_, _*_, _<_}
 use native.Mathlib.Omega.{arith}
 use native.Mathlib.Numerals.{add-one}
 use mathlib.Core.Path.{_≡_, refl, sym, ap, _∙_}
@@ -8,25 +8,31 @@ use mathlib.Core.List.{List, [], _∷_}
 use lib.ListN.{length, getD, set, length-set}
 use lib.Seq.{getD-set-same, take-set-le}
 use lib.Dec.{lit<}
-use Rattle.calculus.specs.Plain.{domOf}
+use Rattle.calculus.specs.Syntax.{Ty, Sigs, method}
+use Rattle.calculus.specs.Typing.{Has, has-first, has-later}
+use Rattle.calculus.specs.Plain.{domOf, methodsOf, methodDom}
 use Rattle.image.specs.Bytes.{words}
-use Rattle.image.specs.Kinds.{a-type, free, Body, here, function-body, advice-body, split-body, lower-body, TypeKind, typeRow, TermKind, termRow, bodyOf}
+use Rattle.image.specs.Kinds.{a-type, free, Body, here, function-body, advice-body, split-body, lower-body, method-body, TypeKind, typeRow, TermKind, termRow, bodyOf}
 use Rattle.image.specs.Records.{fieldsAt}
 use Rattle.image.specs.Layout.{recordsOf}
-use Rattle.image.specs.Types.{typePlace, typeField, isType, typeOut, typeOf}
+use Rattle.image.specs.Types.{typePlace, typeFields, typeField, methodCount, isType, methodsOut, typeOut, typeOf}
+use Rattle.laws.proofs.Booleans.{eq-of}
 use Rattle.laws.proofs.Tests.{each}
 use Rattle.image.proofs.Bodies.{Owner, body-owner}
 use Rattle.image.proofs.TypeNumbers.{out-as}
 use Rattle.verdict.specs.Settings.{Setting}
+use Rattle.verdict.specs.Check.{described}
 use Rattle.verdict.proofs.Contexts.{part-there}
+use Rattle.verdict.proofs.Methods.{has-method, method-fields}
 use Rattle.check_records.specs.Heads.{fieldIn}
 use Rattle.check_records.specs.Descriptors.{descriptorField0, descriptorField1}
-use Rattle.check_rules.specs.Lent.{Types, Lent, IsType, contextIn, settingIn}
-use Rattle.check_rules.specs.Fields.{countIn}
+use Rattle.check_rules.specs.Lent.{Types, Lent, TypeOffsets, IsType, IsObject, contextIn, settingIn}
+use Rattle.check_rules.specs.Fields.{countIn, typesIn}
 use Rattle.check_rules.proofs.Descriptors.{unpacked, describes}
 use Rattle.check_rules.proofs.Located.{good-of}
 use Rattle.check_rules.proofs.Scopes.{context-kept}
 use Rattle.check_rules.proofs.Elimination.{apart}
+use Rattle.check_rules.proofs.Methods.{bodies-counted}
 use Rattle.check_rules.proofs.OnDescriptors.{ownDescriptor, typeAtField, descriptorAtField, at-field-typed}
 use Rattle.check_typing.specs.Turns.{Passed, ChildAt}
 
@@ -40,22 +46,23 @@ bound-context scope len v h =
 
 -- The kinds that have a body which stands elsewhere; the children of any other kind stand where the term does.
 abbrev pub withBody : List TermKind
-withBody = TermKind.adv ∷ TermKind.split ∷ TermKind.lower ∷ TermKind.fun ∷ []
+withBody = TermKind.obj ∷ TermKind.adv ∷ TermKind.split ∷ TermKind.lower ∷ TermKind.fun ∷ []
 
 is-here : (body : Body) (k : TermKind) → Owner k body → (m : ℕ) → apart m withBody → m ≡ termRow k .number → body ≡ here
 is-here here k w m r e = refl
-is-here function-body k w m r e = absurd (r .0 .0 .0 .1 (e ∙ ap (λ j. termRow j .number) w))
-is-here advice-body k w m r e = absurd (r .1 (e ∙ ap (λ j. termRow j .number) w))
-is-here split-body k w m r e = absurd (r .0 .1 (e ∙ ap (λ j. termRow j .number) w))
-is-here lower-body k w m r e = absurd (r .0 .0 .1 (e ∙ ap (λ j. termRow j .number) w))
+is-here function-body k w m r e = absurd (r .0 .0 .0 .0 .1 (e ∙ ap (λ j. termRow j .number) w))
+is-here advice-body k w m r e = absurd (r .0 .1 (e ∙ ap (λ j. termRow j .number) w))
+is-here split-body k w m r e = absurd (r .0 .0 .1 (e ∙ ap (λ j. termRow j .number) w))
+is-here lower-body k w m r e = absurd (r .0 .0 .0 .1 (e ∙ ap (λ j. termRow j .number) w))
+is-here method-body k w m r e = absurd (r .1 (e ∙ ap (λ j. termRow j .number) w))
 
 module _ {b descriptors : List ℕ} (T : Types b descriptors) {t : ℕ} (h : IsType b t) where
   -- What its descriptor says of a type's fields.
-  part-is : (i : ℕ) → typeField (recordsOf b) t i ≡ unpacked t (getD descriptors t 0) .part i
+  part-is : (i : ℕ) → typeField (recordsOf b) t i ≡ unpacked (recordsOf b) t (getD descriptors t 0) .part i
   part-is i = ap (λ d. d .part i) (describes T h)
 
   -- A type that is a part of another has a number of one byte.
-  part-small : (k : TypeKind) (i : ℕ) → isType (recordsOf b) k t ≡ true → getD (fieldsAt (recordsOf b .image) (typePlace (recordsOf b) t) (typeRow k)) i free ≡ a-type → unpacked t (getD descriptors t 0) .part i < 256
+  part-small : (k : TypeKind) (i : ℕ) → isType (recordsOf b) k t ≡ true → getD (fieldsAt (recordsOf b .image) (typePlace (recordsOf b) t) (typeRow k)) i free ≡ a-type → unpacked (recordsOf b) t (getD descriptors t 0) .part i < 256
   part-small k i e q =
       let g = good-of b (T .laid-out) in
       let l = part-there (recordsOf b) g k i t h e q in
@@ -156,6 +163,48 @@ module _ {b terms descriptors fs scope : List ℕ} {len c : ℕ} (G : Lent b ter
         stands = ap (λ n. settingIn (set s (len + 1) second) n c) two ∙ settings-alike (inner ∙ cc) refl;
         kept = take-set-le len s (len + 1) second (omega arith) ∙ take-set-le len scope len first (omega arith);
         same = length-set s (len + 1) second ∙ m;
+        grown = omega arith;
+        little = omega arith;
+      }
+
+-- The body of a method (card 3).
+has-domain : {p : ℕ} {a : Ty} (ms : Sigs) (m : ℕ) → Has p a ms m → methodDom ms m ≡ p
+has-domain (method p a ms) zero has-first = refl
+has-domain (method q a ms) (suc m) (has-later h) = has-domain ms m h
+
+module _ {b table fs scope : List ℕ} {len c i : ℕ} (T : TypeOffsets b table) (P : Passed b fs TermKind.obj scope len c) (l : i < countIn fs TermKind.obj) where
+  abbrev own : ℕ
+  own = fieldIn fs 0
+
+  pub object-is : IsObject b own
+  object-is = record { there = P .typed .type; object = each _ (P .fits) .0 }
+
+  pub method-there : i < methodCount (recordsOf b) own
+  method-there =
+      let n : length (described (recordsOf b) (typesIn b fs TermKind.obj)) ≡ methodCount (recordsOf b) own = eq-of (each _ (P .fits) .1 .0) in
+      let m = bodies-counted b fs in
+      omega arith
+
+  pub object-small : own < 256
+  object-small = let f = good-of b (T .laid-out) .few-types in let h = P .typed .type in omega arith
+
+  method-domain : methodDom (methodsOf (typeOf (recordsOf b) own)) i ≡ typeField (recordsOf b) own (2 * i)
+  unfolding typeOut
+  method-domain =
+      let L = recordsOf b in
+      let good = good-of b (T .laid-out) in
+      let O = object-is in
+      ap (λ t. methodDom (methodsOf t) i) (out-as L good TypeKind.obj own (O .there) (O .object))
+      ∙ has-domain (methodsOut (typeFields L own) (λ a. typeOf L a)) i (has-method (λ a. typeOf L a) (methodCount L own) (typeFields L own) (method-fields L good own (O .there) (O .object)) i method-there)
+
+  pub object-at : ChildAt b fs TermKind.obj i scope (set scope len own) len c (len + 1) (typeField (recordsOf b) own (2 * i))
+  object-at =
+      let r = P .room in
+      let p = P .places in
+      record {
+        stands = settings-alike (bound-context scope len own (omega arith)) (sym method-domain);
+        kept = take-set-le len scope len own (omega arith);
+        same = length-set scope len own;
         grown = omega arith;
         little = omega arith;
       }

@@ -11,7 +11,7 @@ ghost use Rattle.image.specs.Layout.{recordsOf};
 ghost use Rattle.verdict.specs.Check.{typing};
 ghost use Rattle.verdict.specs.Shape.{Shaped};
 ghost use Rattle.check_records.specs.Tables.{Tables, Counted};
-ghost use Rattle.check_rules.specs.Lent.{Lent, Masks, Terms, Types};
+ghost use Rattle.check_rules.specs.Lent.{Lent, Masks, Terms, Types, TypeOffsets};
 ghost use Rattle.check_typing.specs.Turns.{rootChecked, rootPlain, plainAt};
 
 pub mod leaves;
@@ -22,12 +22,13 @@ pub mod scope;
 // binds two variables at most, so a scope of 128 places is enough.
 fn check_root(
     image: &[u8],
+    types: &[u16],
     terms: &[u16],
     descriptors: &[u32],
     count: usize,
     masks: &[u16; 16],
 ) -> Verdict
-    requires { ⌜ Lent (now image) (now terms) (now descriptors) × (count ≡ length (recordsOf (now image) .terms)) × (0 < count) × Masks (now image) (now masks) × Shaped (recordsOf (now image)) ⌝ }
+    requires { ⌜ Lent (now image) (now terms) (now descriptors) × (count ≡ length (recordsOf (now image) .terms)) × (0 < count) × Masks (now image) (now masks) × Shaped (recordsOf (now image)) × TypeOffsets (now image) (now types) ⌝ }
     ensures { λ r. ⌜ r ≡ rootChecked (recordsOf (now (image .entry))) ⌝ }
 {
     let mut scope = [0u8; 128];
@@ -41,6 +42,7 @@ fn check_root(
         masks,
         &mut scope,
         0,
+        types,
     )
 }
 
@@ -79,15 +81,16 @@ pub fn check_typing(
     image: &[u8],
     counts: Counts,
     doms: &[u16],
+    types: &[u16],
     terms: &[u16],
     descriptors: &[u32],
 ) -> Verdict
-    requires { ⌜ Tables (now image) (now doms) (now terms) (now descriptors) × Counted (now image) counts × Shaped (recordsOf (now image)) ⌝ }
+    requires { ⌜ Tables (now image) (now doms) (now terms) (now descriptors) × Counted (now image) counts × Shaped (recordsOf (now image)) × TypeOffsets (now image) (now types) ⌝ }
     ensures { λ r. ⌜ r ≡ typing (recordsOf (now (image .entry))) ⌝ }
 {
     let mut masks = [0u16; 16];
     check_rules::domains::set_masks(image, doms, counts.domains, &mut masks);
-    let v = check_root(image, terms, descriptors, counts.terms, &masks);
+    let v = check_root(image, types, terms, descriptors, counts.terms, &masks);
     if verdict::is_refused(v) {
         return v;
     }

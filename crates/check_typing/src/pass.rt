@@ -18,7 +18,7 @@ ghost use mathlib.Core.Path.{_≡_};
 ghost use lib.ListN.{length, take};
 ghost use Rattle.image.specs.Layout.{recordsOf};
 ghost use Rattle.verdict.specs.Check.{checked};
-ghost use Rattle.check_rules.specs.Lent.{Lent, Masks, IsTerm, settingIn};
+ghost use Rattle.check_rules.specs.Lent.{Lent, TypeOffsets, Masks, IsTerm, settingIn};
 ghost use Rattle.check_typing.specs.Turns.{Room};
 
 // A term and the terms below it: its rule, then its children, each where it stands. A constant or a variable has none. Each level
@@ -32,14 +32,15 @@ pub fn check_term(
     masks: &[u16; 16],
     scope: &mut [u8; 128],
     len: usize,
+    types: &[u16],
 ) -> Verdict
-    requires { ⌜ Lent (now image) (now terms) (now descriptors) × IsTerm (now image) (n .0) × Masks (now image) (now masks) × Room (now image) (now scope) len (n .0) ⌝ }
+    requires { ⌜ Lent (now image) (now terms) (now descriptors) × IsTerm (now image) (n .0) × Masks (now image) (now masks) × Room (now image) (now scope) len (n .0) × TypeOffsets (now image) (now types) ⌝ }
     ensures { λ r. ⌜ (r ≡ checked (recordsOf (now (image .entry))) (settingIn (now (scope .entry)) len (c .0)) (n .0)) × (take len (now (scope .exit)) ≡ take len (now (scope .entry))) × (length (now (scope .exit)) ≡ length (now (scope .entry))) ⌝ }
 {
     if is_leaf(image, terms, n) {
         return check_leaf(image, terms, descriptors, n, scope, len);
     }
-    let v = check_rule(image, terms, descriptors, n, c, masks);
+    let v = check_rule(image, types, terms, descriptors, n, c, masks);
     if is_refused(v) {
         return v;
     }
@@ -51,9 +52,29 @@ pub fn check_term(
     let mut j: usize = 0;
     while j < k {
         let e = child_at_field(fields, lead + j);
-        let p = child_setting(image, terms, descriptors, scope, here, kind, fields, j);
+        let p = child_setting(
+            image,
+            types,
+            terms,
+            descriptors,
+            scope,
+            here,
+            kind,
+            fields,
+            j,
+        );
         let dom = p.dom;
-        let r = check_term(image, terms, descriptors, e, dom, masks, scope, p.len);
+        let r = check_term(
+            image,
+            terms,
+            descriptors,
+            e,
+            dom,
+            masks,
+            scope,
+            p.len,
+            types,
+        );
         if is_refused(r) {
             return r;
         }

@@ -3,9 +3,11 @@
 use check_records::numbers::DomainNo;
 use check_records::numbers::TypeNo;
 use check_rules::kinds;
+use check_rules::objects::method_domain;
 use check_rules::terms::descriptor_at_field;
 use check_rules::terms::other_field;
 use check_rules::terms::own_descriptor;
+use check_rules::terms::own_type;
 use check_rules::types::first_domain;
 use check_rules::types::first_type;
 use check_rules::types::second_domain;
@@ -14,7 +16,7 @@ ghost use mathlib.Core.Path.{_≡_};
 ghost use Prim.Native.Nat.{_<_};
 ghost use lib.ListN.{set};
 ghost use Rattle.image.specs.Kinds.{TermKind, termRow};
-ghost use Rattle.check_rules.specs.Lent.{Types, Lent};
+ghost use Rattle.check_rules.specs.Lent.{Types, Lent, TypeOffsets};
 ghost use Rattle.check_rules.specs.Fields.{countIn};
 ghost use Rattle.check_typing.specs.Turns.{Passed, ChildAt};
 
@@ -109,9 +111,31 @@ fn lower_setting(image: &[u8], scope: &[u8; 128], p: Setting, fields: &[u8]) -> 
     }
 }
 
+// The body of method i of an object stands under the object itself, at the method's domain (document 02, card 3).
+fn object_setting(
+    image: &[u8],
+    types: &[u16],
+    scope: &mut [u8; 128],
+    p: Setting,
+    fields: &[u8],
+    i: usize,
+) -> Setting
+    requires { ⌜ TypeOffsets (now image) (now types) × Passed (now image) (now fields) TermKind.obj (now scope) (p .len) (p .dom .0) × (i < countIn (now fields) TermKind.obj) ⌝ }
+    ensures { λ r. ⌜ ChildAt (now (image .entry)) (now (fields .entry)) TermKind.obj i (now (scope .entry)) (now (scope .exit)) (p .len) (p .dom .0) (r .len) (r .dom .0) ⌝ }
+{
+    let own = own_type(fields);
+    bind(scope, p.len, own);
+    let inner = method_domain(image, types, own, i);
+    Setting {
+        len: p.len + 1,
+        dom: inner,
+    }
+}
+
 // Child i of a term that stands at p and has passed its rule.
 pub fn child_setting(
     image: &[u8],
+    types: &[u16],
     terms: &[u16],
     descriptors: &[u32],
     scope: &mut [u8; 128],
@@ -120,7 +144,7 @@ pub fn child_setting(
     fields: &[u8],
     i: usize,
 ) -> Setting
-    requires { ⌜ Lent (now image) (now terms) (now descriptors) × ((k : TermKind) → kind ≡ termRow k .number → Passed (now image) (now fields) k (now scope) (p .len) (p .dom .0) × (i < countIn (now fields) k)) ⌝ }
+    requires { ⌜ Lent (now image) (now terms) (now descriptors) × ((k : TermKind) → kind ≡ termRow k .number → Passed (now image) (now fields) k (now scope) (p .len) (p .dom .0) × (i < countIn (now fields) k)) × TypeOffsets (now image) (now types) ⌝ }
     ensures { λ r. ⌜ ((k : TermKind) → kind ≡ termRow k .number → ChildAt (now (image .entry)) (now (fields .entry)) k i (now (scope .entry)) (now (scope .exit)) (p .len) (p .dom .0) (r .len) (r .dom .0)) ⌝ }
 {
     match kind {
@@ -140,6 +164,7 @@ pub fn child_setting(
                 p
             }
         }
+        kinds::OBJECT => object_setting(image, types, scope, p, fields, i),
         _ => p,
     }
 }

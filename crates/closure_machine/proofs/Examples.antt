@@ -1,4 +1,4 @@
--- Runs of the closure machine on small terms, by computation: the order of a split's bindings, the domain under a lower, the limit of frames.
+-- Runs of the closure machine on small terms, by computation: the order of a split's bindings, the domain under a lower, the limit of frames, a method that calls another (card 3).
 use Prim.Native.Nat.{ℕ}
 use mathlib.Core.Path.{_≡_, refl}
 use mathlib.Core.List.{[], _∷_}
@@ -7,7 +7,7 @@ use Rattle.calculus.specs.Syntax.{Ty, Val, Tm, Op2, val, var, op1, op2, split, 
 use Rattle.calculus.specs.State.{picked, logOf, fresh}
 use Rattle.calculus.specs.Answer.{if-room, with, spend}
 use Rattle.calculus.specs.Run.{EndedOf, done, stopped, after}
-use Rattle.calculus.proofs.Examples.{nest}
+use Rattle.calculus.proofs.Examples.{nest, called}
 use Rattle.closure_machine.specs.Closure.{CVal, Body, empty, plainVal, closed}
 use Rattle.closure_machine.specs.Machine.{eval}
 use Rattle.closure_machine.specs.Settle.{work, settle, mrun}
@@ -33,3 +33,8 @@ frames-512 = refl
 frames-513 : ran 1 (nest 514) .end ≡ stopped Outcome.Frames
 unfolding mrun after settle work closed plainVal if-room with nest
 frames-513 = refl
+
+-- Card 3: self is bound, and what the object's type gives counts no step.
+calls : ran 10 called .end ≡ done (CVal.num 5)
+unfolding called mrun after settle work closed plainVal if-room with spend
+calls = refl

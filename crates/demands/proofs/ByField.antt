@@ -7,16 +7,16 @@ use mathlib.Core.Bool.{Bool, true, false, not}
 use mathlib.Core.List.{List, [], _∷_}
 use lib.ListN.{length, getD}
 use Rattle.calculus.specs.Syntax.{Dom, Ty}
-use Rattle.calculus.specs.Plain.{domOf}
+use Rattle.calculus.specs.Plain.{domOf, methodsOf, methodDom}
 use Rattle.image.specs.Limits.{domainLimit}
 use Rattle.image.specs.Bytes.{words}
-use Rattle.image.specs.Kinds.{a-domain, free, Body, here, function-body, advice-body, split-body, lower-body, TermKind, termRow, bodyOf}
+use Rattle.image.specs.Kinds.{a-domain, free, Body, here, function-body, advice-body, split-body, lower-body, method-body, TermKind, termRow, bodyOf}
 use Rattle.image.specs.Records.{Layout, fieldsAt, numbersAt, othersAt}
 use Rattle.image.specs.Types.{termPlace, termKind, statedType, others, children, rootOf}
 use Rattle.image.specs.Program.{Program, node, blank, more, subtrees, tree, program, ownDomain, isLow, lowBody, blanked, blankeds}
 use Rattle.image.proofs.Laid.{Below, Good}
 use Rattle.image.proofs.Bodies.{Owner, body-owner}
-use Rattle.image.proofs.TypeDomains.{type-domain}
+use Rattle.image.proofs.TypeDomains.{type-domain, method-domain}
 use Rattle.report.specs.Fits.{shortSize, byField}
 
 pub small-field : (high : Dom → Bool) (d : Dom) → d < domainLimit → byField high d ≡ high d
@@ -27,9 +27,9 @@ module _ (hi hi′ : Dom → Bool) (same : (d : Dom) → d < domainLimit → hi 
   abbrev Domained : List ℕ → ℕ → TermKind → Type 0
   Domained b o k = (i : ℕ) → getD (fieldsAt b o (termRow k)) i free ≡ a-domain → getD (numbersAt b o (termRow k)) i 0 < domainLimit
 
-  low-same : (b : List ℕ) (o : ℕ) (t : Ty) → domOf t < domainLimit → (k : TermKind) → Domained b o k → (i : ℕ) → lowBody hi k t (othersAt b o (termRow k)) i ≡ lowBody hi′ k t (othersAt b o (termRow k)) i
+  low-same : (b : List ℕ) (o : ℕ) (t : Ty) → domOf t < domainLimit → ((j : ℕ) → methodDom (methodsOf t) j < domainLimit) → (k : TermKind) → Domained b o k → (i : ℕ) → lowBody hi k t (othersAt b o (termRow k)) i ≡ lowBody hi′ k t (othersAt b o (termRow k)) i
   unfolding words
-  low-same b o t l k h i = go (bodyOf k i) (body-owner k i)
+  low-same b o t l m k h i = go (bodyOf k i) (body-owner k i)
     where
       -- the field p of a lower
       own : k ≡ TermKind.lower → getD (othersAt b o (termRow k)) 0 0 < domainLimit
@@ -41,6 +41,7 @@ module _ (hi hi′ : Dom → Bool) (same : (d : Dom) → d < domainLimit → hi 
       go advice-body w = ap not (same (domOf t) l)
       go split-body w = refl
       go lower-body w = ap not (same _ (own w))
+      go method-body w = ap not (same _ (m i))
 
   -- Subtrees that are blanked to the same are so beside each other, whichever of them are low bodies.
   subtrees-same : (g : ℕ → Program) (m : ℕ) → ((e : ℕ) → e < m → blanked hi (g e) ≡ blanked hi′ (g e)) → (es : List ℕ) → Below m es
@@ -60,7 +61,7 @@ module _ (hi hi′ : Dom → Bool) (same : (d : Dom) → d < domainLimit → hi 
     tree-same (suc f) n l =
         let ok = good .terms n l in
         let few = good .few-domains in
-        let low = low-same (L .image) (termPlace L n) (statedType L n) (type-domain L good _ (ok .typed)) (termKind L n) (λ i e. let z = ok .domained i e in omega arith) in
+        let low = low-same (L .image) (termPlace L n) (statedType L n) (type-domain L good _ (ok .typed)) (method-domain L good _ (ok .typed)) (termKind L n) (λ i e. let z = ok .domained i e in omega arith) in
         ap (node (termKind L n) (statedType L n) (others L n))
         (subtrees-same (λ e. tree L f e) n (λ e m. tree-same f e (omega arith)) (children L n) (ok .below) (lowBody hi (termKind L n) (statedType L n) (others L n))
         ∙ ap (blankeds hi′ (subtrees (λ e. tree L f e) (children L n))) (fun-ext low))

@@ -1,4 +1,4 @@
--- Two calls compared: images that print different numbers at domain 1, below 0, seen from domain 0 (document 01, "Two runs compared").
+-- Two calls compared: images that print different numbers at domain 1, below 0, seen from domain 0 (document 01, "Two runs compared"), in the body of a lower and in that of a method (card 3).
 use Prim.Native.Nat.{ℕ, zero, suc, _<_}
 use native.Mathlib.Omega.{arith}
 use mathlib.Core.Path.{_≡_, refl, sym}
@@ -23,7 +23,7 @@ use Rattle.image.specs.Types.{typeOut, typeFrom, typeOf}
 use Rattle.image.specs.Program.{tree, program, assemble, toTm}
 use Rattle.laws.proofs.Booleans.{no-path, eq-of}
 use Rattle.verdict.specs.Answers.{requireFrom, inTurn}
-use Rattle.verdict.specs.Domains.{bits, order, leq}
+use Rattle.verdict.specs.Domains.{bits, masks, order, leq}
 use Rattle.verdict.specs.Order.{atFault}
 use Rattle.verdict.specs.Shape.{count, uses, depthsFrom, depths, shape}
 use Rattle.verdict.specs.Check.{checkAll, check, typing}
@@ -32,10 +32,13 @@ use Rattle.verdict.proofs.Images.{little, rec, image, one-domain, two-domains, 
 use Rattle.verdict.proofs.Examples.{lowered, same-lowered}
 use Rattle.base_bytes.specs.Bytes.{bytesOf, over, cleared}
 use Rattle.report.specs.Records.{recordsBytes}
+use Rattle.calls.specs.Runs.{programOf}
 use Rattle.calls.specs.Calls.{Left, called}
 use Rattle.demands.specs.Calls.{Runs, logWritten}
 use Rattle.demands.specs.Compare.{HighSet, Compared, SameLeft}
+use Rattle.demands.specs.LowMethods.{SameButMethods, inside, object, no-child, alike, low-body}
 use Rattle.demands.proofs.Demands.{demand3}
+use Rattle.demands.proofs.LowMethods.{card3}
 
 abbrev mainlineOnly : Dom → Bool
 mainlineOnly d = eqb d 0
@@ -77,3 +80,60 @@ low-logs = (refl, refl)
 pub low-same : SameLeft mainlineOnly (lowCall 1) (lowCall 2)
 unfolding lowCall
 low-same = demand3 mainlineOnly (lowered 1) (lowered 2) compared [] 100 100 (zeros 20) (zeros 20) (zeros reportLength) (zeros reportLength) (zeros workLength) (zeros workLength) (low-runs .0) (low-runs .1)
+
+-- An object whose one method prints n at domain 1; the method is called there.
+unfoldable pub calling : ℕ → List ℕ
+calling n =
+    image
+    (two-domains
+    ∷ number
+    ∷ unit
+    ∷ rec 25 (1 ∷ 1 ∷ [])
+    ∷ literal n
+    ∷ rec 37 (1 ∷ 0 ∷ [])
+    ∷ rec 54 (2 ∷ 1 ∷ [])
+    ∷ rec 55 (1 ∷ 2 ∷ 0 ∷ [])
+    ∷ rec 52 (1 ∷ 1 ∷ 3 ∷ [])
+    ∷ [])
+
+high-calling : HighSet (recordsOf (calling 1)) mainlineOnly
+unfolding calling leq order bits recordsOf layout walk tests find words allWithin all allOf firstFault little rec image two-domains number unit literal
+high-calling = record { mainline = refl; up = up }
+  where
+    up : (d q : Dom) → d < 2 → q < 2 → eqb d 0 ≡ true → leq (recordsOf (calling 1)) d q ≡ true → eqb q 0 ≡ true
+    up zero zero l m h k = refl
+    up zero (suc zero) l m h k = no-path (sym k)
+    up zero (suc (suc q)) l m h k = absurd (omega arith)
+    up (suc d) q l m h k = let z : suc d ≡ 0 = eq-of h in absurd (omega arith)
+
+-- Their programs are the same but for that body.
+same-calling : SameButMethods mainlineOnly (programOf (calling 1)) (programOf (calling 2))
+unfolding calling program tree recordsOf layout walk tests find words allWithin all allOf firstFault typeOf typeFrom typeOut little rec image two-domains number unit literal
+same-calling = inside (alike (inside (alike (object (low-body refl no-child)) no-child)) no-child)
+
+unfoldable pub methodCall : ℕ → Left
+methodCall n = called (calling n) [] 100 (zeros 20) (zeros reportLength) (zeros workLength)
+
+-- The same domains; and both calls run.
+same-domains : masks (recordsOf (calling 1)) ≡ masks (recordsOf (calling 2))
+unfolding calling recordsOf layout walk tests find words allWithin all allOf firstFault little rec image two-domains number unit literal
+same-domains = refl
+
+both-run : Runs (calling 1) (zeros reportLength) (zeros workLength) × Runs (calling 2) (zeros reportLength) (zeros workLength)
+unfolding calling verdict inTurn requireFrom walk layout recordsOf tests find words allWithin all allOf anyBelow firstFault shape atFault leq order bits count uses depths depthsFrom typing check checkAll typeOf typeFrom typeOut
+    little rec image one-domain two-domains unit number literal
+both-run = (refl, refl)
+
+-- Their logs differ, at domain 1; what is seen from domain 0 does not.
+pub method-logs : (logWritten (methodCall 1) ≡ 10 ∷ 0 ∷ 64 ∷ 0 ∷ 1 ∷ 0 ∷ 1 ∷ 0 ∷ 0 ∷ 0 ∷ []) × (logWritten (methodCall 2) ≡ 10 ∷ 0 ∷ 64 ∷ 0 ∷ 1 ∷ 0 ∷ 2 ∷ 0 ∷ 0 ∷ 0 ∷ [])
+unfolding methodCall called calling verdict inTurn requireFrom walk layout recordsOf tests find words allWithin all allOf anyBelow firstFault shape atFault leq order bits count uses depths depthsFrom typing check checkAll typeOf typeFrom typeOut
+    little rec image one-domain two-domains unit number literal
+    program tree toTm assemble run after cases step subst carry if-room with spend picked leaves
+    over cleared bytesOf recordsBytes
+method-logs = (refl, refl)
+
+pub method-same : SameLeft mainlineOnly (methodCall 1) (methodCall 2)
+unfolding methodCall
+method-same =
+    card3 mainlineOnly (calling 1) (calling 2) same-domains high-calling same-calling [] 100 100 (zeros 20) (zeros 20) (zeros reportLength) (zeros reportLength) (zeros workLength) (zeros workLength)
+    (both-run .0) (both-run .1)

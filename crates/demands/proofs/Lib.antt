@@ -8,5 +8,6 @@ pub mod Written
 pub mod Steps
 pub mod Demands
 pub mod Trimmed
+pub mod LowMethods
 pub mod Sheet
 pub mod Example

@@ -3,3 +3,4 @@ pub mod Calls
 pub mod SameBytes
 pub mod Compare
 pub mod Trimmed
+pub mod LowMethods

@@ -43,6 +43,7 @@ pub fn run(
             image,
             &descriptors,
             &terms,
+            &types,
             counts,
             frame,
             budget,

@@ -5,9 +5,9 @@ use mathlib.Core.Bool.{Bool, true, false, not}
 use mathlib.Core.List.{List}
 use lib.ListN.{getD}
 use Rattle.calculus.specs.Combinators.{choose}
-use Rattle.calculus.specs.Syntax.{Dom, Ty, Val, Tms, val, lam, pcd, adv, lower}
-use Rattle.calculus.specs.Plain.{domOf}
-use Rattle.calculus.specs.Blank.{blank as blankTm, blanks}
+use Rattle.calculus.specs.Syntax.{Dom, Ty, Sigs, noMethod, method, Val, Tm, Tms, val, lam, pcd, adv, lower, obj}
+use Rattle.calculus.specs.Plain.{domOf, methodsOf, methodDom}
+use Rattle.calculus.specs.Blank.{blank as blankTm, blanks, blankBodies}
 use Rattle.image.specs.Kinds.{TermKind}
 use Rattle.image.specs.Program.{Program, Programs, node, blank, end, more, nth, assemble, toTm, toTms, lowBody, blanked, blankeds}
 
@@ -20,10 +20,11 @@ same-choice true x = refl
 same-choice false x = refl
 
 module _ (high : Dom → Bool) where
-  -- Of the subterms fs and es: each of fs is that of es, blanked, or the blank where it is a low body; and all of them are where there is no low body.
+  -- Of the subterms fs and es: each of fs is that of es, blanked, or the blank where it is a low body; and all of them are where there is no low body, or where each is a method's.
   record Blanked (low : ℕ → Bool) (fs es : Tms) : Type 0 where
     one : (i : ℕ) → nth fs i ≡ choose (low i) (val Val.unit) (blankTm high (nth es i))
     every : ((i : ℕ) → low i ≡ false) → fs ≡ blanks high es
+    bodies : (ms : Sigs) → ((i : ℕ) → low i ≡ not (high (methodDom ms i))) → fs ≡ blankBodies high ms es
 
   assembled : (k : TermKind) (t : Ty) (vs : List ℕ) (fs es : Tms) → Blanked (lowBody high k t vs) fs es → assemble k t vs fs ≡ blankTm high (assemble k t vs es)
   unfolding assemble blankTm
@@ -52,12 +53,14 @@ module _ (high : Dom → Bool) where
   assembled TermKind.lower t vs fs es h = ap (lower (getD vs 0 0)) (h .one 0 ∙ choose-not (high (getD vs 0 0)) (val Val.unit) (blankTm high (nth es 0)))
   assembled TermKind.abort t vs fs es h = refl
   assembled TermKind.byte t vs fs es h = cc (h .one 0)
+  assembled TermKind.obj t vs fs es h = ap (obj t) (h .bodies (methodsOf t) (λ i. refl))
+  assembled TermKind.call t vs fs es h = cc (h .one 0)
 
   -- One more subterm, which stands first.
   first-blanked : (low : ℕ → Bool) (e : Program) (es : Programs) → toTm (blanked high e) ≡ blankTm high (toTm e) → Blanked (λ i. low (suc i)) (toTms (blankeds high es (λ i. low (suc i)))) (toTms es)
       → Blanked low (toTms (blankeds high (more e es) low)) (toTms (more e es))
   unfolding toTm blanked blankTm
-  first-blanked low e es h r = record { one = one; every = every }
+  first-blanked low e es h r = record { one = one; every = every; bodies = bodies }
     where
       head : (b : Bool) → toTm (elim b [ true ↦ blank | false ↦ blanked high e ]) ≡ choose b (val Val.unit) (blankTm high (toTm e))
       head true = refl
@@ -70,6 +73,13 @@ module _ (high : Dom → Bool) where
       every : ((i : ℕ) → low i ≡ false) → toTms (blankeds high (more e es) low) ≡ blanks high (toTms (more e es))
       every n = let q = n 0 in let y = r .every (λ i. n (suc i)) in rw q (cc (h, y))
 
+      first : (p : Dom) → low 0 ≡ not (high p) → toTm (elim (low 0) [ true ↦ blank | false ↦ blanked high e ]) ≡ choose (high p) (blankTm high (toTm e)) (val Val.unit)
+      first p q = head (low 0) ∙ ap (λ b. choose b (val Val.unit) (blankTm high (toTm e))) q ∙ choose-not (high p) (val Val.unit) (blankTm high (toTm e))
+
+      bodies : (ms : Sigs) → ((i : ℕ) → low i ≡ not (high (methodDom ms i))) → toTms (blankeds high (more e es) low) ≡ blankBodies high ms (toTms (more e es))
+      bodies noMethod n = let x = first 0 (n 0) in let y = r .bodies noMethod (λ i. n (suc i)) in cc (x, y)
+      bodies (method p a ms) n = let x = first p (n 0) in let y = r .bodies ms (λ i. n (suc i)) in cc (x, y)
+
   mutual
     unfolding toTm blanked blankTm
 
@@ -79,7 +89,7 @@ module _ (high : Dom → Bool) where
     blanked-term blank = refl
 
     blanked-terms : (es : Programs) (low : ℕ → Bool) → Blanked low (toTms (blankeds high es low)) (toTms es)
-    blanked-terms end low = record { one = λ i. sym (same-choice (low i) (val Val.unit)); every = λ n. refl }
+    blanked-terms end low = record { one = λ i. sym (same-choice (low i) (val Val.unit)); every = λ n. refl; bodies = λ ms n. refl }
     blanked-terms (more e es) low = first-blanked low e es (blanked-term e) (blanked-terms es (λ i. low (suc i)))
 
   -- Programs that become equal once every low body gives way to one and the same blank are terms that do.

@@ -17,6 +17,7 @@ found (type TypeKind.ref) = refl
 found (type TypeKind.label) = refl
 found (type TypeKind.pcd) = refl
 found (type TypeKind.adv) = refl
+found (type TypeKind.obj) = refl
 found (term TermKind.unit) = refl
 found (term TermKind.truth) = refl
 found (term TermKind.number) = refl
@@ -40,6 +41,8 @@ found (term TermKind.store) = refl
 found (term TermKind.lower) = refl
 found (term TermKind.abort) = refl
 found (term TermKind.byte) = refl
+found (term TermKind.obj) = refl
+found (term TermKind.call) = refl
 
 pub same-kind : (j k : Kind) → rowOf j .number ≡ rowOf k .number → j ≡ k
 same-kind j k e = let z : some j ≡ some k = sym (found j) ∙ ap (λ n. kindOf n) e ∙ found k in cc

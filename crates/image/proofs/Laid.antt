@@ -191,7 +191,7 @@ tests-passed L o h =
     record { whole = h2 .0; kind = kind-known (L .image) o (h3 .0); right = h4 .0; order = h5 .0; room = h6 .0; range = h7 .0; new = h8 .0 }
 
 -- A record that passes the tests keeps the layout good.
-add-good : (L : Layout) (o : ℕ) (k : Kind) → kindAt (L .image) o ≡ k → Passes L o k → Good L → Good (add k o L)
+pub add-good : (L : Layout) (o : ℕ) (k : Kind) → kindAt (L .image) o ≡ k → Passes L o k → Good L → Good (add k o L)
 add-good L o domain e p g =
     let order = each _ (p .order) in
     let no-types : length (L .types) ≡ 0 = nil (L .types) (order .0) in
@@ -254,7 +254,7 @@ add-good L o (term k) e p g =
           (subst (λ j. TermOk b (length (L .domains)) (length (L .types)) j (length (L .terms)) o) (sym (ap termKindOf e)) ok);
     }
 
-nothing-good : (b : List ℕ) → Good (nothing b)
+pub nothing-good : (b : List ℕ) → Good (nothing b)
 nothing-good b =
     record {
       few-domains = omega arith;

@@ -1,18 +1,25 @@
--- Fields and children as a program that reads bytes finds them: field i at its offset; of a term, its own fields right behind its type, and its children, side by side, behind these.
+-- Fields and children as a program that reads bytes finds them: field i at its offset; of a term, its own fields right behind its type, its children, side by side, behind these, and its last own fields.
 use Prim.Native.Nat.{ℕ, zero, suc, _+_, _-_, _*_, _≤_, _<_}
 use native.Mathlib.Omega.{arith}
 use mathlib.Core.Path.{_≡_, refl, sym, ap, _∙_}
 use mathlib.Core.Bool.{Bool, true, false}
-use mathlib.Core.List.{List, [], _∷_, _++_}
-use lib.ListN.{length, getD}
+use mathlib.Core.List.{List, [], _∷_, _++_, append-nil, append-assoc}
+use lib.ListN.{length, getD, length-append, List·getD-append}
 use Rattle.laws.specs.Tests.{all}
 use Rattle.image.specs.Bytes.{le16, words, lengthAt, fieldAt}
-use Rattle.image.specs.Kinds.{Field, a-type, own, a-term, an-entry, TermKind, Row, termRow, again, lead, leadOf}
+use Rattle.image.specs.Kinds.{Field, a-type, own, a-term, an-entry, TermKind, Row, termRow, again, lead, leadOf, trailOf}
 use Rattle.image.specs.Records.{times, fieldsAt, numbersAt, asChild, asOther, given, childrenAt, othersAt}
 use Rattle.laws.proofs.Booleans.{no-path}
 use Rattle.laws.proofs.Tests.{each}
 use Rattle.image.proofs.Words.{words-length, words-at}
 use Rattle.image.proofs.EveryKind.{everyOf, at-term}
+
+-- The first behind a list of n.
+after-first : (vs ws : List ℕ) (n : ℕ) → length vs ≡ n → getD (vs ++ ws) n 0 ≡ getD ws 0 0
+after-first [] ws zero h = refl
+after-first [] ws (suc n) h = absurd (omega arith)
+after-first (v ∷ vs) ws zero h = absurd (omega arith)
+after-first (v ∷ vs) ws (suc n) h = after-first vs ws n (omega arith)
 
 -- Field i of a record that has it; 0 where it has not.
 pub number-at : (b : List ℕ) (o : ℕ) (r : Row) (i : ℕ) → i < length (fieldsAt b o r) → getD (numbersAt b o r) i 0 ≡ fieldAt b o i
@@ -107,8 +114,16 @@ ordered (own r ∷ fs) = false
 ordered (a-term b ∷ fs) = false
 ordered (an-entry ∷ fs) = false
 
+-- All are own fields.
+abbrev allOwn : List Field → Bool
+allOwn [] = true
+allOwn (a-type ∷ fs) = false
+allOwn (own r ∷ fs) = allOwn fs
+allOwn (a-term b ∷ fs) = false
+allOwn (an-entry ∷ fs) = false
+
 abbrev orderedRow : Row → Bool
-orderedRow r = all (ordered (r .first) ∷ allTerms (r .group) ∷ allTerms (r .last) ∷ [])
+orderedRow r = all (ordered (r .first) ∷ allTerms (r .group) ∷ allOwn (r .last) ∷ [])
 
 -- What is read of such fields.
 record Read (fs : List Field) (d : ℕ) (b : List ℕ) (o : ℕ) : Type 0 where
@@ -136,34 +151,109 @@ read-of (a-type ∷ fs) gs b o h g =
       fits = (omega arith, omega arith);
     }
 
+-- The last own fields.
+own-last : (zs : List Field) (b : List ℕ) (o : ℕ) → allOwn zs ≡ true → (given asChild zs (words b o (length zs)) ≡ []) × (given asOther zs (words b o (length zs)) ≡ words b o (length zs))
+unfolding words
+own-last [] b o h = (refl, refl)
+own-last (a-type ∷ zs) b o h = no-path (sym h)
+own-last (own r ∷ zs) b o h = let i = own-last zs b (o + 2) h in (i .0, ap (λ vs. le16 b o ∷ vs) (i .1))
+own-last (a-term x ∷ zs) b o h = no-path (sym h)
+own-last (an-entry ∷ zs) b o h = no-path (sym h)
+
+given-append : (of : Field → ℕ → List ℕ) (fs gs : List Field) (vs ws : List ℕ) → length vs ≡ length fs → given of (fs ++ gs) (vs ++ ws) ≡ given of fs vs ++ given of gs ws
+given-append of [] gs [] ws h = refl
+given-append of [] gs (v ∷ vs) ws h = absurd (omega arith)
+given-append of (f ∷ fs) gs [] ws h = absurd (omega arith)
+given-append of (f ∷ fs) gs (v ∷ vs) ws h = ap (λ xs. of f v ++ xs) (given-append of fs gs vs ws (omega arith)) ∙ sym (append-assoc (of f v) (given of fs vs) (given of gs ws))
+
+words-append : (b : List ℕ) (o m n : ℕ) → words b o (m + n) ≡ words b o m ++ words b (o + 2 * m) n
+unfolding words
+words-append b o zero n = let e : o ≡ o + 2 * 0 = omega arith in let z : 0 + n ≡ n = omega arith in ap (words b o) z ∙ ap (λ p. words b p n) e
+words-append b o (suc m) n =
+    let e : o + 2 + 2 * m ≡ o + 2 * suc m = omega arith in
+    let z : suc m + n ≡ suc (m + n) = omega arith in
+    ap (words b o) z ∙ ap (λ vs. le16 b o ∷ vs) (words-append b (o + 2) m n ∙ ap (λ p. words b (o + 2) m ++ words b p n) e)
+
+module _ (fs zs : List Field) (d : ℕ) (b : List ℕ) (o : ℕ) (R : Read fs d b o) (h : allOwn zs ≡ true) where
+  split : (of : Field → ℕ → List ℕ) → given of (fs ++ zs) (words b o (length (fs ++ zs))) ≡ given of fs (words b o (length fs)) ++ given of zs (words b (o + 2 * length fs) (length zs))
+  split of =
+      ap (λ n. given of (fs ++ zs) (words b o n)) (length-append fs zs)
+      ∙ ap (given of (fs ++ zs)) (words-append b o (length fs) (length zs))
+      ∙ given-append of fs zs (words b o (length fs)) (words b (o + 2 * length fs) (length zs)) (words-length b o (length fs))
+
+  split-children : given asChild (fs ++ zs) (words b o (length (fs ++ zs))) ≡ words b (o + 2 * d) (length fs - d)
+  split-children =
+      split asChild ∙ ap (λ xs. given asChild fs (words b o (length fs)) ++ xs) (own-last zs b (o + 2 * length fs) h .0)
+      ∙ append-nil (given asChild fs (words b o (length fs)))
+      ∙ R .children
+
+  split-others : given asOther (fs ++ zs) (words b o (length (fs ++ zs))) ≡ words b (o + 2) (d - 1) ++ words b (o + 2 * length fs) (length zs)
+  split-others =
+      split asOther ∙ ap (λ xs. given asOther fs (words b o (length fs)) ++ xs) (own-last zs b (o + 2 * length fs) h .1)
+      ∙ ap (λ xs. xs ++ words b (o + 2 * length fs) (length zs)) (R .others)
+
 module _ (k : TermKind) (b : List ℕ) (o : ℕ) where
   abbrev r : Row
   r = termRow k
 
-  read : Read (fieldsAt b o r) (leadOf k) b (o + 4)
+  -- The fields before the last own ones.
+  abbrev before : List Field
+  before = r .first ++ again (times r (lengthAt b o)) (r .group)
+
+  rows : all (ordered (r .first) ∷ allTerms (r .group) ∷ allOwn (r .last) ∷ []) ≡ true
   unfolding everyOf all
-  read =
-      let t = each (ordered (r .first) ∷ allTerms (r .group) ∷ allTerms (r .last) ∷ []) (at-term (λ k. orderedRow (termRow k)) refl k) in
-      let c : ℕ = times r (lengthAt b o) in
-      read-of (r .first) (again c (r .group) ++ r .last) b (o + 4) (t .0) (terms-append (again c (r .group)) (r .last) (terms-again c (r .group) (t .1 .0)) (t .1 .1 .0))
+  rows = at-term (λ k. orderedRow (termRow k)) refl k
 
-  -- The children are the fields behind the lead, and the others those between it and the type.
-  pub children-at : childrenAt b o r ≡ words b (o + 4 + 2 * leadOf k) (length (fieldsAt b o r) - leadOf k)
-  children-at = read .children
+  read : Read before (leadOf k) b (o + 4)
+  read = let t = each _ rows in read-of (r .first) (again (times r (lengthAt b o)) (r .group)) b (o + 4) (t .0) (terms-again (times r (lengthAt b o)) (r .group) (t .1 .0))
 
-  pub others-at : othersAt b o r ≡ words b (o + 6) (leadOf k - 1)
-  others-at = let e : o + 4 + 2 ≡ o + 6 = omega arith in read .others ∙ ap (λ p. words b p (leadOf k - 1)) e
+  last-own : allOwn (r .last) ≡ true
+  last-own = each _ rows .1 .1 .0
 
-  pub fields-count : length (fieldsAt b o r) ≡ leadOf k + length (childrenAt b o r)
-  fields-count = let n = ap length children-at ∙ words-length b (o + 4 + 2 * leadOf k) (length (fieldsAt b o r) - leadOf k) in let f = read .fits .1 in omega arith
+  fields-are : fieldsAt b o r ≡ before ++ r .last
+  fields-are = sym (append-assoc (r .first) (again (times r (lengthAt b o)) (r .group)) (r .last))
+
+  before-count : length before ≡ length (fieldsAt b o r) - trailOf k
+  before-count = let e = ap length fields-are ∙ length-append before (r .last) in omega arith
+
+  -- The children are the fields behind the lead, and the others those between it and the type, and the last.
+  pub children-at : childrenAt b o r ≡ words b (o + 4 + 2 * leadOf k) (length (fieldsAt b o r) - trailOf k - leadOf k)
+  children-at =
+      ap (λ fs. given asChild fs (words b (o + 4) (length fs))) fields-are ∙ split-children before (r .last) (leadOf k) b (o + 4) read last-own
+      ∙ ap (λ n. words b (o + 4 + 2 * leadOf k) (n - leadOf k)) before-count
+
+  pub others-at : othersAt b o r ≡ words b (o + 6) (leadOf k - 1) ++ words b (o + 4 + 2 * (length (fieldsAt b o r) - trailOf k)) (trailOf k)
+  others-at =
+      let e : o + 4 + 2 ≡ o + 6 = omega arith in
+      ap (λ fs. given asOther fs (words b (o + 4) (length fs))) fields-are ∙ split-others before (r .last) (leadOf k) b (o + 4) read last-own
+      ∙ ap (λ p. words b p (leadOf k - 1) ++ words b (o + 4 + 2 * length before) (trailOf k)) e
+      ∙ ap (λ n. words b (o + 6) (leadOf k - 1) ++ words b (o + 4 + 2 * n) (trailOf k)) before-count
+
+  pub fields-count : length (fieldsAt b o r) ≡ leadOf k + length (childrenAt b o r) + trailOf k
+  fields-count =
+      let n = ap length children-at ∙ words-length b (o + 4 + 2 * leadOf k) (length (fieldsAt b o r) - trailOf k - leadOf k) in
+      let f = read .fits .1 in
+      let e = ap length fields-are ∙ length-append before (r .last) in
+      omega arith
 
   pub child-at : (i : ℕ) → i < length (childrenAt b o r) → getD (childrenAt b o r) i 0 ≡ fieldAt b o (leadOf k + i)
   child-at i h =
       let n = fields-count in
       let e : o + 4 + 2 * leadOf k + 2 * i ≡ o + 4 + 2 * (leadOf k + i) = omega arith in
-      ap (λ es. getD es i 0) children-at ∙ words-at b (o + 4 + 2 * leadOf k) (length (fieldsAt b o r) - leadOf k) i (omega arith) ∙ ap (λ p. le16 b p) e
+      ap (λ es. getD es i 0) children-at ∙ words-at b (o + 4 + 2 * leadOf k) (length (fieldsAt b o r) - trailOf k - leadOf k) i (omega arith) ∙ ap (λ p. le16 b p) e
 
   pub other-at : (i : ℕ) → suc i < leadOf k → getD (othersAt b o r) i 0 ≡ fieldAt b o (suc i)
   other-at i h =
       let e : o + 6 + 2 * i ≡ o + 4 + 2 * suc i = omega arith in
-      ap (λ vs. getD vs i 0) others-at ∙ words-at b (o + 6) (leadOf k - 1) i (omega arith) ∙ ap (λ p. le16 b p) e
+      let l = words-length b (o + 6) (leadOf k - 1) in
+      ap (λ vs. getD vs i 0) others-at ∙ List·getD-append (words b (o + 6) (leadOf k - 1)) _ 0 i (omega arith) ∙ words-at b (o + 6) (leadOf k - 1) i (omega arith) ∙ ap (λ p. le16 b p) e
+
+  -- The first of the last own fields.
+  pub last-at : 0 < trailOf k → getD (othersAt b o r) (leadOf k - 1) 0 ≡ fieldAt b o (leadOf k + length (childrenAt b o r))
+  last-at h =
+      let l = words-length b (o + 6) (leadOf k - 1) in
+      let n = fields-count in
+      let e : o + 4 + 2 * (length (fieldsAt b o r) - trailOf k) + 2 * 0 ≡ o + 4 + 2 * (leadOf k + length (childrenAt b o r)) = omega arith in
+      ap (λ vs. getD vs (leadOf k - 1) 0) others-at ∙ after-first (words b (o + 6) (leadOf k - 1)) _ (leadOf k - 1) l
+      ∙ words-at b (o + 4 + 2 * (length (fieldsAt b o r) - trailOf k)) (trailOf k) 0 h
+      ∙ ap (λ p. le16 b p) e

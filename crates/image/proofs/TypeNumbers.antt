@@ -4,15 +4,15 @@ use native.Mathlib.Omega.{arith}
 use mathlib.Core.Path.{_≡_, refl, sym, ap, subst, _∙_}
 use mathlib.Core.Bool.{Bool, true, false}
 use mathlib.Core.Logic.{_↔_}
-use mathlib.Core.List.{List, [], _∷_}
+use mathlib.Core.List.{List, [], _∷_, _++_}
 use lib.ListN.{length, getD}
 use lib.Dec.{ltb}
-use Rattle.calculus.specs.Syntax.{Ty}
+use Rattle.calculus.specs.Syntax.{Ty, Sigs, noMethod, method}
 use Rattle.image.specs.Bytes.{lengthAt}
-use Rattle.image.specs.Kinds.{Field, a-type, free, TypeKind, type, typeRow, fieldsOf}
+use Rattle.image.specs.Kinds.{Field, a-type, free, TypeKind, type, typeRow, again, fieldsOf}
 use Rattle.image.specs.Records.{Layout, times, fieldsAt, numbersAt}
 use Rattle.image.specs.Layout.{sameType}
-use Rattle.image.specs.Types.{typeKindOf, typePlace, typeNumber, typeKind, typeFields, typeField, isType, typeOut, typeFrom, typeOf}
+use Rattle.image.specs.Types.{typeKindOf, typePlace, typeNumber, typeKind, typeFields, typeField, isType, methodsOut, typeOut, typeFrom, typeOf}
 use Rattle.laws.proofs.Booleans.{no-path, lt-of, ge-of, eq-of, of-eq}
 use Rattle.laws.proofs.Tests.{of-each}
 use Rattle.image.proofs.KindNumbers.{same-kind}
@@ -30,6 +30,7 @@ headOf (Ty.ref a p) = TypeKind.ref
 headOf (Ty.label a p) = TypeKind.label
 headOf (Ty.pcd a p) = TypeKind.pcd
 headOf (Ty.adv p) = TypeKind.adv
+headOf (Ty.obj ms) = TypeKind.obj
 
 head-out : (k : TypeKind) (vs : List ℕ) (g : ℕ → Ty) → headOf (typeOut k vs g) ≡ k
 unfolding typeOut
@@ -42,10 +43,25 @@ head-out TypeKind.ref vs g = refl
 head-out TypeKind.label vs g = refl
 head-out TypeKind.pcd vs g = refl
 head-out TypeKind.adv vs g = refl
+head-out TypeKind.obj vs g = refl
+
+abbrev isMethod : Sigs → Bool
+isMethod noMethod = false
+isMethod (method p a ms) = true
 
 -- The fields of a type's record of so many bytes.
 abbrev fieldsIn : TypeKind → ℕ → List Field
 fieldsIn k n = fieldsOf (typeRow k) (times (typeRow k) n)
+
+-- The fields of an object's type with c methods (card 3); its methods agree where their types do.
+abbrev pub methodFields : ℕ → List Field
+methodFields c = again c (typeRow TypeKind.obj .group) ++ []
+
+methods-cong : (c : ℕ) (vs : List ℕ) (g h : ℕ → Ty) → length vs ≡ length (methodFields c) → ((i : ℕ) → getD (methodFields c) i free ≡ a-type → g (getD vs i 0) ≡ h (getD vs i 0)) → methodsOut vs g ≡ methodsOut vs h
+methods-cong c [] g h l e = refl
+methods-cong c (p ∷ []) g h l e = refl
+methods-cong zero (p ∷ a ∷ vs) g h l e = absurd (omega arith)
+methods-cong (suc c) (p ∷ a ∷ vs) g h l e = cc (e 1 refl, methods-cong c vs g h (omega arith) (λ i. e (suc (suc i))))
 
 -- Types agree where their parts do, and the other way round.
 pub out-cong : (k : TypeKind) (n : ℕ) (vs : List ℕ) (g h : ℕ → Ty) → length vs ≡ length (fieldsIn k n)
@@ -60,6 +76,7 @@ out-cong TypeKind.ref n vs g h l e = cc (e 0 refl)
 out-cong TypeKind.label n vs g h l e = cc (e 0 refl)
 out-cong TypeKind.pcd n vs g h l e = cc (e 0 refl)
 out-cong TypeKind.adv n vs g h l e = refl
+out-cong TypeKind.obj n vs g h l e = ap Ty.obj (methods-cong (times (typeRow TypeKind.obj) n) vs g h l e)
 
 -- Lists of the same few numbers.
 same0 : (vs ws : List ℕ) → length vs ≡ 0 → length ws ≡ 0 → vs ≡ ws
@@ -82,6 +99,26 @@ same3 [] ws l m h k j = absurd (omega arith)
 same3 (v ∷ vs) [] l m h k j = absurd (omega arith)
 same3 (v ∷ vs) (w ∷ ws) l m h k j = cc (h, same2 vs ws (omega arith) (omega arith) k j)
 
+methods-agree : (c d : ℕ) (vs ws : List ℕ) (g : ℕ → Ty) → length vs ≡ length (methodFields c) → length ws ≡ length (methodFields d) → methodsOut vs g ≡ methodsOut ws g
+    → ((i : ℕ) → getD (methodFields c) i free ≡ a-type → getD (methodFields d) i free ≡ a-type → g (getD vs i 0) ≡ g (getD ws i 0) → getD vs i 0 ≡ getD ws i 0) → vs ≡ ws
+methods-agree zero zero vs ws g l m h ih = same0 vs ws l m
+methods-agree zero (suc d) vs [] g l m h ih = absurd (omega arith)
+methods-agree zero (suc d) vs (q ∷ []) g l m h ih = absurd (omega arith)
+methods-agree zero (suc d) [] (q ∷ b ∷ ws) g l m h ih = no-path (sym (ap isMethod h))
+methods-agree zero (suc d) (p ∷ vs) (q ∷ b ∷ ws) g l m h ih = absurd (omega arith)
+methods-agree (suc c) d [] ws g l m h ih = absurd (omega arith)
+methods-agree (suc c) d (p ∷ []) ws g l m h ih = absurd (omega arith)
+methods-agree (suc c) zero (p ∷ a ∷ vs) [] g l m h ih = no-path (ap isMethod h)
+methods-agree (suc c) zero (p ∷ a ∷ vs) (q ∷ ws) g l m h ih = absurd (omega arith)
+methods-agree (suc c) (suc d) (p ∷ a ∷ vs) [] g l m h ih = absurd (omega arith)
+methods-agree (suc c) (suc d) (p ∷ a ∷ vs) (q ∷ []) g l m h ih = absurd (omega arith)
+methods-agree (suc c) (suc d) (p ∷ a ∷ vs) (q ∷ b ∷ ws) g l m h ih =
+    let x : p ≡ q = cc in
+    let y : a ≡ b = ih 1 refl refl cc in
+    let t : methodsOut vs g ≡ methodsOut ws g = cc in
+    let z : vs ≡ ws = methods-agree c d vs ws g (omega arith) (omega arith) t (λ i. ih (suc (suc i))) in
+    cc
+
 out-agree : (k : TypeKind) (n m : ℕ) (vs ws : List ℕ) (g : ℕ → Ty) → length vs ≡ length (fieldsIn k n) → length ws ≡ length (fieldsIn k m) → typeOut k vs g ≡ typeOut k ws g
     → ((i : ℕ) → getD (fieldsIn k n) i free ≡ a-type → getD (fieldsIn k m) i free ≡ a-type → g (getD vs i 0) ≡ g (getD ws i 0) → getD vs i 0 ≡ getD ws i 0) → vs ≡ ws
 unfolding typeOut
@@ -94,6 +131,7 @@ out-agree TypeKind.ref n m vs ws g l e h ih = same2 vs ws l e (ih 0 refl refl cc
 out-agree TypeKind.label n m vs ws g l e h ih = same2 vs ws l e (ih 0 refl refl cc) cc
 out-agree TypeKind.pcd n m vs ws g l e h ih = same2 vs ws l e (ih 0 refl refl cc) cc
 out-agree TypeKind.adv n m vs ws g l e h ih = same1 vs ws l e cc
+out-agree TypeKind.obj n m vs ws g l e h ih = methods-agree (times (typeRow TypeKind.obj) n) (times (typeRow TypeKind.obj) m) vs ws g l e (cc) ih
 
 module _ (L : Layout) (good : Good L) where
   -- The length of type t's record, what its fields are, and how many.

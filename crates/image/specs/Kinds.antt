@@ -3,17 +3,17 @@ use Prim.Native.Nat.{ℕ, zero, suc}
 use mathlib.Core.Bool.{true, false}
 use mathlib.Core.List.{List, [], _∷_, _++_}
 use mathlib.Core.Option.{Option, none, some}
-use lib.ListN.{getD}
+use lib.ListN.{length, getD}
 use lib.Dec.{eqb}
-use Rattle.image.specs.Limits.{pointcutLimit}
+use Rattle.image.specs.Limits.{pointcutLimit, methodLimit}
 
 -- What the number of a field may be that names neither a type nor a term: a domain; an operation, 0 to 3; 0 or 1; any number.
 pub data Range : Type 0 where
   in-domains in-operations in-truths any-number : Range
 
--- Where a child of a term stands: where the term itself does; or, as the body of a function, of an advice, of a split, of a lower, under more variables or at a domain of its own.
+-- Where a child of a term stands: where the term itself does; or, as the body of a function, of an advice, of a split, of a lower, of a method (card 3), under more variables or at a domain of its own.
 pub data Body : Type 0 where
-  here function-body advice-body split-body lower-body : Body
+  here function-body advice-body split-body lower-body method-body : Body
 
 pub data Field : Type 0 where
   -- a type number (of a type: a lower one); a number of its own
@@ -41,10 +41,10 @@ a-child = a-term here
 
 -- The kinds of each section.
 pub data TypeKind : Type 0 where
-  unit truth number pair fun ref label pcd adv : TypeKind
+  unit truth number pair fun ref label pcd adv obj : TypeKind
 
 pub data TermKind : Type 0 where
-  unit truth number var seq print ite pair split fun app arith newLabel mark pcd adv install newCell read store lower abort byte : TermKind
+  unit truth number var seq print ite pair split fun app arith newLabel mark pcd adv install newCell read store lower abort byte obj call : TermKind
 
 pub data Kind : Type 0 where
   domain : Kind
@@ -77,6 +77,8 @@ typeRow TypeKind.ref = row 21 (a-type ∷ a-domain ∷ [])
 typeRow TypeKind.label = row 22 (a-type ∷ a-domain ∷ [])
 typeRow TypeKind.pcd = row 23 (a-type ∷ a-domain ∷ [])
 typeRow TypeKind.adv = row 24 (a-domain ∷ [])
+-- card 3
+typeRow TypeKind.obj = record { number = 25; first = []; group = a-domain ∷ a-type ∷ []; least = 1; most = methodLimit; last = [] }
 
 abbrev pub termRow : TermKind → Row
 termRow TermKind.unit = row 32 (a-type ∷ [])
@@ -102,6 +104,9 @@ termRow TermKind.store = row 51 (a-type ∷ a-child ∷ a-child ∷ [])
 termRow TermKind.lower = row 52 (a-type ∷ a-domain ∷ a-term lower-body ∷ [])
 termRow TermKind.abort = row 53 (a-type ∷ [])
 termRow TermKind.byte = row 60 (a-type ∷ a-child ∷ [])
+-- card 3
+termRow TermKind.obj = record { number = 54; first = a-type ∷ []; group = a-term method-body ∷ []; least = 1; most = methodLimit; last = [] }
+termRow TermKind.call = record { number = 55; first = a-type ∷ a-child ∷ []; group = []; least = 0; most = 0; last = free ∷ [] }
 
 abbrev pub rowOf : Kind → Row
 rowOf domain = domainRow
@@ -112,11 +117,12 @@ abbrev pub kinds : List Kind
 kinds =
     domain
     ∷ type TypeKind.unit ∷ type TypeKind.truth ∷ type TypeKind.number ∷ type TypeKind.pair ∷ type TypeKind.fun
-    ∷ type TypeKind.ref ∷ type TypeKind.label ∷ type TypeKind.pcd ∷ type TypeKind.adv
+    ∷ type TypeKind.ref ∷ type TypeKind.label ∷ type TypeKind.pcd ∷ type TypeKind.adv ∷ type TypeKind.obj
     ∷ term TermKind.unit ∷ term TermKind.truth ∷ term TermKind.number ∷ term TermKind.var ∷ term TermKind.seq ∷ term TermKind.print
     ∷ term TermKind.ite ∷ term TermKind.pair ∷ term TermKind.split ∷ term TermKind.fun ∷ term TermKind.app ∷ term TermKind.arith
     ∷ term TermKind.newLabel ∷ term TermKind.mark ∷ term TermKind.pcd ∷ term TermKind.adv ∷ term TermKind.install ∷ term TermKind.newCell
     ∷ term TermKind.read ∷ term TermKind.store ∷ term TermKind.lower ∷ term TermKind.abort ∷ term TermKind.byte
+    ∷ term TermKind.obj ∷ term TermKind.call
     ∷ []
 
 unfoldable pub find : ℕ → List Kind → Option Kind
@@ -156,3 +162,7 @@ lead (an-entry ∷ fs) = 0
 
 abbrev pub leadOf : TermKind → ℕ
 leadOf k = lead (termRow k .first)
+
+-- And how many behind the last.
+abbrev pub trailOf : TermKind → ℕ
+trailOf k = length (termRow k .last)

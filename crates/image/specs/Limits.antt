@@ -22,6 +22,10 @@ depthLimit = 64
 abbrev pub pointcutLimit : ℕ
 pointcutLimit = 8
 
+-- The methods of an object (card 3).
+abbrev pub methodLimit : ℕ
+methodLimit = 8
+
 -- The operations of arithmetic: plus, minus, less, equal.
 abbrev pub operationCount : ℕ
 operationCount = 4

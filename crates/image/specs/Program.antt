@@ -5,9 +5,9 @@ use mathlib.Core.List.{List, [], _∷_}
 use mathlib.Core.Option.{Option, none, some}
 use lib.ListN.{length, getD}
 use lib.Dec.{eqb}
-use Rattle.calculus.specs.Syntax.{Dom, Ty, Val, Tm, Tms, Op2, val, var, lam, op0, op1, op2, seq, ite, split, pcd, adv, lower, newLabel, abort, print, install, read, byte, newCell, app, mark, store, plus, minus, less, equal}
-use Rattle.calculus.specs.Plain.{domOf}
-use Rattle.image.specs.Kinds.{Body, here, function-body, advice-body, split-body, lower-body, TermKind, bodyOf}
+use Rattle.calculus.specs.Syntax.{Dom, Ty, Val, Tm, Tms, Op2, val, var, lam, op0, op1, op2, seq, ite, split, pcd, adv, lower, obj, newLabel, abort, print, install, read, byte, newCell, call, app, mark, store, plus, minus, less, equal}
+use Rattle.calculus.specs.Plain.{domOf, methodsOf, methodDom}
+use Rattle.image.specs.Kinds.{Body, here, function-body, advice-body, split-body, lower-body, method-body, TermKind, bodyOf}
 use Rattle.image.specs.Records.{Layout}
 use Rattle.image.specs.Types.{termKind, statedType, others, children, rootOf}
 
@@ -71,6 +71,8 @@ assemble TermKind.store t vs es = op2 store t (nth es 0) (nth es 1)
 assemble TermKind.lower t vs es = lower (getD vs 0 0) (nth es 0)
 assemble TermKind.abort t vs es = op0 abort t
 assemble TermKind.byte t vs es = op1 byte t (nth es 0)
+assemble TermKind.obj t vs es = obj t es
+assemble TermKind.call t vs es = op1 (call (getD vs 0 0)) t (nth es 0)
 
 unfoldable mutual
   pub toTm : Program → Tm
@@ -81,13 +83,14 @@ unfoldable mutual
   toTms end = Tms.end
   toTms (more e es) = Tms.more (toTm e) (toTms es)
 
--- The domain that child i of a term of type t has of its own, if it has one: a body of function or advice its type's p, a body of lower its field p.
+-- The domain that child i of a term of type t has of its own, if it has one: a body of function or advice its type's p, a body of lower its field p, a body of an object its method's (card 3).
 abbrev pub ownDomain : Body → Ty → List ℕ → ℕ → Option Dom
 ownDomain here t vs i = none
 ownDomain function-body t vs i = some (domOf t)
 ownDomain advice-body t vs i = some (domOf t)
 ownDomain split-body t vs i = none
 ownDomain lower-body t vs i = some (getD vs 0 0)
+ownDomain method-body t vs i = some (methodDom (methodsOf t) i)
 
 module _ (high : Dom → Bool) where
   abbrev pub isLow : Option Dom → Bool

@@ -1,13 +1,13 @@
 -- The records of a layout by their numbers, and the types written out in full (document 01, "The image" and "Two runs compared").
 use Prim.Native.Nat.{ℕ, zero, suc, _-_}
 use mathlib.Core.Bool.{Bool}
-use mathlib.Core.List.{List}
+use mathlib.Core.List.{List, [], _∷_}
 use lib.ListN.{length, getD}
 use lib.Dec.{eqb}
-use Rattle.calculus.specs.Syntax.{Dom, Ty}
-use Rattle.image.specs.Bytes.{numberAt, fieldAt}
+use Rattle.calculus.specs.Syntax.{Dom, Ty, Sigs, noMethod, method}
+use Rattle.image.specs.Bytes.{lengthAt, numberAt, fieldAt}
 use Rattle.image.specs.Kinds.{TypeKind, TermKind, Kind, domain, type, term, typeRow, termRow}
-use Rattle.image.specs.Records.{Layout, kindAt, numbersAt, childrenAt, othersAt}
+use Rattle.image.specs.Records.{Layout, kindAt, times, numbersAt, childrenAt, othersAt}
 
 abbrev pub typeKindOf : Kind → TypeKind
 typeKindOf domain = TypeKind.unit
@@ -43,6 +43,10 @@ module _ (L : Layout) where
   abbrev pub typeField : ℕ → ℕ → ℕ
   typeField t i = getD (typeFields t) i 0
 
+  -- How many methods it has, if it is that of an object (card 3).
+  abbrev pub methodCount : ℕ → ℕ
+  methodCount t = times (typeRow (typeKind t)) (lengthAt (L .image) (typePlace t))
+
   -- Type t is of kind k.
   abbrev pub isType : TypeKind → ℕ → Bool
   isType k t = eqb (typeNumber t) (typeRow k .number)
@@ -64,6 +68,12 @@ module _ (L : Layout) where
   abbrev pub rootOf : ℕ
   rootOf = length (L .terms) - 1
 
+-- Card 3: methods, each a domain and a type.
+abbrev pub methodsOut : List ℕ → (ℕ → Ty) → Sigs
+methodsOut [] g = noMethod
+methodsOut (p ∷ []) g = noMethod
+methodsOut (p ∷ a ∷ vs) g = method p (g a) (methodsOut vs g)
+
 -- A type of a kind, with the fields vs, its parts written out by g.
 unfoldable pub typeOut : TypeKind → List ℕ → (ℕ → Ty) → Ty
 typeOut TypeKind.unit vs g = Ty.unit
@@ -75,6 +85,7 @@ typeOut TypeKind.ref vs g = Ty.ref (g (getD vs 0 0)) (getD vs 1 0)
 typeOut TypeKind.label vs g = Ty.label (g (getD vs 0 0)) (getD vs 1 0)
 typeOut TypeKind.pcd vs g = Ty.pcd (g (getD vs 0 0)) (getD vs 1 0)
 typeOut TypeKind.adv vs g = Ty.adv (getD vs 0 0)
+typeOut TypeKind.obj vs g = Ty.obj (methodsOut vs g)
 
 -- A type's parts have lower numbers, so a fuel of t + 1 is enough.
 unfoldable pub typeFrom : Layout → ℕ → ℕ → Ty

@@ -5,15 +5,33 @@ use mathlib.Core.Path.{_≡_, refl, sym, ap, _∙_}
 use mathlib.Core.List.{List, [], _∷_}
 use lib.ListN.{length, getD}
 use Rattle.image.specs.Bytes.{lengthAt, numberAt, fieldAt}
-use Rattle.image.specs.Kinds.{Field, Kind, domain, type, term, typeRow, termRow, rowOf, kindOf}
-use Rattle.image.specs.Records.{Layout, orElse, kindAt, fieldsAt, numbersAt, asChild, asOther, given}
-use Rattle.image.specs.Types.{typeKindOf, termKindOf, typePlace, termPlace, typeNumber, typeKind, typeFields, typeField, typeOut, typeFrom, typeOf, termKind, typeNo, others, children, statedType}
+use Rattle.image.specs.Kinds.{Field, TypeKind, Kind, domain, type, term, typeRow, termRow, rowOf, kindOf, fieldsOf}
+use Rattle.image.specs.Records.{Layout, orElse, kindAt, times, fieldsAt, numbersAt, asChild, asOther, given}
+use Rattle.image.specs.Types.{typeKindOf, termKindOf, typePlace, termPlace, typeNumber, typeKind, typeFields, typeField, methodCount, typeOut, typeFrom, typeOf, termKind, typeNo, others, children, statedType}
 use Rattle.image.specs.Program.{subtrees, tree, program}
 use Rattle.image.proofs.Words.{words-length}
 use Rattle.image.proofs.Offsets.{number-at}
 use Rattle.image.proofs.Laid.{Below, type-there, Good}
 use Rattle.image.proofs.TypeNumbers.{out-cong}
-use Rattle.image_alike.proofs.Paired.{same-kind, same-numbers, same-given, pair-count, pair-at, PairAt, Alike}
+use Rattle.verdict.proofs.Methods.{two-each}
+use Rattle.image_alike.proofs.Paired.{same-kind, same-fields, same-numbers, same-given, pair-count, pair-at, PairAt, Alike}
+
+-- The fields of a type say how often its group stands in it: only an object's type has one (card 3).
+times-same : (k : TypeKind) (m n : ℕ) → fieldsOf (typeRow k) (times (typeRow k) m) ≡ fieldsOf (typeRow k) (times (typeRow k) n) → times (typeRow k) m ≡ times (typeRow k) n
+times-same TypeKind.unit m n e = refl
+times-same TypeKind.truth m n e = refl
+times-same TypeKind.number m n e = refl
+times-same TypeKind.pair m n e = refl
+times-same TypeKind.fun m n e = refl
+times-same TypeKind.ref m n e = refl
+times-same TypeKind.label m n e = refl
+times-same TypeKind.pcd m n e = refl
+times-same TypeKind.adv m n e = refl
+times-same TypeKind.obj m n e =
+    let x = two-each (times (typeRow TypeKind.obj) m) in
+    let y = two-each (times (typeRow TypeKind.obj) n) in
+    let z = ap length e in
+    omega arith
 
 module _ {b c : List ℕ} {place : ℕ → ℕ} {L M : Layout} (A : Alike b c place L M) (G : Good L) where
   module _ (t : ℕ) (h : t < length (L .types)) where
@@ -34,6 +52,12 @@ module _ {b c : List ℕ} {place : ℕ → ℕ} {L M : Layout} (A : Alike b c pl
         ap (λ k. numbersAt (M .image) (typePlace M t) (typeRow k)) kind-same
         ∙ (ap (λ d. numbersAt d (typePlace M t) (typeRow (typeKind L t))) (A .image′)
         ∙ (same-numbers (type-pair .same) type-row ∙ ap (λ d. numbersAt d (typePlace L t) (typeRow (typeKind L t))) (sym (A .image))))
+
+    pub methods-same : methodCount M t ≡ methodCount L t
+    methods-same =
+        ap (λ k. times (typeRow k) (lengthAt (M .image) (typePlace M t))) kind-same
+        ∙ (ap (λ d. times (typeRow (typeKind L t)) (lengthAt d (typePlace M t))) (A .image′)
+        ∙ (times-same (typeKind L t) _ _ (same-fields (type-pair .same) type-row) ∙ ap (λ d. times (typeRow (typeKind L t)) (lengthAt d (typePlace L t))) (sym (A .image))))
 
   from-same : (f t : ℕ) → t < length (L .types) → typeFrom M f t ≡ typeFrom L f t
   unfolding typeFrom

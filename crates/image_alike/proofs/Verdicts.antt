@@ -13,9 +13,9 @@ use Rattle.image.specs.declared.Refusal.{Refusal}
 use Rattle.image.specs.Limits.{domainLimit, depthLimit}
 use Rattle.laws.specs.Tests.{anyBelow, firstFault}
 use Rattle.image.specs.Bytes.{fieldAt}
-use Rattle.image.specs.Kinds.{Body, here, function-body, advice-body, split-body, lower-body, domain, domainRow, rowOf, find, kindOf, bodyOf}
+use Rattle.image.specs.Kinds.{Body, here, function-body, advice-body, split-body, lower-body, method-body, domain, domainRow, rowOf, find, kindOf, bodyOf}
 use Rattle.image.specs.Records.{Layout, orElse, kindAt, numbersAt}
-use Rattle.image.specs.Types.{domainPlace, termPlace, typeNumber, typeFields, typeField, typeOf, termKind, typeNo, others, children, rootOf, rootType}
+use Rattle.image.specs.Types.{domainPlace, termPlace, typeNumber, typeFields, typeField, methodCount, typeOf, termKind, typeNo, others, children, rootOf, rootType}
 use Rattle.image.proofs.Offsets.{number-at}
 use Rattle.image.proofs.Laid.{Below, Good}
 use Rattle.verdict.specs.declared.Verdict.{Verdict}
@@ -30,7 +30,7 @@ use Rattle.verdict.proofs.Sound.{term-facts, TermFacts}
 use Rattle.image.specs.LaidOut.{Stands}
 use Rattle.image_alike.specs.Moved.{moved}
 use Rattle.image_alike.proofs.Paired.{same-numbers, Paired, no-pair, pair-on, pair-count, pair-nil, pair-at, Alike}
-use Rattle.image_alike.proofs.Programs.{number-same, fields-same, type-same, place-same, term-kind-same, others-same, children-same, type-no-same, stated-same, terms-count}
+use Rattle.image_alike.proofs.Programs.{number-same, fields-same, methods-same, type-same, place-same, term-kind-same, others-same, children-same, type-no-same, stated-same, terms-count}
 
 module _ (place : ℕ → ℕ) where
   -- Checks in turn, the places of the second moved.
@@ -144,8 +144,9 @@ module _ {b c : List ℕ} {place : ℕ → ℕ} {L M : Layout} (A : Alike b c pl
   -- 13 to 16: types as the rules see them.
   describe-same : (a : ℕ) → a < length (L .types) → describe M a ≡ describe L a
   describe-same a h =
-      ap (λ q. record { number = a; kind = q; part = λ i. getD (typeFields M a) i 0 }) (number-same A G a h)
-      ∙ ap (λ vs. record { number = a; kind = typeNumber L a; part = λ i. getD vs i 0 }) (fields-same A G a h)
+      ap (λ q. record { number = a; kind = q; part = λ i. getD (typeFields M a) i 0; methods = methodCount M a }) (number-same A G a h)
+      ∙ (ap (λ vs. record { number = a; kind = typeNumber L a; part = λ i. getD vs i 0; methods = methodCount M a }) (fields-same A G a h)
+      ∙ ap (λ c. record { number = a; kind = typeNumber L a; part = λ i. getD (typeFields L a) i 0; methods = c }) (methods-same A G a h))
 
   described-same : (ts : List ℕ) → Below (length (L .types)) ts → described M ts ≡ described L ts
   described-same [] h = refl
@@ -172,6 +173,7 @@ module _ {b c : List ℕ} {place : ℕ → ℕ} {L M : Layout} (A : Alike b c pl
       let l = first-below ts t h d in
       ap (λ a. a ∷ typeField M (getD ts 0 t) 0 ∷ Γ) (part-same 1 (getD ts 0 t) l) ∙ ap (λ a. typeField L (getD ts 0 t) 1 ∷ a ∷ Γ) (part-same 0 (getD ts 0 t) l)
   context-same lower-body t vs ts Γ h d = refl
+  context-same method-body t vs ts Γ h d = refl
 
   module _ (p : Setting ℕ) (n : ℕ) (h : n < length (L .terms)) where
     facts : TermFacts L G n

@@ -12,6 +12,7 @@ use Rattle.image.proofs.Laid.{records-of}
 use Rattle.check_records.specs.declared.numbers.Counts.{Counts}
 use Rattle.check_records.specs.Descriptors.{Describes}
 use Rattle.check_layout.specs.Tables.{layoutOf, Tables}
+use Rattle.check_rules.specs.Lent.{TypeOffsets}
 use Rattle.validator.specs.Examined.{Filled}
 
 module _ (b : List ℕ) (n : Counts) (ds ts ks es : List ℕ) (short : length b ≤ imageLimit) (answer : laid (layoutOf b n ds ts es) ≡ layout b) (T : Tables b n ds ts ks es) where
@@ -59,3 +60,7 @@ module _ (b : List ℕ) (n : Counts) (ds ts ks es : List ℕ) (short : length b 
       terms = sym (ap length terms-held ∙ term-count);
     };
   }
+
+-- The offsets of the types, as the rules ask for them.
+pub offsets-held : {b : List ℕ} {n : Counts} {ds ts ks es : List ℕ} → Filled b n ds ts ks es → TypeOffsets b ts
+offsets-held {ts = ts} F = record { laid-out = F .tables .laid-out; offsets = ap (λ m. take m ts) (sym (F .counts .types)) ∙ F .types }

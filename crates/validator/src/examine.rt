@@ -7,6 +7,7 @@ ghost use mathlib.Core.Path.{_≡_};
 ghost use Rattle.check_records.specs.Codes.{kindCodes};
 ghost use Rattle.check_records.specs.Tables.{Tables, Counted};
 ghost use Rattle.check_layout.specs.Tables.{Lent};
+ghost use Rattle.check_rules.specs.Lent.{TypeOffsets};
 ghost use Rattle.validator.specs.Examined.{checkedRecords, withCounts, verdictOf, Answered};
 
 // The verdict, and how many records each section of an accepted image has.
@@ -21,17 +22,18 @@ fn check_laid_out(
     kinds: &[u32],
     counts: Counts,
     doms: &[u16],
+    types: &[u16],
     descriptors: &[u32],
     terms: &[u16],
 ) -> Verdict
-    requires { ⌜ (now kinds ≡ kindCodes) × Tables (now image) (now doms) (now terms) (now descriptors) × Counted (now image) counts ⌝ }
+    requires { ⌜ (now kinds ≡ kindCodes) × Tables (now image) (now doms) (now terms) (now descriptors) × Counted (now image) counts × TypeOffsets (now image) (now types) ⌝ }
     ensures { λ r. ⌜ r ≡ checkedRecords (now (image .entry)) ⌝ }
 {
     let v = check_shape::check_shape(image, kinds, counts, doms, terms);
     if verdict::is_refused(v) {
         return v;
     }
-    check_typing::check_typing(image, counts, doms, terms, descriptors)
+    check_typing::check_typing(image, counts, doms, types, terms, descriptors)
 }
 
 fn with_counts(v: Verdict, counts: Counts) -> Checked
@@ -67,7 +69,7 @@ pub fn examine_image(
     match scanned {
         check_layout::Scan::Stopped(why, at) => Checked::Refused(why, at),
         check_layout::Scan::Laid(counts) => with_counts(
-            check_laid_out(image, kinds, counts, doms, descriptors, terms),
+            check_laid_out(image, kinds, counts, doms, types, descriptors, terms),
             counts,
         ),
     }

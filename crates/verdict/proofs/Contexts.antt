@@ -6,7 +6,7 @@ use mathlib.Core.Bool.{true}
 use mathlib.Core.List.{List, [], _∷_}
 use lib.ListN.{length, getD}
 use Rattle.calculus.specs.Syntax.{Dom, Ty}
-use Rattle.image.specs.Kinds.{a-type, free, Body, here, function-body, advice-body, split-body, lower-body, TypeKind, TermKind, typeRow, termRow, bodyOf}
+use Rattle.image.specs.Kinds.{a-type, free, Body, here, function-body, advice-body, split-body, lower-body, method-body, TypeKind, TermKind, typeRow, termRow, bodyOf}
 use Rattle.image.specs.Records.{Layout, fieldsAt}
 use Rattle.image.specs.Types.{typePlace, typeField, isType, typeOut, typeOf}
 use Rattle.laws.proofs.Tests.{each}
@@ -70,6 +70,7 @@ module _ (L : Layout) (good : Good L) where
   body-context split-body k Γ c t vs ts w l m =
       subst (λ j. SameContexts split-body j Γ c t vs ts) (sym w) (two-of (SameContexts split-body TermKind.split Γ c t vs) (split-context Γ c t vs) ts (rw w at l) (rw w at m))
   body-context lower-body k Γ c t vs ts w l m = λ n ks h. record { same = refl; inside = λ g. g }
+  body-context method-body k Γ c t vs ts w l m = λ n ks h. record { same = refl; inside = λ g. (n, g) }
 
   pub contexts : (k : TermKind) (Γ : List ℕ) (c : Dom) (t : ℕ) (vs ts : List ℕ) → leastChildren (termRow k) ≤ length ts → length ts ≤ mostChildren (termRow k) → t < length (L .types) → Below (length (L .types)) ts
       → ruleBy L Γ c t vs ts k .typed ≡ true → (i : ℕ) → SameContext (bodyOf k i) Γ t vs ts

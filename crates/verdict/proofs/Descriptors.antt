@@ -7,11 +7,13 @@ use Rattle.calculus.specs.Syntax.{Dom}
 use Rattle.image.specs.Kinds.{TermKind}
 use Rattle.verdict.specs.Rules.{Descriptor, rule}
 
-abbrev made : ℕ → ℕ → (ℕ → ℕ) → Descriptor
-made n k f = record { number = n; kind = k; part = f }
+abbrev made : ℕ → ℕ → (ℕ → ℕ) → ℕ → Descriptor
+made n k f c = record { number = n; kind = k; part = f; methods = c }
 
-pub same-descriptor : (a b : Descriptor) → a .number ≡ b .number → a .kind ≡ b .kind → ((i : ℕ) → a .part i ≡ b .part i) → a ≡ b
-same-descriptor a b n k p = ap (λ m. made m (a .kind) (a .part)) n ∙ (ap (λ m. made (b .number) m (a .part)) k ∙ ap (λ f. made (b .number) (b .kind) f) (fun-ext p))
+pub same-descriptor : (a b : Descriptor) → a .number ≡ b .number → a .kind ≡ b .kind → ((i : ℕ) → a .part i ≡ b .part i) → a .methods ≡ b .methods → a ≡ b
+same-descriptor a b n k p c =
+    ap (λ m. made m (a .kind) (a .part) (a .methods)) n
+    ∙ (ap (λ m. made (b .number) m (a .part) (a .methods)) k ∙ (ap (λ f. made (b .number) (b .kind) f (a .methods)) (fun-ext p) ∙ ap (λ m. made (b .number) (b .kind) (b .part) m) c))
 
 pub same-rule : (leq geq : Dom → Dom → Bool) → ((d e : Dom) → leq d e ≡ geq d e) → (Γ : List ℕ) (c : Dom) (t u : Descriptor) → t ≡ u → (vs : List ℕ) (ts us : List Descriptor) → ts ≡ us → (k : TermKind)
     → rule leq Γ c t vs ts k ≡ rule geq Γ c u vs us k

@@ -5,8 +5,9 @@ use mathlib.Core.Bool.{Bool, true}
 use mathlib.Core.List.{List, [], _∷_}
 use mathlib.Core.Option.{some}
 use lib.ListN.{getElem?}
-use Rattle.calculus.specs.Syntax.{Dom, Ty, Val, Tm, Op2, val, var, lam, op0, op1, op2, seq, ite, split, pcd, adv, lower, newLabel, abort, print, install, read, byte, newCell, app, mark, store}
-use Rattle.calculus.specs.Typing.{Policy, noStore, t-newLabel, t-print, t-install, t-read, t-byte, t-newCell, t-pair, t-app, t-mark, t-store, t-plus, t-minus, t-less, t-equal, LabelTys, TmTy, TmsTy, Rule2, v-unit, v-truth, v-num, is-val, is-var, is-lam, is-op0, is-op1, is-op2, is-seq, is-ite, is-split, is-pcd, is-adv, is-lower, is-end, is-more}
+use Rattle.calculus.specs.Syntax.{Dom, Ty, Sigs, Val, Tm, Tms, Op2, val, var, lam, op0, op1, op2, seq, ite, split, pcd, adv, lower, obj, newLabel, abort, print, install, read, byte, newCell, call, app, mark, store}
+use Rattle.calculus.specs.Typing.{Policy, noStore, t-newLabel, t-print, t-install, t-read, t-byte, t-newCell, t-call, t-pair, t-app, t-mark, t-store, t-plus, t-minus, t-less, t-equal, LabelTys, TmTy, TmsTy, BodiesTy, Rule2, v-unit, v-truth, v-num, is-val, is-var, is-lam, is-op0, is-op1, is-op2, is-seq, is-ite, is-split, is-pcd, is-adv, is-lower, is-obj, is-end, is-more}
+use Rattle.calculus.specs.Typing as Typing
 use Rattle.image.specs.Program.{opOf}
 use Rattle.verdict.specs.WellTyped.{aborts}
 
@@ -96,3 +97,10 @@ module _ (D : Policy) (Γ : List Ty) (c : Dom) where
 
   pub of-byte : {t a u : Ty} → Has (op1 byte t (op0 abort a)) u → (t ≡ Ty.number) × (a ≡ Ty.number)
   of-byte (is-op1 t-byte (is-op0 r)) = (refl, refl)
+
+  -- Card 3.
+  pub of-obj : {t u : Ty} {bs : Tms} → Has (obj t bs) u → (ms : Sigs) × (t ≡ Ty.obj ms) × BodiesTy D noStore (Ty.obj ms ∷ Γ) bs ms
+  of-obj (is-obj {ms = ms} d) = (ms, refl, d)
+
+  pub of-call : {m : ℕ} {t a u : Ty} → Has (op1 (call m) t (op0 abort a)) u → (ms : Sigs) × (a ≡ Ty.obj ms) × Typing.Has c t ms m
+  of-call (is-op1 (t-call {ms = ms} h) (is-op0 r)) = (ms, refl, h)

@@ -2,6 +2,7 @@
 pub mod Order
 pub mod Term
 pub mod Descriptors
+pub mod Methods
 pub mod Local
 pub mod Contexts
 pub mod Answered

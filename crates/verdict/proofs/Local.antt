@@ -1,18 +1,18 @@
 -- What the tests of one term mean: its rule in the calculus, over children of the types that they state.
-use Prim.Native.Nat.{ℕ, zero, suc, _≤_, _<_}
+use Prim.Native.Nat.{ℕ, zero, suc, _+_, _*_, _≤_, _<_}
 use native.Mathlib.Omega.{arith}
-use mathlib.Core.Path.{_≡_, refl}
+use mathlib.Core.Path.{_≡_, refl, sym, _∙_}
 use mathlib.Core.Bool.{true}
 use mathlib.Core.List.{List, [], _∷_, map}
 use mathlib.Core.Option.{some}
-use lib.ListN.{length, getD, getElem?}
+use lib.ListN.{length, getD, getElem?, length-map}
 use lib.Dec.{eqb}
 use Rattle.calculus.specs.Syntax.{Dom, Ty, op0, abort}
-use Rattle.calculus.specs.Typing.{noStore, t-newLabel, t-abort, t-print, t-install, t-read, t-byte, t-newCell, t-pair, t-app, t-mark, t-store, t-plus, t-minus, t-less, t-equal, LabelTys, no-types, a-type, TmTy, TmsTy, Rule2, v-unit, v-truth, v-num, is-val, is-var, is-lam, is-op0, is-op1, is-op2, is-seq, is-ite, is-split, is-pcd, is-adv, is-lower, is-end, is-more}
+use Rattle.calculus.specs.Typing.{noStore, t-newLabel, t-abort, t-print, t-install, t-read, t-byte, t-newCell, t-call, t-pair, t-app, t-mark, t-store, t-plus, t-minus, t-less, t-equal, LabelTys, no-types, a-type, TmTy, TmsTy, Rule2, v-unit, v-truth, v-num, is-val, is-var, is-lam, is-op0, is-op1, is-op2, is-seq, is-ite, is-split, is-pcd, is-adv, is-lower, is-obj, is-end, is-more}
 use Rattle.laws.specs.Tests.{all}
 use Rattle.image.specs.Kinds.{TypeKind, TermKind, termRow}
 use Rattle.image.specs.Records.{Layout}
-use Rattle.image.specs.Types.{typeField, isType, typeOut, typeOf}
+use Rattle.image.specs.Types.{typeFields, typeField, methodCount, isType, typeOut, typeOf}
 use Rattle.image.specs.Program.{opOf, assemble}
 use Rattle.laws.proofs.Booleans.{and-l, and-r, lt-of, eq-of}
 use Rattle.laws.proofs.Tests.{each}
@@ -21,8 +21,9 @@ use Rattle.image.proofs.Counts.{leastChildren, mostChildren}
 use Rattle.image.proofs.TypeNumbers.{out-as}
 use Rattle.verdict.specs.Domains.{leq, policy}
 use Rattle.verdict.specs.Rules.{is, opGives}
-use Rattle.verdict.specs.Check.{described, ruleBy}
+use Rattle.verdict.specs.Check.{describe, described, ruleBy}
 use Rattle.verdict.specs.WellTyped.{aborts}
+use Rattle.verdict.proofs.Methods.{has-method, bodies-typed, body-fits, method-fields}
 
 -- A list of so many elements.
 pub one-of : (P : List ℕ → Type 0) → ((a : ℕ) → P (a ∷ [])) → (ts : List ℕ) → 1 ≤ length ts → length ts ≤ 1 → P ts
@@ -233,3 +234,20 @@ module _ (L : Layout) (good : Good L) where
       let e = out-as L good TypeKind.number t o (hs .0) in
       let f = out-as L good TypeKind.number a (ks .0) (hs .1 .0) in
       rw (e, f) (is-op1 t-byte aborted)) ts l m
+  local-sound TermKind.obj Γ c t vs ts l m =
+      λ o ks h13 h14 h15.
+      let hs = each _ h14 in
+      let e = out-as L good TypeKind.obj t o (hs .0) in
+      let n : length ts ≡ methodCount L t = sym (length-map ts (λ a. describe L a)) ∙ eq-of (hs .1 .0) in
+      let f : (i : ℕ) → i < methodCount L t → getD (typeFields L t) (2 * i + 1) 0 ≡ getD ts i 0 =
+      λ i q. let z : 0 + i ≡ i = omega arith in rw z at (body-fits L (describe L t) 0 ts (hs .1 .1 .0) i (omega arith)) in
+      rw e (is-obj (bodies-typed (λ a. typeOf L a) (policy L) (methodCount L t) (typeFields L t) ts (method-fields L good t o (hs .0)) n f))
+  local-sound TermKind.call Γ c t vs ts l m =
+      one-of (LocalSound TermKind.call Γ c t vs)
+      (λ a o ks h13 h14 h15.
+      let hs = each _ h14 in
+      let e = out-as L good TypeKind.obj a (ks .0) (hs .0) in
+      let d = has-method (λ b. typeOf L b) (methodCount L a) (typeFields L a) (method-fields L good a (ks .0) (hs .0)) (getD vs 0 0) (lt-of (hs .1 .0)) in
+      let q : typeField L a (2 * getD vs 0 0 + 1) ≡ t = eq-of (hs .1 .1 .0) in
+      let p : typeField L a (2 * getD vs 0 0) ≡ c = eq-of h15 in
+      rw e (is-op1 (t-call (rw (q, p) at d)) aborted)) ts l m

@@ -1,18 +1,18 @@
 -- The other way round: a term that keeps its rule in the calculus, over children of the types that they state, passes its tests.
-use Prim.Native.Nat.{ℕ, zero, suc, _≤_, _<_}
+use Prim.Native.Nat.{ℕ, zero, suc, _+_, _*_, _≤_, _<_}
 use native.Mathlib.Omega.{arith}
-use mathlib.Core.Path.{_≡_, refl, sym, ap, _∙_}
+use mathlib.Core.Path.{_≡_, refl, sym, ap, subst, _∙_}
 use mathlib.Core.Bool.{true}
 use mathlib.Core.List.{List, [], _∷_, map}
 use mathlib.Core.Option.{some}
-use lib.ListN.{length, getD, getElem?}
+use lib.ListN.{length, getD, getElem?, length-map}
 use lib.Dec.{eqb}
-use Rattle.calculus.specs.Syntax.{Dom, Ty}
-use Rattle.calculus.specs.Typing.{noStore, LabelTys, a-type, TmTy}
+use Rattle.calculus.specs.Syntax.{Dom, Ty, Sigs}
+use Rattle.calculus.specs.Typing.{noStore, Has, BodiesTy, LabelTys, a-type, TmTy}
 use Rattle.laws.specs.Tests.{all}
 use Rattle.image.specs.Kinds.{TypeKind, TermKind, termRow}
 use Rattle.image.specs.Records.{Layout}
-use Rattle.image.specs.Types.{typeField, isType, typeOut, typeOf}
+use Rattle.image.specs.Types.{typeFields, typeField, methodCount, isType, methodsOut, typeOut, typeOf}
 use Rattle.image.specs.Program.{assemble}
 use Rattle.laws.proofs.Booleans.{no-path, and-i, of-lt, of-eq}
 use Rattle.laws.proofs.Tests.{of-each}
@@ -21,11 +21,12 @@ use Rattle.image.proofs.Counts.{leastChildren, mostChildren}
 use Rattle.image.proofs.TypeNumbers.{headOf, out-as, is-head, types-apart}
 use Rattle.verdict.specs.Domains.{leq, policy}
 use Rattle.verdict.specs.Rules.{is, opGives, Rule}
-use Rattle.verdict.specs.Check.{described, ruleBy}
+use Rattle.verdict.specs.Check.{describe, described, ruleBy}
 use Rattle.verdict.specs.WellTyped.{aborts}
+use Rattle.verdict.proofs.Methods.{method-parts, bodies-types, bodies-fit, method-fields, method-type}
 use Rattle.verdict.proofs.Local.{one-of, two-of, three-of, outs}
 use Rattle.verdict.proofs.Contexts.{part-there}
-use Rattle.verdict.proofs.Inversion.{opTy, of-unit, of-truth, of-number, of-var, of-seq, of-print, of-ite, of-pair, of-split, of-fun, of-app, of-arith, of-newLabel, of-mark, of-pcd, of-adv, of-install, of-newCell, of-read, of-store, of-lower, of-byte}
+use Rattle.verdict.proofs.Inversion.{opTy, of-unit, of-truth, of-number, of-var, of-seq, of-print, of-ite, of-pair, of-split, of-fun, of-app, of-arith, of-newLabel, of-mark, of-pcd, of-adv, of-install, of-newCell, of-read, of-store, of-lower, of-byte, of-obj, of-call}
 
 -- What 13, 14 and 15 ask is there.
 pub record Passes (r : Rule) : Type 0 where
@@ -75,6 +76,10 @@ module _ (L : Layout) (good : Good L) where
   in-adv : {p : Dom} (t : ℕ) → t < length (L .types) → typeOf L t ≡ Ty.adv p → (typeField L t 0 ≡ p)
   unfolding typeOut
   in-adv t n h = let e = out-as L good TypeKind.adv t n (in-kind t n h) in cc
+
+  in-obj : {ms : Sigs} (t : ℕ) → t < length (L .types) → typeOf L t ≡ Ty.obj ms → methodsOut (typeFields L t) (λ a. typeOf L a) ≡ ms
+  unfolding typeOut
+  in-obj t n h = let e = out-as L good TypeKind.obj t n (in-kind t n h) in cc
 
   label-parts : {x t : Ty} {p : Dom} {ts : List Ty} → LabelTys (policy L) x p (t ∷ ts) → (q : Dom) × (t ≡ Ty.label x q) × (leq L p q ≡ true) × LabelTys (policy L) x p ts
   label-parts (a-type {q = q} h ls) = (q, refl, h, ls)
@@ -232,3 +237,19 @@ module _ (L : Layout) (good : Good L) where
       (λ a o ks g d.
       let e = of-byte (policy L) (outs L Γ) c d in
       record { bound = refl; typed = of-each _ (in-kind t o (e .0), (in-kind a (ks .0) (e .1), tt)); allowed = refl }) ts l m
+  local-complete TermKind.obj Γ c t vs ts l m =
+      λ o ks g d.
+      let e = of-obj (policy L) (outs L Γ) c d in
+      let h = in-kind t o (e .1) in
+      let b = bodies-types (λ a. typeOf L a) (policy L) (methodCount L t) (typeFields L t) ts (method-fields L good t o h) (subst (λ ms. BodiesTy (policy L) noStore (Ty.obj (e .0) ∷ outs L Γ) (aborts (outs L ts)) ms) (sym (in-obj t o (e .1))) (e .2)) in
+      let n = b .0 in
+      let f : (i : ℕ) → i < length ts → typeField L t (2 * (0 + i) + 1) ≡ getD ts i 0 =
+      λ i q. let z : 0 + i ≡ i = omega arith in rw z (types-apart L good _ _ (method-type L good t o h i (omega arith)) (below-at (length (L .types)) ts i ks q) (b .1 i (omega arith))) in
+      record { bound = refl; typed = of-each _ (h, (of-eq (length-map ts (λ a. describe L a) ∙ n), (bodies-fit L (describe L t) 0 ts f, tt))); allowed = refl }
+  local-complete TermKind.call Γ c t vs ts l m =
+      one-of (LocalComplete TermKind.call Γ c t vs)
+      (λ a o ks g d.
+      let e = of-call (policy L) (outs L Γ) c d in
+      let h = in-kind a (ks .0) (e .1) in
+      let f = method-parts (λ b. typeOf L b) (methodCount L a) (typeFields L a) (method-fields L good a (ks .0) h) (getD vs 0 0) (subst (λ ms. Has c (typeOf L t) ms (getD vs 0 0)) (sym (in-obj a (ks .0) (e .1))) (e .2)) in
+      record { bound = refl; typed = of-each _ (h, (of-lt (f .0), (same (method-type L good a (ks .0) h (getD vs 0 0) (f .0)) o (f .2), tt))); allowed = of-eq (f .1) }) ts l m

@@ -4,9 +4,9 @@ use native.Mathlib.Omega.{arith}
 use mathlib.Core.Path.{_≡_, refl, sym, ap, subst}
 use mathlib.Core.Bool.{true}
 use mathlib.Core.List.{List, [], _∷_}
-use Rattle.calculus.specs.Syntax.{Dom, Ty, Val, Tm, Tms, val, op0, split, adv, abort}
-use Rattle.calculus.specs.Typing.{Policy, noStore, t-abort, v-unit, TmTy, TmsTy, is-val, is-lam, is-op0, is-op1, is-op2, is-seq, is-ite, is-split, is-pcd, is-adv, is-lower, is-more}
-use Rattle.calculus.specs.Plain.{domOf}
+use Rattle.calculus.specs.Syntax.{Dom, Ty, Sigs, noMethod, method, Val, Tm, Tms, val, op0, split, adv, abort}
+use Rattle.calculus.specs.Typing.{Policy, noStore, t-abort, v-unit, TmTy, TmsTy, BodiesTy, a-body, is-val, is-lam, is-op0, is-op1, is-op2, is-seq, is-ite, is-split, is-pcd, is-adv, is-lower, is-obj, is-more}
+use Rattle.calculus.specs.Plain.{domOf, methodDom}
 use Rattle.image.specs.Kinds.{TermKind}
 use Rattle.image.specs.Program.{Program, Programs, node, blank, end, more, nth, assemble, toTm, toTms}
 use Rattle.laws.proofs.Booleans.{no-path}
@@ -21,6 +21,7 @@ module _ (D : Policy) where
   record Stand (at : ℕ → Setting Ty) (as′ es : Tms) : Type 0 where
     one : (j : ℕ) {t : Ty} → TmTy D noStore (at j .context) (at j .dom) (nth as′ j) t → TmTy D noStore (at j .context) (at j .dom) (nth es j) t
     every : (p : Setting Ty) → ((j : ℕ) → at j ≡ p) → {ts : List Ty} → TmsTy D noStore (p .context) (p .dom) as′ ts → TmsTy D noStore (p .context) (p .dom) es ts
+    bodies : (ms : Sigs) (Δ : List Ty) → ((j : ℕ) → at j ≡ record { context = Δ; dom = methodDom ms j }) → BodiesTy D noStore Δ as′ ms → BodiesTy D noStore Δ es ms
 
   unit-type : {Γ : List Ty} {c : Dom} {t : Ty} → TmTy D noStore Γ c (val Val.unit) t → t ≡ Ty.unit
   unit-type (is-val v-unit) = refl
@@ -67,6 +68,8 @@ module _ (D : Policy) where
   rebuilt p TermKind.lower t vs ts es h (is-lower r d) = is-lower r (h .one 0 d)
   rebuilt p TermKind.abort t vs ts es h d = d
   rebuilt p TermKind.byte t vs ts es h (is-op1 r d) = is-op1 r (h .one 0 d)
+  rebuilt p TermKind.obj t vs ts es h (is-obj {ms = ms} d) = is-obj (h .bodies ms (Ty.obj ms ∷ p .context) (λ j. refl) d)
+  rebuilt p TermKind.call t vs ts es h (is-op1 r d) = is-op1 r (h .one 0 d)
 
   abort-at : (p q : Setting Ty) (e : Program) {t : Ty} → q ≡ p → TmTy D noStore (p .context) (p .dom) (toTm e) (stated e) → TmTy D noStore (q .context) (q .dom) (op0 abort (stated e)) t → TmTy D noStore (q .context) (q .dom) (toTm e) t
   abort-at p q e h d a = subst (λ s. TmTy D noStore (q .context) (q .dom) (toTm e) s) (abort-type a) (subst (λ r. TmTy D noStore (r .context) (r .dom) (toTm e) (stated e)) (sym h) d)
@@ -76,7 +79,15 @@ module _ (D : Policy) where
 
     -- A well-typed program is well typed as a term, with the type that it states.
     pub well-term : (p : Setting Ty) (e : Program) → WellTyped D p e → TmTy D noStore (p .context) (p .dom) (toTm e) (stated e)
-    well-term p (node k t vs es) w = rebuilt p k t vs (stateds es) (toTms es) (record { one = λ j d. child (childSetting p k t vs (stateds es)) 0 es (w .1) j j (omega arith) d; every = λ q h d. children (childSetting p k t vs (stateds es)) 0 es (w .1) q h d }) (w .0)
+    well-term p (node k t vs es) w =
+        let at : ℕ → Setting Ty = childSetting p k t vs (stateds es) in
+        rebuilt p k t vs (stateds es) (toTms es)
+        (record {
+          one = λ j d. child at 0 es (w .1) j j (omega arith) d;
+          every = λ q h d. children at 0 es (w .1) q h d;
+          bodies = λ ms Δ h d. bodies at 0 es (w .1) ms Δ (λ j m e. let r : m ≡ j = omega arith in rw r (h j)) d;
+        })
+        (w .0)
     well-term p blank w = absurd w
 
     child : (at : ℕ → Setting Ty) (i : ℕ) (es : Programs) → EachWellTyped D at i es → (j m : ℕ) → m ≡ i + j → {t : Ty}
@@ -89,3 +100,10 @@ module _ (D : Policy) where
         → TmsTy D noStore (p .context) (p .dom) (aborts (stateds es)) ts → TmsTy D noStore (p .context) (p .dom) (toTms es) ts
     children at i end w p h d = d
     children at i (more e es) w p h (is-more d ds) = is-more (abort-at (at i) p e (sym (h i)) (well-term (at i) e (w .0)) d) (children at (suc i) es (w .1) p h ds)
+
+    -- The bodies of an object, each where its method says (card 3): the first of these is child i.
+    bodies : (at : ℕ → Setting Ty) (i : ℕ) (es : Programs) → EachWellTyped D at i es → (ms : Sigs) (Δ : List Ty) → ((j m : ℕ) → m ≡ i + j → at m ≡ record { context = Δ; dom = methodDom ms j })
+        → BodiesTy D noStore Δ (aborts (stateds es)) ms → BodiesTy D noStore Δ (toTms es) ms
+    bodies at i end w ms Δ h d = d
+    bodies at i (more e es) w (method p b ms) Δ h (a-body d ds) =
+        a-body (abort-at (at i) (record { context = Δ; dom = p }) e (sym (h 0 i (omega arith))) (well-term (at i) e (w .0)) d) (bodies at (suc i) es (w .1) ms Δ (λ j m r. h (suc j) m (omega arith)) ds)

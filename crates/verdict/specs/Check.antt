@@ -9,7 +9,7 @@ use Rattle.image.specs.declared.Refusal.{Refusal}
 use Rattle.laws.specs.Tests.{firstFault}
 use Rattle.image.specs.Kinds.{TermKind, bodyOf}
 use Rattle.image.specs.Records.{Layout}
-use Rattle.image.specs.Types.{termPlace, typeNumber, typeField, termKind, typeNo, typeOf, others, children, rootOf, rootType}
+use Rattle.image.specs.Types.{termPlace, typeNumber, typeField, methodCount, termKind, typeNo, typeOf, others, children, rootOf, rootType}
 use Rattle.verdict.specs.declared.Verdict.{Verdict}
 use Rattle.verdict.specs.Answers.{require, inTurn}
 use Rattle.verdict.specs.Domains.{leq}
@@ -19,7 +19,7 @@ use Rattle.verdict.specs.Rules.{Descriptor, Rule, ruleFaults, rule}
 module _ (L : Layout) where
   -- The descriptor of type a, those of some types, and the type numbers that terms state.
   abbrev pub describe : ℕ → Descriptor
-  describe a = record { number = a; kind = typeNumber L a; part = λ i. typeField L a i }
+  describe a = record { number = a; kind = typeNumber L a; part = λ i. typeField L a i; methods = methodCount L a }
 
   abbrev pub described : List ℕ → List Descriptor
   described ts = map describe ts

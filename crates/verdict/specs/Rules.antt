@@ -1,6 +1,6 @@
 -- The rule of each kind of term (document 003, figures 2 and 3; document 01, "Typing"): what 13, 14 and 15 ask of it. Types stand in it as descriptors, so that the verdict, which reads them off the image, and a program, which reads them off its tables, share the one definition.
-use Prim.Native.Nat.{ℕ, zero, suc}
-use mathlib.Core.Bool.{Bool, true}
+use Prim.Native.Nat.{ℕ, zero, suc, _+_, _*_}
+use mathlib.Core.Bool.{Bool, true, _&&_}
 use mathlib.Core.List.{List, [], _∷_, map}
 use lib.ListN.{length, getD}
 use lib.Dec.{eqb, ltb}
@@ -9,11 +9,12 @@ use Rattle.image.specs.declared.Refusal.{Refusal}
 use Rattle.laws.specs.Tests.{all}
 use Rattle.image.specs.Kinds.{TypeKind, TermKind, typeRow}
 
--- A type's number, by which types are compared; its kind's number; its field i, 0 where it has none.
+-- A type's number, by which types are compared; its kind's number; its field i, 0 where it has none; how many methods it has (card 3).
 pub record Descriptor : Type 0 where
   pub number : ℕ
   pub kind : ℕ
   pub part : ℕ → ℕ
+  pub methods : ℕ
 
 -- What 13, 14 and 15 ask of a term.
 pub record Rule : Type 0 where
@@ -40,6 +41,17 @@ same a b = eqb (a .number) (b .number)
 
 abbrev pub holds : ℕ → Descriptor → Descriptor → Bool
 holds i a b = eqb (a .part i) (b .number)
+
+-- Card 3: the domain of method m of type a; the method gives type b. "A count of bodies unlike the type's .. is 14", and so is a body that is not of its method's type: the bodies from method m on.
+abbrev pub methodDomain : ℕ → Descriptor → Dom
+methodDomain m a = a .part (2 * m)
+
+abbrev pub gives : ℕ → Descriptor → Descriptor → Bool
+gives m a b = holds (2 * m + 1) a b
+
+abbrev pub bodiesFit : Descriptor → ℕ → List Descriptor → Bool
+bodiesFit a m [] = true
+bodiesFit a m (b ∷ bs) = gives m a b && bodiesFit a (suc m) bs
 
 -- "Less and equal give truth, plus and minus a number."
 abbrev pub opGives : ℕ → TypeKind
@@ -79,3 +91,6 @@ module _ (leq : Dom → Dom → Bool) (Γ : List ℕ) (c : Dom) (t : Descriptor)
   rule TermKind.lower = fitsAt (is TypeKind.unit t ∷ is TypeKind.unit (child 0) ∷ []) (leq (getD vs 0 0) c)
   rule TermKind.abort = fits []
   rule TermKind.byte = fits (is TypeKind.number t ∷ is TypeKind.number (child 0) ∷ [])
+  -- Card 3: "A body is checked at its method's domain, and a call needs that domain to be the current one"; "a method number past the type's last .. is 14".
+  rule TermKind.obj = fits (is TypeKind.obj t ∷ eqb (length ts) (t .methods) ∷ bodiesFit t 0 ts ∷ [])
+  rule TermKind.call = fitsAt (is TypeKind.obj (child 0) ∷ ltb (getD vs 0 0) (child 0 .methods) ∷ gives (getD vs 0 0) (child 0) t ∷ []) (eqb (methodDomain (getD vs 0 0) (child 0)) c)

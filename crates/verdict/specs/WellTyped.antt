@@ -18,6 +18,7 @@ firstOf (Ty.ref a p) = a
 firstOf (Ty.label a p) = a
 firstOf (Ty.pcd a p) = a
 firstOf (Ty.adv p) = Ty.unit
+firstOf (Ty.obj ms) = Ty.unit
 
 abbrev pub secondOf : Ty → Ty
 secondOf Ty.unit = Ty.unit
@@ -29,6 +30,7 @@ secondOf (Ty.ref a p) = Ty.unit
 secondOf (Ty.label a p) = Ty.unit
 secondOf (Ty.pcd a p) = Ty.unit
 secondOf (Ty.adv p) = Ty.unit
+secondOf (Ty.obj ms) = Ty.unit
 
 -- The types that programs state.
 abbrev pub stated : Program → Ty

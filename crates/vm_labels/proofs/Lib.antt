@@ -2,4 +2,3 @@
 pub mod Entering
 pub mod Taking
 pub mod Labelling
-pub mod Resumed

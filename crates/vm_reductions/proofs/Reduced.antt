@@ -17,6 +17,7 @@ use Rattle.vm_machine.specs.Memory.{Memory, binding, putBinding, pieceFirst, pi
 use Rattle.vm_machine.specs.States.{State, withRegs, withMemory}
 use Rattle.vm_machine.specs.Fetch.{Program, called}
 use Rattle.vm_machine.specs.Reduce.{given, newPiece, reduceApply, reduceSplit, reduceStore, reduceCell, reduceLabel, reduceAdvice, reduceInstall}
+use Rattle.vm_machine.specs.Turn.{callBody}
 use Rattle.vm_tables.specs.View.{memoryOf, Holds}
 use Rattle.vm_states.specs.Phases.{stateOf, Phase}
 use Rattle.vm_states.proofs.Made.{as-phase, stored-then, stored-set, then-set, set-either}
@@ -42,6 +43,16 @@ module _ (C : Program) (a b c : List ℕ) (r q : Regs) (w x y : ℕ) where
 
   pub no-apply-made : bindingLimit ≤ r .pools .bindings → q ≡ halt Outcome.Bindings r → Phase (reduceApply C w x y) a a r q
   no-apply-made h e =
+      full-made (λ (S : State). ltb (S .regs .pools .bindings) bindingLimit) Outcome.Bindings _ a a r q (λ log. le-ltb (r .pools .bindings) bindingLimit h) e
+
+-- A call of the body at the target g on the object x, whose environment is e.
+module _ (C : Program) (a b c : List ℕ) (r q : Regs) (w x g : ℕ) where
+  pub call-made : (e : ℕ) → r .pools .bindings < bindingLimit → e ≡ bodyOf x / 65536 % 2048 → Holds (putBinding (r .pools .bindings) (binding x 0 e) (memoryOf a)) a b → Phase (called C w g (r .pools .bindings)) b c r q → Phase (callBody C w x g) a c r (counted (r .pools .bindings + 1) (r .left - 1) q)
+  call-made e h f m p =
+      room-made (λ (S : State). ltb (S .regs .pools .bindings) bindingLimit) Outcome.Bindings _ a c r _ (λ log. lt-ltb (r .pools .bindings) bindingLimit h) (stored-called C _ _ a b c r q w g _ _ _ _ refl (λ log. refl) (subst (λ (i : ℕ). Holds (putBinding (r .pools .bindings) (binding x 0 i) (memoryOf a)) a b) f m) p)
+
+  pub no-call-made : bindingLimit ≤ r .pools .bindings → q ≡ halt Outcome.Bindings r → Phase (callBody C w x g) a a r q
+  no-call-made h e =
       full-made (λ (S : State). ltb (S .regs .pools .bindings) bindingLimit) Outcome.Bindings _ a a r q (λ log. le-ltb (r .pools .bindings) bindingLimit h) e
 
 -- Bindings of the two parts of pair p: their values are u and v.

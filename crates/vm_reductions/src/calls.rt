@@ -9,6 +9,7 @@ ghost use Rattle.vm_code.specs.Words.{depthOf};
 ghost use Rattle.vm_machine.specs.Memory.{binding, putBinding, pieceFirst, pieceSecond};
 ghost use Rattle.vm_machine.specs.Fits.{Fits};
 ghost use Rattle.vm_machine.specs.Reduce.{reduceApply, reduceSplit};
+ghost use Rattle.vm_machine.specs.Turn.{callBody};
 ghost use Rattle.vm_tables.specs.View.{memoryOf, Holds};
 ghost use Rattle.vm_states.specs.Phases.{Phase};
 use vm_machine::Regs;
@@ -23,7 +24,7 @@ use vm_tables::pieces::piece_second;
 use vm_words::code::field_b;
 use vm_words::value::body;
 
-// The environment and the target of the body of a function's value.
+// The environment of a function's or an object's value, and the target of the body of a function's.
 fn function_env(f: u64) -> usize
     ensures { λ r. ⌜ r ≡ bodyOf f / 65536 % 2048 ⌝ }
 {
@@ -45,6 +46,23 @@ pub fn reduce_apply(code: &[u64], work: &mut [u8], r: Regs, w: u64, x: u64, y: u
     if n < BINDINGS {
         bind(work, n, y, 0, function_env(x));
         let mut q = called(code, work, r, w, function_target(x), n);
+        let m = n + 1;
+        q.left = r.left - 1;
+        q.pools.bindings = m;
+        return q;
+    }
+    halt(r, outcomes::BINDINGS)
+}
+
+// The body at the target g is called on the object x, which it binds (card 3).
+pub fn call_body(code: &[u64], work: &mut [u8], r: Regs, w: u64, x: u64, g: usize) -> Regs
+    requires { ⌜ (1024 ≤ length (now code)) × (memoryLength ≤ length (now work)) × (0 < r .left) × (depthOf w ≤ r .room) × ((size : ℕ) × Fits size r) ⌝ }
+    ensures { λ q. ⌜ ((image : List ℕ) → Phase (callBody (record { code = now (code .entry); image = image }) w x g) (now (work .entry)) (now (work .exit)) r q) ⌝ }
+{
+    let n = r.pools.bindings;
+    if n < BINDINGS {
+        bind(work, n, x, 0, function_env(x));
+        let mut q = called(code, work, r, w, g, n);
         let m = n + 1;
         q.left = r.left - 1;
         q.pools.bindings = m;

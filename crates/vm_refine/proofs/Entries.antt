@@ -6,14 +6,14 @@ use mathlib.Core.Bool.{Bool, true, false, true≢false}
 use lib.Dec.{ltb}
 use borrow.Author.Tests.{le-ltb}
 use Rattle.calculus.specs.Combinators.{choose}
-use Rattle.calculus.specs.Syntax.{Tm, val, var, lam, op0, op1, op2, seq, ite, split, pcd, adv, lower}
+use Rattle.calculus.specs.Syntax.{Tm, val, var, lam, op0, op1, op2, seq, ite, split, pcd, adv, lower, obj}
 use Rattle.vm_theory.specs.Code.{isAtom}
 use Rattle.vm_theory.specs.Table.{Node, Table, termOf, entryOf, isAtomAt, Linked}
 use Rattle.vm_theory.proofs.Located.{one-no-atom, two-no-atom, many-no-atom}
 use Rattle.vm_code.specs.Words.{classOf, fieldA, operandB, termCount}
 use Rattle.vm_code.specs.Classes as classes
 use Rattle.vm_code.specs.Classes.{Mode, worked, variable, constant, atom, Class, unary, binary, classWith}
-use Rattle.vm_code.specs.Says.{termMode, termField, unaryOf, binaryOf, Says, says-unit, says-truth, says-number, says-variable, says-function, says-label, says-abort, says-one, says-two, says-pointcut, SaysCode}
+use Rattle.vm_code.specs.Says.{termMode, termField, unaryOf, binaryOf, Says, says-unit, says-truth, says-number, says-variable, says-function, says-object, says-label, says-abort, says-one, says-two, says-pointcut, SaysCode}
 use Rattle.vm_code.proofs.Numbers.{unary-class, binary-class}
 use Rattle.vm_machine.specs.Fetch.{Program, codeAt}
 use Rattle.vm_machine.specs.Turn.{enteredBy, entryFrom}
@@ -32,6 +32,7 @@ atom-field (split i g) x a = refl
 atom-field (pcd es) x a = refl
 atom-field (adv d i g) x a = refl
 atom-field (lower d i) x a = refl
+atom-field (obj t bs) x a = refl
 
 -- What a term's mode says of where to begin: with its operand, or with the term itself.
 abbrev begun : Mode → ℕ → ℕ → ℕ
@@ -57,6 +58,7 @@ begun-mode (split i g) t x = refl
 begun-mode (pcd es) t x = refl
 begun-mode (adv d i g) t x = refl
 begun-mode (lower d i) t x = refl
+begun-mode (obj y bs) t x = refl
 
 module _ (T : Table) (root : ℕ) (L : Linked T 0 root) (C : Program) (says : SaysCode T (C .image) (C .code)) where
   node-term : {x : ℕ} {n : Node} → T .node x ≡ n → T .term x ≡ termOf T n
@@ -69,6 +71,7 @@ module _ (T : Table) (root : ℕ) (L : Linked T 0 root) (C : Program) (says : Sa
   word-by x w n q (says-number c t b) = rw (c, node-term q)
   word-by x w n q (says-variable c k) = rw (c, node-term q)
   word-by x w n q (says-function c g) = rw (c, node-term q)
+  word-by x w n q (says-object c h) = rw (c, node-term q)
   word-by x w n q (says-label c) = rw (c, node-term q)
   word-by x w n q (says-abort c) = rw (c, node-term q)
   word-by x w n q (says-one c f h) = le-ltb (classOf w) 4 (omega arith) ∙ sym (one-no-atom T 0 root L q)
@@ -120,6 +123,7 @@ module _ (T : Table) (root : ℕ) (L : Linked T 0 root) (C : Program) (says : Sa
   entry-by n t N q (says-number c x b) ih a l = absurd (true≢false (sym (ap isAtom (node-term q)) ∙ a))
   entry-by n t N q (says-variable c k) ih a l = absurd (true≢false (sym (ap isAtom (node-term q)) ∙ a))
   entry-by n t N q (says-function c g) ih a l = absurd (true≢false (sym (ap isAtom (node-term q)) ∙ a))
+  entry-by n t N q (says-object c h) ih a l = absurd (true≢false (sym (ap isAtom (node-term q)) ∙ a))
   entry-by n t N q (says-label c) ih a l = rw c (sym (L .entered t ∙ ap (entryOf T t) q))
   entry-by n t N q (says-abort c) ih a l = rw c (sym (L .entered t ∙ ap (entryOf T t) q))
   entry-by n t N q (says-one {H = H} {x = x} c f h) ih a l =

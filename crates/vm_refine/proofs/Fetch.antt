@@ -2,39 +2,45 @@
 use Prim.Native.Nat.{ℕ, _-_, _/_, _%_, _<_}
 use native.Mathlib.Omega.{arith}
 use mathlib.Core.Path.{_≡_, refl, sym, ap, subst, _∙_}
+use mathlib.Core.List.{List}
 use mathlib.Core.Bool.{Bool, true, false, true≢false}
 use lib.Dec.{ltb}
 use Rattle.calculus.specs.Combinators.{choose}
 use Rattle.calculus.specs.Plain.{domOf}
-use Rattle.calculus.specs.Syntax.{Dom, Ty, Val, Tm, val, var, lam, op0, op1, op2, seq, ite, split, pcd, adv, lower}
+use Rattle.calculus.specs.Syntax.{Dom, Ty, Val, Tm, val, var, lam, op0, op1, op2, seq, ite, split, pcd, adv, lower, obj}
 use Rattle.closure_machine.specs.Closure.{CVal, Env, lookup, closed}
 use Rattle.vm_theory.specs.Code.{Skel, isAtom, atomOf, orUnit}
-use Rattle.vm_theory.specs.Table.{Node, funN, Table, termOf, isAtomAt, Linked}
+use Rattle.vm_theory.specs.Table.{Node, funN, objN, Table, termsOf, termOf, isAtomAt, Linked}
 use Rattle.vm_theory.proofs.Located.{Located, l-function, one-no-atom, two-no-atom, many-no-atom}
 use Rattle.vm_theory.proofs.Bound.{BoundTm}
-use Rattle.vm_code.specs.Values.{tagOf, bodyOf, functionValue}
-use Rattle.vm_code.specs.Words.{classOf, fieldB, hopsOf, termCount}
+use Rattle.vm_code.specs.Values.{tagOf, bodyOf, functionValue, objectValue}
+use Rattle.vm_code.specs.Words.{classOf, fieldA, fieldB, hopsOf, termCount}
 use Rattle.vm_code.specs.Classes.{worked, variable, atom}
-use Rattle.vm_code.specs.Says.{termMode, termField, Says, says-unit, says-truth, says-number, says-variable, says-function, says-label, says-abort, says-one, says-two, says-pointcut, SaysCode}
+use Rattle.vm_code.specs.Says.{termMode, termField, Says, says-unit, says-truth, says-number, says-variable, says-function, says-object, says-label, says-abort, says-one, says-two, says-pointcut, SaysCode}
 use Rattle.vm_machine.specs.Memory.{Memory}
 use Rattle.vm_machine.specs.Memory as words
 use Rattle.vm_machine.specs.Fetch.{Program, codeAt, atomValue, operandValue}
-use Rattle.vm_refine.proofs.Relations.{Sizes, IsBody, body-at, IsVal, is-unit, is-truth, is-num, is-fun, IsEnv, env-at, lookup-is}
+use Rattle.vm_refine.proofs.Relations.{Sizes, IsBody, body-at, object-at, IsVal, is-unit, is-truth, is-num, is-fun, is-object, IsEnv, env-at, lookup-is}
 
 -- The parts of a function's word.
 function-word : (env t : ℕ) → env < 2048 → t < 2048 → (tagOf (functionValue env t) ≡ 3) × (bodyOf (functionValue env t) % 2048 ≡ t) × (bodyOf (functionValue env t) / 65536 % 2048 ≡ env)
 function-word env t h g = (omega arith, omega arith, omega arith)
 
+-- And of an object's.
+object-word : (env t : ℕ) → env < 2048 → t < 1024 → (tagOf (objectValue env t) ≡ 9) × (bodyOf (objectValue env t) % 1024 ≡ t) × (bodyOf (objectValue env t) / 65536 % 2048 ≡ env)
+object-word env t h g = (omega arith, omega arith, omega arith)
+
 module _ (T : Table) (root : ℕ) (L : Linked T 0 root) (C : Program) (says : SaysCode T (C .image) (C .code)) where
   node-term : {x : ℕ} {n : Node} → T .node x ≡ n → T .term x ≡ termOf T n
   node-term {x} q = L .coded x ∙ ap (termOf T) q
 
-  -- A node that is an atom is a constant, a variable or a function.
+  -- A node that is an atom is a constant, a variable, a function or an object.
   pub data AtomIs (x w : ℕ) : Type 0 where
     is-constant : {v : Val} → T .term x ≡ val v → classOf w ≡ 0 → ((M : Memory) (z : Sizes) → IsVal T root L M z w (closed v)) → AtomIs x w
     is-variable : {k : ℕ} → T .term x ≡ var k → classOf w ≡ 1 → hopsOf w ≡ k → AtomIs x w
     is-function : {y : Ty} {b : ℕ} → T .node x ≡ funN y b → T .term x ≡ lam y (T .term b) → classOf w ≡ 2 → ((σ : Skel) (c : Dom) → Located T 0 root L x σ c → IsBody T root L (fieldB w) (T .term b) (domOf y))
         → AtomIs x w
+    is-an-object : {y : Ty} {bs : List ℕ} → T .node x ≡ objN y bs → T .term x ≡ obj y (termsOf T bs) → classOf w ≡ 3 → AtomIs x w
 
   no-atoms : (x : ℕ) {A : Type 0} → isAtomAt T x ≡ true → isAtomAt T x ≡ false → A
   no-atoms x p q = absurd (true≢false (sym p ∙ q))
@@ -46,6 +52,7 @@ module _ (T : Table) (root : ℕ) (L : Linked T 0 root) (C : Program) (says : Sa
   atom-by x w n q a (says-number c t b) = is-constant (node-term q) c (λ M z. is-num t b)
   atom-by x w n q a (says-variable c k) = is-variable (node-term q) c k
   atom-by x w n q a (says-function {b = b} c g) = is-function q (node-term q) c (λ σ d l. record { number = b; begins = g; term = refl; located = l-function l q })
+  atom-by x w n q a (says-object c h) = is-an-object q (node-term q) c
   atom-by x w n q a (says-label c) = absurd (true≢false (sym a ∙ ap isAtom (node-term q)))
   atom-by x w n q a (says-abort c) = absurd (true≢false (sym a ∙ ap isAtom (node-term q)))
   atom-by x w n q a (says-one c f h) = no-atoms x a (one-no-atom T 0 root L q)
@@ -74,6 +81,10 @@ module _ (T : Table) (root : ℕ) (L : Linked T 0 root) (C : Program) (says : Sa
         try (is-function n p q r) =
             let f = function-word env (fieldB (codeAt C x)) fits (omega arith) in
             rw (p, q) (is-fun (f .0) (body-at T root L (f .1) (r σ c l)) (env-at T root L M z (f .2) e))
+        try (is-an-object {y = y} {bs = bs} n p q) =
+            let f = object-word env (fieldA (codeAt C x)) fits (omega arith) in
+            rw (p, q)
+            (is-object (f .0) (object-at T root L (f .1 ∙ says .numbered x y bs n) (record { small = h; bodies = bs; node = n; terms = refl; skel = σ; dom = c; located = l })) (env-at T root L M z (f .2) e))
 
     constant-is : (x : ℕ) → x < termCount → (u : Val) → T .term x ≡ val u → Is (codeAt C x) (closed u)
     constant-is x h u p = try (atom-says x h (ap isAtom p))
@@ -82,6 +93,7 @@ module _ (T : Table) (root : ℕ) (L : Linked T 0 root) (C : Program) (says : Sa
         try (is-constant {v = v} q c g) = let same : v ≡ u = cc in rw (← same) (g M z)
         try (is-variable q c g) = let z : true ≡ false = cc in absurd (true≢false z)
         try (is-function n q c g) = let z : true ≡ false = cc in absurd (true≢false z)
+        try (is-an-object n q c) = let z : true ≡ false = cc in absurd (true≢false z)
 
     -- An operand that is fetched in place, from the word's field f; its term is b.
     pub in-place : (x f v : ℕ) (b : Tm) → T .term x ≡ b → isAtom b ≡ true → f ≡ termField b x → f < termCount → {σ : Skel} {c : Dom} → Located T 0 root L x σ c → BoundTm b ρ
@@ -98,6 +110,8 @@ module _ (T : Table) (root : ℕ) (L : Linked T 0 root) (C : Program) (says : Sa
             let b′ : BoundTm (T .term x) ρ = subst (λ (t : Tm). BoundTm t ρ) (sym p) b in
             rw same (subst (λ (t : Tm). Is (atomValue C M env (codeAt C x)) (atomOf t ρ)) p (atom-is x (omega arith) (ap isAtom p) l b′))
     in-place x f v (lam y t) p a q h l b =
+        rw q (subst (λ (t : Tm). Is (atomValue C M env (codeAt C x)) (atomOf t ρ)) p (atom-is x (omega arith) (ap isAtom p) l (subst (λ (t : Tm). BoundTm t ρ) (sym p) tt)))
+    in-place x f v (obj y t) p a q h l b =
         rw q (subst (λ (t : Tm). Is (atomValue C M env (codeAt C x)) (atomOf t ρ)) p (atom-is x (omega arith) (ap isAtom p) l (subst (λ (t : Tm). BoundTm t ρ) (sym p) tt)))
     in-place x f v (op0 o t) p a q h l b = absurd (true≢false (sym a))
     in-place x f v (op1 o t i) p a q h l b = absurd (true≢false (sym a))
@@ -123,3 +137,4 @@ module _ (T : Table) (root : ℕ) (L : Linked T 0 root) (C : Program) (says : Sa
   worked-mode (pcd es) a = refl
   worked-mode (adv d i g) a = refl
   worked-mode (lower d i) a = refl
+  worked-mode (obj y bs) a = absurd (true≢false a)

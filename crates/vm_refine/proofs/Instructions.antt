@@ -6,11 +6,11 @@ use mathlib.Core.Bool.{false}
 use mathlib.Core.List.{List, _∷_}
 use lib.ListN.{length}
 use Rattle.calculus.specs.Combinators.{choose}
-use Rattle.calculus.specs.Plain.{domOf}
-use Rattle.calculus.specs.Syntax.{Ty, Tm, Op0, Op1, Op2, op0, newLabel, abort, print, install, read, byte, newCell, app, mark, store, plus, minus, less, equal}
+use Rattle.calculus.specs.Plain.{domOf, methodsOf, methodDom}
+use Rattle.calculus.specs.Syntax.{Ty, Tm, Tms, Op0, Op1, Op2, op0, newLabel, abort, print, install, read, byte, newCell, call, app, mark, store, plus, minus, less, equal}
 use Rattle.calculus.specs.State.{Given}
 use Rattle.calculus.specs.Place.{Place, framed}
-use Rattle.closure_machine.specs.Closure.{CVal, Env, CState, close, plainVal, plainEnv, plainState}
+use Rattle.closure_machine.specs.Closure.{CVal, Env, CState, close, closes, plainVal, plainEnv, plainState}
 use Rattle.closure_machine.specs.Machine.{Control, eval, ret, op2R, Stack, CAnswer, due, placeAt, reduce0C, reduce2C, move}
 use Rattle.vm_theory.specs.Code.{Head, op1H, seqH, iteH, splitH, advH, lowerH, hand, slot, inPlace, Instr, one, two, fetch}
 use Rattle.vm_theory.specs.Conf.{Site, Chain, Slots, Conf, depthAt, domAt, placeOf}
@@ -42,7 +42,7 @@ use Rattle.vm_refine.proofs.Values.{a-plus, a-minus, a-less, an-equal, 
 use Rattle.vm_refine.proofs.ReduceTables.{label-now, print-now, install-now}
 use Rattle.vm_refine.proofs.ReduceCells.{store-now, cell-now}
 use Rattle.vm_refine.proofs.ReducePieces.{pair-now, advice-now}
-use Rattle.vm_refine.proofs.ReduceBindings.{apply-now, split-now}
+use Rattle.vm_refine.proofs.ReduceBindings.{apply-now, call-now, split-now}
 use Rattle.vm_refine.proofs.Mark.{mark-now}
 
 module _ (T : Table) (root : ℕ) (L : Linked T 0 root) (G : Given) (e₀ : Tm) (Ω : Sound G e₀) (N : ℕ) (B : List ℕ) (logged : G .logLength ≡ length B) (C : Program) (says : SaysCode T (C .image) (C .code))
@@ -147,6 +147,11 @@ module _ (T : Table) (root : ℕ) (L : Linked T 0 root) (G : Given) (e₀ : Tm) 
           → (Stepping T root L G e₀ Ω N B C says S k s m P A D (ret v) (headFrame H (P .env) ∷ K) (reduceHead G (placeOf P A) s H (P .env) v) → Then S′) → Then (judged w S S′)
       judge H S′ reach h = judged-now T root L G e₀ Ω N B C says S k s m P A D (ret v) (headFrame H (P .env) ∷ K) (measure S) S′ (head-red H v reach) h
 
+      -- A call of a method is made at the domain that the object's type names for it (card 3).
+      method-at : (y t : Ty) (j : ℕ) (es : Tms) (ρ : Env) → Heading (op1H (call j) y) → v ≡ CVal.object t es ρ → methodDom (methodsOf t) j ≡ domAt P
+      unfolding plainVal
+      method-at y t j es ρ reach q = Ω .methods (plainState s) K y t j (closes 1 (plainEnv ρ) es) (rw q at (reach .sound)) ∙ ap (λ (X : Place). X .dom) at
+
       operator-now : (o : Op1) (y : Ty) → Heading (op1H o y) → SaysOp T w o y → Then (performed C w (unaryMove (G .frame) M (unaryOp o) x) S)
       unfolding performed
       operator-now print y reach q = judge (op1H print y) _ reach (λ R. print-now T root L G e₀ Ω N B C says S k s m P A D (ret v) _ logged (placeOf P A) domain y is R)
@@ -154,6 +159,7 @@ module _ (T : Table) (root : ℕ) (L : Linked T 0 root) (G : Given) (e₀ : Tm) 
       operator-now read y reach q = judge (op1H read y) _ reach (λ R. read-now T root L G e₀ Ω N B C says S k s m P A D (ret v) _ (placeOf P A) y is R)
       operator-now byte y reach q = judge (op1H byte y) _ reach (λ R. byte-now T root L G e₀ Ω N B C says S k s m P A D (ret v) _ (placeOf P A) y is R)
       operator-now newCell y reach q = judge (op1H newCell y) _ reach (λ R. cell-now T root L G e₀ Ω N B C says S k s m P A D (ret v) _ (placeOf P A) y (q .1) (q .0) is R)
+      operator-now (call j) y reach q = judge (op1H (call j) y) _ reach (λ R. call-now T root L G e₀ Ω N B C says S k s m P A D (ret v) _ (placeOf P A) y j q (λ t es ρ e. method-at y t j es ρ reach e) is R)
 
       head-now : (H : HeadN) (y : ℕ) → T .node m ≡ oneN H y → Heading (headOf T H) → SaysHead T w H → Then (performed C w (unaryMove (G .frame) M (unaryOf H) x) S)
       unfolding performed

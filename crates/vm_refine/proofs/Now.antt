@@ -7,7 +7,7 @@ use mathlib.Core.Option.{some}
 use lib.ListN.{length}
 use Rattle.calculus.specs.declared.Outcome.{Outcome}
 use Rattle.calculus.specs.Combinators.{choose}
-use Rattle.calculus.specs.Syntax.{Tm, val, var, lam, op0, op1, op2, seq, ite, split, pcd, adv, lower}
+use Rattle.calculus.specs.Syntax.{Tm, val, var, lam, op0, op1, op2, seq, ite, split, pcd, adv, lower, obj}
 use Rattle.calculus.specs.State.{Given, fresh}
 use Rattle.calculus.specs.Report.{outcomeNumber}
 use Rattle.calculus.specs.Run.{done, stopped, ended, run}
@@ -70,6 +70,7 @@ module _ (Is : ℕ → CVal → Type 0) (hw : ℕ) (hv : CVal) (sw : ℕ) (sv : 
   entry-ready (pcd es) σ p = tt
   entry-ready (adv q x b) σ p = ready-one (advH q b) x σ (entry-ready x (oneB (advH q b) ∷ σ))
   entry-ready (lower q x) σ p = ready-one (lowerH q) x σ (entry-ready x (oneB (lowerH q) ∷ σ))
+  entry-ready (obj t bs) σ p = absurd (true≢false p)
 
 module _ (T : Table) (root : ℕ) (L : Linked T 0 root) (G : Given) (e₀ : Tm) (Ω : Sound G e₀) (N : ℕ) (B : List ℕ) where
   -- What holds of tables, log and budget between two instructions, after k steps of the budget N.

@@ -11,7 +11,7 @@ use lib.Dec.{leb}
 use borrow.Author.Tests.{leb-true, leb-false, le-leb, lt-leb, ne-eqb}
 use Rattle.calculus.specs.declared.Outcome.{Outcome}
 use Rattle.calculus.specs.Combinators.{choose}
-use Rattle.calculus.specs.Syntax.{Tm, asValue, val, var, lam, op0, op1, op2, seq, ite, split, pcd, adv, lower}
+use Rattle.calculus.specs.Syntax.{Tm, asValue, val, var, lam, op0, op1, op2, seq, ite, split, pcd, adv, lower, obj}
 use Rattle.calculus.specs.State.{Given, fresh}
 use Rattle.calculus.specs.Place.{Place, framed}
 use Rattle.calculus.specs.Run.{stopped, ended, run}
@@ -68,6 +68,7 @@ no-value (split i g) ρ a = refl
 no-value (pcd es) ρ a = refl
 no-value (adv d i g) ρ a = refl
 no-value (lower d i) ρ a = refl
+no-value (obj t bs) ρ a = absurd (true≢false a)
 
 -- The parts of a pointcut's frame, and the digits in it and in the byte beside it.
 pointcut-frame : (pc env h : ℕ) → pc < 1024 → env < 2048 → (slotKind (slotWord pointcutFrame pc env h) ≡ pointcutFrame) × (slotPc (slotWord pointcutFrame pc env h) ≡ pc) × (slotEnv (slotWord pointcutFrame pc env h) ≡ env) × (slotHeld (slotWord pointcutFrame pc env h) ≡ h)

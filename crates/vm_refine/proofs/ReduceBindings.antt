@@ -1,42 +1,60 @@
--- The reductions that make bindings: application and split.
-use Prim.Native.Nat.{ℕ, suc, _+_, _-_, _/_, _%_, _≤_, _<_}
+-- The reductions that make bindings: application, calls of methods and split.
+use Prim.Native.Nat.{ℕ, zero, suc, _+_, _-_, _*_, _/_, _%_, _≤_, _<_}
 use native.Mathlib.Omega.{arith}
-use mathlib.Core.Path.{_≡_, refl, sym, ap, _∙_}
-use mathlib.Core.List.{List}
-use lib.ListN.{length, length-set}
+use native.Mathlib.Nat.{mod-eq-of-lt}
+use mathlib.Core.Path.{_≡_, refl, sym, ap, subst, _∙_}
+use mathlib.Core.List.{List, [], _∷_}
+use mathlib.Core.Bool.{Bool, true, false}
+use mathlib.Core.Option.{Option, none, some, Option·none-ne-some, Option·some-injective}
+use lib.ListN.{length, getD, getElem?, length-set}
 use lib.Dec.{ltb, leb}
-use borrow.Author.Tests.{leb-true}
+use borrow.Author.Tests.{leb-true, lt-ltb}
 use Rattle.calculus.specs.declared.Outcome.{Outcome}
 use Rattle.calculus.specs.Limits.{bindingLimit}
-use Rattle.calculus.specs.Plain.{domOf}
-use Rattle.calculus.specs.Syntax.{Ty, Tm, app}
+use Rattle.calculus.specs.Combinators.{choose}
+use Rattle.calculus.specs.Plain.{domOf, methodsOf, methodDom}
+use Rattle.calculus.specs.Syntax.{Dom, Ty, Tm, Tms, call, app}
 use Rattle.calculus.specs.State.{Given, charged, addCounts, someBindings}
 use Rattle.calculus.specs.Place.{Place}
 use Rattle.calculus.specs.Answer.{go, wrong, with}
+use Rattle.calculus.specs.Reduce.{bind, methodBody}
+use Rattle.image.specs.Bytes.{le16}
 use Rattle.closure_machine.specs.Closure.{CVal, Env, link, CState}
-use Rattle.closure_machine.specs.Machine.{Control, eval, Stack, CAnswer, reduce2C, reduceSplitC}
+use Rattle.closure_machine.specs.Machine.{Control, eval, Stack, CAnswer, reduce1C, reduce2C, reduceSplitC}
 use Rattle.vm_theory.specs.Conf.{Site, Chain, Slots, domAt}
-use Rattle.vm_theory.specs.Table.{Table, Linked}
+use Rattle.vm_theory.specs.Table.{objN, Node, Table, termsOf, isAtomAt, Linked}
 use Rattle.vm_theory.proofs.Sound.{Sound}
+use Rattle.vm_theory.proofs.Located.{l-method}
 use Rattle.vm_code.specs.Values.{bodyOf, tagOf}
-use Rattle.vm_code.specs.Words.{fieldB}
-use Rattle.vm_code.specs.Says.{SaysCode}
+use Rattle.vm_code.specs.Words.{fieldB, methodTarget, listOffset, termCount}
+use Rattle.vm_code.specs.Says.{Says, says-object, SaysBodies, bodies-here, bodies-listed, targetAt, SaysTarget, SaysCode}
 use Rattle.vm_machine.specs.declared.Regs.{Regs}
 use Rattle.vm_machine.specs.Registers.{setPools, stepped, bound}
 use Rattle.vm_machine.specs.Memory.{Memory, binding, boundTarget, boundLink, bindingAt, putBinding, pieceFirst, pieceSecond, pieceOf, cellBase}
-use Rattle.vm_machine.specs.States.{State}
+use Rattle.vm_machine.specs.States.{State, ifRoom}
 use Rattle.vm_machine.specs.Fetch.{Program, codeAt, called}
 use Rattle.vm_machine.specs.Reduce.{reduceApply, reduceSplit}
-use Rattle.vm_refine.proofs.Relations.{Sizes, sizes, IsBody, IsVal, IsEnv, is-link, env-outside, val-like, val-at, env-at, Grows, val-grows, env-grows}
+use Rattle.vm_machine.specs.Turn.{entryFrom, begunAt, callBody, reduceCall}
+use Rattle.vm_refine.proofs.Relations.{Sizes, sizes, IsBody, IsObject, IsVal, IsEnv, is-link, env-outside, val-like, val-at, env-at, Grows, val-grows, env-grows}
 use Rattle.vm_refine.proofs.Tables.{word-same, grows-put, grows-sizes, grows-trans, Above, above-put, above-trans, SameSlots, slots-put, slots-trans}
 use Rattle.vm_refine.proofs.Store.{Store, resized, store-charged}
-use Rattle.vm_refine.proofs.Views.{AsFunction, a-function, no-function, as-function, AsPair, a-pair, no-pair, as-pair}
+use Rattle.vm_refine.proofs.Views.{AsFunction, a-function, no-function, as-function, AsObject, an-object, no-object, as-object, AsPair, a-pair, no-pair, as-pair}
 use Rattle.vm_refine.proofs.Steps.{leb-iff, spend-bindings, measure, After, Stepping, no-wrong, if-there-is-room}
+use Rattle.vm_refine.proofs.Entries.{word-atom, entry-from}
 use Rattle.vm_refine.proofs.Gives.{calls}
 
 -- The parts of a binding.
 pub binding-word : (v t l : ℕ) → t < 2048 → l < 2048 → (tagOf (binding v t l) ≡ tagOf v) × (bodyOf (binding v t l) ≡ bodyOf v) × (boundTarget (binding v t l) ≡ t) × (boundLink (binding v t l) ≡ l)
 binding-word v t l h g = (omega arith, omega arith, omega arith, omega arith)
+
+-- The bodies of an object, by their numbers (card 3).
+listed-body : (T : Table) (bs : List ℕ) (j : ℕ) (e : Tm) → methodBody (termsOf T bs) j ≡ some e → (b : ℕ) × (getElem? bs j ≡ some b) × (getD bs j 0 ≡ b) × (T .term b ≡ e) × (j < length bs)
+listed-body T [] j e p = absurd (Option·none-ne-some e p)
+listed-body T (b ∷ bs) zero e p = (b, refl, refl, Option·some-injective (T .term b) e p, omega arith)
+listed-body T (b ∷ bs) (suc j) e p = let i = listed-body T bs j e p in (i .0, i .1, i .2, i .3, omega (arith, i .4))
+
+bodies-said : (T : Table) (image : List ℕ) (w : ℕ) {y : Ty} {bs : List ℕ} → Says T image w (objN y bs) → SaysBodies T image w bs
+bodies-said T image w (says-object c h) = h
 
 -- One more binding.
 module _ (T : Table) (root : ℕ) (L : Linked T 0 root) (M : Memory) (z : Sizes) (long : 3905 ≤ length (M .words)) (room : z .nb < 2048) (fit : z .np ≤ 512) (w : ℕ) where
@@ -95,49 +113,93 @@ module _ (T : Table) (root : ℕ) (L : Linked T 0 root) (G : Given) (e₀ : Tm) 
   no-way : {a : CAnswer} {X : Type 0} → At a → a ≡ wrong → X
   no-way R e = absurd (no-wrong T root L G e₀ Ω N B C says S k s m P A D c F R e)
 
-  -- A call; the function's type names the current domain.
+  -- The value u is bound in an environment, and the body e is called.
+  bound-now : (g l : ℕ) {x : ℕ} {u : CVal} (e : Tm) (d : Dom) (ρ : Env) → l < 2048 → IsBody T root L g e d → d ≡ domAt P → IsEnv T root L M z l ρ → Is x u → At (bind 1 s (eval e (link u ρ)))
+      → Then (ifRoom (ltb n bindingLimit) Outcome.Bindings S (called C w g n (record { memory = putBinding n (binding x 0 l) M; log = S .log; regs = setPools (bound 1 (r .pools)) (stepped r) })))
+  bound-now g l {x} {u} e d ρ low b same ie i Q =
+      if-there-is-room T root L G e₀ Ω N B C says S k s m P A D c F (measure S) (leb 1 (bindingLimit - s .used .bindings)) Outcome.Bindings _ _ (ltb n bindingLimit)
+      (leb-iff (suc n) bindingLimit 1 (bindingLimit - s .used .bindings) (λ h. omega (arith, st .bindings)) (λ h. omega (arith, st .bindings))) Q (spend-bindings s (λ s′. go s′ (eval e (link u ρ))) 1)
+      (λ room Q′.
+      let h : 1 ≤ bindingLimit - s .used .bindings = leb-true 1 (bindingLimit - s .used .bindings) room in
+      let fit : n < 2048 = omega (arith, st .bindings) in
+      let f = grows-bound T root L M z (st .words) fit (st .pieces-fit) word in
+      calls T root L G e₀ Ω N B C says S k s m P A D c F Q′ (putBinding n word M) (S .log) (setPools (bound 1 (r .pools)) (stepped r)) (charged (addCounts (s .used) (someBindings 1)) s)
+      (record {
+        env = refl;
+        room = refl;
+        left = refl;
+        pc = refl;
+        store =
+            store-charged T root L B M (S .log) z s st (putBinding n word M) (n + 1) (z .np) (addCounts (s .used) (someBindings 1)) f (above-bound T root L M z (st .words) fit (st .pieces-fit) word) (st .beside)
+            (omega (arith, st .bindings)) (omega arith) (omega (arith, st .pieces)) (st .pieces-fit) (omega arith);
+        grows = f;
+        slots = slots-bound T root L M z (st .words) fit (st .pieces-fit) word;
+      })
+      g n e d (link u ρ) b (env-bound-to T root L M z (st .words) fit (st .pieces-fit) word x 0 l refl (omega arith) low i ie) fit same refl)
+    where
+      st : Store T root L B M (S .log) z s
+      st = Q .place .common .store
+
+      word : ℕ
+      word = binding x 0 l
+
+  -- An application; the function's type names the current domain.
   pub apply-now : (X : Place) (y : Ty) {x x′ : ℕ} {v v′ : CVal} → ((t : Ty) (e : Tm) (ρ : Env) → v ≡ CVal.fun t e ρ → domOf t ≡ domAt P) → Is x v → Is x′ v′ → At (reduce2C G X s app y v v′)
       → Then (reduceApply C w x x′ S)
   unfolding with
   apply-now X y {x} {x′} {v} {v′} doms i i′ R = try (as-function T root L M z i) doms R
     where
-      st : Store T root L B M (S .log) z s
-      st = R .place .common .store
-
-      l : ℕ
-      l = bodyOf x / 65536 % 2048
-
-      word : ℕ
-      word = binding x′ 0 l
-
-      M′ : Memory
-      M′ = putBinding n word M
-
-      after : Regs
-      after = setPools (bound 1 (r .pools)) (stepped r)
-
       try : {u : CVal} → AsFunction T root L M z x u → ((t : Ty) (e : Tm) (ρ : Env) → u ≡ CVal.fun t e ρ → domOf t ≡ domAt P) → At (reduce2C G X s app y u v′) → Then (reduceApply C w x x′ S)
-      try (a-function {y = t} {e = e} {ρ = ρ} b ie) d Q =
-          if-there-is-room T root L G e₀ Ω N B C says S k s m P A D c F (measure S) (leb 1 (bindingLimit - s .used .bindings)) Outcome.Bindings _ _ (ltb n bindingLimit)
-          (leb-iff (suc n) bindingLimit 1 (bindingLimit - s .used .bindings) (λ h. omega (arith, st .bindings)) (λ h. omega (arith, st .bindings))) Q (spend-bindings s (λ s′. go s′ (eval e (link v′ ρ))) 1)
-          (λ room Q′.
-          let h : 1 ≤ bindingLimit - s .used .bindings = leb-true 1 (bindingLimit - s .used .bindings) room in
-          let fit : n < 2048 = omega (arith, st .bindings) in
-          let g = grows-bound T root L M z (st .words) fit (st .pieces-fit) word in
-          calls T root L G e₀ Ω N B C says S k s m P A D c F Q′ M′ (S .log) after (charged (addCounts (s .used) (someBindings 1)) s)
-          (record {
-            env = refl;
-            room = refl;
-            left = refl;
-            pc = refl;
-            store =
-                store-charged T root L B M (S .log) z s st M′ (n + 1) (z .np) (addCounts (s .used) (someBindings 1)) g (above-bound T root L M z (st .words) fit (st .pieces-fit) word) (st .beside)
-                (omega (arith, st .bindings)) (omega arith) (omega (arith, st .pieces)) (st .pieces-fit) (omega arith);
-            grows = g;
-            slots = slots-bound T root L M z (st .words) fit (st .pieces-fit) word;
-          })
-          (bodyOf x % 2048) n e (domOf t) (link v′ ρ) b (env-bound-to T root L M z (st .words) fit (st .pieces-fit) word x′ 0 l refl (omega arith) (omega arith) i′ ie) fit (d t e ρ refl) refl)
+      try (a-function {y = t} {e = e} {ρ = ρ} b ie) d Q = bound-now (bodyOf x % 2048) (bodyOf x / 65536 % 2048) e (domOf t) ρ (omega arith) b (d t e ρ refl) ie i′ Q
       try (no-function p) d Q = no-way Q (rw p)
+
+  -- A term is begun where its word says.
+  begun : (b : ℕ) → b < termCount → begunAt C b ≡ targetAt T b
+  begun b h = ap (λ (t : Bool). choose t b (termCount + entryFrom termCount C b)) (word-atom T root L C says b h) ∙ try (isAtomAt T b) refl
+    where
+      try : (t : Bool) → isAtomAt T b ≡ t → choose t b (termCount + entryFrom termCount C b) ≡ choose t b (termCount + T .entry b)
+      try true a = refl
+      try false a = ap (λ (e : ℕ). termCount + e) (entry-from T root L C says b h a)
+
+  -- Method j of the object x is its body b, which gives e.
+  module _ (j : ℕ) {x : ℕ} {t : Ty} {es : Tms} {ρ : Env} (q : fieldB w ≡ j % 2048) (o : IsObject T root L (bodyOf x % 1024) t es) (ie : IsEnv T root L M z (bodyOf x / 65536 % 2048) ρ)
+      (d : methodDom (methodsOf t) j ≡ domAt P) (is : Is x (CVal.object t es ρ)) (e : Tm) (b : ℕ) (at : getElem? (o .bodies) j ≡ some b) (get : getD (o .bodies) j 0 ≡ b) (term : T .term b ≡ e)
+      (there : j < length (o .bodies)) (Q : At (bind 1 s (eval e (link (CVal.object t es ρ) ρ)))) where
+    abbrev u : ℕ
+    u = codeAt C (bodyOf x % 1024)
+
+    called-at : (g : ℕ) → SaysTarget T g b → Then (callBody C w x g S)
+    called-at g h =
+        bound-now g (bodyOf x / 65536 % 2048) e (methodDom (methodsOf t) j) ρ (omega arith) (record { number = b; begins = h; term = term; located = l-method j (o .located) (o .node) at }) d ie is Q
+
+    named : length (o .bodies) ≤ 8 → fieldB w ≡ j
+    named h = q ∙ mod-eq-of-lt {m = 2048} (omega arith)
+
+    method-now : SaysBodies T (C .image) u (o .bodies) → Then (reduceCall C w x S)
+    unfolding reduceCall
+    method-now (bodies-here f few h) = rw (f, named (omega arith)) (called-at (methodTarget u j) (subst (λ (c : ℕ). SaysTarget T (methodTarget u j) c) get (h j there)))
+    method-now (bodies-listed f few inside lists) =
+        let child : le16 (C .image) (listOffset u + 2 * j) % termCount ≡ b = lists j there ∙ get in
+        let low : b < termCount = omega arith in
+        rw (f, named few, lt-ltb (listOffset u + 2 * j + 1) (length (C .image)) (omega arith)) (called-at (begunAt C (le16 (C .image) (listOffset u + 2 * j) % termCount)) (ap (begunAt C) child ∙ begun b low, low))
+
+  -- A call of a method; the object's type names the current domain for it.
+  pub call-now : (X : Place) (y : Ty) (j : ℕ) {x : ℕ} {v : CVal} → fieldB w ≡ j % 2048 → ((t : Ty) (es : Tms) (ρ : Env) → v ≡ CVal.object t es ρ → methodDom (methodsOf t) j ≡ domAt P) → Is x v
+      → At (reduce1C G X s (call j) y v) → Then (reduceCall C w x S)
+  unfolding with
+  call-now X y j {x} {v} q doms i R = try (as-object T root L M z i) doms i R
+    where
+      found : {t : Ty} {es : Tms} {ρ : Env} → IsObject T root L (bodyOf x % 1024) t es → IsEnv T root L M z (bodyOf x / 65536 % 2048) ρ → methodDom (methodsOf t) j ≡ domAt P → Is x (CVal.object t es ρ)
+          → (e : Option Tm) → methodBody es j ≡ e → At (with e (λ f. bind 1 s (eval f (link (CVal.object t es ρ) ρ)))) → Then (reduceCall C w x S)
+      found o ie d is none p Q = no-way Q refl
+      found o ie d is (some e) p Q =
+          let b = listed-body T (o .bodies) j e (ap (λ (es : Tms). methodBody es j) (o .terms) ∙ p) in
+          let n : Says T (C .image) (codeAt C (bodyOf x % 1024)) (T .node (bodyOf x % 1024)) = says .node (bodyOf x % 1024) (o .small) in
+          method-now j q o ie d is e (b .0) (b .1) (b .2) (b .3) (b .4) Q (bodies-said T (C .image) (codeAt C (bodyOf x % 1024)) (subst (λ (N : Node). Says T (C .image) (codeAt C (bodyOf x % 1024)) N) (o .node) n))
+
+      try : {u : CVal} → AsObject T root L M z x u → ((t : Ty) (es : Tms) (ρ : Env) → u ≡ CVal.object t es ρ → methodDom (methodsOf t) j ≡ domAt P) → Is x u → At (reduce1C G X s (call j) y u) → Then (reduceCall C w x S)
+      try (an-object {y = t} {es = es} {ρ = ρ} b ie) d is Q = found b ie (d t es ρ refl) is (methodBody es j) refl Q
+      try (no-object p) d is Q = no-way Q (rw p)
 
   -- The first part is bound outside the second.
   pub split-now : {x : ℕ} {v : CVal} (e : Tm) → IsBody T root L (fieldB w) e (domAt P) → Is x v → At (reduceSplitC s e (P .env) v) → Then (reduceSplit C w x S)

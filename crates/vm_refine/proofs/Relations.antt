@@ -9,13 +9,15 @@ use lib.Dec.{eqb}
 use borrow.Author.Tests.{eqb-true}
 use Rattle.calculus.specs.Combinators.{choose}
 use Rattle.calculus.specs.Plain.{domOf}
-use Rattle.calculus.specs.Syntax.{Dom, Ty, Tm}
+use Rattle.calculus.specs.Syntax.{Dom, Ty, Tm, Tms}
 use Rattle.calculus.specs.State.{Advice}
 use Rattle.calculus.specs.Compose.{member}
 use Rattle.closure_machine.specs.Closure.{CVal, Env, empty, link, Body, lookup}
-use Rattle.vm_theory.specs.Table.{Table, Linked}
+use Rattle.vm_theory.specs.Code.{Skel}
+use Rattle.vm_theory.specs.Table.{objN, Table, termsOf, Linked}
 use Rattle.vm_theory.proofs.Located.{Located}
 use Rattle.vm_code.specs.Values.{tagOf, bodyOf}
+use Rattle.vm_code.specs.Words.{termCount}
 use Rattle.vm_code.specs.Says.{SaysTarget}
 use Rattle.vm_machine.specs.declared.Regs.{Regs}
 use Rattle.vm_machine.specs.Memory.{Memory, bindingAt, boundTarget, boundLink, noBinding, pieceFirst, pieceSecond, adviceTarget, adviceEnv, adviceDom, hasBit}
@@ -52,6 +54,19 @@ module _ (T : Table) (root : ℕ) (L : Linked T 0 root) where
   pub body-at : {g h : ℕ} {e : Tm} {p : Dom} → g ≡ h → IsBody h e p → IsBody g e p
   body-at q b = rw q b
 
+  -- Term t is an object of type y, with the bodies es (card 3).
+  pub record IsObject (t : ℕ) (y : Ty) (es : Tms) : Type 0 where
+    pub small : t < termCount
+    pub bodies : List ℕ
+    pub node : T .node t ≡ objN y bodies
+    pub terms : termsOf T bodies ≡ es
+    pub skel : Skel
+    pub dom : Dom
+    pub located : Located T 0 root L t skel dom
+
+  pub object-at : {t u : ℕ} {y : Ty} {es : Tms} → t ≡ u → IsObject u y es → IsObject t y es
+  object-at q b = rw q b
+
   module _ (M : Memory) (z : Sizes) where
     mutual
       -- The value that a word stands for.
@@ -65,6 +80,7 @@ module _ (T : Table) (root : ℕ) (L : Linked T 0 root) where
         is-label : {w l : ℕ} → tagOf w ≡ 6 → bodyOf w % 64 ≡ l → IsVal w (CVal.label l)
         is-labels : {w : ℕ} {ls : List ℕ} → tagOf w ≡ 7 → bodyOf w % 512 < z .np → HasLabels (pieceSecond M (bodyOf w % 512)) ls → IsVal w (CVal.labels ls)
         is-advice : {w : ℕ} {d : Dom} {e : Tm} {ls : List ℕ} {ρ : Env} → tagOf w ≡ 8 → IsAdvice (bodyOf w % 512) d ls e ρ → IsVal w (CVal.advice d ls e ρ)
+        is-object : {w : ℕ} {y : Ty} {es : Tms} {ρ : Env} → tagOf w ≡ 9 → IsObject (bodyOf w % 1024) y es → IsEnv (bodyOf w / 65536 % 2048) ρ → IsVal w (CVal.object y es ρ)
 
       -- The environment whose innermost binding is l.
       pub data IsEnv : ℕ → Env → Type 0 where
@@ -102,6 +118,7 @@ module _ (T : Table) (root : ℕ) (L : Linked T 0 root) where
     val-like p q (is-label t h) = is-label (p ∙ t) (ap (λ (x : ℕ). x % 64) q ∙ h)
     val-like p q (is-labels {ls = ls} t h g) = is-labels (p ∙ t) (rw q h) (subst (λ (x : ℕ). HasLabels (pieceSecond M (x % 512)) ls) (sym q) g)
     val-like p q (is-advice {d = d} {e = e} {ls = ls} {ρ = ρ} t a) = is-advice (p ∙ t) (subst (λ (x : ℕ). IsAdvice (x % 512) d ls e ρ) (sym q) a)
+    val-like p q (is-object {ρ = ρ} t h e) = is-object (p ∙ t) (object-at (ap (λ (x : ℕ). x % 1024) q) h) (subst (λ (x : ℕ). IsEnv (x / 65536 % 2048) ρ) (sym q) e)
 
     -- The same word, written otherwise.
     pub val-at : {a b : ℕ} {v : CVal} → a ≡ b → IsVal b v → IsVal a v
@@ -152,6 +169,7 @@ module _ (T : Table) (root : ℕ) (L : Linked T 0 root) (M : Memory) (z : Sizes)
     val-grows (is-label p q) = is-label p q
     val-grows (is-labels {w = w} p q a) = is-labels p (omega (arith, g .more-pieces)) (labels-at (g .seconds (bodyOf w % 512) q) a)
     val-grows (is-advice p a) = is-advice p (advice-grows a)
+    val-grows (is-object p q e) = is-object p q (env-grows e)
 
     pub env-grows : {l : ℕ} {ρ : Env} → IsEnv T root L M z l ρ → IsEnv T root L M′ z′ l ρ
     env-grows is-empty = is-empty

@@ -11,7 +11,7 @@ use borrow.Author.Tests.{eqb-true, eqb-false, eq-eqb, ne-eqb, ltb-true, ltb-fals
 use Rattle.calculus.specs.declared.Outcome.{Outcome}
 use Rattle.calculus.specs.Limits.{frameLimit}
 use Rattle.calculus.specs.Combinators.{choose}
-use Rattle.calculus.specs.Syntax.{Dom, Tm, Tms, val, var, lam, op0, op1, op2, seq, ite, split, pcd, adv, lower}
+use Rattle.calculus.specs.Syntax.{Dom, Tm, Tms, val, var, lam, op0, op1, op2, seq, ite, split, pcd, adv, lower, obj}
 use Rattle.calculus.specs.State.{Advice, Given, fresh}
 use Rattle.calculus.specs.Run.{stopped, ended, run}
 use Rattle.calculus.specs.Report.{outcomeNumber}
@@ -81,6 +81,7 @@ entry-long (split x f) σ = long-one (splitH f) x σ (entry-long x (oneB (splitH
 entry-long (pcd es) σ = omega arith
 entry-long (adv p x b) σ = long-one (advH p b) x σ (entry-long x (oneB (advH p b) ∷ σ))
 entry-long (lower p x) σ = long-one (lowerH p) x σ (entry-long x (oneB (lowerH p) ∷ σ))
+entry-long (obj t bs) σ = omega arith
 
 -- After a value inside a body its own body goes on.
 abbrev isBack : Instr → Bool

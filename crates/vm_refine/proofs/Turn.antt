@@ -20,7 +20,7 @@ use Rattle.vm_theory.proofs.Located.{Located, Points, p-home, p-to}
 use Rattle.vm_code.specs.Words.{classOf, countOf, termCount}
 use Rattle.vm_code.specs.Words as code
 use Rattle.vm_code.specs.Classes.{pointcut, classWith, pointcutClass}
-use Rattle.vm_code.specs.Says.{targetNumber, Says, says-unit, says-truth, says-number, says-variable, says-function, says-label, says-abort, says-one, says-two, says-pointcut, SaysCode}
+use Rattle.vm_code.specs.Says.{targetNumber, Says, says-unit, says-truth, says-number, says-variable, says-function, says-object, says-label, says-abort, says-one, says-two, says-pointcut, SaysCode}
 use Rattle.vm_machine.specs.declared.Regs.{Regs}
 use Rattle.vm_machine.specs.Registers.{fullRoom}
 use Rattle.vm_machine.specs.Memory.{noDigits}
@@ -71,6 +71,7 @@ module _ (T : Table) (root : ℕ) (L : Linked T 0 root) (G : Given) (e₀ : Tm) 
     node-now n q (says-number c t b) now = atom-not n q refl
     node-now n q (says-variable c h) now = atom-not n q refl
     node-now n q (says-function c g) now = atom-not n q refl
+    node-now n q (says-object c h) now = atom-not n q refl
     node-now n q (says-label {y = y} c) now =
         label-turn T root L G e₀ Ω N B logged C says S k s m hv P A D no-atom located pc (in-place-of T root L G e₀ Ω N B logged C says S k s m hv P A D no-atom located pc _ now) y (now .good .runs) c
     node-now n q (says-abort {y = y} c) now =

@@ -6,13 +6,13 @@ use mathlib.Core.List.{List}
 use mathlib.Core.Option.{none}
 use Rattle.calculus.specs.Combinators.{choose}
 use Rattle.calculus.specs.Plain.{domOf}
-use Rattle.calculus.specs.Syntax.{Dom, Ty, Tm}
+use Rattle.calculus.specs.Syntax.{Dom, Ty, Tm, Tms}
 use Rattle.calculus.specs.View.{unitOf, truthOf, numberOf, labelOf, cellOf, labelsOf}
-use Rattle.closure_machine.specs.Closure.{CVal, Env, pairOfC, bodyOfC, adviceOfC, plainVal}
+use Rattle.closure_machine.specs.Closure.{CVal, Env, pairOfC, bodyOfC, adviceOfC, bodiesOfC, plainVal}
 use Rattle.vm_theory.specs.Table.{Table, Linked}
 use Rattle.vm_code.specs.Values.{tagOf, bodyOf}
 use Rattle.vm_machine.specs.Memory.{Memory, pieceFirst, pieceSecond}
-use Rattle.vm_refine.proofs.Relations.{Sizes, HasLabels, IsBody, IsVal, is-unit, is-truth, is-num, is-fun, is-pair, is-cell, is-label, is-labels, is-advice, IsEnv, IsAdvice}
+use Rattle.vm_refine.proofs.Relations.{Sizes, HasLabels, IsBody, IsObject, IsVal, is-unit, is-truth, is-num, is-fun, is-pair, is-cell, is-label, is-labels, is-advice, is-object, IsEnv, IsAdvice}
 
 module _ (T : Table) (root : ℕ) (L : Linked T 0 root) (M : Memory) (z : Sizes) where
   pub data AsUnit (w : ℕ) : CVal → Type 0 where
@@ -30,6 +30,7 @@ module _ (T : Table) (root : ℕ) (L : Linked T 0 root) (M : Memory) (z : Sizes)
   as-unit (is-label p q) = no-unit refl
   as-unit (is-labels p q a) = no-unit refl
   as-unit (is-advice p a) = no-unit refl
+  as-unit (is-object p a e) = no-unit refl
 
   pub data AsTruth (w : ℕ) : CVal → Type 0 where
     a-truth : {b : Bool} → tagOf w ≡ 1 → bodyOf w ≡ choose b 1 0 → AsTruth w (CVal.truth b)
@@ -46,6 +47,7 @@ module _ (T : Table) (root : ℕ) (L : Linked T 0 root) (M : Memory) (z : Sizes)
   as-truth (is-label p q) = no-truth refl
   as-truth (is-labels p q a) = no-truth refl
   as-truth (is-advice p a) = no-truth refl
+  as-truth (is-object p a e) = no-truth refl
 
   pub data AsNumber (w : ℕ) : CVal → Type 0 where
     a-number : {n : ℕ} → tagOf w ≡ 2 → bodyOf w ≡ n → AsNumber w (CVal.num n)
@@ -62,6 +64,7 @@ module _ (T : Table) (root : ℕ) (L : Linked T 0 root) (M : Memory) (z : Sizes)
   as-number (is-label p q) = no-number refl
   as-number (is-labels p q a) = no-number refl
   as-number (is-advice p a) = no-number refl
+  as-number (is-object p a e) = no-number refl
 
   pub data AsPair (w : ℕ) : CVal → Type 0 where
     a-pair : {u s : CVal} → tagOf w ≡ 4 → bodyOf w % 512 < z .np → IsVal T root L M z (pieceFirst M (bodyOf w % 512)) u → IsVal T root L M z (pieceSecond M (bodyOf w % 512)) s → AsPair w (CVal.pair u s)
@@ -78,6 +81,7 @@ module _ (T : Table) (root : ℕ) (L : Linked T 0 root) (M : Memory) (z : Sizes)
   as-pair (is-label p q) = no-pair refl
   as-pair (is-labels p q a) = no-pair refl
   as-pair (is-advice p a) = no-pair refl
+  as-pair (is-object p a e) = no-pair refl
 
   pub data AsFunction (w : ℕ) : CVal → Type 0 where
     a-function : {y : Ty} {e : Tm} {ρ : Env} → IsBody T root L (bodyOf w % 2048) e (domOf y) → IsEnv T root L M z (bodyOf w / 65536 % 2048) ρ → AsFunction w (CVal.fun y e ρ)
@@ -94,6 +98,7 @@ module _ (T : Table) (root : ℕ) (L : Linked T 0 root) (M : Memory) (z : Sizes)
   as-function (is-label p q) = no-function refl
   as-function (is-labels p q a) = no-function refl
   as-function (is-advice p a) = no-function refl
+  as-function (is-object p a e) = no-function refl
 
   pub data AsLabel (w : ℕ) : CVal → Type 0 where
     a-label : {l : ℕ} → tagOf w ≡ 6 → bodyOf w % 64 ≡ l → AsLabel w (CVal.label l)
@@ -110,6 +115,7 @@ module _ (T : Table) (root : ℕ) (L : Linked T 0 root) (M : Memory) (z : Sizes)
   as-label (is-label p q) = a-label p q
   as-label (is-labels p q a) = no-label refl
   as-label (is-advice p a) = no-label refl
+  as-label (is-object p a e) = no-label refl
 
   pub data AsCell (w : ℕ) : CVal → Type 0 where
     a-cell : {r : ℕ} → tagOf w ≡ 5 → bodyOf w % 256 ≡ r → AsCell w (CVal.cell r)
@@ -126,6 +132,7 @@ module _ (T : Table) (root : ℕ) (L : Linked T 0 root) (M : Memory) (z : Sizes)
   as-cell (is-label p q) = no-cell refl
   as-cell (is-labels p q a) = no-cell refl
   as-cell (is-advice p a) = no-cell refl
+  as-cell (is-object p a e) = no-cell refl
 
   pub data AsPointcut (w : ℕ) : CVal → Type 0 where
     a-pointcut : {ls : List ℕ} → tagOf w ≡ 7 → bodyOf w % 512 < z .np → HasLabels (pieceSecond M (bodyOf w % 512)) ls → AsPointcut w (CVal.labels ls)
@@ -142,6 +149,7 @@ module _ (T : Table) (root : ℕ) (L : Linked T 0 root) (M : Memory) (z : Sizes)
   as-pointcut (is-label p q) = no-pointcut refl
   as-pointcut (is-labels p q a) = a-pointcut p q a
   as-pointcut (is-advice p a) = no-pointcut refl
+  as-pointcut (is-object p a e) = no-pointcut refl
 
   pub data AsAdvice (w : ℕ) : CVal → Type 0 where
     a-advice : {d : Dom} {e : Tm} {ls : List ℕ} {ρ : Env} → IsAdvice T root L M z (bodyOf w % 512) d ls e ρ → AsAdvice w (CVal.advice d ls e ρ)
@@ -158,3 +166,21 @@ module _ (T : Table) (root : ℕ) (L : Linked T 0 root) (M : Memory) (z : Sizes)
   as-advice (is-label p q) = no-advice refl
   as-advice (is-labels p q a) = no-advice refl
   as-advice (is-advice p a) = a-advice a
+  as-advice (is-object p a e) = no-advice refl
+
+  pub data AsObject (w : ℕ) : CVal → Type 0 where
+    an-object : {y : Ty} {es : Tms} {ρ : Env} → IsObject T root L (bodyOf w % 1024) y es → IsEnv T root L M z (bodyOf w / 65536 % 2048) ρ → AsObject w (CVal.object y es ρ)
+    no-object : {v : CVal} → bodiesOfC v ≡ none → AsObject w v
+
+  pub as-object : {w : ℕ} {v : CVal} → IsVal T root L M z w v → AsObject w v
+  unfolding plainVal
+  as-object (is-unit p) = no-object refl
+  as-object (is-truth p q) = no-object refl
+  as-object (is-num p q) = no-object refl
+  as-object (is-fun p q e) = no-object refl
+  as-object (is-pair p q a c) = no-object refl
+  as-object (is-cell p q) = no-object refl
+  as-object (is-label p q) = no-object refl
+  as-object (is-labels p q a) = no-object refl
+  as-object (is-advice p a) = no-object refl
+  as-object (is-object p q e) = an-object q e

@@ -5,10 +5,10 @@ use mathlib.Core.Path.{_≡_, refl, sym, ap, subst, _∙_}
 use mathlib.Core.List.{List}
 use lib.ListN.{length, getD}
 use lib.Dec.{leb}
-use Rattle.calculus.specs.Plain.{domOf}
+use Rattle.calculus.specs.Plain.{domOf, methodsOf, methodDom}
 use Rattle.image.specs.Limits.{imageLimit}
 use Rattle.image.specs.Bytes.{numberAt, fieldAt}
-use Rattle.image.specs.Kinds.{TermKind, termRow, leadOf}
+use Rattle.image.specs.Kinds.{TermKind, termRow, leadOf, trailOf}
 use Rattle.image.specs.Records.{Layout}
 use Rattle.image.specs.Layout.{recordsOf}
 use Rattle.image.specs.Types.{termPlace, termKind, statedType, others, children}
@@ -19,9 +19,10 @@ use Rattle.check_records.specs.Tables.{Tables}
 use Rattle.check_records.specs.Leaves.{Leaves}
 use Rattle.vm_code.specs.PassUp.{cellNote}
 use Rattle.vm_terms.specs.Fields.{Lower}
+use Rattle.vm_terms.specs.Methods.{methodAt, TypeOffsets, Whole}
 use Rattle.vm_terms.specs.Noted.{descriptorDomain, descriptorNote, DescriptorFits}
 use Rattle.vm_terms.proofs.KindNumbers.{NotFrom32, last-number}
-use Rattle.vm_terms.proofs.Records.{Recorded, as-kind, field-lower, few-terms, recorded, place-is, has-descriptor, domain-is, note-is, fits}
+use Rattle.vm_terms.proofs.Records.{Recorded, as-kind, field-lower, few-terms, recorded, place-is, has-descriptor, domain-is, note-is, fits, has-offset, type-stands, method-is}
 
 pub record Given (b ks : List ℕ) (n o : ℕ) : Type 0 where
   pub domain-table : List ℕ
@@ -76,6 +77,20 @@ module _ {b ks : List ℕ} {n o : ℕ} (G : Given b ks n o) where
   pub domain-at : descriptorDomain descriptorOf ≡ domOf (statedType L n)
   domain-at = ap (λ p. descriptorDomain (getD ks (fieldAt b p 0) 0)) (G .place) ∙ domain-is b ds ts ks T n l
 
+  -- With the table of the types' offsets: where its type stands, and the domains of the type's methods (card 3).
+  module _ (us : List ℕ) (U : TypeOffsets b us) where
+    abbrev pub placeOf : ℕ
+    placeOf = getD us (fieldAt b o 0) 0
+
+    pub has-place : fieldAt b o 0 < length us
+    has-place = subst (λ p. fieldAt b p 0 < length us) (sym (G .place)) (has-offset b ds ts ks T n l us U)
+
+    pub stands-at : Whole b placeOf
+    stands-at = subst (λ p. Whole b (getD us (fieldAt b p 0) 0)) (sym (G .place)) (type-stands b ds ts ks T n l us U)
+
+    pub methods-at : (m : ℕ) → methodAt b placeOf m ≡ methodDom (methodsOf (statedType L n)) m
+    methods-at m = ap (λ p. methodAt b (getD us (fieldAt b p 0) 0) m) (G .place) ∙ method-is b ds ts ks T n l us U m
+
   module _ (ls : List ℕ) (N : Leaves b ls) where
     pub note-at : descriptorNote ls descriptorOf ≡ cellNote (statedType L n)
     note-at = ap (λ p. descriptorNote ls (getD ks (fieldAt b p 0) 0)) (G .place) ∙ note-is b ds ts ks T n l ls N
@@ -83,8 +98,8 @@ module _ {b ks : List ℕ} {n o : ℕ} (G : Given b ks n o) where
     pub descriptor-fits : DescriptorFits ls descriptorOf
     descriptor-fits = subst (λ p. DescriptorFits ls (getD ks (fieldAt b p 0) 0)) (sym (G .place)) (fits b ds ts ks T n l ls N)
 
-  -- The kind of the last arm: of a number that is none of 32 to 53.
-  pub last-kind : {k : ℕ} → k ≡ numberAt b o → NotFrom32 k 22 → k ≡ 60
+  -- The kind of the last arm: of a number that is none of 32 to 55.
+  pub last-kind : {k : ℕ} → k ≡ numberAt b o → NotFrom32 k 24 → k ≡ 60
   last-kind {k} e h = last-number k (termKind L n) (e ∙ any-kind .number) h
 
   module _ (k : TermKind) (e : numberAt b o ≡ termRow k .number) where
@@ -95,7 +110,7 @@ module _ {b ks : List ℕ} {n o : ℕ} (G : Given b ks n o) where
     here = subst (λ j. Recorded b o n j (others L n) (children L n)) kind-told any-kind
 
     -- The fields that every term of the kind has are there, and child i is one of them.
-    pub room : o + 4 + 2 * (leadOf k + leastChildren (termRow k)) ≤ length b
+    pub room : o + 4 + 2 * (leadOf k + leastChildren (termRow k) + trailOf k) ≤ length b
     room = let z = here .least in let y = here .inside in omega arith
 
     pub has-child : (i : ℕ) → i < leastChildren (termRow k) → Lower b o (leadOf k + i) n

@@ -15,11 +15,16 @@ module _ (x : ℕ) where
   pub advice-domain : descriptorKind x ≡ 24 → descriptorField0 x ≡ descriptorDomain x
   advice-domain e = rw e refl
 
-  pub second-domain : (descriptorKind x ≡ 24 → ⊥) → 19 < descriptorKind x → descriptorField1 x ≡ descriptorDomain x
-  second-domain e l = rw (ne-eqb (descriptorKind x) 24 e, lt-ltb _ _ l) refl
+  pub object-domain : 24 < descriptorKind x → 0 ≡ descriptorDomain x
+  object-domain l = rw (ne-eqb (descriptorKind x) 24 (λ e. omega arith), lt-ltb _ _ l) refl
+
+  pub second-domain : (descriptorKind x ≡ 24 → ⊥) → descriptorKind x ≤ 24 → 19 < descriptorKind x → descriptorField1 x ≡ descriptorDomain x
+  second-domain e h l = rw (ne-eqb (descriptorKind x) 24 e, le-ltb _ _ h, lt-ltb _ _ l) refl
 
   pub no-domain : descriptorKind x ≤ 19 → 0 ≡ descriptorDomain x
-  no-domain l = rw (ne-eqb (descriptorKind x) 24 (λ e. omega arith), le-ltb _ _ l) refl
+  no-domain l =
+      let h : descriptorKind x ≤ 24 = omega arith in
+      rw (ne-eqb (descriptorKind x) 24 (λ e. omega arith), le-ltb _ _ h, le-ltb _ _ l) refl
 
   pub is-plain : (ls : List ℕ) → descriptorKind x ≡ 21 → not (eqb (getD ls (descriptorField0 x) 0) 0) ≡ descriptorPlain ls x
   is-plain ls e = rw e refl

@@ -1,14 +1,14 @@
 -- The record of a term by its fields (document 01, "The image": "Terms have their type t first, then lower term numbers e unless said"), and what its type's descriptor says.
-use Prim.Native.Nat.{ℕ, suc, _+_, _*_, _≤_, _<_}
+use Prim.Native.Nat.{ℕ, suc, _+_, _-_, _*_, _≤_, _<_}
 use native.Mathlib.Omega.{arith}
 use mathlib.Core.Path.{_≡_, sym, ap, subst, _∙_}
 use mathlib.Core.List.{List}
 use lib.ListN.{length, getD, length-take}
 use lib.Seq.{getD-take}
-use Rattle.calculus.specs.Plain.{domOf}
+use Rattle.calculus.specs.Plain.{domOf, methodsOf, methodDom}
 use Rattle.image.specs.Limits.{termLimit, operationCount}
 use Rattle.image.specs.Bytes.{lengthAt, numberAt, fieldCount, fieldAt}
-use Rattle.image.specs.Kinds.{TermKind, termRow, leadOf}
+use Rattle.image.specs.Kinds.{TermKind, termRow, leadOf, trailOf}
 use Rattle.image.specs.Records.{Layout, times, fieldsAt, numbersAt}
 use Rattle.image.specs.Layout.{recordsOf}
 use Rattle.image.specs.Types.{termPlace, typePlace, termKind, typeNo, statedType, others, children}
@@ -17,25 +17,29 @@ use Rattle.image.proofs.Words.{words-length}
 use Rattle.image.proofs.KindNumbers.{same-term-kind}
 use Rattle.image.proofs.Laid.{Good, below-at, layout-good, image-kept}
 use Rattle.image.proofs.Counts.{leastChildren, mostChildren, children-between}
-use Rattle.image.proofs.Offsets.{number-at, fields-count, child-at, other-at}
+use Rattle.image.proofs.Offsets.{number-at, fields-count, child-at, other-at, last-at}
 use Rattle.check_records.specs.Descriptors.{Describes}
 use Rattle.check_records.specs.Tables.{Tables}
 use Rattle.check_records.specs.Leaves.{Leaves}
 use Rattle.vm_code.specs.PassUp.{cellNote}
 use Rattle.vm_terms.specs.Noted.{descriptorDomain, descriptorNote, DescriptorFits}
+use Rattle.vm_terms.specs.Methods.{methodAt, TypeOffsets, Whole}
+use Rattle.vm_terms.proofs.ObjectTypes.{method-at, whole-type}
 use Rattle.vm_terms.proofs.Described.{descriptor-domain, descriptor-note, descriptor-fits}
 
--- The record at o is one of kind k, of term n: its fields behind the type that are no children are vs, and then come its children xs, which are lower terms.
+-- The record at o is one of kind k, of term n: its fields behind the type that are no children are vs, and its children, which stand side by side and are lower terms, are xs.
 pub record Recorded (b : List ℕ) (o n : ℕ) (k : TermKind) (vs xs : List ℕ) : Type 0 where
   pub number : numberAt b o ≡ termRow k .number
   -- its known fields are all where its kind has a group; else there may be more bytes behind them (document 02, card 1)
-  pub count : 0 < length (termRow k .group) → fieldCount b o ≡ leadOf k + length xs
-  pub size : 4 + 2 * (leadOf k + length xs) ≤ lengthAt b o
+  pub count : 0 < length (termRow k .group) → fieldCount b o ≡ leadOf k + length xs + trailOf k
+  pub size : 4 + 2 * (leadOf k + length xs + trailOf k) ≤ lengthAt b o
   pub whole : o + lengthAt b o ≤ length b
-  pub inside : o + 4 + 2 * (leadOf k + length xs) ≤ length b
+  pub inside : o + 4 + 2 * (leadOf k + length xs + trailOf k) ≤ length b
   pub least : leastChildren (termRow k) ≤ length xs
   pub most : length xs ≤ mostChildren (termRow k)
   pub other : (i : ℕ) → suc i < leadOf k → getD vs i 0 ≡ fieldAt b o (suc i)
+  -- the first field behind the children, if there is one
+  pub behind : 0 < trailOf k → getD vs (leadOf k - 1) 0 ≡ fieldAt b o (leadOf k + length xs)
   pub child : (i : ℕ) → i < length xs → getD xs i 0 ≡ fieldAt b o (leadOf k + i)
   pub lower : (i : ℕ) → i < length xs → getD xs i 0 < n
   pub operation : k ≡ TermKind.arith → fieldAt b o 1 < operationCount
@@ -73,6 +77,7 @@ laid-record L good n l =
       least = between .0;
       most = between .1;
       other = other-at k b o;
+      behind = last-at k b o;
       child = child-at k b o;
       lower = λ i h. below-at n (children L n) i (ok .below) h;
       operation = λ e. arithmetic-field b o _ _ n k e (ok .is);
@@ -128,6 +133,27 @@ module _ (b ds ts ks : List ℕ) (T : Tables b ds ts ks) where
 
     pub domain-is : descriptorDomain descriptor ≡ domOf (statedType L n)
     domain-is = descriptor-domain L good (typeNo L n) typed descriptor described
+
+    -- Where its type stands, by a table of the types' offsets; and the domains of the type's methods (card 3).
+    module _ (us : List ℕ) (U : TypeOffsets b us) where
+      abbrev p : ℕ
+      p = getD us (fieldAt b o 0) 0
+
+      pub has-offset : fieldAt b o 0 < length us
+      has-offset =
+          let z = ap (λ xs. length xs) U in
+          let y = length-take (length (L .types)) us in
+          let t = typed in
+          omega (arith, type-is)
+
+      offset-is : p ≡ typePlace L (typeNo L n)
+      offset-is = ap (λ t. getD us t 0) type-is ∙ sym (getD-take (length (L .types)) us (typeNo L n) 0 typed) ∙ ap (λ xs. getD xs (typeNo L n) 0) U
+
+      pub type-stands : Whole b p
+      type-stands = subst (λ q. Whole b q) (sym offset-is) (subst (λ i. Whole i (typePlace L (typeNo L n))) image-is (whole-type L good (typeNo L n) typed))
+
+      pub method-is : (m : ℕ) → methodAt b p m ≡ methodDom (methodsOf (statedType L n)) m
+      method-is m = ap (λ q. methodAt b q m) offset-is ∙ ap (λ i. methodAt i (typePlace L (typeNo L n)) m) (sym image-is) ∙ method-at L good (typeNo L n) typed m
 
     module _ (ls : List ℕ) (N : Leaves b ls) where
       pub note-is : descriptorNote ls descriptor ≡ cellNote (statedType L n)

@@ -11,7 +11,9 @@ use Rattle.check_records.specs.Descriptors.{descriptorKind, descriptorField0, d
 
 -- The domain that the type names: the first field of an advice type, the second of a function, reference, label or pointcut type; 0 for any other.
 abbrev pub descriptorDomain : ℕ → ℕ
-descriptorDomain x = choose (eqb (descriptorKind x) (typeRow TypeKind.adv .number)) (descriptorField0 x) (choose (ltb (typeRow TypeKind.pair .number) (descriptorKind x)) (descriptorField1 x) 0)
+descriptorDomain x =
+    choose (eqb (descriptorKind x) (typeRow TypeKind.adv .number)) (descriptorField0 x)
+    (choose (ltb (typeRow TypeKind.adv .number) (descriptorKind x)) 0 (choose (ltb (typeRow TypeKind.pair .number) (descriptorKind x)) (descriptorField1 x) 0))
 
 -- It is a reference type, and what it refers to is plain.
 abbrev pub descriptorPlain : List ℕ → ℕ → Bool

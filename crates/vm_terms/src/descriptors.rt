@@ -17,6 +17,9 @@ pub fn domain_of(descriptor: u32) -> u64
     if k == 24 {
         return wide(descriptor_field0(descriptor));
     }
+    if 24 < k {
+        return 0;
+    }
     if 19 < k {
         return wide(descriptor_field1(descriptor));
     }

@@ -22,7 +22,7 @@ pub fn field(image: &[u8], at: usize, i: usize) -> u64
     wide(field_at(image, at, i))
 }
 
-// How many labels a pointcut lists: its fields but the type.
+// How many labels a pointcut lists, or bodies an object has (document 02, card 3): its fields but the type.
 pub fn label_count(image: &[u8], at: usize) -> usize
     requires { ⌜ (at + 1 < length (now image)) × (6 ≤ lengthAt (now image) at) ⌝ }
     ensures { λ r. ⌜ (r ≡ fieldCount (now (image .entry)) at - 1) × (r < 32768) ⌝ }

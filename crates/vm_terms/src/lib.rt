@@ -1,3 +1,5 @@
-// An inner crate: what the passes that build the code read of a term's record, and of the descriptor of its type.
+// An inner crate: what the passes that build the code read of a term's record, of the descriptor of its type, and of the
+// record of an object's type.
 pub mod descriptors;
 pub mod fields;
+pub mod methods;

@@ -1,2 +1,3 @@
 -- The parts of words.
 pub mod Parts
+pub mod ObjectWords

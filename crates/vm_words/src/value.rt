@@ -4,7 +4,7 @@ ghost use mathlib.Core.Path.{_≡_};
 ghost use Prim.Native.Nat.{_<_};
 ghost use Rattle.calculus.specs.Numbers.{isLess, isEqual, frameByte};
 ghost use Rattle.calculus.specs.Numbers as numbers;
-ghost use Rattle.vm_code.specs.Values.{tagOf, bodyOf, numberValue, truthValue, functionValue};
+ghost use Rattle.vm_code.specs.Values.{tagOf, bodyOf, numberValue, truthValue, functionValue, objectValue};
 ghost use Rattle.vm_code.specs.Values as defined;
 
 pub const PAIR: u64 = 4;
@@ -55,6 +55,14 @@ pub fn function(env: usize, target: usize) -> u64
     ensures { λ r. ⌜ r ≡ functionValue env target ⌝ }
 {
     805306368 + 4294967296 * (65536 * (env as u64) + (target as u64))
+}
+
+// An object's value: its environment, and the number of its term (card 3).
+pub fn object(env: usize, term: usize) -> u64
+    requires { ⌜ (env < 65536) × (term < 65536) ⌝ }
+    ensures { λ r. ⌜ r ≡ objectValue env term ⌝ }
+{
+    2415919104 + 4294967296 * (65536 * (env as u64) + (term as u64))
 }
 
 // The ends of the range of numbers, as patterns.

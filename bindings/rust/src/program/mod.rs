@@ -5,6 +5,23 @@
 //!
 //! Variables are named by level: the outermost binding is level 0, the one inside it level 1. The image has the number
 //! that counts from the innermost.
+//!
+//! An object is made of a type, which comes first, since each body has the object itself as a variable:
+//!
+//! ```
+//! use bukzarn::program::{Program, Shape};
+//!
+//! let mut program = Program::new(&[1]);
+//! let number = program.number_type();
+//! let sonde = program.make(Shape::Object(vec![(0, number), (0, number)]));
+//! let itself = program.variable(sonde, 0);
+//! let (offset, byte) = (program.number(-4), program.number(16));
+//! let (read, correction) = (program.frame_byte(byte), program.call(itself, 1));
+//! let corrected = program.plus(read, correction);
+//! let object = program.object(sonde, vec![corrected, offset]);
+//! let image = program.image(&program.call(object, 0));
+//! # let _ = image;
+//! ```
 mod terms;
 mod types;
 mod write;

@@ -157,6 +157,22 @@ impl Program {
         over(53, of, [])
     }
 
+    /// An object of a type, with a body for each of its methods. Each body binds the object itself, and runs at its
+    /// method's domain.
+    pub fn object(&self, of: Type, bodies: Vec<Term>) -> Term {
+        Term { kind: 54, of, fields: bodies.into_iter().map(Field::Child).collect() }
+    }
+
+    /// Calls a method of an object; the first is number 0.
+    ///
+    /// # Panics
+    /// If it has no object type, or the type no such method.
+    pub fn call(&self, object: Term, method: u16) -> Term {
+        let Shape::Object(methods) = self.shape(object.of) else { panic!("call takes an object") };
+        let (_, of) = methods[usize::from(method)];
+        Term { kind: 55, of, fields: vec![Field::Child(object), Field::Word(method)] }
+    }
+
     /// The byte of the frame at an index, or -1.
     pub fn frame_byte(&mut self, index: Term) -> Term {
         over(60, self.number_type(), [index])

@@ -6,7 +6,7 @@ use super::Program;
 pub struct Type(pub(super) u16);
 
 /// What a type is made of; the last part of most is a domain.
-#[derive(Clone, Copy, Debug, PartialEq, Eq)]
+#[derive(Clone, Debug, PartialEq, Eq)]
 pub enum Shape {
     /// Unit.
     Unit,
@@ -26,12 +26,15 @@ pub enum Shape {
     Pointcut(Type, u16),
     /// Advice of a domain.
     Advice(u16),
+    /// An object with these methods, numbered from 0: for each the domain at which its body runs, and the type of what
+    /// a call gives. There are 1 to 8.
+    Object(Vec<(u16, Type)>),
 }
 
 impl Shape {
     /// The kind and the fields of its record.
-    pub(super) fn record(self) -> (u16, Vec<u16>) {
-        match self {
+    pub(super) fn record(&self) -> (u16, Vec<u16>) {
+        match *self {
             Shape::Unit => (16, vec![]),
             Shape::Truth => (17, vec![]),
             Shape::Number => (18, vec![]),
@@ -41,6 +44,7 @@ impl Shape {
             Shape::Label(a, p) => (22, vec![a.0, p]),
             Shape::Pointcut(a, p) => (23, vec![a.0, p]),
             Shape::Advice(p) => (24, vec![p]),
+            Shape::Object(ref methods) => (25, methods.iter().flat_map(|(p, of)| [*p, of.0]).collect()),
         }
     }
 }
@@ -58,7 +62,7 @@ impl Program {
 
     /// What a type is made of.
     pub fn shape(&self, of: Type) -> Shape {
-        self.types[usize::from(of.0)]
+        self.types[usize::from(of.0)].clone()
     }
 
     /// Every type that the program has so far.

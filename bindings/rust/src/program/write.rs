@@ -13,11 +13,12 @@ fn words(fields: &[u16]) -> Vec<u8> {
     fields.iter().flat_map(|word| word.to_le_bytes()).collect()
 }
 
-/// How many variables a child's scope gains: two in a split's second child, one in a function's and an advice's body.
+/// How many variables a child's scope gains: two in a split's second child, one in the body of a function, an advice
+/// or a method.
 fn bound(kind: u16, child: usize) -> u16 {
     match (kind, child) {
         (40, 1) => 2,
-        (41, 0) | (47, 1) => 1,
+        (41, 0) | (47, 1) | (54, _) => 1,
         _ => 0,
     }
 }

@@ -23,6 +23,11 @@ impl Maker<'_> {
             }
             Shape::Pointcut(a, p) => self.pointcut(a, p, at, scope, depth),
             Shape::Advice(p) => self.advice(p, at, scope, depth),
+            Shape::Object(methods) => {
+                let inner = [scope, &[of]].concat();
+                let bodies = methods.into_iter().map(|(p, of)| self.term(of, p, &inner, depth - 1)).collect();
+                self.program.object(of, bodies)
+            }
             _ => self.smallest(of, at, scope),
         }
     }

@@ -1,10 +1,13 @@
 //! Damage to an image, so that it is refused in every way.
 use crate::random::Random;
 
+/// Kinds whose lengths are exact: object types, pointcut terms and objects.
+pub const EXACT: [u16; 3] = [25, 46, 54];
+
 /// One to three random changes.
 pub fn damage(random: &mut Random, image: &mut Vec<u8>) {
     for _ in 0..random.between(1, 3) {
-        match random.below(13) {
+        match random.below(15) {
             0 => change_byte(random, image),
             1 => truncate(random, image),
             2 => append(random, image),
@@ -12,7 +15,8 @@ pub fn damage(random: &mut Random, image: &mut Vec<u8>) {
             5 => change_word(random, image, 0),
             6 => change_word(random, image, 2),
             7 | 8 => change_meaning(random, image),
-            9 => lengthen(random, image, 0),
+            9 => lengthen(random, image, &[]),
+            10 | 11 => change_groups(random, image),
             _ => change_field(random, image),
         }
     }
@@ -30,14 +34,14 @@ fn records(image: &[u8]) -> Vec<usize> {
     offsets
 }
 
-/// A few bytes behind some records, each of which is as much longer then; those of one kind stay as they are. Only
-/// pointcut terms (46) are refused for it.
-pub fn lengthen(random: &mut Random, image: &mut Vec<u8>, but: u16) {
+/// A few bytes behind some records, each of which is as much longer then; those of some kinds stay as they are. Only
+/// kinds of exact lengths are refused for it.
+pub fn lengthen(random: &mut Random, image: &mut Vec<u8>, but: &[u16]) {
     for at in records(image).into_iter().rev() {
         let word = |at: usize| u16::from_le_bytes([image[at], image[at + 1]]);
         let (length, more) = (word(at), random.below(5));
         let end = at + usize::from(length);
-        if random.chance(30) && length >= 4 && end <= image.len() && word(at + 2) != but {
+        if random.chance(30) && length >= 4 && end <= image.len() && !but.contains(&word(at + 2)) {
             let mut bytes = vec![0; more];
             random.fill(&mut bytes);
             image[at..at + 2].copy_from_slice(&(length + more as u16).to_le_bytes());
@@ -84,6 +88,26 @@ fn change_records(random: &mut Random, image: &mut Vec<u8>) {
     }
 }
 
+/// One method, label or body more or less in a record of exact lengths: the last one is doubled or left out.
+fn change_groups(random: &mut Random, image: &mut Vec<u8>) {
+    let word = |at: usize| u16::from_le_bytes([image[at], image[at + 1]]);
+    let exact: Vec<usize> = records(image).into_iter().filter(|at| EXACT.contains(&word(at + 2))).collect();
+    let Some(at) = random.pick(&exact) else { return };
+    let group = if word(at + 2) == 25 { 4 } else { 2 };
+    let (length, end) = (word(at), at + usize::from(word(at)));
+    if length < 8 || end > image.len() {
+        return;
+    }
+    let last = image[end - group..end].to_vec();
+    let doubled = random.chance(50);
+    let new = if doubled { length + group as u16 } else { length - group as u16 };
+    image[at..at + 2].copy_from_slice(&new.to_le_bytes());
+    match doubled {
+        true => drop(image.splice(end..end, last)),
+        false => drop(image.drain(end - group..end)),
+    }
+}
+
 /// Changes the length (0) or the kind (2) of a record, to one near it or to any.
 fn change_word(random: &mut Random, image: &mut [u8], word: usize) {
     if let Some(at) = random.pick(&records(image)) {
@@ -102,14 +126,15 @@ fn change_field(random: &mut Random, image: &mut [u8]) {
     }
 }
 
-/// Changes the number of a variable, a mask, or the domain of a type or a lower: the layout stays whole.
+/// Changes the number of a variable or a method, a mask, or the domain of a type or a lower: the layout stays whole.
 fn change_meaning(random: &mut Random, image: &mut [u8]) {
     let word = |at: usize| usize::from(u16::from_le_bytes([image[at], image[at + 1]]));
     let fields: Vec<usize> = records(image)
         .into_iter()
         .filter_map(|at| match word(at + 2) {
             35 | 52 | 20..=23 => Some(at + 6),
-            24 | 1 => Some(at + 4),
+            24 | 25 | 1 => Some(at + 4),
+            55 => Some(at + 8),
             _ => None,
         })
         .collect();

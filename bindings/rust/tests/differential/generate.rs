@@ -10,6 +10,12 @@ pub struct Maker<'r> {
     pub fuel: usize,
 }
 
+/// The numbers of an object type's methods with this domain and this type; none of another type.
+fn fitting(program: &Program, object: Type, wanted: (u16, Type)) -> Vec<u16> {
+    let Shape::Object(methods) = program.shape(object) else { return vec![] };
+    (0..methods.len() as u16).filter(|m| methods[usize::from(*m)] == wanted).collect()
+}
+
 /// A random partial order of so many domains, as masks.
 fn order(random: &mut Random, domains: usize) -> Vec<u16> {
     let mut masks: Vec<u16> = (0..domains).map(|d| 1 << d).collect();
@@ -55,7 +61,7 @@ impl<'r> Maker<'r> {
         if known.len() > 100 || (!known.is_empty() && self.random.chance(40)) {
             return known[self.random.below(known.len())];
         }
-        let choice = if depth == 0 { self.random.below(3) } else { self.random.below(12) };
+        let choice = if depth == 0 { self.random.below(3) } else { self.random.below(14) };
         let shape = match choice {
             0 => Shape::Unit,
             1 => Shape::Truth,
@@ -65,9 +71,26 @@ impl<'r> Maker<'r> {
             7 => Shape::Label(self.any_type(depth - 1), self.any_domain()),
             8 => Shape::Pointcut(self.any_type(depth - 1), self.any_domain()),
             9 => Shape::Advice(self.any_domain()),
+            10 | 11 => Shape::Object(self.methods(depth)),
             _ => Shape::Number,
         };
         self.program.make(shape)
+    }
+
+    /// Methods of an object: mostly few, as their bodies' sizes add up; those of one with many give unit or number.
+    fn methods(&mut self, depth: usize) -> Vec<(u16, Type)> {
+        let many = self.random.chance(10);
+        let count = if many { self.random.between(4, 8) } else { self.random.between(1, 3) };
+        let mut methods = vec![];
+        for _ in 0..count {
+            let of = match (many, self.random.below(3)) {
+                (false, _) => self.any_type(depth - 1),
+                (true, 0) => self.program.unit_type(),
+                (true, _) => self.program.number_type(),
+            };
+            methods.push((self.any_domain(), of));
+        }
+        methods
     }
 
     /// A variable whose type meets a test.
@@ -95,9 +118,10 @@ impl<'r> Maker<'r> {
             }
             38..=42 => self.choice(of, at, scope, depth),
             43..=47 => self.splitting(of, at, scope, depth),
-            48..=57 => self.application(of, at, scope, depth),
-            58..=63 => self.reading(of, at, scope, depth),
-            64 if self.random.chance(10) => self.program.abort(of),
+            48..=55 => self.application(of, at, scope, depth),
+            56..=61 => self.calling(of, at, scope, depth),
+            62..=66 => self.reading(of, at, scope, depth),
+            67 if self.random.chance(10) => self.program.abort(of),
             _ => self.made(of, at, scope, depth),
         }
     }
@@ -129,6 +153,25 @@ impl<'r> Maker<'r> {
         let Shape::Function(from, ..) = self.program.shape(function.of()) else { unreachable!() };
         let argument = self.term(from, at, scope, depth - 1);
         self.program.apply(function, argument)
+    }
+
+    /// A call of a method of the current domain, of an object in scope (maybe the one that is being made) or a new one.
+    fn calling(&mut self, of: Type, at: u16, scope: &[Type], depth: usize) -> Term {
+        let known = if self.random.chance(50) {
+            self.variable(scope, move |p, t| !fitting(p, t, (at, of)).is_empty())
+        } else {
+            None
+        };
+        let object = known.unwrap_or_else(|| {
+            let mut methods = if self.random.chance(70) { vec![] } else { self.methods(1) };
+            methods.truncate(7);
+            methods.insert(self.random.below(methods.len() + 1), (at, of));
+            let object = self.program.make(Shape::Object(methods));
+            self.term(object, at, scope, depth - 1)
+        });
+        let methods = fitting(&self.program, object.of(), (at, of));
+        let method = methods[self.random.below(methods.len())];
+        self.program.call(object, method)
     }
 
     fn reading(&mut self, of: Type, at: u16, scope: &[Type], depth: usize) -> Term {
@@ -172,6 +215,11 @@ impl<'r> Maker<'r> {
                 let number = self.program.number_type();
                 let (pointcut, body) = (self.program.pointcut(number, p, vec![]), self.program.unit());
                 self.program.advice(p, pointcut, body)
+            }
+            Shape::Object(methods) => {
+                let inner = [scope, &[of]].concat();
+                let bodies = methods.into_iter().map(|(p, of)| self.smallest(of, p, &inner)).collect();
+                self.program.object(of, bodies)
             }
             Shape::Reference(..) | Shape::Label(..) => self.program.abort(of),
         }

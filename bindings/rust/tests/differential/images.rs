@@ -8,12 +8,13 @@ use bukzarn::program::{Shape, Term, Type};
 /// A random image; some have longer records than their kinds need, and a third are damaged.
 pub fn image(random: &mut Random) -> Vec<u8> {
     let mut image = match random.below(10) {
-        0..=2 => looped(random),
+        0 | 1 => looped(random, knot),
+        2 => looped(random, object_knot),
         3..=5 => watched::image(random),
         _ => straight(random),
     };
     if random.chance(20) {
-        damage::lengthen(random, &mut image, 46);
+        damage::lengthen(random, &mut image, &damage::EXACT);
     }
     if random.chance(33) {
         damage::damage(random, &mut image);
@@ -74,8 +75,8 @@ pub fn turns(random: &mut Random) -> usize {
     }
 }
 
-/// A function that calls itself through a cell, from n down to 0.
-fn looped(random: &mut Random) -> Vec<u8> {
+/// A number by turns of a loop, under labels and cells.
+fn looped(random: &mut Random, knot: impl Fn(&mut Maker, &[Type], usize) -> Term) -> Vec<u8> {
     let turns = turns(random);
     let fuel = random.between(5, 60);
     let mut maker = Maker::new(random, fuel);
@@ -83,7 +84,8 @@ fn looped(random: &mut Random) -> Vec<u8> {
     maker.program.image(&root)
 }
 
-/// A number, by so many turns of a loop. The cell of the knot is the next variable, its argument the one after.
+/// A number, by so many turns of a function that calls itself through a cell, from n down to 0. The cell of the knot is
+/// the next variable, its argument the one after.
 pub fn knot(maker: &mut Maker, scope: &[Type], turns: usize) -> Term {
     let number = maker.program.number_type();
     let function = maker.program.make(Shape::Function(number, 0, number));
@@ -93,14 +95,14 @@ pub fn knot(maker: &mut Maker, scope: &[Type], turns: usize) -> Term {
     let cell_here = maker.program.variable(cell, level);
     let argument = maker.program.variable(number, level + 1);
     let end = maker.term(number, 0, &inner, 6);
-    let next = turn(maker, &cell_here, &argument, &inner);
+    let read = maker.program.read(cell_here.clone());
+    let next = turn(maker, &read, &argument, &inner);
     let one = maker.program.number(1);
     let test = maker.program.less(argument, one);
     let body = maker.program.choose(test, end, next);
     let body = maker.program.function(number, 0, body);
     let tie = maker.program.store(cell_here.clone(), body);
     let start = maker.program.number(turns as i32);
-    let read = maker.program.read(cell_here);
     let go = maker.program.apply(read, start);
     let tied = maker.program.sequence(tie, go);
     let zero = maker.program.number(0);
@@ -109,13 +111,37 @@ pub fn knot(maker: &mut Maker, scope: &[Type], turns: usize) -> Term {
     maker.program.bind(0, first, tied)
 }
 
-/// One turn of the knot: a random statement, a mark, or one that takes room, then the call for one less, last or inside
+/// The same by an object whose method gives the function: a call and an apply are a turn. The object stands in scope,
+/// and the method's body has it as itself.
+fn object_knot(maker: &mut Maker, scope: &[Type], turns: usize) -> Term {
+    let number = maker.program.number_type();
+    let function = maker.program.make(Shape::Function(number, 0, number));
+    let object = maker.program.make(Shape::Object(vec![(0, number), (0, function)]));
+    let level = scope.len() as u16;
+    let inner = [scope, &[object, number]].concat();
+    let itself = maker.program.variable(object, level);
+    let argument = maker.program.variable(number, level + 1);
+    let end = maker.term(number, 0, &inner, 6);
+    let again = maker.program.call(itself.clone(), 1);
+    let next = turn(maker, &again, &argument, &inner);
+    let one = maker.program.number(1);
+    let test = maker.program.less(argument, one);
+    let body = maker.program.choose(test, end, next);
+    let body = maker.program.function(number, 0, body);
+    let other = maker.term(number, 0, &[scope, &[object]].concat(), 4);
+    let made = maker.program.object(object, vec![other, body]);
+    let start = maker.program.number(turns as i32);
+    let call = maker.program.call(itself, 1);
+    let go = maker.program.apply(call, start);
+    maker.program.bind(0, made, go)
+}
+
+/// One turn of a knot: a random statement, a mark, or one that takes room, then the call for one less, last or inside
 /// a sum.
-fn turn(maker: &mut Maker, cell: &Term, argument: &Term, scope: &[Type]) -> Term {
+fn turn(maker: &mut Maker, function: &Term, argument: &Term, scope: &[Type]) -> Term {
     let one = maker.program.number(1);
     let less = maker.program.minus(argument.clone(), one);
-    let function = maker.program.read(cell.clone());
-    let call = maker.program.apply(function, less);
+    let call = maker.program.apply(function.clone(), less);
     let call = match maker.random.chance(30) {
         true => maker.program.plus(argument.clone(), call),
         false => call,

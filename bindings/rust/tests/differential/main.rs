@@ -1,4 +1,4 @@
-//! The library against an independent implementation of documents 01 and 003: answers, log, report and work area of
+//! The library against an independent implementation of documents 01 to 003: answers, log, report and work area of
 //! calls on random images (well-typed, looped, damaged) and on images made for each refusal and each outcome.
 //!
 //! IMAGES is how many random images are tried, SEED where they begin:
@@ -10,6 +10,7 @@ mod damage;
 mod generate;
 mod images;
 mod made;
+mod objects;
 mod random;
 mod reference;
 mod rules;
@@ -37,7 +38,7 @@ fn call(random: &mut Random, counts: &mut Counts, given: &Given) -> Result<Ran, 
 
 /// The images that are made for one refusal or outcome.
 fn made_images(random: &mut Random, counts: &mut Counts) {
-    for (number, image) in made::refused() {
+    for (number, image) in made::refused().into_iter().chain(objects::refused()) {
         let answer = call(random, counts, &made::ample(&image));
         assert_eq!(answer.err().map(|refused| refused.0), Some(number), "image made for refusal {number}");
     }
@@ -45,7 +46,7 @@ fn made_images(random: &mut Random, counts: &mut Counts) {
         let answer = call(random, counts, &given);
         assert_eq!(answer.err(), Some(Refused(number, 0)), "call made for refusal {number}");
     }
-    for (outcome, image) in made::ending() {
+    for (outcome, image) in made::ending().into_iter().chain(objects::ending()) {
         let budget = if outcome == 1 { 3 } else { u32::MAX };
         let answer = call(random, counts, &Given { budget, ..made::ample(&image) });
         assert_eq!(answer.ok().map(|ran| ran.outcome), Some(outcome), "image made for outcome {outcome}");

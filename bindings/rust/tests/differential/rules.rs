@@ -2,34 +2,39 @@
 //! type, and at every current domain over types of every domain. The children are aborts, which have any type.
 use crate::made::record;
 
-/// Fields of a term record between its type and its children.
-type Between = &'static [u16];
+/// Fields of a term record between its type and its children, or behind its children.
+type Others = &'static [u16];
 
-/// Kinds with children: how many, and the fields before them.
-const KINDS: [(u16, usize, Between); 19] = [
-    (36, 2, &[]),
-    (37, 1, &[]),
-    (38, 3, &[]),
-    (39, 2, &[]),
-    (40, 2, &[]),
-    (41, 1, &[]),
-    (42, 2, &[]),
-    (43, 2, &[1]),
-    (43, 2, &[2]),
-    (45, 2, &[]),
-    (46, 1, &[]),
-    (46, 2, &[]),
-    (47, 2, &[]),
-    (48, 1, &[]),
-    (49, 1, &[]),
-    (50, 1, &[]),
-    (51, 2, &[]),
-    (52, 1, &[0]),
-    (60, 1, &[]),
+/// Kinds with children: how many, the fields before them, the fields behind them.
+const KINDS: [(u16, usize, Others, Others); 24] = [
+    (36, 2, &[], &[]),
+    (37, 1, &[], &[]),
+    (38, 3, &[], &[]),
+    (39, 2, &[], &[]),
+    (40, 2, &[], &[]),
+    (41, 1, &[], &[]),
+    (42, 2, &[], &[]),
+    (43, 2, &[1], &[]),
+    (43, 2, &[2], &[]),
+    (45, 2, &[], &[]),
+    (46, 1, &[], &[]),
+    (46, 2, &[], &[]),
+    (47, 2, &[], &[]),
+    (48, 1, &[], &[]),
+    (49, 1, &[], &[]),
+    (50, 1, &[], &[]),
+    (51, 2, &[], &[]),
+    (52, 1, &[0], &[]),
+    (54, 1, &[], &[]),
+    (54, 2, &[], &[]),
+    (55, 1, &[], &[0]),
+    (55, 1, &[], &[1]),
+    (55, 1, &[], &[2]),
+    (60, 1, &[], &[]),
 ];
 
 /// Kinds without children.
-const LEAVES: [(u16, Between); 5] = [(32, &[]), (33, &[1]), (34, &[5, 0]), (44, &[]), (53, &[])];
+const LEAVES: [(u16, Others); 5] = [(32, &[]), (33, &[1]), (34, &[5, 0]), (44, &[]), (53, &[])];
 
 /// Every choice of `n` numbers below `limit`.
 fn choices(n: usize, limit: u16) -> Vec<Vec<u16>> {
@@ -52,14 +57,16 @@ fn types() -> Vec<Vec<u8>> {
         record(22, &[1, 0]),
         record(23, &[2, 0]),
         record(24, &[0]),
+        record(25, &[0, 2]),
+        record(25, &[0, 2, 0, 1]),
     ]
 }
 
 /// Aborts of these types, and over them a term of this kind and type as the root.
-fn over_aborts(kind: u16, between: Between, own: u16, children: &[u16]) -> Vec<u8> {
+fn over_aborts(kind: u16, between: Others, behind: Others, own: u16, children: &[u16]) -> Vec<u8> {
     let mut image: Vec<u8> = children.iter().flat_map(|of| record(53, &[*of])).collect();
     let numbers: Vec<u16> = (0..children.len() as u16).collect();
-    image.extend(record(kind, &[&[own], between, &numbers].concat()));
+    image.extend(record(kind, &[&[own], between, &numbers, behind].concat()));
     image
 }
 
@@ -68,10 +75,10 @@ pub fn type_rules() -> Vec<Vec<u8>> {
     let types = types();
     let head = [record(1, &[1]), types.concat()].concat();
     let mut images = vec![];
-    let leaves = LEAVES.iter().map(|(kind, between)| (*kind, 0, *between));
-    for (kind, count, between) in KINDS.into_iter().chain(leaves) {
+    let leaves = LEAVES.iter().map(|(kind, between)| (*kind, 0, *between, &[] as Others));
+    for (kind, count, between, behind) in KINDS.into_iter().chain(leaves) {
         for choice in choices(count + 1, types.len() as u16) {
-            let root = over_aborts(kind, between, choice[0], &choice[1..]);
+            let root = over_aborts(kind, between, behind, choice[0], &choice[1..]);
             images.push([&head[..], &root].concat());
         }
     }
@@ -81,11 +88,13 @@ pub fn type_rules() -> Vec<Vec<u8>> {
 /// Domains 3 below 1 and 2, both below 0: 1 and 2 are not ordered.
 const MASKS: [u16; 4] = [0b0001, 0b0011, 0b0101, 0b1111];
 
-/// The type record of kind 20 to 24 over number, unit (types 0 and 1) at a domain.
+/// The type record of kind 20 to 25 over number, unit (types 0 and 1) at a domain; an object's second method is at the
+/// next one.
 fn type_at(kind: u16, p: u16) -> Vec<u8> {
     match kind {
         20 => record(20, &[0, p, 0]),
         24 => record(24, &[p]),
+        25 => record(25, &[p, 0, (p + 1) % 4, 0]),
         _ => record(kind, &[0, p]),
     }
 }
@@ -95,23 +104,27 @@ struct Case {
     kind: u16,
     own: u16,
     children: &'static [u16],
+    behind: Others,
 }
 
 const NUMBER: u16 = 18;
 const UNIT: u16 = 16;
-const CASES: [Case; 12] = [
-    Case { kind: 42, own: NUMBER, children: &[20, NUMBER] },
-    Case { kind: 45, own: UNIT, children: &[22, NUMBER] },
-    Case { kind: 44, own: 22, children: &[] },
-    Case { kind: 49, own: 21, children: &[NUMBER] },
-    Case { kind: 50, own: NUMBER, children: &[21] },
-    Case { kind: 51, own: UNIT, children: &[21, NUMBER] },
-    Case { kind: 48, own: UNIT, children: &[24] },
-    Case { kind: 46, own: 23, children: &[] },
-    Case { kind: 46, own: 23, children: &[22] },
-    Case { kind: 46, own: 23, children: &[22, 22] },
-    Case { kind: 47, own: 24, children: &[23, UNIT] },
-    Case { kind: 41, own: 20, children: &[NUMBER] },
+const CASES: [Case; 15] = [
+    Case { kind: 42, own: NUMBER, children: &[20, NUMBER], behind: &[] },
+    Case { kind: 45, own: UNIT, children: &[22, NUMBER], behind: &[] },
+    Case { kind: 44, own: 22, children: &[], behind: &[] },
+    Case { kind: 49, own: 21, children: &[NUMBER], behind: &[] },
+    Case { kind: 50, own: NUMBER, children: &[21], behind: &[] },
+    Case { kind: 51, own: UNIT, children: &[21, NUMBER], behind: &[] },
+    Case { kind: 48, own: UNIT, children: &[24], behind: &[] },
+    Case { kind: 46, own: 23, children: &[], behind: &[] },
+    Case { kind: 46, own: 23, children: &[22], behind: &[] },
+    Case { kind: 46, own: 23, children: &[22, 22], behind: &[] },
+    Case { kind: 47, own: 24, children: &[23, UNIT], behind: &[] },
+    Case { kind: 41, own: 20, children: &[NUMBER], behind: &[] },
+    Case { kind: 54, own: 25, children: &[NUMBER, NUMBER], behind: &[] },
+    Case { kind: 55, own: NUMBER, children: &[25], behind: &[0] },
+    Case { kind: 55, own: NUMBER, children: &[25], behind: &[1] },
 ];
 
 /// The number of a type in an image, which gets it if it is new.
@@ -139,7 +152,7 @@ fn at_domain(case: &Case, c: u16, domains: &[u16]) -> Vec<u8> {
     [
         MASKS.iter().flat_map(|mask| record(1, &[*mask])).collect(),
         types.concat(),
-        over_aborts(case.kind, &[], own, &children),
+        over_aborts(case.kind, &[], case.behind, own, &children),
         record(53, &[label]),
         record(45, &[1, n + 1, n]),
         record(52, &[1, c, n + 2]),
@@ -157,7 +170,7 @@ fn lowers(c: u16, p: u16) -> Vec<u8> {
 pub fn domain_rules() -> Vec<Vec<u8>> {
     let mut images: Vec<Vec<u8>> = choices(2, 4).iter().map(|choice| lowers(choice[0], choice[1])).collect();
     for case in &CASES {
-        let carry = |kind: &u16| (20..=24).contains(kind);
+        let carry = |kind: &u16| (20..=25).contains(kind);
         let count = usize::from(carry(&case.own)) + case.children.iter().filter(|kind| carry(kind)).count();
         images.extend(choices(count + 1, 4).iter().map(|choice| at_domain(case, choice[0], &choice[1..])));
     }

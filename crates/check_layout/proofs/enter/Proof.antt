@@ -5,12 +5,13 @@ use mathlib.Core.Option.{none}
 use denote.Ref.{now}
 use Rattle.laws.specs.Tests.{firstFault}
 use Rattle.laws.proofs.Booleans.{no-path, eq-of, of-eq}
-use Rattle.check_records.specs.Codes.{sectionOf, countOf, codeAt, Sized}
+use lib.ListN.{length}
+use Rattle.check_records.specs.Codes.{sectionOf, codeAt, Sized}
 use Rattle.check_records.proofs.Codes.{code-sized}
 use Rattle.check_records.proofs.Heads.{Whole, whole-of}
-use Rattle.check_layout.specs.Fields.{DescriptorFrom}
+use Rattle.check_layout.specs.Fields.{typeCount, DescriptorFrom}
 use Rattle.check_layout.specs.Numbers.{numberTests, toldOf}
-use Rattle.check_layout.proofs.Entering.{full, unknown-entry, fault-entry, kind-narrow, fields-narrow, type-held, domain-room, type-room, term-room, domain-entry, repeated-entry, type-entry, term-entry}
+use Rattle.check_layout.proofs.Entering.{full, placed, unknown-entry, fault-entry, kind-narrow, fields-narrow, type-held, domain-room, type-room, term-room, domain-entry, repeated-entry, type-entry, term-entry}
 use borrow.Author.Needs.{needs}
 use Rattle.check_layout.proofs.enter.Statement.{statement}
 use Rattle.check_layout.proofs.enter.Tie as tie
@@ -77,7 +78,7 @@ abbrev Described : Type 0
 Described = lts.After-descriptor-of claims reads.Pre reads.Post
 
 abbrev start : Known → Start
-start c = c .before .before .before .before .before .before .before .before .before
+start c = c .before .before .before .before .before .before .before .before .before .before
 
 abbrev known-of : Passed → Known
 known-of c = c .before .before .before
@@ -86,8 +87,8 @@ abbrev passed-of : Described → Passed
 passed-of c = c .before .before .before .before .before
 
 -- The record is whole.
-whole : (c : Start) → Whole (c .pre .image) (c .args .at) (c .pre .len) (c .args .kind)
-whole c = whole-of (c .pre .image) (c .args .at) (c .pre .len) (c .args .kind) (c .pre .is .head)
+whole : (c : Start) → Whole (now (c .args .image)) (c .args .at) (c .pre .len) (c .args .kind)
+whole c = whole-of (now (c .args .image)) (c .args .at) (c .pre .len) (c .args .kind) (c .pre .is .head)
 
 -- Its kind is known.
 known : (c : Known) → codeAt (start c .args .kind) ≡ 0 → ⊥
@@ -116,17 +117,17 @@ section c = c .section-of .ensures ∙ ap sectionOf (known-of (c .before .before
 typed : (c : Described) → sectionOf (codeAt (start (known-of (passed-of c)) .args .kind)) ≡ 2
 typed c = sym (section (c .before .before)) ∙ c .before .if3 .taken
 
-described : (c : Described) → let a = start (known-of (passed-of c)) .args in DescriptorFrom (now (a .fields)) (countOf (codeAt (a .kind))) (a .kind) (c .descriptor-of .result)
+described : (c : Described) → let a = start (known-of (passed-of c)) .args in DescriptorFrom (now (a .fields)) (typeCount (codeAt (a .kind)) (length (now (a .fields)))) (a .kind) (c .descriptor-of .result)
 described c =
     let x = known-of (passed-of c) in
     let a = start x .args in
-    subst (λ y. DescriptorFrom (now (a .fields)) (countOf y) (a .kind) (c .descriptor-of .result)) (x .before .code-of .ensures) (c .descriptor-of .ensures)
+    subst (λ y. DescriptorFrom (now (a .fields)) (typeCount y (length (now (a .fields)))) (a .kind) (c .descriptor-of .result)) (x .before .code-of .ensures) (c .descriptor-of .ensures)
 
 code-of-requires : tie.Need-code-of-requires
 code-of-requires c κs = search needs
 
 returns : tie.Need-returns
-returns c = record { in-image = λ b n R. unknown-entry R (sym (c .before .code-of .ensures) ∙ c .if1 .taken) }
+returns c = record { entered = λ n R. unknown-entry R (sym (c .before .code-of .ensures) ∙ c .if1 .taken) }
 
 first-fault-requires : tie.Need-first-fault-requires
 first-fault-requires c κs =
@@ -145,7 +146,7 @@ returns-2 c =
     let x = f .before in
     let a = start x .args in
     let e = ap toldOf (sym (c .before .tested .given .1)) ∙ (f .first-fault .ensures ∙ ap (λ y. firstFault (numberTests (now (a .fields)) y (a .counts))) (x .before .code-of .ensures)) in
-    record { in-image = λ b n R. fault-entry R (known x) _ e }
+    record { entered = λ n R. fault-entry R (known x) _ e }
 
 enum-told : tie.Need-enum-told
 enum-told c = search needs
@@ -182,7 +183,7 @@ returns-3 c =
     let n = p .before .before in
     let i = n .before in
     let t = i .before .before in
-    record { in-image = λ b q R. rw (c .with-term .ensures, p .put-term .ensures, n .next-term .ensures) (term-entry R (known (known-of t)) (passes t) (is-term i)) }
+    record { entered = λ q R. rw (c .with-term .ensures, p .put-term .ensures, n .next-term .ensures) (term-entry R (known (known-of t)) (passes t) (is-term i)) }
 
 section-of-requires : tie.Need-section-of-requires
 section-of-requires c κs = search needs
@@ -212,7 +213,7 @@ put-type-requires c κs =
     let d = s .pre .is .tables .long .types in
     let l = s .pre .is .tables .long .descriptors in
     let e = n .next-type .ensures in
-    (omega arith, omega arith, omega arith, rw e (s .pre .is .filter))
+    (omega arith, omega arith, omega arith, rw e (s .pre .is .filter), rw e (placed (s .pre .is)))
 
 enum-known-new : tie.Need-enum-known-new
 enum-known-new c = search needs
@@ -232,7 +233,7 @@ returns-4 c =
     let n = p .before .before .before .before in
     let k = n .before in
     let t = passed-of k in
-    record { in-image = λ b q R. repeated-entry R (known (known-of t)) (passes t) (typed k) (described k) (rw (n .next-type .ensures) at (p .put-type .ensures)) (c .before .new .given .1) }
+    record { entered = λ q R. repeated-entry R (known (known-of t)) (passes t) (typed k) (described k) (rw (n .next-type .ensures) at (p .put-type .ensures)) (c .before .new .given .1) }
 
 enum-told-2 : tie.Need-enum-told-2
 enum-told-2 c = search needs
@@ -255,7 +256,7 @@ returns-5 c =
     let n = p .before .before .before .before in
     let k = n .before in
     let t = passed-of k in
-    record { in-image = λ b q R. rw (c .with-type .ensures) (type-entry R (known (known-of t)) (passes t) (typed k) (described k) (rw (n .next-type .ensures) at (p .put-type .ensures)) (c .before .enum-told2 .given .1)) }
+    record { entered = λ q R. rw (c .with-type .ensures) (type-entry R (known (known-of t)) (passes t) (typed k) (described k) (rw (n .next-type .ensures) at (p .put-type .ensures)) (c .before .enum-told2 .given .1)) }
 
 next-domain-requires : tie.Need-next-domain-requires
 next-domain-requires c κs = search needs
@@ -288,7 +289,7 @@ returns-6 c =
     let i = n .before in
     let e2 = i .before .before in
     let t = e2 .before .before in
-    record { in-image = λ b q R. rw (c .with-domain .ensures, p .put-domain .ensures, n .next-domain .ensures) (domain-entry R (known (known-of t)) (passes t) (no-term e2) (λ e. i .if3 .left (section (i .before) ∙ e))) }
+    record { entered = λ q R. rw (c .with-domain .ensures, p .put-domain .ensures, n .next-domain .ensures) (domain-entry R (known (known-of t)) (passes t) (no-term e2) (λ e. i .if3 .left (section (i .before) ∙ e))) }
 
 pub enter-spec : {M : Type 1} → statement M
 enter-spec =

@@ -74,7 +74,7 @@ entering f =
     let x = f .before in
     let l = loop-of x in
     let s = start-of l in
-    record { head = head-at x; fields = f .fields-from .ensures; short = s .pre .0 .short; codes = s .pre .0 .codes; tables = l .loop .inv .0 .holds .tables; filter = l .loop .inv .0 .filter }
+    record { head = head-at x; fields = f .fields-from .ensures; short = s .pre .0 .short; codes = s .pre .0 .codes; tables = l .loop .inv .0 .holds .tables; filter = l .loop .inv .0 .filter; reached = l .loop .inv .0 .holds .reached }
 
 none-requires : tie.Need-none-requires Inv-loop μ-loop
 none-requires c κs = search needs
@@ -92,7 +92,7 @@ fields-from-requires : tie.Need-fields-from-requires Inv-loop μ-loop
 fields-from-requires c κs = let W = whole c in (W .long, W .inside)
 
 enter-requires : tie.Need-enter-requires Inv-loop μ-loop
-enter-requires c κs = record { image = _; len = _; is = entering (c .before .before .before .before .before) }
+enter-requires c κs = record { len = _; is = entering (c .before .before .before .before .before) }
 
 enum-known-entered : tie.Need-enum-known-entered Inv-loop μ-loop
 enum-known-entered c = search needs
@@ -115,7 +115,7 @@ same-length-5 c = search needs
 returns : tie.Need-returns Inv-loop μ-loop
 returns c =
     let e = c .before .before .before .before .before .before .before .before .before .before .before .before .before in
-    refuses (loop-of (record-of e) .loop .inv .0) (search needs) (e .enter .ensures .in-image _ _ (entering (fields-at e))) (c .before .entered .given .1)
+    refuses (loop-of (record-of e) .loop .inv .0) (search needs) (e .enter .ensures .entered _ (entering (fields-at e))) (c .before .entered .given .1)
 
 enum-known-entered-2 : tie.Need-enum-known-entered-2 Inv-loop μ-loop
 enum-known-entered-2 c = search needs
@@ -134,7 +134,7 @@ loop-again : tie.Need-loop-again Inv-loop μ-loop
 loop-again c =
     let e = c .before .before .before .before .before .before .before .before .before .before .before .before .before .before in
     let x = record-of e in
-    (rw (c .next-from .ensures) (goes-on (loop-of x .loop .inv .0) (search needs) (e .enter .ensures .in-image _ _ (entering (fields-at e))) (c .before .before .entered2 .given .1) (head-at x)), e .enter .kept .1 .1 .1 .1 .1 .0 ∙ loop-of x .loop .inv .1, e .enter .kept .1 .1 .1 .1 .1 .1 .0 ∙ loop-of x .loop .inv .2, e .enter .kept .1 .1 .1 .1 .1 .1 .1 .0 ∙ loop-of x .loop .inv .3, e .enter .kept .1 .1 .1 .1 .1 .1 .1 .1 .0 ∙ loop-of x .loop .inv .4, e .enter .kept .1 .1 .1 .1 .1 .1 .1 .1 .1 .0 ∙ loop-of x .loop .inv .5)
+    (rw (c .next-from .ensures) (goes-on (loop-of x .loop .inv .0) (search needs) (e .enter .ensures .entered _ (entering (fields-at e))) (c .before .before .entered2 .given .1) (head-at x)), e .enter .kept .1 .1 .1 .1 .1 .1 .0 ∙ loop-of x .loop .inv .1, e .enter .kept .1 .1 .1 .1 .1 .1 .1 .0 ∙ loop-of x .loop .inv .2, e .enter .kept .1 .1 .1 .1 .1 .1 .1 .1 .0 ∙ loop-of x .loop .inv .3, e .enter .kept .1 .1 .1 .1 .1 .1 .1 .1 .1 .0 ∙ loop-of x .loop .inv .4, e .enter .kept .1 .1 .1 .1 .1 .1 .1 .1 .1 .1 .0 ∙ loop-of x .loop .inv .5)
 
 enum-known-head-2 : tie.Need-enum-known-head-2 Inv-loop μ-loop
 enum-known-head-2 c = search needs

@@ -49,12 +49,15 @@ slice-aggregate-run-lent c = search needs
 slice-aggregate-run-lent-2 : tie.Need-slice-aggregate-run-lent-2
 slice-aggregate-run-lent-2 c = search needs
 
+slice-aggregate-run-lent-3 : tie.Need-slice-aggregate-run-lent-3
+slice-aggregate-run-lent-3 c = search needs
+
 run-lent-requires : tie.Need-run-lent-requires
 run-lent-requires c κs =
-    let t = c .before .before .before .before .before .before .checked2 .given .1 in
-    let e = c .before .before .before .before .before .before .before .before .before .before .before .before .examine-image .ensures in
+    let t = c .before .before .before .before .before .before .before .checked2 .given .1 in
+    let e = c .before .before .before .before .before .before .before .before .before .before .before .before .before .examine-image .ensures in
     let f = e .filled _ t in
-    (c .before .before .before .before .before .before .before .before .before .before .before .before .before .before .before .before .before .before .before .if1 .left, sym (e .answer) ∙ ap verdictOf t, (_, f .tables), f .counts)
+    (c .before .before .before .before .before .before .before .before .before .before .before .before .before .before .before .before .before .before .before .before .if1 .left, sym (e .answer) ∙ ap verdictOf t, (_, f .tables), f .counts, rw (← f .counts .types) (f .types))
 
 returns-2 : tie.Need-returns-2
 returns-2 c =
@@ -91,6 +94,7 @@ run-spec =
     enum-known-checked-2
     slice-aggregate-run-lent
     slice-aggregate-run-lent-2
+    slice-aggregate-run-lent-3
     run-lent-requires
     returns-2
     same-length

@@ -28,7 +28,7 @@ enum Field {
     Domain,
     Op,
     Truth,
-    /// A mask, a variable, half a number.
+    /// A mask, a variable, half a number, a method's number.
     Any,
 }
 
@@ -36,13 +36,22 @@ enum Field {
 fn section(kind: u16) -> Option<usize> {
     match kind {
         1 => Some(0),
-        16..=24 => Some(1),
-        32..=53 | 60 => Some(2),
+        16..=25 => Some(1),
+        32..=55 | 60 => Some(2),
         _ => None,
     }
 }
 
-/// The fields of a kind; a pointcut term has as many children as its length says.
+/// Kinds whose length says how often a group of fields stands, so that no bytes may stand behind these (cards 1 and 3).
+const EXACT: [u16; 3] = [25, 46, 54];
+
+/// How often a group of so many bytes stands behind the first ones of a record, if that is from least to 8 times.
+fn groups(length: usize, first: usize, group: usize, least: usize) -> usize {
+    (length.saturating_sub(first) / group).clamp(least, 8)
+}
+
+/// The fields of a kind. A pointcut term has as many children as its length says; so have an object its bodies, and its
+/// type its methods, each a domain and a type.
 fn fields(kind: u16, length: usize) -> Vec<Field> {
     use Field::*;
     match kind {
@@ -60,10 +69,10 @@ fn fields(kind: u16, length: usize) -> Vec<Field> {
         37 | 41 | 48 | 49 | 50 | 60 => vec![Type, Child],
         36 | 39 | 40 | 42 | 45 | 47 | 51 => vec![Type, Child, Child],
         43 => vec![Type, Op, Child, Child],
-        46 => {
-            let labels = (length.saturating_sub(6) / 2).min(8);
-            [Type].into_iter().chain((0..labels).map(|_| Child)).collect()
-        }
+        25 => (0..groups(length, 4, 4, 1)).flat_map(|_| [Domain, Part]).collect(),
+        46 => [Type].into_iter().chain((0..groups(length, 6, 2, 0)).map(|_| Child)).collect(),
+        54 => [Type].into_iter().chain((0..groups(length, 6, 2, 1)).map(|_| Child)).collect(),
+        55 => vec![Type, Child, Any],
         52 => vec![Type, Domain, Child],
         _ => unreachable!("section() knows the kinds"),
     }
@@ -106,7 +115,7 @@ fn record(image: &[u8], offset: usize, before: &Records, current: usize) -> Resu
     let Some(section) = section(kind) else { return refuse(3) };
     let wanted = fields(kind, length);
     let known = 4 + 2 * wanted.len();
-    if length < known || (kind == 46 && length != known) {
+    if length < known || (EXACT.contains(&kind) && length != known) {
         return refuse(4);
     }
     if section < current {

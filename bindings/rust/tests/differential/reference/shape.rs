@@ -7,6 +7,7 @@ pub fn children(record: &Record) -> &[u16] {
     match record.kind {
         32..=35 | 44 | 53 => &[],
         43 | 52 => &record.fields[2..],
+        55 => &record.fields[1..2],
         _ => &record.fields[1..],
     }
 }

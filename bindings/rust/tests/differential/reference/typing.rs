@@ -19,6 +19,8 @@ enum Shape {
     Label(Type, Domain),
     Pointcut(Type, Domain),
     Advice(Domain),
+    /// `methods` has what it is made of.
+    Object,
 }
 
 fn shape(records: &Records, of: Type) -> Shape {
@@ -32,8 +34,24 @@ fn shape(records: &Records, of: Type) -> Shape {
         21 => Shape::Reference(f[0], f[1]),
         22 => Shape::Label(f[0], f[1]),
         23 => Shape::Pointcut(f[0], f[1]),
-        _ => Shape::Advice(f[0]),
+        24 => Shape::Advice(f[0]),
+        _ => Shape::Object,
     }
+}
+
+/// The methods of an object type, each a domain and a type; none of another type (document 02, card 3).
+fn methods(records: &Records, of: Type) -> Vec<(Domain, Type)> {
+    let Record { kind, fields, .. } = &records.types[usize::from(of)];
+    match kind {
+        25 => fields.chunks(2).map(|method| (method[0], method[1])).collect(),
+        _ => vec![],
+    }
+}
+
+/// The method that a call names, if the type of what is called has it.
+fn called(records: &Records, call: &Record) -> Option<(Domain, Type)> {
+    let object = records.terms[usize::from(call.fields[1])].fields[0];
+    methods(records, object).get(usize::from(call.fields[2])).copied()
 }
 
 /// The leaves of each type that is made of unit, truth, number and pairs; parts stand before what is made of them.
@@ -88,6 +106,8 @@ fn type_rule(records: &Records, term: &Record, scope: &[Type]) -> bool {
         51 => is(own, Unit) && matches!(child(0), Reference(a, _) if a == types[1]),
         52 => is(own, Unit) && is(types[0], Unit),
         53 => true,
+        54 => is(own, Object) && methods(records, own).iter().map(|(_, of)| *of).eq(types),
+        55 => called(records, term).is_some_and(|(_, of)| of == own),
         60 => is(own, Number) && is(types[0], Number),
         _ => unreachable!("a term's kind"),
     }
@@ -116,6 +136,7 @@ fn domain_rule(records: &Records, term: &Record, c: usize) -> bool {
         52 => le(usize::from(term.fields[1]), c),
         46 => (0..types.len()).all(|i| le(own(), child(i))),
         47 => le(own(), child(0)),
+        55 => called(records, term).is_some_and(|(p, _)| usize::from(p) == c),
         _ => true,
     }
 }
@@ -154,6 +175,7 @@ fn inside(records: &Records, term: &Record, i: usize, c: usize) -> (usize, Vec<T
             _ => unreachable!("the type rule of advice"),
         },
         (52, 0, _) => (usize::from(term.fields[1]), vec![]),
+        (54, _, Shape::Object) => (usize::from(methods(records, own)[i].0), vec![own]),
         _ => (c, vec![]),
     }
 }

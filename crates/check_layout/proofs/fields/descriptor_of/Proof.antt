@@ -10,8 +10,8 @@ use mathlib.Core.Path.{_≡_, _∙_, ap}
 use Rattle.check_layout.proofs.fields.descriptor_of.Statement.{statement}
 use Rattle.check_layout.proofs.fields.descriptor_of.Tie as tie
 
-field-count-requires : tie.Need-field-count-requires
-field-count-requires c κs = search needs
+type-count-requires : tie.Need-type-count-requires
+type-count-requires c κs = search needs
 
 field-or-0-requires : tie.Need-field-or-0-requires
 field-or-0-requires c κs = search needs
@@ -31,7 +31,7 @@ descriptor-with-requires c κs =
     let f1 = c .before in
     let f0 = f1 .before in
     let s = f0 .before .before .before in
-    let n = f0 .before .field-count .ensures in
+    let n = f0 .before .type-count .ensures in
     let h = small (now (s .args .fields)) _ _ in
     (s .pre .1, h 0 _ (s .pre .2) n (f0 .field-or-0 .ensures), h 1 _ (s .pre .2) n (f1 .field-or-02 .ensures), h 2 _ (s .pre .2) n (c .field-or-03 .ensures))
 
@@ -41,7 +41,7 @@ returns c =
     let f1 = f2 .before in
     let f0 = f1 .before in
     let a = f0 .before .before .before .args in
-    let n = f0 .before .field-count .ensures in
+    let n = f0 .before .type-count .ensures in
     let q = descriptor-with-requires f2 (c .descriptor-with .lifetimes) in
     let m = made (a .kind) (f0 .field-or-0 .result) (f1 .field-or-02 .result) (f2 .field-or-03 .result) (q .0) (q .1) (q .2) in
     record {
@@ -55,7 +55,7 @@ pub descriptor-of-spec : {M : Type 1} → statement M
 descriptor-of-spec =
     tie.close
     (tie.spec
-    field-count-requires
+    type-count-requires
     field-or-0-requires
     field-or-0-requires-2
     field-or-0-requires-3

@@ -3,9 +3,9 @@ use mathlib.Core.Path.{_≡_}
 use mathlib.Core.Bool.{true, false}
 use mathlib.Core.Logic.{⊎-elim}
 use denote.Ref.{now}
-use Rattle.check_layout.specs.Numbers.{newDescriptor}
+use Rattle.check_layout.specs.Numbers.{newType}
 use Rattle.check_layout.proofs.Numbers.{yes-of, no-of, repeated, not-repeated}
-use Rattle.check_layout.proofs.Filter.{unseen}
+use Rattle.check_layout.proofs.Filter.{unseen-type}
 use borrow.Author.Needs.{needs}
 use Rattle.check_layout.proofs.places.put_type.Statement.{statement}
 use Rattle.check_layout.proofs.places.put_type.Tie as tie
@@ -16,16 +16,19 @@ cast-remainder c = search needs
 slice-read-if1 : tie.Need-slice-read-if1
 slice-read-if1 c = search needs
 
-is-new-requires : tie.Need-is-new-requires
-is-new-requires c κs = search needs
+is-new-type-requires : tie.Need-is-new-type-requires
+is-new-type-requires c κs = search needs
 
 same-length : tie.Need-same-length
 same-length c = search needs
 
+same-length-2 : tie.Need-same-length-2
+same-length-2 c = search needs
+
 returns : tie.Need-returns
 returns c =
-    let a = c .before .before .before .before .before .before .before .before .args in
-    let h : newDescriptor (a .t .0) (now (a .descriptors)) (a .descriptor) ≡ false = no-of _ _ (c .before .is-new .ensures) (c .if2 .taken) in
+    let a = c .before .before .before .before .before .before .before .before .before .before .before .args in
+    let h : newType (now (a .image)) (now (a .fields)) (a .t .0) (now (a .types)) (now (a .descriptors)) (a .descriptor) ≡ false = no-of _ _ (c .before .is-new-type .ensures) (c .if2 .taken) in
     record { answer = repeated _ h; types = rw h; descriptors = rw h; filter = rw h }
 
 cast-i : tie.Need-cast-i
@@ -49,20 +52,20 @@ slice-write-descriptors c = search needs
 slice-write-filter : tie.Need-slice-write-filter
 slice-write-filter c = search needs
 
-same-length-2 : tie.Need-same-length-2
-same-length-2 c = search needs
-
 same-length-3 : tie.Need-same-length-3
 same-length-3 c = search needs
 
 same-length-4 : tie.Need-same-length-4
 same-length-4 c = search needs
 
+same-length-5 : tie.Need-same-length-5
+same-length-5 c = search needs
+
 returns-2 : tie.Need-returns-2
 returns-2 c =
-    let s = c .before .before .before .before .before .before in
+    let s = c .before .before .before .before .before .before .before .before in
     let a = s .args in
-    let h : newDescriptor (a .t .0) (now (a .descriptors)) (a .descriptor) ≡ true = ⊎-elim (λ w. yes-of _ _ (w .2 .ensures) (w .3 .left)) (λ w. unseen (s .pre .3) (a .descriptor) (w .left)) (c .before .if1 .came) in
+    let h : newType (now (a .image)) (now (a .fields)) (a .t .0) (now (a .types)) (now (a .descriptors)) (a .descriptor) ≡ true = ⊎-elim (λ w. yes-of _ _ (w .3 .ensures) (w .4 .left)) (λ w. unseen-type (s .pre .3) (a .descriptor) (now (a .image)) (now (a .fields)) (now (a .types)) (w .left)) (c .before .if1 .came) in
     record { answer = not-repeated _ h; types = rw h; descriptors = rw h; filter = rw h }
 
 pub put-type-spec : {M : Type 1} → statement M
@@ -71,8 +74,9 @@ put-type-spec =
     (tie.spec
     cast-remainder
     slice-read-if1
-    is-new-requires
+    is-new-type-requires
     same-length
+    same-length-2
     returns
     cast-i
     cast-types
@@ -81,7 +85,7 @@ put-type-spec =
     mul-descriptors
     slice-write-descriptors
     slice-write-filter
-    same-length-2
     same-length-3
     same-length-4
+    same-length-5
     returns-2)

@@ -12,6 +12,9 @@ use Rattle.check_rules.proofs.Elimination.{none-below}
 labels-in-requires : tie.Need-labels-in-requires
 labels-in-requires c κs = search needs
 
+bodies-in-requires : tie.Need-bodies-in-requires
+bodies-in-requires c κs = search needs
+
 returns : tie.Need-returns
 returns c = λ k e. ap (countIn (now (c .before .before .args .fields))) (same-term-kind TermKind.seq k (sym (c .match .keys1) ∙ e))
 
@@ -64,13 +67,20 @@ returns-17 : tie.Need-returns-17
 returns-17 c = λ k e. ap (countIn (now (c .before .before .args .fields))) (same-term-kind TermKind.byte k (sym (c .match .keys17) ∙ e))
 
 returns-18 : tie.Need-returns-18
-returns-18 c = λ k e. sym (none-below (now (c .before .before .args .fields)) _ (c .match .rest) k e)
+returns-18 c = λ k e. c .bodies-in .ensures ∙ ap (countIn (now (c .before .before .before .args .fields))) (same-term-kind TermKind.obj k (sym (c .before .match .keys18) ∙ e))
+
+returns-19 : tie.Need-returns-19
+returns-19 c = λ k e. ap (countIn (now (c .before .before .args .fields))) (same-term-kind TermKind.call k (sym (c .match .keys19) ∙ e))
+
+returns-20 : tie.Need-returns-20
+returns-20 c = λ k e. sym (none-below (now (c .before .before .args .fields)) _ (c .match .rest) k e)
 
 pub child-count-spec : {M : Type 1} → statement M
 child-count-spec =
     tie.close
     (tie.spec
     labels-in-requires
+    bodies-in-requires
     returns
     returns-2
     returns-3
@@ -88,4 +98,6 @@ child-count-spec =
     returns-15
     returns-16
     returns-17
-    returns-18)
+    returns-18
+    returns-19
+    returns-20)

@@ -26,14 +26,14 @@ module _ (t : ℕ) where
 
   check-leaf-requires : lts.Need-check-leaf-requires (claims t) (check-term-at t) reads.Post Inv-loop μ-loop
   check-leaf-requires c κs =
-      let s = c .before .before .before .before .before .before in
+      let s = c .before .before .before .before .before .before .before in
       let r = two-more (s .pre .1 .3) (s .pre .1 .1) in
       (s .pre .1 .0, s .pre .1 .1, leb-true _ _ (sym (c .before .before .is-leaf .ensures) ∙ c .before .if1 .taken), omega arith)
 
   -- A constant or a variable is checked by its rule alone.
   returns : lts.Need-returns (claims t) (check-term-at t) reads.Post Inv-loop μ-loop
   returns c =
-      let s = c .before .before .before .before .before .before .before in (
+      let s = c .before .before .before .before .before .before .before .before in (
         c .check-leaf .ensures (s .args .c .0) ∙ leaf-checked (s .pre .1 .0 .terms) (s .pre .1 .1) (setting-of s) (leb-true _ _ (sym (c .before .before .before .is-leaf .ensures) ∙ c .before .before .if1 .taken)),
         refl,
         refl,
@@ -41,8 +41,8 @@ module _ (t : ℕ) where
 
   check-rule-requires : lts.Need-check-rule-requires (claims t) (check-term-at t) reads.Post Inv-loop μ-loop
   check-rule-requires c κs =
-      let s = c .before .before .before .before .before in
-      (s .pre .1 .0, s .pre .1 .1, leb-false _ _ (sym (c .before .is-leaf .ensures) ∙ c .if1 .left), s .pre .1 .2)
+      let s = c .before .before .before .before .before .before in
+      (s .pre .1 .0, s .pre .1 .4, s .pre .1 .1, leb-false _ _ (sym (c .before .is-leaf .ensures) ∙ c .if1 .left), s .pre .1 .2)
 
   is-refused-requires : lts.Need-is-refused-requires (claims t) (check-term-at t) reads.Post Inv-loop μ-loop
   is-refused-requires c κs = search needs
@@ -50,7 +50,7 @@ module _ (t : ℕ) where
   -- The term itself is refused.
   returns-2 : lts.Need-returns-2 (claims t) (check-term-at t) reads.Post Inv-loop μ-loop
   returns-2 c =
-      let s = c .before .before .before .before .before .before .before .before in
+      let s = c .before .before .before .before .before .before .before .before .before in
       let v = c .before .before .check-rule in (
         refused-here (s .pre .1 .0 .terms) (s .pre .1 .1) (setting-of s) (v .result) (v .ensures (contextIn (now (s .args .scope)) (s .args .len))) (sym (c .before .is-refused .ensures) ∙ c .if2 .taken),
         refl,
@@ -97,13 +97,13 @@ module _ (t : ℕ) where
       let l = c .before .before .before in
       let d = l .before in
       let h = c .before .before .loop-test .taken in
-      (start-of d .pre .1 .0, λ m e. let k = d .before .child-count .ensures m e in (passed l m (kinded d m e), omega arith))
+      (start-of d .pre .1 .0, λ m e. let k = d .before .child-count .ensures m e in (passed l m (kinded d m e), omega arith), start-of d .pre .1 .4)
 
   check-term-requires : lts.Need-check-term-requires (claims t) (check-term-at t) reads.Post Inv-loop μ-loop
   check-term-requires c κs =
       let x = c .before in
       let s = parent-of x in
-      (rw (← s .pre .0) (lower x), (s .pre .1 .0, inside x, s .pre .1 .2, room x))
+      (rw (← s .pre .0) (lower x), (s .pre .1 .0, inside x, s .pre .1 .2, room x, s .pre .1 .4))
 
   is-refused-requires-2 : lts.Need-is-refused-requires-2 (claims t) (check-term-at t) reads.Post Inv-loop μ-loop
   is-refused-requires-2 c κs = search needs

@@ -16,10 +16,10 @@ returns c = shape-refuses _ _ (c .before .before .check-shape .ensures) (sym (c 
 
 check-typing-requires : tie.Need-check-typing-requires
 check-typing-requires c κs =
-    let p = c .before .before .before .before .before .before .before .before .pre in
+    let p = c .before .before .before .before .before .before .before .before .before .pre in
     let v = c .before .before .check-shape .ensures in
     let a = sym (c .before .is-refused .ensures) ∙ c .if1 .left in
-    (p .1, p .2, shaped _ _ v a)
+    (p .1, p .2, shaped _ _ v a, p .3)
 
 returns-2 : tie.Need-returns-2
 returns-2 c = typing-decides _ _ _ (c .before .before .before .check-shape .ensures) (sym (c .before .before .is-refused .ensures) ∙ c .before .if1 .left) (c .check-typing .ensures)

@@ -1,4 +1,5 @@
 -- `validator::examine::examine_image` meets its contract: the scan stopped, or its tables are what the checks of the records ask.
+use Rattle.validator.proofs.Filling.{offsets-held}
 use Rattle.validator.proofs.Passes.{stopped-answer, laid-tables, checked-answer}
 use borrow.Author.Needs.{needs}
 use Rattle.validator.proofs.examine.examine_image.Statement.{statement}
@@ -15,9 +16,8 @@ enum-known-scanned-2 c = search needs
 
 check-laid-out-requires : tie.Need-check-laid-out-requires
 check-laid-out-requires c κs =
-    let s = c .before .before .before .before .before .before .before .before .before .before .before .before .before .before .before .before .before .before .before .before .before .before .before .before .before .pre in
-    let f = laid-tables _ _ _ _ _ _ (s .short) (c .before .before .before .before .before .before .before .before .before .before .before .before .before .before .scan-records .ensures) _ (c .before .before .before .before .scanned2 .given .1) in
-    (s .codes, f .tables, f .counts)
+    let f = laid-tables _ _ _ _ _ _ (c .before .before .before .before .before .before .before .before .before .before .before .before .before .before .before .before .before .before .before .before .before .before .before .before .before .before .pre .short) (c .before .before .before .before .before .before .before .before .before .before .before .before .before .before .before .scan-records .ensures) _ (c .before .before .before .before .before .scanned2 .given .1) in
+    (c .before .before .before .before .before .before .before .before .before .before .before .before .before .before .before .before .before .before .before .before .before .before .before .before .before .before .pre .codes, f .tables, f .counts, offsets-held f)
 
 with-counts-requires : tie.Need-with-counts-requires
 with-counts-requires c κs = search needs
@@ -50,7 +50,7 @@ same-length-8 : tie.Need-same-length-8
 same-length-8 c = search needs
 
 returns-2 : tie.Need-returns-2
-returns-2 c = checked-answer _ _ _ _ _ _ (c .before .before .before .before .before .before .before .before .before .before .before .before .before .before .before .before .before .before .before .before .before .before .before .before .before .before .before .pre .short) (c .before .before .before .before .before .before .before .before .before .before .before .before .before .before .before .before .scan-records .ensures) _ (c .before .before .before .before .before .before .scanned2 .given .1) _ _ (c .before .check-laid-out .ensures) (c .with-counts .ensures)
+returns-2 c = checked-answer _ _ _ _ _ _ (c .before .before .before .before .before .before .before .before .before .before .before .before .before .before .before .before .before .before .before .before .before .before .before .before .before .before .before .before .pre .short) (c .before .before .before .before .before .before .before .before .before .before .before .before .before .before .before .before .before .scan-records .ensures) _ (c .before .before .before .before .before .before .before .scanned2 .given .1) _ _ (c .before .check-laid-out .ensures) (c .with-counts .ensures)
 
 pub examine-image-spec : {M : Type 1} → statement M
 examine-image-spec =

@@ -38,7 +38,7 @@ returns c =
     let s = d .before .before .before .before in
     let a = s .args in
     child-made (record { code = now (a .code); image = now (a .image) }) (now (a .work)) _ (a .r) _ (a .w) _ _ _ _ (record { count = a .done .count; digits = a .done .digits })
-    (c .before .before .same .ensures) (d .depth-of .ensures) refl (search needs) (c .before .child-at .ensures .0) (c .entry-from .ensures (now (a .image))) (c .before .before .before .before .before .put-digits .ensures)
+    (c .before .before .same .ensures) (d .depth-of .ensures) refl (search needs) (c .before .child-at .ensures .0) (c .entry-from .ensures .0 (now (a .image))) (c .before .before .before .before .before .put-digits .ensures)
 
 pub begin-child-spec : {M : Type 1} → statement M
 begin-child-spec =

@@ -1,8 +1,8 @@
--- The three cases of a descriptor's domain.
+-- The four cases of a descriptor's domain.
 use borrow.Author.Needs.{needs}
 use native.Mathlib.Omega.{arith}
 use mathlib.Core.Path.{sym, _∙_}
-use Rattle.vm_terms.proofs.Noted.{advice-domain, second-domain, no-domain}
+use Rattle.vm_terms.proofs.Noted.{advice-domain, object-domain, second-domain, no-domain}
 use Rattle.vm_terms.proofs.descriptors.domain_of.Statement.{statement}
 use Rattle.vm_terms.proofs.descriptors.domain_of.Tie as tie
 
@@ -20,20 +20,23 @@ returns c =
     let w = c .before .before in
     (c .wide .ensures .0 ∙ (c .before .descriptor-field0 .ensures ∙ advice-domain _ (sym (w .before .descriptor-kind .ensures) ∙ w .if1 .taken)), c .wide .ensures .1)
 
+returns-2 : tie.Need-returns-2
+returns-2 c = (object-domain (c .before .before .before .args .descriptor) (omega (arith, c .before .before .descriptor-kind .ensures, c .if2 .taken)), omega arith)
+
 descriptor-field1-requires : tie.Need-descriptor-field1-requires
 descriptor-field1-requires c κs = search needs
 
 wide-requires-2 : tie.Need-wide-requires-2
 wide-requires-2 c κs = search needs
 
-returns-2 : tie.Need-returns-2
-returns-2 c =
-    let w = c .before .before in
-    let e = w .before .before .descriptor-kind .ensures in
-    (c .wide2 .ensures .0 ∙ (c .before .descriptor-field1 .ensures ∙ second-domain _ (λ q. w .before .if1 .left (e ∙ q)) (omega (arith, e, w .if2 .taken))), c .wide2 .ensures .1)
-
 returns-3 : tie.Need-returns-3
-returns-3 c = (no-domain (c .before .before .before .args .descriptor) (omega (arith, c .before .before .descriptor-kind .ensures, c .if2 .left)), omega arith)
+returns-3 c =
+    let w = c .before .before in
+    let e = w .before .before .before .descriptor-kind .ensures in
+    (c .wide2 .ensures .0 ∙ (c .before .descriptor-field1 .ensures ∙ second-domain _ (λ q. w .before .before .if1 .left (e ∙ q)) (omega (arith, e, w .before .if2 .left)) (omega (arith, e, w .if3 .taken))), c .wide2 .ensures .1)
+
+returns-4 : tie.Need-returns-4
+returns-4 c = (no-domain (c .before .before .before .before .args .descriptor) (omega (arith, c .before .before .before .descriptor-kind .ensures, c .if3 .left)), omega arith)
 
 pub domain-of-spec : {M : Type 1} → statement M
 domain-of-spec =
@@ -43,7 +46,8 @@ domain-of-spec =
     descriptor-field0-requires
     wide-requires
     returns
+    returns-2
     descriptor-field1-requires
     wide-requires-2
-    returns-2
-    returns-3)
+    returns-3
+    returns-4)

@@ -17,16 +17,16 @@ use Rattle.check_typing.proofs.scope.child_setting.Reads as child-setti
 use Rattle.verdict.proofs.is_refused.Reads as is-refused-reads
 
 -- The term number falls.
-abbrev pub μ-check-term : Measures 5 check-term-kinds.ps ℕ
+abbrev pub μ-check-term : Measures 6 check-term-kinds.ps ℕ
 μ-check-term κs a = a .1 .1 .1 .0 .0
 
-abbrev pub check-term-at : ℕ → In 5 check-term-kinds.ps
+abbrev pub check-term-at : ℕ → In 6 check-term-kinds.ps
 check-term-at t =
-    and 5 check-term-kinds.ps (is 5 check-term-kinds.ps μ-check-term t) check-term.Pre
+    and 6 check-term-kinds.ps (is 6 check-term-kinds.ps μ-check-term t) check-term.Pre
 
-abbrev pub check-term-below : ℕ → In 5 check-term-kinds.ps
+abbrev pub check-term-below : ℕ → In 6 check-term-kinds.ps
 check-term-below t =
-    and 5 check-term-kinds.ps (falls 5 check-term-kinds.ps _<_ μ-check-term t) check-term.Pre
+    and 6 check-term-kinds.ps (falls 6 check-term-kinds.ps _<_ μ-check-term t) check-term.Pre
 
 abbrev pub claims : ℕ → lts.Claims
 claims t = (

@@ -29,12 +29,12 @@ use Rattle.check_typing.proofs.ScopeRoom.{two-more, child-room}
 
 -- The children before child j pass, and the first places of the scope are kept.
 abbrev pub Inv-loop : lts.InvT-loop
-Inv-loop image terms descriptors masks scope₀ len kind fields k lead here j₀ scope j =
+Inv-loop image terms descriptors masks scope₀ len types kind fields k lead here j₀ scope j =
     (j ≤ k) × (length scope ≡ length scope₀) × (take len scope ≡ take len scope₀)
     × ((m : TermKind) → kind ≡ termRow m .number → front image fields m (settingIn scope₀ len (here .dom .0)) j ≡ Verdict.Accepted)
 
 abbrev pub μ-loop : lts.MeasureT-loop
-μ-loop image terms descriptors masks scope₀ len kind fields k lead here j₀ scope j = k - j
+μ-loop image terms descriptors masks scope₀ len types kind fields k lead here j₀ scope j = k - j
 
 -- The places that the proof goes back to: the start, the term that has passed its rule, a turn of the loop, and a child where it stands.
 abbrev pub Term : ℕ → Type 0
@@ -67,7 +67,7 @@ module _ {t : ℕ} where
   asked-of s = checked (recordsOf (image-of s)) (setting-of s) (s .args .n .0)
 
   abbrev pub term-of : Ruled t → Term t
-  term-of c = c .before .before .before .before .before .before .before .before
+  term-of c = c .before .before .before .before .before .before .before .before .before
 
   -- Its rule is passed, whatever the variables are.
   pub ruled : (c : Ruled t) (Γ : List ℕ) → ruleVerdict (recordsOf (image-of (term-of c))) (record { context = Γ; dom = term-of c .args .c .0 }) (term-of c .args .n .0) ≡ Verdict.Accepted
@@ -126,7 +126,7 @@ module _ {t : ℕ} where
   parent-of c = start-of (turn-of c .before)
 
   abbrev pub scope-of : Child t → List ℕ
-  scope-of c = c .before .child-setting .last .1 .1 .1 .0
+  scope-of c = c .before .child-setting .last .1 .1 .1 .1 .0
 
   abbrev pub len-of : Child t → ℕ
   len-of c = c .before .child-setting .result .len

@@ -1,0 +1,93 @@
+// 8, where a type may have more fields than its descriptor: the types of objects (document 02, card 3).
+use crate::tests::is_new;
+use check_records::fields::field;
+use check_records::numbers::TypeNo;
+use check_records::numbers::descriptor_kind;
+use check_records::numbers::type_descriptor;
+use check_records::numbers::type_offset;
+use check_records::reader::fields_at;
+ghost use mathlib.Core.Path.{_≡_};
+ghost use Prim.Native.Nat.{_≤_, _<_};
+ghost use lib.ListN.{length, getD};
+ghost use Rattle.check_records.specs.Heads.{IsWhole};
+ghost use Rattle.check_layout.specs.Numbers.{sameFields, sameObject, newObject, newType};
+ghost use Rattle.check_layout.specs.Tables.{Placed};
+
+// The kind of an object's type.
+const OBJECT_TYPE: u16 = 25;
+
+// The fields of two records have the same length and the same numbers.
+fn same_fields(a: &[u8], b: &[u8]) -> bool
+    ensures { λ r. ⌜ r ≡ sameFields (now (a .entry)) (now (b .entry)) ⌝ }
+{
+    if a.len() != b.len() {
+        return false;
+    }
+    let n = a.len() / 2;
+    let mut i: usize = 0;
+    while i < n {
+        if field(a, i) != field(b, i) {
+            return false;
+        }
+        i += 1;
+    }
+    true
+}
+
+// Type u has this descriptor and these fields.
+fn is_same_object(
+    image: &[u8],
+    fields: &[u8],
+    descriptor: u32,
+    u: TypeNo,
+    types: &[u16],
+    descriptors: &[u32],
+) -> bool
+    requires { ⌜ (u .0 < length (now types)) × (u .0 < length (now descriptors)) × IsWhole (now image) (getD (now types) (u .0) 0) ⌝ }
+    ensures { λ r. ⌜ r ≡ sameObject (now (image .entry)) (now (fields .entry)) (now (types .entry)) (now (descriptors .entry)) descriptor (u .0) ⌝ }
+{
+    if descriptor == type_descriptor(descriptors, u) {
+        return same_fields(fields, fields_at(image, type_offset(types, u)));
+    }
+    false
+}
+
+// No type before t has this descriptor and these fields.
+fn is_new_object(
+    image: &[u8],
+    fields: &[u8],
+    descriptor: u32,
+    t: TypeNo,
+    types: &[u16],
+    descriptors: &[u32],
+) -> bool
+    requires { ⌜ (t .0 ≤ length (now types)) × (t .0 ≤ length (now descriptors)) × Placed (now image) (t .0) (now types) ⌝ }
+    ensures { λ r. ⌜ r ≡ newObject (now (image .entry)) (now (fields .entry)) (t .0) (now (types .entry)) (now (descriptors .entry)) descriptor ⌝ }
+{
+    let mut i: u16 = 0;
+    while i < t.0 {
+        if is_same_object(image, fields, descriptor, TypeNo(i), types, descriptors) {
+            return false;
+        }
+        i += 1;
+    }
+    true
+}
+
+// No type before t is equal to the one with this descriptor and these fields.
+pub fn is_new_type(
+    image: &[u8],
+    fields: &[u8],
+    descriptor: u32,
+    t: TypeNo,
+    types: &[u16],
+    descriptors: &[u32],
+) -> bool
+    requires { ⌜ (t .0 ≤ length (now types)) × (t .0 ≤ length (now descriptors)) × Placed (now image) (t .0) (now types) ⌝ }
+    ensures { λ r. ⌜ r ≡ newType (now (image .entry)) (now (fields .entry)) (t .0) (now (types .entry)) (now (descriptors .entry)) descriptor ⌝ }
+{
+    if descriptor_kind(descriptor) == OBJECT_TYPE {
+        return is_new_object(image, fields, descriptor, t, types, descriptors);
+    }
+    is_new(descriptors, t, descriptor)
+}

@@ -1,0 +1,46 @@
+use denote.Ref.{now}
+use Rattle.vm_reductions.proofs.Reduced.{call-made, no-call-made}
+use borrow.Author.Needs.{needs}
+use Rattle.vm_reductions.proofs.calls.call_body.Statement.{statement}
+use Rattle.vm_reductions.proofs.calls.call_body.Tie as tie
+
+function-env-requires : tie.Need-function-env-requires
+function-env-requires c κs = search needs
+
+bind-requires : tie.Need-bind-requires
+bind-requires c κs = search needs
+
+called-requires : tie.Need-called-requires
+called-requires c κs = search needs
+
+add-m : tie.Need-add-m
+add-m c = search needs
+
+sub-q : tie.Need-sub-q
+sub-q c = search needs
+
+same-length : tie.Need-same-length
+same-length c = search needs
+
+returns : tie.Need-returns
+returns c = let a = c .before .before .before .before .before .before .before .before .before .before .before .before .before .before .args in λ image. call-made (record { code = now (a .code); image = image }) (now (a .work)) _ _ (a .r) _ (a .w) (a .x) (a .g) _ (c .before .before .before .before .before .before .before .before .before .before .before .if1 .taken) (c .before .before .before .before .before .before .before .before .before .function-env .ensures) (c .before .before .before .before .before .before .before .before .bind .ensures) (c .before .before .before .before .called .ensures image)
+
+halt-requires : tie.Need-halt-requires
+halt-requires c κs = search needs
+
+returns-2 : tie.Need-returns-2
+returns-2 c = let a = c .before .before .before .before .args in λ image. no-call-made (record { code = now (a .code); image = image }) (now (a .work)) (now (a .work)) (now (a .work)) (a .r) _ (a .w) (a .x) (a .g) (c .before .if1 .left) (c .halt .ensures)
+
+pub call-body-spec : {M : Type 1} → statement M
+call-body-spec =
+    tie.close
+    (tie.spec
+    function-env-requires
+    bind-requires
+    called-requires
+    add-m
+    sub-q
+    same-length
+    returns
+    halt-requires
+    returns-2)
