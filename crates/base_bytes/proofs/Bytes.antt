@@ -1,14 +1,14 @@
 -- Laws of numbers in bytes, and of bytes written over others.
 use Prim.Native.Nat.{ℕ, zero, suc, _+_, _*_, _/_, _%_, _^_, _≤_, _<_}
 use native.Mathlib.Omega.{arith}
-use native.Mathlib.Nat.{add-suc, mod-one, mod-eq-of-lt, div-div-eq-div-mul}
+use native.Mathlib.Nat.{zero-add, suc-add, add-suc, mod-one, mod-eq-of-lt, div-div-eq-div-mul}
 use native.Mathlib.Numerals.{add-one}
 use mathlib.Core.Path.{_≡_, refl, sym, ap, _∙_}
-use mathlib.Core.List.{List, [], _∷_}
+use mathlib.Core.List.{List, [], _∷_, _++_}
 use lib.Arith.{mod-mul}
 use lib.ListN.{length, getD, take, drop, set}
 use lib.Seq.{sets, sets-eq, drop-cons}
-use Rattle.base_bytes.specs.Bytes.{bytesOf, numberOf, over}
+use Rattle.base_bytes.specs.Bytes.{AreBytes, bytesOf, numberOf, over}
 
 pub length-bytes : (k n : ℕ) → length (bytesOf k n) ≡ k
 unfolding bytesOf
@@ -77,3 +77,26 @@ bytes4 n = simp div-div-eq-div-mul
 pub bytes8 : (n : ℕ) → n % 256 ∷ n / 256 % 256 ∷ n / 65536 % 256 ∷ n / 16777216 % 256 ∷ n / 4294967296 % 256 ∷ n / 1099511627776 % 256 ∷ n / 281474976710656 % 256 ∷ n / 72057594037927936 % 256 ∷ [] ≡ bytesOf 8 n
 unfolding bytesOf
 bytes8 n = simp div-div-eq-div-mul
+
+-- A number in two parts, in bytes: those of the low part, then those of the high one.
+pub bytes-parts : (a b low high : ℕ) → low < 256 ^ a → bytesOf (a + b) (low + 256 ^ a * high) ≡ bytesOf a low ++ bytesOf b high
+unfolding bytesOf
+bytes-parts zero b low high h =
+    let e : low + 256 ^ 0 * high ≡ high = omega arith in
+    rw (zero-add, e)
+bytes-parts (suc a) b low high h =
+    let p : 256 ^ suc a ≡ 256 ^ a * 256 = omega arith in
+    let n : low + 256 ^ suc a * high ≡ low + 256 * (256 ^ a * high) = rw p (omega arith) in
+    let d : (low + 256 * (256 ^ a * high)) / 256 ≡ low / 256 + 256 ^ a * high = omega arith in
+    let m : (low + 256 * (256 ^ a * high)) % 256 ≡ low % 256 = omega arith in
+    rw (suc-add, n, d, m) (ap (λ (x : List ℕ). low % 256 ∷ x) (bytes-parts a b (low / 256) high (omega arith)))
+
+-- Bytes are those of the number that they hold.
+pub bytes-back : (b : List ℕ) → AreBytes b → bytesOf (length b) (numberOf b) ≡ b
+unfolding bytesOf numberOf
+bytes-back [] h = refl
+bytes-back (a ∷ b) h =
+    let s : a < 256 = h 0 in
+    let d : (a + 256 * numberOf b) / 256 ≡ numberOf b = omega arith in
+    let m : (a + 256 * numberOf b) % 256 ≡ a = omega arith in
+    rw (d, m) (ap (λ (x : List ℕ). a ∷ x) (bytes-back b (λ i. h (suc i))))

@@ -45,7 +45,7 @@ words-store (suc n) b (suc i) v h l f =
     let m = length-drop 8 b in
     ap₂ (λ x y. numberOf x ∷ words n y) t d ∙ ap (numberOf (take 8 b) ∷_) (words-store n (drop 8 b) i v (omega arith) (omega arith) f)
 
-take-of-drop : (k m : ℕ) (b : List ℕ) → take m (drop k b) ≡ drop k (take (k + m) b)
+pub take-of-drop : (k m : ℕ) (b : List ℕ) → take m (drop k b) ≡ drop k (take (k + m) b)
 take-of-drop zero m b = rw zero-add
 take-of-drop (suc k) m [] = take-nil m ∙ ap (drop (suc k)) (sym (take-nil (suc k + m)))
 take-of-drop (suc k) m (x ∷ b) = rw suc-add (take-of-drop k m b)

@@ -1,7 +1,11 @@
 -- Numbers in bytes, little-endian (document 01, "The image"), and bytes written over others.
-use Prim.Native.Nat.{ℕ, zero, suc, _+_, _*_, _/_, _%_}
+use Prim.Native.Nat.{ℕ, zero, suc, _+_, _*_, _/_, _%_, _<_}
 use mathlib.Core.List.{List, [], _∷_, _++_}
-use lib.ListN.{length, take, drop, replicate}
+use lib.ListN.{length, getD, take, drop, replicate}
+
+-- A list of bytes, as lent memory is.
+abbrev pub AreBytes : List ℕ → Type 0
+AreBytes b = (i : ℕ) → getD b i 0 < 256
 
 -- The k low bytes of a number, lowest first.
 unfoldable pub bytesOf : ℕ → ℕ → List ℕ

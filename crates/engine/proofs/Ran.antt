@@ -14,7 +14,7 @@ use Rattle.verdict.proofs.Passed.{passed-iff}
 use Rattle.check_records.specs.Tables.{Tables}
 use Rattle.check_rules.specs.Lent.{Types}
 use Rattle.check_rules.proofs.Located.{good-of}
-use Rattle.base_bytes.specs.Bytes.{over, cleared}
+use Rattle.base_bytes.specs.Bytes.{AreBytes, over, cleared}
 use Rattle.base_bytes.specs.Memory.{wordCount}
 use Rattle.base_bytes.proofs.Memory.{length-words, length-beside}
 use Rattle.vm_code.specs.Words.{home}
@@ -24,7 +24,6 @@ use Rattle.vm_machine.specs.Memory.{Memory}
 use Rattle.vm_machine.specs.States.{State}
 use Rattle.vm_machine.specs.Run.{startState, turnsFor, vmRun}
 use Rattle.vm_machine.specs.Fits.{Safe}
-use Rattle.vm_linked.specs.TableOf.{AreBytes}
 use Rattle.vm_fusion.specs.Sequences.{Fused}
 use Rattle.vm_fuse.proofs.Laws.{zeros-fused}
 use Rattle.vm_tables.specs.View.{memoryOf}

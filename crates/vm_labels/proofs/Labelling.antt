@@ -125,7 +125,7 @@ module _ (C : Program) (a b : List ℕ) (r q : Regs) (t i d : ℕ) (k : Taken) (
 
 -- Where its children go on.
 pub resumed-part : (C : Program) (M : Memory) (resumed : Bool) (f : ℕ) (r : Regs) (pc env d n x y m : ℕ) → resumed ≡ true → pc ≡ slotPc f → env ≡ slotEnv f → d ≡ digitsAt M (r .room) f → n ≡ digitCount 8 d
-    → x ≡ bodyOf (r .hand) → y ≡ withDigit d (x % 64) → m ≡ depthOf (codeAt C pc) → record { pc = pc; env = env; room = r .room + (m + 1); done = record { count = n + 1; digits = y } } ≡ partOf C M resumed f r
+    → x ≡ bodyOf (r .hand) → y ≡ withDigit d (x % 64) → m ≡ depthOf (codeAt C pc) → record { pc = pc; env = env % 2048; room = r .room + (m + 1); done = record { count = n + 1; digits = y } } ≡ partOf C M resumed f r
 resumed-part C M resumed f r pc env d n x y m t a b e g h i j = rw (t, j, i, h, g, e, b, a)
 
 pub begun-part : (C : Program) (M : Memory) (resumed : Bool) (f : ℕ) (r : Regs) → resumed ≡ false → begunPart r ≡ partOf C M resumed f r

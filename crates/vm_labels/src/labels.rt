@@ -23,6 +23,7 @@ use crate::children::child_at;
 use crate::children::take_labels;
 use crate::entry::entry_from;
 use vm_machine::Regs;
+use vm_states::limits::BINDINGS;
 use vm_states::outcomes::FRAMES;
 use vm_states::outcomes::SPENT;
 use vm_states::pieces::new_piece;
@@ -113,7 +114,7 @@ fn part_of(code: &[u64], work: &[u8], r: Regs, resumed: bool, f: u64) -> Part
         };
         return Part {
             pc: pc,
-            env: slot_env(f),
+            env: slot_env(f) % BINDINGS,
             room: r.room + (depth_of(code[pc]) + 1),
             done: done,
         };

@@ -63,7 +63,7 @@ pub fn start_advice(work: &mut [u8], r: Regs, w: u64, n: usize, m: usize) -> Reg
 
 // The body of the advice that is next of the mark whose slot has the word f.
 fn next_body(work: &mut [u8], r: Regs, f: u64) -> Regs
-    requires { ⌜ (memoryLength ≤ length (now work)) × (r .room ≤ 513) × (2 ≤ r .left) ⌝ }
+    requires { ⌜ (memoryLength ≤ length (now work)) × (r .room ≤ 513) × (2 ≤ r .left) × (nextBinding f < endBinding f) ⌝ }
     ensures { λ q. ⌜ Phase (nextBody f) (now (work .entry)) (now (work .exit)) r q ⌝ }
 {
     let n = next_binding(f);

@@ -13,7 +13,7 @@ use Rattle.vm_code.specs.Values.{value, cellTag, labelTag, adviceTag, bodyOf, u
 use Rattle.vm_code.specs.Words.{fieldB, fieldC, isInstruction}
 use Rattle.vm_machine.specs.declared.Regs.{Regs}
 use Rattle.vm_machine.specs.Registers.{setLeft, setPools, setLabels, setInstalled, halt}
-use Rattle.vm_machine.specs.Memory.{Memory, binding, putBinding, pieceFirst, pieceSecond, pieceOf, adviceWord, putInstalled, cellAt, cellNote, cellOf, putCell}
+use Rattle.vm_machine.specs.Memory.{Memory, binding, putBinding, closureEnv, pieceFirst, pieceSecond, pieceOf, adviceWord, putInstalled, cellAt, cellNote, cellOf, putCell}
 use Rattle.vm_machine.specs.States.{State, withRegs, withMemory}
 use Rattle.vm_machine.specs.Fetch.{Program, called}
 use Rattle.vm_machine.specs.Reduce.{given, newPiece, reduceApply, reduceSplit, reduceStore, reduceCell, reduceLabel, reduceAdvice, reduceInstall}
@@ -37,7 +37,7 @@ stored-called C f M a b c r q w g h env m l e s d p =
 
 -- A call of the function x with the value y; t is the target of its body, and e its environment.
 module _ (C : Program) (a b c : List ℕ) (r q : Regs) (w x y : ℕ) where
-  pub apply-made : (t e : ℕ) → r .pools .bindings < bindingLimit → t ≡ bodyOf x % 2048 → e ≡ bodyOf x / 65536 % 2048 → Holds (putBinding (r .pools .bindings) (binding y 0 e) (memoryOf a)) a b → Phase (called C w t (r .pools .bindings)) b c r q → Phase (reduceApply C w x y) a c r (counted (r .pools .bindings + 1) (r .left - 1) q)
+  pub apply-made : (t e : ℕ) → r .pools .bindings < bindingLimit → t ≡ bodyOf x % 2048 → e ≡ closureEnv x → Holds (putBinding (r .pools .bindings) (binding y 0 e) (memoryOf a)) a b → Phase (called C w t (r .pools .bindings)) b c r q → Phase (reduceApply C w x y) a c r (counted (r .pools .bindings + 1) (r .left - 1) q)
   apply-made t e h d f m p =
       room-made (λ (S : State). ltb (S .regs .pools .bindings) bindingLimit) Outcome.Bindings _ a c r _ (λ log. lt-ltb (r .pools .bindings) bindingLimit h) (stored-called C _ _ a b c r q w t _ _ _ _ d (λ log. refl) (subst (λ (i : ℕ). Holds (putBinding (r .pools .bindings) (binding y 0 i) (memoryOf a)) a b) f m) p)
 
@@ -47,7 +47,7 @@ module _ (C : Program) (a b c : List ℕ) (r q : Regs) (w x y : ℕ) where
 
 -- A call of the body at the target g on the object x, whose environment is e.
 module _ (C : Program) (a b c : List ℕ) (r q : Regs) (w x g : ℕ) where
-  pub call-made : (e : ℕ) → r .pools .bindings < bindingLimit → e ≡ bodyOf x / 65536 % 2048 → Holds (putBinding (r .pools .bindings) (binding x 0 e) (memoryOf a)) a b → Phase (called C w g (r .pools .bindings)) b c r q → Phase (callBody C w x g) a c r (counted (r .pools .bindings + 1) (r .left - 1) q)
+  pub call-made : (e : ℕ) → r .pools .bindings < bindingLimit → e ≡ closureEnv x → Holds (putBinding (r .pools .bindings) (binding x 0 e) (memoryOf a)) a b → Phase (called C w g (r .pools .bindings)) b c r q → Phase (callBody C w x g) a c r (counted (r .pools .bindings + 1) (r .left - 1) q)
   call-made e h f m p =
       room-made (λ (S : State). ltb (S .regs .pools .bindings) bindingLimit) Outcome.Bindings _ a c r _ (λ log. lt-ltb (r .pools .bindings) bindingLimit h) (stored-called C _ _ a b c r q w g _ _ _ _ refl (λ log. refl) (subst (λ (i : ℕ). Holds (putBinding (r .pools .bindings) (binding x 0 i) (memoryOf a)) a b) f m) p)
 

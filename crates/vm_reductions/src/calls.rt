@@ -1,12 +1,12 @@
 // The reductions that bind and enter a body: calls and splits.
 ghost use mathlib.Core.Path.{_≡_};
 ghost use mathlib.Core.List.{List};
-ghost use Prim.Native.Nat.{ℕ, _+_, _/_, _%_, _≤_, _<_};
+ghost use Prim.Native.Nat.{ℕ, _+_, _%_, _≤_, _<_};
 ghost use lib.ListN.{length};
 ghost use Rattle.base_bytes.specs.Memory.{memoryLength};
 ghost use Rattle.vm_code.specs.Values.{bodyOf};
 ghost use Rattle.vm_code.specs.Words.{depthOf};
-ghost use Rattle.vm_machine.specs.Memory.{binding, putBinding, pieceFirst, pieceSecond};
+ghost use Rattle.vm_machine.specs.Memory.{binding, putBinding, closureEnv, pieceFirst, pieceSecond};
 ghost use Rattle.vm_machine.specs.Fits.{Fits};
 ghost use Rattle.vm_machine.specs.Reduce.{reduceApply, reduceSplit};
 ghost use Rattle.vm_machine.specs.Turn.{callBody};
@@ -25,10 +25,10 @@ use vm_words::code::field_b;
 use vm_words::value::body;
 
 // The environment of a function's or an object's value, and the target of the body of a function's.
-fn function_env(f: u64) -> usize
-    ensures { λ r. ⌜ r ≡ bodyOf f / 65536 % 2048 ⌝ }
+fn closure_env(f: u64) -> usize
+    ensures { λ r. ⌜ r ≡ closureEnv f ⌝ }
 {
-    (body(f) / 65536 % 2048) as usize
+    (body(f) / 65536 % 65536) as usize
 }
 
 fn function_target(f: u64) -> usize
@@ -44,7 +44,7 @@ pub fn reduce_apply(code: &[u64], work: &mut [u8], r: Regs, w: u64, x: u64, y: u
 {
     let n = r.pools.bindings;
     if n < BINDINGS {
-        bind(work, n, y, 0, function_env(x));
+        bind(work, n, y, 0, closure_env(x));
         let mut q = called(code, work, r, w, function_target(x), n);
         let m = n + 1;
         q.left = r.left - 1;
@@ -61,7 +61,7 @@ pub fn call_body(code: &[u64], work: &mut [u8], r: Regs, w: u64, x: u64, g: usiz
 {
     let n = r.pools.bindings;
     if n < BINDINGS {
-        bind(work, n, x, 0, function_env(x));
+        bind(work, n, x, 0, closure_env(x));
         let mut q = called(code, work, r, w, g, n);
         let m = n + 1;
         q.left = r.left - 1;

@@ -266,6 +266,7 @@ module _ (T : Table) (root : ℕ) (L : Linked T 0 root) where
               kind = ap slotKind frame-here ∙ parts .0;
               pc = ap slotPc frame-here ∙ parts .1 ∙ at;
               env = env-at T root L framed z (ap slotEnv frame-here ∙ parts .2) (env-grows T root L M z framed z frame-grows (p .env));
+              fits = omega (arith, ap slotEnv frame-here ∙ parts .2, p .env-fits);
             }
 
         frame-chain : IsChain T 0 root L (Held T root L framed z) (Back T root L framed z) D (callA P ∷ A)

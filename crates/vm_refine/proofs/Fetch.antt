@@ -23,11 +23,11 @@ use Rattle.vm_machine.specs.Fetch.{Program, codeAt, atomValue, operandValue}
 use Rattle.vm_refine.proofs.Relations.{Sizes, IsBody, body-at, object-at, IsVal, is-unit, is-truth, is-num, is-fun, is-object, IsEnv, env-at, lookup-is}
 
 -- The parts of a function's word.
-function-word : (env t : ℕ) → env < 2048 → t < 2048 → (tagOf (functionValue env t) ≡ 3) × (bodyOf (functionValue env t) % 2048 ≡ t) × (bodyOf (functionValue env t) / 65536 % 2048 ≡ env)
+function-word : (env t : ℕ) → env < 2048 → t < 2048 → (tagOf (functionValue env t) ≡ 3) × (bodyOf (functionValue env t) % 2048 ≡ t) × (words.closureEnv (functionValue env t) ≡ env)
 function-word env t h g = (omega arith, omega arith, omega arith)
 
 -- And of an object's.
-object-word : (env t : ℕ) → env < 2048 → t < 1024 → (tagOf (objectValue env t) ≡ 9) × (bodyOf (objectValue env t) % 1024 ≡ t) × (bodyOf (objectValue env t) / 65536 % 2048 ≡ env)
+object-word : (env t : ℕ) → env < 2048 → t < 1024 → (tagOf (objectValue env t) ≡ 9) × (bodyOf (objectValue env t) % 1024 ≡ t) × (words.closureEnv (objectValue env t) ≡ env)
 object-word env t h g = (omega arith, omega arith, omega arith)
 
 module _ (T : Table) (root : ℕ) (L : Linked T 0 root) (C : Program) (says : SaysCode T (C .image) (C .code)) where

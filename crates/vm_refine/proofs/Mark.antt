@@ -48,7 +48,7 @@ use Rattle.vm_refine.proofs.Advice.{stack-depth, advised}
 use Rattle.vm_refine.proofs.Matching.{Written, written-refl, Made, made-all, none-named}
 
 -- The parts of an advice's frame.
-pub advice-frame : (pc env next end : ℕ) → pc < 1024 → env < 2048 → next < 4096 → end < 4096
+pub advice-frame : (pc env next end : ℕ) → pc < 1024 → env < 2048 → next < 65536 → end < 65536
     → (slotKind (slotWord adviceFrame pc env (bindingsLeft next end)) ≡ adviceFrame) × (slotPc (slotWord adviceFrame pc env (bindingsLeft next end)) ≡ pc) × (slotEnv (slotWord adviceFrame pc env (bindingsLeft next end)) ≡ env)
     × (nextBinding (slotWord adviceFrame pc env (bindingsLeft next end)) ≡ next) × (endBinding (slotWord adviceFrame pc env (bindingsLeft next end)) ≡ end)
 advice-frame pc env next end h g i j = (omega arith, omega arith, omega arith, omega arith, omega arith)
@@ -86,7 +86,7 @@ module _ (T : Table) (root : ℕ) (L : Linked T 0 root) (G : Given) (e₀ : Tm) 
         store-charged T root L B M (S .log) z s st framed (z .nb) (z .np) (s .used) frame-grows (above-put M cellBase (slotIn room′ d) word (omega (arith, index))) (st .beside)
         (st .bindings) (st .bindings-fit) (st .pieces) (st .pieces-fit) refl
 
-    pub frame-chain : (q : Dom) (w : CVal) (x : List (Advice Body)) → next < 4096 → end < 4096 → IsTriggered T root L M z next end w x
+    pub frame-chain : (q : Dom) (w : CVal) (x : List (Advice Body)) → next < 65536 → end < 65536 → IsTriggered T root L M z next end w x
         → IsChain T 0 root L (Held T root L framed z) (Back T root L framed z) D (adviceA q w x P ∷ A)
     frame-chain q w x small small′ left =
         let low = says .few m (p .no-atom) in
@@ -98,7 +98,7 @@ module _ (T : Table) (root : ℕ) (L : Linked T 0 root) (G : Given) (e₀ : Tm) 
             no-atom = p .no-atom;
             located = p .located;
             says = (
-              record { kind = ap slotKind h ∙ parts .0; pc = ap slotPc h ∙ parts .1 ∙ at; env = env-at T root L framed z (ap slotEnv h ∙ parts .2) (env-grows T root L M z framed z frame-grows ie) },
+              record { kind = ap slotKind h ∙ parts .0; pc = ap slotPc h ∙ parts .1 ∙ at; env = env-at T root L framed z (ap slotEnv h ∙ parts .2) (env-grows T root L M z framed z frame-grows ie); fits = omega (arith, ap slotEnv h ∙ parts .2) },
               triggered-at T root L framed z (ap nextBinding h ∙ parts .3) (ap endBinding h ∙ parts .4) (triggered-grows T root L M z framed z frame-grows left),
             );
             waiting =

@@ -1,7 +1,7 @@
 -- The bindings that a mark makes: one for each advice that its label triggers, in order of installation.
 use Prim.Native.Nat.{ℕ, suc, _+_, _-_, _%_, _≤_, _<_}
 use native.Mathlib.Omega.{arith}
-use mathlib.Core.Path.{_≡_, refl, sym, ap, _∙_}
+use mathlib.Core.Path.{_≡_, refl, sym, ap, subst, _∙_}
 use mathlib.Core.Bool.{Bool, true, false}
 use mathlib.Core.List.{List, [], _∷_}
 use lib.ListN.{length}
@@ -14,7 +14,7 @@ use Rattle.calculus.specs.State.{Advice}
 use Rattle.calculus.specs.Compose.{member, matching}
 use Rattle.closure_machine.specs.Closure.{CVal, Env, link, Body}
 use Rattle.vm_theory.specs.Table.{Table, Linked}
-use Rattle.vm_machine.specs.Memory.{Memory, slotBase, installedBase, binding, boundTarget, boundLink, bindingAt, putBinding, pieceFirst, pieceSecond, adviceTarget, adviceEnv, hasBit, installedAt}
+use Rattle.vm_machine.specs.Memory.{Memory, noBinding, slotBase, installedBase, binding, boundTarget, boundLink, bindingAt, putBinding, pieceFirst, pieceSecond, adviceTarget, adviceEnv, hasBit, installedAt}
 use Rattle.vm_machine.specs.Reduce.{Bound, bindOne, bindMatching}
 use Rattle.vm_refine.proofs.Relations.{Sizes, body-at, IsVal, IsEnv, is-link, env-outside, IsAdvice, at-piece, IsTriggered, no-more, one-left, val-at, env-at, val-like, Grows, val-grows, env-grows}
 use Rattle.vm_refine.proofs.Tables.{word-same, word-other, grows-put, grows-sizes, grows-refl, grows-trans, Above, above-put, above-refl, above-trans}
@@ -79,7 +79,7 @@ module _ (T : Table) (root : ℕ) (L : Linked T 0 root) where
             let at : boundLink (bindingAt M′ (B .count)) ≡ adviceEnv (pieceFirst M p) = ap boundLink kept ∙ parts .3 ∙ ap adviceEnv same in
             let e′ : IsEnv T root L M′ z′ (B .count) (link w ρ) =
             is-link {l = B .count} (omega (arith, m .count)) (val-at T root L M′ z′ kept (val-like T root L M′ z′ (parts .0) (parts .1) (val-grows T root L M z M′ z′ g iv)))
-            (env-at T root L M′ z′ at (env-grows T root L M z M′ z′ g e)) (λ o. env-outside T root L M z (omega arith) e (sym at ∙ o)) in
+            (env-at T root L M′ z′ at (env-grows T root L M z M′ z′ g e)) (λ o. env-outside T root L M z (omega arith) e (subst (λ (i : ℕ). noBinding ≤ i) at o)) in
             let next : suc (B .count) ≡ B .count + 1 = omega arith in
             let rest : IsTriggered T root L M′ z′ (suc (B .count)) (B′ .count) w x = rw next (m .triggered h) in
             one-left {b = B .count} {e = B′ .count} (omega (arith, m .count)) e′ (body-at T root L (ap boundTarget kept ∙ parts .2 ∙ ap adviceTarget same) b) rest

@@ -212,7 +212,7 @@ module _ (T : Table) (root : ℕ) (L : Linked T 0 root) (G : Given) (e₀ : Tm) 
                 no-atom = p .no-atom;
                 located = p .located;
                 says = (
-                  record { kind = ap slotKind here ∙ parts .0; pc = ap slotPc here ∙ parts .1; env = env-at T root L framed′ z (ap slotEnv here ∙ parts .2) (env-grows T root L M z framed′ z grows (p .env)) },
+                  record { kind = ap slotKind here ∙ parts .0; pc = ap slotPc here ∙ parts .1; env = env-at T root L framed′ z (ap slotEnv here ∙ parts .2) (env-grows T root L M z framed′ z grows (p .env)); fits = omega (arith, ap slotEnv here ∙ parts .2, p .env-fits) },
                   record {
                     children = xs;
                     node = node;

@@ -30,7 +30,7 @@ use Rattle.vm_code.specs.Words.{fieldB, methodTarget, listOffset, termCount}
 use Rattle.vm_code.specs.Says.{Says, says-object, SaysBodies, bodies-here, bodies-listed, targetAt, SaysTarget, SaysCode}
 use Rattle.vm_machine.specs.declared.Regs.{Regs}
 use Rattle.vm_machine.specs.Registers.{setPools, stepped, bound}
-use Rattle.vm_machine.specs.Memory.{Memory, binding, boundTarget, boundLink, bindingAt, putBinding, pieceFirst, pieceSecond, pieceOf, cellBase}
+use Rattle.vm_machine.specs.Memory.{Memory, binding, boundTarget, boundLink, noBinding, bindingAt, putBinding, closureEnv, pieceFirst, pieceSecond, pieceOf, cellBase}
 use Rattle.vm_machine.specs.States.{State, ifRoom}
 use Rattle.vm_machine.specs.Fetch.{Program, codeAt, called}
 use Rattle.vm_machine.specs.Reduce.{reduceApply, reduceSplit}
@@ -44,7 +44,7 @@ use Rattle.vm_refine.proofs.Entries.{word-atom, entry-from}
 use Rattle.vm_refine.proofs.Gives.{calls}
 
 -- The parts of a binding.
-pub binding-word : (v t l : ℕ) → t < 2048 → l < 2048 → (tagOf (binding v t l) ≡ tagOf v) × (bodyOf (binding v t l) ≡ bodyOf v) × (boundTarget (binding v t l) ≡ t) × (boundLink (binding v t l) ≡ l)
+pub binding-word : (v t l : ℕ) → t < 2048 → l < 65536 → (tagOf (binding v t l) ≡ tagOf v) × (bodyOf (binding v t l) ≡ bodyOf v) × (boundTarget (binding v t l) ≡ t) × (boundLink (binding v t l) ≡ l)
 binding-word v t l h g = (omega arith, omega arith, omega arith, omega arith)
 
 -- The bodies of an object, by their numbers (card 3).
@@ -70,13 +70,13 @@ module _ (T : Table) (root : ℕ) (L : Linked T 0 root) (M : Memory) (z : Sizes)
   pub at-bound : bindingAt binds (z .nb) ≡ w
   at-bound = word-same M (0 + z .nb) w (omega arith)
 
-  pub env-bound-to : (v t l : ℕ) → binding v t l ≡ w → t < 2048 → l < 2048 → {u : CVal} {ρ : Env} → IsVal T root L M z v u → IsEnv T root L M z l ρ → IsEnv T root L binds longer (z .nb) (link u ρ)
+  pub env-bound-to : (v t l : ℕ) → binding v t l ≡ w → t < 2048 → l < 65536 → {u : CVal} {ρ : Env} → IsVal T root L M z v u → IsEnv T root L M z l ρ → IsEnv T root L binds longer (z .nb) (link u ρ)
   env-bound-to v t l e h g iv ie =
       let parts = binding-word v t l h g in
       let at : boundLink (bindingAt binds (z .nb)) ≡ l = ap boundLink (at-bound ∙ sym e) ∙ parts .3 in
       is-link {l = z .nb} (omega arith)
       (val-at T root L binds longer (at-bound ∙ sym e) (val-like T root L binds longer (parts .0) (parts .1) (val-grows T root L M z binds longer grows-bound iv)))
-      (env-at T root L binds longer at (env-grows T root L M z binds longer grows-bound ie)) (λ q. env-outside T root L M z (omega arith) ie (sym at ∙ q))
+      (env-at T root L binds longer at (env-grows T root L M z binds longer grows-bound ie)) (λ q. env-outside T root L M z (omega arith) ie (subst (λ (i : ℕ). noBinding ≤ i) at q))
 
   pub above-bound : Above cellBase M binds
   above-bound = above-put M cellBase (0 + z .nb) w (omega arith)
@@ -114,7 +114,7 @@ module _ (T : Table) (root : ℕ) (L : Linked T 0 root) (G : Given) (e₀ : Tm) 
   no-way R e = absurd (no-wrong T root L G e₀ Ω N B C says S k s m P A D c F R e)
 
   -- The value u is bound in an environment, and the body e is called.
-  bound-now : (g l : ℕ) {x : ℕ} {u : CVal} (e : Tm) (d : Dom) (ρ : Env) → l < 2048 → IsBody T root L g e d → d ≡ domAt P → IsEnv T root L M z l ρ → Is x u → At (bind 1 s (eval e (link u ρ)))
+  bound-now : (g l : ℕ) {x : ℕ} {u : CVal} (e : Tm) (d : Dom) (ρ : Env) → l < 65536 → IsBody T root L g e d → d ≡ domAt P → IsEnv T root L M z l ρ → Is x u → At (bind 1 s (eval e (link u ρ)))
       → Then (ifRoom (ltb n bindingLimit) Outcome.Bindings S (called C w g n (record { memory = putBinding n (binding x 0 l) M; log = S .log; regs = setPools (bound 1 (r .pools)) (stepped r) })))
   bound-now g l {x} {u} e d ρ low b same ie i Q =
       if-there-is-room T root L G e₀ Ω N B C says S k s m P A D c F (measure S) (leb 1 (bindingLimit - s .used .bindings)) Outcome.Bindings _ _ (ltb n bindingLimit)
@@ -150,7 +150,7 @@ module _ (T : Table) (root : ℕ) (L : Linked T 0 root) (G : Given) (e₀ : Tm) 
   apply-now X y {x} {x′} {v} {v′} doms i i′ R = try (as-function T root L M z i) doms R
     where
       try : {u : CVal} → AsFunction T root L M z x u → ((t : Ty) (e : Tm) (ρ : Env) → u ≡ CVal.fun t e ρ → domOf t ≡ domAt P) → At (reduce2C G X s app y u v′) → Then (reduceApply C w x x′ S)
-      try (a-function {y = t} {e = e} {ρ = ρ} b ie) d Q = bound-now (bodyOf x % 2048) (bodyOf x / 65536 % 2048) e (domOf t) ρ (omega arith) b (d t e ρ refl) ie i′ Q
+      try (a-function {y = t} {e = e} {ρ = ρ} b ie) d Q = bound-now (bodyOf x % 2048) (closureEnv x) e (domOf t) ρ (omega arith) b (d t e ρ refl) ie i′ Q
       try (no-function p) d Q = no-way Q (rw p)
 
   -- A term is begun where its word says.
@@ -162,7 +162,7 @@ module _ (T : Table) (root : ℕ) (L : Linked T 0 root) (G : Given) (e₀ : Tm) 
       try false a = ap (λ (e : ℕ). termCount + e) (entry-from T root L C says b h a)
 
   -- Method j of the object x is its body b, which gives e.
-  module _ (j : ℕ) {x : ℕ} {t : Ty} {es : Tms} {ρ : Env} (q : fieldB w ≡ j % 2048) (o : IsObject T root L (bodyOf x % 1024) t es) (ie : IsEnv T root L M z (bodyOf x / 65536 % 2048) ρ)
+  module _ (j : ℕ) {x : ℕ} {t : Ty} {es : Tms} {ρ : Env} (q : fieldB w ≡ j % 2048) (o : IsObject T root L (bodyOf x % 1024) t es) (ie : IsEnv T root L M z (closureEnv x) ρ)
       (d : methodDom (methodsOf t) j ≡ domAt P) (is : Is x (CVal.object t es ρ)) (e : Tm) (b : ℕ) (at : getElem? (o .bodies) j ≡ some b) (get : getD (o .bodies) j 0 ≡ b) (term : T .term b ≡ e)
       (there : j < length (o .bodies)) (Q : At (bind 1 s (eval e (link (CVal.object t es ρ) ρ)))) where
     abbrev u : ℕ
@@ -170,7 +170,7 @@ module _ (T : Table) (root : ℕ) (L : Linked T 0 root) (G : Given) (e₀ : Tm) 
 
     called-at : (g : ℕ) → SaysTarget T g b → Then (callBody C w x g S)
     called-at g h =
-        bound-now g (bodyOf x / 65536 % 2048) e (methodDom (methodsOf t) j) ρ (omega arith) (record { number = b; begins = h; term = term; located = l-method j (o .located) (o .node) at }) d ie is Q
+        bound-now g (closureEnv x) e (methodDom (methodsOf t) j) ρ (omega arith) (record { number = b; begins = h; term = term; located = l-method j (o .located) (o .node) at }) d ie is Q
 
     named : length (o .bodies) ≤ 8 → fieldB w ≡ j
     named h = q ∙ mod-eq-of-lt {m = 2048} (omega arith)
@@ -189,7 +189,7 @@ module _ (T : Table) (root : ℕ) (L : Linked T 0 root) (G : Given) (e₀ : Tm) 
   unfolding with
   call-now X y j {x} {v} q doms i R = try (as-object T root L M z i) doms i R
     where
-      found : {t : Ty} {es : Tms} {ρ : Env} → IsObject T root L (bodyOf x % 1024) t es → IsEnv T root L M z (bodyOf x / 65536 % 2048) ρ → methodDom (methodsOf t) j ≡ domAt P → Is x (CVal.object t es ρ)
+      found : {t : Ty} {es : Tms} {ρ : Env} → IsObject T root L (bodyOf x % 1024) t es → IsEnv T root L M z (closureEnv x) ρ → methodDom (methodsOf t) j ≡ domAt P → Is x (CVal.object t es ρ)
           → (e : Option Tm) → methodBody es j ≡ e → At (with e (λ f. bind 1 s (eval f (link (CVal.object t es ρ) ρ)))) → Then (reduceCall C w x S)
       found o ie d is none p Q = no-way Q refl
       found o ie d is (some e) p Q =
@@ -244,9 +244,9 @@ module _ (T : Table) (root : ℕ) (L : Linked T 0 root) (G : Given) (e₀ : Tm) 
           let g′ : Grows M′ z′ M″ (resized T root L (n + 1 + 1) (z .np) z′) = grows-bound T root L M′ z′ words′ fit′ (st .pieces-fit) word′ in
           let g″ : Grows M z M″ (sizes after) = grows-trans g (rw sum at g′) in
           let ie : IsEnv T root L M′ z′ n (link u (P .env)) =
-          env-bound-to T root L M z (st .words) fit (st .pieces-fit) word one 0 (r .env) refl (omega arith) (Q .place .env-fits) iu (Q .place .env) in
+          env-bound-to T root L M z (st .words) fit (st .pieces-fit) word one 0 (r .env) refl (omega arith) (omega (arith, Q .place .env-fits)) iu (Q .place .env) in
           let ie′ : IsEnv T root L M″ (resized T root L (n + 1 + 1) (z .np) z′) (n + 1) (link t (link u (P .env))) =
-          env-bound-to T root L M′ z′ words′ fit′ (st .pieces-fit) word′ two 0 n refl (omega arith) fit (val-grows T root L M z M′ z′ g it) ie in
+          env-bound-to T root L M′ z′ words′ fit′ (st .pieces-fit) word′ two 0 n refl (omega arith) (omega arith) (val-grows T root L M z M′ z′ g it) ie in
           calls T root L G e₀ Ω N B C says S k s m P A D c F Q M″ (S .log) after (charged (addCounts (s .used) (someBindings 2)) s)
           (record {
             env = refl;

@@ -5,8 +5,8 @@ use mathlib.Core.Path.{_≡_, refl, sym, ap, subst, _∙_}
 use mathlib.Core.Bool.{Bool, true, false}
 use mathlib.Core.List.{List, [], _∷_}
 use mathlib.Core.Option.{some, Option·none-ne-some}
-use lib.Dec.{eqb}
-use borrow.Author.Tests.{eqb-true}
+use lib.Dec.{leb}
+use borrow.Author.Tests.{leb-true}
 use Rattle.calculus.specs.Combinators.{choose}
 use Rattle.calculus.specs.Plain.{domOf}
 use Rattle.calculus.specs.Syntax.{Dom, Ty, Tm, Tms}
@@ -20,7 +20,7 @@ use Rattle.vm_code.specs.Values.{tagOf, bodyOf}
 use Rattle.vm_code.specs.Words.{termCount}
 use Rattle.vm_code.specs.Says.{SaysTarget}
 use Rattle.vm_machine.specs.declared.Regs.{Regs}
-use Rattle.vm_machine.specs.Memory.{Memory, bindingAt, boundTarget, boundLink, noBinding, pieceFirst, pieceSecond, adviceTarget, adviceEnv, adviceDom, hasBit}
+use Rattle.vm_machine.specs.Memory.{Memory, bindingAt, boundTarget, boundLink, noBinding, pieceFirst, pieceSecond, adviceTarget, adviceEnv, adviceDom, closureEnv, hasBit}
 use Rattle.vm_machine.specs.Memory as words
 
 -- How much of each table is in use, and the labels that installed advice names.
@@ -74,18 +74,18 @@ module _ (T : Table) (root : ℕ) (L : Linked T 0 root) where
         is-unit : {w : ℕ} → tagOf w ≡ 0 → IsVal w CVal.unit
         is-truth : {w : ℕ} {b : Bool} → tagOf w ≡ 1 → bodyOf w ≡ choose b 1 0 → IsVal w (CVal.truth b)
         is-num : {w n : ℕ} → tagOf w ≡ 2 → bodyOf w ≡ n → IsVal w (CVal.num n)
-        is-fun : {w : ℕ} {y : Ty} {e : Tm} {ρ : Env} → tagOf w ≡ 3 → IsBody (bodyOf w % 2048) e (domOf y) → IsEnv (bodyOf w / 65536 % 2048) ρ → IsVal w (CVal.fun y e ρ)
+        is-fun : {w : ℕ} {y : Ty} {e : Tm} {ρ : Env} → tagOf w ≡ 3 → IsBody (bodyOf w % 2048) e (domOf y) → IsEnv (closureEnv w) ρ → IsVal w (CVal.fun y e ρ)
         is-pair : {w : ℕ} {v u : CVal} → tagOf w ≡ 4 → bodyOf w % 512 < z .np → IsVal (pieceFirst M (bodyOf w % 512)) v → IsVal (pieceSecond M (bodyOf w % 512)) u → IsVal w (CVal.pair v u)
         is-cell : {w r : ℕ} → tagOf w ≡ 5 → bodyOf w % 256 ≡ r → IsVal w (CVal.cell r)
         is-label : {w l : ℕ} → tagOf w ≡ 6 → bodyOf w % 64 ≡ l → IsVal w (CVal.label l)
         is-labels : {w : ℕ} {ls : List ℕ} → tagOf w ≡ 7 → bodyOf w % 512 < z .np → HasLabels (pieceSecond M (bodyOf w % 512)) ls → IsVal w (CVal.labels ls)
         is-advice : {w : ℕ} {d : Dom} {e : Tm} {ls : List ℕ} {ρ : Env} → tagOf w ≡ 8 → IsAdvice (bodyOf w % 512) d ls e ρ → IsVal w (CVal.advice d ls e ρ)
-        is-object : {w : ℕ} {y : Ty} {es : Tms} {ρ : Env} → tagOf w ≡ 9 → IsObject (bodyOf w % 1024) y es → IsEnv (bodyOf w / 65536 % 2048) ρ → IsVal w (CVal.object y es ρ)
+        is-object : {w : ℕ} {y : Ty} {es : Tms} {ρ : Env} → tagOf w ≡ 9 → IsObject (bodyOf w % 1024) y es → IsEnv (closureEnv w) ρ → IsVal w (CVal.object y es ρ)
 
       -- The environment whose innermost binding is l.
       pub data IsEnv : ℕ → Env → Type 0 where
         is-empty : {l : ℕ} → IsEnv l empty
-        is-link : {l : ℕ} {v : CVal} {ρ : Env} → l < z .nb → IsVal (bindingAt M l) v → IsEnv (boundLink (bindingAt M l)) ρ → (boundLink (bindingAt M l) ≡ noBinding → ρ ≡ empty) → IsEnv l (link v ρ)
+        is-link : {l : ℕ} {v : CVal} {ρ : Env} → l < z .nb → IsVal (bindingAt M l) v → IsEnv (boundLink (bindingAt M l)) ρ → (noBinding ≤ boundLink (bindingAt M l) → ρ ≡ empty) → IsEnv l (link v ρ)
 
       -- An advice at a piece.
       pub data IsAdvice : ℕ → Dom → List ℕ → Tm → Env → Type 0 where
@@ -102,7 +102,7 @@ module _ (T : Table) (root : ℕ) (L : Linked T 0 root) where
     pub env-used : {l : ℕ} {v : CVal} {ρ : Env} → IsEnv l (link v ρ) → l < z .nb
     env-used (is-link h v e o) = h
 
-    pub env-outside : {l : ℕ} {ρ : Env} → z .nb ≤ noBinding → IsEnv l ρ → l ≡ noBinding → ρ ≡ empty
+    pub env-outside : {l : ℕ} {ρ : Env} → z .nb ≤ noBinding → IsEnv l ρ → noBinding ≤ l → ρ ≡ empty
     env-outside h is-empty p = refl
     env-outside h (is-link g v e o) p = absurd (omega arith)
 
@@ -111,14 +111,14 @@ module _ (T : Table) (root : ℕ) (L : Linked T 0 root) where
     val-like p q (is-unit t) = is-unit (p ∙ t)
     val-like p q (is-truth t h) = is-truth (p ∙ t) (q ∙ h)
     val-like p q (is-num t h) = is-num (p ∙ t) (q ∙ h)
-    val-like p q (is-fun {ρ = ρ} t h e) = is-fun (p ∙ t) (body-at (ap (λ (x : ℕ). x % 2048) q) h) (subst (λ (x : ℕ). IsEnv (x / 65536 % 2048) ρ) (sym q) e)
+    val-like p q (is-fun {ρ = ρ} t h e) = is-fun (p ∙ t) (body-at (ap (λ (x : ℕ). x % 2048) q) h) (subst (λ (x : ℕ). IsEnv (x / 65536 % 65536) ρ) (sym q) e)
     val-like p q (is-pair {v = v} {u = u} t h g k) =
         is-pair (p ∙ t) (rw q h) (subst (λ (x : ℕ). IsVal (pieceFirst M (x % 512)) v) (sym q) g) (subst (λ (x : ℕ). IsVal (pieceSecond M (x % 512)) u) (sym q) k)
     val-like p q (is-cell t h) = is-cell (p ∙ t) (ap (λ (x : ℕ). x % 256) q ∙ h)
     val-like p q (is-label t h) = is-label (p ∙ t) (ap (λ (x : ℕ). x % 64) q ∙ h)
     val-like p q (is-labels {ls = ls} t h g) = is-labels (p ∙ t) (rw q h) (subst (λ (x : ℕ). HasLabels (pieceSecond M (x % 512)) ls) (sym q) g)
     val-like p q (is-advice {d = d} {e = e} {ls = ls} {ρ = ρ} t a) = is-advice (p ∙ t) (subst (λ (x : ℕ). IsAdvice (x % 512) d ls e ρ) (sym q) a)
-    val-like p q (is-object {ρ = ρ} t h e) = is-object (p ∙ t) (object-at (ap (λ (x : ℕ). x % 1024) q) h) (subst (λ (x : ℕ). IsEnv (x / 65536 % 2048) ρ) (sym q) e)
+    val-like p q (is-object {ρ = ρ} t h e) = is-object (p ∙ t) (object-at (ap (λ (x : ℕ). x % 1024) q) h) (subst (λ (x : ℕ). IsEnv (x / 65536 % 65536) ρ) (sym q) e)
 
     -- The same word, written otherwise.
     pub val-at : {a b : ℕ} {v : CVal} → a ≡ b → IsVal b v → IsVal a v
@@ -138,14 +138,14 @@ module _ (T : Table) (root : ℕ) (L : Linked T 0 root) where
         let same : u ≡ v = cc in
         rw (← same) g
     lookup-is (suc k) is-empty q = absurd (Option·none-ne-some _ q)
-    lookup-is (suc k) {l} {v = v} (is-link {ρ = ρ} h g e o) q = try (eqb (boundLink (bindingAt M l)) noBinding) refl (lookup-is k e q)
+    lookup-is (suc k) {l} {v = v} (is-link {ρ = ρ} h g e o) q = try (leb noBinding (boundLink (bindingAt M l))) refl (lookup-is k e q)
       where
         outside : ρ ≡ empty → ⊥
         outside p = absurd (Option·none-ne-some _ (sym (ap (λ (x : Env). lookup x k) p) ∙ q))
 
-        try : (b : Bool) → eqb (boundLink (bindingAt M l)) noBinding ≡ b → IsVal (words.lookup M (boundLink (bindingAt M l)) k) v
+        try : (b : Bool) → leb noBinding (boundLink (bindingAt M l)) ≡ b → IsVal (words.lookup M (boundLink (bindingAt M l)) k) v
             → IsVal (choose b 0 (words.lookup M (boundLink (bindingAt M l)) k)) v
-        try true p ih = absurd (outside (o (eqb-true _ _ p)))
+        try true p ih = absurd (outside (o (leb-true _ _ p)))
         try false p ih = ih
 
 -- The tables M′ have all that M has of bindings and pieces.
@@ -175,7 +175,7 @@ module _ (T : Table) (root : ℕ) (L : Linked T 0 root) (M : Memory) (z : Sizes)
     env-grows is-empty = is-empty
     env-grows (is-link {l = l} a v e o) =
         is-link {l = l} (omega (arith, g .more-bindings)) (val-at T root L M′ z′ (g .bindings l a) (val-grows v)) (env-at T root L M′ z′ (ap boundLink (g .bindings l a)) (env-grows e))
-        (λ p. o (sym (ap boundLink (g .bindings l a)) ∙ p))
+        (λ p. o (subst (λ (x : ℕ). noBinding ≤ x) (ap boundLink (g .bindings l a)) p))
 
     pub advice-grows : {p : ℕ} {d : Dom} {ls : List ℕ} {e : Tm} {ρ : Env} → IsAdvice T root L M z p d ls e ρ → IsAdvice T root L M′ z′ p d ls e ρ
     advice-grows {p} (at-piece h b c e l) =

@@ -1,6 +1,7 @@
 -- A body's value comes back: to no one, to a call or split, to a mark, to a pointcut.
 use Prim.Native.Nat.{ℕ, suc, _+_, _-_, _*_, _%_, _≤_, _<_}
 use native.Mathlib.Omega.{arith}
+use native.Mathlib.Nat.{mod-eq-of-lt}
 use mathlib.Core.Path.{_≡_, refl, sym, ap, subst, _∙_}
 use mathlib.Core.Bool.{Bool, true, false, true≢false}
 use mathlib.Core.List.{List, [], _∷_, map}
@@ -199,7 +200,7 @@ module _ (T : Table) (root : ℕ) (L : Linked T 0 root) (G : Given) (e₀ : Tm) 
       call-now : (f : ℕ) → FrameIs T root L M z f callFrame m (P .env) → base A₀ ≡ depthAt P A → 0 < length (P .skel) → Reach G e₀ Ω k s (ret v) (stackAt P A D) → Then (returned C f S)
       call-now f F b inside reach =
           let S′ : State = withRegs (setEnv (slotEnv f) (setRoom (r .room + depthOf w) r)) S in
-          let p : InPlace T root L G e₀ Ω N B S′ k s m P A D = stands (r .pc) (slotEnv f) (depthOf w) (r .left) k (F .env) (omega arith) (omega (arith, deep)) (now .common .budget) (now .common .running) in
+          let p : InPlace T root L G e₀ Ω N B S′ k s m P A D = stands (r .pc) (slotEnv f) (depthOf w) (r .left) k (F .env) (F .fits) (omega (arith, deep)) (now .common .budget) (now .common .running) in
           let on = completed-now T root L G e₀ Ω N B C says S′ k s m P A D p (omega (arith, now .room)) (r .hand) v (now .ready) reach in
           let q : nextOf w < termCount = rw (says .around m (slot .no-atom) .next) (number-below (describes T 0 root L (slot .located) (slot .no-atom) .next) (λ e. next-inside (P .skel) inside (sym (paid-none (P .skel) .1) ∙ e))) in
           let low : level (completed w (r .hand) S′ .regs) ≡ r .room + depthOf w + 1 = ap (λ (x : Bool). choose x (fullRoom + 2) (r .room + depthOf w + 1)) (ne-eqb (nextOf w) code.home (λ e. omega arith)) in
@@ -254,7 +255,7 @@ module _ (T : Table) (root : ℕ) (L : Linked T 0 root) (G : Given) (e₀ : Tm) 
         module _ (enough : headroom + 2 ≤ r .left) where
           -- the mark's place, after the two steps
           place : (t y : ℕ) → y ≡ depthOf w + 2 → InPlace T root L G e₀ Ω N B (there t (slotEnv f) y (r .left - 2)) (suc (suc k)) s m P A D
-          place t y e = stands t (slotEnv f) y (r .left - 2) (suc (suc k)) (F .env) (omega arith) (omega (arith, deep)) (omega (arith, now .common .budget)) (omega arith)
+          place t y e = stands t (slotEnv f) y (r .left - 2) (suc (suc k)) (F .env) (F .fits) (omega (arith, deep)) (omega (arith, now .common .budget)) (omega arith)
 
           falls : {S′ : State} {s′ : CState} {E : Conf} → S′ .regs .left ≡ r .left - 2 → Now T root L G e₀ Ω N B S′ (suc (suc k)) s′ E → Then S′
           falls {S′} e n = after-now n (step-falls T root L G e₀ Ω N B S S′ (omega arith) (omega (arith, now .room)) (omega (arith, n .room)))
@@ -283,16 +284,16 @@ module _ (T : Table) (root : ℕ) (L : Linked T 0 root) (G : Given) (e₀ : Tm) 
               let M′ : Memory = putAdvice (r .room) 0 (slotPc f) (slotEnv f) (n + 1) (endBinding f) M in
               let S′ : State = withMemory M′ (setPc (bodyAt M n) (setHand 0 (setEnv n (setLeft (r .left - 2) r)))) S in
               let first : Advice Body = record { dom = d′; labels = ls; body = record { term = e; env = σ } } in
-              let grown = frame-grows T root L G e₀ Ω N B C says S₁ (suc (suc k)) s m P A D p (n + 1) (endBinding f) within (slotPc f) (slotEnv f) (F .pc) (omega arith) (F .env) 0 (r .room) index in
+              let grown = frame-grows T root L G e₀ Ω N B C says S₁ (suc (suc k)) s m P A D p (n + 1) (endBinding f) within (slotPc f) (slotEnv f) (F .pc) (F .fits) (F .env) 0 (r .room) index in
               let on : Now T root L G e₀ Ω N B S′ (suc (suc k)) s (trigger u (first ∷ y) P A D) =
               advised T root L G e₀ Ω N B C says S′ (suc (suc k)) s P A D u d′ ls e σ y (boundTarget (bindingAt M n))
               (record {
                 budget = p .common .budget;
                 running = p .common .running;
-                store = frame-store T root L G e₀ Ω N B C says S₁ (suc (suc k)) s m P A D p (n + 1) (endBinding f) within (slotPc f) (slotEnv f) (F .pc) (omega arith) (F .env) 0 (r .room) index;
+                store = frame-store T root L G e₀ Ω N B C says S₁ (suc (suc k)) s m P A D p (n + 1) (endBinding f) within (slotPc f) (slotEnv f) (F .pc) (F .fits) (F .env) 0 (r .room) index;
               })
               stood fine g refl refl (env-grows T root L M z M′ z grown ie) small (omega (arith, now .room))
-              (frame-chain T root L G e₀ Ω N B C says S₁ (suc (suc k)) s m P A D p (n + 1) (endBinding f) within (slotPc f) (slotEnv f) (F .pc) (omega arith) (F .env) 0 (r .room) index d′ u y (omega arith) (omega arith)
+              (frame-chain T root L G e₀ Ω N B C says S₁ (suc (suc k)) s m P A D p (n + 1) (endBinding f) within (slotPc f) (slotEnv f) (F .pc) (F .fits) (F .env) 0 (r .room) index d′ u y (omega arith) (omega arith)
               (triggered-at T root L M z (sym next) refl rest))
               (subst (λ (a : List (Advice Body)). Reach G e₀ Ω (suc (suc k)) s (triggered u a) K) q sequenced) in
               rw same (falls {S′ = S′} refl on)
@@ -315,7 +316,7 @@ module _ (T : Table) (root : ℕ) (L : Linked T 0 root) (G : Given) (e₀ : Tm) 
       pointcut-now : (vs : List CVal) (es : Tms) (f : ℕ) → FrameIs T root L M z f pointcutFrame m (P .env) → (R : LabelsAre T root L f (byteOf M (base A₀)) m vs es) → base A₀ ≡ suc (depthAt P A)
           → Reach G e₀ Ω k s (ret v) (opNF pcdN vs es (P .env) ∷ stackAt P A D) → Then (resumeLabels C f S)
       unfolding resumeLabels
-      pointcut-now vs es f F R b reach = rw (F .pc) (by (subst (λ (n : Node). Says T (C .image) w n) (R .node) (says .node m (says .few m (slot .no-atom)))))
+      pointcut-now vs es f F R b reach = rw (F .pc, mod-eq-of-lt (F .fits)) (by (subst (λ (n : Node). Says T (C .image) w n) (R .node) (says .node m (says .few m (slot .no-atom)))))
         where
           digits : digitsAt M (r .room) f ≡ digitsOf (R .done)
           digits = ap (λ (i : ℕ). slotHeld f + 68719476736 * getD (M .beside) i 0) (omega (arith, now .room)) ∙ R .digits
@@ -324,7 +325,7 @@ module _ (T : Table) (root : ℕ) (L : Linked T 0 root) (G : Given) (e₀ : Tm) 
           S′ = withRegs (setPc m (setEnv (slotEnv f) (setRoom (r .room + (depthOf w + 1)) r))) S
 
           p : InPlace T root L G e₀ Ω N B S′ k s m P A D
-          p = stands m (slotEnv f) (depthOf w + 1) (r .left) k (F .env) (omega arith) (omega (arith, deep)) (now .common .budget) (now .common .running)
+          p = stands m (slotEnv f) (depthOf w + 1) (r .left) k (F .env) (F .fits) (omega (arith, deep)) (now .common .budget) (now .common .running)
 
           by : Says T (C .image) w (manyN pcdM (R .children))
               → Then (choose (eqb (classOf w) pointcutClass) (labelsFrom C m (digitCount 8 (digitsAt M (r .room) f) + 1) (withDigit (digitsAt M (r .room) f) (bodyOf (r .hand) % 64)) S′) (withRegs (stuck r) S))

@@ -44,6 +44,7 @@ module _ (T : Table) (root : ℕ) (L : Linked T 0 root) where
     pub kind : slotKind f ≡ c
     pub pc : slotPc f ≡ m
     pub env : IsEnv T root L M z (slotEnv f) ρ
+    pub fits : slotEnv f < 2048
 
   -- Of a pointcut: its children; the labels of those that are done, latest first; and those that are left after the one that is worked out.
   pub record LabelsAre (f byte m : ℕ) (vs : List CVal) (es : Tms) : Type 0 where
@@ -68,7 +69,7 @@ module _ (T : Table) (root : ℕ) (L : Linked T 0 root) where
 
   module _ (M : Memory) (z : Sizes) (M′ : Memory) (z′ : Sizes) (g : Grows M z M′ z′) where
     frame-kept : {f f′ kind m : ℕ} {ρ : Env} → f′ ≡ f → FrameIs M z f kind m ρ → FrameIs M′ z′ f′ kind m ρ
-    frame-kept p h = record { kind = ap slotKind p ∙ h .kind; pc = ap slotPc p ∙ h .pc; env = env-at T root L M′ z′ (ap slotEnv p) (env-grows T root L M z M′ z′ g (h .env)) }
+    frame-kept p h = record { kind = ap slotKind p ∙ h .kind; pc = ap slotPc p ∙ h .pc; env = env-at T root L M′ z′ (ap slotEnv p) (env-grows T root L M z M′ z′ g (h .env)); fits = rw p (h .fits) }
 
     labels-kept : {f f′ b b′ m : ℕ} {vs : List CVal} {es : Tms} → f′ ≡ f → b′ ≡ b → LabelsAre f b m vs es → LabelsAre f′ b′ m vs es
     labels-kept p q h = rw (p, q) h

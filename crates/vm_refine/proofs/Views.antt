@@ -11,7 +11,7 @@ use Rattle.calculus.specs.View.{unitOf, truthOf, numberOf, labelOf, cellOf, lab
 use Rattle.closure_machine.specs.Closure.{CVal, Env, pairOfC, bodyOfC, adviceOfC, bodiesOfC, plainVal}
 use Rattle.vm_theory.specs.Table.{Table, Linked}
 use Rattle.vm_code.specs.Values.{tagOf, bodyOf}
-use Rattle.vm_machine.specs.Memory.{Memory, pieceFirst, pieceSecond}
+use Rattle.vm_machine.specs.Memory.{Memory, pieceFirst, pieceSecond, closureEnv}
 use Rattle.vm_refine.proofs.Relations.{Sizes, HasLabels, IsBody, IsObject, IsVal, is-unit, is-truth, is-num, is-fun, is-pair, is-cell, is-label, is-labels, is-advice, is-object, IsEnv, IsAdvice}
 
 module _ (T : Table) (root : ℕ) (L : Linked T 0 root) (M : Memory) (z : Sizes) where
@@ -84,7 +84,7 @@ module _ (T : Table) (root : ℕ) (L : Linked T 0 root) (M : Memory) (z : Sizes)
   as-pair (is-object p a e) = no-pair refl
 
   pub data AsFunction (w : ℕ) : CVal → Type 0 where
-    a-function : {y : Ty} {e : Tm} {ρ : Env} → IsBody T root L (bodyOf w % 2048) e (domOf y) → IsEnv T root L M z (bodyOf w / 65536 % 2048) ρ → AsFunction w (CVal.fun y e ρ)
+    a-function : {y : Ty} {e : Tm} {ρ : Env} → IsBody T root L (bodyOf w % 2048) e (domOf y) → IsEnv T root L M z (closureEnv w) ρ → AsFunction w (CVal.fun y e ρ)
     no-function : {v : CVal} → bodyOfC v ≡ none → AsFunction w v
 
   pub as-function : {w : ℕ} {v : CVal} → IsVal T root L M z w v → AsFunction w v
@@ -169,7 +169,7 @@ module _ (T : Table) (root : ℕ) (L : Linked T 0 root) (M : Memory) (z : Sizes)
   as-advice (is-object p a e) = no-advice refl
 
   pub data AsObject (w : ℕ) : CVal → Type 0 where
-    an-object : {y : Ty} {es : Tms} {ρ : Env} → IsObject T root L (bodyOf w % 1024) y es → IsEnv T root L M z (bodyOf w / 65536 % 2048) ρ → AsObject w (CVal.object y es ρ)
+    an-object : {y : Ty} {es : Tms} {ρ : Env} → IsObject T root L (bodyOf w % 1024) y es → IsEnv T root L M z (closureEnv w) ρ → AsObject w (CVal.object y es ρ)
     no-object : {v : CVal} → bodiesOfC v ≡ none → AsObject w v
 
   pub as-object : {w : ℕ} {v : CVal} → IsVal T root L M z w v → AsObject w v

@@ -3,9 +3,9 @@ use Prim.Native.Nat.{ℕ, zero, suc, _+_, _-_, _*_, _/_, _%_, _^_, _≤_, _<_}
 use native.Mathlib.Nat.{pow-suc, mod-eq-of-lt}
 use native.Mathlib.Omega.{arith}
 use mathlib.Core.Path.{_≡_, refl, sym, ap, _∙_}
-use lib.Dec.{eqb}
+use lib.Dec.{leb}
 use lib.Bits.{bitOr}
-use borrow.Author.Tests.{eq-eqb, ne-eqb, le-leb, lt-leb}
+use borrow.Author.Tests.{le-leb, lt-leb}
 use Rattle.calculus.specs.Combinators.{choose}
 use Rattle.vm_code.specs.Values.{unitValue}
 use Rattle.vm_machine.specs.Memory.{Memory, noBinding, boundLink, bindingAt, lookup, withBit, noDigits, digitCount, labelSet}
@@ -13,7 +13,7 @@ use Rattle.vm_machine.specs.Memory.{Memory, noBinding, boundLink, bindingAt, lo
 -- What is found k bindings outside the one with word w.
 unfoldable pub outside : Memory → ℕ → ℕ → ℕ
 outside M w zero = w
-outside M w (suc k) = choose (eqb (boundLink w) noBinding) unitValue (lookup M (boundLink w) k)
+outside M w (suc k) = choose (leb noBinding (boundLink w)) unitValue (lookup M (boundLink w) k)
 
 module _ (M : Memory) where
   pub lookup-outside : (i k : ℕ) → lookup M i k ≡ outside M (bindingAt M i) k
@@ -21,18 +21,18 @@ module _ (M : Memory) where
   lookup-outside i zero = refl
   lookup-outside i (suc k) = refl
 
-  pub outside-none : (w k : ℕ) → 0 < k → boundLink w ≡ noBinding → outside M w k ≡ unitValue
+  pub outside-none : (w k : ℕ) → 0 < k → noBinding ≤ boundLink w → outside M w k ≡ unitValue
   unfolding outside
   outside-none w zero h e = absurd (omega arith)
-  outside-none w (suc k) h e = rw (eq-eqb (boundLink w) noBinding e)
+  outside-none w (suc k) h e = rw (le-leb noBinding (boundLink w) e)
 
   -- u is the word of the next binding outside.
-  pub outside-on : (w k l u : ℕ) → 0 < k → l ≡ boundLink w → (l ≡ noBinding → ⊥) → u ≡ bindingAt M l → outside M w k ≡ outside M u (k - 1)
+  pub outside-on : (w k l u : ℕ) → 0 < k → l ≡ boundLink w → l < noBinding → u ≡ bindingAt M l → outside M w k ≡ outside M u (k - 1)
   unfolding outside
   outside-on w zero l u h e n d = absurd (omega arith)
   outside-on w (suc k) l u h e n d =
       let m : suc k - 1 ≡ k = omega arith in
-      rw (ne-eqb (boundLink w) noBinding (λ z. n (e ∙ z)), m) (ap (λ j. lookup M j k) (sym e) ∙ lookup-outside l k ∙ ap (λ x. outside M x k) (sym d))
+      rw (lt-leb noBinding (boundLink w) (omega arith), m) (ap (λ j. lookup M j k) (sym e) ∙ lookup-outside l k ∙ ap (λ x. outside M x k) (sym d))
 
   pub outside-here : (w k : ℕ) → k ≡ 0 → outside M w k ≡ w
   unfolding outside

@@ -3,3 +3,4 @@ pub mod Chosen
 pub mod Stored
 pub mod Found
 pub mod Sizes
+pub mod Links

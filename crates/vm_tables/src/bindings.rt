@@ -1,5 +1,6 @@
 // Bindings, from 0 on: link + 2^16 * target, and the value above 2^28. The target is that of the body of the advice whose
-// variable it is, 0 for any other. A link is the number of the binding outside, or 2047 where there is none.
+// variable it is, 0 for any other. A link is the number of the binding outside, or 2047 where there is none;
+// it has two bytes to itself (card 4).
 ghost use mathlib.Core.Path.{_≡_};
 ghost use Prim.Native.Nat.{_<_, _≤_};
 ghost use lib.ListN.{length};
@@ -14,7 +15,7 @@ use crate::words::word;
 const NO_BINDING: usize = 2047;
 
 fn binding(v: u64, target: usize, link: usize) -> u64
-    requires { ⌜ (target < 2048) × (link < 2048) ⌝ }
+    requires { ⌜ (target < 2048) × (link < 65536) ⌝ }
     ensures { λ r. ⌜ r ≡ machine.binding v target link ⌝ }
 {
     above(v, link as u64 + 65536 * (target as u64))
@@ -22,7 +23,7 @@ fn binding(v: u64, target: usize, link: usize) -> u64
 
 // Binding i becomes one of the value v.
 pub fn bind(work: &mut [u8], i: usize, v: u64, target: usize, link: usize)
-    requires { ⌜ (memoryLength ≤ length (now work)) × (i < 2048) × (target < 2048) × (link < 2048) ⌝ }
+    requires { ⌜ (memoryLength ≤ length (now work)) × (i < 2048) × (target < 2048) × (link < 65536) ⌝ }
     ensures { λ _. ⌜ Holds (putBinding i (machine.binding v target link) (memoryOf (now (work .entry)))) (now (work .entry)) (now (work .exit)) ⌝ }
 {
     put_word(work, i, binding(v, target, link));
@@ -37,7 +38,7 @@ pub fn bound_target(w: u64) -> usize
 fn bound_link(w: u64) -> usize
     ensures { λ r. ⌜ r ≡ boundLink w ⌝ }
 {
-    (w % 2048) as usize
+    (w % 65536) as usize
 }
 
 pub fn binding_at(work: &[u8], i: usize) -> u64
@@ -56,7 +57,7 @@ pub fn lookup(work: &[u8], env: usize, k: usize) -> u64
     let mut i = k;
     while 0 < i {
         let l = bound_link(w);
-        if l == NO_BINDING {
+        if NO_BINDING <= l {
             return 0;
         }
         w = binding_at(work, l);

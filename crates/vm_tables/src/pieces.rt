@@ -56,7 +56,7 @@ pub fn advice_target(w: u64) -> usize
 pub fn advice_env(w: u64) -> usize
     ensures { λ r. ⌜ r ≡ adviceEnv w ⌝ }
 {
-    (w / 65536 % 2048) as usize
+    (w / 65536 % 65536) as usize
 }
 
 // The piece of installed advice i, from 0 on.

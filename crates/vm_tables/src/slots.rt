@@ -20,7 +20,7 @@ const ADVICE: u64 = 1;
 const POINTCUT: u64 = 2;
 
 fn slot_word(kind: u64, pc: usize, env: usize, held: u64) -> u64
-    requires { ⌜ (kind < 3) × (pc ≤ 1024) × (env < 2048) × (held < 68719476736) ⌝ }
+    requires { ⌜ (kind < 3) × (pc ≤ 1024) × (env < 65536) × (held < 68719476736) ⌝ }
     ensures { λ r. ⌜ r ≡ slotWord kind pc env held ⌝ }
 {
     (env as u64) + 65536 * (pc as u64) + 67108864 * kind + 268435456 * held
@@ -29,7 +29,7 @@ fn slot_word(kind: u64, pc: usize, env: usize, held: u64) -> u64
 pub fn slot_env(f: u64) -> usize
     ensures { λ r. ⌜ r ≡ slotEnv f ⌝ }
 {
-    (f % 2048) as usize
+    (f % 65536) as usize
 }
 
 pub fn slot_pc(f: u64) -> usize
@@ -82,14 +82,15 @@ pub fn put_waiting(work: &mut [u8], room: usize, d: usize, v: u64)
 
 // A call's frame is there: the instruction that called and its environment.
 pub fn put_return(work: &mut [u8], room: usize, d: usize, pc: usize, env: usize)
-    requires { ⌜ (memoryLength ≤ length (now work)) × (room ≤ 513) × (d ≤ 66) × (pc ≤ 1024) × (env < 2048) ⌝ }
+    requires { ⌜ (memoryLength ≤ length (now work)) × (room ≤ 513) × (d ≤ 66) × (pc ≤ 1024) × (env < 65536) ⌝ }
     ensures { λ _. ⌜ Holds (putReturn room d pc env (memoryOf (now (work .entry)))) (now (work .entry)) (now (work .exit)) ⌝ }
 {
     let held = slot_held(slot_at(work, room, d));
     put_slot(work, room, d, slot_word(CALL, pc, env, held));
 }
 
-// A mark's frame is there: the mark, its environment, and the bindings that are left.
+// A mark's frame is there: the mark, its environment, and the bindings that are left, two bytes for each end of their
+// range (card 4): next from the word's bit 32 on, end from its bit 48 on.
 pub fn put_advice(
     work: &mut [u8],
     room: usize,
@@ -99,23 +100,23 @@ pub fn put_advice(
     next: usize,
     end: usize,
 )
-    requires { ⌜ (memoryLength ≤ length (now work)) × (room ≤ 513) × (d ≤ 66) × (pc ≤ 1024) × (env < 2048) × (next ≤ 4096) × (end < 4096) ⌝ }
+    requires { ⌜ (memoryLength ≤ length (now work)) × (room ≤ 513) × (d ≤ 66) × (pc ≤ 1024) × (env < 65536) × (next < 65536) × (end < 65536) ⌝ }
     ensures { λ _. ⌜ Holds (putAdvice room d pc env next end (memoryOf (now (work .entry)))) (now (work .entry)) (now (work .exit)) ⌝ }
 {
-    let held = (next as u64) + 4096 * (end as u64);
+    let held = 16 * (next as u64) + 1048576 * (end as u64);
     put_slot(work, room, d, slot_word(ADVICE, pc, env, held));
 }
 
 pub fn next_binding(f: u64) -> usize
     ensures { λ r. ⌜ r ≡ nextBinding f ⌝ }
 {
-    (slot_held(f) % 4096) as usize
+    (f / 4294967296 % 65536) as usize
 }
 
 pub fn end_binding(f: u64) -> usize
     ensures { λ r. ⌜ r ≡ endBinding f ⌝ }
 {
-    (slot_held(f) / 4096 % 4096) as usize
+    (f / 281474976710656 % 65536) as usize
 }
 
 // The byte beside slot i becomes the digits' high bits.
@@ -128,7 +129,7 @@ fn put_beside(work: &mut [u8], i: usize, digits: u64)
 
 // A pointcut's frame is there: it, its environment, and the digits of the labels that are done.
 pub fn put_digits(work: &mut [u8], room: usize, d: usize, pc: usize, env: usize, digits: u64)
-    requires { ⌜ (memoryLength ≤ length (now work)) × (room ≤ 513) × (0 < d) × (d ≤ 66) × (d ≤ room) × (pc ≤ 1024) × (env < 2048) ⌝ }
+    requires { ⌜ (memoryLength ≤ length (now work)) × (room ≤ 513) × (0 < d) × (d ≤ 66) × (d ≤ room) × (pc ≤ 1024) × (env < 65536) ⌝ }
     ensures { λ _. ⌜ Holds (putDigits room d pc env digits (memoryOf (now (work .entry)))) (now (work .entry)) (now (work .exit)) ⌝ }
 {
     put_slot(

@@ -36,11 +36,11 @@ shared-slice-read-depth-of c = search needs
 depth-of-requires : tie.Need-depth-of-requires
 depth-of-requires c κs = search needs
 
-add-t18 : tie.Need-add-t18
-add-t18 c = search needs
-
 add-t19 : tie.Need-add-t19
 add-t19 c = search needs
+
+add-t20 : tie.Need-add-t20
+add-t20 c = search needs
 
 returns : tie.Need-returns
 returns c =
@@ -65,7 +65,7 @@ part-of-spec =
     mul-depth-of
     shared-slice-read-depth-of
     depth-of-requires
-    add-t18
     add-t19
+    add-t20
     returns
     returns-2)

@@ -4,8 +4,8 @@ use borrow.Author.Needs.{needs}
 use Rattle.vm_reductions.proofs.calls.call_body.Statement.{statement}
 use Rattle.vm_reductions.proofs.calls.call_body.Tie as tie
 
-function-env-requires : tie.Need-function-env-requires
-function-env-requires c κs = search needs
+closure-env-requires : tie.Need-closure-env-requires
+closure-env-requires c κs = search needs
 
 bind-requires : tie.Need-bind-requires
 bind-requires c κs = search needs
@@ -23,7 +23,7 @@ same-length : tie.Need-same-length
 same-length c = search needs
 
 returns : tie.Need-returns
-returns c = let a = c .before .before .before .before .before .before .before .before .before .before .before .before .before .before .args in λ image. call-made (record { code = now (a .code); image = image }) (now (a .work)) _ _ (a .r) _ (a .w) (a .x) (a .g) _ (c .before .before .before .before .before .before .before .before .before .before .before .if1 .taken) (c .before .before .before .before .before .before .before .before .before .function-env .ensures) (c .before .before .before .before .before .before .before .before .bind .ensures) (c .before .before .before .before .called .ensures image)
+returns c = let a = c .before .before .before .before .before .before .before .before .before .before .before .before .before .before .args in λ image. call-made (record { code = now (a .code); image = image }) (now (a .work)) _ _ (a .r) _ (a .w) (a .x) (a .g) _ (c .before .before .before .before .before .before .before .before .before .before .before .if1 .taken) (c .before .before .before .before .before .before .before .before .before .closure-env .ensures) (c .before .before .before .before .before .before .before .before .bind .ensures) (c .before .before .before .before .called .ensures image)
 
 halt-requires : tie.Need-halt-requires
 halt-requires c κs = search needs
@@ -35,7 +35,7 @@ pub call-body-spec : {M : Type 1} → statement M
 call-body-spec =
     tie.close
     (tie.spec
-    function-env-requires
+    closure-env-requires
     bind-requires
     called-requires
     add-m

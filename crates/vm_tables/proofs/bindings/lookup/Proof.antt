@@ -24,7 +24,7 @@ bound-link-requires : tie.Need-bound-link-requires Inv-loop μ-loop
 bound-link-requires c κs = search needs
 
 returns : tie.Need-returns Inv-loop μ-loop
-returns c = sym (c .before .before .before .loop .inv ∙ outside-none _ _ _ (c .before .before .loop-test .taken) (sym (c .before .bound-link .ensures) ∙ c .if1 .taken))
+returns c = sym (c .before .before .before .loop .inv ∙ outside-none _ _ _ (c .before .before .loop-test .taken) (omega (arith, c .before .bound-link .ensures, c .if1 .taken)))
 
 binding-at-requires-2 : tie.Need-binding-at-requires-2 Inv-loop μ-loop
 binding-at-requires-2 c κs = search needs

@@ -7,6 +7,9 @@ use Rattle.vm_tables.proofs.slots.put_advice.Tie as tie
 mul-held : tie.Need-mul-held
 mul-held c = search needs
 
+mul-held-2 : tie.Need-mul-held-2
+mul-held-2 c = search needs
+
 add-held : tie.Need-add-held
 add-held c = search needs
 
@@ -24,4 +27,4 @@ returns c = put-as _ _ _ _ _ _ refl (c .before .before .before .slot-word .ensur
 
 pub put-advice-spec : {M : Type 1} → statement M
 put-advice-spec =
-    tie.close (tie.spec mul-held add-held slot-word-requires put-slot-requires same-length returns)
+    tie.close (tie.spec mul-held mul-held-2 add-held slot-word-requires put-slot-requires same-length returns)
