@@ -29,7 +29,7 @@ enum {
 /* How a run ended (document 01, "A run"). */
 enum bukzarn_outcome {
     BUKZARN_DONE = 0,
-    BUKZARN_SPENT = 1,   /* the steps equal the budget */
+    BUKZARN_SPENT = 1,   /* the steps equal the budget, and the next step lacks no room */
     BUKZARN_ABORTED = 2, /* the program aborted */
     BUKZARN_FRAMES = 3,  /* more than 512 unfinished terms */
     BUKZARN_BINDINGS = 4,

@@ -275,6 +275,20 @@ def object_cases():
     yield "longer-object-type", byte_behind(image(adding(2)), OBJECT_T), BUDGET
 
 
+def room_cases():
+    """Cases of document 02, card 5: the budget ends where the next step lacks room, and one step before."""
+    yield "frames-513", image(enclosed(513)), 2563
+    yield "frames-513", image(enclosed(513)), 2562
+    yield "bindings-2049", image(repeat(2047, unit())), 12_287
+    yield "bindings-2049", image(repeat(2047, unit())), 12_286
+    yield "cells-257", image(cells(257)), 2048
+    yield "labels-65", image(repeat(65, let("l", new_label(UNIT), unit()))), 520
+    yield "advice-65", image(installed(65)), 459
+    yield "pieces-513", image(pieces(513)), 4104
+    yield "aborted", image(aborting()), 5
+    yield "aborted", image(aborting()), 4
+
+
 def all_cases():
     """Each case: its name, its image, its budget."""
     i = variable("i", NUMBER)
@@ -312,3 +326,4 @@ def all_cases():
     yield "longer-type-twice", longer_type_twice(), BUDGET
     yield "short-number", short_number(), BUDGET
     yield from object_cases()
+    yield from room_cases()

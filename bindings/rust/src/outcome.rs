@@ -7,7 +7,7 @@ use std::fmt;
 pub enum Outcome {
     /// A value was reached.
     Done = 0,
-    /// The steps equal the budget.
+    /// The steps equal the budget, and the next step lacks no room.
     Spent = 1,
     /// The program aborted.
     Aborted = 2,

@@ -81,3 +81,16 @@ calls = refl
 calls-bind : run 100 G 0 fresh called .state .used ≡ record { bindings = 2; cells = 0; pieces = 0 }
 unfolding called run after cases step subst carry if-room with spend picked
 calls-bind = refl
+
+-- Card 5: "Budget 0 is such a case where the first step lacks room"; an abort needs none, and is spent.
+no-room-first : run 0 (record { frame = []; logLength = 9 }) 0 fresh (say (number 3)) .end ≡ stopped Outcome.Log
+unfolding run cases step if-room with picked
+no-room-first = refl
+
+no-frames-first : run 0 G 0 fresh (nest 514) .end ≡ stopped Outcome.Frames
+unfolding run cases step carry if-room with nest
+no-frames-first = refl
+
+abort-spent : run 0 G 0 fresh (op0 abort Ty.unit) .end ≡ stopped Outcome.Spent
+unfolding run cases step if-room
+abort-spent = refl

@@ -9,7 +9,7 @@ use Rattle.calculus.specs.State.{State, Given}
 use Rattle.calculus.specs.Answer.{Answer, go, full, halt, wrong}
 use Rattle.calculus.specs.Place.{top}
 use Rattle.calculus.specs.Step.{step}
-use Rattle.calculus.specs.Run.{End, done, stopped, stuck, Ended, ended, after, run}
+use Rattle.calculus.specs.Run.{End, done, stopped, stuck, Ended, ended, after, unpaid, run}
 use Rattle.calculus_noninterference.proofs.Paired.{NoStep}
 
 pub run-value : (n : ℕ) (G : Given) (k : ℕ) (s : State) (e : Tm) {v : Val} → asValue e ≡ some v → run n G k s e ≡ ended (done v) k s
@@ -37,10 +37,16 @@ valueless-stopped o k = record { over = refl; no-value = λ v p. transp IsDone p
 valueless-stuck : {s : State} (k : ℕ) → Valueless s (ended stuck k s)
 valueless-stuck k = record { over = refl; no-value = λ v p. transp IsDone p tt }
 
--- Where the budget is spent.
+valueless-unpaid : {s : State} (a : Answer State Tm) (k : ℕ) → Valueless s (ended (unpaid a) k s)
+valueless-unpaid (go t f) k = valueless-stopped _ _
+valueless-unpaid (full o) k = valueless-stopped _ _
+valueless-unpaid halt k = valueless-stopped _ _
+valueless-unpaid wrong k = valueless-stuck _
+
+-- Where nothing is left of the budget.
 pub run-spent : (G : Given) (k : ℕ) (s : State) (e : Tm) → asValue e ≡ none → Valueless s (run zero G k s e)
 unfolding run after cases
-run-spent G k s e p = rw (p, run) (valueless-stopped _ _)
+run-spent G k s e p = rw (p, run) (valueless-unpaid (step e G top s) k)
 
 -- Where no step is made.
 pub run-none : (n : ℕ) (G : Given) (k : ℕ) (s : State) (e : Tm) (a : Answer State Tm) → asValue e ≡ none → step e G top s ≡ a → NoStep a → Valueless s (run n G k s e)

@@ -7,12 +7,12 @@ use mathlib.Core.Option.{Option, none, some}
 use lib.Dec.{T, ltb, ltb→lt}
 use Rattle.calculus.specs.declared.Outcome.{Outcome}
 use Rattle.calculus.specs.Combinators.{cases}
-use Rattle.calculus.specs.Syntax.{Ty, Val, Tm, asValue}
+use Rattle.calculus.specs.Syntax.{Dom, Ty, Val, Tm, asValue}
 use Rattle.calculus.specs.State.{State, Given, fresh}
 use Rattle.calculus.specs.Answer.{Answer}
 use Rattle.calculus.specs.Place.{top}
 use Rattle.calculus.specs.Step.{step}
-use Rattle.calculus.specs.Run.{End, done, stopped, stuck, Ended, ended, after, run}
+use Rattle.calculus.specs.Run.{End, done, stopped, stuck, Ended, ended, after, unpaid, run}
 use Rattle.calculus.specs.Report.{outcomeNumber, outcomeOf, report}
 use Rattle.calculus.specs.Typing.{StoreTyping, Policy, ValTy, TmTy, noStore}
 use Rattle.calculus.specs.Accepted.{Transitive}
@@ -50,6 +50,12 @@ module _ (D : Policy) where
     ends-outcome (ends-done h) = (Outcome.Done, refl)
     ends-outcome (ends-stopped {o} n) = (o, refl)
 
+    -- Nothing is left of the budget.
+    ends-unpaid : {c : Dom} {a : Answer State Tm} → Safe D Σ c t a → Ends t Σ (unpaid a)
+    ends-unpaid (safe-go x f h) = ends-stopped (not-done 0 tt)
+    ends-unpaid (safe-full m) = ends-stopped (not-done 2 m)
+    ends-unpaid safe-halt = ends-stopped (not-done 0 tt)
+
     not-stuck : Ends t Σ stuck → ⊥
     not-stuck = elim [ ]
 
@@ -60,7 +66,7 @@ module _ (D : Policy) where
       where
         look : (o : Option Val) → asValue e ≡ o → Found (λ v. ValTy D Σ v t) o → EndsWell t Σ (run zero G k s e)
         look o eq (found hv) = rw (eq, run) (ends-now k s f (ends-done hv))
-        look o eq nothing = rw (eq, run) (ends-now k s f (ends-stopped (not-done 0 tt)))
+        look o eq nothing = rw (eq, run) (ends-now k s f (ends-unpaid (safe D Σ trans G h refl eq top s f)))
     run-safe (suc n) {Σ} {e} {t} h k s f = look (asValue e) refl (as-value D Σ h) (λ Σ′ s′ e′ f′ h′. run-safe n h′ (suc k) s′ f′)
       where
         Later : Type 0

@@ -9,5 +9,7 @@ pub mod Steps
 pub mod Demands
 pub mod Trimmed
 pub mod LowMethods
+pub mod Unpaid
+pub mod UnpaidExample
 pub mod Sheet
 pub mod Example

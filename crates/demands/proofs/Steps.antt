@@ -11,7 +11,7 @@ use Rattle.calculus.specs.State.{State, Given, fresh}
 use Rattle.calculus.specs.Answer.{Answer, go, full, halt, wrong}
 use Rattle.calculus.specs.Place.{top}
 use Rattle.calculus.specs.Step.{step}
-use Rattle.calculus.specs.Run.{End, done, stopped, stuck, Ended, ended, after, run}
+use Rattle.calculus.specs.Run.{End, done, stopped, stuck, Ended, ended, after, unpaid, run}
 use Rattle.calculus.specs.Report.{outcomeOf, report}
 use Rattle.calculus.specs.Typing.{Policy, StoreTyping, TmTy, noStore}
 use Rattle.calculus.specs.Accepted.{Transitive}
@@ -23,7 +23,7 @@ pub steps-within : (n : ℕ) (G : Given) (k : ℕ) (s : State) (e : Tm) → run 
 unfolding run cases after
 steps-within zero G k s e = look (asValue e)
   where
-    look : (o : Option Val) → cases {C = Ended} o (λ v. ended (done v) k s) (λ u. ended (stopped Outcome.Spent) k s) .steps ≤ k + 0
+    look : (o : Option Val) → cases {C = Ended} o (λ v. ended (done v) k s) (λ u. ended (unpaid (step e G top s)) k s) .steps ≤ k + 0
     look (some v) = omega arith
     look none = omega arith
 steps-within (suc n) G k s e = look (λ s′ e′. steps-within n G (suc k) s′ e′) (asValue e)
@@ -52,8 +52,8 @@ module _ (D : Policy) (trans : Transitive D) (G : Given) where
   unfolding run after cases
   spent-whole zero {e = e} h k s f = look (asValue e)
     where
-      look : (o : Option Val) → cases {C = Ended} o (λ v. ended (done v) k s) (λ u. ended (stopped Outcome.Spent) k s) .end ≡ stopped Outcome.Spent
-          → cases {C = Ended} o (λ v. ended (done v) k s) (λ u. ended (stopped Outcome.Spent) k s) .steps ≡ k + 0
+      look : (o : Option Val) → cases {C = Ended} o (λ v. ended (done v) k s) (λ u. ended (unpaid (step e G top s)) k s) .end ≡ stopped Outcome.Spent
+          → cases {C = Ended} o (λ v. ended (done v) k s) (λ u. ended (unpaid (step e G top s)) k s) .steps ≡ k + 0
       look (some v) p = let z : _≡_ {A = ℕ} 0 1 = cc in absurd (omega arith)
       look none p = omega arith
   spent-whole (suc n) {Σ} {e} {t} h k s f = look (asValue e) refl (λ Σ′ s′ e′ f′ h′. spent-whole n h′ (suc k) s′ f′)

@@ -4,3 +4,4 @@ pub mod SameBytes
 pub mod Compare
 pub mod Trimmed
 pub mod LowMethods
+pub mod Unpaid

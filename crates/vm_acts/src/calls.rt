@@ -10,11 +10,12 @@ ghost use Rattle.vm_machine.specs.States.{judged};
 ghost use Rattle.vm_machine.specs.Fits.{Fits};
 ghost use Rattle.vm_machine.specs.Turn.{reduceCall};
 ghost use Rattle.vm_states.specs.Phases.{Phase};
-use crate::steps::is_short;
 use vm_labels::entry::method_at;
 use vm_machine::Regs;
 use vm_reductions::calls::call_body;
-use vm_states::regs::lacking;
+use vm_states::outcomes::FRAMES;
+use vm_states::regs::halt;
+use vm_words::code::depth_of;
 use vm_words::code::field_b;
 use vm_words::value::body;
 
@@ -30,7 +31,7 @@ fn object_term(x: u64) -> usize
 
 // The method in field b of the object x.
 fn reduce_call(code: &[u64], image: &[u8], work: &mut [u8], r: Regs, w: u64, x: u64) -> Regs
-    requires { ⌜ (termCount ≤ length (now code)) × (memoryLength ≤ length (now work)) × (0 < r .left) × (depthOf w ≤ r .room) × ((size : ℕ) × Fits size r) ⌝ }
+    requires { ⌜ (termCount ≤ length (now code)) × (memoryLength ≤ length (now work)) × (depthOf w ≤ r .room) × ((size : ℕ) × Fits size r) ⌝ }
     ensures { λ q. ⌜ Phase (reduceCall (record { code = now (code .entry); image = now (image .entry) }) w x) (now (work .entry)) (now (work .exit)) r q ⌝ }
 {
     let t = object_term(x);
@@ -42,8 +43,8 @@ pub fn call(code: &[u64], image: &[u8], work: &mut [u8], r: Regs, w: u64, x: u64
     requires { ⌜ (termCount ≤ length (now code)) × (memoryLength ≤ length (now work)) × ((size : ℕ) × Fits size r) ⌝ }
     ensures { λ q. ⌜ Phase (λ S. judged w S (reduceCall (record { code = now (code .entry); image = now (image .entry) }) w x S)) (now (work .entry)) (now (work .exit)) r q ⌝ }
 {
-    if is_short(r.left, r.room, w) {
-        return lacking(r);
+    if r.room <= depth_of(w) {
+        return halt(r, FRAMES);
     }
     reduce_call(code, image, work, r, w, x)
 }

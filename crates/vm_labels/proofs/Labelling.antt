@@ -9,13 +9,14 @@ use borrow.Author.Tests.{le-leb, lt-leb, not-true, not-false}
 use Rattle.calculus.specs.declared.Outcome.{Outcome}
 use Rattle.calculus.specs.Combinators.{choose}
 use Rattle.calculus.specs.Limits.{pieceLimit}
+use Rattle.calculus.specs.Report.{outcomeNumber}
 use Rattle.vm_code.specs.Values.{pointcutTag, bodyOf}
 use Rattle.vm_code.specs.Words.{classOf, depthOf, countOf, termCount, home}
 use Rattle.vm_code.specs.Classes.{pointcutClass}
 use Rattle.vm_machine.specs.declared.Regs.{Regs}
-use Rattle.vm_machine.specs.Registers.{headroom, fullRoom, setPc, setEnv, setRoom, halt, stuck}
+use Rattle.vm_machine.specs.Registers.{headroom, fullRoom, setPc, setEnv, setRoom, haltWith, halt, stuck}
 use Rattle.vm_machine.specs.Memory.{Memory, slotPc, slotEnv, digitsAt, digitCount, noDigits, withDigit, labelSet, putDigits}
-use Rattle.vm_machine.specs.States.{State, withRegs, lacking, judged}
+use Rattle.vm_machine.specs.States.{State, withRegs, judged}
 use Rattle.vm_machine.specs.Fetch.{Program, codeAt}
 use Rattle.vm_machine.specs.Reduce.{newPiece}
 use Rattle.vm_machine.specs.Turn.{Taken, childAt, entryFrom, takeLabels, labelsFrom, beginLabels, resumeLabels}
@@ -23,6 +24,7 @@ use Rattle.vm_tables.specs.View.{memoryOf, Holds}
 use Rattle.vm_tables.proofs.Chosen.{chosen-yes, chosen-no}
 use Rattle.vm_states.specs.Phases.{stateOf, Moved, Phase}
 use Rattle.vm_states.proofs.Made.{as-phase, stored-made, regs-made}
+use Rattle.vm_states.proofs.Ended.{unpaid-room}
 use Rattle.vm_labels.specs.declared.Part.{Part}
 use Rattle.vm_labels.specs.Parts.{RoomAfter, childBegun, begunPart, partOf, isStrange, labelled}
 
@@ -36,25 +38,21 @@ few-digits (suc n) d = try (leb d noDigits) (few-digits n (d / 64))
     try true h = omega arith
     try false h = omega arith
 
--- The instruction with word w makes its step f, or a limit is met first.
-module _ (f : State → State) (a b : List ℕ) (r q : Regs) (w : ℕ) where
-  abbrev ruled : State → State
-  ruled S = judged w S (f S)
+-- The instruction with word w, d terms deep in its body, makes its step f, or lacks a frame.
+module _ (f : State → State) (a b : List ℕ) (r q : Regs) (w d : ℕ) (k : d ≡ depthOf w) where
+  pub judged-frames : r .room ≤ d → q ≡ halt Outcome.Frames r → Phase (λ S. judged w S (f S)) a a r q
+  judged-frames l e =
+      regs-made (λ S. judged w S (f S)) a r q (halt Outcome.Frames r) (λ log. sym (chosen-yes _ _ _ (le-leb (r .room) (depthOf w) (omega arith)))) e
 
-  pub judged-spent : r .left ≤ headroom → q ≡ halt Outcome.Spent r → Phase ruled a a r q
-  judged-spent h e = regs-made ruled a r q (halt Outcome.Spent r) (λ log. sym (chosen-yes _ _ _ (le-leb (r .left) headroom h))) e
+  pub judged-made : d < r .room → Phase f a b r q → Phase (λ S. judged w S (f S)) a b r q
+  judged-made l p = as-phase f (λ S. judged w S (f S)) a b r q (λ log. sym (chosen-no _ _ _ (lt-leb (r .room) (depthOf w) (omega arith)))) p
 
-  module _ (h : headroom < r .left) where
-    some-left : (log : List ℕ) → ruled (stateOf a log r) ≡ choose (leb (r .room) (depthOf w)) (withRegs (halt Outcome.Frames r) (stateOf a log r)) (f (stateOf a log r))
-    some-left log = chosen-no _ _ _ (lt-leb (r .left) headroom h)
-
-    pub judged-frames : (d : ℕ) → d ≡ depthOf w → r .room ≤ d → q ≡ halt Outcome.Frames r → Phase ruled a a r q
-    judged-frames d k l e =
-        regs-made ruled a r q (halt Outcome.Frames r) (λ log. sym (some-left log ∙ chosen-yes _ _ _ (le-leb (r .room) (depthOf w) (omega arith)))) e
-
-    pub judged-made : (d : ℕ) → d ≡ depthOf w → d < r .room → Phase f a b r q → Phase ruled a b r q
-    judged-made d k l p =
-        as-phase f ruled a b r q (λ log. sym (some-left log ∙ chosen-no _ _ _ (lt-leb (r .room) (depthOf w) (omega arith)))) p
+-- Nothing is left of the budget for a piece: o says what is missing (card 5).
+pub piece-unpaid : (a : List ℕ) (r q : Regs) (w tag x y o : ℕ) → r .left ≤ headroom → o ≡ choose (ltb (r .pools .pieces) pieceLimit) (outcomeNumber Outcome.Spent) (outcomeNumber Outcome.Pieces) → q ≡ haltWith o (r .left) r
+    → Phase (newPiece w tag x y) a a r q
+piece-unpaid a r q w tag x y o h e f =
+    regs-made (newPiece w tag x y) a r q (haltWith (choose (ltb (r .pools .pieces) pieceLimit) (outcomeNumber Outcome.Spent) (outcomeNumber Outcome.Pieces)) (r .left) r)
+    (λ log. unpaid-room (ltb (r .pools .pieces) pieceLimit) Outcome.Pieces (stateOf a log r) _ h) (f ∙ ap (λ (i : ℕ). haltWith i (r .left) r) e)
 
 -- The pointcut with word w and n children is made; s is the set of its labels.
 pub pointcut-as : (a b : List ℕ) (r q : Regs) (w n s digits : ℕ) → n ≡ countOf w → s ≡ labelSet n digits 0 → Phase (newPiece w pointcutTag 0 s) a b r q
@@ -68,8 +66,8 @@ room-of false S T n d e = e
 
 pub made-room : (w s : ℕ) (S : State) → judged w S (newPiece w pointcutTag 0 s S) .regs .room ≡ S .regs .room
 made-room w s S =
-    room-of (leb (S .regs .left) headroom) _ _ (S .regs .room) refl
-    (room-of (leb (S .regs .room) (depthOf w)) _ _ (S .regs .room) refl (room-of (ltb (S .regs .pools .pieces) pieceLimit) _ _ (S .regs .room) refl refl))
+    room-of (leb (S .regs .room) (depthOf w)) _ _ (S .regs .room) refl
+    (room-of (ltb (S .regs .pools .pieces) pieceLimit) _ _ (S .regs .room) (room-of (leb (S .regs .left) headroom) _ _ (S .regs .room) refl refl) refl)
 
 -- A child is begun under d unfinished terms: m is the room of its body.
 pub child-made : (C : Program) (a b : List ℕ) (r s : Regs) (w m d x e : ℕ) (k : Taken) → s ≡ r → d ≡ depthOf w → m ≡ r .room - (d + 1) → d + 1 < r .room → x ≡ childAt C w (k .count) → e ≡ entryFrom termCount C x
@@ -96,7 +94,7 @@ module _ (C : Program) (a b : List ℕ) (r q : Regs) (t i d : ℕ) (k : Taken) (
   abbrev by : Taken → State → State
   by x S =
       choose (leb (countOf w) (x .count)) (judged w S (newPiece w pointcutTag 0 (labelSet (countOf w) (x .digits) 0) S))
-      (choose (leb (S .regs .room) (depthOf w + 1)) (withRegs (lacking (S .regs)) S) (childBegun C t w x S))
+      (choose (leb (S .regs .room) (depthOf w + 1)) (withRegs (halt Outcome.Frames (S .regs)) S) (childBegun C t w x S))
 
   known : (log : List ℕ) → by k (stateOf a log r) ≡ labelsFrom C t i d (stateOf a log r)
   known log = ap (λ x. by x (stateOf a log r)) taken
@@ -114,11 +112,11 @@ module _ (C : Program) (a b : List ℕ) (r q : Regs) (t i d : ℕ) (k : Taken) (
       rw e at l
 
   module _ (more : k .count < n) (m : ℕ) (depth : m ≡ depthOf w) where
-    more-by : (log : List ℕ) → choose (leb (r .room) (depthOf w + 1)) (withRegs (lacking r) (stateOf a log r)) (childBegun C t w k (stateOf a log r)) ≡ labelsFrom C t i d (stateOf a log r)
+    more-by : (log : List ℕ) → choose (leb (r .room) (depthOf w + 1)) (withRegs (halt Outcome.Frames r) (stateOf a log r)) (childBegun C t w k (stateOf a log r)) ≡ labelsFrom C t i d (stateOf a log r)
     more-by log = sym (chosen-no _ _ _ (lt-leb (countOf w) (k .count) (omega arith))) ∙ known log
 
-    pub no-room : r .room ≤ m + 1 → q ≡ lacking r → Phase (labelsFrom C t i d) a a r q
-    no-room h e = regs-made (labelsFrom C t i d) a r q (lacking r) (λ log. (sym (chosen-yes _ _ _ (le-leb (r .room) (depthOf w + 1) (omega arith))) ∙ more-by log)) e
+    pub no-room : r .room ≤ m + 1 → q ≡ halt Outcome.Frames r → Phase (labelsFrom C t i d) a a r q
+    no-room h e = regs-made (labelsFrom C t i d) a r q (halt Outcome.Frames r) (λ log. (sym (chosen-yes _ _ _ (le-leb (r .room) (depthOf w + 1) (omega arith))) ∙ more-by log)) e
 
     pub one-begun : m + 1 < r .room → Phase (childBegun C t w k) a b r q → Phase (labelsFrom C t i d) a b r q
     one-begun h p = as-phase (childBegun C t w k) (labelsFrom C t i d) a b r q (λ log. (sym (chosen-no _ _ _ (lt-leb (r .room) (depthOf w + 1) (omega arith))) ∙ more-by log)) p

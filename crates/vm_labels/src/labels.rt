@@ -24,13 +24,14 @@ use crate::children::take_labels;
 use crate::entry::entry_from;
 use vm_machine::Regs;
 use vm_states::limits::BINDINGS;
+use vm_states::limits::PIECES;
+use vm_states::outcomes;
 use vm_states::outcomes::FRAMES;
-use vm_states::outcomes::SPENT;
 use vm_states::pieces::new_piece;
 use vm_states::regs::HEADROOM;
 use vm_states::regs::halt;
-use vm_states::regs::lacking;
 use vm_states::regs::same;
+use vm_states::regs::spent_or;
 use vm_states::regs::stuck;
 use vm_tables::labels::digit_count;
 use vm_tables::labels::label_set;
@@ -61,11 +62,11 @@ fn make_pointcut(work: &mut [u8], r: Regs, w: u64, digits: u64) -> Regs
     requires { ⌜ (memoryLength ≤ length (now work)) × (r .room ≤ fullRoom) ⌝ }
     ensures { λ q. ⌜ Phase (λ S. judged w S (newPiece w pointcutTag 0 (labelSet (countOf w) digits 0) S)) (now (work .entry)) (now (work .exit)) r q ⌝ }
 {
-    if r.left <= HEADROOM {
-        return halt(r, SPENT);
-    }
     if r.room <= depth_of(w) {
         return halt(r, FRAMES);
+    }
+    if r.left <= HEADROOM {
+        return halt(r, spent_or(r.pools.pieces < PIECES, outcomes::PIECES));
     }
     new_piece(work, r, w, POINTCUT, 0, label_set(count_of(w), digits))
 }
@@ -95,7 +96,7 @@ fn labels_from(code: &[u64], image: &[u8], work: &mut [u8], r: Regs, from: Done)
         return make_pointcut(work, r, w, done.digits);
     }
     if r.room <= depth_of(w) + 1 {
-        return lacking(r);
+        return halt(r, FRAMES);
     }
     begin_child(code, image, work, r, w, done)
 }

@@ -5,13 +5,14 @@ use mathlib.Core.List.{List}
 use lib.ListN.{getD}
 use lib.Dec.{leb, ltb}
 use borrow.Author.Tests.{le-leb, lt-leb, lt-ltb, le-ltb}
+use Rattle.calculus.specs.declared.Outcome.{Outcome}
 use Rattle.calculus.specs.Combinators.{choose}
 use Rattle.vm_code.specs.Values.{unitValue}
 use Rattle.vm_code.specs.Words.{depthOf, isInstruction, termCount, home}
 use Rattle.vm_machine.specs.declared.Regs.{Regs}
-use Rattle.vm_machine.specs.Registers.{headroom, fullRoom, setPc, setHand, setEnv, setRoom, setLeft, haltWith}
+use Rattle.vm_machine.specs.Registers.{headroom, fullRoom, setPc, setHand, setEnv, setRoom, setLeft, haltWith, halt}
 use Rattle.vm_machine.specs.Memory.{Memory, bindingAt, boundTarget, slotEnv, slotPc, nextBinding, endBinding, putAdvice}
-use Rattle.vm_machine.specs.States.{State, withRegs, withMemory, lacking, completed}
+use Rattle.vm_machine.specs.States.{State, withRegs, withMemory, completed}
 use Rattle.vm_machine.specs.Fetch.{Program, codeAt}
 use Rattle.vm_machine.specs.Reduce.{bodyAt, startAdvice, nextAdvice}
 use Rattle.vm_tables.specs.View.{memoryOf, Holds}
@@ -34,16 +35,16 @@ module _ (M : Memory) (b u g : ℕ) (d : u ≡ bindingAt M b) (e : g ≡ boundTa
 abbrev startAt : ℕ → ℕ → ℕ → State → State
 startAt d n m S =
     let r : Regs = S .regs in
-    choose (leb (r .room) (d + 1)) (withRegs (lacking r) S)
+    choose (leb (r .room) (d + 1)) (withRegs (halt Outcome.Frames r) S)
     (withMemory (putAdvice (r .room) (d + 2) (r .pc) (r .env) (n + 1) m (S .memory)) (setPc (bodyAt (S .memory) n) (setHand unitValue (setEnv n (setRoom (r .room - (d + 2)) r)))) S)
 
 start-as : (a b : List ℕ) (r q : Regs) (w d n m : ℕ) → d ≡ depthOf w → Phase (startAt d n m) a b r q → Phase (startAdvice w n m) a b r q
 start-as a b r q w d n m e p = subst (λ (i : ℕ). Phase (startAt i n m) a b r q) e p
 
 module _ (a b : List ℕ) (r s : Regs) (w d n m : ℕ) (e : d ≡ depthOf w) where
-  pub start-lacking : r .room ≤ d + 1 → s ≡ lacking r → Phase (startAdvice w n m) a a r s
+  pub start-lacking : r .room ≤ d + 1 → s ≡ halt Outcome.Frames r → Phase (startAdvice w n m) a a r s
   start-lacking h f =
-      start-as a a r s w d n m e (regs-made (startAt d n m) a r s (lacking r) (λ log. sym (chosen-yes _ _ _ (le-leb (r .room) (d + 1) h))) f)
+      start-as a a r s w d n m e (regs-made (startAt d n m) a r s (halt Outcome.Frames r) (λ log. sym (chosen-yes _ _ _ (le-leb (r .room) (d + 1) h))) f)
 
   pub start-made : (t : ℕ) → d + 1 < r .room → t ≡ bodyAt (memoryOf a) n → s ≡ r → Holds (putAdvice (r .room) (d + 2) (r .pc) (r .env) (n + 1) m (memoryOf a)) a b → Phase (startAdvice w n m) a b r (setPc t (setHand unitValue (setEnv n (setRoom (r .room - (d + 2)) s))))
   start-made t h f g k =

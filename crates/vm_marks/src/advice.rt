@@ -18,8 +18,8 @@ use vm_states::ends::completed;
 use vm_states::limits::BINDINGS;
 use vm_states::outcomes;
 use vm_states::regs::HEADROOM;
+use vm_states::regs::halt;
 use vm_states::regs::halt_with;
-use vm_states::regs::lacking;
 use vm_states::regs::same;
 use vm_tables::bindings::binding_at;
 use vm_tables::bindings::bound_target;
@@ -49,7 +49,7 @@ pub fn start_advice(work: &mut [u8], r: Regs, w: u64, n: usize, m: usize) -> Reg
 {
     let d = depth_of(w);
     if r.room <= d + 1 {
-        return lacking(r);
+        return halt(r, outcomes::FRAMES);
     }
     let t = body_at(work, n);
     put_advice(work, r.room, d + 2, r.pc, r.env, n + 1, m);

@@ -4,6 +4,7 @@ ghost use Prim.Native.Nat.{ℕ, _%_, _≤_, _<_};
 ghost use lib.ListN.{length};
 ghost use Rattle.base_bytes.specs.Memory.{memoryLength};
 ghost use Rattle.vm_code.specs.Values.{bodyOf};
+ghost use Rattle.vm_machine.specs.Registers.{headroom};
 ghost use Rattle.vm_machine.specs.Fits.{Fits};
 ghost use Rattle.vm_machine.specs.Reduce.{reduceMark};
 ghost use Rattle.vm_states.specs.Phases.{Phase};
@@ -15,6 +16,7 @@ use vm_states::limits::BINDINGS;
 use vm_states::outcomes;
 use vm_states::regs::halt;
 use vm_states::regs::same;
+use vm_states::regs::spent_or;
 use vm_tables::labels::has_bit;
 use vm_words::value::body;
 
@@ -29,7 +31,7 @@ fn label_of(v: u64) -> u64
 
 // The label x is marked, with the value y.
 pub fn reduce_mark(work: &mut [u8], r: Regs, w: u64, x: u64, y: u64) -> Regs
-    requires { ⌜ (memoryLength ≤ length (now work)) × (0 < r .left) × ((size : ℕ) × Fits size r) ⌝ }
+    requires { ⌜ (memoryLength ≤ length (now work)) × (headroom < r .left) × ((size : ℕ) × Fits size r) ⌝ }
     ensures { λ q. ⌜ Phase (reduceMark w x y) (now (work .entry)) (now (work .exit)) r q ⌝ }
 {
     let l = label_of(x);
@@ -48,4 +50,17 @@ pub fn reduce_mark(work: &mut [u8], r: Regs, w: u64, x: u64, y: u64) -> Regs
     s.left = r.left - 1;
     s.pools.bindings = m;
     start_advice(work, s, w, n, m)
+}
+
+// The same where nothing is left of the budget: the bindings are made, to see whether there is room for all (card 5).
+pub fn unpaid_mark(work: &mut [u8], r: Regs, w: u64, x: u64, y: u64) -> Regs
+    requires { ⌜ (memoryLength ≤ length (now work)) × (r .left ≤ headroom) × ((size : ℕ) × Fits size r) ⌝ }
+    ensures { λ q. ⌜ Phase (reduceMark w x y) (now (work .entry)) (now (work .exit)) r q ⌝ }
+{
+    let l = label_of(x);
+    if !has_bit(r.named, l) {
+        return halt(r, outcomes::SPENT);
+    }
+    let m = bind_matching(work, r.installed, l, y, r.pools.bindings);
+    halt(r, spent_or(m <= BINDINGS, outcomes::BINDINGS))
 }

@@ -2,6 +2,7 @@
 ghost use Prim.Native.Nat.{_≤_, _<_};
 ghost use lib.ListN.{length};
 ghost use Rattle.base_bytes.specs.Memory.{memoryLength};
+ghost use Rattle.vm_machine.specs.Registers.{headroom};
 ghost use Rattle.vm_machine.specs.Fits.{Fits};
 ghost use Rattle.vm_machine.specs.Reduce.{reducePrint};
 ghost use Rattle.vm_states.specs.Phases.{stateOf, Moved};
@@ -16,7 +17,7 @@ use vm_words::value::body;
 
 // The number x is printed, at the domain of the instruction.
 pub fn reduce_print(work: &mut [u8], log: &mut [u8], r: Regs, w: u64, x: u64) -> Regs
-    requires { ⌜ (memoryLength ≤ length (now work)) × (0 < r .left) × Fits (length (now log)) r ⌝ }
+    requires { ⌜ (memoryLength ≤ length (now work)) × (headroom < r .left) × Fits (length (now log)) r ⌝ }
     ensures { λ q. ⌜ Moved (reducePrint w x (stateOf (now (work .entry)) (now (log .entry)) r)) (now (work .entry)) (now (work .exit)) (now (log .exit)) q ⌝ }
 {
     let at = r.logged;

@@ -12,16 +12,17 @@ use Rattle.calculus.specs.Limits.{bindingLimit, cellLimit, labelLimit, adviceLi
 use Rattle.vm_code.specs.Values.{value, cellTag, labelTag, adviceTag, bodyOf, unitValue}
 use Rattle.vm_code.specs.Words.{fieldB, fieldC, isInstruction}
 use Rattle.vm_machine.specs.declared.Regs.{Regs}
-use Rattle.vm_machine.specs.Registers.{setLeft, setPools, setLabels, setInstalled, halt}
+use Rattle.vm_machine.specs.Registers.{headroom, setLeft, setPools, setLabels, setInstalled, halt, stepped}
 use Rattle.vm_machine.specs.Memory.{Memory, binding, putBinding, closureEnv, pieceFirst, pieceSecond, pieceOf, adviceWord, putInstalled, cellAt, cellNote, cellOf, putCell}
 use Rattle.vm_machine.specs.States.{State, withRegs, withMemory}
 use Rattle.vm_machine.specs.Fetch.{Program, called}
-use Rattle.vm_machine.specs.Reduce.{given, newPiece, reduceApply, reduceSplit, reduceStore, reduceCell, reduceLabel, reduceAdvice, reduceInstall}
+use Rattle.vm_machine.specs.Reduce.{given, newPiece, reduceApply, reduceSplit, reduceStore, reduceCell, reduceLabel, reduceAdvice, reduceInstall, reduceAbort}
 use Rattle.vm_machine.specs.Turn.{callBody}
 use Rattle.vm_tables.specs.View.{memoryOf, Holds}
+use Rattle.vm_tables.proofs.Chosen.{chosen-yes}
 use Rattle.vm_states.specs.Phases.{stateOf, Phase}
-use Rattle.vm_states.proofs.Made.{as-phase, stored-then, stored-set, then-set, set-either}
-use Rattle.vm_states.proofs.Ended.{full-made, room-made, given-as}
+use Rattle.vm_states.proofs.Made.{as-phase, regs-made, stored-then, stored-set, then-set, set-either}
+use Rattle.vm_states.proofs.Ended.{full-made, room-made, left-made, unpaid-left, given-as}
 
 -- After a call, a step and the bindings are counted: m of them are there, and l is left.
 abbrev pub counted : ℕ → ℕ → Regs → Regs
@@ -37,9 +38,9 @@ stored-called C f M a b c r q w g h env m l e s d p =
 
 -- A call of the function x with the value y; t is the target of its body, and e its environment.
 module _ (C : Program) (a b c : List ℕ) (r q : Regs) (w x y : ℕ) where
-  pub apply-made : (t e : ℕ) → r .pools .bindings < bindingLimit → t ≡ bodyOf x % 2048 → e ≡ closureEnv x → Holds (putBinding (r .pools .bindings) (binding y 0 e) (memoryOf a)) a b → Phase (called C w t (r .pools .bindings)) b c r q → Phase (reduceApply C w x y) a c r (counted (r .pools .bindings + 1) (r .left - 1) q)
-  apply-made t e h d f m p =
-      room-made (λ (S : State). ltb (S .regs .pools .bindings) bindingLimit) Outcome.Bindings _ a c r _ (λ log. lt-ltb (r .pools .bindings) bindingLimit h) (stored-called C _ _ a b c r q w t _ _ _ _ d (λ log. refl) (subst (λ (i : ℕ). Holds (putBinding (r .pools .bindings) (binding y 0 i) (memoryOf a)) a b) f m) p)
+  pub apply-made : headroom < r .left → (t e : ℕ) → r .pools .bindings < bindingLimit → t ≡ bodyOf x % 2048 → e ≡ closureEnv x → Holds (putBinding (r .pools .bindings) (binding y 0 e) (memoryOf a)) a b → Phase (called C w t (r .pools .bindings)) b c r q → Phase (reduceApply C w x y) a c r (counted (r .pools .bindings + 1) (r .left - 1) q)
+  apply-made left t e h d f m p =
+      room-made (λ (S : State). ltb (S .regs .pools .bindings) bindingLimit) Outcome.Bindings _ a c r _ left (λ log. lt-ltb (r .pools .bindings) bindingLimit h) (stored-called C _ _ a b c r q w t _ _ _ _ d (λ log. refl) (subst (λ (i : ℕ). Holds (putBinding (r .pools .bindings) (binding y 0 i) (memoryOf a)) a b) f m) p)
 
   pub no-apply-made : bindingLimit ≤ r .pools .bindings → q ≡ halt Outcome.Bindings r → Phase (reduceApply C w x y) a a r q
   no-apply-made h e =
@@ -47,9 +48,13 @@ module _ (C : Program) (a b c : List ℕ) (r q : Regs) (w x y : ℕ) where
 
 -- A call of the body at the target g on the object x, whose environment is e.
 module _ (C : Program) (a b c : List ℕ) (r q : Regs) (w x g : ℕ) where
-  pub call-made : (e : ℕ) → r .pools .bindings < bindingLimit → e ≡ closureEnv x → Holds (putBinding (r .pools .bindings) (binding x 0 e) (memoryOf a)) a b → Phase (called C w g (r .pools .bindings)) b c r q → Phase (callBody C w x g) a c r (counted (r .pools .bindings + 1) (r .left - 1) q)
-  call-made e h f m p =
-      room-made (λ (S : State). ltb (S .regs .pools .bindings) bindingLimit) Outcome.Bindings _ a c r _ (λ log. lt-ltb (r .pools .bindings) bindingLimit h) (stored-called C _ _ a b c r q w g _ _ _ _ refl (λ log. refl) (subst (λ (i : ℕ). Holds (putBinding (r .pools .bindings) (binding x 0 i) (memoryOf a)) a b) f m) p)
+  pub call-made : headroom < r .left → (e : ℕ) → r .pools .bindings < bindingLimit → e ≡ closureEnv x → Holds (putBinding (r .pools .bindings) (binding x 0 e) (memoryOf a)) a b → Phase (called C w g (r .pools .bindings)) b c r q → Phase (callBody C w x g) a c r (counted (r .pools .bindings + 1) (r .left - 1) q)
+  call-made left e h f m p =
+      room-made (λ (S : State). ltb (S .regs .pools .bindings) bindingLimit) Outcome.Bindings _ a c r _ left (λ log. lt-ltb (r .pools .bindings) bindingLimit h) (stored-called C _ _ a b c r q w g _ _ _ _ refl (λ log. refl) (subst (λ (i : ℕ). Holds (putBinding (r .pools .bindings) (binding x 0 i) (memoryOf a)) a b) f m) p)
+
+  pub spent-call-made : r .left ≤ headroom → r .pools .bindings < bindingLimit → q ≡ halt Outcome.Spent r → Phase (callBody C w x g) a a r q
+  spent-call-made left h e =
+      regs-made (callBody C w x g) a r q (halt Outcome.Spent r) (λ log. unpaid-left (stateOf a log r) _ left ∙ sym (chosen-yes _ _ _ (lt-ltb (r .pools .bindings) bindingLimit h))) e
 
   pub no-call-made : bindingLimit ≤ r .pools .bindings → q ≡ halt Outcome.Bindings r → Phase (callBody C w x g) a a r q
   no-call-made h e =
@@ -70,29 +75,33 @@ module _ (C : Program) (a b c : List ℕ) (r q : Regs) (w x : ℕ) where
   bound p =
       putBinding (r .pools .bindings + 1) (binding (pieceSecond (memoryOf a) p) 0 (r .pools .bindings)) (putBinding (r .pools .bindings) (binding (pieceFirst (memoryOf a) p) 0 (r .env)) (memoryOf a))
 
-  pub split-made : (p t : ℕ) → r .pools .bindings + 2 ≤ bindingLimit → p ≡ pieceOf x → t ≡ fieldB w → Holds (bound p) a b → Phase (called C w t (r .pools .bindings + 1)) b c r q → Phase (reduceSplit C w x) a c r (counted (r .pools .bindings + 2) (r .left - 1) q)
-  split-made p t h d e m k =
-      room-made (λ (S : State). leb (S .regs .pools .bindings + 2) bindingLimit) Outcome.Bindings _ a c r _ (λ log. le-leb (r .pools .bindings + 2) bindingLimit h) (stored-called C _ _ a b c r q w t _ _ _ _ e (λ log. refl) (subst (λ (i : ℕ). Holds (bound i) a b) d m) k)
+  pub split-made : headroom < r .left → (p t : ℕ) → r .pools .bindings + 2 ≤ bindingLimit → p ≡ pieceOf x → t ≡ fieldB w → Holds (bound p) a b → Phase (called C w t (r .pools .bindings + 1)) b c r q → Phase (reduceSplit C w x) a c r (counted (r .pools .bindings + 2) (r .left - 1) q)
+  split-made left p t h d e m k =
+      room-made (λ (S : State). leb (S .regs .pools .bindings + 2) bindingLimit) Outcome.Bindings _ a c r _ left (λ log. le-leb (r .pools .bindings + 2) bindingLimit h) (stored-called C _ _ a b c r q w t _ _ _ _ e (λ log. refl) (subst (λ (i : ℕ). Holds (bound i) a b) d m) k)
 
   pub no-split-made : bindingLimit < r .pools .bindings + 2 → q ≡ halt Outcome.Bindings r → Phase (reduceSplit C w x) a a r q
   no-split-made h e =
       full-made (λ (S : State). leb (S .regs .pools .bindings + 2) bindingLimit) Outcome.Bindings _ a a r q (λ log. lt-leb (r .pools .bindings + 2) bindingLimit h) e
 
 -- A store of y in the cell x, whose number is k.
-pub store-made : (a b c : List ℕ) (r q : Regs) (w x y k : ℕ) → k ≡ cellOf x → Holds (putCell k y (cellNote (cellAt (memoryOf a) k)) (memoryOf a)) a b → Phase (given w unitValue) b c r q → Phase (reduceStore w x y) a c r q
-store-made a b c r q w x y k e h p =
+pub store-made : (a b c : List ℕ) (r q : Regs) (w x y k : ℕ) → headroom < r .left → k ≡ cellOf x → Holds (putCell k y (cellNote (cellAt (memoryOf a) k)) (memoryOf a)) a b → Phase (given w unitValue) b c r q → Phase (reduceStore w x y) a c r q
+store-made a b c r q w x y k left e h p =
     let M : Memory = putCell (cellOf x) y (cellNote (cellAt (memoryOf a) (cellOf x))) (memoryOf a) in
     let m : Holds M a b = subst (λ (i : ℕ). Holds (putCell i y (cellNote (cellAt (memoryOf a) i)) (memoryOf a)) a b) e h in
-    as-phase _ (reduceStore w x y) a c r q (λ log. refl) (stored-then (given w unitValue) M a b c r q m p)
+    left-made _ a c r q left (as-phase _ (λ S. given w unitValue (withMemory (putCell (cellOf x) y (cellNote (cellAt (S .memory) (cellOf x))) (S .memory)) (S .regs) S)) a c r q (λ log. refl) (stored-then (given w unitValue) M a b c r q m p))
+
+-- An abort ends the run with its step.
+pub abort-made : (a : List ℕ) (r q : Regs) → headroom < r .left → q ≡ halt Outcome.Aborted (stepped r) → Phase reduceAbort a a r q
+abort-made a r q left e = left-made _ a a r q left (regs-made (λ S. withRegs (halt Outcome.Aborted (stepped (S .regs))) S) a r q (halt Outcome.Aborted (stepped r)) (λ log. refl) e)
 
 -- One more cell of the value x, with the note n; or no room is left.
 module _ (a b c : List ℕ) (r q : Regs) (w x : ℕ) where
   abbrev with-cell : Regs → Regs
   with-cell p = setPools (record { bindings = p .pools .bindings; cells = r .pools .cells + 1; pieces = p .pools .pieces }) p
 
-  pub cell-made : (v n : ℕ) → r .pools .cells < cellLimit → v ≡ value cellTag (r .pools .cells) → n ≡ fieldB w → Holds (putCell (r .pools .cells) x n (memoryOf a)) a b → Phase (given w v) b c r q → Phase (reduceCell w x) a c r (with-cell q)
-  cell-made v n h e d m p =
-      room-made (λ (S : State). ltb (S .regs .pools .cells) cellLimit) Outcome.Cells _ a c r _ (λ log. lt-ltb (r .pools .cells) cellLimit h) (stored-set (given w (value cellTag (r .pools .cells))) _ with-cell _ a b c r q (λ log. refl) (subst (λ (i : ℕ). Holds (putCell (r .pools .cells) x i (memoryOf a)) a b) d m) (given-as b c r q w v _ e p))
+  pub cell-made : headroom < r .left → (v n : ℕ) → r .pools .cells < cellLimit → v ≡ value cellTag (r .pools .cells) → n ≡ fieldB w → Holds (putCell (r .pools .cells) x n (memoryOf a)) a b → Phase (given w v) b c r q → Phase (reduceCell w x) a c r (with-cell q)
+  cell-made left v n h e d m p =
+      room-made (λ (S : State). ltb (S .regs .pools .cells) cellLimit) Outcome.Cells _ a c r _ left (λ log. lt-ltb (r .pools .cells) cellLimit h) (stored-set (given w (value cellTag (r .pools .cells))) _ with-cell _ a b c r q (λ log. refl) (subst (λ (i : ℕ). Holds (putCell (r .pools .cells) x i (memoryOf a)) a b) d m) (given-as b c r q w v _ e p))
 
   pub no-cell-made : cellLimit ≤ r .pools .cells → q ≡ halt Outcome.Cells r → Phase (reduceCell w x) a a r q
   no-cell-made h e =
@@ -100,9 +109,9 @@ module _ (a b c : List ℕ) (r q : Regs) (w x : ℕ) where
 
 -- One more label; or no room is left.
 module _ (a b : List ℕ) (r q : Regs) (w : ℕ) where
-  pub label-made : (v : ℕ) → r .labels < labelLimit → v ≡ value labelTag (r .labels) → Phase (given w v) a b r q → Phase (reduceLabel w) a b r (setLabels (r .labels + 1) q)
-  label-made v h e p =
-      room-made (λ (S : State). ltb (S .regs .labels) labelLimit) Outcome.Labels _ a b r _ (λ log. lt-ltb (r .labels) labelLimit h) (as-phase _ _ a b r _ (λ log. refl) (then-set (given w (value labelTag (r .labels))) (setLabels (r .labels + 1)) a b r q (given-as a b r q w v _ e p)))
+  pub label-made : headroom < r .left → (v : ℕ) → r .labels < labelLimit → v ≡ value labelTag (r .labels) → Phase (given w v) a b r q → Phase (reduceLabel w) a b r (setLabels (r .labels + 1) q)
+  label-made left v h e p =
+      room-made (λ (S : State). ltb (S .regs .labels) labelLimit) Outcome.Labels _ a b r _ left (λ log. lt-ltb (r .labels) labelLimit h) (as-phase _ _ a b r _ (λ log. refl) (then-set (given w (value labelTag (r .labels))) (setLabels (r .labels + 1)) a b r q (given-as a b r q w v _ e p)))
 
   pub no-label-made : labelLimit ≤ r .labels → q ≡ halt Outcome.Labels r → Phase (reduceLabel w) a a r q
   no-label-made h e = full-made (λ (S : State). ltb (S .regs .labels) labelLimit) Outcome.Labels _ a a r q (λ log. le-ltb (r .labels) labelLimit h) e
@@ -116,10 +125,10 @@ advice-made a b r q w x t d p u v e f g h i k =
 
 -- The advice x is installed, whose piece is p and whose labels are s; or no room is left.
 module _ (a b c : List ℕ) (r q : Regs) (w x : ℕ) where
-  pub install-made : (p s : ℕ) → r .installed < adviceLimit → p ≡ pieceOf x → s ≡ pieceSecond (memoryOf a) p → Holds (putInstalled (r .installed) p (memoryOf a)) a b → Phase (given w unitValue) b c r q → Phase (reduceInstall w x) a c r (setInstalled (r .installed + 1) (bitOr (r .named) s) q)
-  install-made p s h e d m k =
+  pub install-made : headroom < r .left → (p s : ℕ) → r .installed < adviceLimit → p ≡ pieceOf x → s ≡ pieceSecond (memoryOf a) p → Holds (putInstalled (r .installed) p (memoryOf a)) a b → Phase (given w unitValue) b c r q → Phase (reduceInstall w x) a c r (setInstalled (r .installed + 1) (bitOr (r .named) s) q)
+  install-made left p s h e d m k =
       let z : s ≡ pieceSecond (memoryOf a) (pieceOf x) = d ∙ ap (pieceSecond (memoryOf a)) e in
-      subst (λ (i : ℕ). Phase (reduceInstall w x) a c r (setInstalled (r .installed + 1) (bitOr (r .named) i) q)) (sym z) (room-made (λ (S : State). ltb (S .regs .installed) adviceLimit) Outcome.Advice _ a c r _ (λ log. lt-ltb (r .installed) adviceLimit h) (stored-set (given w unitValue) _ (setInstalled (r .installed + 1) (bitOr (r .named) (pieceSecond (memoryOf a) (pieceOf x)))) _ a b c r q (λ log. refl) (subst (λ (i : ℕ). Holds (putInstalled (r .installed) i (memoryOf a)) a b) e m) k))
+      subst (λ (i : ℕ). Phase (reduceInstall w x) a c r (setInstalled (r .installed + 1) (bitOr (r .named) i) q)) (sym z) (room-made (λ (S : State). ltb (S .regs .installed) adviceLimit) Outcome.Advice _ a c r _ left (λ log. lt-ltb (r .installed) adviceLimit h) (stored-set (given w unitValue) _ (setInstalled (r .installed + 1) (bitOr (r .named) (pieceSecond (memoryOf a) (pieceOf x)))) _ a b c r q (λ log. refl) (subst (λ (i : ℕ). Holds (putInstalled (r .installed) i (memoryOf a)) a b) e m) k))
 
   pub no-install-made : adviceLimit ≤ r .installed → q ≡ halt Outcome.Advice r → Phase (reduceInstall w x) a a r q
   no-install-made h e = full-made (λ (S : State). ltb (S .regs .installed) adviceLimit) Outcome.Advice _ a a r q (λ log. le-ltb (r .installed) adviceLimit h) e

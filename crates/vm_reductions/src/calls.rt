@@ -7,6 +7,7 @@ ghost use Rattle.base_bytes.specs.Memory.{memoryLength};
 ghost use Rattle.vm_code.specs.Values.{bodyOf};
 ghost use Rattle.vm_code.specs.Words.{depthOf};
 ghost use Rattle.vm_machine.specs.Memory.{binding, putBinding, closureEnv, pieceFirst, pieceSecond};
+ghost use Rattle.vm_machine.specs.Registers.{headroom};
 ghost use Rattle.vm_machine.specs.Fits.{Fits};
 ghost use Rattle.vm_machine.specs.Reduce.{reduceApply, reduceSplit};
 ghost use Rattle.vm_machine.specs.Turn.{callBody};
@@ -16,6 +17,7 @@ use vm_machine::Regs;
 use vm_states::ends::called;
 use vm_states::limits::BINDINGS;
 use vm_states::outcomes;
+use vm_states::regs::HEADROOM;
 use vm_states::regs::halt;
 use vm_tables::bindings::bind;
 use vm_tables::pieces::piece_first;
@@ -39,7 +41,7 @@ fn function_target(f: u64) -> usize
 
 // The function x is applied to the value y.
 pub fn reduce_apply(code: &[u64], work: &mut [u8], r: Regs, w: u64, x: u64, y: u64) -> Regs
-    requires { ⌜ (1024 ≤ length (now code)) × (memoryLength ≤ length (now work)) × (0 < r .left) × (depthOf w ≤ r .room) × ((size : ℕ) × Fits size r) ⌝ }
+    requires { ⌜ (1024 ≤ length (now code)) × (memoryLength ≤ length (now work)) × (headroom < r .left) × (depthOf w ≤ r .room) × ((size : ℕ) × Fits size r) ⌝ }
     ensures { λ q. ⌜ ((image : List ℕ) → Phase (reduceApply (record { code = now (code .entry); image = image }) w x y) (now (work .entry)) (now (work .exit)) r q) ⌝ }
 {
     let n = r.pools.bindings;
@@ -54,13 +56,16 @@ pub fn reduce_apply(code: &[u64], work: &mut [u8], r: Regs, w: u64, x: u64, y: u
     halt(r, outcomes::BINDINGS)
 }
 
-// The body at the target g is called on the object x, which it binds (card 3).
+// The body at the target g is called on the object x, which it binds (card 3). Its room is looked at before the budget (card 5).
 pub fn call_body(code: &[u64], work: &mut [u8], r: Regs, w: u64, x: u64, g: usize) -> Regs
-    requires { ⌜ (1024 ≤ length (now code)) × (memoryLength ≤ length (now work)) × (0 < r .left) × (depthOf w ≤ r .room) × ((size : ℕ) × Fits size r) ⌝ }
+    requires { ⌜ (1024 ≤ length (now code)) × (memoryLength ≤ length (now work)) × (depthOf w ≤ r .room) × ((size : ℕ) × Fits size r) ⌝ }
     ensures { λ q. ⌜ ((image : List ℕ) → Phase (callBody (record { code = now (code .entry); image = image }) w x g) (now (work .entry)) (now (work .exit)) r q) ⌝ }
 {
     let n = r.pools.bindings;
     if n < BINDINGS {
+        if r.left <= HEADROOM {
+            return halt(r, outcomes::SPENT);
+        }
         bind(work, n, x, 0, closure_env(x));
         let mut q = called(code, work, r, w, g, n);
         let m = n + 1;
@@ -84,7 +89,7 @@ fn bind_parts(work: &mut [u8], p: usize, i: usize, env: usize)
 
 // The parts of the pair x are bound.
 pub fn reduce_split(code: &[u64], work: &mut [u8], r: Regs, w: u64, x: u64) -> Regs
-    requires { ⌜ (1024 ≤ length (now code)) × (memoryLength ≤ length (now work)) × (0 < r .left) × (depthOf w ≤ r .room) × ((size : ℕ) × Fits size r) ⌝ }
+    requires { ⌜ (1024 ≤ length (now code)) × (memoryLength ≤ length (now work)) × (headroom < r .left) × (depthOf w ≤ r .room) × ((size : ℕ) × Fits size r) ⌝ }
     ensures { λ q. ⌜ ((image : List ℕ) → Phase (reduceSplit (record { code = now (code .entry); image = image }) w x) (now (work .entry)) (now (work .exit)) r q) ⌝ }
 {
     let n = r.pools.bindings;

@@ -3,6 +3,7 @@ ghost use mathlib.Core.List.{List};
 ghost use Prim.Native.Nat.{ℕ, _≤_, _<_};
 ghost use lib.ListN.{length};
 ghost use Rattle.base_bytes.specs.Memory.{memoryLength};
+ghost use Rattle.vm_machine.specs.Registers.{headroom};
 ghost use Rattle.vm_machine.specs.Fits.{Fits};
 ghost use Rattle.vm_machine.specs.Reduce.{reduceStore, reduceCell, reduceLabel, reduceAdvice, reduceInstall, reduceAbort};
 ghost use Rattle.vm_states.specs.Phases.{Phase};
@@ -26,7 +27,7 @@ use vm_words::value;
 
 // The cell x holds the value y.
 pub fn reduce_store(work: &mut [u8], r: Regs, w: u64, x: u64, y: u64) -> Regs
-    requires { ⌜ (memoryLength ≤ length (now work)) × (0 < r .left) × ((size : ℕ) × Fits size r) ⌝ }
+    requires { ⌜ (memoryLength ≤ length (now work)) × (headroom < r .left) × ((size : ℕ) × Fits size r) ⌝ }
     ensures { λ q. ⌜ Phase (reduceStore w x y) (now (work .entry)) (now (work .exit)) r q ⌝ }
 {
     store_cell(work, cell_of(x), y);
@@ -35,7 +36,7 @@ pub fn reduce_store(work: &mut [u8], r: Regs, w: u64, x: u64, y: u64) -> Regs
 
 // One more cell, which holds the value x.
 pub fn reduce_cell(work: &mut [u8], r: Regs, w: u64, x: u64) -> Regs
-    requires { ⌜ (memoryLength ≤ length (now work)) × (0 < r .left) × ((size : ℕ) × Fits size r) ⌝ }
+    requires { ⌜ (memoryLength ≤ length (now work)) × (headroom < r .left) × ((size : ℕ) × Fits size r) ⌝ }
     ensures { λ q. ⌜ Phase (reduceCell w x) (now (work .entry)) (now (work .exit)) r q ⌝ }
 {
     let n = r.pools.cells;
@@ -51,7 +52,7 @@ pub fn reduce_cell(work: &mut [u8], r: Regs, w: u64, x: u64) -> Regs
 
 // One more label.
 pub fn reduce_label(work: &mut [u8], r: Regs, w: u64) -> Regs
-    requires { ⌜ (memoryLength ≤ length (now work)) × (0 < r .left) × ((size : ℕ) × Fits size r) ⌝ }
+    requires { ⌜ (memoryLength ≤ length (now work)) × (headroom < r .left) × ((size : ℕ) × Fits size r) ⌝ }
     ensures { λ q. ⌜ Phase (reduceLabel w) (now (work .entry)) (now (work .exit)) r q ⌝ }
 {
     let n = r.labels;
@@ -65,7 +66,7 @@ pub fn reduce_label(work: &mut [u8], r: Regs, w: u64) -> Regs
 
 // An advice on the pointcut x.
 pub fn reduce_advice(work: &mut [u8], r: Regs, w: u64, x: u64) -> Regs
-    requires { ⌜ (memoryLength ≤ length (now work)) × (0 < r .left) × ((size : ℕ) × Fits size r) ⌝ }
+    requires { ⌜ (memoryLength ≤ length (now work)) × (headroom < r .left) × ((size : ℕ) × Fits size r) ⌝ }
     ensures { λ q. ⌜ Phase (reduceAdvice w x) (now (work .entry)) (now (work .exit)) r q ⌝ }
 {
     let a = advice_word(field_b(w), r.env, field_c(w));
@@ -75,7 +76,7 @@ pub fn reduce_advice(work: &mut [u8], r: Regs, w: u64, x: u64) -> Regs
 
 // The advice x is installed.
 pub fn reduce_install(work: &mut [u8], r: Regs, w: u64, x: u64) -> Regs
-    requires { ⌜ (memoryLength ≤ length (now work)) × (0 < r .left) × ((size : ℕ) × Fits size r) ⌝ }
+    requires { ⌜ (memoryLength ≤ length (now work)) × (headroom < r .left) × ((size : ℕ) × Fits size r) ⌝ }
     ensures { λ q. ⌜ Phase (reduceInstall w x) (now (work .entry)) (now (work .exit)) r q ⌝ }
 {
     let n = r.installed;
@@ -93,7 +94,7 @@ pub fn reduce_install(work: &mut [u8], r: Regs, w: u64, x: u64) -> Regs
 
 // A step is made, and the machine halts.
 pub fn reduce_abort(r: Regs) -> Regs
-    requires { ⌜ 0 < r .left ⌝ }
+    requires { ⌜ headroom < r .left ⌝ }
     ensures { λ q. ⌜ ((work : List ℕ) → Phase reduceAbort work work r q) ⌝ }
 {
     halt_with(r, outcomes::ABORTED, r.left - 1)

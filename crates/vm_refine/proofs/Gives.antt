@@ -21,9 +21,9 @@ use Rattle.vm_theory.proofs.Kept.{chain-kept, waits-kept}
 use Rattle.vm_code.specs.Words.{isInstruction, termCount}
 use Rattle.vm_code.specs.Says.{SaysTarget, SaysCode}
 use Rattle.vm_machine.specs.declared.Regs.{Regs}
-use Rattle.vm_machine.specs.Registers.{fullRoom, setPc}
+use Rattle.vm_machine.specs.Registers.{headroom, fullRoom, setPc}
 use Rattle.vm_machine.specs.Memory.{Memory, slotBase}
-use Rattle.vm_machine.specs.States.{State, withRegs, completed, entered}
+use Rattle.vm_machine.specs.States.{State, withRegs, ifLeft, completed, entered}
 use Rattle.vm_machine.specs.Fetch.{Program, codeAt, atomValue, goneTo, called}
 use Rattle.vm_refine.proofs.Relations.{sizes, IsBody, IsVal, IsEnv, env-at, env-grows, Grows}
 use Rattle.vm_refine.proofs.Tables.{SameSlots}
@@ -31,7 +31,7 @@ use Rattle.vm_refine.proofs.Store.{Store}
 use Rattle.vm_refine.proofs.Slots.{slotOf, slot-same, Held, Back, held-kept, same-to}
 use Rattle.vm_refine.proofs.Now.{InPlace, Now}
 use Rattle.vm_refine.proofs.Arrives.{completed-now, gone-now, called-now}
-use Rattle.vm_refine.proofs.Steps.{measure, After, after-now, Stepping, step-falls}
+use Rattle.vm_refine.proofs.Steps.{measure, After, after-now, Stepping, step-falls, if-left}
 
 -- What is left of the budget is not touched where an instruction ends.
 gone-left : (C : Program) (w g : ℕ) (S : State) → goneTo C w g S .regs .left ≡ S .regs .left
@@ -73,10 +73,10 @@ module _ (T : Table) (root : ℕ) (L : Linked T 0 root) (G : Given) (e₀ : Tm) 
       same-slot : (i : ℕ) → i ≤ fullRoom → slotOf M′ i ≡ slotOf (S .memory) i
       same-slot i g = slot-same (S .memory) M′ i (λ h. l .slots .word (slotBase + fullRoom - i) (omega arith) (omega arith))
 
-      pub still : InPlace T root L G e₀ Ω N B S′ (suc k) s′ m P A D
-      still =
+      pub still : headroom < S .regs .left → InPlace T root L G e₀ Ω N B S′ (suc k) s′ m P A D
+      still more =
           record {
-            common = record { budget = omega (arith, l .left, p .common .budget, R .some-left); running = omega (arith, l .left, R .some-left); store = l .store };
+            common = record { budget = omega (arith, l .left, p .common .budget); running = omega (arith, l .left); store = l .store };
             no-atom = p .no-atom;
             located = p .located;
             stood = p .stood;
@@ -92,27 +92,30 @@ module _ (T : Table) (root : ℕ) (L : Linked T 0 root) (G : Given) (e₀ : Tm) 
                 (same-to T root L (S .memory) (sizes (S .regs)) M′ (sizes q) (l .grows) (base A) D D (λ i h. same-slot i (omega (arith, R .shallow))) (λ i h. ap (λ (x : List ℕ). getD x (fullRoom - i) 0) (l .slots .byte)) (λ i h. refl)) (p .chain);
           }
 
-      pub falls : {S″ : State} {s″ : CState} {E : Conf} → S″ .regs .left ≡ q .left → Now T root L G e₀ Ω N B S″ (suc k) s″ E → After T root L G e₀ Ω N B (measure S) S″
-      falls {S″} e n = after-now n (step-falls T root L G e₀ Ω N B S S″ (omega (arith, l .left, R .some-left)) (omega (arith, p .room)) (now-room n))
+      pub falls : headroom < S .regs .left → {S″ : State} {s″ : CState} {E : Conf} → S″ .regs .left ≡ q .left → Now T root L G e₀ Ω N B S″ (suc k) s″ E → After T root L G e₀ Ω N B (measure S) S″
+      falls more {S″} e n = after-now n (step-falls T root L G e₀ Ω N B S S″ (omega (arith, l .left)) (omega (arith, p .room)) (now-room n))
 
       -- A value is given.
-      pub gives : (x : ℕ) (v : CVal) → a ≡ go s′ (ret v) → IsVal T root L M′ (sizes q) x v → After T root L G e₀ Ω N B (measure S) (completed (codeAt C m) x S′)
+      pub gives : (x : ℕ) (v : CVal) → a ≡ go s′ (ret v) → IsVal T root L M′ (sizes q) x v → After T root L G e₀ Ω N B (measure S) (ifLeft S (completed (codeAt C m) x S′))
       gives x v e is =
-          falls refl
-          (completed-now T root L G e₀ Ω N B C says S′ (suc k) s′ m P A D still (omega (arith, R .shallow)) x v is
-          (reach-go G e₀ Ω k s c F (R .reach) s′ (ret v) (stackAt P A D) (R .is ∙ ap (λ (y : CAnswer). due y (stackAt P A D)) e)))
+          if-left T root L G e₀ Ω N B C says S k s m P A D c F (measure S) (completed (codeAt C m) x S′) R s′ (ret v) e
+          (λ more. falls more refl
+          (completed-now T root L G e₀ Ω N B C says S′ (suc k) s′ m P A D (still more) (omega (arith, R .shallow)) x v is
+          (reach-go G e₀ Ω k s c F (R .reach) s′ (ret v) (stackAt P A D) (R .is ∙ ap (λ (y : CAnswer). due y (stackAt P A D)) e))))
 
       -- The place goes on with the term f.
-      pub goes-on : (g f : ℕ) → SaysTarget T g f → Located T 0 root L f (P .skel) (P .dom) → a ≡ go s′ (eval (T .term f) (P .env)) → After T root L G e₀ Ω N B (measure S) (goneTo C (codeAt C m) g S′)
+      pub goes-on : (g f : ℕ) → SaysTarget T g f → Located T 0 root L f (P .skel) (P .dom) → a ≡ go s′ (eval (T .term f) (P .env)) → After T root L G e₀ Ω N B (measure S) (ifLeft S (goneTo C (codeAt C m) g S′))
       goes-on g f t i e =
-          falls (gone-left C (codeAt C m) g S′)
-          (gone-now T root L G e₀ Ω N B C says S′ (suc k) s′ m P A D still (omega (arith, R .shallow)) g f t i
-          (reach-go G e₀ Ω k s c F (R .reach) s′ (eval (T .term f) (P .env)) (stackAt P A D) (R .is ∙ ap (λ (y : CAnswer). due y (stackAt P A D)) e)))
+          if-left T root L G e₀ Ω N B C says S k s m P A D c F (measure S) (goneTo C (codeAt C m) g S′) R s′ (eval (T .term f) (P .env)) e
+          (λ more. falls more (gone-left C (codeAt C m) g S′)
+          (gone-now T root L G e₀ Ω N B C says S′ (suc k) s′ m P A D (still more) (omega (arith, R .shallow)) g f t i
+          (reach-go G e₀ Ω k s c F (R .reach) s′ (eval (T .term f) (P .env)) (stackAt P A D) (R .is ∙ ap (λ (y : CAnswer). due y (stackAt P A D)) e))))
 
       -- A body is called.
       pub calls : (g env : ℕ) (b : Tm) (d : Dom) (ρ : Env) → IsBody T root L g b d → IsEnv T root L M′ (sizes q) env ρ → env < 2048 → d ≡ domAt P → a ≡ go s′ (eval b ρ)
-          → After T root L G e₀ Ω N B (measure S) (called C (codeAt C m) g env S′)
+          → After T root L G e₀ Ω N B (measure S) (ifLeft S (called C (codeAt C m) g env S′))
       calls g env b d ρ i j fits same e =
-          falls (called-left C (codeAt C m) g env S′)
-          (called-now T root L G e₀ Ω N B C says S′ (suc k) s′ m P A D still (omega (arith, R .shallow)) g env b d ρ i j fits same (l .pc ∙ R .pc)
-          (reach-go G e₀ Ω k s c F (R .reach) s′ (eval b ρ) (stackAt P A D) (R .is ∙ ap (λ (y : CAnswer). due y (stackAt P A D)) e)))
+          if-left T root L G e₀ Ω N B C says S k s m P A D c F (measure S) (called C (codeAt C m) g env S′) R s′ (eval b ρ) e
+          (λ more. falls more (called-left C (codeAt C m) g env S′)
+          (called-now T root L G e₀ Ω N B C says S′ (suc k) s′ m P A D (still more) (omega (arith, R .shallow)) g env b d ρ i j fits same (l .pc ∙ R .pc)
+          (reach-go G e₀ Ω k s c F (R .reach) s′ (eval b ρ) (stackAt P A D) (R .is ∙ ap (λ (y : CAnswer). due y (stackAt P A D)) e))))

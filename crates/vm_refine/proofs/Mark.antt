@@ -6,8 +6,8 @@ use mathlib.Core.Bool.{Bool, true, false, not}
 use mathlib.Core.List.{List, [], _∷_}
 use mathlib.Core.Option.{Option, none, some}
 use lib.ListN.{length, getElem?}
-use lib.Dec.{eqb, ltb, leb}
-use borrow.Author.Tests.{leb-true, leb-false, eq-eqb, ne-eqb, le-leb, lt-leb, lt-ltb, le-ltb}
+use lib.Dec.{eqb, leb}
+use borrow.Author.Tests.{leb-true, leb-false, eq-eqb, ne-eqb, le-leb, lt-leb}
 use Rattle.calculus.specs.declared.Outcome.{Outcome}
 use Rattle.calculus.specs.Limits.{frameLimit, bindingLimit}
 use Rattle.calculus.specs.Combinators.{choose}
@@ -15,16 +15,14 @@ use Rattle.calculus.specs.Syntax.{Dom, Ty, Tm, mark}
 use Rattle.calculus.specs.State.{Advice, Given, fresh, charged, addCounts, someBindings}
 use Rattle.calculus.specs.Compose.{matching}
 use Rattle.calculus.specs.Place.{Place}
-use Rattle.calculus.specs.Run.{stopped, ended, run}
 use Rattle.calculus.specs.Answer.{go, full, if-room, with}
 use Rattle.closure_machine.specs.Closure.{CVal, Env, Body, CState, plainVal, plainState}
 use Rattle.closure_machine.specs.Machine.{Control, ret, triggered, triggeredF, Stack, CAnswer, due, reduce2C, move}
-use Rattle.closure_machine.proofs.Loop.{unfinished-due}
 use Rattle.vm_theory.specs.Conf.{Site, adviceA, Chain, Slots, base, depthAt, trigger}
 use Rattle.vm_theory.specs.Stands.{stackAt}
 use Rattle.vm_theory.specs.Table.{Table, Linked}
 use Rattle.vm_theory.proofs.Sound.{Sound}
-use Rattle.vm_theory.proofs.Reach.{Reach, reach-go, reach-moves, ends-spent, ends-full}
+use Rattle.vm_theory.proofs.Reach.{Reach, reach-go, reach-moves, ends-full}
 use Rattle.vm_theory.proofs.Located.{describes}
 use Rattle.vm_theory.proofs.Kept.{IsChain, waits-kept, chain-kept}
 use Rattle.vm_code.specs.Words.{depthOf, termCount}
@@ -32,17 +30,17 @@ use Rattle.vm_code.specs.Says.{SaysCode}
 use Rattle.vm_machine.specs.declared.Regs.{Regs}
 use Rattle.vm_machine.specs.Registers.{headroom, fullRoom, setPc, setHand, setEnv, setRoom, setPools, stepped, boundTo, halt}
 use Rattle.vm_machine.specs.Memory.{Memory, wordAt, slotBase, cellBase, slotIn, slotWord, slotKind, slotPc, slotEnv, adviceFrame, bindingsLeft, nextBinding, endBinding, putAdvice, bindingAt, boundTarget, hasBit}
-use Rattle.vm_machine.specs.States.{State, withRegs, withMemory, completed, lacking}
+use Rattle.vm_machine.specs.States.{State, withRegs, withMemory, ifLeft, ifRoom, completed}
 use Rattle.vm_machine.specs.Fetch.{Program, codeAt}
 use Rattle.vm_machine.specs.Reduce.{given, Bound, bindMatching, bodyAt, startAdvice, reduceMark}
 use Rattle.vm_refine.proofs.Relations.{Sizes, sizes, IsVal, is-unit, IsEnv, env-at, IsTriggered, one-left, Grows, env-grows, triggered-at, triggered-grows}
 use Rattle.vm_refine.proofs.Tables.{word-same, word-other, grows-put, grows-sizes, grows-trans, Above, above-put, SameSlots}
 use Rattle.vm_refine.proofs.Store.{Store, store-charged}
 use Rattle.vm_refine.proofs.Slots.{slotOf, slot-word, slot-same, Held, Back, held-kept, same-to}
-use Rattle.vm_refine.proofs.Now.{InPlace, Now, Halted, halted-stopped}
+use Rattle.vm_refine.proofs.Now.{InPlace, Now, halted-stopped}
 use Rattle.vm_refine.proofs.Views.{AsLabel, a-label, no-label, as-label}
 use Rattle.vm_refine.proofs.Arrives.{completed-now}
-use Rattle.vm_refine.proofs.Steps.{leb-iff, spend-bindings, measure, After, after-halted, fits-in, Stepping, no-wrong}
+use Rattle.vm_refine.proofs.Steps.{leb-iff, spend-bindings, measure, After, after-halted, fits-in, Stepping, no-room, if-left-with, no-wrong}
 use Rattle.vm_refine.proofs.Gives.{Left, still, falls}
 use Rattle.vm_refine.proofs.Advice.{stack-depth, advised}
 use Rattle.vm_refine.proofs.Matching.{Written, written-refl, Made, made-all, none-named}
@@ -132,23 +130,23 @@ module _ (T : Table) (root : ℕ) (L : Linked T 0 root) (G : Given) (e₀ : Tm) 
     Changed M′ q s′ = Left T root L G e₀ Ω N B C says S k s m P A D c F M′ (S .log) q s′
 
     -- Nothing is triggered.
-    quiet : (v : CVal) (M′ : Memory) (q : Regs) (s′ : CState) → At (go s′ (triggered v [])) → Changed M′ q s′ → Then (completed w 0 (record { memory = M′; log = S .log; regs = q }))
-    quiet v M′ q s′ R l =
-        falls T root L G e₀ Ω N B C says S k s m P A D c F R M′ (S .log) q s′ l refl
-        (completed-now T root L G e₀ Ω N B C says (record { memory = M′; log = S .log; regs = q }) (suc k) s′ m P A D (still T root L G e₀ Ω N B C says S k s m P A D c F R M′ (S .log) q s′ l) (omega (arith, R .shallow)) 0 CVal.unit (is-unit refl)
+    quiet : (v : CVal) (M′ : Memory) (q : Regs) (s′ : CState) → At (go s′ (triggered v [])) → Changed M′ q s′ → headroom < r .left → Then (completed w 0 (record { memory = M′; log = S .log; regs = q }))
+    quiet v M′ q s′ R l more =
+        falls T root L G e₀ Ω N B C says S k s m P A D c F R M′ (S .log) q s′ l more refl
+        (completed-now T root L G e₀ Ω N B C says (record { memory = M′; log = S .log; regs = q }) (suc k) s′ m P A D (still T root L G e₀ Ω N B C says S k s m P A D c F R M′ (S .log) q s′ l more) (omega (arith, R .shallow)) 0 CVal.unit (is-unit refl)
         (reach-moves G e₀ Ω (suc k) s′ (triggered v []) K (reach-go G e₀ Ω k s c F (R .reach) s′ (triggered v []) K (R .is)) (ret CVal.unit) K refl))
 
     -- The first advice begins.
     start-now : (v : CVal) (d : Dom) (ls : List ℕ) (e : Tm) (ρ : Env) (x : List (Advice Body)) (M′ : Memory) (q : Regs) (s′ : CState) (end : ℕ) → end ≤ 2048
-        → At (go s′ (triggered v (record { dom = d; labels = ls; body = record { term = e; env = ρ } } ∷ x))) → Changed M′ q s′
+        → At (go s′ (triggered v (record { dom = d; labels = ls; body = record { term = e; env = ρ } } ∷ x))) → Changed M′ q s′ → headroom < r .left
         → IsTriggered T root L M′ (sizes q) n end v (record { dom = d; labels = ls; body = record { term = e; env = ρ } } ∷ x) → Then (startAdvice w n end (record { memory = M′; log = S .log; regs = q }))
-    start-now v d ls e ρ x M′ q s′ end few R l (one-left lt ie b rest) = try (leb (q .room) (depthOf w + 1)) refl
+    start-now v d ls e ρ x M′ q s′ end few R l more (one-left lt ie b rest) = try (leb (q .room) (depthOf w + 1)) refl
       where
         S′ : State
         S′ = record { memory = M′; log = S .log; regs = q }
 
         p : InPlace T root L G e₀ Ω N B S′ (suc k) s′ m P A D
-        p = still T root L G e₀ Ω N B C says S k s m P A D c F R M′ (S .log) q s′ l
+        p = still T root L G e₀ Ω N B C says S k s m P A D c F R M′ (S .log) q s′ l more
 
         deep : depthOf w ≡ length (P .skel)
         deep = says .around m (p .no-atom) .depth ∙ describes T 0 root L (p .located) (p .no-atom) .depth
@@ -163,30 +161,19 @@ module _ (T : Table) (root : ℕ) (L : Linked T 0 root) (G : Given) (e₀ : Tm) 
         small = says .few m (p .no-atom)
 
         -- no frame for it
-        halted : (o : Outcome) → run N G 0 fresh e₀ ≡ ended (stopped o) (suc k) (plainState s′) → Halted T root L G e₀ Ω N B (withRegs (halt o q) S′)
-        halted o ran =
-            halted-stopped o refl refl ran (p .common .store) (omega (arith, p .common .budget, p .common .running))
-            (fits-in T root L G e₀ Ω N B M′ (S .log) (halt o q) s′ (p .common .store) (omega (arith, l .pc, R .pc, small)) (p .env-fits) (omega (arith, p .room)))
-
-        none-left : q .room ≤ depthOf w + 1 → Then (withRegs (lacking q) S′)
-        none-left h = left (leb (q .left) headroom) refl
+        none-left : q .room ≤ depthOf w + 1 → Then (withRegs (halt Outcome.Frames q) S′)
+        none-left h =
+            after-halted
+            (halted-stopped Outcome.Frames refl refl
+            (ends-full G e₀ Ω (suc k) s′ (triggered v (first ∷ x)) K reach N (q .left - headroom) (omega (arith, p .common .budget, p .common .running)) Outcome.Frames [] is)
+            (p .common .store) (omega (arith, p .common .budget, p .common .running))
+            (fits-in T root L G e₀ Ω N B M′ (S .log) (halt Outcome.Frames q) s′ (p .common .store) (omega (arith, l .pc, R .pc, small)) (p .env-fits) (omega (arith, p .room))))
           where
             long : frameLimit < length (triggeredF v x ∷ K)
             long = omega (arith, deep, p .room, stack-depth P A D (p .stood) (p .fine))
 
             is : move (triggered v (first ∷ x)) K G s′ ≡ due (full Outcome.Frames) []
             is = rw (lt-leb (length (triggeredF v x ∷ K)) frameLimit long)
-
-            left : (t : Bool) → leb (q .left) headroom ≡ t → Then (withRegs (choose t (halt Outcome.Spent q) (halt Outcome.Frames q)) S′)
-            left true t =
-                after-halted
-                (halted Outcome.Spent
-                (ends-spent G e₀ Ω (suc k) s′ (triggered v (first ∷ x)) K reach N 0 (omega (arith, leb-true (q .left) headroom t, p .common .budget, p .common .running)) refl
-                (unfinished-due G s′ (triggered v (first ∷ x)) K (full Outcome.Frames) [] is)))
-            left false t =
-                after-halted
-                (halted Outcome.Frames
-                (ends-full G e₀ Ω (suc k) s′ (triggered v (first ∷ x)) K reach N (q .left - headroom) (omega (arith, leb-false (q .left) headroom t, p .common .budget)) Outcome.Frames [] (λ i. omega (arith, leb-false (q .left) headroom t)) is))
 
         begins : depthOf w + 1 < q .room
             → Then (withMemory (putAdvice (q .room) (depthOf w + 2) (q .pc) (q .env) (n + 1) end M′) (setPc (bodyAt M′ n) (setHand 0 (setEnv n (setRoom (q .room - (depthOf w + 2)) q)))) S′)
@@ -207,10 +194,10 @@ module _ (T : Table) (root : ℕ) (L : Linked T 0 root) (G : Given) (e₀ : Tm) 
             (p .stood) (p .fine) b refl refl (env-grows T root L M′ (sizes q) M″ (sizes q) g ie) (omega arith) (omega (arith, deep, p .room))
             (frame-chain S′ (suc k) s′ m P A D p (n + 1) end within (q .pc) (q .env) (l .pc ∙ R .pc) (p .env-fits) (p .env) (depthOf w + 2) (q .room) index d v x (omega arith) (omega arith)
             (triggered-at T root L M′ (sizes q) (sym next) refl rest)) reach in
-            falls T root L G e₀ Ω N B C says S k s m P A D c F R M′ (S .log) q s′ l {S″ = S″} refl now
+            falls T root L G e₀ Ω N B C says S k s m P A D c F R M′ (S .log) q s′ l more {S″ = S″} refl now
 
         try : (t : Bool) → leb (q .room) (depthOf w + 1) ≡ t
-            → Then (choose t (withRegs (lacking q) S′) (withMemory (putAdvice (q .room) (depthOf w + 2) (q .pc) (q .env) (n + 1) end M′) (setPc (bodyAt M′ n) (setHand 0 (setEnv n (setRoom (q .room - (depthOf w + 2)) q)))) S′))
+            → Then (choose t (withRegs (halt Outcome.Frames q) S′) (withMemory (putAdvice (q .room) (depthOf w + 2) (q .pc) (q .env) (n + 1) end M′) (setPc (bodyAt M′ n) (setHand 0 (setEnv n (setRoom (q .room - (depthOf w + 2)) q)))) S′))
         try true t = none-left (leb-true (q .room) (depthOf w + 1) t)
         try false t = begins (leb-false (q .room) (depthOf w + 1) t)
 
@@ -238,8 +225,8 @@ module _ (T : Table) (root : ℕ) (L : Linked T 0 root) (G : Given) (e₀ : Tm) 
         bytes k = rw (k .beside) (st .beside)
 
         -- no advice: the tables M′ have no more bindings
-        none-now : (M′ : Memory) → Written (S .memory) (sizes r) M′ → At (go (used 0) (triggered v′ [])) → Then (given w 0 (withMemory M′ r S))
-        none-now M′ k Q =
+        none-now : (M′ : Memory) → Written (S .memory) (sizes r) M′ → At (go (used 0) (triggered v′ [])) → headroom < r .left → Then (given w 0 (withMemory M′ r S))
+        none-now M′ k Q more =
             quiet v′ M′ (stepped r) (used 0) Q
             (record {
               env = refl;
@@ -252,11 +239,12 @@ module _ (T : Table) (root : ℕ) (L : Linked T 0 root) (G : Given) (e₀ : Tm) 
               grows = k .grows;
               slots = slots k;
             })
+            more
 
         some-now : (d : Dom) (ls : List ℕ) (e : Tm) (ρ : Env) (a : List (Advice Body)) (b : Bound) → Made T root L (S .memory) (sizes r) v′ (record { dom = d; labels = ls; body = record { term = e; env = ρ } } ∷ a) (record { memory = S .memory; count = n }) b → b .count ≤ 2048
-            → At (go (used (suc (length a))) (triggered v′ (record { dom = d; labels = ls; body = record { term = e; env = ρ } } ∷ a)))
+            → At (go (used (suc (length a))) (triggered v′ (record { dom = d; labels = ls; body = record { term = e; env = ρ } } ∷ a))) → headroom < r .left
             → Then (startAdvice w n (b .count) (withMemory (b .memory) (setPools (boundTo (b .count) (r .pools)) (stepped r)) S))
-        some-now d ls e ρ a b k few Q =
+        some-now d ls e ρ a b k few Q more =
             let q : Regs = setPools (boundTo (b .count) (r .pools)) (stepped r) in
             let g : Grows (S .memory) (sizes r) (b .memory) (sizes q) =
             grows-trans (k .written .grows) (grows-sizes (b .memory) (sizes r) (sizes q) (omega (arith, k .count)) (omega arith)) in
@@ -272,19 +260,15 @@ module _ (T : Table) (root : ℕ) (L : Linked T 0 root) (G : Given) (e₀ : Tm) 
               grows = g;
               slots = slots (k .written);
             })
-            (k .triggered few)
+            more (k .triggered few)
 
-        -- no room for all of them: none is made
-        full-now : {a : CAnswer} (b : Bound) → Written (S .memory) (sizes r) (b .memory) → At a → a ≡ full Outcome.Bindings → Then (withMemory (b .memory) (halt Outcome.Bindings r) S)
-        full-now {a} b wr Q e =
-            let small = says .few m (Q .place .no-atom) in
-            let st′ : Store T root L B (b .memory) (S .log) (sizes r) s =
-            store-charged T root L B (S .memory) (S .log) (sizes r) s st (b .memory) n (sizes r .np) (s .used) (wr .grows) (cells wr) (bytes wr) (st .bindings) (st .bindings-fit) (st .pieces) (st .pieces-fit) refl in
-            after-halted
-            (halted-stopped Outcome.Bindings refl refl
-            (ends-full G e₀ Ω k s c F (Q .reach) N (r .left - headroom) (omega (arith, Q .place .common .budget, Q .some-left)) Outcome.Bindings K (λ j. omega (arith, Q .some-left)) (Q .is ∙ ap (λ (j : CAnswer). due j K) e))
-            st′ (omega (arith, Q .place .common .budget, Q .some-left))
-            (fits-in T root L G e₀ Ω N B (b .memory) (S .log) (halt Outcome.Bindings r) s st′ (omega (arith, Q .pc, small)) (Q .place .env-fits) (omega (arith, Q .place .room))))
+        -- the tables, with bindings written that are not in use
+        kept : {M′ : Memory} → Written (S .memory) (sizes r) M′ → Store T root L B M′ (S .log) (sizes r) s
+        kept {M′} wr = store-charged T root L B (S .memory) (S .log) (sizes r) s st M′ n (sizes r .np) (s .used) (wr .grows) (cells wr) (bytes wr) (st .bindings) (st .bindings-fit) (st .pieces) (st .pieces-fit) refl
+
+        -- the step is made, if one is left
+        left-now : {M′ : Memory} (s′ : CState) (c′ : Control) (S′ : State) → Written (S .memory) (sizes r) M′ → At (go s′ c′) → (headroom < r .left → Then S′) → Then (ifLeft (withMemory M′ r S) S′)
+        left-now {M′} s′ c′ S′ wr Q h = if-left-with T root L G e₀ Ω N B C says S k s m P A D c F (measure S) M′ (kept wr) S′ Q refl h
 
         tests : (a : List (Advice Body)) (b : Bound) → Made T root L (S .memory) (sizes r) v′ a (record { memory = S .memory; count = n }) b → leb (b .count) bindingLimit ≡ leb (length a) (bindingLimit - s .used .bindings)
         tests a b k =
@@ -292,21 +276,21 @@ module _ (T : Table) (root : ℕ) (L : Linked T 0 root) (G : Given) (e₀ : Tm) 
 
         rest-now : (a : List (Advice Body)) (b : Bound) → Made T root L (S .memory) (sizes r) v′ a (record { memory = S .memory; count = n }) b → (t : Bool) → leb (length a) (bindingLimit - s .used .bindings) ≡ t → At (if-room t Outcome.Bindings (go (used (length a)) (triggered v′ a)))
             → Then
-            (choose (ltb bindingLimit (b .count)) (withMemory (b .memory) (halt Outcome.Bindings r) S)
+            (ifRoom (leb (b .count) bindingLimit) Outcome.Bindings (withMemory (b .memory) r S)
             (choose (eqb (b .count) n) (given w 0 (withMemory (b .memory) r S)) (startAdvice w n (b .count) (withMemory (b .memory) (setPools (boundTo (b .count) (r .pools)) (stepped r)) S))))
-        rest-now a b wr false e Q =
-            rw (lt-ltb bindingLimit (b .count) (leb-false (b .count) bindingLimit (tests a b wr ∙ e))) (full-now b (wr .written) Q refl)
+        rest-now a b wr false e Q = rw (tests a b wr ∙ e) (no-room T root L G e₀ Ω N B C says S k s m P A D c F (measure S) (b .memory) (kept (wr .written)) Outcome.Bindings Q refl)
         rest-now [] b wr true e Q =
-            rw (le-ltb bindingLimit (b .count) (leb-true (b .count) bindingLimit (tests [] b wr ∙ e)), eq-eqb (b .count) n (omega (arith, wr .count))) (none-now (b .memory) (wr .written) Q)
+            rw (tests [] b wr ∙ e, eq-eqb (b .count) n (omega (arith, wr .count))) (left-now (used 0) (triggered v′ []) _ (wr .written) Q (none-now (b .memory) (wr .written) Q))
         rest-now (f ∷ a) b wr true e Q =
             let few : b .count ≤ 2048 = leb-true (b .count) bindingLimit (tests (f ∷ a) b wr ∙ e) in
-            rw (le-ltb bindingLimit (b .count) few, ne-eqb (b .count) n (λ j. omega (arith, wr .count))) (some-now (f .dom) (f .labels) (f .body .term) (f .body .env) a b wr few Q)
+            rw (tests (f ∷ a) b wr ∙ e, ne-eqb (b .count) n (λ j. omega (arith, wr .count)))
+            (left-now (used (suc (length a))) (triggered v′ (f ∷ a)) _ (wr .written) Q (some-now (f .dom) (f .labels) (f .body .term) (f .body .env) a b wr few Q))
 
         -- a label that no installed advice names
         named : (l : ℕ) → l < 64 → (t : Bool) → hasBit (r .named) l ≡ t → At (if-room (leb (length (matching l (s .advices))) (bindingLimit - s .used .bindings)) Outcome.Bindings (go (used (length (matching l (s .advices)))) (triggered v′ (matching l (s .advices)))))
             → Then
-            (choose (not t) (given w 0 S)
-            (choose (ltb bindingLimit (all l .count)) (withMemory (all l .memory) (halt Outcome.Bindings r) S)
+            (choose (not t) (ifLeft S (given w 0 S))
+            (ifRoom (leb (all l .count) bindingLimit) Outcome.Bindings (withMemory (all l .memory) r S)
             (choose (eqb (all l .count) n) (given w 0 (withMemory (all l .memory) r S)) (startAdvice w n (all l .count) (withMemory (all l .memory) (setPools (boundTo (all l .count) (r .pools)) (stepped r)) S)))))
         named l h true t Q =
             rest-now (matching l (s .advices)) (all l)
@@ -314,7 +298,8 @@ module _ (T : Table) (root : ℕ) (L : Linked T 0 root) (G : Given) (e₀ : Tm) 
             (leb (length (matching l (s .advices))) (bindingLimit - s .used .bindings)) refl Q
         named l h false t Q =
             let none : matching l (s .advices) ≡ [] = none-named T root L (S .memory) (sizes r) l h t (st .are-advices) in
-            none-now (S .memory) (written-refl (S .memory) (sizes r)) (at-room (rw none at Q))
+            let W : Written (S .memory) (sizes r) (S .memory) = written-refl (S .memory) (sizes r) in
+            left-now (used 0) (triggered v′ []) _ W (at-room (rw none at Q)) (none-now (S .memory) W (at-room (rw none at Q)))
           where
             at-room : At (if-room (leb 0 (bindingLimit - s .used .bindings)) Outcome.Bindings (go (used 0) (triggered v′ []))) → At (go (used 0) (triggered v′ []))
             at-room Q = rw (le-leb 0 (bindingLimit - s .used .bindings) (omega arith)) at Q

@@ -14,7 +14,6 @@ use Rattle.calculus.specs.Combinators.{choose}
 use Rattle.calculus.specs.Syntax.{Tm, asValue, val, var, lam, op0, op1, op2, seq, ite, split, pcd, adv, lower, obj}
 use Rattle.calculus.specs.State.{Given, fresh}
 use Rattle.calculus.specs.Place.{Place, framed}
-use Rattle.calculus.specs.Run.{stopped, ended, run}
 use Rattle.closure_machine.specs.Closure.{CVal, Env, CState, close, plainTm, plainState}
 use Rattle.closure_machine.specs.Machine.{Control, eval, pcdN, opNF, Stack, placeAt, due, redex, reduceNC, move}
 use Rattle.vm_theory.specs.Code.{isAtom, entry}
@@ -22,7 +21,7 @@ use Rattle.vm_theory.specs.Conf.{Site, manyA, Chain, Slots, base, depthAt, domA
 use Rattle.vm_theory.specs.Stands.{stackAt}
 use Rattle.vm_theory.specs.Table.{manyN, pcdM, Table, to, In, termsOf, isAtomAt, Linked}
 use Rattle.vm_theory.proofs.Sound.{Sound}
-use Rattle.vm_theory.proofs.Reach.{Reach, under-frame, ends-spent, ends-deep}
+use Rattle.vm_theory.proofs.Reach.{Reach, ends-deep}
 use Rattle.vm_theory.proofs.Leads.{begin-leads}
 use Rattle.vm_theory.proofs.Bound.{entry-bound}
 use Rattle.vm_theory.proofs.Good.{Good}
@@ -36,7 +35,7 @@ use Rattle.vm_code.specs.Says.{SaysCode}
 use Rattle.vm_machine.specs.declared.Regs.{Regs}
 use Rattle.vm_machine.specs.Registers.{headroom, fullRoom, setPc, setRoom, halt}
 use Rattle.vm_machine.specs.Memory.{Memory, wordAt, slotBase, cellBase, slotIn, slotWord, slotKind, slotPc, slotEnv, slotHeld, pointcutFrame, putDigits, labelSet}
-use Rattle.vm_machine.specs.States.{State, withRegs, withMemory, lacking, judged}
+use Rattle.vm_machine.specs.States.{State, withRegs, withMemory, judged}
 use Rattle.vm_machine.specs.Fetch.{Program, codeAt}
 use Rattle.vm_machine.specs.Reduce.{newPiece}
 use Rattle.vm_machine.specs.Turn.{childAt, entryFrom, Taken, takeLabels, labelsFrom}
@@ -45,7 +44,7 @@ use Rattle.vm_refine.proofs.Tables.{word-same, word-other, grows-put, a
 use Rattle.vm_refine.proofs.Store.{Store, store-charged}
 use Rattle.vm_refine.proofs.Labels.{digitsOf, Labels, digits-fit}
 use Rattle.vm_refine.proofs.Slots.{slotOf, byteOf, slot-word, slot-same, Held, Back, held-kept, same-to}
-use Rattle.vm_refine.proofs.Now.{entry-ready, InPlace, Halted, halted-stopped}
+use Rattle.vm_refine.proofs.Now.{entry-ready, InPlace, halted-stopped}
 use Rattle.vm_refine.proofs.Arrives.{instruction-of}
 use Rattle.vm_refine.proofs.Steps.{level, measure, After, after-halted, after-now, fits-in, judged-now}
 use Rattle.vm_refine.proofs.ReducePieces.{pointcut-now}
@@ -136,25 +135,14 @@ module _ (T : Table) (root : ℕ) (L : Linked T 0 root) (G : Given) (e₀ : Tm) 
       F′ = opNF pcdN (map CVal.label ds) (termsOf T ys) (P .env) ∷ K
 
       -- no frame for it
-      halted : (o : Outcome) → run N G 0 fresh e₀ ≡ ended (stopped o) k (plainState s) → Halted T root L G e₀ Ω N B (withRegs (halt o r) S)
-      halted o ran =
-          halted-stopped o refl refl ran st (omega (arith, p .common .budget, p .common .running))
-          (fits-in T root L G e₀ Ω N B M (S .log) (halt o r) s st (omega (arith, pc, small)) (p .env-fits) (omega (arith, p .room)))
-
-      none-left : r .room ≤ depthOf w + 1 → Then (withRegs (lacking r) S)
-      none-left h = left (leb (r .left) headroom) refl
-        where
-          left : (t : Bool) → leb (r .left) headroom ≡ t → Then (withRegs (choose t (halt Outcome.Spent r) (halt Outcome.Frames r)) S)
-          left true t =
-              after-halted
-              (halted Outcome.Spent
-              (ends-spent G e₀ Ω k s (eval (T .term y) (P .env)) F′ reach N 0 (omega (arith, leb-true (r .left) headroom t, p .common .budget, p .common .running)) refl
-              (under-frame G e₀ Ω (eval (T .term y) (P .env)) (opNF pcdN (map CVal.label ds) (termsOf T ys) (P .env)) K)))
-          left false t =
-              after-halted
-              (halted Outcome.Frames
-              (ends-deep G e₀ Ω k s (eval (T .term y) (P .env)) F′ reach N (r .left - headroom) (omega (arith, leb-false (r .left) headroom t, p .common .budget)) (λ i. omega (arith, leb-false (r .left) headroom t))
-              (no-value (T .term y) (P .env) a) (omega (arith, deep, p .room, stack-depth P A D (p .stood) (p .fine)))))
+      none-left : r .room ≤ depthOf w + 1 → Then (withRegs (halt Outcome.Frames r) S)
+      none-left h =
+          after-halted
+          (halted-stopped Outcome.Frames refl refl
+          (ends-deep G e₀ Ω k s (eval (T .term y) (P .env)) F′ reach N (r .left - headroom) (omega (arith, p .common .budget, p .common .running)) (no-value (T .term y) (P .env) a)
+          (omega (arith, deep, p .room, stack-depth P A D (p .stood) (p .fine))))
+          st (omega (arith, p .common .budget, p .common .running))
+          (fits-in T root L G e₀ Ω N B M (S .log) (halt Outcome.Frames r) s st (omega (arith, pc, small)) (p .env-fits) (omega (arith, p .room))))
 
       -- The child begins over the pointcut's activation frame.
       module _ (h : depthOf w + 1 < r .room) where
@@ -279,7 +267,7 @@ module _ (T : Table) (root : ℕ) (L : Linked T 0 root) (G : Given) (e₀ : Tm) 
         by : (t : Taken) → Stopped t
             → Then
             (choose (leb (countOf w) (t .count)) (judged w S (newPiece w 7 0 (labelSet (countOf w) (t .digits) 0) S))
-            (choose (leb (r .room) (depthOf w + 1)) (withRegs (lacking r) S)
+            (choose (leb (r .room) (depthOf w + 1)) (withRegs (halt Outcome.Frames r) S)
             (withMemory (putDigits (r .room) (depthOf w + 1) m (r .env) (t .digits) M) (setPc (entryFrom termCount C (childAt C w (t .count))) (setRoom (r .room - (depthOf w + 1)) r)) S)))
         by t (all-taken ds′ c′ F′ ls′ n′ tc td r′ is) = rw (td, le-leb (countOf w) (t .count) (omega (arith, tc, count))) (made-now ds′ c′ F′ ls′ n′ r′ is)
         by t (stopped-at ds′ y ys ls′ d tc td a r′) =
@@ -292,7 +280,7 @@ module _ (T : Table) (root : ℕ) (L : Linked T 0 root) (G : Given) (e₀ : Tm) 
 
             try : (u : Bool) → leb (r .room) (depthOf w + 1) ≡ u
                 → Then
-                (choose u (withRegs (lacking r) S)
+                (choose u (withRegs (halt Outcome.Frames r) S)
                 (withMemory (putDigits (r .room) (depthOf w + 1) m (r .env) (digitsOf ds′) M) (setPc (entryFrom termCount C (childAt C w (t .count))) (setRoom (r .room - (depthOf w + 1)) r)) S))
             try true q = none-left ds′ y ys ls′ d a r′ (leb-true (r .room) (depthOf w + 1) q)
             try false q = begins ds′ y ys ls′ d a r′ (leb-false (r .room) (depthOf w + 1) q) (entryFrom termCount C (childAt C w (t .count))) entered

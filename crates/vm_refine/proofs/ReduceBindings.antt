@@ -31,7 +31,7 @@ use Rattle.vm_code.specs.Says.{Says, says-object, SaysBodies, bodies-here, bodi
 use Rattle.vm_machine.specs.declared.Regs.{Regs}
 use Rattle.vm_machine.specs.Registers.{setPools, stepped, bound}
 use Rattle.vm_machine.specs.Memory.{Memory, binding, boundTarget, boundLink, noBinding, bindingAt, putBinding, closureEnv, pieceFirst, pieceSecond, pieceOf, cellBase}
-use Rattle.vm_machine.specs.States.{State, ifRoom}
+use Rattle.vm_machine.specs.States.{State, ifLeft, ifRoom}
 use Rattle.vm_machine.specs.Fetch.{Program, codeAt, called}
 use Rattle.vm_machine.specs.Reduce.{reduceApply, reduceSplit}
 use Rattle.vm_machine.specs.Turn.{entryFrom, begunAt, callBody, reduceCall}
@@ -91,6 +91,10 @@ module _ (T : Table) (root : ℕ) (L : Linked T 0 root) (G : Given) (e₀ : Tm) 
 
   abbrev Then : State → Type 0
   Then S′ = After T root L G e₀ Ω N B (measure S) S′
+
+  -- The step is made, if one is left of the budget.
+  abbrev Made : State → Type 0
+  Made S′ = Then (ifLeft S S′)
 
   abbrev M : Memory
   M = S .memory
@@ -234,7 +238,7 @@ module _ (T : Table) (root : ℕ) (L : Linked T 0 root) (G : Given) (e₀ : Tm) 
       after = setPools (bound 2 (r .pools)) (stepped r)
 
       made : {u t : CVal} → 2 ≤ bindingLimit - s .used .bindings → Is one u → Is two t → At (go (charged (addCounts (s .used) (someBindings 2)) s) (eval e (link t (link u (P .env)))))
-          → Then (called C w (fieldB w) (n + 1) (record { memory = M″; log = S .log; regs = after }))
+          → Made (called C w (fieldB w) (n + 1) (record { memory = M″; log = S .log; regs = after }))
       made {u} {t} h iu it Q =
           let fit : n < 2048 = omega (arith, st .bindings) in
           let fit′ : n + 1 < 2048 = omega (arith, st .bindings) in

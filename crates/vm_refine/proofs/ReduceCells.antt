@@ -29,7 +29,7 @@ use Rattle.vm_machine.specs.declared.Regs.{Regs}
 use Rattle.vm_machine.specs.Registers as regs
 use Rattle.vm_machine.specs.Registers.{setPools, stepped}
 use Rattle.vm_machine.specs.Memory.{Memory, putWord, above, cellAt, cellNote}
-use Rattle.vm_machine.specs.States.{State, completed}
+use Rattle.vm_machine.specs.States.{State, ifLeft, completed}
 use Rattle.vm_machine.specs.Fetch.{Program, codeAt}
 use Rattle.vm_machine.specs.Reduce.{reduceCell, reduceStore}
 use Rattle.vm_refine.proofs.Relations.{Sizes, sizes, IsVal, is-unit, is-cell, val-like, Grows, val-grows}
@@ -52,6 +52,10 @@ module _ (T : Table) (root : ℕ) (L : Linked T 0 root) (G : Given) (e₀ : Tm) 
   abbrev Then : State → Type 0
   Then S′ = After T root L G e₀ Ω N B (measure S) S′
 
+  -- The step is made, if one is left of the budget.
+  abbrev Made : State → Type 0
+  Made S′ = Then (ifLeft S S′)
+
   abbrev M : Memory
   M = S .memory
 
@@ -71,7 +75,7 @@ module _ (T : Table) (root : ℕ) (L : Linked T 0 root) (G : Given) (e₀ : Tm) 
   no-way R e = absurd (no-wrong T root L G e₀ Ω N B C says S k s m P A D c F R e)
 
   gave : {a : CAnswer} → At a → (M′ : Memory) (log′ : List ℕ) (q : Regs) (s′ : CState) → Left T root L G e₀ Ω N B C says S k s m P A D c F M′ log′ q s′ → (x : ℕ) (v : CVal) → a ≡ go s′ (ret v) → IsVal T root L M′ (sizes q) x v
-      → Then (completed w x (record { memory = M′; log = log′; regs = q }))
+      → Made (completed w x (record { memory = M′; log = log′; regs = q }))
   gave R M′ log′ q s′ l x v e i = gives T root L G e₀ Ω N B C says S k s m P A D c F R M′ log′ q s′ l x v e i
 
   -- A cell that is there is written.
@@ -82,7 +86,7 @@ module _ (T : Table) (root : ℕ) (L : Linked T 0 root) (G : Given) (e₀ : Tm) 
       st : Store T root L B M (S .log) z s
       st = R .place .common .store
 
-      made : (j : ℕ) (old : Cell CVal) → getElem? (s .cells) j ≡ some old → At (go (stored j old v′ s) (ret CVal.unit)) → Then (completed w 0 (record { memory = putWord (3585 + j) (above x′ (cellNote (cellAt M j))) M; log = S .log; regs = stepped r }))
+      made : (j : ℕ) (old : Cell CVal) → getElem? (s .cells) j ≡ some old → At (go (stored j old v′ s) (ret CVal.unit)) → Made (completed w 0 (record { memory = putWord (3585 + j) (above x′ (cellNote (cellAt M j))) M; log = S .log; regs = stepped r }))
       made j old there Q =
           let h : j < r .pools .cells = omega (arith, st .cells-count, place-below (s .cells) j there) in
           let word : ℕ = above x′ (cellNote (cellAt M j)) in
@@ -131,7 +135,7 @@ module _ (T : Table) (root : ℕ) (L : Linked T 0 root) (G : Given) (e₀ : Tm) 
           at-cell j word new g is q c (inr (n, e)) = cell-change T root L M z (putWord (3585 + j) word M) z g (word-other M (3585 + j) word (3585 + q) (λ x. n (omega arith))) (st .are-cells q c e)
 
       found : (j : ℕ) (o : Option (Cell CVal)) → getElem? (s .cells) j ≡ o → At (with o (λ old. go (stored j old v′ s) (ret CVal.unit)))
-          → Then (completed w 0 (record { memory = putWord (3585 + j) (above x′ (cellNote (cellAt M j))) M; log = S .log; regs = stepped r }))
+          → Made (completed w 0 (record { memory = putWord (3585 + j) (above x′ (cellNote (cellAt M j))) M; log = S .log; regs = stepped r }))
       found j none e Q = no-way Q refl
       found j (some old) e Q = made j old e Q
 
@@ -182,7 +186,7 @@ module _ (T : Table) (root : ℕ) (L : Linked T 0 root) (G : Given) (e₀ : Tm) 
       at-cell h j c (inr e) =
           cell-change T root L M z tables (sizes after) g (word-other M (3585 + nc) word (3585 + j) (λ q. omega (arith, st .cells-count, place-below (s .cells) j e))) (st .are-cells j c e)
 
-      made : 1 ≤ cellLimit - s .used .cells → At (go s′ (ret (CVal.cell (length (s .cells))))) → Then (completed w (value 5 nc) (record { memory = tables; log = S .log; regs = after }))
+      made : 1 ≤ cellLimit - s .used .cells → At (go s′ (ret (CVal.cell (length (s .cells))))) → Made (completed w (value 5 nc) (record { memory = tables; log = S .log; regs = after }))
       made h Q =
           gave Q tables (S .log) after s′
           (record {

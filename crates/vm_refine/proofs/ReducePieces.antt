@@ -27,7 +27,7 @@ use Rattle.vm_machine.specs.declared.Regs.{Regs}
 use Rattle.vm_machine.specs.Registers as regs
 use Rattle.vm_machine.specs.Registers.{setPools, stepped}
 use Rattle.vm_machine.specs.Memory.{Memory, putWord, pieceFirst, pieceSecond, putPiece, pieceOf, labelSet, adviceWord, adviceTarget, adviceEnv, adviceDom, cellBase}
-use Rattle.vm_machine.specs.States.{State, completed}
+use Rattle.vm_machine.specs.States.{State, ifLeft, completed}
 use Rattle.vm_machine.specs.Fetch.{Program, codeAt}
 use Rattle.vm_machine.specs.Reduce.{newPiece, reduceAdvice}
 use Rattle.vm_refine.proofs.Relations.{Sizes, sizes, labels-at, IsBody, body-at, IsVal, is-pair, is-labels, is-advice, at-piece, val-at, env-at, Grows, val-grows, env-grows}
@@ -57,6 +57,10 @@ module _ (T : Table) (root : ℕ) (L : Linked T 0 root) (G : Given) (e₀ : Tm) 
 
   abbrev Then : State → Type 0
   Then S′ = After T root L G e₀ Ω N B (measure S) S′
+
+  -- The step is made, if one is left of the budget.
+  abbrev Made : State → Type 0
+  Made S′ = Then (ifLeft S S′)
 
   abbrev M : Memory
   M = S .memory
@@ -110,7 +114,7 @@ module _ (T : Table) (root : ℕ) (L : Linked T 0 root) (G : Given) (e₀ : Tm) 
       after : Regs
       after = stepped (setPools (regs.onePiece (r .pools)) r)
 
-      is : 1 ≤ pieceLimit - s .used .pieces → At (go (charged (addCounts (s .used) onePiece) s) (ret v)) → Then (completed w (value t np) (record { memory = tables x y; log = S .log; regs = after }))
+      is : 1 ≤ pieceLimit - s .used .pieces → At (go (charged (addCounts (s .used) onePiece) s) (ret v)) → Made (completed w (value t np) (record { memory = tables x y; log = S .log; regs = after }))
       is h Q =
           let room : np < 512 = omega (arith, st .pieces) in
           let first : pieceFirst (tables x y) np ≡ x = word-other half (i + 1) y i (λ e. omega arith) ∙ word-same M i x (omega (arith, st .words)) in

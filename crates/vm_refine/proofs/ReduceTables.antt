@@ -32,7 +32,7 @@ use Rattle.vm_code.specs.Says.{SaysCode}
 use Rattle.vm_machine.specs.declared.Regs.{Regs}
 use Rattle.vm_machine.specs.Registers.{setLabels, setInstalled, setLogged, stepped}
 use Rattle.vm_machine.specs.Memory.{Memory, wordAt, installedAt, putInstalled, pieceOf, pieceSecond, hasBit}
-use Rattle.vm_machine.specs.States.{State, completed}
+use Rattle.vm_machine.specs.States.{State, ifLeft, completed}
 use Rattle.vm_machine.specs.Fetch.{Program, codeAt}
 use Rattle.vm_machine.specs.Reduce.{reducePrint, reduceLabel, reduceInstall}
 use Rattle.vm_refine.proofs.Relations.{Sizes, sizes, IsVal, is-unit, is-label, IsAdvice, at-piece, Grows, advice-grows}
@@ -71,6 +71,10 @@ module _ (T : Table) (root : ℕ) (L : Linked T 0 root) (G : Given) (e₀ : Tm) 
   abbrev Then : State → Type 0
   Then S′ = After T root L G e₀ Ω N B (measure S) S′
 
+  -- The step is made, if one is left of the budget.
+  abbrev Made : State → Type 0
+  Made S′ = Then (ifLeft S S′)
+
   abbrev M : Memory
   M = S .memory
 
@@ -90,7 +94,7 @@ module _ (T : Table) (root : ℕ) (L : Linked T 0 root) (G : Given) (e₀ : Tm) 
   no-way R e = absurd (no-wrong T root L G e₀ Ω N B C says S k s m P A D c F R e)
 
   gave : {a : CAnswer} → At a → (M′ : Memory) (log′ : List ℕ) (q : Regs) (s′ : CState) → Left T root L G e₀ Ω N B C says S k s m P A D c F M′ log′ q s′ → (x : ℕ) (v : CVal) → a ≡ go s′ (ret v) → IsVal T root L M′ (sizes q) x v
-      → Then (completed w x (record { memory = M′; log = log′; regs = q }))
+      → Made (completed w x (record { memory = M′; log = log′; regs = q }))
   gave R M′ log′ q s′ l x v e i = gives T root L G e₀ Ω N B C says S k s m P A D c F R M′ log′ q s′ l x v e i
 
   pub label-now : (X : Place) (y : Ty) → At (reduce0C G X s newLabel y) → Then (reduceLabel w S)
@@ -107,7 +111,7 @@ module _ (T : Table) (root : ℕ) (L : Linked T 0 root) (G : Given) (e₀ : Tm) 
       g : Grows M z M (sizes after)
       g = grows-sizes M z (sizes after) (omega arith) (omega arith)
 
-      made : length (s .labels) < labelLimit → At (go (labelled (domOf y) s) (ret (CVal.label (length (s .labels))))) → Then (completed w (value 6 (r .labels)) (record { memory = M; log = S .log; regs = after }))
+      made : length (s .labels) < labelLimit → At (go (labelled (domOf y) s) (ret (CVal.label (length (s .labels))))) → Made (completed w (value 6 (r .labels)) (record { memory = M; log = S .log; regs = after }))
       made h Q =
           gave Q M (S .log) after (labelled (domOf y) s)
           (record {
@@ -166,7 +170,7 @@ module _ (T : Table) (root : ℕ) (L : Linked T 0 root) (G : Given) (e₀ : Tm) 
       g : Grows M z M (sizes after)
       g = grows-sizes M z (sizes after) (omega arith) (omega arith)
 
-      made : (n : ℕ) → 10 ≤ length (S .log) - r .logged → At (go (told (said n) s) (ret CVal.unit)) → Then (completed w 0 (record { memory = M; log = over (r .logged) (logRecord (domainOf w) n) (S .log); regs = after }))
+      made : (n : ℕ) → 10 ≤ length (S .log) - r .logged → At (go (told (said n) s) (ret CVal.unit)) → Made (completed w 0 (record { memory = M; log = over (r .logged) (logRecord (domainOf w) n) (S .log); regs = after }))
       made n h Q =
           let new : logOf (s .trace ++ (said n ∷ [])) ≡ ps ++ (record { dom = X .dom; shown = n } ∷ []) = log-one (s .trace) (X .dom) n in
           let count : length (logOf (s .trace ++ (said n ∷ []))) ≡ length ps + 1 = ap length new ∙ length-append ps (record { dom = X .dom; shown = n } ∷ []) in
@@ -242,7 +246,7 @@ module _ (T : Table) (root : ℕ) (L : Linked T 0 root) (G : Given) (e₀ : Tm) 
       unnamed (at-piece h b d e ls) l n q = sym (ls .has l n) ∙ fewer l q .1
 
       made : (d : Dom) (ls : List ℕ) (e : Tm) (ρ : Env) → length (s .advices) < adviceLimit → IsAdvice T root L M z (pieceOf x) d ls e ρ
-          → At (go (installed (record { dom = d; labels = ls; body = record { term = e; env = ρ } }) s) (ret CVal.unit)) → Then (completed w 0 (record { memory = tables; log = S .log; regs = after }))
+          → At (go (installed (record { dom = d; labels = ls; body = record { term = e; env = ρ } }) s) (ret CVal.unit)) → Made (completed w 0 (record { memory = tables; log = S .log; regs = after }))
       made d ls e ρ h ia Q =
           let a : Advice Body = record { dom = d; labels = ls; body = record { term = e; env = ρ } } in
           let same : 3841 + (0 + length (s .advices)) ≡ 3841 + r .installed = omega (arith, st .advices) in

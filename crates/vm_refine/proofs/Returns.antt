@@ -16,16 +16,16 @@ use Rattle.calculus.specs.Syntax.{Dom, Tm, Tms, val, var, lam, op0, op1, op2, s
 use Rattle.calculus.specs.State.{Advice, Given, fresh}
 use Rattle.calculus.specs.Run.{stopped, ended, run}
 use Rattle.calculus.specs.Report.{outcomeNumber}
-use Rattle.calculus.specs.Answer.{with}
+use Rattle.calculus.specs.Answer.{go, with}
 use Rattle.closure_machine.specs.Closure.{CVal, Env, Body, CState, plainVal, plainState}
-use Rattle.closure_machine.specs.Machine.{ret, triggered, pcdN, opNF, lowerF, triggeredF, Stack, reduceSeqC}
+use Rattle.closure_machine.specs.Machine.{ret, triggered, pcdN, opNF, triggeredF, Stack, due, move, reduceSeqC}
 use Rattle.vm_theory.specs.Code.{Head, op1H, seqH, iteH, splitH, advH, lowerH, Instr, back, nullary, one, two, many, inPlace, hand, oneB, firstB, secondB, Skel, isAtom, Pc, entry, next}
 use Rattle.vm_theory.specs.Conf.{Site, callA, adviceA, restA, manyA, Chain, Slots, Conf, base, depthAt, body, trigger}
 use Rattle.vm_theory.specs.Stands.{stackOf, stackAt}
 use Rattle.vm_theory.specs.Table.{Node, manyN, pcdM, Table, Target, home, termsOf, Linked}
 use Rattle.vm_theory.proofs.Sound.{Sound}
 use Rattle.vm_theory.proofs.Debt.{paid-none}
-use Rattle.vm_theory.proofs.Reach.{Reach, reach-moves, reach-go, reach-label, redex-due, under-frame, ends-over, ends-spent}
+use Rattle.vm_theory.proofs.Reach.{Reach, reach-moves, reach-go, reach-label, redex-due, ends-over, ends-spent}
 use Rattle.vm_theory.proofs.Places.{Stood, Fine}
 use Rattle.vm_theory.proofs.Located.{Points, p-home, p-to, describes}
 use Rattle.vm_theory.proofs.Kept.{Kept, a-call, an-advice, some-operands, Slot, IsChain}
@@ -225,15 +225,20 @@ module _ (T : Table) (root : ℕ) (L : Linked T 0 root) (G : Given) (e₀ : Tm) 
         unit-value : v ≡ CVal.unit
         unit-value = body-unit T root L G e₀ Ω N B C says k s P A D u d x v reach few
 
-        lowered : Reach G e₀ Ω (suc k) s (ret CVal.unit) (triggeredF u x ∷ K)
+        -- the two steps, which need no room
+        lowers : move (ret v) (stackOf (adviceA d u x P ∷ A) D) G s ≡ due (go s (ret CVal.unit)) (triggeredF u x ∷ K)
         unfolding with plainVal
-        lowered =
-            let F₀ : Stack = stackOf (adviceA d u x P ∷ A) D in
-            reach-go G e₀ Ω k s (ret v) F₀ reach s (ret CVal.unit) (triggeredF u x ∷ K) (redex-due (triggeredF u x ∷ K) (reduceSeqC s (ret CVal.unit) v) few ∙ rw unit-value)
+        lowers = redex-due (triggeredF u x ∷ K) (reduceSeqC s (ret CVal.unit) v) few ∙ rw unit-value
+
+        sequences : move (ret CVal.unit) (triggeredF u x ∷ K) G s ≡ due (go s (triggered u x)) K
+        unfolding with plainVal
+        sequences = redex-due K (reduceSeqC s (triggered u x) CVal.unit) (omega (arith, few))
+
+        lowered : Reach G e₀ Ω (suc k) s (ret CVal.unit) (triggeredF u x ∷ K)
+        lowered = reach-go G e₀ Ω k s (ret v) (stackOf (adviceA d u x P ∷ A) D) reach s (ret CVal.unit) (triggeredF u x ∷ K) lowers
 
         sequenced : Reach G e₀ Ω (suc (suc k)) s (triggered u x) K
-        unfolding with plainVal
-        sequenced = reach-go G e₀ Ω (suc k) s (ret CVal.unit) (triggeredF u x ∷ K) lowered s (triggered u x) K (redex-due K (reduceSeqC s (triggered u x) CVal.unit) (omega (arith, few)))
+        sequenced = reach-go G e₀ Ω (suc k) s (ret CVal.unit) (triggeredF u x ∷ K) lowered s (triggered u x) K sequences
 
         -- the budget ends with the first step, or before it
         spent : r .left < headroom + 2 → Halted T root L G e₀ Ω N B (withRegs (haltWith (outcomeNumber Outcome.Spent) headroom r) S)
@@ -247,10 +252,10 @@ module _ (T : Table) (root : ℕ) (L : Linked T 0 root) (G : Given) (e₀ : Tm) 
             try : (t : Bool) → eqb (r .left) headroom ≡ t → Halted T root L G e₀ Ω N B (withRegs (haltWith (outcomeNumber Outcome.Spent) headroom r) S)
             try true t =
                 let n : k ≡ N = omega (arith, eqb-true (r .left) headroom t, now .common .budget) in
-                ends (ends-spent G e₀ Ω k s (ret v) (stackOf (adviceA d u x P ∷ A) D) reach N 0 (omega arith) refl (under-frame G e₀ Ω (ret v) (lowerF d) (triggeredF u x ∷ K))) n
+                ends (ends-spent G e₀ Ω k s (ret v) (stackOf (adviceA d u x P ∷ A) D) reach N 0 (omega arith) refl (go s (ret CVal.unit)) (triggeredF u x ∷ K) lowers refl) n
             try false t =
                 let n : suc k ≡ N = omega (arith, eqb-false (r .left) headroom t, now .common .budget, now .common .running) in
-                ends (ends-spent G e₀ Ω (suc k) s (ret CVal.unit) (triggeredF u x ∷ K) lowered N 0 (omega arith) refl (under-frame G e₀ Ω (ret CVal.unit) (triggeredF u x) K)) n
+                ends (ends-spent G e₀ Ω (suc k) s (ret CVal.unit) (triggeredF u x ∷ K) lowered N 0 (omega arith) refl (go s (triggered u x)) K sequences refl) n
 
         module _ (enough : headroom + 2 ≤ r .left) where
           -- the mark's place, after the two steps

@@ -14,16 +14,15 @@ use Rattle.calculus.specs.Syntax.{Tm}
 use Rattle.calculus.specs.Run.{stopped, ended, run}
 use Rattle.calculus.specs.Report.{outcomeNumber}
 use Rattle.calculus.specs.State.{Given, fresh, someBindings, oneCell, onePiece, addCounts, charged}
-use Rattle.calculus.specs.Answer.{full, halt, wrong, if-room, spend}
+use Rattle.calculus.specs.Answer.{go, full, halt, wrong, if-room, spend}
 use Rattle.calculus.specs.Place.{framed}
 use Rattle.closure_machine.specs.Closure.{CState, plainState}
 use Rattle.closure_machine.specs.Machine.{Control, Stack, CAnswer, due, move}
-use Rattle.closure_machine.proofs.Loop.{unfinished-due}
 use Rattle.vm_theory.specs.Conf.{Site, Chain, Slots, Conf, depthAt, placeOf}
 use Rattle.vm_theory.specs.Stands.{stackAt}
 use Rattle.vm_theory.specs.Table.{Table, home, Linked}
 use Rattle.vm_theory.proofs.Sound.{Sound}
-use Rattle.vm_theory.proofs.Reach.{Reach, not-wrong, ends-spent, ends-full, ends-halt}
+use Rattle.vm_theory.proofs.Reach.{Roomy, Reach, not-wrong, ends-spent, ends-full, ends-halt}
 use Rattle.vm_theory.proofs.Located.{describes}
 use Rattle.vm_code.specs.Words.{depthOf}
 use Rattle.vm_code.specs.Words as code
@@ -31,7 +30,7 @@ use Rattle.vm_code.specs.Says.{SaysCode}
 use Rattle.vm_machine.specs.declared.Regs.{Regs}
 use Rattle.vm_machine.specs.Registers.{headroom, fullRoom, haltWith, stepped, halt as halting}
 use Rattle.vm_machine.specs.Memory.{Memory}
-use Rattle.vm_machine.specs.States.{State, withRegs, judged, ifRoom}
+use Rattle.vm_machine.specs.States.{State, withRegs, withMemory, judged, ifLeft, ifRoom}
 use Rattle.vm_machine.specs.Fetch.{Program, codeAt}
 use Rattle.vm_machine.specs.Fits.{Fits}
 use Rattle.vm_refine.proofs.Relations.{sizes}
@@ -109,12 +108,11 @@ module _ (T : Table) (root : ℕ) (L : Linked T 0 root) (G : Given) (e₀ : Tm) 
       pub reach : Reach G e₀ Ω k s c F
       pub is : move c F G s ≡ due (framed (placeOf P A) a) (stackAt P A D)
 
-    -- The same, with a step left and frames enough.
+    -- The same, with frames enough.
     pub record Stepping (S : State) (k : ℕ) (s : CState) (m : ℕ) (P : Site) (A : Chain) (D : Slots) (c : Control) (F : Stack) (a : CAnswer) : Type 0 where
       pub place : InPlace T root L G e₀ Ω N B S k s m P A D
       pub pc : S .regs .pc ≡ m
       pub reach : Reach G e₀ Ω k s c F
-      pub some-left : headroom < S .regs .left
       pub shallow : depthAt P A ≤ 512
       pub is : move c F G s ≡ due a (stackAt P A D)
 
@@ -125,43 +123,71 @@ module _ (T : Table) (root : ℕ) (L : Linked T 0 root) (G : Given) (e₀ : Tm) 
       abbrev K : Stack
       K = stackAt P A D
 
-      -- The machine halts: n was in the register of what is left.
-      halts : InPlace T root L G e₀ Ω N B S k s m P A D → r .pc ≡ m → (o : Outcome) (n k′ : ℕ) → run N G 0 fresh e₀ ≡ ended (stopped o) k′ (plainState s) → k′ + (n - headroom) ≡ N
-          → Halted T root L G e₀ Ω N B (withRegs (haltWith (outcomeNumber o) n r) S)
-      halts p at o n k′ e q =
+      -- The machine halts, with the tables M: n was in the register of what is left.
+      halts-with : InPlace T root L G e₀ Ω N B S k s m P A D → r .pc ≡ m → (M : Memory) → Store T root L B M (S .log) (sizes r) s → (o : Outcome) (n k′ : ℕ) → run N G 0 fresh e₀ ≡ ended (stopped o) k′ (plainState s)
+          → k′ + (n - headroom) ≡ N → Halted T root L G e₀ Ω N B (withMemory M (haltWith (outcomeNumber o) n r) S)
+      halts-with p at M st o n k′ e q =
           let small = says .few m (p .no-atom) in
-          halted-stopped o refl refl e (p .common .store) q (fits-in (S .memory) (S .log) (haltWith (outcomeNumber o) n r) s (p .common .store) (omega (arith, at)) (p .env-fits) (omega (arith, p .room)))
+          halted-stopped o refl refl e st q (fits-in M (S .log) (haltWith (outcomeNumber o) n r) s st (omega (arith, at)) (p .env-fits) (omega (arith, p .room)))
+
+      -- A room is missing, whatever is left of the budget.
+      lacks : {a : CAnswer} (b : ℕ) (M : Memory) → Store T root L B M (S .log) (sizes r) s → (o : Outcome) → Redexed S k s m P A D c F a → move c F G s ≡ due (full o) K → After b (withMemory M (halting o r) S)
+      lacks b M st o R p =
+          after-halted
+          (halts-with (R .place) (R .pc) M st o (r .left) k
+          (ends-full G e₀ Ω k s c F (R .reach) N (r .left - headroom) (omega (arith, R .place .common .budget, R .place .common .running)) o K p)
+          (omega (arith, R .place .common .budget, R .place .common .running)))
+
+      redexed : {a : CAnswer} → Stepping S k s m P A D c F a → Redexed S k s m P A D c F a
+      unfolding if-room
+      redexed {a} R = record { place = R .place; pc = R .pc; reach = R .reach; is = rw (le-leb (depthAt P A) frameLimit (R .shallow)) (R .is) }
 
       -- The step's own room is missing.
-      pub no-room : {a : CAnswer} (b : ℕ) (o : Outcome) → Stepping S k s m P A D c F a → move c F G s ≡ due (full o) K → After b (withRegs (halting o r) S)
-      no-room b o R p =
-          after-halted
-          (halts (R .place) (R .pc) o (r .left) k
-          (ends-full G e₀ Ω k s c F (R .reach) N (r .left - headroom) (omega (arith, R .place .common .budget, R .some-left)) o K (λ z. omega (arith, R .some-left)) p)
-          (omega (arith, R .place .common .budget, R .some-left)))
+      pub no-room : {a : CAnswer} (b : ℕ) (M : Memory) → Store T root L B M (S .log) (sizes r) s → (o : Outcome) → Stepping S k s m P A D c F a → a ≡ full o → After b (withMemory M (halting o r) S)
+      no-room b M st o R q = lacks b M st o (redexed R) (R .is ∙ ap (λ (x : CAnswer). due x K) q)
+
+      -- No room is missing: the step is made, if one is left.
+      pub if-left-with : {a : CAnswer} (b : ℕ) (M : Memory) → Store T root L B M (S .log) (sizes r) s → (S′ : State) → Stepping S k s m P A D c F a → Roomy a → (headroom < r .left → After b S′)
+          → After b (ifLeft (withMemory M r S) S′)
+      if-left-with {a} b M st S′ R q h = try (leb (r .left) headroom) refl
+        where
+          p : InPlace T root L G e₀ Ω N B S k s m P A D
+          p = R .place
+
+          try : (x : Bool) → leb (r .left) headroom ≡ x → After b (choose x (withMemory M (halting Outcome.Spent r) S) S′)
+          try true x =
+              let l : r .left ≤ headroom = leb-true (r .left) headroom x in
+              after-halted
+              (halts-with p (R .pc) M st Outcome.Spent (r .left) k
+              (ends-spent G e₀ Ω k s c F (R .reach) N 0 (omega (arith, p .common .budget, p .common .running)) refl a K (R .is) q) (omega (arith, p .common .budget, p .common .running)))
+          try false x = h (leb-false (r .left) headroom x)
+
+      pub if-left : {a : CAnswer} (b : ℕ) (S′ : State) → Stepping S k s m P A D c F a → (s′ : CState) (c′ : Control) → a ≡ go s′ c′ → (headroom < r .left → After b S′) → After b (ifLeft S S′)
+      if-left {a} b S′ R s′ c′ q h = if-left-with b (S .memory) (R .place .common .store) S′ R (rw q refl) h
 
       pub if-there-is-room : {a : CAnswer} (b : ℕ) (t : Bool) (o : Outcome) (a′ : CAnswer) (S′ : State) (u : Bool) → u ≡ t → Stepping S k s m P A D c F a → a ≡ if-room t o a′
-          → (t ≡ true → Stepping S k s m P A D c F a′ → After b S′) → After b (ifRoom u o S S′)
+          → (t ≡ true → Stepping S k s m P A D c F a′ → After b (ifLeft S S′)) → After b (ifRoom u o S S′)
       unfolding if-room
       if-there-is-room {a} b true o a′ S′ u e R q h =
-          rw e (h refl (record { place = R .place; pc = R .pc; reach = R .reach; some-left = R .some-left; shallow = R .shallow; is = R .is ∙ ap (λ (x : CAnswer). due x K) q }))
-      if-there-is-room b false o a′ S′ u e R q h = rw e (no-room b o R (R .is ∙ ap (λ (x : CAnswer). due x K) q))
+          rw e (h refl (record { place = R .place; pc = R .pc; reach = R .reach; shallow = R .shallow; is = R .is ∙ ap (λ (x : CAnswer). due x K) q }))
+      if-there-is-room b false o a′ S′ u e R q h = rw e (no-room b (S .memory) (R .place .common .store) o R q)
 
       pub no-wrong : {a : CAnswer} → Stepping S k s m P A D c F a → a ≡ wrong → ⊥
       no-wrong R q = not-wrong G e₀ Ω k s c F (R .reach) K (R .is ∙ ap (λ (x : CAnswer). due x K) q)
 
-      -- Abort ends the run with its step.
-      pub aborts : (b : ℕ) → Stepping S k s m P A D c F halt → After b (withRegs (halting Outcome.Aborted (stepped r)) S)
+      -- Abort ends the run with its step, or is spent.
+      pub aborts : (b : ℕ) → Stepping S k s m P A D c F halt → After b (ifLeft S (withRegs (halting Outcome.Aborted (stepped r)) S))
       aborts b R =
-          after-halted
-          (halts (R .place) (R .pc) Outcome.Aborted (r .left - 1) (suc k)
-          (ends-halt G e₀ Ω k s c F (R .reach) N (r .left - headroom) (omega (arith, R .place .common .budget, R .some-left)) K (λ z. omega (arith, R .some-left)) (R .is))
-          (omega (arith, R .place .common .budget, R .some-left)))
+          if-left-with b (S .memory) (R .place .common .store) (withRegs (halting Outcome.Aborted (stepped r)) S) R refl
+          (λ l. after-halted
+          (halts-with (R .place) (R .pc) (S .memory) (R .place .common .store) Outcome.Aborted (r .left - 1) (suc k)
+          (ends-halt G e₀ Ω k s c F (R .reach) N (r .left - headroom) (omega (arith, R .place .common .budget)) K (λ z. omega arith) (R .is))
+          (omega (arith, R .place .common .budget))))
 
-      -- Spent, then frames, then the step.
+      -- Frames come first.
       pub judged-now : {a : CAnswer} (b : ℕ) (S′ : State) → Redexed S k s m P A D c F a → (Stepping S k s m P A D c F a → After b S′) → After b (judged (codeAt C m) S S′)
       unfolding if-room
-      judged-now {a} b S′ R h = try (leb (r .left) headroom) refl (leb (r .room) (depthOf (codeAt C m))) refl
+      judged-now {a} b S′ R h = try (leb (r .room) (depthOf (codeAt C m))) refl
         where
           p : InPlace T root L G e₀ Ω N B S k s m P A D
           p = R .place
@@ -172,23 +198,11 @@ module _ (T : Table) (root : ℕ) (L : Linked T 0 root) (G : Given) (e₀ : Tm) 
           frames : (t : Bool) → leb (depthAt P A) frameLimit ≡ t → move c F G s ≡ due (if-room t Outcome.Frames a) K
           frames t e = rw (← e) (R .is)
 
-          try : (x : Bool) → leb (r .left) headroom ≡ x → (y : Bool) → leb (r .room) (depthOf (codeAt C m)) ≡ y
-              → After b (choose x (withRegs (halting Outcome.Spent r) S) (choose y (withRegs (halting Outcome.Frames r) S) S′))
-          try true x y q =
-              let l : r .left ≤ headroom = leb-true (r .left) headroom x in
-              after-halted
-              (halts p (R .pc) Outcome.Spent (r .left) k
-              (ends-spent G e₀ Ω k s c F (R .reach) N 0 (omega (arith, p .common .budget, p .common .running)) refl (unfinished-due G s c F (framed (placeOf P A) a) K (R .is)))
-              (omega (arith, p .common .budget, p .common .running)))
-          try false x true q =
-              let l : headroom < r .left = leb-false (r .left) headroom x in
+          try : (y : Bool) → leb (r .room) (depthOf (codeAt C m)) ≡ y → After b (choose y (withRegs (halting Outcome.Frames r) S) S′)
+          try true q =
               let d : r .room ≤ depthOf (codeAt C m) = leb-true (r .room) (depthOf (codeAt C m)) q in
-              after-halted
-              (halts p (R .pc) Outcome.Frames (r .left) k
-              (ends-full G e₀ Ω k s c F (R .reach) N (r .left - headroom) (omega (arith, p .common .budget)) Outcome.Frames K (λ z. omega arith) (frames false (lt-leb (depthAt P A) frameLimit (omega (arith, deep, p .room)))))
-              (omega (arith, p .common .budget)))
-          try false x false q =
-              let l : headroom < r .left = leb-false (r .left) headroom x in
+              lacks b (S .memory) (p .common .store) Outcome.Frames R (frames false (lt-leb (depthAt P A) frameLimit (omega (arith, deep, p .room))))
+          try false q =
               let d : depthOf (codeAt C m) < r .room = leb-false (r .room) (depthOf (codeAt C m)) q in
               let u : depthAt P A ≤ 512 = omega (arith, deep, p .room) in
-              h (record { place = p; pc = R .pc; reach = R .reach; some-left = l; shallow = u; is = frames true (le-leb (depthAt P A) frameLimit u) })
+              h (record { place = p; pc = R .pc; reach = R .reach; shallow = u; is = frames true (le-leb (depthAt P A) frameLimit u) })

@@ -25,7 +25,7 @@ use Rattle.vm_code.specs.Says.{SaysTarget, SaysCode}
 use Rattle.vm_machine.specs.Registers.{stepped}
 use Rattle.vm_machine.specs.Memory.{Memory, cellAt}
 use Rattle.vm_machine.specs.Memory as words
-use Rattle.vm_machine.specs.States.{State, withRegs}
+use Rattle.vm_machine.specs.States.{State, withRegs, ifLeft}
 use Rattle.vm_machine.specs.Fetch.{Program, codeAt, goneTo}
 use Rattle.vm_machine.proofs.Branch.{picked}
 use Rattle.vm_machine.specs.Reduce.{given}
@@ -93,6 +93,10 @@ module _ (T : Table) (root : ℕ) (L : Linked T 0 root) (G : Given) (e₀ : Tm) 
   abbrev Then : State → Type 0
   Then S′ = After T root L G e₀ Ω N B (measure S) S′
 
+  -- The step is made, if one is left of the budget.
+  abbrev Made : State → Type 0
+  Made S′ = Then (ifLeft S S′)
+
   abbrev Is : ℕ → CVal → Type 0
   Is w v = IsVal T root L (S .memory) (sizes (S .regs)) w v
 
@@ -101,75 +105,75 @@ module _ (T : Table) (root : ℕ) (L : Linked T 0 root) (G : Given) (e₀ : Tm) 
   unchanged R =
       record { env = refl; room = refl; left = refl; pc = refl; store = R .place .common .store; grows = grows-refl (S .memory) (sizes (S .regs)); slots = slots-refl (S .memory) }
 
-  pub value-now : {a : CAnswer} → At a → (x : ℕ) (v : CVal) → a ≡ go s (ret v) → Is x v → Then (given (codeAt C m) x S)
+  pub value-now : {a : CAnswer} → At a → (x : ℕ) (v : CVal) → a ≡ go s (ret v) → Is x v → Made (given (codeAt C m) x S)
   value-now R x v e i = gives T root L G e₀ Ω N B C says S k s m P A D c F R (S .memory) (S .log) (stepped (S .regs)) s (unchanged R) x v e i
 
-  term-now : {a : CAnswer} → At a → (g f : ℕ) → SaysTarget T g f → Located T 0 root L f (P .skel) (P .dom) → a ≡ go s (eval (T .term f) (P .env)) → Then (goneTo C (codeAt C m) g (withRegs (stepped (S .regs)) S))
+  term-now : {a : CAnswer} → At a → (g f : ℕ) → SaysTarget T g f → Located T 0 root L f (P .skel) (P .dom) → a ≡ go s (eval (T .term f) (P .env)) → Made (goneTo C (codeAt C m) g (withRegs (stepped (S .regs)) S))
   term-now R g f t l e = goes-on T root L G e₀ Ω N B C says S k s m P A D c F R (S .memory) (S .log) (stepped (S .regs)) s (unchanged R) g f t l e
 
   no-way : {a : CAnswer} {X : Type 0} → At a → a ≡ wrong → X
   no-way R e = absurd (no-wrong T root L G e₀ Ω N B C says S k s m P A D c F R e)
 
-  pub lower-now : {x : ℕ} {v : CVal} → Is x v → At (reduceSeqC s (ret CVal.unit) v) → Then (given (codeAt C m) unitValue S)
+  pub lower-now : {x : ℕ} {v : CVal} → Is x v → At (reduceSeqC s (ret CVal.unit) v) → Made (given (codeAt C m) unitValue S)
   unfolding with plainVal
   lower-now {x} {v} i R = try (as-unit T root L (S .memory) (sizes (S .regs)) i) R
     where
-      try : {u : CVal} → AsUnit T root L (S .memory) (sizes (S .regs)) x u → At (reduceSeqC s (ret CVal.unit) u) → Then (given (codeAt C m) unitValue S)
+      try : {u : CVal} → AsUnit T root L (S .memory) (sizes (S .regs)) x u → At (reduceSeqC s (ret CVal.unit) u) → Made (given (codeAt C m) unitValue S)
       try (a-unit p) Q = value-now Q unitValue CVal.unit refl (is-unit refl)
       try (no-unit p) Q = no-way Q (rw p)
 
   pub seq-now : {x : ℕ} {v : CVal} (f : ℕ) → Is x v → SaysTarget T (fieldB (codeAt C m)) f → Located T 0 root L f (P .skel) (P .dom) → At (reduceSeqC s (eval (T .term f) (P .env)) v)
-      → Then (goneTo C (codeAt C m) (fieldB (codeAt C m)) (withRegs (stepped (S .regs)) S))
+      → Made (goneTo C (codeAt C m) (fieldB (codeAt C m)) (withRegs (stepped (S .regs)) S))
   unfolding with plainVal
   seq-now {x} {v} f i t l R = try (as-unit T root L (S .memory) (sizes (S .regs)) i) R
     where
       try : {u : CVal} → AsUnit T root L (S .memory) (sizes (S .regs)) x u → At (reduceSeqC s (eval (T .term f) (P .env)) u)
-          → Then (goneTo C (codeAt C m) (fieldB (codeAt C m)) (withRegs (stepped (S .regs)) S))
+          → Made (goneTo C (codeAt C m) (fieldB (codeAt C m)) (withRegs (stepped (S .regs)) S))
       try (a-unit p) Q = term-now Q (fieldB (codeAt C m)) f t l refl
       try (no-unit p) Q = no-way Q (rw p)
 
   pub ite-now : {x : ℕ} {v : CVal} (f g : ℕ) → Is x v → SaysTarget T (fieldB (codeAt C m)) f → SaysTarget T (fieldC (codeAt C m)) g → Located T 0 root L f (P .skel) (P .dom) → Located T 0 root L g (P .skel) (P .dom)
-      → At (reduceIteC s (T .term f) (T .term g) (P .env) v) → Then (goneTo C (codeAt C m) (picked (codeAt C m) x) (withRegs (stepped (S .regs)) S))
+      → At (reduceIteC s (T .term f) (T .term g) (P .env) v) → Made (goneTo C (codeAt C m) (picked (codeAt C m) x) (withRegs (stepped (S .regs)) S))
   unfolding with plainVal
   ite-now {x} {v} f g i tf tg lf lg R = try (as-truth T root L (S .memory) (sizes (S .regs)) i) R
     where
-      branch : (b : Bool) → bodyOf x ≡ choose b 1 0 → At (go s (eval (choose b (T .term f) (T .term g)) (P .env))) → Then (goneTo C (codeAt C m) (picked (codeAt C m) x) (withRegs (stepped (S .regs)) S))
+      branch : (b : Bool) → bodyOf x ≡ choose b 1 0 → At (go s (eval (choose b (T .term f) (T .term g)) (P .env))) → Made (goneTo C (codeAt C m) (picked (codeAt C m) x) (withRegs (stepped (S .regs)) S))
       branch true q Q = rw q (term-now Q (fieldB (codeAt C m)) f tf lf refl)
       branch false q Q = rw q (term-now Q (fieldC (codeAt C m)) g tg lg refl)
 
       try : {u : CVal} → AsTruth T root L (S .memory) (sizes (S .regs)) x u → At (reduceIteC s (T .term f) (T .term g) (P .env) u)
-          → Then (goneTo C (codeAt C m) (picked (codeAt C m) x) (withRegs (stepped (S .regs)) S))
+          → Made (goneTo C (codeAt C m) (picked (codeAt C m) x) (withRegs (stepped (S .regs)) S))
       try (a-truth {b = b} p q) Q = branch b q Q
       try (no-truth p) Q = no-way Q (rw p)
 
-  pub byte-now : (X : Place) (t : Ty) {x : ℕ} {v : CVal} → Is x v → At (reduce1C G X s byte t v) → Then (given (codeAt C m) (numberValue (frameByte (G .frame) (bodyOf x))) S)
+  pub byte-now : (X : Place) (t : Ty) {x : ℕ} {v : CVal} → Is x v → At (reduce1C G X s byte t v) → Made (given (codeAt C m) (numberValue (frameByte (G .frame) (bodyOf x))) S)
   unfolding with plainVal
   byte-now X t {x} i R = try (as-number T root L (S .memory) (sizes (S .regs)) i) R
     where
-      try : {u : CVal} → AsNumber T root L (S .memory) (sizes (S .regs)) x u → At (reduce1C G X s byte t u) → Then (given (codeAt C m) (numberValue (frameByte (G .frame) (bodyOf x))) S)
+      try : {u : CVal} → AsNumber T root L (S .memory) (sizes (S .regs)) x u → At (reduce1C G X s byte t u) → Made (given (codeAt C m) (numberValue (frameByte (G .frame) (bodyOf x))) S)
       try (a-number {n = n} p q) Q =
           rw q
           (value-now Q (numberValue (frameByte (G .frame) n)) (CVal.num (frameByte (G .frame) n)) refl (number-is T root L (S .memory) (sizes (S .regs)) (frameByte (G .frame) n)))
       try (no-number p) Q = no-way Q (rw p)
 
-  pub read-now : (X : Place) (t : Ty) {x : ℕ} {v : CVal} → Is x v → At (reduce1C G X s read t v) → Then (given (codeAt C m) (cellAt (S .memory) (words.cellOf x)) S)
+  pub read-now : (X : Place) (t : Ty) {x : ℕ} {v : CVal} → Is x v → At (reduce1C G X s read t v) → Made (given (codeAt C m) (cellAt (S .memory) (words.cellOf x)) S)
   unfolding with plainVal
   read-now X t {x} i R = try (as-cell T root L (S .memory) (sizes (S .regs)) i) R
     where
-      try : {u : CVal} → AsCell T root L (S .memory) (sizes (S .regs)) x u → At (reduce1C G X s read t u) → Then (given (codeAt C m) (cellAt (S .memory) (words.cellOf x)) S)
+      try : {u : CVal} → AsCell T root L (S .memory) (sizes (S .regs)) x u → At (reduce1C G X s read t u) → Made (given (codeAt C m) (cellAt (S .memory) (words.cellOf x)) S)
       try (a-cell {r = j} p q) Q = rw q (found (getElem? (s .cells) j) refl Q)
         where
-          found : (o : Option (Cell CVal)) → getElem? (s .cells) j ≡ o → At (with o (λ h. go s (ret (h .held)))) → Then (given (codeAt C m) (cellAt (S .memory) j) S)
+          found : (o : Option (Cell CVal)) → getElem? (s .cells) j ≡ o → At (with o (λ h. go s (ret (h .held)))) → Made (given (codeAt C m) (cellAt (S .memory) j) S)
           found none e Q = no-way Q refl
           found (some h) e Q = value-now Q (cellAt (S .memory) j) (h .held) refl (Q .place .common .store .are-cells j h e .value)
       try (no-cell p) Q = no-way Q (rw p)
 
   pub arithmetic-now : {o : Op2} {f : ℕ → ℕ → ℕ} {g : ℕ → ℕ → CVal} → Arithmetic o f g → (X : Place) (t : Ty) {x y : ℕ} {v u : CVal} → Is x v → Is y u → At (reduce2C G X s o t v u)
-      → Then (given (codeAt C m) (f (bodyOf x) (bodyOf y)) S)
+      → Made (given (codeAt C m) (f (bodyOf x) (bodyOf y)) S)
   arithmetic-now {o} {f} {g} a X t {x} {y} i j R = try (as-number T root L (S .memory) (sizes (S .regs)) i) (as-number T root L (S .memory) (sizes (S .regs)) j) R
     where
       try : {v u : CVal} → AsNumber T root L (S .memory) (sizes (S .regs)) x v → AsNumber T root L (S .memory) (sizes (S .regs)) y u → At (reduce2C G X s o t v u)
-          → Then (given (codeAt C m) (f (bodyOf x) (bodyOf y)) S)
+          → Made (given (codeAt C m) (f (bodyOf x) (bodyOf y)) S)
       try (a-number {n = n} p q) (a-number {n = n′} p′ q′) Q = rw (q, q′) (value-now Q (f n n′) (g n n′) (arithmetic-answer a G X s t n n′) (arithmetic-is T root L (S .memory) (sizes (S .regs)) a n n′))
       try (a-number {n = n} p q) (no-number {v = u} e) Q = no-way Q (second-wrong a G X s t n u e)
       try {u = u} (no-number {v = v} e) h Q = no-way Q (first-wrong a G X s t v u e)

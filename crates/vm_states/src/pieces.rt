@@ -2,6 +2,7 @@
 ghost use Prim.Native.Nat.{_≤_, _<_};
 ghost use lib.ListN.{length};
 ghost use Rattle.base_bytes.specs.Memory.{memoryLength};
+ghost use Rattle.vm_machine.specs.Registers.{headroom};
 ghost use Rattle.vm_machine.specs.Reduce.{newPiece};
 ghost use Rattle.vm_states.specs.Phases.{Phase};
 use crate::ends::given;
@@ -14,7 +15,7 @@ use vm_words::value::value;
 
 // One more piece, for a value with a tag.
 pub fn new_piece(work: &mut [u8], r: Regs, w: u64, tag: u64, a: u64, b: u64) -> Regs
-    requires { ⌜ (memoryLength ≤ length (now work)) × (r .room ≤ 513) × (0 < r .left) × (tag < 16) ⌝ }
+    requires { ⌜ (memoryLength ≤ length (now work)) × (r .room ≤ 513) × (headroom < r .left) × (tag < 16) ⌝ }
     ensures { λ q. ⌜ Phase (newPiece w tag a b) (now (work .entry)) (now (work .exit)) r q ⌝ }
 {
     let n = r.pools.pieces;

@@ -65,6 +65,14 @@ pub fn constant() -> Vec<u8> {
     p2()
 }
 
+/// An image whose first step is a print.
+pub fn printing() -> Vec<u8> {
+    let mut program = Program::new(&[1]);
+    let five = program.number(5);
+    let root = program.print(five);
+    program.image(&root)
+}
+
 /// An image that ends with each outcome, over ample memory and any budget but one of 3 steps for spent.
 pub fn ending() -> Vec<(u16, Vec<u8>)> {
     vec![

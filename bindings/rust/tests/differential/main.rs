@@ -48,9 +48,28 @@ fn made_images(random: &mut Random, counts: &mut Counts) {
     }
     for (outcome, image) in made::ending().into_iter().chain(objects::ending()) {
         let budget = if outcome == 1 { 3 } else { u32::MAX };
-        let answer = call(random, counts, &Given { budget, ..made::ample(&image) });
-        assert_eq!(answer.ok().map(|ran| ran.outcome), Some(outcome), "image made for outcome {outcome}");
+        let ran =
+            call(random, counts, &Given { budget, ..made::ample(&image) }).ok().expect("an image that is accepted");
+        assert_eq!(ran.outcome, outcome, "image made for outcome {outcome}");
+        if outcome > 1 {
+            budget_at_the_end(random, counts, &image, &ran);
+        }
     }
+    let answer = call(random, counts, &Given { budget: 0, log: 0, ..made::ample(&made::printing()) });
+    assert_eq!(answer.ok().map(|ran| ran.outcome), Some(9), "no room for the first step at budget 0");
+}
+
+/// Card 5: where the budget ends at a step that lacks room, the room is answered, and an abort is spent.
+fn budget_at_the_end(random: &mut Random, counts: &mut Counts, image: &[u8], ran: &Ran) {
+    let (budget, outcome) = if ran.outcome == 2 { (steps_of(ran) - 1, 1) } else { (steps_of(ran), ran.outcome) };
+    let again =
+        call(random, counts, &Given { budget, ..made::ample(image) }).ok().map(|ran| (ran.outcome, steps_of(&ran)));
+    assert_eq!(again, Some((outcome, budget)), "image made for outcome {} at its budget", ran.outcome);
+}
+
+/// The steps that a report says.
+fn steps_of(ran: &Ran) -> u32 {
+    u32::from_le_bytes(ran.report[6..10].try_into().unwrap())
 }
 
 /// Every case of the rules, in small images.
@@ -81,7 +100,7 @@ fn random_image(random: &mut Random, counts: &mut Counts) {
     let answer = call(random, counts, &first);
     counts.image(&answer);
     let (steps, log) = match &answer {
-        Ok(ran) => (u32::from_le_bytes(ran.report[6..10].try_into().unwrap()), ran.log.len()),
+        Ok(ran) => (steps_of(ran), ran.log.len()),
         Err(_) => (0, 0),
     };
     for _ in 0..3 {

@@ -1,5 +1,5 @@
-//! What a call answers and leaves, written from documents 01, 02 (cards 1 to 3) and 003 alone and as literally as
-//! possible: the check rule by rule, the run by substitution. It shares no text with the engine.
+//! What a call answers and leaves, written from documents 01, 02 (cards 1 to 3 and 5) and 003 alone and as literally
+//! as possible: the check rule by rule, the run by substitution. It shares no text with the engine.
 mod decode;
 mod layout;
 mod report;

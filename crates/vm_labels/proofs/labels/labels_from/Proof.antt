@@ -38,8 +38,8 @@ depth-of-requires c κs = search needs
 add-if2 : tie.Need-add-if2
 add-if2 c = search needs
 
-lacking-requires : tie.Need-lacking-requires
-lacking-requires c κs = search needs
+halt-requires : tie.Need-halt-requires
+halt-requires c κs = search needs
 
 same-length-2 : tie.Need-same-length-2
 same-length-2 c = search needs
@@ -48,7 +48,7 @@ returns-2 : tie.Need-returns-2
 returns-2 c =
     let t = c .before .before .before .before .before .before .before in
     let a = t .before .before .before .before .before .before .args in
-    no-room (record { code = now (a .code); image = now (a .image) }) (now (a .work)) (now (a .work)) (a .r) _ (a .r .pc) (a .from .count) (a .from .digits) (record { count = t .take-labels .result .count; digits = t .take-labels .result .digits }) (t .take-labels .ensures) _ (c .before .before .before .before .before .before .count-of .ensures) (c .before .before .before .before .if1 .left) _ (c .before .before .before .depth-of .ensures) (c .before .if2 .taken) (c .lacking .ensures)
+    no-room (record { code = now (a .code); image = now (a .image) }) (now (a .work)) (now (a .work)) (a .r) _ (a .r .pc) (a .from .count) (a .from .digits) (record { count = t .take-labels .result .count; digits = t .take-labels .result .digits }) (t .take-labels .ensures) _ (c .before .before .before .before .before .before .count-of .ensures) (c .before .before .before .before .if1 .left) _ (c .before .before .before .depth-of .ensures) (c .before .if2 .taken) (c .halt .ensures)
 
 begin-child-requires : tie.Need-begin-child-requires
 begin-child-requires c κs = search needs
@@ -75,7 +75,7 @@ labels-from-spec =
     returns
     depth-of-requires
     add-if2
-    lacking-requires
+    halt-requires
     same-length-2
     returns-2
     begin-child-requires

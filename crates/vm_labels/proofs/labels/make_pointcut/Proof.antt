@@ -1,25 +1,29 @@
-use Rattle.vm_labels.proofs.Labelling.{judged-spent, judged-frames, judged-made, pointcut-as}
+use Rattle.vm_code.specs.Values.{pointcutTag}
+use Rattle.vm_code.specs.Words.{countOf}
+use Rattle.vm_machine.specs.Memory.{labelSet}
 use denote.Ref.{now}
+use Rattle.vm_labels.proofs.Labelling.{judged-frames, judged-made, piece-unpaid, pointcut-as}
 use borrow.Author.Needs.{needs}
 use Rattle.vm_labels.proofs.labels.make_pointcut.Statement.{statement}
 use Rattle.vm_labels.proofs.labels.make_pointcut.Tie as tie
+
+depth-of-requires : tie.Need-depth-of-requires
+depth-of-requires c κs = search needs
 
 halt-requires : tie.Need-halt-requires
 halt-requires c κs = search needs
 
 returns : tie.Need-returns
-returns c = let a = c .before .before .before .before .args in judged-spent _ (now (a .work)) (now (a .work)) (a .r) _ (a .w) (c .before .if1 .taken) (c .halt .ensures)
+returns c = let a = c .before .before .before .before .before .args in judged-frames _ (now (a .work)) (now (a .work)) (a .r) _ (a .w) _ (c .before .before .before .depth-of .ensures) (c .before .if1 .taken) (c .halt .ensures)
 
-depth-of-requires : tie.Need-depth-of-requires
-depth-of-requires c κs = search needs
+spent-or-requires : tie.Need-spent-or-requires
+spent-or-requires c κs = search needs
 
 halt-requires-2 : tie.Need-halt-requires-2
 halt-requires-2 c κs = search needs
 
 returns-2 : tie.Need-returns-2
-returns-2 c =
-    let a = c .before .before .before .before .before .before .before .args in
-    judged-frames _ (now (a .work)) (now (a .work)) (a .r) _ (a .w) (c .before .before .before .before .if1 .left) _ (c .before .before .before .depth-of .ensures) (c .before .if2 .taken) (c .halt2 .ensures)
+returns-2 c = let a = c .before .before .before .before .before .before .before .before .before .args in judged-made _ (now (a .work)) (now (a .work)) (a .r) _ (a .w) _ (c .before .before .before .before .before .before .before .depth-of .ensures) (c .before .before .before .before .before .if1 .left) (piece-unpaid (now (a .work)) (a .r) _ (a .w) pointcutTag 0 (labelSet (countOf (a .w)) (a .digits) 0) _ (c .before .before .before .if2 .taken) (c .before .spent-or .ensures) (c .halt2 .ensures))
 
 count-of-requires : tie.Need-count-of-requires
 count-of-requires c κs = search needs
@@ -34,20 +38,16 @@ same-length : tie.Need-same-length
 same-length c = search needs
 
 returns-3 : tie.Need-returns-3
-returns-3 c =
-    let n = c .before .before in
-    let t = n .before .before .before .before in
-    let a = t .before .before .before .before .before .before .args in
-    judged-made _ (now (a .work)) _ (a .r) _ (a .w) (t .before .before .before .if1 .left) _ (t .before .before .depth-of .ensures) (t .if2 .left)
-    (pointcut-as (now (a .work)) _ (a .r) _ (a .w) _ _ (a .digits) (n .before .before .count-of .ensures) (n .before .label-set .ensures) (n .new-piece .ensures))
+returns-3 c = let a = c .before .before .before .before .before .before .before .before .before .before .before .before .args in judged-made _ (now (a .work)) _ (a .r) _ (a .w) _ (c .before .before .before .before .before .before .before .before .before .before .depth-of .ensures) (c .before .before .before .before .before .before .before .before .if1 .left) (pointcut-as (now (a .work)) _ (a .r) _ (a .w) _ _ (a .digits) (c .before .before .before .before .count-of .ensures) (c .before .before .before .label-set .ensures) (c .before .before .new-piece .ensures))
 
 pub make-pointcut-spec : {M : Type 1} → statement M
 make-pointcut-spec =
     tie.close
     (tie.spec
+    depth-of-requires
     halt-requires
     returns
-    depth-of-requires
+    spent-or-requires
     halt-requires-2
     returns-2
     count-of-requires

@@ -10,11 +10,11 @@ depth-of-requires c κs = search needs
 add-if1 : tie.Need-add-if1
 add-if1 c = search needs
 
-lacking-requires : tie.Need-lacking-requires
-lacking-requires c κs = search needs
+halt-requires : tie.Need-halt-requires
+halt-requires c κs = search needs
 
 returns : tie.Need-returns
-returns c = let a = c .before .before .before .before .before .args in start-lacking (now (a .work)) (now (a .work)) (a .r) _ (a .w) _ (a .n) (a .m) (c .before .before .before .depth-of .ensures) (c .before .if1 .taken) (c .lacking .ensures)
+returns c = let a = c .before .before .before .before .before .args in start-lacking (now (a .work)) (now (a .work)) (a .r) _ (a .w) _ (a .n) (a .m) (c .before .before .before .depth-of .ensures) (c .before .if1 .taken) (c .halt .ensures)
 
 body-at-requires : tie.Need-body-at-requires
 body-at-requires c κs = search needs
@@ -49,7 +49,7 @@ start-advice-spec =
     (tie.spec
     depth-of-requires
     add-if1
-    lacking-requires
+    halt-requires
     returns
     body-at-requires
     add-put-advice

@@ -18,7 +18,7 @@ same-length : tie.Need-same-length
 same-length c = search needs
 
 returns : tie.Need-returns
-returns c = let a = c .before .before .before .before .before .before .before .before .args in unheard-made (now (a .work)) (a .r) _ (a .w) (a .x) (a .y) _ _ (c .before .before .before .before .before .before .label-of .ensures .0) (c .before .before .before .before .before .has-bit .ensures) _ (c .before .before .before .before .if1 .taken) (c .before .before .given .ensures)
+returns c = let s = c .before .before .before .before .before .before .before .before in let a = s .args in unheard-made (now (a .work)) (a .r) _ (a .w) (a .x) (a .y) _ _ (c .before .before .before .before .before .before .label-of .ensures .0) (c .before .before .before .before .before .has-bit .ensures) _ (s .pre .1) (c .before .before .before .before .if1 .taken) (c .before .before .given .ensures)
 
 bind-matching-requires : tie.Need-bind-matching-requires
 bind-matching-requires c κs = search needs
@@ -39,7 +39,7 @@ same-length-3 : tie.Need-same-length-3
 same-length-3 c = search needs
 
 returns-3 : tie.Need-returns-3
-returns-3 c = let a = c .before .before .before .before .before .before .before .before .before .before .before .before .before .before .args in none-made (now (a .work)) (a .r) _ (a .w) (a .x) (a .y) _ _ (c .before .before .before .before .before .before .before .before .before .before .before .before .label-of .ensures .0) (c .before .before .before .before .before .before .before .before .before .before .before .has-bit .ensures) (c .before .before .before .before .before .before .before .before .before .before .if1 .left) _ _ (c .before .before .before .before .before .before .before .before .bind-matching .ensures .0) _ (c .before .before .before .before .before .if2 .left) (c .before .before .before .before .if3 .taken) (c .before .before .given2 .ensures)
+returns-3 c = let s = c .before .before .before .before .before .before .before .before .before .before .before .before .before .before in let a = s .args in none-made (now (a .work)) (a .r) _ (a .w) (a .x) (a .y) _ _ (c .before .before .before .before .before .before .before .before .before .before .before .before .label-of .ensures .0) (c .before .before .before .before .before .before .before .before .before .before .before .has-bit .ensures) (c .before .before .before .before .before .before .before .before .before .before .if1 .left) _ _ (c .before .before .before .before .before .before .before .before .bind-matching .ensures .0) _ (s .pre .1) (c .before .before .before .before .before .if2 .left) (c .before .before .before .before .if3 .taken) (c .before .before .given2 .ensures)
 
 same-requires : tie.Need-same-requires
 same-requires c κs = search needs
@@ -56,7 +56,7 @@ same-length-4 : tie.Need-same-length-4
 same-length-4 c = search needs
 
 returns-4 : tie.Need-returns-4
-returns-4 c = let a = c .before .before .before .before .before .before .before .before .before .before .before .before .before .before .before .before .before .args in some-made (now (a .work)) (a .r) _ (a .w) (a .x) (a .y) _ _ (c .before .before .before .before .before .before .before .before .before .before .before .before .before .before .before .label-of .ensures .0) (c .before .before .before .before .before .before .before .before .before .before .before .before .before .before .has-bit .ensures) (c .before .before .before .before .before .before .before .before .before .before .before .before .before .if1 .left) _ _ (c .before .before .before .before .before .before .before .before .before .before .before .bind-matching .ensures .0) _ _ (c .before .before .before .before .before .before .before .before .if2 .left) (c .before .before .before .before .before .before .before .if3 .left) (c .before .before .before .before .before .before .same .ensures) (c .before .before .start-advice .ensures)
+returns-4 c = let s = c .before .before .before .before .before .before .before .before .before .before .before .before .before .before .before .before .before in let a = s .args in some-made (now (a .work)) (a .r) _ (a .w) (a .x) (a .y) _ _ (c .before .before .before .before .before .before .before .before .before .before .before .before .before .before .before .label-of .ensures .0) (c .before .before .before .before .before .before .before .before .before .before .before .before .before .before .has-bit .ensures) (c .before .before .before .before .before .before .before .before .before .before .before .before .before .if1 .left) _ _ (c .before .before .before .before .before .before .before .before .before .before .before .bind-matching .ensures .0) _ _ (s .pre .1) (c .before .before .before .before .before .before .before .before .if2 .left) (c .before .before .before .before .before .before .before .if3 .left) (c .before .before .before .before .before .before .same .ensures) (c .before .before .start-advice .ensures)
 
 pub reduce-mark-spec : {M : Type 1} → statement M
 reduce-mark-spec =

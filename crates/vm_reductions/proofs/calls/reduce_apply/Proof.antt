@@ -26,7 +26,7 @@ same-length : tie.Need-same-length
 same-length c = search needs
 
 returns : tie.Need-returns
-returns c = let a = c .before .before .before .before .before .before .before .before .before .before .before .before .before .before .before .args in λ image. apply-made (record { code = now (a .code); image = image }) (now (a .work)) _ _ (a .r) _ (a .w) (a .x) (a .y) _ _ (c .before .before .before .before .before .before .before .before .before .before .before .before .if1 .taken) (c .before .before .before .before .before .function-target .ensures) (c .before .before .before .before .before .before .before .before .before .before .closure-env .ensures) (c .before .before .before .before .before .before .before .before .before .bind .ensures) (c .before .before .before .before .called .ensures image)
+returns c = let s = c .before .before .before .before .before .before .before .before .before .before .before .before .before .before .before in let a = s .args in λ image. apply-made (record { code = now (a .code); image = image }) (now (a .work)) _ _ (a .r) _ (a .w) (a .x) (a .y) (s .pre .2) _ _ (c .before .before .before .before .before .before .before .before .before .before .before .before .if1 .taken) (c .before .before .before .before .before .function-target .ensures) (c .before .before .before .before .before .before .before .before .before .before .closure-env .ensures) (c .before .before .before .before .before .before .before .before .before .bind .ensures) (c .before .before .before .before .called .ensures image)
 
 halt-requires : tie.Need-halt-requires
 halt-requires c κs = search needs

@@ -23,7 +23,7 @@ same-length : tie.Need-same-length
 same-length c = search needs
 
 returns : tie.Need-returns
-returns c = let a = c .before .before .before .before .before .before .before .before .before .before .before .before .before .args in cell-made (now (a .work)) _ _ (a .r) _ (a .w) (a .x) _ _ (c .before .before .before .before .before .before .before .before .before .before .before .if1 .taken) (c .before .before .before .before .value .ensures) (c .before .before .before .before .before .before .before .before .before .field-b .ensures) (c .before .before .before .before .before .before .before .before .put-cell .ensures) (c .before .before .before .given .ensures)
+returns c = let a = c .before .before .before .before .before .before .before .before .before .before .before .before .before .args in cell-made (now (a .work)) _ _ (a .r) _ (a .w) (a .x) (search needs) _ _ (c .before .before .before .before .before .before .before .before .before .before .before .if1 .taken) (c .before .before .before .before .value .ensures) (c .before .before .before .before .before .before .before .before .before .field-b .ensures) (c .before .before .before .before .before .before .before .before .put-cell .ensures) (c .before .before .before .given .ensures)
 
 halt-requires : tie.Need-halt-requires
 halt-requires c κs = search needs

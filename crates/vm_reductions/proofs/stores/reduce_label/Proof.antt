@@ -17,7 +17,7 @@ same-length : tie.Need-same-length
 same-length c = search needs
 
 returns : tie.Need-returns
-returns c = let a = c .before .before .before .before .before .before .before .args in label-made (now (a .work)) _ (a .r) _ (a .w) _ (c .before .before .before .before .before .if1 .taken) (c .before .before .before .value .ensures) (c .before .before .given .ensures)
+returns c = let a = c .before .before .before .before .before .before .before .args in label-made (now (a .work)) _ (a .r) _ (a .w) (search needs) _ (c .before .before .before .before .before .if1 .taken) (c .before .before .before .value .ensures) (c .before .before .given .ensures)
 
 halt-requires : tie.Need-halt-requires
 halt-requires c κs = search needs

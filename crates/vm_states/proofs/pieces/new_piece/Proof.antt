@@ -20,7 +20,7 @@ same-length : tie.Need-same-length
 same-length c = search needs
 
 returns : tie.Need-returns
-returns c = let a = c .before .before .before .before .before .before .before .before .before .before .before .before .args in piece-made (now (a .work)) _ _ (a .r) _ (a .w) (a .tag) (a .a) (a .b) _ (c .before .before .before .before .before .before .before .before .before .before .if1 .taken) (c .before .before .before .before .value .ensures) (c .before .before .before .before .before .before .before .before .put-piece .ensures) (c .before .before .before .given .ensures)
+returns c = let a = c .before .before .before .before .before .before .before .before .before .before .before .before .args in piece-made (now (a .work)) _ _ (a .r) _ (a .w) (a .tag) (a .a) (a .b) (search needs) _ (c .before .before .before .before .before .before .before .before .before .before .if1 .taken) (c .before .before .before .before .value .ensures) (c .before .before .before .before .before .before .before .before .put-piece .ensures) (c .before .before .before .given .ensures)
 
 halt-requires : tie.Need-halt-requires
 halt-requires c κs = search needs

@@ -1,0 +1,61 @@
+-- Card 5 of document 02 about whole calls: "The old answers that change are those with steps equal to the budget, no value reached, and no room for the next step: outcome 1 becomes 3 to 9."
+use Prim.Native.Nat.{ℕ, zero, suc}
+use mathlib.Core.Path.{_≡_}
+use mathlib.Core.Bool.{Bool, true, false, _&&_}
+use mathlib.Core.List.{List}
+use lib.ListN.{length}
+use lib.Dec.{eqb, ltb}
+use Rattle.calculus.specs.declared.Outcome.{Outcome}
+use Rattle.calculus.specs.Combinators.{choose, cases}
+use Rattle.calculus.specs.Syntax.{Tm, asValue}
+use Rattle.calculus.specs.State.{State, Given, fresh}
+use Rattle.calculus.specs.Place.{top}
+use Rattle.calculus.specs.Step.{step}
+use Rattle.calculus.specs.Run.{done, stopped, stuck, Ended, ended, after}
+use Rattle.calculus.specs.Report.{outcomeNumber}
+use Rattle.image.specs.Program.{toTm}
+use Rattle.verdict.specs.Verdicts.{verdict}
+use Rattle.report.specs.declared.Ending.{Ending}
+use Rattle.calls.specs.declared.Answer.{Answer}
+use Rattle.calls.specs.Runs.{programOf, givenBy}
+use Rattle.calls.specs.Calls.{Left, leftBy, afterVerdict, called}
+
+-- A run before the card: where no value is reached it is spent as soon as steps equal the budget. All else is as in `run`.
+unfoldable pub runBefore : ℕ → Given → ℕ → State → Tm → Ended
+runBefore zero G k s e = cases (asValue e) (λ v. ended (done v) k s) (λ u. ended (stopped Outcome.Spent) k s)
+runBefore (suc n) G k s e =
+    cases (asValue e)
+    (λ v. ended (done v) k s)
+    (λ u. after (step e G top s)
+    (λ s′ e′. runBefore n G (suc k) s′ e′)
+    (λ o. ended (stopped o) k s)
+    (λ x. ended (stopped Outcome.Aborted) (suc k) s)
+    (λ x. ended stuck k s))
+
+-- A whole call before the card.
+abbrev pub calledBefore : List ℕ → List ℕ → ℕ → List ℕ → List ℕ → List ℕ → Left
+calledBefore b frame budget log report work =
+    afterVerdict (verdict b (length work) (length report)) (runBefore budget (givenBy frame log) 0 fresh (toTm (programOf b))) log report work
+
+-- The outcomes 3 to 9, of which each names a room.
+abbrev pub namesRoom : Ending → Bool
+namesRoom (Ending.Ended o) = ltb (outcomeNumber Outcome.Aborted) (outcomeNumber o)
+namesRoom Ending.NoOutcome = false
+
+-- "No value reached, and no room for the next step" after so many steps: with a step more in the budget a call was told so.
+abbrev pub lacksNext : ℕ → Answer → Bool
+lacksNext steps a = eqb (a .steps) steps && namesRoom (a .ending)
+
+-- Two calls that left the same but for the outcome: spent, and a room that is missing. last is the state in which both runs ended, after as many steps as the budget.
+pub record OnlyOutcome (budget : ℕ) (log report work : List ℕ) (X Z : Left) : Type 0 where
+  pub room : Outcome
+  pub last : State
+  pub was : X ≡ leftBy (ended (stopped Outcome.Spent) budget last) log report work
+  pub is : Z ≡ leftBy (ended (stopped room) budget last) log report work
+
+-- Of any call, X being what it answered and left before, and Z what it did with a step more in the budget.
+pub record Card5 (b frame : List ℕ) (budget : ℕ) (log report work : List ℕ) (X Z : Left) : Type 0 where
+  -- where the next step lacks room, the call answers and leaves now what it did with a step more; else what it did
+  pub now : called b frame budget log report work ≡ choose (lacksNext budget (Z .answer)) Z X
+  -- what changes was outcome 1, "with steps equal to the budget", and nothing else changes
+  pub changed : lacksNext budget (Z .answer) ≡ true → OnlyOutcome budget log report work X Z
