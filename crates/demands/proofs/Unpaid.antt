@@ -19,6 +19,7 @@ use Rattle.calculus.specs.Run.{done, stopped, stuck, Ended, ended, after, unpai
 use Rattle.calculus.specs.Report.{outcomeNumber}
 use Rattle.calculus.specs.Typing.{Policy, StoreTyping, TmTy, noStore}
 use Rattle.calculus.specs.Accepted.{Transitive}
+use Rattle.laws.proofs.Booleans.{and-i}
 use Rattle.calculus_safety.proofs.StoreFits.{StateFits, fits-fresh}
 use Rattle.calculus_safety.proofs.Safe.{Safe, Safe.safe-go, Safe.safe-full, Safe.safe-halt}
 use Rattle.calculus_safety.proofs.Safety.{safe}
@@ -74,7 +75,7 @@ module _ (D : Policy) (trans : Transitive D) (G : Given) where
       answered (safe-go {Σ′} {s = s′} {e = e′} x f′ h′) = same (one-more m (runBefore 0 G (suc k) s′ e′) (before-once (suc k) s′ e′ ∙ omega arith))
       answered (safe-full {o} r) =
           let steps : k ≡ m = omega arith in
-          let here : lacksNext m (answerOf (ended (stopped o) k s)) ≡ true = rw (eq-eqb k m steps, lt-ltb 2 (outcomeNumber o) (ltb→lt 2 (outcomeNumber o) r)) refl in
+          let here : lacksNext m (answerOf (ended (stopped o) k s)) ≡ true = and-i (eq-eqb k m steps) (lt-ltb 2 (outcomeNumber o) (ltb→lt 2 (outcomeNumber o) r)) in
           record { now = rw here refl; was = λ i. (o, ap (λ (j : ℕ). ended (stopped o) j s) steps, ap (λ (j : ℕ). ended (stopped Outcome.Spent) j s) steps) }
       answered safe-halt = same (one-more m (ended (stopped Outcome.Aborted) (suc k) s) (omega arith))
 
