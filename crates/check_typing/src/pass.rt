@@ -21,8 +21,9 @@ ghost use Rattle.verdict.specs.Check.{checked};
 ghost use Rattle.check_rules.specs.Lent.{Lent, TypeOffsets, Masks, IsTerm, settingIn};
 ghost use Rattle.check_typing.specs.Turns.{Room};
 
-// A term and the terms below it: its rule, then its children, each where it stands. A constant or a variable has none. Each level
-// goes to a lower number, one deeper, and binds two variables at most: the depth bounds the places of the scope that are used.
+// A term and the terms below it: its rule, then its children, each where it stands. A constant or a variable has none: as a
+// child it is checked on the spot, since a call costs more than its rule. Each level goes to a lower number, one deeper, and
+// binds two variables at most: the depth bounds the places of the scope that are used.
 pub fn check_term(
     image: &[u8],
     terms: &[u16],
@@ -64,19 +65,26 @@ pub fn check_term(
             j,
         );
         let dom = p.dom;
-        let r = check_term(
-            image,
-            terms,
-            descriptors,
-            e,
-            dom,
-            masks,
-            scope,
-            p.len,
-            types,
-        );
-        if is_refused(r) {
-            return r;
+        if is_leaf(image, terms, e) {
+            let q = check_leaf(image, terms, descriptors, e, scope, p.len);
+            if is_refused(q) {
+                return q;
+            }
+        } else {
+            let r = check_term(
+                image,
+                terms,
+                descriptors,
+                e,
+                dom,
+                masks,
+                scope,
+                p.len,
+                types,
+            );
+            if is_refused(r) {
+                return r;
+            }
         }
         j += 1;
     }

@@ -5,12 +5,14 @@ use Rattle.check_typing.proofs.pass.check_term.Reads as reads
 use Rattle.check_typing.proofs.pass.+check_term.Lts-check_term as lts
 use Rattle.check_typing.proofs.pass.+check_term.Proof.Cycle.{μ-check-term, check-term-at, claims}
 use Rattle.check_typing.proofs.pass.+check_term.Proof.Turn as turn
-use Rattle.check_typing.proofs.pass.+check_term.Proof.Turn.{Inv-loop, μ-loop, image-of, kind-of, setting-of, term-of, start-of, fields-of, numbered, kinded, whole, behind, passed, parent-of, lower, inside, room, kept, child-is, stops}
+use Rattle.check_typing.proofs.pass.+check_term.Proof.Turn.{Inv-loop, μ-loop, image-of, kind-of, setting-of, term-of, start-of, fields-of, numbered, kinded, whole, behind, passed, parent-of, lower, inside, room, scope-of, len-of, kept, small, leaf-is, goes-on, stops}
 use Rattle.check_typing.proofs.pass.+check_term.{statement}
 use Rattle.check_typing.proofs.pass.+check_term.Tie.{close}
 use native.Mathlib.Omega.{arith}
-use mathlib.Core.Path.{refl, sym, _∙_}
+use mathlib.Core.Path.{refl, sym, ap, _∙_}
+use mathlib.Core.Logic.{⊎-elim}
 use borrow.Author.Tests.{leb-true, leb-false}
+use lib.ListN.{length, take}
 use denote.Ref.{now}
 use Rattle.verdict.proofs.Answered.{accepted-is}
 use Rattle.check_rules.specs.Lent.{contextIn}
@@ -99,21 +101,44 @@ module _ (t : ℕ) where
       let h = c .before .before .loop-test .taken in
       (start-of d .pre .1 .0, λ m e. let k = d .before .child-count .ensures m e in (passed l m (kinded d m e), omega arith), start-of d .pre .1 .4)
 
-  check-term-requires : lts.Need-check-term-requires (claims t) (check-term-at t) reads.Post Inv-loop μ-loop
-  check-term-requires c κs =
-      let x = c .before in
-      let s = parent-of x in
-      (rw (← s .pre .0) (lower x), (s .pre .1 .0, inside x, s .pre .1 .2, room x, s .pre .1 .4))
+  is-leaf-requires-2 : lts.Need-is-leaf-requires-2 (claims t) (check-term-at t) reads.Post Inv-loop μ-loop
+  is-leaf-requires-2 c κs = (parent-of c .pre .1 .0 .terms, inside c)
+
+  check-leaf-requires-2 : lts.Need-check-leaf-requires-2 (claims t) (check-term-at t) reads.Post Inv-loop μ-loop
+  check-leaf-requires-2 c κs =
+      let x = c .before .before .before in
+      let r = two-more (room x) (inside x) in
+      (parent-of x .pre .1 .0, inside x, small (c .before .before) (c .before .if3 .taken), omega arith)
 
   is-refused-requires-2 : lts.Need-is-refused-requires-2 (claims t) (check-term-at t) reads.Post Inv-loop μ-loop
   is-refused-requires-2 c κs = search needs
 
-  -- A child is refused.
+  -- A child that is a constant or a variable is refused.
   returns-3 : lts.Need-returns-3 (claims t) (check-term-at t) reads.Post Inv-loop μ-loop
   returns-3 c =
+      let v = c .before .before .check-leaf2 in
+      let y = c .before .before .before .before .before in
+      let x = y .before in (
+        stops x (v .result) (leaf-is y (c .before .before .before .before .if3 .taken) (v .result) (v .ensures)) (sym (c .before .is-refused2 .ensures) ∙ c .if4 .taken),
+        kept x (scope-of x) refl,
+        turn.same-length x,
+      )
+
+  check-term-requires : lts.Need-check-term-requires (claims t) (check-term-at t) reads.Post Inv-loop μ-loop
+  check-term-requires c κs =
+      let x = c .before .before .before in
+      let s = parent-of x in
+      (rw (← s .pre .0) (lower x), (s .pre .1 .0, inside x, s .pre .1 .2, room x, s .pre .1 .4))
+
+  is-refused-requires-3 : lts.Need-is-refused-requires-3 (claims t) (check-term-at t) reads.Post Inv-loop μ-loop
+  is-refused-requires-3 c κs = search needs
+
+  -- Another child is refused.
+  returns-4 : lts.Need-returns-4 (claims t) (check-term-at t) reads.Post Inv-loop μ-loop
+  returns-4 c =
       let v = c .before .before .check-term in
-      let x = c .before .before .before .before in (
-        stops x (v .result) (v .ensures .0) (sym (c .before .is-refused2 .ensures) ∙ c .if3 .taken),
+      let x = c .before .before .before .before .before .before in (
+        stops x (v .result) (v .ensures .0) (sym (c .before .is-refused3 .ensures) ∙ c .if5 .taken),
         kept x (v .last .1 .1 .1 .1 .1 .1 .0) (v .ensures .1),
         v .ensures .2 ∙ turn.same-length x,
       )
@@ -126,17 +151,21 @@ module _ (t : ℕ) where
 
   loop-again : lts.Need-loop-again (claims t) (check-term-at t) reads.Post Inv-loop μ-loop
   loop-again c =
-      let v = c .before .before .check-term in
-      let x = c .before .before .before .before in (
-        omega arith,
-        v .ensures .2 ∙ turn.same-length x,
-        kept x (v .last .1 .1 .1 .1 .1 .1 .0) (v .ensures .1),
-        λ m e. sym (v .ensures .0 ∙ child-is x m e) ∙ accepted-is (v .result) (sym (c .before .is-refused2 .ensures) ∙ c .if3 .left),
-      )
+      let x = c .before .before in
+      ⊎-elim
+      (λ w.
+      let v = w .2 in
+      let e = w .5 in
+      goes-on x (v .result) (c .if3 .scope) (leaf-is (c .before) (w .0 .taken) (v .result) (v .ensures)) (sym (w .3 .ensures) ∙ w .4 .left) (ap length e) (ap (take (len-of x)) e))
+      (λ w.
+      let v = w .2 in
+      let e = w .5 in
+      goes-on x (v .result) (c .if3 .scope) (v .ensures .0) (sym (w .3 .ensures) ∙ w .4 .left) (ap length e ∙ v .ensures .2) (ap (take (len-of x)) e ∙ v .ensures .1))
+      (c .if3 .came)
 
   -- All children pass.
-  returns-4 : lts.Need-returns-4 (claims t) (check-term-at t) reads.Post Inv-loop μ-loop
-  returns-4 c =
+  returns-5 : lts.Need-returns-5 (claims t) (check-term-at t) reads.Post Inv-loop μ-loop
+  returns-5 c =
       let l = c .before in
       let d = l .before in
       let all = c .loop-test .left in
@@ -164,10 +193,14 @@ pub +check-term-spec : {M : Type 1} → statement M
     (add-child-at-field t)
     (child-at-field-requires t)
     (child-setting-requires t)
-    (check-term-requires t)
+    (is-leaf-requires-2 t)
+    (check-leaf-requires-2 t)
     (is-refused-requires-2 t)
     (returns-3 t)
+    (check-term-requires t)
+    (is-refused-requires-3 t)
+    (returns-4 t)
     (add-j t)
     (loop-less t)
     (loop-again t)
-    (returns-4 t)
+    (returns-5 t)

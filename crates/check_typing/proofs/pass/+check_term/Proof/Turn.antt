@@ -6,12 +6,14 @@ use Rattle.check_typing.proofs.pass.+check_term.Proof.Cycle.{check-term
 use denote.Ref.{now}
 use native.Mathlib.Omega.{arith}
 use mathlib.Core.Path.{_≡_, refl, sym, ap, subst, _∙_}
-use mathlib.Core.Bool.{true}
+use mathlib.Core.Bool.{true, false}
+use borrow.Author.Tests.{leb-true}
 use mathlib.Core.List.{List}
 use lib.ListN.{length, getD, take}
 use Rattle.image.specs.Kinds.{TermKind, termRow, leadOf}
 use Rattle.image.specs.Layout.{recordsOf}
-use Rattle.image.specs.Types.{termKind, children}
+use Rattle.image.specs.Types.{termPlace, termKind, children}
+use Rattle.image.specs.Bytes.{numberAt}
 use Rattle.verdict.specs.declared.Verdict.{Verdict}
 use Rattle.verdict.specs.Answers.{isRefused}
 use Rattle.verdict.specs.Settings.{Setting}
@@ -24,7 +26,7 @@ use Rattle.check_rules.specs.Judged.{ruleVerdict}
 use Rattle.check_rules.proofs.Located.{number-is, kind-is, typed-in, children-in, count-is, child-in, child-lower, at-field-in}
 use Rattle.check_rules.proofs.Verdict.{verdict-in}
 use Rattle.check_typing.specs.Turns.{Passed, ChildAt, Room}
-use Rattle.check_typing.proofs.TermPass.{front, front-next, front-stops, front-whole, types-fit, take-fewer, same-setting}
+use Rattle.check_typing.proofs.TermPass.{front, front-next, front-stops, front-whole, types-fit, take-fewer, same-setting, leaf-checked}
 use Rattle.check_typing.proofs.ScopeRoom.{two-more, child-room}
 
 -- The children before child j pass, and the first places of the scope are kept.
@@ -51,6 +53,10 @@ Turn t = lts.At-loop (claims t) (check-term-at t) reads.Post Inv-loop μ-loop
 
 abbrev pub Child : ℕ → Type 0
 Child t = lts.After-dom (claims t) (check-term-at t) reads.Post Inv-loop μ-loop
+
+-- It is known whether the child is a constant or a variable.
+abbrev pub Tested : ℕ → Type 0
+Tested t = lts.After-is-leaf2 (claims t) (check-term-at t) reads.Post Inv-loop μ-loop
 
 module _ {t : ℕ} where
   -- The term's image and its kind; where it stands; the verdict that is asked for.
@@ -216,3 +222,23 @@ module _ {t : ℕ} where
       let k = d .before .child-count .result in
       let h = c .before .before .before .before .loop-test .taken in
       front-stops (image-of s) (fields-of d) (kind-of s) (setting-of s) v (index-of c + 1) k (omega arith) (q ∙ child-is c (kind-of s) (numbered d)) r ∙ whole d k (omega arith)
+
+  -- The places behind the child that passes are the term's own, and all children up to it pass.
+  pub goes-on : (c : Child t) (v : Verdict) (last : List ℕ) → v ≡ checked (recordsOf (image-of (parent-of c))) (settingIn (scope-of c) (len-of c) (dom-of c)) (number-of c) → isRefused v ≡ false
+      → length last ≡ length (scope-of c) → take (len-of c) last ≡ take (len-of c) (scope-of c)
+      → (index-of c + 1 ≤ turn-of c .before .before .child-count .result) × (length last ≡ length (now (parent-of c .args .scope))) × (take (parent-of c .args .len) last ≡ take (parent-of c .args .len) (now (parent-of c .args .scope)))
+      × ((m : TermKind) → turn-of c .before .before .before .before .term-kind .result ≡ termRow m .number → front (image-of (parent-of c)) (fields-of (turn-of c .before)) m (setting-of (parent-of c)) (index-of c + 1) ≡ Verdict.Accepted)
+  goes-on c v last q r n h =
+      let l = c .before .before .before .before .loop-test .taken in
+      (omega arith, n ∙ same-length c, kept c last h, λ m e. sym (q ∙ child-is c m e) ∙ accepted-is v r)
+
+  -- A constant or a variable is checked by its rule alone.
+  pub small : (c : Tested t) → c .is-leaf2 .result ≡ true → numberAt (image-of (parent-of (c .before))) (termPlace (recordsOf (image-of (parent-of (c .before)))) (number-of (c .before))) ≤ 35
+  small c h = leb-true _ _ (sym (c .is-leaf2 .ensures) ∙ h)
+
+  pub leaf-is : (c : Tested t) → c .is-leaf2 .result ≡ true → (v : Verdict)
+      → ((p : ℕ) → v ≡ ruleVerdict (recordsOf (image-of (parent-of (c .before)))) (settingIn (scope-of (c .before)) (len-of (c .before)) p) (number-of (c .before)))
+      → v ≡ checked (recordsOf (image-of (parent-of (c .before)))) (settingIn (scope-of (c .before)) (len-of (c .before)) (dom-of (c .before))) (number-of (c .before))
+  leaf-is c h v q =
+      let x = c .before in
+      q (dom-of x) ∙ leaf-checked (parent-of x .pre .1 .0 .terms) (inside x) (settingIn (scope-of x) (len-of x) (dom-of x)) (small c h)
