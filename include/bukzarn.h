@@ -22,7 +22,7 @@ extern "C" {
 /* Lengths, in bytes. */
 enum {
     BUKZARN_IMAGE_LIMIT = 16384,  /* longest image that can be accepted */
-    BUKZARN_WORK_LENGTH = 31753,  /* published length of the work area */
+    BUKZARN_WORK_LENGTH = 35857,  /* published length of the work area */
     BUKZARN_REPORT_LENGTH = 17994 /* every report fits in this */
 };
 
@@ -47,10 +47,10 @@ enum bukzarn_refusal {
     BUKZARN_IMAGE_TOO_LONG = 1,    /* over 16,384 bytes; place 0 */
     BUKZARN_BROKEN_RECORD = 2,     /* 1 to 3 bytes left, a length under 4 or past the end; the record */
     BUKZARN_UNKNOWN_KIND = 3,      /* the record */
-    BUKZARN_WRONG_LENGTH = 4,      /* too short, or a pointcut, object or object type of wrong length; the record */
+    BUKZARN_WRONG_LENGTH = 4,      /* too short, or a pointcut, object, its type or match of wrong length; the record */
     BUKZARN_SECTION_ORDER = 5,     /* the record */
     BUKZARN_TOO_MANY_RECORDS = 6,  /* in one section; the record */
-    BUKZARN_FIELD_RANGE = 7,       /* a type, child, domain, op or truth out of range; the record */
+    BUKZARN_FIELD_RANGE = 7,       /* a type, child, domain, op, truth, entry or close out of range; the record */
     BUKZARN_REPEATED_TYPE = 8,     /* the later record */
     BUKZARN_EMPTY_SECTION = 9,     /* the image's length */
     BUKZARN_DOMAIN_ORDER = 10,     /* the first domain at fault */

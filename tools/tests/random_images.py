@@ -40,7 +40,7 @@ class Maker:
         return self.rng.choice([
             lambda: types.pair(a, self.type(fuel - 1)), lambda: types.function(a, p, self.type(fuel - 1)),
             lambda: types.reference(a, p), lambda: types.label(a, p), lambda: types.pointcut(a, p),
-            lambda: types.advice(p), lambda: self.object_type(fuel - 1)])()
+            lambda: types.advice(p), lambda: self.object_type(fuel - 1), lambda: types.STACK])()
 
     def object_type(self, fuel, *wanted):
         """An object type, maybe with a method that is wanted; one with many methods gives numbers and units."""
@@ -87,10 +87,29 @@ class Maker:
             e = self.rng.choice(known) if known else make(self.object_type(0, (here, t)))
             return terms.call(e, self.rng.choice([m for m, method in enumerate(e.type.methods) if method == (here, t)]))
 
+        def keep():
+            known = [terms.variable(name, own) for name, own in scope if own.kind == kinds.LABEL_T and own.domain == here]
+            label = self.rng.choice(known) if known else make(types.label(self.type(1), here))
+            return terms.keep(label, make(label.type.first), make(t))
+
+        def match():
+            entries = [self.rng.choice([None, (make(self.pointcut_type(scope)), self.name())])
+                       for _ in range(self.rng.choice([0, 1, 1, 2, 3, 8]))]
+            rest = self.rng.choice([None, self.name()])
+            more = [(name, cut.type.first) for cut, name in filter(None, entries)]
+            more += [(rest, types.STACK)] if rest else []
+            e = terms.stack() if self.rng.random() < 0.6 else make(types.STACK)
+            return terms.match(e, entries, rest, make(t, tuple(more)), make(t))
+
         return self.rng.choice([
-            let, let, split, apply, call, lambda: terms.sequence(make(types.UNIT), make(t)),
+            let, let, split, apply, call, keep, match, lambda: terms.sequence(make(types.UNIT), make(t)),
             lambda: terms.branch(make(types.TRUTH), make(t), make(t)),
             lambda: terms.read(make(types.reference(t, self.domain(lambda p: self.below(here, p)))))])()
+
+    def pointcut_type(self, scope):
+        """The type of a pointcut, mostly one of labels that are in scope."""
+        known = [own for _, own in scope if own.kind == kinds.LABEL_T]
+        return types.pointcut(*self.rng.choice(known).fields) if known else types.pointcut(self.type(1), self.domain())
 
     def direct(self, t, here, scope, fuel):
         """A term whose kind goes with its type; abort where there is none."""
@@ -109,6 +128,8 @@ class Maker:
                 op, make(types.NUMBER), make(types.NUMBER))
         if t.kind == kinds.NUMBER_T:
             return self.number(make, fuel)
+        if t.kind == kinds.STACK_T:
+            return terms.stack()
         if t.kind == kinds.PAIR_T:
             return terms.pair(make(t.first), make(t.last))
         if t.kind == kinds.FUNCTION_T:
@@ -186,8 +207,9 @@ def shuffled(image, rng):
     except Refused:
         return image
     type_place = order([r.parts("a") for r in tables.sections[1]], rng)
-    term_place = order([r.parts("e") for r in tables.terms], rng)
-    new = {"a": type_place, "t": type_place, "e": term_place}
+    term_place = order([r.children for r in tables.terms], rng)
+    entry_place = {0: 0, **{n + 1: place + 1 for n, place in term_place.items()}}
+    new = {"a": type_place, "t": type_place, "e": term_place, "x": entry_place}
     made = [written(r.kind, r.fields) for r in tables.domains]
     for records, place in ((tables.sections[1], type_place), (tables.terms, term_place)):
         moved = [b""] * len(records)
@@ -245,14 +267,16 @@ def domain_damage(made, rng):
 
 
 def other_damage(made, rng):
-    """Another byte, or a record twice, or one with bytes put in behind it, or a record left out; or one method, body or
-    label more or less."""
+    """Another byte, or a record twice, or one with bytes put in behind it, or a record left out; or one method, body,
+    label or entry more or less."""
     n, how = rng.randrange(len(made)), rng.randrange(5)
     groups = [r for r in made if len(r) > 7 and r[2] in kinds.GROUPS]
     if how == 4 and groups:
         r = rng.choice(groups)
-        size = 2 * len(kinds.GROUPS[r[2]][0])
-        r[-size:] = rng.choice([b"", r[-size:] * 2])
+        group, _, _, last = kinds.GROUPS[r[2]]
+        end = len(r) - 2 * len(last)
+        one = slice(end - 2 * len(group), end)
+        r[one] = rng.choice([b"", r[one] * 2])
         r[:2] = len(r).to_bytes(2, "little")
     elif how == 3 and len(made[n]) > 3:
         made[n] += rng.randbytes(rng.randint(1, 4))

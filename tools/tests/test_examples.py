@@ -57,6 +57,7 @@ class Examples(unittest.TestCase):
     def test_watches_differ_only_in_low_bodies(self):
         for name in WITH_WATCHES:
             self.assertEqual(blanked(stored(name)), blanked(stored("plain")), name)
+        self.assertEqual(blanked(stored("descent")), blanked(stored("flight")))
 
     def test_low_methods_are_low_bodies(self):
         """The procedure for two types of sonde is the same whatever their methods of the domain watch do, and not the same
@@ -88,6 +89,14 @@ class Examples(unittest.TestCase):
         stopped = high_log("plausible")
         self.assertEqual(stopped, plain[:len(stopped)])
         self.assertLess(len(stopped), len(plain))
+
+    def test_the_pressure_watch_fires_under_the_descent_alone(self):
+        """Once for each of the five levels behind the six of the ascent: its pressure less the last one of the ascent."""
+        self.assertEqual(high_log("descent"), high_log("flight"))
+        lines = [line.split()[1:] for line in (FOLDER / "descent.txt").read_text().splitlines() if line.startswith("log")]
+        domains, numbers = [p for p, _ in lines], [int(n) for _, n in lines]
+        self.assertEqual(domains, ["0"] * 6 + ["0", "1"] * 5)
+        self.assertEqual(numbers[7::2], [p - numbers[5] for p in numbers[6::2]])
 
     def test_refused_watches_are_explained(self):
         """The README has what the tool says of them, with the number and the place of the listing."""

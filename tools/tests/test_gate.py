@@ -49,6 +49,24 @@ class Gate(unittest.TestCase):
             self.assertEqual(refused.number, number, name)
             self.assertIn(words, refusals.explain(image, number, refused.place))
 
+    def test_stacks_have_words_of_their_own(self):
+        for name, number, words in (
+                ("match-of-9-entries", 4, "a match 0 to 8 entries"),
+                ("match-entry-of-itself", 7, "Here: the record names entry 5, but an entry is 0 or a lower term's number"),
+                ("match-close-2", 7, "Here: the record names close 2, but a close is 0 or 1"),
+                ("match-of-a-number", 14, "Here: what is matched must have type stack, but has number"),
+                ("match-entry-no-pointcut", 14, "Here: each entry that is not 0 must be a pointcut type, but is number"),
+                ("match-branches-differ", 14, "To mend it: Match a stack, with pointcuts as entries, and give both branches"),
+                ("match-second-branch-binds-nothing", 13, "Here: variable 0 is not bound: 0 variables are in scope here"),
+                ("keep-of-another-type", 14, "Here: the kept value must have type number, but has unit"),
+                ("keep-of-another-type", 14, "To mend it: Keep a value of the type that the label has"),
+                ("keep-under-low-label", 15, "Here: the label's domain is d1, and must equal the current domain, d0"),
+                ("low-keep-under-high-label", 15, "To mend it: Keep the value under a label of the current domain")):
+            image = (common.STORED / "data" / f"{name}.img").read_bytes()
+            refused = verdict(image)
+            self.assertEqual(refused.number, number, name)
+            self.assertIn(words, refusals.explain(image, number, refused.place))
+
     def test_another_place(self):
         image = (common.ROOT / "examples/alter.img").read_bytes()
         self.assertIn("By these rules this image is refused 15", refusals.explain(image, 14, 450))

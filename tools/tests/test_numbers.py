@@ -70,9 +70,9 @@ class Numbers(unittest.TestCase):
         limits = constants("image", "Limits.antt")
         self.assertEqual(
             (kinds.IMAGE_LIMIT, kinds.DOMAIN_LIMIT, kinds.TYPE_LIMIT, kinds.TERM_LIMIT, kinds.DEPTH_LIMIT,
-             kinds.LABEL_LIMIT, kinds.METHOD_LIMIT),
+             kinds.LABEL_LIMIT, kinds.METHOD_LIMIT, kinds.ENTRY_LIMIT),
             tuple(limits[name] for name in ("imageLimit", "domainLimit", "typeLimit", "termLimit", "depthLimit",
-                                            "pointcutLimit", "methodLimit")))
+                                            "pointcutLimit", "methodLimit", "entryLimit")))
         self.assertEqual(kinds.LEAF_LIMIT, constants("calculus", "Limits.antt")["leafLimit"])
 
     def test_records_of_log_and_report(self):

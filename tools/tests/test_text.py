@@ -2,6 +2,7 @@
 import unittest
 
 import common
+from watchlang import recordform
 from watchlang.assembler import assemble
 from watchlang.disassembler import disassemble
 from watchlang.gate import verdict
@@ -31,6 +32,11 @@ class Text(unittest.TestCase):
                 "let x0 = new cell 1 at d1 in\nx0 := 2", "let x0 = new cell 1 at d0 in\nread x0 - (1 + 1)",
                 "let x0 = object { m0 at d0 : number; m1 at d1 : unit } as x0 {\n    m0 { 5 }\n    m1 { () }\n} in\n"
                 "lower to d1 { x0.m1 };\nx0.m0", "object { m0 at d0 : truth } as x0 { m0 { x0.m0 } }.m0",
+                "let x0 = new label number at d0 in\nkeep x0 with 5 { 6 }", "match stack with [] then 1 else 2",
+                "let x0 = new label unit at d0 in\nkeep x0 with () { match stack with [any, rest as x1] then 1 else 2 }",
+                "let x0 = pointcut {} of number at d1 in\nlet x1 = stack in\n"
+                "match x1 with [x0 as x2, any, pointcut {} of truth at d0 as x3, rest as x4]\n"
+                "then match x4 with [any] then x2 else if x3 then 3 else 4\nelse 5",
                 "lower to d1 { abort unit }", "abort (number, truth)", "(function (x0 : number) at d0 { x0 })(1)"):
             with self.subTest(program):
                 text = program.replace("d0", "main").replace("d1", "watch")
@@ -97,6 +103,35 @@ class Text(unittest.TestCase):
                 ("(object as s { a { 1 } } : number)", 14), (f"({one}.1 : number)", 14),
                 (f"({one}.65535 : number)", 14), ("(5.0 : number)", 14), ("object { a at main : number } as s { a { true } }.a", 14),
                 ("object { a at watch : number } as s { a { 1 } }.a", 15), (one, 16)):
+            with self.subTest(text):
+                image = assemble(HEAD + text).image
+                self.assertEqual(verdict(image).number, number)
+                again = disassemble(image)
+                self.assertFalse(again.startswith("records"))
+                self.assertEqual(assemble(again).image, image)
+
+    def test_words_of_patterns_are_names_elsewhere(self):
+        """In a pattern a variable of such a name gets parentheses."""
+        head = "let rest = pointcut {} of number in let any = 1 in "
+        made = text_of(head + "match stack with [any, (rest) as x, rest as any] then x else any")
+        self.assertIn("match stack with [any, x0 as x2, rest as x3] then x2 else x1", made)
+
+    def test_values_of_a_pattern_are_bound_left_to_right(self):
+        """The rest is the innermost; the pointcuts and the second branch see none of them."""
+        image = assemble(HEAD + "let c = pointcut {} of number in let y = 7 in "
+                                "match stack with [c as x, c as x, rest as s] then x else y").image
+        self.assertIn("variable 1 as", recordform.disassemble(image))
+        self.assertIn("[x0 as x2, x0 as x3, rest as x4] then x3 else x1", disassemble(image))
+
+    def test_stacks_against_the_rules(self):
+        """What the engine refuses can be written."""
+        label = "let l = new label number in "
+        for text, number in (
+                ("match 5 with [] then 1 else 2", 14), ("match stack with [5 as x] then 1 else 2", 14),
+                ("match stack with [rest as s] then 1 else true", 14), ("(match stack with [] then 1 else 2 : truth)", 14),
+                (label + "keep l with true { 1 }", 14), (label + "(keep l with 1 { 1 } : truth)", 14),
+                ("keep 5 with 5 { 1 }", 14), ("(stack : number)", 14),
+                (label + "lower to watch { keep l with 1 { () } }", 15), ("stack", 16)):
             with self.subTest(text):
                 image = assemble(HEAD + text).image
                 self.assertEqual(verdict(image).number, number)
@@ -182,6 +217,18 @@ ERRORS = (
     ("domain a\n5.0", "what is called must be an object with a method 0, counted from 0"),
     ("domain a\ntype s = object { m at a : unit; n at a : unit }\ntype t = object { n at a : unit; m at a : unit }\n"
      "object s as s { m { () } n { () } }", "line 4: m is more than one method"),
+    ("domain a\nkeep 1 { 2 }", "expected 'with' and a value after the label of a keep"),
+    ("domain a\nkeep 1 with 2", "expected '{' before a body"),
+    ("domain a\nmatch stack then 1 else 2", "expected 'with' and a pattern after the stack of a match"),
+    ("domain a\nmatch stack with 5 then 1 else 2", "expected '[' before a pattern"),
+    ("domain a\nmatch stack with [any any] then 1 else 2", "expected ',' between the entries of a pattern"),
+    ("domain a\nmatch stack with [rest as x, any] then 1 else 2", "after the rest, which stands last in a pattern"),
+    ("domain a\nmatch stack with [rest] then 1 else 2", "expected 'as' and a name for the rest of the stack"),
+    ("domain a\nmatch stack with [5] then 1 else 2", "expected 'as' and a name for the value"),
+    ("domain a\nmatch stack with [5 as x] then x else 2", "the type of x is not known here"),
+    ("domain a\nmatch stack with [" + ", ".join(["any"] * 9) + "] then 1 else 2", "at most 8 entries, this one has 9"),
+    ("domain a\nmatch stack with [] else 2", "expected 'then' after the pattern of a match"),
+    ("records\nterm 0: match 1 2 3 as 0", "match does not have 4 fields"),
     ("records\ntype 0: object 0", "object does not have 1 fields"),
     ("records\nterm 0: object as 0", "object does not have 1 fields"),
     ("records\nterm 0: number 5", "line 2: a term ends with 'as'"),
@@ -197,9 +244,9 @@ ERRORS = (
 class Page(unittest.TestCase):
     def test_the_texts_of_the_page_are_accepted_or_read(self):
         """docs/LANGUAGE.md: its first texts are accepted, its text of records is one with stray bytes."""
-        _, first, _, objects, _, last, _ = (common.ROOT / "docs/LANGUAGE.md").read_text().split("```")
-        self.assertIsNone(verdict(assemble(first).image))
-        self.assertIsNone(verdict(assemble(objects).image))
+        _, first, _, objects, _, stacks, _, last, _ = (common.ROOT / "docs/LANGUAGE.md").read_text().split("```")
+        for text in (first, objects, stacks):
+            self.assertIsNone(verdict(assemble(text).image))
         self.assertEqual(verdict(assemble(last).image).number, 2)
 
 

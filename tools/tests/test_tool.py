@@ -75,6 +75,10 @@ class Tool(unittest.TestCase):
         self.assertEqual(len(re.findall(r"^    e\d+ \[", made, re.M)), terms)
         self.assertEqual(len(re.findall(r"^    e\d+ -> e\d+", made, re.M)), terms - 1)
 
+    def test_a_picture_says_the_pattern_of_a_match(self):
+        made = run("picture", EXAMPLES / "flight.proc", EXAMPLES / "descent.watch")[0].decode()
+        self.assertIn(': match [pointcut, rest]\\nunit"', made)
+
     def test_pictures_of_stored_images(self):
         for file, listing in common.stored_listings():
             if not listing.startswith("refused") or int(listing.split()[1]) > 9:

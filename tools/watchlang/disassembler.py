@@ -43,12 +43,13 @@ def tree(tables):
     gate.used_once(tables)
     made, depths = [], []
     for record in tables.terms:
-        children = record.parts("e")
+        children = record.children
         depths.append(1 + max((depths[c] for c in children), default=0))
         if depths[-1] > 4 * kinds.DEPTH_LIMIT:
             gate.shallow(tables)
         letters = kinds.fields(record.kind, len(record.fields))[1:]
-        fields = (made[f] if l == "e" else f for l, f in zip(letters, record.fields[1:]))
+        terms_of = {"e": made, "x": [0, *made]}
+        fields = (terms_of[l][f] if l in terms_of else f for l, f in zip(letters, record.fields[1:]))
         made.append(terms.Term(record.kind, tables.types[record.fields[0]], tuple(fields)))
     return made[-1]
 

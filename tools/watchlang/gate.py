@@ -48,7 +48,7 @@ def used_once(tables):
     """Refusal 11: each term but the last is the child of exactly one record."""
     uses = [0] * len(tables.terms)
     for record in tables.terms:
-        for child in record.parts("e"):
+        for child in record.children:
             uses[child] += 1
     for n, record in enumerate(tables.terms[:-1]):
         if uses[n] != 1:
@@ -59,7 +59,7 @@ def shallow(tables):
     """Refusal 12: no term is deeper than 64; the root has depth 1."""
     depths = [1] * len(tables.terms)
     for n in range(len(tables.terms) - 1, -1, -1):
-        for child in tables.terms[n].parts("e"):
+        for child in tables.terms[n].children:
             depths[child] = depths[n] + 1
     for n, depth in enumerate(depths):
         if depth > kinds.DEPTH_LIMIT:

@@ -94,7 +94,7 @@ class Cursor:
     def type(self):
         """A type, in words."""
         place = self.place
-        for t in (types.UNIT, types.TRUTH, types.NUMBER):
+        for t in (types.UNIT, types.TRUTH, types.NUMBER, types.STACK):
             if self.accept(kinds.name(t.kind)):
                 return t
         if self.accept("("):

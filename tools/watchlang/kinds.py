@@ -1,15 +1,17 @@
-"""The kinds of records (document 01, "The image"; document 02, card 3): for each its number, its name, and its fields.
+"""The kinds of records (document 01, "The image"; document 02, cards 3 and 6): for each its number, its name, and its
+fields.
 
 A field is one letter: m a mask, a a lower type, p a domain, t a term's own type, e a lower term, k a variable's number,
-v a truth, o an operation, i a method's number (all 16 bits), n a number of 4 bytes. Behind the fields of some kinds a
-group of fields stands so often as the record's length says.
+v a truth, o an operation, i a method's number, x an entry of a match, c its close (all 16 bits), n a number of 4 bytes.
+Behind the first fields of some kinds a group of fields stands so often as the record's length says.
 """
 
 DOMAIN = 1
 (UNIT_T, TRUTH_T, NUMBER_T, PAIR_T, FUNCTION_T, REFERENCE_T, LABEL_T, POINTCUT_T, ADVICE_T,
- OBJECT_T) = range(16, 26)
+ OBJECT_T, STACK_T) = range(16, 27)
 (UNIT, TRUTH, NUMBER, VARIABLE, SEQUENCE, PRINT, IF, PAIR, SPLIT, FUNCTION, APPLY, ARITHMETIC, NEW_LABEL, MARK,
- POINTCUT, ADVICE, INSTALL, NEW_CELL, READ, STORE, LOWER, ABORT, OBJECT, CALL) = range(32, 56)
+ POINTCUT, ADVICE, INSTALL, NEW_CELL, READ, STORE, LOWER, ABORT, OBJECT, CALL, STACK, KEEP,
+ MATCH) = range(32, 59)
 FRAME_BYTE = 60
 
 KINDS = {
@@ -24,6 +26,7 @@ KINDS = {
     POINTCUT_T: ("pointcut", "ap"),
     ADVICE_T: ("advice", "p"),
     OBJECT_T: ("object", ""),
+    STACK_T: ("stack", ""),
     UNIT: ("unit", "t"),
     TRUTH: ("truth", "tv"),
     NUMBER: ("number", "tn"),
@@ -48,6 +51,9 @@ KINDS = {
     ABORT: ("abort", "t"),
     OBJECT: ("object", "t"),
     CALL: ("call", "tei"),
+    STACK: ("stack", "t"),
+    KEEP: ("keep", "teee"),
+    MATCH: ("match", "teee"),
     FRAME_BYTE: ("frame-byte", "te"),
 }
 
@@ -59,10 +65,13 @@ DOMAIN_LIMIT, TYPE_LIMIT, TERM_LIMIT = 16, 128, 1_024
 DEPTH_LIMIT = 64
 LABEL_LIMIT = 8
 METHOD_LIMIT = 8
+ENTRY_LIMIT = 8
 LEAF_LIMIT = 8
 
-# The kinds with a group: its fields, and how often it stands at least and at most. Their lengths are exact.
-GROUPS = {OBJECT_T: ("pa", 1, METHOD_LIMIT), POINTCUT: ("e", 0, LABEL_LIMIT), OBJECT: ("e", 1, METHOD_LIMIT)}
+# The kinds with a group: its fields, how often it stands at least and at most, and the fields behind it. Their lengths
+# are exact.
+GROUPS = {OBJECT_T: ("pa", 1, METHOD_LIMIT, ""), POINTCUT: ("e", 0, LABEL_LIMIT, ""),
+          OBJECT: ("e", 1, METHOD_LIMIT, ""), MATCH: ("x", 0, ENTRY_LIMIT, "c")}
 
 
 def section(kind):
@@ -76,11 +85,11 @@ def name(kind):
 
 def fields(kind, count=0):
     """The letters of a kind's fields; with a group, of a record of so many fields."""
-    first, group = KINDS[kind][1], GROUPS.get(kind, ("",))[0]
-    return first + group * ((count - len(first)) // len(group)) if group else first
+    first, (group, _, _, last) = KINDS[kind][1], GROUPS.get(kind, ("", 0, 0, ""))
+    return first + group * ((count - len(first + last)) // len(group)) + last if group else first
 
 
 def counts(kind):
     """How many fields a record of a kind may have."""
-    first, (group, least, most) = len(KINDS[kind][1]), GROUPS.get(kind, ("", 0, 0))
-    return [first + n * len(group) for n in range(least, most + 1)]
+    first, (group, least, most, last) = KINDS[kind][1], GROUPS.get(kind, ("", 0, 0, ""))
+    return [len(first + last) + n * len(group) for n in range(least, most + 1)]

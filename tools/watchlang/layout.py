@@ -44,7 +44,8 @@ class Tables:
 CAUSES = {
     2: "the image ends inside this record, or its length is under 4",
     3: "no record has this kind",
-    4: "the record is too short for its kind, or it is a pointcut, an object or an object type of a wrong length",
+    4: "the record is too short for its kind, or it is a pointcut, an object, an object type or a match of a wrong "
+       "length",
 }
 SECTIONS = ("domain", "type", "term")
 LIMITS = (kinds.DOMAIN_LIMIT, kinds.TYPE_LIMIT, kinds.TERM_LIMIT)
@@ -96,6 +97,8 @@ def out_of_range(tables, record):
         "p": (len(tables.domains), "domain {}, but the image has {} domains"),
         "o": (4, "operation {}, but the operations are 0 to 3"),
         "v": (2, "truth {}, but a truth is 0 or 1"),
+        "x": (own + 1, "entry {}, but an entry is 0 or a lower term's number plus 1, so that it is below {}"),
+        "c": (2, "close {}, but a close is 0 or 1"),
     }
     for letter, f in zip(kinds.fields(record.kind, len(record.fields)), record.fields):
         limit, words = bounds.get(letter, (1 << 16, ""))

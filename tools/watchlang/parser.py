@@ -1,11 +1,11 @@
 """From text to a tree of terms (docs/LANGUAGE.md). Types are worked out from below while the text is read.
 
-From loose to tight: `a; b` and `let`; actions (print, mark, install, new, if, `:=`); `<` and `==`; `+` and `-`; `read`;
+From loose to tight: `a; b` and `let`; actions (print, mark, install, new, if, match, `:=`); `<` and `==`; `+` and `-`; `read`;
 application and the call of a method.
 """
 from dataclasses import dataclass, replace
 
-from . import kinds, terms, types
+from . import kinds, patterns, terms, types
 from .frames import FieldFunctions
 from .header import Cursor
 from .lexer import tokens
@@ -142,7 +142,7 @@ class Parser(Cursor):
     def action(self):
         place = self.place
         for word, read in (("print", self.show), ("install", self.install), ("mark", self.mark), ("new", self.new),
-                           ("if", self.branch)):
+                           ("if", self.branch), ("match", self.match)):
             if self.accept(word):
                 return read(place)
         left = self.comparison()
@@ -174,6 +174,16 @@ class Parser(Cursor):
         yes = self.action()
         self.take("else", "after the first branch of an if")
         return self.make(place, terms.branch, test, yes, self.action())
+
+    def match(self, place):
+        """`match stack with [pattern] then yes else no`."""
+        stack = self.settled(self.tight())
+        self.take("with", "and a pattern after the stack of a match")
+        found = patterns.read(self)
+        self.take("then", "after the pattern of a match")
+        yes = self.inside(self.action, *(Entry(*known) for known in found.variables(stack.type)))
+        self.take("else", "after the first branch of a match")
+        return self.make(place, terms.match, stack, found.entries, found.rest, yes, self.settled(self.action()))
 
     # Operators and application.
 
@@ -236,7 +246,8 @@ class Parser(Cursor):
             return self.braces()
         forms = {"true": self.truth, "false": self.truth, "function": self.function, "advice": self.advice,
                  "pointcut": self.pointcut, "lower": self.lower, "watches": self.hang, "abort": self.abort,
-                 "frame": self.frame, "var": self.numbered, "object": self.object}
+                 "frame": self.frame, "var": self.numbered, "object": self.object, "keep": self.keep,
+                 "stack": self.stack}
         if token.kind == "name" and token.text in forms:
             self.at += 1
             return forms[token.text](place)
@@ -281,6 +292,15 @@ class Parser(Cursor):
         if len(bodies) < wanted:
             self.fail(f"the object has {len(bodies)} bodies, but its type has {wanted} methods", place)
         return self.make(place, terms.object_of, t, x, *(bodies[m] for m in range(len(bodies))))
+
+    def keep(self, place):
+        label = self.settled(self.tight())
+        self.take("with", "and a value after the label of a keep")
+        value = self.settled(self.action())
+        return self.make(place, terms.keep, label, value, self.braces())
+
+    def stack(self, place):
+        return self.make(place, terms.stack)
 
     def advice(self, place):
         self.take("on", "and a pointcut after advice")

@@ -26,6 +26,9 @@ def said(record, writer):
         return f"lower to {writer.domain(fields[0])}"
     if record.kind == kinds.CALL:
         return f"call {types.method(fields[1])}"
+    if record.kind == kinds.MATCH:
+        entries = ["pointcut" if entry else "any" for entry in record.parts("x")]
+        return f"match [{', '.join(entries + ['rest'] * fields[-1])}]"
     return f"{name} {fields[0]}" if record.kind in (kinds.NUMBER, kinds.VARIABLE) else name
 
 
@@ -42,7 +45,7 @@ def domains_of(tables):
     here = [0] * len(tables.terms)
     for n in range(len(tables.terms) - 1, -1, -1):
         record = tables.terms[n]
-        children = record.parts("e")
+        children = record.children
         e = Term(record.kind, tables.types[record.fields[0]], record.fields[1:])
         for c, domain in zip(children, child_domains(e, len(children), here[n])):
             here[c] = domain
@@ -64,7 +67,7 @@ def picture(image, domains=None):
         label = quoted(f"{n}: {said(record, writer)}\n{own}")
         lines.append(f"    e{n} [fillcolor={COLOURS[here[n]]}, label={label}];")
     for n, record in enumerate(tables.terms):
-        for c in record.parts("e"):
+        for c in record.children:
             lines.append(f"    e{n} -> e{c}{' [penwidth=3]' if here[c] != here[n] else ''};")
     legend = "".join(line + "\n" for line in writer.legend())
     note = [f"  types [shape=note, fillcolor=white, label={quoted(legend)}];"] if legend else []

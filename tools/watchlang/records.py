@@ -1,7 +1,7 @@
 """Records as bytes (document 01, "The image"): a length, a kind, then fields, all little-endian.
 
 A record may be longer than its known fields, and the rest is skipped; one of a kind with a group may not, since its
-length says how many labels, methods or bodies it has (document 02, cards 1 and 3).
+length says how many labels, methods, bodies or entries it has (document 02, cards 1, 3 and 6).
 """
 import struct
 from dataclasses import dataclass
@@ -22,6 +22,12 @@ class Record:
         """The fields of one letter: "a" types, "e" terms, "p" domains and so on."""
         letters = kinds.fields(self.kind, len(self.fields))
         return [f for f, l in zip(self.fields, letters) if l == letter]
+
+    @property
+    def children(self):
+        """The terms that it names, in record order; an entry of a match that stands for anything names none."""
+        letters = kinds.fields(self.kind, len(self.fields))
+        return [f - (l == "x") for f, l in zip(self.fields, letters) if l == "e" or l == "x" and f > 0]
 
 
 def record(kind, *fields):

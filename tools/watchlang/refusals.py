@@ -13,15 +13,16 @@ REFUSALS = {
         "The image was cut off or damaged on its way: send it again, or assemble it again."),
     3: ("a record of a kind that does not exist",
         "The image was damaged, or it was written for a newer engine: assemble it again from its text."),
-    4: ("a record that is too short for its kind, or a pointcut, an object or an object type of a wrong length: a "
-        "pointcut has 0 to 8 labels, an object 1 to 8 methods",
+    4: ("a record that is too short for its kind, or a pointcut, an object, an object type or a match of a wrong "
+        "length: a pointcut has 0 to 8 labels, an object 1 to 8 methods, a match 0 to 8 entries",
         "Assemble it again from its text; split a pointcut of more than 8 labels into two watches, an object of more "
-        "than 8 methods into two objects."),
+        "than 8 methods into two objects, a pattern of more than 8 entries into a match of the rest inside another."),
     5: ("a domain after a type or term, or a type after a term",
         "Domains come first, then types, then terms: the assembler writes them so."),
     6: ("more than 16 domains, 128 types or 1,024 terms",
         "Use fewer: share domains, share types, make code that stands twice one function."),
-    7: ("a field names a type, term, domain or operation that is not there, or a truth that is neither 0 nor 1",
+    7: ("a field names a type, term, domain or operation that is not there, or a truth or a match's close that is neither "
+        "0 nor 1",
         "Parts and children are lower numbers than their record's own: the assembler writes them so."),
     8: ("a type that equals an earlier one",
         "Use the number of the earlier one: the assembler writes each type once."),
@@ -40,8 +41,8 @@ REFUSALS = {
     14: ("a term whose parts do not have the types that it needs",
          "Change the part that is named, or its stated type."),
     15: ("a term that the order of the domains forbids",
-         "Low code may read high cells and make low cells, but it may not store to a high cell, mark a high label or "
-         "call a high function or method. Let the watch keep a cell of its own domain, or let it print."),
+         "Low code may read high cells and make low cells, but it may not store to a high cell, mark a high label, keep a "
+         "value under it, or call a high function or method. Let the watch keep a cell of its own domain, or let it print."),
     16: ("the program's result is not plain",
          "End with a unit, truth, number or pairs of these with at most 8 leaves."),
     17: ("the work area that the engine was lent is shorter than its published length",
@@ -55,6 +56,9 @@ TYPE_MENDS = {
     kinds.OBJECT: "Give the object one body for each method of its type, in their order and of their types: by name the "
                   "assembler sees to the order.",
     kinds.CALL: "Call a method that the type of the object has: by name the assembler sees to its number.",
+    kinds.KEEP: "Keep a value of the type that the label has: 'keep LABEL with VALUE { BODY }'.",
+    kinds.MATCH: "Match a stack, with pointcuts as entries, and give both branches the same type: "
+                 "'match stack with [pointcut {LABEL} as x, any, rest as y] then A else B'.",
 }
 
 # For each kind of term that has a domain rule, how to keep it.
@@ -71,6 +75,7 @@ DOMAIN_MENDS = {
     kinds.LOWER: "Lower to a domain at or below the current one.",
     kinds.CALL: "Call a method of the current domain: one of a lower domain inside 'lower to', one of a higher domain "
                 "not at all.",
+    kinds.KEEP: "Keep the value under a label of the current domain; a match may ask for labels of any domain.",
 }
 
 

@@ -178,6 +178,22 @@ def call(j):
     j.same(p, "the method's domain")
 
 
+def keep(j):
+    """The label's domain is the current one."""
+    j.kind(j.kids[0], kinds.LABEL_T, "what a value is kept under")
+    j.is_(j.kids[1], j.kids[0].first, "the kept value")
+    j.is_(j.type, j.kids[2], "a keep, as its body,")
+    j.same(j.kids[0].domain, "the label's domain")
+
+
+def match(j):
+    j.is_(j.kids[0], types.STACK, "what is matched")
+    j.is_(j.kids[1], j.type, "the first branch, as the whole match,")
+    j.is_(j.kids[2], j.type, "the second branch, as the whole match,")
+    for kid in j.kids[3:]:
+        j.kind(kid, kinds.POINTCUT_T, "each entry that is not 0")
+
+
 def constant(want):
     return lambda j: j.is_(j.type, want, "the constant")
 
@@ -197,21 +213,24 @@ RULES = {
     kinds.NEW_LABEL: new_label, kinds.MARK: mark, kinds.POINTCUT: pointcut, kinds.ADVICE: advice,
     kinds.INSTALL: install, kinds.NEW_CELL: new_cell, kinds.READ: read, kinds.STORE: store, kinds.LOWER: lower,
     kinds.ABORT: lambda j: None, kinds.OBJECT: object_of, kinds.CALL: call,
+    kinds.STACK: lambda j: j.is_(j.type, types.STACK, "the stack"), kinds.KEEP: keep, kinds.MATCH: match,
     kinds.FRAME_BYTE: numeric(types.NUMBER, "frame byte"),
 }
 
 
-def bound(kind, own, first, last):
-    """The types that a child's scope gains; `first` is the first child's type, `last` whether it is the last child."""
-    if kind == kinds.OBJECT:
+def bound(record, own, kids, i):
+    """The types that the i-th child's scope gains; `kids` are the children's types."""
+    if record.kind == kinds.OBJECT:
         return (own,)
-    if not last:
+    if record.kind == kinds.MATCH and i == 1:
+        return (*(cut.first for cut in kids[3:]), *kids[:record.fields[-1]])
+    if i < len(kids) - 1:
         return ()
-    if kind == kinds.SPLIT:
-        return (first.first, first.last)
-    if kind == kinds.FUNCTION:
+    if record.kind == kinds.SPLIT:
+        return (kids[0].first, kids[0].last)
+    if record.kind == kinds.FUNCTION:
         return (own.first,)
-    return (first.first,) if kind == kinds.ADVICE else ()
+    return (kids[0].first,) if record.kind == kinds.ADVICE else ()
 
 
 def child_domain(record, own, i, last, here):
@@ -227,12 +246,12 @@ def well_typed(tables, writer):
     """Refusals 13 to 16, from the root, parent before children, left first."""
     def judge(n, here, scope):
         record = tables.terms[n]
-        own, children = tables.types[record.fields[0]], record.parts("e")
+        own, children = tables.types[record.fields[0]], record.children
         kids = [tables.types[tables.terms[c].fields[0]] for c in children]
         RULES[record.kind](Judged(record, own, kids, here, scope, tables, writer))
         for i, c in enumerate(children):
             last = i == len(children) - 1
-            judge(c, child_domain(record, own, i, last, here), scope + bound(record.kind, own, kids[0], last))
+            judge(c, child_domain(record, own, i, last, here), scope + bound(record, own, kids, i))
 
     root = len(tables.terms) - 1
     judge(root, 0, ())

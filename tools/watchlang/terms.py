@@ -1,8 +1,9 @@
 """Terms as trees, with their types worked out from below, and the image of a tree.
 
 A term has a kind, a type, and the fields after the type: domains, numbers, children. A variable's field is its name,
-or its number if it is known. `names` are the variables that the last child's scope gains, of an object each child's. A
-type is None where it cannot be worked out; `why` then says why, and `typed` sets it by hand.
+or its number if it is known; an entry of a match is a pointcut, or 0 for anything. `names` are the variables that the
+last child's scope gains, of an object each child's, of a match the first branch's. A type is None where it cannot be
+worked out; `why` then says why, and `typed` sets it by hand.
 """
 from dataclasses import dataclass, field, replace
 
@@ -164,6 +165,22 @@ def call(e, m):
     return Term(kinds.CALL, None, (e, m), why=f"what is called must be an object with a method {m}, counted from 0")
 
 
+def stack():
+    return Term(kinds.STACK, types.STACK)
+
+
+def keep(label, value, body):
+    return Term(kinds.KEEP, body.type, (label, value, body))
+
+
+def match(e, entries, rest, yes, no):
+    """A match of a stack. An entry is a pointcut with the name of its value, or None for anything; `rest` is the name of
+    what is left of the stack, None where nothing may be left."""
+    cuts = [entry[0] if entry else 0 for entry in entries]
+    names = [entry[1] for entry in entries if entry] + ([rest] if rest else [])
+    return Term(kinds.MATCH, yes.type, (e, yes, no, *cuts, int(rest is not None)), tuple(names))
+
+
 def frame_byte(index):
     return Term(kinds.FRAME_BYTE, types.NUMBER, (index,))
 
@@ -183,6 +200,13 @@ def child_domains(e, count, here):
     elif (e.kind, own) == (kinds.OBJECT, kinds.OBJECT_T) and len(e.type.methods) == count:
         domains = [p for p, _ in e.type.methods]
     return domains
+
+
+def binds(e, i):
+    """Whether a term's names are bound in its i-th field."""
+    if e.kind == kinds.MATCH:
+        return i == 1
+    return e.kind == kinds.OBJECT or i == len(e.fields) - 1
 
 
 @dataclass
@@ -212,8 +236,8 @@ class Layout:
         fields, place = [], e.place or place
         for i, f in enumerate(e.fields):
             if isinstance(f, Term):
-                bound = e.names if i == len(e.fields) - 1 or e.kind == kinds.OBJECT else ()
-                f = self.term_number(f, scope + bound, place)
+                f = self.term_number(f, scope + e.names if binds(e, i) else scope, place)
+                f += e.kind == kinds.MATCH and i > 2
             elif isinstance(f, str):
                 f = scope[::-1].index(f)
             fields.append(f)

@@ -45,6 +45,7 @@ def make(kind, *fields):
 UNIT = make(kinds.UNIT_T)
 TRUTH = make(kinds.TRUTH_T)
 NUMBER = make(kinds.NUMBER_T)
+STACK = make(kinds.STACK_T)
 
 
 def pair(a, b):

@@ -40,8 +40,8 @@ class TermWriter:
         def kid(i, place=SEQUENCE):
             return self.text(e.children[i], place, scope, here)
 
-        def last(*gains, i=-1):
-            return self.text(e.children[i], SEQUENCE, scope + gains, domains[i])
+        def last(*gains, i=-1, place=SEQUENCE):
+            return self.text(e.children[i], place, scope + gains, domains[i])
 
         return WRITERS[e.kind](self, e, kid, last, scope, here)
 
@@ -70,8 +70,13 @@ def show(w, e, kid, last, scope, here):
 
 def branch(w, e, kid, last, scope, here):
     parts = [f"if {kid(0, COMPARISON)}", f"then {kid(1, ACTION)}", f"else {kid(2, ACTION)}"]
+    return choice(parts), ACTION, e.children[1].type
+
+
+def choice(parts):
+    """A choice in one line where it is short."""
     apart = any("\n" in p for p in parts) or sum(map(len, parts)) > 90
-    return ("\n" if apart else " ").join(parts), ACTION, e.children[1].type
+    return ("\n" if apart else " ").join(parts)
 
 
 def pair(w, e, kid, last, scope, here):
@@ -200,6 +205,29 @@ def call(w, e, kid, last, scope, here):
     return f"{kid(0, HEAD)}.{m}", HEAD, None
 
 
+def keep(w, e, kid, last, scope, here):
+    return f"keep {kid(0, TIGHT)} with {kid(1, ACTION)} {braces(kid(2))}", HEAD, e.children[2].type
+
+
+def match(w, e, kid, last, scope, here):
+    """The variables of the first branch are those of the pointcuts, left to right, then that of the rest."""
+    said, gains, cuts = [], [], iter(range(3, len(e.children)))
+    for entry in e.fields[3:-1]:
+        if entry:
+            i = next(cuts)
+            t = e.children[i].type
+            said.append(f"{kid(i, TIGHT)} as x{len(scope) + len(gains)}")
+            gains.append(t.first if t.kind == kinds.POINTCUT_T else None)
+        else:
+            said.append("any")
+    if e.fields[-1]:
+        said.append(f"rest as x{len(scope) + len(gains)}")
+        gains.append(e.children[0].type)
+    parts = [f"match {kid(0, TIGHT)} with [{', '.join(said)}]", f"then {last(*gains, i=1, place=ACTION)}",
+             f"else {kid(2, ACTION)}"]
+    return choice(parts), ACTION, e.children[1].type
+
+
 def frame_byte(w, e, kid, last, scope, here):
     return f"frame[{kid(0)}]", HEAD, types.NUMBER
 
@@ -212,5 +240,7 @@ WRITERS = {
     kinds.SPLIT: split, kinds.FUNCTION: function, kinds.APPLY: apply, kinds.ARITHMETIC: arithmetic,
     kinds.NEW_LABEL: new_label, kinds.MARK: mark, kinds.POINTCUT: pointcut, kinds.ADVICE: advice,
     kinds.INSTALL: install, kinds.NEW_CELL: new_cell, kinds.READ: read, kinds.STORE: store, kinds.LOWER: lower,
-    kinds.ABORT: abort, kinds.OBJECT: object_of, kinds.CALL: call, kinds.FRAME_BYTE: frame_byte,
+    kinds.ABORT: abort, kinds.OBJECT: object_of, kinds.CALL: call,
+    kinds.STACK: constant(lambda e: "stack", types.STACK), kinds.KEEP: keep, kinds.MATCH: match,
+    kinds.FRAME_BYTE: frame_byte,
 }

@@ -45,7 +45,7 @@ pub use refusal::{Cause, Refusal};
 pub const IMAGE_LIMIT: usize = 16_384;
 
 /// The published length of the work area, in bytes.
-pub const WORK_LENGTH: usize = 31_753;
+pub const WORK_LENGTH: usize = 35_857;
 
 /// The length of a report that every run fits in, in bytes.
 pub const REPORT_LENGTH: usize = 17_994;

@@ -21,7 +21,7 @@ pub enum Outcome {
     Labels = 6,
     /// The next step would pass 64 installed advice.
     Advice = 7,
-    /// The next step would pass 512 pieces: pairs, pointcuts and advice made.
+    /// The next step would pass 512 pieces: pairs, pointcuts and advice made, and the values of stacks taken.
     Pieces = 8,
     /// A print found under 10 bytes left in the log.
     Log = 9,

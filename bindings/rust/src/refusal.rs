@@ -11,8 +11,8 @@ pub enum Cause {
     BrokenRecord = 2,
     /// A record has an unknown kind.
     UnknownKind = 3,
-    /// A record is too short for its kind, or a pointcut term, an object or an object type of wrong length; any other
-    /// longer record is no fault.
+    /// A record is too short for its kind, or a pointcut term, an object, an object type or a match of wrong length.
+    /// Any other record may be longer.
     WrongLength = 4,
     /// A record stands after a later section's.
     SectionOrder = 5,
@@ -32,8 +32,8 @@ pub enum Cause {
     TooDeep = 12,
     /// A variable is unbound.
     UnboundVariable = 13,
-    /// A term is against a type rule, also a call of a method that the object's type lacks, and an object with more or
-    /// fewer bodies than its type has methods.
+    /// A term is against a type rule, also a call of a method that the object's type lacks, an object with more or
+    /// fewer bodies than its type has methods, and a match whose entry is no pointcut.
     TypeRule = 14,
     /// A term is against a domain rule.
     DomainRule = 15,

@@ -1,5 +1,5 @@
 //! The safe functions: what they answer and how it is read.
-use bukzarn::program::{Program, Shape};
+use bukzarn::program::{Close, Entry, Program, Shape};
 use bukzarn::{call, run, Cause, Leaf, Lent, LogRecord, Outcome, Refusal, Run, Written, REPORT_LENGTH, WORK_LENGTH};
 
 /// The bench sheet's P2: the constant 5.
@@ -95,6 +95,39 @@ fn methods_are_called() {
     let run = run(&image, &[1, 2, 3], 1_000, &mut lent).unwrap();
     assert_eq!((run.outcome(), run.steps()), (Outcome::Done, 5));
     assert_eq!(run.result().collect::<Vec<_>>(), [Leaf::Number(103)]);
+}
+
+/// A watch that prints the marked value less the one that is kept under a label, and nothing elsewhere: the mark is
+/// reached outside a keep, then inside.
+#[test]
+fn a_watch_sees_what_is_kept_around_its_mark() {
+    let mut program = Program::new(&[1, 3]);
+    let number = program.number_type();
+    let new = program.new_label(number, 0);
+    let (level, descent) = (program.variable(new.of(), 0), program.variable(new.of(), 1));
+    let (value, kept) = (program.variable(number, 2), program.variable(number, 3));
+    let under = program.pointcut(number, 0, vec![descent.clone()]);
+    let difference = program.minus(value, kept);
+    let (print, none, stack) = (program.print(difference), program.unit(), program.stack());
+    let body = program.match_stack(stack, vec![Entry::Under(under)], Close::Rest, print, none);
+    let pointcut = program.pointcut(number, 1, vec![level.clone()]);
+    let watch = program.advice(1, pointcut, body);
+    let install = program.install(watch);
+    let [outside, inside] = [50, 70].map(|n| {
+        let n = program.number(n);
+        program.mark(level.clone(), n)
+    });
+    let thirty = program.number(30);
+    let keep = program.keep(descent, thirty, inside);
+    let marks = program.sequence(outside, keep);
+    let all = program.sequence(install, marks);
+    let inner = program.bind(0, new.clone(), all);
+    let root = program.bind(0, new, inner);
+    let image = program.image(&root);
+    let mut lent = Lent::new(100);
+    let run = run(&image, &[], 1_000, &mut lent).unwrap();
+    assert_eq!(run.outcome(), Outcome::Done);
+    assert_eq!(run.log().collect::<Vec<_>>(), [LogRecord { domain: 1, number: 40 }]);
 }
 
 #[test]

@@ -15,7 +15,7 @@ wordAt b i = numberAt 8 (8 * i) b
 
 -- How many words and how many single bytes there are, where the single bytes begin, and where the memory ends.
 abbrev pub wordCount : ℕ
-wordCount = 3905
+wordCount = 4418
 
 abbrev pub besideCount : ℕ
 besideCount = 513

@@ -1,11 +1,12 @@
 -- Runs of small terms, by computation of the definitions; each shows a point of document 01, "A run", or of a card.
 use Prim.Native.Nat.{ℕ, zero, suc}
 use mathlib.Core.Path.{_≡_, refl}
+use mathlib.Core.Bool.{true, false}
 use mathlib.Core.List.{List, [], _∷_}
 use Rattle.calculus.specs.declared.Outcome.{Outcome}
 use Rattle.calculus.specs.Combinators.{cases}
-use Rattle.calculus.specs.Syntax.{Ty, noMethod, method, Val, Tm, val, var, op0, op1, op2, seq, obj, end, more, abort, print, byte, call, mark, plus, minus}
-use Rattle.calculus.specs.State.{Advice, State, Given, Counts, Print, picked, logOf, fresh, labelled, installed}
+use Rattle.calculus.specs.Syntax.{Ty, noMethod, method, Val, Tm, Pattern, atEnd, atRest, anything, pointcut, val, var, op0, op1, op2, seq, lower, obj, keep, match, end, more, abort, theStack, print, byte, call, mark, plus, minus}
+use Rattle.calculus.specs.State.{Advice, State, Given, Counts, Print, picked, logOf, branchesOf, fresh, labelled, installed}
 use Rattle.calculus.specs.Subst.{subst}
 use Rattle.calculus.specs.Answer.{carry, if-room, with, spend}
 use Rattle.calculus.specs.Step.{step}
@@ -94,3 +95,49 @@ no-frames-first = refl
 abort-spent : run 0 G 0 fresh (op0 abort Ty.unit) .end ≡ stopped Outcome.Spent
 unfolding run cases step if-room
 abort-spent = refl
+
+-- Card 6: the stack matched with a pattern whose one pointcut, if it has one, names label 0: print x in the first branch, print 8 in the other.
+abbrev looked : Pattern → Tm → Tm
+looked p x = match p (more (op0 theStack Ty.stack) (more (val (Val.labels (0 ∷ []))) end)) (say x) (say (number 8))
+
+abbrev looking : State
+looking = installed (on 1 (looked (pointcut atRest) (var 1))) (labelled 0 fresh)
+
+abbrev marked : Tm
+marked = op2 mark Ty.unit (val (Val.label 0)) (number 4)
+
+-- Advice sees what is kept around its mark: the mark, the stack, the match and the print, two to leave the advice, and the keep's end.
+kept-seen : facts looking (keep (val (Val.label 0)) (number 3) marked) ≡ record { end = done Val.unit; steps = 7; log = record { dom = 1; shown = 3 } ∷ [] }
+unfolding run after cases step subst carry if-room with spend picked
+kept-seen = refl
+
+-- "One piece an entry", "one binding a variable": the value, the rest, and the advice's own.
+kept-used : run 100 G 0 looking (keep (val (Val.label 0)) (number 3) marked) .state .used ≡ record { bindings = 3; cells = 0; pieces = 1 }
+unfolding run after cases step subst carry if-room with spend picked
+kept-used = refl
+
+nothing-kept : facts looking marked ≡ record { end = done Val.unit; steps = 6; log = record { dom = 1; shown = 8 } ∷ [] }
+unfolding run after cases step subst carry if-room with spend picked
+nothing-kept = refl
+
+-- A branch is told with the current domain.
+branch-told : branchesOf (run 100 G 0 looking (seq marked (keep (val (Val.label 0)) (number 3) marked)) .state .trace) ≡ record { dom = 1; first = false } ∷ record { dom = 1; first = true } ∷ []
+unfolding run after cases step subst carry if-room with spend picked
+branch-told = refl
+
+-- "The innermost kept value is the top"; an entry 0 binds nothing, and the empty stack ends a pattern without rest.
+abbrev keptTwice : Tm → Tm
+keptTwice e = keep (val (Val.label 0)) (number 3) (keep (val (Val.label 0)) (number 4) e)
+
+innermost-first : facts (labelled 0 fresh) (keptTwice (looked (pointcut (anything atEnd)) (var 0))) ≡ record { end = done Val.unit; steps = 5; log = record { dom = 0; shown = 4 } ∷ [] }
+unfolding run after cases step subst carry if-room with spend picked
+innermost-first = refl
+
+past-the-end : facts (labelled 0 fresh) (keptTwice (looked (pointcut atEnd) (var 0))) ≡ record { end = done Val.unit; steps = 5; log = record { dom = 0; shown = 8 } ∷ [] }
+unfolding run after cases step subst carry if-room with spend picked
+past-the-end = refl
+
+-- A keep whose value is being worked out is not seen.
+value-not-kept : facts (labelled 0 fresh) (keep (val (Val.label 0)) (seq (looked (pointcut atRest) (var 1)) (number 3)) (val Val.unit)) ≡ record { end = done Val.unit; steps = 5; log = record { dom = 0; shown = 8 } ∷ [] }
+unfolding run after cases step subst carry if-room with spend picked
+value-not-kept = refl

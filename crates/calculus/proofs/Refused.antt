@@ -5,8 +5,8 @@ use mathlib.Core.Bool.{true, false, _&&_, _||_, true≢false}
 use mathlib.Core.List.{[], _∷_}
 use lib.Dec.{eqb}
 use native.Mathlib.Omega.{arith}
-use Rattle.calculus.specs.Syntax.{Dom, Ty, noMethod, method, Val, Tm, val, var, op0, op1, op2, pcd, adv, lower, end, more, newLabel, install, read, newCell, call, app, mark, store}
-use Rattle.calculus.specs.Typing.{Policy, noStore, TmTy, a-type, has-first, t-call, t-newLabel, t-install, t-read, t-newCell, t-app, t-mark, t-store, is-var, is-op0, is-op1, is-op2, is-pcd, is-adv, is-lower, is-end, is-more}
+use Rattle.calculus.specs.Syntax.{Dom, Ty, noMethod, method, Val, Tm, val, var, op0, op1, op2, pcd, adv, lower, keep, end, more, newLabel, install, read, newCell, call, app, mark, store}
+use Rattle.calculus.specs.Typing.{Policy, noStore, TmTy, a-type, has-first, t-call, t-newLabel, t-install, t-read, t-newCell, t-app, t-mark, t-store, is-var, is-op0, is-op1, is-op2, is-pcd, is-adv, is-lower, is-keep, is-end, is-more}
 
 -- Two domains, 1 ≤ 0: the mainline is high, the watch low.
 abbrev pub watched : Policy
@@ -34,6 +34,10 @@ call-refused (is-op1 (t-call has-first) (is-var e)) = let z : _≡_ {A = ℕ} 0 
 -- Low code marks no high label.
 pub mark-refused : Refused (Ty.label Ty.number 0) 1 (op2 mark Ty.unit (var 0) three) Ty.unit
 mark-refused (is-op2 t-mark (is-var e) h) = let z : _≡_ {A = ℕ} 0 1 = cc in absurd (omega arith)
+
+-- Low code keeps nothing under a high label (card 6).
+pub keep-refused : Refused (Ty.label Ty.number 0) 1 (keep (var 0) three (val Val.unit)) Ty.unit
+keep-refused (is-keep (is-var e) h k) = let z : _≡_ {A = ℕ} 0 1 = cc in absurd (omega arith)
 
 -- A high pointcut names no low label.
 pub pointcut-refused : Refused (Ty.label Ty.number 1) 0 (pcd (more (var 0) end)) (Ty.pcd Ty.number 0)

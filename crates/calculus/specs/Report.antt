@@ -45,6 +45,8 @@ leaves (Val.cell r) = []
 leaves (Val.labels ls) = []
 leaves (Val.advice p ls e) = []
 leaves (Val.object t bs) = []
+leaves Val.bottom = []
+leaves (Val.kept l v k) = []
 
 -- A plain cell with its leaves; of another cell its domain alone.
 pub record CellReport : Type 0 where

@@ -1,4 +1,4 @@
--- Types, values and terms of the calculus (document 003, section 2.1, figure 1, without strings, with the numbers, arithmetic, frame byte and abort of document 01).
+-- Types, values and terms of the calculus (document 003, sections 2.1 and 2.4, figure 1, without strings, with the numbers, arithmetic, frame byte and abort of document 01).
 use Prim.Native.Nat.{ℕ}
 use mathlib.Core.Bool.{Bool}
 use mathlib.Core.List.{List}
@@ -19,15 +19,26 @@ mutual
     adv : Dom → Ty
     -- card 3: an object with these methods
     obj : Sigs → Ty
+    -- card 6: a stack of kept values
+    stack : Ty
 
   -- The methods of an object, numbered from 0: of each the domain that it runs at, and the type of what it gives.
   pub data Sigs : Type 0 where
     noMethod : Sigs
     method : Dom → Ty → Sigs → Sigs
 
+-- The pattern of a match (card 6; document 003, section 2.4): entries, and a close.
+pub data Pattern : Type 0 where
+  -- the close: the stack ends here; or the rest is bound
+  atEnd atRest : Pattern
+  -- an entry before the others: anything, which is not bound; or a value under a label of a pointcut, which is bound
+  anything pointcut : Pattern → Pattern
+
 -- An operator of no, one or two operands that are worked out first, left to right.
 pub data Op0 : Type 0 where
   newLabel abort : Op0
+  -- card 6: the values that are kept around here
+  theStack : Op0
 
 pub data Op1 : Type 0 where
   print install read byte newCell : Op1
@@ -53,6 +64,9 @@ mutual
     advice : Dom → List ℕ → Tm → Val
     -- card 3: an object: its type, and a body for each method, which binds the object itself
     object : Ty → Tms → Val
+    -- card 6: the empty stack; a value kept under a label, on top of a stack
+    bottom : Val
+    kept : ℕ → Val → Val → Val
 
   -- Figure 1, e. Variables are numbered from the innermost.
   pub data Tm : Type 0 where
@@ -75,6 +89,10 @@ mutual
     lower : Dom → Tm → Tm
     -- card 3: an object, with its type: a value that may name outer variables
     obj : Ty → Tms → Tm
+    -- card 6: a label, a value, and the body that runs with the value kept under the label
+    keep : Tm → Tm → Tm → Tm
+    -- card 6: a pattern, the stack and then the pattern's pointcuts, the branch that binds what the pattern binds, and the other branch
+    match : Pattern → Tms → Tm → Tm → Tm
 
   -- A list of operands, or of bodies.
   pub data Tms : Type 0 where
@@ -96,3 +114,5 @@ asValue (pcd es) = none
 asValue (adv p e b) = none
 asValue (lower p e) = none
 asValue (obj t bs) = some (Val.object t bs)
+asValue (keep e f g) = none
+asValue (match p es f g) = none

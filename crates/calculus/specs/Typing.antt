@@ -2,10 +2,10 @@
 use Prim.Native.Nat.{ℕ, zero, suc}
 use mathlib.Core.Path.{_≡_}
 use mathlib.Core.Bool.{Bool, true}
-use mathlib.Core.List.{List, [], _∷_}
+use mathlib.Core.List.{List, [], _∷_, reverseAux}
 use mathlib.Core.Option.{some}
 use lib.ListN.{getElem?}
-use Rattle.calculus.specs.Syntax.{Dom, Ty, Sigs, noMethod, method, Val, Tm, Tms, Op0, Op1, Op2, val, var, lam, op0, op1, op2, seq, ite, split, pcd, adv, lower, obj, end, more, newLabel, abort, print, install, read, byte, newCell, call, app, mark, store, plus, minus, less, equal}
+use Rattle.calculus.specs.Syntax.{Dom, Ty, Sigs, noMethod, method, Val, Tm, Tms, Pattern, atEnd, atRest, anything, pointcut, Op0, Op1, Op2, val, var, lam, op0, op1, op2, seq, ite, split, pcd, adv, lower, obj, keep, match, end, more, newLabel, abort, theStack, print, install, read, byte, newCell, call, app, mark, store, plus, minus, less, equal}
 
 -- A store typing: the types of the cells and labels that there are, of each cell `ref a p`, of each label `label a p` (the part of figure 2's Γ that is not variables).
 pub record StoreTyping : Type 0 where
@@ -25,6 +25,13 @@ pub data Has (p : Dom) (b : Ty) : Sigs → ℕ → Type 0 where
   has-first : {ms : Sigs} → Has p b (method p b ms) zero
   has-later : {q : Dom} {a : Ty} {ms : Sigs} {m : ℕ} → Has p b ms m → Has p b (method q a ms) (suc m)
 
+-- Card 6: a pattern, the types of its pointcuts, and the types that it binds, the first outermost.
+pub data PatternTy : Pattern → List Ty → List Ty → Type 0 where
+  p-end : PatternTy atEnd [] []
+  p-rest : PatternTy atRest [] (Ty.stack ∷ [])
+  p-any : {p : Pattern} {ts us : List Ty} → PatternTy p ts us → PatternTy (anything p) ts us
+  p-cut : {p : Pattern} {ts us : List Ty} {a : Ty} {q : Dom} → PatternTy p ts us → PatternTy (pointcut p) (Ty.pcd a q ∷ ts) (a ∷ us)
+
 module _ (D : Policy) where
   -- Figure 3, the operators: at the current domain c, an operator's own type and those of its operands.
   pub data Rule0 (c : Dom) : Op0 → Ty → Type 0 where
@@ -32,6 +39,8 @@ module _ (D : Policy) where
     t-newLabel : {a : Ty} {p : Dom} → D .leq p c ≡ true → Rule0 c newLabel (Ty.label a p)
     -- document 01: abort has any type
     t-abort : {a : Ty} → Rule0 c abort a
+    -- stack() (card 6)
+    t-stack : Rule0 c theStack Ty.stack
 
   pub data Rule1 (c : Dom) : Op1 → Ty → Ty → Type 0 where
     -- print e; document 01: of a number
@@ -96,6 +105,9 @@ module _ (D : Policy) where
         v-advice : {ls : List ℕ} {a : Ty} {p q : Dom} {e : Tm} → LabelsOf a q ls → D .leq p q ≡ true → TmTy (a ∷ []) p e Ty.unit → ValTy (Val.advice p ls e) (Ty.adv p)
         -- [m_i = ς_p x.e_i] (card 3)
         v-object : {ms : Sigs} {bs : Tms} → BodiesTy (Ty.obj ms ∷ []) bs ms → ValTy (Val.object (Ty.obj ms) bs) (Ty.obj ms)
+        -- stacks (card 6): a kept value is of its label's type
+        v-bottom : ValTy Val.bottom Ty.stack
+        v-kept : {l : ℕ} {v k : Val} {a : Ty} {q : Dom} → getElem? (Σ .labels) l ≡ some (Ty.label a q) → ValTy v a → ValTy k Ty.stack → ValTy (Val.kept l v k) Ty.stack
 
       -- Figure 3: in the context Γ of variables, innermost first, at the current domain c, e has type t.
       pub data TmTy : List Ty → Dom → Tm → Ty → Type 0 where
@@ -123,6 +135,10 @@ module _ (D : Policy) where
         is-lower : {Γ : List Ty} {c p : Dom} {e : Tm} → D .leq p c ≡ true → TmTy Γ p e Ty.unit → TmTy Γ c (lower p e) Ty.unit
         -- [m_i = ς_p x.e_i] (card 3), by figure 2 under outer variables
         is-obj : {Γ : List Ty} {c : Dom} {ms : Sigs} {bs : Tms} → BodiesTy (Ty.obj ms ∷ Γ) bs ms → TmTy Γ c (obj (Ty.obj ms) bs) (Ty.obj ms)
+        -- store e1[e2] in e3 (card 6): the label is of the current domain
+        is-keep : {Γ : List Ty} {c : Dom} {a t : Ty} {e f g : Tm} → TmTy Γ c e (Ty.label a c) → TmTy Γ c f a → TmTy Γ c g t → TmTy Γ c (keep e f g) t
+        -- stackcase (card 6)
+        is-match : {Γ ts us : List Ty} {c : Dom} {t : Ty} {p : Pattern} {es : Tms} {f g : Tm} → TmsTy Γ c es (Ty.stack ∷ ts) → PatternTy p ts us → TmTy (reverseAux us Γ) c f t → TmTy Γ c g t → TmTy Γ c (match p es f g) t
 
       -- A list of operands, each with its type.
       pub data TmsTy : List Ty → Dom → Tms → List Ty → Type 0 where

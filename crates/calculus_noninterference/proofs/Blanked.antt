@@ -3,13 +3,13 @@ use Prim.Native.Nat.{ℕ}
 use mathlib.Core.Path.{_≡_, refl, sym}
 use mathlib.Core.Bool.{Bool, true, false}
 use mathlib.Core.List.{List}
-use Rattle.calculus.specs.Syntax.{Dom, Ty, Sigs, noMethod, method, Val, Tm, Tms, Op0, Op1, Op2, val, var, lam, op0, op1, op2, seq, ite, split, pcd, adv, lower, obj, end, more}
+use Rattle.calculus.specs.Syntax.{Dom, Ty, Sigs, noMethod, method, Val, Tm, Tms, Pattern, Op0, Op1, Op2, val, var, lam, op0, op1, op2, seq, ite, split, pcd, adv, lower, obj, keep, match, end, more}
 use Rattle.calculus.specs.Plain.{domOf, methodsOf}
 use Rattle.calculus.specs.Blank.{body, blank, blanks, blankBodies}
-use Rattle.calculus.specs.Typing.{Policy, noStore, LabelsOf, no-labels, a-label, ValTy, TmTy, TmsTy, BodiesTy, is-val, is-var, is-lam, is-op0, is-op1, is-op2, is-seq, is-ite, is-split, is-pcd, is-adv, is-lower, is-obj, is-end, is-more, no-body, a-body}
+use Rattle.calculus.specs.Typing.{Policy, noStore, LabelsOf, no-labels, a-label, ValTy, TmTy, TmsTy, BodiesTy, is-val, is-var, is-lam, is-op0, is-op1, is-op2, is-seq, is-ite, is-split, is-pcd, is-adv, is-lower, is-obj, is-end, is-more, no-body, a-body, is-keep, is-match}
 use Rattle.laws.proofs.Lists.{none-some, All2.all2-nil}
 use Rattle.calculus_noninterference.proofs.Interleave.{Side, Matches}
-use Rattle.calculus_noninterference.proofs.Related.{World, RelV, RelT, RelB, RelTs, RelBs, b-rel, b-low, v-unit, v-truth, v-num, v-pair, v-fun, v-labels, v-advice, v-object, r-val, r-var, r-lam, r-op0, r-op1, r-op2, r-seq, r-ite, r-split, r-pcd, r-adv, r-lower, r-obj, r-end, r-more, r-no-body, r-body}
+use Rattle.calculus_noninterference.proofs.Related.{World, RelV, RelT, RelB, RelTs, RelBs, b-rel, b-low, v-unit, v-truth, v-num, v-pair, v-fun, v-labels, v-advice, v-object, v-bottom, r-val, r-var, r-lam, r-op0, r-op1, r-op2, r-seq, r-ite, r-split, r-pcd, r-adv, r-lower, r-obj, r-keep, r-match, r-end, r-more, r-no-body, r-body}
 
 module _ (hi : Dom → Bool) where
   -- x is e with low bodies blanked: the graph of `blank`, which says nothing of a low body.
@@ -28,6 +28,8 @@ module _ (hi : Dom → Bool) where
       b-adv : {p : Dom} {e x b y : Tm} → Blanked e x → (hi p ≡ true → Blanked b y) → Blanked (adv p e b) (adv p x y)
       b-lower : {p : Dom} {e x : Tm} → (hi p ≡ true → Blanked e x) → Blanked (lower p e) (lower p x)
       b-obj : {t : Ty} {bs xs : Tms} → BlankedBs (methodsOf t) bs xs → Blanked (obj t bs) (obj t xs)
+      b-keep : {e x f y g z : Tm} → Blanked e x → Blanked f y → Blanked g z → Blanked (keep e f g) (keep x y z)
+      b-match : {p : Pattern} {es xs : Tms} {f y g z : Tm} → Blankeds es xs → Blanked f y → Blanked g z → Blanked (match p es f g) (match p xs y z)
 
     data Blankeds : Tms → Tms → Type 0 where
       b-end : Blankeds end end
@@ -61,6 +63,8 @@ module _ (hi : Dom → Bool) where
     blanked (adv p e b) = b-adv (blanked e) (blanked-body p (blanked b))
     blanked (lower p e) = b-lower (blanked-body p (blanked e))
     blanked (obj t bs) = b-obj (blanked-bs (methodsOf t) bs)
+    blanked (keep e f g) = b-keep (blanked e) (blanked f) (blanked g)
+    blanked (match p es f g) = b-match (blankeds es) (blanked f) (blanked g)
 
     blankeds : (es : Tms) → Blankeds es (blanks hi es)
     blankeds end = b-end
@@ -100,6 +104,8 @@ module _ (hi : Dom → Bool) where
       val-rel (ValTy.v-labels x) = v-labels (labels-rel x)
       val-rel (ValTy.v-advice {e} x l y) = v-advice (labels-rel x) (b-rel (tm-rel y (blanked e)))
       val-rel (ValTy.v-object {bs} x) = v-object (bodies-rel x (blanked-bs _ bs))
+      val-rel ValTy.v-bottom = v-bottom
+      val-rel (ValTy.v-kept x y z) = absurd (none-some x)
 
       tm-rel : {Γ : List Ty} {c : Dom} {e e′ : Tm} {t : Ty} → TmTy D noStore Γ c e t → Blanked e′ (blank hi e) → RelT hi W e e′
       tm-rel (is-val x) b-val = r-val (val-rel x)
@@ -115,6 +121,8 @@ module _ (hi : Dom → Bool) where
       tm-rel (is-adv {p} x l y) (b-adv a f) = r-adv (tm-rel x a) (body-rel p _ f (λ z. tm-rel y z))
       tm-rel (is-lower {p} l x) (b-lower f) = r-lower (body-rel p _ f (λ z. tm-rel x z))
       tm-rel (is-obj x) (b-obj a) = r-obj (bodies-rel x a)
+      tm-rel (is-keep x y z) (b-keep a b c) = r-keep (tm-rel x a) (tm-rel y b) (tm-rel z c)
+      tm-rel (is-match x l y z) (b-match a b c) = r-match (tms-rel x a) (tm-rel y b) (tm-rel z c)
 
       tms-rel : {Γ ts : List Ty} {c : Dom} {es es′ : Tms} → TmsTy D noStore Γ c es ts → Blankeds es′ (blanks hi es) → RelTs hi W es es′
       tms-rel is-end b-end = r-end

@@ -3,13 +3,13 @@ use Prim.Native.Nat.{ℕ, suc, _-_, _≤_, _<_}
 use native.Mathlib.Omega.{arith}
 use mathlib.Core.Path.{_≡_, refl, ap, ap₂}
 use mathlib.Core.Bool.{Bool, true, false}
-use mathlib.Core.List.{List, [], _∷_}
+use mathlib.Core.List.{List, [], _∷_, reverseAux}
 use lib.ListN.{length}
 use lib.Dec.{eqb, ltb, eqb→eq, ltb→lt}
 use Rattle.calculus.specs.Combinators.{choose}
-use Rattle.calculus.specs.Syntax.{Dom, Ty, Sigs, Val, Tm, Tms, val, var, lam, op1, op2, seq, split, pcd, adv, lower, obj, more}
-use Rattle.calculus.specs.Subst.{subst, substs, substVar}
-use Rattle.calculus.specs.Typing.{Policy, StoreTyping, TmTy, TmsTy, BodiesTy, is-val, is-var, is-lam, is-op0, is-op1, is-op2, is-seq, is-ite, is-split, is-pcd, is-adv, is-lower, is-obj, is-end, is-more, no-body, a-body}
+use Rattle.calculus.specs.Syntax.{Dom, Ty, Sigs, Val, Tm, Tms, val, var, lam, op1, op2, seq, split, pcd, adv, lower, obj, more, Pattern}
+use Rattle.calculus.specs.Subst.{subst, substs, substVar, under}
+use Rattle.calculus.specs.Typing.{Policy, StoreTyping, TmTy, TmsTy, BodiesTy, is-val, is-var, is-lam, is-op0, is-op1, is-op2, is-seq, is-ite, is-split, is-pcd, is-adv, is-lower, is-obj, is-end, is-more, no-body, a-body, PatternTy, p-end, p-rest, p-any, p-cut, is-keep, is-match}
 use Rattle.laws.proofs.Lookup.{place-below}
 use Rattle.calculus_noninterference.proofs.Related.{ClosedBody, ClosedBodies}
 
@@ -20,6 +20,12 @@ nearer-var k i v h = pick (eqb i k) refl (ltb k i) refl
     pick true e d f = let z : i ≡ k = eqb→eq i k (rw e tt) in absurd (omega arith)
     pick false e true f = let z : k < i = ltb→lt k i (rw f tt) in absurd (omega arith)
     pick false e false f = refl
+
+length-under : {p : Pattern} {ts us : List Ty} → PatternTy p ts us → (Γ : List Ty) (k : ℕ) → length Γ ≤ k → length (reverseAux us Γ) ≤ under p k
+length-under p-end Γ k l = l
+length-under p-rest Γ k l = omega arith
+length-under (p-any h) Γ k l = length-under h Γ k l
+length-under (p-cut {a} h) Γ k l = length-under h (a ∷ Γ) (suc k) (omega arith)
 
 module _ {D : Policy} {Σ : StoreTyping} (v : Val) where
   mutual
@@ -39,6 +45,8 @@ module _ {D : Policy} {Σ : StoreTyping} (v : Val) where
     closed-tm (is-adv {p} h o g) k l = ap₂ (adv p) (closed-tm h k l) (closed-tm g (suc k) (omega arith))
     closed-tm (is-lower {p} o h) k l = ap (lower p) (closed-tm h k l)
     closed-tm (is-obj {ms} h) k l = ap (obj (Ty.obj ms)) (closed-bs h (suc k) (omega arith))
+    closed-tm (is-keep h g f) k l = let x = closed-tm h k l in let y = closed-tm g k l in let z = closed-tm f k l in cc
+    closed-tm (is-match {Γ} {p} h o g f) k l = let x = closed-tms h k l in let y = closed-tm g (under p k) (length-under o Γ k l) in let z = closed-tm f k l in cc
 
     closed-tms : {Γ ts : List Ty} {c : Dom} {es : Tms} → TmsTy D Σ Γ c es ts → (k : ℕ) → length Γ ≤ k → substs k v es ≡ es
     closed-tms is-end k l = refl

@@ -2,20 +2,20 @@
 use Prim.Native.Nat.{ℕ}
 use mathlib.Core.Path.{_≡_, refl, subst as transp}
 use mathlib.Core.Bool.{Bool, true, false}
-use mathlib.Core.List.{List, [], _∷_, _++_}
+use mathlib.Core.List.{List, [], _∷_, _++_, reverse}
 use mathlib.Core.Option.{Option, none, some}
 use lib.ListN.{getElem?}
 use Rattle.calculus.specs.declared.Outcome.{Outcome}
 use Rattle.calculus.specs.Combinators.{cases}
-use Rattle.calculus.specs.Syntax.{Dom, Ty, Val, Tm, Tms, Op0, Op1, Op2, asValue}
+use Rattle.calculus.specs.Syntax.{Dom, Ty, Val, Tm, Tms, Op0, Op1, Op2, asValue, Pattern}
 use Rattle.calculus.specs.State.{Cell, Advice, Event, Counts, State, Given, charged, celled, stored, labelled, installed, told}
-use Rattle.calculus.specs.View.{unitOf, truthOf, numberOf, pairOf, bodyOf, labelOf, cellOf, labelsOf, bodiesOf}
+use Rattle.calculus.specs.View.{unitOf, truthOf, numberOf, pairOf, bodyOf, labelOf, cellOf, labelsOf, bodiesOf, topOf}
 use Rattle.calculus.specs.Numbers.{sum, difference, isLess, isEqual}
 use Rattle.calculus.specs.Answer.{Answer, go, full, halt, wrong, carry, within, if-room, with, spend}
-use Rattle.calculus.specs.Place.{Place, at, deeper}
-use Rattle.calculus.specs.Reduce.{reduce0, reduce1, reduce2, num, truth, arith, collect, methodBody}
+use Rattle.calculus.specs.Place.{Place, at, deeper, keeping}
+use Rattle.calculus.specs.Reduce.{reduce0, reduce1, reduce2, num, truth, arith, collect, methodBody, matched, branch, matchOn, substAll, reduceMatch}
 use Rattle.calculus.specs.Step.{step, stepFirst}
-use Rattle.calculus.specs.Typing.{Policy, StoreTyping, Rule0, Rule1, Rule2, ValTy, TmTy, TmsTy, t-newLabel, t-abort, t-print, t-install, t-read, t-byte, t-newCell, t-call, t-pair, t-app, t-mark, t-store, t-plus, t-minus, t-less, t-equal, v-cell, v-advice, is-val, is-var, is-lam, is-op0, is-op1, is-op2, is-seq, is-ite, is-split, is-pcd, is-adv, is-lower, is-obj, is-end, is-more}
+use Rattle.calculus.specs.Typing.{Policy, StoreTyping, Rule0, Rule1, Rule2, ValTy, TmTy, TmsTy, t-newLabel, t-abort, t-stack, t-print, t-install, t-read, t-byte, t-newCell, t-call, t-pair, t-app, t-mark, t-store, t-plus, t-minus, t-less, t-equal, v-cell, v-advice, is-val, is-var, is-lam, is-op0, is-op1, is-op2, is-seq, is-ite, is-split, is-pcd, is-adv, is-lower, is-obj, is-keep, is-match, is-end, is-more}
 use Rattle.calculus_safety.proofs.StoreFits.{StateFits}
 use Rattle.calculus_safety.proofs.Values.{val-ty}
 use Rattle.calculus_noninterference.specs.Observe.{Highs}
@@ -34,7 +34,7 @@ module _ (hi : Dom → Bool) where
     -- a label may be of any domain: the rule for new labels is not needed here
     e-label : (p : Dom) → Effect c s (labelled p s)
     e-advice : (a : Advice Tm) → Under (a .dom) c → Effect c s (installed a s)
-    e-event : (a : Event) → Under (a .dom) c → Effect c s (told a s)
+    e-event : {u : Counts} (a : Event) → Under (a .dom) c → Effect c s (told a (charged u s))
 
   effect-up : {c p : Dom} {s s′ : State} → Under p c → Effect p s s′ → Effect c s s′
   effect-up u e-charge = e-charge
@@ -96,6 +96,7 @@ module _ (hi : Dom → Bool) where
     confined0 : {c : Dom} {o : Op0} {t : Ty} (G : Given) (P : Place) (s : State) → Rule0 D c o t → Confined c s (reduce0 G (at c P) s o t)
     confined0 G P s (t-newLabel l) = confined-room _ _ (c-go (e-label _))
     confined0 G P s t-abort = c-halt
+    confined0 G P s t-stack = confined-spend _ _ (λ u. c-go e-charge)
 
     confined1 : {Σ : StoreTyping} {c : Dom} {o : Op1} {t a : Ty} {v : Val} (G : Given) (P : Place) (s : State) → Rule1 D c o t a → ValTy D Σ v a → StateFits D Σ s → Confined c s (reduce1 G (at c P) s o t v)
     confined1 {v} G P s t-print h k = confined-with (numberOf v) _ (λ n. confined-room _ _ (c-go (e-event _ (λ x. x))))
@@ -119,6 +120,17 @@ module _ (hi : Dom → Bool) where
     confined2 {v} w G P s t-minus h k = confined-arith s num difference v w
     confined2 {v} w G P s t-less h k = confined-arith s truth isLess v w
     confined2 {v} w G P s t-equal h k = confined-arith s truth isEqual v w
+
+    confined-branch : {c : Dom} (s : State) (P : Place) (f : List Val → Tm) (g : Tm) (o : Option (List Val)) → Confined c s (branch (at c P) s f g o)
+    confined-branch s P f g none = c-go (e-event _ (λ x. x))
+    confined-branch s P f g (some vs) = confined-spend _ _ (λ u. c-go (e-event _ (λ x. x)))
+
+    confined-match : {c : Dom} (s : State) (P : Place) (p : Pattern) (f g : Tm) (vs : List Val) → Confined c s (reduceMatch (at c P) s p f g vs)
+    confined-match {c} s P p f g vs = pick (reverse vs)
+      where
+        pick : (ws : List Val) → Confined c s (matchOn topOf labelsOf (at c P) s p (λ us. substAll us f) g ws)
+        pick [] = c-wrong
+        pick (k ∷ us) = confined-branch s P (λ ws. substAll ws f) g (matched topOf labelsOf p us k)
 
     closed : {Σ : StoreTyping} {Γ : List Ty} {c : Dom} {e : Tm} {t : Ty} → Γ ≡ [] → TmTy D Σ Γ c e t → TmTy D Σ [] c e t
     closed {Σ} {c} {e} {t} p h = transp (λ Γ. TmTy D Σ Γ c e t) p h
@@ -144,6 +156,13 @@ module _ (hi : Dom → Bool) where
         confined-step (is-adv {e} h l g) γ P = confined-cases (asValue e) _ _ (λ v p. confined-room _ _ (confined-with (labelsOf v) _ (λ u. confined-spend _ _ (λ n. c-go e-charge)))) (confined-within _ (confined-step h γ (deeper P)))
         confined-step (is-lower {e} l h) γ P = confined-cases (asValue e) _ _ (λ v p. confined-room _ _ (confined-with (unitOf v) _ (λ u. c-go e-charge))) (confined-within _ (confined-up (under l) (confined-step h γ (deeper P))))
         confined-step (is-obj h) γ P = c-wrong
+        confined-step (is-keep {e} {f} {g} h k l) γ P =
+            confined-cases (asValue e) _ _
+            (λ v p. confined-cases (asValue f) _ _
+            (λ w q. confined-cases (asValue g) _ _ (λ u r. confined-room _ _ (c-go e-charge)) (confined-within _ (confined-step l γ (keeping v w (deeper P)))))
+            (confined-within _ (confined-step k γ (deeper P))))
+            (confined-within _ (confined-step h γ (deeper P)))
+        confined-step (is-match {p} {f} {g} h o k l) γ P = confined-first h γ P [] _ _ (λ vs. confined-match s P p f g vs)
 
         confined-first : {Γ ts : List Ty} {c : Dom} {es : Tms} → TmsTy D Σ Γ c es ts → Γ ≡ [] → (P : Place) (vs : List Val) (k : Tms → Tm) (r : List Val → Answer State Tm) → ((ws : List Val) → Confined c s (r ws)) → Confined c s (stepFirst es G (at c P) s vs k r)
         confined-first is-end γ P vs k r m = confined-room _ _ (m vs)

@@ -15,7 +15,7 @@ use Rattle.calculus_noninterference.proofs.Related.{World, inert-lower,
 use Rattle.calculus_noninterference.proofs.Substitute.{relB-subst}
 
 -- Matched lists of labels agree on a matched pair of labels.
-member-same : {w : List Side} {l l′ : ℕ} {ls ls′ : List ℕ} → Matched w l l′ → Matches w ls ls′ → member l ls ≡ member l′ ls′
+pub member-same : {w : List Side} {l l′ : ℕ} {ls ls′ : List ℕ} → Matched w l l′ → Matches w ls ls′ → member l ls ≡ member l′ ls′
 member-same m all2-nil = refl
 member-same {l} {l′} m (all2-cons n ns) = rw (matched-eqb m n, member-same m ns)
 

@@ -45,6 +45,8 @@ module _ {D : Policy} {hi : Dom → Bool} {Σ : StoreTyping} {W : World} where
   leaves-same (ValTy.v-labels x) p r = no-some p
   leaves-same (ValTy.v-advice x y z) p r = no-some p
   leaves-same (ValTy.v-object x) p r = no-some p
+  leaves-same ValTy.v-bottom p r = no-some p
+  leaves-same (ValTy.v-kept x y z) p r = no-some p
 
   pub plain-same : {v v′ : Val} {a : Ty} → isPlain a ≡ true → ValTy D Σ v a → RelV hi W v v′ → v ≡ v′
   plain-same {a} p h r = leaves-same h (plain-leaves a p .1) r

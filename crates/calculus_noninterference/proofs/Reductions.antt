@@ -1,30 +1,31 @@
 -- Two related redexes at a high domain, over related states: what they reduce to is related.
 use Prim.Native.Nat.{ℕ}
 use mathlib.Core.Path.{_≡_, refl, sym, _∙_, subst as transp}
-use mathlib.Core.Bool.{Bool, true}
-use mathlib.Core.List.{List}
+use mathlib.Core.Bool.{Bool, true, false}
+use mathlib.Core.List.{List, _∷_, reverse}
 use mathlib.Core.Option.{Option, none, some, Option·some-injective}
-use lib.ListN.{getElem?}
-use Rattle.calculus.specs.Combinators.{cases}
-use Rattle.calculus.specs.Syntax.{Dom, Ty, Sigs, Val, Tm, Tms, Op0, Op1, Op2, val}
-use Rattle.calculus.specs.State.{Cell, State, Given, Counts}
+use lib.ListN.{getElem?, length}
+use Rattle.calculus.specs.Combinators.{cases, choose}
+use Rattle.calculus.specs.Syntax.{Dom, Ty, Sigs, Val, Tm, Tms, Op0, Op1, Op2, val, Pattern}
+use Rattle.calculus.specs.State.{Cell, State, Given, Counts, Entry}
 use Rattle.calculus.specs.Numbers.{frameByte, sum, difference, isLess, isEqual}
+use Rattle.calculus.specs.View.{topOf, labelsOf}
 use Rattle.calculus.specs.Answer.{go, with, spend}
-use Rattle.calculus.specs.Place.{Place, at}
-use Rattle.calculus.specs.Reduce.{piece, bind, reduce0, reduce1, reduce2, arith, num, truth, reduceSeq, reduceIte, reduceSplit, reduceAdv, reduceLower, collect, reducePcd, methodBody}
-use Rattle.calculus.specs.Typing.{Policy, Has, has-first, has-later, StoreTyping, Rule0, Rule1, Rule2, ValTy, t-newLabel, t-abort, t-print, t-install, t-read, t-byte, t-newCell, t-call, t-pair, t-app, t-mark, t-store, t-plus, t-minus, t-less, t-equal}
-use Rattle.laws.proofs.Lists.{All2.all2-nil, All2.all2-cons}
+use Rattle.calculus.specs.Place.{Place, at, keeping}
+use Rattle.calculus.specs.Reduce.{piece, bind, reduce0, reduce1, reduce2, arith, num, truth, reduceSeq, reduceIte, reduceSplit, reduceAdv, reduceLower, collect, reducePcd, methodBody, stackVal, consFound, matched, branch, matchOn, substAll, reduceMatch}
+use Rattle.calculus.specs.Typing.{Policy, Has, has-first, has-later, StoreTyping, Rule0, Rule1, Rule2, ValTy, t-newLabel, t-abort, t-print, t-install, t-read, t-byte, t-newCell, t-call, t-pair, t-app, t-mark, t-store, t-plus, t-minus, t-less, t-equal, PatternTy, p-end, p-rest, p-any, p-cut, t-stack}
+use Rattle.laws.proofs.Lists.{All2.all2-nil, All2.all2-cons, All2, all2-length}
 use Rattle.calculus_safety.proofs.StoreFits.{StateFits}
 use Rattle.calculus_noninterference.specs.Observe.{Highs}
 use Rattle.calculus_noninterference.proofs.Clash.{clash}
 use Rattle.calculus_noninterference.proofs.Interleave.{both, Matches, matched-last, get-both}
-use Rattle.calculus_noninterference.proofs.Related.{World, grows-refl, RelCell, RelV, RelT, RelB, RelVs, RelBs, b-rel, b-low, v-unit, v-truth, v-num, v-pair, v-fun, v-label, v-cell, v-labels, v-advice, v-object, r-val, r-body, RelS}
+use Rattle.calculus_noninterference.proofs.Related.{World, grows-refl, RelCell, RelV, RelT, RelB, RelVs, RelBs, b-rel, b-low, v-unit, v-truth, v-num, v-pair, v-fun, v-label, v-cell, v-labels, v-advice, v-object, r-val, r-body, RelS, RelKept, v-bottom, v-kept}
 use Rattle.calculus.specs.Subst.{subst}
 use Rattle.calculus_noninterference.proofs.Substitute.{rel-choose, relT-subst}
 use Rattle.calculus_noninterference.proofs.Store.{cell-dom}
 use Rattle.calculus_noninterference.proofs.States.{grows-cell, grows-label, rel-charged, cell-both, store-both, label-both, advice-both, event-both}
 use Rattle.calculus_noninterference.proofs.Paired.{n-halt, Two, two-go, none-left, two-room, two-spend, two-some, two-found, two-none}
-use Rattle.calculus_noninterference.proofs.Marks.{composed-rel}
+use Rattle.calculus_noninterference.proofs.Marks.{composed-rel, member-same}
 
 module _ (hi : Dom → Bool) (W : World) where
   -- Of related values, both lists of labels can be collected, or neither.
@@ -45,6 +46,42 @@ module _ (hi : Dom → Bool) (W : World) where
   collected (all2-cons (v-labels n) r) m = c-none
   collected (all2-cons (v-advice n b) r) m = c-none
   collected (all2-cons (v-object b) r) m = c-none
+  collected (all2-cons v-bottom r) m = c-none
+  collected (all2-cons (v-kept n q u) r) m = c-none
+
+  -- Card 6: the stacks of what is kept around both, and one value more.
+  stack-rel : {k k′ : List (Entry Val)} → RelKept hi W k k′ → RelV hi W (stackVal k) (stackVal k′)
+  stack-rel all2-nil = v-bottom
+  stack-rel (all2-cons a r) = v-kept (a .label) (a .held) (stack-rel r)
+
+  pub keeping-rel : {D : Policy} {Σ : StoreTyping} {a : Ty} {q : Dom} {v v′ w w′ : Val} (P P′ : Place) → ValTy D Σ v (Ty.label a q) → RelV hi W v v′ → RelV hi W w w′ → RelKept hi W (P .kept) (P′ .kept) → RelKept hi W (keeping v w P .kept) (keeping v′ w′ P′ .kept)
+  keeping-rel P P′ (ValTy.v-label g) (v-label m) r k = all2-cons (record { label = m; held = r }) k
+
+  -- A pattern binds related values of both stacks, or none of either.
+  data Bound : Option (List Val) → Option (List Val) → Type 0 where
+    bound-none : Bound none none
+    bound-some : {vs vs′ : List Val} → RelVs hi W vs vs′ → Bound (some vs) (some vs′)
+
+  bound-more : {v v′ : Val} {o o′ : Option (List Val)} (b b′ : Bool) → b ≡ b′ → RelV hi W v v′ → Bound o o′ → Bound (choose b (consFound v o) none) (choose b′ (consFound v′ o′) none)
+  bound-more true true e r bound-none = bound-none
+  bound-more true true e r (bound-some k) = bound-some (all2-cons r k)
+  bound-more true false e r k = clash refl e
+  bound-more false true e r k = clash refl (sym e)
+  bound-more false false e r k = bound-none
+
+  matched-rel : {D : Policy} {Σ : StoreTyping} {p : Pattern} {ts us : List Ty} {xs xs′ : List Val} {k k′ : Val} → PatternTy p ts us → All2 (ValTy D Σ) xs ts → RelVs hi W xs xs′ → ValTy D Σ k Ty.stack → RelV hi W k k′ → Bound (matched topOf labelsOf p xs k) (matched topOf labelsOf p xs′ k′)
+  unfolding cases
+  matched-rel p-end all2-nil all2-nil ValTy.v-bottom v-bottom = bound-some all2-nil
+  matched-rel p-end all2-nil all2-nil (ValTy.v-kept x y z) (v-kept m r k) = bound-none
+  matched-rel p-rest all2-nil all2-nil h k = bound-some (all2-cons k all2-nil)
+  matched-rel (p-any p) hs rs ValTy.v-bottom v-bottom = bound-none
+  matched-rel (p-any p) hs rs (ValTy.v-kept x y z) (v-kept m r k) = matched-rel p hs rs z k
+  matched-rel (p-cut p) (all2-cons h hs) (all2-cons q rs) ValTy.v-bottom v-bottom = bound-none
+  matched-rel (p-cut p) (all2-cons (ValTy.v-labels h) hs) (all2-cons (v-labels q) rs) (ValTy.v-kept x y z) (v-kept m r k) = bound-more _ _ (member-same m q) r (matched-rel p hs rs z k)
+
+  substAll-rel : {vs vs′ : List Val} {f f′ : Tm} → RelVs hi W vs vs′ → RelT hi W f f′ → RelT hi W (substAll vs f) (substAll vs′ f′)
+  substAll-rel all2-nil r = r
+  substAll-rel {f} {f′} (all2-cons {x = v} {y = v′} {xs = vs} q qs) r = substAll-rel qs (transp (λ (n : ℕ). RelT hi W (subst (length vs) v f) (subst n v′ f′)) (all2-length qs) (relT-subst hi r (length vs) q))
 
 module _ (hi : Dom → Bool) {W : World} {s s′ : State} (R : RelS hi W s s′) where
   -- The states stay.
@@ -83,9 +120,10 @@ module _ (hi : Dom → Bool) {W : World} {s s′ : State} (R : RelS hi W s s′)
 
 -- The operators, at a current domain c that is high.
 module _ (hi : Dom → Bool) {D : Policy} (H : Highs D hi) {W : World} {s s′ : State} (R : RelS hi W s s′) {Σ : StoreTyping} (K : StateFits D Σ s) (G G′ : Given) {c : Dom} (h : hi c ≡ true) (P P′ : Place) where
-  pub two0 : {o : Op0} {t : Ty} → Rule0 D c o t → Two hi W (reduce0 G (at c P) s o t) (reduce0 G′ (at c P′) s′ o t)
-  two0 (t-newLabel {p} l) = two-room hi _ _ _ _ (two-go (grows-label W both) (label-both hi R p) (r-val (v-label (matched-last (R .labels)))))
-  two0 t-abort = none-left n-halt
+  pub two0 : RelKept hi W (P .kept) (P′ .kept) → {o : Op0} {t : Ty} → Rule0 D c o t → Two hi W (reduce0 G (at c P) s o t) (reduce0 G′ (at c P′) s′ o t)
+  two0 kept (t-newLabel {p} l) = two-room hi _ _ _ _ (two-go (grows-label W both) (label-both hi R p) (r-val (v-label (matched-last (R .labels)))))
+  two0 kept t-abort = none-left n-halt
+  two0 kept t-stack = two-charge hi R _ _ (r-val (stack-rel hi W kept))
 
   -- A cell that is read at c is high, so what it holds is related.
   two-read : (r : ℕ) {p : Dom} {a : Ty} {k k′ : Cell Val} → D .leq c p ≡ true → getElem? (Σ .cells) r ≡ some (Ty.ref a p) → getElem? (s .cells) r ≡ some k → RelCell hi W k k′ → RelV hi W (k .held) (k′ .held)
@@ -118,3 +156,14 @@ module _ (hi : Dom → Bool) {D : Policy} (H : Highs D hi) {W : World} {s s′ :
   two2 t-minus (ValTy.v-num {n = m}) (ValTy.v-num {n}) v-num v-num = two-arith hi R num difference m n (r-val v-num)
   two2 t-less (ValTy.v-num {n = m}) (ValTy.v-num {n}) v-num v-num = two-arith hi R truth isLess m n (r-val v-truth)
   two2 t-equal (ValTy.v-num {n = m}) (ValTy.v-num {n}) v-num v-num = two-arith hi R truth isEqual m n (r-val v-truth)
+
+  -- A match takes the same branch in both runs (card 6); no rule on its pointcuts' domains is used.
+  two-branch : {f f′ g g′ : Tm} {o o′ : Option (List Val)} → Bound hi W o o′ → RelT hi W f f′ → RelT hi W g g′ → Two hi W (branch (at c P) s (λ ws. substAll ws f) g o) (branch (at c P′) s′ (λ ws. substAll ws f′) g′ o′)
+  two-branch bound-none q r = two-go (grows-refl W) (event-both hi R _ h) r
+  two-branch (bound-some k) q r = two-spend hi s s′ _ _ _ _ (λ u u′. two-go (grows-refl W) (event-both hi (rel-charged hi R u u′) _ h) (substAll-rel hi W k q))
+
+  pub two-match : {p : Pattern} {ts us : List Ty} {f f′ g g′ : Tm} (vs vs′ : List Val) → PatternTy p ts us → All2 (ValTy D Σ) (reverse vs) (Ty.stack ∷ ts) → RelVs hi W (reverse vs) (reverse vs′) → RelT hi W f f′ → RelT hi W g g′ → Two hi W (reduceMatch (at c P) s p f g vs) (reduceMatch (at c P′) s′ p f′ g′ vs′)
+  two-match {p} {ts} {f} {f′} {g} {g′} vs vs′ o hs rs q r = on hs rs
+    where
+      on : {ws ws′ : List Val} → All2 (ValTy D Σ) ws (Ty.stack ∷ ts) → RelVs hi W ws ws′ → Two hi W (matchOn topOf labelsOf (at c P) s p (λ us. substAll us f) g ws) (matchOn topOf labelsOf (at c P′) s′ p (λ us. substAll us f′) g′ ws′)
+      on (all2-cons x xs) (all2-cons y ys) = two-branch (matched-rel hi W o xs ys x y) q r

@@ -3,9 +3,9 @@ use Prim.Native.Nat.{ℕ, suc}
 use mathlib.Core.Path.{_≡_}
 use mathlib.Core.Bool.{Bool, true, false}
 use mathlib.Core.List.{List, []}
-use Rattle.calculus.specs.Syntax.{Dom, Ty, Sigs, noMethod, method, Val, Tm, Tms, Op0, Op1, Op2, val, var, lam, op0, op1, op2, seq, ite, split, pcd, adv, lower, obj, end, more}
+use Rattle.calculus.specs.Syntax.{Dom, Ty, Sigs, noMethod, method, Val, Tm, Tms, Pattern, Op0, Op1, Op2, val, var, lam, op0, op1, op2, seq, ite, split, pcd, adv, lower, obj, keep, match, end, more}
 use Rattle.calculus.specs.Subst.{subst, substs}
-use Rattle.calculus.specs.State.{Cell, Advice, Event, State}
+use Rattle.calculus.specs.State.{Cell, Advice, Event, Entry, State}
 use Rattle.calculus.specs.Plain.{domOf, methodsOf}
 use Rattle.laws.proofs.Lists.{Prefix, prefix-refl, All2}
 use Rattle.calculus_noninterference.proofs.Interleave.{Side, Matched, Matches, matched-mono, matches-mono, Interleaving}
@@ -58,6 +58,8 @@ module _ (hi : Dom → Bool) where
         v-labels : {ls ls′ : List ℕ} → Matches (W .labels) ls ls′ → RelV (Val.labels ls) (Val.labels ls′)
         v-advice : {p : Dom} {ls ls′ : List ℕ} {e e′ : Tm} → Matches (W .labels) ls ls′ → RelB p e e′ → RelV (Val.advice p ls e) (Val.advice p ls′ e′)
         v-object : {t : Ty} {bs bs′ : Tms} → RelBs (methodsOf t) bs bs′ → RelV (Val.object t bs) (Val.object t bs′)
+        v-bottom : RelV Val.bottom Val.bottom
+        v-kept : {l l′ : ℕ} {v v′ k k′ : Val} → Matched (W .labels) l l′ → RelV v v′ → RelV k k′ → RelV (Val.kept l v k) (Val.kept l′ v′ k′)
 
       pub data RelT : Tm → Tm → Type 0 where
         r-val : {v v′ : Val} → RelV v v′ → RelT (val v) (val v′)
@@ -79,6 +81,8 @@ module _ (hi : Dom → Bool) where
         -- an object that has been put back as a value, as a function in r-val-lam and r-lam-val
         r-val-obj : {t : Ty} {bs bs′ : Tms} → ClosedBodies bs′ → RelV (Val.object t bs) (Val.object t bs′) → RelT (val (Val.object t bs)) (obj t bs′)
         r-obj-val : {t : Ty} {bs bs′ : Tms} → ClosedBodies bs → RelV (Val.object t bs) (Val.object t bs′) → RelT (obj t bs) (val (Val.object t bs′))
+        r-keep : {e e′ f f′ g g′ : Tm} → RelT e e′ → RelT f f′ → RelT g g′ → RelT (keep e f g) (keep e′ f′ g′)
+        r-match : {p : Pattern} {es es′ : Tms} {f f′ g g′ : Tm} → RelTs es es′ → RelT f f′ → RelT g g′ → RelT (match p es f g) (match p es′ f′ g′)
         r-skip-left : {h e e′ : Tm} → Inert h → RelT e e′ → RelT (seq h e) e′
         r-skip-right : {h e e′ : Tm} → Inert h → RelT e e′ → RelT e (seq h e′)
 
@@ -99,6 +103,14 @@ module _ (hi : Dom → Bool) where
     -- Lists of values, related one by one.
     abbrev pub RelVs : List Val → List Val → Type 0
     RelVs = All2 RelV
+
+    -- What is kept around two places (card 6). At a high domain every keep around is high, since code only falls: so both have the same.
+    pub record RelEntry (a b : Entry Val) : Type 0 where
+      pub label : Matched (W .labels) (a .label) (b .label)
+      pub held : RelV (a .held) (b .held)
+
+    abbrev pub RelKept : List (Entry Val) → List (Entry Val) → Type 0
+    RelKept = All2 RelEntry
 
     -- What high code made in both runs stands in both, whatever its domain; what it holds is related only where the domain is high.
     pub record RelCell (a b : Cell Val) : Type 0 where
@@ -149,6 +161,8 @@ module _ (hi : Dom → Bool) where
     relV-mono (v-labels m) x = v-labels (matches-mono m (x .labels))
     relV-mono (v-advice m r) x = v-advice (matches-mono m (x .labels)) (relB-mono r x)
     relV-mono (v-object r) x = v-object (relBs-mono r x)
+    relV-mono v-bottom x = v-bottom
+    relV-mono (v-kept m r s) x = v-kept (matched-mono m (x .labels)) (relV-mono r x) (relV-mono s x)
 
     pub relT-mono : {W X : World} {e e′ : Tm} → RelT W e e′ → Grows W X → RelT X e e′
     relT-mono (r-val r) x = r-val (relV-mono r x)
@@ -168,6 +182,8 @@ module _ (hi : Dom → Bool) where
     relT-mono (r-obj r) x = r-obj (relBs-mono r x)
     relT-mono (r-val-obj c r) x = r-val-obj c (relV-mono r x)
     relT-mono (r-obj-val c r) x = r-obj-val c (relV-mono r x)
+    relT-mono (r-keep r s t) x = r-keep (relT-mono r x) (relT-mono s x) (relT-mono t x)
+    relT-mono (r-match r s t) x = r-match (relTs-mono r x) (relT-mono s x) (relT-mono t x)
     relT-mono (r-skip-left i r) x = r-skip-left i (relT-mono r x)
     relT-mono (r-skip-right i r) x = r-skip-right i (relT-mono r x)
 

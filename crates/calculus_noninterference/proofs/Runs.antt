@@ -14,7 +14,7 @@ use Rattle.calculus.specs.Step.{step}
 use Rattle.calculus.specs.Plain.{isPlain}
 use Rattle.calculus.specs.Run.{done, Ended, ended, run}
 use Rattle.calculus.specs.Typing.{Policy, StoreTyping, noStore, ValTy, TmTy}
-use Rattle.laws.proofs.Lists.{Prefix, prefix-refl, prefix-trans}
+use Rattle.laws.proofs.Lists.{Prefix, prefix-refl, prefix-trans, All.all-nil, All2.all2-nil}
 use Rattle.calculus.specs.Accepted.{Transitive}
 use Rattle.calculus_safety.proofs.StoreFits.{StateFits, fits-fresh}
 use Rattle.calculus_safety.proofs.Values.{val-ty}
@@ -43,7 +43,7 @@ module _ {D : Policy} {hi : Dom → Bool} (H : Highs D hi) (trans : Transitive D
     typed : TmTy D Σ [] 0 e t
 
   typed-step : (G : Given) {t : Ty} {s s′ : State} {e e′ : Tm} → Typed t s e → step e G top s ≡ go s′ e′ → Typed t s′ e′
-  typed-step G {s} {s′} {e′} T q = let x = preservation D (T .Σ) trans G (T .typed) top s (T .fits) s′ e′ q in record { Σ = x .0; fits = x .2; typed = x .3 }
+  typed-step G {s} {s′} {e′} T q = let x = preservation D (T .Σ) trans G (T .typed) top all-nil s (T .fits) s′ e′ q in record { Σ = x .0; fits = x .2; typed = x .3 }
 
   valueless-events : {s : State} {E : Ended} → Valueless s E → Prefix (highEvents hi (s .trace)) (highEvents hi (E .state .trace))
   valueless-events S = rw (S .over) (prefix-refl _)
@@ -133,7 +133,7 @@ module _ {D : Policy} {hi : Dom → Bool} (H : Highs D hi) (trans : Transitive D
     -- By induction on the two budgets together.
     agree-below : (m n n′ : ℕ) → n + n′ < m → Goal n n′
     agree-below zero n n′ h k k′ s s′ e e′ P = absurd (omega arith)
-    agree-below (suc m) n n′ h k k′ s s′ e e′ P = by-step n n′ (λ j j′ l. agree-below m j j′ (omega arith)) k k′ P refl refl (sim hi H G G′ frame (P .states) (P .left .fits) (P .right .fits) (P .terms) 0 (H .mainline) (P .left .typed) (P .right .typed) top top)
+    agree-below (suc m) n n′ h k k′ s s′ e e′ P = by-step n n′ (λ j j′ l. agree-below m j j′ (omega arith)) k k′ P refl refl (sim hi H G G′ frame (P .states) (P .left .fits) (P .right .fits) (P .terms) 0 (H .mainline) (P .left .typed) (P .right .typed) top top all2-nil)
 
     -- Two related programs, from the start.
     pub agree : (e e′ : Tm) → TmTy D noStore [] 0 e t → TmTy D noStore [] 0 e′ t′ → RelT hi noWorld e e′ → (n n′ : ℕ) → Agree hi t (run n G 0 fresh e) (run n′ G′ 0 fresh e′)

@@ -103,7 +103,7 @@ module _ (hi : Dom → Bool) {W : World} {s s′ : State} (R : RelS hi W s s′)
   effect-left f (e-store r a v e x) = later (store-left r a v e (low-of hi x f))
   effect-left f (e-label p) = record { world = withLabel W left; grows = grows-label W left; rel = grow-labels hi R left (append-left (R .labels) tt) }
   effect-left f (e-advice a x) = later (put-advices hi R (append-left (R .advices) (low-of hi x f)))
-  effect-left f (e-event a x) = later (put-trace hi R (append-left (R .trace) (low-of hi x f)))
+  effect-left f (e-event {u} a x) = later (put-trace hi (rel-charged hi R u (s′ .used)) (append-left (R .trace) (low-of hi x f)))
 
   -- The right alone makes a step at a low domain.
   pub effect-right : {c : Dom} {t : State} → hi c ≡ false → Effect hi c s′ t → Later hi W s t
@@ -112,4 +112,4 @@ module _ (hi : Dom → Bool) {W : World} {s s′ : State} (R : RelS hi W s s′)
   effect-right f (e-store r b v e x) = later (store-right r b v e (low-of hi x f))
   effect-right f (e-label p) = record { world = withLabel W right; grows = grows-label W right; rel = grow-labels hi R right (append-right (R .labels) tt) }
   effect-right f (e-advice a x) = later (put-advices hi R (append-right (R .advices) (low-of hi x f)))
-  effect-right f (e-event a x) = later (put-trace hi R (append-right (R .trace) (low-of hi x f)))
+  effect-right f (e-event {u} a x) = later (put-trace hi (rel-charged hi R (s .used) u) (append-right (R .trace) (low-of hi x f)))

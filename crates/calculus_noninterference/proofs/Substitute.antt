@@ -4,8 +4,8 @@ use mathlib.Core.Bool.{Bool, true, false}
 use lib.Dec.{eqb, ltb}
 use Rattle.calculus.specs.Combinators.{choose}
 use Rattle.calculus.specs.Syntax.{Dom, Sigs, Ty, Val, Tm, Tms, val, lam, obj}
-use Rattle.calculus.specs.Subst.{subst, substs}
-use Rattle.calculus_noninterference.proofs.Related.{World, ClosedBody, ClosedBodies, Inert, inert-lower, inert-unit, RelV, RelT, RelB, RelTs, RelBs, b-rel, b-low, r-val, r-var, r-lam, r-val-lam, r-lam-val, r-op0, r-op1, r-op2, r-seq, r-ite, r-split, r-pcd, r-adv, r-lower, r-obj, r-val-obj, r-obj-val, r-skip-left, r-skip-right, r-end, r-more, r-no-body, r-body}
+use Rattle.calculus.specs.Subst.{subst, substs, under}
+use Rattle.calculus_noninterference.proofs.Related.{World, ClosedBody, ClosedBodies, Inert, inert-lower, inert-unit, RelV, RelT, RelB, RelTs, RelBs, b-rel, b-low, r-val, r-var, r-lam, r-val-lam, r-lam-val, r-op0, r-op1, r-op2, r-seq, r-ite, r-split, r-pcd, r-adv, r-lower, r-obj, r-val-obj, r-obj-val, r-keep, r-match, r-skip-left, r-skip-right, r-end, r-more, r-no-body, r-body}
 
 module _ (hi : Dom → Bool) where
   inert-subst : {h : Tm} (k : ℕ) (v : Val) → Inert hi h → Inert hi (subst k v h)
@@ -51,6 +51,8 @@ module _ (hi : Dom → Bool) where
       relT-subst (r-obj r) k u = r-obj (relBs-subst r (suc k) u)
       relT-subst {v′} (r-val-obj c r) k u = val-obj k v′ c r
       relT-subst {v} (r-obj-val c r) k u = obj-val k v c r
+      relT-subst (r-keep r s t) k u = r-keep (relT-subst r k u) (relT-subst s k u) (relT-subst t k u)
+      relT-subst (r-match {p} r s t) k u = r-match (relTs-subst r k u) (relT-subst s (under p k) u) (relT-subst t k u)
       relT-subst {v} (r-skip-left i r) k u = r-skip-left (inert-subst k v i) (relT-subst r k u)
       relT-subst {v′} (r-skip-right i r) k u = r-skip-right (inert-subst k v′ i) (relT-subst r k u)
 

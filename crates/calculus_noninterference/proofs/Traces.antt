@@ -1,4 +1,4 @@
--- The high events of a trace: equal in related states, only more as a run goes on; the high prints of the log are their prints.
+-- The high events of a trace: equal in related states, only more as a run goes on; the high prints of the log are their prints, the high branches their branches.
 use mathlib.Core.Path.{_≡_, refl, sym, ap}
 use mathlib.Core.Logic.{_⊎_, inl, inr}
 use mathlib.Core.Bool.{Bool, true, false}
@@ -8,8 +8,9 @@ use lib.ListN.{length}
 use lib.Seq.{take-nil}
 use Rattle.calculus.specs.Combinators.{choose}
 use Rattle.calculus.specs.Syntax.{Dom}
-use Rattle.calculus.specs.State.{Event, Said, prints, printOf, consOption, picked, logOf, State}
+use Rattle.calculus.specs.State.{Event, Said, prints, printOf, consOption, picked, logOf, State, turns, branchOf, branchesOf}
 use Rattle.laws.proofs.Lists.{Prefix, Prefix.pre-nil, Prefix.pre-cons, prefix-refl}
+use Rattle.calculus_safety.proofs.Safe.{Found, Found.found, Found.nothing}
 use Rattle.calculus_noninterference.specs.Observe.{highOf, CutEqual}
 use Rattle.calculus_noninterference.proofs.Interleave.{Side, i-nil, i-both, i-left, i-right}
 use Rattle.calculus_noninterference.proofs.Related.{Events}
@@ -33,20 +34,42 @@ module _ (hi : Dom → Bool) where
   abbrev pub highEvents : List Event → List Event
   highEvents x = highOf hi (λ a. a .dom) x
 
-  -- A print has its event's domain.
-  high-logOf : (x : List Event) → highOf hi (λ a. a .dom) (logOf x) ≡ logOf (highEvents x)
+  -- What is picked of events, each with its event's domain: the high ones are picked of the high events.
+  high-picked : {A : Type 0} (f : Event → Option A) (dom : A → Dom) → ((a : Event) → Found (λ b. dom b ≡ a .dom) (f a)) → (x : List Event) → highOf hi dom (picked f x) ≡ picked f (highEvents x)
   unfolding highOf picked
-  high-logOf [] = refl
-  high-logOf (a ∷ x) = pick (a .said) (hi (a .dom)) refl (high-logOf x)
+  high-picked f dom g [] = refl
+  high-picked {A} f dom g (a ∷ x) = pick (f a) refl (g a) (hi (a .dom)) refl (high-picked f dom g x)
     where
-      pick : (o : Said) (b : Bool) → hi (a .dom) ≡ b → highOf hi (λ a. a .dom) (logOf x) ≡ logOf (highEvents x) → highOf hi (λ a. a .dom) (logOf (record { dom = a .dom; said = o } ∷ x)) ≡ logOf (highEvents (record { dom = a .dom; said = o } ∷ x))
-      pick (prints n) true e h = rw e (ap (λ z. record { dom = a .dom; shown = n } ∷ z) h)
-      pick (prints n) false e h = rw e h
+      pick : (o : Option A) → f a ≡ o → Found (λ b. dom b ≡ a .dom) o → (c : Bool) → hi (a .dom) ≡ c → highOf hi dom (picked f x) ≡ picked f (highEvents x) → highOf hi dom (consOption o (picked f x)) ≡ picked f (choose c (a ∷ highEvents x) (highEvents x))
+      pick o p (found {x = b} e) true q h = rw (e, q, p) (ap (λ z. b ∷ z) h)
+      pick o p (found {x = b} e) false q h = rw (e, q) h
+      pick o p nothing true q h = rw p h
+      pick o p nothing false q h = h
 
-  -- Where the high events of one trace begin those of the other, so do the high prints of the logs.
+  print-dom : (a : Event) → Found (λ b. b .dom ≡ a .dom) (printOf a)
+  print-dom a = pick (a .said)
+    where
+      pick : (o : Said) → Found (λ b. b .dom ≡ a .dom) (printOf (record { dom = a .dom; said = o }))
+      pick (prints n) = found refl
+      pick (turns b) = nothing
+
+  branch-dom : (a : Event) → Found (λ b. b .dom ≡ a .dom) (branchOf a)
+  branch-dom a = pick (a .said)
+    where
+      pick : (o : Said) → Found (λ b. b .dom ≡ a .dom) (branchOf (record { dom = a .dom; said = o }))
+      pick (prints n) = nothing
+      pick (turns b) = found refl
+
+  -- Where the high events of one trace begin those of the other, so does what is picked of them.
+  cut-picked : {A : Type 0} (f : Event → Option A) (dom : A → Dom) → ((a : Event) → Found (λ b. dom b ≡ a .dom) (f a)) → (x y : List Event) → Prefix (highEvents x) (highEvents y) ⊎ Prefix (highEvents y) (highEvents x) → CutEqual (highOf hi dom (picked f x)) (highOf hi dom (picked f y))
+  cut-picked f dom g x y (inl p) = rw (high-picked f dom g x, high-picked f dom g y) (prefix-cut (prefix-picked f p))
+  cut-picked f dom g x y (inr p) = rw (high-picked f dom g x, high-picked f dom g y) (sym (prefix-cut (prefix-picked f p)))
+
   pub cut-prints : (x y : List Event) → Prefix (highEvents x) (highEvents y) ⊎ Prefix (highEvents y) (highEvents x) → CutEqual (highOf hi (λ a. a .dom) (logOf x)) (highOf hi (λ a. a .dom) (logOf y))
-  cut-prints x y (inl p) = rw (high-logOf x, high-logOf y) (prefix-cut (prefix-picked printOf p))
-  cut-prints x y (inr p) = rw (high-logOf x, high-logOf y) (sym (prefix-cut (prefix-picked printOf p)))
+  cut-prints x y p = cut-picked printOf (λ a. a .dom) print-dom x y p
+
+  pub cut-branches : (x y : List Event) → Prefix (highEvents x) (highEvents y) ⊎ Prefix (highEvents y) (highEvents x) → CutEqual (highOf hi (λ a. a .dom) (branchesOf x)) (highOf hi (λ a. a .dom) (branchesOf y))
+  cut-branches x y p = cut-picked branchOf (λ a. a .dom) branch-dom x y p
 
   pub events-same : {w : List Side} {x y : List Event} → Events hi w x y → highEvents x ≡ highEvents y
   unfolding highOf

@@ -7,7 +7,7 @@ use lib.ListN.{length, take}
 use Rattle.calculus.specs.declared.Outcome.{Outcome}
 use Rattle.calculus.specs.Combinators.{choose}
 use Rattle.calculus.specs.Syntax.{Dom, Val}
-use Rattle.calculus.specs.State.{Cell, Print, logOf}
+use Rattle.calculus.specs.State.{Cell, Print, logOf, Branch, branchesOf}
 use Rattle.calculus.specs.Run.{done, Ended}
 use Rattle.calculus.specs.Report.{report}
 use Rattle.calculus.specs.Typing.{Policy}
@@ -35,6 +35,10 @@ module _ (hi : Dom → Bool) where
   abbrev pub highPrints : Ended → List Print
   highPrints E = highOf (λ a. a .dom) (logOf (E .state .trace))
 
+  -- Card 6: "the branches taken by matches at high current domains, in order".
+  abbrev pub highBranches : Ended → List Branch
+  highBranches E = highOf (λ a. a .dom) (branchesOf (E .state .trace))
+
   -- What is shown of the cells whose domain is high, in order of creation.
   abbrev pub highCells : Ended → List Shown
   highCells E = map shown (highOf (λ a. a .dom) (E .state .cells))
@@ -46,6 +50,7 @@ CutEqual x y = take (length y) x ≡ take (length x) y
 -- What two ended runs show at the high domains is equal, as far as both went.
 pub record Same (hi : Dom → Bool) (E E′ : Ended) : Type 0 where
   pub prints : CutEqual (highPrints hi E) (highPrints hi E′)
+  pub branches : CutEqual (highBranches hi E) (highBranches hi E′)
   -- "Where both runs are done"
   pub result : (v v′ : Val) → E .end ≡ done v → E′ .end ≡ done v′ → v ≡ v′
   pub cells : (v v′ : Val) → E .end ≡ done v → E′ .end ≡ done v′ → highCells hi E ≡ highCells hi E′

@@ -18,7 +18,7 @@ use Rattle.calculus_safety.proofs.StoreFits.{AdviceFits, AdviceFits.adv
 
 module _ (D : Policy) {Σ : StoreTyping} where
   -- A label among a pointcut's labels.
-  member-label : {a : Ty} {q : Dom} {ls : List ℕ} → LabelsOf D Σ a q ls → (l : ℕ) → T (member l ls)
+  pub member-label : {a : Ty} {q : Dom} {ls : List ℕ} → LabelsOf D Σ a q ls → (l : ℕ) → T (member l ls)
       → (r : Dom) × (getElem? (Σ .labels) l ≡ some (Ty.label a r)) × (D .leq q r ≡ true)
   member-label LabelsOf.no-labels l m = absurd m
   member-label {a} {q} (LabelsOf.a-label {l = k} {q = r} {ls} g o rest) l m = look (eqb l k) refl m (member-label rest l)

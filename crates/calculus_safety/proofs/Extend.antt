@@ -44,6 +44,8 @@ module _ (D : Policy) {Σ Σ′ : StoreTyping} (x : Extends Σ Σ′) where
     grow-val (ValTy.v-labels h) = ValTy.v-labels (grow-labels h)
     grow-val (ValTy.v-advice h o b) = ValTy.v-advice (grow-labels h) o (grow-tm b)
     grow-val (ValTy.v-object h) = ValTy.v-object (grow-bodies h)
+    grow-val ValTy.v-bottom = ValTy.v-bottom
+    grow-val (ValTy.v-kept {l} g h k) = ValTy.v-kept (prefix-get (x .labels) l g) (grow-val h) (grow-val k)
 
     pub grow-tm : {Γ : List Ty} {c : Dom} {e : Tm} {t : Ty} → TmTy D Σ Γ c e t → TmTy D Σ′ Γ c e t
     grow-tm (TmTy.is-val h) = TmTy.is-val (grow-val h)
@@ -59,6 +61,8 @@ module _ (D : Policy) {Σ Σ′ : StoreTyping} (x : Extends Σ Σ′) where
     grow-tm (TmTy.is-adv h o b) = TmTy.is-adv (grow-tm h) o (grow-tm b)
     grow-tm (TmTy.is-lower o h) = TmTy.is-lower o (grow-tm h)
     grow-tm (TmTy.is-obj h) = TmTy.is-obj (grow-bodies h)
+    grow-tm (TmTy.is-keep h k l) = TmTy.is-keep (grow-tm h) (grow-tm k) (grow-tm l)
+    grow-tm (TmTy.is-match h p k l) = TmTy.is-match (grow-tms h) p (grow-tm k) (grow-tm l)
 
     pub grow-tms : {Γ ts : List Ty} {c : Dom} {es : Tms} → TmsTy D Σ Γ c es ts → TmsTy D Σ′ Γ c es ts
     grow-tms TmsTy.is-end = TmsTy.is-end

@@ -8,11 +8,11 @@ use lib.Dec.{T, leb}
 use Rattle.calculus.specs.declared.Outcome.{Outcome}
 use Rattle.calculus.specs.Limits.{bindingLimit, cellLimit, pieceLimit}
 use Rattle.calculus.specs.Combinators.{cases}
-use Rattle.calculus.specs.Syntax.{Ty, Val, Tm, Tms, Op0, Op1, Op2, asValue, val, var, lam, op0, op1, op2, seq, ite, split, pcd, adv, lower, obj, end, more}
+use Rattle.calculus.specs.Syntax.{Ty, Val, Tm, Tms, Pattern, Op0, Op1, Op2, asValue, val, var, lam, op0, op1, op2, seq, ite, split, pcd, adv, lower, obj, keep, match, end, more}
 use Rattle.calculus.specs.State.{State, Given, Counts, addCounts, charged}
 use Rattle.calculus.specs.Answer.{Answer, go, full, halt, wrong, carry, within, if-room, with, spend}
-use Rattle.calculus.specs.Place.{Place, top, at, deeper}
-use Rattle.calculus.specs.Reduce.{reduce0, reduce1, reduce2, piece, bind}
+use Rattle.calculus.specs.Place.{Place, top, at, deeper, keeping}
+use Rattle.calculus.specs.Reduce.{reduce0, reduce1, reduce2, piece, bind, reduceMatch}
 use Rattle.calculus.specs.Step.{step, stepFirst}
 use Rattle.calculus.specs.Run.{after, run}
 
@@ -58,6 +58,7 @@ pub record Reduces (G : Given) (Q : State → Type 0) (s : State) : Type 0 where
   pub stays : Q s
   pub binds : (n : ℕ) (e : Tm) → Makes Q (bind n s e)
   pub pieces : (e : Tm) → Makes Q (piece s e)
+  pub matches : (P : Place) (p : Pattern) (f g : Tm) (vs : List Val) → Makes Q (reduceMatch P s p f g vs)
   pub reduces0 : (P : Place) (o : Op0) (t : Ty) → Makes Q (reduce0 G P s o t)
   pub reduces1 : (P : Place) (o : Op1) (t : Ty) (v : Val) → Makes Q (reduce1 G P s o t v)
   pub reduces2 : (P : Place) (o : Op2) (t : Ty) (v w : Val) → Makes Q (reduce2 G P s o t v w)
@@ -86,6 +87,13 @@ module _ {G : Given} {Q : State → Type 0} {s : State} (R : Reduces G Q s) wher
     step-makes (adv p e b) = λ P. makes-cases Q _ _ _ (λ v. makes-room Q _ _ (λ b′. makes-with Q _ _ (λ ls. R .pieces _))) (makes-within Q _ (step-makes e (deeper P)))
     step-makes (lower p e) = λ P. makes-cases Q _ _ _ (λ v. makes-room Q _ _ (λ b. makes-with Q _ _ (λ u. makes-go (R .stays)))) (makes-within Q _ (step-makes e (at p (deeper P))))
     step-makes (obj t bs) = λ P. makes-wrong
+    step-makes (keep e f g) =
+        λ P. makes-cases Q _ _ _
+        (λ v. makes-cases Q _ _ _
+        (λ w. makes-cases Q _ _ _ (λ u. makes-room Q _ _ (λ b. makes-go (R .stays))) (makes-within Q _ (step-makes g (keeping v w (deeper P)))))
+        (makes-within Q _ (step-makes f (deeper P))))
+        (makes-within Q _ (step-makes e (deeper P)))
+    step-makes (match p es f g) = λ P. steps-first es P [] _ _ (λ ws. R .matches P p f g ws)
 
     steps-first : (es : Tms) → StepsFirst es
     steps-first end = λ P vs k r h. makes-room Q _ _ (λ b. h vs)

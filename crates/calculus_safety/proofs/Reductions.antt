@@ -1,24 +1,37 @@
 -- Every reduction (document 003, section 2.3, figure 4) of values that have the operands' types is safe.
-use Prim.Native.Nat.{ℕ}
+use Prim.Native.Nat.{ℕ, suc, _+_}
+use native.Mathlib.Omega.{arith}
 use mathlib.Core.Path.{_≡_, refl}
 use mathlib.Core.Bool.{Bool, true, false}
-use mathlib.Core.List.{List, [], _∷_, _++_}
-use mathlib.Core.Option.{some}
+use mathlib.Core.List.{List, [], _∷_, _++_, reverse, reverseAux}
+use mathlib.Core.Option.{some, Option, none}
 use lib.ListN.{length, getElem?}
 use Rattle.calculus.specs.Combinators.{choose, cases}
-use Rattle.calculus.specs.Syntax.{Dom, Ty, Sigs, Val, Tm, Tms, Op0, Op1, Op2, val}
-use Rattle.calculus.specs.State.{Cell, State, Given}
+use Rattle.calculus.specs.Syntax.{Dom, Ty, Sigs, Val, Tm, Tms, Pattern, Op0, Op1, Op2, val}
+use Rattle.calculus.specs.State.{Cell, State, Given, Entry}
+use Rattle.calculus.specs.View.{topOf, labelsOf}
 use Rattle.calculus.specs.Answer.{go, with}
-use Rattle.calculus.specs.Place.{Place, at}
-use Rattle.calculus.specs.Reduce.{reduce0, reduce1, reduce2, reduceSeq, reduceIte, reduceSplit, reduceAdv, reduceLower, reducePcd, collect, methodBody}
-use Rattle.calculus.specs.Typing.{StoreTyping, Policy, Has, LabelsOf, LabelTys, ValTy, TmTy, BodiesTy, Rule0, Rule1, Rule2}
-use Rattle.laws.proofs.Lists.{All2, All2.all2-nil, All2.all2-cons, all-snoc, all2-snoc, all2-set, all2-length, get-last}
+use Rattle.calculus.specs.Place.{Place, at, keeping}
+use Rattle.calculus.specs.Compose.{member}
+use Rattle.calculus.specs.Reduce.{reduce0, reduce1, reduce2, reduceSeq, reduceIte, reduceSplit, reduceAdv, reduceLower, reducePcd, collect, methodBody, stackVal, consFound, matched, branch, matchOn, substAll, reduceKeep, reduceMatch}
+use Rattle.calculus.specs.Typing.{StoreTyping, Policy, PatternTy, Has, LabelsOf, LabelTys, ValTy, TmTy, BodiesTy, Rule0, Rule1, Rule2}
+use Rattle.laws.proofs.Lists.{All2, All2.all2-nil, All2.all2-cons, all-snoc, all2-snoc, all2-set, all2-length, all2-reverse, get-last, All.all-nil, All.all-cons}
 use Rattle.calculus.specs.Accepted.{Transitive}
 use Rattle.calculus_safety.proofs.Extend.{extends-cell, extends-label, grow-val}
-use Rattle.calculus_safety.proofs.Substitute.{Without.here, Without.there, subst-tm}
-use Rattle.calculus_safety.proofs.StoreFits.{CellFits, CellFits.cell-fits, LabelFits.label-fits, AdviceFits.advice-fits, StateFits, cell-there, label-there, grow-cells, grow-advices}
-use Rattle.calculus_safety.proofs.Safe.{Safe, Safe.safe-go, Safe.safe-halt, safe-here, safe-room, safe-spend}
-use Rattle.calculus_safety.proofs.Composed.{composed-typed}
+use Rattle.calculus_safety.proofs.Substitute.{Without, Without.here, Without.there, subst-tm}
+use Rattle.calculus_safety.proofs.StoreFits.{CellFits, CellFits.cell-fits, LabelFits.label-fits, AdviceFits.advice-fits, StateFits, cell-there, label-there, grow-cells, grow-advices, EntryFits.entry-fits, KeptFits}
+use Rattle.calculus_safety.proofs.Safe.{Safe, Safe.safe-go, Safe.safe-halt, safe-here, safe-room, safe-spend, Found, Found.found, Found.nothing}
+use Rattle.calculus_safety.proofs.Composed.{composed-typed, member-label}
+
+-- What a match binds (card 6), and the places of its variables.
+abbrev Bound : Policy → StoreTyping → List Ty → Option (List Val) → Type 0
+Bound D Σ us = Found (λ vs. All2 (ValTy D Σ) vs us)
+
+without-back : {a : Ty} (us : List Ty) {k : ℕ} {Γ Δ : List Ty} → Without a k Γ Δ → Without a (length us + k) (reverseAux us Γ) (reverseAux us Δ)
+without-back [] {k} w = let z : k ≡ 0 + k = omega arith in rw z at w
+without-back (u ∷ us) {k} w =
+    let z : length us + suc k ≡ suc (length us) + k = omega arith in
+    rw z at (without-back us (there {b = u} w))
 
 module _ (D : Policy) {Σ : StoreTyping} where
   held-typed : {a : Ty} {p : Dom} {k : Cell Val} → CellFits D Σ (Ty.ref a p) k → ValTy D Σ (k .held) a
@@ -39,21 +52,60 @@ module _ (D : Policy) {Σ : StoreTyping} where
   body-typed Has.has-first (BodiesTy.a-body {e} h k) = (e, refl, h)
   body-typed (Has.has-later x) (BodiesTy.a-body h k) = body-typed x k
 
+  -- Card 6: the stack of values that fit their labels, and a value more.
+  stack-typed : {k : List (Entry Val)} → KeptFits D Σ k → ValTy D Σ (stackVal k) Ty.stack
+  stack-typed all-nil = ValTy.v-bottom
+  stack-typed (all-cons (entry-fits g h) hs) = ValTy.v-kept g h (stack-typed hs)
+
+  pub keeping-fits : {a : Ty} {q : Dom} {v w : Val} (P : Place) → ValTy D Σ v (Ty.label a q) → ValTy D Σ w a → KeptFits D Σ (P .kept) → KeptFits D Σ (keeping v w P .kept)
+  keeping-fits P (ValTy.v-label g) hw k = all-cons (entry-fits g hw) k
+
+  -- What a pattern binds of a stack is of the pattern's types.
+  bound-more : {a : Ty} {v : Val} {us : List Ty} {o : Option (List Val)} → ValTy D Σ v a → Bound D Σ us o → Bound D Σ (a ∷ us) (consFound v o)
+  bound-more hv (found hs) = found (all2-cons hv hs)
+  bound-more hv nothing = nothing
+
+  matched-typed : {p : Pattern} {ts us : List Ty} {xs : List Val} {k : Val} → PatternTy p ts us → All2 (ValTy D Σ) xs ts → ValTy D Σ k Ty.stack → Bound D Σ us (matched topOf labelsOf p xs k)
+  unfolding cases
+  matched-typed PatternTy.p-end all2-nil ValTy.v-bottom = found all2-nil
+  matched-typed PatternTy.p-end all2-nil (ValTy.v-kept g h k) = nothing
+  matched-typed PatternTy.p-rest all2-nil k = found (all2-cons k all2-nil)
+  matched-typed (PatternTy.p-any p) hs ValTy.v-bottom = nothing
+  matched-typed (PatternTy.p-any p) hs (ValTy.v-kept g h k) = matched-typed p hs k
+  matched-typed (PatternTy.p-cut p) (all2-cons h hs) ValTy.v-bottom = nothing
+  matched-typed (PatternTy.p-cut {us} {a} p) (all2-cons (ValTy.v-labels {ls} n) hs) (ValTy.v-kept {l} {v} {a = b} g h k) = look (member l ls) refl (matched-typed p hs k)
+    where
+      look : {o : Option (List Val)} (m : Bool) → member l ls ≡ m → Bound D Σ us o → Bound D Σ (a ∷ us) (choose m (consFound v o) none)
+      look true e next =
+          let found-label = member-label D n l (rw e tt) in
+          let same : b ≡ a = cc in
+          bound-more (rw same at h) next
+      look false e next = nothing
+
+  -- So the branch that binds them keeps its type.
+  substAll-typed : {Γ us : List Ty} {c : Dom} {t : Ty} {f : Tm} {vs : List Val} → All2 (ValTy D Σ) vs us → TmTy D Σ (reverseAux us Γ) c f t → TmTy D Σ Γ c (substAll vs f) t
+  substAll-typed all2-nil h = h
+  substAll-typed {Γ} (all2-cons {x = v} {y = a} {xs = vs} {ys = us} hv hs) h =
+      let n = all2-length hs in
+      let z : length us + 0 ≡ length vs = omega arith in
+      substAll-typed hs (subst-tm D hv h (rw z at (without-back {a = a} us (here {Γ = Γ}))))
+
 module _ (D : Policy) {Σ : StoreTyping} {c : Dom} (s : State) (fits : StateFits D Σ s) where
   -- A value, in a store typing that stays.
   here-val : {t : Ty} {v : Val} (s′ : State) → StateFits D Σ s′ → ValTy D Σ v t → Safe D Σ c t (go s′ (val v))
   here-val s′ f h = safe-here D s′ f (TmTy.is-val h)
 
   module _ (G : Given) (P : Place) where
-    pub safe0 : {o : Op0} {t : Ty} → Rule0 D c o t → Safe D Σ c t (reduce0 G (at c P) s o t)
-    safe0 (Rule0.t-newLabel {a} {p} h) =
+    pub safe0 : KeptFits D Σ (P .kept) → {o : Op0} {t : Ty} → Rule0 D c o t → Safe D Σ c t (reduce0 G (at c P) s o t)
+    safe0 kept (Rule0.t-newLabel {a} {p} h) =
         let x = extends-label Σ (Ty.label a p) in
         let place : getElem? (Σ .labels ++ (Ty.label a p ∷ [])) (length (s .labels)) ≡ some (Ty.label a p) = rw (← all2-length (fits .labels)) (get-last (Σ .labels) (Ty.label a p)) in
         safe-room D _ _ tt
         (safe-go x
         (record { cells = grow-cells D x (fits .cells); labels = all2-snoc (fits .labels) label-fits; advices = grow-advices D x (fits .advices) })
         (TmTy.is-val (ValTy.v-label place)))
-    safe0 Rule0.t-abort = safe-halt
+    safe0 kept Rule0.t-abort = safe-halt
+    safe0 kept Rule0.t-stack = safe-spend D _ s _ (here-val _ fits (stack-typed D kept))
 
     pub safe1 : {o : Op1} {t a : Ty} {v : Val} → Rule1 D c o t a → ValTy D Σ v a → Safe D Σ c t (reduce1 G (at c P) s o t v)
     unfolding with
@@ -114,3 +166,19 @@ module _ (D : Policy) {Σ : StoreTyping} {c : Dom} (s : State) (fits : StateFits
   safe-pcd hs os =
       let m = collect-labels D hs os LabelsOf.no-labels in
       rw (m .1) (safe-spend D _ s _ (here-val _ fits (ValTy.v-labels (m .2))))
+
+  -- Card 6.
+  pub safe-keep : {t : Ty} {v : Val} → ValTy D Σ v t → Safe D Σ c t (reduceKeep s v)
+  safe-keep h = here-val s fits h
+
+  safe-branch : (P : Place) {t : Ty} {us : List Ty} {f g : Tm} {o : Option (List Val)} → Bound D Σ us o → TmTy D Σ (reverseAux us []) c f t → TmTy D Σ [] c g t
+      → Safe D Σ c t (branch P s (λ ws. substAll ws f) g o)
+  safe-branch P (found hs) k l = safe-spend D _ s _ (safe-here D _ fits (substAll-typed D hs k))
+  safe-branch P nothing k l = safe-here D _ fits l
+
+  pub safe-match : (P : Place) {t : Ty} {p : Pattern} {ts us : List Ty} {f g : Tm} (vs : List Val) → All2 (ValTy D Σ) (reverse vs) (Ty.stack ∷ ts) → PatternTy p ts us
+      → TmTy D Σ (reverseAux us []) c f t → TmTy D Σ [] c g t → Safe D Σ c t (reduceMatch P s p f g vs)
+  safe-match P {t} {p} {ts} {us} {f} {g} vs hs pt k l = on hs
+    where
+      on : {ws : List Val} → All2 (ValTy D Σ) ws (Ty.stack ∷ ts) → Safe D Σ c t (matchOn topOf labelsOf P s p (λ xs. substAll xs f) g ws)
+      on (all2-cons hk hx) = safe-branch P (matched-typed D pt hx hk) k l

@@ -15,6 +15,7 @@ use Rattle.calculus.specs.Step.{step}
 use Rattle.calculus.specs.Run.{End, done, stopped, stuck, Ended, ended, after, unpaid, run}
 use Rattle.calculus.specs.Report.{outcomeNumber, outcomeOf, report}
 use Rattle.calculus.specs.Typing.{StoreTyping, Policy, ValTy, TmTy, noStore}
+use Rattle.laws.proofs.Lists.{All.all-nil}
 use Rattle.calculus.specs.Accepted.{Transitive}
 use Rattle.calculus_safety.proofs.Extend.{Extends, extends-refl, extends-trans}
 use Rattle.calculus_safety.proofs.StoreFits.{StateFits, fits-fresh}
@@ -66,7 +67,7 @@ module _ (D : Policy) where
       where
         look : (o : Option Val) → asValue e ≡ o → Found (λ v. ValTy D Σ v t) o → EndsWell t Σ (run zero G k s e)
         look o eq (found hv) = rw (eq, run) (ends-now k s f (ends-done hv))
-        look o eq nothing = rw (eq, run) (ends-now k s f (ends-unpaid (safe D Σ trans G h refl eq top s f)))
+        look o eq nothing = rw (eq, run) (ends-now k s f (ends-unpaid (safe D Σ trans G h refl eq top all-nil s f)))
     run-safe (suc n) {Σ} {e} {t} h k s f = look (asValue e) refl (as-value D Σ h) (λ Σ′ s′ e′ f′ h′. run-safe n h′ (suc k) s′ f′)
       where
         Later : Type 0
@@ -79,7 +80,7 @@ module _ (D : Policy) where
 
         look : (o : Option Val) → asValue e ≡ o → Found (λ v. ValTy D Σ v t) o → Later → EndsWell t Σ (run (suc n) G k s e)
         look o eq (found hv) later = rw (eq, run) (ends-now k s f (ends-done hv))
-        look o eq nothing later = made eq (step e G top s) refl (safe D Σ trans G h refl eq top s f) later
+        look o eq nothing later = made eq (step e G top s) refl (safe D Σ trans G h refl eq top all-nil s f) later
 
     -- A program is a closed term, typed at the domain 0 before there is a store; it starts with nothing.
     pub program-safe : {e : Tm} {t : Ty} → TmTy D noStore [] 0 e t → (n : ℕ) → EndsWell t noStore (run n G 0 fresh e)

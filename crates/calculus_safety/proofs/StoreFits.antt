@@ -6,7 +6,7 @@ use mathlib.Core.List.{List, [], _∷_}
 use mathlib.Core.Option.{some}
 use lib.ListN.{getElem?}
 use Rattle.calculus.specs.Syntax.{Dom, Ty, Val, Tm}
-use Rattle.calculus.specs.State.{Cell, Advice, State, fresh}
+use Rattle.calculus.specs.State.{Cell, Advice, Entry, State, fresh}
 use Rattle.calculus.specs.Plain.{isPlain}
 use Rattle.calculus.specs.Typing.{StoreTyping, Policy, LabelsOf, ValTy, TmTy, noStore}
 use Rattle.laws.proofs.Lists.{All, All2, all-map, all2-map, all2-get, All.all-nil, All2.all2-nil}
@@ -24,6 +24,13 @@ module _ (D : Policy) where
   -- Installed advice is typed as figure 2 types the value.
   pub data AdviceFits (Σ : StoreTyping) : Advice Tm → Type 0 where
     advice-fits : {p q : Dom} {a : Ty} {ls : List ℕ} {e : Tm} → LabelsOf D Σ a q ls → D .leq p q ≡ true → TmTy D Σ (a ∷ []) p e Ty.unit → AdviceFits Σ (record { dom = p; labels = ls; body = e })
+
+  -- Kept values, each of its label's type (card 6).
+  pub data EntryFits (Σ : StoreTyping) : Entry Val → Type 0 where
+    entry-fits : {l : ℕ} {v : Val} {a : Ty} {q : Dom} → getElem? (Σ .labels) l ≡ some (Ty.label a q) → ValTy D Σ v a → EntryFits Σ (record { label = l; held = v })
+
+  abbrev pub KeptFits : StoreTyping → List (Entry Val) → Type 0
+  KeptFits Σ = All (EntryFits Σ)
 
   pub record Fits (Σ : StoreTyping) (cs : List (Cell Val)) (ls : List Dom) (as′ : List (Advice Tm)) : Type 0 where
     pub cells : All2 (CellFits Σ) (Σ .cells) cs

@@ -3,14 +3,14 @@ use Prim.Native.Nat.{ℕ, zero, suc, _-_, _<_, _≤_}
 use native.Mathlib.Omega.{arith}
 use mathlib.Core.Path.{_≡_, refl, _∙_}
 use mathlib.Core.Bool.{Bool, true, false}
-use mathlib.Core.List.{List, _∷_}
+use mathlib.Core.List.{List, _∷_, reverseAux}
 use mathlib.Core.Option.{some}
 use lib.ListN.{getElem?}
 use lib.Dec.{T, eqb, ltb, eqb→eq, eqb-refl, ltb→lt, nltb→le}
-use Rattle.calculus.specs.Syntax.{Dom, Ty, Sigs, Val, Tm, Tms, val, var}
+use Rattle.calculus.specs.Syntax.{Dom, Ty, Sigs, Val, Tm, Tms, Pattern, val, var}
 use Rattle.calculus.specs.Combinators.{choose}
-use Rattle.calculus.specs.Subst.{substVar, subst, substs}
-use Rattle.calculus.specs.Typing.{StoreTyping, Policy, ValTy, TmTy, TmsTy, BodiesTy}
+use Rattle.calculus.specs.Subst.{substVar, under, subst, substs}
+use Rattle.calculus.specs.Typing.{StoreTyping, Policy, PatternTy, ValTy, TmTy, TmsTy, BodiesTy}
 
 -- Δ is Γ without its place k, where a stands.
 pub data Without (a : Ty) : ℕ → List Ty → List Ty → Type 0 where
@@ -30,6 +30,13 @@ after-place : {a : Ty} {k : ℕ} {Γ Δ : List Ty} → Without a k Γ Δ → (i 
 after-place here i h = refl
 after-place (there w) zero h = absurd (omega arith)
 after-place (there w) (suc i) h = after-place w i (omega arith)
+
+-- Under the variables that a pattern binds (card 6).
+pub without-under : {a : Ty} {k : ℕ} {Γ Δ ts us : List Ty} {p : Pattern} → PatternTy p ts us → Without a k Γ Δ → Without a (under p k) (reverseAux us Γ) (reverseAux us Δ)
+without-under PatternTy.p-end w = w
+without-under PatternTy.p-rest w = there w
+without-under (PatternTy.p-any h) w = without-under h w
+without-under (PatternTy.p-cut h) w = without-under h (there w)
 
 module _ (D : Policy) {Σ : StoreTyping} where
   subst-var : {a t : Ty} {k : ℕ} {Γ Δ : List Ty} {c : Dom} {v : Val} → ValTy D Σ v a → Without a k Γ Δ → (i : ℕ) → getElem? Γ i ≡ some t → TmTy D Σ Δ c (substVar k v i) t
@@ -67,6 +74,8 @@ module _ (D : Policy) {Σ : StoreTyping} where
     subst-tm hv (TmTy.is-adv h o b) w = TmTy.is-adv (subst-tm hv h w) o (subst-tm hv b (there w))
     subst-tm hv (TmTy.is-lower o h) w = TmTy.is-lower o (subst-tm hv h w)
     subst-tm hv (TmTy.is-obj h) w = TmTy.is-obj (subst-bodies hv h (there w))
+    subst-tm hv (TmTy.is-keep h k l) w = TmTy.is-keep (subst-tm hv h w) (subst-tm hv k w) (subst-tm hv l w)
+    subst-tm hv (TmTy.is-match h p k l) w = TmTy.is-match (subst-tms hv h w) p (subst-tm hv k (without-under p w)) (subst-tm hv l w)
 
     pub subst-tms : {a : Ty} {k : ℕ} {Γ Δ ts : List Ty} {c : Dom} {v : Val} {es : Tms} → ValTy D Σ v a → TmsTy D Σ Γ c es ts → Without a k Γ Δ → TmsTy D Σ Δ c (substs k v es) ts
     subst-tms hv TmsTy.is-end w = TmsTy.is-end

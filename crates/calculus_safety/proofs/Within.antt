@@ -1,19 +1,21 @@
 -- The counts of a state agree with what it has, and stay within their limits (document 01, "A run"); no typing is assumed.
 use Prim.Native.Nat.{ℕ, suc, _+_, _*_, _-_, _≤_, _<_}
 use native.Mathlib.Omega.{arith}
-use mathlib.Core.Path.{_≡_, refl}
-use mathlib.Core.List.{List, [], _∷_, _++_}
+use mathlib.Core.Path.{_≡_, refl, ap}
+use mathlib.Core.Bool.{Bool, true, false}
+use mathlib.Core.List.{List, [], _∷_, _++_, reverse}
 use mathlib.Core.Option.{Option, none, some}
 use lib.ListN.{length, set, length-append, length-set}
 use lib.Dec.{T, leb, leb→le, ltb→lt}
 use Rattle.calculus.specs.Limits.{bindingLimit, cellLimit, pieceLimit, labelLimit, adviceLimit, logRecordLength}
-use Rattle.calculus.specs.Syntax.{Dom, Ty, Val, Tm, Op0, Op1, Op2, newLabel, abort, print, install, read, byte, newCell, call, app, mark, store, plus, minus, less, equal}
-use Rattle.calculus.specs.State.{Cell, Advice, Event, State, Given, Counts, consOption, picked, printOf, logOf, addCounts, charged, celled, labelled, installed, told, fresh, someBindings, oneCell, onePiece}
+use Rattle.calculus.specs.Syntax.{Dom, Ty, Val, Tm, Pattern, Op0, Op1, Op2, newLabel, abort, theStack, print, install, read, byte, newCell, call, app, mark, store, plus, minus, less, equal}
+use Rattle.calculus.specs.State.{Cell, Advice, Event, turns, State, Given, Counts, consOption, picked, printOf, logOf, addCounts, charged, celled, labelled, installed, told, fresh, someBindings, oneCell, onePiece, somePieces}
+use Rattle.calculus.specs.View.{topOf, labelsOf}
 use Rattle.calculus.specs.Answer.{go, with, spend}
 use Rattle.calculus.specs.Place.{Place}
-use Rattle.calculus.specs.Reduce.{reduce0, reduce1, reduce2}
+use Rattle.calculus.specs.Reduce.{reduce0, reduce1, reduce2, branch, matchOn, reduceMatch, substAll, matched}
 use Rattle.calculus.specs.Run.{run}
-use Rattle.calculus_safety.proofs.Invariant.{Makes, Makes.makes-go, Makes.makes-halt, makes-room, makes-with, makes-spend, Reduces, run-keeps}
+use Rattle.calculus_safety.proofs.Invariant.{Makes, Makes.makes-go, Makes.makes-halt, Makes.makes-wrong, makes-room, makes-with, makes-spend, Reduces, run-keeps}
 
 -- What holds of every state that a run comes to.
 pub record Within (G : Given) (s : State) : Type 0 where
@@ -40,10 +42,22 @@ unfolding picked
 log-told [] a = cons-once (printOf a) []
 log-told (b ∷ x) a = cons-keeps (printOf b) (logOf (x ++ (a ∷ []))) (logOf x) (log-told x a)
 
+-- The branch of a match makes none (card 6).
+log-turned : (x : List Event) (c : Dom) (b : Bool) → logOf (x ++ (record { dom = c; said = turns b } ∷ [])) ≡ logOf x
+unfolding picked
+log-turned [] c b = refl
+log-turned (a ∷ x) c b = ap (consOption (printOf a)) (log-turned x c b)
+
 module _ (G : Given) where
   pub within-fresh : Within G fresh
   unfolding picked
   within-fresh = record { counted = refl; bindings = omega arith; cells = omega arith; pieces = omega arith; labels = omega arith; advices = omega arith; log = omega arith }
+
+  within-turned : (s : State) → Within G s → (c : Dom) (b : Bool) → Within G (told (record { dom = c; said = turns b }) s)
+  within-turned s W c b =
+      let same = ap length (log-turned (s .trace) c b) in
+      let was = W .log in
+      record { counted = W .counted; bindings = W .bindings; cells = W .cells; pieces = W .pieces; labels = W .labels; advices = W .advices; log = omega arith }
 
   module _ (s : State) (W : Within G s) where
     -- The counts grow by n, where there is room, and the cells by as many as n says.
@@ -87,6 +101,7 @@ module _ (G : Given) where
     within0 : (P : Place) (o : Op0) (t : Ty) → Makes (Within G) (reduce0 G P s o t)
     within0 P newLabel t = makes-room (Within G) _ _ (λ b. makes-go (within-label _ (ltb→lt (length (s .labels)) labelLimit b)))
     within0 P abort t = makes-halt
+    within0 P theStack t = within-spent (somePieces _) _ refl
 
     within1 : (P : Place) (o : Op1) (t : Ty) (v : Val) → Makes (Within G) (reduce1 G P s o t v)
     within1 P print t v =
@@ -108,8 +123,20 @@ module _ (G : Given) where
     within2 P less t v w = within-arith _ _ _
     within2 P equal t v w = within-arith _ _ _
 
+    -- A match (card 6).
+    within-branch : (P : Place) (f : List Val → Tm) (g : Tm) (o : Option (List Val)) → Makes (Within G) (branch P s f g o)
+    within-branch P f g none = makes-go (within-turned s W (P .dom) false)
+    within-branch P f g (some vs) = makes-spend (Within G) (someBindings (length vs)) s _ (λ b c p. makes-go (within-turned _ (within-charged (someBindings (length vs)) (s .cells) (omega arith) b c p) (P .dom) true))
+
+    within-match : (P : Place) (p : Pattern) (f g : Tm) (vs : List Val) → Makes (Within G) (reduceMatch P s p f g vs)
+    within-match P p f g vs = pick (reverse vs)
+      where
+        pick : (ws : List Val) → Makes (Within G) (matchOn topOf labelsOf P s p (λ us. substAll us f) g ws)
+        pick [] = makes-wrong
+        pick (k ∷ us) = within-branch P (λ ws. substAll ws f) g (matched topOf labelsOf p us k)
+
     within-reduces : Reduces G (Within G) s
-    within-reduces = record { stays = W; binds = λ n e. within-spent (someBindings n) e refl; pieces = λ e. within-spent onePiece e refl; reduces0 = within0; reduces1 = within1; reduces2 = within2 }
+    within-reduces = record { stays = W; binds = λ n e. within-spent (someBindings n) e refl; pieces = λ e. within-spent onePiece e refl; matches = within-match; reduces0 = within0; reduces1 = within1; reduces2 = within2 }
 
   -- Every run keeps it.
   pub within-run : (n k : ℕ) (s : State) (e : Tm) → Within G s → Within G (run n G k s e .state)

@@ -1,5 +1,5 @@
 -- The parts of each kind's code are what the table of kinds says: one test, computed at every kind, and the laws that follow from it.
-use Prim.Native.Nat.{ℕ, zero, suc, _+_, _-_, _*_, _/_, _≤_, _<_}
+use Prim.Native.Nat.{ℕ, zero, suc, _+_, _-_, _*_, _/_, _%_, _≤_, _<_}
 use native.Mathlib.Omega.{arith}
 use native.Mathlib.Nat.{zero-mul, one-mul, div-le-self}
 use mathlib.Core.Path.{_≡_, refl, sym, ap, _∙_}
@@ -17,7 +17,7 @@ use Rattle.laws.proofs.Booleans.{no-path, and-l, and-r, not-t, same-truth, lt-o
 use Rattle.laws.proofs.Tests.{each}
 use Rattle.image.proofs.EveryKind.{everyOf, at-kind}
 use Rattle.image.proofs.Counts.{fields-length}
-use Rattle.check_records.specs.Codes.{sectionNumber, classNumbers, leastLength, codeOf, sizeOf, firstChildrenOf, groupOf, countOf, lastOf, leastOf, classesOf, sectionOf, firstOf, mostOf, Sized, timesIn, codeNumber, codesFrom, codeCount, kindCodes, codeAt}
+use Rattle.check_records.specs.Codes.{sectionNumber, classNumbers, leastLength, codeOf, sizeOf, firstChildrenOf, groupOf, countOf, lastOf, leastOf, classesOf, sectionOf, firstOf, mostOf, Sized, timesIn, childrenIn, entriesIn, codeNumber, codesFrom, codeCount, kindCodes, codeAt}
 
 abbrev packs : Kind → Bool
 packs k =
@@ -169,3 +169,21 @@ pub last-section : (x : ℕ) → x < 4294967296 → leb 3221225472 x ≡ eqb (se
 last-section x l =
     same-truth (leb 3221225472 x) (eqb (sectionOf x) 3) (λ h. let z : 3221225472 ≤ x = le-of h in of-eq {m = sectionOf x} {n = 3} (omega arith))
     (λ h. let z : sectionOf x ≡ 3 = eq-of h in of-le {m = 3221225472} {n = x} (omega arith))
+
+-- The children among the first fields and the group's fields are told by four bits; what these say of the children side by side and of the entries.
+module _ (x n : ℕ) where
+  abbrev pub told : ℕ
+  told = x / 16 % 16
+
+  pub no-group : told < 4 → (told ≡ childrenIn x n) × (0 ≡ entriesIn x n)
+  no-group h = let g : groupOf x ≡ 0 = omega arith in rw (of-eq g) (omega arith, refl)
+
+  pub group-of-children : 4 ≤ told → told % 4 ≡ 0 → (n / 2 - countOf x ≡ childrenIn x n) × (0 ≡ entriesIn x n)
+  group-of-children h z =
+      let f : firstChildrenOf x ≡ 0 = omega arith in
+      rw (ne-eqb (groupOf x) 0 (λ e. omega arith), of-eq f) (refl, refl)
+
+  pub group-of-entries : 4 ≤ told → (told % 4 ≡ 0 → ⊥) → (told % 4 ≡ childrenIn x n) × (n / 2 - (countOf x + told % 4 + lastOf x) ≡ entriesIn x n)
+  group-of-entries h z =
+      let f : told % 4 ≡ firstChildrenOf x = omega arith in
+      rw (ne-eqb (groupOf x) 0 (λ e. omega arith), ne-eqb (firstChildrenOf x) 0 (λ e. z (f ∙ e)), f) (refl, refl)

@@ -2,14 +2,14 @@
 use Prim.Native.Nat.{ℕ, zero, suc, _+_, _*_, _/_, _-_, _≤_, _<_}
 use native.Mathlib.Omega.{arith}
 use mathlib.Core.Path.{_≡_, refl, sym, ap, _∙_}
-use mathlib.Core.List.{List, _++_}
+use mathlib.Core.List.{List, _++_, append-nil}
 use lib.ListN.{length, getD, List·getD-append}
 use lib.Dec.{eqb}
 use Rattle.calculus.specs.Combinators.{choose}
 use Rattle.image.specs.Bytes.{le16, words}
 use Rattle.laws.proofs.Booleans.{of-eq}
-use Rattle.check_records.specs.Codes.{firstChildrenOf, groupOf, countOf, childrenIn}
-use Rattle.check_records.specs.Heads.{fieldIn, Fitting, childrenOf}
+use Rattle.check_records.specs.Codes.{firstChildrenOf, groupOf, countOf, lastOf, childrenIn, entriesIn}
+use Rattle.check_records.specs.Heads.{fieldIn, Fitting, sideOf, entriesFrom, childrenOf}
 
 module _ (fs gs : List ℕ) where
   word-skipped : (p : ℕ) → p + 1 < length fs → le16 (fs ++ gs) p ≡ le16 fs p
@@ -26,9 +26,18 @@ module _ (fs gs : List ℕ) where
   -- The children of a record whose kind, of the code x, has no group.
   module _ (x : ℕ) (none : groupOf x ≡ 0) where
     count-told : (n : ℕ) → childrenIn x n ≡ firstChildrenOf x
-    count-told n = ap (λ t. choose t (firstChildrenOf x) (n / 2 - countOf x)) (of-eq none)
+    count-told n = ap (λ t. choose t (firstChildrenOf x) (choose (eqb (firstChildrenOf x) 0) (n / 2 - countOf x) (firstChildrenOf x))) (of-eq none)
+
+    no-entries : (n : ℕ) → entriesIn x n ≡ 0
+    no-entries n = ap (λ t. choose t 0 (choose (eqb (firstChildrenOf x) 0) 0 (n / 2 - (countOf x + firstChildrenOf x + lastOf x)))) (of-eq none)
+
+    side-only : (hs : List ℕ) → childrenOf x hs ≡ sideOf x hs
+    unfolding words
+    side-only hs = ap (λ n. sideOf x hs ++ entriesFrom hs (2 * (countOf x + childrenIn x (length hs))) n) (no-entries (length hs)) ∙ append-nil (sideOf x hs)
 
     pub children-skipped : Fitting x fs → childrenOf x (fs ++ gs) ≡ childrenOf x fs
     children-skipped f =
         let c = count-told (length fs) in
-        ap (λ m. words (fs ++ gs) (2 * countOf x) m) (count-told (length (fs ++ gs)) ∙ sym c) ∙ words-skipped (2 * countOf x) (childrenIn x (length fs)) (omega arith)
+        side-only (fs ++ gs)
+        ∙ (ap (λ m. words (fs ++ gs) (2 * countOf x) m) (count-told (length (fs ++ gs)) ∙ sym c)
+        ∙ (words-skipped (2 * countOf x) (childrenIn x (length fs)) (omega arith) ∙ sym (side-only fs)))

@@ -81,12 +81,17 @@ pub record Sized (x : ℕ) : Type 0 where
   pub between : leastOf x ≤ mostOf x
   pub group : groupOf x ≤ 2
 
--- How often the group stands in a record of the code x whose fields take n bytes; and how many children such a record has: as many as its kind, unless it has a group, which is one child; then as many as the length leaves behind the fields that are none.
+-- How often the group stands in a record of the code x whose fields take n bytes.
 abbrev pub timesIn : ℕ → ℕ → ℕ
 timesIn x n = goesInto (groupOf x) (n / 2 - (firstOf x + lastOf x))
 
+-- How many children stand side by side in such a record: as many as its kind has, unless it has a group and no child before it, which is then one child; then as many as the length leaves behind the fields that are none.
 abbrev pub childrenIn : ℕ → ℕ → ℕ
-childrenIn x n = choose (eqb (groupOf x) 0) (firstChildrenOf x) (n / 2 - countOf x)
+childrenIn x n = choose (eqb (groupOf x) 0) (firstChildrenOf x) (choose (eqb (firstChildrenOf x) 0) (n / 2 - countOf x) (firstChildrenOf x))
+
+-- How many entries stand behind these: a group behind children is one of entries (card 6), as many as the length leaves between the other fields.
+abbrev pub entriesIn : ℕ → ℕ → ℕ
+entriesIn x n = choose (eqb (groupOf x) 0) 0 (choose (eqb (firstChildrenOf x) 0) 0 (n / 2 - (countOf x + firstChildrenOf x + lastOf x)))
 
 -- The code of a number, 0 where it is no kind's; and of each number up to the last kind's.
 unfoldable pub codeNumber : ℕ → ℕ

@@ -3,7 +3,7 @@
 ghost use mathlib.Core.Path.{_≡_};
 ghost use Prim.Native.Nat.{_*_, _≤_, _<_};
 ghost use lib.Dec.{eqb};
-ghost use Rattle.check_records.specs.Codes.{codeCount, kindCodes, codeAt, sizeOf, firstChildrenOf, groupOf, countOf, lastOf, leastOf, classesOf, sectionOf, firstOf, Sized, timesIn, childrenIn};
+ghost use Rattle.check_records.specs.Codes.{codeCount, kindCodes, codeAt, sizeOf, firstChildrenOf, groupOf, countOf, lastOf, leastOf, classesOf, sectionOf, firstOf, Sized, timesIn, childrenIn, entriesIn};
 
 // The sections.
 pub const DOMAINS: u32 = 1;
@@ -49,6 +49,10 @@ const SECOND: u32 = 8;
 const THIRD: u32 = 64;
 
 const FOURTH: u32 = 512;
+
+const FIFTH: u32 = 4096;
+
+const SIXTH: u32 = 32768;
 
 // The codes, by what such a record has. A domain has a mask.
 pub const MASK: u32 = 6 + SECTION * DOMAINS + LEAD + CLASSES * CLASS_FREE;
@@ -139,6 +143,17 @@ pub const TYPE_CHILD_AND_FREE: u32 = 10
     + LAST
     + CLASSES * (SECOND * CLASS_TERM + THIRD * CLASS_FREE);
 
+// Card 6: a match, a type, the stack, two branches, up to eight entries, and the close. The type of stacks is a NO_FIELDS, the
+// current stack a TYPE, a keep a TYPE_AND_THREE_CHILDREN.
+pub const TYPE_THREE_CHILDREN_ENTRIES_AND_TRUTH: u32 = 14
+    + SECTION * TERMS
+    + LEAD
+    + CHILDREN * 3
+    + GROUP
+    + LAST
+    + CLASSES * (SECOND * CLASS_TERM + THIRD * CLASS_TERM + FOURTH * CLASS_TERM)
+    + CLASSES * (FIFTH * CLASS_ENTRY + SIXTH * CLASS_TRUTH);
+
 // How many numbers the table has a place for: up to the last kind's.
 const KIND_COUNT: u16 = 61;
 
@@ -169,7 +184,7 @@ const KINDS: [u32; 61] = [
     TYPE_AND_DOMAIN,
     DOMAIN,
     METHODS,
-    0,
+    NO_FIELDS,
     0,
     0,
     0,
@@ -199,9 +214,9 @@ const KINDS: [u32; 61] = [
     TYPE,
     TYPE_AND_BODIES,
     TYPE_CHILD_AND_FREE,
-    0,
-    0,
-    0,
+    TYPE,
+    TYPE_AND_THREE_CHILDREN,
+    TYPE_THREE_CHILDREN_ENTRIES_AND_TRUTH,
     0,
     TYPE_AND_CHILD,
 ];
@@ -320,9 +335,9 @@ pub fn group_times(code: u32, bytes: usize) -> usize
     (all - others) / group
 }
 
-// How many children stand in a record whose fields take so many bytes: as many as its kind has; where there is a group,
-// which is one child, as many as the length leaves behind the other fields. The children among the first fields stand in the
-// code right below the group's fields, and both are read at once.
+// How many children stand side by side in a record whose fields take so many bytes: as many as its kind has; where there is
+// a group of one child and no child before it, as many as the length leaves behind the other fields. The children among the
+// first fields stand in the code right below the group's fields, and both are read at once.
 pub fn child_count(code: u32, bytes: usize) -> usize
     requires { ⌜ 2 * countOf code ≤ bytes ⌝ }
     ensures { λ r. ⌜ r ≡ childrenIn code bytes ⌝ }
@@ -331,5 +346,28 @@ pub fn child_count(code: u32, bytes: usize) -> usize
     if told < 4 {
         return told;
     }
+    if told % 4 != 0 {
+        return told % 4;
+    }
     bytes / 2 - field_count(code)
+}
+
+// How many entries stand in a record whose fields take so many bytes (document 02, card 6): a group behind children is one of
+// entries, as many as the length leaves between the other fields.
+pub fn entry_count(code: u32, bytes: usize) -> usize
+    ensures { λ r. ⌜ r ≡ entriesIn code bytes ⌝ }
+{
+    let told = (code / CHILDREN % 16) as usize;
+    if told < 4 {
+        return 0;
+    }
+    if told % 4 == 0 {
+        return 0;
+    }
+    let others = field_count(code) + told % 4 + last_count(code);
+    let all = bytes / 2;
+    if all < others {
+        return 0;
+    }
+    all - others
 }

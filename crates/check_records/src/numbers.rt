@@ -1,7 +1,7 @@
 // Domain numbers, type numbers and term numbers, which are never used for one another (document 01, "The image"), how many
 // there are of each, what the validator's tables hold of each, and the parts of a type's descriptor.
 ghost use mathlib.Core.Path.{_≡_};
-ghost use Prim.Native.Nat.{_+_, _*_, _<_};
+ghost use Prim.Native.Nat.{suc, _+_, _*_, _<_};
 ghost use lib.ListN.{length, getD};
 ghost use lib.Dec.{ltb};
 ghost use Rattle.image.specs.Bytes.{fieldAt};
@@ -167,6 +167,14 @@ pub fn child_at(image: &[u8], at: usize, i: usize) -> TermNo
     ensures { λ r. ⌜ r .0 ≡ fieldAt (now (image .entry)) at i ⌝ }
 {
     TermNo(crate::words::field_at(image, at, i))
+}
+
+// The term that an entry of a match names (document 02, card 6): 0 stands for anything, any other number is a term's plus 1.
+pub fn entry_term(entry: u16) -> TermNo
+    requires { ⌜ 0 < entry ⌝ }
+    ensures { λ r. ⌜ entry ≡ suc (r .0) ⌝ }
+{
+    TermNo(entry - 1)
 }
 
 // A kind and three fields as one number, each a byte of it.

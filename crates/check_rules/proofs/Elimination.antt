@@ -4,14 +4,16 @@ use native.Mathlib.Omega.{arith}
 use mathlib.Core.Path.{_≡_, refl, sym, _∙_}
 use mathlib.Core.Bool.{Bool, true, false, _||_}
 use mathlib.Core.List.{List, [], _∷_}
+use lib.ListN.{length}
 use lib.Dec.{eqb, leb, ltb}
 use Rattle.laws.specs.Tests.{all}
 use Rattle.image.specs.Kinds.{TermKind, termRow, leadOf}
 use Rattle.laws.proofs.Booleans.{no-path, lt-of, le-of, eq-of}
 use Rattle.image.proofs.KindNumbers.{same-term-kind}
+use Rattle.image.proofs.Offsets.{sideBySide}
 use Rattle.image.proofs.EveryKind.{everyOf, Everywhere, ofTerms, at-term, or-else}
-use Rattle.check_rules.specs.Fields.{countIn}
-use Rattle.check_rules.proofs.Counts.{childless, no-children}
+use Rattle.check_rules.specs.Fields.{childrenIn}
+use Rattle.check_rules.proofs.Counts.{childless, no-children, children-counted}
 
 -- The number m is none of some kinds', the last first; k has the number of one of them.
 abbrev pub apart : ℕ → List TermKind → Type 0
@@ -41,17 +43,17 @@ one-before m r k e = eq-of (left-over (λ k. eqb (leadOf k) 1) longLead refl m r
 -- The kinds with children.
 abbrev pub withChildren : List TermKind
 withChildren =
-    TermKind.call ∷ TermKind.obj ∷ TermKind.byte ∷ TermKind.lower ∷ TermKind.store ∷ TermKind.read ∷ TermKind.newCell ∷ TermKind.install ∷ TermKind.adv ∷ TermKind.pcd ∷ TermKind.mark
+    TermKind.match ∷ TermKind.keep ∷ TermKind.call ∷ TermKind.obj ∷ TermKind.byte ∷ TermKind.lower ∷ TermKind.store ∷ TermKind.read ∷ TermKind.newCell ∷ TermKind.install ∷ TermKind.adv ∷ TermKind.pcd ∷ TermKind.mark
     ∷ TermKind.arith ∷ TermKind.app ∷ TermKind.fun ∷ TermKind.split ∷ TermKind.pair ∷ TermKind.ite ∷ TermKind.print ∷ TermKind.seq ∷ []
 
-pub none-below : (fs : List ℕ) (m : ℕ) → apart m withChildren → (k : TermKind) → m ≡ termRow k .number → countIn fs k ≡ 0
+pub none-below : (fs : List ℕ) (m : ℕ) → apart m withChildren → (k : TermKind) → m ≡ termRow k .number → length (childrenIn fs k) ≡ 0
 unfolding everyOf all
-none-below fs m r k e = no-children fs k (left-over childless withChildren refl m r k e)
+none-below fs m r k e = children-counted fs k (left-over (λ k. sideBySide k) withChildren refl m r k e) ∙ no-children fs k (left-over childless withChildren refl m r k e)
 
 -- The kinds that may have children, but the last.
 abbrev pub beforeLast : List TermKind
 beforeLast =
-    TermKind.call ∷ TermKind.obj ∷ TermKind.abort ∷ TermKind.lower ∷ TermKind.store ∷ TermKind.read ∷ TermKind.newCell ∷ TermKind.install ∷ TermKind.adv ∷ TermKind.pcd ∷ TermKind.mark ∷ TermKind.newLabel
+    TermKind.match ∷ TermKind.keep ∷ TermKind.stack ∷ TermKind.call ∷ TermKind.obj ∷ TermKind.abort ∷ TermKind.lower ∷ TermKind.store ∷ TermKind.read ∷ TermKind.newCell ∷ TermKind.install ∷ TermKind.adv ∷ TermKind.pcd ∷ TermKind.mark ∷ TermKind.newLabel
     ∷ TermKind.arith ∷ TermKind.app ∷ TermKind.fun ∷ TermKind.split ∷ TermKind.pair ∷ TermKind.ite ∷ TermKind.print ∷ TermKind.seq ∷ []
 
 pub last-kind : (m : ℕ) → apart m beforeLast → (k : TermKind) → m ≡ termRow k .number → 35 < m → k ≡ TermKind.byte
@@ -62,11 +64,12 @@ last-kind m r k e l =
     same-term-kind k TermKind.byte (eq-of (or-else (leb (termRow k .number) 35) (eqb (termRow k .number) 60) (left-over isLast beforeLast refl m r k e) (λ z. n (le-of z))))
 
 -- Constants and variables have no children.
-pub leaf-childless : (fs : List ℕ) (k : TermKind) → termRow k .number ≤ 35 → countIn fs k ≡ 0
+pub leaf-childless : (fs : List ℕ) (k : TermKind) → termRow k .number ≤ 35 → length (childrenIn fs k) ≡ 0
 unfolding everyOf all
 leaf-childless fs k l =
     let n : 35 < termRow k .number → ⊥ = λ z. omega arith in
-    no-children fs k (or-else (ltb 35 (termRow k .number)) (childless k) (at-term (λ k. ltb 35 (termRow k .number) || childless k) refl k) (λ z. n (lt-of z)))
+    children-counted fs k (or-else (ltb 35 (termRow k .number)) (sideBySide k) (at-term (λ k. ltb 35 (termRow k .number) || sideBySide k) refl k) (λ z. n (lt-of z)))
+    ∙ no-children fs k (or-else (ltb 35 (termRow k .number)) (childless k) (at-term (λ k. ltb 35 (termRow k .number) || childless k) refl k) (λ z. n (lt-of z)))
 
 -- What holds of some kinds holds of a kind that has the number of one of them.
 abbrev Each : (TermKind → Type 0) → List TermKind → Type 0

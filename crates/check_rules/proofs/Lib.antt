@@ -5,6 +5,7 @@ pub mod Lists
 pub mod Masks
 pub mod Scopes
 pub mod Counts
+pub mod Matches
 pub mod Elimination
 pub mod Located
 pub mod OnDescriptors

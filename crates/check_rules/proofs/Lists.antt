@@ -3,8 +3,8 @@ use Prim.Native.Nat.{ℕ, zero, suc, _+_, _≤_, _<_}
 use native.Mathlib.Omega.{arith}
 use mathlib.Core.Path.{_≡_, refl, sym, ap, _∙_}
 use native.Mathlib.Numerals.{add-one}
-use mathlib.Core.Bool.{Bool, true, false, _&&_}
-use mathlib.Core.List.{List, [], _∷_, map}
+use mathlib.Core.Bool.{Bool, true, false, _&&_, and-assoc}
+use mathlib.Core.List.{List, [], _∷_, _++_, map}
 use lib.ListN.{length, getD, take, drop, set, replicate, length-take, List·getD-eq-default, drop-of-length-le}
 use lib.Seq.{drop-cons, getD-take, getD-set-same, getD-set-other}
 use lib.Dec.{eqb, ltb}
@@ -73,3 +73,14 @@ tests-both p q (x ∷ xs) = go (p x) (q x) (allOf p xs) (allOf q xs) (allOf (λ 
     go true false true d e h = refl
     go true false false d e h = refl
     go false b c d e h = refl
+
+-- A test of each element of a mapped list, and of two lists.
+pub each-mapped : (p : ℕ → Bool) (f : ℕ → ℕ) (xs : List ℕ) → allOf p (map f xs) ≡ allOf (λ x. p (f x)) xs
+unfolding allOf
+each-mapped p f [] = refl
+each-mapped p f (x ∷ xs) = ap (λ b. p (f x) && b) (each-mapped p f xs)
+
+pub each-append : (p : ℕ → Bool) (xs ys : List ℕ) → allOf p (xs ++ ys) ≡ (allOf p xs && allOf p ys)
+unfolding allOf
+each-append p [] ys = refl
+each-append p (x ∷ xs) ys = ap (λ b. p x && b) (each-append p xs ys) ∙ sym (and-assoc (p x) (allOf p xs) (allOf p ys))

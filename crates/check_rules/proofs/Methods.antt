@@ -134,7 +134,7 @@ module _ (x y z : Bool) where
 
 -- How many bodies there are, as the rule counts them.
 pub bodies-counted : (b fs : List ℕ) → length (described (recordsOf b) (typesIn b fs TermKind.obj)) ≡ countIn fs TermKind.obj
-bodies-counted b fs = length-map (typesIn b fs TermKind.obj) (λ a. describe (recordsOf b) a) ∙ types-length b fs TermKind.obj
+bodies-counted b fs = length-map (typesIn b fs TermKind.obj) (λ a. describe (recordsOf b) a) ∙ types-length b fs TermKind.obj refl
 
 -- A call: its object is its one child, the method's number its one other field.
 module _ (b fs : List ℕ) (p : Setting ℕ) (place : ℕ) where

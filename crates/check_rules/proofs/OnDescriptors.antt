@@ -1,7 +1,7 @@
 -- The rule of a term, on the descriptors of the types and the masks of the domains, comes to what the rule of the definition comes to.
 use Prim.Native.Nat.{ℕ, zero, suc, _+_, _-_, _*_, _<_}
 use native.Mathlib.Omega.{arith}
-use mathlib.Core.Path.{_≡_, refl, sym, ap, _∙_}
+use mathlib.Core.Path.{_≡_, refl, sym, ap, subst, _∙_}
 use mathlib.Core.Bool.{Bool, true, _&&_}
 use mathlib.Core.List.{List, [], _∷_, _++_, map}
 use lib.ListN.{length, getD, length-map}
@@ -14,21 +14,23 @@ use Rattle.image.specs.Records.{times, asChild, given}
 use Rattle.image.specs.Layout.{recordsOf}
 use Rattle.image.specs.Types.{typeNo}
 use Rattle.image.proofs.Words.{words-at}
+use Rattle.image.proofs.Offsets.{sideBySide}
 use Rattle.image.proofs.Laid.{Below}
 use Rattle.verdict.specs.declared.Verdict.{Verdict}
 use Rattle.verdict.specs.Domains.{leq}
 use Rattle.verdict.specs.Settings.{Setting}
 use Rattle.verdict.specs.Rules.{Descriptor, Rule, fits, fitsAt, is, rule}
-use Rattle.verdict.specs.Check.{describe, described}
+use Rattle.verdict.specs.Check.{describe, described, typeNos}
 use Rattle.verdict.proofs.Descriptors.{same-rule}
 use Rattle.check_records.specs.Heads.{fieldIn}
 use Rattle.check_records.specs.Descriptors.{descriptorKind, descriptorField0, descriptorField1}
-use Rattle.check_rules.specs.Lent.{Types, Lent, Masks, IsType}
-use Rattle.check_rules.specs.Fields.{countIn, childrenIn, othersIn, typesIn, ruleIn, Typed, AtField, Labels}
-use Rattle.check_rules.specs.Judged.{judged, descriptorIs, bitOf, labelOf, labelAbove}
+use Rattle.check_rules.specs.Lent.{Types, Lent, Masks, IsType, IsTerm}
+use Rattle.check_rules.specs.Fields.{countIn, childrenIn, othersIn, typesIn, ruleIn, Typed, AtField, Labels, entryTerms, Entries}
+use Rattle.check_rules.specs.Judged.{judged, descriptorIs, bitOf, labelOf, labelAbove, cutOf}
 use Rattle.check_rules.proofs.Small.{alone, accepted}
 use Rattle.laws.proofs.Lists.{map-at}
-use Rattle.check_rules.proofs.Lists.{tests-mapped, tests-both}
+use Rattle.check_rules.proofs.Lists.{tests-mapped, tests-both, each-mapped}
+use Rattle.check_rules.proofs.Matches.{match-children, entry-there}
 use Rattle.check_rules.proofs.Counts.{giving-fields, children-counted}
 use Rattle.check_rules.proofs.Elimination.{constants}
 use Rattle.check_rules.proofs.Descriptors.{unpacked, describes}
@@ -85,6 +87,10 @@ module _ {b descriptors fs : List ℕ} (K : Types b descriptors) (t : Typed b fs
   unfolding words
   new-label-right M = one-test place _ _ ∙ on-masks K t place TermKind.newLabel p tt M
 
+  pub stack-right : judged place (record { bound = true; typed = descriptorIs (ownDescriptor descriptors fs) TypeKind.stack; allowed = true }) ≡ judged place (ruleIn b fs TermKind.stack p)
+  unfolding words
+  stack-right = one-test place _ _ ∙ on-descriptors K t place TermKind.stack p tt
+
   -- A constant: the number of its kind is 16 more than that of its type's.
   pub constant-right : (k : TermKind) → termRow k .number < 35
       → judged place (record { bound = true; typed = eqb (descriptorKind (ownDescriptor descriptors fs)) (termRow k .number - 16); allowed = true }) ≡ judged place (ruleIn b fs k p)
@@ -120,24 +126,24 @@ bodies-are fs =
     let n : c ≡ countIn fs TermKind.obj = omega arith in
     side-by-side fs 2 c method-body ∙ ap (words fs 2) n
 
-pub types-length : (b fs : List ℕ) (k : TermKind) → length (typesIn b fs k) ≡ countIn fs k
-types-length b fs k = length-map (childrenIn fs k) (λ e. typeNo (recordsOf b) e) ∙ children-counted fs k
+pub types-length : (b fs : List ℕ) (k : TermKind) → sideBySide k ≡ true → length (typesIn b fs k) ≡ countIn fs k
+types-length b fs k side = length-map (childrenIn fs k) (λ e. typeNo (recordsOf b) e) ∙ children-counted fs k side
 
-type-at : (b fs : List ℕ) (k : TermKind) → childrenIn fs k ≡ words fs 2 (countIn fs k) → (i : ℕ) → i < countIn fs k → getD (typesIn b fs k) i 0 ≡ typeAtField b fs (1 + i)
-type-at b fs k are i l =
+type-at : (b fs : List ℕ) (k : TermKind) → sideBySide k ≡ true → childrenIn fs k ≡ words fs 2 (countIn fs k) → (i : ℕ) → i < countIn fs k → getD (typesIn b fs k) i 0 ≡ typeAtField b fs (1 + i)
+type-at b fs k side are i l =
     let e : 2 + 2 * i ≡ 2 * (1 + i) = omega arith in
-    let n = children-counted fs k in
+    let n = children-counted fs k side in
     map-at (λ e. typeNo (recordsOf b) e) (childrenIn fs k) i 0 0 (omega arith)
     ∙ ap (λ e. typeNo (recordsOf b) e) (ap (λ es. getD es i 0) are ∙ (words-at fs 2 (countIn fs k) i l ∙ ap (le16 fs) e))
 
 pub labels-length : (b fs : List ℕ) → length (typesIn b fs TermKind.pcd) ≡ countIn fs TermKind.pcd
-labels-length b fs = types-length b fs TermKind.pcd
+labels-length b fs = types-length b fs TermKind.pcd refl
 
 pub label-at : (b fs : List ℕ) (i : ℕ) → i < countIn fs TermKind.pcd → getD (typesIn b fs TermKind.pcd) i 0 ≡ typeAtField b fs (1 + i)
-label-at b fs = type-at b fs TermKind.pcd (labels-are fs)
+label-at b fs = type-at b fs TermKind.pcd refl (labels-are fs)
 
 pub body-at : (b fs : List ℕ) (i : ℕ) → i < countIn fs TermKind.obj → getD (typesIn b fs TermKind.obj) i 0 ≡ typeAtField b fs (1 + i)
-body-at b fs = type-at b fs TermKind.obj (bodies-are fs)
+body-at b fs = type-at b fs TermKind.obj refl (bodies-are fs)
 
 below-all : (n : ℕ) (ts : List ℕ) → ((i : ℕ) → i < length ts → getD ts i 0 < n) → Below n ts
 below-all n [] h = tt
@@ -166,3 +172,32 @@ module _ {b terms descriptors ms fs : List ℕ} (G : Lent b terms descriptors) (
       ap (λ q. judged place (record { bound = true; typed = descriptorIs (ownDescriptor descriptors fs) TypeKind.pcd && q; allowed = allOf (labelAbove ms descriptors (descriptorField1 (ownDescriptor descriptors fs))) ts })) f
       ∙ (ap (λ q. judged place (fitsAt (descriptorIs (ownDescriptor descriptors fs) TypeKind.pcd ∷ all (map (λ a. is TypeKind.label a) (map descriptor ts)) ∷ all (map (λ a. eqb (a .part 0) (descriptorField0 (ownDescriptor descriptors fs))) (map descriptor ts)) ∷ []) q)) (sym z)
       ∙ on-masks (G .types) t place TermKind.pcd p labels-typed M)
+
+-- Card 6: a match. Each of some terms is of a type that is there.
+terms-typed : {b terms descriptors : List ℕ} → Lent b terms descriptors → (es : List ℕ) → ((i : ℕ) → i < length es → IsTerm b (getD es i 0)) → Below (length (recordsOf b .types)) (typeNos (recordsOf b) es)
+terms-typed G [] h = tt
+terms-typed G (e ∷ es) h = (rw (← type-in (G .terms) (h 0 (omega arith))) (typed-in (G .terms) (h 0 (omega arith)) .type), terms-typed G es (λ i l. h (suc i) (omega arith)))
+
+module _ {b terms descriptors fs : List ℕ} (G : Lent b terms descriptors) (t : Typed b fs) (stack : AtField b fs 1) (first : AtField b fs 2) (second : AtField b fs 3) (N : Entries b fs) (place : ℕ) (p : Setting ℕ) where
+  abbrev four : List ℕ
+  four = fieldIn fs 1 ∷ fieldIn fs 2 ∷ fieldIn fs 3 ∷ entryTerms fs
+
+  four-typed : Below (length (recordsOf b .types)) (typeNos (recordsOf b) four)
+  four-typed = (at-field-typed G stack, (at-field-typed G first, (at-field-typed G second, terms-typed G (entryTerms fs) (entry-there b fs N))))
+
+  match-typed : Below (length (recordsOf b .types)) (typesIn b fs TermKind.match)
+  match-typed = subst (λ es. Below (length (recordsOf b .types)) (typeNos (recordsOf b) es)) (sym (match-children fs)) four-typed
+
+  cuts-are : allOf (cutOf (recordsOf b) descriptors) (entryTerms fs) ≡ all (map (λ a. is TypeKind.pcd a) (describedIn b descriptors (typeNos (recordsOf b) (entryTerms fs))))
+  cuts-are =
+      sym (tests-mapped (λ a. unpacked (recordsOf b) a (getD descriptors a 0)) (λ a. is TypeKind.pcd a) (typeNos (recordsOf b) (entryTerms fs))
+      ∙ each-mapped (λ a. descriptorIs (getD descriptors a 0) TypeKind.pcd) (λ e. typeNo (recordsOf b) e) (entryTerms fs))
+
+  pub match-right : judged place (fits (descriptorIs (descriptorAtField b descriptors fs 1) TypeKind.stack ∷ all (eqb (typeAtField b fs 2) (fieldIn fs 0) ∷ eqb (typeAtField b fs 3) (fieldIn fs 0) ∷ allOf (cutOf (recordsOf b) descriptors) (entryTerms fs) ∷ []) ∷ [])) ≡ judged place (ruleIn b fs TermKind.match p)
+  unfolding all
+  match-right =
+      let first : Bool = descriptorIs (descriptorAtField b descriptors fs 1) TypeKind.stack in
+      let same : Bool → List Bool = λ q. eqb (typeAtField b fs 2) (fieldIn fs 0) ∷ eqb (typeAtField b fs 3) (fieldIn fs 0) ∷ q ∷ [] in
+      ap (λ q. judged place (record { bound = true; typed = first && q; allowed = true })) (alone (all (same (allOf (cutOf (recordsOf b) descriptors) (entryTerms fs)))) ∙ ap (λ q. all (same q)) cuts-are)
+      ∙ (ap (λ es. judged place (rule (leq (recordsOf b)) (p .context) (p .dom) (unpacked (recordsOf b) (fieldIn fs 0) (ownDescriptor descriptors fs)) (othersIn fs TermKind.match) (describedIn b descriptors (typeNos (recordsOf b) es)) TermKind.match)) (sym (match-children fs))
+      ∙ on-descriptors (G .types) t place TermKind.match p match-typed)

@@ -1,10 +1,12 @@
--- The fields of a term as the part of the image that they occupy (document 01, "The image"): what a decoder reads there, and the rule of a term on what it reads. A part may hold more than its kind needs: fields are counted from its front, as the kind's row has them, and only a pointcut's labels and an object's bodies are as many as the part holds.
-use Prim.Native.Nat.{ℕ, _+_, _*_, _<_}
+-- The fields of a term as the part of the image that they occupy (document 01, "The image"): what a decoder reads there, and the rule of a term on what it reads. A part may hold more than its kind needs: fields are counted from its front, as the kind's row has them, and only a pointcut's labels, an object's bodies and a match's entries are as many as the part holds.
+use Prim.Native.Nat.{ℕ, _+_, _*_, _≤_, _<_}
+use mathlib.Core.Path.{_≡_}
 use mathlib.Core.List.{List}
-use lib.ListN.{length}
+use lib.ListN.{length, getD}
 use Rattle.image.specs.Bytes.{words}
+use Rattle.image.specs.Limits.{entryLimit}
 use Rattle.image.specs.Kinds as Kinds
-use Rattle.image.specs.Kinds.{Field, TermKind, termRow, bodyOf}
+use Rattle.image.specs.Kinds.{Field, TermKind, termRow, bodyOf, leadOf}
 use Rattle.image.specs.Records.{times, asChild, asOther, given}
 use Rattle.image.specs.TermFields.{giving}
 use Rattle.image.specs.Layout.{recordsOf}
@@ -12,7 +14,7 @@ use Rattle.image.specs.Types.{termPlace, typeField, typeOf}
 use Rattle.verdict.specs.Settings.{Setting, contextOf, domainOf}
 use Rattle.verdict.specs.Rules.{Rule}
 use Rattle.verdict.specs.Check.{ruleBy, typeNos}
-use Rattle.check_records.specs.Heads.{fieldsAt, fieldIn}
+use Rattle.check_records.specs.Heads.{fieldsAt, fieldIn, entriesFrom}
 use Rattle.check_rules.specs.Lent.{IsTerm, IsType}
 
 -- The fields of term n.
@@ -26,7 +28,7 @@ classesIn fs k = Kinds.fieldsOf (termRow k) (times (termRow k) (4 + length fs))
 abbrev pub numbersIn : List ℕ → TermKind → List ℕ
 numbersIn fs k = words fs 0 (length (classesIn fs k))
 
--- Its fields that are neither type nor child, its children, how many there are, and the types that they state.
+-- Its fields that are neither type nor child, its children, how many of these stand side by side, and the types that they state.
 abbrev pub othersIn : List ℕ → TermKind → List ℕ
 othersIn fs k = given asOther (classesIn fs k) (numbersIn fs k)
 
@@ -66,3 +68,24 @@ pub record Labels (b fs : List ℕ) : Type 0 where
 pub record Bodies (b fs : List ℕ) : Type 0 where
   pub long : 1 < length fs
   pub each : (i : ℕ) → i < countIn fs TermKind.obj → AtField b fs (1 + i)
+
+-- A part of a term of kind k that has a child j; the first children stand side by side.
+pub record HasChild (fs : List ℕ) (k : TermKind) (j : ℕ) : Type 0 where
+  pub there : j < length (childrenIn fs k)
+  pub long : 2 * (leadOf k + countIn fs k) ≤ length fs
+  pub side : j < countIn fs k → fieldIn fs (leadOf k + j) ≡ getD (childrenIn fs k) j 0
+
+-- Card 6: how many entries the part of a match holds, behind its type, its stack and its branches, and what they give; such a part, in which each entry is 0 or a term's number plus 1, and the close stands behind them.
+abbrev pub firstEntry : ℕ
+firstEntry = 4
+
+abbrev pub entryCount : List ℕ → ℕ
+entryCount fs = times (termRow TermKind.match) (4 + length fs)
+
+abbrev pub entryTerms : List ℕ → List ℕ
+entryTerms fs = entriesFrom fs (2 * firstEntry) (entryCount fs)
+
+pub record Entries (b fs : List ℕ) : Type 0 where
+  pub long : 2 * (firstEntry + entryCount fs) + 1 < length fs
+  pub few : entryCount fs ≤ entryLimit
+  pub each : (i : ℕ) → i < entryCount fs → fieldIn fs (firstEntry + i) ≤ length (recordsOf b .terms)

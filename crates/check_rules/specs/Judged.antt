@@ -9,7 +9,7 @@ use Rattle.image.specs.Limits.{domainLimit}
 use Rattle.laws.specs.Tests.{all, firstFault}
 use Rattle.image.specs.Kinds.{TypeKind, typeRow}
 use Rattle.image.specs.Records.{Layout}
-use Rattle.image.specs.Types.{termPlace, methodCount}
+use Rattle.image.specs.Types.{termPlace, typeNo, methodCount}
 use Rattle.verdict.specs.declared.Verdict.{Verdict}
 use Rattle.verdict.specs.Settings.{Setting}
 use Rattle.verdict.specs.Rules.{Rule, ruleFaults, is, gives}
@@ -43,3 +43,7 @@ labelAbove ms descriptors d t = bitOf ms d (descriptorField1 (getD descriptors t
 -- Type a is an object's, and its method m gives type t (card 3).
 abbrev pub callFits : Layout → ℕ → ℕ → ℕ → Bool
 callFits L a m t = all (is TypeKind.obj (describe L a) ∷ ltb m (methodCount L a) ∷ gives m (describe L a) (describe L t) ∷ [])
+
+-- Term e, of those of a layout, is of a pointcut's type (card 6).
+abbrev pub cutOf : Layout → List ℕ → ℕ → Bool
+cutOf L descriptors e = descriptorIs (getD descriptors (typeNo L e) 0) TypeKind.pcd

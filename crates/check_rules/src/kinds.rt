@@ -19,6 +19,8 @@ pub const ADVICE_TYPE: u16 = 24;
 
 pub const OBJECT_TYPE: u16 = 25;
 
+pub const STACK_TYPE: u16 = 26;
+
 pub const UNIT: u16 = 32;
 
 pub const TRUTH: u16 = 33;
@@ -66,5 +68,11 @@ pub const ABORT: u16 = 53;
 pub const OBJECT: u16 = 54;
 
 pub const CALL: u16 = 55;
+
+pub const STACK: u16 = 56;
+
+pub const KEEP: u16 = 57;
+
+pub const MATCH: u16 = 58;
 
 pub const FRAME_BYTE: u16 = 60;

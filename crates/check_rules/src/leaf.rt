@@ -26,8 +26,8 @@ ghost use Rattle.check_rules.specs.Fields.{ruleIn, Typed};
 ghost use Rattle.check_rules.specs.Judged.{judged, ruleVerdict};
 
 // The type in a place of the scope.
-fn scope_type(scope: &[u8; 128], i: usize) -> TypeNo
-    requires { ⌜ i < 128 ⌝ }
+fn scope_type(scope: &[u8; 576], i: usize) -> TypeNo
+    requires { ⌜ i < 576 ⌝ }
     ensures { λ r. ⌜ r .0 ≡ getD (now (scope .entry)) i 0 ⌝ }
 {
     TypeNo(wide(scope[i]))
@@ -40,8 +40,8 @@ fn wide(x: u8) -> u16
 }
 
 // Variable k, 0 the innermost, is in the scope, and of the type that it has there.
-fn check_variable(image: &[u8], scope: &[u8; 128], len: usize, at: usize, fields: &[u8]) -> Verdict
-    requires { ⌜ Typed (now image) (now fields) × (3 < length (now fields)) × (len ≤ 128) ⌝ }
+fn check_variable(image: &[u8], scope: &[u8; 576], len: usize, at: usize, fields: &[u8]) -> Verdict
+    requires { ⌜ Typed (now image) (now fields) × (3 < length (now fields)) × (len ≤ 576) ⌝ }
     ensures { λ r. ⌜ ((c : ℕ) → r ≡ judged at (ruleIn (now (image .entry)) (now (fields .entry)) TermKind.var (settingIn (now (scope .entry)) len c))) ⌝ }
 {
     let k = other_field(fields) as usize;
@@ -75,10 +75,10 @@ pub fn check_leaf(
     terms: &[u16],
     descriptors: &[u32],
     n: TermNo,
-    scope: &[u8; 128],
+    scope: &[u8; 576],
     len: usize,
 ) -> Verdict
-    requires { ⌜ Lent (now image) (now terms) (now descriptors) × IsTerm (now image) (n .0) × (numberAt (now image) (termPlace (recordsOf (now image)) (n .0)) ≤ 35) × (len ≤ 128) ⌝ }
+    requires { ⌜ Lent (now image) (now terms) (now descriptors) × IsTerm (now image) (n .0) × (numberAt (now image) (termPlace (recordsOf (now image)) (n .0)) ≤ 35) × (len ≤ 576) ⌝ }
     ensures { λ r. ⌜ ((c : ℕ) → r ≡ ruleVerdict (recordsOf (now (image .entry))) (settingIn (now (scope .entry)) len c) (n .0)) ⌝ }
 {
     let at = term_place(image, terms, n);

@@ -3,11 +3,13 @@
 pub mod cells;
 pub mod core;
 pub mod domains;
+pub mod entries;
 pub mod judge;
 pub mod kinds;
 pub mod leaf;
 pub mod objects;
 pub mod rule;
+pub mod stacks;
 pub mod terms;
 pub mod types;
 pub mod watches;

@@ -15,6 +15,9 @@ use crate::core::check_split;
 use crate::kinds;
 use crate::objects::check_call;
 use crate::objects::check_object;
+use crate::stacks::check_keep;
+use crate::stacks::check_match;
+use crate::stacks::check_stack;
 use crate::terms::term_fields;
 use crate::terms::term_kind;
 use crate::terms::term_place;
@@ -71,6 +74,9 @@ pub fn check_rule(
         kinds::ABORT => Verdict::Accepted,
         kinds::OBJECT => check_object(image, types, terms, descriptors, at, fields),
         kinds::CALL => check_call(image, types, terms, descriptors, at, fields, c),
+        kinds::STACK => check_stack(image, descriptors, at, fields),
+        kinds::KEEP => check_keep(image, terms, descriptors, at, fields, c),
+        kinds::MATCH => check_match(image, terms, descriptors, at, fields),
         _ => check_byte(image, terms, descriptors, at, fields),
     }
 }

@@ -1,5 +1,7 @@
 // The records of the terms. The table has their offsets; the head of a record tells its kind; its fields are handed on as the
 // part of the image that they occupy, and a decoder takes its own fields from the front of that part.
+use crate::entries::match_child;
+use crate::entries::match_child_count;
 use crate::kinds;
 use check_records::numbers::TermNo;
 use check_records::numbers::TypeNo;
@@ -14,7 +16,7 @@ ghost use Rattle.image.specs.Layout.{recordsOf};
 ghost use Rattle.image.specs.Types.{termPlace, typeNo};
 ghost use Rattle.check_records.specs.Heads.{fieldIn};
 ghost use Rattle.check_rules.specs.Lent.{Terms, Types, IsTerm, IsType};
-ghost use Rattle.check_rules.specs.Fields.{fieldsOf, countIn, AtField};
+ghost use Rattle.check_rules.specs.Fields.{fieldsOf, childrenIn, countIn, AtField, HasChild};
 
 // The offset of a term's record.
 pub fn term_place(image: &[u8], terms: &[u16], n: TermNo) -> usize
@@ -131,10 +133,10 @@ pub fn bodies_in(fields: &[u8]) -> usize
     fields.len() / 2 - 1
 }
 
-// How many children there are: as many as the kind has; a pointcut and an object have as many as their fields hold.
+// How many children there are: as many as the kind has; a pointcut, an object and a match have as many as their fields hold.
 pub fn child_count(kind: u16, fields: &[u8]) -> usize
     requires { ⌜ 1 < length (now fields) ⌝ }
-    ensures { λ r. ⌜ ((k : TermKind) → kind ≡ termRow k .number → r ≡ countIn (now (fields .entry)) k) ⌝ }
+    ensures { λ r. ⌜ ((k : TermKind) → kind ≡ termRow k .number → r ≡ length (childrenIn (now (fields .entry)) k)) ⌝ }
 {
     match kind {
         kinds::SEQUENCE => 2,
@@ -156,6 +158,19 @@ pub fn child_count(kind: u16, fields: &[u8]) -> usize
         kinds::FRAME_BYTE => 1,
         kinds::OBJECT => bodies_in(fields),
         kinds::CALL => 1,
+        kinds::KEEP => 3,
+        kinds::MATCH => match_child_count(fields),
         _ => 0,
     }
+}
+
+// Child j, so many fields standing before the children: they stand side by side, but for those that the entries of a match name.
+pub fn child_of(kind: u16, fields: &[u8], lead: usize, j: usize) -> TermNo
+    requires { ⌜ ((k : TermKind) × ((kind ≡ termRow k .number) × (lead ≡ leadOf k) × HasChild (now fields) k j)) ⌝ }
+    ensures { λ r. ⌜ ((k : TermKind) → kind ≡ termRow k .number → r .0 ≡ getD (childrenIn (now (fields .entry)) k) j 0) ⌝ }
+{
+    if kind == kinds::MATCH {
+        return match_child(fields, j);
+    }
+    child_at_field(fields, lead + j)
 }

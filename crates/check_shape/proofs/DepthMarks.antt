@@ -27,6 +27,10 @@ module _ (es ds : List ℕ) (d j : ℕ) where
   pub set-end : length es ≤ j → setAll (drop j es) d ds ≡ ds
   set-end h = rw (drop-of-length-le es h) refl
 
+pub set-append : (es gs ds : List ℕ) (d : ℕ) → setAll (es ++ gs) d ds ≡ setAll gs d (setAll es d ds)
+set-append [] gs ds d = refl
+set-append (e ∷ es) gs ds d = set-append es gs (set ds e d) d
+
 -- One term after another, down.
 pub capped-next : (L : Layout) (i : ℕ) (ds es : List ℕ) → 0 < i → children L (i - 1) ≡ es → cappedFrom L i ds ≡ cappedFrom L (i - 1) (setAll es (more (suc depthLimit) (getD ds (i - 1) 0)) ds)
 unfolding cappedFrom

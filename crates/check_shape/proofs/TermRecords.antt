@@ -2,8 +2,9 @@
 use Prim.Native.Nat.{ℕ, _+_, _*_, _≤_, _<_}
 use native.Mathlib.Omega.{arith}
 use mathlib.Core.Path.{_≡_, refl, ap, subst, sym, _∙_}
-use mathlib.Core.List.{List}
-use lib.ListN.{length, getD, take}
+use mathlib.Core.List.{List, _++_}
+use lib.ListN.{length, getD, take, length-append, List·getD-append}
+use lib.Seq.{getD-append-add}
 use Rattle.image.specs.Bytes.{le16}
 use Rattle.image.specs.Records.{Layout}
 use Rattle.image.specs.Layout.{recordsOf}
@@ -11,21 +12,29 @@ use Rattle.image.specs.Types.{termPlace, termKind, children}
 use Rattle.image.proofs.Words.{words-length, words-at}
 use Rattle.image.proofs.Laid.{Below, Good, below-at, layout-good, image-kept}
 use Rattle.check_records.specs.Codes.{countOf, childrenIn}
-use Rattle.check_records.specs.Heads.{fieldIn, childrenOf}
+use Rattle.check_records.specs.Heads.{fieldIn, sideOf}
 use Rattle.check_records.specs.Tables.{Tables}
 use Rattle.check_records.proofs.Codes.{known-code, kind-small}
 use Rattle.check_records.proofs.Parts.{whole, children-fit, children-are}
 use Rattle.check_shape.specs.Records.{TermAt, childrenOfTerm, Lower, DomainsOf, Domains, TermsOf, Terms}
 
--- The children in the fields fs of a record whose kind has the code x: how many there are, and child j.
+-- The children side by side in the fields fs of a record whose kind has the code x: how many there are, and child j.
 module _ (x : ℕ) (fs : List ℕ) where
-  pub children-length : length (childrenOf x fs) ≡ childrenIn x (length fs)
-  children-length = words-length fs (2 * countOf x) (childrenIn x (length fs))
+  pub side-length : length (sideOf x fs) ≡ childrenIn x (length fs)
+  side-length = words-length fs (2 * countOf x) (childrenIn x (length fs))
 
-  pub child-is : (j : ℕ) → j < childrenIn x (length fs) → fieldIn fs (countOf x + j) ≡ getD (childrenOf x fs) j 0
-  child-is j h =
+  pub side-is : (j : ℕ) → j < childrenIn x (length fs) → fieldIn fs (countOf x + j) ≡ getD (sideOf x fs) j 0
+  side-is j h =
       let e : 2 * (countOf x + j) ≡ 2 * countOf x + 2 * j = omega arith in
       ap (le16 fs) e ∙ sym (words-at fs (2 * countOf x) (childrenIn x (length fs)) j h)
+
+-- All of two lists are below n.
+module _ (n : ℕ) (es gs : List ℕ) (l : Lower n (es ++ gs)) where
+  pub lower-first : Lower n es
+  lower-first = record { at = λ j h. let z = l .at j (let a = length-append es gs in omega arith) in subst (λ e. e < n) (List·getD-append es gs 0 j h) z }
+
+  pub lower-rest : Lower n gs
+  lower-rest = record { at = λ j h. let z = l .at (length es + j) (let a = length-append es gs in omega arith) in subst (λ e. e < n) (getD-append-add es gs j 0) z }
 
 pub lower-up : (n m : ℕ) (es : List ℕ) → n ≤ m → Lower n es → Lower m es
 lower-up n m es h l = record { at = λ j k. let z = l .at j k in omega arith }

@@ -35,6 +35,11 @@ module _ (es ds : List ℕ) (d low j : ℕ) where
   unfolding lowAll
   low-end h = rw (drop-of-length-le es h) refl
 
+pub low-append : (es gs ds : List ℕ) (d low : ℕ) → lowAll (es ++ gs) d low ds ≡ lowAll gs d (lowAll es d low ds) (setAll es d ds)
+unfolding lowAll
+low-append [] gs ds d low = refl
+low-append (e ∷ es) gs ds d low = low-append es gs (set ds e d) d (lowered low (getD ds e 0) e)
+
 -- One term after another, down.
 pub low-down : (L : Layout) (i low : ℕ) (ds es : List ℕ) → 0 < i → children L (i - 1) ≡ es
     → lowFrom L i low ds ≡ lowFrom L (i - 1) (lowAll es (more (suc depthLimit) (getD ds (i - 1) 0)) low ds) (setAll es (more (suc depthLimit) (getD ds (i - 1) 0)) ds)

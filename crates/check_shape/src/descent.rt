@@ -11,10 +11,12 @@ ghost use mathlib.Core.Path.{_≡_};
 ghost use Prim.Native.Nat.{_<_};
 ghost use lib.ListN.{length, replicate};
 ghost use Rattle.image.specs.Limits.{termLimit};
+ghost use Rattle.image.specs.Kinds.{an-entry};
+ghost use Rattle.image.specs.Records.{asChild};
 ghost use Rattle.image.specs.Layout.{recordsOf};
 ghost use Rattle.verdict.specs.Shape.{setAll};
 ghost use Rattle.check_records.specs.Codes.{kindCodes};
-ghost use Rattle.check_records.specs.Heads.{childrenOf, Fitting};
+ghost use Rattle.check_records.specs.Heads.{sideOf, entriesOf, childrenOf, Fitting};
 ghost use Rattle.check_shape.specs.Records.{Lower, Terms};
 ghost use Rattle.check_shape.specs.Marks.{lowAll, lowFrom, cappedFrom};
 ghost use Rattle.check_shape.specs.Checks.{termsRight};
@@ -22,10 +24,10 @@ ghost use Rattle.check_shape.specs.Checks.{termsRight};
 // The number of no term.
 const TERM_LIMIT: u16 = 1024;
 
-// The depth d for each child in a term's fields, and the lowest term used again.
-fn mark_children(fields: &[u8], code: u32, d: u8, low: TermNo, depths: &mut [u8]) -> TermNo
-    requires { ⌜ Fitting code (now fields) × Lower (length (now depths)) (childrenOf code (now fields)) ⌝ }
-    ensures { λ r. ⌜ (r .0 ≡ lowAll (childrenOf code (now (fields .entry))) d (low .0) (now (depths .entry))) × (now (depths .exit) ≡ setAll (childrenOf code (now (fields .entry))) d (now (depths .entry))) ⌝ }
+// The depth d for each child side by side in a term's fields, and the lowest term used again.
+fn mark_side(fields: &[u8], code: u32, d: u8, low: TermNo, depths: &mut [u8]) -> TermNo
+    requires { ⌜ Fitting code (now fields) × Lower (length (now depths)) (sideOf code (now fields)) ⌝ }
+    ensures { λ r. ⌜ (r .0 ≡ lowAll (sideOf code (now (fields .entry))) d (low .0) (now (depths .entry))) × (now (depths .exit) ≡ setAll (sideOf code (now (fields .entry))) d (now (depths .entry))) ⌝ }
 {
     let first = check_records::kinds::field_count(code);
     let count = check_records::kinds::child_count(code, fields.len());
@@ -38,6 +40,47 @@ fn mark_children(fields: &[u8], code: u32, d: u8, low: TermNo, depths: &mut [u8]
         j += 1;
     }
     next
+}
+
+// The same for the child that an entry names (document 02, card 6); 0 names none.
+fn mark_entry(entry: u16, d: u8, low: TermNo, depths: &mut [u8]) -> TermNo
+    requires { ⌜ Lower (length (now depths)) (asChild an-entry entry) ⌝ }
+    ensures { λ r. ⌜ (r .0 ≡ lowAll (asChild an-entry entry) d (low .0) (now (depths .entry))) × (now (depths .exit) ≡ setAll (asChild an-entry entry) d (now (depths .entry))) ⌝ }
+{
+    if entry == 0 {
+        return low;
+    }
+    let e = check_records::numbers::entry_term(entry);
+    let next = crate::uses::lowest(low, mark_of(depths, e), e);
+    set_mark(depths, e, d);
+    next
+}
+
+// The same for the entries in a term's fields, of which only a match has any.
+fn mark_entries(fields: &[u8], code: u32, d: u8, low: TermNo, depths: &mut [u8]) -> TermNo
+    requires { ⌜ Fitting code (now fields) × Lower (length (now depths)) (entriesOf code (now fields)) ⌝ }
+    ensures { λ r. ⌜ (r .0 ≡ lowAll (entriesOf code (now (fields .entry))) d (low .0) (now (depths .entry))) × (now (depths .exit) ≡ setAll (entriesOf code (now (fields .entry))) d (now (depths .entry))) ⌝ }
+{
+    let before = check_records::kinds::field_count(code);
+    let first = before + check_records::kinds::child_count(code, fields.len());
+    let count = check_records::kinds::entry_count(code, fields.len());
+    let mut next = low;
+    let mut j: usize = 0;
+    while j < count {
+        let entry = check_records::fields::field(fields, first + j);
+        next = mark_entry(entry, d, next, depths);
+        j += 1;
+    }
+    next
+}
+
+// The same for all children in a term's fields, in their order.
+fn mark_children(fields: &[u8], code: u32, d: u8, low: TermNo, depths: &mut [u8]) -> TermNo
+    requires { ⌜ Fitting code (now fields) × Lower (length (now depths)) (childrenOf code (now fields)) ⌝ }
+    ensures { λ r. ⌜ (r .0 ≡ lowAll (childrenOf code (now (fields .entry))) d (low .0) (now (depths .entry))) × (now (depths .exit) ≡ setAll (childrenOf code (now (fields .entry))) d (now (depths .entry))) ⌝ }
+{
+    let next = mark_side(fields, code, d, low, depths);
+    mark_entries(fields, code, d, next, depths)
 }
 
 // The depth of each term, and the lowest term used again, the number of no term if there is none.

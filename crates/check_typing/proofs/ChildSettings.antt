@@ -12,7 +12,7 @@ use Rattle.calculus.specs.Syntax.{Ty, Sigs, method}
 use Rattle.calculus.specs.Typing.{Has, has-first, has-later}
 use Rattle.calculus.specs.Plain.{domOf, methodsOf, methodDom}
 use Rattle.image.specs.Bytes.{words}
-use Rattle.image.specs.Kinds.{a-type, free, Body, here, function-body, advice-body, split-body, lower-body, method-body, TypeKind, typeRow, TermKind, termRow, bodyOf}
+use Rattle.image.specs.Kinds.{a-type, free, Body, here, function-body, advice-body, split-body, lower-body, method-body, match-body, TypeKind, typeRow, TermKind, termRow, bodyOf}
 use Rattle.image.specs.Records.{fieldsAt}
 use Rattle.image.specs.Layout.{recordsOf}
 use Rattle.image.specs.Types.{typePlace, typeFields, typeField, methodCount, isType, methodsOut, typeOut, typeOf}
@@ -27,8 +27,9 @@ use Rattle.verdict.proofs.Methods.{has-method, method-fields}
 use Rattle.check_records.specs.Heads.{fieldIn}
 use Rattle.check_records.specs.Descriptors.{descriptorField0, descriptorField1}
 use Rattle.check_rules.specs.Lent.{Types, Lent, TypeOffsets, IsType, IsObject, contextIn, settingIn}
-use Rattle.check_rules.specs.Fields.{countIn, typesIn}
+use Rattle.check_rules.specs.Fields.{childrenIn, countIn, typesIn}
 use Rattle.check_rules.proofs.Descriptors.{unpacked, describes}
+use Rattle.check_rules.proofs.Counts.{children-counted}
 use Rattle.check_rules.proofs.Located.{good-of}
 use Rattle.check_rules.proofs.Scopes.{context-kept}
 use Rattle.check_rules.proofs.Elimination.{apart}
@@ -37,7 +38,7 @@ use Rattle.check_rules.proofs.OnDescriptors.{ownDescriptor, typeAtField, descri
 use Rattle.check_typing.specs.Turns.{Passed, ChildAt}
 
 -- One variable more.
-bound-context : (scope : List ℕ) (len v : ℕ) → len < length scope → contextIn (set scope len v) (len + 1) ≡ v ∷ contextIn scope len
+pub bound-context : (scope : List ℕ) (len v : ℕ) → len < length scope → contextIn (set scope len v) (len + 1) ≡ v ∷ contextIn scope len
 unfolding contextIn
 bound-context scope len v h =
     let a : getD (set scope len v) len 0 ≡ v = getD-set-same scope len v 0 h in
@@ -46,19 +47,20 @@ bound-context scope len v h =
 
 -- The kinds that have a body which stands elsewhere; the children of any other kind stand where the term does.
 abbrev pub withBody : List TermKind
-withBody = TermKind.obj ∷ TermKind.adv ∷ TermKind.split ∷ TermKind.lower ∷ TermKind.fun ∷ []
+withBody = TermKind.match ∷ TermKind.obj ∷ TermKind.adv ∷ TermKind.split ∷ TermKind.lower ∷ TermKind.fun ∷ []
 
 is-here : (body : Body) (k : TermKind) → Owner k body → (m : ℕ) → apart m withBody → m ≡ termRow k .number → body ≡ here
 is-here here k w m r e = refl
-is-here function-body k w m r e = absurd (r .0 .0 .0 .0 .1 (e ∙ ap (λ j. termRow j .number) w))
-is-here advice-body k w m r e = absurd (r .0 .1 (e ∙ ap (λ j. termRow j .number) w))
-is-here split-body k w m r e = absurd (r .0 .0 .1 (e ∙ ap (λ j. termRow j .number) w))
-is-here lower-body k w m r e = absurd (r .0 .0 .0 .1 (e ∙ ap (λ j. termRow j .number) w))
-is-here method-body k w m r e = absurd (r .1 (e ∙ ap (λ j. termRow j .number) w))
+is-here function-body k w m r e = absurd (r .0 .0 .0 .0 .0 .1 (e ∙ ap (λ j. termRow j .number) w))
+is-here advice-body k w m r e = absurd (r .0 .0 .1 (e ∙ ap (λ j. termRow j .number) w))
+is-here split-body k w m r e = absurd (r .0 .0 .0 .1 (e ∙ ap (λ j. termRow j .number) w))
+is-here lower-body k w m r e = absurd (r .0 .0 .0 .0 .1 (e ∙ ap (λ j. termRow j .number) w))
+is-here method-body k w m r e = absurd (r .0 .1 (e ∙ ap (λ j. termRow j .number) w))
+is-here match-body k w m r e = absurd (r .1 (e ∙ ap (λ j. termRow j .number) w))
 
 module _ {b descriptors : List ℕ} (T : Types b descriptors) {t : ℕ} (h : IsType b t) where
   -- What its descriptor says of a type's fields.
-  part-is : (i : ℕ) → typeField (recordsOf b) t i ≡ unpacked (recordsOf b) t (getD descriptors t 0) .part i
+  pub part-is : (i : ℕ) → typeField (recordsOf b) t i ≡ unpacked (recordsOf b) t (getD descriptors t 0) .part i
   part-is i = ap (λ d. d .part i) (describes T h)
 
   -- A type that is a part of another has a number of one byte.
@@ -222,8 +224,18 @@ module _ (b fs scope : List ℕ) (len c i : ℕ) where
   pub same-at : (m : ℕ) → apart m withBody → (k : TermKind) → m ≡ termRow k .number → ChildAt b fs k i scope scope len c len c
   same-at m r k e = here-at k (is-here (bodyOf k i) k (body-owner k i) m r e)
 
-  pub split-first : i < countIn fs TermKind.split → (i ≡ 1 → ⊥) → ChildAt b fs TermKind.split i scope scope len c len c
-  split-first l h = let z : i ≡ 0 = omega arith in here-at TermKind.split (ap (bodyOf TermKind.split) z)
+  pub split-first : i < length (childrenIn fs TermKind.split) → (i ≡ 1 → ⊥) → ChildAt b fs TermKind.split i scope scope len c len c
+  split-first l h = let n = children-counted fs TermKind.split refl in let z : i ≡ 0 = omega arith in here-at TermKind.split (ap (bodyOf TermKind.split) z)
 
-  pub advice-first : i < countIn fs TermKind.adv → (i ≡ 1 → ⊥) → ChildAt b fs TermKind.adv i scope scope len c len c
-  advice-first l h = let z : i ≡ 0 = omega arith in here-at TermKind.adv (ap (bodyOf TermKind.adv) z)
+  pub advice-first : i < length (childrenIn fs TermKind.adv) → (i ≡ 1 → ⊥) → ChildAt b fs TermKind.adv i scope scope len c len c
+  advice-first l h = let n = children-counted fs TermKind.adv refl in let z : i ≡ 0 = omega arith in here-at TermKind.adv (ap (bodyOf TermKind.adv) z)
+
+  -- Of a match (card 6), all but the first branch.
+  other-branch : (j : ℕ) → (j ≡ 1 → ⊥) → bodyOf TermKind.match j ≡ here
+  other-branch zero h = refl
+  other-branch (suc zero) h = absurd (h refl)
+  other-branch (suc (suc zero)) h = refl
+  other-branch (suc (suc (suc j))) h = refl
+
+  pub match-others : (i ≡ 1 → ⊥) → ChildAt b fs TermKind.match i scope scope len c len c
+  match-others h = here-at TermKind.match (other-branch i h)

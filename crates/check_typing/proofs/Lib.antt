@@ -4,3 +4,4 @@ pub mod ChildSettings
 pub mod TermPass
 pub mod ScopeRoom
 pub mod Root
+pub mod Bindings

@@ -43,6 +43,7 @@ some-leaf (Ty.label a p) n h = no-path cc
 some-leaf (Ty.pcd a p) n h = no-path cc
 some-leaf (Ty.adv p) n h = no-path cc
 some-leaf (Ty.obj ms) n h = no-path cc
+some-leaf Ty.stack n h = no-path cc
 
 few-or-0 : (x : Option ℕ) → fewOr0 x ≤ leafLimit
 few-or-0 none = omega arith
@@ -106,6 +107,7 @@ by-kind TypeKind.label vs g x table e h = rw e
 by-kind TypeKind.pcd vs g x table e h = rw e
 by-kind TypeKind.adv vs g x table e h = rw e
 by-kind TypeKind.obj vs g x table e h = rw e
+by-kind TypeKind.stack vs g x table e h = rw e
 
 -- Type t, after the types before it.
 module _ (b descriptors : List ℕ) (T : Types b descriptors) (t : ℕ) (h : t < length (recordsOf b .types)) where

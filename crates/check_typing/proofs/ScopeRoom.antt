@@ -13,7 +13,7 @@ use Rattle.verdict.specs.Shape.{count, depths, Shaped}
 use Rattle.verdict.proofs.Depth.{depth-root, depth-child}
 use Rattle.check_rules.specs.Lent.{Terms, IsTerm}
 use Rattle.check_rules.proofs.Located.{good-of}
-use Rattle.check_typing.specs.Turns.{Room}
+use Rattle.check_typing.specs.Turns.{bindLimit, Room}
 
 -- What stands in a list stands there once at least.
 stands-in : (es : List ℕ) (i : ℕ) → i < length es → 0 < count (getD es i 0) es
@@ -22,19 +22,19 @@ stands-in [] i h = absurd (omega arith)
 stands-in (e ∷ es) zero h = rw (of-eq {m = e} {n = e} refl) (omega arith)
 stands-in (e ∷ es) (suc i) h = let z = stands-in es i (omega arith) in omega arith
 
--- There are two places more.
-pub two-more : {b scope : List ℕ} {len n : ℕ} → Room b scope len n → IsTerm b n → len + 2 ≤ 2 * depthLimit
-two-more {b} {scope} {len} {n} R t = let d = R .shaped .shallow n t in let u = R .few in omega arith
+-- There are so many places more.
+pub more-room : {b scope : List ℕ} {len n : ℕ} → Room b scope len n → IsTerm b n → len + bindLimit ≤ bindLimit * depthLimit
+more-room {b} {scope} {len} {n} R t = let d = R .shaped .shallow n t in let u = R .few in omega arith
 
 module _ {b table : List ℕ} (T : Terms b table) where
-  pub root-room : (scope : List ℕ) (terms : ℕ) → Shaped (recordsOf b) → terms ≡ length (recordsOf b .terms) → length scope ≡ 2 * depthLimit → Room b scope 0 (terms - 1)
+  pub root-room : (scope : List ℕ) (terms : ℕ) → Shaped (recordsOf b) → terms ≡ length (recordsOf b .terms) → length scope ≡ bindLimit * depthLimit → Room b scope 0 (terms - 1)
   root-room scope terms S e p =
       let some = S .has-terms in
       let d : getD (depths (recordsOf b)) (terms - 1) 0 ≡ 1 = ap (λ n. getD (depths (recordsOf b)) (n - 1) 0) e ∙ depth-root (recordsOf b) (good-of b (T .laid-out)) (S .used) (omega arith) in
       record { places = p; shaped = S; few = omega arith }
 
-  -- Child i is one deeper, and stands under two variables more at most.
-  pub child-room : {scope : List ℕ} {len n : ℕ} → Room b scope len n → IsTerm b n → (after : List ℕ) (i m e : ℕ) → i < length (children (recordsOf b) n) → e ≡ getD (children (recordsOf b) n) i 0 → m ≤ len + 2 → length after ≡ length scope
+  -- Child i is one deeper, and stands under so many variables more at most.
+  pub child-room : {scope : List ℕ} {len n : ℕ} → Room b scope len n → IsTerm b n → (after : List ℕ) (i m e : ℕ) → i < length (children (recordsOf b) n) → e ≡ getD (children (recordsOf b) n) i 0 → m ≤ len + bindLimit → length after ≡ length scope
       → Room b after m e
   child-room {scope} {len} {n} R t after i m e h q little same =
       let L : Layout = recordsOf b in

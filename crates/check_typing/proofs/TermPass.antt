@@ -25,8 +25,7 @@ use Rattle.verdict.proofs.Answered.{accepted-is}
 use Rattle.verdict.proofs.Fuel.{checked-refused, checked-children}
 use Rattle.check_rules.specs.Lent.{Terms, IsTerm, settingIn}
 use Rattle.check_rules.specs.Judged.{judged, ruleVerdict}
-use Rattle.check_rules.specs.Fields.{fieldsOf, countIn, childrenIn, settingFrom}
-use Rattle.check_rules.proofs.Counts.{children-counted}
+use Rattle.check_rules.specs.Fields.{fieldsOf, childrenIn, settingFrom}
 use Rattle.check_rules.proofs.Elimination.{leaf-childless}
 use Rattle.check_rules.proofs.Small.{unbound, mistyped}
 use Rattle.check_rules.proofs.Located.{good-of, number-is, children-in}
@@ -86,11 +85,10 @@ module _ (b fs : List ℕ) (k : TermKind) (p : Setting ℕ) where
   unfolding front checkAll
   front-start = refl
 
-  pub front-next : (i : ℕ) → i < countIn fs k → front b fs k p i ≡ Verdict.Accepted → front b fs k p (i + 1) ≡ checked (recordsOf b) (settingFrom b fs k p i) (getD (childrenIn fs k) i 0)
+  pub front-next : (i : ℕ) → i < length (childrenIn fs k) → front b fs k p i ≡ Verdict.Accepted → front b fs k p (i + 1) ≡ checked (recordsOf b) (settingFrom b fs k p i) (getD (childrenIn fs k) i 0)
   unfolding front
   front-next i h e =
       let es : List ℕ = childrenIn fs k in
-      let n : length es ≡ countIn fs k = children-counted fs k in
       let one : take (i + 1) es ≡ take i es ++ (getD es i 0 ∷ []) = rw (add-one i) (take-suc es i 0 (omega arith)) in
       let l : 0 + length (take i es) ≡ i = omega (arith, length-take-le i es (omega arith)) in
       ap (checkAll (recordsOf b) at 0) one ∙ all-next (recordsOf b) at 0 (take i es) (getD es i 0) e ∙ ap (λ j. at j (getD es i 0)) l
@@ -116,7 +114,7 @@ module _ {b terms : List ℕ} (T : Terms b terms) {n : ℕ} (h : IsTerm b n) (p 
       go none q = let z : false ≡ true = rw (q, judged, ruleVerdict) at r in no-path (sym z)
       go (some u) q = w ∙ rw (q, judged, ruleVerdict) (sym (checked-refused (recordsOf b) (good-of b (T .laid-out)) p n u q))
 
-  pub front-whole : ruleVerdict (recordsOf b) p n ≡ Verdict.Accepted → {k : TermKind} → termKind (recordsOf b) n ≡ k → (j : ℕ) → countIn (fieldsOf b n) k ≤ j → front b (fieldsOf b n) k p j ≡ checked (recordsOf b) p n
+  pub front-whole : ruleVerdict (recordsOf b) p n ≡ Verdict.Accepted → {k : TermKind} → termKind (recordsOf b) n ≡ k → (j : ℕ) → length (childrenIn (fieldsOf b n) k) ≤ j → front b (fieldsOf b n) k p j ≡ checked (recordsOf b) p n
   unfolding ruleVerdict judged front
   front-whole a {k} e j l = go (firstFault (ruleFaults (ruleAt (recordsOf b) p n))) refl
     where
@@ -125,7 +123,7 @@ module _ {b terms : List ℕ} (T : Terms b terms) {n : ℕ} (h : IsTerm b n) (p 
 
       go : (x : Option Refusal) → firstFault (ruleFaults (ruleAt L p n)) ≡ x → front b (fieldsOf b n) k p j ≡ checked L p n
       go none q =
-          ap (checkAll L (λ i e. checked L (settingFrom b (fieldsOf b n) k p i) e) 0) (take-all j (childrenIn (fieldsOf b n) k) (rw (children-counted (fieldsOf b n) k) l) ∙ children-in T h e)
+          ap (checkAll L (λ i e. checked L (settingFrom b (fieldsOf b n) k p i) e) 0) (take-all j (childrenIn (fieldsOf b n) k) l ∙ children-in T h e)
           ∙ all-alike L _ _ (λ i m. ap (λ s. checked L s m) (setting-in T h e p i)) 0 (children L n)
           ∙ sym (checked-children L (good-of b (T .laid-out)) p n h q)
       go (some r) q = let z : Verdict.Refused r (termPlace L n) ≡ Verdict.Accepted = rw (q, judged, ruleVerdict) at a in no-path cc
@@ -137,7 +135,7 @@ module _ {b terms : List ℕ} (T : Terms b terms) {n : ℕ} (h : IsTerm b n) (p 
       k : TermKind
       k = termKind (recordsOf b) n
 
-      none : countIn (fieldsOf b n) k ≡ 0
+      none : length (childrenIn (fieldsOf b n) k) ≡ 0
       none = let e = number-is T h in leaf-childless (fieldsOf b n) k (omega arith)
 
       go : (x : Bool) → isRefused (ruleVerdict (recordsOf b) p n) ≡ x → ruleVerdict (recordsOf b) p n ≡ checked (recordsOf b) p n

@@ -15,11 +15,12 @@ ghost use Rattle.check_rules.specs.Lent.{Lent, Masks, Terms, Types, TypeOffsets
 ghost use Rattle.check_typing.specs.Turns.{rootChecked, rootPlain, plainAt};
 
 pub mod leaves;
+pub mod matches;
 pub mod pass;
 pub mod scope;
 
 // The root is the last term. It is checked with no variables, at domain 0. No term is deeper than 64 (refusal 12), and a level
-// binds two variables at most, so a scope of 128 places is enough.
+// binds nine variables at most, as a match does with eight entries (document 02, card 6), so a scope of 576 places is enough.
 fn check_root(
     image: &[u8],
     types: &[u16],
@@ -31,7 +32,7 @@ fn check_root(
     requires { ⌜ Lent (now image) (now terms) (now descriptors) × (count ≡ length (recordsOf (now image) .terms)) × (0 < count) × Masks (now image) (now masks) × Shaped (recordsOf (now image)) × TypeOffsets (now image) (now types) ⌝ }
     ensures { λ r. ⌜ r ≡ rootChecked (recordsOf (now (image .entry))) ⌝ }
 {
-    let mut scope = [0u8; 128];
+    let mut scope = [0u8; 576];
     let root = TermNo((count - 1) as u16);
     pass::check_term(
         image,

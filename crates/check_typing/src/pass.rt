@@ -7,8 +7,8 @@ use check_records::numbers::TermNo;
 use check_rules::leaf::check_leaf;
 use check_rules::leaf::is_leaf;
 use check_rules::rule::check_rule;
-use check_rules::terms::child_at_field;
 use check_rules::terms::child_count;
+use check_rules::terms::child_of;
 use check_rules::terms::lead_of;
 use check_rules::terms::term_fields;
 use check_rules::terms::term_kind;
@@ -23,7 +23,7 @@ ghost use Rattle.check_typing.specs.Turns.{Room};
 
 // A term and the terms below it: its rule, then its children, each where it stands. A constant or a variable has none: as a
 // child it is checked on the spot, since a call costs more than its rule. Each level goes to a lower number, one deeper, and
-// binds two variables at most: the depth bounds the places of the scope that are used.
+// binds nine variables at most: the depth bounds the places of the scope that are used.
 pub fn check_term(
     image: &[u8],
     terms: &[u16],
@@ -31,7 +31,7 @@ pub fn check_term(
     n: TermNo,
     c: DomainNo,
     masks: &[u16; 16],
-    scope: &mut [u8; 128],
+    scope: &mut [u8; 576],
     len: usize,
     types: &[u16],
 ) -> Verdict
@@ -52,7 +52,7 @@ pub fn check_term(
     let here = Setting { len: len, dom: c };
     let mut j: usize = 0;
     while j < k {
-        let e = child_at_field(fields, lead + j);
+        let e = child_of(kind, fields, lead, j);
         let p = child_setting(
             image,
             types,

@@ -1,5 +1,6 @@
 // Where a child of a term stands: the types of the variables, in the first places of a lent scope, the innermost last; and
 // the current domain (document 01, "Typing").
+use crate::matches::match_setting;
 use check_records::numbers::DomainNo;
 use check_records::numbers::TypeNo;
 use check_rules::kinds;
@@ -14,10 +15,10 @@ use check_rules::types::second_domain;
 use check_rules::types::second_type;
 ghost use mathlib.Core.Path.{_≡_};
 ghost use Prim.Native.Nat.{_<_};
-ghost use lib.ListN.{set};
+ghost use lib.ListN.{length, set};
 ghost use Rattle.image.specs.Kinds.{TermKind, termRow};
 ghost use Rattle.check_rules.specs.Lent.{Types, Lent, TypeOffsets};
-ghost use Rattle.check_rules.specs.Fields.{countIn};
+ghost use Rattle.check_rules.specs.Fields.{childrenIn, countIn};
 ghost use Rattle.check_typing.specs.Turns.{Passed, ChildAt};
 
 // How many places of the scope are used, and the current domain.
@@ -26,8 +27,9 @@ pub struct Setting {
     pub dom: DomainNo,
 }
 
-fn bind(scope: &mut [u8; 128], len: usize, t: TypeNo)
-    requires { ⌜ (len < 128) × (t .0 < 256) ⌝ }
+// One variable more.
+pub fn bind(scope: &mut [u8; 576], len: usize, t: TypeNo)
+    requires { ⌜ (len < 576) × (t .0 < 256) ⌝ }
     ensures { λ _. ⌜ now (scope .exit) ≡ set (now (scope .entry)) len (t .0) ⌝ }
 {
     scope[len] = t.0 as u8;
@@ -37,7 +39,7 @@ fn bind(scope: &mut [u8; 128], len: usize, t: TypeNo)
 fn function_setting(
     image: &[u8],
     descriptors: &[u32],
-    scope: &mut [u8; 128],
+    scope: &mut [u8; 576],
     p: Setting,
     fields: &[u8],
 ) -> Setting
@@ -58,7 +60,7 @@ fn split_setting(
     image: &[u8],
     terms: &[u16],
     descriptors: &[u32],
-    scope: &mut [u8; 128],
+    scope: &mut [u8; 576],
     p: Setting,
     fields: &[u8],
 ) -> Setting
@@ -82,7 +84,7 @@ fn advice_setting(
     image: &[u8],
     terms: &[u16],
     descriptors: &[u32],
-    scope: &mut [u8; 128],
+    scope: &mut [u8; 576],
     p: Setting,
     fields: &[u8],
 ) -> Setting
@@ -100,7 +102,7 @@ fn advice_setting(
 }
 
 // The body of a lower stands at the domain in its field.
-fn lower_setting(image: &[u8], scope: &[u8; 128], p: Setting, fields: &[u8]) -> Setting
+fn lower_setting(image: &[u8], scope: &[u8; 576], p: Setting, fields: &[u8]) -> Setting
     requires { ⌜ Passed (now image) (now fields) TermKind.lower (now scope) (p .len) (p .dom .0) ⌝ }
     ensures { λ r. ⌜ ChildAt (now (image .entry)) (now (fields .entry)) TermKind.lower 0 (now (scope .entry)) (now (scope .entry)) (p .len) (p .dom .0) (r .len) (r .dom .0) ⌝ }
 {
@@ -115,7 +117,7 @@ fn lower_setting(image: &[u8], scope: &[u8; 128], p: Setting, fields: &[u8]) -> 
 fn object_setting(
     image: &[u8],
     types: &[u16],
-    scope: &mut [u8; 128],
+    scope: &mut [u8; 576],
     p: Setting,
     fields: &[u8],
     i: usize,
@@ -138,13 +140,13 @@ pub fn child_setting(
     types: &[u16],
     terms: &[u16],
     descriptors: &[u32],
-    scope: &mut [u8; 128],
+    scope: &mut [u8; 576],
     p: Setting,
     kind: u16,
     fields: &[u8],
     i: usize,
 ) -> Setting
-    requires { ⌜ Lent (now image) (now terms) (now descriptors) × ((k : TermKind) → kind ≡ termRow k .number → Passed (now image) (now fields) k (now scope) (p .len) (p .dom .0) × (i < countIn (now fields) k)) × TypeOffsets (now image) (now types) ⌝ }
+    requires { ⌜ Lent (now image) (now terms) (now descriptors) × ((k : TermKind) → kind ≡ termRow k .number → Passed (now image) (now fields) k (now scope) (p .len) (p .dom .0) × (i < length (childrenIn (now fields) k))) × TypeOffsets (now image) (now types) ⌝ }
     ensures { λ r. ⌜ ((k : TermKind) → kind ≡ termRow k .number → ChildAt (now (image .entry)) (now (fields .entry)) k i (now (scope .entry)) (now (scope .exit)) (p .len) (p .dom .0) (r .len) (r .dom .0)) ⌝ }
 {
     match kind {
@@ -165,6 +167,13 @@ pub fn child_setting(
             }
         }
         kinds::OBJECT => object_setting(image, types, scope, p, fields, i),
+        kinds::MATCH => {
+            if i == 1 {
+                match_setting(image, terms, descriptors, scope, p, fields)
+            } else {
+                p
+            }
+        }
         _ => p,
     }
 }

@@ -1,10 +1,12 @@
--- Runs of the closure machine on small terms, by computation: the order of a split's bindings, the domain under a lower, the limit of frames, a method that calls another (card 3).
+-- Runs of the closure machine on small terms, by computation: the order of a split's bindings, the domain under a lower, the limit of frames, a method that calls another (card 3), what a match sees of the keeps around it (card 6).
 use Prim.Native.Nat.{ℕ}
 use mathlib.Core.Path.{_≡_, refl}
+use mathlib.Core.Bool.{true}
 use mathlib.Core.List.{[], _∷_}
 use Rattle.calculus.specs.declared.Outcome.{Outcome}
-use Rattle.calculus.specs.Syntax.{Ty, Val, Tm, Op2, val, var, op1, op2, split, lower, print, minus}
-use Rattle.calculus.specs.State.{picked, logOf, fresh}
+use Rattle.calculus.specs.Combinators.{cases}
+use Rattle.calculus.specs.Syntax.{Ty, Val, Tm, Op2, anything, pointcut, atEnd, val, var, op0, op1, op2, split, lower, keep, match, end, more, theStack, print, minus}
+use Rattle.calculus.specs.State.{picked, prints, turns, logOf, fresh}
 use Rattle.calculus.specs.Answer.{if-room, with, spend}
 use Rattle.calculus.specs.Run.{EndedOf, done, stopped, after}
 use Rattle.calculus.proofs.Examples.{nest, called}
@@ -38,3 +40,10 @@ frames-513 = refl
 calls : ran 10 called .end ≡ done (CVal.num 5)
 unfolding called mrun after settle work closed plainVal if-room with spend
 calls = refl
+
+-- Card 6: of the keeps of 5 and, inside it, of 3 under label 0, an entry that binds nothing and a pointcut bind the outer one, through a lower.
+outer-kept : ran 10 (keep (val (Val.label 0)) (val (Val.num 5)) (keep (val (Val.label 0)) (val (Val.num 3)) (lower 1
+    (match (anything (pointcut atEnd)) (more (op0 theStack Ty.stack) (more (val (Val.labels (0 ∷ []))) end)) (op1 print Ty.unit (var 0)) (val Val.unit))))) .state .trace
+    ≡ record { dom = 1; said = turns true } ∷ record { dom = 1; said = prints 5 } ∷ []
+unfolding mrun after settle work closed plainVal cases if-room with spend picked
+outer-kept = refl

@@ -57,6 +57,8 @@ module _ {D : Policy} {Σ : StoreTyping} where
   leaves-agree (ValTy.v-labels x) = tt
   leaves-agree (ValTy.v-advice x y z) = tt
   leaves-agree (ValTy.v-object x) = tt
+  leaves-agree ValTy.v-bottom = tt
+  leaves-agree (ValTy.v-kept x y z) = tt
 
   plain-few : {v : Val} {a : Ty} → isPlain a ≡ true → ValTy D Σ v a → length (leaves v) ≤ leafLimit
   plain-few {v} {a} p h = few-agree (leafCount a) (length (leaves v)) p (leaves-agree h)

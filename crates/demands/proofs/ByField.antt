@@ -10,7 +10,7 @@ use Rattle.calculus.specs.Syntax.{Dom, Ty}
 use Rattle.calculus.specs.Plain.{domOf, methodsOf, methodDom}
 use Rattle.image.specs.Limits.{domainLimit}
 use Rattle.image.specs.Bytes.{words}
-use Rattle.image.specs.Kinds.{a-domain, free, Body, here, function-body, advice-body, split-body, lower-body, method-body, TermKind, termRow, bodyOf}
+use Rattle.image.specs.Kinds.{a-domain, free, Body, here, function-body, advice-body, split-body, lower-body, method-body, match-body, TermKind, termRow, bodyOf}
 use Rattle.image.specs.Records.{Layout, fieldsAt, numbersAt, othersAt}
 use Rattle.image.specs.Types.{termPlace, termKind, statedType, others, children, rootOf}
 use Rattle.image.specs.Program.{Program, node, blank, more, subtrees, tree, program, ownDomain, isLow, lowBody, blanked, blankeds}
@@ -42,6 +42,7 @@ module _ (hi hi′ : Dom → Bool) (same : (d : Dom) → d < domainLimit → hi 
       go split-body w = refl
       go lower-body w = ap not (same _ (own w))
       go method-body w = ap not (same _ (m i))
+      go match-body w = refl
 
   -- Subtrees that are blanked to the same are so beside each other, whichever of them are low bodies.
   subtrees-same : (g : ℕ → Program) (m : ℕ) → ((e : ℕ) → e < m → blanked hi (g e) ≡ blanked hi′ (g e)) → (es : List ℕ) → Below m es

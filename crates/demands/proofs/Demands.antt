@@ -40,7 +40,7 @@ use Rattle.demands.proofs.Steps.{steps-within, spent-steps}
 use Rattle.demands.proofs.Written.{outcome-fits, take-front, drop-front, length-front, cleared-zero, cleared-past, length-cleared}
 
 -- The image of a call that runs is accepted.
-accepts : (b report work : List ℕ) → Runs b report work → Accepts b
+pub accepts : (b report work : List ℕ) → Runs b report work → Accepts b
 accepts b report work h = record { work = length work; report = length report; verdict-is = h }
 
 module _ (b frame : List ℕ) (budget : ℕ) (log report work : List ℕ) where

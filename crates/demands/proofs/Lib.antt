@@ -10,6 +10,7 @@ pub mod Demands
 pub mod Trimmed
 pub mod LowMethods
 pub mod Unpaid
+pub mod Branches
 pub mod UnpaidExample
 pub mod Sheet
 pub mod Example

@@ -18,6 +18,7 @@ use Rattle.calculus.specs.Accepted.{Transitive}
 use Rattle.calculus_safety.proofs.StoreFits.{StateFits, fits-fresh}
 use Rattle.calculus_safety.proofs.Safe.{Safe, Safe.safe-go, Safe.safe-full, Safe.safe-halt}
 use Rattle.calculus_safety.proofs.Safety.{safe}
+use Rattle.laws.proofs.Lists.{All.all-nil}
 
 pub steps-within : (n : ℕ) (G : Given) (k : ℕ) (s : State) (e : Tm) → run n G k s e .steps ≤ k + n
 unfolding run cases after
@@ -74,7 +75,7 @@ module _ (D : Policy) (trans : Transitive D) (G : Given) where
       look : (o : Option Val) → asValue e ≡ o → Later → cases {C = Ended} o (λ v. ended (done v) k s) (λ u. follows (step e G top s)) .end ≡ stopped Outcome.Spent
           → cases {C = Ended} o (λ v. ended (done v) k s) (λ u. follows (step e G top s)) .steps ≡ k + suc n
       look (some v) q later p = let z : _≡_ {A = ℕ} 0 1 = cc in absurd (omega arith)
-      look none q later p = answered later (safe D Σ trans G h refl q top s f) p
+      look none q later p = answered later (safe D Σ trans G h refl q top all-nil s f) p
 
   pub spent-steps : (n : ℕ) {e : Tm} {t : Ty} → TmTy D noStore [] 0 e t → report (run n G 0 fresh e) .outcome ≡ some Outcome.Spent → run n G 0 fresh e .steps ≡ n
   spent-steps n {e} h p = let q = spent-whole n h 0 fresh (fits-fresh D) (spent-end (run n G 0 fresh e .end) p) in omega arith

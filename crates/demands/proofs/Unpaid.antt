@@ -23,6 +23,7 @@ use Rattle.laws.proofs.Booleans.{and-i}
 use Rattle.calculus_safety.proofs.StoreFits.{StateFits, fits-fresh}
 use Rattle.calculus_safety.proofs.Safe.{Safe, Safe.safe-go, Safe.safe-full, Safe.safe-halt}
 use Rattle.calculus_safety.proofs.Safety.{safe}
+use Rattle.laws.proofs.Lists.{All.all-nil}
 use Rattle.image.specs.Layout.{recordsOf}
 use Rattle.image.specs.Program.{toTm}
 use Rattle.verdict.specs.declared.Verdict.{Verdict}
@@ -82,7 +83,7 @@ module _ (D : Policy) (trans : Transitive D) (G : Given) where
       look : (o : Option Val) → asValue e ≡ o
           → Told m (cases o (λ v. ended (done v) k s) (λ u. ended (unpaid (step e G top s)) k s)) (cases o (λ v. ended (done v) k s) (λ u. following (step e G top s))) (cases o (λ v. ended (done v) k s) (λ u. ended (stopped Outcome.Spent) k s))
       look (some v) q = same (no-room m (ended (done v) k s) refl)
-      look none q = answered (safe D Σ trans G h refl q top s f)
+      look none q = answered (safe D Σ trans G h refl q top all-nil s f)
   told (suc n) {Σ} {e} {t} h k s f m z = look (asValue e) refl (λ Σ′ s′ e′ f′ h′. told n h′ (suc k) s′ f′ m (z ∙ omega arith))
     where
       Later : Type 0
@@ -104,7 +105,7 @@ module _ (D : Policy) (trans : Transitive D) (G : Given) where
           → Told m (cases o (λ v. ended (done v) k s) (λ u. by (λ s′ e′. run n G (suc k) s′ e′) (step e G top s))) (cases o (λ v. ended (done v) k s) (λ u. by (λ s′ e′. runBefore (suc n) G (suc k) s′ e′) (step e G top s)))
           (cases o (λ v. ended (done v) k s) (λ u. by (λ s′ e′. runBefore n G (suc k) s′ e′) (step e G top s)))
       look (some v) q later = same (no-room m (ended (done v) k s) refl)
-      look none q later = answered later (safe D Σ trans G h refl q top s f)
+      look none q later = answered later (safe D Σ trans G h refl q top all-nil s f)
 
 -- What the two calls before left, and the answer of the one now.
 module _ (b frame : List ℕ) (budget : ℕ) (log report work : List ℕ) where

@@ -5,3 +5,4 @@ pub mod Compare
 pub mod Trimmed
 pub mod LowMethods
 pub mod Unpaid
+pub mod Branches

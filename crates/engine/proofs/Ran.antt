@@ -65,7 +65,7 @@ module _ (b frame : List ℕ) (A : Accepts b) (bytes : AreBytes b) (budget : ℕ
   S = vmRun (record { code = code; image = b }) frame target budget M log
 
   -- The tables are long enough.
-  words : 3905 ≤ length (M .words)
+  words : 4418 ≤ length (M .words)
   words = omega (arith, length-words wordCount work)
 
   beside : 513 ≤ length (M .beside)

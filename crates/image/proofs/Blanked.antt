@@ -9,7 +9,7 @@ use Rattle.calculus.specs.Syntax.{Dom, Ty, Sigs, noMethod, method, Val, Tm, Tms
 use Rattle.calculus.specs.Plain.{domOf, methodsOf, methodDom}
 use Rattle.calculus.specs.Blank.{blank as blankTm, blanks, blankBodies}
 use Rattle.image.specs.Kinds.{TermKind}
-use Rattle.image.specs.Program.{Program, Programs, node, blank, end, more, nth, assemble, toTm, toTms, lowBody, blanked, blankeds}
+use Rattle.image.specs.Program.{Program, Programs, node, blank, end, more, nth, behind, assemble, toTm, toTms, lowBody, blanked, blankeds}
 
 choose-not : {A : Type 0} (b : Bool) (x y : A) → choose (not b) x y ≡ choose b y x
 choose-not true x y = refl
@@ -25,6 +25,19 @@ module _ (high : Dom → Bool) where
     one : (i : ℕ) → nth fs i ≡ choose (low i) (val Val.unit) (blankTm high (nth es i))
     every : ((i : ℕ) → low i ≡ false) → fs ≡ blanks high es
     bodies : (ms : Sigs) → ((i : ℕ) → low i ≡ not (high (methodDom ms i))) → fs ≡ blankBodies high ms es
+
+  -- A match has no low body (card 6).
+  match-high : (t : Ty) (vs : List ℕ) (i : ℕ) → lowBody high TermKind.match t vs i ≡ false
+  match-high t vs zero = refl
+  match-high t vs (suc zero) = refl
+  match-high t vs (suc (suc zero)) = refl
+  match-high t vs (suc (suc (suc i))) = refl
+
+  blanks-behind : (n : ℕ) (es : Tms) → behind n (blanks high es) ≡ blanks high (behind n es)
+  unfolding blankTm
+  blanks-behind zero es = refl
+  blanks-behind (suc n) Tms.end = refl
+  blanks-behind (suc n) (Tms.more e es) = blanks-behind n es
 
   assembled : (k : TermKind) (t : Ty) (vs : List ℕ) (fs es : Tms) → Blanked (lowBody high k t vs) fs es → assemble k t vs fs ≡ blankTm high (assemble k t vs es)
   unfolding assemble blankTm
@@ -55,6 +68,9 @@ module _ (high : Dom → Bool) where
   assembled TermKind.byte t vs fs es h = cc (h .one 0)
   assembled TermKind.obj t vs fs es h = ap (obj t) (h .bodies (methodsOf t) (λ i. refl))
   assembled TermKind.call t vs fs es h = cc (h .one 0)
+  assembled TermKind.stack t vs fs es h = refl
+  assembled TermKind.keep t vs fs es h = cc (h .one 0, h .one 1, h .one 2)
+  assembled TermKind.match t vs fs es h = let r = ap (behind 3) (h .every (match-high t vs)) ∙ blanks-behind 3 es in cc (h .one 0, h .one 1, h .one 2, r)
 
   -- One more subterm, which stands first.
   first-blanked : (low : ℕ → Bool) (e : Program) (es : Programs) → toTm (blanked high e) ≡ blankTm high (toTm e) → Blanked (λ i. low (suc i)) (toTms (blankeds high es (λ i. low (suc i)))) (toTms es)

@@ -5,7 +5,7 @@ use mathlib.Core.Bool.{Bool, true, _&&_}
 use mathlib.Core.List.{List, [], _∷_}
 use lib.ListN.{getD}
 use lib.Dec.{eqb}
-use Rattle.image.specs.Kinds.{Body, here, function-body, advice-body, split-body, lower-body, method-body, TermKind, termRow, bodies, bodyOf}
+use Rattle.image.specs.Kinds.{Body, here, function-body, advice-body, split-body, lower-body, method-body, match-body, TermKind, termRow, bodies, bodyOf}
 use Rattle.laws.proofs.Booleans.{and-l, and-r, eq-of}
 use Rattle.image.proofs.KindNumbers.{same-term-kind}
 use Rattle.image.proofs.EveryKind.{everyOf, at-term}
@@ -21,6 +21,7 @@ owned k advice-body = numbered k TermKind.adv
 owned k split-body = numbered k TermKind.split
 owned k lower-body = numbered k TermKind.lower
 owned k method-body = numbered k TermKind.obj
+owned k match-body = numbered k TermKind.match
 
 abbrev allOwned : TermKind → List Body → Bool
 allOwned k [] = true
@@ -39,6 +40,7 @@ Owner k advice-body = k ≡ TermKind.adv
 Owner k split-body = k ≡ TermKind.split
 Owner k lower-body = k ≡ TermKind.lower
 Owner k method-body = k ≡ TermKind.obj
+Owner k match-body = k ≡ TermKind.match
 
 owner : (k : TermKind) (b : Body) → owned k b ≡ true → Owner k b
 owner k here h = tt
@@ -47,6 +49,7 @@ owner k advice-body h = same-term-kind k TermKind.adv (eq-of h)
 owner k split-body h = same-term-kind k TermKind.split (eq-of h)
 owner k lower-body h = same-term-kind k TermKind.lower (eq-of h)
 owner k method-body h = same-term-kind k TermKind.obj (eq-of h)
+owner k match-body h = same-term-kind k TermKind.match (eq-of h)
 
 pub body-owner : (k : TermKind) (i : ℕ) → Owner k (bodyOf k i)
 unfolding everyOf

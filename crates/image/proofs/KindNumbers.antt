@@ -18,6 +18,7 @@ found (type TypeKind.label) = refl
 found (type TypeKind.pcd) = refl
 found (type TypeKind.adv) = refl
 found (type TypeKind.obj) = refl
+found (type TypeKind.stack) = refl
 found (term TermKind.unit) = refl
 found (term TermKind.truth) = refl
 found (term TermKind.number) = refl
@@ -43,6 +44,9 @@ found (term TermKind.abort) = refl
 found (term TermKind.byte) = refl
 found (term TermKind.obj) = refl
 found (term TermKind.call) = refl
+found (term TermKind.stack) = refl
+found (term TermKind.keep) = refl
+found (term TermKind.match) = refl
 
 pub same-kind : (j k : Kind) → rowOf j .number ≡ rowOf k .number → j ≡ k
 same-kind j k e = let z : some j ≡ some k = sym (found j) ∙ ap (λ n. kindOf n) e ∙ found k in cc

@@ -5,8 +5,10 @@ pub mod EveryKind
 pub mod Laid
 pub mod Bodies
 pub mod Counts
+pub mod Fitting
 pub mod TermFields
 pub mod Offsets
+pub mod Entries
 pub mod TypeNumbers
 pub mod TypeDomains
 pub mod Fuel

@@ -1,18 +1,21 @@
--- Fields and children as a program that reads bytes finds them: field i at its offset; of a term, its own fields right behind its type, its children, side by side, behind these, and its last own fields.
+-- Fields and children as a program that reads bytes finds them: field i at its offset; of a term, its own fields right behind its type, its children, side by side, behind these, and its last own fields. A match's are not all side by side (Entries).
 use Prim.Native.Nat.{ℕ, zero, suc, _+_, _-_, _*_, _≤_, _<_}
 use native.Mathlib.Omega.{arith}
 use mathlib.Core.Path.{_≡_, refl, sym, ap, _∙_}
-use mathlib.Core.Bool.{Bool, true, false}
+use mathlib.Core.Bool.{Bool, true, false, _||_}
+use mathlib.Core.Logic.{_⊎_, inl, inr}
 use mathlib.Core.List.{List, [], _∷_, _++_, append-nil, append-assoc}
 use lib.ListN.{length, getD, length-append, List·getD-append}
+use lib.Dec.{eqb}
 use Rattle.laws.specs.Tests.{all}
 use Rattle.image.specs.Bytes.{le16, words, lengthAt, fieldAt}
 use Rattle.image.specs.Kinds.{Field, a-type, own, a-term, an-entry, TermKind, Row, termRow, again, lead, leadOf, trailOf}
 use Rattle.image.specs.Records.{times, fieldsAt, numbersAt, asChild, asOther, given, childrenAt, othersAt}
-use Rattle.laws.proofs.Booleans.{no-path}
+use Rattle.laws.proofs.Booleans.{no-path, eq-of}
 use Rattle.laws.proofs.Tests.{each}
+use Rattle.image.proofs.KindNumbers.{same-term-kind}
 use Rattle.image.proofs.Words.{words-length, words-at}
-use Rattle.image.proofs.EveryKind.{everyOf, at-term}
+use Rattle.image.proofs.EveryKind.{everyOf, at-term, or-else}
 
 -- The first behind a list of n.
 after-first : (vs ws : List ℕ) (n : ℕ) → length vs ≡ n → getD (vs ++ ws) n 0 ≡ getD ws 0 0
@@ -123,7 +126,22 @@ allOwn (a-term b ∷ fs) = false
 allOwn (an-entry ∷ fs) = false
 
 abbrev orderedRow : Row → Bool
-orderedRow r = all (ordered (r .first) ∷ allTerms (r .group) ∷ allOwn (r .last) ∷ [])
+orderedRow r = all (ordered (r .first) ∷ allOwn (r .last) ∷ [])
+
+-- Each field of a kind's group is a child, so that its children stand side by side; which only a match's are not.
+abbrev pub sideBySide : TermKind → Bool
+sideBySide k = allTerms (termRow k .group)
+
+abbrev isMatch : TermKind → Bool
+isMatch k = eqb (termRow k .number) (termRow TermKind.match .number)
+
+pub side-or-match : (k : TermKind) → (sideBySide k ≡ true) ⊎ (k ≡ TermKind.match)
+unfolding everyOf
+side-or-match k = pick (sideBySide k) refl
+  where
+    pick : (s : Bool) → sideBySide k ≡ s → (sideBySide k ≡ true) ⊎ (k ≡ TermKind.match)
+    pick true e = inl e
+    pick false e = inr (same-term-kind k TermKind.match (eq-of {m = termRow k .number} (or-else (sideBySide k) (isMatch k) (at-term (λ k. sideBySide k || isMatch k) refl k) (λ t. no-path (sym t ∙ e)))))
 
 -- What is read of such fields.
 record Read (fs : List Field) (d : ℕ) (b : List ℕ) (o : ℕ) : Type 0 where
@@ -174,25 +192,27 @@ words-append b o (suc m) n =
     let z : suc m + n ≡ suc (m + n) = omega arith in
     ap (words b o) z ∙ ap (λ vs. le16 b o ∷ vs) (words-append b (o + 2) m n ∙ ap (λ p. words b (o + 2) m ++ words b p n) e)
 
-module _ (fs zs : List Field) (d : ℕ) (b : List ℕ) (o : ℕ) (R : Read fs d b o) (h : allOwn zs ≡ true) where
-  split : (of : Field → ℕ → List ℕ) → given of (fs ++ zs) (words b o (length (fs ++ zs))) ≡ given of fs (words b o (length fs)) ++ given of zs (words b (o + 2 * length fs) (length zs))
-  split of =
-      ap (λ n. given of (fs ++ zs) (words b o n)) (length-append fs zs)
-      ∙ ap (given of (fs ++ zs)) (words-append b o (length fs) (length zs))
-      ∙ given-append of fs zs (words b o (length fs)) (words b (o + 2 * length fs) (length zs)) (words-length b o (length fs))
+-- What the fields fs and then zs give.
+pub given-split : (of : Field → ℕ → List ℕ) (fs zs : List Field) (b : List ℕ) (o : ℕ)
+    → given of (fs ++ zs) (words b o (length (fs ++ zs))) ≡ given of fs (words b o (length fs)) ++ given of zs (words b (o + 2 * length fs) (length zs))
+given-split of fs zs b o =
+    ap (λ n. given of (fs ++ zs) (words b o n)) (length-append fs zs)
+    ∙ ap (given of (fs ++ zs)) (words-append b o (length fs) (length zs))
+    ∙ given-append of fs zs (words b o (length fs)) (words b (o + 2 * length fs) (length zs)) (words-length b o (length fs))
 
+module _ (fs zs : List Field) (d : ℕ) (b : List ℕ) (o : ℕ) (R : Read fs d b o) (h : allOwn zs ≡ true) where
   split-children : given asChild (fs ++ zs) (words b o (length (fs ++ zs))) ≡ words b (o + 2 * d) (length fs - d)
   split-children =
-      split asChild ∙ ap (λ xs. given asChild fs (words b o (length fs)) ++ xs) (own-last zs b (o + 2 * length fs) h .0)
+      given-split asChild fs zs b o ∙ ap (λ xs. given asChild fs (words b o (length fs)) ++ xs) (own-last zs b (o + 2 * length fs) h .0)
       ∙ append-nil (given asChild fs (words b o (length fs)))
       ∙ R .children
 
   split-others : given asOther (fs ++ zs) (words b o (length (fs ++ zs))) ≡ words b (o + 2) (d - 1) ++ words b (o + 2 * length fs) (length zs)
   split-others =
-      split asOther ∙ ap (λ xs. given asOther fs (words b o (length fs)) ++ xs) (own-last zs b (o + 2 * length fs) h .1)
+      given-split asOther fs zs b o ∙ ap (λ xs. given asOther fs (words b o (length fs)) ++ xs) (own-last zs b (o + 2 * length fs) h .1)
       ∙ ap (λ xs. xs ++ words b (o + 2 * length fs) (length zs)) (R .others)
 
-module _ (k : TermKind) (b : List ℕ) (o : ℕ) where
+module _ (k : TermKind) (side : sideBySide k ≡ true) (b : List ℕ) (o : ℕ) where
   abbrev r : Row
   r = termRow k
 
@@ -200,15 +220,15 @@ module _ (k : TermKind) (b : List ℕ) (o : ℕ) where
   abbrev before : List Field
   before = r .first ++ again (times r (lengthAt b o)) (r .group)
 
-  rows : all (ordered (r .first) ∷ allTerms (r .group) ∷ allOwn (r .last) ∷ []) ≡ true
+  rows : all (ordered (r .first) ∷ allOwn (r .last) ∷ []) ≡ true
   unfolding everyOf all
   rows = at-term (λ k. orderedRow (termRow k)) refl k
 
   read : Read before (leadOf k) b (o + 4)
-  read = let t = each _ rows in read-of (r .first) (again (times r (lengthAt b o)) (r .group)) b (o + 4) (t .0) (terms-again (times r (lengthAt b o)) (r .group) (t .1 .0))
+  read = let t = each _ rows in read-of (r .first) (again (times r (lengthAt b o)) (r .group)) b (o + 4) (t .0) (terms-again (times r (lengthAt b o)) (r .group) side)
 
   last-own : allOwn (r .last) ≡ true
-  last-own = each _ rows .1 .1 .0
+  last-own = each _ rows .1 .0
 
   fields-are : fieldsAt b o r ≡ before ++ r .last
   fields-are = sym (append-assoc (r .first) (again (times r (lengthAt b o)) (r .group)) (r .last))

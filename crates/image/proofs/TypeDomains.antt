@@ -27,6 +27,7 @@ out-domain m l b o TypeKind.label vs g h = h 1 refl
 out-domain m l b o TypeKind.pcd vs g h = h 1 refl
 out-domain m l b o TypeKind.adv vs g h = h 0 refl
 out-domain m l b o TypeKind.obj vs g h = l
+out-domain m l b o TypeKind.stack vs g h = l
 
 -- For a caller whose domains are numbers below 16.
 pub type-domain : (L : Layout) → Good L → (t : ℕ) → t < length (L .types) → domOf (typeOf L t) < domainLimit
@@ -57,6 +58,7 @@ out-methods m l b o TypeKind.label vs g n h j = l
 out-methods m l b o TypeKind.pcd vs g n h j = l
 out-methods m l b o TypeKind.adv vs g n h j = l
 out-methods m l b o TypeKind.obj vs g n h j = methods-domain m l (times (typeRow TypeKind.obj) (lengthAt b o)) vs g n h j
+out-methods m l b o TypeKind.stack vs g n h j = l
 
 pub method-domain : (L : Layout) → Good L → (t : ℕ) → t < length (L .types) → (j : ℕ) → methodDom (methodsOf (typeOf L t)) j < domainLimit
 method-domain L good t l j =

@@ -31,6 +31,7 @@ headOf (Ty.label a p) = TypeKind.label
 headOf (Ty.pcd a p) = TypeKind.pcd
 headOf (Ty.adv p) = TypeKind.adv
 headOf (Ty.obj ms) = TypeKind.obj
+headOf Ty.stack = TypeKind.stack
 
 head-out : (k : TypeKind) (vs : List ℕ) (g : ℕ → Ty) → headOf (typeOut k vs g) ≡ k
 unfolding typeOut
@@ -44,6 +45,7 @@ head-out TypeKind.label vs g = refl
 head-out TypeKind.pcd vs g = refl
 head-out TypeKind.adv vs g = refl
 head-out TypeKind.obj vs g = refl
+head-out TypeKind.stack vs g = refl
 
 abbrev isMethod : Sigs → Bool
 isMethod noMethod = false
@@ -77,6 +79,7 @@ out-cong TypeKind.label n vs g h l e = cc (e 0 refl)
 out-cong TypeKind.pcd n vs g h l e = cc (e 0 refl)
 out-cong TypeKind.adv n vs g h l e = refl
 out-cong TypeKind.obj n vs g h l e = ap Ty.obj (methods-cong (times (typeRow TypeKind.obj) n) vs g h l e)
+out-cong TypeKind.stack n vs g h l e = refl
 
 -- Lists of the same few numbers.
 same0 : (vs ws : List ℕ) → length vs ≡ 0 → length ws ≡ 0 → vs ≡ ws
@@ -132,6 +135,7 @@ out-agree TypeKind.label n m vs ws g l e h ih = same2 vs ws l e (ih 0 refl refl 
 out-agree TypeKind.pcd n m vs ws g l e h ih = same2 vs ws l e (ih 0 refl refl cc) cc
 out-agree TypeKind.adv n m vs ws g l e h ih = same1 vs ws l e cc
 out-agree TypeKind.obj n m vs ws g l e h ih = methods-agree (times (typeRow TypeKind.obj) n) (times (typeRow TypeKind.obj) m) vs ws g l e (cc) ih
+out-agree TypeKind.stack n m vs ws g l e h ih = same0 vs ws l e
 
 module _ (L : Layout) (good : Good L) where
   -- The length of type t's record, what its fields are, and how many.

@@ -5,15 +5,15 @@ use mathlib.Core.List.{List, [], _∷_, _++_}
 use mathlib.Core.Option.{Option, none, some}
 use lib.ListN.{length, getD}
 use lib.Dec.{eqb}
-use Rattle.image.specs.Limits.{pointcutLimit, methodLimit}
+use Rattle.image.specs.Limits.{pointcutLimit, methodLimit, entryLimit}
 
 -- What the number of a field may be that names neither a type nor a term: a domain; an operation, 0 to 3; 0 or 1; any number.
 pub data Range : Type 0 where
   in-domains in-operations in-truths any-number : Range
 
--- Where a child of a term stands: where the term itself does; or, as the body of a function, of an advice, of a split, of a lower, of a method (card 3), under more variables or at a domain of its own.
+-- Where a child of a term stands: where the term itself does; or, as the body of a function, of an advice, of a split, of a lower, of a method (card 3), as the first branch of a match (card 6), under more variables or at a domain of its own.
 pub data Body : Type 0 where
-  here function-body advice-body split-body lower-body method-body : Body
+  here function-body advice-body split-body lower-body method-body match-body : Body
 
 pub data Field : Type 0 where
   -- a type number (of a type: a lower one); a number of its own
@@ -41,10 +41,10 @@ a-child = a-term here
 
 -- The kinds of each section.
 pub data TypeKind : Type 0 where
-  unit truth number pair fun ref label pcd adv obj : TypeKind
+  unit truth number pair fun ref label pcd adv obj stack : TypeKind
 
 pub data TermKind : Type 0 where
-  unit truth number var seq print ite pair split fun app arith newLabel mark pcd adv install newCell read store lower abort byte obj call : TermKind
+  unit truth number var seq print ite pair split fun app arith newLabel mark pcd adv install newCell read store lower abort byte obj call stack keep match : TermKind
 
 pub data Kind : Type 0 where
   domain : Kind
@@ -79,6 +79,8 @@ typeRow TypeKind.pcd = row 23 (a-type ∷ a-domain ∷ [])
 typeRow TypeKind.adv = row 24 (a-domain ∷ [])
 -- card 3
 typeRow TypeKind.obj = record { number = 25; first = []; group = a-domain ∷ a-type ∷ []; least = 1; most = methodLimit; last = [] }
+-- card 6
+typeRow TypeKind.stack = row 26 []
 
 abbrev pub termRow : TermKind → Row
 termRow TermKind.unit = row 32 (a-type ∷ [])
@@ -107,6 +109,10 @@ termRow TermKind.byte = row 60 (a-type ∷ a-child ∷ [])
 -- card 3
 termRow TermKind.obj = record { number = 54; first = a-type ∷ []; group = a-term method-body ∷ []; least = 1; most = methodLimit; last = [] }
 termRow TermKind.call = record { number = 55; first = a-type ∷ a-child ∷ []; group = []; least = 0; most = 0; last = free ∷ [] }
+-- card 6: a label, a value, a body; the stack, two branches, entries, and the close
+termRow TermKind.stack = row 56 (a-type ∷ [])
+termRow TermKind.keep = row 57 (a-type ∷ a-child ∷ a-child ∷ a-child ∷ [])
+termRow TermKind.match = record { number = 58; first = a-type ∷ a-child ∷ a-term match-body ∷ a-child ∷ []; group = an-entry ∷ []; least = 0; most = entryLimit; last = a-truth ∷ [] }
 
 abbrev pub rowOf : Kind → Row
 rowOf domain = domainRow
@@ -117,12 +123,12 @@ abbrev pub kinds : List Kind
 kinds =
     domain
     ∷ type TypeKind.unit ∷ type TypeKind.truth ∷ type TypeKind.number ∷ type TypeKind.pair ∷ type TypeKind.fun
-    ∷ type TypeKind.ref ∷ type TypeKind.label ∷ type TypeKind.pcd ∷ type TypeKind.adv ∷ type TypeKind.obj
+    ∷ type TypeKind.ref ∷ type TypeKind.label ∷ type TypeKind.pcd ∷ type TypeKind.adv ∷ type TypeKind.obj ∷ type TypeKind.stack
     ∷ term TermKind.unit ∷ term TermKind.truth ∷ term TermKind.number ∷ term TermKind.var ∷ term TermKind.seq ∷ term TermKind.print
     ∷ term TermKind.ite ∷ term TermKind.pair ∷ term TermKind.split ∷ term TermKind.fun ∷ term TermKind.app ∷ term TermKind.arith
     ∷ term TermKind.newLabel ∷ term TermKind.mark ∷ term TermKind.pcd ∷ term TermKind.adv ∷ term TermKind.install ∷ term TermKind.newCell
     ∷ term TermKind.read ∷ term TermKind.store ∷ term TermKind.lower ∷ term TermKind.abort ∷ term TermKind.byte
-    ∷ term TermKind.obj ∷ term TermKind.call
+    ∷ term TermKind.obj ∷ term TermKind.call ∷ term TermKind.stack ∷ term TermKind.keep ∷ term TermKind.match
     ∷ []
 
 unfoldable pub find : ℕ → List Kind → Option Kind

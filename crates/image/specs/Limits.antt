@@ -26,13 +26,17 @@ pointcutLimit = 8
 abbrev pub methodLimit : ℕ
 methodLimit = 8
 
+-- The entries of a match (card 6).
+abbrev pub entryLimit : ℕ
+entryLimit = 8
+
 -- The operations of arithmetic: plus, minus, less, equal.
 abbrev pub operationCount : ℕ
 operationCount = 4
 
--- The published length of the work area (3,905 words of 8 bytes and 513 single bytes), and the length that every report fits in.
+-- The published length of the work area (4,418 words of 8 bytes and 513 single bytes), and the length that every report fits in.
 abbrev pub workLength : ℕ
-workLength = 31753
+workLength = 35857
 
 abbrev pub reportLength : ℕ
 reportLength = 17994

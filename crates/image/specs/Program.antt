@@ -5,9 +5,9 @@ use mathlib.Core.List.{List, [], _∷_}
 use mathlib.Core.Option.{Option, none, some}
 use lib.ListN.{length, getD}
 use lib.Dec.{eqb}
-use Rattle.calculus.specs.Syntax.{Dom, Ty, Val, Tm, Tms, Op2, val, var, lam, op0, op1, op2, seq, ite, split, pcd, adv, lower, obj, newLabel, abort, print, install, read, byte, newCell, call, app, mark, store, plus, minus, less, equal}
+use Rattle.calculus.specs.Syntax.{Dom, Ty, Val, Tm, Tms, Pattern, atEnd, atRest, anything, pointcut, Op2, val, var, lam, op0, op1, op2, seq, ite, split, pcd, adv, lower, obj, keep, match, newLabel, abort, theStack, print, install, read, byte, newCell, call, app, mark, store, plus, minus, less, equal}
 use Rattle.calculus.specs.Plain.{domOf, methodsOf, methodDom}
-use Rattle.image.specs.Kinds.{Body, here, function-body, advice-body, split-body, lower-body, method-body, TermKind, bodyOf}
+use Rattle.image.specs.Kinds.{Body, here, function-body, advice-body, split-body, lower-body, method-body, match-body, TermKind, bodyOf}
 use Rattle.image.specs.Records.{Layout}
 use Rattle.image.specs.Types.{termKind, statedType, others, children, rootOf}
 
@@ -46,6 +46,26 @@ opOf (suc zero) = minus
 opOf (suc (suc zero)) = less
 opOf (suc (suc (suc n))) = equal
 
+-- The pattern of a match (card 6) from its other fields: an entry is 0 for anything, else a pointcut; the close, which stands last, is 0 for the empty stack, else it binds the rest.
+abbrev pub closeOf : ℕ → Pattern
+closeOf zero = atEnd
+closeOf (suc n) = atRest
+
+abbrev pub entryOf : ℕ → Pattern → Pattern
+entryOf zero p = anything p
+entryOf (suc n) p = pointcut p
+
+abbrev pub patternOf : List ℕ → Pattern
+patternOf [] = atEnd
+patternOf (v ∷ []) = closeOf v
+patternOf (v ∷ w ∷ vs) = entryOf v (patternOf (w ∷ vs))
+
+-- The subterms behind the first n.
+abbrev pub behind : ℕ → Tms → Tms
+behind zero es = es
+behind (suc n) Tms.end = Tms.end
+behind (suc n) (Tms.more e es) = behind n es
+
 -- A term of a kind and type t, with the other fields vs, over its subterms.
 unfoldable pub assemble : TermKind → Ty → List ℕ → Tms → Tm
 assemble TermKind.unit t vs es = val Val.unit
@@ -73,6 +93,9 @@ assemble TermKind.abort t vs es = op0 abort t
 assemble TermKind.byte t vs es = op1 byte t (nth es 0)
 assemble TermKind.obj t vs es = obj t es
 assemble TermKind.call t vs es = op1 (call (getD vs 0 0)) t (nth es 0)
+assemble TermKind.stack t vs es = op0 theStack t
+assemble TermKind.keep t vs es = keep (nth es 0) (nth es 1) (nth es 2)
+assemble TermKind.match t vs es = match (patternOf vs) (Tms.more (nth es 0) (behind 3 es)) (nth es 1) (nth es 2)
 
 unfoldable mutual
   pub toTm : Program → Tm
@@ -91,6 +114,7 @@ ownDomain advice-body t vs i = some (domOf t)
 ownDomain split-body t vs i = none
 ownDomain lower-body t vs i = some (getD vs 0 0)
 ownDomain method-body t vs i = some (methodDom (methodsOf t) i)
+ownDomain match-body t vs i = none
 
 module _ (high : Dom → Bool) where
   abbrev pub isLow : Option Dom → Bool

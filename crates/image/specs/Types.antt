@@ -86,6 +86,7 @@ typeOut TypeKind.label vs g = Ty.label (g (getD vs 0 0)) (getD vs 1 0)
 typeOut TypeKind.pcd vs g = Ty.pcd (g (getD vs 0 0)) (getD vs 1 0)
 typeOut TypeKind.adv vs g = Ty.adv (getD vs 0 0)
 typeOut TypeKind.obj vs g = Ty.obj (methodsOut vs g)
+typeOut TypeKind.stack vs g = Ty.stack
 
 -- A type's parts have lower numbers, so a fuel of t + 1 is enough.
 unfoldable pub typeFrom : Layout → ℕ → ℕ → Ty

@@ -6,7 +6,7 @@ ghost use Rattle.image.specs.Refusals.{refusalNumber};
 // The longest image, and the least lengths of a work area and a report (document 01, "Turned back at the gate").
 pub const IMAGE_LIMIT: usize = 16384;
 
-pub const WORK_LENGTH: usize = 31753;
+pub const WORK_LENGTH: usize = 35857;
 
 pub const REPORT_LENGTH: usize = 17994;
 

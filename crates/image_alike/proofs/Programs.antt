@@ -32,6 +32,7 @@ times-same TypeKind.obj m n e =
     let y = two-each (times (typeRow TypeKind.obj) n) in
     let z = ap length e in
     omega arith
+times-same TypeKind.stack m n e = refl
 
 module _ {b c : List ℕ} {place : ℕ → ℕ} {L M : Layout} (A : Alike b c place L M) (G : Good L) where
   module _ (t : ℕ) (h : t < length (L .types)) where

@@ -3,19 +3,21 @@ use Prim.Native.Nat.{ℕ, zero, suc, _+_, _-_, _≤_, _<_}
 use native.Mathlib.Omega.{arith}
 use mathlib.Core.Path.{_≡_, refl, sym, ap, _∙_}
 use mathlib.Core.Bool.{Bool, true, false, not, _&&_, _||_}
-use mathlib.Core.List.{List, [], _∷_, map}
+use mathlib.Core.List.{List, [], _∷_, _++_, map, reverseAux}
 use mathlib.Core.Option.{Option, none, some}
-use lib.ListN.{length, getD, set, replicate}
+use lib.ListN.{length, getD, drop, set, replicate}
 use lib.Dec.{eqb, leb}
+use Rattle.calculus.specs.Combinators.{choose}
 use Rattle.calculus.specs.Syntax.{Dom}
 use Rattle.calculus.specs.Plain.{isPlain}
 use Rattle.image.specs.declared.Refusal.{Refusal}
 use Rattle.image.specs.Limits.{domainLimit, depthLimit}
 use Rattle.laws.specs.Tests.{anyBelow, firstFault}
 use Rattle.image.specs.Bytes.{fieldAt}
-use Rattle.image.specs.Kinds.{Body, here, function-body, advice-body, split-body, lower-body, method-body, domain, domainRow, rowOf, find, kindOf, bodyOf}
+use Rattle.image.specs.Kinds.{Body, here, function-body, advice-body, split-body, lower-body, method-body, match-body, domain, domainRow, rowOf, find, kindOf, bodyOf}
 use Rattle.image.specs.Records.{Layout, orElse, kindAt, numbersAt}
 use Rattle.image.specs.Types.{domainPlace, termPlace, typeNumber, typeFields, typeField, methodCount, typeOf, termKind, typeNo, others, children, rootOf, rootType}
+use Rattle.image.specs.Program.{patternOf}
 use Rattle.image.proofs.Offsets.{number-at}
 use Rattle.image.proofs.Laid.{Below, Good}
 use Rattle.verdict.specs.declared.Verdict.{Verdict}
@@ -23,7 +25,7 @@ use Rattle.verdict.specs.Answers.{require, requireFrom, inTurn}
 use Rattle.verdict.specs.Domains.{bits, masks, order, leq}
 use Rattle.verdict.specs.Order.{atFault}
 use Rattle.verdict.specs.Shape.{setAll, noneEmpty, uses, usedOnce, depthsFrom, depths, shape}
-use Rattle.verdict.specs.Settings.{Setting, contextOf, domainOf}
+use Rattle.verdict.specs.Settings.{Setting, bindsRest, contextOf, domainOf}
 use Rattle.verdict.specs.Rules.{Descriptor, ruleFaults, rule}
 use Rattle.verdict.specs.Check.{describe, described, typeNos, ruleBy, ruleAt, settingAt, checkAll, check, rootSetting, typing}
 use Rattle.verdict.proofs.Sound.{term-facts, TermFacts}
@@ -164,6 +166,16 @@ module _ {b c : List ℕ} {place : ℕ → ℕ} {L M : Layout} (A : Alike b c pl
   first-below [] t h d = h
   first-below (u ∷ us) t h d = d .0
 
+  -- Card 6: those of the pointcuts behind the first three.
+  firsts-same : (ts : List ℕ) → Below (length (L .types)) ts → map (λ a. typeField M a 0) ts ≡ map (λ a. typeField L a 0) ts
+  firsts-same [] d = refl
+  firsts-same (t ∷ ts) d = let x = part-same 0 t (d .0) in let y = firsts-same ts (d .1) in cc
+
+  below-drop : (n : ℕ) (ts : List ℕ) → Below (length (L .types)) ts → Below (length (L .types)) (drop n ts)
+  below-drop zero ts d = d
+  below-drop (suc n) [] d = tt
+  below-drop (suc n) (t ∷ ts) d = below-drop n ts (d .1)
+
   context-same : (x : Body) (t : ℕ) (vs ts Γ : List ℕ) → t < length (L .types) → Below (length (L .types)) ts
       → contextOf (λ a. typeField M a 0) (λ a. typeField M a 1) x t vs ts Γ ≡ contextOf (λ a. typeField L a 0) (λ a. typeField L a 1) x t vs ts Γ
   context-same here t vs ts Γ h d = refl
@@ -174,6 +186,8 @@ module _ {b c : List ℕ} {place : ℕ → ℕ} {L M : Layout} (A : Alike b c pl
       ap (λ a. a ∷ typeField M (getD ts 0 t) 0 ∷ Γ) (part-same 1 (getD ts 0 t) l) ∙ ap (λ a. typeField L (getD ts 0 t) 1 ∷ a ∷ Γ) (part-same 0 (getD ts 0 t) l)
   context-same lower-body t vs ts Γ h d = refl
   context-same method-body t vs ts Γ h d = refl
+  context-same match-body t vs ts Γ h d =
+      ap (λ xs. reverseAux (xs ++ choose (bindsRest (patternOf vs)) (getD ts 0 t ∷ []) []) Γ) (firsts-same (drop 3 ts) (below-drop 3 ts d))
 
   module _ (p : Setting ℕ) (n : ℕ) (h : n < length (L .terms)) where
     facts : TermFacts L G n

@@ -3,7 +3,7 @@ use Prim.Native.Nat.{ℕ, zero, suc, _≤_, _<_}
 use native.Mathlib.Omega.{arith}
 use mathlib.Core.Path.{_≡_, refl, subst}
 use mathlib.Core.Bool.{Bool, true, false}
-use mathlib.Core.List.{List, [], _∷_, _++_, map}
+use mathlib.Core.List.{List, [], _∷_, _++_, map, reverse, reverseAux}
 use mathlib.Core.Option.{Option, none, some, Option·some-injective}
 use lib.ListN.{length, getD, set, getElem?, length-append, List·getD-append}
 use lib.Seq.{getD-append-seam}
@@ -84,6 +84,13 @@ module _ {A B : Type 0} where
     pub all2-snoc : {xs : List A} {ys : List B} {x : A} {y : B} → All2 R xs ys → R x y → All2 R (xs ++ (x ∷ [])) (ys ++ (y ∷ []))
     all2-snoc all2-nil r = all2-cons r all2-nil
     all2-snoc (all2-cons q rs) r = all2-cons q (all2-snoc rs r)
+
+    all2-reverseAux : {xs zs : List A} {ys ws : List B} → All2 R xs ys → All2 R zs ws → All2 R (reverseAux xs zs) (reverseAux ys ws)
+    all2-reverseAux all2-nil k = k
+    all2-reverseAux (all2-cons r rs) k = all2-reverseAux rs (all2-cons r k)
+
+    pub all2-reverse : {xs : List A} {ys : List B} → All2 R xs ys → All2 R (reverse xs) (reverse ys)
+    all2-reverse rs = all2-reverseAux rs all2-nil
 
 -- An element of a mapped list.
 pub map-at : {A B : Type 0} (f : A → B) (xs : List A) (i : ℕ) (d : A) (e : B) → i < length xs → getD (map f xs) i e ≡ f (getD xs i d)

@@ -1,23 +1,27 @@
 -- Where the children of a term stand: type numbers and types in full say the same, and all numbers stay in range.
 use Prim.Native.Nat.{ℕ, _≤_, _<_}
 use native.Mathlib.Omega.{arith}
-use mathlib.Core.Path.{_≡_, refl, sym, subst}
-use mathlib.Core.Bool.{true}
-use mathlib.Core.List.{List, [], _∷_}
+use mathlib.Core.Path.{_≡_, refl, sym, ap, subst, _∙_}
+use mathlib.Core.Bool.{Bool, true, false}
+use mathlib.Core.List.{List, [], _∷_, _++_, map, reverseAux}
 use lib.ListN.{length, getD}
 use Rattle.calculus.specs.Syntax.{Dom, Ty}
-use Rattle.image.specs.Kinds.{a-type, free, Body, here, function-body, advice-body, split-body, lower-body, method-body, TypeKind, TermKind, typeRow, termRow, bodyOf}
+use Rattle.image.specs.Kinds.{a-type, free, Body, here, function-body, advice-body, split-body, lower-body, method-body, match-body, TypeKind, TermKind, typeRow, termRow, bodyOf}
 use Rattle.image.specs.Records.{Layout, fieldsAt}
+use Rattle.image.specs.Program.{patternOf}
 use Rattle.image.specs.Types.{typePlace, typeField, isType, typeOut, typeOf}
+use Rattle.laws.specs.Tests.{all}
+use Rattle.laws.proofs.Booleans.{and-l, and-r}
 use Rattle.laws.proofs.Tests.{each}
 use Rattle.image.proofs.Laid.{Below, Good}
 use Rattle.image.proofs.Bodies.{Owner, body-owner}
 use Rattle.image.proofs.Counts.{leastChildren, mostChildren}
 use Rattle.image.proofs.TypeNumbers.{type-kind, out-as}
-use Rattle.verdict.specs.Settings.{contextOf}
-use Rattle.verdict.specs.Check.{ruleBy}
+use Rattle.verdict.specs.Settings.{bindsRest, contextOf}
+use Rattle.verdict.specs.Rules.{is}
+use Rattle.verdict.specs.Check.{described, ruleBy}
 use Rattle.verdict.specs.WellTyped.{firstOf, secondOf}
-use Rattle.verdict.proofs.Local.{two-of, outs}
+use Rattle.verdict.proofs.Local.{two-of, three-more, outs}
 
 module _ (L : Layout) (good : Good L) where
   -- A type's parts are types.
@@ -62,6 +66,40 @@ module _ (L : Layout) (good : Good L) where
       let e = out-as L good TypeKind.pair a (ks .0) h in
       record { same = rw e refl; inside = λ g. (part-there TypeKind.pair 1 a (ks .0) h refl, (part-there TypeKind.pair 0 a (ks .0) h refl, g)) }
 
+  outs-reverse : (xs Γ : List ℕ) → outs L (reverseAux xs Γ) ≡ reverseAux (outs L xs) (outs L Γ)
+  outs-reverse [] Γ = refl
+  outs-reverse (x ∷ xs) Γ = outs-reverse xs (x ∷ Γ)
+
+  below-reverse : (m : ℕ) (xs Γ : List ℕ) → Below m xs → Below m Γ → Below m (reverseAux xs Γ)
+  below-reverse m [] Γ h g = g
+  below-reverse m (x ∷ xs) Γ h g = below-reverse m xs (x ∷ Γ) (h .1) (h .0, g)
+
+  -- Card 6: what a match binds of its pointcuts, and behind them one type more.
+  cuts-out : (xs rest : List ℕ) → Below (length (L .types)) xs → all (map (λ a. is TypeKind.pcd a) (described L xs)) ≡ true
+      → (outs L (map (λ a. typeField L a 0) xs ++ rest) ≡ map firstOf (outs L xs) ++ outs L rest) × (Below (length (L .types)) rest → Below (length (L .types)) (map (λ a. typeField L a 0) xs ++ rest))
+  unfolding typeOut all
+  cuts-out [] rest ks h = (refl, λ g. g)
+  cuts-out (x ∷ xs) rest ks h =
+      let p = and-l (isType L TypeKind.pcd x) (all (map (λ a. is TypeKind.pcd a) (described L xs))) h in
+      let e = out-as L good TypeKind.pcd x (ks .0) p in
+      let r = cuts-out xs rest (ks .1) (and-r (isType L TypeKind.pcd x) (all (map (λ a. is TypeKind.pcd a) (described L xs))) h) in
+      (rw e (ap (λ ts. typeOf L (typeField L x 0) ∷ ts) (r .0)), λ g. (part-there TypeKind.pcd 0 x (ks .0) p refl, r .1 g))
+
+  match-context : (Γ : List ℕ) (c : Dom) (t : ℕ) (vs : List ℕ) (a b d : ℕ) (xs : List ℕ) → SameContexts match-body TermKind.match Γ c t vs (a ∷ b ∷ d ∷ xs)
+  match-context Γ c t vs a b d xs n ks r = pick (bindsRest (patternOf vs)) refl
+    where
+      cuts : all (map (λ a. is TypeKind.pcd a) (described L xs)) ≡ true
+      cuts = each _ r .1 .1 .1 .0
+
+      with-rest : (rest : List ℕ) → Below (length (L .types)) rest → (outs L (reverseAux (map (λ a. typeField L a 0) xs ++ rest) Γ) ≡ reverseAux (map firstOf (outs L xs) ++ outs L rest) (outs L Γ)) × (Below (length (L .types)) Γ → Below (length (L .types)) (reverseAux (map (λ a. typeField L a 0) xs ++ rest) Γ))
+      with-rest rest l =
+          let e = cuts-out xs rest (ks .1 .1 .1) cuts in
+          (outs-reverse (map (λ a. typeField L a 0) xs ++ rest) Γ ∙ ap (λ x. reverseAux x (outs L Γ)) (e .0), λ g. below-reverse (length (L .types)) (map (λ a. typeField L a 0) xs ++ rest) Γ (e .1 l) g)
+
+      pick : (x : Bool) → bindsRest (patternOf vs) ≡ x → SameContext match-body Γ t vs (a ∷ b ∷ d ∷ xs)
+      pick true q = let e = with-rest (a ∷ []) (ks .0, tt) in record { same = rw q (e .0); inside = λ g. rw q (e .1 g) }
+      pick false q = let e = with-rest [] tt in record { same = rw q (e .0); inside = λ g. rw q (e .1 g) }
+
   body-context : (b : Body) (k : TermKind) (Γ : List ℕ) (c : Dom) (t : ℕ) (vs ts : List ℕ) → Owner k b → leastChildren (termRow k) ≤ length ts → length ts ≤ mostChildren (termRow k) → SameContexts b k Γ c t vs ts
   body-context here k Γ c t vs ts w l m = λ n ks h. record { same = refl; inside = λ g. g }
   body-context function-body k Γ c t vs ts w l m = subst (λ j. SameContexts function-body j Γ c t vs ts) (sym w) (function-context Γ c t vs ts)
@@ -71,6 +109,8 @@ module _ (L : Layout) (good : Good L) where
       subst (λ j. SameContexts split-body j Γ c t vs ts) (sym w) (two-of (SameContexts split-body TermKind.split Γ c t vs) (split-context Γ c t vs) ts (rw w at l) (rw w at m))
   body-context lower-body k Γ c t vs ts w l m = λ n ks h. record { same = refl; inside = λ g. g }
   body-context method-body k Γ c t vs ts w l m = λ n ks h. record { same = refl; inside = λ g. (n, g) }
+  body-context match-body k Γ c t vs ts w l m =
+      subst (λ j. SameContexts match-body j Γ c t vs ts) (sym w) (three-more (SameContexts match-body TermKind.match Γ c t vs) (match-context Γ c t vs) ts (rw w at l))
 
   pub contexts : (k : TermKind) (Γ : List ℕ) (c : Dom) (t : ℕ) (vs ts : List ℕ) → leastChildren (termRow k) ≤ length ts → length ts ≤ mostChildren (termRow k) → t < length (L .types) → Below (length (L .types)) ts
       → ruleBy L Γ c t vs ts k .typed ≡ true → (i : ℕ) → SameContext (bodyOf k i) Γ t vs ts

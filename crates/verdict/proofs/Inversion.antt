@@ -5,8 +5,8 @@ use mathlib.Core.Bool.{Bool, true}
 use mathlib.Core.List.{List, [], _∷_}
 use mathlib.Core.Option.{some}
 use lib.ListN.{getElem?}
-use Rattle.calculus.specs.Syntax.{Dom, Ty, Sigs, Val, Tm, Tms, Op2, val, var, lam, op0, op1, op2, seq, ite, split, pcd, adv, lower, obj, newLabel, abort, print, install, read, byte, newCell, call, app, mark, store}
-use Rattle.calculus.specs.Typing.{Policy, noStore, t-newLabel, t-print, t-install, t-read, t-byte, t-newCell, t-call, t-pair, t-app, t-mark, t-store, t-plus, t-minus, t-less, t-equal, LabelTys, TmTy, TmsTy, BodiesTy, Rule2, v-unit, v-truth, v-num, is-val, is-var, is-lam, is-op0, is-op1, is-op2, is-seq, is-ite, is-split, is-pcd, is-adv, is-lower, is-obj, is-end, is-more}
+use Rattle.calculus.specs.Syntax.{Dom, Ty, Sigs, Val, Tm, Tms, Op2, val, var, lam, op0, op1, op2, seq, ite, split, pcd, adv, lower, obj, keep, match, Pattern, newLabel, abort, theStack, print, install, read, byte, newCell, call, app, mark, store}
+use Rattle.calculus.specs.Typing.{Policy, noStore, PatternTy, t-newLabel, t-stack, t-print, t-install, t-read, t-byte, t-newCell, t-call, t-pair, t-app, t-mark, t-store, t-plus, t-minus, t-less, t-equal, LabelTys, TmTy, TmsTy, BodiesTy, Rule2, v-unit, v-truth, v-num, is-val, is-var, is-lam, is-op0, is-op1, is-op2, is-seq, is-ite, is-split, is-pcd, is-adv, is-lower, is-obj, is-keep, is-match, is-end, is-more}
 use Rattle.calculus.specs.Typing as Typing
 use Rattle.image.specs.Program.{opOf}
 use Rattle.verdict.specs.WellTyped.{aborts}
@@ -70,7 +70,7 @@ module _ (D : Policy) (Γ : List Ty) (c : Dom) where
   pub of-mark : {t a b u : Ty} → Has (op2 mark t (op0 abort a) (op0 abort b)) u → (t ≡ Ty.unit) × (a ≡ Ty.label b c)
   of-mark (is-op2 t-mark (is-op0 r) (is-op0 s)) = (refl, refl)
 
-  abort-types : (ts us : List Ty) → TmsTy D noStore Γ c (aborts ts) us → us ≡ ts
+  pub abort-types : (ts us : List Ty) → TmsTy D noStore Γ c (aborts ts) us → us ≡ ts
   abort-types [] us is-end = refl
   abort-types (t ∷ ts) us (is-more {ts = vs} (is-op0 r) ds) = rw (abort-types ts vs ds) refl
 
@@ -104,3 +104,14 @@ module _ (D : Policy) (Γ : List Ty) (c : Dom) where
 
   pub of-call : {m : ℕ} {t a u : Ty} → Has (op1 (call m) t (op0 abort a)) u → (ms : Sigs) × (a ≡ Ty.obj ms) × Typing.Has c t ms m
   of-call (is-op1 (t-call {ms = ms} h) (is-op0 r)) = (ms, refl, h)
+
+  -- Card 6.
+  pub of-stack : {t u : Ty} → Has (op0 theStack t) u → t ≡ Ty.stack
+  of-stack (is-op0 t-stack) = refl
+
+  pub of-keep : {a b d u : Ty} → Has (keep (op0 abort a) (op0 abort b) (op0 abort d)) u → (a ≡ Ty.label b c) × (d ≡ u)
+  of-keep (is-keep (is-op0 r) (is-op0 s) (is-op0 q)) = (refl, refl)
+
+  pub of-match : (p : Pattern) (xs : List Ty) {a b d u : Ty} → Has (match p (Tms.more (op0 abort a) (aborts xs)) (op0 abort b) (op0 abort d)) u
+      → (us : List Ty) × (a ≡ Ty.stack) × (b ≡ u) × (d ≡ u) × PatternTy p xs us
+  of-match p xs (is-match {ts} {us} (is-more (is-op0 r) ds) o (is-op0 s) (is-op0 q)) = (us, refl, refl, refl, subst (λ v. PatternTy p v us) (abort-types xs ts ds) o)

@@ -3,6 +3,7 @@ pub mod Order
 pub mod Term
 pub mod Descriptors
 pub mod Methods
+pub mod Patterns
 pub mod Local
 pub mod Contexts
 pub mod Answered

@@ -7,13 +7,13 @@ use mathlib.Core.List.{List, [], _∷_, map}
 use mathlib.Core.Option.{some}
 use lib.ListN.{length, getD, getElem?, length-map}
 use lib.Dec.{eqb}
-use Rattle.calculus.specs.Syntax.{Dom, Ty, Sigs}
-use Rattle.calculus.specs.Typing.{noStore, Has, BodiesTy, LabelTys, a-type, TmTy}
+use Rattle.calculus.specs.Syntax.{Dom, Ty, Sigs, Pattern, atEnd, atRest, anything, pointcut}
+use Rattle.calculus.specs.Typing.{noStore, PatternTy, Has, BodiesTy, LabelTys, a-type, TmTy}
 use Rattle.laws.specs.Tests.{all}
 use Rattle.image.specs.Kinds.{TypeKind, TermKind, termRow}
 use Rattle.image.specs.Records.{Layout}
 use Rattle.image.specs.Types.{typeFields, typeField, methodCount, isType, methodsOut, typeOut, typeOf}
-use Rattle.image.specs.Program.{assemble}
+use Rattle.image.specs.Program.{patternOf, assemble}
 use Rattle.laws.proofs.Booleans.{no-path, and-i, of-lt, of-eq}
 use Rattle.laws.proofs.Tests.{of-each}
 use Rattle.image.proofs.Laid.{Below, Good, below-at}
@@ -23,10 +23,11 @@ use Rattle.verdict.specs.Domains.{leq, policy}
 use Rattle.verdict.specs.Rules.{is, opGives, Rule}
 use Rattle.verdict.specs.Check.{describe, described, ruleBy}
 use Rattle.verdict.specs.WellTyped.{aborts}
+use Rattle.verdict.proofs.Patterns.{pattern-count, any-part, cut-parts}
 use Rattle.verdict.proofs.Methods.{method-parts, bodies-types, bodies-fit, method-fields, method-type}
-use Rattle.verdict.proofs.Local.{one-of, two-of, three-of, outs}
+use Rattle.verdict.proofs.Local.{one-of, two-of, three-of, three-more, outs}
 use Rattle.verdict.proofs.Contexts.{part-there}
-use Rattle.verdict.proofs.Inversion.{opTy, of-unit, of-truth, of-number, of-var, of-seq, of-print, of-ite, of-pair, of-split, of-fun, of-app, of-arith, of-newLabel, of-mark, of-pcd, of-adv, of-install, of-newCell, of-read, of-store, of-lower, of-byte, of-obj, of-call}
+use Rattle.verdict.proofs.Inversion.{opTy, of-unit, of-truth, of-number, of-var, of-seq, of-print, of-ite, of-pair, of-split, of-fun, of-app, of-arith, of-newLabel, of-mark, of-pcd, of-adv, of-install, of-newCell, of-read, of-store, of-lower, of-byte, of-obj, of-call, of-stack, of-keep, of-match}
 
 -- What 13, 14 and 15 ask is there.
 pub record Passes (r : Rule) : Type 0 where
@@ -80,6 +81,17 @@ module _ (L : Layout) (good : Good L) where
   in-obj : {ms : Sigs} (t : ℕ) → t < length (L .types) → typeOf L t ≡ Ty.obj ms → methodsOut (typeFields L t) (λ a. typeOf L a) ≡ ms
   unfolding typeOut
   in-obj t n h = let e = out-as L good TypeKind.obj t n (in-kind t n h) in cc
+
+  -- Card 6: the pointcuts of a typed pattern.
+  cuts-complete : (p : Pattern) (xs : List ℕ) (us : List Ty) → Below (length (L .types)) xs → PatternTy p (outs L xs) us → all (map (λ a. is TypeKind.pcd a) (described L xs)) ≡ true
+  unfolding all
+  cuts-complete p [] us ks o = refl
+  cuts-complete atEnd (x ∷ xs) us ks o = let z = pattern-count o in absurd (omega arith)
+  cuts-complete atRest (x ∷ xs) us ks o = let z = pattern-count o in absurd (omega arith)
+  cuts-complete (anything p) (x ∷ xs) us ks o = cuts-complete p (x ∷ xs) us ks (any-part o)
+  cuts-complete (pointcut p) (x ∷ xs) us ks o =
+      let e = cut-parts o in
+      and-i (in-kind x (ks .0) (e .3)) (cuts-complete p xs (e .2) (ks .1) (e .4))
 
   label-parts : {x t : Ty} {p : Dom} {ts : List Ty} → LabelTys (policy L) x p (t ∷ ts) → (q : Dom) × (t ≡ Ty.label x q) × (leq L p q ≡ true) × LabelTys (policy L) x p ts
   label-parts (a-type {q = q} h ls) = (q, refl, h, ls)
@@ -253,3 +265,20 @@ module _ (L : Layout) (good : Good L) where
       let h = in-kind a (ks .0) (e .1) in
       let f = method-parts (λ b. typeOf L b) (methodCount L a) (typeFields L a) (method-fields L good a (ks .0) h) (getD vs 0 0) (subst (λ ms. Has c (typeOf L t) ms (getD vs 0 0)) (sym (in-obj a (ks .0) (e .1))) (e .2)) in
       record { bound = refl; typed = of-each _ (h, (of-lt (f .0), (same (method-type L good a (ks .0) h (getD vs 0 0) (f .0)) o (f .2), tt))); allowed = of-eq (f .1) }) ts l m
+  local-complete TermKind.stack Γ c t vs ts l m =
+      λ o ks g d.
+      let e = of-stack (policy L) (outs L Γ) c d in
+      record { bound = refl; typed = of-each _ (in-kind t o e, tt); allowed = refl }
+  local-complete TermKind.keep Γ c t vs ts l m =
+      three-of (LocalComplete TermKind.keep Γ c t vs)
+      (λ a b h o ks g d.
+      let e = of-keep (policy L) (outs L Γ) c d in
+      let k = in-kind a (ks .0) (e .0) in
+      let f = in-label a (ks .0) (e .0) in
+      record { bound = refl; typed = of-each _ (k, (same (part-there L good TypeKind.label 0 a (ks .0) k refl) (ks .1 .0) (f .0), (same (ks .1 .1 .0) o (e .1), tt))); allowed = of-eq (f .1) }) ts l m
+  local-complete TermKind.match Γ c t vs ts l m =
+      three-more (LocalComplete TermKind.match Γ c t vs)
+      (λ a b h xs o ks g d.
+      let e = of-match (policy L) (outs L Γ) c (patternOf vs) (outs L xs) d in
+      let q = cuts-complete (patternOf vs) xs (e .0) (ks .1 .1 .1) (e .4) in
+      record { bound = refl; typed = of-each _ (in-kind a (ks .0) (e .1), (same (ks .1 .0) o (e .2), (same (ks .1 .1 .0) o (e .3), (q, tt)))); allowed = refl }) ts l

@@ -102,6 +102,6 @@ unfolding verdict inTurn
 too-long b work report h = let e : leb (length b) imageLimit ≡ false = lt-leb _ _ h in rw (e, inTurn) refl
 
 -- 17 and 18: a work area and a report that are too short.
-pub short-lengths : (verdict p2-image 31752 17993 ≡ Verdict.Refused Refusal.ShortWorkArea 0) × (verdict p2-image 31753 17993 ≡ Verdict.Refused Refusal.ShortReport 0)
+pub short-lengths : (verdict p2-image 35856 17993 ≡ Verdict.Refused Refusal.ShortWorkArea 0) × (verdict p2-image 35857 17993 ≡ Verdict.Refused Refusal.ShortReport 0)
 unfolding p2-image verdict inTurn requireFrom walk layout recordsOf tests find words allWithin all allOf anyBelow firstFault shape atFault leq order bits count uses depths depthsFrom typing check checkAll typeOf typeFrom typeOut
 short-lengths = (refl, refl)

@@ -11,12 +11,13 @@ use Rattle.image.specs.declared.Refusal.{Refusal}
 use Rattle.laws.specs.Tests.{firstFault}
 use Rattle.image.specs.Bytes.{lengthAt}
 use Rattle.image.specs.Kinds.{termRow}
-use Rattle.image.specs.Records.{Layout, times}
+use Rattle.image.specs.Records.{Layout, times, numbersAt}
 use Rattle.image.specs.Types.{termPlace, termKind, typeNo, statedType, others, children}
 use Rattle.image.specs.Program.{subtrees, tree}
 use Rattle.laws.proofs.Tests.{passed}
 use Rattle.image.proofs.Words.{words-length}
 use Rattle.image.proofs.Laid.{Below, Good}
+use Rattle.image.proofs.Fitting.{Fitting}
 use Rattle.image.proofs.Counts.{leastChildren, mostChildren, children-between}
 use Rattle.verdict.specs.declared.Verdict.{Verdict}
 use Rattle.verdict.specs.Domains.{policy}
@@ -46,6 +47,7 @@ module _ (L : Layout) (good : Good L) where
     pub own : typeNo L n < length (L .types)
     pub least : leastChildren (termRow (termKind L n)) ≤ length (typeNos L (children L n))
     pub most : length (typeNos L (children L n)) ≤ mostChildren (termRow (termKind L n))
+    pub fitting : Fitting (termKind L n) (others L n) (length (typeNos L (children L n)))
     pub below : Below (length (L .terms)) (children L n)
     pub types : Below (length (L .types)) (typeNos L (children L n))
 
@@ -55,7 +57,9 @@ module _ (L : Layout) (good : Good L) where
       let m : length (typeNos L (children L n)) ≡ length (children L n) = length-map (children L n) (λ e. typeNo L e) in
       let b : Below (length (L .terms)) (children L n) = below-le (children L n) (omega arith) (t .below) in
       let c = children-between (termRow (termKind L n)) (times (termRow (termKind L n)) (lengthAt (L .image) (termPlace L n))) _ (words-length (L .image) _ _) (t .is .stands .least) (t .is .stands .most) in
-      record { own = t .typed; least = rw m (c .0); most = rw m (c .1); below = b; types = types-below (children L n) b }
+      let f : Fitting (termKind L n) (others L n) (length (typeNos L (children L n))) =
+      record { times = times (termRow (termKind L n)) (lengthAt (L .image) (termPlace L n)); numbers = numbersAt (L .image) (termPlace L n) (termRow (termKind L n)); size = words-length (L .image) _ _; others = refl; children = m } in
+      record { own = t .typed; fitting = f; least = rw m (c .0); most = rw m (c .1); below = b; types = types-below (children L n) b }
 
   -- The types that trees state.
   pub trees-stated : (f : ℕ) (es : List ℕ) → stateds (subtrees (λ e. tree L (suc f) e) es) ≡ outs L (typeNos L es)
@@ -107,7 +111,7 @@ module _ (L : Layout) (good : Good L) where
           let r15 = passed _ _ _ (r14 .1) in
           let t = term-facts n l in
           let s = children-stated f (λ i. settingAt L p n i) 0 (children L n) c in
-          let d = local-sound L good (termKind L n) (p .context) (p .dom) (typeNo L n) (others L n) (typeNos L (children L n)) (t .least) (t .most) (t .own) (t .types) (r13 .0) (r14 .0) (r15 .0) in
+          let d = local-sound L good (termKind L n) (p .context) (p .dom) (typeNo L n) (others L n) (typeNos L (children L n)) (t .least) (t .most) (t .fitting) (t .own) (t .types) (r13 .0) (r14 .0) (r15 .0) in
           let w = children-sound f ih (λ i. settingAt L p n i) 0 (children L n) (t .below) c in
           let w′ = subst (λ at. EachWellTyped (policy L) at 0 (subtrees (λ e. tree L f e) (children L n))) (child-setting p n l (r14 .0)) w in
           rw s (d, w′)

@@ -1,17 +1,20 @@
 -- A well-typed program is a well-typed term of the calculus.
-use Prim.Native.Nat.{ℕ, zero, suc, _+_}
+use Prim.Native.Nat.{ℕ, zero, suc, _+_, _≤_}
 use native.Mathlib.Omega.{arith}
-use mathlib.Core.Path.{_≡_, refl, sym, ap, subst}
+use mathlib.Core.Path.{_≡_, refl, sym, ap, subst, _∙_}
 use mathlib.Core.Bool.{true}
-use mathlib.Core.List.{List, [], _∷_}
-use Rattle.calculus.specs.Syntax.{Dom, Ty, Sigs, noMethod, method, Val, Tm, Tms, val, op0, split, adv, abort}
-use Rattle.calculus.specs.Typing.{Policy, noStore, t-abort, v-unit, TmTy, TmsTy, BodiesTy, a-body, is-val, is-lam, is-op0, is-op1, is-op2, is-seq, is-ite, is-split, is-pcd, is-adv, is-lower, is-obj, is-more}
+use mathlib.Core.List.{List, [], _∷_, reverseAux}
+use lib.ListN.{drop}
+use Rattle.calculus.specs.Syntax.{Dom, Ty, Sigs, noMethod, method, Val, Tm, Tms, Pattern, val, op0, split, adv, match, abort}
+use Rattle.calculus.specs.Typing.{Policy, noStore, t-abort, v-unit, TmTy, TmsTy, BodiesTy, a-body, is-val, is-lam, is-op0, is-op1, is-op2, is-seq, is-ite, is-split, is-pcd, is-adv, is-lower, is-obj, is-keep, is-match, is-end, is-more}
 use Rattle.calculus.specs.Plain.{domOf, methodDom}
 use Rattle.image.specs.Kinds.{TermKind}
-use Rattle.image.specs.Program.{Program, Programs, node, blank, end, more, nth, assemble, toTm, toTms}
+use Rattle.image.specs.Program.{Program, Programs, node, blank, end, more, nth, behind, patternOf, assemble, toTm, toTms}
 use Rattle.laws.proofs.Booleans.{no-path}
-use Rattle.verdict.specs.Settings.{Setting}
+use Rattle.verdict.specs.Settings.{matchBinds, Setting}
 use Rattle.verdict.specs.WellTyped.{firstOf, stated, stateds, aborts, childSetting, WellTyped, EachWellTyped}
+use Rattle.verdict.proofs.Patterns.{pattern-binds}
+use Rattle.verdict.proofs.Inversion.{abort-types}
 
 module _ (D : Policy) where
   abort-type : {Γ : List Ty} {c : Dom} {s t : Ty} → TmTy D noStore Γ c (op0 abort s) t → s ≡ t
@@ -20,7 +23,7 @@ module _ (D : Policy) where
   -- Wherever the aborts as are typed, the subterms es are, each where it stands.
   record Stand (at : ℕ → Setting Ty) (as′ es : Tms) : Type 0 where
     one : (j : ℕ) {t : Ty} → TmTy D noStore (at j .context) (at j .dom) (nth as′ j) t → TmTy D noStore (at j .context) (at j .dom) (nth es j) t
-    every : (p : Setting Ty) → ((j : ℕ) → at j ≡ p) → {ts : List Ty} → TmsTy D noStore (p .context) (p .dom) as′ ts → TmsTy D noStore (p .context) (p .dom) es ts
+    every : (n : ℕ) (p : Setting Ty) → ((j : ℕ) → n ≤ j → at j ≡ p) → {ts : List Ty} → TmsTy D noStore (p .context) (p .dom) (behind n as′) ts → TmsTy D noStore (p .context) (p .dom) (behind n es) ts
     bodies : (ms : Sigs) (Δ : List Ty) → ((j : ℕ) → at j ≡ record { context = Δ; dom = methodDom ms j }) → BodiesTy D noStore Δ as′ ms → BodiesTy D noStore Δ es ms
 
   unit-type : {Γ : List Ty} {c : Dom} {t : Ty} → TmTy D noStore Γ c (val Val.unit) t → t ≡ Ty.unit
@@ -36,6 +39,22 @@ module _ (D : Policy) where
 
   no-advice : {Γ : List Ty} {c p : Dom} {t : Ty} {e : Tm} {A : Type 0} → TmTy D noStore Γ c (adv p (val Val.unit) e) t → A
   no-advice (is-adv {q = q} {a = a} d h e) = let z : Ty.pcd a q ≡ Ty.unit = unit-type d in no-path cc
+
+  -- Card 6: the types behind the first three.
+  behind-types : {Γ : List Ty} {c : Dom} (ts us : List Ty) → TmsTy D noStore Γ c (behind 3 (aborts ts)) us → us ≡ drop 3 ts
+  behind-types [] us is-end = refl
+  behind-types (a ∷ []) us is-end = refl
+  behind-types (a ∷ b ∷ []) us is-end = refl
+  behind-types {Γ} {c} (a ∷ b ∷ d ∷ ts) us ds = abort-types D Γ c ts us ds
+
+  no-match : {Γ : List Ty} {c : Dom} {t : Ty} {p : Pattern} {es : Tms} {f g : Tm} {A : Type 0} → TmTy D noStore Γ c (match p (Tms.more (val Val.unit) es) f g) t → A
+  no-match (is-match (is-more d ds) o f g) = let z : Ty.stack ≡ Ty.unit = unit-type d in no-path cc
+
+  shifted : (at : ℕ → Setting Ty) (p : Setting Ty) → ((j : ℕ) → at (suc (suc (suc j))) ≡ p) → (j : ℕ) → 3 ≤ j → at j ≡ p
+  shifted at p h zero l = absurd (omega arith)
+  shifted at p h (suc zero) l = absurd (omega arith)
+  shifted at p h (suc (suc zero)) l = absurd (omega arith)
+  shifted at p h (suc (suc (suc j))) l = h j
 
   rebuilt : (p : Setting Ty) (k : TermKind) (t : Ty) (vs : List ℕ) (ts : List Ty) (es : Tms) → Stand (childSetting p k t vs ts) (aborts ts) es
       → TmTy D noStore (p .context) (p .dom) (assemble k t vs (aborts ts)) t → TmTy D noStore (p .context) (p .dom) (assemble k t vs es) t
@@ -55,7 +74,7 @@ module _ (D : Policy) where
   rebuilt p TermKind.arith t vs ts es h (is-op2 r d e) = is-op2 r (h .one 0 d) (h .one 1 e)
   rebuilt p TermKind.newLabel t vs ts es h d = d
   rebuilt p TermKind.mark t vs ts es h (is-op2 r d e) = is-op2 r (h .one 0 d) (h .one 1 e)
-  rebuilt p TermKind.pcd t vs ts es h (is-pcd ds ls) = is-pcd (h .every p (λ j. refl) ds) ls
+  rebuilt p TermKind.pcd t vs ts es h (is-pcd ds ls) = is-pcd (h .every 0 p (λ j l. refl) ds) ls
   rebuilt p TermKind.adv t vs [] es h d = no-advice d
   rebuilt p TermKind.adv t vs (s ∷ ts) es h d =
       let a = advice-parts d in
@@ -70,6 +89,13 @@ module _ (D : Policy) where
   rebuilt p TermKind.byte t vs ts es h (is-op1 r d) = is-op1 r (h .one 0 d)
   rebuilt p TermKind.obj t vs ts es h (is-obj {ms = ms} d) = is-obj (h .bodies ms (Ty.obj ms ∷ p .context) (λ j. refl) d)
   rebuilt p TermKind.call t vs ts es h (is-op1 r d) = is-op1 r (h .one 0 d)
+  rebuilt p TermKind.stack t vs ts es h d = d
+  rebuilt p TermKind.keep t vs ts es h (is-keep d e f) = is-keep (h .one 0 d) (h .one 1 e) (h .one 2 f)
+  rebuilt p TermKind.match t vs [] es h d = no-match d
+  rebuilt p TermKind.match t vs (s ∷ ts) es h (is-match {ts = xs} {us} (is-more (is-op0 r) ds) o f g) =
+      let b : us ≡ matchBinds firstOf (patternOf vs) s (drop 3 (s ∷ ts)) = pattern-binds o ∙ ap (matchBinds firstOf (patternOf vs) Ty.stack) (behind-types (s ∷ ts) xs ds) in
+      let At : Tm → List Ty → Type 0 = λ e x. TmTy D noStore (reverseAux x (p .context)) (p .dom) e t in
+      is-match (is-more (h .one 0 (is-op0 r)) (h .every 3 p (λ j l. shifted (childSetting p TermKind.match t vs (s ∷ ts)) p (λ i. refl) j l) ds)) o (subst (At (nth es 1)) (sym b) (h .one 1 (subst (At (nth (aborts (s ∷ ts)) 1)) b f))) (h .one 2 g)
 
   abort-at : (p q : Setting Ty) (e : Program) {t : Ty} → q ≡ p → TmTy D noStore (p .context) (p .dom) (toTm e) (stated e) → TmTy D noStore (q .context) (q .dom) (op0 abort (stated e)) t → TmTy D noStore (q .context) (q .dom) (toTm e) t
   abort-at p q e h d a = subst (λ s. TmTy D noStore (q .context) (q .dom) (toTm e) s) (abort-type a) (subst (λ r. TmTy D noStore (r .context) (r .dom) (toTm e) (stated e)) (sym h) d)
@@ -84,7 +110,7 @@ module _ (D : Policy) where
         rebuilt p k t vs (stateds es) (toTms es)
         (record {
           one = λ j d. child at 0 es (w .1) j j (omega arith) d;
-          every = λ q h d. children at 0 es (w .1) q h d;
+          every = λ n q h d. children at 0 es (w .1) n q (λ j l. h j (omega arith)) d;
           bodies = λ ms Δ h d. bodies at 0 es (w .1) ms Δ (λ j m e. let r : m ≡ j = omega arith in rw r (h j)) d;
         })
         (w .0)
@@ -96,10 +122,11 @@ module _ (D : Policy) where
     child at i (more e es) w zero m q d = let r : m ≡ i = omega arith in abort-at (at i) (at m) e (ap at r) (well-term (at i) e (w .0)) d
     child at i (more e es) w (suc j) m q d = child at (suc i) es (w .1) j m (omega arith) d
 
-    children : (at : ℕ → Setting Ty) (i : ℕ) (es : Programs) → EachWellTyped D at i es → (p : Setting Ty) → ((j : ℕ) → at j ≡ p) → {ts : List Ty}
-        → TmsTy D noStore (p .context) (p .dom) (aborts (stateds es)) ts → TmsTy D noStore (p .context) (p .dom) (toTms es) ts
-    children at i end w p h d = d
-    children at i (more e es) w p h (is-more d ds) = is-more (abort-at (at i) p e (sym (h i)) (well-term (at i) e (w .0)) d) (children at (suc i) es (w .1) p h ds)
+    children : (at : ℕ → Setting Ty) (i : ℕ) (es : Programs) → EachWellTyped D at i es → (n : ℕ) (p : Setting Ty) → ((j : ℕ) → i + n ≤ j → at j ≡ p) → {ts : List Ty}
+        → TmsTy D noStore (p .context) (p .dom) (behind n (aborts (stateds es))) ts → TmsTy D noStore (p .context) (p .dom) (behind n (toTms es)) ts
+    children at i end w n p h d = d
+    children at i (more e es) w zero p h (is-more d ds) = is-more (abort-at (at i) p e (sym (h i (omega arith))) (well-term (at i) e (w .0)) d) (children at (suc i) es (w .1) 0 p (λ j l. h j (omega arith)) ds)
+    children at i (more e es) w (suc n) p h ds = children at (suc i) es (w .1) n p (λ j l. h j (omega arith)) ds
 
     -- The bodies of an object, each where its method says (card 3): the first of these is child i.
     bodies : (at : ℕ → Setting Ty) (i : ℕ) (es : Programs) → EachWellTyped D at i es → (ms : Sigs) (Δ : List Ty) → ((j m : ℕ) → m ≡ i + j → at m ≡ record { context = Δ; dom = methodDom ms j })

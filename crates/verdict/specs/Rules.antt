@@ -2,7 +2,7 @@
 use Prim.Native.Nat.{ℕ, zero, suc, _+_, _*_}
 use mathlib.Core.Bool.{Bool, true, _&&_}
 use mathlib.Core.List.{List, [], _∷_, map}
-use lib.ListN.{length, getD}
+use lib.ListN.{length, getD, drop}
 use lib.Dec.{eqb, ltb}
 use Rattle.calculus.specs.Syntax.{Dom}
 use Rattle.image.specs.declared.Refusal.{Refusal}
@@ -94,3 +94,7 @@ module _ (leq : Dom → Dom → Bool) (Γ : List ℕ) (c : Dom) (t : Descriptor)
   -- Card 3: "A body is checked at its method's domain, and a call needs that domain to be the current one"; "a method number past the type's last .. is 14".
   rule TermKind.obj = fits (is TypeKind.obj t ∷ eqb (length ts) (t .methods) ∷ bodiesFit t 0 ts ∷ [])
   rule TermKind.call = fitsAt (is TypeKind.obj (child 0) ∷ ltb (getD vs 0 0) (child 0 .methods) ∷ gives (getD vs 0 0) (child 0) t ∷ []) (eqb (methodDomain (getD vs 0 0) (child 0)) c)
+  -- Card 6: "Keep needs the label's domain equal to the current one"; each entry of a match names a pointcut, and no domain is asked of it.
+  rule TermKind.stack = fits (is TypeKind.stack t ∷ [])
+  rule TermKind.keep = fitsAt (is TypeKind.label (child 0) ∷ holds 0 (child 0) (child 1) ∷ same (child 2) t ∷ []) (eqb (child 0 .part 1) c)
+  rule TermKind.match = fits (is TypeKind.stack (child 0) ∷ same (child 1) t ∷ same (child 2) t ∷ all (map (λ a. is TypeKind.pcd a) (drop 3 ts)) ∷ [])

@@ -19,6 +19,7 @@ firstOf (Ty.label a p) = a
 firstOf (Ty.pcd a p) = a
 firstOf (Ty.adv p) = Ty.unit
 firstOf (Ty.obj ms) = Ty.unit
+firstOf Ty.stack = Ty.unit
 
 abbrev pub secondOf : Ty → Ty
 secondOf Ty.unit = Ty.unit
@@ -31,6 +32,7 @@ secondOf (Ty.label a p) = Ty.unit
 secondOf (Ty.pcd a p) = Ty.unit
 secondOf (Ty.adv p) = Ty.unit
 secondOf (Ty.obj ms) = Ty.unit
+secondOf Ty.stack = Ty.unit
 
 -- The types that programs state.
 abbrev pub stated : Program → Ty

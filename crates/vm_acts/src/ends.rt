@@ -1,10 +1,8 @@
 // A body's value comes back to a call or split.
 ghost use mathlib.Core.List.{List};
-ghost use Prim.Native.Nat.{ℕ, _+_, _≤_};
-ghost use lib.ListN.{length, getD};
+ghost use Prim.Native.Nat.{ℕ, _≤_};
+ghost use lib.ListN.{length};
 ghost use Rattle.base_bytes.specs.Memory.{memoryLength};
-ghost use Rattle.vm_code.specs.Words.{depthOf};
-ghost use Rattle.vm_machine.specs.Memory.{slotPc};
 ghost use Rattle.vm_machine.specs.Turn as machine;
 ghost use Rattle.vm_states.specs.Phases.{Phase};
 use vm_machine::Regs;
@@ -16,7 +14,7 @@ use vm_words::code::depth_of;
 
 // A call or split has its value: f is the word of its slot.
 pub fn returned(code: &[u64], work: &mut [u8], r: Regs, f: u64) -> Regs
-    requires { ⌜ (1024 ≤ length (now code)) × (memoryLength ≤ length (now work)) × (r .room + depthOf (getD (now code) (slotPc f) 0) ≤ 513) ⌝ }
+    requires { ⌜ (1024 ≤ length (now code)) × (memoryLength ≤ length (now work)) × (r .room ≤ 513) ⌝ }
     ensures { λ q. ⌜ ((image : List ℕ) → Phase (machine.returned (record { code = now (code .entry); image = image }) f) (now (work .entry)) (now (work .exit)) r q) ⌝ }
 {
     let pc = slot_pc(f);

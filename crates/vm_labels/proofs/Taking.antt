@@ -8,7 +8,7 @@ use lib.ListN.{length, getD}
 use borrow.Author.Tests.{lt-ltb, le-ltb}
 use Rattle.image.specs.Bytes.{le16}
 use Rattle.vm_code.specs.Values.{bodyOf}
-use Rattle.vm_code.specs.Words.{classOf, termCount}
+use Rattle.vm_code.specs.Words.{classOf}
 use Rattle.vm_code.specs.Classes.{firstInstruction}
 use Rattle.vm_machine.specs.Memory.{Memory, withDigit}
 use Rattle.vm_machine.specs.Fetch.{Program, codeAt, atomValue}
@@ -20,10 +20,10 @@ getD-past [] i h = refl
 getD-past (x ∷ xs) zero h = absurd (omega arith)
 getD-past (x ∷ xs) (suc i) h = getD-past xs i (omega arith)
 
-pub last-byte : (xs : List ℕ) (at b : ℕ) → length xs ≤ at + 1 → b ≡ getD xs at 0 → b < 256 → b ≡ le16 xs at % termCount
+pub last-byte : (xs : List ℕ) (at b : ℕ) → length xs ≤ at + 1 → b ≡ getD xs at 0 → b < 256 → b ≡ le16 xs at
 last-byte xs at b h e l = let z = getD-past xs (at + 1) h in omega arith
 
-pub past-bytes : (xs : List ℕ) (at : ℕ) → length xs ≤ at → 0 ≡ le16 xs at % termCount
+pub past-bytes : (xs : List ℕ) (at : ℕ) → length xs ≤ at → 0 ≡ le16 xs at
 past-bytes xs at h =
     let y = getD-past xs at h in
     let z = getD-past xs (at + 1) (omega arith) in

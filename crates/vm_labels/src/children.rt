@@ -29,13 +29,13 @@ fn wide(b: u8) -> usize
     b as usize
 }
 
-// The number at an offset of an image, below 1,024; past the image its bytes are 0.
-fn number_at(image: &[u8], at: usize) -> usize
+// The number at an offset of an image; past the image its bytes are 0.
+pub fn number_at(image: &[u8], at: usize) -> usize
     requires { ⌜ at < 65536 ⌝ }
-    ensures { λ r. ⌜ (r ≡ le16 (now (image .entry)) at % termCount) × (r < termCount) ⌝ }
+    ensures { λ r. ⌜ (r ≡ le16 (now (image .entry)) at) × (r < 65536) ⌝ }
 {
     if at + 1 < image.len() {
-        return (word(image, at) as usize) % TERMS;
+        return word(image, at) as usize;
     }
     if at < image.len() {
         return wide(image[at]);
@@ -48,7 +48,8 @@ pub fn child_at(image: &[u8], w: u64, i: usize) -> usize
     requires { ⌜ i < 16 ⌝ }
     ensures { λ r. ⌜ (r ≡ le16 (now (image .entry)) (offsetOf w + 2 * i) % termCount) × (r < termCount) ⌝ }
 {
-    number_at(image, offset_of(w) + 2 * i)
+    let n = number_at(image, offset_of(w) + 2 * i);
+    n % TERMS
 }
 
 // From the children on that are done: atoms are taken in place; it stops at what is none.

@@ -17,7 +17,7 @@ use Rattle.calculus.specs.Answer.{with}
 use Rattle.closure_machine.specs.Closure.{CVal, Env, link, Body, CState, plainVal}
 use Rattle.closure_machine.specs.Machine.{ret, triggered, triggeredF, Stack, CAnswer, due, reduceSeqC, move}
 use Rattle.vm_theory.specs.Code.{isAtom, atomOf, entry}
-use Rattle.vm_theory.specs.Conf.{Site, adviceA, Chain, Slots, base, depthAt, body, complete, begin, trigger}
+use Rattle.vm_theory.specs.Conf.{Site, adviceA, Chain, Slots, base, keptBy, depthAt, body, complete, begin, trigger}
 use Rattle.vm_theory.specs.Stands.{stackOf, stackAt}
 use Rattle.vm_theory.specs.Table.{Table, home, to, Linked, isAtomAt}
 use Rattle.vm_theory.proofs.Sound.{Sound}
@@ -37,6 +37,7 @@ use Rattle.vm_machine.specs.Registers.{fullRoom}
 use Rattle.vm_machine.specs.States.{State}
 use Rattle.vm_machine.specs.Fetch.{Program}
 use Rattle.vm_refine.proofs.Relations.{sizes, IsBody, IsVal, is-unit, IsEnv}
+use Rattle.vm_refine.proofs.Keeping.{AreKept}
 use Rattle.vm_refine.proofs.Slots.{Held, Back}
 use Rattle.vm_refine.proofs.Now.{entry-ready, Common, Now}
 use Rattle.vm_refine.proofs.Arrives.{instruction-of}
@@ -72,9 +73,9 @@ module _ (T : Table) (root : ℕ) (L : Linked T 0 root) (G : Given) (e₀ : Tm) 
 
     pub advised : (g : ℕ) → Common T root L G e₀ Ω N B S k s → Stood P A → Fine A → IsBody T root L g e d → r .pc ≡ choose (isInstruction g) (g % termCount) code.home → r .hand ≡ 0
         → IsEnv T root L (S .memory) (sizes r) (r .env) (link w ρ) → r .env < 2048 → r .room + base A′ ≡ fullRoom
-        → IsChain T 0 root L (Held T root L (S .memory) (sizes r)) (Back T root L (S .memory) (sizes r)) D A′ → Reach G e₀ Ω k s (triggered w (advice ∷ x)) (stackAt P A D)
+        → IsChain T 0 root L (Held T root L (S .memory) (sizes r)) (Back T root L (S .memory) (sizes r)) D A′ → AreKept T root L (S .memory) (sizes r) (r .kept) (keptBy A) → Reach G e₀ Ω k s (triggered w (advice ∷ x)) (stackAt P A D)
         → Now T root L G e₀ Ω N B S k s (trigger w (advice ∷ x) P A D)
-    advised g common stood fine b pc hand env fits room chain reach = try (isAtom e) refl (trigger-good G e₀ Ω k s P A D stood fine w (advice ∷ x) reach)
+    advised g common stood fine b pc hand env fits room chain kept reach = try (isAtom e) refl (trigger-good G e₀ Ω k s P A D stood fine w (advice ∷ x) reach)
       where
         f : ℕ
         f = b .number
@@ -104,6 +105,7 @@ module _ (T : Table) (root : ℕ) (L : Linked T 0 root) (G : Given) (e₀ : Tm) 
               ready = rw (hand, body-unit k s P A D w d x (atomOf e (link w ρ)) (good .runs) (omega (arith, stack-depth P A D stood fine))) (is-unit refl);
               waits = tt;
               chain = chain;
+              kept = kept;
             }
         try false a good =
             let few : T .entry f < termCount = says .few (T .entry f) (instruction-of T root L (points a)) in
@@ -121,4 +123,5 @@ module _ (T : Table) (root : ℕ) (L : Linked T 0 root) (G : Given) (e₀ : Tm) 
               ready = entry-ready (IsVal T root L (S .memory) (sizes r)) (r .hand) CVal.unit _ _ e [] a;
               waits = entry-has T 0 root L (Held T root L (S .memory) (sizes r)) D (base A′) e [] tt;
               chain = chain;
+              kept = kept;
             }

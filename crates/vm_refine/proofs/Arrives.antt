@@ -14,7 +14,7 @@ use Rattle.calculus.specs.State.{Given}
 use Rattle.closure_machine.specs.Closure.{CVal, Env, CState}
 use Rattle.closure_machine.specs.Machine.{eval, ret}
 use Rattle.vm_theory.specs.Code.{oneB, firstB, secondB, Skel, isAtom, atomOf, Pc, entry, next, waits, two, hand, inPlace}
-use Rattle.vm_theory.specs.Conf.{Site, callA, Chain, Slots, Conf, put, base, depthAt, domAt, body, complete, begin, goto, waiting, enter}
+use Rattle.vm_theory.specs.Conf.{Site, callA, Chain, Slots, Conf, put, base, keptBy, depthAt, domAt, body, complete, begin, goto, waiting, enter}
 use Rattle.vm_theory.specs.Stands.{stackAt}
 use Rattle.vm_theory.specs.Table.{Table, to, Linked, isAtomAt}
 use Rattle.vm_theory.proofs.Sound.{Sound}
@@ -32,12 +32,13 @@ use Rattle.vm_code.specs.Words.{depthOf, nextOf, waitingEnding, isInstruction, 
 use Rattle.vm_code.specs.Says.{endingWith, SaysAround, targetAt, SaysTarget, SaysCode}
 use Rattle.vm_machine.specs.declared.Regs.{Regs}
 use Rattle.vm_machine.specs.Registers.{fullRoom, setPc, setHand, setEnv, setRoom}
-use Rattle.vm_machine.specs.Memory.{Memory, wordAt, above, slotBase, cellBase, slotIn, slotWord, slotEnv, slotPc, slotKind, slotHeld, callFrame, putWaiting, putReturn}
+use Rattle.vm_machine.specs.Memory.{Memory, wordAt, above, slotBase, cellBase, keptBase, keptAt, slotIn, slotWord, slotEnv, slotPc, slotKind, slotHeld, callFrame, putWaiting, putReturn}
 use Rattle.vm_machine.specs.States.{State, withMemory, completed}
 use Rattle.vm_machine.specs.Fetch.{Program, codeAt, atomValue, goneTo, called}
 use Rattle.vm_refine.proofs.Relations.{Sizes, sizes, IsBody, IsVal, val-like, val-at, IsEnv, env-at, Grows, val-grows, env-grows}
 use Rattle.vm_refine.proofs.Tables.{word-same, word-other, grows-put, grows-refl, above-put}
 use Rattle.vm_refine.proofs.Store.{Store, store-charged}
+use Rattle.vm_refine.proofs.Keeping.{AreKept, kept-grows}
 use Rattle.vm_refine.proofs.Slots.{slotOf, slot-word, slot-same, Held, Back, held-kept, same-to, waits-put}
 use Rattle.vm_refine.proofs.Now.{ReadyFor, entry-ready, InPlace, Now}
 use Rattle.vm_refine.proofs.Fetch.{atom-is}
@@ -67,16 +68,16 @@ module _ (T : Table) (root : ℕ) (L : Linked T 0 root) where
       → ReadyFor (IsVal T root L M z) w v (slotOf M (suc (length (next σ .1) + d))) (D (suc (length (next σ .1) + d))) (next σ .0)
   next-ready M z D [] d w v h i = i
   next-ready M z D (oneB H ∷ σ) d w v h i = i
-  next-ready M z D (firstB o t y ∷ σ) d w v h i = try (isAtom y) refl
+  next-ready M z D (firstB H y ∷ σ) d w v h i = try (isAtom y) refl
     where
       to : Bool → Pc
-      to b = choose b (two o t hand (inPlace y), σ) (entry y (secondB o t none ∷ σ))
+      to b = choose b (two H hand (inPlace y), σ) (entry y (secondB H none ∷ σ))
 
       try : (b : Bool) → isAtom y ≡ b → ReadyFor (IsVal T root L M z) w v (slotOf M (suc (length (to b .1) + d))) (D (suc (length (to b .1) + d))) (to b .0)
       try true p = (i, tt)
-      try false p = entry-ready (IsVal T root L M z) w v _ _ y (secondB o t none ∷ σ) p
-  next-ready M z D (secondB o t none ∷ σ) d w v h i = (h .0, i)
-  next-ready M z D (secondB o t (some x) ∷ σ) d w v h i = (tt, i)
+      try false p = entry-ready (IsVal T root L M z) w v _ _ y (secondB H none ∷ σ) p
+  next-ready M z D (secondB H none ∷ σ) d w v h i = (h .0, i)
+  next-ready M z D (secondB H (some x) ∷ σ) d w v h i = (tt, i)
 
   -- A target that is an instruction has its number.
   pub instruction-of : {c : Dom} {t : ℕ} {E : Pc} → Points T 0 root L c (to t) E → isAtomAt T t ≡ false
@@ -141,10 +142,10 @@ module _ (T : Table) (root : ℕ) (L : Linked T 0 root) where
       abbrev after : CVal → Slots → Conf
       after v D′ = record { instr = next (P .skel) .0; hand = v; site = record { skel = next (P .skel) .1; env = P .env; dom = P .dom }; chain = A; slots = D′ }
 
-      arrived : (M′ : Memory) (D′ : Slots) (x : ℕ) (v : CVal) → Grows M z M′ z → Store T root L B M′ (S .log) z s → IsChain T 0 root L (Held T root L M′ z) (Back T root L M′ z) D′ A
+      arrived : (M′ : Memory) (D′ : Slots) (x : ℕ) (v : CVal) → Grows M z M′ z → ((i : ℕ) → keptAt M′ i ≡ keptAt M i) → Store T root L B M′ (S .log) z s → IsChain T 0 root L (Held T root L M′ z) (Back T root L M′ z) D′ A
           → Waits T 0 root L (Held T root L M′ z) D′ (P .skel) (base A) → (waits (P .skel) ≡ true → Held T root L M′ z (depthAt P A) (D′ (depthAt P A))) → IsVal T root L M′ z x v
           → Good G e₀ Ω k s (after v D′) → Now T root L G e₀ Ω N B (withMemory M′ (setPc (nextOf w) (setHand x r)) S) k s (after v D′)
-      arrived M′ D′ x v g st′ c h held i good =
+      arrived M′ D′ x v g j st′ c h held i good =
           record {
             common = record { budget = p .common .budget; running = p .common .running; store = st′ };
             good = good;
@@ -157,6 +158,7 @@ module _ (T : Table) (root : ℕ) (L : Linked T 0 root) where
             ready = next-ready M′ z D′ (P .skel) (base A) x v h i;
             waits = subst (λ (E : Pc). Waits T 0 root L (Held T root L M′ z) D′ (E .1) (base A)) (paid-none (P .skel) .1) (paid-has T 0 root L (Held T root L M′ z) D′ (base A) (P .skel) held h);
             chain = c;
+            kept = kept-grows T root L g j (p .kept);
           }
 
       -- The value is complete.
@@ -168,12 +170,12 @@ module _ (T : Table) (root : ℕ) (L : Linked T 0 root) where
           try true b good =
               let g = grows x v is b in
               let D′ : Slots = put (depthAt P A) v D in
-              arrived (written x) D′ x v g (kept x v is b)
+              arrived (written x) D′ x v g (λ i. word-other M (slotIn (r .room) (depthOf w)) (above x 0) (keptBase + i) (λ e. omega (arith, index))) (kept x v is b)
               (chain-kept T 0 root L (Held T root L M z) (Back T root L M z) D (Held T root L (written x) z) (Back T root L (written x) z) D′ A
               (same-to T root L M z (written x) z g (base A) D D′ (λ i h. elsewhere x v is b i (omega (arith, inside x v is b))) (λ i h. refl) (λ i h. put-other (depthAt P A) i v D (omega (arith, inside x v is b)))) (p .chain))
               (waits-put T root L M z (written x) z g (P .skel) (base A) D D′ b (λ i h. elsewhere x v is b i h) (λ i h. put-other (depthAt P A) i v D h) (p .waits))
               (λ q. rw (put-same (depthAt P A) v D) (holds x v is b)) (val-grows T root L M z (written x) z g is) good
-          try false b good = arrived M D x v (grows-refl M z) st (p .chain) (p .waits) (λ q. absurd (true≢false (sym q ∙ b))) is good
+          try false b good = arrived M D x v (grows-refl M z) (λ i. refl) st (p .chain) (p .waits) (λ q. absurd (true≢false (sym q ∙ b))) is good
 
       -- A term is begun at the place, by its entry, after a change of the tables and of the chain.
       entry-small : (f : ℕ) (σ : Skel) (c : Dom) → isAtomAt T f ≡ false → Located T 0 root L f σ c → T .entry f < termCount
@@ -218,6 +220,7 @@ module _ (T : Table) (root : ℕ) (L : Linked T 0 root) where
                 ready = entry-ready (IsVal T root L M z) (r .hand) CVal.unit _ _ e (P .skel) a;
                 waits = entry-has T 0 root L (Held T root L M z) D (base A) e (P .skel) (p .waits);
                 chain = p .chain;
+                kept = p .kept;
               })
 
       -- An activation frame in the slot of the place.
@@ -241,6 +244,9 @@ module _ (T : Table) (root : ℕ) (L : Linked T 0 root) where
         frame-store =
             store-charged T root L B M (S .log) z s st framed (z .nb) (z .np) (s .used) frame-grows (above-put M cellBase (slotIn (r .room) (depthOf w)) word (omega (arith, index))) (st .beside)
             (st .bindings) (st .bindings-fit) (st .pieces) (st .pieces-fit) refl
+
+        frame-kept : AreKept T root L framed z (r .kept) (keptBy A)
+        frame-kept = kept-grows T root L frame-grows (λ i. word-other M (slotIn (r .room) (depthOf w)) word (keptBase + i) (λ e. omega (arith, index))) (p .kept)
 
         small : m < termCount
         small = says .few m (p .no-atom)
@@ -276,9 +282,9 @@ module _ (T : Table) (root : ℕ) (L : Linked T 0 root) where
 
       -- A body begins.
       begun : (M′ : Memory) (room′ t env′ : ℕ) (e : Tm) (d : Dom) (ρ : Env) (A′ : Chain) → Store T root L B M′ (S .log) z s → IsEnv T root L M′ z env′ ρ → env′ < 2048 → room′ + base A′ ≡ fullRoom
-          → IsChain T 0 root L (Held T root L M′ z) (Back T root L M′ z) D A′ → isAtom e ≡ false → Points T 0 root L d (to t) (entry e []) → Good G e₀ Ω k s (begin e (body ρ d) A′ D)
+          → IsChain T 0 root L (Held T root L M′ z) (Back T root L M′ z) D A′ → AreKept T root L M′ z (r .kept) (keptBy A′) → isAtom e ≡ false → Points T 0 root L d (to t) (entry e []) → Good G e₀ Ω k s (begin e (body ρ d) A′ D)
           → Now T root L G e₀ Ω N B (withMemory M′ (setPc t (setEnv env′ (setRoom room′ r))) S) k s (begin e (body ρ d) A′ D)
-      begun M′ room′ t env′ e d ρ A′ st′ i fits room c a points good =
+      begun M′ room′ t env′ e d ρ A′ st′ i fits room c h a points good =
           record {
             common = record { budget = p .common .budget; running = p .common .running; store = st′ };
             good = good;
@@ -291,6 +297,7 @@ module _ (T : Table) (root : ℕ) (L : Linked T 0 root) where
             ready = entry-ready (IsVal T root L M′ z) (r .hand) CVal.unit _ _ e [] a;
             waits = entry-has T 0 root L (Held T root L M′ z) D (base A′) e [] tt;
             chain = c;
+            kept = h;
           }
 
       -- The body at a target is called, in an environment.
@@ -317,11 +324,11 @@ module _ (T : Table) (root : ℕ) (L : Linked T 0 root) where
               → Now T root L G e₀ Ω N B (withMemory (choose (eqb (depthOf w) 0) M framed) (setPc (T .entry f) (setEnv env′ (setRoom (r .room - depthOf w) r))) S) k s (begin e (body ρ d) (waiting σ P A) D)
           inside [] q a good =
               let z : depthOf w ≡ 0 = depth-is ∙ ap length q in
-              rw (eq-eqb (depthOf w) 0 z) (begun M (r .room - depthOf w) (T .entry f) env′ e d ρ A st i fits (omega (arith, p .room)) (p .chain) a (points a) good)
+              rw (eq-eqb (depthOf w) 0 z) (begun M (r .room - depthOf w) (T .entry f) env′ e d ρ A st i fits (omega (arith, p .room)) (p .chain) (p .kept) a (points a) good)
           inside (x ∷ σ) q a good =
               let n : 0 < length (P .skel) = rw q (omega arith) in
               rw (ne-eqb (depthOf w) 0 (λ y. omega (arith, depth-is)))
-              (begun framed (r .room - depthOf w) (T .entry f) env′ e d ρ (callA P ∷ A) (frame-store at n) (env-grows T root L M z framed z (frame-grows at n) i) fits (omega (arith, depth-is, p .room)) (frame-chain at n) a (points a) good)
+              (begun framed (r .room - depthOf w) (T .entry f) env′ e d ρ (callA P ∷ A) (frame-store at n) (env-grows T root L M z framed z (frame-grows at n) i) fits (omega (arith, depth-is, p .room)) (frame-chain at n) (frame-kept at n) a (points a) good)
 
           try : (a : Bool) → isAtom e ≡ a → Good G e₀ Ω k s (choose a (complete (atomOf e ρ) P A D) (begin e (body ρ d) (waiting (P .skel) P A) D))
               → Now T root L G e₀ Ω N B (called C w g env′ S) k s (choose a (complete (atomOf e ρ) P A D) (begin e (body ρ d) (waiting (P .skel) P A) D))

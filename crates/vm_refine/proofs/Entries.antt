@@ -1,22 +1,22 @@
 -- The first instruction of a term, found from code words; and which words are atoms.
-use Prim.Native.Nat.{ℕ, zero, suc, _<_}
+use Prim.Native.Nat.{ℕ, zero, suc, _+_, _<_}
 use native.Mathlib.Omega.{arith}
 use mathlib.Core.Path.{_≡_, refl, sym, ap, _∙_}
 use mathlib.Core.Bool.{Bool, true, false, true≢false}
 use lib.Dec.{ltb}
 use borrow.Author.Tests.{le-ltb}
 use Rattle.calculus.specs.Combinators.{choose}
-use Rattle.calculus.specs.Syntax.{Tm, val, var, lam, op0, op1, op2, seq, ite, split, pcd, adv, lower, obj}
+use Rattle.calculus.specs.Syntax.{Tm, val, var, lam, op0, op1, op2, seq, ite, split, pcd, adv, lower, obj, keep, match}
 use Rattle.vm_theory.specs.Code.{isAtom}
 use Rattle.vm_theory.specs.Table.{Node, Table, termOf, entryOf, isAtomAt, Linked}
 use Rattle.vm_theory.proofs.Located.{one-no-atom, two-no-atom, many-no-atom}
 use Rattle.vm_code.specs.Words.{classOf, fieldA, operandB, termCount}
 use Rattle.vm_code.specs.Classes as classes
 use Rattle.vm_code.specs.Classes.{Mode, worked, variable, constant, atom, Class, unary, binary, classWith}
-use Rattle.vm_code.specs.Says.{termMode, termField, unaryOf, binaryOf, Says, says-unit, says-truth, says-number, says-variable, says-function, says-object, says-label, says-abort, says-one, says-two, says-pointcut, SaysCode}
+use Rattle.vm_code.specs.Says.{termMode, termField, unaryOf, binaryOf2, Says, says-unit, says-truth, says-number, says-variable, says-function, says-object, says-label, says-abort, says-one, says-stack, says-two, says-pointcut, says-match, targetAt, SaysCode}
 use Rattle.vm_code.proofs.Numbers.{unary-class, binary-class}
 use Rattle.vm_machine.specs.Fetch.{Program, codeAt}
-use Rattle.vm_machine.specs.Turn.{enteredBy, entryFrom}
+use Rattle.vm_machine.specs.Turn.{enteredBy, entryFrom, begunAt}
 
 -- The mode of an atom, and the field of what was worked out.
 atom-field : (e : Tm) (x : ℕ) → isAtom e ≡ false → termField e x ≡ x
@@ -33,6 +33,8 @@ atom-field (pcd es) x a = refl
 atom-field (adv d i g) x a = refl
 atom-field (lower d i) x a = refl
 atom-field (obj t bs) x a = refl
+atom-field (keep i g j) x a = refl
+atom-field (match p es g j) x a = refl
 
 -- What a term's mode says of where to begin: with its operand, or with the term itself.
 abbrev begun : Mode → ℕ → ℕ → ℕ
@@ -59,6 +61,8 @@ begun-mode (pcd es) t x = refl
 begun-mode (adv d i g) t x = refl
 begun-mode (lower d i) t x = refl
 begun-mode (obj y bs) t x = refl
+begun-mode (keep i g j) t x = refl
+begun-mode (match p es g j) t x = refl
 
 module _ (T : Table) (root : ℕ) (L : Linked T 0 root) (C : Program) (says : SaysCode T (C .image) (C .code)) where
   node-term : {x : ℕ} {n : Node} → T .node x ≡ n → T .term x ≡ termOf T n
@@ -75,8 +79,10 @@ module _ (T : Table) (root : ℕ) (L : Linked T 0 root) (C : Program) (says : Sa
   word-by x w n q (says-label c) = rw (c, node-term q)
   word-by x w n q (says-abort c) = rw (c, node-term q)
   word-by x w n q (says-one c f h) = le-ltb (classOf w) 4 (omega arith) ∙ sym (one-no-atom T 0 root L q)
-  word-by x w n q (says-two c f g) = le-ltb (classOf w) 4 (omega arith) ∙ sym (two-no-atom T 0 root L q)
+  word-by x w n q (says-stack c) = rw (c, node-term q)
+  word-by x w n q (says-two c f g j) = le-ltb (classOf w) 4 (omega arith) ∙ sym (two-no-atom T 0 root L q)
   word-by x w n q (says-pointcut c m f i h) = le-ltb (classOf w) 4 (omega arith) ∙ sym (many-no-atom T 0 root L q)
+  word-by x w n q (says-match c m i e f g h) = le-ltb (classOf w) 4 (omega arith) ∙ sym (many-no-atom T 0 root L q)
 
   pub word-atom : (x : ℕ) → x < termCount → classes.isAtom (codeAt C x) ≡ isAtomAt T x
   word-atom x h = word-by x (codeAt C x) (T .node x) refl (says .node x h)
@@ -132,17 +138,19 @@ module _ (T : Table) (root : ℕ) (L : Linked T 0 root) (C : Program) (says : Sa
       ∙ begun-mode (T .term x) t (entryFrom n C (fieldA (codeAt C t)))
       ∙ operand-entry n x (fieldA (codeAt C t)) ih f (omega arith) (omega (arith, L .one-below t H x q)) t
       ∙ sym (L .entered t ∙ ap (entryOf T t) q)
-  entry-by n t N q (says-two {o = o} {y = y} {x = x} {z = z} c f g) ih a l =
-      let below = L .two-below t o y x z q in
+  entry-by n t N q (says-stack c) ih a l = rw c (sym (L .entered t ∙ ap (entryOf T t) q))
+  entry-by n t N q (says-two {H = H} {x = x} {z = z} c f g j) ih a l =
+      let below = L .two-below t H x z q in
       let inner : begun (termMode (T .term z)) t (entryFrom n C (operandB (codeAt C t))) ≡ choose (isAtomAt T z) t (T .entry z) =
       begun-mode (T .term z) t (entryFrom n C (operandB (codeAt C t))) ∙ operand-entry n z (operandB (codeAt C t)) ih g (omega arith) (omega (arith, below .1)) t in
-      ap (λ (d : Class). enteredBy d t (codeAt C t) (entryFrom n C)) (ap classWith c ∙ binary-class (binaryOf o) (termMode (T .term x)) (termMode (T .term z)))
-      ∙ binary-entry (binaryOf o) (termMode (T .term x)) (termMode (T .term z)) t (codeAt C t) (entryFrom n C)
+      ap (λ (d : Class). enteredBy d t (codeAt C t) (entryFrom n C)) (ap classWith c ∙ binary-class (binaryOf2 H) (termMode (T .term x)) (termMode (T .term z)))
+      ∙ binary-entry (binaryOf2 H) (termMode (T .term x)) (termMode (T .term z)) t (codeAt C t) (entryFrom n C)
       ∙ ap (λ (j : ℕ). begun (termMode (T .term x)) j (entryFrom n C (fieldA (codeAt C t)))) inner
       ∙ begun-mode (T .term x) (choose (isAtomAt T z) t (T .entry z)) (entryFrom n C (fieldA (codeAt C t)))
       ∙ operand-entry n x (fieldA (codeAt C t)) ih f (omega arith) (omega (arith, below .0)) (choose (isAtomAt T z) t (T .entry z))
       ∙ sym (L .entered t ∙ ap (entryOf T t) q)
   entry-by n t N q (says-pointcut c m f i h) ih a l = rw c (sym (L .entered t ∙ ap (entryOf T t) q))
+  entry-by n t N q (says-match c m i e f g h) ih a l = rw c (sym (L .entered t ∙ ap (entryOf T t) q))
 
   entry-below : (n t : ℕ) → Enters n t
   unfolding entryFrom
@@ -151,3 +159,11 @@ module _ (T : Table) (root : ℕ) (L : Linked T 0 root) (C : Program) (says : Sa
 
   pub entry-from : (t : ℕ) → t < termCount → isAtomAt T t ≡ false → entryFrom termCount C t ≡ T .entry t
   entry-from t h a = entry-below termCount t h a h
+
+  -- A term is begun where its word says.
+  pub begun-at : (b : ℕ) → b < termCount → begunAt C b ≡ targetAt T b
+  begun-at b h = ap (λ (t : Bool). choose t b (termCount + entryFrom termCount C b)) (word-atom b h) ∙ try (isAtomAt T b) refl
+    where
+      try : (t : Bool) → isAtomAt T b ≡ t → choose t b (termCount + entryFrom termCount C b) ≡ choose t b (termCount + T .entry b)
+      try true a = refl
+      try false a = ap (λ (e : ℕ). termCount + e) (entry-from b h a)

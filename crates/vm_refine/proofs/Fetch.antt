@@ -7,7 +7,7 @@ use mathlib.Core.Bool.{Bool, true, false, true≢false}
 use lib.Dec.{ltb}
 use Rattle.calculus.specs.Combinators.{choose}
 use Rattle.calculus.specs.Plain.{domOf}
-use Rattle.calculus.specs.Syntax.{Dom, Ty, Val, Tm, val, var, lam, op0, op1, op2, seq, ite, split, pcd, adv, lower, obj}
+use Rattle.calculus.specs.Syntax.{Dom, Ty, Val, Tm, val, var, lam, op0, op1, op2, seq, ite, split, pcd, adv, lower, obj, keep, match}
 use Rattle.closure_machine.specs.Closure.{CVal, Env, lookup, closed}
 use Rattle.vm_theory.specs.Code.{Skel, isAtom, atomOf, orUnit}
 use Rattle.vm_theory.specs.Table.{Node, funN, objN, Table, termsOf, termOf, isAtomAt, Linked}
@@ -16,7 +16,7 @@ use Rattle.vm_theory.proofs.Bound.{BoundTm}
 use Rattle.vm_code.specs.Values.{tagOf, bodyOf, functionValue, objectValue}
 use Rattle.vm_code.specs.Words.{classOf, fieldA, fieldB, hopsOf, termCount}
 use Rattle.vm_code.specs.Classes.{worked, variable, atom}
-use Rattle.vm_code.specs.Says.{termMode, termField, Says, says-unit, says-truth, says-number, says-variable, says-function, says-object, says-label, says-abort, says-one, says-two, says-pointcut, SaysCode}
+use Rattle.vm_code.specs.Says.{termMode, termField, Says, says-unit, says-truth, says-number, says-variable, says-function, says-object, says-label, says-abort, says-one, says-stack, says-two, says-pointcut, says-match, SaysCode}
 use Rattle.vm_machine.specs.Memory.{Memory}
 use Rattle.vm_machine.specs.Memory as words
 use Rattle.vm_machine.specs.Fetch.{Program, codeAt, atomValue, operandValue}
@@ -56,8 +56,10 @@ module _ (T : Table) (root : ℕ) (L : Linked T 0 root) (C : Program) (says : Sa
   atom-by x w n q a (says-label c) = absurd (true≢false (sym a ∙ ap isAtom (node-term q)))
   atom-by x w n q a (says-abort c) = absurd (true≢false (sym a ∙ ap isAtom (node-term q)))
   atom-by x w n q a (says-one c f h) = no-atoms x a (one-no-atom T 0 root L q)
-  atom-by x w n q a (says-two c f g) = no-atoms x a (two-no-atom T 0 root L q)
+  atom-by x w n q a (says-stack c) = absurd (true≢false (sym a ∙ ap isAtom (node-term q)))
+  atom-by x w n q a (says-two c f g j) = no-atoms x a (two-no-atom T 0 root L q)
   atom-by x w n q a (says-pointcut c m f i h) = no-atoms x a (many-no-atom T 0 root L q)
+  atom-by x w n q a (says-match c m i e f g h) = no-atoms x a (many-no-atom T 0 root L q)
 
   pub atom-says : (x : ℕ) → x < termCount → isAtomAt T x ≡ true → AtomIs x (codeAt C x)
   atom-says x h a = atom-by x (codeAt C x) (T .node x) refl a (says .node x h)
@@ -122,6 +124,8 @@ module _ (T : Table) (root : ℕ) (L : Linked T 0 root) (C : Program) (says : Sa
     in-place x f v (pcd es) p a q h l b = absurd (true≢false (sym a))
     in-place x f v (adv d i g) p a q h l b = absurd (true≢false (sym a))
     in-place x f v (lower d i) p a q h l b = absurd (true≢false (sym a))
+    in-place x f v (keep i g j) p a q h l b = absurd (true≢false (sym a))
+    in-place x f v (match t es g j) p a q h l b = absurd (true≢false (sym a))
 
   -- What is no atom was worked out.
   pub worked-mode : (b : Tm) → isAtom b ≡ false → termMode b ≡ worked
@@ -138,3 +142,5 @@ module _ (T : Table) (root : ℕ) (L : Linked T 0 root) (C : Program) (says : Sa
   worked-mode (adv d i g) a = refl
   worked-mode (lower d i) a = refl
   worked-mode (obj y bs) a = absurd (true≢false a)
+  worked-mode (keep i g j) a = refl
+  worked-mode (match p es g j) a = refl

@@ -1,7 +1,7 @@
 -- After a step: a value is given, a term goes on, or a body is called.
 use Prim.Native.Nat.{ℕ, suc, _+_, _-_, _%_, _≤_, _<_}
 use native.Mathlib.Omega.{arith}
-use mathlib.Core.Path.{_≡_, refl, ap, _∙_}
+use mathlib.Core.Path.{_≡_, refl, sym, ap, subst, _∙_}
 use mathlib.Core.Bool.{Bool, true, false}
 use mathlib.Core.List.{List}
 use lib.ListN.{getD}
@@ -11,7 +11,7 @@ use Rattle.calculus.specs.State.{Given}
 use Rattle.calculus.specs.Answer.{go}
 use Rattle.closure_machine.specs.Closure.{CVal, Env, CState}
 use Rattle.closure_machine.specs.Machine.{Control, eval, ret, Stack, CAnswer, due}
-use Rattle.vm_theory.specs.Conf.{Site, Chain, Slots, Conf, base, domAt}
+use Rattle.vm_theory.specs.Conf.{Site, Chain, Slots, Conf, base, keptBy, domAt}
 use Rattle.vm_theory.specs.Stands.{stackAt}
 use Rattle.vm_theory.specs.Table.{Table, Linked}
 use Rattle.vm_theory.proofs.Sound.{Sound}
@@ -22,12 +22,13 @@ use Rattle.vm_code.specs.Words.{isInstruction, termCount}
 use Rattle.vm_code.specs.Says.{SaysTarget, SaysCode}
 use Rattle.vm_machine.specs.declared.Regs.{Regs}
 use Rattle.vm_machine.specs.Registers.{headroom, fullRoom, setPc}
-use Rattle.vm_machine.specs.Memory.{Memory, slotBase}
+use Rattle.vm_machine.specs.Memory.{Memory, slotBase, keptAt}
 use Rattle.vm_machine.specs.States.{State, withRegs, ifLeft, completed, entered}
 use Rattle.vm_machine.specs.Fetch.{Program, codeAt, atomValue, goneTo, called}
 use Rattle.vm_refine.proofs.Relations.{sizes, IsBody, IsVal, IsEnv, env-at, env-grows, Grows}
 use Rattle.vm_refine.proofs.Tables.{SameSlots}
 use Rattle.vm_refine.proofs.Store.{Store}
+use Rattle.vm_refine.proofs.Keeping.{AreKept, kept-grows}
 use Rattle.vm_refine.proofs.Slots.{slotOf, slot-same, Held, Back, held-kept, same-to}
 use Rattle.vm_refine.proofs.Now.{InPlace, Now}
 use Rattle.vm_refine.proofs.Arrives.{completed-now, gone-now, called-now}
@@ -62,6 +63,8 @@ module _ (T : Table) (root : ℕ) (L : Linked T 0 root) (G : Given) (e₀ : Tm) 
       pub store : Store T root L B M′ log′ (sizes q) s′
       pub grows : Grows (S .memory) (sizes (S .regs)) M′ (sizes q)
       pub slots : SameSlots (S .memory) M′
+      pub kept : q .kept ≡ S .regs .kept
+      pub keeps : (i : ℕ) → keptAt M′ i ≡ keptAt (S .memory) i
 
     module _ {a : CAnswer} (R : Stepping T root L G e₀ Ω N B C says S k s m P A D c F a) (M′ : Memory) (log′ : List ℕ) (q : Regs) (s′ : CState) (l : Left M′ log′ q s′) where
       abbrev S′ : State
@@ -90,6 +93,7 @@ module _ (T : Table) (root : ℕ) (L : Linked T 0 root) (G : Given) (e₀ : Tm) 
             chain =
                 chain-kept T 0 root L (Held T root L (S .memory) (sizes (S .regs))) (Back T root L (S .memory) (sizes (S .regs))) D (Held T root L M′ (sizes q)) (Back T root L M′ (sizes q)) D A
                 (same-to T root L (S .memory) (sizes (S .regs)) M′ (sizes q) (l .grows) (base A) D D (λ i h. same-slot i (omega (arith, R .shallow))) (λ i h. ap (λ (x : List ℕ). getD x (fullRoom - i) 0) (l .slots .byte)) (λ i h. refl)) (p .chain);
+            kept = subst (λ (n : ℕ). AreKept T root L M′ (sizes q) n (keptBy A)) (sym (l .kept)) (kept-grows T root L (l .grows) (l .keeps) (p .kept));
           }
 
       pub falls : headroom < S .regs .left → {S″ : State} {s″ : CState} {E : Conf} → S″ .regs .left ≡ q .left → Now T root L G e₀ Ω N B S″ (suc k) s″ E → After T root L G e₀ Ω N B (measure S) S″

@@ -7,23 +7,23 @@ use mathlib.Core.List.{List, _∷_}
 use lib.ListN.{length}
 use Rattle.calculus.specs.Combinators.{choose}
 use Rattle.calculus.specs.Plain.{domOf, methodsOf, methodDom}
-use Rattle.calculus.specs.Syntax.{Ty, Tm, Tms, Op0, Op1, Op2, op0, newLabel, abort, print, install, read, byte, newCell, call, app, mark, store, plus, minus, less, equal}
+use Rattle.calculus.specs.Syntax.{Ty, Tm, Tms, Op0, Op1, Op2, op0, newLabel, abort, theStack, print, install, read, byte, newCell, call, app, mark, store, plus, minus, less, equal}
 use Rattle.calculus.specs.State.{Given}
 use Rattle.calculus.specs.Place.{Place, framed}
 use Rattle.closure_machine.specs.Closure.{CVal, Env, CState, close, closes, plainVal, plainEnv, plainState}
 use Rattle.closure_machine.specs.Machine.{Control, eval, ret, op2R, Stack, CAnswer, due, placeAt, reduce0C, reduce2C, move}
 use Rattle.vm_theory.specs.Code.{Head, op1H, seqH, iteH, splitH, advH, lowerH, hand, slot, inPlace, Instr, one, two, fetch}
-use Rattle.vm_theory.specs.Conf.{Site, Chain, Slots, Conf, depthAt, domAt, placeOf}
-use Rattle.vm_theory.specs.Stands.{headFrame, stackAt}
+use Rattle.vm_theory.specs.Conf.{Site, Chain, Slots, Conf, keptBy, depthAt, domAt, placeOf}
+use Rattle.vm_theory.specs.Stands.{headFrame, secondFrame, stackAt}
 use Rattle.vm_theory.specs.Turn.{reduceHead}
-use Rattle.vm_theory.specs.Table.{HeadN, op1N, seqN, iteN, splitN, advN, lowerN, oneN, twoN, Table, headOf, operandAt, isAtomAt, Linked}
+use Rattle.vm_theory.specs.Table.{HeadN, op1N, seqN, iteN, splitN, advN, lowerN, HeadN2, op2N, keepN, oneN, twoN, Table, headOf, headOf2, operandAt, isAtomAt, Linked}
 use Rattle.vm_theory.proofs.Sound.{Sound}
 use Rattle.vm_theory.proofs.Reach.{Reach}
-use Rattle.vm_theory.proofs.Places.{site-place}
-use Rattle.vm_theory.proofs.Located.{Located, l-operand, l-rest, l-then, l-else, l-split, l-advice, l-first, l-second, describes}
+use Rattle.vm_theory.proofs.Places.{site-place, site-kept}
+use Rattle.vm_theory.proofs.Located.{Located, l-operand, l-rest, l-then, l-else, l-split, l-advice, l-first, l-second, l-keep, describes}
 use Rattle.vm_code.specs.Words.{classOf, fieldA, operandB, depthOf, domainOf}
-use Rattle.vm_code.specs.Classes.{Mode, Unary, Binary, Class, label, abort as aborted, unary, binary, labelClass, abortClass, unaryClass, binaryClass, classWith}
-use Rattle.vm_code.specs.Says.{termMode, termField, unaryOp, unaryOf, binaryOf, SaysOp, SaysHead, SaysCode}
+use Rattle.vm_code.specs.Classes.{Mode, Unary, Binary, Class, label, abort as aborted, stack, unary, binary, labelClass, abortClass, stackClass, unaryClass, binaryClass, classWith}
+use Rattle.vm_code.specs.Says.{termMode, termField, unaryOp, unaryOf, binaryOf, binaryOf2, SaysOp, SaysHead, SaysHead2, SaysCode}
 use Rattle.vm_code.proofs.Numbers.{unary-class, binary-class}
 use Rattle.vm_machine.specs.declared.Regs.{Regs}
 use Rattle.vm_machine.specs.Memory.{Memory, wordAt, slotAt}
@@ -31,6 +31,7 @@ use Rattle.vm_machine.specs.States.{State, judged}
 use Rattle.vm_machine.specs.Fetch.{Program, codeAt, onlyOperand, firstOperand, secondOperand}
 use Rattle.vm_machine.specs.Moves.{unaryMove, binaryMove, moveBy, moveOf}
 use Rattle.vm_machine.specs.Reduce.{reduceLabel, reduceAbort}
+use Rattle.vm_machine.specs.Stacks.{reduceStack}
 use Rattle.vm_machine.specs.Turn.{performed, turn}
 use Rattle.vm_machine.proofs.Branch.{branch-performed}
 use Rattle.vm_refine.proofs.Relations.{sizes, IsVal}
@@ -44,6 +45,8 @@ use Rattle.vm_refine.proofs.ReduceCells.{store-now, cell-now}
 use Rattle.vm_refine.proofs.ReducePieces.{pair-now, advice-now}
 use Rattle.vm_refine.proofs.ReduceBindings.{apply-now, call-now, split-now}
 use Rattle.vm_refine.proofs.Mark.{mark-now}
+use Rattle.vm_refine.proofs.ReduceStack.{stack-now}
+use Rattle.vm_refine.proofs.Keeps.{keep-now}
 
 module _ (T : Table) (root : ℕ) (L : Linked T 0 root) (G : Given) (e₀ : Tm) (Ω : Sound G e₀) (N : ℕ) (B : List ℕ) (logged : G .logLength ≡ length B) (C : Program) (says : SaysCode T (C .image) (C .code))
     (S : State) (k : ℕ) (s : CState) (m : ℕ) (hv : CVal) (P : Site) (A : Chain) (D : Slots) (no-atom : isAtomAt T m ≡ false) (located : Located T 0 root L m (P .skel) (P .dom)) (pc : S .regs .pc ≡ m) where
@@ -90,6 +93,7 @@ module _ (T : Table) (root : ℕ) (L : Linked T 0 root) (G : Given) (e₀ : Tm) 
           room = now .room;
           waits = now .waits;
           chain = now .chain;
+          kept = now .kept;
         }
 
   -- The closure machine has come to the same redex.
@@ -100,8 +104,8 @@ module _ (T : Table) (root : ℕ) (L : Linked T 0 root) (G : Given) (e₀ : Tm) 
     abbrev Red : Control → Stack → CAnswer → Type 0
     Red c F a = Redexed T root L G e₀ Ω N B C says S k s m P A D c F a
 
-    nullary-red : (o : Op0) (y : Ty) → Reach G e₀ Ω k s (eval (op0 o y) (P .env)) K → Red (eval (op0 o y) (P .env)) K (reduce0C G (placeOf P A) s o y)
-    nullary-red o y reach = record { place = p; pc = pc; reach = reach; is = rw at }
+    nullary-red : (o : Op0) (y : Ty) → Reach G e₀ Ω k s (eval (op0 o y) (P .env)) K → Red (eval (op0 o y) (P .env)) K (reduce0C G (placeOf P A) (keptBy A) s o y)
+    nullary-red o y reach = record { place = p; pc = pc; reach = reach; is = rw (at, site-kept P A D) }
 
     head-red : (H : Head) (v : CVal) → Reach G e₀ Ω k s (ret v) (headFrame H (P .env) ∷ K) → Red (ret v) (headFrame H (P .env) ∷ K) (reduceHead G (placeOf P A) s H (P .env) v)
     head-red H v reach = record { place = p; pc = pc; reach = reach; is = by H }
@@ -129,7 +133,14 @@ module _ (T : Table) (root : ℕ) (L : Linked T 0 root) (G : Given) (e₀ : Tm) 
     label-turn y reach q =
         rw (turn-by label (ap classWith q))
         (judged-now T root L G e₀ Ω N B C says S k s m P A D (eval (op0 newLabel y) (P .env)) K (measure S) (reduceLabel w S) (nullary-red newLabel y reach)
-        (λ R. label-now T root L G e₀ Ω N B C says S k s m P A D (eval (op0 newLabel y) (P .env)) K (placeOf P A) y R))
+        (λ R. label-now T root L G e₀ Ω N B C says S k s m P A D (eval (op0 newLabel y) (P .env)) K (placeOf P A) (keptBy A) y R))
+
+    pub stack-turn : (y : Ty) → Reach G e₀ Ω k s (eval (op0 theStack y) (P .env)) K → classOf w ≡ stackClass → Then (turn C (G .frame) S)
+    unfolding performed classWith
+    stack-turn y reach q =
+        rw (turn-by stack (ap classWith q))
+        (judged-now T root L G e₀ Ω N B C says S k s m P A D (eval (op0 theStack y) (P .env)) K (measure S) (reduceStack w S) (nullary-red theStack y reach)
+        (λ R. stack-now T root L G e₀ Ω N B C says S k s m P A D (eval (op0 theStack y) (P .env)) K (placeOf P A) y R))
 
     pub abort-turn : (y : Ty) → Reach G e₀ Ω k s (eval (op0 abort y) (P .env)) K → classOf w ≡ abortClass → Then (turn C (G .frame) S)
     unfolding performed classWith
@@ -199,6 +210,11 @@ module _ (T : Table) (root : ℕ) (L : Linked T 0 root) (G : Given) (e₀ : Tm) 
         two-now less y reach = judge2 less y _ reach (λ R. arithmetic-now T root L G e₀ Ω N B C says S k s m P A D (ret v′) _ a-less (placeOf P A) y is is′ R)
         two-now equal y reach = judge2 equal y _ reach (λ R. arithmetic-now T root L G e₀ Ω N B C says S k s m P A D (ret v′) _ an-equal (placeOf P A) y is is′ R)
 
+        both-now : (H : HeadN2) (y z : ℕ) → T .node m ≡ twoN H y z → Reach G e₀ Ω k s (ret v′) (secondFrame (headOf2 T H) v (P .env) ∷ K) → SaysHead2 T w H → Then (performed C w (binaryMove (binaryOf2 H) x x′) S)
+        unfolding performed
+        both-now (op2N o t) y z n reach h = two-now o t reach
+        both-now (keepN f) y z n reach h = keep-now T root L G e₀ Ω N B C says S k s m P A D p pc x v is x′ v′ is′ f h (l-keep located n) reach
+
   -- The turn of a term with one operand, and of one with two.
   pub one-turn : (H : HeadN) (x : ℕ) → T .node m ≡ oneN H x → classOf w ≡ unaryClass (unaryOf H) (termMode (T .term x)) → fieldA w ≡ termField (T .term x) x → SaysHead T w H
       → Now T root L G e₀ Ω N B S k s (conf (one (headOf T H) (operandAt T x))) → Then (turn C (G .frame) S)
@@ -208,15 +224,16 @@ module _ (T : Table) (root : ℕ) (L : Linked T 0 root) (G : Given) (e₀ : Tm) 
       (only-is T root L C says M (sizes r) r (P .env) (now .env) (now .env-fits) hv (slotOf M (suc (depthAt P A))) (D (suc (depthAt P A))) w x f (l-operand located n) (now .good .bound .0) (now .ready))
       H x n (now .good .runs) h)
 
-  pub two-turn : (o : Op2) (y : Ty) (x z : ℕ) → T .node m ≡ twoN o y x z → classOf w ≡ binaryClass (binaryOf o) (termMode (T .term x)) (termMode (T .term z)) → fieldA w ≡ termField (T .term x) x
-      → operandB w ≡ termField (T .term z) z → Now T root L G e₀ Ω N B S k s (conf (two o y (choose (isAtomAt T x) (inPlace (T .term x)) (choose (isAtomAt T z) hand slot)) (operandAt T z))) → Then (turn C (G .frame) S)
-  two-turn o y x z n c f g now =
+  pub two-turn : (H : HeadN2) (x z : ℕ) → T .node m ≡ twoN H x z → classOf w ≡ binaryClass (binaryOf2 H) (termMode (T .term x)) (termMode (T .term z)) → fieldA w ≡ termField (T .term x) x
+      → operandB w ≡ termField (T .term z) z → SaysHead2 T w H → Now T root L G e₀ Ω N B S k s (conf (two (headOf2 T H) (choose (isAtomAt T x) (inPlace (T .term x)) (choose (isAtomAt T z) hand slot)) (operandAt T z)))
+      → Then (turn C (G .frame) S)
+  two-turn H x z n c f g h now =
       let p : InPlace T root L G e₀ Ω N B S k s m P A D = in-place-of _ now in
       let i : slotAt M (r .room) (depthOf w + 1) ≡ slotOf M (suc (depthAt P A)) =
       ap (λ (j : ℕ). wordAt M j) (omega (arith, deep p, now .room)) ∙ sym (slot-word M (suc (depthAt P A)) (omega arith)) in
-      rw (turn-binary (binaryOf o) (termMode (T .term x)) (termMode (T .term z)) c)
-      (two-now p (firstOperand C M (termMode (T .term x)) (termMode (T .term z)) r w) (fetch (choose (isAtomAt T x) (inPlace (T .term x)) (choose (isAtomAt T z) hand slot)) hv (P .env) (D (suc (depthAt P A))))
+      rw (turn-binary (binaryOf2 H) (termMode (T .term x)) (termMode (T .term z)) c)
+      (both-now p (firstOperand C M (termMode (T .term x)) (termMode (T .term z)) r w) (fetch (choose (isAtomAt T x) (inPlace (T .term x)) (choose (isAtomAt T z) hand slot)) hv (P .env) (D (suc (depthAt P A))))
       (first-is T root L C says M (sizes r) r (P .env) (now .env) (now .env-fits) hv (slotOf M (suc (depthAt P A))) (D (suc (depthAt P A))) w x z i f (l-first located n) (now .good .bound .0 .0) (now .ready .0))
       (secondOperand C M (termMode (T .term z)) r w) (fetch (operandAt T z) hv (P .env) (D (suc (depthAt P A))))
       (second-is T root L C says M (sizes r) r (P .env) (now .env) (now .env-fits) hv (slotOf M (suc (depthAt P A))) (D (suc (depthAt P A))) w z g (l-second located n) (now .good .bound .0 .1) (now .ready .1))
-      o y (now .good .runs))
+      H x z n (now .good .runs) h)

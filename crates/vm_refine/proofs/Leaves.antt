@@ -16,7 +16,7 @@ use Rattle.vm_theory.specs.Table.{Table, Linked}
 use Rattle.vm_machine.specs.Memory.{Memory}
 use Rattle.vm_machine.specs.States.{State}
 use Rattle.vm_machine.specs.Leaves.{leavesOf}
-use Rattle.vm_refine.proofs.Relations.{Sizes, sizes, IsVal, is-unit, is-truth, is-num, is-fun, is-pair, is-cell, is-label, is-labels, is-advice, is-object}
+use Rattle.vm_refine.proofs.Relations.{Sizes, sizes, IsVal, is-unit, is-truth, is-num, is-fun, is-pair, is-cell, is-label, is-labels, is-advice, is-object, is-bottom, is-kept}
 use Rattle.vm_refine.proofs.Ends.{Stands}
 
 -- How deep a value's pairs are.
@@ -31,6 +31,8 @@ pairDepth (Val.cell r) = 0
 pairDepth (Val.labels ls) = 0
 pairDepth (Val.advice p ls e) = 0
 pairDepth (Val.object t bs) = 0
+pairDepth Val.bottom = 0
+pairDepth (Val.kept l v k) = 0
 
 module _ (T : Table) (root : ℕ) (L : Linked T 0 root) (M : Memory) (z : Sizes) where
   pub leaves-is : (d : ℕ) {w : ℕ} {v : CVal} → IsVal T root L M z w v → pairDepth (plainVal v) ≤ d → leavesOf M d w ≡ leaves (plainVal v)
@@ -46,6 +48,8 @@ module _ (T : Table) (root : ℕ) (L : Linked T 0 root) (M : Memory) (z : Sizes)
   leaves-is zero (is-labels p q a) h = rw p
   leaves-is zero (is-advice p a) h = rw p
   leaves-is zero (is-object p a e) h = rw p
+  leaves-is zero (is-bottom p) h = rw p
+  leaves-is zero (is-kept p q l a c) h = rw p
   leaves-is (suc d) (is-unit p) h = rw p
   leaves-is (suc d) (is-truth {b = true} p q) h = rw (p, q)
   leaves-is (suc d) (is-truth {b = false} p q) h = rw (p, q)
@@ -57,6 +61,8 @@ module _ (T : Table) (root : ℕ) (L : Linked T 0 root) (M : Memory) (z : Sizes)
   leaves-is (suc d) (is-labels p q a) h = rw p
   leaves-is (suc d) (is-advice p a) h = rw p
   leaves-is (suc d) (is-object p a e) h = rw p
+  leaves-is (suc d) (is-bottom p) h = rw p
+  leaves-is (suc d) (is-kept p q l a c) h = rw p
 
 -- A value of a type of n leaves has n leaves, and its pairs are less deep.
 leaves-count : {D : Policy} {Σ : StoreTyping} {v : Val} {t : Ty} → ValTy D Σ v t → (n : ℕ) → leafCount t ≡ some n → (length (leaves v) ≡ n) × (pairDepth v < n)
@@ -82,6 +88,8 @@ leaves-count (ValTy.v-cell h) n p = absurd (Option·none-ne-some n p)
 leaves-count (ValTy.v-labels h) n p = absurd (Option·none-ne-some n p)
 leaves-count (ValTy.v-advice h g k) n p = absurd (Option·none-ne-some n p)
 leaves-count (ValTy.v-object h) n p = absurd (Option·none-ne-some n p)
+leaves-count ValTy.v-bottom n p = absurd (Option·none-ne-some n p)
+leaves-count (ValTy.v-kept h g k) n p = absurd (Option·none-ne-some n p)
 
 -- A value of a plain type has at most 8 leaves, and the tables have them.
 pub plain-leaves : (T : Table) (root : ℕ) (L : Linked T 0 root) (S : State) {D : Policy} {Σ : StoreTyping} {v : Val} {t : Ty} {w : ℕ} → ValTy D Σ v t → isPlain t ≡ true → Stands T root L S w v

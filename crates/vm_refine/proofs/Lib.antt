@@ -4,6 +4,8 @@ pub mod Tables
 pub mod Store
 pub mod Views
 pub mod Labels
+pub mod Keeping
+pub mod Looking
 pub mod Slots
 pub mod Now
 pub mod Fetch
@@ -18,11 +20,16 @@ pub mod ReduceBindings
 pub mod Matching
 pub mod Advice
 pub mod Mark
+pub mod ReduceStack
+pub mod Keeps
+pub mod Linking
 pub mod Operands
 pub mod Instructions
 pub mod Entries
 pub mod Labelling
 pub mod Pointcuts
+pub mod Looks
+pub mod Matches
 pub mod Returns
 pub mod Turn
 pub mod Ends

@@ -18,7 +18,7 @@ use Rattle.calculus.specs.Place.{Place}
 use Rattle.calculus.specs.Answer.{go, full, if-room, with}
 use Rattle.closure_machine.specs.Closure.{CVal, Env, Body, CState, plainVal, plainState}
 use Rattle.closure_machine.specs.Machine.{Control, ret, triggered, triggeredF, Stack, CAnswer, due, reduce2C, move}
-use Rattle.vm_theory.specs.Conf.{Site, adviceA, Chain, Slots, base, depthAt, trigger}
+use Rattle.vm_theory.specs.Conf.{Site, adviceA, Chain, Slots, base, keptBy, depthAt, trigger}
 use Rattle.vm_theory.specs.Stands.{stackAt}
 use Rattle.vm_theory.specs.Table.{Table, Linked}
 use Rattle.vm_theory.proofs.Sound.{Sound}
@@ -29,13 +29,14 @@ use Rattle.vm_code.specs.Words.{depthOf, termCount}
 use Rattle.vm_code.specs.Says.{SaysCode}
 use Rattle.vm_machine.specs.declared.Regs.{Regs}
 use Rattle.vm_machine.specs.Registers.{headroom, fullRoom, setPc, setHand, setEnv, setRoom, setPools, stepped, boundTo, halt}
-use Rattle.vm_machine.specs.Memory.{Memory, wordAt, slotBase, cellBase, slotIn, slotWord, slotKind, slotPc, slotEnv, adviceFrame, bindingsLeft, nextBinding, endBinding, putAdvice, bindingAt, boundTarget, hasBit}
+use Rattle.vm_machine.specs.Memory.{Memory, keptBase, keptAt, wordAt, slotBase, cellBase, slotIn, slotWord, slotKind, slotPc, slotEnv, adviceFrame, bindingsLeft, nextBinding, endBinding, putAdvice, bindingAt, boundTarget, hasBit}
 use Rattle.vm_machine.specs.States.{State, withRegs, withMemory, ifLeft, ifRoom, completed}
 use Rattle.vm_machine.specs.Fetch.{Program, codeAt}
 use Rattle.vm_machine.specs.Reduce.{given, Bound, bindMatching, bodyAt, startAdvice, reduceMark}
 use Rattle.vm_refine.proofs.Relations.{Sizes, sizes, IsVal, is-unit, IsEnv, env-at, IsTriggered, one-left, Grows, env-grows, triggered-at, triggered-grows}
 use Rattle.vm_refine.proofs.Tables.{word-same, word-other, grows-put, grows-sizes, grows-trans, Above, above-put, SameSlots}
 use Rattle.vm_refine.proofs.Store.{Store, store-charged}
+use Rattle.vm_refine.proofs.Keeping.{AreKept, kept-grows, kept-fits}
 use Rattle.vm_refine.proofs.Slots.{slotOf, slot-word, slot-same, Held, Back, held-kept, same-to}
 use Rattle.vm_refine.proofs.Now.{InPlace, Now, halted-stopped}
 use Rattle.vm_refine.proofs.Views.{AsLabel, a-label, no-label, as-label}
@@ -83,6 +84,9 @@ module _ (T : Table) (root : ℕ) (L : Linked T 0 root) (G : Given) (e₀ : Tm) 
     frame-store =
         store-charged T root L B M (S .log) z s st framed (z .nb) (z .np) (s .used) frame-grows (above-put M cellBase (slotIn room′ d) word (omega (arith, index))) (st .beside)
         (st .bindings) (st .bindings-fit) (st .pieces) (st .pieces-fit) refl
+
+    pub frame-kept : AreKept T root L framed z (S .regs .kept) (keptBy A)
+    frame-kept = kept-grows T root L frame-grows (λ i. word-other M (slotIn room′ d) word (keptBase + i) (λ e. omega (arith, index))) (p .kept)
 
     pub frame-chain : (q : Dom) (w : CVal) (x : List (Advice Body)) → next < 65536 → end < 65536 → IsTriggered T root L M z next end w x
         → IsChain T 0 root L (Held T root L framed z) (Back T root L framed z) D (adviceA q w x P ∷ A)
@@ -167,7 +171,7 @@ module _ (T : Table) (root : ℕ) (L : Linked T 0 root) (G : Given) (e₀ : Tm) 
             (halted-stopped Outcome.Frames refl refl
             (ends-full G e₀ Ω (suc k) s′ (triggered v (first ∷ x)) K reach N (q .left - headroom) (omega (arith, p .common .budget, p .common .running)) Outcome.Frames [] is)
             (p .common .store) (omega (arith, p .common .budget, p .common .running))
-            (fits-in T root L G e₀ Ω N B M′ (S .log) (halt Outcome.Frames q) s′ (p .common .store) (omega (arith, l .pc, R .pc, small)) (p .env-fits) (omega (arith, p .room))))
+            (fits-in T root L G e₀ Ω N B M′ (S .log) (halt Outcome.Frames q) s′ (p .common .store) (omega (arith, l .pc, R .pc, small)) (p .env-fits) (omega (arith, p .room, kept-fits T root L A (p .kept)))))
           where
             long : frameLimit < length (triggeredF v x ∷ K)
             long = omega (arith, deep, p .room, stack-depth P A D (p .stood) (p .fine))
@@ -193,7 +197,8 @@ module _ (T : Table) (root : ℕ) (L : Linked T 0 root) (G : Given) (e₀ : Tm) 
             })
             (p .stood) (p .fine) b refl refl (env-grows T root L M′ (sizes q) M″ (sizes q) g ie) (omega arith) (omega (arith, deep, p .room))
             (frame-chain S′ (suc k) s′ m P A D p (n + 1) end within (q .pc) (q .env) (l .pc ∙ R .pc) (p .env-fits) (p .env) (depthOf w + 2) (q .room) index d v x (omega arith) (omega arith)
-            (triggered-at T root L M′ (sizes q) (sym next) refl rest)) reach in
+            (triggered-at T root L M′ (sizes q) (sym next) refl rest))
+            (frame-kept S′ (suc k) s′ m P A D p (n + 1) end within (q .pc) (q .env) (l .pc ∙ R .pc) (p .env-fits) (p .env) (depthOf w + 2) (q .room) index) reach in
             falls T root L G e₀ Ω N B C says S k s m P A D c F R M′ (S .log) q s′ l more {S″ = S″} refl now
 
         try : (t : Bool) → leb (q .room) (depthOf w + 1) ≡ t
@@ -221,6 +226,9 @@ module _ (T : Table) (root : ℕ) (L : Linked T 0 root) (G : Given) (e₀ : Tm) 
         cells : {M′ : Memory} → Written (S .memory) (sizes r) M′ → Above cellBase (S .memory) M′
         cells k = record { words = k .above .words; kept = λ j h. k .above .kept j (omega arith) }
 
+        keeps : {M′ : Memory} → Written (S .memory) (sizes r) M′ → (i : ℕ) → keptAt M′ i ≡ keptAt (S .memory) i
+        keeps k i = k .above .kept (keptBase + i) (omega arith)
+
         bytes : {M′ : Memory} → Written (S .memory) (sizes r) M′ → 513 ≤ length (M′ .beside)
         bytes k = rw (k .beside) (st .beside)
 
@@ -238,6 +246,8 @@ module _ (T : Table) (root : ℕ) (L : Linked T 0 root) (G : Given) (e₀ : Tm) 
                   (omega (arith, st .pieces)) (st .pieces-fit) (omega arith);
               grows = k .grows;
               slots = slots k;
+              kept = refl;
+              keeps = keeps k;
             })
             more
 
@@ -259,6 +269,8 @@ module _ (T : Table) (root : ℕ) (L : Linked T 0 root) (G : Given) (e₀ : Tm) 
                   (omega (arith, k .count, st .bindings)) few (omega (arith, st .pieces)) (st .pieces-fit) (omega arith);
               grows = g;
               slots = slots (k .written);
+              kept = refl;
+              keeps = keeps (k .written);
             })
             more (k .triggered few)
 

@@ -47,7 +47,7 @@ module _ (T : Table) (root : ℕ) (L : Linked T 0 root) where
     pub earlier : (j : ℕ) → j < B .count → j < 2048 → bindingAt (B′ .memory) j ≡ bindingAt (B .memory) j
     pub triggered : B′ .count ≤ 2048 → IsTriggered T root L (B′ .memory) (resized T root L (B′ .count) (z .np) z) (B .count) (B′ .count) w x
 
-  module _ (M : Memory) (z : Sizes) (np : z .np ≤ 512) (long : 3905 ≤ length (M .words)) (l : ℕ) (label : l < 64) (v : ℕ) (w : CVal) (iv : IsVal T root L M z v w) where
+  module _ (M : Memory) (z : Sizes) (np : z .np ≤ 512) (long : 4418 ≤ length (M .words)) (l : ℕ) (label : l < 64) (v : ℕ) (w : CVal) (iv : IsVal T root L M z v w) where
     -- One advice, that the label triggers, and then the others.
     made-one : (p : ℕ) (d : Dom) (ls : List ℕ) (f : Tm) (ρ : Env) (x : List (Advice Body)) (B B′ : Bound) → IsAdvice T root L M z p d ls f ρ → z .nb ≤ B .count → Written M z (B .memory) → (W : Memory)
         → W ≡ choose (ltb (B .count) bindingLimit) (putBinding (B .count) (binding v (adviceTarget (pieceFirst (B .memory) p)) (adviceEnv (pieceFirst (B .memory) p))) (B .memory)) (B .memory)

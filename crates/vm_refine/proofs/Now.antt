@@ -7,13 +7,13 @@ use mathlib.Core.Option.{some}
 use lib.ListN.{length}
 use Rattle.calculus.specs.declared.Outcome.{Outcome}
 use Rattle.calculus.specs.Combinators.{choose}
-use Rattle.calculus.specs.Syntax.{Tm, val, var, lam, op0, op1, op2, seq, ite, split, pcd, adv, lower, obj}
+use Rattle.calculus.specs.Syntax.{Tm, val, var, lam, op0, op1, op2, seq, ite, split, pcd, adv, lower, obj, keep, match}
 use Rattle.calculus.specs.State.{Given, fresh}
 use Rattle.calculus.specs.Report.{outcomeNumber}
 use Rattle.calculus.specs.Run.{done, stopped, ended, run}
 use Rattle.closure_machine.specs.Closure.{CVal, CState, plainVal, plainState}
-use Rattle.vm_theory.specs.Code.{Head, op1H, seqH, iteH, splitH, advH, lowerH, Operand, hand, slot, inPlace, Instr, back, nullary, one, two, many, oneB, firstB, secondB, Skel, isAtom, Pc, entry}
-use Rattle.vm_theory.specs.Conf.{Site, Chain, Slots, Conf, base, depthAt}
+use Rattle.vm_theory.specs.Code.{Head, op1H, seqH, iteH, splitH, advH, lowerH, Head2, op2H, keepH, Operand, hand, slot, inPlace, Instr, back, nullary, one, two, many, oneB, firstB, secondB, Skel, isAtom, Pc, entry}
+use Rattle.vm_theory.specs.Conf.{Site, Chain, Slots, Conf, base, keptBy, depthAt}
 use Rattle.vm_theory.specs.Table.{Table, Target, Linked, isAtomAt}
 use Rattle.vm_theory.proofs.Sound.{Sound}
 use Rattle.vm_theory.proofs.Good.{Good}
@@ -26,6 +26,7 @@ use Rattle.vm_machine.specs.States.{State}
 use Rattle.vm_machine.specs.Fits.{Fits}
 use Rattle.vm_refine.proofs.Relations.{sizes, IsVal, IsEnv}
 use Rattle.vm_refine.proofs.Store.{Store}
+use Rattle.vm_refine.proofs.Keeping.{AreKept}
 use Rattle.vm_refine.proofs.Slots.{slotOf, Held, Back}
 
 -- The operands that an instruction does not fetch in place: hw is the word at hand, hv its value; sw the word in the instruction's slot, sv its value.
@@ -39,7 +40,7 @@ module _ (Is : ℕ → CVal → Type 0) (hw : ℕ) (hv : CVal) (sw : ℕ) (sv : 
   ReadyFor back = Is hw hv
   ReadyFor (nullary o t) = Unit {0}
   ReadyFor (one H a) = Ready a
-  ReadyFor (two o t a b) = Ready a × Ready b
+  ReadyFor (two H a b) = Ready a × Ready b
   ReadyFor (many o es) = Unit {0}
 
   -- The first instruction of a term fetches all its operands in place.
@@ -50,6 +51,16 @@ module _ (Is : ℕ → CVal → Type 0) (hw : ℕ) (hv : CVal) (sw : ℕ) (sv : 
       try true p = tt
       try false p = ih p
 
+  ready-two : (H : Head2) (x y : Tm) (σ : Skel) → (isAtom x ≡ false → ReadyFor (entry x (firstB H y ∷ σ) .0)) → (isAtom y ≡ false → ReadyFor (entry y (secondB H (some x) ∷ σ) .0))
+      → ReadyFor (choose {A = Pc} (isAtom x) (choose {A = Pc} (isAtom y) (two H (inPlace x) (inPlace y), σ) (entry y (secondB H (some x) ∷ σ))) (entry x (firstB H y ∷ σ)) .0)
+  ready-two H x y σ ihx ihy = try (isAtom x) refl (isAtom y) refl
+    where
+      try : (b : Bool) → isAtom x ≡ b → (c : Bool) → isAtom y ≡ c
+          → ReadyFor (choose {A = Pc} b (choose {A = Pc} c (two H (inPlace x) (inPlace y), σ) (entry y (secondB H (some x) ∷ σ))) (entry x (firstB H y ∷ σ)) .0)
+      try true q true r = (tt, tt)
+      try true q false r = ihy r
+      try false q c r = ihx q
+
   pub entry-ready : (e : Tm) (σ : Skel) → isAtom e ≡ false → ReadyFor (entry e σ .0)
   unfolding entry
   entry-ready (val v) σ p = absurd (true≢false p)
@@ -57,13 +68,7 @@ module _ (Is : ℕ → CVal → Type 0) (hw : ℕ) (hv : CVal) (sw : ℕ) (sv : 
   entry-ready (lam t b) σ p = absurd (true≢false p)
   entry-ready (op0 o t) σ p = tt
   entry-ready (op1 o t x) σ p = ready-one (op1H o t) x σ (entry-ready x (oneB (op1H o t) ∷ σ))
-  entry-ready (op2 o t x y) σ p = try (isAtom x) refl (isAtom y) refl (entry-ready x (firstB o t y ∷ σ)) (entry-ready y (secondB o t (some x) ∷ σ))
-    where
-      try : (b : Bool) → isAtom x ≡ b → (c : Bool) → isAtom y ≡ c → (isAtom x ≡ false → ReadyFor (entry x (firstB o t y ∷ σ) .0)) → (isAtom y ≡ false → ReadyFor (entry y (secondB o t (some x) ∷ σ) .0))
-          → ReadyFor (choose {A = Pc} b (choose {A = Pc} c (two o t (inPlace x) (inPlace y), σ) (entry y (secondB o t (some x) ∷ σ))) (entry x (firstB o t y ∷ σ)) .0)
-      try true q true r ihx ihy = (tt, tt)
-      try true q false r ihx ihy = ihy r
-      try false q c r ihx ihy = ihx q
+  entry-ready (op2 o t x y) σ p = ready-two (op2H o t) x y σ (entry-ready x (firstB (op2H o t) y ∷ σ)) (entry-ready y (secondB (op2H o t) (some x) ∷ σ))
   entry-ready (seq x f) σ p = ready-one (seqH f) x σ (entry-ready x (oneB (seqH f) ∷ σ))
   entry-ready (ite x f g) σ p = ready-one (iteH f g) x σ (entry-ready x (oneB (iteH f g) ∷ σ))
   entry-ready (split x f) σ p = ready-one (splitH f) x σ (entry-ready x (oneB (splitH f) ∷ σ))
@@ -71,6 +76,8 @@ module _ (Is : ℕ → CVal → Type 0) (hw : ℕ) (hv : CVal) (sw : ℕ) (sv : 
   entry-ready (adv q x b) σ p = ready-one (advH q b) x σ (entry-ready x (oneB (advH q b) ∷ σ))
   entry-ready (lower q x) σ p = ready-one (lowerH q) x σ (entry-ready x (oneB (lowerH q) ∷ σ))
   entry-ready (obj t bs) σ p = absurd (true≢false p)
+  entry-ready (keep x y g) σ p = ready-two (keepH g) x y σ (entry-ready x (firstB (keepH g) y ∷ σ)) (entry-ready y (secondB (keepH g) (some x) ∷ σ))
+  entry-ready (match q es f g) σ p = tt
 
 module _ (T : Table) (root : ℕ) (L : Linked T 0 root) (G : Given) (e₀ : Tm) (Ω : Sound G e₀) (N : ℕ) (B : List ℕ) where
   -- What holds of tables, log and budget between two instructions, after k steps of the budget N.
@@ -91,6 +98,7 @@ module _ (T : Table) (root : ℕ) (L : Linked T 0 root) (G : Given) (e₀ : Tm) 
     pub room : S .regs .room + base A ≡ fullRoom
     pub waits : Waits T 0 root L (Held T root L (S .memory) (sizes (S .regs))) D (P .skel) (base A)
     pub chain : IsChain T 0 root L (Held T root L (S .memory) (sizes (S .regs))) (Back T root L (S .memory) (sizes (S .regs))) D A
+    pub kept : AreKept T root L (S .memory) (sizes (S .regs)) (S .regs .kept) (keptBy A)
 
   -- It is about to run an instruction.
   pub record Now (S : State) (k : ℕ) (s : CState) (C : Conf) : Type 0 where
@@ -105,6 +113,7 @@ module _ (T : Table) (root : ℕ) (L : Linked T 0 root) (G : Given) (e₀ : Tm) 
     pub ready : ReadyFor (IsVal T root L (S .memory) (sizes (S .regs))) (S .regs .hand) (C .hand) (slotOf (S .memory) (suc (depthAt (C .site) (C .chain)))) (C .slots (suc (depthAt (C .site) (C .chain)))) (C .instr)
     pub waits : Waits T 0 root L (Held T root L (S .memory) (sizes (S .regs))) (C .slots) (C .site .skel) (base (C .chain))
     pub chain : IsChain T 0 root L (Held T root L (S .memory) (sizes (S .regs))) (Back T root L (S .memory) (sizes (S .regs))) (C .slots) (C .chain)
+    pub kept : AreKept T root L (S .memory) (sizes (S .regs)) (S .regs .kept) (keptBy (C .chain))
 
   -- The run has ended, and the machine with it.
   pub data Halted (S : State) : Type 0 where

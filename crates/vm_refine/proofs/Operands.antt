@@ -5,7 +5,7 @@ use mathlib.Core.Path.{_≡_, refl, sym}
 use mathlib.Core.Bool.{Bool, true, false, true≢false}
 use lib.Dec.{ltb}
 use Rattle.calculus.specs.Combinators.{choose}
-use Rattle.calculus.specs.Syntax.{Dom, Tm, val, var, lam, op0, op1, op2, seq, ite, split, pcd, adv, lower, obj}
+use Rattle.calculus.specs.Syntax.{Dom, Tm, val, var, lam, op0, op1, op2, seq, ite, split, pcd, adv, lower, obj, keep, match}
 use Rattle.closure_machine.specs.Closure.{CVal, Env}
 use Rattle.vm_theory.specs.Code.{Operand, hand, slot, inPlace, Skel, isAtom, fetch}
 use Rattle.vm_theory.specs.Table.{Table, isAtomAt, Linked}
@@ -67,6 +67,8 @@ module _ (T : Table) (root : ℕ) (L : Linked T 0 root) (C : Program) (says : Sa
     worked-first (adv d i g) w a = absurd (true≢false (sym a))
     worked-first (lower d i) w a = absurd (true≢false (sym a))
     worked-first (obj t bs) w a = refl
+    worked-first (keep i g j) w a = absurd (true≢false (sym a))
+    worked-first (match p es g j) w a = absurd (true≢false (sym a))
 
     pub first-is : (w x y : ℕ) → slotAt M (r .room) (depthOf w + 1) ≡ sw → fieldA w ≡ termField (T .term x) x → {σ : Skel} {c : Dom} → Located T 0 root L x σ c
         → BoundOperand (choose (isAtomAt T x) (inPlace (T .term x)) (choose (isAtomAt T y) hand slot)) ρ → Ready Is (r .hand) hv sw sv (choose (isAtomAt T x) (inPlace (T .term x)) (choose (isAtomAt T y) hand slot))

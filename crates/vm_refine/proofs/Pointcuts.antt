@@ -11,7 +11,7 @@ use lib.Dec.{leb}
 use borrow.Author.Tests.{leb-true, leb-false, le-leb, lt-leb, ne-eqb}
 use Rattle.calculus.specs.declared.Outcome.{Outcome}
 use Rattle.calculus.specs.Combinators.{choose}
-use Rattle.calculus.specs.Syntax.{Tm, asValue, val, var, lam, op0, op1, op2, seq, ite, split, pcd, adv, lower, obj}
+use Rattle.calculus.specs.Syntax.{Tm, asValue, val, var, lam, op0, op1, op2, seq, ite, split, pcd, adv, lower, obj, keep, match}
 use Rattle.calculus.specs.State.{Given, fresh}
 use Rattle.calculus.specs.Place.{Place, framed}
 use Rattle.closure_machine.specs.Closure.{CVal, Env, CState, close, plainTm, plainState}
@@ -34,7 +34,7 @@ use Rattle.vm_code.specs.Words as code
 use Rattle.vm_code.specs.Says.{SaysCode}
 use Rattle.vm_machine.specs.declared.Regs.{Regs}
 use Rattle.vm_machine.specs.Registers.{headroom, fullRoom, setPc, setRoom, halt}
-use Rattle.vm_machine.specs.Memory.{Memory, wordAt, slotBase, cellBase, slotIn, slotWord, slotKind, slotPc, slotEnv, slotHeld, pointcutFrame, putDigits, labelSet}
+use Rattle.vm_machine.specs.Memory.{Memory, keptBase, wordAt, slotBase, cellBase, slotIn, slotWord, slotKind, slotPc, slotEnv, slotHeld, pointcutFrame, putDigits, labelSet}
 use Rattle.vm_machine.specs.States.{State, withRegs, withMemory, judged}
 use Rattle.vm_machine.specs.Fetch.{Program, codeAt}
 use Rattle.vm_machine.specs.Reduce.{newPiece}
@@ -43,6 +43,7 @@ use Rattle.vm_refine.proofs.Relations.{Sizes, sizes, IsVal, env-at, Gro
 use Rattle.vm_refine.proofs.Tables.{word-same, word-other, grows-put, above-put}
 use Rattle.vm_refine.proofs.Store.{Store, store-charged}
 use Rattle.vm_refine.proofs.Labels.{digitsOf, Labels, digits-fit}
+use Rattle.vm_refine.proofs.Keeping.{kept-grows, kept-fits}
 use Rattle.vm_refine.proofs.Slots.{slotOf, byteOf, slot-word, slot-same, Held, Back, held-kept, same-to}
 use Rattle.vm_refine.proofs.Now.{entry-ready, InPlace, halted-stopped}
 use Rattle.vm_refine.proofs.Arrives.{instruction-of}
@@ -53,7 +54,7 @@ use Rattle.vm_refine.proofs.Entries.{entry-from}
 use Rattle.vm_refine.proofs.Labelling.{drop-at, Pending, Stops, all-taken, stopped-at, taken}
 
 -- What is no atom is no value.
-no-value : (e : Tm) (ρ : Env) → isAtom e ≡ false → asValue (plainTm 0 ρ e) ≡ none
+pub no-value : (e : Tm) (ρ : Env) → isAtom e ≡ false → asValue (plainTm 0 ρ e) ≡ none
 unfolding close
 no-value (val v) ρ a = absurd (true≢false a)
 no-value (var i) ρ a = absurd (true≢false a)
@@ -68,16 +69,18 @@ no-value (pcd es) ρ a = refl
 no-value (adv d i g) ρ a = refl
 no-value (lower d i) ρ a = refl
 no-value (obj t bs) ρ a = absurd (true≢false a)
+no-value (keep i g j) ρ a = refl
+no-value (match p es g j) ρ a = refl
 
 -- The parts of a pointcut's frame, and the digits in it and in the byte beside it.
-pointcut-frame : (pc env h : ℕ) → pc < 1024 → env < 2048 → (slotKind (slotWord pointcutFrame pc env h) ≡ pointcutFrame) × (slotPc (slotWord pointcutFrame pc env h) ≡ pc) × (slotEnv (slotWord pointcutFrame pc env h) ≡ env) × (slotHeld (slotWord pointcutFrame pc env h) ≡ h)
+pub pointcut-frame : (pc env h : ℕ) → pc < 1024 → env < 2048 → (slotKind (slotWord pointcutFrame pc env h) ≡ pointcutFrame) × (slotPc (slotWord pointcutFrame pc env h) ≡ pc) × (slotEnv (slotWord pointcutFrame pc env h) ≡ env) × (slotHeld (slotWord pointcutFrame pc env h) ≡ h)
 pointcut-frame pc env h a b = (omega arith, omega arith, omega arith, omega arith)
 
 digits-split : (d h : ℕ) → d < 8796093022208 → h ≡ d % 68719476736 → h + 68719476736 * (d / 68719476736 % 256) ≡ d
 digits-split d h lt p = omega arith
 
 module _ (T : Table) (root : ℕ) (L : Linked T 0 root) (G : Given) (e₀ : Tm) (Ω : Sound G e₀) (N : ℕ) (B : List ℕ) (C : Program) (says : SaysCode T (C .image) (C .code)) where
-  after-mono : {b b′ : ℕ} {S : State} → b ≤ b′ → After T root L G e₀ Ω N B b S → After T root L G e₀ Ω N B b′ S
+  pub after-mono : {b b′ : ℕ} {S : State} → b ≤ b′ → After T root L G e₀ Ω N B b S → After T root L G e₀ Ω N B b′ S
   after-mono h (after-halted x) = after-halted x
   after-mono h (after-now n l) = after-now n (omega arith)
 
@@ -142,7 +145,7 @@ module _ (T : Table) (root : ℕ) (L : Linked T 0 root) (G : Given) (e₀ : Tm) 
           (ends-deep G e₀ Ω k s (eval (T .term y) (P .env)) F′ reach N (r .left - headroom) (omega (arith, p .common .budget, p .common .running)) (no-value (T .term y) (P .env) a)
           (omega (arith, deep, p .room, stack-depth P A D (p .stood) (p .fine))))
           st (omega (arith, p .common .budget, p .common .running))
-          (fits-in T root L G e₀ Ω N B M (S .log) (halt Outcome.Frames r) s st (omega (arith, pc, small)) (p .env-fits) (omega (arith, p .room))))
+          (fits-in T root L G e₀ Ω N B M (S .log) (halt Outcome.Frames r) s st (omega (arith, pc, small)) (p .env-fits) (omega (arith, p .room, kept-fits T root L A (p .kept)))))
 
       -- The child begins over the pointcut's activation frame.
       module _ (h : depthOf w + 1 < r .room) where
@@ -249,6 +252,7 @@ module _ (T : Table) (root : ℕ) (L : Linked T 0 root) (G : Given) (e₀ : Tm) 
               ready = entry-ready (IsVal T root L framed′ z) (r .hand) CVal.unit _ _ (T .term y) [] a;
               waits = entry-has T 0 root L (Held T root L framed′ z) D (base A′) (T .term y) [] tt;
               chain = chain;
+              kept = kept-grows T root L grows (λ i. word-other M (slotIn (r .room) (depthOf w + 1)) word (keptBase + i) (λ e. omega (arith, index))) (p .kept);
             })
             (omega (arith, ap (λ (i : Bool). choose i (fullRoom + 2) (r .room - (depthOf w + 1) + 1)) (ne-eqb t code.home (λ i. omega (arith, low)))))
 

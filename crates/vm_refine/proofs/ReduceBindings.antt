@@ -4,14 +4,12 @@ use native.Mathlib.Omega.{arith}
 use native.Mathlib.Nat.{mod-eq-of-lt}
 use mathlib.Core.Path.{_≡_, refl, sym, ap, subst, _∙_}
 use mathlib.Core.List.{List, [], _∷_}
-use mathlib.Core.Bool.{Bool, true, false}
 use mathlib.Core.Option.{Option, none, some, Option·none-ne-some, Option·some-injective}
 use lib.ListN.{length, getD, getElem?, length-set}
 use lib.Dec.{ltb, leb}
 use borrow.Author.Tests.{leb-true, lt-ltb}
 use Rattle.calculus.specs.declared.Outcome.{Outcome}
 use Rattle.calculus.specs.Limits.{bindingLimit}
-use Rattle.calculus.specs.Combinators.{choose}
 use Rattle.calculus.specs.Plain.{domOf, methodsOf, methodDom}
 use Rattle.calculus.specs.Syntax.{Dom, Ty, Tm, Tms, call, app}
 use Rattle.calculus.specs.State.{Given, charged, addCounts, someBindings}
@@ -22,25 +20,25 @@ use Rattle.image.specs.Bytes.{le16}
 use Rattle.closure_machine.specs.Closure.{CVal, Env, link, CState}
 use Rattle.closure_machine.specs.Machine.{Control, eval, Stack, CAnswer, reduce1C, reduce2C, reduceSplitC}
 use Rattle.vm_theory.specs.Conf.{Site, Chain, Slots, domAt}
-use Rattle.vm_theory.specs.Table.{objN, Node, Table, termsOf, isAtomAt, Linked}
+use Rattle.vm_theory.specs.Table.{objN, Node, Table, termsOf, Linked}
 use Rattle.vm_theory.proofs.Sound.{Sound}
 use Rattle.vm_theory.proofs.Located.{l-method}
 use Rattle.vm_code.specs.Values.{bodyOf, tagOf}
 use Rattle.vm_code.specs.Words.{fieldB, methodTarget, listOffset, termCount}
-use Rattle.vm_code.specs.Says.{Says, says-object, SaysBodies, bodies-here, bodies-listed, targetAt, SaysTarget, SaysCode}
+use Rattle.vm_code.specs.Says.{Says, says-object, SaysBodies, bodies-here, bodies-listed, SaysTarget, SaysCode}
 use Rattle.vm_machine.specs.declared.Regs.{Regs}
 use Rattle.vm_machine.specs.Registers.{setPools, stepped, bound}
-use Rattle.vm_machine.specs.Memory.{Memory, binding, boundTarget, boundLink, noBinding, bindingAt, putBinding, closureEnv, pieceFirst, pieceSecond, pieceOf, cellBase}
+use Rattle.vm_machine.specs.Memory.{Memory, keptBase, binding, boundTarget, boundLink, noBinding, bindingAt, putBinding, closureEnv, pieceFirst, pieceSecond, pieceOf, cellBase}
 use Rattle.vm_machine.specs.States.{State, ifLeft, ifRoom}
 use Rattle.vm_machine.specs.Fetch.{Program, codeAt, called}
 use Rattle.vm_machine.specs.Reduce.{reduceApply, reduceSplit}
-use Rattle.vm_machine.specs.Turn.{entryFrom, begunAt, callBody, reduceCall}
+use Rattle.vm_machine.specs.Turn.{begunAt, callBody, reduceCall}
 use Rattle.vm_refine.proofs.Relations.{Sizes, sizes, IsBody, IsObject, IsVal, IsEnv, is-link, env-outside, val-like, val-at, env-at, Grows, val-grows, env-grows}
-use Rattle.vm_refine.proofs.Tables.{word-same, grows-put, grows-sizes, grows-trans, Above, above-put, above-trans, SameSlots, slots-put, slots-trans}
+use Rattle.vm_refine.proofs.Tables.{word-other, word-same, grows-put, grows-sizes, grows-trans, Above, above-put, above-trans, SameSlots, slots-put, slots-trans}
 use Rattle.vm_refine.proofs.Store.{Store, resized, store-charged}
 use Rattle.vm_refine.proofs.Views.{AsFunction, a-function, no-function, as-function, AsObject, an-object, no-object, as-object, AsPair, a-pair, no-pair, as-pair}
 use Rattle.vm_refine.proofs.Steps.{leb-iff, spend-bindings, measure, After, Stepping, no-wrong, if-there-is-room}
-use Rattle.vm_refine.proofs.Entries.{word-atom, entry-from}
+use Rattle.vm_refine.proofs.Entries.{begun-at}
 use Rattle.vm_refine.proofs.Gives.{calls}
 
 -- The parts of a binding.
@@ -57,7 +55,7 @@ bodies-said : (T : Table) (image : List ℕ) (w : ℕ) {y : Ty} {bs : List ℕ} 
 bodies-said T image w (says-object c h) = h
 
 -- One more binding.
-module _ (T : Table) (root : ℕ) (L : Linked T 0 root) (M : Memory) (z : Sizes) (long : 3905 ≤ length (M .words)) (room : z .nb < 2048) (fit : z .np ≤ 512) (w : ℕ) where
+module _ (T : Table) (root : ℕ) (L : Linked T 0 root) (M : Memory) (z : Sizes) (long : 4418 ≤ length (M .words)) (room : z .nb < 2048) (fit : z .np ≤ 512) (w : ℕ) where
   abbrev pub binds : Memory
   binds = putBinding (z .nb) w M
 
@@ -138,6 +136,8 @@ module _ (T : Table) (root : ℕ) (L : Linked T 0 root) (G : Given) (e₀ : Tm) 
             (omega (arith, st .bindings)) (omega arith) (omega (arith, st .pieces)) (st .pieces-fit) (omega arith);
         grows = f;
         slots = slots-bound T root L M z (st .words) fit (st .pieces-fit) word;
+        kept = refl;
+        keeps = λ i. word-other M (0 + n) word (keptBase + i) (λ e. omega arith);
       })
       g n e d (link u ρ) b (env-bound-to T root L M z (st .words) fit (st .pieces-fit) word x 0 l refl (omega arith) low i ie) fit same refl)
     where
@@ -156,14 +156,6 @@ module _ (T : Table) (root : ℕ) (L : Linked T 0 root) (G : Given) (e₀ : Tm) 
       try : {u : CVal} → AsFunction T root L M z x u → ((t : Ty) (e : Tm) (ρ : Env) → u ≡ CVal.fun t e ρ → domOf t ≡ domAt P) → At (reduce2C G X s app y u v′) → Then (reduceApply C w x x′ S)
       try (a-function {y = t} {e = e} {ρ = ρ} b ie) d Q = bound-now (bodyOf x % 2048) (closureEnv x) e (domOf t) ρ (omega arith) b (d t e ρ refl) ie i′ Q
       try (no-function p) d Q = no-way Q (rw p)
-
-  -- A term is begun where its word says.
-  begun : (b : ℕ) → b < termCount → begunAt C b ≡ targetAt T b
-  begun b h = ap (λ (t : Bool). choose t b (termCount + entryFrom termCount C b)) (word-atom T root L C says b h) ∙ try (isAtomAt T b) refl
-    where
-      try : (t : Bool) → isAtomAt T b ≡ t → choose t b (termCount + entryFrom termCount C b) ≡ choose t b (termCount + T .entry b)
-      try true a = refl
-      try false a = ap (λ (e : ℕ). termCount + e) (entry-from T root L C says b h a)
 
   -- Method j of the object x is its body b, which gives e.
   module _ (j : ℕ) {x : ℕ} {t : Ty} {es : Tms} {ρ : Env} (q : fieldB w ≡ j % 2048) (o : IsObject T root L (bodyOf x % 1024) t es) (ie : IsEnv T root L M z (closureEnv x) ρ)
@@ -185,7 +177,7 @@ module _ (T : Table) (root : ℕ) (L : Linked T 0 root) (G : Given) (e₀ : Tm) 
     method-now (bodies-listed f few inside lists) =
         let child : le16 (C .image) (listOffset u + 2 * j) % termCount ≡ b = lists j there ∙ get in
         let low : b < termCount = omega arith in
-        rw (f, named few, lt-ltb (listOffset u + 2 * j + 1) (length (C .image)) (omega arith)) (called-at (begunAt C (le16 (C .image) (listOffset u + 2 * j) % termCount)) (ap (begunAt C) child ∙ begun b low, low))
+        rw (f, named few, lt-ltb (listOffset u + 2 * j + 1) (length (C .image)) (omega arith)) (called-at (begunAt C (le16 (C .image) (listOffset u + 2 * j) % termCount)) (ap (begunAt C) child ∙ begun-at T root L C says b low, low))
 
   -- A call of a method; the object's type names the current domain for it.
   pub call-now : (X : Place) (y : Ty) (j : ℕ) {x : ℕ} {v : CVal} → fieldB w ≡ j % 2048 → ((t : Ty) (es : Tms) (ρ : Env) → v ≡ CVal.object t es ρ → methodDom (methodsOf t) j ≡ domAt P) → Is x v
@@ -242,7 +234,7 @@ module _ (T : Table) (root : ℕ) (L : Linked T 0 root) (G : Given) (e₀ : Tm) 
       made {u} {t} h iu it Q =
           let fit : n < 2048 = omega (arith, st .bindings) in
           let fit′ : n + 1 < 2048 = omega (arith, st .bindings) in
-          let words′ : 3905 ≤ length (M′ .words) = rw (length-set (M .words) (0 + n) word) (st .words) in
+          let words′ : 4418 ≤ length (M′ .words) = rw (length-set (M .words) (0 + n) word) (st .words) in
           let g : Grows M z M′ z′ = grows-bound T root L M z (st .words) fit (st .pieces-fit) word in
           let sum : n + 1 + 1 ≡ n + 2 = omega arith in
           let g′ : Grows M′ z′ M″ (resized T root L (n + 1 + 1) (z .np) z′) = grows-bound T root L M′ z′ words′ fit′ (st .pieces-fit) word′ in
@@ -263,6 +255,8 @@ module _ (T : Table) (root : ℕ) (L : Linked T 0 root) (G : Given) (e₀ : Tm) 
                 (omega (arith, st .bindings)) (omega arith) (omega (arith, st .pieces)) (st .pieces-fit) (omega arith);
             grows = g″;
             slots = slots-trans (slots-bound T root L M z (st .words) fit (st .pieces-fit) word) (slots-bound T root L M′ z′ words′ fit′ (st .pieces-fit) word′);
+            kept = refl;
+            keeps = λ i. word-other M′ (0 + (n + 1)) word′ (keptBase + i) (λ e. omega arith) ∙ word-other M (0 + n) word (keptBase + i) (λ e. omega arith);
           })
           (fieldB w) (n + 1) e (domAt P) (link t (link u (P .env))) b (rw sum at ie′) fit′ refl refl
 

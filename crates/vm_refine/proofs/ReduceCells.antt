@@ -28,7 +28,7 @@ use Rattle.vm_code.specs.Says.{SaysCode}
 use Rattle.vm_machine.specs.declared.Regs.{Regs}
 use Rattle.vm_machine.specs.Registers as regs
 use Rattle.vm_machine.specs.Registers.{setPools, stepped}
-use Rattle.vm_machine.specs.Memory.{Memory, putWord, above, cellAt, cellNote}
+use Rattle.vm_machine.specs.Memory.{Memory, keptBase, putWord, above, cellAt, cellNote}
 use Rattle.vm_machine.specs.States.{State, ifLeft, completed}
 use Rattle.vm_machine.specs.Fetch.{Program, codeAt}
 use Rattle.vm_machine.specs.Reduce.{reduceCell, reduceStore}
@@ -126,6 +126,8 @@ module _ (T : Table) (root : ℕ) (L : Linked T 0 root) (G : Given) (e₀ : Tm) 
                 };
             grows = g;
             slots = slots-put M (3585 + j) word (λ a b. omega arith);
+            kept = refl;
+            keeps = λ i. word-other M (3585 + j) word (keptBase + i) (λ e. omega arith);
           })
           0 CVal.unit refl (is-unit refl)
         where
@@ -217,6 +219,8 @@ module _ (T : Table) (root : ℕ) (L : Linked T 0 root) (G : Given) (e₀ : Tm) 
                 };
             grows = g;
             slots = slots-put M (3585 + nc) word (λ a b. omega arith);
+            kept = refl;
+            keeps = λ i. word-other M (3585 + nc) word (keptBase + i) (λ e. omega arith);
           })
           (value 5 nc) (CVal.cell (length (s .cells))) refl
           (is-cell (tag-value 5 nc (omega arith)) (omega (arith, st .cells-count, st .cells)))

@@ -26,7 +26,7 @@ use Rattle.vm_code.specs.Says.{SaysCode}
 use Rattle.vm_machine.specs.declared.Regs.{Regs}
 use Rattle.vm_machine.specs.Registers as regs
 use Rattle.vm_machine.specs.Registers.{setPools, stepped}
-use Rattle.vm_machine.specs.Memory.{Memory, putWord, pieceFirst, pieceSecond, putPiece, pieceOf, labelSet, adviceWord, adviceTarget, adviceEnv, adviceDom, cellBase}
+use Rattle.vm_machine.specs.Memory.{Memory, keptBase, putWord, pieceFirst, pieceSecond, putPiece, pieceOf, labelSet, adviceWord, adviceTarget, adviceEnv, adviceDom, cellBase}
 use Rattle.vm_machine.specs.States.{State, ifLeft, completed}
 use Rattle.vm_machine.specs.Fetch.{Program, codeAt}
 use Rattle.vm_machine.specs.Reduce.{newPiece, reduceAdvice}
@@ -131,6 +131,8 @@ module _ (T : Table) (root : ℕ) (L : Linked T 0 root) (G : Given) (e₀ : Tm) 
                 (omega arith);
             grows = g;
             slots = slots-trans (slots-put M i x (λ a b. omega arith)) (slots-put half (i + 1) y (λ a b. omega arith));
+            kept = refl;
+            keeps = λ j. word-other half (i + 1) y (keptBase + j) (λ e. omega arith) ∙ word-other M i x (keptBase + j) (λ e. omega arith);
           })
           (value t np) v refl (made room g first second)
 

@@ -13,7 +13,7 @@ use Rattle.calculus.specs.declared.Outcome.{Outcome}
 use Rattle.calculus.specs.Limits.{labelLimit, adviceLimit, logRecordLength}
 use Rattle.calculus.specs.Syntax.{Dom, Ty, Tm, newLabel, print, install, store}
 use Rattle.calculus.specs.Plain.{domOf}
-use Rattle.calculus.specs.State.{Advice, Given, Event, prints, Print, logOf, labelled, installed, told}
+use Rattle.calculus.specs.State.{Entry, Advice, Given, Event, prints, Print, logOf, labelled, installed, told}
 use Rattle.calculus.specs.Compose.{member}
 use Rattle.calculus.specs.Place.{Place}
 use Rattle.calculus.specs.Answer.{go, wrong, with}
@@ -31,7 +31,7 @@ use Rattle.vm_code.specs.Words.{domainOf}
 use Rattle.vm_code.specs.Says.{SaysCode}
 use Rattle.vm_machine.specs.declared.Regs.{Regs}
 use Rattle.vm_machine.specs.Registers.{setLabels, setInstalled, setLogged, stepped}
-use Rattle.vm_machine.specs.Memory.{Memory, wordAt, installedAt, putInstalled, pieceOf, pieceSecond, hasBit}
+use Rattle.vm_machine.specs.Memory.{Memory, keptBase, wordAt, installedAt, putInstalled, pieceOf, pieceSecond, hasBit}
 use Rattle.vm_machine.specs.States.{State, ifLeft, completed}
 use Rattle.vm_machine.specs.Fetch.{Program, codeAt}
 use Rattle.vm_machine.specs.Reduce.{reducePrint, reduceLabel, reduceInstall}
@@ -97,8 +97,8 @@ module _ (T : Table) (root : ℕ) (L : Linked T 0 root) (G : Given) (e₀ : Tm) 
       → Made (completed w x (record { memory = M′; log = log′; regs = q }))
   gave R M′ log′ q s′ l x v e i = gives T root L G e₀ Ω N B C says S k s m P A D c F R M′ log′ q s′ l x v e i
 
-  pub label-now : (X : Place) (y : Ty) → At (reduce0C G X s newLabel y) → Then (reduceLabel w S)
-  label-now X y R =
+  pub label-now : (X : Place) (x : List (Entry CVal)) (y : Ty) → At (reduce0C G X x s newLabel y) → Then (reduceLabel w S)
+  label-now X x y R =
       if-there-is-room T root L G e₀ Ω N B C says S k s m P A D c F (measure S) (labelRoom s) Outcome.Labels _ _ (ltb (r .labels) labelLimit) (ap (λ (i : ℕ). ltb i labelLimit) (st .labels)) R refl
       (λ room Q. made (ltb-true (length (s .labels)) labelLimit room) Q)
     where
@@ -142,6 +142,8 @@ module _ (T : Table) (root : ℕ) (L : Linked T 0 root) (G : Given) (e₀ : Tm) 
                 };
             grows = g;
             slots = slots-refl M;
+            kept = refl;
+            keeps = λ i. refl;
           })
           (value 6 (r .labels)) (CVal.label (length (s .labels))) refl (is-label (tag-value 6 (r .labels) (omega arith)) (omega (arith, st .labels)))
 
@@ -207,6 +209,8 @@ module _ (T : Table) (root : ℕ) (L : Linked T 0 root) (G : Given) (e₀ : Tm) 
                 };
             grows = g;
             slots = slots-refl M;
+            kept = refl;
+            keeps = λ i. refl;
           })
           0 CVal.unit refl (is-unit refl)
 
@@ -285,6 +289,8 @@ module _ (T : Table) (root : ℕ) (L : Linked T 0 root) (G : Given) (e₀ : Tm) 
                 };
             grows = g;
             slots = slots-put M (3841 + r .installed) (pieceOf x) (λ a b. omega arith);
+            kept = refl;
+            keeps = λ i. word-other M (3841 + r .installed) (pieceOf x) (keptBase + i) (λ e. omega arith);
           })
           0 CVal.unit refl (is-unit refl)
 

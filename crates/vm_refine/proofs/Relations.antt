@@ -20,7 +20,7 @@ use Rattle.vm_code.specs.Values.{tagOf, bodyOf}
 use Rattle.vm_code.specs.Words.{termCount}
 use Rattle.vm_code.specs.Says.{SaysTarget}
 use Rattle.vm_machine.specs.declared.Regs.{Regs}
-use Rattle.vm_machine.specs.Memory.{Memory, bindingAt, boundTarget, boundLink, noBinding, pieceFirst, pieceSecond, adviceTarget, adviceEnv, adviceDom, closureEnv, hasBit}
+use Rattle.vm_machine.specs.Memory.{Memory, entryLabel, bindingAt, boundTarget, boundLink, noBinding, pieceFirst, pieceSecond, adviceTarget, adviceEnv, adviceDom, closureEnv, hasBit}
 use Rattle.vm_machine.specs.Memory as words
 
 -- How much of each table is in use, and the labels that installed advice names.
@@ -81,6 +81,10 @@ module _ (T : Table) (root : ℕ) (L : Linked T 0 root) where
         is-labels : {w : ℕ} {ls : List ℕ} → tagOf w ≡ 7 → bodyOf w % 512 < z .np → HasLabels (pieceSecond M (bodyOf w % 512)) ls → IsVal w (CVal.labels ls)
         is-advice : {w : ℕ} {d : Dom} {e : Tm} {ls : List ℕ} {ρ : Env} → tagOf w ≡ 8 → IsAdvice (bodyOf w % 512) d ls e ρ → IsVal w (CVal.advice d ls e ρ)
         is-object : {w : ℕ} {y : Ty} {es : Tms} {ρ : Env} → tagOf w ≡ 9 → IsObject (bodyOf w % 1024) y es → IsEnv (closureEnv w) ρ → IsVal w (CVal.object y es ρ)
+        -- a stack (card 6): of nothing, or an entry over the rest
+        is-bottom : {w : ℕ} → tagOf w ≡ 10 → IsVal w CVal.bottom
+        is-kept : {w l : ℕ} {v k : CVal} → tagOf w ≡ 11 → bodyOf w % 512 < z .np → entryLabel (pieceFirst M (bodyOf w % 512)) ≡ l → IsVal (pieceFirst M (bodyOf w % 512)) v → IsVal (pieceSecond M (bodyOf w % 512)) k
+            → IsVal w (CVal.kept l v k)
 
       -- The environment whose innermost binding is l.
       pub data IsEnv : ℕ → Env → Type 0 where
@@ -119,6 +123,9 @@ module _ (T : Table) (root : ℕ) (L : Linked T 0 root) where
     val-like p q (is-labels {ls = ls} t h g) = is-labels (p ∙ t) (rw q h) (subst (λ (x : ℕ). HasLabels (pieceSecond M (x % 512)) ls) (sym q) g)
     val-like p q (is-advice {d = d} {e = e} {ls = ls} {ρ = ρ} t a) = is-advice (p ∙ t) (subst (λ (x : ℕ). IsAdvice (x % 512) d ls e ρ) (sym q) a)
     val-like p q (is-object {ρ = ρ} t h e) = is-object (p ∙ t) (object-at (ap (λ (x : ℕ). x % 1024) q) h) (subst (λ (x : ℕ). IsEnv (x / 65536 % 65536) ρ) (sym q) e)
+    val-like p q (is-bottom t) = is-bottom (p ∙ t)
+    val-like p q (is-kept {v = v} {k = k} t h l g r) =
+        is-kept (p ∙ t) (rw q h) (ap (λ (x : ℕ). entryLabel (pieceFirst M (x % 512))) q ∙ l) (subst (λ (x : ℕ). IsVal (pieceFirst M (x % 512)) v) (sym q) g) (subst (λ (x : ℕ). IsVal (pieceSecond M (x % 512)) k) (sym q) r)
 
     -- The same word, written otherwise.
     pub val-at : {a b : ℕ} {v : CVal} → a ≡ b → IsVal b v → IsVal a v
@@ -170,6 +177,9 @@ module _ (T : Table) (root : ℕ) (L : Linked T 0 root) (M : Memory) (z : Sizes)
     val-grows (is-labels {w = w} p q a) = is-labels p (omega (arith, g .more-pieces)) (labels-at (g .seconds (bodyOf w % 512) q) a)
     val-grows (is-advice p a) = is-advice p (advice-grows a)
     val-grows (is-object p q e) = is-object p q (env-grows e)
+    val-grows (is-bottom p) = is-bottom p
+    val-grows (is-kept {w = w} p q l a b) =
+        is-kept p (omega (arith, g .more-pieces)) (ap entryLabel (g .firsts (bodyOf w % 512) q) ∙ l) (val-at T root L M′ z′ (g .firsts (bodyOf w % 512) q) (val-grows a)) (val-at T root L M′ z′ (g .seconds (bodyOf w % 512) q) (val-grows b))
 
     pub env-grows : {l : ℕ} {ρ : Env} → IsEnv T root L M z l ρ → IsEnv T root L M′ z′ l ρ
     env-grows is-empty = is-empty

@@ -3,56 +3,62 @@ use Prim.Native.Nat.{ℕ, suc, _+_, _-_, _*_, _%_, _≤_, _<_}
 use native.Mathlib.Omega.{arith}
 use native.Mathlib.Nat.{mod-eq-of-lt}
 use mathlib.Core.Path.{_≡_, refl, sym, ap, subst, _∙_}
-use mathlib.Core.Bool.{Bool, true, false, true≢false}
-use mathlib.Core.List.{List, [], _∷_, map}
+use mathlib.Core.Bool.{Bool, true, false, true≢false, _&&_}
+use mathlib.Core.List.{List, [], _∷_, _++_, map, reverse, nil≢cons}
 use mathlib.Core.Option.{none, some}
-use lib.ListN.{length, getD, drop}
-use lib.Dec.{eqb, ltb}
-use borrow.Author.Tests.{eqb-true, eqb-false, eq-eqb, ne-eqb, ltb-true, ltb-false, lt-ltb, le-ltb}
+use lib.ListN.{length, getD, drop, length-append}
+use lib.Dec.{eqb, ltb, leb}
+use borrow.Author.Tests.{eqb-true, eqb-false, eq-eqb, ne-eqb, ltb-true, ltb-false, lt-ltb, le-ltb, le-leb, lt-leb}
 use Rattle.calculus.specs.declared.Outcome.{Outcome}
 use Rattle.calculus.specs.Limits.{frameLimit}
 use Rattle.calculus.specs.Combinators.{choose}
-use Rattle.calculus.specs.Syntax.{Dom, Tm, Tms, val, var, lam, op0, op1, op2, seq, ite, split, pcd, adv, lower, obj}
+use Rattle.calculus.specs.Syntax.{Dom, Tm, Tms, Pattern, val, var, lam, op0, op1, op2, seq, ite, split, pcd, adv, lower, obj, keep, match}
 use Rattle.calculus.specs.State.{Advice, Given, fresh}
 use Rattle.calculus.specs.Run.{stopped, ended, run}
 use Rattle.calculus.specs.Report.{outcomeNumber}
 use Rattle.calculus.specs.Answer.{go, with}
 use Rattle.closure_machine.specs.Closure.{CVal, Env, Body, CState, plainVal, plainState}
-use Rattle.closure_machine.specs.Machine.{ret, triggered, pcdN, opNF, triggeredF, Stack, due, move, reduceSeqC}
-use Rattle.vm_theory.specs.Code.{Head, op1H, seqH, iteH, splitH, advH, lowerH, Instr, back, nullary, one, two, many, inPlace, hand, oneB, firstB, secondB, Skel, isAtom, Pc, entry, next}
-use Rattle.vm_theory.specs.Conf.{Site, callA, adviceA, restA, manyA, Chain, Slots, Conf, base, depthAt, body, trigger}
+use Rattle.closure_machine.specs.Machine.{ret, triggered, pcdN, matchN, opNF, triggeredF, Stack, due, move, reduceSeqC}
+use Rattle.vm_theory.specs.Code.{Head, op1H, seqH, iteH, splitH, advH, lowerH, Head2, op2H, keepH, Instr, back, nullary, one, two, many, inPlace, hand, oneB, firstB, secondB, Skel, isAtom, Pc, entry, next}
+use Rattle.vm_theory.specs.Conf.{Site, callA, adviceA, restA, manyA, keepA, Chain, Slots, Conf, base, keptBy, depthAt, body, trigger}
 use Rattle.vm_theory.specs.Stands.{stackOf, stackAt}
-use Rattle.vm_theory.specs.Table.{Node, manyN, pcdM, Table, Target, home, termsOf, Linked}
+use Rattle.vm_theory.specs.Table.{Node, manyN, pcdM, matchM, Table, Target, home, termsOf, Linked}
 use Rattle.vm_theory.proofs.Sound.{Sound}
 use Rattle.vm_theory.proofs.Debt.{paid-none}
-use Rattle.vm_theory.proofs.Reach.{Reach, reach-moves, reach-go, reach-label, redex-due, ends-over, ends-spent}
+use Rattle.vm_theory.proofs.Reach.{Reach, reach-moves, reach-go, reach-label, reach-cut, redex-due, ends-over, ends-spent}
 use Rattle.vm_theory.proofs.Places.{Stood, Fine}
 use Rattle.vm_theory.proofs.Located.{Points, p-home, p-to, describes}
 use Rattle.vm_theory.proofs.Kept.{Kept, a-call, an-advice, some-operands, Slot, IsChain}
 use Rattle.vm_code.specs.Values.{bodyOf}
 use Rattle.vm_code.specs.Words.{classOf, depthOf, nextOf, termCount}
 use Rattle.vm_code.specs.Words as code
-use Rattle.vm_code.specs.Classes.{return, classWith, pointcutClass}
-use Rattle.vm_code.specs.Says.{targetNumber, Says, says-pointcut, SaysCode}
+use Rattle.vm_code.specs.Classes.{return, classWith, pointcutClass, matchClass}
+use Rattle.vm_code.specs.Says.{targetNumber, Says, says-pointcut, says-match, SaysCode}
 use Rattle.vm_machine.specs.declared.Regs.{Regs}
 use Rattle.vm_machine.specs.Registers.{headroom, fullRoom, setPc, setHand, setEnv, setRoom, setLeft, haltWith, halt, stuck}
-use Rattle.vm_machine.specs.Memory.{Memory, wordAt, slotBase, slotIn, slotAt, slotKind, slotPc, slotEnv, slotHeld, callFrame, adviceFrame, pointcutFrame, nextBinding, endBinding, putAdvice, bindingAt, boundTarget, digitsAt, digitCount, withDigit}
+use Rattle.vm_machine.specs.Memory.{Memory, wordAt, slotBase, slotIn, slotAt, slotKind, slotPc, slotEnv, slotHeld, callFrame, adviceFrame, pointcutFrame, keepFrame, nextBinding, endBinding, putAdvice, bindingAt, boundTarget, digitsAt, digitCount, withDigit, heldStack, besideAt, restOf}
 use Rattle.vm_machine.specs.States.{State, withRegs, withMemory, completed}
 use Rattle.vm_machine.specs.Fetch.{Program, codeAt}
 use Rattle.vm_machine.specs.Moves.{returnMove, moveOf}
 use Rattle.vm_machine.specs.Reduce.{bodyAt, nextAdvice}
-use Rattle.vm_machine.specs.Turn.{labelsFrom, resumeLabels, returned, performed, turn}
+use Rattle.vm_machine.specs.Stacks.{leaveKeep, unlooked, pastCut, lookedWith, stackToCome, restAfter}
+use Rattle.vm_machine.specs.Turn.{entriesFrom, labelsFrom, resumeLabels, resumeMatch, resumed, returned, performed, turn}
 use Rattle.vm_refine.proofs.Relations.{Sizes, sizes, is-unit, IsEnv, env-used, env-grows, IsTriggered, no-more, one-left, triggered-at}
-use Rattle.vm_refine.proofs.Views.{AsLabel, a-label, no-label, as-label}
+use Rattle.vm_refine.proofs.Views.{AsLabel, a-label, no-label, as-label, AsPointcut, a-pointcut, no-pointcut, as-pointcut}
 use Rattle.vm_refine.proofs.Labels.{digitsOf, one-more, with-digit, digit-count}
-use Rattle.vm_refine.proofs.Slots.{slotOf, byteOf, slot-word, FrameIs, LabelsAre, Held, Back}
+use Rattle.vm_refine.proofs.Keeping.{AreKept, kept-left, kept-fits}
+use Rattle.vm_refine.proofs.Keeps.{leave-now}
+use Rattle.vm_refine.proofs.Slots.{slotOf, byteOf, slot-word, FrameIs, LabelsAre, MatchIs, stack-to-come, entries-looked, Held, Back}
 use Rattle.vm_refine.proofs.Now.{InPlace, Now, Halted, halted-done, halted-stopped}
 use Rattle.vm_refine.proofs.Arrives.{completed-now}
 use Rattle.vm_refine.proofs.Steps.{level, measure, After, after-halted, after-now, fits-in, step-falls}
 use Rattle.vm_refine.proofs.Advice.{stack-depth, body-unit, advised}
-use Rattle.vm_refine.proofs.Mark.{frame-grows, frame-store, frame-chain}
+use Rattle.vm_refine.proofs.Mark.{frame-grows, frame-store, frame-kept, frame-chain}
 use Rattle.vm_refine.proofs.Labelling.{some-done}
 use Rattle.vm_refine.proofs.Pointcuts.{labels-now}
+use Rattle.vm_refine.proofs.Looking.{hasTop, hitsTop, restC, Looked, nothing-yet, past-pointcut, one-operand-more}
+use Rattle.vm_refine.proofs.Looks.{rest-is, rest-after, cut-hits, looked-says}
+use Rattle.vm_refine.proofs.Matches.{entries-now}
 
 -- The first instruction of a term is at least as deep as the term.
 long-one : (H : Head) (x : Tm) (σ : Skel) → suc (length σ) ≤ length (entry x (oneB H ∷ σ) .1) → length σ ≤ length (choose {A = Pc} (isAtom x) (one H (inPlace x), σ) (entry x (oneB H ∷ σ)) .1)
@@ -62,6 +68,15 @@ long-one H x σ h = try (isAtom x)
     try true = omega arith
     try false = omega arith
 
+long-two : (H : Head2) (x y : Tm) (σ : Skel) → suc (length σ) ≤ length (entry x (firstB H y ∷ σ) .1) → suc (length σ) ≤ length (entry y (secondB H (some x) ∷ σ) .1)
+    → length σ ≤ length (choose {A = Pc} (isAtom x) (choose {A = Pc} (isAtom y) (two H (inPlace x) (inPlace y), σ) (entry y (secondB H (some x) ∷ σ))) (entry x (firstB H y ∷ σ)) .1)
+long-two H x y σ p q = try (isAtom x) (isAtom y)
+  where
+    try : (b c : Bool) → length σ ≤ length (choose {A = Pc} b (choose {A = Pc} c (two H (inPlace x) (inPlace y), σ) (entry y (secondB H (some x) ∷ σ))) (entry x (firstB H y ∷ σ)) .1)
+    try true true = omega arith
+    try true false = omega arith
+    try false c = omega arith
+
 entry-long : (e : Tm) (σ : Skel) → length σ ≤ length (entry e σ .1)
 unfolding entry
 entry-long (val v) σ = omega arith
@@ -69,13 +84,7 @@ entry-long (var i) σ = omega arith
 entry-long (lam t b) σ = omega arith
 entry-long (op0 o t) σ = omega arith
 entry-long (op1 o t x) σ = long-one (op1H o t) x σ (entry-long x (oneB (op1H o t) ∷ σ))
-entry-long (op2 o t x y) σ = try (isAtom x) (isAtom y) (entry-long x (firstB o t y ∷ σ)) (entry-long y (secondB o t (some x) ∷ σ))
-  where
-    try : (b c : Bool) → suc (length σ) ≤ length (entry x (firstB o t y ∷ σ) .1) → suc (length σ) ≤ length (entry y (secondB o t (some x) ∷ σ) .1)
-        → length σ ≤ length (choose {A = Pc} b (choose {A = Pc} c (two o t (inPlace x) (inPlace y), σ) (entry y (secondB o t (some x) ∷ σ))) (entry x (firstB o t y ∷ σ)) .1)
-    try true true p q = omega arith
-    try true false p q = omega arith
-    try false c p q = omega arith
+entry-long (op2 o t x y) σ = long-two (op2H o t) x y σ (entry-long x (firstB (op2H o t) y ∷ σ)) (entry-long y (secondB (op2H o t) (some x) ∷ σ))
 entry-long (seq x f) σ = long-one (seqH f) x σ (entry-long x (oneB (seqH f) ∷ σ))
 entry-long (ite x f g) σ = long-one (iteH f g) x σ (entry-long x (oneB (iteH f g) ∷ σ))
 entry-long (split x f) σ = long-one (splitH f) x σ (entry-long x (oneB (splitH f) ∷ σ))
@@ -83,24 +92,26 @@ entry-long (pcd es) σ = omega arith
 entry-long (adv p x b) σ = long-one (advH p b) x σ (entry-long x (oneB (advH p b) ∷ σ))
 entry-long (lower p x) σ = long-one (lowerH p) x σ (entry-long x (oneB (lowerH p) ∷ σ))
 entry-long (obj t bs) σ = omega arith
+entry-long (keep x y g) σ = long-two (keepH g) x y σ (entry-long x (firstB (keepH g) y ∷ σ)) (entry-long y (secondB (keepH g) (some x) ∷ σ))
+entry-long (match p es f g) σ = omega arith
 
 -- After a value inside a body its own body goes on.
 abbrev isBack : Instr → Bool
 isBack back = true
 isBack (nullary o t) = false
 isBack (one H a) = false
-isBack (two o t a b) = false
+isBack (two H a b) = false
 isBack (many o es) = false
 
 next-inside : (σ : Skel) → 0 < length σ → next σ ≡ (back, []) → ⊥
 next-inside [] h p = omega arith
 next-inside (oneB H ∷ σ) h p = true≢false (sym (ap (λ (E : Pc). isBack (E .0)) p))
-next-inside (firstB o t y ∷ σ) h p = try (isAtom y) p
+next-inside (firstB H y ∷ σ) h p = try (isAtom y) p
   where
-    try : (b : Bool) → choose {A = Pc} b (two o t hand (inPlace y), σ) (entry y (secondB o t none ∷ σ)) ≡ (back, []) → ⊥
+    try : (b : Bool) → choose {A = Pc} b (two H hand (inPlace y), σ) (entry y (secondB H none ∷ σ)) ≡ (back, []) → ⊥
     try true q = true≢false (sym (ap (λ (E : Pc). isBack (E .0)) q))
-    try false q = omega (arith, entry-long y (secondB o t none ∷ σ), ap (λ (E : Pc). length (E .1)) q)
-next-inside (secondB o t a ∷ σ) h p = true≢false (sym (ap (λ (E : Pc). isBack (E .0)) p))
+    try false q = omega (arith, entry-long y (secondB H none ∷ σ), ap (λ (E : Pc). length (E .1)) q)
+next-inside (secondB H a ∷ σ) h p = true≢false (sym (ap (λ (E : Pc). isBack (E .0)) p))
 
 module _ (T : Table) (root : ℕ) (L : Linked T 0 root) (G : Given) (e₀ : Tm) (Ω : Sound G e₀) (N : ℕ) (B : List ℕ) (C : Program) (says : SaysCode T (C .image) (C .code)) where
   -- The instruction after a value inside a body has a number.
@@ -143,9 +154,13 @@ module _ (T : Table) (root : ℕ) (L : Linked T 0 root) (G : Given) (e₀ : Tm) 
       unfolding performed
       home-advice q = turn-home ∙ rw (no-top, is, q)
 
-      home-pointcut : slotKind f ≡ pointcutFrame → turn C (G .frame) S ≡ resumeLabels C f S
+      home-pointcut : slotKind f ≡ pointcutFrame → turn C (G .frame) S ≡ resumed C f S
       unfolding performed
       home-pointcut q = turn-home ∙ rw (no-top, is, q)
+
+      home-keep : slotKind f ≡ keepFrame → turn C (G .frame) S ≡ leaveKeep C f S
+      unfolding performed
+      home-keep q = turn-home ∙ rw (no-top, is, q)
 
     -- The slot that the body runs over.
     over-slot : 0 < base A₀ → slotAt M (r .room) 0 ≡ slotOf M (base A₀)
@@ -163,11 +178,11 @@ module _ (T : Table) (root : ℕ) (L : Linked T 0 root) (G : Given) (e₀ : Tm) 
         (after-halted
         (halted-done refl refl (ends-over G e₀ Ω k s (ret v) [] reach N (r .left - headroom) (omega (arith, now .common .budget, now .common .running)) v refl) (now .common .store) (now .ready)
         (omega (arith, now .common .budget, now .common .running))
-        (fits-in T root L G e₀ Ω N B M (S .log) (halt Outcome.Done r) s (now .common .store) (omega (arith, pc)) (now .env-fits) (omega (arith, top)))))
+        (fits-in T root L G e₀ Ω N B M (S .log) (halt Outcome.Done r) s (now .common .store) (omega (arith, pc)) (now .env-fits) (omega (arith, top, kept-fits T root L A₀ (now .kept), ap base q)))))
 
     -- The place of an activation that waits.
     module _ (P : Site) (A : Chain) (κ : Kept) (i : ℕ) (slot : Slot T 0 root L (Held T root L M z) (Back T root L M z) D i (base A) κ P) (chain : IsChain T 0 root L (Held T root L M z) (Back T root L M z) D A)
-        (stood : Stood P A) (fine : Fine A) where
+        (stood : Stood P A) (fine : Fine A) (kept : AreKept T root L M z (r .kept) (keptBy A)) where
       abbrev m : ℕ
       m = slot .number
 
@@ -194,6 +209,7 @@ module _ (T : Table) (root : ℕ) (L : Linked T 0 root) (G : Given) (e₀ : Tm) 
             room = omega (arith, now .room);
             waits = slot .waiting;
             chain = chain;
+            kept = kept;
           }
 
       -- A call or split.
@@ -247,7 +263,7 @@ module _ (T : Table) (root : ℕ) (L : Linked T 0 root) (G : Given) (e₀ : Tm) 
             ends : {k′ : ℕ} → run N G 0 fresh e₀ ≡ ended (stopped Outcome.Spent) k′ (plainState s) → k′ ≡ N → Halted T root L G e₀ Ω N B (withRegs (haltWith (outcomeNumber Outcome.Spent) headroom r) S)
             ends ran e =
                 halted-stopped Outcome.Spent refl refl ran (now .common .store) (omega arith)
-                (fits-in T root L G e₀ Ω N B M (S .log) (haltWith (outcomeNumber Outcome.Spent) headroom r) s (now .common .store) (omega (arith, pc)) (now .env-fits) (omega (arith, now .room)))
+                (fits-in T root L G e₀ Ω N B M (S .log) (haltWith (outcomeNumber Outcome.Spent) headroom r) s (now .common .store) (omega (arith, pc)) (now .env-fits) (omega (arith, now .room, kept-fits T root L A₀ (now .kept))))
 
             try : (t : Bool) → eqb (r .left) headroom ≡ t → Halted T root L G e₀ Ω N B (withRegs (haltWith (outcomeNumber Outcome.Spent) headroom r) S)
             try true t =
@@ -300,6 +316,7 @@ module _ (T : Table) (root : ℕ) (L : Linked T 0 root) (G : Given) (e₀ : Tm) 
               stood fine g refl refl (env-grows T root L M z M′ z grown ie) small (omega (arith, now .room))
               (frame-chain T root L G e₀ Ω N B C says S₁ (suc (suc k)) s m P A D p (n + 1) (endBinding f) within (slotPc f) (slotEnv f) (F .pc) (F .fits) (F .env) 0 (r .room) index d′ u y (omega arith) (omega arith)
               (triggered-at T root L M z (sym next) refl rest))
+              (frame-kept T root L G e₀ Ω N B C says S₁ (suc (suc k)) s m P A D p (n + 1) (endBinding f) within (slotPc f) (slotEnv f) (F .pc) (omega arith) (F .env) 0 (r .room) index)
               (subst (λ (a : List (Advice Body)). Reach G e₀ Ω (suc (suc k)) s (triggered u a) K) q sequenced) in
               rw same (falls {S′ = S′} refl on)
 
@@ -319,7 +336,7 @@ module _ (T : Table) (root : ℕ) (L : Linked T 0 root) (G : Given) (e₀ : Tm) 
 
       -- A child of a pointcut is a label.
       pointcut-now : (vs : List CVal) (es : Tms) (f : ℕ) → FrameIs T root L M z f pointcutFrame m (P .env) → (R : LabelsAre T root L f (byteOf M (base A₀)) m vs es) → base A₀ ≡ suc (depthAt P A)
-          → Reach G e₀ Ω k s (ret v) (opNF pcdN vs es (P .env) ∷ stackAt P A D) → Then (resumeLabels C f S)
+          → Reach G e₀ Ω k s (ret v) (opNF pcdN vs es (P .env) ∷ stackAt P A D) → Then (resumed C f S)
       unfolding resumeLabels
       pointcut-now vs es f F R b reach = rw (F .pc, mod-eq-of-lt (F .fits)) (by (subst (λ (n : Node). Says T (C .image) w n) (R .node) (says .node m (says .few m (slot .no-atom)))))
         where
@@ -333,8 +350,8 @@ module _ (T : Table) (root : ℕ) (L : Linked T 0 root) (G : Given) (e₀ : Tm) 
           p = stands m (slotEnv f) (depthOf w + 1) (r .left) k (F .env) (F .fits) (omega (arith, deep)) (now .common .budget) (now .common .running)
 
           by : Says T (C .image) w (manyN pcdM (R .children))
-              → Then (choose (eqb (classOf w) pointcutClass) (labelsFrom C m (digitCount 8 (digitsAt M (r .room) f) + 1) (withDigit (digitsAt M (r .room) f) (bodyOf (r .hand) % 64)) S′) (withRegs (stuck r) S))
-          by (says-pointcut a count few in-image children) = rw (eq-eqb (classOf w) pointcutClass a) (view (as-label T root L M z (now .ready)) reach)
+              → Then (choose (eqb (classOf w) matchClass) (resumeMatch C f S) (choose (eqb (classOf w) pointcutClass) (labelsFrom C m (digitCount 8 (digitsAt M (r .room) f) + 1) (withDigit (digitsAt M (r .room) f) (bodyOf (r .hand) % 64)) S′) (withRegs (stuck r) S)))
+          by (says-pointcut a count few in-image children) = rw (ap (λ (c : ℕ). eqb c matchClass) a, eq-eqb (classOf w) pointcutClass a) (view (as-label T root L M z (now .ready)) reach)
             where
               view : {u : CVal} → AsLabel T root L M z (r .hand) u → Reach G e₀ Ω k s (ret u) (opNF pcdN vs es (P .env) ∷ stackAt P A D)
                   → Then (labelsFrom C m (digitCount 8 (digitsAt M (r .room) f) + 1) (withDigit (digitsAt M (r .room) f) (bodyOf (r .hand) % 64)) S′)
@@ -346,25 +363,102 @@ module _ (T : Table) (root : ℕ) (L : Linked T 0 root) (G : Given) (e₀ : Tm) 
                   (one-more low (R .labels)) (R .fewer) some-done (rw (← R .are, ← R .left) reach′))
               view (no-label {v = u} n) reach′ = absurd (reach-label G e₀ Ω k s u vs es (P .env) (stackAt P A D) reach′ n)
 
+      -- An operand of a match is its stack, or a pointcut (card 6).
+      match-now : (t : Pattern) (e₁ e₂ : Tm) (vs : List CVal) (es : Tms) (f : ℕ) → FrameIs T root L M z f pointcutFrame m (P .env) → MatchIs T root L M z f (byteOf M (base A₀)) m t e₁ e₂ vs es → base A₀ ≡ suc (depthAt P A)
+          → Reach G e₀ Ω k s (ret v) (opNF (matchN t e₁ e₂) vs es (P .env) ∷ stackAt P A D) → Then (resumed C f S)
+      unfolding resumeMatch
+      match-now t e₁ e₂ vs es f F R b reach = rw (F .pc, mod-eq-of-lt (F .fits)) (by R)
+        where
+          S′ : State
+          S′ = withRegs (setPc m (setEnv (slotEnv f) (setRoom (r .room + (depthOf w + 1)) r))) S
+
+          p : InPlace T root L G e₀ Ω N B S′ k s m P A D
+          p = stands m (slotEnv f) (depthOf w + 1) (r .left) k (F .env) (F .fits) (omega (arith, deep)) (now .common .budget) (now .common .running)
+
+          byte : besideAt M (r .room) ≡ byteOf M (base A₀)
+          byte = ap (λ (i : ℕ). getD (M .beside) i 0) (omega (arith, now .room))
+
+          Goal : Type 0
+          Goal =
+              Then
+              (choose (eqb (classOf w) matchClass)
+              (choose (leb stackToCome (besideAt M (r .room))) (entriesFrom C m (r .hand) (unlooked (r .hand)) S′)
+              (entriesFrom C m (heldStack f) (pastCut M (r .hand) (lookedWith M (heldStack f) (besideAt M (r .room)))) S′))
+              (resumeLabels C f S))
+
+          low : measure S ≡ 1024 * r .left + (fullRoom + 2)
+          low = omega (arith, at-home)
+
+          said : {x i j : ℕ} {cuts : List ℕ} → T .node m ≡ manyN (matchM t i j) (x ∷ cuts) → Says T (C .image) w (manyN (matchM t i j) (x ∷ cuts))
+          said q = subst (λ (n : Node). Says T (C .image) w n) q (says .node m (says .few m (slot .no-atom)))
+
+          by : MatchIs T root L M z f (byteOf M (base A₀)) m t e₁ e₂ vs es → Goal
+          by (stack-to-come {b = i} {o = j} {x = x} {cuts = cuts} n q₁ q₂ is vs₀ es₀) = with-word (said n)
+            where
+              with-word : Says T (C .image) w (manyN (matchM t i j) (x ∷ cuts)) → Goal
+              with-word (says-match c few inside a d e h) =
+                  let none-yet : Looked t v 0 [] t v true = nothing-yet in
+                  rw (c, byte ∙ is)
+                  (entries-now T root L G e₀ Ω N B C says S′ k s m P A D p refl t i j x cuts n few d e h (measure S) (omega (arith, low, deep, now .room)) (r .hand) v (now .ready) 0 [] t v v [] true (r .hand) cuts nothing-yet
+                  (looked-says C w h none-yet .1) (omega arith) refl refl (now .ready) (rw (q₁, q₂, ← vs₀, ← es₀) reach))
+          by (entries-looked {b = i} {o = j} {x = x} {n = n} {cuts = cuts} {k₀ = k₀} {k = kk} {us = us} {q = q} {t = y} nd q₁ q₂ iv l lt is turned es₀) = with-word (said nd)
+            where
+              place : (t : Bool) → besideAt M (r .room) ≡ n + choose t 16 0 → (besideAt M (r .room) % 16 ≡ n) × (leb 16 (besideAt M (r .room)) ≡ t) × (leb stackToCome (besideAt M (r .room)) ≡ false)
+              place true e = (omega arith, le-leb 16 (besideAt M (r .room)) (omega arith), lt-leb stackToCome (besideAt M (r .room)) (omega arith))
+              place false e = (omega arith, lt-leb 16 (besideAt M (r .room)) (omega arith), lt-leb stackToCome (besideAt M (r .room)) (omega arith))
+
+              with-word : Says T (C .image) w (manyN (matchM t i j) (x ∷ cuts)) → Goal
+              with-word (says-match c few inside a d e h) =
+                  let at = place y (byte ∙ is) in
+                  rw (c, at .2, at .0, at .1) (view vs (as-pointcut T root L M z (now .ready)) turned reach)
+                where
+                  view : (vs : List CVal) {u : CVal} → AsPointcut T root L M z (r .hand) u → reverse vs ≡ k₀ ∷ us → Reach G e₀ Ω k s (ret u) (opNF (matchN t e₁ e₂) vs es (P .env) ∷ stackAt P A D)
+                      → Then (entriesFrom C m (heldStack f) (pastCut M (r .hand) (record { next = n; rest = restAfter M n (heldStack f); fits = y })) S′)
+                  view [] u back′ reach′ = absurd (nil≢cons back′)
+                  view (u′ ∷ vs′) (a-pointcut {ls = ls} tag small has) back′ reach′ =
+                      let rest = rest-after T root L M z l (heldStack f) iv in
+                      let more = past-pointcut (CVal.labels ls) l in
+                      let s₁ = looked-says C w h more in
+                      let count : length (us ++ (CVal.labels ls ∷ [])) ≡ suc (length us) = length-append us (CVal.labels ls ∷ []) ∙ omega arith in
+                      let left : es ≡ termsOf T (drop (length (us ++ (CVal.labels ls ∷ []))) cuts) = es₀ ∙ ap (λ (i : ℕ). termsOf T (drop i cuts)) (sym count) in
+                      subst (λ (g : Bool). Then (entriesFrom C m (heldStack f) (record { next = suc n; rest = restOf M (restAfter M n (heldStack f)); fits = y && g }) S′)) (sym (cut-hits T root L M z (r .hand) ls rest has))
+                      (entries-now T root L G e₀ Ω N B C says S′ k s m P A D p refl t i j x cuts nd few d e h (measure S) (omega (arith, low, deep, now .room)) (heldStack f) k₀ iv (suc n) (us ++ (CVal.labels ls ∷ [])) q (restC kk) (CVal.labels ls)
+                      (u′ ∷ vs′) (y && (hasTop kk && hitsTop kk (CVal.labels ls))) (restOf M (restAfter M n (heldStack f))) _ more (s₁ .1) (s₁ .0) refl (one-operand-more (CVal.labels ls) k₀ (u′ ∷ vs′) us back′)
+                      (rest-is T root L M z rest) (rw (q₁, q₂, ← left) reach′))
+                  view (u′ ∷ vs′) (no-pointcut {v = u} bad) back′ reach′ = absurd (reach-cut G e₀ Ω k s u u′ vs′ t e₁ e₂ es (P .env) (stackAt P A D) reach′ bad)
+
     -- To whom the value goes.
-    chain-now : (A : Chain) → A₀ ≡ A → IsChain T 0 root L (Held T root L M z) (Back T root L M z) D A → Fine A → Reach G e₀ Ω k s (ret v) (stackOf A D) → Then (turn C (G .frame) S)
-    chain-now [] q c f reach = done-now q
-    chain-now (callA P ∷ A) q c f reach =
+    chain-now : (A : Chain) → A₀ ≡ A → IsChain T 0 root L (Held T root L M z) (Back T root L M z) D A → Fine A → AreKept T root L M z (r .kept) (keptBy A) → Reach G e₀ Ω k s (ret v) (stackOf A D) → Then (turn C (G .frame) S)
+    chain-now [] q c f h reach = done-now q
+    chain-now (callA P ∷ A) q c f h reach =
         let b : base A₀ ≡ depthAt P A = ap base q in
         let e : slotAt M (r .room) 0 ≡ slotOf M (depthAt P A) = over-slot (omega (arith, f .2)) ∙ ap (λ (i : ℕ). slotOf M i) b in
-        rw (home-call (slotOf M (depthAt P A)) e (omega (arith, now .room, f .2)) (c .0 .says .kind)) (call-now P A a-call _ (c .0) (c .1) (f .0) (f .1) (slotOf M (depthAt P A)) (c .0 .says) b (f .2) reach)
-    chain-now (adviceA d u x P ∷ A) q c f reach =
+        rw (home-call (slotOf M (depthAt P A)) e (omega (arith, now .room, f .2)) (c .0 .says .kind)) (call-now P A a-call _ (c .0) (c .1) (f .0) (f .1) h (slotOf M (depthAt P A)) (c .0 .says) b (f .2) reach)
+    chain-now (adviceA d u x P ∷ A) q c f h reach =
         let b : base A₀ ≡ depthAt P A + 2 = omega (arith, ap base q) in
         let i : ℕ = suc (suc (depthAt P A)) in
         let e : slotAt M (r .room) 0 ≡ slotOf M i = over-slot (omega arith) ∙ ap (λ (j : ℕ). slotOf M j) (ap base q) in
-        rw (home-advice (slotOf M i) e (omega (arith, now .room)) (c .0 .says .0 .kind)) (advice-now P A (an-advice u x) _ (c .0) (c .1) (f .0) (f .1) d x u (slotOf M i) (c .0 .says .0) b (c .0 .says .1) reach)
-    chain-now (restA u x P ∷ A) q c f reach = absurd (c .0 .says)
-    chain-now (manyA pcdN vs es P ∷ A) q c f reach =
+        rw (home-advice (slotOf M i) e (omega (arith, now .room)) (c .0 .says .0 .kind)) (advice-now P A (an-advice u x) _ (c .0) (c .1) (f .0) (f .1) h d x u (slotOf M i) (c .0 .says .0) b (c .0 .says .1) reach)
+    chain-now (restA u x P ∷ A) q c f h reach = absurd (c .0 .says)
+    chain-now (manyA pcdN vs es P ∷ A) q c f h reach =
         let b : base A₀ ≡ suc (depthAt P A) = ap base q in
         let i : ℕ = suc (depthAt P A) in
         let e : slotAt M (r .room) 0 ≡ slotOf M i = over-slot (omega arith) ∙ ap (λ (j : ℕ). slotOf M j) b in
         rw (home-pointcut (slotOf M i) e (omega (arith, now .room)) (c .0 .says .0 .kind))
-        (pointcut-now P A (some-operands pcdN vs es) _ (c .0) (c .1) (f .0) (f .1) vs es (slotOf M i) (c .0 .says .0) (rw b (c .0 .says .1)) b reach)
+        (pointcut-now P A (some-operands pcdN vs es) _ (c .0) (c .1) (f .0) (f .1) h vs es (slotOf M i) (c .0 .says .0) (rw b (c .0 .says .1)) b reach)
+    chain-now (manyA (matchN t e₁ e₂) vs es P ∷ A) q c f h reach =
+        let b : base A₀ ≡ suc (depthAt P A) = ap base q in
+        let i : ℕ = suc (depthAt P A) in
+        let e : slotAt M (r .room) 0 ≡ slotOf M i = over-slot (omega arith) ∙ ap (λ (j : ℕ). slotOf M j) b in
+        rw (home-pointcut (slotOf M i) e (omega (arith, now .room)) (c .0 .says .0 .kind))
+        (match-now P A (some-operands (matchN t e₁ e₂) vs es) _ (c .0) (c .1) (f .0) (f .1) h t e₁ e₂ vs es (slotOf M i) (c .0 .says .0) (rw b (c .0 .says .1)) b reach)
+    chain-now (keepA u y P ∷ A) q c f h reach =
+        let b : base A₀ ≡ suc (depthAt P A) = ap base q in
+        let i : ℕ = suc (depthAt P A) in
+        let e : slotAt M (r .room) 0 ≡ slotOf M i = over-slot (omega arith) ∙ ap (λ (j : ℕ). slotOf M j) b in
+        rw (home-keep (slotOf M i) e (omega (arith, now .room)) (c .0 .says .0 .kind))
+        (leave-now T root L G e₀ Ω N B C says S k s v P A D u y (slotOf M i) _ (c .0) (c .1) (f .0) (f .1) (kept-left T root L y (keptBy A) (c .0 .says .1) h) (now .common) (now .ready) (now .env-fits) pc
+        (omega (arith, now .room, b)) (omega (arith, now .room, kept-fits T root L A₀ (now .kept))) (c .0 .says .0) reach)
 
     pub return-now : Then (turn C (G .frame) S)
-    return-now = chain-now A₀ refl (now .chain) (now .good .fine) (now .good .runs)
+    return-now = chain-now A₀ refl (now .chain) (now .good .fine) (now .kept) (now .good .runs)

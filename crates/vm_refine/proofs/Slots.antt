@@ -3,23 +3,26 @@ use Prim.Native.Nat.{ℕ, suc, _+_, _-_, _*_, _≤_, _<_}
 use native.Mathlib.Omega.{arith}
 use mathlib.Core.Path.{_≡_, refl, sym, ap, _∙_}
 use mathlib.Core.Bool.{Bool, true, false, true≢false}
-use mathlib.Core.List.{List, [], _∷_, map}
+use mathlib.Core.List.{List, [], _∷_, map, reverse}
 use mathlib.Core.Option.{none, some}
 use lib.ListN.{length, getD, drop}
 use lib.Dec.{eqb}
 use borrow.Author.Tests.{ne-eqb, eqb-false}
 use Rattle.calculus.specs.Combinators.{choose}
-use Rattle.calculus.specs.Syntax.{Tms}
+use Rattle.calculus.specs.Syntax.{Tm, Tms, Pattern, pointcut}
 use Rattle.closure_machine.specs.Closure.{CVal, Env}
-use Rattle.closure_machine.specs.Machine.{pcdN}
+use Rattle.closure_machine.specs.Machine.{pcdN, matchN}
 use Rattle.vm_theory.specs.Code.{oneB, firstB, secondB, Skel, waits}
 use Rattle.vm_theory.specs.Conf.{Slots}
-use Rattle.vm_theory.specs.Table.{manyN, pcdM, Table, termsOf, Linked}
-use Rattle.vm_theory.proofs.Kept.{Kept, a-call, an-advice, a-rest, some-operands, Waits, SameTo, waits-kept}
+use Rattle.vm_theory.specs.Table.{manyN, pcdM, matchM, Table, termsOf, Linked}
+use Rattle.vm_theory.proofs.Kept.{Kept, a-call, an-advice, a-rest, some-operands, a-keep, Waits, SameTo, waits-kept}
 use Rattle.vm_machine.specs.Registers.{fullRoom}
-use Rattle.vm_machine.specs.Memory.{Memory, wordAt, slotBase, callFrame, adviceFrame, pointcutFrame, slotEnv, slotPc, slotKind, slotHeld, nextBinding, endBinding}
+use Rattle.vm_machine.specs.Memory.{Memory, wordAt, slotBase, callFrame, adviceFrame, pointcutFrame, keepFrame, slotEnv, slotPc, slotKind, slotHeld, heldStack, nextBinding, endBinding}
+use Rattle.vm_machine.specs.Stacks.{stackToCome}
 use Rattle.vm_refine.proofs.Relations.{Sizes, IsVal, IsEnv, env-at, val-at, IsTriggered, Grows, val-grows, env-grows, triggered-grows}
 use Rattle.vm_refine.proofs.Labels.{Labels, digitsOf}
+use Rattle.vm_refine.proofs.Keeping.{UnderLabel}
+use Rattle.vm_refine.proofs.Looking.{Looked}
 
 -- The word of the slot inside i unfinished terms, and the byte beside it. Outside of all there is no slot.
 abbrev pub slotOf : Memory → ℕ → ℕ
@@ -57,6 +60,12 @@ module _ (T : Table) (root : ℕ) (L : Linked T 0 root) where
     pub digits : slotHeld f + 68719476736 * byte ≡ digitsOf done
     pub left : es ≡ termsOf T (drop (suc (length done)) children)
 
+  -- Of a match (card 6): its operand that is worked out is its stack; or the stack is held, and it is a pointcut.
+  pub data MatchIs (M : Memory) (z : Sizes) (f byte m : ℕ) (p : Pattern) (e g : Tm) (vs : List CVal) (es : Tms) : Type 0 where
+    stack-to-come : {b o x : ℕ} {cuts : List ℕ} → T .node m ≡ manyN (matchM p b o) (x ∷ cuts) → T .term b ≡ e → T .term o ≡ g → byte ≡ stackToCome → vs ≡ [] → es ≡ termsOf T cuts → MatchIs M z f byte m p e g vs es
+    entries-looked : {b o x n : ℕ} {cuts : List ℕ} {k₀ k : CVal} {us : List CVal} {q : Pattern} {t : Bool} → T .node m ≡ manyN (matchM p b o) (x ∷ cuts) → T .term b ≡ e → T .term o ≡ g → IsVal T root L M z (heldStack f) k₀
+        → Looked p k₀ n us (pointcut q) k t → n < 8 → byte ≡ n + choose t 16 0 → reverse vs ≡ k₀ ∷ us → es ≡ termsOf T (drop (suc (length us)) cuts) → MatchIs M z f byte m p e g vs es
+
   module _ (M : Memory) (z : Sizes) where
     abbrev pub Held : ℕ → CVal → Type 0
     Held i v = IsVal T root L M z (slotOf M i) v
@@ -66,6 +75,8 @@ module _ (T : Table) (root : ℕ) (L : Linked T 0 root) where
     Back i (an-advice w x) m ρ = FrameIs M z (slotOf M i) adviceFrame m ρ × IsTriggered T root L M z (nextBinding (slotOf M i)) (endBinding (slotOf M i)) w x
     Back i (a-rest w x) m ρ = ⊥
     Back i (some-operands pcdN vs es) m ρ = FrameIs M z (slotOf M i) pointcutFrame m ρ × LabelsAre (slotOf M i) (byteOf M i) m vs es
+    Back i (some-operands (matchN p e g) vs es) m ρ = FrameIs M z (slotOf M i) pointcutFrame m ρ × MatchIs M z (slotOf M i) (byteOf M i) m p e g vs es
+    Back i (a-keep u w) m ρ = FrameIs M z (slotOf M i) keepFrame m ρ × UnderLabel u
 
   module _ (M : Memory) (z : Sizes) (M′ : Memory) (z′ : Sizes) (g : Grows M z M′ z′) where
     frame-kept : {f f′ kind m : ℕ} {ρ : Env} → f′ ≡ f → FrameIs M z f kind m ρ → FrameIs M′ z′ f′ kind m ρ
@@ -73,6 +84,10 @@ module _ (T : Table) (root : ℕ) (L : Linked T 0 root) where
 
     labels-kept : {f f′ b b′ m : ℕ} {vs : List CVal} {es : Tms} → f′ ≡ f → b′ ≡ b → LabelsAre f b m vs es → LabelsAre f′ b′ m vs es
     labels-kept p q h = rw (p, q) h
+
+    match-kept : {f f′ b b′ m : ℕ} {p : Pattern} {x y : Tm} {vs : List CVal} {es : Tms} → f′ ≡ f → b′ ≡ b → MatchIs M z f b m p x y vs es → MatchIs M′ z′ f′ b′ m p x y vs es
+    match-kept e g′ (stack-to-come n i j b v c) = stack-to-come n i j (g′ ∙ b) v c
+    match-kept e g′ (entries-looked n j k i l s b v c) = entries-looked n j k (val-at T root L M′ z′ (ap heldStack e) (val-grows T root L M z M′ z′ g i)) l s (g′ ∙ b) v c
 
     triggered-kept : {f f′ : ℕ} {w : CVal} {x : List _} → f′ ≡ f → IsTriggered T root L M z (nextBinding f) (endBinding f) w x → IsTriggered T root L M′ z′ (nextBinding f′) (endBinding f′) w x
     triggered-kept p h = rw p (triggered-grows T root L M z M′ z′ g h)
@@ -82,6 +97,8 @@ module _ (T : Table) (root : ℕ) (L : Linked T 0 root) where
     back-kept i p q (an-advice w x) m ρ h = (frame-kept p (h .0), triggered-kept p (h .1))
     back-kept i p q (a-rest w x) m ρ h = h
     back-kept i p q (some-operands pcdN vs es) m ρ h = (frame-kept p (h .0), labels-kept p q (h .1))
+    back-kept i p q (some-operands (matchN t e f) vs es) m ρ h = (frame-kept p (h .0), match-kept p q (h .1))
+    back-kept i p q (a-keep u w) m ρ h = (frame-kept p (h .0), h .1)
 
     pub held-kept : (i : ℕ) → slotOf M′ i ≡ slotOf M i → (v : CVal) → Held M z i v → Held M′ z′ i v
     held-kept i p v h = val-at T root L M′ z′ p (val-grows T root L M z M′ z′ g h)
@@ -97,7 +114,7 @@ module _ (T : Table) (root : ℕ) (L : Linked T 0 root) where
         → Waits T 0 root L (Held M z) N σ d → Waits T 0 root L (Held M′ z′) N′ σ d
     waits-put [] d N N′ p a c w = tt
     waits-put (oneB H ∷ σ) d N N′ p a c w = absurd (true≢false (sym p))
-    waits-put (firstB o t y ∷ σ) d N N′ p a c w =
+    waits-put (firstB H y ∷ σ) d N N′ p a c w =
         waits-kept T 0 root L (Held M z) (Back M z) N (Held M′ z′) (Back M′ z′) N′ σ d (λ i h v x. held-kept i (a i (omega arith)) v x) (λ i h. c i (omega arith)) w
-    waits-put (secondB o t none ∷ σ) d N N′ p a c w = absurd (true≢false (sym p))
-    waits-put (secondB o t (some y) ∷ σ) d N N′ p a c w = absurd (true≢false (sym p))
+    waits-put (secondB H none ∷ σ) d N N′ p a c w = absurd (true≢false (sym p))
+    waits-put (secondB H (some y) ∷ σ) d N N′ p a c w = absurd (true≢false (sym p))

@@ -35,6 +35,7 @@ use Rattle.vm_machine.specs.Fetch.{Program, codeAt}
 use Rattle.vm_machine.specs.Fits.{Fits}
 use Rattle.vm_refine.proofs.Relations.{sizes}
 use Rattle.vm_refine.proofs.Store.{Store}
+use Rattle.vm_refine.proofs.Keeping.{kept-fits}
 use Rattle.vm_refine.proofs.Now.{InPlace, Now, Halted, halted-stopped}
 
 -- Two tests that agree.
@@ -82,17 +83,18 @@ module _ (T : Table) (root : ℕ) (L : Linked T 0 root) (G : Given) (e₀ : Tm) 
     after-halted : Halted T root L G e₀ Ω N B S → After b S
     after-now : {k : ℕ} {s : CState} {C : Conf} → Now T root L G e₀ Ω N B S k s C → measure S < b → After b S
 
-  pub fits-in : (M : Memory) (log : List ℕ) (r : Regs) (s : CState) → Store T root L B M log (sizes r) s → r .pc ≤ code.home → r .env < 2048 → r .room ≤ fullRoom → Fits (length B) r
+  pub fits-in : (M : Memory) (log : List ℕ) (r : Regs) (s : CState) → Store T root L B M log (sizes r) s → r .pc ≤ code.home → r .env < 2048 → r .kept + r .room ≤ fullRoom → Fits (length B) r
   fits-in M log r s st p e h =
       record {
         pc = p;
         env = e;
-        room = h;
+        room = omega arith;
         bindings = st .bindings-fit;
         cells = st .cells-fit;
         pieces = st .pieces-fit;
         labels = st .labels-fit;
         installed = st .advices-fit;
+        kept = h;
         logged = st .log-fits;
       }
 
@@ -128,7 +130,7 @@ module _ (T : Table) (root : ℕ) (L : Linked T 0 root) (G : Given) (e₀ : Tm) 
           → k′ + (n - headroom) ≡ N → Halted T root L G e₀ Ω N B (withMemory M (haltWith (outcomeNumber o) n r) S)
       halts-with p at M st o n k′ e q =
           let small = says .few m (p .no-atom) in
-          halted-stopped o refl refl e st q (fits-in M (S .log) (haltWith (outcomeNumber o) n r) s st (omega (arith, at)) (p .env-fits) (omega (arith, p .room)))
+          halted-stopped o refl refl e st q (fits-in M (S .log) (haltWith (outcomeNumber o) n r) s st (omega (arith, at)) (p .env-fits) (omega (arith, p .room, kept-fits T root L A (p .kept))))
 
       -- A room is missing, whatever is left of the budget.
       lacks : {a : CAnswer} (b : ℕ) (M : Memory) → Store T root L B M (S .log) (sizes r) s → (o : Outcome) → Redexed S k s m P A D c F a → move c F G s ≡ due (full o) K → After b (withMemory M (halting o r) S)

@@ -2,20 +2,21 @@
 use Prim.Native.Nat.{ℕ, suc, _+_, _*_, _%_, _≤_, _<_}
 use native.Mathlib.Omega.{arith}
 use mathlib.Core.Path.{_≡_, refl, sym, ap, _∙_}
-use mathlib.Core.Bool.{false}
+use mathlib.Core.Bool.{Bool, false}
 use mathlib.Core.List.{List, [], _∷_, _++_, append-assoc}
 use mathlib.Core.Option.{some}
-use lib.ListN.{length, getElem?, drop, length-append, length-drop}
+use lib.ListN.{length, getElem?, drop, length-append, length-drop, length-set}
+use Rattle.laws.proofs.Lookup.{place-below}
 use Rattle.calculus.specs.Combinators.{choose}
-use Rattle.calculus.specs.State.{Cell, Advice, Counts, Event, Said, prints, Print, picked, logOf, charged}
+use Rattle.calculus.specs.State.{Cell, Advice, Counts, Event, Said, prints, turns, Print, picked, logOf, charged, told}
 use Rattle.calculus.specs.Compose.{member}
 use Rattle.closure_machine.specs.Closure.{CVal, Body, CState}
 use Rattle.base_bytes.specs.Bytes.{bytesOf}
 use Rattle.base_bytes.specs.Records.{logRecord}
 use Rattle.vm_theory.specs.Table.{Table, Linked}
-use Rattle.vm_machine.specs.Memory.{Memory, wordAt, cellBase, installedBase, installedAt, cellAt, cellNote, hasBit}
+use Rattle.vm_machine.specs.Memory.{Memory, wordAt, putWord, cellBase, installedBase, keptBase, installedAt, cellAt, cellNote, hasBit}
 use Rattle.vm_refine.proofs.Relations.{Sizes, IsVal, IsAdvice, Grows, val-grows, advice-grows}
-use Rattle.vm_refine.proofs.Tables.{Above}
+use Rattle.vm_refine.proofs.Tables.{word-other, grows-put, Above}
 
 -- The log's bytes.
 unfoldable pub logBytes : List Print → List ℕ
@@ -52,7 +53,7 @@ module _ (T : Table) (root : ℕ) (L : Linked T 0 root) where
 
   -- The tables and the log stand for the state s; B is the log as it was at the start.
   pub record Store (B : List ℕ) (M : Memory) (log : List ℕ) (z : Sizes) (s : CState) : Type 0 where
-    pub words : 3905 ≤ length (M .words)
+    pub words : 4418 ≤ length (M .words)
     pub beside : 513 ≤ length (M .beside)
     pub bindings : z .nb ≡ s .used .bindings
     pub bindings-fit : z .nb ≤ 2048
@@ -105,6 +106,32 @@ module _ (T : Table) (root : ℕ) (L : Linked T 0 root) where
         log-fits = h .log-fits;
       }
 
+  -- A place of the table of kept values is written (card 6).
+  pub store-kept : (B : List ℕ) (M : Memory) (log : List ℕ) (z : Sizes) (s : CState) → Store B M log z s → (i v : ℕ) → Store B (putWord (keptBase + i) v M) log z s
+  store-kept B M log z s h i v =
+      let M′ : Memory = putWord (keptBase + i) v M in
+      let g : Grows M z M′ z = grows-put M z (keptBase + i) v (omega (arith, h .bindings-fit)) (λ j l e. omega (arith, h .pieces-fit)) in
+      record {
+        words = rw (length-set (M .words) (keptBase + i) v) (h .words);
+        beside = h .beside;
+        bindings = h .bindings;
+        bindings-fit = h .bindings-fit;
+        pieces = h .pieces;
+        pieces-fit = h .pieces-fit;
+        cells = h .cells;
+        cells-count = h .cells-count;
+        cells-fit = h .cells-fit;
+        labels = h .labels;
+        labels-fit = h .labels-fit;
+        advices = h .advices;
+        advices-fit = h .advices-fit;
+        are-cells = λ q c e. cell-change M z M′ z g (word-other M (keptBase + i) v (cellBase + q) (λ x. omega (arith, place-below (s .cells) q e, h .cells-count, h .cells-fit))) (h .are-cells q c e);
+        are-advices = advices-change M z M′ z g (λ l j q. q) (h .are-advices) (λ q lt. word-other M (keptBase + i) v (installedBase + q) (λ x. omega (arith, h .advices, h .advices-fit)));
+        logged = h .logged;
+        log-at = h .log-at;
+        log-fits = h .log-fits;
+      }
+
 -- One more record in the log.
 pub log-one : (t : List Event) (d n : ℕ) → logOf (t ++ (record { dom = d; said = prints n } ∷ [])) ≡ logOf t ++ (record { dom = d; shown = n } ∷ [])
 unfolding picked
@@ -114,6 +141,42 @@ log-one (e ∷ t) d n = try (e .said) (log-one t d n)
     try : (a : Said) → logOf (t ++ (record { dom = d; said = prints n } ∷ [])) ≡ logOf t ++ (record { dom = d; shown = n } ∷ [])
         → logOf (record { dom = e .dom; said = a } ∷ (t ++ (record { dom = d; said = prints n } ∷ []))) ≡ logOf (record { dom = e .dom; said = a } ∷ t) ++ (record { dom = d; shown = n } ∷ [])
     try (prints m) h = ap (λ x. record { dom = e .dom; shown = m } ∷ x) h
+    try (turns b) h = h
+
+-- The turns of matches are no records.
+pub log-turn : (t : List Event) (d : ℕ) (b : Bool) → logOf (t ++ (record { dom = d; said = turns b } ∷ [])) ≡ logOf t
+unfolding picked
+log-turn [] d b = refl
+log-turn (e ∷ t) d b = try (e .said) (log-turn t d b)
+  where
+    try : (a : Said) → logOf (t ++ (record { dom = d; said = turns b } ∷ [])) ≡ logOf t
+        → logOf (record { dom = e .dom; said = a } ∷ (t ++ (record { dom = d; said = turns b } ∷ []))) ≡ logOf (record { dom = e .dom; said = a } ∷ t)
+    try (prints m) h = ap (λ x. record { dom = e .dom; shown = m } ∷ x) h
+    try (turns c) h = h
+
+pub store-told : (T : Table) (root : ℕ) (L : Linked T 0 root) (B : List ℕ) (M : Memory) (log : List ℕ) (z : Sizes) (s : CState) (d : ℕ) (b : Bool) → Store T root L B M log z s
+    → Store T root L B M log z (told (record { dom = d; said = turns b }) s)
+store-told T root L B M log z s d b h =
+    record {
+      words = h .words;
+      beside = h .beside;
+      bindings = h .bindings;
+      bindings-fit = h .bindings-fit;
+      pieces = h .pieces;
+      pieces-fit = h .pieces-fit;
+      cells = h .cells;
+      cells-count = h .cells-count;
+      cells-fit = h .cells-fit;
+      labels = h .labels;
+      labels-fit = h .labels-fit;
+      advices = h .advices;
+      advices-fit = h .advices-fit;
+      are-cells = h .are-cells;
+      are-advices = h .are-advices;
+      logged = rw (log-turn (s .trace) d b) (h .logged);
+      log-at = rw (log-turn (s .trace) d b) (h .log-at);
+      log-fits = h .log-fits;
+    }
 
 pub bytes-one : (ps : List Print) (p : Print) → logBytes (ps ++ (p ∷ [])) ≡ logBytes ps ++ logRecord (p .dom) (p .shown)
 unfolding logBytes bytesOf

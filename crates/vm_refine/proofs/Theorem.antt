@@ -35,6 +35,7 @@ use Rattle.vm_machine.specs.Run.{startRegs, startState, hasHalted, turns, turns
 use Rattle.vm_machine.specs.Fits.{Fits, Safe}
 use Rattle.vm_refine.proofs.Relations.{sizes, IsVal, is-empty}
 use Rattle.vm_refine.proofs.Store.{logBytes, Store, none-installed}
+use Rattle.vm_refine.proofs.Keeping.{none-kept, kept-fits}
 use Rattle.vm_refine.proofs.Slots.{Held}
 use Rattle.vm_refine.proofs.Now.{entry-ready, Common, Now, Halted, halted-done, halted-stopped}
 use Rattle.vm_refine.proofs.Fetch.{atom-is}
@@ -77,8 +78,8 @@ module _ (T : Table) (root : ℕ) (L : Linked T 0 root) (G : Given) (Ω : Sound 
   number-fits (p-to m i n q l) = omega (arith, says .few m n)
 
   now-fits : {S : State} {k : ℕ} {s : CState} {E : Conf} → Standing S k s E → Fits (length B) (S .regs)
-  now-fits {S} {s = s} now =
-      fits-in T root L G e₀ Ω N B (S .memory) (S .log) (S .regs) s (now .common .store) (omega (arith, now .pc, number-fits (now .points))) (now .env-fits) (omega (arith, now .room))
+  now-fits {S} {s = s} {E} now =
+      fits-in T root L G e₀ Ω N B (S .memory) (S .log) (S .regs) s (now .common .store) (omega (arith, now .pc, number-fits (now .points))) (now .env-fits) (omega (arith, now .room, kept-fits T root L (E .chain) (now .kept)))
 
   -- As many turns as the measure says are enough, and each leaves registers that fit.
   pub halts : (n b : ℕ) (S : State) → Comes b S → b ≤ n → Halting (turns n C frame S)
@@ -95,7 +96,7 @@ module _ (T : Table) (root : ℕ) (L : Linked T 0 root) (G : Given) (Ω : Sound 
   all-fit (suc n) b S (after-halted h) = rw (has-halted h) (halted-fits h)
   all-fit (suc n) b S (after-now {k = k} {s = s} now m) = rw (goes-on now) (all-fit n (measure S) (turn C frame S) (turn-now T root L G e₀ Ω N B logged C says S k s now))
 
-  module _ (M : Memory) (words : 3905 ≤ length (M .words)) (beside : 513 ≤ length (M .beside)) (g : ℕ) (target : SaysTarget T g root) where
+  module _ (M : Memory) (words : 4418 ≤ length (M .words)) (beside : 513 ≤ length (M .beside)) (g : ℕ) (target : SaysTarget T g root) where
     -- The tables at the start stand for the calculus's first state.
     start-store : (pc v : ℕ) → Store T root L B M B (sizes (startRegs pc v N)) fresh
     unfolding logBytes picked
@@ -160,6 +161,7 @@ module _ (T : Table) (root : ℕ) (L : Linked T 0 root) (G : Given) (Ω : Sound 
               ready = atom-is T root L C says M (sizes (startRegs code.home v N)) noBinding empty is-empty (omega arith) root (target .1) a l-root (bound-tm G e₀ Ω 0 fresh e₀ empty [] (reach-start G e₀ Ω));
               waits = tt;
               chain = tt;
+              kept = none-kept;
             })
         try false a good =
             let points = entry-points T 0 root L root [] 0 a l-root in
@@ -180,6 +182,7 @@ module _ (T : Table) (root : ℕ) (L : Linked T 0 root) (G : Given) (Ω : Sound 
               ready = entry-ready (IsVal T root L M z) 0 CVal.unit _ _ e₀ [] a;
               waits = entry-has T 0 root L (Held T root L M z) no-slots 0 e₀ [] tt;
               chain = tt;
+              kept = none-kept;
             })
 
     start-left : S₀ .regs .left ≡ N + headroom

@@ -1,26 +1,27 @@
 -- Every turn makes what the run makes, and lowers its measure.
-use Prim.Native.Nat.{ℕ, _+_, _≤_, _<_}
+use Prim.Native.Nat.{ℕ, _+_, _%_, _≤_, _<_}
 use native.Mathlib.Omega.{arith}
 use mathlib.Core.Path.{_≡_, refl, sym, ap, subst, _∙_}
 use mathlib.Core.Bool.{Bool, true, false, true≢false}
-use mathlib.Core.List.{List, []}
+use mathlib.Core.List.{List, [], _∷_}
 use lib.ListN.{length, getD}
 use borrow.Author.Tests.{ne-eqb}
 use Rattle.calculus.specs.Combinators.{choose}
-use Rattle.calculus.specs.Syntax.{Dom, Tm, pcd}
+use Rattle.calculus.specs.Syntax.{Dom, Tm, Pattern, pcd}
 use Rattle.calculus.specs.State.{Given}
+use Rattle.image.specs.Bytes.{le16}
 use Rattle.closure_machine.specs.Closure.{CVal, Env, CState}
 use Rattle.closure_machine.specs.Machine.{eval}
 use Rattle.vm_theory.specs.Code.{Instr, Pc, isAtom}
 use Rattle.vm_theory.specs.Conf.{Site, Chain, Slots, Conf}
 use Rattle.vm_theory.specs.Stands.{stackAt}
-use Rattle.vm_theory.specs.Table.{Node, manyN, pcdM, Table, Target, termOf, termsOf, instrOf, isAtomAt, Linked}
+use Rattle.vm_theory.specs.Table.{Node, manyN, pcdM, matchM, Table, Target, termOf, termsOf, instrOf, isAtomAt, Linked}
 use Rattle.vm_theory.proofs.Sound.{Sound}
 use Rattle.vm_theory.proofs.Located.{Located, Points, p-home, p-to}
-use Rattle.vm_code.specs.Words.{classOf, countOf, termCount}
+use Rattle.vm_code.specs.Words.{classOf, countOf, offsetOf, branchPlace, otherPlace, entryPlace, termCount}
 use Rattle.vm_code.specs.Words as code
-use Rattle.vm_code.specs.Classes.{pointcut, classWith, pointcutClass}
-use Rattle.vm_code.specs.Says.{targetNumber, Says, says-unit, says-truth, says-number, says-variable, says-function, says-object, says-label, says-abort, says-one, says-two, says-pointcut, SaysCode}
+use Rattle.vm_code.specs.Classes.{pointcut, match, classWith, pointcutClass, matchClass}
+use Rattle.vm_code.specs.Says.{targetNumber, Says, says-unit, says-truth, says-number, says-variable, says-function, says-object, says-label, says-abort, says-one, says-stack, says-two, says-pointcut, says-match, SaysPattern, SaysCode}
 use Rattle.vm_machine.specs.declared.Regs.{Regs}
 use Rattle.vm_machine.specs.Registers.{fullRoom}
 use Rattle.vm_machine.specs.Memory.{noDigits}
@@ -30,9 +31,10 @@ use Rattle.vm_machine.specs.Turn.{childAt, labelsFrom, beginLabels, performed, 
 use Rattle.vm_refine.proofs.Labels.{digitsOf, no-labels}
 use Rattle.vm_refine.proofs.Now.{Now}
 use Rattle.vm_refine.proofs.Steps.{level, measure, After}
-use Rattle.vm_refine.proofs.Instructions.{turn-by, in-place-of, label-turn, abort-turn, one-turn, two-turn}
+use Rattle.vm_refine.proofs.Instructions.{turn-by, in-place-of, label-turn, stack-turn, abort-turn, one-turn, two-turn}
 use Rattle.vm_refine.proofs.Labelling.{none-done}
 use Rattle.vm_refine.proofs.Pointcuts.{labels-now}
+use Rattle.vm_refine.proofs.Matches.{begin-now}
 use Rattle.vm_refine.proofs.Returns.{return-now}
 
 module _ (T : Table) (root : ℕ) (L : Linked T 0 root) (G : Given) (e₀ : Tm) (Ω : Sound G e₀) (N : ℕ) (B : List ℕ) (logged : G .logLength ≡ length B) (C : Program) (says : SaysCode T (C .image) (C .code))
@@ -65,6 +67,17 @@ module _ (T : Table) (root : ℕ) (L : Linked T 0 root) (G : Given) (e₀ : Tm) 
         (labels-now T root L G e₀ Ω N B C says S k s m P A D (in-place-of T root L G e₀ Ω N B logged C says S k s m hv P A D no-atom located pc _ now) pc xs n count few children (measure S) (omega (arith, low))
         [] (eval (pcd (termsOf T xs)) (P .env)) (stackAt P A D) no-labels (omega arith) none-done (now .good .runs))
 
+    -- A match is begun (card 6).
+    match-turn : (t : Pattern) (x f g : ℕ) (xs : List ℕ) → T .node m ≡ manyN (matchM t f g) (x ∷ xs) → classOf w ≡ matchClass → countOf w ≤ 8 → le16 (C .image) (offsetOf w) % termCount ≡ x
+        → le16 (C .image) (branchPlace w) % termCount ≡ f → le16 (C .image) (otherPlace w) % termCount ≡ g → SaysPattern (C .image) (entryPlace w 0) (countOf w) t xs → At (instrOf T (manyN (matchM t f g) (x ∷ xs)))
+        → Then (turn C (G .frame) S)
+    unfolding performed classWith
+    match-turn t x f g xs n q few a c d h now =
+        let small : m < termCount = says .few m no-atom in
+        let low : level r ≡ r .room + 1 = ap (λ (b : Bool). choose b (fullRoom + 2) (r .room + 1)) (ne-eqb (r .pc) code.home (λ e. omega (arith, pc))) in
+        rw (turn-by T root L G e₀ Ω N B logged C says S k s m hv P A D no-atom located pc match (ap classWith q))
+        (begin-now T root L G e₀ Ω N B C says S k s m P A D (in-place-of T root L G e₀ Ω N B logged C says S k s m hv P A D no-atom located pc _ now) pc t f g x xs n few c d h (measure S) (omega (arith, low)) a (now .good .runs))
+
     node-now : (n : Node) → T .node m ≡ n → Says T (C .image) w n → At (instrOf T n) → Then (turn C (G .frame) S)
     node-now n q (says-unit c t) now = atom-not n q refl
     node-now n q (says-truth c t b) now = atom-not n q refl
@@ -77,8 +90,11 @@ module _ (T : Table) (root : ℕ) (L : Linked T 0 root) (G : Given) (e₀ : Tm) 
     node-now n q (says-abort {y = y} c) now =
         abort-turn T root L G e₀ Ω N B logged C says S k s m hv P A D no-atom located pc (in-place-of T root L G e₀ Ω N B logged C says S k s m hv P A D no-atom located pc _ now) y (now .good .runs) c
     node-now n q (says-one {H = H} {x = x} c f h) now = one-turn T root L G e₀ Ω N B logged C says S k s m hv P A D no-atom located pc H x q c f h now
-    node-now n q (says-two {o = o} {y = y} {x = x} {z = z} c f g) now = two-turn T root L G e₀ Ω N B logged C says S k s m hv P A D no-atom located pc o y x z q c f g now
+    node-now n q (says-stack {y = y} c) now =
+        stack-turn T root L G e₀ Ω N B logged C says S k s m hv P A D no-atom located pc (in-place-of T root L G e₀ Ω N B logged C says S k s m hv P A D no-atom located pc _ now) y (now .good .runs) c
+    node-now n q (says-two {H = H} {x = x} {z = z} c f g h) now = two-turn T root L G e₀ Ω N B logged C says S k s m hv P A D no-atom located pc H x z q c f g h now
     node-now n q (says-pointcut {xs = xs} c count few i children) now = pointcut-turn xs q c count few children now
+    node-now n q (says-match {p = t} {x = x} {f = f} {g = g} {xs = xs} c few i a d e h) now = match-turn t x f g xs q c few a d e h now
 
   -- Where the machine stands.
   points-now : {g : Target} {E : Pc} (hv : CVal) (ρ : Env) (c : Dom) (A : Chain) (D : Slots) → Points T 0 root L c g E → r .pc ≡ targetNumber g

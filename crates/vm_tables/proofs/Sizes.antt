@@ -4,7 +4,7 @@ use mathlib.Core.Path.{_≡_, refl}
 use Rattle.calculus.specs.Limits.{frameLimit, bindingLimit, cellLimit, adviceLimit, pieceLimit}
 use Rattle.image.specs.Limits.{workLength}
 use Rattle.base_bytes.specs.Memory.{wordCount, besideCount, memoryLength}
-use Rattle.vm_machine.specs.Memory.{bindingBase, slotBase, pieceBase, cellBase, installedBase}
+use Rattle.vm_machine.specs.Memory.{bindingBase, slotBase, pieceBase, cellBase, installedBase, keptBase}
 
 -- One slot beyond the limit of frames; two words for a piece.
 pub slots-begin : slotBase ≡ bindingBase + bindingLimit
@@ -19,7 +19,11 @@ cells-begin = refl
 pub installed-begin : installedBase ≡ cellBase + cellLimit
 installed-begin = refl
 
-pub words-end : wordCount ≡ installedBase + adviceLimit
+pub kept-begin : keptBase ≡ installedBase + adviceLimit
+kept-begin = refl
+
+-- One place for each keep and one beyond, as for slots (card 6).
+pub words-end : wordCount ≡ keptBase + (frameLimit + 1)
 words-end = refl
 
 -- A byte beside each slot.

@@ -5,10 +5,10 @@ use mathlib.Core.Path.{_≡_, refl, sym, ap, subst, _∙_}
 use mathlib.Core.List.{List}
 use lib.ListN.{length, getD, set, drop}
 use Rattle.base_bytes.specs.Bytes.{bytesOf, over}
-use Rattle.base_bytes.specs.Memory.{wordCount, besideCount, memoryLength}
+use Rattle.base_bytes.specs.Memory.{wordCount, besideCount, besideBase, memoryLength}
 use Rattle.base_bytes.specs.Memory as area
 use Rattle.base_bytes.proofs.Memory.{words-at, store-words, store-past, store-beside, beside-past, beside-at}
-use Rattle.vm_machine.specs.Memory.{Memory, wordAt, putWord, slotHeld, slotAt, slotIn, slotWord, pointcutFrame, callFrame, putReturn, putDigits, digitsAt, cellAt, cellNote, putCell}
+use Rattle.vm_machine.specs.Memory.{Memory, wordAt, putWord, slotHeld, slotAt, slotIn, slotWord, pointcutFrame, callFrame, putReturn, putDigits, digitsAt, putMatch, besideAt, cellAt, cellNote, putCell}
 use Rattle.vm_tables.specs.View.{memoryOf, Holds}
 
 -- A word is loaded.
@@ -37,7 +37,7 @@ pub and-word : (M : Memory) (w w′ w″ : List ℕ) (i v : ℕ) → Holds M w w
 and-word M w w′ w″ i v a b = record { memory = b .memory ∙ ap (putWord i v) (a .memory); rest = b .rest ∙ a .rest }
 
 -- The byte beside a slot is stored after a word.
-pub and-beside : (M : Memory) (w w′ w″ : List ℕ) (i v : ℕ) → memoryLength ≤ length w′ → i < besideCount → Holds M w w′ → w″ ≡ set w′ (31240 + i) v → Holds (record { words = M .words; beside = set (M .beside) i v }) w w″
+pub and-beside : (M : Memory) (w w′ w″ : List ℕ) (i v : ℕ) → memoryLength ≤ length w′ → i < besideCount → Holds M w w′ → w″ ≡ set w′ (besideBase + i) v → Holds (record { words = M .words; beside = set (M .beside) i v }) w w″
 and-beside M w w′ w″ i v l h a e =
     record {
       memory = ap memoryOf e ∙ ap made (store-beside w′ l i v h) ∙ ap (λ (N : Memory). record { words = N .words; beside = set (N .beside) i v }) (a .memory);
@@ -51,12 +51,21 @@ return-stored w w′ room d pc env f x y e g h = put-as w w′ _ _ y _ refl (h �
 
 -- A pointcut's frame: its word y, and the byte beside it.
 pub digits-stored : (w w′ w″ : List ℕ) (room d pc env digits y : ℕ) → memoryLength ≤ length w′ → room - d < besideCount → y ≡ slotWord pointcutFrame pc env (digits % 68719476736) → Holds (putWord (slotIn room d) y (memoryOf w)) w w′
-    → w″ ≡ set w′ (31240 + (room - d)) (digits / 68719476736 % 256) → Holds (putDigits room d pc env digits (memoryOf w)) w w″
+    → w″ ≡ set w′ (besideBase + (room - d)) (digits / 68719476736 % 256) → Holds (putDigits room d pc env digits (memoryOf w)) w w″
 digits-stored w w′ w″ room d pc env digits y l h e a s = and-beside _ w w′ w″ (room - d) (digits / 68719476736 % 256) l h (put-as w w′ _ _ y _ refl e a) s
 
 -- Its digits: x is what its word f holds, y they with the byte beside.
-pub digits-loaded : (w : List ℕ) (room f x y : ℕ) → memoryLength ≤ length w → room < besideCount → x ≡ slotHeld f → y ≡ x + 68719476736 * getD w (31240 + room) 0 → y ≡ digitsAt (memoryOf w) room f
-digits-loaded w room f x y l h e d = d ∙ ap (λ k. k + 68719476736 * getD w (31240 + room) 0) e ∙ ap (λ b. slotHeld f + 68719476736 * b) (sym (beside-at w l room h))
+pub digits-loaded : (w : List ℕ) (room f x y : ℕ) → memoryLength ≤ length w → room < besideCount → x ≡ slotHeld f → y ≡ x + 68719476736 * getD w (besideBase + room) 0 → y ≡ digitsAt (memoryOf w) room f
+digits-loaded w room f x y l h e d = d ∙ ap (λ k. k + 68719476736 * getD w (besideBase + room) 0) e ∙ ap (λ b. slotHeld f + 68719476736 * b) (sym (beside-at w l room h))
+
+-- A match's frame: its word f, and the byte beside it.
+pub match-stored : (w w′ w″ : List ℕ) (room d f byte : ℕ) → memoryLength ≤ length w′ → room - d < besideCount → Holds (putWord (slotIn room d) f (memoryOf w)) w w′ → w″ ≡ set w′ (besideBase + (room - d)) byte
+    → (pc env v : ℕ) → f ≡ slotWord pointcutFrame pc env (v / 268435456) → Holds (putMatch room d pc env v byte (memoryOf w)) w w″
+match-stored w w′ w″ room d f byte l h a s pc env v e = and-beside _ w w′ w″ (room - d) byte l h (put-as w w′ _ _ f _ refl e a) s
+
+-- The byte beside a slot: x is it.
+pub byte-loaded : (w : List ℕ) (room x : ℕ) → memoryLength ≤ length w → room < besideCount → x ≡ getD w (besideBase + room) 0 → x ≡ besideAt (memoryOf w) room
+byte-loaded w room x l h e = e ∙ sym (beside-at w l room h)
 
 -- A cell's value is another: x is its word, n its note.
 pub cell-stored : (w w′ : List ℕ) (r v x n : ℕ) → x ≡ cellAt (memoryOf w) r → n ≡ cellNote x → Holds (putCell r v n (memoryOf w)) w w′ → Holds (putCell r v (cellNote (cellAt (memoryOf w) r)) (memoryOf w)) w w′

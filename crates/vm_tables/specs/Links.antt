@@ -12,12 +12,12 @@ use Rattle.vm_machine.specs.Memory.{above, binding, boundLink, adviceWord, advi
 pub data Link : Type 0 where
   -- of a binding: the one outside of it
   outer : Link
-  -- of an activation frame: its environment
+  -- of an activation frame, a keep's and a match's among them (card 6): its environment
   frame : Link
   -- of a mark's frame: the bindings that are left, the next one and where they end
   next : Link
   end : Link
-  -- of a function or an object, in each word that holds it: its environment
+  -- of a function or an object, in each word that holds it, a kept value's among them (card 6): its environment
   closure : Link
   -- of an advice, in the first word of its piece: its environment
   advice : Link

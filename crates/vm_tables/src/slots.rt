@@ -2,10 +2,10 @@
 // number room - d, with the room of the body. It is the activation frame of a body, or holds the value of an operand that
 // waits, or both: a call's frame leaves the value as it is.
 ghost use mathlib.Core.Path.{_≡_};
-ghost use Prim.Native.Nat.{_+_, _-_, _*_, _/_, _%_, _<_, _≤_};
+ghost use Prim.Native.Nat.{ℕ, _+_, _-_, _*_, _/_, _%_, _<_, _≤_};
 ghost use lib.ListN.{length, set};
-ghost use Rattle.base_bytes.specs.Memory.{memoryLength};
-ghost use Rattle.vm_machine.specs.Memory.{slotWord, slotEnv, slotPc, slotKind, slotHeld, slotIn, slotAt, putSlot, putWaiting, putReturn, putAdvice, nextBinding, endBinding, putDigits, digitsAt};
+ghost use Rattle.base_bytes.specs.Memory.{memoryLength, besideBase};
+ghost use Rattle.vm_machine.specs.Memory.{slotWord, slotEnv, slotPc, slotKind, slotHeld, slotIn, slotAt, putSlot, putWaiting, putReturn, putAdvice, nextBinding, endBinding, putDigits, digitsAt, putKeep, putMatch, keepFrame, pointcutFrame, heldStack, besideAt};
 ghost use Rattle.vm_tables.specs.View.{memoryOf, Holds};
 use crate::words::BESIDE;
 use crate::words::SLOTS;
@@ -50,23 +50,24 @@ fn slot_held(f: u64) -> u64
     f / 268435456
 }
 
-// The place of a slot. (The base comes first: so no number is too low to take d from.)
+// The place of a slot. (The base comes first: so no number is too low to take d from. What is resumed may have more room than
+// there is, until d is taken from it: so the room may be any number that keeps the place inside the tables.)
 fn slot_in(room: usize, d: usize) -> usize
-    requires { ⌜ (room ≤ 513) × (d ≤ 66) ⌝ }
+    requires { ⌜ (room ≤ 1024) × (d ≤ 66) ⌝ }
     ensures { λ r. ⌜ r ≡ slotIn room d ⌝ }
 {
     SLOTS + room - d
 }
 
 pub fn slot_at(work: &[u8], room: usize, d: usize) -> u64
-    requires { ⌜ (memoryLength ≤ length (now work)) × (room ≤ 513) × (d ≤ 66) ⌝ }
+    requires { ⌜ (memoryLength ≤ length (now work)) × (room ≤ 1024) × (d ≤ 66) ⌝ }
     ensures { λ r. ⌜ r ≡ slotAt (memoryOf (now (work .entry))) room d ⌝ }
 {
     word(work, slot_in(room, d))
 }
 
 fn put_slot(work: &mut [u8], room: usize, d: usize, w: u64)
-    requires { ⌜ (memoryLength ≤ length (now work)) × (room ≤ 513) × (d ≤ 66) ⌝ }
+    requires { ⌜ (memoryLength ≤ length (now work)) × (room ≤ 1024) × (d ≤ 66) ⌝ }
     ensures { λ _. ⌜ Holds (putSlot room d w (memoryOf (now (work .entry)))) (now (work .entry)) (now (work .exit)) ⌝ }
 {
     put_word(work, slot_in(room, d), w);
@@ -74,7 +75,7 @@ fn put_slot(work: &mut [u8], room: usize, d: usize, w: u64)
 
 // A value waits there.
 pub fn put_waiting(work: &mut [u8], room: usize, d: usize, v: u64)
-    requires { ⌜ (memoryLength ≤ length (now work)) × (room ≤ 513) × (d ≤ 66) ⌝ }
+    requires { ⌜ (memoryLength ≤ length (now work)) × (room ≤ 1024) × (d ≤ 66) ⌝ }
     ensures { λ _. ⌜ Holds (putWaiting room d v (memoryOf (now (work .entry)))) (now (work .entry)) (now (work .exit)) ⌝ }
 {
     put_slot(work, room, d, above(v, 0));
@@ -82,7 +83,7 @@ pub fn put_waiting(work: &mut [u8], room: usize, d: usize, v: u64)
 
 // A call's frame is there: the instruction that called and its environment.
 pub fn put_return(work: &mut [u8], room: usize, d: usize, pc: usize, env: usize)
-    requires { ⌜ (memoryLength ≤ length (now work)) × (room ≤ 513) × (d ≤ 66) × (pc ≤ 1024) × (env < 65536) ⌝ }
+    requires { ⌜ (memoryLength ≤ length (now work)) × (room ≤ 1024) × (d ≤ 66) × (pc ≤ 1024) × (env < 65536) ⌝ }
     ensures { λ _. ⌜ Holds (putReturn room d pc env (memoryOf (now (work .entry)))) (now (work .entry)) (now (work .exit)) ⌝ }
 {
     let held = slot_held(slot_at(work, room, d));
@@ -119,12 +120,12 @@ pub fn end_binding(f: u64) -> usize
     (f / 281474976710656 % 65536) as usize
 }
 
-// The byte beside slot i becomes the digits' high bits.
-fn put_beside(work: &mut [u8], i: usize, digits: u64)
-    requires { ⌜ (memoryLength ≤ length (now work)) × (i < 513) ⌝ }
-    ensures { λ _. ⌜ now (work .exit) ≡ set (now (work .entry)) (31240 + i) (digits / 68719476736 % 256) ⌝ }
+// The byte beside slot i becomes another.
+fn put_beside(work: &mut [u8], i: usize, byte: u64)
+    requires { ⌜ (memoryLength ≤ length (now work)) × (i < 513) × (byte < 256) ⌝ }
+    ensures { λ _. ⌜ now (work .exit) ≡ set (now (work .entry)) (besideBase + i) byte ⌝ }
 {
-    work[BESIDE + i] = (digits / 68719476736 % 256) as u8;
+    work[BESIDE + i] = byte as u8;
 }
 
 // A pointcut's frame is there: it, its environment, and the digits of the labels that are done.
@@ -138,7 +139,7 @@ pub fn put_digits(work: &mut [u8], room: usize, d: usize, pc: usize, env: usize,
         d,
         slot_word(POINTCUT, pc, env, digits % 68719476736),
     );
-    put_beside(work, room - d, digits);
+    put_beside(work, room - d, digits / 68719476736 % 256);
 }
 
 fn join(low: u64, high: u8) -> u64
@@ -154,4 +155,58 @@ pub fn digits_at(work: &[u8], room: usize, f: u64) -> u64
     ensures { λ r. ⌜ r ≡ digitsAt (memoryOf (now (work .entry))) room f ⌝ }
 {
     join(slot_held(f), work[BESIDE + room])
+}
+
+// The word of a keep's frame (card 6): its kind is 3, and nothing is held.
+fn keep_word(pc: usize, env: usize) -> u64
+    requires { ⌜ (pc ≤ 1024) × (env < 65536) ⌝ }
+    ensures { λ r. ⌜ r ≡ slotWord keepFrame pc env 0 ⌝ }
+{
+    (env as u64) + 65536 * (pc as u64) + 201326592
+}
+
+// A keep's frame is there: it and its environment.
+pub fn put_keep(work: &mut [u8], room: usize, d: usize, pc: usize, env: usize)
+    requires { ⌜ (memoryLength ≤ length (now work)) × (room ≤ 1024) × (d ≤ 66) × (pc ≤ 1024) × (env < 65536) ⌝ }
+    ensures { λ _. ⌜ Holds (putKeep room d pc env (memoryOf (now (work .entry)))) (now (work .entry)) (now (work .exit)) ⌝ }
+{
+    put_slot(work, room, d, keep_word(pc, env));
+}
+
+// The word of a match's frame: it, its environment, and its stack v.
+pub fn match_word(pc: usize, env: usize, v: u64) -> u64
+    requires { ⌜ (pc ≤ 1024) × (env < 65536) ⌝ }
+    ensures { λ r. ⌜ r ≡ slotWord pointcutFrame pc env (v / 268435456) ⌝ }
+{
+    slot_word(POINTCUT, pc, env, v / 268435456)
+}
+
+// A match's frame is there, with the word f and a byte beside.
+pub fn put_match(work: &mut [u8], room: usize, d: usize, f: u64, byte: u64)
+    requires { ⌜ (memoryLength ≤ length (now work)) × (room ≤ 513) × (0 < d) × (d ≤ 66) × (d ≤ room) × (byte < 256) ⌝ }
+    ensures { λ _. ⌜ ((pc env v : ℕ) → f ≡ slotWord pointcutFrame pc env (v / 268435456) → Holds (putMatch room d pc env v byte (memoryOf (now (work .entry)))) (now (work .entry)) (now (work .exit))) ⌝ }
+{
+    put_slot(work, room, d, f);
+    put_beside(work, room - d, byte);
+}
+
+// The stack that a match's slot with word f holds.
+pub fn held_stack(f: u64) -> u64
+    ensures { λ r. ⌜ r ≡ heldStack f ⌝ }
+{
+    268435456 * slot_held(f)
+}
+
+fn wide(b: u8) -> u64
+    ensures { λ r. ⌜ (r ≡ b) × (r < 256) ⌝ }
+{
+    b as u64
+}
+
+// The byte beside the slot of a body with so much room.
+pub fn byte_beside(work: &[u8], room: usize) -> u64
+    requires { ⌜ (memoryLength ≤ length (now work)) × (room < 513) ⌝ }
+    ensures { λ r. ⌜ (r ≡ besideAt (memoryOf (now (work .entry))) room) × (r < 256) ⌝ }
+{
+    wide(work[BESIDE + room])
 }

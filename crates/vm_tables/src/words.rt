@@ -16,7 +16,9 @@ pub const CELLS: usize = 3585;
 
 pub const INSTALLED: usize = 3841;
 
-pub const BESIDE: usize = 31240;
+pub const KEPT: usize = 3905;
+
+pub const BESIDE: usize = 35344;
 
 pub fn word(work: &[u8], i: usize) -> u64
     requires { ⌜ (memoryLength ≤ length (now work)) × (i < wordCount) ⌝ }

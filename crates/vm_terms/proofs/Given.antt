@@ -2,9 +2,10 @@
 use Prim.Native.Nat.{ℕ, _+_, _*_, _≤_, _<_}
 use native.Mathlib.Omega.{arith}
 use mathlib.Core.Path.{_≡_, refl, sym, ap, subst, _∙_}
+use mathlib.Core.Bool.{true}
+use mathlib.Core.Logic.{_⊎_, inl, inr}
 use mathlib.Core.List.{List}
 use lib.ListN.{length, getD}
-use lib.Dec.{leb}
 use Rattle.calculus.specs.Plain.{domOf, methodsOf, methodDom}
 use Rattle.image.specs.Limits.{imageLimit}
 use Rattle.image.specs.Bytes.{numberAt, fieldAt}
@@ -12,9 +13,9 @@ use Rattle.image.specs.Kinds.{TermKind, termRow, leadOf, trailOf}
 use Rattle.image.specs.Records.{Layout}
 use Rattle.image.specs.Layout.{recordsOf}
 use Rattle.image.specs.Types.{termPlace, termKind, statedType, others, children}
-use Rattle.laws.proofs.Booleans.{le-of}
 use Rattle.image.proofs.Counts.{leastChildren}
-use Rattle.image.proofs.EveryKind.{everyOf, at-term}
+use Rattle.image.proofs.KindNumbers.{same-term-kind}
+use Rattle.image.proofs.Offsets.{sideBySide, side-or-match}
 use Rattle.check_records.specs.Tables.{Tables}
 use Rattle.check_records.specs.Leaves.{Leaves}
 use Rattle.vm_code.specs.PassUp.{cellNote}
@@ -22,7 +23,8 @@ use Rattle.vm_terms.specs.Fields.{Lower}
 use Rattle.vm_terms.specs.Methods.{methodAt, TypeOffsets, Whole}
 use Rattle.vm_terms.specs.Noted.{descriptorDomain, descriptorNote, DescriptorFits}
 use Rattle.vm_terms.proofs.KindNumbers.{NotFrom32, last-number}
-use Rattle.vm_terms.proofs.Records.{Recorded, as-kind, field-lower, few-terms, recorded, place-is, has-descriptor, domain-is, note-is, fits, has-offset, type-stands, method-is}
+use Rattle.vm_terms.proofs.Matches.{Matched}
+use Rattle.vm_terms.proofs.Records.{Recorded, field-lower, few-terms, number-is, has-type, recorded, matched, place-is, has-descriptor, domain-is, note-is, fits, has-offset, type-stands, method-is}
 
 pub record Given (b ks : List ℕ) (n o : ℕ) : Type 0 where
   pub domain-table : List ℕ
@@ -30,11 +32,6 @@ pub record Given (b ks : List ℕ) (n o : ℕ) : Type 0 where
   pub tables : Tables b domain-table term-table ks
   pub there : n < length (recordsOf b .terms)
   pub place : o ≡ getD term-table n 0
-
--- A term's type is before its children.
-lead-some : (k : TermKind) → 1 ≤ leadOf k
-unfolding everyOf
-lead-some k = le-of (at-term (λ j. leb 1 (leadOf j)) refl k)
 
 module _ {b ks : List ℕ} {n o : ℕ} (G : Given b ks n o) where
   abbrev L : Layout
@@ -52,8 +49,8 @@ module _ {b ks : List ℕ} {n o : ℕ} (G : Given b ks n o) where
   abbrev l : n < length (recordsOf b .terms)
   l = G .there
 
-  any-kind : Recorded b o n (termKind L n) (others L n) (children L n)
-  any-kind = subst (λ p. Recorded b p n (termKind L n) (others L n) (children L n)) (sym (G .place)) (recorded b ds ts ks T n l)
+  number-told : numberAt b o ≡ termRow (termKind L n) .number
+  number-told = ap (numberAt b) (G .place) ∙ number-is b ds ts ks T n l
 
   pub small : n < 1024
   small = let few = few-terms b ds ts ks T in omega arith
@@ -67,8 +64,8 @@ module _ {b ks : List ℕ} {n o : ℕ} (G : Given b ks n o) where
   -- It has a type, and the type's descriptor says its domain; with the table of leaf counts also what a cell is noted with.
   pub typed : (o + 5 < length b) × (fieldAt b o 0 < length ks)
   typed =
-      let z = any-kind .inside in
-      let y = lead-some (termKind L n) in
+      let z = has-type b ds ts ks T n l in
+      let e = G .place in
       (omega arith, subst (λ p. fieldAt b p 0 < length ks) (sym (G .place)) (has-descriptor b ds ts ks T n l))
 
   abbrev pub descriptorOf : ℕ
@@ -98,20 +95,40 @@ module _ {b ks : List ℕ} {n o : ℕ} (G : Given b ks n o) where
     pub descriptor-fits : DescriptorFits ls descriptorOf
     descriptor-fits = subst (λ p. DescriptorFits ls (getD ks (fieldAt b p 0) 0)) (sym (G .place)) (fits b ds ts ks T n l ls N)
 
-  -- The kind of the last arm: of a number that is none of 32 to 55.
-  pub last-kind : {k : ℕ} → k ≡ numberAt b o → NotFrom32 k 24 → k ≡ 60
-  last-kind {k} e h = last-number k (termKind L n) (e ∙ any-kind .number) h
+  -- The kind of the last arm: of a number that is none of 32 to 58.
+  pub last-kind : {k : ℕ} → k ≡ numberAt b o → NotFrom32 k 27 → k ≡ 60
+  last-kind {k} e h = last-number k (termKind L n) (e ∙ number-told) h
 
   module _ (k : TermKind) (e : numberAt b o ≡ termRow k .number) where
     pub kind-told : termKind L n ≡ k
-    kind-told = as-kind any-kind k e
+    kind-told = same-term-kind (termKind L n) k (sym number-told ∙ e)
 
-    pub here : Recorded b o n k (others L n) (children L n)
-    here = subst (λ j. Recorded b o n j (others L n) (children L n)) kind-told any-kind
+    -- A kind whose children stand side by side; and a match (card 6).
+    pub here : sideBySide k ≡ true → Recorded b o n k (others L n) (children L n)
+    here =
+        subst (λ j. sideBySide j ≡ true → Recorded b o n j (others L n) (children L n)) kind-told
+        (λ s. subst (λ p. Recorded b p n (termKind L n) (others L n) (children L n)) (sym (G .place)) (recorded b ds ts ks T n l s))
+
+    pub match-here : k ≡ TermKind.match → Matched b o n (others L n) (children L n)
+    match-here q = subst (λ p. Matched b p n (others L n) (children L n)) (sym (G .place)) (matched b ds ts ks T n l (kind-told ∙ q))
 
     -- The fields that every term of the kind has are there, and child i is one of them.
     pub room : o + 4 + 2 * (leadOf k + leastChildren (termRow k) + trailOf k) ≤ length b
-    room = let z = here .least in let y = here .inside in omega arith
+    room = go (side-or-match k)
+      where
+        go : (sideBySide k ≡ true) ⊎ (k ≡ TermKind.match) → o + 4 + 2 * (leadOf k + leastChildren (termRow k) + trailOf k) ≤ length b
+        go (inl s) = let z = here s .least in let y = here s .inside in omega arith
+        go (inr q) =
+            let m = match-here q .lower n (omega arith) in
+            subst (λ j. o + 4 + 2 * (leadOf j + leastChildren (termRow j) + trailOf j) ≤ length b) (sym q) (omega (arith, m .0, m .1))
 
     pub has-child : (i : ℕ) → i < leastChildren (termRow k) → Lower b o (leadOf k + i) n
-    has-child i h = let y = room in (omega arith, field-lower here i h)
+    has-child i h = let y = room in (omega arith, go (side-or-match k))
+      where
+        go : (sideBySide k ≡ true) ⊎ (k ≡ TermKind.match) → fieldAt b o (leadOf k + i) < n
+        go (inl s) = field-lower (here s) i h
+        go (inr q) =
+            let m = match-here q .lower n (omega arith) in
+            let l : i < 3 = subst (λ j. i < leastChildren (termRow j)) q h in
+            let e : i + 1 ≡ leadOf k + i = let z = ap leadOf q in omega arith in
+            subst (λ j. fieldAt b o j < n) e (m .2 i l)

@@ -2,6 +2,7 @@
 pub mod Noted
 pub mod Described
 pub mod ObjectTypes
+pub mod Matches
 pub mod Records
 pub mod KindNumbers
 pub mod Listed

@@ -72,6 +72,7 @@ module _ (b : List ℕ) (o m : ℕ) (g : ℕ → Ty) where
   out-method TypeKind.pcd e = rw e refl
   out-method TypeKind.adv e = rw e refl
   out-method TypeKind.obj e = rw e object-method
+  out-method TypeKind.stack e = rw e refl
 
 -- The three cases.
 module _ (b : List ℕ) (o m : ℕ) where

@@ -1,34 +1,39 @@
 -- The record of a term by its fields (document 01, "The image": "Terms have their type t first, then lower term numbers e unless said"), and what its type's descriptor says.
 use Prim.Native.Nat.{ℕ, suc, _+_, _-_, _*_, _≤_, _<_}
 use native.Mathlib.Omega.{arith}
-use mathlib.Core.Path.{_≡_, sym, ap, subst, _∙_}
-use mathlib.Core.List.{List}
-use lib.ListN.{length, getD, length-take}
+use mathlib.Core.Path.{_≡_, refl, sym, ap, subst, _∙_}
+use mathlib.Core.Bool.{true}
+use mathlib.Core.List.{List, _++_}
+use lib.ListN.{length, getD, length-take, length-append}
+use lib.Dec.{leb}
 use lib.Seq.{getD-take}
 use Rattle.calculus.specs.Plain.{domOf, methodsOf, methodDom}
 use Rattle.image.specs.Limits.{termLimit, operationCount}
 use Rattle.image.specs.Bytes.{lengthAt, numberAt, fieldCount, fieldAt}
-use Rattle.image.specs.Kinds.{TermKind, termRow, leadOf, trailOf}
+use Rattle.image.specs.Kinds.{TermKind, termRow, again, leadOf, trailOf}
 use Rattle.image.specs.Records.{Layout, times, fieldsAt, numbersAt}
 use Rattle.image.specs.Layout.{recordsOf}
 use Rattle.image.specs.Types.{termPlace, typePlace, termKind, typeNo, statedType, others, children}
-use Rattle.image.specs.LaidOut.{IsRecord}
+use Rattle.image.specs.LaidOut.{Stands, IsRecord}
+use Rattle.laws.proofs.Booleans.{le-of}
 use Rattle.image.proofs.Words.{words-length}
-use Rattle.image.proofs.KindNumbers.{same-term-kind}
+use Rattle.image.proofs.EveryKind.{everyOf, at-term}
 use Rattle.image.proofs.Laid.{Good, below-at, layout-good, image-kept}
 use Rattle.image.proofs.Counts.{leastChildren, mostChildren, children-between}
-use Rattle.image.proofs.Offsets.{number-at, fields-count, child-at, other-at, last-at}
+use Rattle.image.proofs.Offsets.{sideBySide, number-at, fields-count, child-at, other-at, last-at}
 use Rattle.check_records.specs.Descriptors.{Describes}
 use Rattle.check_records.specs.Tables.{Tables}
 use Rattle.check_records.specs.Leaves.{Leaves}
 use Rattle.vm_code.specs.PassUp.{cellNote}
 use Rattle.vm_terms.specs.Noted.{descriptorDomain, descriptorNote, DescriptorFits}
 use Rattle.vm_terms.specs.Methods.{methodAt, TypeOffsets, Whole}
+use Rattle.vm_terms.proofs.Matches.{Matched, is-match}
 use Rattle.vm_terms.proofs.ObjectTypes.{method-at, whole-type}
 use Rattle.vm_terms.proofs.Described.{descriptor-domain, descriptor-note, descriptor-fits}
 
 -- The record at o is one of kind k, of term n: its fields behind the type that are no children are vs, and its children, which stand side by side and are lower terms, are xs.
 pub record Recorded (b : List ℕ) (o n : ℕ) (k : TermKind) (vs xs : List ℕ) : Type 0 where
+  pub side : sideBySide k ≡ true
   pub number : numberAt b o ≡ termRow k .number
   -- its known fields are all where its kind has a group; else there may be more bytes behind them (document 02, card 1)
   pub count : 0 < length (termRow k .group) → fieldCount b o ≡ leadOf k + length xs + trailOf k
@@ -44,10 +49,6 @@ pub record Recorded (b : List ℕ) (o n : ℕ) (k : TermKind) (vs xs : List ℕ)
   pub lower : (i : ℕ) → i < length xs → getD xs i 0 < n
   pub operation : k ≡ TermKind.arith → fieldAt b o 1 < operationCount
 
--- Its kind is told by its number.
-pub as-kind : {b : List ℕ} {o n : ℕ} {k : TermKind} {vs xs : List ℕ} → Recorded b o n k vs xs → (j : TermKind) → numberAt b o ≡ termRow j .number → k ≡ j
-as-kind {k = k} R j e = same-term-kind k j (sym (R .number) ∙ e)
-
 -- A child that every term of the kind has, as a field: where it stands, and that it is a lower term.
 pub field-lower : {b : List ℕ} {o n : ℕ} {k : TermKind} {vs xs : List ℕ} → Recorded b o n k vs xs → (i : ℕ) → i < leastChildren (termRow k) → fieldAt b o (leadOf k + i) < n
 field-lower R i h = let e = R .child i (let z = R .least in omega arith) in let l = R .lower i (let z = R .least in omega arith) in omega arith
@@ -57,8 +58,8 @@ arithmetic-field b o d y n k e =
     subst (λ j. IsRecord b (termRow j) o d y n → fieldAt b o 1 < operationCount) (sym e)
     (λ r. subst (λ v. v < operationCount) (number-at b o (termRow TermKind.arith) 1 (omega arith)) (r .fields 1 (omega arith)))
 
-laid-record : (L : Layout) → Good L → (n : ℕ) → n < length (L .terms) → Recorded (L .image) (termPlace L n) n (termKind L n) (others L n) (children L n)
-laid-record L good n l =
+laid-record : (L : Layout) → Good L → (n : ℕ) → n < length (L .terms) → sideBySide (termKind L n) ≡ true → Recorded (L .image) (termPlace L n) n (termKind L n) (others L n) (children L n)
+laid-record L good n l side =
     let b : List ℕ = L .image in
     let o : ℕ = termPlace L n in
     let k : TermKind = termKind L n in
@@ -66,9 +67,10 @@ laid-record L good n l =
     let s = ok .is .stands in
     let size = s .size in
     let inside = s .inside in
-    let all = fields-count k b o in
+    let all = fields-count k side b o in
     let between = children-between (termRow k) (times (termRow k) (lengthAt b o)) (numbersAt b o (termRow k)) (words-length b (o + 4) (length (fieldsAt b o (termRow k)))) (s .least) (s .most) in
     record {
+      side = side;
       number = s .number;
       count = λ g. let exact = s .exact g in omega arith;
       size = omega arith;
@@ -76,12 +78,22 @@ laid-record L good n l =
       inside = omega arith;
       least = between .0;
       most = between .1;
-      other = other-at k b o;
-      behind = last-at k b o;
-      child = child-at k b o;
+      other = other-at k side b o;
+      behind = last-at k side b o;
+      child = child-at k side b o;
       lower = λ i h. below-at n (children L n) i (ok .below) h;
       operation = λ e. arithmetic-field b o _ _ n k e (ok .is);
     }
+
+-- Every record of a term has its type.
+type-first : (k : TermKind) (b : List ℕ) (o : ℕ) → Stands b (termRow k) o → o + 6 ≤ length b
+unfolding everyOf
+type-first k b o s =
+    let some : 1 ≤ length (termRow k .first) = le-of (at-term (λ j. leb 1 (length (termRow j .first))) refl k) in
+    let e = length-append (termRow k .first) (again (times (termRow k) (lengthAt b o)) (termRow k .group) ++ termRow k .last) in
+    let z = s .size in
+    let y = s .inside in
+    omega arith
 
 -- The tables of an image that is laid out.
 module _ (b ds ts ks : List ℕ) (T : Tables b ds ts ks) where
@@ -108,10 +120,25 @@ module _ (b ds ts ks : List ℕ) (T : Tables b ds ts ks) where
     pub place-is : o ≡ termPlace L n
     place-is = sym (getD-take (length (L .terms)) ts n 0 l) ∙ ap (λ xs. getD xs n 0) (T .terms)
 
-    pub recorded : Recorded b o n (termKind L n) (others L n) (children L n)
-    recorded =
+    stands : Stands b (termRow (termKind L n)) o
+    stands = subst (λ p. Stands b (termRow (termKind L n)) p) (sym place-is) (subst (λ i. Stands i (termRow (termKind L n)) (termPlace L n)) image-is (good .terms n l .is .stands))
+
+    pub number-is : numberAt b o ≡ termRow (termKind L n) .number
+    number-is = stands .number
+
+    pub has-type : o + 6 ≤ length b
+    has-type = type-first (termKind L n) b o stands
+
+    pub recorded : sideBySide (termKind L n) ≡ true → Recorded b o n (termKind L n) (others L n) (children L n)
+    recorded side =
         subst (λ p. Recorded b p n (termKind L n) (others L n) (children L n)) (sym place-is)
-        (subst (λ i. Recorded i (termPlace L n) n (termKind L n) (others L n) (children L n)) image-is (laid-record L good n l))
+        (subst (λ i. Recorded i (termPlace L n) n (termKind L n) (others L n) (children L n)) image-is (laid-record L good n l side))
+
+    -- A match (card 6).
+    pub matched : termKind L n ≡ TermKind.match → Matched b o n (others L n) (children L n)
+    matched e =
+        subst (λ p. Matched b p n (others L n) (children L n)) (sym place-is)
+        (subst (λ i. Matched i (termPlace L n) n (others L n) (children L n)) image-is (is-match (L .image) (termPlace L n) _ _ n (termKind L n) e (good .terms n l .is)))
 
     -- Its type, and the type's descriptor.
     type-is : fieldAt b o 0 ≡ typeNo L n

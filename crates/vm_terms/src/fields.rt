@@ -3,6 +3,7 @@ ghost use mathlib.Core.Path.{_≡_};
 ghost use Prim.Native.Nat.{_+_, _-_, _*_, _≤_, _<_};
 ghost use lib.ListN.{length, getD};
 ghost use Rattle.image.specs.Bytes.{lengthAt, fieldCount, fieldAt};
+ghost use Rattle.vm_terms.specs.Fields.{entryCountAt};
 use check_records::numbers::type_descriptor;
 use check_records::numbers::type_of_term;
 use check_records::words::field_at;
@@ -29,6 +30,14 @@ pub fn label_count(image: &[u8], at: usize) -> usize
 {
     let len = word(image, at) as usize;
     (len - 4) / 2 - 1
+}
+
+// How many entries a match has (document 02, card 6): its fields but the type, the stack, the two branches and the close.
+pub fn entry_count(image: &[u8], at: usize) -> usize
+    requires { ⌜ (at + 1 < length (now image)) × (14 ≤ lengthAt (now image) at) ⌝ }
+    ensures { λ r. ⌜ (r ≡ entryCountAt (now (image .entry)) at) × (r < 32768) ⌝ }
+{
+    label_count(image, at) - 4
 }
 
 // The descriptor of the type of the term at an offset.

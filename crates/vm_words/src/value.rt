@@ -4,7 +4,7 @@ ghost use mathlib.Core.Path.{_≡_};
 ghost use Prim.Native.Nat.{_<_};
 ghost use Rattle.calculus.specs.Numbers.{isLess, isEqual, frameByte};
 ghost use Rattle.calculus.specs.Numbers as numbers;
-ghost use Rattle.vm_code.specs.Values.{tagOf, bodyOf, numberValue, truthValue, functionValue, objectValue};
+ghost use Rattle.vm_code.specs.Values.{tagOf, bodyOf, numberValue, truthValue, functionValue, objectValue, bottomValue, keptValue};
 ghost use Rattle.vm_code.specs.Values as defined;
 
 pub const PAIR: u64 = 4;
@@ -63,6 +63,22 @@ pub fn object(env: usize, term: usize) -> u64
     ensures { λ r. ⌜ r ≡ objectValue env term ⌝ }
 {
     2415919104 + 4294967296 * (65536 * (env as u64) + (term as u64))
+}
+
+// The empty stack, and one whose top entry is a piece (card 6).
+pub const KEPT: u64 = 11;
+
+pub fn bottom() -> u64
+    ensures { λ r. ⌜ r ≡ bottomValue ⌝ }
+{
+    2684354560
+}
+
+pub fn kept(piece: usize) -> u64
+    requires { ⌜ piece < 65536 ⌝ }
+    ensures { λ r. ⌜ r ≡ keptValue piece ⌝ }
+{
+    2952790016 + 4294967296 * (piece as u64)
 }
 
 // The ends of the range of numbers, as patterns.

@@ -22,6 +22,26 @@
 //! let image = program.image(&program.call(object, 0));
 //! # let _ = image;
 //! ```
+//!
+//! A keep holds a value under a label while its body runs, and a match asks what is kept around it, the innermost
+//! first:
+//!
+//! ```
+//! use bukzarn::program::{Close, Entry, Program};
+//!
+//! let mut program = Program::new(&[1]);
+//! let unit = program.unit_type();
+//! let descent = program.new_label(unit, 0);
+//! let label = program.variable(descent.of(), 0);
+//! let pointcut = program.pointcut(unit, 0, vec![label.clone()]);
+//! let (stack, under, outside) = (program.stack(), program.number(1), program.number(0));
+//! let asked = program.match_stack(stack, vec![Entry::Under(pointcut)], Close::Rest, under, outside);
+//! let kept = program.unit();
+//! let body = program.keep(label, kept, asked);
+//! let root = program.bind(0, descent, body);
+//! let image = program.image(&root);
+//! # let _ = image;
+//! ```
 mod terms;
 mod types;
 mod write;
@@ -43,6 +63,26 @@ enum Field {
     Number(i32),
     Level(u16),
     Child(Term),
+    /// An entry of a match: 0, or the number of its pointcut plus 1.
+    Entry(Option<Term>),
+}
+
+/// What one entry of a match stands for.
+#[derive(Clone, Debug)]
+pub enum Entry {
+    /// Any kept value, which is not bound.
+    Anything,
+    /// A value that is kept under a label of this pointcut; it is bound.
+    Under(Term),
+}
+
+/// What may be left of the stack behind the entries of a match.
+#[derive(Clone, Copy, Debug, PartialEq, Eq)]
+pub enum Close {
+    /// Nothing.
+    Empty,
+    /// Anything, also nothing; it is bound, as a stack.
+    Rest,
 }
 
 impl Term {
@@ -63,7 +103,7 @@ impl Term {
 
     fn children(&self) -> impl Iterator<Item = &Term> {
         self.fields.iter().filter_map(|field| match field {
-            Field::Child(child) => Some(child),
+            Field::Child(child) | Field::Entry(Some(child)) => Some(child),
             _ => None,
         })
     }

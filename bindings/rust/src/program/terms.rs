@@ -1,5 +1,5 @@
 //! Terms of a program, each with the type that its parts ask for.
-use super::{Field, Program, Shape, Term, Type};
+use super::{Close, Entry, Field, Program, Shape, Term, Type};
 
 /// A term of this kind and type over these children.
 fn over<const N: usize>(kind: u16, of: Type, children: [Term; N]) -> Term {
@@ -171,6 +171,29 @@ impl Program {
         let Shape::Object(methods) = self.shape(object.of) else { panic!("call takes an object") };
         let (_, of) = methods[usize::from(method)];
         Term { kind: 55, of, fields: vec![Field::Child(object), Field::Word(method)] }
+    }
+
+    /// The current stack: what is kept around it, the innermost first.
+    pub fn stack(&mut self) -> Term {
+        over(56, self.stack_type(), [])
+    }
+
+    /// Keeps a value under a label while a body runs.
+    pub fn keep(&self, label: Term, value: Term, body: Term) -> Term {
+        over(57, body.of, [label, value, body])
+    }
+
+    /// `yes` if the entries, from the top of the stack on, and the close fit it, else `no`. Each pointcut binds its
+    /// value in `yes`, left to right, each inside the one before; the rest of the stack is bound last.
+    pub fn match_stack(&self, stack: Term, entries: Vec<Entry>, close: Close, yes: Term, no: Term) -> Term {
+        let of = yes.of;
+        let mut fields = vec![Field::Child(stack), Field::Child(yes), Field::Child(no)];
+        fields.extend(entries.into_iter().map(|entry| match entry {
+            Entry::Anything => Field::Entry(None),
+            Entry::Under(pointcut) => Field::Entry(Some(pointcut)),
+        }));
+        fields.push(Field::Word((close == Close::Rest).into()));
+        Term { kind: 58, of, fields }
     }
 
     /// The byte of the frame at an index, or -1.

@@ -29,6 +29,8 @@ pub enum Shape {
     /// An object with these methods, numbered from 0: for each the domain at which its body runs, and the type of what
     /// a call gives. There are 1 to 8.
     Object(Vec<(u16, Type)>),
+    /// A stack of kept values.
+    Stack,
 }
 
 impl Shape {
@@ -44,6 +46,7 @@ impl Shape {
             Shape::Label(a, p) => (22, vec![a.0, p]),
             Shape::Pointcut(a, p) => (23, vec![a.0, p]),
             Shape::Advice(p) => (24, vec![p]),
+            Shape::Stack => (26, vec![]),
             Shape::Object(ref methods) => (25, methods.iter().flat_map(|(p, of)| [*p, of.0]).collect()),
         }
     }
@@ -83,6 +86,11 @@ impl Program {
     /// The type number.
     pub fn number_type(&mut self) -> Type {
         self.make(Shape::Number)
+    }
+
+    /// The type of a stack.
+    pub fn stack_type(&mut self) -> Type {
+        self.make(Shape::Stack)
     }
 
     /// Is the type plain: unit, truth, number or a pair of plain types, with at most 8 leaves?

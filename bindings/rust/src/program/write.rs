@@ -14,11 +14,12 @@ fn words(fields: &[u16]) -> Vec<u8> {
 }
 
 /// How many variables a child's scope gains: two in a split's second child, one in the body of a function, an advice
-/// or a method.
-fn bound(kind: u16, child: usize) -> u16 {
-    match (kind, child) {
+/// or a method, and in a match's first branch one for each pointcut and one for the rest.
+fn bound(term: &Term, child: usize) -> u16 {
+    match (term.kind, child) {
         (40, 1) => 2,
         (41, 0) | (47, 1) | (54, _) => 1,
+        (58, 1) => term.fields.iter().filter(|f| matches!(f, Field::Entry(Some(_)) | Field::Word(1))).count() as u16,
         _ => 0,
     }
 }
@@ -32,10 +33,15 @@ fn write_term(image: &mut Vec<u8>, next: &mut u16, term: &Term, scope: u16) -> u
             Field::Word(word) => fields.extend(word.to_le_bytes()),
             Field::Number(number) => fields.extend(number.to_le_bytes()),
             Field::Level(level) => fields.extend(scope.wrapping_sub(1).wrapping_sub(*level).to_le_bytes()),
-            Field::Child(term_below) => {
-                let number = write_term(image, next, term_below, scope + bound(term.kind, child));
+            Field::Child(below) => {
+                let number = write_term(image, next, below, scope + bound(term, child));
                 fields.extend(number.to_le_bytes());
                 child += 1;
+            }
+            Field::Entry(None) => fields.extend([0, 0]),
+            Field::Entry(Some(pointcut)) => {
+                let number = write_term(image, next, pointcut, scope);
+                fields.extend((number + 1).to_le_bytes());
             }
         }
     }

@@ -28,6 +28,7 @@ impl Maker<'_> {
                 let bodies = methods.into_iter().map(|(p, of)| self.term(of, p, &inner, depth - 1)).collect();
                 self.program.object(of, bodies)
             }
+            Shape::Stack if self.random.chance(30) => self.matching(of, at, scope, depth),
             _ => self.smallest(of, at, scope),
         }
     }

@@ -1,8 +1,9 @@
 //! Damage to an image, so that it is refused in every way.
 use crate::random::Random;
 
-/// Kinds whose lengths are exact: object types, pointcut terms and objects.
-pub const EXACT: [u16; 3] = [25, 46, 54];
+/// Kinds whose lengths are exact: object types, pointcut terms, objects and matches.
+pub const EXACT: [u16; 4] = [25, 46, 54, MATCH];
+const MATCH: u16 = 58;
 
 /// One to three random changes.
 pub fn damage(random: &mut Random, image: &mut Vec<u8>) {
@@ -88,14 +89,17 @@ fn change_records(random: &mut Random, image: &mut Vec<u8>) {
     }
 }
 
-/// One method, label or body more or less in a record of exact lengths: the last one is doubled or left out.
+/// One method, label, body or entry more or less in a record of exact lengths: the last one is doubled or left out. The
+/// close of a match, behind its entries, stays.
 fn change_groups(random: &mut Random, image: &mut Vec<u8>) {
     let word = |at: usize| u16::from_le_bytes([image[at], image[at + 1]]);
     let exact: Vec<usize> = records(image).into_iter().filter(|at| EXACT.contains(&word(at + 2))).collect();
     let Some(at) = random.pick(&exact) else { return };
     let group = if word(at + 2) == 25 { 4 } else { 2 };
-    let (length, end) = (word(at), at + usize::from(word(at)));
-    if length < 8 || end > image.len() {
+    let length = word(at);
+    let close = if word(at + 2) == MATCH { 2 } else { 0 };
+    let end = (at + usize::from(length)).saturating_sub(close);
+    if length < 8 || end + close > image.len() {
         return;
     }
     let last = image[end - group..end].to_vec();
@@ -126,7 +130,8 @@ fn change_field(random: &mut Random, image: &mut [u8]) {
     }
 }
 
-/// Changes the number of a variable or a method, a mask, or the domain of a type or a lower: the layout stays whole.
+/// Changes the number of a variable or a method, a mask, the domain of a type or a lower, or the close of a match: the
+/// layout stays whole.
 fn change_meaning(random: &mut Random, image: &mut [u8]) {
     let word = |at: usize| usize::from(u16::from_le_bytes([image[at], image[at + 1]]));
     let fields: Vec<usize> = records(image)
@@ -135,6 +140,7 @@ fn change_meaning(random: &mut Random, image: &mut [u8]) {
             35 | 52 | 20..=23 => Some(at + 6),
             24 | 25 | 1 => Some(at + 4),
             55 => Some(at + 8),
+            58 => (at + word(at)).checked_sub(2),
             _ => None,
         })
         .collect();

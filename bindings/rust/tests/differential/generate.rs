@@ -61,7 +61,7 @@ impl<'r> Maker<'r> {
         if known.len() > 100 || (!known.is_empty() && self.random.chance(40)) {
             return known[self.random.below(known.len())];
         }
-        let choice = if depth == 0 { self.random.below(3) } else { self.random.below(14) };
+        let choice = if depth == 0 { self.random.below(3) } else { self.random.below(15) };
         let shape = match choice {
             0 => Shape::Unit,
             1 => Shape::Truth,
@@ -72,6 +72,7 @@ impl<'r> Maker<'r> {
             8 => Shape::Pointcut(self.any_type(depth - 1), self.any_domain()),
             9 => Shape::Advice(self.any_domain()),
             10 | 11 => Shape::Object(self.methods(depth)),
+            12 => Shape::Stack,
             _ => Shape::Number,
         };
         self.program.make(shape)
@@ -121,7 +122,9 @@ impl<'r> Maker<'r> {
             48..=55 => self.application(of, at, scope, depth),
             56..=61 => self.calling(of, at, scope, depth),
             62..=66 => self.reading(of, at, scope, depth),
-            67 if self.random.chance(10) => self.program.abort(of),
+            67..=70 => self.keeping(of, at, scope, depth),
+            71..=74 => self.matching(of, at, scope, depth),
+            75 if self.random.chance(10) => self.program.abort(of),
             _ => self.made(of, at, scope, depth),
         }
     }
@@ -221,6 +224,7 @@ impl<'r> Maker<'r> {
                 let bodies = methods.into_iter().map(|(p, of)| self.smallest(of, p, &inner)).collect();
                 self.program.object(of, bodies)
             }
+            Shape::Stack => self.program.stack(),
             Shape::Reference(..) | Shape::Label(..) => self.program.abort(of),
         }
     }

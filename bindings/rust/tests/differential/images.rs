@@ -2,6 +2,7 @@
 use crate::damage;
 use crate::generate::Maker;
 use crate::random::Random;
+use crate::stack_images;
 use crate::watched;
 use bukzarn::program::{Shape, Term, Type};
 
@@ -10,7 +11,8 @@ pub fn image(random: &mut Random) -> Vec<u8> {
     let mut image = match random.below(10) {
         0 | 1 => looped(random, knot),
         2 => looped(random, object_knot),
-        3..=5 => watched::image(random),
+        3 | 4 => watched::image(random),
+        5 | 6 => stack_images::image(random),
         _ => straight(random),
     };
     if random.chance(20) {
@@ -154,11 +156,11 @@ fn turn(maker: &mut Maker, function: &Term, argument: &Term, scope: &[Type]) -> 
     maker.program.sequence(statement, call)
 }
 
-/// A statement that takes room each time: a cell, a label, a piece, installed advice, or a record of log.
+/// A statement that takes room each time: a cell, a label, a piece, installed advice, a record of log, or a stack.
 fn take_room(maker: &mut Maker, argument: &Term, scope: &[Type]) -> Term {
     let number = maker.program.number_type();
     let p = maker.domain_below(0);
-    let value = match maker.random.below(5) {
+    let value = match maker.random.below(6) {
         0 => maker.program.new_cell(p, argument.clone()),
         1 => maker.program.new_label(number, p),
         2 => maker.program.pair(argument.clone(), argument.clone()),
@@ -167,6 +169,7 @@ fn take_room(maker: &mut Maker, argument: &Term, scope: &[Type]) -> Term {
             let advice = maker.term(advice, 0, scope, 5);
             maker.program.install(advice)
         }
+        4 => maker.program.stack(),
         _ => maker.program.print(argument.clone()),
     };
     let unit = maker.program.unit();

@@ -14,6 +14,8 @@ mod objects;
 mod random;
 mod reference;
 mod rules;
+mod stack_images;
+mod stacks;
 mod watched;
 
 use compare::{compare, Given};
@@ -38,7 +40,7 @@ fn call(random: &mut Random, counts: &mut Counts, given: &Given) -> Result<Ran, 
 
 /// The images that are made for one refusal or outcome.
 fn made_images(random: &mut Random, counts: &mut Counts) {
-    for (number, image) in made::refused().into_iter().chain(objects::refused()) {
+    for (number, image) in made::refused().into_iter().chain(objects::refused()).chain(stacks::refused()) {
         let answer = call(random, counts, &made::ample(&image));
         assert_eq!(answer.err().map(|refused| refused.0), Some(number), "image made for refusal {number}");
     }
@@ -46,7 +48,7 @@ fn made_images(random: &mut Random, counts: &mut Counts) {
         let answer = call(random, counts, &given);
         assert_eq!(answer.err(), Some(Refused(number, 0)), "call made for refusal {number}");
     }
-    for (outcome, image) in made::ending().into_iter().chain(objects::ending()) {
+    for (outcome, image) in made::ending().into_iter().chain(objects::ending()).chain(stacks::ending()) {
         let budget = if outcome == 1 { 3 } else { u32::MAX };
         let ran =
             call(random, counts, &Given { budget, ..made::ample(&image) }).ok().expect("an image that is accepted");
@@ -74,7 +76,7 @@ fn steps_of(ran: &Ran) -> u32 {
 
 /// Every case of the rules, in small images.
 fn rule_images(random: &mut Random, counts: &mut Counts) {
-    for image in rules::type_rules().iter().chain(&rules::domain_rules()) {
+    for image in rules::type_rules().iter().chain(&rules::match_rules()).chain(&rules::domain_rules()) {
         let given = Given { log: 0, ..made::ample(image) };
         let answer = call(random, counts, &given);
         counts.image(&answer);

@@ -6,7 +6,7 @@ use crate::made::record;
 type Others = &'static [u16];
 
 /// Kinds with children: how many, the fields before them, the fields behind them.
-const KINDS: [(u16, usize, Others, Others); 24] = [
+const KINDS: [(u16, usize, Others, Others); 27] = [
     (36, 2, &[], &[]),
     (37, 1, &[], &[]),
     (38, 3, &[], &[]),
@@ -30,11 +30,14 @@ const KINDS: [(u16, usize, Others, Others); 24] = [
     (55, 1, &[], &[0]),
     (55, 1, &[], &[1]),
     (55, 1, &[], &[2]),
+    (57, 3, &[], &[]),
+    (58, 3, &[], &[0]),
+    (58, 3, &[], &[1]),
     (60, 1, &[], &[]),
 ];
 
 /// Kinds without children.
-const LEAVES: [(u16, Others); 5] = [(32, &[]), (33, &[1]), (34, &[5, 0]), (44, &[]), (53, &[])];
+const LEAVES: [(u16, Others); 6] = [(32, &[]), (33, &[1]), (34, &[5, 0]), (44, &[]), (53, &[]), (56, &[])];
 
 /// Every choice of `n` numbers below `limit`.
 fn choices(n: usize, limit: u16) -> Vec<Vec<u16>> {
@@ -59,13 +62,16 @@ fn types() -> Vec<Vec<u8>> {
         record(24, &[0]),
         record(25, &[0, 2]),
         record(25, &[0, 2, 0, 1]),
+        record(26, &[]),
     ]
 }
 
-/// Aborts of these types, and over them a term of this kind and type as the root.
+/// Aborts of these types, and over them a term of this kind and type as the root; a match's children behind its
+/// branches are its entries.
 fn over_aborts(kind: u16, between: Others, behind: Others, own: u16, children: &[u16]) -> Vec<u8> {
     let mut image: Vec<u8> = children.iter().flat_map(|of| record(53, &[*of])).collect();
-    let numbers: Vec<u16> = (0..children.len() as u16).collect();
+    let number = |i: u16| if kind == 58 && i > 2 { i + 1 } else { i };
+    let numbers: Vec<u16> = (0..children.len() as u16).map(number).collect();
     image.extend(record(kind, &[&[own], between, &numbers, behind].concat()));
     image
 }
@@ -83,6 +89,44 @@ pub fn type_rules() -> Vec<Vec<u8>> {
         }
     }
     images
+}
+
+/// The types of `types` that matches are made of.
+const TRUTH_AND_NUMBER: [u16; 2] = [1, 2];
+const POINTCUT: u16 = 8;
+const STACK: u16 = 12;
+
+/// Matches of a stack over numbers: entries of each type; and in the first branch, under no pointcut, one or two and
+/// with each close, a variable by each number and of each type.
+pub fn match_rules() -> Vec<Vec<u8>> {
+    let mut types = types();
+    let (count, [truth, number]) = (types.len() as u16 + 1, TRUTH_AND_NUMBER);
+    types.push(record(23, &[truth, 0]));
+    let head = [record(1, &[1]), types.concat()].concat();
+    let mut images = vec![];
+    for choice in choices(2, count) {
+        images.push(
+            [&head[..], &over_aborts(58, &[], &[0], number, &[STACK, number, number, choice[0], choice[1]])].concat(),
+        );
+    }
+    for pointcuts in [&[][..], &[POINTCUT], &[count - 1, POINTCUT]] {
+        for choice in choices(3, count) {
+            let (close, k, of) = (choice[0], choice[1], choice[2]);
+            if close < 2 && k < 4 {
+                images.push([&head[..], &match_of(pointcuts, close, record(35, &[of, k]), of)].concat());
+            }
+        }
+    }
+    images
+}
+
+/// A match of a stack with such pointcuts between entries for anything, with this first branch of this type, as the
+/// root.
+fn match_of(pointcuts: &[u16], close: u16, yes: Vec<u8>, of: u16) -> Vec<u8> {
+    let aborts = pointcuts.iter().flat_map(|cut| record(53, &[*cut]));
+    let entries = (0..pointcuts.len() as u16).flat_map(|i| [i + 4, 0]);
+    let fields: Vec<u16> = [of, 0, 1, 2].into_iter().chain(entries).chain([close]).collect();
+    [record(56, &[STACK]), yes, record(53, &[of]), aborts.collect(), record(58, &fields)].concat()
 }
 
 /// Domains 3 below 1 and 2, both below 0: 1 and 2 are not ordered.
@@ -109,7 +153,8 @@ struct Case {
 
 const NUMBER: u16 = 18;
 const UNIT: u16 = 16;
-const CASES: [Case; 15] = [
+const STACK_KIND: u16 = 26;
+const CASES: [Case; 17] = [
     Case { kind: 42, own: NUMBER, children: &[20, NUMBER], behind: &[] },
     Case { kind: 45, own: UNIT, children: &[22, NUMBER], behind: &[] },
     Case { kind: 44, own: 22, children: &[], behind: &[] },
@@ -125,6 +170,8 @@ const CASES: [Case; 15] = [
     Case { kind: 54, own: 25, children: &[NUMBER, NUMBER], behind: &[] },
     Case { kind: 55, own: NUMBER, children: &[25], behind: &[0] },
     Case { kind: 55, own: NUMBER, children: &[25], behind: &[1] },
+    Case { kind: 57, own: NUMBER, children: &[22, NUMBER, NUMBER], behind: &[] },
+    Case { kind: 58, own: NUMBER, children: &[STACK_KIND, NUMBER, NUMBER, 23, 23], behind: &[1] },
 ];
 
 /// The number of a type in an image, which gets it if it is new.
@@ -143,6 +190,7 @@ fn at_domain(case: &Case, c: u16, domains: &[u16]) -> Vec<u8> {
     let mut of = |kind: u16| match kind {
         NUMBER => 0,
         UNIT => 1,
+        STACK_KIND => number(&mut types, record(STACK_KIND, &[])),
         _ => number(&mut types, type_at(kind, *domains.next().unwrap())),
     };
     let own = of(case.own);

@@ -28,6 +28,10 @@ enum Field {
     Domain,
     Op,
     Truth,
+    /// An entry of a match: 0, or one more than a term below the record's own.
+    Entry,
+    /// The close of a match: 0 or 1.
+    Close,
     /// A mask, a variable, half a number, a method's number.
     Any,
 }
@@ -36,36 +40,37 @@ enum Field {
 fn section(kind: u16) -> Option<usize> {
     match kind {
         1 => Some(0),
-        16..=25 => Some(1),
-        32..=55 | 60 => Some(2),
+        16..=26 => Some(1),
+        32..=58 | 60 => Some(2),
         _ => None,
     }
 }
 
-/// Kinds whose length says how often a group of fields stands, so that no bytes may stand behind these (cards 1 and 3).
-const EXACT: [u16; 3] = [25, 46, 54];
+/// Kinds whose length says how often a group of fields stands, so that no bytes may stand behind these (cards 1, 3
+/// and 6).
+const EXACT: [u16; 4] = [25, 46, 54, 58];
 
-/// How often a group of so many bytes stands behind the first ones of a record, if that is from least to 8 times.
-fn groups(length: usize, first: usize, group: usize, least: usize) -> usize {
-    (length.saturating_sub(first) / group).clamp(least, 8)
+/// How often a group of so many bytes stands beside the other ones of a record, if that is from least to 8 times.
+fn groups(length: usize, others: usize, group: usize, least: usize) -> usize {
+    (length.saturating_sub(others) / group).clamp(least, 8)
 }
 
-/// The fields of a kind. A pointcut term has as many children as its length says; so have an object its bodies, and its
-/// type its methods, each a domain and a type.
+/// The fields of a kind. A pointcut term has as many children as its length says; so have an object its bodies, its
+/// type its methods, each a domain and a type, and a match its entries.
 fn fields(kind: u16, length: usize) -> Vec<Field> {
     use Field::*;
     match kind {
         1 => vec![Any],
-        16..=18 => vec![],
+        16..=18 | 26 => vec![],
         19 => vec![Part, Part],
         20 => vec![Part, Domain, Part],
         21..=23 => vec![Part, Domain],
         24 => vec![Domain],
-        32 | 44 | 53 => vec![Type],
+        32 | 44 | 53 | 56 => vec![Type],
         33 => vec![Type, Truth],
         34 => vec![Type, Any, Any],
         35 => vec![Type, Any],
-        38 => vec![Type, Child, Child, Child],
+        38 | 57 => vec![Type, Child, Child, Child],
         37 | 41 | 48 | 49 | 50 | 60 => vec![Type, Child],
         36 | 39 | 40 | 42 | 45 | 47 | 51 => vec![Type, Child, Child],
         43 => vec![Type, Op, Child, Child],
@@ -73,6 +78,10 @@ fn fields(kind: u16, length: usize) -> Vec<Field> {
         46 => [Type].into_iter().chain((0..groups(length, 6, 2, 0)).map(|_| Child)).collect(),
         54 => [Type].into_iter().chain((0..groups(length, 6, 2, 1)).map(|_| Child)).collect(),
         55 => vec![Type, Child, Any],
+        58 => {
+            let entries = (0..groups(length, 14, 2, 0)).map(|_| Entry);
+            [Type, Child, Child, Child].into_iter().chain(entries).chain([Close]).collect()
+        }
         52 => vec![Type, Domain, Child],
         _ => unreachable!("section() knows the kinds"),
     }
@@ -89,7 +98,8 @@ impl Records {
             Field::Child => self.terms.len(),
             Field::Domain => self.domains.len(),
             Field::Op => 4,
-            Field::Truth => 2,
+            Field::Truth | Field::Close => 2,
+            Field::Entry => self.terms.len() + 1,
             Field::Any => return true,
         };
         usize::from(value) < limit

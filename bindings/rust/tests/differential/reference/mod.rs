@@ -1,16 +1,17 @@
-//! What a call answers and leaves, written from documents 01, 02 (cards 1 to 3 and 5) and 003 alone and as literally
+//! What a call answers and leaves, written from documents 01, 02 (cards 1 to 3, 5 and 6) and 003 alone and as literally
 //! as possible: the check rule by rule, the run by substitution. It shares no text with the engine.
 mod decode;
 mod layout;
 mod report;
 mod run;
 mod shape;
+mod stacks;
 mod step;
 mod term;
 mod typing;
 
 /// The published length of the work area, and the least length of a report.
-pub const WORK: usize = 31_753;
+pub const WORK: usize = 35_857;
 pub const REPORT: usize = 17_994;
 
 /// Number and place of a refusal.

@@ -2,14 +2,27 @@
 use super::layout::{Record, Records};
 use super::Refused;
 
-/// The children of a term record, in its order.
-pub fn children(record: &Record) -> &[u16] {
+/// The children of a term record, in its order. A match has its stack, its two branches, and the pointcuts of its
+/// entries; an entry 0 is no child.
+pub fn children(record: &Record) -> Vec<u16> {
+    let f = &record.fields;
     match record.kind {
-        32..=35 | 44 | 53 => &[],
-        43 | 52 => &record.fields[2..],
-        55 => &record.fields[1..2],
-        _ => &record.fields[1..],
+        32..=35 | 44 | 53 | 56 => vec![],
+        43 | 52 => f[2..].to_vec(),
+        55 => f[1..2].to_vec(),
+        58 => f[1..4].iter().copied().chain(entries(record).iter().filter_map(|entry| entry.checked_sub(1))).collect(),
+        _ => f[1..].to_vec(),
     }
+}
+
+/// The entries of a match: 0 for anything, else a pointcut's term number plus 1.
+pub fn entries(record: &Record) -> &[u16] {
+    &record.fields[4..record.fields.len() - 1]
+}
+
+/// Does a match bind the rest of the stack?
+pub fn binds_rest(record: &Record) -> bool {
+    record.fields.last() == Some(&1)
 }
 
 /// Is domain `d` at or below domain `q`?
@@ -31,7 +44,7 @@ fn at_fault(records: &Records, d: usize) -> bool {
 fn uses(terms: &[Record]) -> Vec<usize> {
     let mut uses = vec![0; terms.len()];
     for child in terms.iter().flat_map(children) {
-        uses[usize::from(*child)] += 1;
+        uses[usize::from(child)] += 1;
     }
     uses
 }
@@ -41,7 +54,7 @@ fn depths(terms: &[Record]) -> Vec<usize> {
     let mut depths = vec![1; terms.len()];
     for (number, term) in terms.iter().enumerate().rev() {
         for child in children(term) {
-            depths[usize::from(*child)] = depths[number] + 1;
+            depths[usize::from(child)] = depths[number] + 1;
         }
     }
     depths

@@ -1,6 +1,6 @@
 //! Refusals 13 to 16: the rules of figures 2 and 3, and document 01's domain rules.
 use super::layout::{Record, Records};
-use super::shape::{below, children};
+use super::shape::{below, binds_rest, children};
 use super::Refused;
 
 /// A type number and a domain number.
@@ -21,6 +21,7 @@ enum Shape {
     Advice(Domain),
     /// `methods` has what it is made of.
     Object,
+    Stack,
 }
 
 fn shape(records: &Records, of: Type) -> Shape {
@@ -35,7 +36,8 @@ fn shape(records: &Records, of: Type) -> Shape {
         22 => Shape::Label(f[0], f[1]),
         23 => Shape::Pointcut(f[0], f[1]),
         24 => Shape::Advice(f[0]),
-        _ => Shape::Object,
+        25 => Shape::Object,
+        _ => Shape::Stack,
     }
 }
 
@@ -73,11 +75,16 @@ pub fn plain(records: &Records, of: Type) -> bool {
     leaves(records)[usize::from(of)].is_some_and(|leaves| leaves <= 8)
 }
 
+/// The types that a term's children state.
+fn child_types(records: &Records, term: &Record) -> Vec<Type> {
+    children(term).iter().map(|e| records.terms[usize::from(*e)].fields[0]).collect()
+}
+
 /// The type rule of a term over its own stated type and those of its children.
 fn type_rule(records: &Records, term: &Record, scope: &[Type]) -> bool {
     use Shape::*;
     let own = term.fields[0];
-    let types: Vec<Type> = children(term).iter().map(|e| records.terms[usize::from(*e)].fields[0]).collect();
+    let types = child_types(records, term);
     let is = |of: Type, wanted: Shape| shape(records, of) == wanted;
     let child = |i: usize| shape(records, types[i]);
     match term.kind {
@@ -108,6 +115,12 @@ fn type_rule(records: &Records, term: &Record, scope: &[Type]) -> bool {
         53 => true,
         54 => is(own, Object) && methods(records, own).iter().map(|(_, of)| *of).eq(types),
         55 => called(records, term).is_some_and(|(_, of)| of == own),
+        56 => is(own, Stack),
+        57 => matches!(child(0), Label(a, _) if a == types[1]) && types[2] == own,
+        58 => {
+            let pointcuts = types[3..].iter().all(|t| matches!(shape(records, *t), Pointcut(..)));
+            is(types[0], Stack) && types[1] == own && types[2] == own && pointcuts
+        }
         60 => is(own, Number) && is(types[0], Number),
         _ => unreachable!("a term's kind"),
     }
@@ -124,12 +137,12 @@ fn domain(records: &Records, of: Type) -> usize {
 
 /// The domain rule of a term that meets its type rule, at current domain c.
 fn domain_rule(records: &Records, term: &Record, c: usize) -> bool {
-    let types: Vec<Type> = children(term).iter().map(|e| records.terms[usize::from(*e)].fields[0]).collect();
+    let types = child_types(records, term);
     let own = || domain(records, term.fields[0]);
     let child = |i: usize| domain(records, types[i]);
     let le = |p, q| below(records, p, q);
     match term.kind {
-        42 | 45 => child(0) == c,
+        42 | 45 | 57 => child(0) == c,
         44 | 49 => le(own(), c),
         48 | 51 => le(child(0), c),
         50 => le(c, child(0)),
@@ -176,8 +189,20 @@ fn inside(records: &Records, term: &Record, i: usize, c: usize) -> (usize, Vec<T
         },
         (52, 0, _) => (usize::from(term.fields[1]), vec![]),
         (54, _, Shape::Object) => (usize::from(methods(records, own)[i].0), vec![own]),
+        (58, 1, _) => (c, matched(records, term)),
         _ => (c, vec![]),
     }
+}
+
+/// The types of the variables that a match's first branch gains: the values of its pointcuts, left to right, then the
+/// rest of the stack (document 02, card 6).
+fn matched(records: &Records, term: &Record) -> Vec<Type> {
+    let types = child_types(records, term);
+    let values = types[3..].iter().map(|t| match shape(records, *t) {
+        Shape::Pointcut(a, _) => a,
+        _ => unreachable!("the type rule of match"),
+    });
+    values.chain(binds_rest(term).then_some(types[0])).collect()
 }
 
 pub fn check(records: &Records) -> Result<(), Refused> {

@@ -1,6 +1,6 @@
 -- `check_rules::objects::bodies_fit` meets its contract: so far each body is of its method's type.
 use native.Mathlib.Omega.{arith}
-use mathlib.Core.Path.{_≡_, sym, _∙_}
+use mathlib.Core.Path.{refl, _≡_, sym, _∙_}
 use denote.Ref.{now}
 use Prim.Native.Nat.{_+_, _-_, _*_, _≤_}
 use lib.ListN.{getD, drop}
@@ -60,7 +60,7 @@ loop-again c =
     let ts = typesIn (now (a .image)) (now (a .fields)) TermKind.obj in
     let i = c .before .before .before .before .before .loop .i in
     let k = c .before .before .before .before .before .before .bodies-in .ensures in
-    let n = types-length (now (a .image)) (now (a .fields)) TermKind.obj in
+    let n = types-length (now (a .image)) (now (a .fields)) TermKind.obj refl in
     let l = body-at (now (a .image)) (now (a .fields)) i (omega arith) in
     let e : eqb (typeField (recordsOf (now (a .image))) (a .t .0) (2 * i + 1)) (getD ts i 0) ≡ c .before .same-type .result = sym (c .before .same-type .ensures ∙ simp (c .before .before .method-type .ensures, c .before .before .before .type-at-field .ensures .0, ← l)) in
     (omega arith, fit-more (recordsOf (now (a .image))) (describe (recordsOf (now (a .image))) (a .t .0)) ts i (omega arith) (e ∙ c .if1 .taken) ∙ c .before .before .before .before .before .loop .inv .1)
@@ -71,7 +71,7 @@ returns c =
     let ts = typesIn (now (a .image)) (now (a .fields)) TermKind.obj in
     let i = c .before .before .before .before .before .loop .i in
     let k = c .before .before .before .before .before .before .bodies-in .ensures in
-    let n = types-length (now (a .image)) (now (a .fields)) TermKind.obj in
+    let n = types-length (now (a .image)) (now (a .fields)) TermKind.obj refl in
     let l = body-at (now (a .image)) (now (a .fields)) i (omega arith) in
     let e : eqb (typeField (recordsOf (now (a .image))) (a .t .0) (2 * i + 1)) (getD ts i 0) ≡ c .before .same-type .result = sym (c .before .same-type .ensures ∙ simp (c .before .before .method-type .ensures, c .before .before .before .type-at-field .ensures .0, ← l)) in
     fit-fails (recordsOf (now (a .image))) (describe (recordsOf (now (a .image))) (a .t .0)) ts i (omega arith) (e ∙ c .if1 .left) ∙ c .before .before .before .before .before .loop .inv .1
@@ -81,7 +81,7 @@ returns-2 c =
     let a = c .before .before .before .before .before .before .before .args in
     let ts = typesIn (now (a .image)) (now (a .fields)) TermKind.obj in
     let k = c .before .before .bodies-in .ensures in
-    let n = types-length (now (a .image)) (now (a .fields)) TermKind.obj in
+    let n = types-length (now (a .image)) (now (a .fields)) TermKind.obj refl in
     fit-ends (recordsOf (now (a .image))) (describe (recordsOf (now (a .image))) (a .t .0)) ts (c .before .loop .i) (omega arith) ∙ c .before .loop .inv .1
 
 pub bodies-fit-spec : {M : Type 1} → statement M

@@ -10,7 +10,8 @@ use Rattle.image.specs.Kinds.{TermKind}
 use Rattle.image.specs.Layout.{recordsOf}
 use Rattle.image.specs.Types.{termKind}
 use Rattle.check_rules.proofs.Elimination.{last-kind}
-use Rattle.check_rules.proofs.Located.{number-is, kind-is, typed-in, at-field-in, labels-in, bodies-in, call-long}
+use Rattle.check_rules.proofs.Located.{number-is, kind-is, typed-in, at-field-in, labels-in, bodies-in, call-long, entries-in}
+use Rattle.check_rules.proofs.Counts.{match-count}
 use Rattle.check_rules.proofs.Verdict.{verdict-in}
 use Rattle.check_rules.proofs.OnDescriptors.{abort-right}
 use Rattle.image.specs.Types.{termPlace}
@@ -138,6 +139,25 @@ check-call-requires c κs =
     let s = c .before .before .before .before .before .before .before .before in
     let e = kind-is (s .pre .0 .terms) (s .pre .2) TermKind.call (sym (c .before .term-kind .ensures) ∙ c .match .keys20) in
     rw (c .before .before .term-fields .ensures) (s .pre .0, s .pre .1, typed-in (s .pre .0 .terms) (s .pre .2), at-field-in (s .pre .0 .terms) (s .pre .2) e 0 (lit< tt), call-long (s .pre .0 .terms) (s .pre .2) e)
+
+check-stack-requires : tie.Need-check-stack-requires
+check-stack-requires c κs =
+    let s = c .before .before .before .before .before .before .before .before in
+    let e = kind-is (s .pre .0 .terms) (s .pre .2) TermKind.stack (sym (c .before .term-kind .ensures) ∙ c .match .keys21) in
+    rw (c .before .before .term-fields .ensures) (s .pre .0 .types, typed-in (s .pre .0 .terms) (s .pre .2))
+
+check-keep-requires : tie.Need-check-keep-requires
+check-keep-requires c κs =
+    let s = c .before .before .before .before .before .before .before .before in
+    let e = kind-is (s .pre .0 .terms) (s .pre .2) TermKind.keep (sym (c .before .term-kind .ensures) ∙ c .match .keys22) in
+    rw (c .before .before .term-fields .ensures) (s .pre .0, typed-in (s .pre .0 .terms) (s .pre .2), at-field-in (s .pre .0 .terms) (s .pre .2) e 0 (lit< tt), at-field-in (s .pre .0 .terms) (s .pre .2) e 1 (lit< tt), at-field-in (s .pre .0 .terms) (s .pre .2) e 2 (lit< tt))
+
+check-match-requires : tie.Need-check-match-requires
+check-match-requires c κs =
+    let s = c .before .before .before .before .before .before .before .before in
+    let e = kind-is (s .pre .0 .terms) (s .pre .2) TermKind.match (sym (c .before .term-kind .ensures) ∙ c .match .keys23) in
+    let n = match-count (fieldsOf (now (s .args .image)) (s .args .n .0)) in
+    rw (c .before .before .term-fields .ensures) (s .pre .0, typed-in (s .pre .0 .terms) (s .pre .2), at-field-in (s .pre .0 .terms) (s .pre .2) e 0 (omega arith), at-field-in (s .pre .0 .terms) (s .pre .2) e 1 (omega arith), at-field-in (s .pre .0 .terms) (s .pre .2) e 2 (omega arith), entries-in (s .pre .0 .terms) (s .pre .2) e)
 
 check-byte-requires : tie.Need-check-byte-requires
 check-byte-requires c κs =
@@ -268,6 +288,24 @@ returns-20 c =
 returns-21 : tie.Need-returns-21
 returns-21 c =
     let s = c .before .before .before .before .before .before .before .before .before in
+    let e = kind-is (s .pre .0 .terms) (s .pre .2) TermKind.stack (sym (c .before .before .term-kind .ensures) ∙ c .before .match .keys21) in
+    λ Γ. c .check-stack .ensures (record { context = Γ; dom = s .args .c .0 }) ∙ rw (c .before .before .before .before .term-place .ensures .0, c .before .before .before .term-fields .ensures) (verdict-in (s .pre .0 .terms) (s .pre .2) e (record { context = Γ; dom = s .args .c .0 }))
+
+returns-22 : tie.Need-returns-22
+returns-22 c =
+    let s = c .before .before .before .before .before .before .before .before .before in
+    let e = kind-is (s .pre .0 .terms) (s .pre .2) TermKind.keep (sym (c .before .before .term-kind .ensures) ∙ c .before .match .keys22) in
+    λ Γ. c .check-keep .ensures Γ ∙ rw (c .before .before .before .before .term-place .ensures .0, c .before .before .before .term-fields .ensures) (verdict-in (s .pre .0 .terms) (s .pre .2) e (record { context = Γ; dom = s .args .c .0 }))
+
+returns-23 : tie.Need-returns-23
+returns-23 c =
+    let s = c .before .before .before .before .before .before .before .before .before in
+    let e = kind-is (s .pre .0 .terms) (s .pre .2) TermKind.match (sym (c .before .before .term-kind .ensures) ∙ c .before .match .keys23) in
+    λ Γ. c .check-match .ensures (record { context = Γ; dom = s .args .c .0 }) ∙ rw (c .before .before .before .before .term-place .ensures .0, c .before .before .before .term-fields .ensures) (verdict-in (s .pre .0 .terms) (s .pre .2) e (record { context = Γ; dom = s .args .c .0 }))
+
+returns-24 : tie.Need-returns-24
+returns-24 c =
+    let s = c .before .before .before .before .before .before .before .before .before in
     let e = last-kind _ (c .before .match .rest) (termKind (recordsOf (now (s .args .image))) (s .args .n .0)) (c .before .before .term-kind .ensures ∙ number-is (s .pre .0 .terms) (s .pre .2)) (rw (c .before .before .term-kind .ensures) (s .pre .3)) in
     λ Γ. c .check-byte .ensures (record { context = Γ; dom = s .args .c .0 }) ∙ rw (c .before .before .before .before .term-place .ensures .0, c .before .before .before .term-fields .ensures) (verdict-in (s .pre .0 .terms) (s .pre .2) e (record { context = Γ; dom = s .args .c .0 }))
 
@@ -297,6 +335,9 @@ check-rule-spec =
     check-lower-requires
     check-object-requires
     check-call-requires
+    check-stack-requires
+    check-keep-requires
+    check-match-requires
     check-byte-requires
     returns
     returns-2
@@ -318,4 +359,7 @@ check-rule-spec =
     returns-18
     returns-19
     returns-20
-    returns-21)
+    returns-21
+    returns-22
+    returns-23
+    returns-24)

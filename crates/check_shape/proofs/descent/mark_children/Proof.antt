@@ -1,125 +1,42 @@
--- The loop marks one child after another; the rest of the list is left.
-use Rattle.check_shape.proofs.TermRecords.{children-length, child-is}
-use Prim.Native.Nat.{_+_, _-_, _*_, _≤_, _<_}
-use native.Mathlib.Omega.{arith}
-use mathlib.Core.Path.{_≡_, refl, ap, sym, _∙_}
-use lib.ListN.{length, getD, drop, set}
-use denote.Ref.{now}
-use Rattle.image.proofs.Words.{words-length, words-at}
-use Rattle.verdict.specs.Shape.{setAll}
-use Rattle.check_records.specs.Codes.{countOf, childrenIn}
-use Rattle.check_records.specs.Heads.{fieldIn, childrenOf}
-use Rattle.check_shape.specs.Marks.{lowered, lowAll}
-use Rattle.check_shape.proofs.UseCounts.{low-next, low-end}
-use Rattle.check_shape.proofs.DepthMarks.{set-next, set-end}
+-- `check_shape::descent::mark_children` meets its contract: the children side by side, then those of the entries.
 use borrow.Author.Needs.{needs}
+use mathlib.Core.Path.{subst, sym, _∙_}
+use denote.Ref.{now}
+use Rattle.check_records.specs.Heads.{sideOf, entriesOf}
+use Rattle.check_shape.specs.Records.{Lower}
+use Rattle.check_shape.proofs.TermRecords.{lower-first, lower-rest}
+use Rattle.check_shape.proofs.UseCounts.{low-append}
+use Rattle.check_shape.proofs.DepthMarks.{set-append}
 use Rattle.check_shape.proofs.descent.mark_children.Statement.{statement}
 use Rattle.check_shape.proofs.descent.mark_children.Tie as tie
 
-abbrev Inv-loop : tie.InvT-loop
-Inv-loop fields code d depths₀ first count next₀ j₀ depths next j =
-    (j ≤ count)
-    × (length depths ≡ length depths₀)
-    × (lowAll (childrenOf code fields) d (next₀ .0) depths₀ ≡ lowAll (drop j (childrenOf code fields)) d (next .0) depths)
-    × (setAll (childrenOf code fields) d depths₀ ≡ setAll (drop j (childrenOf code fields)) d depths)
-
-abbrev μ-loop : tie.MeasureT-loop
-μ-loop fields code d depths₀ first count next₀ j₀ depths next j = count - j
-
-field-count-requires : tie.Need-field-count-requires Inv-loop μ-loop
-field-count-requires c κs = search needs
-
-child-count-requires : tie.Need-child-count-requires Inv-loop μ-loop
-child-count-requires c κs = search needs
-
-loop-holds : tie.Need-loop-holds Inv-loop μ-loop
-loop-holds c = (search needs, refl, refl, refl)
-
-add-term-field : tie.Need-add-term-field Inv-loop μ-loop
-add-term-field c = search needs
-
-term-field-requires : tie.Need-term-field-requires Inv-loop μ-loop
-term-field-requires c κs =
-    let p = c .before .before .before .before .before .before .pre .0 in
-    omega (arith, c .before .before .child-count .ensures, c .before .before .before .field-count .ensures)
-
-mark-of-requires : tie.Need-mark-of-requires Inv-loop μ-loop
-mark-of-requires c κs =
-    let s = c .before .before .before .before .before .before .before .before in
-    let l = c .before .before .before .loop in
-    let x = s .args .code in
+mark-side-requires : tie.Need-mark-side-requires
+mark-side-requires c κs =
+    let s = c .before .before .before in
     let fs = now (s .args .fields) in
-    let n : l .j < childrenIn x (length fs) = omega (arith, c .before .before .before .before .child-count .ensures) in
-    let e : c .before .term-field .result .0 ≡ getD (childrenOf x fs) (l .j) 0 = c .before .term-field .ensures ∙ ap (λ k. fieldIn fs (k + l .j)) (c .before .before .before .before .before .field-count .ensures) ∙ child-is x fs (l .j) n in
-    let h = s .pre .1 .at (l .j) (rw (children-length x fs) n) in
-    omega arith
+    (s .pre .0, lower-first _ (sideOf (s .args .code) fs) (entriesOf (s .args .code) fs) (s .pre .1))
 
-lowest-requires : tie.Need-lowest-requires Inv-loop μ-loop
-lowest-requires c κs = search needs
-
-set-mark-requires : tie.Need-set-mark-requires Inv-loop μ-loop
-set-mark-requires c κs =
-    let s = c .before .before .before .before .before .before .before .before .before .before .before in
-    let t = c .before .before .before .before in
-    let l = c .before .before .before .before .before .before .loop in
-    let x = s .args .code in
+mark-entries-requires : tie.Need-mark-entries-requires
+mark-entries-requires c κs =
+    let m = c .before .before .before .mark-side in
+    let s = c .before .before .before .before .before .before .before in
     let fs = now (s .args .fields) in
-    let n : l .j < childrenIn x (length fs) = omega (arith, c .before .before .before .before .before .before .before .child-count .ensures) in
-    let e : t .term-field .result .0 ≡ getD (childrenOf x fs) (l .j) 0 = t .term-field .ensures ∙ ap (λ k. fieldIn fs (k + l .j)) (c .before .before .before .before .before .before .before .before .field-count .ensures) ∙ child-is x fs (l .j) n in
-    let h = s .pre .1 .at (l .j) (rw (children-length x fs) n) in
-    omega arith
+    (s .pre .0, subst (λ n. Lower n (entriesOf (s .args .code) fs)) (sym (m .kept .1 .1 .1 .1 .0)) (lower-rest _ (sideOf (s .args .code) fs) (entriesOf (s .args .code) fs) (s .pre .1)))
 
-add-j : tie.Need-add-j Inv-loop μ-loop
-add-j c = search needs
-
-loop-less : tie.Need-loop-less Inv-loop μ-loop
-loop-less c = search needs
-
-loop-again : tie.Need-loop-again Inv-loop μ-loop
-loop-again c =
-    let l = c .before .before .before .before .before .before .before .before .before .loop in
-    let a = c .before .before .before .before .before .before .before .before .before .before .before .before .before .before .args in
-    let x = a .code in
-    let fs = now (a .fields) in
-    let cs = childrenOf x fs in
-    let t = c .before .before .before .before .before .before .before in
-    let n : l .j < childrenIn x (length fs) = omega (arith, c .before .before .before .before .before .before .before .before .before .before .child-count .ensures) in
-    let h : l .j < length cs = rw (children-length x fs) n in
-    let e : t .term-field .result .0 ≡ getD cs (l .j) 0 = t .term-field .ensures ∙ ap (λ k. fieldIn fs (k + l .j)) (c .before .before .before .before .before .before .before .before .before .before .before .field-count .ensures) ∙ child-is x fs (l .j) n in
-    let m = c .before .before .set-mark in
-    let w = c .before .before .before .before in
-    let q : w .lowest .result .0 ≡ lowered (l .next .0) (getD (l .depths) (getD cs (l .j) 0) 0) (getD cs (l .j) 0) = rw (w .before .mark-of .ensures, e) at (w .lowest .ensures) in
-    let r : m .last .0 ≡ set (l .depths) (getD cs (l .j) 0) (a .d) = rw e at (m .ensures) in
-    let next : lowAll (drop (l .j) cs) (a .d) (l .next .0) (l .depths) ≡ lowAll (drop (l .j + 1) cs) (a .d) (w .lowest .result .0) (m .last .0) = rw (q, r) (low-next cs (l .depths) (a .d) (l .next .0) (l .j) h) in
-    (search needs, m .kept .0 ∙ l .inv .1, l .inv .2 ∙ next, l .inv .3 ∙ set-next cs (l .depths) (a .d) (l .j) h ∙ ap (λ ds. setAll (drop (l .j + 1) cs) (a .d) ds) (sym r))
-
-same-length : tie.Need-same-length Inv-loop μ-loop
+same-length : tie.Need-same-length
 same-length c = search needs
 
-returns : tie.Need-returns Inv-loop μ-loop
+returns : tie.Need-returns
 returns c =
-    let l = c .before .loop in
-    let a = c .before .before .before .before .before .before .args in
-    let cs = childrenOf (a .code) (now (a .fields)) in
-    let h : length cs ≤ l .j = rw (children-length (a .code) (now (a .fields))) (omega (arith, c .before .before .child-count .ensures)) in
-    (sym (l .inv .2 ∙ low-end cs (l .depths) (a .d) (l .next .0) (l .j) h), sym (l .inv .3 ∙ set-end cs (l .depths) (a .d) (l .j) h))
+    let m = c .before .before .mark-entries in
+    let t = c .before .before .before .before .before .before in
+    let side = t .mark-side in
+    let a = t .before .before .before .before .args in
+    let fs = now (a .fields) in
+    let es = sideOf (a .code) fs in
+    let gs = entriesOf (a .code) fs in
+    (rw (side .ensures .0, side .ensures .1) at (m .ensures .0) ∙ sym (low-append es gs (now (a .depths)) (a .d) (a .low .0)), rw (side .ensures .1) at (m .ensures .1) ∙ sym (set-append es gs (now (a .depths)) (a .d)))
 
 pub mark-children-spec : {M : Type 1} → statement M
 mark-children-spec =
-    tie.close
-    (tie.spec
-    Inv-loop
-    μ-loop
-    field-count-requires
-    child-count-requires
-    loop-holds
-    add-term-field
-    term-field-requires
-    mark-of-requires
-    lowest-requires
-    set-mark-requires
-    add-j
-    loop-less
-    loop-again
-    same-length
-    returns)
+    tie.close (tie.spec mark-side-requires mark-entries-requires same-length returns)

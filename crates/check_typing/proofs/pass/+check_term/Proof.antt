@@ -5,7 +5,7 @@ use Rattle.check_typing.proofs.pass.check_term.Reads as reads
 use Rattle.check_typing.proofs.pass.+check_term.Lts-check_term as lts
 use Rattle.check_typing.proofs.pass.+check_term.Proof.Cycle.{μ-check-term, check-term-at, claims}
 use Rattle.check_typing.proofs.pass.+check_term.Proof.Turn as turn
-use Rattle.check_typing.proofs.pass.+check_term.Proof.Turn.{Inv-loop, μ-loop, image-of, kind-of, setting-of, term-of, start-of, fields-of, numbered, kinded, whole, behind, passed, parent-of, lower, inside, room, scope-of, len-of, kept, small, leaf-is, goes-on, stops}
+use Rattle.check_typing.proofs.pass.+check_term.Proof.Turn.{Inv-loop, μ-loop, image-of, kind-of, setting-of, term-of, start-of, fields-of, numbered, kinded, whole, has, passed, parent-of, lower, inside, room, scope-of, len-of, kept, small, leaf-is, goes-on, stops}
 use Rattle.check_typing.proofs.pass.+check_term.{statement}
 use Rattle.check_typing.proofs.pass.+check_term.Tie.{close}
 use native.Mathlib.Omega.{arith}
@@ -18,7 +18,7 @@ use Rattle.verdict.proofs.Answered.{accepted-is}
 use Rattle.check_rules.specs.Lent.{contextIn}
 use Rattle.check_rules.proofs.Located.{typed-in}
 use Rattle.check_typing.proofs.TermPass.{front-start, refused-here, leaf-checked}
-use Rattle.check_typing.proofs.ScopeRoom.{two-more}
+use Rattle.check_typing.proofs.ScopeRoom.{more-room}
 mod Cycle
 mod Turn
 
@@ -29,7 +29,7 @@ module _ (t : ℕ) where
   check-leaf-requires : lts.Need-check-leaf-requires (claims t) (check-term-at t) reads.Post Inv-loop μ-loop
   check-leaf-requires c κs =
       let s = c .before .before .before .before .before .before .before in
-      let r = two-more (s .pre .1 .3) (s .pre .1 .1) in
+      let r = more-room (s .pre .1 .3) (s .pre .1 .1) in
       (s .pre .1 .0, s .pre .1 .1, leb-true _ _ (sym (c .before .before .is-leaf .ensures) ∙ c .before .if1 .taken), omega arith)
 
   -- A constant or a variable is checked by its rule alone.
@@ -74,25 +74,13 @@ module _ (t : ℕ) where
   loop-holds : lts.Need-loop-holds (claims t) (check-term-at t) reads.Post Inv-loop μ-loop
   loop-holds c = let s = start-of c in (omega arith, refl, refl, λ m e. sym (front-start (image-of s) (fields-of c) m (setting-of s)))
 
-  add-child-at-field : lts.Need-add-child-at-field (claims t) (check-term-at t) reads.Post Inv-loop μ-loop
-  add-child-at-field c =
+  child-of-requires : lts.Need-child-of-requires (claims t) (check-term-at t) reads.Post Inv-loop μ-loop
+  child-of-requires c κs =
       let d = c .before .before in
       let m = kind-of (start-of d) in
-      let e = d .lead-of .ensures m (numbered d) in
       let k = d .before .child-count .ensures m (numbered d) in
       let h = c .loop-test .taken in
-      let b = behind d m refl (c .before .loop .j) (omega arith) .long in
-      search needs
-
-  child-at-field-requires : lts.Need-child-at-field-requires (claims t) (check-term-at t) reads.Post Inv-loop μ-loop
-  child-at-field-requires c κs =
-      let d = c .before .before in
-      let m = kind-of (start-of d) in
-      let e = d .lead-of .ensures m (numbered d) in
-      let k = d .before .child-count .ensures m (numbered d) in
-      let h = c .loop-test .taken in
-      let b = behind d m refl (c .before .loop .j) (omega arith) .long in
-      omega arith
+      (m, (numbered d, d .lead-of .ensures m (numbered d), has d (c .before .loop .j) (omega arith)))
 
   child-setting-requires : lts.Need-child-setting-requires (claims t) (check-term-at t) reads.Post Inv-loop μ-loop
   child-setting-requires c κs =
@@ -107,7 +95,7 @@ module _ (t : ℕ) where
   check-leaf-requires-2 : lts.Need-check-leaf-requires-2 (claims t) (check-term-at t) reads.Post Inv-loop μ-loop
   check-leaf-requires-2 c κs =
       let x = c .before .before .before in
-      let r = two-more (room x) (inside x) in
+      let r = more-room (room x) (inside x) in
       (parent-of x .pre .1 .0, inside x, small (c .before .before) (c .before .if3 .taken), omega arith)
 
   is-refused-requires-2 : lts.Need-is-refused-requires-2 (claims t) (check-term-at t) reads.Post Inv-loop μ-loop
@@ -190,8 +178,7 @@ pub +check-term-spec : {M : Type 1} → statement M
     (child-count-requires t)
     (lead-of-requires t)
     (loop-holds t)
-    (add-child-at-field t)
-    (child-at-field-requires t)
+    (child-of-requires t)
     (child-setting-requires t)
     (is-leaf-requires-2 t)
     (check-leaf-requires-2 t)

@@ -2,11 +2,12 @@
 use Rattle.check_typing.proofs.scope.child_setting.Statement.{statement}
 use Rattle.check_typing.proofs.scope.child_setting.Tie as tie
 use native.Mathlib.Omega.{arith}
-use mathlib.Core.Path.{_≡_, sym, _∙_}
+use mathlib.Core.Path.{_≡_, refl, sym, _∙_}
 use denote.Ref.{now}
 use Rattle.image.specs.Kinds.{TermKind}
 use Rattle.image.proofs.KindNumbers.{same-term-kind}
-use Rattle.check_typing.proofs.ChildSettings.{same-at, split-first, advice-first}
+use Rattle.check_typing.proofs.ChildSettings.{same-at, split-first, advice-first, match-others}
+use Rattle.check_rules.proofs.Counts.{children-counted}
 
 function-setting-requires : tie.Need-function-setting-requires
 function-setting-requires c κs = let s = c .before .before .before .before .before .before .before in (s .pre .0 .types, s .pre .1 TermKind.fun (c .before .match .keys1) .0)
@@ -24,7 +25,12 @@ object-setting-requires : tie.Need-object-setting-requires
 object-setting-requires c κs =
     let s = c .before .before .before .before .before .before .before in
     let q = s .pre .1 TermKind.obj (c .before .match .keys5) in
-    (s .pre .2, q .0, q .1)
+    let n = children-counted (now (s .args .fields)) TermKind.obj refl in
+    let l = q .1 in
+    (s .pre .2, q .0, omega arith)
+
+match-setting-requires : tie.Need-match-setting-requires
+match-setting-requires c κs = let s = c .before .before .before .before .before .before .before .before in (s .pre .0, s .pre .1 TermKind.match (c .before .before .match .keys6) .0)
 
 returns : tie.Need-returns
 returns c =
@@ -32,6 +38,7 @@ returns c =
     λ k e.
     let z : k ≡ TermKind.fun = same-term-kind k TermKind.fun (sym e ∙ c .before .before .match .keys1) in
     let l = s .pre .1 TermKind.fun (c .before .before .match .keys1) .1 in
+    let n = children-counted (now (s .args .fields)) TermKind.fun refl in
     let i : s .args .i ≡ 0 = omega arith in
     rw (z, i) (c .function-setting .ensures)
 
@@ -41,6 +48,7 @@ returns-2 c =
     λ k e.
     let z : k ≡ TermKind.lower = same-term-kind k TermKind.lower (sym e ∙ c .before .before .match .keys2) in
     let l = s .pre .1 TermKind.lower (c .before .before .match .keys2) .1 in
+    let n = children-counted (now (s .args .fields)) TermKind.lower refl in
     let i : s .args .i ≡ 0 = omega arith in
     rw (z, i) (c .lower-setting .ensures)
 
@@ -81,6 +89,20 @@ returns-7 c =
 
 returns-8 : tie.Need-returns-8
 returns-8 c =
+    let s = c .before .before .before .before .before .before .before .before .before in
+    λ k e.
+    let z : k ≡ TermKind.match = same-term-kind k TermKind.match (sym e ∙ c .before .before .before .match .keys6) in
+    rw (z, c .before .before .if3 .taken) (c .match-setting .ensures)
+
+returns-9 : tie.Need-returns-9
+returns-9 c =
+    let s = c .before .before .before .before .before .before .before in
+    λ k e.
+    let z : k ≡ TermKind.match = same-term-kind k TermKind.match (sym e ∙ c .before .match .keys6) in
+    rw z (match-others (now (s .args .image)) (now (s .args .fields)) (now (s .args .scope)) (s .args .p .len) (s .args .p .dom .0) (s .args .i) (c .if3 .left))
+
+returns-10 : tie.Need-returns-10
+returns-10 c =
     let s = c .before .before .before .before .before .before in
     λ k e. same-at (now (s .args .image)) (now (s .args .fields)) (now (s .args .scope)) (s .args .p .len) (s .args .p .dom .0) (s .args .i) _ (c .match .rest) k e
 
@@ -93,6 +115,7 @@ child-setting-spec =
     split-setting-requires
     advice-setting-requires
     object-setting-requires
+    match-setting-requires
     returns
     returns-2
     returns-3
@@ -100,4 +123,6 @@ child-setting-spec =
     returns-5
     returns-6
     returns-7
-    returns-8)
+    returns-8
+    returns-9
+    returns-10)

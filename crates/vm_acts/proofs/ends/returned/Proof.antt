@@ -3,7 +3,7 @@ use denote.Ref.{now}
 use mathlib.Core.Path.{refl, ap}
 use Prim.Native.Nat.{_+_}
 use Rattle.vm_machine.specs.Registers.{setEnv, setRoom}
-use Rattle.vm_acts.proofs.Judged.{returned-made, returned-room}
+use Rattle.vm_acts.proofs.Judged.{returned-made}
 use borrow.Author.Needs.{needs}
 use Rattle.vm_acts.proofs.ends.returned.Statement.{statement}
 use Rattle.vm_acts.proofs.ends.returned.Tie as tie
@@ -30,7 +30,7 @@ add-q : tie.Need-add-q
 add-q c = search needs
 
 completed-requires : tie.Need-completed-requires
-completed-requires c κs = let s = c .before .before .before .before .before .before .before .before .before in (search needs, returned-room (now (s .args .code)) (s .args .f) _ _ (s .args .r .room) (c .before .before .before .before .before .before .slot-pc .ensures) (c .before .before .depth-of .ensures) (s .pre .2))
+completed-requires c κs = let s = c .before .before .before .before .before .before .before .before .before in (search needs, omega (arith, c .before .before .depth-of .ensures, s .pre .2))
 
 same-length : tie.Need-same-length
 same-length c = search needs

@@ -1,6 +1,7 @@
 use mathlib.Core.Path.{ap, _∙_}
 use Prim.Native.Nat.{_+_, _*_, _%_}
 use denote.Ref.{now}
+use native.Mathlib.Omega.{arith}
 use Rattle.image.specs.Bytes.{le16}
 use borrow.Author.Needs.{needs}
 use Rattle.vm_labels.proofs.children.child_at.Statement.{statement}
@@ -21,7 +22,7 @@ number-at-requires c κs = search needs
 returns : tie.Need-returns
 returns c =
     let a = c .before .before .before .args in
-    (c .number-at .ensures .0 ∙ ap (λ o. le16 (now (a .image)) (o + 2 * a .i) % 1024) (c .before .offset-of .ensures), c .number-at .ensures .1)
+    (ap (_% 1024) (c .number-at .ensures .0 ∙ ap (λ o. le16 (now (a .image)) (o + 2 * a .i)) (c .before .offset-of .ensures)), omega arith)
 
 pub child-at-spec : {M : Type 1} → statement M
 child-at-spec =

@@ -8,8 +8,8 @@ use Rattle.check_typing.proofs.pass.+check_term.Lts-check_term as lts
 use Rattle.check_rules.proofs.leaf.check_leaf.Reads as check-leaf-reads
 use Rattle.check_rules.proofs.leaf.is_leaf.Reads as is-leaf-reads
 use Rattle.check_rules.proofs.rule.check_rule.Reads as check-rule-reads
-use Rattle.check_rules.proofs.terms.child_at_field.Reads as child-at-field-reads
 use Rattle.check_rules.proofs.terms.child_count.Reads as child-count-reads
+use Rattle.check_rules.proofs.terms.child_of.Reads as child-of-reads
 use Rattle.check_rules.proofs.terms.lead_of.Reads as lead-of-reads
 use Rattle.check_rules.proofs.terms.term_fields.Reads as term-fields-reads
 use Rattle.check_rules.proofs.terms.term_kind.Reads as term-kind-reads
@@ -46,8 +46,8 @@ claims t = (
   child-count-reads.Learnt,
   lead-of-reads.Asked,
   lead-of-reads.Learnt,
-  child-at-field-reads.Asked,
-  child-at-field-reads.Learnt,
+  child-of-reads.Asked,
+  child-of-reads.Learnt,
   child-setting-reads.Asked,
   child-setting-reads.Learnt,
   check-term-below t,

@@ -19,15 +19,14 @@ use Rattle.verdict.specs.Answers.{isRefused}
 use Rattle.verdict.specs.Settings.{Setting}
 use Rattle.verdict.specs.Check.{checked}
 use Rattle.verdict.proofs.Answered.{accepted-is}
-use Rattle.check_records.specs.Heads.{fieldIn}
 use Rattle.check_rules.specs.Lent.{IsTerm, contextIn, settingIn}
-use Rattle.check_rules.specs.Fields.{fieldsOf, countIn, childrenIn, settingFrom, AtField}
+use Rattle.check_rules.specs.Fields.{fieldsOf, countIn, childrenIn, settingFrom, AtField, HasChild}
 use Rattle.check_rules.specs.Judged.{ruleVerdict}
-use Rattle.check_rules.proofs.Located.{number-is, kind-is, typed-in, children-in, count-is, child-in, child-lower, at-field-in}
+use Rattle.check_rules.proofs.Located.{number-is, kind-is, typed-in, children-in, child-lower, at-field-in, has-child, entries-in}
 use Rattle.check_rules.proofs.Verdict.{verdict-in}
 use Rattle.check_typing.specs.Turns.{Passed, ChildAt, Room}
 use Rattle.check_typing.proofs.TermPass.{front, front-next, front-stops, front-whole, types-fit, take-fewer, same-setting, leaf-checked}
-use Rattle.check_typing.proofs.ScopeRoom.{two-more, child-room}
+use Rattle.check_typing.proofs.ScopeRoom.{more-room, child-room}
 
 -- The children before child j pass, and the first places of the scope are kept.
 abbrev pub Inv-loop : lts.InvT-loop
@@ -100,12 +99,15 @@ module _ {t : ℕ} where
   whole c j h =
       let s = start-of c in
       let k = c .before .child-count .ensures (kind-of s) (numbered c) in
-      let n : countIn (fields-of c) (kind-of s) ≤ j = omega arith in
+      let n : length (childrenIn (fields-of c) (kind-of s)) ≤ j = omega arith in
       rw (fields-are c) (front-whole (s .pre .1 .0 .terms) (s .pre .1 .1) (setting-of s) (ruled (c .before .before .before .before) (contextIn (now (s .args .scope)) (s .args .len))) refl j (rw (fields-are c) at n))
 
   -- What child j asks of the term, whose kind is m.
   pub behind : (c : Counted t) (m : TermKind) → kind-of (start-of c) ≡ m → (i : ℕ) → i < countIn (fields-of c) m → AtField (image-of (start-of c)) (fields-of c) (leadOf m + i)
   behind c m e i l = let s = start-of c in rw (fields-are c) (at-field-in (s .pre .1 .0 .terms) (s .pre .1 .1) e i (rw (fields-are c) at l))
+
+  pub has : (c : Counted t) (i : ℕ) → i < length (childrenIn (fields-of c) (kind-of (start-of c))) → HasChild (fields-of c) (kind-of (start-of c)) i
+  has c i l = let s = start-of c in rw (fields-are c) (has-child (s .pre .1 .0 .terms) (s .pre .1 .1) refl i (rw (fields-are c) at l))
 
   pub passed : (c : Turn t) (m : TermKind) → kind-of (start-of (c .before)) ≡ m
       → Passed (image-of (start-of (c .before))) (fields-of (c .before)) m (c .loop .scope) (start-of (c .before) .args .len) (start-of (c .before) .args .c .0)
@@ -119,9 +121,10 @@ module _ {t : ℕ} where
       record {
         typed = rw (fields-are d) (typed-in T h);
         children = behind d m e;
+        entries = λ q. rw (fields-are d) (entries-in T h (e ∙ q));
         fits = rw (fields-are d) (types-fit _ _ a);
         places = c .loop .inv .1 ∙ s .pre .1 .3 .places;
-        room = two-more (s .pre .1 .3) h;
+        room = more-room (s .pre .1 .3) h;
       }
 
   -- Of a child: its turn and its term; the scope that it stands in, how many places of it are used, the domain, and its number.
@@ -141,36 +144,30 @@ module _ {t : ℕ} where
   dom-of c = c .before .child-setting .result .dom .0
 
   abbrev pub number-of : Child t → ℕ
-  number-of c = c .before .before .before .child-at-field .result .0
+  number-of c = c .before .before .before .child-of .result .0
 
   abbrev pub index-of : Child t → ℕ
   index-of c = turn-of c .loop .j
 
-  pub indexed : (c : Child t) (m : TermKind) → turn-of c .before .before .before .before .term-kind .result ≡ termRow m .number → index-of c < countIn (fields-of (turn-of c .before)) m
+  pub indexed : (c : Child t) (m : TermKind) → turn-of c .before .before .before .before .term-kind .result ≡ termRow m .number → index-of c < length (childrenIn (fields-of (turn-of c .before)) m)
   indexed c m e =
       let l = turn-of c in
       let k = l .before .before .child-count .ensures m e in
       let h = c .before .before .before .before .loop-test .taken in
       omega arith
 
-  -- Its number stands behind the fields and the children before it, and is lower than the term's.
-  index-in : (c : Child t) → index-of c < countIn (fieldsOf (image-of (parent-of c)) (parent-of c .args .n .0)) (kind-of (parent-of c))
-  index-in c = subst (λ fs. index-of c < countIn fs (kind-of (parent-of c))) (fields-are (turn-of c .before)) (indexed c (kind-of (parent-of c)) (numbered (turn-of c .before)))
+  -- It is one of the term's children, and lower than the term.
+  number-is-in : (c : Child t) (m : TermKind) → turn-of c .before .before .before .before .term-kind .result ≡ termRow m .number → number-of c ≡ getD (childrenIn (fields-of (turn-of c .before)) m) (index-of c) 0
+  number-is-in c m e = c .before .before .before .child-of .ensures m e
+
+  are-children : (c : Child t) → childrenIn (fields-of (turn-of c .before)) (kind-of (parent-of c)) ≡ children (recordsOf (image-of (parent-of c))) (parent-of c .args .n .0)
+  are-children c = let s = parent-of c in ap (λ fs. childrenIn fs (kind-of s)) (fields-are (turn-of c .before)) ∙ children-in (s .pre .1 .0 .terms) (s .pre .1 .1) refl
+
+  index-in : (c : Child t) → index-of c < length (children (recordsOf (image-of (parent-of c))) (parent-of c .args .n .0))
+  index-in c = subst (λ es. index-of c < length es) (are-children c) (indexed c (kind-of (parent-of c)) (numbered (turn-of c .before)))
 
   child-number : (c : Child t) → number-of c ≡ getD (children (recordsOf (image-of (parent-of c))) (parent-of c .args .n .0)) (index-of c) 0
-  child-number c =
-      let s = parent-of c in
-      let d = turn-of c .before in
-      c .before .before .before .child-at-field .ensures
-      ∙ ap (λ l. fieldIn (fields-of d) (l + index-of c)) (d .lead-of .ensures (kind-of s) (numbered d))
-      ∙ ap (λ fs. fieldIn fs (leadOf (kind-of s) + index-of c)) (fields-are d)
-      ∙ child-in (s .pre .1 .0 .terms) (s .pre .1 .1) refl (index-of c) (index-in c)
-
-  number-is-in : (c : Child t) (m : TermKind) → turn-of c .before .before .before .before .term-kind .result ≡ termRow m .number → number-of c ≡ getD (childrenIn (fields-of (turn-of c .before)) m) (index-of c) 0
-  number-is-in c m e =
-      let s = parent-of c in
-      let d = turn-of c .before in
-      child-number c ∙ ap (λ es. getD es (index-of c) 0) (sym (children-in (s .pre .1 .0 .terms) (s .pre .1 .1) (kinded d m e)) ∙ ap (λ fs. childrenIn fs m) (sym (fields-are d)))
+  child-number c = number-is-in c (kind-of (parent-of c)) (numbered (turn-of c .before)) ∙ ap (λ es. getD es (index-of c) 0) (are-children c)
 
   pub lower : (c : Child t) → number-of c < parent-of c .args .n .0
   lower c = let s = parent-of c in subst (λ e. e < s .args .n .0) (sym (child-number c)) (child-lower (s .pre .1 .0 .terms) (s .pre .1 .1) {k = kind-of s} refl (index-of c) (index-in c))
@@ -191,9 +188,7 @@ module _ {t : ℕ} where
   pub room : (c : Child t) → Room (image-of (parent-of c)) (scope-of c) (len-of c) (number-of c)
   room c =
       let s = parent-of c in
-      let k = count-is (s .pre .1 .0 .terms) (s .pre .1 .1) {k = kind-of s} refl in
-      let i = index-in c in
-      child-room (s .pre .1 .0 .terms) (s .pre .1 .3) (s .pre .1 .1) (scope-of c) (index-of c) (len-of c) (number-of c) (omega arith) (child-number c) (at c (kind-of s) (numbered (turn-of c .before)) .little) (same-length c)
+      child-room (s .pre .1 .0 .terms) (s .pre .1 .3) (s .pre .1 .1) (scope-of c) (index-of c) (len-of c) (number-of c) (index-in c) (child-number c) (at c (kind-of s) (numbered (turn-of c .before)) .little) (same-length c)
 
   -- The places that the child's check keeps are the term's own.
   pub kept : (c : Child t) (last : List ℕ) → take (len-of c) last ≡ take (len-of c) (scope-of c) → take (parent-of c .args .len) last ≡ take (parent-of c .args .len) (now (parent-of c .args .scope))

@@ -1,0 +1,25 @@
+-- `check_rules::stacks::check_stack` meets its contract.
+use borrow.Author.Needs.{needs}
+use Rattle.check_rules.proofs.OnDescriptors.{stack-right}
+use Rattle.check_rules.proofs.stacks.check_stack.Statement.{statement}
+use Rattle.check_rules.proofs.stacks.check_stack.Tie as tie
+
+own-descriptor-requires : tie.Need-own-descriptor-requires
+own-descriptor-requires c κs = search needs
+
+is-kind-requires : tie.Need-is-kind-requires
+is-kind-requires c κs = search needs
+
+judge-requires : tie.Need-judge-requires
+judge-requires c κs = search needs
+
+returns : tie.Need-returns
+returns c =
+    let s = c .before .before .before .before .before .before in
+    λ p.
+    let z = stack-right (s .pre .0) (s .pre .1) (s .args .at) p in
+    cc
+
+pub check-stack-spec : {M : Type 1} → statement M
+check-stack-spec =
+    tie.close (tie.spec own-descriptor-requires is-kind-requires judge-requires returns)

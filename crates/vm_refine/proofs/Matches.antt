@@ -1,0 +1,347 @@
+-- A match (card 6): its operands, and the branch that is taken.
+use Prim.Native.Nat.{ℕ, suc, _+_, _-_, _*_, _/_, _%_, _≤_, _<_}
+use native.Mathlib.Omega.{arith}
+use mathlib.Core.Path.{_≡_, refl, sym, ap, subst, _∙_}
+use mathlib.Core.Bool.{Bool, true, false, not, _&&_, _||_}
+use mathlib.Core.List.{List, [], _∷_, _++_, reverse}
+use mathlib.Core.Option.{Option, none, some}
+use lib.ListN.{length, getD, drop, length-set}
+use lib.Seq.{getD-set-same, getD-set-other}
+use lib.Dec.{leb}
+use borrow.Author.Tests.{ne-eqb, leb-true, leb-false, le-leb, lt-leb}
+use Rattle.calculus.specs.declared.Outcome.{Outcome}
+use Rattle.calculus.specs.Limits.{bindingLimit}
+use Rattle.calculus.specs.Combinators.{choose, cases}
+use Rattle.calculus.specs.Syntax.{Tm, Tms, Pattern, match, end, more}
+use Rattle.calculus.specs.State.{Entry, Given, someBindings, addCounts, charged, told, turns}
+use Rattle.calculus.specs.View.{labelsOf}
+use Rattle.calculus.specs.Answer.{go}
+use Rattle.calculus.specs.Place.{Place, framed}
+use Rattle.calculus.specs.Reduce.{branch, matchOn}
+use Rattle.image.specs.Bytes.{le16}
+use Rattle.closure_machine.specs.Closure.{CVal, CState, close, linkAll, topOfC, plainVal}
+use Rattle.closure_machine.specs.Machine.{Control, eval, ret, OpN, matchN, opNF, Stack, CAnswer, due, placeAt, reduceNC}
+use Rattle.closure_machine.specs.Settle.{work}
+use Rattle.vm_theory.specs.Code.{atomOf}
+use Rattle.vm_theory.specs.Conf.{Site, manyA, Chain, Slots, base, depthAt, domAt, placeOf, body, begin}
+use Rattle.vm_theory.specs.Stands.{stackAt}
+use Rattle.vm_theory.specs.Table.{manyN, matchM, Table, In, here as here-first, there, to, termsOf, isAtomAt, Linked}
+use Rattle.vm_theory.proofs.Sound.{Sound}
+use Rattle.vm_theory.proofs.Reach.{Reach, ends-deep}
+use Rattle.vm_theory.proofs.Leads.{leads-same, atom-leads, begin-leads}
+use Rattle.vm_theory.proofs.Bound.{bound-tm, entry-bound}
+use Rattle.vm_theory.proofs.Places.{site-place}
+use Rattle.vm_theory.proofs.Located.{Located, l-listed, l-match, l-other, entry-points, describes}
+use Rattle.vm_theory.proofs.Kept.{IsChain, waits-kept, chain-kept}
+use Rattle.vm_theory.proofs.Arrive.{entry-has}
+use Rattle.vm_code.specs.Values.{tagOf, bodyOf, unitValue}
+use Rattle.vm_code.specs.Words.{countOf, offsetOf, branchPlace, otherPlace, entryPlace, closePlace, depthOf, termCount}
+use Rattle.vm_code.specs.Words as code
+use Rattle.vm_code.specs.Classes as classes
+use Rattle.vm_code.specs.Says.{SaysPattern, says-end, says-rest, SaysCode}
+use Rattle.vm_machine.specs.declared.Regs.{Regs}
+use Rattle.vm_machine.specs.Registers.{headroom, fullRoom, setPc, setRoom, setPools, bound, stepped, halt}
+use Rattle.vm_machine.specs.Memory.{Memory, wordAt, slotBase, cellBase, keptBase, isKept, slotIn, slotWord, slotEnv, slotPc, slotKind, slotHeld, pointcutFrame, putMatch, heldStack}
+use Rattle.vm_machine.specs.States.{State, withRegs, withMemory, judged}
+use Rattle.vm_machine.specs.Fetch.{Program, codeAt, atomValue}
+use Rattle.vm_machine.specs.Stacks.{bindsRest, matches, variables, Chained, bindEntries, lookOn, entryAt, cutTerm, lookedByte, unlooked, stackToCome}
+use Rattle.vm_machine.specs.Stacks as machine
+use Rattle.vm_machine.specs.Turn.{entryFrom, begunAt, beginOperand, reduceMatch, entriesFrom, beginMatch}
+use Rattle.vm_refine.proofs.Relations.{Sizes, sizes, IsBody, IsVal, val-like, val-grows, env-at, env-grows, Grows}
+use Rattle.vm_refine.proofs.Tables.{word-same, word-other, grows-put, grows-refl, above-put, slots-refl}
+use Rattle.vm_refine.proofs.Store.{Store, resized, store-charged, store-told}
+use Rattle.vm_refine.proofs.Keeping.{kept-grows, kept-fits}
+use Rattle.vm_refine.proofs.Slots.{slotOf, byteOf, slot-word, slot-same, MatchIs, stack-to-come, entries-looked, Held, Back, held-kept, same-to}
+use Rattle.vm_refine.proofs.Now.{entry-ready, InPlace, halted-stopped}
+use Rattle.vm_refine.proofs.Fetch.{atom-is}
+use Rattle.vm_refine.proofs.Arrives.{instruction-of}
+use Rattle.vm_refine.proofs.Steps.{leb-iff, spend-bindings, level, measure, After, after-halted, after-now, fits-in, Stepping, judged-now, if-there-is-room}
+use Rattle.vm_refine.proofs.Gives.{calls}
+use Rattle.vm_refine.proofs.Advice.{stack-depth}
+use Rattle.vm_refine.proofs.Entries.{word-atom, entry-from, begun-at}
+use Rattle.vm_refine.proofs.Pointcuts.{no-value, pointcut-frame, after-mono}
+use Rattle.vm_refine.proofs.Looking.{topHas, Looked, nothing-yet, found, isFound, looked-matches}
+use Rattle.vm_refine.proofs.Linking.{Chains, counted, bound-all}
+use Rattle.vm_refine.proofs.Looks.{kept-top, Stops, all-looked, stopped-at, looked-on, looked-says}
+
+no-later : (us : List CVal) → us ++ [] ≡ us
+no-later [] = refl
+no-later (u ∷ us) = ap (λ (x : List CVal). u ∷ x) (no-later us)
+
+held-word : (v f : ℕ) → slotHeld f ≡ v / 268435456 → (tagOf (heldStack f) ≡ tagOf v) × (bodyOf (heldStack f) ≡ bodyOf v)
+held-word v f q = (omega arith, omega arith)
+
+module _ (T : Table) (root : ℕ) (L : Linked T 0 root) (G : Given) (e₀ : Tm) (Ω : Sound G e₀) (N : ℕ) (B : List ℕ) (C : Program) (says : SaysCode T (C .image) (C .code)) where
+  module _ (S : State) (k : ℕ) (s : CState) (m : ℕ) (P : Site) (A : Chain) (D : Slots) (p : InPlace T root L G e₀ Ω N B S k s m P A D) (pc : S .regs .pc ≡ m)
+      (pat : Pattern) (f g x₀ : ℕ) (cuts : List ℕ) (node : T .node m ≡ manyN (matchM pat f g) (x₀ ∷ cuts)) (few : countOf (codeAt C m) ≤ 8)
+      (first : le16 (C .image) (branchPlace (codeAt C m)) % termCount ≡ f) (other : le16 (C .image) (otherPlace (codeAt C m)) % termCount ≡ g) (pattern : SaysPattern (C .image) (entryPlace (codeAt C m) 0) (countOf (codeAt C m)) pat cuts)
+      (b : ℕ) (bounded : 1024 * S .regs .left + (S .regs .room + 1) ≤ b) where
+    abbrev M : Memory
+    M = S .memory
+
+    abbrev r : Regs
+    r = S .regs
+
+    abbrev z : Sizes
+    z = sizes r
+
+    abbrev w : ℕ
+    w = codeAt C m
+
+    abbrev K : Stack
+    K = stackAt P A D
+
+    abbrev o : OpN
+    o = matchN pat (T .term f) (T .term g)
+
+    abbrev Then : State → Type 0
+    Then S′ = After T root L G e₀ Ω N B b S′
+
+    st : Store T root L B M (S .log) z s
+    st = p .common .store
+
+    small : m < termCount
+    small = says .few m (p .no-atom)
+
+    deep : depthOf w ≡ length (P .skel)
+    deep = says .around m (p .no-atom) .depth ∙ describes T 0 root L (p .located) (p .no-atom) .depth
+
+    -- An operand y that is no atom begins; v is the word of the stack.
+    module _ (vs : List CVal) (es : Tms) (y v byte : ℕ) (a : isAtomAt T y ≡ false) (listed : In y (x₀ ∷ cuts)) (reach : Reach G e₀ Ω k s (eval (T .term y) (P .env)) (opNF o vs es (P .env) ∷ K))
+        (are : (M′ : Memory) → Grows M z M′ z → (h byte′ : ℕ) → slotHeld h ≡ v / 268435456 → byte′ ≡ byte → MatchIs T root L M′ z h byte′ m pat (T .term f) (T .term g) vs es) where
+      abbrev F′ : Stack
+      F′ = opNF o vs es (P .env) ∷ K
+
+      -- no frame for it
+      none-left : r .room ≤ depthOf w + 1 → Then (withRegs (halt Outcome.Frames r) S)
+      none-left h =
+          after-halted
+          (halted-stopped Outcome.Frames refl refl
+          (ends-deep G e₀ Ω k s (eval (T .term y) (P .env)) F′ reach N (r .left - headroom) (omega (arith, p .common .budget, p .common .running)) (no-value (T .term y) (P .env) a)
+          (omega (arith, deep, p .room, stack-depth P A D (p .stood) (p .fine))))
+          st (omega (arith, p .common .budget, p .common .running))
+          (fits-in T root L G e₀ Ω N B M (S .log) (halt Outcome.Frames r) s st (omega (arith, pc, small)) (p .env-fits) (omega (arith, p .room, kept-fits T root L A (p .kept)))))
+
+      module _ (h : depthOf w + 1 < r .room) where
+        abbrev word : ℕ
+        word = slotWord pointcutFrame m (r .env) (v / 268435456)
+
+        abbrev framed′ : Memory
+        framed′ = putMatch (r .room) (depthOf w + 1) m (r .env) v byte M
+
+        abbrev A′ : Chain
+        A′ = manyA o vs es P ∷ A
+
+        within : suc (depthAt P A) ≤ 512
+        within = omega (arith, deep, p .room)
+
+        index : slotIn (r .room) (depthOf w + 1) ≡ slotBase + fullRoom - suc (depthAt P A)
+        index = omega (arith, deep, p .room)
+
+        place : r .room - (depthOf w + 1) ≡ fullRoom - suc (depthAt P A)
+        place = omega (arith, deep, p .room)
+
+        here : slotOf framed′ (suc (depthAt P A)) ≡ word
+        here = slot-word framed′ (suc (depthAt P A)) (omega arith) ∙ ap (λ (i : ℕ). wordAt framed′ i) (sym index) ∙ word-same M (slotIn (r .room) (depthOf w + 1)) word (omega (arith, index, st .words))
+
+        byte-here : byteOf framed′ (suc (depthAt P A)) ≡ byte
+        byte-here = ap (λ (i : ℕ). getD (framed′ .beside) i 0) (sym place) ∙ getD-set-same (M .beside) (r .room - (depthOf w + 1)) byte 0 (omega (arith, st .beside, p .room))
+
+        elsewhere : (i : ℕ) → i ≤ depthAt P A → slotOf framed′ i ≡ slotOf M i
+        elsewhere i l = slot-same M framed′ i (λ n. word-other M (slotIn (r .room) (depthOf w + 1)) word (slotBase + fullRoom - i) (λ e. omega (arith, index, within)))
+
+        byte-elsewhere : (i : ℕ) → i ≤ depthAt P A → byteOf framed′ i ≡ byteOf M i
+        byte-elsewhere i l = getD-set-other (M .beside) (r .room - (depthOf w + 1)) (fullRoom - i) byte 0 (λ e. omega (arith, place, within))
+
+        grows : Grows M z framed′ z
+        grows =
+            let g = grows-put M z (slotIn (r .room) (depthOf w + 1)) word (omega (arith, index, within, st .bindings-fit)) (λ i l e. omega (arith, index)) in
+            record { more-bindings = g .more-bindings; more-pieces = g .more-pieces; bindings = g .bindings; firsts = g .firsts; seconds = g .seconds }
+
+        stored : Store T root L B framed′ (S .log) z s
+        stored =
+            let u = above-put M cellBase (slotIn (r .room) (depthOf w + 1)) word (omega (arith, index)) in
+            store-charged T root L B M (S .log) z s st framed′ (z .nb) (z .np) (s .used) grows (record { words = u .words; kept = u .kept })
+            (rw (length-set (M .beside) (r .room - (depthOf w + 1)) byte) (st .beside)) (st .bindings) (st .bindings-fit) (st .pieces) (st .pieces-fit) refl
+
+        chain : IsChain T 0 root L (Held T root L framed′ z) (Back T root L framed′ z) D A′
+        chain =
+            let parts = pointcut-frame m (r .env) (v / 268435456) small (p .env-fits) in (
+              record {
+                number = m;
+                no-atom = p .no-atom;
+                located = p .located;
+                says = (
+                  record { kind = ap slotKind here ∙ parts .0; pc = ap slotPc here ∙ parts .1; env = env-at T root L framed′ z (ap slotEnv here ∙ parts .2) (env-grows T root L M z framed′ z grows (p .env)); fits = omega (arith, ap slotEnv here ∙ parts .2, p .env-fits) },
+                  are framed′ grows (slotOf framed′ (suc (depthAt P A))) (byteOf framed′ (suc (depthAt P A))) (ap slotHeld here ∙ parts .3) byte-here,
+                );
+                waiting =
+                    waits-kept T 0 root L (Held T root L M z) (Back T root L M z) D (Held T root L framed′ z) (Back T root L framed′ z) D (P .skel) (base A)
+                    (λ i l u x. held-kept T root L M z framed′ z grows i (elsewhere i l) u x) (λ i l. refl) (p .waits);
+              },
+              chain-kept T 0 root L (Held T root L M z) (Back T root L M z) D (Held T root L framed′ z) (Back T root L framed′ z) D A
+                  (same-to T root L M z framed′ z grows (base A) D D (λ i l. elsewhere i (omega arith)) (λ i l. byte-elsewhere i (omega arith)) (λ i l. refl)) (p .chain),
+            )
+
+        operand : Located T 0 root L y [] (domAt P)
+        operand = l-listed (p .located) node listed
+
+        begins : (t : ℕ) → t ≡ T .entry y → Then (withMemory framed′ (setPc t (setRoom (r .room - (depthOf w + 1)) r)) S)
+        begins t e =
+            let points = entry-points T 0 root L y [] (domAt P) a operand in
+            let low : T .entry y < termCount = says .few (T .entry y) (instruction-of T root L points) in
+            after-now {C = begin (T .term y) (body (P .env) (domAt P)) A′ D}
+            (record {
+              common = record { budget = p .common .budget; running = p .common .running; store = stored };
+              good =
+                  record {
+                    runs = begin-leads G e₀ Ω s (T .term y) (body (P .env) (domAt P)) A′ D a .reached k reach;
+                    dom = refl;
+                    bound = entry-bound G e₀ Ω k s (P .env) (T .term y) [] F′ a tt reach;
+                    fine = (p .stood, p .fine);
+                  };
+              target = to (T .entry y);
+              pc = e;
+              points = points;
+              env = env-grows T root L M z framed′ z grows (p .env);
+              env-fits = p .env-fits;
+              room = omega (arith, place, within, p .room);
+              ready = entry-ready (IsVal T root L framed′ z) (r .hand) CVal.unit _ _ (T .term y) [] a;
+              waits = entry-has T 0 root L (Held T root L framed′ z) D (base A′) (T .term y) [] tt;
+              chain = chain;
+              kept = kept-grows T root L grows (λ i. word-other M (slotIn (r .room) (depthOf w + 1)) word (keptBase + i) (λ e. omega (arith, index))) (p .kept);
+            })
+            (omega (arith, ap (λ (i : Bool). choose i (fullRoom + 2) (r .room - (depthOf w + 1) + 1)) (ne-eqb t code.home (λ i. omega (arith, low)))))
+
+      pub operand-now : Then (beginOperand C m y v byte S)
+      operand-now = try (leb (r .room) (depthOf w + 1)) refl
+        where
+          try : (u : Bool) → leb (r .room) (depthOf w + 1) ≡ u
+              → Then
+              (choose u (withRegs (halt Outcome.Frames r) S) (withMemory (putMatch (r .room) (depthOf w + 1) m (r .env) v byte M) (setPc (entryFrom termCount C y) (setRoom (r .room - (depthOf w + 1)) r)) S))
+          try true q = none-left (leb-true (r .room) (depthOf w + 1) q)
+          try false q = begins (leb-false (r .room) (depthOf w + 1) q) (entryFrom termCount C y) (entry-from T root L C says y (says .few y a) a)
+
+    -- The stack's word v stands for k₀.
+    module _ (v : ℕ) (k₀ : CVal) (iv : IsVal T root L M z v k₀) where
+      -- Whether the close fits too.
+      close-is : {q : Pattern} → SaysPattern (C .image) (closePlace w) 0 q [] → (x : ℕ) (kk : CVal) → IsVal T root L M z x kk → (bindsRest C w || not (isKept x)) ≡ isFound (found q [] kk)
+      unfolding cases
+      close-is (says-end e) x kk i = rw (e, kept-top T root L M z i) (by (topOfC kk))
+        where
+          by : (t : Option (Entry CVal × CVal)) → not (topHas t) ≡ isFound (cases t (λ y. none) (λ n. some []))
+          by none = refl
+          by (some y) = refl
+      close-is (says-rest {v = y} e) x kk i = rw (ne-eqb (le16 (C .image) (closePlace w)) 0 (λ q. omega (arith, e)))
+
+      branches : (us : List CVal) (q : Pattern) (kk : CVal) (j : machine.Looked) → Looked pat k₀ (countOf w) us q kk (j .fits) → SaysPattern (C .image) (closePlace w) 0 q [] → IsVal T root L M z (j .rest) kk
+          → matches C w j ≡ isFound (found pat us k₀)
+      branches us q kk j l e i = ap (λ (x : Bool). j .fits && x) (close-is e (j .rest) kk i) ∙ sym (looked-matches l []) ∙ ap (λ (x : List CVal). isFound (found pat x k₀)) (no-later us)
+
+      module _ (c : Control) (F : Stack) (us : List CVal) (j : machine.Looked) (same : matches C w j ≡ isFound (found pat us k₀)) where
+        abbrev At : CAnswer → Type 0
+        At a = Stepping T root L G e₀ Ω N B C says S k s m P A D c F a
+
+        abbrev saying : Bool → CState → CState
+        saying t s′ = told (record { dom = placeOf P A .dom; said = turns t }) s′
+
+        body-of : (t : ℕ) → t < termCount → Located T 0 root L t [] (domAt P) → IsBody T root L (begunAt C t) (T .term t) (domAt P)
+        body-of t h l = record { number = t; begins = (begun-at T root L C says t h, h); term = refl; located = l }
+
+        taken : (found′ : Option (List CVal)) → found pat us k₀ ≡ found′
+            → At (branch (placeOf P A) s (λ ws. eval (T .term f) (linkAll ws (P .env))) (eval (T .term g) (P .env)) found′) → After T root L G e₀ Ω N B (measure S) (reduceMatch C w v j S)
+        unfolding reduceMatch
+        taken none e R =
+            rw (same ∙ ap isFound e, other)
+            (calls T root L G e₀ Ω N B C says S k s m P A D c F R M (S .log) (stepped r) (saying false s)
+            (record { env = refl; room = refl; left = refl; pc = refl; store = store-told T root L B M (S .log) z s (placeOf P A .dom) false st; grows = grows-refl M z; slots = slots-refl M; kept = refl; keeps = λ i. refl })
+            (begunAt C g) (r .env) (T .term g) (domAt P) (P .env) (body-of g (omega (arith, other)) (l-other (p .located) node)) (p .env) (p .env-fits) refl refl)
+        taken (some ws) e R =
+            let count : variables C w (countOf w) 0 ≡ length ws = counted T root L C w pattern 0 refl (omega arith) k₀ us ws e in
+            rw (same ∙ ap isFound e, first, count)
+            (if-there-is-room T root L G e₀ Ω N B C says S k s m P A D c F (measure S) (leb (length ws) (bindingLimit - s .used .bindings)) Outcome.Bindings _ _ (leb (r .pools .bindings + length ws) bindingLimit)
+            (leb-iff (r .pools .bindings + length ws) bindingLimit (length ws) (bindingLimit - s .used .bindings) (λ h. omega (arith, st .bindings)) (λ h. omega (arith, st .bindings, st .bindings-fit))) R
+            (spend-bindings s (λ s′. go (saying true s′) (eval (T .term f) (linkAll ws (P .env)))) (length ws))
+            (λ room Q.
+            let h : length ws ≤ bindingLimit - s .used .bindings = leb-true (length ws) (bindingLimit - s .used .bindings) room in
+            let fit : r .pools .bindings + length ws ≤ 2048 = omega (arith, st .bindings, st .bindings-fit) in
+            let X : Chained = bindEntries C w (countOf w) 0 v (record { memory = M; count = r .pools .bindings; env = r .env }) in
+            let t : Chains T root L M z (length ws) (linkAll ws (P .env)) X = bound-all T root L C w pattern 0 refl (omega arith) M z v (r .env) k₀ us ws (P .env) (st .words) (st .pieces-fit) iv (p .env) (p .env-fits) e fit in
+            calls T root L G e₀ Ω N B C says S k s m P A D c F Q (X .memory) (S .log) (setPools (bound (length ws) (r .pools)) (stepped r)) (saying true (charged (addCounts (s .used) (someBindings (length ws))) s))
+            (record {
+              env = refl;
+              room = refl;
+              left = refl;
+              pc = refl;
+              store =
+                  store-told T root L B (X .memory) (S .log) (resized T root L (r .pools .bindings + length ws) (z .np) z) (charged (addCounts (s .used) (someBindings (length ws))) s) (placeOf P A .dom) true
+                  (store-charged T root L B M (S .log) z s st (X .memory) (r .pools .bindings + length ws) (z .np) (addCounts (s .used) (someBindings (length ws))) (t .grows)
+                  (record { words = t .above .words; kept = λ i l. t .above .kept i (omega arith) }) (rw (t .beside) (st .beside)) (omega (arith, st .bindings)) fit (omega (arith, st .pieces)) (st .pieces-fit) (omega arith));
+              grows = t .grows;
+              slots = record { word = λ i l u. t .above .kept i l; byte = t .beside };
+              kept = refl;
+              keeps = λ i. t .above .kept (keptBase + i) (omega arith);
+            })
+            (begunAt C f) (X .env) (T .term f) (domAt P) (linkAll ws (P .env)) (body-of f (omega (arith, first)) (l-match (p .located) node)) (t .env) (t .fits) refl refl))
+
+      -- All operands are worked out.
+      made-now : (us : List CVal) (q : Pattern) (kk u : CVal) (vs : List CVal) (j : machine.Looked) → Looked pat k₀ (countOf w) us q kk (j .fits) → SaysPattern (C .image) (closePlace w) 0 q [] → reverse (u ∷ vs) ≡ k₀ ∷ us
+          → IsVal T root L M z (j .rest) kk → Reach G e₀ Ω k s (ret u) (opNF o vs end (P .env) ∷ K) → Then (judged w S (reduceMatch C w v j S))
+      made-now us q kk u vs j l e t i reach =
+          let at : placeAt K ≡ placeOf P A = site-place P A D (p .stood .0) (p .fine) in
+          let low : level r ≤ r .room + 1 = omega (arith, ap (λ (x : Bool). choose x (fullRoom + 2) (r .room + 1)) (ne-eqb (r .pc) code.home (λ y. omega (arith, small, pc)))) in
+          let F : Stack = opNF o vs end (P .env) ∷ K in
+          after-mono T root L G e₀ Ω N B C says {b = measure S} (omega arith)
+          (judged-now T root L G e₀ Ω N B C says S k s m P A D (ret u) F (measure S) (reduceMatch C w v j S)
+          (record { place = p; pc = pc; reach = reach; is = ap (λ (X : Place). due (framed X (reduceNC G X s o (P .env) (u ∷ vs))) K) at })
+          (λ R. taken (ret u) F us j (branches us q kk j l e i) (found pat us k₀) refl
+          (subst
+          (λ (x : List CVal). Stepping T root L G e₀ Ω N B C says S k s m P A D (ret u) F (matchOn topOfC (λ y. labelsOf (plainVal y)) (placeOf P A) s pat (λ ws. eval (T .term f) (linkAll ws (P .env))) (eval (T .term g) (P .env)) x))
+          t R)))
+
+      -- From the entries that were looked at on.
+      pub entries-now : (n : ℕ) (us : List CVal) (q : Pattern) (kk u : CVal) (vs : List CVal) (t : Bool) (rest : ℕ) (ys : List ℕ) → Looked pat k₀ n us q kk t → SaysPattern (C .image) (entryPlace w n) (countOf w - n) q ys → n ≤ countOf w
+          → drop (length us) cuts ≡ ys → reverse (u ∷ vs) ≡ k₀ ∷ us → IsVal T root L M z rest kk → Reach G e₀ Ω k s (ret u) (opNF o vs (termsOf T ys) (P .env) ∷ K)
+          → Then (entriesFrom C m v (record { next = n; rest = rest; fits = t }) S)
+      entries-now n us q kk u vs t rest ys l e low d back i reach =
+          by (lookOn C M (r .env) w (countOf w - n) (record { next = n; rest = rest; fits = t }))
+          (looked-on T root L G e₀ Ω C says M z (r .env) (P .env) (p .env) (p .env-fits) k s K m pat f g x₀ cuts node (p .located) w k₀ e n refl (omega arith) us kk t u vs rest d l back i reach)
+        where
+          by : (j : machine.Looked) → Stops T root L G e₀ Ω C says M z (r .env) (P .env) (p .env) (p .env-fits) k s K m pat f g x₀ cuts node (p .located) w k₀ j
+              → Then (choose (leb (countOf w) (j .next)) (judged w S (reduceMatch C w v j S)) (beginOperand C m (cutTerm (entryAt C w (j .next))) v (lookedByte j) S))
+          by j (all-looked us′ q′ kk′ u′ vs′ l′ e′ t′ i′ n′ r′) = rw (le-leb (countOf w) (j .next) (omega (arith, n′))) (made-now us′ q′ kk′ u′ vs′ j l′ e′ t′ i′ r′)
+          by j (stopped-at us′ q′ kk′ u′ vs′ y ys′ l′ t′ n′ c′ a′ in′ d′ r′) =
+              rw (lt-leb (countOf w) (j .next) n′, c′)
+              (operand-now (u′ ∷ vs′) (termsOf T ys′) y v (lookedByte j) a′ (there in′) r′
+              (λ M′ grown h byte′ held same. entries-looked node refl refl (let q = held-word v h held in val-like T root L M′ z (q .0) (q .1) (val-grows T root L M z M′ z grown iv)) l′ (omega (arith, few)) same t′ (ap (termsOf T) (sym d′))))
+
+    -- The match begins: with its stack, or with its entries.
+    pub begin-now : le16 (C .image) (offsetOf w) % termCount ≡ x₀ → Reach G e₀ Ω k s (eval (match pat (more (T .term x₀) (termsOf T cuts)) (T .term f) (T .term g)) (P .env)) K → Then (beginMatch C S)
+    unfolding beginMatch close work
+    begin-now at reach =
+        subst (λ (t : ℕ). Then (with-operand t (le16 (C .image) (offsetOf (codeAt C t)) % termCount))) (sym pc)
+        (subst (λ (x : ℕ). Then (with-operand m x)) (sym at) (subst (λ (a : Bool). Then (choose a (entriesFrom C m v (unlooked v) S) (beginOperand C m x₀ unitValue stackToCome S))) (sym (word-atom T root L C says x₀ low)) (try (isAtomAt T x₀) refl)))
+      where
+        with-operand : ℕ → ℕ → State
+        with-operand t x =
+            choose (classes.isAtom (codeAt C x)) (entriesFrom C t (atomValue C M (r .env) (codeAt C x)) (unlooked (atomValue C M (r .env) (codeAt C x))) S) (beginOperand C t x unitValue stackToCome S)
+
+        low : x₀ < termCount
+        low = omega (arith, at)
+
+        next : Reach G e₀ Ω k s (eval (T .term x₀) (P .env)) (opNF o [] (termsOf T cuts) (P .env) ∷ K)
+        next =
+            leads-same G e₀ Ω s {c = eval (match pat (more (T .term x₀) (termsOf T cuts)) (T .term f) (T .term g)) (P .env)} {c′ = eval (T .term x₀) (P .env)} {K = K} {K′ = opNF o [] (termsOf T cuts) (P .env) ∷ K} refl (omega arith)
+            .reached k reach
+
+        v : ℕ
+        v = atomValue C M (r .env) (codeAt C x₀)
+
+        try : (a : Bool) → isAtomAt T x₀ ≡ a → Then (choose a (entriesFrom C m v (unlooked v) S) (beginOperand C m x₀ unitValue stackToCome S))
+        try true a =
+            let u : CVal = atomOf (T .term x₀) (P .env) in
+            let iv : IsVal T root L M z v u = atom-is T root L C says M z (r .env) (P .env) (p .env) (p .env-fits) x₀ low a (l-listed (p .located) node here-first) (bound-tm G e₀ Ω k s (T .term x₀) (P .env) _ next) in
+            let none : Looked pat u 0 [] pat u true = nothing-yet in
+            let l = looked-says C w pattern none in
+            entries-now v u iv 0 [] pat u u [] true v cuts nothing-yet (l .1) (omega arith) refl refl iv (atom-leads G e₀ Ω s (T .term x₀) (P .env) _ a .reached k next)
+        try false a = operand-now [] (termsOf T cuts) x₀ unitValue stackToCome a here-first next (λ M′ grown h byte′ held same. stack-to-come node refl refl same refl refl)

@@ -1,0 +1,74 @@
+use denote.Ref.{now}
+use mathlib.Core.Path.{_≡_, refl, sym, ap, _∙_}
+use native.Mathlib.Omega.{arith}
+use Prim.Native.Nat.{ℕ, _+_, _-_, _≤_, _<_}
+use Rattle.base_bytes.specs.Memory.{memoryLength}
+use lib.ListN.{length, drop}
+use Rattle.vm_code.specs.Values.{bottomValue}
+use Rattle.vm_machine.specs.Stacks.{stackPieces}
+use Rattle.vm_stacks.specs.Parts.{stackedIn}
+use Rattle.vm_stacks.proofs.Stacked.{pieces-start, pieces-on, pieces-done}
+use borrow.Author.Needs.{needs}
+use Rattle.vm_stacks.proofs.stacks.stack_pieces.Statement.{statement}
+use Rattle.vm_stacks.proofs.stacks.stack_pieces.Tie as tie
+
+abbrev Inv-loop : tie.InvT-loop
+Inv-loop work₀ n p v₀ i₀ work v i = (i ≤ n) × (length work ≡ length work₀) × (drop memoryLength work ≡ drop memoryLength work₀) × (stackPieces n 0 p (stackedIn work₀ bottomValue) ≡ stackPieces (n - i) i p (stackedIn work v))
+
+abbrev μ-loop : tie.MeasureT-loop
+μ-loop work₀ n p v₀ i₀ work v i = n - i
+
+bottom-requires : tie.Need-bottom-requires Inv-loop μ-loop
+bottom-requires c κs = search needs
+
+loop-holds : tie.Need-loop-holds Inv-loop μ-loop
+loop-holds c = (omega arith, refl, refl, pieces-start _ _ _ _ (c .bottom .ensures))
+
+kept-at-requires : tie.Need-kept-at-requires Inv-loop μ-loop
+kept-at-requires c κs = search needs
+
+add-put-piece : tie.Need-add-put-piece Inv-loop μ-loop
+add-put-piece c = search needs
+
+put-piece-requires : tie.Need-put-piece-requires Inv-loop μ-loop
+put-piece-requires c κs = search needs
+
+add-kept : tie.Need-add-kept Inv-loop μ-loop
+add-kept c = search needs
+
+kept-requires : tie.Need-kept-requires Inv-loop μ-loop
+kept-requires c κs = search needs
+
+add-i : tie.Need-add-i Inv-loop μ-loop
+add-i c = search needs
+
+loop-less : tie.Need-loop-less Inv-loop μ-loop
+loop-less c = search needs
+
+loop-again : tie.Need-loop-again Inv-loop μ-loop
+loop-again c = let a = c .before .before .before .before .before .before .before .before .before .before .before .args in let l = c .before .before .before .before .before .before .before .before .loop in (omega arith, search needs, c .before .before .before .put-piece .ensures .rest ∙ l .inv .2, l .inv .3 ∙ pieces-on (a .n) (l .i) (a .p) _ _ (l .v) _ _ (c .before .before .before .before .before .before .before .loop-test .taken) (c .before .before .before .before .before .kept-at .ensures) (c .before .before .before .put-piece .ensures) (c .kept .ensures))
+
+same-length : tie.Need-same-length Inv-loop μ-loop
+same-length c = search needs
+
+returns : tie.Need-returns Inv-loop μ-loop
+returns c = let a = c .before .before .before .before .args in let l = c .before .loop in pieces-done _ (a .n) (l .i) (a .p) (now (a .work)) _ (l .v) (c .loop-test .left) (l .inv .3) (l .inv .2)
+
+pub stack-pieces-spec : {M : Type 1} → statement M
+stack-pieces-spec =
+    tie.close
+    (tie.spec
+    Inv-loop
+    μ-loop
+    bottom-requires
+    loop-holds
+    kept-at-requires
+    add-put-piece
+    put-piece-requires
+    add-kept
+    kept-requires
+    add-i
+    loop-less
+    loop-again
+    same-length
+    returns)

@@ -1,0 +1,3 @@
+-- Parts of the definitions of stacks, keeps and matches.
+pub mod Parts
+pub mod Operands

@@ -1,0 +1,67 @@
+// The stack is taken: "Taking a stack is one step and one piece an entry."
+ghost use Prim.Native.Nat.{ℕ, _+_, _≤_, _<_};
+ghost use lib.ListN.{length};
+ghost use Rattle.base_bytes.specs.Memory.{memoryLength};
+ghost use Rattle.vm_code.specs.Values.{bottomValue};
+ghost use Rattle.vm_machine.specs.States.{judged};
+ghost use Rattle.vm_machine.specs.Stacks.{stackPieces, reduceStack};
+ghost use Rattle.vm_machine.specs.Fits.{Fits};
+ghost use Rattle.vm_states.specs.Phases.{Phase};
+ghost use Rattle.vm_stacks.specs.Parts.{stackedIn, Stacks};
+use vm_machine::Regs;
+use vm_states::ends::given;
+use vm_states::limits::PIECES;
+use vm_states::outcomes;
+use vm_states::regs::HEADROOM;
+use vm_states::regs::halt;
+use vm_tables::kept::kept_at;
+use vm_tables::pieces::put_piece;
+use vm_words::code::depth_of;
+use vm_words::value::bottom;
+use vm_words::value::kept;
+
+// The pieces of n values that are kept, the outermost first; p are there. The stack's value is that of the innermost.
+fn stack_pieces(work: &mut [u8], n: usize, p: usize) -> u64
+    requires { ⌜ (memoryLength ≤ length (now work)) × (p + n ≤ 512) ⌝ }
+    ensures { λ v. ⌜ Stacks (stackPieces n 0 p (stackedIn (now (work .entry)) bottomValue)) (now (work .entry)) (now (work .exit)) v ⌝ }
+{
+    let mut v = bottom();
+    let mut i: usize = 0;
+    while i < n {
+        let w = kept_at(work, i);
+        put_piece(work, p + i, w, v);
+        v = kept(p + i);
+        i += 1;
+    }
+    v
+}
+
+// All pieces at once, or none: their room is looked at before the budget (card 5).
+fn reduce_stack(work: &mut [u8], r: Regs, w: u64) -> Regs
+    requires { ⌜ (memoryLength ≤ length (now work)) × ((size : ℕ) × Fits size r) ⌝ }
+    ensures { λ q. ⌜ Phase (reduceStack w) (now (work .entry)) (now (work .exit)) r q ⌝ }
+{
+    let n = r.kept;
+    let p = r.pools.pieces;
+    let m = p + n;
+    if PIECES < m {
+        return halt(r, outcomes::PIECES);
+    }
+    if r.left <= HEADROOM {
+        return halt(r, outcomes::SPENT);
+    }
+    let v = stack_pieces(work, n, p);
+    let mut q = given(work, r, w, v);
+    q.pools.pieces = m;
+    q
+}
+
+pub fn stack(work: &mut [u8], r: Regs, w: u64) -> Regs
+    requires { ⌜ (memoryLength ≤ length (now work)) × ((size : ℕ) × Fits size r) ⌝ }
+    ensures { λ q. ⌜ Phase (λ S. judged w S (reduceStack w S)) (now (work .entry)) (now (work .exit)) r q ⌝ }
+{
+    if r.room <= depth_of(w) {
+        return halt(r, outcomes::FRAMES);
+    }
+    reduce_stack(work, r, w)
+}
