@@ -35,7 +35,7 @@ enum bukzarn_outcome {
     BUKZARN_BINDINGS = 4,
     BUKZARN_CELLS = 5,
     BUKZARN_LABELS = 6,
-    BUKZARN_ADVICE = 7, /* installed advice */
+    BUKZARN_ADVICE = 7, /* advice installed at one time */
     BUKZARN_PIECES = 8,
     BUKZARN_LOG = 9 /* a print found under 10 bytes left in the log */
 };

@@ -168,7 +168,8 @@ class Maker:
             terms.unit, lambda: terms.show(make(types.NUMBER)), lambda: terms.show(make(types.NUMBER)),
             lambda: terms.mark(make(types.label(a, here)), make(a)), lambda: terms.install(make(types.advice(low))),
             lambda: terms.store(make(types.reference(a, low)), make(a)), lambda: terms.abort(types.UNIT),
-            lambda: terms.lower(low, make(types.UNIT, (), low)), lambda: self.loop(here, make, low)])()
+            lambda: terms.lower(low, make(types.UNIT, (), low)), lambda: terms.takedown(low),
+            lambda: self.loop(here, make, low)])()
 
     def loop(self, here, make, low):
         """A watch on a label, and a countdown that marks it: many steps, often out of some room."""
@@ -256,9 +257,9 @@ def field_damage(made, rng):
 
 
 def domain_damage(made, rng):
-    """Another domain in a type, or another method in a call."""
+    """Another domain in a type or a takedown, or another method in a call."""
     domains = sum(r[2] == kinds.DOMAIN for r in made if len(r) > 2)
-    others = (*range(kinds.FUNCTION_T, kinds.OBJECT_T + 1), kinds.CALL)
+    others = (*range(kinds.FUNCTION_T, kinds.OBJECT_T + 1), kinds.CALL, kinds.TAKEDOWN)
     with_domain = [r for r in made if len(r) > 5 and r[2] in others]
     if with_domain and domains:
         r = rng.choice(with_domain)

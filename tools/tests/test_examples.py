@@ -13,7 +13,7 @@ from watchlang.layout import laid_out
 from watchlang.terms import child_domains
 
 FOLDER = common.ROOT / "examples"
-WITH_WATCHES = ("count", "trace", "watched", "plausible")
+WITH_WATCHES = ("count", "trace", "watched", "three", "plausible")
 
 
 def high_log(name):
@@ -84,7 +84,7 @@ class Examples(unittest.TestCase):
     def test_the_decoders_log_is_the_same_with_watches(self):
         plain = high_log("plain")
         self.assertEqual(len(plain), 18)
-        for name in ("count", "trace", "watched"):
+        for name in ("count", "trace", "watched", "three"):
             self.assertEqual(high_log(name), plain, name)
         stopped = high_log("plausible")
         self.assertEqual(stopped, plain[:len(stopped)])
@@ -97,6 +97,12 @@ class Examples(unittest.TestCase):
         domains, numbers = [p for p, _ in lines], [int(n) for _, n in lines]
         self.assertEqual(domains, ["0"] * 6 + ["0", "1"] * 5)
         self.assertEqual(numbers[7::2], [p - numbers[5] for p in numbers[6::2]])
+
+    def test_a_watch_that_takes_itself_down(self):
+        """It prints the pressure of the first three levels, and nothing after that."""
+        lines = [line.split()[1:] for line in (FOLDER / "three.txt").read_text().splitlines() if line.startswith("log")]
+        self.assertEqual([p for p, _ in lines], ["0", "0", "0", "1"] * 3 + ["0"] * 9)
+        self.assertEqual([n for p, n in lines if p == "1"], [n for _, n in lines[0:12:4]])
 
     def test_refused_watches_are_explained(self):
         """The README has what the tool says of them, with the number and the place of the listing."""

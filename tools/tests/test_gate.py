@@ -67,6 +67,18 @@ class Gate(unittest.TestCase):
             self.assertEqual(refused.number, number, name)
             self.assertIn(words, refusals.explain(image, number, refused.place))
 
+    def test_takedowns_have_words_of_their_own(self):
+        for name, number, words in (
+                ("takedown-of-an-absent-domain", 7, "Here: the record names domain 1, but"),
+                ("takedown-of-another-type", 14, "Here: a takedown must have type unit, but has number"),
+                ("takedown-of-another-type", 14, "To mend it: A takedown gives unit"),
+                ("takedown-upward", 15, "Here: the domain that is taken down is d0, and must be at or below the current"),
+                ("takedown-beside", 15, "To mend it: Take down a domain at or below the current one")):
+            image = (common.STORED / "data" / f"{name}.img").read_bytes()
+            refused = verdict(image)
+            self.assertEqual(refused.number, number, name)
+            self.assertIn(words, refusals.explain(image, number, refused.place))
+
     def test_another_place(self):
         image = (common.ROOT / "examples/alter.img").read_bytes()
         self.assertIn("By these rules this image is refused 15", refusals.explain(image, 14, 450))

@@ -37,6 +37,7 @@ class Text(unittest.TestCase):
                 "let x0 = pointcut {} of number at d1 in\nlet x1 = stack in\n"
                 "match x1 with [x0 as x2, any, pointcut {} of truth at d0 as x3, rest as x4]\n"
                 "then match x4 with [any] then x2 else if x3 then 3 else 4\nelse 5",
+                "takedown of d1;\ntakedown of d0", "lower to d1 { takedown of d1 }",
                 "lower to d1 { abort unit }", "abort (number, truth)", "(function (x0 : number) at d0 { x0 })(1)"):
             with self.subTest(program):
                 text = program.replace("d0", "main").replace("d1", "watch")
@@ -139,6 +140,16 @@ class Text(unittest.TestCase):
                 self.assertFalse(again.startswith("records"))
                 self.assertEqual(assemble(again).image, image)
 
+    def test_takedowns_against_the_rules(self):
+        """What the engine refuses can be written."""
+        for text, number in (("(takedown of main : number)", 14), ("lower to watch { takedown of main }", 15)):
+            with self.subTest(text):
+                image = assemble(HEAD + text).image
+                self.assertEqual(verdict(image).number, number)
+                again = disassemble(image)
+                self.assertFalse(again.startswith("records"))
+                self.assertEqual(assemble(again).image, image)
+
     def test_stated_types_are_not_checked(self):
         self.assertEqual(verdict(assemble(HEAD + "print (true : number)").image).number, 14)
         self.assertEqual(verdict(assemble(HEAD + "(var 3 : unit)").image).number, 13)
@@ -228,6 +239,10 @@ ERRORS = (
     ("domain a\nmatch stack with [5 as x] then x else 2", "the type of x is not known here"),
     ("domain a\nmatch stack with [" + ", ".join(["any"] * 9) + "] then 1 else 2", "at most 8 entries, this one has 9"),
     ("domain a\nmatch stack with [] else 2", "expected 'then' after the pattern of a match"),
+    ("domain a\ntakedown a", "expected 'of' and a domain after takedown"),
+    ("domain a\ntakedown of b", "line 2: there is no domain b; the domains are a"),
+    ("domain a\nlet takedown = 1 in 2", "but found 'takedown', which is a word of the language"),
+    ("records\nterm 0: takedown as 0", "takedown does not have 1 fields"),
     ("records\nterm 0: match 1 2 3 as 0", "match does not have 4 fields"),
     ("records\ntype 0: object 0", "object does not have 1 fields"),
     ("records\nterm 0: object as 0", "object does not have 1 fields"),
@@ -244,8 +259,9 @@ ERRORS = (
 class Page(unittest.TestCase):
     def test_the_texts_of_the_page_are_accepted_or_read(self):
         """docs/LANGUAGE.md: its first texts are accepted, its text of records is one with stray bytes."""
-        _, first, _, objects, _, stacks, _, last, _ = (common.ROOT / "docs/LANGUAGE.md").read_text().split("```")
-        for text in (first, objects, stacks):
+        *texts, last = (common.ROOT / "docs/LANGUAGE.md").read_text().split("```")[1::2]
+        self.assertEqual(len(texts), 4)
+        for text in texts:
             self.assertIsNone(verdict(assemble(text).image))
         self.assertEqual(verdict(assemble(last).image).number, 2)
 

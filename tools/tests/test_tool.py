@@ -79,6 +79,10 @@ class Tool(unittest.TestCase):
         made = run("picture", EXAMPLES / "flight.proc", EXAMPLES / "descent.watch")[0].decode()
         self.assertIn(': match [pointcut, rest]\\nunit"', made)
 
+    def test_a_picture_says_what_is_taken_down(self):
+        made = run("picture", EXAMPLES / "sonde.proc", EXAMPLES / "three.watch")[0].decode()
+        self.assertIn(': takedown of watch\\nunit"', made)
+
     def test_pictures_of_stored_images(self):
         for file, listing in common.stored_listings():
             if not listing.startswith("refused") or int(listing.split()[1]) > 9:

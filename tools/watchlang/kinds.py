@@ -1,4 +1,4 @@
-"""The kinds of records (document 01, "The image"; document 02, cards 3 and 6): for each its number, its name, and its
+"""The kinds of records (document 01, "The image"; document 02, cards 3, 6 and 7): for each its number, its name, and its
 fields.
 
 A field is one letter: m a mask, a a lower type, p a domain, t a term's own type, e a lower term, k a variable's number,
@@ -11,8 +11,7 @@ DOMAIN = 1
  OBJECT_T, STACK_T) = range(16, 27)
 (UNIT, TRUTH, NUMBER, VARIABLE, SEQUENCE, PRINT, IF, PAIR, SPLIT, FUNCTION, APPLY, ARITHMETIC, NEW_LABEL, MARK,
  POINTCUT, ADVICE, INSTALL, NEW_CELL, READ, STORE, LOWER, ABORT, OBJECT, CALL, STACK, KEEP,
- MATCH) = range(32, 59)
-FRAME_BYTE = 60
+ MATCH, TAKEDOWN, FRAME_BYTE) = range(32, 61)
 
 KINDS = {
     DOMAIN: ("domain", "m"),
@@ -54,6 +53,7 @@ KINDS = {
     STACK: ("stack", "t"),
     KEEP: ("keep", "teee"),
     MATCH: ("match", "teee"),
+    TAKEDOWN: ("takedown", "tp"),
     FRAME_BYTE: ("frame-byte", "te"),
 }
 

@@ -33,7 +33,7 @@ class Token:
 KEYWORDS = frozenset("""
     domain mask type frame width signed little let in define if then else print install mark with new cell label read
     at to of on as from function advice pointcut lower watches abort true false unit truth number reference object
-    stack keep match var records bytes term
+    stack keep match takedown var records bytes term
 """.split())
 
 PATTERN = re.compile(r"""

@@ -247,7 +247,7 @@ class Parser(Cursor):
         forms = {"true": self.truth, "false": self.truth, "function": self.function, "advice": self.advice,
                  "pointcut": self.pointcut, "lower": self.lower, "watches": self.hang, "abort": self.abort,
                  "frame": self.frame, "var": self.numbered, "object": self.object, "keep": self.keep,
-                 "stack": self.stack}
+                 "stack": self.stack, "takedown": self.takedown}
         if token.kind == "name" and token.text in forms:
             self.at += 1
             return forms[token.text](place)
@@ -341,6 +341,10 @@ class Parser(Cursor):
             watch.headlines(of_watch=True)
             made.append(watch.whole())
         return self.make(place, terms.lower, p, terms.sequence(*made) if made else terms.unit())
+
+    def takedown(self, place):
+        self.take("of", "and a domain after takedown")
+        return self.make(place, terms.takedown, self.domain())
 
     def abort(self, place):
         return self.make(place, terms.abort, self.type())

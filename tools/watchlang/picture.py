@@ -24,6 +24,8 @@ def said(record, writer):
         return "true" if fields[0] else "false"
     if record.kind == kinds.LOWER:
         return f"lower to {writer.domain(fields[0])}"
+    if record.kind == kinds.TAKEDOWN:
+        return f"takedown of {writer.domain(fields[0])}"
     if record.kind == kinds.CALL:
         return f"call {types.method(fields[1])}"
     if record.kind == kinds.MATCH:

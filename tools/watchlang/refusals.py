@@ -57,6 +57,7 @@ TYPE_MENDS = {
                   "assembler sees to the order.",
     kinds.CALL: "Call a method that the type of the object has: by name the assembler sees to its number.",
     kinds.KEEP: "Keep a value of the type that the label has: 'keep LABEL with VALUE { BODY }'.",
+    kinds.TAKEDOWN: "A takedown gives unit: give it no other type.",
     kinds.MATCH: "Match a stack, with pointcuts as entries, and give both branches the same type: "
                  "'match stack with [pointcut {LABEL} as x, any, rest as y] then A else B'.",
 }
@@ -76,6 +77,8 @@ DOMAIN_MENDS = {
     kinds.CALL: "Call a method of the current domain: one of a lower domain inside 'lower to', one of a higher domain "
                 "not at all.",
     kinds.KEEP: "Keep the value under a label of the current domain; a match may ask for labels of any domain.",
+    kinds.TAKEDOWN: "Take down a domain at or below the current one: a watch removes its own and those below it, never "
+                    "advice of the decoder's.",
 }
 
 

@@ -157,6 +157,11 @@ def lower(j):
     j.below_here(j.record.fields[1], "the domain that is lowered to")
 
 
+def takedown(j):
+    j.is_(j.type, types.UNIT, "a takedown")
+    j.below_here(j.record.fields[1], "the domain that is taken down")
+
+
 def object_of(j):
     """An object has a body for each method of its type."""
     j.kind(j.type, kinds.OBJECT_T, "an object's type")
@@ -214,7 +219,7 @@ RULES = {
     kinds.INSTALL: install, kinds.NEW_CELL: new_cell, kinds.READ: read, kinds.STORE: store, kinds.LOWER: lower,
     kinds.ABORT: lambda j: None, kinds.OBJECT: object_of, kinds.CALL: call,
     kinds.STACK: lambda j: j.is_(j.type, types.STACK, "the stack"), kinds.KEEP: keep, kinds.MATCH: match,
-    kinds.FRAME_BYTE: numeric(types.NUMBER, "frame byte"),
+    kinds.TAKEDOWN: takedown, kinds.FRAME_BYTE: numeric(types.NUMBER, "frame byte"),
 }
 
 

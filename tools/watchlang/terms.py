@@ -148,6 +148,11 @@ def lower(p, body):
     return Term(kinds.LOWER, types.UNIT, (p, body))
 
 
+def takedown(p):
+    """Every installed advice of domain p is removed (card 7)."""
+    return Term(kinds.TAKEDOWN, types.UNIT, (p,))
+
+
 def abort(t):
     return Term(kinds.ABORT, t)
 

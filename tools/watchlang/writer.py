@@ -184,6 +184,10 @@ def lower(w, e, kid, last, scope, here):
     return f"lower to {w.types.domain(e.fields[0])} {braces(last())}", HEAD, types.UNIT
 
 
+def takedown(w, e, kid, last, scope, here):
+    return f"takedown of {w.types.domain(e.fields[0])}", HEAD, types.UNIT
+
+
 def abort(w, e, kid, last, scope, here):
     return f"abort {w.types.text(e.type)}", HEAD, e.type
 
@@ -242,5 +246,5 @@ WRITERS = {
     kinds.INSTALL: install, kinds.NEW_CELL: new_cell, kinds.READ: read, kinds.STORE: store, kinds.LOWER: lower,
     kinds.ABORT: abort, kinds.OBJECT: object_of, kinds.CALL: call,
     kinds.STACK: constant(lambda e: "stack", types.STACK), kinds.KEEP: keep, kinds.MATCH: match,
-    kinds.FRAME_BYTE: frame_byte,
+    kinds.TAKEDOWN: takedown, kinds.FRAME_BYTE: frame_byte,
 }

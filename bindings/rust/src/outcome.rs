@@ -19,7 +19,7 @@ pub enum Outcome {
     Cells = 5,
     /// The next step would pass 64 labels.
     Labels = 6,
-    /// The next step would pass 64 installed advice.
+    /// The next step would pass 64 advice installed at one time.
     Advice = 7,
     /// The next step would pass 512 pieces: pairs, pointcuts and advice made, and the values of stacks taken.
     Pieces = 8,

@@ -130,6 +130,32 @@ fn a_watch_sees_what_is_kept_around_its_mark() {
     assert_eq!(run.log().collect::<Vec<_>>(), [LogRecord { domain: 1, number: 40 }]);
 }
 
+/// A watch that prints the marked value and takes itself down: the second mark finds none.
+#[test]
+fn a_watch_takes_itself_down() {
+    let mut program = Program::new(&[1, 3]);
+    let number = program.number_type();
+    let new = program.new_label(number, 0);
+    let (label, value) = (program.variable(new.of(), 0), program.variable(number, 1));
+    let (print, down) = (program.print(value), program.takedown(1));
+    let body = program.sequence(print, down);
+    let pointcut = program.pointcut(number, 1, vec![label.clone()]);
+    let watch = program.advice(1, pointcut, body);
+    let install = program.install(watch);
+    let [first, second] = [50, 70].map(|n| {
+        let n = program.number(n);
+        program.mark(label.clone(), n)
+    });
+    let marks = program.sequence(first, second);
+    let all = program.sequence(install, marks);
+    let root = program.bind(0, new, all);
+    let image = program.image(&root);
+    let mut lent = Lent::new(100);
+    let run = run(&image, &[], 1_000, &mut lent).unwrap();
+    assert_eq!(run.outcome(), Outcome::Done);
+    assert_eq!(run.log().collect::<Vec<_>>(), [LogRecord { domain: 1, number: 50 }]);
+}
+
 #[test]
 fn refusals_say_why_and_where() {
     let mut lent = Lent::new(0);

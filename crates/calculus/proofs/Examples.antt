@@ -5,7 +5,7 @@ use mathlib.Core.Bool.{true, false}
 use mathlib.Core.List.{List, [], _∷_}
 use Rattle.calculus.specs.declared.Outcome.{Outcome}
 use Rattle.calculus.specs.Combinators.{cases}
-use Rattle.calculus.specs.Syntax.{Ty, noMethod, method, Val, Tm, Pattern, atEnd, atRest, anything, pointcut, val, var, op0, op1, op2, seq, lower, obj, keep, match, end, more, abort, theStack, print, byte, call, mark, plus, minus}
+use Rattle.calculus.specs.Syntax.{Ty, noMethod, method, Val, Tm, Pattern, atEnd, atRest, anything, pointcut, val, var, op0, op1, op2, seq, lower, obj, keep, match, end, more, abort, takedown, theStack, print, install, byte, call, mark, plus, minus}
 use Rattle.calculus.specs.State.{Advice, State, Given, Counts, Print, picked, logOf, branchesOf, fresh, labelled, installed}
 use Rattle.calculus.specs.Subst.{subst}
 use Rattle.calculus.specs.Answer.{carry, if-room, with, spend}
@@ -141,3 +141,21 @@ past-the-end = refl
 value-not-kept : facts (labelled 0 fresh) (keep (val (Val.label 0)) (seq (looked (pointcut atRest) (var 1)) (number 3)) (val Val.unit)) ≡ record { end = done Val.unit; steps = 5; log = record { dom = 0; shown = 8 } ∷ [] }
 unfolding run after cases step subst carry if-room with spend picked
 value-not-kept = refl
+
+-- Card 7: at one mark the second of three watches of domain 1 takes the watches of domain 1 down; the third, picked already, still runs; the next mark finds the watch of domain 0 alone. The label, and so each pointcut, is of domain 0.
+abbrev clearing : State
+clearing = installed (on 0 (say (number 7))) (installed (on 1 (say (var 0))) (installed (on 1 (op0 (takedown 1) Ty.unit)) (installed (on 1 (say (number 5))) (labelled 0 fresh))))
+
+taken-down : facts clearing (seq marked marked)
+    ≡ record { end = done Val.unit; steps = 18; log = record { dom = 1; shown = 5 } ∷ record { dom = 1; shown = 4 } ∷ record { dom = 0; shown = 7 } ∷ record { dom = 0; shown = 7 } ∷ [] }
+unfolding run after cases step subst carry if-room with spend picked
+taken-down = refl
+
+-- "Freed advice room is used again": 100 times an advice is installed and taken down, in four steps each.
+unfoldable pub again : ℕ → Tm
+again zero = val Val.unit
+again (suc n) = seq (op1 install Ty.unit (val (Val.advice 1 [] (val Val.unit)))) (seq (op0 (takedown 1) Ty.unit) (again n))
+
+room-again : run 400 G 0 fresh (again 100) .end ≡ done Val.unit
+unfolding again run after cases step if-room with carry
+room-again = refl

@@ -1,5 +1,6 @@
--- What the definitions say: arithmetic, small runs, terms that a domain rule refuses, cells and labels that are not there.
+-- What the definitions say: arithmetic, the elements that pass a test, small runs, terms that a domain rule refuses, cells and labels that are not there.
 pub mod Signed
+pub mod Filtered
 pub mod Examples
 pub mod Refused
 pub mod Absent

@@ -5,8 +5,8 @@ use mathlib.Core.Bool.{true, false, _&&_, _||_, true≢false}
 use mathlib.Core.List.{[], _∷_}
 use lib.Dec.{eqb}
 use native.Mathlib.Omega.{arith}
-use Rattle.calculus.specs.Syntax.{Dom, Ty, noMethod, method, Val, Tm, val, var, op0, op1, op2, pcd, adv, lower, keep, end, more, newLabel, install, read, newCell, call, app, mark, store}
-use Rattle.calculus.specs.Typing.{Policy, noStore, TmTy, a-type, has-first, t-call, t-newLabel, t-install, t-read, t-newCell, t-app, t-mark, t-store, is-var, is-op0, is-op1, is-op2, is-pcd, is-adv, is-lower, is-keep, is-end, is-more}
+use Rattle.calculus.specs.Syntax.{Dom, Ty, noMethod, method, Val, Tm, val, var, op0, op1, op2, pcd, adv, lower, keep, end, more, newLabel, takedown, install, read, newCell, call, app, mark, store}
+use Rattle.calculus.specs.Typing.{Policy, noStore, TmTy, a-type, has-first, t-call, t-newLabel, t-takedown, t-install, t-read, t-newCell, t-app, t-mark, t-store, is-var, is-op0, is-op1, is-op2, is-pcd, is-adv, is-lower, is-keep, is-end, is-more}
 
 -- Two domains, 1 ≤ 0: the mainline is high, the watch low.
 abbrev pub watched : Policy
@@ -50,6 +50,10 @@ advice-refused (is-adv {q} (is-var e) l h) = let z : q ≡ 1 = cc in upward (rw 
 -- Low code installs no high advice.
 pub install-refused : Refused (Ty.adv 0) 1 (op1 install Ty.unit (var 0)) Ty.unit
 install-refused (is-op1 (t-install {p} l) (is-var e)) = let z : p ≡ 0 = cc in upward (rw z at l)
+
+-- Low code takes no high advice down (card 7).
+pub takedown-refused : Refused Ty.unit 1 (op0 (takedown 0) Ty.unit) Ty.unit
+takedown-refused (is-op0 (t-takedown l)) = upward l
 
 -- Low code makes no high label and no high cell.
 pub label-refused : Refused Ty.unit 1 (op0 newLabel (Ty.label Ty.number 0)) (Ty.label Ty.number 0)

@@ -37,6 +37,8 @@ pub data Pattern : Type 0 where
 -- An operator of no, one or two operands that are worked out first, left to right.
 pub data Op0 : Type 0 where
   newLabel abort : Op0
+  -- card 7: every installed advice of the domain is taken down
+  takedown : Dom → Op0
   -- card 6: the values that are kept around here
   theStack : Op0
 

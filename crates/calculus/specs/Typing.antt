@@ -5,7 +5,7 @@ use mathlib.Core.Bool.{Bool, true}
 use mathlib.Core.List.{List, [], _∷_, reverseAux}
 use mathlib.Core.Option.{some}
 use lib.ListN.{getElem?}
-use Rattle.calculus.specs.Syntax.{Dom, Ty, Sigs, noMethod, method, Val, Tm, Tms, Pattern, atEnd, atRest, anything, pointcut, Op0, Op1, Op2, val, var, lam, op0, op1, op2, seq, ite, split, pcd, adv, lower, obj, keep, match, end, more, newLabel, abort, theStack, print, install, read, byte, newCell, call, app, mark, store, plus, minus, less, equal}
+use Rattle.calculus.specs.Syntax.{Dom, Ty, Sigs, noMethod, method, Val, Tm, Tms, Pattern, atEnd, atRest, anything, pointcut, Op0, Op1, Op2, val, var, lam, op0, op1, op2, seq, ite, split, pcd, adv, lower, obj, keep, match, end, more, newLabel, abort, takedown, theStack, print, install, read, byte, newCell, call, app, mark, store, plus, minus, less, equal}
 
 -- A store typing: the types of the cells and labels that there are, of each cell `ref a p`, of each label `label a p` (the part of figure 2's Γ that is not variables).
 pub record StoreTyping : Type 0 where
@@ -39,6 +39,8 @@ module _ (D : Policy) where
     t-newLabel : {a : Ty} {p : Dom} → D .leq p c ≡ true → Rule0 c newLabel (Ty.label a p)
     -- document 01: abort has any type
     t-abort : {a : Ty} → Rule0 c abort a
+    -- card 7
+    t-takedown : {p : Dom} → D .leq p c ≡ true → Rule0 c (takedown p) Ty.unit
     -- stack() (card 6)
     t-stack : Rule0 c theStack Ty.stack
 

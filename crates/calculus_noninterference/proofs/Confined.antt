@@ -8,14 +8,14 @@ use lib.ListN.{getElem?}
 use Rattle.calculus.specs.declared.Outcome.{Outcome}
 use Rattle.calculus.specs.Combinators.{cases}
 use Rattle.calculus.specs.Syntax.{Dom, Ty, Val, Tm, Tms, Op0, Op1, Op2, asValue, Pattern}
-use Rattle.calculus.specs.State.{Cell, Advice, Event, Counts, State, Given, charged, celled, stored, labelled, installed, told}
+use Rattle.calculus.specs.State.{Cell, Advice, Event, Counts, State, Given, charged, celled, stored, labelled, installed, cleared, told}
 use Rattle.calculus.specs.View.{unitOf, truthOf, numberOf, pairOf, bodyOf, labelOf, cellOf, labelsOf, bodiesOf, topOf}
 use Rattle.calculus.specs.Numbers.{sum, difference, isLess, isEqual}
 use Rattle.calculus.specs.Answer.{Answer, go, full, halt, wrong, carry, within, if-room, with, spend}
 use Rattle.calculus.specs.Place.{Place, at, deeper, keeping}
 use Rattle.calculus.specs.Reduce.{reduce0, reduce1, reduce2, num, truth, arith, collect, methodBody, matched, branch, matchOn, substAll, reduceMatch}
 use Rattle.calculus.specs.Step.{step, stepFirst}
-use Rattle.calculus.specs.Typing.{Policy, StoreTyping, Rule0, Rule1, Rule2, ValTy, TmTy, TmsTy, t-newLabel, t-abort, t-stack, t-print, t-install, t-read, t-byte, t-newCell, t-call, t-pair, t-app, t-mark, t-store, t-plus, t-minus, t-less, t-equal, v-cell, v-advice, is-val, is-var, is-lam, is-op0, is-op1, is-op2, is-seq, is-ite, is-split, is-pcd, is-adv, is-lower, is-obj, is-keep, is-match, is-end, is-more}
+use Rattle.calculus.specs.Typing.{Policy, StoreTyping, Rule0, Rule1, Rule2, ValTy, TmTy, TmsTy, t-newLabel, t-abort, t-takedown, t-stack, t-print, t-install, t-read, t-byte, t-newCell, t-call, t-pair, t-app, t-mark, t-store, t-plus, t-minus, t-less, t-equal, v-cell, v-advice, is-val, is-var, is-lam, is-op0, is-op1, is-op2, is-seq, is-ite, is-split, is-pcd, is-adv, is-lower, is-obj, is-keep, is-match, is-end, is-more}
 use Rattle.calculus_safety.proofs.StoreFits.{StateFits}
 use Rattle.calculus_safety.proofs.Values.{val-ty}
 use Rattle.calculus_noninterference.specs.Observe.{Highs}
@@ -26,7 +26,7 @@ module _ (hi : Dom → Bool) where
   abbrev pub Under : Dom → Dom → Type 0
   Under p c = hi p ≡ true → hi c ≡ true
 
-  -- What a step at c may do to a state: the cells that it makes or changes, the advice that it installs and what it says are of domains under c.
+  -- What a step at c may do to a state: the cells that it makes or changes, the advice that it installs or takes down and what it says are of domains under c.
   pub data Effect (c : Dom) (s : State) : State → Type 0 where
     e-charge : {u : Counts} → Effect c s (charged u s)
     e-cell : {u : Counts} (a : Cell Val) → Under (a .dom) c → Effect c s (celled (s .cells ++ (a ∷ [])) (charged u s))
@@ -34,6 +34,7 @@ module _ (hi : Dom → Bool) where
     -- a label may be of any domain: the rule for new labels is not needed here
     e-label : (p : Dom) → Effect c s (labelled p s)
     e-advice : (a : Advice Tm) → Under (a .dom) c → Effect c s (installed a s)
+    e-clear : (p : Dom) → Under p c → Effect c s (cleared p s)
     e-event : {u : Counts} (a : Event) → Under (a .dom) c → Effect c s (told a (charged u s))
 
   effect-up : {c p : Dom} {s s′ : State} → Under p c → Effect p s s′ → Effect c s s′
@@ -42,6 +43,7 @@ module _ (hi : Dom → Bool) where
   effect-up u (e-store r a v e x) = e-store r a v e (λ h. u (x h))
   effect-up u (e-label p) = e-label p
   effect-up u (e-advice a x) = e-advice a (λ h. u (x h))
+  effect-up u (e-clear p x) = e-clear p (λ h. u (x h))
   effect-up u (e-event a x) = e-event a (λ h. u (x h))
 
   -- An answer to a step at c over s, if the step was made, had only such an effect.
@@ -96,6 +98,7 @@ module _ (hi : Dom → Bool) where
     confined0 : {c : Dom} {o : Op0} {t : Ty} (G : Given) (P : Place) (s : State) → Rule0 D c o t → Confined c s (reduce0 G (at c P) s o t)
     confined0 G P s (t-newLabel l) = confined-room _ _ (c-go (e-label _))
     confined0 G P s t-abort = c-halt
+    confined0 G P s (t-takedown l) = c-go (e-clear _ (under l))
     confined0 G P s t-stack = confined-spend _ _ (λ u. c-go e-charge)
 
     confined1 : {Σ : StoreTyping} {c : Dom} {o : Op1} {t a : Ty} {v : Val} (G : Given) (P : Place) (s : State) → Rule1 D c o t a → ValTy D Σ v a → StateFits D Σ s → Confined c s (reduce1 G (at c P) s o t v)

@@ -8,13 +8,13 @@ use mathlib.Core.Option.{some}
 use lib.Dec.{leb}
 use borrow.Author.Tests.{le-leb, leb-true}
 use Rattle.calculus.specs.Combinators.{cases}
-use Rattle.calculus.specs.Syntax.{Dom, Ty, Val, Tm, val, var, lam, op0, op1, op2, seq, pcd, adv, end, more, newLabel, print, install, read, newCell, app, mark}
+use Rattle.calculus.specs.Syntax.{Dom, Ty, Val, Tm, val, var, lam, op0, op1, op2, seq, pcd, adv, end, more, newLabel, takedown, print, install, read, newCell, app, mark}
 use Rattle.calculus.specs.State.{Given, Print, picked, logOf, fresh}
 use Rattle.calculus.specs.Subst.{subst}
 use Rattle.calculus.specs.Answer.{carry, if-room, with, spend}
 use Rattle.calculus.specs.Step.{step}
 use Rattle.calculus.specs.Run.{End, done, after, run}
-use Rattle.calculus.specs.Typing.{noStore, TmTy, t-newLabel, t-print, t-install, t-read, t-newCell, t-app, t-mark, no-types, a-type, v-num, is-val, is-var, is-lam, is-op0, is-op1, is-op2, is-seq, is-pcd, is-adv, is-end, is-more}
+use Rattle.calculus.specs.Typing.{noStore, TmTy, t-newLabel, t-takedown, t-print, t-install, t-read, t-newCell, t-app, t-mark, no-types, a-type, v-num, is-val, is-var, is-lam, is-op0, is-op1, is-op2, is-seq, is-pcd, is-adv, is-end, is-more}
 use Rattle.calculus.specs.Blank.{blank}
 use Rattle.calculus_safety.proofs.Example.{falling, falling-trans}
 use Rattle.calculus_noninterference.specs.Observe.{Highs, Shown, highOf, highPrints, highCells, Same}
@@ -91,3 +91,14 @@ left-facts = refl
 right-facts : facts (program right) ≡ sevens (record { dom = 1; shown = 8 } ∷ record { dom = 1; shown = 9 } ∷ record { dom = 0; shown = 5 } ∷ [])
 unfolding highOf run after cases step carry if-room with spend picked subst
 right-facts = refl
+
+-- Card 7: "a takedown written into a low body is one more difference under which high printed numbers still agree".
+abbrev clearing : Tm
+clearing = op0 (takedown 1) Ty.unit
+
+same-takedown : (G : Given) (n n′ : ℕ) → Same hi (run n G 0 fresh (program left)) (run n′ G 0 fresh (program clearing))
+same-takedown G n n′ = demand3 falling hi falling-trans highs (program left) (program clearing) (accepted (is-op1 t-print (is-var refl))) (accepted (is-op0 (t-takedown refl))) (alike left clearing) G G refl n n′
+
+clearing-facts : facts (program clearing) ≡ sevens (record { dom = 0; shown = 5 } ∷ [])
+unfolding highOf run after cases step carry if-room with spend picked subst
+clearing-facts = refl

@@ -1,6 +1,7 @@
 -- Noninterference.
 pub mod Clash
 pub mod Interleave
+pub mod Filtered
 pub mod Related
 pub mod Substitute
 pub mod Blanked

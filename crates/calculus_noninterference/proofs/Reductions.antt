@@ -13,7 +13,7 @@ use Rattle.calculus.specs.View.{topOf, labelsOf}
 use Rattle.calculus.specs.Answer.{go, with, spend}
 use Rattle.calculus.specs.Place.{Place, at, keeping}
 use Rattle.calculus.specs.Reduce.{piece, bind, reduce0, reduce1, reduce2, arith, num, truth, reduceSeq, reduceIte, reduceSplit, reduceAdv, reduceLower, collect, reducePcd, methodBody, stackVal, consFound, matched, branch, matchOn, substAll, reduceMatch}
-use Rattle.calculus.specs.Typing.{Policy, Has, has-first, has-later, StoreTyping, Rule0, Rule1, Rule2, ValTy, t-newLabel, t-abort, t-print, t-install, t-read, t-byte, t-newCell, t-call, t-pair, t-app, t-mark, t-store, t-plus, t-minus, t-less, t-equal, PatternTy, p-end, p-rest, p-any, p-cut, t-stack}
+use Rattle.calculus.specs.Typing.{Policy, Has, has-first, has-later, StoreTyping, Rule0, Rule1, Rule2, ValTy, t-newLabel, t-abort, t-takedown, t-print, t-install, t-read, t-byte, t-newCell, t-call, t-pair, t-app, t-mark, t-store, t-plus, t-minus, t-less, t-equal, PatternTy, p-end, p-rest, p-any, p-cut, t-stack}
 use Rattle.laws.proofs.Lists.{All2.all2-nil, All2.all2-cons, All2, all2-length}
 use Rattle.calculus_safety.proofs.StoreFits.{StateFits}
 use Rattle.calculus_noninterference.specs.Observe.{Highs}
@@ -23,7 +23,7 @@ use Rattle.calculus_noninterference.proofs.Related.{World, grows-refl, 
 use Rattle.calculus.specs.Subst.{subst}
 use Rattle.calculus_noninterference.proofs.Substitute.{rel-choose, relT-subst}
 use Rattle.calculus_noninterference.proofs.Store.{cell-dom}
-use Rattle.calculus_noninterference.proofs.States.{grows-cell, grows-label, rel-charged, cell-both, store-both, label-both, advice-both, event-both}
+use Rattle.calculus_noninterference.proofs.States.{grows-cell, grows-label, rel-charged, cell-both, store-both, label-both, advice-both, clear-both, event-both}
 use Rattle.calculus_noninterference.proofs.Paired.{n-halt, Two, two-go, none-left, two-room, two-spend, two-some, two-found, two-none}
 use Rattle.calculus_noninterference.proofs.Marks.{composed-rel, member-same}
 
@@ -123,6 +123,7 @@ module _ (hi : Dom → Bool) {D : Policy} (H : Highs D hi) {W : World} {s s′ :
   pub two0 : RelKept hi W (P .kept) (P′ .kept) → {o : Op0} {t : Ty} → Rule0 D c o t → Two hi W (reduce0 G (at c P) s o t) (reduce0 G′ (at c P′) s′ o t)
   two0 kept (t-newLabel {p} l) = two-room hi _ _ _ _ (two-go (grows-label W both) (label-both hi R p) (r-val (v-label (matched-last (R .labels)))))
   two0 kept t-abort = none-left n-halt
+  two0 kept (t-takedown {p} l) = two-go (grows-refl W) (clear-both hi R p) (r-val v-unit)
   two0 kept t-stack = two-charge hi R _ _ (r-val (stack-rel hi W kept))
 
   -- A cell that is read at c is high, so what it holds is related.

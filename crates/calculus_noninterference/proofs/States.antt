@@ -1,17 +1,20 @@
 -- Related states stay related as both runs do the same, and as one run alone acts at a low domain.
 use Prim.Native.Nat.{ℕ}
-use mathlib.Core.Path.{_≡_, refl}
-use mathlib.Core.Bool.{Bool, true, false}
+use mathlib.Core.Path.{_≡_, refl, ap}
+use mathlib.Core.Bool.{Bool, true, false, not}
 use mathlib.Core.List.{List, [], _∷_, _++_}
 use mathlib.Core.Option.{some}
 use lib.ListN.{getElem?}
+use lib.Dec.{eqb, eqb→eq}
+use borrow.Author.Tests.{not-false}
 use Rattle.calculus.specs.Syntax.{Dom, Val, Tm}
-use Rattle.calculus.specs.State.{Cell, Advice, Event, Counts, State, charged, celled, stored, labelled, installed, told}
+use Rattle.calculus.specs.State.{Cell, Advice, Event, Counts, State, charged, celled, stored, labelled, installed, otherThan, cleared, told}
 use Rattle.laws.proofs.Lists.{prefix-refl, prefix-append}
 use Rattle.calculus_noninterference.proofs.Clash.{clash}
 use Rattle.calculus_noninterference.proofs.Interleave.{Side, both, left, right, Matched, interleaving-map, append-both, append-left, append-right, set-both, set-left, set-right}
+use Rattle.calculus_noninterference.proofs.Filtered.{filtered-both, filtered-left, filtered-right}
 use Rattle.calculus_noninterference.proofs.Related.{World, Grows, grows-refl, RelV, RelCell, RelAdvice, Cells, Labels, Advices, Events, RelS, cell-mono, advice-mono}
-use Rattle.calculus_noninterference.proofs.Confined.{Under, Effect, e-charge, e-cell, e-store, e-label, e-advice, e-event}
+use Rattle.calculus_noninterference.proofs.Confined.{Under, Effect, e-charge, e-cell, e-store, e-label, e-advice, e-clear, e-event}
 
 -- A world with one more cell, one more label.
 abbrev pub withCell : World → Side → World
@@ -70,6 +73,9 @@ module _ (hi : Dom → Bool) {W : World} {s s′ : State} (R : RelS hi W s s′)
   pub advice-both : {a b : Advice Tm} → RelAdvice hi W a b → RelS hi W (installed a s) (installed b s′)
   advice-both h = put-advices hi R (append-both (R .advices) h)
 
+  pub clear-both : (p : Dom) → RelS hi W (cleared p s) (cleared p s′)
+  clear-both p = put-advices hi R (filtered-both _ _ (otherThan p) (λ a b h. ap (λ q. not (eqb q p)) (h .same-dom)) (R .advices) .1)
+
   pub event-both : (a : Event) → hi (a .dom) ≡ true → RelS hi W (told a s) (told a s′)
   event-both a h = put-trace hi R (append-both (R .trace) (record { same = refl; high = h }))
 
@@ -79,6 +85,10 @@ low-of hi {p} u f = pick (hi p) refl
     pick : (b : Bool) → hi p ≡ b → hi p ≡ false
     pick true e = clash (u e) f
     pick false e = e
+
+-- What a takedown of a low domain takes down is low (card 7).
+low-gone : (hi : Dom → Bool) (a : Advice Tm) (p : Dom) → hi p ≡ false → otherThan p a ≡ false → hi (a .dom) ≡ false
+low-gone hi a p f e = let z : a .dom ≡ p = eqb→eq (a .dom) p (rw (not-false (eqb (a .dom) p) e) tt) in rw z f
 
 -- The new state of a run that went on alone, related to the other's in a world that grew.
 pub record Later (hi : Dom → Bool) (W : World) (s s′ : State) : Type 0 where
@@ -103,6 +113,7 @@ module _ (hi : Dom → Bool) {W : World} {s s′ : State} (R : RelS hi W s s′)
   effect-left f (e-store r a v e x) = later (store-left r a v e (low-of hi x f))
   effect-left f (e-label p) = record { world = withLabel W left; grows = grows-label W left; rel = grow-labels hi R left (append-left (R .labels) tt) }
   effect-left f (e-advice a x) = later (put-advices hi R (append-left (R .advices) (low-of hi x f)))
+  effect-left f (e-clear p x) = later (put-advices hi R (filtered-left _ _ (otherThan p) (λ a b (h : RelAdvice hi W a b) e. rw (h .same-dom) at (low-gone hi a p (low-of hi x f) e)) (R .advices) .1))
   effect-left f (e-event {u} a x) = later (put-trace hi (rel-charged hi R u (s′ .used)) (append-left (R .trace) (low-of hi x f)))
 
   -- The right alone makes a step at a low domain.
@@ -112,4 +123,5 @@ module _ (hi : Dom → Bool) {W : World} {s s′ : State} (R : RelS hi W s s′)
   effect-right f (e-store r b v e x) = later (store-right r b v e (low-of hi x f))
   effect-right f (e-label p) = record { world = withLabel W right; grows = grows-label W right; rel = grow-labels hi R right (append-right (R .labels) tt) }
   effect-right f (e-advice a x) = later (put-advices hi R (append-right (R .advices) (low-of hi x f)))
+  effect-right f (e-clear p x) = later (put-advices hi R (filtered-right _ _ (otherThan p) (λ a b h e. rw (h .same-dom) (low-gone hi b p (low-of hi x f) e)) (R .advices) .1))
   effect-right f (e-event {u} a x) = later (put-trace hi (rel-charged hi R (s .used) u) (append-right (R .trace) (low-of hi x f)))

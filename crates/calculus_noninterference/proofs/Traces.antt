@@ -14,7 +14,7 @@ use Rattle.calculus_safety.proofs.Safe.{Found, Found.found, Found.nothing}
 use Rattle.calculus_noninterference.specs.Observe.{highOf, CutEqual}
 use Rattle.calculus_noninterference.proofs.Interleave.{Side, i-nil, i-both, i-left, i-right}
 use Rattle.calculus_noninterference.proofs.Related.{Events}
-use Rattle.calculus_noninterference.proofs.Confined.{Effect, e-charge, e-cell, e-store, e-label, e-advice, e-event}
+use Rattle.calculus_noninterference.proofs.Confined.{Effect, e-charge, e-cell, e-store, e-label, e-advice, e-clear, e-event}
 
 -- A prefix picks a prefix.
 prefix-picked : {A B : Type 0} (f : A → Option B) {x y : List A} → Prefix x y → Prefix (picked f x) (picked f y)
@@ -93,4 +93,5 @@ module _ (hi : Dom → Bool) where
   effect-events (e-store r a v e u) = prefix-refl _
   effect-events (e-label p) = prefix-refl _
   effect-events (e-advice a u) = prefix-refl _
+  effect-events (e-clear p u) = prefix-refl _
   effect-events (e-event a u) = events-more _ _

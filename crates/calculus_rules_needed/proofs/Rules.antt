@@ -5,7 +5,7 @@ use mathlib.Core.Path.{_≡_, refl}
 use mathlib.Core.Bool.{true}
 use mathlib.Core.List.{List, [], _∷_}
 use Rattle.calculus.specs.Combinators.{cases}
-use Rattle.calculus.specs.Syntax.{Dom, Ty, Tm, var, lam, op1, op2, seq, lower, obj, end, more, newCell, call, app, store}
+use Rattle.calculus.specs.Syntax.{Dom, Ty, Tm, var, lam, op0, op1, op2, seq, lower, obj, end, more, takedown, newCell, call, app, store}
 use Rattle.calculus.specs.State.{picked}
 use Rattle.calculus.specs.Subst.{subst}
 use Rattle.calculus.specs.Answer.{carry, if-room, with, spend}
@@ -15,7 +15,7 @@ use Rattle.calculus.specs.Typing.{Policy, noStore, TmTy, has-first, t-newLabel,
 use Rattle.calculus.specs.Blank.{blank}
 use Rattle.calculus.specs.Accepted.{Accepted}
 use Rattle.calculus_noninterference.specs.Observe.{highOf}
-use Rattle.calculus_rules_needed.specs.Need.{apply-rule, call-rule, mark-rule, cell-rule, store-rule, install-rule, read-rule, lower-rule, body-rule, pointcut-rule, advice-rule, but-apply, but-call, but-mark, but-cell, but-store, but-install, but-read, but-lower, but-body, but-pointcut, but-advice, Ordered, Needed}
+use Rattle.calculus_rules_needed.specs.Need.{apply-rule, call-rule, mark-rule, cell-rule, store-rule, install-rule, takedown-rule, read-rule, lower-rule, body-rule, pointcut-rule, advice-rule, but-apply, but-call, but-mark, but-cell, but-store, but-install, but-takedown, but-read, but-lower, but-body, but-pointcut, but-advice, Ordered, Needed}
 use Rattle.calculus_rules_needed.proofs.Programs.{number, unit, oneMethod, say, onLabel, watching, put, withCell, readIt, storeIt, withLabel, markIt, results-differ, prints-differ, cells-differ}
 
 -- What the programs have in common.
@@ -181,6 +181,24 @@ install-needed = record {
   fits = λ D o e h. (accepted-label (o .high) (is-lower (o .below) h) (typed-mark o), accepted-label (o .high) (typed-nothing o) (typed-mark o));
   alike = refl;
   differ = prints-differ 3 5 _ _ refl refl (λ z. omega arith);
+}
+
+-- Low code that took high advice down would keep it from high marks (card 7).
+pub takedown-needed : Needed takedown-rule 1
+unfolding blank highOf run after cases step carry if-room with spend picked subst
+takedown-needed = record {
+  context = Ty.label Ty.number 0 ∷ [];
+  type = Ty.unit;
+  term = op0 (takedown 0) Ty.unit;
+  lacks = λ D o. but-takedown;
+  left = λ e. withLabel 0 (put (watching onLabel)) (seq (lower 1 e) markIt);
+  right = λ e. withLabel 0 (put (watching onLabel)) (seq (lower 1 unit) markIt);
+  fits = λ D o e h. (
+    accepted-label (o .high) (typed-put o (typed-watching o (typed-on o (o .high)))) (is-seq (is-lower (o .below) h) (typed-mark o)),
+    accepted-label (o .high) (typed-put o (typed-watching o (typed-on o (o .high)))) (is-seq (typed-nothing o) (typed-mark o)),
+  );
+  alike = refl;
+  differ = prints-differ 5 3 _ _ refl refl (λ z. omega arith);
 }
 
 -- Low code that made a high cell would add to the high cells.

@@ -4,7 +4,7 @@ use mathlib.Core.Path.{_≡_}
 use mathlib.Core.Bool.{Bool, true}
 use mathlib.Core.List.{List, [], _∷_}
 use lib.Dec.{eqb}
-use Rattle.calculus.specs.Syntax.{Dom, Ty, Sigs, Tm, op1, op2, pcd, adv, lower, end, more, install, read, newCell, call, app, mark, store}
+use Rattle.calculus.specs.Syntax.{Dom, Ty, Sigs, Tm, op0, op1, op2, pcd, adv, lower, end, more, takedown, install, read, newCell, call, app, mark, store}
 use Rattle.calculus.specs.State.{Given, fresh}
 use Rattle.calculus.specs.Run.{Ended, run}
 use Rattle.calculus.specs.Typing.{Policy, Has, noStore, TmTy}
@@ -12,9 +12,9 @@ use Rattle.calculus.specs.Blank.{blank}
 use Rattle.calculus.specs.Accepted.{Accepted}
 use Rattle.calculus_noninterference.specs.Observe.{Same}
 
--- Document 01, "Domain rules", but that of new labels, which demand 3 does without; and "the body of lower at its field p"; card 3, "a call needs that domain to be the current one".
+-- Document 01, "Domain rules", but that of new labels, which demand 3 does without; and "the body of lower at its field p"; card 3, "a call needs that domain to be the current one"; card 7, a takedown's domain "must be ≤ the current one".
 pub data DomainRule : Type 0 where
-  apply-rule call-rule mark-rule cell-rule store-rule install-rule read-rule lower-rule body-rule pointcut-rule advice-rule : DomainRule
+  apply-rule call-rule mark-rule cell-rule store-rule install-rule takedown-rule read-rule lower-rule body-rule pointcut-rule advice-rule : DomainRule
 
 module _ (D : Policy) (Γ : List Ty) (c : Dom) where
   -- A term at the current domain c that its rule in figure 3 types but for the rule's domain premise.
@@ -31,6 +31,8 @@ module _ (D : Policy) (Γ : List Ty) (c : Dom) where
     but-store : {a : Ty} {p : Dom} {e f : Tm} → TmTy D noStore Γ c e (Ty.ref a p) → TmTy D noStore Γ c f a → Lacks store-rule (op2 store Ty.unit e f) Ty.unit
     -- ⇑ e: no p ≤ c
     but-install : {p : Dom} {e : Tm} → TmTy D noStore Γ c e (Ty.adv p) → Lacks install-rule (op1 install Ty.unit e) Ty.unit
+    -- a takedown of p: no p ≤ c
+    but-takedown : {p : Dom} → Lacks takedown-rule (op0 (takedown p) Ty.unit) Ty.unit
     -- !e: no c ≤ p
     but-read : {a : Ty} {p : Dom} {e : Tm} → TmTy D noStore Γ c e (Ty.ref a p) → Lacks read-rule (op1 read a e) a
     -- p<e>: no p ≤ c

@@ -19,7 +19,7 @@ use Rattle.laws.proofs.Lists.{All2, All2.all2-nil, All2.all2-cons, all-snoc, al
 use Rattle.calculus.specs.Accepted.{Transitive}
 use Rattle.calculus_safety.proofs.Extend.{extends-cell, extends-label, grow-val}
 use Rattle.calculus_safety.proofs.Substitute.{Without, Without.here, Without.there, subst-tm}
-use Rattle.calculus_safety.proofs.StoreFits.{CellFits, CellFits.cell-fits, LabelFits.label-fits, AdviceFits.advice-fits, StateFits, cell-there, label-there, grow-cells, grow-advices, EntryFits.entry-fits, KeptFits}
+use Rattle.calculus_safety.proofs.StoreFits.{CellFits, CellFits.cell-fits, LabelFits.label-fits, AdviceFits.advice-fits, StateFits, all-filtered, cell-there, label-there, grow-cells, grow-advices, EntryFits.entry-fits, KeptFits}
 use Rattle.calculus_safety.proofs.Safe.{Safe, Safe.safe-go, Safe.safe-halt, safe-here, safe-room, safe-spend, Found, Found.found, Found.nothing}
 use Rattle.calculus_safety.proofs.Composed.{composed-typed, member-label}
 
@@ -105,6 +105,7 @@ module _ (D : Policy) {Σ : StoreTyping} {c : Dom} (s : State) (fits : StateFits
         (record { cells = grow-cells D x (fits .cells); labels = all2-snoc (fits .labels) label-fits; advices = grow-advices D x (fits .advices) })
         (TmTy.is-val (ValTy.v-label place)))
     safe0 kept Rule0.t-abort = safe-halt
+    safe0 kept (Rule0.t-takedown {p} h) = here-val _ (record { cells = fits .cells; labels = fits .labels; advices = all-filtered _ (fits .advices) }) ValTy.v-unit
     safe0 kept Rule0.t-stack = safe-spend D _ s _ (here-val _ fits (stack-typed D kept))
 
     pub safe1 : {o : Op1} {t a : Ty} {v : Val} → Rule1 D c o t a → ValTy D Σ v a → Safe D Σ c t (reduce1 G (at c P) s o t v)

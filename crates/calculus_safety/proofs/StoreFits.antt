@@ -1,16 +1,26 @@
 -- A state that fits a store typing (document 003, section 2.3, figure 6).
 use Prim.Native.Nat.{ℕ}
 use mathlib.Core.Path.{_≡_, refl, ap, _∙_}
-use mathlib.Core.Bool.{true}
+use mathlib.Core.Bool.{Bool, true, false}
 use mathlib.Core.List.{List, [], _∷_}
 use mathlib.Core.Option.{some}
 use lib.ListN.{getElem?}
+use Rattle.calculus.specs.Combinators.{choose, filtered}
 use Rattle.calculus.specs.Syntax.{Dom, Ty, Val, Tm}
 use Rattle.calculus.specs.State.{Cell, Advice, Entry, State, fresh}
 use Rattle.calculus.specs.Plain.{isPlain}
 use Rattle.calculus.specs.Typing.{StoreTyping, Policy, LabelsOf, ValTy, TmTy, noStore}
-use Rattle.laws.proofs.Lists.{All, All2, all-map, all2-map, all2-get, All.all-nil, All2.all2-nil}
+use Rattle.laws.proofs.Lists.{All, All2, all-map, all2-map, all2-get, All.all-nil, All.all-cons, All2.all2-nil}
 use Rattle.calculus_safety.proofs.Extend.{Extends, grow-labels, grow-val, grow-tm}
+
+-- What holds of each element holds of each that passes a test.
+pub all-filtered : {A : Type 0} {P : A → Type 0} (p : A → Bool) {x : List A} → All P x → All P (filtered p x)
+all-filtered p all-nil = all-nil
+all-filtered {A} {P} p (all-cons {x = a} h hs) = look (p a) (all-filtered p hs)
+  where
+    look : {y : List A} (b : Bool) → All P y → All P (choose b (a ∷ y) y)
+    look true k = all-cons h k
+    look false k = k
 
 -- A label's domain is its type's.
 pub data LabelFits : Ty → Dom → Type 0 where

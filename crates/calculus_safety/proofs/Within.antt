@@ -8,13 +8,14 @@ use mathlib.Core.Option.{Option, none, some}
 use lib.ListN.{length, set, length-append, length-set}
 use lib.Dec.{T, leb, leb→le, ltb→lt}
 use Rattle.calculus.specs.Limits.{bindingLimit, cellLimit, pieceLimit, labelLimit, adviceLimit, logRecordLength}
-use Rattle.calculus.specs.Syntax.{Dom, Ty, Val, Tm, Pattern, Op0, Op1, Op2, newLabel, abort, theStack, print, install, read, byte, newCell, call, app, mark, store, plus, minus, less, equal}
-use Rattle.calculus.specs.State.{Cell, Advice, Event, turns, State, Given, Counts, consOption, picked, printOf, logOf, addCounts, charged, celled, labelled, installed, told, fresh, someBindings, oneCell, onePiece, somePieces}
+use Rattle.calculus.specs.Syntax.{Dom, Ty, Val, Tm, Pattern, Op0, Op1, Op2, newLabel, abort, takedown, theStack, print, install, read, byte, newCell, call, app, mark, store, plus, minus, less, equal}
+use Rattle.calculus.specs.State.{Cell, Advice, Event, turns, State, Given, Counts, consOption, picked, printOf, logOf, addCounts, charged, celled, labelled, installed, otherThan, cleared, told, fresh, someBindings, oneCell, onePiece, somePieces}
 use Rattle.calculus.specs.View.{topOf, labelsOf}
 use Rattle.calculus.specs.Answer.{go, with, spend}
 use Rattle.calculus.specs.Place.{Place}
 use Rattle.calculus.specs.Reduce.{reduce0, reduce1, reduce2, branch, matchOn, reduceMatch, substAll, matched}
 use Rattle.calculus.specs.Run.{run}
+use Rattle.calculus.proofs.Filtered.{filtered-length}
 use Rattle.calculus_safety.proofs.Invariant.{Makes, Makes.makes-go, Makes.makes-halt, Makes.makes-wrong, makes-room, makes-with, makes-spend, Reduces, run-keeps}
 
 -- What holds of every state that a run comes to.
@@ -84,6 +85,12 @@ module _ (G : Given) where
         let one = length-append (s .advices) (a ∷ []) in
         record { counted = W .counted; bindings = W .bindings; cells = W .cells; pieces = W .pieces; labels = W .labels; advices = omega arith; log = W .log }
 
+    within-cleared : (p : Dom) → Within G (cleared p s)
+    within-cleared p =
+        let fewer = filtered-length (otherThan p) (s .advices) in
+        let was = W .advices in
+        record { counted = W .counted; bindings = W .bindings; cells = W .cells; pieces = W .pieces; labels = W .labels; advices = omega arith; log = W .log }
+
     within-told : (a : Event) → logRecordLength ≤ G .logLength - logRecordLength * length (logOf (s .trace)) → Within G (told a s)
     within-told a h =
         let one = log-told (s .trace) a in
@@ -101,6 +108,7 @@ module _ (G : Given) where
     within0 : (P : Place) (o : Op0) (t : Ty) → Makes (Within G) (reduce0 G P s o t)
     within0 P newLabel t = makes-room (Within G) _ _ (λ b. makes-go (within-label _ (ltb→lt (length (s .labels)) labelLimit b)))
     within0 P abort t = makes-halt
+    within0 P (takedown p) t = makes-go (within-cleared p)
     within0 P theStack t = within-spent (somePieces _) _ refl
 
     within1 : (P : Place) (o : Op1) (t : Ty) (v : Val) → Makes (Within G) (reduce1 G P s o t v)

@@ -154,6 +154,12 @@ pub const TYPE_THREE_CHILDREN_ENTRIES_AND_TRUTH: u32 = 14
     + CLASSES * (SECOND * CLASS_TERM + THIRD * CLASS_TERM + FOURTH * CLASS_TERM)
     + CLASSES * (FIFTH * CLASS_ENTRY + SIXTH * CLASS_TRUTH);
 
+// Card 7: a takedown, a type and a domain.
+pub const TERM_TYPE_AND_DOMAIN: u32 = 8
+    + SECTION * TERMS
+    + LEAD * 2
+    + CLASSES * SECOND * CLASS_DOMAIN;
+
 // How many numbers the table has a place for: up to the last kind's.
 const KIND_COUNT: u16 = 61;
 
@@ -217,7 +223,7 @@ const KINDS: [u32; 61] = [
     TYPE,
     TYPE_AND_THREE_CHILDREN,
     TYPE_THREE_CHILDREN_ENTRIES_AND_TRUTH,
-    0,
+    TERM_TYPE_AND_DOMAIN,
     TYPE_AND_CHILD,
 ];
 

@@ -34,7 +34,7 @@ left-over f js h m r k e = or-else (isOne js k) (f k) (at-term (λ k. isOne js k
 
 -- The kinds with more than a type before their children.
 abbrev pub longLead : List TermKind
-longLead = TermKind.lower ∷ TermKind.arith ∷ TermKind.var ∷ TermKind.number ∷ TermKind.truth ∷ []
+longLead = TermKind.takedown ∷ TermKind.lower ∷ TermKind.arith ∷ TermKind.var ∷ TermKind.number ∷ TermKind.truth ∷ []
 
 pub one-before : (m : ℕ) → apart m longLead → (k : TermKind) → m ≡ termRow k .number → leadOf k ≡ 1
 unfolding everyOf
@@ -53,7 +53,7 @@ none-below fs m r k e = children-counted fs k (left-over (λ k. sideBySide k) wi
 -- The kinds that may have children, but the last.
 abbrev pub beforeLast : List TermKind
 beforeLast =
-    TermKind.match ∷ TermKind.keep ∷ TermKind.stack ∷ TermKind.call ∷ TermKind.obj ∷ TermKind.abort ∷ TermKind.lower ∷ TermKind.store ∷ TermKind.read ∷ TermKind.newCell ∷ TermKind.install ∷ TermKind.adv ∷ TermKind.pcd ∷ TermKind.mark ∷ TermKind.newLabel
+    TermKind.takedown ∷ TermKind.match ∷ TermKind.keep ∷ TermKind.stack ∷ TermKind.call ∷ TermKind.obj ∷ TermKind.abort ∷ TermKind.lower ∷ TermKind.store ∷ TermKind.read ∷ TermKind.newCell ∷ TermKind.install ∷ TermKind.adv ∷ TermKind.pcd ∷ TermKind.mark ∷ TermKind.newLabel
     ∷ TermKind.arith ∷ TermKind.app ∷ TermKind.fun ∷ TermKind.split ∷ TermKind.pair ∷ TermKind.ite ∷ TermKind.print ∷ TermKind.seq ∷ []
 
 pub last-kind : (m : ℕ) → apart m beforeLast → (k : TermKind) → m ≡ termRow k .number → 35 < m → k ≡ TermKind.byte

@@ -242,6 +242,14 @@ module _ {b table : List ℕ} (T : Terms b table) {n : ℕ} (h : IsTerm b n) whe
       let m = fields-length in
       omega arith
 
+  -- Card 7: a takedown's domain stands behind its type.
+  pub takedown-long : kind ≡ TermKind.takedown → 3 < length (fieldsOf b n)
+  takedown-long e =
+      let l : leadOf kind ≡ 2 = ap leadOf e in
+      let f = fields-counted (ap sideBySide e) in
+      let m = fields-length in
+      omega arith
+
   -- Card 6: the entries of a match.
   pub entries-in : kind ≡ TermKind.match → Entries b (fieldsOf b n)
   entries-in e = record { long = omega (arith, f, m); few = few; each = each }

@@ -91,6 +91,12 @@ module _ {b descriptors fs : List ℕ} (K : Types b descriptors) (t : Typed b fs
   unfolding words
   stack-right = one-test place _ _ ∙ on-descriptors K t place TermKind.stack p tt
 
+  -- Card 7: the domain that a takedown names stands behind its type.
+  pub takedown-right : {ms : List ℕ} → Masks b ms
+      → judged place (record { bound = true; typed = descriptorIs (ownDescriptor descriptors fs) TypeKind.unit; allowed = bitOf ms (fieldIn fs 1) (p .dom) }) ≡ judged place (ruleIn b fs TermKind.takedown p)
+  unfolding words
+  takedown-right M = one-test place _ _ ∙ on-masks K t place TermKind.takedown p tt M
+
   -- A constant: the number of its kind is 16 more than that of its type's.
   pub constant-right : (k : TermKind) → termRow k .number < 35
       → judged place (record { bound = true; typed = eqb (descriptorKind (ownDescriptor descriptors fs)) (termRow k .number - 16); allowed = true }) ≡ judged place (ruleIn b fs k p)

@@ -75,4 +75,6 @@ pub const KEEP: u16 = 57;
 
 pub const MATCH: u16 = 58;
 
+pub const TAKEDOWN: u16 = 59;
+
 pub const FRAME_BYTE: u16 = 60;

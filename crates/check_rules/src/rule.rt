@@ -26,6 +26,7 @@ use crate::watches::check_install;
 use crate::watches::check_mark;
 use crate::watches::check_new_label;
 use crate::watches::check_pointcut;
+use crate::watches::check_takedown;
 use check_records::numbers::DomainNo;
 use check_records::numbers::TermNo;
 use verdict::Verdict;
@@ -77,6 +78,7 @@ pub fn check_rule(
         kinds::STACK => check_stack(image, descriptors, at, fields),
         kinds::KEEP => check_keep(image, terms, descriptors, at, fields, c),
         kinds::MATCH => check_match(image, terms, descriptors, at, fields),
+        kinds::TAKEDOWN => check_takedown(image, masks, descriptors, at, fields, c),
         _ => check_byte(image, terms, descriptors, at, fields),
     }
 }

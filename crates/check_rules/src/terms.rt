@@ -113,6 +113,7 @@ pub fn lead_of(kind: u16) -> usize
         kinds::VARIABLE => 2,
         kinds::ARITHMETIC => 2,
         kinds::LOWER => 2,
+        kinds::TAKEDOWN => 2,
         _ => 1,
     }
 }

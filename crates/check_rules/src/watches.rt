@@ -9,6 +9,7 @@ use crate::kinds::POINTCUT_TYPE;
 use crate::kinds::UNIT_TYPE;
 use crate::terms::descriptor_at_field;
 use crate::terms::labels_in;
+use crate::terms::other_field;
 use crate::terms::own_descriptor;
 use crate::terms::type_at_field;
 use crate::types::first_domain;
@@ -22,7 +23,8 @@ use check_records::numbers::TypeNo;
 use verdict::Verdict;
 ghost use mathlib.Core.Path.{_≡_};
 ghost use mathlib.Core.List.{List};
-ghost use Prim.Native.Nat.{ℕ};
+ghost use Prim.Native.Nat.{ℕ, _<_};
+ghost use lib.ListN.{length};
 ghost use Rattle.laws.specs.Tests.{allOf};
 ghost use Rattle.image.specs.Kinds.{TermKind};
 ghost use Rattle.verdict.specs.Settings.{Setting};
@@ -185,4 +187,21 @@ pub fn check_install(
         both(is_kind(own, UNIT_TYPE), is_kind(first, ADVICE_TYPE)),
         leq(masks, first_domain(first), c),
     )
+}
+
+// A takedown (document 02, card 7) names a domain that is below the current one, and gives unit.
+pub fn check_takedown(
+    image: &[u8],
+    masks: &[u16; 16],
+    descriptors: &[u32],
+    at: usize,
+    fields: &[u8],
+    c: DomainNo,
+) -> Verdict
+    requires { ⌜ Types (now image) (now descriptors) × Typed (now image) (now fields) × (3 < length (now fields)) × Masks (now image) (now masks) ⌝ }
+    ensures { λ r. ⌜ ((Γ : List ℕ) → r ≡ judged at (ruleIn (now (image .entry)) (now (fields .entry)) TermKind.takedown (record { context = Γ; dom = c .0 }))) ⌝ }
+{
+    let own = own_descriptor(descriptors, fields);
+    let p = DomainNo(other_field(fields));
+    judge(at, is_kind(own, UNIT_TYPE), leq(masks, p, c))
 }

@@ -9,8 +9,10 @@ pub mod Steps
 pub mod Demands
 pub mod Trimmed
 pub mod LowMethods
+pub mod LowTakedowns
 pub mod Unpaid
 pub mod Branches
 pub mod UnpaidExample
 pub mod Sheet
 pub mod Example
+pub mod TakedownExample

@@ -11,12 +11,12 @@ use Rattle.demands.proofs.Demands.{demand3}
 
 module _ (high : Dom → Bool) where
   -- A child that is a low body is blank, whatever it was.
-  low-blank : (low : ℕ → Bool) (e f : Program) (es fs : Programs) → low 0 ≡ true → blankeds high es (λ i. low (suc i)) ≡ blankeds high fs (λ i. low (suc i))
+  pub low-blank : (low : ℕ → Bool) (e f : Program) (es fs : Programs) → low 0 ≡ true → blankeds high es (λ i. low (suc i)) ≡ blankeds high fs (λ i. low (suc i))
       → blankeds high (more e es) low ≡ blankeds high (more f fs) low
   unfolding blanked
   low-blank low e f es fs h q = rw h (ap (more blank) q)
 
-  like-blank : (low : ℕ → Bool) (e f : Program) (es fs : Programs) → blanked high e ≡ blanked high f → blankeds high es (λ i. low (suc i)) ≡ blankeds high fs (λ i. low (suc i))
+  pub like-blank : (low : ℕ → Bool) (e f : Program) (es fs : Programs) → blanked high e ≡ blanked high f → blankeds high es (λ i. low (suc i)) ≡ blankeds high fs (λ i. low (suc i))
       → blankeds high (more e es) low ≡ blankeds high (more f fs) low
   unfolding blanked
   like-blank low e f es fs h q = ap₂ more (pick (low 0)) q

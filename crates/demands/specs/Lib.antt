@@ -4,5 +4,6 @@ pub mod SameBytes
 pub mod Compare
 pub mod Trimmed
 pub mod LowMethods
+pub mod LowTakedowns
 pub mod Unpaid
 pub mod Branches

@@ -71,6 +71,7 @@ module _ (high : Dom → Bool) where
   assembled TermKind.stack t vs fs es h = refl
   assembled TermKind.keep t vs fs es h = cc (h .one 0, h .one 1, h .one 2)
   assembled TermKind.match t vs fs es h = let r = ap (behind 3) (h .every (match-high t vs)) ∙ blanks-behind 3 es in cc (h .one 0, h .one 1, h .one 2, r)
+  assembled TermKind.takedown t vs fs es h = refl
 
   -- One more subterm, which stands first.
   first-blanked : (low : ℕ → Bool) (e : Program) (es : Programs) → toTm (blanked high e) ≡ blankTm high (toTm e) → Blanked (λ i. low (suc i)) (toTms (blankeds high es (λ i. low (suc i)))) (toTms es)

@@ -47,6 +47,7 @@ found (term TermKind.call) = refl
 found (term TermKind.stack) = refl
 found (term TermKind.keep) = refl
 found (term TermKind.match) = refl
+found (term TermKind.takedown) = refl
 
 pub same-kind : (j k : Kind) → rowOf j .number ≡ rowOf k .number → j ≡ k
 same-kind j k e = let z : some j ≡ some k = sym (found j) ∙ ap (λ n. kindOf n) e ∙ found k in cc

@@ -44,7 +44,7 @@ pub data TypeKind : Type 0 where
   unit truth number pair fun ref label pcd adv obj stack : TypeKind
 
 pub data TermKind : Type 0 where
-  unit truth number var seq print ite pair split fun app arith newLabel mark pcd adv install newCell read store lower abort byte obj call stack keep match : TermKind
+  unit truth number var seq print ite pair split fun app arith newLabel mark pcd adv install newCell read store lower abort byte obj call stack keep match takedown : TermKind
 
 pub data Kind : Type 0 where
   domain : Kind
@@ -113,6 +113,8 @@ termRow TermKind.call = record { number = 55; first = a-type ∷ a-child ∷ [];
 termRow TermKind.stack = row 56 (a-type ∷ [])
 termRow TermKind.keep = row 57 (a-type ∷ a-child ∷ a-child ∷ a-child ∷ [])
 termRow TermKind.match = record { number = 58; first = a-type ∷ a-child ∷ a-term match-body ∷ a-child ∷ []; group = an-entry ∷ []; least = 0; most = entryLimit; last = a-truth ∷ [] }
+-- card 7
+termRow TermKind.takedown = row 59 (a-type ∷ a-domain ∷ [])
 
 abbrev pub rowOf : Kind → Row
 rowOf domain = domainRow
@@ -128,7 +130,7 @@ kinds =
     ∷ term TermKind.ite ∷ term TermKind.pair ∷ term TermKind.split ∷ term TermKind.fun ∷ term TermKind.app ∷ term TermKind.arith
     ∷ term TermKind.newLabel ∷ term TermKind.mark ∷ term TermKind.pcd ∷ term TermKind.adv ∷ term TermKind.install ∷ term TermKind.newCell
     ∷ term TermKind.read ∷ term TermKind.store ∷ term TermKind.lower ∷ term TermKind.abort ∷ term TermKind.byte
-    ∷ term TermKind.obj ∷ term TermKind.call ∷ term TermKind.stack ∷ term TermKind.keep ∷ term TermKind.match
+    ∷ term TermKind.obj ∷ term TermKind.call ∷ term TermKind.stack ∷ term TermKind.keep ∷ term TermKind.match ∷ term TermKind.takedown
     ∷ []
 
 unfoldable pub find : ℕ → List Kind → Option Kind

@@ -5,7 +5,7 @@ use mathlib.Core.List.{List, [], _∷_}
 use mathlib.Core.Option.{Option, none, some}
 use lib.ListN.{length, getD}
 use lib.Dec.{eqb}
-use Rattle.calculus.specs.Syntax.{Dom, Ty, Val, Tm, Tms, Pattern, atEnd, atRest, anything, pointcut, Op2, val, var, lam, op0, op1, op2, seq, ite, split, pcd, adv, lower, obj, keep, match, newLabel, abort, theStack, print, install, read, byte, newCell, call, app, mark, store, plus, minus, less, equal}
+use Rattle.calculus.specs.Syntax.{Dom, Ty, Val, Tm, Tms, Pattern, atEnd, atRest, anything, pointcut, Op2, val, var, lam, op0, op1, op2, seq, ite, split, pcd, adv, lower, obj, keep, match, newLabel, abort, takedown, theStack, print, install, read, byte, newCell, call, app, mark, store, plus, minus, less, equal}
 use Rattle.calculus.specs.Plain.{domOf, methodsOf, methodDom}
 use Rattle.image.specs.Kinds.{Body, here, function-body, advice-body, split-body, lower-body, method-body, match-body, TermKind, bodyOf}
 use Rattle.image.specs.Records.{Layout}
@@ -96,6 +96,7 @@ assemble TermKind.call t vs es = op1 (call (getD vs 0 0)) t (nth es 0)
 assemble TermKind.stack t vs es = op0 theStack t
 assemble TermKind.keep t vs es = keep (nth es 0) (nth es 1) (nth es 2)
 assemble TermKind.match t vs es = match (patternOf vs) (Tms.more (nth es 0) (behind 3 es)) (nth es 1) (nth es 2)
+assemble TermKind.takedown t vs es = op0 (takedown (getD vs 0 0)) t
 
 unfoldable mutual
   pub toTm : Program → Tm

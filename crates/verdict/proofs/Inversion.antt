@@ -5,8 +5,8 @@ use mathlib.Core.Bool.{Bool, true}
 use mathlib.Core.List.{List, [], _∷_}
 use mathlib.Core.Option.{some}
 use lib.ListN.{getElem?}
-use Rattle.calculus.specs.Syntax.{Dom, Ty, Sigs, Val, Tm, Tms, Op2, val, var, lam, op0, op1, op2, seq, ite, split, pcd, adv, lower, obj, keep, match, Pattern, newLabel, abort, theStack, print, install, read, byte, newCell, call, app, mark, store}
-use Rattle.calculus.specs.Typing.{Policy, noStore, PatternTy, t-newLabel, t-stack, t-print, t-install, t-read, t-byte, t-newCell, t-call, t-pair, t-app, t-mark, t-store, t-plus, t-minus, t-less, t-equal, LabelTys, TmTy, TmsTy, BodiesTy, Rule2, v-unit, v-truth, v-num, is-val, is-var, is-lam, is-op0, is-op1, is-op2, is-seq, is-ite, is-split, is-pcd, is-adv, is-lower, is-obj, is-keep, is-match, is-end, is-more}
+use Rattle.calculus.specs.Syntax.{Dom, Ty, Sigs, Val, Tm, Tms, Op2, val, var, lam, op0, op1, op2, seq, ite, split, pcd, adv, lower, obj, keep, match, Pattern, newLabel, abort, takedown, theStack, print, install, read, byte, newCell, call, app, mark, store}
+use Rattle.calculus.specs.Typing.{Policy, noStore, PatternTy, t-newLabel, t-takedown, t-stack, t-print, t-install, t-read, t-byte, t-newCell, t-call, t-pair, t-app, t-mark, t-store, t-plus, t-minus, t-less, t-equal, LabelTys, TmTy, TmsTy, BodiesTy, Rule2, v-unit, v-truth, v-num, is-val, is-var, is-lam, is-op0, is-op1, is-op2, is-seq, is-ite, is-split, is-pcd, is-adv, is-lower, is-obj, is-keep, is-match, is-end, is-more}
 use Rattle.calculus.specs.Typing as Typing
 use Rattle.image.specs.Program.{opOf}
 use Rattle.verdict.specs.WellTyped.{aborts}
@@ -115,3 +115,6 @@ module _ (D : Policy) (Γ : List Ty) (c : Dom) where
   pub of-match : (p : Pattern) (xs : List Ty) {a b d u : Ty} → Has (match p (Tms.more (op0 abort a) (aborts xs)) (op0 abort b) (op0 abort d)) u
       → (us : List Ty) × (a ≡ Ty.stack) × (b ≡ u) × (d ≡ u) × PatternTy p xs us
   of-match p xs (is-match {ts} {us} (is-more (is-op0 r) ds) o (is-op0 s) (is-op0 q)) = (us, refl, refl, refl, subst (λ v. PatternTy p v us) (abort-types xs ts ds) o)
+
+  pub of-takedown : {p : Dom} {t u : Ty} → Has (op0 (takedown p) t) u → (t ≡ Ty.unit) × (D .leq p c ≡ true)
+  of-takedown (is-op0 (t-takedown h)) = (refl, h)

@@ -8,7 +8,7 @@ use mathlib.Core.Option.{some}
 use lib.ListN.{length, getD, getElem?, length-map}
 use lib.Dec.{eqb}
 use Rattle.calculus.specs.Syntax.{Dom, Ty, op0, abort}
-use Rattle.calculus.specs.Typing.{noStore, t-newLabel, t-abort, t-stack, t-print, t-install, t-read, t-byte, t-newCell, t-call, t-pair, t-app, t-mark, t-store, t-plus, t-minus, t-less, t-equal, LabelTys, no-types, a-type, TmTy, TmsTy, Rule2, v-unit, v-truth, v-num, is-val, is-var, is-lam, is-op0, is-op1, is-op2, is-seq, is-ite, is-split, is-pcd, is-adv, is-lower, is-obj, is-keep, is-match, is-end, is-more}
+use Rattle.calculus.specs.Typing.{noStore, t-newLabel, t-abort, t-takedown, t-stack, t-print, t-install, t-read, t-byte, t-newCell, t-call, t-pair, t-app, t-mark, t-store, t-plus, t-minus, t-less, t-equal, LabelTys, no-types, a-type, TmTy, TmsTy, Rule2, v-unit, v-truth, v-num, is-val, is-var, is-lam, is-op0, is-op1, is-op2, is-seq, is-ite, is-split, is-pcd, is-adv, is-lower, is-obj, is-keep, is-match, is-end, is-more}
 use Rattle.laws.specs.Tests.{all}
 use Rattle.image.specs.Kinds.{TypeKind, TermKind, termRow}
 use Rattle.image.specs.Records.{Layout}
@@ -281,3 +281,6 @@ module _ (L : Layout) (good : Good L) where
       let n = match-pointcuts vs (length (a ∷ b ∷ d ∷ xs)) w in
       let p = pattern-typed L good (patternOf vs) xs (ks .1 .1 .1) (hs .1 .1 .1 .0) (omega arith) in
       rw (e, q, r) (is-match (is-more aborted (aborteds (outs L xs))) p aborted aborted)) ts l w
+  local-sound TermKind.takedown Γ c t vs ts l m w =
+      λ o ks h13 h14 h15.
+      rw (out-as L good TypeKind.unit t o (each _ h14 .0)) (is-op0 (t-takedown h15))

@@ -27,7 +27,7 @@ use Rattle.verdict.proofs.Patterns.{pattern-count, any-part, cut-parts}
 use Rattle.verdict.proofs.Methods.{method-parts, bodies-types, bodies-fit, method-fields, method-type}
 use Rattle.verdict.proofs.Local.{one-of, two-of, three-of, three-more, outs}
 use Rattle.verdict.proofs.Contexts.{part-there}
-use Rattle.verdict.proofs.Inversion.{opTy, of-unit, of-truth, of-number, of-var, of-seq, of-print, of-ite, of-pair, of-split, of-fun, of-app, of-arith, of-newLabel, of-mark, of-pcd, of-adv, of-install, of-newCell, of-read, of-store, of-lower, of-byte, of-obj, of-call, of-stack, of-keep, of-match}
+use Rattle.verdict.proofs.Inversion.{opTy, of-unit, of-truth, of-number, of-var, of-seq, of-print, of-ite, of-pair, of-split, of-fun, of-app, of-arith, of-newLabel, of-mark, of-pcd, of-adv, of-install, of-newCell, of-read, of-store, of-lower, of-byte, of-obj, of-call, of-stack, of-keep, of-match, of-takedown}
 
 -- What 13, 14 and 15 ask is there.
 pub record Passes (r : Rule) : Type 0 where
@@ -282,3 +282,7 @@ module _ (L : Layout) (good : Good L) where
       let e = of-match (policy L) (outs L Γ) c (patternOf vs) (outs L xs) d in
       let q = cuts-complete (patternOf vs) xs (e .0) (ks .1 .1 .1) (e .4) in
       record { bound = refl; typed = of-each _ (in-kind a (ks .0) (e .1), (same (ks .1 .0) o (e .2), (same (ks .1 .1 .0) o (e .3), (q, tt)))); allowed = refl }) ts l
+  local-complete TermKind.takedown Γ c t vs ts l m =
+      λ o ks g d.
+      let e = of-takedown (policy L) (outs L Γ) c d in
+      record { bound = refl; typed = of-each _ (in-kind t o (e .0), tt); allowed = e .1 }

@@ -96,6 +96,7 @@ module _ (D : Policy) where
       let b : us ≡ matchBinds firstOf (patternOf vs) s (drop 3 (s ∷ ts)) = pattern-binds o ∙ ap (matchBinds firstOf (patternOf vs) Ty.stack) (behind-types (s ∷ ts) xs ds) in
       let At : Tm → List Ty → Type 0 = λ e x. TmTy D noStore (reverseAux x (p .context)) (p .dom) e t in
       is-match (is-more (h .one 0 (is-op0 r)) (h .every 3 p (λ j l. shifted (childSetting p TermKind.match t vs (s ∷ ts)) p (λ i. refl) j l) ds)) o (subst (At (nth es 1)) (sym b) (h .one 1 (subst (At (nth (aborts (s ∷ ts)) 1)) b f))) (h .one 2 g)
+  rebuilt p TermKind.takedown t vs ts es h d = d
 
   abort-at : (p q : Setting Ty) (e : Program) {t : Ty} → q ≡ p → TmTy D noStore (p .context) (p .dom) (toTm e) (stated e) → TmTy D noStore (q .context) (q .dom) (op0 abort (stated e)) t → TmTy D noStore (q .context) (q .dom) (toTm e) t
   abort-at p q e h d a = subst (λ s. TmTy D noStore (q .context) (q .dom) (toTm e) s) (abort-type a) (subst (λ r. TmTy D noStore (r .context) (r .dom) (toTm e) (stated e)) (sym h) d)

@@ -98,3 +98,5 @@ module _ (leq : Dom → Dom → Bool) (Γ : List ℕ) (c : Dom) (t : Descriptor)
   rule TermKind.stack = fits (is TypeKind.stack t ∷ [])
   rule TermKind.keep = fitsAt (is TypeKind.label (child 0) ∷ holds 0 (child 0) (child 1) ∷ same (child 2) t ∷ []) (eqb (child 0 .part 1) c)
   rule TermKind.match = fits (is TypeKind.stack (child 0) ∷ same (child 1) t ∷ same (child 2) t ∷ all (map (λ a. is TypeKind.pcd a) (drop 3 ts)) ∷ [])
+  -- Card 7: the domain "must be ≤ the current one".
+  rule TermKind.takedown = fitsAt (is TypeKind.unit t ∷ []) (leq (getD vs 0 0) c)

@@ -2,3 +2,4 @@
 pub mod Matched
 pub mod Advised
 pub mod Marked
+pub mod Stayed

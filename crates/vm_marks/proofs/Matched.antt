@@ -14,7 +14,7 @@ use Rattle.vm_tables.proofs.Chosen.{chosen-yes, chosen-no}
 use Rattle.vm_marks.specs.Binds.{boundIn, Binds}
 
 -- The bindings are those of a B that is known by its tables.
-binds-by : (A B : Bound) (w w′ : List ℕ) (n : ℕ) → A ≡ B → Binds A w w′ n → Binds B w w′ n
+pub binds-by : (A B : Bound) (w w′ : List ℕ) (n : ℕ) → A ≡ B → Binds A w w′ n → Binds B w w′ n
 binds-by A B w w′ n e b = subst (λ (C : Bound). Binds C w w′ n) e b
 
 -- Installed advice i, of piece p; x is the word of its labels and h whether l is one of them.
@@ -38,7 +38,7 @@ module _ (w : List ℕ) (l v i n p x : ℕ) (h : Bool) (d : p ≡ installedAt (m
       binds-by (record { memory = M (pieceFirst (memoryOf w) (installedAt (memoryOf w) i)); count = n + 1 }) (bindOne l v i (boundIn w n)) w w′ (n + 1) (sym (chosen-yes _ _ _ (matches g) ∙ ap (λ (N : Memory). record { memory = N; count = n + 1 }) (chosen-yes _ _ _ (lt-ltb n 2048 k)))) (record { memory = subst (λ (j : ℕ). Holds (M j) w w′) z held; count = refl })
 
 -- The tables and the count that a Binds tells of.
-bound-is : (B : Bound) (w w′ : List ℕ) (n : ℕ) → Binds B w w′ n → B ≡ boundIn w′ n
+pub bound-is : (B : Bound) (w w′ : List ℕ) (n : ℕ) → Binds B w w′ n → B ≡ boundIn w′ n
 bound-is B w w′ n b = ap (λ (M : Memory). record { memory = M; count = B .count }) (sym (b .memory .memory)) ∙ ap (λ (k : ℕ). record { memory = memoryOf w′; count = k }) (sym (b .count))
 
 -- None is done yet.

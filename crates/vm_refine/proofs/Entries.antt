@@ -13,7 +13,7 @@ use Rattle.vm_theory.proofs.Located.{one-no-atom, two-no-atom, many-no-atom}
 use Rattle.vm_code.specs.Words.{classOf, fieldA, operandB, termCount}
 use Rattle.vm_code.specs.Classes as classes
 use Rattle.vm_code.specs.Classes.{Mode, worked, variable, constant, atom, Class, unary, binary, classWith}
-use Rattle.vm_code.specs.Says.{termMode, termField, unaryOf, binaryOf2, Says, says-unit, says-truth, says-number, says-variable, says-function, says-object, says-label, says-abort, says-one, says-stack, says-two, says-pointcut, says-match, targetAt, SaysCode}
+use Rattle.vm_code.specs.Says.{termMode, termField, unaryOf, binaryOf2, Says, says-unit, says-truth, says-number, says-variable, says-function, says-object, says-label, says-abort, says-one, says-stack, says-takedown, says-two, says-pointcut, says-match, targetAt, SaysCode}
 use Rattle.vm_code.proofs.Numbers.{unary-class, binary-class}
 use Rattle.vm_machine.specs.Fetch.{Program, codeAt}
 use Rattle.vm_machine.specs.Turn.{enteredBy, entryFrom, begunAt}
@@ -80,6 +80,7 @@ module _ (T : Table) (root : ℕ) (L : Linked T 0 root) (C : Program) (says : Sa
   word-by x w n q (says-abort c) = rw (c, node-term q)
   word-by x w n q (says-one c f h) = le-ltb (classOf w) 4 (omega arith) ∙ sym (one-no-atom T 0 root L q)
   word-by x w n q (says-stack c) = rw (c, node-term q)
+  word-by x w n q (says-takedown c g h) = rw (c, node-term q)
   word-by x w n q (says-two c f g j) = le-ltb (classOf w) 4 (omega arith) ∙ sym (two-no-atom T 0 root L q)
   word-by x w n q (says-pointcut c m f i h) = le-ltb (classOf w) 4 (omega arith) ∙ sym (many-no-atom T 0 root L q)
   word-by x w n q (says-match c m i e f g h) = le-ltb (classOf w) 4 (omega arith) ∙ sym (many-no-atom T 0 root L q)
@@ -139,6 +140,7 @@ module _ (T : Table) (root : ℕ) (L : Linked T 0 root) (C : Program) (says : Sa
       ∙ operand-entry n x (fieldA (codeAt C t)) ih f (omega arith) (omega (arith, L .one-below t H x q)) t
       ∙ sym (L .entered t ∙ ap (entryOf T t) q)
   entry-by n t N q (says-stack c) ih a l = rw c (sym (L .entered t ∙ ap (entryOf T t) q))
+  entry-by n t N q (says-takedown c g h) ih a l = rw c (sym (L .entered t ∙ ap (entryOf T t) q))
   entry-by n t N q (says-two {H = H} {x = x} {z = z} c f g j) ih a l =
       let below = L .two-below t H x z q in
       let inner : begun (termMode (T .term z)) t (entryFrom n C (operandB (codeAt C t))) ≡ choose (isAtomAt T z) t (T .entry z) =

@@ -7,7 +7,7 @@ use mathlib.Core.List.{List, _∷_}
 use lib.ListN.{length}
 use Rattle.calculus.specs.Combinators.{choose}
 use Rattle.calculus.specs.Plain.{domOf, methodsOf, methodDom}
-use Rattle.calculus.specs.Syntax.{Ty, Tm, Tms, Op0, Op1, Op2, op0, newLabel, abort, theStack, print, install, read, byte, newCell, call, app, mark, store, plus, minus, less, equal}
+use Rattle.calculus.specs.Syntax.{Dom, Ty, Tm, Tms, Op0, Op1, Op2, op0, newLabel, abort, takedown, theStack, print, install, read, byte, newCell, call, app, mark, store, plus, minus, less, equal}
 use Rattle.calculus.specs.State.{Given}
 use Rattle.calculus.specs.Place.{Place, framed}
 use Rattle.closure_machine.specs.Closure.{CVal, Env, CState, close, closes, plainVal, plainEnv, plainState}
@@ -21,8 +21,8 @@ use Rattle.vm_theory.proofs.Sound.{Sound}
 use Rattle.vm_theory.proofs.Reach.{Reach}
 use Rattle.vm_theory.proofs.Places.{site-place, site-kept}
 use Rattle.vm_theory.proofs.Located.{Located, l-operand, l-rest, l-then, l-else, l-split, l-advice, l-first, l-second, l-keep, describes}
-use Rattle.vm_code.specs.Words.{classOf, fieldA, operandB, depthOf, domainOf}
-use Rattle.vm_code.specs.Classes.{Mode, Unary, Binary, Class, label, abort as aborted, stack, unary, binary, labelClass, abortClass, stackClass, unaryClass, binaryClass, classWith}
+use Rattle.vm_code.specs.Words.{classOf, fieldA, fieldB, operandB, depthOf, domainOf}
+use Rattle.vm_code.specs.Classes.{Mode, Unary, Binary, Class, label, abort as aborted, stack, takedown as takenDown, unary, binary, labelClass, abortClass, stackClass, takedownClass, unaryClass, binaryClass, classWith}
 use Rattle.vm_code.specs.Says.{termMode, termField, unaryOp, unaryOf, binaryOf, binaryOf2, SaysOp, SaysHead, SaysHead2, SaysCode}
 use Rattle.vm_code.proofs.Numbers.{unary-class, binary-class}
 use Rattle.vm_machine.specs.declared.Regs.{Regs}
@@ -30,7 +30,7 @@ use Rattle.vm_machine.specs.Memory.{Memory, wordAt, slotAt}
 use Rattle.vm_machine.specs.States.{State, judged}
 use Rattle.vm_machine.specs.Fetch.{Program, codeAt, onlyOperand, firstOperand, secondOperand}
 use Rattle.vm_machine.specs.Moves.{unaryMove, binaryMove, moveBy, moveOf}
-use Rattle.vm_machine.specs.Reduce.{reduceLabel, reduceAbort}
+use Rattle.vm_machine.specs.Reduce.{reduceLabel, reduceAbort, reduceTakedown}
 use Rattle.vm_machine.specs.Stacks.{reduceStack}
 use Rattle.vm_machine.specs.Turn.{performed, turn}
 use Rattle.vm_machine.proofs.Branch.{branch-performed}
@@ -46,6 +46,7 @@ use Rattle.vm_refine.proofs.ReducePieces.{pair-now, advice-now}
 use Rattle.vm_refine.proofs.ReduceBindings.{apply-now, call-now, split-now}
 use Rattle.vm_refine.proofs.Mark.{mark-now}
 use Rattle.vm_refine.proofs.ReduceStack.{stack-now}
+use Rattle.vm_refine.proofs.Takedown.{takedown-now}
 use Rattle.vm_refine.proofs.Keeps.{keep-now}
 
 module _ (T : Table) (root : ℕ) (L : Linked T 0 root) (G : Given) (e₀ : Tm) (Ω : Sound G e₀) (N : ℕ) (B : List ℕ) (logged : G .logLength ≡ length B) (C : Program) (says : SaysCode T (C .image) (C .code))
@@ -141,6 +142,15 @@ module _ (T : Table) (root : ℕ) (L : Linked T 0 root) (G : Given) (e₀ : Tm) 
         rw (turn-by stack (ap classWith q))
         (judged-now T root L G e₀ Ω N B C says S k s m P A D (eval (op0 theStack y) (P .env)) K (measure S) (reduceStack w S) (nullary-red theStack y reach)
         (λ R. stack-now T root L G e₀ Ω N B C says S k s m P A D (eval (op0 theStack y) (P .env)) K (placeOf P A) y R))
+
+    pub takedown-turn : (d : Dom) (y : Ty) → Reach G e₀ Ω k s (eval (op0 (takedown d) y) (P .env)) K → classOf w ≡ takedownClass → fieldB w ≡ d → Then (turn C (G .frame) S)
+    unfolding performed classWith
+    takedown-turn d y reach q e =
+        let x : Control = eval (op0 (takedown (fieldB w)) y) (P .env) in
+        let here : Reach G e₀ Ω k s x K = rw e reach in
+        rw (turn-by takenDown (ap classWith q))
+        (judged-now T root L G e₀ Ω N B C says S k s m P A D x K (measure S) (reduceTakedown w S) (nullary-red (takedown (fieldB w)) y here)
+        (λ R. takedown-now T root L G e₀ Ω N B C says S k s m P A D x K (placeOf P A) (keptBy A) y R))
 
     pub abort-turn : (y : Ty) → Reach G e₀ Ω k s (eval (op0 abort y) (P .env)) K → classOf w ≡ abortClass → Then (turn C (G .frame) S)
     unfolding performed classWith

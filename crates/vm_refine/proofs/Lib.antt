@@ -14,6 +14,7 @@ pub mod Steps
 pub mod Gives
 pub mod Values
 pub mod ReduceTables
+pub mod Takedown
 pub mod ReduceCells
 pub mod ReducePieces
 pub mod ReduceBindings

@@ -4,7 +4,7 @@ ghost use mathlib.Core.Path.{_≡_};
 ghost use Prim.Native.Nat.{_<_, _≤_};
 ghost use lib.ListN.{length};
 ghost use Rattle.base_bytes.specs.Memory.{memoryLength};
-ghost use Rattle.vm_machine.specs.Memory.{putPiece, pieceFirst, pieceSecond, pieceOf, adviceWord, adviceTarget, adviceEnv, installedAt, putInstalled};
+ghost use Rattle.vm_machine.specs.Memory.{putPiece, pieceFirst, pieceSecond, pieceOf, adviceWord, adviceTarget, adviceEnv, adviceDom, installedAt, putInstalled};
 ghost use Rattle.vm_tables.specs.View.{memoryOf, Holds};
 use crate::words::INSTALLED;
 use crate::words::PIECES;
@@ -57,6 +57,12 @@ pub fn advice_env(w: u64) -> usize
     ensures { λ r. ⌜ r ≡ adviceEnv w ⌝ }
 {
     (w / 65536 % 65536) as usize
+}
+
+pub fn advice_dom(w: u64) -> usize
+    ensures { λ r. ⌜ r ≡ adviceDom w ⌝ }
+{
+    (w / 4294967296 % 16) as usize
 }
 
 // The piece of installed advice i, from 0 on.

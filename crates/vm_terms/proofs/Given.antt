@@ -95,8 +95,8 @@ module _ {b ks : List ℕ} {n o : ℕ} (G : Given b ks n o) where
     pub descriptor-fits : DescriptorFits ls descriptorOf
     descriptor-fits = subst (λ p. DescriptorFits ls (getD ks (fieldAt b p 0) 0)) (sym (G .place)) (fits b ds ts ks T n l ls N)
 
-  -- The kind of the last arm: of a number that is none of 32 to 58.
-  pub last-kind : {k : ℕ} → k ≡ numberAt b o → NotFrom32 k 27 → k ≡ 60
+  -- The kind of the last arm: of a number that is none of 32 to 59.
+  pub last-kind : {k : ℕ} → k ≡ numberAt b o → NotFrom32 k 28 → k ≡ 60
   last-kind {k} e h = last-number k (termKind L n) (e ∙ number-told) h
 
   module _ (k : TermKind) (e : numberAt b o ≡ termRow k .number) where

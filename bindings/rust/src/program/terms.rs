@@ -196,6 +196,12 @@ impl Program {
         Term { kind: 58, of, fields }
     }
 
+    /// Removes every installed advice of a domain, which is at or below the current one. What a mark has picked before
+    /// still runs.
+    pub fn takedown(&mut self, domain: u16) -> Term {
+        Term { kind: 59, of: self.unit_type(), fields: vec![Field::Word(domain)] }
+    }
+
     /// The byte of the frame at an index, or -1.
     pub fn frame_byte(&mut self, index: Term) -> Term {
         over(60, self.number_type(), [index])

@@ -89,7 +89,7 @@ impl Maker<'_> {
             return self.program.unit();
         }
         self.fuel -= 1;
-        match self.random.below(12) {
+        match self.random.below(13) {
             0 => self.program.unit(),
             1..=3 => {
                 let number = self.program.number_type();
@@ -109,6 +109,7 @@ impl Maker<'_> {
                 let body = self.statement(p, scope, depth - 1);
                 self.program.lower(p, body)
             }
+            11 => self.takedown(at),
             _ => {
                 let first = self.statement(at, scope, depth - 1);
                 let second = self.statement(at, scope, depth - 1);

@@ -130,14 +130,14 @@ fn change_field(random: &mut Random, image: &mut [u8]) {
     }
 }
 
-/// Changes the number of a variable or a method, a mask, the domain of a type or a lower, or the close of a match: the
-/// layout stays whole.
+/// Changes the number of a variable or a method, a mask, the domain of a type, a lower or a takedown, or the close of a
+/// match: the layout stays whole.
 fn change_meaning(random: &mut Random, image: &mut [u8]) {
     let word = |at: usize| usize::from(u16::from_le_bytes([image[at], image[at + 1]]));
     let fields: Vec<usize> = records(image)
         .into_iter()
         .filter_map(|at| match word(at + 2) {
-            35 | 52 | 20..=23 => Some(at + 6),
+            35 | 52 | 59 | 20..=23 => Some(at + 6),
             24 | 25 | 1 => Some(at + 4),
             55 => Some(at + 8),
             58 => (at + word(at)).checked_sub(2),

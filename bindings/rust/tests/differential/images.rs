@@ -3,6 +3,7 @@ use crate::damage;
 use crate::generate::Maker;
 use crate::random::Random;
 use crate::stack_images;
+use crate::takedowns;
 use crate::watched;
 use bukzarn::program::{Shape, Term, Type};
 
@@ -164,11 +165,7 @@ fn take_room(maker: &mut Maker, argument: &Term, scope: &[Type]) -> Term {
         0 => maker.program.new_cell(p, argument.clone()),
         1 => maker.program.new_label(number, p),
         2 => maker.program.pair(argument.clone(), argument.clone()),
-        3 => {
-            let advice = maker.program.make(Shape::Advice(p));
-            let advice = maker.term(advice, 0, scope, 5);
-            maker.program.install(advice)
-        }
+        3 => takedowns::install_again(maker, p, argument, scope),
         4 => maker.program.stack(),
         _ => maker.program.print(argument.clone()),
     };

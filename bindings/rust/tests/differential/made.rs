@@ -114,7 +114,7 @@ fn abort(program: &mut Program, _: Term) -> Term {
 }
 
 /// Installs advice that no mark finds.
-fn install(program: &mut Program, x: Term) -> Term {
+pub fn install(program: &mut Program, x: Term) -> Term {
     let pointcut = program.pointcut(x.of(), 0, vec![]);
     let unit = program.unit();
     let advice = program.advice(0, pointcut, unit);
@@ -129,8 +129,12 @@ fn forget(program: &mut Program, value: Term) -> Term {
 
 /// A statement for each number from n down to 1.
 fn loop_of(n: i32, statement: impl Fn(&mut Program, Term) -> Term) -> Vec<u8> {
-    let mut program = Program::new(&[1]);
-    knot(&mut program, n, |program, x, call| {
+    loop_over(&mut Program::new(&[1]), n, statement)
+}
+
+/// The same in a program with domains of its own.
+pub fn loop_over(program: &mut Program, n: i32, statement: impl Fn(&mut Program, Term) -> Term) -> Vec<u8> {
+    knot(program, n, |program, x, call| {
         let statement = statement(program, x);
         program.sequence(statement, call)
     })

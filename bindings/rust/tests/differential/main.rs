@@ -16,6 +16,7 @@ mod reference;
 mod rules;
 mod stack_images;
 mod stacks;
+mod takedowns;
 mod watched;
 
 use compare::{compare, Given};
@@ -40,7 +41,8 @@ fn call(random: &mut Random, counts: &mut Counts, given: &Given) -> Result<Ran, 
 
 /// The images that are made for one refusal or outcome.
 fn made_images(random: &mut Random, counts: &mut Counts) {
-    for (number, image) in made::refused().into_iter().chain(objects::refused()).chain(stacks::refused()) {
+    let refused = [made::refused(), objects::refused(), stacks::refused(), takedowns::refused()].concat();
+    for (number, image) in refused {
         let answer = call(random, counts, &made::ample(&image));
         assert_eq!(answer.err().map(|refused| refused.0), Some(number), "image made for refusal {number}");
     }
@@ -48,7 +50,8 @@ fn made_images(random: &mut Random, counts: &mut Counts) {
         let answer = call(random, counts, &given);
         assert_eq!(answer.err(), Some(Refused(number, 0)), "call made for refusal {number}");
     }
-    for (outcome, image) in made::ending().into_iter().chain(objects::ending()).chain(stacks::ending()) {
+    let ending = [made::ending(), objects::ending(), stacks::ending(), takedowns::ending()].concat();
+    for (outcome, image) in ending {
         let budget = if outcome == 1 { 3 } else { u32::MAX };
         let ran =
             call(random, counts, &Given { budget, ..made::ample(&image) }).ok().expect("an image that is accepted");

@@ -37,7 +37,7 @@ const KINDS: [(u16, usize, Others, Others); 27] = [
 ];
 
 /// Kinds without children.
-const LEAVES: [(u16, Others); 6] = [(32, &[]), (33, &[1]), (34, &[5, 0]), (44, &[]), (53, &[]), (56, &[])];
+const LEAVES: [(u16, Others); 7] = [(32, &[]), (33, &[1]), (34, &[5, 0]), (44, &[]), (53, &[]), (56, &[]), (59, &[0])];
 
 /// Every choice of `n` numbers below `limit`.
 fn choices(n: usize, limit: u16) -> Vec<Vec<u16>> {
@@ -214,9 +214,16 @@ fn lowers(c: u16, p: u16) -> Vec<u8> {
     [masks, record(UNIT, &[]), record(53, &[0]), record(52, &[0, p, 0]), record(52, &[0, c, 1])].concat()
 }
 
+/// A takedown of p inside a lower to c.
+fn takedowns(c: u16, p: u16) -> Vec<u8> {
+    let masks: Vec<u8> = MASKS.iter().flat_map(|mask| record(1, &[*mask])).collect();
+    [masks, record(UNIT, &[]), record(59, &[0, p]), record(52, &[0, c, 0])].concat()
+}
+
 /// Each case at each current domain, over types of each domain.
 pub fn domain_rules() -> Vec<Vec<u8>> {
-    let mut images: Vec<Vec<u8>> = choices(2, 4).iter().map(|choice| lowers(choice[0], choice[1])).collect();
+    let both = |choice: Vec<u16>| [lowers(choice[0], choice[1]), takedowns(choice[0], choice[1])];
+    let mut images: Vec<Vec<u8>> = choices(2, 4).into_iter().flat_map(both).collect();
     for case in &CASES {
         let carry = |kind: &u16| (20..=25).contains(kind);
         let count = usize::from(carry(&case.own)) + case.children.iter().filter(|kind| carry(kind)).count();

@@ -44,6 +44,9 @@ fn body(maker: &mut Maker, scope: &[Type]) -> Term {
         statements.push(maker.program.lower(p, mark));
         let direct = self::mark(maker, 0, scope);
         statements.push(direct);
+        if maker.random.chance(20) {
+            statements.push(maker.takedown(0));
+        }
     }
     let end = match maker.random.chance(30) {
         true => {
@@ -70,7 +73,11 @@ fn install(maker: &mut Maker, p: u16, scope: &[Type]) -> Term {
     let number = maker.program.number_type();
     let printed = maker.term(number, p, &inner, 3);
     let print = maker.program.print(printed);
-    let body = maker.program.sequence(first, print);
+    let mut body = maker.program.sequence(first, print);
+    if maker.random.chance(15) {
+        let down = maker.takedown(p);
+        body = maker.program.sequence(down, body);
+    }
     let advice = maker.program.advice(p, pointcut, body);
     maker.program.install(advice)
 }

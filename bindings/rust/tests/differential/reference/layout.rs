@@ -41,7 +41,7 @@ fn section(kind: u16) -> Option<usize> {
     match kind {
         1 => Some(0),
         16..=26 => Some(1),
-        32..=58 | 60 => Some(2),
+        32..=60 => Some(2),
         _ => None,
     }
 }
@@ -83,6 +83,7 @@ fn fields(kind: u16, length: usize) -> Vec<Field> {
             [Type, Child, Child, Child].into_iter().chain(entries).chain([Close]).collect()
         }
         52 => vec![Type, Domain, Child],
+        59 => vec![Type, Domain],
         _ => unreachable!("section() knows the kinds"),
     }
 }

@@ -7,7 +7,7 @@ use super::Refused;
 pub fn children(record: &Record) -> Vec<u16> {
     let f = &record.fields;
     match record.kind {
-        32..=35 | 44 | 53 | 56 => vec![],
+        32..=35 | 44 | 53 | 56 | 59 => vec![],
         43 | 52 => f[2..].to_vec(),
         55 => f[1..2].to_vec(),
         58 => f[1..4].iter().copied().chain(entries(record).iter().filter_map(|entry| entry.checked_sub(1))).collect(),

@@ -121,6 +121,7 @@ fn type_rule(records: &Records, term: &Record, scope: &[Type]) -> bool {
             let pointcuts = types[3..].iter().all(|t| matches!(shape(records, *t), Pointcut(..)));
             is(types[0], Stack) && types[1] == own && types[2] == own && pointcuts
         }
+        59 => is(own, Unit),
         60 => is(own, Number) && is(types[0], Number),
         _ => unreachable!("a term's kind"),
     }
@@ -146,7 +147,7 @@ fn domain_rule(records: &Records, term: &Record, c: usize) -> bool {
         44 | 49 => le(own(), c),
         48 | 51 => le(child(0), c),
         50 => le(c, child(0)),
-        52 => le(usize::from(term.fields[1]), c),
+        52 | 59 => le(usize::from(term.fields[1]), c),
         46 => (0..types.len()).all(|i| le(own(), child(i))),
         47 => le(own(), child(0)),
         55 => called(records, term).is_some_and(|(p, _)| usize::from(p) == c),

@@ -10,7 +10,7 @@ use Rattle.image.specs.Kinds.{TermKind}
 use Rattle.image.specs.Layout.{recordsOf}
 use Rattle.image.specs.Types.{termKind}
 use Rattle.check_rules.proofs.Elimination.{last-kind}
-use Rattle.check_rules.proofs.Located.{number-is, kind-is, typed-in, at-field-in, labels-in, bodies-in, call-long, entries-in}
+use Rattle.check_rules.proofs.Located.{number-is, kind-is, typed-in, at-field-in, labels-in, bodies-in, call-long, takedown-long, entries-in}
 use Rattle.check_rules.proofs.Counts.{match-count}
 use Rattle.check_rules.proofs.Verdict.{verdict-in}
 use Rattle.check_rules.proofs.OnDescriptors.{abort-right}
@@ -159,6 +159,12 @@ check-match-requires c κs =
     let n = match-count (fieldsOf (now (s .args .image)) (s .args .n .0)) in
     rw (c .before .before .term-fields .ensures) (s .pre .0, typed-in (s .pre .0 .terms) (s .pre .2), at-field-in (s .pre .0 .terms) (s .pre .2) e 0 (omega arith), at-field-in (s .pre .0 .terms) (s .pre .2) e 1 (omega arith), at-field-in (s .pre .0 .terms) (s .pre .2) e 2 (omega arith), entries-in (s .pre .0 .terms) (s .pre .2) e)
 
+check-takedown-requires : tie.Need-check-takedown-requires
+check-takedown-requires c κs =
+    let s = c .before .before .before .before .before .before .before .before in
+    let e = kind-is (s .pre .0 .terms) (s .pre .2) TermKind.takedown (sym (c .before .term-kind .ensures) ∙ c .match .keys24) in
+    rw (c .before .before .term-fields .ensures) (s .pre .0 .types, typed-in (s .pre .0 .terms) (s .pre .2), takedown-long (s .pre .0 .terms) (s .pre .2) e, s .pre .4)
+
 check-byte-requires : tie.Need-check-byte-requires
 check-byte-requires c κs =
     let s = c .before .before .before .before .before .before .before .before in
@@ -306,6 +312,12 @@ returns-23 c =
 returns-24 : tie.Need-returns-24
 returns-24 c =
     let s = c .before .before .before .before .before .before .before .before .before in
+    let e = kind-is (s .pre .0 .terms) (s .pre .2) TermKind.takedown (sym (c .before .before .term-kind .ensures) ∙ c .before .match .keys24) in
+    λ Γ. c .check-takedown .ensures Γ ∙ rw (c .before .before .before .before .term-place .ensures .0, c .before .before .before .term-fields .ensures) (verdict-in (s .pre .0 .terms) (s .pre .2) e (record { context = Γ; dom = s .args .c .0 }))
+
+returns-25 : tie.Need-returns-25
+returns-25 c =
+    let s = c .before .before .before .before .before .before .before .before .before in
     let e = last-kind _ (c .before .match .rest) (termKind (recordsOf (now (s .args .image))) (s .args .n .0)) (c .before .before .term-kind .ensures ∙ number-is (s .pre .0 .terms) (s .pre .2)) (rw (c .before .before .term-kind .ensures) (s .pre .3)) in
     λ Γ. c .check-byte .ensures (record { context = Γ; dom = s .args .c .0 }) ∙ rw (c .before .before .before .before .term-place .ensures .0, c .before .before .before .term-fields .ensures) (verdict-in (s .pre .0 .terms) (s .pre .2) e (record { context = Γ; dom = s .args .c .0 }))
 
@@ -338,6 +350,7 @@ check-rule-spec =
     check-stack-requires
     check-keep-requires
     check-match-requires
+    check-takedown-requires
     check-byte-requires
     returns
     returns-2
@@ -362,4 +375,5 @@ check-rule-spec =
     returns-21
     returns-22
     returns-23
-    returns-24)
+    returns-24
+    returns-25)

@@ -22,7 +22,10 @@ returns-5 : tie.Need-returns-5
 returns-5 c = λ k e. ap leadOf (same-term-kind TermKind.lower k (sym (c .match .keys5) ∙ e))
 
 returns-6 : tie.Need-returns-6
-returns-6 c = λ k e. sym (one-before _ (c .match .rest) k e)
+returns-6 c = λ k e. ap leadOf (same-term-kind TermKind.takedown k (sym (c .match .keys6) ∙ e))
+
+returns-7 : tie.Need-returns-7
+returns-7 c = λ k e. sym (one-before _ (c .match .rest) k e)
 
 pub lead-of-spec : {M : Type 1} → statement M
-lead-of-spec = tie.close (tie.spec returns returns-2 returns-3 returns-4 returns-5 returns-6)
+lead-of-spec = tie.close (tie.spec returns returns-2 returns-3 returns-4 returns-5 returns-6 returns-7)

@@ -1,0 +1,48 @@
+-- What stays is moved together; then the instruction gives unit.
+use Prim.Native.Nat.{_<_}
+use native.Mathlib.Omega.{arith}
+use mathlib.Core.Path.{sym, subst}
+use denote.Ref.{now}
+use Rattle.vm_machine.specs.declared.Regs.{Regs}
+use Rattle.vm_machine.specs.Registers.{headroom}
+use Rattle.vm_marks.proofs.Stayed.{takedown-made}
+use Rattle.vm_marks.proofs.Marked.{fits-same}
+use borrow.Author.Needs.{needs}
+use Rattle.vm_marks.proofs.takedown.reduce_takedown.Statement.{statement}
+use Rattle.vm_marks.proofs.takedown.reduce_takedown.Tie as tie
+
+field-b-requires : tie.Need-field-b-requires
+field-b-requires c κs = search needs
+
+stay-others-requires : tie.Need-stay-others-requires
+stay-others-requires c κs = search needs
+
+same-requires : tie.Need-same-requires
+same-requires c κs = search needs
+
+given-requires : tie.Need-given-requires
+given-requires c κs =
+    let s = c .before .before .before .before .before .before .before .before in
+    let e = c .before .same .ensures in
+    let f = fits-same (s .pre .2 .0) (s .args .r) _ e (s .pre .2 .1) in
+    let l = subst (λ (v : Regs). headroom < v .left) (sym e) (s .pre .1) in
+    (search needs, omega (arith, f .room), omega (arith, l))
+
+same-length : tie.Need-same-length
+same-length c = search needs
+
+returns : tie.Need-returns
+returns c =
+    let s = c .before .before .before .before .before .before .before .before .before .before .before in
+    takedown-made (now (s .args .work)) _ _ (s .args .r) _ _ (s .args .w) _ _ (s .pre .1) (c .before .before .before .before .before .before .before .before .field-b .ensures) (c .before .before .before .before .before .before .before .stay-others .ensures) (c .before .before .before .before .same .ensures) (c .before .before .given .ensures)
+
+pub reduce-takedown-spec : {M : Type 1} → statement M
+reduce-takedown-spec =
+    tie.close
+    (tie.spec
+    field-b-requires
+    stay-others-requires
+    same-requires
+    given-requires
+    same-length
+    returns)

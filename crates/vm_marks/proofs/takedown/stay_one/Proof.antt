@@ -1,0 +1,47 @@
+use denote.Ref.{now}
+use native.Mathlib.Omega.{arith}
+use Rattle.vm_marks.proofs.Stayed.{one-goes, one-stays}
+use borrow.Author.Needs.{needs}
+use Rattle.vm_marks.proofs.takedown.stay_one.Statement.{statement}
+use Rattle.vm_marks.proofs.takedown.stay_one.Tie as tie
+
+installed-at-requires : tie.Need-installed-at-requires
+installed-at-requires c κs = search needs
+
+piece-first-requires : tie.Need-piece-first-requires
+piece-first-requires c κs = search needs
+
+advice-dom-requires : tie.Need-advice-dom-requires
+advice-dom-requires c κs = search needs
+
+same-length : tie.Need-same-length
+same-length c = search needs
+
+returns : tie.Need-returns
+returns c = let a = c .before .before .before .before .before .before .before .args in (one-goes (now (a .work)) (a .d) (a .i) (a .n) _ _ _ (c .before .before .before .before .installed-at .ensures) (c .before .before .piece-first .ensures) (c .before .advice-dom .ensures) (c .if1 .taken), omega arith)
+
+put-installed-requires : tie.Need-put-installed-requires
+put-installed-requires c κs = search needs
+
+add-result : tie.Need-add-result
+add-result c = search needs
+
+same-length-2 : tie.Need-same-length-2
+same-length-2 c = search needs
+
+returns-2 : tie.Need-returns-2
+returns-2 c = let a = c .before .before .before .before .before .before .before .before .before .before .before .args in (one-stays (now (a .work)) (a .d) (a .i) (a .n) _ _ _ (c .before .before .before .before .before .before .before .before .installed-at .ensures) (c .before .before .before .before .before .before .piece-first .ensures) (c .before .before .before .before .before .advice-dom .ensures) _ (c .before .before .before .before .if1 .left) (c .before .before .put-installed .ensures), omega arith)
+
+pub stay-one-spec : {M : Type 1} → statement M
+stay-one-spec =
+    tie.close
+    (tie.spec
+    installed-at-requires
+    piece-first-requires
+    advice-dom-requires
+    same-length
+    returns
+    put-installed-requires
+    add-result
+    same-length-2
+    returns-2)

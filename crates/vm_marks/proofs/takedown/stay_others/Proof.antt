@@ -1,0 +1,62 @@
+use Rattle.vm_marks.proofs.Stayed.{stay-on, stay-done, stay-start}
+use Rattle.vm_marks.specs.Binds.{boundIn}
+use Rattle.vm_machine.specs.Reduce.{stayOthers}
+use Rattle.base_bytes.specs.Memory.{memoryLength}
+use denote.Ref.{now}
+use lib.ListN.{length, drop}
+use mathlib.Core.Path.{_≡_, refl, _∙_}
+use native.Mathlib.Omega.{arith}
+use Prim.Native.Nat.{_-_, _≤_}
+use borrow.Author.Needs.{needs}
+use Rattle.vm_marks.proofs.takedown.stay_others.Statement.{statement}
+use Rattle.vm_marks.proofs.takedown.stay_others.Tie as tie
+
+abbrev Inv-loop : tie.InvT-loop
+Inv-loop work₀ n d m₀ i₀ work m i =
+    (i ≤ n) × (length work ≡ length work₀) × (m ≤ i) × (drop memoryLength work ≡ drop memoryLength work₀) × (stayOthers n 0 d (boundIn work₀ 0) ≡ stayOthers (n - i) i d (boundIn work m))
+
+abbrev μ-loop : tie.MeasureT-loop
+μ-loop work₀ n d m₀ i₀ work m i = n - i
+
+loop-holds : tie.Need-loop-holds Inv-loop μ-loop
+loop-holds c = (omega arith, refl, omega arith, refl, stay-start _ _ _)
+
+stay-one-requires : tie.Need-stay-one-requires Inv-loop μ-loop
+stay-one-requires c κs = search needs
+
+add-i : tie.Need-add-i Inv-loop μ-loop
+add-i c = search needs
+
+loop-less : tie.Need-loop-less Inv-loop μ-loop
+loop-less c = search needs
+
+loop-again : tie.Need-loop-again Inv-loop μ-loop
+loop-again c =
+    let a = c .before .before .before .before .before .before .before .args in
+    let l = c .before .before .before .before .before .loop in (
+      omega arith,
+      search needs,
+      omega arith,
+      c .before .before .stay-one .ensures .0 .memory .rest ∙ l .inv .3,
+      l .inv .4 ∙ stay-on (a .n) (l .i) (a .d) _ _ _ _ (c .before .before .before .before .loop-test .taken) (c .before .before .stay-one .ensures .0),
+    )
+
+same-length : tie.Need-same-length Inv-loop μ-loop
+same-length c = search needs
+
+returns : tie.Need-returns Inv-loop μ-loop
+returns c = let a = c .before .before .before .args in let l = c .before .loop in stay-done _ (a .n) (l .i) (a .d) (now (a .work)) _ _ (c .loop-test .left) (l .inv .4) (l .inv .3)
+
+pub stay-others-spec : {M : Type 1} → statement M
+stay-others-spec =
+    tie.close
+    (tie.spec
+    Inv-loop
+    μ-loop
+    loop-holds
+    stay-one-requires
+    add-i
+    loop-less
+    loop-again
+    same-length
+    returns)
