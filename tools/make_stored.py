@@ -2,7 +2,7 @@
 """Makes the data of the program `stored_images`, which runs images in the gate.
 
 Run in the repository's root: python3 tools/make_stored.py [PROGRAM]
-It writes the cases (make_cases.py, stack_cases.py, takedown_cases.py) and the examples (examples/NAME.img) to
+It writes the cases (make_cases.py and the files *_cases.py) and the examples (examples/NAME.img) to
 crates/stored_images/data, and args: a budget and a file for each image, first those that no script makes. With PROGRAM
 (target/bin/stored_images) it also writes stdout: what PROGRAM prints.
 """
@@ -12,6 +12,7 @@ from pathlib import Path
 
 from make_cases import BUDGET, all_cases
 from make_examples import EXAMPLES, examples
+from newest_cases import newest_cases
 from stack_cases import stack_cases
 from takedown_cases import takedown_cases
 
@@ -23,6 +24,7 @@ def made(folder=EXAMPLES):
     yield from all_cases()
     yield from stack_cases()
     yield from takedown_cases()
+    yield from newest_cases()
     for name, _ in examples(folder):
         yield name, (folder / f"{name}.img").read_bytes(), BUDGET
 

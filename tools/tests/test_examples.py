@@ -13,7 +13,7 @@ from watchlang.layout import laid_out
 from watchlang.terms import child_domains
 
 FOLDER = common.ROOT / "examples"
-WITH_WATCHES = ("count", "trace", "watched", "three", "plausible")
+WITH_WATCHES = ("count", "trace", "watched", "corrected", "three", "plausible")
 
 
 def high_log(name):
@@ -84,7 +84,7 @@ class Examples(unittest.TestCase):
     def test_the_decoders_log_is_the_same_with_watches(self):
         plain = high_log("plain")
         self.assertEqual(len(plain), 18)
-        for name in ("count", "trace", "watched", "three"):
+        for name in ("count", "trace", "watched", "corrected", "three"):
             self.assertEqual(high_log(name), plain, name)
         stopped = high_log("plausible")
         self.assertEqual(stopped, plain[:len(stopped)])
@@ -97,6 +97,15 @@ class Examples(unittest.TestCase):
         domains, numbers = [p for p, _ in lines], [int(n) for _, n in lines]
         self.assertEqual(domains, ["0"] * 6 + ["0", "1"] * 5)
         self.assertEqual(numbers[7::2], [p - numbers[5] for p in numbers[6::2]])
+
+    def test_the_newest_watch_runs_first(self):
+        """P6 prints 7 ahead of 3; at each level the corrected trace, ten times the degrees, stands ahead of the faulty
+        one, eight times the degrees."""
+        self.assertEqual(high_log("first"), ["log 0 7", "log 0 3"])
+        lines = (FOLDER / "corrected.txt").read_text().splitlines()
+        degrees = [int(line.split()[2]) for line in high_log("corrected")[1::3]]
+        printed = [int(line.split()[2]) for line in lines if line.startswith("log 1 ")]
+        self.assertEqual(printed, [factor * t for t in degrees for factor in (10, 8)])
 
     def test_a_watch_that_takes_itself_down(self):
         """It prints the pressure of the first three levels, and nothing after that."""

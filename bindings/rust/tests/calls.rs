@@ -39,11 +39,11 @@ fn a_constant_is_done_at_budget_0() {
 }
 
 #[test]
-fn marks_run_advice_in_order_of_installation() {
+fn marks_run_the_newest_advice_first() {
     let mut lent = Lent::new(100);
     let run = run(&p6(), &[], 100_000, &mut lent).unwrap();
     assert_eq!((run.outcome(), run.steps()), (Outcome::Done, 17));
-    assert_eq!(run.log().collect::<Vec<_>>(), [3, 7].map(|number| LogRecord { domain: 0, number }));
+    assert_eq!(run.log().collect::<Vec<_>>(), [7, 3].map(|number| LogRecord { domain: 0, number }));
     assert_eq!(run.result().collect::<Vec<_>>(), [Leaf::Unit]);
 }
 

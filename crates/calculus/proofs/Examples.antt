@@ -43,11 +43,11 @@ on p b = record { dom = p; labels = 0 ∷ []; body = b }
 abbrev advised : State
 advised = installed (on 0 (say (number 7))) (installed (on 1 (say (var 0))) (labelled 0 fresh))
 
--- "In order of installation, each matching advice's body lowered to its domain, in sequence, ending in unit": the mark, then three steps for each.
-advice-in-order : facts advised (op2 mark Ty.unit (val (Val.label 0)) (number 3))
-    ≡ record { end = done Val.unit; steps = 7; log = record { dom = 1; shown = 3 } ∷ record { dom = 0; shown = 7 } ∷ [] }
+-- Card 8: "newest first", each matching advice's body lowered to its domain, in sequence, ending in unit: the mark, then three steps for each.
+newest-first : facts advised (op2 mark Ty.unit (val (Val.label 0)) (number 3))
+    ≡ record { end = done Val.unit; steps = 7; log = record { dom = 0; shown = 7 } ∷ record { dom = 1; shown = 3 } ∷ [] }
 unfolding run after cases step subst carry if-room with spend picked
-advice-in-order = refl
+newest-first = refl
 
 -- Abort "is one step besides".
 abort-counted : facts fresh (op0 abort Ty.unit) ≡ record { end = stopped Outcome.Aborted; steps = 1; log = [] }
@@ -142,12 +142,12 @@ value-not-kept : facts (labelled 0 fresh) (keep (val (Val.label 0)) (seq (looked
 unfolding run after cases step subst carry if-room with spend picked
 value-not-kept = refl
 
--- Card 7: at one mark the second of three watches of domain 1 takes the watches of domain 1 down; the third, picked already, still runs; the next mark finds the watch of domain 0 alone. The label, and so each pointcut, is of domain 0.
+-- Card 7: at one mark the second of three watches of domain 1 takes the watches of domain 1 down; the first, picked already, still runs; the next mark finds the watch of domain 0 alone. The label, and so each pointcut, is of domain 0.
 abbrev clearing : State
 clearing = installed (on 0 (say (number 7))) (installed (on 1 (say (var 0))) (installed (on 1 (op0 (takedown 1) Ty.unit)) (installed (on 1 (say (number 5))) (labelled 0 fresh))))
 
 taken-down : facts clearing (seq marked marked)
-    ≡ record { end = done Val.unit; steps = 18; log = record { dom = 1; shown = 5 } ∷ record { dom = 1; shown = 4 } ∷ record { dom = 0; shown = 7 } ∷ record { dom = 0; shown = 7 } ∷ [] }
+    ≡ record { end = done Val.unit; steps = 18; log = record { dom = 0; shown = 7 } ∷ record { dom = 1; shown = 4 } ∷ record { dom = 1; shown = 5 } ∷ record { dom = 0; shown = 7 } ∷ [] }
 unfolding run after cases step subst carry if-room with spend picked
 taken-down = refl
 

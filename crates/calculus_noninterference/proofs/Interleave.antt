@@ -1,7 +1,7 @@
 -- Two lists in one common order: what both have, what only the left has, what only the right has.
 use Prim.Native.Nat.{ℕ, zero, suc}
 use mathlib.Core.Path.{_≡_, refl, sym, _∙_}
-use mathlib.Core.List.{List, [], _∷_, _++_}
+use mathlib.Core.List.{List, [], _∷_, _++_, reverse, reverseAux}
 use mathlib.Core.Option.{some, Option·some-injective}
 use lib.ListN.{length, set, getElem?}
 use lib.Dec.{eqb, eqb·zero-suc, eqb·suc-zero, eqb·suc-suc}
@@ -112,3 +112,13 @@ module _ {A : Type 0} {H : A → A → Type 0} {L : A → Type 0} where
   set-right zero n (i-right l k) e f g = i-right (g (rw (Option·some-injective _ _ e) at l)) k
   set-right (suc i) n (i-right l k) e f g = i-right l (set-right i n k e f g)
   set-right i n (i-left l k) e f g = i-left l (set-right i n k e f g)
+
+  -- Both lists the other way round.
+  interleaving-onto : {w v : List Side} {x y z u : List A} → Interleaving H L w x y → Interleaving H L v z u → Interleaving H L (reverseAux w v) (reverseAux x z) (reverseAux y u)
+  interleaving-onto i-nil k = k
+  interleaving-onto (i-both h i) k = interleaving-onto i (i-both h k)
+  interleaving-onto (i-left l i) k = interleaving-onto i (i-left l k)
+  interleaving-onto (i-right l i) k = interleaving-onto i (i-right l k)
+
+  pub interleaving-reverse : {w : List Side} {x y : List A} → Interleaving H L w x y → Interleaving H L (reverse w) (reverse x) (reverse y)
+  interleaving-reverse i = interleaving-onto i i-nil

@@ -11,6 +11,7 @@ pub mod Confined
 pub mod States
 pub mod Paired
 pub mod Marks
+pub mod Newest
 pub mod Reductions
 pub mod Alone
 pub mod Operands

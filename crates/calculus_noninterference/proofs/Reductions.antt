@@ -18,7 +18,7 @@ use Rattle.laws.proofs.Lists.{All2.all2-nil, All2.all2-cons, All2, all2-length}
 use Rattle.calculus_safety.proofs.StoreFits.{StateFits}
 use Rattle.calculus_noninterference.specs.Observe.{Highs}
 use Rattle.calculus_noninterference.proofs.Clash.{clash}
-use Rattle.calculus_noninterference.proofs.Interleave.{both, Matches, matched-last, get-both}
+use Rattle.calculus_noninterference.proofs.Interleave.{both, Matches, matched-last, get-both, interleaving-reverse}
 use Rattle.calculus_noninterference.proofs.Related.{World, grows-refl, RelCell, RelV, RelT, RelB, RelVs, RelBs, b-rel, b-low, v-unit, v-truth, v-num, v-pair, v-fun, v-label, v-cell, v-labels, v-advice, v-object, r-val, r-body, RelS, RelKept, v-bottom, v-kept}
 use Rattle.calculus.specs.Subst.{subst}
 use Rattle.calculus_noninterference.proofs.Substitute.{rel-choose, relT-subst}
@@ -151,7 +151,7 @@ module _ (hi : Dom → Bool) {D : Policy} (H : Highs D hi) {W : World} {s s′ :
   two2 t-pair x y r u = two-charge hi R _ _ (r-val (v-pair r u))
   two2 t-app (ValTy.v-fun x) y (v-fun (b-rel r)) u = two-some hi _ _ (two-charge hi R _ _ (relT-subst hi r 0 u))
   two2 t-app (ValTy.v-fun x) y (v-fun (b-low f)) u = clash h f
-  two2 t-mark (ValTy.v-label x) y (v-label m) u = let k = get-both m (R .labels) in two-some hi _ _ (two-found hi _ _ (k .2) (k .3) (two-charge hi R _ _ (composed-rel hi (R .advices) m u)))
+  two2 t-mark (ValTy.v-label x) y (v-label m) u = let k = get-both m (R .labels) in two-some hi _ _ (two-found hi _ _ (k .2) (k .3) (two-charge hi R _ _ (composed-rel hi (interleaving-reverse (R .advices)) m u)))
   two2 (t-store l) (ValTy.v-cell x) y (v-cell m) u = let k = get-both m (R .cells) in two-some hi _ _ (two-found hi _ _ (k .2) (k .3) (two-go (grows-refl W) (store-both hi R m (k .4) u) (r-val v-unit)))
   two2 t-plus (ValTy.v-num {n = m}) (ValTy.v-num {n}) v-num v-num = two-arith hi R num sum m n (r-val v-num)
   two2 t-minus (ValTy.v-num {n = m}) (ValTy.v-num {n}) v-num v-num = two-arith hi R num difference m n (r-val v-num)

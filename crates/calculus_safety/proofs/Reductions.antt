@@ -15,7 +15,7 @@ use Rattle.calculus.specs.Place.{Place, at, keeping}
 use Rattle.calculus.specs.Compose.{member}
 use Rattle.calculus.specs.Reduce.{reduce0, reduce1, reduce2, reduceSeq, reduceIte, reduceSplit, reduceAdv, reduceLower, reducePcd, collect, methodBody, stackVal, consFound, matched, branch, matchOn, substAll, reduceKeep, reduceMatch}
 use Rattle.calculus.specs.Typing.{StoreTyping, Policy, PatternTy, Has, LabelsOf, LabelTys, ValTy, TmTy, BodiesTy, Rule0, Rule1, Rule2}
-use Rattle.laws.proofs.Lists.{All2, All2.all2-nil, All2.all2-cons, all-snoc, all2-snoc, all2-set, all2-length, all2-reverse, get-last, All.all-nil, All.all-cons}
+use Rattle.laws.proofs.Lists.{All2, All2.all2-nil, All2.all2-cons, all-snoc, all-reverse, all2-snoc, all2-set, all2-length, all2-reverse, get-last, All.all-nil, All.all-cons}
 use Rattle.calculus.specs.Accepted.{Transitive}
 use Rattle.calculus_safety.proofs.Extend.{extends-cell, extends-label, grow-val}
 use Rattle.calculus_safety.proofs.Substitute.{Without, Without.here, Without.there, subst-tm}
@@ -129,7 +129,7 @@ module _ (D : Policy) {Σ : StoreTyping} {c : Dom} (s : State) (fits : StateFits
     safe2 trans Rule2.t-pair hv hw = safe-spend D _ s _ (here-val _ fits (ValTy.v-pair hv hw))
     safe2 trans Rule2.t-app (ValTy.v-fun h) hw = safe-spend D _ s _ (safe-here D _ fits (subst-tm D hw h here))
     safe2 trans Rule2.t-mark (ValTy.v-label {l} g) hw =
-        rw (label-there D s fits l g) (safe-spend D _ s _ (safe-here D _ fits (composed-typed D trans hw l g (fits .advices))))
+        rw (label-there D s fits l g) (safe-spend D _ s _ (safe-here D _ fits (composed-typed D trans hw l g (all-reverse (fits .advices)))))
     safe2 trans (Rule2.t-store h) (ValTy.v-cell {r} g) hw =
         let k = cell-there D s fits r g in
         rw (k .1) (here-val _ (record { cells = all2-set (fits .cells) r g (held-set D (k .2) hw); labels = fits .labels; advices = fits .advices }) ValTy.v-unit)

@@ -1,13 +1,8 @@
 -- Two calls compared: images that print different numbers at domain 1, below 0, seen from domain 0 (document 01, "Two runs compared"), in the body of a lower and in that of a method (card 3).
-use Prim.Native.Nat.{ℕ, zero, suc, _<_}
-use native.Mathlib.Omega.{arith}
-use mathlib.Core.Path.{_≡_, refl, sym}
-use mathlib.Core.Bool.{Bool, true}
+use Prim.Native.Nat.{ℕ}
+use mathlib.Core.Path.{_≡_, refl}
 use mathlib.Core.List.{List, [], _∷_}
-use lib.ListN.{replicate}
-use lib.Dec.{eqb}
 use Rattle.calculus.specs.Combinators.{cases}
-use Rattle.calculus.specs.Syntax.{Dom}
 use Rattle.calculus.specs.State.{picked}
 use Rattle.calculus.specs.Subst.{subst}
 use Rattle.calculus.specs.Answer.{carry, if-room, with, spend}
@@ -21,7 +16,6 @@ use Rattle.image.specs.Kinds.{find}
 use Rattle.image.specs.Layout.{allWithin, tests, walk, layout, recordsOf}
 use Rattle.image.specs.Types.{typeOut, typeFrom, typeOf}
 use Rattle.image.specs.Program.{tree, program, assemble, toTm}
-use Rattle.laws.proofs.Booleans.{no-path, eq-of}
 use Rattle.verdict.specs.Answers.{requireFrom, inTurn}
 use Rattle.verdict.specs.Domains.{bits, masks, order, leq}
 use Rattle.verdict.specs.Order.{atFault}
@@ -34,31 +28,21 @@ use Rattle.base_bytes.specs.Bytes.{bytesOf, over, cleared}
 use Rattle.report.specs.Records.{recordsBytes}
 use Rattle.calls.specs.Runs.{programOf}
 use Rattle.calls.specs.Calls.{Left, called}
+use Rattle.listing.specs.Sheet.{zeros}
 use Rattle.demands.specs.Calls.{Runs, logWritten}
 use Rattle.demands.specs.Compare.{HighSet, Compared, SameLeft}
 use Rattle.demands.specs.LowMethods.{SameButMethods, inside, object, no-child, alike, low-body}
 use Rattle.demands.proofs.Demands.{demand3}
+use Rattle.demands.proofs.Mainline.{mainlineOnly, mainline-high}
 use Rattle.demands.proofs.LowMethods.{card3}
-
-abbrev mainlineOnly : Dom → Bool
-mainlineOnly d = eqb d 0
 
 high-mainline : HighSet (recordsOf (lowered 1)) mainlineOnly
 unfolding lowered leq order bits recordsOf layout walk tests find words allWithin all allOf firstFault little rec image two-domains number unit literal
-high-mainline = record { mainline = refl; up = up }
-  where
-    up : (d q : Dom) → d < 2 → q < 2 → eqb d 0 ≡ true → leq (recordsOf (lowered 1)) d q ≡ true → eqb q 0 ≡ true
-    up zero zero l m h k = refl
-    up zero (suc zero) l m h k = no-path (sym k)
-    up zero (suc (suc q)) l m h k = absurd (omega arith)
-    up (suc d) q l m h k = let z : suc d ≡ 0 = eq-of h in absurd (omega arith)
+high-mainline = mainline-high (recordsOf (lowered 1)) refl refl
 
 compared : Compared mainlineOnly (lowered 1) (lowered 2)
 unfolding lowered recordsOf layout walk tests find words allWithin all allOf firstFault little rec image two-domains number unit literal
 compared = record { domains = refl; highs = high-mainline; programs = same-lowered }
-
-abbrev zeros : ℕ → List ℕ
-zeros n = replicate n 0
 
 -- Calls with an empty frame, budget 100 and a log of 20 bytes: both run.
 unfoldable pub lowCall : ℕ → Left
@@ -98,13 +82,7 @@ calling n =
 
 high-calling : HighSet (recordsOf (calling 1)) mainlineOnly
 unfolding calling leq order bits recordsOf layout walk tests find words allWithin all allOf firstFault little rec image two-domains number unit literal
-high-calling = record { mainline = refl; up = up }
-  where
-    up : (d q : Dom) → d < 2 → q < 2 → eqb d 0 ≡ true → leq (recordsOf (calling 1)) d q ≡ true → eqb q 0 ≡ true
-    up zero zero l m h k = refl
-    up zero (suc zero) l m h k = no-path (sym k)
-    up zero (suc (suc q)) l m h k = absurd (omega arith)
-    up (suc d) q l m h k = let z : suc d ≡ 0 = eq-of h in absurd (omega arith)
+high-calling = mainline-high (recordsOf (calling 1)) refl refl
 
 -- Their programs are the same but for that body.
 same-calling : SameButMethods mainlineOnly (programOf (calling 1)) (programOf (calling 2))

@@ -110,10 +110,10 @@ sheet =
     -- P5: "-1 less 0: true; 0 less 0: false"
     ∷ ends (arithmetic 1 2 4294967295 0) sheetBudget Outcome.Done 1 (Leaf.Truth true ∷ []) [] (head 0 1 ++ (6 ∷ 0 ∷ 66 ∷ 0 ∷ 1 ∷ 0 ∷ [])) noCounts "done 1\nvalue true\n"
     ∷ ends (arithmetic 1 2 0 0) sheetBudget Outcome.Done 1 (Leaf.Truth false ∷ []) [] (head 0 1 ++ (6 ∷ 0 ∷ 66 ∷ 0 ∷ 0 ∷ 0 ∷ [])) noCounts "done 1\nvalue false\n"
-    -- P6: "logs 3, 7; done in 17 steps; 3 bindings, 4 pieces"
-    ∷ ends p6-image sheetBudget Outcome.Done 17 (Leaf.Unit ∷ []) (logged 3 ++ logged 7) (head 0 17 ++ (4 ∷ 0 ∷ 65 ∷ 0 ∷ [])) (record { bindings = 3; cells = 0; pieces = 4 }) "log 0 3\nlog 0 7\ndone 17\nvalue unit\n"
+    -- P6: "logs 3, 7; done in 17 steps; 3 bindings, 4 pieces", and with card 8 "logs 7, 3 with the same 17 steps"
+    ∷ ends p6-image sheetBudget Outcome.Done 17 (Leaf.Unit ∷ []) (logged 7 ++ logged 3) (head 0 17 ++ (4 ∷ 0 ∷ 65 ∷ 0 ∷ [])) (record { bindings = 3; cells = 0; pieces = 4 }) "log 0 7\nlog 0 3\ndone 17\nvalue unit\n"
     -- P7: "the same at budget 16: spent, 16 steps"
-    ∷ ends p6-image 16 Outcome.Spent 16 [] (logged 3 ++ logged 7) (head 1 16) (record { bindings = 3; cells = 0; pieces = 4 }) "log 0 3\nlog 0 7\nspent 16\n"
+    ∷ ends p6-image 16 Outcome.Spent 16 [] (logged 7 ++ logged 3) (head 1 16) (record { bindings = 3; cells = 0; pieces = 4 }) "log 0 7\nlog 0 3\nspent 16\n"
     -- P8: "domain 1 ≤ 0: reading at 0 a cell of domain 1 is 15; storing to it is accepted"; the cell, of domain 1, then holds 6
     ∷ refuses (p8-image (rec 50 (0 ∷ 1 ∷ []) ∷ [])) Refusal.DomainRule 15 46 "refused 15 46\n"
     ∷ ends (p8-image (literal 6 ∷ rec 51 (2 ∷ 1 ∷ 2 ∷ []) ∷ [])) sheetBudget Outcome.Done 2 (Leaf.Unit ∷ []) []

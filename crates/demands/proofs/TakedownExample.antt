@@ -1,13 +1,8 @@
 -- Card 7: two calls compared, whose programs differ by a takedown in a low body, seen from domain 0. A watch of domain 1 prints what is marked; the body of a lower to domain 1, before the mark, is unit, or takes the watches of domain 1 down first.
-use Prim.Native.Nat.{ℕ, zero, suc, _+_, _<_}
-use native.Mathlib.Omega.{arith}
-use mathlib.Core.Path.{_≡_, refl, sym}
-use mathlib.Core.Bool.{Bool, true}
+use Prim.Native.Nat.{ℕ, _+_}
+use mathlib.Core.Path.{_≡_, refl}
 use mathlib.Core.List.{List, [], _∷_, _++_}
-use lib.ListN.{replicate}
-use lib.Dec.{eqb}
 use Rattle.calculus.specs.Combinators.{cases}
-use Rattle.calculus.specs.Syntax.{Dom}
 use Rattle.calculus.specs.State.{picked}
 use Rattle.calculus.specs.Subst.{subst}
 use Rattle.calculus.specs.Answer.{carry, if-room, with, spend}
@@ -21,7 +16,6 @@ use Rattle.image.specs.Kinds.{find}
 use Rattle.image.specs.Layout.{allWithin, tests, walk, layout, recordsOf}
 use Rattle.image.specs.Types.{typeOut, typeFrom, typeOf}
 use Rattle.image.specs.Program.{tree, program, assemble, toTm}
-use Rattle.laws.proofs.Booleans.{no-path, eq-of}
 use Rattle.verdict.specs.Answers.{requireFrom, inTurn}
 use Rattle.verdict.specs.Domains.{bits, masks, order, leq}
 use Rattle.verdict.specs.Order.{atFault}
@@ -33,14 +27,13 @@ use Rattle.base_bytes.specs.Bytes.{bytesOf, over, cleared}
 use Rattle.report.specs.Records.{recordsBytes}
 use Rattle.calls.specs.Runs.{programOf}
 use Rattle.calls.specs.Calls.{Left, called}
+use Rattle.listing.specs.Sheet.{zeros}
 use Rattle.demands.specs.Calls.{Runs, logWritten}
 use Rattle.demands.specs.Compare.{HighSet, SameLeft}
 use Rattle.demands.specs.LowTakedowns.{WithTakedowns, same, inside, no-child, alike}
 use Rattle.demands.specs.LowTakedowns as low
+use Rattle.demands.proofs.Mainline.{mainlineOnly, mainline-high}
 use Rattle.demands.proofs.LowTakedowns.{card7}
-
-abbrev mainlineOnly : Dom → Bool
-mainlineOnly d = eqb d 0
 
 -- A function of a label, applied to a new one: the watch is installed, the low body runs, 5 is marked, 6 is printed. The records of the low body end with term k.
 unfoldable pub watchedOnce : ℕ → List (List ℕ) → List ℕ
@@ -61,22 +54,13 @@ cleared-image = watchedOnce 8 (rec 59 (1 ∷ 1 ∷ []) ∷ rec 32 (1 ∷ []) ∷
 high-mainline : HighSet (recordsOf left-image) mainlineOnly
 unfolding leq order bits recordsOf layout walk tests find words allWithin all allOf firstFault
     little rec image one-domain two-domains unit number literal watchedOnce cleared-image left-image
-high-mainline = record { mainline = refl; up = up }
-  where
-    up : (d q : Dom) → d < 2 → q < 2 → eqb d 0 ≡ true → leq (recordsOf left-image) d q ≡ true → eqb q 0 ≡ true
-    up zero zero l m h k = refl
-    up zero (suc zero) l m h k = no-path (sym k)
-    up zero (suc (suc q)) l m h k = absurd (omega arith)
-    up (suc d) q l m h k = let z : suc d ≡ 0 = eq-of h in absurd (omega arith)
+high-mainline = mainline-high (recordsOf left-image) refl refl
 
 with-takedown : WithTakedowns mainlineOnly (programOf left-image) (programOf cleared-image)
 unfolding program tree recordsOf layout walk tests find words allWithin all allOf firstFault typeOf typeFrom typeOut
     little rec image one-domain two-domains unit number literal watchedOnce cleared-image left-image
 with-takedown =
     inside (alike (inside (alike (inside (alike (same _) (alike (inside (alike (inside (low.cleared refl no-child)) (alike (same _) no-child))) no-child))) no-child)) (alike (same _) no-child))
-
-abbrev zeros : ℕ → List ℕ
-zeros n = replicate n 0
 
 unfoldable pub watchCall : List ℕ → Left
 watchCall b = called b [] 100 (zeros 40) (zeros reportLength) (zeros workLength)

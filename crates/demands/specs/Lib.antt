@@ -7,3 +7,4 @@ pub mod LowMethods
 pub mod LowTakedowns
 pub mod Unpaid
 pub mod Branches
+pub mod NewestFirst

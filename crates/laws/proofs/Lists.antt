@@ -56,6 +56,13 @@ module _ {A : Type 0} where
   all-snoc all-nil p = all-cons p all-nil
   all-snoc (all-cons q qs) p = all-cons q (all-snoc qs p)
 
+  all-reverseAux : {P : A → Type 0} {xs zs : List A} → All P xs → All P zs → All P (reverseAux xs zs)
+  all-reverseAux all-nil k = k
+  all-reverseAux (all-cons p ps) k = all-reverseAux ps (all-cons p k)
+
+  pub all-reverse : {P : A → Type 0} {xs : List A} → All P xs → All P (reverse xs)
+  all-reverse ps = all-reverseAux ps all-nil
+
 module _ {A B : Type 0} where
   pub data All2 (R : A → B → Type 0) : List A → List B → Type 0 where
     all2-nil : All2 R [] []

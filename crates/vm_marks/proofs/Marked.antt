@@ -25,7 +25,7 @@ use Rattle.vm_marks.specs.Binds.{boundIn, Binds}
 
 -- The bindings of a mark of label l with the value y, and what follows from them.
 abbrev matched : ℕ → ℕ → State → Bound
-matched y l S = bindMatching (S .regs .installed) 0 l y (record { memory = S .memory; count = S .regs .pools .bindings })
+matched y l S = bindMatching (S .regs .installed) l y (record { memory = S .memory; count = S .regs .pools .bindings })
 
 abbrev counted : ℕ → Regs → Regs
 counted m r = setPools (boundTo m (r .pools)) (stepped r)
@@ -58,9 +58,9 @@ module _ (a : List ℕ) (r q : Regs) (w x y l : ℕ) (h : Bool) (d : l ≡ bodyO
   heard-made c t p = mark-as c (as-phase (heard w y l) (marked w y l) a c r q (λ log. sym (chosen-no _ _ _ (ap not (sym e) ∙ t))) p)
 
   -- Some names it; there are m bindings then.
-  module _ (t : not h ≡ false) (b : List ℕ) (m : ℕ) (k : Binds (bindMatching (r .installed) 0 l y (boundIn a (r .pools .bindings))) a b m) where
+  module _ (t : not h ≡ false) (b : List ℕ) (m : ℕ) (k : Binds (bindMatching (r .installed) l y (boundIn a (r .pools .bindings))) a b m) where
     abbrev B : Bound
-    B = bindMatching (r .installed) 0 l y (boundIn a (r .pools .bindings))
+    B = bindMatching (r .installed) l y (boundIn a (r .pools .bindings))
 
     within : {v : Bool} → leb m bindingLimit ≡ v → leb (B .count) bindingLimit ≡ v
     within g = ap (λ (i : ℕ). leb i bindingLimit) (sym (k .count)) ∙ g

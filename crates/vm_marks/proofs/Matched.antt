@@ -41,22 +41,16 @@ module _ (w : List ℕ) (l v i n p x : ℕ) (h : Bool) (d : p ≡ installedAt (m
 pub bound-is : (B : Bound) (w w′ : List ℕ) (n : ℕ) → Binds B w w′ n → B ≡ boundIn w′ n
 bound-is B w w′ n b = ap (λ (M : Memory). record { memory = M; count = B .count }) (sym (b .memory .memory)) ∙ ap (λ (k : ℕ). record { memory = memoryOf w′; count = k }) (sym (b .count))
 
--- None is done yet.
-pub matching-start : (n l v : ℕ) (B : Bound) → bindMatching n 0 l v B ≡ bindMatching (n - 0) 0 l v B
-matching-start n l v B = let k : n ≡ n - 0 = omega arith in ap (λ (x : ℕ). bindMatching x 0 l v B) k
-
 -- One advice more.
-pub matching-on : (n i l v : ℕ) (w w′ : List ℕ) (m m′ : ℕ) → i < n → Binds (bindOne l v i (boundIn w m)) w w′ m′ → bindMatching (n - i) i l v (boundIn w m) ≡ bindMatching (n - (i + 1)) (i + 1) l v (boundIn w′ m′)
+pub matching-on : (i j l v : ℕ) (w w′ : List ℕ) (m m′ : ℕ) → i ≡ suc j → Binds (bindOne l v j (boundIn w m)) w w′ m′ → bindMatching i l v (boundIn w m) ≡ bindMatching j l v (boundIn w′ m′)
 unfolding bindMatching
-matching-on n i l v w w′ m m′ h b =
-    let k : n - i ≡ suc (n - (i + 1)) = omega arith in
-    let j : suc i ≡ i + 1 = omega arith in
-    ap (λ (x : ℕ). bindMatching x i l v (boundIn w m)) k ∙ ap (λ (x : ℕ). bindMatching (n - (i + 1)) x l v (bindOne l v i (boundIn w m))) j ∙ ap (bindMatching (n - (i + 1)) (i + 1) l v) (bound-is (bindOne l v i (boundIn w m)) w w′ m′ b)
+matching-on i j l v w w′ m m′ k b =
+    ap (λ (x : ℕ). bindMatching x l v (boundIn w m)) k ∙ ap (bindMatching j l v) (bound-is (bindOne l v j (boundIn w m)) w w′ m′ b)
 
 -- All are done.
-pub matching-done : (B : Bound) (n i l v : ℕ) (w w′ : List ℕ) (m : ℕ) → n ≤ i → B ≡ bindMatching (n - i) i l v (boundIn w′ m) → drop memoryLength w′ ≡ drop memoryLength w → Binds B w w′ m
+pub matching-done : (B : Bound) (i l v : ℕ) (w w′ : List ℕ) (m : ℕ) → i ≤ 0 → B ≡ bindMatching i l v (boundIn w′ m) → drop memoryLength w′ ≡ drop memoryLength w → Binds B w w′ m
 unfolding bindMatching
-matching-done B n i l v w w′ m h e r =
-    let k : n - i ≡ 0 = omega arith in
-    let z : B ≡ boundIn w′ m = e ∙ ap (λ (x : ℕ). bindMatching x i l v (boundIn w′ m)) k in
+matching-done B i l v w w′ m h e r =
+    let k : i ≡ 0 = omega arith in
+    let z : B ≡ boundIn w′ m = e ∙ ap (λ (x : ℕ). bindMatching x l v (boundIn w′ m)) k in
     binds-by (boundIn w′ m) B w w′ m (sym z) (record { memory = record { memory = refl; rest = r }; count = refl })

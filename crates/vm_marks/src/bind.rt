@@ -31,16 +31,16 @@ fn bind_one(work: &mut [u8], l: u64, v: u64, i: usize, b: usize) -> usize
     b
 }
 
-// The bindings of n installed advice, in order of installation.
+// The bindings of the first n installed advice, the newest first (document 02, card 8).
 pub fn bind_matching(work: &mut [u8], n: usize, l: u64, v: u64, b: usize) -> usize
     requires { ⌜ (memoryLength ≤ length (now work)) × (l < 64) × (n ≤ 64) × (b ≤ 2048) ⌝ }
-    ensures { λ m. ⌜ Binds (bindMatching n 0 l v (boundIn (now (work .entry)) b)) (now (work .entry)) (now (work .exit)) m × (b ≤ m) × (m < 4096) ⌝ }
+    ensures { λ m. ⌜ Binds (bindMatching n l v (boundIn (now (work .entry)) b)) (now (work .entry)) (now (work .exit)) m × (b ≤ m) × (m < 4096) ⌝ }
 {
     let mut m = b;
-    let mut i: usize = 0;
-    while i < n {
+    let mut i = n;
+    while 0 < i {
+        i -= 1;
         m = bind_one(work, l, v, i, m);
-        i += 1;
     }
     m
 }

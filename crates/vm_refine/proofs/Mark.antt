@@ -13,7 +13,7 @@ use Rattle.calculus.specs.Limits.{frameLimit, bindingLimit}
 use Rattle.calculus.specs.Combinators.{choose}
 use Rattle.calculus.specs.Syntax.{Dom, Ty, Tm, mark}
 use Rattle.calculus.specs.State.{Advice, Given, fresh, charged, addCounts, someBindings}
-use Rattle.calculus.specs.Compose.{matching}
+use Rattle.calculus.specs.Compose.{triggeredBy}
 use Rattle.calculus.specs.Place.{Place}
 use Rattle.calculus.specs.Answer.{go, full, if-room, with}
 use Rattle.closure_machine.specs.Closure.{CVal, Env, Body, CState, plainVal, plainState}
@@ -44,7 +44,7 @@ use Rattle.vm_refine.proofs.Arrives.{completed-now}
 use Rattle.vm_refine.proofs.Steps.{leb-iff, spend-bindings, measure, After, after-halted, fits-in, Stepping, no-room, if-left-with, no-wrong}
 use Rattle.vm_refine.proofs.Gives.{Left, still, falls}
 use Rattle.vm_refine.proofs.Advice.{stack-depth, advised}
-use Rattle.vm_refine.proofs.Matching.{Written, written-refl, Made, made-all, none-named}
+use Rattle.vm_refine.proofs.Matching.{newest-first, Written, written-refl, Made, made-all, none-named}
 
 -- The parts of an advice's frame.
 pub advice-frame : (pc env next end : ℕ) → pc < 1024 → env < 2048 → next < 65536 → end < 65536
@@ -218,7 +218,7 @@ module _ (T : Table) (root : ℕ) (L : Linked T 0 root) (G : Given) (e₀ : Tm) 
         used j = charged (addCounts (s .used) (someBindings j)) s
 
         all : ℕ → Bound
-        all l = bindMatching (r .installed) 0 l x′ (record { memory = S .memory; count = n })
+        all l = bindMatching (r .installed) l x′ (record { memory = S .memory; count = n })
 
         slots : {M′ : Memory} → Written (S .memory) (sizes r) M′ → SameSlots (S .memory) M′
         slots k = record { word = λ j h g. k .above .kept j h; byte = k .beside }
@@ -299,17 +299,17 @@ module _ (T : Table) (root : ℕ) (L : Linked T 0 root) (G : Given) (e₀ : Tm) 
             (left-now (used (suc (length a))) (triggered v′ (f ∷ a)) _ (wr .written) Q (some-now (f .dom) (f .labels) (f .body .term) (f .body .env) a b wr few Q))
 
         -- a label that no installed advice names
-        named : (l : ℕ) → l < 64 → (t : Bool) → hasBit (r .named) l ≡ t → At (if-room (leb (length (matching l (s .advices))) (bindingLimit - s .used .bindings)) Outcome.Bindings (go (used (length (matching l (s .advices)))) (triggered v′ (matching l (s .advices)))))
+        named : (l : ℕ) → l < 64 → (t : Bool) → hasBit (r .named) l ≡ t → At (if-room (leb (length (triggeredBy l (s .advices))) (bindingLimit - s .used .bindings)) Outcome.Bindings (go (used (length (triggeredBy l (s .advices)))) (triggered v′ (triggeredBy l (s .advices)))))
             → Then
             (choose (not t) (ifLeft S (given w 0 S))
             (ifRoom (leb (all l .count) bindingLimit) Outcome.Bindings (withMemory (all l .memory) r S)
             (choose (eqb (all l .count) n) (given w 0 (withMemory (all l .memory) r S)) (startAdvice w n (all l .count) (withMemory (all l .memory) (setPools (boundTo (all l .count) (r .pools)) (stepped r)) S)))))
         named l h true t Q =
-            rest-now (matching l (s .advices)) (all l)
-            (made-all T root L (S .memory) (sizes r) (st .pieces-fit) (st .words) l h x′ v′ i′ (st .are-advices) (r .installed) (st .advices) (record { memory = S .memory; count = n }) (omega arith) (written-refl (S .memory) (sizes r)))
-            (leb (length (matching l (s .advices))) (bindingLimit - s .used .bindings)) refl Q
+            rest-now (triggeredBy l (s .advices)) (all l)
+            (made-all T root L (S .memory) (sizes r) (st .pieces-fit) (st .words) l h x′ v′ i′ (newest-first T root L (S .memory) (sizes r) (st .advices) (st .are-advices)) (record { memory = S .memory; count = n }) (omega arith) (written-refl (S .memory) (sizes r)))
+            (leb (length (triggeredBy l (s .advices))) (bindingLimit - s .used .bindings)) refl Q
         named l h false t Q =
-            let none : matching l (s .advices) ≡ [] = none-named T root L (S .memory) (sizes r) l h t (st .are-advices) in
+            let none : triggeredBy l (s .advices) ≡ [] = none-named T root L (S .memory) (sizes r) l h t (newest-first T root L (S .memory) (sizes r) (st .advices) (st .are-advices)) in
             let W : Written (S .memory) (sizes r) (S .memory) = written-refl (S .memory) (sizes r) in
             left-now (used 0) (triggered v′ []) _ W (at-room (rw none at Q)) (none-now (S .memory) W (at-room (rw none at Q)))
           where
@@ -323,5 +323,5 @@ module _ (T : Table) (root : ℕ) (L : Linked T 0 root) (G : Given) (e₀ : Tm) 
 
         try : {u : CVal} → AsLabel T root L (S .memory) (sizes r) x u → At (reduce2C G X s mark y u v′) → Then (reduceMark w x x′ S)
         try (a-label {l = l} p q) Q =
-            rw q (named l (omega arith) (hasBit (r .named) l) refl (rw (spend-bindings s (λ s′. go s′ (triggered v′ (matching l (s .advices)))) (length (matching l (s .advices)))) at (there (getElem? (s .labels) l) _ Q)))
+            rw q (named l (omega arith) (hasBit (r .named) l) refl (rw (spend-bindings s (λ s′. go s′ (triggered v′ (triggeredBy l (s .advices)))) (length (triggeredBy l (s .advices)))) at (there (getElem? (s .labels) l) _ Q)))
         try (no-label p) Q = absurd (no-wrong T root L G e₀ Ω N B C says S k s m P A D c F Q (rw p))

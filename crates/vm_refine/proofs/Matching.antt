@@ -1,9 +1,9 @@
--- The bindings that a mark makes: one for each advice that its label triggers, in order of installation.
+-- The bindings that a mark makes: one for each advice that its label triggers, the newest first (card 8).
 use Prim.Native.Nat.{ℕ, suc, _+_, _-_, _%_, _≤_, _<_}
 use native.Mathlib.Omega.{arith}
 use mathlib.Core.Path.{_≡_, refl, sym, ap, subst, _∙_}
 use mathlib.Core.Bool.{Bool, true, false}
-use mathlib.Core.List.{List, [], _∷_}
+use mathlib.Core.List.{List, [], _∷_, reverse, reverseAux}
 use lib.ListN.{length}
 use lib.Dec.{ltb}
 use borrow.Author.Tests.{lt-ltb, ltb-true}
@@ -40,6 +40,20 @@ written-more M z M′ j w f h g k =
     }
 
 module _ (T : Table) (root : ℕ) (L : Linked T 0 root) where
+  module _ (M : Memory) (z : Sizes) where
+    -- The installed advice before place n, the newest first.
+    pub data AreBefore : ℕ → List (Advice Body) → Type 0 where
+      none-before : AreBefore 0 []
+      one-before : {n : ℕ} {a : Advice Body} {x : List (Advice Body)} → IsAdvice T root L M z (installedAt M n) (a .dom) (a .labels) (a .body .term) (a .body .env)
+          → ((l : ℕ) → l < 64 → hasBit (z .named) l ≡ false → member l (a .labels) ≡ false) → AreBefore n x → AreBefore (suc n) (a ∷ x)
+
+    before-onto : {i : ℕ} {x y : List (Advice Body)} → AreAdvices T root L M z i x → AreBefore i y → AreBefore (i + length x) (reverseAux x y)
+    before-onto {i} none-installed b = let e : i + 0 ≡ i = omega arith in rw e b
+    before-onto {i} (one-installed {x = x} h u r) b = let e : i + suc (length x) ≡ suc i + length x = omega arith in rw e (before-onto r (one-before h u b))
+
+    pub newest-first : {n : ℕ} {x : List (Advice Body)} → n ≡ length x → AreAdvices T root L M z 0 x → AreBefore n (reverse x)
+    newest-first {n} {x} q k = let e : n ≡ 0 + length x = omega arith in rw e (before-onto k none-before)
+
   -- What the loop leaves: how many bindings there are, what was written, and that the bindings made before the loop stay.
   pub record Made (M : Memory) (z : Sizes) (w : CVal) (x : List (Advice Body)) (B B′ : Bound) : Type 0 where
     pub count : B′ .count ≡ B .count + length x
@@ -87,18 +101,16 @@ module _ (T : Table) (root : ℕ) (L : Linked T 0 root) where
     has-advice : (p : ℕ) (d : Dom) (ls : List ℕ) (f : Tm) (ρ : Env) (M′ : Memory) → IsAdvice T root L M z p d ls f ρ → Written M z M′ → hasBit (pieceSecond M′ p) l ≡ member l ls
     has-advice p d ls f ρ M′ (at-piece lt b q e hs) k = ap (λ (w : ℕ). hasBit w l) (k .grows .seconds p lt) ∙ hs .has l label
 
-    pub made-all : {i : ℕ} {x : List (Advice Body)} → AreAdvices T root L M z i x → (n : ℕ) → n ≡ length x → (B : Bound) → z .nb ≤ B .count → Written M z (B .memory)
-        → Made M z w (matching l x) B (bindMatching n i l v B)
+    pub made-all : {n : ℕ} {x : List (Advice Body)} → AreBefore M z n x → (B : Bound) → z .nb ≤ B .count → Written M z (B .memory) → Made M z w (matching l x) B (bindMatching n l v B)
     unfolding bindMatching
-    made-all {i} none-installed n e B low k = rw e (record { count = omega arith; written = k; earlier = λ j h g. refl; triggered = λ h. no-more refl })
-    made-all {i} (one-installed {a = a} {x = x} ia u more) n e B low k =
-        rw e (try (member l (a .labels)) (has-advice p (a .dom) (a .labels) (a .body .term) (a .body .env) (B .memory) ia′ k) (made-all more (length x) refl))
+    made-all none-before B low k = record { count = omega arith; written = k; earlier = λ j h g. refl; triggered = λ h. no-more refl }
+    made-all (one-before {n = n} {a = a} {x = x} ia u more) B low k = try (member l (a .labels)) (has-advice p (a .dom) (a .labels) (a .body .term) (a .body .env) (B .memory) ia′ k) (made-all more)
       where
         p : ℕ
-        p = installedAt (B .memory) i
+        p = installedAt (B .memory) n
 
         ia′ : IsAdvice T root L M z p (a .dom) (a .labels) (a .body .term) (a .body .env)
-        ia′ = rw (ap (λ (w : ℕ). w % 512) (k .above .kept (installedBase + i) (omega arith))) ia
+        ia′ = rw (ap (λ (w : ℕ). w % 512) (k .above .kept (installedBase + n) (omega arith))) ia
 
         word : ℕ
         word = binding v (adviceTarget (pieceFirst (B .memory) p)) (adviceEnv (pieceFirst (B .memory) p))
@@ -110,16 +122,15 @@ module _ (T : Table) (root : ℕ) (L : Linked T 0 root) where
         writes true q = written-more M z (B .memory) (B .count) word np low (ltb-true (B .count) bindingLimit q) k
         writes false q = k
 
-        try : (t : Bool) → hasBit (pieceSecond (B .memory) p) l ≡ t
-            → ((B : Bound) → z .nb ≤ B .count → Written M z (B .memory) → Made M z w (matching l x) B (bindMatching (length x) (suc i) l v B))
-            → Made M z w (choose t (a ∷ matching l x) (matching l x)) B (bindMatching (length x) (suc i) l v (bindOne l v i B))
+        try : (t : Bool) → hasBit (pieceSecond (B .memory) p) l ≡ t → ((B : Bound) → z .nb ≤ B .count → Written M z (B .memory) → Made M z w (matching l x) B (bindMatching n l v B))
+            → Made M z w (choose t (a ∷ matching l x) (matching l x)) B (bindMatching n l v (bindOne l v n B))
         try true q ih =
             rw q
-            (made-one p (a .dom) (a .labels) (a .body .term) (a .body .env) (matching l x) B (bindMatching (length x) (suc i) l v (record { memory = W; count = B .count + 1 })) ia′ low k W refl
+            (made-one p (a .dom) (a .labels) (a .body .term) (a .body .env) (matching l x) B (bindMatching n l v (record { memory = W; count = B .count + 1 })) ia′ low k W refl
             (ih (record { memory = W; count = B .count + 1 }) (omega arith) (writes (ltb (B .count) bindingLimit) refl)))
         try false q ih = rw q (ih B low k)
 
   -- A label that is not named triggers nothing.
-  pub none-named : (M : Memory) (z : Sizes) (l : ℕ) → l < 64 → hasBit (z .named) l ≡ false → {i : ℕ} {x : List (Advice Body)} → AreAdvices T root L M z i x → matching l x ≡ []
-  none-named M z l h q none-installed = refl
-  none-named M z l h q (one-installed {a = a} ia u more) = rw (u l h q) (none-named M z l h q more)
+  pub none-named : (M : Memory) (z : Sizes) (l : ℕ) → l < 64 → hasBit (z .named) l ≡ false → {n : ℕ} {x : List (Advice Body)} → AreBefore M z n x → matching l x ≡ []
+  none-named M z l h q none-before = refl
+  none-named M z l h q (one-before {a = a} ia u more) = rw (u l h q) (none-named M z l h q more)

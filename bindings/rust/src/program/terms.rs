@@ -107,7 +107,7 @@ impl Program {
         over(44, self.make(Shape::Label(value, domain)), [])
     }
 
-    /// Marks a point with a label and a value.
+    /// Marks a point with a label and a value: matching advice runs, the newest first.
     pub fn mark(&mut self, label: Term, value: Term) -> Term {
         over(45, self.unit_type(), [label, value])
     }

@@ -1,4 +1,4 @@
-use Rattle.vm_marks.proofs.Matched.{matching-on, matching-done, matching-start}
+use Rattle.vm_marks.proofs.Matched.{matching-on, matching-done}
 use Rattle.vm_marks.specs.Binds.{boundIn}
 use Rattle.vm_machine.specs.Reduce.{bindMatching}
 use Rattle.base_bytes.specs.Memory.{memoryLength}
@@ -6,38 +6,38 @@ use denote.Ref.{now}
 use lib.ListN.{length, drop}
 use mathlib.Core.Path.{_≡_, refl, _∙_}
 use native.Mathlib.Omega.{arith}
-use Prim.Native.Nat.{_+_, _-_, _≤_}
+use Prim.Native.Nat.{_+_, _≤_}
 use borrow.Author.Needs.{needs}
 use Rattle.vm_marks.proofs.bind.bind_matching.Statement.{statement}
 use Rattle.vm_marks.proofs.bind.bind_matching.Tie as tie
 
 abbrev Inv-loop : tie.InvT-loop
 Inv-loop work₀ n l v b m₀ i₀ work m i =
-    (i ≤ n) × (length work ≡ length work₀) × (b ≤ m) × (m ≤ 2048 + i) × (drop memoryLength work ≡ drop memoryLength work₀) × (bindMatching n 0 l v (boundIn work₀ b) ≡ bindMatching (n - i) i l v (boundIn work m))
+    (i ≤ n) × (length work ≡ length work₀) × (b ≤ m) × (m + i ≤ 2048 + n) × (drop memoryLength work ≡ drop memoryLength work₀) × (bindMatching n l v (boundIn work₀ b) ≡ bindMatching i l v (boundIn work m))
 
 abbrev μ-loop : tie.MeasureT-loop
-μ-loop work₀ n l v b m₀ i₀ work m i = n - i
+μ-loop work₀ n l v b m₀ i₀ work m i = i
 
 loop-holds : tie.Need-loop-holds Inv-loop μ-loop
-loop-holds c = (omega arith, refl, omega arith, omega arith, refl, matching-start _ _ _ _)
+loop-holds c = (omega arith, refl, omega arith, omega arith, refl, refl)
+
+sub-i : tie.Need-sub-i Inv-loop μ-loop
+sub-i c = search needs
 
 bind-one-requires : tie.Need-bind-one-requires Inv-loop μ-loop
 bind-one-requires c κs = search needs
-
-add-i : tie.Need-add-i Inv-loop μ-loop
-add-i c = search needs
 
 loop-less : tie.Need-loop-less Inv-loop μ-loop
 loop-less c = search needs
 
 loop-again : tie.Need-loop-again Inv-loop μ-loop
-loop-again c = let a = c .before .before .before .before .before .before .before .args in let l = c .before .before .before .before .before .loop in (omega arith, search needs, omega arith, omega arith, c .before .before .bind-one .ensures .0 .memory .rest ∙ l .inv .4, l .inv .5 ∙ matching-on (a .n) (l .i) (a .l) (a .v) _ _ _ _ (c .before .before .before .before .loop-test .taken) (c .before .before .bind-one .ensures .0))
+loop-again c = let a = c .before .before .before .before .before .before .before .args in let l = c .before .before .before .before .before .loop in (omega arith, search needs, omega arith, omega arith, c .before .before .bind-one .ensures .0 .memory .rest ∙ l .inv .4, l .inv .5 ∙ matching-on (l .i) _ (a .l) (a .v) _ _ _ _ (omega (arith, c .before .before .before .before .loop-test .taken)) (c .before .before .bind-one .ensures .0))
 
 same-length : tie.Need-same-length Inv-loop μ-loop
 same-length c = search needs
 
 returns : tie.Need-returns Inv-loop μ-loop
-returns c = let a = c .before .before .before .args in let l = c .before .loop in (matching-done _ (a .n) (l .i) (a .l) (a .v) (now (a .work)) _ _ (c .loop-test .left) (l .inv .5) (l .inv .4), omega arith, omega arith)
+returns c = let a = c .before .before .before .args in let l = c .before .loop in (matching-done _ (l .i) (a .l) (a .v) (now (a .work)) _ _ (c .loop-test .left) (l .inv .5) (l .inv .4), omega arith, omega arith)
 
 pub bind-matching-spec : {M : Type 1} → statement M
 bind-matching-spec =
@@ -46,8 +46,8 @@ bind-matching-spec =
     Inv-loop
     μ-loop
     loop-holds
+    sub-i
     bind-one-requires
-    add-i
     loop-less
     loop-again
     same-length
