@@ -26,18 +26,22 @@ enum {
     BUKZARN_REPORT_LENGTH = 17994 /* every report fits in this */
 };
 
-/* How a run ended (document 01, "A run"). */
+/* How a run ended (document 01, "A run"; document 02, card 9). Bindings, cells and pieces are halved: one half is domain
+   0's, the mainline's, the other that of all other domains together. */
 enum bukzarn_outcome {
     BUKZARN_DONE = 0,
-    BUKZARN_SPENT = 1,   /* the steps equal the budget, and the next step lacks no room */
-    BUKZARN_ABORTED = 2, /* the program aborted */
-    BUKZARN_FRAMES = 3,  /* more than 512 unfinished terms */
-    BUKZARN_BINDINGS = 4,
-    BUKZARN_CELLS = 5,
-    BUKZARN_LABELS = 6,
-    BUKZARN_ADVICE = 7, /* advice installed at one time */
-    BUKZARN_PIECES = 8,
-    BUKZARN_LOG = 9 /* a print found under 10 bytes left in the log */
+    BUKZARN_SPENT = 1,    /* the steps equal the budget, and the next step lacks no room */
+    BUKZARN_ABORTED = 2,  /* the program aborted */
+    BUKZARN_FRAMES = 3,   /* more than 512 unfinished terms */
+    BUKZARN_BINDINGS = 4, /* domain 0's 1,024 */
+    BUKZARN_CELLS = 5,    /* domain 0's 128 */
+    BUKZARN_LABELS = 6,   /* 64 */
+    BUKZARN_ADVICE = 7,   /* 64 installed at one time */
+    BUKZARN_PIECES = 8,   /* domain 0's 256 */
+    BUKZARN_LOG = 9,      /* a print found under 10 bytes left in the log */
+    BUKZARN_OTHER_BINDINGS = 10, /* the other domains' 1,024 */
+    BUKZARN_OTHER_CELLS = 11,    /* the other domains' 128 */
+    BUKZARN_OTHER_PIECES = 12    /* the other domains' 256 */
 };
 
 /* Why a call is refused (document 01, "Turned back at the gate"). The place is an offset in the image, or 0, or the

@@ -25,20 +25,21 @@ def image(root, masks=(1,)):
     return lay_out(root, masks, types_of(root)).image
 
 
-def recursive(name, body, start, result):
-    """A function of the number `i`, called with a start. Its body calls it again by `again`. It stands in a cell: with
-    the cell's name it makes two bindings and one cell, and one binding more for each further call."""
-    cell = variable(name, reference_type(function_type(NUMBER, 0, result.type), 0))
+def recursive(name, body, start, result, p=0):
+    """A function of the number `i` that runs at domain p, called with a start. Its body calls it again by `again`. It
+    stands in a cell: with the cell's name it makes two bindings and one cell, and one binding more for each further
+    call."""
+    cell = variable(name, reference_type(function_type(NUMBER, p, result.type), p))
     again = apply(read(cell), minus(variable("i", NUMBER), number(1)))
     test = less(variable("i", NUMBER), number(1))
-    whole = function("i", NUMBER, branch(test, result, body(again)))
+    whole = function("i", NUMBER, branch(test, result, body(again)), p)
     run = sequence(store(cell, whole), apply(read(cell), number(start)))
-    return let(name, new_cell(function("i", NUMBER, result)), run)
+    return let(name, new_cell(function("i", NUMBER, result, p), p), run, p)
 
 
-def repeat(times, body):
-    """A unit term so many times: bindings are times + 2 besides the body's own, and one cell."""
-    return recursive("loop", lambda again: sequence(body, again), times, unit())
+def repeat(times, body, p=0):
+    """A unit term so many times, at domain p: bindings are times + 2 besides the body's own, and one cell."""
+    return recursive("loop", lambda again: sequence(body, again), times, unit(), p)
 
 
 def nested(depth):
@@ -66,9 +67,9 @@ def enclosed(frames):
     return recursive("sum", lambda again: plus(variable("i", NUMBER), again), frames - 1, number(0))
 
 
-def cells(n):
-    """n cells, the loop's own among them."""
-    return repeat(n - 1, let("c", new_cell(variable("i", NUMBER)), unit()))
+def cells(n, p=0, of=0):
+    """n cells, the loop's own among them, made at domain p; all but that one are of another domain, if said."""
+    return repeat(n - 1, let("c", new_cell(variable("i", NUMBER), max(p, of)), unit(), p), p)
 
 
 def installed(n):
@@ -76,8 +77,8 @@ def installed(n):
     return let("a", watch, repeat(n, install(variable("a", watch.type))))
 
 
-def pieces(n):
-    return repeat(n, let("p", pair(unit(), unit()), unit()))
+def pieces(n, p=0):
+    return repeat(n, let("p", pair(unit(), unit()), unit(), p), p)
 
 
 def halves(n, e):
@@ -86,14 +87,17 @@ def halves(n, e):
 
 
 def full_report():
-    """256 plain cells of 8 numbers and a result of 8 numbers: 17,994 bytes."""
+    """256 plain cells of 8 numbers, half of them made at domain 1, and a result of 8 numbers: 17,994 bytes."""
     eight = number(-1)
     for _ in range(3):
         eight = pair(eight, eight)
     v = variable("v", eight.type)
-    four = function("u", UNIT, halves(4, store(new_cell(v), v)))
-    calls = halves(64, apply(variable("f", four.type), unit()))
-    return let("v", eight, let("f", four, sequence(calls, v)))
+
+    def cells_at(p):
+        four = function("u", UNIT, halves(4, store(new_cell(v, p), v)), p)
+        return let("f", four, halves(32, apply(variable("f", four.type), unit())), p)
+
+    return let("v", eight, sequence(cells_at(0), lower(1, cells_at(1)), v))
 
 
 def aborting():
@@ -255,7 +259,7 @@ def object_cases():
     yield "methods-8", image(adding(8)), BUDGET
     yield "methods-9", image(adding(9)), BUDGET
     yield "method-calls-itself", image(endless(lambda e: e)), BUDGET
-    yield "method-calls-itself", image(endless(lambda e: e)), 2048
+    yield "method-calls-itself", image(endless(lambda e: e)), 1024
     yield "method-prints-and-calls-itself", image(endless(lambda e: sequence(show(number(1)), e))), 9
     yield "method-waits-512", image(waiting(512)), BUDGET
     yield "method-waits-513", image(waiting(513)), BUDGET
@@ -279,12 +283,12 @@ def room_cases():
     """Cases of document 02, card 5: the budget ends where the next step lacks room, and one step before."""
     yield "frames-513", image(enclosed(513)), 2563
     yield "frames-513", image(enclosed(513)), 2562
-    yield "bindings-2049", image(repeat(2047, unit())), 12_287
-    yield "bindings-2049", image(repeat(2047, unit())), 12_286
-    yield "cells-257", image(cells(257)), 2048
+    yield "bindings-1025", image(repeat(1023, unit())), 6143
+    yield "bindings-1025", image(repeat(1023, unit())), 6142
+    yield "cells-129", image(cells(129)), 1024
     yield "labels-65", image(repeat(65, let("l", new_label(UNIT), unit()))), 520
     yield "advice-65", image(installed(65)), 459
-    yield "pieces-513", image(pieces(513)), 4104
+    yield "pieces-257", image(pieces(257)), 2056
     yield "aborted", image(aborting()), 5
     yield "aborted", image(aborting()), 4
 
@@ -303,19 +307,19 @@ def all_cases():
     yield "aborted", image(aborting()), BUDGET
     yield "frames-512", image(enclosed(512)), BUDGET
     yield "frames-513", image(enclosed(513)), BUDGET
-    yield "bindings-2048", image(repeat(2046, unit())), BUDGET
-    yield "bindings-2049", image(repeat(2047, unit())), BUDGET
-    yield "cells-256", image(cells(256)), BUDGET
-    yield "cells-257", image(cells(257)), BUDGET
+    yield "bindings-1024", image(repeat(1022, unit())), BUDGET
+    yield "bindings-1025", image(repeat(1023, unit())), BUDGET
+    yield "cells-128", image(cells(128)), BUDGET
+    yield "cells-129", image(cells(129)), BUDGET
     yield "labels-64", image(repeat(64, let("l", new_label(UNIT), unit()))), BUDGET
     yield "labels-65", image(repeat(65, let("l", new_label(UNIT), unit()))), BUDGET
     yield "advice-64", image(installed(64)), BUDGET
     yield "advice-65", image(installed(65)), BUDGET
-    yield "pieces-512", image(pieces(512)), BUDGET
-    yield "pieces-513", image(pieces(513)), BUDGET
-    yield "log-1638", image(repeat(1638, show(i))), BUDGET
-    yield "log-1639", image(repeat(1639, show(i))), BUDGET
-    yield "report-17994", image(full_report()), BUDGET
+    yield "pieces-256", image(pieces(256)), BUDGET
+    yield "pieces-257", image(pieces(257)), BUDGET
+    yield "log-1638", image(repeat(819, sequence(show(i), show(i)))), BUDGET
+    yield "log-1639", image(sequence(repeat(819, sequence(show(i), show(i))), show(number(0)))), BUDGET
+    yield "report-17994", image(full_report(), chain(2)), BUDGET
     yield "picked-at-the-start", image(picked_at_the_start()), BUDGET
     yield "low-marks-high", image(low_marks_high(), chain(2)), BUDGET
     yield "low-stores-high", image(low_stores_high(), chain(2)), BUDGET

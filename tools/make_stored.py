@@ -10,6 +10,7 @@ import subprocess
 import sys
 from pathlib import Path
 
+from halves_cases import halves_cases
 from make_cases import BUDGET, all_cases
 from make_examples import EXAMPLES, examples
 from newest_cases import newest_cases
@@ -25,6 +26,7 @@ def made(folder=EXAMPLES):
     yield from stack_cases()
     yield from takedown_cases()
     yield from newest_cases()
+    yield from halves_cases()
     for name, _ in examples(folder):
         yield name, (folder / f"{name}.img").read_bytes(), BUDGET
 

@@ -155,7 +155,7 @@ def pieces_by_a_stack(taken, size):
 def bindings_by_a_match(left, label):
     """A match of two values with so many bindings left; whether it fits says the label of the second."""
     asked = match(kept(KEPT[:2], stack()), [(cut(A), "x"), (cut(label), "y")], None, number(1), number(2))
-    return labelled(sequence(repeat(2048 - left - 4, unit()), asked))
+    return labelled(sequence(repeat(1024 - left - 4, unit()), asked))
 
 
 def enclosed_by_keeps(frames, result):
@@ -164,12 +164,12 @@ def enclosed_by_keeps(frames, result):
 
 
 def large_stack(pairs):
-    """A stack of 510 values, which takes as many pieces; then so many pairs; then a pointcut, and a match that takes
+    """A stack of 254 values, which takes as many pieces; then so many pairs; then a pointcut, and a match that takes
     the first eight values off."""
     eight = [None] * 7 + [(cut(A), "x")]
     asked = match(S, eight, "rest", variable("x", NUMBER), NO)
     behind = halves(pairs, let("p", pair(unit(), unit()), unit()))
-    return labelled(let("s", enclosed_by_keeps(511, stack()), sequence(behind, show(asked))))
+    return labelled(let("s", enclosed_by_keeps(255, stack()), sequence(behind, show(asked))))
 
 
 def match_tree(count):
@@ -190,20 +190,20 @@ def long_image(length):
 
 
 def room_cases():
-    yield "pieces-512-by-a-stack", image(pieces_by_a_stack(509, 3)), BUDGET
-    yield "pieces-513-by-a-stack", image(pieces_by_a_stack(510, 3)), BUDGET
-    yield "pieces-513-by-a-stack", image(pieces_by_a_stack(510, 3)), 4093
-    yield "pieces-513-by-a-stack", image(pieces_by_a_stack(510, 3)), 4092
-    yield "empty-stack-without-pieces", image(pieces_by_a_stack(512, 0)), BUDGET
-    yield "bindings-2048-by-a-match", image(bindings_by_a_match(2, B)), BUDGET
-    yield "bindings-2049-by-a-match", image(bindings_by_a_match(1, B)), BUDGET
+    yield "pieces-256-by-a-stack", image(pieces_by_a_stack(253, 3)), BUDGET
+    yield "pieces-257-by-a-stack", image(pieces_by_a_stack(254, 3)), BUDGET
+    yield "pieces-257-by-a-stack", image(pieces_by_a_stack(254, 3)), 2045
+    yield "pieces-257-by-a-stack", image(pieces_by_a_stack(254, 3)), 2044
+    yield "empty-stack-without-pieces", image(pieces_by_a_stack(256, 0)), BUDGET
+    yield "bindings-1024-by-a-match", image(bindings_by_a_match(2, B)), BUDGET
+    yield "bindings-1025-by-a-match", image(bindings_by_a_match(1, B)), BUDGET
     yield "no-match-without-bindings", image(bindings_by_a_match(0, A)), BUDGET
     yield "keeps-512", image(labelled(enclosed_by_keeps(512, number(0)))), BUDGET
     yield "keeps-513", image(labelled(enclosed_by_keeps(513, number(0)))), BUDGET
     yield "matches-16384-bytes", long_image(IMAGE_LIMIT), BUDGET
     yield "matches-16385-bytes", long_image(IMAGE_LIMIT + 1), BUDGET
-    yield "stack-of-510", image(large_stack(1)), BUDGET
-    yield "stack-of-510-and-pairs", image(large_stack(2)), BUDGET
+    yield "stack-of-254", image(large_stack(1)), BUDGET
+    yield "stack-of-254-and-pairs", image(large_stack(2)), BUDGET
 
 
 # Refusals.

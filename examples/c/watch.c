@@ -20,8 +20,9 @@ static uint8_t log_bytes[16384];
 static uint8_t report[BUKZARN_REPORT_LENGTH];
 static uint8_t work[BUKZARN_WORK_LENGTH];
 
-static const char *const outcomes[] = {"done",  "spent",  "aborted", "frames", "bindings",
-                                       "cells", "labels", "advice",  "pieces", "log"};
+static const char *const outcomes[] = {
+    "done",   "spent",  "aborted", "frames",         "bindings",    "cells",       "labels",
+    "advice", "pieces", "log",     "other-bindings", "other-cells", "other-pieces"};
 
 static void print_log(size_t length)
 {

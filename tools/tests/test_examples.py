@@ -13,7 +13,7 @@ from watchlang.layout import laid_out
 from watchlang.terms import child_domains
 
 FOLDER = common.ROOT / "examples"
-WITH_WATCHES = ("count", "trace", "watched", "corrected", "three", "plausible")
+WITH_WATCHES = ("count", "trace", "watched", "corrected", "three", "plausible", "greedy")
 
 
 def high_log(name):
@@ -86,9 +86,8 @@ class Examples(unittest.TestCase):
         self.assertEqual(len(plain), 18)
         for name in ("count", "trace", "watched", "corrected", "three"):
             self.assertEqual(high_log(name), plain, name)
-        stopped = high_log("plausible")
-        self.assertEqual(stopped, plain[:len(stopped)])
-        self.assertLess(len(stopped), len(plain))
+        for name, levels in (("plausible", 5), ("greedy", 2)):
+            self.assertEqual(high_log(name), plain[:3 * levels], name)
 
     def test_the_pressure_watch_fires_under_the_descent_alone(self):
         """Once for each of the five levels behind the six of the ascent: its pressure less the last one of the ascent."""
@@ -112,6 +111,12 @@ class Examples(unittest.TestCase):
         lines = [line.split()[1:] for line in (FOLDER / "three.txt").read_text().splitlines() if line.startswith("log")]
         self.assertEqual([p for p, _ in lines], ["0", "0", "0", "1"] * 3 + ["0"] * 9)
         self.assertEqual([n for p, n in lines if p == "1"], [n for _, n in lines[0:12:4]])
+
+    def test_a_greedy_watch_uses_up_its_own_half(self):
+        """It ends the run with the outcome of the other domains' bindings, and the decoder had room left."""
+        listing = (FOLDER / "greedy.txt").read_text()
+        self.assertIn("\nother-bindings ", listing)
+        self.assertIn("\nlog 1 751\n", listing)
 
     def test_refused_watches_are_explained(self):
         """The README has what the tool says of them, with the number and the place of the listing."""

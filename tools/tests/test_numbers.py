@@ -50,8 +50,19 @@ class Numbers(unittest.TestCase):
         outcomes = cases("calculus", "Report.antt", "outcomeNumber", "Outcome")
         self.assertEqual(sorted(outcomes.values()), list(range(len(outcomes))))
         self.assertEqual(rust("outcome.rs"), outcomes)
-        self.assertEqual(list(report.OUTCOMES), [name.lower() for name in sorted(outcomes, key=outcomes.get)])
+        words = [upper(name).lower().replace("_", "-") for name in sorted(outcomes, key=outcomes.get)]
+        self.assertEqual(list(report.OUTCOMES), words)
+        listed = text("examples", "c", "watch.c").split("outcomes[] = {")[1].split("}")[0]
+        self.assertEqual(re.findall('"(.*?)"', listed), words)
         self.header_has(outcomes)
+
+    def test_rooms(self):
+        """What is said of an outcome names the limit; that of bindings, cells and pieces is of one half."""
+        limits = constants("calculus", "Limits.antt")
+        named = {"frames": "frame", "bindings": "binding", "cells": "cell", "labels": "label", "advice": "advice",
+                 "pieces": "piece", "other-bindings": "binding", "other-cells": "cell", "other-pieces": "piece"}
+        for word, limit in named.items():
+            self.assertIn(f"{limits[limit + 'Limit']:,} ", report.SENTENCES[report.OUTCOMES.index(word)])
 
     def test_refusals(self):
         causes = cases("image", "Refusals.antt", "refusalNumber", "Refusal")

@@ -39,7 +39,7 @@ class Report(unittest.TestCase):
                 run = report.read_run(*as_bytes(listing))
                 outcomes.add(run.outcome)
                 self.assertEqual(report.listing(run), listing, file.name)
-        self.assertEqual(outcomes, set(range(10)))
+        self.assertEqual(outcomes, set(range(13)))
 
     def test_the_largest_report(self):
         listing = dict(common.stored_listings())[common.STORED / "data/report-17994.img"]
@@ -51,10 +51,15 @@ class Report(unittest.TestCase):
                          "watch printed 7.\nThe run is done after 1 step.\nThe result is 5, true.\n"
                          "Cell 0 of decoder holds a value that is not plain.\nCell 1 of watch holds -3.\n")
 
+    def test_every_outcome_has_a_sentence(self):
+        self.assertEqual(len(report.SENTENCES), len(report.OUTCOMES))
+        for n, word in enumerate(report.OUTCOMES):
+            self.assertEqual("other domains" in report.SENTENCES[n], word.startswith("other-"), word)
+
     def test_damage(self):
         whole, log = as_bytes("log 1 7\ndone 1\nvalue 5\ncell 0 1\n")
         for made, printed in ((b"", b""), (whole[:-1], b""), (whole, log[:-1]), (log, b""), (whole + b"\0", b""),
-                              (b"\x0a\0\x46\0\x0b\0\0\0\0\0", b"")):
+                              (b"\x0a\0\x46\0\x0d\0\0\0\0\0", b"")):
             with self.assertRaises(report.Damaged):
                 report.read_run(made, printed)
 

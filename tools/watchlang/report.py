@@ -4,11 +4,14 @@ from dataclasses import dataclass, field
 
 from .records import word
 
-OUTCOMES = ("done", "spent", "aborted", "frames", "bindings", "cells", "labels", "advice", "pieces", "log")
+OUTCOMES = ("done", "spent", "aborted", "frames", "bindings", "cells", "labels", "advice", "pieces", "log",
+            "other-bindings", "other-cells", "other-pieces")
 SENTENCES = (
     "The run is done", "The budget was spent", "The run was aborted", "More than 512 unfinished terms",
-    "All 2,048 bindings were used", "All 256 cells were used", "All 64 labels were used",
-    "All 64 places of installed advice were used", "All 512 pieces were used", "The log was full",
+    "The mainline had used its 1,024 bindings", "The mainline had used its 128 cells", "All 64 labels were used",
+    "All 64 places of installed advice were used", "The mainline had used its 256 pieces", "The log was full",
+    "The other domains had used their 1,024 bindings", "The other domains had used their 128 cells",
+    "The other domains had used their 256 pieces",
 )
 LOG, REPORT, UNIT, TRUTH, NUMBER, CELL, OTHER = 64, 70, 65, 66, 67, 68, 69
 LEAVES = {UNIT: 4, TRUTH: 6, NUMBER: 8}

@@ -35,12 +35,12 @@ pub fn all() -> Vec<Image> {
     let image = |name, bytes| Image { name, bytes };
     vec![
         image("constant (P2)", large::constant()),
-        image("recursion through a cell", loops::tail(2_040)),
+        image("recursion through a cell", loops::tail(1_020)),
         image(DECODED, decode::decode(240)),
         image("marks, 1 advice", marks::marks(1, 1_000)),
-        image("marks, 8 advices", marks::marks(8, 220)),
-        image("marks, 64 advices", marks::marks(64, 30)),
-        image("deep recursion", loops::deep(500, 4)),
+        image("marks, 8 advices", marks::marks(8, 120)),
+        image("marks, 64 advices", marks::marks(64, 15)),
+        image("deep recursion", loops::deep(500, 2)),
         image("nested sums", large::nested()),
         image("largest accepted", large::largest()),
         image("1,024 varied terms", varied::varied()),

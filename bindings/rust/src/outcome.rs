@@ -2,6 +2,9 @@
 use std::fmt;
 
 /// How a run ended (document 01, "A run"), with the paper's numbers.
+///
+/// Bindings, cells and pieces are halved: one half is domain 0's, the mainline's, the other that of all other domains
+/// together (document 02, card 9).
 #[derive(Clone, Copy, Debug, PartialEq, Eq, PartialOrd, Ord, Hash)]
 #[repr(u16)]
 pub enum Outcome {
@@ -13,23 +16,29 @@ pub enum Outcome {
     Aborted = 2,
     /// More than 512 unfinished terms stood around the next one to reduce.
     Frames = 3,
-    /// The next step would pass 2,048 bindings.
+    /// The next step would pass domain 0's 1,024 bindings.
     Bindings = 4,
-    /// The next step would pass 256 cells.
+    /// The next step would pass domain 0's 128 cells.
     Cells = 5,
     /// The next step would pass 64 labels.
     Labels = 6,
     /// The next step would pass 64 advice installed at one time.
     Advice = 7,
-    /// The next step would pass 512 pieces: pairs, pointcuts and advice made, and the values of stacks taken.
+    /// The next step would pass domain 0's 256 pieces: pairs, pointcuts and advice made, and the values of stacks taken.
     Pieces = 8,
     /// A print found under 10 bytes left in the log.
     Log = 9,
+    /// The next step would pass the other domains' 1,024 bindings.
+    OtherBindings = 10,
+    /// The next step would pass the other domains' 128 cells.
+    OtherCells = 11,
+    /// The next step would pass the other domains' 256 pieces.
+    OtherPieces = 12,
 }
 
 impl Outcome {
     /// Every outcome, in the order of the numbers.
-    pub const ALL: [Outcome; 10] = [
+    pub const ALL: [Outcome; 13] = [
         Outcome::Done,
         Outcome::Spent,
         Outcome::Aborted,
@@ -40,6 +49,9 @@ impl Outcome {
         Outcome::Advice,
         Outcome::Pieces,
         Outcome::Log,
+        Outcome::OtherBindings,
+        Outcome::OtherCells,
+        Outcome::OtherPieces,
     ];
 
     /// The outcome of this number.
@@ -67,6 +79,9 @@ impl fmt::Display for Outcome {
             Outcome::Advice => "advice",
             Outcome::Pieces => "pieces",
             Outcome::Log => "log",
+            Outcome::OtherBindings => "other-bindings",
+            Outcome::OtherCells => "other-cells",
+            Outcome::OtherPieces => "other-pieces",
         })
     }
 }

@@ -156,6 +156,31 @@ fn a_watch_takes_itself_down() {
     assert_eq!(run.log().collect::<Vec<_>>(), [LogRecord { domain: 1, number: 50 }]);
 }
 
+/// A watch that calls itself for ever uses up the other domains' bindings; what the mainline printed before stands.
+#[test]
+fn a_greedy_watch_leaves_the_mainline_its_half() {
+    let mut program = Program::new(&[1, 3]);
+    let (number, unit) = (program.number_type(), program.unit_type());
+    let new = program.new_label(number, 0);
+    let label = program.variable(new.of(), 0);
+    let greedy = program.make(Shape::Object(vec![(1, unit)]));
+    let again = program.call(program.variable(greedy, 2), 0);
+    let body = program.call(program.object(greedy, vec![again]), 0);
+    let pointcut = program.pointcut(number, 1, vec![label.clone()]);
+    let watch = program.advice(1, pointcut, body);
+    let install = program.install(watch);
+    let [printed, marked] = [50, 70].map(|n| program.number(n));
+    let (print, mark) = (program.print(printed), program.mark(label, marked));
+    let decoded = program.sequence(print, mark);
+    let all = program.sequence(install, decoded);
+    let root = program.bind(0, new, all);
+    let image = program.image(&root);
+    let mut lent = Lent::new(100);
+    let run = run(&image, &[], 10_000, &mut lent).unwrap();
+    assert_eq!(run.outcome(), Outcome::OtherBindings);
+    assert_eq!(run.log().collect::<Vec<_>>(), [LogRecord { domain: 0, number: 50 }]);
+}
+
 #[test]
 fn refusals_say_why_and_where() {
     let mut lent = Lent::new(0);
@@ -194,9 +219,10 @@ fn the_verdict_alone() {
 
 #[test]
 fn numbers_and_names() {
-    assert!((0..10).all(|n| Outcome::from_number(n).unwrap().number() == n));
+    assert!((0..13).all(|n| Outcome::from_number(n).unwrap().number() == n));
     assert!((1..=18).all(|n| Cause::from_number(n).unwrap().number() == n));
     assert!([0, 19].iter().all(|n| Cause::from_number(*n).is_none()));
-    assert!(Outcome::from_number(10).is_none());
+    assert!(Outcome::from_number(13).is_none());
     assert_eq!(Outcome::Bindings.to_string(), "bindings");
+    assert_eq!(Outcome::OtherBindings.to_string(), "other-bindings");
 }

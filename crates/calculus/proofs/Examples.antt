@@ -1,14 +1,14 @@
 -- Runs of small terms, by computation of the definitions; each shows a point of document 01, "A run", or of a card.
-use Prim.Native.Nat.{ℕ, zero, suc}
+use Prim.Native.Nat.{ℕ, zero, suc, _-_}
 use mathlib.Core.Path.{_≡_, refl}
 use mathlib.Core.Bool.{true, false}
 use mathlib.Core.List.{List, [], _∷_}
 use Rattle.calculus.specs.declared.Outcome.{Outcome}
 use Rattle.calculus.specs.Combinators.{cases}
-use Rattle.calculus.specs.Syntax.{Ty, noMethod, method, Val, Tm, Pattern, atEnd, atRest, anything, pointcut, val, var, op0, op1, op2, seq, lower, obj, keep, match, end, more, abort, takedown, theStack, print, install, byte, call, mark, plus, minus}
-use Rattle.calculus.specs.State.{Advice, State, Given, Counts, Print, picked, logOf, branchesOf, fresh, labelled, installed}
+use Rattle.calculus.specs.Syntax.{Ty, noMethod, method, Val, Tm, Pattern, atEnd, atRest, anything, pointcut, val, var, op0, op1, op2, seq, lower, obj, keep, match, end, more, abort, takedown, theStack, print, install, byte, newCell, call, mark, plus, minus}
+use Rattle.calculus.specs.State.{Advice, State, Given, Counts, Uses, Print, picked, logOf, branchesOf, someBindings, oneCell, onePiece, atDom, fresh, charged, labelled, installed}
 use Rattle.calculus.specs.Subst.{subst}
-use Rattle.calculus.specs.Answer.{carry, if-room, with, spend}
+use Rattle.calculus.specs.Answer.{Answer, go, full, carry, if-room, with, spend}
 use Rattle.calculus.specs.Step.{step}
 use Rattle.calculus.specs.Run.{End, done, stopped, after, run}
 
@@ -79,7 +79,7 @@ calls : facts fresh called ≡ record { end = done (Val.num 5); steps = 3; log =
 unfolding called run after cases step subst carry if-room with spend picked
 calls = refl
 
-calls-bind : run 100 G 0 fresh called .state .used ≡ record { bindings = 2; cells = 0; pieces = 0 }
+calls-bind : run 100 G 0 fresh called .state .used ≡ atDom 0 (someBindings 2)
 unfolding called run after cases step subst carry if-room with spend picked
 calls-bind = refl
 
@@ -111,8 +111,8 @@ kept-seen : facts looking (keep (val (Val.label 0)) (number 3) marked) ≡ recor
 unfolding run after cases step subst carry if-room with spend picked
 kept-seen = refl
 
--- "One piece an entry", "one binding a variable": the value, the rest, and the advice's own.
-kept-used : run 100 G 0 looking (keep (val (Val.label 0)) (number 3) marked) .state .used ≡ record { bindings = 3; cells = 0; pieces = 1 }
+-- "One piece an entry", "one binding a variable": the value, the rest, and the advice's own. Card 9: all three are charged to domain 1, where the watch runs, and not to domain 0, which marks.
+kept-used : run 100 G 0 looking (keep (val (Val.label 0)) (number 3) marked) .state .used ≡ atDom 1 (record { bindings = 3; cells = 0; pieces = 1 })
 unfolding run after cases step subst carry if-room with spend picked
 kept-used = refl
 
@@ -159,3 +159,36 @@ again (suc n) = seq (op1 install Ty.unit (val (Val.advice 1 [] (val Val.unit))))
 room-again : run 400 G 0 fresh (again 100) .end ≡ done Val.unit
 unfolding again run after cases step if-room with carry
 room-again = refl
+
+-- Card 9: a cell is charged to the current domain, not to its own.
+cell-charged : run 100 G 0 fresh (op1 newCell (Ty.ref Ty.number 1) (number 3)) .state .used ≡ atDom 0 oneCell
+unfolding run after cases step carry if-room spend
+cell-charged = refl
+
+-- What a step that uses n comes to where m is used: 1,024 bindings, 128 cells and 256 pieces are the half of domain 0, and as many the other half; a step that lacks both "reports domain 0's".
+abbrev taking : Uses → Uses → Answer State Tm
+taking m n = spend n (charged m fresh) (λ s. go s (val Val.unit))
+
+abbrev halves : Counts → Uses
+halves n = record { mainline = n; others = n }
+
+abbrev allBut : ℕ → Counts
+allBut n = record { bindings = 1024 - n; cells = 128 - n; pieces = 256 - n }
+
+last-room : taking (halves (allBut 1)) (halves (record { bindings = 1; cells = 1; pieces = 1 })) ≡ go (charged (halves (allBut 0)) fresh) (val Val.unit)
+unfolding spend if-room
+last-room = refl
+
+mainline-full : (taking (halves (allBut 0)) (atDom 0 (someBindings 1)) ≡ full Outcome.Bindings)
+    × (taking (halves (allBut 0)) (atDom 0 oneCell) ≡ full Outcome.Cells) × (taking (halves (allBut 0)) (atDom 0 onePiece) ≡ full Outcome.Pieces)
+unfolding spend if-room
+mainline-full = (refl, refl, refl)
+
+others-full : (taking (halves (allBut 0)) (atDom 1 (someBindings 1)) ≡ full Outcome.OtherBindings)
+    × (taking (halves (allBut 0)) (atDom 1 oneCell) ≡ full Outcome.OtherCells) × (taking (halves (allBut 0)) (atDom 1 onePiece) ≡ full Outcome.OtherPieces)
+unfolding spend if-room
+others-full = (refl, refl, refl)
+
+both-full : taking (halves (allBut 0)) (halves (someBindings 1)) ≡ full Outcome.Bindings
+unfolding spend if-room
+both-full = refl

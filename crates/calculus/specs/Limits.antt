@@ -1,15 +1,16 @@
--- Every limit of a run (document 01, "A run"; the leaves are "The image", limits), each in one place.
+-- Every limit of a run (document 01, "A run", halved by card 9; the leaves are "The image", limits), each in one place.
 use Prim.Native.Nat.{ℕ}
 
 -- Unfinished terms around the next redex.
 abbrev pub frameLimit : ℕ
 frameLimit = 512
 
+-- Card 9: bindings, cells and pieces of one half, domain 0's or the other domains'.
 abbrev pub bindingLimit : ℕ
-bindingLimit = 2048
+bindingLimit = 1024
 
 abbrev pub cellLimit : ℕ
-cellLimit = 256
+cellLimit = 128
 
 abbrev pub labelLimit : ℕ
 labelLimit = 64
@@ -20,7 +21,7 @@ adviceLimit = 64
 
 -- Pairs, pointcuts and advice made; "piece" is document 01's word.
 abbrev pub pieceLimit : ℕ
-pieceLimit = 512
+pieceLimit = 256
 
 -- The bytes of one log record.
 abbrev pub logRecordLength : ℕ

@@ -21,6 +21,10 @@ outcomeNumber Outcome.Labels = 6
 outcomeNumber Outcome.Advice = 7
 outcomeNumber Outcome.Pieces = 8
 outcomeNumber Outcome.Log = 9
+-- card 9
+outcomeNumber Outcome.OtherBindings = 10
+outcomeNumber Outcome.OtherCells = 11
+outcomeNumber Outcome.OtherPieces = 12
 
 -- Document 01's kind of each leaf, and its value as bits.
 abbrev pub leafKind : Leaf → ℕ

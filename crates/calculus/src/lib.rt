@@ -3,7 +3,7 @@
 ghost use mathlib.Core.Path.{_≡_};
 ghost use Rattle.calculus.specs.Report.{outcomeNumber};
 
-// How a run ends (document 01, "A run").
+// How a run ends (document 01, "A run"; the last three are card 9's).
 pub enum Outcome {
     Done,
     Spent,
@@ -15,6 +15,9 @@ pub enum Outcome {
     Advice,
     Pieces,
     Log,
+    OtherBindings,
+    OtherCells,
+    OtherPieces,
 }
 
 // A leaf of a result or of a cell; a number is its bit pattern.
@@ -38,5 +41,8 @@ pub fn outcome_number(o: Outcome) -> u16
         Outcome::Advice => 7,
         Outcome::Pieces => 8,
         Outcome::Log => 9,
+        Outcome::OtherBindings => 10,
+        Outcome::OtherCells => 11,
+        Outcome::OtherPieces => 12,
     }
 }

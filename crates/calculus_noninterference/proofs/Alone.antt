@@ -14,36 +14,37 @@ use Rattle.calculus.specs.Step.{step}
 use Rattle.calculus.specs.Typing.{Policy, StoreTyping, ValTy, TmTy, is-lower}
 use Rattle.calculus_safety.proofs.StoreFits.{StateFits}
 use Rattle.calculus_safety.proofs.Values.{val-ty}
-use Rattle.calculus_noninterference.specs.Observe.{Highs}
+use Rattle.calculus_noninterference.specs.Observe.{Highs, lacksMainline}
+use Rattle.calculus_noninterference.proofs.Clash.{clash}
 use Rattle.calculus_noninterference.proofs.Related.{World, grows-refl, Inert, inert-lower, inert-unit, RelT, b-low, v-unit, r-val, r-lower, r-skip-left, r-skip-right, relT-mono, RelS}
-use Rattle.calculus_noninterference.proofs.Confined.{Effect, e-charge, Confined, c-go, c-full, c-halt, c-wrong, confined}
+use Rattle.calculus_noninterference.proofs.Confined.{Effect, e-stay, Confined, c-go, c-full, c-halt, c-wrong, confined}
 use Rattle.calculus_noninterference.proofs.States.{Later, effect-left, effect-right}
-use Rattle.calculus_noninterference.proofs.Paired.{NoStep, n-full, n-halt, n-wrong, cases-none, cases-some, Two, two-some, two-room, Sim, s-both, s-left, s-right, s-none-left, s-none-right}
+use Rattle.calculus_noninterference.proofs.Paired.{NoStep, Short, n-full, n-halt, n-wrong, cases-none, cases-some, Two, two-some, two-room, Sim, s-both, s-left, s-right, s-none-left, s-none-right}
 use Rattle.calculus_noninterference.proofs.Reductions.{two-stay}
 
 module _ (hi : Dom → Bool) where
   -- A step over s of an inert term before the rest e: none, or one at a low domain that leaves an inert term there, or the one past it.
   pub data Skips (s : State) (e : Tm) : Answer State Tm → Type 0 where
-    k-none : {a : Answer State Tm} → NoStep a → Skips s e a
+    k-none : {a : Answer State Tm} → NoStep a → (Short a → ⊥) → Skips s e a
     k-step : {p : Dom} {t : State} {h : Tm} → hi p ≡ false → Effect hi p s t → Inert hi h → Skips s e (go t (seq h e))
     k-past : Skips s e (go s e)
 
   skips-body : {p : Dom} {s : State} {e : Tm} {a : Answer State Tm} → hi p ≡ false → Confined hi p s a → Skips s e (within (λ x. seq x e) (within (lower p) a))
   unfolding carry
   skips-body f (c-go m) = k-step f m (inert-lower f)
-  skips-body f c-full = k-none n-full
-  skips-body f c-halt = k-none n-halt
-  skips-body f c-wrong = k-none n-wrong
+  skips-body f (c-full x) = k-none n-full (λ y. clash y (x f))
+  skips-body f c-halt = k-none n-halt (λ y. y)
+  skips-body f c-wrong = k-none n-wrong (λ y. y)
 
-  skips-done : {D : Policy} {Σ : StoreTyping} {p : Dom} (s : State) (e : Tm) {v : Val} (b : Bool) (o : Outcome) → hi p ≡ false → ValTy D Σ v Ty.unit → Skips s e (within (λ x. seq x e) (if-room b o (reduceLower s v)))
+  skips-done : {D : Policy} {Σ : StoreTyping} {p : Dom} (s : State) (e : Tm) {v : Val} (b : Bool) (o : Outcome) → lacksMainline o ≡ false → hi p ≡ false → ValTy D Σ v Ty.unit → Skips s e (within (λ x. seq x e) (if-room b o (reduceLower s v)))
   unfolding carry if-room with
-  skips-done s e true o f ValTy.v-unit = k-step f e-charge inert-unit
-  skips-done s e false o f ValTy.v-unit = k-none n-full
+  skips-done s e true o n f ValTy.v-unit = k-step f (e-stay hi) inert-unit
+  skips-done s e false o n f ValTy.v-unit = k-none n-full (λ y. clash y n)
 
-  skips-unit : (s : State) (e : Tm) (b : Bool) (o : Outcome) → Skips s e (if-room b o (reduceSeq s e Val.unit))
+  skips-unit : (s : State) (e : Tm) (b : Bool) (o : Outcome) → lacksMainline o ≡ false → Skips s e (if-room b o (reduceSeq s e Val.unit))
   unfolding if-room with
-  skips-unit s e true o = k-past
-  skips-unit s e false o = k-none n-full
+  skips-unit s e true o n = k-past
+  skips-unit s e false o n = k-none n-full (λ y. clash y n)
 
   lower-body : {D : Policy} {Σ : StoreTyping} {c p : Dom} {e : Tm} {u : Ty} → TmTy D Σ [] c (lower p e) u → TmTy D Σ [] p e Ty.unit
   lower-body (is-lower l h) = h
@@ -61,31 +62,31 @@ module _ (hi : Dom → Bool) where
 
         pick : (x : Option Val) → asValue b ≡ x → Skips s e (within (λ x. seq x e) (cases (asValue b) done onward))
         pick none q = rw (cases-none done onward q) (skips-body f (confined hi H s K G (lower-body T) (deeper (deeper P))))
-        pick (some v) q = rw (cases-some done onward q) (skips-done s e _ _ f (val-ty (lower-body T) q))
-    skips {c} inert-unit T P e = rw (cases-some {x = some Val.unit} {v = Val.unit} (λ v. framed (at c P) (reduceSeq s e v)) (λ n. within (λ x. seq x e) (step (val Val.unit) G (at c (deeper P)) s)) refl) (skips-unit s e _ _)
+        pick (some v) q = rw (cases-some done onward q) (skips-done s e _ _ refl f (val-ty (lower-body T) q))
+    skips {c} inert-unit T P e = rw (cases-some {x = some Val.unit} {v = Val.unit} (λ v. framed (at c P) (reduceSeq s e v)) (λ n. within (λ x. seq x e) (step (val Val.unit) G (at c (deeper P)) s)) refl) (skips-unit s e _ _ refl)
 
   module _ {W : World} {s s′ : State} (R : RelS hi W s s′) where
     pub skip-left : {h e e′ : Tm} {a : Answer State Tm} (a′ : Answer State Tm) → Skips s e a → RelT hi W e e′ → Sim hi W s s′ (seq h e) e′ a a′
-    skip-left a′ (k-none n) r = s-none-left refl n
+    skip-left a′ (k-none n x) r = s-none-left refl n x
     skip-left a′ (k-step f m i) r = let l : Later hi W _ s′ = effect-left hi R f m in s-left refl refl (l .grows) (l .rel) (r-skip-left i (relT-mono hi r (l .grows)))
     skip-left a′ k-past r = s-left refl refl (grows-refl W) R r
 
     pub skip-right : {h e e′ : Tm} (a : Answer State Tm) {a′ : Answer State Tm} → Skips s′ e′ a′ → RelT hi W e e′ → Sim hi W s s′ e (seq h e′) a a′
-    skip-right a (k-none n) r = s-none-right refl n
+    skip-right a (k-none n x) r = s-none-right refl n
     skip-right a (k-step f m i) r = let l : Later hi W s _ = effect-right hi R f m in s-right refl refl (l .grows) (l .rel) (r-skip-right i (relT-mono hi r (l .grows)))
     skip-right a k-past r = s-right refl refl (grows-refl W) R r
 
     body-left : {p : Dom} {e e′ : Tm} {a : Answer State Tm} (a′ : Answer State Tm) → hi p ≡ false → Confined hi p s a → Sim hi W s s′ (lower p e) (lower p e′) (within (lower p) a) a′
     unfolding carry
     body-left a′ f (c-go m) = let l : Later hi W _ s′ = effect-left hi R f m in s-left refl refl (l .grows) (l .rel) (r-lower (b-low f))
-    body-left a′ f c-full = s-none-left refl n-full
-    body-left a′ f c-halt = s-none-left refl n-halt
-    body-left a′ f c-wrong = s-none-left refl n-wrong
+    body-left a′ f (c-full x) = s-none-left refl n-full (λ y. clash y (x f))
+    body-left a′ f c-halt = s-none-left refl n-halt (λ y. y)
+    body-left a′ f c-wrong = s-none-left refl n-wrong (λ y. y)
 
     body-right : {p : Dom} {e e′ : Tm} (a : Answer State Tm) {a′ : Answer State Tm} → hi p ≡ false → Confined hi p s′ a′ → Sim hi W s s′ (lower p e) (lower p e′) a (within (lower p) a′)
     unfolding carry
     body-right a f (c-go m) = let l : Later hi W s _ = effect-right hi R f m in s-right refl refl (l .grows) (l .rel) (r-lower (b-low f))
-    body-right a f c-full = s-none-right refl n-full
+    body-right a f (c-full x) = s-none-right refl n-full
     body-right a f c-halt = s-none-right refl n-halt
     body-right a f c-wrong = s-none-right refl n-wrong
 
@@ -107,4 +108,4 @@ module _ (hi : Dom → Bool) where
           pick : (x : Option Val) → asValue e ≡ x → (x′ : Option Val) → asValue e′ ≡ x′ → Sim hi W s s′ (lower p e) (lower p e′) (cases (asValue e) (done P s) (onward e G P s)) (cases (asValue e′) (done P′ s′) (onward e′ G′ P′ s′))
           pick none q x′ q′ = rw (cases-none (done P s) (onward e G P s) q) (body-left _ f (confined hi H s K G T (deeper P)))
           pick (some v) q none q′ = rw (cases-none (done P′ s′) (onward e′ G′ P′ s′) q′) (body-right _ f (confined hi H s′ K′ G′ T′ (deeper P′)))
-          pick (some v) q (some v′) q′ = rw (cases-some (done P s) (onward e G P s) q, cases-some (done P′ s′) (onward e′ G′ P′ s′) q′) (s-both refl refl (two-room hi _ _ _ _ (both-done (val-ty T q) (val-ty T′ q′))))
+          pick (some v) q (some v′) q′ = rw (cases-some (done P s) (onward e G P s) q, cases-some (done P′ s′) (onward e′ G′ P′ s′) q′) (s-both refl refl (two-room hi _ _ _ refl (both-done (val-ty T q) (val-ty T′ q′))))

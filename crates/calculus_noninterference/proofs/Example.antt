@@ -3,13 +3,13 @@ use Prim.Native.Nat.{ℕ}
 use native.Mathlib.Nat.{le-trans}
 use mathlib.Core.Path.{_≡_, refl}
 use mathlib.Core.Bool.{Bool}
-use mathlib.Core.List.{List, [], _∷_}
+use mathlib.Core.List.{List, [], _∷_, _++_}
 use mathlib.Core.Option.{some}
 use lib.Dec.{leb}
 use borrow.Author.Tests.{le-leb, leb-true}
 use Rattle.calculus.specs.Combinators.{cases}
 use Rattle.calculus.specs.Syntax.{Dom, Ty, Val, Tm, val, var, lam, op0, op1, op2, seq, pcd, adv, end, more, newLabel, takedown, print, install, read, newCell, app, mark}
-use Rattle.calculus.specs.State.{Given, Print, picked, logOf, fresh}
+use Rattle.calculus.specs.State.{Given, Counts, Print, picked, logOf, mainlineCounts, fresh}
 use Rattle.calculus.specs.Subst.{subst}
 use Rattle.calculus.specs.Answer.{carry, if-room, with, spend}
 use Rattle.calculus.specs.Step.{step}
@@ -67,7 +67,7 @@ right = seq (say (val (Val.num 8))) (say (val (Val.num 9)))
 same : (G : Given) (n n′ : ℕ) → Same hi (run n G 0 fresh (program left)) (run n′ G 0 fresh (program right))
 same G n n′ = demand3 falling hi falling-trans highs (program left) (program right) (accepted (is-op1 t-print (is-var refl))) (accepted (is-seq (is-op1 t-print (is-val v-num)) (is-op1 t-print (is-val v-num)))) (alike left right) G G refl n n′
 
--- What is computed of a run of 100 steps: how it ends, its log, its high prints and its high cells.
+-- What is computed of a run of 100 steps: how it ends, its log, its high prints and its high cells; and what domain 0 had used at its print, and has at the end (card 9).
 abbrev G : Given
 G = record { frame = []; logLength = 100 }
 
@@ -76,13 +76,14 @@ record Facts : Type 0 where
   log : List Print
   prints : List Print
   cells : List Shown
+  counts : List Counts
 
 abbrev facts : Tm → Facts
-facts e = let E = run 100 G 0 fresh e in record { end = E .end; log = logOf (E .state .trace); prints = highPrints hi E; cells = highCells hi E }
+facts e = let E = run 100 G 0 fresh e in record { end = E .end; log = logOf (E .state .trace); prints = highPrints hi E; cells = highCells hi E; counts = mainlineCounts (E .state .trace) ++ (E .state .used .mainline ∷ []) }
 
 -- The logs differ; the rest is the same.
 abbrev sevens : List Print → Facts
-sevens x = record { end = done (Val.num 7); log = x; prints = record { dom = 0; shown = 5 } ∷ []; cells = record { dom = 0; value = some (Val.num 7) } ∷ [] }
+sevens x = record { end = done (Val.num 7); log = x; prints = record { dom = 0; shown = 5 } ∷ []; cells = record { dom = 0; value = some (Val.num 7) } ∷ []; counts = record { bindings = 1; cells = 0; pieces = 2 } ∷ record { bindings = 1; cells = 1; pieces = 2 } ∷ [] }
 
 left-facts : facts (program left) ≡ sevens (record { dom = 1; shown = 3 } ∷ record { dom = 0; shown = 5 } ∷ [])
 unfolding highOf run after cases step carry if-room with spend picked subst

@@ -1,5 +1,6 @@
 -- Noninterference.
 pub mod Clash
+pub mod Halves
 pub mod Interleave
 pub mod Filtered
 pub mod Related

@@ -1,15 +1,16 @@
 -- What a mark of matched labels becomes in the two runs is related (document 003, section 2.3, figure 5).
 use Prim.Native.Nat.{ℕ}
-use mathlib.Core.Path.{_≡_, refl, sym, subst as transp}
+use mathlib.Core.Path.{_≡_, refl, sym, subst as transp, _∙_}
 use mathlib.Core.Bool.{Bool, true, false}
 use mathlib.Core.List.{List, _∷_}
 use Rattle.calculus.specs.Combinators.{choose}
 use Rattle.calculus.specs.Syntax.{Dom, Val, Tm, lower}
 use Rattle.calculus.specs.Subst.{subst}
-use Rattle.calculus.specs.State.{Advice}
+use Rattle.calculus.specs.State.{Advice, adviceBindings}
 use Rattle.calculus.specs.Compose.{member, matching, composed}
 use Rattle.laws.proofs.Lists.{All2.all2-nil, All2.all2-cons}
 use Rattle.calculus_noninterference.proofs.Clash.{clash}
+use Rattle.calculus_noninterference.proofs.Halves.{mainline-both, mainline-alone}
 use Rattle.calculus_noninterference.proofs.Interleave.{Side, Matched, Matches, matched-eqb, i-nil, i-both, i-left, i-right}
 use Rattle.calculus_noninterference.proofs.Related.{World, inert-lower, RelV, RelT, v-unit, r-val, r-seq, r-lower, r-skip-left, r-skip-right, RelAdvice, Advices}
 use Rattle.calculus_noninterference.proofs.Substitute.{relB-subst}
@@ -41,3 +42,10 @@ module _ (hi : Dom → Bool) {W : World} where
   composed-rel {l} {l′} (i-both {a} {b} {x} {y} h k) m u = chosen-both (matching l x) (matching l′ y) (member l (a .labels)) (member l′ (b .labels)) (member-same m (h .labels)) h u (composed-rel k m u)
   composed-rel {l} {v} (i-left {a} {x} h k) m u = chosen-left a (matching l x) v (member l (a .labels)) h (composed-rel k m u)
   composed-rel {l′} {v′} (i-right {b} {y} h k) m u = chosen-right b (matching l′ y) v′ (member l′ (b .labels)) h (composed-rel k m u)
+
+  -- The two marks use the same of domain 0's half (card 9).
+  pub mainline-bindings : hi 0 ≡ true → {w : List Side} {x x′ : List (Advice Tm)} {l l′ : ℕ} → Advices hi W w x x′ → Matched (W .labels) l l′ → adviceBindings (matching l x) .mainline ≡ adviceBindings (matching l′ x′) .mainline
+  mainline-bindings main i-nil m = refl
+  mainline-bindings main {l} {l′} (i-both {a} {b} {x} {y} h k) m = mainline-both a b (matching l x) (matching l′ y) (member l (a .labels)) (member l′ (b .labels)) (member-same m (h .labels)) (h .same-dom) (mainline-bindings main k m)
+  mainline-bindings main {l} (i-left {a} {x} h k) m = mainline-alone hi main a (matching l x) (member l (a .labels)) h ∙ mainline-bindings main k m
+  mainline-bindings main {l′} (i-right {b} {y} h k) m = mainline-bindings main k m ∙ sym (mainline-alone hi main b (matching l′ y) (member l′ (b .labels)) h)

@@ -1,12 +1,17 @@
 -- The next steps of two related terms, side by side, and the same seen from the terms around them.
-use mathlib.Core.Path.{_≡_, ap}
+use Prim.Native.Nat.{_-_}
+use mathlib.Core.Path.{_≡_, refl, ap, ap₂, subst as transp}
 use mathlib.Core.Bool.{Bool, true, false}
 use mathlib.Core.Option.{Option, none, some}
+use lib.Dec.{leb}
 use Rattle.calculus.specs.declared.Outcome.{Outcome}
+use Rattle.calculus.specs.Limits.{bindingLimit, cellLimit, pieceLimit}
 use Rattle.calculus.specs.Combinators.{cases}
 use Rattle.calculus.specs.Syntax.{Dom, Val, Tm, asValue}
-use Rattle.calculus.specs.State.{Counts, State, charged}
+use Rattle.calculus.specs.State.{Uses, addCounts, State, charged}
 use Rattle.calculus.specs.Answer.{Answer, go, full, halt, wrong, carry, within, if-room, with, spend}
+use Rattle.calculus_noninterference.specs.Observe.{lacksMainline}
+use Rattle.calculus_noninterference.proofs.Clash.{clash}
 use Rattle.calculus_noninterference.proofs.Related.{World, Grows, RelV, RelT, RelS}
 
 -- No step was made.
@@ -14,6 +19,20 @@ pub data NoStep : Answer State Tm → Type 0 where
   n-full : {o : Outcome} → NoStep (full o)
   n-halt : NoStep halt
   n-wrong : NoStep wrong
+
+-- The answer is that domain 0 lacks room (card 9).
+abbrev pub Short : Answer State Tm → Type 0
+Short (go s e) = ⊥
+Short (full o) = lacksMainline o ≡ true
+Short halt = ⊥
+Short wrong = ⊥
+
+short-within : (a : Answer State Tm) (k : Tm → Tm) → Short (within k a) → Short a
+unfolding carry
+short-within (go s e) k x = x
+short-within (full o) k x = x
+short-within halt k x = x
+short-within wrong k x = x
 
 no-step-within : {a : Answer State Tm} (k : Tm → Tm) → NoStep a → NoStep (within k a)
 unfolding carry
@@ -25,6 +44,11 @@ pub no-step-room : {a : Answer State Tm} (b : Bool) (o : Outcome) → NoStep a �
 unfolding if-room
 no-step-room true o h = h
 no-step-room false o h = n-full
+
+pub not-short-room : (a : Answer State Tm) (b : Bool) (o : Outcome) → lacksMainline o ≡ false → (Short a → ⊥) → Short (if-room b o a) → ⊥
+unfolding if-room
+not-short-room a true o n h x = h x
+not-short-room a false o n h x = clash x n
 
 pub cases-none : {A : Type 0} {x : Option A} (f : A → Answer State Tm) (a : Unit {0} → Answer State Tm) → x ≡ none → cases x f a ≡ a tt
 unfolding cases
@@ -40,10 +64,10 @@ within-go k p = ap (λ x. within k x) p
 
 module _ (hi : Dom → Bool) where
   module _ (W : World) where
-    -- The answers to a step of each: if both were made, what they made is related.
+    -- The answers to a step of each: if both were made, what they made is related; where domain 0 lacks room in the left, the right makes no step either.
     pub data Two : Answer State Tm → Answer State Tm → Type 0 where
       two-go : {X : World} {s s′ : State} {e e′ : Tm} → Grows W X → RelS hi X s s′ → RelT hi X e e′ → Two (go s e) (go s′ e′)
-      none-left : {a a′ : Answer State Tm} → NoStep a → Two a a′
+      none-left : {a a′ : Answer State Tm} → NoStep a → (Short a → NoStep a′) → Two a a′
       none-right : {a a′ : Answer State Tm} → NoStep a′ → Two a a′
 
     -- What comes next of e over s and of e′ over s′, whose next steps are a and a′.
@@ -56,19 +80,38 @@ module _ (hi : Dom → Bool) where
       s-left : {X : World} {t : State} {f : Tm} → asValue e ≡ none → a ≡ go t f → Grows W X → RelS hi X t s′ → RelT hi X f e′ → Sim s s′ e e′ a a′
       s-right : {X : World} {t : State} {f : Tm} → asValue e′ ≡ none → a′ ≡ go t f → Grows W X → RelS hi X s t → RelT hi X e f → Sim s s′ e e′ a a′
       -- one ends here
-      s-none-left : asValue e ≡ none → NoStep a → Sim s s′ e e′ a a′
+      s-none-left : asValue e ≡ none → NoStep a → (Short a → ⊥) → Sim s s′ e e′ a a′
       s-none-right : asValue e′ ≡ none → NoStep a′ → Sim s s′ e e′ a a′
 
   module _ {W : World} where
-    pub two-room : {a a′ : Answer State Tm} (b b′ : Bool) (o o′ : Outcome) → Two W a a′ → Two W (if-room b o a) (if-room b′ o′ a′)
+    -- Room that is not domain 0's, and room that is, of which both have as much.
+    pub two-room : {a a′ : Answer State Tm} (b b′ : Bool) (o : Outcome) → lacksMainline o ≡ false → Two W a a′ → Two W (if-room b o a) (if-room b′ o a′)
     unfolding if-room
-    two-room true true o o′ t = t
-    two-room true false o o′ t = none-right n-full
-    two-room false b o o′ t = none-left n-full
+    two-room true true o n t = t
+    two-room true false o n t = none-right n-full
+    two-room false b o n t = none-left n-full (λ x. clash x n)
 
-    pub two-spend : (s s′ : State) (n n′ : Counts) (k k′ : State → Answer State Tm) → ((u u′ : Counts) → Two W (k (charged u s)) (k′ (charged u′ s′))) → Two W (spend n s k) (spend n′ s′ k′)
+    two-mainline : {a a′ : Answer State Tm} {b b′ : Bool} (o : Outcome) → b ≡ b′ → Two W a a′ → Two W (if-room b o a) (if-room b′ o a′)
+    unfolding if-room
+    two-mainline {a} {a′} {b} o e t = transp (λ c. Two W (if-room b o a) (if-room c o a′)) e (pick b)
+      where
+        pick : (c : Bool) → Two W (if-room c o a) (if-room c o a′)
+        pick true = t
+        pick false = none-left n-full (λ x. n-full)
+
+    pub two-spend : (s s′ : State) (n n′ : Uses) (k k′ : State → Answer State Tm) → s .used .mainline ≡ s′ .used .mainline → n .mainline ≡ n′ .mainline → ((u u′ : Uses) → u .mainline ≡ u′ .mainline → Two W (k (charged u s)) (k′ (charged u′ s′))) → Two W (spend n s k) (spend n′ s′ k′)
     unfolding spend
-    two-spend s s′ n n′ k k′ t = two-room _ _ _ _ (two-room _ _ _ _ (two-room _ _ _ _ (t _ _)))
+    two-spend s s′ n n′ k k′ o e t =
+        two-mainline Outcome.Bindings (ap₂ (λ x y. leb (x .bindings) (bindingLimit - y .bindings)) e o)
+        (two-mainline Outcome.Cells (ap₂ (λ x y. leb (x .cells) (cellLimit - y .cells)) e o)
+        (two-mainline Outcome.Pieces (ap₂ (λ x y. leb (x .pieces) (pieceLimit - y .pieces)) e o)
+        (two-room _ _ _ refl (two-room _ _ _ refl (two-room _ _ _ refl (t _ _ (ap₂ addCounts o e)))))))
+
+    -- Where domain 0 lacks room in the left, the right makes no step.
+    pub two-short : {a a′ : Answer State Tm} → Two W a a′ → Short a → NoStep a′
+    two-short (two-go x r t) y = absurd y
+    two-short (none-left n x) y = x y
+    two-short (none-right n) y = n
 
     pub two-some : {A B : Type 0} {a : A} {b : B} (k : A → Answer State Tm) (k′ : B → Answer State Tm) → Two W (k a) (k′ b) → Two W (with (some a) k) (with (some b) k′)
     unfolding with
@@ -80,12 +123,12 @@ module _ (hi : Dom → Bool) where
 
     pub two-none : {A B : Type 0} (k : A → Answer State Tm) (k′ : B → Answer State Tm) → Two W (with none k) (with none k′)
     unfolding with
-    two-none k k′ = none-left n-wrong
+    two-none k k′ = none-left n-wrong (λ x. absurd x)
 
     two-within : {a a′ : Answer State Tm} {k k′ : Tm → Tm} → ((X : World) (x x′ : Tm) → Grows W X → RelT hi X x x′ → RelT hi X (k x) (k′ x′)) → Two W a a′ → Two W (within k a) (within k′ a′)
     unfolding carry
     two-within f (two-go x r t) = two-go x r (f _ _ _ x t)
-    two-within {k} f (none-left n) = none-left (no-step-within k n)
+    two-within {a} {k} {k′} f (none-left n x) = none-left (no-step-within k n) (λ y. no-step-within k′ (x (short-within a k y)))
     two-within {k′} f (none-right n) = none-right (no-step-within k′ n)
 
     -- An operand's next step, seen from the whole term w: k puts the operand back, among operands that are values; a term that makes no step stays as it is.
@@ -100,7 +143,7 @@ module _ (hi : Dom → Bool) where
     lift-in k k′ p p′ g gl gr h (s-both q q′ t) = rw (cases-none _ _ q, cases-none _ _ q′) (s-both p p′ (two-within g t))
     lift-in k k′ p p′ g gl gr h (s-left q y x r t) = rw (cases-none _ _ q) (s-left p (within-go k y) x r (gl _ _ x t))
     lift-in k k′ p p′ g gl gr h (s-right q y x r t) = rw (cases-none _ _ q) (s-right p′ (within-go k′ y) x r (gr _ _ x t))
-    lift-in k k′ p p′ g gl gr h (s-none-left q n) = rw (cases-none _ _ q) (s-none-left p (no-step-within k n))
+    lift-in {a} k k′ p p′ g gl gr h (s-none-left q n x) = rw (cases-none _ _ q) (s-none-left p (no-step-within k n) (λ y. x (short-within a k y)))
     lift-in k k′ p p′ g gl gr h (s-none-right q n) = rw (cases-none _ _ q) (s-none-right p′ (no-step-within k′ n))
 
     -- The same where no operand stands before it, so that the whole terms are k e and k′ e′; then the reductions of the whole are looked at.

@@ -147,6 +147,8 @@ module _ (hi : Dom → Bool) where
     pub advices : Advices W advice-order (s .advices) (s′ .advices)
     pub event-order : List Side
     pub trace : Events event-order (s .trace) (s′ .trace)
+    -- domain 0 has used the same (card 9)
+    pub mainline : s .used .mainline ≡ s′ .used .mainline
 
   -- Relations last as the world grows.
   mutual

@@ -43,7 +43,7 @@ reported-cells hi (a ∷ x) = pick (highOf hi (λ a. a .dom) x) (hi (a .dom)) (r
     pick u false h = h
 
 -- A typed run whose report says done has a result.
-reports-done : {D : Policy} {t : Ty} {Σ : StoreTyping} {o : End} → Ends D t Σ o → outcomeOf o ≡ some Outcome.Done → (v : Val) × (o ≡ done v)
+pub reports-done : {D : Policy} {t : Ty} {Σ : StoreTyping} {o : End} → Ends D t Σ o → outcomeOf o ≡ some Outcome.Done → (v : Val) × (o ≡ done v)
 reports-done (ends-done {v} h) p = (v, refl)
 reports-done (ends-stopped {o} n) p = absurd (n (Option·some-injective o Outcome.Done p))
 

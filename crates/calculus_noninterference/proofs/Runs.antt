@@ -8,7 +8,7 @@ use mathlib.Core.List.{[]}
 use mathlib.Core.Option.{Option, none, some}
 use Rattle.calculus.specs.Syntax.{Dom, Ty, Val, Tm, asValue}
 use Rattle.calculus.specs.State.{State, Given, fresh}
-use Rattle.calculus.specs.Answer.{Answer, go}
+use Rattle.calculus.specs.Answer.{Answer, go, halt}
 use Rattle.calculus.specs.Place.{top}
 use Rattle.calculus.specs.Step.{step}
 use Rattle.calculus.specs.Plain.{isPlain}
@@ -19,21 +19,24 @@ use Rattle.calculus.specs.Accepted.{Transitive}
 use Rattle.calculus_safety.proofs.StoreFits.{StateFits, fits-fresh}
 use Rattle.calculus_safety.proofs.Values.{val-ty}
 use Rattle.calculus_safety.proofs.Safety.{preservation}
-use Rattle.calculus_noninterference.specs.Observe.{Highs, highCells}
+use Rattle.calculus_noninterference.specs.Observe.{Highs, highCells, endsShort}
+use Rattle.calculus_noninterference.proofs.Clash.{clash}
 use Rattle.calculus_noninterference.proofs.Interleave.{i-nil}
 use Rattle.calculus_noninterference.proofs.Related.{World, noWorld, RelV, RelT, RelS}
 use Rattle.calculus_noninterference.proofs.Confined.{Confined, c-go, c-full, c-halt, c-wrong, confined}
-use Rattle.calculus_noninterference.proofs.Paired.{n-full, n-halt, n-wrong, Two, two-go, none-left, none-right, Sim, s-values, s-both, s-left, s-right, s-none-left, s-none-right}
+use Rattle.calculus_noninterference.proofs.Paired.{n-full, n-halt, n-wrong, Short, two-short, Two, two-go, none-left, none-right, Sim, s-values, s-both, s-left, s-right, s-none-left, s-none-right}
 use Rattle.calculus_noninterference.proofs.Simulation.{sim}
 use Rattle.calculus_noninterference.proofs.Plain.{plain-same, shown-cells}
 use Rattle.calculus_noninterference.proofs.Traces.{highEvents, events-same, effect-events}
 use Rattle.calculus_noninterference.proofs.FirstStep.{run-value, run-go, Valueless, run-spent, run-none}
 
--- The high events of one run begin those of the other; where both are done, equal results, if the left's type u is plain, and equal high cells.
+-- The high events of one run begin those of the other; where the first ends because domain 0 lacks room, the second has no value and no more high events; where both are done, equal results, if the left's type u is plain, equal high cells, and equal counts of domain 0.
 pub record Agree (hi : Dom → Bool) (u : Ty) (E E′ : Ended) : Type 0 where
   pub events : Prefix (highEvents hi (E .state .trace)) (highEvents hi (E′ .state .trace)) ⊎ Prefix (highEvents hi (E′ .state .trace)) (highEvents hi (E .state .trace))
+  pub room : endsShort (E .end) ≡ true → ((v : Val) → E′ .end ≡ done v → ⊥) × Prefix (highEvents hi (E′ .state .trace)) (highEvents hi (E .state .trace))
   pub result : (v v′ : Val) → E .end ≡ done v → E′ .end ≡ done v′ → isPlain u ≡ true → v ≡ v′
   pub cells : (v v′ : Val) → E .end ≡ done v → E′ .end ≡ done v′ → highCells hi E ≡ highCells hi E′
+  pub mainline : (v v′ : Val) → E .end ≡ done v → E′ .end ≡ done v′ → E .state .used .mainline ≡ E′ .state .used .mainline
 
 module _ {D : Policy} {hi : Dom → Bool} (H : Highs D hi) (trans : Transitive D) where
   -- A program in the middle of its run: typed, over a state that fits.
@@ -45,7 +48,7 @@ module _ {D : Policy} {hi : Dom → Bool} (H : Highs D hi) (trans : Transitive D
   typed-step : (G : Given) {t : Ty} {s s′ : State} {e e′ : Tm} → Typed t s e → step e G top s ≡ go s′ e′ → Typed t s′ e′
   typed-step G {s} {s′} {e′} T q = let x = preservation D (T .Σ) trans G (T .typed) top all-nil s (T .fits) s′ e′ q in record { Σ = x .0; fits = x .2; typed = x .3 }
 
-  valueless-events : {s : State} {E : Ended} → Valueless s E → Prefix (highEvents hi (s .trace)) (highEvents hi (E .state .trace))
+  valueless-events : {s : State} {a : Answer State Tm} {E : Ended} → Valueless s a E → Prefix (highEvents hi (s .trace)) (highEvents hi (E .state .trace))
   valueless-events S = rw (S .over) (prefix-refl _)
 
   -- The high events of a run only become more.
@@ -54,7 +57,7 @@ module _ {D : Policy} {hi : Dom → Bool} (H : Highs D hi) (trans : Transitive D
 
   more-step : (n : ℕ) (G : Given) (t : Ty) → More n G t → (k : ℕ) (s : State) (e : Tm) → Typed t s e → asValue e ≡ none → {a : Answer State Tm} → step e G top s ≡ a → Confined hi 0 s a → Prefix (highEvents hi (s .trace)) (highEvents hi (run (suc n) G k s e .state .trace))
   more-step n G t ih k s e T p q (c-go m) = rw (run-go n G k s e p q) (prefix-trans (effect-events hi m) (ih (suc k) _ _ (typed-step G T q)))
-  more-step n G t ih k s e T p q c-full = valueless-events (run-none (suc n) G k s e _ p q n-full)
+  more-step n G t ih k s e T p q (c-full x) = valueless-events (run-none (suc n) G k s e _ p q n-full)
   more-step n G t ih k s e T p q c-halt = valueless-events (run-none (suc n) G k s e _ p q n-halt)
   more-step n G t ih k s e T p q c-wrong = valueless-events (run-none (suc n) G k s e _ p q n-wrong)
 
@@ -83,39 +86,45 @@ module _ {D : Policy} {hi : Dom → Bool} (H : Highs D hi) (trans : Transitive D
     Goal n n′ = (k k′ : ℕ) (s s′ : State) (e e′ : Tm) → Pair s s′ e e′ → Agree hi t (run n G k s e) (run n′ G′ k′ s′ e′)
 
     -- One run ends without a value where the other still runs.
-    left-ends : {E : Ended} (n′ k′ : ℕ) {s s′ : State} {e e′ : Tm} → Pair s s′ e e′ → Valueless s E → Agree hi t E (run n′ G′ k′ s′ e′)
-    left-ends n′ k′ {s′} {e′} P S = record {
+    left-ends : {a a′ : Answer State Tm} {E : Ended} (n′ k′ : ℕ) {s s′ : State} {e e′ : Tm} → Pair s s′ e e′ → Valueless s a E → (Short a → Valueless s′ a′ (run n′ G′ k′ s′ e′)) → Agree hi t E (run n′ G′ k′ s′ e′)
+    left-ends n′ k′ {s′} {e′} P S f = record {
+      room = λ x. let S′ = f (S .short x) in (S′ .no-value, rw (S .over, S′ .over, events-same hi (P .states .trace)) (prefix-refl _));
       events = inl (rw (S .over, events-same hi (P .states .trace)) (more n′ G′ t′ k′ s′ e′ (P .right)));
       result = λ v v′ p q. absurd (S .no-value v p);
       cells = λ v v′ p q. absurd (S .no-value v p);
+      mainline = λ v v′ p q. absurd (S .no-value v p);
     }
 
-    right-ends : {E′ : Ended} (n k : ℕ) {s s′ : State} {e e′ : Tm} → Pair s s′ e e′ → Valueless s′ E′ → Agree hi t (run n G k s e) E′
+    right-ends : {a′ : Answer State Tm} {E′ : Ended} (n k : ℕ) {s s′ : State} {e e′ : Tm} → Pair s s′ e e′ → Valueless s′ a′ E′ → Agree hi t (run n G k s e) E′
     right-ends n k {s} {e} P S = record {
+      room = λ x. (S .no-value, rw (S .over, sym (events-same hi (P .states .trace))) (more n G t k s e (P .left)));
       events = inr (rw (S .over, sym (events-same hi (P .states .trace))) (more n G t k s e (P .left)));
       result = λ v v′ p q. absurd (S .no-value v′ q);
       cells = λ v v′ p q. absurd (S .no-value v′ q);
+      mainline = λ v v′ p q. absurd (S .no-value v′ q);
     }
 
     both-end : {v v′ : Val} (k k′ : ℕ) {s s′ : State} {e e′ : Tm} → (P : Pair s s′ e e′) → RelV hi (P .world) v v′ → ValTy D (P .left .Σ) v t → Agree hi t (ended (done v) k s) (ended (done v′) k′ s′)
     both-end k k′ P r h = record {
+      room = λ x. clash x refl;
       events = inl (rw (events-same hi (P .states .trace)) (prefix-refl _));
       result = λ w w′ p q l. (let z = plain-same l h r in cc);
       cells = λ w w′ p q. shown-cells D hi (P .left .Σ) (P .states) (P .left .fits);
+      mainline = λ w w′ p q. P .states .mainline;
     }
 
     abbrev Before : ℕ → ℕ → Type 0
     Before n n′ = (j j′ : ℕ) → j + j′ < n + n′ → Goal j j′
 
     step-both : (n n′ : ℕ) → Before n n′ → (k k′ : ℕ) {s s′ : State} {e e′ : Tm} (P : Pair s s′ e e′) {a a′ : Answer State Tm} → asValue e ≡ none → asValue e′ ≡ none → step e G top s ≡ a → step e′ G′ top s′ ≡ a′ → Two hi (P .world) a a′ → Agree hi t (run n G k s e) (run n′ G′ k′ s′ e′)
-    step-both zero n′ ih k k′ {s} {e} P p p′ q q′ w = left-ends n′ k′ P (run-spent G k s e p)
+    step-both zero n′ ih k k′ {s} {s′} {e} {e′} P p p′ q q′ w = left-ends n′ k′ P (run-spent G k s e p) (λ x. run-none n′ G′ k′ s′ e′ _ p′ q′ (two-short hi w (rw q at x)))
     step-both (suc n) zero ih k k′ {s′} {e′} P p p′ q q′ w = right-ends (suc n) k P (run-spent G′ k′ s′ e′ p′)
     step-both (suc n) (suc n′) ih k k′ {s} {s′} {e} {e′} P p p′ q q′ (two-go x R T) = rw (run-go n G k s e p q, run-go n′ G′ k′ s′ e′ p′ q′) (ih n n′ (omega arith) (suc k) (suc k′) _ _ _ _ (record { world = _; states = R; terms = T; left = typed-step G (P .left) q; right = typed-step G′ (P .right) q′ }))
-    step-both (suc n) (suc n′) ih k k′ {s} {e} P p p′ q q′ (none-left f) = left-ends (suc n′) k′ P (run-none (suc n) G k s e _ p q f)
+    step-both (suc n) (suc n′) ih k k′ {s} {s′} {e} {e′} P p p′ q q′ (none-left f x) = left-ends (suc n′) k′ P (run-none (suc n) G k s e _ p q f) (λ y. run-none (suc n′) G′ k′ s′ e′ _ p′ q′ (x y))
     step-both (suc n) (suc n′) ih k k′ {s′} {e′} P p p′ q q′ (none-right f) = right-ends (suc n) k P (run-none (suc n′) G′ k′ s′ e′ _ p′ q′ f)
 
     step-left : (n n′ : ℕ) → Before n n′ → (k k′ : ℕ) {s s′ : State} {e e′ : Tm} → Pair s s′ e e′ → {X : World} {u : State} {f : Tm} → asValue e ≡ none → step e G top s ≡ go u f → RelS hi X u s′ → RelT hi X f e′ → Agree hi t (run n G k s e) (run n′ G′ k′ s′ e′)
-    step-left zero n′ ih k k′ {s} {e} P p q R T = left-ends n′ k′ P (run-spent G k s e p)
+    step-left zero n′ ih k k′ {s} {e} P p q R T = left-ends {a′ = halt} n′ k′ P (run-spent G k s e p) (λ x. absurd (rw q at x))
     step-left (suc n) n′ ih k k′ {s} {e} P p q R T = rw (run-go n G k s e p q) (ih n n′ (omega arith) (suc k) k′ _ _ _ _ (record { world = _; states = R; terms = T; left = typed-step G (P .left) q; right = P .right }))
 
     step-right : (n n′ : ℕ) → Before n n′ → (k k′ : ℕ) {s s′ : State} {e e′ : Tm} → Pair s s′ e e′ → {X : World} {u : State} {f : Tm} → asValue e′ ≡ none → step e′ G′ top s′ ≡ go u f → RelS hi X s u → RelT hi X e f → Agree hi t (run n G k s e) (run n′ G′ k′ s′ e′)
@@ -127,7 +136,7 @@ module _ {D : Policy} {hi : Dom → Bool} (H : Highs D hi) (trans : Transitive D
     by-step n n′ ih k k′ P q q′ (s-both p p′ w) = step-both n n′ ih k k′ P p p′ q q′ w
     by-step n n′ ih k k′ P q q′ (s-left p y x R T) = step-left n n′ ih k k′ P p (q ∙ y) R T
     by-step n n′ ih k k′ P q q′ (s-right p y x R T) = step-right n n′ ih k k′ P p (q′ ∙ y) R T
-    by-step n n′ ih k k′ {s} {e} P q q′ (s-none-left p f) = left-ends n′ k′ P (run-none n G k s e _ p q f)
+    by-step n n′ ih k k′ {s} {e} P q q′ (s-none-left p f x) = left-ends {a′ = halt} n′ k′ P (run-none n G k s e _ p q f) (λ y. absurd (x y))
     by-step n n′ ih k k′ {s′} {e′} P q q′ (s-none-right p f) = right-ends n k P (run-none n′ G′ k′ s′ e′ _ p q′ f)
 
     -- By induction on the two budgets together.
@@ -139,7 +148,7 @@ module _ {D : Policy} {hi : Dom → Bool} (H : Highs D hi) (trans : Transitive D
     pub agree : (e e′ : Tm) → TmTy D noStore [] 0 e t → TmTy D noStore [] 0 e′ t′ → RelT hi noWorld e e′ → (n n′ : ℕ) → Agree hi t (run n G 0 fresh e) (run n′ G′ 0 fresh e′)
     agree e e′ T T′ r n n′ = agree-below (suc (n + n′)) n n′ (omega arith) 0 0 fresh fresh e e′ (record {
       world = noWorld;
-      states = record { cells = i-nil; labels = i-nil; advice-order = []; advices = i-nil; event-order = []; trace = i-nil };
+      states = record { cells = i-nil; labels = i-nil; advice-order = []; advices = i-nil; event-order = []; trace = i-nil; mainline = refl };
       terms = r;
       left = record { Σ = noStore; fits = fits-fresh D; typed = T };
       right = record { Σ = noStore; fits = fits-fresh D; typed = T′ };

@@ -5,7 +5,7 @@ use mathlib.Core.List.{List, [], _∷_, reverse, reverseAux}
 use mathlib.Core.Option.{none}
 use Rattle.calculus.specs.Syntax.{Dom, Ty, Val, Tm, Tms, Pattern, Op0, Op1, Op2, asValue, val, op0, op1, op2, seq, ite, split, pcd, adv, lower, keep, match, more}
 use Rattle.calculus.specs.State.{State, Given}
-use Rattle.calculus.specs.Answer.{Answer}
+use Rattle.calculus.specs.Answer.{Answer, wrong}
 use Rattle.calculus.specs.Place.{Place, at, deeper, keeping}
 use Rattle.calculus.specs.Step.{before, step, stepFirst}
 use Rattle.calculus.specs.Typing.{Policy, StoreTyping, Rule0, Rule1, Rule2, TmTy, TmsTy, is-op0, is-op1, is-op2, is-seq, is-ite, is-split, is-pcd, is-adv, is-lower, is-more, PatternTy, ValTy, is-keep, is-match, is-end}
@@ -14,7 +14,7 @@ use Rattle.calculus_safety.proofs.StoreFits.{StateFits}
 use Rattle.calculus_safety.proofs.Values.{val-ty}
 use Rattle.calculus_noninterference.specs.Observe.{Highs}
 use Rattle.calculus_noninterference.proofs.Related.{World, Grows, RelT, RelB, RelTs, RelVs, RelKept, b-rel, b-low, v-fun, v-object, r-val, r-var, r-lam, r-val-lam, r-lam-val, r-op0, r-op1, r-op2, r-seq, r-ite, r-split, r-pcd, r-adv, r-lower, r-obj, r-val-obj, r-obj-val, r-keep, r-match, r-skip-left, r-skip-right, r-end, r-more, relV-mono, relT-mono, relB-mono, relTs-mono, RelS}
-use Rattle.calculus_noninterference.proofs.Paired.{n-wrong, no-step-room, Two, Sim, s-values, s-both, s-none-left, two-room, lift-in, lift}
+use Rattle.calculus_noninterference.proofs.Paired.{n-wrong, no-step-room, not-short-room, Two, Sim, s-values, s-both, s-none-left, two-room, lift-in, lift}
 use Rattle.calculus_noninterference.proofs.Reductions.{two-pcd, two-seq, two-lower, two-ite, two-split, two-adv, two0, two1, two2, keeping-rel, two-stay, two-match}
 use Rattle.calculus_noninterference.proofs.Alone.{skips, skip-left, skip-right, sim-low}
 use Rattle.calculus_noninterference.proofs.Operands.{value-left, value-right}
@@ -63,7 +63,7 @@ module _ (hi : Dom → Bool) {D : Policy} (H : Highs D hi) (G G′ : Given) (fra
       → (hi p ≡ true → Sim hi W s s′ e e′ (step e G (at p (deeper P)) s) (step e′ G′ (at p (deeper P′)) s′))
       → Sim hi W s s′ (lower p e) (lower p e′) (step (lower p e) G (at c P) s) (step (lower p e′) G′ (at c P′) s′)
   unfolding step
-  sim-lower {p} c true h T T′ P P′ m = lift hi (lower p) (lower p) refl refl (λ X x x′ w y. r-lower (b-rel y)) (λ v v′ k k′ y. s-both refl refl (two-room hi _ _ _ _ (two-lower hi R (val-ty T k) y))) (m h)
+  sim-lower {p} c true h T T′ P P′ m = lift hi (lower p) (lower p) refl refl (λ X x x′ w y. r-lower (b-rel y)) (λ v v′ k k′ y. s-both refl refl (two-room hi _ _ _ refl (two-lower hi R (val-ty T k) y))) (m h)
   sim-lower c false h T T′ P P′ m = sim-low hi R H K K′ G G′ c h T T′ P P′
 
   mutual
@@ -71,15 +71,15 @@ module _ (hi : Dom → Bool) {D : Policy} (H : Highs D hi) (G G′ : Given) (fra
 
     pub sim : {e e′ : Tm} → RelT hi W e e′ → (c : Dom) {t t′ : Ty} → hi c ≡ true → TmTy D Σ [] c e t → TmTy D Σ′ [] c e′ t′ → (P P′ : Place) → RelKept hi W (P .kept) (P′ .kept) → Sim hi W s s′ e e′ (step e G (at c P) s) (step e′ G′ (at c P′) s′)
     sim (r-val r) c h T T′ P P′ Q = s-values refl refl r
-    sim r-var c h T T′ P P′ Q = s-none-left refl (no-step-room _ _ n-wrong)
+    sim r-var c h T T′ P P′ Q = s-none-left refl (no-step-room _ _ n-wrong) (not-short-room wrong _ _ refl (λ y. y))
     sim (r-lam r) c h T T′ P P′ Q = s-values refl refl (v-fun r)
     sim (r-val-lam x r) c h T T′ P P′ Q = s-values refl refl r
     sim (r-lam-val x r) c h T T′ P P′ Q = s-values refl refl r
-    sim r-op0 c h T T′ P P′ Q = s-both refl refl (two-room hi _ _ _ _ (two0 hi H R K G G′ h P P′ Q (inv-op0 T)))
+    sim r-op0 c h T T′ P P′ Q = s-both refl refl (two-room hi _ _ _ refl (two0 hi H R K G G′ h P P′ Q (inv-op0 T)))
     sim (r-op1 {o} {t} r) c h T T′ P P′ Q =
         lift hi (op1 o t) (op1 o t) refl refl
         (λ X x x′ w y. r-op1 y)
-        (λ v v′ p p′ y. s-both refl refl (two-room hi _ _ _ _ (two1 hi H R K G G′ h P P′ frame (inv-op1 T .1) (val-ty (inv-op1 T .2) p) y)))
+        (λ v v′ p p′ y. s-both refl refl (two-room hi _ _ _ refl (two1 hi H R K G G′ h P P′ frame (inv-op1 T .1) (val-ty (inv-op1 T .2) p) y)))
         (sim r c h (inv-op1 T .2) (inv-op1 T′ .2) (deeper P) (deeper P′) Q)
     sim (r-op2 {o} {t} {f} {f′} r q) c h T T′ P P′ Q =
         lift hi (λ x. op2 o t x f) (λ x. op2 o t x f′) refl refl
@@ -88,32 +88,32 @@ module _ (hi : Dom → Bool) {D : Policy} (H : Highs D hi) (G G′ : Given) (fra
         (λ X x x′ w z. r-op2 (r-val (relV-mono hi y w)) z)
         (λ X x w z. r-op2 (relT-mono hi (value-left hi (inv-op2 T′ .3) p′ y) w) z)
         (λ X x w z. r-op2 (relT-mono hi (value-right hi (inv-op2 T .3) p y) w) z)
-        (λ u u′ k k′ z. s-both refl refl (two-room hi _ _ _ _ (two2 hi H R K G G′ h P P′ (inv-op2 T .2) (val-ty (inv-op2 T .3) p) (val-ty (inv-op2 T .4) k) y z)))
+        (λ u u′ k k′ z. s-both refl refl (two-room hi _ _ _ refl (two2 hi H R K G G′ h P P′ (inv-op2 T .2) (val-ty (inv-op2 T .3) p) (val-ty (inv-op2 T .4) k) y z)))
         (sim q c h (inv-op2 T .4) (inv-op2 T′ .4) (deeper P) (deeper P′) Q))
         (sim r c h (inv-op2 T .3) (inv-op2 T′ .3) (deeper P) (deeper P′) Q)
     sim (r-seq {f} {f′} r q) c h T T′ P P′ Q =
         lift hi (λ x. seq x f) (λ x. seq x f′) refl refl
         (λ X x x′ w y. r-seq y (relT-mono hi q w))
-        (λ v v′ p p′ y. s-both refl refl (two-room hi _ _ _ _ (two-seq hi R (val-ty (inv-seq T .0) p) y q)))
+        (λ v v′ p p′ y. s-both refl refl (two-room hi _ _ _ refl (two-seq hi R (val-ty (inv-seq T .0) p) y q)))
         (sim r c h (inv-seq T .0) (inv-seq T′ .0) (deeper P) (deeper P′) Q)
     sim (r-ite {f} {f′} {g} {g′} r q u) c h T T′ P P′ Q =
         lift hi (λ x. ite x f g) (λ x. ite x f′ g′) refl refl
         (λ X x x′ w y. r-ite y (relT-mono hi q w) (relT-mono hi u w))
-        (λ v v′ p p′ y. s-both refl refl (two-room hi _ _ _ _ (two-ite hi R (val-ty (inv-ite T) p) y q u)))
+        (λ v v′ p p′ y. s-both refl refl (two-room hi _ _ _ refl (two-ite hi R (val-ty (inv-ite T) p) y q u)))
         (sim r c h (inv-ite T) (inv-ite T′) (deeper P) (deeper P′) Q)
     sim (r-split {f} {f′} r q) c h T T′ P P′ Q =
         lift hi (λ x. split x f) (λ x. split x f′) refl refl
         (λ X x x′ w y. r-split y (relT-mono hi q w))
-        (λ v v′ p p′ y. s-both refl refl (two-room hi _ _ _ _ (two-split hi R (val-ty (inv-split T .2) p) y q)))
+        (λ v v′ p p′ y. s-both refl refl (two-room hi _ _ _ refl (two-split hi R c P P′ (val-ty (inv-split T .2) p) y q)))
         (sim r c h (inv-split T .2) (inv-split T′ .2) (deeper P) (deeper P′) Q)
     sim (r-pcd r) c h T T′ P P′ Q =
         sims r c h (inv-pcd T .1) (inv-pcd T′ .1) P P′ Q refl refl [] [] all2-nil [] all2-nil pcd pcd
         (λ X x x′ w y. r-pcd y) (λ X x w y. r-pcd y) (λ X x w y. r-pcd y)
-        _ _ (λ vs vs′ xs y z e. two-pcd hi R y)
+        _ _ (λ vs vs′ xs y z e. two-pcd hi R c P P′ y)
     sim (r-adv {p} {b} {b′} r q) c h T T′ P P′ Q =
         lift hi (λ x. adv p x b) (λ x. adv p x b′) refl refl
         (λ X x x′ w y. r-adv y (relB-mono hi q w))
-        (λ v v′ k k′ y. s-both refl refl (two-room hi _ _ _ _ (two-adv hi R (val-ty (inv-adv T .2) k) y q)))
+        (λ v v′ k k′ y. s-both refl refl (two-room hi _ _ _ refl (two-adv hi R c P P′ (val-ty (inv-adv T .2) k) y q)))
         (sim r c h (inv-adv T .2) (inv-adv T′ .2) (deeper P) (deeper P′) Q)
     sim (r-keep {f} {f′} {g} {g′} r q u) c h T T′ P P′ Q =
         lift hi (λ x. keep x f g) (λ x. keep x f′ g′) refl refl
@@ -126,7 +126,7 @@ module _ (hi : Dom → Bool) {D : Policy} (H : Highs D hi) (G G′ : Given) (fra
         (λ X x x′ w m. r-keep (r-val (relV-mono hi y w)) (r-val (relV-mono hi z w)) m)
         (λ X x w m. r-keep (relT-mono hi (value-left hi (inv-keep T′ .1) p′ y) w) (relT-mono hi (value-left hi (inv-keep T′ .2) k′ z) w) m)
         (λ X x w m. r-keep (relT-mono hi (value-right hi (inv-keep T .1) p y) w) (relT-mono hi (value-right hi (inv-keep T .2) k z) w) m)
-        (λ a a′ i i′ m. s-both refl refl (two-room hi _ _ _ _ (two-stay hi R (r-val m))))
+        (λ a a′ i i′ m. s-both refl refl (two-room hi _ _ _ refl (two-stay hi R (r-val m))))
         (sim u c h (inv-keep T .3) (inv-keep T′ .3) (keeping v b (deeper P)) (keeping v′ b′ (deeper P′)) (keeping-rel hi W (deeper P) (deeper P′) (val-ty (inv-keep T .1) p) y z Q)))
         (sim q c h (inv-keep T .2) (inv-keep T′ .2) (deeper P) (deeper P′) Q))
         (sim r c h (inv-keep T .1) (inv-keep T′ .1) (deeper P) (deeper P′) Q)
@@ -153,7 +153,7 @@ module _ (hi : Dom → Bool) {D : Policy} (H : Highs D hi) (G G′ : Given) (fra
         → ((X : World) (x′ : Tms) → Grows W X → RelTs hi X es x′ → RelT hi X w (k′ (before vs′ x′)))
         → (r r′ : List Val → Answer State Tm) → ((vs vs′ : List Val) (xs : List Ty) → RelVs hi W vs vs′ → All2 (ValTy D Σ) vs xs → reverseAux us ts ≡ reverse xs → Two hi W (r vs) (r′ vs′))
         → Sim hi W s s′ w w′ (stepFirst es G (at c P) s vs k r) (stepFirst es′ G′ (at c P′) s′ vs′ k′ r′)
-    sims r-end c h is-end T′ P P′ Q n n′ vs vs′ ws us hs k k′ g gl gr r r′ m = s-both n n′ (two-room hi _ _ _ _ (m vs vs′ us ws hs refl))
+    sims r-end c h is-end T′ P P′ Q n n′ vs vs′ ws us hs k k′ g gl gr r r′ m = s-both n n′ (two-room hi _ _ _ refl (m vs vs′ us ws hs refl))
     sims (r-more {e} {e′} {es = f} {es′ = f′} q qs) c h (is-more {a} T Ts) T′ P P′ Q n n′ vs vs′ ws us hs k k′ g gl gr r r′ m =
         lift-in hi (λ x. k (before vs (more x f))) (λ x. k′ (before vs′ (more x f′))) n n′
         (λ X x x′ w y. g X _ _ w (r-more y (relTs-mono hi qs w)))

@@ -1,6 +1,6 @@
 -- Related states stay related as both runs do the same, and as one run alone acts at a low domain.
 use Prim.Native.Nat.{ℕ}
-use mathlib.Core.Path.{_≡_, refl, ap}
+use mathlib.Core.Path.{_≡_, refl, sym, _∙_, ap}
 use mathlib.Core.Bool.{Bool, true, false, not}
 use mathlib.Core.List.{List, [], _∷_, _++_}
 use mathlib.Core.Option.{some}
@@ -8,13 +8,13 @@ use lib.ListN.{getElem?}
 use lib.Dec.{eqb, eqb→eq}
 use borrow.Author.Tests.{not-false}
 use Rattle.calculus.specs.Syntax.{Dom, Val, Tm}
-use Rattle.calculus.specs.State.{Cell, Advice, Event, Counts, State, charged, celled, stored, labelled, installed, otherThan, cleared, told}
+use Rattle.calculus.specs.State.{Cell, Advice, Event, Uses, State, charged, celled, stored, labelled, installed, otherThan, cleared, told}
 use Rattle.laws.proofs.Lists.{prefix-refl, prefix-append}
 use Rattle.calculus_noninterference.proofs.Clash.{clash}
 use Rattle.calculus_noninterference.proofs.Interleave.{Side, both, left, right, Matched, interleaving-map, append-both, append-left, append-right, set-both, set-left, set-right}
 use Rattle.calculus_noninterference.proofs.Filtered.{filtered-both, filtered-left, filtered-right}
 use Rattle.calculus_noninterference.proofs.Related.{World, Grows, grows-refl, RelV, RelCell, RelAdvice, Cells, Labels, Advices, Events, RelS, cell-mono, advice-mono}
-use Rattle.calculus_noninterference.proofs.Confined.{Under, Effect, e-charge, e-cell, e-store, e-label, e-advice, e-clear, e-event}
+use Rattle.calculus_noninterference.proofs.Confined.{Effect, low-of, e-charge, e-cell, e-store, e-label, e-advice, e-clear, e-event}
 
 -- A world with one more cell, one more label.
 abbrev pub withCell : World → Side → World
@@ -41,28 +41,28 @@ putTrace x s = record { cells = s .cells; labels = s .labels; advices = s .advic
 
 module _ (hi : Dom → Bool) {W : World} {s s′ : State} (R : RelS hi W s s′) where
   -- Other counts; and one field after another replaced on both sides.
-  pub rel-charged : (u u′ : Counts) → RelS hi W (charged u s) (charged u′ s′)
-  rel-charged u u′ = record { cells = R .cells; labels = R .labels; advice-order = R .advice-order; advices = R .advices; event-order = R .event-order; trace = R .trace }
+  pub rel-charged : (u u′ : Uses) → u .mainline ≡ u′ .mainline → RelS hi W (charged u s) (charged u′ s′)
+  rel-charged u u′ e = record { cells = R .cells; labels = R .labels; advice-order = R .advice-order; advices = R .advices; event-order = R .event-order; trace = R .trace; mainline = e }
 
   put-cells : {x y : List (Cell Val)} → Cells hi W (W .cells) x y → RelS hi W (celled x s) (celled y s′)
-  put-cells k = record { cells = k; labels = R .labels; advice-order = R .advice-order; advices = R .advices; event-order = R .event-order; trace = R .trace }
+  put-cells k = record { cells = k; labels = R .labels; advice-order = R .advice-order; advices = R .advices; event-order = R .event-order; trace = R .trace; mainline = R .mainline }
 
   grow-cells : (v : Side) {x y : List (Cell Val)} → (Cells hi (withCell W v) (W .cells) (s .cells) (s′ .cells) → Cells hi (withCell W v) (W .cells ++ (v ∷ [])) x y) → RelS hi (withCell W v) (celled x s) (celled y s′)
-  grow-cells v f = record { cells = f (interleaving-map (cell-mono hi (grows-cell W v)) (R .cells)); labels = R .labels; advice-order = R .advice-order; advices = interleaving-map (advice-mono hi (grows-cell W v)) (R .advices); event-order = R .event-order; trace = R .trace }
+  grow-cells v f = record { cells = f (interleaving-map (cell-mono hi (grows-cell W v)) (R .cells)); labels = R .labels; advice-order = R .advice-order; advices = interleaving-map (advice-mono hi (grows-cell W v)) (R .advices); event-order = R .event-order; trace = R .trace; mainline = R .mainline }
 
   grow-labels : (v : Side) {x y : List Dom} → Labels (W .labels ++ (v ∷ [])) x y → RelS hi (withLabel W v) (putLabels x s) (putLabels y s′)
-  grow-labels v k = record { cells = interleaving-map (cell-mono hi (grows-label W v)) (R .cells); labels = k; advice-order = R .advice-order; advices = interleaving-map (advice-mono hi (grows-label W v)) (R .advices); event-order = R .event-order; trace = R .trace }
+  grow-labels v k = record { cells = interleaving-map (cell-mono hi (grows-label W v)) (R .cells); labels = k; advice-order = R .advice-order; advices = interleaving-map (advice-mono hi (grows-label W v)) (R .advices); event-order = R .event-order; trace = R .trace; mainline = R .mainline }
 
   put-advices : {w : List Side} {x y : List (Advice Tm)} → Advices hi W w x y → RelS hi W (putAdvices x s) (putAdvices y s′)
-  put-advices k = record { cells = R .cells; labels = R .labels; advice-order = _; advices = k; event-order = R .event-order; trace = R .trace }
+  put-advices k = record { cells = R .cells; labels = R .labels; advice-order = _; advices = k; event-order = R .event-order; trace = R .trace; mainline = R .mainline }
 
   put-trace : {w : List Side} {x y : List Event} → Events hi w x y → RelS hi W (putTrace x s) (putTrace y s′)
-  put-trace k = record { cells = R .cells; labels = R .labels; advice-order = R .advice-order; advices = R .advices; event-order = _; trace = k }
+  put-trace k = record { cells = R .cells; labels = R .labels; advice-order = R .advice-order; advices = R .advices; event-order = _; trace = k; mainline = R .mainline }
 
 -- Both runs make, change or say the same.
 module _ (hi : Dom → Bool) {W : World} {s s′ : State} (R : RelS hi W s s′) where
-  pub cell-both : (u u′ : Counts) {a b : Cell Val} → RelCell hi W a b → RelS hi (withCell W both) (celled (s .cells ++ (a ∷ [])) (charged u s)) (celled (s′ .cells ++ (b ∷ [])) (charged u′ s′))
-  cell-both u u′ {a} {b} h = grow-cells hi (rel-charged hi R u u′) both (λ k. append-both k (cell-mono hi (grows-cell W both) a b h))
+  pub cell-both : (u u′ : Uses) → u .mainline ≡ u′ .mainline → {a b : Cell Val} → RelCell hi W a b → RelS hi (withCell W both) (celled (s .cells ++ (a ∷ [])) (charged u s)) (celled (s′ .cells ++ (b ∷ [])) (charged u′ s′))
+  cell-both u u′ e {a} {b} h = grow-cells hi (rel-charged hi R u u′ e) both (λ k. append-both k (cell-mono hi (grows-cell W both) a b h))
 
   pub store-both : {r r′ : ℕ} {a a′ : Cell Val} {v v′ : Val} → Matched (W .cells) r r′ → RelCell hi W a a′ → RelV hi W v v′ → RelS hi W (stored r a v s) (stored r′ a′ v′ s′)
   store-both m c u = put-cells hi R (set-both (R .cells) (record { same-dom = c .same-dom; same-plain = c .same-plain; held = λ h. u }) m)
@@ -76,15 +76,8 @@ module _ (hi : Dom → Bool) {W : World} {s s′ : State} (R : RelS hi W s s′)
   pub clear-both : (p : Dom) → RelS hi W (cleared p s) (cleared p s′)
   clear-both p = put-advices hi R (filtered-both _ _ (otherThan p) (λ a b h. ap (λ q. not (eqb q p)) (h .same-dom)) (R .advices) .1)
 
-  pub event-both : (a : Event) → hi (a .dom) ≡ true → RelS hi W (told a s) (told a s′)
-  event-both a h = put-trace hi R (append-both (R .trace) (record { same = refl; high = h }))
-
-low-of : (hi : Dom → Bool) {p c : Dom} → Under hi p c → hi c ≡ false → hi p ≡ false
-low-of hi {p} u f = pick (hi p) refl
-  where
-    pick : (b : Bool) → hi p ≡ b → hi p ≡ false
-    pick true e = clash (u e) f
-    pick false e = e
+  pub event-both : (a b : Event) → a ≡ b → hi (a .dom) ≡ true → RelS hi W (told a s) (told b s′)
+  event-both a b e h = put-trace hi R (append-both (R .trace) (record { same = e; high = h }))
 
 -- What a takedown of a low domain takes down is low (card 7).
 low-gone : (hi : Dom → Bool) (a : Advice Tm) (p : Dom) → hi p ≡ false → otherThan p a ≡ false → hi (a .dom) ≡ false
@@ -108,20 +101,20 @@ module _ (hi : Dom → Bool) {W : World} {s s′ : State} (R : RelS hi W s s′)
 
   -- The left alone makes a step at a low domain.
   pub effect-left : {c : Dom} {t : State} → hi c ≡ false → Effect hi c s t → Later hi W t s′
-  effect-left f (e-charge {u}) = later (rel-charged hi R u (s′ .used))
-  effect-left f (e-cell {u} a x) = record { world = withCell W left; grows = grows-cell W left; rel = grow-cells hi (rel-charged hi R u (s′ .used)) left (λ k. append-left k (low-of hi x f)) }
+  effect-left f (e-charge {u} y) = later (rel-charged hi R u (s′ .used) (sym (y f) ∙ R .mainline))
+  effect-left f (e-cell {u} y a x) = record { world = withCell W left; grows = grows-cell W left; rel = grow-cells hi (rel-charged hi R u (s′ .used) (sym (y f) ∙ R .mainline)) left (λ k. append-left k (low-of hi x f)) }
   effect-left f (e-store r a v e x) = later (store-left r a v e (low-of hi x f))
   effect-left f (e-label p) = record { world = withLabel W left; grows = grows-label W left; rel = grow-labels hi R left (append-left (R .labels) tt) }
   effect-left f (e-advice a x) = later (put-advices hi R (append-left (R .advices) (low-of hi x f)))
   effect-left f (e-clear p x) = later (put-advices hi R (filtered-left _ _ (otherThan p) (λ a b (h : RelAdvice hi W a b) e. rw (h .same-dom) at (low-gone hi a p (low-of hi x f) e)) (R .advices) .1))
-  effect-left f (e-event {u} a x) = later (put-trace hi (rel-charged hi R u (s′ .used)) (append-left (R .trace) (low-of hi x f)))
+  effect-left f (e-event {u} y a x) = later (put-trace hi (rel-charged hi R u (s′ .used) (sym (y f) ∙ R .mainline)) (append-left (R .trace) (low-of hi x f)))
 
   -- The right alone makes a step at a low domain.
   pub effect-right : {c : Dom} {t : State} → hi c ≡ false → Effect hi c s′ t → Later hi W s t
-  effect-right f (e-charge {u}) = later (rel-charged hi R (s .used) u)
-  effect-right f (e-cell {u} a x) = record { world = withCell W right; grows = grows-cell W right; rel = grow-cells hi (rel-charged hi R (s .used) u) right (λ k. append-right k (low-of hi x f)) }
+  effect-right f (e-charge {u} y) = later (rel-charged hi R (s .used) u (R .mainline ∙ y f))
+  effect-right f (e-cell {u} y a x) = record { world = withCell W right; grows = grows-cell W right; rel = grow-cells hi (rel-charged hi R (s .used) u (R .mainline ∙ y f)) right (λ k. append-right k (low-of hi x f)) }
   effect-right f (e-store r b v e x) = later (store-right r b v e (low-of hi x f))
   effect-right f (e-label p) = record { world = withLabel W right; grows = grows-label W right; rel = grow-labels hi R right (append-right (R .labels) tt) }
   effect-right f (e-advice a x) = later (put-advices hi R (append-right (R .advices) (low-of hi x f)))
   effect-right f (e-clear p x) = later (put-advices hi R (filtered-right _ _ (otherThan p) (λ a b h e. rw (h .same-dom) (low-gone hi b p (low-of hi x f) e)) (R .advices) .1))
-  effect-right f (e-event {u} a x) = later (put-trace hi (rel-charged hi R (s .used) u) (append-right (R .trace) (low-of hi x f)))
+  effect-right f (e-event {u} y a x) = later (put-trace hi (rel-charged hi R (s .used) u (R .mainline ∙ y f)) (append-right (R .trace) (low-of hi x f)))

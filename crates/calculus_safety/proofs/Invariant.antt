@@ -8,13 +8,19 @@ use lib.Dec.{T, leb}
 use Rattle.calculus.specs.declared.Outcome.{Outcome}
 use Rattle.calculus.specs.Limits.{bindingLimit, cellLimit, pieceLimit}
 use Rattle.calculus.specs.Combinators.{cases}
-use Rattle.calculus.specs.Syntax.{Ty, Val, Tm, Tms, Pattern, Op0, Op1, Op2, asValue, val, var, lam, op0, op1, op2, seq, ite, split, pcd, adv, lower, obj, keep, match, end, more}
-use Rattle.calculus.specs.State.{State, Given, Counts, addCounts, charged}
+use Rattle.calculus.specs.Syntax.{Dom, Ty, Val, Tm, Tms, Pattern, Op0, Op1, Op2, asValue, val, var, lam, op0, op1, op2, seq, ite, split, pcd, adv, lower, obj, keep, match, end, more}
+use Rattle.calculus.specs.State.{State, Given, Counts, Uses, addUses, charged}
 use Rattle.calculus.specs.Answer.{Answer, go, full, halt, wrong, carry, within, if-room, with, spend}
 use Rattle.calculus.specs.Place.{Place, top, at, deeper, keeping}
 use Rattle.calculus.specs.Reduce.{reduce0, reduce1, reduce2, piece, bind, reduceMatch}
 use Rattle.calculus.specs.Step.{step, stepFirst}
 use Rattle.calculus.specs.Run.{after, run}
+
+-- What is left of a half of which u is used covers n (card 9).
+pub record Covers (n u : Counts) : Type 0 where
+  pub bindings : T (leb (n .bindings) (bindingLimit - u .bindings))
+  pub cells : T (leb (n .cells) (cellLimit - u .cells))
+  pub pieces : T (leb (n .pieces) (pieceLimit - u .pieces))
 
 module _ (Q : State → Type 0) where
   -- The state that an answer has, if it has one, has the property Q.
@@ -47,17 +53,19 @@ module _ (Q : State → Type 0) where
   makes-cases (some x) k r f g = f x
 
   -- A step that uses n has room for it.
-  pub makes-spend : (n : Counts) (s : State) (k : State → Answer State Tm)
-      → (T (leb (n .bindings) (bindingLimit - s .used .bindings)) → T (leb (n .cells) (cellLimit - s .used .cells)) → T (leb (n .pieces) (pieceLimit - s .used .pieces)) → Makes (k (charged (addCounts (s .used) n) s)))
+  pub makes-spend : (n : Uses) (s : State) (k : State → Answer State Tm)
+      → (Covers (n .mainline) (s .used .mainline) → Covers (n .others) (s .used .others) → Makes (k (charged (addUses (s .used) n) s)))
       → Makes (spend n s k)
   unfolding spend
-  makes-spend n s k f = makes-room _ _ (λ b. makes-room _ _ (λ c. makes-room _ _ (λ p. f b c p)))
+  makes-spend n s k f =
+      makes-room _ _ (λ b. makes-room _ _ (λ c. makes-room _ _ (λ p. makes-room _ _ (λ b′. makes-room _ _ (λ c′. makes-room _ _
+      (λ p′. f (record { bindings = b; cells = c; pieces = p }) (record { bindings = b′; cells = c′; pieces = p′ })))))))
 
 -- The reductions of the state s make only states with the property Q.
 pub record Reduces (G : Given) (Q : State → Type 0) (s : State) : Type 0 where
   pub stays : Q s
-  pub binds : (n : ℕ) (e : Tm) → Makes Q (bind n s e)
-  pub pieces : (e : Tm) → Makes Q (piece s e)
+  pub binds : (c : Dom) (n : ℕ) (e : Tm) → Makes Q (bind c n s e)
+  pub pieces : (c : Dom) (e : Tm) → Makes Q (piece c s e)
   pub matches : (P : Place) (p : Pattern) (f g : Tm) (vs : List Val) → Makes Q (reduceMatch P s p f g vs)
   pub reduces0 : (P : Place) (o : Op0) (t : Ty) → Makes Q (reduce0 G P s o t)
   pub reduces1 : (P : Place) (o : Op1) (t : Ty) (v : Val) → Makes Q (reduce1 G P s o t v)
@@ -82,9 +90,9 @@ module _ {G : Given} {Q : State → Type 0} {s : State} (R : Reduces G Q s) wher
         (makes-within Q _ (step-makes e (deeper P)))
     step-makes (seq e f) = λ P. makes-cases Q _ _ _ (λ v. makes-room Q _ _ (λ b. makes-with Q _ _ (λ u. makes-go (R .stays)))) (makes-within Q _ (step-makes e (deeper P)))
     step-makes (ite e f g) = λ P. makes-cases Q _ _ _ (λ v. makes-room Q _ _ (λ b. makes-with Q _ _ (λ u. makes-go (R .stays)))) (makes-within Q _ (step-makes e (deeper P)))
-    step-makes (split e f) = λ P. makes-cases Q _ _ _ (λ v. makes-room Q _ _ (λ b. makes-with Q _ _ (λ u. R .binds 2 _))) (makes-within Q _ (step-makes e (deeper P)))
-    step-makes (pcd es) = λ P. steps-first es P [] pcd _ (λ ws. makes-with Q _ _ (λ ls. R .pieces _))
-    step-makes (adv p e b) = λ P. makes-cases Q _ _ _ (λ v. makes-room Q _ _ (λ b′. makes-with Q _ _ (λ ls. R .pieces _))) (makes-within Q _ (step-makes e (deeper P)))
+    step-makes (split e f) = λ P. makes-cases Q _ _ _ (λ v. makes-room Q _ _ (λ b. makes-with Q _ _ (λ u. R .binds (P .dom) 2 _))) (makes-within Q _ (step-makes e (deeper P)))
+    step-makes (pcd es) = λ P. steps-first es P [] pcd _ (λ ws. makes-with Q _ _ (λ ls. R .pieces (P .dom) _))
+    step-makes (adv p e b) = λ P. makes-cases Q _ _ _ (λ v. makes-room Q _ _ (λ b′. makes-with Q _ _ (λ ls. R .pieces (P .dom) _))) (makes-within Q _ (step-makes e (deeper P)))
     step-makes (lower p e) = λ P. makes-cases Q _ _ _ (λ v. makes-room Q _ _ (λ b. makes-with Q _ _ (λ u. makes-go (R .stays)))) (makes-within Q _ (step-makes e (at p (deeper P))))
     step-makes (obj t bs) = λ P. makes-wrong
     step-makes (keep e f g) =

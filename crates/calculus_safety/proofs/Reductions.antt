@@ -150,21 +150,21 @@ module _ (D : Policy) {Σ : StoreTyping} {c : Dom} (s : State) (fits : StateFits
       branch true = safe-here D s fits k
       branch false = safe-here D s fits l
 
-  pub safe-split : {t a b : Ty} {f : Tm} {v : Val} → ValTy D Σ v (Ty.pair a b) → TmTy D Σ (b ∷ a ∷ []) c f t → Safe D Σ c t (reduceSplit s f v)
+  pub safe-split : (P : Place) {t a b : Ty} {f : Tm} {v : Val} → ValTy D Σ v (Ty.pair a b) → TmTy D Σ (b ∷ a ∷ []) c f t → Safe D Σ c t (reduceSplit P s f v)
   unfolding with
-  safe-split (ValTy.v-pair h h′) k = safe-spend D _ s _ (safe-here D _ fits (subst-tm D h′ (subst-tm D h k (there here)) here))
+  safe-split P (ValTy.v-pair h h′) k = safe-spend D _ s _ (safe-here D _ fits (subst-tm D h′ (subst-tm D h k (there here)) here))
 
-  pub safe-adv : {p q : Dom} {a : Ty} {b : Tm} {v : Val} → ValTy D Σ v (Ty.pcd a q) → D .leq p q ≡ true → TmTy D Σ (a ∷ []) p b Ty.unit → Safe D Σ c (Ty.adv p) (reduceAdv s p b v)
+  pub safe-adv : (P : Place) {p q : Dom} {a : Ty} {b : Tm} {v : Val} → ValTy D Σ v (Ty.pcd a q) → D .leq p q ≡ true → TmTy D Σ (a ∷ []) p b Ty.unit → Safe D Σ c (Ty.adv p) (reduceAdv P s p b v)
   unfolding with
-  safe-adv (ValTy.v-labels h) o k = safe-spend D _ s _ (here-val _ fits (ValTy.v-advice h o k))
+  safe-adv P (ValTy.v-labels h) o k = safe-spend D _ s _ (here-val _ fits (ValTy.v-advice h o k))
 
   pub safe-lower : {v : Val} → ValTy D Σ v Ty.unit → Safe D Σ c Ty.unit (reduceLower s v)
   unfolding with
   safe-lower ValTy.v-unit = here-val _ fits ValTy.v-unit
 
-  pub safe-pcd : {a : Ty} {p : Dom} {vs : List Val} {ts : List Ty} → All2 (ValTy D Σ) vs ts → LabelTys D a p ts → Safe D Σ c (Ty.pcd a p) (reducePcd s vs)
+  pub safe-pcd : (P : Place) {a : Ty} {p : Dom} {vs : List Val} {ts : List Ty} → All2 (ValTy D Σ) vs ts → LabelTys D a p ts → Safe D Σ c (Ty.pcd a p) (reducePcd P s vs)
   unfolding with
-  safe-pcd hs os =
+  safe-pcd P hs os =
       let m = collect-labels D hs os LabelsOf.no-labels in
       rw (m .1) (safe-spend D _ s _ (here-val _ fits (ValTy.v-labels (m .2))))
 

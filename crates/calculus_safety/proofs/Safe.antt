@@ -7,7 +7,7 @@ use lib.Dec.{T, ltb}
 use Rattle.calculus.specs.declared.Outcome.{Outcome}
 use Rattle.calculus.specs.Combinators.{cases}
 use Rattle.calculus.specs.Syntax.{Dom, Ty, Tm}
-use Rattle.calculus.specs.State.{State, Counts, addCounts, charged}
+use Rattle.calculus.specs.State.{State, Uses, addUses, charged}
 use Rattle.calculus.specs.Answer.{Answer, go, full, halt, carry, within, if-room, spend}
 use Rattle.calculus.specs.Report.{outcomeNumber}
 use Rattle.calculus.specs.Typing.{StoreTyping, Policy, TmTy}
@@ -40,9 +40,9 @@ module _ (D : Policy) where
     safe-room true o m h = h
     safe-room false o m h = safe-full m
 
-    pub safe-spend : (n : Counts) (s : State) (k : State → Answer State Tm) → Safe Σ c t (k (charged (addCounts (s .used) n) s)) → Safe Σ c t (spend n s k)
+    pub safe-spend : (n : Uses) (s : State) (k : State → Answer State Tm) → Safe Σ c t (k (charged (addUses (s .used) n) s)) → Safe Σ c t (spend n s k)
     unfolding spend
-    safe-spend n s k h = safe-room _ _ tt (safe-room _ _ tt (safe-room _ _ tt h))
+    safe-spend n s k h = safe-room _ _ tt (safe-room _ _ tt (safe-room _ _ tt (safe-room _ _ tt (safe-room _ _ tt (safe-room _ _ tt h)))))
 
     pub safe-within : {c′ : Dom} {t′ : Ty} (k : Tm → Tm) {r : Answer State Tm} → ((Σ′ : StoreTyping) → Extends Σ Σ′ → (e : Tm) → TmTy D Σ′ [] c e t → TmTy D Σ′ [] c′ (k e) t′) → Safe Σ c t r → Safe Σ c′ t′ (within k r)
     unfolding carry

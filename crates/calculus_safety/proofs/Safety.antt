@@ -63,18 +63,18 @@ module _ (D : Policy) (Σ : StoreTyping) where
           λ n P q s f. safe-cases D _ _ (as-value D Σ (close nil h))
           (λ v hv. safe-room D _ _ tt (safe-ite D s f hv (close nil k) (close nil l)))
           (λ e. safe-within D _ (λ Σ′ x e′ h′. TmTy.is-ite h′ (grow-tm D x (close nil k)) (grow-tm D x (close nil l))) (safe h nil e (deeper P) q s f))
-      safe (TmTy.is-split h k) nil =
+      safe (TmTy.is-split {c} h k) nil =
           λ n P q s f. safe-cases D _ _ (as-value D Σ (close nil h))
-          (λ v hv. safe-room D _ _ tt (safe-split D s f hv (rw nil at k)))
+          (λ v hv. safe-room D _ _ tt (safe-split D s f (at c P) hv (rw nil at k)))
           (λ e. safe-within D _ (λ Σ′ x e′ h′. TmTy.is-split h′ (grow-tm D x (rw nil at k))) (safe h nil e (deeper P) q s f))
-      safe (TmTy.is-pcd h o) nil =
+      safe (TmTy.is-pcd {c} h o) nil =
           λ n P q s f. safes h nil _ P q s f [] [] all2-nil pcd
           (λ Σ′ x fs hs. TmTy.is-pcd hs o)
           _
-          (λ ws xs hs e. safe-pcd D s f hs (labels-back xs (rw e at o) .0))
-      safe (TmTy.is-adv h o b) nil =
+          (λ ws xs hs e. safe-pcd D s f (at c P) hs (labels-back xs (rw e at o) .0))
+      safe (TmTy.is-adv {c} h o b) nil =
           λ n P q s f. safe-cases D _ _ (as-value D Σ (close nil h))
-          (λ v hv. safe-room D _ _ tt (safe-adv D s f hv o (rw nil at b)))
+          (λ v hv. safe-room D _ _ tt (safe-adv D s f (at c P) hv o (rw nil at b)))
           (λ e. safe-within D _ (λ Σ′ x e′ h′. TmTy.is-adv h′ o (grow-tm D x (rw nil at b))) (safe h nil e (deeper P) q s f))
       safe (TmTy.is-lower o h) nil =
           λ n P q s f. safe-cases D _ _ (as-value D Σ (close nil h))
@@ -89,11 +89,11 @@ module _ (D : Policy) (Σ : StoreTyping) where
           (λ e. safe-within D _ (λ Σ′ x e′ l′. TmTy.is-keep (TmTy.is-val (grow-val D x hv)) (TmTy.is-val (grow-val D x hw)) l′) (safe l nil e (keeping v w (deeper P)) (keeping-fits D (deeper P) hv hw q) s f)))
           (λ e. safe-within D _ (λ Σ′ x e′ k′. TmTy.is-keep (TmTy.is-val (grow-val D x hv)) k′ (grow-tm D x (close nil l))) (safe k nil e (deeper P) q s f)))
           (λ e. safe-within D _ (λ Σ′ x e′ h′. TmTy.is-keep h′ (grow-tm D x (close nil k)) (grow-tm D x (close nil l))) (safe h nil e (deeper P) q s f))
-      safe (TmTy.is-match h p k l) nil =
+      safe (TmTy.is-match {c} h p k l) nil =
           λ n P q s f. safes h nil _ P q s f [] [] all2-nil _
           (λ Σ′ x fs hs. TmTy.is-match hs p (grow-tm D x (rw nil at k)) (grow-tm D x (close nil l)))
           _
-          (λ ws xs hs e. safe-match D s f (at _ P) ws (rw (← e) at (all2-reverse hs)) p (rw nil at k) (close nil l))
+          (λ ws xs hs e. safe-match D s f (at c P) ws (rw (← e) at (all2-reverse hs)) p (rw nil at k) (close nil l))
 
       pub safes : {Γ ts : List Ty} {c : Dom} {es : Tms} → TmsTy D Σ Γ c es ts → Γ ≡ [] → StepsFirst c es ts
       safes TmsTy.is-end nil = λ t P q s f vs us hs k hk r hr. safe-room D _ _ tt (hr vs us hs refl)

@@ -6,7 +6,7 @@ use mathlib.Core.List.{[], _∷_}
 use Rattle.calculus.specs.declared.Outcome.{Outcome}
 use Rattle.calculus.specs.Combinators.{cases}
 use Rattle.calculus.specs.Syntax.{Ty, Val, Tm, Op2, anything, pointcut, atEnd, val, var, op0, op1, op2, split, lower, keep, match, end, more, theStack, print, minus}
-use Rattle.calculus.specs.State.{picked, prints, turns, logOf, fresh}
+use Rattle.calculus.specs.State.{picked, prints, turns, logOf, fresh, noCounts}
 use Rattle.calculus.specs.Answer.{if-room, with, spend}
 use Rattle.calculus.specs.Run.{EndedOf, done, stopped, after}
 use Rattle.calculus.proofs.Examples.{nest, called}
@@ -44,6 +44,6 @@ calls = refl
 -- Card 6: of the keeps of 5 and, inside it, of 3 under label 0, an entry that binds nothing and a pointcut bind the outer one, through a lower.
 outer-kept : ran 10 (keep (val (Val.label 0)) (val (Val.num 5)) (keep (val (Val.label 0)) (val (Val.num 3)) (lower 1
     (match (anything (pointcut atEnd)) (more (op0 theStack Ty.stack) (more (val (Val.labels (0 ∷ []))) end)) (op1 print Ty.unit (var 0)) (val Val.unit))))) .state .trace
-    ≡ record { dom = 1; said = turns true } ∷ record { dom = 1; said = prints 5 } ∷ []
+    ≡ record { dom = 1; said = turns true } ∷ record { dom = 1; said = prints 5 noCounts } ∷ []
 unfolding mrun after settle work closed plainVal cases if-room with spend picked
 outer-kept = refl

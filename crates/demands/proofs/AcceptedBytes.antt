@@ -88,7 +88,7 @@ module _ (D : Policy) (trans : Transitive D) (G : Given) (n : ℕ) where
       let E : Ended = run n G 0 fresh e in
       let w = program-within G n e in
       let m = length-map (E .state .cells) (cellReport leaves) in
-      let c : length (report E .cells) ≤ cellLimit = omega (arith, w .counted, w .cells) in
+      let c : length (report E .cells) ≤ cellLimit + cellLimit = omega (arith, w .counted, w .mainline .cells, w .others .cells) in
       report-short _ _ (report E .result) (program-result-few A) c (program-cells-few (A .typed))
 
 pub program-log-short : (G : Given) (n : ℕ) (e : Tm) → length (writtenLog (run n G 0 fresh e)) ≤ G .logLength

@@ -7,6 +7,7 @@ use mathlib.Core.List.{List}
 use Rattle.calculus.specs.Syntax.{Dom}
 use Rattle.calculus.specs.Typing.{Policy}
 use Rattle.calculus.specs.Accepted.{Accepted}
+use Rattle.calculus.specs.Blank.{blank}
 use Rattle.image.specs.Layout.{recordsOf}
 use Rattle.image.specs.Program.{toTm, blanked}
 use Rattle.image.proofs.Blanked.{same-but-low}
@@ -60,9 +61,16 @@ module _ (high : Dom → Bool) (b b′ : List ℕ) (A : Accepts b) (A′ : Accep
       demand3 (policy (recordsOf b)) high (transitive b A) highs (toTm (programOf b)) (toTm (programOf b′)) (typed b A) right-typed
       (same-but-low high (programOf b) (programOf b′) (C .programs)) (givenBy frame log) (givenBy frame log′) refl budget budget′
 
+  alike-by-field : blank (byField high) (toTm (programOf b)) ≡ blank (byField high) (toTm (programOf b′))
+  alike-by-field = same-but-low (byField high) (programOf b) (programOf b′) (program-by-field high b A ∙ (C .programs ∙ sym (program-by-field high b′ A′)))
+
+  -- The same of the domains as their 2 bytes have them.
+  pub demand3-by-field : (frame : List ℕ) (budget budget′ : ℕ) (log log′ : List ℕ) → Same (byField high) (runOf b frame budget log) (runOf b′ frame budget′ log′)
+  demand3-by-field frame budget budget′ log log′ =
+      demand3 (policy (recordsOf b)) (byField high) (transitive b A) highs-by-field (toTm (programOf b)) (toTm (programOf b′)) (typed b A) right-typed alike-by-field (givenBy frame log) (givenBy frame log′) refl budget budget′
+
   pub demand3-written : (frame : List ℕ) (budget budget′ : ℕ) (log log′ : List ℕ)
       → SameBytes high (writtenLog (runOf b frame budget log)) (writtenLog (runOf b′ frame budget′ log′)) (writtenReport (runOf b frame budget log)) (writtenReport (runOf b′ frame budget′ log′))
   demand3-written frame budget budget′ log log′ =
-      demand3-bytes (policy (recordsOf b)) high (transitive b A) highs-by-field (toTm (programOf b)) (toTm (programOf b′)) (typed b A) right-typed
-      (same-but-low (byField high) (programOf b) (programOf b′) (program-by-field high b A ∙ (C .programs ∙ sym (program-by-field high b′ A′))))
+      demand3-bytes (policy (recordsOf b)) high (transitive b A) highs-by-field (toTm (programOf b)) (toTm (programOf b′)) (typed b A) right-typed alike-by-field
       (givenBy frame log) (givenBy frame log′) refl budget budget′

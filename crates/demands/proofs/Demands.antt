@@ -34,7 +34,7 @@ use Rattle.demands.specs.Compare.{Demand3}
 use Rattle.calls.proofs.Slots.{leaves-back}
 use Rattle.calls.proofs.Called.{refused-leaves, accepted-leaves}
 use Rattle.calls.proofs.Accepted.{transitive, typed}
-use Rattle.demands.proofs.Outcomes.{one-of-ten}
+use Rattle.demands.proofs.Outcomes.{one-outcome}
 use Rattle.demands.proofs.Compare.{demand3-written}
 use Rattle.demands.proofs.Steps.{steps-within, spent-steps}
 use Rattle.demands.proofs.Written.{outcome-fits, take-front, drop-front, length-front, cleared-zero, cleared-past, length-cleared}
@@ -44,14 +44,14 @@ pub accepts : (b report work : List ℕ) → Runs b report work → Accepts b
 accepts b report work h = record { work = length work; report = length report; verdict-is = h }
 
 module _ (b frame : List ℕ) (budget : ℕ) (log report work : List ℕ) where
-  -- Demand 1, of a call that runs: it ends with one of document 01's ten outcomes, log and report hold exactly the listed records, and nothing else changes but the work area, which is cleared (specs/Calls.antt).
+  -- Demand 1, of a call that runs: it ends with one of document 01's outcomes, log and report hold exactly the listed records, and nothing else changes but the work area, which is cleared (specs/Calls.antt).
   pub demand1 : Runs b report work → RunsOut (runOf b frame budget log) budget log report work (called b frame budget log report work)
   demand1 h =
       let A = accepts b report work h in
       let E : Ended = runOf b frame budget log in
       let G : Given = givenBy frame log in
       let D : Policy = policy (recordsOf b) in
-      let one = one-of-ten b A frame budget log in
+      let one = one-outcome b A frame budget log in
       let ok = accepted-iff b (length work) (length report) .0 h in
       let log-short : length (writtenLog E) ≤ length log = program-log-short G budget (toTm (programOf b)) in
       let report-short : length (writtenReport E) ≤ reportLength = program-report-short D (transitive b A) G budget (typed b A) in

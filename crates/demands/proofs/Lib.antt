@@ -12,10 +12,12 @@ pub mod LowMethods
 pub mod LowTakedowns
 pub mod Unpaid
 pub mod Branches
+pub mod MainlineRoom
 pub mod NewestFirst
 pub mod UnpaidExample
 pub mod Sheet
 pub mod Mainline
 pub mod Example
 pub mod TakedownExample
+pub mod RoomExample
 pub mod NewestFirstExample

@@ -11,6 +11,6 @@ use Rattle.calculus_safety.proofs.Runs.{reports-outcome}
 use Rattle.calls.specs.Runs.{Accepts, givenBy, runOf}
 use Rattle.calls.proofs.Accepted.{transitive, typed}
 
--- The outcome is one of document 01's ten.
-pub one-of-ten : (b : List ℕ) → Accepts b → (frame : List ℕ) (budget : ℕ) (log : List ℕ) → (o : Outcome) × (report (runOf b frame budget log) .outcome ≡ some o)
-one-of-ten b A frame budget log = reports-outcome (policy (recordsOf b)) (transitive b A) (givenBy frame log) (typed b A .typed) budget
+-- The outcome is one of document 01's ten or of card 9's three.
+pub one-outcome : (b : List ℕ) → Accepts b → (frame : List ℕ) (budget : ℕ) (log : List ℕ) → (o : Outcome) × (report (runOf b frame budget log) .outcome ≡ some o)
+one-outcome b A frame budget log = reports-outcome (policy (recordsOf b)) (transitive b A) (givenBy frame log) (typed b A .typed) budget

@@ -40,7 +40,7 @@ cut-map f x y e =
     ap (λ n. take n (map f x)) (length-map y f) ∙ take-map f (length y) x ∙ ap (map f) e ∙ sym (take-map f (length x) y) ∙ ap (λ n. take n (map f y)) (sym (length-map x f))
 
 -- Outcome 0 is done.
-done-number : (o : Option Outcome) → reportedNumber o % shortSize ≡ 0 → o ≡ some Outcome.Done
+pub done-number : (o : Option Outcome) → reportedNumber o % shortSize ≡ 0 → o ≡ some Outcome.Done
 done-number none e = absurd (omega arith)
 done-number (some Outcome.Done) e = refl
 done-number (some Outcome.Spent) e = absurd (omega arith)
@@ -52,10 +52,13 @@ done-number (some Outcome.Labels) e = absurd (omega arith)
 done-number (some Outcome.Advice) e = absurd (omega arith)
 done-number (some Outcome.Pieces) e = absurd (omega arith)
 done-number (some Outcome.Log) e = absurd (omega arith)
+done-number (some Outcome.OtherBindings) e = absurd (omega arith)
+done-number (some Outcome.OtherCells) e = absurd (omega arith)
+done-number (some Outcome.OtherPieces) e = absurd (omega arith)
 
 -- What is read back from the bytes that a run wrote.
 module _ (hi : Dom → Bool) (E : Ended) where
-  prints-read : highPrintsIn hi (writtenLog E) ≡ map narrowPrint (highPrints (byField hi) E)
+  pub prints-read : highPrintsIn hi (writtenLog E) ≡ map narrowPrint (highPrints (byField hi) E)
   prints-read = ap (highOf hi (λ a. a .dom)) (log-read (logOf (E .state .trace))) ∙ high-map hi (λ a. a .dom) narrowPrint (λ a. refl) (logOf (E .state .trace))
 
   module _ (few : CellsFew E) where

@@ -9,7 +9,7 @@ use lib.ListN.{length}
 use Rattle.calculus.specs.declared.Outcome.{Outcome}
 use Rattle.calculus.specs.declared.Leaf.{Leaf}
 use Rattle.calculus.specs.Combinators.{cases}
-use Rattle.calculus.specs.State.{Counts, picked, noCounts}
+use Rattle.calculus.specs.State.{Counts, Uses, picked, noCounts}
 use Rattle.calculus.specs.Subst.{subst}
 use Rattle.calculus.specs.Answer.{carry, if-room, with, spend}
 use Rattle.calculus.specs.Step.{step}
@@ -47,7 +47,7 @@ pub record Says : Type 0 where
   pub answer : Answer
   pub log : List ℕ
   pub report : List ℕ
-  pub used : Option Counts
+  pub used : Option Uses
   pub listing : List ℕ
 
 -- A case of the sheet: an image, a budget, and what the sheet says of the call.
@@ -56,7 +56,7 @@ pub record Case : Type 0 where
   pub budget : ℕ
   pub says : Says
 
-abbrev usedBy : Verdict → Ended → Option Counts
+abbrev usedBy : Verdict → Ended → Option Uses
 usedBy Verdict.Accepted E = some (E .state .used)
 usedBy (Verdict.Refused r place) E = none
 
@@ -66,7 +66,7 @@ saysOf X E = record { refused = refusalOf (X .answer .verdict); answer = X .answ
 unfoldable pub said : Case → Says
 said c = saysOf (sheetCall (c .image) (c .budget)) (runOf (c .image) sheetFrame (c .budget) (zeros sheetLogLength))
 
--- A call that is refused, and one that runs.
+-- A call that is refused; and one that runs, and uses only domain 0's halves.
 abbrev refuses : List ℕ → Refusal → ℕ → ℕ → String → Case
 refuses b r n place text = record { image = b; budget = sheetBudget; says = record { refused = some (n, place); answer = refusedAnswer r place; log = []; report = []; used = none; listing = ascii text } }
 
@@ -81,7 +81,7 @@ ends b budget o steps ls log report used text =
             answer = record { verdict = Verdict.Accepted; ending = Ending.Ended o; steps = steps; log = length log; report = length report; count = length ls; leaves = slotsOf ls };
             log = log;
             report = report;
-            used = some used;
+            used = some (record { mainline = used; others = noCounts });
             listing = ascii text;
           };
     }

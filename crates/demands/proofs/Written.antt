@@ -23,6 +23,9 @@ outcome-fits Outcome.Labels = refl
 outcome-fits Outcome.Advice = refl
 outcome-fits Outcome.Pieces = refl
 outcome-fits Outcome.Log = refl
+outcome-fits Outcome.OtherBindings = refl
+outcome-fits Outcome.OtherCells = refl
+outcome-fits Outcome.OtherPieces = refl
 
 -- Bytes written at the front.
 pub take-front : (bs xs : List ℕ) → take (length bs) (over 0 bs xs) ≡ bs

@@ -30,7 +30,7 @@ reportWritten X = take (X .answer .report) (X .report)
 
 -- Of a call that runs: E is the calculus's run of the image's program, and X what the call answers and leaves.
 pub record RunsOut (E : Ended) (budget : ℕ) (log report work : List ℕ) (X : Left) : Type 0 where
-  -- one of the ten outcomes: the run's, and the call's
+  -- one of document 01's outcomes, with card 9's: the run's, and the call's
   pub outcome : Outcome
   pub outcome-is : reported E .outcome ≡ some outcome
   pub answered : X .answer .ending ≡ Ending.Ended outcome

@@ -7,4 +7,5 @@ pub mod LowMethods
 pub mod LowTakedowns
 pub mod Unpaid
 pub mod Branches
+pub mod MainlineRoom
 pub mod NewestFirst

@@ -20,6 +20,7 @@ use Rattle.base_bytes.proofs.Memory.{length-words, length-beside}
 use Rattle.vm_code.specs.Words.{home}
 use Rattle.vm_code.specs.Code.{codeOf, rootTarget}
 use Rattle.vm_machine.specs.declared.Regs.{Regs}
+use Rattle.vm_machine.specs.Pools.{whole}
 use Rattle.vm_machine.specs.Memory.{Memory}
 use Rattle.vm_machine.specs.States.{State}
 use Rattle.vm_machine.specs.Run.{startState, turnsFor, vmRun}
@@ -82,7 +83,7 @@ module _ (b frame : List ℕ) (A : Accepts b) (bytes : AreBytes b) (budget : ℕ
   leaves-run = rw (same, root) (image-leaves b A bytes frame budget log M words beside)
 
   -- What the report asks of the registers.
-  pub report-asks : (q : Regs) → q ≡ S .regs → (q .pools .cells ≤ 256) × (q .rest ≤ budget)
+  pub report-asks : (q : Regs) → q ≡ S .regs → (whole (q .pools .cells) ≤ 256) × (q .rest ≤ budget)
   report-asks q e = rw e (leaves-run .cells, leaves-run .rest)
 
   pub run-left : (work′ work″ log′ report report′ : List ℕ) (q : Regs) (a : Answer) → Moved S work work′ log′ q → a ≡ answerIn (memoryOf work′) q budget

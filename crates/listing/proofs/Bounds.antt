@@ -195,7 +195,7 @@ cell-short r h = look (eqb (r .kind) 68) (eqb (r .kind) 69)
     look false false = omega arith
 
 -- How a run ended.
-word-short : (o : Outcome) → length (ascii (outcomeWord o)) ≤ 8
+word-short : (o : Outcome) → length (ascii (outcomeWord o)) ≤ 14
 word-short Outcome.Done = omega arith
 word-short Outcome.Spent = omega arith
 word-short Outcome.Aborted = omega arith
@@ -206,8 +206,11 @@ word-short Outcome.Labels = omega arith
 word-short Outcome.Advice = omega arith
 word-short Outcome.Pieces = omega arith
 word-short Outcome.Log = omega arith
+word-short Outcome.OtherBindings = omega arith
+word-short Outcome.OtherCells = omega arith
+word-short Outcome.OtherPieces = omega arith
 
-outcome-short : (o : Outcome) (steps : ℕ) → steps < wordSize → length (outcomeLine o steps) ≤ 20
+outcome-short : (o : Outcome) (steps : ℕ) → steps < wordSize → length (outcomeLine o steps) ≤ 26
 outcome-short o steps h =
     let w = word-short o in
     let d = word-decimal steps (omega arith) in
@@ -226,7 +229,7 @@ result-short o b h = look (eqb (outcomeNumber o) 0)
         omega arith
     look false = omega arith
 
-ending-short : (x : Ending) (steps : ℕ) (b : List ℕ) → steps < wordSize → Bytes b → length (endingLines x steps (readReport b .result)) ≤ 3 * length b + 26
+ending-short : (x : Ending) (steps : ℕ) (b : List ℕ) → steps < wordSize → Bytes b → length (endingLines x steps (readReport b .result)) ≤ 3 * length b + 32
 ending-short Ending.NoOutcome steps b h k = omega arith
 ending-short (Ending.Ended o) steps b h k =
     let a = outcome-short o steps h in

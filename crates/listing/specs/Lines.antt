@@ -42,6 +42,10 @@ outcomeWord Outcome.Labels = "labels"
 outcomeWord Outcome.Advice = "advice"
 outcomeWord Outcome.Pieces = "pieces"
 outcomeWord Outcome.Log = "log"
+-- card 9
+outcomeWord Outcome.OtherBindings = "other-bindings"
+outcomeWord Outcome.OtherCells = "other-cells"
+outcomeWord Outcome.OtherPieces = "other-pieces"
 
 abbrev pub outcomeLine : Outcome → ℕ → List ℕ
 outcomeLine o steps = ascii (outcomeWord o) ++ ascii " " ++ decimal steps ++ ascii "\n"

@@ -26,6 +26,9 @@ fn put_word(out: &mut [u8], at: usize, o: Outcome) -> usize
         Outcome::Advice => put(out, at, b"advice"),
         Outcome::Pieces => put(out, at, b"pieces"),
         Outcome::Log => put(out, at, b"log"),
+        Outcome::OtherBindings => put(out, at, b"other-bindings"),
+        Outcome::OtherCells => put(out, at, b"other-cells"),
+        Outcome::OtherPieces => put(out, at, b"other-pieces"),
     }
 }
 

@@ -88,8 +88,11 @@ length-parts o k ls cs =
     let m = length-append (headBytes o k) (leavesBytes ls) in
     omega arith
 
--- No report is longer than 17,994 bytes.
-pub report-short : (o k : ℕ) (ls : List Leaf) {cs : List CellReport} → length ls ≤ leafLimit → length cs ≤ cellLimit → All (λ c. FewLeaves (c .held)) cs → length (reportBytes o k ls cs) ≤ 17994
+-- No report is longer than 17,994 bytes: cells are of both halves (card 9).
+abbrev pub mostCells : ℕ
+mostCells = cellLimit + cellLimit
+
+pub report-short : (o k : ℕ) (ls : List Leaf) {cs : List CellReport} → length ls ≤ leafLimit → length cs ≤ mostCells → All (λ c. FewLeaves (c .held)) cs → length (reportBytes o k ls cs) ≤ 17994
 report-short o k ls {cs} l m f =
     let n = length-parts o k ls cs in
     let a = leaves-short ls in
@@ -115,9 +118,9 @@ eightNumbers n = replicate leafLimit (Leaf.Number n)
 abbrev fullCell : Dom → ℕ → CellReport
 fullCell d n = record { dom = d; held = some (eightNumbers n) }
 
-pub longest-report : (o k n d : ℕ) → length (reportBytes o k (eightNumbers n) (replicate cellLimit (fullCell d n))) ≡ 17994
+pub longest-report : (o k n d : ℕ) → length (reportBytes o k (eightNumbers n) (replicate mostCells (fullCell d n))) ≡ 17994
 unfolding bytesOf recordsBytes
 longest-report o k n d =
-    let a = length-parts o k (eightNumbers n) (replicate cellLimit (fullCell d n)) in
-    let b : length (cellsBytes (replicate cellLimit (fullCell d n))) ≡ cellLimit * 70 = ap (λ x. length (recordsBytes x)) (map-repeated cellRecord cellLimit (fullCell d n)) ∙ length-repeated cellLimit (cellRecord (fullCell d n)) in
+    let a = length-parts o k (eightNumbers n) (replicate mostCells (fullCell d n)) in
+    let b : length (cellsBytes (replicate mostCells (fullCell d n))) ≡ mostCells * 70 = ap (λ x. length (recordsBytes x)) (map-repeated cellRecord mostCells (fullCell d n)) ∙ length-repeated mostCells (cellRecord (fullCell d n)) in
     omega arith

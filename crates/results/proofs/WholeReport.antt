@@ -18,6 +18,7 @@ use Rattle.report.specs.Records.{recordsBytes}
 use Rattle.report.specs.Written.{leavesIn, leafBytes, leavesBytes, cellsBytes, headBytes, reportBytes}
 use Rattle.report.proofs.Lengths.{leaves-short, length-parts}
 use Rattle.vm_machine.specs.declared.Regs.{Regs}
+use Rattle.vm_machine.specs.Pools.{whole}
 use Rattle.vm_machine.specs.Memory.{Memory}
 use Rattle.vm_code.specs.Values.{tagOf}
 use Rattle.vm_machine.specs.Leaves.{leafOf}
@@ -57,7 +58,7 @@ module _ (M : Memory) (r : Regs) (g : Gathered) (e : g ≡ gathered (resultIn M 
   -- The report that the parts make, and its answer.
   pub reported : (budget : ℕ) (xs : List ℕ) (o : Outcome) (j end : ℕ) {ys zs ws : List ℕ} → o ≡ haltedWith r → ys ≡ over 0 (headBytes (outcomeNumber o) (budget - r .rest)) xs
       → (j ≡ 10 + length (leavesBytes (leavesIn (g .count) (g .slots)))) × (zs ≡ over 10 (leavesBytes (leavesIn (g .count) (g .slots))) ys)
-      → (end ≡ j + length (cellsBytes (cellsIn M r))) × (ws ≡ over j (cellsBytes (cellsIn M r)) zs) × (end ≤ j + 70 * r .pools .cells) → r .pools .cells ≤ 256 → 17994 ≤ length xs
+      → (end ≡ j + length (cellsBytes (cellsIn M r))) × (ws ≡ over j (cellsBytes (cellsIn M r)) zs) × (end ≤ j + 70 * whole (r .pools .cells)) → whole (r .pools .cells) ≤ 256 → 17994 ≤ length xs
       → _≡_ {A = Answer} (record { verdict = Verdict.Accepted; ending = Ending.Ended o; steps = budget - r .rest; log = r .logged; report = end; count = g .count; leaves = g .slots }) (answerIn M r budget)
       × (ws ≡ over 0 (reportIn M r budget) xs)
   reported budget xs o j end {ys} h a b d n k =

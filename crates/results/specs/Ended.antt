@@ -14,12 +14,13 @@ use Rattle.verdict.specs.declared.Verdict.{Verdict}
 use Rattle.report.specs.declared.Ending.{Ending}
 use Rattle.report.specs.Written.{reportBytes}
 use Rattle.vm_machine.specs.declared.Regs.{Regs}
+use Rattle.vm_machine.specs.Pools.{whole}
 use Rattle.vm_machine.specs.Memory.{Memory, cellAt, cellNote}
 use Rattle.vm_machine.specs.Leaves.{leavesOf}
 use Rattle.calls.specs.declared.Answer.{Answer}
 use Rattle.calls.specs.Calls.{slotsOf}
 
--- The outcome with a number; 9 and more is the last.
+-- The outcome with a number; 12 and more is the last.
 abbrev pub outcomeWith : ℕ → Outcome
 outcomeWith n =
     choose (eqb n 0) Outcome.Done
@@ -30,7 +31,10 @@ outcomeWith n =
     (choose (eqb n 5) Outcome.Cells
     (choose (eqb n 6) Outcome.Labels
     (choose (eqb n 7) Outcome.Advice
-    (choose (eqb n 8) Outcome.Pieces Outcome.Log))))))))
+    (choose (eqb n 8) Outcome.Pieces
+    (choose (eqb n 9) Outcome.Log
+    (choose (eqb n 10) Outcome.OtherBindings
+    (choose (eqb n 11) Outcome.OtherCells Outcome.OtherPieces)))))))))))
 
 -- How a machine halted, and whether it is done.
 abbrev pub haltedWith : Regs → Outcome
@@ -59,7 +63,7 @@ cellsFrom M zero i = []
 cellsFrom M (suc n) i = cellIn M i ∷ cellsFrom M n (suc i)
 
 abbrev pub cellsIn : Memory → Regs → List CellReport
-cellsIn M r = cellsFrom M (r .pools .cells) 0
+cellsIn M r = cellsFrom M (whole (r .pools .cells)) 0
 
 -- The report of a run with a budget.
 abbrev pub reportIn : Memory → Regs → ℕ → List ℕ

@@ -25,6 +25,7 @@ ghost use Rattle.image.specs.Limits.{reportLength};
 ghost use Rattle.base_bytes.specs.Bytes.{over};
 ghost use Rattle.base_bytes.specs.Memory.{memoryLength};
 ghost use Rattle.vm_code.specs.Values.{tagOf, numberTag};
+ghost use Rattle.vm_machine.specs.Pools.{whole};
 ghost use Rattle.vm_tables.specs.View.{memoryOf};
 ghost use Rattle.results.specs.Gathered.{gathered};
 ghost use Rattle.results.specs.Ended.{outcomeWith, isDone, plainLeavesIn, reportIn, answerIn};
@@ -46,7 +47,10 @@ fn outcome_with(n: u32) -> Outcome
         6 => Outcome::Labels,
         7 => Outcome::Advice,
         8 => Outcome::Pieces,
-        _ => Outcome::Log,
+        9 => Outcome::Log,
+        10 => Outcome::OtherBindings,
+        11 => Outcome::OtherCells,
+        _ => Outcome::OtherPieces,
     }
 }
 
@@ -61,18 +65,28 @@ fn result_leaves(work: &[u8], outcome: u32, hand: u64) -> Gathered
     no_leaves()
 }
 
+// The cells of both halves (card 9).
+fn cell_count(r: Regs) -> usize
+    requires { ⌜ whole (r .pools .cells) ≤ 256 ⌝ }
+    ensures { λ n. ⌜ n ≡ whole (r .pools .cells) ⌝ }
+{
+    let pools = r.pools;
+    let cells = pools.cells;
+    cells.whole()
+}
+
 // The report and the answer of a run that is done and whose result is one leaf. The leaf goes straight from its word to
 // its record: one that is stored in a slot and read back at once makes the processor wait. The slots are only for the
 // answer.
 fn put_one_leaf(report: &mut [u8], work: &[u8], r: Regs, budget: u32) -> Answer
-    requires { ⌜ (memoryLength ≤ length (now work)) × (reportLength ≤ length (now report)) × (r .pools .cells ≤ 256) × (r .rest ≤ budget) × (r .outcome ≡ 0) × (tagOf (r .hand) ≤ numberTag) ⌝ }
+    requires { ⌜ (memoryLength ≤ length (now work)) × (reportLength ≤ length (now report)) × (whole (r .pools .cells) ≤ 256) × (r .rest ≤ budget) × (r .outcome ≡ 0) × (tagOf (r .hand) ≤ numberTag) ⌝ }
     ensures { λ a. ⌜ (a ≡ answerIn (memoryOf (now (work .entry))) r budget) × (now (report .exit) ≡ over 0 (reportIn (memoryOf (now (work .entry))) r budget) (now (report .entry))) ⌝ }
 {
     let steps = budget - (r.rest as u32);
     put_head(report, Outcome::Done, steps);
     let leaf = leaf_of(r.hand);
     let at = put_leaf(report, 10, leaf);
-    let end = put_cells(report, at, work, r.pools.cells);
+    let end = put_cells(report, at, work, cell_count(r));
     let unit = Slot { leaf: Leaf::Unit };
     let mut slots = [unit; 8];
     slots[0] = Slot { leaf: leaf };
@@ -90,7 +104,7 @@ fn put_one_leaf(report: &mut [u8], work: &[u8], r: Regs, budget: u32) -> Answer
 
 // The report of a machine that halted, and its answer. Most results are one leaf.
 pub fn put_report(report: &mut [u8], work: &[u8], r: Regs, budget: u32) -> Answer
-    requires { ⌜ (memoryLength ≤ length (now work)) × (reportLength ≤ length (now report)) × (r .pools .cells ≤ 256) × (r .rest ≤ budget) ⌝ }
+    requires { ⌜ (memoryLength ≤ length (now work)) × (reportLength ≤ length (now report)) × (whole (r .pools .cells) ≤ 256) × (r .rest ≤ budget) ⌝ }
     ensures { λ a. ⌜ (a ≡ answerIn (memoryOf (now (work .entry))) r budget) × (now (report .exit) ≡ over 0 (reportIn (memoryOf (now (work .entry))) r budget) (now (report .entry))) ⌝ }
 {
     if r.outcome == DONE {
@@ -105,7 +119,7 @@ pub fn put_report(report: &mut [u8], work: &[u8], r: Regs, budget: u32) -> Answe
     let count = g.count;
     let slots = g.slots;
     let at = put_leaves(report, 10, slots, count);
-    let end = put_cells(report, at, work, r.pools.cells);
+    let end = put_cells(report, at, work, cell_count(r));
     let ending = Ending::Ended(outcome);
     Answer {
         verdict: Verdict::Accepted,

@@ -4,7 +4,7 @@ use native.Mathlib.Omega.{arith}
 use mathlib.Core.Path.{_≡_, refl, sym, ap, ap₂, subst, _∙_}
 use mathlib.Core.Bool.{Bool, true, false, not, false≢true}
 use mathlib.Core.List.{List}
-use lib.Dec.{eqb, leb, ltb}
+use lib.Dec.{eqb, leb}
 use borrow.Author.Tests.{le-leb, lt-leb, not-true, not-false}
 use Rattle.calculus.specs.declared.Outcome.{Outcome}
 use Rattle.calculus.specs.Combinators.{choose}
@@ -15,6 +15,7 @@ use Rattle.vm_code.specs.Words.{classOf, depthOf, countOf, termCount, home}
 use Rattle.vm_code.specs.Classes.{pointcutClass}
 use Rattle.vm_machine.specs.declared.Regs.{Regs}
 use Rattle.vm_machine.specs.Registers.{headroom, fullRoom, setPc, setEnv, setRoom, haltWith, halt, stuck}
+use Rattle.vm_machine.specs.Pools.{halfOf, hasRoom, piecesOut}
 use Rattle.vm_machine.specs.Memory.{Memory, slotPc, slotEnv, digitsAt, digitCount, noDigits, withDigit, labelSet, putDigits}
 use Rattle.vm_machine.specs.States.{State, withRegs, judged}
 use Rattle.vm_machine.specs.Fetch.{Program, codeAt}
@@ -24,7 +25,7 @@ use Rattle.vm_tables.specs.View.{memoryOf, Holds}
 use Rattle.vm_tables.proofs.Chosen.{chosen-yes, chosen-no}
 use Rattle.vm_states.specs.Phases.{stateOf, Moved, Phase}
 use Rattle.vm_states.proofs.Made.{as-phase, stored-made, regs-made}
-use Rattle.vm_states.proofs.Ended.{unpaid-room}
+use Rattle.vm_states.proofs.Halves.{half-unpaid-made}
 use Rattle.vm_labels.specs.declared.Part.{Part}
 use Rattle.vm_labels.specs.Parts.{RoomAfter, childBegun, begunPart, partOf, isStrange, labelled}
 
@@ -47,12 +48,10 @@ module _ (f : State → State) (a b : List ℕ) (r q : Regs) (w d : ℕ) (k : d 
   pub judged-made : d < r .room → Phase f a b r q → Phase (λ S. judged w S (f S)) a b r q
   judged-made l p = as-phase f (λ S. judged w S (f S)) a b r q (λ log. sym (chosen-no _ _ _ (lt-leb (r .room) (depthOf w) (omega arith)))) p
 
--- Nothing is left of the budget for a piece: o says what is missing (card 5).
-pub piece-unpaid : (a : List ℕ) (r q : Regs) (w tag x y o : ℕ) → r .left ≤ headroom → o ≡ choose (ltb (r .pools .pieces) pieceLimit) (outcomeNumber Outcome.Spent) (outcomeNumber Outcome.Pieces) → q ≡ haltWith o (r .left) r
+-- Nothing is left of the budget for a piece: o says what is missing (card 5), x what is where the half h has no room (card 9).
+pub piece-unpaid : (a : List ℕ) (r q : Regs) (w tag x y : ℕ) (h t : Bool) → h ≡ halfOf w → t ≡ hasRoom pieceLimit h 1 (r .pools .pieces) → (o z : ℕ) → r .left ≤ headroom → z ≡ outcomeNumber (piecesOut h) → o ≡ choose t (outcomeNumber Outcome.Spent) z → q ≡ haltWith o (r .left) r
     → Phase (newPiece w tag x y) a a r q
-piece-unpaid a r q w tag x y o h e f =
-    regs-made (newPiece w tag x y) a r q (haltWith (choose (ltb (r .pools .pieces) pieceLimit) (outcomeNumber Outcome.Spent) (outcomeNumber Outcome.Pieces)) (r .left) r)
-    (λ log. unpaid-room (ltb (r .pools .pieces) pieceLimit) Outcome.Pieces (stateOf a log r) _ h) (f ∙ ap (λ (i : ℕ). haltWith i (r .left) r) e)
+piece-unpaid a r q w tag x y h t is test = half-unpaid-made pieceLimit 1 (λ p. p .pieces) piecesOut w r h t is test _ a q
 
 -- The pointcut with word w and n children is made; s is the set of its labels.
 pub pointcut-as : (a b : List ℕ) (r q : Regs) (w n s digits : ℕ) → n ≡ countOf w → s ≡ labelSet n digits 0 → Phase (newPiece w pointcutTag 0 s) a b r q
@@ -67,7 +66,7 @@ room-of false S T n d e = e
 pub made-room : (w s : ℕ) (S : State) → judged w S (newPiece w pointcutTag 0 s S) .regs .room ≡ S .regs .room
 made-room w s S =
     room-of (leb (S .regs .room) (depthOf w)) _ _ (S .regs .room) refl
-    (room-of (ltb (S .regs .pools .pieces) pieceLimit) _ _ (S .regs .room) (room-of (leb (S .regs .left) headroom) _ _ (S .regs .room) refl refl) refl)
+    (room-of (hasRoom pieceLimit (halfOf w) 1 (S .regs .pools .pieces)) _ _ (S .regs .room) (room-of (leb (S .regs .left) headroom) _ _ (S .regs .room) refl refl) refl)
 
 -- A child is begun under d unfinished terms: m is the room of its body.
 pub child-made : (C : Program) (a b : List ℕ) (r s : Regs) (w m d x e : ℕ) (k : Taken) → s ≡ r → d ≡ depthOf w → m ≡ r .room - (d + 1) → d + 1 < r .room → x ≡ childAt C w (k .count) → e ≡ entryFrom termCount C x

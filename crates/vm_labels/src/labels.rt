@@ -4,6 +4,7 @@ ghost use mathlib.Core.Bool.{true};
 ghost use mathlib.Core.List.{List};
 ghost use Prim.Native.Nat.{ℕ, _+_, _≤_, _<_};
 ghost use lib.ListN.{length};
+ghost use Rattle.calculus.specs.Limits.{pieceLimit};
 ghost use Rattle.base_bytes.specs.Memory.{memoryLength};
 ghost use Rattle.vm_code.specs.Values.{pointcutTag};
 ghost use Rattle.vm_code.specs.Words.{termCount, home, countOf, depthOf};
@@ -11,6 +12,7 @@ ghost use Rattle.vm_machine.specs.Registers.{fullRoom};
 ghost use Rattle.vm_machine.specs.Memory.{labelSet};
 ghost use Rattle.vm_machine.specs.States.{judged};
 ghost use Rattle.vm_machine.specs.Fetch.{codeAt};
+ghost use Rattle.vm_machine.specs.Fits.{PoolFits};
 ghost use Rattle.vm_machine.specs.Reduce.{newPiece};
 ghost use Rattle.vm_machine.specs.Turn.{labelsFrom};
 ghost use Rattle.vm_tables.specs.View.{memoryOf};
@@ -23,11 +25,13 @@ use crate::children::child_at;
 use crate::children::take_labels;
 use crate::entry::entry_from;
 use vm_machine::Regs;
-use vm_states::limits::BINDINGS;
+use vm_states::limits::BINDING_PLACES;
 use vm_states::limits::PIECES;
-use vm_states::outcomes;
 use vm_states::outcomes::FRAMES;
 use vm_states::pieces::new_piece;
+use vm_states::pools::half_of;
+use vm_states::pools::has_room;
+use vm_states::pools::pieces_out;
 use vm_states::regs::HEADROOM;
 use vm_states::regs::halt;
 use vm_states::regs::same;
@@ -59,14 +63,16 @@ const LABELS: u64 = 64;
 
 // All children are done: the pointcut with word w is made.
 fn make_pointcut(work: &mut [u8], r: Regs, w: u64, digits: u64) -> Regs
-    requires { ⌜ (memoryLength ≤ length (now work)) × (r .room ≤ fullRoom) ⌝ }
+    requires { ⌜ (memoryLength ≤ length (now work)) × (r .room ≤ fullRoom) × PoolFits pieceLimit (r .pools .pieces) ⌝ }
     ensures { λ q. ⌜ Phase (λ S. judged w S (newPiece w pointcutTag 0 (labelSet (countOf w) digits 0) S)) (now (work .entry)) (now (work .exit)) r q ⌝ }
 {
     if r.room <= depth_of(w) {
         return halt(r, FRAMES);
     }
     if r.left <= HEADROOM {
-        return halt(r, spent_or(r.pools.pieces < PIECES, outcomes::PIECES));
+        let h = half_of(w);
+        let p = r.pools;
+        return halt(r, spent_or(has_room(p.pieces, h, 1, PIECES), pieces_out(h)));
     }
     new_piece(work, r, w, POINTCUT, 0, label_set(count_of(w), digits))
 }
@@ -86,7 +92,7 @@ fn begin_child(code: &[u64], image: &[u8], work: &mut [u8], r: Regs, w: u64, don
 
 // The children of the pointcut at hand, from those on that are done.
 fn labels_from(code: &[u64], image: &[u8], work: &mut [u8], r: Regs, from: Done) -> Regs
-    requires { ⌜ (home < length (now code)) × (memoryLength ≤ length (now work)) × (r .pc ≤ home) × (r .env < 2048) × (r .room ≤ fullRoom + depthOf (codeAt (record { code = now code; image = now image }) (r .pc))) × RoomAfter (labelsFrom (record { code = now code; image = now image }) (r .pc) (from .count) (from .digits)) (now work) r ⌝ }
+    requires { ⌜ (home < length (now code)) × (memoryLength ≤ length (now work)) × (r .pc ≤ home) × (r .env < 2048) × (r .room ≤ fullRoom + depthOf (codeAt (record { code = now code; image = now image }) (r .pc))) × PoolFits pieceLimit (r .pools .pieces) × RoomAfter (labelsFrom (record { code = now code; image = now image }) (r .pc) (from .count) (from .digits)) (now work) r ⌝ }
     ensures { λ q. ⌜ Phase (labelsFrom (record { code = now (code .entry); image = now (image .entry) }) (r .pc) (from .count) (from .digits)) (now (work .entry)) (now (work .exit)) r q ⌝ }
 {
     let pc = r.pc;
@@ -115,7 +121,7 @@ fn part_of(code: &[u64], work: &[u8], r: Regs, resumed: bool, f: u64) -> Part
         };
         return Part {
             pc: pc,
-            env: slot_env(f) % BINDINGS,
+            env: slot_env(f) % BINDING_PLACES,
             room: r.room + (depth_of(code[pc]) + 1),
             done: done,
         };
@@ -141,7 +147,7 @@ fn is_strange(resumed: bool, w: u64) -> bool
 
 // A pointcut is begun; or, resumed, a child of it is worked out, and f is the word of its slot.
 pub fn labels(code: &[u64], image: &[u8], work: &mut [u8], r: Regs, resumed: bool, f: u64) -> Regs
-    requires { ⌜ (home < length (now code)) × (memoryLength ≤ length (now work)) × (r .pc ≤ home) × (r .env < 2048) × (r .room ≤ fullRoom) × (resumed ≡ true → r .room < fullRoom) × RoomAfter (labelled (record { code = now code; image = now image }) resumed f) (now work) r ⌝ }
+    requires { ⌜ (home < length (now code)) × (memoryLength ≤ length (now work)) × (r .pc ≤ home) × (r .env < 2048) × (r .room ≤ fullRoom) × (resumed ≡ true → r .room < fullRoom) × PoolFits pieceLimit (r .pools .pieces) × RoomAfter (labelled (record { code = now code; image = now image }) resumed f) (now work) r ⌝ }
     ensures { λ q. ⌜ Phase (labelled (record { code = now (code .entry); image = now (image .entry) }) resumed f) (now (work .entry)) (now (work .exit)) r q ⌝ }
 {
     let p = part_of(code, work, r, resumed, f);

@@ -35,7 +35,7 @@ module _ (w : List ℕ) (d i n p x y : ℕ) (e : p ≡ installedAt (memoryOf w) 
       (record { memory = subst (λ (j : ℕ). Holds (putInstalled n j (memoryOf w)) w w′) e m; count = refl })
 
 -- None is looked at yet.
-pub stay-start : (n d : ℕ) (B : Bound) → stayOthers n 0 d B ≡ stayOthers (n - 0) 0 d B
+pub stay-start : (n d : ℕ) (B : Bound ℕ) → stayOthers n 0 d B ≡ stayOthers (n - 0) 0 d B
 stay-start n d B = let k : n ≡ n - 0 = omega arith in ap (λ (x : ℕ). stayOthers x 0 d B) k
 
 -- One more.
@@ -47,7 +47,7 @@ stay-on n i d w w′ m m′ h b =
     ap (λ (x : ℕ). stayOthers x i d (boundIn w m)) k ∙ ap (λ (x : ℕ). stayOthers (n - (i + 1)) x d (stayOne d i (boundIn w m))) j ∙ ap (stayOthers (n - (i + 1)) (i + 1) d) (bound-is (stayOne d i (boundIn w m)) w w′ m′ b)
 
 -- All are looked at.
-pub stay-done : (B : Bound) (n i d : ℕ) (w w′ : List ℕ) (m : ℕ) → n ≤ i → B ≡ stayOthers (n - i) i d (boundIn w′ m) → drop memoryLength w′ ≡ drop memoryLength w → Binds B w w′ m
+pub stay-done : (B : Bound ℕ) (n i d : ℕ) (w w′ : List ℕ) (m : ℕ) → n ≤ i → B ≡ stayOthers (n - i) i d (boundIn w′ m) → drop memoryLength w′ ≡ drop memoryLength w → Binds B w w′ m
 unfolding stayOthers
 stay-done B n i d w w′ m h e r =
     let k : n - i ≡ 0 = omega arith in
@@ -59,7 +59,7 @@ pub takedown-made : (a b c : List ℕ) (r s q : Regs) (w d n : ℕ) → headroom
     → Phase (reduceTakedown w) a c r q
 unfolding reduceTakedown
 takedown-made a b c r s q w d n left e k z p =
-    let B : Bound = stayOthers (r .installed) 0 (fieldB w) (boundIn a 0) in
+    let B : Bound ℕ = stayOthers (r .installed) 0 (fieldB w) (boundIn a 0) in
     let held : Binds B a b n = subst (λ (j : ℕ). Binds (stayOthers (r .installed) 0 j (boundIn a 0)) a b n) e k in
     let p₁ : Phase (given w unitValue) b c (setInstalled n (r .named) r) q = subst (λ (v : Regs). Phase (given w unitValue) b c (setInstalled n (v .named) v) q) z p in
     let p₂ : Phase (given w unitValue) b c (setInstalled (B .count) (r .named) r) q = subst (λ (j : ℕ). Phase (given w unitValue) b c (setInstalled j (r .named) r) q) (held .count) p₁ in

@@ -7,7 +7,6 @@ ghost use Rattle.base_bytes.specs.Memory.{memoryLength};
 ghost use Rattle.vm_code.specs.Words.{depthOf, termCount};
 ghost use Rattle.vm_machine.specs.Registers.{fullRoom};
 ghost use Rattle.vm_machine.specs.Memory.{nextBinding, endBinding};
-ghost use Rattle.vm_machine.specs.Fits.{Fits};
 ghost use Rattle.vm_machine.specs.Reduce.{bodyAt, startAdvice, nextAdvice};
 ghost use Rattle.vm_tables.specs.View.{memoryOf};
 ghost use Rattle.vm_states.specs.Phases.{stateOf, Phase};
@@ -15,7 +14,7 @@ ghost use Rattle.vm_marks.specs.Parts.{nextBody, markLeft};
 use vm_machine::Regs;
 use vm_states::ends::TERMS;
 use vm_states::ends::completed;
-use vm_states::limits::BINDINGS;
+use vm_states::limits::BINDING_PLACES;
 use vm_states::outcomes;
 use vm_states::regs::HEADROOM;
 use vm_states::regs::halt;
@@ -67,7 +66,7 @@ fn next_body(work: &mut [u8], r: Regs, f: u64) -> Regs
     ensures { λ q. ⌜ Phase (nextBody f) (now (work .entry)) (now (work .exit)) r q ⌝ }
 {
     let n = next_binding(f);
-    let b = n % BINDINGS;
+    let b = n % BINDING_PLACES;
     let t = body_at(work, b);
     put_advice(
         work,

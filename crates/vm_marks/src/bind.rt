@@ -2,45 +2,61 @@
 ghost use Prim.Native.Nat.{_+_, _≤_, _<_};
 ghost use lib.ListN.{length};
 ghost use Rattle.base_bytes.specs.Memory.{memoryLength};
+ghost use Rattle.vm_machine.specs.Pools.{whole, poolBound};
+ghost use Rattle.vm_machine.specs.Memory.{bindingPlaces};
 ghost use Rattle.vm_machine.specs.Reduce.{bindOne, bindMatching};
+ghost use Rattle.vm_tables.specs.View.{memoryOf, Holds};
+ghost use Rattle.vm_marks.specs.Parts.{advised};
 ghost use Rattle.vm_marks.specs.Binds.{boundIn, Binds};
-use vm_states::limits::BINDINGS;
+use vm_machine::Pool;
+use vm_states::limits::BINDING_PLACES;
 use vm_tables::bindings::bind;
 use vm_tables::labels::has_bit;
+use vm_tables::pieces::advice_dom;
 use vm_tables::pieces::advice_env;
 use vm_tables::pieces::advice_target;
 use vm_tables::pieces::installed_at;
 use vm_tables::pieces::piece_first;
 use vm_tables::pieces::piece_second;
 
-// The binding of installed advice i, where label l triggers it; b bindings are there. A binding past the table is
-// counted and not made.
-fn bind_one(work: &mut [u8], l: u64, v: u64, i: usize, b: usize) -> usize
-    requires { ⌜ (memoryLength ≤ length (now work)) × (l < 64) × (i < 64) × (b < 4096) ⌝ }
-    ensures { λ n. ⌜ Binds (bindOne l v i (boundIn (now (work .entry)) b)) (now (work .entry)) (now (work .exit)) n × (b ≤ n) × (n ≤ b + 1) ⌝ }
+// The mainline's domain.
+const MAINLINE: usize = 0;
+
+// The binding at place n, with the value v, of the advice with word a. A binding past the table is not made.
+fn bind_advice(work: &mut [u8], n: usize, v: u64, a: u64)
+    requires { ⌜ memoryLength ≤ length (now work) ⌝ }
+    ensures { λ _. ⌜ Holds (advised n v a (memoryOf (now (work .entry)))) (now (work .entry)) (now (work .exit)) ⌝ }
+{
+    if n < BINDING_PLACES {
+        bind(work, n, v, advice_target(a), advice_env(a));
+    }
+}
+
+// The binding of installed advice i, where label l triggers it; b are there. It is charged to the half of the advice's domain
+// (document 02, card 9).
+fn bind_one(work: &mut [u8], l: u64, v: u64, i: usize, b: Pool) -> Pool
+    requires { ⌜ (memoryLength ≤ length (now work)) × (l < 64) × (i < 64) × (whole b < poolBound) ⌝ }
+    ensures { λ q. ⌜ Binds (bindOne l v i (boundIn (now (work .entry)) b)) (now (work .entry)) (now (work .exit)) q × (whole b ≤ whole q) × (whole q ≤ whole b + 1) ⌝ }
 {
     let p = installed_at(work, i);
     if has_bit(piece_second(work, p), l) {
-        if b < BINDINGS {
-            let a = piece_first(work, p);
-            bind(work, b, v, advice_target(a), advice_env(a));
-            return b + 1;
-        }
-        return b + 1;
+        let a = piece_first(work, p);
+        bind_advice(work, b.whole(), v, a);
+        return b.charge(advice_dom(a) == MAINLINE, 1);
     }
     b
 }
 
 // The bindings of the first n installed advice, the newest first (document 02, card 8).
-pub fn bind_matching(work: &mut [u8], n: usize, l: u64, v: u64, b: usize) -> usize
-    requires { ⌜ (memoryLength ≤ length (now work)) × (l < 64) × (n ≤ 64) × (b ≤ 2048) ⌝ }
-    ensures { λ m. ⌜ Binds (bindMatching n l v (boundIn (now (work .entry)) b)) (now (work .entry)) (now (work .exit)) m × (b ≤ m) × (m < 4096) ⌝ }
+pub fn bind_matching(work: &mut [u8], n: usize, l: u64, v: u64, b: Pool) -> Pool
+    requires { ⌜ (memoryLength ≤ length (now work)) × (l < 64) × (n ≤ 64) × (whole b ≤ bindingPlaces) ⌝ }
+    ensures { λ q. ⌜ Binds (bindMatching n l v (boundIn (now (work .entry)) b)) (now (work .entry)) (now (work .exit)) q × (whole b ≤ whole q) × (whole q < poolBound) ⌝ }
 {
-    let mut m = b;
+    let mut q = b;
     let mut i = n;
     while 0 < i {
         i -= 1;
-        m = bind_one(work, l, v, i, m);
+        q = bind_one(work, l, v, i, q);
     }
-    m
+    q
 }

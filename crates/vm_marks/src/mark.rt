@@ -3,20 +3,25 @@ ghost use mathlib.Core.Path.{_≡_};
 ghost use Prim.Native.Nat.{ℕ, _%_, _≤_, _<_};
 ghost use lib.ListN.{length};
 ghost use Rattle.base_bytes.specs.Memory.{memoryLength};
-ghost use Rattle.vm_code.specs.Values.{bodyOf};
-ghost use Rattle.vm_machine.specs.Registers.{headroom};
+ghost use Rattle.calculus.specs.Report.{outcomeNumber};
+ghost use Rattle.vm_code.specs.Values.{bodyOf, unitValue};
+ghost use Rattle.vm_machine.specs.Pools.{withinHalves, markOut};
+ghost use Rattle.vm_machine.specs.States.{ifLeft};
 ghost use Rattle.vm_machine.specs.Fits.{Fits};
 ghost use Rattle.vm_machine.specs.Reduce.{reduceMark};
+ghost use Rattle.vm_machine.specs.Reduce as reduce;
 ghost use Rattle.vm_states.specs.Phases.{Phase};
 use crate::advice::start_advice;
 use crate::bind::bind_matching;
+use laws::both;
+use vm_machine::Pool;
 use vm_machine::Regs;
 use vm_states::ends::given;
 use vm_states::limits::BINDINGS;
 use vm_states::outcomes;
+use vm_states::regs::HEADROOM;
 use vm_states::regs::halt;
 use vm_states::regs::same;
-use vm_states::regs::spent_or;
 use vm_tables::labels::has_bit;
 use vm_words::value::body;
 
@@ -29,38 +34,62 @@ fn label_of(v: u64) -> u64
     body(v) % LABELS
 }
 
-// The label x is marked, with the value y.
+// The bindings of both halves stay within their limits.
+fn within_halves(b: Pool) -> bool
+    ensures { λ t. ⌜ t ≡ withinHalves b ⌝ }
+{
+    both(b.mainline <= BINDINGS, b.others <= BINDINGS)
+}
+
+// The outcome where they do not: "a mark that lacks both halves reports domain 0's".
+fn mark_out(b: Pool) -> u32
+    ensures { λ o. ⌜ o ≡ outcomeNumber (markOut b) ⌝ }
+{
+    if b.mainline <= BINDINGS {
+        outcomes::OTHER_BINDINGS
+    } else {
+        outcomes::BINDINGS
+    }
+}
+
+// No advice that is installed names the label.
+fn unheard(work: &mut [u8], r: Regs, w: u64) -> Regs
+    requires { ⌜ (memoryLength ≤ length (now work)) × (r .room ≤ 513) ⌝ }
+    ensures { λ q. ⌜ Phase (λ S. ifLeft S (reduce.given w unitValue S)) (now (work .entry)) (now (work .exit)) r q ⌝ }
+{
+    if r.left <= HEADROOM {
+        return halt(r, outcomes::SPENT);
+    }
+    given(work, r, w, 0)
+}
+
+// The label x is marked, with the value y. The bindings are made to see whether there is room for all; it is looked at before
+// the budget (card 5).
 pub fn reduce_mark(work: &mut [u8], r: Regs, w: u64, x: u64, y: u64) -> Regs
-    requires { ⌜ (memoryLength ≤ length (now work)) × (headroom < r .left) × ((size : ℕ) × Fits size r) ⌝ }
+    requires { ⌜ (memoryLength ≤ length (now work)) × ((size : ℕ) × Fits size r) ⌝ }
     ensures { λ q. ⌜ Phase (reduceMark w x y) (now (work .entry)) (now (work .exit)) r q ⌝ }
 {
     let l = label_of(x);
     if !has_bit(r.named, l) {
-        return given(work, r, w, 0);
+        return unheard(work, r, w);
     }
-    let n = r.pools.bindings;
-    let m = bind_matching(work, r.installed, l, y, n);
-    if BINDINGS < m {
-        return halt(r, outcomes::BINDINGS);
+    let mut p = r.pools;
+    let b = p.bindings;
+    let c = bind_matching(work, r.installed, l, y, b);
+    if !within_halves(c) {
+        return halt(r, mark_out(c));
     }
+    if r.left <= HEADROOM {
+        return halt(r, outcomes::SPENT);
+    }
+    let n = b.whole();
+    let m = c.whole();
     if m == n {
         return given(work, r, w, 0);
     }
+    p.bindings = c;
     let mut s = same(r);
     s.left = r.left - 1;
-    s.pools.bindings = m;
+    s.pools = p;
     start_advice(work, s, w, n, m)
-}
-
-// The same where nothing is left of the budget: the bindings are made, to see whether there is room for all (card 5).
-pub fn unpaid_mark(work: &mut [u8], r: Regs, w: u64, x: u64, y: u64) -> Regs
-    requires { ⌜ (memoryLength ≤ length (now work)) × (r .left ≤ headroom) × ((size : ℕ) × Fits size r) ⌝ }
-    ensures { λ q. ⌜ Phase (reduceMark w x y) (now (work .entry)) (now (work .exit)) r q ⌝ }
-{
-    let l = label_of(x);
-    if !has_bit(r.named, l) {
-        return halt(r, outcomes::SPENT);
-    }
-    let m = bind_matching(work, r.installed, l, y, r.pools.bindings);
-    halt(r, spent_or(m <= BINDINGS, outcomes::BINDINGS))
 }

@@ -17,8 +17,12 @@ use vm_machine::Regs;
 use vm_states::ends::called;
 use vm_states::limits::BINDINGS;
 use vm_states::outcomes;
+use vm_states::pools::bindings_out;
+use vm_states::pools::half_of;
+use vm_states::pools::has_room;
 use vm_states::regs::HEADROOM;
 use vm_states::regs::halt;
+use vm_states::regs::same;
 use vm_tables::bindings::bind;
 use vm_tables::pieces::piece_first;
 use vm_tables::pieces::piece_of;
@@ -44,16 +48,18 @@ pub fn reduce_apply(code: &[u64], work: &mut [u8], r: Regs, w: u64, x: u64, y: u
     requires { ⌜ (1024 ≤ length (now code)) × (memoryLength ≤ length (now work)) × (headroom < r .left) × (depthOf w ≤ r .room) × ((size : ℕ) × Fits size r) ⌝ }
     ensures { λ q. ⌜ ((image : List ℕ) → Phase (reduceApply (record { code = now (code .entry); image = image }) w x y) (now (work .entry)) (now (work .exit)) r q) ⌝ }
 {
-    let n = r.pools.bindings;
-    if n < BINDINGS {
+    let h = half_of(w);
+    let p = r.pools;
+    let b = p.bindings;
+    if has_room(b, h, 1, BINDINGS) {
+        let n = b.whole();
         bind(work, n, y, 0, closure_env(x));
-        let mut q = called(code, work, r, w, function_target(x), n);
-        let m = n + 1;
-        q.left = r.left - 1;
-        q.pools.bindings = m;
-        return q;
+        let mut s = same(r);
+        s.left = r.left - 1;
+        s.pools = p.charge_bindings(h, 1);
+        return called(code, work, s, w, function_target(x), n);
     }
-    halt(r, outcomes::BINDINGS)
+    halt(r, bindings_out(h))
 }
 
 // The body at the target g is called on the object x, which it binds (card 3). Its room is looked at before the budget (card 5).
@@ -61,19 +67,21 @@ pub fn call_body(code: &[u64], work: &mut [u8], r: Regs, w: u64, x: u64, g: usiz
     requires { ⌜ (1024 ≤ length (now code)) × (memoryLength ≤ length (now work)) × (depthOf w ≤ r .room) × ((size : ℕ) × Fits size r) ⌝ }
     ensures { λ q. ⌜ ((image : List ℕ) → Phase (callBody (record { code = now (code .entry); image = image }) w x g) (now (work .entry)) (now (work .exit)) r q) ⌝ }
 {
-    let n = r.pools.bindings;
-    if n < BINDINGS {
+    let h = half_of(w);
+    let p = r.pools;
+    let b = p.bindings;
+    if has_room(b, h, 1, BINDINGS) {
         if r.left <= HEADROOM {
             return halt(r, outcomes::SPENT);
         }
+        let n = b.whole();
         bind(work, n, x, 0, closure_env(x));
         let mut q = called(code, work, r, w, g, n);
-        let m = n + 1;
         q.left = r.left - 1;
-        q.pools.bindings = m;
+        q.pools = p.charge_bindings(h, 1);
         return q;
     }
-    halt(r, outcomes::BINDINGS)
+    halt(r, bindings_out(h))
 }
 
 // Bindings i and i + 1 of the two parts of pair p, the first outside the second.
@@ -92,14 +100,16 @@ pub fn reduce_split(code: &[u64], work: &mut [u8], r: Regs, w: u64, x: u64) -> R
     requires { ⌜ (1024 ≤ length (now code)) × (memoryLength ≤ length (now work)) × (headroom < r .left) × (depthOf w ≤ r .room) × ((size : ℕ) × Fits size r) ⌝ }
     ensures { λ q. ⌜ ((image : List ℕ) → Phase (reduceSplit (record { code = now (code .entry); image = image }) w x) (now (work .entry)) (now (work .exit)) r q) ⌝ }
 {
-    let n = r.pools.bindings;
-    if n + 2 <= BINDINGS {
+    let h = half_of(w);
+    let p = r.pools;
+    let b = p.bindings;
+    if has_room(b, h, 2, BINDINGS) {
+        let n = b.whole();
         bind_parts(work, piece_of(x), n, r.env);
         let mut q = called(code, work, r, w, field_b(w), n + 1);
-        let m = n + 2;
         q.left = r.left - 1;
-        q.pools.bindings = m;
+        q.pools = p.charge_bindings(h, 2);
         return q;
     }
-    halt(r, outcomes::BINDINGS)
+    halt(r, bindings_out(h))
 }

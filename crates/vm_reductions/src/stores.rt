@@ -12,6 +12,9 @@ use vm_states::ends::given;
 use vm_states::limits;
 use vm_states::outcomes;
 use vm_states::pieces::new_piece;
+use vm_states::pools::cells_out;
+use vm_states::pools::half_of;
+use vm_states::pools::has_room;
 use vm_states::regs::halt;
 use vm_states::regs::halt_with;
 use vm_tables::cells::cell_of;
@@ -39,15 +42,17 @@ pub fn reduce_cell(work: &mut [u8], r: Regs, w: u64, x: u64) -> Regs
     requires { ⌜ (memoryLength ≤ length (now work)) × (headroom < r .left) × ((size : ℕ) × Fits size r) ⌝ }
     ensures { λ q. ⌜ Phase (reduceCell w x) (now (work .entry)) (now (work .exit)) r q ⌝ }
 {
-    let n = r.pools.cells;
-    if n < limits::CELLS {
+    let h = half_of(w);
+    let p = r.pools;
+    let c = p.cells;
+    if has_room(c, h, 1, limits::CELLS) {
+        let n = c.whole();
         put_cell(work, n, x, field_b(w) as u64);
         let mut q = given(work, r, w, value::value(value::CELL, n as u64));
-        let m = n + 1;
-        q.pools.cells = m;
+        q.pools = p.charge_cells(h, 1);
         return q;
     }
-    halt(r, outcomes::CELLS)
+    halt(r, cells_out(h))
 }
 
 // One more label.

@@ -133,7 +133,7 @@ module _ (T : Table) (root : ℕ) (L : Linked T 0 root) where
         kept : Store T root L B (written x) (S .log) z s
         kept =
             store-charged T root L B M (S .log) z s st (written x) (z .nb) (z .np) (s .used) grows (above-put M cellBase (slotIn (r .room) (depthOf w)) (above x 0) (omega (arith, index))) (st .beside)
-            (st .bindings) (st .bindings-fit) (st .pieces) (st .pieces-fit) refl
+            (st .bindings-fit) (st .pieces-fit)
 
         holds : Held T root L (written x) z (depthAt P A) v
         holds = let a = above-parts x in val-at T root L (written x) z here (val-like T root L (written x) z (a .0) (a .1) (val-grows T root L M z (written x) z grows is))
@@ -147,7 +147,7 @@ module _ (T : Table) (root : ℕ) (L : Linked T 0 root) where
           → Good G e₀ Ω k s (after v D′) → Now T root L G e₀ Ω N B (withMemory M′ (setPc (nextOf w) (setHand x r)) S) k s (after v D′)
       arrived M′ D′ x v g j st′ c h held i good =
           record {
-            common = record { budget = p .common .budget; running = p .common .running; store = st′ };
+            common = record { budget = p .common .budget; running = p .common .running; store = st′; used = p .common .used };
             good = good;
             target = T .around m .next;
             pc = around .next;
@@ -209,7 +209,7 @@ module _ (T : Table) (root : ℕ) (L : Linked T 0 root) where
               let q = instruction-target g (T .entry f) (target-when g f false a (t .0)) (entry-small f (P .skel) (P .dom) a l) in
               rw (q .0, q .1)
               (record {
-                common = record { budget = p .common .budget; running = p .common .running; store = st };
+                common = record { budget = p .common .budget; running = p .common .running; store = st; used = p .common .used };
                 good = good;
                 target = to (T .entry f);
                 pc = refl;
@@ -243,7 +243,7 @@ module _ (T : Table) (root : ℕ) (L : Linked T 0 root) where
         frame-store : Store T root L B framed (S .log) z s
         frame-store =
             store-charged T root L B M (S .log) z s st framed (z .nb) (z .np) (s .used) frame-grows (above-put M cellBase (slotIn (r .room) (depthOf w)) word (omega (arith, index))) (st .beside)
-            (st .bindings) (st .bindings-fit) (st .pieces) (st .pieces-fit) refl
+            (st .bindings-fit) (st .pieces-fit)
 
         frame-kept : AreKept T root L framed z (r .kept) (keptBy A)
         frame-kept = kept-grows T root L frame-grows (λ i. word-other M (slotIn (r .room) (depthOf w)) word (keptBase + i) (λ e. omega (arith, index))) (p .kept)
@@ -286,7 +286,7 @@ module _ (T : Table) (root : ℕ) (L : Linked T 0 root) where
           → Now T root L G e₀ Ω N B (withMemory M′ (setPc t (setEnv env′ (setRoom room′ r))) S) k s (begin e (body ρ d) A′ D)
       begun M′ room′ t env′ e d ρ A′ st′ i fits room c h a points good =
           record {
-            common = record { budget = p .common .budget; running = p .common .running; store = st′ };
+            common = record { budget = p .common .budget; running = p .common .running; store = st′; used = p .common .used };
             good = good;
             target = to t;
             pc = refl;

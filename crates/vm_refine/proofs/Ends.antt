@@ -15,8 +15,10 @@ use Rattle.laws.proofs.Lookup.{get-map}
 use Rattle.closure_machine.specs.Closure.{CVal, CState, plainVal, plainCell, plainAdvice, plainState}
 use Rattle.vm_theory.specs.Table.{Table, Linked}
 use Rattle.vm_theory.proofs.Sound.{Sound}
+use Rattle.vm_machine.specs.Pools.{whole}
 use Rattle.vm_machine.specs.Memory.{cellAt, cellNote}
 use Rattle.vm_machine.specs.States.{State}
+use Rattle.vm_refine.proofs.Pools.{Used}
 use Rattle.vm_refine.proofs.Relations.{sizes, IsVal}
 use Rattle.vm_refine.proofs.Store.{logBytes, Store}
 use Rattle.vm_refine.proofs.Now.{Halted, halted-done, halted-stopped}
@@ -46,13 +48,10 @@ module _ (T : Table) (root : ℕ) (L : Linked T 0 root) (S : State) where
     pub log-at : S .regs .logged ≡ 10 * length (logOf (E .state .trace))
     pub log-fits : S .regs .logged ≤ length B
     pub cells : (i : ℕ) (c : Cell Val) → getElem? (E .state .cells) i ≡ some c → StandsCell i c
-    pub cells-count : S .regs .pools .cells ≡ length (E .state .cells)
-    pub cells-used : S .regs .pools .cells ≡ E .state .used .cells
-    pub cells-fit : S .regs .pools .cells ≤ 256
-    pub bindings : S .regs .pools .bindings ≡ E .state .used .bindings
-    pub bindings-fit : S .regs .pools .bindings ≤ 2048
-    pub pieces : S .regs .pools .pieces ≡ E .state .used .pieces
-    pub pieces-fit : S .regs .pools .pieces ≤ 512
+    pub cells-count : whole (S .regs .pools .cells) ≡ length (E .state .cells)
+    pub cells-fit : whole (S .regs .pools .cells) ≤ 256
+    -- card 9
+    pub used : Used (S .regs .pools) (E .state .used)
     pub labels : S .regs .labels ≡ length (E .state .labels)
     pub labels-fit : S .regs .labels ≤ 64
     pub advices : S .regs .installed ≡ length (E .state .advices)
@@ -61,9 +60,9 @@ module _ (T : Table) (root : ℕ) (L : Linked T 0 root) (S : State) where
 module _ (T : Table) (root : ℕ) (L : Linked T 0 root) (S : State) (N : ℕ) (B : List ℕ) where
   -- From the closure machine's state to the calculus's.
   ends-of : (e : EndOf Val) (o : Outcome) (k : ℕ) (s : CState) → outcomeOf e ≡ some o → S .regs .outcome ≡ outcomeNumber o → k + S .regs .rest ≡ N
-      → ((v : Val) → e ≡ done v → Stands T root L S (S .regs .hand) v) → Store T root L B (S .memory) (S .log) (sizes (S .regs)) s → VmEnds T root L S N B (ended e k (plainState s))
+      → ((v : Val) → e ≡ done v → Stands T root L S (S .regs .hand) v) → Store T root L B (S .memory) (S .log) (sizes (S .regs)) s → Used (S .regs .pools) (s .used) → VmEnds T root L S N B (ended e k (plainState s))
   unfolding plainVal
-  ends-of e o k s p q b r st =
+  ends-of e o k s p q b r st u =
       record {
         outcome = o;
         ends = p;
@@ -79,12 +78,8 @@ module _ (T : Table) (root : ℕ) (L : Linked T 0 root) (S : State) (N : ℕ) (B
             let cell : StandsCell T root L S i (plainCell (m .0)) = record { held = record { value = m .0 .held; is = h .value; plain = refl }; note = h .note; low = h .low } in
             rw (m .2) at cell;
         cells-count = st .cells-count ∙ sym (length-map (s .cells) plainCell);
-        cells-used = st .cells;
         cells-fit = st .cells-fit;
-        bindings = st .bindings;
-        bindings-fit = st .bindings-fit;
-        pieces = st .pieces;
-        pieces-fit = st .pieces-fit;
+        used = u;
         labels = st .labels;
         labels-fit = st .labels-fit;
         advices = st .advices ∙ sym (length-map (s .advices) plainAdvice);
@@ -99,6 +94,6 @@ module _ (T : Table) (root : ℕ) (L : Linked T 0 root) (G : Given) (e₀ : Tm) 
   not-done o v p = let t : true ≡ false = cc in absurd (true≢false t)
 
   pub halted-ends : (S : State) → Halted T root L G e₀ Ω N B S → VmEnds T root L S N B (run N G 0 fresh e₀)
-  halted-ends S (halted-done {k = k} {s = s} {v = u} m o e st iv b f) =
-      rw e (ends-of T root L S N B (done (plainVal u)) Outcome.Done k s refl o b (λ v q. record { value = u; is = iv; plain = done-only q }) st)
-  halted-ends S (halted-stopped {k = k} {s = s} o m n e st b f) = rw e (ends-of T root L S N B (stopped o) o k s refl n b (λ v q. not-done o v q) st)
+  halted-ends S (halted-done {k = k} {s = s} {v = u} m o e st y iv b f) =
+      rw e (ends-of T root L S N B (done (plainVal u)) Outcome.Done k s refl o b (λ v q. record { value = u; is = iv; plain = done-only q }) st y)
+  halted-ends S (halted-stopped {k = k} {s = s} o m n e st y b f) = rw e (ends-of T root L S N B (stopped o) o k s refl n b (λ v q. not-done o v q) st y)

@@ -25,6 +25,7 @@ use Rattle.vm_machine.specs.Registers.{headroom, fullRoom, setPc}
 use Rattle.vm_machine.specs.Memory.{Memory, slotBase, keptAt}
 use Rattle.vm_machine.specs.States.{State, withRegs, ifLeft, completed, entered}
 use Rattle.vm_machine.specs.Fetch.{Program, codeAt, atomValue, goneTo, called}
+use Rattle.vm_refine.proofs.Pools.{Used}
 use Rattle.vm_refine.proofs.Relations.{sizes, IsBody, IsVal, IsEnv, env-at, env-grows, Grows}
 use Rattle.vm_refine.proofs.Tables.{SameSlots}
 use Rattle.vm_refine.proofs.Store.{Store}
@@ -61,6 +62,7 @@ module _ (T : Table) (root : ℕ) (L : Linked T 0 root) (G : Given) (e₀ : Tm) 
       pub left : q .left ≡ S .regs .left - 1
       pub pc : q .pc ≡ S .regs .pc
       pub store : Store T root L B M′ log′ (sizes q) s′
+      pub used : Used (q .pools) (s′ .used)
       pub grows : Grows (S .memory) (sizes (S .regs)) M′ (sizes q)
       pub slots : SameSlots (S .memory) M′
       pub kept : q .kept ≡ S .regs .kept
@@ -79,7 +81,7 @@ module _ (T : Table) (root : ℕ) (L : Linked T 0 root) (G : Given) (e₀ : Tm) 
       pub still : headroom < S .regs .left → InPlace T root L G e₀ Ω N B S′ (suc k) s′ m P A D
       still more =
           record {
-            common = record { budget = omega (arith, l .left, p .common .budget); running = omega (arith, l .left); store = l .store };
+            common = record { budget = omega (arith, l .left, p .common .budget); running = omega (arith, l .left); store = l .store; used = l .used };
             no-atom = p .no-atom;
             located = p .located;
             stood = p .stood;

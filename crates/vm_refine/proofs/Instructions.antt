@@ -141,7 +141,7 @@ module _ (T : Table) (root : ℕ) (L : Linked T 0 root) (G : Given) (e₀ : Tm) 
     stack-turn y reach q =
         rw (turn-by stack (ap classWith q))
         (judged-now T root L G e₀ Ω N B C says S k s m P A D (eval (op0 theStack y) (P .env)) K (measure S) (reduceStack w S) (nullary-red theStack y reach)
-        (λ R. stack-now T root L G e₀ Ω N B C says S k s m P A D (eval (op0 theStack y) (P .env)) K (placeOf P A) y R))
+        (λ R. stack-now T root L G e₀ Ω N B C says S k s m P A D (eval (op0 theStack y) (P .env)) K y R))
 
     pub takedown-turn : (d : Dom) (y : Ty) → Reach G e₀ Ω k s (eval (op0 (takedown d) y) (P .env)) K → classOf w ≡ takedownClass → fieldB w ≡ d → Then (turn C (G .frame) S)
     unfolding performed classWith
@@ -179,8 +179,8 @@ module _ (T : Table) (root : ℕ) (L : Linked T 0 root) (G : Given) (e₀ : Tm) 
       operator-now install y reach q = judge (op1H install y) _ reach (λ R. install-now T root L G e₀ Ω N B C says S k s m P A D (ret v) _ (placeOf P A) y is R)
       operator-now read y reach q = judge (op1H read y) _ reach (λ R. read-now T root L G e₀ Ω N B C says S k s m P A D (ret v) _ (placeOf P A) y is R)
       operator-now byte y reach q = judge (op1H byte y) _ reach (λ R. byte-now T root L G e₀ Ω N B C says S k s m P A D (ret v) _ (placeOf P A) y is R)
-      operator-now newCell y reach q = judge (op1H newCell y) _ reach (λ R. cell-now T root L G e₀ Ω N B C says S k s m P A D (ret v) _ (placeOf P A) y (q .1) (q .0) is R)
-      operator-now (call j) y reach q = judge (op1H (call j) y) _ reach (λ R. call-now T root L G e₀ Ω N B C says S k s m P A D (ret v) _ (placeOf P A) y j q (λ t es ρ e. method-at y t j es ρ reach e) is R)
+      operator-now newCell y reach q = judge (op1H newCell y) _ reach (λ R. cell-now T root L G e₀ Ω N B C says S k s m P A D (ret v) _ y (q .1) (q .0) is R)
+      operator-now (call j) y reach q = judge (op1H (call j) y) _ reach (λ R. call-now T root L G e₀ Ω N B C says S k s m P A D (ret v) _ y j q (λ t es ρ e. method-at y t j es ρ reach e) is R)
 
       head-now : (H : HeadN) (y : ℕ) → T .node m ≡ oneN H y → Heading (headOf T H) → SaysHead T w H → Then (performed C w (unaryMove (G .frame) M (unaryOf H) x) S)
       unfolding performed
@@ -211,8 +211,8 @@ module _ (T : Table) (root : ℕ) (L : Linked T 0 root) (G : Given) (e₀ : Tm) 
 
         two-now : (o : Op2) (y : Ty) → Reach G e₀ Ω k s (ret v′) (op2R o y v ∷ K) → Then (performed C w (binaryMove (binaryOf o) x x′) S)
         unfolding performed
-        two-now Op2.pair y reach = judge2 Op2.pair y _ reach (λ R. pair-now T root L G e₀ Ω N B C says S k s m P A D (ret v′) _ (placeOf P A) y is is′ R)
-        two-now app y reach = judge2 app y _ reach (λ R. apply-now T root L G e₀ Ω N B C says S k s m P A D (ret v′) _ (placeOf P A) y (λ t e ρ q. called-at y t e ρ reach q) is is′ R)
+        two-now Op2.pair y reach = judge2 Op2.pair y _ reach (λ R. pair-now T root L G e₀ Ω N B C says S k s m P A D (ret v′) _ y is is′ R)
+        two-now app y reach = judge2 app y _ reach (λ R. apply-now T root L G e₀ Ω N B C says S k s m P A D (ret v′) _ y (λ t e ρ q. called-at y t e ρ reach q) is is′ R)
         two-now mark y reach = judge2 mark y _ reach (λ R. mark-now T root L G e₀ Ω N B C says S k s m P A D (ret v′) _ (placeOf P A) y is is′ R)
         two-now store y reach = judge2 store y _ reach (λ R. store-now T root L G e₀ Ω N B C says S k s m P A D (ret v′) _ (placeOf P A) y is is′ R)
         two-now plus y reach = judge2 plus y _ reach (λ R. arithmetic-now T root L G e₀ Ω N B C says S k s m P A D (ret v′) _ a-plus (placeOf P A) y is is′ R)

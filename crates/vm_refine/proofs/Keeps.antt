@@ -115,8 +115,8 @@ module _ (T : Table) (root : ℕ) (L : Linked T 0 root) (G : Given) (e₀ : Tm) 
           (halted-stopped Outcome.Frames refl refl
           (ends-deep G e₀ Ω k s (eval e (P .env)) F at-body N (r .left - headroom) (omega (arith, p .common .budget, p .common .running)) (no-value e (P .env) a)
           (omega (arith, deep, p .room, stack-depth P A D (p .stood) (p .fine))))
-          st (omega (arith, p .common .budget, p .common .running))
-          (fits-in T root L G e₀ Ω N B M (S .log) (halt Outcome.Frames r) s st (omega (arith, pc, small)) (p .env-fits) (omega (arith, p .room, kept-fits T root L A (p .kept)))))
+          st (p .common .used) (omega (arith, p .common .budget, p .common .running))
+          (fits-in T root L G e₀ Ω N B M (S .log) (halt Outcome.Frames r) s st (p .common .used) (omega (arith, pc, small)) (p .env-fits) (omega (arith, p .room, kept-fits T root L A (p .kept)))))
 
       -- The body begins, over the keep's activation frame.
       module _ (h : depthOf w < r .room) where
@@ -163,7 +163,7 @@ module _ (T : Table) (root : ℕ) (L : Linked T 0 root) (G : Given) (e₀ : Tm) 
         store₁ : Store T root L B framed₁ (S .log) z s
         store₁ =
             store-charged T root L B M (S .log) z s st framed₁ (z .nb) (z .np) (s .used) grows₁ (above-put M cellBase (slotIn (r .room) (depthOf w + 1)) word (omega (arith, index))) (st .beside)
-            (st .bindings) (st .bindings-fit) (st .pieces) (st .pieces-fit) refl
+            (st .bindings-fit) (st .pieces-fit)
 
         entry-here : keptAt kept₁ (r .kept) ≡ entryWord
         entry-here = word-same framed₁ (keptBase + r .kept) entryWord (omega (arith, few, store₁ .words))
@@ -201,7 +201,7 @@ module _ (T : Table) (root : ℕ) (L : Linked T 0 root) (G : Given) (e₀ : Tm) 
             let low : T .entry f < termCount = says .few (T .entry f) (instruction-of T root L points) in
             after-now {C = begin e (body (P .env) (domAt P)) A′ D}
             (record {
-              common = record { budget = p .common .budget; running = p .common .running; store = store-kept T root L B framed₁ (S .log) z s store₁ (r .kept) entryWord };
+              common = record { budget = p .common .budget; running = p .common .running; store = store-kept T root L B framed₁ (S .log) z s store₁ (r .kept) entryWord; used = p .common .used };
               good =
                   record {
                     runs = begin-leads G e₀ Ω s e (body (P .env) (domAt P)) A′ D a .reached k at-body;
@@ -244,7 +244,7 @@ module _ (T : Table) (root : ℕ) (L : Linked T 0 root) (G : Given) (e₀ : Tm) 
                 is = ap (λ (X : Place). due (framed X (go s (ret u))) K) (site-place P A D (p .stood .0) (p .fine));
               })
               (λ R. gives T root L G e₀ Ω N B C says S k s m P A D (ret u) F R M (S .log) (stepped r) s
-              (record { env = refl; room = refl; left = refl; pc = refl; store = st; grows = grows-refl M z; slots = slots-refl M; kept = refl; keeps = λ i. refl }) (atomValue C M (r .env) (codeAt C f)) u refl
+              (record { env = refl; room = refl; left = refl; pc = refl; store = st; used = p .common .used; grows = grows-refl M z; slots = slots-refl M; kept = refl; keeps = λ i. refl }) (atomValue C M (r .env) (codeAt C f)) u refl
               (atom-is T root L C says M z (r .env) (P .env) (p .env) (p .env-fits) f (target .1) a located (bound-tm G e₀ Ω k s e (P .env) F at-body)))
 
           room-now : isAtom e ≡ false → (t : ℕ) → t ≡ T .entry f → (b : Bool) → leb (r .room) (depthOf w) ≡ b
@@ -296,7 +296,7 @@ module _ (T : Table) (root : ℕ) (L : Linked T 0 root) (G : Given) (e₀ : Tm) 
         there : headroom < r .left → InPlace T root L G e₀ Ω N B S′ (suc k) s m P A D
         there more =
             record {
-              common = record { budget = omega (arith, common .budget); running = omega arith; store = common .store };
+              common = record { budget = omega (arith, common .budget); running = omega arith; store = common .store; used = common .used };
               no-atom = slot .no-atom;
               located = slot .located;
               stood = stood;
@@ -316,8 +316,8 @@ module _ (T : Table) (root : ℕ) (L : Linked T 0 root) (G : Given) (e₀ : Tm) 
             let l : r .left ≤ headroom = leb-true (r .left) headroom b in
             after-halted
             (halted-stopped Outcome.Spent refl refl
-            (ends-spent G e₀ Ω k s (ret v) (keepF u y ∷ K) reach N 0 (omega (arith, common .budget, common .running)) refl (go s (ret v)) K moved refl) (common .store) (omega (arith, common .budget, common .running))
-            (fits-in T root L G e₀ Ω N B (S .memory) (S .log) (halt Outcome.Spent r) s (common .store) (omega (arith, pc)) fits few))
+            (ends-spent G e₀ Ω k s (ret v) (keepF u y ∷ K) reach N 0 (omega (arith, common .budget, common .running)) refl (go s (ret v)) K moved refl) (common .store) (common .used) (omega (arith, common .budget, common .running))
+            (fits-in T root L G e₀ Ω N B (S .memory) (S .log) (halt Outcome.Spent r) s (common .store) (common .used) (omega (arith, pc)) fits few))
         try false b =
             let more : headroom < r .left = leb-false (r .left) headroom b in
             let on = completed-now T root L G e₀ Ω N B C says S′ (suc k) s m P A D (there more) (omega (arith, room)) (r .hand) v is (reach-go G e₀ Ω k s (ret v) (keepF u y ∷ K) reach s (ret v) K moved) in

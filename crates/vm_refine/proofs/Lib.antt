@@ -1,4 +1,5 @@
 -- The machine over words makes the calculus's runs.
+pub mod Pools
 pub mod Relations
 pub mod Tables
 pub mod Store

@@ -1,7 +1,7 @@
 -- The reduction of a mark (document 003, section 2.3, figure 5): all its bindings are made at its own step, and the first advice begins.
 use Prim.Native.Nat.{ℕ, suc, _+_, _-_, _≤_, _<_}
 use native.Mathlib.Omega.{arith}
-use mathlib.Core.Path.{_≡_, refl, sym, ap, _∙_}
+use mathlib.Core.Path.{_≡_, refl, sym, ap, subst, _∙_}
 use mathlib.Core.Bool.{Bool, true, false, not}
 use mathlib.Core.List.{List, [], _∷_}
 use mathlib.Core.Option.{Option, none, some}
@@ -12,7 +12,7 @@ use Rattle.calculus.specs.declared.Outcome.{Outcome}
 use Rattle.calculus.specs.Limits.{frameLimit, bindingLimit}
 use Rattle.calculus.specs.Combinators.{choose}
 use Rattle.calculus.specs.Syntax.{Dom, Ty, Tm, mark}
-use Rattle.calculus.specs.State.{Advice, Given, fresh, charged, addCounts, someBindings}
+use Rattle.calculus.specs.State.{Advice, Given, fresh, charged, addUses, adviceBindings}
 use Rattle.calculus.specs.Compose.{triggeredBy}
 use Rattle.calculus.specs.Place.{Place}
 use Rattle.calculus.specs.Answer.{go, full, if-room, with}
@@ -27,12 +27,16 @@ use Rattle.vm_theory.proofs.Located.{describes}
 use Rattle.vm_theory.proofs.Kept.{IsChain, waits-kept, chain-kept}
 use Rattle.vm_code.specs.Words.{depthOf, termCount}
 use Rattle.vm_code.specs.Says.{SaysCode}
+use Rattle.vm_machine.specs.declared.Pool.{Pool}
 use Rattle.vm_machine.specs.declared.Regs.{Regs}
-use Rattle.vm_machine.specs.Registers.{headroom, fullRoom, setPc, setHand, setEnv, setRoom, setPools, stepped, boundTo, halt}
+use Rattle.vm_machine.specs.Registers.{headroom, fullRoom, setPc, setHand, setEnv, setRoom, setPools, stepped, halt}
+use Rattle.vm_machine.specs.Pools.{whole, setBindings, withinHalves, markOut}
 use Rattle.vm_machine.specs.Memory.{Memory, keptBase, keptAt, wordAt, slotBase, cellBase, slotIn, slotWord, slotKind, slotPc, slotEnv, adviceFrame, bindingsLeft, nextBinding, endBinding, putAdvice, bindingAt, boundTarget, hasBit}
 use Rattle.vm_machine.specs.States.{State, withRegs, withMemory, ifLeft, ifRoom, completed}
 use Rattle.vm_machine.specs.Fetch.{Program, codeAt}
 use Rattle.vm_machine.specs.Reduce.{given, Bound, bindMatching, bodyAt, startAdvice, reduceMark}
+use Rattle.vm_machine.specs.Fits.{PoolFits}
+use Rattle.vm_refine.proofs.Pools.{leb-iff, Used, advice-used, spend-advice}
 use Rattle.vm_refine.proofs.Relations.{Sizes, sizes, IsVal, is-unit, IsEnv, env-at, IsTriggered, one-left, Grows, env-grows, triggered-at, triggered-grows}
 use Rattle.vm_refine.proofs.Tables.{word-same, word-other, grows-put, grows-sizes, grows-trans, Above, above-put, SameSlots}
 use Rattle.vm_refine.proofs.Store.{Store, store-charged}
@@ -41,7 +45,7 @@ use Rattle.vm_refine.proofs.Slots.{slotOf, slot-word, slot-same, Held, 
 use Rattle.vm_refine.proofs.Now.{InPlace, Now, halted-stopped}
 use Rattle.vm_refine.proofs.Views.{AsLabel, a-label, no-label, as-label}
 use Rattle.vm_refine.proofs.Arrives.{completed-now}
-use Rattle.vm_refine.proofs.Steps.{leb-iff, spend-bindings, measure, After, after-halted, fits-in, Stepping, no-room, if-left-with, no-wrong}
+use Rattle.vm_refine.proofs.Steps.{measure, After, after-halted, fits-in, Stepping, no-room, if-left-with, no-wrong}
 use Rattle.vm_refine.proofs.Gives.{Left, still, falls}
 use Rattle.vm_refine.proofs.Advice.{stack-depth, advised}
 use Rattle.vm_refine.proofs.Matching.{newest-first, Written, written-refl, Made, made-all, none-named}
@@ -83,7 +87,7 @@ module _ (T : Table) (root : ℕ) (L : Linked T 0 root) (G : Given) (e₀ : Tm) 
     pub frame-store : Store T root L B framed (S .log) z s
     frame-store =
         store-charged T root L B M (S .log) z s st framed (z .nb) (z .np) (s .used) frame-grows (above-put M cellBase (slotIn room′ d) word (omega (arith, index))) (st .beside)
-        (st .bindings) (st .bindings-fit) (st .pieces) (st .pieces-fit) refl
+        (st .bindings-fit) (st .pieces-fit)
 
     pub frame-kept : AreKept T root L framed z (S .regs .kept) (keptBy A)
     frame-kept = kept-grows T root L frame-grows (λ i. word-other M (slotIn room′ d) word (keptBase + i) (λ e. omega (arith, index))) (p .kept)
@@ -122,7 +126,7 @@ module _ (T : Table) (root : ℕ) (L : Linked T 0 root) (G : Given) (e₀ : Tm) 
     r = S .regs
 
     abbrev n : ℕ
-    n = r .pools .bindings
+    n = whole (r .pools .bindings)
 
     abbrev w : ℕ
     w = codeAt C m
@@ -170,8 +174,8 @@ module _ (T : Table) (root : ℕ) (L : Linked T 0 root) (G : Given) (e₀ : Tm) 
             after-halted
             (halted-stopped Outcome.Frames refl refl
             (ends-full G e₀ Ω (suc k) s′ (triggered v (first ∷ x)) K reach N (q .left - headroom) (omega (arith, p .common .budget, p .common .running)) Outcome.Frames [] is)
-            (p .common .store) (omega (arith, p .common .budget, p .common .running))
-            (fits-in T root L G e₀ Ω N B M′ (S .log) (halt Outcome.Frames q) s′ (p .common .store) (omega (arith, l .pc, R .pc, small)) (p .env-fits) (omega (arith, p .room, kept-fits T root L A (p .kept)))))
+            (p .common .store) (p .common .used) (omega (arith, p .common .budget, p .common .running))
+            (fits-in T root L G e₀ Ω N B M′ (S .log) (halt Outcome.Frames q) s′ (p .common .store) (p .common .used) (omega (arith, l .pc, R .pc, small)) (p .env-fits) (omega (arith, p .room, kept-fits T root L A (p .kept)))))
           where
             long : frameLimit < length (triggeredF v x ∷ K)
             long = omega (arith, deep, p .room, stack-depth P A D (p .stood) (p .fine))
@@ -194,6 +198,7 @@ module _ (T : Table) (root : ℕ) (L : Linked T 0 root) (G : Given) (e₀ : Tm) 
               budget = p .common .budget;
               running = p .common .running;
               store = frame-store S′ (suc k) s′ m P A D p (n + 1) end within (q .pc) (q .env) (l .pc ∙ R .pc) (p .env-fits) (p .env) (depthOf w + 2) (q .room) index;
+              used = p .common .used;
             })
             (p .stood) (p .fine) b refl refl (env-grows T root L M′ (sizes q) M″ (sizes q) g ie) (omega arith) (omega (arith, deep, p .room))
             (frame-chain S′ (suc k) s′ m P A D p (n + 1) end within (q .pc) (q .env) (l .pc ∙ R .pc) (p .env-fits) (p .env) (depthOf w + 2) (q .room) index d v x (omega arith) (omega arith)
@@ -214,11 +219,18 @@ module _ (T : Table) (root : ℕ) (L : Linked T 0 root) (G : Given) (e₀ : Tm) 
         st : Store T root L B (S .memory) (S .log) (sizes r) s
         st = R .place .common .store
 
-        used : ℕ → CState
-        used j = charged (addCounts (s .used) (someBindings j)) s
+        pool : Used (r .pools) (s .used)
+        pool = R .place .common .used
 
-        all : ℕ → Bound
-        all l = bindMatching (r .installed) l x′ (record { memory = S .memory; count = n })
+        used : List (Advice Body) → CState
+        used a = charged (addUses (s .used) (adviceBindings a)) s
+
+        -- the tables before the loop
+        start : Bound Pool
+        start = record { memory = S .memory; count = r .pools .bindings }
+
+        all : ℕ → Bound Pool
+        all l = bindMatching (r .installed) l x′ start
 
         slots : {M′ : Memory} → Written (S .memory) (sizes r) M′ → SameSlots (S .memory) M′
         slots k = record { word = λ j h g. k .above .kept j h; byte = k .beside }
@@ -233,17 +245,17 @@ module _ (T : Table) (root : ℕ) (L : Linked T 0 root) (G : Given) (e₀ : Tm) 
         bytes k = rw (k .beside) (st .beside)
 
         -- no advice: the tables M′ have no more bindings
-        none-now : (M′ : Memory) → Written (S .memory) (sizes r) M′ → At (go (used 0) (triggered v′ [])) → headroom < r .left → Then (given w 0 (withMemory M′ r S))
+        none-now : (M′ : Memory) → Written (S .memory) (sizes r) M′ → At (go (used []) (triggered v′ [])) → headroom < r .left → Then (given w 0 (withMemory M′ r S))
         none-now M′ k Q more =
-            quiet v′ M′ (stepped r) (used 0) Q
+            quiet v′ M′ (stepped r) (used []) Q
             (record {
               env = refl;
               room = refl;
               left = refl;
               pc = refl;
               store =
-                  store-charged T root L B (S .memory) (S .log) (sizes r) s st M′ n (sizes r .np) (addCounts (s .used) (someBindings 0)) (k .grows) (cells k) (bytes k) (omega (arith, st .bindings)) (st .bindings-fit)
-                  (omega (arith, st .pieces)) (st .pieces-fit) (omega arith);
+                  store-charged T root L B (S .memory) (S .log) (sizes r) s st M′ n (sizes r .np) (used [] .used) (k .grows) (cells k) (bytes k) (st .bindings-fit) (st .pieces-fit);
+              used = advice-used pool [] (r .pools .bindings) (omega arith) (omega arith) (pool .bindings .fits);
               grows = k .grows;
               slots = slots k;
               kept = refl;
@@ -251,22 +263,23 @@ module _ (T : Table) (root : ℕ) (L : Linked T 0 root) (G : Given) (e₀ : Tm) 
             })
             more
 
-        some-now : (d : Dom) (ls : List ℕ) (e : Tm) (ρ : Env) (a : List (Advice Body)) (b : Bound) → Made T root L (S .memory) (sizes r) v′ (record { dom = d; labels = ls; body = record { term = e; env = ρ } } ∷ a) (record { memory = S .memory; count = n }) b → b .count ≤ 2048
-            → At (go (used (suc (length a))) (triggered v′ (record { dom = d; labels = ls; body = record { term = e; env = ρ } } ∷ a))) → headroom < r .left
-            → Then (startAdvice w n (b .count) (withMemory (b .memory) (setPools (boundTo (b .count) (r .pools)) (stepped r)) S))
-        some-now d ls e ρ a b k few Q more =
-            let q : Regs = setPools (boundTo (b .count) (r .pools)) (stepped r) in
+        some-now : (d : Dom) (ls : List ℕ) (e : Tm) (ρ : Env) (a : List (Advice Body)) (b : Bound Pool) → Made T root L (S .memory) (sizes r) v′ (record { dom = d; labels = ls; body = record { term = e; env = ρ } } ∷ a) start b → PoolFits bindingLimit (b .count)
+            → At (go (used (record { dom = d; labels = ls; body = record { term = e; env = ρ } } ∷ a)) (triggered v′ (record { dom = d; labels = ls; body = record { term = e; env = ρ } } ∷ a))) → headroom < r .left
+            → Then (startAdvice w n (whole (b .count)) (withMemory (b .memory) (setPools (setBindings (b .count) (r .pools)) (stepped r)) S))
+        some-now d ls e ρ a b k fits Q more =
+            let f : Advice Body = record { dom = d; labels = ls; body = record { term = e; env = ρ } } in
+            let few : whole (b .count) ≤ 2048 = omega (arith, fits .mainline, fits .others) in
+            let q : Regs = setPools (setBindings (b .count) (r .pools)) (stepped r) in
             let g : Grows (S .memory) (sizes r) (b .memory) (sizes q) =
             grows-trans (k .written .grows) (grows-sizes (b .memory) (sizes r) (sizes q) (omega (arith, k .count)) (omega arith)) in
-            start-now v′ d ls e ρ a (b .memory) q (used (suc (length a))) (b .count) few Q
+            start-now v′ d ls e ρ a (b .memory) q (used (f ∷ a)) (whole (b .count)) few Q
             (record {
               env = refl;
               room = refl;
               left = refl;
               pc = refl;
-              store =
-                  store-charged T root L B (S .memory) (S .log) (sizes r) s st (b .memory) (b .count) (sizes r .np) (addCounts (s .used) (someBindings (suc (length a)))) g (cells (k .written)) (bytes (k .written))
-                  (omega (arith, k .count, st .bindings)) few (omega (arith, st .pieces)) (st .pieces-fit) (omega arith);
+              store = store-charged T root L B (S .memory) (S .log) (sizes r) s st (b .memory) (whole (b .count)) (sizes r .np) (used (f ∷ a) .used) g (cells (k .written)) (bytes (k .written)) few (st .pieces-fit);
+              used = advice-used pool (f ∷ a) (b .count) (k .mainline) (k .others) fits;
               grows = g;
               slots = slots (k .written);
               kept = refl;
@@ -276,45 +289,62 @@ module _ (T : Table) (root : ℕ) (L : Linked T 0 root) (G : Given) (e₀ : Tm) 
 
         -- the tables, with bindings written that are not in use
         kept : {M′ : Memory} → Written (S .memory) (sizes r) M′ → Store T root L B M′ (S .log) (sizes r) s
-        kept {M′} wr = store-charged T root L B (S .memory) (S .log) (sizes r) s st M′ n (sizes r .np) (s .used) (wr .grows) (cells wr) (bytes wr) (st .bindings) (st .bindings-fit) (st .pieces) (st .pieces-fit) refl
+        kept {M′} wr = store-charged T root L B (S .memory) (S .log) (sizes r) s st M′ n (sizes r .np) (s .used) (wr .grows) (cells wr) (bytes wr) (st .bindings-fit) (st .pieces-fit)
 
         -- the step is made, if one is left
         left-now : {M′ : Memory} (s′ : CState) (c′ : Control) (S′ : State) → Written (S .memory) (sizes r) M′ → At (go s′ c′) → (headroom < r .left → Then S′) → Then (ifLeft (withMemory M′ r S) S′)
         left-now {M′} s′ c′ S′ wr Q h = if-left-with T root L G e₀ Ω N B C says S k s m P A D c F (measure S) M′ (kept wr) S′ Q refl h
 
-        tests : (a : List (Advice Body)) (b : Bound) → Made T root L (S .memory) (sizes r) v′ a (record { memory = S .memory; count = n }) b → leb (b .count) bindingLimit ≡ leb (length a) (bindingLimit - s .used .bindings)
-        tests a b k =
-            leb-iff (b .count) bindingLimit (length a) (bindingLimit - s .used .bindings) (λ h. omega (arith, k .count, st .bindings, st .bindings-fit)) (λ h. omega (arith, k .count, st .bindings, st .bindings-fit))
+        -- domain 0's half, and the others'
+        tests : (a : List (Advice Body)) (b : Bound Pool) → Made T root L (S .memory) (sizes r) v′ a start b
+            → (leb (b .count .mainline) bindingLimit ≡ leb (adviceBindings a .mainline .bindings) (bindingLimit - s .used .mainline .bindings)) × (leb (b .count .others) bindingLimit ≡ leb (adviceBindings a .others .bindings) (bindingLimit - s .used .others .bindings))
+        tests a b k = (
+          leb-iff (b .count .mainline) bindingLimit (adviceBindings a .mainline .bindings) (bindingLimit - s .used .mainline .bindings) (λ h. omega (arith, k .mainline, pool .bindings .mainline))
+              (λ h. omega (arith, k .mainline, pool .bindings .mainline, pool .bindings .fits .mainline)),
+          leb-iff (b .count .others) bindingLimit (adviceBindings a .others .bindings) (bindingLimit - s .used .others .bindings) (λ h. omega (arith, k .others, pool .bindings .others))
+              (λ h. omega (arith, k .others, pool .bindings .others, pool .bindings .fits .others)),
+        )
 
-        rest-now : (a : List (Advice Body)) (b : Bound) → Made T root L (S .memory) (sizes r) v′ a (record { memory = S .memory; count = n }) b → (t : Bool) → leb (length a) (bindingLimit - s .used .bindings) ≡ t → At (if-room t Outcome.Bindings (go (used (length a)) (triggered v′ a)))
+        rest-now : (a : List (Advice Body)) (b : Bound Pool) → Made T root L (S .memory) (sizes r) v′ a start b → (t u : Bool) → leb (adviceBindings a .mainline .bindings) (bindingLimit - s .used .mainline .bindings) ≡ t
+            → leb (adviceBindings a .others .bindings) (bindingLimit - s .used .others .bindings) ≡ u → At (if-room t Outcome.Bindings (if-room u Outcome.OtherBindings (go (used a) (triggered v′ a))))
             → Then
-            (ifRoom (leb (b .count) bindingLimit) Outcome.Bindings (withMemory (b .memory) r S)
-            (choose (eqb (b .count) n) (given w 0 (withMemory (b .memory) r S)) (startAdvice w n (b .count) (withMemory (b .memory) (setPools (boundTo (b .count) (r .pools)) (stepped r)) S))))
-        rest-now a b wr false e Q = rw (tests a b wr ∙ e) (no-room T root L G e₀ Ω N B C says S k s m P A D c F (measure S) (b .memory) (kept (wr .written)) Outcome.Bindings Q refl)
-        rest-now [] b wr true e Q =
-            rw (tests [] b wr ∙ e, eq-eqb (b .count) n (omega (arith, wr .count))) (left-now (used 0) (triggered v′ []) _ (wr .written) Q (none-now (b .memory) (wr .written) Q))
-        rest-now (f ∷ a) b wr true e Q =
-            let few : b .count ≤ 2048 = leb-true (b .count) bindingLimit (tests (f ∷ a) b wr ∙ e) in
-            rw (tests (f ∷ a) b wr ∙ e, ne-eqb (b .count) n (λ j. omega (arith, wr .count)))
-            (left-now (used (suc (length a))) (triggered v′ (f ∷ a)) _ (wr .written) Q (some-now (f .dom) (f .labels) (f .body .term) (f .body .env) a b wr few Q))
+            (ifRoom (withinHalves (b .count)) (markOut (b .count)) (withMemory (b .memory) r S)
+            (choose (eqb (whole (b .count)) n) (given w 0 (withMemory (b .memory) r S)) (startAdvice w n (whole (b .count)) (withMemory (b .memory) (setPools (setBindings (b .count) (r .pools)) (stepped r)) S))))
+        rest-now a b wr false u e f Q = rw (tests a b wr .0 ∙ e) (no-room T root L G e₀ Ω N B C says S k s m P A D c F (measure S) (b .memory) (kept (wr .written)) Outcome.Bindings Q refl)
+        rest-now a b wr true false e f Q =
+            rw (tests a b wr .0 ∙ e, tests a b wr .1 ∙ f) (no-room T root L G e₀ Ω N B C says S k s m P A D c F (measure S) (b .memory) (kept (wr .written)) Outcome.OtherBindings Q refl)
+        rest-now [] b wr true true e f Q =
+            rw (tests [] b wr .0 ∙ e, tests [] b wr .1 ∙ f, eq-eqb (whole (b .count)) n (omega (arith, wr .count))) (left-now (used []) (triggered v′ []) _ (wr .written) Q (none-now (b .memory) (wr .written) Q))
+        rest-now (h ∷ a) b wr true true e f Q =
+            let fits : PoolFits bindingLimit (b .count) =
+            record { mainline = leb-true (b .count .mainline) bindingLimit (tests (h ∷ a) b wr .0 ∙ e); others = leb-true (b .count .others) bindingLimit (tests (h ∷ a) b wr .1 ∙ f) } in
+            rw (tests (h ∷ a) b wr .0 ∙ e, tests (h ∷ a) b wr .1 ∙ f, ne-eqb (whole (b .count)) n (λ j. omega (arith, wr .count)))
+            (left-now (used (h ∷ a)) (triggered v′ (h ∷ a)) _ (wr .written) Q (some-now (h .dom) (h .labels) (h .body .term) (h .body .env) a b wr fits Q))
+
+        -- what the calculus comes to, with the advice a
+        Marked : List (Advice Body) → Type 0
+        Marked a =
+            At
+            (if-room (leb (adviceBindings a .mainline .bindings) (bindingLimit - s .used .mainline .bindings)) Outcome.Bindings
+            (if-room (leb (adviceBindings a .others .bindings) (bindingLimit - s .used .others .bindings)) Outcome.OtherBindings (go (used a) (triggered v′ a))))
 
         -- a label that no installed advice names
-        named : (l : ℕ) → l < 64 → (t : Bool) → hasBit (r .named) l ≡ t → At (if-room (leb (length (triggeredBy l (s .advices))) (bindingLimit - s .used .bindings)) Outcome.Bindings (go (used (length (triggeredBy l (s .advices)))) (triggered v′ (triggeredBy l (s .advices)))))
+        named : (l : ℕ) → l < 64 → (t : Bool) → hasBit (r .named) l ≡ t → Marked (triggeredBy l (s .advices))
             → Then
             (choose (not t) (ifLeft S (given w 0 S))
-            (ifRoom (leb (all l .count) bindingLimit) Outcome.Bindings (withMemory (all l .memory) r S)
-            (choose (eqb (all l .count) n) (given w 0 (withMemory (all l .memory) r S)) (startAdvice w n (all l .count) (withMemory (all l .memory) (setPools (boundTo (all l .count) (r .pools)) (stepped r)) S)))))
+            (ifRoom (withinHalves (all l .count)) (markOut (all l .count)) (withMemory (all l .memory) r S)
+            (choose (eqb (whole (all l .count)) n) (given w 0 (withMemory (all l .memory) r S)) (startAdvice w n (whole (all l .count)) (withMemory (all l .memory) (setPools (setBindings (all l .count) (r .pools)) (stepped r)) S)))))
         named l h true t Q =
             rest-now (triggeredBy l (s .advices)) (all l)
-            (made-all T root L (S .memory) (sizes r) (st .pieces-fit) (st .words) l h x′ v′ i′ (newest-first T root L (S .memory) (sizes r) (st .advices) (st .are-advices)) (record { memory = S .memory; count = n }) (omega arith) (written-refl (S .memory) (sizes r)))
-            (leb (length (triggeredBy l (s .advices))) (bindingLimit - s .used .bindings)) refl Q
+            (made-all T root L (S .memory) (sizes r) (st .pieces-fit) (st .words) l h x′ v′ i′ (newest-first T root L (S .memory) (sizes r) (st .advices) (st .are-advices)) start (omega arith) (written-refl (S .memory) (sizes r)))
+            _ _ refl refl Q
         named l h false t Q =
             let none : triggeredBy l (s .advices) ≡ [] = none-named T root L (S .memory) (sizes r) l h t (newest-first T root L (S .memory) (sizes r) (st .advices) (st .are-advices)) in
             let W : Written (S .memory) (sizes r) (S .memory) = written-refl (S .memory) (sizes r) in
-            left-now (used 0) (triggered v′ []) _ W (at-room (rw none at Q)) (none-now (S .memory) W (at-room (rw none at Q)))
+            left-now (used []) (triggered v′ []) _ W (at-room (subst Marked none Q)) (none-now (S .memory) W (at-room (subst Marked none Q)))
           where
-            at-room : At (if-room (leb 0 (bindingLimit - s .used .bindings)) Outcome.Bindings (go (used 0) (triggered v′ []))) → At (go (used 0) (triggered v′ []))
-            at-room Q = rw (le-leb 0 (bindingLimit - s .used .bindings) (omega arith)) at Q
+            at-room : Marked [] → At (go (used []) (triggered v′ []))
+            at-room Q = rw (le-leb 0 (bindingLimit - s .used .mainline .bindings) (omega arith), le-leb 0 (bindingLimit - s .used .others .bindings) (omega arith)) at Q
 
         -- the label is there
         there : (o : Option Dom) (a : CAnswer) → At (with o (λ p. a)) → At a
@@ -323,5 +353,5 @@ module _ (T : Table) (root : ℕ) (L : Linked T 0 root) (G : Given) (e₀ : Tm) 
 
         try : {u : CVal} → AsLabel T root L (S .memory) (sizes r) x u → At (reduce2C G X s mark y u v′) → Then (reduceMark w x x′ S)
         try (a-label {l = l} p q) Q =
-            rw q (named l (omega arith) (hasBit (r .named) l) refl (rw (spend-bindings s (λ s′. go s′ (triggered v′ (triggeredBy l (s .advices)))) (length (triggeredBy l (s .advices)))) at (there (getElem? (s .labels) l) _ Q)))
+            rw q (named l (omega arith) (hasBit (r .named) l) refl (rw (spend-advice s (λ s′. go s′ (triggered v′ (triggeredBy l (s .advices)))) (triggeredBy l (s .advices))) at (there (getElem? (s .labels) l) _ Q)))
         try (no-label p) Q = absurd (no-wrong T root L G e₀ Ω N B C says S k s m P A D c F Q (rw p))

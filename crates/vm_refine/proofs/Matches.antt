@@ -10,10 +10,9 @@ use lib.Seq.{getD-set-same, getD-set-other}
 use lib.Dec.{leb}
 use borrow.Author.Tests.{ne-eqb, leb-true, leb-false, le-leb, lt-leb}
 use Rattle.calculus.specs.declared.Outcome.{Outcome}
-use Rattle.calculus.specs.Limits.{bindingLimit}
 use Rattle.calculus.specs.Combinators.{choose, cases}
 use Rattle.calculus.specs.Syntax.{Tm, Tms, Pattern, match, end, more}
-use Rattle.calculus.specs.State.{Entry, Given, someBindings, addCounts, charged, told, turns}
+use Rattle.calculus.specs.State.{Entry, Given, someBindings, addUses, atDom, charged, told, turns}
 use Rattle.calculus.specs.View.{labelsOf}
 use Rattle.calculus.specs.Answer.{go}
 use Rattle.calculus.specs.Place.{Place, framed}
@@ -40,14 +39,16 @@ use Rattle.vm_code.specs.Words as code
 use Rattle.vm_code.specs.Classes as classes
 use Rattle.vm_code.specs.Says.{SaysPattern, says-end, says-rest, SaysCode}
 use Rattle.vm_machine.specs.declared.Regs.{Regs}
-use Rattle.vm_machine.specs.Registers.{headroom, fullRoom, setPc, setRoom, setPools, bound, stepped, halt}
+use Rattle.vm_machine.specs.Registers.{headroom, fullRoom, setPc, setRoom, setPools, stepped, halt}
+use Rattle.vm_machine.specs.Pools.{halfOf, whole, chargeBindings}
 use Rattle.vm_machine.specs.Memory.{Memory, wordAt, slotBase, cellBase, keptBase, isKept, slotIn, slotWord, slotEnv, slotPc, slotKind, slotHeld, pointcutFrame, putMatch, heldStack}
 use Rattle.vm_machine.specs.States.{State, withRegs, withMemory, judged}
 use Rattle.vm_machine.specs.Fetch.{Program, codeAt, atomValue}
 use Rattle.vm_machine.specs.Stacks.{bindsRest, matches, variables, Chained, bindEntries, lookOn, entryAt, cutTerm, lookedByte, unlooked, stackToCome}
 use Rattle.vm_machine.specs.Stacks as machine
 use Rattle.vm_machine.specs.Turn.{entryFrom, begunAt, beginOperand, reduceMatch, entriesFrom, beginMatch}
-use Rattle.vm_refine.proofs.Relations.{Sizes, sizes, IsBody, IsVal, val-like, val-grows, env-at, env-grows, Grows}
+use Rattle.vm_refine.proofs.Pools.{whole-charged}
+use Rattle.vm_refine.proofs.Relations.{Sizes, sizes, IsBody, IsVal, IsEnv, val-like, val-grows, env-at, env-grows, Grows}
 use Rattle.vm_refine.proofs.Tables.{word-same, word-other, grows-put, grows-refl, above-put, slots-refl}
 use Rattle.vm_refine.proofs.Store.{Store, resized, store-charged, store-told}
 use Rattle.vm_refine.proofs.Keeping.{kept-grows, kept-fits}
@@ -55,7 +56,7 @@ use Rattle.vm_refine.proofs.Slots.{slotOf, byteOf, slot-word, slot-same
 use Rattle.vm_refine.proofs.Now.{entry-ready, InPlace, halted-stopped}
 use Rattle.vm_refine.proofs.Fetch.{atom-is}
 use Rattle.vm_refine.proofs.Arrives.{instruction-of}
-use Rattle.vm_refine.proofs.Steps.{leb-iff, spend-bindings, level, measure, After, after-halted, after-now, fits-in, Stepping, judged-now, if-there-is-room}
+use Rattle.vm_refine.proofs.Steps.{level, measure, After, after-halted, after-now, fits-in, Stepping, judged-now, if-bindings}
 use Rattle.vm_refine.proofs.Gives.{calls}
 use Rattle.vm_refine.proofs.Advice.{stack-depth}
 use Rattle.vm_refine.proofs.Entries.{word-atom, entry-from, begun-at}
@@ -119,8 +120,8 @@ module _ (T : Table) (root : ℕ) (L : Linked T 0 root) (G : Given) (e₀ : Tm) 
           (halted-stopped Outcome.Frames refl refl
           (ends-deep G e₀ Ω k s (eval (T .term y) (P .env)) F′ reach N (r .left - headroom) (omega (arith, p .common .budget, p .common .running)) (no-value (T .term y) (P .env) a)
           (omega (arith, deep, p .room, stack-depth P A D (p .stood) (p .fine))))
-          st (omega (arith, p .common .budget, p .common .running))
-          (fits-in T root L G e₀ Ω N B M (S .log) (halt Outcome.Frames r) s st (omega (arith, pc, small)) (p .env-fits) (omega (arith, p .room, kept-fits T root L A (p .kept)))))
+          st (p .common .used) (omega (arith, p .common .budget, p .common .running))
+          (fits-in T root L G e₀ Ω N B M (S .log) (halt Outcome.Frames r) s st (p .common .used) (omega (arith, pc, small)) (p .env-fits) (omega (arith, p .room, kept-fits T root L A (p .kept)))))
 
       module _ (h : depthOf w + 1 < r .room) where
         abbrev word : ℕ
@@ -162,7 +163,7 @@ module _ (T : Table) (root : ℕ) (L : Linked T 0 root) (G : Given) (e₀ : Tm) 
         stored =
             let u = above-put M cellBase (slotIn (r .room) (depthOf w + 1)) word (omega (arith, index)) in
             store-charged T root L B M (S .log) z s st framed′ (z .nb) (z .np) (s .used) grows (record { words = u .words; kept = u .kept })
-            (rw (length-set (M .beside) (r .room - (depthOf w + 1)) byte) (st .beside)) (st .bindings) (st .bindings-fit) (st .pieces) (st .pieces-fit) refl
+            (rw (length-set (M .beside) (r .room - (depthOf w + 1)) byte) (st .beside)) (st .bindings-fit) (st .pieces-fit)
 
         chain : IsChain T 0 root L (Held T root L framed′ z) (Back T root L framed′ z) D A′
         chain =
@@ -192,7 +193,7 @@ module _ (T : Table) (root : ℕ) (L : Linked T 0 root) (G : Given) (e₀ : Tm) 
             let low : T .entry y < termCount = says .few (T .entry y) (instruction-of T root L points) in
             after-now {C = begin (T .term y) (body (P .env) (domAt P)) A′ D}
             (record {
-              common = record { budget = p .common .budget; running = p .common .running; store = stored };
+              common = record { budget = p .common .budget; running = p .common .running; store = stored; used = p .common .used };
               good =
                   record {
                     runs = begin-leads G e₀ Ω s (T .term y) (body (P .env) (domAt P)) A′ D a .reached k reach;
@@ -254,35 +255,38 @@ module _ (T : Table) (root : ℕ) (L : Linked T 0 root) (G : Given) (e₀ : Tm) 
         taken none e R =
             rw (same ∙ ap isFound e, other)
             (calls T root L G e₀ Ω N B C says S k s m P A D c F R M (S .log) (stepped r) (saying false s)
-            (record { env = refl; room = refl; left = refl; pc = refl; store = store-told T root L B M (S .log) z s (placeOf P A .dom) false st; grows = grows-refl M z; slots = slots-refl M; kept = refl; keeps = λ i. refl })
+            (record { env = refl; room = refl; left = refl; pc = refl; store = store-told T root L B M (S .log) z s (placeOf P A .dom) false st; used = p .common .used; grows = grows-refl M z; slots = slots-refl M; kept = refl; keeps = λ i. refl })
             (begunAt C g) (r .env) (T .term g) (domAt P) (P .env) (body-of g (omega (arith, other)) (l-other (p .located) node)) (p .env) (p .env-fits) refl refl)
         taken (some ws) e R =
             let count : variables C w (countOf w) 0 ≡ length ws = counted T root L C w pattern 0 refl (omega arith) k₀ us ws e in
             rw (same ∙ ap isFound e, first, count)
-            (if-there-is-room T root L G e₀ Ω N B C says S k s m P A D c F (measure S) (leb (length ws) (bindingLimit - s .used .bindings)) Outcome.Bindings _ _ (leb (r .pools .bindings + length ws) bindingLimit)
-            (leb-iff (r .pools .bindings + length ws) bindingLimit (length ws) (bindingLimit - s .used .bindings) (λ h. omega (arith, st .bindings)) (λ h. omega (arith, st .bindings, st .bindings-fit))) R
-            (spend-bindings s (λ s′. go (saying true s′) (eval (T .term f) (linkAll ws (P .env)))) (length ws))
-            (λ room Q.
-            let h : length ws ≤ bindingLimit - s .used .bindings = leb-true (length ws) (bindingLimit - s .used .bindings) room in
-            let fit : r .pools .bindings + length ws ≤ 2048 = omega (arith, st .bindings, st .bindings-fit) in
-            let X : Chained = bindEntries C w (countOf w) 0 v (record { memory = M; count = r .pools .bindings; env = r .env }) in
+            (if-bindings T root L G e₀ Ω N B C says S k s m P A D c F (measure S) (length ws) (λ s₁. go (saying true s₁) (eval (T .term f) (linkAll ws (P .env)))) _ R
+            (λ fit used Q.
+            let q : Regs = setPools (chargeBindings (halfOf w) (length ws) (r .pools)) (stepped r) in
+            let s′ : CState = charged (addUses (s .used) (atDom (domAt P) (someBindings (length ws)))) s in
+            let X : Chained = bindEntries C w (countOf w) 0 v (record { memory = M; count = whole (r .pools .bindings); env = r .env }) in
             let t : Chains T root L M z (length ws) (linkAll ws (P .env)) X = bound-all T root L C w pattern 0 refl (omega arith) M z v (r .env) k₀ us ws (P .env) (st .words) (st .pieces-fit) iv (p .env) (p .env-fits) e fit in
-            calls T root L G e₀ Ω N B C says S k s m P A D c F Q (X .memory) (S .log) (setPools (bound (length ws) (r .pools)) (stepped r)) (saying true (charged (addCounts (s .used) (someBindings (length ws))) s))
+            let more : whole (q .pools .bindings) ≡ whole (r .pools .bindings) + length ws = whole-charged (halfOf w) (length ws) (r .pools .bindings) in
+            let z′ : sizes q ≡ resized T root L (whole (r .pools .bindings) + length ws) (z .np) z = ap (λ (n : ℕ). resized T root L n (z .np) z) more in
+            let grown : Grows M z (X .memory) (sizes q) = subst (λ (y : Sizes). Grows M z (X .memory) y) (sym z′) (t .grows) in
+            calls T root L G e₀ Ω N B C says S k s m P A D c F Q (X .memory) (S .log) q (saying true s′)
             (record {
               env = refl;
               room = refl;
               left = refl;
               pc = refl;
               store =
-                  store-told T root L B (X .memory) (S .log) (resized T root L (r .pools .bindings + length ws) (z .np) z) (charged (addCounts (s .used) (someBindings (length ws))) s) (placeOf P A .dom) true
-                  (store-charged T root L B M (S .log) z s st (X .memory) (r .pools .bindings + length ws) (z .np) (addCounts (s .used) (someBindings (length ws))) (t .grows)
-                  (record { words = t .above .words; kept = λ i l. t .above .kept i (omega arith) }) (rw (t .beside) (st .beside)) (omega (arith, st .bindings)) fit (omega (arith, st .pieces)) (st .pieces-fit) (omega arith));
-              grows = t .grows;
+                  store-told T root L B (X .memory) (S .log) (sizes q) s′ (placeOf P A .dom) true
+                  (store-charged T root L B M (S .log) z s st (X .memory) (whole (q .pools .bindings)) (z .np) (s′ .used) grown
+                  (record { words = t .above .words; kept = λ i l. t .above .kept i (omega arith) }) (rw (t .beside) (st .beside)) (omega (arith, more)) (st .pieces-fit));
+              used = used;
+              grows = grown;
               slots = record { word = λ i l u. t .above .kept i l; byte = t .beside };
               kept = refl;
               keeps = λ i. t .above .kept (keptBase + i) (omega arith);
             })
-            (begunAt C f) (X .env) (T .term f) (domAt P) (linkAll ws (P .env)) (body-of f (omega (arith, first)) (l-match (p .located) node)) (t .env) (t .fits) refl refl))
+            (begunAt C f) (X .env) (T .term f) (domAt P) (linkAll ws (P .env)) (body-of f (omega (arith, first)) (l-match (p .located) node))
+            (subst (λ (y : Sizes). IsEnv T root L (X .memory) y (X .env) (linkAll ws (P .env))) (sym z′) (t .env)) (t .fits) refl refl))
 
       -- All operands are worked out.
       made-now : (us : List CVal) (q : Pattern) (kk u : CVal) (vs : List CVal) (j : machine.Looked) → Looked pat k₀ (countOf w) us q kk (j .fits) → SaysPattern (C .image) (closePlace w) 0 q [] → reverse (u ∷ vs) ≡ k₀ ∷ us

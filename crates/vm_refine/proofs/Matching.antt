@@ -7,15 +7,17 @@ use mathlib.Core.List.{List, [], _∷_, reverse, reverseAux}
 use lib.ListN.{length}
 use lib.Dec.{ltb}
 use borrow.Author.Tests.{lt-ltb, ltb-true}
-use Rattle.calculus.specs.Limits.{bindingLimit}
 use Rattle.calculus.specs.Combinators.{choose}
 use Rattle.calculus.specs.Syntax.{Dom, Tm}
-use Rattle.calculus.specs.State.{Advice}
+use Rattle.calculus.specs.State.{Advice, addUses, someBindings, adviceBindings}
 use Rattle.calculus.specs.Compose.{member, matching}
 use Rattle.closure_machine.specs.Closure.{CVal, Env, link, Body}
 use Rattle.vm_theory.specs.Table.{Table, Linked}
-use Rattle.vm_machine.specs.Memory.{Memory, noBinding, slotBase, installedBase, binding, boundTarget, boundLink, bindingAt, putBinding, pieceFirst, pieceSecond, adviceTarget, adviceEnv, hasBit, installedAt}
+use Rattle.vm_machine.specs.declared.Pool.{Pool}
+use Rattle.vm_machine.specs.Pools.{isMainline, whole, charge}
+use Rattle.vm_machine.specs.Memory.{Memory, bindingPlaces, noBinding, slotBase, installedBase, binding, boundTarget, boundLink, bindingAt, putBinding, pieceFirst, pieceSecond, adviceTarget, adviceEnv, adviceDom, hasBit, installedAt}
 use Rattle.vm_machine.specs.Reduce.{Bound, bindOne, bindMatching}
+use Rattle.vm_refine.proofs.Pools.{atHalf, one-charged, whole-charged}
 use Rattle.vm_refine.proofs.Relations.{Sizes, body-at, IsVal, IsEnv, is-link, env-outside, IsAdvice, at-piece, IsTriggered, no-more, one-left, val-at, env-at, val-like, Grows, val-grows, env-grows}
 use Rattle.vm_refine.proofs.Tables.{word-same, word-other, grows-put, grows-sizes, grows-refl, grows-trans, Above, above-put, above-refl, above-trans}
 use Rattle.vm_refine.proofs.Store.{AreAdvices, none-installed, one-installed, resized}
@@ -55,55 +57,77 @@ module _ (T : Table) (root : ℕ) (L : Linked T 0 root) where
     newest-first {n} {x} q k = let e : n ≡ 0 + length x = omega arith in rw e (before-onto k none-before)
 
   -- What the loop leaves: how many bindings there are, what was written, and that the bindings made before the loop stay.
-  pub record Made (M : Memory) (z : Sizes) (w : CVal) (x : List (Advice Body)) (B B′ : Bound) : Type 0 where
-    pub count : B′ .count ≡ B .count + length x
+  pub record Made (M : Memory) (z : Sizes) (w : CVal) (x : List (Advice Body)) (B B′ : Bound Pool) : Type 0 where
+    pub mainline : B′ .count .mainline ≡ B .count .mainline + adviceBindings x .mainline .bindings
+    pub others : B′ .count .others ≡ B .count .others + adviceBindings x .others .bindings
+    pub count : whole (B′ .count) ≡ whole (B .count) + length x
     pub written : Written M z (B′ .memory)
-    pub earlier : (j : ℕ) → j < B .count → j < 2048 → bindingAt (B′ .memory) j ≡ bindingAt (B .memory) j
-    pub triggered : B′ .count ≤ 2048 → IsTriggered T root L (B′ .memory) (resized T root L (B′ .count) (z .np) z) (B .count) (B′ .count) w x
+    pub earlier : (j : ℕ) → j < whole (B .count) → j < 2048 → bindingAt (B′ .memory) j ≡ bindingAt (B .memory) j
+    pub triggered : whole (B′ .count) ≤ 2048 → IsTriggered T root L (B′ .memory) (resized T root L (whole (B′ .count)) (z .np) z) (whole (B .count)) (whole (B′ .count)) w x
 
   module _ (M : Memory) (z : Sizes) (np : z .np ≤ 512) (long : 4418 ≤ length (M .words)) (l : ℕ) (label : l < 64) (v : ℕ) (w : CVal) (iv : IsVal T root L M z v w) where
     -- One advice, that the label triggers, and then the others.
-    made-one : (p : ℕ) (d : Dom) (ls : List ℕ) (f : Tm) (ρ : Env) (x : List (Advice Body)) (B B′ : Bound) → IsAdvice T root L M z p d ls f ρ → z .nb ≤ B .count → Written M z (B .memory) → (W : Memory)
-        → W ≡ choose (ltb (B .count) bindingLimit) (putBinding (B .count) (binding v (adviceTarget (pieceFirst (B .memory) p)) (adviceEnv (pieceFirst (B .memory) p))) (B .memory)) (B .memory)
-        → Made M z w x (record { memory = W; count = B .count + 1 }) B′ → Made M z w (record { dom = d; labels = ls; body = record { term = f; env = ρ } } ∷ x) B B′
+    made-one : (p : ℕ) (d : Dom) (ls : List ℕ) (f : Tm) (ρ : Env) (x : List (Advice Body)) (B B′ : Bound Pool) → IsAdvice T root L M z p d ls f ρ → z .nb ≤ whole (B .count) → Written M z (B .memory) → (W : Memory)
+        → W ≡ choose (ltb (whole (B .count)) bindingPlaces) (putBinding (whole (B .count)) (binding v (adviceTarget (pieceFirst (B .memory) p)) (adviceEnv (pieceFirst (B .memory) p))) (B .memory)) (B .memory)
+        → Made M z w x (record { memory = W; count = charge (isMainline (adviceDom (pieceFirst (B .memory) p))) 1 (B .count) }) B′ → Made M z w (record { dom = d; labels = ls; body = record { term = f; env = ρ } } ∷ x) B B′
     made-one p d ls f ρ x B B′ (at-piece lt b q e hs) low k W is m =
-        record { count = omega (arith, m .count); written = m .written; earlier = λ j h g. m .earlier j (omega arith) g ∙ other j h (ltb (B .count) bindingLimit) refl; triggered = first }
+        record {
+          mainline = m .mainline ∙ one-charged h (B .count) (adviceBindings x) .0 ∙ ap (λ (t : Bool). B .count .mainline + addUses (atHalf t (someBindings 1)) (adviceBindings x) .mainline .bindings) here;
+          others = m .others ∙ one-charged h (B .count) (adviceBindings x) .1 ∙ ap (λ (t : Bool). B .count .others + addUses (atHalf t (someBindings 1)) (adviceBindings x) .others .bindings) here;
+          count = omega (arith, m .count, more);
+          written = m .written;
+          earlier = λ j g l. m .earlier j (omega (arith, more)) l ∙ other j g (ltb n bindingPlaces) refl;
+          triggered = first;
+        }
       where
         a : ℕ
         a = pieceFirst (B .memory) p
 
+        n : ℕ
+        n = whole (B .count)
+
+        -- the half of the advice's domain
+        h : Bool
+        h = isMainline (adviceDom a)
+
+        here : h ≡ isMainline d
+        here = ap (λ (y : ℕ). isMainline (adviceDom y)) (k .grows .firsts p lt) ∙ ap isMainline q
+
+        more : whole (charge h 1 (B .count)) ≡ n + 1
+        more = whole-charged h 1 (B .count)
+
         word : ℕ
         word = binding v (adviceTarget a) (adviceEnv a)
 
-        other : (j : ℕ) → j < B .count → (t : Bool) → ltb (B .count) bindingLimit ≡ t → bindingAt W j ≡ bindingAt (B .memory) j
-        other j h true q = rw (is, q) (word-other (B .memory) (0 + B .count) word (0 + j) (λ e. omega arith))
-        other j h false q = rw (is, q)
+        other : (j : ℕ) → j < n → (t : Bool) → ltb n bindingPlaces ≡ t → bindingAt W j ≡ bindingAt (B .memory) j
+        other j g true q = rw (is, q) (word-other (B .memory) (0 + n) word (0 + j) (λ e. omega arith))
+        other j g false q = rw (is, q)
 
-        first : B′ .count ≤ 2048 → IsTriggered T root L (B′ .memory) (resized T root L (B′ .count) (z .np) z) (B .count) (B′ .count) w (record { dom = d; labels = ls; body = record { term = f; env = ρ } } ∷ x)
-        first h =
+        first : whole (B′ .count) ≤ 2048 → IsTriggered T root L (B′ .memory) (resized T root L (whole (B′ .count)) (z .np) z) n (whole (B′ .count)) w (record { dom = d; labels = ls; body = record { term = f; env = ρ } } ∷ x)
+        first l =
             let M′ : Memory = B′ .memory in
-            let z′ : Sizes = resized T root L (B′ .count) (z .np) z in
-            let room : B .count < 2048 = omega (arith, m .count) in
-            let made : W ≡ putBinding (B .count) word (B .memory) = is ∙ ap (λ (t : Bool). choose t (putBinding (B .count) word (B .memory)) (B .memory)) (lt-ltb (B .count) bindingLimit room) in
-            let here : bindingAt W (B .count) ≡ word = ap (λ (m : Memory). bindingAt m (B .count)) made ∙ word-same (B .memory) (0 + B .count) word (omega (arith, k .above .words)) in
-            let kept : bindingAt M′ (B .count) ≡ word = m .earlier (B .count) (omega arith) room ∙ here in
+            let z′ : Sizes = resized T root L (whole (B′ .count)) (z .np) z in
+            let room : n < 2048 = omega (arith, m .count, more) in
+            let made : W ≡ putBinding n word (B .memory) = is ∙ ap (λ (t : Bool). choose t (putBinding n word (B .memory)) (B .memory)) (lt-ltb n bindingPlaces room) in
+            let there : bindingAt W n ≡ word = ap (λ (m : Memory). bindingAt m n) made ∙ word-same (B .memory) (0 + n) word (omega (arith, k .above .words)) in
+            let kept : bindingAt M′ n ≡ word = m .earlier n (omega (arith, more)) room ∙ there in
             let same : a ≡ pieceFirst M p = k .grows .firsts p lt in
             let parts = binding-word v (adviceTarget a) (adviceEnv a) (omega arith) (omega arith) in
-            let g : Grows M z M′ z′ = grows-trans (m .written .grows) (grows-sizes M′ z z′ (omega (arith, m .count)) (omega arith)) in
-            let at : boundLink (bindingAt M′ (B .count)) ≡ adviceEnv (pieceFirst M p) = ap boundLink kept ∙ parts .3 ∙ ap adviceEnv same in
-            let e′ : IsEnv T root L M′ z′ (B .count) (link w ρ) =
-            is-link {l = B .count} (omega (arith, m .count)) (val-at T root L M′ z′ kept (val-like T root L M′ z′ (parts .0) (parts .1) (val-grows T root L M z M′ z′ g iv)))
+            let g : Grows M z M′ z′ = grows-trans (m .written .grows) (grows-sizes M′ z z′ (omega (arith, m .count, more)) (omega arith)) in
+            let at : boundLink (bindingAt M′ n) ≡ adviceEnv (pieceFirst M p) = ap boundLink kept ∙ parts .3 ∙ ap adviceEnv same in
+            let e′ : IsEnv T root L M′ z′ n (link w ρ) =
+            is-link {l = n} (omega (arith, m .count, more)) (val-at T root L M′ z′ kept (val-like T root L M′ z′ (parts .0) (parts .1) (val-grows T root L M z M′ z′ g iv)))
             (env-at T root L M′ z′ at (env-grows T root L M z M′ z′ g e)) (λ o. env-outside T root L M z (omega arith) e (subst (λ (i : ℕ). noBinding ≤ i) at o)) in
-            let next : suc (B .count) ≡ B .count + 1 = omega arith in
-            let rest : IsTriggered T root L M′ z′ (suc (B .count)) (B′ .count) w x = rw next (m .triggered h) in
-            one-left {b = B .count} {e = B′ .count} (omega (arith, m .count)) e′ (body-at T root L (ap boundTarget kept ∙ parts .2 ∙ ap adviceTarget same) b) rest
+            let next : suc n ≡ whole (charge h 1 (B .count)) = omega (arith, more) in
+            let rest : IsTriggered T root L M′ z′ (suc n) (whole (B′ .count)) w x = rw next (m .triggered l) in
+            one-left {b = n} {e = whole (B′ .count)} (omega (arith, m .count, more)) e′ (body-at T root L (ap boundTarget kept ∙ parts .2 ∙ ap adviceTarget same) b) rest
 
     has-advice : (p : ℕ) (d : Dom) (ls : List ℕ) (f : Tm) (ρ : Env) (M′ : Memory) → IsAdvice T root L M z p d ls f ρ → Written M z M′ → hasBit (pieceSecond M′ p) l ≡ member l ls
     has-advice p d ls f ρ M′ (at-piece lt b q e hs) k = ap (λ (w : ℕ). hasBit w l) (k .grows .seconds p lt) ∙ hs .has l label
 
-    pub made-all : {n : ℕ} {x : List (Advice Body)} → AreBefore M z n x → (B : Bound) → z .nb ≤ B .count → Written M z (B .memory) → Made M z w (matching l x) B (bindMatching n l v B)
+    pub made-all : {n : ℕ} {x : List (Advice Body)} → AreBefore M z n x → (B : Bound Pool) → z .nb ≤ whole (B .count) → Written M z (B .memory) → Made M z w (matching l x) B (bindMatching n l v B)
     unfolding bindMatching
-    made-all none-before B low k = record { count = omega arith; written = k; earlier = λ j h g. refl; triggered = λ h. no-more refl }
+    made-all none-before B low k = record { mainline = omega arith; others = omega arith; count = omega arith; written = k; earlier = λ j h g. refl; triggered = λ h. no-more refl }
     made-all (one-before {n = n} {a = a} {x = x} ia u more) B low k = try (member l (a .labels)) (has-advice p (a .dom) (a .labels) (a .body .term) (a .body .env) (B .memory) ia′ k) (made-all more)
       where
         p : ℕ
@@ -116,18 +140,22 @@ module _ (T : Table) (root : ℕ) (L : Linked T 0 root) where
         word = binding v (adviceTarget (pieceFirst (B .memory) p)) (adviceEnv (pieceFirst (B .memory) p))
 
         W : Memory
-        W = choose (ltb (B .count) bindingLimit) (putBinding (B .count) word (B .memory)) (B .memory)
+        W = choose (ltb (whole (B .count)) bindingPlaces) (putBinding (whole (B .count)) word (B .memory)) (B .memory)
 
-        writes : (t : Bool) → ltb (B .count) bindingLimit ≡ t → Written M z (choose t (putBinding (B .count) word (B .memory)) (B .memory))
-        writes true q = written-more M z (B .memory) (B .count) word np low (ltb-true (B .count) bindingLimit q) k
+        -- the pool with the advice's binding
+        N : Pool
+        N = charge (isMainline (adviceDom (pieceFirst (B .memory) p))) 1 (B .count)
+
+        writes : (t : Bool) → ltb (whole (B .count)) bindingPlaces ≡ t → Written M z (choose t (putBinding (whole (B .count)) word (B .memory)) (B .memory))
+        writes true q = written-more M z (B .memory) (whole (B .count)) word np low (ltb-true (whole (B .count)) bindingPlaces q) k
         writes false q = k
 
-        try : (t : Bool) → hasBit (pieceSecond (B .memory) p) l ≡ t → ((B : Bound) → z .nb ≤ B .count → Written M z (B .memory) → Made M z w (matching l x) B (bindMatching n l v B))
+        try : (t : Bool) → hasBit (pieceSecond (B .memory) p) l ≡ t → ((B : Bound Pool) → z .nb ≤ whole (B .count) → Written M z (B .memory) → Made M z w (matching l x) B (bindMatching n l v B))
             → Made M z w (choose t (a ∷ matching l x) (matching l x)) B (bindMatching n l v (bindOne l v n B))
         try true q ih =
             rw q
-            (made-one p (a .dom) (a .labels) (a .body .term) (a .body .env) (matching l x) B (bindMatching n l v (record { memory = W; count = B .count + 1 })) ia′ low k W refl
-            (ih (record { memory = W; count = B .count + 1 }) (omega arith) (writes (ltb (B .count) bindingLimit) refl)))
+            (made-one p (a .dom) (a .labels) (a .body .term) (a .body .env) (matching l x) B (bindMatching n l v (record { memory = W; count = N })) ia′ low k W refl
+            (ih (record { memory = W; count = N }) (omega (arith, whole-charged (isMainline (adviceDom (pieceFirst (B .memory) p))) 1 (B .count))) (writes (ltb (whole (B .count)) bindingPlaces) refl)))
         try false q ih = rw q (ih B low k)
 
   -- A label that is not named triggers nothing.

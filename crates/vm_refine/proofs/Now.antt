@@ -24,6 +24,7 @@ use Rattle.vm_code.specs.Says.{targetNumber}
 use Rattle.vm_machine.specs.Registers.{headroom, fullRoom}
 use Rattle.vm_machine.specs.States.{State}
 use Rattle.vm_machine.specs.Fits.{Fits}
+use Rattle.vm_refine.proofs.Pools.{Used}
 use Rattle.vm_refine.proofs.Relations.{sizes, IsVal, IsEnv}
 use Rattle.vm_refine.proofs.Store.{Store}
 use Rattle.vm_refine.proofs.Keeping.{AreKept}
@@ -85,6 +86,7 @@ module _ (T : Table) (root : ℕ) (L : Linked T 0 root) (G : Given) (e₀ : Tm) 
     pub budget : k + S .regs .left ≡ N + headroom
     pub running : headroom ≤ S .regs .left
     pub store : Store T root L B (S .memory) (S .log) (sizes (S .regs)) s
+    pub used : Used (S .regs .pools) (s .used)
 
   -- The machine is at a place of an activation: instruction m is there, its operands aside.
   pub record InPlace (S : State) (k : ℕ) (s : CState) (m : ℕ) (P : Site) (A : Chain) (D : Slots) : Type 0 where
@@ -118,6 +120,6 @@ module _ (T : Table) (root : ℕ) (L : Linked T 0 root) (G : Given) (e₀ : Tm) 
   -- The run has ended, and the machine with it.
   pub data Halted (S : State) : Type 0 where
     halted-done : {k : ℕ} {s : CState} {v : CVal} → S .regs .left ≡ 0 → S .regs .outcome ≡ 0 → run N G 0 fresh e₀ ≡ ended (done (plainVal v)) k (plainState s)
-        → Store T root L B (S .memory) (S .log) (sizes (S .regs)) s → IsVal T root L (S .memory) (sizes (S .regs)) (S .regs .hand) v → k + S .regs .rest ≡ N → Fits (length B) (S .regs) → Halted S
+        → Store T root L B (S .memory) (S .log) (sizes (S .regs)) s → Used (S .regs .pools) (s .used) → IsVal T root L (S .memory) (sizes (S .regs)) (S .regs .hand) v → k + S .regs .rest ≡ N → Fits (length B) (S .regs) → Halted S
     halted-stopped : {k : ℕ} {s : CState} (o : Outcome) → S .regs .left ≡ 0 → S .regs .outcome ≡ outcomeNumber o → run N G 0 fresh e₀ ≡ ended (stopped o) k (plainState s)
-        → Store T root L B (S .memory) (S .log) (sizes (S .regs)) s → k + S .regs .rest ≡ N → Fits (length B) (S .regs) → Halted S
+        → Store T root L B (S .memory) (S .log) (sizes (S .regs)) s → Used (S .regs .pools) (s .used) → k + S .regs .rest ≡ N → Fits (length B) (S .regs) → Halted S

@@ -125,8 +125,8 @@ module _ (T : Table) (root : ℕ) (L : Linked T 0 root) (G : Given) (e₀ : Tm) 
         let low : level r ≤ r .room + 1 = omega (arith, ap (λ (t : Bool). choose t (fullRoom + 2) (r .room + 1)) (ne-eqb (r .pc) code.home (λ e. omega (arith, small)))) in
         after-mono {b = measure S} (omega arith)
         (judged-now T root L G e₀ Ω N B C says S k s m P A D c F (measure S) (newPiece w 7 0 (labelSet (countOf w) (digitsOf ds) 0) S)
-        (record { place = p; pc = pc; reach = reach; is = is ∙ ap (λ (X : Place). due (framed X (reduceNC G (placeAt K) s pcdN (P .env) (map CVal.label ds))) K) at })
-        (λ R. pointcut-now T root L G e₀ Ω N B C says S k s m P A D c F (placeOf P A) (P .env) ds (countOf w) ls (n ∙ sym count) R))
+        (record { place = p; pc = pc; reach = reach; is = is ∙ ap (λ (X : Place). due (framed X (reduceNC G X s pcdN (P .env) (map CVal.label ds))) K) at })
+        (λ R. pointcut-now T root L G e₀ Ω N B C says S k s m P A D c F (P .env) ds (countOf w) ls (n ∙ sym count) R))
 
     -- A child that is no atom.
     module _ (ds : List ℕ) (y : ℕ) (ys : List ℕ) (ls : Labels ds) (d : drop (length ds) xs ≡ y ∷ ys) (a : isAtomAt T y ≡ false)
@@ -144,8 +144,8 @@ module _ (T : Table) (root : ℕ) (L : Linked T 0 root) (G : Given) (e₀ : Tm) 
           (halted-stopped Outcome.Frames refl refl
           (ends-deep G e₀ Ω k s (eval (T .term y) (P .env)) F′ reach N (r .left - headroom) (omega (arith, p .common .budget, p .common .running)) (no-value (T .term y) (P .env) a)
           (omega (arith, deep, p .room, stack-depth P A D (p .stood) (p .fine))))
-          st (omega (arith, p .common .budget, p .common .running))
-          (fits-in T root L G e₀ Ω N B M (S .log) (halt Outcome.Frames r) s st (omega (arith, pc, small)) (p .env-fits) (omega (arith, p .room, kept-fits T root L A (p .kept)))))
+          st (p .common .used) (omega (arith, p .common .budget, p .common .running))
+          (fits-in T root L G e₀ Ω N B M (S .log) (halt Outcome.Frames r) s st (p .common .used) (omega (arith, pc, small)) (p .env-fits) (omega (arith, p .room, kept-fits T root L A (p .kept)))))
 
       -- The child begins over the pointcut's activation frame.
       module _ (h : depthOf w + 1 < r .room) where
@@ -192,7 +192,7 @@ module _ (T : Table) (root : ℕ) (L : Linked T 0 root) (G : Given) (e₀ : Tm) 
         kept =
             let v = above-put M cellBase (slotIn (r .room) (depthOf w + 1)) word (omega (arith, index)) in
             store-charged T root L B M (S .log) z s st framed′ (z .nb) (z .np) (s .used) grows (record { words = v .words; kept = v .kept })
-            (rw (length-set (M .beside) (r .room - (depthOf w + 1)) (digits / 68719476736 % 256)) (st .beside)) (st .bindings) (st .bindings-fit) (st .pieces) (st .pieces-fit) refl
+            (rw (length-set (M .beside) (r .room - (depthOf w + 1)) (digits / 68719476736 % 256)) (st .beside)) (st .bindings-fit) (st .pieces-fit)
 
         chain : IsChain T 0 root L (Held T root L framed′ z) (Back T root L framed′ z) D A′
         chain =
@@ -241,7 +241,7 @@ module _ (T : Table) (root : ℕ) (L : Linked T 0 root) (G : Given) (e₀ : Tm) 
             let low : T .entry y < termCount = says .few (T .entry y) (instruction-of T root L points) in
             after-now
             (record {
-              common = record { budget = p .common .budget; running = p .common .running; store = kept };
+              common = record { budget = p .common .budget; running = p .common .running; store = kept; used = p .common .used };
               good = good;
               target = to (T .entry y);
               pc = e;

@@ -1,25 +1,21 @@
 -- The reductions that make bindings: application, calls of methods and split.
-use Prim.Native.Nat.{ℕ, zero, suc, _+_, _-_, _*_, _/_, _%_, _≤_, _<_}
+use Prim.Native.Nat.{ℕ, zero, suc, _+_, _*_, _%_, _≤_, _<_}
 use native.Mathlib.Omega.{arith}
 use native.Mathlib.Nat.{mod-eq-of-lt}
 use mathlib.Core.Path.{_≡_, refl, sym, ap, subst, _∙_}
 use mathlib.Core.List.{List, [], _∷_}
 use mathlib.Core.Option.{Option, none, some, Option·none-ne-some, Option·some-injective}
 use lib.ListN.{length, getD, getElem?, length-set}
-use lib.Dec.{ltb, leb}
-use borrow.Author.Tests.{leb-true, lt-ltb}
-use Rattle.calculus.specs.declared.Outcome.{Outcome}
-use Rattle.calculus.specs.Limits.{bindingLimit}
+use borrow.Author.Tests.{lt-ltb}
 use Rattle.calculus.specs.Plain.{domOf, methodsOf, methodDom}
 use Rattle.calculus.specs.Syntax.{Dom, Ty, Tm, Tms, call, app}
-use Rattle.calculus.specs.State.{Given, charged, addCounts, someBindings}
-use Rattle.calculus.specs.Place.{Place}
+use Rattle.calculus.specs.State.{Given, charged, addUses, atDom, someBindings}
 use Rattle.calculus.specs.Answer.{go, wrong, with}
 use Rattle.calculus.specs.Reduce.{bind, methodBody}
 use Rattle.image.specs.Bytes.{le16}
 use Rattle.closure_machine.specs.Closure.{CVal, Env, link, CState}
 use Rattle.closure_machine.specs.Machine.{Control, eval, Stack, CAnswer, reduce1C, reduce2C, reduceSplitC}
-use Rattle.vm_theory.specs.Conf.{Site, Chain, Slots, domAt}
+use Rattle.vm_theory.specs.Conf.{Site, Chain, Slots, domAt, placeOf}
 use Rattle.vm_theory.specs.Table.{objN, Node, Table, termsOf, Linked}
 use Rattle.vm_theory.proofs.Sound.{Sound}
 use Rattle.vm_theory.proofs.Located.{l-method}
@@ -27,17 +23,19 @@ use Rattle.vm_code.specs.Values.{bodyOf, tagOf}
 use Rattle.vm_code.specs.Words.{fieldB, methodTarget, listOffset, termCount}
 use Rattle.vm_code.specs.Says.{Says, says-object, SaysBodies, bodies-here, bodies-listed, SaysTarget, SaysCode}
 use Rattle.vm_machine.specs.declared.Regs.{Regs}
-use Rattle.vm_machine.specs.Registers.{setPools, stepped, bound}
+use Rattle.vm_machine.specs.Registers.{setPools, stepped}
+use Rattle.vm_machine.specs.Pools.{halfOf, whole, chargeBindings}
 use Rattle.vm_machine.specs.Memory.{Memory, keptBase, binding, boundTarget, boundLink, noBinding, bindingAt, putBinding, closureEnv, pieceFirst, pieceSecond, pieceOf, cellBase}
-use Rattle.vm_machine.specs.States.{State, ifLeft, ifRoom}
+use Rattle.vm_machine.specs.States.{State, ifLeft}
 use Rattle.vm_machine.specs.Fetch.{Program, codeAt, called}
-use Rattle.vm_machine.specs.Reduce.{reduceApply, reduceSplit}
+use Rattle.vm_machine.specs.Reduce.{ifBindings, reduceApply, reduceSplit}
 use Rattle.vm_machine.specs.Turn.{begunAt, callBody, reduceCall}
+use Rattle.vm_refine.proofs.Pools.{Used, whole-charged}
 use Rattle.vm_refine.proofs.Relations.{Sizes, sizes, IsBody, IsObject, IsVal, IsEnv, is-link, env-outside, val-like, val-at, env-at, Grows, val-grows, env-grows}
 use Rattle.vm_refine.proofs.Tables.{word-other, word-same, grows-put, grows-sizes, grows-trans, Above, above-put, above-trans, SameSlots, slots-put, slots-trans}
 use Rattle.vm_refine.proofs.Store.{Store, resized, store-charged}
 use Rattle.vm_refine.proofs.Views.{AsFunction, a-function, no-function, as-function, AsObject, an-object, no-object, as-object, AsPair, a-pair, no-pair, as-pair}
-use Rattle.vm_refine.proofs.Steps.{leb-iff, spend-bindings, measure, After, Stepping, no-wrong, if-there-is-room}
+use Rattle.vm_refine.proofs.Steps.{measure, After, Stepping, no-wrong, if-bindings}
 use Rattle.vm_refine.proofs.Entries.{begun-at}
 use Rattle.vm_refine.proofs.Gives.{calls}
 
@@ -104,7 +102,7 @@ module _ (T : Table) (root : ℕ) (L : Linked T 0 root) (G : Given) (e₀ : Tm) 
   z = sizes r
 
   abbrev n : ℕ
-  n = r .pools .bindings
+  n = whole (r .pools .bindings)
 
   abbrev w : ℕ
   w = codeAt C m
@@ -115,31 +113,41 @@ module _ (T : Table) (root : ℕ) (L : Linked T 0 root) (G : Given) (e₀ : Tm) 
   no-way : {a : CAnswer} {X : Type 0} → At a → a ≡ wrong → X
   no-way R e = absurd (no-wrong T root L G e₀ Ω N B C says S k s m P A D c F R e)
 
+  -- The state with n bindings more, and the registers after it.
+  abbrev bound : ℕ → CState
+  bound j = charged (addUses (s .used) (atDom (domAt P) (someBindings j))) s
+
+  abbrev after : ℕ → Regs
+  after j = setPools (chargeBindings (halfOf w) j (r .pools)) (stepped r)
+
+  larger : (j : ℕ) → sizes (after j) ≡ resized T root L (n + j) (z .np) z
+  larger j = ap (λ (i : ℕ). resized T root L i (z .np) z) (whole-charged (halfOf w) j (r .pools .bindings))
+
   -- The value u is bound in an environment, and the body e is called.
-  bound-now : (g l : ℕ) {x : ℕ} {u : CVal} (e : Tm) (d : Dom) (ρ : Env) → l < 65536 → IsBody T root L g e d → d ≡ domAt P → IsEnv T root L M z l ρ → Is x u → At (bind 1 s (eval e (link u ρ)))
-      → Then (ifRoom (ltb n bindingLimit) Outcome.Bindings S (called C w g n (record { memory = putBinding n (binding x 0 l) M; log = S .log; regs = setPools (bound 1 (r .pools)) (stepped r) })))
+  bound-now : (g l : ℕ) {x : ℕ} {u : CVal} (e : Tm) (d : Dom) (ρ : Env) → l < 65536 → IsBody T root L g e d → d ≡ domAt P → IsEnv T root L M z l ρ → Is x u → At (bind (domAt P) 1 s (eval e (link u ρ)))
+      → Then (ifBindings w 1 S (called C w g n (record { memory = putBinding n (binding x 0 l) M; log = S .log; regs = after 1 })))
   bound-now g l {x} {u} e d ρ low b same ie i Q =
-      if-there-is-room T root L G e₀ Ω N B C says S k s m P A D c F (measure S) (leb 1 (bindingLimit - s .used .bindings)) Outcome.Bindings _ _ (ltb n bindingLimit)
-      (leb-iff (suc n) bindingLimit 1 (bindingLimit - s .used .bindings) (λ h. omega (arith, st .bindings)) (λ h. omega (arith, st .bindings))) Q (spend-bindings s (λ s′. go s′ (eval e (link u ρ))) 1)
-      (λ room Q′.
-      let h : 1 ≤ bindingLimit - s .used .bindings = leb-true 1 (bindingLimit - s .used .bindings) room in
-      let fit : n < 2048 = omega (arith, st .bindings) in
-      let f = grows-bound T root L M z (st .words) fit (st .pieces-fit) word in
-      calls T root L G e₀ Ω N B C says S k s m P A D c F Q′ (putBinding n word M) (S .log) (setPools (bound 1 (r .pools)) (stepped r)) (charged (addCounts (s .used) (someBindings 1)) s)
+      if-bindings T root L G e₀ Ω N B C says S k s m P A D c F (measure S) 1 (λ s₁. go s₁ (eval e (link u ρ))) _ Q
+      (λ room used Q′.
+      let fit : n < 2048 = omega arith in
+      let f = subst (λ (y : Sizes). Grows M z (putBinding n word M) y) (sym (larger 1)) (grows-bound T root L M z (st .words) fit (st .pieces-fit) word) in
+      calls T root L G e₀ Ω N B C says S k s m P A D c F Q′ (putBinding n word M) (S .log) (after 1) (bound 1)
       (record {
         env = refl;
         room = refl;
         left = refl;
         pc = refl;
         store =
-            store-charged T root L B M (S .log) z s st (putBinding n word M) (n + 1) (z .np) (addCounts (s .used) (someBindings 1)) f (above-bound T root L M z (st .words) fit (st .pieces-fit) word) (st .beside)
-            (omega (arith, st .bindings)) (omega arith) (omega (arith, st .pieces)) (st .pieces-fit) (omega arith);
+            store-charged T root L B M (S .log) z s st (putBinding n word M) (sizes (after 1) .nb) (z .np) (bound 1 .used) f (above-bound T root L M z (st .words) fit (st .pieces-fit) word) (st .beside)
+            (omega (arith, ap (λ (y : Sizes). y .nb) (larger 1))) (st .pieces-fit);
+        used = used;
         grows = f;
         slots = slots-bound T root L M z (st .words) fit (st .pieces-fit) word;
         kept = refl;
         keeps = λ i. word-other M (0 + n) word (keptBase + i) (λ e. omega arith);
       })
-      g n e d (link u ρ) b (env-bound-to T root L M z (st .words) fit (st .pieces-fit) word x 0 l refl (omega arith) low i ie) fit same refl)
+      g n e d (link u ρ) b
+      (subst (λ (y : Sizes). IsEnv T root L (putBinding n word M) y n (link u ρ)) (sym (larger 1)) (env-bound-to T root L M z (st .words) fit (st .pieces-fit) word x 0 l refl (omega arith) low i ie)) fit same refl)
     where
       st : Store T root L B M (S .log) z s
       st = Q .place .common .store
@@ -148,19 +156,19 @@ module _ (T : Table) (root : ℕ) (L : Linked T 0 root) (G : Given) (e₀ : Tm) 
       word = binding x 0 l
 
   -- An application; the function's type names the current domain.
-  pub apply-now : (X : Place) (y : Ty) {x x′ : ℕ} {v v′ : CVal} → ((t : Ty) (e : Tm) (ρ : Env) → v ≡ CVal.fun t e ρ → domOf t ≡ domAt P) → Is x v → Is x′ v′ → At (reduce2C G X s app y v v′)
+  pub apply-now : (y : Ty) {x x′ : ℕ} {v v′ : CVal} → ((t : Ty) (e : Tm) (ρ : Env) → v ≡ CVal.fun t e ρ → domOf t ≡ domAt P) → Is x v → Is x′ v′ → At (reduce2C G (placeOf P A) s app y v v′)
       → Then (reduceApply C w x x′ S)
   unfolding with
-  apply-now X y {x} {x′} {v} {v′} doms i i′ R = try (as-function T root L M z i) doms R
+  apply-now y {x} {x′} {v} {v′} doms i i′ R = try (as-function T root L M z i) doms R
     where
-      try : {u : CVal} → AsFunction T root L M z x u → ((t : Ty) (e : Tm) (ρ : Env) → u ≡ CVal.fun t e ρ → domOf t ≡ domAt P) → At (reduce2C G X s app y u v′) → Then (reduceApply C w x x′ S)
+      try : {u : CVal} → AsFunction T root L M z x u → ((t : Ty) (e : Tm) (ρ : Env) → u ≡ CVal.fun t e ρ → domOf t ≡ domAt P) → At (reduce2C G (placeOf P A) s app y u v′) → Then (reduceApply C w x x′ S)
       try (a-function {y = t} {e = e} {ρ = ρ} b ie) d Q = bound-now (bodyOf x % 2048) (closureEnv x) e (domOf t) ρ (omega arith) b (d t e ρ refl) ie i′ Q
       try (no-function p) d Q = no-way Q (rw p)
 
   -- Method j of the object x is its body b, which gives e.
   module _ (j : ℕ) {x : ℕ} {t : Ty} {es : Tms} {ρ : Env} (q : fieldB w ≡ j % 2048) (o : IsObject T root L (bodyOf x % 1024) t es) (ie : IsEnv T root L M z (closureEnv x) ρ)
       (d : methodDom (methodsOf t) j ≡ domAt P) (is : Is x (CVal.object t es ρ)) (e : Tm) (b : ℕ) (at : getElem? (o .bodies) j ≡ some b) (get : getD (o .bodies) j 0 ≡ b) (term : T .term b ≡ e)
-      (there : j < length (o .bodies)) (Q : At (bind 1 s (eval e (link (CVal.object t es ρ) ρ)))) where
+      (there : j < length (o .bodies)) (Q : At (bind (domAt P) 1 s (eval e (link (CVal.object t es ρ) ρ)))) where
     abbrev u : ℕ
     u = codeAt C (bodyOf x % 1024)
 
@@ -180,25 +188,25 @@ module _ (T : Table) (root : ℕ) (L : Linked T 0 root) (G : Given) (e₀ : Tm) 
         rw (f, named few, lt-ltb (listOffset u + 2 * j + 1) (length (C .image)) (omega arith)) (called-at (begunAt C (le16 (C .image) (listOffset u + 2 * j) % termCount)) (ap (begunAt C) child ∙ begun-at T root L C says b low, low))
 
   -- A call of a method; the object's type names the current domain for it.
-  pub call-now : (X : Place) (y : Ty) (j : ℕ) {x : ℕ} {v : CVal} → fieldB w ≡ j % 2048 → ((t : Ty) (es : Tms) (ρ : Env) → v ≡ CVal.object t es ρ → methodDom (methodsOf t) j ≡ domAt P) → Is x v
-      → At (reduce1C G X s (call j) y v) → Then (reduceCall C w x S)
+  pub call-now : (y : Ty) (j : ℕ) {x : ℕ} {v : CVal} → fieldB w ≡ j % 2048 → ((t : Ty) (es : Tms) (ρ : Env) → v ≡ CVal.object t es ρ → methodDom (methodsOf t) j ≡ domAt P) → Is x v
+      → At (reduce1C G (placeOf P A) s (call j) y v) → Then (reduceCall C w x S)
   unfolding with
-  call-now X y j {x} {v} q doms i R = try (as-object T root L M z i) doms i R
+  call-now y j {x} {v} q doms i R = try (as-object T root L M z i) doms i R
     where
       found : {t : Ty} {es : Tms} {ρ : Env} → IsObject T root L (bodyOf x % 1024) t es → IsEnv T root L M z (closureEnv x) ρ → methodDom (methodsOf t) j ≡ domAt P → Is x (CVal.object t es ρ)
-          → (e : Option Tm) → methodBody es j ≡ e → At (with e (λ f. bind 1 s (eval f (link (CVal.object t es ρ) ρ)))) → Then (reduceCall C w x S)
+          → (e : Option Tm) → methodBody es j ≡ e → At (with e (λ f. bind (domAt P) 1 s (eval f (link (CVal.object t es ρ) ρ)))) → Then (reduceCall C w x S)
       found o ie d is none p Q = no-way Q refl
       found o ie d is (some e) p Q =
           let b = listed-body T (o .bodies) j e (ap (λ (es : Tms). methodBody es j) (o .terms) ∙ p) in
           let n : Says T (C .image) (codeAt C (bodyOf x % 1024)) (T .node (bodyOf x % 1024)) = says .node (bodyOf x % 1024) (o .small) in
           method-now j q o ie d is e (b .0) (b .1) (b .2) (b .3) (b .4) Q (bodies-said T (C .image) (codeAt C (bodyOf x % 1024)) (subst (λ (N : Node). Says T (C .image) (codeAt C (bodyOf x % 1024)) N) (o .node) n))
 
-      try : {u : CVal} → AsObject T root L M z x u → ((t : Ty) (es : Tms) (ρ : Env) → u ≡ CVal.object t es ρ → methodDom (methodsOf t) j ≡ domAt P) → Is x u → At (reduce1C G X s (call j) y u) → Then (reduceCall C w x S)
+      try : {u : CVal} → AsObject T root L M z x u → ((t : Ty) (es : Tms) (ρ : Env) → u ≡ CVal.object t es ρ → methodDom (methodsOf t) j ≡ domAt P) → Is x u → At (reduce1C G (placeOf P A) s (call j) y u) → Then (reduceCall C w x S)
       try (an-object {y = t} {es = es} {ρ = ρ} b ie) d is Q = found b ie (d t es ρ refl) is (methodBody es j) refl Q
       try (no-object p) d is Q = no-way Q (rw p)
 
   -- The first part is bound outside the second.
-  pub split-now : {x : ℕ} {v : CVal} (e : Tm) → IsBody T root L (fieldB w) e (domAt P) → Is x v → At (reduceSplitC s e (P .env) v) → Then (reduceSplit C w x S)
+  pub split-now : {x : ℕ} {v : CVal} (e : Tm) → IsBody T root L (fieldB w) e (domAt P) → Is x v → At (reduceSplitC (placeOf P A) s e (P .env) v) → Then (reduceSplit C w x S)
   unfolding with
   split-now {x} e b i R = try (as-pair T root L M z i) R
     where
@@ -226,43 +234,40 @@ module _ (T : Table) (root : ℕ) (L : Linked T 0 root) (G : Given) (e₀ : Tm) 
       M″ : Memory
       M″ = putBinding (n + 1) word′ M′
 
-      after : Regs
-      after = setPools (bound 2 (r .pools)) (stepped r)
-
-      made : {u t : CVal} → 2 ≤ bindingLimit - s .used .bindings → Is one u → Is two t → At (go (charged (addCounts (s .used) (someBindings 2)) s) (eval e (link t (link u (P .env)))))
-          → Made (called C w (fieldB w) (n + 1) (record { memory = M″; log = S .log; regs = after }))
-      made {u} {t} h iu it Q =
-          let fit : n < 2048 = omega (arith, st .bindings) in
-          let fit′ : n + 1 < 2048 = omega (arith, st .bindings) in
+      made : {u t : CVal} → Is one u → Is two t → n + 2 ≤ 2048 → Used (after 2 .pools) (bound 2 .used) → At (go (bound 2) (eval e (link t (link u (P .env)))))
+          → Made (called C w (fieldB w) (n + 1) (record { memory = M″; log = S .log; regs = after 2 }))
+      made {u} {t} iu it h used Q =
+          let fit : n < 2048 = omega arith in
+          let fit′ : n + 1 < 2048 = omega arith in
           let words′ : 4418 ≤ length (M′ .words) = rw (length-set (M .words) (0 + n) word) (st .words) in
           let g : Grows M z M′ z′ = grows-bound T root L M z (st .words) fit (st .pieces-fit) word in
           let sum : n + 1 + 1 ≡ n + 2 = omega arith in
+          let z″ : sizes (after 2) ≡ resized T root L (n + 1 + 1) (z .np) z′ = larger 2 ∙ ap (λ (i : ℕ). resized T root L i (z .np) z) (sym sum) in
           let g′ : Grows M′ z′ M″ (resized T root L (n + 1 + 1) (z .np) z′) = grows-bound T root L M′ z′ words′ fit′ (st .pieces-fit) word′ in
-          let g″ : Grows M z M″ (sizes after) = grows-trans g (rw sum at g′) in
+          let g″ : Grows M z M″ (sizes (after 2)) = subst (λ (y : Sizes). Grows M z M″ y) (sym z″) (grows-trans g g′) in
           let ie : IsEnv T root L M′ z′ n (link u (P .env)) =
           env-bound-to T root L M z (st .words) fit (st .pieces-fit) word one 0 (r .env) refl (omega arith) (omega (arith, Q .place .env-fits)) iu (Q .place .env) in
           let ie′ : IsEnv T root L M″ (resized T root L (n + 1 + 1) (z .np) z′) (n + 1) (link t (link u (P .env))) =
           env-bound-to T root L M′ z′ words′ fit′ (st .pieces-fit) word′ two 0 n refl (omega arith) (omega arith) (val-grows T root L M z M′ z′ g it) ie in
-          calls T root L G e₀ Ω N B C says S k s m P A D c F Q M″ (S .log) after (charged (addCounts (s .used) (someBindings 2)) s)
+          calls T root L G e₀ Ω N B C says S k s m P A D c F Q M″ (S .log) (after 2) (bound 2)
           (record {
             env = refl;
             room = refl;
             left = refl;
             pc = refl;
             store =
-                store-charged T root L B M (S .log) z s st M″ (n + 2) (z .np) (addCounts (s .used) (someBindings 2)) g″
+                store-charged T root L B M (S .log) z s st M″ (sizes (after 2) .nb) (z .np) (bound 2 .used) g″
                 (above-trans (above-bound T root L M z (st .words) fit (st .pieces-fit) word) (above-bound T root L M′ z′ words′ fit′ (st .pieces-fit) word′)) (st .beside)
-                (omega (arith, st .bindings)) (omega arith) (omega (arith, st .pieces)) (st .pieces-fit) (omega arith);
+                (omega (arith, ap (λ (y : Sizes). y .nb) (larger 2))) (st .pieces-fit);
+            used = used;
             grows = g″;
             slots = slots-trans (slots-bound T root L M z (st .words) fit (st .pieces-fit) word) (slots-bound T root L M′ z′ words′ fit′ (st .pieces-fit) word′);
             kept = refl;
             keeps = λ i. word-other M′ (0 + (n + 1)) word′ (keptBase + i) (λ e. omega arith) ∙ word-other M (0 + n) word (keptBase + i) (λ e. omega arith);
           })
-          (fieldB w) (n + 1) e (domAt P) (link t (link u (P .env))) b (rw sum at ie′) fit′ refl refl
+          (fieldB w) (n + 1) e (domAt P) (link t (link u (P .env))) b (subst (λ (y : Sizes). IsEnv T root L M″ y (n + 1) (link t (link u (P .env)))) (sym z″) ie′) fit′ refl refl
 
-      try : {u : CVal} → AsPair T root L M z x u → At (reduceSplitC s e (P .env) u) → Then (reduceSplit C w x S)
+      try : {u : CVal} → AsPair T root L M z x u → At (reduceSplitC (placeOf P A) s e (P .env) u) → Then (reduceSplit C w x S)
       try (a-pair {u = u} {s = t} p q iu it) Q =
-          if-there-is-room T root L G e₀ Ω N B C says S k s m P A D c F (measure S) (leb 2 (bindingLimit - s .used .bindings)) Outcome.Bindings _ _ (leb (n + 2) bindingLimit)
-          (leb-iff (n + 2) bindingLimit 2 (bindingLimit - s .used .bindings) (λ h. omega (arith, st .bindings)) (λ h. omega (arith, st .bindings))) Q (spend-bindings s (λ s′. go s′ (eval e (link t (link u (P .env))))) 2)
-          (λ room Q′. made (leb-true 2 (bindingLimit - s .used .bindings) room) iu it Q′)
+          if-bindings T root L G e₀ Ω N B C says S k s m P A D c F (measure S) 2 (λ s₁. go s₁ (eval e (link t (link u (P .env))))) _ Q (made iu it)
       try (no-pair p) Q = no-way Q (rw p)

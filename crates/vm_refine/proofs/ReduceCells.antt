@@ -1,24 +1,20 @@
 -- The reductions that change cells.
-use Prim.Native.Nat.{ℕ, suc, _+_, _-_, _≤_, _<_}
+use Prim.Native.Nat.{ℕ, _+_, _≤_, _<_}
 use native.Mathlib.Omega.{arith}
 use mathlib.Core.Path.{_≡_, refl, sym, _∙_}
 use mathlib.Core.Logic.{_⊎_, inl, inr}
 use mathlib.Core.List.{List, [], _∷_, _++_}
 use mathlib.Core.Option.{Option, none, some}
 use lib.ListN.{length, getElem?, length-append, length-set}
-use lib.Dec.{ltb, leb}
-use borrow.Author.Tests.{leb-true}
-use Rattle.calculus.specs.declared.Outcome.{Outcome}
-use Rattle.calculus.specs.Limits.{cellLimit}
 use Rattle.calculus.specs.Syntax.{Ty, Tm, newCell, store}
 use Rattle.calculus.specs.Plain.{domOf, heldPlain}
-use Rattle.calculus.specs.State.{Cell, Given, stored, charged, addCounts, oneCell, celled}
+use Rattle.calculus.specs.State.{Cell, Given, stored, charged, addUses, atDom, oneCell, celled}
 use Rattle.calculus.specs.Place.{Place}
 use Rattle.calculus.specs.Answer.{go, wrong, with}
 use Rattle.laws.proofs.Lookup.{place-below, get-set, get-snoc}
 use Rattle.closure_machine.specs.Closure.{CVal, CState, plainVal}
 use Rattle.closure_machine.specs.Machine.{Control, ret, Stack, CAnswer, reduce1C, reduce2C}
-use Rattle.vm_theory.specs.Conf.{Site, Chain, Slots}
+use Rattle.vm_theory.specs.Conf.{Site, Chain, Slots, domAt, placeOf}
 use Rattle.vm_theory.specs.Table.{Table, Linked}
 use Rattle.vm_theory.proofs.Sound.{Sound}
 use Rattle.vm_code.specs.Values.{value, tagOf, bodyOf}
@@ -26,17 +22,18 @@ use Rattle.vm_code.specs.Words.{fieldB}
 use Rattle.vm_code.specs.PassUp as passes
 use Rattle.vm_code.specs.Says.{SaysCode}
 use Rattle.vm_machine.specs.declared.Regs.{Regs}
-use Rattle.vm_machine.specs.Registers as regs
 use Rattle.vm_machine.specs.Registers.{setPools, stepped}
+use Rattle.vm_machine.specs.Pools.{halfOf, whole, chargeCells}
 use Rattle.vm_machine.specs.Memory.{Memory, keptBase, putWord, above, cellAt, cellNote}
 use Rattle.vm_machine.specs.States.{State, ifLeft, completed}
 use Rattle.vm_machine.specs.Fetch.{Program, codeAt}
 use Rattle.vm_machine.specs.Reduce.{reduceCell, reduceStore}
+use Rattle.vm_refine.proofs.Pools.{Used, whole-charged}
 use Rattle.vm_refine.proofs.Relations.{Sizes, sizes, IsVal, is-unit, is-cell, val-like, Grows, val-grows}
 use Rattle.vm_refine.proofs.Tables.{word-same, word-other, grows-put, grows-sizes, grows-trans, slots-put}
 use Rattle.vm_refine.proofs.Store.{IsCell, advices-change, Store, cell-change}
 use Rattle.vm_refine.proofs.Views.{AsCell, a-cell, no-cell, as-cell}
-use Rattle.vm_refine.proofs.Steps.{leb-iff, spend-cell, measure, After, Stepping, no-wrong, if-there-is-room}
+use Rattle.vm_refine.proofs.Steps.{measure, After, Stepping, no-wrong, if-cell}
 use Rattle.vm_refine.proofs.Gives.{Left, gives}
 use Rattle.vm_refine.proofs.Values.{tag-value}
 
@@ -88,7 +85,7 @@ module _ (T : Table) (root : ℕ) (L : Linked T 0 root) (G : Given) (e₀ : Tm) 
 
       made : (j : ℕ) (old : Cell CVal) → getElem? (s .cells) j ≡ some old → At (go (stored j old v′ s) (ret CVal.unit)) → Made (completed w 0 (record { memory = putWord (3585 + j) (above x′ (cellNote (cellAt M j))) M; log = S .log; regs = stepped r }))
       made j old there Q =
-          let h : j < r .pools .cells = omega (arith, st .cells-count, place-below (s .cells) j there) in
+          let h : j < whole (r .pools .cells) = omega (arith, st .cells-count, place-below (s .cells) j there) in
           let word : ℕ = above x′ (cellNote (cellAt M j)) in
           let tables : Memory = putWord (3585 + j) word M in
           let new : Cell CVal = record { dom = old .dom; plain = old .plain; held = v′ } in
@@ -107,11 +104,8 @@ module _ (T : Table) (root : ℕ) (L : Linked T 0 root) (G : Given) (e₀ : Tm) 
                 record {
                   words = rw (length-set (M .words) (3585 + j) word) (st .words);
                   beside = st .beside;
-                  bindings = st .bindings;
                   bindings-fit = st .bindings-fit;
-                  pieces = st .pieces;
                   pieces-fit = st .pieces-fit;
-                  cells = st .cells;
                   cells-count = st .cells-count ∙ sym (length-set (s .cells) j new);
                   cells-fit = st .cells-fit;
                   labels = st .labels;
@@ -124,6 +118,7 @@ module _ (T : Table) (root : ℕ) (L : Linked T 0 root) (G : Given) (e₀ : Tm) 
                   log-at = st .log-at;
                   log-fits = st .log-fits;
                 };
+            used = Q .place .common .used;
             grows = g;
             slots = slots-put M (3585 + j) word (λ a b. omega arith);
             kept = refl;
@@ -146,17 +141,15 @@ module _ (T : Table) (root : ℕ) (L : Linked T 0 root) (G : Given) (e₀ : Tm) 
       try (no-cell p) Q = no-way Q (rw p)
 
   -- A new cell.
-  pub cell-now : (X : Place) (y : Ty) {x : ℕ} {v : CVal} → domOf y < 16 → fieldB w ≡ passes.cellNote y → Is x v → At (reduce1C G X s newCell y v) → Then (reduceCell w x S)
-  cell-now X y {x} {v} low note i R =
-      if-there-is-room T root L G e₀ Ω N B C says S k s m P A D c F (measure S) (leb 1 (cellLimit - s .used .cells)) Outcome.Cells _ _ (ltb (r .pools .cells) cellLimit)
-      (leb-iff (suc (r .pools .cells)) cellLimit 1 (cellLimit - s .used .cells) (λ h. omega (arith, st .cells)) (λ h. omega (arith, st .cells))) R (spend-cell s _)
-      (λ room Q. made (leb-true 1 (cellLimit - s .used .cells) room) Q)
+  pub cell-now : (y : Ty) {x : ℕ} {v : CVal} → domOf y < 16 → fieldB w ≡ passes.cellNote y → Is x v → At (reduce1C G (placeOf P A) s newCell y v) → Then (reduceCell w x S)
+  cell-now y {x} {v} low note i R =
+      if-cell T root L G e₀ Ω N B C says S k s m P A D c F (measure S) (λ s₁. go (celled (s₁ .cells ++ (new ∷ [])) s₁) (ret (CVal.cell (length (s₁ .cells))))) _ R made
     where
       st : Store T root L B M (S .log) z s
       st = R .place .common .store
 
       nc : ℕ
-      nc = r .pools .cells
+      nc = whole (r .pools .cells)
 
       new : Cell CVal
       new = record { dom = domOf y; plain = heldPlain y; held = v }
@@ -168,28 +161,31 @@ module _ (T : Table) (root : ℕ) (L : Linked T 0 root) (G : Given) (e₀ : Tm) 
       tables = putWord (3585 + nc) word M
 
       after : Regs
-      after = stepped (setPools (regs.oneCell (r .pools)) r)
+      after = stepped (setPools (chargeCells (halfOf w) 1 (r .pools)) r)
 
       s′ : CState
-      s′ = celled (s .cells ++ (new ∷ [])) (charged (addCounts (s .used) oneCell) s)
+      s′ = celled (s .cells ++ (new ∷ [])) (charged (addUses (s .used) (atDom (domAt P) oneCell)) s)
+
+      more : sizes after .nc ≡ nc + 1
+      more = whole-charged (halfOf w) 1 (r .pools .cells)
 
       g : Grows M z tables (sizes after)
       g =
           grows-trans (grows-put M z (3585 + nc) word (omega (arith, st .bindings-fit)) (λ j h e. omega (arith, st .pieces-fit)))
           (grows-sizes tables z (sizes after) (omega arith) (omega arith))
 
-      at-cell : 1 ≤ cellLimit - s .used .cells → (j : ℕ) (c : Cell CVal) → ((j ≡ length (s .cells)) × (new ≡ c)) ⊎ (getElem? (s .cells) j ≡ some c) → IsCell T root L tables (sizes after) (cellAt tables j) c
+      at-cell : nc + 1 ≤ 256 → (j : ℕ) (c : Cell CVal) → ((j ≡ length (s .cells)) × (new ≡ c)) ⊎ (getElem? (s .cells) j ≡ some c) → IsCell T root L tables (sizes after) (cellAt tables j) c
       at-cell h j c (inl (e, f)) =
           let parts = cell-word x (fieldB w) (omega arith) in
           let is : IsCell T root L tables (sizes after) word new =
           record { value = val-like T root L tables (sizes after) (parts .0) (parts .1) (val-grows T root L M z tables (sizes after) g i); note = parts .2 ∙ note; low = low } in
-          let here : cellAt tables nc ≡ word = word-same M (3585 + nc) word (omega (arith, st .words, st .cells)) in
+          let here : cellAt tables nc ≡ word = word-same M (3585 + nc) word (omega (arith, st .words)) in
           rw (e ∙ sym (st .cells-count), here, ← f) is
       at-cell h j c (inr e) =
           cell-change T root L M z tables (sizes after) g (word-other M (3585 + nc) word (3585 + j) (λ q. omega (arith, st .cells-count, place-below (s .cells) j e))) (st .are-cells j c e)
 
-      made : 1 ≤ cellLimit - s .used .cells → At (go s′ (ret (CVal.cell (length (s .cells))))) → Made (completed w (value 5 nc) (record { memory = tables; log = S .log; regs = after }))
-      made h Q =
+      made : nc + 1 ≤ 256 → Used (after .pools) (s′ .used) → At (go s′ (ret (CVal.cell (length (s .cells))))) → Made (completed w (value 5 nc) (record { memory = tables; log = S .log; regs = after }))
+      made h u Q =
           gave Q tables (S .log) after s′
           (record {
             env = refl;
@@ -200,27 +196,25 @@ module _ (T : Table) (root : ℕ) (L : Linked T 0 root) (G : Given) (e₀ : Tm) 
                 record {
                   words = rw (length-set (M .words) (3585 + nc) word) (st .words);
                   beside = st .beside;
-                  bindings = omega (arith, st .bindings);
                   bindings-fit = st .bindings-fit;
-                  pieces = omega (arith, st .pieces);
                   pieces-fit = st .pieces-fit;
-                  cells = omega (arith, st .cells);
-                  cells-count = omega (arith, st .cells-count, length-append (s .cells) (new ∷ []));
-                  cells-fit = omega (arith, st .cells);
+                  cells-count = omega (arith, more, st .cells-count, length-append (s .cells) (new ∷ []));
+                  cells-fit = omega (arith, more);
                   labels = st .labels;
                   labels-fit = st .labels-fit;
                   advices = st .advices;
                   advices-fit = st .advices-fit;
                   are-cells = λ j c e. at-cell h j c (get-snoc (s .cells) j new e);
-                  are-advices = advices-change T root L M z tables (sizes after) g (λ l n q. q) (st .are-advices) (λ j lt. word-other M (3585 + nc) word (3841 + j) (λ e. omega (arith, st .cells)));
+                  are-advices = advices-change T root L M z tables (sizes after) g (λ l n q. q) (st .are-advices) (λ j lt. word-other M (3585 + nc) word (3841 + j) (λ e. omega arith));
                   logged = st .logged;
                   log-at = st .log-at;
                   log-fits = st .log-fits;
                 };
+            used = u;
             grows = g;
             slots = slots-put M (3585 + nc) word (λ a b. omega arith);
             kept = refl;
             keeps = λ i. word-other M (3585 + nc) word (keptBase + i) (λ e. omega arith);
           })
           (value 5 nc) (CVal.cell (length (s .cells))) refl
-          (is-cell (tag-value 5 nc (omega arith)) (omega (arith, st .cells-count, st .cells)))
+          (is-cell (tag-value 5 nc (omega arith)) (omega (arith, st .cells-count)))

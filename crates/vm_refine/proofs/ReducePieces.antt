@@ -1,41 +1,37 @@
 -- The reductions that make a piece: pairs, pointcuts and advice.
-use Prim.Native.Nat.{ℕ, suc, _+_, _-_, _*_, _≤_, _<_}
+use Prim.Native.Nat.{ℕ, _+_, _*_, _≤_, _<_}
 use native.Mathlib.Omega.{arith}
 use mathlib.Core.Path.{_≡_, refl, ap, _∙_}
 use mathlib.Core.List.{List, [], _∷_, map}
 use mathlib.Core.Option.{some}
 use lib.ListN.{length, length-set}
-use lib.Dec.{ltb, leb}
-use borrow.Author.Tests.{leb-true}
-use Rattle.calculus.specs.declared.Outcome.{Outcome}
-use Rattle.calculus.specs.Limits.{pieceLimit}
 use Rattle.calculus.specs.Combinators.{cases}
 use Rattle.calculus.specs.Syntax.{Dom, Ty, Tm, Op2}
-use Rattle.calculus.specs.State.{Given, charged, addCounts, onePiece}
-use Rattle.calculus.specs.Place.{Place}
+use Rattle.calculus.specs.State.{Given, charged, addUses, atDom, onePiece}
 use Rattle.calculus.specs.Answer.{go, wrong, with}
 use Rattle.calculus.specs.Reduce.{piece, collect}
 use Rattle.closure_machine.specs.Closure.{CVal, Env, CState, plainVal}
 use Rattle.closure_machine.specs.Machine.{Control, ret, pcdN, Stack, CAnswer, reduce2C, reduceNC, reduceAdvC}
-use Rattle.vm_theory.specs.Conf.{Site, Chain, Slots}
+use Rattle.vm_theory.specs.Conf.{Site, Chain, Slots, domAt, placeOf}
 use Rattle.vm_theory.specs.Table.{Table, Linked}
 use Rattle.vm_theory.proofs.Sound.{Sound}
 use Rattle.vm_code.specs.Values.{value}
 use Rattle.vm_code.specs.Words.{fieldB, fieldC}
 use Rattle.vm_code.specs.Says.{SaysCode}
 use Rattle.vm_machine.specs.declared.Regs.{Regs}
-use Rattle.vm_machine.specs.Registers as regs
 use Rattle.vm_machine.specs.Registers.{setPools, stepped}
+use Rattle.vm_machine.specs.Pools.{halfOf, whole, chargePieces}
 use Rattle.vm_machine.specs.Memory.{Memory, keptBase, putWord, pieceFirst, pieceSecond, putPiece, pieceOf, labelSet, adviceWord, adviceTarget, adviceEnv, adviceDom, cellBase}
 use Rattle.vm_machine.specs.States.{State, ifLeft, completed}
 use Rattle.vm_machine.specs.Fetch.{Program, codeAt}
 use Rattle.vm_machine.specs.Reduce.{newPiece, reduceAdvice}
+use Rattle.vm_refine.proofs.Pools.{Used, whole-charged}
 use Rattle.vm_refine.proofs.Relations.{Sizes, sizes, labels-at, IsBody, body-at, IsVal, is-pair, is-labels, is-advice, at-piece, val-at, env-at, Grows, val-grows, env-grows}
 use Rattle.vm_refine.proofs.Tables.{word-same, word-other, grows-put, grows-sizes, grows-trans, above-put, above-trans, slots-put, slots-trans}
 use Rattle.vm_refine.proofs.Store.{Store, store-charged}
 use Rattle.vm_refine.proofs.Labels.{Labels, digitsOf, onto, set-of-labels}
 use Rattle.vm_refine.proofs.Views.{AsPointcut, a-pointcut, no-pointcut, as-pointcut}
-use Rattle.vm_refine.proofs.Steps.{leb-iff, spend-piece, measure, After, Stepping, no-wrong, if-there-is-room}
+use Rattle.vm_refine.proofs.Steps.{measure, After, Stepping, no-wrong, if-pieces}
 use Rattle.vm_refine.proofs.Gives.{gives}
 use Rattle.vm_refine.proofs.Values.{tag-value}
 
@@ -72,7 +68,7 @@ module _ (T : Table) (root : ℕ) (L : Linked T 0 root) (G : Given) (e₀ : Tm) 
   z = sizes r
 
   abbrev np : ℕ
-  np = r .pools .pieces
+  np = whole (r .pools .pieces)
 
   abbrev w : ℕ
   w = codeAt C m
@@ -88,14 +84,15 @@ module _ (T : Table) (root : ℕ) (L : Linked T 0 root) (G : Given) (e₀ : Tm) 
   tables x y = putPiece np x y M
 
   abbrev larger : Sizes
-  larger = sizes (setPools (regs.onePiece (r .pools)) r)
+  larger = sizes (setPools (chargePieces (halfOf w) 1 (r .pools)) r)
 
-  new-piece : (t x y : ℕ) (v : CVal) → At (piece s (ret v))
+  one-larger : larger .np ≡ np + 1
+  one-larger = whole-charged (halfOf w) 1 (r .pools .pieces)
+
+  new-piece : (t x y : ℕ) (v : CVal) → At (piece (domAt P) s (ret v))
       → (np < 512 → Grows M z (tables x y) larger → pieceFirst (tables x y) np ≡ x → pieceSecond (tables x y) np ≡ y → IsVal T root L (tables x y) larger (value t np) v) → Then (newPiece w t x y S)
   new-piece t x y v R made =
-      if-there-is-room T root L G e₀ Ω N B C says S k s m P A D c F (measure S) (leb 1 (pieceLimit - s .used .pieces)) Outcome.Pieces _ _ (ltb np pieceLimit)
-      (leb-iff (suc np) pieceLimit 1 (pieceLimit - s .used .pieces) (λ h. omega (arith, st .pieces)) (λ h. omega (arith, st .pieces))) R (spend-piece s _)
-      (λ room Q. is (leb-true 1 (pieceLimit - s .used .pieces) room) Q)
+      if-pieces T root L G e₀ Ω N B C says S k s m P A D c F (measure S) 1 (λ s₁. go s₁ (ret v)) _ R is
     where
       st : Store T root L B M (S .log) z s
       st = R .place .common .store
@@ -109,26 +106,29 @@ module _ (T : Table) (root : ℕ) (L : Linked T 0 root) (G : Given) (e₀ : Tm) 
       g : Grows M z (tables x y) larger
       g =
           grows-trans (grows-put M z i x (omega (arith, st .bindings-fit)) (λ j h e. omega arith))
-          (grows-trans (grows-put half z (i + 1) y (omega (arith, st .bindings-fit)) (λ j h e. omega arith)) (grows-sizes (tables x y) z larger (omega arith) (omega arith)))
+          (grows-trans (grows-put half z (i + 1) y (omega (arith, st .bindings-fit)) (λ j h e. omega arith)) (grows-sizes (tables x y) z larger (omega arith) (omega (arith, one-larger))))
 
       after : Regs
-      after = stepped (setPools (regs.onePiece (r .pools)) r)
+      after = stepped (setPools (chargePieces (halfOf w) 1 (r .pools)) r)
 
-      is : 1 ≤ pieceLimit - s .used .pieces → At (go (charged (addCounts (s .used) onePiece) s) (ret v)) → Made (completed w (value t np) (record { memory = tables x y; log = S .log; regs = after }))
-      is h Q =
-          let room : np < 512 = omega (arith, st .pieces) in
+      s′ : CState
+      s′ = charged (addUses (s .used) (atDom (domAt P) onePiece)) s
+
+      is : np + 1 ≤ 512 → Used (after .pools) (s′ .used) → At (go s′ (ret v)) → Made (completed w (value t np) (record { memory = tables x y; log = S .log; regs = after }))
+      is h u Q =
+          let room : np < 512 = omega arith in
           let first : pieceFirst (tables x y) np ≡ x = word-other half (i + 1) y i (λ e. omega arith) ∙ word-same M i x (omega (arith, st .words)) in
           let second : pieceSecond (tables x y) np ≡ y = word-same half (i + 1) y (rw (length-set (M .words) i x) (omega (arith, st .words))) in
-          gives T root L G e₀ Ω N B C says S k s m P A D c F Q (tables x y) (S .log) after (charged (addCounts (s .used) onePiece) s)
+          gives T root L G e₀ Ω N B C says S k s m P A D c F Q (tables x y) (S .log) after s′
           (record {
             env = refl;
             room = refl;
             left = refl;
             pc = refl;
             store =
-                store-charged T root L B M (S .log) z s st (tables x y) (z .nb) (np + 1) (addCounts (s .used) onePiece) g
-                (above-trans (above-put M cellBase i x (omega arith)) (above-put half cellBase (i + 1) y (omega arith))) (st .beside) (omega (arith, st .bindings)) (st .bindings-fit) (omega (arith, st .pieces)) (omega arith)
-                (omega arith);
+                store-charged T root L B M (S .log) z s st (tables x y) (z .nb) (larger .np) (s′ .used) g
+                (above-trans (above-put M cellBase i x (omega arith)) (above-put half cellBase (i + 1) y (omega arith))) (st .beside) (st .bindings-fit) (omega (arith, one-larger));
+            used = u;
             grows = g;
             slots = slots-trans (slots-put M i x (λ a b. omega arith)) (slots-put half (i + 1) y (λ a b. omega arith));
             kept = refl;
@@ -136,25 +136,25 @@ module _ (T : Table) (root : ℕ) (L : Linked T 0 root) (G : Given) (e₀ : Tm) 
           })
           (value t np) v refl (made room g first second)
 
-  pub pair-now : (X : Place) (y : Ty) {x x′ : ℕ} {v v′ : CVal} → Is x v → Is x′ v′ → At (reduce2C G X s Op2.pair y v v′) → Then (newPiece w 4 x x′ S)
-  pair-now X y {x} {x′} {v} {v′} i i′ R =
+  pub pair-now : (y : Ty) {x x′ : ℕ} {v v′ : CVal} → Is x v → Is x′ v′ → At (reduce2C G (placeOf P A) s Op2.pair y v v′) → Then (newPiece w 4 x x′ S)
+  pair-now y {x} {x′} {v} {v′} i i′ R =
       new-piece 4 x x′ (CVal.pair v v′) R
       (λ room g first second.
       let word : pieceOf (value 4 np) ≡ np = piece-word 4 np (omega arith) room in
       let M′ : Memory = tables x x′ in
-      is-pair (tag-value 4 np (omega arith)) (omega arith) (val-at T root L M′ larger (ap (λ (j : ℕ). pieceFirst M′ j) word ∙ first) (val-grows T root L M z M′ larger g i))
+      is-pair (tag-value 4 np (omega arith)) (omega (arith, one-larger)) (val-at T root L M′ larger (ap (λ (j : ℕ). pieceFirst M′ j) word ∙ first) (val-grows T root L M z M′ larger g i))
       (val-at T root L M′ larger (ap (λ (j : ℕ). pieceSecond M′ j) word ∙ second) (val-grows T root L M z M′ larger g i′)))
 
-  pub pointcut-now : (X : Place) (ρ : Env) (ds : List ℕ) (n : ℕ) → Labels ds → length ds ≡ n → At (reduceNC G X s pcdN ρ (map CVal.label ds)) → Then (newPiece w 7 0 (labelSet n (digitsOf ds) 0) S)
+  pub pointcut-now : (ρ : Env) (ds : List ℕ) (n : ℕ) → Labels ds → length ds ≡ n → At (reduceNC G (placeOf P A) s pcdN ρ (map CVal.label ds)) → Then (newPiece w 7 0 (labelSet n (digitsOf ds) 0) S)
   unfolding with
-  pointcut-now X ρ ds n ls few R =
+  pointcut-now ρ ds n ls few R =
       new-piece 7 0 (labelSet n (digitsOf ds) 0) (CVal.labels (onto ds [])) (rw (collected ds []) at R)
       (λ room g first second.
       let word : pieceOf (value 7 np) ≡ np = piece-word 7 np (omega arith) room in
       let M′ : Memory = tables 0 (labelSet n (digitsOf ds) 0) in
-      is-labels (tag-value 7 np (omega arith)) (omega arith) (labels-at (ap (λ (j : ℕ). pieceSecond M′ j) word ∙ second) (record { has = λ l h. set-of-labels ls n few l })))
+      is-labels (tag-value 7 np (omega arith)) (omega (arith, one-larger)) (labels-at (ap (λ (j : ℕ). pieceSecond M′ j) word ∙ second) (record { has = λ l h. set-of-labels ls n few l })))
 
-  pub advice-now : {x : ℕ} {v : CVal} (d : Dom) (e : Tm) → IsBody T root L (fieldB w) e d → fieldC w ≡ d → d < 16 → Is x v → At (reduceAdvC s d e (P .env) v) → Then (reduceAdvice w x S)
+  pub advice-now : {x : ℕ} {v : CVal} (d : Dom) (e : Tm) → IsBody T root L (fieldB w) e d → fieldC w ≡ d → d < 16 → Is x v → At (reduceAdvC (placeOf P A) s d e (P .env) v) → Then (reduceAdvice w x S)
   unfolding with plainVal
   advice-now {x} d e b q low i R = try (as-pointcut T root L M z i) R
     where
@@ -164,7 +164,7 @@ module _ (T : Table) (root : ℕ) (L : Linked T 0 root) (G : Given) (e₀ : Tm) 
       two : ℕ
       two = pieceSecond M (pieceOf x)
 
-      try : {u : CVal} → AsPointcut T root L M z x u → At (reduceAdvC s d e (P .env) u) → Then (reduceAdvice w x S)
+      try : {u : CVal} → AsPointcut T root L M z x u → At (reduceAdvC (placeOf P A) s d e (P .env) u) → Then (reduceAdvice w x S)
       try (a-pointcut {ls = ls} a h il) Q =
           new-piece 8 one two (CVal.advice d ls e (P .env)) Q
           (λ room g first second.
@@ -173,6 +173,6 @@ module _ (T : Table) (root : ℕ) (L : Linked T 0 root) (G : Given) (e₀ : Tm) 
           let f : pieceFirst M′ (pieceOf (value 8 np)) ≡ one = ap (λ (j : ℕ). pieceFirst M′ j) word ∙ first in
           let parts = advice-word (fieldB w) (r .env) (fieldC w) (omega arith) (Q .place .env-fits) (omega arith) in
           is-advice (tag-value 8 np (omega arith))
-          (at-piece {p = pieceOf (value 8 np)} (omega arith) (body-at T root L (ap adviceTarget f ∙ parts .0) b) (ap adviceDom f ∙ parts .2 ∙ q)
+          (at-piece {p = pieceOf (value 8 np)} (omega (arith, one-larger)) (body-at T root L (ap adviceTarget f ∙ parts .0) b) (ap adviceDom f ∙ parts .2 ∙ q)
           (env-at T root L M′ larger (ap adviceEnv f ∙ parts .1) (env-grows T root L M z M′ larger g (Q .place .env))) (labels-at (ap (λ (j : ℕ). pieceSecond M′ j) word ∙ second) il)))
       try (no-pointcut p) Q = no-way Q (rw p)

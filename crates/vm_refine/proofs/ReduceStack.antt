@@ -1,37 +1,33 @@
 -- The stack is taken (card 6): one piece an entry, the outermost first.
-use Prim.Native.Nat.{ℕ, zero, suc, _+_, _-_, _*_, _%_, _≤_, _<_}
+use Prim.Native.Nat.{ℕ, zero, suc, _+_, _*_, _%_, _≤_, _<_}
 use native.Mathlib.Omega.{arith}
-use mathlib.Core.Path.{_≡_, refl, ap, _∙_}
-use mathlib.Core.List.{List, [], _∷_}
+use mathlib.Core.Path.{_≡_, refl, sym, ap, subst, _∙_}
+use mathlib.Core.List.{List, _∷_}
 use lib.ListN.{length, length-set}
-use lib.Dec.{leb}
-use borrow.Author.Tests.{leb-true, le-leb}
-use Rattle.calculus.specs.declared.Outcome.{Outcome}
-use Rattle.calculus.specs.Limits.{bindingLimit, cellLimit, pieceLimit}
 use Rattle.calculus.specs.Syntax.{Ty, Tm, theStack}
-use Rattle.calculus.specs.State.{Given, Entry, somePieces, addCounts, charged}
-use Rattle.calculus.specs.Answer.{go, if-room, spend}
-use Rattle.calculus.specs.Place.{Place}
+use Rattle.calculus.specs.State.{Given, Entry, somePieces, addUses, atDom, charged}
+use Rattle.calculus.specs.Answer.{go}
 use Rattle.closure_machine.specs.Closure.{CVal, CState, stackValC}
-use Rattle.closure_machine.specs.Machine.{Control, ret, Stack, CAnswer, reduce0C}
-use Rattle.vm_theory.specs.Conf.{Site, Chain, Slots, keptBy}
+use Rattle.closure_machine.specs.Machine.{Control, ret, Stack, reduce0C}
+use Rattle.vm_theory.specs.Conf.{Site, Chain, Slots, keptBy, domAt, placeOf}
 use Rattle.vm_theory.specs.Table.{Table, Linked}
 use Rattle.vm_theory.proofs.Sound.{Sound}
 use Rattle.vm_code.specs.Values.{tagOf, bodyOf, value, bottomValue, keptValue}
 use Rattle.vm_code.specs.Says.{SaysCode}
 use Rattle.vm_machine.specs.declared.Regs.{Regs}
 use Rattle.vm_machine.specs.Registers.{setPools, stepped}
-use Rattle.vm_machine.specs.Registers as regs
+use Rattle.vm_machine.specs.Pools.{halfOf, whole, chargePieces}
 use Rattle.vm_machine.specs.Memory.{Memory, pieceBase, cellBase, keptBase, keptAt, entryLabel, putWord, putPiece, pieceFirst, pieceSecond}
-use Rattle.vm_machine.specs.States.{State, withMemory, ifLeft}
+use Rattle.vm_machine.specs.States.{State, withMemory, ifLeft, completed}
 use Rattle.vm_machine.specs.Fetch.{Program, codeAt}
-use Rattle.vm_machine.specs.Reduce.{given}
+use Rattle.vm_machine.specs.Reduce.{given, ifPieces}
 use Rattle.vm_machine.specs.Stacks.{Stacked, stackPieces, reduceStack}
+use Rattle.vm_refine.proofs.Pools.{Used, whole-charged}
 use Rattle.vm_refine.proofs.Relations.{Sizes, sizes, IsVal, is-bottom, is-kept, val-at, val-grows, Grows}
 use Rattle.vm_refine.proofs.Tables.{word-same, word-other, grows-put, grows-sizes, grows-trans, Above, above-put, above-refl, above-trans, SameSlots, slots-put, slots-refl, slots-trans}
 use Rattle.vm_refine.proofs.Store.{Store, resized, store-charged}
 use Rattle.vm_refine.proofs.Keeping.{AreKept, none-kept, one-kept, kept-count}
-use Rattle.vm_refine.proofs.Steps.{leb-iff, measure, After, Stepping, if-there-is-room}
+use Rattle.vm_refine.proofs.Steps.{measure, After, Stepping, if-pieces}
 use Rattle.vm_refine.proofs.Gives.{gives}
 
 -- The last entry's piece comes last.
@@ -96,51 +92,59 @@ module _ (T : Table) (root : ℕ) (L : Linked T 0 root) where
                 (val-at T root L M₂ z₂ second′ (val-grows T root L M₁ z₁ M₂ z₂ g (t .is)));
           }
 
-module _ (s : CState) (k : CState → CAnswer) where
-  spend-pieces : (n : ℕ) → spend (somePieces n) s k ≡ if-room (leb n (pieceLimit - s .used .pieces)) Outcome.Pieces (k (charged (addCounts (s .used) (somePieces n)) s))
-  unfolding spend if-room
-  spend-pieces n = rw (le-leb 0 (bindingLimit - s .used .bindings) (omega arith), le-leb 0 (cellLimit - s .used .cells) (omega arith))
-
 module _ (T : Table) (root : ℕ) (L : Linked T 0 root) (G : Given) (e₀ : Tm) (Ω : Sound G e₀) (N : ℕ) (B : List ℕ) (C : Program) (says : SaysCode T (C .image) (C .code))
     (S : State) (k : ℕ) (s : CState) (m : ℕ) (P : Site) (A : Chain) (D : Slots) (c : Control) (F : Stack) where
   abbrev r : Regs
   r = S .regs
 
-  pub stack-now : (X : Place) (y : Ty) → Stepping T root L G e₀ Ω N B C says S k s m P A D c F (reduce0C G X (keptBy A) s theStack y) → After T root L G e₀ Ω N B (measure S) (reduceStack (codeAt C m) S)
+  pub stack-now : (y : Ty) → Stepping T root L G e₀ Ω N B C says S k s m P A D c F (reduce0C G (placeOf P A) (keptBy A) s theStack y) → After T root L G e₀ Ω N B (measure S) (reduceStack (codeAt C m) S)
   unfolding reduceStack
-  stack-now X y R =
-      if-there-is-room T root L G e₀ Ω N B C says S k s m P A D c F (measure S) (leb (length (keptBy A)) (pieceLimit - s .used .pieces)) Outcome.Pieces _ _ (leb (r .pools .pieces + r .kept) pieceLimit)
-      (leb-iff (r .pools .pieces + r .kept) pieceLimit (length (keptBy A)) (pieceLimit - s .used .pieces) (λ h. omega (arith, st .pieces, count)) (λ h. omega (arith, st .pieces, st .pieces-fit, count))) R
-      (spend-pieces s (λ s′. go s′ (ret (stackValC (keptBy A)))) (length (keptBy A)))
-      (λ room Q. made (leb-true (length (keptBy A)) (pieceLimit - s .used .pieces) room) Q)
+  stack-now y R =
+      subst (λ (n : ℕ). After T root L G e₀ Ω N B (measure S) (ifPieces w n S (given w (K .value) (withMemory (K .memory) (setPools (chargePieces (halfOf w) n (r .pools)) r) S)))) (sym count)
+      (if-pieces T root L G e₀ Ω N B C says S k s m P A D c F (measure S) (length (keptBy A)) (λ s₁. go s₁ (ret (stackValC (keptBy A)))) _ R made)
     where
+      w : ℕ
+      w = codeAt C m
+
       st : Store T root L B (S .memory) (S .log) (sizes r) s
       st = R .place .common .store
 
       count : r .kept ≡ length (keptBy A)
       count = kept-count T root L (R .place .kept)
 
-      K : Stacked
-      K = stackPieces (r .kept) 0 (r .pools .pieces) (record { memory = S .memory; value = bottomValue })
+      np : ℕ
+      np = whole (r .pools .pieces)
 
-      made : length (keptBy A) ≤ pieceLimit - s .used .pieces
-          → Stepping T root L G e₀ Ω N B C says S k s m P A D c F (go (charged (addCounts (s .used) (somePieces (length (keptBy A)))) s) (ret (stackValC (keptBy A))))
-          → After T root L G e₀ Ω N B (measure S) (ifLeft S (given (codeAt C m) (K .value) (withMemory (K .memory) (setPools (regs.somePieces (r .kept) (r .pools)) r) S)))
-      made h Q =
-          let fit : r .pools .pieces + r .kept ≤ 512 = omega (arith, st .pieces, st .pieces-fit, count) in
+      K : Stacked
+      K = stackPieces (r .kept) 0 np (record { memory = S .memory; value = bottomValue })
+
+      after : Regs
+      after = stepped (setPools (chargePieces (halfOf w) (length (keptBy A)) (r .pools)) r)
+
+      larger : sizes after .np ≡ np + r .kept
+      larger = whole-charged (halfOf w) (length (keptBy A)) (r .pools .pieces) ∙ ap (λ (n : ℕ). np + n) (sym count)
+
+      s′ : CState
+      s′ = charged (addUses (s .used) (atDom (domAt P) (somePieces (length (keptBy A))))) s
+
+      made : np + length (keptBy A) ≤ 512 → Used (after .pools) (s′ .used) → Stepping T root L G e₀ Ω N B C says S k s m P A D c F (go s′ (ret (stackValC (keptBy A))))
+          → After T root L G e₀ Ω N B (measure S) (ifLeft S (completed w (K .value) (record { memory = K .memory; log = S .log; regs = after })))
+      made h u Q =
+          let fit : np + r .kept ≤ 512 = omega (arith, count) in
           let t : Taken T root L (S .memory) (sizes r) (r .kept) (keptBy A) K = taken T root L (S .memory) (sizes r) (st .words) (st .bindings-fit) (R .place .kept) fit in
-          gives T root L G e₀ Ω N B C says S k s m P A D c F Q (K .memory) (S .log) (stepped (setPools (regs.somePieces (r .kept) (r .pools)) r)) (charged (addCounts (s .used) (somePieces (length (keptBy A)))) s)
+          let z′ : sizes after ≡ resized T root L (sizes r .nb) (np + r .kept) (sizes r) = ap (λ (n : ℕ). resized T root L (sizes r .nb) n (sizes r)) larger in
+          let g : Grows (S .memory) (sizes r) (K .memory) (sizes after) = subst (λ (z : Sizes). Grows (S .memory) (sizes r) (K .memory) z) (sym z′) (t .grows) in
+          gives T root L G e₀ Ω N B C says S k s m P A D c F Q (K .memory) (S .log) after s′
           (record {
             env = refl;
             room = refl;
             left = refl;
             pc = refl;
-            store =
-                store-charged T root L B (S .memory) (S .log) (sizes r) s st (K .memory) (r .pools .bindings) (r .pools .pieces + r .kept) (addCounts (s .used) (somePieces (length (keptBy A)))) (t .grows) (t .above)
-                (rw (t .beside) (st .beside)) (omega (arith, st .bindings)) (st .bindings-fit) (omega (arith, st .pieces, count)) fit (omega arith);
-            grows = t .grows;
+            store = store-charged T root L B (S .memory) (S .log) (sizes r) s st (K .memory) (sizes r .nb) (sizes after .np) (s′ .used) g (t .above) (rw (t .beside) (st .beside)) (st .bindings-fit) (omega (arith, larger));
+            used = u;
+            grows = g;
             slots = t .slots;
             kept = refl;
             keeps = λ i. t .above .kept (keptBase + i) (omega arith);
           })
-          (K .value) (stackValC (keptBy A)) refl (t .is)
+          (K .value) (stackValC (keptBy A)) refl (subst (λ (z : Sizes). IsVal T root L (K .memory) z (K .value) (stackValC (keptBy A))) (sym z′) (t .is))

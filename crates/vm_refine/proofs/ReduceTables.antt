@@ -35,12 +35,13 @@ use Rattle.vm_machine.specs.Memory.{Memory, keptBase, wordAt, installedAt, putI
 use Rattle.vm_machine.specs.States.{State, ifLeft, completed}
 use Rattle.vm_machine.specs.Fetch.{Program, codeAt}
 use Rattle.vm_machine.specs.Reduce.{reducePrint, reduceLabel, reduceInstall}
+use Rattle.vm_refine.proofs.Pools.{leb-iff}
 use Rattle.vm_refine.proofs.Relations.{Sizes, sizes, IsVal, is-unit, is-label, IsAdvice, at-piece, Grows, advice-grows}
 use Rattle.vm_refine.proofs.Tables.{word-same, word-other, grows-put, grows-sizes, grows-trans, slots-put, slots-refl}
 use Rattle.vm_refine.proofs.Store.{logBytes, install-more, advices-change, Store, cell-change, log-one, bytes-one, bytes-length, log-length}
 use Rattle.vm_refine.proofs.Labels.{has-union}
 use Rattle.vm_refine.proofs.Views.{AsNumber, a-number, no-number, as-number, AsAdvice, a-advice, no-advice, as-advice}
-use Rattle.vm_refine.proofs.Steps.{leb-iff, measure, After, Stepping, no-wrong, if-there-is-room}
+use Rattle.vm_refine.proofs.Steps.{measure, After, Stepping, no-wrong, if-there-is-room}
 use Rattle.vm_refine.proofs.Gives.{Left, gives}
 use Rattle.vm_refine.proofs.Values.{tag-value}
 
@@ -123,11 +124,8 @@ module _ (T : Table) (root : ℕ) (L : Linked T 0 root) (G : Given) (e₀ : Tm) 
                 record {
                   words = st .words;
                   beside = st .beside;
-                  bindings = st .bindings;
                   bindings-fit = st .bindings-fit;
-                  pieces = st .pieces;
                   pieces-fit = st .pieces-fit;
-                  cells = st .cells;
                   cells-count = st .cells-count;
                   cells-fit = st .cells-fit;
                   labels = omega (arith, st .labels, length-append (s .labels) (domOf y ∷ []));
@@ -140,6 +138,7 @@ module _ (T : Table) (root : ℕ) (L : Linked T 0 root) (G : Given) (e₀ : Tm) 
                   log-at = st .log-at;
                   log-fits = st .log-fits;
                 };
+            used = R .place .common .used;
             grows = g;
             slots = slots-refl M;
             kept = refl;
@@ -167,14 +166,14 @@ module _ (T : Table) (root : ℕ) (L : Linked T 0 root) (G : Given) (e₀ : Tm) 
       after = stepped (setLogged (r .logged + 10) r)
 
       said : ℕ → Event
-      said n = record { dom = X .dom; said = prints n }
+      said n = record { dom = X .dom; said = prints n (s .used .mainline) }
 
       g : Grows M z M (sizes after)
       g = grows-sizes M z (sizes after) (omega arith) (omega arith)
 
       made : (n : ℕ) → 10 ≤ length (S .log) - r .logged → At (go (told (said n) s) (ret CVal.unit)) → Made (completed w 0 (record { memory = M; log = over (r .logged) (logRecord (domainOf w) n) (S .log); regs = after }))
       made n h Q =
-          let new : logOf (s .trace ++ (said n ∷ [])) ≡ ps ++ (record { dom = X .dom; shown = n } ∷ []) = log-one (s .trace) (X .dom) n in
+          let new : logOf (s .trace ++ (said n ∷ [])) ≡ ps ++ (record { dom = X .dom; shown = n } ∷ []) = log-one (s .trace) (X .dom) n (s .used .mainline) in
           let count : length (logOf (s .trace ++ (said n ∷ []))) ≡ length ps + 1 = ap length new ∙ length-append ps (record { dom = X .dom; shown = n } ∷ []) in
           gave Q M (over (r .logged) (logRecord (domainOf w) n) (S .log)) after (told (said n) s)
           (record {
@@ -186,11 +185,8 @@ module _ (T : Table) (root : ℕ) (L : Linked T 0 root) (G : Given) (e₀ : Tm) 
                 record {
                   words = st .words;
                   beside = st .beside;
-                  bindings = st .bindings;
                   bindings-fit = st .bindings-fit;
-                  pieces = st .pieces;
                   pieces-fit = st .pieces-fit;
-                  cells = st .cells;
                   cells-count = st .cells-count;
                   cells-fit = st .cells-fit;
                   labels = st .labels;
@@ -207,6 +203,7 @@ module _ (T : Table) (root : ℕ) (L : Linked T 0 root) (G : Given) (e₀ : Tm) 
                   log-at = omega (arith, st .log-at, count);
                   log-fits = omega (arith, long);
                 };
+            used = R .place .common .used;
             grows = g;
             slots = slots-refl M;
             kept = refl;
@@ -267,11 +264,8 @@ module _ (T : Table) (root : ℕ) (L : Linked T 0 root) (G : Given) (e₀ : Tm) 
                 record {
                   words = rw (length-set (M .words) (3841 + r .installed) (pieceOf x)) (st .words);
                   beside = st .beside;
-                  bindings = st .bindings;
                   bindings-fit = st .bindings-fit;
-                  pieces = st .pieces;
                   pieces-fit = st .pieces-fit;
-                  cells = st .cells;
                   cells-count = st .cells-count;
                   cells-fit = st .cells-fit;
                   labels = st .labels;
@@ -287,6 +281,7 @@ module _ (T : Table) (root : ℕ) (L : Linked T 0 root) (G : Given) (e₀ : Tm) 
                   log-at = st .log-at;
                   log-fits = st .log-fits;
                 };
+            used = R .place .common .used;
             grows = g;
             slots = slots-put M (3841 + r .installed) (pieceOf x) (λ a b. omega arith);
             kept = refl;

@@ -20,6 +20,7 @@ use Rattle.vm_code.specs.Values.{tagOf, bodyOf}
 use Rattle.vm_code.specs.Words.{termCount}
 use Rattle.vm_code.specs.Says.{SaysTarget}
 use Rattle.vm_machine.specs.declared.Regs.{Regs}
+use Rattle.vm_machine.specs.Pools.{whole}
 use Rattle.vm_machine.specs.Memory.{Memory, entryLabel, bindingAt, boundTarget, boundLink, noBinding, pieceFirst, pieceSecond, adviceTarget, adviceEnv, adviceDom, closureEnv, hasBit}
 use Rattle.vm_machine.specs.Memory as words
 
@@ -34,7 +35,7 @@ pub record Sizes : Type 0 where
   pub at : ℕ
 
 abbrev pub sizes : Regs → Sizes
-sizes r = record { nb = r .pools .bindings; np = r .pools .pieces; nc = r .pools .cells; nl = r .labels; ni = r .installed; named = r .named; at = r .logged }
+sizes r = record { nb = whole (r .pools .bindings); np = whole (r .pools .pieces); nc = whole (r .pools .cells); nl = r .labels; ni = r .installed; named = r .named; at = r .logged }
 
 -- A set of labels has those of a list.
 pub record HasLabels (w : ℕ) (ls : List ℕ) : Type 0 where

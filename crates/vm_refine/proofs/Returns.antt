@@ -176,9 +176,9 @@ module _ (T : Table) (root : ℕ) (L : Linked T 0 root) (G : Given) (e₀ : Tm) 
         let reach : Reach G e₀ Ω k s (ret v) [] = subst (λ (X : Chain). Reach G e₀ Ω k s (ret v) (stackOf X D)) q (now .good .runs) in
         rw (home-done top)
         (after-halted
-        (halted-done refl refl (ends-over G e₀ Ω k s (ret v) [] reach N (r .left - headroom) (omega (arith, now .common .budget, now .common .running)) v refl) (now .common .store) (now .ready)
+        (halted-done refl refl (ends-over G e₀ Ω k s (ret v) [] reach N (r .left - headroom) (omega (arith, now .common .budget, now .common .running)) v refl) (now .common .store) (now .common .used) (now .ready)
         (omega (arith, now .common .budget, now .common .running))
-        (fits-in T root L G e₀ Ω N B M (S .log) (halt Outcome.Done r) s (now .common .store) (omega (arith, pc)) (now .env-fits) (omega (arith, top, kept-fits T root L A₀ (now .kept), ap base q)))))
+        (fits-in T root L G e₀ Ω N B M (S .log) (halt Outcome.Done r) s (now .common .store) (now .common .used) (omega (arith, pc)) (now .env-fits) (omega (arith, top, kept-fits T root L A₀ (now .kept), ap base q)))))
 
     -- The place of an activation that waits.
     module _ (P : Site) (A : Chain) (κ : Kept) (i : ℕ) (slot : Slot T 0 root L (Held T root L M z) (Back T root L M z) D i (base A) κ P) (chain : IsChain T 0 root L (Held T root L M z) (Back T root L M z) D A)
@@ -199,7 +199,7 @@ module _ (T : Table) (root : ℕ) (L : Linked T 0 root) (G : Given) (e₀ : Tm) 
       stands : (t env x n k′ : ℕ) → IsEnv T root L M z env (P .env) → env < 2048 → base A₀ ≡ base A + x → k′ + n ≡ N + headroom → headroom ≤ n → InPlace T root L G e₀ Ω N B (there t env x n) k′ s m P A D
       stands t env x n k′ ie fits b e h =
           record {
-            common = record { budget = e; running = h; store = now .common .store };
+            common = record { budget = e; running = h; store = now .common .store; used = now .common .used };
             no-atom = slot .no-atom;
             located = slot .located;
             stood = stood;
@@ -262,8 +262,8 @@ module _ (T : Table) (root : ℕ) (L : Linked T 0 root) (G : Given) (e₀ : Tm) 
           where
             ends : {k′ : ℕ} → run N G 0 fresh e₀ ≡ ended (stopped Outcome.Spent) k′ (plainState s) → k′ ≡ N → Halted T root L G e₀ Ω N B (withRegs (haltWith (outcomeNumber Outcome.Spent) headroom r) S)
             ends ran e =
-                halted-stopped Outcome.Spent refl refl ran (now .common .store) (omega arith)
-                (fits-in T root L G e₀ Ω N B M (S .log) (haltWith (outcomeNumber Outcome.Spent) headroom r) s (now .common .store) (omega (arith, pc)) (now .env-fits) (omega (arith, now .room, kept-fits T root L A₀ (now .kept))))
+                halted-stopped Outcome.Spent refl refl ran (now .common .store) (now .common .used) (omega arith)
+                (fits-in T root L G e₀ Ω N B M (S .log) (haltWith (outcomeNumber Outcome.Spent) headroom r) s (now .common .store) (now .common .used) (omega (arith, pc)) (now .env-fits) (omega (arith, now .room, kept-fits T root L A₀ (now .kept))))
 
             try : (t : Bool) → eqb (r .left) headroom ≡ t → Halted T root L G e₀ Ω N B (withRegs (haltWith (outcomeNumber Outcome.Spent) headroom r) S)
             try true t =
@@ -312,6 +312,7 @@ module _ (T : Table) (root : ℕ) (L : Linked T 0 root) (G : Given) (e₀ : Tm) 
                 budget = p .common .budget;
                 running = p .common .running;
                 store = frame-store T root L G e₀ Ω N B C says S₁ (suc (suc k)) s m P A D p (n + 1) (endBinding f) within (slotPc f) (slotEnv f) (F .pc) (F .fits) (F .env) 0 (r .room) index;
+                used = p .common .used;
               })
               stood fine g refl refl (env-grows T root L M z M′ z grown ie) small (omega (arith, now .room))
               (frame-chain T root L G e₀ Ω N B C says S₁ (suc (suc k)) s m P A D p (n + 1) (endBinding f) within (slotPc f) (slotEnv f) (F .pc) (F .fits) (F .env) 0 (r .room) index d′ u y (omega arith) (omega arith)

@@ -1,8 +1,8 @@
 -- A step: whether it is made, and what the machine is after it. Beside it a bound: every turn lowers a number.
 use Prim.Native.Nat.{ℕ, suc, _+_, _-_, _*_, _≤_, _<_}
 use native.Mathlib.Omega.{arith}
-use mathlib.Core.Path.{_≡_, refl, sym, ap, _∙_}
-use mathlib.Core.Bool.{Bool, true, false, true≢false}
+use mathlib.Core.Path.{_≡_, refl, sym, ap, subst, _∙_}
+use mathlib.Core.Bool.{Bool, true, false}
 use mathlib.Core.List.{List}
 use lib.ListN.{length}
 use lib.Dec.{eqb, leb}
@@ -13,12 +13,12 @@ use Rattle.calculus.specs.Combinators.{choose}
 use Rattle.calculus.specs.Syntax.{Tm}
 use Rattle.calculus.specs.Run.{stopped, ended, run}
 use Rattle.calculus.specs.Report.{outcomeNumber}
-use Rattle.calculus.specs.State.{Given, fresh, someBindings, oneCell, onePiece, addCounts, charged}
+use Rattle.calculus.specs.State.{Given, fresh, someBindings, oneCell, somePieces, atDom, addUses, charged}
 use Rattle.calculus.specs.Answer.{go, full, halt, wrong, if-room, spend}
 use Rattle.calculus.specs.Place.{framed}
 use Rattle.closure_machine.specs.Closure.{CState, plainState}
 use Rattle.closure_machine.specs.Machine.{Control, Stack, CAnswer, due, move}
-use Rattle.vm_theory.specs.Conf.{Site, Chain, Slots, Conf, depthAt, placeOf}
+use Rattle.vm_theory.specs.Conf.{Site, Chain, Slots, Conf, domAt, depthAt, placeOf}
 use Rattle.vm_theory.specs.Stands.{stackAt}
 use Rattle.vm_theory.specs.Table.{Table, home, Linked}
 use Rattle.vm_theory.proofs.Sound.{Sound}
@@ -29,39 +29,17 @@ use Rattle.vm_code.specs.Words as code
 use Rattle.vm_code.specs.Says.{SaysCode}
 use Rattle.vm_machine.specs.declared.Regs.{Regs}
 use Rattle.vm_machine.specs.Registers.{headroom, fullRoom, haltWith, stepped, halt as halting}
-use Rattle.vm_machine.specs.Memory.{Memory}
+use Rattle.vm_machine.specs.Pools.{isMainline, halfOf, whole, chargeBindings, chargeCells, chargePieces, hasRoom, bindingsOut, cellsOut, piecesOut}
+use Rattle.vm_machine.specs.Memory.{Memory, bindingPlaces}
 use Rattle.vm_machine.specs.States.{State, withRegs, withMemory, judged, ifLeft, ifRoom}
 use Rattle.vm_machine.specs.Fetch.{Program, codeAt}
+use Rattle.vm_machine.specs.Reduce.{ifBindings, ifPieces}
 use Rattle.vm_machine.specs.Fits.{Fits}
+use Rattle.vm_refine.proofs.Pools.{Used, room-is, more-fits, more-bindings, more-cells, more-pieces, spend-bindings, spend-cell, spend-pieces}
 use Rattle.vm_refine.proofs.Relations.{sizes}
 use Rattle.vm_refine.proofs.Store.{Store}
 use Rattle.vm_refine.proofs.Keeping.{kept-fits}
 use Rattle.vm_refine.proofs.Now.{InPlace, Now, Halted, halted-stopped}
-
--- Two tests that agree.
-pub leb-iff : (a b c d : ℕ) → (a ≤ b → c ≤ d) → (c ≤ d → a ≤ b) → leb a b ≡ leb c d
-leb-iff a b c d f g = try (leb a b) refl (leb c d) refl
-  where
-    try : (x : Bool) → leb a b ≡ x → (y : Bool) → leb c d ≡ y → x ≡ y
-    try true p true q = refl
-    try true p false q = absurd (true≢false (sym (le-leb c d (f (leb-true a b p))) ∙ q))
-    try false p true q = absurd (true≢false (sym (le-leb a b (g (leb-true c d q))) ∙ p))
-    try false p false q = refl
-
--- A step that uses only one of the rooms.
-module _ (s : CState) (k : CState → CAnswer) where
-  pub spend-bindings : (n : ℕ)
-      → spend (someBindings n) s k ≡ if-room (leb n (bindingLimit - s .used .bindings)) Outcome.Bindings (k (charged (addCounts (s .used) (someBindings n)) s))
-  unfolding spend if-room
-  spend-bindings n = rw (le-leb 0 (cellLimit - s .used .cells) (omega arith), le-leb 0 (pieceLimit - s .used .pieces) (omega arith))
-
-  pub spend-piece : spend onePiece s k ≡ if-room (leb 1 (pieceLimit - s .used .pieces)) Outcome.Pieces (k (charged (addCounts (s .used) onePiece) s))
-  unfolding spend if-room
-  spend-piece = rw (le-leb 0 (bindingLimit - s .used .bindings) (omega arith), le-leb 0 (cellLimit - s .used .cells) (omega arith))
-
-  pub spend-cell : spend oneCell s k ≡ if-room (leb 1 (cellLimit - s .used .cells)) Outcome.Cells (k (charged (addCounts (s .used) oneCell) s))
-  unfolding spend if-room
-  spend-cell = rw (le-leb 0 (bindingLimit - s .used .bindings) (omega arith), le-leb 0 (pieceLimit - s .used .pieces) (omega arith))
 
 -- A number that each turn lowers: the budget first; between steps a return, or else the room.
 abbrev pub level : Regs → ℕ
@@ -83,15 +61,15 @@ module _ (T : Table) (root : ℕ) (L : Linked T 0 root) (G : Given) (e₀ : Tm) 
     after-halted : Halted T root L G e₀ Ω N B S → After b S
     after-now : {k : ℕ} {s : CState} {C : Conf} → Now T root L G e₀ Ω N B S k s C → measure S < b → After b S
 
-  pub fits-in : (M : Memory) (log : List ℕ) (r : Regs) (s : CState) → Store T root L B M log (sizes r) s → r .pc ≤ code.home → r .env < 2048 → r .kept + r .room ≤ fullRoom → Fits (length B) r
-  fits-in M log r s st p e h =
+  pub fits-in : (M : Memory) (log : List ℕ) (r : Regs) (s : CState) → Store T root L B M log (sizes r) s → Used (r .pools) (s .used) → r .pc ≤ code.home → r .env < 2048 → r .kept + r .room ≤ fullRoom → Fits (length B) r
+  fits-in M log r s st u p e h =
       record {
         pc = p;
         env = e;
         room = omega arith;
-        bindings = st .bindings-fit;
-        cells = st .cells-fit;
-        pieces = st .pieces-fit;
+        bindings = u .bindings .fits;
+        cells = u .cells .fits;
+        pieces = u .pieces .fits;
         labels = st .labels-fit;
         installed = st .advices-fit;
         kept = h;
@@ -130,7 +108,7 @@ module _ (T : Table) (root : ℕ) (L : Linked T 0 root) (G : Given) (e₀ : Tm) 
           → k′ + (n - headroom) ≡ N → Halted T root L G e₀ Ω N B (withMemory M (haltWith (outcomeNumber o) n r) S)
       halts-with p at M st o n k′ e q =
           let small = says .few m (p .no-atom) in
-          halted-stopped o refl refl e st q (fits-in M (S .log) (haltWith (outcomeNumber o) n r) s st (omega (arith, at)) (p .env-fits) (omega (arith, p .room, kept-fits T root L A (p .kept))))
+          halted-stopped o refl refl e st (p .common .used) q (fits-in M (S .log) (haltWith (outcomeNumber o) n r) s st (p .common .used) (omega (arith, at)) (p .env-fits) (omega (arith, p .room, kept-fits T root L A (p .kept))))
 
       -- A room is missing, whatever is left of the budget.
       lacks : {a : CAnswer} (b : ℕ) (M : Memory) → Store T root L B M (S .log) (sizes r) s → (o : Outcome) → Redexed S k s m P A D c F a → move c F G s ≡ due (full o) K → After b (withMemory M (halting o r) S)
@@ -173,6 +151,58 @@ module _ (T : Table) (root : ℕ) (L : Linked T 0 root) (G : Given) (e₀ : Tm) 
       if-there-is-room {a} b true o a′ S′ u e R q h =
           rw e (h refl (record { place = R .place; pc = R .pc; reach = R .reach; shallow = R .shallow; is = R .is ∙ ap (λ (x : CAnswer). due x K) q }))
       if-there-is-room b false o a′ S′ u e R q h = rw e (no-room b (S .memory) (R .place .common .store) o R q)
+
+      -- Card 9: a step that takes some room at the current domain takes it of the half that the word names.
+      abbrev w : ℕ
+      w = codeAt C m
+
+      half-is : InPlace T root L G e₀ Ω N B S k s m P A D → halfOf w ≡ isMainline (domAt P)
+      half-is p = ap isMainline (says .around m (p .no-atom) .domain ∙ describes T 0 root L (p .located) (p .no-atom) .dom)
+
+      pub if-bindings : (b n : ℕ) (f : CState → CAnswer) (S′ : State) → Stepping S k s m P A D c F (spend (atDom (domAt P) (someBindings n)) s f)
+          → (whole (r .pools .bindings) + n ≤ bindingPlaces → Used (chargeBindings (halfOf w) n (r .pools)) (addUses (s .used) (atDom (domAt P) (someBindings n)))
+          → Stepping S k s m P A D c F (f (charged (addUses (s .used) (atDom (domAt P) (someBindings n))) s)) → After b (ifLeft S S′))
+          → After b (ifBindings w n S S′)
+      if-bindings b n f S′ R h =
+          subst (λ (x : Bool). After b (ifRoom (hasRoom bindingLimit x n (r .pools .bindings)) (bindingsOut x) S S′)) (sym (half-is (R .place)))
+          (if-there-is-room b _ _ _ S′ _ (room-is (u .bindings) (isMainline (domAt P)) n) R (spend-bindings s f (isMainline (domAt P)) n)
+          (λ room Q.
+          let l = leb-true n _ room in
+          h (more-fits (u .bindings) (isMainline (domAt P)) n l)
+          (subst (λ (x : Bool). Used (chargeBindings x n (r .pools)) (addUses (s .used) (atDom (domAt P) (someBindings n)))) (sym (half-is (R .place))) (more-bindings u (isMainline (domAt P)) n l)) Q))
+        where
+          u : Used (r .pools) (s .used)
+          u = R .place .common .used
+
+      pub if-pieces : (b n : ℕ) (f : CState → CAnswer) (S′ : State) → Stepping S k s m P A D c F (spend (atDom (domAt P) (somePieces n)) s f)
+          → (whole (r .pools .pieces) + n ≤ 512 → Used (chargePieces (halfOf w) n (r .pools)) (addUses (s .used) (atDom (domAt P) (somePieces n)))
+          → Stepping S k s m P A D c F (f (charged (addUses (s .used) (atDom (domAt P) (somePieces n))) s)) → After b (ifLeft S S′))
+          → After b (ifPieces w n S S′)
+      if-pieces b n f S′ R h =
+          subst (λ (x : Bool). After b (ifRoom (hasRoom pieceLimit x n (r .pools .pieces)) (piecesOut x) S S′)) (sym (half-is (R .place)))
+          (if-there-is-room b _ _ _ S′ _ (room-is (u .pieces) (isMainline (domAt P)) n) R (spend-pieces s f (isMainline (domAt P)) n)
+          (λ room Q.
+          let l = leb-true n _ room in
+          h (more-fits (u .pieces) (isMainline (domAt P)) n l)
+          (subst (λ (x : Bool). Used (chargePieces x n (r .pools)) (addUses (s .used) (atDom (domAt P) (somePieces n)))) (sym (half-is (R .place))) (more-pieces u (isMainline (domAt P)) n l)) Q))
+        where
+          u : Used (r .pools) (s .used)
+          u = R .place .common .used
+
+      pub if-cell : (b : ℕ) (f : CState → CAnswer) (S′ : State) → Stepping S k s m P A D c F (spend (atDom (domAt P) oneCell) s f)
+          → (whole (r .pools .cells) + 1 ≤ 256 → Used (chargeCells (halfOf w) 1 (r .pools)) (addUses (s .used) (atDom (domAt P) oneCell))
+          → Stepping S k s m P A D c F (f (charged (addUses (s .used) (atDom (domAt P) oneCell)) s)) → After b (ifLeft S S′))
+          → After b (ifRoom (hasRoom cellLimit (halfOf w) 1 (r .pools .cells)) (cellsOut (halfOf w)) S S′)
+      if-cell b f S′ R h =
+          subst (λ (x : Bool). After b (ifRoom (hasRoom cellLimit x 1 (r .pools .cells)) (cellsOut x) S S′)) (sym (half-is (R .place)))
+          (if-there-is-room b _ _ _ S′ _ (room-is (u .cells) (isMainline (domAt P)) 1) R (spend-cell s f (isMainline (domAt P)))
+          (λ room Q.
+          let l = leb-true 1 _ room in
+          h (more-fits (u .cells) (isMainline (domAt P)) 1 l)
+          (subst (λ (x : Bool). Used (chargeCells x 1 (r .pools)) (addUses (s .used) (atDom (domAt P) oneCell))) (sym (half-is (R .place))) (more-cells u (isMainline (domAt P)) l)) Q))
+        where
+          u : Used (r .pools) (s .used)
+          u = R .place .common .used
 
       pub no-wrong : {a : CAnswer} → Stepping S k s m P A D c F a → a ≡ wrong → ⊥
       no-wrong R q = not-wrong G e₀ Ω k s c F (R .reach) K (R .is ∙ ap (λ (x : CAnswer). due x K) q)

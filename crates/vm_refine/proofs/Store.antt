@@ -8,7 +8,7 @@ use mathlib.Core.Option.{some}
 use lib.ListN.{length, getElem?, drop, length-append, length-drop, length-set}
 use Rattle.laws.proofs.Lookup.{place-below}
 use Rattle.calculus.specs.Combinators.{choose}
-use Rattle.calculus.specs.State.{Cell, Advice, Counts, Event, Said, prints, turns, Print, picked, logOf, charged, told}
+use Rattle.calculus.specs.State.{Cell, Advice, Counts, Uses, Event, Said, prints, turns, Print, picked, logOf, charged, told}
 use Rattle.calculus.specs.Compose.{member}
 use Rattle.closure_machine.specs.Closure.{CVal, Body, CState}
 use Rattle.base_bytes.specs.Bytes.{bytesOf}
@@ -55,11 +55,8 @@ module _ (T : Table) (root : ℕ) (L : Linked T 0 root) where
   pub record Store (B : List ℕ) (M : Memory) (log : List ℕ) (z : Sizes) (s : CState) : Type 0 where
     pub words : 4418 ≤ length (M .words)
     pub beside : 513 ≤ length (M .beside)
-    pub bindings : z .nb ≡ s .used .bindings
     pub bindings-fit : z .nb ≤ 2048
-    pub pieces : z .np ≡ s .used .pieces
     pub pieces-fit : z .np ≤ 512
-    pub cells : z .nc ≡ s .used .cells
     pub cells-count : z .nc ≡ length (s .cells)
     pub cells-fit : z .nc ≤ 256
     pub labels : z .nl ≡ length (s .labels)
@@ -82,17 +79,14 @@ module _ (T : Table) (root : ℕ) (L : Linked T 0 root) where
       rw p h′
 
   -- Bindings and pieces are added, or slots written.
-  pub store-charged : (B : List ℕ) (M : Memory) (log : List ℕ) (z : Sizes) (s : CState) → Store B M log z s → (M′ : Memory) (b p : ℕ) (u : Counts) → Grows M z M′ (resized b p z)
-      → Above cellBase M M′ → 513 ≤ length (M′ .beside) → b ≡ u .bindings → b ≤ 2048 → p ≡ u .pieces → p ≤ 512 → u .cells ≡ s .used .cells → Store B M′ log (resized b p z) (charged u s)
-  store-charged B M log z s h M′ b p u g a by eb fb ep fp ec =
+  pub store-charged : (B : List ℕ) (M : Memory) (log : List ℕ) (z : Sizes) (s : CState) → Store B M log z s → (M′ : Memory) (b p : ℕ) (u : Uses) → Grows M z M′ (resized b p z)
+      → Above cellBase M M′ → 513 ≤ length (M′ .beside) → b ≤ 2048 → p ≤ 512 → Store B M′ log (resized b p z) (charged u s)
+  store-charged B M log z s h M′ b p u g a by fb fp =
       record {
         words = rw (a .words) (h .words);
         beside = by;
-        bindings = eb;
         bindings-fit = fb;
-        pieces = ep;
         pieces-fit = fp;
-        cells = h .cells ∙ sym ec;
         cells-count = h .cells-count;
         cells-fit = h .cells-fit;
         labels = h .labels;
@@ -114,11 +108,8 @@ module _ (T : Table) (root : ℕ) (L : Linked T 0 root) where
       record {
         words = rw (length-set (M .words) (keptBase + i) v) (h .words);
         beside = h .beside;
-        bindings = h .bindings;
         bindings-fit = h .bindings-fit;
-        pieces = h .pieces;
         pieces-fit = h .pieces-fit;
-        cells = h .cells;
         cells-count = h .cells-count;
         cells-fit = h .cells-fit;
         labels = h .labels;
@@ -133,14 +124,14 @@ module _ (T : Table) (root : ℕ) (L : Linked T 0 root) where
       }
 
 -- One more record in the log.
-pub log-one : (t : List Event) (d n : ℕ) → logOf (t ++ (record { dom = d; said = prints n } ∷ [])) ≡ logOf t ++ (record { dom = d; shown = n } ∷ [])
+pub log-one : (t : List Event) (d n : ℕ) (u : Counts) → logOf (t ++ (record { dom = d; said = prints n u } ∷ [])) ≡ logOf t ++ (record { dom = d; shown = n } ∷ [])
 unfolding picked
-log-one [] d n = refl
-log-one (e ∷ t) d n = try (e .said) (log-one t d n)
+log-one [] d n u = refl
+log-one (e ∷ t) d n u = try (e .said) (log-one t d n u)
   where
-    try : (a : Said) → logOf (t ++ (record { dom = d; said = prints n } ∷ [])) ≡ logOf t ++ (record { dom = d; shown = n } ∷ [])
-        → logOf (record { dom = e .dom; said = a } ∷ (t ++ (record { dom = d; said = prints n } ∷ []))) ≡ logOf (record { dom = e .dom; said = a } ∷ t) ++ (record { dom = d; shown = n } ∷ [])
-    try (prints m) h = ap (λ x. record { dom = e .dom; shown = m } ∷ x) h
+    try : (a : Said) → logOf (t ++ (record { dom = d; said = prints n u } ∷ [])) ≡ logOf t ++ (record { dom = d; shown = n } ∷ [])
+        → logOf (record { dom = e .dom; said = a } ∷ (t ++ (record { dom = d; said = prints n u } ∷ []))) ≡ logOf (record { dom = e .dom; said = a } ∷ t) ++ (record { dom = d; shown = n } ∷ [])
+    try (prints m y) h = ap (λ x. record { dom = e .dom; shown = m } ∷ x) h
     try (turns b) h = h
 
 -- The turns of matches are no records.
@@ -151,7 +142,7 @@ log-turn (e ∷ t) d b = try (e .said) (log-turn t d b)
   where
     try : (a : Said) → logOf (t ++ (record { dom = d; said = turns b } ∷ [])) ≡ logOf t
         → logOf (record { dom = e .dom; said = a } ∷ (t ++ (record { dom = d; said = turns b } ∷ []))) ≡ logOf (record { dom = e .dom; said = a } ∷ t)
-    try (prints m) h = ap (λ x. record { dom = e .dom; shown = m } ∷ x) h
+    try (prints m y) h = ap (λ x. record { dom = e .dom; shown = m } ∷ x) h
     try (turns c) h = h
 
 pub store-told : (T : Table) (root : ℕ) (L : Linked T 0 root) (B : List ℕ) (M : Memory) (log : List ℕ) (z : Sizes) (s : CState) (d : ℕ) (b : Bool) → Store T root L B M log z s
@@ -160,11 +151,8 @@ store-told T root L B M log z s d b h =
     record {
       words = h .words;
       beside = h .beside;
-      bindings = h .bindings;
       bindings-fit = h .bindings-fit;
-      pieces = h .pieces;
       pieces-fit = h .pieces-fit;
-      cells = h .cells;
       cells-count = h .cells-count;
       cells-fit = h .cells-fit;
       labels = h .labels;

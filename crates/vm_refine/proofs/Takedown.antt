@@ -34,7 +34,7 @@ use Rattle.vm_refine.proofs.Gives.{gives}
 module _ (T : Table) (root : ℕ) (L : Linked T 0 root) where
   module _ (M : Memory) (z : Sizes) (long : 4418 ≤ length (M .words)) (nb : z .nb ≤ 2048) (np : z .np ≤ 512) (d : Dom) where
     -- Before place i the loop has left the advice k; from place i on, and outside the table, it has written nothing.
-    record Stays (i : ℕ) (k : List (Advice Body)) (B : Bound) : Type 0 where
+    record Stays (i : ℕ) (k : List (Advice Body)) (B : Bound ℕ) : Type 0 where
       grows : Grows M z (B .memory) z
       slots : SameSlots M (B .memory)
       words : length (B .memory .words) ≡ length (M .words)
@@ -45,12 +45,12 @@ module _ (T : Table) (root : ℕ) (L : Linked T 0 root) where
       few : B .count ≤ i
       are : AreAdvices T root L (B .memory) z 0 k
 
-    passed : {i : ℕ} {k : List (Advice Body)} {B : Bound} → Stays i k B → Stays (suc i) k B
+    passed : {i : ℕ} {k : List (Advice Body)} {B : Bound ℕ} → Stays i k B → Stays (suc i) k B
     passed h =
         record { grows = h .grows; slots = h .slots; words = h .words; below = h .below; above = h .above; behind = λ q l. h .behind q (omega arith); count = h .count; few = omega (arith, h .few); are = h .are }
 
     -- One more stays.
-    stayed : {i : ℕ} {k : List (Advice Body)} {B : Bound} (a : Advice Body) (p : ℕ) → i < 64 → p < 512 → IsAdvice T root L M z p (a .dom) (a .labels) (a .body .term) (a .body .env)
+    stayed : {i : ℕ} {k : List (Advice Body)} {B : Bound ℕ} (a : Advice Body) (p : ℕ) → i < 64 → p < 512 → IsAdvice T root L M z p (a .dom) (a .labels) (a .body .term) (a .body .env)
         → ((l : ℕ) → l < 64 → hasBit (z .named) l ≡ false → member l (a .labels) ≡ false) → Stays i k B
         → Stays (suc i) (k ++ (a ∷ [])) (record { memory = putInstalled (B .count) p (B .memory); count = B .count + 1 })
     stayed {i} {k} {B} a p low small ia u h =
@@ -78,7 +78,7 @@ module _ (T : Table) (root : ℕ) (L : Linked T 0 root) where
     dom-of {p} (at-piece l b q e hs) M′ g = ap adviceDom (g .firsts p l) ∙ q
 
     -- The loop.
-    stays : {i : ℕ} {y : List (Advice Body)} → AreAdvices T root L M z i y → i + length y ≤ 64 → (k : List (Advice Body)) (B : Bound) → Stays i k B
+    stays : {i : ℕ} {y : List (Advice Body)} → AreAdvices T root L M z i y → i + length y ≤ 64 → (k : List (Advice Body)) (B : Bound ℕ) → Stays i k B
         → Stays (i + length y) (k ++ without d y) (stayOthers (length y) i d B)
     unfolding stayOthers
     stays {i} none-installed small k B h = let e : i + 0 ≡ i = omega arith in rw (e, append-nil k) h
@@ -93,10 +93,10 @@ module _ (T : Table) (root : ℕ) (L : Linked T 0 root) where
         ia′ : IsAdvice T root L M z p (a .dom) (a .labels) (a .body .term) (a .body .env)
         ia′ = rw (ap (λ (w : ℕ). w % 512) (h .behind i (omega arith))) ia
 
-        left : Bound
+        left : Bound ℕ
         left = record { memory = putInstalled (B .count) p (B .memory); count = B .count + 1 }
 
-        try : (t t′ : Bool) → t ≡ t′ → ((k′ : List (Advice Body)) (B′ : Bound) → Stays (suc i) k′ B′ → Stays (suc i + length y) (k′ ++ without d y) (stayOthers (length y) (suc i) d B′))
+        try : (t t′ : Bool) → t ≡ t′ → ((k′ : List (Advice Body)) (B′ : Bound ℕ) → Stays (suc i) k′ B′ → Stays (suc i + length y) (k′ ++ without d y) (stayOthers (length y) (suc i) d B′))
             → Stays (suc i + length y) (k ++ choose (not t′) (a ∷ without d y) (without d y)) (stayOthers (length y) (suc i) d (choose t B left))
         try true true q ih = ih k B (passed h)
         try true false q ih = absurd (true≢false q)
@@ -127,11 +127,8 @@ module _ (T : Table) (root : ℕ) (L : Linked T 0 root) (G : Given) (e₀ : Tm) 
             record {
               words = rw (t .words) (st .words);
               beside = rw (t .slots .byte) (st .beside);
-              bindings = st .bindings;
               bindings-fit = st .bindings-fit;
-              pieces = st .pieces;
               pieces-fit = st .pieces-fit;
-              cells = st .cells;
               cells-count = st .cells-count;
               cells-fit = st .cells-fit;
               labels = st .labels;
@@ -144,6 +141,7 @@ module _ (T : Table) (root : ℕ) (L : Linked T 0 root) (G : Given) (e₀ : Tm) 
               log-at = st .log-at;
               log-fits = st .log-fits;
             };
+        used = R .place .common .used;
         grows = g;
         slots = t .slots;
         kept = refl;
@@ -157,10 +155,10 @@ module _ (T : Table) (root : ℕ) (L : Linked T 0 root) (G : Given) (e₀ : Tm) 
       st : Store T root L B (S .memory) (S .log) z s
       st = R .place .common .store
 
-      start : Bound
+      start : Bound ℕ
       start = record { memory = S .memory; count = 0 }
 
-      K : Bound
+      K : Bound ℕ
       K = stayOthers (r .installed) 0 d start
 
       after : Regs

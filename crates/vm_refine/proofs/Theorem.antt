@@ -11,7 +11,7 @@ use Rattle.calculus.specs.Combinators.{choose}
 use Rattle.calculus.specs.Syntax.{Dom, Tm}
 use Rattle.calculus.specs.State.{Given, fresh, picked}
 use Rattle.calculus.specs.Run.{run}
-use Rattle.closure_machine.specs.Closure.{CVal, empty, CState}
+use Rattle.closure_machine.specs.Closure.{CVal, Body, empty, CState}
 use Rattle.vm_theory.specs.Code.{atomOf, Pc}
 use Rattle.vm_theory.specs.Conf.{Slots, Conf, body, complete, begin}
 use Rattle.vm_theory.specs.Runs.{start}
@@ -31,8 +31,10 @@ use Rattle.vm_machine.specs.Memory.{Memory, noBinding}
 use Rattle.vm_machine.specs.States.{State}
 use Rattle.vm_machine.specs.Fetch.{Program, codeAt, atomValue}
 use Rattle.vm_machine.specs.Turn.{turn}
+use Rattle.vm_machine.specs.Pools.{noneUsed}
 use Rattle.vm_machine.specs.Run.{startRegs, startState, hasHalted, turns, turnsFor, runFrom, vmRun}
 use Rattle.vm_machine.specs.Fits.{Fits, Safe}
+use Rattle.vm_refine.proofs.Pools.{IsPool, Used}
 use Rattle.vm_refine.proofs.Relations.{sizes, IsVal, is-empty}
 use Rattle.vm_refine.proofs.Store.{logBytes, Store, none-installed}
 use Rattle.vm_refine.proofs.Keeping.{none-kept, kept-fits}
@@ -62,16 +64,16 @@ module _ (T : Table) (root : ℕ) (L : Linked T 0 root) (G : Given) (Ω : Sound 
 
   -- Whether it has halted.
   has-halted : {S : State} → Halting S → hasHalted S ≡ true
-  has-halted {S} (halted-done m o e st iv b f) = eq-eqb (S .regs .left) 0 m
-  has-halted {S} (halted-stopped o m n e st b f) = eq-eqb (S .regs .left) 0 m
+  has-halted {S} (halted-done m o e st y iv b f) = eq-eqb (S .regs .left) 0 m
+  has-halted {S} (halted-stopped o m n e st y b f) = eq-eqb (S .regs .left) 0 m
 
   goes-on : {S : State} {k : ℕ} {s : CState} {E : Conf} → Standing S k s E → hasHalted S ≡ false
   goes-on {S} now = ne-eqb (S .regs .left) 0 (λ e. omega (arith, now .common .running))
 
   -- Its registers fit.
   halted-fits : {S : State} → Halting S → Fits (length B) (S .regs)
-  halted-fits (halted-done m o e st iv b f) = f
-  halted-fits (halted-stopped o m n e st b f) = f
+  halted-fits (halted-done m o e st y iv b f) = f
+  halted-fits (halted-stopped o m n e st y b f) = f
 
   number-fits : {c : Dom} {g : Target} {E : Pc} → Points T 0 root L c g E → targetNumber g ≤ code.home
   number-fits p-home = omega arith
@@ -79,7 +81,7 @@ module _ (T : Table) (root : ℕ) (L : Linked T 0 root) (G : Given) (Ω : Sound 
 
   now-fits : {S : State} {k : ℕ} {s : CState} {E : Conf} → Standing S k s E → Fits (length B) (S .regs)
   now-fits {S} {s = s} {E} now =
-      fits-in T root L G e₀ Ω N B (S .memory) (S .log) (S .regs) s (now .common .store) (omega (arith, now .pc, number-fits (now .points))) (now .env-fits) (omega (arith, now .room, kept-fits T root L (E .chain) (now .kept)))
+      fits-in T root L G e₀ Ω N B (S .memory) (S .log) (S .regs) s (now .common .store) (now .common .used) (omega (arith, now .pc, number-fits (now .points))) (now .env-fits) (omega (arith, now .room, kept-fits T root L (E .chain) (now .kept)))
 
   -- As many turns as the measure says are enough, and each leaves registers that fit.
   pub halts : (n b : ℕ) (S : State) → Comes b S → b ≤ n → Halting (turns n C frame S)
@@ -104,11 +106,8 @@ module _ (T : Table) (root : ℕ) (L : Linked T 0 root) (G : Given) (Ω : Sound 
         record {
           words = words;
           beside = beside;
-          bindings = refl;
           bindings-fit = omega arith;
-          pieces = refl;
           pieces-fit = omega arith;
-          cells = refl;
           cells-count = refl;
           cells-fit = omega arith;
           labels = refl;
@@ -122,6 +121,12 @@ module _ (T : Table) (root : ℕ) (L : Linked T 0 root) (G : Given) (Ω : Sound 
           log-fits = omega arith;
         }
 
+    start-pool : {limit : ℕ} → IsPool limit noneUsed 0 0
+    start-pool = record { mainline = refl; others = refl; fits = record { mainline = omega arith; others = omega arith } }
+
+    start-used : Used (startRegs 0 0 N .pools) (fresh {H = CVal} {B = Body} .used)
+    start-used = record { bindings = start-pool; cells = start-pool; pieces = start-pool }
+
     abbrev S₀ : State
     S₀ = startState C g N M B
 
@@ -132,7 +137,7 @@ module _ (T : Table) (root : ℕ) (L : Linked T 0 root) (G : Given) (Ω : Sound 
     no-slots i = CVal.unit
 
     start-common : (pc v : ℕ) → Common T root L G e₀ Ω N B (at pc v) 0 fresh
-    start-common pc v = record { budget = omega arith; running = omega arith; store = start-store pc v }
+    start-common pc v = record { budget = omega arith; running = omega arith; store = start-store pc v; used = start-used }
 
     -- The root is begun: its value is at hand at once, or its first instruction is to be run.
     started : Standing S₀ 0 fresh (start e₀)

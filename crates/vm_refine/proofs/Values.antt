@@ -103,7 +103,7 @@ module _ (T : Table) (root : ℕ) (L : Linked T 0 root) (G : Given) (e₀ : Tm) 
   -- Nothing changes but the budget.
   unchanged : {a : CAnswer} → At a → Left T root L G e₀ Ω N B C says S k s m P A D c F (S .memory) (S .log) (stepped (S .regs)) s
   unchanged R =
-      record { env = refl; room = refl; left = refl; pc = refl; store = R .place .common .store; grows = grows-refl (S .memory) (sizes (S .regs)); slots = slots-refl (S .memory); kept = refl; keeps = λ i. refl }
+      record { env = refl; room = refl; left = refl; pc = refl; store = R .place .common .store; used = R .place .common .used; grows = grows-refl (S .memory) (sizes (S .regs)); slots = slots-refl (S .memory); kept = refl; keeps = λ i. refl }
 
   pub value-now : {a : CAnswer} → At a → (x : ℕ) (v : CVal) → a ≡ go s (ret v) → Is x v → Made (given (codeAt C m) x S)
   value-now R x v e i = gives T root L G e₀ Ω N B C says S k s m P A D c F R (S .memory) (S .log) (stepped (S .regs)) s (unchanged R) x v e i

@@ -2,31 +2,36 @@
 use Prim.Native.Nat.{ℕ, zero, suc, _+_, _-_, _/_, _%_, _≤_, _<_}
 use native.Mathlib.Omega.{arith}
 use mathlib.Core.Path.{_≡_, refl, sym, ap, ap₂, subst, _∙_}
-use mathlib.Core.Bool.{Bool, true, false}
+use mathlib.Core.Bool.{Bool, true, false, not}
 use mathlib.Core.List.{List}
 use lib.ListN.{getD}
 use lib.Dec.{leb}
-use borrow.Author.Tests.{le-leb, lt-leb, lt-ltb, le-ltb}
+use borrow.Author.Tests.{le-leb, lt-leb, lt-ltb, le-ltb, not-true, not-false}
 use Rattle.calculus.specs.declared.Outcome.{Outcome}
 use Rattle.calculus.specs.Limits.{bindingLimit}
 use Rattle.calculus.specs.Combinators.{choose}
+use Rattle.calculus.specs.Report.{outcomeNumber}
 use Rattle.image.specs.Bytes.{le16}
 use Rattle.vm_code.specs.Values.{unitValue}
 use Rattle.vm_code.specs.Words.{classOf, depthOf, countOf, offsetOf, branchPlace, otherPlace, isInstruction, termCount}
 use Rattle.vm_code.specs.Classes.{firstInstruction, isAtom}
+use Rattle.vm_machine.specs.declared.Pools.{Pools}
 use Rattle.vm_machine.specs.declared.Regs.{Regs}
-use Rattle.vm_machine.specs.Registers.{headroom, fullRoom, setPc, setEnv, setRoom, setLeft, halt, stepped}
-use Rattle.vm_machine.specs.Memory.{Memory, slotPc, slotEnv, putMatch, heldStack, besideAt}
+use Rattle.vm_machine.specs.Registers.{headroom, fullRoom, setPc, setEnv, setRoom, setLeft, haltWith, halt, stepped}
+use Rattle.vm_machine.specs.Pools.{halfOf, whole, chargeBindings, hasRoom, bindingsOut}
+use Rattle.vm_machine.specs.Memory.{Memory, bindingPlaces, slotPc, slotEnv, putMatch, heldStack, besideAt}
 use Rattle.vm_machine.specs.States.{State, withRegs, withMemory, judged}
 use Rattle.vm_machine.specs.Fetch.{Program, codeAt, atomValue, called}
 use Rattle.vm_machine.specs.Stacks.{Looked, Chained, entryAt, cutTerm, unlooked, pastCut, lookOn, lookedByte, lookedWith, stackToCome, matches, variables, bindEntries}
 use Rattle.vm_machine.specs.Turn.{entryFrom, begunAt, beginOperand, reduceMatch, entriesFrom, beginMatch, resumeMatch}
+use Rattle.vm_machine.specs.Fits.{PoolFits}
 use Rattle.vm_tables.specs.View.{memoryOf, Holds}
 use Rattle.vm_tables.proofs.Chosen.{chosen-yes, chosen-no}
 use Rattle.vm_states.specs.Phases.{stateOf, Phase}
 use Rattle.vm_states.proofs.Made.{as-phase, stored-made, regs-made, then-set, set-either}
-use Rattle.vm_states.proofs.Ended.{full-made, room-made, left-made, unpaid-left}
-use Rattle.vm_reductions.proofs.Reduced.{counted, stored-called}
+use Rattle.vm_states.proofs.Ended.{left-made, unpaid-left}
+use Rattle.vm_states.proofs.Halves.{half-made, half-full, half-spent}
+use Rattle.vm_reductions.proofs.Reduced.{counted, stored-called, bindings-charged}
 use Rattle.vm_stacks.specs.declared.Progress.{Progress}
 use Rattle.vm_stacks.specs.declared.Chain.{Chain}
 use Rattle.vm_stacks.specs.Parts.{lookedOf, LookedAgain, Chains, firstBranch, otherBranch}
@@ -36,32 +41,34 @@ use Rattle.vm_stacks.specs.Operands.{Matchable, RoomOf}
 pub branch-as : (C : Program) (o n g : ℕ) → n ≡ le16 (C .image) o → g ≡ begunAt C (n % termCount) → g ≡ begunAt C (le16 (C .image) o % termCount)
 branch-as C o n g e d = d ∙ ap (λ (x : ℕ). begunAt C (x % termCount)) e
 
--- The first branch of a match with word w and the stack v: m variables are bound.
-module _ (C : Program) (a b c : List ℕ) (r q : Regs) (w v m : ℕ) (count : m ≡ variables C w (countOf w) 0) where
-  abbrev bounds : Chained
-  bounds = bindEntries C w (countOf w) 0 v (record { memory = memoryOf a; count = r .pools .bindings; env = r .env })
+-- The first branch of a match with word w and the stack v: m variables are bound, which the half h has room for or not (card 9).
+module _ (C : Program) (a b c : List ℕ) (r q : Regs) (w v m : ℕ) (count : m ≡ variables C w (countOf w) 0) (h t : Bool) (is : h ≡ halfOf w) (test : t ≡ hasRoom bindingLimit h m (r .pools .bindings)) where
+  -- The bindings, from place n on.
+  abbrev bounds : ℕ → Chained
+  bounds n = bindEntries C w (countOf w) 0 v (record { memory = memoryOf a; count = n; env = r .env })
 
   abbrev first : ℕ
   first = begunAt C (le16 (C .image) (branchPlace w) % termCount)
 
-  within : r .pools .bindings + m ≤ bindingLimit → leb (r .pools .bindings + variables C w (countOf w) 0) bindingLimit ≡ true
-  within h = ap (λ (x : ℕ). leb (r .pools .bindings + x) bindingLimit) (sym count) ∙ le-leb (r .pools .bindings + m) bindingLimit h
+  abbrev bindable : ℕ
+  bindable = variables C w (countOf w) 0
 
-  pub branch-made : headroom < r .left → (g o : ℕ) (x : Chain) → r .pools .bindings + m ≤ bindingLimit → Chains bounds a b x → o ≡ branchPlace w → g ≡ begunAt C (le16 (C .image) o % termCount) → Phase (called C w g (x .env)) b c r q
-      → Phase (firstBranch C w v) a c r (counted (r .pools .bindings + m) (r .left - 1) q)
-  branch-made l g o x h B at e p =
-      let P : Phase (called C w g (bounds .env)) b c r q = subst (λ (z : ℕ). Phase (called C w g z) b c r q) (B .env) p in
-      subst (λ (z : ℕ). Phase (firstBranch C w v) a c r (counted (r .pools .bindings + z) (r .left - 1) q)) (sym count)
-      (room-made (λ (S : State). leb (S .regs .pools .bindings + variables C w (countOf w) 0) bindingLimit) Outcome.Bindings _ a c r _ l (λ log. within h)
-      (stored-called C _ (bounds .memory) a b c r q w g first (bounds .env) (r .pools .bindings + variables C w (countOf w) 0) (r .left - 1) (e ∙ ap (λ (z : ℕ). begunAt C (le16 (C .image) z % termCount)) at) (λ log. refl) (B .memory) P))
+  tested : t ≡ hasRoom bindingLimit h bindable (r .pools .bindings)
+  tested = test ∙ ap (λ (x : ℕ). hasRoom bindingLimit h x (r .pools .bindings)) count
 
-  pub branch-full : bindingLimit < r .pools .bindings + m → q ≡ halt Outcome.Bindings r → Phase (firstBranch C w v) a a r q
-  branch-full h e =
-      full-made (λ (S : State). leb (S .regs .pools .bindings + variables C w (countOf w) 0) bindingLimit) Outcome.Bindings _ a a r q (λ log. ap (λ (x : ℕ). leb (r .pools .bindings + x) bindingLimit) (sym count) ∙ lt-leb (r .pools .bindings + m) bindingLimit h) e
+  pub branch-made : headroom < r .left → (n g o : ℕ) (x : Chain) (s : Pools) → not t ≡ false → n ≡ whole (r .pools .bindings) → s ≡ chargeBindings h m (r .pools) → Chains (bounds n) a b x → o ≡ branchPlace w → g ≡ begunAt C (le16 (C .image) o % termCount) → Phase (called C w g (x .env)) b c r q
+      → Phase (firstBranch C w v) a c r (counted s (r .left - 1) q)
+  branch-made l n g o x s k d i B at e p =
+      let D : Chains (bounds (whole (r .pools .bindings))) a b x = subst (λ (z : ℕ). Chains (bounds z) a b x) d B in
+      bindings-charged (firstBranch C w v) a c r q w bindable (r .left - 1) h s is (i ∙ ap (λ (z : ℕ). chargeBindings h z (r .pools)) count)
+      (half-made bindingLimit bindable (λ p. p .bindings) bindingsOut w r h t is tested _ a _ c l (not-false t k)
+      (stored-called C _ _ a b c r q w g first (x .env) _ _ _ (e ∙ ap (λ (z : ℕ). begunAt C (le16 (C .image) z % termCount)) at) (D .env) (λ log. refl) (D .memory) p))
 
-  pub branch-spent : r .left ≤ headroom → r .pools .bindings + m ≤ bindingLimit → q ≡ halt Outcome.Spent r → Phase (firstBranch C w v) a a r q
-  branch-spent l h e =
-      regs-made (firstBranch C w v) a r q (halt Outcome.Spent r) (λ log. unpaid-left (stateOf a log r) _ l ∙ sym (chosen-yes _ _ _ (within h))) e
+  pub branch-full : (o : ℕ) → not t ≡ true → o ≡ outcomeNumber (bindingsOut h) → q ≡ haltWith o (r .left) r → Phase (firstBranch C w v) a a r q
+  branch-full o k = half-full bindingLimit bindable (λ p. p .bindings) bindingsOut w r h t is tested _ a q o (not-true t k)
+
+  pub branch-spent : r .left ≤ headroom → not t ≡ false → q ≡ halt Outcome.Spent r → Phase (firstBranch C w v) a a r q
+  branch-spent l k = half-spent bindingLimit bindable (λ p. p .bindings) bindingsOut w r h t is tested _ a q l (not-false t k)
 
 -- The other branch, and which one is taken.
 module _ (C : Program) (a b : List ℕ) (r q : Regs) (w : ℕ) where
@@ -151,9 +158,9 @@ module _ (C : Program) (a b : List ℕ) (r q : Regs) (o n c : ℕ) (offset : o �
 
 -- A match that is resumed: its registers.
 pub still-matchable : (code work : List ℕ) (r s : Regs) (f t env d : ℕ) → Matchable code work r → r .room < fullRoom → t ≡ slotPc f → s ≡ r → d ≡ depthOf (getD code t 0)
-    → Matchable code work (setPc t (setEnv (env % bindingLimit) (setRoom (r .room + (d + 1)) s))) × RoomOf code (setPc t (setEnv (env % bindingLimit) (setRoom (r .room + (d + 1)) s)))
+    → Matchable code work (setPc t (setEnv (env % bindingPlaces) (setRoom (r .room + (d + 1)) s))) × RoomOf code (setPc t (setEnv (env % bindingPlaces) (setRoom (r .room + (d + 1)) s)))
 still-matchable code work r s f t env d M h at same depth =
-    (record { coded = M .coded; long = M .long; pc = omega arith; env = omega arith; room = omega arith; bindings = subst (λ (z : Regs). z .pools .bindings ≤ bindingLimit) (sym same) (M .bindings) }, omega arith)
+    (record { coded = M .coded; long = M .long; pc = omega arith; env = omega arith; room = omega arith; bindings = subst (λ (z : Regs). PoolFits bindingLimit (z .pools .bindings)) (sym same) (M .bindings) }, omega arith)
 
 by-both : (t : Bool) (F : ℕ → Looked → State) (x y : ℕ) (X Y : Looked) → F (choose t x y) (choose t X Y) ≡ choose t (F x X) (F y Y)
 by-both true F x y X Y = refl
@@ -161,14 +168,14 @@ by-both false F x y X Y = refl
 
 -- An operand of a match is worked out: f is the word of its slot, which has the byte beside.
 pub match-resumed : (C : Program) (a b : List ℕ) (r q s : Regs) (f byte t d env : ℕ) (k : Progress) → byte ≡ besideAt (memoryOf a) (r .room) → LookedAgain (memoryOf a) (r .hand) f byte k → t ≡ slotPc f → s ≡ r → d ≡ depthOf (codeAt C t) → env ≡ slotEnv f
-    → Phase (entriesFrom C t (k .stack) (lookedOf k)) a b (setPc t (setEnv (env % bindingLimit) (setRoom (r .room + (d + 1)) s))) q → Phase (resumeMatch C f) a b r q
+    → Phase (entriesFrom C t (k .stack) (lookedOf k)) a b (setPc t (setEnv (env % bindingPlaces) (setRoom (r .room + (d + 1)) s))) q → Phase (resumeMatch C f) a b r q
 unfolding resumeMatch
 match-resumed C a b r q s f byte t d env k beside again at same depth outer p =
-    let R : ℕ → Regs = λ z. setPc z (setEnv (slotEnv f % bindingLimit) (setRoom (r .room + (depthOf (codeAt C z) + 1)) r)) in
-    let e : setPc t (setEnv (env % bindingLimit) (setRoom (r .room + (d + 1)) s)) ≡ R t =
-    ap (λ (z : Regs). setPc t (setEnv (env % bindingLimit) (setRoom (r .room + (d + 1)) z))) same
-    ∙ ap (λ (z : ℕ). setPc t (setEnv (env % bindingLimit) (setRoom (r .room + (z + 1)) r))) depth
-    ∙ ap (λ (z : ℕ). setPc t (setEnv (z % bindingLimit) (setRoom (r .room + (depthOf (codeAt C t) + 1)) r))) outer in
+    let R : ℕ → Regs = λ z. setPc z (setEnv (slotEnv f % bindingPlaces) (setRoom (r .room + (depthOf (codeAt C z) + 1)) r)) in
+    let e : setPc t (setEnv (env % bindingPlaces) (setRoom (r .room + (d + 1)) s)) ≡ R t =
+    ap (λ (z : Regs). setPc t (setEnv (env % bindingPlaces) (setRoom (r .room + (d + 1)) z))) same
+    ∙ ap (λ (z : ℕ). setPc t (setEnv (env % bindingPlaces) (setRoom (r .room + (z + 1)) r))) depth
+    ∙ ap (λ (z : ℕ). setPc t (setEnv (z % bindingPlaces) (setRoom (r .room + (depthOf (codeAt C t) + 1)) r))) outer in
     let F : ℕ → ℕ → Looked → List ℕ → State = λ z y L log. entriesFrom C z y L (stateOf a log (R z)) in
     let X : ℕ → Looked = λ z. pastCut (memoryOf a) (r .hand) (lookedWith (memoryOf a) (heldStack f) z) in
     let B : ℕ = besideAt (memoryOf a) (r .room) in

@@ -2,25 +2,28 @@
 use Prim.Native.Nat.{ℕ, zero, suc, _+_, _-_, _≤_, _<_}
 use native.Mathlib.Omega.{arith}
 use mathlib.Core.Path.{_≡_, refl, sym, ap, subst, _∙_}
+use mathlib.Core.Bool.{Bool, true, false, not}
 use mathlib.Core.List.{List}
 use lib.ListN.{drop}
-use lib.Dec.{leb}
-use borrow.Author.Tests.{le-leb, lt-leb}
+use borrow.Author.Tests.{not-true, not-false}
 use Rattle.calculus.specs.declared.Outcome.{Outcome}
 use Rattle.calculus.specs.Limits.{pieceLimit}
+use Rattle.calculus.specs.Report.{outcomeNumber}
 use Rattle.base_bytes.specs.Memory.{memoryLength}
 use Rattle.vm_code.specs.Values.{bottomValue, keptValue}
+use Rattle.vm_machine.specs.declared.Pools.{Pools}
 use Rattle.vm_machine.specs.declared.Regs.{Regs}
-use Rattle.vm_machine.specs.Registers.{headroom, setPools, halt}
+use Rattle.vm_machine.specs.Registers.{headroom, setPools, haltWith, halt}
+use Rattle.vm_machine.specs.Pools.{halfOf, whole, chargePieces, hasRoom, piecesOut}
 use Rattle.vm_machine.specs.Memory.{Memory, keptAt, putPiece}
-use Rattle.vm_machine.specs.States.{State}
-use Rattle.vm_machine.specs.Reduce.{given}
+use Rattle.vm_machine.specs.States.{State, withMemory}
+use Rattle.vm_machine.specs.Reduce.{given, ifPieces}
 use Rattle.vm_machine.specs.Stacks.{Stacked, stackPieces, reduceStack}
 use Rattle.vm_tables.specs.View.{memoryOf, Holds}
-use Rattle.vm_tables.proofs.Chosen.{chosen-yes}
-use Rattle.vm_states.specs.Phases.{stateOf, Phase}
-use Rattle.vm_states.proofs.Made.{regs-made, stored-set}
-use Rattle.vm_states.proofs.Ended.{full-made, room-made, unpaid-left, given-as}
+use Rattle.vm_states.specs.Phases.{Phase}
+use Rattle.vm_states.proofs.Made.{as-phase, stored-set}
+use Rattle.vm_states.proofs.Ended.{given-as}
+use Rattle.vm_states.proofs.Halves.{half-made, half-full, half-spent}
 use Rattle.vm_stacks.specs.Parts.{stackedIn, Stacks}
 
 -- No piece is made yet: v is the empty stack.
@@ -50,26 +53,33 @@ pieces-done K n i p w w′ v h e r =
     let z : K ≡ stackedIn w′ v = e ∙ ap (λ (x : ℕ). stackPieces x i p (stackedIn w′ v)) k in
     subst (λ (X : Stacked). Stacks X w w′ v) (sym z) (record { memory = record { memory = refl; rest = r }; value = refl })
 
--- A step with all pieces; or their room, or the budget, does not do.
-module _ (a b c : List ℕ) (r q : Regs) (w : ℕ) where
-  abbrev taken : Stacked
-  taken = stackPieces (r .kept) 0 (r .pools .pieces) (stackedIn a bottomValue)
+-- A step with all pieces; or their room, or the budget, does not do: the half h has room or not (card 9).
+module _ (a b c : List ℕ) (r q : Regs) (w : ℕ) (h t : Bool) (is : h ≡ halfOf w) (test : t ≡ hasRoom pieceLimit h (r .kept) (r .pools .pieces)) where
+  -- The pieces, from place n on.
+  abbrev taken : ℕ → Stacked
+  taken n = stackPieces (r .kept) 0 n (stackedIn a bottomValue)
 
-  abbrev with-pieces : Regs → Regs
-  with-pieces p = setPools (record { bindings = p .pools .bindings; cells = p .pools .cells; pieces = r .pools .pieces + r .kept }) p
+  -- All of them, and the step: of a state with r's values that are kept.
+  abbrev all : State → State
+  all S =
+      let K : Stacked = stackPieces (r .kept) 0 (whole (S .regs .pools .pieces)) (record { memory = S .memory; value = bottomValue }) in
+      given w (K .value) (withMemory (K .memory) (setPools (chargePieces (halfOf w) (r .kept) (S .regs .pools)) (S .regs)) S)
 
-  pub stack-made : headroom < r .left → (v : ℕ) → r .pools .pieces + r .kept ≤ pieceLimit → Stacks taken a b v → Phase (given w v) b c r q → Phase (reduceStack w) a c r (with-pieces q)
+  as-stack : (z : List ℕ) (p : Regs) → Phase (λ S. ifPieces w (r .kept) S (all S)) a z r p → Phase (reduceStack w) a z r p
   unfolding reduceStack
-  stack-made l v h m p =
-      room-made (λ (S : State). leb (S .regs .pools .pieces + S .regs .kept) pieceLimit) Outcome.Pieces _ a c r (with-pieces q) l (λ log. le-leb (r .pools .pieces + r .kept) pieceLimit h)
-      (stored-set (given w (taken .value)) _ with-pieces (taken .memory) a b c r q (λ log. refl) (m .memory) (given-as b c r q w v _ (m .value) p))
+  as-stack z p = as-phase (λ S. ifPieces w (r .kept) S (all S)) (reduceStack w) a z r p (λ log. refl)
 
-  pub stack-full : pieceLimit < r .pools .pieces + r .kept → q ≡ halt Outcome.Pieces r → Phase (reduceStack w) a a r q
-  unfolding reduceStack
-  stack-full h e =
-      full-made (λ (S : State). leb (S .regs .pools .pieces + S .regs .kept) pieceLimit) Outcome.Pieces _ a a r q (λ log. lt-leb (r .pools .pieces + r .kept) pieceLimit h) e
+  pub stack-made : headroom < r .left → (n v : ℕ) (s : Pools) → not t ≡ false → n ≡ whole (r .pools .pieces) → s ≡ chargePieces h (r .kept) (r .pools) → Stacks (taken n) a b v → Phase (given w v) b c r q → Phase (reduceStack w) a c r (setPools s q)
+  stack-made l n v s k d i m p =
+      let M : Stacks (taken (whole (r .pools .pieces))) a b v = subst (λ (z : ℕ). Stacks (taken z) a b v) d m in
+      let z : s ≡ chargePieces (halfOf w) (r .kept) (r .pools) = i ∙ ap (λ (g : Bool). chargePieces g (r .kept) (r .pools)) is in
+      subst (λ (x : Pools). Phase (reduceStack w) a c r (setPools x q)) (sym z)
+      (as-stack c _
+      (half-made pieceLimit (r .kept) (λ p. p .pieces) piecesOut w r h t is test all a _ c l (not-false t k)
+      (stored-set (given w (taken (whole (r .pools .pieces)) .value)) all (setPools (chargePieces (halfOf w) (r .kept) (r .pools))) (taken (whole (r .pools .pieces)) .memory) a b c r q (λ log. refl) (M .memory) (given-as b c r q w v _ (M .value) p))))
 
-  pub stack-spent : r .left ≤ headroom → r .pools .pieces + r .kept ≤ pieceLimit → q ≡ halt Outcome.Spent r → Phase (reduceStack w) a a r q
-  unfolding reduceStack
-  stack-spent l h e =
-      regs-made (reduceStack w) a r q (halt Outcome.Spent r) (λ log. unpaid-left (stateOf a log r) _ l ∙ sym (chosen-yes _ _ _ (le-leb (r .pools .pieces + r .kept) pieceLimit h))) e
+  pub stack-full : (o : ℕ) → not t ≡ true → o ≡ outcomeNumber (piecesOut h) → q ≡ haltWith o (r .left) r → Phase (reduceStack w) a a r q
+  stack-full o k e d = as-stack a q (half-full pieceLimit (r .kept) (λ p. p .pieces) piecesOut w r h t is test all a q o (not-true t k) e d)
+
+  pub stack-spent : r .left ≤ headroom → not t ≡ false → q ≡ halt Outcome.Spent r → Phase (reduceStack w) a a r q
+  stack-spent l k e = as-stack a q (half-spent pieceLimit (r .kept) (λ p. p .pieces) piecesOut w r h t is test all a q l (not-false t k) e)

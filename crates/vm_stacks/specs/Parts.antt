@@ -4,18 +4,18 @@ use mathlib.Core.Path.{_≡_}
 use mathlib.Core.Bool.{Bool, not, _&&_}
 use mathlib.Core.List.{List}
 use lib.Dec.{eqb, leb}
-use Rattle.calculus.specs.declared.Outcome.{Outcome}
-use Rattle.calculus.specs.Limits.{bindingLimit}
 use Rattle.calculus.specs.Combinators.{choose}
 use Rattle.image.specs.Bytes.{le16}
 use Rattle.vm_code.specs.Values.{bodyOf}
 use Rattle.vm_code.specs.Words.{depthOf, countOf, branchPlace, otherPlace, termCount}
 use Rattle.vm_code.specs.Classes.{isAtom}
 use Rattle.vm_machine.specs.declared.Regs.{Regs}
-use Rattle.vm_machine.specs.Registers.{setPools, stepped, bound}
+use Rattle.vm_machine.specs.Registers.{setPools, stepped}
+use Rattle.vm_machine.specs.Pools.{halfOf, whole, chargeBindings}
 use Rattle.vm_machine.specs.Memory.{Memory, pieceSecond, pieceOf, isKept, topEntry, entryLabel, hasBit, putKeep, putKept, heldStack}
-use Rattle.vm_machine.specs.States.{State, withRegs, withMemory, ifLeft, ifRoom}
+use Rattle.vm_machine.specs.States.{State, withRegs, withMemory, ifLeft}
 use Rattle.vm_machine.specs.Fetch.{Program, codeAt, atomValue, called}
+use Rattle.vm_machine.specs.Reduce.{ifBindings}
 use Rattle.vm_machine.specs.Stacks.{Stacked, Looked, Chained, entryAt, cutTerm, bindsRest, unlooked, pastAny, pastCut, lookedWith, stackToCome, variables, bindInside, bindEntries}
 use Rattle.vm_machine.specs.Turn.{begunAt}
 use Rattle.vm_tables.specs.View.{memoryOf, Holds}
@@ -75,11 +75,10 @@ restBound C w v B = choose (bindsRest C w) (bindInside v B) B
 abbrev pub firstBranch : Program → ℕ → ℕ → State → State
 firstBranch C w v S =
     let r : Regs = S .regs in
-    let n : ℕ = r .pools .bindings in
     let c : ℕ = variables C w (countOf w) 0 in
-    let B : Chained = bindEntries C w (countOf w) 0 v (record { memory = S .memory; count = n; env = r .env }) in
-    ifRoom (leb (n + c) bindingLimit) Outcome.Bindings S
-    (called C w (begunAt C (le16 (C .image) (branchPlace w) % termCount)) (B .env) (withMemory (B .memory) (setPools (bound c (r .pools)) (stepped r)) S))
+    let B : Chained = bindEntries C w (countOf w) 0 v (record { memory = S .memory; count = whole (r .pools .bindings); env = r .env }) in
+    ifBindings w c S
+    (called C w (begunAt C (le16 (C .image) (branchPlace w) % termCount)) (B .env) (withMemory (B .memory) (setPools (chargeBindings (halfOf w) c (r .pools)) (stepped r)) S))
 
 abbrev pub otherBranch : Program → ℕ → State → State
 otherBranch C w S =

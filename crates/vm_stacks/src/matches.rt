@@ -22,6 +22,9 @@ use vm_states::ends::TERMS;
 use vm_states::ends::called;
 use vm_states::limits::BINDINGS;
 use vm_states::outcomes;
+use vm_states::pools::bindings_out;
+use vm_states::pools::half_of;
+use vm_states::pools::has_room;
 use vm_states::regs::HEADROOM;
 use vm_states::regs::halt;
 use vm_words::code::branch_place;
@@ -42,23 +45,25 @@ fn first_branch(code: &[u64], image: &[u8], work: &mut [u8], r: Regs, w: u64, v:
     requires { ⌜ Matchable (now code) (now work) r × (depthOf w ≤ r .room) ⌝ }
     ensures { λ q. ⌜ Phase (firstBranch (record { code = now (code .entry); image = now (image .entry) }) w v) (now (work .entry)) (now (work .exit)) r q ⌝ }
 {
-    let n = r.pools.bindings;
-    let m = n + variables(image, w);
-    if BINDINGS < m {
-        return halt(r, outcomes::BINDINGS);
+    let h = half_of(w);
+    let p = r.pools;
+    let x = p.bindings;
+    let m = variables(image, w);
+    if !has_room(x, h, m, BINDINGS) {
+        return halt(r, bindings_out(h));
     }
     if r.left <= HEADROOM {
         return halt(r, outcomes::SPENT);
     }
     let from = Chain {
-        count: n,
+        count: x.whole(),
         env: r.env,
     };
     let b = bind_entries(image, work, w, v, from);
     let g = branch_at(code, image, branch_place(w));
     let mut q = called(code, work, r, w, g, b.env);
     q.left = r.left - 1;
-    q.pools.bindings = m;
+    q.pools = p.charge_bindings(h, m);
     q
 }
 

@@ -22,7 +22,7 @@ use vm_labels::entry::entry_from;
 use vm_machine::Regs;
 use vm_states::ends::TERMS;
 use vm_states::ends::atom_value;
-use vm_states::limits::BINDINGS;
+use vm_states::limits::BINDING_PLACES;
 use vm_states::outcomes;
 use vm_states::regs::halt;
 use vm_states::regs::same;
@@ -97,7 +97,7 @@ pub fn resume_match(code: &[u64], image: &[u8], work: &mut [u8], r: Regs, f: u64
     let k = looked_again(work, r.hand, f, byte_beside(work, r.room));
     let mut q = same(r);
     q.room = r.room + (depth_of(code[pc]) + 1);
-    q.env = slot_env(f) % BINDINGS;
+    q.env = slot_env(f) % BINDING_PLACES;
     q.pc = pc;
     entries_from(code, image, work, q, k)
 }

@@ -12,6 +12,9 @@ use vm_machine::Regs;
 use vm_states::ends::given;
 use vm_states::limits::PIECES;
 use vm_states::outcomes;
+use vm_states::pools::half_of;
+use vm_states::pools::has_room;
+use vm_states::pools::pieces_out;
 use vm_states::regs::HEADROOM;
 use vm_states::regs::halt;
 use vm_tables::kept::kept_at;
@@ -42,17 +45,18 @@ fn reduce_stack(work: &mut [u8], r: Regs, w: u64) -> Regs
     ensures { λ q. ⌜ Phase (reduceStack w) (now (work .entry)) (now (work .exit)) r q ⌝ }
 {
     let n = r.kept;
-    let p = r.pools.pieces;
-    let m = p + n;
-    if PIECES < m {
-        return halt(r, outcomes::PIECES);
+    let h = half_of(w);
+    let p = r.pools;
+    let x = p.pieces;
+    if !has_room(x, h, n, PIECES) {
+        return halt(r, pieces_out(h));
     }
     if r.left <= HEADROOM {
         return halt(r, outcomes::SPENT);
     }
-    let v = stack_pieces(work, n, p);
+    let v = stack_pieces(work, n, x.whole());
     let mut q = given(work, r, w, v);
-    q.pools.pieces = m;
+    q.pools = p.charge_pieces(h, n);
     q
 }
 

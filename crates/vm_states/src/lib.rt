@@ -4,4 +4,5 @@ pub mod ends;
 pub mod limits;
 pub mod outcomes;
 pub mod pieces;
+pub mod pools;
 pub mod regs;

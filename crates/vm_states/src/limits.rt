@@ -1,14 +1,17 @@
-// The limits of a run (document 01, "A run").
-pub const BINDINGS: usize = 2048;
+// The limits of a run (document 01, "A run"). Bindings, cells and pieces are those of one half (card 9).
+pub const BINDINGS: usize = 1024;
 
-pub const CELLS: usize = 256;
+pub const CELLS: usize = 128;
 
 pub const LABELS: usize = 64;
 
 // Installed advice.
 pub const ADVICE: usize = 64;
 
-pub const PIECES: usize = 512;
+pub const PIECES: usize = 256;
+
+// The places of the table of bindings, which both halves share.
+pub const BINDING_PLACES: usize = 2048;
 
 // The bytes of one log record.
 pub const LOG_RECORD: usize = 10;

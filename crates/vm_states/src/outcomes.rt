@@ -18,3 +18,10 @@ pub const ADVICE: u32 = 7;
 pub const PIECES: u32 = 8;
 
 pub const LOG: u32 = 9;
+
+// Card 9: the same three rooms of the other domains' half.
+pub const OTHER_BINDINGS: u32 = 10;
+
+pub const OTHER_CELLS: u32 = 11;
+
+pub const OTHER_PIECES: u32 = 12;

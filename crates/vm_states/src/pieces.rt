@@ -1,13 +1,17 @@
 // Pieces: pairs, pointcuts and advice.
 ghost use Prim.Native.Nat.{_≤_, _<_};
 ghost use lib.ListN.{length};
+ghost use Rattle.calculus.specs.Limits.{pieceLimit};
 ghost use Rattle.base_bytes.specs.Memory.{memoryLength};
 ghost use Rattle.vm_machine.specs.Registers.{headroom};
+ghost use Rattle.vm_machine.specs.Fits.{PoolFits};
 ghost use Rattle.vm_machine.specs.Reduce.{newPiece};
 ghost use Rattle.vm_states.specs.Phases.{Phase};
 use crate::ends::given;
 use crate::limits::PIECES;
-use crate::outcomes;
+use crate::pools::half_of;
+use crate::pools::has_room;
+use crate::pools::pieces_out;
 use crate::regs::halt;
 use vm_machine::Regs;
 use vm_tables::pieces::put_piece;
@@ -15,16 +19,18 @@ use vm_words::value::value;
 
 // One more piece, for a value with a tag.
 pub fn new_piece(work: &mut [u8], r: Regs, w: u64, tag: u64, a: u64, b: u64) -> Regs
-    requires { ⌜ (memoryLength ≤ length (now work)) × (r .room ≤ 513) × (headroom < r .left) × (tag < 16) ⌝ }
+    requires { ⌜ (memoryLength ≤ length (now work)) × (r .room ≤ 513) × (headroom < r .left) × (tag < 16) × PoolFits pieceLimit (r .pools .pieces) ⌝ }
     ensures { λ q. ⌜ Phase (newPiece w tag a b) (now (work .entry)) (now (work .exit)) r q ⌝ }
 {
-    let n = r.pools.pieces;
-    if n < PIECES {
+    let h = half_of(w);
+    let p = r.pools;
+    let x = p.pieces;
+    if has_room(x, h, 1, PIECES) {
+        let n = x.whole();
         put_piece(work, n, a, b);
         let mut q = given(work, r, w, value(tag, n as u64));
-        let m = n + 1;
-        q.pools.pieces = m;
+        q.pools = p.charge_pieces(h, 1);
         return q;
     }
-    halt(r, outcomes::PIECES)
+    halt(r, pieces_out(h))
 }

@@ -7,7 +7,7 @@ pub struct Counts {
     pub accepted: usize,
     pub calls: usize,
     refusals: [usize; 19],
-    outcomes: [usize; 10],
+    outcomes: [usize; 13],
 }
 
 impl Counts {
@@ -29,7 +29,7 @@ impl Counts {
     pub fn print(&self) {
         println!("images {}, accepted {}, calls {}", self.images, self.accepted, self.calls);
         println!("refusals 1 to 18: {:?}", &self.refusals[1..]);
-        println!("outcomes 0 to 9: {:?}", self.outcomes);
+        println!("outcomes 0 to 12: {:?}", self.outcomes);
     }
 
     /// Did each refusal and each outcome occur?

@@ -73,75 +73,87 @@ fn bound(maker: &mut Maker, body: impl FnOnce(&mut Maker, &[Type]) -> Term) -> T
 pub fn turns(random: &mut Random) -> usize {
     match random.below(4) {
         0 => random.below(20),
-        1 => [63, 64, 65, 255, 256, 257, 511, 512, 513, 2046, 2047, 2048][random.below(12)],
-        _ => random.below(2500),
+        1 => [63, 64, 65, 127, 128, 129, 255, 256, 257, 1022, 1023, 1024][random.below(12)],
+        _ => random.below(1300),
     }
 }
 
-/// A number by turns of a loop, under labels and cells.
-fn looped(random: &mut Random, knot: impl Fn(&mut Maker, &[Type], usize) -> Term) -> Vec<u8> {
+/// A number by turns of a loop, under labels and cells. A loop at another domain than 0, which takes the room of the
+/// other half, is lowered, and its number is printed.
+fn looped(random: &mut Random, knot: impl Fn(&mut Maker, u16, &[Type], usize) -> Term) -> Vec<u8> {
     let turns = turns(random);
     let fuel = random.between(5, 60);
     let mut maker = Maker::new(random, fuel);
-    let root = bound(&mut maker, |maker, scope| knot(maker, scope, turns));
+    let root = bound(&mut maker, |maker, scope| {
+        let at = if maker.random.chance(50) { 0 } else { maker.domain_below(0) };
+        let number = knot(maker, at, scope, turns);
+        if at == 0 {
+            return number;
+        }
+        let print = maker.program.print(number);
+        let low = maker.program.lower(at, print);
+        let of = maker.program.number_type();
+        let end = maker.term(of, 0, scope, 4);
+        maker.program.sequence(low, end)
+    });
     maker.program.image(&root)
 }
 
-/// A number, by so many turns of a function that calls itself through a cell, from n down to 0. The cell of the knot is
-/// the next variable, its argument the one after.
-pub fn knot(maker: &mut Maker, scope: &[Type], turns: usize) -> Term {
+/// A number at a domain, by so many turns of a function that calls itself through a cell, from n down to 0. The cell of
+/// the knot is the next variable, its argument the one after.
+pub fn knot(maker: &mut Maker, at: u16, scope: &[Type], turns: usize) -> Term {
     let number = maker.program.number_type();
-    let function = maker.program.make(Shape::Function(number, 0, number));
-    let cell = maker.program.make(Shape::Reference(function, 0));
+    let function = maker.program.make(Shape::Function(number, at, number));
+    let cell = maker.program.make(Shape::Reference(function, at));
     let level = scope.len() as u16;
     let inner = [scope, &[cell, number]].concat();
     let cell_here = maker.program.variable(cell, level);
     let argument = maker.program.variable(number, level + 1);
-    let end = maker.term(number, 0, &inner, 6);
+    let end = maker.term(number, at, &inner, 6);
     let read = maker.program.read(cell_here.clone());
-    let next = turn(maker, &read, &argument, &inner);
+    let next = turn(maker, at, &read, &argument, &inner);
     let one = maker.program.number(1);
     let test = maker.program.less(argument, one);
     let body = maker.program.choose(test, end, next);
-    let body = maker.program.function(number, 0, body);
+    let body = maker.program.function(number, at, body);
     let tie = maker.program.store(cell_here.clone(), body);
     let start = maker.program.number(turns as i32);
     let go = maker.program.apply(read, start);
     let tied = maker.program.sequence(tie, go);
     let zero = maker.program.number(0);
-    let first = maker.program.function(number, 0, zero);
-    let first = maker.program.new_cell(0, first);
-    maker.program.bind(0, first, tied)
+    let first = maker.program.function(number, at, zero);
+    let first = maker.program.new_cell(at, first);
+    maker.program.bind(at, first, tied)
 }
 
 /// The same by an object whose method gives the function: a call and an apply are a turn. The object stands in scope,
 /// and the method's body has it as itself.
-fn object_knot(maker: &mut Maker, scope: &[Type], turns: usize) -> Term {
+fn object_knot(maker: &mut Maker, at: u16, scope: &[Type], turns: usize) -> Term {
     let number = maker.program.number_type();
-    let function = maker.program.make(Shape::Function(number, 0, number));
-    let object = maker.program.make(Shape::Object(vec![(0, number), (0, function)]));
+    let function = maker.program.make(Shape::Function(number, at, number));
+    let object = maker.program.make(Shape::Object(vec![(at, number), (at, function)]));
     let level = scope.len() as u16;
     let inner = [scope, &[object, number]].concat();
     let itself = maker.program.variable(object, level);
     let argument = maker.program.variable(number, level + 1);
-    let end = maker.term(number, 0, &inner, 6);
+    let end = maker.term(number, at, &inner, 6);
     let again = maker.program.call(itself.clone(), 1);
-    let next = turn(maker, &again, &argument, &inner);
+    let next = turn(maker, at, &again, &argument, &inner);
     let one = maker.program.number(1);
     let test = maker.program.less(argument, one);
     let body = maker.program.choose(test, end, next);
-    let body = maker.program.function(number, 0, body);
-    let other = maker.term(number, 0, &[scope, &[object]].concat(), 4);
+    let body = maker.program.function(number, at, body);
+    let other = maker.term(number, at, &[scope, &[object]].concat(), 4);
     let made = maker.program.object(object, vec![other, body]);
     let start = maker.program.number(turns as i32);
     let call = maker.program.call(itself, 1);
     let go = maker.program.apply(call, start);
-    maker.program.bind(0, made, go)
+    maker.program.bind(at, made, go)
 }
 
 /// One turn of a knot: a random statement, a mark, or one that takes room, then the call for one less, last or inside
 /// a sum.
-fn turn(maker: &mut Maker, function: &Term, argument: &Term, scope: &[Type]) -> Term {
+fn turn(maker: &mut Maker, at: u16, function: &Term, argument: &Term, scope: &[Type]) -> Term {
     let one = maker.program.number(1);
     let less = maker.program.minus(argument.clone(), one);
     let call = maker.program.apply(function.clone(), less);
@@ -150,22 +162,22 @@ fn turn(maker: &mut Maker, function: &Term, argument: &Term, scope: &[Type]) -> 
         false => call,
     };
     let statement = match maker.random.below(10) {
-        0..=3 => maker.statement(0, scope, 8),
-        4..=6 => watched::mark(maker, 0, scope),
-        _ => take_room(maker, argument, scope),
+        0..=3 => maker.statement(at, scope, 8),
+        4..=6 => watched::mark(maker, at, scope),
+        _ => take_room(maker, at, argument, scope),
     };
     maker.program.sequence(statement, call)
 }
 
 /// A statement that takes room each time: a cell, a label, a piece, installed advice, a record of log, or a stack.
-fn take_room(maker: &mut Maker, argument: &Term, scope: &[Type]) -> Term {
+fn take_room(maker: &mut Maker, at: u16, argument: &Term, scope: &[Type]) -> Term {
     let number = maker.program.number_type();
-    let p = maker.domain_below(0);
+    let p = maker.domain_below(at);
     let value = match maker.random.below(6) {
         0 => maker.program.new_cell(p, argument.clone()),
         1 => maker.program.new_label(number, p),
         2 => maker.program.pair(argument.clone(), argument.clone()),
-        3 => takedowns::install_again(maker, p, argument, scope),
+        3 => takedowns::install_again(maker, at, argument, scope),
         4 => maker.program.stack(),
         _ => maker.program.print(argument.clone()),
     };
@@ -173,6 +185,6 @@ fn take_room(maker: &mut Maker, argument: &Term, scope: &[Type]) -> Term {
     match maker.program.shape(value.of()) {
         Shape::Unit => value,
         Shape::Pair(..) => maker.program.split(value, unit),
-        _ => maker.program.bind(0, value, unit),
+        _ => maker.program.bind(at, value, unit),
     }
 }

@@ -103,7 +103,13 @@ pub fn ending() -> Vec<(u16, Vec<u8>)> {
                 forget(program, pair)
             }),
         ),
-        (9, loop_of(2_000, Program::print)),
+        (
+            9,
+            loop_of(1_000, |program, x| {
+                let (first, second) = (program.print(x.clone()), program.print(x));
+                program.sequence(first, second)
+            }),
+        ),
     ]
 }
 
@@ -129,27 +135,33 @@ fn forget(program: &mut Program, value: Term) -> Term {
 
 /// A statement for each number from n down to 1.
 fn loop_of(n: i32, statement: impl Fn(&mut Program, Term) -> Term) -> Vec<u8> {
-    loop_over(&mut Program::new(&[1]), n, statement)
+    loop_at(&mut Program::new(&[1]), 0, n, statement)
 }
 
-/// The same in a program with domains of its own.
-pub fn loop_over(program: &mut Program, n: i32, statement: impl Fn(&mut Program, Term) -> Term) -> Vec<u8> {
-    knot(program, n, |program, x, call| {
+/// The same in a program with domains of its own, at one of them; then 0.
+pub fn loop_at(program: &mut Program, at: u16, n: i32, statement: impl Fn(&mut Program, Term) -> Term) -> Vec<u8> {
+    let number = knot(program, at, n, |program, x, call| {
         let statement = statement(program, x);
         program.sequence(statement, call)
-    })
+    });
+    let print = program.print(number);
+    let (low, zero) = (program.lower(at, print), program.number(0));
+    let root = program.sequence(low, zero);
+    program.image(&root)
 }
 
 /// Sums of all numbers from n down to 1, each waiting for the next.
 fn deep(n: i32) -> Vec<u8> {
-    knot(&mut Program::new(&[1]), n, |program, x, call| program.plus(x, call))
+    let mut program = Program::new(&[1]);
+    let root = knot(&mut program, 0, n, |program, x, call| program.plus(x, call));
+    program.image(&root)
 }
 
-/// A function that calls itself through a cell; `turn` has its argument and the call for one less.
-fn knot(program: &mut Program, n: i32, turn: impl Fn(&mut Program, Term, Term) -> Term) -> Vec<u8> {
+/// A function of a domain that calls itself through a cell; `turn` has its argument and the call for one less.
+fn knot(program: &mut Program, at: u16, n: i32, turn: impl Fn(&mut Program, Term, Term) -> Term) -> Term {
     let number = program.number_type();
-    let function = program.make(Shape::Function(number, 0, number));
-    let cell = program.make(Shape::Reference(function, 0));
+    let function = program.make(Shape::Function(number, at, number));
+    let cell = program.make(Shape::Reference(function, at));
     let (cell, x) = (program.variable(cell, 0), program.variable(number, 1));
     let (zero, one) = (program.number(0), program.number(1));
     let less = program.minus(x.clone(), one.clone());
@@ -157,13 +169,12 @@ fn knot(program: &mut Program, n: i32, turn: impl Fn(&mut Program, Term, Term) -
     let turn = turn(program, x.clone(), call);
     let test = program.less(x, one);
     let body = program.choose(test, zero.clone(), turn);
-    let body = program.function(number, 0, body);
+    let body = program.function(number, at, body);
     let tie = program.store(cell.clone(), body);
     let start = program.number(n);
     let go = program.apply(program.read(cell), start);
     let tied = program.sequence(tie, go);
-    let first = program.function(number, 0, zero);
-    let first = program.new_cell(0, first);
-    let root = program.bind(0, first, tied);
-    program.image(&root)
+    let first = program.function(number, at, zero);
+    let first = program.new_cell(at, first);
+    program.bind(at, first, tied)
 }

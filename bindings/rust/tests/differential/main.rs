@@ -8,6 +8,7 @@ mod constructors;
 mod counts;
 mod damage;
 mod generate;
+mod halves;
 mod images;
 mod made;
 mod objects;
@@ -50,7 +51,7 @@ fn made_images(random: &mut Random, counts: &mut Counts) {
         let answer = call(random, counts, &given);
         assert_eq!(answer.err(), Some(Refused(number, 0)), "call made for refusal {number}");
     }
-    let ending = [made::ending(), objects::ending(), stacks::ending(), takedowns::ending()].concat();
+    let ending = [made::ending(), objects::ending(), stacks::ending(), takedowns::ending(), halves::ending()].concat();
     for (outcome, image) in ending {
         let budget = if outcome == 1 { 3 } else { u32::MAX };
         let ran =

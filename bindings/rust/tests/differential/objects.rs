@@ -72,8 +72,9 @@ pub fn ending() -> Vec<(u16, Vec<u8>)> {
         (
             9,
             endless(|program, call, n| {
-                let print = program.print(n);
-                program.sequence(print, call)
+                let (first, second) = (program.print(n.clone()), program.print(n));
+                let both = program.sequence(first, second);
+                program.sequence(both, call)
             }),
         ),
     ]

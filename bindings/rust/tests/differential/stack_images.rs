@@ -96,7 +96,7 @@ fn body(maker: &mut Maker, scope: &[Type]) -> Term {
     let matched = match maker.random.chance(30) {
         true => {
             let turns = turns(maker.random);
-            knot(maker, scope, turns)
+            knot(maker, 0, scope, turns)
         }
         false => maker.matching(number, 0, scope, 5),
     };

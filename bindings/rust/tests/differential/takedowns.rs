@@ -1,6 +1,6 @@
 //! Takedowns (document 02, card 7): random ones, and images made for one refusal or one outcome each.
 use crate::generate::Maker;
-use crate::made::{install, loop_over, record};
+use crate::made::{install, loop_at, record};
 use bukzarn::program::{Program, Shape, Term, Type};
 
 impl Maker<'_> {
@@ -11,11 +11,12 @@ impl Maker<'_> {
     }
 }
 
-/// Installs advice of domain p; before it, in half of the programs, a takedown where the frame's byte at the argument is
+/// Installs advice at a domain; before it, in half of the programs, a takedown where the frame's byte at the argument is
 /// small or past the frame, so that room for advice is given back now and then.
-pub fn install_again(maker: &mut Maker, p: u16, argument: &Term, scope: &[Type]) -> Term {
+pub fn install_again(maker: &mut Maker, at: u16, argument: &Term, scope: &[Type]) -> Term {
+    let p = maker.domain_below(at);
     let advice = maker.program.make(Shape::Advice(p));
-    let advice = maker.term(advice, 0, scope, 5);
+    let advice = maker.term(advice, at, scope, 5);
     let install = maker.program.install(advice);
     if maker.random.chance(50) {
         return install;
@@ -23,7 +24,7 @@ pub fn install_again(maker: &mut Maker, p: u16, argument: &Term, scope: &[Type])
     let small = maker.random.below(12) as i32;
     let (byte, small) = (maker.program.frame_byte(argument.clone()), maker.program.number(small));
     let test = maker.program.less(byte, small);
-    let (down, none) = (maker.takedown(0), maker.program.unit());
+    let (down, none) = (maker.takedown(at), maker.program.unit());
     let first = maker.program.choose(test, down, none);
     maker.program.sequence(first, install)
 }
@@ -51,7 +52,7 @@ pub fn refused() -> Vec<(u16, Vec<u8>)> {
 /// taken down before; or the advice of domain 1 is, which frees nothing; a watch that takes itself down.
 pub fn ending() -> Vec<(u16, Vec<u8>)> {
     let taken = |p: u16| {
-        loop_over(&mut Program::new(&[1, 3]), 200, move |program, x| {
+        loop_at(&mut Program::new(&[1, 3]), 0, 100, move |program, x| {
             let (down, install) = (program.takedown(p), install(program, x));
             program.sequence(down, install)
         })

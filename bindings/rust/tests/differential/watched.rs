@@ -51,7 +51,7 @@ fn body(maker: &mut Maker, scope: &[Type]) -> Term {
     let end = match maker.random.chance(30) {
         true => {
             let turns = turns(maker.random);
-            knot(maker, scope, turns)
+            knot(maker, 0, scope, turns)
         }
         false => maker.term(number, 0, scope, 4),
     };

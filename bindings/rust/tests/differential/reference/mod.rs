@@ -1,4 +1,4 @@
-//! What a call answers and leaves, written from documents 01, 02 (cards 1 to 3 and 5 to 8) and 003 alone and as literally
+//! What a call answers and leaves, written from documents 01, 02 (cards 1 to 3 and 5 to 9) and 003 alone and as literally
 //! as possible: the check rule by rule, the run by substitution. It shares no text with the engine.
 mod decode;
 mod layout;

@@ -97,6 +97,33 @@ slice-aggregate-put-10 c = search needs
 put-requires-10 : tie.Need-put-requires-10
 put-requires-10 c κs = search needs
 
+enum-told-11 : tie.Need-enum-told-11
+enum-told-11 c = search needs
+
+slice-aggregate-put-11 : tie.Need-slice-aggregate-put-11
+slice-aggregate-put-11 c = search needs
+
+put-requires-11 : tie.Need-put-requires-11
+put-requires-11 c κs = search needs
+
+enum-told-12 : tie.Need-enum-told-12
+enum-told-12 c = search needs
+
+slice-aggregate-put-12 : tie.Need-slice-aggregate-put-12
+slice-aggregate-put-12 c = search needs
+
+put-requires-12 : tie.Need-put-requires-12
+put-requires-12 c κs = search needs
+
+enum-told-13 : tie.Need-enum-told-13
+enum-told-13 c = search needs
+
+slice-aggregate-put-13 : tie.Need-slice-aggregate-put-13
+slice-aggregate-put-13 c = search needs
+
+put-requires-13 : tie.Need-put-requires-13
+put-requires-13 c κs = search needs
+
 same-length : tie.Need-same-length
 same-length c = search needs
 
@@ -157,6 +184,24 @@ same-length-10 c = search needs
 returns-10 : tie.Need-returns-10
 returns-10 c = as-text (ap (λ x. ascii (outcomeWord x)) (sym (c .before .before .before .before .before .enum-told10 .given .1))) (c .before .before .put10 .ensures)
 
+same-length-11 : tie.Need-same-length-11
+same-length-11 c = search needs
+
+returns-11 : tie.Need-returns-11
+returns-11 c = as-text (ap (λ x. ascii (outcomeWord x)) (sym (c .before .before .before .before .before .enum-told11 .given .1))) (c .before .before .put11 .ensures)
+
+same-length-12 : tie.Need-same-length-12
+same-length-12 c = search needs
+
+returns-12 : tie.Need-returns-12
+returns-12 c = as-text (ap (λ x. ascii (outcomeWord x)) (sym (c .before .before .before .before .before .enum-told12 .given .1))) (c .before .before .put12 .ensures)
+
+same-length-13 : tie.Need-same-length-13
+same-length-13 c = search needs
+
+returns-13 : tie.Need-returns-13
+returns-13 c = as-text (ap (λ x. ascii (outcomeWord x)) (sym (c .before .before .before .before .before .enum-told13 .given .1))) (c .before .before .put13 .ensures)
+
 pub put-word-spec : {M : Type 1} → statement M
 put-word-spec =
     tie.close
@@ -191,6 +236,15 @@ put-word-spec =
     enum-told-10
     slice-aggregate-put-10
     put-requires-10
+    enum-told-11
+    slice-aggregate-put-11
+    put-requires-11
+    enum-told-12
+    slice-aggregate-put-12
+    put-requires-12
+    enum-told-13
+    slice-aggregate-put-13
+    put-requires-13
     same-length
     returns
     same-length-2
@@ -210,4 +264,10 @@ put-word-spec =
     same-length-9
     returns-9
     same-length-10
-    returns-10)
+    returns-10
+    same-length-11
+    returns-11
+    same-length-12
+    returns-12
+    same-length-13
+    returns-13)

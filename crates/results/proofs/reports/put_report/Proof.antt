@@ -49,9 +49,12 @@ put-leaves-requires c κs =
     let n = gathered-few (resultIn M (a .r)) (g .result-leaves .ensures) (result-few M (a .r)) in
     (n, omega (arith, n, s .pre .1, h .put-head .kept .0))
 
+cell-count-requires : tie.Need-cell-count-requires
+cell-count-requires c κs = search needs
+
 put-cells-requires : tie.Need-put-cells-requires
 put-cells-requires c κs =
-    let l = c .before .before .before in
+    let l = c .before .before .before .before in
     let g = l .before .before .before in
     let h = g .before .before .before in
     let s = h .before .before .before .before .before .before .before .before in
@@ -60,7 +63,9 @@ put-cells-requires c κs =
     let M = memoryOf (now (a .work)) in
     let n = gathered-few (resultIn M (a .r)) (r .ensures) (result-few M (a .r)) in
     let m = slots-short (r .result .count) (r .result .slots) in
-    (s .pre .0, s .pre .2, omega (arith, l .put-leaves .ensures .0, h .put-head .kept .0))
+    let e = c .cell-count .ensures in
+    let few = s .pre .2 in
+    (s .pre .0, omega (arith, e, few), omega (arith, e, few, l .put-leaves .ensures .0, h .put-head .kept .0))
 
 same-length-2 : tie.Need-same-length-2
 same-length-2 c = search needs
@@ -68,13 +73,13 @@ same-length-2 c = search needs
 returns-2 : tie.Need-returns-2
 returns-2 c =
     let d = c .before .before in
-    let l = d .before .before .before .before in
+    let l = d .before .before .before .before .before in
     let g = l .before .before .before in
     let h = g .before .before .before in
     let o = h .before .before .before in
     let s = o .before .before .before .before .before in
     let a = s .args in
-    reported (memoryOf (now (a .work))) (a .r) _ (g .result-leaves .ensures) (a .budget) (now (a .report)) (o .outcome-with .result) _ _ (o .outcome-with .ensures) (h .put-head .ensures) (l .put-leaves .ensures) (d .put-cells .ensures) (s .pre .2) (s .pre .1)
+    reported (memoryOf (now (a .work))) (a .r) _ (g .result-leaves .ensures) (a .budget) (now (a .report)) (o .outcome-with .result) _ _ (o .outcome-with .ensures) (h .put-head .ensures) (l .put-leaves .ensures) (rw (d .before .cell-count .ensures) at (d .put-cells .ensures)) (s .pre .2) (s .pre .1)
 
 pub put-report-spec : {M : Type 1} → statement M
 put-report-spec =
@@ -90,6 +95,7 @@ put-report-spec =
     put-head-requires
     result-leaves-requires
     put-leaves-requires
+    cell-count-requires
     put-cells-requires
     same-length-2
     returns-2)

@@ -1,7 +1,10 @@
 use Rattle.vm_labels.proofs.Labelling.{part-pc, part-env, part-room, labelled-on, room-on, strange-stuck}
 use denote.Ref.{now}
 use native.Mathlib.Omega.{arith}
-use mathlib.Core.Path.{sym, _∙_}
+use mathlib.Core.Path.{sym, subst, _∙_}
+use Rattle.calculus.specs.Limits.{pieceLimit}
+use Rattle.vm_machine.specs.declared.Regs.{Regs}
+use Rattle.vm_machine.specs.Fits.{PoolFits}
 use Rattle.vm_tables.specs.View.{memoryOf}
 use borrow.Author.Needs.{needs}
 use Rattle.vm_labels.proofs.labels.labels.Statement.{statement}
@@ -44,7 +47,8 @@ labels-from-requires c κs =
       part-pc (record { code = now (a .code); image = now (a .image) }) (memoryOf (now (a .work))) (a .f) (a .r) (p .part-of .result) (a .resumed) (p .part-of .ensures (now (a .image))) (s .pre .2),
       part-env (record { code = now (a .code); image = now (a .image) }) (memoryOf (now (a .work))) (a .f) (a .r) (p .part-of .result) (a .resumed) (p .part-of .ensures (now (a .image))) (s .pre .3),
       part-room (record { code = now (a .code); image = now (a .image) }) (memoryOf (now (a .work))) (a .f) (a .r) (p .part-of .result) (a .resumed) (p .part-of .ensures (now (a .image))) (s .pre .4) (s .pre .5),
-      room-on (record { code = now (a .code); image = now (a .image) }) (now (a .work)) (now (a .work)) (a .r) (a .r) (a .f) (p .part-of .result) (a .resumed) (p .part-of .ensures (now (a .image))) _ (c .before .same .ensures) (sym (c .before .before .before .is-strange .ensures) ∙ c .before .before .if1 .left) (s .pre .6),
+      subst (λ (x : Regs). PoolFits pieceLimit (x .pools .pieces)) (sym (c .before .same .ensures)) (s .pre .6),
+      room-on (record { code = now (a .code); image = now (a .image) }) (now (a .work)) (now (a .work)) (a .r) (a .r) (a .f) (p .part-of .result) (a .resumed) (p .part-of .ensures (now (a .image))) _ (c .before .same .ensures) (sym (c .before .before .before .is-strange .ensures) ∙ c .before .before .if1 .left) (s .pre .7),
     )
 
 same-length-2 : tie.Need-same-length-2

@@ -21,7 +21,7 @@ make-pointcut-requires c κs =
     let t = c .before .before .before .before in
     let s = t .before .before .before .before .before .before in
     let a = s .args in
-    (s .pre .1, all-room (record { code = now (a .code); image = now (a .image) }) (now (a .work)) (now (a .work)) (a .r) (a .r) (a .r .pc) (a .from .count) (a .from .digits) (record { count = t .take-labels .result .count; digits = t .take-labels .result .digits }) (t .take-labels .ensures) _ (c .before .before .before .count-of .ensures) (c .before .if1 .taken) (s .pre .5 .0) (s .pre .5 .1))
+    (s .pre .1, all-room (record { code = now (a .code); image = now (a .image) }) (now (a .work)) (now (a .work)) (a .r) (a .r) (a .r .pc) (a .from .count) (a .from .digits) (record { count = t .take-labels .result .count; digits = t .take-labels .result .digits }) (t .take-labels .ensures) _ (c .before .before .before .count-of .ensures) (c .before .if1 .taken) (s .pre .6 .0) (s .pre .6 .1), s .pre .5)
 
 same-length : tie.Need-same-length
 same-length c = search needs

@@ -16,6 +16,15 @@ halt-requires c κs = search needs
 returns : tie.Need-returns
 returns c = let a = c .before .before .before .before .before .args in judged-frames _ (now (a .work)) (now (a .work)) (a .r) _ (a .w) _ (c .before .before .before .depth-of .ensures) (c .before .if1 .taken) (c .halt .ensures)
 
+half-of-requires : tie.Need-half-of-requires
+half-of-requires c κs = search needs
+
+has-room-requires : tie.Need-has-room-requires
+has-room-requires c κs = search needs
+
+pieces-out-requires : tie.Need-pieces-out-requires
+pieces-out-requires c κs = search needs
+
 spent-or-requires : tie.Need-spent-or-requires
 spent-or-requires c κs = search needs
 
@@ -23,7 +32,7 @@ halt-requires-2 : tie.Need-halt-requires-2
 halt-requires-2 c κs = search needs
 
 returns-2 : tie.Need-returns-2
-returns-2 c = let a = c .before .before .before .before .before .before .before .before .before .args in judged-made _ (now (a .work)) (now (a .work)) (a .r) _ (a .w) _ (c .before .before .before .before .before .before .before .depth-of .ensures) (c .before .before .before .before .before .if1 .left) (piece-unpaid (now (a .work)) (a .r) _ (a .w) pointcutTag 0 (labelSet (countOf (a .w)) (a .digits) 0) _ (c .before .before .before .if2 .taken) (c .before .spent-or .ensures) (c .halt2 .ensures))
+returns-2 c = let a = c .before .before .before .before .before .before .before .before .before .before .before .before .args in judged-made _ (now (a .work)) (now (a .work)) (a .r) _ (a .w) _ (c .before .before .before .before .before .before .before .before .before .before .depth-of .ensures) (c .before .before .before .before .before .before .before .before .if1 .left) (piece-unpaid (now (a .work)) (a .r) _ (a .w) pointcutTag 0 (labelSet (countOf (a .w)) (a .digits) 0) _ _ (c .before .before .before .before .before .half-of .ensures) (c .before .before .before .has-room .ensures) _ _ (c .before .before .before .before .before .before .if2 .taken) (c .before .before .pieces-out .ensures) (c .before .spent-or .ensures) (c .halt2 .ensures))
 
 count-of-requires : tie.Need-count-of-requires
 count-of-requires c κs = search needs
@@ -47,6 +56,9 @@ make-pointcut-spec =
     depth-of-requires
     halt-requires
     returns
+    half-of-requires
+    has-room-requires
+    pieces-out-requires
     spent-or-requires
     halt-requires-2
     returns-2

@@ -29,7 +29,7 @@ same-requires : tie.Need-same-requires
 same-requires c κs = search needs
 
 sub-q : tie.Need-sub-q
-sub-q c = search needs
+sub-q c = c .before .before .before .before .before .before .before .before .before .before .before .before .before .pre .2
 
 same-length : tie.Need-same-length
 same-length c = search needs

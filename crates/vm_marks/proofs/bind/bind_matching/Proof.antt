@@ -1,5 +1,6 @@
 use Rattle.vm_marks.proofs.Matched.{matching-on, matching-done}
 use Rattle.vm_marks.specs.Binds.{boundIn}
+use Rattle.vm_machine.specs.Pools.{whole}
 use Rattle.vm_machine.specs.Reduce.{bindMatching}
 use Rattle.base_bytes.specs.Memory.{memoryLength}
 use denote.Ref.{now}
@@ -12,11 +13,11 @@ use Rattle.vm_marks.proofs.bind.bind_matching.Statement.{statement}
 use Rattle.vm_marks.proofs.bind.bind_matching.Tie as tie
 
 abbrev Inv-loop : tie.InvT-loop
-Inv-loop work₀ n l v b m₀ i₀ work m i =
-    (i ≤ n) × (length work ≡ length work₀) × (b ≤ m) × (m + i ≤ 2048 + n) × (drop memoryLength work ≡ drop memoryLength work₀) × (bindMatching n l v (boundIn work₀ b) ≡ bindMatching i l v (boundIn work m))
+Inv-loop work₀ n l v q₀ i₀ work q i =
+    (i ≤ n) × (length work ≡ length work₀) × (whole q₀ ≤ whole q) × (whole q + i ≤ whole q₀ + n) × (drop memoryLength work ≡ drop memoryLength work₀) × (bindMatching n l v (boundIn work₀ q₀) ≡ bindMatching i l v (boundIn work q))
 
 abbrev μ-loop : tie.MeasureT-loop
-μ-loop work₀ n l v b m₀ i₀ work m i = i
+μ-loop work₀ n l v q₀ i₀ work q i = i
 
 loop-holds : tie.Need-loop-holds Inv-loop μ-loop
 loop-holds c = (omega arith, refl, omega arith, omega arith, refl, refl)
@@ -31,13 +32,20 @@ loop-less : tie.Need-loop-less Inv-loop μ-loop
 loop-less c = search needs
 
 loop-again : tie.Need-loop-again Inv-loop μ-loop
-loop-again c = let a = c .before .before .before .before .before .before .before .args in let l = c .before .before .before .before .before .loop in (omega arith, search needs, omega arith, omega arith, c .before .before .bind-one .ensures .0 .memory .rest ∙ l .inv .4, l .inv .5 ∙ matching-on (l .i) _ (a .l) (a .v) _ _ _ _ (omega (arith, c .before .before .before .before .loop-test .taken)) (c .before .before .bind-one .ensures .0))
+loop-again c =
+    let a = c .before .before .before .before .before .before .before .args in
+    let l = c .before .before .before .before .before .loop in
+    let b = c .before .before .bind-one .ensures in
+    (omega arith, search needs, omega (arith, l .inv .2, b .1), omega (arith, l .inv .3, b .2, c .before .before .before .before .loop-test .taken), b .0 .memory .rest ∙ l .inv .4, l .inv .5 ∙ matching-on (l .i) _ (a .l) (a .v) _ _ _ _ (omega (arith, c .before .before .before .before .loop-test .taken)) (b .0))
 
 same-length : tie.Need-same-length Inv-loop μ-loop
 same-length c = search needs
 
 returns : tie.Need-returns Inv-loop μ-loop
-returns c = let a = c .before .before .before .args in let l = c .before .loop in (matching-done _ (l .i) (a .l) (a .v) (now (a .work)) _ _ (c .loop-test .left) (l .inv .5) (l .inv .4), omega arith, omega arith)
+returns c =
+    let a = c .before .before .before .args in
+    let l = c .before .loop in
+    (matching-done _ (l .i) (a .l) (a .v) (now (a .work)) _ _ (c .loop-test .left) (l .inv .5) (l .inv .4), l .inv .2, omega (arith, l .inv .3, c .before .before .before .pre .2, c .before .before .before .pre .3))
 
 pub bind-matching-spec : {M : Type 1} → statement M
 bind-matching-spec =

@@ -1,54 +1,74 @@
-use denote.Ref.{now}
 use Rattle.vm_reductions.proofs.Reduced.{call-made, spent-call-made, no-call-made}
+use Rattle.vm_states.proofs.Halves.{whole-room}
+use Rattle.vm_machine.specs.Pools.{bindingsOut}
+use Rattle.calculus.specs.Limits.{bindingLimit}
+use denote.Ref.{now}
+use native.Mathlib.Omega.{arith}
 use borrow.Author.Needs.{needs}
 use Rattle.vm_reductions.proofs.calls.call_body.Statement.{statement}
 use Rattle.vm_reductions.proofs.calls.call_body.Tie as tie
+
+half-of-requires : tie.Need-half-of-requires
+half-of-requires c κs = search needs
+
+has-room-requires : tie.Need-has-room-requires
+has-room-requires c κs = search needs
 
 halt-requires : tie.Need-halt-requires
 halt-requires c κs = search needs
 
 returns : tie.Need-returns
-returns c = let a = c .before .before .before .before .before .before .args in λ image. spent-call-made (record { code = now (a .code); image = image }) (now (a .work)) (now (a .work)) (now (a .work)) (a .r) _ (a .w) (a .x) (a .g) (c .before .if2 .taken) (c .before .before .before .if1 .taken) (c .halt .ensures)
+returns c = let a = c .before .before .before .before .before .before .before .before .before .before .args in λ image. spent-call-made (record { code = now (a .code); image = image }) (now (a .work)) (now (a .work)) (now (a .work)) (a .r) _ (a .w) (a .x) (a .g) _ _ (c .before .before .before .before .before .before .before .half-of .ensures) (c .before .before .before .before .has-room .ensures) (c .before .if2 .taken) (c .before .before .before .if1 .taken) (c .halt .ensures)
+
+whole-requires : tie.Need-whole-requires
+whole-requires c κs = search needs
 
 closure-env-requires : tie.Need-closure-env-requires
 closure-env-requires c κs = search needs
 
 bind-requires : tie.Need-bind-requires
-bind-requires c κs = search needs
+bind-requires c κs = (search needs, omega (arith, c .before .before .whole .ensures, whole-room bindingLimit 1 (λ p. p .bindings) bindingsOut (c .before .before .before .before .before .before .before .before .before .before .before .before .args .w) (c .before .before .before .before .before .before .before .before .before .before .before .before .args .r) _ _ (c .before .before .before .before .before .before .before .before .before .half-of .ensures) (c .before .before .before .before .before .before .has-room .ensures) (c .before .before .before .before .before .before .before .before .before .before .before .before .pre .3 .1 .bindings) (c .before .before .before .before .before .if1 .taken)), omega arith, omega (arith, c .closure-env .ensures))
 
 called-requires : tie.Need-called-requires
-called-requires c κs = search needs
-
-add-m : tie.Need-add-m
-add-m c = search needs
+called-requires c κs = let f = c .before .before .before .before .before .before .before .before .before .before .before .before .before .before .before .before .pre .3 .1 in (search needs, search needs, omega (arith, f .room), c .before .before .before .before .before .before .before .before .before .before .before .before .before .before .before .before .pre .2, f .pc, f .env, omega (arith, c .before .before .before .before .before .before .whole .ensures, whole-room bindingLimit 1 (λ p. p .bindings) bindingsOut (c .before .before .before .before .before .before .before .before .before .before .before .before .before .before .before .before .args .w) (c .before .before .before .before .before .before .before .before .before .before .before .before .before .before .before .before .args .r) _ _ (c .before .before .before .before .before .before .before .before .before .before .before .before .before .half-of .ensures) (c .before .before .before .before .before .before .before .before .before .before .has-room .ensures) (c .before .before .before .before .before .before .before .before .before .before .before .before .before .before .before .before .pre .3 .1 .bindings) (c .before .before .before .before .before .before .before .before .before .if1 .taken)))
 
 sub-q : tie.Need-sub-q
-sub-q c = search needs
+sub-q c = omega (arith, c .before .before .before .before .before .before .before .before .before .before .before .if2 .left)
+
+charge-bindings-requires : tie.Need-charge-bindings-requires
+charge-bindings-requires c κs = omega (arith, whole-room bindingLimit 1 (λ p. p .bindings) bindingsOut (c .before .before .before .before .before .before .before .before .before .before .before .before .before .before .before .before .before .before .before .before .args .w) (c .before .before .before .before .before .before .before .before .before .before .before .before .before .before .before .before .before .before .before .before .args .r) _ _ (c .before .before .before .before .before .before .before .before .before .before .before .before .before .before .before .before .before .half-of .ensures) (c .before .before .before .before .before .before .before .before .before .before .before .before .before .before .has-room .ensures) (c .before .before .before .before .before .before .before .before .before .before .before .before .before .before .before .before .before .before .before .before .pre .3 .1 .bindings) (c .before .before .before .before .before .before .before .before .before .before .before .before .before .if1 .taken))
 
 same-length : tie.Need-same-length
 same-length c = search needs
 
 returns-2 : tie.Need-returns-2
-returns-2 c = let t = c .before .before .before .before .before .before .before .before .before .before .before in let a = t .before .before .before .before .before .args in λ image. call-made (record { code = now (a .code); image = image }) (now (a .work)) _ _ (a .r) _ (a .w) (a .x) (a .g) (t .if2 .left) _ (t .before .before .if1 .taken) (c .before .before .before .before .before .before .before .before .before .closure-env .ensures) (c .before .before .before .before .before .before .before .before .bind .ensures) (c .before .before .before .before .called .ensures image)
+returns-2 c = let a = c .before .before .before .before .before .before .before .before .before .before .before .before .before .before .before .before .before .before .before .before .before .args in λ image. call-made (record { code = now (a .code); image = image }) (now (a .work)) _ _ (a .r) _ (a .w) (a .x) (a .g) _ _ (c .before .before .before .before .before .before .before .before .before .before .before .before .before .before .before .before .before .before .half-of .ensures) (c .before .before .before .before .before .before .before .before .before .before .before .before .before .before .before .has-room .ensures) (c .before .before .before .before .before .before .before .before .before .before .before .before .if2 .left) _ _ _ (c .before .before .before .before .before .before .before .before .before .before .before .before .before .before .if1 .taken) (c .before .before .before .before .before .before .before .before .before .before .before .whole .ensures) (c .before .before .before .before .before .before .before .before .before .closure-env .ensures) (c .charge-bindings .ensures) (c .before .before .before .before .before .before .before .before .bind .ensures) (c .before .before .before .before .called .ensures image)
+
+bindings-out-requires : tie.Need-bindings-out-requires
+bindings-out-requires c κs = search needs
 
 halt-requires-2 : tie.Need-halt-requires-2
 halt-requires-2 c κs = search needs
 
 returns-3 : tie.Need-returns-3
-returns-3 c = let a = c .before .before .before .before .args in λ image. no-call-made (record { code = now (a .code); image = image }) (now (a .work)) (now (a .work)) (now (a .work)) (a .r) _ (a .w) (a .x) (a .g) (c .before .if1 .left) (c .halt2 .ensures)
+returns-3 c = let a = c .before .before .before .before .before .before .before .before .before .args in λ image. no-call-made (record { code = now (a .code); image = image }) (now (a .work)) (now (a .work)) (now (a .work)) (a .r) _ (a .w) (a .x) (a .g) _ _ (c .before .before .before .before .before .before .half-of .ensures) (c .before .before .before .has-room .ensures) _ (c .before .before .if1 .left) (c .before .bindings-out .ensures) (c .halt2 .ensures)
 
 pub call-body-spec : {M : Type 1} → statement M
 call-body-spec =
     tie.close
     (tie.spec
+    half-of-requires
+    has-room-requires
     halt-requires
     returns
+    whole-requires
     closure-env-requires
     bind-requires
     called-requires
-    add-m
     sub-q
+    charge-bindings-requires
     same-length
     returns-2
+    bindings-out-requires
     halt-requires-2
     returns-3)

@@ -1,50 +1,76 @@
-use denote.Ref.{now}
 use Rattle.vm_reductions.proofs.Reduced.{apply-made, no-apply-made}
+use Rattle.vm_states.proofs.Halves.{whole-room}
+use Rattle.vm_machine.specs.Pools.{bindingsOut}
+use Rattle.vm_machine.specs.declared.Regs.{Regs}
+use Rattle.calculus.specs.Limits.{bindingLimit}
+use mathlib.Core.Path.{ap}
+use denote.Ref.{now}
+use native.Mathlib.Omega.{arith}
 use borrow.Author.Needs.{needs}
 use Rattle.vm_reductions.proofs.calls.reduce_apply.Statement.{statement}
 use Rattle.vm_reductions.proofs.calls.reduce_apply.Tie as tie
+
+half-of-requires : tie.Need-half-of-requires
+half-of-requires c κs = search needs
+
+has-room-requires : tie.Need-has-room-requires
+has-room-requires c κs = search needs
+
+whole-requires : tie.Need-whole-requires
+whole-requires c κs = search needs
 
 closure-env-requires : tie.Need-closure-env-requires
 closure-env-requires c κs = search needs
 
 bind-requires : tie.Need-bind-requires
-bind-requires c κs = search needs
+bind-requires c κs = (search needs, omega (arith, c .before .before .whole .ensures, whole-room bindingLimit 1 (λ p. p .bindings) bindingsOut (c .before .before .before .before .before .before .before .before .before .before .args .w) (c .before .before .before .before .before .before .before .before .before .before .args .r) _ _ (c .before .before .before .before .before .before .before .half-of .ensures) (c .before .before .before .before .has-room .ensures) (c .before .before .before .before .before .before .before .before .before .before .pre .4 .1 .bindings) (c .before .before .before .if1 .taken)), omega arith, omega (arith, c .closure-env .ensures))
+
+same-requires : tie.Need-same-requires
+same-requires c κs = search needs
+
+sub-s : tie.Need-sub-s
+sub-s c = omega (arith, c .before .before .before .before .before .before .before .before .before .before .before .before .before .before .before .pre .2)
+
+charge-bindings-requires : tie.Need-charge-bindings-requires
+charge-bindings-requires c κs = omega (arith, whole-room bindingLimit 1 (λ p. p .bindings) bindingsOut (c .before .before .before .before .before .before .before .before .before .before .before .before .before .before .before .args .w) (c .before .before .before .before .before .before .before .before .before .before .before .before .before .before .before .args .r) _ _ (c .before .before .before .before .before .before .before .before .before .before .before .before .half-of .ensures) (c .before .before .before .before .before .before .before .before .before .has-room .ensures) (c .before .before .before .before .before .before .before .before .before .before .before .before .before .before .before .pre .4 .1 .bindings) (c .before .before .before .before .before .before .before .before .if1 .taken))
 
 function-target-requires : tie.Need-function-target-requires
 function-target-requires c κs = search needs
 
 called-requires : tie.Need-called-requires
-called-requires c κs = search needs
-
-add-m : tie.Need-add-m
-add-m c = search needs
-
-sub-q : tie.Need-sub-q
-sub-q c = search needs
+called-requires c κs = let f = c .before .before .before .before .before .before .before .before .before .before .before .before .before .before .before .before .before .before .pre .4 .1 in let e = c .before .before .before .before .same .ensures in (omega (arith, c .before .before .before .before .before .before .before .before .before .before .before .before .before .before .before .before .before .before .pre .0), omega (arith, c .before .before .before .before .before .before .before .bind .kept .0, c .before .before .before .before .before .before .before .before .before .before .before .before .before .before .before .before .before .before .pre .1), omega (arith, ap (λ (v : Regs). v .room) e, f .room), omega (arith, ap (λ (v : Regs). v .room) e, c .before .before .before .before .before .before .before .before .before .before .before .before .before .before .before .before .before .before .pre .3), omega (arith, ap (λ (v : Regs). v .pc) e, f .pc), omega (arith, ap (λ (v : Regs). v .env) e, f .env), omega (arith, c .before .before .before .before .before .before .before .before .before .before .whole .ensures, whole-room bindingLimit 1 (λ p. p .bindings) bindingsOut (c .before .before .before .before .before .before .before .before .before .before .before .before .before .before .before .before .before .before .args .w) (c .before .before .before .before .before .before .before .before .before .before .before .before .before .before .before .before .before .before .args .r) _ _ (c .before .before .before .before .before .before .before .before .before .before .before .before .before .before .before .half-of .ensures) (c .before .before .before .before .before .before .before .before .before .before .before .before .has-room .ensures) (c .before .before .before .before .before .before .before .before .before .before .before .before .before .before .before .before .before .before .pre .4 .1 .bindings) (c .before .before .before .before .before .before .before .before .before .before .before .if1 .taken)))
 
 same-length : tie.Need-same-length
 same-length c = search needs
 
 returns : tie.Need-returns
-returns c = let s = c .before .before .before .before .before .before .before .before .before .before .before .before .before .before .before in let a = s .args in λ image. apply-made (record { code = now (a .code); image = image }) (now (a .work)) _ _ (a .r) _ (a .w) (a .x) (a .y) (s .pre .2) _ _ (c .before .before .before .before .before .before .before .before .before .before .before .before .if1 .taken) (c .before .before .before .before .before .function-target .ensures) (c .before .before .before .before .before .before .before .before .before .before .closure-env .ensures) (c .before .before .before .before .before .before .before .before .before .bind .ensures) (c .before .before .before .before .called .ensures image)
+returns c = let a = c .before .before .before .before .before .before .before .before .before .before .before .before .before .before .before .before .before .before .before .before .before .args in λ image. apply-made (record { code = now (a .code); image = image }) (now (a .work)) _ _ (a .r) _ (a .w) (a .x) (a .y) _ _ (c .before .before .before .before .before .before .before .before .before .before .before .before .before .before .before .before .before .before .half-of .ensures) (c .before .before .before .before .before .before .before .before .before .before .before .before .before .before .before .has-room .ensures) (c .before .before .before .before .before .before .before .before .before .before .before .before .before .before .before .before .before .before .before .before .before .pre .2) _ _ _ _ _ (c .before .before .before .before .before .before .before .before .before .before .before .before .before .before .if1 .taken) (c .before .before .before .before .before .before .before .before .before .before .before .before .before .whole .ensures) (c .before .before .before .function-target .ensures) (c .before .before .before .before .before .before .before .before .before .before .before .closure-env .ensures) (c .before .before .before .before .before .before .before .same .ensures) (c .before .before .before .before .before .charge-bindings .ensures) (c .before .before .before .before .before .before .before .before .before .before .bind .ensures) (c .before .before .called .ensures image)
+
+bindings-out-requires : tie.Need-bindings-out-requires
+bindings-out-requires c κs = search needs
 
 halt-requires : tie.Need-halt-requires
 halt-requires c κs = search needs
 
 returns-2 : tie.Need-returns-2
-returns-2 c = let a = c .before .before .before .before .args in λ image. no-apply-made (record { code = now (a .code); image = image }) (now (a .work)) (now (a .work)) (now (a .work)) (a .r) _ (a .w) (a .x) (a .y) (c .before .if1 .left) (c .halt .ensures)
+returns-2 c = let a = c .before .before .before .before .before .before .before .before .before .args in λ image. no-apply-made (record { code = now (a .code); image = image }) (now (a .work)) (now (a .work)) (now (a .work)) (a .r) _ (a .w) (a .x) (a .y) _ _ (c .before .before .before .before .before .before .half-of .ensures) (c .before .before .before .has-room .ensures) _ (c .before .before .if1 .left) (c .before .bindings-out .ensures) (c .halt .ensures)
 
 pub reduce-apply-spec : {M : Type 1} → statement M
 reduce-apply-spec =
     tie.close
     (tie.spec
+    half-of-requires
+    has-room-requires
+    whole-requires
     closure-env-requires
     bind-requires
+    same-requires
+    sub-s
+    charge-bindings-requires
     function-target-requires
     called-requires
-    add-m
-    sub-q
     same-length
     returns
+    bindings-out-requires
     halt-requires
     returns-2)

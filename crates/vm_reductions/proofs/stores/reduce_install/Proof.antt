@@ -23,7 +23,7 @@ same-length : tie.Need-same-length
 same-length c = search needs
 
 returns : tie.Need-returns
-returns c = let a = c .before .before .before .before .before .before .before .before .before .before .before .before .before .before .args in install-made (now (a .work)) _ _ (a .r) _ (a .w) (a .x) (search needs) _ _ (c .before .before .before .before .before .before .before .before .before .before .before .before .if1 .taken) (c .before .before .before .before .before .before .before .before .before .before .before .piece-of .ensures) (c .before .before .before .before .before .before .before .before .before .piece-second .ensures) (c .before .before .before .before .before .before .before .put-installed .ensures) (c .before .before .before .given .ensures)
+returns c = let a = c .before .before .before .before .before .before .before .before .before .before .before .before .before .before .args in install-made (now (a .work)) _ _ (a .r) _ (a .w) (a .x) (c .before .before .before .before .before .before .before .before .before .before .before .before .before .before .pre .1) _ _ (c .before .before .before .before .before .before .before .before .before .before .before .before .if1 .taken) (c .before .before .before .before .before .before .before .before .before .before .before .piece-of .ensures) (c .before .before .before .before .before .before .before .before .before .piece-second .ensures) (c .before .before .before .before .before .before .before .put-installed .ensures) (c .before .before .before .given .ensures)
 
 halt-requires : tie.Need-halt-requires
 halt-requires c κs = search needs

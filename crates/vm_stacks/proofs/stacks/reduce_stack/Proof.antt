@@ -1,46 +1,67 @@
 use denote.Ref.{now}
+use native.Mathlib.Omega.{arith}
+use borrow.Author.Tests.{not-false}
+use Rattle.calculus.specs.Limits.{pieceLimit}
+use Rattle.vm_machine.specs.Pools.{piecesOut}
+use Rattle.vm_states.proofs.Halves.{whole-room}
 use Rattle.vm_stacks.proofs.Stacked.{stack-full, stack-spent, stack-made}
 use borrow.Author.Needs.{needs}
 use Rattle.vm_stacks.proofs.stacks.reduce_stack.Statement.{statement}
 use Rattle.vm_stacks.proofs.stacks.reduce_stack.Tie as tie
 
-add-m : tie.Need-add-m
-add-m c = search needs
+half-of-requires : tie.Need-half-of-requires
+half-of-requires c κs = search needs
+
+has-room-requires : tie.Need-has-room-requires
+has-room-requires c κs = search needs
+
+pieces-out-requires : tie.Need-pieces-out-requires
+pieces-out-requires c κs = search needs
 
 halt-requires : tie.Need-halt-requires
 halt-requires c κs = search needs
 
 returns : tie.Need-returns
-returns c = let a = c .before .before .before .args in stack-full (now (a .work)) (now (a .work)) (now (a .work)) (a .r) _ (a .w) (c .before .if1 .taken) (c .halt .ensures)
+returns c = let a = c .before .before .before .before .before .before .before .before .args in stack-full (now (a .work)) (now (a .work)) (now (a .work)) (a .r) _ (a .w) _ _ (c .before .before .before .before .before .before .half-of .ensures) (c .before .before .before .has-room .ensures) _ (c .before .before .if1 .taken) (c .before .pieces-out .ensures) (c .halt .ensures)
 
 halt-requires-2 : tie.Need-halt-requires-2
 halt-requires-2 c κs = search needs
 
 returns-2 : tie.Need-returns-2
-returns-2 c = let a = c .before .before .before .before .before .args in stack-spent (now (a .work)) (now (a .work)) (now (a .work)) (a .r) _ (a .w) (c .before .if2 .taken) (c .before .before .before .if1 .left) (c .halt2 .ensures)
+returns-2 c = let a = c .before .before .before .before .before .before .before .before .before .args in stack-spent (now (a .work)) (now (a .work)) (now (a .work)) (a .r) _ (a .w) _ _ (c .before .before .before .before .before .before .before .half-of .ensures) (c .before .before .before .before .has-room .ensures) (c .before .if2 .taken) (c .before .before .before .if1 .left) (c .halt2 .ensures)
+
+whole-requires : tie.Need-whole-requires
+whole-requires c κs = search needs
 
 stack-pieces-requires : tie.Need-stack-pieces-requires
-stack-pieces-requires c κs = search needs
+stack-pieces-requires c κs = let s = c .before .before .before .before .before .before .before .before .before .before in let a = s .args in (search needs, omega (arith, c .whole .ensures, whole-room pieceLimit (a .r .kept) (λ p. p .pieces) piecesOut (a .w) (a .r) _ _ (c .before .before .before .before .before .before .before .before .half-of .ensures) (c .before .before .before .before .before .has-room .ensures) (s .pre .1 .1 .pieces) (not-false (c .before .before .before .before .before .has-room .result) (c .before .before .before .before .if1 .left))))
 
 given-requires : tie.Need-given-requires
 given-requires c κs = search needs
+
+charge-pieces-requires : tie.Need-charge-pieces-requires
+charge-pieces-requires c κs = let s = c .before .before .before .before .before .before .before .before .before .before .before .before .before .before .before .before .before in let a = s .args in omega (arith, whole-room pieceLimit (a .r .kept) (λ p. p .pieces) piecesOut (a .w) (a .r) _ _ (c .before .before .before .before .before .before .before .before .before .before .before .before .before .before .before .half-of .ensures) (c .before .before .before .before .before .before .before .before .before .before .before .before .has-room .ensures) (s .pre .1 .1 .pieces) (not-false (c .before .before .before .before .before .before .before .before .before .before .before .before .has-room .result) (c .before .before .before .before .before .before .before .before .before .before .before .if1 .left)))
 
 same-length : tie.Need-same-length
 same-length c = search needs
 
 returns-3 : tie.Need-returns-3
-returns-3 c = let a = c .before .before .before .before .before .before .before .before .before .before .before .before .before .args in stack-made (now (a .work)) _ _ (a .r) _ (a .w) (c .before .before .before .before .before .before .before .before .before .if2 .left) _ (c .before .before .before .before .before .before .before .before .before .before .before .if1 .left) (c .before .before .before .before .before .before .before .stack-pieces .ensures) (c .before .before .before .given .ensures)
+returns-3 c = let a = c .before .before .before .before .before .before .before .before .before .before .before .before .before .before .before .before .before .before .args in stack-made (now (a .work)) _ _ (a .r) _ (a .w) _ _ (c .before .before .before .before .before .before .before .before .before .before .before .before .before .before .before .before .half-of .ensures) (c .before .before .before .before .before .before .before .before .before .before .before .before .before .has-room .ensures) (c .before .before .before .before .before .before .before .before .before .before .if2 .left) _ _ _ (c .before .before .before .before .before .before .before .before .before .before .before .before .if1 .left) (c .before .before .before .before .before .before .before .before .whole .ensures) (c .charge-pieces .ensures) (c .before .before .before .before .before .before .before .stack-pieces .ensures) (c .before .before .before .given .ensures)
 
 pub reduce-stack-spec : {M : Type 1} → statement M
 reduce-stack-spec =
     tie.close
     (tie.spec
-    add-m
+    half-of-requires
+    has-room-requires
+    pieces-out-requires
     halt-requires
     returns
     halt-requires-2
     returns-2
+    whole-requires
     stack-pieces-requires
     given-requires
+    charge-pieces-requires
     same-length
     returns-3)

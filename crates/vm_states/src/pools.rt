@@ -1,0 +1,57 @@
+// Card 9: the half of each room that is charged, whether it has room, and the outcome where it has none.
+ghost use mathlib.Core.Path.{_≡_};
+ghost use Prim.Native.Nat.{_+_, _≤_};
+ghost use Rattle.calculus.specs.Report.{outcomeNumber};
+ghost use Rattle.vm_machine.specs.Pools.{halfOf, whole, poolBound, hasRoom, bindingsOut, cellsOut, piecesOut};
+use crate::outcomes;
+use vm_machine::Pool;
+use vm_words::code::domain_of;
+
+// The mainline's domain.
+pub const MAINLINE: u64 = 0;
+
+// The half that the instruction with word w charges, by the domain at which it runs.
+pub fn half_of(w: u64) -> bool
+    ensures { λ h. ⌜ h ≡ halfOf w ⌝ }
+{
+    domain_of(w) == MAINLINE
+}
+
+// So many more of one half stay within its limit.
+pub fn has_room(p: Pool, mainline: bool, n: usize, limit: usize) -> bool
+    requires { ⌜ whole p + n ≤ poolBound ⌝ }
+    ensures { λ b. ⌜ b ≡ hasRoom limit mainline n p ⌝ }
+{
+    p.half(mainline) + n <= limit
+}
+
+// The outcomes of the half that lacks room.
+pub fn bindings_out(mainline: bool) -> u32
+    ensures { λ o. ⌜ o ≡ outcomeNumber (bindingsOut mainline) ⌝ }
+{
+    if mainline {
+        outcomes::BINDINGS
+    } else {
+        outcomes::OTHER_BINDINGS
+    }
+}
+
+pub fn cells_out(mainline: bool) -> u32
+    ensures { λ o. ⌜ o ≡ outcomeNumber (cellsOut mainline) ⌝ }
+{
+    if mainline {
+        outcomes::CELLS
+    } else {
+        outcomes::OTHER_CELLS
+    }
+}
+
+pub fn pieces_out(mainline: bool) -> u32
+    ensures { λ o. ⌜ o ≡ outcomeNumber (piecesOut mainline) ⌝ }
+{
+    if mainline {
+        outcomes::PIECES
+    } else {
+        outcomes::OTHER_PIECES
+    }
+}
