@@ -1,8 +1,8 @@
-/* The watch engine for C: the functions of libengine.a and libvalidator.a.
+/* The watch engine for C: the functions of libengine.a, libvalidator.a and libneeds.a.
 
    Build the libraries in the repository's root with
-       rt staticlib engine && rt staticlib validator
-   which writes target/staticlib/libengine.a and target/staticlib/libvalidator.a.
+       rt staticlib engine && rt staticlib validator && rt staticlib needs
+   which writes target/staticlib/libengine.a and so on.
    Each needs memcpy and memset and nothing else: no heap, no files, no global state, so calls from several threads at
    once are safe as long as the memory that they write is different. Recursion is at most 64 deep; on the images tried a
    call took under 40,000 bytes of stack (tried, not proved).
@@ -44,8 +44,8 @@ enum bukzarn_outcome {
     BUKZARN_OTHER_PIECES = 12    /* the other domains' 256 */
 };
 
-/* Why a call is refused (document 01, "Turned back at the gate"). The place is an offset in the image, or 0, or the
-   image's length, as said here. */
+/* Why a call is refused (document 01, "Turned back at the gate"; document 02). The place is an offset in the image, or
+   0, or the image's length, as said here. */
 enum bukzarn_refusal {
     BUKZARN_ACCEPTED = 0,
     BUKZARN_IMAGE_TOO_LONG = 1,    /* over 16,384 bytes; place 0 */
@@ -65,7 +65,8 @@ enum bukzarn_refusal {
     BUKZARN_DOMAIN_RULE = 15,      /* the record */
     BUKZARN_ROOT_NOT_PLAIN = 16,   /* the root */
     BUKZARN_SHORT_WORK_AREA = 17,  /* place 0 */
-    BUKZARN_SHORT_REPORT = 18      /* place 0 */
+    BUKZARN_SHORT_REPORT = 18,     /* place 0 */
+    BUKZARN_OUTSIDE_CLASS = 19     /* of forecast_numbers alone; the lowest term that is outside its class */
 };
 
 /* Kinds of the records in log and report. A record is its length in bytes, its kind, then its fields; all are
@@ -112,6 +113,31 @@ uint16_t validate_number(const uint8_t *image, size_t image_length, size_t work_
 /* The place of that refusal, 0 if the call would run. In libvalidator.a. */
 size_t validate_place(const uint8_t *image, size_t image_length, size_t work_length, size_t report_length);
 
+/* The upper numbers of a forecast (document 02, card 10), by their places. */
+enum bukzarn_need {
+    BUKZARN_NEED_STEPS,
+    BUKZARN_NEED_BINDINGS,       /* of domain 0's half */
+    BUKZARN_NEED_OTHER_BINDINGS, /* of the half of all other domains */
+    BUKZARN_NEED_PIECES,
+    BUKZARN_NEED_OTHER_PIECES,
+    BUKZARN_NEED_CELLS,
+    BUKZARN_NEED_OTHER_CELLS,
+    BUKZARN_NEED_LABELS,
+    BUKZARN_NEED_ADVICE, /* places of installed advice */
+    BUKZARN_NEED_FRAMES, /* unfinished terms around a term that is reduced */
+    BUKZARN_NEED_LOG,    /* log records, of 10 bytes each */
+    BUKZARN_NEEDS        /* how many numbers there are */
+};
+
+/* What any run of the image uses at most, whatever the frame, the budget and the log, without a run. Answers 0, and
+   writes the numbers to the first BUKZARN_NEEDS places, if there are as many; or refuses the image: with 1 to 16 if the
+   check does, else with 19 if the image has an apply, a call, an install that does not stand directly over an advice, or
+   a mark or an install in the body of an advice. Of a refusal the numbers are as they were, and the answer is 2^16 times
+   its number plus 2^24 times its place (bukzarn_refusal_number, bukzarn_place). Where every number is within the
+   engine's room, the steps within the budget, and 10 times the log records within the log, a run is done or aborted.
+   The image is only read, and does not overlap the numbers. In libneeds.a. */
+uint64_t forecast_numbers(const uint8_t *image, size_t image_length, uint32_t *numbers, size_t count);
+
 /* Is this the answer of a run, not of a refusal? */
 static inline int bukzarn_is_run(uint64_t answer)
 {
@@ -130,7 +156,7 @@ static inline size_t bukzarn_log_bytes(uint64_t answer)
     return (size_t)(answer >> 16);
 }
 
-/* The number of a refusal, 1 to 18; BUKZARN_ACCEPTED for the answer of a run. */
+/* The number of a refusal; BUKZARN_ACCEPTED for the answer of a call that was not refused. */
 static inline enum bukzarn_refusal bukzarn_refusal_number(uint64_t answer)
 {
     return bukzarn_is_run(answer) ? BUKZARN_ACCEPTED : (enum bukzarn_refusal)((answer >> 16) & 0xFFu);

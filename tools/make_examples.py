@@ -1,9 +1,10 @@
 #!/usr/bin/env python3
 """Makes the images of examples/ from their texts.
 
-Run in the repository's root: python3 tools/make_examples.py [PROGRAM]
-It writes examples/NAME.img for each line of examples/LIST. With PROGRAM (target/bin/watch) it also writes the listings
-examples/NAME.txt: what PROGRAM prints for each image. make_stored.py puts the images among those that the gate runs.
+Run in the repository's root: python3 tools/make_examples.py [WATCH [NEED]]
+It writes examples/NAME.img for each line of examples/LIST. With WATCH (target/bin/watch) it also writes the listings
+examples/NAME.txt: what WATCH prints for each image; with NEED (target/bin/need) for some of them examples/NAME.need: what
+NEED prints. make_stored.py puts the images among those that the gate runs.
 """
 import subprocess
 import sys
@@ -12,6 +13,9 @@ from pathlib import Path
 from watchlang.assembler import assemble
 
 EXAMPLES = Path("examples")
+
+# The examples of what a flight will need (document 02, card 10).
+WITH_NEEDS = ("plain", "ground", "limits")
 
 
 def examples(folder=EXAMPLES):
@@ -28,13 +32,19 @@ def assembled(files, folder=EXAMPLES):
     return assemble(*texts[0], texts[1:])
 
 
-def main(program=None):
+def said(program, image):
+    """What a program prints for an image."""
+    return subprocess.run([program], input=image, capture_output=True, check=True).stdout
+
+
+def main(watch=None, need=None):
     for name, files in examples():
         image = assembled(files).image
         (EXAMPLES / f"{name}.img").write_bytes(image)
-        if program:
-            said = subprocess.run([program], input=image, capture_output=True, check=True).stdout
-            (EXAMPLES / f"{name}.txt").write_bytes(said)
+        if watch:
+            (EXAMPLES / f"{name}.txt").write_bytes(said(watch, image))
+        if need and name in WITH_NEEDS:
+            (EXAMPLES / f"{name}.need").write_bytes(said(need, image))
 
 
 if __name__ == "__main__":

@@ -9,14 +9,17 @@
                                                           why an image is refused, with the line of its text
     watchtool.py refusals                                 all refusals and how to mend them
     watchtool.py report REPORT [LOG] [--words]            a listing of the bytes of a report and a log
+    watchtool.py need FILE [WATCH ...] [--budget N] [--log BYTES]
+                                                          what a run will need, beside its limits
 
-FILE is an image if its name ends with .img, else a text (docs/LANGUAGE.md).
+FILE is an image if its name ends with .img, else a text (docs/LANGUAGE.md). `need` asks the built program of that name
+in target/bin, or in the folder that BUKZARN_PROGRAMS names.
 """
 import argparse
 import sys
 from pathlib import Path
 
-from watchlang import refusals, report
+from watchlang import needs, programs, refusals, report
 from watchlang.assembler import Assembled, assemble
 from watchlang.disassembler import disassemble, program
 from watchlang.gate import verdict
@@ -78,8 +81,23 @@ def show_report(args):
     write(report.in_words(run) if args.words else report.listing(run), args.out)
 
 
+def ask(program, made, *words):
+    """What a built program writes for an image; a refusal ends the tool, explained."""
+    try:
+        return programs.run(program, made.image, *words)
+    except Refused as refused:
+        said = refusals.explain(made.image, refused.number, refused.place, made.places, made.domains)
+        return sys.exit(f"watchtool: {said}".rstrip())
+
+
+def need(args):
+    """The program's numbers beside the limits of a call."""
+    numbers = needs.read(ask("need", load(args.files)).decode())
+    write(needs.table(numbers, args.budget, args.log), args.out)
+
+
 COMMANDS = {"asm": asm, "disasm": disasm, "picture": draw, "explain": explain, "report": show_report,
-            "refusals": lambda args: write(refusals.table(), args.out)}
+            "need": need, "refusals": lambda args: write(refusals.table(), args.out)}
 
 
 def main(words=None):
@@ -89,13 +107,15 @@ def main(words=None):
     parser.add_argument("-o", dest="out", metavar="FILE", help="write to a file instead of standard output")
     parser.add_argument("--program", action="store_true", help="disasm: the program as a tree")
     parser.add_argument("--words", action="store_true", help="report: in sentences")
+    parser.add_argument("--budget", type=int, default=needs.BUDGET, metavar="N", help="need: the budget of a call")
+    parser.add_argument("--log", type=int, default=needs.LOG_LENGTH, metavar="BYTES", help="need: the length of its log")
     args = parser.parse_intermixed_args(words)
     if not args.files and args.command != "refusals":
         parser.error("name a file")
     sys.setrecursionlimit(50_000)
     try:
         COMMANDS[args.command](args)
-    except (SourceError, report.Damaged, OSError) as error:
+    except (SourceError, report.Damaged, programs.Missing, OSError) as error:
         sys.exit(f"watchtool: {error}")
     except Refused as refused:
         sys.exit(f"watchtool: the image is {refused}: {refused.words}")

@@ -1,7 +1,10 @@
 //! Links the static libraries of the engine. They stand in the folder that BUKZARN_LIBRARY names, or where
-//! `rt staticlib engine` and `rt staticlib validator` write them, in the repository's target/staticlib.
+//! `rt staticlib NAME` writes them, in the repository's target/staticlib.
 use std::env;
 use std::path::{Path, PathBuf};
+
+/// For each feature the library that it needs.
+const LIBRARIES: [(&str, &str); 2] = [("VALIDATOR", "validator"), ("NEEDS", "needs")];
 
 fn folder() -> PathBuf {
     match env::var_os("BUKZARN_LIBRARY") {
@@ -26,7 +29,9 @@ fn main() {
     let folder = folder();
     println!("cargo:rustc-link-search=native={}", folder.display());
     link(&folder, "engine");
-    if env::var_os("CARGO_FEATURE_VALIDATOR").is_some() {
-        link(&folder, "validator");
+    for (feature, name) in LIBRARIES {
+        if env::var_os(format!("CARGO_FEATURE_{feature}")).is_some() {
+            link(&folder, name);
+        }
     }
 }

@@ -1,4 +1,4 @@
-"""The built program `watch` beside the tool, where it is built (rt check watch)."""
+"""The built programs beside the tool and the examples, where they are built (rt check)."""
 import subprocess
 import unittest
 
@@ -9,11 +9,11 @@ from watchlang.assembler import assemble
 from watchlang.disassembler import program
 from watchlang.gate import verdict
 
-WATCH = common.ROOT / "target/bin/watch"
+WATCH, NEED = common.ROOT / "target/bin/watch", common.ROOT / "target/bin/need"
 
 
-def listing(image):
-    return subprocess.run([WATCH], input=image, capture_output=True, check=True).stdout.decode()
+def listing(image, program=WATCH):
+    return subprocess.run([program], input=image, capture_output=True, check=True).stdout.decode()
 
 
 @unittest.skipUnless(WATCH.exists(), "target/bin/watch is not built")
@@ -31,6 +31,14 @@ class Engine(unittest.TestCase):
                 self.assertEqual(said, f"refused {refused.number} {refused.place}\n", n)
             else:
                 self.assertEqual(said, listing(assemble(program(image)).image), n)
+
+
+@unittest.skipUnless(NEED.exists(), "target/bin/need is not built")
+class Need(unittest.TestCase):
+    def test_examples(self):
+        for name in make_examples.WITH_NEEDS:
+            image = (common.ROOT / "examples" / f"{name}.img").read_bytes()
+            self.assertEqual(listing(image, NEED), (common.ROOT / "examples" / f"{name}.need").read_text(), name)
 
 
 if __name__ == "__main__":

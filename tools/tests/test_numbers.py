@@ -3,7 +3,7 @@ import re
 import unittest
 
 import common
-from watchlang import kinds, refusals, report
+from watchlang import kinds, needs, refusals, report
 
 
 def text(*path):
@@ -64,8 +64,27 @@ class Numbers(unittest.TestCase):
         for word, limit in named.items():
             self.assertIn(f"{limits[limit + 'Limit']:,} ", report.SENTENCES[report.OUTCOMES.index(word)])
 
+    def test_needs(self):
+        """What a flight will need is told beside the limits, in the order of the program `need`, which is that of the
+        struct that the library answers."""
+        room = constants("calculus", "Limits.antt")
+        for word, limit in needs.ROOMS.items():
+            self.assertEqual(limit, room[word.removeprefix("other-").removesuffix("s") + "Limit"], word)
+        self.assertEqual(needs.LOG_RECORD, room["logRecordLength"])
+        named = re.findall(r"^const (\w+): \w+ = ([\d_]+);", text("bindings", "rust", "src", "needs.rs"), re.M)
+        self.assertEqual({name: int(n) for name, n in named},
+                         {upper(name): n for name, n in room.items() if upper(name) in dict(named)})
+        self.assertEqual(len(named), 7)
+        fields = [word.replace("-", "_") for word in needs.limits()]
+        for module in (("crates", "image_needs", "src", "lib.rt"), ("bindings", "rust", "src", "needs.rs")):
+            struct = text(*module).split("pub struct Needs {")[1].split("}")[0]
+            self.assertEqual(re.findall(r"pub (\w+): u32", struct), fields)
+        places = text("include", "bukzarn.h").split("enum bukzarn_need {")[1].split("}")[0]
+        self.assertEqual([word.lower() for word in re.findall(r"BUKZARN_NEED_(\w+)", places)], fields)
+
     def test_refusals(self):
         causes = cases("image", "Refusals.antt", "refusalNumber", "Refusal")
+        causes["OutsideClass"] = cases("image_needs", "Forecasts.antt", "forecastNumber", "Forecast")["OutsideClass"]
         self.assertEqual(rust("refusal.rs"), causes)
         self.assertEqual(sorted(refusals.REFUSALS), sorted(causes.values()))
         self.header_has(causes)

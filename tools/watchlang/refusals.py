@@ -1,4 +1,4 @@
-"""The eighteen refusals of document 01 in words, and what to do about each."""
+"""The refusals of documents 01 and 02 in words, and what to do about each."""
 from . import kinds
 from .assembler import assemble
 from .disassembler import disassemble
@@ -49,6 +49,9 @@ REFUSALS = {
          "Lend the engine a work area of the published length. The image is not at fault."),
     18: ("the report that the engine was lent is shorter than 17,994 bytes",
          "Lend the engine a report of at least 17,994 bytes. The image is not at fault."),
+    19: ("the image is outside the class whose needs can be told without a run: no apply, no call, installs directly over "
+         "an advice, and neither mark nor install in the body of an advice",
+         "The image may run all the same: try it over frames. Its needs are told once no such term is left."),
 }
 
 # For some kinds of terms, how to keep their type rule.
@@ -60,6 +63,15 @@ TYPE_MENDS = {
     kinds.TAKEDOWN: "A takedown gives unit: give it no other type.",
     kinds.MATCH: "Match a stack, with pointcuts as entries, and give both branches the same type: "
                  "'match stack with [pointcut {LABEL} as x, any, rest as y] then A else B'.",
+}
+
+# For each kind of term that can be outside the class of card 10, how to bring it inside.
+CLASS_MENDS = {
+    kinds.APPLY: "'let x = A in B' and every call of a function are applies, and so is a field of several bytes: bind with "
+                 "'let (x, y) = (A, B) in', which is a split, and write a function's body where it is called.",
+    kinds.CALL: "Write the method's body in place of the call.",
+    kinds.INSTALL: "Write the advice directly behind 'install', outside the bodies of other advice.",
+    kinds.MARK: "Mark outside the bodies of advice.",
 }
 
 # For each kind of term that has a domain rule, how to keep it.
@@ -90,7 +102,7 @@ def table():
 def explain(image, number, place, places=None, domains=None):
     """A refusal of an image in words: the cause, the record at the place, the line of the text, how to mend it."""
     if number not in REFUSALS:
-        return f"there is no refusal {number}: they are numbered from 1 to 18\n"
+        return f"there is no refusal {number}: the last one is {max(REFUSALS)}\n"
     lines = [f"refused {number} at byte {place}: {REFUSALS[number][0]}."]
     found = verdict(image, domains)
     lines += describe(image, place, number, places or shown_places(image), domains)
@@ -103,8 +115,8 @@ def explain(image, number, place, places=None, domains=None):
 
 
 def mend_of(image, number, place):
-    """How to mend a refusal; that of a type rule or a domain rule by the kind of its term."""
-    mends = {14: TYPE_MENDS, 15: DOMAIN_MENDS}.get(number, {})
+    """How to mend a refusal; that of a rule or of a class by the kind of its term."""
+    mends = {14: TYPE_MENDS, 15: DOMAIN_MENDS, 19: CLASS_MENDS}.get(number, {})
     found = record_at(image, place) if place < len(image) else None
     return mends.get(getattr(found, "kind", None), REFUSALS[number][1])
 

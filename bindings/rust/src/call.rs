@@ -26,7 +26,7 @@ pub fn call(
 ) -> Result<Written, Refusal> {
     let answer = raw::run(image, frame, budget, log, report, work);
     match (answer & 0xFFFF) as usize {
-        0 => Err(Refusal::new((answer >> 16 & 0xFF) as u16, (answer >> 24) as usize)),
+        0 => Err(Refusal::of_answer(answer)),
         report => Ok(Written { log: (answer >> 16) as usize, report }),
     }
 }

@@ -21,11 +21,14 @@
 //! ```
 //!
 //! [`run`] keeps the lent memory in one value and cannot be called with too little of it. [`call`] takes slices of any
-//! length, and refuses short ones. `validate` (with the feature `validator`) answers the verdict alone.
+//! length, and refuses short ones. `validate` (with the feature `validator`) answers the verdict alone, `need` (with the
+//! feature `needs`) what a run will need, worked out without a run.
 #![deny(missing_docs, unsafe_code)]
 
 mod call;
 mod lent;
+#[cfg(feature = "needs")]
+mod needs;
 mod outcome;
 pub mod program;
 #[allow(unsafe_code)]
@@ -37,6 +40,8 @@ mod refusal;
 pub use call::validate;
 pub use call::{call, Written};
 pub use lent::{run, Lent};
+#[cfg(feature = "needs")]
+pub use needs::{need, Needs};
 pub use outcome::Outcome;
 pub use records::{Cell, Leaf, Leaves, LogRecord, Run};
 pub use refusal::{Cause, Refusal};

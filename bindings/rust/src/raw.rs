@@ -20,6 +20,9 @@ extern "C" {
 
     #[cfg(feature = "validator")]
     fn validate_place(image: *const u8, image_length: usize, work_length: usize, report_length: usize) -> usize;
+
+    #[cfg(feature = "needs")]
+    fn forecast_numbers(image: *const u8, image_length: usize, numbers: *mut u32, count: usize) -> u64;
 }
 
 /// One call, answered as one number.
@@ -53,4 +56,13 @@ pub fn validate(image: &[u8], work: usize, report: usize) -> (u16, usize) {
             validate_place(image.as_ptr(), image.len(), work, report),
         )
     }
+}
+
+/// What a run of an image will need, with the answer: 0, or the refusal, of which nothing is written.
+#[cfg(feature = "needs")]
+pub fn needs(image: &[u8]) -> (u64, crate::Needs) {
+    let mut numbers = [0u32; 11];
+    // Safe: each pointer and length is a slice that lives through the call; the numbers are lent to nobody else.
+    let answer = unsafe { forecast_numbers(image.as_ptr(), image.len(), numbers.as_mut_ptr(), numbers.len()) };
+    (answer, crate::Needs::from(numbers))
 }

@@ -1,7 +1,8 @@
 //! Why a call is refused.
 use std::fmt;
 
-/// Why a call is refused (document 01, "Turned back at the gate"), with the paper's numbers.
+/// Why a call is refused (document 01, "Turned back at the gate", and document 02's new numbers), with the papers'
+/// numbers.
 #[derive(Clone, Copy, Debug, PartialEq, Eq, PartialOrd, Ord, Hash)]
 #[repr(u16)]
 pub enum Cause {
@@ -43,11 +44,13 @@ pub enum Cause {
     ShortWorkArea = 17,
     /// The report is shorter than 17,994 bytes.
     ShortReport = 18,
+    /// The image is outside the class of images whose needs can be told without a run (document 02, card 10).
+    OutsideClass = 19,
 }
 
 impl Cause {
-    /// Every cause, in the order of the numbers 1 to 18.
-    pub const ALL: [Cause; 18] = [
+    /// Every cause, in the order of the numbers.
+    pub const ALL: [Cause; 19] = [
         Cause::ImageTooLong,
         Cause::BrokenRecord,
         Cause::UnknownKind,
@@ -66,14 +69,15 @@ impl Cause {
         Cause::RootNotPlain,
         Cause::ShortWorkArea,
         Cause::ShortReport,
+        Cause::OutsideClass,
     ];
 
     /// The cause of this number.
     pub fn from_number(number: u16) -> Option<Cause> {
-        Cause::ALL.get(usize::from(number).wrapping_sub(1)).copied()
+        Cause::ALL.into_iter().find(|cause| cause.number() == number)
     }
 
-    /// Document 01's number.
+    /// Document 01's number, or document 02's.
     pub fn number(self) -> u16 {
         self as u16
     }
@@ -89,9 +93,14 @@ pub struct Refusal {
 }
 
 impl Refusal {
+    /// The refusal in an answer of one number: 2^16 times its number and 2^24 times its place.
+    pub(crate) fn of_answer(answer: u64) -> Refusal {
+        Refusal::new((answer >> 16 & 0xFF) as u16, (answer >> 24) as usize)
+    }
+
     /// The refusal that the library answered.
     pub(crate) fn new(number: u16, place: usize) -> Refusal {
-        Refusal { cause: Cause::from_number(number).expect("a refusal has a number from 1 to 18"), place }
+        Refusal { cause: Cause::from_number(number).expect("a refusal has a number of the papers"), place }
     }
 }
 

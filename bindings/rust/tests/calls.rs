@@ -221,7 +221,8 @@ fn the_verdict_alone() {
 fn numbers_and_names() {
     assert!((0..13).all(|n| Outcome::from_number(n).unwrap().number() == n));
     assert!((1..=18).all(|n| Cause::from_number(n).unwrap().number() == n));
-    assert!([0, 19].iter().all(|n| Cause::from_number(*n).is_none()));
+    assert!(Cause::ALL.iter().all(|cause| Cause::from_number(cause.number()) == Some(*cause)));
+    assert!([0, 99].iter().all(|n| Cause::from_number(*n).is_none()));
     assert!(Outcome::from_number(13).is_none());
     assert_eq!(Outcome::Bindings.to_string(), "bindings");
     assert_eq!(Outcome::OtherBindings.to_string(), "other-bindings");

@@ -14,6 +14,8 @@ pub mod Unpaid
 pub mod Branches
 pub mod MainlineRoom
 pub mod NewestFirst
+pub mod OneWay
+pub mod Forecast
 pub mod UnpaidExample
 pub mod Sheet
 pub mod Mainline
@@ -21,3 +23,4 @@ pub mod Example
 pub mod TakedownExample
 pub mod RoomExample
 pub mod NewestFirstExample
+pub mod ForecastExample

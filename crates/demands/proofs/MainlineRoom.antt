@@ -64,7 +64,7 @@ module _ (b frame : List ℕ) (budget : ℕ) (log report work : List ℕ) (h : R
   out : RunsOut E budget log report work X
   out = demand1 b frame budget log report work h
 
-  ended : SaysDone (reportWritten X) → (v : Val) × (E .end ≡ done v)
+  pub ended : SaysDone (reportWritten X) → (v : Val) × (E .end ≡ done v)
   ended p =
       let A : Accepts b = accepts b report work h in
       let d = done-number (some (out .outcome)) (outcome-fits (out .outcome) ∙ sym (out .outcome-read) ∙ p) in

@@ -9,3 +9,4 @@ pub mod Unpaid
 pub mod Branches
 pub mod MainlineRoom
 pub mod NewestFirst
+pub mod Forecast

@@ -79,14 +79,14 @@ fn same_answer(given: &Given, expected: &Result<Ran, Refused>, answer: Result<Wr
     let refused = |refusal: Refusal| Refused(refusal.cause.number(), refusal.place);
     let answered = answer.map(|written| (written.log, written.report)).map_err(refused);
     agree(given, answered == expected, &format!("answers: {answered:?}, by the reference {expected:?}"));
-    if cfg!(feature = "validator") {
+    #[cfg(feature = "validator")]
+    {
         let verdict = bukzarn::validate(given.image, given.work, given.report).map_err(refused);
         agree(given, verdict == expected.map(|_| ()), &format!("verdicts: {verdict:?}, by the reference {expected:?}"));
     }
 }
 
 fn agree(given: &Given, agreed: bool, what: &str) {
-    let hex = || given.image.iter().map(|byte| format!("{byte:02x}")).collect::<String>();
     assert!(
         agreed,
         "difference in {what}\nframe {:?}\nbudget {} log {} report {} work {}\nimage {}",
@@ -95,6 +95,11 @@ fn agree(given: &Given, agreed: bool, what: &str) {
         given.log,
         given.report,
         given.work,
-        hex()
+        hex(given.image)
     );
+}
+
+/// Bytes as a failed comparison shows them.
+pub fn hex(bytes: &[u8]) -> String {
+    bytes.iter().map(|byte| format!("{byte:02x}")).collect()
 }

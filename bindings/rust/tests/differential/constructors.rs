@@ -1,5 +1,5 @@
 //! Random terms that make a value of an asked type, and statements.
-use crate::generate::Maker;
+use crate::generate::{Class, Maker};
 use bukzarn::program::{Program, Shape, Term, Type};
 
 impl Maker<'_> {
@@ -79,8 +79,26 @@ impl Maker<'_> {
         let q = self.domain(|program, q| program.below(p, q)).unwrap_or(p);
         let pointcut = self.program.make(Shape::Pointcut(a, if self.random.chance(60) { p } else { q }));
         let pointcut = self.term(pointcut, at, scope, depth - 1);
+        let outside = self.class;
+        if outside == Class::Counted {
+            self.class = Class::CountedBody;
+        }
         let body = self.statement(p, &[scope, &[a]].concat(), depth - 1);
+        self.class = outside;
         self.program.advice(p, pointcut, body)
+    }
+
+    /// Installs advice of a domain; in a program that is counted, advice that stands right there.
+    fn installing(&mut self, at: u16, scope: &[Type], depth: usize) -> Term {
+        let p = self.domain_below(at);
+        let advice = match self.class {
+            Class::Any => {
+                let advice = self.program.make(Shape::Advice(p));
+                self.term(advice, at, scope, depth - 1)
+            }
+            _ => self.advice(p, at, scope, depth - 1),
+        };
+        self.program.install(advice)
     }
 
     /// A term of type unit that does something.
@@ -96,13 +114,8 @@ impl Maker<'_> {
                 let number = self.term(number, at, scope, depth - 1);
                 self.program.print(number)
             }
-            4 | 5 => self.marking(at, scope, depth),
-            6 | 7 => {
-                let p = self.domain_below(at);
-                let advice = self.program.make(Shape::Advice(p));
-                let advice = self.term(advice, at, scope, depth - 1);
-                self.program.install(advice)
-            }
+            4 | 5 if self.class != Class::CountedBody => self.marking(at, scope, depth),
+            6 | 7 if self.class != Class::CountedBody => self.installing(at, scope, depth),
             8 | 9 => self.storing(at, scope, depth),
             10 => {
                 let p = self.domain_below(at);

@@ -1,13 +1,15 @@
 //! How often each refusal and each outcome occurred.
-use crate::reference::{Ran, Refused};
+use crate::reference::{needs::Numbers, Ran, Refused};
 
 #[derive(Default)]
 pub struct Counts {
     pub images: usize,
     pub accepted: usize,
     pub calls: usize,
-    refusals: [usize; 19],
+    refusals: [usize; 20],
     outcomes: [usize; 13],
+    /// Images whose needs are told without a run.
+    told: usize,
 }
 
 impl Counts {
@@ -26,14 +28,21 @@ impl Counts {
         self.accepted += usize::from(answer.is_ok());
     }
 
+    /// Counts what is said of an image's needs; the check's refusals are counted by its calls.
+    pub fn needs(&mut self, answer: &Result<Numbers, Refused>) {
+        self.told += usize::from(answer.is_ok());
+        self.refusals[19] += usize::from(matches!(answer, Err(Refused(19, _))));
+    }
+
     pub fn print(&self) {
         println!("images {}, accepted {}, calls {}", self.images, self.accepted, self.calls);
-        println!("refusals 1 to 18: {:?}", &self.refusals[1..]);
+        println!("refusals 1 to 19: {:?}", &self.refusals[1..]);
         println!("outcomes 0 to 12: {:?}", self.outcomes);
+        println!("needs told: {}", self.told);
     }
 
     /// Did each refusal and each outcome occur?
     pub fn complete(&self) -> bool {
-        self.refusals[1..].iter().chain(&self.outcomes).all(|count| *count > 0)
+        self.refusals[1..].iter().chain(&self.outcomes).chain([&self.told]).all(|count| *count > 0)
     }
 }

@@ -8,6 +8,16 @@ pub struct Maker<'r> {
     pub random: &'r mut Random,
     /// How many more terms may be made freely; past it only the smallest are.
     pub fuel: usize,
+    pub class: Class,
+}
+
+/// Which programs are made: any; or those whose needs can be told without a run (document 02, card 10), outside the
+/// bodies of advice or inside one.
+#[derive(Clone, Copy, PartialEq, Eq)]
+pub enum Class {
+    Any,
+    Counted,
+    CountedBody,
 }
 
 /// The numbers of an object type's methods with this domain and this type; none of another type.
@@ -37,7 +47,7 @@ impl<'r> Maker<'r> {
     pub fn new(random: &'r mut Random, fuel: usize) -> Maker<'r> {
         let domains = if random.chance(5) { 16 } else { random.between(1, 4) };
         let program = Program::new(&order(random, domains));
-        Maker { program, random, fuel }
+        Maker { program, random, fuel, class: Class::Any }
     }
 
     /// A domain that meets a test.
@@ -119,8 +129,8 @@ impl<'r> Maker<'r> {
             }
             38..=42 => self.choice(of, at, scope, depth),
             43..=47 => self.splitting(of, at, scope, depth),
-            48..=55 => self.application(of, at, scope, depth),
-            56..=61 => self.calling(of, at, scope, depth),
+            48..=55 if self.class == Class::Any => self.application(of, at, scope, depth),
+            56..=61 if self.class == Class::Any => self.calling(of, at, scope, depth),
             62..=66 => self.reading(of, at, scope, depth),
             67..=70 => self.keeping(of, at, scope, depth),
             71..=74 => self.matching(of, at, scope, depth),

@@ -1,4 +1,5 @@
 //! Random whole images: well-typed, looped, damaged.
+use crate::counted;
 use crate::damage;
 use crate::generate::Maker;
 use crate::random::Random;
@@ -9,11 +10,12 @@ use bukzarn::program::{Shape, Term, Type};
 
 /// A random image; some have longer records than their kinds need, and a third are damaged.
 pub fn image(random: &mut Random) -> Vec<u8> {
-    let mut image = match random.below(10) {
+    let mut image = match random.below(12) {
         0 | 1 => looped(random, knot),
         2 => looped(random, object_knot),
         3 | 4 => watched::image(random),
         5 | 6 => stack_images::image(random),
+        7 | 8 => counted::image(random),
         _ => straight(random),
     };
     if random.chance(20) {

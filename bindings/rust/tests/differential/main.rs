@@ -1,10 +1,12 @@
 //! The library against an independent implementation of documents 01 to 003: answers, log, report and work area of
-//! calls on random images (well-typed, looped, damaged) and on images made for each refusal and each outcome.
+//! calls on random images (well-typed, looped, damaged) and on images made for each refusal and each outcome; what is
+//! said of an image without a run (document 02, card 10), and its claims on these runs.
 //!
 //! IMAGES is how many random images are tried, SEED where they begin:
 //!     IMAGES=100000 SEED=7 cargo test --test differential
 mod compare;
 mod constructors;
+mod counted;
 mod counts;
 mod damage;
 mod generate;
@@ -73,6 +75,15 @@ fn budget_at_the_end(random: &mut Random, counts: &mut Counts, image: &[u8], ran
     assert_eq!(again, Some((outcome, budget)), "image made for outcome {} at its budget", ran.outcome);
 }
 
+/// Images outside the class of those whose needs are told.
+fn images_outside(counts: &mut Counts) {
+    for image in counted::outside() {
+        let answer = counted::compare(&image);
+        assert!(matches!(answer, Err(Refused(19, _))), "image made for refusal 19: {answer:?}");
+        counts.needs(&answer);
+    }
+}
+
 /// The steps that a report says.
 fn steps_of(ran: &Ran) -> u32 {
     u32::from_le_bytes(ran.report[6..10].try_into().unwrap())
@@ -105,6 +116,14 @@ fn random_image(random: &mut Random, counts: &mut Counts) {
     let first = Given { frame, ..made::ample(&image) };
     let answer = call(random, counts, &first);
     counts.image(&answer);
+    let needs = counted::compare(&image);
+    counts.needs(&needs);
+    let try_claims = |given: &Given, answer: &Result<Ran, Refused>| {
+        if let (Ok(needs), Ok(ran)) = (&needs, answer) {
+            counted::try_claims(given.image, needs, ran, given.budget, given.log);
+        }
+    };
+    try_claims(&first, &answer);
     let (steps, log) = match &answer {
         Ok(ran) => (steps_of(ran), ran.log.len()),
         Err(_) => (0, 0),
@@ -118,7 +137,9 @@ fn random_image(random: &mut Random, counts: &mut Counts) {
         let log = about(random, log);
         let (report, work) = (about(random, REPORT), about(random, WORK));
         let frame = first.frame[..random.below(first.frame.len() + 1)].to_vec();
-        let _ = call(random, counts, &Given { image: &image, frame, budget, log, report, work });
+        let given = Given { image: &image, frame, budget, log, report, work };
+        let answer = call(random, counts, &given);
+        try_claims(&given, &answer);
     }
 }
 
@@ -127,6 +148,7 @@ fn main() {
     let mut counts = Counts::default();
     made_images(&mut Random::new(seed), &mut counts);
     rule_images(&mut Random::new(seed), &mut counts);
+    images_outside(&mut counts);
     println!("made for a refusal, an outcome or a rule:");
     counts.print();
     for i in 0..images {

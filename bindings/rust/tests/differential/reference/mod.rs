@@ -1,7 +1,8 @@
-//! What a call answers and leaves, written from documents 01, 02 (cards 1 to 3 and 5 to 9) and 003 alone and as literally
+//! What a call answers and leaves, written from documents 01, 02 (cards 1 to 3 and 5 to 10) and 003 alone and as literally
 //! as possible: the check rule by rule, the run by substitution. It shares no text with the engine.
 mod decode;
 mod layout;
+pub mod needs;
 mod report;
 mod run;
 mod shape;
@@ -18,18 +19,25 @@ pub const REPORT: usize = 17_994;
 #[derive(Clone, Copy, Debug, PartialEq, Eq)]
 pub struct Refused(pub u16, pub usize);
 
-/// What a run left: its outcome, and the bytes that it wrote.
+/// What a run left: its outcome, and the bytes that it wrote; and what it used, as card 10 counts it.
 pub struct Ran {
     pub outcome: u16,
     pub log: Vec<u8>,
     pub report: Vec<u8>,
+    pub used: needs::Numbers,
+}
+
+/// The records of an image that the check accepts: refusals 1 to 16.
+fn check(image: &[u8]) -> Result<layout::Records, Refused> {
+    let records = layout::read(image)?;
+    shape::check(&records)?;
+    typing::check(&records)?;
+    Ok(records)
 }
 
 /// One call with lent parts of these lengths.
 pub fn call(image: &[u8], frame: &[u8], budget: u32, log: usize, report: usize, work: usize) -> Result<Ran, Refused> {
-    let records = layout::read(image)?;
-    shape::check(&records)?;
-    typing::check(&records)?;
+    let records = check(image)?;
     if work < WORK {
         return Err(Refused(17, 0));
     }
@@ -37,5 +45,15 @@ pub fn call(image: &[u8], frame: &[u8], budget: u32, log: usize, report: usize, 
         return Err(Refused(18, 0));
     }
     let ended = run::run(decode::root(&records), frame, budget, log);
-    Ok(Ran { outcome: ended.outcome, report: report::report(&ended), log: ended.log })
+    Ok(Ran { outcome: ended.outcome, report: report::report(&ended), used: ended.used, log: ended.log })
+}
+
+/// What a run of an image will need (document 02, card 10).
+pub fn need(image: &[u8]) -> Result<needs::Numbers, Refused> {
+    needs::needs(&check(image)?)
+}
+
+/// Is this an accepted image without choice, mark and takedown?
+pub fn straight(image: &[u8]) -> bool {
+    check(image).is_ok_and(|records| needs::straight(&records))
 }

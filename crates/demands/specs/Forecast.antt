@@ -1,0 +1,80 @@
+-- Card 10 of document 02 about whole calls: "No run of that image exceeds any of them. A done run without choice, mark or takedown meets each exactly. Where all are within the limits, the budget and the log, the outcome is done or aborted."
+-- Steps, cells and log records are read from the bytes that a call leaves. The other numbers stand neither in log nor in report, so they are said of the run that the call makes, to its end; since budgets are any, of every moment of it.
+use Prim.Native.Nat.{ℕ, _+_, _≤_, _<_}
+use mathlib.Core.Path.{_≡_}
+use mathlib.Core.Logic.{_⊎_}
+use mathlib.Core.Bool.{Bool, false, _||_}
+use mathlib.Core.List.{List}
+use lib.ListN.{length}
+use lib.Dec.{eqb}
+use Rattle.calculus.specs.declared.Outcome.{Outcome}
+use Rattle.calculus.specs.Limits.{wordSize}
+use Rattle.calculus.specs.Report.{outcomeNumber}
+use Rattle.calculus_needs.specs.Numbers.{Numbers}
+use Rattle.calculus_needs.specs.Used.{usedBy}
+use Rattle.calculus_needs.specs.Claims.{Under, Enough}
+use Rattle.image.specs.Kinds.{TermKind, termRow}
+use Rattle.image.specs.Layout.{recordsOf}
+use Rattle.image.specs.Types.{termKind}
+use Rattle.image.specs.Program.{toTm}
+use Rattle.image_needs.specs.declared.Needs.{Needs}
+use Rattle.image_needs.specs.declared.Forecast.{Forecast}
+use Rattle.image_needs.specs.Forecasts.{forecast}
+use Rattle.report.specs.Read.{readLog, readReport}
+use Rattle.calls.specs.Runs.{programOf, givenBy}
+use Rattle.calls.specs.Calls.{Left, called}
+use Rattle.demands.specs.Calls.{Runs, logWritten, reportWritten}
+use Rattle.demands.specs.SameBytes.{SaysDone}
+
+-- The eleven numbers of a forecast, as those of a run.
+abbrev pub numbersOf : Needs → Numbers
+numbersOf n = record {
+  steps = n .steps;
+  used = record {
+    mainline = record { bindings = n .bindings; cells = n .cells; pieces = n .pieces };
+    others = record { bindings = n .«other_bindings»; cells = n .«other_cells»; pieces = n .«other_pieces» };
+  };
+  labels = n .labels;
+  advices = n .advice;
+  prints = n .log;
+  frames = n .frames;
+}
+
+-- What the run that a call makes used.
+abbrev pub usedOf : List ℕ → List ℕ → ℕ → List ℕ → Numbers
+usedOf b frame budget log = usedBy budget (givenBy frame log) (toTm (programOf b))
+
+-- "Steps from the report, log records from the log, cells from the report": what R says of them, as read from the bytes that a call left, and of the forecast's. A cell's record does not say which half it was charged to (card 9); "the budget and step count are 32-bit unsigned".
+pub record Told (R : ℕ → ℕ → Type 0) (n : Needs) (budget : ℕ) (X : Left) : Type 0 where
+  pub steps : budget < wordSize → R (readReport (reportWritten X) .steps) (n .steps)
+  pub cells : R (length (readReport (reportWritten X) .cells)) (n .cells + n .«other_cells»)
+  pub prints : R (length (readLog (logWritten X))) (n .log)
+
+-- "Without choice, mark or takedown": no term of the image is an if, a match, a mark or a takedown.
+abbrev isKind : TermKind → TermKind → Bool
+isKind j k = eqb (termRow k .number) (termRow j .number)
+
+abbrev pub manyWays : TermKind → Bool
+manyWays k = isKind TermKind.ite k || (isKind TermKind.match k || (isKind TermKind.mark k || isKind TermKind.takedown k))
+
+abbrev pub OneWay : List ℕ → Type 0
+OneWay b = (n : ℕ) → n < length (recordsOf b .terms) → manyWays (termKind (recordsOf b) n) ≡ false
+
+abbrev pub SaysAborted : List ℕ → Type 0
+SaysAborted report = readReport report .outcome ≡ outcomeNumber Outcome.Aborted
+
+-- Of an image whose forecast is n, and a call on it that runs and leaves X.
+pub record Holds (b : List ℕ) (n : Needs) (frame : List ℕ) (budget : ℕ) (log : List ℕ) (X : Left) : Type 0 where
+  -- "No run of that image exceeds any of them."
+  pub under : Under (usedOf b frame budget log) (numbersOf n)
+  pub told : Told _≤_ n budget X
+  -- "A done run without choice, mark or takedown meets each exactly."
+  pub meets : OneWay b → SaysDone (reportWritten X) → usedOf b frame budget log ≡ numbersOf n
+  pub told-meets : OneWay b → SaysDone (reportWritten X) → Told _≡_ n budget X
+  -- "Where all are within the limits, the budget and the log, the outcome is done or aborted."
+  pub settles : Enough budget (givenBy frame log) (numbersOf n) → SaysDone (reportWritten X) ⊎ SaysAborted (reportWritten X)
+
+abbrev pub Card10 : Type 0
+Card10 =
+    (b : List ℕ) (n : Needs) → forecast b ≡ Forecast.Known n
+    → (frame : List ℕ) (budget : ℕ) (log report work : List ℕ) → Runs b report work → Holds b n frame budget log (called b frame budget log report work)

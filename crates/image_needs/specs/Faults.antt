@@ -1,0 +1,100 @@
+-- Refusal 19 (document 02, card 10): "the lowest apply, call, install over something else, or mark or install in an advice body".
+use Prim.Native.Nat.{ℕ, zero, suc, min}
+use mathlib.Core.Bool.{Bool, true, false, not, _&&_}
+use mathlib.Core.List.{List, [], _∷_}
+use lib.ListN.{length, getD}
+use Rattle.calculus.specs.Combinators.{choose}
+use Rattle.image.specs.Kinds.{Body, here, function-body, advice-body, split-body, lower-body, method-body, match-body, TermKind, bodyOf}
+use Rattle.image.specs.Records.{Layout}
+use Rattle.image.specs.Types.{termKind, children, rootOf}
+
+abbrev pub isAdvice : TermKind → Bool
+isAdvice TermKind.adv = true
+isAdvice TermKind.unit = false
+isAdvice TermKind.truth = false
+isAdvice TermKind.number = false
+isAdvice TermKind.var = false
+isAdvice TermKind.seq = false
+isAdvice TermKind.print = false
+isAdvice TermKind.ite = false
+isAdvice TermKind.pair = false
+isAdvice TermKind.split = false
+isAdvice TermKind.fun = false
+isAdvice TermKind.app = false
+isAdvice TermKind.arith = false
+isAdvice TermKind.newLabel = false
+isAdvice TermKind.mark = false
+isAdvice TermKind.pcd = false
+isAdvice TermKind.install = false
+isAdvice TermKind.newCell = false
+isAdvice TermKind.read = false
+isAdvice TermKind.store = false
+isAdvice TermKind.lower = false
+isAdvice TermKind.abort = false
+isAdvice TermKind.byte = false
+isAdvice TermKind.obj = false
+isAdvice TermKind.call = false
+isAdvice TermKind.stack = false
+isAdvice TermKind.keep = false
+isAdvice TermKind.match = false
+isAdvice TermKind.takedown = false
+
+-- Whether a term of kind k may stand here, over a first child of kind j; m: outside advice bodies.
+abbrev pub permits : Bool → TermKind → TermKind → Bool
+permits m TermKind.app j = false
+permits m TermKind.call j = false
+permits m TermKind.mark j = m
+permits m TermKind.install j = m && isAdvice j
+permits m TermKind.unit j = true
+permits m TermKind.truth j = true
+permits m TermKind.number j = true
+permits m TermKind.var j = true
+permits m TermKind.seq j = true
+permits m TermKind.print j = true
+permits m TermKind.ite j = true
+permits m TermKind.pair j = true
+permits m TermKind.split j = true
+permits m TermKind.fun j = true
+permits m TermKind.arith j = true
+permits m TermKind.newLabel j = true
+permits m TermKind.pcd j = true
+permits m TermKind.adv j = true
+permits m TermKind.newCell j = true
+permits m TermKind.read j = true
+permits m TermKind.store j = true
+permits m TermKind.lower j = true
+permits m TermKind.abort j = true
+permits m TermKind.byte j = true
+permits m TermKind.obj j = true
+permits m TermKind.stack j = true
+permits m TermKind.keep j = true
+permits m TermKind.match j = true
+permits m TermKind.takedown j = true
+
+-- Whether a child stands outside advice bodies, its parent doing so or not.
+abbrev pub outside : Bool → Body → Bool
+outside m here = m
+outside m function-body = m
+outside m advice-body = false
+outside m split-body = m
+outside m lower-body = m
+outside m method-body = m
+outside m match-body = m
+
+-- The least of what f gives for some terms, child i being the first of them; else d.
+unfoldable pub least : (ℕ → ℕ → ℕ) → ℕ → ℕ → List ℕ → ℕ
+least f d i [] = d
+least f d i (e ∷ es) = min (f i e) (least f d (suc i) es)
+
+module _ (L : Layout) where
+  abbrev pub permitted : Bool → ℕ → Bool
+  permitted m n = permits m (termKind L n) (termKind L (getD (children L n) 0 0))
+
+  -- The lowest number of a term that may not stand where it does, among term n and the terms below it; the number of all terms if there is none. A term's children have lower numbers, so a fuel of n + 1 is enough.
+  unfoldable pub lowest : ℕ → Bool → ℕ → ℕ
+  lowest zero m n = length (L .terms)
+  lowest (suc f) m n = min (choose (permitted m n) (length (L .terms)) n) (least (λ i e. lowest f (outside m (bodyOf (termKind L n) i)) e) (length (L .terms)) 0 (children L n))
+
+  -- Of the whole program.
+  unfoldable pub lowestFault : ℕ
+  lowestFault = lowest (length (L .terms)) true (rootOf L)

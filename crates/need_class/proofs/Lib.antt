@@ -1,0 +1,2 @@
+-- Proofs of the functions of this crate.
+pub mod Lowest

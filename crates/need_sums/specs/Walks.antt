@@ -1,0 +1,295 @@
+-- A walk over the terms of an image that works out the numbers of card 10 (document 02), as its functions say it: a table of the kinds, where a child stands, and what a term takes itself.
+use Prim.Native.Nat.{ℕ, zero, suc, _+_}
+use mathlib.Core.Bool.{Bool, true, false}
+use lib.Dec.{eqb}
+use Rattle.calculus.specs.Combinators.{choose}
+use Rattle.image.specs.Kinds.{TermKind}
+use Rattle.image_needs.specs.declared.Needs.{Needs}
+use Rattle.need_sums.specs.declared.shapes.Own.{Own}
+use Rattle.need_sums.specs.declared.shapes.Role.{Role}
+use Rattle.need_sums.specs.declared.shapes.Shape.{Shape}
+use Rattle.need_sums.specs.declared.places.Mode.{Mode}
+use Rattle.need_sums.specs.declared.places.Stand.{Stand}
+use Rattle.need_sums.specs.Sums.{noNeeds, addNeeds, raiseNeeds}
+
+-- Depths and kept values that a walk comes to are below this: an image has at most 1,024 terms.
+abbrev pub placeLimit : ℕ
+placeLimit = 4096
+
+-- The table of kinds.
+abbrev pub childless : Own → Shape
+childless o = record { own = o; first = Role.Skipped; second = Role.Skipped; third = Role.Skipped; rest = Role.Skipped }
+
+abbrev pub one : Own → Role → Shape
+one o r = record { own = o; first = r; second = Role.Skipped; third = Role.Skipped; rest = Role.Skipped }
+
+abbrev pub two : Own → Role → Shape
+two o r = record { own = o; first = Role.Operand; second = r; third = Role.Skipped; rest = Role.Skipped }
+
+abbrev pub three : Role → Role → Role → Shape
+three r q p = record { own = Own.Step; first = Role.Operand; second = r; third = q; rest = p }
+
+abbrev pub shapeOf : TermKind → Shape
+shapeOf TermKind.unit = childless Own.Nothing
+shapeOf TermKind.truth = childless Own.Nothing
+shapeOf TermKind.number = childless Own.Nothing
+shapeOf TermKind.var = childless Own.Nothing
+shapeOf TermKind.seq = two Own.Step Role.Next
+shapeOf TermKind.print = one Own.Print Role.Operand
+shapeOf TermKind.ite = three Role.Branch Role.Branch Role.Skipped
+shapeOf TermKind.pair = two Own.Piece Role.Operand
+shapeOf TermKind.split = two Own.TwoBindings Role.Next
+shapeOf TermKind.fun = childless Own.Nothing
+shapeOf TermKind.app = two Own.Binding Role.Operand
+shapeOf TermKind.arith = two Own.Step Role.Operand
+shapeOf TermKind.newLabel = childless Own.Label
+shapeOf TermKind.mark = two Own.Mark Role.Operand
+shapeOf TermKind.pcd = record { own = Own.Piece; first = Role.Operand; second = Role.Operand; third = Role.Operand; rest = Role.Operand }
+shapeOf TermKind.adv = two Own.Advised Role.AdviceBody
+shapeOf TermKind.install = one Own.Advice Role.Installed
+shapeOf TermKind.newCell = one Own.Cell Role.Operand
+shapeOf TermKind.read = one Own.Step Role.Operand
+shapeOf TermKind.store = two Own.Step Role.Operand
+shapeOf TermKind.lower = one Own.Step Role.Lowered
+shapeOf TermKind.abort = childless Own.Step
+shapeOf TermKind.byte = one Own.Step Role.Operand
+shapeOf TermKind.obj = childless Own.Nothing
+shapeOf TermKind.call = one Own.Binding Role.Operand
+shapeOf TermKind.stack = childless Own.Stack
+shapeOf TermKind.keep = three Role.Operand Role.Kept Role.Skipped
+shapeOf TermKind.match = three Role.FirstBranch Role.Branch Role.Operand
+shapeOf TermKind.takedown = childless Own.Step
+
+-- The role of child j.
+abbrev pub roleAt : Shape → ℕ → Role
+roleAt s zero = s .first
+roleAt s (suc zero) = s .second
+roleAt s (suc (suc zero)) = s .third
+roleAt s (suc (suc (suc j))) = s .rest
+
+-- Where a child stands.
+abbrev pub asked : Stand → Mode → Stand
+asked s m = record { mode = m; dom = s .dom; depth = s .depth; kept = s .kept }
+
+abbrev pub skipped : Stand → Stand
+skipped s = asked s Mode.Skip
+
+abbrev pub inside : Stand → ℕ → Stand
+inside s p = record { mode = s .mode; dom = p; depth = s .depth + 1; kept = s .kept }
+
+abbrev pub runningChild : Stand → Role → ℕ → Stand
+runningChild s Role.Skipped p = skipped s
+runningChild s Role.Operand p = inside s (s .dom)
+runningChild s Role.Lowered p = inside s p
+runningChild s Role.Kept p = record { mode = s .mode; dom = s .dom; depth = s .depth + 1; kept = s .kept + 1 }
+runningChild s Role.Next p = s
+runningChild s Role.Branch p = s
+runningChild s Role.FirstBranch p = s
+runningChild s Role.AdviceBody p = skipped s
+runningChild s Role.Installed p = inside s (s .dom)
+
+abbrev pub roundsMode : Role → Mode
+roundsMode Role.Skipped = Mode.Skip
+roundsMode Role.Operand = Mode.Rounds
+roundsMode Role.Lowered = Mode.Rounds
+roundsMode Role.Kept = Mode.Rounds
+roundsMode Role.Next = Mode.Rounds
+roundsMode Role.Branch = Mode.Rounds
+roundsMode Role.FirstBranch = Mode.Rounds
+roundsMode Role.AdviceBody = Mode.Skip
+roundsMode Role.Installed = Mode.Round
+
+abbrev pub isAdviceBody : Role → Bool
+isAdviceBody Role.Skipped = false
+isAdviceBody Role.Operand = false
+isAdviceBody Role.Lowered = false
+isAdviceBody Role.Kept = false
+isAdviceBody Role.Next = false
+isAdviceBody Role.Branch = false
+isAdviceBody Role.FirstBranch = false
+isAdviceBody Role.AdviceBody = true
+isAdviceBody Role.Installed = false
+
+abbrev pub roundChild : Stand → Role → ℕ → Stand
+roundChild s r p = choose (isAdviceBody r) (record { mode = Mode.Body; dom = p; depth = s .depth + 2; kept = s .kept }) (asked s (roundsMode r))
+
+abbrev pub childIn : Mode → Stand → Role → ℕ → Stand
+childIn Mode.Skip s r p = s
+childIn Mode.Program s r p = runningChild s r p
+childIn Mode.Body s r p = runningChild s r p
+childIn Mode.Rounds s r p = asked s (roundsMode r)
+childIn Mode.Round s r p = roundChild s r p
+
+abbrev pub childStand : Stand → Role → ℕ → Stand
+childStand s r p = childIn (s .mode) s r p
+
+-- What a term takes itself.
+abbrev pub stepNeeds : ℕ → Needs
+stepNeeds d = record {
+  steps = 1;
+  bindings = 0;
+  «other_bindings» = 0;
+  pieces = 0;
+  «other_pieces» = 0;
+  cells = 0;
+  «other_cells» = 0;
+  labels = 0;
+  advice = 0;
+  frames = d;
+  log = 0;
+}
+
+abbrev pub chargedNeeds : Needs → ℕ → ℕ → ℕ → ℕ → Needs
+chargedNeeds n c b e p =
+    choose (eqb c 0)
+    (record {
+      steps = n .steps;
+      bindings = b;
+      «other_bindings» = n .«other_bindings»;
+      pieces = p;
+      «other_pieces» = n .«other_pieces»;
+      cells = e;
+      «other_cells» = n .«other_cells»;
+      labels = n .labels;
+      advice = n .advice;
+      frames = n .frames;
+      log = n .log;
+    })
+    (record {
+      steps = n .steps;
+      bindings = n .bindings;
+      «other_bindings» = b;
+      pieces = n .pieces;
+      «other_pieces» = p;
+      cells = n .cells;
+      «other_cells» = e;
+      labels = n .labels;
+      advice = n .advice;
+      frames = n .frames;
+      log = n .log;
+    })
+
+abbrev pub reductionNeeds : Own → Stand → Needs → Needs
+reductionNeeds Own.Nothing s w = noNeeds
+reductionNeeds Own.Step s w = stepNeeds (s .depth)
+reductionNeeds Own.Label s w = record {
+  steps = 1;
+  bindings = 0;
+  «other_bindings» = 0;
+  pieces = 0;
+  «other_pieces» = 0;
+  cells = 0;
+  «other_cells» = 0;
+  labels = 1;
+  advice = 0;
+  frames = s .depth;
+  log = 0;
+}
+reductionNeeds Own.Print s w = record {
+  steps = 1;
+  bindings = 0;
+  «other_bindings» = 0;
+  pieces = 0;
+  «other_pieces» = 0;
+  cells = 0;
+  «other_cells» = 0;
+  labels = 0;
+  advice = 0;
+  frames = s .depth;
+  log = 1;
+}
+reductionNeeds Own.Advice s w = record {
+  steps = 1;
+  bindings = 0;
+  «other_bindings» = 0;
+  pieces = 0;
+  «other_pieces» = 0;
+  cells = 0;
+  «other_cells» = 0;
+  labels = 0;
+  advice = 1;
+  frames = s .depth;
+  log = 0;
+}
+reductionNeeds Own.Cell s w = chargedNeeds (stepNeeds (s .depth)) (s .dom) 0 1 0
+reductionNeeds Own.Piece s w = chargedNeeds (stepNeeds (s .depth)) (s .dom) 0 0 1
+reductionNeeds Own.Advised s w = chargedNeeds (stepNeeds (s .depth)) (s .dom) 0 0 1
+reductionNeeds Own.Binding s w = chargedNeeds (stepNeeds (s .depth)) (s .dom) 1 0 0
+reductionNeeds Own.TwoBindings s w = chargedNeeds (stepNeeds (s .depth)) (s .dom) 2 0 0
+reductionNeeds Own.Stack s w = chargedNeeds (stepNeeds (s .depth)) (s .dom) 0 0 (s .kept)
+reductionNeeds Own.Mark s w = addNeeds (stepNeeds (s .depth)) w
+
+abbrev pub roundStart : ℕ → ℕ → Needs
+roundStart d p =
+    chargedNeeds
+    (record { steps = 2; bindings = 0; «other_bindings» = 0; pieces = 0; «other_pieces» = 0; cells = 0; «other_cells» = 0; labels = 0; advice = 0; frames = d + 1; log = 0 })
+    p 1 0 0
+
+abbrev pub isAdvised : Own → Bool
+isAdvised Own.Nothing = false
+isAdvised Own.Step = false
+isAdvised Own.Label = false
+isAdvised Own.Print = false
+isAdvised Own.Advice = false
+isAdvised Own.Cell = false
+isAdvised Own.Piece = false
+isAdvised Own.Advised = true
+isAdvised Own.Binding = false
+isAdvised Own.TwoBindings = false
+isAdvised Own.Stack = false
+isAdvised Own.Mark = false
+
+abbrev pub roundNeeds : Own → Stand → ℕ → Needs
+roundNeeds o s p = choose (isAdvised o) (roundStart (s .depth) p) noNeeds
+
+abbrev pub ownIn : Mode → Own → Stand → ℕ → Needs → Needs
+ownIn Mode.Skip o s p w = noNeeds
+ownIn Mode.Program o s p w = reductionNeeds o s (raiseNeeds (s .depth) w)
+ownIn Mode.Body o s p w = reductionNeeds o s noNeeds
+ownIn Mode.Rounds o s p w = noNeeds
+ownIn Mode.Round o s p w = roundNeeds o s p
+
+abbrev pub ownNeeds : Own → Stand → ℕ → Needs → Needs
+ownNeeds o s p w = ownIn (s .mode) o s p w
+
+-- Branches: of two of them the dearer counts, where the term runs.
+abbrev pub branches : Role → Bool
+branches Role.Skipped = false
+branches Role.Operand = false
+branches Role.Lowered = false
+branches Role.Kept = false
+branches Role.Next = false
+branches Role.Branch = true
+branches Role.FirstBranch = true
+branches Role.AdviceBody = false
+branches Role.Installed = false
+
+abbrev pub branchIn : Mode → Role → Bool
+branchIn Mode.Skip r = false
+branchIn Mode.Program r = branches r
+branchIn Mode.Body r = branches r
+branchIn Mode.Rounds r = false
+branchIn Mode.Round r = false
+
+abbrev pub isBranch : Stand → Role → Bool
+isBranch s r = branchIn (s .mode) r
+
+abbrev pub addedNeeds : Stand → Role → Needs → Needs
+addedNeeds s r x = choose (isBranch s r) noNeeds x
+
+abbrev pub bindsVariables : Role → Bool
+bindsVariables Role.Skipped = false
+bindsVariables Role.Operand = false
+bindsVariables Role.Lowered = false
+bindsVariables Role.Kept = false
+bindsVariables Role.Next = false
+bindsVariables Role.Branch = false
+bindsVariables Role.FirstBranch = true
+bindsVariables Role.AdviceBody = false
+bindsVariables Role.Installed = false
+
+abbrev pub branchNeeds : Stand → Role → ℕ → Needs
+branchNeeds s r v = choose (bindsVariables r) (chargedNeeds noNeeds (s .dom) v 0 0) noNeeds
+
+abbrev pub chosenNeeds : Stand → Role → ℕ → Needs → Needs
+chosenNeeds s r v x = choose (isBranch s r) (addNeeds (branchNeeds s r v) x) noNeeds

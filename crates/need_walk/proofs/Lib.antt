@@ -1,0 +1,8 @@
+-- The walk answers the numbers of the calculus's definition.
+pub mod Folds
+pub mod Shapes
+pub mod Rounds
+pub mod Modes
+pub mod Cut
+pub mod Stands
+pub mod Walked

@@ -1,0 +1,257 @@
+-- What a term takes by its kind: what it takes itself, then what its children take, each by its role, then the dearest of its branches.
+use Prim.Native.Nat.{ℕ, zero, suc, _+_}
+use native.Mathlib.Omega.{arith}
+use native.Mathlib.Numerals.{add-one}
+use mathlib.Core.Path.{_≡_, refl, sym, ap, _∙_}
+use mathlib.Core.Bool.{Bool, true, false}
+use mathlib.Core.List.{List}
+use lib.ListN.{getD}
+use Rattle.calculus.specs.Combinators.{choose}
+use Rattle.calculus.specs.Syntax.{Dom, Ty, Val, Tm, Tms, Op2, val, op2, end, more}
+use Rattle.calculus.specs.State.{somePieces}
+use Rattle.calculus.specs.Plain.{domOf}
+use Rattle.calculus_needs.specs.Here.{Here, at, deeper, keeping}
+use Rattle.calculus_needs.specs.Numbers.{Numbers, none, _⊕_, dearer}
+use Rattle.calculus_needs.specs.Needs.{once, uses, variables, binds, aCell, aPiece, aLabel, anAdvice, aPrint, own2, need, needs, round, roundOf, rounds, allRounds}
+use Rattle.calculus_needs.proofs.Sums.{none-left, none-right, plus-assoc, plus-comm}
+use Rattle.image.specs.Kinds.{TermKind}
+use Rattle.image.specs.Program.{nth, behind, opOf, patternOf, assemble}
+use Rattle.need_sums.specs.declared.shapes.Own.{Own}
+use Rattle.need_sums.specs.declared.shapes.Role.{Role}
+use Rattle.need_sums.specs.declared.places.Mode.{Mode}
+use Rattle.need_sums.specs.declared.places.Stand.{Stand}
+use Rattle.need_sums.specs.Walks.{shapeOf, roleAt, childStand, branches, bindsVariables, isBranch}
+use Rattle.need_walk.specs.Counted.{hereOf, counted}
+use Rattle.need_terms.specs.Parts.{partDomain, branchVariables}
+use Rattle.need_walk.proofs.Folds.{dearer-left-none, dearer-right-none, sums, choices, joined, joined-cong, joined-none, joined-nothing, joined-split}
+
+-- What a term takes itself, of w for all advice at a mark.
+abbrev pub ownNumbers : Own → Here → Numbers → Numbers
+ownNumbers Own.Nothing P w = none
+ownNumbers Own.Step P w = once P
+ownNumbers Own.Label P w = once P ⊕ aLabel
+ownNumbers Own.Print P w = once P ⊕ aPrint
+ownNumbers Own.Advice P w = once P ⊕ anAdvice
+ownNumbers Own.Cell P w = once P ⊕ aCell (P .dom)
+ownNumbers Own.Piece P w = once P ⊕ aPiece (P .dom)
+ownNumbers Own.Advised P w = once P ⊕ aPiece (P .dom)
+ownNumbers Own.Binding P w = once P ⊕ binds (P .dom) 1
+ownNumbers Own.TwoBindings P w = once P ⊕ binds (P .dom) 2
+ownNumbers Own.Stack P w = once P ⊕ uses (P .dom) (somePieces (P .kept))
+ownNumbers Own.Mark P w = once P ⊕ w
+
+-- A child with a role, of a term that runs.
+abbrev pub running : (Here → Numbers) → Here → Dom → Role → Tm → Numbers
+running W P p Role.Skipped e = none
+running W P p Role.Operand e = need W (deeper P) e
+running W P p Role.Lowered e = need W (at p (deeper P)) e
+running W P p Role.Kept e = need W (keeping (deeper P)) e
+running W P p Role.Next e = need W P e
+running W P p Role.Branch e = need W P e
+running W P p Role.FirstBranch e = need W P e
+running W P p Role.AdviceBody e = none
+running W P p Role.Installed e = need W (deeper P) e
+
+abbrev pub branchNumbers : Dom → Role → ℕ → Numbers
+branchNumbers c r v = choose (bindsVariables r) (binds c v) none
+
+-- What a child adds that takes x, and what it offers as a branch.
+abbrev pub addedBy : Bool → Numbers → Numbers
+addedBy b x = choose b none x
+
+abbrev pub offeredBy : Bool → Numbers → Numbers → Numbers
+offeredBy b y x = choose b (y ⊕ x) none
+
+-- A kind none of whose children is a branch.
+no-branches : (k : TermKind) → branches (shapeOf k .first) ≡ false → branches (shapeOf k .second) ≡ false → branches (shapeOf k .third) ≡ false → branches (shapeOf k .rest) ≡ false
+    → (i : ℕ) → branches (roleAt (shapeOf k) i) ≡ false
+no-branches k a b c d zero = a
+no-branches k a b c d (suc zero) = b
+no-branches k a b c d (suc (suc zero)) = c
+no-branches k a b c d (suc (suc (suc j))) = d
+
+-- Sums in another order.
+t0 : (o : Numbers) → o ≡ o ⊕ ((none ⊕ (none ⊕ (none ⊕ none))) ⊕ none)
+t0 o = rw (none-left none, none-left none, none-left none, none-left none, none-right o) refl
+
+t1 : (o a : Numbers) → a ⊕ o ≡ o ⊕ ((a ⊕ (none ⊕ (none ⊕ none))) ⊕ none)
+t1 o a = rw (none-left none, none-left none, none-right a, none-right a) (plus-comm a o)
+
+t2 : (o a b : Numbers) → a ⊕ (b ⊕ o) ≡ o ⊕ ((a ⊕ (b ⊕ (none ⊕ none))) ⊕ none)
+t2 o a b = rw (none-left none, none-right b, none-right (a ⊕ b)) (sym (plus-assoc a b o) ∙ plus-comm (a ⊕ b) o)
+
+t2-next : (o a b : Numbers) → a ⊕ (o ⊕ b) ≡ o ⊕ ((a ⊕ (b ⊕ (none ⊕ none))) ⊕ none)
+t2-next o a b = ap (λ x. a ⊕ x) (plus-comm o b) ∙ t2 o a b
+
+t3 : (o a b c : Numbers) → a ⊕ (b ⊕ (c ⊕ o)) ≡ o ⊕ ((a ⊕ (b ⊕ (c ⊕ none))) ⊕ none)
+t3 o a b c = rw (none-right c, none-right (a ⊕ (b ⊕ c))) (ap (λ x. a ⊕ x) (sym (plus-assoc b c o)) ∙ (sym (plus-assoc a (b ⊕ c) o) ∙ plus-comm (a ⊕ (b ⊕ c)) o))
+
+-- The sum over the children of a term that runs, and its dearest branch.
+module _ (W : Here → Numbers) (P : Here) (p : Dom) (v : ℕ) where
+  abbrev pub adds : TermKind → ℕ → Tm → Numbers
+  adds k i e = addedBy (branches (roleAt (shapeOf k) i)) (running W P p (roleAt (shapeOf k) i) e)
+
+  abbrev pub offers : TermKind → ℕ → Tm → Numbers
+  offers k i e = offeredBy (branches (roleAt (shapeOf k) i)) (branchNumbers (P .dom) (roleAt (shapeOf k) i) v) (running W P p (roleAt (shapeOf k) i) e)
+
+  unit-none : (r : Role) → running W P p r (val Val.unit) ≡ none
+  unfolding need
+  unit-none Role.Skipped = refl
+  unit-none Role.Operand = refl
+  unit-none Role.Lowered = refl
+  unit-none Role.Kept = refl
+  unit-none Role.Next = refl
+  unit-none Role.Branch = refl
+  unit-none Role.FirstBranch = refl
+  unit-none Role.AdviceBody = refl
+  unit-none Role.Installed = refl
+
+  adds-unit : (k : TermKind) (i : ℕ) → adds k i (val Val.unit) ≡ none
+  adds-unit k i = look (branches (roleAt (shapeOf k) i)) (unit-none (roleAt (shapeOf k) i))
+    where
+      look : (b : Bool) {x : Numbers} → x ≡ none → addedBy b x ≡ none
+      look true e = refl
+      look false e = e
+
+  no-branch : (k : TermKind) → ((i : ℕ) → branches (roleAt (shapeOf k) i) ≡ false) → (i : ℕ) (e : Tm) → offers k i e ≡ none
+  no-branch k h i e = rw (h i) refl
+
+  -- A kind without branches, with at most three children.
+  plain-kind : (k : TermKind) → ((i : ℕ) → branches (roleAt (shapeOf k) i) ≡ false) → ((i : ℕ) (e : Tm) → adds k (suc (suc (suc i))) e ≡ none) → (es : Tms) (x o : Numbers)
+      → x ≡ o ⊕ ((adds k 0 (nth es 0) ⊕ (adds k 1 (nth es 1) ⊕ (adds k 2 (nth es 2) ⊕ none))) ⊕ none) → x ≡ o ⊕ (joined sums (adds k) 0 es ⊕ joined choices (offers k) 0 es)
+  plain-kind k b r es x o h = rw (joined-split sums (adds k) (adds-unit k) es, joined-none sums (adds k) r 0 (behind 3 es), joined-nothing choices (offers k) (no-branch k b) 0 es) h
+
+  operands : (f : ℕ → Tm → Numbers) → ((i : ℕ) (e : Tm) → f i e ≡ need W (deeper P) e) → (i : ℕ) (es : Tms) → joined sums f i es ≡ needs W (deeper P) es
+  unfolding joined needs
+  operands f h i end = refl
+  operands f h i (more e es) = ap (λ x. x ⊕ joined sums f (suc i) es) (h i e) ∙ ap (λ x. need W (deeper P) e ⊕ x) (operands f h (suc i) es)
+
+  operands-behind : (f : ℕ → Tm → Numbers) → ((i : ℕ) (e : Tm) → f (suc (suc (suc i))) e ≡ need W (deeper P) e) → (i : ℕ) (es : Tms) → joined sums f (suc (suc (suc i))) es ≡ needs W (deeper P) es
+  unfolding joined needs
+  operands-behind f h i end = refl
+  operands-behind f h i (more e es) = ap (λ x. x ⊕ joined sums f (suc (suc (suc (suc i)))) es) (h i e) ∙ ap (λ x. need W (deeper P) e ⊕ x) (operands-behind f h (suc i) es)
+
+  pcd-kind : (es : Tms) → needs W (deeper P) es ⊕ (once P ⊕ aPiece (P .dom)) ≡ (once P ⊕ aPiece (P .dom)) ⊕ (joined sums (adds TermKind.pcd) 0 es ⊕ joined choices (offers TermKind.pcd) 0 es)
+  pcd-kind es =
+      rw (operands (adds TermKind.pcd) (λ i e. all i e) 0 es, joined-nothing choices (offers TermKind.pcd) (no-branch TermKind.pcd (no-branches TermKind.pcd refl refl refl refl)) 0 es, none-right (needs W (deeper P) es))
+      (plus-comm (needs W (deeper P) es) (once P ⊕ aPiece (P .dom)))
+    where
+      all : (i : ℕ) (e : Tm) → adds TermKind.pcd i e ≡ need W (deeper P) e
+      all zero e = refl
+      all (suc zero) e = refl
+      all (suc (suc zero)) e = refl
+      all (suc (suc (suc j))) e = refl
+
+  -- An operand, a step, the dearer of two branches.
+  t-branches : (o a d y z : Numbers) → (a ⊕ d) ⊕ (o ⊕ dearer y z) ≡ o ⊕ ((a ⊕ (none ⊕ (none ⊕ d))) ⊕ dearer none (dearer y (dearer z none)))
+  t-branches o a d y z =
+      rw (none-left d, none-left d, dearer-right-none z, dearer-left-none (dearer y z))
+      (sym (plus-assoc (a ⊕ d) o (dearer y z)) ∙ (ap (λ x. x ⊕ dearer y z) (plus-comm (a ⊕ d) o) ∙ plus-assoc o (a ⊕ d) (dearer y z)))
+
+  ite-kind : (es : Tms)
+      → need W (deeper P) (nth es 0) ⊕ (once P ⊕ dearer (need W P (nth es 1)) (need W P (nth es 2))) ≡ once P ⊕ (joined sums (adds TermKind.ite) 0 es ⊕ joined choices (offers TermKind.ite) 0 es)
+  unfolding need
+  ite-kind es =
+      let a = need W (deeper P) (nth es 0) in
+      let y = need W P (nth es 1) in
+      let z = need W P (nth es 2) in
+      rw (
+        joined-split sums (adds TermKind.ite) (adds-unit TermKind.ite) es,
+        joined-none sums (adds TermKind.ite) (λ i e. refl) 0 (behind 3 es),
+        joined-split choices (offers TermKind.ite) unit es,
+        joined-none choices (offers TermKind.ite) (λ i e. refl) 0 (behind 3 es),
+        none-left y,
+        none-left z,
+      )
+      (ap (λ x. x ⊕ (once P ⊕ dearer y z)) (sym (none-right a)) ∙ t-branches (once P) a none y z)
+    where
+      unit : (i : ℕ) → offers TermKind.ite i (val Val.unit) ≡ none
+      unit zero = refl
+      unit (suc zero) = none-left none
+      unit (suc (suc zero)) = none-left none
+      unit (suc (suc (suc j))) = refl
+
+  match-kind : (a b c : Tm) (r : Tms)
+      → (need W (deeper P) a ⊕ needs W (deeper P) r) ⊕ (once P ⊕ dearer (binds (P .dom) v ⊕ need W P b) (need W P c))
+      ≡ once P ⊕ (joined sums (adds TermKind.match) 0 (more a (more b (more c r))) ⊕ joined choices (offers TermKind.match) 0 (more a (more b (more c r))))
+  unfolding joined
+  match-kind a b c r =
+      rw (operands-behind (adds TermKind.match) (λ i e. refl) 0 r, joined-none choices (offers TermKind.match) (λ i e. refl) 0 r, none-left (need W P c))
+      (t-branches (once P) (need W (deeper P) a) (needs W (deeper P) r) (binds (P .dom) v ⊕ need W P b) (need W P c))
+
+arith-own : (W : Here → Numbers) (P : Here) (n : ℕ) → own2 W P (opOf n) ≡ once P
+arith-own W P zero = refl
+arith-own W P (suc zero) = refl
+arith-own W P (suc (suc zero)) = refl
+arith-own W P (suc (suc (suc n))) = refl
+
+-- A match has a stack and two branches.
+abbrev Three : Tms → Type 0
+Three end = ⊥
+Three (more a end) = ⊥
+Three (more a (more b end)) = ⊥
+Three (more a (more b (more c r))) = Unit
+
+abbrev pub Full : TermKind → Tms → Type 0
+Full TermKind.unit es = Unit
+Full TermKind.truth es = Unit
+Full TermKind.number es = Unit
+Full TermKind.var es = Unit
+Full TermKind.seq es = Unit
+Full TermKind.print es = Unit
+Full TermKind.ite es = Unit
+Full TermKind.pair es = Unit
+Full TermKind.split es = Unit
+Full TermKind.fun es = Unit
+Full TermKind.app es = Unit
+Full TermKind.arith es = Unit
+Full TermKind.newLabel es = Unit
+Full TermKind.mark es = Unit
+Full TermKind.pcd es = Unit
+Full TermKind.adv es = Unit
+Full TermKind.install es = Unit
+Full TermKind.newCell es = Unit
+Full TermKind.read es = Unit
+Full TermKind.store es = Unit
+Full TermKind.lower es = Unit
+Full TermKind.abort es = Unit
+Full TermKind.byte es = Unit
+Full TermKind.obj es = Unit
+Full TermKind.call es = Unit
+Full TermKind.stack es = Unit
+Full TermKind.keep es = Unit
+Full TermKind.match es = Three es
+Full TermKind.takedown es = Unit
+
+pub need-kind : (W : Here → Numbers) (P : Here) (k : TermKind) (t : Ty) (vs : List ℕ) (es : Tms) → Full k es
+    → need W P (assemble k t vs es) ≡ ownNumbers (shapeOf k .own) P (W P) ⊕ (joined sums (adds W P (partDomain k t vs) (branchVariables k vs) k) 0 es ⊕ joined choices (offers W P (partDomain k t vs) (branchVariables k vs) k) 0 es)
+unfolding need needs assemble
+need-kind W P TermKind.unit t vs es full = plain-kind W P 0 0 TermKind.unit (no-branches TermKind.unit refl refl refl refl) (λ i e. refl) es _ _ (t0 _)
+need-kind W P TermKind.truth t vs es full = plain-kind W P 0 0 TermKind.truth (no-branches TermKind.truth refl refl refl refl) (λ i e. refl) es _ _ (t0 _)
+need-kind W P TermKind.number t vs es full = plain-kind W P 0 0 TermKind.number (no-branches TermKind.number refl refl refl refl) (λ i e. refl) es _ _ (t0 _)
+need-kind W P TermKind.var t vs es full = plain-kind W P 0 0 TermKind.var (no-branches TermKind.var refl refl refl refl) (λ i e. refl) es _ _ (t0 _)
+need-kind W P TermKind.seq t vs es full = plain-kind W P 0 0 TermKind.seq (no-branches TermKind.seq refl refl refl refl) (λ i e. refl) es _ _ (t2-next _ _ _)
+need-kind W P TermKind.print t vs es full = plain-kind W P 0 0 TermKind.print (no-branches TermKind.print refl refl refl refl) (λ i e. refl) es _ _ (t1 _ _)
+need-kind W P TermKind.ite t vs es full = ite-kind W P 0 0 es
+need-kind W P TermKind.pair t vs es full = plain-kind W P 0 0 TermKind.pair (no-branches TermKind.pair refl refl refl refl) (λ i e. refl) es _ _ (t2 _ _ _)
+need-kind W P TermKind.split t vs es full = plain-kind W P 0 0 TermKind.split (no-branches TermKind.split refl refl refl refl) (λ i e. refl) es _ _ (t2-next _ _ _)
+need-kind W P TermKind.fun t vs es full = plain-kind W P 0 0 TermKind.fun (no-branches TermKind.fun refl refl refl refl) (λ i e. refl) es _ _ (t0 _)
+need-kind W P TermKind.app t vs es full = plain-kind W P 0 0 TermKind.app (no-branches TermKind.app refl refl refl refl) (λ i e. refl) es _ _ (t2 _ _ _)
+need-kind W P TermKind.arith t vs es full = rw (arith-own W P (getD vs 0 0)) (plain-kind W P 0 0 TermKind.arith (no-branches TermKind.arith refl refl refl refl) (λ i e. refl) es _ _ (t2 _ _ _))
+need-kind W P TermKind.newLabel t vs es full = plain-kind W P 0 0 TermKind.newLabel (no-branches TermKind.newLabel refl refl refl refl) (λ i e. refl) es _ _ (t0 _)
+need-kind W P TermKind.mark t vs es full = plain-kind W P 0 0 TermKind.mark (no-branches TermKind.mark refl refl refl refl) (λ i e. refl) es _ _ (t2 _ _ _)
+need-kind W P TermKind.pcd t vs es full = pcd-kind W P 0 0 es
+need-kind W P TermKind.adv t vs es full = plain-kind W P (domOf t) 0 TermKind.adv (no-branches TermKind.adv refl refl refl refl) (λ i e. refl) es _ _ (t1 _ _)
+need-kind W P TermKind.install t vs es full = plain-kind W P 0 0 TermKind.install (no-branches TermKind.install refl refl refl refl) (λ i e. refl) es _ _ (t1 _ _)
+need-kind W P TermKind.newCell t vs es full = plain-kind W P 0 0 TermKind.newCell (no-branches TermKind.newCell refl refl refl refl) (λ i e. refl) es _ _ (t1 _ _)
+need-kind W P TermKind.read t vs es full = plain-kind W P 0 0 TermKind.read (no-branches TermKind.read refl refl refl refl) (λ i e. refl) es _ _ (t1 _ _)
+need-kind W P TermKind.store t vs es full = plain-kind W P 0 0 TermKind.store (no-branches TermKind.store refl refl refl refl) (λ i e. refl) es _ _ (t2 _ _ _)
+need-kind W P TermKind.lower t vs es full = plain-kind W P (getD vs 0 0) 0 TermKind.lower (no-branches TermKind.lower refl refl refl refl) (λ i e. refl) es _ _ (t1 _ _)
+need-kind W P TermKind.abort t vs es full = plain-kind W P 0 0 TermKind.abort (no-branches TermKind.abort refl refl refl refl) (λ i e. refl) es _ _ (t0 _)
+need-kind W P TermKind.byte t vs es full = plain-kind W P 0 0 TermKind.byte (no-branches TermKind.byte refl refl refl refl) (λ i e. refl) es _ _ (t1 _ _)
+need-kind W P TermKind.obj t vs es full = plain-kind W P 0 0 TermKind.obj (no-branches TermKind.obj refl refl refl refl) (λ i e. refl) es _ _ (t0 _)
+need-kind W P TermKind.call t vs es full = plain-kind W P 0 0 TermKind.call (no-branches TermKind.call refl refl refl refl) (λ i e. refl) es _ _ (t1 _ _)
+need-kind W P TermKind.stack t vs es full = plain-kind W P 0 0 TermKind.stack (no-branches TermKind.stack refl refl refl refl) (λ i e. refl) es _ _ (t0 _)
+need-kind W P TermKind.keep t vs es full = plain-kind W P 0 0 TermKind.keep (no-branches TermKind.keep refl refl refl refl) (λ i e. refl) es _ _ (t3 _ _ _ _)
+need-kind W P TermKind.match t vs (more a (more b (more c r))) full = match-kind W P 0 (variables (patternOf vs)) a b c r
+need-kind W P TermKind.takedown t vs es full = plain-kind W P 0 0 TermKind.takedown (no-branches TermKind.takedown refl refl refl refl) (λ i e. refl) es _ _ (t0 _)

@@ -1,0 +1,311 @@
+-- The walk over a term of an image: where its children stand, what is known there, and what they take together.
+use Prim.Native.Nat.{ℕ, suc, _+_, _≤_, _<_}
+use native.Mathlib.Omega.{arith}
+use native.Mathlib.Numerals.{add-one}
+use mathlib.Core.Path.{_≡_, refl, sym, ap, _∙_}
+use mathlib.Core.Bool.{true}
+use mathlib.Core.List.{List, [], _∷_, _++_}
+use lib.ListN.{length, getD, take}
+use lib.Dec.{leb}
+use lib.Seq.{take-suc, take-all, length-take-le}
+use Rattle.calculus.specs.Syntax.{Ty, Tm, Tms}
+use Rattle.calculus_needs.specs.Numbers.{Numbers, none, _⊕_, dearer}
+use Rattle.calculus_needs.specs.Needs.{need, rounds}
+use Rattle.calculus_needs.proofs.Sums.{none-left, none-right, plus-assoc}
+use Rattle.calculus_needs.proofs.Shift.{level, rounds-once}
+use Rattle.laws.proofs.Booleans.{no-path, le-of}
+use Rattle.image.specs.Bytes.{lengthAt}
+use Rattle.image.proofs.Words.{words-length}
+use Rattle.image.proofs.Counts.{mostChildren, children-between}
+use Rattle.image.proofs.EveryKind.{everyOf, at-term}
+use Rattle.image.specs.Kinds.{TermKind, termRow}
+use Rattle.image.specs.Records.{Layout, times, numbersAt}
+use Rattle.image.specs.Program.{Program, tree, toTm, toTms, subtrees, assemble}
+use Rattle.image.specs.Types.{termPlace, termKind, statedType, others, children, rootOf}
+use Rattle.image.proofs.Laid.{Good, Below}
+use Rattle.image.proofs.Fuel.{tree-fuel}
+use Rattle.image_needs.specs.declared.Needs.{Needs}
+use Rattle.need_sums.specs.declared.shapes.Own.{Own}
+use Rattle.need_sums.specs.declared.shapes.Role.{Role}
+use Rattle.need_sums.specs.declared.places.Mode.{Mode}
+use Rattle.need_sums.specs.declared.places.Stand.{Stand}
+use Rattle.need_sums.specs.Sums.{cutNeeds, noNeeds, addNeeds, dearerNeeds, raiseNeeds}
+use Rattle.need_sums.specs.Walks.{placeLimit, shapeOf, roleAt, childStand, reductionNeeds, ownNeeds, addedNeeds, chosenNeeds}
+use Rattle.need_terms.specs.Parts.{partDomain, branchVariables}
+use Rattle.need_walk.specs.Counted.{hereOf, counted, termAt, Known, skips}
+use Rattle.need_walk.proofs.Folds.{sums, choices, joined, joined-at, joinedAt, joined-snoc}
+use Rattle.need_walk.proofs.Shapes.{Full}
+use Rattle.need_walk.proofs.Modes.{ownCounted, added, offered, by-kind}
+use Rattle.need_walk.proofs.Cut.{cut-plus, cut-dearer, cut-none, cut-shift, reduction-cut, round-cut, added-cut, chosen-cut}
+
+-- Nothing is asked of a term that is skipped, and a constant or a variable takes nothing.
+pub skip-none : (r : Tm) (s : Stand) (e : Tm) → skips (s .mode) ≡ true → noNeeds ≡ cutNeeds (counted r s e)
+skip-none r s e h = look (s .mode) (s .dom) (s .depth) (s .kept) h
+  where
+    look : (m : Mode) (c d q : ℕ) → skips m ≡ true → noNeeds ≡ cutNeeds (counted r (record { mode = m; dom = c; depth = d; kept = q }) e)
+    look Mode.Skip c d q x = sym cut-none
+    look Mode.Program c d q x = no-path (sym x)
+    look Mode.Body c d q x = no-path (sym x)
+    look Mode.Rounds c d q x = no-path (sym x)
+    look Mode.Round c d q x = no-path (sym x)
+
+-- What the term takes itself.
+pub own-cut : (L : Layout) (s : Stand) → s .depth ≤ placeLimit → s .kept ≤ placeLimit → (o : Own) (p : ℕ) (w : Needs) → Known L s w → ownNeeds o s p w ≡ cutNeeds (ownCounted (termAt L (rootOf L)) s o p)
+own-cut L s hd hk o p w known = look (s .mode) known
+  where
+    R : Tm
+    R = termAt L (rootOf L)
+
+    S : Mode → Stand
+    S m = record { mode = m; dom = s .dom; depth = s .depth; kept = s .kept }
+
+    look : (m : Mode) → Known L (S m) w → ownNeeds o (S m) p w ≡ cutNeeds (ownCounted R (S m) o p)
+    look Mode.Skip x = sym cut-none
+    look Mode.Program x =
+        ap (λ y. reductionNeeds o (S Mode.Program) y) (ap (raiseNeeds (s .depth)) x ∙ (cut-shift (s .depth) (rounds (level (s .kept)) R) ∙ ap cutNeeds (sym (rounds-once R (hereOf s)))))
+        ∙ reduction-cut (S Mode.Program) hd hk o (rounds (hereOf s) R)
+    look Mode.Body x = ap (λ y. reductionNeeds o (S Mode.Body) y) (sym cut-none) ∙ reduction-cut (S Mode.Body) hd hk o none
+    look Mode.Rounds x = sym cut-none
+    look Mode.Round x = round-cut (S Mode.Round) hd hk o p
+
+-- A constant or a variable takes nothing.
+leaf-kind : (k : TermKind) → termRow k .number ≤ 35 → (r : Tm) (s : Stand) (t : Ty) (vs : List ℕ) (es : Tms) → counted r s (assemble k t vs es) ≡ none
+unfolding need rounds assemble
+leaf-kind TermKind.unit l r s t vs es = in-mode (s .mode)
+  where
+    in-mode : (m : Mode) → counted r (record { mode = m; dom = s .dom; depth = s .depth; kept = s .kept }) (assemble TermKind.unit t vs es) ≡ none
+    in-mode Mode.Skip = refl
+    in-mode Mode.Program = refl
+    in-mode Mode.Body = refl
+    in-mode Mode.Rounds = refl
+    in-mode Mode.Round = none-left none
+leaf-kind TermKind.truth l r s t vs es = in-mode (s .mode)
+  where
+    in-mode : (m : Mode) → counted r (record { mode = m; dom = s .dom; depth = s .depth; kept = s .kept }) (assemble TermKind.truth t vs es) ≡ none
+    in-mode Mode.Skip = refl
+    in-mode Mode.Program = refl
+    in-mode Mode.Body = refl
+    in-mode Mode.Rounds = refl
+    in-mode Mode.Round = none-left none
+leaf-kind TermKind.number l r s t vs es = in-mode (s .mode)
+  where
+    in-mode : (m : Mode) → counted r (record { mode = m; dom = s .dom; depth = s .depth; kept = s .kept }) (assemble TermKind.number t vs es) ≡ none
+    in-mode Mode.Skip = refl
+    in-mode Mode.Program = refl
+    in-mode Mode.Body = refl
+    in-mode Mode.Rounds = refl
+    in-mode Mode.Round = none-left none
+leaf-kind TermKind.var l r s t vs es = in-mode (s .mode)
+  where
+    in-mode : (m : Mode) → counted r (record { mode = m; dom = s .dom; depth = s .depth; kept = s .kept }) (assemble TermKind.var t vs es) ≡ none
+    in-mode Mode.Skip = refl
+    in-mode Mode.Program = refl
+    in-mode Mode.Body = refl
+    in-mode Mode.Rounds = refl
+    in-mode Mode.Round = none-left none
+leaf-kind TermKind.seq l r s t vs es = absurd (omega arith)
+leaf-kind TermKind.print l r s t vs es = absurd (omega arith)
+leaf-kind TermKind.ite l r s t vs es = absurd (omega arith)
+leaf-kind TermKind.pair l r s t vs es = absurd (omega arith)
+leaf-kind TermKind.split l r s t vs es = absurd (omega arith)
+leaf-kind TermKind.fun l r s t vs es = absurd (omega arith)
+leaf-kind TermKind.app l r s t vs es = absurd (omega arith)
+leaf-kind TermKind.arith l r s t vs es = absurd (omega arith)
+leaf-kind TermKind.newLabel l r s t vs es = absurd (omega arith)
+leaf-kind TermKind.mark l r s t vs es = absurd (omega arith)
+leaf-kind TermKind.pcd l r s t vs es = absurd (omega arith)
+leaf-kind TermKind.adv l r s t vs es = absurd (omega arith)
+leaf-kind TermKind.install l r s t vs es = absurd (omega arith)
+leaf-kind TermKind.newCell l r s t vs es = absurd (omega arith)
+leaf-kind TermKind.read l r s t vs es = absurd (omega arith)
+leaf-kind TermKind.store l r s t vs es = absurd (omega arith)
+leaf-kind TermKind.lower l r s t vs es = absurd (omega arith)
+leaf-kind TermKind.abort l r s t vs es = absurd (omega arith)
+leaf-kind TermKind.byte l r s t vs es = absurd (omega arith)
+leaf-kind TermKind.obj l r s t vs es = absurd (omega arith)
+leaf-kind TermKind.call l r s t vs es = absurd (omega arith)
+leaf-kind TermKind.stack l r s t vs es = absurd (omega arith)
+leaf-kind TermKind.keep l r s t vs es = absurd (omega arith)
+leaf-kind TermKind.match l r s t vs es = absurd (omega arith)
+leaf-kind TermKind.takedown l r s t vs es = absurd (omega arith)
+
+-- A match has three children at least.
+three-of : (g : ℕ → Program) (es : List ℕ) → 3 ≤ length es → Full TermKind.match (toTms (subtrees g es))
+unfolding toTms
+three-of g [] h = absurd (omega arith)
+three-of g (a ∷ []) h = absurd (omega arith)
+three-of g (a ∷ b ∷ []) h = absurd (omega arith)
+three-of g (a ∷ b ∷ c ∷ es) h = tt
+
+full-of : (k : TermKind) (es : Tms) → (k ≡ TermKind.match → Full TermKind.match es) → Full k es
+full-of TermKind.unit es h = tt
+full-of TermKind.truth es h = tt
+full-of TermKind.number es h = tt
+full-of TermKind.var es h = tt
+full-of TermKind.seq es h = tt
+full-of TermKind.print es h = tt
+full-of TermKind.ite es h = tt
+full-of TermKind.pair es h = tt
+full-of TermKind.split es h = tt
+full-of TermKind.fun es h = tt
+full-of TermKind.app es h = tt
+full-of TermKind.arith es h = tt
+full-of TermKind.newLabel es h = tt
+full-of TermKind.mark es h = tt
+full-of TermKind.pcd es h = tt
+full-of TermKind.adv es h = tt
+full-of TermKind.install es h = tt
+full-of TermKind.newCell es h = tt
+full-of TermKind.read es h = tt
+full-of TermKind.store es h = tt
+full-of TermKind.lower es h = tt
+full-of TermKind.abort es h = tt
+full-of TermKind.byte es h = tt
+full-of TermKind.obj es h = tt
+full-of TermKind.call es h = tt
+full-of TermKind.stack es h = tt
+full-of TermKind.keep es h = tt
+full-of TermKind.match es h = h refl
+full-of TermKind.takedown es h = tt
+
+-- A term has few children.
+most-few : (k : TermKind) → mostChildren (termRow k) ≤ placeLimit
+unfolding everyOf
+most-few k = le-of (at-term (λ k. leb (mostChildren (termRow k)) placeLimit) refl k)
+
+pub few-children : (L : Layout) → Good L → (n : ℕ) → n < length (L .terms) → length (children L n) ≤ placeLimit
+few-children L good n l =
+    let t = good .terms n l in
+    let r = termRow (termKind L n) in
+    let m = most-few (termKind L n) in
+    let c : length (children L n) ≤ mostChildren r =
+    children-between r (times r (lengthAt (L .image) (termPlace L n))) (numbersAt (L .image) (termPlace L n) r) (words-length (L .image) _ _) (t .is .stands .least) (t .is .stands .most) .1 in
+    omega arith
+
+-- The term of an image, by its kind, its children by number.
+module _ (L : Layout) (n : ℕ) where
+  abbrev R : Tm
+  R = termAt L (rootOf L)
+
+  abbrev pub kind-at : TermKind
+  kind-at = termKind L n
+
+  abbrev pub domain-at : ℕ
+  domain-at = partDomain kind-at (statedType L n) (others L n)
+
+  abbrev pub role-of : ℕ → Role
+  role-of i = roleAt (shapeOf kind-at) i
+
+  abbrev pub adds-at : Stand → ℕ → ℕ → Numbers
+  adds-at s i e = added s (role-of i) (counted R (childStand s (role-of i) domain-at) (termAt L e))
+
+  abbrev pub offers-at : Stand → ℕ → ℕ → Numbers
+  offers-at s i e = offered s (role-of i) (branchVariables kind-at (others L n)) (counted R (childStand s (role-of i) domain-at) (termAt L e))
+
+  abbrev own-at : Stand → Numbers
+  own-at s = ownCounted R s (shapeOf kind-at .own) domain-at
+
+  -- The first j children: their sum with what the term takes itself, and the dearest branch.
+  unfoldable pub sumTo : Stand → ℕ → Numbers
+  sumTo s j = own-at s ⊕ joinedAt sums (adds-at s) 0 (take j (children L n))
+
+  unfoldable pub choiceTo : Stand → ℕ → Numbers
+  choiceTo s j = joinedAt choices (offers-at s) 0 (take j (children L n))
+
+  abbrev subterms : Tms
+  subterms = toTms (subtrees (λ e. tree L n e) (children L n))
+
+  term-is : termAt L n ≡ assemble kind-at (statedType L n) (others L n) subterms
+  unfolding tree toTm
+  term-is = refl
+
+  pub leaf-none : termRow kind-at .number ≤ 35 → (s : Stand) → noNeeds ≡ cutNeeds (counted R s (termAt L n))
+  leaf-none l s = sym cut-none ∙ ap cutNeeds (sym (ap (counted R s) term-is ∙ leaf-kind kind-at l R s (statedType L n) (others L n) subterms))
+
+  pub sum-start : (s : Stand) → cutNeeds (own-at s) ≡ cutNeeds (sumTo s 0)
+  unfolding sumTo joinedAt
+  sum-start s = ap cutNeeds (sym (none-right (own-at s)))
+
+  pub choice-start : (s : Stand) → noNeeds ≡ cutNeeds (choiceTo s 0)
+  unfolding choiceTo joinedAt
+  choice-start s = sym cut-none
+
+  module _ (s : Stand) (j : ℕ) (h : j < length (children L n)) where
+    es : List ℕ
+    es = children L n
+
+    one-more : take (j + 1) (children L n) ≡ take j (children L n) ++ (getD (children L n) j 0 ∷ [])
+    one-more = rw (add-one j) (take-suc (children L n) j 0 (omega arith))
+
+    long : j ≡ 0 + length (take j (children L n))
+    long = omega (arith, length-take-le j (children L n) (omega arith))
+
+    sum-next : sumTo s (j + 1) ≡ sumTo s j ⊕ adds-at s j (getD (children L n) j 0)
+    unfolding sumTo
+    sum-next =
+        ap (λ x. own-at s ⊕ joinedAt sums (adds-at s) 0 x) one-more
+        ∙ (ap (λ x. own-at s ⊕ x) (joined-snoc sums (adds-at s) 0 (take j (children L n)) (getD (children L n) j 0) j long)
+        ∙ sym (plus-assoc (own-at s) (joinedAt sums (adds-at s) 0 (take j (children L n))) (adds-at s j (getD (children L n) j 0))))
+
+    choice-next : choiceTo s (j + 1) ≡ dearer (choiceTo s j) (offers-at s j (getD (children L n) j 0))
+    unfolding choiceTo
+    choice-next = ap (λ x. joinedAt choices (offers-at s) 0 x) one-more ∙ joined-snoc choices (offers-at s) 0 (take j (children L n)) (getD (children L n) j 0) j long
+
+    -- A turn of the loop: the child with the role takes x.
+    module _ (role : Role) (p e : ℕ) (x : Needs) (hr : role ≡ role-of j) (hp : p ≡ domain-at) (he : e ≡ getD (children L n) j 0) (hx : x ≡ cutNeeds (counted R (childStand s role p) (termAt L e))) where
+      takes : x ≡ cutNeeds (counted R (childStand s (role-of j) domain-at) (termAt L (getD (children L n) j 0)))
+      takes = hx ∙ ap cutNeeds (ap (λ y. counted R (childStand s y p) (termAt L e)) hr ∙ (ap (λ y. counted R (childStand s (role-of j) y) (termAt L e)) hp ∙ ap (λ y. counted R (childStand s (role-of j) domain-at) (termAt L y)) he))
+
+      pub sum-turn : (sum a r : Needs) → sum ≡ cutNeeds (sumTo s j) → a ≡ addedNeeds s role x → r ≡ addNeeds sum a → r ≡ cutNeeds (sumTo s (j + 1))
+      sum-turn sum a r hs ha h′ =
+          let c = counted R (childStand s (role-of j) domain-at) (termAt L (getD (children L n) j 0)) in
+          let q : a ≡ cutNeeds (adds-at s j (getD (children L n) j 0)) = ha ∙ (ap (λ y. addedNeeds s y x) hr ∙ (ap (addedNeeds s (role-of j)) takes ∙ added-cut s (role-of j) c)) in
+          h′ ∙ (ap (λ y. addNeeds y a) hs ∙ (ap (addNeeds (cutNeeds (sumTo s j))) q ∙ (sym (cut-plus (sumTo s j) (adds-at s j (getD (children L n) j 0))) ∙ ap cutNeeds (sym sum-next))))
+
+      pub choice-turn : (choice : Needs) (v : ℕ) (a r : Needs) → choice ≡ cutNeeds (choiceTo s j) → v ≡ branchVariables kind-at (others L n) → v ≤ placeLimit → a ≡ chosenNeeds s role v x → r ≡ dearerNeeds choice a → r ≡ cutNeeds (choiceTo s (j + 1))
+      choice-turn choice v a r hs hv few ha h′ =
+          let c = counted R (childStand s (role-of j) domain-at) (termAt L (getD (children L n) j 0)) in
+          let q : a ≡ cutNeeds (offers-at s j (getD (children L n) j 0)) =
+          ha ∙ (ap (λ y. chosenNeeds s y v x) hr ∙ (ap (chosenNeeds s (role-of j) v) takes ∙ (chosen-cut s (role-of j) v c few ∙ ap (λ y. cutNeeds (offered s (role-of j) y c)) hv))) in
+          h′ ∙ (ap (λ y. dearerNeeds y a) hs ∙ (ap (dearerNeeds (cutNeeds (choiceTo s j))) q ∙ (sym (cut-dearer (choiceTo s j) (offers-at s j (getD (children L n) j 0))) ∙ ap cutNeeds (sym choice-next))))
+
+  module _ (good : Good L) (l : n < length (L .terms)) where
+    -- The fuel does not matter.
+    same-trees : (f : ℕ → Tm → Numbers) (i : ℕ) (es : List ℕ) → Below n es → joinedAt sums (λ j e. f j (toTm (tree L n e))) i es ≡ joinedAt sums (λ j e. f j (termAt L e)) i es
+    unfolding joinedAt
+    same-trees f i [] b = refl
+    same-trees f i (e ∷ es) b =
+        let m = b .0 in
+        ap (λ x. f i (toTm x) ⊕ joinedAt sums (λ j e. f j (toTm (tree L n e))) (suc i) es) (tree-fuel L good n (suc e) e m (omega arith) (omega arith)) ∙ ap (λ x. f i (termAt L e) ⊕ x) (same-trees f (suc i) es (b .1))
+
+    same-branches : (f : ℕ → Tm → Numbers) (i : ℕ) (es : List ℕ) → Below n es → joinedAt choices (λ j e. f j (toTm (tree L n e))) i es ≡ joinedAt choices (λ j e. f j (termAt L e)) i es
+    unfolding joinedAt
+    same-branches f i [] b = refl
+    same-branches f i (e ∷ es) b =
+        let m = b .0 in
+        ap (λ x. dearer (f i (toTm x)) (joinedAt choices (λ j e. f j (toTm (tree L n e))) (suc i) es)) (tree-fuel L good n (suc e) e m (omega arith) (omega arith)) ∙ ap (λ x. dearer (f i (termAt L e)) x) (same-branches f (suc i) es (b .1))
+
+    term-takes : (kind-at ≡ TermKind.match → 3 ≤ length (children L n)) → (s : Stand)
+        → counted R s (termAt L n) ≡ own-at s ⊕ (joinedAt sums (adds-at s) 0 (children L n) ⊕ joinedAt choices (offers-at s) 0 (children L n))
+    term-takes three s =
+        let es = children L n in
+        let full = full-of kind-at subterms (λ e. three-of (λ e. tree L n e) es (three e)) in
+        let f : ℕ → Tm → Numbers = λ i e. added s (role-of i) (counted R (childStand s (role-of i) domain-at) e) in
+        let g : ℕ → Tm → Numbers = λ i e. offered s (role-of i) (branchVariables kind-at (others L n)) (counted R (childStand s (role-of i) domain-at) e) in
+        let below = good .terms n l .below in
+        let a : joined sums f 0 subterms ≡ joinedAt sums (adds-at s) 0 es = joined-at sums f (λ e. tree L n e) 0 es ∙ same-trees f 0 es below in
+        let b : joined choices g 0 subterms ≡ joinedAt choices (offers-at s) 0 es = joined-at choices g (λ e. tree L n e) 0 es ∙ same-branches g 0 es below in
+        ap (counted R s) term-is ∙ (by-kind R s kind-at (statedType L n) (others L n) subterms full ∙ (ap (λ x. own-at s ⊕ (x ⊕ joined choices g 0 subterms)) a ∙ ap (λ x. own-at s ⊕ (joinedAt sums (adds-at s) 0 es ⊕ x)) b))
+
+    -- Where all children are through.
+    pub all-through : (kind-at ≡ TermKind.match → 3 ≤ length (children L n)) → (s : Stand) (j : ℕ) → length (children L n) ≤ j → (sum choice r : Needs)
+        → sum ≡ cutNeeds (sumTo s j) → choice ≡ cutNeeds (choiceTo s j) → r ≡ addNeeds sum choice → r ≡ cutNeeds (counted R s (termAt L n))
+    unfolding sumTo choiceTo
+    all-through three s j h sum choice r hs hc hr =
+        let es = children L n in
+        let a = joinedAt sums (adds-at s) 0 es in
+        let b = joinedAt choices (offers-at s) 0 es in
+        let t : take j es ≡ es = take-all j es h in
+        hr ∙ (ap (λ y. addNeeds y choice) hs ∙ (ap (addNeeds (cutNeeds (sumTo s j))) hc
+        ∙ (ap (λ x. addNeeds (cutNeeds (own-at s ⊕ joinedAt sums (adds-at s) 0 x)) (cutNeeds (joinedAt choices (offers-at s) 0 x))) t
+        ∙ (sym (cut-plus (own-at s ⊕ a) b) ∙ ap cutNeeds (plus-assoc (own-at s) a b ∙ sym (term-takes three s))))))

@@ -1,0 +1,2 @@
+-- What a flight will need, in 32 bits.
+pub mod Known

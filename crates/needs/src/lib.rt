@@ -1,0 +1,164 @@
+// What a flight will need (document 02, card 10): for an image that the check accepts and that is in the class, upper numbers
+// of steps, of bindings, pieces and cells for each half, and of labels, advice, frames and log records; for any other image
+// the one refusal. It reads the image alone, writes no lent memory and makes no run.
+use check_records::numbers::Counts;
+use check_records::numbers::TermNo;
+use image::IMAGE_LIMIT;
+use image::Refusal;
+use image_needs::Forecast;
+use image_needs::Needs;
+use image_needs::OUTSIDE_NUMBER;
+use need_class::lowest_fault;
+use need_sums::places::Mode;
+use need_sums::places::Stand;
+use need_sums::sums::no_needs;
+use need_walk::Marks;
+use need_walk::level_stand;
+use need_walk::walk;
+use validator::examine::Checked;
+use validator::examine::examine_image;
+ghost use mathlib.Core.Path.{_≡_};
+ghost use Prim.Native.Nat.{_+_, _*_, _%_, _≤_, _<_};
+ghost use lib.ListN.{length};
+ghost use Rattle.image.specs.Limits.{imageLimit};
+ghost use Rattle.image.specs.Layout.{recordsOf};
+ghost use Rattle.image.specs.Types.{rootOf};
+ghost use Rattle.check_rules.specs.Lent.{Lent};
+ghost use Rattle.image_needs.specs.Forecasts.{forecast, forecastAsNumber, elevenNumbers, putNumbers, numbersLeft};
+ghost use Rattle.needs.specs.Known.{programStand, cutClassed, cutProgram};
+
+// How many numbers a forecast has.
+const ELEVEN: usize = 11;
+
+// Where the whole program stands.
+fn program_stand() -> Stand
+    ensures { λ r. ⌜ r ≡ programStand ⌝ }
+{
+    Stand {
+        mode: Mode::Program,
+        dom: 0,
+        depth: 0,
+        kept: 0,
+    }
+}
+
+// The numbers of a program: first what all its advice takes at a mark, then the program itself.
+fn program_needs(image: &[u8], terms: &[u16], descriptors: &[u32], root: TermNo) -> Needs
+    requires { ⌜ Lent (now image) (now terms) (now descriptors) × (0 < length (recordsOf (now image) .terms)) × (root .0 ≡ rootOf (recordsOf (now image))) ⌝ }
+    ensures { λ r. ⌜ r ≡ cutProgram (recordsOf (now (image .entry))) ⌝ }
+{
+    let none = no_needs();
+    let each = walk(
+        image,
+        terms,
+        descriptors,
+        root,
+        level_stand(0),
+        Marks {
+            root: root,
+            each: none,
+        },
+    );
+    walk(
+        image,
+        terms,
+        descriptors,
+        root,
+        program_stand(),
+        Marks {
+            root: root,
+            each: each,
+        },
+    )
+}
+
+// Of an image that the check accepts, with so many terms.
+fn forecast_accepted(image: &[u8], terms: &[u16], descriptors: &[u32], count: usize) -> Forecast
+    requires { ⌜ Lent (now image) (now terms) (now descriptors) × (0 < count) × (count ≡ length (recordsOf (now image) .terms)) ⌝ }
+    ensures { λ r. ⌜ r ≡ cutClassed (recordsOf (now (image .entry))) ⌝ }
+{
+    let root = TermNo((count - 1) as u16);
+    let fault = lowest_fault(image, terms, count as u16, true, root);
+    if (fault as usize) < count {
+        return Forecast::OutsideClass(check_rules::terms::term_place(image, terms, TermNo(fault)));
+    }
+    Forecast::Known(program_needs(image, terms, descriptors, root))
+}
+
+// Of an image that is not too long.
+fn forecast_checked(image: &[u8]) -> Forecast
+    requires { ⌜ length (now image) ≤ imageLimit ⌝ }
+    ensures { λ r. ⌜ r ≡ forecast (now (image .entry)) ⌝ }
+{
+    let kinds = check_records::kinds::kind_codes();
+    let mut doms = [0u16; 16];
+    let mut types = [0u16; 128];
+    let mut descriptors = [0u32; 128];
+    let mut terms = [0u16; 1024];
+    let checked = examine_image(
+        image,
+        &kinds,
+        &mut doms,
+        &mut types,
+        &mut descriptors,
+        &mut terms,
+    );
+    match checked {
+        Checked::Refused(why, at) => Forecast::Refused(why, at),
+        Checked::Accepted(counts) => forecast_accepted(image, &terms, &descriptors, counts.terms),
+    }
+}
+
+// What is said of an image before a launch.
+pub fn forecast_image(image: &[u8]) -> Forecast
+    ensures { λ r. ⌜ r ≡ forecast (now (image .entry)) ⌝ }
+{
+    if IMAGE_LIMIT < image.len() {
+        return Forecast::Refused(Refusal::ImageTooLong, 0);
+    }
+    forecast_checked(image)
+}
+
+fn refused_as_number(number: u16, place: usize) -> u64
+    ensures { λ n. ⌜ n ≡ 65536 * number + 16777216 * (place % 549755813888) ⌝ }
+{
+    65536 * (number as u64) + 16777216 * ((place % 549755813888) as u64)
+}
+
+// The eleven numbers in the first places.
+fn put_numbers(numbers: &mut [u32], n: Needs)
+    requires { ⌜ elevenNumbers ≤ length (now numbers) ⌝ }
+    ensures { λ _. ⌜ now (numbers .exit) ≡ putNumbers n (now (numbers .entry)) ⌝ }
+{
+    numbers[0] = n.steps;
+    numbers[1] = n.bindings;
+    numbers[2] = n.other_bindings;
+    numbers[3] = n.pieces;
+    numbers[4] = n.other_pieces;
+    numbers[5] = n.cells;
+    numbers[6] = n.other_cells;
+    numbers[7] = n.labels;
+    numbers[8] = n.advice;
+    numbers[9] = n.frames;
+    numbers[10] = n.log;
+}
+
+// The same for callers in other languages: the answer as one number, and the eleven numbers, if they are known, in the lent
+// places, if there are as many.
+#[no_mangle]
+pub extern "C" fn forecast_numbers(image: &[u8], numbers: &mut [u32]) -> u64
+    ensures { λ n. ⌜ (n ≡ forecastAsNumber (forecast (now (image .entry)))) × (now (numbers .exit) ≡ numbersLeft (forecast (now (image .entry))) (now (numbers .entry))) ⌝ }
+{
+    let f = forecast_image(image);
+    match f {
+        Forecast::Refused(why, place) => refused_as_number(image::refusal_number(why), place),
+        Forecast::OutsideClass(place) => refused_as_number(OUTSIDE_NUMBER, place),
+        Forecast::Known(known) => {
+            if numbers.len() < ELEVEN {
+                return 0;
+            }
+            put_numbers(numbers, known);
+            0
+        }
+    }
+}
