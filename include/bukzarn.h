@@ -1,7 +1,8 @@
-/* The watch engine for C: the functions of libengine.a, libvalidator.a and libneeds.a.
+/* The watch engine for C: the functions of libengine.a, libvalidator.a, libneeds.a and
+   libwrite_fixed.a.
 
    Build the libraries in the repository's root with
-       rt staticlib engine && rt staticlib validator && rt staticlib needs
+       rt staticlib engine && rt staticlib validator && rt staticlib needs && rt staticlib write_fixed
    which writes target/staticlib/libengine.a and so on.
    Each needs memcpy and memset and nothing else: no heap, no files, no global state, so calls from several threads at
    once are safe as long as the memory that they write is different. Recursion is at most 64 deep; on the images tried a
@@ -66,7 +67,8 @@ enum bukzarn_refusal {
     BUKZARN_ROOT_NOT_PLAIN = 16,   /* the root */
     BUKZARN_SHORT_WORK_AREA = 17,  /* place 0 */
     BUKZARN_SHORT_REPORT = 18,     /* place 0 */
-    BUKZARN_OUTSIDE_CLASS = 19     /* of forecast_numbers alone; the lowest term that is outside its class */
+    BUKZARN_OUTSIDE_CLASS = 19,    /* of forecast_numbers alone; the lowest term that is outside its class */
+    BUKZARN_SHORT_OUTPUT = 20      /* of write_fixed_form alone; place 0 */
 };
 
 /* Kinds of the records in log and report. A record is its length in bytes, its kind, then its fields; all are
@@ -138,6 +140,15 @@ enum bukzarn_need {
    The image is only read, and does not overlap the numbers. In libneeds.a. */
 uint64_t forecast_numbers(const uint8_t *image, size_t image_length, uint32_t *numbers, size_t count);
 
+/* Writes the fixed form of the image (document 02, card 11) over the front of the output: of two accepted images it is
+   the same bytes exactly if they have the same domains and the same program. It is never longer than the image.
+
+   Answers how many bytes were written, which are never 0 (bukzarn_image_bytes); or of a refusal 2^16 times
+   its number plus 2^24 times its place: 1 to 16 if the check refuses the image, then 20 if the output is shorter than the
+   image. Output past what was written is unchanged; of a refusal all of it is. Every length and every content is allowed.
+   The image is only read, and does not overlap the output. In libwrite_fixed.a. */
+uint64_t write_fixed_form(const uint8_t *image, size_t image_length, uint8_t *output, size_t output_length);
+
 /* Is this the answer of a run, not of a refusal? */
 static inline int bukzarn_is_run(uint64_t answer)
 {
@@ -146,6 +157,12 @@ static inline int bukzarn_is_run(uint64_t answer)
 
 /* Of a run: the bytes written to the report. */
 static inline size_t bukzarn_report_bytes(uint64_t answer)
+{
+    return (size_t)(answer & 0xFFFFu);
+}
+
+/* Of a call that writes an image: the bytes written; 0 of a refusal. */
+static inline size_t bukzarn_image_bytes(uint64_t answer)
 {
     return (size_t)(answer & 0xFFFFu);
 }

@@ -11,15 +11,17 @@
     watchtool.py report REPORT [LOG] [--words]            a listing of the bytes of a report and a log
     watchtool.py need FILE [WATCH ...] [--budget N] [--log BYTES]
                                                           what a run will need, beside its limits
+    watchtool.py fixed FILE [WATCH ...] [--name] [-o IMAGE]
+                                                          the one image of a program; --name: its name in the archive
 
-FILE is an image if its name ends with .img, else a text (docs/LANGUAGE.md). `need` asks the built program of that name
-in target/bin, or in the folder that BUKZARN_PROGRAMS names.
+FILE is an image if its name ends with .img, else a text (docs/LANGUAGE.md). `need` and `fixed` ask the built programs of
+these names in target/bin, or in the folder that BUKZARN_PROGRAMS names.
 """
 import argparse
 import sys
 from pathlib import Path
 
-from watchlang import needs, programs, refusals, report
+from watchlang import archive, needs, programs, refusals, report
 from watchlang.assembler import Assembled, assemble
 from watchlang.disassembler import disassemble, program
 from watchlang.gate import verdict
@@ -96,8 +98,14 @@ def need(args):
     write(needs.table(numbers, args.budget, args.log), args.out)
 
 
+def fixed(args):
+    """The fixed form, or the name that the archive has for it."""
+    form = ask("fixed", load(args.files))
+    write(archive.name(form) + "\n" if args.name else form, args.out)
+
+
 COMMANDS = {"asm": asm, "disasm": disasm, "picture": draw, "explain": explain, "report": show_report,
-            "need": need, "refusals": lambda args: write(refusals.table(), args.out)}
+            "need": need, "fixed": fixed, "refusals": lambda args: write(refusals.table(), args.out)}
 
 
 def main(words=None):
@@ -109,6 +117,7 @@ def main(words=None):
     parser.add_argument("--words", action="store_true", help="report: in sentences")
     parser.add_argument("--budget", type=int, default=needs.BUDGET, metavar="N", help="need: the budget of a call")
     parser.add_argument("--log", type=int, default=needs.LOG_LENGTH, metavar="BYTES", help="need: the length of its log")
+    parser.add_argument("--name", action="store_true", help="fixed: the archive's name in place of the image")
     args = parser.parse_intermixed_args(words)
     if not args.files and args.command != "refusals":
         parser.error("name a file")

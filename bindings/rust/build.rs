@@ -4,7 +4,7 @@ use std::env;
 use std::path::{Path, PathBuf};
 
 /// For each feature the library that it needs.
-const LIBRARIES: [(&str, &str); 2] = [("VALIDATOR", "validator"), ("NEEDS", "needs")];
+const LIBRARIES: [(&str, &str); 3] = [("VALIDATOR", "validator"), ("NEEDS", "needs"), ("FIXED", "write_fixed")];
 
 fn folder() -> PathBuf {
     match env::var_os("BUKZARN_LIBRARY") {

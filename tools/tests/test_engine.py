@@ -6,10 +6,11 @@ import common
 import make_examples
 import random_images
 from watchlang.assembler import assemble
-from watchlang.disassembler import program
+from watchlang.disassembler import program, tree
 from watchlang.gate import verdict
+from watchlang.layout import laid_out
 
-WATCH, NEED = common.ROOT / "target/bin/watch", common.ROOT / "target/bin/need"
+WATCH, NEED, FIXED = (common.ROOT / "target/bin" / name for name in ("watch", "need", "fixed"))
 
 
 def listing(image, program=WATCH):
@@ -39,6 +40,32 @@ class Need(unittest.TestCase):
         for name in make_examples.WITH_NEEDS:
             image = (common.ROOT / "examples" / f"{name}.img").read_bytes()
             self.assertEqual(listing(image, NEED), (common.ROOT / "examples" / f"{name}.need").read_text(), name)
+
+
+def said_by(image):
+    """An image's domains and its program, with types in full."""
+    tables = laid_out(image)
+    return tables.masks, repr(tree(tables))
+
+
+@unittest.skipUnless(FIXED.exists(), "target/bin/fixed is not built")
+class Fixed(unittest.TestCase):
+    def form(self, image):
+        return subprocess.run([FIXED], input=image, capture_output=True, check=True).stdout
+
+    def test_a_newer_writers_image_has_the_same_form(self):
+        image = (common.ROOT / "examples" / "newer.img").read_bytes()
+        self.assertEqual(self.form(image), self.form((common.ROOT / "examples" / "first.img").read_bytes()))
+
+    def test_random_images(self):
+        """The form says the same program, and writing it again changes nothing; a refused image has none."""
+        for n, image in enumerate(random_images.images(9, 200)):
+            form = self.form(image)
+            if verdict(image):
+                self.assertEqual(form, b"", n)
+            else:
+                self.assertEqual(said_by(form), said_by(image), n)
+                self.assertEqual(self.form(form), form, n)
 
 
 if __name__ == "__main__":

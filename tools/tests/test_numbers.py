@@ -85,6 +85,7 @@ class Numbers(unittest.TestCase):
     def test_refusals(self):
         causes = cases("image", "Refusals.antt", "refusalNumber", "Refusal")
         causes["OutsideClass"] = cases("image_needs", "Forecasts.antt", "forecastNumber", "Forecast")["OutsideClass"]
+        causes["ShortOutput"] = constants("write_fixed", "Calls.antt")["shortOutput"]
         self.assertEqual(rust("refusal.rs"), causes)
         self.assertEqual(sorted(refusals.REFUSALS), sorted(causes.values()))
         self.header_has(causes)

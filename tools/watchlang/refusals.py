@@ -52,6 +52,8 @@ REFUSALS = {
     19: ("the image is outside the class whose needs can be told without a run: no apply, no call, installs directly over "
          "an advice, and neither mark nor install in the body of an advice",
          "The image may run all the same: try it over frames. Its needs are told once no such term is left."),
+    20: ("the output that was lent for the fixed form is shorter than the image",
+         "Lend an output as long as the image: the fixed form is never longer. The image is not at fault."),
 }
 
 # For some kinds of terms, how to keep their type rule.
@@ -123,7 +125,7 @@ def mend_of(image, number, place):
 
 def describe(image, place, number, places, domains):
     """The record at a place: which one it is, and where it stands in the text."""
-    if number in (1, 9, 17, 18):
+    if number in (1, 9, 17, 18, 20):
         return []
     found = record_at(image, place) if place < len(image) else 2
     if not isinstance(found, Record):

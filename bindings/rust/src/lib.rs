@@ -22,10 +22,13 @@
 //!
 //! [`run`] keeps the lent memory in one value and cannot be called with too little of it. [`call`] takes slices of any
 //! length, and refuses short ones. `validate` (with the feature `validator`) answers the verdict alone, `need` (with the
-//! feature `needs`) what a run will need, worked out without a run.
+//! feature `needs`) what a run will need, worked out without a run, `fixed_form` (with the feature `fixed`) the one image
+//! of an image's program.
 #![deny(missing_docs, unsafe_code)]
 
 mod call;
+#[cfg(feature = "fixed")]
+mod fixed;
 mod lent;
 #[cfg(feature = "needs")]
 mod needs;
@@ -39,6 +42,8 @@ mod refusal;
 #[cfg(feature = "validator")]
 pub use call::validate;
 pub use call::{call, Written};
+#[cfg(feature = "fixed")]
+pub use fixed::{fixed_form, write_fixed};
 pub use lent::{run, Lent};
 #[cfg(feature = "needs")]
 pub use needs::{need, Needs};

@@ -23,6 +23,9 @@ extern "C" {
 
     #[cfg(feature = "needs")]
     fn forecast_numbers(image: *const u8, image_length: usize, numbers: *mut u32, count: usize) -> u64;
+
+    #[cfg(feature = "fixed")]
+    fn write_fixed_form(image: *const u8, image_length: usize, output: *mut u8, output_length: usize) -> u64;
 }
 
 /// One call, answered as one number.
@@ -65,4 +68,12 @@ pub fn needs(image: &[u8]) -> (u64, crate::Needs) {
     // Safe: each pointer and length is a slice that lives through the call; the numbers are lent to nobody else.
     let answer = unsafe { forecast_numbers(image.as_ptr(), image.len(), numbers.as_mut_ptr(), numbers.len()) };
     (answer, crate::Needs::from(numbers))
+}
+
+/// Writes the fixed form of an image: the bytes written, or the refusal.
+#[cfg(feature = "fixed")]
+pub fn write_fixed(image: &[u8], output: &mut [u8]) -> u64 {
+    // Safe: each pointer and length is a slice that lives through the call; the one that is written is lent to nobody
+    // else.
+    unsafe { write_fixed_form(image.as_ptr(), image.len(), output.as_mut_ptr(), output.len()) }
 }

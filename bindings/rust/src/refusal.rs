@@ -46,11 +46,13 @@ pub enum Cause {
     ShortReport = 18,
     /// The image is outside the class of images whose needs can be told without a run (document 02, card 10).
     OutsideClass = 19,
+    /// The output is shorter than the image whose fixed form is to be written (document 02, card 11).
+    ShortOutput = 20,
 }
 
 impl Cause {
     /// Every cause, in the order of the numbers.
-    pub const ALL: [Cause; 19] = [
+    pub const ALL: [Cause; 20] = [
         Cause::ImageTooLong,
         Cause::BrokenRecord,
         Cause::UnknownKind,
@@ -70,6 +72,7 @@ impl Cause {
         Cause::ShortWorkArea,
         Cause::ShortReport,
         Cause::OutsideClass,
+        Cause::ShortOutput,
     ];
 
     /// The cause of this number.

@@ -8,6 +8,7 @@ pub mod Written
 pub mod Steps
 pub mod Demands
 pub mod Trimmed
+pub mod Fixed
 pub mod LowMethods
 pub mod LowTakedowns
 pub mod Unpaid

@@ -10,3 +10,4 @@ pub mod Branches
 pub mod MainlineRoom
 pub mod NewestFirst
 pub mod Forecast
+pub mod Fixed

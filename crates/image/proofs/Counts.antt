@@ -1,12 +1,13 @@
 -- How many children a term of a kind has.
-use Prim.Native.Nat.{ℕ, zero, suc, _+_, _*_, _≤_}
+use Prim.Native.Nat.{ℕ, zero, suc, _+_, _-_, _*_, _/_, _≤_}
 use native.Mathlib.Omega.{arith}
 use native.Mathlib.Nat.{zero-mul, suc-mul, add-comm}
-use mathlib.Core.Path.{_≡_, sym, ap, _∙_}
+use mathlib.Core.Path.{_≡_, refl, sym, ap, _∙_}
 use mathlib.Core.List.{List, [], _∷_, _++_}
 use lib.ListN.{length, length-append}
+use lib.Arith.{digits-div}
 use Rattle.image.specs.Kinds.{Field, a-type, own, a-term, an-entry, Row, again, fieldsOf}
-use Rattle.image.specs.Records.{asChild, given}
+use Rattle.image.specs.Records.{goesInto, times, asChild, given}
 use Rattle.image.specs.TermFields.{giving}
 
 abbrev pub leastChildren : Row → ℕ
@@ -83,3 +84,15 @@ pub fields-length : (r : Row) (c : ℕ) → length (fieldsOf r c) ≡ length (r 
 fields-length r c =
     length-append (r .first) (again c (r .group) ++ r .last)
     ∙ ap (λ n. length (r .first) + n) (length-append (again c (r .group)) (r .last) ∙ ap (λ n. n + length (r .last)) (again-length c (r .group)))
+
+-- A record of just these fields has its group so often.
+pub times-fields : (r : Row) (c : ℕ) → (length (r .group) ≡ 0 → c ≡ 0) → times r (4 + 2 * length (fieldsOf r c)) ≡ c
+times-fields r c none = go (length (r .group)) refl
+  where
+    go : (g : ℕ) → length (r .group) ≡ g → times r (4 + 2 * length (fieldsOf r c)) ≡ c
+    go zero q = ap (λ h. goesInto h ((4 + 2 * length (fieldsOf r c) - 4) / 2 - (length (r .first) + length (r .last)))) q ∙ sym (none q)
+    go (suc g) q =
+        let l = fields-length r c in
+        let m : c * length (r .group) ≡ c * suc g = ap (λ h. c * h) q in
+        let n : (4 + 2 * length (fieldsOf r c) - 4) / 2 - (length (r .first) + length (r .last)) ≡ c * suc g + 0 = omega arith in
+        ap (λ h. goesInto h ((4 + 2 * length (fieldsOf r c) - 4) / 2 - (length (r .first) + length (r .last)))) q ∙ ap (λ h. h / suc g) n ∙ digits-div c {m = suc g} {r = 0} (omega arith)

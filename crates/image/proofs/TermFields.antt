@@ -154,46 +154,54 @@ others-count (f ∷ fs) (w ∷ ws) l =
     same an-entry zero = refl
     same an-entry (suc w) = refl
 
-module _ (k : TermKind) (b : List ℕ) (o : ℕ) where
+-- A record of kind k in which the group stands c times, and the numbers ws of its fields.
+module _ (k : TermKind) (c : ℕ) (ws : List ℕ) (count : length ws ≡ length (fieldsOf (termRow k) c)) (none : length (termRow k .group) ≡ 0 → c ≡ 0) where
   abbrev r : Row
   r = termRow k
 
-  abbrev c : ℕ
-  c = times r (lengthAt b o)
+  abbrev fs : List Field
+  fs = fieldsOf r c
 
-  no-group : length (r .group) ≡ 0 → c ≡ 0
-  no-group h = rw h refl
-
-  -- The others and so many children of a record of kind k tell how often its group stands.
-  pub times-for : (es : List ℕ) → length es ≡ length (childrenAt b o r) → timesFor r (othersAt b o r) es ≡ c
+  -- Its others and so many children tell how often its group stands.
+  pub times-for : (es : List ℕ) → length es ≡ length (given asChild fs ws) → timesFor r (given asOther fs ws) es ≡ c
   unfolding everyOf all
   times-for es h =
-      let n = words-length b (o + 4) (length (fieldsAt b o r)) in
-      let v = others-count (fieldsAt b o r) (numbersAt b o r) n in
-      let g = fields-give (fieldsAt b o r) (numbersAt b o r) n in
+      let v = others-count fs ws count in
+      let g = fields-give fs ws count in
       let g0 = g .0 in
       let g1 = g .1 in
       let a = giving-row asOther 0 r c in
       let d = giving-row asChild 0 r c in
       let e = giving-row asChild 1 r c in
-      standing-told (r .group) c (giving asOther 0 (r .first ++ r .last)) (giving asChild 1 (r .first ++ r .last)) (giving asChild 0 (r .first ++ r .last)) (length (othersAt b o r)) (length es)
-      (at-term (λ k. toldRow (termRow k)) refl k) no-group (omega arith) (omega arith) (omega arith)
+      standing-told (r .group) c (giving asOther 0 (r .first ++ r .last)) (giving asChild 1 (r .first ++ r .last)) (giving asChild 0 (r .first ++ r .last)) (length (given asOther fs ws)) (length es)
+      (at-term (λ k. toldRow (termRow k)) refl k) none (omega arith) (omega arith) (omega arith)
 
-  -- What is read of a term's record fills it.
-  pub read-filled : termFields k (getD (numbersAt b o r) 0 0) (othersAt b o r) (childrenAt b o r) ≡ numbersAt b o r
+  -- What is read of it fills it.
+  pub read-filled : termFields k (getD ws 0 0) (given asOther fs ws) (given asChild fs ws) ≡ ws
   unfolding termFields everyOf
   read-filled =
-      let n = words-length b (o + 4) (length (fieldsAt b o r)) in
       let group = at-term (λ k. typeless (termRow k .group)) refl k in
       let last = at-term (λ k. typeless (termRow k .last)) refl k in
       let lead = at-term (λ k. led (termRow k .first)) refl k in
-      ap (λ c. filled (fieldsOf r c) (getD (numbersAt b o r) 0 0) (othersAt b o r) (childrenAt b o r)) (times-for (childrenAt b o r) refl)
-      ∙ refilled-led (r .first) (again c (r .group) ++ r .last) (numbersAt b o r) lead (typeless-append (again c (r .group)) (r .last) (typeless-again c (r .group) group) last) n
+      ap (λ c. filled (fieldsOf r c) (getD ws 0 0) (given asOther fs ws) (given asChild fs ws)) (times-for (given asChild fs ws) refl)
+      ∙ refilled-led (r .first) (again c (r .group) ++ r .last) ws lead (typeless-append (again c (r .group)) (r .last) (typeless-again c (r .group) group) last) count
 
   -- With another type and other children, as many, it has as many fields, and the same others and those children are read of it.
-  pub filled-read : (t : ℕ) (es : List ℕ) → length es ≡ length (childrenAt b o r) → Back (fieldsAt b o r) t (othersAt b o r) es
-  filled-read t es h = back (fieldsAt b o r) t (numbersAt b o r) es (words-length b (o + 4) (length (fieldsAt b o r))) h
+  pub filled-read : (t : ℕ) (es : List ℕ) → length es ≡ length (given asChild fs ws) → Back fs t (given asOther fs ws) es
+  filled-read t es h = back fs t ws es count h
 
-  pub filled-times : (t : ℕ) (es : List ℕ) → length es ≡ length (childrenAt b o r) → termFields k t (othersAt b o r) es ≡ filled (fieldsAt b o r) t (othersAt b o r) es
+  pub filled-times : (t : ℕ) (es : List ℕ) → length es ≡ length (given asChild fs ws) → termFields k t (given asOther fs ws) es ≡ filled fs t (given asOther fs ws) es
   unfolding termFields
-  filled-times t es h = ap (λ c. filled (fieldsOf r c) t (othersAt b o r) es) (times-for es h)
+  filled-times t es h = ap (λ c. filled (fieldsOf r c) t (given asOther fs ws) es) (times-for es h)
+
+  -- Its first field is its type.
+  pub filled-first : (t : ℕ) (es : List ℕ) → getD (filled fs t (given asOther fs ws) es) 0 0 ≡ t
+  unfolding filled everyOf
+  filled-first t es = first (r .first) (at-term (λ k. led (termRow k .first)) refl k)
+    where
+      first : (gs : List Field) → led gs ≡ true → getD (filled (gs ++ (again c (r .group) ++ r .last)) t (given asOther fs ws) es) 0 0 ≡ t
+      first [] h = no-path (sym h)
+      first (a-type ∷ gs) h = refl
+      first (own x ∷ gs) h = no-path (sym h)
+      first (a-term x ∷ gs) h = no-path (sym h)
+      first (an-entry ∷ gs) h = no-path (sym h)

@@ -12,26 +12,12 @@ use Rattle.image.specs.Bytes.{lengthAt}
 use Rattle.image.specs.Kinds.{Field, a-type, free, TypeKind, type, typeRow, again, fieldsOf}
 use Rattle.image.specs.Records.{Layout, times, fieldsAt, numbersAt}
 use Rattle.image.specs.Layout.{sameType}
-use Rattle.image.specs.Types.{typeKindOf, typePlace, typeNumber, typeKind, typeFields, typeField, isType, methodsOut, typeOut, typeFrom, typeOf}
+use Rattle.image.specs.Types.{typeKindOf, headOf, typePlace, typeNumber, typeKind, typeFields, typeField, isType, methodsOut, typeOut, typeFrom, typeOf}
 use Rattle.laws.proofs.Booleans.{no-path, lt-of, ge-of, eq-of, of-eq}
 use Rattle.laws.proofs.Tests.{of-each}
 use Rattle.image.proofs.KindNumbers.{same-kind}
 use Rattle.image.proofs.Words.{words-length}
 use Rattle.image.proofs.Laid.{same-numbers, Good, kind-number}
-
--- The kind that a type is of.
-abbrev pub headOf : Ty → TypeKind
-headOf Ty.unit = TypeKind.unit
-headOf Ty.truth = TypeKind.truth
-headOf Ty.number = TypeKind.number
-headOf (Ty.pair a b) = TypeKind.pair
-headOf (Ty.fun a p b) = TypeKind.fun
-headOf (Ty.ref a p) = TypeKind.ref
-headOf (Ty.label a p) = TypeKind.label
-headOf (Ty.pcd a p) = TypeKind.pcd
-headOf (Ty.adv p) = TypeKind.adv
-headOf (Ty.obj ms) = TypeKind.obj
-headOf Ty.stack = TypeKind.stack
 
 head-out : (k : TypeKind) (vs : List ℕ) (g : ℕ → Ty) → headOf (typeOut k vs g) ≡ k
 unfolding typeOut

@@ -68,6 +68,20 @@ module _ (L : Layout) where
   abbrev pub rootOf : ℕ
   rootOf = length (L .terms) - 1
 
+-- The kind that a type is of.
+abbrev pub headOf : Ty → TypeKind
+headOf Ty.unit = TypeKind.unit
+headOf Ty.truth = TypeKind.truth
+headOf Ty.number = TypeKind.number
+headOf (Ty.pair a b) = TypeKind.pair
+headOf (Ty.fun a p b) = TypeKind.fun
+headOf (Ty.ref a p) = TypeKind.ref
+headOf (Ty.label a p) = TypeKind.label
+headOf (Ty.pcd a p) = TypeKind.pcd
+headOf (Ty.adv p) = TypeKind.adv
+headOf (Ty.obj ms) = TypeKind.obj
+headOf Ty.stack = TypeKind.stack
+
 -- Card 3: methods, each a domain and a type.
 abbrev pub methodsOut : List ℕ → (ℕ → Ty) → Sigs
 methodsOut [] g = noMethod

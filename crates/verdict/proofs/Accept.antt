@@ -97,13 +97,17 @@ unfolding tree
 tree-stated L zero n h = absurd (omega arith)
 tree-stated L (suc f) n h = refl
 
+-- The type that a program states is its root's.
+pub root-stated : (L : Layout) → 0 < length (L .terms) → stated (program L) ≡ rootType L
+unfolding program
+root-stated L h = tree-stated L (length (L .terms)) (rootOf L) h
+
 -- An accepted image's program is a well-typed term of the calculus, at domain 0, in the empty context, and its type is plain.
 pub accepted-typed : (b : List ℕ) (work report : ℕ) → verdict b work report ≡ Verdict.Accepted → TmTy (policy (recordsOf b)) noStore [] 0 (toTm (program (recordsOf b))) (rootType (recordsOf b))
-unfolding program
 accepted-typed b work report h =
     let a = passed-iff b work report .0 h in
     let L : Layout = recordsOf b in
-    subst (λ t. TmTy (policy L) noStore [] 0 (toTm (program L)) t) (tree-stated L (length (L .terms)) (rootOf L) (a .shaped .has-terms)) (well-term (policy L) mainline (program L) (a .well-typed))
+    subst (λ t. TmTy (policy L) noStore [] 0 (toTm (program L)) t) (root-stated L (a .shaped .has-terms)) (well-term (policy L) mainline (program L) (a .well-typed))
 
 pub accepted-plain : (b : List ℕ) (work report : ℕ) → verdict b work report ≡ Verdict.Accepted → isPlain (rootType (recordsOf b)) ≡ true
 accepted-plain b work report h = passed-iff b work report .0 h .plain

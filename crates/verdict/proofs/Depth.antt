@@ -15,7 +15,7 @@ use Rattle.laws.proofs.Booleans.{no-path, lt-of, ge-of, eq-of, of-eq}
 use Rattle.image.proofs.Laid.{Below, Good}
 use Rattle.verdict.specs.Shape.{count, setAll, uses, usedOnce, depthsFrom, depths}
 
-below-count : (n e : ℕ) (es : List ℕ) → Below n es → n ≤ e → count e es ≡ 0
+pub below-count : (n e : ℕ) (es : List ℕ) → Below n es → n ≤ e → count e es ≡ 0
 unfolding count
 below-count n e [] b h = refl
 below-count n e (x ∷ es) b h = go (below-count n e es (b .1) h) (eqb e x) refl

@@ -12,13 +12,13 @@ use Rattle.calculus.specs.Typing.{noStore, PatternTy, Has, BodiesTy, LabelTys, 
 use Rattle.laws.specs.Tests.{all}
 use Rattle.image.specs.Kinds.{TypeKind, TermKind, termRow}
 use Rattle.image.specs.Records.{Layout}
-use Rattle.image.specs.Types.{typeFields, typeField, methodCount, isType, methodsOut, typeOut, typeOf}
+use Rattle.image.specs.Types.{headOf, typeFields, typeField, methodCount, isType, methodsOut, typeOut, typeOf}
 use Rattle.image.specs.Program.{patternOf, assemble}
 use Rattle.laws.proofs.Booleans.{no-path, and-i, of-lt, of-eq}
 use Rattle.laws.proofs.Tests.{of-each}
 use Rattle.image.proofs.Laid.{Below, Good, below-at}
 use Rattle.image.proofs.Counts.{leastChildren, mostChildren}
-use Rattle.image.proofs.TypeNumbers.{headOf, out-as, is-head, types-apart}
+use Rattle.image.proofs.TypeNumbers.{out-as, is-head, types-apart}
 use Rattle.verdict.specs.Domains.{leq, policy}
 use Rattle.verdict.specs.Rules.{is, opGives, Rule}
 use Rattle.verdict.specs.Check.{describe, described, ruleBy}

@@ -6,7 +6,7 @@ pub struct Counts {
     pub images: usize,
     pub accepted: usize,
     pub calls: usize,
-    refusals: [usize; 20],
+    refusals: [usize; 21],
     outcomes: [usize; 13],
     /// Images whose needs are told without a run.
     told: usize,
@@ -34,9 +34,16 @@ impl Counts {
         self.refusals[19] += usize::from(matches!(answer, Err(Refused(19, _))));
     }
 
+    /// Counts the refusals that are of a writing alone.
+    pub fn writing(&mut self, answer: &Result<Vec<u8>, Refused>) {
+        if let Err(Refused(number @ 20.., _)) = answer {
+            self.refusals[usize::from(*number)] += 1;
+        }
+    }
+
     pub fn print(&self) {
         println!("images {}, accepted {}, calls {}", self.images, self.accepted, self.calls);
-        println!("refusals 1 to 19: {:?}", &self.refusals[1..]);
+        println!("refusals 1 to 20: {:?}", &self.refusals[1..]);
         println!("outcomes 0 to 12: {:?}", self.outcomes);
         println!("needs told: {}", self.told);
     }

@@ -1,6 +1,6 @@
 //! The library against an independent implementation of documents 01 to 003: answers, log, report and work area of
 //! calls on random images (well-typed, looped, damaged) and on images made for each refusal and each outcome; what is
-//! said of an image without a run (document 02, card 10), and its claims on these runs.
+//! said of an image without a run (document 02, card 10), its fixed form (card 11), and these cards' claims.
 //!
 //! IMAGES is how many random images are tried, SEED where they begin:
 //!     IMAGES=100000 SEED=7 cargo test --test differential
@@ -21,6 +21,7 @@ mod stack_images;
 mod stacks;
 mod takedowns;
 mod watched;
+mod written;
 
 use compare::{compare, Given};
 use counts::Counts;
@@ -108,6 +109,19 @@ fn about(random: &mut Random, length: usize) -> usize {
     }
 }
 
+/// The fixed form of an image; now and then it is called as the image was, and leaves the same.
+fn written_image(random: &mut Random, counts: &mut Counts, given: &Given, answer: &Result<Ran, Refused>) {
+    let fixed = written::fixed(random, given.image);
+    counts.writing(&fixed);
+    let (Ok(form), Ok(ran)) = (fixed, answer) else { return };
+    written::try_fixed(random, given.image, &form);
+    if random.chance(20) {
+        let again = call(random, counts, &Given { image: &form, ..given.clone() }).ok();
+        let left = again.as_ref().map(|ran| (&ran.log, &ran.report));
+        assert!(left == Some((&ran.log, &ran.report)), "the fixed form runs in another way");
+    }
+}
+
 /// One random image: a call with ample memory, then calls with budgets and lengths about those that the first one used.
 fn random_image(random: &mut Random, counts: &mut Counts) {
     let image = images::image(random);
@@ -124,6 +138,7 @@ fn random_image(random: &mut Random, counts: &mut Counts) {
         }
     };
     try_claims(&first, &answer);
+    written_image(random, counts, &first, &answer);
     let (steps, log) = match &answer {
         Ok(ran) => (steps_of(ran), ran.log.len()),
         Err(_) => (0, 0),

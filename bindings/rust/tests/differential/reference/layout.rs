@@ -18,7 +18,8 @@ pub struct Records {
 }
 
 /// What a field must be.
-enum Field {
+#[derive(Clone, Copy, Debug, PartialEq, Eq)]
+pub enum Field {
     /// A type below the record's own, of a type record.
     Part,
     /// A type, of a term record.
@@ -85,6 +86,13 @@ fn fields(kind: u16, length: usize) -> Vec<Field> {
         52 => vec![Type, Domain, Child],
         59 => vec![Type, Domain],
         _ => unreachable!("section() knows the kinds"),
+    }
+}
+
+impl Record {
+    /// Its known fields, each with what it is.
+    pub fn known(&self) -> impl Iterator<Item = (Field, u16)> + '_ {
+        fields(self.kind, 4 + 2 * self.fields.len()).into_iter().zip(self.fields.iter().copied())
     }
 }
 

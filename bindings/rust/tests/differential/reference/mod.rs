@@ -1,4 +1,4 @@
-//! What a call answers and leaves, written from documents 01, 02 (cards 1 to 3 and 5 to 10) and 003 alone and as literally
+//! What a call answers and leaves, written from documents 01, 02 (cards 1 to 3 and 5 to 11) and 003 alone and as literally
 //! as possible: the check rule by rule, the run by substitution. It shares no text with the engine.
 mod decode;
 mod layout;
@@ -10,6 +10,7 @@ mod stacks;
 mod step;
 mod term;
 mod typing;
+mod written;
 
 /// The published length of the work area, and the least length of a report.
 pub const WORK: usize = 35_857;
@@ -56,4 +57,18 @@ pub fn need(image: &[u8]) -> Result<needs::Numbers, Refused> {
 /// Is this an accepted image without choice, mark and takedown?
 pub fn straight(image: &[u8]) -> bool {
     check(image).is_ok_and(|records| needs::straight(&records))
+}
+
+/// The fixed form of an image, with an output of so many bytes (document 02, card 11).
+pub fn fixed(image: &[u8], output: usize) -> Result<Vec<u8>, Refused> {
+    let records = check(image)?;
+    if output < image.len() {
+        return Err(Refused(20, 0));
+    }
+    Ok(written::fixed(&records))
+}
+
+/// Another image of an accepted image's program.
+pub fn reordered(image: &[u8]) -> Option<Vec<u8>> {
+    check(image).ok().map(|records| written::reordered(&records))
 }

@@ -1,0 +1,2 @@
+-- The fields that a code tells are the kind's.
+pub mod Told

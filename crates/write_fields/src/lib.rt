@@ -1,0 +1,116 @@
+// An inner crate: what the known fields of a record are, one by one, for a walk that writes the image anew (document 02,
+// card 11). The code of the record's kind says it; so a kind that the table has needs nothing here.
+use check_records::kinds::CLASS_ENTRY;
+use check_records::kinds::CLASS_TERM;
+use check_records::kinds::field_classes;
+use check_records::kinds::first_count;
+use check_records::kinds::group_count;
+use check_records::kinds::group_times;
+use check_records::kinds::known_code;
+use check_records::kinds::last_count;
+use check_records::numbers::TermNo;
+use check_records::words::kind_at;
+use check_records::words::word;
+ghost use mathlib.Core.Path.{_≡_};
+ghost use mathlib.Core.Bool.{true};
+ghost use Prim.Native.Nat.{_+_, _≤_, _<_};
+ghost use Rattle.image.specs.Bytes.{numberAt};
+ghost use Rattle.check_records.specs.Codes.{kindCodes, codeAt, firstOf, lastOf, Sized};
+ghost use Rattle.write_fields.specs.Classes.{Known, knownCount, slotIn, digitAt, classIn, isChild, childNo, asField};
+
+// The code of a record's kind, and how many known fields it has.
+pub struct Fields {
+    pub code: u32,
+    pub count: usize,
+}
+
+pub fn known_fields(image: &[u8], codes: &[u32], at: usize) -> Fields
+    requires { ⌜ (now codes ≡ kindCodes) × Known (now image) at ⌝ }
+    ensures { λ r. ⌜ (r .code ≡ codeAt (numberAt (now (image .entry)) at)) × (r .count ≡ knownCount (now (image .entry)) at) ⌝ }
+{
+    let code = known_code(codes, kind_at(image, at));
+    let bytes = (word(image, at) as usize) - 4;
+    let groups = group_times(code, bytes) * group_count(code);
+    Fields {
+        code: code,
+        count: first_count(code) + (groups + last_count(code)),
+    }
+}
+
+// Which of the code's classes field i has: the first fields' stand first, then the group's, which are at most two, then the
+// last ones'.
+fn slot_of(fields: Fields, i: usize) -> usize
+    requires { ⌜ Sized (fields .code) × (firstOf (fields .code) + lastOf (fields .code) ≤ fields .count) × (i < fields .count) ⌝ }
+    ensures { λ r. ⌜ r ≡ slotIn (fields .code) (fields .count) i ⌝ }
+{
+    let first = first_count(fields.code);
+    if i < first {
+        return i;
+    }
+    let past = fields.count - last_count(fields.code);
+    if past <= i {
+        return first + group_count(fields.code) + (i - past);
+    }
+    if group_count(fields.code) < 2 {
+        return first;
+    }
+    first + (i - first) % 2
+}
+
+// The class at a place among classes of three bits each, of which there are at most six.
+fn class_at(classes: u32, slot: usize) -> u32
+    requires { ⌜ slot < 6 ⌝ }
+    ensures { λ r. ⌜ r ≡ digitAt slot classes ⌝ }
+{
+    match slot {
+        0 => classes % 8,
+        1 => classes / 8 % 8,
+        2 => classes / 64 % 8,
+        3 => classes / 512 % 8,
+        4 => classes / 4096 % 8,
+        _ => classes / 32768 % 8,
+    }
+}
+
+// The class of field i.
+pub fn class_of(fields: Fields, i: usize) -> u32
+    requires { ⌜ Sized (fields .code) × (firstOf (fields .code) + lastOf (fields .code) ≤ fields .count) × (i < fields .count) × (slotIn (fields .code) (fields .count) i < 6) ⌝ }
+    ensures { λ r. ⌜ r ≡ classIn (fields .code) (fields .count) i ⌝ }
+{
+    class_at(field_classes(fields.code), slot_of(fields, i))
+}
+
+// A field of a class, of number v, names a child: a term's number, or an entry that is not 0.
+pub fn is_child(class: u32, v: u16) -> bool
+    ensures { λ r. ⌜ r ≡ isChild class v ⌝ }
+{
+    if class == CLASS_TERM {
+        return true;
+    }
+    if class == CLASS_ENTRY {
+        return 0 < v;
+    }
+    false
+}
+
+// The child that it names.
+pub fn child_no(class: u32, v: u16) -> TermNo
+    requires { ⌜ isChild class v ≡ true ⌝ }
+    ensures { λ r. ⌜ r .0 ≡ childNo class v ⌝ }
+{
+    if class == CLASS_ENTRY {
+        return TermNo(v - 1);
+    }
+    TermNo(v)
+}
+
+// The number of a field that names child n.
+pub fn as_field(class: u32, n: u16) -> u16
+    requires { ⌜ n < 65535 ⌝ }
+    ensures { λ r. ⌜ r ≡ asField class n ⌝ }
+{
+    if class == CLASS_ENTRY {
+        return n + 1;
+    }
+    n
+}

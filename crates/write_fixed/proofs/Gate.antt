@@ -1,0 +1,50 @@
+-- A call that writes the fixed form, from its verdict.
+use Prim.Native.Nat.{ℕ, _≤_, _<_}
+use native.Mathlib.Omega.{arith}
+use mathlib.Core.Path.{_≡_, refl, sym, ap, _∙_}
+use mathlib.Core.List.{List}
+use lib.ListN.{length}
+use borrow.Author.Tests.{lt-ltb, le-ltb}
+use Rattle.image.specs.declared.Refusal.{Refusal}
+use Rattle.image.specs.Limits.{imageLimit, workLength, reportLength}
+use Rattle.verdict.specs.declared.Verdict.{Verdict}
+use Rattle.verdict.specs.Verdicts.{verdict}
+use Rattle.validator.specs.Examined.{examined}
+use Rattle.validator.proofs.Parts.{too-long, examined-refuses, all-enough}
+use Rattle.base_bytes.specs.Bytes.{over}
+use Rattle.image_written.specs.Written.{fixed}
+use Rattle.write_fixed.specs.declared.Written.{Written}
+use Rattle.write_fixed.specs.Calls.{afterCheck, fixedCall}
+
+-- The image is accepted where work area and report are long enough.
+pub accepted : (b : List ℕ) → length b ≤ imageLimit → examined b ≡ Verdict.Accepted → verdict b workLength reportLength ≡ Verdict.Accepted
+accepted b short ok = sym (all-enough b workLength reportLength short Verdict.Accepted (sym ok) refl (omega arith) (omega arith))
+
+module _ (b out : List ℕ) where
+  refused : (r : Refusal) (place : ℕ) → Verdict.Refused r place ≡ verdict b workLength reportLength → record { answer = Written.Refused r place; out = out } ≡ fixedCall b out
+  unfolding fixedCall
+  refused r place e = ap (λ v. afterCheck v b out) e
+
+  pub too-long-left : imageLimit < length b → record { answer = Written.Refused Refusal.ImageTooLong 0; out = out } ≡ fixedCall b out
+  too-long-left h = refused Refusal.ImageTooLong 0 (too-long b workLength reportLength h)
+
+  module _ (short : length b ≤ imageLimit) where
+    pub examined-left : (r : Refusal) (place : ℕ) → Verdict.Refused r place ≡ examined b → record { answer = Written.Refused r place; out = out } ≡ fixedCall b out
+    examined-left r place e = refused r place (examined-refuses b workLength reportLength short (Verdict.Refused r place) e refl)
+
+    module _ (ok : examined b ≡ Verdict.Accepted) where
+      checked : afterCheck Verdict.Accepted b out ≡ fixedCall b out
+      unfolding fixedCall
+      checked = ap (λ v. afterCheck v b out) (sym (accepted b short ok))
+
+      pub short-left : length out < length b → record { answer = Written.ShortOutput; out = out } ≡ fixedCall b out
+      short-left h = rest ∙ checked
+        where
+          rest : record { answer = Written.ShortOutput; out = out } ≡ afterCheck Verdict.Accepted b out
+          rest = simp (lt-ltb _ _ h)
+
+      pub written-left : (n : ℕ) (out′ : List ℕ) → length b ≤ length out → n ≡ length (fixed b) → out′ ≡ over 0 (fixed b) out → record { answer = Written.Bytes n; out = out′ } ≡ fixedCall b out
+      written-left n out′ h e f = (λ i. record { answer = Written.Bytes (e i); out = f i }) ∙ rest ∙ checked
+        where
+          rest : record { answer = Written.Bytes (length (fixed b)); out = over 0 (fixed b) out } ≡ afterCheck Verdict.Accepted b out
+          rest = simp (le-ltb _ _ h)

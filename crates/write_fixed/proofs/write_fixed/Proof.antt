@@ -1,0 +1,91 @@
+-- `write_fixed::write_fixed` meets its contract.
+use borrow.Author.Needs.{needs}
+use mathlib.Core.Path.{sym, ap, _∙_}
+use denote.Ref.{now}
+use Rattle.validator.specs.Examined.{verdictOf}
+use Rattle.write_fixed.proofs.Gate.{too-long-left, examined-left}
+use Rattle.write_fixed.proofs.write_fixed.Statement.{statement}
+use Rattle.write_fixed.proofs.write_fixed.Tie as tie
+
+returns : tie.Need-returns
+returns c = let s = c .before .before .before in too-long-left (now (s .args .image)) (now (s .args .out)) (c .if1 .taken)
+
+kind-codes-requires : tie.Need-kind-codes-requires
+kind-codes-requires c κs = search needs
+
+slice-aggregate-examine-image : tie.Need-slice-aggregate-examine-image
+slice-aggregate-examine-image c = search needs
+
+slice-aggregate-examine-image-2 : tie.Need-slice-aggregate-examine-image-2
+slice-aggregate-examine-image-2 c = search needs
+
+slice-aggregate-examine-image-3 : tie.Need-slice-aggregate-examine-image-3
+slice-aggregate-examine-image-3 c = search needs
+
+slice-aggregate-examine-image-4 : tie.Need-slice-aggregate-examine-image-4
+slice-aggregate-examine-image-4 c = search needs
+
+slice-aggregate-examine-image-5 : tie.Need-slice-aggregate-examine-image-5
+slice-aggregate-examine-image-5 c = search needs
+
+examine-image-requires : tie.Need-examine-image-requires
+examine-image-requires c κs = search needs
+
+enum-known-checked : tie.Need-enum-known-checked
+enum-known-checked c = search needs
+
+enum-known-checked-2 : tie.Need-enum-known-checked-2
+enum-known-checked-2 c = search needs
+
+slice-aggregate-write-checked : tie.Need-slice-aggregate-write-checked
+slice-aggregate-write-checked c = search needs
+
+slice-aggregate-write-checked-2 : tie.Need-slice-aggregate-write-checked-2
+slice-aggregate-write-checked-2 c = search needs
+
+slice-aggregate-write-checked-3 : tie.Need-slice-aggregate-write-checked-3
+slice-aggregate-write-checked-3 c = search needs
+
+slice-aggregate-write-checked-4 : tie.Need-slice-aggregate-write-checked-4
+slice-aggregate-write-checked-4 c = search needs
+
+write-checked-requires : tie.Need-write-checked-requires
+write-checked-requires c κs =
+    let t = c .before .before .before .before .before .before .checked2 .given .1 in
+    let e = c .before .before .before .before .before .before .before .before .before .before .before .before .examine-image .ensures in
+    let f = e .filled _ t in
+    (c .before .before .before .before .before .before .before .before .before .before .before .before .before .before .before .before .before .before .before .if1 .left, sym (e .answer) ∙ ap verdictOf t, c .before .before .before .before .before .before .before .before .before .before .before .before .before .before .before .before .before .before .kind-codes .ensures, (_, f .tables), f .counts, record { laid-out = f .tables .laid-out; offsets = rw (← f .counts .types) (f .types) })
+
+returns-2 : tie.Need-returns-2
+returns-2 c =
+    let s = c .before .before .before .before .before .before .before .before .before .before .before .before .before .before .before .before .before in
+    examined-left (now (s .args .image)) (now (s .args .out)) (c .before .before .before .before .before .before .before .before .before .before .before .before .before .before .if1 .left) _ _ (ap verdictOf (sym (c .before .checked .given .1)) ∙ c .before .before .before .before .before .before .before .examine-image .ensures .answer)
+
+same-length : tie.Need-same-length
+same-length c = search needs
+
+returns-3 : tie.Need-returns-3
+returns-3 c = search needs
+
+pub write-fixed-spec : {M : Type 1} → statement M
+write-fixed-spec =
+    tie.close
+    (tie.spec
+    returns
+    kind-codes-requires
+    slice-aggregate-examine-image
+    slice-aggregate-examine-image-2
+    slice-aggregate-examine-image-3
+    slice-aggregate-examine-image-4
+    slice-aggregate-examine-image-5
+    examine-image-requires
+    enum-known-checked
+    enum-known-checked-2
+    slice-aggregate-write-checked
+    slice-aggregate-write-checked-2
+    slice-aggregate-write-checked-3
+    slice-aggregate-write-checked-4
+    write-checked-requires
+    returns-2
+    same-length
+    returns-3)

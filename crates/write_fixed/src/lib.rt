@@ -1,0 +1,118 @@
+// The fixed form of an image (document 02, card 11): equal programs over equal domains have equal bytes. The image is checked
+// first; an image that is refused is not written, nor is one where the output is shorter than it.
+mod accepted;
+
+use check_records::numbers::Counts;
+use image::IMAGE_LIMIT;
+use image::Refusal;
+use validator::examine::Checked;
+ghost use mathlib.Core.Path.{_≡_};
+ghost use mathlib.Core.List.{List};
+ghost use Prim.Native.Nat.{ℕ, _≤_};
+ghost use lib.ListN.{length};
+ghost use Rattle.image.specs.Limits.{imageLimit};
+ghost use Rattle.verdict.specs.declared.Verdict.{Verdict};
+ghost use Rattle.check_records.specs.Codes.{kindCodes};
+ghost use Rattle.check_records.specs.Tables.{Tables, Counted};
+ghost use Rattle.check_rules.specs.Lent.{TypeOffsets};
+ghost use Rattle.validator.specs.Examined.{examined};
+ghost use Rattle.write_fixed.specs.Calls.{writtenNumber, writtenPlace, fixedCall, writtenAsNumber};
+
+// So many bytes were written; or why none was.
+pub enum Written {
+    Bytes(usize),
+    Refused(Refusal, usize),
+    ShortOutput,
+}
+
+// The number of an output that is shorter than the image (document 02, card 11).
+const SHORT_OUTPUT: u16 = 20;
+
+// The length of the output, then the fixed form, of an image that is accepted.
+fn write_checked(
+    image: &[u8],
+    codes: &[u32],
+    counts: Counts,
+    doms: &[u16],
+    types: &[u16],
+    terms: &[u16],
+    out: &mut [u8],
+) -> Written
+    requires { ⌜ (length (now image) ≤ imageLimit) × (examined (now image) ≡ Verdict.Accepted) × (now codes ≡ kindCodes) × ((ks : List ℕ) × Tables (now image) (now doms) (now terms) ks) × Counted (now image) counts × TypeOffsets (now image) (now types) ⌝ }
+    ensures { λ r. ⌜ record { answer = r; out = now (out .exit) } ≡ fixedCall (now (image .entry)) (now (out .entry)) ⌝ }
+{
+    if out.len() < image.len() {
+        return Written::ShortOutput;
+    }
+    let n = accepted::write_accepted(image, codes, counts, doms, types, terms, out);
+    Written::Bytes(n)
+}
+
+// One call: the image is only read, the output may have any length and content.
+pub fn write_fixed(image: &[u8], out: &mut [u8]) -> Written
+    ensures { λ r. ⌜ record { answer = r; out = now (out .exit) } ≡ fixedCall (now (image .entry)) (now (out .entry)) ⌝ }
+{
+    if IMAGE_LIMIT < image.len() {
+        return Written::Refused(Refusal::ImageTooLong, 0);
+    }
+    let codes = check_records::kinds::kind_codes();
+    let mut doms = [0u16; 16];
+    let mut types = [0u16; 128];
+    let mut descriptors = [0u32; 128];
+    let mut terms = [0u16; 1024];
+    let checked = validator::examine::examine_image(
+        image,
+        &codes,
+        &mut doms,
+        &mut types,
+        &mut descriptors,
+        &mut terms,
+    );
+    match checked {
+        Checked::Refused(why, place) => Written::Refused(why, place),
+        Checked::Accepted(counts) => {
+            write_checked(image, &codes, counts, &doms, &types, &terms, out)
+        }
+    }
+}
+
+// The number of an answer, 0 where the fixed form was written, and its place.
+pub fn written_number(w: Written) -> u16
+    ensures { λ r. ⌜ r ≡ writtenNumber w ⌝ }
+{
+    match w {
+        Written::Bytes(_) => 0,
+        Written::Refused(why, _) => image::refusal_number(why),
+        Written::ShortOutput => SHORT_OUTPUT,
+    }
+}
+
+pub fn written_place(w: Written) -> usize
+    ensures { λ r. ⌜ r ≡ writtenPlace w ⌝ }
+{
+    match w {
+        Written::Bytes(_) => 0,
+        Written::Refused(_, place) => place,
+        Written::ShortOutput => 0,
+    }
+}
+
+fn as_number(w: Written) -> u64
+    ensures { λ r. ⌜ r ≡ writtenAsNumber w ⌝ }
+{
+    match w {
+        Written::Bytes(n) => (n % 65536) as u64,
+        Written::Refused(why, place) => {
+            65536 * (image::refusal_number(why) as u64) + 16777216 * ((place % 549755813888) as u64)
+        }
+        Written::ShortOutput => 65536 * (SHORT_OUTPUT as u64),
+    }
+}
+
+// The same for callers in other languages: the bytes written, or why none was, as one number.
+#[no_mangle]
+pub extern "C" fn write_fixed_form(image: &[u8], out: &mut [u8]) -> u64
+    ensures { λ n. ⌜ (n ≡ writtenAsNumber (fixedCall (now (image .entry)) (now (out .entry)) .answer)) × (now (out .exit) ≡ fixedCall (now (image .entry)) (now (out .entry)) .out) ⌝ }
+{
+    as_number(write_fixed(image, out))
+}

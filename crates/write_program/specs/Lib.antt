@@ -1,0 +1,2 @@
+-- What it is to write a term anew.
+pub mod Writing

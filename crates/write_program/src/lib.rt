@@ -1,0 +1,85 @@
+// An inner crate: the terms of an image written anew, by a walk from a term that writes it after its children, left to right
+// (document 02, card 11). It recurses over the fields of a term that name its children; the term number falls. No kind is
+// named: the code of a record's kind says what each field is.
+use check_records::numbers::TermNo;
+use check_records::words::field_at;
+use check_rules::terms::term_kind;
+use check_rules::terms::term_place;
+use write_fields::as_field;
+use write_fields::child_no;
+use write_fields::class_of;
+use write_fields::is_child;
+use write_fields::known_fields;
+use write_records::put_record;
+use write_types::kept_number;
+ghost use mathlib.Core.Path.{_≡_};
+ghost use mathlib.Core.List.{_∷_};
+ghost use Prim.Native.Nat.{_+_, _-_, _*_, _≤_, _<_};
+ghost use lib.ListN.{length, take};
+ghost use Rattle.image.specs.Limits.{termLimit};
+ghost use Rattle.image.specs.Layout.{recordsOf};
+ghost use Rattle.base_bytes.specs.Bytes.{over};
+ghost use Rattle.check_records.specs.Codes.{kindCodes};
+ghost use Rattle.check_rules.specs.Lent.{Terms, IsTerm};
+ghost use Rattle.write_fields.specs.Classes.{asField};
+ghost use Rattle.image_written.specs.Records.{little};
+ghost use Rattle.write_program.specs.Writing.{behind, Room, Wrote};
+
+// How far the output is written: the next offset, and how many terms stand before it.
+pub struct Done {
+    pub at: usize,
+    pub terms: usize,
+}
+
+// The number of a field of a class that names the last term that is written.
+fn last_number(class: u32, d: Done) -> u16
+    requires { ⌜ (0 < d .terms) × (d .terms ≤ termLimit) ⌝ }
+    ensures { λ r. ⌜ r ≡ asField class (d .terms - 1) ⌝ }
+{
+    as_field(class, (d.terms - 1) as u16)
+}
+
+// One term more: its record, of a kind, with the first of some numbers for its fields.
+fn put_term(out: &mut [u8], done: Done, kind: u16, numbers: &[u16], count: usize) -> Done
+    requires { ⌜ (count ≤ 16) × (count ≤ length (now numbers)) × (done .at + (4 + 2 * count) ≤ length (now out)) × (done .terms < termLimit) ⌝ }
+    ensures { λ r. ⌜ (r .at ≡ done .at + (4 + 2 * count)) × (r .terms ≡ done .terms + 1) × (now (out .exit) ≡ over (done .at) (little ((4 + 2 * count) ∷ (kind ∷ take count (now (numbers .entry))))) (now (out .entry))) ⌝ }
+{
+    let at = put_record(out, done.at, kind, numbers, count);
+    Done {
+        at: at,
+        terms: done.terms + 1,
+    }
+}
+
+// A term and those below it, written behind what is done: its children, left to right, then the term itself. A field that
+// names a child has the number of the last term that was written then.
+pub fn write_term(
+    image: &[u8],
+    codes: &[u32],
+    terms: &[u16],
+    places: &[u16],
+    out: &mut [u8],
+    done: Done,
+    e: TermNo,
+) -> Done
+    requires { ⌜ (now codes ≡ kindCodes) × Terms (now image) (now terms) × IsTerm (now image) (e .0) × (length (recordsOf (now image) .types) ≤ length (now places)) × Room (now image) (e .0) done (length (now out)) ⌝ }
+    ensures { λ r. ⌜ (r .at ≡ behind (now (image .entry)) (e .0) done .at) × (r .terms ≡ behind (now (image .entry)) (e .0) done .terms) × Wrote (now (image .entry)) (now (places .entry)) (e .0) done (now (out .entry)) (now (out .exit)) ⌝ }
+{
+    let at = term_place(image, terms, e);
+    let fields = known_fields(image, codes, at);
+    let mut numbers = [0u16; 16];
+    let mut d = done;
+    let mut i: usize = 0;
+    while i < fields.count {
+        let class = class_of(fields, i);
+        let v = field_at(image, at, i);
+        if is_child(class, v) {
+            d = write_term(image, codes, terms, places, out, d, child_no(class, v));
+            numbers[i] = last_number(class, d);
+        } else {
+            numbers[i] = kept_number(places, class, v);
+        }
+        i += 1;
+    }
+    put_term(out, d, term_kind(image, terms, e), &numbers, fields.count)
+}

@@ -1,0 +1,2 @@
+-- Records, number by number.
+pub mod Numbers

@@ -1,0 +1,52 @@
+-- `write_records::put_record` meets its contract.
+use borrow.Author.Needs.{needs}
+use Prim.Native.Nat.{_+_, _*_}
+use native.Mathlib.Omega.{arith}
+use mathlib.Core.Path.{refl}
+use denote.Ref.{now}
+use lib.ListN.{take}
+use lib.Seq.{length-take-le}
+use Rattle.write_records.proofs.Numbers.{record-whole}
+use Rattle.write_records.proofs.put_record.Statement.{statement}
+use Rattle.write_records.proofs.put_record.Tie as tie
+
+put-head-requires : tie.Need-put-head-requires
+put-head-requires c κs = search needs
+
+add-put-numbers : tie.Need-add-put-numbers
+add-put-numbers c = search needs
+
+put-numbers-requires : tie.Need-put-numbers-requires
+put-numbers-requires c κs = search needs
+
+mul-result : tie.Need-mul-result
+mul-result c = search needs
+
+add-result : tie.Need-add-result
+add-result c = search needs
+
+add-result-2 : tie.Need-add-result-2
+add-result-2 c = search needs
+
+same-length : tie.Need-same-length
+same-length c = search needs
+
+returns : tie.Need-returns
+returns c =
+    let w = c .before .before .put-numbers in
+    let v = c .before .before .before .before .before .before .put-head in
+    let a = c .before .before .before .before .before .before .before .before .before .before .args in
+    (refl, record-whole (4 + 2 * a .count) (a .kind) (take (a .count) (now (a .numbers))) (now (a .out)) _ _ (a .at) (omega (arith, length-take-le (a .count) (now (a .numbers)) (omega arith))) (v .ensures) (w .ensures))
+
+pub put-record-spec : {M : Type 1} → statement M
+put-record-spec =
+    tie.close
+    (tie.spec
+    put-head-requires
+    add-put-numbers
+    put-numbers-requires
+    mul-result
+    add-result
+    add-result-2
+    same-length
+    returns)

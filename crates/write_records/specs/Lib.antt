@@ -1,0 +1,1 @@
+-- Definitions of records and their bytes are those of the crate image_written.

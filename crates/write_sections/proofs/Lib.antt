@@ -1,0 +1,3 @@
+-- Records one behind the other, and a type's record field by field.
+pub mod Firsts
+pub mod Numbered

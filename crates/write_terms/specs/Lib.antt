@@ -1,0 +1,1 @@
+-- Definitions of the walks are those of the crates image_written and write_types.

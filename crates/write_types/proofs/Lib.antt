@@ -1,0 +1,3 @@
+-- Types entered into the table, one by one.
+pub mod Located
+pub mod Entering

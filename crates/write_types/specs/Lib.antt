@@ -1,0 +1,2 @@
+-- A table of types by their numbers in the image.
+pub mod Entries
