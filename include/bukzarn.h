@@ -1,8 +1,8 @@
-/* The watch engine for C: the functions of libengine.a, libvalidator.a, libneeds.a and
-   libwrite_fixed.a.
+/* The watch engine for C: the functions of libengine.a, libvalidator.a, libneeds.a, libwrite_fixed.a and
+   libwrite_load.a.
 
    Build the libraries in the repository's root with
-       rt staticlib engine && rt staticlib validator && rt staticlib needs && rt staticlib write_fixed
+       for name in engine validator needs write_fixed write_load; do rt staticlib $name; done
    which writes target/staticlib/libengine.a and so on.
    Each needs memcpy and memset and nothing else: no heap, no files, no global state, so calls from several threads at
    once are safe as long as the memory that they write is different. Recursion is at most 64 deep; on the images tried a
@@ -22,10 +22,14 @@ extern "C" {
 
 /* Lengths, in bytes. */
 enum {
-    BUKZARN_IMAGE_LIMIT = 16384,  /* longest image that can be accepted */
-    BUKZARN_WORK_LENGTH = 35857,  /* published length of the work area */
-    BUKZARN_REPORT_LENGTH = 17994 /* every report fits in this */
+    BUKZARN_IMAGE_LIMIT = 16384,   /* longest image that can be accepted */
+    BUKZARN_WORK_LENGTH = 35857,   /* published length of the work area */
+    BUKZARN_REPORT_LENGTH = 17994, /* every report fits in this */
+    BUKZARN_LOAD_LENGTH = 16384    /* least length of an output for a load */
 };
+
+/* The greatest depth of a load (document 02, card 12). */
+enum { BUKZARN_LOAD_DEPTH = 9 };
 
 /* How a run ended (document 01, "A run"; document 02, card 9). Bindings, cells and pieces are halved: one half is domain
    0's, the mainline's, the other that of all other domains together. */
@@ -68,7 +72,9 @@ enum bukzarn_refusal {
     BUKZARN_SHORT_WORK_AREA = 17,  /* place 0 */
     BUKZARN_SHORT_REPORT = 18,     /* place 0 */
     BUKZARN_OUTSIDE_CLASS = 19,    /* of forecast_numbers alone; the lowest term that is outside its class */
-    BUKZARN_SHORT_OUTPUT = 20      /* of write_fixed_form alone; place 0 */
+    BUKZARN_SHORT_OUTPUT = 20,     /* of write_fixed_form alone; place 0 */
+    BUKZARN_WRONG_DEPTH = 21,      /* of generate_load alone: a depth of 0 or over 9; place 0 */
+    BUKZARN_SHORT_LOAD = 22        /* of generate_load alone: an output under 16,384 bytes; place 0 */
 };
 
 /* Kinds of the records in log and report. A record is its length in bytes, its kind, then its fields; all are
@@ -148,6 +154,13 @@ uint64_t forecast_numbers(const uint8_t *image, size_t image_length, uint32_t *n
    image. Output past what was written is unchanged; of a refusal all of it is. Every length and every content is allowed.
    The image is only read, and does not overlap the output. In libwrite_fixed.a. */
 uint64_t write_fixed_form(const uint8_t *image, size_t image_length, uint8_t *output, size_t output_length);
+
+/* Writes the image of a seed and a depth to the front of `out` (document 02, card 12): a load that is the same wherever
+   it is made. Answers its length in bytes, which is never 0 (bukzarn_image_bytes); or of a refusal 2^16 times its number:
+   21 if the depth is 0 or over BUKZARN_LOAD_DEPTH, then 22 if the output is shorter than BUKZARN_LOAD_LENGTH. Bytes past
+   the image are unchanged, and of a refusal all are. Every image is accepted, and has at most 6,146 bytes. In
+   libwrite_load.a. */
+uint64_t generate_load(uint32_t seed, size_t depth, uint8_t *out, size_t out_length);
 
 /* Is this the answer of a run, not of a refusal? */
 static inline int bukzarn_is_run(uint64_t answer)

@@ -1,15 +1,17 @@
 #!/usr/bin/env python3
 """The definitions that a reader of the demands must believe.
 
-They are the statements of the demands and of acceptance, what the engine's contract cites, and all definitions that
-these use, file by file: the closure of their imports. docs/CLAIMS.md lists the same files, and a test compares the two.
+They are the statements of the demands, of acceptance and of card 12, what the engine's contract cites, and all
+definitions that these use, file by file: the closure of their imports. docs/CLAIMS.md lists the same files, and a test
+compares the two.
 """
 import re
 import sys
 from pathlib import Path
 
 ROOT = Path(__file__).resolve().parents[1]
-STATEMENTS = ("demands/specs", "calls/specs", "verdict/specs/Acceptable.antt", "listing/specs/Listing.antt")
+STATEMENTS = ("demands/specs", "calls/specs", "verdict/specs/Acceptable.antt", "listing/specs/Listing.antt",
+              "write_load/specs/Card12.antt")
 IMPORT = re.compile(r"\s*use Rattle·(\w+?)(?:·specs)?\.specs\.([\w.]+?)\.\{")
 
 

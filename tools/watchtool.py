@@ -13,6 +13,7 @@
                                                           what a run will need, beside its limits
     watchtool.py fixed FILE [WATCH ...] [--name] [-o IMAGE]
                                                           the one image of a program; --name: its name in the archive
+    watchtool.py load SEED DEPTH [-o IMAGE]               a generated image, the same at every station
 
 FILE is an image if its name ends with .img, else a text (docs/LANGUAGE.md). `need` and `fixed` ask the built programs of
 these names in target/bin, or in the folder that BUKZARN_PROGRAMS names.
@@ -21,7 +22,7 @@ import argparse
 import sys
 from pathlib import Path
 
-from watchlang import archive, needs, programs, refusals, report
+from watchlang import archive, generated, needs, programs, refusals, report
 from watchlang.assembler import Assembled, assemble
 from watchlang.disassembler import disassemble, program
 from watchlang.gate import verdict
@@ -104,8 +105,21 @@ def fixed(args):
     write(archive.name(form) + "\n" if args.name else form, args.out)
 
 
+def generate(args):
+    """The image of a seed and a depth, as the program `load` writes it."""
+    if len(args.files) != 2 or not all(word.isdecimal() for word in args.files):
+        sys.exit("watchtool: a load has a seed and a depth, two numbers")
+    seed, depth = map(int, args.files)
+    if seed >= generated.MODULUS:
+        sys.exit(f"watchtool: a seed is below {generated.MODULUS}")
+    try:
+        write(generated.image(seed, depth), args.out)
+    except Refused as refused:
+        sys.exit(f"watchtool: {refused}: {refused.words}")
+
+
 COMMANDS = {"asm": asm, "disasm": disasm, "picture": draw, "explain": explain, "report": show_report,
-            "need": need, "fixed": fixed, "refusals": lambda args: write(refusals.table(), args.out)}
+            "need": need, "fixed": fixed, "load": generate, "refusals": lambda args: write(refusals.table(), args.out)}
 
 
 def main(words=None):

@@ -1,13 +1,14 @@
 //! Times of the watch engine, alone or beside a plain Rust engine, on the same images in one run; one image's job is
 //! also done in Lua.
 //!
-//! Options: `--images DIR` measures the images in files of a folder and not its own, `--quick` measures less often,
-//! `--dump DIR` writes the images and measures nothing, `--save FILE` adds the times to a file, `--means FILE` adds them
-//! too and then prints the means of all runs in the file, `--write DOCS` writes the tables into DOCS/PERFORMANCE.md and
-//! the plot DOCS/performance.svg.
+//! Options: `--images DIR` measures the images in files of a folder and not its own, `--load SEEDS` images that are
+//! generated, of depth 9 or of the one after `--depth`, `--quick` measures less often, `--dump DIR` writes the images and
+//! measures nothing, `--save FILE` adds the times to a file, `--means FILE` adds them too and then prints the means of all
+//! runs in the file, `--write DOCS` writes the tables into DOCS/PERFORMANCE.md and the plot DOCS/performance.svg.
 #![deny(missing_docs)]
 mod document;
 mod images;
+mod load;
 mod lua;
 mod measure;
 mod plot;
@@ -35,7 +36,7 @@ fn verified(image: &[u8], frame: &[u8], budget: u32, log: &mut [u8], report: &mu
 /// The argument after an option.
 fn after<'a>(arguments: &'a [String], option: &str) -> Option<&'a str> {
     let at = arguments.iter().position(|argument| argument == option)?;
-    Some(arguments.get(at + 1).unwrap_or_else(|| panic!("{option} takes a path")))
+    Some(arguments.get(at + 1).unwrap_or_else(|| panic!("{option} takes an argument")))
 }
 
 /// Prints the tables and, if there is a folder for them, writes them and the plot. Only the bench's own images are
@@ -60,13 +61,21 @@ fn show(rows: &[Row], compared: Option<&Compared>, docs: Option<&Path>) {
 pub fn main(plain: Option<Engine>) {
     let arguments: Vec<String> = std::env::args().collect();
     let folder = after(&arguments, "--images");
-    let images = folder.map_or_else(images::all, |folder| images::read(Path::new(folder)));
+    let seeds = after(&arguments, "--load");
+    let images = match (folder, seeds) {
+        (Some(folder), _) => images::read(Path::new(folder)),
+        (None, Some(seeds)) => load::images(seeds, after(&arguments, "--depth")),
+        (None, None) => images::all(),
+    };
     if let Some(folder) = after(&arguments, "--dump") {
         return images::dump(&images, Path::new(folder));
     }
     let repetitions = if arguments.iter().any(|argument| argument == "--quick") { 31 } else { 301 };
     let engines: Vec<Engine> = [Some(verified as Engine), plain].into_iter().flatten().collect();
     let mut rows: Vec<Row> = images.iter().map(|image| measure::measure(image, &engines, repetitions)).collect();
+    if seeds.is_some() {
+        return println!("{}", load::text(&rows));
+    }
     let decoded = images.iter().find(|image| folder.is_none() && image.name == images::DECODED);
     let mut compared = decoded.map(|image| lua::compare(image, &engines, repetitions));
     let times = rows.iter_mut().flat_map(Row::times).chain(compared.iter_mut().flat_map(Compared::times));

@@ -4,7 +4,8 @@ use std::env;
 use std::path::{Path, PathBuf};
 
 /// For each feature the library that it needs.
-const LIBRARIES: [(&str, &str); 3] = [("VALIDATOR", "validator"), ("NEEDS", "needs"), ("FIXED", "write_fixed")];
+const LIBRARIES: [(&str, &str); 4] =
+    [("VALIDATOR", "validator"), ("NEEDS", "needs"), ("FIXED", "write_fixed"), ("LOAD", "write_load")];
 
 fn folder() -> PathBuf {
     match env::var_os("BUKZARN_LIBRARY") {

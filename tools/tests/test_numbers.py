@@ -3,7 +3,7 @@ import re
 import unittest
 
 import common
-from watchlang import kinds, needs, refusals, report
+from watchlang import generated, kinds, needs, refusals, report
 
 
 def text(*path):
@@ -86,6 +86,8 @@ class Numbers(unittest.TestCase):
         causes = cases("image", "Refusals.antt", "refusalNumber", "Refusal")
         causes["OutsideClass"] = cases("image_needs", "Forecasts.antt", "forecastNumber", "Forecast")["OutsideClass"]
         causes["ShortOutput"] = constants("write_fixed", "Calls.antt")["shortOutput"]
+        load = constants("write_load", "Loads.antt")
+        causes |= {"WrongDepth": load["wrongDepth"], "ShortLoad": load["shortLoad"]}
         self.assertEqual(rust("refusal.rs"), causes)
         self.assertEqual(sorted(refusals.REFUSALS), sorted(causes.values()))
         self.header_has(causes)
@@ -96,6 +98,17 @@ class Numbers(unittest.TestCase):
         self.header_has(lengths)
         for name, length in lengths.items():
             self.assertIn(f"pub const {upper(name)}: usize = {length:_};", text("bindings", "rust", "src", "lib.rs"))
+
+    def test_load(self):
+        """The numbers of a draw and the limits of a load."""
+        numbers = constants("image_written", "Generated.antt")
+        self.assertEqual(
+            (generated.MULTIPLIER, generated.INCREMENT, generated.DIVISOR, generated.DEPTH_LIMIT),
+            tuple(numbers[name] for name in ("drawMultiplier", "drawIncrement", "drawDivisor", "loadDepthLimit")))
+        self.header_has({"loadLength": numbers["loadLength"], "loadDepth": numbers["loadDepthLimit"]})
+        load = text("bindings", "rust", "src", "load.rs")
+        self.assertIn(f"pub const LOAD_LENGTH: usize = {numbers['loadLength']:_};", load)
+        self.assertIn(f"pub const LOAD_DEPTH: usize = {numbers['loadDepthLimit']};", load)
 
     def test_limits(self):
         limits = constants("image", "Limits.antt")

@@ -54,6 +54,10 @@ REFUSALS = {
          "The image may run all the same: try it over frames. Its needs are told once no such term is left."),
     20: ("the output that was lent for the fixed form is shorter than the image",
          "Lend an output as long as the image: the fixed form is never longer. The image is not at fault."),
+    21: ("the depth of a load is 0 or over 9",
+         "Ask for a depth from 1 to 9."),
+    22: ("the output for a load is shorter than 16,384 bytes",
+         "Lend an output of at least 16,384 bytes, whatever the depth."),
 }
 
 # For some kinds of terms, how to keep their type rule.
@@ -125,7 +129,7 @@ def mend_of(image, number, place):
 
 def describe(image, place, number, places, domains):
     """The record at a place: which one it is, and where it stands in the text."""
-    if number in (1, 9, 17, 18, 20):
+    if number in (1, 9, 17, 18, 20, 21, 22):
         return []
     found = record_at(image, place) if place < len(image) else 2
     if not isinstance(found, Record):

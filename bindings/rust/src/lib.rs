@@ -23,13 +23,15 @@
 //! [`run`] keeps the lent memory in one value and cannot be called with too little of it. [`call`] takes slices of any
 //! length, and refuses short ones. `validate` (with the feature `validator`) answers the verdict alone, `need` (with the
 //! feature `needs`) what a run will need, worked out without a run, `fixed_form` (with the feature `fixed`) the one image
-//! of an image's program.
+//! of an image's program, `load` (with the feature `load`) the image of a seed.
 #![deny(missing_docs, unsafe_code)]
 
 mod call;
 #[cfg(feature = "fixed")]
 mod fixed;
 mod lent;
+#[cfg(feature = "load")]
+mod load;
 #[cfg(feature = "needs")]
 mod needs;
 mod outcome;
@@ -45,6 +47,8 @@ pub use call::{call, Written};
 #[cfg(feature = "fixed")]
 pub use fixed::{fixed_form, write_fixed};
 pub use lent::{run, Lent};
+#[cfg(feature = "load")]
+pub use load::{generate, load, LOAD_DEPTH, LOAD_LENGTH};
 #[cfg(feature = "needs")]
 pub use needs::{need, Needs};
 pub use outcome::Outcome;

@@ -26,6 +26,9 @@ extern "C" {
 
     #[cfg(feature = "fixed")]
     fn write_fixed_form(image: *const u8, image_length: usize, output: *mut u8, output_length: usize) -> u64;
+
+    #[cfg(feature = "load")]
+    fn generate_load(seed: u32, depth: usize, out: *mut u8, out_length: usize) -> u64;
 }
 
 /// One call, answered as one number.
@@ -76,4 +79,11 @@ pub fn write_fixed(image: &[u8], output: &mut [u8]) -> u64 {
     // Safe: each pointer and length is a slice that lives through the call; the one that is written is lent to nobody
     // else.
     unsafe { write_fixed_form(image.as_ptr(), image.len(), output.as_mut_ptr(), output.len()) }
+}
+
+/// The image of a seed and a depth, answered as one number: its length, or the refusal.
+#[cfg(feature = "load")]
+pub fn generate(seed: u32, depth: usize, out: &mut [u8]) -> u64 {
+    // Safe: pointer and length are a slice that lives through the call and is lent to nobody else.
+    unsafe { generate_load(seed, depth, out.as_mut_ptr(), out.len()) }
 }

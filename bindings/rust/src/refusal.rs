@@ -48,11 +48,15 @@ pub enum Cause {
     OutsideClass = 19,
     /// The output is shorter than the image whose fixed form is to be written (document 02, card 11).
     ShortOutput = 20,
+    /// The depth of a load is 0 or over 9 (document 02, card 12).
+    WrongDepth = 21,
+    /// The output for a load is under 16,384 bytes (document 02, card 12).
+    ShortLoad = 22,
 }
 
 impl Cause {
     /// Every cause, in the order of the numbers.
-    pub const ALL: [Cause; 20] = [
+    pub const ALL: [Cause; 22] = [
         Cause::ImageTooLong,
         Cause::BrokenRecord,
         Cause::UnknownKind,
@@ -73,6 +77,8 @@ impl Cause {
         Cause::ShortReport,
         Cause::OutsideClass,
         Cause::ShortOutput,
+        Cause::WrongDepth,
+        Cause::ShortLoad,
     ];
 
     /// The cause of this number.

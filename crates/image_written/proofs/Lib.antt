@@ -15,4 +15,5 @@ pub mod Taken
 pub mod Sums
 pub mod Sizes
 pub mod Fixed
+pub mod Load
 pub mod Fronts

@@ -1,2 +1,2 @@
-// Images that are written (document 02, card 11): definitions in specs/; that they are accepted and have the program that they
-// are written from, in proofs/.
+// Images that are written (document 02, cards 11 and 12): definitions in specs/; that they are accepted and have the program
+// that they are written from, in proofs/.

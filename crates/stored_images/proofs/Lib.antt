@@ -1,2 +1,1 @@
--- Laws of decimal numbers, and the proofs of the functions.
-pub mod Digits
+-- The proofs of the functions.

@@ -1,28 +1,6 @@
 // Runs stored images: each pair of arguments is a budget and a file. Prints a line with both, then the validator's verdict,
 // then the listing of the image's call (document 01, "Bench sheet").
 use libc::STDOUT_FILENO;
-ghost use mathlib.Core.Path.{_≡_};
-ghost use Rattle.stored_images.specs.Numerals.{withDigit, numeral};
-
-// A number with one digit more.
-fn with_digit(n: u32, digit: u8) -> u32
-    ensures { λ r. ⌜ r ≡ withDigit n digit ⌝ }
-{
-    ((10 * (n as u64) + (digit % 16) as u64) % 4294967296) as u32
-}
-
-// The number that decimal digits say.
-fn number_of(digits: &[u8]) -> u32
-    ensures { λ r. ⌜ r ≡ numeral (now (digits .entry)) ⌝ }
-{
-    let mut n: u32 = 0;
-    let mut i: usize = 0;
-    while i < digits.len() {
-        n = with_digit(n, digits[i]);
-        i += 1;
-    }
-    n
-}
 
 fn print_verdict(image: &[u8]) {
     let v = validator::validate(image, 65536, 65536);
@@ -64,7 +42,7 @@ fn run_pair(budget_arg: usize, file_arg: usize) {
     io::write_all(STDOUT_FILENO, b" ");
     io::write_all(STDOUT_FILENO, &path[..length]);
     io::write_all(STDOUT_FILENO, b"\n");
-    run_file(&path[..length], number_of(&digits[..count]));
+    run_file(&path[..length], numerals::number_of(&digits[..count]));
 }
 
 fn main() {

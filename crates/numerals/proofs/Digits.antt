@@ -5,7 +5,7 @@ use mathlib.Core.Path.{_≡_}
 use mathlib.Core.List.{List}
 use lib.ListN.{length, getD, drop, drop-of-length-le}
 use lib.Seq.{drop-cons}
-use Rattle.stored_images.specs.Numerals.{withDigit, numeralAfter}
+use Rattle.numerals.specs.Numerals.{withDigit, numeralAfter}
 
 pub digits-more : (ds : List ℕ) (n i : ℕ) → i < length ds → numeralAfter n (drop i ds) ≡ numeralAfter (withDigit n (getD ds i 0)) (drop (i + 1) ds)
 unfolding numeralAfter

@@ -1,12 +1,13 @@
+-- `numerals::number_of` meets its contract.
 use Prim.Native.Nat.{_+_, _-_, _≤_}
 use native.Mathlib.Omega.{arith}
 use mathlib.Core.Path.{_≡_, refl, sym, ap, _∙_}
 use lib.ListN.{length, drop}
-use Rattle.stored_images.specs.Numerals.{numeralAfter, numeral}
-use Rattle.stored_images.proofs.Digits.{digits-more, digits-all}
+use Rattle.numerals.specs.Numerals.{numeralAfter, numeral}
+use Rattle.numerals.proofs.Digits.{digits-more, digits-all}
 use borrow.Author.Needs.{needs}
-use Rattle.stored_images.proofs.number_of.Statement.{statement}
-use Rattle.stored_images.proofs.number_of.Tie as tie
+use Rattle.numerals.proofs.number_of.Statement.{statement}
+use Rattle.numerals.proofs.number_of.Tie as tie
 
 abbrev Inv-loop : tie.InvT-loop
 Inv-loop digits n₀ i₀ n i = (i ≤ length digits) × (numeral digits ≡ numeralAfter n (drop i digits))

@@ -1,4 +1,4 @@
--- Decimal numbers in the arguments of the program that runs stored images.
+-- Decimal numbers in the arguments of programs.
 use Prim.Native.Nat.{ℕ, _+_, _*_, _%_, _^_}
 use mathlib.Core.List.{List, [], _∷_}
 

@@ -1,0 +1,2 @@
+-- Laws of decimal numbers, and the proofs of the functions.
+pub mod Digits

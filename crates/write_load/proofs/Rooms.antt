@@ -1,0 +1,139 @@
+-- There is room for each part of a tree where there is room for the largest tree of its depth.
+use Prim.Native.Nat.{ℕ, zero, suc, _+_, _-_, _*_, _≤_, _<_}
+use native.Mathlib.Omega.{arith}
+use mathlib.Core.Path.{_≡_, refl, ap, _∙_}
+use mathlib.Core.List.{List}
+use lib.ListN.{length}
+use Rattle.image_written.proofs.Load.{most, most-some}
+use Rattle.write_load.specs.declared.Done.{Done}
+use Rattle.write_load.specs.Growing.{printFields, Put, Room, Grew}
+use Rattle.write_load.proofs.Growing.{grew-room}
+
+-- Room for the parts of a tree.
+most-less : (d : ℕ) → 0 < d → most d ≡ 1 + (most (d - 1) + most (d - 1))
+unfolding most
+most-less zero h = absurd (omega arith)
+most-less (suc d) h = let z : suc d - 1 ≡ d = omega arith in rw z refl
+
+inner-most : (d : ℕ) → 1 < d → (most d ≡ 1 + (most (d - 1) + most (d - 1))) × (most (d - 1) ≡ 1 + (most (d - 2) + most (d - 2)))
+inner-most d h = let z : d - 1 - 1 ≡ d - 2 = omega arith in (most-less d (omega arith), most-less (d - 1) (omega arith) ∙ ap (λ k. 1 + (most k + most k)) z)
+
+pub room-number : {out : List ℕ} {done : Done} {d : ℕ} → Room out done d → (done .at + 12 ≤ length out) × (done .terms < 1024)
+room-number {out} {done} {d} R = let m = most-some d in let b = R .bytes in let t = R .terms in (omega arith, omega arith)
+
+module _ {out : List ℕ} {done here : Done} {d : ℕ} (R : Room out done d) (same-at : here .at ≡ done .at) (same-terms : here .terms ≡ done .terms) where
+  pub room-first : 0 < d → Room out here (d - 1)
+  room-first h = let m = most-less d h in let l = R .depth in let b = R .bytes in let t = R .terms in record { depth = omega arith; bytes = omega arith; terms = omega arith }
+
+  pub room-inner : 1 < d → Room out here (d - 2)
+  room-inner h =
+      let i = inner-most d h in
+      let m = i .0 in
+      let n = i .1 in
+      let l = R .depth in
+      let b = R .bytes in
+      let t = R .terms in
+      record { depth = omega arith; bytes = omega arith; terms = omega arith }
+
+  -- A sum: the second tree, and the record behind both.
+  module _ (h : 0 < d) {out₁ : List ℕ} {left : Done} (X : Grew (d - 1) out here out₁ left) where
+    first-room : (left .at ≤ here .at + 12 * most (d - 1)) × (left .terms ≤ here .terms + most (d - 1)) × (here .terms < left .terms) × (length out₁ ≡ length out)
+    first-room = grew-room X (room-first h .bytes)
+
+    pub room-second : Room out₁ left (d - 1)
+    room-second =
+        let m = most-less d h in
+        let l = R .depth in
+        let b = R .bytes in
+        let t = R .terms in
+        let g = first-room in
+        let g0 = g .0 in
+        let g1 = g .1 in
+        let g3 = g .3 in
+        record { depth = omega arith; bytes = omega arith; terms = omega arith }
+
+    pub some-first : 0 < left .terms
+    some-first = let g = first-room .2 in omega arith
+
+    pub room-sum : {out₂ : List ℕ} {right : Done} → Grew (d - 1) out₁ left out₂ right → (right .at + 12 ≤ length out₂) × (right .terms < 1024) × (0 < right .terms) × (left .terms - 1 < 1024)
+    room-sum {out₂} {right} Y =
+        let m = most-less d h in
+        let b = R .bytes in
+        let t = R .terms in
+        let g = first-room in
+        let g0 = g .0 in
+        let g1 = g .1 in
+        let g3 = g .3 in
+        let k = grew-room Y (room-second .bytes) in
+        let k0 = k .0 in
+        let k1 = k .1 in
+        let k2 = k .2 in
+        let k3 = k .3 in
+        (omega arith, omega arith, omega arith, omega arith)
+
+  -- A print and what follows it.
+  module _ (h : 1 < d) {out₁ : List ℕ} {inner : Done} (X : Grew (d - 2) out here out₁ inner) where
+    inner-room : (inner .at ≤ here .at + 12 * most (d - 2)) × (inner .terms ≤ here .terms + most (d - 2)) × (here .terms < inner .terms) × (length out₁ ≡ length out)
+    inner-room = grew-room X (room-inner h .bytes)
+
+    pub room-print : (inner .at + 12 ≤ length out₁) × (inner .terms < 1024) × (0 < inner .terms)
+    room-print =
+        let i = inner-most d h in
+        let m = i .0 in
+        let n = i .1 in
+        let b = R .bytes in
+        let t = R .terms in
+        let g = inner-room in
+        let g0 = g .0 in
+        let g1 = g .1 in
+        let g2 = g .2 in
+        let g3 = g .3 in
+        (omega arith, omega arith, omega arith)
+
+    module _ {out₂ : List ℕ} {first : Done} (Q : Put out₁ inner out₂ first 37 (printFields (inner .terms))) (kept : length out₂ ≡ length out₁) where
+      pub room-behind : Room out₂ first (d - 1)
+      room-behind =
+          let i = inner-most d h in
+          let m = i .0 in
+          let n = i .1 in
+          let l = R .depth in
+          let b = R .bytes in
+          let t = R .terms in
+          let g = inner-room in
+          let g0 = g .0 in
+          let g1 = g .1 in
+          let g3 = g .3 in
+          let qa = Q .at in
+          let qt = Q .terms in
+          record { depth = omega arith; bytes = omega arith; terms = omega arith }
+
+      pub room-sequence : {out₃ : List ℕ} {second : Done} → Grew (d - 1) out₂ first out₃ second → (second .at + 12 ≤ length out₃) × (second .terms < 1024) × (0 < second .terms) × (first .terms - 1 < 1024)
+      room-sequence {out₃} {second} Y =
+          let i = inner-most d h in
+          let m = i .0 in
+          let n = i .1 in
+          let b = R .bytes in
+          let t = R .terms in
+          let g = inner-room in
+          let g0 = g .0 in
+          let g1 = g .1 in
+          let g3 = g .3 in
+          let qa = Q .at in
+          let qt = Q .terms in
+          let k = grew-room Y (room-behind .bytes) in
+          let k0 = k .0 in
+          let k1 = k .1 in
+          let k2 = k .2 in
+          let k3 = k .3 in
+          (omega arith, omega arith, omega arith, omega arith)
+
+pub room-both : {out : List ℕ} {done : Done} {d : ℕ} → Room out done d → 0 < d → done .at + (12 * most (d - 1) + 12 * most (d - 1) + 12) ≤ length out
+room-both {out} {done} {d} R h = let m = most-less d h in let b = R .bytes in omega arith
+
+pub room-trace : {out : List ℕ} {done : Done} {d : ℕ} → Room out done d → 1 < d → done .at + (12 * most (d - 2) + 12 + 12 * most (d - 1) + 12) ≤ length out
+room-trace {out} {done} {d} R h =
+    let i = inner-most d h in
+    let m = i .0 in
+    let n = i .1 in
+    let b = R .bytes in
+    omega arith
