@@ -5,7 +5,7 @@ use mathlib.Core.Bool.{true, false}
 use mathlib.Core.List.{List, [], _∷_}
 use Rattle.calculus.specs.declared.Outcome.{Outcome}
 use Rattle.calculus.specs.Combinators.{cases}
-use Rattle.calculus.specs.Syntax.{Ty, noMethod, method, Val, Tm, Pattern, atEnd, atRest, anything, pointcut, val, var, op0, op1, op2, seq, lower, obj, keep, match, end, more, abort, takedown, theStack, print, install, byte, newCell, call, mark, plus, minus}
+use Rattle.calculus.specs.Syntax.{Ty, noMethod, method, Val, Tm, Pattern, atEnd, atRest, anything, pointcut, val, var, op0, op1, op2, seq, obj, keep, match, end, more, abort, takedown, theStack, print, install, byte, newCell, call, mark, plus, minus}
 use Rattle.calculus.specs.State.{Advice, State, Given, Counts, Uses, Print, picked, logOf, branchesOf, someBindings, oneCell, onePiece, atDom, fresh, charged, labelled, installed}
 use Rattle.calculus.specs.Subst.{subst}
 use Rattle.calculus.specs.Answer.{Answer, go, full, carry, if-room, with, spend}

@@ -1,5 +1,5 @@
 -- The elements that pass a test: how many, of a mapped list, by two tests, and of a list the other way round.
-use Prim.Native.Nat.{ℕ, _≤_}
+use Prim.Native.Nat.{_≤_}
 use native.Mathlib.Omega.{arith}
 use mathlib.Core.Path.{_≡_, refl, ap, _∙_}
 use mathlib.Core.Bool.{Bool, true, false}

@@ -1,7 +1,7 @@
 -- Card 8: of the advice that a mark triggers, the high ones and their order do not depend on the low ones between them.
 use Prim.Native.Nat.{ℕ}
 use mathlib.Core.Path.{_≡_, refl, sym, ap, _∙_}
-use mathlib.Core.Bool.{Bool, true, false}
+use mathlib.Core.Bool.{Bool, false}
 use mathlib.Core.List.{List, [], _∷_, _++_, reverse}
 use Rattle.calculus.specs.Combinators.{choose, filtered}
 use Rattle.calculus.specs.Syntax.{Dom}

@@ -1,5 +1,5 @@
 -- The high events of a trace: equal in related states, only more as a run goes on; the high prints of the log are their prints, the high branches their branches.
-use Prim.Native.Nat.{ℕ, _≤_}
+use Prim.Native.Nat.{_≤_}
 use native.Mathlib.Omega.{arith}
 use mathlib.Core.Path.{_≡_, refl, sym, ap}
 use mathlib.Core.Logic.{_⊎_, inl, inr}

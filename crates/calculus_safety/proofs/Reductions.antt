@@ -15,7 +15,7 @@ use Rattle.calculus.specs.Place.{Place, at, keeping}
 use Rattle.calculus.specs.Compose.{member}
 use Rattle.calculus.specs.Reduce.{reduce0, reduce1, reduce2, reduceSeq, reduceIte, reduceSplit, reduceAdv, reduceLower, reducePcd, collect, methodBody, stackVal, consFound, matched, branch, matchOn, substAll, reduceKeep, reduceMatch}
 use Rattle.calculus.specs.Typing.{StoreTyping, Policy, PatternTy, Has, LabelsOf, LabelTys, ValTy, TmTy, BodiesTy, Rule0, Rule1, Rule2}
-use Rattle.laws.proofs.Lists.{All2, All2.all2-nil, All2.all2-cons, all-snoc, all-reverse, all2-snoc, all2-set, all2-length, all2-reverse, get-last, All.all-nil, All.all-cons}
+use Rattle.laws.proofs.Lists.{All2, All2.all2-nil, All2.all2-cons, all-snoc, all-reverse, all2-snoc, all2-set, all2-length, get-last, All.all-nil, All.all-cons}
 use Rattle.calculus.specs.Accepted.{Transitive}
 use Rattle.calculus_safety.proofs.Extend.{extends-cell, extends-label, grow-val}
 use Rattle.calculus_safety.proofs.Substitute.{Without, Without.here, Without.there, subst-tm}

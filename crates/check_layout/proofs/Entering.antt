@@ -39,7 +39,7 @@ use Rattle.check_records.specs.Heads.{fieldBytes}
 use Rattle.check_records.specs.Heads as Heads
 use Rattle.check_layout.proofs.Sections.{right-length}
 use Rattle.check_layout.proofs.NewTypes.{reached-good, types-placed, new-law}
-use Rattle.check_layout.proofs.Kept.{type-count, domain-count, term-count, domain-more, term-more, type-more, domain-kept, term-kept, type-kept}
+use Rattle.check_layout.proofs.Kept.{domain-more, term-more, type-more, domain-kept, term-kept, type-kept}
 use Rattle.check_layout.proofs.Steps.{orElse, unknown, known-law}
 
 -- The section tells the sort of kind.

@@ -4,17 +4,17 @@ use native.Mathlib.Omega.{arith}
 use mathlib.Core.Path.{_≡_, refl, sym, ap, subst, _∙_}
 use mathlib.Core.Bool.{Bool, true, false, not, _&&_, _||_}
 use mathlib.Core.List.{List}
-use mathlib.Core.Option.{none, some}
+use mathlib.Core.Option.{some}
 use lib.ListN.{length, getD}
 use lib.Seq.{getD-take}
 use lib.Dec.{eqb}
 use Rattle.calculus.specs.Combinators.{choose}
-use Rattle.laws.specs.Tests.{allBelow, firstFault}
+use Rattle.laws.specs.Tests.{allBelow}
 use Rattle.image.specs.Bytes.{lengthAt, numberAt}
-use Rattle.image.specs.Kinds.{TypeKind, Kind, type, Row, typeRow, kindOf}
+use Rattle.image.specs.Kinds.{TypeKind, type, Row, typeRow, kindOf}
 use Rattle.image.specs.Records.{Layout, kindAt, numbersAt}
 use Rattle.image.specs.Records as Records
-use Rattle.image.specs.Layout.{sameNumbers, sameType, isNew, tests, add}
+use Rattle.image.specs.Layout.{sameNumbers, sameType, isNew}
 use Rattle.image.specs.LaidOut.{Stands}
 use Rattle.image.specs.Types.{typeKindOf, typePlace, typeKind}
 use Rattle.laws.proofs.Booleans.{and-l, and-r, and-i, same-truth, eq-of, of-eq, no-path}

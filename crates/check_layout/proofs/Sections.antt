@@ -1,28 +1,22 @@
 -- 4, 5, 6 and 8 of a record of kind k, as tests on numbers.
 use Prim.Native.Nat.{ℕ, _<_}
 use mathlib.Core.Path.{_≡_, refl, sym, ap, _∙_}
-use mathlib.Core.Bool.{Bool, not}
+use mathlib.Core.Bool.{Bool}
 use mathlib.Core.List.{List, [], _∷_}
-use mathlib.Core.Option.{some}
 use lib.ListN.{length, getD}
 use lib.Dec.{eqb, leb, eqb·suc-zero}
 use Rattle.calculus.specs.Combinators.{choose}
-use Rattle.image.specs.Bytes.{numberAt}
-use Rattle.image.specs.Kinds.{Field, TypeKind, Kind, domain, type, term, rowOf, kindOf}
+use Rattle.image.specs.Kinds.{Field, Kind, domain, type, term, rowOf}
 use Rattle.laws.specs.Tests.{allOf, allBelow}
 use Rattle.image.specs.Records.{Layout, times, knownLength}
-use Rattle.image.specs.Layout.{longEnough, rightLength, isNil, inOrder, hasRoom, isNew}
-use Rattle.image.specs.Types.{typePlace}
+use Rattle.image.specs.Layout.{longEnough, rightLength, isNil, inOrder, hasRoom}
 use Rattle.laws.proofs.Booleans.{same-truth}
 use Rattle.laws.proofs.Tests.{all-of, of-all, all-below, below-all}
 use Rattle.image.proofs.Counts.{fields-length}
 use Rattle.check_records.specs.declared.numbers.Counts.{Counts}
 use Rattle.check_records.specs.Codes.{sectionNumber, sectionOf}
-use Rattle.check_records.specs.Descriptors.{Describes}
 use Rattle.check_records.proofs.Codes.{Packs}
-use Rattle.check_records.proofs.Descriptors.{same-descriptor}
-use Rattle.check_layout.specs.Numbers.{lengthFits, orderFits, roomFits, newDescriptor}
-use Rattle.check_layout.specs.Tables.{Described}
+use Rattle.check_layout.specs.Numbers.{lengthFits, orderFits, roomFits}
 
 -- 4
 long-enough : (gs : List Field) (m n : ℕ) → longEnough gs m n ≡ choose (eqb (length gs) 0) (leb m n) (eqb n m)

@@ -11,7 +11,7 @@ use Rattle.laws.specs.Tests.{all}
 use Rattle.laws.proofs.Booleans.{lt-of}
 use Rattle.image.specs.Records.{goesInto}
 use Rattle.check_records.specs.declared.numbers.Counts.{Counts}
-use Rattle.check_records.specs.Codes.{sizeOf, groupOf, lastOf, leastOf, classesOf, firstOf, timesIn, Sized}
+use Rattle.check_records.specs.Codes.{groupOf, lastOf, leastOf, classesOf, firstOf, timesIn, Sized}
 use Rattle.check_records.specs.Heads.{fieldIn}
 use Rattle.check_records.proofs.Skipped.{field-skipped}
 use Rattle.check_layout.specs.Fields.{fieldFrom, rangesFrom, groupsFrom, classesPast}

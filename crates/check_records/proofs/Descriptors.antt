@@ -7,7 +7,6 @@ use mathlib.Core.List.{List, [], _∷_}
 use mathlib.Core.Option.{some}
 use lib.ListN.{length, getD}
 use lib.Dec.{eqb, leb}
-use Rattle.laws.specs.Tests.{all}
 use Rattle.image.specs.Bytes.{numberAt, fieldAt}
 use Rattle.image.specs.Kinds.{TypeKind, domain, type, typeRow, rowOf, kindOf, fieldsOf}
 use Rattle.image.specs.Records.{orElse, kindAt, times, fieldsAt, numbersAt}

@@ -1,7 +1,7 @@
 -- The entries of a match (card 6), one after another, as a loop over its fields takes them.
 use Prim.Native.Nat.{ℕ, suc, _+_, _-_, _*_, _≤_, _<_}
 use native.Mathlib.Omega.{arith}
-use mathlib.Core.Path.{_≡_, refl, sym, ap, _∙_}
+use mathlib.Core.Path.{_≡_, sym, ap, _∙_}
 use mathlib.Core.List.{List, [], _++_}
 use Rattle.image.specs.Bytes.{words}
 use Rattle.image.specs.Kinds.{an-entry}

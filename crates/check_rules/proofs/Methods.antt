@@ -1,10 +1,10 @@
 -- The methods of an object's type (card 3), read off the image, and the rules of objects and calls on them.
-use Prim.Native.Nat.{ℕ, zero, suc, _+_, _-_, _*_, _/_, _≤_, _<_}
+use Prim.Native.Nat.{ℕ, _+_, _-_, _*_, _≤_, _<_}
 use native.Mathlib.Omega.{arith}
 use native.Mathlib.Numerals.{add-one}
 use mathlib.Core.Path.{_≡_, refl, sym, ap, subst, _∙_}
 use mathlib.Core.Bool.{Bool, true, false}
-use mathlib.Core.List.{List, [], _∷_, map}
+use mathlib.Core.List.{List, [], _∷_}
 use lib.ListN.{length, getD, drop, length-map, drop-of-length-le}
 use lib.Seq.{drop-cons}
 use lib.Dec.{eqb}
@@ -17,16 +17,15 @@ use Rattle.image.specs.declared.Refusal.{Refusal}
 use Rattle.image.specs.Limits.{methodLimit}
 use Rattle.image.specs.LaidOut.{Stands}
 use Rattle.image.specs.Layout.{recordsOf}
-use Rattle.image.specs.Types.{typePlace, typeKind, typeFields, typeField, methodCount, isType}
+use Rattle.image.specs.Types.{typePlace, typeKind, typeFields, typeField, methodCount}
 use Rattle.laws.proofs.Booleans.{lt-of}
 use Rattle.laws.proofs.Tests.{each}
-use Rattle.image.proofs.Laid.{Good}
 use Rattle.image.proofs.Offsets.{number-at}
 use Rattle.image.proofs.Words.{words-length}
 use Rattle.image.proofs.TypeNumbers.{type-kind}
 use Rattle.verdict.specs.declared.Verdict.{Verdict}
 use Rattle.verdict.specs.Settings.{Setting}
-use Rattle.verdict.specs.Rules.{Descriptor, is, gives, bodiesFit}
+use Rattle.verdict.specs.Rules.{Descriptor, is, bodiesFit}
 use Rattle.verdict.specs.Check.{describe, described}
 use Rattle.verdict.proofs.Methods.{method-fields}
 use Rattle.check_records.specs.Heads.{IsWhole, fieldsAt, fieldIn}
@@ -35,7 +34,7 @@ use Rattle.check_rules.specs.Lent.{Types, TypeOffsets, IsType, IsObject}
 use Rattle.check_rules.specs.Fields.{typesIn, countIn, ruleIn}
 use Rattle.check_rules.specs.Judged.{judged, descriptorIs, callFits}
 use Rattle.check_rules.proofs.Lists.{table-long, table-at}
-use Rattle.check_rules.proofs.Descriptors.{unpacked, describes}
+use Rattle.check_rules.proofs.Descriptors.{describes}
 use Rattle.check_rules.proofs.Located.{good-of, image-is}
 use Rattle.check_rules.proofs.Small.{alone, holds-first, fails-first, mistyped}
 use Rattle.check_rules.proofs.OnDescriptors.{typeAtField, types-length}

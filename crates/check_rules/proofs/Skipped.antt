@@ -1,7 +1,7 @@
 -- What stands behind the known fields of a term does not matter (document 02, card 1): its rule, and where its children stand, are those of its known fields fs, whatever bytes gs follow.
 use Prim.Native.Nat.{ℕ, _+_, _-_, _*_, _/_, _≤_, _<_}
 use native.Mathlib.Omega.{arith}
-use mathlib.Core.Path.{_≡_, refl, sym, ap, _∙_}
+use mathlib.Core.Path.{_≡_, sym, ap, _∙_}
 use mathlib.Core.List.{List, _++_}
 use lib.ListN.{length}
 use Rattle.image.specs.Bytes.{words}

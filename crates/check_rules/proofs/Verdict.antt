@@ -10,7 +10,7 @@ use Rattle.image.specs.declared.Refusal.{Refusal}
 use Rattle.image.specs.Bytes.{words}
 use Rattle.image.specs.Kinds.{TermKind}
 use Rattle.image.specs.Layout.{recordsOf}
-use Rattle.image.specs.Types.{termPlace, termKind, children}
+use Rattle.image.specs.Types.{termPlace, termKind}
 use Rattle.verdict.specs.declared.Verdict.{Verdict}
 use Rattle.verdict.specs.Settings.{Setting}
 use Rattle.verdict.specs.Check.{ruleAt, settingAt}

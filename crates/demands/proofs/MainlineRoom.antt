@@ -1,5 +1,5 @@
 -- Domain 0's counts, and its room, in two calls (card 9).
-use Prim.Native.Nat.{ℕ, _≤_}
+use Prim.Native.Nat.{ℕ}
 use native.Mathlib.Omega.{arith}
 use mathlib.Core.Path.{_≡_, refl, sym, ap, _∙_}
 use mathlib.Core.Bool.{Bool, true, true≢false}
@@ -9,7 +9,7 @@ use lib.ListN.{length, length-map}
 use Rattle.calculus.specs.declared.Outcome.{Outcome}
 use Rattle.calculus.specs.Syntax.{Dom, Val}
 use Rattle.calculus.specs.Run.{End, done, stopped, stuck, Ended}
-use Rattle.calculus.specs.Report.{outcomeNumber, outcomeOf, report as reported}
+use Rattle.calculus.specs.Report.{outcomeNumber, outcomeOf}
 use Rattle.calculus_safety.proofs.Runs.{program-safe}
 use Rattle.calculus_noninterference.specs.Observe.{highPrints, lacksMainline, endsShort, Same}
 use Rattle.calculus_noninterference.proofs.Reported.{reports-done}

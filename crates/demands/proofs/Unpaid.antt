@@ -1,23 +1,23 @@
 -- Card 5 of document 02: the answers that change, and how (specs/Unpaid.antt).
 use Prim.Native.Nat.{ℕ, zero, suc, _+_}
 use native.Mathlib.Omega.{arith}
-use mathlib.Core.Path.{_≡_, refl, sym, ap, subst, _∙_}
+use mathlib.Core.Path.{_≡_, refl, sym, ap, _∙_}
 use mathlib.Core.Bool.{Bool, true, false, true≢false, _&&_}
 use mathlib.Core.List.{List, []}
 use mathlib.Core.Option.{Option, none, some}
 use lib.ListN.{length}
-use lib.Dec.{T, eqb, ltb, ltb→lt}
+use lib.Dec.{eqb, ltb→lt}
 use borrow.Author.Tests.{eq-eqb, ne-eqb, lt-ltb}
 use Rattle.calculus.specs.declared.Outcome.{Outcome}
 use Rattle.calculus.specs.Combinators.{choose, cases}
 use Rattle.calculus.specs.Syntax.{Ty, Val, Tm, asValue}
 use Rattle.calculus.specs.State.{State, Given, fresh}
-use Rattle.calculus.specs.Answer.{Answer, go, full, halt, wrong}
+use Rattle.calculus.specs.Answer.{Answer, go}
 use Rattle.calculus.specs.Place.{top}
 use Rattle.calculus.specs.Step.{step}
 use Rattle.calculus.specs.Run.{done, stopped, stuck, Ended, ended, after, unpaid, run}
 use Rattle.calculus.specs.Report.{outcomeNumber}
-use Rattle.calculus.specs.Typing.{Policy, StoreTyping, TmTy, noStore}
+use Rattle.calculus.specs.Typing.{Policy, StoreTyping, TmTy}
 use Rattle.calculus.specs.Accepted.{Transitive}
 use Rattle.laws.proofs.Booleans.{and-i}
 use Rattle.calculus_safety.proofs.StoreFits.{StateFits, fits-fresh}
@@ -29,9 +29,8 @@ use Rattle.image.specs.Program.{toTm}
 use Rattle.verdict.specs.declared.Verdict.{Verdict}
 use Rattle.verdict.specs.Verdicts.{verdict}
 use Rattle.verdict.specs.Domains.{policy}
-use Rattle.report.specs.declared.Ending.{Ending}
 use Rattle.calls.specs.Runs.{Accepts, programOf, givenBy, runOf}
-use Rattle.calls.specs.Calls.{Left, answerOf, leftBy, afterVerdict, called}
+use Rattle.calls.specs.Calls.{Left, answerOf, leftBy, called}
 use Rattle.calls.proofs.Accepted.{transitive, typed}
 use Rattle.demands.specs.Unpaid.{runBefore, calledBefore, namesRoom, lacksNext, Card5}
 

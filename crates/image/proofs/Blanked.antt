@@ -5,7 +5,7 @@ use mathlib.Core.Bool.{Bool, true, false, not}
 use mathlib.Core.List.{List}
 use lib.ListN.{getD}
 use Rattle.calculus.specs.Combinators.{choose}
-use Rattle.calculus.specs.Syntax.{Dom, Ty, Sigs, noMethod, method, Val, Tm, Tms, val, lam, pcd, adv, lower, obj}
+use Rattle.calculus.specs.Syntax.{Dom, Ty, Sigs, noMethod, method, Val, Tms, val, lam, pcd, adv, lower, obj}
 use Rattle.calculus.specs.Plain.{domOf, methodsOf, methodDom}
 use Rattle.calculus.specs.Blank.{blank as blankTm, blanks, blankBodies}
 use Rattle.image.specs.Kinds.{TermKind}

@@ -1,13 +1,13 @@
 -- Others and children that come from one record of a kind; of a match, as many pointcuts as children behind its first three (card 6).
 use Prim.Native.Nat.{ℕ, zero, suc, _+_}
 use native.Mathlib.Omega.{arith}
-use mathlib.Core.Path.{_≡_, refl, sym, ap, _∙_}
+use mathlib.Core.Path.{_≡_, refl, ap}
 use mathlib.Core.List.{List, [], _∷_, _++_}
 use lib.ListN.{length}
 use Rattle.calculus.specs.Syntax.{Pattern, atEnd, atRest, anything, pointcut}
 use Rattle.image.specs.Kinds.{Field, a-truth, an-entry, TermKind, termRow, again, fieldsOf}
 use Rattle.image.specs.Records.{asChild, asOther, given}
-use Rattle.image.specs.Program.{entryOf, patternOf}
+use Rattle.image.specs.Program.{patternOf}
 
 -- The others vs and n children are those of a record of kind k.
 pub record Fitting (k : TermKind) (vs : List ℕ) (n : ℕ) : Type 0 where

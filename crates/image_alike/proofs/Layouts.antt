@@ -10,14 +10,14 @@ use lib.Dec.{eqb, ltb, leb}
 use borrow.Author.Tests.{ne-eqb}
 use Rattle.image.specs.declared.Refusal.{Refusal}
 use Rattle.image.specs.Limits.{domainLimit, typeLimit, termLimit}
-use Rattle.laws.specs.Tests.{all, allOf, firstFault}
+use Rattle.laws.specs.Tests.{all, firstFault}
 use Rattle.image.specs.Bytes.{lengthAt, numberAt}
 use Rattle.image.specs.Kinds.{in-domains, in-operations, in-truths, any-number, Field, a-type, own, a-term, an-entry, TypeKind, Kind, domain, type, term, Row, typeRow, rowOf, kindOf}
 use Rattle.image.specs.Records.{Layout, orElse, kindAt, fieldsAt, numbersAt}
-use Rattle.image.specs.Layout.{nothing, framed, known, rightLength, inOrder, hasRoom, within, allWithin, inRange, sameNumbers, sameType, isNew, tests, add, Scan, stopped, laid, walk, layout}
+use Rattle.image.specs.Layout.{nothing, framed, known, rightLength, inOrder, hasRoom, within, allWithin, inRange, sameType, isNew, tests, add, Scan, stopped, laid, walk, layout}
 use Rattle.laws.proofs.Booleans.{no-path, le-of, eq-of, of-eq}
 use Rattle.laws.proofs.Tests.{each}
-use Rattle.image_alike.specs.SameRecords.{Readable, SameRecord, SameFrom, ends, next, SameRecords}
+use Rattle.image_alike.specs.SameRecords.{SameRecord, SameFrom, ends, next, SameRecords}
 use Rattle.image_alike.proofs.Paired.{same-kind, same-fields, same-numbers, no-pair, pair-count, pair-nil, pair-more, all-paired, Alike}
 
 -- Tests that agree, the later ones where the first holds.

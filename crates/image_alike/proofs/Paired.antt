@@ -6,7 +6,7 @@ use mathlib.Core.Bool.{Bool}
 use mathlib.Core.List.{List, [], _∷_, _++_}
 use lib.ListN.{length, getD}
 use Rattle.laws.specs.Tests.{allOf}
-use Rattle.image.specs.Kinds.{Field, Kind, domain, Row, rowOf, kindOf}
+use Rattle.image.specs.Kinds.{Field, domain, Row, rowOf, kindOf}
 use Rattle.image.specs.Records.{Layout, orElse, kindAt, fieldsAt, numbersAt, given}
 use Rattle.image.specs.Layout.{isNil}
 use Rattle.image_alike.specs.SameRecords.{SameRecord}

@@ -5,7 +5,7 @@ use mathlib.Core.Path.{_≡_, refl, sym, ap, _∙_}
 use mathlib.Core.List.{List, [], _∷_}
 use lib.ListN.{length, getD}
 use Rattle.image.specs.Bytes.{lengthAt, numberAt, fieldAt}
-use Rattle.image.specs.Kinds.{Field, TypeKind, Kind, domain, type, term, typeRow, termRow, rowOf, kindOf, fieldsOf}
+use Rattle.image.specs.Kinds.{Field, TypeKind, domain, typeRow, termRow, rowOf, kindOf, fieldsOf}
 use Rattle.image.specs.Records.{Layout, orElse, kindAt, times, fieldsAt, numbersAt, asChild, asOther, given}
 use Rattle.image.specs.Types.{typeKindOf, termKindOf, typePlace, termPlace, typeNumber, typeKind, typeFields, typeField, methodCount, typeOut, typeFrom, typeOf, termKind, typeNo, others, children, statedType}
 use Rattle.image.specs.Program.{subtrees, tree, program}

@@ -2,17 +2,17 @@
 use Prim.Native.Nat.{ℕ, _≤_}
 use native.Mathlib.Omega.{arith}
 use mathlib.Core.Path.{_≡_, refl, sym, ap, _∙_}
-use mathlib.Core.List.{List, [], _∷_}
+use mathlib.Core.List.{List}
 use lib.ListN.{length}
 use lib.Dec.{leb}
 use Rattle.image.specs.declared.Refusal.{Refusal}
 use Rattle.image.specs.Limits.{imageLimit, workLength, reportLength}
-use Rattle.image.specs.Layout.{Scan, stopped, laid, layout, recordsOf}
+use Rattle.image.specs.Layout.{Scan, layout, recordsOf}
 use Rattle.image.specs.Program.{program}
 use Rattle.laws.proofs.Booleans.{of-le}
 use Rattle.image.proofs.Laid.{layout-good, records-of}
 use Rattle.verdict.specs.declared.Verdict.{Verdict}
-use Rattle.verdict.specs.Answers.{require, inTurn}
+use Rattle.verdict.specs.Answers.{require}
 use Rattle.verdict.specs.Shape.{shape}
 use Rattle.verdict.specs.Check.{typing}
 use Rattle.verdict.specs.Verdicts.{laidOut, verdict}

@@ -2,16 +2,15 @@
 use Prim.Native.Nat.{ℕ, zero, suc, _+_, _-_, _*_, _/_, _%_, _≤_, _<_}
 use native.Mathlib.Omega.{arith}
 use mathlib.Core.Path.{_≡_, refl, sym, ap, subst, _∙_}
-use mathlib.Core.Bool.{true, false}
-use mathlib.Core.List.{List, [], _∷_, _++_, append-assoc}
+use mathlib.Core.Bool.{true}
+use mathlib.Core.List.{List, [], _++_, append-assoc}
 use lib.ListN.{length, getD, take, drop, length-append, length-drop, List·getD-append}
 use lib.Seq.{getD-take, getD-drop, getD-append-add, length-take-le}
-use lib.Dec.{leb}
 use borrow.Author.Tests.{le-leb, lt-leb}
 use Rattle.image.specs.Bytes.{le16, words, lengthAt, numberAt}
 use Rattle.image.specs.Kinds.{domain, Row, rowOf, kindOf, fieldsOf}
 use Rattle.image.specs.Records.{orElse, kindAt, goesInto, times, knownLength, fieldsAt, numbersAt}
-use Rattle.image.specs.Layout.{isSome, framed, known, rightLength}
+use Rattle.image.specs.Layout.{isSome, known, rightLength}
 use Rattle.image.specs.LaidOut.{Stands}
 use Rattle.laws.proofs.Booleans.{of-le}
 use Rattle.laws.proofs.Tests.{of-each}

@@ -22,11 +22,11 @@ use Rattle.image.proofs.Offsets.{number-at}
 use Rattle.image.proofs.Laid.{Below, Good}
 use Rattle.verdict.specs.declared.Verdict.{Verdict}
 use Rattle.verdict.specs.Answers.{require, requireFrom, inTurn}
-use Rattle.verdict.specs.Domains.{bits, masks, order, leq}
+use Rattle.verdict.specs.Domains.{bits, order, leq}
 use Rattle.verdict.specs.Order.{atFault}
 use Rattle.verdict.specs.Shape.{setAll, noneEmpty, uses, usedOnce, depthsFrom, depths, shape}
-use Rattle.verdict.specs.Settings.{Setting, bindsRest, contextOf, domainOf}
-use Rattle.verdict.specs.Rules.{Descriptor, ruleFaults, rule}
+use Rattle.verdict.specs.Settings.{Setting, bindsRest, contextOf}
+use Rattle.verdict.specs.Rules.{ruleFaults, rule}
 use Rattle.verdict.specs.Check.{describe, described, typeNos, ruleBy, ruleAt, settingAt, checkAll, check, rootSetting, typing}
 use Rattle.verdict.proofs.Sound.{term-facts, TermFacts}
 use Rattle.image.specs.LaidOut.{Stands}

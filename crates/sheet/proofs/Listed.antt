@@ -1,16 +1,16 @@
 -- The listing of the sheet's call, whole at the front of a buffer.
-use Prim.Native.Nat.{ℕ, _+_, _≤_}
+use Prim.Native.Nat.{ℕ, _≤_}
 use native.Mathlib.Omega.{arith}
 use mathlib.Core.Path.{_≡_, ap, _∙_}
 use mathlib.Core.List.{List}
 use lib.ListN.{length}
 use Rattle.image.specs.Limits.{workLength, reportLength}
 use Rattle.calls.specs.declared.Answer.{Answer}
-use Rattle.calls.specs.Calls.{Left, called}
+use Rattle.calls.specs.Calls.{called}
 use Rattle.listing.specs.Listing.{listing, listingBound}
 use Rattle.listing.specs.Puts.{PutsWithin}
 use Rattle.listing.specs.Sheet.{sheetFrame, sheetLogLength, zeros, sheetCall, sheetListing, sheetListingLength, listingOf, Listed}
-use Rattle.listing.proofs.Puts.{as-text, fits-whole}
+use Rattle.listing.proofs.Puts.{fits-whole}
 
 module _ (b frame : List ℕ) (budget : ℕ) (e : frame ≡ sheetFrame) (a : Answer) (log report work : List ℕ) (run : record { answer = a; log = log; report = report; work = work } ≡ called b frame budget (zeros sheetLogLength) (zeros reportLength) (zeros workLength)) where
   -- What the call answered and left is the sheet's.

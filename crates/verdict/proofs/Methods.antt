@@ -10,13 +10,12 @@ use Rattle.calculus.specs.Syntax.{Dom, Ty, op0, abort}
 use Rattle.calculus.specs.Typing.{Policy, noStore, Has, has-first, has-later, t-abort, TmTy, BodiesTy, no-body, a-body, is-op0}
 use Rattle.image.specs.Kinds.{a-type, free, TypeKind, typeRow}
 use Rattle.image.specs.Records.{Layout, fieldsAt}
-use Rattle.image.specs.Types.{typePlace, typeFields, typeField, methodCount, isType, methodsOut, typeOf}
+use Rattle.image.specs.Types.{typePlace, typeFields, typeField, methodCount, isType, methodsOut}
 use Rattle.laws.proofs.Booleans.{and-l, and-r, and-i, eq-of, of-eq}
 use Rattle.image.proofs.Laid.{Good}
 use Rattle.image.proofs.Words.{words-length}
 use Rattle.image.proofs.TypeNumbers.{methodFields, type-kind}
-use Rattle.verdict.specs.Domains.{policy}
-use Rattle.verdict.specs.Rules.{Descriptor, gives, bodiesFit}
+use Rattle.verdict.specs.Rules.{Descriptor, bodiesFit}
 use Rattle.verdict.specs.Check.{described}
 use Rattle.verdict.specs.WellTyped.{aborts}
 

@@ -1,5 +1,5 @@
 -- The pattern of a match (card 6): over pointcuts of the types that it asks for, it binds the types that its first branch is said to bind.
-use Prim.Native.Nat.{ℕ, suc, _+_}
+use Prim.Native.Nat.{ℕ, suc}
 use native.Mathlib.Omega.{arith}
 use mathlib.Core.Path.{_≡_, refl, ap}
 use mathlib.Core.Bool.{true}

@@ -5,7 +5,7 @@ use mathlib.Core.Path.{_≡_, refl, sym, ap, subst, _∙_}
 use mathlib.Core.Bool.{true}
 use mathlib.Core.List.{List, [], _∷_, reverseAux}
 use lib.ListN.{drop}
-use Rattle.calculus.specs.Syntax.{Dom, Ty, Sigs, noMethod, method, Val, Tm, Tms, Pattern, val, op0, split, adv, match, abort}
+use Rattle.calculus.specs.Syntax.{Dom, Ty, Sigs, method, Val, Tm, Tms, Pattern, val, op0, split, adv, match, abort}
 use Rattle.calculus.specs.Typing.{Policy, noStore, t-abort, v-unit, TmTy, TmsTy, BodiesTy, a-body, is-val, is-lam, is-op0, is-op1, is-op2, is-seq, is-ite, is-split, is-pcd, is-adv, is-lower, is-obj, is-keep, is-match, is-end, is-more}
 use Rattle.calculus.specs.Plain.{domOf, methodDom}
 use Rattle.image.specs.Kinds.{TermKind}

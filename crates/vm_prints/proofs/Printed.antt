@@ -12,7 +12,7 @@ use Rattle.vm_code.specs.Values.{bodyOf, unitValue}
 use Rattle.vm_code.specs.Words.{domainOf}
 use Rattle.vm_machine.specs.declared.Regs.{Regs}
 use Rattle.vm_machine.specs.Registers.{headroom, setLogged, halt}
-use Rattle.vm_machine.specs.States.{State, withRegs}
+use Rattle.vm_machine.specs.States.{State}
 use Rattle.vm_machine.specs.Reduce.{given, reducePrint}
 use Rattle.vm_tables.proofs.Chosen.{chosen-yes, chosen-no}
 use Rattle.vm_states.specs.Phases.{stateOf, Moved, Phase}

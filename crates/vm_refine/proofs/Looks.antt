@@ -4,7 +4,7 @@ use native.Mathlib.Omega.{arith}
 use mathlib.Core.Path.{_≡_, refl, sym, ap, subst, _∙_}
 use mathlib.Core.Bool.{Bool, true, false, _&&_}
 use mathlib.Core.List.{List, [], _∷_, _++_, reverse}
-use mathlib.Core.Option.{Option, none}
+use mathlib.Core.Option.{Option}
 use lib.ListN.{length, drop, length-append}
 use borrow.Author.Tests.{eq-eqb, ne-eqb}
 use Rattle.calculus.specs.Combinators.{choose}
@@ -22,7 +22,6 @@ use Rattle.vm_theory.proofs.Leads.{atom-leads}
 use Rattle.vm_theory.proofs.Bound.{bound-tm}
 use Rattle.vm_theory.proofs.Located.{Located, l-listed}
 use Rattle.vm_code.specs.Words.{countOf, entryPlace, closePlace}
-use Rattle.vm_code.specs.Classes as classes
 use Rattle.vm_code.specs.Says.{SaysPattern, says-end, says-rest, says-anything, says-cut, SaysCode}
 use Rattle.vm_machine.specs.Memory.{Memory, isKept, topEntry, restOf, entryLabel, hasBit, pieceSecond, pieceOf}
 use Rattle.vm_machine.specs.Fetch.{Program, codeAt, atomValue}

@@ -12,11 +12,11 @@ use Rattle.calculus.specs.declared.Outcome.{Outcome}
 use Rattle.calculus.specs.Limits.{frameLimit, bindingLimit}
 use Rattle.calculus.specs.Combinators.{choose}
 use Rattle.calculus.specs.Syntax.{Dom, Ty, Tm, mark}
-use Rattle.calculus.specs.State.{Advice, Given, fresh, charged, addUses, adviceBindings}
+use Rattle.calculus.specs.State.{Advice, Given, charged, addUses, adviceBindings}
 use Rattle.calculus.specs.Compose.{triggeredBy}
 use Rattle.calculus.specs.Place.{Place}
 use Rattle.calculus.specs.Answer.{go, full, if-room, with}
-use Rattle.closure_machine.specs.Closure.{CVal, Env, Body, CState, plainVal, plainState}
+use Rattle.closure_machine.specs.Closure.{CVal, Env, Body, CState, plainVal}
 use Rattle.closure_machine.specs.Machine.{Control, ret, triggered, triggeredF, Stack, CAnswer, due, reduce2C, move}
 use Rattle.vm_theory.specs.Conf.{Site, adviceA, Chain, Slots, base, keptBy, depthAt, trigger}
 use Rattle.vm_theory.specs.Stands.{stackAt}

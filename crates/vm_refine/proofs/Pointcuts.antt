@@ -12,9 +12,9 @@ use borrow.Author.Tests.{leb-true, leb-false, le-leb, lt-leb, ne-eqb}
 use Rattle.calculus.specs.declared.Outcome.{Outcome}
 use Rattle.calculus.specs.Combinators.{choose}
 use Rattle.calculus.specs.Syntax.{Tm, asValue, val, var, lam, op0, op1, op2, seq, ite, split, pcd, adv, lower, obj, keep, match}
-use Rattle.calculus.specs.State.{Given, fresh}
+use Rattle.calculus.specs.State.{Given}
 use Rattle.calculus.specs.Place.{Place, framed}
-use Rattle.closure_machine.specs.Closure.{CVal, Env, CState, close, plainTm, plainState}
+use Rattle.closure_machine.specs.Closure.{CVal, Env, CState, close, plainTm}
 use Rattle.closure_machine.specs.Machine.{Control, eval, pcdN, opNF, Stack, placeAt, due, redex, reduceNC, move}
 use Rattle.vm_theory.specs.Code.{isAtom, entry}
 use Rattle.vm_theory.specs.Conf.{Site, manyA, Chain, Slots, base, depthAt, domAt, placeOf, body, begin}

@@ -24,7 +24,7 @@ use Rattle.vm_machine.specs.Registers.{setInstalled, stepped}
 use Rattle.vm_machine.specs.Memory.{Memory, wordAt, installedBase, installedAt, putInstalled, keptBase, pieceFirst, adviceDom, hasBit}
 use Rattle.vm_machine.specs.States.{State}
 use Rattle.vm_machine.specs.Fetch.{Program, codeAt}
-use Rattle.vm_machine.specs.Reduce.{Bound, stayOne, stayOthers, reduceTakedown}
+use Rattle.vm_machine.specs.Reduce.{Bound, stayOthers, reduceTakedown}
 use Rattle.vm_refine.proofs.Relations.{Sizes, sizes, is-unit, IsAdvice, at-piece, Grows, advice-grows}
 use Rattle.vm_refine.proofs.Tables.{word-same, word-other, grows-put, grows-refl, grows-sizes, grows-trans, SameSlots, slots-put, slots-refl, slots-trans}
 use Rattle.vm_refine.proofs.Store.{AreAdvices, none-installed, one-installed, install-more, advices-change, Store, cell-change}

@@ -1,5 +1,5 @@
 -- The bindings that a match makes, one after another.
-use Prim.Native.Nat.{ℕ, zero, suc, _+_, _-_, _≤_, _<_}
+use Prim.Native.Nat.{ℕ, suc, _+_, _-_, _≤_, _<_}
 use native.Mathlib.Omega.{arith}
 use mathlib.Core.Path.{_≡_, refl, sym, ap, subst, _∙_}
 use mathlib.Core.Bool.{Bool, true, false}
@@ -13,7 +13,7 @@ use Rattle.vm_code.specs.Words.{countOf}
 use Rattle.vm_machine.specs.Memory.{Memory, topEntry, restOf}
 use Rattle.vm_machine.specs.Fetch.{Program}
 use Rattle.vm_machine.specs.Stacks.{Chained, entryAt, bindsRest, variables, bindInside, bindEntries}
-use Rattle.vm_tables.specs.View.{memoryOf, Holds}
+use Rattle.vm_tables.specs.View.{memoryOf}
 use Rattle.vm_tables.proofs.Chosen.{chosen-yes, chosen-no}
 use Rattle.vm_stacks.specs.declared.Chain.{Chain}
 use Rattle.vm_stacks.specs.Parts.{chainIn, Chains, entryBound, restBound}

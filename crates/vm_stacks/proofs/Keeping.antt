@@ -9,7 +9,7 @@ use Rattle.vm_code.specs.Values.{bodyOf}
 use Rattle.vm_code.specs.Words.{fieldC, depthOf, termCount}
 use Rattle.vm_machine.specs.declared.Regs.{Regs}
 use Rattle.vm_machine.specs.Registers.{headroom, setPc, setEnv, setRoom, setKept, halt}
-use Rattle.vm_machine.specs.Memory.{Memory, putKeep, putKept, slotPc, slotEnv}
+use Rattle.vm_machine.specs.Memory.{putKeep, putKept, slotPc, slotEnv}
 use Rattle.vm_machine.specs.States.{State, withRegs, ifLeft}
 use Rattle.vm_machine.specs.Fetch.{Program, codeAt, atomValue}
 use Rattle.vm_machine.specs.Reduce.{given}

@@ -1,14 +1,12 @@
 -- A match looks at its entries, one after another.
-use Prim.Native.Nat.{ℕ, zero, suc, _+_, _-_, _*_, _%_, _≤_, _<_}
+use Prim.Native.Nat.{ℕ, zero, suc, _+_, _-_, _≤_, _<_}
 use native.Mathlib.Omega.{arith}
-use mathlib.Core.Path.{_≡_, refl, sym, ap, ap₂, subst, _∙_}
-use mathlib.Core.Bool.{Bool, true, false, not, _&&_, _||_, false≢true}
-use mathlib.Core.List.{List}
+use mathlib.Core.Path.{_≡_, refl, sym, ap, ap₂, _∙_}
+use mathlib.Core.Bool.{Bool, true, false, not, _&&_, false≢true}
 use lib.Dec.{eqb, leb, ltb}
-use borrow.Author.Tests.{eq-eqb, ne-eqb, le-leb, lt-leb, lt-ltb, le-ltb}
+use borrow.Author.Tests.{eq-eqb, ne-eqb, le-leb, lt-leb, le-ltb}
 use Rattle.calculus.specs.Combinators.{choose}
-use Rattle.image.specs.Bytes.{le16}
-use Rattle.vm_code.specs.Words.{classOf, countOf, entryPlace, closePlace}
+use Rattle.vm_code.specs.Words.{classOf, countOf}
 use Rattle.vm_code.specs.Classes.{firstInstruction, isAtom}
 use Rattle.vm_machine.specs.Memory.{Memory, pieceOf, pieceSecond, hasBit, isKept, topEntry, entryLabel, restOf, heldStack}
 use Rattle.vm_machine.specs.Fetch.{Program, codeAt, atomValue}

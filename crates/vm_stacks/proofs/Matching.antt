@@ -1,7 +1,7 @@
 -- A match is made, and its operands begin and are worked out, by the tests that lead there.
-use Prim.Native.Nat.{ℕ, zero, suc, _+_, _-_, _/_, _%_, _≤_, _<_}
+use Prim.Native.Nat.{ℕ, _+_, _-_, _%_, _≤_, _<_}
 use native.Mathlib.Omega.{arith}
-use mathlib.Core.Path.{_≡_, refl, sym, ap, ap₂, subst, _∙_}
+use mathlib.Core.Path.{_≡_, refl, sym, ap, subst, _∙_}
 use mathlib.Core.Bool.{Bool, true, false, not}
 use mathlib.Core.List.{List}
 use lib.ListN.{getD}
@@ -19,8 +19,8 @@ use Rattle.vm_machine.specs.declared.Pools.{Pools}
 use Rattle.vm_machine.specs.declared.Regs.{Regs}
 use Rattle.vm_machine.specs.Registers.{headroom, fullRoom, setPc, setEnv, setRoom, setLeft, haltWith, halt, stepped}
 use Rattle.vm_machine.specs.Pools.{halfOf, whole, chargeBindings, hasRoom, bindingsOut}
-use Rattle.vm_machine.specs.Memory.{Memory, bindingPlaces, slotPc, slotEnv, putMatch, heldStack, besideAt}
-use Rattle.vm_machine.specs.States.{State, withRegs, withMemory, judged}
+use Rattle.vm_machine.specs.Memory.{bindingPlaces, slotPc, slotEnv, putMatch, heldStack, besideAt}
+use Rattle.vm_machine.specs.States.{State, withRegs, judged}
 use Rattle.vm_machine.specs.Fetch.{Program, codeAt, atomValue, called}
 use Rattle.vm_machine.specs.Stacks.{Looked, Chained, entryAt, cutTerm, unlooked, pastCut, lookOn, lookedByte, lookedWith, stackToCome, matches, variables, bindEntries}
 use Rattle.vm_machine.specs.Turn.{entryFrom, begunAt, beginOperand, reduceMatch, entriesFrom, beginMatch, resumeMatch}

@@ -1,11 +1,11 @@
 -- The record of a match (card 6) by its fields: its stack, its branches and its entries, which name lower terms.
-use Prim.Native.Nat.{ℕ, zero, suc, _+_, _-_, _*_, _/_, _≤_, _<_}
+use Prim.Native.Nat.{ℕ, zero, suc, _+_, _-_, _*_, _≤_, _<_}
 use native.Mathlib.Omega.{arith}
 use mathlib.Core.Path.{_≡_, refl, sym, ap, subst, _∙_}
 use mathlib.Core.List.{List, [], _∷_, _++_}
 use lib.ListN.{length, getD, length-append}
 use Rattle.image.specs.Bytes.{le16, words, lengthAt, fieldAt}
-use Rattle.image.specs.Kinds.{Field, a-truth, free, an-entry, TermKind, termRow}
+use Rattle.image.specs.Kinds.{a-truth, free, an-entry, TermKind, termRow}
 use Rattle.image.specs.Records.{fieldsAt, asOther, given, childrenAt, othersAt}
 use Rattle.image.specs.LaidOut.{Within, IsRecord}
 use Rattle.image.proofs.Words.{words-length}

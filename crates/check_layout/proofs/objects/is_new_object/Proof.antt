@@ -1,8 +1,7 @@
 -- `check_layout::objects::is_new_object` meets its contract: so far no type is the same.
 use Prim.Native.Nat.{ℕ, _-_, _≤_}
 use mathlib.Core.Path.{_≡_, refl, sym, ap, _∙_}
-use mathlib.Core.Bool.{Bool, true, false, not}
-use mathlib.Core.List.{List}
+use mathlib.Core.Bool.{Bool, true, not}
 use denote.Ref.{now}
 use Rattle.laws.specs.Tests.{allBelow}
 use Rattle.check_layout.specs.Numbers.{sameObject, newObject}

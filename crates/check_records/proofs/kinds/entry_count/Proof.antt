@@ -1,7 +1,7 @@
 -- `check_records::kinds::entry_count` meets its contract: a group behind children is one of entries.
 use borrow.Author.Needs.{needs}
 use native.Mathlib.Omega.{arith}
-use mathlib.Core.Path.{_≡_, _∙_}
+use mathlib.Core.Path.{_≡_}
 use Prim.Native.Nat.{_+_, _-_, _/_, _%_}
 use Rattle.check_records.specs.Codes.{countOf, lastOf}
 use Rattle.check_records.proofs.Codes.{told, no-group, group-of-children, group-of-entries}

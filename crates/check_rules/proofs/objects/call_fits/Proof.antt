@@ -1,6 +1,6 @@
 -- `check_rules::objects::call_fits` meets its contract.
 use native.Mathlib.Omega.{arith}
-use mathlib.Core.Path.{_≡_, sym, ap, _∙_}
+use mathlib.Core.Path.{sym, ap, _∙_}
 use denote.Ref.{now}
 use Prim.Native.Nat.{_≤_, _<_}
 use lib.Dec.{eqb}

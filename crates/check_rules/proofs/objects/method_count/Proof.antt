@@ -7,7 +7,6 @@ use Prim.Native.Nat.{_*_}
 use Rattle.image.specs.Layout.{recordsOf}
 use Rattle.image.specs.Types.{methodCount}
 use Rattle.check_rules.proofs.Methods.{method-bytes}
-use borrow.Author.Needs.{needs}
 use Rattle.check_rules.proofs.objects.method_count.Statement.{statement}
 use Rattle.check_rules.proofs.objects.method_count.Tie as tie
 

@@ -3,12 +3,11 @@ use mathlib.Core.Path.{_≡_, ap, _∙_}
 use native.Mathlib.Omega.{arith}
 use denote.Ref.{now}
 use lib.ListN.{length}
-use Prim.Native.Nat.{_+_, _*_}
+use Prim.Native.Nat.{_*_}
 use Rattle.image.specs.Layout.{recordsOf}
 use Rattle.image.specs.Types.{methodCount}
 use Rattle.check_records.specs.Heads.{fieldIn}
 use Rattle.check_rules.proofs.Methods.{few-methods, method-bytes, method-field}
-use borrow.Author.Needs.{needs}
 use Rattle.check_rules.proofs.objects.method_domain.Statement.{statement}
 use Rattle.check_rules.proofs.objects.method_domain.Tie as tie
 

@@ -8,7 +8,6 @@ use Rattle.image.specs.Layout.{recordsOf}
 use Rattle.image.specs.Types.{methodCount}
 use Rattle.check_records.specs.Heads.{fieldIn}
 use Rattle.check_rules.proofs.Methods.{few-methods, method-bytes, method-field}
-use borrow.Author.Needs.{needs}
 use Rattle.check_rules.proofs.objects.method_type.Statement.{statement}
 use Rattle.check_rules.proofs.objects.method_type.Tie as tie
 

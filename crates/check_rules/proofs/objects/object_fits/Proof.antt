@@ -1,6 +1,5 @@
 -- `check_rules::objects::object_fits` meets its contract.
-use mathlib.Core.Path.{_≡_, sym, ap, _∙_}
-use mathlib.Core.Bool.{false}
+use mathlib.Core.Path.{_≡_, sym, _∙_}
 use denote.Ref.{now}
 use lib.ListN.{length}
 use borrow.Author.Tests.{eq-eqb, ne-eqb, not-true, not-false}
@@ -10,7 +9,7 @@ use Rattle.image.specs.Types.{methodCount}
 use Rattle.verdict.specs.Rules.{bodiesFit}
 use Rattle.verdict.specs.Check.{describe, described}
 use Rattle.check_records.specs.Heads.{fieldIn}
-use Rattle.check_rules.specs.Fields.{typesIn, countIn}
+use Rattle.check_rules.specs.Fields.{typesIn}
 use Rattle.check_rules.proofs.Methods.{kind-seen, object-seen, first-fails, second-fails, third-tells, bodies-counted}
 use borrow.Author.Needs.{needs}
 use Rattle.check_rules.proofs.objects.object_fits.Statement.{statement}

@@ -3,7 +3,6 @@ use mathlib.Core.Path.{ap, _∙_}
 use denote.Ref.{now}
 use Rattle.check_records.specs.Heads.{fieldsAt}
 use Rattle.check_rules.proofs.Methods.{type-in-table, type-place-is, type-whole}
-use borrow.Author.Needs.{needs}
 use Rattle.check_rules.proofs.objects.type_fields.Statement.{statement}
 use Rattle.check_rules.proofs.objects.type_fields.Tie as tie
 

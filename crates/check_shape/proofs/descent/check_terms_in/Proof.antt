@@ -1,7 +1,7 @@
 -- The root has depth 1; the pass over the terms sets the others, and shows the uses.
 use Prim.Native.Nat.{_-_}
 use native.Mathlib.Omega.{arith}
-use mathlib.Core.Path.{_≡_, ap, sym, _∙_}
+use mathlib.Core.Path.{ap, sym, _∙_}
 use lib.ListN.{length}
 use denote.Ref.{now}
 use Rattle.image.specs.declared.Refusal.{Refusal}

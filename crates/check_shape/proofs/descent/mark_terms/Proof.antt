@@ -1,15 +1,12 @@
 -- The loop goes down from the root; the lower terms are left.
-use Prim.Native.Nat.{suc, _+_, _-_, _≤_, _<_}
+use Prim.Native.Nat.{suc, _-_, _≤_}
 use native.Mathlib.Omega.{arith}
 use mathlib.Core.Path.{_≡_, refl, ap, sym, _∙_}
 use lib.ListN.{length, getD}
 use denote.Ref.{now}
-use Rattle.image.specs.Bytes.{lengthAt, numberAt}
 use Rattle.image.specs.Layout.{recordsOf}
 use Rattle.image.specs.Limits.{termLimit, depthLimit}
 use Rattle.verdict.specs.Shape.{setAll}
-use Rattle.check_records.specs.Codes.{codeAt}
-use Rattle.check_records.specs.Heads.{fieldsAt}
 use Rattle.check_shape.specs.Marks.{more, lowAll, lowFrom, cappedFrom}
 use Rattle.check_shape.specs.Records.{childrenOfTerm}
 use Rattle.check_shape.proofs.UseCounts.{low-down, low-last}

@@ -10,7 +10,6 @@ use Rattle.image.specs.Layout.{recordsOf}
 use Rattle.verdict.specs.Domains.{bits}
 use Rattle.check_records.specs.Heads.{fieldsAt, fieldIn}
 use Rattle.check_records.proofs.Parts.{bytes-length, field-is}
-use Rattle.check_shape.specs.Records.{DomainAt}
 use Rattle.check_shape.proofs.Orders.{RowsTo, rows-none, rows-more, rows-all}
 use borrow.Author.Needs.{needs}
 use Rattle.check_shape.proofs.order.order_of.Statement.{statement}

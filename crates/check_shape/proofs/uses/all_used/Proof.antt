@@ -2,7 +2,6 @@
 use Prim.Native.Nat.{_-_, _≤_}
 use mathlib.Core.Path.{_≡_, refl}
 use lib.ListN.{getD}
-use denote.Ref.{now}
 use Rattle.laws.specs.Tests.{allBelow}
 use Rattle.check_shape.proofs.Answers.{below-more}
 use mathlib.Core.Bool.{not}

@@ -1,7 +1,6 @@
 -- The term is used again, and is the lowest or is not; or it is used for the first time.
 use native.Mathlib.Omega.{arith}
 use borrow.Author.Tests.{eq-eqb, ne-eqb}
-use borrow.Author.Needs.{needs}
 use Rattle.check_shape.proofs.uses.lowest.Statement.{statement}
 use Rattle.check_shape.proofs.uses.lowest.Tie as tie
 

@@ -14,7 +14,6 @@ use mathlib.Core.Logic.{⊎-elim}
 use borrow.Author.Tests.{leb-true, leb-false}
 use lib.ListN.{length, take}
 use denote.Ref.{now}
-use Rattle.verdict.proofs.Answered.{accepted-is}
 use Rattle.check_rules.specs.Lent.{contextIn}
 use Rattle.check_rules.proofs.Located.{typed-in}
 use Rattle.check_typing.proofs.TermPass.{front-start, refused-here, leaf-checked}

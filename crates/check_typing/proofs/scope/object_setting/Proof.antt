@@ -1,6 +1,6 @@
 -- `check_typing::scope::object_setting` meets its contract.
 use native.Mathlib.Omega.{arith}
-use mathlib.Core.Path.{_≡_, _∙_}
+use mathlib.Core.Path.{_≡_}
 use denote.Ref.{now}
 use Prim.Native.Nat.{_*_}
 use Rattle.image.specs.Layout.{recordsOf}

@@ -1,7 +1,6 @@
 use mathlib.Core.Path.{refl}
 use native.Mathlib.Omega.{arith}
 use borrow.Author.Tests.{eq-eqb, ne-eqb}
-use borrow.Author.Needs.{needs}
 use Rattle.vm_stacks.proofs.entries.of_entry.Statement.{statement}
 use Rattle.vm_stacks.proofs.entries.of_entry.Tie as tie
 

@@ -1,8 +1,7 @@
 use denote.Ref.{now}
 use Rattle.vm_tables.specs.View.{memoryOf}
-use mathlib.Core.Path.{_≡_, refl, sym, ap, _∙_}
-use native.Mathlib.Omega.{arith}
-use Prim.Native.Nat.{ℕ, _+_, _-_, _≤_, _<_}
+use mathlib.Core.Path.{_≡_, refl, sym, _∙_}
+use Prim.Native.Nat.{_-_}
 use Rattle.vm_machine.specs.Stacks.{lookOn}
 use Rattle.vm_stacks.specs.Parts.{lookedOf}
 use Rattle.vm_stacks.proofs.Looking.{look-none, look-stop, look-past, look-all}

@@ -1,8 +1,8 @@
 use denote.Ref.{now}
 use Rattle.vm_tables.specs.View.{memoryOf}
-use mathlib.Core.Path.{_≡_, refl, sym, ap, _∙_}
+use mathlib.Core.Path.{_≡_, sym, _∙_}
 use native.Mathlib.Omega.{arith}
-use Prim.Native.Nat.{ℕ, _+_, _-_, _≤_, _<_}
+use Prim.Native.Nat.{_-_, _≤_}
 use Rattle.vm_machine.specs.Stacks.{restAfter}
 use Rattle.vm_stacks.proofs.Looking.{behind-start, behind-more, behind-all}
 use borrow.Author.Needs.{needs}

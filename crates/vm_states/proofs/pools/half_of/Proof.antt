@@ -3,9 +3,6 @@ use lib.Dec.{eqb}
 use borrow.Author.Needs.{needs}
 use Rattle.vm_states.proofs.pools.half_of.Statement.{statement}
 use Rattle.vm_states.proofs.pools.half_of.Tie as tie
-use Rattle.vm_states.proofs.pools.half_of.Reads as reads
-use Rattle.vm_states.proofs.pools.half_of.Lts as lts
-use Rattle.vm_words.proofs.code.domain_of.Reads as domain-of-reads
 
 -- src/pools.rt:19:5
 domain-of-requires : tie.Need-domain-of-requires

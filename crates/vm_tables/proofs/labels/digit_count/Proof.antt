@@ -1,6 +1,6 @@
-use mathlib.Core.Path.{_≡_, refl, sym, ap, _∙_}
+use mathlib.Core.Path.{_≡_, sym, _∙_}
 use native.Mathlib.Omega.{arith}
-use Prim.Native.Nat.{_+_, _-_, _/_, _≤_}
+use Prim.Native.Nat.{_+_, _-_, _≤_}
 use Rattle.vm_machine.specs.Memory.{digitCount}
 use Rattle.vm_tables.proofs.Found.{count-none, count-end, count-more}
 use borrow.Author.Needs.{needs}

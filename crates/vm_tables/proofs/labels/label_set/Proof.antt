@@ -1,6 +1,6 @@
-use mathlib.Core.Path.{_≡_, refl, sym, ap, _∙_}
+use mathlib.Core.Path.{_≡_, refl, sym, _∙_}
 use native.Mathlib.Omega.{arith}
-use Prim.Native.Nat.{_+_, _-_, _/_, _≤_}
+use Prim.Native.Nat.{_-_, _≤_}
 use Rattle.vm_machine.specs.Memory.{labelSet}
 use Rattle.vm_tables.proofs.Found.{set-more, set-end}
 use borrow.Author.Needs.{needs}

@@ -4,9 +4,6 @@ use borrow.Author.Needs.{needs}
 use Rattle.calculus.proofs.Signed.{difference-below, difference-inside, difference-above}
 use Rattle.vm_words.proofs.value.difference.Statement.{statement}
 use Rattle.vm_words.proofs.value.difference.Tie as tie
-use Rattle.vm_words.proofs.value.difference.Reads as reads
-use Rattle.vm_words.proofs.value.difference.Lts as lts
-use Rattle.vm_words.proofs.value.flipped.Reads as flipped-reads
 
 -- src/value.rt:92:13
 flipped-requires : tie.Need-flipped-requires

@@ -4,9 +4,6 @@ use borrow.Author.Needs.{needs}
 use Rattle.calculus.proofs.Signed.{sum-below, sum-inside, sum-above}
 use Rattle.vm_words.proofs.value.sum.Statement.{statement}
 use Rattle.vm_words.proofs.value.sum.Tie as tie
-use Rattle.vm_words.proofs.value.sum.Reads as reads
-use Rattle.vm_words.proofs.value.sum.Lts as lts
-use Rattle.vm_words.proofs.value.flipped.Reads as flipped-reads
 
 -- src/value.rt:78:13
 flipped-requires : tie.Need-flipped-requires

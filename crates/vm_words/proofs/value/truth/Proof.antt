@@ -1,4 +1,3 @@
-use borrow.Author.Needs.{needs}
 use Rattle.vm_words.proofs.value.truth.Statement.{statement}
 use Rattle.vm_words.proofs.value.truth.Tie as tie
 
