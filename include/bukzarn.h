@@ -1,9 +1,10 @@
-/* The watch engine for C: the functions of libengine.a, libvalidator.a, libneeds.a, libwrite_fixed.a and
-   libwrite_load.a.
+/* The watch engine for C: the functions of libengine.a, libvalidator.a, libneeds.a, libwrite_fixed.a,
+   libwrite_load.a and libwrite_stripped.a.
 
    Build the libraries in the repository's root with
-       for name in engine validator needs write_fixed write_load; do rt staticlib $name; done
-   which writes target/staticlib/libengine.a and so on.
+       rt staticlib NAME
+   for each NAME of engine, validator, needs, write_fixed, write_load and write_stripped, which writes
+   target/staticlib/libNAME.a.
    Each needs memcpy and memset and nothing else: no heap, no files, no global state, so calls from several threads at
    once are safe as long as the memory that they write is different. Recursion is at most 64 deep; on the images tried a
    call took under 40,000 bytes of stack (tried, not proved).
@@ -74,7 +75,9 @@ enum bukzarn_refusal {
     BUKZARN_OUTSIDE_CLASS = 19,    /* of forecast_numbers alone; the lowest term that is outside its class */
     BUKZARN_SHORT_OUTPUT = 20,     /* of write_fixed_form alone; place 0 */
     BUKZARN_WRONG_DEPTH = 21,      /* of generate_load alone: a depth of 0 or over 9; place 0 */
-    BUKZARN_SHORT_LOAD = 22        /* of generate_load alone: an output under 16,384 bytes; place 0 */
+    BUKZARN_SHORT_LOAD = 22,       /* of generate_load alone: an output under 16,384 bytes; place 0 */
+    BUKZARN_WRONG_SET = 23,        /* of write_stripped_form alone: no set of high domains; place 0 */
+    BUKZARN_SHORT_STRIPPED_OUTPUT = 24 /* of write_stripped_form alone; place 0 */
 };
 
 /* Kinds of the records in log and report. A record is its length in bytes, its kind, then its fields; all are
@@ -161,6 +164,16 @@ uint64_t write_fixed_form(const uint8_t *image, size_t image_length, uint8_t *ou
    the image are unchanged, and of a refusal all are. Every image is accepted, and has at most 6,146 bytes. In
    libwrite_load.a. */
 uint64_t generate_load(uint32_t seed, size_t depth, uint8_t *out, size_t out_length);
+
+/* Writes the image without its watches (document 02, card 13) over the front of the output: bit p of `high` is set for
+   each domain p that is kept, and every body of a lower or an advice at another domain gives way to unit, in the fixed
+   form. The result is always accepted, and never longer than the image.
+
+   Answers as write_fixed_form does; refused are, after the check's 1 to 16, with 23 a set that lacks domain 0, names an
+   absent domain, or lacks a domain above a member, then with 24 an output shorter than the image. In
+   libwrite_stripped.a. */
+uint64_t write_stripped_form(const uint8_t *image, size_t image_length, uint16_t high, uint8_t *output,
+                             size_t output_length);
 
 /* Is this the answer of a run, not of a refusal? */
 static inline int bukzarn_is_run(uint64_t answer)

@@ -14,15 +14,19 @@
     watchtool.py fixed FILE [WATCH ...] [--name] [-o IMAGE]
                                                           the one image of a program; --name: its name in the archive
     watchtool.py load SEED DEPTH [-o IMAGE]               a generated image, the same at every station
+    watchtool.py strip FILE [WATCH ...] --keep DOMAINS [-o IMAGE]
+                                                          the image without the watches below these domains
+    watchtool.py rerun FILE [WATCH ...] --keep DOMAINS    runs both, and compares what the kept domains did
 
-FILE is an image if its name ends with .img, else a text (docs/LANGUAGE.md). `need` and `fixed` ask the built programs of
-these names in target/bin, or in the folder that BUKZARN_PROGRAMS names.
+FILE is an image if its name ends with .img, else a text (docs/LANGUAGE.md). DOMAINS are names with commas between them,
+of an image numbers. `need`, `fixed`, `strip` and `rerun` ask the built programs in target/bin, or in the folder that
+BUKZARN_PROGRAMS names.
 """
 import argparse
 import sys
 from pathlib import Path
 
-from watchlang import archive, generated, needs, programs, refusals, report
+from watchlang import archive, generated, needs, programs, refusals, report, stripped
 from watchlang.assembler import Assembled, assemble
 from watchlang.disassembler import disassemble, program
 from watchlang.gate import verdict
@@ -118,8 +122,26 @@ def generate(args):
         sys.exit(f"watchtool: {refused}: {refused.words}")
 
 
+def strip(args):
+    made = load(args.files)
+    write(ask("strip", made, str(stripped.mask(args.keep, made.domains))), args.out)
+
+
+def rerun(args):
+    """Both runs are those of the program `watch`, over the bench sheet's frame."""
+    made = load(args.files)
+    high = stripped.mask(args.keep, made.domains)
+    bare = ask("strip", made, str(high))
+    full, without = (stripped.read(programs.run("watch", image).decode(), high) for image in (made.image, bare))
+    words, holds = stripped.told(full, without, stripped.low_takedown(made.image, high))
+    write(words, args.out)
+    if not holds:
+        sys.exit("watchtool: the two runs differ where they may not")
+
+
 COMMANDS = {"asm": asm, "disasm": disasm, "picture": draw, "explain": explain, "report": show_report,
-            "need": need, "fixed": fixed, "load": generate, "refusals": lambda args: write(refusals.table(), args.out)}
+            "need": need, "fixed": fixed, "load": generate, "strip": strip, "rerun": rerun,
+            "refusals": lambda args: write(refusals.table(), args.out)}
 
 
 def main(words=None):
@@ -132,13 +154,14 @@ def main(words=None):
     parser.add_argument("--budget", type=int, default=needs.BUDGET, metavar="N", help="need: the budget of a call")
     parser.add_argument("--log", type=int, default=needs.LOG_LENGTH, metavar="BYTES", help="need: the length of its log")
     parser.add_argument("--name", action="store_true", help="fixed: the archive's name in place of the image")
+    parser.add_argument("--keep", metavar="DOMAINS", default="0", help="strip, rerun: the domains that are kept")
     args = parser.parse_intermixed_args(words)
     if not args.files and args.command != "refusals":
         parser.error("name a file")
     sys.setrecursionlimit(50_000)
     try:
         COMMANDS[args.command](args)
-    except (SourceError, report.Damaged, programs.Missing, OSError) as error:
+    except (SourceError, report.Damaged, programs.Missing, stripped.NoDomain, OSError) as error:
         sys.exit(f"watchtool: {error}")
     except Refused as refused:
         sys.exit(f"watchtool: the image is {refused}: {refused.words}")

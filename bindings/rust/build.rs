@@ -4,8 +4,13 @@ use std::env;
 use std::path::{Path, PathBuf};
 
 /// For each feature the library that it needs.
-const LIBRARIES: [(&str, &str); 4] =
-    [("VALIDATOR", "validator"), ("NEEDS", "needs"), ("FIXED", "write_fixed"), ("LOAD", "write_load")];
+const LIBRARIES: [(&str, &str); 5] = [
+    ("VALIDATOR", "validator"),
+    ("NEEDS", "needs"),
+    ("FIXED", "write_fixed"),
+    ("LOAD", "write_load"),
+    ("STRIPPED", "write_stripped"),
+];
 
 fn folder() -> PathBuf {
     match env::var_os("BUKZARN_LIBRARY") {

@@ -10,7 +10,7 @@ from watchlang.disassembler import program, tree
 from watchlang.gate import verdict
 from watchlang.layout import laid_out
 
-WATCH, NEED, FIXED = (common.ROOT / "target/bin" / name for name in ("watch", "need", "fixed"))
+WATCH, NEED, FIXED, STRIP = (common.ROOT / "target/bin" / name for name in ("watch", "need", "fixed", "strip"))
 
 
 def listing(image, program=WATCH):
@@ -66,6 +66,17 @@ class Fixed(unittest.TestCase):
             else:
                 self.assertEqual(said_by(form), said_by(image), n)
                 self.assertEqual(self.form(form), form, n)
+
+
+@unittest.skipUnless(STRIP.exists(), "target/bin/strip is not built")
+class Strip(unittest.TestCase):
+    def test_examples(self):
+        """Without its watches the procedure with watches is the procedure."""
+        plain = (common.ROOT / "examples" / "plain.img").read_bytes()
+        for name in ("count", "trace", "watched", "corrected", "three", "plausible", "greedy"):
+            image = (common.ROOT / "examples" / f"{name}.img").read_bytes()
+            made = subprocess.run([STRIP, "1"], input=image, capture_output=True, check=True).stdout
+            self.assertEqual(made, plain, name)
 
 
 if __name__ == "__main__":

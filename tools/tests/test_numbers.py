@@ -88,6 +88,8 @@ class Numbers(unittest.TestCase):
         causes["ShortOutput"] = constants("write_fixed", "Calls.antt")["shortOutput"]
         load = constants("write_load", "Loads.antt")
         causes |= {"WrongDepth": load["wrongDepth"], "ShortLoad": load["shortLoad"]}
+        stripped = constants("write_stripped", "Calls.antt")
+        causes |= {"WrongSet": stripped["wrongSetNumber"], "ShortStrippedOutput": stripped["shortOutput"]}
         self.assertEqual(rust("refusal.rs"), causes)
         self.assertEqual(sorted(refusals.REFUSALS), sorted(causes.values()))
         self.header_has(causes)

@@ -58,6 +58,11 @@ REFUSALS = {
          "Ask for a depth from 1 to 9."),
     22: ("the output for a load is shorter than 16,384 bytes",
          "Lend an output of at least 16,384 bytes, whatever the depth."),
+    23: ("the domains that are to be kept are no set of high domains: domain 0 is not among them, one of them is not there, "
+         "or a domain above one of them is left out",
+         "Keep domain 0, and with each domain every domain above it. The image is not at fault."),
+    24: ("the output that was lent for the image without its watches is shorter than the image",
+         "Lend an output as long as the image: without watches it is never longer. The image is not at fault."),
 }
 
 # For some kinds of terms, how to keep their type rule.
@@ -129,7 +134,7 @@ def mend_of(image, number, place):
 
 def describe(image, place, number, places, domains):
     """The record at a place: which one it is, and where it stands in the text."""
-    if number in (1, 9, 17, 18, 20, 21, 22):
+    if number in (1, 9, 17, 18, 20, 21, 22, 23, 24):
         return []
     found = record_at(image, place) if place < len(image) else 2
     if not isinstance(found, Record):

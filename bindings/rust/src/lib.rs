@@ -23,7 +23,8 @@
 //! [`run`] keeps the lent memory in one value and cannot be called with too little of it. [`call`] takes slices of any
 //! length, and refuses short ones. `validate` (with the feature `validator`) answers the verdict alone, `need` (with the
 //! feature `needs`) what a run will need, worked out without a run, `fixed_form` (with the feature `fixed`) the one image
-//! of an image's program, `load` (with the feature `load`) the image of a seed.
+//! of an image's program, `load` (with the feature `load`) the image of a seed, `stripped_form` (with the feature
+//! `stripped`) an image without its watches.
 #![deny(missing_docs, unsafe_code)]
 
 mod call;
@@ -40,6 +41,8 @@ pub mod program;
 mod raw;
 mod records;
 mod refusal;
+#[cfg(feature = "stripped")]
+mod stripped;
 
 #[cfg(feature = "validator")]
 pub use call::validate;
@@ -54,6 +57,8 @@ pub use needs::{need, Needs};
 pub use outcome::Outcome;
 pub use records::{Cell, Leaf, Leaves, LogRecord, Run};
 pub use refusal::{Cause, Refusal};
+#[cfg(feature = "stripped")]
+pub use stripped::{stripped_form, write_stripped};
 
 /// The longest image that can be accepted, in bytes.
 pub const IMAGE_LIMIT: usize = 16_384;

@@ -46,7 +46,8 @@ pub struct Needs {
 /// The numbers in the order of the program `need`.
 impl From<[u32; 11]> for Needs {
     fn from(numbers: [u32; 11]) -> Needs {
-        let [steps, bindings, other_bindings, pieces, other_pieces, cells, other_cells, labels, advice, frames, log] = numbers;
+        let [steps, bindings, other_bindings, pieces, other_pieces, cells, other_cells, labels, advice, frames, log] =
+            numbers;
         Needs { steps, bindings, other_bindings, pieces, other_pieces, cells, other_cells, labels, advice, frames, log }
     }
 }

@@ -29,6 +29,15 @@ extern "C" {
 
     #[cfg(feature = "load")]
     fn generate_load(seed: u32, depth: usize, out: *mut u8, out_length: usize) -> u64;
+
+    #[cfg(feature = "stripped")]
+    fn write_stripped_form(
+        image: *const u8,
+        image_length: usize,
+        high: u16,
+        output: *mut u8,
+        output_length: usize,
+    ) -> u64;
 }
 
 /// One call, answered as one number.
@@ -86,4 +95,11 @@ pub fn write_fixed(image: &[u8], output: &mut [u8]) -> u64 {
 pub fn generate(seed: u32, depth: usize, out: &mut [u8]) -> u64 {
     // Safe: pointer and length are a slice that lives through the call and is lent to nobody else.
     unsafe { generate_load(seed, depth, out.as_mut_ptr(), out.len()) }
+}
+
+/// Writes an image without its watches: the bytes written, or the refusal.
+#[cfg(feature = "stripped")]
+pub fn write_stripped(image: &[u8], high: u16, output: &mut [u8]) -> u64 {
+    // Safe: as for `write_fixed`.
+    unsafe { write_stripped_form(image.as_ptr(), image.len(), high, output.as_mut_ptr(), output.len()) }
 }

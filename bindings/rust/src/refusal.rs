@@ -52,11 +52,16 @@ pub enum Cause {
     WrongDepth = 21,
     /// The output for a load is under 16,384 bytes (document 02, card 12).
     ShortLoad = 22,
+    /// The given set of high domains lacks domain 0, names an absent domain, or lacks a domain above a member
+    /// (document 02, card 13).
+    WrongSet = 23,
+    /// The output is shorter than the image that is to be written without its watches (document 02, card 13).
+    ShortStrippedOutput = 24,
 }
 
 impl Cause {
     /// Every cause, in the order of the numbers.
-    pub const ALL: [Cause; 22] = [
+    pub const ALL: [Cause; 24] = [
         Cause::ImageTooLong,
         Cause::BrokenRecord,
         Cause::UnknownKind,
@@ -79,6 +84,8 @@ impl Cause {
         Cause::ShortOutput,
         Cause::WrongDepth,
         Cause::ShortLoad,
+        Cause::WrongSet,
+        Cause::ShortStrippedOutput,
     ];
 
     /// The cause of this number.

@@ -6,10 +6,11 @@ use mathlib.Core.List.{List}
 use Rattle.calculus.specs.Syntax.{Dom, Ty, Sigs, noMethod, method, Val, Tm, Tms, Pattern, Op0, Op1, Op2, val, var, lam, op0, op1, op2, seq, ite, split, pcd, adv, lower, obj, keep, match, end, more}
 use Rattle.calculus.specs.Plain.{domOf, methodsOf}
 use Rattle.calculus.specs.Blank.{body, blank, blanks, blankBodies}
-use Rattle.calculus.specs.Typing.{Policy, noStore, LabelsOf, no-labels, a-label, ValTy, TmTy, TmsTy, BodiesTy, is-val, is-var, is-lam, is-op0, is-op1, is-op2, is-seq, is-ite, is-split, is-pcd, is-adv, is-lower, is-obj, is-end, is-more, no-body, a-body, is-keep, is-match}
+use Rattle.calculus.specs.Typing.{Policy, noStore, LabelsOf, no-labels, a-label, ValTy, TmTy, TmsTy, BodiesTy, is-val, is-var, is-lam, is-op0, is-op1, is-op2, is-seq, is-ite, is-split, is-pcd, is-adv, is-lower, is-obj, is-keep, is-match, is-end, is-more, no-body, a-body}
 use Rattle.laws.proofs.Lists.{none-some, All2.all2-nil}
+use Rattle.calculus_noninterference.proofs.Clash.{clash}
 use Rattle.calculus_noninterference.proofs.Interleave.{Side, Matches}
-use Rattle.calculus_noninterference.proofs.Related.{World, RelV, RelT, RelB, RelTs, RelBs, b-rel, b-low, v-unit, v-truth, v-num, v-pair, v-fun, v-labels, v-advice, v-object, v-bottom, r-val, r-var, r-lam, r-op0, r-op1, r-op2, r-seq, r-ite, r-split, r-pcd, r-adv, r-lower, r-obj, r-keep, r-match, r-end, r-more, r-no-body, r-body}
+use Rattle.calculus_noninterference.proofs.Related.{World, RelV, RelT, RelB, RelL, l-high, l-low, RelTs, RelBs, b-rel, b-low, v-unit, v-truth, v-num, v-pair, v-fun, v-labels, v-advice, v-object, v-bottom, r-val, r-var, r-lam, r-op0, r-op1, r-op2, r-seq, r-ite, r-split, r-pcd, r-adv, r-lower, r-obj, r-keep, r-match, r-end, r-more, r-no-body, r-body}
 
 module _ (hi : Dom → Bool) where
   -- x is e with low bodies blanked: the graph of `blank`, which says nothing of a low body.
@@ -83,12 +84,20 @@ module _ (hi : Dom → Bool) where
         pick true h = b-rel (g (rw (body-high h) at (f h)))
         pick false h = b-low h
 
+    -- Of a lower or of advice, in two programs of which neither is stripped.
+    low-rel : W .stripped ≡ false → (p : Dom) {b b′ : Tm} (x : Tm) → (hi p ≡ true → Blanked b′ (body hi p x)) → (Blanked b′ x → RelT hi W b b′) → RelL hi W p b b′
+    low-rel z p {b} {b′} x f g = pick (hi p) refl
+      where
+        pick : (o : Bool) → hi p ≡ o → RelL hi W p b b′
+        pick true h = l-high h (g (rw (body-high h) at (f h)))
+        pick false h = l-low h (λ t. clash t z)
+
   -- Before a run there is no label.
-  labels-rel : {D : Policy} {w : List Side} {a : Ty} {p : Dom} {ls : List ℕ} → LabelsOf D noStore a p ls → Matches w ls ls
+  pub labels-rel : {D : Policy} {w : List Side} {a : Ty} {p : Dom} {ls : List ℕ} → LabelsOf D noStore a p ls → Matches w ls ls
   labels-rel no-labels = all2-nil
   labels-rel (a-label x l y) = absurd (none-some x)
 
-  module _ {D : Policy} {W : World} where
+  module _ {D : Policy} {W : World} (z : W .stripped ≡ false) where
     mutual
       unfolding blank blanks blankBodies
 
@@ -102,7 +111,7 @@ module _ (hi : Dom → Bool) where
       val-rel (ValTy.v-label x) = absurd (none-some x)
       val-rel (ValTy.v-cell x) = absurd (none-some x)
       val-rel (ValTy.v-labels x) = v-labels (labels-rel x)
-      val-rel (ValTy.v-advice {e} x l y) = v-advice (labels-rel x) (b-rel (tm-rel y (blanked e)))
+      val-rel (ValTy.v-advice {p} {e} x l y) = v-advice (labels-rel x) (low-rel z p _ (blanked-body p (blanked e)) (λ b. tm-rel y b))
       val-rel (ValTy.v-object {bs} x) = v-object (bodies-rel x (blanked-bs _ bs))
       val-rel ValTy.v-bottom = v-bottom
       val-rel (ValTy.v-kept x y z) = absurd (none-some x)
@@ -118,8 +127,8 @@ module _ (hi : Dom → Bool) where
       tm-rel (is-ite x y z) (b-ite a b c) = r-ite (tm-rel x a) (tm-rel y b) (tm-rel z c)
       tm-rel (is-split x y) (b-split a b) = r-split (tm-rel x a) (tm-rel y b)
       tm-rel (is-pcd x l) (b-pcd a) = r-pcd (tms-rel x a)
-      tm-rel (is-adv {p} x l y) (b-adv a f) = r-adv (tm-rel x a) (body-rel p _ f (λ z. tm-rel y z))
-      tm-rel (is-lower {p} l x) (b-lower f) = r-lower (body-rel p _ f (λ z. tm-rel x z))
+      tm-rel (is-adv {p} x l y) (b-adv a f) = r-adv (tm-rel x a) (low-rel z p _ f (λ b. tm-rel y b))
+      tm-rel (is-lower {p} l x) (b-lower f) = r-lower (low-rel z p _ f (λ b. tm-rel x b))
       tm-rel (is-obj x) (b-obj a) = r-obj (bodies-rel x a)
       tm-rel (is-keep x y z) (b-keep a b c) = r-keep (tm-rel x a) (tm-rel y b) (tm-rel z c)
       tm-rel (is-match x l y z) (b-match a b c) = r-match (tms-rel x a) (tm-rel y b) (tm-rel z c)

@@ -9,6 +9,8 @@ pub mod Blanked
 pub mod Store
 pub mod Closed
 pub mod Confined
+pub mod Calm
+pub mod CalmStep
 pub mod States
 pub mod Paired
 pub mod Marks

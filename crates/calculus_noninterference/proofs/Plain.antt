@@ -70,7 +70,7 @@ module _ (D : Policy) (hi : Dom → Bool) (Σ : StoreTyping) where
       pick true e ih = let l : hi (b .dom) ≡ true = rw (h .same-dom) at e in rw (e, l) (ap₂ _∷_ (shown-same {Σ = Σ} q h e) ih)
       pick false e ih = let l : hi (b .dom) ≡ false = rw (h .same-dom) at e in rw (e, l) ih
   cells-same (i-left l k) (all-cons q f) = rw (l, cells-same k f)
-  cells-same (i-right l k) f = rw (l, cells-same k f)
+  cells-same (i-right l k) f = rw (l .0, cells-same k f)
 
   -- What is shown of the high cells of related states is equal.
   pub shown-cells : {W : World} {s s′ : State} → RelS hi W s s′ → StateFits D Σ s → map shown (highOf hi (λ a. a .dom) (s .cells)) ≡ map shown (highOf hi (λ a. a .dom) (s′ .cells))

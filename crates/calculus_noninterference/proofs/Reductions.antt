@@ -1,13 +1,17 @@
 -- Two related redexes at a high domain, over related states: what they reduce to is related.
-use Prim.Native.Nat.{ℕ}
+use Prim.Native.Nat.{ℕ, _-_, _*_, _≤_}
+use native.Mathlib.Omega as nat
+use borrow.Author.Tests.{ltb-true, lt-ltb, leb-true, le-leb}
 use mathlib.Core.Path.{_≡_, refl, sym, ap, _∙_, subst as transp}
 use mathlib.Core.Bool.{Bool, true, false}
 use mathlib.Core.List.{List, _∷_, reverse}
 use mathlib.Core.Option.{Option, none, some, Option·some-injective}
 use lib.ListN.{getElem?, length}
+use lib.Dec.{ltb, leb}
+use Rattle.calculus.specs.Limits.{labelLimit, adviceLimit, logRecordLength}
 use Rattle.calculus.specs.Combinators.{cases, choose}
 use Rattle.calculus.specs.Syntax.{Dom, Ty, Sigs, Val, Tm, Tms, Op0, Op1, Op2, val, Pattern}
-use Rattle.calculus.specs.State.{Cell, State, Given, Uses, somePieces, someBindings, atDom, Entry, prints}
+use Rattle.calculus.specs.State.{Cell, State, Given, Counts, Uses, somePieces, someBindings, atDom, Entry, prints}
 use Rattle.calculus.specs.Numbers.{frameByte, sum, difference, isLess, isEqual}
 use Rattle.calculus.specs.View.{topOf, labelsOf}
 use Rattle.calculus.specs.Answer.{go, with, spend}
@@ -18,14 +22,16 @@ use Rattle.laws.proofs.Lists.{All2.all2-nil, All2.all2-cons, All2, all2-length}
 use Rattle.calculus_safety.proofs.StoreFits.{StateFits}
 use Rattle.calculus_noninterference.specs.Observe.{Highs}
 use Rattle.calculus_noninterference.proofs.Clash.{clash}
-use Rattle.calculus_noninterference.proofs.Interleave.{both, Matches, matched-last, get-both, interleaving-reverse}
-use Rattle.calculus_noninterference.proofs.Related.{World, grows-refl, RelCell, RelV, RelT, RelB, RelVs, RelBs, b-rel, b-low, v-unit, v-truth, v-num, v-pair, v-fun, v-label, v-cell, v-labels, v-advice, v-object, r-val, r-body, RelS, RelKept, v-bottom, v-kept}
+use Rattle.calculus_noninterference.proofs.Halves.{no-more-refl}
+use Rattle.calculus_noninterference.proofs.Interleave.{both, Matches, matched-last, get-both, interleaving-reverse, no-longer}
+use Rattle.calculus_noninterference.proofs.Traces.{log-no-longer}
+use Rattle.calculus_noninterference.proofs.Related.{World, grows-refl, RelCell, RelV, RelT, RelL, RelVs, RelBs, SameUse, RelPlace, b-rel, b-low, v-unit, v-truth, v-num, v-pair, v-fun, v-label, v-cell, v-labels, v-advice, v-object, r-val, r-body, RelS, RelKept, v-bottom, v-kept}
 use Rattle.calculus.specs.Subst.{subst}
 use Rattle.calculus_noninterference.proofs.Substitute.{rel-choose, relT-subst}
 use Rattle.calculus_noninterference.proofs.Store.{cell-dom}
 use Rattle.calculus_noninterference.proofs.States.{grows-cell, grows-label, rel-charged, cell-both, store-both, label-both, advice-both, clear-both, event-both}
 use Rattle.calculus_noninterference.proofs.Paired.{n-halt, Two, two-go, none-left, two-room, two-spend, two-some, two-found, two-none}
-use Rattle.calculus_noninterference.proofs.Marks.{composed-rel, member-same, mainline-bindings}
+use Rattle.calculus_noninterference.proofs.Marks.{composed-rel, member-same, mainline-bindings, others-bindings}
 
 module _ (hi : Dom → Bool) (W : World) where
   -- Of related values, both lists of labels can be collected, or neither.
@@ -83,21 +89,27 @@ module _ (hi : Dom → Bool) (W : World) where
   substAll-rel all2-nil r = r
   substAll-rel {f} {f′} (all2-cons {x = v} {y = v′} {xs = vs} q qs) r = substAll-rel qs (transp (λ (n : ℕ). RelT hi W (subst (length vs) v f) (subst n v′ f′)) (all2-length qs) (relT-subst hi r (length vs) q))
 
+same-use : {b : Bool} (n : Uses) → SameUse b n n
+same-use n = record { mainline = refl; others = λ z. no-more-refl (n .others) }
+
+same-size : {b : Bool} (c : Dom) (f : ℕ → Counts) {m n : ℕ} → m ≡ n → SameUse b (atDom c (f m)) (atDom c (f n))
+same-size c f {m} e = rw (← e) (same-use (atDom c (f m)))
+
 module _ (hi : Dom → Bool) {W : World} {s s′ : State} (R : RelS hi W s s′) where
   -- The states stay.
   pub two-stay : {e e′ : Tm} → RelT hi W e e′ → Two hi W (go s e) (go s′ e′)
   two-stay r = two-go (grows-refl W) R r
 
   -- Only the counts change.
-  two-charge : (n n′ : Uses) {e e′ : Tm} → n .mainline ≡ n′ .mainline → RelT hi W e e′ → Two hi W (spend n s (λ x. go x e)) (spend n′ s′ (λ x. go x e′))
-  two-charge n n′ o r = two-spend hi s s′ n n′ _ _ (R .mainline) o (λ u u′ e. two-go (grows-refl W) (rel-charged hi R u u′ e) r)
+  two-charge : (n n′ : Uses) {e e′ : Tm} → SameUse (W .stripped) n n′ → RelT hi W e e′ → Two hi W (spend n s (λ x. go x e)) (spend n′ s′ (λ x. go x e′))
+  two-charge n n′ o r = two-spend hi s s′ n n′ _ _ (R .used) o (λ u u′ e. two-go (grows-refl W) (rel-charged hi R u u′ e) r)
 
   two-arith : {A : Type 0} (k : A → Tm) (f : ℕ → ℕ → A) (m n : ℕ) → RelT hi W (k (f m n)) (k (f m n)) → Two hi W (arith s k f (some m) (some n)) (arith s′ k f (some m) (some n))
   two-arith k f m n r = two-some hi _ _ (two-some hi _ _ (two-stay r))
 
   two-labels : (c : Dom) {o o′ : Option (List ℕ)} → Collected hi W o o′ → Two hi W (with o (λ ls. piece c s (val (Val.labels ls)))) (with o′ (λ ls. piece c s′ (val (Val.labels ls))))
   two-labels c c-none = two-none hi _ _
-  two-labels c (c-some m) = two-some hi _ _ (two-charge _ _ refl (r-val (v-labels m)))
+  two-labels c (c-some m) = two-some hi _ _ (two-charge _ _ (same-use _) (r-val (v-labels m)))
 
   pub two-pcd : (c : Dom) (P P′ : Place) {vs vs′ : List Val} → RelVs hi W vs vs′ → Two hi W (reducePcd (at c P) s vs) (reducePcd (at c P′) s′ vs′)
   two-pcd c P P′ r = two-labels c (collected hi W r all2-nil)
@@ -113,18 +125,25 @@ module _ (hi : Dom → Bool) {W : World} {s s′ : State} (R : RelS hi W s s′)
     two-ite (ValTy.v-truth {b}) v-truth r q = two-some hi _ _ (two-stay (rel-choose hi b r q))
 
     pub two-split : (c : Dom) (P P′ : Place) {a b : Ty} {v v′ : Val} {f f′ : Tm} → ValTy D Σ v (Ty.pair a b) → RelV hi W v v′ → RelT hi W f f′ → Two hi W (reduceSplit (at c P) s f v) (reduceSplit (at c P′) s′ f′ v′)
-    two-split c P P′ (ValTy.v-pair x y) (v-pair r q) u = two-some hi _ _ (two-charge _ _ refl (relT-subst hi (relT-subst hi u 1 r) 0 q))
+    two-split c P P′ (ValTy.v-pair x y) (v-pair r q) u = two-some hi _ _ (two-charge _ _ (same-use _) (relT-subst hi (relT-subst hi u 1 r) 0 q))
 
-    pub two-adv : (c : Dom) (P P′ : Place) {a : Ty} {p q : Dom} {v v′ : Val} {b b′ : Tm} → ValTy D Σ v (Ty.pcd a q) → RelV hi W v v′ → RelB hi W p b b′ → Two hi W (reduceAdv (at c P) s p b v) (reduceAdv (at c P′) s′ p b′ v′)
-    two-adv c P P′ (ValTy.v-labels x) (v-labels m) r = two-some hi _ _ (two-charge _ _ refl (r-val (v-advice m r)))
+    pub two-adv : (c : Dom) (P P′ : Place) {a : Ty} {p q : Dom} {v v′ : Val} {b b′ : Tm} → ValTy D Σ v (Ty.pcd a q) → RelV hi W v v′ → RelL hi W p b b′ → Two hi W (reduceAdv (at c P) s p b v) (reduceAdv (at c P′) s′ p b′ v′)
+    two-adv c P P′ (ValTy.v-labels x) (v-labels m) r = two-some hi _ _ (two-charge _ _ (same-use _) (r-val (v-advice m r)))
+
+-- Where there are no more, there is room (card 13).
+fewer : (m n L : ℕ) → n ≤ m → ltb m L ≡ true → ltb n L ≡ true
+fewer m n L l e = let h = ltb-true m L e in lt-ltb n L (omega nat.arith)
+
+log-room : (a a′ m m′ : ℕ) → a ≤ a′ → m′ ≤ m → leb logRecordLength (a - logRecordLength * m) ≡ true → leb logRecordLength (a′ - logRecordLength * m′) ≡ true
+log-room a a′ m m′ x y e = let h = leb-true logRecordLength (a - logRecordLength * m) e in le-leb logRecordLength (a′ - logRecordLength * m′) (omega nat.arith)
 
 -- The operators, at a current domain c that is high.
 module _ (hi : Dom → Bool) {D : Policy} (H : Highs D hi) {W : World} {s s′ : State} (R : RelS hi W s s′) {Σ : StoreTyping} (K : StateFits D Σ s) (G G′ : Given) {c : Dom} (h : hi c ≡ true) (P P′ : Place) where
-  pub two0 : RelKept hi W (P .kept) (P′ .kept) → {o : Op0} {t : Ty} → Rule0 D c o t → Two hi W (reduce0 G (at c P) s o t) (reduce0 G′ (at c P′) s′ o t)
-  two0 kept (t-newLabel {p} l) = two-room hi _ _ _ refl (two-go (grows-label W both) (label-both hi R p) (r-val (v-label (matched-last (R .labels)))))
-  two0 kept t-abort = none-left n-halt (λ x. absurd x)
-  two0 kept (t-takedown {p} l) = two-go (grows-refl W) (clear-both hi R p) (r-val v-unit)
-  two0 kept t-stack = two-charge hi R _ _ (ap (λ n. atDom c (somePieces n) .mainline) (all2-length kept)) (r-val (stack-rel hi W kept))
+  pub two0 : RelPlace hi W P P′ → {o : Op0} {t : Ty} → Rule0 D c o t → Two hi W (reduce0 G (at c P) s o t) (reduce0 G′ (at c P′) s′ o t)
+  two0 Q (t-newLabel {p} l) = two-room hi _ _ _ refl (λ z. fewer _ _ labelLimit (no-longer (λ a r. clash z r) (R .labels))) (two-go (grows-label W both) (label-both hi R p) (r-val (v-label (matched-last (R .labels)))))
+  two0 Q t-abort = none-left n-halt (λ x. absurd x)
+  two0 Q (t-takedown {p} l) = two-go (grows-refl W) (clear-both hi R p) (r-val v-unit)
+  two0 Q t-stack = two-charge hi R _ _ (same-size c somePieces (all2-length (Q .kept))) (r-val (stack-rel hi W (Q .kept)))
 
   -- A cell that is read at c is high, so what it holds is related.
   two-read : (r : ℕ) {p : Dom} {a : Ty} {k k′ : Cell Val} → D .leq c p ≡ true → getElem? (Σ .cells) r ≡ some (Ty.ref a p) → getElem? (s .cells) r ≡ some k → RelCell hi W k k′ → RelV hi W (k .held) (k′ .held)
@@ -135,23 +154,23 @@ module _ (hi : Dom → Bool) {D : Policy} (H : Highs D hi) {W : World} {s s′ :
 
   -- A method that is called at c is of the domain c, so its bodies are related (card 3).
   two-call : {b : Ty} {ms : Sigs} {m : ℕ} {bs bs′ : Tms} {v v′ : Val} → Has c b ms m → RelBs hi W ms bs bs′ → RelV hi W v v′ → Two hi W (with (methodBody bs m) (λ e. bind c 1 s (subst 0 v e))) (with (methodBody bs′ m) (λ e. bind c 1 s′ (subst 0 v′ e)))
-  two-call has-first (r-body (b-rel r) k) u = two-some hi _ _ (two-charge hi R _ _ refl (relT-subst hi r 0 u))
+  two-call has-first (r-body (b-rel r) k) u = two-some hi _ _ (two-charge hi R _ _ (same-use _) (relT-subst hi r 0 u))
   two-call has-first (r-body (b-low f) k) u = clash h f
   two-call (has-later x) (r-body r k) u = two-call x k u
 
-  pub two1 : {o : Op1} {t a : Ty} {v v′ : Val} → G .frame ≡ G′ .frame → Rule1 D c o t a → ValTy D Σ v a → RelV hi W v v′ → Two hi W (reduce1 G (at c P) s o t v) (reduce1 G′ (at c P′) s′ o t v′)
-  two1 frame t-print (ValTy.v-num {n}) v-num = two-some hi _ _ (two-room hi _ _ _ refl (two-go (grows-refl W) (event-both hi R _ _ (ap (λ u. record { dom = c; said = prints n u }) (R .mainline)) h) (r-val v-unit)))
-  two1 frame (t-install l) (ValTy.v-advice x y z) (v-advice m r) = two-some hi _ _ (two-room hi _ _ _ refl (two-go (grows-refl W) (advice-both hi R (record { same-dom = refl; labels = m; body = r })) (r-val v-unit)))
-  two1 frame (t-read l) (ValTy.v-cell {r} x) (v-cell m) = let k = get-both m (R .cells) in two-some hi _ _ (two-found hi _ _ (k .2) (k .3) (two-stay hi R (r-val (two-read r l x (k .2) (k .4)))))
-  two1 frame t-byte (ValTy.v-num {n}) v-num = two-some hi _ _ (transp (λ (f : List ℕ). Two hi W (go s (val (Val.num (frameByte (G .frame) n)))) (go s′ (val (Val.num (frameByte f n))))) frame (two-stay hi R (r-val v-num)))
-  two1 frame (t-newCell l) x r = two-spend hi s s′ _ _ _ _ (R .mainline) refl (λ u u′ e. two-go (grows-cell W both) (cell-both hi R u u′ e (record { same-dom = refl; same-plain = refl; held = λ o. r })) (r-val (v-cell (matched-last (R .cells)))))
-  two1 frame (t-call {ms} x) (ValTy.v-object y) (v-object r) = two-some hi _ _ (two-call x r (v-object {t = Ty.obj ms} r))
+  pub two1 : {o : Op1} {t a : Ty} {v v′ : Val} → G .frame ≡ G′ .frame → (W .stripped ≡ true → G .logLength ≤ G′ .logLength) → Rule1 D c o t a → ValTy D Σ v a → RelV hi W v v′ → Two hi W (reduce1 G (at c P) s o t v) (reduce1 G′ (at c P′) s′ o t v′)
+  two1 frame log t-print (ValTy.v-num {n}) v-num = two-some hi _ _ (two-room hi _ _ _ refl (λ z. log-room _ _ _ _ (log z) (log-no-longer hi z (R .trace))) (two-go (grows-refl W) (event-both hi R _ _ (ap (λ u. record { dom = c; said = prints n u }) (R .used .mainline)) h) (r-val v-unit)))
+  two1 frame log (t-install l) (ValTy.v-advice x y z) (v-advice m r) = two-some hi _ _ (two-room hi _ _ _ refl (λ i. fewer _ _ adviceLimit (no-longer (λ a k. clash i (k .1)) (R .advices))) (two-go (grows-refl W) (advice-both hi R (record { same-dom = refl; labels = m; body = r })) (r-val v-unit)))
+  two1 frame log (t-read l) (ValTy.v-cell {r} x) (v-cell m) = let k = get-both m (R .cells) in two-some hi _ _ (two-found hi _ _ (k .2) (k .3) (two-stay hi R (r-val (two-read r l x (k .2) (k .4)))))
+  two1 frame log t-byte (ValTy.v-num {n}) v-num = two-some hi _ _ (transp (λ (f : List ℕ). Two hi W (go s (val (Val.num (frameByte (G .frame) n)))) (go s′ (val (Val.num (frameByte f n))))) frame (two-stay hi R (r-val v-num)))
+  two1 frame log (t-newCell l) x r = two-spend hi s s′ _ _ _ _ (R .used) (same-use _) (λ u u′ e. two-go (grows-cell W both) (cell-both hi R u u′ e (record { same-dom = refl; same-plain = refl; held = λ o. r })) (r-val (v-cell (matched-last (R .cells)))))
+  two1 frame log (t-call {ms} x) (ValTy.v-object y) (v-object r) = two-some hi _ _ (two-call x r (v-object {t = Ty.obj ms} r))
 
   pub two2 : {o : Op2} {t a b : Ty} {v v′ w w′ : Val} → Rule2 D c o t a b → ValTy D Σ v a → ValTy D Σ w b → RelV hi W v v′ → RelV hi W w w′ → Two hi W (reduce2 G (at c P) s o t v w) (reduce2 G′ (at c P′) s′ o t v′ w′)
-  two2 t-pair x y r u = two-charge hi R _ _ refl (r-val (v-pair r u))
-  two2 t-app (ValTy.v-fun x) y (v-fun (b-rel r)) u = two-some hi _ _ (two-charge hi R _ _ refl (relT-subst hi r 0 u))
+  two2 t-pair x y r u = two-charge hi R _ _ (same-use _) (r-val (v-pair r u))
+  two2 t-app (ValTy.v-fun x) y (v-fun (b-rel r)) u = two-some hi _ _ (two-charge hi R _ _ (same-use _) (relT-subst hi r 0 u))
   two2 t-app (ValTy.v-fun x) y (v-fun (b-low f)) u = clash h f
-  two2 t-mark (ValTy.v-label x) y (v-label m) u = let k = get-both m (R .labels) in two-some hi _ _ (two-found hi _ _ (k .2) (k .3) (two-charge hi R _ _ (mainline-bindings hi (H .mainline) (interleaving-reverse (R .advices)) m) (composed-rel hi (interleaving-reverse (R .advices)) m u)))
+  two2 t-mark (ValTy.v-label x) y (v-label m) u = let k = get-both m (R .labels) in two-some hi _ _ (two-found hi _ _ (k .2) (k .3) (two-charge hi R _ _ (record { mainline = mainline-bindings hi (H .mainline) (interleaving-reverse (R .advices)) m; others = λ z. others-bindings hi z (interleaving-reverse (R .advices)) m }) (composed-rel hi (interleaving-reverse (R .advices)) m u)))
   two2 (t-store l) (ValTy.v-cell x) y (v-cell m) u = let k = get-both m (R .cells) in two-some hi _ _ (two-found hi _ _ (k .2) (k .3) (two-go (grows-refl W) (store-both hi R m (k .4) u) (r-val v-unit)))
   two2 t-plus (ValTy.v-num {n = m}) (ValTy.v-num {n}) v-num v-num = two-arith hi R num sum m n (r-val v-num)
   two2 t-minus (ValTy.v-num {n = m}) (ValTy.v-num {n}) v-num v-num = two-arith hi R num difference m n (r-val v-num)
@@ -161,7 +180,7 @@ module _ (hi : Dom → Bool) {D : Policy} (H : Highs D hi) {W : World} {s s′ :
   -- A match takes the same branch in both runs (card 6); no rule on its pointcuts' domains is used.
   two-branch : {f f′ g g′ : Tm} {o o′ : Option (List Val)} → Bound hi W o o′ → RelT hi W f f′ → RelT hi W g g′ → Two hi W (branch (at c P) s (λ ws. substAll ws f) g o) (branch (at c P′) s′ (λ ws. substAll ws f′) g′ o′)
   two-branch bound-none q r = two-go (grows-refl W) (event-both hi R _ _ refl h) r
-  two-branch (bound-some k) q r = two-spend hi s s′ _ _ _ _ (R .mainline) (ap (λ n. atDom c (someBindings n) .mainline) (all2-length k)) (λ u u′ e. two-go (grows-refl W) (event-both hi (rel-charged hi R u u′ e) _ _ refl h) (substAll-rel hi W k q))
+  two-branch (bound-some k) q r = two-spend hi s s′ _ _ _ _ (R .used) (same-size c someBindings (all2-length k)) (λ u u′ e. two-go (grows-refl W) (event-both hi (rel-charged hi R u u′ e) _ _ refl h) (substAll-rel hi W k q))
 
   pub two-match : {p : Pattern} {ts us : List Ty} {f f′ g g′ : Tm} (vs vs′ : List Val) → PatternTy p ts us → All2 (ValTy D Σ) (reverse vs) (Ty.stack ∷ ts) → RelVs hi W (reverse vs) (reverse vs′) → RelT hi W f f′ → RelT hi W g g′ → Two hi W (reduceMatch (at c P) s p f g vs) (reduceMatch (at c P′) s′ p f′ g′ vs′)
   two-match {p} {ts} {f} {f′} {g} {g′} vs vs′ o hs rs q r = on hs rs

@@ -19,11 +19,11 @@ use Rattle.calculus_noninterference.specs.Observe.{Highs, Shown, shown, 
 use Rattle.calculus_noninterference.proofs.Theorem.{demand3}
 
 -- A cell's report, from what is shown of the cell.
-abbrev leavesOf : Option Val → Option (List Leaf)
+abbrev pub leavesOf : Option Val → Option (List Leaf)
 leavesOf none = none
 leavesOf (some v) = some (leaves v)
 
-abbrev reported : Shown → CellReport
+abbrev pub reported : Shown → CellReport
 reported a = record { dom = a .dom; held = leavesOf (a .value) }
 
 reported-shown : (a : Cell Val) → reported (shown a) ≡ cellReport leaves a
@@ -33,7 +33,7 @@ reported-shown a = ap (λ h. record { dom = a .dom; held = h }) (pick (a .plain)
     pick true = refl
     pick false = refl
 
-reported-cells : (hi : Dom → Bool) (x : List (Cell Val)) → map reported (map shown (highOf hi (λ a. a .dom) x)) ≡ highOf hi (λ a. a .dom) (map (cellReport leaves) x)
+pub reported-cells : (hi : Dom → Bool) (x : List (Cell Val)) → map reported (map shown (highOf hi (λ a. a .dom) x)) ≡ highOf hi (λ a. a .dom) (map (cellReport leaves) x)
 unfolding highOf
 reported-cells hi [] = refl
 reported-cells hi (a ∷ x) = pick (highOf hi (λ a. a .dom) x) (hi (a .dom)) (reported-cells hi x)

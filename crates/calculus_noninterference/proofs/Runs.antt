@@ -1,5 +1,5 @@
 -- Two runs of related programs agree on what is seen from the high domains.
-use Prim.Native.Nat.{ℕ, zero, suc, _+_, _<_}
+use Prim.Native.Nat.{ℕ, zero, suc, _+_, _<_, _≤_}
 use native.Mathlib.Omega.{arith}
 use mathlib.Core.Path.{_≡_, refl, sym, _∙_}
 use mathlib.Core.Logic.{_⊎_, inl, inr}
@@ -20,9 +20,13 @@ use Rattle.calculus_safety.proofs.StoreFits.{StateFits, fits-fresh}
 use Rattle.calculus_safety.proofs.Values.{val-ty}
 use Rattle.calculus_safety.proofs.Safety.{preservation}
 use Rattle.calculus_noninterference.specs.Observe.{Highs, highCells, endsShort}
+use Rattle.calculus_noninterference.specs.Calm.{Calm}
 use Rattle.calculus_noninterference.proofs.Clash.{clash}
+use Rattle.calculus_noninterference.proofs.Halves.{no-more-refl}
+use Rattle.calculus_noninterference.proofs.Calm.{CalmState, calm-fresh}
+use Rattle.calculus_noninterference.proofs.CalmStep.{made-calm, calm-step}
 use Rattle.calculus_noninterference.proofs.Interleave.{i-nil}
-use Rattle.calculus_noninterference.proofs.Related.{World, noWorld, RelV, RelT, RelS}
+use Rattle.calculus_noninterference.proofs.Related.{World, noWorld, Grows, RelV, RelT, RelS}
 use Rattle.calculus_noninterference.proofs.Confined.{Confined, c-go, c-full, c-halt, c-wrong, confined}
 use Rattle.calculus_noninterference.proofs.Paired.{n-full, n-halt, n-wrong, Short, two-short, Two, two-go, none-left, none-right, Sim, s-values, s-both, s-left, s-right, s-none-left, s-none-right}
 use Rattle.calculus_noninterference.proofs.Simulation.{sim}
@@ -40,10 +44,10 @@ pub record Agree (hi : Dom → Bool) (u : Ty) (E E′ : Ended) : Type 0 where
 
 module _ {D : Policy} {hi : Dom → Bool} (H : Highs D hi) (trans : Transitive D) where
   -- A program in the middle of its run: typed, over a state that fits.
-  record Typed (t : Ty) (s : State) (e : Tm) : Type 0 where
-    Σ : StoreTyping
-    fits : StateFits D Σ s
-    typed : TmTy D Σ [] 0 e t
+  pub record Typed (t : Ty) (s : State) (e : Tm) : Type 0 where
+    pub Σ : StoreTyping
+    pub fits : StateFits D Σ s
+    pub typed : TmTy D Σ [] 0 e t
 
   typed-step : (G : Given) {t : Ty} {s s′ : State} {e e′ : Tm} → Typed t s e → step e G top s ≡ go s′ e′ → Typed t s′ e′
   typed-step G {s} {s′} {e′} T q = let x = preservation D (T .Σ) trans G (T .typed) top all-nil s (T .fits) s′ e′ q in record { Σ = x .0; fits = x .2; typed = x .3 }
@@ -73,14 +77,42 @@ module _ {D : Policy} {hi : Dom → Bool} (H : Highs D hi) (trans : Transitive D
       pick ih none p = more-step n G t ih k s e T p refl (confined hi H s (T .fits) G (T .typed) top)
       pick ih (some v) p = rw (run-value (suc n) G k s e p) (prefix-refl _)
 
-  module _ (t t′ : Ty) (G G′ : Given) (frame : G .frame ≡ G′ .frame) where
+  -- The same without takedowns at low domains (card 13).
+  pub record CalmRun (s : State) (e : Tm) : Type 0 where
+    pub state : CalmState hi s
+    pub term : Calm hi 0 e
+
+  calm-next : (G : Given) {t : Ty} {s s′ : State} {e e′ : Tm} → Typed t s e → CalmRun s e → step e G top s ≡ go s′ e′ → CalmRun s′ e′
+  calm-next G {s} T C q = let x = made-calm hi (rw q at (calm-step hi H s (C .state) G (T .typed) (C .term) top all-nil)) in record { state = x .0; term = x .2 }
+
+  -- b: the right's program is the left's, stripped (card 13); then its log is no shorter, and the left's code is calm.
+  module _ (b : Bool) (t t′ : Ty) (G G′ : Given) (frame : G .frame ≡ G′ .frame) (log : b ≡ true → G .logLength ≤ G′ .logLength) where
     -- Two programs in the middle of their runs, related.
-    record Pair (s s′ : State) (e e′ : Tm) : Type 0 where
-      world : World
-      states : RelS hi world s s′
-      terms : RelT hi world e e′
-      left : Typed t s e
-      right : Typed t′ s′ e′
+    pub record Pair (s s′ : State) (e e′ : Tm) : Type 0 where
+      pub world : World
+      pub mode : world .stripped ≡ b
+      pub states : RelS hi world s s′
+      pub terms : RelT hi world e e′
+      pub left : Typed t s e
+      pub right : Typed t′ s′ e′
+      pub calm : b ≡ true → CalmRun s e
+
+    -- What comes next of the two.
+    pub next : {s s′ : State} {e e′ : Tm} (P : Pair s s′ e e′) → Sim hi (P .world) s s′ e e′ (step e G top s) (step e′ G′ top s′)
+    next P =
+        let stripped : P .world .stripped ≡ true → b ≡ true = λ z. sym (P .mode) ∙ z in
+        sim hi H G G′ frame (λ z. log (stripped z)) (P .states) (P .left .fits) (P .right .fits) (λ z. P .calm (stripped z) .state)
+        (P .terms) 0 (H .mainline) (P .left .typed) (P .right .typed) (λ z. P .calm (stripped z) .term) top top (record { kept = all2-nil; depth = λ z. omega arith; calm = λ z. all-nil })
+
+    -- The pair after a step of both, of the left alone, of the right alone.
+    pub after-both : {s s′ u u′ : State} {e e′ f f′ : Tm} (P : Pair s s′ e e′) {X : World} → Grows (P .world) X → step e G top s ≡ go u f → step e′ G′ top s′ ≡ go u′ f′ → RelS hi X u u′ → RelT hi X f f′ → Pair u u′ f f′
+    after-both P x q q′ R T = record { world = _; mode = sym (x .same) ∙ P .mode; states = R; terms = T; left = typed-step G (P .left) q; right = typed-step G′ (P .right) q′; calm = λ z. calm-next G (P .left) (P .calm z) q }
+
+    pub after-left : {s s′ u : State} {e e′ f : Tm} (P : Pair s s′ e e′) {X : World} → Grows (P .world) X → step e G top s ≡ go u f → RelS hi X u s′ → RelT hi X f e′ → Pair u s′ f e′
+    after-left P x q R T = record { world = _; mode = sym (x .same) ∙ P .mode; states = R; terms = T; left = typed-step G (P .left) q; right = P .right; calm = λ z. calm-next G (P .left) (P .calm z) q }
+
+    after-right : {s s′ u : State} {e e′ f : Tm} (P : Pair s s′ e e′) {X : World} → Grows (P .world) X → step e′ G′ top s′ ≡ go u f → RelS hi X s u → RelT hi X e f → Pair s u e f
+    after-right P x q R T = record { world = _; mode = sym (x .same) ∙ P .mode; states = R; terms = T; left = P .left; right = typed-step G′ (P .right) q; calm = P .calm }
 
     abbrev Goal : ℕ → ℕ → Type 0
     Goal n n′ = (k k′ : ℕ) (s s′ : State) (e e′ : Tm) → Pair s s′ e e′ → Agree hi t (run n G k s e) (run n′ G′ k′ s′ e′)
@@ -104,13 +136,13 @@ module _ {D : Policy} {hi : Dom → Bool} (H : Highs D hi) (trans : Transitive D
       mainline = λ v v′ p q. absurd (S .no-value v′ q);
     }
 
-    both-end : {v v′ : Val} (k k′ : ℕ) {s s′ : State} {e e′ : Tm} → (P : Pair s s′ e e′) → RelV hi (P .world) v v′ → ValTy D (P .left .Σ) v t → Agree hi t (ended (done v) k s) (ended (done v′) k′ s′)
+    pub both-end : {v v′ : Val} (k k′ : ℕ) {s s′ : State} {e e′ : Tm} → (P : Pair s s′ e e′) → RelV hi (P .world) v v′ → ValTy D (P .left .Σ) v t → Agree hi t (ended (done v) k s) (ended (done v′) k′ s′)
     both-end k k′ P r h = record {
       room = λ x. clash x refl;
       events = inl (rw (events-same hi (P .states .trace)) (prefix-refl _));
       result = λ w w′ p q l. (let z = plain-same l h r in cc);
       cells = λ w w′ p q. shown-cells D hi (P .left .Σ) (P .states) (P .left .fits);
-      mainline = λ w w′ p q. P .states .mainline;
+      mainline = λ w w′ p q. P .states .used .mainline;
     }
 
     abbrev Before : ℕ → ℕ → Type 0
@@ -119,37 +151,42 @@ module _ {D : Policy} {hi : Dom → Bool} (H : Highs D hi) (trans : Transitive D
     step-both : (n n′ : ℕ) → Before n n′ → (k k′ : ℕ) {s s′ : State} {e e′ : Tm} (P : Pair s s′ e e′) {a a′ : Answer State Tm} → asValue e ≡ none → asValue e′ ≡ none → step e G top s ≡ a → step e′ G′ top s′ ≡ a′ → Two hi (P .world) a a′ → Agree hi t (run n G k s e) (run n′ G′ k′ s′ e′)
     step-both zero n′ ih k k′ {s} {s′} {e} {e′} P p p′ q q′ w = left-ends n′ k′ P (run-spent G k s e p) (λ x. run-none n′ G′ k′ s′ e′ _ p′ q′ (two-short hi w (rw q at x)))
     step-both (suc n) zero ih k k′ {s′} {e′} P p p′ q q′ w = right-ends (suc n) k P (run-spent G′ k′ s′ e′ p′)
-    step-both (suc n) (suc n′) ih k k′ {s} {s′} {e} {e′} P p p′ q q′ (two-go x R T) = rw (run-go n G k s e p q, run-go n′ G′ k′ s′ e′ p′ q′) (ih n n′ (omega arith) (suc k) (suc k′) _ _ _ _ (record { world = _; states = R; terms = T; left = typed-step G (P .left) q; right = typed-step G′ (P .right) q′ }))
+    step-both (suc n) (suc n′) ih k k′ {s} {s′} {e} {e′} P p p′ q q′ (two-go x R T) = rw (run-go n G k s e p q, run-go n′ G′ k′ s′ e′ p′ q′) (ih n n′ (omega arith) (suc k) (suc k′) _ _ _ _ (after-both P x q q′ R T))
     step-both (suc n) (suc n′) ih k k′ {s} {s′} {e} {e′} P p p′ q q′ (none-left f x) = left-ends (suc n′) k′ P (run-none (suc n) G k s e _ p q f) (λ y. run-none (suc n′) G′ k′ s′ e′ _ p′ q′ (x y))
-    step-both (suc n) (suc n′) ih k k′ {s′} {e′} P p p′ q q′ (none-right f) = right-ends (suc n) k P (run-none (suc n′) G′ k′ s′ e′ _ p′ q′ f)
+    step-both (suc n) (suc n′) ih k k′ {s′} {e′} P p p′ q q′ (none-right z f) = right-ends (suc n) k P (run-none (suc n′) G′ k′ s′ e′ _ p′ q′ f)
 
-    step-left : (n n′ : ℕ) → Before n n′ → (k k′ : ℕ) {s s′ : State} {e e′ : Tm} → Pair s s′ e e′ → {X : World} {u : State} {f : Tm} → asValue e ≡ none → step e G top s ≡ go u f → RelS hi X u s′ → RelT hi X f e′ → Agree hi t (run n G k s e) (run n′ G′ k′ s′ e′)
-    step-left zero n′ ih k k′ {s} {e} P p q R T = left-ends {a′ = halt} n′ k′ P (run-spent G k s e p) (λ x. absurd (rw q at x))
-    step-left (suc n) n′ ih k k′ {s} {e} P p q R T = rw (run-go n G k s e p q) (ih n n′ (omega arith) (suc k) k′ _ _ _ _ (record { world = _; states = R; terms = T; left = typed-step G (P .left) q; right = P .right }))
+    step-left : (n n′ : ℕ) → Before n n′ → (k k′ : ℕ) {s s′ : State} {e e′ : Tm} (P : Pair s s′ e e′) {X : World} {u : State} {f : Tm} → Grows (P .world) X → asValue e ≡ none → step e G top s ≡ go u f → RelS hi X u s′ → RelT hi X f e′ → Agree hi t (run n G k s e) (run n′ G′ k′ s′ e′)
+    step-left zero n′ ih k k′ {s} {e} P x p q R T = left-ends {a′ = halt} n′ k′ P (run-spent G k s e p) (λ y. absurd (rw q at y))
+    step-left (suc n) n′ ih k k′ {s} {e} P x p q R T = rw (run-go n G k s e p q) (ih n n′ (omega arith) (suc k) k′ _ _ _ _ (after-left P x q R T))
 
-    step-right : (n n′ : ℕ) → Before n n′ → (k k′ : ℕ) {s s′ : State} {e e′ : Tm} → Pair s s′ e e′ → {X : World} {u : State} {f : Tm} → asValue e′ ≡ none → step e′ G′ top s′ ≡ go u f → RelS hi X s u → RelT hi X e f → Agree hi t (run n G k s e) (run n′ G′ k′ s′ e′)
-    step-right n zero ih k k′ {s′} {e′} P p q R T = right-ends n k P (run-spent G′ k′ s′ e′ p)
-    step-right n (suc n′) ih k k′ {s′} {e′} P p q R T = rw (run-go n′ G′ k′ s′ e′ p q) (ih n n′ (omega arith) k (suc k′) _ _ _ _ (record { world = _; states = R; terms = T; left = P .left; right = typed-step G′ (P .right) q }))
+    step-right : (n n′ : ℕ) → Before n n′ → (k k′ : ℕ) {s s′ : State} {e e′ : Tm} (P : Pair s s′ e e′) {X : World} {u : State} {f : Tm} → Grows (P .world) X → asValue e′ ≡ none → step e′ G′ top s′ ≡ go u f → RelS hi X s u → RelT hi X e f → Agree hi t (run n G k s e) (run n′ G′ k′ s′ e′)
+    step-right n zero ih k k′ {s′} {e′} P x p q R T = right-ends n k P (run-spent G′ k′ s′ e′ p)
+    step-right n (suc n′) ih k k′ {s′} {e′} P x p q R T = rw (run-go n′ G′ k′ s′ e′ p q) (ih n n′ (omega arith) k (suc k′) _ _ _ _ (after-right P x q R T))
 
     by-step : (n n′ : ℕ) → Before n n′ → (k k′ : ℕ) {s s′ : State} {e e′ : Tm} (P : Pair s s′ e e′) {a a′ : Answer State Tm} → step e G top s ≡ a → step e′ G′ top s′ ≡ a′ → Sim hi (P .world) s s′ e e′ a a′ → Agree hi t (run n G k s e) (run n′ G′ k′ s′ e′)
     by-step n n′ ih k k′ {s} {s′} {e} {e′} P q q′ (s-values p p′ r) = rw (run-value n G k s e p, run-value n′ G′ k′ s′ e′ p′) (both-end k k′ P r (val-ty (P .left .typed) p))
     by-step n n′ ih k k′ P q q′ (s-both p p′ w) = step-both n n′ ih k k′ P p p′ q q′ w
-    by-step n n′ ih k k′ P q q′ (s-left p y x R T) = step-left n n′ ih k k′ P p (q ∙ y) R T
-    by-step n n′ ih k k′ P q q′ (s-right p y x R T) = step-right n n′ ih k k′ P p (q′ ∙ y) R T
+    by-step n n′ ih k k′ P q q′ (s-left p y x R T) = step-left n n′ ih k k′ P x p (q ∙ y) R T
+    by-step n n′ ih k k′ P q q′ (s-right z p y x R T) = step-right n n′ ih k k′ P x p (q′ ∙ y) R T
     by-step n n′ ih k k′ {s} {e} P q q′ (s-none-left p f x) = left-ends {a′ = halt} n′ k′ P (run-none n G k s e _ p q f) (λ y. absurd (x y))
-    by-step n n′ ih k k′ {s′} {e′} P q q′ (s-none-right p f) = right-ends n k P (run-none n′ G′ k′ s′ e′ _ p q′ f)
+    by-step n n′ ih k k′ {s′} {e′} P q q′ (s-none-right z p f) = right-ends n k P (run-none n′ G′ k′ s′ e′ _ p q′ f)
 
     -- By induction on the two budgets together.
     agree-below : (m n n′ : ℕ) → n + n′ < m → Goal n n′
     agree-below zero n n′ h k k′ s s′ e e′ P = absurd (omega arith)
-    agree-below (suc m) n n′ h k k′ s s′ e e′ P = by-step n n′ (λ j j′ l. agree-below m j j′ (omega arith)) k k′ P refl refl (sim hi H G G′ frame (P .states) (P .left .fits) (P .right .fits) (P .terms) 0 (H .mainline) (P .left .typed) (P .right .typed) top top all2-nil)
+    agree-below (suc m) n n′ h k k′ s s′ e e′ P = by-step n n′ (λ j j′ l. agree-below m j j′ (omega arith)) k k′ P refl refl (next P)
 
     -- Two related programs, from the start.
-    pub agree : (e e′ : Tm) → TmTy D noStore [] 0 e t → TmTy D noStore [] 0 e′ t′ → RelT hi noWorld e e′ → (n n′ : ℕ) → Agree hi t (run n G 0 fresh e) (run n′ G′ 0 fresh e′)
-    agree e e′ T T′ r n n′ = agree-below (suc (n + n′)) n n′ (omega arith) 0 0 fresh fresh e e′ (record {
-      world = noWorld;
-      states = record { cells = i-nil; labels = i-nil; advice-order = []; advices = i-nil; event-order = []; trace = i-nil; mainline = refl };
+    pub start : (e e′ : Tm) → TmTy D noStore [] 0 e t → TmTy D noStore [] 0 e′ t′ → RelT hi (noWorld b) e e′ → (b ≡ true → Calm hi 0 e) → Pair fresh fresh e e′
+    start e e′ T T′ r C = record {
+      world = noWorld b;
+      mode = refl;
+      states = record { cells = i-nil; labels = i-nil; advice-order = []; advices = i-nil; event-order = []; trace = i-nil; used = record { mainline = refl; others = λ z. no-more-refl _ } };
       terms = r;
       left = record { Σ = noStore; fits = fits-fresh D; typed = T };
       right = record { Σ = noStore; fits = fits-fresh D; typed = T′ };
-    })
+      calm = λ z. record { state = calm-fresh hi; term = C z };
+    }
+
+    pub agree : {s s′ : State} {e e′ : Tm} → Pair s s′ e e′ → (n n′ : ℕ) → Agree hi t (run n G 0 s e) (run n′ G′ 0 s′ e′)
+    agree {s} {s′} {e} {e′} P n n′ = agree-below (suc (n + n′)) n n′ (omega arith) 0 0 s s′ e e′ P

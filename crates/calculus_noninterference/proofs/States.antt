@@ -1,33 +1,36 @@
 -- Related states stay related as both runs do the same, and as one run alone acts at a low domain.
-use Prim.Native.Nat.{ℕ}
-use mathlib.Core.Path.{_≡_, refl, sym, _∙_, ap}
+use Prim.Native.Nat.{ℕ, _≤_}
+use mathlib.Core.Path.{_≡_, refl, sym, _∙_, ap, subst as transp}
 use mathlib.Core.Bool.{Bool, true, false, not}
 use mathlib.Core.List.{List, [], _∷_, _++_}
 use mathlib.Core.Option.{some}
-use lib.ListN.{getElem?}
+use lib.ListN.{length, getElem?}
 use lib.Dec.{eqb, eqb→eq}
 use borrow.Author.Tests.{not-false}
 use Rattle.calculus.specs.Syntax.{Dom, Val, Tm}
-use Rattle.calculus.specs.State.{Cell, Advice, Event, Uses, State, charged, celled, stored, labelled, installed, otherThan, cleared, told}
+use Rattle.calculus.specs.State.{Cell, Advice, Event, Uses, State, charged, celled, stored, labelled, installed, otherThan, without, cleared, told}
 use Rattle.laws.proofs.Lists.{prefix-refl, prefix-append}
+use Rattle.calculus_noninterference.specs.Observe.{NoMore}
 use Rattle.calculus_noninterference.proofs.Clash.{clash}
+use Rattle.calculus_noninterference.proofs.Halves.{no-more-trans}
 use Rattle.calculus_noninterference.proofs.Interleave.{Side, both, left, right, Matched, interleaving-map, append-both, append-left, append-right, set-both, set-left, set-right}
-use Rattle.calculus_noninterference.proofs.Filtered.{filtered-both, filtered-left, filtered-right}
-use Rattle.calculus_noninterference.proofs.Related.{World, Grows, grows-refl, RelV, RelCell, RelAdvice, Cells, Labels, Advices, Events, RelS, cell-mono, advice-mono}
-use Rattle.calculus_noninterference.proofs.Confined.{Effect, low-of, e-charge, e-cell, e-store, e-label, e-advice, e-clear, e-event}
+use Rattle.calculus_noninterference.proofs.Filtered.{filtered-whole, filtered-both, filtered-left, filtered-right}
+use Rattle.calculus_noninterference.proofs.Related.{World, Grows, grows-refl, RelV, RelCell, RelAdvice, Cells, Labels, Advices, Events, SameUse, RelS, cell-mono, advice-mono, alone-mono}
+use Rattle.calculus_noninterference.proofs.Confined.{Effect, Spares, low-of, e-charge, e-cell, e-store, e-label, e-advice, e-clear, e-event}
+use Rattle.calculus_noninterference.proofs.CalmStep.{Steady}
 
 -- A world with one more cell, one more label.
 abbrev pub withCell : World → Side → World
-withCell W v = record { cells = W .cells ++ (v ∷ []); labels = W .labels }
+withCell W v = record { cells = W .cells ++ (v ∷ []); labels = W .labels; stripped = W .stripped }
 
 abbrev pub withLabel : World → Side → World
-withLabel W v = record { cells = W .cells; labels = W .labels ++ (v ∷ []) }
+withLabel W v = record { cells = W .cells; labels = W .labels ++ (v ∷ []); stripped = W .stripped }
 
 pub grows-cell : (W : World) (v : Side) → Grows W (withCell W v)
-grows-cell W v = record { cells = prefix-append (W .cells) (v ∷ []); labels = prefix-refl (W .labels) }
+grows-cell W v = record { cells = prefix-append (W .cells) (v ∷ []); labels = prefix-refl (W .labels); same = refl }
 
 pub grows-label : (W : World) (v : Side) → Grows W (withLabel W v)
-grows-label W v = record { cells = prefix-refl (W .cells); labels = prefix-append (W .labels) (v ∷ []) }
+grows-label W v = record { cells = prefix-refl (W .cells); labels = prefix-append (W .labels) (v ∷ []); same = refl }
 
 -- A state with other labels, with other advice, with another trace.
 abbrev putLabels : List Dom → State → State
@@ -41,27 +44,27 @@ putTrace x s = record { cells = s .cells; labels = s .labels; advices = s .advic
 
 module _ (hi : Dom → Bool) {W : World} {s s′ : State} (R : RelS hi W s s′) where
   -- Other counts; and one field after another replaced on both sides.
-  pub rel-charged : (u u′ : Uses) → u .mainline ≡ u′ .mainline → RelS hi W (charged u s) (charged u′ s′)
-  rel-charged u u′ e = record { cells = R .cells; labels = R .labels; advice-order = R .advice-order; advices = R .advices; event-order = R .event-order; trace = R .trace; mainline = e }
+  pub rel-charged : (u u′ : Uses) → SameUse (W .stripped) u u′ → RelS hi W (charged u s) (charged u′ s′)
+  rel-charged u u′ e = record { cells = R .cells; labels = R .labels; advice-order = R .advice-order; advices = R .advices; event-order = R .event-order; trace = R .trace; used = e }
 
   put-cells : {x y : List (Cell Val)} → Cells hi W (W .cells) x y → RelS hi W (celled x s) (celled y s′)
-  put-cells k = record { cells = k; labels = R .labels; advice-order = R .advice-order; advices = R .advices; event-order = R .event-order; trace = R .trace; mainline = R .mainline }
+  put-cells k = record { cells = k; labels = R .labels; advice-order = R .advice-order; advices = R .advices; event-order = R .event-order; trace = R .trace; used = R .used }
 
   grow-cells : (v : Side) {x y : List (Cell Val)} → (Cells hi (withCell W v) (W .cells) (s .cells) (s′ .cells) → Cells hi (withCell W v) (W .cells ++ (v ∷ [])) x y) → RelS hi (withCell W v) (celled x s) (celled y s′)
-  grow-cells v f = record { cells = f (interleaving-map (cell-mono hi (grows-cell W v)) (R .cells)); labels = R .labels; advice-order = R .advice-order; advices = interleaving-map (advice-mono hi (grows-cell W v)) (R .advices); event-order = R .event-order; trace = R .trace; mainline = R .mainline }
+  grow-cells v f = record { cells = f (interleaving-map (cell-mono hi (grows-cell W v)) (alone-mono hi (grows-cell W v) (λ a. a .dom)) (R .cells)); labels = R .labels; advice-order = R .advice-order; advices = interleaving-map (advice-mono hi (grows-cell W v)) (alone-mono hi (grows-cell W v) (λ a. a .dom)) (R .advices); event-order = R .event-order; trace = R .trace; used = R .used }
 
-  grow-labels : (v : Side) {x y : List Dom} → Labels (W .labels ++ (v ∷ [])) x y → RelS hi (withLabel W v) (putLabels x s) (putLabels y s′)
-  grow-labels v k = record { cells = interleaving-map (cell-mono hi (grows-label W v)) (R .cells); labels = k; advice-order = R .advice-order; advices = interleaving-map (advice-mono hi (grows-label W v)) (R .advices); event-order = R .event-order; trace = R .trace; mainline = R .mainline }
+  grow-labels : (v : Side) {x y : List Dom} → Labels (W .stripped) (W .labels ++ (v ∷ [])) x y → RelS hi (withLabel W v) (putLabels x s) (putLabels y s′)
+  grow-labels v k = record { cells = interleaving-map (cell-mono hi (grows-label W v)) (alone-mono hi (grows-label W v) (λ a. a .dom)) (R .cells); labels = k; advice-order = R .advice-order; advices = interleaving-map (advice-mono hi (grows-label W v)) (alone-mono hi (grows-label W v) (λ a. a .dom)) (R .advices); event-order = R .event-order; trace = R .trace; used = R .used }
 
   put-advices : {w : List Side} {x y : List (Advice Tm)} → Advices hi W w x y → RelS hi W (putAdvices x s) (putAdvices y s′)
-  put-advices k = record { cells = R .cells; labels = R .labels; advice-order = _; advices = k; event-order = R .event-order; trace = R .trace; mainline = R .mainline }
+  put-advices k = record { cells = R .cells; labels = R .labels; advice-order = _; advices = k; event-order = R .event-order; trace = R .trace; used = R .used }
 
-  put-trace : {w : List Side} {x y : List Event} → Events hi w x y → RelS hi W (putTrace x s) (putTrace y s′)
-  put-trace k = record { cells = R .cells; labels = R .labels; advice-order = R .advice-order; advices = R .advices; event-order = _; trace = k; mainline = R .mainline }
+  put-trace : {w : List Side} {x y : List Event} → Events hi (W .stripped) w x y → RelS hi W (putTrace x s) (putTrace y s′)
+  put-trace k = record { cells = R .cells; labels = R .labels; advice-order = R .advice-order; advices = R .advices; event-order = _; trace = k; used = R .used }
 
 -- Both runs make, change or say the same.
 module _ (hi : Dom → Bool) {W : World} {s s′ : State} (R : RelS hi W s s′) where
-  pub cell-both : (u u′ : Uses) → u .mainline ≡ u′ .mainline → {a b : Cell Val} → RelCell hi W a b → RelS hi (withCell W both) (celled (s .cells ++ (a ∷ [])) (charged u s)) (celled (s′ .cells ++ (b ∷ [])) (charged u′ s′))
+  pub cell-both : (u u′ : Uses) → SameUse (W .stripped) u u′ → {a b : Cell Val} → RelCell hi W a b → RelS hi (withCell W both) (celled (s .cells ++ (a ∷ [])) (charged u s)) (celled (s′ .cells ++ (b ∷ [])) (charged u′ s′))
   cell-both u u′ e {a} {b} h = grow-cells hi (rel-charged hi R u u′ e) both (λ k. append-both k (cell-mono hi (grows-cell W both) a b h))
 
   pub store-both : {r r′ : ℕ} {a a′ : Cell Val} {v v′ : Val} → Matched (W .cells) r r′ → RelCell hi W a a′ → RelV hi W v v′ → RelS hi W (stored r a v s) (stored r′ a′ v′ s′)
@@ -74,7 +77,7 @@ module _ (hi : Dom → Bool) {W : World} {s s′ : State} (R : RelS hi W s s′)
   advice-both h = put-advices hi R (append-both (R .advices) h)
 
   pub clear-both : (p : Dom) → RelS hi W (cleared p s) (cleared p s′)
-  clear-both p = put-advices hi R (filtered-both _ _ (otherThan p) (λ a b h. ap (λ q. not (eqb q p)) (h .same-dom)) (R .advices) .1)
+  clear-both p = put-advices hi R (filtered-both _ _ _ (otherThan p) (λ a b h. ap (λ q. not (eqb q p)) (h .same-dom)) (R .advices) .1)
 
   pub event-both : (a b : Event) → a ≡ b → hi (a .dom) ≡ true → RelS hi W (told a s) (told b s′)
   event-both a b e h = put-trace hi R (append-both (R .trace) (record { same = e; high = h }))
@@ -99,22 +102,37 @@ module _ (hi : Dom → Bool) {W : World} {s s′ : State} (R : RelS hi W s s′)
   store-right : (r : ℕ) (b : Cell Val) (v : Val) → getElem? (s′ .cells) r ≡ some b → hi (b .dom) ≡ false → RelS hi W s (stored r b v s′)
   store-right r b v e l = put-cells hi R (set-right r _ (R .cells) e (λ a h. record { same-dom = h .same-dom; same-plain = h .same-plain; held = λ o. clash (rw (h .same-dom) at o) l }) (λ h. h))
 
-  -- The left alone makes a step at a low domain.
-  pub effect-left : {c : Dom} {t : State} → hi c ≡ false → Effect hi c s t → Later hi W t s′
-  effect-left f (e-charge {u} y) = later (rel-charged hi R u (s′ .used) (sym (y f) ∙ R .mainline))
-  effect-left f (e-cell {u} y a x) = record { world = withCell W left; grows = grows-cell W left; rel = grow-cells hi (rel-charged hi R u (s′ .used) (sym (y f) ∙ R .mainline)) left (λ k. append-left k (low-of hi x f)) }
-  effect-left f (e-store r a v e x) = later (store-left r a v e (low-of hi x f))
-  effect-left f (e-label p) = record { world = withLabel W left; grows = grows-label W left; rel = grow-labels hi R left (append-left (R .labels) tt) }
-  effect-left f (e-advice a x) = later (put-advices hi R (append-left (R .advices) (low-of hi x f)))
-  effect-left f (e-clear p x) = later (put-advices hi R (filtered-left _ _ (otherThan p) (λ a b (h : RelAdvice hi W a b) e. rw (h .same-dom) at (low-gone hi a p (low-of hi x f) e)) (R .advices) .1))
-  effect-left f (e-event {u} y a x) = later (put-trace hi (rel-charged hi R u (s′ .used) (sym (y f) ∙ R .mainline)) (append-left (R .trace) (low-of hi x f)))
+  left-used : {c : Dom} {u : Uses} → hi c ≡ false → Spares hi c (s .used) u → (W .stripped ≡ true → NoMore (u .others) (s .used .others)) → SameUse (W .stripped) u (s′ .used)
+  left-used f y m = record { mainline = sym (y f) ∙ R .used .mainline; others = λ z. no-more-trans (m z) (R .used .others z) }
 
-  -- The right alone makes a step at a low domain.
-  pub effect-right : {c : Dom} {t : State} → hi c ≡ false → Effect hi c s′ t → Later hi W s t
-  effect-right f (e-charge {u} y) = later (rel-charged hi R (s .used) u (R .mainline ∙ y f))
-  effect-right f (e-cell {u} y a x) = record { world = withCell W right; grows = grows-cell W right; rel = grow-cells hi (rel-charged hi R (s .used) u (R .mainline ∙ y f)) right (λ k. append-right k (low-of hi x f)) }
-  effect-right f (e-store r b v e x) = later (store-right r b v e (low-of hi x f))
-  effect-right f (e-label p) = record { world = withLabel W right; grows = grows-label W right; rel = grow-labels hi R right (append-right (R .labels) tt) }
-  effect-right f (e-advice a x) = later (put-advices hi R (append-right (R .advices) (low-of hi x f)))
-  effect-right f (e-clear p x) = later (put-advices hi R (filtered-right _ _ (otherThan p) (λ a b h e. rw (h .same-dom) (low-gone hi b p (low-of hi x f) e)) (R .advices) .1))
-  effect-right f (e-event {u} y a x) = later (put-trace hi (rel-charged hi R (s .used) u (R .mainline ∙ y f)) (append-right (R .trace) (low-of hi x f)))
+  -- A takedown of the left alone: of a low domain; where the right is stripped, of nothing.
+  clear-left : (p : Dom) → hi p ≡ false → (W .stripped ≡ true → length (s .advices) ≤ length (without p (s .advices))) → RelS hi W (cleared p s) s′
+  clear-left p l m = pick (W .stripped) refl
+    where
+      pick : (b : Bool) → W .stripped ≡ b → RelS hi W (cleared p s) s′
+      pick true z = put-advices hi R (transp (λ x. Advices hi W (R .advice-order) x (s′ .advices)) (sym (filtered-whole (otherThan p) (s .advices) (m z))) (R .advices))
+      pick false z = put-advices hi R (filtered-left _ _ _ (otherThan p) (λ a b (h : RelAdvice hi W a b) e. (rw (h .same-dom) at (low-gone hi a p l e), z)) (R .advices) .1)
+
+  -- The left alone makes a step at a low domain; where the right is stripped, a steady one.
+  pub effect-left : {c : Dom} {t : State} → hi c ≡ false → Effect hi c s t → (W .stripped ≡ true → Steady hi c s t) → Later hi W t s′
+  effect-left f (e-charge {u} y) m = later (rel-charged hi R u (s′ .used) (left-used f y (λ z. m z .others)))
+  effect-left f (e-cell {u} y a x) m = record { world = withCell W left; grows = grows-cell W left; rel = grow-cells hi (rel-charged hi R u (s′ .used) (left-used f y (λ z. m z .others))) left (λ k. append-left k (low-of hi x f)) }
+  effect-left f (e-store r a v e x) m = later (store-left r a v e (low-of hi x f))
+  effect-left f (e-label p) m = record { world = withLabel W left; grows = grows-label W left; rel = grow-labels hi R left (append-left (R .labels) tt) }
+  effect-left f (e-advice a x) m = later (put-advices hi R (append-left (R .advices) (low-of hi x f)))
+  effect-left f (e-clear p x) m = later (clear-left p (low-of hi x f) (λ z. m z .advices f))
+  effect-left f (e-event {u} y a x) m = later (put-trace hi (rel-charged hi R u (s′ .used) (left-used f y (λ z. m z .others))) (append-left (R .trace) (low-of hi x f)))
+
+  -- The right alone, which is not stripped, makes a step at a low domain.
+  module _ (z : W .stripped ≡ false) where
+    right-used : {c : Dom} {u : Uses} → hi c ≡ false → Spares hi c (s′ .used) u → SameUse (W .stripped) (s .used) u
+    right-used f y = record { mainline = R .used .mainline ∙ y f; others = λ t. clash t z }
+
+    pub effect-right : {c : Dom} {t : State} → hi c ≡ false → Effect hi c s′ t → Later hi W s t
+    effect-right f (e-charge {u} y) = later (rel-charged hi R (s .used) u (right-used f y))
+    effect-right f (e-cell {u} y a x) = record { world = withCell W right; grows = grows-cell W right; rel = grow-cells hi (rel-charged hi R (s .used) u (right-used f y)) right (λ k. append-right k (low-of hi x f, z)) }
+    effect-right f (e-store r b v e x) = later (store-right r b v e (low-of hi x f))
+    effect-right f (e-label p) = record { world = withLabel W right; grows = grows-label W right; rel = grow-labels hi R right (append-right (R .labels) z) }
+    effect-right f (e-advice a x) = later (put-advices hi R (append-right (R .advices) (low-of hi x f, z)))
+    effect-right f (e-clear p x) = later (put-advices hi R (filtered-right _ _ _ (otherThan p) (λ a b h e. rw (h .same-dom) (low-gone hi b p (low-of hi x f) e)) (R .advices) .1))
+    effect-right f (e-event {u} y a x) = later (put-trace hi (rel-charged hi R (s .used) u (right-used f y)) (append-right (R .trace) (low-of hi x f, z)))

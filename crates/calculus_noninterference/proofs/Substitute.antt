@@ -1,11 +1,16 @@
 -- Related terms with related values substituted are related.
 use Prim.Native.Nat.{ℕ, suc}
+use mathlib.Core.Path.{ap}
 use mathlib.Core.Bool.{Bool, true, false}
 use lib.Dec.{eqb, ltb}
 use Rattle.calculus.specs.Combinators.{choose}
 use Rattle.calculus.specs.Syntax.{Dom, Sigs, Ty, Val, Tm, Tms, val, lam, obj}
 use Rattle.calculus.specs.Subst.{subst, substs, under}
-use Rattle.calculus_noninterference.proofs.Related.{World, ClosedBody, ClosedBodies, Inert, inert-lower, inert-unit, RelV, RelT, RelB, RelTs, RelBs, b-rel, b-low, r-val, r-var, r-lam, r-val-lam, r-lam-val, r-op0, r-op1, r-op2, r-seq, r-ite, r-split, r-pcd, r-adv, r-lower, r-obj, r-val-obj, r-obj-val, r-keep, r-match, r-skip-left, r-skip-right, r-end, r-more, r-no-body, r-body}
+use Rattle.calculus_noninterference.proofs.Related.{World, ClosedBody, ClosedBodies, Inert, inert-lower, inert-unit, RelV, RelT, RelB, RelL, l-high, l-low, Mute, RelTs, RelBs, b-rel, b-low, r-val, r-var, r-lam, r-val-lam, r-lam-val, r-op0, r-op1, r-op2, r-seq, r-ite, r-split, r-pcd, r-adv, r-lower, r-obj, r-val-obj, r-obj-val, r-keep, r-match, r-skip-left, r-skip-right, r-end, r-more, r-no-body, r-body}
+
+mute-subst : {b : Bool} (k : ℕ) (v : Val) {e : Tm} → Mute b e → Mute b (subst k v e)
+unfolding subst
+mute-subst k v m z = ap (subst k v) (m z)
 
 module _ (hi : Dom → Bool) where
   inert-subst : {h : Tm} (k : ℕ) (v : Val) → Inert hi h → Inert hi (subst k v h)
@@ -46,19 +51,23 @@ module _ (hi : Dom → Bool) where
       relT-subst (r-ite r s t) k u = r-ite (relT-subst r k u) (relT-subst s k u) (relT-subst t k u)
       relT-subst (r-split r s) k u = r-split (relT-subst r k u) (relT-subst s (suc (suc k)) u)
       relT-subst (r-pcd r) k u = r-pcd (relTs-subst r k u)
-      relT-subst (r-adv r s) k u = r-adv (relT-subst r k u) (relB-subst s (suc k) u)
-      relT-subst (r-lower r) k u = r-lower (relB-subst r k u)
+      relT-subst (r-adv r s) k u = r-adv (relT-subst r k u) (relL-subst s (suc k) u)
+      relT-subst (r-lower r) k u = r-lower (relL-subst r k u)
       relT-subst (r-obj r) k u = r-obj (relBs-subst r (suc k) u)
       relT-subst {v′} (r-val-obj c r) k u = val-obj k v′ c r
       relT-subst {v} (r-obj-val c r) k u = obj-val k v c r
       relT-subst (r-keep r s t) k u = r-keep (relT-subst r k u) (relT-subst s k u) (relT-subst t k u)
       relT-subst (r-match {p} r s t) k u = r-match (relTs-subst r k u) (relT-subst s (under p k) u) (relT-subst t k u)
       relT-subst {v} (r-skip-left i r) k u = r-skip-left (inert-subst k v i) (relT-subst r k u)
-      relT-subst {v′} (r-skip-right i r) k u = r-skip-right (inert-subst k v′ i) (relT-subst r k u)
+      relT-subst {v′} (r-skip-right z i r) k u = r-skip-right z (inert-subst k v′ i) (relT-subst r k u)
 
       pub relB-subst : {p : Dom} {v v′ : Val} {e e′ : Tm} → RelB hi W p e e′ → (k : ℕ) → RelV hi W v v′ → RelB hi W p (subst k v e) (subst k v′ e′)
       relB-subst (b-rel r) k u = b-rel (relT-subst r k u)
       relB-subst (b-low l) k u = b-low l
+
+      pub relL-subst : {p : Dom} {v v′ : Val} {e e′ : Tm} → RelL hi W p e e′ → (k : ℕ) → RelV hi W v v′ → RelL hi W p (subst k v e) (subst k v′ e′)
+      relL-subst (l-high h r) k u = l-high h (relT-subst r k u)
+      relL-subst {v′} (l-low l m) k u = l-low l (mute-subst k v′ m)
 
       relTs-subst : {v v′ : Val} {es es′ : Tms} → RelTs hi W es es′ → (k : ℕ) → RelV hi W v v′ → RelTs hi W (substs k v es) (substs k v′ es′)
       relTs-subst r-end k u = r-end

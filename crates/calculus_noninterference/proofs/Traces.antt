@@ -11,7 +11,7 @@ use lib.Seq.{take-nil}
 use lib.Dec.{eqb, eqb→eq}
 use Rattle.calculus.specs.Combinators.{choose}
 use Rattle.calculus.specs.Syntax.{Dom}
-use Rattle.calculus.specs.State.{Event, Said, prints, printOf, consOption, picked, logOf, State, turns, branchOf, branchesOf, mainlineCountOf, mainlineCounts}
+use Rattle.calculus.specs.State.{Event, Said, prints, Print, printOf, consOption, picked, logOf, State, turns, branchOf, branchesOf, mainlineCountOf, mainlineCounts}
 use Rattle.laws.proofs.Lists.{Prefix, Prefix.pre-nil, Prefix.pre-cons, prefix-refl}
 use Rattle.calculus_safety.proofs.Safe.{Found, Found.found, Found.nothing}
 use Rattle.calculus_noninterference.specs.Observe.{highOf, CutEqual}
@@ -79,6 +79,9 @@ module _ (hi : Dom → Bool) where
   pub fewer-prints : (x y : List Event) → Prefix (highEvents y) (highEvents x) → length (highOf hi (λ a. a .dom) (logOf y)) ≤ length (highOf hi (λ a. a .dom) (logOf x))
   fewer-prints x y p = rw (high-picked printOf (λ a. a .dom) print-dom x, high-picked printOf (λ a. a .dom) print-dom y) (prefix-length (prefix-picked printOf p))
 
+  pub same-prints : (x y : List Event) → highEvents x ≡ highEvents y → highOf hi (λ a. a .dom) (logOf x) ≡ highOf hi (λ a. a .dom) (logOf y)
+  same-prints x y e = rw (high-picked printOf (λ a. a .dom) print-dom x, high-picked printOf (λ a. a .dom) print-dom y, e)
+
   pub cut-branches : (x y : List Event) → Prefix (highEvents x) (highEvents y) ⊎ Prefix (highEvents y) (highEvents x) → CutEqual (highOf hi (λ a. a .dom) (branchesOf x)) (highOf hi (λ a. a .dom) (branchesOf y))
   cut-branches x y p = cut-picked branchOf (λ a. a .dom) branch-dom x y p
 
@@ -105,12 +108,28 @@ module _ (hi : Dom → Bool) where
     cut-counts x y (inl p) = rw (sym (mainline-picked x), sym (mainline-picked y)) (prefix-cut (prefix-picked mainlineCountOf p))
     cut-counts x y (inr p) = rw (sym (mainline-picked x), sym (mainline-picked y)) (sym (prefix-cut (prefix-picked mainlineCountOf p)))
 
-  pub events-same : {w : List Side} {x y : List Event} → Events hi w x y → highEvents x ≡ highEvents y
+  pub events-same : {b : Bool} {w : List Side} {x y : List Event} → Events hi b w x y → highEvents x ≡ highEvents y
   unfolding highOf
   events-same i-nil = refl
   events-same (i-both {a} {b} h k) = rw (sym (h .same), h .high, events-same k)
   events-same (i-left l k) = rw (l, events-same k)
-  events-same (i-right l k) = rw (l, events-same k)
+  events-same (i-right l k) = rw (l .0, events-same k)
+
+  -- A stripped program's log is no longer (card 13).
+  pub log-no-longer : {b : Bool} → b ≡ true → {w : List Side} {x y : List Event} → Events hi b w x y → length (logOf y) ≤ length (logOf x)
+  unfolding picked
+  log-no-longer z i-nil = omega arith
+  log-no-longer z (i-both {a} {x} {y} h k) = rw (← h .same) (both (printOf a) (log-no-longer z k))
+    where
+      both : (o : Option Print) → length (logOf y) ≤ length (logOf x) → length (consOption o (logOf y)) ≤ length (consOption o (logOf x))
+      both none l = l
+      both (some p) l = omega arith
+  log-no-longer z (i-left {a} {x} {y} h k) = more (printOf a) (log-no-longer z k)
+    where
+      more : (o : Option Print) → length (logOf y) ≤ length (logOf x) → length (logOf y) ≤ length (consOption o (logOf x))
+      more none l = l
+      more (some p) l = omega arith
+  log-no-longer z (i-right h k) = clash z (h .1)
 
   events-more : (x y : List Event) → Prefix (highEvents x) (highEvents (x ++ y))
   unfolding highOf

@@ -8,7 +8,7 @@ use lib.ListN.{length, take}
 use Rattle.calculus.specs.declared.Outcome.{Outcome}
 use Rattle.calculus.specs.Combinators.{choose}
 use Rattle.calculus.specs.Syntax.{Dom, Val}
-use Rattle.calculus.specs.State.{Cell, Print, logOf, Branch, branchesOf, mainlineCounts}
+use Rattle.calculus.specs.State.{Cell, Counts, Print, logOf, Branch, branchesOf, mainlineCounts}
 use Rattle.calculus.specs.Run.{End, done, stopped, stuck, Ended}
 use Rattle.calculus.specs.Report.{report}
 use Rattle.calculus.specs.Typing.{Policy}
@@ -68,6 +68,12 @@ abbrev pub endsShort : End → Bool
 endsShort (done v) = false
 endsShort (stopped o) = lacksMainline o
 endsShort stuck = false
+
+-- Card 13: the second counts are no more than the first.
+pub record NoMore (u v : Counts) : Type 0 where
+  pub bindings : v .bindings ≤ u .bindings
+  pub cells : v .cells ≤ u .cells
+  pub pieces : v .pieces ≤ u .pieces
 
 -- The second run is not done, and prints no more at the high domains than the first.
 pub record NotPast (hi : Dom → Bool) (E E′ : Ended) : Type 0 where

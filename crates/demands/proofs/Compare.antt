@@ -38,7 +38,7 @@ module _ (high : Dom → Bool) (b b′ : List ℕ) (A : Accepts b) (A′ : Accep
     up = λ d q h l. (let t = accepted-order b (A .work) (A .report) (A .verdict-is) .there d q l in C .highs .up d q (t .0) (t .1) h l);
   }
 
-  highs-by-field : Highs (policy (recordsOf b)) (byField high)
+  pub highs-by-field : Highs (policy (recordsOf b)) (byField high)
   highs-by-field = record {
     mainline = C .highs .mainline;
     up = λ d q h l.

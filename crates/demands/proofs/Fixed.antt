@@ -53,7 +53,7 @@ module _ (b report work : List ℕ) (ok : Runs b report work) where
 abbrev countOf : Left → ℕ
 countOf X = elim (X .answer) [ Written.Bytes n ↦ n | Written.Refused r place ↦ 0 | Written.ShortOutput ↦ 0 ]
 
-front : (xs out : List ℕ) → take (length xs) (over 0 xs out) ≡ xs
+pub front : (xs out : List ℕ) → take (length xs) (over 0 xs out) ≡ xs
 front xs out = ap (λ ys. take (length xs) ys) (over-front xs out) ∙ take-append-seam xs (drop (length xs) out)
 
 abbrev wrote : List ℕ → List ℕ → Left

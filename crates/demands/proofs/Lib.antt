@@ -17,6 +17,10 @@ pub mod MainlineRoom
 pub mod NewestFirst
 pub mod OneWay
 pub mod Forecast
+pub mod CalmPrograms
+pub mod StrippedTrees
+pub mod Stripped
+pub mod StrippedCall
 pub mod UnpaidExample
 pub mod Sheet
 pub mod Mainline
@@ -25,3 +29,4 @@ pub mod TakedownExample
 pub mod RoomExample
 pub mod NewestFirstExample
 pub mod ForecastExample
+pub mod StrippedExample

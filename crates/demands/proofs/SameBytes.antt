@@ -62,13 +62,13 @@ module _ (hi : Dom → Bool) (E : Ended) where
   prints-read = ap (highOf hi (λ a. a .dom)) (log-read (logOf (E .state .trace))) ∙ high-map hi (λ a. a .dom) narrowPrint (λ a. refl) (logOf (E .state .trace))
 
   module _ (few : CellsFew E) where
-    written : readReport (writtenReport E) ≡ record { outcome = reportedNumber (report E .outcome) % shortSize; steps = report E .steps % wordSize; result = map narrowLeaf (report E .result); cells = map narrowCell (report E .cells) }
+    pub written : readReport (writtenReport E) ≡ record { outcome = reportedNumber (report E .outcome) % shortSize; steps = report E .steps % wordSize; result = map narrowLeaf (report E .result); cells = map narrowCell (report E .cells) }
     written = report-read (reportedNumber (report E .outcome)) (report E .steps) (report E .result) (report E .cells) few
 
-    says-done : SaysDone (writtenReport E) → report E .outcome ≡ some Outcome.Done
+    pub says-done : SaysDone (writtenReport E) → report E .outcome ≡ some Outcome.Done
     says-done p = done-number (report E .outcome) (sym (ap (λ r. r .outcome) written) ∙ p)
 
-    cells-read : highCellsIn hi (writtenReport E) ≡ map narrowCell (highOf (byField hi) (λ a. a .dom) (report E .cells))
+    pub cells-read : highCellsIn hi (writtenReport E) ≡ map narrowCell (highOf (byField hi) (λ a. a .dom) (report E .cells))
     cells-read = ap (λ r. highOf hi (λ a. a .dom) (r .cells)) written ∙ high-map hi (λ a. a .dom) narrowCell (λ a. refl) (report E .cells)
 
 pub same-bytes : (hi : Dom → Bool) (E E′ : Ended) → CellsFew E → CellsFew E′ → SameReported (byField hi) E E′ → SameBytes hi (writtenLog E) (writtenLog E′) (writtenReport E) (writtenReport E′)

@@ -11,3 +11,4 @@ pub mod MainlineRoom
 pub mod NewestFirst
 pub mod Forecast
 pub mod Fixed
+pub mod Stripped

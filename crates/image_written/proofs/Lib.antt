@@ -15,5 +15,6 @@ pub mod Taken
 pub mod Sums
 pub mod Sizes
 pub mod Fixed
+pub mod Stripping
 pub mod Load
 pub mod Fronts

@@ -1,2 +1,2 @@
-// Images that are written (document 02, cards 11 and 12): definitions in specs/; that they are accepted and have the program
+// Images that are written (document 02, cards 11 to 13): definitions in specs/; that they are accepted and have the program
 // that they are written from, in proofs/.

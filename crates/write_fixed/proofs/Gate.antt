@@ -7,18 +7,35 @@ use lib.ListN.{length}
 use borrow.Author.Tests.{lt-ltb, le-ltb}
 use Rattle.image.specs.declared.Refusal.{Refusal}
 use Rattle.image.specs.Limits.{imageLimit, workLength, reportLength}
+use Rattle.image.specs.Layout.{recordsOf}
+use Rattle.image.proofs.Laid.{layout-good}
 use Rattle.verdict.specs.declared.Verdict.{Verdict}
 use Rattle.verdict.specs.Verdicts.{verdict}
+use Rattle.verdict.proofs.Passed.{passed-iff}
 use Rattle.validator.specs.Examined.{examined}
 use Rattle.validator.proofs.Parts.{too-long, examined-refuses, all-enough}
 use Rattle.base_bytes.specs.Bytes.{over}
 use Rattle.image_written.specs.Written.{fixed}
+use Rattle.image_written.proofs.Sizes.{few-terms}
+use Rattle.image_written.proofs.Fixed.{fixed-short}
+use Rattle.write_image.specs.Fits.{Fits}
 use Rattle.write_fixed.specs.declared.Written.{Written}
-use Rattle.write_fixed.specs.Calls.{afterCheck, fixedCall}
+use Rattle.write_fixed.specs.Calls.{Left, afterCheck, fixedCall}
 
 -- The image is accepted where work area and report are long enough.
 pub accepted : (b : List ℕ) → length b ≤ imageLimit → examined b ≡ Verdict.Accepted → verdict b workLength reportLength ≡ Verdict.Accepted
 accepted b short ok = sym (all-enough b workLength reportLength short Verdict.Accepted (sym ok) refl (omega arith) (omega arith))
+
+-- Its fixed form fits where the image does.
+pub accepted-fits : (b : List ℕ) (n : ℕ) → length b ≤ imageLimit → examined b ≡ Verdict.Accepted → length b ≤ n → Fits b n
+accepted-fits b n short ok h =
+    let A = accepted b short ok in
+    let a = passed-iff b workLength reportLength .0 A in
+    let g = layout-good b (recordsOf b) (a .laid-out) in
+    let s = fixed-short b workLength reportLength A in
+    let f = few-terms (recordsOf b) g (a .shaped .used) (a .shaped .has-terms) in
+    let l = g .few-terms in
+    record { has-terms = a .shaped .has-terms; few-terms = omega arith; room = omega arith }
 
 module _ (b out : List ℕ) where
   refused : (r : Refusal) (place : ℕ) → Verdict.Refused r place ≡ verdict b workLength reportLength → record { answer = Written.Refused r place; out = out } ≡ fixedCall b out

@@ -1,3 +1,2 @@
--- The sections of the fixed form one behind the other, and a call from its verdict.
-pub mod Assembled
+-- A call that writes the fixed form, from its verdict.
 pub mod Gate

@@ -1,7 +1,5 @@
 // The fixed form of an image (document 02, card 11): equal programs over equal domains have equal bytes. The image is checked
 // first; an image that is refused is not written, nor is one where the output is shorter than it.
-mod accepted;
-
 use check_records::numbers::Counts;
 use image::IMAGE_LIMIT;
 use image::Refusal;
@@ -44,7 +42,7 @@ fn write_checked(
     if out.len() < image.len() {
         return Written::ShortOutput;
     }
-    let n = accepted::write_accepted(image, codes, counts, doms, types, terms, out);
+    let n = write_image::write_whole(image, codes, counts, doms, types, terms, out);
     Written::Bytes(n)
 }
 

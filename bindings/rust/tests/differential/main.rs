@@ -1,6 +1,7 @@
 //! The library against an independent implementation of documents 01 to 003: answers, log, report and work area of
 //! calls on random images (well-typed, looped, damaged) and on images made for each refusal and each outcome; what is
-//! said of an image without a run (document 02, card 10), its fixed form (card 11), and these cards' claims.
+//! said of an image without a run (document 02, card 10), its fixed form (card 11), the form without watches (card 13),
+//! and these cards' claims.
 //!
 //! IMAGES is how many random images are tried, SEED where they begin:
 //!     IMAGES=100000 SEED=7 cargo test --test differential
@@ -119,6 +120,19 @@ fn written_image(random: &mut Random, counts: &mut Counts, given: &Given, answer
         let again = call(random, counts, &Given { image: &form, ..given.clone() }).ok();
         let left = again.as_ref().map(|ran| (&ran.log, &ran.report));
         assert!(left == Some((&ran.log, &ran.report)), "the fixed form runs in another way");
+    }
+    stripped_image(random, counts, given, ran);
+}
+
+/// The form without watches; now and then it is called as the image was.
+fn stripped_image(random: &mut Random, counts: &mut Counts, given: &Given, ran: &Ran) {
+    let (high, stripped) = written::stripped(random, given.image);
+    counts.writing(&stripped);
+    let Ok(form) = stripped else { return };
+    if random.chance(40) {
+        let bare = call(random, counts, &Given { image: &form, ..given.clone() });
+        let bare = bare.ok().expect("a stripped image is always accepted");
+        written::try_stripped(given.image, high, ran, &bare);
     }
 }
 

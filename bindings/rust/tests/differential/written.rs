@@ -1,10 +1,12 @@
-//! The fixed form of an image (document 02, card 11): the library beside the reference, and the card's claims.
+//! Images written anew (document 02): the fixed form (card 11) and the form without watches (card 13), by the library
+//! beside the reference, and the cards' claims.
 use crate::compare::hex;
 use crate::damage;
 use crate::random::Random;
-use crate::reference::{self, Refused};
-#[cfg(feature = "fixed")]
+use crate::reference::{self, Ran, Refused};
+#[cfg(any(feature = "fixed", feature = "stripped"))]
 use bukzarn::Refusal;
+use bukzarn::{Leaf, LogRecord, Run};
 
 /// A length of output about the image's.
 fn output_length(random: &mut Random, image: &[u8]) -> usize {
@@ -16,7 +18,7 @@ fn output_length(random: &mut Random, image: &[u8]) -> usize {
 }
 
 /// One call that writes beside what the reference says: the answer, and every byte of the output.
-#[cfg(feature = "fixed")]
+#[cfg(any(feature = "fixed", feature = "stripped"))]
 fn same(
     random: &mut Random,
     image: &[u8],
@@ -60,4 +62,63 @@ pub fn try_fixed(random: &mut Random, image: &[u8], fixed: &[u8]) {
         "another image of the program has another form\nimage {}",
         hex(image)
     );
+}
+
+/// The masks of an image's domains, which stand first: 16 at most.
+fn domains(image: &[u8]) -> Vec<u16> {
+    let word = |at: usize| image.get(at..at + 2).map_or(0, |bytes| u16::from_le_bytes([bytes[0], bytes[1]]));
+    let (mut masks, mut at) = (vec![], 0);
+    while masks.len() < 16 && word(at + 2) == 1 && word(at) >= 6 {
+        masks.push(word(at + 4));
+        at += usize::from(word(at));
+    }
+    masks
+}
+
+/// A set of domains: mostly one that holds 0 and what is above its members.
+fn set_of_domains(random: &mut Random, image: &[u8]) -> u16 {
+    let any = random.bits() as u16;
+    if random.chance(10) {
+        return any;
+    }
+    let (masks, few) = (domains(image), any & random.bits() as u16);
+    let member = |p: &usize| few >> p & 1 == 1 || *p == 0;
+    let closed = (0..masks.len()).filter(member).fold(1, |set, p| set | masks[p]);
+    match random.below(20) {
+        0 => closed & !1,
+        1 => closed ^ 1 << random.below(16),
+        _ => closed,
+    }
+}
+
+/// The form without watches for some high domains, by the reference, and by the library where it has the function.
+pub fn stripped(random: &mut Random, image: &[u8]) -> (u16, Result<Vec<u8>, Refused>) {
+    let (length, high) = (output_length(random, image), set_of_domains(random, image));
+    let expected = reference::stripped(image, high, length);
+    #[cfg(feature = "stripped")]
+    same(random, image, length, &expected, |output| bukzarn::write_stripped(image, high, output));
+    (high, expected)
+}
+
+/// What card 13 compares of two runs: the result, the plain high cells, the high log.
+type Seen = (Vec<Leaf>, Vec<(u16, Vec<Leaf>)>, Vec<LogRecord>);
+
+fn seen(ran: &Ran, high: u16) -> (u32, Seen) {
+    let run = Run::read(&ran.log, &ran.report).expect("a report");
+    let is_high = |domain: u16| high >> domain & 1 == 1;
+    let plain = |cell: bukzarn::Cell| cell.leaves.map(|leaves| (cell.domain, leaves.collect()));
+    let cells = run.cells().filter(|cell| is_high(cell.domain)).filter_map(plain).collect();
+    let log = run.log().filter(|record| is_high(record.domain)).collect();
+    (run.steps(), (run.result().collect(), cells, log))
+}
+
+/// "The stripped run is done […] with the same result, the same plain high cells and high log, in no more steps", where
+/// the full run is done and no low body contains a takedown.
+pub fn try_stripped(image: &[u8], high: u16, full: &Ran, bare: &Ran) {
+    if full.outcome != 0 || !reference::calm(image) {
+        return;
+    }
+    let ((steps, with), (fewer, without)) = (seen(full, high), seen(bare, high));
+    let agreed = bare.outcome == 0 && fewer <= steps && with == without;
+    assert!(agreed, "the stripped run differs, high {high:04x}: {with:?} and {without:?}\nimage {}", hex(image));
 }

@@ -1,4 +1,4 @@
-//! What a call answers and leaves, written from documents 01, 02 (cards 1 to 3 and 5 to 11) and 003 alone and as literally
+//! What a call answers and leaves, written from documents 01, 02 (cards 1 to 3, 5 to 11 and 13) and 003 alone and as literally
 //! as possible: the check rule by rule, the run by substitution. It shares no text with the engine.
 mod decode;
 mod layout;
@@ -71,4 +71,21 @@ pub fn fixed(image: &[u8], output: usize) -> Result<Vec<u8>, Refused> {
 /// Another image of an accepted image's program.
 pub fn reordered(image: &[u8]) -> Option<Vec<u8>> {
     check(image).ok().map(|records| written::reordered(&records))
+}
+
+/// The image stripped of its watches, for a set of high domains and an output of so many bytes (document 02, card 13).
+pub fn stripped(image: &[u8], high: u16, output: usize) -> Result<Vec<u8>, Refused> {
+    let records = check(image)?;
+    if !written::high_domains(&records, high) {
+        return Err(Refused(23, 0));
+    }
+    if output < image.len() {
+        return Err(Refused(24, 0));
+    }
+    Ok(written::stripped(&records, high))
+}
+
+/// Is this an accepted image without takedowns?
+pub fn calm(image: &[u8]) -> bool {
+    check(image).is_ok_and(|records| !written::takes_down(&records))
 }

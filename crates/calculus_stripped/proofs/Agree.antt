@@ -1,0 +1,104 @@
+-- Card 13: two sets of domains that agree on all domains which the order relates. By both a typed program is stripped to the same, and is calm or not.
+use mathlib.Core.Path.{_≡_, refl, sym, ap, ap₂, _∙_}
+use mathlib.Core.Bool.{Bool, true}
+use mathlib.Core.List.{List}
+use Rattle.calculus.specs.Combinators.{choose}
+use Rattle.calculus.specs.Syntax.{Dom, Ty, Sigs, Val, Tm, Tms, Op0, val, lam, op1, op2, seq, split, pcd, adv, lower, obj, more}
+use Rattle.calculus.specs.Typing.{StoreTyping, Policy, Rule0, ValTy, TmTy, TmsTy, BodiesTy, t-newLabel, t-abort, t-takedown, t-stack, is-val, is-var, is-lam, is-op0, is-op1, is-op2, is-seq, is-ite, is-split, is-pcd, is-adv, is-lower, is-obj, is-keep, is-match, is-end, is-more, no-body, a-body}
+use Rattle.calculus_noninterference.specs.Calm.{CalmOp, Calm, Calms, CalmBodies, CalmVal}
+use Rattle.calculus_stripped.specs.Strip.{strip, strips, stripVal}
+
+body-same : (f g : Dom → Bool) {p : Dom} {e e′ : Tm} → f p ≡ g p → e ≡ e′ → choose (f p) e (val Val.unit) ≡ choose (g p) e′ (val Val.unit)
+body-same f g h k = ap₂ (λ b e. choose b e (val Val.unit)) h k
+
+module _ {D : Policy} (f g : Dom → Bool) (same : (p q : Dom) → D .leq p q ≡ true → (f p ≡ g p) × (f q ≡ g q)) where
+  calm-op : {c : Dom} {o : Op0} {t : Ty} → Rule0 D c o t → CalmOp f c o → CalmOp g c o
+  calm-op (t-newLabel l) x = tt
+  calm-op t-abort x = tt
+  calm-op {c} (t-takedown {p} l) x = sym (same p c l .1) ∙ x
+  calm-op t-stack x = tt
+
+  module _ {Σ : StoreTyping} where
+    mutual
+      unfolding strip strips stripVal
+
+      strip-val : {v : Val} {t : Ty} → ValTy D Σ v t → stripVal f v ≡ stripVal g v
+      strip-val ValTy.v-unit = refl
+      strip-val ValTy.v-truth = refl
+      strip-val ValTy.v-num = refl
+      strip-val (ValTy.v-pair h k) = ap₂ Val.pair (strip-val h) (strip-val k)
+      strip-val (ValTy.v-fun {a} {b} {p} h) = ap (Val.fun (Ty.fun a p b)) (strip-same h)
+      strip-val (ValTy.v-label x) = refl
+      strip-val (ValTy.v-cell x) = refl
+      strip-val (ValTy.v-labels h) = refl
+      strip-val (ValTy.v-advice {ls} {p} {q} h l k) = ap (Val.advice p ls) (body-same f g (same p q l .0) (strip-same k))
+      strip-val (ValTy.v-object {ms} h) = ap (Val.object (Ty.obj ms)) (strip-bodies h)
+      strip-val ValTy.v-bottom = refl
+      strip-val (ValTy.v-kept {l} x h k) = ap₂ (Val.kept l) (strip-val h) (strip-val k)
+
+      pub strip-same : {Γ : List Ty} {c : Dom} {e : Tm} {t : Ty} → TmTy D Σ Γ c e t → strip f e ≡ strip g e
+      strip-same (is-val h) = ap val (strip-val h)
+      strip-same (is-var x) = refl
+      strip-same (is-lam {p} {a} {b} h) = ap (lam (Ty.fun a p b)) (strip-same h)
+      strip-same (is-op0 r) = refl
+      strip-same (is-op1 {o} {t} r h) = ap (op1 o t) (strip-same h)
+      strip-same (is-op2 {o} {t} r h k) = ap₂ (op2 o t) (strip-same h) (strip-same k)
+      strip-same (is-seq h k) = ap₂ seq (strip-same h) (strip-same k)
+      strip-same (is-ite h k l) = let x = strip-same h in let y = strip-same k in let z = strip-same l in cc
+      strip-same (is-split h k) = ap₂ split (strip-same h) (strip-same k)
+      strip-same (is-pcd h l) = ap pcd (strips-same h)
+      strip-same (is-adv {p} {q} h l k) = ap₂ (adv p) (strip-same h) (body-same f g (same p q l .0) (strip-same k))
+      strip-same (is-lower {c} {p} l h) = ap (lower p) (body-same f g (same p c l .0) (strip-same h))
+      strip-same (is-obj {ms} h) = ap (obj (Ty.obj ms)) (strip-bodies h)
+      strip-same (is-keep h k l) = let x = strip-same h in let y = strip-same k in let z = strip-same l in cc
+      strip-same (is-match h p k l) = let x = strips-same h in let y = strip-same k in let z = strip-same l in cc
+
+      strips-same : {Γ ts : List Ty} {c : Dom} {es : Tms} → TmsTy D Σ Γ c es ts → strips f es ≡ strips g es
+      strips-same is-end = refl
+      strips-same (is-more h k) = ap₂ more (strip-same h) (strips-same k)
+
+      strip-bodies : {Γ : List Ty} {bs : Tms} {ms : Sigs} → BodiesTy D Σ Γ bs ms → strips f bs ≡ strips g bs
+      strip-bodies no-body = refl
+      strip-bodies (a-body h k) = ap₂ more (strip-same h) (strip-bodies k)
+
+    mutual
+      unfolding Calm Calms CalmBodies CalmVal
+
+      calm-val : {v : Val} {t : Ty} → ValTy D Σ v t → CalmVal f v → CalmVal g v
+      calm-val ValTy.v-unit x = tt
+      calm-val ValTy.v-truth x = tt
+      calm-val ValTy.v-num x = tt
+      calm-val (ValTy.v-pair h k) x = (calm-val h (x .0), calm-val k (x .1))
+      calm-val (ValTy.v-fun h) x = calm-same h x
+      calm-val (ValTy.v-label y) x = tt
+      calm-val (ValTy.v-cell y) x = tt
+      calm-val (ValTy.v-labels h) x = tt
+      calm-val (ValTy.v-advice h l k) x = calm-same k x
+      calm-val (ValTy.v-object h) x = calm-bodies h x
+      calm-val ValTy.v-bottom x = tt
+      calm-val (ValTy.v-kept y h k) x = (calm-val h (x .0), calm-val k (x .1))
+
+      pub calm-same : {Γ : List Ty} {c : Dom} {e : Tm} {t : Ty} → TmTy D Σ Γ c e t → Calm f c e → Calm g c e
+      calm-same (is-val h) x = calm-val h x
+      calm-same (is-var y) x = tt
+      calm-same (is-lam h) x = calm-same h x
+      calm-same (is-op0 r) x = calm-op r x
+      calm-same (is-op1 r h) x = calm-same h x
+      calm-same (is-op2 r h k) x = (calm-same h (x .0), calm-same k (x .1))
+      calm-same (is-seq h k) x = (calm-same h (x .0), calm-same k (x .1))
+      calm-same (is-ite h k l) x = (calm-same h (x .0), calm-same k (x .1), calm-same l (x .2))
+      calm-same (is-split h k) x = (calm-same h (x .0), calm-same k (x .1))
+      calm-same (is-pcd h l) x = calms-same h x
+      calm-same (is-adv h l k) x = (calm-same h (x .0), calm-same k (x .1))
+      calm-same (is-lower l h) x = calm-same h x
+      calm-same (is-obj h) x = calm-bodies h x
+      calm-same (is-keep h k l) x = (calm-same h (x .0), calm-same k (x .1), calm-same l (x .2))
+      calm-same (is-match h p k l) x = (calms-same h (x .0), calm-same k (x .1), calm-same l (x .2))
+
+      calms-same : {Γ ts : List Ty} {c : Dom} {es : Tms} → TmsTy D Σ Γ c es ts → Calms f c es → Calms g c es
+      calms-same is-end x = tt
+      calms-same (is-more h k) x = (calm-same h (x .0), calms-same k (x .1))
+
+      calm-bodies : {Γ : List Ty} {bs : Tms} {ms : Sigs} → BodiesTy D Σ Γ bs ms → CalmBodies f ms bs → CalmBodies g ms bs
+      calm-bodies no-body x = tt
+      calm-bodies (a-body h k) x = (calm-same h (x .0), calm-bodies k (x .1))

@@ -1,0 +1,9 @@
+-- Card 13's theorems.
+pub mod Budget
+pub mod Typed
+pub mod Alike
+pub mod Agree
+pub mod Runs
+pub mod Theorem
+pub mod Reported
+pub mod Example

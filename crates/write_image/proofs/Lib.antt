@@ -1,0 +1,2 @@
+-- The sections of a written image, one behind the other.
+pub mod Assembled

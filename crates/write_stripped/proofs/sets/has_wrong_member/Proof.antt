@@ -1,0 +1,76 @@
+use borrow.Author.Needs.{needs}
+use Prim.Native.Nat.{ℕ, _+_, _-_, _≤_, _<_}
+use native.Mathlib.Omega.{arith}
+use mathlib.Core.Path.{_≡_, refl, ap, subst, _∙_}
+use mathlib.Core.Bool.{Bool, not, _&&_, _||_}
+use mathlib.Core.List.{List}
+use denote.Ref.{now}
+use lib.Dec.{leb}
+use Rattle.laws.specs.Tests.{anyBelow}
+use Rattle.image.specs.Limits.{domainLimit}
+use Rattle.check_rules.specs.Judged.{bitOf}
+use Rattle.check_shape.proofs.Orders.{any-more}
+use Rattle.write_idle.specs.Idle.{inMask}
+use Rattle.write_stripped.proofs.sets.has_wrong_member.Statement.{statement}
+use Rattle.write_stripped.proofs.sets.has_wrong_member.Tie as tie
+use Rattle.write_stripped.proofs.sets.has_wrong_member.Reads as reads
+use Rattle.write_stripped.proofs.sets.has_wrong_member.Lts as lts
+use Rattle.laws.proofs.either.Reads as either-reads
+use Rattle.write_stripped.proofs.sets.is_wrong_member.Reads as is-wrong-member-reads
+
+abbrev Inv-loop : tie.InvT-loop
+Inv-loop masks count mask found₀ d₀ found d = (d ≤ 16) × (found ≡ anyBelow d (λ k. inMask mask k && (leb count k || anyBelow domainLimit (λ q. bitOf masks k q && not (inMask mask q)))))
+
+abbrev μ-loop : tie.MeasureT-loop
+μ-loop masks count mask found₀ d₀ found d = 16 - d
+
+-- src/sets.rt:50:5
+loop-holds : tie.Need-loop-holds Inv-loop μ-loop
+unfolding anyBelow
+loop-holds c = (omega arith, refl)
+
+-- src/sets.rt:51:31
+is-wrong-member-requires : tie.Need-is-wrong-member-requires Inv-loop μ-loop
+is-wrong-member-requires c κs = search needs
+
+-- src/sets.rt:51:9
+either-requires : tie.Need-either-requires Inv-loop μ-loop
+either-requires c κs = search needs
+
+-- src/sets.rt:52:9
+add-d : tie.Need-add-d Inv-loop μ-loop
+add-d c = search needs
+
+-- src/sets.rt:50:5
+loop-less : tie.Need-loop-less Inv-loop μ-loop
+loop-less c = search needs
+
+-- src/sets.rt:50:5
+loop-again : tie.Need-loop-again Inv-loop μ-loop
+loop-again c =
+    let l = c .before .before .before .loop in
+    (omega (arith, c .before .before .loop-test .taken), c .either .ensures ∙ ap (λ t. l .found || t) (c .before .is-wrong-member .ensures) ∙ any-more (l .d) _ (l .found) (l .inv .1))
+
+-- src/sets.rt:45:1
+returns : tie.Need-returns Inv-loop μ-loop
+returns c =
+    let s = c .before .before in
+    let l = c .before .loop in
+    let g : 16 ≤ l .d = search needs in
+    let h = l .inv .0 in
+    let e : l .d ≡ 16 = omega arith in
+    l .inv .1 ∙ ap (λ n. anyBelow n (λ k. inMask (s .args .mask) k && (leb (s .args .count) k || anyBelow domainLimit (λ q. bitOf (now (s .args .masks)) k q && not (inMask (s .args .mask) q))))) e
+
+pub has-wrong-member-spec : {M : Type 1} → statement M
+has-wrong-member-spec =
+    tie.close
+    (tie.spec
+    Inv-loop
+    μ-loop
+    loop-holds
+    is-wrong-member-requires
+    either-requires
+    add-d
+    loop-less
+    loop-again
+    returns)

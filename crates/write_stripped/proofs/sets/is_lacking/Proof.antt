@@ -1,0 +1,27 @@
+use borrow.Author.Needs.{needs}
+use Rattle.write_stripped.proofs.sets.is_lacking.Statement.{statement}
+use Rattle.write_stripped.proofs.sets.is_lacking.Tie as tie
+use Rattle.write_stripped.proofs.sets.is_lacking.Reads as reads
+use Rattle.write_stripped.proofs.sets.is_lacking.Lts as lts
+use Rattle.check_rules.proofs.domains.leq.Reads as leq-reads
+use Rattle.laws.proofs.both.Reads as both-reads
+use Rattle.write_idle.proofs.in_mask.Reads as in-mask-reads
+
+-- src/sets.rt:21:10
+leq-requires : tie.Need-leq-requires
+leq-requires c κs = search needs
+
+-- src/sets.rt:21:49
+in-mask-requires : tie.Need-in-mask-requires
+in-mask-requires c κs = search needs
+
+-- src/sets.rt:21:5
+both-requires : tie.Need-both-requires
+both-requires c κs = search needs
+
+-- src/sets.rt:18:1
+returns : tie.Need-returns
+returns c = cc (c .both .ensures, c .before .in-mask .ensures, c .before .before .leq .ensures)
+
+pub is-lacking-spec : {M : Type 1} → statement M
+is-lacking-spec = tie.close (tie.spec leq-requires in-mask-requires both-requires returns)

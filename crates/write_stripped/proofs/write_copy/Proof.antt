@@ -1,0 +1,62 @@
+use borrow.Author.Needs.{needs}
+use Prim.Native.Nat.{ℕ}
+use mathlib.Core.Path.{ap, subst, _∙_}
+use mathlib.Core.Bool.{Bool}
+use mathlib.Core.List.{List}
+use denote.Ref.{now}
+use lib.ListN.{length}
+use Rattle.calculus.specs.Syntax.{Dom}
+use Rattle.image.specs.Layout.{recordsOf}
+use Rattle.base_bytes.specs.Bytes.{over}
+use Rattle.write_idle.specs.Idle.{inMask, Idled}
+use Rattle.write_stripped.proofs.Copies.{accepted, copy-domains, copy-types, copy-terms, copy-counted, copy-fits, copy-written}
+use Rattle.write_stripped.proofs.write_copy.Statement.{statement}
+use Rattle.write_stripped.proofs.write_copy.Tie as tie
+use Rattle.write_stripped.proofs.write_copy.Reads as reads
+use Rattle.write_stripped.proofs.write_copy.Lts as lts
+use Rattle.write_idle.proofs.idle_copy.Reads as idle-copy-reads
+use Rattle.write_image.proofs.write_whole.Reads as write-whole-reads
+
+-- src/lib.rt:66:5
+idle-copy-requires : tie.Need-idle-copy-requires
+idle-copy-requires c κs = search needs
+
+-- src/lib.rt:67:5
+write-whole-requires : tie.Need-write-whole-requires
+write-whole-requires c κs =
+    let s = c .before .before .before .before .before .before .before .before .before .before .before .before .before .before in
+    let b : List ℕ = now (s .args .image) in
+    let A = accepted b (s .pre .0) (s .pre .1) in
+    let x = c .before .before .before .before .idle-copy in
+    let T = s .pre .3 in
+    let C : List ℕ = x .last .1 .1 .1 .1 .1 .0 in
+    let H : Dom → Bool = inMask (s .args .mask) in
+    let I : Idled (recordsOf b) H (length (recordsOf b .terms)) b C = subst (λ m. Idled (recordsOf b) H m b C) (s .pre .4 .terms) (x .ensures) in
+    (s .pre .2, copy-domains b A H C I _ (T .domains), copy-types b A H C I _ (s .pre .5), copy-terms b A H C I _ (T .terms), copy-counted b A H C I _ (s .pre .4), copy-fits b A H C I _ (s .pre .7))
+
+-- src/lib.rt:51:1
+same-length : tie.Need-same-length
+same-length c = search needs
+
+-- src/lib.rt:51:1
+same-length-2 : tie.Need-same-length-2
+same-length-2 c = search needs
+
+-- src/lib.rt:51:1
+returns : tie.Need-returns
+returns c =
+    let s = c .before .before .before .before .before .before .before .before .before .before .before .before .before .before .before .before .before in
+    let b : List ℕ = now (s .args .image) in
+    let A = accepted b (s .pre .0) (s .pre .1) in
+    let x = c .before .before .before .before .before .before .before .idle-copy in
+    let T = s .pre .3 in
+    let C : List ℕ = x .last .1 .1 .1 .1 .1 .0 in
+    let H : Dom → Bool = inMask (s .args .mask) in
+    let I : Idled (recordsOf b) H (length (recordsOf b .terms)) b C = subst (λ m. Idled (recordsOf b) H m b C) (s .pre .4 .terms) (x .ensures) in
+    let w = c .before .before .write-whole .ensures in
+    let e = copy-written b A H C I in
+    (w .0 ∙ ap length e, w .1 ∙ ap (λ bs. over 0 bs (now (s .args .out))) e)
+
+pub write-copy-spec : {M : Type 1} → statement M
+write-copy-spec =
+    tie.close (tie.spec idle-copy-requires write-whole-requires same-length same-length-2 returns)

@@ -1,0 +1,70 @@
+-- What a call that writes an image without its watches answers, and what the output then holds, from any image, mask and output (document 02, card 13).
+use Prim.Native.Nat.{ℕ, _+_, _*_, _%_}
+use mathlib.Core.Bool.{Bool, not, _&&_, _||_}
+use mathlib.Core.List.{List}
+use lib.ListN.{length}
+use lib.Dec.{ltb, leb}
+use Rattle.laws.specs.Tests.{anyBelow}
+use Rattle.calculus.specs.Combinators.{choose}
+use Rattle.calculus.specs.Syntax.{Dom}
+use Rattle.image.specs.Limits.{domainLimit, workLength, reportLength}
+use Rattle.image.specs.Refusals.{refusalNumber}
+use Rattle.image.specs.Records.{Layout}
+use Rattle.image.specs.Layout.{recordsOf}
+use Rattle.verdict.specs.declared.Verdict.{Verdict}
+use Rattle.verdict.specs.Domains.{leq}
+use Rattle.verdict.specs.Verdicts.{verdict}
+use Rattle.base_bytes.specs.Bytes.{over}
+use Rattle.image_written.specs.Stripped.{withoutWatches}
+use Rattle.write_idle.specs.Idle.{inMask}
+use Rattle.write_stripped.specs.declared.Stripped.{Stripped}
+
+-- "23 the given set lacks domain 0, names an absent domain, or lacks a domain above a member", by the order of the domains and how many there are.
+abbrev pub wrongBy : (Dom → Dom → Bool) → ℕ → ℕ → Bool
+wrongBy below count mask = not (inMask mask 0) || anyBelow domainLimit (λ d. inMask mask d && (leb count d || anyBelow domainLimit (λ q. below d q && not (inMask mask q))))
+
+abbrev pub wrongSet : Layout → ℕ → Bool
+wrongSet L mask = wrongBy (leq L) (length (L .domains)) mask
+
+-- "24 the output is shorter than the image": the number of each answer, 0 where the image was written, and the place.
+abbrev pub wrongSetNumber : ℕ
+wrongSetNumber = 23
+
+abbrev pub shortOutput : ℕ
+shortOutput = 24
+
+abbrev pub strippedNumber : Stripped → ℕ
+strippedNumber (Stripped.Bytes n) = 0
+strippedNumber (Stripped.Refused r place) = refusalNumber r
+strippedNumber Stripped.WrongSet = wrongSetNumber
+strippedNumber Stripped.ShortOutput = shortOutput
+
+abbrev pub strippedPlace : Stripped → ℕ
+strippedPlace (Stripped.Bytes n) = 0
+strippedPlace (Stripped.Refused r place) = place
+strippedPlace Stripped.WrongSet = 0
+strippedPlace Stripped.ShortOutput = 0
+
+-- What a call answers, and what the output then holds.
+pub record Left : Type 0 where
+  pub answer : Stripped
+  pub out : List ℕ
+
+-- "In this order, place 0, after the check's refusals, nothing written." Output past the image stays, and its length is returned.
+abbrev pub afterCheck : Verdict → List ℕ → ℕ → List ℕ → Left
+afterCheck (Verdict.Refused r place) b mask out = record { answer = Stripped.Refused r place; out = out }
+afterCheck Verdict.Accepted b mask out =
+    choose (wrongSet (recordsOf b) mask) (record { answer = Stripped.WrongSet; out = out })
+    (choose (ltb (length out) (length b)) (record { answer = Stripped.ShortOutput; out = out })
+    (record { answer = Stripped.Bytes (length (withoutWatches (inMask mask) b)); out = over 0 (withoutWatches (inMask mask) b) out }))
+
+-- The check's refusals are 1 to 16: those of a call with a work area and a report that are long enough.
+unfoldable pub strippedCall : List ℕ → ℕ → List ℕ → Left
+strippedCall b mask out = afterCheck (verdict b workLength reportLength) b mask out
+
+-- An answer as one number, for callers in other languages: how many bytes were written; of a refusal 2^16 times its number and 2^24 times its place.
+abbrev pub strippedAsNumber : Stripped → ℕ
+strippedAsNumber (Stripped.Bytes n) = n % 65536
+strippedAsNumber (Stripped.Refused r place) = 65536 * refusalNumber r + 16777216 * (place % 549755813888)
+strippedAsNumber Stripped.WrongSet = 65536 * wrongSetNumber
+strippedAsNumber Stripped.ShortOutput = 65536 * shortOutput

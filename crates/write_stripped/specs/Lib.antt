@@ -1,0 +1,2 @@
+-- What a call that writes an image without its watches answers and leaves.
+pub mod Calls

@@ -1,0 +1,189 @@
+// An image without its watches (document 02, card 13): the body of every low advice and every low lower is a unit, and the
+// image has the fixed form of card 11. The image is checked first; one that is refused is not written, nor is any where the
+// given mask is no set of high domains, or the output is shorter than the image.
+mod sets;
+
+use check_records::numbers::Counts;
+use check_rules::domains::set_masks;
+use image::IMAGE_LIMIT;
+use image::Refusal;
+use validator::examine::Checked;
+use write_idle::idle_copy;
+use write_image::write_whole;
+ghost use mathlib.Core.Path.{_≡_};
+ghost use Prim.Native.Nat.{_≤_};
+ghost use lib.ListN.{length};
+ghost use Rattle.image.specs.Limits.{imageLimit};
+ghost use Rattle.image.specs.Layout.{recordsOf};
+ghost use Rattle.verdict.specs.declared.Verdict.{Verdict};
+ghost use Rattle.base_bytes.specs.Bytes.{over};
+ghost use Rattle.check_records.specs.Codes.{kindCodes};
+ghost use Rattle.check_records.specs.Tables.{Tables, Counted};
+ghost use Rattle.check_rules.specs.Lent.{Domains, TypeOffsets};
+ghost use Rattle.validator.specs.Examined.{examined};
+ghost use Rattle.image_written.specs.Stripped.{withoutWatches};
+ghost use Rattle.write_idle.specs.Idle.{inMask};
+ghost use Rattle.write_stripped.specs.Calls.{wrongSet, strippedNumber, strippedPlace, strippedCall, strippedAsNumber};
+
+// So many bytes were written; or why none was.
+pub enum Stripped {
+    Bytes(usize),
+    Refused(Refusal, usize),
+    WrongSet,
+    ShortOutput,
+}
+
+// The numbers of a mask that is no set of high domains, and of an output that is shorter than the image (document 02, card 13).
+const WRONG_SET: u16 = 23;
+
+const SHORT_OUTPUT: u16 = 24;
+
+// The mask is no set of high domains of the image.
+fn is_wrong_set(image: &[u8], doms: &[u16], count: usize, mask: u16) -> bool
+    requires { ⌜ Domains (now image) (now doms) × (count ≡ length (recordsOf (now image) .domains)) ⌝ }
+    ensures { λ r. ⌜ r ≡ wrongSet (recordsOf (now (image .entry))) mask ⌝ }
+{
+    let mut masks = [0u16; 16];
+    set_masks(image, doms, count, &mut masks);
+    sets::is_wrong(&masks, count, mask)
+}
+
+// The image without its watches, at the front of the output: written from a copy in which low bodies are units.
+fn write_copy(
+    image: &[u8],
+    codes: &[u32],
+    counts: Counts,
+    doms: &[u16],
+    types: &[u16],
+    descriptors: &[u32],
+    terms: &[u16],
+    mask: u16,
+    copy: &mut [u8],
+    out: &mut [u8],
+) -> usize
+    requires { ⌜ (length (now image) ≤ imageLimit) × (examined (now image) ≡ Verdict.Accepted) × (now codes ≡ kindCodes) × Tables (now image) (now doms) (now terms) (now descriptors) × Counted (now image) counts × TypeOffsets (now image) (now types) × (length (now copy) ≡ length (now image)) × (length (now image) ≤ length (now out)) ⌝ }
+    ensures { λ r. ⌜ (r ≡ length (withoutWatches (inMask mask) (now (image .entry)))) × (now (out .exit) ≡ over 0 (withoutWatches (inMask mask) (now (image .entry))) (now (out .entry))) ⌝ }
+{
+    idle_copy(image, terms, descriptors, counts.terms, mask, copy);
+    write_whole(copy, codes, counts, doms, types, terms, out)
+}
+
+// The set of high domains, the length of the output, then the image without its watches, of an image that is accepted.
+fn write_checked(
+    image: &[u8],
+    codes: &[u32],
+    counts: Counts,
+    doms: &[u16],
+    types: &[u16],
+    descriptors: &[u32],
+    terms: &[u16],
+    mask: u16,
+    out: &mut [u8],
+) -> Stripped
+    requires { ⌜ (length (now image) ≤ imageLimit) × (examined (now image) ≡ Verdict.Accepted) × (now codes ≡ kindCodes) × Tables (now image) (now doms) (now terms) (now descriptors) × Counted (now image) counts × TypeOffsets (now image) (now types) ⌝ }
+    ensures { λ r. ⌜ record { answer = r; out = now (out .exit) } ≡ strippedCall (now (image .entry)) mask (now (out .entry)) ⌝ }
+{
+    if is_wrong_set(image, doms, counts.domains, mask) {
+        return Stripped::WrongSet;
+    }
+    let size = image.len();
+    if out.len() < size {
+        return Stripped::ShortOutput;
+    }
+    let mut copy = [0u8; 16384];
+    let n = write_copy(
+        image,
+        codes,
+        counts,
+        doms,
+        types,
+        descriptors,
+        terms,
+        mask,
+        &mut copy[..size],
+        out,
+    );
+    Stripped::Bytes(n)
+}
+
+// One call: the image is only read, the output may have any length and content.
+pub fn write_stripped(image: &[u8], mask: u16, out: &mut [u8]) -> Stripped
+    ensures { λ r. ⌜ record { answer = r; out = now (out .exit) } ≡ strippedCall (now (image .entry)) mask (now (out .entry)) ⌝ }
+{
+    if IMAGE_LIMIT < image.len() {
+        return Stripped::Refused(Refusal::ImageTooLong, 0);
+    }
+    let codes = check_records::kinds::kind_codes();
+    let mut doms = [0u16; 16];
+    let mut types = [0u16; 128];
+    let mut descriptors = [0u32; 128];
+    let mut terms = [0u16; 1024];
+    let checked = validator::examine::examine_image(
+        image,
+        &codes,
+        &mut doms,
+        &mut types,
+        &mut descriptors,
+        &mut terms,
+    );
+    match checked {
+        Checked::Refused(why, place) => Stripped::Refused(why, place),
+        Checked::Accepted(counts) => {
+            write_checked(
+                image,
+                &codes,
+                counts,
+                &doms,
+                &types,
+                &descriptors,
+                &terms,
+                mask,
+                out,
+            )
+        }
+    }
+}
+
+// The number of an answer, 0 where the image was written, and its place.
+pub fn stripped_number(s: Stripped) -> u16
+    ensures { λ r. ⌜ r ≡ strippedNumber s ⌝ }
+{
+    match s {
+        Stripped::Bytes(_) => 0,
+        Stripped::Refused(why, _) => image::refusal_number(why),
+        Stripped::WrongSet => WRONG_SET,
+        Stripped::ShortOutput => SHORT_OUTPUT,
+    }
+}
+
+pub fn stripped_place(s: Stripped) -> usize
+    ensures { λ r. ⌜ r ≡ strippedPlace s ⌝ }
+{
+    match s {
+        Stripped::Bytes(_) => 0,
+        Stripped::Refused(_, place) => place,
+        Stripped::WrongSet => 0,
+        Stripped::ShortOutput => 0,
+    }
+}
+
+fn as_number(s: Stripped) -> u64
+    ensures { λ r. ⌜ r ≡ strippedAsNumber s ⌝ }
+{
+    match s {
+        Stripped::Bytes(n) => (n % 65536) as u64,
+        Stripped::Refused(why, place) => {
+            65536 * (image::refusal_number(why) as u64) + 16777216 * ((place % 549755813888) as u64)
+        }
+        Stripped::WrongSet => 65536 * (WRONG_SET as u64),
+        Stripped::ShortOutput => 65536 * (SHORT_OUTPUT as u64),
+    }
+}
+
+// The same for callers in other languages: the bytes written, or why none was, as one number.
+#[no_mangle]
+pub extern "C" fn write_stripped_form(image: &[u8], mask: u16, out: &mut [u8]) -> u64
+    ensures { λ n. ⌜ (n ≡ strippedAsNumber (strippedCall (now (image .entry)) mask (now (out .entry)) .answer)) × (now (out .exit) ≡ strippedCall (now (image .entry)) mask (now (out .entry)) .out) ⌝ }
+{
+    as_number(write_stripped(image, mask, out))
+}

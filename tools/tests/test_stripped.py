@@ -1,0 +1,90 @@
+"""A program with and without its watches, as the tool compares them; the programs are stood for by stored answers: the
+examples' listings, and for the form without watches the procedure's own image."""
+import unittest
+from unittest import mock
+
+import common
+from test_tool import run
+from watchlang import programs, stripped
+from watchlang.assembler import assemble
+from watchlang.layout import Refused
+
+FOLDER = common.ROOT / "examples"
+PLAIN = (FOLDER / "plain.img").read_bytes()
+DOMAINS = "domain decoder domain watch <= decoder "
+
+
+def answered(name, image, *words):
+    """The procedure without watches, or an example's listing."""
+    if name == "strip":
+        if words != ("1",):
+            raise Refused(23, 0, "")
+        return PLAIN
+    example = next(file for file in FOLDER.glob("*.img") if file.read_bytes() == image)
+    return example.with_suffix(".txt").read_bytes()
+
+
+class Stripped(unittest.TestCase):
+    def tool(self, *words):
+        with mock.patch.object(programs, "run", answered):
+            return run(*words)[0]
+
+    def test_the_watches_are_gone(self):
+        texts = FOLDER / "sonde.proc", FOLDER / "count.watch", FOLDER / "trace.watch"
+        self.assertEqual(self.tool("strip", *texts, "--keep", "decoder"), PLAIN)
+        self.assertEqual(self.tool("strip", FOLDER / "watched.img", "--keep", "0"), PLAIN)
+
+    def test_runs_with_and_without_watches_agree(self):
+        for name in ("count", "trace", "watched", "corrected"):
+            said = self.tool("rerun", FOLDER / f"{name}.img").decode()
+            self.assertIn("high log records     18 and 18\n", said)
+            self.assertTrue(said.endswith("They agree in result, high cells and high log.\n"), name)
+            self.assertNotIn("Nothing is claimed", said)
+
+    def test_what_nothing_is_claimed_of(self):
+        self.assertIn("the run with the watches is not done", self.tool("rerun", FOLDER / "greedy.img").decode())
+        self.assertIn("a low body contains a takedown", self.tool("rerun", FOLDER / "three.img").decode())
+
+    def test_runs_that_differ(self):
+        """A run without watches that printed another number is told, and ends the tool."""
+        def wrong(name, image, *words):
+            said = answered(name, image, *words)
+            return said.replace(b"log 0 10020", b"log 0 10021") if name == "watch" and image == PLAIN else said
+        with mock.patch.object(programs, "run", wrong), self.assertRaises(SystemExit) as caught:
+            run("rerun", FOLDER / "watched.img")
+        self.assertIn("differ where they may not", str(caught.exception))
+
+    def test_differences(self):
+        listing = "log 0 5\nlog 1 6\ndone 9\nvalue 1\ncell 0 2\ncell 1 3\ncell 0 other\n"
+        full = stripped.read(listing, 1)
+        self.assertEqual(full, stripped.Seen("done", 9, "1", ["cell 0 2"], ["log 0 5"]))
+        self.assertEqual(stripped.differences(full, stripped.read("log 0 5\ndone 8\nvalue 1\ncell 0 2\n", 1)), [])
+        for changed, words in (("log 0 4\ndone 9\nvalue 1\ncell 0 2\n", "the high log"),
+                               ("log 0 5\ndone 9\nvalue 0\ncell 0 2\n", "the result"),
+                               ("log 0 5\ndone 9\nvalue 1\ncell 0 1\n", "the plain high cells"),
+                               ("log 0 5\ndone 10\nvalue 1\ncell 0 2\n", "the steps, which are more")):
+            self.assertEqual(stripped.differences(full, stripped.read(changed, 1)), [words])
+
+    def test_the_outcome_log_is_no_printed_number(self):
+        self.assertEqual(stripped.read("log 0 5\nlog 3\n", 1), stripped.Seen("log", 3, "", [], ["log 0 5"]))
+
+    def test_domains_by_name_and_by_number(self):
+        names = ["decoder", "watch"]
+        for keep, made in (("decoder", 1), ("0", 1), ("decoder,watch", 3), ("1,0", 3), ("watch", 2)):
+            self.assertEqual(stripped.mask(keep, names), made)
+        with self.assertRaises(stripped.NoDomain):
+            stripped.mask("decoder,guard", names)
+
+    def test_takedowns_in_low_bodies(self):
+        for text, low in (("lower to watch { takedown of watch }; ()", True), ("takedown of watch; ()", False),
+                          ("lower to watch { (); if true then () else takedown of watch }; ()", True)):
+            self.assertEqual(stripped.low_takedown(assemble(DOMAINS + text).image, 1), low, text)
+
+    def test_a_set_that_is_not_high(self):
+        with self.assertRaises(SystemExit) as caught:
+            self.tool("strip", FOLDER / "sonde.proc", "--keep", "watch")
+        self.assertIn("refused 23", str(caught.exception))
+
+
+if __name__ == "__main__":
+    unittest.main()

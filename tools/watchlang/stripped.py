@@ -1,0 +1,83 @@
+"""A program with and without its watches (document 02, card 13): the domains that are kept, and two listings compared."""
+from dataclasses import dataclass
+
+from . import kinds
+from .disassembler import tree
+from .layout import laid_out
+from .terms import child_domains
+
+
+class NoDomain(Exception):
+    """A domain that is to be kept and that the image has not."""
+
+
+def mask(keep, names):
+    """The mask of domains that are named, by commas between them; where an image has no names they are numbers."""
+    known = {name: d for d, name in enumerate(names or ())}
+    numbers = {str(d): d for d in range(kinds.DOMAIN_LIMIT)}
+    made = 0
+    for word in keep.split(","):
+        if word not in known and word not in numbers:
+            said = ", ".join(known) or "numbers, as an image has no names"
+            raise NoDomain(f"there is no domain {word}; the domains are {said}")
+        made |= 1 << known.get(word, numbers.get(word))
+    return made
+
+
+def low_takedown(image, high):
+    """Does a body that runs at a low domain, of functions and methods too, contain a takedown, at any depth?"""
+    def found(e, here, inside):
+        inside = inside or not high >> here & 1
+        parts = zip(e.children, child_domains(e, len(e.children), here))
+        return (inside and e.kind == kinds.TAKEDOWN) or any(found(c, p, inside) for c, p in parts)
+    return found(tree(laid_out(image)), 0, False)
+
+
+@dataclass
+class Seen:
+    """What is compared of a run's listing: outcome and steps, the result, the plain high cells, the high log."""
+    outcome: str
+    steps: int
+    result: str
+    cells: list
+    log: list
+
+
+def read(listing, high):
+    """The listing of the program `watch`, at the high domains. A printed number has two words behind `log`, the outcome
+    of that name one."""
+    seen = Seen("", 0, "", [], [])
+    for line in listing.splitlines():
+        word, *rest = line.split()
+        if word == "log" and len(rest) == 2:
+            seen.log += [line] if high >> int(rest[0]) & 1 else []
+        elif word == "cell":
+            seen.cells += [line] if high >> int(rest[0]) & 1 and rest[1] != "other" else []
+        elif word == "value":
+            seen.result = " ".join(rest)
+        else:
+            seen.outcome, seen.steps = word, int(rest[0])
+    return seen
+
+
+def differences(full, bare):
+    """What the stripped run has not as the full one has it, in words."""
+    checks = (("the result", full.result == bare.result), ("the high log", full.log == bare.log),
+              ("the plain high cells", full.cells == bare.cells), ("the outcome", full.outcome == bare.outcome),
+              ("the steps, which are more", bare.steps <= full.steps))
+    return [words for words, holds in checks if not holds]
+
+
+def told(full, bare, takedown):
+    """The comparison of two runs in lines, and whether what is claimed holds."""
+    lines = [f"with the watches     {full.outcome} after {full.steps} steps",
+             f"without them         {bare.outcome} after {bare.steps} steps",
+             f"high log records     {len(full.log)} and {len(bare.log)}",
+             f"plain high cells     {len(full.cells)} and {len(bare.cells)}",
+             f"result               {full.result or 'none'} and {bare.result or 'none'}"]
+    found = differences(full, bare)
+    if full.outcome != "done" or takedown:
+        why = "a low body contains a takedown" if takedown else "the run with the watches is not done"
+        lines.append(f"Nothing is claimed of the two: {why}.")
+    lines.append(f"They differ in {', '.join(found)}." if found else "They agree in result, high cells and high log.")
+    return "\n".join(lines) + "\n", not found or full.outcome != "done" or takedown
