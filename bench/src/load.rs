@@ -30,13 +30,14 @@ pub fn images(list: &str, depth: Option<&str>) -> Vec<Image> {
     seeds(list).into_iter().map(image).collect()
 }
 
-/// The nanoseconds of the first engine for each step and for each byte, over all images together.
-fn together(rows: &[Row], choose: fn(Time) -> f64) -> (f64, f64) {
+/// The nanoseconds of the first engine for each step, if there is any, and for each byte, over all images together.
+fn together(rows: &[Row], choose: fn(Time) -> f64) -> (String, f64) {
     let sum = |of: &dyn Fn(&Row) -> f64| rows.iter().map(of).sum::<f64>();
     let steps = sum(&|row| row.end.map_or(0.0, |(_, steps)| f64::from(steps)));
     let run = sum(&|row| choose(row.engines[0].call) - choose(row.engines[0].start));
     let check = sum(&|row| choose(row.engines[0].check));
-    (run / steps.max(1.0), check / sum(&|row| row.bytes as f64))
+    let step = if steps > 0.0 { format!("{:.2}", run / steps) } else { String::from("-") };
+    (step, check / sum(&|row| row.bytes as f64))
 }
 
 /// The table, and what two stations compare: the bytes and steps must be equal, the times tell the boards apart.
@@ -45,7 +46,7 @@ pub fn text(rows: &[Row]) -> String {
     let steps: u32 = rows.iter().filter_map(|row| row.end.ok()).map(|(_, steps)| steps).sum();
     let [least, median] = [together(rows, |time| time.least), together(rows, |time| time.median)];
     format!(
-        "{}\nAll {} images, {bytes} bytes, {steps} steps. Least: {:.2} ns a step, {:.2} ns a byte. Median: {:.2} ns a step, \
+        "{}\nAll {} images, {bytes} bytes, {steps} steps. Least: {} ns a step, {:.2} ns a byte. Median: {} ns a step, \
          {:.2} ns a byte.\n",
         table::text(rows),
         rows.len(),

@@ -34,50 +34,46 @@ class Gate(unittest.TestCase):
                 self.assertIn("Here: ", said, file.name)
                 self.assertIn("To mend it: ", said)
 
-    def test_objects_have_words_of_their_own(self):
-        for name, number, words in (
-                ("method-past-the-last", 14, "Here: method 2 is called, but the methods are 0 to 1: object { m0 at d0"),
-                ("method-past-the-last", 14, "To mend it: Call a method that the type of the object has"),
-                ("bodies-too-few", 14, "Here: the object has 1 bodies, but its type has 2 methods"),
-                ("bodies-too-many", 14, "To mend it: Give the object one body for each method"),
-                ("low-method-from-above", 15, "Here: the method's domain is d1, and must equal the current domain, d0"),
-                ("low-method-calls-high", 15, "To mend it: Call a method of the current domain"),
-                ("object-type-twice", 8, "Here: this type equals type 1"),
-                ("methods-9", 4, "an object 1 to 8 methods")):
+    def told(self, *cases):
+        """Each stored image is refused with the number, and told in these words."""
+        for name, number, words in cases:
             image = (common.STORED / "data" / f"{name}.img").read_bytes()
             refused = verdict(image)
             self.assertEqual(refused.number, number, name)
             self.assertIn(words, refusals.explain(image, number, refused.place))
+
+    def test_objects_have_words_of_their_own(self):
+        self.told(
+            ("method-past-the-last", 14, "Here: method 2 is called, but the methods are 0 to 1: object { m0 at d0"),
+            ("method-past-the-last", 14, "To mend it: Call a method that the type of the object has"),
+            ("bodies-too-few", 14, "Here: the object has 1 bodies, but its type has 2 methods"),
+            ("bodies-too-many", 14, "To mend it: Give the object one body for each method"),
+            ("low-method-from-above", 15, "Here: the method's domain is d1, and must equal the current domain, d0"),
+            ("low-method-calls-high", 15, "To mend it: Call a method of the current domain"),
+            ("object-type-twice", 8, "Here: this type equals type 1"),
+            ("methods-9", 4, "an object 1 to 8 methods"))
 
     def test_stacks_have_words_of_their_own(self):
-        for name, number, words in (
-                ("match-of-9-entries", 4, "a match 0 to 8 entries"),
-                ("match-entry-of-itself", 7, "Here: the record names entry 5, but an entry is 0 or a lower term's number"),
-                ("match-close-2", 7, "Here: the record names close 2, but a close is 0 or 1"),
-                ("match-of-a-number", 14, "Here: what is matched must have type stack, but has number"),
-                ("match-entry-no-pointcut", 14, "Here: each entry that is not 0 must be a pointcut type, but is number"),
-                ("match-branches-differ", 14, "To mend it: Match a stack, with pointcuts as entries, and give both branches"),
-                ("match-second-branch-binds-nothing", 13, "Here: variable 0 is not bound: 0 variables are in scope here"),
-                ("keep-of-another-type", 14, "Here: the kept value must have type number, but has unit"),
-                ("keep-of-another-type", 14, "To mend it: Keep a value of the type that the label has"),
-                ("keep-under-low-label", 15, "Here: the label's domain is d1, and must equal the current domain, d0"),
-                ("low-keep-under-high-label", 15, "To mend it: Keep the value under a label of the current domain")):
-            image = (common.STORED / "data" / f"{name}.img").read_bytes()
-            refused = verdict(image)
-            self.assertEqual(refused.number, number, name)
-            self.assertIn(words, refusals.explain(image, number, refused.place))
+        self.told(
+            ("match-of-9-entries", 4, "a match 0 to 8 entries"),
+            ("match-entry-of-itself", 7, "Here: the record names entry 5, but an entry is 0 or a lower term's number"),
+            ("match-close-2", 7, "Here: the record names close 2, but a close is 0 or 1"),
+            ("match-of-a-number", 14, "Here: what is matched must have type stack, but has number"),
+            ("match-entry-no-pointcut", 14, "Here: each entry that is not 0 must be a pointcut type, but is number"),
+            ("match-branches-differ", 14, "To mend it: Match a stack, with pointcuts as entries, and give both branches"),
+            ("match-second-branch-binds-nothing", 13, "Here: variable 0 is not bound: 0 variables are in scope here"),
+            ("keep-of-another-type", 14, "Here: the kept value must have type number, but has unit"),
+            ("keep-of-another-type", 14, "To mend it: Keep a value of the type that the label has"),
+            ("keep-under-low-label", 15, "Here: the label's domain is d1, and must equal the current domain, d0"),
+            ("low-keep-under-high-label", 15, "To mend it: Keep the value under a label of the current domain"))
 
     def test_takedowns_have_words_of_their_own(self):
-        for name, number, words in (
-                ("takedown-of-an-absent-domain", 7, "Here: the record names domain 1, but"),
-                ("takedown-of-another-type", 14, "Here: a takedown must have type unit, but has number"),
-                ("takedown-of-another-type", 14, "To mend it: A takedown gives unit"),
-                ("takedown-upward", 15, "Here: the domain that is taken down is d0, and must be at or below the current"),
-                ("takedown-beside", 15, "To mend it: Take down a domain at or below the current one")):
-            image = (common.STORED / "data" / f"{name}.img").read_bytes()
-            refused = verdict(image)
-            self.assertEqual(refused.number, number, name)
-            self.assertIn(words, refusals.explain(image, number, refused.place))
+        self.told(
+            ("takedown-of-an-absent-domain", 7, "Here: the record names domain 1, but"),
+            ("takedown-of-another-type", 14, "Here: a takedown must have type unit, but has number"),
+            ("takedown-of-another-type", 14, "To mend it: A takedown gives unit"),
+            ("takedown-upward", 15, "Here: the domain that is taken down is d0, and must be at or below the current"),
+            ("takedown-beside", 15, "To mend it: Take down a domain at or below the current one"))
 
     def test_another_place(self):
         image = (common.ROOT / "examples/alter.img").read_bytes()

@@ -18,6 +18,15 @@ def text_of(program):
 
 
 class Text(unittest.TestCase):
+    def refused_and_written(self, text, number):
+        """What the engine refuses with this number can be written, and its text gives the bytes again."""
+        with self.subTest(text):
+            image = assemble(HEAD + text).image
+            self.assertEqual(verdict(image).number, number)
+            again = disassemble(image)
+            self.assertFalse(again.startswith("records"))
+            self.assertEqual(assemble(again).image, image)
+
     def test_the_bench_sheets_second_case(self):
         image = assemble("domain main\n5").image
         self.assertEqual(image.hex(" "), "06 00 01 00 01 00 04 00 12 00 0a 00 22 00 00 00 05 00 00 00")
@@ -104,12 +113,7 @@ class Text(unittest.TestCase):
                 ("(object as s { a { 1 } } : number)", 14), (f"({one}.1 : number)", 14),
                 (f"({one}.65535 : number)", 14), ("(5.0 : number)", 14), ("object { a at main : number } as s { a { true } }.a", 14),
                 ("object { a at watch : number } as s { a { 1 } }.a", 15), (one, 16)):
-            with self.subTest(text):
-                image = assemble(HEAD + text).image
-                self.assertEqual(verdict(image).number, number)
-                again = disassemble(image)
-                self.assertFalse(again.startswith("records"))
-                self.assertEqual(assemble(again).image, image)
+            self.refused_and_written(text, number)
 
     def test_words_of_patterns_are_names_elsewhere(self):
         """In a pattern a variable of such a name gets parentheses."""
@@ -133,22 +137,12 @@ class Text(unittest.TestCase):
                 (label + "keep l with true { 1 }", 14), (label + "(keep l with 1 { 1 } : truth)", 14),
                 ("keep 5 with 5 { 1 }", 14), ("(stack : number)", 14),
                 (label + "lower to watch { keep l with 1 { () } }", 15), ("stack", 16)):
-            with self.subTest(text):
-                image = assemble(HEAD + text).image
-                self.assertEqual(verdict(image).number, number)
-                again = disassemble(image)
-                self.assertFalse(again.startswith("records"))
-                self.assertEqual(assemble(again).image, image)
+            self.refused_and_written(text, number)
 
     def test_takedowns_against_the_rules(self):
         """What the engine refuses can be written."""
         for text, number in (("(takedown of main : number)", 14), ("lower to watch { takedown of main }", 15)):
-            with self.subTest(text):
-                image = assemble(HEAD + text).image
-                self.assertEqual(verdict(image).number, number)
-                again = disassemble(image)
-                self.assertFalse(again.startswith("records"))
-                self.assertEqual(assemble(again).image, image)
+            self.refused_and_written(text, number)
 
     def test_stated_types_are_not_checked(self):
         self.assertEqual(verdict(assemble(HEAD + "print (true : number)").image).number, 14)
