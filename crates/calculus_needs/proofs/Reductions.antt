@@ -1,21 +1,21 @@
 -- What each reduction takes.
-use Prim.Native.Nat.{ℕ, suc, _+_, _-_, _*_, _≤_, _<_, max}
+use Prim.Native.Nat.{ℕ, suc, _+_, _-_, _*_, _≤_, max}
 use native.Mathlib.Omega.{arith}
 use mathlib.Core.Path.{_≡_, refl, sym, ap, _∙_}
 use mathlib.Core.Bool.{Bool, true, false}
 use mathlib.Core.List.{List, [], _∷_, _++_, reverse, reverseAux}
 use mathlib.Core.Option.{Option, some, Option·some-injective}
 use lib.ListN.{length, getElem?, length-append}
-use lib.Dec.{T, eqb, leb, ltb, nleb→lt, nltb→le}
+use lib.Dec.{T, nleb→lt, nltb→le}
 use Rattle.calculus.specs.declared.Outcome.{Outcome}
 use Rattle.calculus.specs.Limits.{labelLimit, adviceLimit, logRecordLength}
 use Rattle.calculus.specs.Combinators.{choose, cases, filtered}
-use Rattle.calculus.specs.Syntax.{Dom, Ty, Val, Tm, Pattern, atEnd, atRest, anything, pointcut, Op0, Op1, Op2, val, seq, lower, newLabel, abort, takedown, theStack, call, print, install, read, byte, newCell, app, mark, store, plus, minus, less, equal}
-use Rattle.calculus.specs.State.{Advice, Event, State, Given, Counts, Uses, noUses, addUses, atDom, adviceBindings, cleared, without, otherThan, Entry, charged, someBindings, oneCell, onePiece, somePieces, turns, celled, labelled, installed, told, stored, prints, picked, printOf, logOf, consOption}
+use Rattle.calculus.specs.Syntax.{Dom, Ty, Val, Tm, Pattern, atEnd, atRest, anything, pointcut, Op0, Op1, Op2, val, newLabel, abort, takedown, theStack, call, print, install, read, byte, newCell, app, mark, store, plus, minus, less, equal}
+use Rattle.calculus.specs.State.{Advice, Event, State, Given, Counts, Uses, addUses, atDom, adviceBindings, cleared, without, otherThan, Entry, charged, someBindings, oneCell, onePiece, somePieces, turns, celled, labelled, installed, told, prints, picked, printOf, logOf, consOption}
 use Rattle.calculus.specs.Answer.{Answer, go, with, spend}
 use Rattle.calculus.specs.Place.{Place}
 use Rattle.calculus_needs.specs.Here.{Here, here, at, deeper}
-use Rattle.calculus.specs.Compose.{member, matching, triggeredBy, composed}
+use Rattle.calculus.specs.Compose.{member, triggeredBy, composed}
 use Rattle.calculus.specs.Reduce.{reduce0, reduce1, reduce2, reduceSeq, reduceIte, reduceSplit, reduceAdv, reduceLower, reducePcd, collect, reduceKeep, reduceMatch, stackVal, branch, matched, matchOn, consFound, hits, substAll}
 use Rattle.calculus.specs.View.{unitOf, truthOf, numberOf, pairOf, labelOf, cellOf, labelsOf, topOf}
 use Rattle.calculus.specs.Subst.{subst}

@@ -1,13 +1,13 @@
 -- The numbers at a place d terms deeper: the same, with d frames more where there is any step. So a function may work them out once, at depth 0.
-use Prim.Native.Nat.{ℕ, zero, suc, _+_, _≤_, max}
+use Prim.Native.Nat.{ℕ, zero, suc, _+_, max}
 use native.Mathlib.Omega.{arith}
 use mathlib.Core.Path.{_≡_, refl, sym, ap, _∙_}
 use Rattle.calculus.specs.State.{somePieces}
 use Rattle.calculus.specs.Syntax.{Dom, Val, Tm, Tms, Op0, Op1, Op2, val, var, lam, op0, op1, op2, seq, ite, split, pcd, adv, lower, obj, keep, match, end, more, newLabel, abort, takedown, theStack, print, install, read, byte, newCell, call, app, mark, store, plus, minus, less, equal}
 use Rattle.calculus_needs.specs.Here.{Here, at, deeper, keeping}
 use Rattle.calculus_needs.specs.Numbers.{Numbers, none, _⊕_, dearer}
-use Rattle.calculus_needs.specs.Needs.{once, uses, variables, binds, aCell, aPiece, aLabel, anAdvice, aPrint, own0, own1, own2, need, needs, round, roundOf, roundOfValue, installs, rounds, allRounds, needOf}
-use Rattle.calculus_needs.proofs.Sums.{same, none-left}
+use Rattle.calculus_needs.specs.Needs.{once, uses, variables, binds, aCell, aPiece, aLabel, anAdvice, aPrint, own0, own1, own2, need, needs, round, roundOf, roundOfValue, installs, rounds, allRounds}
+use Rattle.calculus_needs.proofs.Sums.{same}
 
 -- d more, if there is a step.
 abbrev pub raised : ℕ → ℕ → ℕ → ℕ

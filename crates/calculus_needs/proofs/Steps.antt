@@ -1,11 +1,10 @@
 -- What a step takes: induction over the term.
-use Prim.Native.Nat.{ℕ, suc}
+use Prim.Native.Nat.{ℕ}
 use mathlib.Core.Path.{_≡_, refl, sym, _∙_}
 use mathlib.Core.Bool.{Bool, true, false, _&&_}
 use mathlib.Core.List.{List, [], _∷_}
-use mathlib.Core.Option.{Option, none, some, Option·some-injective}
+use mathlib.Core.Option.{none, some, Option·some-injective}
 use lib.Dec.{T}
-use Rattle.calculus.specs.Combinators.{cases}
 use Rattle.calculus.specs.Syntax.{Dom, Ty, Val, Tm, Tms, Pattern, Op0, Op1, Op2, asValue, val, var, lam, op0, op1, op2, seq, ite, split, pcd, adv, lower, obj, keep, match, end, more, newLabel, abort, takedown, theStack, call, print, install, read, byte, newCell, app, mark, store, plus, minus, less, equal}
 use Rattle.calculus.specs.State.{State, Given, somePieces}
 use Rattle.calculus.specs.Answer.{Answer}
@@ -17,14 +16,14 @@ use Rattle.calculus.specs.Step.{step, stepFirst, before}
 use Rattle.laws.proofs.Lists.{All, none-some}
 use Rattle.calculus_needs.specs.Numbers.{Numbers, _⊕_, dearer}
 use Rattle.calculus_needs.specs.Class.{straight2, straight, allStraight}
-use Rattle.calculus_needs.specs.Needs.{once, uses, variables, binds, aPiece, aCell, aLabel, anAdvice, aPrint, own0, own1, own2, need, needs, roundOf, roundOfValue, installs, rounds, allRounds}
+use Rattle.calculus_needs.specs.Needs.{once, uses, variables, binds, aPiece, aCell, aLabel, anAdvice, aPrint, own0, own1, own2, need, needs, roundOf, installs, rounds, allRounds}
 use Rattle.calculus_needs.specs.Used.{reach, reachFirst}
 use Rattle.calculus.specs.Typing.{Policy, StoreTyping}
 use Rattle.calculus_needs.specs.Claims.{Under}
 use Rattle.calculus_needs.proofs.Typed.{Typed, AllTyped, typed-op1, typed-op2, typed-seq, typed-ite, typed-split, typed-pcd, typed-adv, typed-lower, typed-keep, typed-match, typed-more, no-var, keep-label}
-use Rattle.calculus_needs.proofs.Sums.{under-refl, under-same, under-trans, under-left, none-left, none-right, plus-assoc}
-use Rattle.calculus_needs.proofs.Admitted.{both, first, second, Admitted, AllAdmitted, Over, OverValue, Permits1, Permits2}
-use Rattle.calculus_needs.proofs.Takes.{standing, AdmittedAdvice, Takes, Takes.takes-wrong, Context, takes-within, takes-as, takes-cases, takes-framed, takes-room}
+use Rattle.calculus_needs.proofs.Sums.{under-refl, under-trans, under-left, none-left, none-right, plus-assoc}
+use Rattle.calculus_needs.proofs.Admitted.{both, first, second, Admitted, AllAdmitted, Over, Permits1}
+use Rattle.calculus_needs.proofs.Takes.{standing, AdmittedAdvice, Takes, Takes.takes-wrong, takes-within, takes-as, takes-cases, takes-framed}
 use Rattle.calculus_needs.proofs.Reductions.{takes0, takes1, takes2, takes-seq, takes-ite, takes-split, takes-adv, takes-lower, takes-pcd, takes-keep, takes-match}
 
 abbrev nothing : Numbers

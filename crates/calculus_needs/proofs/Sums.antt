@@ -1,8 +1,7 @@
 -- The laws of the sums.
-use Prim.Native.Nat.{ℕ, _+_, max}
 use native.Mathlib.Omega.{arith}
 use mathlib.Core.Path.{_≡_}
-use Rattle.calculus.specs.State.{Counts, Uses, noUses, addUses}
+use Rattle.calculus.specs.State.{Uses, noUses, addUses}
 use Rattle.calculus_needs.specs.Numbers.{Numbers, none, _⊕_, dearer}
 use Rattle.calculus_needs.specs.Claims.{Under}
 

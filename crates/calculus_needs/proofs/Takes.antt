@@ -1,16 +1,16 @@
 -- What a step takes, of what its term needs.
-use Prim.Native.Nat.{ℕ, suc, _+_, _-_, _*_, _≤_, _<_, max}
+use Prim.Native.Nat.{ℕ, suc, _+_, _-_, _*_, _<_, max}
 use native.Mathlib.Omega.{arith}
 use mathlib.Core.Path.{_≡_, refl, ap, _∙_}
 use mathlib.Core.Bool.{Bool, true, false, not}
-use mathlib.Core.List.{List, [], _∷_, _++_}
+use mathlib.Core.List.{List, [], _∷_}
 use mathlib.Core.Option.{Option, none, some}
 use lib.ListN.{length}
-use lib.Dec.{T, leb, ltb, nleb→lt, nltb→le}
+use lib.Dec.{T, nleb→lt}
 use Rattle.calculus.specs.declared.Outcome.{Outcome}
 use Rattle.calculus.specs.Limits.{frameLimit, bindingLimit, cellLimit, pieceLimit, labelLimit, adviceLimit, logRecordLength}
 use Rattle.calculus.specs.Combinators.{cases}
-use Rattle.calculus.specs.Syntax.{Dom, Val, Tm, val}
+use Rattle.calculus.specs.Syntax.{Val, Tm, val}
 use Rattle.calculus.specs.State.{Advice, State, Given, Uses, addUses, charged, logOf}
 use Rattle.calculus.specs.Answer.{Answer, go, full, halt, wrong, carry, within, if-room, with, spend}
 use Rattle.calculus.specs.Place.{Place, framed}
@@ -21,7 +21,7 @@ use Rattle.calculus_needs.specs.Class.{straight}
 use Rattle.calculus_needs.specs.Needs.{once, need, round, rounds}
 use Rattle.calculus_needs.specs.Used.{usedUp}
 use Rattle.calculus_needs.specs.Claims.{Under}
-use Rattle.calculus_needs.proofs.Sums.{under-refl, under-same, under-trans, under-plus, under-left, none-left, none-right, plus-assoc}
+use Rattle.calculus_needs.proofs.Sums.{under-refl, under-same, under-trans, under-plus, under-left, none-right, plus-assoc}
 use Rattle.calculus_needs.proofs.Admitted.{Admitted}
 
 abbrev nothing : Numbers

@@ -1,21 +1,20 @@
 -- Card 10 of a program of the class: no run exceeds a number, a done run without choice and mark meets each, and where all are within the limits, the budget and the log, the outcome is done or aborted.
-use Prim.Native.Nat.{ℕ, zero, suc, _+_, _*_, _≤_, _<_, max}
+use Prim.Native.Nat.{ℕ, zero, suc, _+_, _≤_, max}
 use native.Mathlib.Omega.{arith}
-use mathlib.Core.Path.{_≡_, refl, sym, ap, _∙_}
-use mathlib.Core.Bool.{Bool, true, false}
-use mathlib.Core.List.{List, []}
+use mathlib.Core.Path.{_≡_, refl, sym, _∙_}
+use mathlib.Core.Bool.{Bool, true}
+use mathlib.Core.List.{[]}
 use mathlib.Core.Option.{Option, none, some}
 use lib.Dec.{T}
 use Rattle.calculus.specs.declared.Outcome.{Outcome}
-use Rattle.calculus.specs.Limits.{frameLimit, bindingLimit, cellLimit, pieceLimit, labelLimit, adviceLimit, logRecordLength}
 use Rattle.calculus.specs.Combinators.{cases}
 use Rattle.calculus.specs.Syntax.{Ty, Val, Tm, asValue}
 use Rattle.calculus.specs.State.{State, Given, fresh, picked}
-use Rattle.calculus.specs.Answer.{Answer, go, full, halt, wrong}
+use Rattle.calculus.specs.Answer.{Answer, go, wrong}
 use Rattle.calculus.specs.Place.{top}
 use Rattle.calculus_needs.specs.Here.{Here, here}
 use Rattle.calculus.specs.Step.{step}
-use Rattle.calculus.specs.Run.{End, done, stopped, Ended, ended, after, unpaid, run}
+use Rattle.calculus.specs.Run.{End, done, stopped, Ended, ended, after, run}
 use Rattle.calculus.specs.Typing.{StoreTyping, Policy, TmTy, noStore}
 use Rattle.calculus.specs.Accepted.{Transitive}
 use Rattle.laws.proofs.Lists.{All, All.all-nil}
@@ -26,7 +25,7 @@ use Rattle.calculus_needs.specs.Class.{inClass, straight}
 use Rattle.calculus_needs.specs.Needs.{need, rounds, needOf}
 use Rattle.calculus_needs.specs.Used.{reach, peak, usedUp, usedBy}
 use Rattle.calculus_needs.specs.Claims.{Under, Enough, Settled, is-done, is-aborted}
-use Rattle.calculus_needs.proofs.Sums.{under-refl, under-same, under-trans, under-plus, under-left, under-right, none-left, none-right, plus-assoc, same}
+use Rattle.calculus_needs.proofs.Sums.{under-refl, under-same, under-trans, under-plus, under-left, none-left, none-right, plus-assoc}
 use Rattle.calculus_needs.proofs.Admitted.{Admitted, admitted}
 use Rattle.calculus_needs.proofs.Takes.{standing, AdmittedAdvice, Meets, Gained, One, Lacks, Takes, Takes.takes-go, Takes.takes-full, Takes.takes-halt, Takes.takes-wrong}
 use Rattle.calculus_needs.proofs.Steps.{Keeps, idle, steps}

@@ -3,7 +3,7 @@ use Prim.Native.Nat.{ℕ, _*_, _≤_}
 use Rattle.calculus.specs.declared.Outcome.{Outcome}
 use Rattle.calculus.specs.Limits.{frameLimit, bindingLimit, cellLimit, pieceLimit, labelLimit, adviceLimit, logRecordLength}
 use Rattle.calculus.specs.Syntax.{Val}
-use Rattle.calculus.specs.State.{Counts, Given}
+use Rattle.calculus.specs.State.{Given}
 use Rattle.calculus.specs.Run.{End, done, stopped}
 use Rattle.calculus_needs.specs.Numbers.{Numbers}
 

@@ -2,12 +2,11 @@
 use Prim.Native.Nat.{ℕ, zero, suc, max}
 use lib.ListN.{length}
 use Rattle.calculus.specs.Combinators.{cases}
-use Rattle.calculus.specs.Syntax.{Val, Tm, Tms, asValue, val, var, lam, op0, op1, op2, seq, ite, split, pcd, adv, lower, obj, keep, match, end, more}
+use Rattle.calculus.specs.Syntax.{Tm, Tms, asValue, val, var, lam, op0, op1, op2, seq, ite, split, pcd, adv, lower, obj, keep, match, end, more}
 use Rattle.calculus.specs.State.{State, Given, logOf, fresh}
-use Rattle.calculus.specs.Answer.{Answer}
 use Rattle.calculus.specs.Place.{top}
 use Rattle.calculus.specs.Step.{step}
-use Rattle.calculus.specs.Run.{Ended, after, run}
+use Rattle.calculus.specs.Run.{after, run}
 use Rattle.calculus_needs.specs.Numbers.{Numbers}
 
 unfoldable mutual

@@ -1,7 +1,7 @@
 -- Card 13: what a step of calm code leaves is calm; at a low domain no advice goes, and what is used only becomes more.
 use Prim.Native.Nat.{ℕ, _≤_}
 use native.Mathlib.Omega as nat
-use mathlib.Core.Path.{_≡_, refl, subst as transp}
+use mathlib.Core.Path.{_≡_, refl}
 use mathlib.Core.Bool.{Bool, true, false}
 use mathlib.Core.List.{List, [], _∷_}
 use mathlib.Core.Option.{Option, none, some}
@@ -20,6 +20,7 @@ use Rattle.calculus.specs.Reduce.{reduce0, reduce1, reduce2, reduceMatch, arith
 use Rattle.calculus.specs.Step.{before, step, stepFirst}
 use Rattle.calculus.specs.Typing.{Policy, StoreTyping, Has, has-first, has-later, Rule0, Rule1, Rule2, ValTy, TmTy, TmsTy, BodiesTy, a-body, t-newLabel, t-abort, t-takedown, t-stack, t-print, t-install, t-read, t-byte, t-newCell, t-call, t-pair, t-app, t-mark, t-store, t-plus, t-minus, t-less, t-equal, is-val, is-var, is-lam, is-op0, is-op1, is-op2, is-seq, is-ite, is-split, is-pcd, is-adv, is-lower, is-obj, is-keep, is-match, is-end, is-more}
 use Rattle.laws.proofs.Lists.{All.all-nil, All.all-cons, all-snoc, all-reverse}
+use Rattle.calculus_safety.proofs.Safety.{close}
 use Rattle.calculus_safety.proofs.Safe.{Found, Found.found, Found.nothing}
 use Rattle.calculus_safety.proofs.StoreFits.{all-filtered}
 use Rattle.calculus_safety.proofs.Values.{val-ty}
@@ -152,9 +153,6 @@ module _ (hi : Dom → Bool) where
         pick (all-cons {x = k} {xs = us} z zs) = calm-branch f g (calm-matched hi p us k z) x y
 
   module _ {D : Policy} (H : Highs D hi) {Σ : StoreTyping} (s : State) (S : CalmState hi s) (G : Given) where
-    closed : {Γ : List Ty} {c : Dom} {e : Tm} {t : Ty} → Γ ≡ [] → TmTy D Σ Γ c e t → TmTy D Σ [] c e t
-    closed {c} {e} {t} p h = transp (λ Γ. TmTy D Σ Γ c e t) p h
-
     mutual
       unfolding step Calm Calms CalmVal
 
@@ -165,12 +163,12 @@ module _ (hi : Dom → Bool) where
       calm (is-op0 r) γ x P q = calm-room _ _ (calm0 G P s S q x r)
       calm (is-op1 {c} {o} {t} {e} r h) γ x P q =
           calm-cases (asValue e) _ _
-          (λ v p. calm-room _ _ (calm1 G P s S r (val-ty (closed γ h) p) (calm-value hi c e p x)))
+          (λ v p. calm-room _ _ (calm1 G P s S r (val-ty (close D Σ γ h) p) (calm-value hi c e p x)))
           (calm-inside (op1 o t) (λ y z. z) (calm h γ x (deeper P) q))
       calm (is-op2 {c} {o} {t} {e} {f} r h g) γ x P q =
           calm-cases (asValue e) _ _
           (λ v p. calm-cases (asValue f) _ _
-          (λ w k. calm-room _ _ (calm2 G P s S w r (val-ty (closed γ h) p) (calm-value hi c e p (x .0)) (calm-value hi c f k (x .1))))
+          (λ w k. calm-room _ _ (calm2 G P s S w r (val-ty (close D Σ γ h) p) (calm-value hi c e p (x .0)) (calm-value hi c f k (x .1))))
           (calm-inside (op2 o t (val v)) (λ y z. (calm-value hi c e p (x .0), z)) (calm g γ (x .1) (deeper P) q)))
           (calm-inside (λ y. op2 o t y f) (λ y z. (z, x .1)) (calm h γ (x .0) (deeper P) q))
       calm (is-seq {c} {e} {f} h g) γ x P q =
@@ -183,7 +181,7 @@ module _ (hi : Dom → Bool) where
           (calm-inside (λ y. ite y f g) (λ y z. (z, x .1, x .2)) (calm h γ (x .0) (deeper P) q))
       calm (is-split {c} {e} {f} h g) γ x P q =
           calm-cases (asValue e) _ _
-          (λ v p. calm-room _ _ (calm-split G P s S f (val-ty (closed γ h) p) (calm-value hi c e p (x .0)) (x .1)))
+          (λ v p. calm-room _ _ (calm-split G P s S f (val-ty (close D Σ γ h) p) (calm-value hi c e p (x .0)) (x .1)))
           (calm-inside (λ y. split y f) (λ y z. (z, x .1)) (calm h γ (x .0) (deeper P) q))
       calm (is-pcd {c} h o) γ x P q = calms h γ x P q all-nil pcd (λ y z. z) _ (λ vs z. calm-with (collect vs []) _ (λ l k. charge G P s S _ _ tt))
       calm (is-adv {c} {p} {e} {b} h l g) γ x P q =

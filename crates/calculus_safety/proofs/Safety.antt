@@ -18,7 +18,7 @@ use Rattle.calculus_safety.proofs.Reductions.{safe0, safe1, safe2, safe
 use Rattle.calculus_safety.proofs.Values.{as-value, before-typed, labels-back}
 
 module _ (D : Policy) (Σ : StoreTyping) where
-  close : {Γ : List Ty} {c : Dom} {e : Tm} {t : Ty} → Γ ≡ [] → TmTy D Σ Γ c e t → TmTy D Σ [] c e t
+  pub close : {Γ : List Ty} {c : Dom} {e : Tm} {t : Ty} → Γ ≡ [] → TmTy D Σ Γ c e t → TmTy D Σ [] c e t
   close nil h = rw nil at h
 
   closes : {Γ ts : List Ty} {c : Dom} {es : Tms} → Γ ≡ [] → TmsTy D Σ Γ c es ts → TmsTy D Σ [] c es ts

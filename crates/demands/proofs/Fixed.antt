@@ -4,8 +4,7 @@ use native.Mathlib.Omega.{arith}
 use mathlib.Core.Path.{_≡_, sym, ap, _∙_}
 use mathlib.Core.List.{List}
 use mathlib.Core.Logic.{_↔_}
-use lib.ListN.{length, take, drop}
-use lib.Seq.{take-append-seam}
+use lib.ListN.{length, take}
 use borrow.Author.Tests.{le-ltb}
 use Rattle.calculus.specs.State.{fresh}
 use Rattle.calculus.specs.Run.{run}
@@ -15,7 +14,6 @@ use Rattle.verdict.specs.declared.Verdict.{Verdict}
 use Rattle.verdict.specs.Verdicts.{verdict}
 use Rattle.verdict.proofs.Passed.{passed-iff}
 use Rattle.base_bytes.specs.Bytes.{over}
-use Rattle.base_bytes.proofs.Over.{over-front}
 use Rattle.image_written.specs.Written.{fixed}
 use Rattle.image_written.proofs.Fixed.{fixed-holds, fixed-twice, fixed-short, fixed-same}
 use Rattle.write_fixed.specs.declared.Written.{Written}
@@ -24,6 +22,7 @@ use Rattle.calls.specs.Runs.{givenBy, runOf}
 use Rattle.calls.specs.Calls.{afterVerdict, called}
 use Rattle.demands.specs.Calls.{Runs}
 use Rattle.demands.specs.Fixed.{SameProgram, Card11}
+use Rattle.demands.proofs.Written.{take-front}
 
 module _ (b report work : List ℕ) (ok : Runs b report work) where
   module _ (frame : List ℕ) (budget : ℕ) (log : List ℕ) where
@@ -53,14 +52,11 @@ module _ (b report work : List ℕ) (ok : Runs b report work) where
 abbrev countOf : Left → ℕ
 countOf X = elim (X .answer) [ Written.Bytes n ↦ n | Written.Refused r place ↦ 0 | Written.ShortOutput ↦ 0 ]
 
-pub front : (xs out : List ℕ) → take (length xs) (over 0 xs out) ≡ xs
-front xs out = ap (λ ys. take (length xs) ys) (over-front xs out) ∙ take-append-seam xs (drop (length xs) out)
-
 abbrev wrote : List ℕ → List ℕ → Left
 wrote xs out = record { answer = Written.Bytes (length xs); out = over 0 xs out }
 
 same-front : (xs ys out : List ℕ) → wrote xs out ≡ wrote ys out → xs ≡ ys
-same-front xs ys out e = sym (front xs out) ∙ ap (λ X. take (countOf X) (X .out)) e ∙ front ys out
+same-front xs ys out e = sym (take-front xs out) ∙ ap (λ X. take (countOf X) (X .out)) e ∙ take-front ys out
 
 module _ (b c report work : List ℕ) (ok : Runs b report work) (also : Runs c report work) (out : List ℕ) (h : length b ≤ length out) (k : length c ≤ length out) where
   calls-equal : fixedCall b out ≡ fixedCall c out ↔ SameProgram b c

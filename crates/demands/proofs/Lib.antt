@@ -21,12 +21,3 @@ pub mod CalmPrograms
 pub mod StrippedTrees
 pub mod Stripped
 pub mod StrippedCall
-pub mod UnpaidExample
-pub mod Sheet
-pub mod Mainline
-pub mod Example
-pub mod TakedownExample
-pub mod RoomExample
-pub mod NewestFirstExample
-pub mod ForecastExample
-pub mod StrippedExample

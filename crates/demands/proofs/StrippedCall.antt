@@ -8,7 +8,7 @@ use lib.ListN.{length, take}
 use lib.Dec.{ltb, leb}
 use borrow.Author.Tests.{not-false}
 use Rattle.laws.specs.Tests.{anyBelow}
-use Rattle.laws.proofs.Booleans.{or-false-l, or-false-r}
+use Rattle.laws.proofs.Booleans.{and-false, or-false-l, or-false-r}
 use Rattle.laws.proofs.Tests.{none-below}
 use Rattle.calculus.specs.Combinators.{choose}
 use Rattle.calculus.specs.Syntax.{Dom}
@@ -27,11 +27,7 @@ use Rattle.write_stripped.specs.declared.Stripped.{Stripped}
 use Rattle.write_stripped.specs.Calls.{wrongSet, Left, afterCheck, strippedCall}
 use Rattle.demands.specs.Compare.{HighSet}
 use Rattle.demands.specs.Stripped.{WritesStripped, Card13Call}
-use Rattle.demands.proofs.Fixed.{front}
-
-held : (a b : Bool) → a && b ≡ false → a ≡ true → b ≡ false
-held true b h e = h
-held false b h e = let y : _≡_ {A = ℕ} 0 1 = cc in absurd (omega arith)
+use Rattle.demands.proofs.Written.{take-front}
 
 -- A mask that is not refused with 23 is a set of high domains.
 high-set : (L : Layout) → length (L .domains) ≤ domainLimit → (mask : ℕ) → wrongSet L mask ≡ false → HighSet L (inMask mask)
@@ -40,9 +36,9 @@ high-set L few mask h = record { mainline = not-false (inMask mask 0) (or-false-
     up : (d q : Dom) → d < length (L .domains) → q < length (L .domains) → inMask mask d ≡ true → leq L d q ≡ true → inMask mask q ≡ true
     up d q l m i e =
         let all = or-false-r (not (inMask mask 0)) (anyBelow domainLimit (λ k. inMask mask k && (leb (length (L .domains)) k || anyBelow domainLimit (λ p. leq L k p && not (inMask mask p))))) h in
-        let here = held (inMask mask d) (leb (length (L .domains)) d || anyBelow domainLimit (λ p. leq L d p && not (inMask mask p))) (none-below domainLimit _ all d (omega arith)) i in
+        let here = and-false (inMask mask d) (leb (length (L .domains)) d || anyBelow domainLimit (λ p. leq L d p && not (inMask mask p))) (none-below domainLimit _ all d (omega arith)) i in
         let above = or-false-r (leb (length (L .domains)) d) (anyBelow domainLimit (λ p. leq L d p && not (inMask mask p))) here in
-        not-false (inMask mask q) (held (leq L d q) (not (inMask mask q)) (none-below domainLimit _ above q (omega arith)) e)
+        not-false (inMask mask q) (and-false (leq L d q) (not (inMask mask q)) (none-below domainLimit _ above q (omega arith)) e)
 
 pub card13-call : Card13Call
 unfolding strippedCall
@@ -60,7 +56,7 @@ card13-call b mask n out h = look (verdict b workLength reportLength) refl h
         (choose y (record { answer = Stripped.ShortOutput; out = out }) (record { answer = Stripped.Bytes (length W); out = over 0 W out })))
     go g true p y e = let z : _≡_ {A = ℕ} 0 1 = cc in absurd (omega arith)
     go g false p true e = let z : _≡_ {A = ℕ} 0 1 = cc in absurd (omega arith)
-    go g false p false e = let k : length W ≡ n = cc in record { highs = high-set (recordsOf b) (g .few-domains) mask p; bytes = ap (λ i. take i (over 0 W out)) (sym k) ∙ front W out }
+    go g false p false e = let k : length W ≡ n = cc in record { highs = high-set (recordsOf b) (g .few-domains) mask p; bytes = ap (λ i. take i (over 0 W out)) (sym k) ∙ take-front W out }
 
     look : (w : Verdict) → verdict b workLength reportLength ≡ w → Asked (afterCheck w b mask out)
     look Verdict.Accepted q e = go (accepted-good b _ _ q) (wrongSet (recordsOf b) mask) refl (ltb (length out) (length b)) e

@@ -1,24 +1,17 @@
 -- Card 13: the term of a program without its watches is the program's term, stripped.
 use Prim.Native.Nat.{ℕ, zero, suc}
 use mathlib.Core.Path.{_≡_, refl, sym, ap, _∙_}
-use mathlib.Core.Bool.{Bool, true, false, not}
+use mathlib.Core.Bool.{Bool, true, false}
 use mathlib.Core.List.{List}
 use lib.ListN.{getD}
 use Rattle.calculus.specs.Combinators.{choose}
-use Rattle.calculus.specs.Syntax.{Dom, Ty, Val, Tm, Tms, val, pcd, adv, lower, obj}
+use Rattle.calculus.specs.Syntax.{Dom, Ty, Val, Tms, val, pcd, adv, lower, obj}
 use Rattle.calculus.specs.Plain.{domOf}
 use Rattle.calculus_stripped.specs.Strip.{strip, strips, stripVal}
 use Rattle.image.specs.Kinds.{TermKind}
 use Rattle.image.specs.Program.{Program, Programs, node, blank, end, more, nth, behind, assemble, toTm, toTms}
+use Rattle.image.proofs.Blanked.{choose-not, same-choice}
 use Rattle.image_written.specs.Stripped.{idle, givesWay, stripped, strippeds}
-
-choose-not : {A : Type 0} (b : Bool) (x y : A) → choose (not b) x y ≡ choose b y x
-choose-not true x y = refl
-choose-not false x y = refl
-
-same-choice : {A : Type 0} (b : Bool) (x : A) → choose b x x ≡ x
-same-choice true x = refl
-same-choice false x = refl
 
 module _ (high : Dom → Bool) where
   -- Of the subterms fs and es: each of fs is that of es, stripped, or unit where it gives way; and all of them are where none does.

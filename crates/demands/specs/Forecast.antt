@@ -6,14 +6,13 @@ use mathlib.Core.Logic.{_⊎_}
 use mathlib.Core.Bool.{Bool, false, _||_}
 use mathlib.Core.List.{List}
 use lib.ListN.{length}
-use lib.Dec.{eqb}
 use Rattle.calculus.specs.declared.Outcome.{Outcome}
 use Rattle.calculus.specs.Limits.{wordSize}
 use Rattle.calculus.specs.Report.{outcomeNumber}
 use Rattle.calculus_needs.specs.Numbers.{Numbers}
 use Rattle.calculus_needs.specs.Used.{usedBy}
 use Rattle.calculus_needs.specs.Claims.{Under, Enough}
-use Rattle.image.specs.Kinds.{TermKind, termRow}
+use Rattle.image.specs.Kinds.{TermKind, isKind}
 use Rattle.image.specs.Layout.{recordsOf}
 use Rattle.image.specs.Types.{termKind}
 use Rattle.image.specs.Program.{toTm}
@@ -51,9 +50,6 @@ pub record Told (R : ℕ → ℕ → Type 0) (n : Needs) (budget : ℕ) (X : Lef
   pub prints : R (length (readLog (logWritten X))) (n .log)
 
 -- "Without choice, mark or takedown": no term of the image is an if, a match, a mark or a takedown.
-abbrev isKind : TermKind → TermKind → Bool
-isKind j k = eqb (termRow k .number) (termRow j .number)
-
 abbrev pub manyWays : TermKind → Bool
 manyWays k = isKind TermKind.ite k || (isKind TermKind.match k || (isKind TermKind.mark k || isKind TermKind.takedown k))
 

@@ -4,13 +4,12 @@ use mathlib.Core.Path.{_≡_}
 use mathlib.Core.Bool.{Bool, false, _||_}
 use mathlib.Core.List.{List}
 use lib.ListN.{length, take}
-use lib.Dec.{eqb}
 use Rattle.calculus.specs.declared.Outcome.{Outcome}
 use Rattle.calculus.specs.Combinators.{choose}
 use Rattle.calculus.specs.Limits.{wordSize}
 use Rattle.calculus.specs.Syntax.{Dom}
 use Rattle.calculus_stripped.specs.Strip.{strip}
-use Rattle.image.specs.Kinds.{TermKind, termRow}
+use Rattle.image.specs.Kinds.{TermKind, isKind}
 use Rattle.image.specs.Layout.{recordsOf}
 use Rattle.image.specs.Program.{Program, node, blank, Programs, end, more, toTm, lowBody}
 use Rattle.image_written.specs.Stripped.{withoutWatches}
@@ -26,7 +25,7 @@ use Rattle.demands.specs.SameBytes.{highPrintsIn, highCellsIn, SaysDone}
 use Rattle.demands.specs.Compare.{HighSet}
 
 abbrev pub isTakedown : TermKind → Bool
-isTakedown k = eqb (termRow k .number) (termRow TermKind.takedown .number)
+isTakedown k = isKind TermKind.takedown k
 
 -- Whether a program contains a takedown, at any depth.
 unfoldable mutual

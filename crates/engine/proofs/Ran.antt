@@ -20,7 +20,7 @@ use Rattle.base_bytes.proofs.Memory.{length-words, length-beside}
 use Rattle.vm_code.specs.Words.{home}
 use Rattle.vm_code.specs.Code.{codeOf, rootTarget}
 use Rattle.vm_machine.specs.declared.Regs.{Regs}
-use Rattle.vm_machine.specs.Pools.{whole}
+use Rattle.vm_pools.specs.Pools.{whole}
 use Rattle.vm_machine.specs.Memory.{Memory}
 use Rattle.vm_machine.specs.States.{State}
 use Rattle.vm_machine.specs.Run.{startState, turnsFor, vmRun}

@@ -11,11 +11,11 @@ use Rattle.calculus.specs.Blank.{blank as blankTm, blanks, blankBodies}
 use Rattle.image.specs.Kinds.{TermKind}
 use Rattle.image.specs.Program.{Program, Programs, node, blank, end, more, nth, behind, assemble, toTm, toTms, lowBody, blanked, blankeds}
 
-choose-not : {A : Type 0} (b : Bool) (x y : A) → choose (not b) x y ≡ choose b y x
+pub choose-not : {A : Type 0} (b : Bool) (x y : A) → choose (not b) x y ≡ choose b y x
 choose-not true x y = refl
 choose-not false x y = refl
 
-same-choice : {A : Type 0} (b : Bool) (x : A) → choose b x x ≡ x
+pub same-choice : {A : Type 0} (b : Bool) (x : A) → choose b x x ≡ x
 same-choice true x = refl
 same-choice false x = refl
 

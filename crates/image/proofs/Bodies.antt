@@ -4,24 +4,20 @@ use mathlib.Core.Path.{_≡_, refl}
 use mathlib.Core.Bool.{Bool, true, _&&_}
 use mathlib.Core.List.{List, [], _∷_}
 use lib.ListN.{getD}
-use lib.Dec.{eqb}
-use Rattle.image.specs.Kinds.{Body, here, function-body, advice-body, split-body, lower-body, method-body, match-body, TermKind, termRow, bodies, bodyOf}
+use Rattle.image.specs.Kinds.{Body, here, function-body, advice-body, split-body, lower-body, method-body, match-body, TermKind, termRow, isKind, bodies, bodyOf}
 use Rattle.laws.proofs.Booleans.{and-l, and-r, eq-of}
 use Rattle.image.proofs.KindNumbers.{same-term-kind}
 use Rattle.image.proofs.EveryKind.{everyOf, at-term}
 
-abbrev numbered : TermKind → TermKind → Bool
-numbered j k = eqb (termRow j .number) (termRow k .number)
-
 -- A body of a function is a function's, and so on.
 abbrev owned : TermKind → Body → Bool
 owned k here = true
-owned k function-body = numbered k TermKind.fun
-owned k advice-body = numbered k TermKind.adv
-owned k split-body = numbered k TermKind.split
-owned k lower-body = numbered k TermKind.lower
-owned k method-body = numbered k TermKind.obj
-owned k match-body = numbered k TermKind.match
+owned k function-body = isKind TermKind.fun k
+owned k advice-body = isKind TermKind.adv k
+owned k split-body = isKind TermKind.split k
+owned k lower-body = isKind TermKind.lower k
+owned k method-body = isKind TermKind.obj k
+owned k match-body = isKind TermKind.match k
 
 abbrev allOwned : TermKind → List Body → Bool
 allOwned k [] = true

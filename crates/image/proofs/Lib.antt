@@ -13,5 +13,6 @@ pub mod TypeNumbers
 pub mod TypeDomains
 pub mod Fuel
 pub mod LaidOut
+pub mod EndToEnd
 pub mod Blanked
 pub mod Lengths

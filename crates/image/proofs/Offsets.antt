@@ -5,11 +5,10 @@ use mathlib.Core.Path.{_≡_, refl, sym, ap, _∙_}
 use mathlib.Core.Bool.{Bool, true, false, _||_}
 use mathlib.Core.Logic.{_⊎_, inl, inr}
 use mathlib.Core.List.{List, [], _∷_, _++_, append-nil, append-assoc}
-use lib.ListN.{length, getD, length-append, List·getD-append}
-use lib.Dec.{eqb}
+use lib.ListN.{length, getD, length-append, List·getD-append, List·getD-eq-default}
 use Rattle.laws.specs.Tests.{all}
 use Rattle.image.specs.Bytes.{le16, words, lengthAt, fieldAt}
-use Rattle.image.specs.Kinds.{Field, a-type, own, a-term, an-entry, TermKind, Row, termRow, again, lead, leadOf, trailOf}
+use Rattle.image.specs.Kinds.{Field, a-type, own, a-term, an-entry, TermKind, Row, termRow, isKind, again, lead, leadOf, trailOf}
 use Rattle.image.specs.Records.{times, fieldsAt, numbersAt, asChild, asOther, given, childrenAt, othersAt}
 use Rattle.laws.proofs.Booleans.{no-path, eq-of}
 use Rattle.laws.proofs.Tests.{each}
@@ -28,13 +27,8 @@ after-first (v ∷ vs) ws (suc n) h = after-first vs ws n (omega arith)
 pub number-at : (b : List ℕ) (o : ℕ) (r : Row) (i : ℕ) → i < length (fieldsAt b o r) → getD (numbersAt b o r) i 0 ≡ fieldAt b o i
 number-at b o r i h = words-at b (o + 4) (length (fieldsAt b o r)) i h
 
-past-end : (vs : List ℕ) (i : ℕ) → length vs ≤ i → getD vs i 0 ≡ 0
-past-end [] i h = refl
-past-end (v ∷ vs) zero h = absurd (omega arith)
-past-end (v ∷ vs) (suc i) h = past-end vs i (omega arith)
-
 pub no-number : (b : List ℕ) (o : ℕ) (r : Row) (i : ℕ) → length (fieldsAt b o r) ≤ i → getD (numbersAt b o r) i 0 ≡ 0
-no-number b o r i h = past-end (numbersAt b o r) i (let e = words-length b (o + 4) (length (fieldsAt b o r)) in omega arith)
+no-number b o r i h = List·getD-eq-default (numbersAt b o r) 0 (let e = words-length b (o + 4) (length (fieldsAt b o r)) in omega arith)
 
 -- All are children; and own fields, then children.
 abbrev allTerms : List Field → Bool
@@ -133,7 +127,7 @@ abbrev pub sideBySide : TermKind → Bool
 sideBySide k = allTerms (termRow k .group)
 
 abbrev isMatch : TermKind → Bool
-isMatch k = eqb (termRow k .number) (termRow TermKind.match .number)
+isMatch k = isKind TermKind.match k
 
 pub side-or-match : (k : TermKind) → (sideBySide k ≡ true) ⊎ (k ≡ TermKind.match)
 unfolding everyOf

@@ -7,13 +7,11 @@ use mathlib.Core.List.{List, [], _∷_, _++_}
 use lib.ListN.{length, getD, length-append}
 use lib.Dec.{eqb}
 use Rattle.laws.specs.Tests.{all}
-use Rattle.image.specs.Bytes.{lengthAt}
 use Rattle.image.specs.Kinds.{Field, a-type, own, a-term, an-entry, TermKind, Row, termRow, again, fieldsOf}
-use Rattle.image.specs.Records.{times, fieldsAt, numbersAt, asChild, asOther, given, childrenAt, othersAt}
+use Rattle.image.specs.Records.{asChild, asOther, given}
 use Rattle.image.specs.TermFields.{next, rest, filled, giving, standing, timesFor, termFields}
 use Rattle.laws.proofs.Booleans.{no-path, eq-of}
 use Rattle.laws.proofs.Tests.{each}
-use Rattle.image.proofs.Words.{words-length}
 use Rattle.image.proofs.EveryKind.{everyOf, at-term}
 use Rattle.image.proofs.Counts.{giving-row, fields-give}
 

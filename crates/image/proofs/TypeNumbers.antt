@@ -198,3 +198,18 @@ module _ (L : Layout) (good : Good L) where
   -- Types are compared by number: equal numbers are equal types, and different numbers different types.
   pub same-number : (t u : ℕ) → t < length (L .types) → u < length (L .types) → t ≡ u ↔ typeOf L t ≡ typeOf L u
   same-number t u lt lu = (λ e. ap (λ a. typeOf L a) e, λ h. types-apart t u lt lu h)
+
+-- Layouts whose types have the same kinds and the same fields have the same types.
+module _ (L M : Layout) (good : Good L) (kinds : (t : ℕ) → t < length (L .types) → typeKind M t ≡ typeKind L t) (fields : (t : ℕ) → t < length (L .types) → typeFields M t ≡ typeFields L t) where
+  from-same : (f t : ℕ) → t < length (L .types) → typeFrom M f t ≡ typeFrom L f t
+  unfolding typeFrom
+  from-same zero t h = refl
+  from-same (suc f) t h =
+      ap (λ k. typeOut k (typeFields M t) (λ a. typeFrom M f a)) (kinds t h)
+      ∙ (ap (λ vs. typeOut (typeKind L t) vs (λ a. typeFrom M f a)) (fields t h)
+      ∙ out-cong (typeKind L t) (lengthAt (L .image) (typePlace L t)) (typeFields L t) (λ a. typeFrom M f a) (λ a. typeFrom L f a) (words-length (L .image) _ _)
+      (λ i e. let z = good .types t h .lower i e in from-same f (typeField L t i) (omega arith)))
+
+  pub type-same : (t : ℕ) → t < length (L .types) → typeOf M t ≡ typeOf L t
+  unfolding typeOf
+  type-same t h = from-same (suc t) t h

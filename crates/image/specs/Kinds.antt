@@ -1,6 +1,6 @@
 -- The table of kinds: the section, the number and the fields of each, children among them (document 01, "The image").
 use Prim.Native.Nat.{ℕ, zero, suc}
-use mathlib.Core.Bool.{true, false}
+use mathlib.Core.Bool.{Bool, true, false}
 use mathlib.Core.List.{List, [], _∷_, _++_}
 use mathlib.Core.Option.{Option, none, some}
 use lib.ListN.{length, getD}
@@ -132,6 +132,10 @@ kinds =
     ∷ term TermKind.read ∷ term TermKind.store ∷ term TermKind.lower ∷ term TermKind.abort ∷ term TermKind.byte
     ∷ term TermKind.obj ∷ term TermKind.call ∷ term TermKind.stack ∷ term TermKind.keep ∷ term TermKind.match ∷ term TermKind.takedown
     ∷ []
+
+-- Whether the kind k of a term is j.
+abbrev pub isKind : TermKind → TermKind → Bool
+isKind j k = eqb (termRow k .number) (termRow j .number)
 
 unfoldable pub find : ℕ → List Kind → Option Kind
 find n [] = none

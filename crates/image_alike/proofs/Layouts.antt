@@ -15,7 +15,8 @@ use Rattle.image.specs.Bytes.{lengthAt, numberAt}
 use Rattle.image.specs.Kinds.{in-domains, in-operations, in-truths, any-number, Field, a-type, own, a-term, an-entry, TypeKind, Kind, domain, type, term, Row, typeRow, rowOf, kindOf}
 use Rattle.image.specs.Records.{Layout, orElse, kindAt, fieldsAt, numbersAt}
 use Rattle.image.specs.Layout.{nothing, framed, known, rightLength, inOrder, hasRoom, within, allWithin, inRange, sameType, isNew, tests, add, Scan, stopped, laid, walk, layout}
-use Rattle.laws.proofs.Booleans.{no-path, le-of, eq-of, of-eq}
+use Rattle.laws.proofs.Booleans.{no-path, le-of, eq-of}
+use Rattle.image.proofs.LaidOut.{walk-end}
 use Rattle.laws.proofs.Tests.{each}
 use Rattle.image_alike.specs.SameRecords.{SameRecord, SameFrom, ends, next, SameRecords}
 use Rattle.image_alike.proofs.Paired.{same-kind, same-fields, same-numbers, no-pair, pair-count, pair-nil, pair-more, all-paired, Alike}
@@ -121,11 +122,6 @@ module _ {b c : List ℕ} {place : ℕ → ℕ} {L M : Layout} (A : Alike b c pl
     add-alike (term k) = record { image = A .image; image′ = A .image′; domains = A .domains; types = A .types; terms = pair-more b c place o (A .terms) S }
 
 -- One turn of the walk.
-walk-end : (f o : ℕ) (L : Layout) → o ≡ length (L .image) → walk f o L ≡ laid L
-unfolding walk
-walk-end zero o L e = rw (of-eq e, walk) refl
-walk-end (suc f) o L e = rw (of-eq e, walk) refl
-
 walk-stop : (f o : ℕ) (L : Layout) → eqb o (length (L .image)) ≡ false → (r : Refusal) → firstFault (tests L o) ≡ some r → walk (suc f) o L ≡ stopped r o
 unfolding walk
 walk-stop f o L e r h = rw (e, h, walk) refl

@@ -7,12 +7,11 @@ use lib.ListN.{length, getD}
 use Rattle.image.specs.Bytes.{lengthAt, numberAt, fieldAt}
 use Rattle.image.specs.Kinds.{Field, TypeKind, domain, typeRow, termRow, rowOf, kindOf, fieldsOf}
 use Rattle.image.specs.Records.{Layout, orElse, kindAt, times, fieldsAt, numbersAt, asChild, asOther, given}
-use Rattle.image.specs.Types.{typeKindOf, termKindOf, typePlace, termPlace, typeNumber, typeKind, typeFields, typeField, methodCount, typeOut, typeFrom, typeOf, termKind, typeNo, others, children, statedType}
+use Rattle.image.specs.Types.{typeKindOf, termKindOf, typePlace, termPlace, typeNumber, typeKind, typeFields, methodCount, typeOf, termKind, typeNo, others, children, statedType}
 use Rattle.image.specs.Program.{subtrees, tree, program}
-use Rattle.image.proofs.Words.{words-length}
 use Rattle.image.proofs.Offsets.{number-at}
 use Rattle.image.proofs.Laid.{Below, type-there, Good}
-use Rattle.image.proofs.TypeNumbers.{out-cong}
+use Rattle.image.proofs.TypeNumbers.{type-same}
 use Rattle.verdict.proofs.Methods.{two-each}
 use Rattle.image_alike.proofs.Paired.{same-kind, same-fields, same-numbers, same-given, pair-count, pair-at, PairAt, Alike}
 
@@ -60,18 +59,8 @@ module _ {b c : List ℕ} {place : ℕ → ℕ} {L M : Layout} (A : Alike b c pl
         ∙ (ap (λ d. times (typeRow (typeKind L t)) (lengthAt d (typePlace M t))) (A .image′)
         ∙ (times-same (typeKind L t) _ _ (same-fields (type-pair .same) type-row) ∙ ap (λ d. times (typeRow (typeKind L t)) (lengthAt d (typePlace L t))) (sym (A .image))))
 
-  from-same : (f t : ℕ) → t < length (L .types) → typeFrom M f t ≡ typeFrom L f t
-  unfolding typeFrom
-  from-same zero t h = refl
-  from-same (suc f) t h =
-      ap (λ k. typeOut k (typeFields M t) (λ a. typeFrom M f a)) (kind-same t h)
-      ∙ (ap (λ vs. typeOut (typeKind L t) vs (λ a. typeFrom M f a)) (fields-same t h)
-      ∙ out-cong (typeKind L t) (lengthAt (L .image) (typePlace L t)) (typeFields L t) (λ a. typeFrom M f a) (λ a. typeFrom L f a) (words-length (L .image) _ _)
-      (λ i e. let z = G .types t h .lower i e in from-same f (typeField L t i) (omega arith)))
-
-  pub type-same : (t : ℕ) → t < length (L .types) → typeOf M t ≡ typeOf L t
-  unfolding typeOf
-  type-same t h = from-same (suc t) t h
+  pub types-same : (t : ℕ) → t < length (L .types) → typeOf M t ≡ typeOf L t
+  types-same = type-same L M G kind-same fields-same
 
   module _ (n : ℕ) (h : n < length (L .terms)) where
     term-pair : PairAt b c place (L .terms) (M .terms) n
@@ -112,7 +101,7 @@ module _ {b c : List ℕ} {place : ℕ → ℕ} {L M : Layout} (A : Alike b c pl
         ∙ (first b (termPlace L n) ∙ ap (λ d. fieldAt d (termPlace L n) 0) (sym (A .image)))))
 
     pub stated-same : statedType M n ≡ statedType L n
-    stated-same = ap (λ t. typeOf M t) type-no-same ∙ type-same (typeNo L n) (G .terms n h .typed)
+    stated-same = ap (λ t. typeOf M t) type-no-same ∙ types-same (typeNo L n) (G .terms n h .typed)
 
   subtrees-same : (f m : ℕ) → ((e : ℕ) → e < m → tree M f e ≡ tree L f e) → (es : List ℕ) → Below m es → subtrees (λ e. tree M f e) es ≡ subtrees (λ e. tree L f e) es
   subtrees-same f m h [] d = refl

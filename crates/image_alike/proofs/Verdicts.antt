@@ -32,7 +32,7 @@ use Rattle.verdict.proofs.Sound.{term-facts, TermFacts}
 use Rattle.image.specs.LaidOut.{Stands}
 use Rattle.image_alike.specs.Moved.{moved}
 use Rattle.image_alike.proofs.Paired.{same-numbers, Paired, no-pair, pair-on, pair-count, pair-nil, pair-at, Alike}
-use Rattle.image_alike.proofs.Programs.{number-same, fields-same, methods-same, type-same, place-same, term-kind-same, others-same, children-same, type-no-same, stated-same, terms-count}
+use Rattle.image_alike.proofs.Programs.{number-same, fields-same, methods-same, types-same, place-same, term-kind-same, others-same, children-same, type-no-same, stated-same, terms-count}
 
 module _ (place : ℕ → ℕ) where
   -- Checks in turn, the places of the second moved.
@@ -217,7 +217,7 @@ module _ {b c : List ℕ} {place : ℕ → ℕ} {L M : Layout} (A : Alike b c pl
         let y = others-same A G n h in
         let z = child-types in
         let k = term-kind-same A G n h in
-        let t = type-same A G (typeNo L n) (facts .own) in
+        let t = types-same A G (typeNo L n) (facts .own) in
         let u : settingAt M p n i .context ≡ contextOf (λ a. typeField M a 0) (λ a. typeField M a 1) (bodyOf (termKind L n) i) (typeNo L n) (others L n) (typeNos L (children L n)) (p .context) = cc in
         let v = context-same (bodyOf (termKind L n) i) (typeNo L n) (others L n) (typeNos L (children L n)) (p .context) (facts .own) (facts .types) in
         let w : settingAt M p n i .dom ≡ settingAt L p n i .dom = cc in

@@ -1,11 +1,11 @@
 -- The program of an image in which no term is at fault (refusal 19) is one of those of which card 10 speaks in the calculus.
 use Prim.Native.Nat.{ℕ, zero, suc, _+_, _≤_, _<_, min}
 use native.Mathlib.Omega.{arith}
-use mathlib.Core.Path.{_≡_, refl, sym}
-use mathlib.Core.Bool.{Bool, true, false, not, _&&_, _||_}
+use mathlib.Core.Path.{_≡_, refl}
+use mathlib.Core.Bool.{Bool, true, false, _&&_}
 use mathlib.Core.List.{List, [], _∷_}
 use lib.ListN.{length, getD}
-use lib.Dec.{T, eqb}
+use lib.Dec.{T}
 use Rattle.calculus.specs.Combinators.{choose}
 use Rattle.calculus.specs.Syntax.{Ty, Tm, Tms, end, more}
 use Rattle.calculus_needs.specs.Class.{isAdvice as isAdviceTm, permits2, inClass, allInClass}
@@ -15,11 +15,10 @@ use Rattle.image.specs.Records.{Layout, fieldsAt, numbersAt, times, asChild}
 use Rattle.image.specs.Bytes.{lengthAt}
 use Rattle.image.specs.Types.{termKind, termPlace, children, rootOf}
 use Rattle.image.specs.Program.{nth, opOf, behind, subtrees, tree, program, assemble, toTm, toTms}
-use Rattle.laws.proofs.Booleans.{no-path, of-T, eq-of}
+use Rattle.laws.proofs.Booleans.{of-T, eq-of}
 use Rattle.image.proofs.Words.{words-length}
 use Rattle.image.proofs.Counts.{fields-give, giving-row}
 use Rattle.image.proofs.KindNumbers.{same-term-kind}
-use Rattle.image.proofs.EveryKind.{everyOf, at-term, or-else}
 use Rattle.image.proofs.Laid.{Below, Good}
 use Rattle.image_needs.specs.Faults.{isAdvice, permits, outside, least, permitted, lowest, lowestFault}
 
@@ -106,12 +105,7 @@ module _ (m : Bool) where
 
 -- The kind of an advice is an advice's.
 advice-kind : (k : TermKind) → T (isAdvice k) → k ≡ TermKind.adv
-unfolding everyOf
-advice-kind k a =
-    same-term-kind k TermKind.adv
-    (eq-of (or-else (not (isAdvice k)) (eqb (termRow k .number) (termRow TermKind.adv .number))
-    (at-term (λ k. not (isAdvice k) || eqb (termRow k .number) (termRow TermKind.adv .number)) refl k)
-    (λ n. no-path (sym (rw (of-T (isAdvice k) a) at n)))))
+advice-kind k a = same-term-kind k TermKind.adv (eq-of (of-T (isAdvice k) a))
 
 advice-term : (k : TermKind) (t : Ty) (vs : List ℕ) (es : Tms) → T (isAdvice k) → T (isAdviceTm (assemble k t vs es))
 unfolding assemble

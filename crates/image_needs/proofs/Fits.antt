@@ -1,7 +1,7 @@
 -- The numbers of an accepted image's program fit in 32 bits (document 02, card 10): an image has at most 1,024 terms.
 use Prim.Native.Nat.{ℕ, zero, suc, _+_, _*_, _≤_, _<_}
 use native.Mathlib.Omega.{arith}
-use native.Mathlib.Nat.{mul-le-mul}
+use native.Mathlib.Nat.{zero-mul, suc-mul, mul-le-mul}
 use mathlib.Core.Path.{_≡_, refl}
 use mathlib.Core.Bool.{true}
 use mathlib.Core.List.{List, [], _∷_, _++_}
@@ -26,7 +26,7 @@ use Rattle.verdict.specs.Shape.{usedOnce}
 use Rattle.verdict.specs.Verdicts.{verdict}
 use Rattle.verdict.proofs.Passed.{passed-iff}
 use Rattle.verdict.proofs.Accept.{accepted-good}
-use Rattle.image_needs.proofs.Weights.{weight, weightAll, sum-few, weight-all}
+use Rattle.image_written.proofs.Sums.{sumBelow, weight, weightAll, weight-all}
 
 -- A tree weighs no less than its term of the calculus; a pattern weighs no more than v says of its fields.
 module _ (K : ℕ) (pat : Pattern → ℕ) (v : List ℕ → ℕ) (h : (vs : List ℕ) → pat (patternOf vs) ≤ v vs) where
@@ -72,11 +72,11 @@ module _ (K : ℕ) (pat : Pattern → ℕ) (v : List ℕ → ℕ) (h : (vs : Lis
   mutual
     unfolding toTm toTms weight weightAll amount amounts amountOf
 
-    tree-amount : (e : Program) → amount K pat (toTm e) ≤ weight (λ vs. K + v vs) e
+    tree-amount : (e : Program) → amount K pat (toTm e) ≤ weight (λ k vs n. K + v vs) e
     tree-amount (node k t vs es) = let a = assembled k t vs (toTms es) in let b = trees-amount es in omega arith
     tree-amount blank = omega arith
 
-    trees-amount : (es : Programs) → amounts K pat (toTms es) ≤ weightAll (λ vs. K + v vs) es
+    trees-amount : (es : Programs) → amounts K pat (toTms es) ≤ weightAll (λ k vs n. K + v vs) es
     trees-amount end = omega arith
     trees-amount (more e es) = let a = tree-amount e in let b = trees-amount es in omega arith
 
@@ -140,6 +140,11 @@ given-few [] xs = omega arith
 given-few (f ∷ fs) [] = omega arith
 given-few (f ∷ fs) (x ∷ xs) = let a = field-gives f x in let b = given-few fs xs in let c = length-append (asOther f x) (given asOther fs xs) in omega arith
 
+sum-few : (n m : ℕ) (w : ℕ → ℕ) → ((c : ℕ) → c < n → w c ≤ m) → sumBelow n w ≤ n * m
+unfolding sumBelow
+sum-few zero m w h = let z = zero-mul m in omega arith
+sum-few (suc n) m w h = let a = sum-few n m w (λ c l. h c (omega arith)) in let b = h n (omega arith) in let z = suc-mul n m in omega arith
+
 module _ (L : Layout) (good : Good L) (once : (y : ℕ) → y < rootOf L → usedOnce L y ≡ true) (some : 0 < length (L .terms)) where
   others-few : (m : ℕ) → m < length (L .terms) → length (others L m) ≤ fieldLimit
   others-few m l =
@@ -147,9 +152,9 @@ module _ (L : Layout) (good : Good L) (once : (y : ℕ) → y < rootOf L → use
       let g : length (others L m) ≤ length (fieldsAt (L .image) (termPlace L m) (termRow (termKind L m))) = given-few (fieldsAt (L .image) (termPlace L m) (termRow (termKind L m))) (numbersAt (L .image) (termPlace L m) (termRow (termKind L m))) in
       omega (arith, f, g)
 
-  program-weight : (v : List ℕ → ℕ) (x : ℕ) → ((m : ℕ) → m < length (L .terms) → v (others L m) ≤ x) → weight v (program L) ≤ termLimit * x
+  program-weight : (v : List ℕ → ℕ) (x : ℕ) → ((m : ℕ) → m < length (L .terms) → v (others L m) ≤ x) → weight (λ k vs n. v vs) (program L) ≤ termLimit * x
   program-weight v x h =
-      let a = weight-all v L good once some in
+      let a = weight-all (λ k vs n. v vs) L good once some in
       let b = sum-few (length (L .terms)) x (λ m. v (others L m)) h in
       let few = good .few-terms in
       let c : length (L .terms) * x ≤ termLimit * x = mul-le-mul {n₁ = length (L .terms)} {m₁ = x} {n₂ = termLimit} {m₂ = x} few (omega arith) in

@@ -1,5 +1,4 @@
 -- What is said of an image follows from its program (document 02, card 10), and its numbers fit in 32 bits.
 pub mod Class
 pub mod Known
-pub mod Weights
 pub mod Fits

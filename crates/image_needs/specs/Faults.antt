@@ -1,43 +1,15 @@
 -- Refusal 19 (document 02, card 10): "the lowest apply, call, install over something else, or mark or install in an advice body".
 use Prim.Native.Nat.{ℕ, zero, suc, min}
-use mathlib.Core.Bool.{Bool, true, false, not, _&&_}
+use mathlib.Core.Bool.{Bool, true, false, _&&_}
 use mathlib.Core.List.{List, [], _∷_}
 use lib.ListN.{length, getD}
 use Rattle.calculus.specs.Combinators.{choose}
-use Rattle.image.specs.Kinds.{Body, here, function-body, advice-body, split-body, lower-body, method-body, match-body, TermKind, bodyOf}
+use Rattle.image.specs.Kinds.{Body, here, function-body, advice-body, split-body, lower-body, method-body, match-body, TermKind, isKind, bodyOf}
 use Rattle.image.specs.Records.{Layout}
 use Rattle.image.specs.Types.{termKind, children, rootOf}
 
 abbrev pub isAdvice : TermKind → Bool
-isAdvice TermKind.adv = true
-isAdvice TermKind.unit = false
-isAdvice TermKind.truth = false
-isAdvice TermKind.number = false
-isAdvice TermKind.var = false
-isAdvice TermKind.seq = false
-isAdvice TermKind.print = false
-isAdvice TermKind.ite = false
-isAdvice TermKind.pair = false
-isAdvice TermKind.split = false
-isAdvice TermKind.fun = false
-isAdvice TermKind.app = false
-isAdvice TermKind.arith = false
-isAdvice TermKind.newLabel = false
-isAdvice TermKind.mark = false
-isAdvice TermKind.pcd = false
-isAdvice TermKind.install = false
-isAdvice TermKind.newCell = false
-isAdvice TermKind.read = false
-isAdvice TermKind.store = false
-isAdvice TermKind.lower = false
-isAdvice TermKind.abort = false
-isAdvice TermKind.byte = false
-isAdvice TermKind.obj = false
-isAdvice TermKind.call = false
-isAdvice TermKind.stack = false
-isAdvice TermKind.keep = false
-isAdvice TermKind.match = false
-isAdvice TermKind.takedown = false
+isAdvice k = isKind TermKind.adv k
 
 -- Whether a term of kind k may stand here, over a first child of kind j; m: outside advice bodies.
 abbrev pub permits : Bool → TermKind → TermKind → Bool

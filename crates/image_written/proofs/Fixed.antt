@@ -1,5 +1,5 @@
 -- The fixed form: accepted, with the domains and the program of what it is written from, once and for all, and no longer.
-use Prim.Native.Nat.{ℕ, _≤_, _<_}
+use Prim.Native.Nat.{ℕ, _≤_}
 use native.Mathlib.Omega.{arith}
 use mathlib.Core.Path.{_≡_, refl, sym, ap, subst, _∙_}
 use mathlib.Core.Bool.{true}
@@ -7,7 +7,7 @@ use mathlib.Core.List.{List}
 use mathlib.Core.Logic.{_↔_}
 use lib.ListN.{length}
 use Rattle.calculus.specs.Syntax.{Ty}
-use Rattle.image.specs.Limits.{imageLimit, depthLimit, workLength, reportLength}
+use Rattle.image.specs.Limits.{depthLimit, workLength, reportLength}
 use Rattle.image.specs.Records.{Layout}
 use Rattle.image.specs.Layout.{recordsOf}
 use Rattle.image.specs.Types.{rootType}

@@ -7,7 +7,7 @@ use lib.ListN.{length, getD, take, drop}
 use lib.Seq.{take-all}
 use Rattle.calculus.specs.Syntax.{Ty}
 use Rattle.image.specs.Bytes.{lengthAt}
-use Rattle.image.specs.Kinds.{Field, a-type, own, free, a-term, an-entry, TermKind, Row, termRow, fieldsOf}
+use Rattle.image.specs.Kinds.{Field, a-type, own, free, a-term, an-entry, TermKind, termRow, fieldsOf}
 use Rattle.image.specs.Records.{Layout, times, fieldsAt, numbersAt, asChild, asOther, given}
 use Rattle.image.specs.Types.{termPlace, termKind, typeNo, typeOf, statedType, others, children, rootOf}
 use Rattle.image.specs.TermFields.{next, rest, filled, termFields}

@@ -8,9 +8,9 @@ use lib.ListN.{length, getD, take, drop, length-append, length-map, take-append-
 use lib.Seq.{length-take-le}
 use Rattle.calculus.specs.Syntax.{Ty}
 use Rattle.image.specs.Limits.{domainLimit, typeLimit, termLimit}
-use Rattle.image.specs.Kinds.{a-type, free, TypeKind, TermKind, Kind, domain, type, term, domainRow, typeRow, termRow, rowOf, fieldsOf}
+use Rattle.image.specs.Kinds.{free, TermKind, domain, type, term, domainRow, typeRow, termRow, rowOf, fieldsOf}
 use Rattle.image.specs.Records.{Layout, numbersAt}
-use Rattle.image.specs.Types.{headOf, typeKindOf, termKindOf, typePlace, termPlace, domainPlace, typeNumber, typeKind, typeFields, termKind}
+use Rattle.image.specs.Types.{headOf, typeKindOf, termKindOf, typePlace, termPlace, domainPlace, typeKind, typeFields, termKind}
 use Rattle.image.specs.TermFields.{termFields}
 use Rattle.image.specs.LaidOut.{EndToEnd, Stands, Within, IsRecord, SameType, LaidOut}
 use Rattle.image.specs.Program.{Program, Programs, node, blank, end, more}
@@ -22,7 +22,7 @@ use Rattle.image_written.specs.Table.{place, has, partNos}
 use Rattle.image_written.specs.Records.{Record, record-of, bytes, image}
 use Rattle.image_written.specs.Written.{terms, termsAll, roots, domainRecord, typeRecord, termRecords, termRecordsAll}
 use Rattle.image_written.proofs.Parts.{partFields, groupsOf, row-parts, no-groups}
-use Rattle.image_written.proofs.Places.{has-place, has-more, place-more}
+use Rattle.image_written.proofs.Places.{has-place, place-more}
 use Rattle.image_written.proofs.Reading.{Reads, reads-kind, Sized, reads-sorts, reads-numbers, reads-stands, placed, placed-append, Match, match-length, match-at, match-placed, match-ends}
 use Rattle.image_written.proofs.Writable.{PartsIn, TableFrom, Fielded, several, Formed, FormedAll}
 use Rattle.image_written.proofs.Tables.{parts-length, fields-length, record-apart, table-at, table-bounded, table-parts, place-at}

@@ -1,32 +1,30 @@
 -- Each generated image is accepted.
-use Prim.Native.Nat.{ℕ, zero, suc, _+_, _-_, _*_, _/_, _%_, _≤_, _<_}
+use Prim.Native.Nat.{ℕ, zero, suc, _+_, _-_, _*_, _%_, _≤_, _<_}
 use native.Mathlib.Omega.{arith}
-use mathlib.Core.Path.{_≡_, refl, sym, ap, subst, _∙_}
-use mathlib.Core.Bool.{Bool, true, false}
+use mathlib.Core.Path.{_≡_, refl, ap, _∙_}
+use mathlib.Core.Bool.{true, false}
 use mathlib.Core.List.{List, [], _∷_, _++_, map}
 use lib.ListN.{length}
 use Rattle.calculus.specs.Syntax.{Dom, Ty}
 use Rattle.calculus.specs.Plain.{isPlain}
-use Rattle.calculus.specs.Typing.{Policy, noStore, TmTy, is-val, is-op0, is-op1, is-op2, is-seq, v-num, t-abort, t-print, t-plus, t-minus}
+use Rattle.calculus.specs.Typing.{Policy, is-val, is-op0, is-op1, is-op2, is-seq, v-num, t-abort, t-print, t-plus, t-minus}
 use Rattle.image.specs.Limits.{depthLimit, workLength, reportLength}
 use Rattle.laws.specs.Tests.{anyBelow}
 use Rattle.image.specs.Kinds.{TermKind, Row, fieldsOf}
 use Rattle.image.specs.Records.{Layout}
-use Rattle.image.specs.Program.{Program, Programs, node, blank, end, more, assemble, program}
-use Rattle.verdict.specs.declared.Verdict.{Verdict}
+use Rattle.image.specs.Program.{Program, Programs, node, blank, end, more, assemble}
 use Rattle.verdict.specs.Domains.{bits, order, leq, policy}
 use Rattle.verdict.specs.Order.{atFault}
 use Rattle.verdict.specs.Settings.{Setting}
 use Rattle.verdict.specs.Acceptable.{mainline}
-use Rattle.verdict.specs.Verdicts.{verdict}
-use Rattle.verdict.specs.WellTyped.{WellTyped, EachWellTyped, stated}
+use Rattle.verdict.specs.WellTyped.{WellTyped, stated}
 use Rattle.image_written.specs.Parts.{recur, same}
 use Rattle.image_written.specs.Table.{place, has}
 use Rattle.image_written.specs.Records.{Record, image, bytes, little}
-use Rattle.image_written.specs.Written.{terms, termsAll, domainRecord, typeRecord, termRecords, recordsOver, writtenOver}
-use Rattle.image_written.specs.Generated.{next, drawn, literal, sum, traced, Form, a-literal, a-sum, a-trace, formOf, Grown, numbered, both, byForm, grow, loadDepthLimit, loadTypes, generated}
+use Rattle.image_written.specs.Written.{terms, domainRecord, typeRecord, termRecords, recordsOver, writtenOver}
+use Rattle.image_written.specs.Generated.{next, drawn, literal, sum, traced, Form, a-literal, a-sum, a-trace, formOf, byForm, grow, loadDepthLimit, loadTypes, generated}
 use Rattle.image_written.proofs.Reading.{Sized}
-use Rattle.image_written.proofs.Writable.{TableFrom, Fielded, Formed, FormedAll, Shallow, ShallowAll}
+use Rattle.image_written.proofs.Writable.{TableFrom, Fielded, Formed, Shallow, ShallowAll}
 use Rattle.image_written.proofs.Sums.{weight}
 use Rattle.image_written.proofs.Sizes.{termSize, append-size, terms-size}
 use Rattle.image_written.proofs.Accepted.{Holds, written-holds}

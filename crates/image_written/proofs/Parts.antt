@@ -11,7 +11,7 @@ use Rattle.image.specs.Kinds.{TypeKind, type, typeRow, again, fieldsOf, a-type,
 use Rattle.image.specs.Types.{headOf, typeKindOf, methodsOut, typeOut}
 use Rattle.laws.proofs.Booleans.{no-path, and-l, and-r, and-i, eq-of, of-eq}
 use Rattle.image.proofs.KindNumbers.{same-kind}
-use Rattle.image_written.specs.Parts.{Part, sub, at, methodParts, partsOf, recur, recurs, joined, partsFirst, samePart, sameParts, same}
+use Rattle.image_written.specs.Parts.{Part, sub, at, methodParts, partsOf, recur, recurs, joined, partsFirst, sameParts, same}
 
 abbrev pub mapPart : {A B : Type 0} → (A → B) → Part A → Part B
 mapPart f (sub a) = sub (f a)

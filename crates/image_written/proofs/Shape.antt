@@ -23,7 +23,7 @@ use Rattle.image_written.specs.Records.{Record, record-of}
 use Rattle.image_written.specs.Written.{terms, termsAll, roots, domainRecord, typeRecord, termRecords, termRecordsAll}
 use Rattle.image_written.proofs.Writable.{TableFrom, Formed, FormedAll, Shallow, ShallowAll}
 use Rattle.image_written.proofs.Laying.{Fits, records-length, records-length-all, formed-some, fielded}
-use Rattle.image_written.proofs.Back.{Says, says, reads-term, terms-count}
+use Rattle.image_written.proofs.Back.{says, reads-term, terms-count}
 
 -- 1 if y is below b, and else 0.
 unfoldable below : ℕ → ℕ → ℕ

@@ -1,45 +1,42 @@
 -- The written form of an accepted image is no longer than the image.
-use Prim.Native.Nat.{ℕ, zero, suc, _+_, _-_, _*_, _≤_, _<_}
+use Prim.Native.Nat.{ℕ, _+_, _-_, _*_, _≤_, _<_}
 use native.Mathlib.Omega.{arith}
 use mathlib.Core.Path.{_≡_, refl, sym, ap, subst, _∙_}
 use mathlib.Core.Bool.{Bool, true, false}
 use mathlib.Core.List.{List, [], _∷_, _++_, map}
-use mathlib.Core.Option.{Option, none, some}
-use lib.ListN.{length, getD, drop, length-append, length-map}
+use mathlib.Core.Option.{none}
+use lib.ListN.{length, getD, length-append, length-map}
 use lib.Dec.{eqb}
 use Rattle.calculus.specs.Syntax.{Ty}
 use Rattle.calculus.specs.Combinators.{choose}
-use Rattle.image.specs.declared.Refusal.{Refusal}
-use Rattle.image.specs.Limits.{typeLimit}
-use Rattle.laws.specs.Tests.{firstFault}
 use Rattle.image.specs.Bytes.{lengthAt}
 use Rattle.image.specs.Kinds.{TermKind, Kind, domain, type, term, typeRow, termRow, again, fieldsOf}
 use Rattle.image.specs.TermFields.{giving, standing, timesFor, termFields}
 use Rattle.image.specs.Records.{Layout, kindAt, times, fieldsAt, numbersAt, asChild, asOther}
-use Rattle.image.specs.Layout.{nothing, tests, add, laid, layout}
+use Rattle.image.specs.Layout.{nothing, add, laid, layout}
 use Rattle.image.specs.Types.{headOf, typeOf, typeKind, typePlace, termPlace, termKind, others, children, rootOf}
 use Rattle.image.specs.Program.{Program, Programs, node, blank, end, more, program}
 use Rattle.laws.proofs.Booleans.{no-path, eq-of}
 use Rattle.image.proofs.Words.{words-length}
-use Rattle.image.proofs.Laid.{Good, Below, walk-reaches, same-image}
+use Rattle.image.proofs.Laid.{Good, Below, walk-reaches}
 use Rattle.image.proofs.EveryKind.{has-type}
 use Rattle.image.proofs.TermFields.{times-for}
 use Rattle.image.proofs.TypeNumbers.{kind-head}
 use Rattle.verdict.specs.Shape.{count, usedOnce}
 use Rattle.verdict.specs.Domains.{masks}
 use Rattle.image_written.specs.Parts.{partsOf}
-use Rattle.image_written.specs.Table.{place, has, enter, entered, partNos, tableOf, typesIn}
+use Rattle.image_written.specs.Table.{place, has, enter, entered, tableOf, typesIn}
 use Rattle.image_written.specs.Records.{Record, record-of, size, bytes, image}
 use Rattle.image_written.specs.Written.{terms, roots, domainRecord, typeRecord, termRecords, termRecordsAll, recordsOver, writtenOver}
 use Rattle.image_written.proofs.Reading.{bytes-length}
 use Rattle.image_written.proofs.Writable.{TableFrom, Fielded, Formed, FormedAll, Every, Shaped, several}
 use Rattle.image_written.proofs.Laying.{image-append, roots-length, fielded}
 use Rattle.image_written.proofs.Filled.{fields-count}
-use Rattle.image_written.proofs.Parts.{groupsOf, row-parts}
+use Rattle.image_written.proofs.Parts.{row-parts}
 use Rattle.image_written.proofs.Places.{has-more, has-last}
 use Rattle.image_written.proofs.Tables.{parts-length, fields-length}
 use Rattle.image_written.proofs.Entering.{table-of, formed-of}
-use Rattle.image_written.proofs.Sums.{sumBelow, sumOf, sum-cong, sum-le, sum-const, multiple, multiple-ones, sum-distinct, sum-places, sum-append, Weighing, weight, weightAll, weight-terms, own, weight-all}
+use Rattle.image_written.proofs.Sums.{sumOf, sum-le, sum-const, multiple, multiple-ones, sum-distinct, sum-places, sum-append, Weighing, weight, weightAll, weight-terms, own, weight-all}
 use Rattle.image_written.proofs.Taken.{type-groups, program-every}
 
 -- The bytes of records.

@@ -1,32 +1,31 @@
 -- An accepted image without its watches is accepted, with the same domains, and no longer.
-use Prim.Native.Nat.{ℕ, zero, suc, _+_, _*_, _≤_, _<_}
+use Prim.Native.Nat.{ℕ, zero, suc, _+_, _≤_, _<_}
 use native.Mathlib.Omega.{arith}
 use mathlib.Core.Path.{_≡_, refl, sym, ap, subst, _∙_}
 use mathlib.Core.Bool.{Bool, true, false}
 use mathlib.Core.List.{List, [], _∷_, _++_}
 use lib.ListN.{length, getD}
-use Rattle.calculus.specs.Syntax.{Dom, Ty, Tm, Tms, op0, abort, adv, lower}
+use Rattle.calculus.specs.Syntax.{Dom, Ty, Tm, op0, abort, adv, lower}
 use Rattle.calculus.specs.Combinators.{choose}
-use Rattle.calculus.specs.Typing.{Policy, noStore, TmTy, is-val, is-op0, is-adv, is-lower, v-unit}
+use Rattle.calculus.specs.Typing.{Policy, noStore, TmTy, is-val, is-adv, is-lower, v-unit}
 use Rattle.image.specs.Limits.{depthLimit}
-use Rattle.image.specs.Kinds.{Body, here, function-body, advice-body, split-body, lower-body, method-body, match-body, TermKind, termRow, bodyOf}
+use Rattle.image.specs.Kinds.{Body, here, function-body, advice-body, split-body, lower-body, method-body, match-body, TermKind, bodyOf}
 use Rattle.image.specs.Layout.{recordsOf}
 use Rattle.image.specs.Program.{Program, Programs, node, blank, end, more, assemble, lowBody, program}
 use Rattle.laws.proofs.Booleans.{no-path}
 use Rattle.image.proofs.Bodies.{Owner, body-owner}
 use Rattle.verdict.specs.declared.Verdict.{Verdict}
-use Rattle.verdict.specs.Domains.{masks, policy}
+use Rattle.verdict.specs.Domains.{policy}
 use Rattle.verdict.specs.Settings.{Setting}
 use Rattle.verdict.specs.Acceptable.{mainline}
 use Rattle.verdict.specs.Verdicts.{verdict}
 use Rattle.verdict.specs.WellTyped.{WellTyped, EachWellTyped, stated, stateds, aborts, childSetting}
 use Rattle.verdict.proofs.Passed.{passed-iff}
+use Rattle.verdict.proofs.Term.{abort-type}
 use Rattle.image_written.specs.Parts.{partsFirst}
 use Rattle.image_written.specs.Table.{typesIn, typesInAll}
-use Rattle.image_written.specs.Written.{terms, termsAll, written}
 use Rattle.image_written.specs.Stripped.{idle, watches, givesWay, stripped, strippeds, withoutWatches}
 use Rattle.image_written.proofs.Writable.{Fielded, Every, Shaped, ShapedAll, Shallow, ShallowAll, several}
-use Rattle.image_written.proofs.Reading.{Sized}
 use Rattle.image_written.proofs.Taken.{every-join}
 use Rattle.image_written.proofs.Sums.{Weighing, weight, weightAll, weight-terms}
 use Rattle.image_written.proofs.Sizes.{termSize, least-size}
@@ -154,14 +153,11 @@ module _ (high : Dom → Bool) where
 
 -- The bodies of advice and of lower have type unit.
 module _ (D : Policy) where
-  abort-type : {Γ : List Ty} {c : Dom} {s t : Ty} → TmTy D noStore Γ c (op0 abort s) t → s ≡ t
-  abort-type (is-op0 r) = refl
-
   adv-unit : {Γ : List Ty} {c p : Dom} {e : Tm} {s t : Ty} → TmTy D noStore Γ c (adv p e (op0 abort s)) t → s ≡ Ty.unit
-  adv-unit (is-adv d h b) = abort-type b
+  adv-unit (is-adv d h b) = abort-type D b
 
   lower-unit : {Γ : List Ty} {c p : Dom} {s t : Ty} → TmTy D noStore Γ c (lower p (op0 abort s)) t → s ≡ Ty.unit
-  lower-unit (is-lower h b) = abort-type b
+  lower-unit (is-lower h b) = abort-type D b
 
 -- A child that stands as the body of an advice or of a lower is one's: of these kinds alone, and at its place.
 pub data Watch : TermKind → ℕ → Type 0 where

@@ -1,21 +1,21 @@
 -- What the program of an accepted image is like: its fields, its types' domains, its depth.
-use Prim.Native.Nat.{ℕ, zero, suc, _+_, _*_, _≤_, _<_}
+use Prim.Native.Nat.{ℕ, zero, suc, _+_, _≤_, _<_}
 use native.Mathlib.Omega.{arith}
 use mathlib.Core.Path.{_≡_, refl, sym, ap, subst, _∙_}
-use mathlib.Core.Bool.{Bool, true, false, _&&_}
+use mathlib.Core.Bool.{Bool, true, false}
 use mathlib.Core.List.{List, [], _∷_, _++_}
 use lib.ListN.{length, getD}
 use lib.Dec.{eqb}
-use Rattle.calculus.specs.Syntax.{Ty, Sigs}
+use Rattle.calculus.specs.Syntax.{Ty}
 use Rattle.calculus.specs.Combinators.{choose}
 use Rattle.image.specs.Limits.{depthLimit}
 use Rattle.image.specs.Bytes.{lengthAt}
-use Rattle.image.specs.Kinds.{Range, in-domains, in-operations, in-truths, any-number, Field, a-type, a-domain, own, free, a-term, an-entry, TypeKind, TermKind, typeRow, termRow, again, fieldsOf}
+use Rattle.image.specs.Kinds.{Range, in-domains, in-operations, in-truths, any-number, Field, a-type, a-domain, own, free, a-term, an-entry, TypeKind, typeRow, termRow, again, fieldsOf}
 use Rattle.image.specs.Records.{Layout, times, fieldsAt, numbersAt}
 use Rattle.image.specs.LaidOut.{Within}
 use Rattle.image.specs.Types.{methodsOut, typeOut, typeOf, typeKind, typeFields, typeField, typePlace, typeNo, termPlace, termKind, statedType, others, children, rootOf}
-use Rattle.image.specs.Program.{Program, Programs, node, blank, end, more, subtrees, tree, program}
-use Rattle.laws.proofs.Booleans.{no-path, and-l, and-r, of-eq}
+use Rattle.image.specs.Program.{Program, subtrees, tree, program}
+use Rattle.laws.proofs.Booleans.{no-path, of-eq}
 use Rattle.image.proofs.Words.{words-length}
 use Rattle.image.proofs.EveryKind.{everyOf, at-type}
 use Rattle.image.proofs.Laid.{Good, Below}
@@ -25,8 +25,7 @@ use Rattle.verdict.proofs.Depth.{depth-root, depth-child}
 use Rattle.image_written.specs.Parts.{Part, sub, at, methodParts, partsOf, partsFirst, joined}
 use Rattle.image_written.specs.Table.{typesIn, typesInAll}
 use Rattle.image_written.proofs.Parts.{mapParts, methods, groupsOf, parts-first-law}
-use Rattle.image_written.proofs.Reading.{Sized}
-use Rattle.image_written.proofs.Writable.{Bounded, Ranged, Fielded, Every, DomainsIn, Whole, Shaped, ShapedAll, Shallow, ShallowAll, several}
+use Rattle.image_written.proofs.Writable.{Ranged, Fielded, Every, DomainsIn, Whole, Shaped, ShapedAll, Shallow, ShallowAll, several}
 
 -- The parts of a type that is made of the numbers vs of its fields.
 abbrev pub partFrom : (ℕ → Ty) → Field → ℕ → Part Ty

@@ -1,5 +1,5 @@
 -- Generated images (document 02, card 12): a load that is the same wherever it is made.
-use Prim.Native.Nat.{ℕ, zero, suc, _+_, _-_, _*_, _/_, _%_, _^_}
+use Prim.Native.Nat.{ℕ, zero, suc, _+_, _-_, _*_, _/_, _%_}
 use mathlib.Core.List.{List, [], _∷_}
 use Rattle.calculus.specs.Syntax.{Ty}
 use Rattle.image.specs.Kinds.{TermKind}

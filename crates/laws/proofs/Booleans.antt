@@ -19,6 +19,11 @@ and-r false b h = no-path (sym h)
 pub and-i : {a b : Bool} → a ≡ true → b ≡ true → a && b ≡ true
 and-i h k = rw h k
 
+-- Not both of a && b where the whole is false.
+pub and-false : (a b : Bool) → a && b ≡ false → a ≡ true → b ≡ false
+and-false true b h k = h
+and-false false b h k = no-path (sym k)
+
 pub or-false-l : (a b : Bool) → a || b ≡ false → a ≡ false
 or-false-l true b h = h
 or-false-l false b h = refl

@@ -17,40 +17,8 @@ use Rattle.image.specs.Types.{termKind, children}
 use Rattle.image.proofs.Laid.{Good, Below}
 use Rattle.image.proofs.EveryKind.{everyOf}
 use Rattle.check_rules.proofs.Elimination.{apart, isOne, left-over}
-use Rattle.image_needs.specs.Faults.{isAdvice, permits, outside, least, permitted, lowest}
+use Rattle.image_needs.specs.Faults.{permits, outside, least, permitted, lowest}
 use Rattle.need_class.specs.First.{lowestAt}
-
--- An advice by its number.
-pub advice-number : (j : TermKind) → eqb (termRow j .number) 47 ≡ isAdvice j
-advice-number TermKind.unit = refl
-advice-number TermKind.truth = refl
-advice-number TermKind.number = refl
-advice-number TermKind.var = refl
-advice-number TermKind.seq = refl
-advice-number TermKind.print = refl
-advice-number TermKind.ite = refl
-advice-number TermKind.pair = refl
-advice-number TermKind.split = refl
-advice-number TermKind.fun = refl
-advice-number TermKind.app = refl
-advice-number TermKind.arith = refl
-advice-number TermKind.newLabel = refl
-advice-number TermKind.mark = refl
-advice-number TermKind.pcd = refl
-advice-number TermKind.adv = refl
-advice-number TermKind.install = refl
-advice-number TermKind.newCell = refl
-advice-number TermKind.read = refl
-advice-number TermKind.store = refl
-advice-number TermKind.lower = refl
-advice-number TermKind.abort = refl
-advice-number TermKind.byte = refl
-advice-number TermKind.obj = refl
-advice-number TermKind.call = refl
-advice-number TermKind.stack = refl
-advice-number TermKind.keep = refl
-advice-number TermKind.match = refl
-advice-number TermKind.takedown = refl
 
 -- A list without elements has no first.
 pub no-first : (es : List ℕ) → length es ≡ 0 → getD es 0 0 ≡ 0

@@ -1,73 +1,45 @@
 -- What is read off a type's descriptor and a match's fields is what the type and the pattern say.
-use Prim.Native.Nat.{ℕ, zero, suc, _+_, _-_, _≤_, _<_}
+use Prim.Native.Nat.{ℕ, _+_, _-_, _≤_}
 use native.Mathlib.Omega.{arith}
 use mathlib.Core.Path.{_≡_, refl, sym, ap, subst, _∙_}
 use mathlib.Core.Bool.{Bool, true, false}
-use mathlib.Core.List.{List, [], _∷_}
+use mathlib.Core.List.{List}
 use lib.ListN.{length, getD}
-use lib.Dec.{eqb, ltb}
-use borrow.Author.Tests.{ne-eqb, lt-ltb, le-ltb}
+use lib.Dec.{ltb}
 use Rattle.calculus.specs.Combinators.{choose}
 use Rattle.calculus.specs.Syntax.{Ty, Pattern, atEnd, atRest, anything, pointcut}
 use Rattle.calculus.specs.Plain.{domOf}
 use Rattle.calculus_needs.specs.Needs.{variables}
-use Rattle.laws.proofs.Booleans.{no-path}
 use Rattle.image.specs.Bytes.{words, lengthAt}
-use Rattle.image.specs.Kinds.{domain, TypeKind, typeRow, rowOf, TermKind, termRow}
+use Rattle.image.specs.Kinds.{TermKind, termRow}
 use Rattle.image.specs.Program.{patternOf}
-use Rattle.image.specs.Records.{Layout, orElse, times, numbersAt}
+use Rattle.image.specs.Records.{Layout, times, numbersAt}
 use Rattle.image.specs.Layout.{recordsOf}
-use Rattle.image.specs.Types.{typePlace, termPlace, typeKind, typeFields, typeField, typeOut, typeOf, typeNo, termKind, statedType, others, children}
-use Rattle.image.proofs.Laid.{Good}
+use Rattle.image.specs.Types.{typePlace, termPlace, typeNo, termKind, statedType, others, children}
 use Rattle.image.proofs.Counts.{mostChildren, children-between}
 use Rattle.image.proofs.Fitting.{Fitting, pointcuts, match-pointcuts}
-use Rattle.image.proofs.TypeNumbers.{type-out}
 use Rattle.image.proofs.Words.{words-length}
 use Rattle.verdict.specs.Settings.{bindsRest}
-use Rattle.check_records.specs.Descriptors.{descriptorKind, descriptorField0, descriptorField1, fieldOr0, Describes}
+use Rattle.check_records.specs.Descriptors.{Describes}
 use Rattle.check_records.specs.Heads.{fieldIn}
 use Rattle.check_rules.specs.Lent.{Terms, Lent, IsTerm}
-use Rattle.check_rules.specs.Fields.{fieldsOf, classesIn, numbersIn, othersIn, childrenIn, firstEntry, entryCount}
-use Rattle.check_rules.proofs.Located.{good-of, image-is, typed-in, type-in, others-in, children-in, entries-in}
-use Rattle.check_rules.proofs.Matches.{close-told, match-children}
-use Rattle.need_terms.specs.Parts.{typeDomain, partDomain, branchVariables, withOne}
-
--- A number x with the kind and the fields of a type.
-module _ (x : ℕ) (vs : List ℕ) (g : ℕ → Ty) (h0 : descriptorField0 x ≡ getD vs 0 0) (h1 : descriptorField1 x ≡ getD vs 1 0) where
-  out-domain : (k : TypeKind) → descriptorKind x ≡ typeRow k .number → typeDomain x ≡ domOf (typeOut k vs g)
-  unfolding typeOut
-  out-domain TypeKind.unit e = rw e refl
-  out-domain TypeKind.truth e = rw e refl
-  out-domain TypeKind.number e = rw e refl
-  out-domain TypeKind.pair e = rw e refl
-  out-domain TypeKind.fun e = rw e h1
-  out-domain TypeKind.ref e = rw e h1
-  out-domain TypeKind.label e = rw e h1
-  out-domain TypeKind.pcd e = rw e h1
-  out-domain TypeKind.adv e = rw e h0
-  out-domain TypeKind.obj e = rw e refl
-  out-domain TypeKind.stack e = rw e refl
-
-module _ (L : Layout) (good : Good L) (t : ℕ) (l : t < length (L .types)) (x : ℕ) (descriptor : Describes (L .image) (typePlace L t) x) where
-  field-here : (i : ℕ) → fieldOr0 (L .image) (typePlace L t) i ≡ typeField L t i
-  field-here i = ap (λ q. getD (numbersAt (L .image) (typePlace L t) (rowOf (orElse q domain))) i 0) (good .types t l .kind)
-
-  type-domain-is : typeDomain x ≡ domOf (typeOf L t)
-  type-domain-is =
-      out-domain x (typeFields L t) (λ a. typeOf L a) (descriptor .field0 ∙ field-here 0) (descriptor .field1 ∙ field-here 1) (typeKind L t) (descriptor .kind ∙ good .types t l .is .stands .number)
-      ∙ ap domOf (sym (type-out L good t l))
+use Rattle.check_rules.specs.Fields.{fieldsOf, classesIn, numbersIn, othersIn, firstEntry, entryCount}
+use Rattle.check_rules.proofs.Located.{good-of, image-is, type-in, others-in, children-in}
+use Rattle.check_rules.proofs.Matches.{close-told}
+use Rattle.vm_terms.specs.Noted.{descriptorDomain}
+use Rattle.vm_terms.proofs.Described.{descriptor-domain}
+use Rattle.need_terms.specs.Parts.{partDomain, branchVariables, withOne}
 
 -- The type of a term that is lent.
 module _ {b tt′ dt : List ℕ} (T : Lent b tt′ dt) {n : ℕ} (h : IsTerm b n) where
-  stated-there : typeNo (recordsOf b) n < length (recordsOf b .types)
-  stated-there = subst (λ t. t < length (recordsOf b .types)) (type-in (T .terms) h) (typed-in (T .terms) h .type)
-
-  pub stated-domain : (fs : List ℕ) → fs ≡ fieldsOf b n → typeDomain (getD dt (fieldIn fs 0) 0) ≡ domOf (statedType (recordsOf b) n)
+  pub stated-domain : (fs : List ℕ) → fs ≡ fieldsOf b n → descriptorDomain (getD dt (fieldIn fs 0) 0) ≡ domOf (statedType (recordsOf b) n)
   stated-domain fs e =
       let L = recordsOf b in
       let t = typeNo L n in
-      let D : Describes (L .image) (typePlace L t) (getD dt t 0) = subst (λ i. Describes i (typePlace L t) (getD dt t 0)) (sym (image-is b (T .terms .laid-out))) (T .types .descriptors t stated-there) in
-      ap (λ f. typeDomain (getD dt (fieldIn f 0) 0)) e ∙ (ap (λ u. typeDomain (getD dt u 0)) (type-in (T .terms) h) ∙ type-domain-is L (good-of b (T .terms .laid-out)) t stated-there (getD dt t 0) D)
+      let good = good-of b (T .terms .laid-out) in
+      let there = good .terms n h .typed in
+      let D : Describes (L .image) (typePlace L t) (getD dt t 0) = subst (λ i. Describes i (typePlace L t) (getD dt t 0)) (sym (image-is b (T .terms .laid-out))) (T .types .descriptors t there) in
+      ap (λ f. descriptorDomain (getD dt (fieldIn f 0) 0)) e ∙ (ap (λ u. descriptorDomain (getD dt u 0)) (type-in (T .terms) h) ∙ descriptor-domain L good t there (getD dt t 0) D)
 
 -- The domain in a lower's field.
 lower-field : (fs : List ℕ) → fieldIn fs 1 ≡ getD (othersIn fs TermKind.lower) 0 0
@@ -139,23 +111,6 @@ no-variables TermKind.stack vs m = refl
 no-variables TermKind.keep vs m = refl
 no-variables TermKind.match vs m = absurd (m refl)
 no-variables TermKind.takedown vs m = refl
-
--- The four cases of a type's kind.
-module _ (k f g : ℕ) where
-  abbrev chosen : ℕ
-  chosen = choose (eqb k 24) f (choose (ltb k 20) 0 (choose (ltb k 24) g 0))
-
-  pub of-advice : k ≡ 24 → f ≡ chosen
-  of-advice e = rw e refl
-
-  pub of-small : (k ≡ 24 → ⊥) → k < 20 → 0 ≡ chosen
-  of-small n l = rw (ne-eqb k 24 n, lt-ltb k 20 l) refl
-
-  pub of-middle : (k ≡ 24 → ⊥) → 20 ≤ k → k < 24 → g ≡ chosen
-  of-middle n m l = rw (ne-eqb k 24 n, le-ltb k 20 m, lt-ltb k 24 l) refl
-
-  pub of-large : (k ≡ 24 → ⊥) → 20 ≤ k → 24 ≤ k → 0 ≡ chosen
-  of-large n m l = rw (ne-eqb k 24 n, le-ltb k 20 m, le-ltb k 24 l) refl
 
 -- How many variables a pattern binds.
 variables-are : (p : Pattern) → variables p ≡ pointcuts p + choose (bindsRest p) 1 0

@@ -3,14 +3,12 @@ use Prim.Native.Nat.{ℕ, _+_}
 use mathlib.Core.Bool.{Bool}
 use mathlib.Core.List.{List}
 use lib.ListN.{getD}
-use lib.Dec.{eqb, ltb}
 use Rattle.calculus.specs.Combinators.{choose}
 use Rattle.calculus.specs.Syntax.{Dom, Ty}
 use Rattle.calculus.specs.Plain.{domOf}
 use Rattle.calculus_needs.specs.Needs.{variables}
 use Rattle.image.specs.Kinds.{TermKind}
 use Rattle.image.specs.Program.{patternOf}
-use Rattle.check_records.specs.Descriptors.{descriptorKind, descriptorField0, descriptorField1}
 
 -- The domain that a term of a kind gives to a body: an advice its type's, a lower its own field.
 abbrev pub partDomain : TermKind → Ty → List ℕ → Dom
@@ -76,9 +74,6 @@ branchVariables TermKind.stack vs = 0
 branchVariables TermKind.keep vs = 0
 branchVariables TermKind.takedown vs = 0
 
--- The domain that a type names, from its descriptor: an advice type has it first, the other types that have one second.
-abbrev pub typeDomain : ℕ → ℕ
-typeDomain x = choose (eqb (descriptorKind x) 24) (descriptorField0 x) (choose (ltb (descriptorKind x) 20) 0 (choose (ltb (descriptorKind x) 24) (descriptorField1 x) 0))
-
+-- One more, where it is so.
 abbrev pub withOne : ℕ → Bool → ℕ
 withOne n b = choose b (n + 1) n

@@ -1,8 +1,5 @@
 // An inner crate: the terms of an image by their numbers, as the walks of card 10 (document 02) ask for them.
 use check_records::numbers::TermNo;
-use check_records::numbers::descriptor_field0;
-use check_records::numbers::descriptor_field1;
-use check_records::numbers::descriptor_kind;
 use check_rules::entries::binds_rest;
 use check_rules::kinds;
 use check_rules::terms::child_of;
@@ -13,6 +10,7 @@ use check_rules::terms::term_fields;
 use check_rules::terms::term_kind;
 use need_sums::shapes::Shape;
 use need_sums::shapes::shape_of;
+use vm_terms::descriptors::domain_of;
 ghost use mathlib.Core.Path.{_≡_};
 ghost use Prim.Native.Nat.{_≤_, _<_};
 ghost use lib.ListN.{length, getD};
@@ -21,7 +19,7 @@ ghost use Rattle.image.specs.Layout.{recordsOf};
 ghost use Rattle.image.specs.Types.{termKind, statedType, others, children};
 ghost use Rattle.check_rules.specs.Lent.{Terms, Lent, IsTerm};
 ghost use Rattle.need_sums.specs.Walks.{shapeOf};
-ghost use Rattle.need_terms.specs.Parts.{typeDomain, partDomain, branchVariables};
+ghost use Rattle.need_terms.specs.Parts.{partDomain, branchVariables};
 
 // Its kind.
 pub fn kind_at(image: &[u8], terms: &[u16], n: TermNo) -> u16
@@ -58,23 +56,6 @@ pub fn child_at(image: &[u8], terms: &[u16], n: TermNo, j: usize) -> TermNo
     child_of(kind, fields, lead_of(kind), j)
 }
 
-// The domain that a type names, from its descriptor.
-fn type_domain(descriptor: u32) -> u16
-    ensures { λ r. ⌜ r ≡ typeDomain descriptor ⌝ }
-{
-    let kind = descriptor_kind(descriptor);
-    if kind == kinds::ADVICE_TYPE {
-        return descriptor_field0(descriptor);
-    }
-    if kind < kinds::FUNCTION_TYPE {
-        return 0;
-    }
-    if kind < kinds::ADVICE_TYPE {
-        return descriptor_field1(descriptor);
-    }
-    0
-}
-
 // The domain that it gives to a body: an advice its type's, a lower the one in its field.
 pub fn part_domain(image: &[u8], terms: &[u16], descriptors: &[u32], n: TermNo) -> u16
     requires { ⌜ Lent (now image) (now terms) (now descriptors) × IsTerm (now image) (n .0) ⌝ }
@@ -82,7 +63,7 @@ pub fn part_domain(image: &[u8], terms: &[u16], descriptors: &[u32], n: TermNo) 
 {
     let kind = kind_at(image, terms, n);
     if kind == kinds::ADVICE {
-        return type_domain(own_descriptor(descriptors, term_fields(image, terms, n)));
+        return domain_of(own_descriptor(descriptors, term_fields(image, terms, n))) as u16;
     }
     if kind == kinds::LOWER {
         return other_field(term_fields(image, terms, n));

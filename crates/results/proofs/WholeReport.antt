@@ -18,7 +18,7 @@ use Rattle.report.specs.Records.{recordsBytes}
 use Rattle.report.specs.Written.{leavesIn, leafBytes, leavesBytes, cellsBytes, headBytes, reportBytes}
 use Rattle.report.proofs.Lengths.{leaves-short, length-parts}
 use Rattle.vm_machine.specs.declared.Regs.{Regs}
-use Rattle.vm_machine.specs.Pools.{whole}
+use Rattle.vm_pools.specs.Pools.{whole}
 use Rattle.vm_machine.specs.Memory.{Memory}
 use Rattle.vm_code.specs.Values.{tagOf}
 use Rattle.vm_machine.specs.Leaves.{leafOf}

@@ -14,7 +14,7 @@ use Rattle.verdict.specs.declared.Verdict.{Verdict}
 use Rattle.report.specs.declared.Ending.{Ending}
 use Rattle.report.specs.Written.{reportBytes}
 use Rattle.vm_machine.specs.declared.Regs.{Regs}
-use Rattle.vm_machine.specs.Pools.{whole}
+use Rattle.vm_pools.specs.Pools.{whole}
 use Rattle.vm_machine.specs.Memory.{Memory, cellAt, cellNote}
 use Rattle.vm_machine.specs.Leaves.{leavesOf}
 use Rattle.calls.specs.declared.Answer.{Answer}

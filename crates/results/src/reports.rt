@@ -25,7 +25,7 @@ ghost use Rattle.image.specs.Limits.{reportLength};
 ghost use Rattle.base_bytes.specs.Bytes.{over};
 ghost use Rattle.base_bytes.specs.Memory.{memoryLength};
 ghost use Rattle.vm_code.specs.Values.{tagOf, numberTag};
-ghost use Rattle.vm_machine.specs.Pools.{whole};
+ghost use Rattle.vm_pools.specs.Pools.{whole};
 ghost use Rattle.vm_tables.specs.View.{memoryOf};
 ghost use Rattle.results.specs.Gathered.{gathered};
 ghost use Rattle.results.specs.Ended.{outcomeWith, isDone, plainLeavesIn, reportIn, answerIn};

@@ -1,5 +1,6 @@
 -- The verdict is the image's length, then what an examination answers, then the lengths of lent memory.
 use Prim.Native.Nat.{ℕ, _≤_, _<_}
+use native.Mathlib.Omega.{arith}
 use mathlib.Core.Path.{_≡_, refl, sym, ap, _∙_}
 use mathlib.Core.Bool.{true, false, true≢false}
 use mathlib.Core.List.{List, [], _∷_}
@@ -81,3 +82,7 @@ module _ (b : List ℕ) (work report : ℕ) where
 
     pub all-enough : (v : Verdict) → v ≡ examined b → isRefused v ≡ false → workLength ≤ work → reportLength ≤ report → Verdict.Accepted ≡ verdict b work report
     all-enough v e h w l = rw (accepts v e h, le-leb _ _ w, le-leb _ _ l) refl
+
+-- The image is accepted where work area and report are long enough.
+pub accepted : (b : List ℕ) → length b ≤ imageLimit → examined b ≡ Verdict.Accepted → verdict b workLength reportLength ≡ Verdict.Accepted
+accepted b short ok = sym (all-enough b workLength reportLength short Verdict.Accepted (sym ok) refl (omega arith) (omega arith))

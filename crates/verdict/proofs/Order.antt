@@ -7,12 +7,13 @@ use mathlib.Core.Bool.{Bool, true, false, not, _&&_, _||_}
 use mathlib.Core.List.{List, [], _∷_, map}
 use lib.ListN.{length, getD, length-map, List·getD-eq-default}
 use lib.Dec.{eqb, ltb, leb}
+use borrow.Author.Tests.{not-false}
 use Rattle.calculus.specs.Syntax.{Dom}
 use Rattle.image.specs.Limits.{domainLimit}
 use Rattle.laws.specs.Tests.{anyBelow}
 use Rattle.image.specs.Records.{Layout}
 use Rattle.laws.proofs.Tests.{below-none, none-below}
-use Rattle.laws.proofs.Booleans.{no-path, or-false-l, or-false-r, lt-of, ge-of, le-of, of-le, eq-of, of-eq}
+use Rattle.laws.proofs.Booleans.{no-path, and-false, or-false-l, or-false-r, lt-of, ge-of, le-of, of-le, eq-of, of-eq}
 use Rattle.verdict.specs.Domains.{bits, masks, order, leq}
 use Rattle.verdict.specs.Order.{faultAt, atFault}
 use Rattle.verdict.specs.Acceptable.{PartialOrder}
@@ -33,15 +34,6 @@ rows-length (m ∷ ms) zero q h = go (ltb q domainLimit) refl
         let w : length (bits domainLimit m) ≤ q = omega (arith, bits-length domainLimit m) in
         no-path (sym (sym (List·getD-eq-default (bits domainLimit m) false w) ∙ h))
 rows-length (m ∷ ms) (suc d) q h = let r = rows-length ms d q h in (let l = r .0 in omega arith, r .1)
-
--- Not both of a && b where the whole is false.
-and-false : (a b : Bool) → a && b ≡ false → a ≡ true → b ≡ false
-and-false true b h k = h
-and-false false b h k = no-path (sym k)
-
-not-false : (a : Bool) → not a ≡ false → a ≡ true
-not-false true h = refl
-not-false false h = sym h
 
 module _ (L : Layout) where
   -- Whatever names a domain is one, and has 16 bits to do so.

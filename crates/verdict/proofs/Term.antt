@@ -17,7 +17,7 @@ use Rattle.verdict.proofs.Patterns.{pattern-binds}
 use Rattle.verdict.proofs.Inversion.{abort-types}
 
 module _ (D : Policy) where
-  abort-type : {Γ : List Ty} {c : Dom} {s t : Ty} → TmTy D noStore Γ c (op0 abort s) t → s ≡ t
+  pub abort-type : {Γ : List Ty} {c : Dom} {s t : Ty} → TmTy D noStore Γ c (op0 abort s) t → s ≡ t
   abort-type (is-op0 r) = refl
 
   -- Wherever the aborts as are typed, the subterms es are, each where it stands.

@@ -15,7 +15,8 @@ use Rattle.vm_code.specs.Words.{classOf, depthOf, countOf, termCount, home}
 use Rattle.vm_code.specs.Classes.{pointcutClass}
 use Rattle.vm_machine.specs.declared.Regs.{Regs}
 use Rattle.vm_machine.specs.Registers.{headroom, fullRoom, setPc, setEnv, setRoom, haltWith, halt, stuck}
-use Rattle.vm_machine.specs.Pools.{halfOf, hasRoom, piecesOut}
+use Rattle.vm_pools.specs.Pools.{hasRoom, piecesOut}
+use Rattle.vm_machine.specs.Halves.{halfOf}
 use Rattle.vm_machine.specs.Memory.{Memory, slotPc, slotEnv, digitsAt, digitCount, noDigits, withDigit, labelSet, putDigits}
 use Rattle.vm_machine.specs.States.{State, withRegs, judged}
 use Rattle.vm_machine.specs.Fetch.{Program, codeAt}

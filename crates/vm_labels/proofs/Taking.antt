@@ -1,10 +1,10 @@
 -- The children of a pointcut, one after another.
-use Prim.Native.Nat.{ℕ, zero, suc, _+_, _-_, _%_, _≤_, _<_}
+use Prim.Native.Nat.{ℕ, suc, _+_, _-_, _%_, _≤_, _<_}
 use native.Mathlib.Omega.{arith}
 use native.Mathlib.Numerals.{add-one}
-use mathlib.Core.Path.{_≡_, refl, sym, ap, ap₂, _∙_}
-use mathlib.Core.List.{List, [], _∷_}
-use lib.ListN.{length, getD}
+use mathlib.Core.Path.{_≡_, sym, ap, ap₂, _∙_}
+use mathlib.Core.List.{List}
+use lib.ListN.{length, getD, List·getD-eq-default}
 use borrow.Author.Tests.{lt-ltb, le-ltb}
 use Rattle.image.specs.Bytes.{le16}
 use Rattle.vm_code.specs.Values.{bodyOf}
@@ -15,18 +15,13 @@ use Rattle.vm_machine.specs.Fetch.{Program, codeAt, atomValue}
 use Rattle.vm_machine.specs.Turn.{Taken, childAt, takeLabels}
 
 -- Numbers at the end of an image, and past it.
-getD-past : (xs : List ℕ) (i : ℕ) → length xs ≤ i → getD xs i 0 ≡ 0
-getD-past [] i h = refl
-getD-past (x ∷ xs) zero h = absurd (omega arith)
-getD-past (x ∷ xs) (suc i) h = getD-past xs i (omega arith)
-
 pub last-byte : (xs : List ℕ) (at b : ℕ) → length xs ≤ at + 1 → b ≡ getD xs at 0 → b < 256 → b ≡ le16 xs at
-last-byte xs at b h e l = let z = getD-past xs (at + 1) h in omega arith
+last-byte xs at b h e l = let z = List·getD-eq-default xs 0 {n = at + 1} h in omega arith
 
 pub past-bytes : (xs : List ℕ) (at : ℕ) → length xs ≤ at → 0 ≡ le16 xs at
 past-bytes xs at h =
-    let y = getD-past xs at h in
-    let z = getD-past xs (at + 1) (omega arith) in
+    let y = List·getD-eq-default xs 0 {n = at} h in
+    let z = List·getD-eq-default xs 0 {n = at + 1} (omega arith) in
     omega arith
 
 module _ (C : Program) (M : Memory) (env w n : ℕ) where

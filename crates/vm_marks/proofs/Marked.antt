@@ -12,10 +12,10 @@ use Rattle.calculus.specs.Limits.{bindingLimit}
 use Rattle.calculus.specs.Combinators.{choose}
 use Rattle.calculus.specs.Report.{outcomeNumber}
 use Rattle.vm_code.specs.Values.{bodyOf, unitValue}
-use Rattle.vm_machine.specs.declared.Pool.{Pool}
+use Rattle.vm_pools.specs.declared.Pool.{Pool}
 use Rattle.vm_machine.specs.declared.Regs.{Regs}
 use Rattle.vm_machine.specs.Registers.{headroom, setLeft, setPools, haltWith, halt, stepped}
-use Rattle.vm_machine.specs.Pools.{whole, setBindings, withinHalves, markOut}
+use Rattle.vm_pools.specs.Pools.{whole, setBindings, withinHalves, markOut}
 use Rattle.vm_machine.specs.Memory.{bindingPlaces, hasBit}
 use Rattle.vm_machine.specs.States.{State, withMemory, ifLeft, ifRoom}
 use Rattle.vm_machine.specs.Fits.{PoolFits, Fits}

@@ -7,8 +7,8 @@ use mathlib.Core.List.{List}
 use lib.ListN.{drop}
 use borrow.Author.Tests.{lt-ltb, le-ltb}
 use Rattle.base_bytes.specs.Memory.{memoryLength}
-use Rattle.vm_machine.specs.declared.Pool.{Pool}
-use Rattle.vm_machine.specs.Pools.{isMainline, whole, charge}
+use Rattle.vm_pools.specs.declared.Pool.{Pool}
+use Rattle.vm_pools.specs.Pools.{isMainline, whole, charge}
 use Rattle.vm_machine.specs.Memory.{Memory, bindingPlaces, binding, putBinding, installedAt, hasBit, pieceFirst, pieceSecond, adviceTarget, adviceEnv, adviceDom}
 use Rattle.vm_machine.specs.Reduce.{Bound, bindOne, bindMatching}
 use Rattle.vm_tables.specs.View.{memoryOf, Holds}

@@ -2,13 +2,13 @@
 ghost use Prim.Native.Nat.{_+_, _≤_, _<_};
 ghost use lib.ListN.{length};
 ghost use Rattle.base_bytes.specs.Memory.{memoryLength};
-ghost use Rattle.vm_machine.specs.Pools.{whole, poolBound};
+ghost use Rattle.vm_pools.specs.Pools.{whole, poolBound};
 ghost use Rattle.vm_machine.specs.Memory.{bindingPlaces};
 ghost use Rattle.vm_machine.specs.Reduce.{bindOne, bindMatching};
 ghost use Rattle.vm_tables.specs.View.{memoryOf, Holds};
 ghost use Rattle.vm_marks.specs.Parts.{advised};
 ghost use Rattle.vm_marks.specs.Binds.{boundIn, Binds};
-use vm_machine::Pool;
+use vm_pools::Pool;
 use vm_states::limits::BINDING_PLACES;
 use vm_tables::bindings::bind;
 use vm_tables::labels::has_bit;

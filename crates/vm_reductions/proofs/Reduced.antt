@@ -11,10 +11,11 @@ use Rattle.calculus.specs.Limits.{bindingLimit, cellLimit, labelLimit, adviceLi
 use Rattle.calculus.specs.Report.{outcomeNumber}
 use Rattle.vm_code.specs.Values.{value, cellTag, labelTag, adviceTag, bodyOf, unitValue}
 use Rattle.vm_code.specs.Words.{fieldB, fieldC, isInstruction}
-use Rattle.vm_machine.specs.declared.Pools.{Pools}
+use Rattle.vm_pools.specs.declared.Pools.{Pools}
 use Rattle.vm_machine.specs.declared.Regs.{Regs}
 use Rattle.vm_machine.specs.Registers.{headroom, setLeft, setPools, setLabels, setInstalled, haltWith, halt, stepped}
-use Rattle.vm_machine.specs.Pools.{halfOf, whole, chargeBindings, chargeCells, hasRoom, bindingsOut, cellsOut}
+use Rattle.vm_pools.specs.Pools.{whole, chargeBindings, chargeCells, hasRoom, bindingsOut, cellsOut}
+use Rattle.vm_machine.specs.Halves.{halfOf}
 use Rattle.vm_machine.specs.Memory.{Memory, binding, putBinding, closureEnv, pieceFirst, pieceSecond, pieceOf, adviceWord, putInstalled, cellAt, cellNote, cellOf, putCell}
 use Rattle.vm_machine.specs.States.{State, withRegs, withMemory}
 use Rattle.vm_machine.specs.Fetch.{Program, called}

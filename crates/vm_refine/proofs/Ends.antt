@@ -15,7 +15,7 @@ use Rattle.laws.proofs.Lookup.{get-map}
 use Rattle.closure_machine.specs.Closure.{CVal, CState, plainVal, plainCell, plainAdvice, plainState}
 use Rattle.vm_theory.specs.Table.{Table, Linked}
 use Rattle.vm_theory.proofs.Sound.{Sound}
-use Rattle.vm_machine.specs.Pools.{whole}
+use Rattle.vm_pools.specs.Pools.{whole}
 use Rattle.vm_machine.specs.Memory.{cellAt, cellNote}
 use Rattle.vm_machine.specs.States.{State}
 use Rattle.vm_refine.proofs.Pools.{Used}

@@ -8,8 +8,8 @@ use borrow.Author.Tests.{le-ltb}
 use Rattle.calculus.specs.Combinators.{choose}
 use Rattle.calculus.specs.Syntax.{Tm, val, var, lam, op0, op1, op2, seq, ite, split, pcd, adv, lower, obj, keep, match}
 use Rattle.vm_theory.specs.Code.{isAtom}
-use Rattle.vm_theory.specs.Table.{Node, Table, termOf, entryOf, isAtomAt, Linked}
-use Rattle.vm_theory.proofs.Located.{one-no-atom, two-no-atom, many-no-atom}
+use Rattle.vm_theory.specs.Table.{Node, Table, entryOf, isAtomAt, Linked}
+use Rattle.vm_theory.proofs.Located.{node-term, one-no-atom, two-no-atom, many-no-atom}
 use Rattle.vm_code.specs.Words.{classOf, fieldA, operandB, termCount}
 use Rattle.vm_code.specs.Classes as classes
 use Rattle.vm_code.specs.Classes.{Mode, worked, variable, constant, atom, Class, unary, binary, classWith}
@@ -65,22 +65,19 @@ begun-mode (keep i g j) t x = refl
 begun-mode (match p es g j) t x = refl
 
 module _ (T : Table) (root : ℕ) (L : Linked T 0 root) (C : Program) (says : SaysCode T (C .image) (C .code)) where
-  node-term : {x : ℕ} {n : Node} → T .node x ≡ n → T .term x ≡ termOf T n
-  node-term {x} q = L .coded x ∙ ap (termOf T) q
-
   -- A word is an atom's if its term is an atom.
   word-by : (x w : ℕ) (n : Node) → T .node x ≡ n → Says T (C .image) w n → classes.isAtom w ≡ isAtomAt T x
-  word-by x w n q (says-unit c t) = rw (c, node-term q)
-  word-by x w n q (says-truth c t b) = rw (c, node-term q)
-  word-by x w n q (says-number c t b) = rw (c, node-term q)
-  word-by x w n q (says-variable c k) = rw (c, node-term q)
-  word-by x w n q (says-function c g) = rw (c, node-term q)
-  word-by x w n q (says-object c h) = rw (c, node-term q)
-  word-by x w n q (says-label c) = rw (c, node-term q)
-  word-by x w n q (says-abort c) = rw (c, node-term q)
+  word-by x w n q (says-unit c t) = rw (c, node-term T 0 root L q)
+  word-by x w n q (says-truth c t b) = rw (c, node-term T 0 root L q)
+  word-by x w n q (says-number c t b) = rw (c, node-term T 0 root L q)
+  word-by x w n q (says-variable c k) = rw (c, node-term T 0 root L q)
+  word-by x w n q (says-function c g) = rw (c, node-term T 0 root L q)
+  word-by x w n q (says-object c h) = rw (c, node-term T 0 root L q)
+  word-by x w n q (says-label c) = rw (c, node-term T 0 root L q)
+  word-by x w n q (says-abort c) = rw (c, node-term T 0 root L q)
   word-by x w n q (says-one c f h) = le-ltb (classOf w) 4 (omega arith) ∙ sym (one-no-atom T 0 root L q)
-  word-by x w n q (says-stack c) = rw (c, node-term q)
-  word-by x w n q (says-takedown c g h) = rw (c, node-term q)
+  word-by x w n q (says-stack c) = rw (c, node-term T 0 root L q)
+  word-by x w n q (says-takedown c g h) = rw (c, node-term T 0 root L q)
   word-by x w n q (says-two c f g j) = le-ltb (classOf w) 4 (omega arith) ∙ sym (two-no-atom T 0 root L q)
   word-by x w n q (says-pointcut c m f i h) = le-ltb (classOf w) 4 (omega arith) ∙ sym (many-no-atom T 0 root L q)
   word-by x w n q (says-match c m i e f g h) = le-ltb (classOf w) 4 (omega arith) ∙ sym (many-no-atom T 0 root L q)
@@ -125,12 +122,12 @@ module _ (T : Table) (root : ℕ) (L : Linked T 0 root) (C : Program) (says : Sa
   entry-by : (n t : ℕ) (N : Node) → T .node t ≡ N → Says T (C .image) (codeAt C t) N → ((y : ℕ) → Enters n y) → isAtomAt T t ≡ false → t < suc n
       → enteredBy (classWith (classOf (codeAt C t))) t (codeAt C t) (entryFrom n C) ≡ T .entry t
   unfolding classWith
-  entry-by n t N q (says-unit c x) ih a l = absurd (true≢false (sym (ap isAtom (node-term q)) ∙ a))
-  entry-by n t N q (says-truth c x b) ih a l = absurd (true≢false (sym (ap isAtom (node-term q)) ∙ a))
-  entry-by n t N q (says-number c x b) ih a l = absurd (true≢false (sym (ap isAtom (node-term q)) ∙ a))
-  entry-by n t N q (says-variable c k) ih a l = absurd (true≢false (sym (ap isAtom (node-term q)) ∙ a))
-  entry-by n t N q (says-function c g) ih a l = absurd (true≢false (sym (ap isAtom (node-term q)) ∙ a))
-  entry-by n t N q (says-object c h) ih a l = absurd (true≢false (sym (ap isAtom (node-term q)) ∙ a))
+  entry-by n t N q (says-unit c x) ih a l = absurd (true≢false (sym (ap isAtom (node-term T 0 root L q)) ∙ a))
+  entry-by n t N q (says-truth c x b) ih a l = absurd (true≢false (sym (ap isAtom (node-term T 0 root L q)) ∙ a))
+  entry-by n t N q (says-number c x b) ih a l = absurd (true≢false (sym (ap isAtom (node-term T 0 root L q)) ∙ a))
+  entry-by n t N q (says-variable c k) ih a l = absurd (true≢false (sym (ap isAtom (node-term T 0 root L q)) ∙ a))
+  entry-by n t N q (says-function c g) ih a l = absurd (true≢false (sym (ap isAtom (node-term T 0 root L q)) ∙ a))
+  entry-by n t N q (says-object c h) ih a l = absurd (true≢false (sym (ap isAtom (node-term T 0 root L q)) ∙ a))
   entry-by n t N q (says-label c) ih a l = rw c (sym (L .entered t ∙ ap (entryOf T t) q))
   entry-by n t N q (says-abort c) ih a l = rw c (sym (L .entered t ∙ ap (entryOf T t) q))
   entry-by n t N q (says-one {H = H} {x = x} c f h) ih a l =

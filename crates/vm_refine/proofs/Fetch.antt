@@ -10,8 +10,8 @@ use Rattle.calculus.specs.Plain.{domOf}
 use Rattle.calculus.specs.Syntax.{Dom, Ty, Val, Tm, val, var, lam, op0, op1, op2, seq, ite, split, pcd, adv, lower, obj, keep, match}
 use Rattle.closure_machine.specs.Closure.{CVal, Env, lookup, closed}
 use Rattle.vm_theory.specs.Code.{Skel, isAtom, atomOf, orUnit}
-use Rattle.vm_theory.specs.Table.{Node, funN, objN, Table, termsOf, termOf, isAtomAt, Linked}
-use Rattle.vm_theory.proofs.Located.{Located, l-function, one-no-atom, two-no-atom, many-no-atom}
+use Rattle.vm_theory.specs.Table.{Node, funN, objN, Table, termsOf, isAtomAt, Linked}
+use Rattle.vm_theory.proofs.Located.{Located, l-function, node-term, one-no-atom, two-no-atom, many-no-atom}
 use Rattle.vm_theory.proofs.Bound.{BoundTm}
 use Rattle.vm_code.specs.Values.{tagOf, bodyOf, functionValue, objectValue}
 use Rattle.vm_code.specs.Words.{classOf, fieldA, fieldB, hopsOf, termCount}
@@ -31,9 +31,6 @@ object-word : (env t : ℕ) → env < 2048 → t < 1024 → (tagOf (objectValue 
 object-word env t h g = (omega arith, omega arith, omega arith)
 
 module _ (T : Table) (root : ℕ) (L : Linked T 0 root) (C : Program) (says : SaysCode T (C .image) (C .code)) where
-  node-term : {x : ℕ} {n : Node} → T .node x ≡ n → T .term x ≡ termOf T n
-  node-term {x} q = L .coded x ∙ ap (termOf T) q
-
   -- A node that is an atom is a constant, a variable, a function or an object.
   pub data AtomIs (x w : ℕ) : Type 0 where
     is-constant : {v : Val} → T .term x ≡ val v → classOf w ≡ 0 → ((M : Memory) (z : Sizes) → IsVal T root L M z w (closed v)) → AtomIs x w
@@ -47,17 +44,17 @@ module _ (T : Table) (root : ℕ) (L : Linked T 0 root) (C : Program) (says : Sa
 
   atom-by : (x w : ℕ) (n : Node) → T .node x ≡ n → isAtomAt T x ≡ true → Says T (C .image) w n → AtomIs x w
   unfolding closed
-  atom-by x w n q a (says-unit c t) = is-constant (node-term q) c (λ M z. is-unit t)
-  atom-by x w n q a (says-truth c t b) = is-constant (node-term q) c (λ M z. is-truth t b)
-  atom-by x w n q a (says-number c t b) = is-constant (node-term q) c (λ M z. is-num t b)
-  atom-by x w n q a (says-variable c k) = is-variable (node-term q) c k
-  atom-by x w n q a (says-function {b = b} c g) = is-function q (node-term q) c (λ σ d l. record { number = b; begins = g; term = refl; located = l-function l q })
-  atom-by x w n q a (says-object c h) = is-an-object q (node-term q) c
-  atom-by x w n q a (says-label c) = absurd (true≢false (sym a ∙ ap isAtom (node-term q)))
-  atom-by x w n q a (says-abort c) = absurd (true≢false (sym a ∙ ap isAtom (node-term q)))
+  atom-by x w n q a (says-unit c t) = is-constant (node-term T 0 root L q) c (λ M z. is-unit t)
+  atom-by x w n q a (says-truth c t b) = is-constant (node-term T 0 root L q) c (λ M z. is-truth t b)
+  atom-by x w n q a (says-number c t b) = is-constant (node-term T 0 root L q) c (λ M z. is-num t b)
+  atom-by x w n q a (says-variable c k) = is-variable (node-term T 0 root L q) c k
+  atom-by x w n q a (says-function {b = b} c g) = is-function q (node-term T 0 root L q) c (λ σ d l. record { number = b; begins = g; term = refl; located = l-function l q })
+  atom-by x w n q a (says-object c h) = is-an-object q (node-term T 0 root L q) c
+  atom-by x w n q a (says-label c) = absurd (true≢false (sym a ∙ ap isAtom (node-term T 0 root L q)))
+  atom-by x w n q a (says-abort c) = absurd (true≢false (sym a ∙ ap isAtom (node-term T 0 root L q)))
   atom-by x w n q a (says-one c f h) = no-atoms x a (one-no-atom T 0 root L q)
-  atom-by x w n q a (says-stack c) = absurd (true≢false (sym a ∙ ap isAtom (node-term q)))
-  atom-by x w n q a (says-takedown c g h) = absurd (true≢false (sym a ∙ ap isAtom (node-term q)))
+  atom-by x w n q a (says-stack c) = absurd (true≢false (sym a ∙ ap isAtom (node-term T 0 root L q)))
+  atom-by x w n q a (says-takedown c g h) = absurd (true≢false (sym a ∙ ap isAtom (node-term T 0 root L q)))
   atom-by x w n q a (says-two c f g j) = no-atoms x a (two-no-atom T 0 root L q)
   atom-by x w n q a (says-pointcut c m f i h) = no-atoms x a (many-no-atom T 0 root L q)
   atom-by x w n q a (says-match c m i e f g h) = no-atoms x a (many-no-atom T 0 root L q)

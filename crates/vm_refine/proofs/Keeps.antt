@@ -50,7 +50,7 @@ use Rattle.vm_refine.proofs.Arrives.{completed-now, instruction-of}
 use Rattle.vm_refine.proofs.Steps.{measure, After, after-halted, after-now, fits-in, step-falls, judged-now}
 use Rattle.vm_refine.proofs.Gives.{gives}
 use Rattle.vm_refine.proofs.Advice.{stack-depth}
-use Rattle.vm_refine.proofs.Pointcuts.{no-value}
+use Rattle.vm_refine.proofs.Listed.{no-value}
 
 -- The parts of a keep's frame, and of the word of a kept value.
 keep-frame : (pc env : ℕ) → pc < 1024 → env < 2048 → (slotKind (slotWord keepFrame pc env 0) ≡ keepFrame) × (slotPc (slotWord keepFrame pc env 0) ≡ pc) × (slotEnv (slotWord keepFrame pc env 0) ≡ env)

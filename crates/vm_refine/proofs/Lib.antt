@@ -29,6 +29,7 @@ pub mod Operands
 pub mod Instructions
 pub mod Entries
 pub mod Labelling
+pub mod Listed
 pub mod Pointcuts
 pub mod Looks
 pub mod Matches

@@ -27,10 +27,10 @@ use Rattle.vm_theory.proofs.Located.{describes}
 use Rattle.vm_theory.proofs.Kept.{IsChain, waits-kept, chain-kept}
 use Rattle.vm_code.specs.Words.{depthOf, termCount}
 use Rattle.vm_code.specs.Says.{SaysCode}
-use Rattle.vm_machine.specs.declared.Pool.{Pool}
+use Rattle.vm_pools.specs.declared.Pool.{Pool}
 use Rattle.vm_machine.specs.declared.Regs.{Regs}
 use Rattle.vm_machine.specs.Registers.{headroom, fullRoom, setPc, setHand, setEnv, setRoom, setPools, stepped, halt}
-use Rattle.vm_machine.specs.Pools.{whole, setBindings, withinHalves, markOut}
+use Rattle.vm_pools.specs.Pools.{whole, setBindings, withinHalves, markOut}
 use Rattle.vm_machine.specs.Memory.{Memory, keptBase, keptAt, wordAt, slotBase, cellBase, slotIn, slotWord, slotKind, slotPc, slotEnv, adviceFrame, bindingsLeft, nextBinding, endBinding, putAdvice, bindingAt, boundTarget, hasBit}
 use Rattle.vm_machine.specs.States.{State, withRegs, withMemory, ifLeft, ifRoom, completed}
 use Rattle.vm_machine.specs.Fetch.{Program, codeAt}

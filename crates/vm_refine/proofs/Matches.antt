@@ -1,15 +1,13 @@
 -- A match (card 6): its operands, and the branch that is taken.
-use Prim.Native.Nat.{ℕ, suc, _+_, _-_, _*_, _/_, _%_, _≤_, _<_}
+use Prim.Native.Nat.{ℕ, _+_, _-_, _*_, _/_, _%_, _≤_, _<_}
 use native.Mathlib.Omega.{arith}
 use mathlib.Core.Path.{_≡_, refl, sym, ap, subst, _∙_}
 use mathlib.Core.Bool.{Bool, true, false, not, _&&_, _||_}
 use mathlib.Core.List.{List, [], _∷_, _++_, reverse}
 use mathlib.Core.Option.{Option, none, some}
-use lib.ListN.{length, getD, drop, length-set}
-use lib.Seq.{getD-set-same, getD-set-other}
+use lib.ListN.{length, drop}
 use lib.Dec.{leb}
-use borrow.Author.Tests.{ne-eqb, leb-true, leb-false, le-leb, lt-leb}
-use Rattle.calculus.specs.declared.Outcome.{Outcome}
+use borrow.Author.Tests.{ne-eqb, le-leb, lt-leb}
 use Rattle.calculus.specs.Combinators.{choose, cases}
 use Rattle.calculus.specs.Syntax.{Tm, Tms, Pattern, match, end, more}
 use Rattle.calculus.specs.State.{Entry, Given, someBindings, addUses, atDom, charged, told, turns}
@@ -22,45 +20,42 @@ use Rattle.closure_machine.specs.Closure.{CVal, CState, close, linkAll, topOfC,
 use Rattle.closure_machine.specs.Machine.{Control, eval, ret, OpN, matchN, opNF, Stack, CAnswer, due, placeAt, reduceNC}
 use Rattle.closure_machine.specs.Settle.{work}
 use Rattle.vm_theory.specs.Code.{atomOf}
-use Rattle.vm_theory.specs.Conf.{Site, manyA, Chain, Slots, base, depthAt, domAt, placeOf, body, begin}
+use Rattle.vm_theory.specs.Conf.{Site, Chain, Slots, domAt, placeOf}
 use Rattle.vm_theory.specs.Stands.{stackAt}
-use Rattle.vm_theory.specs.Table.{manyN, matchM, Table, In, here as here-first, there, to, termsOf, isAtomAt, Linked}
+use Rattle.vm_theory.specs.Table.{manyN, matchM, Table, In, here as here-first, there, termsOf, isAtomAt, Linked}
 use Rattle.vm_theory.proofs.Sound.{Sound}
-use Rattle.vm_theory.proofs.Reach.{Reach, ends-deep}
-use Rattle.vm_theory.proofs.Leads.{leads-same, atom-leads, begin-leads}
-use Rattle.vm_theory.proofs.Bound.{bound-tm, entry-bound}
+use Rattle.vm_theory.proofs.Reach.{Reach}
+use Rattle.vm_theory.proofs.Leads.{leads-same, atom-leads}
+use Rattle.vm_theory.proofs.Bound.{bound-tm}
 use Rattle.vm_theory.proofs.Places.{site-place}
-use Rattle.vm_theory.proofs.Located.{Located, l-listed, l-match, l-other, entry-points, describes}
-use Rattle.vm_theory.proofs.Kept.{IsChain, waits-kept, chain-kept}
-use Rattle.vm_theory.proofs.Arrive.{entry-has}
+use Rattle.vm_theory.proofs.Located.{Located, l-listed, l-match, l-other}
 use Rattle.vm_code.specs.Values.{tagOf, bodyOf, unitValue}
-use Rattle.vm_code.specs.Words.{countOf, offsetOf, branchPlace, otherPlace, entryPlace, closePlace, depthOf, termCount}
+use Rattle.vm_code.specs.Words.{countOf, offsetOf, branchPlace, otherPlace, entryPlace, closePlace, termCount}
 use Rattle.vm_code.specs.Words as code
 use Rattle.vm_code.specs.Classes as classes
 use Rattle.vm_code.specs.Says.{SaysPattern, says-end, says-rest, SaysCode}
 use Rattle.vm_machine.specs.declared.Regs.{Regs}
-use Rattle.vm_machine.specs.Registers.{headroom, fullRoom, setPc, setRoom, setPools, stepped, halt}
-use Rattle.vm_machine.specs.Pools.{halfOf, whole, chargeBindings}
-use Rattle.vm_machine.specs.Memory.{Memory, wordAt, slotBase, cellBase, keptBase, isKept, slotIn, slotWord, slotEnv, slotPc, slotKind, slotHeld, pointcutFrame, putMatch, heldStack}
-use Rattle.vm_machine.specs.States.{State, withRegs, withMemory, judged}
+use Rattle.vm_machine.specs.Registers.{fullRoom, setPools, stepped}
+use Rattle.vm_pools.specs.Pools.{whole, chargeBindings}
+use Rattle.vm_machine.specs.Halves.{halfOf}
+use Rattle.vm_machine.specs.Memory.{Memory, keptBase, isKept, slotHeld, heldStack}
+use Rattle.vm_machine.specs.States.{State, judged}
 use Rattle.vm_machine.specs.Fetch.{Program, codeAt, atomValue}
 use Rattle.vm_machine.specs.Stacks.{bindsRest, matches, variables, Chained, bindEntries, lookOn, entryAt, cutTerm, lookedByte, unlooked, stackToCome}
 use Rattle.vm_machine.specs.Stacks as machine
 use Rattle.vm_machine.specs.Turn.{entryFrom, begunAt, beginOperand, reduceMatch, entriesFrom, beginMatch}
 use Rattle.vm_refine.proofs.Pools.{whole-charged}
-use Rattle.vm_refine.proofs.Relations.{Sizes, sizes, IsBody, IsVal, IsEnv, val-like, val-grows, env-at, env-grows, Grows}
-use Rattle.vm_refine.proofs.Tables.{word-same, word-other, grows-put, grows-refl, above-put, slots-refl}
+use Rattle.vm_refine.proofs.Relations.{Sizes, sizes, IsBody, IsVal, IsEnv, val-like, val-grows, Grows}
+use Rattle.vm_refine.proofs.Tables.{grows-refl, slots-refl}
 use Rattle.vm_refine.proofs.Store.{Store, resized, store-charged, store-told}
-use Rattle.vm_refine.proofs.Keeping.{kept-grows, kept-fits}
-use Rattle.vm_refine.proofs.Slots.{slotOf, byteOf, slot-word, slot-same, MatchIs, stack-to-come, entries-looked, Held, Back, held-kept, same-to}
-use Rattle.vm_refine.proofs.Now.{entry-ready, InPlace, halted-stopped}
+use Rattle.vm_refine.proofs.Slots.{slotOf, byteOf, MatchIs, stack-to-come, entries-looked}
+use Rattle.vm_refine.proofs.Now.{InPlace}
 use Rattle.vm_refine.proofs.Fetch.{atom-is}
-use Rattle.vm_refine.proofs.Arrives.{instruction-of}
-use Rattle.vm_refine.proofs.Steps.{level, measure, After, after-halted, after-now, fits-in, Stepping, judged-now, if-bindings}
+use Rattle.vm_refine.proofs.Steps.{level, measure, After, Stepping, judged-now, if-bindings}
 use Rattle.vm_refine.proofs.Gives.{calls}
-use Rattle.vm_refine.proofs.Advice.{stack-depth}
 use Rattle.vm_refine.proofs.Entries.{word-atom, entry-from, begun-at}
-use Rattle.vm_refine.proofs.Pointcuts.{no-value, pointcut-frame, after-mono}
+use Rattle.vm_refine.proofs.Listed.{operand-begins}
+use Rattle.vm_refine.proofs.Pointcuts.{after-mono}
 use Rattle.vm_refine.proofs.Looking.{topHas, Looked, nothing-yet, found, isFound, looked-matches}
 use Rattle.vm_refine.proofs.Linking.{Chains, counted, bound-all}
 use Rattle.vm_refine.proofs.Looks.{kept-top, Stops, all-looked, stopped-at, looked-on, looked-says}
@@ -104,124 +99,13 @@ module _ (T : Table) (root : ℕ) (L : Linked T 0 root) (G : Given) (e₀ : Tm) 
     small : m < termCount
     small = says .few m (p .no-atom)
 
-    deep : depthOf w ≡ length (P .skel)
-    deep = says .around m (p .no-atom) .depth ∙ describes T 0 root L (p .located) (p .no-atom) .depth
-
     -- An operand y that is no atom begins; v is the word of the stack.
     module _ (vs : List CVal) (es : Tms) (y v byte : ℕ) (a : isAtomAt T y ≡ false) (listed : In y (x₀ ∷ cuts)) (reach : Reach G e₀ Ω k s (eval (T .term y) (P .env)) (opNF o vs es (P .env) ∷ K))
         (are : (M′ : Memory) → Grows M z M′ z → (h byte′ : ℕ) → slotHeld h ≡ v / 268435456 → byte′ ≡ byte → MatchIs T root L M′ z h byte′ m pat (T .term f) (T .term g) vs es) where
-      abbrev F′ : Stack
-      F′ = opNF o vs es (P .env) ∷ K
-
-      -- no frame for it
-      none-left : r .room ≤ depthOf w + 1 → Then (withRegs (halt Outcome.Frames r) S)
-      none-left h =
-          after-halted
-          (halted-stopped Outcome.Frames refl refl
-          (ends-deep G e₀ Ω k s (eval (T .term y) (P .env)) F′ reach N (r .left - headroom) (omega (arith, p .common .budget, p .common .running)) (no-value (T .term y) (P .env) a)
-          (omega (arith, deep, p .room, stack-depth P A D (p .stood) (p .fine))))
-          st (p .common .used) (omega (arith, p .common .budget, p .common .running))
-          (fits-in T root L G e₀ Ω N B M (S .log) (halt Outcome.Frames r) s st (p .common .used) (omega (arith, pc, small)) (p .env-fits) (omega (arith, p .room, kept-fits T root L A (p .kept)))))
-
-      module _ (h : depthOf w + 1 < r .room) where
-        abbrev word : ℕ
-        word = slotWord pointcutFrame m (r .env) (v / 268435456)
-
-        abbrev framed′ : Memory
-        framed′ = putMatch (r .room) (depthOf w + 1) m (r .env) v byte M
-
-        abbrev A′ : Chain
-        A′ = manyA o vs es P ∷ A
-
-        within : suc (depthAt P A) ≤ 512
-        within = omega (arith, deep, p .room)
-
-        index : slotIn (r .room) (depthOf w + 1) ≡ slotBase + fullRoom - suc (depthAt P A)
-        index = omega (arith, deep, p .room)
-
-        place : r .room - (depthOf w + 1) ≡ fullRoom - suc (depthAt P A)
-        place = omega (arith, deep, p .room)
-
-        here : slotOf framed′ (suc (depthAt P A)) ≡ word
-        here = slot-word framed′ (suc (depthAt P A)) (omega arith) ∙ ap (λ (i : ℕ). wordAt framed′ i) (sym index) ∙ word-same M (slotIn (r .room) (depthOf w + 1)) word (omega (arith, index, st .words))
-
-        byte-here : byteOf framed′ (suc (depthAt P A)) ≡ byte
-        byte-here = ap (λ (i : ℕ). getD (framed′ .beside) i 0) (sym place) ∙ getD-set-same (M .beside) (r .room - (depthOf w + 1)) byte 0 (omega (arith, st .beside, p .room))
-
-        elsewhere : (i : ℕ) → i ≤ depthAt P A → slotOf framed′ i ≡ slotOf M i
-        elsewhere i l = slot-same M framed′ i (λ n. word-other M (slotIn (r .room) (depthOf w + 1)) word (slotBase + fullRoom - i) (λ e. omega (arith, index, within)))
-
-        byte-elsewhere : (i : ℕ) → i ≤ depthAt P A → byteOf framed′ i ≡ byteOf M i
-        byte-elsewhere i l = getD-set-other (M .beside) (r .room - (depthOf w + 1)) (fullRoom - i) byte 0 (λ e. omega (arith, place, within))
-
-        grows : Grows M z framed′ z
-        grows =
-            let g = grows-put M z (slotIn (r .room) (depthOf w + 1)) word (omega (arith, index, within, st .bindings-fit)) (λ i l e. omega (arith, index)) in
-            record { more-bindings = g .more-bindings; more-pieces = g .more-pieces; bindings = g .bindings; firsts = g .firsts; seconds = g .seconds }
-
-        stored : Store T root L B framed′ (S .log) z s
-        stored =
-            let u = above-put M cellBase (slotIn (r .room) (depthOf w + 1)) word (omega (arith, index)) in
-            store-charged T root L B M (S .log) z s st framed′ (z .nb) (z .np) (s .used) grows (record { words = u .words; kept = u .kept })
-            (rw (length-set (M .beside) (r .room - (depthOf w + 1)) byte) (st .beside)) (st .bindings-fit) (st .pieces-fit)
-
-        chain : IsChain T 0 root L (Held T root L framed′ z) (Back T root L framed′ z) D A′
-        chain =
-            let parts = pointcut-frame m (r .env) (v / 268435456) small (p .env-fits) in (
-              record {
-                number = m;
-                no-atom = p .no-atom;
-                located = p .located;
-                says = (
-                  record { kind = ap slotKind here ∙ parts .0; pc = ap slotPc here ∙ parts .1; env = env-at T root L framed′ z (ap slotEnv here ∙ parts .2) (env-grows T root L M z framed′ z grows (p .env)); fits = omega (arith, ap slotEnv here ∙ parts .2, p .env-fits) },
-                  are framed′ grows (slotOf framed′ (suc (depthAt P A))) (byteOf framed′ (suc (depthAt P A))) (ap slotHeld here ∙ parts .3) byte-here,
-                );
-                waiting =
-                    waits-kept T 0 root L (Held T root L M z) (Back T root L M z) D (Held T root L framed′ z) (Back T root L framed′ z) D (P .skel) (base A)
-                    (λ i l u x. held-kept T root L M z framed′ z grows i (elsewhere i l) u x) (λ i l. refl) (p .waits);
-              },
-              chain-kept T 0 root L (Held T root L M z) (Back T root L M z) D (Held T root L framed′ z) (Back T root L framed′ z) D A
-                  (same-to T root L M z framed′ z grows (base A) D D (λ i l. elsewhere i (omega arith)) (λ i l. byte-elsewhere i (omega arith)) (λ i l. refl)) (p .chain),
-            )
-
-        operand : Located T 0 root L y [] (domAt P)
-        operand = l-listed (p .located) node listed
-
-        begins : (t : ℕ) → t ≡ T .entry y → Then (withMemory framed′ (setPc t (setRoom (r .room - (depthOf w + 1)) r)) S)
-        begins t e =
-            let points = entry-points T 0 root L y [] (domAt P) a operand in
-            let low : T .entry y < termCount = says .few (T .entry y) (instruction-of T root L points) in
-            after-now {C = begin (T .term y) (body (P .env) (domAt P)) A′ D}
-            (record {
-              common = record { budget = p .common .budget; running = p .common .running; store = stored; used = p .common .used };
-              good =
-                  record {
-                    runs = begin-leads G e₀ Ω s (T .term y) (body (P .env) (domAt P)) A′ D a .reached k reach;
-                    dom = refl;
-                    bound = entry-bound G e₀ Ω k s (P .env) (T .term y) [] F′ a tt reach;
-                    fine = (p .stood, p .fine);
-                  };
-              target = to (T .entry y);
-              pc = e;
-              points = points;
-              env = env-grows T root L M z framed′ z grows (p .env);
-              env-fits = p .env-fits;
-              room = omega (arith, place, within, p .room);
-              ready = entry-ready (IsVal T root L framed′ z) (r .hand) CVal.unit _ _ (T .term y) [] a;
-              waits = entry-has T 0 root L (Held T root L framed′ z) D (base A′) (T .term y) [] tt;
-              chain = chain;
-              kept = kept-grows T root L grows (λ i. word-other M (slotIn (r .room) (depthOf w + 1)) word (keptBase + i) (λ e. omega (arith, index))) (p .kept);
-            })
-            (omega (arith, ap (λ (i : Bool). choose i (fullRoom + 2) (r .room - (depthOf w + 1) + 1)) (ne-eqb t code.home (λ i. omega (arith, low)))))
-
       pub operand-now : Then (beginOperand C m y v byte S)
-      operand-now = try (leb (r .room) (depthOf w + 1)) refl
-        where
-          try : (u : Bool) → leb (r .room) (depthOf w + 1) ≡ u
-              → Then
-              (choose u (withRegs (halt Outcome.Frames r) S) (withMemory (putMatch (r .room) (depthOf w + 1) m (r .env) v byte M) (setPc (entryFrom termCount C y) (setRoom (r .room - (depthOf w + 1)) r)) S))
-          try true q = none-left (leb-true (r .room) (depthOf w + 1) q)
-          try false q = begins (leb-false (r .room) (depthOf w + 1) q) (entryFrom termCount C y) (entry-from T root L C says y (says .few y a) a)
+      operand-now =
+          operand-begins T root L G e₀ Ω N B C says S k s m P A D p pc b bounded (matchM pat f g) (x₀ ∷ cuts) node o vs es y a listed reach (v / 268435456) byte
+          (λ M′ grown i is held same. (is, are M′ grown (slotOf M′ i) (byteOf M′ i) held same)) (entryFrom termCount C y) (entry-from T root L C says y (says .few y a) a)
 
     -- The stack's word v stands for k₀.
     module _ (v : ℕ) (k₀ : CVal) (iv : IsVal T root L M z v k₀) where

@@ -13,8 +13,8 @@ use Rattle.calculus.specs.State.{Advice, addUses, someBindings, adviceBindings}
 use Rattle.calculus.specs.Compose.{member, matching}
 use Rattle.closure_machine.specs.Closure.{CVal, Env, link, Body}
 use Rattle.vm_theory.specs.Table.{Table, Linked}
-use Rattle.vm_machine.specs.declared.Pool.{Pool}
-use Rattle.vm_machine.specs.Pools.{isMainline, whole, charge}
+use Rattle.vm_pools.specs.declared.Pool.{Pool}
+use Rattle.vm_pools.specs.Pools.{isMainline, whole, charge}
 use Rattle.vm_machine.specs.Memory.{Memory, bindingPlaces, noBinding, slotBase, installedBase, binding, boundTarget, boundLink, bindingAt, putBinding, pieceFirst, pieceSecond, adviceTarget, adviceEnv, adviceDom, hasBit, installedAt}
 use Rattle.vm_machine.specs.Reduce.{Bound, bindOne, bindMatching}
 use Rattle.vm_refine.proofs.Pools.{atHalf, one-charged, whole-charged}

@@ -13,9 +13,9 @@ use Rattle.calculus.specs.State.{Advice, Counts, Uses, noCounts, addUses, someB
 use Rattle.calculus.specs.Answer.{if-room, spend}
 use Rattle.closure_machine.specs.Closure.{Body, CState}
 use Rattle.closure_machine.specs.Machine.{CAnswer}
-use Rattle.vm_machine.specs.declared.Pool.{Pool}
-use Rattle.vm_machine.specs.declared.Pools.{Pools}
-use Rattle.vm_machine.specs.Pools.{isMainline, whole, charge, setBindings, chargeBindings, chargeCells, chargePieces, hasRoom, bindingsOut, cellsOut, piecesOut}
+use Rattle.vm_pools.specs.declared.Pool.{Pool}
+use Rattle.vm_pools.specs.declared.Pools.{Pools}
+use Rattle.vm_pools.specs.Pools.{isMainline, whole, charge, setBindings, chargeBindings, chargeCells, chargePieces, hasRoom, bindingsOut, cellsOut, piecesOut}
 use Rattle.vm_machine.specs.Fits.{PoolFits}
 
 -- Two tests that agree.

@@ -24,7 +24,8 @@ use Rattle.vm_code.specs.Words.{fieldB, methodTarget, listOffset, termCount}
 use Rattle.vm_code.specs.Says.{Says, says-object, SaysBodies, bodies-here, bodies-listed, SaysTarget, SaysCode}
 use Rattle.vm_machine.specs.declared.Regs.{Regs}
 use Rattle.vm_machine.specs.Registers.{setPools, stepped}
-use Rattle.vm_machine.specs.Pools.{halfOf, whole, chargeBindings}
+use Rattle.vm_pools.specs.Pools.{whole, chargeBindings}
+use Rattle.vm_machine.specs.Halves.{halfOf}
 use Rattle.vm_machine.specs.Memory.{Memory, keptBase, binding, boundTarget, boundLink, noBinding, bindingAt, putBinding, closureEnv, pieceFirst, pieceSecond, pieceOf, cellBase}
 use Rattle.vm_machine.specs.States.{State, ifLeft}
 use Rattle.vm_machine.specs.Fetch.{Program, codeAt, called}

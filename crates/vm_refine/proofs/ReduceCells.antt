@@ -23,7 +23,8 @@ use Rattle.vm_code.specs.PassUp as passes
 use Rattle.vm_code.specs.Says.{SaysCode}
 use Rattle.vm_machine.specs.declared.Regs.{Regs}
 use Rattle.vm_machine.specs.Registers.{setPools, stepped}
-use Rattle.vm_machine.specs.Pools.{halfOf, whole, chargeCells}
+use Rattle.vm_pools.specs.Pools.{whole, chargeCells}
+use Rattle.vm_machine.specs.Halves.{halfOf}
 use Rattle.vm_machine.specs.Memory.{Memory, keptBase, putWord, above, cellAt, cellNote}
 use Rattle.vm_machine.specs.States.{State, ifLeft, completed}
 use Rattle.vm_machine.specs.Fetch.{Program, codeAt}

@@ -20,7 +20,8 @@ use Rattle.vm_code.specs.Words.{fieldB, fieldC}
 use Rattle.vm_code.specs.Says.{SaysCode}
 use Rattle.vm_machine.specs.declared.Regs.{Regs}
 use Rattle.vm_machine.specs.Registers.{setPools, stepped}
-use Rattle.vm_machine.specs.Pools.{halfOf, whole, chargePieces}
+use Rattle.vm_pools.specs.Pools.{whole, chargePieces}
+use Rattle.vm_machine.specs.Halves.{halfOf}
 use Rattle.vm_machine.specs.Memory.{Memory, keptBase, putWord, pieceFirst, pieceSecond, putPiece, pieceOf, labelSet, adviceWord, adviceTarget, adviceEnv, adviceDom, cellBase}
 use Rattle.vm_machine.specs.States.{State, ifLeft, completed}
 use Rattle.vm_machine.specs.Fetch.{Program, codeAt}

@@ -16,7 +16,8 @@ use Rattle.vm_code.specs.Values.{tagOf, bodyOf, value, bottomValue, keptValue}
 use Rattle.vm_code.specs.Says.{SaysCode}
 use Rattle.vm_machine.specs.declared.Regs.{Regs}
 use Rattle.vm_machine.specs.Registers.{setPools, stepped}
-use Rattle.vm_machine.specs.Pools.{halfOf, whole, chargePieces}
+use Rattle.vm_pools.specs.Pools.{whole, chargePieces}
+use Rattle.vm_machine.specs.Halves.{halfOf}
 use Rattle.vm_machine.specs.Memory.{Memory, pieceBase, cellBase, keptBase, keptAt, entryLabel, putWord, putPiece, pieceFirst, pieceSecond}
 use Rattle.vm_machine.specs.States.{State, withMemory, ifLeft, completed}
 use Rattle.vm_machine.specs.Fetch.{Program, codeAt}

@@ -29,7 +29,8 @@ use Rattle.vm_code.specs.Words as code
 use Rattle.vm_code.specs.Says.{SaysCode}
 use Rattle.vm_machine.specs.declared.Regs.{Regs}
 use Rattle.vm_machine.specs.Registers.{headroom, fullRoom, haltWith, stepped, halt as halting}
-use Rattle.vm_machine.specs.Pools.{isMainline, halfOf, whole, chargeBindings, chargeCells, chargePieces, hasRoom, bindingsOut, cellsOut, piecesOut}
+use Rattle.vm_pools.specs.Pools.{isMainline, whole, chargeBindings, chargeCells, chargePieces, hasRoom, bindingsOut, cellsOut, piecesOut}
+use Rattle.vm_machine.specs.Halves.{halfOf}
 use Rattle.vm_machine.specs.Memory.{Memory, bindingPlaces}
 use Rattle.vm_machine.specs.States.{State, withRegs, withMemory, judged, ifLeft, ifRoom}
 use Rattle.vm_machine.specs.Fetch.{Program, codeAt}

@@ -31,7 +31,7 @@ use Rattle.vm_machine.specs.Memory.{Memory, noBinding}
 use Rattle.vm_machine.specs.States.{State}
 use Rattle.vm_machine.specs.Fetch.{Program, codeAt, atomValue}
 use Rattle.vm_machine.specs.Turn.{turn}
-use Rattle.vm_machine.specs.Pools.{noneUsed}
+use Rattle.vm_pools.specs.Pools.{noneUsed}
 use Rattle.vm_machine.specs.Run.{startRegs, startState, hasHalted, turns, turnsFor, runFrom, vmRun}
 use Rattle.vm_machine.specs.Fits.{Fits, Safe}
 use Rattle.vm_refine.proofs.Pools.{IsPool, Used}

@@ -17,7 +17,7 @@ use Rattle.vm_theory.specs.Conf.{Site, Chain, Slots, Conf}
 use Rattle.vm_theory.specs.Stands.{stackAt}
 use Rattle.vm_theory.specs.Table.{Node, manyN, pcdM, matchM, Table, Target, termOf, termsOf, instrOf, isAtomAt, Linked}
 use Rattle.vm_theory.proofs.Sound.{Sound}
-use Rattle.vm_theory.proofs.Located.{Located, Points, p-home, p-to}
+use Rattle.vm_theory.proofs.Located.{Located, Points, p-home, p-to, node-term}
 use Rattle.vm_code.specs.Words.{classOf, countOf, offsetOf, branchPlace, otherPlace, entryPlace, termCount}
 use Rattle.vm_code.specs.Words as code
 use Rattle.vm_code.specs.Classes.{pointcut, match, classWith, pointcutClass, matchClass}
@@ -54,7 +54,7 @@ module _ (T : Table) (root : ℕ) (L : Linked T 0 root) (G : Given) (e₀ : Tm) 
     At i = Now T root L G e₀ Ω N B S k s (record { instr = i; hand = hv; site = P; chain = A; slots = D })
 
     atom-not : (n : Node) → T .node m ≡ n → isAtom (termOf T n) ≡ true → Then (turn C (G .frame) S)
-    atom-not n q a = absurd (true≢false (sym a ∙ sym (ap isAtom (L .coded m ∙ ap (termOf T) q)) ∙ no-atom))
+    atom-not n q a = absurd (true≢false (sym a ∙ sym (ap isAtom (node-term T 0 root L q)) ∙ no-atom))
 
     -- A pointcut is begun.
     pointcut-turn : (xs : List ℕ) → T .node m ≡ manyN pcdM xs → classOf w ≡ pointcutClass → countOf w ≡ length xs → length xs ≤ 8 → ((i : ℕ) → i < length xs → childAt C w i ≡ getD xs i 0)

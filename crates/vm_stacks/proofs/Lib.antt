@@ -1,6 +1,3 @@
--- Laws that the proofs of this crate's functions cite.
+-- Laws of stacks and keeps, and the proofs of the functions.
 pub mod Stacked
 pub mod Keeping
-pub mod Looking
-pub mod Binding
-pub mod Matching

@@ -11,10 +11,11 @@ use Rattle.calculus.specs.Limits.{pieceLimit}
 use Rattle.calculus.specs.Report.{outcomeNumber}
 use Rattle.base_bytes.specs.Memory.{memoryLength}
 use Rattle.vm_code.specs.Values.{bottomValue, keptValue}
-use Rattle.vm_machine.specs.declared.Pools.{Pools}
+use Rattle.vm_pools.specs.declared.Pools.{Pools}
 use Rattle.vm_machine.specs.declared.Regs.{Regs}
 use Rattle.vm_machine.specs.Registers.{headroom, setPools, haltWith, halt}
-use Rattle.vm_machine.specs.Pools.{halfOf, whole, chargePieces, hasRoom, piecesOut}
+use Rattle.vm_pools.specs.Pools.{whole, chargePieces, hasRoom, piecesOut}
+use Rattle.vm_machine.specs.Halves.{halfOf}
 use Rattle.vm_machine.specs.Memory.{Memory, keptAt, putPiece}
 use Rattle.vm_machine.specs.States.{State, withMemory}
 use Rattle.vm_machine.specs.Reduce.{given, ifPieces}

@@ -1,3 +1,2 @@
--- Parts of the definitions of stacks, keeps and matches.
+-- Parts of the definitions of stacks and keeps.
 pub mod Parts
-pub mod Operands

@@ -1,26 +1,13 @@
--- Parts of the definitions of stacks, keeps and matches (crate vm_machine, specs/Stacks.antt and specs/Turn.antt).
+-- Parts of the definitions of stacks and keeps (crate vm_machine, specs/Stacks.antt and specs/Turn.antt).
 use Prim.Native.Nat.{ℕ, _+_, _%_}
 use mathlib.Core.Path.{_≡_}
-use mathlib.Core.Bool.{Bool, not, _&&_}
 use mathlib.Core.List.{List}
-use lib.Dec.{eqb, leb}
-use Rattle.calculus.specs.Combinators.{choose}
-use Rattle.image.specs.Bytes.{le16}
 use Rattle.vm_code.specs.Values.{bodyOf}
-use Rattle.vm_code.specs.Words.{depthOf, countOf, branchPlace, otherPlace, termCount}
-use Rattle.vm_code.specs.Classes.{isAtom}
+use Rattle.vm_code.specs.Words.{depthOf}
 use Rattle.vm_machine.specs.declared.Regs.{Regs}
-use Rattle.vm_machine.specs.Registers.{setPools, stepped}
-use Rattle.vm_machine.specs.Pools.{halfOf, whole, chargeBindings}
-use Rattle.vm_machine.specs.Memory.{Memory, pieceSecond, pieceOf, isKept, topEntry, entryLabel, hasBit, putKeep, putKept, heldStack}
-use Rattle.vm_machine.specs.States.{State, withRegs, withMemory, ifLeft}
-use Rattle.vm_machine.specs.Fetch.{Program, codeAt, atomValue, called}
-use Rattle.vm_machine.specs.Reduce.{ifBindings}
-use Rattle.vm_machine.specs.Stacks.{Stacked, Looked, Chained, entryAt, cutTerm, bindsRest, unlooked, pastAny, pastCut, lookedWith, stackToCome, variables, bindInside, bindEntries}
-use Rattle.vm_machine.specs.Turn.{begunAt}
+use Rattle.vm_machine.specs.Memory.{Memory, putKeep, putKept}
+use Rattle.vm_machine.specs.Stacks.{Stacked}
 use Rattle.vm_tables.specs.View.{memoryOf, Holds}
-use Rattle.vm_stacks.specs.declared.Progress.{Progress}
-use Rattle.vm_stacks.specs.declared.Chain.{Chain}
 
 -- A stack in the making in a work area; and the work area w became w′ with the tables of K, v being its stack.
 abbrev pub stackedIn : List ℕ → ℕ → Stacked
@@ -33,53 +20,3 @@ pub record Stacks (K : Stacked) (w w′ : List ℕ) (v : ℕ) : Type 0 where
 -- The tables once the keep with word w has begun, with the value y under the label x.
 abbrev pub keepStarted : ℕ → ℕ → ℕ → Regs → Memory → Memory
 keepStarted w x y r M = putKept (r .kept) y (bodyOf x % 64) (putKeep (r .room) (depthOf w + 1) (r .pc) (r .env) M)
-
--- A match under way, as the machine has it.
-abbrev pub lookedOf : Progress → Looked
-lookedOf k = record { next = k .next; rest = k .rest; fits = k .fits }
-
--- Entry i is a pointcut that is no atom.
-abbrev pub stopsAt : Program → ℕ → ℕ → Bool
-stopsAt C w i = not (eqb (entryAt C w i) 0) && not (isAtom (codeAt C (cutTerm (entryAt C w i))))
-
--- The stack s has an entry, whose label the pointcut v names.
-abbrev pub topFits : Memory → ℕ → ℕ → Bool
-topFits M v s = isKept s && hasBit (pieceSecond M (pieceOf v)) (entryLabel (topEntry M s))
-
--- Past the next entry.
-abbrev pub pastEntry : Program → Memory → ℕ → ℕ → Looked → Looked
-pastEntry C M env w k = let e : ℕ = entryAt C w (k .next) in choose (eqb e 0) (pastAny M k) (pastCut M (atomValue C M env (codeAt C (cutTerm e))) k)
-
--- An operand has the value v: the match whose slot has the word f and the byte beside goes on with k.
-pub record LookedAgain (M : Memory) (v f byte : ℕ) (k : Progress) : Type 0 where
-  pub looked : lookedOf k ≡ choose (leb stackToCome byte) (unlooked v) (pastCut M v (lookedWith M (heldStack f) byte))
-  pub stack : k .stack ≡ choose (leb stackToCome byte) v (heldStack f)
-
--- Bindings in the making in a work area; and the work area w became w′ with the tables of B, as q says.
-abbrev pub chainIn : List ℕ → Chain → Chained
-chainIn w b = record { memory = memoryOf w; count = b .count; env = b .env }
-
-pub record Chains (B : Chained) (w w′ : List ℕ) (q : Chain) : Type 0 where
-  pub memory : Holds (B .memory) w w′
-  pub count : q .count ≡ B .count
-  pub env : q .env ≡ B .env
-
--- The binding of entry i and that of the rest, v being what is left of the stack.
-abbrev pub entryBound : Program → ℕ → ℕ → ℕ → Chained → Chained
-entryBound C w i v B = choose (eqb (entryAt C w i) 0) B (bindInside (topEntry (B .memory) v) B)
-
-abbrev pub restBound : Program → ℕ → ℕ → Chained → Chained
-restBound C w v B = choose (bindsRest C w) (bindInside v B) B
-
--- The two branches of a match with word w and the stack v.
-abbrev pub firstBranch : Program → ℕ → ℕ → State → State
-firstBranch C w v S =
-    let r : Regs = S .regs in
-    let c : ℕ = variables C w (countOf w) 0 in
-    let B : Chained = bindEntries C w (countOf w) 0 v (record { memory = S .memory; count = whole (r .pools .bindings); env = r .env }) in
-    ifBindings w c S
-    (called C w (begunAt C (le16 (C .image) (branchPlace w) % termCount)) (B .env) (withMemory (B .memory) (setPools (chargeBindings (halfOf w) c (r .pools)) (stepped r)) S))
-
-abbrev pub otherBranch : Program → ℕ → State → State
-otherBranch C w S =
-    ifLeft S (called C w (begunAt C (le16 (C .image) (otherPlace w) % termCount)) (S .regs .env) (withRegs (stepped (S .regs)) S))

@@ -1,22 +1,3 @@
-// An inner crate: stacks, keeps and matches (card 6).
-pub mod bindings;
-pub mod entries;
+// An inner crate: stacks and keeps (card 6).
 pub mod keeps;
-pub mod looks;
-pub mod matches;
-pub mod operands;
 pub mod stacks;
-
-// A match under way: its stack, how many entries were looked at, what is behind them in the stack, and whether they all fit.
-pub struct Progress {
-    pub stack: u64,
-    pub next: usize,
-    pub rest: u64,
-    pub fits: bool,
-}
-
-// Bindings that a match makes: how many there are, and the innermost.
-pub struct Chain {
-    pub count: usize,
-    pub env: usize,
-}

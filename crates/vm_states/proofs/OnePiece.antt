@@ -6,10 +6,11 @@ use mathlib.Core.List.{List}
 use Rattle.calculus.specs.Limits.{pieceLimit}
 use Rattle.calculus.specs.Report.{outcomeNumber}
 use Rattle.vm_code.specs.Values.{value}
-use Rattle.vm_machine.specs.declared.Pools.{Pools}
+use Rattle.vm_pools.specs.declared.Pools.{Pools}
 use Rattle.vm_machine.specs.declared.Regs.{Regs}
 use Rattle.vm_machine.specs.Registers.{headroom, setPools, haltWith}
-use Rattle.vm_machine.specs.Pools.{halfOf, whole, chargePieces, hasRoom, piecesOut}
+use Rattle.vm_pools.specs.Pools.{whole, chargePieces, hasRoom, piecesOut}
+use Rattle.vm_machine.specs.Halves.{halfOf}
 use Rattle.vm_machine.specs.Memory.{putPiece}
 use Rattle.vm_machine.specs.Reduce.{given, newPiece}
 use Rattle.vm_tables.specs.View.{memoryOf, Holds}

@@ -2,9 +2,10 @@
 ghost use mathlib.Core.Path.{_≡_};
 ghost use Prim.Native.Nat.{_+_, _≤_};
 ghost use Rattle.calculus.specs.Report.{outcomeNumber};
-ghost use Rattle.vm_machine.specs.Pools.{halfOf, whole, poolBound, hasRoom, bindingsOut, cellsOut, piecesOut};
+ghost use Rattle.vm_pools.specs.Pools.{whole, poolBound, hasRoom, bindingsOut, cellsOut, piecesOut};
+ghost use Rattle.vm_machine.specs.Halves.{halfOf};
 use crate::outcomes;
-use vm_machine::Pool;
+use vm_pools::Pool;
 use vm_words::code::domain_of;
 
 // The mainline's domain.

@@ -244,3 +244,10 @@ no-child (own r) v h = refl
 no-child (a-term b) v h = no-path h
 no-child an-entry zero h = refl
 no-child an-entry (suc v) h = let z : ltb 0 (suc v) ≡ true = of-lt {m = 0} {n = suc v} (omega arith) in no-path (sym z ∙ h)
+
+-- A known field stands inside the image.
+pub known-inside : {b : List ℕ} {o : ℕ} → Known b o → (i : ℕ) → i < knownCount b o → o + 4 + 2 * i + 1 < length b
+known-inside K i l =
+    let s = K .stands .size in
+    let n = K .stands .inside in
+    omega arith

@@ -13,18 +13,14 @@ use Rattle.verdict.specs.declared.Verdict.{Verdict}
 use Rattle.verdict.specs.Verdicts.{verdict}
 use Rattle.verdict.proofs.Passed.{passed-iff}
 use Rattle.validator.specs.Examined.{examined}
-use Rattle.validator.proofs.Parts.{too-long, examined-refuses, all-enough}
+use Rattle.validator.proofs.Parts.{too-long, examined-refuses, accepted}
 use Rattle.base_bytes.specs.Bytes.{over}
 use Rattle.image_written.specs.Written.{fixed}
 use Rattle.image_written.proofs.Sizes.{few-terms}
 use Rattle.image_written.proofs.Fixed.{fixed-short}
 use Rattle.write_image.specs.Fits.{Fits}
 use Rattle.write_fixed.specs.declared.Written.{Written}
-use Rattle.write_fixed.specs.Calls.{Left, afterCheck, fixedCall}
-
--- The image is accepted where work area and report are long enough.
-pub accepted : (b : List ℕ) → length b ≤ imageLimit → examined b ≡ Verdict.Accepted → verdict b workLength reportLength ≡ Verdict.Accepted
-accepted b short ok = sym (all-enough b workLength reportLength short Verdict.Accepted (sym ok) refl (omega arith) (omega arith))
+use Rattle.write_fixed.specs.Calls.{afterCheck, fixedCall}
 
 -- Its fixed form fits where the image does.
 pub accepted-fits : (b : List ℕ) (n : ℕ) → length b ≤ imageLimit → examined b ≡ Verdict.Accepted → length b ≤ n → Fits b n

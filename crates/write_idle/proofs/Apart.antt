@@ -3,7 +3,7 @@ use Prim.Native.Nat.{ℕ, zero, suc, _+_, _*_, _≤_, _<_}
 use native.Mathlib.Omega.{arith}
 use mathlib.Core.Path.{_≡_, refl, sym, ap, subst, _∙_}
 use mathlib.Core.Bool.{Bool, true, false}
-use mathlib.Core.List.{List, [], _∷_, _++_}
+use mathlib.Core.List.{List, [], _∷_}
 use lib.ListN.{length, getD}
 use lib.Dec.{ltb}
 use Rattle.image.specs.Bytes.{le16, words, lengthAt, numberAt}
@@ -11,18 +11,7 @@ use Rattle.image.specs.Kinds.{free, Row, fieldsOf}
 use Rattle.image.specs.Records.{times, knownLength, fieldsAt, numbersAt}
 use Rattle.image.specs.LaidOut.{EndToEnd, Stands, Within, IsRecord}
 use Rattle.laws.proofs.Booleans.{lt-of, ge-of}
-
-behind : (b : List ℕ) (o : ℕ) (ps : List ℕ) → EndToEnd b o ps → (i : ℕ) → i < length ps → o ≤ getD ps i 0
-behind b o [] e i h = absurd (omega arith)
-behind b o (p ∷ ps) e zero h = let q = e .0 in omega arith
-behind b o (p ∷ ps) e (suc i) h = let r = behind b (o + lengthAt b o) ps (e .1) i (omega arith) in omega arith
-
-ends-before : (b : List ℕ) (o : ℕ) (ps : List ℕ) → EndToEnd b o ps → (i j : ℕ) → i < j → j < length ps → getD ps i 0 + lengthAt b (getD ps i 0) ≤ getD ps j 0
-ends-before b o [] e i j l h = absurd (omega arith)
-ends-before b o (p ∷ ps) e zero zero l h = absurd (omega arith)
-ends-before b o (p ∷ ps) e zero (suc j) l h = subst (λ q. q + lengthAt b q ≤ getD ps j 0) (sym (e .0)) (behind b (o + lengthAt b o) ps (e .1) j (omega arith))
-ends-before b o (p ∷ ps) e (suc i) zero l h = absurd (omega arith)
-ends-before b o (p ∷ ps) e (suc i) (suc j) l h = ends-before b (o + lengthAt b o) ps (e .1) i j (omega arith) (omega arith)
+use Rattle.image.proofs.EndToEnd.{ends-before}
 
 -- A byte is in one record only.
 abbrev pub Inside : List ℕ → ℕ → ℕ → Type 0

@@ -3,7 +3,7 @@ use Prim.Native.Nat.{ℕ, zero, suc, _+_, _-_, _*_, _≤_, _<_}
 use native.Mathlib.Omega.{arith}
 use mathlib.Core.Path.{_≡_, refl, sym, ap, subst, _∙_}
 use mathlib.Core.Bool.{Bool, true, false, _&&_}
-use mathlib.Core.List.{List, [], _∷_, _++_}
+use mathlib.Core.List.{List, _++_}
 use lib.ListN.{length, getD, length-append, List·getD-append}
 use lib.Seq.{getD-append-add}
 use lib.Dec.{eqb, ltb}
@@ -12,8 +12,8 @@ use Rattle.laws.specs.Tests.{anyBelow}
 use Rattle.laws.proofs.Booleans.{no-path, and-l, and-r, and-i, lt-of, ge-of, eq-of, of-eq}
 use Rattle.laws.proofs.Tests.{none-below}
 use Rattle.image.specs.Bytes.{le16, words, lengthAt, numberAt, fieldAt}
-use Rattle.image.specs.Kinds.{free, TermKind, Kind, domain, type, term, Row, domainRow, typeRow, termRow, find, kindOf}
-use Rattle.image.specs.Records.{Layout, orElse, kindAt, fieldsAt, numbersAt}
+use Rattle.image.specs.Kinds.{free, TermKind, domain, Row, domainRow, typeRow, termRow, find, kindOf}
+use Rattle.image.specs.Records.{Layout, orElse, fieldsAt, numbersAt}
 use Rattle.image.specs.Layout.{laid, layout}
 use Rattle.image.specs.Types.{typeKindOf, termKindOf, domainPlace, typePlace, termPlace, typeKind, typeFields, termKind, typeNo}
 use Rattle.image.specs.LaidOut.{Stands, Within, IsRecord, LaidOut}
@@ -22,7 +22,7 @@ use Rattle.image.proofs.Offsets.{number-at}
 use Rattle.image.proofs.Laid.{Good, layout-good, type-there}
 use Rattle.image.proofs.LaidOut.{laid-iff}
 use Rattle.write_idle.specs.Idle.{lowWatch, bodyAt, kindByte, Idled}
-use Rattle.write_idle.proofs.Apart.{Inside, one-record, Same, le16-same, words-same, ends-same, stands-same, fields-same, record-same}
+use Rattle.write_idle.proofs.Apart.{Inside, one-record, le16-same, words-same, ends-same, stands-same, fields-same, record-same}
 use Rattle.write_idle.proofs.Watches.{body-below}
 
 -- A truth that holds somewhere below n.

@@ -8,11 +8,11 @@ use mathlib.Core.Logic.{_≢_}
 use lib.ListN.{length, getD, set, length-set}
 use lib.Seq.{getD-set-same, getD-set-other}
 use lib.Dec.{eqb}
-use borrow.Author.Tests.{eq-eqb, ne-eqb}
+use borrow.Author.Tests.{ne-eqb}
 use Rattle.calculus.specs.Syntax.{Dom}
 use Rattle.calculus.specs.Combinators.{choose}
 use Rattle.calculus.specs.Plain.{domOf}
-use Rattle.image.specs.Bytes.{lengthAt, numberAt, fieldAt}
+use Rattle.image.specs.Bytes.{numberAt, fieldAt}
 use Rattle.image.specs.Kinds.{TermKind, termRow}
 use Rattle.image.specs.Records.{Layout, othersAt}
 use Rattle.image.specs.Layout.{recordsOf}

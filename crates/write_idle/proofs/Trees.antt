@@ -1,21 +1,20 @@
 -- The program of the copy is the image's without its watches, and its domains are the image's.
-use Prim.Native.Nat.{ℕ, zero, suc, _+_, _-_, _<_}
+use Prim.Native.Nat.{ℕ, zero, suc, _-_, _<_}
 use native.Mathlib.Omega.{arith}
-use mathlib.Core.Path.{_≡_, refl, sym, ap, subst, _∙_}
+use mathlib.Core.Path.{_≡_, refl, sym, ap, _∙_}
 use mathlib.Core.Bool.{Bool, true, false}
 use mathlib.Core.List.{List, [], _∷_, map}
 use lib.ListN.{length, getD}
 use Rattle.calculus.specs.Syntax.{Dom}
 use Rattle.calculus.specs.Combinators.{choose}
-use Rattle.image.specs.Bytes.{words, lengthAt, fieldAt}
-use Rattle.image.specs.Kinds.{Field, TermKind, termRow, fieldsOf}
+use Rattle.image.specs.Bytes.{words, fieldAt}
+use Rattle.image.specs.Kinds.{Field, termRow, fieldsOf}
 use Rattle.image.specs.Records.{Layout, times, fieldsAt, numbersAt, asChild, asOther, given, childrenAt, othersAt}
 use Rattle.image.specs.Layout.{laid, layout}
-use Rattle.image.specs.Types.{domainPlace, typePlace, termPlace, typeKind, typeFields, typeField, typeOut, typeFrom, typeOf, termKind, typeNo, statedType, others, children, rootOf}
-use Rattle.image.specs.Program.{Program, Programs, node, end, subtrees, tree, program}
+use Rattle.image.specs.Types.{termPlace, typeOf, termKind, typeNo, statedType, others, children, rootOf}
+use Rattle.image.specs.Program.{end, subtrees, tree, program}
 use Rattle.laws.proofs.Booleans.{no-path}
-use Rattle.image.proofs.Words.{words-length}
-use Rattle.image.proofs.TypeNumbers.{out-cong}
+use Rattle.image.proofs.TypeNumbers.{type-same}
 use Rattle.image.proofs.Laid.{below-at}
 use Rattle.verdict.specs.Shape.{usedOnce}
 use Rattle.verdict.specs.Domains.{masks}
@@ -35,22 +34,9 @@ module _ (L : Layout) (walked : layout (L .image) ≡ laid L) (high : Dom → Bo
   pub masks-same : masks M ≡ masks L
   masks-same = map-same (λ o. fieldAt c o 0) (λ o. fieldAt (L .image) o 0) (L .domains) (λ d h. mask-same L walked high c I d h)
 
-  from-same : (f t : ℕ) → t < length (L .types) → typeFrom M f t ≡ typeFrom L f t
-  unfolding typeFrom
-  from-same zero t h = refl
-  from-same (suc f) t h =
-      ap (λ k. typeOut k (typeFields M t) (λ a. typeFrom M f a)) (type-kind-same L walked high c I t h)
-      ∙ (ap (λ vs. typeOut (typeKind L t) vs (λ a. typeFrom M f a)) (type-fields-same L walked high c I t h)
-      ∙ out-cong (typeKind L t) (lengthAt (L .image) (typePlace L t)) (typeFields L t) (λ a. typeFrom M f a) (λ a. typeFrom L f a) (words-length (L .image) _ _)
-      (λ i e. let z = good L walked high c I .types t h .lower i e in from-same f (typeField L t i) (omega arith)))
-
-  type-same : (t : ℕ) → t < length (L .types) → typeOf M t ≡ typeOf L t
-  unfolding typeOf
-  type-same t h = from-same (suc t) t h
-
   module _ (n : ℕ) (h : n < length (L .terms)) where
     stated-same : statedType M n ≡ statedType L n
-    stated-same = ap (λ t. typeOf M t) (type-no-same L walked high c I n h) ∙ type-same (typeNo L n) (good L walked high c I .terms n h .typed)
+    stated-same = ap (λ t. typeOf M t) (type-no-same L walked high c I n h) ∙ type-same L M (good L walked high c I) (type-kind-same L walked high c I) (type-fields-same L walked high c I) (typeNo L n) (good L walked high c I .terms n h .typed)
 
     given-stays : cut L walked high c I n ≡ false → (of : Field → ℕ → List ℕ)
         → given of (fieldsAt c (termPlace L n) (termRow (termKind M n))) (numbersAt c (termPlace L n) (termRow (termKind M n)))

@@ -1,7 +1,7 @@
 -- The sections of the fixed form of an image that is laid out, written one behind the other.
 use Prim.Native.Nat.{ℕ, _+_, _-_, _≤_, _<_}
 use native.Mathlib.Omega.{arith}
-use mathlib.Core.Path.{_≡_, refl, sym, ap, subst, _∙_}
+use mathlib.Core.Path.{_≡_, sym, ap, subst, _∙_}
 use mathlib.Core.List.{List, [], _++_, map, append-assoc}
 use lib.ListN.{length, getD, take, replicate, length-append, length-map, length-replicate, getD-replicate}
 use lib.Seq.{getD-take, length-take-le, ext-getD}
@@ -10,7 +10,7 @@ use Rattle.image.specs.Bytes.{fieldAt}
 use Rattle.image.specs.Limits.{typeLimit, termLimit}
 use Rattle.image.specs.Records.{Layout}
 use Rattle.image.specs.Layout.{laid, layout, recordsOf}
-use Rattle.image.specs.Types.{rootOf, typeOf}
+use Rattle.image.specs.Types.{rootOf}
 use Rattle.image.specs.Program.{program}
 use Rattle.image.proofs.Laid.{Good, layout-good}
 use Rattle.verdict.specs.Domains.{masks}
@@ -28,7 +28,6 @@ use Rattle.image_written.proofs.Sums.{weight}
 use Rattle.image_written.proofs.Sizes.{termSize, terms-size}
 use Rattle.image_written.proofs.Fronts.{treeAt, program-at}
 use Rattle.write_types.specs.Entries.{noPlace, Entries, entriesOf, Placed}
-use Rattle.write_types.proofs.Entering.{entries-placed}
 use Rattle.write_sections.specs.Sections.{domainBytes, typeBytes}
 use Rattle.write_program.specs.declared.Done.{Done}
 use Rattle.write_program.specs.Writing.{Room, Wrote}

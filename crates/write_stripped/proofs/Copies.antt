@@ -1,38 +1,31 @@
 -- The copy of an accepted image can be written, and what is written is the image without its watches.
-use Prim.Native.Nat.{ℕ, _≤_, _<_}
+use Prim.Native.Nat.{ℕ, _≤_}
 use native.Mathlib.Omega.{arith}
-use mathlib.Core.Path.{_≡_, refl, sym, ap, subst, _∙_}
+use mathlib.Core.Path.{_≡_, sym, ap, subst, _∙_}
 use mathlib.Core.Bool.{Bool}
 use mathlib.Core.List.{List}
 use lib.ListN.{length, take}
 use Rattle.calculus.specs.Syntax.{Dom}
-use Rattle.image.specs.Limits.{imageLimit, termLimit, workLength, reportLength}
+use Rattle.image.specs.Limits.{workLength, reportLength}
 use Rattle.image.specs.Records.{Layout}
 use Rattle.image.specs.Layout.{laid, layout, recordsOf}
 use Rattle.image.specs.Program.{program}
-use Rattle.image.proofs.Laid.{Good, layout-good, image-kept, records-of}
+use Rattle.image.proofs.Laid.{layout-good, image-kept, records-of}
 use Rattle.verdict.specs.declared.Verdict.{Verdict}
 use Rattle.verdict.specs.Domains.{masks}
 use Rattle.verdict.specs.Verdicts.{verdict}
 use Rattle.verdict.proofs.Passed.{Passed, passed-iff}
 use Rattle.check_records.specs.declared.numbers.Counts.{Counts}
-use Rattle.check_records.specs.Tables.{Tables, Counted}
+use Rattle.check_records.specs.Tables.{Counted}
 use Rattle.check_rules.specs.Lent.{Domains, Terms, TypeOffsets}
-use Rattle.validator.specs.Examined.{examined}
-use Rattle.validator.proofs.Parts.{all-enough}
 use Rattle.image_written.specs.Written.{terms, written, fixed}
 use Rattle.image_written.specs.Stripped.{stripped, withoutWatches}
-use Rattle.image_written.proofs.Accepted.{Holds}
 use Rattle.image_written.proofs.Sizes.{few-terms}
 use Rattle.image_written.proofs.Stripping.{stripped-holds, stripped-short}
 use Rattle.write_image.specs.Fits.{Fits}
 use Rattle.write_idle.specs.Idle.{Idled}
 use Rattle.write_idle.proofs.Copied.{copied, copied-laid}
 use Rattle.write_idle.proofs.Trees.{masks-same, program-stripped}
-
--- The image is accepted where work area and report are long enough.
-pub accepted : (b : List ℕ) → length b ≤ imageLimit → examined b ≡ Verdict.Accepted → verdict b workLength reportLength ≡ Verdict.Accepted
-accepted b short ok = sym (all-enough b workLength reportLength short Verdict.Accepted (sym ok) refl (omega arith) (omega arith))
 
 module _ (b : List ℕ) (ok : verdict b workLength reportLength ≡ Verdict.Accepted) (high : Dom → Bool) (c : List ℕ) (I : Idled (recordsOf b) high (length (recordsOf b .terms)) b c) where
   abbrev L : Layout

@@ -11,13 +11,12 @@ use Rattle.image.specs.Layout.{recordsOf}
 use Rattle.verdict.specs.declared.Verdict.{Verdict}
 use Rattle.verdict.specs.Verdicts.{verdict}
 use Rattle.validator.specs.Examined.{examined}
-use Rattle.validator.proofs.Parts.{too-long, examined-refuses}
+use Rattle.validator.proofs.Parts.{too-long, examined-refuses, accepted}
 use Rattle.base_bytes.specs.Bytes.{over}
 use Rattle.image_written.specs.Stripped.{withoutWatches}
 use Rattle.write_idle.specs.Idle.{inMask}
 use Rattle.write_stripped.specs.declared.Stripped.{Stripped}
-use Rattle.write_stripped.specs.Calls.{wrongSet, Left, afterCheck, strippedCall}
-use Rattle.write_stripped.proofs.Copies.{accepted}
+use Rattle.write_stripped.specs.Calls.{wrongSet, afterCheck, strippedCall}
 
 module _ (b : List ℕ) (mask : ℕ) (out : List ℕ) where
   refused : (r : Refusal) (place : ℕ) → Verdict.Refused r place ≡ verdict b workLength reportLength → record { answer = Stripped.Refused r place; out = out } ≡ strippedCall b mask out

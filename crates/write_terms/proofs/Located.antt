@@ -1,5 +1,5 @@
 -- What stands in the image at the offsets of a table of terms, field by field.
-use Prim.Native.Nat.{ℕ, zero, suc, _+_, _*_, _≤_, _<_}
+use Prim.Native.Nat.{ℕ, zero, suc, _+_, _≤_, _<_}
 use native.Mathlib.Omega.{arith}
 use mathlib.Core.Path.{_≡_, sym, ap, subst, _∙_}
 use mathlib.Core.Bool.{true, false}
@@ -61,12 +61,6 @@ module _ {b table : List ℕ} (T : Terms b table) {n : ℕ} (h : IsTerm b n) whe
 
   pub count-is : knownCount b o ≡ length (sortsAt (recordsOf b) n)
   count-is = ap length sorts-are
-
-  pub inside : (i : ℕ) → i < knownCount b o → o + 4 + 2 * i + 1 < length b
-  inside i l =
-      let s = known .stands .size in
-      let n = known .stands .inside in
-      omega arith
 
   pub field-is : (i : ℕ) → i < knownCount b o → fieldAt b o i ≡ getD (numbersOf (recordsOf b) n) i 0
   field-is i l =

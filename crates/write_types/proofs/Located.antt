@@ -1,5 +1,5 @@
 -- What stands in the image at the offsets of a table of types.
-use Prim.Native.Nat.{ℕ, zero, suc, _+_, _*_, _≤_, _<_}
+use Prim.Native.Nat.{ℕ, zero, suc, _+_, _≤_, _<_}
 use native.Mathlib.Omega.{arith}
 use mathlib.Core.Path.{_≡_, refl, sym, ap, subst, _∙_}
 use mathlib.Core.List.{List, [], _∷_, _++_, append-assoc, append-nil}
@@ -54,12 +54,6 @@ module _ {b table : List ℕ} (O : TypeOffsets b table) {t : ℕ} (h : IsType b 
 
   pub count-is : knownCount b o ≡ length (sorts (recordsOf b) good t)
   count-is = ap length sorts-are
-
-  pub inside : (i : ℕ) → i < knownCount b o → o + 4 + 2 * i + 1 < length b
-  inside i l =
-      let s = known .stands .size in
-      let n = known .stands .inside in
-      omega arith
 
   pub field-is : (i : ℕ) → i < knownCount b o → fieldAt b o i ≡ typeField (recordsOf b) t i
   field-is i l =

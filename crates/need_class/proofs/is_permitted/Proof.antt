@@ -1,11 +1,11 @@
 use borrow.Author.Needs.{needs}
-use mathlib.Core.Path.{refl, sym, ap, _∙_}
+use mathlib.Core.Path.{sym, ap, _∙_}
 use mathlib.Core.Bool.{_&&_}
 use lib.Dec.{eqb}
 use Rattle.image.specs.Kinds.{TermKind}
 use Rattle.image.proofs.KindNumbers.{same-term-kind}
 use Rattle.image_needs.specs.Faults.{permits}
-use Rattle.need_class.proofs.Lowest.{advice-number, free-kind}
+use Rattle.need_class.proofs.Lowest.{free-kind}
 use Rattle.need_class.proofs.is_permitted.Statement.{statement}
 use Rattle.need_class.proofs.is_permitted.Tie as tie
 use Rattle.need_class.proofs.is_permitted.Reads as reads
@@ -30,7 +30,7 @@ returns-3 c = λ k j e e′. ap (λ x. permits (c .before .args .outside) x j) (
 
 -- src/lib.rt:20:1
 returns-4 : tie.Need-returns-4
-returns-4 c = λ k j e e′. c .both .ensures ∙ (ap (λ x. c .before .before .args .outside && x) (ap (λ x. eqb x 47) e′ ∙ advice-number j) ∙ ap (λ x. permits (c .before .before .args .outside) x j) (same-term-kind TermKind.install k (sym (c .before .match .keys4) ∙ e)))
+returns-4 c = λ k j e e′. c .both .ensures ∙ (ap (λ x. c .before .before .args .outside && x) (ap (λ x. eqb x 47) e′) ∙ ap (λ x. permits (c .before .before .args .outside) x j) (same-term-kind TermKind.install k (sym (c .before .match .keys4) ∙ e)))
 
 -- src/lib.rt:20:1
 returns-5 : tie.Need-returns-5

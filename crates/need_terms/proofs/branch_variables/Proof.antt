@@ -1,18 +1,18 @@
 use borrow.Author.Needs.{needs}
 use Prim.Native.Nat.{_+_, _-_, _≤_}
 use native.Mathlib.Omega.{arith}
-use mathlib.Core.Path.{_≡_, refl, sym, ap, subst, _∙_}
+use mathlib.Core.Path.{_≡_, sym, ap, subst, _∙_}
 use denote.Ref.{now}
 use lib.Dec.{ltb}
 use Rattle.image.specs.Layout.{recordsOf}
-use Rattle.image.specs.Types.{termKind, children, statedType, others}
+use Rattle.image.specs.Types.{termKind, others}
 use Rattle.image.specs.Kinds.{TermKind}
 use Rattle.image.proofs.KindNumbers.{same-term-kind}
 use Rattle.check_records.specs.Heads.{fieldIn}
 use Rattle.check_rules.specs.Fields.{fieldsOf, firstEntry, entryCount}
-use Rattle.check_rules.proofs.Located.{number-is, typed-in, children-in, child-lower, has-child, second-in, entries-in}
+use Rattle.check_rules.proofs.Located.{entries-in}
 use Rattle.need_terms.specs.Parts.{branchVariables, withOne}
-use Rattle.need_terms.proofs.Described.{stated-domain, lower-domain, no-domain, no-variables, of-advice, of-small, of-middle, of-large, match-three, match-few, match-binds, few-with-one}
+use Rattle.need_terms.proofs.Described.{no-variables, match-three, match-few, match-binds, few-with-one}
 use Rattle.need_terms.proofs.branch_variables.Statement.{statement}
 use Rattle.need_terms.proofs.branch_variables.Tie as tie
 use Rattle.need_terms.proofs.branch_variables.Reads as reads

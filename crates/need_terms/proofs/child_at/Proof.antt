@@ -4,9 +4,9 @@ use mathlib.Core.Path.{refl, sym, ap, subst, _∙_}
 use denote.Ref.{now}
 use lib.ListN.{length, getD}
 use Rattle.image.specs.Layout.{recordsOf}
-use Rattle.image.specs.Types.{termKind, children, statedType, others}
-use Rattle.check_rules.specs.Fields.{fieldsOf, childrenIn}
-use Rattle.check_rules.proofs.Located.{number-is, typed-in, children-in, child-lower, has-child, second-in, entries-in}
+use Rattle.image.specs.Types.{termKind}
+use Rattle.check_rules.specs.Fields.{childrenIn}
+use Rattle.check_rules.proofs.Located.{children-in, child-lower, has-child}
 use Rattle.need_terms.proofs.child_at.Statement.{statement}
 use Rattle.need_terms.proofs.child_at.Tie as tie
 use Rattle.need_terms.proofs.child_at.Reads as reads

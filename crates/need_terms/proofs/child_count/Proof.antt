@@ -1,11 +1,11 @@
 use borrow.Author.Needs.{needs}
-use mathlib.Core.Path.{refl, sym, ap, subst, _∙_}
+use mathlib.Core.Path.{refl, ap, _∙_}
 use denote.Ref.{now}
-use lib.ListN.{length, getD}
+use lib.ListN.{length}
 use Rattle.image.specs.Layout.{recordsOf}
-use Rattle.image.specs.Types.{termKind, children, statedType, others}
-use Rattle.check_rules.specs.Fields.{fieldsOf, childrenIn}
-use Rattle.check_rules.proofs.Located.{number-is, typed-in, children-in, child-lower, has-child, second-in, entries-in}
+use Rattle.image.specs.Types.{termKind}
+use Rattle.check_rules.specs.Fields.{childrenIn}
+use Rattle.check_rules.proofs.Located.{typed-in, children-in}
 use Rattle.need_terms.proofs.child_count.Statement.{statement}
 use Rattle.need_terms.proofs.child_count.Tie as tie
 use Rattle.need_terms.proofs.child_count.Reads as reads

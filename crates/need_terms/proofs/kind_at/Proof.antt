@@ -1,6 +1,6 @@
 use borrow.Author.Needs.{needs}
-use mathlib.Core.Path.{refl, sym, ap, subst, _∙_}
-use Rattle.check_rules.proofs.Located.{number-is, typed-in, children-in, child-lower, has-child, second-in, entries-in}
+use mathlib.Core.Path.{_∙_}
+use Rattle.check_rules.proofs.Located.{number-is}
 use Rattle.need_terms.proofs.kind_at.Statement.{statement}
 use Rattle.need_terms.proofs.kind_at.Tie as tie
 use Rattle.need_terms.proofs.kind_at.Reads as reads

@@ -1,14 +1,15 @@
 use borrow.Author.Needs.{needs}
 use native.Mathlib.Omega.{arith}
-use mathlib.Core.Path.{refl, sym, ap, subst, _∙_}
+use mathlib.Core.Path.{refl, sym, ap, _∙_}
 use denote.Ref.{now}
 use Rattle.image.specs.Layout.{recordsOf}
-use Rattle.image.specs.Types.{termKind, children, statedType, others}
+use Rattle.image.specs.Types.{termKind, statedType, others}
 use Rattle.image.specs.Kinds.{TermKind}
 use Rattle.image.proofs.KindNumbers.{same-term-kind}
-use Rattle.check_rules.proofs.Located.{number-is, typed-in, children-in, child-lower, has-child, second-in, entries-in}
-use Rattle.need_terms.specs.Parts.{typeDomain, partDomain}
-use Rattle.need_terms.proofs.Described.{stated-domain, lower-domain, no-domain, no-variables, of-advice, of-small, of-middle, of-large, match-three, match-few, match-binds}
+use Rattle.check_rules.proofs.Located.{typed-in, second-in}
+use Rattle.vm_terms.specs.Noted.{descriptorDomain}
+use Rattle.need_terms.specs.Parts.{partDomain}
+use Rattle.need_terms.proofs.Described.{stated-domain, lower-domain, no-domain}
 use Rattle.need_terms.proofs.part_domain.Statement.{statement}
 use Rattle.need_terms.proofs.part_domain.Tie as tie
 use Rattle.need_terms.proofs.part_domain.Reads as reads
@@ -17,7 +18,7 @@ use Rattle.check_rules.proofs.terms.other_field.Reads as other-field-reads
 use Rattle.check_rules.proofs.terms.own_descriptor.Reads as own-descriptor-reads
 use Rattle.check_rules.proofs.terms.term_fields.Reads as term-fields-reads
 use Rattle.need_terms.proofs.kind_at.Reads as kind-at-reads
-use Rattle.need_terms.proofs.type_domain.Reads as type-domain-reads
+use Rattle.vm_terms.proofs.descriptors.domain_of.Reads as domain-of-reads
 
 -- src/lib.rt:83:9
 kind-at-requires : tie.Need-kind-at-requires
@@ -32,12 +33,16 @@ own-descriptor-requires : tie.Need-own-descriptor-requires
 own-descriptor-requires c κs = let s = c .before .before .before .before .before .before in let y = typed-in (s .pre .0 .terms) (s .pre .1) in let t = y .type in let m = s .pre .0 .types .enough in rw (c .term-fields .ensures) (y .long, omega arith)
 
 -- src/lib.rt:85:9
-type-domain-requires : tie.Need-type-domain-requires
-type-domain-requires c κs = search needs
+domain-of-requires : tie.Need-domain-of-requires
+domain-of-requires c κs = search needs
+
+-- src/lib.rt:85:9
+cast-result : tie.Need-cast-result
+cast-result c = search needs
 
 -- src/lib.rt:85:9
 returns : tie.Need-returns
-returns c = let s = c .before .before .before .before .before .before .before .before in let L = recordsOf (now (s .args .image)) in let e = same-term-kind (termKind (recordsOf (now (s .args .image))) (s .args .n .0)) TermKind.adv (sym (c .before .before .before .before .kind-at .ensures) ∙ c .before .before .before .if1 .taken) in (c .type-domain .ensures ∙ (ap typeDomain (c .before .own-descriptor .ensures) ∙ stated-domain (s .pre .0) (s .pre .1) _ (c .before .before .term-fields .ensures))) ∙ ap (λ k. partDomain k (statedType L (s .args .n .0)) (others L (s .args .n .0))) (sym e)
+returns c = let s = c .before .before .before .before .before .before .before .before in let L = recordsOf (now (s .args .image)) in let e = same-term-kind (termKind (recordsOf (now (s .args .image))) (s .args .n .0)) TermKind.adv (sym (c .before .before .before .before .kind-at .ensures) ∙ c .before .before .before .if1 .taken) in (c .domain-of .ensures .0 ∙ (ap descriptorDomain (c .before .own-descriptor .ensures) ∙ stated-domain (s .pre .0) (s .pre .1) _ (c .before .before .term-fields .ensures))) ∙ ap (λ k. partDomain k (statedType L (s .args .n .0)) (others L (s .args .n .0))) (sym e)
 
 -- src/lib.rt:88:28
 term-fields-requires-2 : tie.Need-term-fields-requires-2
@@ -62,7 +67,8 @@ part-domain-spec =
     kind-at-requires
     term-fields-requires
     own-descriptor-requires
-    type-domain-requires
+    domain-of-requires
+    cast-result
     returns
     term-fields-requires-2
     other-field-requires

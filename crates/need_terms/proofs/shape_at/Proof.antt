@@ -1,7 +1,7 @@
 use borrow.Author.Needs.{needs}
 use denote.Ref.{now}
 use Rattle.image.specs.Layout.{recordsOf}
-use Rattle.image.specs.Types.{termKind, children, statedType, others}
+use Rattle.image.specs.Types.{termKind}
 use Rattle.need_terms.proofs.shape_at.Statement.{statement}
 use Rattle.need_terms.proofs.shape_at.Tie as tie
 use Rattle.need_terms.proofs.shape_at.Reads as reads

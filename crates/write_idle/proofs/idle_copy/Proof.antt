@@ -1,7 +1,7 @@
 use borrow.Author.Needs.{needs}
 use Prim.Native.Nat.{ℕ, _+_, _-_, _≤_, _<_}
 use native.Mathlib.Omega.{arith}
-use mathlib.Core.Path.{_≡_, sym, ap, subst, _∙_}
+use mathlib.Core.Path.{_≡_, sym, subst, _∙_}
 use mathlib.Core.Logic.{⊎-elim}
 use mathlib.Core.Bool.{Bool}
 use mathlib.Core.List.{List}
@@ -9,7 +9,7 @@ use denote.Ref.{now}
 use Rattle.calculus.specs.Syntax.{Dom}
 use Rattle.image.specs.Layout.{recordsOf}
 use Rattle.vm_terms.proofs.Records.{few-terms}
-use Rattle.write_idle.specs.Idle.{inMask, lowWatch, kindByte, Idled}
+use Rattle.write_idle.specs.Idle.{inMask, Idled}
 use Rattle.write_idle.proofs.Reading.{byte-there, idled-none, idled-stays, idled-more}
 use Rattle.write_idle.proofs.idle_copy.Statement.{statement}
 use Rattle.write_idle.proofs.idle_copy.Tie as tie

@@ -14,12 +14,12 @@ use Rattle.image.specs.Types.{termPlace}
 use Rattle.check_records.specs.Codes.{classNumber, codeAt}
 use Rattle.check_rules.specs.Lent.{Terms, IsTerm}
 use Rattle.write_fields.specs.Classes.{Known, knownCount, classIn, asField}
-use Rattle.write_fields.proofs.Told.{class-asks, few-fields}
+use Rattle.write_fields.proofs.Told.{class-asks, few-fields, known-inside}
 use Rattle.image_written.specs.Written.{terms}
 use Rattle.image_written.proofs.Sums.{weight}
 use Rattle.image_written.proofs.Sizes.{termSize}
 use Rattle.image_written.proofs.Fronts.{treeAt, sortsAt, numbersOf}
-use Rattle.write_terms.proofs.Located.{known, count-is, inside, field-is, class-of, child-lower}
+use Rattle.write_terms.proofs.Located.{known, count-is, field-is, class-of, child-lower}
 use Rattle.write_program.specs.Writing.{Room, Wrote}
 use Rattle.write_program.proofs.Begun.{Begun, Come, come-none, begun-none, record-room, come-behind, few-terms, type-number, child-room, child-number, come-child, begun-child, come-same, begun-kept, begun-all}
 use Rattle.write_program.proofs.write_term.Reads as reads
@@ -106,7 +106,7 @@ module _ (t : ℕ) where
       let l : c .before .before .before .loop .i < k .known-fields .result .count = search needs in
       let n = counted k in
       let o = placed k in
-      let i = inside (table k) (is-term k) (c .before .before .before .loop .i) (omega arith) in
+      let i = known-inside (known (table k) (is-term k)) (c .before .before .before .loop .i) (omega arith) in
       omega arith
 
   is-child-requires : lts.Need-is-child-requires (claims t) (write-term-at t) reads.Post Inv-loop μ-loop

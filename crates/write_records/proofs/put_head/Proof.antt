@@ -2,7 +2,6 @@ use borrow.Author.Needs.{needs}
 use Prim.Native.Nat.{_+_, _*_}
 use native.Mathlib.Omega.{arith}
 use mathlib.Core.Path.{ap, _∙_}
-use mathlib.Core.List.{[]}
 use denote.Ref.{now}
 use Rattle.base_bytes.specs.Bytes.{over}
 use Rattle.write_records.proofs.Numbers.{two-numbers}

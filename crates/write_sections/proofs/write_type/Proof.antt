@@ -13,8 +13,8 @@ use Rattle.image.specs.Types.{typePlace, typeField}
 use Rattle.check_records.specs.Codes.{classNumber, codeAt}
 use Rattle.check_rules.specs.Lent.{TypeOffsets, IsType}
 use Rattle.write_fields.specs.Classes.{Known, knownCount, classIn}
-use Rattle.write_fields.proofs.Told.{class-asks, few-fields}
-use Rattle.write_types.proofs.Located.{sortsAt, in-table, place-is, known, count-is, inside, field-is, class-of}
+use Rattle.write_fields.proofs.Told.{class-asks, few-fields, known-inside}
+use Rattle.write_types.proofs.Located.{sortsAt, in-table, place-is, known, count-is, field-is, class-of}
 use Rattle.write_sections.proofs.Numbered.{Numbered, numbered-none, size-is, type-number, numbered-more, numbered-all}
 use Rattle.write_sections.proofs.write_type.Statement.{statement}
 use Rattle.write_sections.proofs.write_type.Tie as tie
@@ -116,7 +116,7 @@ field-at-requires c κs =
     let l : c .before .before .before .loop .i < k .known-fields .result .count = search needs in
     let n = counted k in
     let o = placed k in
-    let i = inside (offsets k) (is-type k) (c .before .before .before .loop .i) (omega arith) in
+    let i = known-inside (known (offsets k) (is-type k)) (c .before .before .before .loop .i) (omega arith) in
     omega arith
 
 kept-number-requires : tie.Need-kept-number-requires Inv-loop μ-loop

@@ -9,7 +9,8 @@ use Rattle.calculus.specs.Syntax.{Dom}
 use Rattle.image.specs.Layout.{recordsOf}
 use Rattle.base_bytes.specs.Bytes.{over}
 use Rattle.write_idle.specs.Idle.{inMask, Idled}
-use Rattle.write_stripped.proofs.Copies.{accepted, copy-domains, copy-types, copy-terms, copy-counted, copy-fits, copy-written}
+use Rattle.validator.proofs.Parts.{accepted}
+use Rattle.write_stripped.proofs.Copies.{copy-domains, copy-types, copy-terms, copy-counted, copy-fits, copy-written}
 use Rattle.write_stripped.proofs.write_copy.Statement.{statement}
 use Rattle.write_stripped.proofs.write_copy.Tie as tie
 use Rattle.write_stripped.proofs.write_copy.Reads as reads

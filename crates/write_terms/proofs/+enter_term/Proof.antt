@@ -15,12 +15,12 @@ use Rattle.image.specs.Types.{termPlace, typeOf}
 use Rattle.check_records.specs.Codes.{classNumber, codeAt}
 use Rattle.check_rules.specs.Lent.{Terms, IsTerm}
 use Rattle.write_fields.specs.Classes.{Known, knownCount, classIn}
-use Rattle.write_fields.proofs.Told.{class-asks}
+use Rattle.write_fields.proofs.Told.{class-asks, known-inside}
 use Rattle.image_written.specs.Parts.{partsFirst}
 use Rattle.image_written.specs.Table.{entered, typesIn, typesInAll}
 use Rattle.image_written.proofs.Fronts.{treeAt, trees, sortsAt, numbersOf, kids}
 use Rattle.write_types.specs.Entries.{Entries, entriesOf}
-use Rattle.write_terms.proofs.Located.{known, count-is, inside, field-is, class-of, next-child, child-lower, next-same, walked-child, walked-all}
+use Rattle.write_terms.proofs.Located.{known, count-is, field-is, class-of, next-child, child-lower, next-same, walked-child, walked-all}
 use Rattle.write_terms.proofs.enter_term.Reads as reads
 use Rattle.write_terms.proofs.+enter_term.Lts-enter_term as lts
 use Rattle.write_terms.proofs.+enter_term.Proof.Cycle.{μ-enter-term, enter-term-at, claims}
@@ -100,7 +100,7 @@ module _ (t : ℕ) where
       let l : c .before .before .before .loop .i < k .known-fields .result .count = search needs in
       let n = counted k in
       let o = placed k in
-      let i = inside (table k) (is-term k) (c .before .before .before .loop .i) (omega arith) in
+      let i = known-inside (known (table k) (is-term k)) (c .before .before .before .loop .i) (omega arith) in
       omega arith
 
   is-child-requires : lts.Need-is-child-requires (claims t) (enter-term-at t) reads.Post Inv-loop μ-loop

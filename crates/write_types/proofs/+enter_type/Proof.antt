@@ -18,11 +18,11 @@ use Rattle.image.specs.Types.{typePlace, typeField, typeOf}
 use Rattle.check_records.specs.Codes.{classNumber, codeAt}
 use Rattle.check_rules.specs.Lent.{TypeOffsets, IsType}
 use Rattle.write_fields.specs.Classes.{Known, knownCount, classIn}
-use Rattle.write_fields.proofs.Told.{class-asks}
+use Rattle.write_fields.proofs.Told.{class-asks, known-inside}
 use Rattle.image_written.specs.Parts.{partsFirst}
 use Rattle.image_written.specs.Table.{entered}
 use Rattle.write_types.specs.Entries.{Entries, entriesOf}
-use Rattle.write_types.proofs.Located.{before, sortsAt, frontOf, in-table, place-is, known, count-is, inside, field-is, class-of, lower, class-type, before-all}
+use Rattle.write_types.proofs.Located.{before, sortsAt, frontOf, in-table, place-is, known, count-is, field-is, class-of, lower, class-type, before-all}
 use Rattle.write_types.proofs.Entering.{told-there, there-entered, parts-there, all-entered, part-entered, no-part}
 use Rattle.write_types.proofs.+enter_type.{statement}
 use Rattle.write_types.proofs.+enter_type.Tie.{close}
@@ -112,7 +112,7 @@ module _ (t : ℕ) where
       let l : c .before .before .before .before .loop .i < k .known-fields .result .count = search needs in
       let n = counted k in
       let o = placed k in
-      let i = inside (offsets k) (is-type k) (c .before .before .before .before .loop .i) (omega arith) in
+      let i = known-inside (known (offsets k) (is-type k)) (c .before .before .before .before .loop .i) (omega arith) in
       omega arith
 
   enter-type-requires : lts.Need-enter-type-requires (claims t) (enter-type-at t) reads.Post Inv-loop μ-loop

@@ -1,6 +1,6 @@
 use Rattle.vm_marks.proofs.Matched.{matching-on, matching-done}
 use Rattle.vm_marks.specs.Binds.{boundIn}
-use Rattle.vm_machine.specs.Pools.{whole}
+use Rattle.vm_pools.specs.Pools.{whole}
 use Rattle.vm_machine.specs.Reduce.{bindMatching}
 use Rattle.base_bytes.specs.Memory.{memoryLength}
 use denote.Ref.{now}

@@ -2,7 +2,7 @@ use denote.Ref.{now}
 use native.Mathlib.Omega.{arith}
 use Prim.Native.Nat.{_+_}
 use mathlib.Core.Path.{_≡_}
-use Rattle.vm_machine.specs.Pools.{isMainline, whole}
+use Rattle.vm_pools.specs.Pools.{isMainline, whole}
 use Rattle.vm_marks.proofs.Matched.{one-bound, other-bound, one-more}
 use borrow.Author.Needs.{needs}
 use Rattle.vm_marks.proofs.bind.bind_one.Statement.{statement}

@@ -1,6 +1,6 @@
 use Rattle.vm_reductions.proofs.Reduced.{apply-made, no-apply-made}
 use Rattle.vm_states.proofs.Halves.{whole-room}
-use Rattle.vm_machine.specs.Pools.{bindingsOut}
+use Rattle.vm_pools.specs.Pools.{bindingsOut}
 use Rattle.vm_machine.specs.declared.Regs.{Regs}
 use Rattle.calculus.specs.Limits.{bindingLimit}
 use mathlib.Core.Path.{ap}

@@ -1,6 +1,6 @@
 use Rattle.vm_reductions.proofs.Reduced.{split-made, no-split-made}
 use Rattle.vm_states.proofs.Halves.{whole-room}
-use Rattle.vm_machine.specs.Pools.{bindingsOut}
+use Rattle.vm_pools.specs.Pools.{bindingsOut}
 use Rattle.calculus.specs.Limits.{bindingLimit}
 use denote.Ref.{now}
 use native.Mathlib.Omega.{arith}

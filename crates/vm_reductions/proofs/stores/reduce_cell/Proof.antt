@@ -1,6 +1,6 @@
 use Rattle.vm_reductions.proofs.Reduced.{cell-made, no-cell-made}
 use Rattle.vm_states.proofs.Halves.{whole-room}
-use Rattle.vm_machine.specs.Pools.{cellsOut}
+use Rattle.vm_pools.specs.Pools.{cellsOut}
 use Rattle.calculus.specs.Limits.{cellLimit}
 use denote.Ref.{now}
 use native.Mathlib.Omega.{arith}

@@ -2,7 +2,7 @@ use denote.Ref.{now}
 use native.Mathlib.Omega.{arith}
 use borrow.Author.Tests.{not-false}
 use Rattle.calculus.specs.Limits.{pieceLimit}
-use Rattle.vm_machine.specs.Pools.{piecesOut}
+use Rattle.vm_pools.specs.Pools.{piecesOut}
 use Rattle.vm_states.proofs.Halves.{whole-room}
 use Rattle.vm_stacks.proofs.Stacked.{stack-full, stack-spent, stack-made}
 use borrow.Author.Needs.{needs}

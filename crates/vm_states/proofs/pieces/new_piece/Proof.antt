@@ -1,4 +1,4 @@
-use Rattle.vm_machine.specs.Pools.{piecesOut}
+use Rattle.vm_pools.specs.Pools.{piecesOut}
 use Rattle.vm_states.proofs.OnePiece.{piece-made, no-piece-made}
 use Rattle.vm_states.proofs.Halves.{whole-room}
 use Rattle.calculus.specs.Limits.{pieceLimit}

@@ -1,0 +1,10 @@
+-- Calls by computation: the bench sheet, and for each claim calls that meet its premises.
+pub mod UnpaidExample
+pub mod Sheet
+pub mod Mainline
+pub mod Example
+pub mod TakedownExample
+pub mod RoomExample
+pub mod NewestFirstExample
+pub mod ForecastExample
+pub mod StrippedExample

@@ -1,0 +1,4 @@
+-- Laws of matches, and the proofs of the functions.
+pub mod Looking
+pub mod Binding
+pub mod Matching

@@ -1,0 +1,35 @@
+use denote.Ref.{now}
+use mathlib.Core.List.{[]}
+use Rattle.vm_matches.proofs.Binding.{entry-nothing, entry-value, entry-room}
+use borrow.Author.Needs.{needs}
+use Rattle.vm_matches.proofs.bindings.bind_entry.Statement.{statement}
+use Rattle.vm_matches.proofs.bindings.bind_entry.Tie as tie
+
+entry-at-requires : tie.Need-entry-at-requires
+entry-at-requires c κs = search needs
+
+returns : tie.Need-returns
+returns c = let a = c .before .before .before .before .args in ((λ code. entry-nothing (record { code = code; image = now (a .image) }) (a .w) (a .i) _ (c .before .entry-at .ensures code) (a .v) (now (a .work)) (a .b) (c .if1 .taken)), c .before .before .before .before .pre .2)
+
+top-entry-requires : tie.Need-top-entry-requires
+top-entry-requires c κs = search needs
+
+bind-inside-requires : tie.Need-bind-inside-requires
+bind-inside-requires c κs = let s = c .before .before .before .before .before .before .before in let a = s .args in (search needs, entry-room (record { code = []; image = now (a .image) }) (a .w) (a .i) _ (c .before .before .before .before .entry-at .ensures []) (a .b .count) (c .before .before .before .if1 .left) (s .pre .3 []), s .pre .2)
+
+same-length : tie.Need-same-length
+same-length c = search needs
+
+returns-2 : tie.Need-returns-2
+returns-2 c = let s = c .before .before .before .before .before .before .before .before .before .before in let a = s .args in ((λ code. entry-value (record { code = code; image = now (a .image) }) (a .w) (a .i) _ (c .before .before .before .before .before .before .before .entry-at .ensures code) (a .v) _ (now (a .work)) _ (a .b) _ (c .before .before .before .before .before .before .if1 .left) (c .before .before .before .before .top-entry .ensures) (c .before .before .bind-inside .ensures .0)), c .before .before .bind-inside .ensures .1)
+
+pub bind-entry-spec : {M : Type 1} → statement M
+bind-entry-spec =
+    tie.close
+    (tie.spec
+    entry-at-requires
+    returns
+    top-entry-requires
+    bind-inside-requires
+    same-length
+    returns-2)

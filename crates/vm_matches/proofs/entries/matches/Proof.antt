@@ -1,0 +1,24 @@
+use mathlib.Core.Path.{ap, ap₂, _∙_}
+use mathlib.Core.Bool.{Bool, not, _&&_, _||_}
+use borrow.Author.Needs.{needs}
+use Rattle.vm_matches.proofs.entries.matches.Statement.{statement}
+use Rattle.vm_matches.proofs.entries.matches.Tie as tie
+
+binds-rest-requires : tie.Need-binds-rest-requires
+binds-rest-requires c κs = search needs
+
+is-kept-requires : tie.Need-is-kept-requires
+is-kept-requires c κs = search needs
+
+either-requires : tie.Need-either-requires
+either-requires c κs = search needs
+
+both-requires : tie.Need-both-requires
+both-requires c κs = search needs
+
+returns : tie.Need-returns
+returns c = let a = c .before .before .before .before .before .args in λ code. c .both .ensures ∙ ap (a .k .fits &&_) (c .before .either .ensures ∙ ap₂ (λ (x y : Bool). x || not y) (c .before .before .before .binds-rest .ensures code) (c .before .before .is-kept .ensures))
+
+pub matches-spec : {M : Type 1} → statement M
+matches-spec =
+    tie.close (tie.spec binds-rest-requires is-kept-requires either-requires both-requires returns)

@@ -1,0 +1,87 @@
+use denote.Ref.{now}
+use native.Mathlib.Omega.{arith}
+use Prim.Native.Nat.{ℕ, _+_, _≤_}
+use mathlib.Core.List.{List}
+use borrow.Author.Tests.{not-false}
+use Rattle.calculus.specs.Limits.{bindingLimit}
+use Rattle.vm_code.specs.Words.{countOf}
+use Rattle.vm_pools.specs.Pools.{bindingsOut}
+use Rattle.vm_machine.specs.Stacks.{variables}
+use Rattle.vm_states.proofs.Halves.{whole-room}
+use Rattle.vm_matches.proofs.Matching.{branch-full, branch-spent, branch-made}
+use borrow.Author.Needs.{needs}
+use Rattle.vm_matches.proofs.matches.first_branch.Statement.{statement}
+use Rattle.vm_matches.proofs.matches.first_branch.Tie as tie
+
+half-of-requires : tie.Need-half-of-requires
+half-of-requires c κs = search needs
+
+variables-requires : tie.Need-variables-requires
+variables-requires c κs = search needs
+
+has-room-requires : tie.Need-has-room-requires
+has-room-requires c κs = search needs
+
+bindings-out-requires : tie.Need-bindings-out-requires
+bindings-out-requires c κs = search needs
+
+halt-requires : tie.Need-halt-requires
+halt-requires c κs = search needs
+
+returns : tie.Need-returns
+returns c = let a = c .before .before .before .before .before .before .before .before .before .before .before .args in branch-full (record { code = now (a .code); image = now (a .image) }) (now (a .work)) (now (a .work)) (now (a .work)) (a .r) _ (a .w) (a .v) _ (c .before .before .before .before .variables .ensures .0 (now (a .code))) _ _ (c .before .before .before .before .before .before .before .half-of .ensures) (c .before .before .before .has-room .ensures) _ (c .before .before .if1 .taken) (c .before .bindings-out .ensures) (c .halt .ensures)
+
+halt-requires-2 : tie.Need-halt-requires-2
+halt-requires-2 c κs = search needs
+
+returns-2 : tie.Need-returns-2
+returns-2 c = let a = c .before .before .before .before .before .before .before .before .before .before .before .before .args in branch-spent (record { code = now (a .code); image = now (a .image) }) (now (a .work)) (now (a .work)) (now (a .work)) (a .r) _ (a .w) (a .v) _ (c .before .before .before .before .before .variables .ensures .0 (now (a .code))) _ _ (c .before .before .before .before .before .before .before .before .half-of .ensures) (c .before .before .before .before .has-room .ensures) (c .before .if2 .taken) (c .before .before .before .if1 .left) (c .halt2 .ensures)
+
+whole-requires : tie.Need-whole-requires
+whole-requires c κs = search needs
+
+bind-entries-requires : tie.Need-bind-entries-requires
+bind-entries-requires c κs = let s = c .before .before .before .before .before .before .before .before .before .before .before .before .before in let a = s .args in let k = whole-room bindingLimit (c .before .before .before .before .before .before .variables .result) (λ p. p .bindings) bindingsOut (a .w) (a .r) _ _ (c .before .before .before .before .before .before .before .before .before .half-of .ensures) (c .before .before .before .before .before .has-room .ensures) (s .pre .0 .bindings) (not-false (c .before .before .before .before .before .has-room .result) (c .before .before .before .before .if1 .left)) in let h : (code : List ℕ) → c .before .whole .result + variables (record { code = code; image = now (a .image) }) (a .w) (countOf (a .w)) 0 ≤ 2048 = λ code. omega (arith, c .before .before .before .before .before .before .variables .ensures .0 code, c .before .whole .ensures, k) in (search needs, s .pre .0 .env, h)
+
+branch-place-requires : tie.Need-branch-place-requires
+branch-place-requires c κs = search needs
+
+branch-at-requires : tie.Need-branch-at-requires
+branch-at-requires c κs = search needs
+
+called-requires : tie.Need-called-requires
+called-requires c κs = let s = c .before .before .before .before .before .before .before .before .before .before .before .before .before .before .before .before .before .before .before in let m = s .pre .0 in (omega (arith, m .coded), search needs, m .room, s .pre .1, m .pc, m .env, c .before .before .before .before .before .bind-entries .ensures .1)
+
+sub-q : tie.Need-sub-q
+sub-q c = search needs
+
+charge-bindings-requires : tie.Need-charge-bindings-requires
+charge-bindings-requires c κs = let s = c .before .before .before .before .before .before .before .before .before .before .before .before .before .before .before .before .before .before .before .before .before .before .before in let a = s .args in omega (arith, whole-room bindingLimit (c .before .before .before .before .before .before .before .before .before .before .before .before .before .before .before .before .variables .result) (λ p. p .bindings) bindingsOut (a .w) (a .r) _ _ (c .before .before .before .before .before .before .before .before .before .before .before .before .before .before .before .before .before .before .before .half-of .ensures) (c .before .before .before .before .before .before .before .before .before .before .before .before .before .before .before .has-room .ensures) (s .pre .0 .bindings) (not-false (c .before .before .before .before .before .before .before .before .before .before .before .before .before .before .before .has-room .result) (c .before .before .before .before .before .before .before .before .before .before .before .before .before .before .if1 .left)))
+
+same-length : tie.Need-same-length
+same-length c = search needs
+
+returns-3 : tie.Need-returns-3
+returns-3 c = let a = c .before .before .before .before .before .before .before .before .before .before .before .before .before .before .before .before .before .before .before .before .before .before .before .before .args in branch-made (record { code = now (a .code); image = now (a .image) }) (now (a .work)) _ _ (a .r) _ (a .w) (a .v) _ (c .before .before .before .before .before .before .before .before .before .before .before .before .before .before .before .before .before .variables .ensures .0 (now (a .code))) _ _ (c .before .before .before .before .before .before .before .before .before .before .before .before .before .before .before .before .before .before .before .before .half-of .ensures) (c .before .before .before .before .before .before .before .before .before .before .before .before .before .before .before .before .has-room .ensures) (c .before .before .before .before .before .before .before .before .before .before .before .before .before .if2 .left) _ _ _ _ _ (c .before .before .before .before .before .before .before .before .before .before .before .before .before .before .before .if1 .left) (c .before .before .before .before .before .before .before .before .before .before .before .before .whole .ensures) (c .charge-bindings .ensures) (c .before .before .before .before .before .before .before .before .before .before .bind-entries .ensures .0 (now (a .code))) (c .before .before .before .before .before .before .before .branch-place .ensures) (c .before .before .before .before .before .before .branch-at .ensures) (c .before .before .before .before .called .ensures (now (a .image)))
+
+pub first-branch-spec : {M : Type 1} → statement M
+first-branch-spec =
+    tie.close
+    (tie.spec
+    half-of-requires
+    variables-requires
+    has-room-requires
+    bindings-out-requires
+    halt-requires
+    returns
+    halt-requires-2
+    returns-2
+    whole-requires
+    bind-entries-requires
+    branch-place-requires
+    branch-at-requires
+    called-requires
+    sub-q
+    charge-bindings-requires
+    same-length
+    returns-3)

@@ -1,0 +1,70 @@
+use denote.Ref.{now}
+use Rattle.vm_matches.proofs.Matching.{match-atom, match-operand}
+use borrow.Author.Needs.{needs}
+use Rattle.vm_matches.proofs.operands.begin_match.Statement.{statement}
+use Rattle.vm_matches.proofs.operands.begin_match.Tie as tie
+
+mul-offset-of : tie.Need-mul-offset-of
+mul-offset-of c = search needs
+
+shared-slice-read-offset-of : tie.Need-shared-slice-read-offset-of
+shared-slice-read-offset-of c = search needs
+
+offset-of-requires : tie.Need-offset-of-requires
+offset-of-requires c κs = search needs
+
+number-at-requires : tie.Need-number-at-requires
+number-at-requires c κs = search needs
+
+mul-u : tie.Need-mul-u
+mul-u c = search needs
+
+shared-slice-read-u : tie.Need-shared-slice-read-u
+shared-slice-read-u c = search needs
+
+class-of-requires : tie.Need-class-of-requires
+class-of-requires c κs = search needs
+
+atom-value-requires : tie.Need-atom-value-requires
+atom-value-requires c κs = search needs
+
+unlooked-requires : tie.Need-unlooked-requires
+unlooked-requires c κs = search needs
+
+entries-from-requires : tie.Need-entries-from-requires
+entries-from-requires c κs = search needs
+
+same-length : tie.Need-same-length
+same-length c = search needs
+
+returns : tie.Need-returns
+returns c = let a = c .before .before .before .before .before .before .before .before .before .before .before .before .before .before .before .before .args in match-atom (record { code = now (a .code); image = now (a .image) }) (now (a .work)) _ (a .r) _ _ _ _ (c .before .before .before .before .before .before .before .before .before .before .before .offset-of .ensures) (c .before .before .before .before .before .before .before .before .before .before .number-at .ensures .0) (c .before .before .before .before .before .before .before .before .class-of .ensures) _ (c .before .before .before .unlooked .result) (c .before .before .before .before .before .before .before .if1 .taken) (c .before .before .before .before .before .atom-value .ensures (record { code = now (a .code); image = now (a .image) })) (c .before .before .before .unlooked .ensures .0) (c .before .before .before .unlooked .ensures .1) (c .before .before .entries-from .ensures)
+
+begin-operand-requires : tie.Need-begin-operand-requires
+begin-operand-requires c κs = search needs
+
+same-length-2 : tie.Need-same-length-2
+same-length-2 c = search needs
+
+returns-2 : tie.Need-returns-2
+returns-2 c = let a = c .before .before .before .before .before .before .before .before .before .before .before .before .before .args in match-operand (record { code = now (a .code); image = now (a .image) }) (now (a .work)) _ (a .r) _ _ _ _ (c .before .before .before .before .before .before .before .before .offset-of .ensures) (c .before .before .before .before .before .before .before .number-at .ensures .0) (c .before .before .before .before .before .class-of .ensures) (c .before .before .before .before .if1 .left) (c .before .before .begin-operand .ensures (now (a .image)))
+
+pub begin-match-spec : {M : Type 1} → statement M
+begin-match-spec =
+    tie.close
+    (tie.spec
+    mul-offset-of
+    shared-slice-read-offset-of
+    offset-of-requires
+    number-at-requires
+    mul-u
+    shared-slice-read-u
+    class-of-requires
+    atom-value-requires
+    unlooked-requires
+    entries-from-requires
+    same-length
+    returns
+    begin-operand-requires
+    same-length-2
+    returns-2)

@@ -1,0 +1,68 @@
+use native.Mathlib.Omega.{arith}
+use denote.Ref.{now}
+use mathlib.Core.Path.{refl}
+use Rattle.vm_matches.proofs.Matching.{operand-framed, operand-begun}
+use borrow.Author.Needs.{needs}
+use Rattle.vm_matches.proofs.operands.begin_operand.Statement.{statement}
+use Rattle.vm_matches.proofs.operands.begin_operand.Tie as tie
+
+mul-depth-of : tie.Need-mul-depth-of
+mul-depth-of c = search needs
+
+shared-slice-read-depth-of : tie.Need-shared-slice-read-depth-of
+shared-slice-read-depth-of c = search needs
+
+depth-of-requires : tie.Need-depth-of-requires
+depth-of-requires c κs = search needs
+
+add-d : tie.Need-add-d
+add-d c = search needs
+
+halt-requires : tie.Need-halt-requires
+halt-requires c κs = search needs
+
+returns : tie.Need-returns
+returns c = let a = c .before .before .before .before .before .before .before .args in λ image. operand-framed (record { code = now (a .code); image = image }) (now (a .work)) (now (a .work)) (a .r) _ (a .x) (a .v) (a .byte) _ (c .before .before .before .depth-of .ensures) (c .before .if1 .taken) (c .halt .ensures)
+
+sub-room : tie.Need-sub-room
+sub-room c = search needs
+
+add-put-match : tie.Need-add-put-match
+add-put-match c = search needs
+
+match-word-requires : tie.Need-match-word-requires
+match-word-requires c κs = search needs
+
+put-match-requires : tie.Need-put-match-requires
+put-match-requires c κs = search needs
+
+same-requires : tie.Need-same-requires
+same-requires c κs = search needs
+
+entry-from-requires : tie.Need-entry-from-requires
+entry-from-requires c κs = (omega (arith, c .before .before .before .before .before .before .before .before .before .before .before .before .before .pre .0 .coded), c .before .before .before .before .before .before .before .before .before .before .before .before .before .pre .2)
+
+same-length : tie.Need-same-length
+same-length c = search needs
+
+returns-2 : tie.Need-returns-2
+returns-2 c = let a = c .before .before .before .before .before .before .before .before .before .before .before .before .before .before .args in λ image. operand-begun (record { code = now (a .code); image = image }) (now (a .work)) _ (a .r) (a .r) (a .x) (a .v) (a .byte) _ (c .before .before .before .before .before .before .before .before .before .before .depth-of .ensures) _ _ _ (c .before .same .ensures) refl (c .before .before .before .before .before .before .before .before .if1 .left) (c .entry-from .ensures .0 image) (c .before .before .before .before .put-match .ensures (a .r .pc) (a .r .env) (a .v) (c .before .before .before .before .before .match-word .ensures))
+
+pub begin-operand-spec : {M : Type 1} → statement M
+begin-operand-spec =
+    tie.close
+    (tie.spec
+    mul-depth-of
+    shared-slice-read-depth-of
+    depth-of-requires
+    add-d
+    halt-requires
+    returns
+    sub-room
+    add-put-match
+    match-word-requires
+    put-match-requires
+    same-requires
+    entry-from-requires
+    same-length
+    returns-2)

@@ -1,0 +1,71 @@
+// "Values bind in the first branch, left to right, rest last."
+ghost use mathlib.Core.List.{List};
+ghost use Prim.Native.Nat.{ℕ, _+_, _≤_, _<_};
+ghost use lib.ListN.{length};
+ghost use lib.Dec.{eqb};
+ghost use Rattle.calculus.specs.Combinators.{choose};
+ghost use Rattle.base_bytes.specs.Memory.{memoryLength};
+ghost use Rattle.vm_code.specs.Words.{countOf};
+ghost use Rattle.vm_machine.specs.Stacks.{entryAt, bindsRest, variables, bindInside, bindEntries};
+ghost use Rattle.vm_matches.specs.Parts.{chainIn, Chains, entryBound, restBound};
+use crate::Chain;
+use crate::entries::binds_rest;
+use crate::entries::entry_at;
+use vm_tables::bindings::bind;
+use vm_tables::kept::rest_of;
+use vm_tables::kept::top_entry;
+use vm_words::code::count_of;
+
+// The value v is bound inside those of b.
+fn bind_inside(work: &mut [u8], v: u64, b: Chain) -> Chain
+    requires { ⌜ (memoryLength ≤ length (now work)) × (b .count < 2048) × (b .env < 2048) ⌝ }
+    ensures { λ q. ⌜ Chains (bindInside v (chainIn (now (work .entry)) b)) (now (work .entry)) (now (work .exit)) q × (q .env < 2048) ⌝ }
+{
+    let n = b.count;
+    bind(work, n, v, 0, b.env);
+    Chain {
+        count: n + 1,
+        env: n,
+    }
+}
+
+// The value of entry i of a match with word w: v is what is left of the stack. An entry for anything binds nothing.
+fn bind_entry(image: &[u8], work: &mut [u8], w: u64, i: usize, v: u64, b: Chain) -> Chain
+    requires { ⌜ (memoryLength ≤ length (now work)) × (i < 16) × (b .env < 2048) × ((code : List ℕ) → b .count + choose (eqb (entryAt (record { code = code; image = now image }) w i) 0) 0 1 ≤ 2048) ⌝ }
+    ensures { λ q. ⌜ ((code : List ℕ) → Chains (entryBound (record { code = code; image = now (image .entry) }) w i v (chainIn (now (work .entry)) b)) (now (work .entry)) (now (work .exit)) q) × (q .env < 2048) ⌝ }
+{
+    if entry_at(image, w, i) == 0 {
+        return b;
+    }
+    let y = top_entry(work, v);
+    bind_inside(work, y, b)
+}
+
+// The rest, where the close binds it.
+fn bind_rest(image: &[u8], work: &mut [u8], w: u64, v: u64, b: Chain) -> Chain
+    requires { ⌜ (memoryLength ≤ length (now work)) × (b .env < 2048) × ((code : List ℕ) → b .count + choose (bindsRest (record { code = code; image = now image }) w) 1 0 ≤ 2048) ⌝ }
+    ensures { λ q. ⌜ ((code : List ℕ) → Chains (restBound (record { code = code; image = now (image .entry) }) w v (chainIn (now (work .entry)) b)) (now (work .entry)) (now (work .exit)) q) × (q .env < 2048) ⌝ }
+{
+    if binds_rest(image, w) {
+        return bind_inside(work, v, b);
+    }
+    b
+}
+
+// The values of all entries of the stack v, and the rest.
+pub fn bind_entries(image: &[u8], work: &mut [u8], w: u64, v: u64, from: Chain) -> Chain
+    requires { ⌜ (memoryLength ≤ length (now work)) × (from .env < 2048) × ((code : List ℕ) → from .count + variables (record { code = code; image = now image }) w (countOf w) 0 ≤ 2048) ⌝ }
+    ensures { λ q. ⌜ ((code : List ℕ) → Chains (bindEntries (record { code = code; image = now (image .entry) }) w (countOf w) 0 v (chainIn (now (work .entry)) from)) (now (work .entry)) (now (work .exit)) q) × (q .env < 2048) ⌝ }
+{
+    let n = count_of(w);
+    let mut rest = v;
+    let mut b = from;
+    let mut i: usize = 0;
+    while i < n {
+        let behind = rest_of(work, rest);
+        b = bind_entry(image, work, w, i, rest, b);
+        rest = behind;
+        i += 1;
+    }
+    bind_rest(image, work, w, rest, b)
+}

@@ -1,0 +1,2 @@
+-- What the halves of each room have in use, charged.
+pub mod Pools
