@@ -7,7 +7,7 @@
    target/staticlib/libNAME.a.
    Each needs memcpy and memset and nothing else: no heap, no files, no global state, so calls from several threads at
    once are safe as long as the memory that they write is different. Recursion is at most 64 deep; on the images tried a
-   call took under 40,000 bytes of stack (tried, not proved).
+   call took under 40,000 bytes of stack, a forecast under 90,000 (tried, not proved).
 
    "Document 01" is the paper that decides layouts, numbers and limits. What a call answers and leaves is the definition
    `called` in crates/calls/specs/Calls.antt, and the library is proved to meet it for every input. */

@@ -3,6 +3,7 @@ pub mod Sums
 pub mod Admitted
 pub mod Substituted
 pub mod Shift
+pub mod Kept
 pub mod Takes
 pub mod Reductions
 pub mod Typed

@@ -2,5 +2,6 @@
 // term stands in the walk, and what a kind of term takes and asks of its children.
 pub mod own;
 pub mod places;
+pub mod rows;
 pub mod shapes;
 pub mod sums;

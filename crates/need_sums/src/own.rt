@@ -117,7 +117,7 @@ pub fn own_needs(own: Own, s: Stand, p: u16, w: Needs) -> Needs
 }
 
 // Whether a child is one of two branches of which the dearer counts.
-fn is_branch(s: Stand, role: Role) -> bool
+pub fn is_branch(s: Stand, role: Role) -> bool
     ensures { λ r. ⌜ r ≡ Rattle.need_sums.specs.Walks.isBranch s role ⌝ }
 {
     let m = s.mode;

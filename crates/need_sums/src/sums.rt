@@ -6,13 +6,13 @@ ghost use Rattle.need_sums.specs.Sums.{cut, noNeeds, addNeeds, dearerNee
 
 pub const LARGEST: u32 = 4294967295;
 
-fn plus(a: u32, b: u32) -> u32
+pub fn plus(a: u32, b: u32) -> u32
     ensures { λ r. ⌜ r ≡ cut (a + b) ⌝ }
 {
     if a <= LARGEST - b { a + b } else { LARGEST }
 }
 
-fn larger(a: u32, b: u32) -> u32
+pub fn larger(a: u32, b: u32) -> u32
     ensures { λ r. ⌜ r ≡ max a b ⌝ }
 {
     if a < b { b } else { a }

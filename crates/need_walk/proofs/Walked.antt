@@ -31,6 +31,7 @@ use Rattle.need_sums.specs.declared.places.Mode.{Mode}
 use Rattle.need_sums.specs.declared.places.Stand.{Stand}
 use Rattle.need_sums.specs.Sums.{cutNeeds, noNeeds, addNeeds, dearerNeeds, raiseNeeds}
 use Rattle.need_sums.specs.Walks.{placeLimit, shapeOf, roleAt, childStand, reductionNeeds, ownNeeds, addedNeeds, chosenNeeds}
+use Rattle.need_sums.specs.Rows.{rowCount, atMark}
 use Rattle.need_terms.specs.Parts.{partDomain, branchVariables}
 use Rattle.need_walk.specs.Counted.{hereOf, counted, termAt, Known, skips}
 use Rattle.need_walk.proofs.Folds.{sums, choices, joined, joined-at, joinedAt, joined-snoc}
@@ -50,8 +51,9 @@ skip-none r s e h = look (s .mode) (s .dom) (s .depth) (s .kept) h
     look Mode.Round c d q x = no-path (sym x)
 
 -- What the term takes itself.
-pub own-cut : (L : Layout) (s : Stand) → s .depth ≤ placeLimit → s .kept ≤ placeLimit → (o : Own) (p : ℕ) (w : Needs) → Known L s w → ownNeeds o s p w ≡ cutNeeds (ownCounted (termAt L (rootOf L)) s o p)
-own-cut L s hd hk o p w known = look (s .mode) known
+pub own-cut : (L : Layout) (s : Stand) → s .depth ≤ placeLimit → s .kept < rowCount → (o : Own) (p : ℕ) (w : Needs) (rows : List ℕ) → Known L s w rows
+    → ownNeeds o s p (atMark w rows (s .kept)) ≡ cutNeeds (ownCounted (termAt L (rootOf L)) s o p)
+own-cut L s hd hr o p w rows known = look (s .mode) known
   where
     R : Tm
     R = termAt L (rootOf L)
@@ -59,10 +61,13 @@ own-cut L s hd hk o p w known = look (s .mode) known
     S : Mode → Stand
     S m = record { mode = m; dom = s .dom; depth = s .depth; kept = s .kept }
 
-    look : (m : Mode) → Known L (S m) w → ownNeeds o (S m) p w ≡ cutNeeds (ownCounted R (S m) o p)
+    hk : s .kept ≤ placeLimit
+    hk = omega arith
+
+    look : (m : Mode) → Known L (S m) w rows → ownNeeds o (S m) p (atMark w rows (s .kept)) ≡ cutNeeds (ownCounted R (S m) o p)
     look Mode.Skip x = sym cut-none
     look Mode.Program x =
-        ap (λ y. reductionNeeds o (S Mode.Program) y) (ap (raiseNeeds (s .depth)) x ∙ (cut-shift (s .depth) (rounds (level (s .kept)) R) ∙ ap cutNeeds (sym (rounds-once R (hereOf s)))))
+        ap (λ y. reductionNeeds o (S Mode.Program) y) (ap (raiseNeeds (s .depth)) (x (s .kept) hr) ∙ (cut-shift (s .depth) (rounds (level (s .kept)) R) ∙ ap cutNeeds (sym (rounds-once R (hereOf s)))))
         ∙ reduction-cut (S Mode.Program) hd hk o (rounds (hereOf s) R)
     look Mode.Body x = ap (λ y. reductionNeeds o (S Mode.Body) y) (sym cut-none) ∙ reduction-cut (S Mode.Body) hd hk o none
     look Mode.Rounds x = sym cut-none
@@ -202,7 +207,7 @@ module _ (L : Layout) (n : ℕ) where
   abbrev pub offers-at : Stand → ℕ → ℕ → Numbers
   offers-at s i e = offered s (role-of i) (branchVariables kind-at (others L n)) (counted R (childStand s (role-of i) domain-at) (termAt L e))
 
-  abbrev own-at : Stand → Numbers
+  abbrev pub own-at : Stand → Numbers
   own-at s = ownCounted R s (shapeOf kind-at .own) domain-at
 
   -- The first j children: their sum with what the term takes itself, and the dearest branch.
@@ -219,8 +224,11 @@ module _ (L : Layout) (n : ℕ) where
   unfolding tree toTm
   term-is = refl
 
+  pub leaf-takes : termRow kind-at .number ≤ 35 → (s : Stand) → counted R s (termAt L n) ≡ none
+  leaf-takes l s = ap (counted R s) term-is ∙ leaf-kind kind-at l R s (statedType L n) (others L n) subterms
+
   pub leaf-none : termRow kind-at .number ≤ 35 → (s : Stand) → noNeeds ≡ cutNeeds (counted R s (termAt L n))
-  leaf-none l s = sym cut-none ∙ ap cutNeeds (sym (ap (counted R s) term-is ∙ leaf-kind kind-at l R s (statedType L n) (others L n) subterms))
+  leaf-none l s = sym cut-none ∙ ap cutNeeds (sym (leaf-takes l s))
 
   pub sum-start : (s : Stand) → cutNeeds (own-at s) ≡ cutNeeds (sumTo s 0)
   unfolding sumTo joinedAt
@@ -240,14 +248,14 @@ module _ (L : Layout) (n : ℕ) where
     long : j ≡ 0 + length (take j (children L n))
     long = omega (arith, length-take-le j (children L n) (omega arith))
 
-    sum-next : sumTo s (j + 1) ≡ sumTo s j ⊕ adds-at s j (getD (children L n) j 0)
+    pub sum-next : sumTo s (j + 1) ≡ sumTo s j ⊕ adds-at s j (getD (children L n) j 0)
     unfolding sumTo
     sum-next =
         ap (λ x. own-at s ⊕ joinedAt sums (adds-at s) 0 x) one-more
         ∙ (ap (λ x. own-at s ⊕ x) (joined-snoc sums (adds-at s) 0 (take j (children L n)) (getD (children L n) j 0) j long)
         ∙ sym (plus-assoc (own-at s) (joinedAt sums (adds-at s) 0 (take j (children L n))) (adds-at s j (getD (children L n) j 0))))
 
-    choice-next : choiceTo s (j + 1) ≡ dearer (choiceTo s j) (offers-at s j (getD (children L n) j 0))
+    pub choice-next : choiceTo s (j + 1) ≡ dearer (choiceTo s j) (offers-at s j (getD (children L n) j 0))
     unfolding choiceTo
     choice-next = ap (λ x. joinedAt choices (offers-at s) 0 x) one-more ∙ joined-snoc choices (offers-at s) 0 (take j (children L n)) (getD (children L n) j 0) j long
 
@@ -298,14 +306,16 @@ module _ (L : Layout) (n : ℕ) where
         ap (counted R s) term-is ∙ (by-kind R s kind-at (statedType L n) (others L n) subterms full ∙ (ap (λ x. own-at s ⊕ (x ⊕ joined choices g 0 subterms)) a ∙ ap (λ x. own-at s ⊕ (joinedAt sums (adds-at s) 0 es ⊕ x)) b))
 
     -- Where all children are through.
+    pub through : (kind-at ≡ TermKind.match → 3 ≤ length (children L n)) → (s : Stand) (j : ℕ) → length (children L n) ≤ j → counted R s (termAt L n) ≡ sumTo s j ⊕ choiceTo s j
+    unfolding sumTo choiceTo
+    through three s j h =
+        let es = children L n in
+        let t : take j es ≡ es = take-all j es h in
+        term-takes three s
+        ∙ (sym (plus-assoc (own-at s) (joinedAt sums (adds-at s) 0 es) (joinedAt choices (offers-at s) 0 es))
+        ∙ ap (λ x. (own-at s ⊕ joinedAt sums (adds-at s) 0 x) ⊕ joinedAt choices (offers-at s) 0 x) (sym t))
+
     pub all-through : (kind-at ≡ TermKind.match → 3 ≤ length (children L n)) → (s : Stand) (j : ℕ) → length (children L n) ≤ j → (sum choice r : Needs)
         → sum ≡ cutNeeds (sumTo s j) → choice ≡ cutNeeds (choiceTo s j) → r ≡ addNeeds sum choice → r ≡ cutNeeds (counted R s (termAt L n))
-    unfolding sumTo choiceTo
     all-through three s j h sum choice r hs hc hr =
-        let es = children L n in
-        let a = joinedAt sums (adds-at s) 0 es in
-        let b = joinedAt choices (offers-at s) 0 es in
-        let t : take j es ≡ es = take-all j es h in
-        hr ∙ (ap (λ y. addNeeds y choice) hs ∙ (ap (addNeeds (cutNeeds (sumTo s j))) hc
-        ∙ (ap (λ x. addNeeds (cutNeeds (own-at s ⊕ joinedAt sums (adds-at s) 0 x)) (cutNeeds (joinedAt choices (offers-at s) 0 x))) t
-        ∙ (sym (cut-plus (own-at s ⊕ a) b) ∙ ap cutNeeds (plus-assoc (own-at s) a b ∙ sym (term-takes three s))))))
+        hr ∙ (ap (λ y. addNeeds y choice) hs ∙ (ap (addNeeds (cutNeeds (sumTo s j))) hc ∙ (sym (cut-plus (sumTo s j) (choiceTo s j)) ∙ ap cutNeeds (sym (through three s j h)))))

@@ -1,21 +1,24 @@
 -- What the walk answers of a term (document 02, card 10): the numbers of the calculus's definition, by what is asked.
-use Prim.Native.Nat.{ℕ, suc, _+_, _*_, _≤_}
+use Prim.Native.Nat.{ℕ, suc, _+_, _*_, _≤_, _<_}
 use mathlib.Core.Path.{_≡_}
 use mathlib.Core.Bool.{Bool, true, false}
+use mathlib.Core.List.{List}
 use Rattle.calculus.specs.Syntax.{Tm}
 use Rattle.calculus_needs.specs.Here.{Here}
 use Rattle.calculus_needs.proofs.Shift.{level}
 use Rattle.calculus_needs.specs.Numbers.{Numbers, none, _⊕_}
 use Rattle.calculus_needs.specs.Needs.{need, roundOf, rounds}
+use Rattle.image.specs.Limits.{depthLimit}
 use Rattle.image.specs.Records.{Layout}
 use Rattle.image.specs.Program.{tree, toTm}
 use Rattle.image.specs.Types.{rootOf}
+use Rattle.verdict.specs.Acceptable.{Depth}
 use Rattle.image_needs.specs.declared.Needs.{Needs}
-use Rattle.need_sums.specs.declared.shapes.Role.{Role}
 use Rattle.need_sums.specs.declared.places.Mode.{Mode}
 use Rattle.need_sums.specs.declared.places.Stand.{Stand}
 use Rattle.need_sums.specs.Sums.{cutNeeds}
 use Rattle.need_sums.specs.Walks.{placeLimit}
+use Rattle.need_sums.specs.Rows.{rowCount, atMark}
 
 abbrev pub hereOf : Stand → Here
 hereOf s = record { dom = s .dom; depth = s .depth; kept = s .kept }
@@ -35,30 +38,30 @@ counted r s e = countedIn (s .mode) r (hereOf s) e
 abbrev pub termAt : Layout → ℕ → Tm
 termAt L n = toTm (tree L (suc n) n)
 
--- Where a walk may stand at term n, so that no place below it is too deep. In the program itself there is room for one walk more, with one more value kept.
-abbrev pub keptLimit : Mode → ℕ
-keptLimit Mode.Skip = placeLimit
-keptLimit Mode.Program = 2048
-keptLimit Mode.Body = placeLimit
-keptLimit Mode.Rounds = placeLimit
-keptLimit Mode.Round = placeLimit
+-- No term is too deep (document 01, refusal 12).
+abbrev pub Shallow : Layout → Type 0
+Shallow L = (n d : ℕ) → Depth L n d → d ≤ depthLimit
 
-pub record Placed (s : Stand) (n : ℕ) : Type 0 where
+-- Where a walk may stand at term n: no place below it is too deep, and fewer values are kept there than the term is deep.
+pub record Placed (L : Layout) (s : Stand) (n : ℕ) : Type 0 where
   pub deep : s .depth + 2 * n ≤ placeLimit
-  pub kept : s .kept + n ≤ keptLimit (s .mode)
+  pub shallow : Shallow L
+  pub own-depth : ℕ
+  pub at-depth : Depth L n own-depth
+  pub kept : s .kept < own-depth
 
 -- What is known of all advice at a mark, where the program itself is walked.
-abbrev KnownIn : Mode → Layout → ℕ → Needs → Type 0
-KnownIn Mode.Skip L k w = Unit
-KnownIn Mode.Program L k w = w ≡ cutNeeds (rounds (level k) (termAt L (rootOf L)))
-KnownIn Mode.Body L k w = Unit
-KnownIn Mode.Rounds L k w = Unit
-KnownIn Mode.Round L k w = Unit
+abbrev KnownIn : Mode → Layout → Needs → List ℕ → Type 0
+KnownIn Mode.Skip L w rows = Unit
+KnownIn Mode.Program L w rows = (k : ℕ) → k < rowCount → atMark w rows k ≡ cutNeeds (rounds (level k) (termAt L (rootOf L)))
+KnownIn Mode.Body L w rows = Unit
+KnownIn Mode.Rounds L w rows = Unit
+KnownIn Mode.Round L w rows = Unit
 
-abbrev pub Known : Layout → Stand → Needs → Type 0
-Known L s w = KnownIn (s .mode) L (s .kept) w
+abbrev pub Known : Layout → Stand → Needs → List ℕ → Type 0
+Known L s w rows = KnownIn (s .mode) L w rows
 
--- Nothing is asked; one more value is kept than before, in the program itself.
+-- Nothing is asked.
 abbrev pub skips : Mode → Bool
 skips Mode.Skip = true
 skips Mode.Program = false
@@ -66,23 +69,6 @@ skips Mode.Body = false
 skips Mode.Rounds = false
 skips Mode.Round = false
 
-abbrev pub inProgram : Mode → Bool
-inProgram Mode.Skip = false
-inProgram Mode.Program = true
-inProgram Mode.Body = false
-inProgram Mode.Rounds = false
-inProgram Mode.Round = false
-
-abbrev pub keeps : Role → Bool
-keeps Role.Skipped = false
-keeps Role.Operand = false
-keeps Role.Lowered = false
-keeps Role.Kept = true
-keeps Role.Next = false
-keeps Role.Branch = false
-keeps Role.FirstBranch = false
-keeps Role.AdviceBody = false
-keeps Role.Installed = false
-
+-- All advice, at a mark that nothing encloses, with k values kept around it.
 abbrev pub levelStand : ℕ → Stand
 levelStand k = record { mode = Mode.Rounds; dom = 0; depth = 0; kept = k }

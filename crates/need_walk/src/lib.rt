@@ -2,14 +2,13 @@
 use check_records::numbers::TermNo;
 use check_rules::leaf::is_leaf;
 use image_needs::Needs;
-use laws::both;
 use need_sums::own::added;
 use need_sums::own::chosen;
 use need_sums::own::own_needs;
 use need_sums::places::Mode;
 use need_sums::places::Stand;
 use need_sums::places::child_stand;
-use need_sums::shapes::Role;
+use need_sums::rows::at_mark;
 use need_sums::shapes::role_at;
 use need_sums::sums::add;
 use need_sums::sums::dearer;
@@ -20,20 +19,21 @@ use need_terms::child_count;
 use need_terms::part_domain;
 use need_terms::shape_at;
 ghost use mathlib.Core.Path.{_≡_};
+ghost use lib.ListN.{length};
 ghost use Rattle.image.specs.Layout.{recordsOf};
 ghost use Rattle.image.specs.Types.{rootOf};
 ghost use Rattle.check_rules.specs.Lent.{Lent, IsTerm};
 ghost use Rattle.need_sums.specs.Sums.{cutNeeds};
-ghost use Rattle.need_walk.specs.Counted.{counted, termAt, Placed, Known, skips, inProgram, keeps, levelStand};
+ghost use Rattle.need_sums.specs.Rows.{tableLength};
+ghost use Rattle.need_walk.specs.Counted.{counted, termAt, Placed, Known, skips, levelStand};
 
-// What is known of marks: the root, whose advice a mark may find, and what all that advice takes at a mark that nothing
-// encloses, with as many values kept as there are around the term that is walked.
-pub struct Marks {
-    pub root: TermNo,
-    pub each: Needs,
+// A term, and where it stands.
+pub struct Visit {
+    pub term: TermNo,
+    pub stand: Stand,
 }
 
-fn skips_all(mode: Mode) -> bool
+pub fn skips_all(mode: Mode) -> bool
     ensures { λ r. ⌜ r ≡ skips mode ⌝ }
 {
     match mode {
@@ -45,59 +45,34 @@ fn skips_all(mode: Mode) -> bool
     }
 }
 
-fn is_program(mode: Mode) -> bool
-    ensures { λ r. ⌜ r ≡ inProgram mode ⌝ }
-{
-    match mode {
-        Mode::Skip => false,
-        Mode::Program => true,
-        Mode::Body => false,
-        Mode::Rounds => false,
-        Mode::Round => false,
-    }
-}
-
-fn is_kept(role: Role) -> bool
-    ensures { λ r. ⌜ r ≡ keeps role ⌝ }
-{
-    match role {
-        Role::Skipped => false,
-        Role::Operand => false,
-        Role::Lowered => false,
-        Role::Kept => true,
-        Role::Next => false,
-        Role::Branch => false,
-        Role::FirstBranch => false,
-        Role::AdviceBody => false,
-        Role::Installed => false,
-    }
-}
-
-// Of all advice, at a mark that nothing encloses, with so many values kept around it.
-pub fn level_stand(kept: u32) -> Stand
-    ensures { λ r. ⌜ r ≡ levelStand kept ⌝ }
+// Of all advice, at a mark that nothing encloses and around which no value is kept.
+pub fn level_stand() -> Stand
+    ensures { λ r. ⌜ r ≡ levelStand 0 ⌝ }
 {
     Stand {
         mode: Mode::Rounds,
         dom: 0,
         depth: 0,
-        kept: kept,
+        kept: 0,
     }
 }
 
-// What a term and the terms below it take where they stand. Each level goes to a lower number. Where a keep's body stands one
-// more value is kept: what all advice takes there is worked out anew, by a walk that asks for rounds alone.
+// What a term and the terms below it take where they stand. Each level goes to a lower number. What all advice takes at a mark
+// that nothing encloses is known: its pieces by the rows of a table, one for each number of kept values, the rest of it as it
+// is at every mark.
 pub fn walk(
     image: &[u8],
     terms: &[u16],
     descriptors: &[u32],
-    n: TermNo,
-    s: Stand,
-    marks: Marks,
+    at: Visit,
+    each: Needs,
+    rows: &[u32],
 ) -> Needs
-    requires { ⌜ Lent (now image) (now terms) (now descriptors) × IsTerm (now image) (n .0) × (marks .root .0 ≡ rootOf (recordsOf (now image))) × Placed s (n .0) × Known (recordsOf (now image)) s (marks .each) ⌝ }
-    ensures { λ r. ⌜ r ≡ cutNeeds (counted (termAt (recordsOf (now (image .entry))) (rootOf (recordsOf (now (image .entry))))) s (termAt (recordsOf (now (image .entry))) (n .0))) ⌝ }
+    requires { ⌜ Lent (now image) (now terms) (now descriptors) × IsTerm (now image) (at .term .0) × Placed (recordsOf (now image)) (at .stand) (at .term .0) × (length (now rows) ≡ tableLength) × Known (recordsOf (now image)) (at .stand) each (now rows) ⌝ }
+    ensures { λ r. ⌜ r ≡ cutNeeds (counted (termAt (recordsOf (now (image .entry))) (rootOf (recordsOf (now (image .entry))))) (at .stand) (termAt (recordsOf (now (image .entry))) (at .term .0))) ⌝ }
 {
+    let n = at.term;
+    let s = at.stand;
     let mode = s.mode;
     if skips_all(mode) {
         return no_needs();
@@ -110,29 +85,20 @@ pub fn walk(
     let p = part_domain(image, terms, descriptors, n);
     let v = branch_variables(image, terms, n);
     let k = child_count(image, terms, n);
-    let each = marks.each;
-    let root = marks.root;
-    let mut sum = own_needs(own, s, p, each);
+    let mut sum = own_needs(own, s, p, at_mark(each, rows, s.kept));
     let mut choice = no_needs();
     let mut j: usize = 0;
     while j < k {
         let role = role_at(shape, j);
         let e = child_at(image, terms, n, j);
         let q = child_stand(s, role, p);
-        let mut at = each;
-        if both(is_program(mode), is_kept(role)) {
-            at = walk(image, terms, descriptors, root, level_stand(q.kept), marks);
-        }
         let x = walk(
             image,
             terms,
             descriptors,
-            e,
-            q,
-            Marks {
-                root: root,
-                each: at,
-            },
+            Visit { term: e, stand: q },
+            each,
+            rows,
         );
         sum = add(sum, added(s, role, x));
         choice = dearer(choice, chosen(s, role, v, x));

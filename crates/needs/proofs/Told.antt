@@ -4,7 +4,7 @@ use native.Mathlib.Omega.{arith}
 use mathlib.Core.Path.{_≡_, refl, sym, ap, subst, _∙_}
 use mathlib.Core.Bool.{true, false}
 use mathlib.Core.List.{List}
-use lib.ListN.{length}
+use lib.ListN.{length, getD, replicate}
 use lib.Dec.{ltb}
 use borrow.Author.Tests.{lt-ltb, le-ltb}
 use Rattle.calculus.specs.Combinators.{choose}
@@ -13,6 +13,7 @@ use Rattle.calculus_needs.specs.Needs.{needOf, rounds}
 use Rattle.calculus_needs.specs.Claims.{Under}
 use Rattle.calculus_needs.proofs.Small.{most}
 use Rattle.calculus_needs.proofs.Shift.{level}
+use Rattle.calculus_needs.proofs.Kept.{pieceless, rounds-alike}
 use Rattle.image.specs.declared.Refusal.{Refusal}
 use Rattle.image.specs.Limits.{imageLimit, workLength, reportLength}
 use Rattle.image.specs.Records.{Layout}
@@ -20,7 +21,7 @@ use Rattle.image.specs.Layout.{recordsOf}
 use Rattle.image.specs.Types.{termPlace, rootOf}
 use Rattle.image.specs.Program.{tree, program, toTm}
 use Rattle.verdict.specs.declared.Verdict.{Verdict}
-use Rattle.verdict.specs.Answers.{isRefused}
+use Rattle.verdict.specs.Acceptable.{Depth}
 use Rattle.verdict.specs.Verdicts.{verdict}
 use Rattle.verdict.proofs.Accept.{accepted-iff, acceptable-records}
 use Rattle.check_records.specs.declared.numbers.Counts.{Counts}
@@ -36,7 +37,10 @@ use Rattle.image_needs.proofs.Fits.{deepest, highest, accepted-small}
 use Rattle.need_class.specs.First.{lowestAt}
 use Rattle.need_sums.specs.declared.places.Stand.{Stand}
 use Rattle.need_sums.specs.Sums.{cut, cutNeeds}
-use Rattle.need_walk.specs.Counted.{counted, termAt, Placed, levelStand}
+use Rattle.need_sums.specs.Rows.{rowCount, tableLength, atMark, Summed}
+use Rattle.need_walk.specs.Counted.{counted, termAt, Shallow, Placed, levelStand}
+use Rattle.need_rows.specs.Pieces.{inRow, pieceAt}
+use Rattle.need_rows.proofs.Pieces.{mainline-row, others-row}
 use Rattle.needs.specs.Known.{programStand, cutProgram, cutClassed}
 
 -- The root's term is the program.
@@ -44,15 +48,46 @@ pub root-term : (L : Layout) → 0 < length (L .terms) → termAt L (rootOf L) �
 unfolding program
 root-term L h = let e : suc (length (L .terms) - 1) ≡ length (L .terms) = omega arith in ap (λ f. toTm (tree L f (rootOf L))) e
 
-pub level-placed : (s : Stand) (r : ℕ) → s ≡ levelStand 0 → r < 1024 → Placed s r
-level-placed s r e h = rw e (record { deep = omega arith; kept = omega arith })
+-- Numbers that differ in pieces alone, cut.
+alike-cut : (m n : Numbers) (w : Needs) (rows : List ℕ) (k : ℕ) → w ≡ cutNeeds m → pieceless m ≡ pieceless n → cut (getD rows k 0) ≡ cut (n .used .mainline .pieces)
+    → cut (getD rows (rowCount + k) 0) ≡ cut (n .used .others .pieces) → atMark w rows k ≡ cutNeeds n
+unfolding atMark cutNeeds pieceless
+alike-cut m n w rows k ew e p q =
+    let steps : cut (m .steps) ≡ cut (n .steps) = ap (λ x. cut (x .steps)) e in
+    let bindings : cut (m .used .mainline .bindings) ≡ cut (n .used .mainline .bindings) = ap (λ x. cut (x .used .mainline .bindings)) e in
+    let bindings′ : cut (m .used .others .bindings) ≡ cut (n .used .others .bindings) = ap (λ x. cut (x .used .others .bindings)) e in
+    let cells : cut (m .used .mainline .cells) ≡ cut (n .used .mainline .cells) = ap (λ x. cut (x .used .mainline .cells)) e in
+    let cells′ : cut (m .used .others .cells) ≡ cut (n .used .others .cells) = ap (λ x. cut (x .used .others .cells)) e in
+    let labels : cut (m .labels) ≡ cut (n .labels) = ap (λ x. cut (x .labels)) e in
+    let advices : cut (m .advices) ≡ cut (n .advices) = ap (λ x. cut (x .advices)) e in
+    let frames : cut (m .frames) ≡ cut (n .frames) = ap (λ x. cut (x .frames)) e in
+    let prints : cut (m .prints) ≡ cut (n .prints) = ap (λ x. cut (x .prints)) e in
+    rw ew cc
 
-pub program-placed : (s : Stand) (r : ℕ) → s ≡ programStand → r < 1024 → Placed s r
-program-placed s r e h = rw e (record { deep = omega arith; kept = omega arith })
+-- The root has depth 1, and no value is kept around it.
+root-depth : (L : Layout) (r : ℕ) → r ≡ rootOf L → Depth L r 1
+root-depth L r e = subst (λ m. Depth L m 1) (sym e) Depth.at-root
 
--- All advice at a mark, and the program.
-pub each-known : (L : Layout) (s : Stand) (r : ℕ) (w : Needs) → s ≡ levelStand 0 → r ≡ rootOf L → w ≡ cutNeeds (counted (termAt L (rootOf L)) s (termAt L r)) → w ≡ cutNeeds (rounds (level 0) (termAt L (rootOf L)))
-each-known L s r w es er h = h ∙ (ap (λ x. cutNeeds (counted (termAt L (rootOf L)) x (termAt L r))) es ∙ ap (λ x. cutNeeds (rounds (level 0) (termAt L x))) er)
+pub level-placed : (L : Layout) (s : Stand) (r : ℕ) → s ≡ levelStand 0 → r ≡ rootOf L → r < 1024 → Shallow L → Placed L s r
+level-placed L s r e er h sh = rw e (record { deep = omega arith; shallow = sh; own-depth = 1; at-depth = root-depth L r er; kept = omega arith })
+
+pub program-placed : (L : Layout) (s : Stand) (r : ℕ) → s ≡ programStand → r ≡ rootOf L → r < 1024 → Shallow L → Placed L s r
+program-placed L s r e er h sh = rw e (record { deep = omega arith; shallow = sh; own-depth = 1; at-depth = root-depth L r er; kept = omega arith })
+
+-- All advice at a mark: its pieces by the rows, the rest as it is where no value is kept.
+module _ (L : Layout) (s q : Stand) (r : ℕ) (w : Needs) (rows : List ℕ) (es : s ≡ levelStand 0) (eq : q ≡ levelStand 0) (er : r ≡ rootOf L) (ew : w ≡ cutNeeds (counted (termAt L (rootOf L)) s (termAt L r)))
+    (A : Summed (pieceAt (inRow L q r)) (replicate tableLength 0) rows) where
+  row-is : (k : ℕ) → inRow L q r k ≡ rounds (level k) (termAt L (rootOf L))
+  row-is k = let z : k + 0 ≡ k = omega arith in ap (λ x. inRow L x r k) eq ∙ (ap (λ y. rounds (level y) (termAt L r)) z ∙ ap (λ x. rounds (level k) (termAt L x)) er)
+
+  each-is : w ≡ cutNeeds (rounds (level 0) (termAt L (rootOf L)))
+  each-is = ew ∙ (ap (λ x. cutNeeds (counted (termAt L (rootOf L)) x (termAt L r))) es ∙ ap (λ x. cutNeeds (rounds (level 0) (termAt L x))) er)
+
+  pub marks-known : (k : ℕ) → k < rowCount → atMark w rows k ≡ cutNeeds (rounds (level k) (termAt L (rootOf L)))
+  marks-known k l =
+      alike-cut (rounds (level 0) (termAt L (rootOf L))) (rounds (level k) (termAt L (rootOf L))) w rows k each-is (rounds-alike (termAt L (rootOf L)) (level 0) k .alike)
+      (mainline-row (inRow L q r) rows A k l ∙ ap (λ x. cut (x .used .mainline .pieces)) (row-is k))
+      (others-row (inRow L q r) rows A k l ∙ ap (λ x. cut (x .used .others .pieces)) (row-is k))
 
 pub program-known : (L : Layout) → 0 < length (L .terms) → (s : Stand) (r : ℕ) (w : Needs) → s ≡ programStand → r ≡ rootOf L → w ≡ cutNeeds (counted (termAt L (rootOf L)) s (termAt L r)) → w ≡ cutProgram L
 program-known L some s r w es er h =
@@ -110,6 +145,11 @@ module _ (b : List ℕ) (short : length b ≤ imageLimit) (x : Checked) (answer 
   accepted-told n e f h =
       let k : cutNeeds (needOf (toTm (program (recordsOf b)))) ≡ needsOf (needOf (toTm (program (recordsOf b)))) = not-cut (accepted-small b workLength reportLength (sym (accepted n e))) in
       h ∙ (ap (λ x. choose (ltb (lowestFault (recordsOf b)) (length (recordsOf b .terms))) (Forecast.OutsideClass (termPlace (recordsOf b) (lowestFault (recordsOf b)))) (Forecast.Known x)) k ∙ ap (λ v. unless v (classed (recordsOf b))) (accepted n e))
+
+  pub shallow-terms : (n : Counts) → x ≡ Checked.Accepted n → Shallow (recordsOf b)
+  shallow-terms n e =
+      let a = accepted-iff b workLength reportLength .0 (sym (accepted n e)) in
+      subst (λ L. Shallow L) (acceptable-records a) (a .shallow)
 
   pub some-terms : (n : Counts) → x ≡ Checked.Accepted n → 0 < length (recordsOf b .terms)
   some-terms n e =

@@ -9,10 +9,11 @@ use image_needs::Forecast;
 use image_needs::Needs;
 use image_needs::OUTSIDE_NUMBER;
 use need_class::lowest_fault;
+use need_rows::add_pieces;
 use need_sums::places::Mode;
 use need_sums::places::Stand;
 use need_sums::sums::no_needs;
-use need_walk::Marks;
+use need_walk::Visit;
 use need_walk::level_stand;
 use need_walk::walk;
 use validator::examine::Checked;
@@ -25,6 +26,7 @@ ghost use Rattle.image.specs.Layout.{recordsOf};
 ghost use Rattle.image.specs.Types.{rootOf};
 ghost use Rattle.check_rules.specs.Lent.{Lent};
 ghost use Rattle.image_needs.specs.Forecasts.{forecast, forecastAsNumber, elevenNumbers, putNumbers, numbersLeft};
+ghost use Rattle.need_walk.specs.Counted.{Shallow};
 ghost use Rattle.needs.specs.Known.{programStand, cutClassed, cutProgram};
 
 // How many numbers a forecast has.
@@ -42,39 +44,42 @@ fn program_stand() -> Stand
     }
 }
 
-// The numbers of a program: first what all its advice takes at a mark, then the program itself.
+// The numbers of a program: first what all its advice takes at a mark, with no value kept around it; then its pieces for each
+// number of kept values; then the program itself.
 fn program_needs(image: &[u8], terms: &[u16], descriptors: &[u32], root: TermNo) -> Needs
-    requires { ⌜ Lent (now image) (now terms) (now descriptors) × (0 < length (recordsOf (now image) .terms)) × (root .0 ≡ rootOf (recordsOf (now image))) ⌝ }
+    requires { ⌜ Lent (now image) (now terms) (now descriptors) × (0 < length (recordsOf (now image) .terms)) × (root .0 ≡ rootOf (recordsOf (now image))) × Shallow (recordsOf (now image)) ⌝ }
     ensures { λ r. ⌜ r ≡ cutProgram (recordsOf (now (image .entry))) ⌝ }
 {
+    let mut rows = [0u32; 128];
     let none = no_needs();
     let each = walk(
         image,
         terms,
         descriptors,
-        root,
-        level_stand(0),
-        Marks {
-            root: root,
-            each: none,
+        Visit {
+            term: root,
+            stand: level_stand(),
         },
+        none,
+        &rows,
     );
+    add_pieces(image, terms, descriptors, root, level_stand(), &mut rows);
     walk(
         image,
         terms,
         descriptors,
-        root,
-        program_stand(),
-        Marks {
-            root: root,
-            each: each,
+        Visit {
+            term: root,
+            stand: program_stand(),
         },
+        each,
+        &rows,
     )
 }
 
 // Of an image that the check accepts, with so many terms.
 fn forecast_accepted(image: &[u8], terms: &[u16], descriptors: &[u32], count: usize) -> Forecast
-    requires { ⌜ Lent (now image) (now terms) (now descriptors) × (0 < count) × (count ≡ length (recordsOf (now image) .terms)) ⌝ }
+    requires { ⌜ Lent (now image) (now terms) (now descriptors) × (0 < count) × (count ≡ length (recordsOf (now image) .terms)) × Shallow (recordsOf (now image)) ⌝ }
     ensures { λ r. ⌜ r ≡ cutClassed (recordsOf (now (image .entry))) ⌝ }
 {
     let root = TermNo((count - 1) as u16);

@@ -2,7 +2,7 @@ use borrow.Author.Needs.{needs}
 use Prim.Native.Nat.{_<_}
 use mathlib.Core.Path.{refl, sym, ap, subst, _∙_}
 use denote.Ref.{now}
-use Rattle.needs.proofs.Told.{refused-told, accepted-told, some-terms, lent-from}
+use Rattle.needs.proofs.Told.{shallow-terms, refused-told, accepted-told, some-terms, lent-from}
 use Rattle.needs.proofs.forecast_checked.Statement.{statement}
 use Rattle.needs.proofs.forecast_checked.Tie as tie
 use Rattle.needs.proofs.forecast_checked.Reads as reads
@@ -58,7 +58,7 @@ slice-aggregate-forecast-accepted-2 c = search needs
 -- src/lib.rt:103:38
 forecast-accepted-requires : tie.Need-forecast-accepted-requires
 forecast-accepted-requires c κs =
-    let s = c .before .before .before .before .before .before .before .before .before .before .before .before .before .before .before .before .before in let E = c .before .before .before .before .before .before .before .before .before .examine-image .ensures in let F = E .filled _ (c .before .before .before .checked2 .given .1) in let n = F .counts .terms in let some = some-terms (now (s .args .image)) (s .pre) _ (E .answer) _ (c .before .before .before .checked2 .given .1) in (lent-from F, subst (λ k. 0 < k) (sym n) some, n)
+    let s = c .before .before .before .before .before .before .before .before .before .before .before .before .before .before .before .before .before in let E = c .before .before .before .before .before .before .before .before .before .examine-image .ensures in let F = E .filled _ (c .before .before .before .checked2 .given .1) in let n = F .counts .terms in let some = some-terms (now (s .args .image)) (s .pre) _ (E .answer) _ (c .before .before .before .checked2 .given .1) in let shallow = shallow-terms (now (s .args .image)) (s .pre) _ (E .answer) _ (c .before .before .before .checked2 .given .1) in (lent-from F, subst (λ k. 0 < k) (sym n) some, n, shallow)
 
 -- src/lib.rt:84:1
 returns : tie.Need-returns

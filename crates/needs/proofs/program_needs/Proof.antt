@@ -1,45 +1,71 @@
 use borrow.Author.Needs.{needs}
-use mathlib.Core.Path.{refl, sym, ap, subst, _∙_}
+use mathlib.Core.Path.{refl, ap}
 use denote.Ref.{now}
 use native.Mathlib.Omega.{arith}
 use Rattle.image.specs.Layout.{recordsOf}
 use Rattle.check_rules.proofs.Located.{good-of}
-use Rattle.needs.proofs.Told.{level-placed, program-placed, each-known, program-known}
+use Rattle.need_walk.specs.Counted.{Known}
+use Rattle.need_rows.specs.Pieces.{ofAdvice}
+use Rattle.needs.specs.Known.{programStand}
+use Rattle.needs.proofs.Told.{level-placed, program-placed, marks-known, program-known}
 use Rattle.needs.proofs.program_needs.Statement.{statement}
 use Rattle.needs.proofs.program_needs.Tie as tie
-use Rattle.needs.proofs.program_needs.Reads as reads
-use Rattle.needs.proofs.program_needs.Lts as lts
-use Rattle.need_sums.proofs.sums.no_needs.Reads as no-needs-reads
-use Rattle.need_walk.proofs.level_stand.Reads as level-stand-reads
-use Rattle.need_walk.proofs.walk.Reads as walk-reads
-use Rattle.needs.proofs.program_stand.Reads as program-stand-reads
 
--- src/lib.rt:45:9
 no-needs-requires : tie.Need-no-needs-requires
 no-needs-requires c κs = search needs
 
--- src/lib.rt:51:9
 level-stand-requires : tie.Need-level-stand-requires
 level-stand-requires c κs = search needs
 
--- src/lib.rt:46:9
+slice-aggregate-walk : tie.Need-slice-aggregate-walk
+slice-aggregate-walk c = search needs
+
 walk-requires : tie.Need-walk-requires
 walk-requires c κs =
-    let s = c .before .before .before .before .before in let few = good-of (now (s .args .image)) (s .pre .0 .terms .laid-out) .few-terms in let some = s .pre .1 in let root = s .pre .2 in let L = recordsOf (now (s .args .image)) in (s .pre .0, omega arith, root, level-placed _ _ (c .level-stand .ensures) (omega arith), rw (c .level-stand .ensures) tt)
+    let s = c .before .before .before .before .before .before in
+    let L = recordsOf (now (s .args .image)) in
+    let few = good-of (now (s .args .image)) (s .pre .0 .terms .laid-out) .few-terms in
+    let some = s .pre .1 in
+    let root = s .pre .2 in
+    (s .pre .0, omega arith, level-placed L _ _ (c .before .level-stand .ensures) root (omega arith) (s .pre .3), refl, rw (c .before .level-stand .ensures) tt)
 
--- src/lib.rt:62:9
+level-stand-requires-2 : tie.Need-level-stand-requires-2
+level-stand-requires-2 c κs = search needs
+
+slice-aggregate-add-pieces : tie.Need-slice-aggregate-add-pieces
+slice-aggregate-add-pieces c = search needs
+
+add-pieces-requires : tie.Need-add-pieces-requires
+add-pieces-requires c κs =
+    let s = c .before .before .before .before .before .before .before .before .before in
+    let L = recordsOf (now (s .args .image)) in
+    let few = good-of (now (s .args .image)) (s .pre .0 .terms .laid-out) .few-terms in
+    let some = s .pre .1 in
+    let root = s .pre .2 in
+    (s .pre .0, omega arith, level-placed L _ _ (c .before .level-stand2 .ensures) root (omega arith) (s .pre .3), ap (λ x. ofAdvice (x .mode)) (c .before .level-stand2 .ensures), refl)
+
 program-stand-requires : tie.Need-program-stand-requires
 program-stand-requires c κs = search needs
 
--- src/lib.rt:57:5
+slice-aggregate-walk-2 : tie.Need-slice-aggregate-walk-2
+slice-aggregate-walk-2 c = search needs
+
 walk-requires-2 : tie.Need-walk-requires-2
 walk-requires-2 c κs =
-    let s = c .before .before .before .before .before .before .before in let few = good-of (now (s .args .image)) (s .pre .0 .terms .laid-out) .few-terms in let some = s .pre .1 in let root = s .pre .2 in let L = recordsOf (now (s .args .image)) in (s .pre .0, omega arith, root, program-placed _ _ (c .program-stand .ensures) (omega arith), rw (c .program-stand .ensures) (each-known L _ _ _ (c .before .before .level-stand .ensures) root (c .before .walk .ensures)))
+    let s = c .before .before .before .before .before .before .before .before .before .before .before .before .before in
+    let L = recordsOf (now (s .args .image)) in
+    let few = good-of (now (s .args .image)) (s .pre .0 .terms .laid-out) .few-terms in
+    let some = s .pre .1 in
+    let root = s .pre .2 in
+    let rows = c .before .before .before .add-pieces .last .1 .1 .1 .1 .1 .0 in
+    let known : Known L programStand (c .before .before .before .before .before .before .walk .result) rows = marks-known L (c .before .before .before .before .before .before .before .before .level-stand .result) (c .before .before .before .before .before .level-stand2 .result) (s .args .root .0) (c .before .before .before .before .before .before .walk .result) rows (c .before .before .before .before .before .before .before .before .level-stand .ensures) (c .before .before .before .before .before .level-stand2 .ensures) root (c .before .before .before .before .before .before .walk .ensures) (c .before .before .before .add-pieces .ensures) in
+    (s .pre .0, omega arith, program-placed L _ _ (c .before .program-stand .ensures) root (omega arith) (s .pre .3), c .before .before .before .add-pieces .kept .1 .1 .1 .1 .1 .0, rw (c .before .program-stand .ensures) known)
 
--- src/lib.rt:41:1
 returns : tie.Need-returns
 returns c =
-    let s = c .before .before .before .before .before .before .before .before in let few = good-of (now (s .args .image)) (s .pre .0 .terms .laid-out) .few-terms in let some = s .pre .1 in let root = s .pre .2 in let L = recordsOf (now (s .args .image)) in program-known L some _ _ _ (c .before .program-stand .ensures) root (c .walk2 .ensures)
+    let s = c .before .before .before .before .before .before .before .before .before .before .before .before .before .before in
+    let L = recordsOf (now (s .args .image)) in
+    program-known L (s .pre .1) _ _ _ (c .before .before .program-stand .ensures) (s .pre .2) (c .walk2 .ensures)
 
 pub program-needs-spec : {M : Type 1} → statement M
 program-needs-spec =
@@ -47,7 +73,12 @@ program-needs-spec =
     (tie.spec
     no-needs-requires
     level-stand-requires
+    slice-aggregate-walk
     walk-requires
+    level-stand-requires-2
+    slice-aggregate-add-pieces
+    add-pieces-requires
     program-stand-requires
+    slice-aggregate-walk-2
     walk-requires-2
     returns)

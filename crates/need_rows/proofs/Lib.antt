@@ -1,0 +1,3 @@
+-- The proofs of the walk for pieces.
+pub mod Pieces
+pub mod Children

@@ -1,0 +1,2 @@
+-- Pieces, row by row (document 02, card 10).
+pub mod Pieces
