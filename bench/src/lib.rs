@@ -5,13 +5,20 @@
 //! generated, of depth 9 or of the one after `--depth`, `--quick` measures less often, `--dump DIR` writes the images and
 //! measures nothing, `--save FILE` adds the times to a file, `--means FILE` adds them too and then prints the means of all
 //! runs in the file, `--write DOCS` writes the tables into DOCS/PERFORMANCE.md and the plot DOCS/performance.svg.
+//! `--calls N` measures nothing: it makes so many calls of both engines on random images, of seed 1 or of the one after
+//! `--seed`, and stops at the first that differs.
 #![deny(missing_docs)]
+mod calls;
 mod document;
 mod images;
 mod load;
 mod lua;
 mod measure;
 mod plot;
+mod programs;
+#[allow(dead_code)]
+#[path = "../../bindings/rust/tests/differential/random.rs"]
+mod random;
 mod saved;
 mod table;
 
@@ -39,6 +46,11 @@ fn after<'a>(arguments: &'a [String], option: &str) -> Option<&'a str> {
     Some(arguments.get(at + 1).unwrap_or_else(|| panic!("{option} takes an argument")))
 }
 
+/// The number that an argument says.
+fn number<T: std::str::FromStr>(word: &str) -> T {
+    word.parse().unwrap_or_else(|_| panic!("{word} is no number that fits"))
+}
+
 /// Prints the tables and, if there is a folder for them, writes them and the plot. Only the bench's own images are
 /// compared with Lua, and plotted.
 fn show(rows: &[Row], compared: Option<&Compared>, docs: Option<&Path>) {
@@ -60,6 +72,11 @@ fn show(rows: &[Row], compared: Option<&Compared>, docs: Option<&Path>) {
 /// The program: measures the verified engine and, if there is one, a plain one.
 pub fn main(plain: Option<Engine>) {
     let arguments: Vec<String> = std::env::args().collect();
+    let engines: Vec<Engine> = [Some(verified as Engine), plain].into_iter().flatten().collect();
+    if let Some(calls) = after(&arguments, "--calls") {
+        let seed = after(&arguments, "--seed").map_or(1, |seed| number(seed));
+        return println!("{}", calls::compare(&engines, number(calls), seed));
+    }
     let folder = after(&arguments, "--images");
     let seeds = after(&arguments, "--load");
     let images = match (folder, seeds) {
@@ -71,7 +88,6 @@ pub fn main(plain: Option<Engine>) {
         return images::dump(&images, Path::new(folder));
     }
     let repetitions = if arguments.iter().any(|argument| argument == "--quick") { 31 } else { 301 };
-    let engines: Vec<Engine> = [Some(verified as Engine), plain].into_iter().flatten().collect();
     let mut rows: Vec<Row> = images.iter().map(|image| measure::measure(image, &engines, repetitions)).collect();
     if seeds.is_some() {
         return println!("{}", load::text(&rows));

@@ -1,14 +1,11 @@
 //! Generated images, with which stations compare their boards (document 02, card 12).
 use crate::images::Image;
 use crate::measure::{Row, Time};
+use crate::number;
 use crate::table;
 
 /// The depth of the images if none is said: the greatest, whose runs are the longest.
 const DEPTH: usize = bukzarn::LOAD_DEPTH;
-
-fn number<T: std::str::FromStr>(word: &str) -> T {
-    word.parse().unwrap_or_else(|_| panic!("{word} is no number that fits"))
-}
 
 /// The seeds of a list such as `7,12,100-163`, in its order.
 fn seeds(list: &str) -> Vec<u32> {

@@ -31,6 +31,9 @@ pub set-append : (es gs ds : List ℕ) (d : ℕ) → setAll (es ++ gs) d ds ≡ 
 set-append [] gs ds d = refl
 set-append (e ∷ es) gs ds d = set-append es gs (set ds e d) d
 
+pub set-none : (es ds : List ℕ) (d : ℕ) → es ≡ [] → ds ≡ setAll es d ds
+set-none es ds d e = rw e refl
+
 -- One term after another, down.
 pub capped-next : (L : Layout) (i : ℕ) (ds es : List ℕ) → 0 < i → children L (i - 1) ≡ es → cappedFrom L i ds ≡ cappedFrom L (i - 1) (setAll es (more (suc depthLimit) (getD ds (i - 1) 0)) ds)
 unfolding cappedFrom

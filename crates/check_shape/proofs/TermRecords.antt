@@ -2,21 +2,25 @@
 use Prim.Native.Nat.{ℕ, _+_, _*_, _≤_, _<_}
 use native.Mathlib.Omega.{arith}
 use mathlib.Core.Path.{_≡_, refl, ap, subst, sym, _∙_}
-use mathlib.Core.List.{List, _++_}
+use mathlib.Core.Bool.{true, false, not}
+use mathlib.Core.List.{List, [], _++_}
 use lib.ListN.{length, getD, take, length-append, List·getD-append}
 use lib.Seq.{getD-append-add}
-use Rattle.image.specs.Bytes.{le16}
+use lib.Dec.{eqb}
+use borrow.Author.Tests.{not-false}
+use Rattle.image.specs.Bytes.{le16, words}
 use Rattle.image.specs.Records.{Layout}
 use Rattle.image.specs.Layout.{recordsOf}
 use Rattle.image.specs.Types.{termPlace, termKind, children}
+use Rattle.laws.proofs.Booleans.{or-false-l, or-false-r, eq-of}
 use Rattle.image.proofs.Words.{words-length, words-at}
 use Rattle.image.proofs.Laid.{Below, Good, below-at, layout-good, image-kept}
-use Rattle.check_records.specs.Codes.{countOf, childrenIn}
-use Rattle.check_records.specs.Heads.{fieldIn, sideOf}
+use Rattle.check_records.specs.Codes.{countOf, firstChildrenOf, groupOf, childrenIn, entriesIn}
+use Rattle.check_records.specs.Heads.{fieldIn, sideOf, childrenOf}
 use Rattle.check_records.specs.Tables.{Tables}
 use Rattle.check_records.proofs.Codes.{known-code, kind-small}
 use Rattle.check_records.proofs.Parts.{whole, children-fit, children-are}
-use Rattle.check_shape.specs.Records.{TermAt, childrenOfTerm, Lower, DomainsOf, Domains, TermsOf, Terms}
+use Rattle.check_shape.specs.Records.{TermAt, mayHaveChildren, childrenOfTerm, Lower, DomainsOf, Domains, TermsOf, Terms}
 
 -- The children side by side in the fields fs of a record whose kind has the code x: how many there are, and child j.
 module _ (x : ℕ) (fs : List ℕ) where
@@ -38,6 +42,16 @@ module _ (n : ℕ) (es gs : List ℕ) (l : Lower n (es ++ gs)) where
 
 pub lower-up : (n m : ℕ) (es : List ℕ) → n ≤ m → Lower n es → Lower m es
 lower-up n m es h l = record { at = λ j k. let z = l .at j k in omega arith }
+
+-- A kind that has no children among its first fields, and no group, has none.
+pub childless : (x : ℕ) (fs : List ℕ) → mayHaveChildren x ≡ false → childrenOf x fs ≡ []
+unfolding words
+childless x fs h =
+    let a : eqb (groupOf x) 0 ≡ true = not-false (eqb (groupOf x) 0) (or-false-r (not (eqb (firstChildrenOf x) 0)) (not (eqb (groupOf x) 0)) h) in
+    let b : eqb (firstChildrenOf x) 0 ≡ true = not-false (eqb (firstChildrenOf x) 0) (or-false-l (not (eqb (firstChildrenOf x) 0)) (not (eqb (groupOf x) 0)) h) in
+    let k : childrenIn x (length fs) ≡ 0 = rw a (eq-of b) in
+    let n : entriesIn x (length fs) ≡ 0 = rw a refl in
+    rw (k, n) refl
 
 -- What a good layout says of its domains and terms.
 below-lower : (n : ℕ) (es : List ℕ) → Below n es → Lower n es

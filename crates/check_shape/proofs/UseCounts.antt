@@ -40,6 +40,10 @@ unfolding lowAll
 low-append [] gs ds d low = refl
 low-append (e ∷ es) gs ds d low = low-append es gs (set ds e d) d (lowered low (getD ds e 0) e)
 
+pub low-none : (es ds : List ℕ) (d low : ℕ) → es ≡ [] → low ≡ lowAll es d low ds
+unfolding lowAll
+low-none es ds d low e = rw e refl
+
 -- One term after another, down.
 pub low-down : (L : Layout) (i low : ℕ) (ds es : List ℕ) → 0 < i → children L (i - 1) ≡ es
     → lowFrom L i low ds ≡ lowFrom L (i - 1) (lowAll es (more (suc depthLimit) (getD ds (i - 1) 0)) low ds) (setAll es (more (suc depthLimit) (getD ds (i - 1) 0)) ds)

@@ -18,6 +18,10 @@ use Rattle.verdict.specs.Shape.{setAll}
 abbrev pub more : ℕ → ℕ → ℕ
 more limit n = min limit (suc n)
 
+-- The depth of the children of term n, whose own depth is among ds, up to one past the limit.
+abbrev pub depthBelow : List ℕ → ℕ → ℕ
+depthBelow ds n = more (suc depthLimit) (getD ds n 0)
+
 -- The lowest term used again, with one use more, of a term e that has the depth d so far.
 abbrev pub lowered : ℕ → ℕ → ℕ → ℕ
 lowered low d e = choose (eqb d 0) low (min low e)
@@ -30,12 +34,12 @@ lowAll (e ∷ es) d low ds = lowAll es d (lowered low (getD ds e 0) e) (set ds e
 -- From term n - 1 down, each term gives its children one more than its own depth, up to one past the limit.
 unfoldable pub cappedFrom : Layout → ℕ → List ℕ → List ℕ
 cappedFrom L zero ds = ds
-cappedFrom L (suc n) ds = cappedFrom L n (setAll (children L n) (more (suc depthLimit) (getD ds n 0)) ds)
+cappedFrom L (suc n) ds = cappedFrom L n (setAll (children L n) (depthBelow ds n) ds)
 
 -- The lowest term used again, meanwhile.
 unfoldable pub lowFrom : Layout → ℕ → ℕ → List ℕ → ℕ
 lowFrom L zero low ds = low
-lowFrom L (suc n) low ds = lowFrom L n (lowAll (children L n) (more (suc depthLimit) (getD ds n 0)) low ds) (setAll (children L n) (more (suc depthLimit) (getD ds n 0)) ds)
+lowFrom L (suc n) low ds = lowFrom L n (lowAll (children L n) (depthBelow ds n) low ds) (setAll (children L n) (depthBelow ds n) ds)
 
 -- Of the n first terms, the first that is not used is i, which is n if each is used.
 pub record FirstUnused (ds : List ℕ) (n i : ℕ) : Type 0 where

@@ -1,14 +1,16 @@
 -- What the tables hold of an image that is laid out (document 01, "The image"), as the passes need it: where its domains and its terms stand, and the fields of each.
 use Prim.Native.Nat.{ℕ, _≤_, _<_}
 use mathlib.Core.Path.{_≡_}
+use mathlib.Core.Bool.{Bool, not, _||_}
 use mathlib.Core.List.{List}
 use lib.ListN.{length, getD}
+use lib.Dec.{eqb}
 use Rattle.image.specs.Limits.{domainLimit, termLimit}
 use Rattle.image.specs.Bytes.{numberAt, lengthAt}
 use Rattle.image.specs.Records.{Layout}
 use Rattle.image.specs.Layout.{recordsOf}
 use Rattle.image.specs.Types.{children}
-use Rattle.check_records.specs.Codes.{codeCount, codeAt}
+use Rattle.check_records.specs.Codes.{codeCount, codeAt, firstChildrenOf, groupOf}
 use Rattle.check_records.specs.Heads.{IsWhole, fieldsAt, Fitting, childrenOf}
 
 -- The record at o is a whole one, and has a mask.
@@ -32,6 +34,10 @@ pub record TermAt (b : List ℕ) (o : ℕ) : Type 0 where
   pub known : numberAt b o < codeCount
   pub whole : IsWhole b o
   pub fitting : Fitting (codeAt (numberAt b o)) (fieldsAt b o)
+
+-- A kind with the code x may have children: among its first fields, or in its group.
+abbrev pub mayHaveChildren : ℕ → Bool
+mayHaveChildren x = not (eqb (firstChildrenOf x) 0) || not (eqb (groupOf x) 0)
 
 abbrev pub childrenOfTerm : List ℕ → ℕ → List ℕ
 childrenOfTerm b o = childrenOf (codeAt (numberAt b o)) (fieldsAt b o)

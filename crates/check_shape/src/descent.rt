@@ -6,10 +6,11 @@ use crate::marks::set_mark;
 use check_records::numbers::TermNo;
 use check_records::numbers::term_offset;
 use image::Refusal;
+use laws::either;
 use verdict::Verdict;
 ghost use mathlib.Core.Path.{_≡_};
 ghost use Prim.Native.Nat.{_<_};
-ghost use lib.ListN.{length, replicate};
+ghost use lib.ListN.{length, getD, replicate};
 ghost use Rattle.image.specs.Limits.{termLimit};
 ghost use Rattle.image.specs.Kinds.{an-entry};
 ghost use Rattle.image.specs.Records.{asChild};
@@ -17,8 +18,8 @@ ghost use Rattle.image.specs.Layout.{recordsOf};
 ghost use Rattle.verdict.specs.Shape.{setAll};
 ghost use Rattle.check_records.specs.Codes.{kindCodes};
 ghost use Rattle.check_records.specs.Heads.{sideOf, entriesOf, childrenOf, Fitting};
-ghost use Rattle.check_shape.specs.Records.{Lower, Terms};
-ghost use Rattle.check_shape.specs.Marks.{lowAll, lowFrom, cappedFrom};
+ghost use Rattle.check_shape.specs.Records.{mayHaveChildren, childrenOfTerm, Lower, Terms};
+ghost use Rattle.check_shape.specs.Marks.{depthBelow, lowAll, lowFrom, cappedFrom};
 ghost use Rattle.check_shape.specs.Checks.{termsRight};
 
 // The number of no term.
@@ -83,6 +84,37 @@ fn mark_children(fields: &[u8], code: u32, d: u8, low: TermNo, depths: &mut [u8]
     mark_entries(fields, code, d, next, depths)
 }
 
+// A kind with this code may have children: among its first fields, or in its group.
+fn has_children(code: u32) -> bool
+    ensures { λ r. ⌜ r ≡ mayHaveChildren code ⌝ }
+{
+    let first = check_records::kinds::first_children(code);
+    let group = check_records::kinds::group_count(code);
+    either(first != 0, group != 0)
+}
+
+// The same for the children of term n, whose own depth is set. About half of all terms have none: their fields are not read.
+fn mark_term(
+    image: &[u8],
+    kinds: &[u32],
+    terms: &[u16],
+    n: TermNo,
+    low: TermNo,
+    depths: &mut [u8],
+) -> TermNo
+    requires { ⌜ (now kinds ≡ kindCodes) × Terms (now image) (now terms) × (length (now depths) ≡ length (now terms)) × (n .0 < length (now terms)) ⌝ }
+    ensures { λ r. ⌜ (r .0 ≡ lowAll (childrenOfTerm (now (image .entry)) (getD (now (terms .entry)) (n .0) 0)) (depthBelow (now (depths .entry)) (n .0)) (low .0) (now (depths .entry))) × (now (depths .exit) ≡ setAll (childrenOfTerm (now (image .entry)) (getD (now (terms .entry)) (n .0) 0)) (depthBelow (now (depths .entry)) (n .0)) (now (depths .entry))) ⌝ }
+{
+    let at = term_offset(terms, n);
+    let code = check_records::kinds::known_code(kinds, check_records::words::kind_at(image, at));
+    if !has_children(code) {
+        return low;
+    }
+    let d = one_more(TOO_DEEP, mark_of(depths, n));
+    let fields = check_records::reader::fields_at(image, at);
+    mark_children(fields, code, d, low, depths)
+}
+
 // The depth of each term, and the lowest term used again, the number of no term if there is none.
 fn mark_terms(image: &[u8], kinds: &[u32], terms: &[u16], depths: &mut [u8]) -> TermNo
     requires { ⌜ (now kinds ≡ kindCodes) × Terms (now image) (now terms) × (length (now depths) ≡ length (now terms)) ⌝ }
@@ -92,15 +124,7 @@ fn mark_terms(image: &[u8], kinds: &[u32], terms: &[u16], depths: &mut [u8]) -> 
     let mut i: usize = terms.len();
     while 0 < i {
         i -= 1;
-        let n = TermNo(i as u16);
-        let d = one_more(TOO_DEEP, mark_of(depths, n));
-        let at = term_offset(terms, n);
-        let code = check_records::kinds::known_code(
-            kinds,
-            check_records::words::kind_at(image, at),
-        );
-        let fields = check_records::reader::fields_at(image, at);
-        low = mark_children(fields, code, d, low, depths);
+        low = mark_term(image, kinds, terms, TermNo(i as u16), low, depths);
     }
     low
 }

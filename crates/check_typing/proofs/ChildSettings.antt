@@ -3,7 +3,7 @@ use Prim.Native.Nat.{ℕ, zero, suc, _+_, _*_, _<_}
 use native.Mathlib.Omega.{arith}
 use native.Mathlib.Numerals.{add-one}
 use mathlib.Core.Path.{_≡_, refl, sym, ap, _∙_}
-use mathlib.Core.Bool.{true}
+use mathlib.Core.Bool.{true, false, not, _||_}
 use mathlib.Core.List.{List, [], _∷_}
 use lib.ListN.{length, getD, set, length-set}
 use lib.Seq.{getD-set-same, take-set-le}
@@ -12,12 +12,14 @@ use Rattle.calculus.specs.Syntax.{Ty, Sigs, method}
 use Rattle.calculus.specs.Typing.{Has, has-first, has-later}
 use Rattle.calculus.specs.Plain.{domOf, methodsOf, methodDom}
 use Rattle.image.specs.Bytes.{words}
-use Rattle.image.specs.Kinds.{a-type, free, Body, here, function-body, advice-body, split-body, lower-body, method-body, match-body, TypeKind, typeRow, TermKind, termRow, bodyOf}
+use Rattle.image.specs.Kinds.{a-type, free, Body, here, function-body, advice-body, split-body, lower-body, method-body, match-body, TypeKind, typeRow, TermKind, termRow, bodies, bodyOf}
 use Rattle.image.specs.Records.{fieldsAt}
 use Rattle.image.specs.Layout.{recordsOf}
 use Rattle.image.specs.Types.{typePlace, typeFields, typeField, methodCount, isType, methodsOut, typeOut, typeOf}
-use Rattle.laws.proofs.Booleans.{eq-of}
+use Rattle.laws.proofs.Booleans.{no-path, or-false-l, or-false-r, not-t, eq-of}
 use Rattle.laws.proofs.Tests.{each}
+use Rattle.image.proofs.EveryKind.{everyOf, at-term, or-else}
+use Rattle.image.proofs.Offsets.{sideBySide}
 use Rattle.image.proofs.Bodies.{Owner, body-owner}
 use Rattle.image.proofs.TypeNumbers.{out-as}
 use Rattle.verdict.specs.Settings.{Setting}
@@ -32,10 +34,10 @@ use Rattle.check_rules.proofs.Descriptors.{unpacked, describes}
 use Rattle.check_rules.proofs.Counts.{children-counted}
 use Rattle.check_rules.proofs.Located.{good-of}
 use Rattle.check_rules.proofs.Scopes.{context-kept}
-use Rattle.check_rules.proofs.Elimination.{apart}
+use Rattle.check_rules.proofs.Elimination.{apart, left-over}
 use Rattle.check_rules.proofs.Methods.{bodies-counted}
 use Rattle.check_rules.proofs.OnDescriptors.{ownDescriptor, typeAtField, descriptorAtField, at-field-typed}
-use Rattle.check_typing.specs.Turns.{Passed, ChildAt}
+use Rattle.check_typing.specs.Turns.{elsewhere, anyElsewhere, movesChild, Passed, ChildAt}
 
 -- One variable more.
 pub bound-context : (scope : List ℕ) (len v : ℕ) → len < length scope → contextIn (set scope len v) (len + 1) ≡ v ∷ contextIn scope len
@@ -57,6 +59,35 @@ is-here split-body k w m r e = absurd (r .0 .0 .0 .1 (e ∙ ap (λ j. termRow j 
 is-here lower-body k w m r e = absurd (r .0 .0 .0 .0 .1 (e ∙ ap (λ j. termRow j .number) w))
 is-here method-body k w m r e = absurd (r .0 .1 (e ∙ ap (λ j. termRow j .number) w))
 is-here match-body k w m r e = absurd (r .1 (e ∙ ap (λ j. termRow j .number) w))
+
+pub none-moves : (m : ℕ) → apart m withBody → (k : TermKind) → m ≡ termRow k .number → movesChild k ≡ false
+unfolding everyOf
+none-moves m r k e = not-t (movesChild k) (left-over (λ k. not (movesChild k)) withBody refl m r k e)
+
+-- Where no child stands elsewhere, each stands where the term does, and they stand side by side.
+all-here : (bs : List Body) (d : Body) (i : ℕ) → anyElsewhere bs ≡ false → d ≡ here → getD bs i d ≡ here
+all-here [] d i h e = e
+all-here (b ∷ bs) d zero h e = stays b (or-false-l (elsewhere b) (anyElsewhere bs) h)
+  where
+    stays : (x : Body) → elsewhere x ≡ false → x ≡ here
+    stays here q = refl
+    stays function-body q = no-path q
+    stays advice-body q = no-path q
+    stays split-body q = no-path q
+    stays lower-body q = no-path q
+    stays method-body q = no-path q
+    stays match-body q = no-path q
+all-here (b ∷ bs) d (suc i) h e = all-here bs d i (or-false-r (elsewhere b) (anyElsewhere bs) h) e
+
+pub stays-here : (k : TermKind) → movesChild k ≡ false → (i : ℕ) → bodyOf k i ≡ here
+stays-here k h i =
+    let first : List Body = bodies (termRow k .first) in
+    let group : List Body = bodies (termRow k .group) in
+    all-here first (getD group 0 here) i (or-false-l (anyElsewhere first) (anyElsewhere group) h) (all-here group here 0 (or-false-r (anyElsewhere first) (anyElsewhere group) h) refl)
+
+pub stays-side : (k : TermKind) → movesChild k ≡ false → sideBySide k ≡ true
+unfolding everyOf
+stays-side k h = or-else (movesChild k) (sideBySide k) (at-term (λ k. movesChild k || sideBySide k) refl k) (λ e. no-path (sym e ∙ h))
 
 module _ {b descriptors : List ℕ} (T : Types b descriptors) {t : ℕ} (h : IsType b t) where
   -- What its descriptor says of a type's fields.
@@ -218,7 +249,7 @@ lower-at b fs scope len c = record { stands = refl; kept = refl; same = refl; gr
 
 -- Any other child stands where the term does.
 module _ (b fs scope : List ℕ) (len c i : ℕ) where
-  here-at : (k : TermKind) → bodyOf k i ≡ here → ChildAt b fs k i scope scope len c len c
+  pub here-at : (k : TermKind) → bodyOf k i ≡ here → ChildAt b fs k i scope scope len c len c
   here-at k e = record { stands = rw e refl; kept = refl; same = refl; grown = omega arith; little = omega arith }
 
   pub same-at : (m : ℕ) → apart m withBody → (k : TermKind) → m ≡ termRow k .number → ChildAt b fs k i scope scope len c len c

@@ -1,14 +1,14 @@
 -- The typing pass in parts: a child of a term where it stands in a scope, the root (document 01, "Typing"; "Turned back at the gate", refusals 13 to 16, "parent before children, left first").
 use Prim.Native.Nat.{ℕ, _+_, _*_, _≤_, _<_}
 use mathlib.Core.Path.{_≡_}
-use mathlib.Core.Bool.{true}
-use mathlib.Core.List.{List, map, reverseAux}
+use mathlib.Core.Bool.{Bool, true, false, _||_}
+use mathlib.Core.List.{List, [], _∷_, map, reverseAux}
 use lib.ListN.{take, length, getD}
 use lib.Dec.{ltb}
 use Rattle.calculus.specs.Plain.{isPlain}
 use Rattle.image.specs.declared.Refusal.{Refusal}
 use Rattle.image.specs.Limits.{depthLimit}
-use Rattle.image.specs.Kinds.{TermKind, leadOf}
+use Rattle.image.specs.Kinds.{Body, here, function-body, advice-body, split-body, lower-body, method-body, match-body, TermKind, termRow, leadOf, bodies}
 use Rattle.image.specs.Records.{Layout}
 use Rattle.image.specs.Layout.{recordsOf}
 use Rattle.image.specs.Types.{termPlace, typeField, rootOf, rootType}
@@ -18,6 +18,23 @@ use Rattle.verdict.specs.Shape.{depths, Shaped}
 use Rattle.verdict.specs.Check.{check, rootSetting, typeNos}
 use Rattle.check_rules.specs.Lent.{contextIn, settingIn}
 use Rattle.check_rules.specs.Fields.{countIn, ruleIn, settingFrom, Typed, AtField, Entries}
+
+-- A child that stands elsewhere than its term, under other variables or at another domain (document 01, "Typing"); and the kinds that have such a child.
+abbrev pub elsewhere : Body → Bool
+elsewhere here = false
+elsewhere function-body = true
+elsewhere advice-body = true
+elsewhere split-body = true
+elsewhere lower-body = true
+elsewhere method-body = true
+elsewhere match-body = true
+
+abbrev pub anyElsewhere : List Body → Bool
+anyElsewhere [] = false
+anyElsewhere (b ∷ bs) = elsewhere b || anyElsewhere bs
+
+abbrev pub movesChild : TermKind → Bool
+movesChild k = anyElsewhere (bodies (termRow k .first)) || anyElsewhere (bodies (termRow k .group))
 
 -- The most variables that a child binds: the first branch of a match (card 6) binds a value for each entry, and the rest.
 abbrev pub bindLimit : ℕ

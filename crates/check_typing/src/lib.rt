@@ -23,9 +23,9 @@ pub mod scope;
 // binds nine variables at most, as a match does with eight entries (document 02, card 6), so a scope of 576 places is enough.
 fn check_root(
     image: &[u8],
-    types: &[u16],
-    terms: &[u16],
-    descriptors: &[u32],
+    types: &[u16; 128],
+    terms: &[u16; 1024],
+    descriptors: &[u32; 128],
     count: usize,
     masks: &[u16; 16],
 ) -> Verdict
@@ -82,9 +82,9 @@ pub fn check_typing(
     image: &[u8],
     counts: Counts,
     doms: &[u16],
-    types: &[u16],
-    terms: &[u16],
-    descriptors: &[u32],
+    types: &[u16; 128],
+    terms: &[u16; 1024],
+    descriptors: &[u32; 128],
 ) -> Verdict
     requires { ⌜ Tables (now image) (now doms) (now terms) (now descriptors) × Counted (now image) counts × Shaped (recordsOf (now image)) × TypeOffsets (now image) (now types) ⌝ }
     ensures { λ r. ⌜ r ≡ typing (recordsOf (now (image .entry))) ⌝ }

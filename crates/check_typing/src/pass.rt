@@ -2,11 +2,13 @@
 // over a term's children, and the term number falls.
 use crate::scope::Setting;
 use crate::scope::child_setting;
+use crate::scope::moves_child;
 use check_records::numbers::DomainNo;
 use check_records::numbers::TermNo;
 use check_rules::leaf::check_leaf;
 use check_rules::leaf::is_leaf;
 use check_rules::rule::check_rule;
+use check_rules::terms::child_at_field;
 use check_rules::terms::child_count;
 use check_rules::terms::child_of;
 use check_rules::terms::lead_of;
@@ -15,36 +17,31 @@ use check_rules::terms::term_kind;
 use verdict::Verdict;
 use verdict::is_refused;
 ghost use mathlib.Core.Path.{_≡_};
+ghost use mathlib.Core.List.{List};
+ghost use Prim.Native.Nat.{ℕ};
 ghost use lib.ListN.{length, take};
 ghost use Rattle.image.specs.Layout.{recordsOf};
 ghost use Rattle.verdict.specs.Check.{checked};
+ghost use Rattle.verdict.specs.declared.Verdict.{Verdict};
+ghost use Rattle.check_rules.specs.Judged.{ruleVerdict};
 ghost use Rattle.check_rules.specs.Lent.{Lent, TypeOffsets, Masks, IsTerm, settingIn};
 ghost use Rattle.check_typing.specs.Turns.{Room};
 
-// A term and the terms below it: its rule, then its children, each where it stands. A constant or a variable has none: as a
-// child it is checked on the spot, since a call costs more than its rule. Each level goes to a lower number, one deeper, and
-// binds nine variables at most: the depth bounds the places of the scope that are used.
-pub fn check_term(
+// The children of a term that has passed its rule, each where it stands.
+fn check_moved(
     image: &[u8],
-    terms: &[u16],
-    descriptors: &[u32],
+    terms: &[u16; 1024],
+    descriptors: &[u32; 128],
     n: TermNo,
     c: DomainNo,
     masks: &[u16; 16],
     scope: &mut [u8; 576],
     len: usize,
-    types: &[u16],
+    types: &[u16; 128],
 ) -> Verdict
-    requires { ⌜ Lent (now image) (now terms) (now descriptors) × IsTerm (now image) (n .0) × Masks (now image) (now masks) × Room (now image) (now scope) len (n .0) × TypeOffsets (now image) (now types) ⌝ }
+    requires { ⌜ Lent (now image) (now terms) (now descriptors) × IsTerm (now image) (n .0) × Masks (now image) (now masks) × Room (now image) (now scope) len (n .0) × TypeOffsets (now image) (now types) × ((Γ : List ℕ) → ruleVerdict (recordsOf (now image)) (record { context = Γ; dom = c .0 }) (n .0) ≡ Verdict.Accepted) ⌝ }
     ensures { λ r. ⌜ (r ≡ checked (recordsOf (now (image .entry))) (settingIn (now (scope .entry)) len (c .0)) (n .0)) × (take len (now (scope .exit)) ≡ take len (now (scope .entry))) × (length (now (scope .exit)) ≡ length (now (scope .entry))) ⌝ }
 {
-    if is_leaf(image, terms, n) {
-        return check_leaf(image, terms, descriptors, n, scope, len);
-    }
-    let v = check_rule(image, types, terms, descriptors, n, c, masks);
-    if is_refused(v) {
-        return v;
-    }
     let kind = term_kind(image, terms, n);
     let fields = term_fields(image, terms, n);
     let k = child_count(kind, fields);
@@ -65,23 +62,66 @@ pub fn check_term(
             j,
         );
         let dom = p.dom;
+        let r = check_term(
+            image,
+            terms,
+            descriptors,
+            e,
+            dom,
+            masks,
+            scope,
+            p.len,
+            types,
+        );
+        if is_refused(r) {
+            return r;
+        }
+        j += 1;
+    }
+    Verdict::Accepted
+}
+
+// A term and the terms below it: its rule, then its children. Those of most kinds stand where the term does. A constant or a
+// variable has none: as a child it is checked on the spot, since a call costs more than its rule. Each level goes to a lower
+// number, one deeper, and binds nine variables at most: the depth bounds the places of the scope that are used.
+pub fn check_term(
+    image: &[u8],
+    terms: &[u16; 1024],
+    descriptors: &[u32; 128],
+    n: TermNo,
+    c: DomainNo,
+    masks: &[u16; 16],
+    scope: &mut [u8; 576],
+    len: usize,
+    types: &[u16; 128],
+) -> Verdict
+    requires { ⌜ Lent (now image) (now terms) (now descriptors) × IsTerm (now image) (n .0) × Masks (now image) (now masks) × Room (now image) (now scope) len (n .0) × TypeOffsets (now image) (now types) ⌝ }
+    ensures { λ r. ⌜ (r ≡ checked (recordsOf (now (image .entry))) (settingIn (now (scope .entry)) len (c .0)) (n .0)) × (take len (now (scope .exit)) ≡ take len (now (scope .entry))) × (length (now (scope .exit)) ≡ length (now (scope .entry))) ⌝ }
+{
+    if is_leaf(image, terms, n) {
+        return check_leaf(image, terms, descriptors, n, scope, len);
+    }
+    let v = check_rule(image, types, terms, descriptors, n, c, masks);
+    if is_refused(v) {
+        return v;
+    }
+    let kind = term_kind(image, terms, n);
+    if moves_child(kind) {
+        return check_moved(image, terms, descriptors, n, c, masks, scope, len, types);
+    }
+    let fields = term_fields(image, terms, n);
+    let k = child_count(kind, fields);
+    let lead = lead_of(kind);
+    let mut j: usize = 0;
+    while j < k {
+        let e = child_at_field(fields, lead + j);
         if is_leaf(image, terms, e) {
-            let q = check_leaf(image, terms, descriptors, e, scope, p.len);
+            let q = check_leaf(image, terms, descriptors, e, scope, len);
             if is_refused(q) {
                 return q;
             }
         } else {
-            let r = check_term(
-                image,
-                terms,
-                descriptors,
-                e,
-                dom,
-                masks,
-                scope,
-                p.len,
-                types,
-            );
+            let r = check_term(image, terms, descriptors, e, c, masks, scope, len, types);
             if is_refused(r) {
                 return r;
             }

@@ -19,7 +19,7 @@ ghost use lib.ListN.{length, set};
 ghost use Rattle.image.specs.Kinds.{TermKind, termRow};
 ghost use Rattle.check_rules.specs.Lent.{Types, Lent, TypeOffsets};
 ghost use Rattle.check_rules.specs.Fields.{childrenIn, countIn};
-ghost use Rattle.check_typing.specs.Turns.{Passed, ChildAt};
+ghost use Rattle.check_typing.specs.Turns.{Passed, ChildAt, movesChild};
 
 // How many places of the scope are used, and the current domain.
 pub struct Setting {
@@ -175,5 +175,20 @@ pub fn child_setting(
             }
         }
         _ => p,
+    }
+}
+
+// Some child of the kind stands elsewhere than its term: under other variables, or at another domain.
+pub fn moves_child(kind: u16) -> bool
+    ensures { λ r. ⌜ ((k : TermKind) → kind ≡ termRow k .number → r ≡ movesChild k) ⌝ }
+{
+    match kind {
+        kinds::FUNCTION => true,
+        kinds::LOWER => true,
+        kinds::SPLIT => true,
+        kinds::ADVICE => true,
+        kinds::OBJECT => true,
+        kinds::MATCH => true,
+        _ => false,
     }
 }

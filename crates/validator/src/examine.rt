@@ -4,6 +4,8 @@ use check_records::numbers::Counts;
 use image::Refusal;
 use verdict::Verdict;
 ghost use mathlib.Core.Path.{_≡_};
+ghost use lib.ListN.{length};
+ghost use Rattle.image.specs.Limits.{typeLimit, termLimit};
 ghost use Rattle.check_records.specs.Codes.{kindCodes};
 ghost use Rattle.check_records.specs.Tables.{Tables, Counted};
 ghost use Rattle.check_layout.specs.Tables.{Lent};
@@ -22,9 +24,9 @@ fn check_laid_out(
     kinds: &[u32],
     counts: Counts,
     doms: &[u16],
-    types: &[u16],
-    descriptors: &[u32],
-    terms: &[u16],
+    types: &[u16; 128],
+    descriptors: &[u32; 128],
+    terms: &[u16; 1024],
 ) -> Verdict
     requires { ⌜ (now kinds ≡ kindCodes) × Tables (now image) (now doms) (now terms) (now descriptors) × Counted (now image) counts × TypeOffsets (now image) (now types) ⌝ }
     ensures { λ r. ⌜ r ≡ checkedRecords (now (image .entry)) ⌝ }
@@ -58,12 +60,12 @@ pub fn examine_image(
     image: &[u8],
     kinds: &[u32],
     doms: &mut [u16],
-    types: &mut [u16],
-    descriptors: &mut [u32],
-    terms: &mut [u16],
+    types: &mut [u16; 128],
+    descriptors: &mut [u32; 128],
+    terms: &mut [u16; 1024],
 ) -> Checked
     requires { ⌜ Lent (now image) (now kinds) (now doms) (now types) (now descriptors) (now terms) ⌝ }
-    ensures { λ r. ⌜ Answered r (now (image .entry)) (now (doms .exit)) (now (types .exit)) (now (descriptors .exit)) (now (terms .exit)) ⌝ }
+    ensures { λ r. ⌜ Answered r (now (image .entry)) (now (doms .exit)) (now (types .exit)) (now (descriptors .exit)) (now (terms .exit)) × (length (now (types .exit)) ≡ typeLimit) × (length (now (descriptors .exit)) ≡ typeLimit) × (length (now (terms .exit)) ≡ termLimit) ⌝ }
 {
     let scanned = check_layout::scan_records(image, kinds, doms, types, descriptors, terms);
     match scanned {

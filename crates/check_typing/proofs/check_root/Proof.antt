@@ -18,21 +18,21 @@ sub-t9 c = search needs
 
 cast-t10 : tie.Need-cast-t10
 cast-t10 c =
-    let s = c .before .before .before .before in
+    let s = c .before in
     let f = good-of (now (s .args .image)) (s .pre .0 .terms .laid-out) .few-terms in
     let e = s .pre .1 in
     record { fits = omega arith }
 
 check-term-requires : tie.Need-check-term-requires
 check-term-requires c κs =
-    let s = c .before .before .before .before .before in
+    let s = c .before .before in
     let e = s .pre .1 in
     let z = s .pre .2 in
     (s .pre .0, omega arith, s .pre .3, root-room (s .pre .0 .terms) _ (s .args .count) (s .pre .4) e refl, s .pre .5)
 
 returns : tie.Need-returns
 returns c =
-    let s = c .before .before .before .before .before .before in
+    let s = c .before .before .before in
     let e = s .pre .1 in
     let z = s .pre .2 in
     let L = recordsOf (now (s .args .image)) in

@@ -17,15 +17,15 @@ is-refused-requires : tie.Need-is-refused-requires
 is-refused-requires c κs = search needs
 
 returns : tie.Need-returns
-returns c = let s = c .before .before .before .before .before .before .before .before .before .before .before in typing-refused (recordsOf (now (s .args .image))) (c .before .before .check-root .result) (c .before .before .check-root .ensures) (sym (c .before .is-refused .ensures) ∙ c .if1 .taken)
+returns c = let s = c .before .before .before .before .before .before .before .before in typing-refused (recordsOf (now (s .args .image))) (c .before .before .check-root .result) (c .before .before .check-root .ensures) (sym (c .before .is-refused .ensures) ∙ c .if1 .taken)
 
 check-plain-requires : tie.Need-check-plain-requires
 check-plain-requires c κs = search needs
 
 returns-2 : tie.Need-returns-2
 returns-2 c =
-    let s = c .before .before .before .before .before .before .before .before .before .before .before .before in
-    c .check-plain .ensures ∙ typing-plain (recordsOf (now (s .args .image))) (c .before .before .before .check-root .result) (c .before .before .before .check-root .ensures) (sym (c .before .before .is-refused .ensures) ∙ c .before .if1 .left)
+    let s = c .before .before .before .before .before .before .before .before .before .before .before in
+    c .check-plain .ensures ∙ typing-plain (recordsOf (now (s .args .image))) (c .before .before .before .before .before .check-root .result) (c .before .before .before .before .before .check-root .ensures) (sym (c .before .before .before .before .is-refused .ensures) ∙ c .before .before .before .if1 .left)
 
 pub check-typing-spec : {M : Type 1} → statement M
 check-typing-spec =

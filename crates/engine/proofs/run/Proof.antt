@@ -22,15 +22,6 @@ slice-aggregate-examine-image c = search needs
 slice-aggregate-examine-image-2 : tie.Need-slice-aggregate-examine-image-2
 slice-aggregate-examine-image-2 c = search needs
 
-slice-aggregate-examine-image-3 : tie.Need-slice-aggregate-examine-image-3
-slice-aggregate-examine-image-3 c = search needs
-
-slice-aggregate-examine-image-4 : tie.Need-slice-aggregate-examine-image-4
-slice-aggregate-examine-image-4 c = search needs
-
-slice-aggregate-examine-image-5 : tie.Need-slice-aggregate-examine-image-5
-slice-aggregate-examine-image-5 c = search needs
-
 examine-image-requires : tie.Need-examine-image-requires
 examine-image-requires c κs = search needs
 
@@ -55,14 +46,14 @@ slice-aggregate-run-lent-3 c = search needs
 run-lent-requires : tie.Need-run-lent-requires
 run-lent-requires c κs =
     let t = c .before .before .before .before .before .before .before .checked2 .given .1 in
-    let e = c .before .before .before .before .before .before .before .before .before .before .before .before .before .examine-image .ensures in
+    let e = c .before .before .before .before .before .before .before .before .before .before .examine-image .ensures .0 in
     let f = e .filled _ t in
-    (c .before .before .before .before .before .before .before .before .before .before .before .before .before .before .before .before .before .before .before .before .if1 .left, sym (e .answer) ∙ ap verdictOf t, (_, f .tables), f .counts, rw (← f .counts .types) (f .types))
+    (c .before .before .before .before .before .before .before .before .before .before .before .before .before .before .before .before .before .if1 .left, sym (e .answer) ∙ ap verdictOf t, (_, f .tables), f .counts, rw (← f .counts .types) (f .types))
 
 returns-2 : tie.Need-returns-2
 returns-2 c =
-    let s = c .before .before .before .before .before .before .before .before .before .before .before .before .before .before .before .before .before .before .before .before .before in
-    examined-left (now (s .args .image)) (now (s .args .frame)) (s .args .budget) (now (s .args .log)) (now (s .args .report)) (now (s .args .work)) (c .before .before .before .before .before .before .before .before .before .before .before .before .before .before .before .if1 .left) _ _ _ (ap verdictOf (sym (c .before .before .checked .given .1)) ∙ c .before .before .before .before .before .before .before .before .examine-image .ensures .answer) (c .refused2 .ensures)
+    let s = c .before .before .before .before .before .before .before .before .before .before .before .before .before .before .before .before .before .before in
+    examined-left (now (s .args .image)) (now (s .args .frame)) (s .args .budget) (now (s .args .log)) (now (s .args .report)) (now (s .args .work)) (c .before .before .before .before .before .before .before .before .before .before .before .before .if1 .left) _ _ _ (ap verdictOf (sym (c .before .before .checked .given .1)) ∙ c .before .before .before .before .before .examine-image .ensures .0 .answer) (c .refused2 .ensures)
 
 same-length : tie.Need-same-length
 same-length c = search needs
@@ -85,9 +76,6 @@ run-spec =
     kind-codes-requires
     slice-aggregate-examine-image
     slice-aggregate-examine-image-2
-    slice-aggregate-examine-image-3
-    slice-aggregate-examine-image-4
-    slice-aggregate-examine-image-5
     examine-image-requires
     enum-known-checked
     refused-requires-2

@@ -23,18 +23,6 @@ slice-aggregate-examine-image c = search needs
 slice-aggregate-examine-image-2 : tie.Need-slice-aggregate-examine-image-2
 slice-aggregate-examine-image-2 c = search needs
 
--- src/lib.rt:97:9
-slice-aggregate-examine-image-3 : tie.Need-slice-aggregate-examine-image-3
-slice-aggregate-examine-image-3 c = search needs
-
--- src/lib.rt:98:9
-slice-aggregate-examine-image-4 : tie.Need-slice-aggregate-examine-image-4
-slice-aggregate-examine-image-4 c = search needs
-
--- src/lib.rt:99:9
-slice-aggregate-examine-image-5 : tie.Need-slice-aggregate-examine-image-5
-slice-aggregate-examine-image-5 c = search needs
-
 -- src/lib.rt:93:9
 examine-image-requires : tie.Need-examine-image-requires
 examine-image-requires c κs = search needs
@@ -58,17 +46,24 @@ slice-aggregate-forecast-accepted-2 c = search needs
 -- src/lib.rt:103:38
 forecast-accepted-requires : tie.Need-forecast-accepted-requires
 forecast-accepted-requires c κs =
-    let s = c .before .before .before .before .before .before .before .before .before .before .before .before .before .before .before .before .before in let E = c .before .before .before .before .before .before .before .before .before .examine-image .ensures in let F = E .filled _ (c .before .before .before .checked2 .given .1) in let n = F .counts .terms in let some = some-terms (now (s .args .image)) (s .pre) _ (E .answer) _ (c .before .before .before .checked2 .given .1) in let shallow = shallow-terms (now (s .args .image)) (s .pre) _ (E .answer) _ (c .before .before .before .checked2 .given .1) in (lent-from F, subst (λ k. 0 < k) (sym n) some, n, shallow)
+    let k = c .before .before .before in
+    let e = k .before .before .before in
+    let s = e .before .before .before .before .before .before .before .before in
+    let E = e .examine-image .ensures .0 in
+    let t = k .checked2 .given .1 in
+    let F = E .filled _ t in
+    let n = F .counts .terms in
+    (lent-from F, subst (λ k. 0 < k) (sym n) (some-terms (now (s .args .image)) (s .pre) _ (E .answer) _ t), n, shallow-terms (now (s .args .image)) (s .pre) _ (E .answer) _ t)
 
 -- src/lib.rt:84:1
 returns : tie.Need-returns
 returns c =
-    let s = c .before .before .before .before .before .before .before .before .before .before .before .before .before .before .before in refused-told (now (s .args .image)) (s .pre) _ (c .before .before .before .before .before .before .before .examine-image .ensures .answer) _ _ (c .before .checked .given .1)
+    let s = c .before .before .before .before .before .before .before .before .before .before .before .before in refused-told (now (s .args .image)) (s .pre) _ (c .before .before .before .before .examine-image .ensures .0 .answer) _ _ (c .before .checked .given .1)
 
 -- src/lib.rt:84:1
 returns-2 : tie.Need-returns-2
 returns-2 c =
-    let s = c .before .before .before .before .before .before .before .before .before .before .before .before .before .before .before .before .before .before in accepted-told (now (s .args .image)) (s .pre) _ (c .before .before .before .before .before .before .before .before .before .before .examine-image .ensures .answer) _ (c .before .before .before .before .checked2 .given .1) (c .forecast-accepted .result) (c .forecast-accepted .ensures)
+    let s = c .before .before .before .before .before .before .before .before .before .before .before .before .before .before .before in accepted-told (now (s .args .image)) (s .pre) _ (c .before .before .before .before .before .before .before .examine-image .ensures .0 .answer) _ (c .before .before .before .before .checked2 .given .1) (c .forecast-accepted .result) (c .forecast-accepted .ensures)
 
 pub forecast-checked-spec : {M : Type 1} → statement M
 forecast-checked-spec =
@@ -77,9 +72,6 @@ forecast-checked-spec =
     kind-codes-requires
     slice-aggregate-examine-image
     slice-aggregate-examine-image-2
-    slice-aggregate-examine-image-3
-    slice-aggregate-examine-image-4
-    slice-aggregate-examine-image-5
     examine-image-requires
     enum-known-checked
     enum-known-checked-2

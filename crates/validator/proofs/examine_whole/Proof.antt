@@ -13,15 +13,6 @@ slice-aggregate-examine-image c = search needs
 slice-aggregate-examine-image-2 : tie.Need-slice-aggregate-examine-image-2
 slice-aggregate-examine-image-2 c = search needs
 
-slice-aggregate-examine-image-3 : tie.Need-slice-aggregate-examine-image-3
-slice-aggregate-examine-image-3 c = search needs
-
-slice-aggregate-examine-image-4 : tie.Need-slice-aggregate-examine-image-4
-slice-aggregate-examine-image-4 c = search needs
-
-slice-aggregate-examine-image-5 : tie.Need-slice-aggregate-examine-image-5
-slice-aggregate-examine-image-5 c = search needs
-
 examine-image-requires : tie.Need-examine-image-requires
 examine-image-requires c κs = search needs
 
@@ -29,7 +20,7 @@ verdict-of-requires : tie.Need-verdict-of-requires
 verdict-of-requires c κs = search needs
 
 returns : tie.Need-returns
-returns c = c .verdict-of .ensures ∙ c .before .before .before .before .before .examine-image .ensures .answer
+returns c = c .verdict-of .ensures ∙ c .before .before .examine-image .ensures .0 .answer
 
 pub examine-whole-spec : {M : Type 1} → statement M
 examine-whole-spec =
@@ -38,9 +29,6 @@ examine-whole-spec =
     kind-codes-requires
     slice-aggregate-examine-image
     slice-aggregate-examine-image-2
-    slice-aggregate-examine-image-3
-    slice-aggregate-examine-image-4
-    slice-aggregate-examine-image-5
     examine-image-requires
     verdict-of-requires
     returns)

@@ -19,15 +19,6 @@ slice-aggregate-examine-image c = search needs
 slice-aggregate-examine-image-2 : tie.Need-slice-aggregate-examine-image-2
 slice-aggregate-examine-image-2 c = search needs
 
-slice-aggregate-examine-image-3 : tie.Need-slice-aggregate-examine-image-3
-slice-aggregate-examine-image-3 c = search needs
-
-slice-aggregate-examine-image-4 : tie.Need-slice-aggregate-examine-image-4
-slice-aggregate-examine-image-4 c = search needs
-
-slice-aggregate-examine-image-5 : tie.Need-slice-aggregate-examine-image-5
-slice-aggregate-examine-image-5 c = search needs
-
 examine-image-requires : tie.Need-examine-image-requires
 examine-image-requires c κs = search needs
 
@@ -52,14 +43,14 @@ slice-aggregate-write-checked-4 c = search needs
 write-checked-requires : tie.Need-write-checked-requires
 write-checked-requires c κs =
     let t = c .before .before .before .before .before .before .checked2 .given .1 in
-    let e = c .before .before .before .before .before .before .before .before .before .before .before .before .examine-image .ensures in
+    let e = c .before .before .before .before .before .before .before .before .before .examine-image .ensures .0 in
     let f = e .filled _ t in
-    (c .before .before .before .before .before .before .before .before .before .before .before .before .before .before .before .before .before .before .before .if1 .left, sym (e .answer) ∙ ap verdictOf t, c .before .before .before .before .before .before .before .before .before .before .before .before .before .before .before .before .before .before .kind-codes .ensures, (_, f .tables), f .counts, record { laid-out = f .tables .laid-out; offsets = rw (← f .counts .types) (f .types) })
+    (c .before .before .before .before .before .before .before .before .before .before .before .before .before .before .before .before .if1 .left, sym (e .answer) ∙ ap verdictOf t, c .before .before .before .before .before .before .before .before .before .before .before .before .before .before .before .kind-codes .ensures, (_, f .tables), f .counts, record { laid-out = f .tables .laid-out; offsets = rw (← f .counts .types) (f .types) })
 
 returns-2 : tie.Need-returns-2
 returns-2 c =
-    let s = c .before .before .before .before .before .before .before .before .before .before .before .before .before .before .before .before .before in
-    examined-left (now (s .args .image)) (now (s .args .out)) (c .before .before .before .before .before .before .before .before .before .before .before .before .before .before .if1 .left) _ _ (ap verdictOf (sym (c .before .checked .given .1)) ∙ c .before .before .before .before .before .before .before .examine-image .ensures .answer)
+    let s = c .before .before .before .before .before .before .before .before .before .before .before .before .before .before in
+    examined-left (now (s .args .image)) (now (s .args .out)) (c .before .before .before .before .before .before .before .before .before .before .before .if1 .left) _ _ (ap verdictOf (sym (c .before .checked .given .1)) ∙ c .before .before .before .before .examine-image .ensures .0 .answer)
 
 same-length : tie.Need-same-length
 same-length c = search needs
@@ -75,9 +66,6 @@ write-fixed-spec =
     kind-codes-requires
     slice-aggregate-examine-image
     slice-aggregate-examine-image-2
-    slice-aggregate-examine-image-3
-    slice-aggregate-examine-image-4
-    slice-aggregate-examine-image-5
     examine-image-requires
     enum-known-checked
     enum-known-checked-2

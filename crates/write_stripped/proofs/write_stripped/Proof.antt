@@ -27,18 +27,6 @@ slice-aggregate-examine-image c = search needs
 slice-aggregate-examine-image-2 : tie.Need-slice-aggregate-examine-image-2
 slice-aggregate-examine-image-2 c = search needs
 
--- src/lib.rt:124:9
-slice-aggregate-examine-image-3 : tie.Need-slice-aggregate-examine-image-3
-slice-aggregate-examine-image-3 c = search needs
-
--- src/lib.rt:125:9
-slice-aggregate-examine-image-4 : tie.Need-slice-aggregate-examine-image-4
-slice-aggregate-examine-image-4 c = search needs
-
--- src/lib.rt:126:9
-slice-aggregate-examine-image-5 : tie.Need-slice-aggregate-examine-image-5
-slice-aggregate-examine-image-5 c = search needs
-
 -- src/lib.rt:120:9
 examine-image-requires : tie.Need-examine-image-requires
 examine-image-requires c κs = search needs
@@ -75,15 +63,15 @@ slice-aggregate-write-checked-5 c = search needs
 write-checked-requires : tie.Need-write-checked-requires
 write-checked-requires c κs =
     let t = c .before .before .before .before .before .before .before .checked2 .given .1 in
-    let e = c .before .before .before .before .before .before .before .before .before .before .before .before .before .examine-image .ensures in
+    let e = c .before .before .before .before .before .before .before .before .before .before .examine-image .ensures .0 in
     let f = e .filled _ t in
-    (c .before .before .before .before .before .before .before .before .before .before .before .before .before .before .before .before .before .before .before .before .if1 .left, sym (e .answer) ∙ ap verdictOf t, c .before .before .before .before .before .before .before .before .before .before .before .before .before .before .before .before .before .before .before .kind-codes .ensures, f .tables, f .counts, record { laid-out = f .tables .laid-out; offsets = rw (← f .counts .types) (f .types) })
+    (c .before .before .before .before .before .before .before .before .before .before .before .before .before .before .before .before .before .if1 .left, sym (e .answer) ∙ ap verdictOf t, c .before .before .before .before .before .before .before .before .before .before .before .before .before .before .before .before .kind-codes .ensures, f .tables, f .counts, record { laid-out = f .tables .laid-out; offsets = rw (← f .counts .types) (f .types) })
 
 -- src/lib.rt:109:1
 returns-2 : tie.Need-returns-2
 returns-2 c =
-    let s = c .before .before .before .before .before .before .before .before .before .before .before .before .before .before .before .before .before in
-    examined-left (now (s .args .image)) (s .args .mask) (now (s .args .out)) (c .before .before .before .before .before .before .before .before .before .before .before .before .before .before .if1 .left) _ _ (ap verdictOf (sym (c .before .checked .given .1)) ∙ c .before .before .before .before .before .before .before .examine-image .ensures .answer)
+    let s = c .before .before .before .before .before .before .before .before .before .before .before .before .before .before in
+    examined-left (now (s .args .image)) (s .args .mask) (now (s .args .out)) (c .before .before .before .before .before .before .before .before .before .before .before .if1 .left) _ _ (ap verdictOf (sym (c .before .checked .given .1)) ∙ c .before .before .before .before .examine-image .ensures .0 .answer)
 
 -- src/lib.rt:109:1
 same-length : tie.Need-same-length
@@ -101,9 +89,6 @@ write-stripped-spec =
     kind-codes-requires
     slice-aggregate-examine-image
     slice-aggregate-examine-image-2
-    slice-aggregate-examine-image-3
-    slice-aggregate-examine-image-4
-    slice-aggregate-examine-image-5
     examine-image-requires
     enum-known-checked
     enum-known-checked-2

@@ -16,8 +16,11 @@ enum-known-scanned-2 c = search needs
 
 check-laid-out-requires : tie.Need-check-laid-out-requires
 check-laid-out-requires c κs =
-    let f = laid-tables _ _ _ _ _ _ (c .before .before .before .before .before .before .before .before .before .before .before .before .before .before .before .before .before .before .before .before .before .before .before .before .before .before .pre .short) (c .before .before .before .before .before .before .before .before .before .before .before .before .before .before .before .scan-records .ensures) _ (c .before .before .before .before .before .scanned2 .given .1) in
-    (c .before .before .before .before .before .before .before .before .before .before .before .before .before .before .before .before .before .before .before .before .before .before .before .before .before .before .pre .codes, f .tables, f .counts, offsets-held f)
+    let m = c .before .before .before .before in
+    let w = m .before .before .before .before .before in
+    let p = w .before .before .before .before .before .before .before .before .pre in
+    let f = laid-tables _ _ _ _ _ _ (p .short) (w .scan-records .ensures) _ (m .before .scanned2 .given .1) in
+    (p .codes, f .tables, f .counts, offsets-held f)
 
 with-counts-requires : tie.Need-with-counts-requires
 with-counts-requires c κs = search needs
@@ -28,29 +31,14 @@ same-length c = search needs
 same-length-2 : tie.Need-same-length-2
 same-length-2 c = search needs
 
-same-length-3 : tie.Need-same-length-3
-same-length-3 c = search needs
-
-same-length-4 : tie.Need-same-length-4
-same-length-4 c = search needs
-
 returns : tie.Need-returns
-returns c = stopped-answer _ _ _ _ _ _ (c .before .before .before .before .before .before .before .before .before .before .before .before .before .before .before .before .before .before .before .before .before .before .pre .short) (c .before .before .before .before .before .before .before .before .before .before .before .scan-records .ensures) _ _ (c .before .scanned .given .1)
-
-same-length-5 : tie.Need-same-length-5
-same-length-5 c = search needs
-
-same-length-6 : tie.Need-same-length-6
-same-length-6 c = search needs
-
-same-length-7 : tie.Need-same-length-7
-same-length-7 c = search needs
-
-same-length-8 : tie.Need-same-length-8
-same-length-8 c = search needs
+returns c = let w = c .before .before .before .before .before in (stopped-answer _ _ _ _ _ _ (w .before .before .before .before .before .before .before .before .pre .short) (w .scan-records .ensures) _ _ (c .before .scanned .given .1), search needs, search needs, search needs)
 
 returns-2 : tie.Need-returns-2
-returns-2 c = checked-answer _ _ _ _ _ _ (c .before .before .before .before .before .before .before .before .before .before .before .before .before .before .before .before .before .before .before .before .before .before .before .before .before .before .before .before .pre .short) (c .before .before .before .before .before .before .before .before .before .before .before .before .before .before .before .before .before .scan-records .ensures) _ (c .before .before .before .before .before .before .before .scanned2 .given .1) _ _ (c .before .check-laid-out .ensures) (c .with-counts .ensures)
+returns-2 c =
+    let m = c .before .before .before .before .before .before in
+    let w = m .before .before .before .before .before in
+    (checked-answer _ _ _ _ _ _ (w .before .before .before .before .before .before .before .before .pre .short) (w .scan-records .ensures) _ (m .before .scanned2 .given .1) _ _ (c .before .check-laid-out .ensures) (c .with-counts .ensures), search needs, search needs, search needs)
 
 pub examine-image-spec : {M : Type 1} → statement M
 examine-image-spec =
@@ -62,12 +50,6 @@ examine-image-spec =
     check-laid-out-requires
     with-counts-requires
     same-length
-    same-length-2
-    same-length-3
-    same-length-4
     returns
-    same-length-5
-    same-length-6
-    same-length-7
-    same-length-8
+    same-length-2
     returns-2)
