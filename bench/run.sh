@@ -31,9 +31,7 @@ while [ $# -gt 0 ]; do
 done
 # The library as the sources are now, unless another one is named.
 if [ -z "${BUKZARN_LIBRARY:-}" ]; then
-    for library in engine write_load; do
-        said=$(cd "$bench/.." && rt staticlib "$library" 2>&1) || { printf '%s\n' "$said" >&2; exit 1; }
-    done
+    said=$(cd "$bench/.." && rt staticlib bukzarn 2>&1) || { printf '%s\n' "$said" >&2; exit 1; }
 fi
 measured() {
     CARGO_TARGET_DIR=$bench/target cargo run --quiet --release --manifest-path "$package/Cargo.toml" -- "$@"

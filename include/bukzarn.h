@@ -1,16 +1,14 @@
-/* The watch engine for C: the functions of libengine.a, libvalidator.a, libneeds.a, libwrite_fixed.a,
-   libwrite_load.a and libwrite_stripped.a.
+/* The watch engine for C: the functions of libbukzarn.a.
 
-   Build the libraries in the repository's root with
-       rt staticlib NAME
-   for each NAME of engine, validator, needs, write_fixed, write_load and write_stripped, which writes
-   target/staticlib/libNAME.a.
-   Each needs memcpy and memset and nothing else: no heap, no files, no global state, so calls from several threads at
-   once are safe as long as the memory that they write is different. Recursion is at most 64 deep; on the images tried a
-   call took under 40,000 bytes of stack, a forecast under 90,000 (tried, not proved).
+   Build the library in the repository's root with
+       rt staticlib bukzarn
+   which writes target/staticlib/libbukzarn.a, for x86-64. It needs memcpy and memset and nothing else: no heap, no files,
+   no global state, so calls from several threads at once are safe as long as the memory that they write is different.
+   Recursion is at most 64 deep; docs/STATIONS.md has the stack that calls were measured to take.
 
-   "Document 01" is the paper that decides layouts, numbers and limits. What a call answers and leaves is the definition
-   `called` in crates/calls/specs/Calls.antt, and the library is proved to meet it for every input. */
+   "Document 01" is the paper that decides layouts, numbers and limits; document 02 asks for changes, card by card. What
+   bukzarn_run answers and leaves is the definition `called` in crates/calls/specs/Calls.antt, and the library is proved
+   to meet it for every input; the other functions have such definitions too (crates/bukzarn/src names them). */
 #ifndef BUKZARN_H
 #define BUKZARN_H
 
@@ -72,12 +70,12 @@ enum bukzarn_refusal {
     BUKZARN_ROOT_NOT_PLAIN = 16,   /* the root */
     BUKZARN_SHORT_WORK_AREA = 17,  /* place 0 */
     BUKZARN_SHORT_REPORT = 18,     /* place 0 */
-    BUKZARN_OUTSIDE_CLASS = 19,    /* of forecast_numbers alone; the lowest term that is outside its class */
-    BUKZARN_SHORT_OUTPUT = 20,     /* of write_fixed_form alone; place 0 */
-    BUKZARN_WRONG_DEPTH = 21,      /* of generate_load alone: a depth of 0 or over 9; place 0 */
-    BUKZARN_SHORT_LOAD = 22,       /* of generate_load alone: an output under 16,384 bytes; place 0 */
-    BUKZARN_WRONG_SET = 23,        /* of write_stripped_form alone: no set of high domains; place 0 */
-    BUKZARN_SHORT_STRIPPED_OUTPUT = 24 /* of write_stripped_form alone; place 0 */
+    BUKZARN_OUTSIDE_CLASS = 19,    /* of bukzarn_need alone; the lowest term that is outside its class */
+    BUKZARN_SHORT_OUTPUT = 20,     /* of bukzarn_fixed alone; place 0 */
+    BUKZARN_WRONG_DEPTH = 21,      /* of bukzarn_load alone: a depth of 0 or over 9; place 0 */
+    BUKZARN_SHORT_LOAD = 22,       /* of bukzarn_load alone: an output under 16,384 bytes; place 0 */
+    BUKZARN_WRONG_SET = 23,        /* of bukzarn_strip alone: no set of high domains; place 0 */
+    BUKZARN_SHORT_STRIPPED_OUTPUT = 24 /* of bukzarn_strip alone; place 0 */
 };
 
 /* Kinds of the records in log and report. A record is its length in bytes, its kind, then its fields; all are
@@ -110,22 +108,40 @@ enum bukzarn_record {
    zero over BUKZARN_WORK_LENGTH bytes and unchanged past them.
 
    Left by a refusal: all lent memory as it was. */
-uint64_t run_watched(const uint8_t *image, size_t image_length,
+uint64_t bukzarn_run(const uint8_t *image, size_t image_length,
                      const uint8_t *frame, size_t frame_length,
                      uint32_t budget,
                      uint8_t *log, size_t log_length,
                      uint8_t *report, size_t report_length,
                      uint8_t *work, size_t work_length);
 
+/* One call for each of `count` frames, one after another, with one check of the image for all of them, which saves most
+   of the time of short runs (docs/STATIONS.md has when to use it).
+
+   Lent: as to bukzarn_run, with a place of `numbers` for each answer; none of what is written overlaps any other part.
+   `frames`, `logs` and `reports` are each cut into `count` equal parts, of their length divided by `count`, rounded down;
+   the bytes that are left over at the end belong to no part. Call i runs the image over part i of the frames, with part i
+   of the logs and part i of the reports; all share the work area. So a part of the reports is refused if it is shorter
+   than BUKZARN_REPORT_LENGTH, and frames may have no bytes. Every length and every content is allowed.
+
+   Answered, and left: numbers[i] is what bukzarn_run would answer of call i (bukzarn_is_run and the other functions below
+   take it apart), and logs, reports and work area are left as by these calls. If the call is refused, every number is the
+   same, and nothing else is written. Where `count` is 0, nothing happens. */
+void bukzarn_run_frames(const uint8_t *image, size_t image_length,
+                        const uint8_t *frames, size_t frames_length,
+                        uint32_t budget,
+                        uint8_t *logs, size_t logs_length,
+                        uint8_t *reports, size_t reports_length,
+                        uint64_t *numbers, size_t count,
+                        uint8_t *work, size_t work_length);
+
 /* The verdict on an image that would be run with a work area and a report of so many bytes, without a run: 0 if the
-   call would run, else the number of its refusal. Only reads the image. In libvalidator.a. */
-uint16_t validate_number(const uint8_t *image, size_t image_length, size_t work_length, size_t report_length);
+   call would run, else what bukzarn_run would answer of its refusal (bukzarn_refusal_number, bukzarn_place). Only reads
+   the image. */
+uint64_t bukzarn_validate(const uint8_t *image, size_t image_length, size_t work_length, size_t report_length);
 
-/* The place of that refusal, 0 if the call would run. In libvalidator.a. */
-size_t validate_place(const uint8_t *image, size_t image_length, size_t work_length, size_t report_length);
-
-/* The upper numbers of a forecast (document 02, card 10), by their places. */
-enum bukzarn_need {
+/* The numbers of bukzarn_need (document 02, card 10), by their places. */
+enum bukzarn_need_number {
     BUKZARN_NEED_STEPS,
     BUKZARN_NEED_BINDINGS,       /* of domain 0's half */
     BUKZARN_NEED_OTHER_BINDINGS, /* of the half of all other domains */
@@ -146,8 +162,8 @@ enum bukzarn_need {
    a mark or an install in the body of an advice. Of a refusal the numbers are as they were, and the answer is 2^16 times
    its number plus 2^24 times its place (bukzarn_refusal_number, bukzarn_place). Where every number is within the
    engine's room, the steps within the budget, and 10 times the log records within the log, a run is done or aborted.
-   The image is only read, and does not overlap the numbers. In libneeds.a. */
-uint64_t forecast_numbers(const uint8_t *image, size_t image_length, uint32_t *numbers, size_t count);
+   The image is only read, and does not overlap the numbers. */
+uint64_t bukzarn_need(const uint8_t *image, size_t image_length, uint32_t *numbers, size_t count);
 
 /* Writes the fixed form of the image (document 02, card 11) over the front of the output: of two accepted images it is
    the same bytes exactly if they have the same domains and the same program. It is never longer than the image.
@@ -155,25 +171,24 @@ uint64_t forecast_numbers(const uint8_t *image, size_t image_length, uint32_t *n
    Answers how many bytes were written, which are never 0 (bukzarn_image_bytes); or of a refusal 2^16 times
    its number plus 2^24 times its place: 1 to 16 if the check refuses the image, then 20 if the output is shorter than the
    image. Output past what was written is unchanged; of a refusal all of it is. Every length and every content is allowed.
-   The image is only read, and does not overlap the output. In libwrite_fixed.a. */
-uint64_t write_fixed_form(const uint8_t *image, size_t image_length, uint8_t *output, size_t output_length);
+   The image is only read, and does not overlap the output. */
+uint64_t bukzarn_fixed(const uint8_t *image, size_t image_length, uint8_t *output, size_t output_length);
 
-/* Writes the image of a seed and a depth to the front of `out` (document 02, card 12): a load that is the same wherever
-   it is made. Answers its length in bytes, which is never 0 (bukzarn_image_bytes); or of a refusal 2^16 times its number:
-   21 if the depth is 0 or over BUKZARN_LOAD_DEPTH, then 22 if the output is shorter than BUKZARN_LOAD_LENGTH. Bytes past
-   the image are unchanged, and of a refusal all are. Every image is accepted, and has at most 6,146 bytes. In
-   libwrite_load.a. */
-uint64_t generate_load(uint32_t seed, size_t depth, uint8_t *out, size_t out_length);
+/* Writes the image of a seed and a depth over the front of the output (document 02, card 12): a load that is the same
+   wherever it is made. Answers its length in bytes, which is never 0 (bukzarn_image_bytes); or of a refusal 2^16 times
+   its number: 21 if the depth is 0 or over BUKZARN_LOAD_DEPTH, then 22 if the output is shorter than
+   BUKZARN_LOAD_LENGTH. Bytes past the image are unchanged, and of a refusal all are. Every image is accepted, and has at
+   most 6,146 bytes. */
+uint64_t bukzarn_load(uint32_t seed, size_t depth, uint8_t *output, size_t output_length);
 
 /* Writes the image without its watches (document 02, card 13) over the front of the output: bit p of `high` is set for
    each domain p that is kept, and every body of a lower or an advice at another domain gives way to unit, in the fixed
    form. The result is always accepted, and never longer than the image.
 
-   Answers as write_fixed_form does; refused are, after the check's 1 to 16, with 23 a set that lacks domain 0, names an
-   absent domain, or lacks a domain above a member, then with 24 an output shorter than the image. In
-   libwrite_stripped.a. */
-uint64_t write_stripped_form(const uint8_t *image, size_t image_length, uint16_t high, uint8_t *output,
-                             size_t output_length);
+   Answers as bukzarn_fixed does; refused are, after the check's 1 to 16, with 23 a set that lacks domain 0, names an
+   absent domain, or lacks a domain above a member, then with 24 an output shorter than the image. */
+uint64_t bukzarn_strip(const uint8_t *image, size_t image_length, uint16_t high, uint8_t *output,
+                       size_t output_length);
 
 /* Is this the answer of a run, not of a refusal? */
 static inline int bukzarn_is_run(uint64_t answer)

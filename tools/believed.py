@@ -1,9 +1,9 @@
 #!/usr/bin/env python3
 """The definitions that a reader of the demands must believe.
 
-They are the statements of the demands, of acceptance and of card 12, what the contracts of the engine and of
-card 13's function cite, and all definitions that these use, file by file: the closure of their imports. docs/CLAIMS.md
-lists the same files, and a test compares the two.
+They are the statements of the demands, of acceptance and of card 12, what the contracts of the engine and of its
+library for other languages cite, and all definitions that these use, file by file: the closure of their imports.
+docs/CLAIMS.md lists the same files, and a test compares the two.
 """
 import re
 import sys
@@ -11,7 +11,7 @@ from pathlib import Path
 
 ROOT = Path(__file__).resolve().parents[1]
 STATEMENTS = ("demands/specs", "calls/specs", "verdict/specs/Acceptable.antt", "listing/specs/Listing.antt",
-              "write_load/specs/Card12.antt", "write_stripped/specs/Calls.antt")
+              "write_load/specs/Card12.antt", "bukzarn/specs")
 IMPORT = re.compile(r"\s*use Rattle·(\w+?)(?:·specs)?\.specs\.([\w.]+?)\.\{")
 
 

@@ -2,9 +2,9 @@
    and prints its listing: the log, the outcome with the steps, the result, the cells; or `refused N PLACE`.
 
    Build and run in the repository's root:
-       rt staticlib engine
+       rt staticlib bukzarn
        gcc -std=c99 -Wall -Wextra -pedantic -O2 -Iinclude -o target/watch_c \
-           examples/c/watch.c target/staticlib/libengine.a
+           examples/c/watch.c target/staticlib/libbukzarn.a
        target/watch_c crates/watch/stdin */
 #include <inttypes.h>
 #include <stdio.h>
@@ -95,7 +95,7 @@ int main(int argc, char **argv)
     fclose(file);
     for (size_t i = 0; i < sizeof frame; i++)
         frame[i] = (uint8_t)i;
-    uint64_t answer = run_watched(image, length, frame, sizeof frame, BUDGET, log_bytes, sizeof log_bytes, report,
+    uint64_t answer = bukzarn_run(image, length, frame, sizeof frame, BUDGET, log_bytes, sizeof log_bytes, report,
                                   sizeof report, work, sizeof work);
     if (bukzarn_is_run(answer)) {
         print_log(bukzarn_log_bytes(answer));

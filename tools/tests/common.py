@@ -5,7 +5,10 @@ from pathlib import Path
 ROOT = Path(__file__).resolve().parents[2]
 STORED = ROOT / "crates/stored_images"
 sys.path.insert(0, str(ROOT / "tools"))
-sys.setrecursionlimit(50_000)
+
+import watchtool  # noqa: E402 (the path is set here)
+
+sys.setrecursionlimit(watchtool.DEEPEST)
 
 
 def stored_images():

@@ -41,7 +41,7 @@ class Archive(unittest.TestCase):
             raise Refused(15, 450, "")
         with self.assertRaises(SystemExit) as caught:
             self.tool(FOLDER / "sonde.proc", FOLDER / "alter.watch", answer=answer)
-        self.assertIn("alter.watch, line 4:", str(caught.exception))
+        self.assertIn("alter.watch, line 4, column 5:", str(caught.exception))
 
 
 if __name__ == "__main__":

@@ -4,7 +4,7 @@ import unittest
 
 import common
 import make_examples
-from watchlang import refusals, report
+from watchlang import recordform, refusals, report
 from watchlang.assembler import assemble
 from watchlang.disassembler import disassemble
 from watchlang.gate import verdict
@@ -24,14 +24,14 @@ class Damage(unittest.TestCase):
         for _ in range(ROUNDS):
             text = rng.choice(texts)
             words = text.split(" ")
-            other = [t.text for t in tokens(text, "")[:-1]] if not text.startswith("records") else words
+            other = [t.text for t in tokens(text, "")[:-1]] if not recordform.is_records(text) else words
             for _ in range(rng.randint(1, 2)):
                 n = rng.randrange(len(words))
                 words[n:n + rng.randint(0, 1)] = rng.choice([[], [rng.choice(other)], [words[n], words[n]]])
             try:
                 made = assemble(" ".join(words)).image
             except SourceError as error:
-                self.assertRegex(str(error), "^text, line [0-9]+: .")
+                self.assertRegex(str(error), "^text, line [0-9]+, column [0-9]+: .")
                 continue
             read += 1
             verdict(made)

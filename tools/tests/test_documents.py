@@ -25,6 +25,21 @@ class Documents(unittest.TestCase):
         crates = {line.split(":")[0] for line in (common.ROOT / "crates.txt").read_text().splitlines() if ":" in line}
         self.assertEqual(named, crates)
 
+    def test_links(self):
+        """What a page links to is there."""
+        for page in (common.ROOT / "README.md", *common.ROOT.glob("docs/*.md"), *common.ROOT.glob("examples/*.md")):
+            for link in re.findall(r"\]\(([^)#:]+)\)", page.read_text(encoding="utf-8")):
+                self.assertTrue((page.parent / link).exists(), f"{page.name}: {link}")
+
+    def test_loops_of_receivers(self):
+        """The loops that docs/STATIONS.md shows stand in the receivers."""
+        page = (common.ROOT / "docs" / "STATIONS.md").read_text(encoding="utf-8")
+        shown = re.findall(r"\]\(\.\./([^)]*receiver[^)]*)\)[^\n]*This is its loop:\n\n((?:    [^\n]*\n)+)", page)
+        self.assertEqual(len(shown), 2)
+        for file, loop in shown:
+            code = "\n".join(line.strip() for line in (common.ROOT / file).read_text(encoding="utf-8").splitlines())
+            self.assertIn("\n".join(line.strip() for line in loop.splitlines()), code, file)
+
     def test_edits_name_text_that_is_there(self):
         """The text that an edit of must-fail/ replaces stands once in its file."""
         for edit in sorted(common.ROOT.glob("crates/*/must-fail/*.edit")):

@@ -34,6 +34,20 @@ class Gate(unittest.TestCase):
                 self.assertIn("Here: ", said, file.name)
                 self.assertIn("To mend it: ", said)
 
+    def test_broken_records(self):
+        domain = bytes.fromhex("060001000100")
+        for more, number, words in (
+                ("0600", 2, "2 bytes left over behind the last record"),
+                ("00", 2, "1 byte left over behind the last record"),
+                ("03001200", 2, "the record's length is 3, but a record has at least 4 bytes"),
+                ("08001200", 2, "the record's length is 8, but only 4 bytes left"),
+                ("04006300", 3, "the record's kind is 99, but no kind has this number"),
+                ("060013000000", 4, "the record of the type pair has 6 bytes, but it has at least 8"),
+                ("0a00190000000000" "0000", 4, "the record of the type object has 10 bytes, but it may have 8, 12, 16")):
+            refused = verdict(domain + bytes.fromhex(more))
+            self.assertEqual((refused.number, refused.place), (number, len(domain)))
+            self.assertTrue(refused.words.startswith(words), refused.words)
+
     def told(self, *cases):
         """Each stored image is refused with the number, and told in these words."""
         for name, number, words in cases:
@@ -46,7 +60,7 @@ class Gate(unittest.TestCase):
         self.told(
             ("method-past-the-last", 14, "Here: method 2 is called, but the methods are 0 to 1: object { m0 at d0"),
             ("method-past-the-last", 14, "To mend it: Call a method that the type of the object has"),
-            ("bodies-too-few", 14, "Here: the object has 1 bodies, but its type has 2 methods"),
+            ("bodies-too-few", 14, "Here: the object has 1 body, but its type has 2 methods"),
             ("bodies-too-many", 14, "To mend it: Give the object one body for each method"),
             ("low-method-from-above", 15, "Here: the method's domain is d1, and must equal the current domain, d0"),
             ("low-method-calls-high", 15, "To mend it: Call a method of the current domain"),
@@ -59,18 +73,18 @@ class Gate(unittest.TestCase):
             ("match-entry-of-itself", 7, "Here: the record names entry 5, but an entry is 0 or a lower term's number"),
             ("match-close-2", 7, "Here: the record names close 2, but a close is 0 or 1"),
             ("match-of-a-number", 14, "Here: what is matched must have type stack, but has number"),
-            ("match-entry-no-pointcut", 14, "Here: each entry that is not 0 must be a pointcut type, but is number"),
-            ("match-branches-differ", 14, "To mend it: Match a stack, with pointcuts as entries, and give both branches"),
-            ("match-second-branch-binds-nothing", 13, "Here: variable 0 is not bound: 0 variables are in scope here"),
+            ("match-entry-no-pointcut", 14, "Here: each entry that is not 0 must be a pointcut, but has type number"),
+            ("match-branches-differ", 14, "To mend it: Give both branches the same type"),
+            ("match-second-branch-binds-nothing", 13, "Here: variable 0 is not bound: 0 variables in scope here"),
             ("keep-of-another-type", 14, "Here: the kept value must have type number, but has unit"),
-            ("keep-of-another-type", 14, "To mend it: Keep a value of the type that the label has"),
+            ("keep-of-another-type", 14, "To mend it: What stands there gives nothing"),
             ("keep-under-low-label", 15, "Here: the label's domain is d1, and must equal the current domain, d0"),
             ("low-keep-under-high-label", 15, "To mend it: Keep the value under a label of the current domain"))
 
     def test_takedowns_have_words_of_their_own(self):
         self.told(
             ("takedown-of-an-absent-domain", 7, "Here: the record names domain 1, but"),
-            ("takedown-of-another-type", 14, "Here: a takedown must have type unit, but has number"),
+            ("takedown-of-another-type", 14, "Here: a takedown must have type unit, but is said to have number"),
             ("takedown-of-another-type", 14, "To mend it: A takedown gives unit"),
             ("takedown-upward", 15, "Here: the domain that is taken down is d0, and must be at or below the current"),
             ("takedown-beside", 15, "To mend it: Take down a domain at or below the current one"))

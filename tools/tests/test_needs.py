@@ -1,5 +1,7 @@
 """What a flight will need, as the tool tells it; the program `need` is stood for by its stored listings."""
+import tempfile
 import unittest
+from pathlib import Path
 from unittest import mock
 
 import common
@@ -54,7 +56,7 @@ class Needs(unittest.TestCase):
             self.tool(FOLDER / "sonde.proc")
         said = str(caught.exception)
         self.assertIn("apply (kind 42)", said)
-        self.assertIn("sonde.proc, line 20:", said)
+        self.assertIn("sonde.proc, line 20, column 17:", said)
         self.assertIn("bind with 'let (x, y) = (A, B) in'", said)
 
     def test_runs_need_no_more(self):
@@ -70,6 +72,17 @@ class Needs(unittest.TestCase):
             with self.assertRaises(SystemExit) as caught:
                 run("need", FOLDER / "ground.img")
         self.assertIn("rt check need", str(caught.exception))
+
+    def test_a_program_that_fails(self):
+        for ending, told in (("exit 3", "need gave no answer (status 3)"),
+                             ("echo no input >&2", "need gave no answer (no input)")):
+            with tempfile.TemporaryDirectory() as folder:
+                program = Path(folder, "need")
+                program.write_text(f"#!/bin/sh\ncat > /dev/null\n{ending}\n")
+                program.chmod(0o755)
+                with mock.patch.object(programs, "FOLDER", Path(folder)), self.assertRaises(SystemExit) as caught:
+                    run("need", FOLDER / "ground.img")
+            self.assertIn(told, str(caught.exception))
 
 
 if __name__ == "__main__":

@@ -3,7 +3,7 @@ import re
 import unittest
 
 import common
-from watchlang import generated, kinds, needs, refusals, report
+from watchlang import generated, kinds, needs, outcomes, refusals
 
 
 def text(*path):
@@ -38,7 +38,8 @@ def header():
 
 def rust(module):
     """The numbers that Rust's enum of a module gives its variants."""
-    return {name: int(n) for name, n in re.findall(r"^    (\w+) = (\d+),$", text("bindings", "rust", "src", module), re.M)}
+    found = re.findall(r"^ +\(?(\d+),\s+\w+::(\w+),", text("bindings", "rust", "src", module), re.M)
+    return {name: int(number) for number, name in found}
 
 
 class Numbers(unittest.TestCase):
@@ -47,22 +48,25 @@ class Numbers(unittest.TestCase):
         self.assertEqual({upper(n): v for n, v in numbers.items()}, {n: v for n, v in header().items() if n in map(upper, numbers)})
 
     def test_outcomes(self):
-        outcomes = cases("calculus", "Report.antt", "outcomeNumber", "Outcome")
-        self.assertEqual(sorted(outcomes.values()), list(range(len(outcomes))))
-        self.assertEqual(rust("outcome.rs"), outcomes)
-        words = [upper(name).lower().replace("_", "-") for name in sorted(outcomes, key=outcomes.get)]
-        self.assertEqual(list(report.OUTCOMES), words)
+        numbers = cases("calculus", "Report.antt", "outcomeNumber", "Outcome")
+        self.assertEqual(sorted(numbers.values()), list(range(len(numbers))))
+        self.assertEqual(rust("outcome.rs"), numbers)
+        words = [upper(name).lower().replace("_", "-") for name in sorted(numbers, key=numbers.get)]
+        self.assertEqual(list(outcomes.WORDS), words)
         listed = text("examples", "c", "watch.c").split("outcomes[] = {")[1].split("}")[0]
         self.assertEqual(re.findall('"(.*?)"', listed), words)
-        self.header_has(outcomes)
+        self.header_has(numbers)
 
     def test_rooms(self):
         """What is said of an outcome names the limit; that of bindings, cells and pieces is of one half."""
         limits = constants("calculus", "Limits.antt")
         named = {"frames": "frame", "bindings": "binding", "cells": "cell", "labels": "label", "advice": "advice",
                  "pieces": "piece", "other-bindings": "binding", "other-cells": "cell", "other-pieces": "piece"}
+        in_rust = dict(re.findall(r'Outcome::\w+, "([a-z-]+)", "(.*?)"', text("bindings", "rust", "src", "outcome.rs")))
+        self.assertEqual(list(in_rust), list(outcomes.WORDS))
         for word, limit in named.items():
-            self.assertIn(f"{limits[limit + 'Limit']:,} ", report.SENTENCES[report.OUTCOMES.index(word)])
+            for sentence in (outcomes.sentence(outcomes.number(word), 0), in_rust[word]):
+                self.assertIn(f"{limits[limit + 'Limit']:,} ", sentence)
 
     def test_needs(self):
         """What a flight will need is told beside the limits, in the order of the program `need`, which is that of the
@@ -79,7 +83,7 @@ class Numbers(unittest.TestCase):
         for module in (("crates", "image_needs", "src", "lib.rt"), ("bindings", "rust", "src", "needs.rs")):
             struct = text(*module).split("pub struct Needs {")[1].split("}")[0]
             self.assertEqual(re.findall(r"pub (\w+): u32", struct), fields)
-        places = text("include", "bukzarn.h").split("enum bukzarn_need {")[1].split("}")[0]
+        places = text("include", "bukzarn.h").split("enum bukzarn_need_number {")[1].split("}")[0]
         self.assertEqual([word.lower() for word in re.findall(r"BUKZARN_NEED_(\w+)", places)], fields)
 
     def test_refusals(self):

@@ -83,7 +83,15 @@ class Stripped(unittest.TestCase):
     def test_a_set_that_is_not_high(self):
         with self.assertRaises(SystemExit) as caught:
             self.tool("strip", FOLDER / "sonde.proc", "--keep", "watch")
-        self.assertIn("refused 23", str(caught.exception))
+        self.assertIn("refused 23 0: ", str(caught.exception))
+        self.assertIn("\nHere: decoder is left out, which is domain 0.\n", str(caught.exception))
+
+    def test_why_a_set_is_not_high(self):
+        image = assemble("domain a domain b <= a domain c <= b ()").image
+        for high, words in ((1, ""), (3, ""), (7, ""), (2, "a is left out, which is domain 0"),
+                            (5, "c is kept, but b is above it and left out"),
+                            (9, "the image has no domain 3: they are 0 to 2")):
+            self.assertEqual(stripped.fault(image, high, ["a", "b", "c"]), words)
 
 
 if __name__ == "__main__":

@@ -1,9 +1,9 @@
 """From text to an image."""
 from dataclasses import dataclass
 
-from . import recordform, terms
+from . import kinds, recordform, terms
 from .header import Head
-from .lexer import SourceError, tokens
+from .lexer import Place, SourceError
 from .parser import Parser, Watches
 
 
@@ -20,17 +20,17 @@ def assemble(text, file="text", watches=()):
     What is wrong in a text is a SourceError."""
     if recordform.is_records(text):
         if watches:
-            raise SourceError(tokens(text, file)[0].place, "a text of records takes no watches")
+            raise SourceError(Place(file, 1), "a text of records takes no watches")
         return Assembled(*recordform.assemble(text, file), [])
     head, hung = Head(), Watches(list(watches))
+    parser = Parser(text, file, head, hung)
     try:
-        parser = Parser(text, file, head, hung)
         parser.headlines()
         if not head.domains:
             parser.fail("a text starts with its domains: domain NAME")
         laid = terms.lay_out(parser.whole(), head.masks(), head.types.values())
     except RecursionError:
-        raise SourceError(tokens(text, file)[0].place, "the terms are nested too deeply to be read") from None
+        raise SourceError(parser.place, f"the text is nested too deeply, and an image at most {kinds.DEPTH_LIMIT} deep") from None
     if hung.texts and not hung.place:
-        raise SourceError(tokens(text, file)[-1].place, "the procedure has no place for watches: watches at DOMAIN")
+        parser.fail("the procedure has no place for watches: write 'watches at DOMAIN;' where they are to be installed")
     return Assembled(laid.image, laid.places, head.domains)

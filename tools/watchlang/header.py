@@ -1,15 +1,16 @@
 """The head of a text: its domains, the types that it names, the layout of the frame."""
 from dataclasses import dataclass, field
 
-from . import kinds, types
+from . import forms, hints, kinds, types
+from .cursor import Cursor
 from .frames import Field
-from .lexer import KEYWORDS, SourceError
+from .lexer import KEYWORDS
 
 
 @dataclass
 class Head:
-    """What the head of a text declares; a watch's text stands under the head of its procedure. `methods` has for an
-    object type the names of its methods, as often as it is written: equal types are one, and may have other names."""
+    """What the head of a text declares; a watch's text stands under the head of its procedure. `methods` maps an
+    object type to the names that each mention of it gives the methods: equal types are one type, with names of their own."""
     domains: list = field(default_factory=list)
     above: list = field(default_factory=list)
     types: dict = field(default_factory=dict)
@@ -24,6 +25,22 @@ class Head:
         """Keeps the names that a text gives the methods of an object type."""
         self.methods[t] = (*self.methods.get(t, ()), names)
 
+    def known_as(self, name):
+        """What a name is that is no variable, and how it is used, behind a colon."""
+        if name in self.fields:
+            return f": it is a field of the frame, frame.{name}"
+        if any(name in names for known in self.methods.values() for names in known):
+            return f": it is a method: call it on an object, o.{name}"
+        if name in self.types:
+            return ": it is a type, not a value"
+        return ": it is a domain, not a value" if name in self.domains else ""
+
+    def told_fields(self, name):
+        """The fields that the frame has, where it has none of a name."""
+        if not self.fields:
+            return f": write frame {{ {name} at OFFSET }} at the top"
+        return f"; its fields are {', '.join(self.fields)}{hints.near(name, self.fields)}"
+
     def masks(self):
         """The mask of each domain: as it is said, or with all that lies above what is named above it."""
         masks = [a if isinstance(a, int) else 1 << d for d, a in enumerate(self.above)]
@@ -34,61 +51,19 @@ class Head:
         return masks
 
 
-class Cursor:
-    """Walks the tokens of a text."""
+class Declarations(Cursor):
+    """The part of the parser that reads domains, types and the lines of the head."""
 
     def __init__(self, tokens, head):
-        self.tokens, self.at, self.head = tokens, 0, head
-
-    @property
-    def next(self):
-        return self.tokens[self.at]
-
-    @property
-    def place(self):
-        return self.next.place
-
-    def fail(self, words, place=None):
-        raise SourceError(place or self.place, words)
-
-    def sees(self, *texts):
-        return self.next.kind != "end" and self.next.text in texts
-
-    def accept(self, text):
-        if self.sees(text):
-            self.at += 1
-            return True
-        return False
-
-    def take(self, text, where):
-        if not self.accept(text):
-            self.fail(f"expected '{text}' {where}, but found '{self.next.text}'")
-
-    def name(self, what):
-        """A word that is no keyword."""
-        token = self.next
-        if token.kind != "name" or token.text in KEYWORDS:
-            kept = ", which is a word of the language" if token.text in KEYWORDS else ""
-            self.fail(f"expected a name for {what}, but found '{token.text}'{kept}")
-        self.at += 1
-        return token.text
-
-    def number(self, what, low, high):
-        """A number, with its sign, from low to high."""
-        place, sign = self.place, -1 if self.accept("-") else 1
-        if self.next.kind != "number":
-            self.fail(f"expected a number for {what}, but found '{self.next.text}'")
-        n = sign * int(self.next.text, 0 if self.next.text[:2] == "0x" else 10)
-        if not low <= n <= high:
-            self.fail(f"{what} must be from {low} to {high}, but is {n}", place)
-        self.at += 1
-        return n
+        super().__init__(tokens)
+        self.head = head
 
     def domain(self):
         """The number of the domain that is named."""
         place, name = self.place, self.name("a domain")
         if name not in self.head.domains:
-            self.fail(f"there is no domain {name}; the domains are {', '.join(self.head.domains)}", place)
+            known = self.head.domains
+            self.fail(f"there is no domain {name}; the domains are {', '.join(known)}{hints.near(name, known)}", place)
         return self.head.domains.index(name)
 
     def type(self):
@@ -101,27 +76,40 @@ class Cursor:
             a = self.type()
             if self.accept(","):
                 a = types.pair(a, self.type())
-            self.take(")", "at the end of the type")
+            self.close(")", place)
             return a
-        if self.accept("function"):
-            self.take("from", "in the type of a function")
-            a, p = self.type(), self.type_domain()
-            self.take("to", "in the type of a function")
-            return types.function(a, p, self.type())
-        if self.accept("advice"):
-            return types.advice(self.type_domain())
-        if self.accept("object"):
-            return self.object_type()
+        for word, read in (("function", self.function_type), ("object", self.methods), ("advice", self.advice_type)):
+            if self.accept(word):
+                return self.within(f"{word} type", read)
         for make in (types.reference, types.label, types.pointcut):
             if self.accept(make.__name__):
-                return make(self.type(), self.type_domain())
-        name = self.name("a type")
-        if name not in self.head.types:
-            self.fail(f"there is no type {name}; types that are named stand at the top: type {name} = ...", place)
-        return self.head.types[name]
+                return self.within(f"{make.__name__} type", lambda: make(self.type(), self.type_domain()))
+        return self.named_type(place)
 
-    def object_type(self):
-        """The methods of an object, behind the word object: `{ name at domain : type; ... }`."""
+    def named_type(self, place):
+        """A type by the name that the head gives it."""
+        token, known = self.next, self.head.types
+        told = f": {hints.TYPES_INSTEAD[token.text]}" if token.text in hints.TYPES_INSTEAD else None
+        if token.kind != "name" or token.text in KEYWORDS:
+            self.expected("a type", told)
+        self.at += 1
+        if token.text not in known:
+            near = hints.near(token.text, (*known, "unit", "truth", "number", "stack"))
+            otherwise = near or f"; name types at the top of the text: type {token.text} = ..."
+            self.fail(f"there is no type {token.text}{told or otherwise}", place)
+        return known[token.text]
+
+    def function_type(self):
+        self.take("from", "in the type of a function")
+        a, p = self.type(), self.type_domain()
+        self.take("to", "in the type of a function")
+        return types.function(a, p, self.type())
+
+    def advice_type(self):
+        return types.advice(self.type_domain())
+
+    def methods(self):
+        """The type of an object by its methods: `{ name at domain : type; ... }`."""
         place, names, methods = self.place, [], []
         self.take("{", "before the methods of an object")
         while not self.accept("}"):
@@ -142,8 +130,9 @@ class Cursor:
         known = self.head.methods.get(t, ())
         found = {names.index(name) for names in known if name in names}
         if not found:
-            said = ", ".join(dict.fromkeys(n for names in known for n in names)) or "none"
-            self.fail(f"the object has no method {name}; its methods are {said}", place)
+            said = list(dict.fromkeys(n for names in known for n in names))
+            self.fail(f"the object has no method {name}; its methods are {', '.join(said) or 'none'}"
+                      f"{hints.near(name, said)}", place)
         if len(found) > 1:
             self.fail(f"{name} is more than one method: object types with the same domains and types are one type, and "
                       f"these name their methods in another order", place)
@@ -153,32 +142,28 @@ class Cursor:
         self.take("at", "and a domain in the type")
         return self.domain()
 
-    def new_name(self, what, known):
-        place, name = self.place, self.name(what)
-        if name in known:
-            self.fail(f"{what} is declared twice: {name}", place)
-        return name
-
     def domains_first(self):
         """The names of all domains, which may be used before the line that declares them."""
         for n, token in enumerate(self.tokens):
             if token.kind == "name" and token.text == "domain":
                 self.at = n + 1
+                if len(self.head.domains) == kinds.DOMAIN_LIMIT:
+                    self.fail(f"an image has at most {kinds.DOMAIN_LIMIT} domains")
                 self.head.domains.append(self.new_name("a domain", self.head.domains))
         self.at = 0
 
     def domain_line(self):
         """`domain d <= e, f`, or `domain d mask n`."""
-        place, above = self.place, []
-        d = self.domain()
+        above = []
+        self.domain()
+        if self.sees("<", "=", ":", ",", "at", "below"):
+            self.expected("'<=' and the domains above it, or the next line", forms.write("domain"))
         if self.accept("mask"):
             above = self.number("a mask", 0, 0xFFFF)
         elif self.accept("<="):
             above.append(self.domain())
             while self.accept(","):
                 above.append(self.domain())
-        if d >= kinds.DOMAIN_LIMIT:
-            self.fail(f"an image has at most {kinds.DOMAIN_LIMIT} domains", place)
         self.head.above.append(above)
 
     def type_line(self):
@@ -201,16 +186,16 @@ class Cursor:
     def headlines(self, of_watch=False):
         """The lines at the top of a text; a watch's text has no domains of its own."""
         if of_watch and self.sees("domain"):
-            self.fail("a watch has no domains of its own: those of its procedure hold")
+            self.fail("a watch has no domains of its own: those of its procedure hold, which is the first text")
         if not of_watch:
             self.domains_first()
         while True:
             if self.accept("domain"):
-                self.domain_line()
+                self.within("domain", self.domain_line)
             elif self.accept("type"):
-                self.type_line()
+                self.within("type", self.type_line)
             elif self.sees("frame") and self.tokens[self.at + 1].text == "{":
                 self.at += 1
-                self.frame_lines()
+                self.within("frame of fields", self.frame_lines)
             else:
                 return

@@ -3,7 +3,7 @@ fields.
 
 A field is one letter: m a mask, a a lower type, p a domain, t a term's own type, e a lower term, k a variable's number,
 v a truth, o an operation, i a method's number, x an entry of a match, c its close (all 16 bits), n a number of 4 bytes.
-Behind the first fields of some kinds a group of fields stands so often as the record's length says.
+In some kinds a group of fields follows the first ones, repeated as often as the record's length says.
 """
 
 DOMAIN = 1

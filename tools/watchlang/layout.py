@@ -1,16 +1,20 @@
 """The layout of an image: refusals 1 to 9 (document 01, "Turned back at the gate"), and its records in tables."""
 from dataclasses import dataclass, field
 
-from . import kinds, types
-from .records import Record, record_at
+from . import hints, kinds, types
+from .records import Record, lengths, record_at, word
+
+# The fewest bytes of a record: its length and its kind.
+SHORTEST = 4
 
 
 class Refused(Exception):
-    """An image that the gate turns back: the refusal's number, its place, and what is wrong in words."""
+    """An image that the gate turns back: the refusal's number, its place, what is wrong in words, and what to write
+    instead where that is sure."""
 
-    def __init__(self, number, place, words):
+    def __init__(self, number, place, words, mend=""):
         super().__init__(f"refused {number} {place}")
-        self.number, self.place, self.words = number, place, words
+        self.number, self.place, self.words, self.mend = number, place, words, mend
 
 
 @dataclass
@@ -41,12 +45,6 @@ class Tables:
         return bool(self.masks[p] >> q & 1)
 
 
-CAUSES = {
-    2: "the image ends inside this record, or its length is under 4",
-    3: "no record has this kind",
-    4: "the record is too short for its kind, or it is a pointcut, an object, an object type or a match of a wrong "
-       "length",
-}
 SECTIONS = ("domain", "type", "term")
 LIMITS = (kinds.DOMAIN_LIMIT, kinds.TYPE_LIMIT, kinds.TERM_LIMIT)
 
@@ -59,13 +57,29 @@ def laid_out(image):
     while offset < len(image):
         found = record_at(image, offset)
         if not isinstance(found, Record):
-            raise Refused(found, offset, CAUSES[found])
+            raise Refused(found, offset, broken(image, offset, found))
         take(tables, found)
         offset += int.from_bytes(image[offset:offset + 2], "little")
     for n, records in enumerate(tables.sections):
         if not records:
             raise Refused(9, len(image), f"the image has no {SECTIONS[n]} record")
     return tables
+
+
+def broken(image, offset, number):
+    """What is wrong with bytes that are no record, by the number of their refusal: 2, 3 or 4."""
+    left = len(image) - offset
+    if left < SHORTEST:
+        return f"{hints.counted(left, 'byte')} left over behind the last record"
+    length, kind = word(image, offset), word(image, offset + 2)
+    if number == 2:
+        why = f"a record has at least {SHORTEST} bytes" if length < SHORTEST else f"only {hints.counted(left, 'byte')} left"
+        return f"the record's length is {length}, but {why}"
+    if number == 3:
+        return f"the record's kind is {kind}, but no kind has this number"
+    said = ", ".join(map(str, lengths(kind)))
+    right = f"it may have {said}" if kind in kinds.GROUPS else f"it has at least {said}"
+    return f"the record of the {SECTIONS[kinds.section(kind)]} {kinds.name(kind)} has {length} bytes, but {right}"
 
 
 def take(tables, record):

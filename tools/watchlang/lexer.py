@@ -2,24 +2,27 @@
 import re
 from dataclasses import dataclass
 
+from . import hints
+
 
 @dataclass(frozen=True)
 class Place:
-    """A line of a text. `text` is the line itself."""
+    """A place of a text. `text` is its line, `column` counts from 1."""
     file: str
     line: int
     text: str = ""
+    column: int = 1
 
     def __str__(self):
-        return f"{self.file}, line {self.line}"
+        return f"{self.file}, line {self.line}, column {self.column}"
 
 
 class SourceError(Exception):
-    """What is wrong in a text, and where."""
+    """What is wrong in a text, and where; `missing` is the name that is not bound, or the word that was expected."""
 
-    def __init__(self, place, words):
+    def __init__(self, place, words, missing=""):
         super().__init__(f"{place}: {words}")
-        self.place, self.words = place, words
+        self.place, self.words, self.missing = place, words, missing
 
 
 @dataclass(frozen=True)
@@ -38,21 +41,35 @@ KEYWORDS = frozenset("""
 
 PATTERN = re.compile(r"""
     (?P<space>[ \t\r]+ | \#.*)
-  | (?P<number>0x[0-9a-fA-F]+ | [0-9]+)
+  | (?P<number>(0x[0-9a-fA-F]+ | [0-9]+) (?![A-Za-z0-9_]))
   | (?P<name>[A-Za-z_][A-Za-z0-9_]*)
   | (?P<sign><= | := | == | [-+<=;:,(){}\[\].])
 """, re.VERBOSE)
+
+
+LONGEST_NAME = 100
+
+# Far more than the texts of images with 1,024 terms have.
+TOKEN_LIMIT = 60_000
+
+# Signs of other languages that begin like one of this.
+FOREIGN = frozenset(("+=", "-=", "++", "->", "=>"))
 
 
 def tokens(text, file):
     """The tokens of a text, with one of kind "end" as the last. A comment runs from # to the line's end."""
     found, place = [], Place(file, 1)
     for n, line in enumerate(text.split("\n"), 1):
-        place, at = Place(file, n, line.strip()), 0
+        shown, at = line.strip(), 0
         while at < len(line):
+            place = Place(file, n, shown, at + 1)
             match = PATTERN.match(line, at)
-            if not match:
-                raise SourceError(place, f"the sign {line[at]!r} is not part of the language")
+            if not match or line[at:at + 2] in FOREIGN:
+                raise SourceError(place, hints.foreign(line, at))
+            if len(found) > TOKEN_LIMIT:
+                raise SourceError(place, f"the text has more than {TOKEN_LIMIT:,} words and signs: no image is so large")
+            if match.lastgroup == "name" and len(match.group()) > LONGEST_NAME:
+                raise SourceError(place, f"a name has at most {LONGEST_NAME} letters, this one has {len(match.group())}")
             if match.lastgroup != "space":
                 found.append(Token(match.lastgroup, match.group(), place))
             at = match.end()

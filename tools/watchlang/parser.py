@@ -1,34 +1,32 @@
 """From text to a tree of terms (docs/LANGUAGE.md). Types are worked out from below while the text is read.
 
-From loose to tight: `a; b` and `let`; actions (print, mark, install, new, if, match, `:=`); `<` and `==`; `+` and `-`; `read`;
-application and the call of a method.
+From loose to tight: `a; b` and `let`; actions (print, mark, install, new, if, match, `:=`); `<` and `==`; `+` and `-`;
+`read`; application and the call of a method.
 """
-from dataclasses import dataclass, replace
+from dataclasses import replace
 
-from . import kinds, patterns, terms, types
+from . import forms, hints, kinds, patterns, terms, types
+from .bindings import Bindings, Entry
 from .frames import FieldFunctions
-from .header import Cursor
-from .lexer import tokens
+from .lexer import KEYWORDS, SourceError, tokens
 
 SMALLEST, LARGEST = -(1 << 31), (1 << 31) - 1
 
 
-@dataclass(frozen=True, eq=False)
-class Entry:
-    """A variable in scope. One that stands `in_cell` is a function that may call itself: its name reads the cell."""
-    name: str
-    type: object
-    in_cell: bool = False
-
-
 class Watches:
-    """The texts of the watches that a procedure takes in at its `watches at` place: pairs of text and file name."""
+    """The texts of the watches that a procedure takes in at its `watches at` place: pairs of text and file name. `later`
+    are the names that it binds behind that place."""
 
     def __init__(self, texts):
-        self.texts, self.place = texts, None
+        self.texts, self.place, self.later = texts, None, ()
+
+    def put(self, place, tokens):
+        """Sets the place, with the tokens behind it."""
+        self.place = place
+        self.later = {name.text for word, name in zip(tokens, tokens[1:]) if word.text in ("let", "define")}
 
 
-class Parser(Cursor):
+class Parser(Bindings):
     """`scope` holds the variables in scope, the innermost last; `here` is the current domain; `called` has the entries
     of functions that are called through their cell."""
 
@@ -40,8 +38,15 @@ class Parser(Cursor):
         """The term of the whole text after its head."""
         e = self.settled(self.sequence())
         if self.next.kind != "end":
-            self.fail(f"expected the end of the text, but found '{self.next.text}'")
+            self.expected("the end of the text", hints.behind(self.next))
         return self.functions.around(e, self.here)
+
+    def hung(self):
+        """The term of a watch, which gives nothing."""
+        e = self.whole()
+        if e.type is not types.UNIT:
+            self.fail(hints.watch_that_gives(e.type), terms.last(e).place)
+        return e
 
     def settled(self, e):
         """The term, whose type is known."""
@@ -66,9 +71,10 @@ class Parser(Cursor):
         return e
 
     def braces(self, *entries, here=None):
+        opened = self.place
         self.take("{", "before a body")
-        e = self.inside(self.sequence, *entries, here=here)
-        self.take("}", "after a body")
+        e = self.within("", self.inside, self.sequence, *entries, here=here)
+        self.close("}", opened)
         return e
 
     def at_domain(self):
@@ -80,62 +86,15 @@ class Parser(Cursor):
     def sequence(self):
         place = self.place
         if self.accept("let"):
-            return self.split(place) if self.sees("(") else self.let(place)
+            return self.within("let", self.split if self.sees("(") else self.let, place)
         if self.accept("define"):
-            return self.define(place)
+            return self.within("define", self.define, place)
         first = self.action()
-        return self.make(place, terms.sequence, first, self.sequence()) if self.accept(";") else first
-
-    def let(self, place):
-        name = self.name("a variable")
-        self.take("=", f"after let {name}")
-        value = self.settled(self.sequence())
-        self.take("in", f"after the value of {name}")
-        body = self.inside(self.sequence, Entry(name, value.type))
-        return self.make(place, terms.let, name, value, body, p=self.here)
-
-    def split(self, place):
-        self.take("(", "after let")
-        first = self.name("a variable")
-        self.take(",", f"after {first}")
-        second = self.name("a variable")
-        self.take(")", f"after {second}")
-        self.take("=", "before the pair")
-        value = self.settled(self.sequence())
-        self.take("in", "after the pair")
-        parts = (value.type.first, value.type.last) if value.type.kind == kinds.PAIR_T else (None, None)
-        body = self.inside(self.sequence, Entry(first, parts[0]), Entry(second, parts[1]))
-        return self.make(place, terms.split, value, first, second, body)
-
-    def define(self, place):
-        """A function with a name. Where its result's type is said, it may call itself: it then stands in a cell."""
-        name = self.name("a function")
-        x, a = self.parameter()
-        if a is None:
-            self.fail(f"the parameter {x} needs a type: ({x} : type)", place)
-        p = self.at_domain()
-        result = self.type() if self.accept("to") else None
-        known = Entry(name, types.reference(types.function(a, p, result), p), True) if result else None
-        body = self.braces(*([known] if known else []), Entry(x, a), here=p)
-        self.take("in", f"after the definition of {name}")
-        made = self.make(place, terms.function, x, a, body, p=p)
-        if known not in self.called:
-            rest = self.inside(self.sequence, Entry(name, made.type))
-            return self.make(place, terms.let, name, made, rest, p=self.here)
-        if made.type is not known.type.first:
-            self.fail(f"the body of {name} does not have the type that is said after 'to'", place)
-        rest = self.inside(self.sequence, known)
-        filled = terms.sequence(terms.store(terms.variable(name, known.type), made), rest)
-        empty = terms.new_cell(terms.function(x, a, terms.abort(result), p), p)
-        return self.make(place, terms.let, name, empty, filled, p=self.here)
-
-    def parameter(self):
-        """`(x : type)`; the type may be left out where the whole term's type is stated."""
-        self.take("(", "before a parameter")
-        name = self.name("a parameter")
-        a = self.type() if self.accept(":") else None
-        self.take(")", f"after the parameter {name}")
-        return name, a
+        if not self.accept(";"):
+            return first
+        if self.next.kind == "end" or self.sees("}", ")", "in", "then", "else"):
+            self.fail("a term is missing after ';': the last term has no ';' behind it", self.tokens[self.at - 1].place)
+        return self.make(place, terms.sequence, first, self.sequence())
 
     # Actions.
 
@@ -144,7 +103,7 @@ class Parser(Cursor):
         for word, read in (("print", self.show), ("install", self.install), ("mark", self.mark), ("new", self.new),
                            ("if", self.branch), ("match", self.match)):
             if self.accept(word):
-                return read(place)
+                return self.within(word, read, place)
         left = self.comparison()
         return self.make(place, terms.store, left, self.action()) if self.accept(":=") else left
 
@@ -172,8 +131,14 @@ class Parser(Cursor):
         test = self.action()
         self.take("then", "after the test of an if")
         yes = self.action()
-        self.take("else", "after the first branch of an if")
+        self.take_else("an if")
         return self.make(place, terms.branch, test, yes, self.action())
+
+    def take_else(self, what):
+        """Takes the else between two branches. A ';' in its place means that the first branch has several terms."""
+        if self.sees(";"):
+            self.expected(f"'else' after the first branch of {what}", f": {hints.BRANCH}{forms.write(self.form)}")
+        self.take("else", f"after the first branch of {what}")
 
     def match(self, place):
         """`match stack with [pattern] then yes else no`."""
@@ -181,9 +146,20 @@ class Parser(Cursor):
         self.take("with", "and a pattern after the stack of a match")
         found = patterns.read(self)
         self.take("then", "after the pattern of a match")
-        yes = self.inside(self.action, *(Entry(*known) for known in found.variables(stack.type)))
-        self.take("else", "after the first branch of a match")
-        return self.make(place, terms.match, stack, found.entries, found.rest, yes, self.settled(self.action()))
+        bound = found.variables(stack.type)
+        yes = self.inside(self.action, *bound)
+        self.take_else("a match")
+        no = self.second_branch([entry.name for entry in bound])
+        return self.make(place, terms.match, stack, found.entries, found.rest, yes, no)
+
+    def second_branch(self, names):
+        """The second branch of a match, in which the names of its pattern are not bound."""
+        try:
+            return self.settled(self.action())
+        except SourceError as error:
+            if error.missing not in names:
+                raise
+            raise SourceError(error.place, f"{error.words}; {error.missing} is bound only in the first branch") from None
 
     # Operators and application.
 
@@ -192,6 +168,8 @@ class Parser(Cursor):
         for op in (2, 3):
             if self.accept(kinds.SIGNS[op]):
                 return self.make(place, terms.arithmetic, op, left, self.sum())
+        if self.sees("<="):
+            self.fail(f"this is no order of domains{hints.instead('<=')}")
         return left
 
     def sum(self):
@@ -205,7 +183,7 @@ class Parser(Cursor):
     def tight(self):
         place = self.place
         if self.accept("read"):
-            return self.make(place, terms.read, self.tight())
+            return self.make(place, terms.read, self.within("read", self.tight))
         e = self.primary()
         while self.sees("(", "."):
             e = self.call(place, e) if self.accept(".") else self.make(place, terms.apply, e, self.parenthesis())
@@ -217,7 +195,8 @@ class Parser(Cursor):
             return self.make(place, terms.call, e, self.number("a method's number", 0, 0xFFFF))
         name, t = self.name("a method"), self.settled(e).type
         if t.kind != kinds.OBJECT_T:
-            self.fail(f"what {name} is called of must be an object", place)
+            apart = ": take it apart with let (x, y) = ... in" if t.kind == kinds.PAIR_T else ""
+            self.fail(f"{name} can only be called on an object, but this is {hints.a(t.kind)}{apart}", place)
         return self.make(place, terms.call, e, self.method(t, name, place))
 
     # Single things.
@@ -228,12 +207,12 @@ class Parser(Cursor):
         self.take("(", "before a term")
         if self.accept(")"):
             return self.make(place, terms.unit)
-        e = self.sequence()
+        e = self.within("", self.sequence)
         if self.accept(","):
-            e = self.make(place, terms.pair, e, self.sequence())
+            e = self.make(place, terms.pair, e, self.within("", self.sequence))
         if self.accept(":"):
             e = terms.typed(e, self.type())
-        self.take(")", "after the term")
+        self.close(")", place)
         return e
 
     def primary(self):
@@ -244,22 +223,34 @@ class Parser(Cursor):
             return self.parenthesis()
         if token.text == "{":
             return self.braces()
-        forms = {"true": self.truth, "false": self.truth, "function": self.function, "advice": self.advice,
-                 "pointcut": self.pointcut, "lower": self.lower, "watches": self.hang, "abort": self.abort,
-                 "frame": self.frame, "var": self.numbered, "object": self.object, "keep": self.keep,
-                 "stack": self.stack, "takedown": self.takedown}
-        if token.kind == "name" and token.text in forms:
+        readers = {"true": self.truth, "false": self.truth, "function": self.function, "advice": self.advice,
+                   "pointcut": self.pointcut, "lower": self.lower, "watches": self.hang, "abort": self.abort,
+                   "frame": self.frame, "var": self.numbered, "object": self.object, "keep": self.keep,
+                   "stack": self.stack, "takedown": self.takedown}
+        if token.kind == "name" and token.text in readers:
             self.at += 1
-            return forms[token.text](place)
-        name = self.name("a variable")
+            return self.within(token.text, readers[token.text], place)
+        if token.kind != "name" or token.text in KEYWORDS:
+            self.expected("a term", hints.no_term(token, self.form))
+        self.at += 1
         for entry in reversed(self.scope):
-            if entry.name == name:
+            if entry.name == token.text:
                 return self.variable(place, entry)
-        known = ", ".join(dict.fromkeys(e.name for e in reversed(self.scope))) or "none"
-        self.fail(f"{name} is not bound here; in scope are: {known}", place)
+        self.unbound(token.text, place)
+
+    def unbound(self, name, place):
+        """Fails at a name that is not bound, and tells what it may be."""
+        known = list(dict.fromkeys(e.name for e in reversed(self.scope) if e.named))
+        told = hints.instead(name) or self.head.known_as(name) or hints.near(name, (*known, *KEYWORDS))
+        if name in self.watches.later:
+            told = ": its procedure binds it only after the place of the watches"
+        elif self.sees("=", ":="):
+            told = f": {hints.BIND if self.sees('=') else hints.MAKE_CELL}"
+        self.fail(f"{name} is not bound here{told}; in scope are: {', '.join(known) or 'none'}", place, name)
 
     def variable(self, place, entry):
-        e = replace(terms.variable(entry.name, entry.type), place=place)
+        e = terms.variable(entry.name, entry.type)
+        e = replace(e, place=place, why=entry.why or e.why)
         if not entry.in_cell:
             return e
         self.called.add(entry)
@@ -270,13 +261,13 @@ class Parser(Cursor):
 
     def function(self, place):
         x, a = self.parameter()
-        p = self.at_domain()
-        return self.make(place, terms.function, x, a, self.braces(Entry(x, a), here=p), p=p)
+        p, why = self.at_domain(), f"the parameter {x} needs a type: ({x} : type)"
+        return self.make(place, terms.function, x, a, self.braces(Entry(x, a, why=why), here=p), p=p)
 
     def object(self, place):
         """`object type as name { method { body } ... }`, the methods in any order. Without a type, which is stated
         then, the bodies stand in the order of the methods, at the current domain."""
-        t = None if self.sees("as") else self.object_type() if self.sees("{") else self.type()
+        t = None if self.sees("as") else self.within("object type", self.methods) if self.sees("{") else self.type()
         if t and t.kind != kinds.OBJECT_T:
             self.fail("the type of an object must be an object type", place)
         self.take("as", "and a name for the object itself")
@@ -290,7 +281,8 @@ class Parser(Cursor):
             bodies[m] = self.braces(Entry(x, t), here=t.methods[m][0] if t else None)
         wanted = len(t.methods) if t else max(1, len(bodies))
         if len(bodies) < wanted:
-            self.fail(f"the object has {len(bodies)} bodies, but its type has {wanted} methods", place)
+            lacks = hints.counted(len(bodies), "body", "bodies")
+            self.fail(f"the object has {lacks}, but its type has {hints.counted(wanted, 'method')}", place)
         return self.make(place, terms.object_of, t, x, *(bodies[m] for m in range(len(bodies))))
 
     def keep(self, place):
@@ -306,9 +298,12 @@ class Parser(Cursor):
         self.take("on", "and a pointcut after advice")
         cut = self.settled(self.tight())
         self.take("as", "and a name for the value after the pointcut")
+        if self.sees("("):
+            self.expected("one name for the value", ": take it apart in the body, with let (x, y) = NAME in")
         x, p = self.name("a variable"), self.at_domain()
-        a = cut.type.first if cut.type.kind == kinds.POINTCUT_T else None
-        return self.make(place, terms.advice, cut, x, self.braces(Entry(x, a), here=p), p=p)
+        a = cut.type.first if cut.type.kind in (kinds.POINTCUT_T, kinds.LABEL_T) else None
+        why = f"what an advice hangs on must be a pointcut, but is {hints.a(cut.type.kind)}"
+        return self.make(place, terms.advice, cut, x, self.braces(Entry(x, a, why=why), here=p), p=p)
 
     def pointcut(self, place):
         self.take("{", "after pointcut")
@@ -333,13 +328,13 @@ class Parser(Cursor):
         p = self.domain()
         if self.watches.place:
             self.fail(f"the watches have a place already: {self.watches.place}", place)
-        self.watches.place = place
+        self.watches.put(place, self.tokens[self.at:])
         made = []
         for text, file in self.watches.texts:
             watch = Parser(text, file, self.head.copy(), self.watches, self.scope, p)
             watch.called = self.called
             watch.headlines(of_watch=True)
-            made.append(watch.whole())
+            made.append(watch.hung())
         return self.make(place, terms.lower, p, terms.sequence(*made) if made else terms.unit())
 
     def takedown(self, place):
@@ -351,18 +346,20 @@ class Parser(Cursor):
 
     def frame(self, place):
         """`frame[e]`, `frame.name`, or `frame.name[base]`."""
+        opened = self.place
         if self.accept("["):
-            e = self.make(place, terms.frame_byte, self.sequence())
+            e = self.make(place, terms.frame_byte, self.within("", self.sequence))
         else:
             self.take(".", "and a field, or '[' and an index, after frame")
             name = self.name("a field")
             if name not in self.head.fields:
-                self.fail(f"the frame has no field {name}; its fields are {', '.join(self.head.fields)}", place)
+                self.fail(f"the frame has no field {name}{self.head.told_fields(name)}", place)
+            opened = self.place
             base = self.settled(self.tight()) if self.accept("[") else None
             e = replace(self.functions.field(self.head.fields[name], self.checked(base), self.here), place=place)
             if base is None:
                 return e
-        self.take("]", "after the index")
+        self.close("]", opened)
         return e
 
     def checked(self, base):
@@ -375,5 +372,7 @@ class Parser(Cursor):
 
     def numbered(self, place):
         """`var k`: a variable by its number, 0 the innermost."""
+        if self.next.kind == "name":
+            self.expected("a variable's number", f": {hints.BIND}")
         k = self.number("a variable's number", 0, 0xFFFF)
         return terms.Term(kinds.VARIABLE, None, (k,), place=place, why="a variable by number has a stated type")

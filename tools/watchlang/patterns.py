@@ -2,6 +2,9 @@
 from dataclasses import dataclass
 
 from . import kinds
+from .bindings import Entry
+
+NO_POINTCUT = "an entry of a pattern is any or a pointcut: write pointcut {LABEL} as NAME"
 
 
 @dataclass
@@ -12,10 +15,10 @@ class Pattern:
     rest: str = None
 
     def variables(self, stack):
-        """The variables that the first branch gains, with their types; `stack` is that of the stack."""
-        found = [(name, cut.type.first if cut.type.kind == kinds.POINTCUT_T else None)
+        """The variables that the first branch gains; `stack` is the type of the stack."""
+        found = [Entry(name, cut.type.first if cut.type.kind == kinds.POINTCUT_T else None, why=NO_POINTCUT)
                  for cut, name in filter(None, self.entries)]
-        return found + ([(self.rest, stack)] if self.rest else [])
+        return found + ([Entry(self.rest, stack)] if self.rest else [])
 
 
 def read(parser):
@@ -25,6 +28,8 @@ def read(parser):
     while found.rest is None and not parser.sees("]"):
         if found.entries:
             parser.take(",", "between the entries of a pattern")
+        if parser.sees("_", "."):
+            parser.expected("an entry of a pattern", ": write any for one value, rest as NAME for all that is left")
         if parser.accept("any"):
             found.entries.append(None)
         elif parser.accept("rest"):

@@ -10,8 +10,8 @@ from .layout import Refused
 FOLDER = Path(os.environ.get("BUKZARN_PROGRAMS") or Path(__file__).resolve().parents[2] / "target/bin")
 
 
-class Missing(Exception):
-    """A program that is not built."""
+class NoAnswer(Exception):
+    """A program that is not built, or that failed."""
 
 
 def run(name, image, *words):
@@ -19,10 +19,13 @@ def run(name, image, *words):
     raised."""
     program = FOLDER / name
     if not program.exists():
-        raise Missing(f"{program} is not there: build it with 'rt check {name}', or name its folder in BUKZARN_PROGRAMS")
-    said = subprocess.run([program, *words], input=image, capture_output=True, check=True)
+        raise NoAnswer(f"{program} is not there: build it with 'rt check {name}', or name its folder in BUKZARN_PROGRAMS")
+    said = subprocess.run([program, *words], input=image, capture_output=True, check=False)
     for told in (said.stdout, said.stderr):
         if told.startswith(b"refused "):
             number, place = told.split()[1:3]
             raise Refused(int(number), int(place), "the program's own answer")
+    if said.returncode or not said.stdout:
+        told = said.stderr.decode(errors="replace").strip() or f"status {said.returncode}"
+        raise NoAnswer(f"{program} gave no answer ({told}): build it again with 'rt check {name}'")
     return said.stdout

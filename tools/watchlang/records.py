@@ -46,12 +46,16 @@ def word(data, offset):
     return struct.unpack_from("<H", data, offset)[0]
 
 
+def lengths(kind):
+    """The lengths that records of a kind have without bytes to skip: one, or several for a kind with a group."""
+    longer = 2 * kinds.fields(kind).count("n")
+    return [4 + 2 * count + longer for count in kinds.counts(kind)]
+
+
 def right_length(kind, length):
     """Whether a record of a kind may have a length: that of its known fields or more; exact lengths for a kind with
     a group."""
-    if kind in kinds.GROUPS:
-        return length in [4 + 2 * count for count in kinds.counts(kind)]
-    return length >= 4 + sum(4 if l == "n" else 2 for l in kinds.fields(kind))
+    return length in lengths(kind) if kind in kinds.GROUPS else length >= lengths(kind)[0]
 
 
 def record_at(data, offset):

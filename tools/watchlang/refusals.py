@@ -8,7 +8,7 @@ from .records import Record, record_at, word
 # For each number: the cause, and how to mend it.
 REFUSALS = {
     1: ("the image has more than 16,384 bytes",
-        "Shorten the program: code that stands twice can be one function."),
+        "Shorten the program: code that appears twice can be made a function."),
     2: ("1 to 3 bytes are left over, or a record's length is under 4 or goes past the image's end",
         "The image was cut off or damaged on its way: send it again, or assemble it again."),
     3: ("a record of a kind that does not exist",
@@ -20,16 +20,17 @@ REFUSALS = {
     5: ("a domain after a type or term, or a type after a term",
         "Domains come first, then types, then terms: the assembler writes them so."),
     6: ("more than 16 domains, 128 types or 1,024 terms",
-        "Use fewer: share domains, share types, make code that stands twice one function."),
+        "Use fewer: share domains and types, and make a function of code that appears twice."),
     7: ("a field names a type, term, domain or operation that is not there, or a truth or a match's close that is neither "
         "0 nor 1",
-        "Parts and children are lower numbers than their record's own: the assembler writes them so."),
+        "Give the field a number that exists; parts and children are lower numbers than their record's own. The assembler "
+        "writes them so."),
     8: ("a type that equals an earlier one",
         "Use the number of the earlier one: the assembler writes each type once."),
     9: ("no domain, no type or no term",
         "The image is empty or was cut off: an image has at least one record of each section."),
     10: ("the masks of the domains are no order, or name a domain that is not there",
-         "Each domain's mask has its own bit and every domain above it. With 'domain a <= b' the assembler sees to it; "
+         "Each domain's mask has its own bit and every domain above it. With 'domain a <= b' the assembler takes care of it; "
          "no two domains may be below each other."),
     11: ("a term that is used by no other, or by more than one",
          "Each term but the last is the child of exactly one other: shared code is a function."),
@@ -37,7 +38,7 @@ REFUSALS = {
          "Make part of it a function, or put parentheses around the first half of a long sequence. Each 'let' is two "
          "deep, each ';' one."),
     13: ("a variable that is not bound",
-         "A variable's number must be below the count of variables in scope; by name the assembler sees to it."),
+         "A variable's number must be below the count of variables in scope; if you use names, the assembler takes care of it."),
     14: ("a term whose parts do not have the types that it needs",
          "Change the part that is named, or its stated type."),
     15: ("a term that the order of the domains forbids",
@@ -67,9 +68,9 @@ REFUSALS = {
 
 # For some kinds of terms, how to keep their type rule.
 TYPE_MENDS = {
-    kinds.OBJECT: "Give the object one body for each method of its type, in their order and of their types: by name the "
-                  "assembler sees to the order.",
-    kinds.CALL: "Call a method that the type of the object has: by name the assembler sees to its number.",
+    kinds.OBJECT: "Give the object one body for each method of its type, in their order and of their types. If you "
+                  "name the methods, the assembler takes care of the order.",
+    kinds.CALL: "Call a method that the type of the object has. If you name it, the assembler takes care of its number.",
     kinds.KEEP: "Keep a value of the type that the label has: 'keep LABEL with VALUE { BODY }'.",
     kinds.TAKEDOWN: "A takedown gives unit: give it no other type.",
     kinds.MATCH: "Match a stack, with pointcuts as entries, and give both branches the same type: "
@@ -110,19 +111,34 @@ def table():
     return "\n".join(f"{n:2}  {cause}\n    {mend}" for n, (cause, mend) in REFUSALS.items()) + "\n"
 
 
+def unknown(number):
+    """What is said of a number that no refusal has; nothing of others."""
+    return "" if number in REFUSALS else f"there is no refusal {number}: they are 1 to {max(REFUSALS)}\n"
+
+
+def in_general(number, place, here=""):
+    """A refusal in words, without an image; `here` says what is wrong, if that is known."""
+    if unknown(number):
+        return unknown(number)
+    cause, mend = REFUSALS[number]
+    lines = [f"refused {number} {place}: {cause}.", *([f"Here: {here}."] if here else []), f"To mend it: {mend}"]
+    return "\n".join(lines) + "\n"
+
+
 def explain(image, number, place, places=None, domains=None):
     """A refusal of an image in words: the cause, the record at the place, the line of the text, how to mend it."""
-    if number not in REFUSALS:
-        return f"there is no refusal {number}: the last one is {max(REFUSALS)}\n"
+    if unknown(number):
+        return unknown(number)
     lines = [f"refused {number} at byte {place}: {REFUSALS[number][0]}."]
-    found = verdict(image, domains)
-    lines += describe(image, place, number, places or shown_places(image), domains)
+    found, mend = verdict(image, domains), ""
+    lines += describe(image, place, number, places, domains)
     if found and (found.number, found.place) == (number, place):
         lines.append(f"Here: {found.words}.")
+        mend = found.mend
     elif number < 17:
         other = f"refused {found.number} {found.place}" if found else "accepted"
         lines.append(f"By these rules this image is {other}: is it the image that was refused?")
-    return "\n".join(lines + [f"To mend it: {mend_of(image, number, place)}"]) + "\n"
+    return "\n".join(lines + [f"To mend it: {mend or mend_of(image, number, place)}"]) + "\n"
 
 
 def mend_of(image, number, place):
@@ -143,6 +159,7 @@ def describe(image, place, number, places, domains):
     own = sections[kinds.section(found.kind)]
     n = count_before(image, place, found.kind)
     lines = [f"The record is {own} {n}, {kinds.name(found.kind)} (kind {found.kind})."]
+    places = places or shown_places(image)
     if places.get(place):
         lines.append(f"It comes from {places[place]}:\n    {places[place].text}")
     elif own == "domain" and domains:

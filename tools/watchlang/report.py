@@ -2,19 +2,12 @@
 import struct
 from dataclasses import dataclass, field
 
+from . import outcomes
 from .records import word
 
-OUTCOMES = ("done", "spent", "aborted", "frames", "bindings", "cells", "labels", "advice", "pieces", "log",
-            "other-bindings", "other-cells", "other-pieces")
-SENTENCES = (
-    "The run is done", "The budget was spent", "The run was aborted", "More than 512 unfinished terms",
-    "The mainline had used its 1,024 bindings", "The mainline had used its 128 cells", "All 64 labels were used",
-    "All 64 places of installed advice were used", "The mainline had used its 256 pieces", "The log was full",
-    "The other domains had used their 1,024 bindings", "The other domains had used their 128 cells",
-    "The other domains had used their 256 pieces",
-)
 LOG, REPORT, UNIT, TRUTH, NUMBER, CELL, OTHER = 64, 70, 65, 66, 67, 68, 69
 LEAVES = {UNIT: 4, TRUTH: 6, NUMBER: 8}
+LOG_LENGTH = 10
 
 
 class Damaged(Exception):
@@ -46,10 +39,13 @@ def head(data, offset):
 
 
 def read_log(data):
+    """The printed numbers of a log, each with its domain."""
     printed = []
-    for offset in range(0, len(data), 10):
-        need(head(data, offset) == (10, LOG), "expected a log record (length 10, kind 64)", offset)
-        printed.append(struct.unpack_from("<Hi", data, offset + 4))
+    for offset in range(0, len(data), LOG_LENGTH):
+        record = data[offset:offset + LOG_LENGTH]
+        need(len(record) == LOG_LENGTH and (word(record, 0), word(record, 2)) == (LOG_LENGTH, LOG),
+             "the log has no record of length 10 and kind 64 here", offset)
+        printed.append(struct.unpack_from("<Hi", record, 4))
     return printed
 
 
@@ -71,29 +67,46 @@ def read_leaves(data, offset, end):
     return leaves, offset
 
 
-def read_run(report, log=b""):
-    """A run from the bytes that it wrote."""
-    printed = read_log(log)
-    need(head(report, 0) == (10, REPORT), "expected a report (length 10, kind 70)", 0)
-    outcome, steps = struct.unpack_from("<HI", report, 4)
-    need(outcome < len(OUTCOMES), f"there is no outcome {outcome}", 4)
-    run, offset = Run(printed, outcome, steps), 10
+def read_one(data, offset):
+    """The run whose report starts at an offset, and where it ends."""
+    need(head(data, offset) == (10, REPORT), "the report has no record of length 10 and kind 70 here", offset)
+    outcome, steps = struct.unpack_from("<HI", data, offset + 4)
+    need(outcome < len(outcomes.WORDS), f"there is no outcome {outcome}", offset + 4)
+    run, offset = Run([], outcome, steps), offset + 10
     if outcome == 0:
-        run.result, offset = read_leaves(report, offset, len(report))
-    while offset < len(report):
-        length, kind = head(report, offset)
-        need(kind in (CELL, OTHER) and length >= 6, "expected a cell (kind 68 or 69)", offset)
-        leaves, end = read_leaves(report, offset + 6, offset + length)
+        run.result, offset = read_leaves(data, offset, len(data))
+    while offset < len(data) and head(data, offset)[1] != REPORT:
+        length, kind = head(data, offset)
+        need(length >= 6 if kind == CELL else (length, kind) == (6, OTHER), "expected a cell (kind 68 or 69)", offset)
+        leaves, end = read_leaves(data, offset + 6, offset + length)
         need(end == offset + length, "a cell holds only leaves", end)
-        run.cells.append((word(report, offset + 4), leaves if kind == CELL else None))
+        run.cells.append((word(data, offset + 4), leaves if kind == CELL else None))
         offset += length
+    return run, offset
+
+
+def read_runs(data):
+    """The runs of a recording, whose reports stand one after another; at least one."""
+    run, offset = read_one(data, 0)
+    runs = [run]
+    while offset < len(data):
+        run, offset = read_one(data, offset)
+        runs.append(run)
+    return runs
+
+
+def read_run(report, log=b""):
+    """One run from the bytes that it wrote."""
+    run, *others = read_runs(report)
+    need(not others, f"there are {len(others) + 1} reports, and a log belongs to one: leave the log out", 0)
+    run.printed = read_log(log)
     return run
 
 
 def listing(run):
     """The listing that the program `watch` prints."""
     lines = [f"log {p} {n}" for p, n in run.printed]
-    lines.append(f"{OUTCOMES[run.outcome]} {run.steps}")
+    lines.append(f"{outcomes.WORDS[run.outcome]} {run.steps}")
     if run.outcome == 0:
         lines.append(" ".join(["value", *run.result]))
     lines += [" ".join(["cell", str(p), *(["other"] if leaves is None else leaves)]) for p, leaves in run.cells]
@@ -106,7 +119,7 @@ def in_words(run, domains=None):
         return domains[p] if domains and p < len(domains) else f"domain {p}"
 
     lines = [f"{name(p)} printed {n}." for p, n in run.printed]
-    lines.append(f"{SENTENCES[run.outcome]} after {run.steps} step{'' if run.steps == 1 else 's'}.")
+    lines.append(outcomes.sentence(run.outcome, run.steps))
     if run.outcome == 0:
         lines.append(f"The result is {', '.join(run.result)}.")
     for i, (p, leaves) in enumerate(run.cells):

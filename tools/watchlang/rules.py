@@ -5,8 +5,11 @@ given the term as `Judged`, whose methods say what must hold.
 """
 from dataclasses import dataclass
 
-from . import kinds, types
+from . import hints, kinds, types
 from .layout import Refused
+
+
+SAME_BRANCHES = "Give both branches the same type: where one gives nothing, the other gives nothing either."
 
 
 @dataclass
@@ -20,21 +23,32 @@ class Judged:
     tables: object
     writer: object
 
-    def refuse(self, number, words):
-        raise Refused(number, self.record.offset, "; ".join([words, *self.writer.legend()]))
+    def refuse(self, number, words, mend=""):
+        raise Refused(number, self.record.offset, "; ".join([words, *self.writer.legend()]), mend)
 
     def show(self, t):
         return self.writer.text(t)
 
-    def is_(self, t, want, what):
-        """The type `t` of `what` is the type wanted (14)."""
+    def is_(self, t, want, what, mend=""):
+        """The type `t` of the part `what` is the type wanted (14)."""
         if t is not want:
-            self.refuse(14, f"{what} must have type {self.show(want)}, but has {self.show(t)}")
+            mend = mend or hints.type_mend(t, want.kind)
+            self.refuse(14, f"{what} must have type {self.show(want)}, but has {self.show(t)}", mend)
+
+    def gives(self, want, what):
+        """The term's own type is the type wanted (14)."""
+        if self.type is not want:
+            self.refuse(14, f"{what} must have type {self.show(want)}, but is said to have {self.show(self.type)}")
 
     def kind(self, t, kind, what):
-        """The type `t` of `what` is of a kind (14)."""
+        """The type `t` of the part `what` is of a kind (14)."""
         if t.kind != kind:
-            self.refuse(14, f"{what} must be a {kinds.name(kind)} type, but is {self.show(t)}")
+            self.refuse(14, f"{what} must be {hints.a(kind)}, but has type {self.show(t)}", hints.type_mend(t, kind))
+
+    def own_kind(self, kind, what):
+        """The term's own type is of a kind (14)."""
+        if self.type.kind != kind:
+            self.refuse(14, f"the type of {what} must be that of {hints.a(kind)}, but is {self.show(self.type)}")
 
     def same(self, p, what):
         """The domain p of `what` equals the current domain (15)."""
@@ -55,39 +69,39 @@ class Judged:
 def variable(j):
     k = j.record.fields[1]
     if k >= len(j.scope):
-        j.refuse(13, f"variable {k} is not bound: {len(j.scope)} variables are in scope here")
-    j.is_(j.type, j.scope[-1 - k], "the variable")
+        j.refuse(13, f"variable {k} is not bound: {hints.counted(len(j.scope), 'variable')} in scope here")
+    j.gives(j.scope[-1 - k], "the variable")
 
 
 def sequence(j):
     j.is_(j.kids[0], types.UNIT, "the first of a sequence")
-    j.is_(j.type, j.kids[1], "a sequence, as its second,")
+    j.gives(j.kids[1], "a sequence, as its second,")
 
 
 def branch(j):
     j.is_(j.kids[0], types.TRUTH, "the test of an if")
-    j.is_(j.kids[1], j.type, "the first branch, as the whole if,")
-    j.is_(j.kids[2], j.type, "the second branch, as the whole if,")
+    j.is_(j.kids[1], j.type, "the first branch, as the whole if,", SAME_BRANCHES)
+    j.is_(j.kids[2], j.type, "the second branch, as the whole if,", SAME_BRANCHES)
 
 
 def pair(j):
-    j.is_(j.type, types.pair(*j.kids), "a pair")
+    j.gives(types.pair(*j.kids), "a pair")
 
 
 def split(j):
     j.kind(j.kids[0], kinds.PAIR_T, "what is split")
-    j.is_(j.type, j.kids[1], "a split, as its body,")
+    j.gives(j.kids[1], "a split, as its body,")
 
 
 def function(j):
-    j.kind(j.type, kinds.FUNCTION_T, "a function's type")
+    j.own_kind(kinds.FUNCTION_T, "a function")
     j.is_(j.kids[0], j.type.last, "the function's body")
 
 
 def apply(j):
     j.kind(j.kids[0], kinds.FUNCTION_T, "what is applied")
     j.is_(j.kids[1], j.kids[0].first, "the argument")
-    j.is_(j.type, j.kids[0].last, "the application")
+    j.gives(j.kids[0].last, "the application")
     j.same(j.kids[0].domain, "the function's domain")
 
 
@@ -95,23 +109,23 @@ def arithmetic(j):
     op = j.record.fields[1]
     for kid in j.kids:
         j.is_(kid, types.NUMBER, f"an operand of {kinds.OPERATIONS[op]}")
-    j.is_(j.type, types.NUMBER if op < 2 else types.TRUTH, kinds.OPERATIONS[op])
+    j.gives(types.NUMBER if op < 2 else types.TRUTH, kinds.OPERATIONS[op])
 
 
 def new_label(j):
-    j.kind(j.type, kinds.LABEL_T, "a new label's type")
+    j.own_kind(kinds.LABEL_T, "a new label")
     j.below_here(j.type.domain, "the label's domain")
 
 
 def mark(j):
     j.kind(j.kids[0], kinds.LABEL_T, "what is marked")
     j.is_(j.kids[1], j.kids[0].first, "the value at the mark")
-    j.is_(j.type, types.UNIT, "a mark")
+    j.gives(types.UNIT, "a mark")
     j.same(j.kids[0].domain, "the label's domain")
 
 
 def pointcut(j):
-    j.kind(j.type, kinds.POINTCUT_T, "a pointcut's type")
+    j.own_kind(kinds.POINTCUT_T, "a pointcut")
     for kid in j.kids:
         j.kind(kid, kinds.LABEL_T, "each of a pointcut's labels")
         j.is_(kid.first, j.type.first, "the value at each of the pointcut's labels")
@@ -120,7 +134,7 @@ def pointcut(j):
 
 
 def advice(j):
-    j.kind(j.type, kinds.ADVICE_T, "an advice's type")
+    j.own_kind(kinds.ADVICE_T, "an advice")
     j.kind(j.kids[0], kinds.POINTCUT_T, "what an advice hangs on")
     j.is_(j.kids[1], types.UNIT, "the advice's body")
     j.below(j.type.domain, j.kids[0].domain, "the advice's domain", "its pointcut's domain")
@@ -128,46 +142,47 @@ def advice(j):
 
 def install(j):
     j.kind(j.kids[0], kinds.ADVICE_T, "what is installed")
-    j.is_(j.type, types.UNIT, "an install")
+    j.gives(types.UNIT, "an install")
     j.below_here(j.kids[0].domain, "the advice's domain")
 
 
 def new_cell(j):
-    j.kind(j.type, kinds.REFERENCE_T, "a new cell's type")
+    j.own_kind(kinds.REFERENCE_T, "a new cell")
     j.is_(j.kids[0], j.type.first, "the cell's first value")
     j.below_here(j.type.domain, "the cell's domain")
 
 
 def read(j):
     j.kind(j.kids[0], kinds.REFERENCE_T, "what is read")
-    j.is_(j.type, j.kids[0].first, "the read")
+    j.gives(j.kids[0].first, "the read")
     j.below(j.here, j.kids[0].domain, "the current domain", "the domain of the cell that is read")
 
 
 def store(j):
     j.kind(j.kids[0], kinds.REFERENCE_T, "what is stored to")
     j.is_(j.kids[1], j.kids[0].first, "the stored value")
-    j.is_(j.type, types.UNIT, "a store")
+    j.gives(types.UNIT, "a store")
     j.below_here(j.kids[0].domain, "the domain of the cell that is stored to")
 
 
 def lower(j):
-    j.is_(j.type, types.UNIT, "a lower")
+    j.gives(types.UNIT, "a lower")
     j.is_(j.kids[0], types.UNIT, "the lowered body")
     j.below_here(j.record.fields[1], "the domain that is lowered to")
 
 
 def takedown(j):
-    j.is_(j.type, types.UNIT, "a takedown")
+    j.gives(types.UNIT, "a takedown")
     j.below_here(j.record.fields[1], "the domain that is taken down")
 
 
 def object_of(j):
     """An object has a body for each method of its type."""
-    j.kind(j.type, kinds.OBJECT_T, "an object's type")
+    j.own_kind(kinds.OBJECT_T, "an object")
     wanted = j.type.methods
     if len(j.kids) != len(wanted):
-        j.refuse(14, f"the object has {len(j.kids)} bodies, but its type has {len(wanted)} methods: {j.show(j.type)}")
+        bodies, methods = hints.counted(len(j.kids), "body", "bodies"), hints.counted(len(wanted), "method")
+        j.refuse(14, f"the object has {bodies}, but its type has {methods}: {j.show(j.type)}")
     for m, (kid, (_, of)) in enumerate(zip(j.kids, wanted)):
         j.is_(kid, of, f"the body of method {m}")
 
@@ -179,7 +194,7 @@ def call(j):
     if m >= len(methods):
         j.refuse(14, f"method {m} is called, but the methods are 0 to {len(methods) - 1}: {j.show(j.kids[0])}")
     p, of = methods[m]
-    j.is_(j.type, of, f"the call of method {m}")
+    j.gives(of, f"the call of method {m}")
     j.same(p, "the method's domain")
 
 
@@ -187,27 +202,27 @@ def keep(j):
     """The label's domain is the current one."""
     j.kind(j.kids[0], kinds.LABEL_T, "what a value is kept under")
     j.is_(j.kids[1], j.kids[0].first, "the kept value")
-    j.is_(j.type, j.kids[2], "a keep, as its body,")
+    j.gives(j.kids[2], "a keep, as its body,")
     j.same(j.kids[0].domain, "the label's domain")
 
 
 def match(j):
     j.is_(j.kids[0], types.STACK, "what is matched")
-    j.is_(j.kids[1], j.type, "the first branch, as the whole match,")
-    j.is_(j.kids[2], j.type, "the second branch, as the whole match,")
+    j.is_(j.kids[1], j.type, "the first branch, as the whole match,", SAME_BRANCHES)
+    j.is_(j.kids[2], j.type, "the second branch, as the whole match,", SAME_BRANCHES)
     for kid in j.kids[3:]:
         j.kind(kid, kinds.POINTCUT_T, "each entry that is not 0")
 
 
 def constant(want):
-    return lambda j: j.is_(j.type, want, "the constant")
+    return lambda j: j.gives(want, "the constant")
 
 
 def numeric(result, what):
     """Print and frame byte: they take a number."""
     def rule(j):
         j.is_(j.kids[0], types.NUMBER, f"what {what} takes")
-        j.is_(j.type, result, what)
+        j.gives(result, what)
     return rule
 
 
@@ -218,7 +233,7 @@ RULES = {
     kinds.NEW_LABEL: new_label, kinds.MARK: mark, kinds.POINTCUT: pointcut, kinds.ADVICE: advice,
     kinds.INSTALL: install, kinds.NEW_CELL: new_cell, kinds.READ: read, kinds.STORE: store, kinds.LOWER: lower,
     kinds.ABORT: lambda j: None, kinds.OBJECT: object_of, kinds.CALL: call,
-    kinds.STACK: lambda j: j.is_(j.type, types.STACK, "the stack"), kinds.KEEP: keep, kinds.MATCH: match,
+    kinds.STACK: lambda j: j.gives(types.STACK, "the stack"), kinds.KEEP: keep, kinds.MATCH: match,
     kinds.TAKEDOWN: takedown, kinds.FRAME_BYTE: numeric(types.NUMBER, "frame byte"),
 }
 
@@ -262,4 +277,5 @@ def well_typed(tables, writer):
     judge(root, 0, ())
     own = tables.types[tables.terms[root].fields[0]]
     if not types.leaves(tables.types)[own]:
-        raise Refused(16, tables.terms[root].offset, f"the program's result has type {writer.text(own)}")
+        said = [f"the program's result has type {writer.text(own)}", *writer.legend()]
+        raise Refused(16, tables.terms[root].offset, "; ".join(said))

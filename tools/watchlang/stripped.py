@@ -1,10 +1,15 @@
 """A program with and without its watches (document 02, card 13): the domains that are kept, and two listings compared."""
 from dataclasses import dataclass
 
-from . import kinds
+from . import hints, kinds
 from .disassembler import tree
 from .layout import laid_out
 from .terms import child_domains
+from .types import Writer
+
+
+# The refusal of a set that is not one of high domains.
+WRONG_SET = 23
 
 
 class NoDomain(Exception):
@@ -17,11 +22,26 @@ def mask(keep, names):
     numbers = {str(d): d for d in range(kinds.DOMAIN_LIMIT)}
     made = 0
     for word in keep.split(","):
+        word = word.strip()
         if word not in known and word not in numbers:
             said = ", ".join(known) or "numbers, as an image has no names"
-            raise NoDomain(f"there is no domain {word}; the domains are {said}")
+            raise NoDomain(f"there is no domain '{word[:40]}'; the domains are {said}{hints.near(word, known)}")
         made |= 1 << known.get(word, numbers.get(word))
     return made
+
+
+def fault(image, high, names):
+    """Why a mask is no set of high domains of an accepted image, in words; nothing where it is one."""
+    tables, name = laid_out(image), Writer(names).domain
+    count = len(tables.domains)
+    if high >> count:
+        return f"the image has no domain {high.bit_length() - 1}: they are 0 to {count - 1}"
+    if not high & 1:
+        return f"{name(0)} is left out, which is domain 0"
+    for d, above in enumerate(tables.masks):
+        if high >> d & 1 and above & ~high:
+            return f"{name(d)} is kept, but {name((above & ~high).bit_length() - 1)} is above it and left out"
+    return ""
 
 
 def low_takedown(image, high):

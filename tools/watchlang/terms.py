@@ -7,7 +7,7 @@ worked out; `why` then says why, and `typed` sets it by hand.
 """
 from dataclasses import dataclass, field, replace
 
-from . import kinds, types
+from . import hints, kinds, types
 from .records import written
 
 
@@ -79,11 +79,12 @@ def part_of(e, kind, what, take):
     """The type that `take` gets from the type of `e` if that is of a kind, and the reason where it is not."""
     if types.has_kind(e.type, kind):
         return {"type": take(e.type)}
-    return {"type": None, "why": f"{what} must be a {kinds.name(kind)}"}
+    return {"type": None, "why": f"{what} must be {hints.a(kind)}, but is {hints.a(e.type.kind)}"}
 
 
 def apply(f, x):
-    return Term(kinds.APPLY, fields=(f, x), **part_of(f, kinds.FUNCTION_T, "what is applied", lambda t: t.last))
+    made = Term(kinds.APPLY, fields=(f, x), **part_of(f, kinds.FUNCTION_T, "what is applied", lambda t: t.last))
+    return replace(made, why=f"{made.why}; write it without ()") if made.why and x.kind == kinds.UNIT else made
 
 
 def arithmetic(op, a, b):
@@ -167,7 +168,10 @@ def call(e, m):
     """The call of a method by its number."""
     if types.has_kind(e.type, kinds.OBJECT_T) and m < len(e.type.methods):
         return Term(kinds.CALL, e.type.methods[m][1], (e, m))
-    return Term(kinds.CALL, None, (e, m), why=f"what is called must be an object with a method {m}, counted from 0")
+    why = f"what is called must be an object with a method {m}, counted from 0"
+    if e.kind == kinds.NUMBER:
+        why += f"; {hints.NO_FRACTIONS}"
+    return Term(kinds.CALL, None, (e, m), why=why)
 
 
 def stack():
@@ -193,6 +197,13 @@ def frame_byte(index):
 def let(name, value, body, p=0):
     """The body with a name for a value, at the current domain p: one binding."""
     return apply(function(name, value.type, body, p), value)
+
+
+def last(e):
+    """The term whose value a term gives: behind what comes before it in sequences, lets and splits."""
+    while e.kind in (kinds.SEQUENCE, kinds.SPLIT) or (e.kind == kinds.APPLY and e.fields[0].kind == kinds.FUNCTION):
+        e = e.fields[0].fields[-1] if e.kind == kinds.APPLY else e.fields[-1]
+    return e
 
 
 def child_domains(e, count, here):

@@ -21,19 +21,19 @@
 //! ```
 //!
 //! [`run`] keeps the lent memory in one value and cannot be called with too little of it. [`call`] takes slices of any
-//! length, and refuses short ones. `validate` (with the feature `validator`) answers the verdict alone, `need` (with the
-//! feature `needs`) what a run will need, worked out without a run, `fixed_form` (with the feature `fixed`) the one image
-//! of an image's program, `load` (with the feature `load`) the image of a seed, `stripped_form` (with the feature
-//! `stripped`) an image without its watches.
+//! length, and refuses short ones. [`run_frames`] and [`call_frames`] do the same over many frames, with one check of the
+//! image. [`validate`] answers the verdict alone, [`need`] what a run will need, worked out
+//! without a run, [`fixed_form`] the one image of an image's program, [`load`] the image of a seed and a depth,
+//! [`stripped_form`] an image without its watches.
+//!
+//! A refused call is an error with its reason in words. No call panics, whatever the image and the frame.
 #![deny(missing_docs, unsafe_code)]
 
 mod call;
-#[cfg(feature = "fixed")]
 mod fixed;
+mod frames;
 mod lent;
-#[cfg(feature = "load")]
 mod load;
-#[cfg(feature = "needs")]
 mod needs;
 mod outcome;
 pub mod program;
@@ -41,23 +41,17 @@ pub mod program;
 mod raw;
 mod records;
 mod refusal;
-#[cfg(feature = "stripped")]
 mod stripped;
 
-#[cfg(feature = "validator")]
-pub use call::validate;
-pub use call::{call, Written};
-#[cfg(feature = "fixed")]
+pub use call::{call, validate, Written};
 pub use fixed::{fixed_form, write_fixed};
-pub use lent::{run, Lent};
-#[cfg(feature = "load")]
+pub use frames::{call_frames, Frames};
+pub use lent::{run, run_frames, Lent};
 pub use load::{generate, load, LOAD_DEPTH, LOAD_LENGTH};
-#[cfg(feature = "needs")]
 pub use needs::{need, Needs};
 pub use outcome::Outcome;
 pub use records::{Cell, Leaf, Leaves, LogRecord, Run};
 pub use refusal::{Cause, Refusal};
-#[cfg(feature = "stripped")]
 pub use stripped::{stripped_form, write_stripped};
 
 /// The longest image that can be accepted, in bytes.

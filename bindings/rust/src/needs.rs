@@ -13,6 +13,9 @@ const FRAME_LIMIT: u32 = 512;
 /// The length of a log record.
 const LOG_RECORD_LENGTH: usize = 10;
 
+/// How many numbers there are.
+pub(crate) const NEEDS: usize = 11;
+
 /// Upper numbers of what any run of an image uses, whatever the frame, the budget and the log.
 ///
 /// Bindings, pieces and cells are of domain 0's half; those called `other` are of the half of all other domains together
@@ -44,8 +47,8 @@ pub struct Needs {
 }
 
 /// The numbers in the order of the program `need`.
-impl From<[u32; 11]> for Needs {
-    fn from(numbers: [u32; 11]) -> Needs {
+impl From<[u32; NEEDS]> for Needs {
+    fn from(numbers: [u32; NEEDS]) -> Needs {
         let [steps, bindings, other_bindings, pieces, other_pieces, cells, other_cells, labels, advice, frames, log] =
             numbers;
         Needs { steps, bindings, other_bindings, pieces, other_pieces, cells, other_cells, labels, advice, frames, log }
@@ -54,7 +57,8 @@ impl From<[u32; 11]> for Needs {
 
 impl Needs {
     /// Each number with its word, in the order of the program `need`.
-    pub fn all(&self) -> [(&'static str, u32); 11] {
+    #[must_use]
+    pub fn all(&self) -> [(&'static str, u32); NEEDS] {
         [
             ("steps", self.steps),
             ("bindings", self.bindings),
@@ -70,18 +74,19 @@ impl Needs {
         ]
     }
 
+    /// The limit of each number in a call with a budget and a log of so many bytes, in the same order.
+    #[must_use]
+    pub fn limits(budget: u32, log: usize) -> [u32; NEEDS] {
+        let records = u32::try_from(log / LOG_RECORD_LENGTH).unwrap_or(u32::MAX);
+        let [bindings, pieces, cells] = [BINDING_LIMIT, PIECE_LIMIT, CELL_LIMIT];
+        [budget, bindings, bindings, pieces, pieces, cells, cells, LABEL_LIMIT, ADVICE_LIMIT, FRAME_LIMIT, records]
+    }
+
     /// Do these numbers fit into the engine's rooms, a budget, and a log of so many bytes? Then every run is done or
     /// aborted.
+    #[must_use]
     pub fn fit(&self, budget: u32, log: usize) -> bool {
-        let halved = [
-            (self.bindings.max(self.other_bindings), BINDING_LIMIT),
-            (self.pieces.max(self.other_pieces), PIECE_LIMIT),
-            (self.cells.max(self.other_cells), CELL_LIMIT),
-        ];
-        let whole =
-            [(self.labels, LABEL_LIMIT), (self.advice, ADVICE_LIMIT), (self.frames, FRAME_LIMIT), (self.steps, budget)];
-        let rooms = halved.into_iter().chain(whole).all(|(needed, limit)| needed <= limit);
-        rooms && self.log as usize <= log / LOG_RECORD_LENGTH
+        self.all().into_iter().zip(Needs::limits(budget, log)).all(|((_, needed), limit)| needed <= limit)
     }
 }
 
@@ -94,12 +99,25 @@ impl fmt::Display for Needs {
 
 /// What any run of an image will need.
 ///
-/// Refused are the images that the check refuses, with 1 to 16, and then those outside the class
+/// ```
+/// use bukzarn::{need, program::Program};
+/// let mut program = Program::new(&[1]);
+/// let (two, three) = (program.number(2), program.number(3));
+/// let sum = program.plus(two, three);
+/// let needs = need(&program.image(&sum)).unwrap();
+/// assert_eq!(needs.steps, 1);
+/// assert!(needs.fit(1, 0), "a budget of one step and no log are enough");
+/// ```
+///
+/// # Errors
+///
+/// The [`Refusal`] of an image that the check refuses, with 1 to 16, and then of one outside the class
 /// ([`Cause::OutsideClass`](crate::Cause::OutsideClass)): with an apply, a call, an install that does not stand directly
 /// over an advice, or a mark or an install in the body of an advice. The place is the lowest such term's.
 pub fn need(image: &[u8]) -> Result<Needs, Refusal> {
-    match raw::needs(image) {
-        (0, needs) => Ok(needs),
-        (answer, _) => Err(Refusal::of_answer(answer)),
+    let mut numbers = [0; NEEDS];
+    match raw::need(image, &mut numbers) {
+        0 => Ok(Needs::from(numbers)),
+        answer => Err(Refusal::of(answer)),
     }
 }

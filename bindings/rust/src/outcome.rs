@@ -6,82 +6,96 @@ use std::fmt;
 /// Bindings, cells and pieces are halved: one half is domain 0's, the mainline's, the other that of all other domains
 /// together (document 02, card 9).
 #[derive(Clone, Copy, Debug, PartialEq, Eq, PartialOrd, Ord, Hash)]
-#[repr(u16)]
+#[non_exhaustive]
 pub enum Outcome {
     /// A value was reached.
-    Done = 0,
+    Done,
     /// The steps equal the budget, and the next step lacks no room.
-    Spent = 1,
+    Spent,
     /// The program aborted.
-    Aborted = 2,
+    Aborted,
     /// More than 512 unfinished terms stood around the next one to reduce.
-    Frames = 3,
+    Frames,
     /// The next step would pass domain 0's 1,024 bindings.
-    Bindings = 4,
+    Bindings,
     /// The next step would pass domain 0's 128 cells.
-    Cells = 5,
+    Cells,
     /// The next step would pass 64 labels.
-    Labels = 6,
+    Labels,
     /// The next step would pass 64 advice installed at one time.
-    Advice = 7,
+    Advice,
     /// The next step would pass domain 0's 256 pieces: pairs, pointcuts and advice made, and the values of stacks taken.
-    Pieces = 8,
+    Pieces,
     /// A print found under 10 bytes left in the log.
-    Log = 9,
+    Log,
     /// The next step would pass the other domains' 1,024 bindings.
-    OtherBindings = 10,
+    OtherBindings,
     /// The next step would pass the other domains' 128 cells.
-    OtherCells = 11,
+    OtherCells,
     /// The next step would pass the other domains' 256 pieces.
-    OtherPieces = 12,
+    OtherPieces,
+    /// A number that this crate has no name for: the library is newer than the crate.
+    Unknown(u16),
 }
 
-impl Outcome {
-    /// Every outcome, in the order of the numbers.
-    pub const ALL: [Outcome; 13] = [
-        Outcome::Done,
-        Outcome::Spent,
-        Outcome::Aborted,
-        Outcome::Frames,
-        Outcome::Bindings,
-        Outcome::Cells,
-        Outcome::Labels,
-        Outcome::Advice,
-        Outcome::Pieces,
-        Outcome::Log,
-        Outcome::OtherBindings,
-        Outcome::OtherCells,
-        Outcome::OtherPieces,
-    ];
+/// Each outcome that has a name: its number, its word in the bench sheet's listing, and how the run ended in words.
+const NAMED: [(u16, Outcome, &str, &str); 13] = [
+    (0, Outcome::Done, "done", "a value was reached"),
+    (1, Outcome::Spent, "spent", "the budget of steps is spent"),
+    (2, Outcome::Aborted, "aborted", "the program aborted"),
+    (3, Outcome::Frames, "frames", "more than 512 unfinished terms"),
+    (4, Outcome::Bindings, "bindings", "domain 0 needs more than its 1,024 bindings"),
+    (5, Outcome::Cells, "cells", "domain 0 needs more than its 128 cells"),
+    (6, Outcome::Labels, "labels", "more than 64 labels"),
+    (7, Outcome::Advice, "advice", "more than 64 advice installed at one time"),
+    (8, Outcome::Pieces, "pieces", "domain 0 needs more than its 256 pieces"),
+    (9, Outcome::Log, "log", "the log is full"),
+    (10, Outcome::OtherBindings, "other-bindings", "the domains other than 0 need more than their 1,024 bindings"),
+    (11, Outcome::OtherCells, "other-cells", "the domains other than 0 need more than their 128 cells"),
+    (12, Outcome::OtherPieces, "other-pieces", "the domains other than 0 need more than their 256 pieces"),
+];
 
-    /// The outcome of this number.
+impl Outcome {
+    /// Every outcome with a name, in the order of the numbers.
+    pub fn all() -> impl Iterator<Item = Outcome> {
+        NAMED.into_iter().map(|(_, outcome, ..)| outcome)
+    }
+
+    /// The outcome of this number, if it has a name.
+    #[must_use]
     pub fn from_number(number: u16) -> Option<Outcome> {
-        Outcome::ALL.get(number as usize).copied()
+        NAMED.into_iter().find(|(known, ..)| *known == number).map(|(_, outcome, ..)| outcome)
     }
 
     /// Document 01's number.
+    #[must_use]
     pub fn number(self) -> u16 {
-        self as u16
+        match self {
+            Outcome::Unknown(number) => number,
+            named => NAMED.into_iter().find(|(_, outcome, ..)| *outcome == named).map_or(0, |(number, ..)| number),
+        }
+    }
+
+    /// How the run ended, in words.
+    #[must_use]
+    pub fn words(self) -> &'static str {
+        let found = NAMED.into_iter().find(|(_, outcome, ..)| *outcome == self);
+        found.map_or("an outcome that this version does not know", |(.., words)| words)
+    }
+}
+
+impl From<u16> for Outcome {
+    fn from(number: u16) -> Outcome {
+        Outcome::from_number(number).unwrap_or(Outcome::Unknown(number))
     }
 }
 
 /// The word that the bench sheet's listing has for it.
 impl fmt::Display for Outcome {
     fn fmt(&self, f: &mut fmt::Formatter<'_>) -> fmt::Result {
-        f.write_str(match self {
-            Outcome::Done => "done",
-            Outcome::Spent => "spent",
-            Outcome::Aborted => "aborted",
-            Outcome::Frames => "frames",
-            Outcome::Bindings => "bindings",
-            Outcome::Cells => "cells",
-            Outcome::Labels => "labels",
-            Outcome::Advice => "advice",
-            Outcome::Pieces => "pieces",
-            Outcome::Log => "log",
-            Outcome::OtherBindings => "other-bindings",
-            Outcome::OtherCells => "other-cells",
-            Outcome::OtherPieces => "other-pieces",
-        })
+        match NAMED.into_iter().find(|(_, outcome, ..)| outcome == self) {
+            Some((_, _, word, _)) => f.write_str(word),
+            None => write!(f, "outcome {}", self.number()),
+        }
     }
 }

@@ -1,7 +1,8 @@
 //! The library's functions. This is the one module with unsafe code.
+use crate::needs::NEEDS;
 
 extern "C" {
-    fn run_watched(
+    fn bukzarn_run(
         image: *const u8,
         image_length: usize,
         frame: *const u8,
@@ -15,37 +16,40 @@ extern "C" {
         work_length: usize,
     ) -> u64;
 
-    #[cfg(feature = "validator")]
-    fn validate_number(image: *const u8, image_length: usize, work_length: usize, report_length: usize) -> u16;
-
-    #[cfg(feature = "validator")]
-    fn validate_place(image: *const u8, image_length: usize, work_length: usize, report_length: usize) -> usize;
-
-    #[cfg(feature = "needs")]
-    fn forecast_numbers(image: *const u8, image_length: usize, numbers: *mut u32, count: usize) -> u64;
-
-    #[cfg(feature = "fixed")]
-    fn write_fixed_form(image: *const u8, image_length: usize, output: *mut u8, output_length: usize) -> u64;
-
-    #[cfg(feature = "load")]
-    fn generate_load(seed: u32, depth: usize, out: *mut u8, out_length: usize) -> u64;
-
-    #[cfg(feature = "stripped")]
-    fn write_stripped_form(
+    fn bukzarn_run_frames(
         image: *const u8,
         image_length: usize,
-        high: u16,
-        output: *mut u8,
-        output_length: usize,
-    ) -> u64;
+        frames: *const u8,
+        frames_length: usize,
+        budget: u32,
+        logs: *mut u8,
+        logs_length: usize,
+        reports: *mut u8,
+        reports_length: usize,
+        numbers: *mut u64,
+        count: usize,
+        work: *mut u8,
+        work_length: usize,
+    );
+
+    fn bukzarn_validate(image: *const u8, image_length: usize, work_length: usize, report_length: usize) -> u64;
+
+    fn bukzarn_need(image: *const u8, image_length: usize, numbers: *mut u32, count: usize) -> u64;
+
+    fn bukzarn_fixed(image: *const u8, image_length: usize, output: *mut u8, output_length: usize) -> u64;
+
+    fn bukzarn_load(seed: u32, depth: usize, output: *mut u8, output_length: usize) -> u64;
+
+    fn bukzarn_strip(image: *const u8, image_length: usize, high: u16, output: *mut u8, output_length: usize) -> u64;
 }
 
-/// One call, answered as one number.
+// Every pointer below is that of a slice, with the slice's own length, and the slice lives through the call. What is
+// written is a slice that is lent to nobody else.
+
+/// One call: the bytes written to report and log, or the refusal.
 pub fn run(image: &[u8], frame: &[u8], budget: u32, log: &mut [u8], report: &mut [u8], work: &mut [u8]) -> u64 {
-    // Safe: each pointer and length is a slice that lives through the call; the three that are written are lent to
-    // nobody else.
     unsafe {
-        run_watched(
+        bukzarn_run(
             image.as_ptr(),
             image.len(),
             frame.as_ptr(),
@@ -61,45 +65,56 @@ pub fn run(image: &[u8], frame: &[u8], budget: u32, log: &mut [u8], report: &mut
     }
 }
 
-/// The verdict's number and place.
-#[cfg(feature = "validator")]
-pub fn validate(image: &[u8], work: usize, report: usize) -> (u16, usize) {
-    // Safe: pointer and length are a slice that lives through the calls, which only read it.
+/// As many calls as there are numbers, each over its part of the frames: for each the number that `run` would answer.
+pub fn run_frames(
+    image: &[u8],
+    frames: &[u8],
+    budget: u32,
+    logs: &mut [u8],
+    reports: &mut [u8],
+    numbers: &mut [u64],
+    work: &mut [u8],
+) {
     unsafe {
-        (
-            validate_number(image.as_ptr(), image.len(), work, report),
-            validate_place(image.as_ptr(), image.len(), work, report),
-        )
+        bukzarn_run_frames(
+            image.as_ptr(),
+            image.len(),
+            frames.as_ptr(),
+            frames.len(),
+            budget,
+            logs.as_mut_ptr(),
+            logs.len(),
+            reports.as_mut_ptr(),
+            reports.len(),
+            numbers.as_mut_ptr(),
+            numbers.len(),
+            work.as_mut_ptr(),
+            work.len(),
+        );
     }
 }
 
-/// What a run of an image will need, with the answer: 0, or the refusal, of which nothing is written.
-#[cfg(feature = "needs")]
-pub fn needs(image: &[u8]) -> (u64, crate::Needs) {
-    let mut numbers = [0u32; 11];
-    // Safe: each pointer and length is a slice that lives through the call; the numbers are lent to nobody else.
-    let answer = unsafe { forecast_numbers(image.as_ptr(), image.len(), numbers.as_mut_ptr(), numbers.len()) };
-    (answer, crate::Needs::from(numbers))
+/// The verdict for a work area and a report of so many bytes: 0, or the refusal.
+pub fn validate(image: &[u8], work: usize, report: usize) -> u64 {
+    unsafe { bukzarn_validate(image.as_ptr(), image.len(), work, report) }
+}
+
+/// What a run of an image will need: 0 and the numbers, or the refusal, of which nothing is written.
+pub fn need(image: &[u8], numbers: &mut [u32; NEEDS]) -> u64 {
+    unsafe { bukzarn_need(image.as_ptr(), image.len(), numbers.as_mut_ptr(), numbers.len()) }
 }
 
 /// Writes the fixed form of an image: the bytes written, or the refusal.
-#[cfg(feature = "fixed")]
-pub fn write_fixed(image: &[u8], output: &mut [u8]) -> u64 {
-    // Safe: each pointer and length is a slice that lives through the call; the one that is written is lent to nobody
-    // else.
-    unsafe { write_fixed_form(image.as_ptr(), image.len(), output.as_mut_ptr(), output.len()) }
+pub fn fixed(image: &[u8], output: &mut [u8]) -> u64 {
+    unsafe { bukzarn_fixed(image.as_ptr(), image.len(), output.as_mut_ptr(), output.len()) }
 }
 
-/// The image of a seed and a depth, answered as one number: its length, or the refusal.
-#[cfg(feature = "load")]
-pub fn generate(seed: u32, depth: usize, out: &mut [u8]) -> u64 {
-    // Safe: pointer and length are a slice that lives through the call and is lent to nobody else.
-    unsafe { generate_load(seed, depth, out.as_mut_ptr(), out.len()) }
+/// Writes the image of a seed and a depth: the bytes written, or the refusal.
+pub fn load(seed: u32, depth: usize, output: &mut [u8]) -> u64 {
+    unsafe { bukzarn_load(seed, depth, output.as_mut_ptr(), output.len()) }
 }
 
 /// Writes an image without its watches: the bytes written, or the refusal.
-#[cfg(feature = "stripped")]
-pub fn write_stripped(image: &[u8], high: u16, output: &mut [u8]) -> u64 {
-    // Safe: as for `write_fixed`.
-    unsafe { write_stripped_form(image.as_ptr(), image.len(), high, output.as_mut_ptr(), output.len()) }
+pub fn strip(image: &[u8], high: u16, output: &mut [u8]) -> u64 {
+    unsafe { bukzarn_strip(image.as_ptr(), image.len(), high, output.as_mut_ptr(), output.len()) }
 }

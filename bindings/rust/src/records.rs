@@ -2,6 +2,14 @@
 use crate::Outcome;
 use std::fmt;
 
+/// Kinds of the records of a report (document 01, "A run").
+const UNIT: u16 = 65;
+const TRUTH: u16 = 66;
+const NUMBER: u16 = 67;
+const PLAIN_CELL: u16 = 68;
+const OTHER_CELL: u16 = 69;
+const REPORT: u16 = 70;
+
 /// A printed number.
 #[derive(Clone, Copy, Debug, PartialEq, Eq)]
 pub struct LogRecord {
@@ -68,15 +76,16 @@ impl Iterator for Leaves<'_> {
     fn next(&mut self) -> Option<Leaf> {
         let (kind, fields) = self.0.next()?;
         match kind {
-            65 => Some(Leaf::Unit),
-            66 => Some(Leaf::Truth(word(fields, 0)? != 0)),
-            67 => Some(Leaf::Number(double_word(fields, 0)? as i32)),
+            UNIT => Some(Leaf::Unit),
+            TRUTH => Some(Leaf::Truth(word(fields, 0)? != 0)),
+            NUMBER => Some(Leaf::Number(double_word(fields, 0)?.cast_signed())),
             _ => None,
         }
     }
 }
 
 /// What a run left in log and report.
+#[must_use]
 #[derive(Clone, Copy, Debug)]
 pub struct Run<'a> {
     outcome: Outcome,
@@ -88,18 +97,21 @@ pub struct Run<'a> {
 impl<'a> Run<'a> {
     /// Reads the bytes that a run wrote: `log` and `report` cut to the lengths that [`call`](crate::call) answered.
     /// Nothing, if the report does not begin with a record of outcome and steps.
+    #[must_use]
     pub fn read(log: &'a [u8], report: &'a [u8]) -> Option<Run<'a>> {
-        let (70, fields) = Records(report).next()? else { return None };
-        let outcome = Outcome::from_number(word(fields, 0)?)?;
+        let (REPORT, fields) = Records(report).next()? else { return None };
+        let outcome = Outcome::from(word(fields, 0)?);
         Some(Run { outcome, steps: double_word(fields, 2)?, log, report })
     }
 
     /// How the run ended.
+    #[must_use]
     pub fn outcome(&self) -> Outcome {
         self.outcome
     }
 
     /// How many steps it made.
+    #[must_use]
     pub fn steps(&self) -> u32 {
         self.steps
     }
@@ -107,11 +119,12 @@ impl<'a> Run<'a> {
     /// The printed numbers, in order.
     pub fn log(&self) -> impl Iterator<Item = LogRecord> + 'a {
         Records(self.log).map_while(|(_, fields)| {
-            Some(LogRecord { domain: word(fields, 0)?, number: double_word(fields, 2)? as i32 })
+            Some(LogRecord { domain: word(fields, 0)?, number: double_word(fields, 2)?.cast_signed() })
         })
     }
 
     /// The result, leaves from left to right: at least one of a run that is done, none of another.
+    #[must_use]
     pub fn result(&self) -> Leaves<'a> {
         let mut records = Records(self.report);
         records.next();
@@ -120,18 +133,20 @@ impl<'a> Run<'a> {
 
     /// The cells, in order of creation, done or not.
     pub fn cells(&self) -> impl Iterator<Item = Cell<'a>> + 'a {
-        Records(self.report).filter(|(kind, _)| matches!(kind, 68 | 69)).map_while(|(kind, fields)| {
-            let leaves = if kind == 68 { Some(Leaves(Records(fields.get(2..)?))) } else { None };
+        Records(self.report).filter(|(kind, _)| matches!(*kind, PLAIN_CELL | OTHER_CELL)).map_while(|(kind, fields)| {
+            let leaves = if kind == PLAIN_CELL { Some(Leaves(Records(fields.get(2..)?))) } else { None };
             Some(Cell { domain: word(fields, 0)?, leaves })
         })
     }
 
     /// The bytes of log that the run wrote.
+    #[must_use]
     pub fn log_bytes(&self) -> &'a [u8] {
         self.log
     }
 
     /// The bytes of report that the run wrote.
+    #[must_use]
     pub fn report_bytes(&self) -> &'a [u8] {
         self.report
     }

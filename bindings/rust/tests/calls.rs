@@ -1,6 +1,7 @@
 //! The safe functions: what they answer and how it is read.
 use bukzarn::program::{Close, Entry, Program, Shape};
 use bukzarn::{call, run, Cause, Leaf, Lent, LogRecord, Outcome, Refusal, Run, Written, REPORT_LENGTH, WORK_LENGTH};
+use std::collections::HashSet;
 
 /// The bench sheet's P2: the constant 5.
 const P2: [u8; 20] = [6, 0, 1, 0, 1, 0, 4, 0, 18, 0, 10, 0, 34, 0, 0, 0, 5, 0, 0, 0];
@@ -186,7 +187,8 @@ fn refusals_say_why_and_where() {
     let mut lent = Lent::new(0);
     let empty = run(&[], &[], 0, &mut lent).unwrap_err();
     assert_eq!(empty, Refusal { cause: Cause::EmptySection, place: 0 });
-    assert_eq!(empty.to_string(), "refused 9 0");
+    assert_eq!(empty.listing(), "refused 9 0");
+    assert_eq!(empty.to_string(), "refused 9 0: there is no domain, no type or no term");
     let long = run(&[0; 16_385], &[], 0, &mut lent).unwrap_err();
     assert_eq!(long, Refusal { cause: Cause::ImageTooLong, place: 0 });
     let broken = run(&P2[..18], &[], 0, &mut lent).unwrap_err();
@@ -209,7 +211,6 @@ fn slices_of_any_length() {
 }
 
 #[test]
-#[cfg(feature = "validator")]
 fn the_verdict_alone() {
     use bukzarn::validate;
     assert_eq!(validate(&P2, WORK_LENGTH, REPORT_LENGTH), Ok(()));
@@ -220,10 +221,21 @@ fn the_verdict_alone() {
 #[test]
 fn numbers_and_names() {
     assert!((0..13).all(|n| Outcome::from_number(n).unwrap().number() == n));
-    assert!((1..=18).all(|n| Cause::from_number(n).unwrap().number() == n));
-    assert!(Cause::ALL.iter().all(|cause| Cause::from_number(cause.number()) == Some(*cause)));
-    assert!([0, 99].iter().all(|n| Cause::from_number(*n).is_none()));
+    assert!((1..=24).all(|n| Cause::from_number(n).unwrap().number() == n));
+    assert_eq!((Cause::all().count(), Outcome::all().count()), (24, 13));
+    assert!([0, 25, 99].iter().all(|n| Cause::from_number(*n).is_none()));
     assert!(Outcome::from_number(13).is_none());
+    assert_eq!((Outcome::from(13).number(), Cause::from(25).number()), (13, 25));
     assert_eq!(Outcome::Bindings.to_string(), "bindings");
     assert_eq!(Outcome::OtherBindings.to_string(), "other-bindings");
+    assert_eq!(Outcome::from(13).to_string(), "outcome 13");
+}
+
+/// No two have the same words, and a number without a name has words too.
+#[test]
+fn words() {
+    let causes: HashSet<String> = (0..=25).map(|number| Cause::from(number).to_string()).collect();
+    assert_eq!(causes.len(), 26);
+    let outcomes: HashSet<&str> = (0..=13).map(|number| Outcome::from(number).words()).collect();
+    assert_eq!(outcomes.len(), 14);
 }

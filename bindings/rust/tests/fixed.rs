@@ -1,5 +1,4 @@
 //! The fixed form of an image, by the library (document 02, card 11).
-#![cfg(feature = "fixed")]
 use bukzarn::program::Program;
 use bukzarn::{fixed_form, write_fixed, Cause, Refusal};
 

@@ -1,5 +1,4 @@
 //! Generated images, by the library and by an implementation of its own (document 02, card 12).
-#![cfg(feature = "load")]
 use bukzarn::{generate, load, run, Cause, Lent, Outcome, Refusal, LOAD_DEPTH, LOAD_LENGTH};
 
 /// What is drawn, as a tree.

@@ -1,5 +1,4 @@
 //! What a run will need, by the library (document 02, card 10).
-#![cfg(feature = "needs")]
 use bukzarn::program::Program;
 use bukzarn::{need, run, Cause, Lent, Needs, Outcome, Refusal};
 

@@ -1,5 +1,4 @@
 //! An image without its watches, by the library (document 02, card 13).
-#![cfg(feature = "stripped")]
 use bukzarn::program::Program;
 use bukzarn::{run, stripped_form, write_stripped, Cause, Lent, LogRecord, Outcome, Refusal};
 

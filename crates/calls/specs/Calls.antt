@@ -1,6 +1,5 @@
 -- What a whole call answers and leaves, from any image, frame, budget, log, report and work area (document 01, "Turned back at the gate" and "A run").
-use Prim.Native.Nat.{ℕ, _+_, _*_, _%_}
-use mathlib.Core.Path.{_≡_}
+use Prim.Native.Nat.{ℕ}
 use mathlib.Core.List.{List, [], _++_, map}
 use lib.ListN.{length, take, replicate}
 use Rattle.calculus.specs.declared.Leaf.{Leaf}
@@ -8,7 +7,6 @@ use Rattle.calculus.specs.Limits.{leafLimit}
 use Rattle.calculus.specs.Run.{Ended}
 use Rattle.calculus.specs.Report.{report}
 use Rattle.image.specs.declared.Refusal.{Refusal}
-use Rattle.image.specs.Refusals.{refusalNumber}
 use Rattle.image.specs.Limits.{workLength}
 use Rattle.verdict.specs.declared.Verdict.{Verdict}
 use Rattle.verdict.specs.Verdicts.{verdict}
@@ -63,18 +61,3 @@ afterVerdict (Verdict.Refused r place) E log report work = record { answer = ref
 
 unfoldable pub called : List ℕ → List ℕ → ℕ → List ℕ → List ℕ → List ℕ → Left
 called b frame budget log report work = afterVerdict (verdict b (length work) (length report)) (runOf b frame budget log) log report work
-
--- An answer as one number, for callers in other languages. Of a run: the bytes of report, which are never 0, and 2^16 times the bytes of log. Of a refusal: 2^16 times document 01's number and 2^24 times its place.
-abbrev pub verdictAsNumber : Verdict → ℕ → ℕ → ℕ
-verdictAsNumber Verdict.Accepted log report = report % 65536 + 65536 * (log % 281474976710656)
-verdictAsNumber (Verdict.Refused r place) log report = 65536 * refusalNumber r + 16777216 * (place % 549755813888)
-
-abbrev pub callNumber : Answer → ℕ
-callNumber a = verdictAsNumber (a .verdict) (a .log) (a .report)
-
--- A call with its answer as one number: n is that of what the call answers, and log, report and work area hold l, r and w as it leaves them.
-pub record Numbered (L : Left) (n : ℕ) (l r w : List ℕ) : Type 0 where
-  pub number : n ≡ callNumber (L .answer)
-  pub log : l ≡ L .log
-  pub report : r ≡ L .report
-  pub work : w ≡ L .work

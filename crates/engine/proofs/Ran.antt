@@ -1,15 +1,12 @@
 -- What the run of an accepted image leaves, from what the machine, the report and the clearing leave.
-use Prim.Native.Nat.{ℕ, _+_, _*_, _%_, _≤_, _<_}
+use Prim.Native.Nat.{ℕ, _≤_, _<_}
 use native.Mathlib.Omega.{arith}
-use mathlib.Core.Path.{_≡_, sym, ap, ap₂, _∙_}
+use mathlib.Core.Path.{_≡_, ap, ap₂, _∙_}
 use mathlib.Core.List.{List, _++_}
 use lib.ListN.{length, replicate}
 use lib.Dec.{lit<}
-use Rattle.image.specs.declared.Refusal.{Refusal}
-use Rattle.image.specs.Refusals.{refusalNumber}
 use Rattle.image.specs.Limits.{workLength}
 use Rattle.image.specs.Layout.{recordsOf}
-use Rattle.verdict.specs.declared.Verdict.{Verdict}
 use Rattle.verdict.proofs.Passed.{passed-iff}
 use Rattle.check_records.specs.Tables.{Tables}
 use Rattle.check_rules.specs.Lent.{Types}
@@ -31,7 +28,7 @@ use Rattle.vm_tables.specs.View.{memoryOf}
 use Rattle.vm_states.specs.Phases.{Moved}
 use Rattle.calls.specs.declared.Answer.{Answer}
 use Rattle.calls.specs.Runs.{Accepts, runOf}
-use Rattle.calls.specs.Calls.{leftBy, verdictAsNumber, callNumber}
+use Rattle.calls.specs.Calls.{leftBy}
 use Rattle.results.specs.Ended.{reportIn, answerIn}
 use Rattle.agreement.specs.Machine.{LeavesRun}
 use Rattle.agreement.proofs.Machine.{image-fits, image-safe}
@@ -97,11 +94,3 @@ module _ (b frame : List ℕ) (A : Accepts b) (bytes : AreBytes b) (budget : ℕ
       let reported = u ∙ ap (λ x. over 0 x report) (leaves-run .report) in
       let clear : work″ ≡ cleared workLength work = w ∙ ap (λ x. replicate workLength 0 ++ x) (m .memory .rest) in
       λ i. record { answer = answered i; log = logged i; report = reported i; work = clear i }
-
--- An answer as a number.
-module _ (a : Answer) where
-  pub run-number : a .verdict ≡ Verdict.Accepted → a .report % 65536 + 65536 * (a .log % 281474976710656) ≡ callNumber a
-  run-number e = sym (ap (λ v. verdictAsNumber v (a .log) (a .report)) e)
-
-  pub refused-number : (r : Refusal) (place n : ℕ) → a .verdict ≡ Verdict.Refused r place → n ≡ refusalNumber r → 65536 * n + 16777216 * (place % 549755813888) ≡ callNumber a
-  refused-number r place n e d = ap (λ k. 65536 * k + 16777216 * (place % 549755813888)) d ∙ sym (ap (λ v. verdictAsNumber v (a .log) (a .report)) e)

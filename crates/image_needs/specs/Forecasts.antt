@@ -1,7 +1,7 @@
 -- What is said of an image before a launch (document 02, card 10): the check's refusals, 1 to 16; then 19; then the eleven numbers of its program.
-use Prim.Native.Nat.{ℕ, _+_, _*_, _%_}
+use Prim.Native.Nat.{ℕ}
 use mathlib.Core.List.{List}
-use lib.ListN.{length, set}
+use lib.ListN.{length}
 use lib.Dec.{ltb}
 use Rattle.calculus.specs.Combinators.{choose}
 use Rattle.calculus_needs.specs.Numbers.{Numbers}
@@ -56,37 +56,3 @@ abbrev pub forecastPlace : Forecast → ℕ
 forecastPlace (Forecast.Refused r place) = place
 forecastPlace (Forecast.OutsideClass place) = place
 forecastPlace (Forecast.Known n) = 0
-
--- An answer as one number, for callers in other languages: 0 where the numbers are known; of a refusal 2^16 times its number and 2^24 times its place. What the lent numbers hold then: the known ones, where there are places for them.
-abbrev pub forecastAsNumber : Forecast → ℕ
-forecastAsNumber (Forecast.Refused r place) = 65536 * refusalNumber r + 16777216 * (place % 549755813888)
-forecastAsNumber (Forecast.OutsideClass place) = 65536 * 19 + 16777216 * (place % 549755813888)
-forecastAsNumber (Forecast.Known n) = 0
-
--- The eleven numbers in the first places of a list, in the order of the declaration.
-abbrev pub elevenNumbers : ℕ
-elevenNumbers = 11
-
-abbrev pub putNumbers : Needs → List ℕ → List ℕ
-putNumbers n xs =
-    set
-    (set
-    (set
-    (set
-    (set
-    (set (set (set (set (set (set xs 0 (n .steps)) 1 (n .bindings)) 2 (n .«other_bindings»)) 3 (n .pieces)) 4 (n .«other_pieces»)) 5 (n .cells))
-    6
-    (n .«other_cells»))
-    7
-    (n .labels))
-    8
-    (n .advice))
-    9
-    (n .frames))
-    10
-    (n .log)
-
-abbrev pub numbersLeft : Forecast → List ℕ → List ℕ
-numbersLeft (Forecast.Refused r place) xs = xs
-numbersLeft (Forecast.OutsideClass place) xs = xs
-numbersLeft (Forecast.Known n) xs = choose (ltb (length xs) elevenNumbers) xs (putNumbers n xs)

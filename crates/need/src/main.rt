@@ -1,57 +1,56 @@
 // Reads an image from standard input and prints `refused N PLACE`, or the eleven numbers of card 10 (document 02), a line each.
+use console::IMAGE_ROOM;
 use image_needs::Forecast;
 use image_needs::Needs;
 use libc::STDOUT_FILENO;
 
-fn number(n: u32) {
-    io::print_decimal(STDOUT_FILENO, n as u64);
-    io::write_all(STDOUT_FILENO, b"\n");
+// A name, a number and the end of the line: whether all was written.
+fn line(name: &[u8], n: u64) -> bool {
+    io::write_all(STDOUT_FILENO, name)
+        && io::print_decimal(STDOUT_FILENO, n)
+        && io::write_all(STDOUT_FILENO, b"\n")
 }
 
-fn halves(n: Needs) {
-    io::write_all(STDOUT_FILENO, b"bindings ");
-    number(n.bindings);
-    io::write_all(STDOUT_FILENO, b"other-bindings ");
-    number(n.other_bindings);
-    io::write_all(STDOUT_FILENO, b"pieces ");
-    number(n.pieces);
-    io::write_all(STDOUT_FILENO, b"other-pieces ");
-    number(n.other_pieces);
-    io::write_all(STDOUT_FILENO, b"cells ");
-    number(n.cells);
-    io::write_all(STDOUT_FILENO, b"other-cells ");
-    number(n.other_cells);
+fn halves(n: Needs) -> bool {
+    line(b"bindings ", n.bindings as u64)
+        && line(b"other-bindings ", n.other_bindings as u64)
+        && line(b"pieces ", n.pieces as u64)
+        && line(b"other-pieces ", n.other_pieces as u64)
+        && line(b"cells ", n.cells as u64)
+        && line(b"other-cells ", n.other_cells as u64)
 }
 
-fn numbers(n: Needs) {
-    io::write_all(STDOUT_FILENO, b"steps ");
-    number(n.steps);
-    halves(n);
-    io::write_all(STDOUT_FILENO, b"labels ");
-    number(n.labels);
-    io::write_all(STDOUT_FILENO, b"advice ");
-    number(n.advice);
-    io::write_all(STDOUT_FILENO, b"frames ");
-    number(n.frames);
-    io::write_all(STDOUT_FILENO, b"log ");
-    number(n.log);
+fn numbers(n: Needs) -> bool {
+    line(b"steps ", n.steps as u64)
+        && halves(n)
+        && line(b"labels ", n.labels as u64)
+        && line(b"advice ", n.advice as u64)
+        && line(b"frames ", n.frames as u64)
+        && line(b"log ", n.log as u64)
 }
 
-fn refused(why: u16, place: usize) {
-    io::write_all(STDOUT_FILENO, b"refused ");
-    io::print_decimal(STDOUT_FILENO, why as u64);
-    io::write_all(STDOUT_FILENO, b" ");
-    io::print_decimal(STDOUT_FILENO, place as u64);
-    io::write_all(STDOUT_FILENO, b"\n");
+fn refused(f: Forecast) -> bool {
+    io::write_all(STDOUT_FILENO, b"refused ")
+        && io::print_decimal(STDOUT_FILENO, image_needs::forecast_number(f) as u64)
+        && line(b" ", image_needs::forecast_place(f) as u64)
+}
+
+fn told(f: Forecast) -> bool {
+    match f {
+        Forecast::Refused(_, _) => refused(f),
+        Forecast::OutsideClass(_) => refused(f),
+        Forecast::Known(known) => numbers(known),
+    }
 }
 
 fn main() {
-    let mut image = [0u8; 16385];
-    let n = io::read_full(0, &mut image);
-    let f = needs::forecast_image(&image[..n]);
-    match f {
-        Forecast::Refused(why, place) => refused(image::refusal_number(why), place),
-        Forecast::OutsideClass(place) => refused(image_needs::OUTSIDE_NUMBER, place),
-        Forecast::Known(known) => numbers(known),
+    let mut image = [0u8; IMAGE_ROOM];
+    let input = console::read_sole_image(b"need < IMAGE", &mut image);
+    if !input.whole {
+        return;
+    }
+    let n = input.length;
+    if !told(needs::forecast_image(&image[..n])) {
+        os::fail(b"standard output");
     }
 }

@@ -7,7 +7,6 @@ use image::IMAGE_LIMIT;
 use image::Refusal;
 use image_needs::Forecast;
 use image_needs::Needs;
-use image_needs::OUTSIDE_NUMBER;
 use need_class::lowest_fault;
 use need_rows::add_pieces;
 use need_sums::places::Mode;
@@ -19,18 +18,15 @@ use need_walk::walk;
 use validator::examine::Checked;
 use validator::examine::examine_image;
 ghost use mathlib.Core.Path.{_≡_};
-ghost use Prim.Native.Nat.{_+_, _*_, _%_, _≤_, _<_};
+ghost use Prim.Native.Nat.{_≤_, _<_};
 ghost use lib.ListN.{length};
 ghost use Rattle.image.specs.Limits.{imageLimit};
 ghost use Rattle.image.specs.Layout.{recordsOf};
 ghost use Rattle.image.specs.Types.{rootOf};
 ghost use Rattle.check_rules.specs.Lent.{Lent};
-ghost use Rattle.image_needs.specs.Forecasts.{forecast, forecastAsNumber, elevenNumbers, putNumbers, numbersLeft};
+ghost use Rattle.image_needs.specs.Forecasts.{forecast};
 ghost use Rattle.need_walk.specs.Counted.{Shallow};
 ghost use Rattle.needs.specs.Known.{programStand, cutClassed, cutProgram};
-
-// How many numbers a forecast has.
-const ELEVEN: usize = 11;
 
 // Where the whole program stands.
 fn program_stand() -> Stand
@@ -122,48 +118,4 @@ pub fn forecast_image(image: &[u8]) -> Forecast
         return Forecast::Refused(Refusal::ImageTooLong, 0);
     }
     forecast_checked(image)
-}
-
-fn refused_as_number(number: u16, place: usize) -> u64
-    ensures { λ n. ⌜ n ≡ 65536 * number + 16777216 * (place % 549755813888) ⌝ }
-{
-    65536 * (number as u64) + 16777216 * ((place % 549755813888) as u64)
-}
-
-// The eleven numbers in the first places.
-fn put_numbers(numbers: &mut [u32], n: Needs)
-    requires { ⌜ elevenNumbers ≤ length (now numbers) ⌝ }
-    ensures { λ _. ⌜ now (numbers .exit) ≡ putNumbers n (now (numbers .entry)) ⌝ }
-{
-    numbers[0] = n.steps;
-    numbers[1] = n.bindings;
-    numbers[2] = n.other_bindings;
-    numbers[3] = n.pieces;
-    numbers[4] = n.other_pieces;
-    numbers[5] = n.cells;
-    numbers[6] = n.other_cells;
-    numbers[7] = n.labels;
-    numbers[8] = n.advice;
-    numbers[9] = n.frames;
-    numbers[10] = n.log;
-}
-
-// The same for callers in other languages: the answer as one number, and the eleven numbers, if they are known, in the lent
-// places, if there are as many.
-#[no_mangle]
-pub extern "C" fn forecast_numbers(image: &[u8], numbers: &mut [u32]) -> u64
-    ensures { λ n. ⌜ (n ≡ forecastAsNumber (forecast (now (image .entry)))) × (now (numbers .exit) ≡ numbersLeft (forecast (now (image .entry))) (now (numbers .entry))) ⌝ }
-{
-    let f = forecast_image(image);
-    match f {
-        Forecast::Refused(why, place) => refused_as_number(image::refusal_number(why), place),
-        Forecast::OutsideClass(place) => refused_as_number(OUTSIDE_NUMBER, place),
-        Forecast::Known(known) => {
-            if numbers.len() < ELEVEN {
-                return 0;
-            }
-            put_numbers(numbers, known);
-            0
-        }
-    }
 }

@@ -1,15 +1,32 @@
 -- Decimal numbers in the arguments of programs.
-use Prim.Native.Nat.{ℕ, _+_, _*_, _%_, _^_}
+use Prim.Native.Nat.{ℕ, _+_, _-_, _*_, _≤_}
+use mathlib.Core.Bool.{Bool, _&&_, cond}
 use mathlib.Core.List.{List, [], _∷_}
+use lib.Dec.{leb}
+use Rattle.numerals.specs.declared.Numeral.{Numeral}
 
--- A number with one digit more, in ASCII; numbers are of 32 bits.
+-- A digit in ASCII, and what it stands for.
+abbrev pub isDigit : ℕ → Bool
+isDigit d = leb 48 d && leb d 57
+
 abbrev pub withDigit : ℕ → ℕ → ℕ
-withDigit n d = (10 * n + d % 16) % 2 ^ 32
+withDigit n d = 10 * n + (d - 48)
 
--- The number that digits say, after others.
-unfoldable pub numeralAfter : ℕ → List ℕ → ℕ
-numeralAfter n [] = n
-numeralAfter n (d ∷ ds) = numeralAfter (withDigit n d) ds
+-- What is said with one byte more: no number, where it is no digit or the number is over the most.
+abbrev pub after : ℕ → Numeral → ℕ → Numeral
+after most (Numeral.Number n) d = cond (isDigit d && leb (withDigit n d) most) (Numeral.Number (withDigit n d)) Numeral.NoNumber
+after most Numeral.NoNumber d = Numeral.NoNumber
 
-abbrev pub numeral : List ℕ → ℕ
-numeral ds = numeralAfter 0 ds
+unfoldable pub afterAll : ℕ → Numeral → List ℕ → Numeral
+afterAll most s [] = s
+afterAll most s (d ∷ ds) = afterAll most (after most s d) ds
+
+-- The number that bytes say, if they are decimal digits, at least one, and it is at most so much.
+abbrev pub numeral : ℕ → List ℕ → Numeral
+numeral most [] = Numeral.NoNumber
+numeral most (d ∷ ds) = afterAll most (Numeral.Number 0) (d ∷ ds)
+
+-- A number that is said is at most so much.
+abbrev pub AtMost : ℕ → Numeral → Type 0
+AtMost most (Numeral.Number n) = n ≤ most
+AtMost most Numeral.NoNumber = Unit {0}

@@ -1,23 +1,47 @@
 // An inner crate: the numbers that the arguments of a program say.
 ghost use mathlib.Core.Path.{_≡_};
-ghost use Rattle.numerals.specs.Numerals.{withDigit, numeral};
+ghost use Rattle.numerals.specs.Numerals.{after, numeral};
 
-// A number with one digit more.
-fn with_digit(n: u32, digit: u8) -> u32
-    ensures { λ r. ⌜ r ≡ withDigit n digit ⌝ }
-{
-    ((10 * (n as u64) + (digit % 16) as u64) % 4294967296) as u32
+// The number that an argument says; or it says none in the range.
+pub enum Numeral {
+    Number(u32),
+    NoNumber,
 }
 
-// The number that decimal digits say.
-pub fn number_of(digits: &[u8]) -> u32
-    ensures { λ r. ⌜ r ≡ numeral (now (digits .entry)) ⌝ }
+// What is said with one byte more.
+fn with_byte(said: Numeral, byte: u8, most: u32) -> Numeral
+    ensures { λ r. ⌜ r ≡ after most said byte ⌝ }
 {
-    let mut n: u32 = 0;
+    match said {
+        Numeral::NoNumber => Numeral::NoNumber,
+        Numeral::Number(n) => {
+            if byte < b'0' {
+                return Numeral::NoNumber;
+            }
+            if b'9' < byte {
+                return Numeral::NoNumber;
+            }
+            let more = 10 * (n as u64) + ((byte - b'0') as u64);
+            if (most as u64) < more {
+                return Numeral::NoNumber;
+            }
+            Numeral::Number(more as u32)
+        }
+    }
+}
+
+// The number that decimal digits say, if it is at most so much.
+pub fn number_of(digits: &[u8], most: u32) -> Numeral
+    ensures { λ r. ⌜ r ≡ numeral most (now (digits .entry)) ⌝ }
+{
+    if digits.len() == 0 {
+        return Numeral::NoNumber;
+    }
+    let mut said = Numeral::Number(0);
     let mut i: usize = 0;
     while i < digits.len() {
-        n = with_digit(n, digits[i]);
+        said = with_byte(said, digits[i], most);
         i += 1;
     }
-    n
+    said
 }

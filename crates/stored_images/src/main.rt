@@ -1,18 +1,23 @@
 // Runs stored images: each pair of arguments is a budget and a file. Prints a line with both, then the validator's verdict,
 // then the listing of the image's call (document 01, "Bench sheet").
-use libc::STDOUT_FILENO;
+use console::IMAGE_ROOM;
+use image::REPORT_LENGTH;
+use image::WORK_LENGTH;
+use numerals::Numeral;
+
+const MOST_BUDGET: u32 = 4294967295;
 
 fn print_verdict(image: &[u8]) {
-    let v = validator::validate(image, 65536, 65536);
+    let v = validator::validate(image, WORK_LENGTH, REPORT_LENGTH);
     let mut out = [0u8; listing::REFUSAL_LENGTH];
     let end = listing::put_verdict(&mut out, v);
-    io::write_all(STDOUT_FILENO, &out[..end]);
+    console::write_out(&out[..end]);
 }
 
 fn print_listing(image: &[u8], budget: u32) {
     let mut out = [0u8; sheet::LISTING_LENGTH];
     let end = sheet::list_call(image, budget, &mut out);
-    io::write_all(STDOUT_FILENO, &out[..end]);
+    console::write_out(&out[..end]);
 }
 
 fn run_file(path: &[u8], budget: u32) {
@@ -21,11 +26,22 @@ fn run_file(path: &[u8], budget: u32) {
         os::fail(path);
         return;
     }
-    let mut image = [0u8; 16385];
-    let n = io::read_full(fd, &mut image);
+    let mut image = [0u8; IMAGE_ROOM];
+    let input = console::read_whole(fd, &mut image);
+    if !input.whole {
+        os::fail(path);
+    }
     libc::close(fd);
+    if !input.whole {
+        return;
+    }
+    let n = input.length;
     print_verdict(&image[..n]);
     print_listing(&image[..n], budget);
+}
+
+fn tell_usage() {
+    console::tell_usage(b"stored_images BUDGET FILE .., BUDGET from 0 to 4294967295");
 }
 
 // The image whose budget and whose file these arguments name.
@@ -38,18 +54,30 @@ fn run_pair(budget_arg: usize, file_arg: usize) {
         os::fail(b"arg");
         return;
     }
-    io::write_all(STDOUT_FILENO, &digits[..count]);
-    io::write_all(STDOUT_FILENO, b" ");
-    io::write_all(STDOUT_FILENO, &path[..length]);
-    io::write_all(STDOUT_FILENO, b"\n");
-    run_file(&path[..length], numerals::number_of(&digits[..count]));
+    let Numeral::Number(budget) = numerals::number_of(&digits[..count], MOST_BUDGET) else {
+        return tell_usage();
+    };
+    console::write_out(&digits[..count]);
+    console::write_out(b" ");
+    console::write_out(&path[..length]);
+    console::write_out(b"\n");
+    run_file(&path[..length], budget);
 }
 
-fn main() {
+fn run_pairs() {
     let pairs = os::arg_count() / 2;
     let mut k: usize = 0;
     while k < pairs {
         run_pair(2 * k + 1, 2 * k + 2);
         k += 1;
     }
+}
+
+// The program's name and at least one pair.
+fn main() {
+    let words = os::arg_count();
+    if words < 3 || words % 2 == 0 {
+        return tell_usage();
+    }
+    run_pairs();
 }

@@ -1,11 +1,17 @@
 // Reads an image from standard input and prints `accepted` or `refused N PLACE`. The lent memory counts as long enough.
-use libc::STDOUT_FILENO;
+use console::IMAGE_ROOM;
+use image::REPORT_LENGTH;
+use image::WORK_LENGTH;
 
 fn main() {
-    let mut image = [0u8; 16385];
-    let n = io::read_full(0, &mut image);
-    let v = validator::validate(&image[..n], 65536, 65536);
+    let mut image = [0u8; IMAGE_ROOM];
+    let input = console::read_sole_image(b"validate < IMAGE", &mut image);
+    if !input.whole {
+        return;
+    }
+    let n = input.length;
+    let v = validator::validate(&image[..n], WORK_LENGTH, REPORT_LENGTH);
     let mut out = [0u8; listing::REFUSAL_LENGTH];
     let end = listing::put_verdict(&mut out, v);
-    io::write_all(STDOUT_FILENO, &out[..end]);
+    console::write_out(&out[..end]);
 }

@@ -1,4 +1,4 @@
--- A verdict in numbers, for callers in other languages: document 01's number of the refusal, 0 for an accepted image; and the place, 0 likewise.
+-- A verdict in numbers: document 01's number of the refusal, 0 for an accepted image; and the place, 0 likewise.
 use Prim.Native.Nat.{ℕ}
 use Rattle.image.specs.Refusals.{refusalNumber}
 use Rattle.verdict.specs.declared.Verdict.{Verdict}

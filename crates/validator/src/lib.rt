@@ -74,18 +74,3 @@ pub fn verdict_place(v: Verdict) -> usize
         Verdict::Refused(_, place) => place,
     }
 }
-
-// The same for callers in other languages.
-#[no_mangle]
-pub extern "C" fn validate_number(image: &[u8], work: usize, report: usize) -> u16
-    ensures { λ r. ⌜ r ≡ verdictNumber (verdict (now (image .entry)) work report) ⌝ }
-{
-    verdict_number(validate(image, work, report))
-}
-
-#[no_mangle]
-pub extern "C" fn validate_place(image: &[u8], work: usize, report: usize) -> usize
-    ensures { λ r. ⌜ r ≡ verdictPlace (verdict (now (image .entry)) work report) ⌝ }
-{
-    verdict_place(validate(image, work, report))
-}

@@ -1,5 +1,5 @@
 -- What a call that writes the fixed form of an image answers, and what the output then holds, from any image and any output (document 02, card 11).
-use Prim.Native.Nat.{ℕ, _+_, _*_, _%_}
+use Prim.Native.Nat.{ℕ}
 use mathlib.Core.Path.{_≡_}
 use mathlib.Core.List.{List}
 use lib.ListN.{length}
@@ -27,6 +27,12 @@ writtenPlace (Written.Bytes n) = 0
 writtenPlace (Written.Refused r place) = place
 writtenPlace Written.ShortOutput = 0
 
+-- How many bytes were written.
+abbrev pub writtenBytes : Written → ℕ
+writtenBytes (Written.Bytes n) = n
+writtenBytes (Written.Refused r place) = 0
+writtenBytes Written.ShortOutput = 0
+
 -- What a call answers, and what the output then holds.
 pub record Left : Type 0 where
   pub answer : Written
@@ -41,9 +47,3 @@ afterCheck Verdict.Accepted b out =
 -- "After the check's refusals", 1 to 16: those of a call with a work area and a report that are long enough.
 unfoldable pub fixedCall : List ℕ → List ℕ → Left
 fixedCall b out = afterCheck (verdict b workLength reportLength) b out
-
--- An answer as one number, for callers in other languages: how many bytes were written; of a refusal 2^16 times its number and 2^24 times its place.
-abbrev pub writtenAsNumber : Written → ℕ
-writtenAsNumber (Written.Bytes n) = n % 65536
-writtenAsNumber (Written.Refused r place) = 65536 * refusalNumber r + 16777216 * (place % 549755813888)
-writtenAsNumber Written.ShortOutput = 65536 * shortOutput

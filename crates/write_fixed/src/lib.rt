@@ -14,7 +14,7 @@ ghost use Rattle.check_records.specs.Codes.{kindCodes};
 ghost use Rattle.check_records.specs.Tables.{Tables, Counted};
 ghost use Rattle.check_rules.specs.Lent.{TypeOffsets};
 ghost use Rattle.validator.specs.Examined.{examined};
-ghost use Rattle.write_fixed.specs.Calls.{writtenNumber, writtenPlace, fixedCall, writtenAsNumber};
+ghost use Rattle.write_fixed.specs.Calls.{writtenNumber, writtenPlace, writtenBytes, fixedCall};
 
 // So many bytes were written; or why none was.
 pub enum Written {
@@ -95,22 +95,13 @@ pub fn written_place(w: Written) -> usize
     }
 }
 
-fn as_number(w: Written) -> u64
-    ensures { λ r. ⌜ r ≡ writtenAsNumber w ⌝ }
+// How many bytes were written.
+pub fn written_bytes(w: Written) -> usize
+    ensures { λ r. ⌜ r ≡ writtenBytes w ⌝ }
 {
     match w {
-        Written::Bytes(n) => (n % 65536) as u64,
-        Written::Refused(why, place) => {
-            65536 * (image::refusal_number(why) as u64) + 16777216 * ((place % 549755813888) as u64)
-        }
-        Written::ShortOutput => 65536 * (SHORT_OUTPUT as u64),
+        Written::Bytes(n) => n,
+        Written::Refused(_, _) => 0,
+        Written::ShortOutput => 0,
     }
-}
-
-// The same for callers in other languages: the bytes written, or why none was, as one number.
-#[no_mangle]
-pub extern "C" fn write_fixed_form(image: &[u8], out: &mut [u8]) -> u64
-    ensures { λ n. ⌜ (n ≡ writtenAsNumber (fixedCall (now (image .entry)) (now (out .entry)) .answer)) × (now (out .exit) ≡ fixedCall (now (image .entry)) (now (out .entry)) .out) ⌝ }
-{
-    as_number(write_fixed(image, out))
 }

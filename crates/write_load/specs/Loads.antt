@@ -1,5 +1,5 @@
 -- What a call that generates an image answers, and what the output then holds, from any seed, depth and output (document 02, card 12).
-use Prim.Native.Nat.{ℕ, _*_, _%_}
+use Prim.Native.Nat.{ℕ}
 use mathlib.Core.Bool.{_&&_}
 use mathlib.Core.List.{List}
 use lib.ListN.{length}
@@ -33,8 +33,8 @@ loadNumber (Load.Written n) = 0
 loadNumber Load.WrongDepth = wrongDepth
 loadNumber Load.ShortOutput = shortLoad
 
--- An answer as one number, for callers in other languages: how many bytes were written; of a refusal 2^16 times its number.
-abbrev pub loadAsNumber : Load → ℕ
-loadAsNumber (Load.Written n) = n % 65536
-loadAsNumber Load.WrongDepth = 65536 * wrongDepth
-loadAsNumber Load.ShortOutput = 65536 * shortLoad
+-- How many bytes were written.
+abbrev pub loadBytes : Load → ℕ
+loadBytes (Load.Written n) = n
+loadBytes Load.WrongDepth = 0
+loadBytes Load.ShortOutput = 0

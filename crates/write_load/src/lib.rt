@@ -13,7 +13,7 @@ ghost use Prim.Native.Nat.{_+_, _*_, _≤_, _<_};
 ghost use lib.ListN.{length, take};
 ghost use Rattle.base_bytes.specs.Bytes.{over};
 ghost use Rattle.image_written.specs.Generated.{next};
-ghost use Rattle.write_load.specs.Loads.{loaded, loadNumber, loadAsNumber};
+ghost use Rattle.write_load.specs.Loads.{loaded, loadNumber, loadBytes};
 ghost use Rattle.write_load.specs.Growing.{headBytes, printFields, sequenceFields, sumFields, numberFollows, Put, Room, Grew};
 
 // The numbers of the draw and the limits of card 12.
@@ -215,20 +215,13 @@ pub fn load_number(answer: Load) -> u16
     }
 }
 
-fn as_number(answer: Load) -> u64
-    ensures { λ r. ⌜ r ≡ loadAsNumber answer ⌝ }
+// How many bytes were written.
+pub fn load_bytes(answer: Load) -> usize
+    ensures { λ r. ⌜ r ≡ loadBytes answer ⌝ }
 {
     match answer {
-        Load::Written(n) => (n % 65536) as u64,
-        Load::WrongDepth => 65536 * (WRONG_DEPTH as u64),
-        Load::ShortOutput => 65536 * (SHORT_OUTPUT as u64),
+        Load::Written(n) => n,
+        Load::WrongDepth => 0,
+        Load::ShortOutput => 0,
     }
-}
-
-// The same for callers in other languages: the length of the image, or why there is none, as one number.
-#[no_mangle]
-pub extern "C" fn generate_load(seed: u32, depth: usize, out: &mut [u8]) -> u64
-    ensures { λ n. ⌜ (n ≡ loadAsNumber (loaded seed depth (now (out .entry)) .answer)) × (now (out .exit) ≡ loaded seed depth (now (out .entry)) .output) ⌝ }
-{
-    as_number(generate(seed, depth, out))
 }

@@ -1,5 +1,5 @@
 -- What a call that writes an image without its watches answers, and what the output then holds, from any image, mask and output (document 02, card 13).
-use Prim.Native.Nat.{ℕ, _+_, _*_, _%_}
+use Prim.Native.Nat.{ℕ}
 use mathlib.Core.Bool.{Bool, not, _&&_, _||_}
 use mathlib.Core.List.{List}
 use lib.ListN.{length}
@@ -45,6 +45,13 @@ strippedPlace (Stripped.Refused r place) = place
 strippedPlace Stripped.WrongSet = 0
 strippedPlace Stripped.ShortOutput = 0
 
+-- How many bytes were written.
+abbrev pub strippedBytes : Stripped → ℕ
+strippedBytes (Stripped.Bytes n) = n
+strippedBytes (Stripped.Refused r place) = 0
+strippedBytes Stripped.WrongSet = 0
+strippedBytes Stripped.ShortOutput = 0
+
 -- What a call answers, and what the output then holds.
 pub record Left : Type 0 where
   pub answer : Stripped
@@ -61,10 +68,3 @@ afterCheck Verdict.Accepted b mask out =
 -- The check's refusals are 1 to 16: those of a call with a work area and a report that are long enough.
 unfoldable pub strippedCall : List ℕ → ℕ → List ℕ → Left
 strippedCall b mask out = afterCheck (verdict b workLength reportLength) b mask out
-
--- An answer as one number, for callers in other languages: how many bytes were written; of a refusal 2^16 times its number and 2^24 times its place.
-abbrev pub strippedAsNumber : Stripped → ℕ
-strippedAsNumber (Stripped.Bytes n) = n % 65536
-strippedAsNumber (Stripped.Refused r place) = 65536 * refusalNumber r + 16777216 * (place % 549755813888)
-strippedAsNumber Stripped.WrongSet = 65536 * wrongSetNumber
-strippedAsNumber Stripped.ShortOutput = 65536 * shortOutput

@@ -23,7 +23,7 @@ ghost use Rattle.check_rules.specs.Lent.{Domains, TypeOffsets};
 ghost use Rattle.validator.specs.Examined.{examined};
 ghost use Rattle.image_written.specs.Stripped.{withoutWatches};
 ghost use Rattle.write_idle.specs.Idle.{inMask};
-ghost use Rattle.write_stripped.specs.Calls.{wrongSet, strippedNumber, strippedPlace, strippedCall, strippedAsNumber};
+ghost use Rattle.write_stripped.specs.Calls.{wrongSet, strippedNumber, strippedPlace, strippedBytes, strippedCall};
 
 // So many bytes were written; or why none was.
 pub enum Stripped {
@@ -167,23 +167,14 @@ pub fn stripped_place(s: Stripped) -> usize
     }
 }
 
-fn as_number(s: Stripped) -> u64
-    ensures { λ r. ⌜ r ≡ strippedAsNumber s ⌝ }
+// How many bytes were written.
+pub fn stripped_bytes(s: Stripped) -> usize
+    ensures { λ r. ⌜ r ≡ strippedBytes s ⌝ }
 {
     match s {
-        Stripped::Bytes(n) => (n % 65536) as u64,
-        Stripped::Refused(why, place) => {
-            65536 * (image::refusal_number(why) as u64) + 16777216 * ((place % 549755813888) as u64)
-        }
-        Stripped::WrongSet => 65536 * (WRONG_SET as u64),
-        Stripped::ShortOutput => 65536 * (SHORT_OUTPUT as u64),
+        Stripped::Bytes(n) => n,
+        Stripped::Refused(_, _) => 0,
+        Stripped::WrongSet => 0,
+        Stripped::ShortOutput => 0,
     }
-}
-
-// The same for callers in other languages: the bytes written, or why none was, as one number.
-#[no_mangle]
-pub extern "C" fn write_stripped_form(image: &[u8], mask: u16, out: &mut [u8]) -> u64
-    ensures { λ n. ⌜ (n ≡ strippedAsNumber (strippedCall (now (image .entry)) mask (now (out .entry)) .answer)) × (now (out .exit) ≡ strippedCall (now (image .entry)) mask (now (out .entry)) .out) ⌝ }
-{
-    as_number(write_stripped(image, mask, out))
 }

@@ -50,6 +50,7 @@ pub use types::{Shape, Type};
 
 /// A term with its type and its parts.
 #[derive(Clone, Debug)]
+#[must_use]
 pub struct Term {
     kind: u16,
     of: Type,
@@ -87,16 +88,19 @@ pub enum Close {
 
 impl Term {
     /// The type that the term states.
+    #[must_use]
     pub fn of(&self) -> Type {
         self.of
     }
 
     /// How many terms the tree has.
+    #[must_use]
     pub fn size(&self) -> usize {
         1 + self.children().map(Term::size).sum::<usize>()
     }
 
     /// How deep the tree is; a term without parts has depth 1.
+    #[must_use]
     pub fn depth(&self) -> usize {
         1 + self.children().map(Term::depth).max().unwrap_or(0)
     }
@@ -118,16 +122,19 @@ pub struct Program {
 
 impl Program {
     /// A program with these domains: bit q of a mask is set if the domain is at or below domain q.
+    #[must_use]
     pub fn new(masks: &[u16]) -> Program {
         Program { masks: masks.to_vec(), types: Vec::new() }
     }
 
     /// How many domains there are.
+    #[must_use]
     pub fn domains(&self) -> u16 {
-        self.masks.len() as u16
+        write::field(self.masks.len())
     }
 
     /// Is domain `p` at or below domain `q`?
+    #[must_use]
     pub fn below(&self, p: u16, q: u16) -> bool {
         self.masks[usize::from(p)] >> q & 1 == 1
     }

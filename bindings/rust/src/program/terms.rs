@@ -77,28 +77,28 @@ impl Program {
     /// A sum, which stops at the ends of the range of 32-bit numbers.
     pub fn plus(&mut self, a: Term, b: Term) -> Term {
         let of = self.number_type();
-        self.arithmetic(of, 0, a, b)
+        Self::arithmetic(of, 0, a, b)
     }
 
     /// A difference, which stops at the ends of the range of 32-bit numbers.
     pub fn minus(&mut self, a: Term, b: Term) -> Term {
         let of = self.number_type();
-        self.arithmetic(of, 1, a, b)
+        Self::arithmetic(of, 1, a, b)
     }
 
     /// Is `a` less than `b`, as signed numbers?
     pub fn less(&mut self, a: Term, b: Term) -> Term {
         let of = self.truth_type();
-        self.arithmetic(of, 2, a, b)
+        Self::arithmetic(of, 2, a, b)
     }
 
     /// Are two numbers equal?
     pub fn equal(&mut self, a: Term, b: Term) -> Term {
         let of = self.truth_type();
-        self.arithmetic(of, 3, a, b)
+        Self::arithmetic(of, 3, a, b)
     }
 
-    fn arithmetic(&self, of: Type, op: u16, a: Term, b: Term) -> Term {
+    fn arithmetic(of: Type, op: u16, a: Term, b: Term) -> Term {
         Term { kind: 43, of, fields: vec![Field::Word(op), Field::Child(a), Field::Child(b)] }
     }
 

@@ -1,4 +1,5 @@
 //! Types of a program.
+use super::write::field;
 use super::Program;
 
 /// A type, by its number.
@@ -60,17 +61,18 @@ impl Program {
             self.types.push(shape);
             self.types.len() - 1
         });
-        Type(number as u16)
+        Type(field(number))
     }
 
     /// What a type is made of.
+    #[must_use]
     pub fn shape(&self, of: Type) -> Shape {
         self.types[usize::from(of.0)].clone()
     }
 
     /// Every type that the program has so far.
     pub fn types(&self) -> impl Iterator<Item = Type> {
-        (0..self.types.len() as u16).map(Type)
+        (0..field(self.types.len())).map(Type)
     }
 
     /// The type unit.
@@ -94,6 +96,7 @@ impl Program {
     }
 
     /// Is the type plain: unit, truth, number or a pair of plain types, with at most 8 leaves?
+    #[must_use]
     pub fn is_plain(&self, of: Type) -> bool {
         self.leaves(of, 8).is_some()
     }

@@ -1,9 +1,15 @@
 //! The bytes of an image.
 use super::{Field, Program, Term};
 
+/// A number as a field of 16 bits. A larger one is only found in programs that are too large for an image, whose images
+/// are refused whatever they say.
+pub(super) fn field(number: usize) -> u16 {
+    u16::try_from(number).unwrap_or(u16::MAX)
+}
+
 /// A record: its length, its kind, its fields as bytes.
 fn record(image: &mut Vec<u8>, kind: u16, fields: &[u8]) {
-    image.extend((4 + fields.len() as u16).to_le_bytes());
+    image.extend(field(4 + fields.len()).to_le_bytes());
     image.extend(kind.to_le_bytes());
     image.extend(fields);
 }
@@ -19,7 +25,7 @@ fn bound(term: &Term, child: usize) -> u16 {
     match (term.kind, child) {
         (40, 1) => 2,
         (41, 0) | (47, 1) | (54, _) => 1,
-        (58, 1) => term.fields.iter().filter(|f| matches!(f, Field::Entry(Some(_)) | Field::Word(1))).count() as u16,
+        (58, 1) => field(term.fields.iter().filter(|f| matches!(f, Field::Entry(Some(_)) | Field::Word(1))).count()),
         _ => 0,
     }
 }
@@ -34,24 +40,26 @@ fn write_term(image: &mut Vec<u8>, next: &mut u16, term: &Term, scope: u16) -> u
             Field::Number(number) => fields.extend(number.to_le_bytes()),
             Field::Level(level) => fields.extend(scope.wrapping_sub(1).wrapping_sub(*level).to_le_bytes()),
             Field::Child(below) => {
-                let number = write_term(image, next, below, scope + bound(term, child));
+                let number = write_term(image, next, below, scope.saturating_add(bound(term, child)));
                 fields.extend(number.to_le_bytes());
                 child += 1;
             }
             Field::Entry(None) => fields.extend([0, 0]),
             Field::Entry(Some(pointcut)) => {
                 let number = write_term(image, next, pointcut, scope);
-                fields.extend((number + 1).to_le_bytes());
+                fields.extend(number.saturating_add(1).to_le_bytes());
             }
         }
     }
     record(image, term.kind, &fields);
-    *next += 1;
-    *next - 1
+    let number = *next;
+    *next = next.saturating_add(1);
+    number
 }
 
 impl Program {
     /// The image of the program with this root.
+    #[must_use]
     pub fn image(&self, root: &Term) -> Vec<u8> {
         let mut image = Vec::new();
         for mask in &self.masks {

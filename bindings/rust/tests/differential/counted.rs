@@ -46,7 +46,6 @@ fn bound(maker: &mut Maker, scope: &[Type]) -> Term {
 /// What the reference says of an image, and the library too where it has the function.
 pub fn compare(image: &[u8]) -> Result<Numbers, Refused> {
     let expected = reference::need(image);
-    #[cfg(feature = "needs")]
     {
         let answer = bukzarn::need(image).map(|needs| needs.all().map(|(_, number)| number));
         let answer = answer.map_err(|refusal| Refused(refusal.cause.number(), refusal.place));

@@ -1,7 +1,7 @@
 //! The library against an independent implementation of documents 01 to 003: answers, log, report and work area of
-//! calls on random images (well-typed, looped, damaged) and on images made for each refusal and each outcome; what is
-//! said of an image without a run (document 02, card 10), its fixed form (card 11), the form without watches (card 13),
-//! and these cards' claims.
+//! calls on random images (well-typed, looped, damaged), also over several frames at once, and on images made for each
+//! refusal and each outcome; what is said of an image without a run (document 02, card 10), its fixed form (card 11),
+//! the form without watches (card 13), and these cards' claims.
 //!
 //! IMAGES is how many random images are tried, SEED where they begin:
 //!     IMAGES=100000 SEED=7 cargo test --test differential
@@ -24,7 +24,7 @@ mod takedowns;
 mod watched;
 mod written;
 
-use compare::{compare, Given};
+use compare::{compare, compare_frames, Given};
 use counts::Counts;
 use random::Random;
 use reference::{Ran, Refused, REPORT, WORK};
@@ -58,8 +58,7 @@ fn made_images(random: &mut Random, counts: &mut Counts) {
     let ending = [made::ending(), objects::ending(), stacks::ending(), takedowns::ending(), halves::ending()].concat();
     for (outcome, image) in ending {
         let budget = if outcome == 1 { 3 } else { u32::MAX };
-        let ran =
-            call(random, counts, &Given { budget, ..made::ample(&image) }).ok().expect("an image that is accepted");
+        let ran = call(random, counts, &Given { budget, ..made::ample(&image) }).expect("an image that is accepted");
         assert_eq!(ran.outcome, outcome, "image made for outcome {outcome}");
         if outcome > 1 {
             budget_at_the_end(random, counts, &image, &ran);
@@ -131,7 +130,7 @@ fn stripped_image(random: &mut Random, counts: &mut Counts, given: &Given, ran: 
     let Ok(form) = stripped else { return };
     if random.chance(40) {
         let bare = call(random, counts, &Given { image: &form, ..given.clone() });
-        let bare = bare.ok().expect("a stripped image is always accepted");
+        let bare = bare.expect("a stripped image is always accepted");
         written::try_stripped(given.image, high, ran, &bare);
     }
 }
@@ -169,6 +168,9 @@ fn random_image(random: &mut Random, counts: &mut Counts) {
         let given = Given { image: &image, frame, budget, log, report, work };
         let answer = call(random, counts, &given);
         try_claims(&given, &answer);
+        if random.chance(40) {
+            compare_frames(random, &given);
+        }
     }
 }
 

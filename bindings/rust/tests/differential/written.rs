@@ -4,7 +4,6 @@ use crate::compare::hex;
 use crate::damage;
 use crate::random::Random;
 use crate::reference::{self, Ran, Refused};
-#[cfg(any(feature = "fixed", feature = "stripped"))]
 use bukzarn::Refusal;
 use bukzarn::{Leaf, LogRecord, Run};
 
@@ -18,7 +17,6 @@ fn output_length(random: &mut Random, image: &[u8]) -> usize {
 }
 
 /// One call that writes beside what the reference says: the answer, and every byte of the output.
-#[cfg(any(feature = "fixed", feature = "stripped"))]
 fn same(
     random: &mut Random,
     image: &[u8],
@@ -42,7 +40,6 @@ fn same(
 pub fn fixed(random: &mut Random, image: &[u8]) -> Result<Vec<u8>, Refused> {
     let length = output_length(random, image);
     let expected = reference::fixed(image, length);
-    #[cfg(feature = "fixed")]
     same(random, image, length, &expected, |output| bukzarn::write_fixed(image, output));
     expected
 }
@@ -95,7 +92,6 @@ fn set_of_domains(random: &mut Random, image: &[u8]) -> u16 {
 pub fn stripped(random: &mut Random, image: &[u8]) -> (u16, Result<Vec<u8>, Refused>) {
     let (length, high) = (output_length(random, image), set_of_domains(random, image));
     let expected = reference::stripped(image, high, length);
-    #[cfg(feature = "stripped")]
     same(random, image, length, &expected, |output| bukzarn::write_stripped(image, high, output));
     (high, expected)
 }

@@ -1,91 +1,98 @@
--- Too long; refused by an examination; or the tables are filled.
 use denote.Ref.{now}
-use mathlib.Core.Path.{sym, ap, _∙_}
-use Rattle.validator.specs.Examined.{verdictOf}
-use Rattle.engine.proofs.Gate.{too-long-left, examined-left}
+use Rattle.engine.proofs.Gate.{refused-so, accepted-so, run-asks, refusal-left, run-called}
 use borrow.Author.Needs.{needs}
 use Rattle.engine.proofs.run.Statement.{statement}
 use Rattle.engine.proofs.run.Tie as tie
+use Rattle.engine.proofs.run.Reads as reads
+use Rattle.engine.proofs.run.Lts as lts
+use Rattle.engine.proofs.answers.refused.Reads as refused-reads
+use Rattle.engine.proofs.prepare.prepare.Reads as prepare-reads
+use Rattle.engine.proofs.runs.run_code.Reads as run-code-reads
 
+-- src/lib.rt:28:50
+slice-aggregate-prepare : tie.Need-slice-aggregate-prepare
+slice-aggregate-prepare c = search needs
+
+-- src/lib.rt:28:61
+slice-aggregate-prepare-2 : tie.Need-slice-aggregate-prepare-2
+slice-aggregate-prepare-2 c = search needs
+
+-- src/lib.rt:28:9
+prepare-requires : tie.Need-prepare-requires
+prepare-requires c κs = search needs
+
+-- src/lib.rt:30:27
+enum-known-prepared : tie.Need-enum-known-prepared
+enum-known-prepared c = search needs
+
+-- src/lib.rt:30:42
 refused-requires : tie.Need-refused-requires
 refused-requires c κs = search needs
 
+-- src/lib.rt:31:25
+enum-known-prepared-2 : tie.Need-enum-known-prepared-2
+enum-known-prepared-2 c = search needs
+
+-- src/lib.rt:33:13
+slice-aggregate-run-code : tie.Need-slice-aggregate-run-code
+slice-aggregate-run-code c = search needs
+
+-- src/lib.rt:34:13
+slice-aggregate-run-code-2 : tie.Need-slice-aggregate-run-code-2
+slice-aggregate-run-code-2 c = search needs
+
+-- src/lib.rt:31:36
+run-code-requires : tie.Need-run-code-requires
+run-code-requires c κs =
+    let k = c .before .before .before .before .before .before in
+    let e = k .before .before .before .before in
+    let s = e .before .before .before .before .before .before .before .before in
+    run-asks (now (s .args .image)) _ _ _ _ (e .prepare .ensures) _ (k .prepared2 .given .1)
+
+-- src/lib.rt:15:1
 returns : tie.Need-returns
-returns c = let s = c .before .before .before .before .before .before .before in too-long-left (now (s .args .image)) (now (s .args .frame)) (s .args .budget) (now (s .args .log)) (now (s .args .report)) (now (s .args .work)) _ (c .before .if1 .taken) (c .refused .ensures)
+returns c =
+    let k = c .before .before in
+    let e = k .before .before .before .before in
+    let s = e .before .before .before .before .before .before .before .before in
+    refusal-left (now (s .args .image)) (now (s .args .frame)) (s .args .budget) (now (s .args .log)) (now (s .args .report)) (now (s .args .work)) _ _ _ (refused-so (now (s .args .image)) _ _ _ _ (e .prepare .ensures) _ _ (k .prepared .given .1)) (c .refused .ensures)
 
-kind-codes-requires : tie.Need-kind-codes-requires
-kind-codes-requires c κs = search needs
-
-slice-aggregate-examine-image : tie.Need-slice-aggregate-examine-image
-slice-aggregate-examine-image c = search needs
-
-slice-aggregate-examine-image-2 : tie.Need-slice-aggregate-examine-image-2
-slice-aggregate-examine-image-2 c = search needs
-
-examine-image-requires : tie.Need-examine-image-requires
-examine-image-requires c κs = search needs
-
-enum-known-checked : tie.Need-enum-known-checked
-enum-known-checked c = search needs
-
-refused-requires-2 : tie.Need-refused-requires-2
-refused-requires-2 c κs = search needs
-
-enum-known-checked-2 : tie.Need-enum-known-checked-2
-enum-known-checked-2 c = search needs
-
-slice-aggregate-run-lent : tie.Need-slice-aggregate-run-lent
-slice-aggregate-run-lent c = search needs
-
-slice-aggregate-run-lent-2 : tie.Need-slice-aggregate-run-lent-2
-slice-aggregate-run-lent-2 c = search needs
-
-slice-aggregate-run-lent-3 : tie.Need-slice-aggregate-run-lent-3
-slice-aggregate-run-lent-3 c = search needs
-
-run-lent-requires : tie.Need-run-lent-requires
-run-lent-requires c κs =
-    let t = c .before .before .before .before .before .before .before .checked2 .given .1 in
-    let e = c .before .before .before .before .before .before .before .before .before .before .examine-image .ensures .0 in
-    let f = e .filled _ t in
-    (c .before .before .before .before .before .before .before .before .before .before .before .before .before .before .before .before .before .if1 .left, sym (e .answer) ∙ ap verdictOf t, (_, f .tables), f .counts, rw (← f .counts .types) (f .types))
-
-returns-2 : tie.Need-returns-2
-returns-2 c =
-    let s = c .before .before .before .before .before .before .before .before .before .before .before .before .before .before .before .before .before .before in
-    examined-left (now (s .args .image)) (now (s .args .frame)) (s .args .budget) (now (s .args .log)) (now (s .args .report)) (now (s .args .work)) (c .before .before .before .before .before .before .before .before .before .before .before .before .if1 .left) _ _ _ (ap verdictOf (sym (c .before .before .checked .given .1)) ∙ c .before .before .before .before .before .examine-image .ensures .0 .answer) (c .refused2 .ensures)
-
+-- src/lib.rt:15:1
 same-length : tie.Need-same-length
 same-length c = search needs
 
+-- src/lib.rt:15:1
 same-length-2 : tie.Need-same-length-2
 same-length-2 c = search needs
 
+-- src/lib.rt:15:1
 same-length-3 : tie.Need-same-length-3
 same-length-3 c = search needs
 
-returns-3 : tie.Need-returns-3
-returns-3 c = search needs
+-- src/lib.rt:15:1
+returns-2 : tie.Need-returns-2
+returns-2 c =
+    let r = c .before .before .before .before .before .before in
+    let k = r .before .before .before .before .before .before .before in
+    let e = k .before .before .before .before in
+    let s = e .before .before .before .before .before .before .before .before in
+    run-called (now (s .args .image)) (now (s .args .frame)) (s .args .budget) (now (s .args .log)) (now (s .args .report)) (now (s .args .work)) _ (accepted-so (now (s .args .image)) _ _ _ _ (e .prepare .ensures) _ (k .prepared2 .given .1)) (r .run-code .ensures)
 
 pub run-spec : {M : Type 1} → statement M
 run-spec =
     tie.close
     (tie.spec
+    slice-aggregate-prepare
+    slice-aggregate-prepare-2
+    prepare-requires
+    enum-known-prepared
     refused-requires
+    enum-known-prepared-2
+    slice-aggregate-run-code
+    slice-aggregate-run-code-2
+    run-code-requires
     returns
-    kind-codes-requires
-    slice-aggregate-examine-image
-    slice-aggregate-examine-image-2
-    examine-image-requires
-    enum-known-checked
-    refused-requires-2
-    enum-known-checked-2
-    slice-aggregate-run-lent
-    slice-aggregate-run-lent-2
-    slice-aggregate-run-lent-3
-    run-lent-requires
-    returns-2
     same-length
     same-length-2
     same-length-3
-    returns-3)
+    returns-2)

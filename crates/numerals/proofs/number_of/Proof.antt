@@ -1,28 +1,32 @@
 -- `numerals::number_of` meets its contract.
+use denote.Ref.{now}
 use Prim.Native.Nat.{_+_, _-_, _≤_}
 use native.Mathlib.Omega.{arith}
-use mathlib.Core.Path.{_≡_, refl, sym, ap, _∙_}
+use mathlib.Core.Path.{_≡_, sym, ap, _∙_}
 use lib.ListN.{length, drop}
-use Rattle.numerals.specs.Numerals.{numeralAfter, numeral}
-use Rattle.numerals.proofs.Digits.{digits-more, digits-all}
+use Rattle.numerals.specs.Numerals.{afterAll, numeral}
+use Rattle.numerals.proofs.Digits.{none-said, some-said, one-more, no-more}
 use borrow.Author.Needs.{needs}
 use Rattle.numerals.proofs.number_of.Statement.{statement}
 use Rattle.numerals.proofs.number_of.Tie as tie
 
 abbrev Inv-loop : tie.InvT-loop
-Inv-loop digits n₀ i₀ n i = (i ≤ length digits) × (numeral digits ≡ numeralAfter n (drop i digits))
+Inv-loop digits most said₀ i₀ said i = (i ≤ length digits) × (numeral most digits ≡ afterAll most said (drop i digits))
 
 abbrev μ-loop : tie.MeasureT-loop
-μ-loop digits n₀ i₀ n i = length digits - i
+μ-loop digits most said₀ i₀ said i = length digits - i
+
+returns : tie.Need-returns Inv-loop μ-loop
+returns c = none-said _ (now (c .before .before .args .digits)) (search needs)
 
 loop-holds : tie.Need-loop-holds Inv-loop μ-loop
-loop-holds c = (omega arith, refl)
+loop-holds c = (omega arith, some-said _ _ (search needs))
 
-shared-slice-read-with-digit : tie.Need-shared-slice-read-with-digit Inv-loop μ-loop
-shared-slice-read-with-digit c = search needs
+shared-slice-read-with-byte : tie.Need-shared-slice-read-with-byte Inv-loop μ-loop
+shared-slice-read-with-byte c = search needs
 
-with-digit-requires : tie.Need-with-digit-requires Inv-loop μ-loop
-with-digit-requires c κs = search needs
+with-byte-requires : tie.Need-with-byte-requires Inv-loop μ-loop
+with-byte-requires c κs = search needs
 
 add-i : tie.Need-add-i Inv-loop μ-loop
 add-i c = search needs
@@ -32,14 +36,15 @@ loop-less c = search needs
 
 loop-again : tie.Need-loop-again Inv-loop μ-loop
 loop-again c =
+    let s = c .before .before .before .before .before .before .args in
     let l = c .before .before .before .loop in
-    let ds = c .before .before .before .before .before .args .digits .now in
-    (search needs, l .inv .1 ∙ digits-more ds (l .n) (l .i) (search needs) ∙ ap (λ n. numeralAfter n (drop (l .i + 1) ds)) (sym (c .with-digit .ensures)))
+    (search needs, l .inv .1 ∙ one-more (s .most) (now (s .digits)) (l .said) (l .i) (search needs) ∙ ap (λ x. afterAll (s .most) x (drop (l .i + 1) (now (s .digits)))) (sym (c .with-byte .ensures)))
 
-returns : tie.Need-returns Inv-loop μ-loop
-returns c =
+returns-2 : tie.Need-returns-2 Inv-loop μ-loop
+returns-2 c =
+    let s = c .before .before .before .before .args in
     let l = c .before .loop in
-    sym (l .inv .1 ∙ digits-all _ (l .n) (l .i) (search needs))
+    sym (l .inv .1 ∙ no-more (s .most) (now (s .digits)) (l .said) (l .i) (search needs))
 
 pub number-of-spec : {M : Type 1} → statement M
 number-of-spec =
@@ -47,10 +52,11 @@ number-of-spec =
     (tie.spec
     Inv-loop
     μ-loop
+    returns
     loop-holds
-    shared-slice-read-with-digit
-    with-digit-requires
+    shared-slice-read-with-byte
+    with-byte-requires
     add-i
     loop-less
     loop-again
-    returns)
+    returns-2)

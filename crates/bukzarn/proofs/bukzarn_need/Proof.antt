@@ -1,0 +1,44 @@
+-- The forecast's number and place, as one number, and the lent places as `put_forecast` leaves them.
+use mathlib.Core.Path.{ap, _∙_}
+use Rattle.bukzarn.specs.Numbers.{refusedAsNumber, forecastAsNumber}
+use borrow.Author.Needs.{needs}
+use Rattle.bukzarn.proofs.bukzarn_need.Statement.{statement}
+use Rattle.bukzarn.proofs.bukzarn_need.Tie as tie
+
+forecast-image-requires : tie.Need-forecast-image-requires
+forecast-image-requires c κs = search needs
+
+put-forecast-requires : tie.Need-put-forecast-requires
+put-forecast-requires c κs = search needs
+
+forecast-number-requires : tie.Need-forecast-number-requires
+forecast-number-requires c κs = search needs
+
+forecast-place-requires : tie.Need-forecast-place-requires
+forecast-place-requires c κs = search needs
+
+refused-as-number-requires : tie.Need-refused-as-number-requires
+refused-as-number-requires c κs = search needs
+
+same-length : tie.Need-same-length
+same-length c = search needs
+
+returns : tie.Need-returns
+returns c =
+    let e = c .before .before .before .before .before .before .before .forecast-image .ensures in (
+      c .refused-as-number .ensures
+          ∙ ((λ i. refusedAsNumber (c .before .before .forecast-number .ensures i) (c .before .forecast-place .ensures i)) ∙ ap forecastAsNumber e),
+      rw (← e) (c .before .before .before .before .before .put-forecast .ensures),
+    )
+
+pub bukzarn-need-spec : {M : Type 1} → statement M
+bukzarn-need-spec =
+    tie.close
+    (tie.spec
+    forecast-image-requires
+    put-forecast-requires
+    forecast-number-requires
+    forecast-place-requires
+    refused-as-number-requires
+    same-length
+    returns)

@@ -1,0 +1,44 @@
+-- Bytes, number and place of the answer, as one number, and the output as the call leaves it.
+use mathlib.Core.Path.{ap, _∙_}
+use Rattle.bukzarn.specs.Numbers.{asNumber, strippedAsNumber}
+use borrow.Author.Needs.{needs}
+use Rattle.bukzarn.proofs.bukzarn_strip.Statement.{statement}
+use Rattle.bukzarn.proofs.bukzarn_strip.Tie as tie
+
+write-stripped-requires : tie.Need-write-stripped-requires
+write-stripped-requires c κs = search needs
+
+stripped-bytes-requires : tie.Need-stripped-bytes-requires
+stripped-bytes-requires c κs = search needs
+
+stripped-number-requires : tie.Need-stripped-number-requires
+stripped-number-requires c κs = search needs
+
+stripped-place-requires : tie.Need-stripped-place-requires
+stripped-place-requires c κs = search needs
+
+as-number-requires : tie.Need-as-number-requires
+as-number-requires c κs = search needs
+
+same-length : tie.Need-same-length
+same-length c = search needs
+
+returns : tie.Need-returns
+returns c =
+    let e = c .before .before .before .before .before .before .write-stripped .ensures in (
+      c .as-number .ensures
+          ∙ ((λ i. asNumber (c .before .before .before .stripped-bytes .ensures i) (c .before .before .stripped-number .ensures i) (c .before .stripped-place .ensures i)) ∙ ap (λ L. strippedAsNumber (L .answer)) e),
+      ap (λ L. L .out) e,
+    )
+
+pub bukzarn-strip-spec : {M : Type 1} → statement M
+bukzarn-strip-spec =
+    tie.close
+    (tie.spec
+    write-stripped-requires
+    stripped-bytes-requires
+    stripped-number-requires
+    stripped-place-requires
+    as-number-requires
+    same-length
+    returns)

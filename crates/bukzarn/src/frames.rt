@@ -1,0 +1,116 @@
+// The calls of one image over the frames of a recording: the image is checked once.
+use crate::numbers::call_number;
+use crate::numbers::refused_as_number;
+use engine::prepare::Lent;
+use engine::prepare::Prepared;
+use engine::prepare::prepare;
+use engine::runs::run_code;
+ghost use mathlib.Core.Path.{_≡_};
+ghost use Prim.Native.Nat.{_≤_, _<_};
+ghost use lib.ListN.{length, replicate};
+ghost use Rattle.image.specs.Limits.{workLength, reportLength};
+ghost use Rattle.calls.specs.Runs.{Accepts};
+ghost use Rattle.bukzarn.specs.Recordings.{partLength, calledOver};
+ghost use Rattle.engine.specs.Prepared.{Runnable};
+
+// The same answer for every call.
+fn answer_each(number: u64, numbers: &mut [u64])
+    ensures { λ _. ⌜ now (numbers .exit) ≡ replicate (length (now (numbers .entry))) number ⌝ }
+{
+    let mut i: usize = 0;
+    while i < numbers.len() {
+        numbers[i] = number;
+        i += 1;
+    }
+}
+
+// Runs of code that is ready, each over its own frame, with a log and a report of its own.
+fn run_each(
+    image: &[u8],
+    code: &[u64],
+    dispatch: &[u8],
+    target: usize,
+    frames: &[u8],
+    budget: u32,
+    logs: &mut [u8],
+    reports: &mut [u8],
+    numbers: &mut [u64],
+    work: &mut [u8],
+)
+    requires { ⌜ Accepts (now image) × Runnable (now image) (now code) (now dispatch) target × (0 < length (now numbers)) × (workLength ≤ length (now work)) × (reportLength ≤ partLength (length (now numbers)) (now reports)) ⌝ }
+    ensures { λ _. ⌜ record { answers = now (numbers .exit); logs = now (logs .exit); reports = now (reports .exit); work = now (work .exit) } ≡ calledOver (now (image .entry)) (now (frames .entry)) budget (record { answers = now (numbers .entry); logs = now (logs .entry); reports = now (reports .entry); work = now (work .entry) }) ⌝ }
+{
+    let count = numbers.len();
+    let frame = frames.len() / count;
+    let log = logs.len() / count;
+    let report = reports.len() / count;
+    let mut i: usize = 0;
+    while i < count {
+        let f = i * frame;
+        let f_end = f + frame;
+        let l = i * log;
+        let l_end = l + log;
+        let r = i * report;
+        let r_end = r + report;
+        let answer = run_code(
+            image,
+            code,
+            dispatch,
+            target,
+            &frames[f..f_end],
+            budget,
+            &mut logs[l..l_end],
+            &mut reports[r..r_end],
+            work,
+        );
+        numbers[i] = call_number(answer);
+        i += 1;
+    }
+}
+
+// One call after another: `frames`, `logs` and `reports` are cut into as many equal parts as there are answers, and call i has
+// part i of each. What every call answers and leaves is what a single one would.
+#[no_mangle]
+pub extern "C" fn bukzarn_run_frames(
+    image: &[u8],
+    frames: &[u8],
+    budget: u32,
+    logs: &mut [u8],
+    reports: &mut [u8],
+    numbers: &mut [u64],
+    work: &mut [u8],
+)
+    ensures { λ _. ⌜ record { answers = now (numbers .exit); logs = now (logs .exit); reports = now (reports .exit); work = now (work .exit) } ≡ calledOver (now (image .entry)) (now (frames .entry)) budget (record { answers = now (numbers .entry); logs = now (logs .entry); reports = now (reports .entry); work = now (work .entry) }) ⌝ }
+{
+    let count = numbers.len();
+    if count == 0 {
+        return;
+    }
+    let lent = Lent {
+        work: work.len(),
+        report: reports.len() / count,
+    };
+    let mut code = [0u64; 1025];
+    let mut dispatch = [0u8; 1025];
+    let prepared = prepare(image, lent, &mut code, &mut dispatch);
+    match prepared {
+        Prepared::Refused(why, place) => {
+            answer_each(
+                refused_as_number(image::refusal_number(why), place),
+                numbers,
+            )
+        }
+        Prepared::Ready(target) => run_each(
+            image,
+            &code,
+            &dispatch,
+            target,
+            frames,
+            budget,
+            logs,
+            reports,
+            numbers,
+            work,
+        ),
+    }
+}

@@ -1,0 +1,2 @@
+-- What a call has before its run.
+pub mod Prepared

@@ -1,0 +1,91 @@
+#!/usr/bin/env bash
+# Passes the tests of everything around the proved crates: the tools, the Rust crate, the command bukzarn, the programs in
+# C. The library is built first (rt staticlib bukzarn); to test another, name its folder in BUKZARN_LIBRARY.
+#     tools/test.sh
+set -uo pipefail
+root=$(cd "$(dirname "$0")/.." && pwd)
+cd "$root" || exit 1
+out=$(mktemp -d)
+trap 'rm -rf "$out"' EXIT
+failed=0
+
+# Does something under a name, and shows what it said if it fails.
+try() {
+    local name=$1
+    shift
+    if "$@" >"$out/said" 2>&1; then
+        echo "ok      $name"
+    else
+        echo "FAILED  $name"
+        tail -n 40 "$out/said"
+        failed=1
+    fi
+}
+
+compiled() {
+    gcc -std=c99 -Wall -Wextra -Wpedantic -Werror -O2 -Iinclude -o "$out/$1" "examples/c/$1.c" "$BUKZARN_LIBRARY/libbukzarn.a"
+}
+
+# The listing of every example.
+watch_in_c() {
+    compiled watch || return 1
+    local name
+    while read -r name _; do
+        case $name in '' | '#'*) continue ;; esac
+        "$out/watch" "examples/$name.img" | cmp - "examples/$name.txt" || return 1
+    done <examples/LIST
+}
+
+# Every function once, on images whose needs are stored.
+functions_in_c() {
+    compiled functions || return 1
+    local name
+    for name in ground limits plain; do
+        "$out/functions" "examples/$name.img" | cmp - "examples/$name.need" || return 1
+    done
+}
+
+# A table of the recorded ascent, in which some frames are damaged: exit status 4.
+table_by() {
+    local status=0
+    "$@" examples/ascent/watched.img examples/ascent/ascent.frames 12 >"$out/table" || status=$?
+    cmp "$out/table" examples/ascent/watched.csv && [ $status -eq "$expected" ]
+}
+
+receiver_in_c() {
+    compiled receiver && expected=4 table_by "$out/receiver"
+}
+
+receiver_in_rust() {
+    expected=0 table_by cargo run --quiet --release --manifest-path bindings/rust/Cargo.toml --example receiver --
+}
+
+cargo_in() {
+    cargo "$2" --manifest-path "$1/Cargo.toml" "${@:3}"
+}
+
+laid_out() {
+    local folder
+    for folder in "$@"; do
+        cargo fmt --check --manifest-path "$folder/Cargo.toml" || return 1
+    done
+}
+
+if [ -z "${BUKZARN_LIBRARY:-}" ]; then
+    try "the library" rt staticlib bukzarn
+    BUKZARN_LIBRARY=target/staticlib
+fi
+BUKZARN_LIBRARY=$(cd "$BUKZARN_LIBRARY" && pwd) || exit 1
+export BUKZARN_LIBRARY
+try "the tools (Python)" python3 -m unittest discover tools/tests
+try "the Rust crate" cargo_in bindings/rust test
+try "the bench" cargo_in bench test
+try "the Rust code: layout" laid_out bindings/rust cli bench
+try "the Rust crate: no warnings" cargo_in bindings/rust clippy --all-targets -- -D warnings
+try "the command bukzarn" cargo_in cli test
+try "the command bukzarn: no warnings" cargo_in cli clippy --all-targets -- -D warnings
+try "examples/c/watch.c" watch_in_c
+try "examples/c/functions.c" functions_in_c
+try "examples/c/receiver.c" receiver_in_c
+try "bindings/rust/examples/receiver.rs" receiver_in_rust
+exit $failed

@@ -1,0 +1,133 @@
+"""The commands of examples/README.md and docs/RESEARCHERS.md, run in a copy of the repository: they leave exactly the
+files that are there, and answer what the pages show.
+
+The programs that a page names in target/bin are run if they are built. Where `bukzarn` is not, its tables are taken as they
+are stored: the tests of the command itself (cli/tests) compare them.
+"""
+import re
+import shutil
+import subprocess
+import sys
+import tempfile
+import unittest
+from pathlib import Path
+
+import common
+
+PAGE = (common.ROOT / "examples/README.md").read_text(encoding="utf-8")
+RESEARCHERS = (common.ROOT / "docs/RESEARCHERS.md").read_text(encoding="utf-8")
+BUKZARN = common.ROOT / "target/bin/bukzarn"
+
+
+def indented(section, page=PAGE):
+    """The indented lines of a section of a page."""
+    part = page.split(f"## {section}\n")[1].split("\n## ")[0]
+    return [line[4:] for line in part.splitlines() if line.startswith("    ")]
+
+
+def commands(section, page=PAGE):
+    """The commands of a section, in order."""
+    return [line for line in indented(section, page) if re.match(r"python3 |cd |target/|\.\./", line)]
+
+
+class Commands(unittest.TestCase):
+    def setUp(self):
+        folder = tempfile.TemporaryDirectory()
+        self.addCleanup(folder.cleanup)
+        self.root = Path(folder.name)
+        for name in ("tools", "examples"):
+            shutil.copytree(common.ROOT / name, self.root / name, ignore=shutil.ignore_patterns("__pycache__", "tests"))
+        (self.root / "target").symlink_to(common.ROOT / "target")
+
+    def shell(self, command, folder, status=0):
+        said = subprocess.run(["bash", "-c", command.replace("python3 ", f"{sys.executable} ")], cwd=folder, check=False,
+                              capture_output=True, text=True)
+        self.assertEqual(said.returncode, status, f"{command}: {said.stderr}")
+        return said.stdout
+
+    def test_from_a_recording_to_a_picture(self):
+        folder, stored = self.root, common.ROOT / "examples/ascent"
+        made = self.root / "examples/ascent"
+        for file in made.iterdir():
+            if file.suffix in (".img", ".csv", ".svg", ".frames"):
+                file.write_bytes(b"")
+        ran = commands("From a recording to a picture")
+        self.assertEqual(len(ran), 8)
+        for command in ran:
+            if command.startswith("cd "):
+                folder = folder / command[3:]
+            elif "bukzarn" in command and not BUKZARN.exists():
+                name = command.split()[-1]
+                (made / name).write_bytes((stored / name).read_bytes())
+            else:
+                said = self.shell(command, folder, 4 if "bukzarn" in command else 0)
+        for file in stored.iterdir():
+            self.assertEqual((made / file.name).read_bytes(), file.read_bytes(), file.name)
+        lines = indented("From a recording to a picture")
+        for line in lines[lines.index(ran[-1]) + 1:]:
+            self.assertIn(line if line != "..." else "", said)
+
+    def test_what_the_page_shows(self):
+        """The answers of commands that stand on the page, and names that it tells."""
+        programs = (common.ROOT / "target/bin/need").exists()
+        for section, needed in (("A ground check whose needs are known", True), ("Two watches that are refused", False)):
+            if programs or not needed:
+                lines = indented(section)
+                said = self.shell(commands(section)[0], self.root).splitlines()
+                start = lines.index(said[0])
+                self.assertEqual(lines[start:start + len(said)], said)
+        for command in commands("Two images of one program") if programs else ():
+            self.assertIn(f"`{self.shell(command, self.root).strip()}`", PAGE)
+        for command in commands("An archived procedure without its watches") if programs else ():
+            self.shell(command, self.root)
+
+    def test_what_the_command_writes(self):
+        """docs/FORMAT.md shows what `bukzarn run` writes of its image, over a frame that begins with 7."""
+        if not BUKZARN.exists():
+            self.skipTest("the command is not built")
+        page = (common.ROOT / "docs/FORMAT.md").read_text(encoding="utf-8")
+        (self.root / "page.proc").write_text(page.split("```")[1])
+        (self.root / "frame").write_bytes(b"\7")
+        for form in ("listing", "csv", "json"):
+            said = self.shell(f"target/bin/bukzarn run page.proc --frame frame --out {form}", self.root)
+            self.assertIn(f"```\n{said}```", page)
+
+    def test_a_watch_of_your_own(self):
+        """The watch of docs/RESEARCHERS.md: accepted as it stands, and refused once it stores to the decoder's cell."""
+        lines = indented("A watch of your own", RESEARCHERS)
+        watch = "\n".join(lines[:next(i for i, line in enumerate(lines) if line.startswith("python3"))])
+        assembles, _, kept, _ = commands("A watch of your own", RESEARCHERS)
+        (self.root / "warm.watch").write_text(watch)
+        self.shell(assembles, self.root)
+        if (common.ROOT / "target/bin/watch").exists():
+            said = self.shell("target/bin/watch < warm.img", self.root)
+            self.assertEqual(re.findall("^log 1 .*$", said, re.M), re.findall(r"`(log 1 \d+)`", RESEARCHERS))
+        self.assertEqual(watch.count("print t"), 1)
+        (self.root / "warm.watch").write_text(watch.replace("print t", "correction := t"))
+        self.shell(assembles, self.root, 1)
+        self.shell(kept, self.root)
+
+    def test_a_rerun_is_told_as_shown(self):
+        section = "A procedure without its watches"
+        if not (common.ROOT / "target/bin/strip").exists():
+            self.skipTest("the programs are not built")
+        command = commands(section, RESEARCHERS)[-1]
+        lines = indented(section, RESEARCHERS)
+        self.assertEqual(self.shell(command, self.root).splitlines(), lines[lines.index(command) + 1:])
+
+    def test_images_and_listings_are_made_anew(self):
+        """The last command of the page writes what is stored, from the texts and the built programs."""
+        command = commands("Commands")[-2]
+        self.assertTrue(command.startswith("python3 tools/make_examples.py"), command)
+        if not (common.ROOT / "target/bin/need").exists():
+            self.skipTest("the programs are not built")
+        for file in (self.root / "examples").glob("*.img"):
+            file.unlink()
+        self.shell(command, self.root)
+        for file in (common.ROOT / "examples").iterdir():
+            if file.suffix in (".img", ".txt", ".need"):
+                self.assertEqual((self.root / "examples" / file.name).read_bytes(), file.read_bytes(), file.name)
+
+
+if __name__ == "__main__":
+    unittest.main()
