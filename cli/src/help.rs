@@ -28,7 +28,7 @@ const RUN: &str = "\
 bukzarn run IMAGE [OPTIONS]
 bukzarn run PROCEDURE [WATCH ...] [OPTIONS]
 
-Runs an image over one frame, or over each frame of a recording, one call of the engine for each.
+Runs an image over one frame, or over each frame of a recording.
 
     --frame FILE       one frame: the whole file. Without --frame and --frames: the 256 bytes 0 to 255
     --frames FILE      a recording: frames one after another, each of the length that --length says
