@@ -9,6 +9,7 @@ same calls, as far as the time goes. A call that fails is printed with its folde
 """
 import argparse
 import collections
+import os
 import random
 import shutil
 import subprocess
@@ -169,7 +170,7 @@ def main():
     parser = argparse.ArgumentParser(description=__doc__, formatter_class=argparse.RawDescriptionHelpFormatter)
     parser.add_argument("--seed", type=int, default=1)
     parser.add_argument("--seconds", type=float, default=60)
-    parser.add_argument("--command", default=str(ROOT / "target/bin/bukzarn"))
+    parser.add_argument("--command", type=os.path.abspath, default=str(ROOT / "target/bin/bukzarn"))
     args = parser.parse_args()
     rng, counts, known = random.Random(args.seed), collections.Counter(), seeds()
     folder = Path(tempfile.mkdtemp(prefix="bukzarn-fuzz-"))
