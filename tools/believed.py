@@ -11,7 +11,7 @@ from pathlib import Path
 
 ROOT = Path(__file__).resolve().parents[1]
 STATEMENTS = ("demands/specs", "calls/specs", "verdict/specs/Acceptable.antt", "listing/specs/Listing.antt",
-              "write_load/specs/Card12.antt", "bukzarn/specs")
+              "write_load/specs/Card12.antt", "answers_as_numbers/specs", "recordings/specs", "bukzarn/specs")
 IMPORT = re.compile(r"\s*use Rattle·(\w+?)(?:·specs)?\.specs\.([\w.]+?)\.\{")
 
 

@@ -48,7 +48,7 @@ class Seeds:
 
     def __init__(self):
         self.texts = read_all("examples/*.proc", "examples/*.watch", "examples/*.rec", "examples/ascent/*.proc")
-        self.images = read_all("examples/*.img", "crates/stored_images/data/*.img")
+        self.images = read_all("examples/*.img", "crates/watch/data/*.img")
         self.tables = [table[:6_000] for table in read_all("examples/ascent/*.csv")] + [b"frame,domain,number\n"]
         done = bytes.fromhex("0a004600000007000000" "0800430005000000" "0a004400010004004100" "060045000000")
         self.reports = [done, done * 3, bytes.fromhex("0a004600020007000000"), bytes.fromhex("0a0040000100ffffffff") * 4]

@@ -1,7 +1,7 @@
 """Cases of document 02, card 9: bindings, cells and pieces in two halves, domain 0's and that of all other domains. Each
 is an image with a budget.
 
-make_stored.py puts them among the images of the program `stored_images`.
+make_stored.py puts them among the stored images of the program `watch`.
 """
 from make_cases import BUDGET, cells, chain, halves, image, pieces, repeat
 from takedown_cases import L, X, labelled, marked

@@ -1,6 +1,6 @@
 """The cases of document 01 ("Bench sheet") that are run, and others at the limits: each an image with a budget.
 
-make_stored.py puts them among the images of the program `stored_images`.
+make_stored.py puts them among the stored images of the program `watch`.
 """
 from watchlang.kinds import GROUPS, OBJECT, OBJECT_T, POINTCUT
 from watchlang.records import record, word

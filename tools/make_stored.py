@@ -1,10 +1,10 @@
 #!/usr/bin/env python3
-"""Makes the data of the program `stored_images`, which runs images in the gate.
+"""Makes the stored images of the program `watch`, which it lists in the gate.
 
 Run in the repository's root: python3 tools/make_stored.py [PROGRAM]
 It writes the cases (make_cases.py and the files *_cases.py) and the examples (examples/NAME.img) to
-crates/stored_images/data, and args: a budget and a file for each image, first those that no script makes. With PROGRAM
-(target/bin/stored_images) it also writes stdout: what PROGRAM prints.
+crates/watch/data, and args: a budget and a file for each image, first those that no script makes. With PROGRAM
+(target/bin/watch) it also writes stdout: what PROGRAM prints.
 """
 import subprocess
 import sys
@@ -17,7 +17,7 @@ from newest_cases import newest_cases
 from stack_cases import stack_cases
 from takedown_cases import takedown_cases
 
-CRATE = Path("crates/stored_images")
+CRATE = Path("crates/watch")
 
 
 def made(folder=EXAMPLES):

@@ -1,7 +1,7 @@
 """Cases of document 02, card 8: of the advice that one mark triggers, the newest runs first. Each is an image with a
 budget.
 
-make_stored.py puts them among the images of the program `stored_images`.
+make_stored.py puts them among the stored images of the program `watch`.
 """
 from make_cases import BUDGET, chain, image, repeat
 from takedown_cases import L, X, labelled, marked, watch

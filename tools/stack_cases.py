@@ -1,6 +1,6 @@
 """Cases of document 02, card 6: keeps, the current stack and matches, each an image with a budget.
 
-make_stored.py puts them among the images of the program `stored_images`.
+make_stored.py puts them among the stored images of the program `watch`.
 """
 from itertools import product
 

@@ -1,6 +1,6 @@
 """Cases of document 02, card 7: takedowns, each an image with a budget.
 
-make_stored.py puts them among the images of the program `stored_images`.
+make_stored.py puts them among the stored images of the program `watch`.
 """
 from make_cases import BUDGET, byte_behind, chain, image, installed, recursive, repeat
 from watchlang.kinds import TAKEDOWN

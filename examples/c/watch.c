@@ -5,7 +5,7 @@
        rt staticlib bukzarn
        gcc -std=c99 -Wall -Wextra -pedantic -O2 -Iinclude -o target/watch_c \
            examples/c/watch.c target/staticlib/libbukzarn.a
-       target/watch_c crates/watch/stdin */
+       target/watch_c crates/watch/data/p2.img */
 #include <inttypes.h>
 #include <stdio.h>
 

@@ -3,7 +3,7 @@ import sys
 from pathlib import Path
 
 ROOT = Path(__file__).resolve().parents[2]
-STORED = ROOT / "crates/stored_images"
+STORED = ROOT / "crates/watch"
 sys.path.insert(0, str(ROOT / "tools"))
 
 import watchtool  # noqa: E402 (the path is set here)

@@ -1,2 +1,2 @@
--- Equal parts of lent memory, and calls one after another.
-pub mod Recordings
+-- A call with its answer as one number, and the proofs of the functions.
+pub mod Answered

@@ -1,4 +1,2 @@
--- Answers as one number, the numbers of a forecast in lent places, and calls over a recording.
+-- What each function of the library answers as one number.
 pub mod Numbers
-pub mod Places
-pub mod Recordings

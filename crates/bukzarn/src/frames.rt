@@ -1,28 +1,18 @@
 // The calls of one image over the frames of a recording: the image is checked once.
-use crate::numbers::call_number;
-use crate::numbers::refused_as_number;
-use engine::prepare::Lent;
-use engine::prepare::Prepared;
+use answers_as_numbers::numbers::call_number;
+use engine::check::Lent;
+use engine::check::check_call;
 use engine::prepare::prepare;
 use engine::runs::run_code;
+use recordings::refuse_each;
+use validator::examine::Checked;
 ghost use mathlib.Core.Path.{_≡_};
 ghost use Prim.Native.Nat.{_≤_, _<_};
-ghost use lib.ListN.{length, replicate};
+ghost use lib.ListN.{length};
 ghost use Rattle.image.specs.Limits.{workLength, reportLength};
 ghost use Rattle.calls.specs.Runs.{Accepts};
-ghost use Rattle.bukzarn.specs.Recordings.{partLength, calledOver};
+ghost use Rattle.recordings.specs.Recordings.{partLength, calledOver};
 ghost use Rattle.engine.specs.Prepared.{Runnable};
-
-// The same answer for every call.
-fn answer_each(number: u64, numbers: &mut [u64])
-    ensures { λ _. ⌜ now (numbers .exit) ≡ replicate (length (now (numbers .entry))) number ⌝ }
-{
-    let mut i: usize = 0;
-    while i < numbers.len() {
-        numbers[i] = number;
-        i += 1;
-    }
-}
 
 // Runs of code that is ready, each over its own frame, with a log and a report of its own.
 fn run_each(
@@ -86,31 +76,41 @@ pub extern "C" fn bukzarn_run_frames(
     if count == 0 {
         return;
     }
+    let report = reports.len() / count;
     let lent = Lent {
         work: work.len(),
-        report: reports.len() / count,
+        report: report,
     };
-    let mut code = [0u64; 1025];
-    let mut dispatch = [0u8; 1025];
-    let prepared = prepare(image, lent, &mut code, &mut dispatch);
-    match prepared {
-        Prepared::Refused(why, place) => {
-            answer_each(
-                refused_as_number(image::refusal_number(why), place),
+    let mut types = [0u16; 128];
+    let mut descriptors = [0u32; 128];
+    let mut terms = [0u16; 1024];
+    let checked = check_call(image, lent, &mut types, &mut descriptors, &mut terms);
+    match checked {
+        Checked::Refused(why, place) => refuse_each(why, place, numbers),
+        Checked::Accepted(counts) => {
+            let mut code = [0u64; 1025];
+            let mut dispatch = [0u8; 1025];
+            let target = prepare(
+                image,
+                &types,
+                &descriptors,
+                &terms,
+                counts,
+                &mut code,
+                &mut dispatch,
+            );
+            run_each(
+                image,
+                &code,
+                &dispatch,
+                target,
+                frames,
+                budget,
+                logs,
+                reports,
                 numbers,
+                work,
             )
         }
-        Prepared::Ready(target) => run_each(
-            image,
-            &code,
-            &dispatch,
-            target,
-            frames,
-            budget,
-            logs,
-            reports,
-            numbers,
-            work,
-        ),
     }
 }

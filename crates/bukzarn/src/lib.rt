@@ -1,11 +1,11 @@
 // The engine for callers in other languages: each function is one call of the crate that it names, with the answer as one
 // number. Memory that is lent may have any length and content.
 pub mod frames;
-mod numbers;
-mod places;
 
-use numbers::as_number;
-use numbers::refused_as_number;
+use answers_as_numbers::numbers::as_number;
+use answers_as_numbers::numbers::call_number;
+use answers_as_numbers::numbers::refused_as_number;
+use answers_as_numbers::places::put_forecast;
 ghost use mathlib.Core.Path.{_≡_};
 ghost use Rattle.verdict.specs.Verdicts.{verdict};
 ghost use Rattle.image_needs.specs.Forecasts.{forecast};
@@ -14,7 +14,7 @@ ghost use Rattle.write_fixed.specs.Calls.{fixedCall};
 ghost use Rattle.write_load.specs.Loads.{loaded};
 ghost use Rattle.write_stripped.specs.Calls.{strippedCall};
 ghost use Rattle.bukzarn.specs.Numbers.{verdictAsNumber, forecastAsNumber, writtenAsNumber, loadAsNumber, strippedAsNumber, Numbered};
-ghost use Rattle.bukzarn.specs.Places.{numbersLeft};
+ghost use Rattle.answers_as_numbers.specs.Places.{numbersLeft};
 
 // A call of the engine: the bytes of report and of log that were written, or the refusal.
 #[no_mangle]
@@ -28,7 +28,7 @@ pub extern "C" fn bukzarn_run(
 ) -> u64
     ensures { λ n. ⌜ Numbered (called (now (image .entry)) (now (frame .entry)) budget (now (log .entry)) (now (report .entry)) (now (work .entry))) n (now (log .exit)) (now (report .exit)) (now (work .exit)) ⌝ }
 {
-    numbers::call_number(engine::run(image, frame, budget, log, report, work))
+    call_number(engine::run(image, frame, budget, log, report, work))
 }
 
 // What a call of the engine would be refused for, with a work area and a report of so many bytes; 0 if it would run.
@@ -47,7 +47,7 @@ pub extern "C" fn bukzarn_need(image: &[u8], numbers: &mut [u32]) -> u64
     ensures { λ n. ⌜ (n ≡ forecastAsNumber (forecast (now (image .entry)))) × (now (numbers .exit) ≡ numbersLeft (forecast (now (image .entry))) (now (numbers .entry))) ⌝ }
 {
     let f = needs::forecast_image(image);
-    places::put_forecast(numbers, f);
+    put_forecast(numbers, f);
     refused_as_number(
         image_needs::forecast_number(f),
         image_needs::forecast_place(f),

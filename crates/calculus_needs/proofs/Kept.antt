@@ -5,10 +5,10 @@ use mathlib.Core.Bool.{Bool, true, false}
 use lib.Dec.{eqb}
 use Rattle.calculus.specs.Combinators.{choose}
 use Rattle.calculus.specs.State.{noCounts, somePieces}
-use Rattle.calculus.specs.Syntax.{Dom, Val, Tm, Tms, Op0, Op1, Op2, val, var, lam, op0, op1, op2, seq, ite, split, pcd, adv, lower, obj, keep, match, end, more, newLabel, abort, takedown, theStack, print, install, read, byte, newCell, call, app, mark, store, plus, minus, less, equal}
+use Rattle.calculus.specs.Syntax.{Dom, Val, Tm, Tms, Op1, Op2, val, var, lam, op0, op1, op2, seq, ite, split, pcd, adv, lower, obj, keep, match, end, more, print, install, read, byte, newCell, call, app, mark, store, plus, minus, less, equal}
 use Rattle.calculus_needs.specs.Here.{Here, at, deeper, keeping}
 use Rattle.calculus_needs.specs.Numbers.{Numbers, none, _⊕_, dearer}
-use Rattle.calculus_needs.specs.Needs.{once, uses, variables, binds, own0, own1, own2, need, needs, round, roundOf, roundOfValue, installs, rounds, allRounds}
+use Rattle.calculus_needs.specs.Needs.{once, uses, variables, binds, own1, own2, need, needs, round, roundOf, roundOfValue, installs, rounds, allRounds, Extra, noExtra, aNewLabel, keptPieces, extra0, withExtra}
 
 -- The numbers without the pieces.
 unfoldable pub pieceless : Numbers → Numbers
@@ -65,11 +65,10 @@ some-pieces c j k = look (eqb c 0)
     look true = record { alike = refl }
     look false = record { alike = refl }
 
-own0-alike : (P : Here) (k : ℕ) (o : Op0) → Alike (own0 P o) (own0 (with-kept k P) o)
-own0-alike P k newLabel = itself
-own0-alike P k abort = itself
-own0-alike P k (takedown p) = itself
-own0-alike P k theStack = after (once P) (some-pieces (P .dom) (P .kept) k)
+extra-alike : (P : Here) (k : ℕ) (x : Extra) → Alike (withExtra P x) (withExtra (with-kept k P) x)
+extra-alike P k noExtra = itself
+extra-alike P k aNewLabel = itself
+extra-alike P k keptPieces = after (once P) (some-pieces (P .dom) (P .kept) k)
 
 own1-alike : (P : Here) (k : ℕ) (o : Op1) → Alike (own1 P o) (own1 (with-kept k P) o)
 own1-alike P k print = itself
@@ -97,7 +96,7 @@ module _ (W : Here → Numbers) (hW : (P : Here) (k : ℕ) → Alike (W P) (W (w
     need-alike (val v) P k = itself
     need-alike (var j) P k = itself
     need-alike (lam t b) P k = itself
-    need-alike (op0 o t) P k = own0-alike P k o
+    need-alike (op0 o t) P k = extra-alike P k (extra0 o)
     need-alike (op1 o t e) P k = both (need-alike e (deeper P) k) (own1-alike P k o)
     need-alike (op2 o t e f) P k = both (need-alike e (deeper P) k) (both (need-alike f (deeper P) k) (own2-alike P k o))
     need-alike (seq e f) P k = both (need-alike e (deeper P) k) (after (once P) (need-alike f P k))

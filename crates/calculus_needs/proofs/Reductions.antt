@@ -24,8 +24,8 @@ use Rattle.calculus.proofs.Filtered.{filtered-length}
 use Rattle.laws.proofs.Lists.{All, All.all-nil, All.all-cons, all-snoc, all-reverse, none-some}
 use Rattle.calculus_safety.proofs.StoreFits.{all-filtered}
 use Rattle.calculus_needs.specs.Numbers.{Numbers, none, _⊕_, dearer}
-use Rattle.calculus_needs.specs.Class.{straight0, straight2, straight}
-use Rattle.calculus_needs.specs.Needs.{once, spent, uses, variables, binds, aCell, aPiece, aLabel, anAdvice, aPrint, own0, own1, own2, need, round, roundOfValue, installs, rounds}
+use Rattle.calculus_needs.specs.Class.{straight2, straight}
+use Rattle.calculus_needs.specs.Needs.{once, spent, uses, variables, binds, aCell, aPiece, aLabel, anAdvice, aPrint, own0, own1, own2, need, round, roundOfValue, installs, rounds, straight0}
 use Rattle.calculus_needs.specs.Used.{usedUp}
 use Rattle.calculus_needs.specs.Claims.{Under}
 use Rattle.calculus_needs.proofs.Sums.{same, under-refl, under-same, under-trans, under-plus, under-left, under-right, dearer-left, dearer-right, none-left, none-right, none-under, counts-left, counts-right, plus-assoc, plus-comm}

@@ -3,10 +3,10 @@ use Prim.Native.Nat.{ℕ, zero, suc, _+_, max}
 use native.Mathlib.Omega.{arith}
 use mathlib.Core.Path.{_≡_, refl, sym, ap, _∙_}
 use Rattle.calculus.specs.State.{somePieces}
-use Rattle.calculus.specs.Syntax.{Dom, Val, Tm, Tms, Op0, Op1, Op2, val, var, lam, op0, op1, op2, seq, ite, split, pcd, adv, lower, obj, keep, match, end, more, newLabel, abort, takedown, theStack, print, install, read, byte, newCell, call, app, mark, store, plus, minus, less, equal}
+use Rattle.calculus.specs.Syntax.{Dom, Val, Tm, Tms, Op1, Op2, val, var, lam, op0, op1, op2, seq, ite, split, pcd, adv, lower, obj, keep, match, end, more, print, install, read, byte, newCell, call, app, mark, store, plus, minus, less, equal}
 use Rattle.calculus_needs.specs.Here.{Here, at, deeper, keeping}
 use Rattle.calculus_needs.specs.Numbers.{Numbers, none, _⊕_, dearer}
-use Rattle.calculus_needs.specs.Needs.{once, uses, variables, binds, aCell, aPiece, aLabel, anAdvice, aPrint, own0, own1, own2, need, needs, round, roundOf, roundOfValue, installs, rounds, allRounds}
+use Rattle.calculus_needs.specs.Needs.{once, uses, variables, binds, aCell, aPiece, aLabel, anAdvice, aPrint, own1, own2, need, needs, round, roundOf, roundOfValue, installs, rounds, allRounds, Extra, noExtra, aNewLabel, keptPieces, extra0, withExtra}
 use Rattle.calculus_needs.proofs.Sums.{same}
 
 -- d more, if there is a step.
@@ -79,11 +79,10 @@ module _ (d : ℕ) where
       up : (n : ℕ) → max (P .depth + d) (x .frames) ≡ raised (1 + n) d (max (P .depth) (x .frames))
       up n = let e : 1 + n ≡ suc n = omega arith in rw e (omega arith)
 
-  own0-shifts : (P : Here) (o : Op0) → Shifts (own0 P o) (own0 (raise d P) o)
-  own0-shifts P newLabel = one-with P aLabel refl
-  own0-shifts P abort = one P
-  own0-shifts P (takedown p) = one P
-  own0-shifts P theStack = one-with P (uses (P .dom) (somePieces (P .kept))) refl
+  extra-shifts : (P : Here) (x : Extra) → Shifts (withExtra P x) (withExtra (raise d P) x)
+  extra-shifts P noExtra = one P
+  extra-shifts P aNewLabel = one-with P aLabel refl
+  extra-shifts P keptPieces = one-with P (uses (P .dom) (somePieces (P .kept))) refl
 
   own1-shifts : (P : Here) (o : Op1) → Shifts (own1 P o) (own1 (raise d P) o)
   own1-shifts P print = one-with P aPrint refl
@@ -118,7 +117,7 @@ module _ (d : ℕ) where
       need-shifts (val v) P = nothing
       need-shifts (var k) P = nothing
       need-shifts (lam t b) P = nothing
-      need-shifts (op0 o t) P = own0-shifts P o
+      need-shifts (op0 o t) P = extra-shifts P (extra0 o)
       need-shifts (op1 o t e) P = both (rw (deep P) (need-shifts e (deeper P))) (own1-shifts P o)
       need-shifts (op2 o t e f) P = both (rw (deep P) (need-shifts e (deeper P))) (both (rw (deep P) (need-shifts f (deeper P))) (own2-shifts P o))
       need-shifts (seq e f) P = both (rw (deep P) (need-shifts e (deeper P))) (both (one P) (need-shifts f P))

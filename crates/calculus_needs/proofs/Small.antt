@@ -4,11 +4,11 @@ use native.Mathlib.Omega.{arith}
 use mathlib.Core.Bool.{Bool, true, false}
 use lib.Dec.{eqb}
 use Rattle.calculus.specs.Combinators.{choose}
-use Rattle.calculus.specs.Syntax.{Dom, Val, Tm, Tms, Pattern, Op0, Op1, Op2, val, var, lam, op0, op1, op2, seq, ite, split, pcd, adv, lower, obj, keep, match, end, more, newLabel, abort, takedown, theStack, print, install, read, byte, newCell, call, app, mark, store, plus, minus, less, equal}
+use Rattle.calculus.specs.Syntax.{Dom, Val, Tm, Tms, Pattern, Op1, Op2, val, var, lam, op0, op1, op2, seq, ite, split, pcd, adv, lower, obj, keep, match, end, more, print, install, read, byte, newCell, call, app, mark, store, plus, minus, less, equal}
 use Rattle.calculus.specs.State.{Counts, noCounts, someBindings, oneCell, somePieces}
 use Rattle.calculus_needs.specs.Here.{Here, at, deeper, keeping, top}
 use Rattle.calculus_needs.specs.Numbers.{Numbers, none, _⊕_, dearer}
-use Rattle.calculus_needs.specs.Needs.{once, spent, uses, binds, aCell, aLabel, anAdvice, aPrint, own0, own1, own2, variables, need, needs, round, roundOf, roundOfValue, installs, rounds, allRounds, needOf}
+use Rattle.calculus_needs.specs.Needs.{once, spent, uses, binds, aCell, aLabel, anAdvice, aPrint, own1, own2, variables, need, needs, round, roundOf, roundOfValue, installs, rounds, allRounds, needOf, Extra, noExtra, aNewLabel, keptPieces, extra0, withExtra}
 use Rattle.calculus_needs.specs.Claims.{Under}
 
 -- K for each term, those in bodies of advice too, and pat for the pattern of a match.
@@ -114,11 +114,10 @@ module _ (D : ℕ) where
     step : (P : Here) → P .depth ≤ D → Small K (once P)
     step P h = upto (one P h) (omega arith)
 
-    small0 : (P : Here) (o : Op0) → P .depth ≤ D → P .kept ≤ D → Small K (own0 P o)
-    small0 P newLabel h k = upto (small-plus (one P h) small-label) (omega arith)
-    small0 P abort h k = step P h
-    small0 P (takedown p) h k = step P h
-    small0 P theStack h k = upto (small-plus (one P h) (small-pieces (P .dom) (P .kept))) (omega arith)
+    small0 : (P : Here) (x : Extra) → P .depth ≤ D → P .kept ≤ D → Small K (withExtra P x)
+    small0 P noExtra h k = step P h
+    small0 P aNewLabel h k = upto (small-plus (one P h) small-label) (omega arith)
+    small0 P keptPieces h k = upto (small-plus (one P h) (small-pieces (P .dom) (P .kept))) (omega arith)
 
     small1 : (P : Here) (o : Op1) → P .depth ≤ D → Small K (own1 P o)
     small1 P print h = upto (small-plus (one P h) small-print) (omega arith)
@@ -145,7 +144,7 @@ module _ (D : ℕ) where
       small-need (val v) P h k = small-none _
       small-need (var i) P h k = small-none _
       small-need (lam t b) P h k = small-none _
-      small-need (op0 o t) P h k = small0 P o (omega arith) (omega arith)
+      small-need (op0 o t) P h k = small0 P (extra0 o) (omega arith) (omega arith)
       small-need (op1 o t e) P h k = upto (small-plus (small-need e (deeper P) (omega arith) (omega arith)) (small1 P o (omega arith))) (omega arith)
       small-need (op2 o t e f) P h k =
           upto (small-plus (small-need e (deeper P) (omega arith) (omega arith)) (small-plus (small-need f (deeper P) (omega arith) (omega arith)) (small2 P o (omega arith) (omega arith)))) (omega arith)

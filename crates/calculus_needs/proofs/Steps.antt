@@ -5,7 +5,7 @@ use mathlib.Core.Bool.{Bool, true, false, _&&_}
 use mathlib.Core.List.{List, [], _∷_}
 use mathlib.Core.Option.{none, some, Option·some-injective}
 use lib.Dec.{T}
-use Rattle.calculus.specs.Syntax.{Dom, Ty, Val, Tm, Tms, Pattern, Op0, Op1, Op2, asValue, val, var, lam, op0, op1, op2, seq, ite, split, pcd, adv, lower, obj, keep, match, end, more, newLabel, abort, takedown, theStack, call, print, install, read, byte, newCell, app, mark, store, plus, minus, less, equal}
+use Rattle.calculus.specs.Syntax.{Dom, Ty, Val, Tm, Tms, Pattern, Op0, Op1, Op2, asValue, val, var, lam, op0, op1, op2, seq, ite, split, pcd, adv, lower, obj, keep, match, end, more, call, print, install, read, byte, newCell, app, mark, store, plus, minus, less, equal}
 use Rattle.calculus.specs.State.{State, Given, somePieces}
 use Rattle.calculus.specs.Answer.{Answer}
 use Rattle.calculus.specs.Place.{Place, at, deeper, keeping}
@@ -16,7 +16,7 @@ use Rattle.calculus.specs.Step.{step, stepFirst, before}
 use Rattle.laws.proofs.Lists.{All, none-some}
 use Rattle.calculus_needs.specs.Numbers.{Numbers, _⊕_, dearer}
 use Rattle.calculus_needs.specs.Class.{straight2, straight, allStraight}
-use Rattle.calculus_needs.specs.Needs.{once, uses, variables, binds, aPiece, aCell, aLabel, anAdvice, aPrint, own0, own1, own2, need, needs, roundOf, installs, rounds, allRounds}
+use Rattle.calculus_needs.specs.Needs.{once, uses, variables, binds, aPiece, aCell, aLabel, anAdvice, aPrint, own1, own2, need, needs, roundOf, installs, rounds, allRounds, Extra, noExtra, aNewLabel, keptPieces, extra0, withExtra}
 use Rattle.calculus_needs.specs.Used.{reach, reachFirst}
 use Rattle.calculus.specs.Typing.{Policy, StoreTyping}
 use Rattle.calculus_needs.specs.Claims.{Under}
@@ -50,11 +50,10 @@ installs-kept newCell e e′ c k Q = refl
 installs-kept (call m) e e′ c k Q = refl
 
 -- Every reduction is a step where it stands.
-once-own0 : (P : Here) (o : Op0) → Under (once P) (own0 P o)
-once-own0 P newLabel = under-left (once P) aLabel
-once-own0 P abort = under-refl (once P)
-once-own0 P (takedown p) = under-refl (once P)
-once-own0 P theStack = under-left (once P) (uses (P .dom) (somePieces (P .kept)))
+once-extra : (P : Here) (x : Extra) → Under (once P) (withExtra P x)
+once-extra P noExtra = under-refl (once P)
+once-extra P aNewLabel = under-left (once P) aLabel
+once-extra P keptPieces = under-left (once P) (uses (P .dom) (somePieces (P .kept)))
 
 once-own1 : (P : Here) (o : Op1) → Under (once P) (own1 P o)
 once-own1 P print = under-left (once P) aPrint
@@ -311,7 +310,7 @@ module _ (D : Policy) (Σ : StoreTyping) (G : Given) (W : Here → Numbers) (s :
 
   steps-op0 : (o : Op0) (t : Ty) → Steps (op0 o t)
   unfolding step need rounds straight reach Over
-  steps-op0 o t y c P = takes-framed G W s P (once-own0 (here P) o) (takes0 G W s A P (Keeps (op0 o t)) (λ e x. absurd x) o t (λ x. x))
+  steps-op0 o t y c P = takes-framed G W s P (once-extra (here P) (extra0 o)) (takes0 G W s A P (Keeps (op0 o t)) (λ e x. absurd x) o t (λ x. x))
 
   steps-var : (k : ℕ) → Steps (var k)
   unfolding step need rounds straight reach Over

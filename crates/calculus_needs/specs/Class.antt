@@ -1,6 +1,7 @@
 -- The programs of which card 10 speaks (document 02): "no apply and no call, whose installs each stand directly over an advice, and whose advice bodies contain no mark and no install".
 use mathlib.Core.Bool.{Bool, true, false, _&&_}
-use Rattle.calculus.specs.Syntax.{Tm, Tms, Op0, Op1, Op2, newLabel, abort, takedown, theStack, val, var, lam, op0, op1, op2, seq, ite, split, pcd, adv, lower, obj, keep, match, end, more, print, install, read, byte, newCell, call, app, mark, store, plus, minus, less, equal}
+use Rattle.calculus.specs.Syntax.{Tm, Tms, Op1, Op2, val, var, lam, op0, op1, op2, seq, ite, split, pcd, adv, lower, obj, keep, match, end, more, print, install, read, byte, newCell, call, app, mark, store, plus, minus, less, equal}
+use Rattle.calculus_needs.specs.Needs.{straight0}
 
 abbrev pub isAdvice : Tm → Bool
 isAdvice (val v) = false
@@ -62,12 +63,6 @@ unfoldable mutual
   allInClass m (more e es) = inClass m e && allInClass m es
 
 -- "Without choice, mark or takedown": none stands outside the bodies of functions, methods and advice. Such a program has one way to run.
-abbrev pub straight0 : Op0 → Bool
-straight0 newLabel = true
-straight0 abort = true
-straight0 (takedown p) = false
-straight0 theStack = true
-
 abbrev pub straight2 : Op2 → Bool
 straight2 Op2.pair = true
 straight2 app = true

@@ -1,5 +1,6 @@
 -- What a run will need, from the tree (document 02, card 10). The fold goes by the places at which the definition of a step works the parts out (calculus's Step).
 use Prim.Native.Nat.{ℕ, suc}
+use mathlib.Core.Bool.{Bool, true, false}
 use Rattle.calculus.specs.Syntax.{Dom, Val, Tm, Tms, Pattern, atEnd, atRest, anything, pointcut, Op0, Op1, Op2, val, var, lam, op0, op1, op2, seq, ite, split, pcd, adv, lower, obj, keep, match, end, more, newLabel, abort, takedown, theStack, print, install, read, byte, newCell, call, app, mark, store, plus, minus, less, equal}
 use Rattle.calculus.specs.State.{Counts, Uses, noUses, atDom, someBindings, oneCell, onePiece, somePieces}
 use Rattle.calculus_needs.specs.Here.{Here, at, deeper, keeping, top}
@@ -34,12 +35,31 @@ anAdvice = record { steps = 0; used = noUses; labels = 0; advices = 1; prints = 
 abbrev pub aPrint : Numbers
 aPrint = record { steps = 0; used = noUses; labels = 0; advices = 0; prints = 1; frames = 0 }
 
--- The reduction of an operator at a place. "An abort or a takedown counts as one step and nothing more"; where it stands counts for the frames. A stack takes one piece a kept value.
+-- What the reduction of an operator without operands takes besides its step: nothing, a label, or one piece a kept value. "An abort or a takedown counts as one step and nothing more"; where it stands counts for the frames.
+pub data Extra : Type 0 where
+  noExtra aNewLabel keptPieces : Extra
+
+abbrev pub extra0 : Op0 → Extra
+extra0 newLabel = aNewLabel
+extra0 abort = noExtra
+extra0 (takedown p) = noExtra
+extra0 theStack = keptPieces
+
+-- Whether a program "without choice, mark or takedown" (Class, `straight`) may have the operator.
+abbrev pub straight0 : Op0 → Bool
+straight0 newLabel = true
+straight0 abort = true
+straight0 (takedown p) = false
+straight0 theStack = true
+
+abbrev pub withExtra : Here → Extra → Numbers
+withExtra P noExtra = once P
+withExtra P aNewLabel = once P ⊕ aLabel
+withExtra P keptPieces = once P ⊕ uses (P .dom) (somePieces (P .kept))
+
+-- The reduction of an operator at a place.
 abbrev pub own0 : Here → Op0 → Numbers
-own0 P newLabel = once P ⊕ aLabel
-own0 P abort = once P
-own0 P (takedown p) = once P
-own0 P theStack = once P ⊕ uses (P .dom) (somePieces (P .kept))
+own0 P o = withExtra P (extra0 o)
 
 abbrev pub own1 : Here → Op1 → Numbers
 own1 P print = once P ⊕ aPrint

@@ -13,7 +13,7 @@ use Rattle.check_records.specs.Heads.{fieldsAt}
 use Rattle.check_records.specs.Descriptors.{descriptorKind}
 use Rattle.laws.proofs.Booleans.{no-path, not-t, lt-of, ge-of, eq-of, of-eq}
 use Rattle.laws.proofs.Tests.{all-below, below-all}
-use Rattle.check_layout.specs.Numbers.{newDescriptor, sameFields, newObject, newType}
+use Rattle.check_layout.specs.NewTypes.{newDescriptor, sameFields, newObject, newType}
 use Rattle.check_layout.specs.Tables.{remainders, Filters}
 
 -- A place that is true stays so.

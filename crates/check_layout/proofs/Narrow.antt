@@ -19,9 +19,10 @@ use Rattle.check_records.specs.Codes.{classNumber, classNumbers, groupOf, count
 use Rattle.check_records.specs.Heads.{fieldIn}
 use Rattle.check_records.proofs.Codes.{Packs}
 use Rattle.check_records.proofs.Classes.{first-class}
-use Rattle.check_layout.specs.Fields.{typeCount, Narrow, fieldFrom, inClass, rangesFrom, groupsFrom, classesPast}
-use Rattle.check_layout.specs.Numbers.{lengthFits}
-use Rattle.check_layout.proofs.Numbers.{fits-exact}
+use Rattle.check_fields.specs.Fields.{typeCount, Narrow, fieldFrom}
+use Rattle.check_ranges.specs.Ranges.{inClass, rangesFrom, groupsFrom, classesPast}
+use Rattle.check_ranges.specs.Numbers.{lengthFits}
+use Rattle.check_ranges.proofs.Numbers.{fits-exact}
 use Rattle.check_layout.proofs.Parts.{classes-past}
 
 -- Every field of a type is a type or a domain; none stands behind the first ones and the group.

@@ -29,7 +29,7 @@ use Rattle.check_records.specs.Heads.{IsWhole, fieldsAt, fieldIn}
 use Rattle.check_records.specs.Descriptors.{descriptorKind, Describes}
 use Rattle.check_records.proofs.Descriptors.{same-lists, same-fields, same-descriptor}
 use Rattle.check_records.proofs.Parts.{bytes-length, field-is}
-use Rattle.check_layout.specs.Numbers.{newDescriptor, sameFields, newObject, newType}
+use Rattle.check_layout.specs.NewTypes.{newDescriptor, sameFields, newObject, newType}
 use Rattle.check_layout.specs.Tables.{layoutOf, Tables, Reached, Placed}
 use Rattle.check_layout.proofs.Sections.{all-places}
 use Rattle.check_layout.proofs.Kept.{type-count}

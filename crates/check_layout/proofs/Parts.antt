@@ -19,7 +19,8 @@ use Rattle.check_records.specs.Descriptors.{fieldOr0, Describes}
 use Rattle.check_records.proofs.Classes.{first-class}
 use Rattle.check_records.proofs.Descriptors.{has-field, no-field}
 use Rattle.check_records.proofs.Parts.{field-is}
-use Rattle.check_layout.specs.Fields.{fieldFrom, DescriptorFrom, inClass, rangesFrom, groupsFrom, classesPast}
+use Rattle.check_fields.specs.Fields.{fieldFrom, DescriptorFrom}
+use Rattle.check_ranges.specs.Ranges.{inClass, rangesFrom, groupsFrom, classesPast}
 
 -- The classes behind those of some fields.
 pub classes-past : (gs hs : List Field) → classesPast (length gs) (classNumbers (gs ++ hs)) ≡ classNumbers hs

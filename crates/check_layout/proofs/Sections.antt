@@ -16,7 +16,7 @@ use Rattle.image.proofs.Counts.{fields-length}
 use Rattle.check_records.specs.declared.numbers.Counts.{Counts}
 use Rattle.check_records.specs.Codes.{sectionNumber, sectionOf}
 use Rattle.check_records.proofs.Codes.{Packs}
-use Rattle.check_layout.specs.Numbers.{lengthFits, orderFits, roomFits}
+use Rattle.check_ranges.specs.Numbers.{lengthFits, orderFits, roomFits}
 
 -- 4
 long-enough : (gs : List Field) (m n : ℕ) → longEnough gs m n ≡ choose (eqb (length gs) 0) (leb m n) (eqb n m)

@@ -5,8 +5,9 @@ use mathlib.Core.Path.{_≡_, sym, ap, _∙_}
 use mathlib.Core.Bool.{Bool}
 use mathlib.Core.List.{List}
 use mathlib.Core.Option.{some}
-use lib.ListN.{length}
+use lib.ListN.{length, replicate}
 use Rattle.image.specs.declared.Refusal.{Refusal}
+use Rattle.image.specs.Limits.{termLimit}
 use Rattle.image.specs.Records.{Layout}
 use Rattle.image.specs.Layout.{layout}
 use Rattle.laws.proofs.Booleans.{no-path}
@@ -15,20 +16,23 @@ use Rattle.check_records.specs.Counts.{noRecords}
 use Rattle.check_records.specs.declared.reader.Head.{Head}
 use Rattle.check_records.specs.Heads.{headAt}
 use Rattle.check_records.proofs.Heads.{whole-of, broken-of}
+use Rattle.check_marks.specs.Marks.{marksOf}
 use Rattle.check_layout.specs.declared.Scan.{Scan}
 use Rattle.check_layout.specs.declared.Entry.{Entry}
-use Rattle.check_layout.specs.Tables.{layoutOf, remainders, Filters, entryOf, countsBehind, Entered, Lent, Reached, scanOf, endOf, Holds, ScannedWith}
+use Rattle.check_layout.specs.Tables.{layoutOf, remainders, Filters, entryOf, countsBehind, Marks, Entered, Lent, Reached, scanOf, endOf, Holds, ScannedWith}
 use Rattle.check_layout.proofs.Going.{Going, going-start, going-end, going-stop, going-on, broken, told-fault, told-none}
 
 -- The records before o are in the tables, and the walk is as far.
-pub record Stage (b : List ℕ) (o : ℕ) (n : Counts) (ds ts ks : List ℕ) (rs : List Bool) (es : List ℕ) : Type 0 where
+pub record Stage (b : List ℕ) (o : ℕ) (n : Counts) (ds ts ks : List ℕ) (rs : List Bool) (es ms : List ℕ) : Type 0 where
   pub inside : o ≤ length b
   pub holds : Holds b o n ds ts ks es
   pub filter : Filters (n .types) ks rs
+  pub marks : Marks b n ds ts es ms
   pub going : Going b o (layoutOf b n ds ts es)
 
-pub start-stage : {b kinds ds ts ks : List ℕ} {rs : List Bool} {es : List ℕ} → Lent b kinds ds ts ks es → remainders ≤ length rs → Stage b 0 noRecords ds ts ks rs es
-start-stage {b} l r =
+pub start-stage : {b kinds ds ts ks : List ℕ} {rs : List Bool} {es ms : List ℕ} → Lent b kinds ds ts ks es → remainders ≤ length rs → ms ≡ replicate termLimit 0 → Stage b 0 noRecords ds ts ks rs es ms
+unfolding marksOf
+start-stage {b} l r m =
     record {
       inside = omega arith;
       holds =
@@ -42,31 +46,32 @@ start-stage {b} l r =
                 };
           };
       filter = record { places = r; at = λ i h. absurd (omega arith) };
+      marks = m;
       going = going-start b;
     }
 
-module _ {b : List ℕ} {o : ℕ} {n : Counts} {ds ts ks : List ℕ} {rs : List Bool} {es : List ℕ} (S : Stage b o n ds ts ks rs es) where
+module _ {b : List ℕ} {o : ℕ} {n : Counts} {ds ts ks : List ℕ} {rs : List Bool} {es ms : List ℕ} (S : Stage b o n ds ts ks rs es ms) where
   abbrev L : Layout
   L = layoutOf b n ds ts es
 
   -- The scan ends here.
-  scanned : (r : Scan) → scanOf r b ds ts es ≡ layout b → ((m : Counts) → r ≡ Scan.Laid m → n ≡ m) → endOf (layout b) b ≡ o → ScannedWith r b ds ts ks rs es
-  scanned r a c e = record { scanned = record { answer = a; counts = n; counted = c; holds = rw e (S .holds) }; filter = S .filter }
+  scanned : (r : Scan) → scanOf r b ds ts es ≡ layout b → ((m : Counts) → r ≡ Scan.Laid m → n ≡ m) → endOf (layout b) b ≡ o → ScannedWith r b ds ts ks rs es ms
+  scanned r a c e = record { scanned = record { answer = a; counts = n; counted = c; holds = rw e (S .holds); marks = S .marks }; filter = S .filter }
 
-  pub ends : length b ≤ o → ScannedWith (Scan.Laid n) b ds ts ks rs es
+  pub ends : length b ≤ o → ScannedWith (Scan.Laid n) b ds ts ks rs es ms
   ends h =
       let i = S .inside in
       let e = going-end o L (S .going) (omega arith) in
       scanned (Scan.Laid n) (sym e) (λ m d. cc) (ap (λ x. endOf x b) e ∙ (omega arith))
 
-  pub stops : o < length b → {r : Refusal} → headAt b o ≡ Head.Refused r → ScannedWith (Scan.Stopped r o) b ds ts ks rs es
+  pub stops : o < length b → {r : Refusal} → headAt b o ≡ Head.Refused r → ScannedWith (Scan.Stopped r o) b ds ts ks rs es ms
   stops l {r} h =
       let z = broken-of b o r h in
       let e = going-stop o L (S .going) l r (broken o L (z .0) ∙ ap some (sym (z .1))) in
       scanned (Scan.Stopped r o) (sym e) (λ m d. no-path cc) (ap (λ x. endOf x b) e)
 
-  module _ (l : o < length b) {t : Entry} {ds′ ts′ ks′ : List ℕ} {rs′ : List Bool} {es′ : List ℕ} (E : Entered t b o n ds ts es ds′ ts′ ks′ rs′ es′) where
-    pub refuses : {r : Refusal} → t ≡ Entry.Fault r → ScannedWith (Scan.Stopped r o) b ds′ ts′ ks′ rs′ es′
+  module _ (l : o < length b) {t : Entry} {ds′ ts′ ks′ : List ℕ} {rs′ : List Bool} {es′ ms′ : List ℕ} (E : Entered t b o n ds ts es ds′ ts′ ks′ rs′ es′ ms′) where
+    pub refuses : {r : Refusal} → t ≡ Entry.Fault r → ScannedWith (Scan.Stopped r o) b ds′ ts′ ks′ rs′ es′ ms′
     refuses {r} d =
         let a = ap (λ x. entryOf x b o ds′ ts′ es′) (sym d) ∙ E .answer in
         let e = going-stop o L (S .going) l r (told-fault r _ o _ a) in
@@ -78,11 +83,12 @@ module _ {b : List ℕ} {o : ℕ} {n : Counts} {ds ts ks : List ℕ} {rs : List 
                 counts = n;
                 counted = λ m f. no-path cc;
                 holds = rw (ap (λ x. endOf x b) e) (record { reached = rw (E .kept r d) (S .holds .reached); tables = rw c at (E .tables) });
+                marks = rw c at (E .marks);
               };
           filter = rw c at (E .filter);
         }
 
-    pub goes-on : {m : Counts} → t ≡ Entry.Laid m → {q k : ℕ} → headAt b o ≡ Head.Record q k → Stage b (o + q) m ds′ ts′ ks′ rs′ es′
+    pub goes-on : {m : Counts} → t ≡ Entry.Laid m → {q k : ℕ} → headAt b o ≡ Head.Record q k → Stage b (o + q) m ds′ ts′ ks′ rs′ es′ ms′
     goes-on {m} d {q} {k} h =
         let W = whole-of b o q k h in
         let a = ap (λ x. entryOf x b o ds′ ts′ es′) (sym d) ∙ E .answer in
@@ -93,5 +99,6 @@ module _ {b : List ℕ} {o : ℕ} {n : Counts} {ds ts ks : List ℕ} {rs : List 
           inside = W .inside;
           holds = record { reached = rw (W .len, z .1) (Reached.next (S .holds .reached) l (z .0)); tables = rw c at (E .tables) };
           filter = rw c at (E .filter);
+          marks = rw c at (E .marks);
           going = rw (W .len, z .1) g;
         }

@@ -19,9 +19,9 @@ use Rattle.check_records.specs.Heads.{fieldBytes, fieldsAt}
 use Rattle.check_records.proofs.Codes.{known-code, times-in}
 use Rattle.check_records.proofs.Heads.{Whole}
 use Rattle.check_records.proofs.Parts.{bytes-length}
-use Rattle.check_layout.specs.Numbers.{lengthFits, rangeFits, numberTests}
+use Rattle.check_ranges.specs.Numbers.{lengthFits, rangeFits, numberTests}
 use Rattle.check_layout.specs.Tables.{layoutOf, Tables}
-use Rattle.check_layout.proofs.Numbers.{four, fits-size}
+use Rattle.check_ranges.proofs.Numbers.{four, fits-size}
 use Rattle.check_layout.proofs.Parts.{classes-past, past-both, all-part}
 use Rattle.check_layout.proofs.Sections.{right-length, order-law, room-law}
 use Rattle.check_layout.proofs.Kept.{type-count, domain-count, term-count}

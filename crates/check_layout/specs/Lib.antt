@@ -1,4 +1,3 @@
--- What the functions of the layout are proved equal to: tests on the bytes of a record's fields and on the counts, and the tables of records as the definition's layout.
-pub mod Fields
-pub mod Numbers
+-- What the functions of the layout are proved equal to: 8 as tests on numbers, and the tables of records as the definition's layout.
+pub mod NewTypes
 pub mod Tables

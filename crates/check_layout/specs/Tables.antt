@@ -16,14 +16,16 @@ use Rattle.image.specs.Types.{typePlace}
 use Rattle.calculus.specs.Combinators.{choose}
 use Rattle.check_records.specs.declared.numbers.Counts.{Counts}
 use Rattle.check_records.specs.declared.reader.Head.{Head}
-use Rattle.check_records.specs.Counts.{Few}
-use Rattle.check_records.specs.Heads.{headAt, fieldBytes, IsWhole}
+use Rattle.check_records.specs.Counts.{Few, withTerm}
+use Rattle.check_records.specs.Heads.{headAt, fieldBytes, IsWhole, childrenOf}
 use Rattle.check_records.specs.Codes.{kindCodes}
 use Rattle.check_records.specs.Descriptors.{Describes}
+use Rattle.check_marks.specs.Marks.{entered, marksOf}
 use Rattle.check_layout.specs.declared.Scan.{Scan}
 use Rattle.check_layout.specs.declared.Entry.{Entry}
-use Rattle.check_layout.specs.declared.tests.Tested.{Tested}
-use Rattle.check_layout.specs.Numbers.{newType, toldOf}
+use Rattle.check_ranges.specs.declared.tests.Tested.{Tested}
+use Rattle.check_layout.specs.NewTypes.{newType}
+use Rattle.check_ranges.specs.Numbers.{toldOf, numberTests}
 
 -- The layout of an image b of which the tables of domains, types and terms hold so many records.
 abbrev pub layoutOf : List ℕ → Counts → List ℕ → List ℕ → List ℕ → Layout
@@ -83,8 +85,12 @@ pub data Reached (b : List ℕ) : ℕ → Layout → Type 0 where
   start : Reached b 0 (nothing b)
   next : {o : ℕ} {L : Layout} → Reached b o L → o < length b → firstFault (tests L o) ≡ none → Reached b (o + lengthAt b o) (add (kindAt b o) o L)
 
+-- The marks of the terms that the tables hold.
+abbrev pub Marks : List ℕ → Counts → List ℕ → List ℕ → List ℕ → List ℕ → Type 0
+Marks b n ds ts es ms = ms ≡ marksOf (layoutOf b n ds ts es) (n .terms)
+
 -- A record of q bytes and of kind k at o, in an image b: its fields are fs.
-pub record Entering (b fs kinds : List ℕ) (o q k : ℕ) (n : Counts) (ds ts ks : List ℕ) (rs : List Bool) (es : List ℕ) : Type 0 where
+pub record Entering (b fs kinds : List ℕ) (o q k : ℕ) (n : Counts) (ds ts ks : List ℕ) (rs : List Bool) (es ms : List ℕ) : Type 0 where
   pub head : headAt b o ≡ Head.Record q k
   pub fields : fs ≡ fieldBytes b o q
   pub short : length b ≤ imageLimit
@@ -92,20 +98,37 @@ pub record Entering (b fs kinds : List ℕ) (o q k : ℕ) (n : Counts) (ds ts ks
   pub tables : Tables b n ds ts ks es
   pub filter : Filters (n .types) ks rs
   pub reached : Reached b o (layoutOf b n ds ts es)
+  pub marks : Marks b n ds ts es ms
 
-pub record Entered (r : Entry) (b : List ℕ) (o : ℕ) (n : Counts) (ds ts es ds′ ts′ ks′ : List ℕ) (rs′ : List Bool) (es′ : List ℕ) : Type 0 where
+pub record Entered (r : Entry) (b : List ℕ) (o : ℕ) (n : Counts) (ds ts es ds′ ts′ ks′ : List ℕ) (rs′ : List Bool) (es′ ms′ : List ℕ) : Type 0 where
   pub answer : entryOf r b o ds′ ts′ es′ ≡ entering (firstFault (tests (layoutOf b n ds ts es) o)) o (add (kindAt b o) o (layoutOf b n ds ts es))
   pub kept : (q : Refusal) → r ≡ Entry.Fault q → layoutOf b n ds′ ts′ es′ ≡ layoutOf b n ds ts es
   pub tables : Tables b (countsBehind r n) ds′ ts′ ks′ es′
   pub filter : Filters (countsBehind r n .types) ks′ rs′
+  pub marks : Marks b (countsBehind r n) ds′ ts′ es′ ms′
 
 -- What enter is lent, and what it does.
-pub record Enterable (b fs kinds : List ℕ) (o k : ℕ) (n : Counts) (ds ts ks : List ℕ) (rs : List Bool) (es : List ℕ) : Type 0 where
+pub record Enterable (b fs kinds : List ℕ) (o k : ℕ) (n : Counts) (ds ts ks : List ℕ) (rs : List Bool) (es ms : List ℕ) : Type 0 where
   pub len : ℕ
-  pub is : Entering b fs kinds o len k n ds ts ks rs es
+  pub is : Entering b fs kinds o len k n ds ts ks rs es ms
 
-pub record Enters (r : Entry) (b fs kinds : List ℕ) (o k : ℕ) (n : Counts) (ds ts ks : List ℕ) (rs : List Bool) (es ds′ ts′ ks′ : List ℕ) (rs′ : List Bool) (es′ : List ℕ) : Type 0 where
-  pub entered : (q : ℕ) → Entering b fs kinds o q k n ds ts ks rs es → Entered r b o n ds ts es ds′ ts′ ks′ rs′ es′
+pub record Enters (r : Entry) (b fs kinds : List ℕ) (o k : ℕ) (n : Counts) (ds ts ks : List ℕ) (rs : List Bool) (es ms ds′ ts′ ks′ : List ℕ) (rs′ : List Bool) (es′ ms′ : List ℕ) : Type 0 where
+  pub entered : (q : ℕ) → Entering b fs kinds o q k n ds ts ks rs es ms → Entered r b o n ds ts es ds′ ts′ ks′ rs′ es′ ms′
+
+-- The answer to a term that 4 to 7 refuse or not, and what stands behind it: the old or the new.
+abbrev pub entryFor : Option Refusal → Counts → Entry
+entryFor (some r) n = Entry.Fault r
+entryFor none n = Entry.Laid n
+
+abbrev pub behind : Entry → List ℕ → List ℕ → List ℕ
+behind (Entry.Fault r) old new = old
+behind (Entry.Laid n) old new = new
+
+-- What enter_term does with a term at o, whose fields are fs and whose kind has the code x.
+pub record EntersTerm (r : Entry) (fs : List ℕ) (x o : ℕ) (n : Counts) (es ms es′ ms′ : List ℕ) : Type 0 where
+  pub answer : r ≡ entryFor (firstFault (numberTests fs x n)) (withTerm n)
+  pub terms : es′ ≡ behind r es (set es (n .terms) o)
+  pub marks : ms′ ≡ behind r ms (entered (childrenOf x fs) (n .terms) ms)
 
 -- What scan_records is lent.
 pub record Lent (b kinds ds ts ks es : List ℕ) : Type 0 where
@@ -128,13 +151,14 @@ pub record Holds (b : List ℕ) (o : ℕ) (n : Counts) (ds ts ks es : List ℕ) 
   pub tables : Tables b n ds ts ks es
 
 -- All records, where none is refused; else those before the refused one.
-pub record Scanned (r : Scan) (b ds ts ks es : List ℕ) : Type 0 where
+pub record Scanned (r : Scan) (b ds ts ks es ms : List ℕ) : Type 0 where
   pub answer : scanOf r b ds ts es ≡ layout b
   pub counts : Counts
   pub counted : (n : Counts) → r ≡ Scan.Laid n → counts ≡ n
   pub holds : Holds b (endOf (layout b) b) counts ds ts ks es
+  pub marks : Marks b counts ds ts es ms
 
 -- The same of a scan with a filter, which then has the descriptors of the types.
-pub record ScannedWith (r : Scan) (b ds ts ks : List ℕ) (rs : List Bool) (es : List ℕ) : Type 0 where
-  pub scanned : Scanned r b ds ts ks es
+pub record ScannedWith (r : Scan) (b ds ts ks : List ℕ) (rs : List Bool) (es ms : List ℕ) : Type 0 where
+  pub scanned : Scanned r b ds ts ks es ms
   pub filter : Filters (scanned .counts .types) ks rs

@@ -1,15 +1,16 @@
 // An inner crate: the refusals 2 to 8 (document 01, "Turned back at the gate"), record by record, front to back, and the
 // tables of the records that are not refused.
 use check_records::numbers::Counts;
-ghost use Prim.Native.Nat.{_≤_};
-ghost use lib.ListN.{length};
-ghost use Rattle.check_layout.specs.Tables.{remainders, Lent, Scanned, ScannedWith, Enterable, Enters};
+ghost use mathlib.Core.Path.{_≡_};
+ghost use Prim.Native.Nat.{_≤_, _<_};
+ghost use lib.ListN.{length, replicate};
+ghost use Rattle.image.specs.Limits.{termLimit};
+ghost use Rattle.check_records.specs.Counts.{Few};
+ghost use Rattle.check_ranges.specs.Terms.{TermFields};
+ghost use Rattle.check_layout.specs.Tables.{remainders, Lent, Scanned, ScannedWith, Enterable, Enters, EntersTerm};
 
-pub mod fields;
 pub mod objects;
 pub mod places;
-pub mod ranges;
-pub mod tests;
 
 // Refused, at a record's offset; or all records are in the tables, so many of each section.
 pub enum Scan {
@@ -21,6 +22,28 @@ pub enum Scan {
 pub enum Entry {
     Fault(image::Refusal),
     Laid(Counts),
+}
+
+// A term: 4 to 7, its marks, and its place in its table.
+fn enter_term(
+    fields: &[u8],
+    code: u32,
+    at: usize,
+    counts: Counts,
+    terms: &mut [u16],
+    marks: &mut [u8],
+) -> Entry
+    requires { ⌜ TermFields (now fields) code counts × (length (now fields) ≤ 65535) × (at < 65536) × Few counts × (termLimit ≤ length (now terms)) × (termLimit ≤ length (now marks)) ⌝ }
+    ensures { λ r. ⌜ EntersTerm r (now (fields .entry)) code at counts (now (terms .entry)) (now (marks .entry)) (now (terms .exit)) (now (marks .exit)) ⌝ }
+{
+    let tested = check_ranges::terms::term_fault(fields, code, counts, marks);
+    match tested {
+        check_ranges::tests::Tested::Fault(why) => Entry::Fault(why),
+        check_ranges::tests::Tested::Passed => {
+            places::put_term(at, counts.next_term(), terms);
+            Entry::Laid(counts.with_term())
+        }
+    }
 }
 
 // One record of the image: 3 to 8, and its place in its table. It is lent the record's fields.
@@ -36,27 +59,27 @@ fn enter(
     descriptors: &mut [u32],
     filter: &mut [bool],
     terms: &mut [u16],
+    marks: &mut [u8],
 ) -> Entry
-    requires { ⌜ Enterable (now image) (now fields) (now kinds) at kind counts (now doms) (now types) (now descriptors) (now filter) (now terms) ⌝ }
-    ensures { λ r. ⌜ Enters r (now (image .entry)) (now (fields .entry)) (now (kinds .entry)) at kind counts (now (doms .entry)) (now (types .entry)) (now (descriptors .entry)) (now (filter .entry)) (now (terms .entry)) (now (doms .exit)) (now (types .exit)) (now (descriptors .exit)) (now (filter .exit)) (now (terms .exit)) ⌝ }
+    requires { ⌜ Enterable (now image) (now fields) (now kinds) at kind counts (now doms) (now types) (now descriptors) (now filter) (now terms) (now marks) ⌝ }
+    ensures { λ r. ⌜ Enters r (now (image .entry)) (now (fields .entry)) (now (kinds .entry)) at kind counts (now (doms .entry)) (now (types .entry)) (now (descriptors .entry)) (now (filter .entry)) (now (terms .entry)) (now (marks .entry)) (now (doms .exit)) (now (types .exit)) (now (descriptors .exit)) (now (filter .exit)) (now (terms .exit)) (now (marks .exit)) ⌝ }
 {
     let code = check_records::kinds::code_of(kinds, kind);
     if code == 0 {
         return Entry::Fault(image::Refusal::UnknownKind);
     }
-    let tested = tests::first_fault(fields, code, counts);
+    if check_records::kinds::is_term(code) {
+        return enter_term(fields, code, at, counts, terms, marks);
+    }
+    let tested = check_ranges::tests::first_fault(fields, code, counts);
     match tested {
-        tests::Tested::Fault(why) => {
+        check_ranges::tests::Tested::Fault(why) => {
             return Entry::Fault(why);
         }
-        tests::Tested::Passed => {}
-    }
-    if check_records::kinds::is_term(code) {
-        places::put_term(at, counts.next_term(), terms);
-        return Entry::Laid(counts.with_term());
+        check_ranges::tests::Tested::Passed => {}
     }
     if check_records::kinds::section_of(code) == check_records::kinds::TYPES {
-        let descriptor = fields::descriptor_of(fields, code, kind);
+        let descriptor = check_fields::descriptor_of(fields, code, kind);
         let new = places::put_type(
             image,
             fields,
@@ -68,10 +91,10 @@ fn enter(
             filter,
         );
         match new {
-            tests::Tested::Fault(why) => {
+            check_ranges::tests::Tested::Fault(why) => {
                 return Entry::Fault(why);
             }
-            tests::Tested::Passed => {
+            check_ranges::tests::Tested::Passed => {
                 return Entry::Laid(counts.with_type());
             }
         }
@@ -89,9 +112,10 @@ fn scan_with(
     descriptors: &mut [u32],
     filter: &mut [bool],
     terms: &mut [u16],
+    marks: &mut [u8],
 ) -> Scan
-    requires { ⌜ Lent (now image) (now kinds) (now doms) (now types) (now descriptors) (now terms) × (remainders ≤ length (now filter)) ⌝ }
-    ensures { λ r. ⌜ ScannedWith r (now (image .entry)) (now (doms .exit)) (now (types .exit)) (now (descriptors .exit)) (now (filter .exit)) (now (terms .exit)) ⌝ }
+    requires { ⌜ Lent (now image) (now kinds) (now doms) (now types) (now descriptors) (now terms) × (remainders ≤ length (now filter)) × (now marks ≡ replicate termLimit 0) ⌝ }
+    ensures { λ r. ⌜ ScannedWith r (now (image .entry)) (now (doms .exit)) (now (types .exit)) (now (descriptors .exit)) (now (filter .exit)) (now (terms .exit)) (now (marks .exit)) ⌝ }
 {
     let mut at: usize = 0;
     let mut counts = Counts::none();
@@ -112,6 +136,7 @@ fn scan_with(
                     descriptors,
                     filter,
                     terms,
+                    marks,
                 );
                 match entered {
                     Entry::Fault(why) => {
@@ -141,10 +166,20 @@ pub fn scan_records(
     types: &mut [u16],
     descriptors: &mut [u32],
     terms: &mut [u16],
+    marks: &mut [u8],
 ) -> Scan
-    requires { ⌜ Lent (now image) (now kinds) (now doms) (now types) (now descriptors) (now terms) ⌝ }
-    ensures { λ r. ⌜ Scanned r (now (image .entry)) (now (doms .exit)) (now (types .exit)) (now (descriptors .exit)) (now (terms .exit)) ⌝ }
+    requires { ⌜ Lent (now image) (now kinds) (now doms) (now types) (now descriptors) (now terms) × (now marks ≡ replicate termLimit 0) ⌝ }
+    ensures { λ r. ⌜ Scanned r (now (image .entry)) (now (doms .exit)) (now (types .exit)) (now (descriptors .exit)) (now (terms .exit)) (now (marks .exit)) ⌝ }
 {
     let mut filter = [false; 256];
-    scan_with(image, kinds, doms, types, descriptors, &mut filter, terms)
+    scan_with(
+        image,
+        kinds,
+        doms,
+        types,
+        descriptors,
+        &mut filter,
+        terms,
+        marks,
+    )
 }

@@ -1,20 +1,34 @@
-// 8, where a type may have more fields than its descriptor: the types of objects (document 02, card 3).
-use crate::tests::is_new;
+// 8: no two types are equal. A type of objects may have more fields than its descriptor (document 02, card 3).
 use check_records::fields::field;
 use check_records::numbers::TypeNo;
 use check_records::numbers::descriptor_kind;
 use check_records::numbers::type_descriptor;
 use check_records::numbers::type_offset;
 use check_records::reader::fields_at;
+use laws::both;
 ghost use mathlib.Core.Path.{_≡_};
 ghost use Prim.Native.Nat.{_≤_, _<_};
 ghost use lib.ListN.{length, getD};
 ghost use Rattle.check_records.specs.Heads.{IsWhole};
-ghost use Rattle.check_layout.specs.Numbers.{sameFields, sameObject, newObject, newType};
+ghost use Rattle.check_layout.specs.NewTypes.{newDescriptor, sameFields, sameObject, newObject, newType};
 ghost use Rattle.check_layout.specs.Tables.{Placed};
 
 // The kind of an object's type.
 const OBJECT_TYPE: u16 = 25;
+
+// 8: the descriptor is that of no type before t. All are compared, with no way out of the loop: so several are compared at once.
+pub fn is_new(descriptors: &[u32], t: TypeNo, descriptor: u32) -> bool
+    requires { ⌜ t .0 ≤ length (now descriptors) ⌝ }
+    ensures { λ r. ⌜ r ≡ newDescriptor (t .0) (now (descriptors .entry)) descriptor ⌝ }
+{
+    let mut new = true;
+    let mut i: u16 = 0;
+    while i < t.0 {
+        new = both(new, descriptor != type_descriptor(descriptors, TypeNo(i)));
+        i += 1;
+    }
+    new
+}
 
 // The fields of two records have the same length and the same numbers.
 fn same_fields(a: &[u8], b: &[u8]) -> bool

@@ -36,19 +36,19 @@ pub fn put_type(
     types: &mut [u16],
     descriptors: &mut [u32],
     filter: &mut [bool],
-) -> crate::tests::Tested
+) -> check_ranges::tests::Tested
     requires { ⌜ (at < 65536) × (t .0 < length (now types)) × (t .0 < length (now descriptors)) × Filters (t .0) (now descriptors) (now filter) × Placed (now image) (t .0) (now types) ⌝ }
     ensures { λ r. ⌜ PutType r (now (image .entry)) (now (fields .entry)) at descriptor (t .0) (now (types .entry)) (now (descriptors .entry)) (now (filter .entry)) (now (types .exit)) (now (descriptors .exit)) (now (filter .exit)) ⌝ }
 {
     let remainder = (descriptor % REMAINDERS) as usize;
     if filter[remainder] {
         if !crate::objects::is_new_type(image, fields, descriptor, t, types, descriptors) {
-            return crate::tests::Tested::Fault(image::Refusal::RepeatedType);
+            return check_ranges::tests::Tested::Fault(image::Refusal::RepeatedType);
         }
     }
     let i = t.0 as usize;
     types[i] = at as u16;
     descriptors[i] = descriptor;
     filter[remainder] = true;
-    crate::tests::Tested::Passed
+    check_ranges::tests::Tested::Passed
 }

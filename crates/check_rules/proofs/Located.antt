@@ -67,6 +67,10 @@ module _ {b table : List ℕ} (T : Terms b table) {n : ℕ} (h : IsTerm b n) whe
   pub kind-is : (k : TermKind) → numberAt b o ≡ termRow k .number → kind ≡ k
   kind-is k e = same-term-kind kind k (sym number-is ∙ e)
 
+  -- A number that was read there, and that is the number of k.
+  pub kind-read : (q : ℕ) → q ≡ numberAt b o → (k : TermKind) → q ≡ termRow k .number → kind ≡ k
+  kind-read q e k f = kind-is k (sym e ∙ f)
+
   pub number-from : 32 ≤ numberAt b o
   number-from = rw number-is (from-32 kind)
 

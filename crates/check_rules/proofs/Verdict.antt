@@ -1,6 +1,6 @@
 -- The rule of a term on its fields comes to the definition's verdict; and its children stand where the definition says.
 use Prim.Native.Nat.{ℕ, _-_, _≤_, _<_}
-use mathlib.Core.Path.{_≡_, sym, ap}
+use mathlib.Core.Path.{_≡_, sym, ap, _∙_}
 use mathlib.Core.Bool.{true}
 use mathlib.Core.List.{List}
 use lib.ListN.{length, getD}
@@ -33,6 +33,10 @@ module _ {b table : List ℕ} (T : Terms b table) {n : ℕ} (h : IsTerm b n) {k 
   pub verdict-in : judged (termPlace (recordsOf b) n) (ruleIn b (fieldsOf b n) k p) ≡ ruleVerdict (recordsOf b) p n
   unfolding ruleVerdict
   verdict-in = ap (judged (termPlace (recordsOf b) n)) rule-in
+
+  -- What a rule answers at the term's place, on its fields.
+  pub answered-in : {at : ℕ} {fs : List ℕ} {r : Verdict} → at ≡ termPlace (recordsOf b) n → fs ≡ fieldsOf b n → r ≡ judged at (ruleIn b fs k p) → r ≡ ruleVerdict (recordsOf b) p n
+  answered-in {at} {fs} e f g = g ∙ ap (λ q. judged q (ruleIn b fs k p)) e ∙ ap (λ q. judged (termPlace (recordsOf b) n) (ruleIn b q k p)) f ∙ verdict-in
 
   pub setting-in : (i : ℕ) → settingFrom b (fieldsOf b n) k p i ≡ settingAt (recordsOf b) p n i
   setting-in i =

@@ -48,11 +48,6 @@ from-first r place ok n f h before e = go f (omega arith) ∙ from-here r place 
     go zero l = from-start r place ok n
     go (suc i) l = let w : i + 1 ≡ suc i = omega arith in go i (omega arith) ∙ rw w at (from-next r place ok n i (omega arith) (before i (omega arith)))
 
--- One more test.
-pub below-more : (n : ℕ) (ok : ℕ → Bool) (b t : Bool) → b ≡ allBelow n ok → t ≡ (b && ok n) → t ≡ allBelow (n + 1) ok
-unfolding allBelow
-below-more n ok b t e h = let w : n + 1 ≡ suc n = omega arith in rw w (h ∙ ap (λ x. x && ok n) e)
-
 -- The same places and the same tests give the same answer.
 pub from-same : (r : Refusal) (p q : ℕ → ℕ) (f g : ℕ → Bool) (n i : ℕ) → ((k : ℕ) → k < i + n → p k ≡ q k) → ((k : ℕ) → k < i + n → f k ≡ g k)
     → requireFrom n i r p f ≡ requireFrom n i r q g

@@ -13,8 +13,9 @@ use Rattle.image.specs.Limits.{depthLimit}
 use Rattle.image.specs.Records.{Layout}
 use Rattle.image.specs.Types.{children}
 use Rattle.verdict.specs.Shape.{setAll, depthsFrom, depths}
+use Rattle.check_marks.specs.Marks.{more}
 use Rattle.check_shape.specs.Records.{TermsOf}
-use Rattle.check_shape.specs.Marks.{more, cappedFrom, deepFrom}
+use Rattle.check_shape.specs.Depths.{cappedFrom, deepFrom}
 use Rattle.check_shape.specs.Checks.{noTermDeep}
 use Rattle.check_shape.proofs.Answers.{from-same}
 use Rattle.check_shape.proofs.Zeros.{zeros-front}
@@ -30,9 +31,6 @@ module _ (es ds : List ℕ) (d j : ℕ) where
 pub set-append : (es gs ds : List ℕ) (d : ℕ) → setAll (es ++ gs) d ds ≡ setAll gs d (setAll es d ds)
 set-append [] gs ds d = refl
 set-append (e ∷ es) gs ds d = set-append es gs (set ds e d) d
-
-pub set-none : (es ds : List ℕ) (d : ℕ) → es ≡ [] → ds ≡ setAll es d ds
-set-none es ds d e = rw e refl
 
 -- One term after another, down.
 pub capped-next : (L : Layout) (i : ℕ) (ds es : List ℕ) → 0 < i → children L (i - 1) ≡ es → cappedFrom L i ds ≡ cappedFrom L (i - 1) (setAll es (more (suc depthLimit) (getD ds (i - 1) 0)) ds)

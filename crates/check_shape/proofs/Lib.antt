@@ -3,6 +3,6 @@ pub mod Orders
 pub mod Named
 pub mod Answers
 pub mod TermRecords
-pub mod UseCounts
+pub mod MarkedTerms
 pub mod DepthMarks
 pub mod Zeros

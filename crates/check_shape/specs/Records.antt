@@ -1,17 +1,16 @@
 -- What the tables hold of an image that is laid out (document 01, "The image"), as the passes need it: where its domains and its terms stand, and the fields of each.
 use Prim.Native.Nat.{ℕ, _≤_, _<_}
 use mathlib.Core.Path.{_≡_}
-use mathlib.Core.Bool.{Bool, not, _||_}
 use mathlib.Core.List.{List}
 use lib.ListN.{length, getD}
-use lib.Dec.{eqb}
 use Rattle.image.specs.Limits.{domainLimit, termLimit}
 use Rattle.image.specs.Bytes.{numberAt, lengthAt}
 use Rattle.image.specs.Records.{Layout}
-use Rattle.image.specs.Layout.{recordsOf}
+use Rattle.image.specs.Layout.{laid, layout, recordsOf}
 use Rattle.image.specs.Types.{children}
-use Rattle.check_records.specs.Codes.{codeCount, codeAt, firstChildrenOf, groupOf}
+use Rattle.check_records.specs.Codes.{codeCount, codeAt}
 use Rattle.check_records.specs.Heads.{IsWhole, fieldsAt, Fitting, childrenOf}
+use Rattle.check_marks.specs.Marks.{Lower, allMarks}
 
 -- The record at o is a whole one, and has a mask.
 pub record DomainAt (b : List ℕ) (o : ℕ) : Type 0 where
@@ -35,16 +34,9 @@ pub record TermAt (b : List ℕ) (o : ℕ) : Type 0 where
   pub whole : IsWhole b o
   pub fitting : Fitting (codeAt (numberAt b o)) (fieldsAt b o)
 
--- A kind with the code x may have children: among its first fields, or in its group.
-abbrev pub mayHaveChildren : ℕ → Bool
-mayHaveChildren x = not (eqb (firstChildrenOf x) 0) || not (eqb (groupOf x) 0)
-
+-- The children of the term at o.
 abbrev pub childrenOfTerm : List ℕ → ℕ → List ℕ
 childrenOfTerm b o = childrenOf (codeAt (numberAt b o)) (fieldsAt b o)
-
--- Each of the numbers is below n.
-pub record Lower (n : ℕ) (es : List ℕ) : Type 0 where
-  pub at : (j : ℕ) → j < length es → getD es j 0 < n
 
 -- The offsets ts are those of the terms of a layout of the image b; a term's children are lower terms.
 pub record TermsOf (L : Layout) (b ts : List ℕ) : Type 0 where
@@ -56,3 +48,8 @@ pub record TermsOf (L : Layout) (b ts : List ℕ) : Type 0 where
 
 abbrev pub Terms : List ℕ → List ℕ → Type 0
 Terms b ts = TermsOf (recordsOf b) b ts
+
+-- The image b is laid out, and ms are the marks of its terms.
+pub record Marked (b ms : List ℕ) : Type 0 where
+  pub laid-out : layout b ≡ laid (recordsOf b)
+  pub marks : ms ≡ allMarks b

@@ -1,6 +1,10 @@
 // An inner crate: refusals 9 to 12, once the records are laid out (document 01, "Turned back at the gate"). Each pass is
 // linear in the image.
+use check_marks::marks::mark_of;
+use check_marks::uses::first_misused;
 use check_records::numbers::Counts;
+use check_records::numbers::TermNo;
+use check_records::numbers::term_offset;
 use image::Refusal;
 use verdict::Verdict;
 use verdict::is_refused;
@@ -12,15 +16,14 @@ ghost use lib.Dec.{ltb};
 ghost use Rattle.image.specs.Layout.{recordsOf};
 ghost use Rattle.verdict.specs.Shape.{shape};
 ghost use Rattle.check_records.specs.Codes.{kindCodes};
-ghost use Rattle.check_shape.specs.Records.{Domains, Terms};
-ghost use Rattle.check_shape.specs.Checks.{passes};
+ghost use Rattle.check_marks.specs.Marks.{allMarks};
+ghost use Rattle.check_shape.specs.Records.{Domains, Terms, Marked};
+ghost use Rattle.check_shape.specs.Checks.{termsRight, passes};
 ghost use Rattle.check_shape.specs.Counted.{Counted};
 
 pub mod depths;
 pub mod descent;
-pub mod marks;
 pub mod order;
-pub mod uses;
 
 fn none_empty(n: Counts) -> bool
     ensures { λ r. ⌜ r ≡ (ltb 0 (n .domains) && (ltb 0 (n .types) && ltb 0 (n .terms))) ⌝ }
@@ -28,16 +31,33 @@ fn none_empty(n: Counts) -> bool
     0 < n.domains && (0 < n.types && 0 < n.terms)
 }
 
+// Refusals 11 and 12, by the marks of the terms. Where each term but the root is used once, none is deeper than the root is high: so
+// the depths are only asked for where the root is too high.
+fn check_terms(image: &[u8], kinds: &[u32], terms: &[u16], marks: &[u8]) -> Verdict
+    requires { ⌜ (now kinds ≡ kindCodes) × Terms (now image) (now terms) × (0 < length (now terms)) × Marked (now image) (now marks) ⌝ }
+    ensures { λ r. ⌜ r ≡ termsRight (recordsOf (now (image .entry))) ⌝ }
+{
+    let root = TermNo((terms.len() - 1) as u16);
+    let first = first_misused(marks, root);
+    if first.0 < root.0 {
+        return Verdict::Refused(Refusal::UseCount, term_offset(terms, first));
+    }
+    if mark_of(marks, root) <= depths::DEPTH_LIMIT {
+        return Verdict::Accepted;
+    }
+    descent::check_depths(image, kinds, terms)
+}
+
 // Refusals 10 to 12, with the offsets of the domains and of the terms.
-fn check_passes(image: &[u8], kinds: &[u32], doms: &[u16], terms: &[u16]) -> Verdict
-    requires { ⌜ (now kinds ≡ kindCodes) × Domains (now image) (now doms) × Terms (now image) (now terms) × (0 < length (now terms)) ⌝ }
+fn check_passes(image: &[u8], kinds: &[u32], doms: &[u16], terms: &[u16], marks: &[u8]) -> Verdict
+    requires { ⌜ (now kinds ≡ kindCodes) × Domains (now image) (now doms) × Terms (now image) (now terms) × (0 < length (now terms)) × Marked (now image) (now marks) ⌝ }
     ensures { λ r. ⌜ r ≡ passes (recordsOf (now (image .entry))) ⌝ }
 {
     let order = order::check_order(image, doms);
     if is_refused(order) {
         return order;
     }
-    descent::check_terms(image, kinds, terms)
+    check_terms(image, kinds, terms, marks)
 }
 
 // Refusals 9 to 12, with the tables that hold the offsets in their first places.
@@ -47,8 +67,9 @@ pub fn check_shape(
     counts: Counts,
     doms: &[u16],
     terms: &[u16],
+    marks: &[u8],
 ) -> Verdict
-    requires { ⌜ (now kinds ≡ kindCodes) × Counted (now image) counts (now doms) (now terms) ⌝ }
+    requires { ⌜ (now kinds ≡ kindCodes) × Counted (now image) counts (now doms) (now terms) × (now marks ≡ allMarks (now image)) ⌝ }
     ensures { λ r. ⌜ r ≡ shape (recordsOf (now (image .entry))) (length (now (image .entry))) ⌝ }
 {
     if !none_empty(counts) {
@@ -56,5 +77,5 @@ pub fn check_shape(
     }
     let d = counts.domains;
     let t = counts.terms;
-    check_passes(image, kinds, &doms[..d], &terms[..t])
+    check_passes(image, kinds, &doms[..d], &terms[..t], marks)
 }

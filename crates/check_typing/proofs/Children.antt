@@ -18,7 +18,8 @@ use Rattle.check_rules.specs.Fields.{fieldsOf, childrenIn, countIn, ruleIn, set
 use Rattle.check_rules.specs.Judged.{ruleVerdict}
 use Rattle.check_rules.proofs.Located.{typed-in, children-in, child-lower, at-field-in, has-child, entries-in}
 use Rattle.check_rules.proofs.Verdict.{verdict-in}
-use Rattle.check_typing.specs.Turns.{bindLimit, Passed, Room}
+use Rattle.check_scopes.specs.Scopes.{bindLimit, Passed}
+use Rattle.check_typing.specs.Turns.{Room}
 use Rattle.check_typing.proofs.TermPass.{types-fit, front, front-next, front-stops, front-whole}
 use Rattle.check_typing.proofs.ScopeRoom.{child-room}
 

@@ -16,7 +16,7 @@ use Rattle.verdict.proofs.Answered.{last-turn}
 use Rattle.check_rules.specs.Lent.{contextIn, settingIn}
 use Rattle.check_typing.specs.Turns.{rootChecked, rootPlain, plainAt}
 use Rattle.check_records.specs.Leaves.{plainLeaves}
-use Rattle.check_typing.proofs.PlainTypes.{plain-is}
+use Rattle.check_leaves.proofs.PlainTypes.{plain-is}
 
 module _ (L : Layout) where
   pub root-checked : 0 < length (L .terms) → (scope : List ℕ) → checked L (settingIn scope 0 0) (rootOf L) ≡ rootChecked L

@@ -13,7 +13,8 @@ use Rattle.verdict.specs.Shape.{count, depths, Shaped}
 use Rattle.verdict.proofs.Depth.{depth-root, depth-child}
 use Rattle.check_rules.specs.Lent.{Terms, IsTerm}
 use Rattle.check_rules.proofs.Located.{good-of}
-use Rattle.check_typing.specs.Turns.{bindLimit, Room}
+use Rattle.check_scopes.specs.Scopes.{bindLimit}
+use Rattle.check_typing.specs.Turns.{Room}
 
 -- What stands in a list stands there once at least.
 stands-in : (es : List ℕ) (i : ℕ) → i < length es → 0 < count (getD es i 0) es

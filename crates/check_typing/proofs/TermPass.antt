@@ -142,10 +142,6 @@ module _ {b terms : List ℕ} (T : Terms b terms) {n : ℕ} (h : IsTerm b n) (p 
       go true e = refused-here (ruleVerdict (recordsOf b) p n) refl e
       go false e = let a = accepted-is (ruleVerdict (recordsOf b) p n) e in a ∙ front-start b (fieldsOf b n) k p ∙ front-whole a refl 0 (omega (arith, none))
 
--- What is kept of a scope is kept of its first places.
-pub take-fewer : (m n : ℕ) (xs ys : List ℕ) → m ≤ n → take n xs ≡ take n ys → take m xs ≡ take m ys
-take-fewer m n xs ys h e = sym (take-take m n xs h) ∙ ap (take m) e ∙ take-take m n ys h
-
 -- In a scope s that keeps the first places of the scope s₀ a term stands as in s₀.
 pub same-setting : (s₀ s : List ℕ) (len c : ℕ) → take len s ≡ take len s₀ → settingIn s len c ≡ settingIn s₀ len c
 same-setting s₀ s len c keep = ap (λ Γ. record { context = Γ; dom = c }) (context-kept s s₀ len keep)

@@ -14,10 +14,7 @@ ghost use Rattle.check_records.specs.Tables.{Tables, Counted};
 ghost use Rattle.check_rules.specs.Lent.{Lent, Masks, Terms, Types, TypeOffsets};
 ghost use Rattle.check_typing.specs.Turns.{rootChecked, rootPlain, plainAt};
 
-pub mod leaves;
-pub mod matches;
 pub mod pass;
-pub mod scope;
 
 // The root is the last term. It is checked with no variables, at domain 0. No term is deeper than 64 (refusal 12), and a level
 // binds nine variables at most, as a match does with eight entries (document 02, card 6), so a scope of 576 places is enough.
@@ -68,7 +65,7 @@ fn check_plain(
     ensures { λ r. ⌜ r ≡ rootPlain (recordsOf (now (image .entry))) ⌝ }
 {
     let root = TermNo((count - 1) as u16);
-    let n = leaves::type_leaves(
+    let n = check_leaves::type_leaves(
         image,
         descriptors,
         types,

@@ -1,19 +1,19 @@
 // 13, 14 and 15 at each term, parent before children, left first (document 01, "Turned back at the gate"). The check recurses
 // over a term's children, and the term number falls.
-use crate::scope::Setting;
-use crate::scope::child_setting;
-use crate::scope::moves_child;
+use check_dispatch::rule::check_rule;
 use check_records::numbers::DomainNo;
 use check_records::numbers::TermNo;
 use check_rules::leaf::check_leaf;
 use check_rules::leaf::is_leaf;
-use check_rules::rule::check_rule;
 use check_rules::terms::child_at_field;
 use check_rules::terms::child_count;
 use check_rules::terms::child_of;
 use check_rules::terms::lead_of;
 use check_rules::terms::term_fields;
 use check_rules::terms::term_kind;
+use check_scopes::scope::Setting;
+use check_scopes::scope::child_setting;
+use check_scopes::scope::moves_child;
 use verdict::Verdict;
 use verdict::is_refused;
 ghost use mathlib.Core.Path.{_≡_};

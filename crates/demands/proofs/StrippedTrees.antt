@@ -8,8 +8,8 @@ use Rattle.calculus.specs.Combinators.{choose}
 use Rattle.calculus.specs.Syntax.{Dom, Ty, Val, Tms, val, pcd, adv, lower, obj}
 use Rattle.calculus.specs.Plain.{domOf}
 use Rattle.calculus_stripped.specs.Strip.{strip, strips, stripVal}
-use Rattle.image.specs.Kinds.{TermKind}
-use Rattle.image.specs.Program.{Program, Programs, node, blank, end, more, nth, behind, assemble, toTm, toTms}
+use Rattle.image.specs.Kinds.{TermKind, Form, operator, formOf}
+use Rattle.image.specs.Program.{Program, Programs, node, blank, end, more, nth, behind, assemble, toTm, toTms, assembleAs}
 use Rattle.image.proofs.Blanked.{choose-not, same-choice}
 use Rattle.image_written.specs.Stripped.{idle, givesWay, stripped, strippeds}
 
@@ -31,39 +31,37 @@ module _ (high : Dom → Bool) where
   strips-behind (suc n) Tms.end = refl
   strips-behind (suc n) (Tms.more e es) = strips-behind n es
 
-  assembled : (k : TermKind) (t : Ty) (vs : List ℕ) (fs es : Tms) → Stripped (givesWay high k t vs) fs es → assemble k t vs fs ≡ strip high (assemble k t vs es)
-  unfolding assemble strip strips stripVal
-  assembled TermKind.unit t vs fs es h = refl
-  assembled TermKind.truth t vs fs es h = refl
-  assembled TermKind.number t vs fs es h = refl
-  assembled TermKind.var t vs fs es h = refl
-  assembled TermKind.seq t vs fs es h = cc (h .one 0, h .one 1)
-  assembled TermKind.print t vs fs es h = cc (h .one 0)
-  assembled TermKind.ite t vs fs es h = cc (h .one 0, h .one 1, h .one 2)
-  assembled TermKind.pair t vs fs es h = cc (h .one 0, h .one 1)
-  assembled TermKind.split t vs fs es h = cc (h .one 0, h .one 1)
-  assembled TermKind.fun t vs fs es h = cc (h .one 0)
-  assembled TermKind.app t vs fs es h = cc (h .one 0, h .one 1)
-  assembled TermKind.arith t vs fs es h = cc (h .one 0, h .one 1)
-  assembled TermKind.newLabel t vs fs es h = refl
-  assembled TermKind.mark t vs fs es h = cc (h .one 0, h .one 1)
-  assembled TermKind.pcd t vs fs es h = ap pcd (h .every (λ i. refl))
-  assembled TermKind.adv t vs fs es h =
+  assembled : {k : TermKind} (φ : Form k) (t : Ty) (vs : List ℕ) (fs es : Tms) → Stripped (givesWay high k t vs) fs es → assembleAs φ t vs fs ≡ strip high (assembleAs φ t vs es)
+  unfolding strip strips stripVal
+  assembled (operator o n r) t vs fs es h = refl
+  assembled Form.unit t vs fs es h = refl
+  assembled Form.truth t vs fs es h = refl
+  assembled Form.number t vs fs es h = refl
+  assembled Form.var t vs fs es h = refl
+  assembled Form.seq t vs fs es h = cc (h .one 0, h .one 1)
+  assembled Form.print t vs fs es h = cc (h .one 0)
+  assembled Form.ite t vs fs es h = cc (h .one 0, h .one 1, h .one 2)
+  assembled Form.pair t vs fs es h = cc (h .one 0, h .one 1)
+  assembled Form.split t vs fs es h = cc (h .one 0, h .one 1)
+  assembled Form.fun t vs fs es h = cc (h .one 0)
+  assembled Form.app t vs fs es h = cc (h .one 0, h .one 1)
+  assembled Form.arith t vs fs es h = cc (h .one 0, h .one 1)
+  assembled Form.mark t vs fs es h = cc (h .one 0, h .one 1)
+  assembled Form.pcd t vs fs es h = ap pcd (h .every (λ i. refl))
+  assembled Form.adv t vs fs es h =
       ap (λ x. adv (domOf t) x (nth fs 1)) (h .one 0)
       ∙ ap (adv (domOf t) (strip high (nth es 0))) (h .one 1 ∙ choose-not (high (domOf t)) (val Val.unit) (strip high (nth es 1)))
-  assembled TermKind.install t vs fs es h = cc (h .one 0)
-  assembled TermKind.newCell t vs fs es h = cc (h .one 0)
-  assembled TermKind.read t vs fs es h = cc (h .one 0)
-  assembled TermKind.store t vs fs es h = cc (h .one 0, h .one 1)
-  assembled TermKind.lower t vs fs es h = ap (lower (getD vs 0 0)) (h .one 0 ∙ choose-not (high (getD vs 0 0)) (val Val.unit) (strip high (nth es 0)))
-  assembled TermKind.abort t vs fs es h = refl
-  assembled TermKind.byte t vs fs es h = cc (h .one 0)
-  assembled TermKind.obj t vs fs es h = ap (obj t) (h .every (λ i. refl))
-  assembled TermKind.call t vs fs es h = cc (h .one 0)
-  assembled TermKind.stack t vs fs es h = refl
-  assembled TermKind.keep t vs fs es h = cc (h .one 0, h .one 1, h .one 2)
-  assembled TermKind.match t vs fs es h = let r = ap (behind 3) (h .every (match-stays t vs)) ∙ strips-behind 3 es in cc (h .one 0, h .one 1, h .one 2, r)
-  assembled TermKind.takedown t vs fs es h = refl
+  assembled Form.install t vs fs es h = cc (h .one 0)
+  assembled Form.newCell t vs fs es h = cc (h .one 0)
+  assembled Form.read t vs fs es h = cc (h .one 0)
+  assembled Form.store t vs fs es h = cc (h .one 0, h .one 1)
+  assembled Form.lower t vs fs es h = ap (lower (getD vs 0 0)) (h .one 0 ∙ choose-not (high (getD vs 0 0)) (val Val.unit) (strip high (nth es 0)))
+  assembled Form.byte t vs fs es h = cc (h .one 0)
+  assembled Form.obj t vs fs es h = ap (obj t) (h .every (λ i. refl))
+  assembled Form.call t vs fs es h = cc (h .one 0)
+  assembled Form.keep t vs fs es h = cc (h .one 0, h .one 1, h .one 2)
+  assembled Form.match t vs fs es h = let r = ap (behind 3) (h .every (match-stays t vs)) ∙ strips-behind 3 es in cc (h .one 0, h .one 1, h .one 2, r)
+  assembled Form.takedown t vs fs es h = refl
 
   -- One more subterm, which stands first.
   first-stripped : (low : ℕ → Bool) (e : Program) (es : Programs) → toTm (stripped high e) ≡ strip high (toTm e) → Stripped (λ i. low (suc i)) (toTms (strippeds high es (λ i. low (suc i)))) (toTms es)
@@ -83,10 +81,10 @@ module _ (high : Dom → Bool) where
       every n = let q = n 0 in let y = r .every (λ i. n (suc i)) in rw q (cc (h, y))
 
   mutual
-    unfolding toTm toTms stripped strippeds strip strips stripVal
+    unfolding toTm toTms assemble stripped strippeds strip strips stripVal
 
     pub stripped-term : (e : Program) → toTm (stripped high e) ≡ strip high (toTm e)
-    stripped-term (node k t vs es) = assembled k t vs (toTms (strippeds high es (givesWay high k t vs))) (toTms es) (stripped-terms es (givesWay high k t vs))
+    stripped-term (node k t vs es) = assembled (formOf k) t vs (toTms (strippeds high es (givesWay high k t vs))) (toTms es) (stripped-terms es (givesWay high k t vs))
     stripped-term blank = refl
 
     stripped-terms : (es : Programs) (low : ℕ → Bool) → Stripped low (toTms (strippeds high es low)) (toTms es)

@@ -3,8 +3,6 @@ pub mod UnpaidExample
 pub mod Sheet
 pub mod Mainline
 pub mod Example
-pub mod TakedownExample
 pub mod RoomExample
 pub mod NewestFirstExample
 pub mod ForecastExample
-pub mod StrippedExample

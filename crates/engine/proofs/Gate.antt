@@ -1,4 +1,4 @@
--- A call, from what its preparation answers.
+-- A call, from what its check answers.
 use Prim.Native.Nat.{ℕ, _≤_, _<_}
 use native.Mathlib.Omega.{arith}
 use mathlib.Core.Path.{_≡_, refl, sym, ap, _∙_}
@@ -9,60 +9,65 @@ use Rattle.image.specs.Limits.{imageLimit, workLength, reportLength}
 use Rattle.verdict.specs.declared.Verdict.{Verdict}
 use Rattle.verdict.specs.Verdicts.{verdict}
 use Rattle.verdict.proofs.Passed.{passed-iff}
-use Rattle.validator.specs.Examined.{examined}
+use Rattle.check_records.specs.declared.numbers.Counts.{Counts}
+use Rattle.validator.specs.declared.examine.Checked.{Checked}
+use Rattle.validator.specs.Examined as Examined
+use Rattle.validator.specs.Examined.{verdictOf, examined}
 use Rattle.validator.proofs.Parts.{too-long, examined-refuses, short-work, short-report, all-enough}
 use Rattle.calls.specs.declared.Answer.{Answer}
 use Rattle.calls.specs.Runs.{Accepts, runOf}
 use Rattle.calls.specs.Calls.{refusedAnswer, Left, leftBy, called}
 use Rattle.calls.proofs.Called.{refused-leaves, accepted-leaves}
-use Rattle.engine.specs.declared.prepare.Lent.{Lent}
-use Rattle.engine.specs.declared.prepare.Prepared.{Prepared}
-use Rattle.engine.specs.Prepared.{verdictOf, Answered, Runnable}
+use Rattle.engine.specs.declared.check.Lent.{Lent}
+use Rattle.engine.specs.Gate.{Read, Answered}
 
--- What `prepare` answers, whatever code and dispatch numbers then hold.
+-- What `check_call` answers; what the tables hold matters only if it accepts.
 module _ (b : List ℕ) (lent : Lent) where
-  pub refuses : (r : Refusal) (place : ℕ) (code dispatch : List ℕ) → Verdict.Refused r place ≡ verdict b (lent .work) (lent .report) → Answered b lent (Prepared.Refused r place) code dispatch
-  refuses r place code dispatch e = record { answer = e; ready = λ t d. let z : _≡_ {A = ℕ} 0 1 = cc in absurd (omega arith) }
+  pub refuses : (r : Refusal) (place : ℕ) (ts ks es : List ℕ) → Verdict.Refused r place ≡ verdict b (lent .work) (lent .report) → Answered b lent (Checked.Refused r place) ts ks es
+  refuses r place ts ks es e = record { answer = e; filled = λ n d. let z : _≡_ {A = ℕ} 0 1 = cc in absurd (omega arith) }
 
-  pub too-long-refused : (code dispatch : List ℕ) → imageLimit < length b → Answered b lent (Prepared.Refused Refusal.ImageTooLong 0) code dispatch
-  too-long-refused code dispatch h = refuses Refusal.ImageTooLong 0 code dispatch (too-long b (lent .work) (lent .report) h)
+  pub too-long-refused : (ts ks es : List ℕ) → imageLimit < length b → Answered b lent (Checked.Refused Refusal.ImageTooLong 0) ts ks es
+  too-long-refused ts ks es h = refuses Refusal.ImageTooLong 0 ts ks es (too-long b (lent .work) (lent .report) h)
 
-  module _ (short : length b ≤ imageLimit) where
-    pub examined-refused : (r : Refusal) (place : ℕ) (code dispatch : List ℕ) → Verdict.Refused r place ≡ examined b → Answered b lent (Prepared.Refused r place) code dispatch
-    examined-refused r place code dispatch e = refuses r place code dispatch (examined-refuses b (lent .work) (lent .report) short (Verdict.Refused r place) e refl)
+  -- Of an image that is not too long, from the answer c to its examination.
+  module _ (short : length b ≤ imageLimit) (c : Checked) (ds ts ks es : List ℕ) (E : Examined.Answered c b ds ts ks es) where
+    pub examined-refused : (r : Refusal) (place : ℕ) → c ≡ Checked.Refused r place → Answered b lent (Checked.Refused r place) ts ks es
+    examined-refused r place e = refuses r place ts ks es (examined-refuses b (lent .work) (lent .report) short (Verdict.Refused r place) (ap verdictOf (sym e) ∙ E .answer) refl)
 
-    module _ (ok : examined b ≡ Verdict.Accepted) where
-      pub short-work-refused : (code dispatch : List ℕ) → lent .work < workLength → Answered b lent (Prepared.Refused Refusal.ShortWorkArea 0) code dispatch
-      short-work-refused code dispatch h = refuses Refusal.ShortWorkArea 0 code dispatch (short-work b (lent .work) (lent .report) short Verdict.Accepted (sym ok) refl h)
+    module _ (n : Counts) (ok : c ≡ Checked.Accepted n) where
+      passed : Verdict.Accepted ≡ examined b
+      passed = ap verdictOf (sym ok) ∙ E .answer
 
-      module _ (w : workLength ≤ lent .work) where
-        pub short-report-refused : (code dispatch : List ℕ) → lent .report < reportLength → Answered b lent (Prepared.Refused Refusal.ShortReport 0) code dispatch
-        short-report-refused code dispatch h = refuses Refusal.ShortReport 0 code dispatch (short-report b (lent .work) (lent .report) short Verdict.Accepted (sym ok) refl w h)
+      pub short-work-refused : lent .work < workLength → Answered b lent (Checked.Refused Refusal.ShortWorkArea 0) ts ks es
+      short-work-refused h = refuses Refusal.ShortWorkArea 0 ts ks es (short-work b (lent .work) (lent .report) short Verdict.Accepted passed refl h)
 
-        -- An accepted image, and lent memory that is long enough.
-        module _ (r : reportLength ≤ lent .report) where
-          accepted : Verdict.Accepted ≡ verdict b (lent .work) (lent .report)
-          accepted = all-enough b (lent .work) (lent .report) short Verdict.Accepted (sym ok) refl w r
+      pub short-report-refused : workLength ≤ lent .work → lent .report < reportLength → Answered b lent (Checked.Refused Refusal.ShortReport 0) ts ks es
+      short-report-refused w h = refuses Refusal.ShortReport 0 ts ks es (short-report b (lent .work) (lent .report) short Verdict.Accepted passed refl w h)
 
-          pub image-accepted : Accepts b
-          image-accepted = record { work = lent .work; report = lent .report; verdict-is = sym accepted }
+      pub accepts : workLength ≤ lent .work → reportLength ≤ lent .report → Answered b lent (Checked.Accepted n) ts ks es
+      accepts w r =
+          record {
+            answer = all-enough b (lent .work) (lent .report) short Verdict.Accepted passed refl w r;
+            filled = λ m d. (ds, E .filled m (ok ∙ d));
+          }
 
-          pub made-ready : (target : ℕ) (code dispatch : List ℕ) → Runnable b code dispatch target → Answered b lent (Prepared.Ready target) code dispatch
-          made-ready target code dispatch e = record { answer = accepted; ready = λ t d. let same : target ≡ t = cc in rw (← same) e }
-
--- What the answer says of the verdict; and what a run asks of an image that is ready.
-module _ (b code dispatch : List ℕ) (lent : Lent) (p : Prepared) (A : Answered b lent p code dispatch) where
-  pub refused-so : (r : Refusal) (place : ℕ) → p ≡ Prepared.Refused r place → verdict b (lent .work) (lent .report) ≡ Verdict.Refused r place
+-- What the answer says of the verdict; and what code and run ask of an accepted image.
+module _ (b ts ks es : List ℕ) (lent : Lent) (c : Checked) (A : Answered b lent c ts ks es) where
+  pub refused-so : (r : Refusal) (place : ℕ) → c ≡ Checked.Refused r place → verdict b (lent .work) (lent .report) ≡ Verdict.Refused r place
   refused-so r place e = sym (A .answer) ∙ ap verdictOf e
 
-  module _ (target : ℕ) (e : p ≡ Prepared.Ready target) where
+  module _ (n : Counts) (e : c ≡ Checked.Accepted n) where
     pub accepted-so : verdict b (lent .work) (lent .report) ≡ Verdict.Accepted
     accepted-so = sym (A .answer) ∙ ap verdictOf e
 
-    pub run-asks : Accepts b × Runnable b code dispatch target × (workLength ≤ lent .work) × (reportLength ≤ lent .report)
-    run-asks =
-        let h = passed-iff b (lent .work) (lent .report) .0 accepted-so in
-        (record { work = lent .work; report = lent .report; verdict-is = accepted-so }, A .ready target e, h .work-enough, h .report-enough)
+    pub image-accepted : Accepts b
+    image-accepted = record { work = lent .work; report = lent .report; verdict-is = accepted-so }
+
+    pub code-asks : Accepts b × Read b n ts ks es
+    code-asks = (image-accepted, A .filled n e)
+
+    pub lent-enough : (workLength ≤ lent .work) × (reportLength ≤ lent .report)
+    lent-enough = let h = passed-iff b (lent .work) (lent .report) .0 accepted-so in (h .work-enough, h .report-enough)
 
 -- A call: what is refused writes nothing, and what is accepted leaves what the run leaves.
 module _ (b frame : List ℕ) (budget : ℕ) (log report work : List ℕ) where

@@ -1,2 +1,3 @@
--- What a call has before its run.
+-- What a call has after its check, and before its run.
+pub mod Gate
 pub mod Prepared

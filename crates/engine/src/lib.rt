@@ -1,16 +1,19 @@
 // The watch engine (document 01): it accepts or refuses an image, and runs an accepted one over a frame up to a budget of
 // steps. It writes no lent memory of a call that it refuses.
 mod answers;
+pub mod check;
 pub mod prepare;
 pub mod runs;
 
 use calls::Answer;
-use prepare::Lent;
-use prepare::Prepared;
+use check::Lent;
+use check::check_call;
+use validator::examine::Checked;
 ghost use mathlib.Core.Path.{_≡_};
 ghost use Rattle.calls.specs.Calls.{called};
 
-// One call: image and frame are only read; log, report and work area may have any length and content.
+// One call: image and frame are only read; log, report and work area may have any length and content. Only an accepted image
+// has code, so that a refused call makes no room for it.
 pub fn run(
     image: &[u8],
     frame: &[u8],
@@ -25,21 +28,35 @@ pub fn run(
         work: work.len(),
         report: report.len(),
     };
-    let mut code = [0u64; 1025];
-    let mut dispatch = [0u8; 1025];
-    let prepared = prepare::prepare(image, lent, &mut code, &mut dispatch);
-    match prepared {
-        Prepared::Refused(why, place) => answers::refused(why, place),
-        Prepared::Ready(target) => runs::run_code(
-            image,
-            &code,
-            &dispatch,
-            target,
-            frame,
-            budget,
-            log,
-            report,
-            work,
-        ),
+    let mut types = [0u16; 128];
+    let mut descriptors = [0u32; 128];
+    let mut terms = [0u16; 1024];
+    let checked = check_call(image, lent, &mut types, &mut descriptors, &mut terms);
+    match checked {
+        Checked::Refused(why, place) => answers::refused(why, place),
+        Checked::Accepted(counts) => {
+            let mut code = [0u64; 1025];
+            let mut dispatch = [0u8; 1025];
+            let target = prepare::prepare(
+                image,
+                &types,
+                &descriptors,
+                &terms,
+                counts,
+                &mut code,
+                &mut dispatch,
+            );
+            runs::run_code(
+                image,
+                &code,
+                &dispatch,
+                target,
+                frame,
+                budget,
+                log,
+                report,
+                work,
+            )
+        }
     }
 }

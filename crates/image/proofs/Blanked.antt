@@ -8,8 +8,8 @@ use Rattle.calculus.specs.Combinators.{choose}
 use Rattle.calculus.specs.Syntax.{Dom, Ty, Sigs, noMethod, method, Val, Tms, val, lam, pcd, adv, lower, obj}
 use Rattle.calculus.specs.Plain.{domOf, methodsOf, methodDom}
 use Rattle.calculus.specs.Blank.{blank as blankTm, blanks, blankBodies}
-use Rattle.image.specs.Kinds.{TermKind}
-use Rattle.image.specs.Program.{Program, Programs, node, blank, end, more, nth, behind, assemble, toTm, toTms, lowBody, blanked, blankeds}
+use Rattle.image.specs.Kinds.{TermKind, Form, operator, formOf}
+use Rattle.image.specs.Program.{Program, Programs, node, blank, end, more, nth, behind, assembleAs, assemble, toTm, toTms, lowBody, blanked, blankeds}
 
 pub choose-not : {A : Type 0} (b : Bool) (x y : A) → choose (not b) x y ≡ choose b y x
 choose-not true x y = refl
@@ -39,39 +39,37 @@ module _ (high : Dom → Bool) where
   blanks-behind (suc n) Tms.end = refl
   blanks-behind (suc n) (Tms.more e es) = blanks-behind n es
 
-  assembled : (k : TermKind) (t : Ty) (vs : List ℕ) (fs es : Tms) → Blanked (lowBody high k t vs) fs es → assemble k t vs fs ≡ blankTm high (assemble k t vs es)
-  unfolding assemble blankTm
-  assembled TermKind.unit t vs fs es h = refl
-  assembled TermKind.truth t vs fs es h = refl
-  assembled TermKind.number t vs fs es h = refl
-  assembled TermKind.var t vs fs es h = refl
-  assembled TermKind.seq t vs fs es h = cc (h .one 0, h .one 1)
-  assembled TermKind.print t vs fs es h = cc (h .one 0)
-  assembled TermKind.ite t vs fs es h = cc (h .one 0, h .one 1, h .one 2)
-  assembled TermKind.pair t vs fs es h = cc (h .one 0, h .one 1)
-  assembled TermKind.split t vs fs es h = cc (h .one 0, h .one 1)
-  assembled TermKind.fun t vs fs es h = ap (lam t) (h .one 0 ∙ choose-not (high (domOf t)) (val Val.unit) (blankTm high (nth es 0)))
-  assembled TermKind.app t vs fs es h = cc (h .one 0, h .one 1)
-  assembled TermKind.arith t vs fs es h = cc (h .one 0, h .one 1)
-  assembled TermKind.newLabel t vs fs es h = refl
-  assembled TermKind.mark t vs fs es h = cc (h .one 0, h .one 1)
-  assembled TermKind.pcd t vs fs es h = ap pcd (h .every (λ i. refl))
-  assembled TermKind.adv t vs fs es h =
+  assembled : {k : TermKind} (φ : Form k) (t : Ty) (vs : List ℕ) (fs es : Tms) → Blanked (lowBody high k t vs) fs es → assembleAs φ t vs fs ≡ blankTm high (assembleAs φ t vs es)
+  unfolding blankTm
+  assembled (operator o n r) t vs fs es h = refl
+  assembled Form.unit t vs fs es h = refl
+  assembled Form.truth t vs fs es h = refl
+  assembled Form.number t vs fs es h = refl
+  assembled Form.var t vs fs es h = refl
+  assembled Form.seq t vs fs es h = cc (h .one 0, h .one 1)
+  assembled Form.print t vs fs es h = cc (h .one 0)
+  assembled Form.ite t vs fs es h = cc (h .one 0, h .one 1, h .one 2)
+  assembled Form.pair t vs fs es h = cc (h .one 0, h .one 1)
+  assembled Form.split t vs fs es h = cc (h .one 0, h .one 1)
+  assembled Form.fun t vs fs es h = ap (lam t) (h .one 0 ∙ choose-not (high (domOf t)) (val Val.unit) (blankTm high (nth es 0)))
+  assembled Form.app t vs fs es h = cc (h .one 0, h .one 1)
+  assembled Form.arith t vs fs es h = cc (h .one 0, h .one 1)
+  assembled Form.mark t vs fs es h = cc (h .one 0, h .one 1)
+  assembled Form.pcd t vs fs es h = ap pcd (h .every (λ i. refl))
+  assembled Form.adv t vs fs es h =
       ap (λ x. adv (domOf t) x (nth fs 1)) (h .one 0)
       ∙ ap (adv (domOf t) (blankTm high (nth es 0))) (h .one 1 ∙ choose-not (high (domOf t)) (val Val.unit) (blankTm high (nth es 1)))
-  assembled TermKind.install t vs fs es h = cc (h .one 0)
-  assembled TermKind.newCell t vs fs es h = cc (h .one 0)
-  assembled TermKind.read t vs fs es h = cc (h .one 0)
-  assembled TermKind.store t vs fs es h = cc (h .one 0, h .one 1)
-  assembled TermKind.lower t vs fs es h = ap (lower (getD vs 0 0)) (h .one 0 ∙ choose-not (high (getD vs 0 0)) (val Val.unit) (blankTm high (nth es 0)))
-  assembled TermKind.abort t vs fs es h = refl
-  assembled TermKind.byte t vs fs es h = cc (h .one 0)
-  assembled TermKind.obj t vs fs es h = ap (obj t) (h .bodies (methodsOf t) (λ i. refl))
-  assembled TermKind.call t vs fs es h = cc (h .one 0)
-  assembled TermKind.stack t vs fs es h = refl
-  assembled TermKind.keep t vs fs es h = cc (h .one 0, h .one 1, h .one 2)
-  assembled TermKind.match t vs fs es h = let r = ap (behind 3) (h .every (match-high t vs)) ∙ blanks-behind 3 es in cc (h .one 0, h .one 1, h .one 2, r)
-  assembled TermKind.takedown t vs fs es h = refl
+  assembled Form.install t vs fs es h = cc (h .one 0)
+  assembled Form.newCell t vs fs es h = cc (h .one 0)
+  assembled Form.read t vs fs es h = cc (h .one 0)
+  assembled Form.store t vs fs es h = cc (h .one 0, h .one 1)
+  assembled Form.lower t vs fs es h = ap (lower (getD vs 0 0)) (h .one 0 ∙ choose-not (high (getD vs 0 0)) (val Val.unit) (blankTm high (nth es 0)))
+  assembled Form.byte t vs fs es h = cc (h .one 0)
+  assembled Form.obj t vs fs es h = ap (obj t) (h .bodies (methodsOf t) (λ i. refl))
+  assembled Form.call t vs fs es h = cc (h .one 0)
+  assembled Form.keep t vs fs es h = cc (h .one 0, h .one 1, h .one 2)
+  assembled Form.match t vs fs es h = let r = ap (behind 3) (h .every (match-high t vs)) ∙ blanks-behind 3 es in cc (h .one 0, h .one 1, h .one 2, r)
+  assembled Form.takedown t vs fs es h = refl
 
   -- One more subterm, which stands first.
   first-blanked : (low : ℕ → Bool) (e : Program) (es : Programs) → toTm (blanked high e) ≡ blankTm high (toTm e) → Blanked (λ i. low (suc i)) (toTms (blankeds high es (λ i. low (suc i)))) (toTms es)
@@ -98,11 +96,11 @@ module _ (high : Dom → Bool) where
       bodies (method p a ms) n = let x = first p (n 0) in let y = r .bodies ms (λ i. n (suc i)) in cc (x, y)
 
   mutual
-    unfolding toTm blanked blankTm
+    unfolding toTm blanked blankTm assemble
 
     -- The term of a blanked program is the program's term, blanked.
     pub blanked-term : (e : Program) → toTm (blanked high e) ≡ blankTm high (toTm e)
-    blanked-term (node k t vs es) = assembled k t vs (toTms (blankeds high es (lowBody high k t vs))) (toTms es) (blanked-terms es (lowBody high k t vs))
+    blanked-term (node k t vs es) = assembled (formOf k) t vs (toTms (blankeds high es (lowBody high k t vs))) (toTms es) (blanked-terms es (lowBody high k t vs))
     blanked-term blank = refl
 
     blanked-terms : (es : Programs) (low : ℕ → Bool) → Blanked low (toTms (blankeds high es low)) (toTms es)

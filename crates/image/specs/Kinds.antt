@@ -3,8 +3,10 @@ use Prim.Native.Nat.{ℕ, zero, suc}
 use mathlib.Core.Bool.{Bool, true, false}
 use mathlib.Core.List.{List, [], _∷_, _++_}
 use mathlib.Core.Option.{Option, none, some}
+use mathlib.Core.Path.{_≡_, refl}
 use lib.ListN.{length, getD}
 use lib.Dec.{eqb}
+use Rattle.calculus.specs.Syntax.{Dom, Op0}
 use Rattle.image.specs.Limits.{pointcutLimit, methodLimit, entryLimit}
 
 -- What the number of a field may be that names neither a type nor a term: a domain; an operation, 0 to 3; 0 or 1; any number.
@@ -115,6 +117,78 @@ termRow TermKind.keep = row 57 (a-type ∷ a-child ∷ a-child ∷ a-child ∷ [
 termRow TermKind.match = record { number = 58; first = a-type ∷ a-child ∷ a-term match-body ∷ a-child ∷ []; group = an-entry ∷ []; least = 0; most = entryLimit; last = a-truth ∷ [] }
 -- card 7
 termRow TermKind.takedown = row 59 (a-type ∷ a-domain ∷ [])
+
+-- The domain that an operator without operands names; 0 where it names none.
+abbrev pub named : Op0 → Dom
+named Op0.newLabel = 0
+named Op0.abort = 0
+named (Op0.takedown p) = p
+named Op0.theStack = 0
+
+-- The row of a kind whose record has no field but its type.
+abbrev pub bareRow : ℕ → Row
+bareRow n = row n (a-type ∷ [])
+
+-- What a term of a kind is in the calculus: an operator without operands that says all, its record's one field being its type; or what its kind alone is. Definitions and laws by kind go by this, so that one more such operator is a line of each table here.
+pub data Form : TermKind → Type 0 where
+  operator : {k : TermKind} (o : Op0) → named o ≡ 0 → termRow k ≡ bareRow (termRow k .number) → Form k
+  unit : Form TermKind.unit
+  truth : Form TermKind.truth
+  number : Form TermKind.number
+  var : Form TermKind.var
+  seq : Form TermKind.seq
+  print : Form TermKind.print
+  ite : Form TermKind.ite
+  pair : Form TermKind.pair
+  split : Form TermKind.split
+  fun : Form TermKind.fun
+  app : Form TermKind.app
+  arith : Form TermKind.arith
+  mark : Form TermKind.mark
+  pcd : Form TermKind.pcd
+  adv : Form TermKind.adv
+  install : Form TermKind.install
+  newCell : Form TermKind.newCell
+  read : Form TermKind.read
+  store : Form TermKind.store
+  lower : Form TermKind.lower
+  byte : Form TermKind.byte
+  obj : Form TermKind.obj
+  call : Form TermKind.call
+  keep : Form TermKind.keep
+  match : Form TermKind.match
+  takedown : Form TermKind.takedown
+
+abbrev pub formOf : (k : TermKind) → Form k
+formOf TermKind.unit = Form.unit
+formOf TermKind.truth = Form.truth
+formOf TermKind.number = Form.number
+formOf TermKind.var = Form.var
+formOf TermKind.seq = Form.seq
+formOf TermKind.print = Form.print
+formOf TermKind.ite = Form.ite
+formOf TermKind.pair = Form.pair
+formOf TermKind.split = Form.split
+formOf TermKind.fun = Form.fun
+formOf TermKind.app = Form.app
+formOf TermKind.arith = Form.arith
+formOf TermKind.newLabel = operator Op0.newLabel refl refl
+formOf TermKind.mark = Form.mark
+formOf TermKind.pcd = Form.pcd
+formOf TermKind.adv = Form.adv
+formOf TermKind.install = Form.install
+formOf TermKind.newCell = Form.newCell
+formOf TermKind.read = Form.read
+formOf TermKind.store = Form.store
+formOf TermKind.lower = Form.lower
+formOf TermKind.abort = operator Op0.abort refl refl
+formOf TermKind.byte = Form.byte
+formOf TermKind.obj = Form.obj
+formOf TermKind.call = Form.call
+formOf TermKind.stack = operator Op0.theStack refl refl
+formOf TermKind.keep = Form.keep
+formOf TermKind.match = Form.match
+formOf TermKind.takedown = Form.takedown
 
 abbrev pub rowOf : Kind → Row
 rowOf domain = domainRow

@@ -5,9 +5,9 @@ use mathlib.Core.List.{List, [], _∷_}
 use mathlib.Core.Option.{Option, none, some}
 use lib.ListN.{length, getD}
 use lib.Dec.{eqb}
-use Rattle.calculus.specs.Syntax.{Dom, Ty, Val, Tm, Tms, Pattern, atEnd, atRest, anything, pointcut, Op2, val, var, lam, op0, op1, op2, seq, ite, split, pcd, adv, lower, obj, keep, match, newLabel, abort, takedown, theStack, print, install, read, byte, newCell, call, app, mark, store, plus, minus, less, equal}
+use Rattle.calculus.specs.Syntax.{Dom, Ty, Val, Tm, Tms, Pattern, atEnd, atRest, anything, pointcut, Op2, val, var, lam, op0, op1, op2, seq, ite, split, pcd, adv, lower, obj, keep, match, takedown, print, install, read, byte, newCell, call, app, mark, store, plus, minus, less, equal}
 use Rattle.calculus.specs.Plain.{domOf, methodsOf, methodDom}
-use Rattle.image.specs.Kinds.{Body, here, function-body, advice-body, split-body, lower-body, method-body, match-body, TermKind, bodyOf}
+use Rattle.image.specs.Kinds.{Body, here, function-body, advice-body, split-body, lower-body, method-body, match-body, TermKind, Form, operator, formOf, bodyOf}
 use Rattle.image.specs.Records.{Layout}
 use Rattle.image.specs.Types.{termKind, statedType, others, children, rootOf}
 
@@ -66,37 +66,38 @@ behind zero es = es
 behind (suc n) Tms.end = Tms.end
 behind (suc n) (Tms.more e es) = behind n es
 
--- A term of a kind and type t, with the other fields vs, over its subterms.
+-- A term of type t, with the other fields vs, over its subterms, by its form; and by its kind.
+abbrev pub assembleAs : {k : TermKind} → Form k → Ty → List ℕ → Tms → Tm
+assembleAs (operator o n r) t vs es = op0 o t
+assembleAs Form.unit t vs es = val Val.unit
+assembleAs Form.truth t vs es = val (Val.truth (eqb (getD vs 0 0) 1))
+assembleAs Form.number t vs es = val (Val.num (getD vs 0 0 + 65536 * getD vs 1 0))
+assembleAs Form.var t vs es = var (getD vs 0 0)
+assembleAs Form.seq t vs es = seq (nth es 0) (nth es 1)
+assembleAs Form.print t vs es = op1 print t (nth es 0)
+assembleAs Form.ite t vs es = ite (nth es 0) (nth es 1) (nth es 2)
+assembleAs Form.pair t vs es = op2 Op2.pair t (nth es 0) (nth es 1)
+assembleAs Form.split t vs es = split (nth es 0) (nth es 1)
+assembleAs Form.fun t vs es = lam t (nth es 0)
+assembleAs Form.app t vs es = op2 app t (nth es 0) (nth es 1)
+assembleAs Form.arith t vs es = op2 (opOf (getD vs 0 0)) t (nth es 0) (nth es 1)
+assembleAs Form.mark t vs es = op2 mark t (nth es 0) (nth es 1)
+assembleAs Form.pcd t vs es = pcd es
+assembleAs Form.adv t vs es = adv (domOf t) (nth es 0) (nth es 1)
+assembleAs Form.install t vs es = op1 install t (nth es 0)
+assembleAs Form.newCell t vs es = op1 newCell t (nth es 0)
+assembleAs Form.read t vs es = op1 read t (nth es 0)
+assembleAs Form.store t vs es = op2 store t (nth es 0) (nth es 1)
+assembleAs Form.lower t vs es = lower (getD vs 0 0) (nth es 0)
+assembleAs Form.byte t vs es = op1 byte t (nth es 0)
+assembleAs Form.obj t vs es = obj t es
+assembleAs Form.call t vs es = op1 (call (getD vs 0 0)) t (nth es 0)
+assembleAs Form.keep t vs es = keep (nth es 0) (nth es 1) (nth es 2)
+assembleAs Form.match t vs es = match (patternOf vs) (Tms.more (nth es 0) (behind 3 es)) (nth es 1) (nth es 2)
+assembleAs Form.takedown t vs es = op0 (takedown (getD vs 0 0)) t
+
 unfoldable pub assemble : TermKind → Ty → List ℕ → Tms → Tm
-assemble TermKind.unit t vs es = val Val.unit
-assemble TermKind.truth t vs es = val (Val.truth (eqb (getD vs 0 0) 1))
-assemble TermKind.number t vs es = val (Val.num (getD vs 0 0 + 65536 * getD vs 1 0))
-assemble TermKind.var t vs es = var (getD vs 0 0)
-assemble TermKind.seq t vs es = seq (nth es 0) (nth es 1)
-assemble TermKind.print t vs es = op1 print t (nth es 0)
-assemble TermKind.ite t vs es = ite (nth es 0) (nth es 1) (nth es 2)
-assemble TermKind.pair t vs es = op2 Op2.pair t (nth es 0) (nth es 1)
-assemble TermKind.split t vs es = split (nth es 0) (nth es 1)
-assemble TermKind.fun t vs es = lam t (nth es 0)
-assemble TermKind.app t vs es = op2 app t (nth es 0) (nth es 1)
-assemble TermKind.arith t vs es = op2 (opOf (getD vs 0 0)) t (nth es 0) (nth es 1)
-assemble TermKind.newLabel t vs es = op0 newLabel t
-assemble TermKind.mark t vs es = op2 mark t (nth es 0) (nth es 1)
-assemble TermKind.pcd t vs es = pcd es
-assemble TermKind.adv t vs es = adv (domOf t) (nth es 0) (nth es 1)
-assemble TermKind.install t vs es = op1 install t (nth es 0)
-assemble TermKind.newCell t vs es = op1 newCell t (nth es 0)
-assemble TermKind.read t vs es = op1 read t (nth es 0)
-assemble TermKind.store t vs es = op2 store t (nth es 0) (nth es 1)
-assemble TermKind.lower t vs es = lower (getD vs 0 0) (nth es 0)
-assemble TermKind.abort t vs es = op0 abort t
-assemble TermKind.byte t vs es = op1 byte t (nth es 0)
-assemble TermKind.obj t vs es = obj t es
-assemble TermKind.call t vs es = op1 (call (getD vs 0 0)) t (nth es 0)
-assemble TermKind.stack t vs es = op0 theStack t
-assemble TermKind.keep t vs es = keep (nth es 0) (nth es 1) (nth es 2)
-assemble TermKind.match t vs es = match (patternOf vs) (Tms.more (nth es 0) (behind 3 es)) (nth es 1) (nth es 2)
-assemble TermKind.takedown t vs es = op0 (takedown (getD vs 0 0)) t
+assemble k t vs es = assembleAs (formOf k) t vs es
 
 unfoldable mutual
   pub toTm : Program → Tm

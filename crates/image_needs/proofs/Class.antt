@@ -10,11 +10,11 @@ use Rattle.calculus.specs.Combinators.{choose}
 use Rattle.calculus.specs.Syntax.{Ty, Tm, Tms, end, more}
 use Rattle.calculus_needs.specs.Class.{isAdvice as isAdviceTm, permits2, inClass, allInClass}
 use Rattle.calculus_needs.proofs.Admitted.{both, first, second}
-use Rattle.image.specs.Kinds.{TermKind, termRow, bodyOf}
+use Rattle.image.specs.Kinds.{TermKind, Form, operator, formOf, termRow, bodyOf}
 use Rattle.image.specs.Records.{Layout, fieldsAt, numbersAt, times, asChild}
 use Rattle.image.specs.Bytes.{lengthAt}
 use Rattle.image.specs.Types.{termKind, termPlace, children, rootOf}
-use Rattle.image.specs.Program.{nth, opOf, behind, subtrees, tree, program, assemble, toTm, toTms}
+use Rattle.image.specs.Program.{nth, opOf, behind, subtrees, tree, program, assembleAs, assemble, toTm, toTms}
 use Rattle.laws.proofs.Booleans.{of-T, eq-of}
 use Rattle.image.proofs.Words.{words-length}
 use Rattle.image.proofs.Counts.{fields-give, giving-row}
@@ -65,43 +65,41 @@ module _ (m : Bool) where
 
   -- A term that may stand over a first child of kind j, its children being in the class.
   module _ (j : TermKind) (t : Ty) (vs : List ℕ) (es : Tms) where
-    assembled : (k : TermKind) → T (permits m k j) → (k ≡ TermKind.install → T (isAdvice j) → T (isAdviceTm (nth es 0))) → Each (λ i. outside m (bodyOf k i)) 0 es → T (inClass m (assemble k t vs es))
-    unfolding inClass assemble
-    assembled TermKind.unit p o h = tt
-    assembled TermKind.truth p o h = tt
-    assembled TermKind.number p o h = tt
-    assembled TermKind.var p o h = tt
-    assembled TermKind.seq p o h = let c = at-place _ 0 es h in one-in (nth es 0) (nth es 1) (c 0) (c 1)
-    assembled TermKind.print p o h = at-place _ 0 es h 0
-    assembled TermKind.ite p o h = let c = at-place _ 0 es h in three-in (nth es 0) (nth es 1) (nth es 2) (c 0) (c 1) (c 2)
-    assembled TermKind.pair p o h = let c = at-place _ 0 es h in one-in (nth es 0) (nth es 1) (c 0) (c 1)
-    assembled TermKind.split p o h = let c = at-place _ 0 es h in one-in (nth es 0) (nth es 1) (c 0) (c 1)
-    assembled TermKind.fun p o h = at-place _ 0 es h 0
-    assembled TermKind.app p o h = absurd p
-    assembled TermKind.arith p o h =
+    assembled : {k : TermKind} (φ : Form k) → T (permits m k j) → (k ≡ TermKind.install → T (isAdvice j) → T (isAdviceTm (nth es 0))) → Each (λ i. outside m (bodyOf k i)) 0 es → T (inClass m (assembleAs φ t vs es))
+    unfolding inClass
+    assembled (operator o n r) p q h = tt
+    assembled Form.unit p o h = tt
+    assembled Form.truth p o h = tt
+    assembled Form.number p o h = tt
+    assembled Form.var p o h = tt
+    assembled Form.seq p o h = let c = at-place _ 0 es h in one-in (nth es 0) (nth es 1) (c 0) (c 1)
+    assembled Form.print p o h = at-place _ 0 es h 0
+    assembled Form.ite p o h = let c = at-place _ 0 es h in three-in (nth es 0) (nth es 1) (nth es 2) (c 0) (c 1) (c 2)
+    assembled Form.pair p o h = let c = at-place _ 0 es h in one-in (nth es 0) (nth es 1) (c 0) (c 1)
+    assembled Form.split p o h = let c = at-place _ 0 es h in one-in (nth es 0) (nth es 1) (c 0) (c 1)
+    assembled Form.fun p o h = at-place _ 0 es h 0
+    assembled Form.app p o h = absurd p
+    assembled Form.arith p o h =
         let c = at-place _ 0 es h in
         both (permits2 m (opOf (getD vs 0 0))) (inClass m (nth es 0) && inClass m (nth es 1)) (operation (getD vs 0 0)) (one-in (nth es 0) (nth es 1) (c 0) (c 1))
-    assembled TermKind.newLabel p o h = tt
-    assembled TermKind.mark p o h = let c = at-place _ 0 es h in both m (inClass m (nth es 0) && inClass m (nth es 1)) p (one-in (nth es 0) (nth es 1) (c 0) (c 1))
-    assembled TermKind.pcd p o h = every _ (λ i. refl) 0 es h
-    assembled TermKind.adv p o h = let c = at-place _ 0 es h in both (inClass m (nth es 0)) (inClass false (nth es 1)) (c 0) (c 1)
-    assembled TermKind.install p o h =
+    assembled Form.mark p o h = let c = at-place _ 0 es h in both m (inClass m (nth es 0) && inClass m (nth es 1)) p (one-in (nth es 0) (nth es 1) (c 0) (c 1))
+    assembled Form.pcd p o h = every _ (λ i. refl) 0 es h
+    assembled Form.adv p o h = let c = at-place _ 0 es h in both (inClass m (nth es 0)) (inClass false (nth es 1)) (c 0) (c 1)
+    assembled Form.install p o h =
         both (m && isAdviceTm (nth es 0)) (inClass m (nth es 0)) (both m (isAdviceTm (nth es 0)) (first m (isAdvice j) p) (o refl (second m (isAdvice j) p))) (at-place _ 0 es h 0)
-    assembled TermKind.newCell p o h = at-place _ 0 es h 0
-    assembled TermKind.read p o h = at-place _ 0 es h 0
-    assembled TermKind.store p o h = let c = at-place _ 0 es h in one-in (nth es 0) (nth es 1) (c 0) (c 1)
-    assembled TermKind.lower p o h = at-place _ 0 es h 0
-    assembled TermKind.abort p o h = tt
-    assembled TermKind.byte p o h = at-place _ 0 es h 0
-    assembled TermKind.obj p o h = every _ (λ i. refl) 0 es h
-    assembled TermKind.call p o h = absurd p
-    assembled TermKind.stack p o h = tt
-    assembled TermKind.keep p o h = let c = at-place _ 0 es h in three-in (nth es 0) (nth es 1) (nth es 2) (c 0) (c 1) (c 2)
-    assembled TermKind.match p o h =
+    assembled Form.newCell p o h = at-place _ 0 es h 0
+    assembled Form.read p o h = at-place _ 0 es h 0
+    assembled Form.store p o h = let c = at-place _ 0 es h in one-in (nth es 0) (nth es 1) (c 0) (c 1)
+    assembled Form.lower p o h = at-place _ 0 es h 0
+    assembled Form.byte p o h = at-place _ 0 es h 0
+    assembled Form.obj p o h = every _ (λ i. refl) 0 es h
+    assembled Form.call p o h = absurd p
+    assembled Form.keep p o h = let c = at-place _ 0 es h in three-in (nth es 0) (nth es 1) (nth es 2) (c 0) (c 1) (c 2)
+    assembled Form.match p o h =
         let c = at-place _ 0 es h in
         let r = rest-in 3 es (every _ match-outside 0 es h) in
         both (inClass m (nth es 0) && allInClass m (behind 3 es)) (inClass m (nth es 1) && inClass m (nth es 2)) (both (inClass m (nth es 0)) (allInClass m (behind 3 es)) (c 0) r) (one-in (nth es 1) (nth es 2) (c 1) (c 2))
-    assembled TermKind.takedown p o h = tt
+    assembled Form.takedown p o h = tt
 
 -- The kind of an advice is an advice's.
 advice-kind : (k : TermKind) → T (isAdvice k) → k ≡ TermKind.adv
@@ -150,12 +148,12 @@ module _ (L : Layout) (good : Good L) where
   lower n f (e ∷ es) l b = let x = b .0 in (omega arith, lower n f es l (b .1))
 
   in-class-at : (f : ℕ) (m : Bool) (n : ℕ) → n < f → n < count → count ≤ lowest L f m n → T (inClass m (toTm (tree L f n)))
-  unfolding lowest tree toTm
+  unfolding lowest tree toTm assemble
   in-class-at zero m n l c h = absurd (omega arith)
   in-class-at (suc f) m n l c h =
       let b = good .terms n c .below in
       let k = termKind L n in
-      assembled m (termKind L (getD (children L n) 0 0)) _ _ (toTms (subtrees (λ e. tree L f e) (children L n))) k (may-stand m n _ c h)
+      assembled m (termKind L (getD (children L n) 0 0)) _ _ (toTms (subtrees (λ e. tree L f e) (children L n))) (formOf k) (may-stand m n _ c h)
       (λ e a. over-advice f (children L n) (one-child n e) (lower n f (children L n) (omega arith) b) a)
       (each-child f n (λ m e x y. in-class-at f m e (omega arith) (omega arith) y) (λ i. outside m (bodyOf k i)) 0 (children L n) b (omega arith))
 

@@ -13,12 +13,12 @@ use Rattle.calculus_needs.specs.Claims.{Under}
 use Rattle.calculus_needs.proofs.Small.{amount, amounts, amountOf, nothing, size, most, small}
 use Rattle.calculus_needs.proofs.Sums.{under-trans}
 use Rattle.laws.proofs.Booleans.{le-of}
-use Rattle.image.specs.Kinds.{Field, a-type, own, a-term, an-entry, TermKind, termRow, again, fieldsOf}
+use Rattle.image.specs.Kinds.{Field, a-type, own, a-term, an-entry, TermKind, Form, operator, formOf, termRow, again, fieldsOf}
 use Rattle.image.specs.Records.{Layout, fieldsAt, numbersAt, asOther, given}
 use Rattle.image.specs.Limits.{termLimit}
 use Rattle.image.specs.Layout.{recordsOf}
 use Rattle.image.specs.Types.{termPlace, termKind, others, rootOf}
-use Rattle.image.specs.Program.{Program, Programs, node, blank, end, more, program, nth, behind, closeOf, entryOf, patternOf, assemble, toTm, toTms}
+use Rattle.image.specs.Program.{Program, Programs, node, blank, end, more, program, nth, behind, closeOf, entryOf, patternOf, assembleAs, assemble, toTm, toTms}
 use Rattle.image.proofs.Laid.{Good}
 use Rattle.image.proofs.EveryKind.{everyOf, at-term}
 use Rattle.verdict.specs.declared.Verdict.{Verdict}
@@ -37,43 +37,41 @@ module _ (K : ℕ) (pat : Pattern → ℕ) (v : List ℕ → ℕ) (h : (vs : Lis
   parts (Tms.more a (Tms.more b Tms.end)) = omega arith
   parts (Tms.more a (Tms.more b (Tms.more c es))) = omega arith
 
-  assembled : (k : TermKind) (t : Ty) (vs : List ℕ) (es : Tms) → amount K pat (assemble k t vs es) ≤ K + v vs + amounts K pat es
-  unfolding assemble amount amounts amountOf
-  assembled TermKind.unit t vs es = let a = parts es in omega arith
-  assembled TermKind.truth t vs es = let a = parts es in omega arith
-  assembled TermKind.number t vs es = let a = parts es in omega arith
-  assembled TermKind.var t vs es = let a = parts es in omega arith
-  assembled TermKind.seq t vs es = let a = parts es in omega arith
-  assembled TermKind.print t vs es = let a = parts es in omega arith
-  assembled TermKind.ite t vs es = let a = parts es in omega arith
-  assembled TermKind.pair t vs es = let a = parts es in omega arith
-  assembled TermKind.split t vs es = let a = parts es in omega arith
-  assembled TermKind.fun t vs es = let a = parts es in omega arith
-  assembled TermKind.app t vs es = let a = parts es in omega arith
-  assembled TermKind.arith t vs es = let a = parts es in omega arith
-  assembled TermKind.newLabel t vs es = let a = parts es in omega arith
-  assembled TermKind.mark t vs es = let a = parts es in omega arith
-  assembled TermKind.pcd t vs es = let a = parts es in omega arith
-  assembled TermKind.adv t vs es = let a = parts es in omega arith
-  assembled TermKind.install t vs es = let a = parts es in omega arith
-  assembled TermKind.newCell t vs es = let a = parts es in omega arith
-  assembled TermKind.read t vs es = let a = parts es in omega arith
-  assembled TermKind.store t vs es = let a = parts es in omega arith
-  assembled TermKind.lower t vs es = let a = parts es in omega arith
-  assembled TermKind.abort t vs es = let a = parts es in omega arith
-  assembled TermKind.byte t vs es = let a = parts es in omega arith
-  assembled TermKind.obj t vs es = let a = parts es in omega arith
-  assembled TermKind.call t vs es = let a = parts es in omega arith
-  assembled TermKind.stack t vs es = let a = parts es in omega arith
-  assembled TermKind.keep t vs es = let a = parts es in omega arith
-  assembled TermKind.match t vs es = let a = parts es in let b = h vs in omega arith
-  assembled TermKind.takedown t vs es = let a = parts es in omega arith
+  assembled : {k : TermKind} (φ : Form k) (t : Ty) (vs : List ℕ) (es : Tms) → amount K pat (assembleAs φ t vs es) ≤ K + v vs + amounts K pat es
+  unfolding amount amounts amountOf
+  assembled (operator o n r) t vs es = let a = parts es in omega arith
+  assembled Form.unit t vs es = let a = parts es in omega arith
+  assembled Form.truth t vs es = let a = parts es in omega arith
+  assembled Form.number t vs es = let a = parts es in omega arith
+  assembled Form.var t vs es = let a = parts es in omega arith
+  assembled Form.seq t vs es = let a = parts es in omega arith
+  assembled Form.print t vs es = let a = parts es in omega arith
+  assembled Form.ite t vs es = let a = parts es in omega arith
+  assembled Form.pair t vs es = let a = parts es in omega arith
+  assembled Form.split t vs es = let a = parts es in omega arith
+  assembled Form.fun t vs es = let a = parts es in omega arith
+  assembled Form.app t vs es = let a = parts es in omega arith
+  assembled Form.arith t vs es = let a = parts es in omega arith
+  assembled Form.mark t vs es = let a = parts es in omega arith
+  assembled Form.pcd t vs es = let a = parts es in omega arith
+  assembled Form.adv t vs es = let a = parts es in omega arith
+  assembled Form.install t vs es = let a = parts es in omega arith
+  assembled Form.newCell t vs es = let a = parts es in omega arith
+  assembled Form.read t vs es = let a = parts es in omega arith
+  assembled Form.store t vs es = let a = parts es in omega arith
+  assembled Form.lower t vs es = let a = parts es in omega arith
+  assembled Form.byte t vs es = let a = parts es in omega arith
+  assembled Form.obj t vs es = let a = parts es in omega arith
+  assembled Form.call t vs es = let a = parts es in omega arith
+  assembled Form.keep t vs es = let a = parts es in omega arith
+  assembled Form.match t vs es = let a = parts es in let b = h vs in omega arith
+  assembled Form.takedown t vs es = let a = parts es in omega arith
 
   mutual
-    unfolding toTm toTms weight weightAll amount amounts amountOf
+    unfolding toTm toTms assemble weight weightAll amount amounts amountOf
 
     tree-amount : (e : Program) → amount K pat (toTm e) ≤ weight (λ k vs n. K + v vs) e
-    tree-amount (node k t vs es) = let a = assembled k t vs (toTms es) in let b = trees-amount es in omega arith
+    tree-amount (node k t vs es) = let a = assembled (formOf k) t vs (toTms es) in let b = trees-amount es in omega arith
     tree-amount blank = omega arith
 
     trees-amount : (es : Programs) → amounts K pat (toTms es) ≤ weightAll (λ k vs n. K + v vs) es

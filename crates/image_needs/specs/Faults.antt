@@ -1,6 +1,6 @@
 -- Refusal 19 (document 02, card 10): "the lowest apply, call, install over something else, or mark or install in an advice body".
 use Prim.Native.Nat.{ℕ, zero, suc, min}
-use mathlib.Core.Bool.{Bool, true, false, _&&_}
+use mathlib.Core.Bool.{Bool, true, false, _&&_, _||_}
 use mathlib.Core.List.{List, [], _∷_}
 use lib.ListN.{length, getD}
 use Rattle.calculus.specs.Combinators.{choose}
@@ -11,37 +11,12 @@ use Rattle.image.specs.Types.{termKind, children, rootOf}
 abbrev pub isAdvice : TermKind → Bool
 isAdvice k = isKind TermKind.adv k
 
--- Whether a term of kind k may stand here, over a first child of kind j; m: outside advice bodies.
+-- Whether a term of kind k may stand here, over a first child of kind j; m: outside advice bodies. An apply or a call may not, a mark there, an install there over an advice; any other may.
 abbrev pub permits : Bool → TermKind → TermKind → Bool
-permits m TermKind.app j = false
-permits m TermKind.call j = false
-permits m TermKind.mark j = m
-permits m TermKind.install j = m && isAdvice j
-permits m TermKind.unit j = true
-permits m TermKind.truth j = true
-permits m TermKind.number j = true
-permits m TermKind.var j = true
-permits m TermKind.seq j = true
-permits m TermKind.print j = true
-permits m TermKind.ite j = true
-permits m TermKind.pair j = true
-permits m TermKind.split j = true
-permits m TermKind.fun j = true
-permits m TermKind.arith j = true
-permits m TermKind.newLabel j = true
-permits m TermKind.pcd j = true
-permits m TermKind.adv j = true
-permits m TermKind.newCell j = true
-permits m TermKind.read j = true
-permits m TermKind.store j = true
-permits m TermKind.lower j = true
-permits m TermKind.abort j = true
-permits m TermKind.byte j = true
-permits m TermKind.obj j = true
-permits m TermKind.stack j = true
-permits m TermKind.keep j = true
-permits m TermKind.match j = true
-permits m TermKind.takedown j = true
+permits m k j =
+    choose (isKind TermKind.app k || isKind TermKind.call k) false
+    (choose (isKind TermKind.mark k) m
+    (choose (isKind TermKind.install k) (m && isAdvice j) true))
 
 -- Whether a child stands outside advice bodies, its parent doing so or not.
 abbrev pub outside : Bool → Body → Bool

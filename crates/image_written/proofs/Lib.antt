@@ -18,3 +18,4 @@ pub mod Fixed
 pub mod Stripping
 pub mod Load
 pub mod Fronts
+pub mod LoadExamples

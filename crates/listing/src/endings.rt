@@ -53,7 +53,7 @@ fn put_value(out: &mut [u8], at: usize, report: &[u8]) -> usize
 fn put_result(out: &mut [u8], at: usize, outcome: Outcome, report: &[u8]) -> usize
     ensures { λ r. ⌜ Puts (now (out .entry)) at (resultLine outcome (readReport (now (report .entry)) .result)) (now (out .exit)) r ⌝ }
 {
-    if calculus::outcome_number(outcome) == DONE {
+    if report::outcome_number(outcome) == DONE {
         return put_value(out, at, report);
     }
     at

@@ -6,17 +6,17 @@ use mathlib.Core.Path.{_≡_, refl, sym, ap, _∙_}
 use mathlib.Core.Bool.{Bool, true, false, not, _&&_}
 use mathlib.Core.List.{List, [], _∷_, _++_}
 use lib.ListN.{length, getD, take}
-use lib.Dec.{eqb}
+use lib.Dec.{eqb, leb}
 use lib.Seq.{take-suc, take-all, length-take-le}
 use borrow.Author.Tests.{ne-eqb}
 use Rattle.calculus.specs.Combinators.{choose}
-use Rattle.laws.proofs.Booleans.{no-path}
-use Rattle.image.specs.Kinds.{TermKind, termRow, bodyOf}
+use Rattle.laws.proofs.Booleans.{and-l, and-r, not-t, le-of}
+use Rattle.image.specs.Kinds.{Body, here, function-body, advice-body, split-body, lower-body, method-body, match-body, TermKind, termRow, bodies, bodyOf}
 use Rattle.image.specs.Records.{Layout}
 use Rattle.image.specs.Types.{termKind, children}
 use Rattle.image.proofs.Laid.{Good, Below}
-use Rattle.image.proofs.EveryKind.{everyOf}
-use Rattle.check_rules.proofs.Elimination.{apart, isOne, left-over}
+use Rattle.image.proofs.EveryKind.{everyOf, at-term}
+use Rattle.check_rules.proofs.Elimination.{apart}
 use Rattle.image_needs.specs.Faults.{permits, outside, least, permitted, lowest}
 use Rattle.need_class.specs.First.{lowestAt}
 
@@ -29,273 +29,84 @@ no-first (e ∷ es) h = absurd (omega arith)
 abbrev tied : List TermKind
 tied = TermKind.install ∷ TermKind.mark ∷ TermKind.call ∷ TermKind.app ∷ []
 
-free : (k : TermKind) → not (isOne tied k) ≡ true → (m : Bool) (j : TermKind) → true ≡ permits m k j
-free TermKind.unit h m j = refl
-free TermKind.truth h m j = refl
-free TermKind.number h m j = refl
-free TermKind.var h m j = refl
-free TermKind.seq h m j = refl
-free TermKind.print h m j = refl
-free TermKind.ite h m j = refl
-free TermKind.pair h m j = refl
-free TermKind.split h m j = refl
-free TermKind.fun h m j = refl
-free TermKind.app h m j = no-path (sym h)
-free TermKind.arith h m j = refl
-free TermKind.newLabel h m j = refl
-free TermKind.mark h m j = no-path (sym h)
-free TermKind.pcd h m j = refl
-free TermKind.adv h m j = refl
-free TermKind.install h m j = no-path (sym h)
-free TermKind.newCell h m j = refl
-free TermKind.read h m j = refl
-free TermKind.store h m j = refl
-free TermKind.lower h m j = refl
-free TermKind.abort h m j = refl
-free TermKind.byte h m j = refl
-free TermKind.obj h m j = refl
-free TermKind.call h m j = no-path (sym h)
-free TermKind.stack h m j = refl
-free TermKind.keep h m j = refl
-free TermKind.match h m j = refl
-free TermKind.takedown h m j = refl
-
 pub free-kind : (n : ℕ) → apart n tied → (k : TermKind) → n ≡ termRow k .number → (m : Bool) (j : TermKind) → true ≡ permits m k j
-unfolding everyOf
-free-kind n r k e m j = free k (left-over (λ k. not (isOne tied k)) tied refl n r k e) m j
+free-kind n r k e m j =
+    rw (ne-eqb (termRow k .number) 42 (λ z. r .0 .0 .0 .1 (e ∙ z)), ne-eqb (termRow k .number) 55 (λ z. r .0 .0 .1 (e ∙ z)), ne-eqb (termRow k .number) 45 (λ z. r .0 .1 (e ∙ z)), ne-eqb (termRow k .number) 48 (λ z. r .1 (e ∙ z)))
+    refl
 
--- Where a child stands: the second child of an advice is its body.
+-- Where a child stands: the second child of an advice is its body, and no other child of any term is one.
+abbrev isAdviceBody : Body → Bool
+isAdviceBody here = false
+isAdviceBody function-body = false
+isAdviceBody advice-body = true
+isAdviceBody split-body = false
+isAdviceBody lower-body = false
+isAdviceBody method-body = false
+isAdviceBody match-body = false
+
+by-body : (m : Bool) (b : Body) → choose (isAdviceBody b) false m ≡ outside m b
+by-body m here = refl
+by-body m function-body = refl
+by-body m advice-body = refl
+by-body m split-body = refl
+by-body m lower-body = refl
+by-body m method-body = refl
+by-body m match-body = refl
+
+-- Only a term's first three children may stand where no further one does.
+abbrev further : TermKind → Body
+further k = getD (bodies (termRow k .group)) 0 here
+
+abbrev secondAlone : TermKind → Bool
+secondAlone k =
+    let at : ℕ → Bool = λ i. isAdviceBody (bodyOf k i) in
+    not (at 0) && (choose (eqb (termRow k .number) 47) (at 1) (not (at 1)) && (not (at 2) && (not (isAdviceBody (further k)) && leb (length (bodies (termRow k .first))) 3)))
+
+past : (bs : List Body) (i : ℕ) (d : Body) → length bs ≤ 3 → getD bs (suc (suc (suc i))) d ≡ d
+past [] i d h = refl
+past (a ∷ []) i d h = refl
+past (a ∷ b ∷ []) i d h = refl
+past (a ∷ b ∷ c ∷ []) i d h = refl
+past (a ∷ b ∷ c ∷ e ∷ bs) i d h = absurd (omega arith)
+
+second : (x b : Bool) → choose x b (not b) ≡ true → b ≡ (x && true)
+second true b h = h
+second false b h = not-t b h
+
+not-second : (x b : Bool) → not b ≡ true → b ≡ (x && false)
+not-second true b h = not-t b h
+not-second false b h = not-t b h
+
+advice-second : (k : TermKind) (j : ℕ) → isAdviceBody (bodyOf k j) ≡ (eqb (termRow k .number) 47 && eqb j 1)
+unfolding everyOf
+advice-second k j = go j
+  where
+    x : Bool
+    x = eqb (termRow k .number) 47
+
+    h : secondAlone k ≡ true
+    h = at-term secondAlone refl k
+
+    h1 : (choose x (isAdviceBody (bodyOf k 1)) (not (isAdviceBody (bodyOf k 1))) && (not (isAdviceBody (bodyOf k 2)) && (not (isAdviceBody (further k)) && leb (length (bodies (termRow k .first))) 3))) ≡ true
+    h1 = and-r (not (isAdviceBody (bodyOf k 0))) _ h
+
+    h2 : (not (isAdviceBody (bodyOf k 2)) && (not (isAdviceBody (further k)) && leb (length (bodies (termRow k .first))) 3)) ≡ true
+    h2 = and-r (choose x (isAdviceBody (bodyOf k 1)) (not (isAdviceBody (bodyOf k 1)))) _ h1
+
+    h3 : (not (isAdviceBody (further k)) && leb (length (bodies (termRow k .first))) 3) ≡ true
+    h3 = and-r (not (isAdviceBody (bodyOf k 2))) _ h2
+
+    go : (j : ℕ) → isAdviceBody (bodyOf k j) ≡ (x && eqb j 1)
+    go zero = not-second x (isAdviceBody (bodyOf k 0)) (and-l (not (isAdviceBody (bodyOf k 0))) _ h)
+    go (suc zero) = second x (isAdviceBody (bodyOf k 1)) (and-l (choose x (isAdviceBody (bodyOf k 1)) (not (isAdviceBody (bodyOf k 1)))) _ h1)
+    go (suc (suc zero)) = not-second x (isAdviceBody (bodyOf k 2)) (and-l (not (isAdviceBody (bodyOf k 2))) _ h2)
+    go (suc (suc (suc i))) =
+        rw (ne-eqb (suc (suc (suc i))) 1 (λ z. omega arith))
+        (ap isAdviceBody (past (bodies (termRow k .first)) i (further k) (le-of (and-r (not (isAdviceBody (further k))) _ h3)))
+        ∙ not-second x (isAdviceBody (further k)) (and-l (not (isAdviceBody (further k))) _ h3))
+
 pub outside-of : (k : TermKind) (j : ℕ) (m b : Bool) → (eqb (termRow k .number) 47 && eqb j 1) ≡ b → choose b false m ≡ outside m (bodyOf k j)
-outside-of TermKind.unit zero m true h = no-path (sym h)
-outside-of TermKind.unit zero m false h = refl
-outside-of TermKind.unit (suc zero) m true h = no-path (sym h)
-outside-of TermKind.unit (suc zero) m false h = refl
-outside-of TermKind.unit (suc (suc zero)) m true h = no-path (sym h)
-outside-of TermKind.unit (suc (suc zero)) m false h = refl
-outside-of TermKind.unit (suc (suc (suc j))) m true h = no-path (sym h)
-outside-of TermKind.unit (suc (suc (suc j))) m false h = refl
-outside-of TermKind.truth zero m true h = no-path (sym h)
-outside-of TermKind.truth zero m false h = refl
-outside-of TermKind.truth (suc zero) m true h = no-path (sym h)
-outside-of TermKind.truth (suc zero) m false h = refl
-outside-of TermKind.truth (suc (suc zero)) m true h = no-path (sym h)
-outside-of TermKind.truth (suc (suc zero)) m false h = refl
-outside-of TermKind.truth (suc (suc (suc j))) m true h = no-path (sym h)
-outside-of TermKind.truth (suc (suc (suc j))) m false h = refl
-outside-of TermKind.number zero m true h = no-path (sym h)
-outside-of TermKind.number zero m false h = refl
-outside-of TermKind.number (suc zero) m true h = no-path (sym h)
-outside-of TermKind.number (suc zero) m false h = refl
-outside-of TermKind.number (suc (suc zero)) m true h = no-path (sym h)
-outside-of TermKind.number (suc (suc zero)) m false h = refl
-outside-of TermKind.number (suc (suc (suc j))) m true h = no-path (sym h)
-outside-of TermKind.number (suc (suc (suc j))) m false h = refl
-outside-of TermKind.var zero m true h = no-path (sym h)
-outside-of TermKind.var zero m false h = refl
-outside-of TermKind.var (suc zero) m true h = no-path (sym h)
-outside-of TermKind.var (suc zero) m false h = refl
-outside-of TermKind.var (suc (suc zero)) m true h = no-path (sym h)
-outside-of TermKind.var (suc (suc zero)) m false h = refl
-outside-of TermKind.var (suc (suc (suc j))) m true h = no-path (sym h)
-outside-of TermKind.var (suc (suc (suc j))) m false h = refl
-outside-of TermKind.seq zero m true h = no-path (sym h)
-outside-of TermKind.seq zero m false h = refl
-outside-of TermKind.seq (suc zero) m true h = no-path (sym h)
-outside-of TermKind.seq (suc zero) m false h = refl
-outside-of TermKind.seq (suc (suc zero)) m true h = no-path (sym h)
-outside-of TermKind.seq (suc (suc zero)) m false h = refl
-outside-of TermKind.seq (suc (suc (suc j))) m true h = no-path (sym h)
-outside-of TermKind.seq (suc (suc (suc j))) m false h = refl
-outside-of TermKind.print zero m true h = no-path (sym h)
-outside-of TermKind.print zero m false h = refl
-outside-of TermKind.print (suc zero) m true h = no-path (sym h)
-outside-of TermKind.print (suc zero) m false h = refl
-outside-of TermKind.print (suc (suc zero)) m true h = no-path (sym h)
-outside-of TermKind.print (suc (suc zero)) m false h = refl
-outside-of TermKind.print (suc (suc (suc j))) m true h = no-path (sym h)
-outside-of TermKind.print (suc (suc (suc j))) m false h = refl
-outside-of TermKind.ite zero m true h = no-path (sym h)
-outside-of TermKind.ite zero m false h = refl
-outside-of TermKind.ite (suc zero) m true h = no-path (sym h)
-outside-of TermKind.ite (suc zero) m false h = refl
-outside-of TermKind.ite (suc (suc zero)) m true h = no-path (sym h)
-outside-of TermKind.ite (suc (suc zero)) m false h = refl
-outside-of TermKind.ite (suc (suc (suc j))) m true h = no-path (sym h)
-outside-of TermKind.ite (suc (suc (suc j))) m false h = refl
-outside-of TermKind.pair zero m true h = no-path (sym h)
-outside-of TermKind.pair zero m false h = refl
-outside-of TermKind.pair (suc zero) m true h = no-path (sym h)
-outside-of TermKind.pair (suc zero) m false h = refl
-outside-of TermKind.pair (suc (suc zero)) m true h = no-path (sym h)
-outside-of TermKind.pair (suc (suc zero)) m false h = refl
-outside-of TermKind.pair (suc (suc (suc j))) m true h = no-path (sym h)
-outside-of TermKind.pair (suc (suc (suc j))) m false h = refl
-outside-of TermKind.split zero m true h = no-path (sym h)
-outside-of TermKind.split zero m false h = refl
-outside-of TermKind.split (suc zero) m true h = no-path (sym h)
-outside-of TermKind.split (suc zero) m false h = refl
-outside-of TermKind.split (suc (suc zero)) m true h = no-path (sym h)
-outside-of TermKind.split (suc (suc zero)) m false h = refl
-outside-of TermKind.split (suc (suc (suc j))) m true h = no-path (sym h)
-outside-of TermKind.split (suc (suc (suc j))) m false h = refl
-outside-of TermKind.fun zero m true h = no-path (sym h)
-outside-of TermKind.fun zero m false h = refl
-outside-of TermKind.fun (suc zero) m true h = no-path (sym h)
-outside-of TermKind.fun (suc zero) m false h = refl
-outside-of TermKind.fun (suc (suc zero)) m true h = no-path (sym h)
-outside-of TermKind.fun (suc (suc zero)) m false h = refl
-outside-of TermKind.fun (suc (suc (suc j))) m true h = no-path (sym h)
-outside-of TermKind.fun (suc (suc (suc j))) m false h = refl
-outside-of TermKind.app zero m true h = no-path (sym h)
-outside-of TermKind.app zero m false h = refl
-outside-of TermKind.app (suc zero) m true h = no-path (sym h)
-outside-of TermKind.app (suc zero) m false h = refl
-outside-of TermKind.app (suc (suc zero)) m true h = no-path (sym h)
-outside-of TermKind.app (suc (suc zero)) m false h = refl
-outside-of TermKind.app (suc (suc (suc j))) m true h = no-path (sym h)
-outside-of TermKind.app (suc (suc (suc j))) m false h = refl
-outside-of TermKind.arith zero m true h = no-path (sym h)
-outside-of TermKind.arith zero m false h = refl
-outside-of TermKind.arith (suc zero) m true h = no-path (sym h)
-outside-of TermKind.arith (suc zero) m false h = refl
-outside-of TermKind.arith (suc (suc zero)) m true h = no-path (sym h)
-outside-of TermKind.arith (suc (suc zero)) m false h = refl
-outside-of TermKind.arith (suc (suc (suc j))) m true h = no-path (sym h)
-outside-of TermKind.arith (suc (suc (suc j))) m false h = refl
-outside-of TermKind.newLabel zero m true h = no-path (sym h)
-outside-of TermKind.newLabel zero m false h = refl
-outside-of TermKind.newLabel (suc zero) m true h = no-path (sym h)
-outside-of TermKind.newLabel (suc zero) m false h = refl
-outside-of TermKind.newLabel (suc (suc zero)) m true h = no-path (sym h)
-outside-of TermKind.newLabel (suc (suc zero)) m false h = refl
-outside-of TermKind.newLabel (suc (suc (suc j))) m true h = no-path (sym h)
-outside-of TermKind.newLabel (suc (suc (suc j))) m false h = refl
-outside-of TermKind.mark zero m true h = no-path (sym h)
-outside-of TermKind.mark zero m false h = refl
-outside-of TermKind.mark (suc zero) m true h = no-path (sym h)
-outside-of TermKind.mark (suc zero) m false h = refl
-outside-of TermKind.mark (suc (suc zero)) m true h = no-path (sym h)
-outside-of TermKind.mark (suc (suc zero)) m false h = refl
-outside-of TermKind.mark (suc (suc (suc j))) m true h = no-path (sym h)
-outside-of TermKind.mark (suc (suc (suc j))) m false h = refl
-outside-of TermKind.pcd zero m true h = no-path (sym h)
-outside-of TermKind.pcd zero m false h = refl
-outside-of TermKind.pcd (suc zero) m true h = no-path (sym h)
-outside-of TermKind.pcd (suc zero) m false h = refl
-outside-of TermKind.pcd (suc (suc zero)) m true h = no-path (sym h)
-outside-of TermKind.pcd (suc (suc zero)) m false h = refl
-outside-of TermKind.pcd (suc (suc (suc j))) m true h = no-path (sym h)
-outside-of TermKind.pcd (suc (suc (suc j))) m false h = refl
-outside-of TermKind.adv zero m true h = no-path (sym h)
-outside-of TermKind.adv zero m false h = refl
-outside-of TermKind.adv (suc zero) m true h = refl
-outside-of TermKind.adv (suc zero) m false h = no-path h
-outside-of TermKind.adv (suc (suc j)) m true h = no-path (sym (sym (ne-eqb (suc (suc j)) 1 (λ e. absurd (omega arith))) ∙ h))
-outside-of TermKind.adv (suc (suc j)) m false h = refl
-outside-of TermKind.install zero m true h = no-path (sym h)
-outside-of TermKind.install zero m false h = refl
-outside-of TermKind.install (suc zero) m true h = no-path (sym h)
-outside-of TermKind.install (suc zero) m false h = refl
-outside-of TermKind.install (suc (suc zero)) m true h = no-path (sym h)
-outside-of TermKind.install (suc (suc zero)) m false h = refl
-outside-of TermKind.install (suc (suc (suc j))) m true h = no-path (sym h)
-outside-of TermKind.install (suc (suc (suc j))) m false h = refl
-outside-of TermKind.newCell zero m true h = no-path (sym h)
-outside-of TermKind.newCell zero m false h = refl
-outside-of TermKind.newCell (suc zero) m true h = no-path (sym h)
-outside-of TermKind.newCell (suc zero) m false h = refl
-outside-of TermKind.newCell (suc (suc zero)) m true h = no-path (sym h)
-outside-of TermKind.newCell (suc (suc zero)) m false h = refl
-outside-of TermKind.newCell (suc (suc (suc j))) m true h = no-path (sym h)
-outside-of TermKind.newCell (suc (suc (suc j))) m false h = refl
-outside-of TermKind.read zero m true h = no-path (sym h)
-outside-of TermKind.read zero m false h = refl
-outside-of TermKind.read (suc zero) m true h = no-path (sym h)
-outside-of TermKind.read (suc zero) m false h = refl
-outside-of TermKind.read (suc (suc zero)) m true h = no-path (sym h)
-outside-of TermKind.read (suc (suc zero)) m false h = refl
-outside-of TermKind.read (suc (suc (suc j))) m true h = no-path (sym h)
-outside-of TermKind.read (suc (suc (suc j))) m false h = refl
-outside-of TermKind.store zero m true h = no-path (sym h)
-outside-of TermKind.store zero m false h = refl
-outside-of TermKind.store (suc zero) m true h = no-path (sym h)
-outside-of TermKind.store (suc zero) m false h = refl
-outside-of TermKind.store (suc (suc zero)) m true h = no-path (sym h)
-outside-of TermKind.store (suc (suc zero)) m false h = refl
-outside-of TermKind.store (suc (suc (suc j))) m true h = no-path (sym h)
-outside-of TermKind.store (suc (suc (suc j))) m false h = refl
-outside-of TermKind.lower zero m true h = no-path (sym h)
-outside-of TermKind.lower zero m false h = refl
-outside-of TermKind.lower (suc zero) m true h = no-path (sym h)
-outside-of TermKind.lower (suc zero) m false h = refl
-outside-of TermKind.lower (suc (suc zero)) m true h = no-path (sym h)
-outside-of TermKind.lower (suc (suc zero)) m false h = refl
-outside-of TermKind.lower (suc (suc (suc j))) m true h = no-path (sym h)
-outside-of TermKind.lower (suc (suc (suc j))) m false h = refl
-outside-of TermKind.abort zero m true h = no-path (sym h)
-outside-of TermKind.abort zero m false h = refl
-outside-of TermKind.abort (suc zero) m true h = no-path (sym h)
-outside-of TermKind.abort (suc zero) m false h = refl
-outside-of TermKind.abort (suc (suc zero)) m true h = no-path (sym h)
-outside-of TermKind.abort (suc (suc zero)) m false h = refl
-outside-of TermKind.abort (suc (suc (suc j))) m true h = no-path (sym h)
-outside-of TermKind.abort (suc (suc (suc j))) m false h = refl
-outside-of TermKind.byte zero m true h = no-path (sym h)
-outside-of TermKind.byte zero m false h = refl
-outside-of TermKind.byte (suc zero) m true h = no-path (sym h)
-outside-of TermKind.byte (suc zero) m false h = refl
-outside-of TermKind.byte (suc (suc zero)) m true h = no-path (sym h)
-outside-of TermKind.byte (suc (suc zero)) m false h = refl
-outside-of TermKind.byte (suc (suc (suc j))) m true h = no-path (sym h)
-outside-of TermKind.byte (suc (suc (suc j))) m false h = refl
-outside-of TermKind.obj zero m true h = no-path (sym h)
-outside-of TermKind.obj zero m false h = refl
-outside-of TermKind.obj (suc zero) m true h = no-path (sym h)
-outside-of TermKind.obj (suc zero) m false h = refl
-outside-of TermKind.obj (suc (suc zero)) m true h = no-path (sym h)
-outside-of TermKind.obj (suc (suc zero)) m false h = refl
-outside-of TermKind.obj (suc (suc (suc j))) m true h = no-path (sym h)
-outside-of TermKind.obj (suc (suc (suc j))) m false h = refl
-outside-of TermKind.call zero m true h = no-path (sym h)
-outside-of TermKind.call zero m false h = refl
-outside-of TermKind.call (suc zero) m true h = no-path (sym h)
-outside-of TermKind.call (suc zero) m false h = refl
-outside-of TermKind.call (suc (suc zero)) m true h = no-path (sym h)
-outside-of TermKind.call (suc (suc zero)) m false h = refl
-outside-of TermKind.call (suc (suc (suc j))) m true h = no-path (sym h)
-outside-of TermKind.call (suc (suc (suc j))) m false h = refl
-outside-of TermKind.stack zero m true h = no-path (sym h)
-outside-of TermKind.stack zero m false h = refl
-outside-of TermKind.stack (suc zero) m true h = no-path (sym h)
-outside-of TermKind.stack (suc zero) m false h = refl
-outside-of TermKind.stack (suc (suc zero)) m true h = no-path (sym h)
-outside-of TermKind.stack (suc (suc zero)) m false h = refl
-outside-of TermKind.stack (suc (suc (suc j))) m true h = no-path (sym h)
-outside-of TermKind.stack (suc (suc (suc j))) m false h = refl
-outside-of TermKind.keep zero m true h = no-path (sym h)
-outside-of TermKind.keep zero m false h = refl
-outside-of TermKind.keep (suc zero) m true h = no-path (sym h)
-outside-of TermKind.keep (suc zero) m false h = refl
-outside-of TermKind.keep (suc (suc zero)) m true h = no-path (sym h)
-outside-of TermKind.keep (suc (suc zero)) m false h = refl
-outside-of TermKind.keep (suc (suc (suc j))) m true h = no-path (sym h)
-outside-of TermKind.keep (suc (suc (suc j))) m false h = refl
-outside-of TermKind.match zero m true h = no-path (sym h)
-outside-of TermKind.match zero m false h = refl
-outside-of TermKind.match (suc zero) m true h = no-path (sym h)
-outside-of TermKind.match (suc zero) m false h = refl
-outside-of TermKind.match (suc (suc zero)) m true h = no-path (sym h)
-outside-of TermKind.match (suc (suc zero)) m false h = refl
-outside-of TermKind.match (suc (suc (suc j))) m true h = no-path (sym h)
-outside-of TermKind.match (suc (suc (suc j))) m false h = refl
-outside-of TermKind.takedown zero m true h = no-path (sym h)
-outside-of TermKind.takedown zero m false h = refl
-outside-of TermKind.takedown (suc zero) m true h = no-path (sym h)
-outside-of TermKind.takedown (suc zero) m false h = refl
-outside-of TermKind.takedown (suc (suc zero)) m true h = no-path (sym h)
-outside-of TermKind.takedown (suc (suc zero)) m false h = refl
-outside-of TermKind.takedown (suc (suc (suc j))) m true h = no-path (sym h)
-outside-of TermKind.takedown (suc (suc (suc j))) m false h = refl
+outside-of k j m b h = ap (λ y. choose y false m) (sym (advice-second k j ∙ h)) ∙ by-body m (bodyOf k j)
 
 -- One child more.
 least-snoc : (f : ℕ → ℕ → ℕ) (d i : ℕ) (es : List ℕ) (e m : ℕ) → m ≡ i + length es → least f d i (es ++ (e ∷ [])) ≡ min (least f d i es) (f m e)

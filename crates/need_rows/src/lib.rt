@@ -2,12 +2,12 @@
 // cards 6 and 10), by one walk over the terms of an image.
 use check_records::numbers::TermNo;
 use check_rules::leaf::is_leaf;
-use need_sums::own::is_branch;
+use need_own::own::is_branch;
+use need_own::rows::add_rows;
+use need_own::rows::charge_rows;
+use need_own::rows::raise_rows;
 use need_sums::places::Stand;
 use need_sums::places::child_stand;
-use need_sums::rows::add_rows;
-use need_sums::rows::charge_rows;
-use need_sums::rows::raise_rows;
 use need_sums::shapes::role_at;
 use need_terms::child_at;
 use need_terms::child_count;

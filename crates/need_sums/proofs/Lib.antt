@@ -1,3 +1,2 @@
--- Proofs of the functions of this crate.
+-- Laws of the table of shapes.
 pub mod Tables
-pub mod Turns

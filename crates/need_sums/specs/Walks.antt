@@ -3,7 +3,8 @@ use Prim.Native.Nat.{ℕ, zero, suc, _+_}
 use mathlib.Core.Bool.{Bool, true, false}
 use lib.Dec.{eqb}
 use Rattle.calculus.specs.Combinators.{choose}
-use Rattle.image.specs.Kinds.{TermKind}
+use Rattle.calculus_needs.specs.Needs.{Extra, noExtra, aNewLabel, keptPieces, extra0}
+use Rattle.image.specs.Kinds.{TermKind, Form, operator, formOf}
 use Rattle.image_needs.specs.declared.Needs.{Needs}
 use Rattle.need_sums.specs.declared.shapes.Own.{Own}
 use Rattle.need_sums.specs.declared.shapes.Role.{Role}
@@ -29,36 +30,43 @@ two o r = record { own = o; first = Role.Operand; second = r; third = Role.Skipp
 abbrev pub three : Role → Role → Role → Shape
 three r q p = record { own = Own.Step; first = Role.Operand; second = r; third = q; rest = p }
 
+-- What an operator without operands takes.
+abbrev pub ownOf : Extra → Own
+ownOf noExtra = Own.Step
+ownOf aNewLabel = Own.Label
+ownOf keptPieces = Own.Stack
+
+abbrev pub shapeAs : {k : TermKind} → Form k → Shape
+shapeAs (operator o n r) = childless (ownOf (extra0 o))
+shapeAs Form.unit = childless Own.Nothing
+shapeAs Form.truth = childless Own.Nothing
+shapeAs Form.number = childless Own.Nothing
+shapeAs Form.var = childless Own.Nothing
+shapeAs Form.seq = two Own.Step Role.Next
+shapeAs Form.print = one Own.Print Role.Operand
+shapeAs Form.ite = three Role.Branch Role.Branch Role.Skipped
+shapeAs Form.pair = two Own.Piece Role.Operand
+shapeAs Form.split = two Own.TwoBindings Role.Next
+shapeAs Form.fun = childless Own.Nothing
+shapeAs Form.app = two Own.Binding Role.Operand
+shapeAs Form.arith = two Own.Step Role.Operand
+shapeAs Form.mark = two Own.Mark Role.Operand
+shapeAs Form.pcd = record { own = Own.Piece; first = Role.Operand; second = Role.Operand; third = Role.Operand; rest = Role.Operand }
+shapeAs Form.adv = two Own.Advised Role.AdviceBody
+shapeAs Form.install = one Own.Advice Role.Installed
+shapeAs Form.newCell = one Own.Cell Role.Operand
+shapeAs Form.read = one Own.Step Role.Operand
+shapeAs Form.store = two Own.Step Role.Operand
+shapeAs Form.lower = one Own.Step Role.Lowered
+shapeAs Form.byte = one Own.Step Role.Operand
+shapeAs Form.obj = childless Own.Nothing
+shapeAs Form.call = one Own.Binding Role.Operand
+shapeAs Form.keep = three Role.Operand Role.Kept Role.Skipped
+shapeAs Form.match = three Role.FirstBranch Role.Branch Role.Operand
+shapeAs Form.takedown = childless Own.Step
+
 abbrev pub shapeOf : TermKind → Shape
-shapeOf TermKind.unit = childless Own.Nothing
-shapeOf TermKind.truth = childless Own.Nothing
-shapeOf TermKind.number = childless Own.Nothing
-shapeOf TermKind.var = childless Own.Nothing
-shapeOf TermKind.seq = two Own.Step Role.Next
-shapeOf TermKind.print = one Own.Print Role.Operand
-shapeOf TermKind.ite = three Role.Branch Role.Branch Role.Skipped
-shapeOf TermKind.pair = two Own.Piece Role.Operand
-shapeOf TermKind.split = two Own.TwoBindings Role.Next
-shapeOf TermKind.fun = childless Own.Nothing
-shapeOf TermKind.app = two Own.Binding Role.Operand
-shapeOf TermKind.arith = two Own.Step Role.Operand
-shapeOf TermKind.newLabel = childless Own.Label
-shapeOf TermKind.mark = two Own.Mark Role.Operand
-shapeOf TermKind.pcd = record { own = Own.Piece; first = Role.Operand; second = Role.Operand; third = Role.Operand; rest = Role.Operand }
-shapeOf TermKind.adv = two Own.Advised Role.AdviceBody
-shapeOf TermKind.install = one Own.Advice Role.Installed
-shapeOf TermKind.newCell = one Own.Cell Role.Operand
-shapeOf TermKind.read = one Own.Step Role.Operand
-shapeOf TermKind.store = two Own.Step Role.Operand
-shapeOf TermKind.lower = one Own.Step Role.Lowered
-shapeOf TermKind.abort = childless Own.Step
-shapeOf TermKind.byte = one Own.Step Role.Operand
-shapeOf TermKind.obj = childless Own.Nothing
-shapeOf TermKind.call = one Own.Binding Role.Operand
-shapeOf TermKind.stack = childless Own.Stack
-shapeOf TermKind.keep = three Role.Operand Role.Kept Role.Skipped
-shapeOf TermKind.match = three Role.FirstBranch Role.Branch Role.Operand
-shapeOf TermKind.takedown = childless Own.Step
+shapeOf k = shapeAs (formOf k)
 
 -- The role of child j.
 abbrev pub roleAt : Shape → ℕ → Role

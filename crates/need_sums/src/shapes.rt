@@ -96,16 +96,22 @@ fn three(second: Role, third: Role, rest: Role) -> Shape
     }
 }
 
-// The kinds with a body that does not run and the constants take nothing.
+// Constants, variables and the kinds with a body that does not run take nothing. What is left is an operator without operands
+// that takes a step and nothing besides.
 pub fn shape_of(kind: u16) -> Shape
     ensures { λ r. ⌜ ((k : TermKind) → kind ≡ termRow k .number → r ≡ shapeOf k) ⌝ }
 {
     match kind {
+        kinds::UNIT => childless(Own::Nothing),
+        kinds::TRUTH => childless(Own::Nothing),
+        kinds::NUMBER => childless(Own::Nothing),
+        kinds::VARIABLE => childless(Own::Nothing),
         kinds::SEQUENCE => two(Own::Step, Role::Next),
         kinds::PRINT => one(Own::Print, Role::Operand),
         kinds::CHOICE => three(Role::Branch, Role::Branch, Role::Skipped),
         kinds::PAIR => two(Own::Piece, Role::Operand),
         kinds::SPLIT => two(Own::TwoBindings, Role::Next),
+        kinds::FUNCTION => childless(Own::Nothing),
         kinds::APPLY => two(Own::Binding, Role::Operand),
         kinds::ARITHMETIC => two(Own::Step, Role::Operand),
         kinds::NEW_LABEL => childless(Own::Label),
@@ -123,14 +129,13 @@ pub fn shape_of(kind: u16) -> Shape
         kinds::READ => one(Own::Step, Role::Operand),
         kinds::STORE => two(Own::Step, Role::Operand),
         kinds::LOWER => one(Own::Step, Role::Lowered),
-        kinds::ABORT => childless(Own::Step),
-        kinds::FRAME_BYTE => one(Own::Step, Role::Operand),
+        kinds::OBJECT => childless(Own::Nothing),
         kinds::CALL => one(Own::Binding, Role::Operand),
         kinds::STACK => childless(Own::Stack),
         kinds::KEEP => three(Role::Operand, Role::Kept, Role::Skipped),
         kinds::MATCH => three(Role::FirstBranch, Role::Branch, Role::Operand),
-        kinds::TAKEDOWN => childless(Own::Step),
-        _ => childless(Own::Nothing),
+        kinds::FRAME_BYTE => one(Own::Step, Role::Operand),
+        _ => childless(Own::Step),
     }
 }
 

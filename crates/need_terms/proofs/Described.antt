@@ -1,6 +1,7 @@
 -- What is read off a type's descriptor and a match's fields is what the type and the pattern say.
 use Prim.Native.Nat.{ℕ, _+_, _-_, _≤_}
 use native.Mathlib.Omega.{arith}
+use borrow.Author.Tests.{ne-eqb}
 use mathlib.Core.Path.{_≡_, refl, sym, ap, subst, _∙_}
 use mathlib.Core.Bool.{Bool, true, false}
 use mathlib.Core.List.{List}
@@ -51,66 +52,10 @@ lower-domain {b} T {n} h e fs q = ap (λ f. fieldIn f 1) q ∙ (lower-field (fie
 
 -- Other kinds give no domain, and bind nothing.
 pub no-domain : (k : TermKind) (t : Ty) (vs : List ℕ) → (termRow k .number ≡ 47 → ⊥) → (termRow k .number ≡ 52 → ⊥) → 0 ≡ partDomain k t vs
-no-domain TermKind.unit t vs a l = refl
-no-domain TermKind.truth t vs a l = refl
-no-domain TermKind.number t vs a l = refl
-no-domain TermKind.var t vs a l = refl
-no-domain TermKind.seq t vs a l = refl
-no-domain TermKind.print t vs a l = refl
-no-domain TermKind.ite t vs a l = refl
-no-domain TermKind.pair t vs a l = refl
-no-domain TermKind.split t vs a l = refl
-no-domain TermKind.fun t vs a l = refl
-no-domain TermKind.app t vs a l = refl
-no-domain TermKind.arith t vs a l = refl
-no-domain TermKind.newLabel t vs a l = refl
-no-domain TermKind.mark t vs a l = refl
-no-domain TermKind.pcd t vs a l = refl
-no-domain TermKind.adv t vs a l = absurd (a refl)
-no-domain TermKind.install t vs a l = refl
-no-domain TermKind.newCell t vs a l = refl
-no-domain TermKind.read t vs a l = refl
-no-domain TermKind.store t vs a l = refl
-no-domain TermKind.lower t vs a l = absurd (l refl)
-no-domain TermKind.abort t vs a l = refl
-no-domain TermKind.byte t vs a l = refl
-no-domain TermKind.obj t vs a l = refl
-no-domain TermKind.call t vs a l = refl
-no-domain TermKind.stack t vs a l = refl
-no-domain TermKind.keep t vs a l = refl
-no-domain TermKind.match t vs a l = refl
-no-domain TermKind.takedown t vs a l = refl
+no-domain k t vs a l = rw (ne-eqb (termRow k .number) 47 a, ne-eqb (termRow k .number) 52 l) refl
 
 pub no-variables : (k : TermKind) (vs : List ℕ) → (termRow k .number ≡ 58 → ⊥) → 0 ≡ branchVariables k vs
-no-variables TermKind.unit vs m = refl
-no-variables TermKind.truth vs m = refl
-no-variables TermKind.number vs m = refl
-no-variables TermKind.var vs m = refl
-no-variables TermKind.seq vs m = refl
-no-variables TermKind.print vs m = refl
-no-variables TermKind.ite vs m = refl
-no-variables TermKind.pair vs m = refl
-no-variables TermKind.split vs m = refl
-no-variables TermKind.fun vs m = refl
-no-variables TermKind.app vs m = refl
-no-variables TermKind.arith vs m = refl
-no-variables TermKind.newLabel vs m = refl
-no-variables TermKind.mark vs m = refl
-no-variables TermKind.pcd vs m = refl
-no-variables TermKind.adv vs m = refl
-no-variables TermKind.install vs m = refl
-no-variables TermKind.newCell vs m = refl
-no-variables TermKind.read vs m = refl
-no-variables TermKind.store vs m = refl
-no-variables TermKind.lower vs m = refl
-no-variables TermKind.abort vs m = refl
-no-variables TermKind.byte vs m = refl
-no-variables TermKind.obj vs m = refl
-no-variables TermKind.call vs m = refl
-no-variables TermKind.stack vs m = refl
-no-variables TermKind.keep vs m = refl
-no-variables TermKind.match vs m = absurd (m refl)
-no-variables TermKind.takedown vs m = refl
+no-variables k vs m = rw (ne-eqb (termRow k .number) 58 m) refl
 
 -- How many variables a pattern binds.
 variables-are : (p : Pattern) → variables p ≡ pointcuts p + choose (bindsRest p) 1 0

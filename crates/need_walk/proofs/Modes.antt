@@ -11,20 +11,21 @@ use Rattle.calculus.specs.Syntax.{Dom, Ty, Val, Tm, Tms, val, end, more}
 use Rattle.calculus.specs.Plain.{domOf}
 use Rattle.calculus_needs.specs.Here.{Here, at, deeper}
 use Rattle.calculus_needs.specs.Numbers.{Numbers, none, _⊕_}
-use Rattle.calculus_needs.specs.Needs.{once, binds, need, round, roundOf, rounds}
+use Rattle.calculus_needs.specs.Needs.{Extra, noExtra, aNewLabel, keptPieces, extra0, once, binds, need, round, roundOf, rounds}
 use Rattle.calculus_needs.proofs.Sums.{none-left, none-right, plus-assoc, plus-comm}
-use Rattle.image.specs.Kinds.{TermKind}
-use Rattle.image.specs.Program.{nth, behind, assemble}
+use Rattle.image.specs.Kinds.{TermKind, Form, operator, formOf}
+use Rattle.image.specs.Program.{nth, behind, assembleAs, assemble}
 use Rattle.need_sums.specs.declared.shapes.Own.{Own}
 use Rattle.need_sums.specs.declared.shapes.Role.{Role}
+use Rattle.need_sums.specs.declared.shapes.Shape.{Shape}
 use Rattle.need_sums.specs.declared.places.Mode.{Mode}
 use Rattle.need_sums.specs.declared.places.Stand.{Stand}
-use Rattle.need_sums.specs.Walks.{shapeOf, roleAt, childStand, branches, isBranch, isAdviceBody, isAdvised}
+use Rattle.need_sums.specs.Walks.{childless, ownOf, shapeAs, shapeOf, roleAt, childStand, branches, isBranch, isAdviceBody, isAdvised}
 use Rattle.need_walk.specs.Counted.{hereOf, counted}
 use Rattle.need_terms.specs.Parts.{partDomain, branchVariables}
 use Rattle.need_walk.proofs.Folds.{sums, choices, joined, joined-cong, joined-none, joined-nothing, joined-split}
-use Rattle.need_walk.proofs.Shapes.{Full, ownNumbers, running, branchNumbers, addedBy, offeredBy, adds, offers, need-kind}
-use Rattle.need_walk.proofs.Rounds.{installing, installed, roundsAdds, rounds-kind, roundNumbers, roundAdds}
+use Rattle.need_walk.proofs.Shapes.{Full, ownNumbers, running, branchNumbers, addedBy, offeredBy, adds, offers, need-form}
+use Rattle.need_walk.proofs.Rounds.{installing, installed, roundsAdds, rounds-form, roundNumbers, roundAdds}
 
 -- What a term takes itself.
 abbrev ownCountedIn : Mode → Tm → Here → Own → Dom → Numbers
@@ -70,14 +71,15 @@ module _ (r : Tm) (c : Dom) (d q : ℕ) (p : Dom) (v : ℕ) where
 
   run-program : (k : TermKind) (t : Ty) (vs : List ℕ) (es : Tms) → Full k es → p ≡ partDomain k t vs → v ≡ branchVariables k vs
       → need (λ Q. rounds Q r) P (assemble k t vs es) ≡ ownNumbers (shapeOf k .own) P (rounds P r) ⊕ (joined sums (addsAt (stand Mode.Program) k) 0 es ⊕ joined choices (offersAt (stand Mode.Program) k) 0 es)
+  unfolding assemble
   run-program k t vs es full ep ev =
       rw (
-        joined-cong sums (addsAt (stand Mode.Program) k) (adds (λ Q. rounds Q r) P p v k) (λ i e. ap (λ x. addedBy (branches (roleAt (shapeOf k) i)) x) (child-program (roleAt (shapeOf k) i) e)) 0 es,
-        joined-cong choices (offersAt (stand Mode.Program) k) (offers (λ Q. rounds Q r) P p v k) (λ i e. ap (λ x. offeredBy (branches (roleAt (shapeOf k) i)) (branchNumbers c (roleAt (shapeOf k) i) v) x) (child-program (roleAt (shapeOf k) i) e)) 0 es,
+        joined-cong sums (addsAt (stand Mode.Program) k) (adds (λ Q. rounds Q r) P p v (shapeOf k)) (λ i e. ap (λ x. addedBy (branches (roleAt (shapeOf k) i)) x) (child-program (roleAt (shapeOf k) i) e)) 0 es,
+        joined-cong choices (offersAt (stand Mode.Program) k) (offers (λ Q. rounds Q r) P p v (shapeOf k)) (λ i e. ap (λ x. offeredBy (branches (roleAt (shapeOf k) i)) (branchNumbers c (roleAt (shapeOf k) i) v) x) (child-program (roleAt (shapeOf k) i) e)) 0 es,
         ep,
         ev,
       )
-      (need-kind (λ Q. rounds Q r) P k t vs es full)
+      (need-form (λ Q. rounds Q r) P (formOf k) t vs es full)
 
   child-body : (role : Role) (e : Tm) → counted r (childStand (stand Mode.Body) role p) e ≡ running (λ Q. none) P p role e
   child-body Role.Skipped e = refl
@@ -92,14 +94,15 @@ module _ (r : Tm) (c : Dom) (d q : ℕ) (p : Dom) (v : ℕ) where
 
   run-body : (k : TermKind) (t : Ty) (vs : List ℕ) (es : Tms) → Full k es → p ≡ partDomain k t vs → v ≡ branchVariables k vs
       → need (λ Q. none) P (assemble k t vs es) ≡ ownNumbers (shapeOf k .own) P none ⊕ (joined sums (addsAt (stand Mode.Body) k) 0 es ⊕ joined choices (offersAt (stand Mode.Body) k) 0 es)
+  unfolding assemble
   run-body k t vs es full ep ev =
       rw (
-        joined-cong sums (addsAt (stand Mode.Body) k) (adds (λ Q. none) P p v k) (λ i e. ap (λ x. addedBy (branches (roleAt (shapeOf k) i)) x) (child-body (roleAt (shapeOf k) i) e)) 0 es,
-        joined-cong choices (offersAt (stand Mode.Body) k) (offers (λ Q. none) P p v k) (λ i e. ap (λ x. offeredBy (branches (roleAt (shapeOf k) i)) (branchNumbers c (roleAt (shapeOf k) i) v) x) (child-body (roleAt (shapeOf k) i) e)) 0 es,
+        joined-cong sums (addsAt (stand Mode.Body) k) (adds (λ Q. none) P p v (shapeOf k)) (λ i e. ap (λ x. addedBy (branches (roleAt (shapeOf k) i)) x) (child-body (roleAt (shapeOf k) i) e)) 0 es,
+        joined-cong choices (offersAt (stand Mode.Body) k) (offers (λ Q. none) P p v (shapeOf k)) (λ i e. ap (λ x. offeredBy (branches (roleAt (shapeOf k) i)) (branchNumbers c (roleAt (shapeOf k) i) v) x) (child-body (roleAt (shapeOf k) i) e)) 0 es,
         ep,
         ev,
       )
-      (need-kind (λ Q. none) P k t vs es full)
+      (need-form (λ Q. none) P (formOf k) t vs es full)
 
   -- Rounds.
   child-rounds : (role : Role) (e : Tm) → counted r (childStand (stand Mode.Rounds) role p) e ≡ installing P role e
@@ -118,9 +121,10 @@ module _ (r : Tm) (c : Dom) (d q : ℕ) (p : Dom) (v : ℕ) where
 
   run-rounds : (k : TermKind) (t : Ty) (vs : List ℕ) (es : Tms) → Full k es
       → rounds P (assemble k t vs es) ≡ none ⊕ (joined sums (addsAt (stand Mode.Rounds) k) 0 es ⊕ joined choices (offersAt (stand Mode.Rounds) k) 0 es)
+  unfolding assemble
   run-rounds k t vs es full =
-      rw (joined-cong sums (addsAt (stand Mode.Rounds) k) (roundsAdds P k) (λ i e. child-rounds (roleAt (shapeOf k) i) e) 0 es, joined-nothing choices (offersAt (stand Mode.Rounds) k) (λ i e. refl) 0 es)
-      (rounds-kind P k t vs es full ∙ plain-tidy (joined sums (roundsAdds P k) 0 es))
+      rw (joined-cong sums (addsAt (stand Mode.Rounds) k) (roundsAdds P (shapeOf k)) (λ i e. child-rounds (roleAt (shapeOf k) i) e) 0 es, joined-nothing choices (offersAt (stand Mode.Rounds) k) (λ i e. refl) 0 es)
+      (rounds-form P (formOf k) t vs es full ∙ plain-tidy (joined sums (roundsAdds P (shapeOf k)) 0 es))
 
   -- A round.
   child-round : (role : Role) (e : Tm) → counted r (childStand (stand Mode.Round) role p) e ≡ installed P p role e
@@ -134,72 +138,79 @@ module _ (r : Tm) (c : Dom) (d q : ℕ) (p : Dom) (v : ℕ) where
   child-round Role.AdviceBody e = let z : d + 2 ≡ suc (suc d) = omega arith in ap (λ y. need (λ Q. none) (record { dom = p; depth = y; kept = q }) e) z
   child-round Role.Installed e = refl
 
-  no-advice : (k : TermKind) → isAdviceBody (shapeOf k .first) ≡ false → isAdviceBody (shapeOf k .second) ≡ false → isAdviceBody (shapeOf k .third) ≡ false → isAdviceBody (shapeOf k .rest) ≡ false
-      → (i : ℕ) (e : Tm) → roundAdds P p k i e ≡ roundsAdds P k i e
-  no-advice k a b c′ d′ zero e = rw a refl
-  no-advice k a b c′ d′ (suc zero) e = rw b refl
-  no-advice k a b c′ d′ (suc (suc zero)) e = rw c′ refl
-  no-advice k a b c′ d′ (suc (suc (suc j))) e = rw d′ refl
+  no-advice : (F : Shape) → isAdviceBody (F .first) ≡ false → isAdviceBody (F .second) ≡ false → isAdviceBody (F .third) ≡ false → isAdviceBody (F .rest) ≡ false
+      → (i : ℕ) (e : Tm) → roundAdds P p F i e ≡ roundsAdds P F i e
+  no-advice F a b c′ d′ zero e = rw a refl
+  no-advice F a b c′ d′ (suc zero) e = rw b refl
+  no-advice F a b c′ d′ (suc (suc zero)) e = rw c′ refl
+  no-advice F a b c′ d′ (suc (suc (suc j))) e = rw d′ refl
 
-  plain-round : (k : TermKind) (es : Tms) (x : Numbers) → x ≡ joined sums (roundsAdds P k) 0 es → ((i : ℕ) (e : Tm) → roundAdds P p k i e ≡ roundsAdds P k i e)
-      → x ⊕ none ≡ none ⊕ (joined sums (roundAdds P p k) 0 es ⊕ none)
-  plain-round k es x h all = rw (joined-cong sums (roundAdds P p k) (roundsAdds P k) all 0 es, none-right x) (h ∙ plain-tidy (joined sums (roundsAdds P k) 0 es))
+  plain-round : (F : Shape) (es : Tms) (x : Numbers) → x ≡ joined sums (roundsAdds P F) 0 es → ((i : ℕ) (e : Tm) → roundAdds P p F i e ≡ roundsAdds P F i e)
+      → x ⊕ none ≡ none ⊕ (joined sums (roundAdds P p F) 0 es ⊕ none)
+  plain-round F es x h all = rw (joined-cong sums (roundAdds P p F) (roundsAdds P F) all 0 es, none-right x) (h ∙ plain-tidy (joined sums (roundsAdds P F) 0 es))
 
   t-round : (a x b y : Numbers) → a ⊕ (x ⊕ (b ⊕ y)) ≡ (x ⊕ y) ⊕ ((a ⊕ (b ⊕ (none ⊕ none))) ⊕ none)
   t-round a x b y =
       rw (none-left none, none-right b, none-right (a ⊕ b))
       (ap (λ z. a ⊕ z) (ap (λ z. x ⊕ z) (plus-comm b y) ∙ sym (plus-assoc x y b)) ∙ (plus-comm a ((x ⊕ y) ⊕ b) ∙ (plus-assoc (x ⊕ y) b a ∙ ap (λ z. (x ⊕ y) ⊕ z) (plus-comm b a))))
 
-  round-unit : (i : ℕ) → roundAdds P p TermKind.adv i (val Val.unit) ≡ none
+  round-unit : (i : ℕ) → roundAdds P p (shapeOf TermKind.adv) i (val Val.unit) ≡ none
   unfolding need rounds
   round-unit zero = refl
   round-unit (suc zero) = refl
   round-unit (suc (suc zero)) = refl
   round-unit (suc (suc (suc j))) = refl
 
-  advice-round : (es : Tms) {p′ : Dom} → p ≡ p′ → rounds P (nth es 0) ⊕ round P p′ (nth es 1) ≡ roundNumbers true P p ⊕ (joined sums (roundAdds P p TermKind.adv) 0 es ⊕ none)
+  advice-round : (es : Tms) {p′ : Dom} → p ≡ p′ → rounds P (nth es 0) ⊕ round P p′ (nth es 1) ≡ roundNumbers true P p ⊕ (joined sums (roundAdds P p (shapeOf TermKind.adv)) 0 es ⊕ none)
   advice-round es e =
-      rw (← e, joined-split sums (roundAdds P p TermKind.adv) round-unit es, joined-none sums (roundAdds P p TermKind.adv) (λ i x. refl) 0 (behind 3 es))
+      rw (← e, joined-split sums (roundAdds P p (shapeOf TermKind.adv)) round-unit es, joined-none sums (roundAdds P p (shapeOf TermKind.adv)) (λ i x. refl) 0 (behind 3 es))
       (t-round (rounds P (nth es 0)) (binds p 1) (need (λ Q. none) (at p (deeper (deeper P))) (nth es 1)) (once (deeper P) ⊕ once P))
 
-  round-rest : (k : TermKind) (t : Ty) (vs : List ℕ) (es : Tms) → Full k es → p ≡ partDomain k t vs
-      → rounds P (assemble k t vs es) ⊕ roundOf P (assemble k t vs es) ≡ roundNumbers (isAdvised (shapeOf k .own)) P p ⊕ (joined sums (roundAdds P p k) 0 es ⊕ none)
-  unfolding rounds assemble
-  round-rest TermKind.unit t vs es full ep = plain-round TermKind.unit es _ (rounds-kind P TermKind.unit t vs es full) (no-advice TermKind.unit refl refl refl refl)
-  round-rest TermKind.truth t vs es full ep = plain-round TermKind.truth es _ (rounds-kind P TermKind.truth t vs es full) (no-advice TermKind.truth refl refl refl refl)
-  round-rest TermKind.number t vs es full ep = plain-round TermKind.number es _ (rounds-kind P TermKind.number t vs es full) (no-advice TermKind.number refl refl refl refl)
-  round-rest TermKind.var t vs es full ep = plain-round TermKind.var es _ (rounds-kind P TermKind.var t vs es full) (no-advice TermKind.var refl refl refl refl)
-  round-rest TermKind.seq t vs es full ep = plain-round TermKind.seq es _ (rounds-kind P TermKind.seq t vs es full) (no-advice TermKind.seq refl refl refl refl)
-  round-rest TermKind.print t vs es full ep = plain-round TermKind.print es _ (rounds-kind P TermKind.print t vs es full) (no-advice TermKind.print refl refl refl refl)
-  round-rest TermKind.ite t vs es full ep = plain-round TermKind.ite es _ (rounds-kind P TermKind.ite t vs es full) (no-advice TermKind.ite refl refl refl refl)
-  round-rest TermKind.pair t vs es full ep = plain-round TermKind.pair es _ (rounds-kind P TermKind.pair t vs es full) (no-advice TermKind.pair refl refl refl refl)
-  round-rest TermKind.split t vs es full ep = plain-round TermKind.split es _ (rounds-kind P TermKind.split t vs es full) (no-advice TermKind.split refl refl refl refl)
-  round-rest TermKind.fun t vs es full ep = plain-round TermKind.fun es _ (rounds-kind P TermKind.fun t vs es full) (no-advice TermKind.fun refl refl refl refl)
-  round-rest TermKind.app t vs es full ep = plain-round TermKind.app es _ (rounds-kind P TermKind.app t vs es full) (no-advice TermKind.app refl refl refl refl)
-  round-rest TermKind.arith t vs es full ep = plain-round TermKind.arith es _ (rounds-kind P TermKind.arith t vs es full) (no-advice TermKind.arith refl refl refl refl)
-  round-rest TermKind.newLabel t vs es full ep = plain-round TermKind.newLabel es _ (rounds-kind P TermKind.newLabel t vs es full) (no-advice TermKind.newLabel refl refl refl refl)
-  round-rest TermKind.mark t vs es full ep = plain-round TermKind.mark es _ (rounds-kind P TermKind.mark t vs es full) (no-advice TermKind.mark refl refl refl refl)
-  round-rest TermKind.pcd t vs es full ep = plain-round TermKind.pcd es _ (rounds-kind P TermKind.pcd t vs es full) (no-advice TermKind.pcd refl refl refl refl)
-  round-rest TermKind.adv t vs es full ep = advice-round es ep
-  round-rest TermKind.install t vs es full ep = plain-round TermKind.install es _ (rounds-kind P TermKind.install t vs es full) (no-advice TermKind.install refl refl refl refl)
-  round-rest TermKind.newCell t vs es full ep = plain-round TermKind.newCell es _ (rounds-kind P TermKind.newCell t vs es full) (no-advice TermKind.newCell refl refl refl refl)
-  round-rest TermKind.read t vs es full ep = plain-round TermKind.read es _ (rounds-kind P TermKind.read t vs es full) (no-advice TermKind.read refl refl refl refl)
-  round-rest TermKind.store t vs es full ep = plain-round TermKind.store es _ (rounds-kind P TermKind.store t vs es full) (no-advice TermKind.store refl refl refl refl)
-  round-rest TermKind.lower t vs es full ep = plain-round TermKind.lower es _ (rounds-kind P TermKind.lower t vs es full) (no-advice TermKind.lower refl refl refl refl)
-  round-rest TermKind.abort t vs es full ep = plain-round TermKind.abort es _ (rounds-kind P TermKind.abort t vs es full) (no-advice TermKind.abort refl refl refl refl)
-  round-rest TermKind.byte t vs es full ep = plain-round TermKind.byte es _ (rounds-kind P TermKind.byte t vs es full) (no-advice TermKind.byte refl refl refl refl)
-  round-rest TermKind.obj t vs es full ep = plain-round TermKind.obj es _ (rounds-kind P TermKind.obj t vs es full) (no-advice TermKind.obj refl refl refl refl)
-  round-rest TermKind.call t vs es full ep = plain-round TermKind.call es _ (rounds-kind P TermKind.call t vs es full) (no-advice TermKind.call refl refl refl refl)
-  round-rest TermKind.stack t vs es full ep = plain-round TermKind.stack es _ (rounds-kind P TermKind.stack t vs es full) (no-advice TermKind.stack refl refl refl refl)
-  round-rest TermKind.keep t vs es full ep = plain-round TermKind.keep es _ (rounds-kind P TermKind.keep t vs es full) (no-advice TermKind.keep refl refl refl refl)
-  round-rest TermKind.match t vs (more a (more b (more c′ x))) full ep = plain-round TermKind.match (more a (more b (more c′ x))) _ (rounds-kind P TermKind.match t vs (more a (more b (more c′ x))) full) (no-advice TermKind.match refl refl refl refl)
-  round-rest TermKind.takedown t vs es full ep = plain-round TermKind.takedown es _ (rounds-kind P TermKind.takedown t vs es full) (no-advice TermKind.takedown refl refl refl refl)
+  -- No operator without operands is an advice.
+  not-advised : (x : Extra) → isAdvised (ownOf x) ≡ false
+  not-advised noExtra = refl
+  not-advised aNewLabel = refl
+  not-advised keptPieces = refl
+
+  round-rest : {k : TermKind} (φ : Form k) (t : Ty) (vs : List ℕ) (es : Tms) → Full k es → p ≡ partDomain k t vs
+      → rounds P (assembleAs φ t vs es) ⊕ roundOf P (assembleAs φ t vs es) ≡ roundNumbers (isAdvised (shapeAs φ .own)) P p ⊕ (joined sums (roundAdds P p (shapeAs φ)) 0 es ⊕ none)
+  unfolding rounds
+  round-rest {k} (operator o n r) t vs es full ep =
+      let F = childless (ownOf (extra0 o)) in
+      rw (not-advised (extra0 o)) (plain-round F es _ (rounds-form P {k = k} (operator o n r) t vs es full) (no-advice F refl refl refl refl))
+  round-rest Form.unit t vs es full ep = plain-round (shapeOf TermKind.unit) es _ (rounds-form P Form.unit t vs es full) (no-advice (shapeOf TermKind.unit) refl refl refl refl)
+  round-rest Form.truth t vs es full ep = plain-round (shapeOf TermKind.truth) es _ (rounds-form P Form.truth t vs es full) (no-advice (shapeOf TermKind.truth) refl refl refl refl)
+  round-rest Form.number t vs es full ep = plain-round (shapeOf TermKind.number) es _ (rounds-form P Form.number t vs es full) (no-advice (shapeOf TermKind.number) refl refl refl refl)
+  round-rest Form.var t vs es full ep = plain-round (shapeOf TermKind.var) es _ (rounds-form P Form.var t vs es full) (no-advice (shapeOf TermKind.var) refl refl refl refl)
+  round-rest Form.seq t vs es full ep = plain-round (shapeOf TermKind.seq) es _ (rounds-form P Form.seq t vs es full) (no-advice (shapeOf TermKind.seq) refl refl refl refl)
+  round-rest Form.print t vs es full ep = plain-round (shapeOf TermKind.print) es _ (rounds-form P Form.print t vs es full) (no-advice (shapeOf TermKind.print) refl refl refl refl)
+  round-rest Form.ite t vs es full ep = plain-round (shapeOf TermKind.ite) es _ (rounds-form P Form.ite t vs es full) (no-advice (shapeOf TermKind.ite) refl refl refl refl)
+  round-rest Form.pair t vs es full ep = plain-round (shapeOf TermKind.pair) es _ (rounds-form P Form.pair t vs es full) (no-advice (shapeOf TermKind.pair) refl refl refl refl)
+  round-rest Form.split t vs es full ep = plain-round (shapeOf TermKind.split) es _ (rounds-form P Form.split t vs es full) (no-advice (shapeOf TermKind.split) refl refl refl refl)
+  round-rest Form.fun t vs es full ep = plain-round (shapeOf TermKind.fun) es _ (rounds-form P Form.fun t vs es full) (no-advice (shapeOf TermKind.fun) refl refl refl refl)
+  round-rest Form.app t vs es full ep = plain-round (shapeOf TermKind.app) es _ (rounds-form P Form.app t vs es full) (no-advice (shapeOf TermKind.app) refl refl refl refl)
+  round-rest Form.arith t vs es full ep = plain-round (shapeOf TermKind.arith) es _ (rounds-form P Form.arith t vs es full) (no-advice (shapeOf TermKind.arith) refl refl refl refl)
+  round-rest Form.mark t vs es full ep = plain-round (shapeOf TermKind.mark) es _ (rounds-form P Form.mark t vs es full) (no-advice (shapeOf TermKind.mark) refl refl refl refl)
+  round-rest Form.pcd t vs es full ep = plain-round (shapeOf TermKind.pcd) es _ (rounds-form P Form.pcd t vs es full) (no-advice (shapeOf TermKind.pcd) refl refl refl refl)
+  round-rest Form.adv t vs es full ep = advice-round es ep
+  round-rest Form.install t vs es full ep = plain-round (shapeOf TermKind.install) es _ (rounds-form P Form.install t vs es full) (no-advice (shapeOf TermKind.install) refl refl refl refl)
+  round-rest Form.newCell t vs es full ep = plain-round (shapeOf TermKind.newCell) es _ (rounds-form P Form.newCell t vs es full) (no-advice (shapeOf TermKind.newCell) refl refl refl refl)
+  round-rest Form.read t vs es full ep = plain-round (shapeOf TermKind.read) es _ (rounds-form P Form.read t vs es full) (no-advice (shapeOf TermKind.read) refl refl refl refl)
+  round-rest Form.store t vs es full ep = plain-round (shapeOf TermKind.store) es _ (rounds-form P Form.store t vs es full) (no-advice (shapeOf TermKind.store) refl refl refl refl)
+  round-rest Form.lower t vs es full ep = plain-round (shapeOf TermKind.lower) es _ (rounds-form P Form.lower t vs es full) (no-advice (shapeOf TermKind.lower) refl refl refl refl)
+  round-rest Form.byte t vs es full ep = plain-round (shapeOf TermKind.byte) es _ (rounds-form P Form.byte t vs es full) (no-advice (shapeOf TermKind.byte) refl refl refl refl)
+  round-rest Form.obj t vs es full ep = plain-round (shapeOf TermKind.obj) es _ (rounds-form P Form.obj t vs es full) (no-advice (shapeOf TermKind.obj) refl refl refl refl)
+  round-rest Form.call t vs es full ep = plain-round (shapeOf TermKind.call) es _ (rounds-form P Form.call t vs es full) (no-advice (shapeOf TermKind.call) refl refl refl refl)
+  round-rest Form.keep t vs es full ep = plain-round (shapeOf TermKind.keep) es _ (rounds-form P Form.keep t vs es full) (no-advice (shapeOf TermKind.keep) refl refl refl refl)
+  round-rest Form.match t vs (more a (more b (more c′ x))) full ep = plain-round (shapeOf TermKind.match) (more a (more b (more c′ x))) _ (rounds-form P Form.match t vs (more a (more b (more c′ x))) full) (no-advice (shapeOf TermKind.match) refl refl refl refl)
+  round-rest Form.takedown t vs es full ep = plain-round (shapeOf TermKind.takedown) es _ (rounds-form P Form.takedown t vs es full) (no-advice (shapeOf TermKind.takedown) refl refl refl refl)
 
   run-round : (k : TermKind) (t : Ty) (vs : List ℕ) (es : Tms) → Full k es → p ≡ partDomain k t vs
       → rounds P (assemble k t vs es) ⊕ roundOf P (assemble k t vs es) ≡ roundNumbers (isAdvised (shapeOf k .own)) P p ⊕ (joined sums (addsAt (stand Mode.Round) k) 0 es ⊕ joined choices (offersAt (stand Mode.Round) k) 0 es)
+  unfolding assemble
   run-round k t vs es full ep =
-      rw (joined-cong sums (addsAt (stand Mode.Round) k) (roundAdds P p k) (λ i e. child-round (roleAt (shapeOf k) i) e) 0 es, joined-nothing choices (offersAt (stand Mode.Round) k) (λ i e. refl) 0 es)
-      (round-rest k t vs es full ep)
+      rw (joined-cong sums (addsAt (stand Mode.Round) k) (roundAdds P p (shapeOf k)) (λ i e. child-round (roleAt (shapeOf k) i) e) 0 es, joined-nothing choices (offersAt (stand Mode.Round) k) (λ i e. refl) 0 es)
+      (round-rest (formOf k) t vs es full ep)
 
   run-skip : (k : TermKind) (es : Tms) → none ≡ none ⊕ (joined sums (addsAt (stand Mode.Skip) k) 0 es ⊕ joined choices (offersAt (stand Mode.Skip) k) 0 es)
   run-skip k es = rw (joined-nothing sums (addsAt (stand Mode.Skip) k) (λ i e. refl) 0 es, joined-nothing choices (offersAt (stand Mode.Skip) k) (λ i e. refl) 0 es) (plain-tidy none)

@@ -8,12 +8,13 @@ use Rattle.calculus.specs.Syntax.{Dom, Ty, Val, Tm, Tms, val, end, more}
 use Rattle.calculus.specs.Plain.{domOf}
 use Rattle.calculus_needs.specs.Here.{Here, at, deeper}
 use Rattle.calculus_needs.specs.Numbers.{Numbers, none, _⊕_}
-use Rattle.calculus_needs.specs.Needs.{once, binds, need, round, roundOf, rounds, allRounds}
+use Rattle.calculus_needs.specs.Needs.{extra0, once, binds, need, round, roundOf, rounds, allRounds}
 use Rattle.calculus_needs.proofs.Sums.{none-left, none-right, plus-assoc, plus-comm}
-use Rattle.image.specs.Kinds.{TermKind}
-use Rattle.image.specs.Program.{nth, behind, assemble}
+use Rattle.image.specs.Kinds.{TermKind, Form, operator}
+use Rattle.image.specs.Program.{nth, behind, assembleAs}
 use Rattle.need_sums.specs.declared.shapes.Role.{Role}
-use Rattle.need_sums.specs.Walks.{shapeOf, roleAt, isAdviceBody, isAdvised}
+use Rattle.need_sums.specs.declared.shapes.Shape.{Shape}
+use Rattle.need_sums.specs.Walks.{childless, ownOf, shapeAs, shapeOf, roleAt, isAdviceBody, isAdvised}
 use Rattle.need_walk.proofs.Folds.{sums, joined, joined-none, joined-split}
 use Rattle.need_walk.proofs.Shapes.{Full}
 
@@ -49,8 +50,8 @@ s3 : (a b c : Numbers) → a ⊕ (b ⊕ c) ≡ a ⊕ (b ⊕ (c ⊕ none))
 s3 a b c = rw (none-right c) refl
 
 module _ (P : Here) where
-  abbrev pub roundsAdds : TermKind → ℕ → Tm → Numbers
-  roundsAdds k i e = installing P (roleAt (shapeOf k) i) e
+  abbrev pub roundsAdds : Shape → ℕ → Tm → Numbers
+  roundsAdds F i e = installing P (roleAt (F) i) e
 
   unit-none : (r : Role) → installing P r (val Val.unit) ≡ none
   unfolding rounds
@@ -64,9 +65,9 @@ module _ (P : Here) where
   unit-none Role.AdviceBody = refl
   unit-none Role.Installed = none-left none
 
-  plain-rounds : (k : TermKind) → ((i : ℕ) (e : Tm) → roundsAdds k (suc (suc (suc i))) e ≡ none) → (es : Tms) (x : Numbers)
-      → x ≡ roundsAdds k 0 (nth es 0) ⊕ (roundsAdds k 1 (nth es 1) ⊕ (roundsAdds k 2 (nth es 2) ⊕ none)) → x ≡ joined sums (roundsAdds k) 0 es
-  plain-rounds k r es x h = rw (joined-split sums (roundsAdds k) (λ i. unit-none (roleAt (shapeOf k) i)) es, joined-none sums (roundsAdds k) r 0 (behind 3 es)) h
+  plain-rounds : (F : Shape) → ((i : ℕ) (e : Tm) → roundsAdds F (suc (suc (suc i))) e ≡ none) → (es : Tms) (x : Numbers)
+      → x ≡ roundsAdds F 0 (nth es 0) ⊕ (roundsAdds F 1 (nth es 1) ⊕ (roundsAdds F 2 (nth es 2) ⊕ none)) → x ≡ joined sums (roundsAdds F) 0 es
+  plain-rounds F r es x h = rw (joined-split sums (roundsAdds F) (λ i. unit-none (roleAt (F) i)) es, joined-none sums (roundsAdds F) r 0 (behind 3 es)) h
 
   all-rounds : (f : ℕ → Tm → Numbers) → ((i : ℕ) (e : Tm) → f i e ≡ rounds P e) → (i : ℕ) (es : Tms) → joined sums f i es ≡ allRounds P es
   unfolding joined allRounds
@@ -78,10 +79,10 @@ module _ (P : Here) where
   rounds-behind f h i end = refl
   rounds-behind f h i (more e es) = ap (λ x. x ⊕ joined sums f (suc (suc (suc (suc i)))) es) (h i e) ∙ ap (λ x. rounds P e ⊕ x) (rounds-behind f h (suc i) es)
 
-  pcd-rounds : (es : Tms) → allRounds P es ≡ joined sums (roundsAdds TermKind.pcd) 0 es
-  pcd-rounds es = sym (all-rounds (roundsAdds TermKind.pcd) (λ i e. all i e) 0 es)
+  pcd-rounds : (es : Tms) → allRounds P es ≡ joined sums (roundsAdds (shapeOf TermKind.pcd)) 0 es
+  pcd-rounds es = sym (all-rounds (roundsAdds (shapeOf TermKind.pcd)) (λ i e. all i e) 0 es)
     where
-      all : (i : ℕ) (e : Tm) → roundsAdds TermKind.pcd i e ≡ rounds P e
+      all : (i : ℕ) (e : Tm) → roundsAdds (shapeOf TermKind.pcd) i e ≡ rounds P e
       all zero e = refl
       all (suc zero) e = refl
       all (suc (suc zero)) e = refl
@@ -91,46 +92,44 @@ module _ (P : Here) where
   s4 : (a b c d : Numbers) → (a ⊕ d) ⊕ (b ⊕ c) ≡ a ⊕ (b ⊕ (c ⊕ d))
   s4 a b c d = plus-assoc a d (b ⊕ c) ∙ ap (λ x. a ⊕ x) (plus-comm d (b ⊕ c) ∙ plus-assoc b c d)
 
-  match-rounds : (a b c : Tm) (r : Tms) → (rounds P a ⊕ allRounds P r) ⊕ (rounds P b ⊕ rounds P c) ≡ joined sums (roundsAdds TermKind.match) 0 (more a (more b (more c r)))
+  match-rounds : (a b c : Tm) (r : Tms) → (rounds P a ⊕ allRounds P r) ⊕ (rounds P b ⊕ rounds P c) ≡ joined sums (roundsAdds (shapeOf TermKind.match)) 0 (more a (more b (more c r)))
   unfolding joined
-  match-rounds a b c r = rw (rounds-behind (roundsAdds TermKind.match) (λ i e. refl) 0 r) (s4 (rounds P a) (rounds P b) (rounds P c) (allRounds P r))
+  match-rounds a b c r = rw (rounds-behind (roundsAdds (shapeOf TermKind.match)) (λ i e. refl) 0 r) (s4 (rounds P a) (rounds P b) (rounds P c) (allRounds P r))
 
-pub rounds-kind : (P : Here) (k : TermKind) (t : Ty) (vs : List ℕ) (es : Tms) → Full k es → rounds P (assemble k t vs es) ≡ joined sums (roundsAdds P k) 0 es
-unfolding rounds allRounds assemble
-rounds-kind P TermKind.unit t vs es full = plain-rounds P TermKind.unit (λ i e. refl) es _ s0
-rounds-kind P TermKind.truth t vs es full = plain-rounds P TermKind.truth (λ i e. refl) es _ s0
-rounds-kind P TermKind.number t vs es full = plain-rounds P TermKind.number (λ i e. refl) es _ s0
-rounds-kind P TermKind.var t vs es full = plain-rounds P TermKind.var (λ i e. refl) es _ s0
-rounds-kind P TermKind.seq t vs es full = plain-rounds P TermKind.seq (λ i e. refl) es _ (s2 _ _)
-rounds-kind P TermKind.print t vs es full = plain-rounds P TermKind.print (λ i e. refl) es _ (s1-none _)
-rounds-kind P TermKind.ite t vs es full = plain-rounds P TermKind.ite (λ i e. refl) es _ (s3 _ _ _)
-rounds-kind P TermKind.pair t vs es full = plain-rounds P TermKind.pair (λ i e. refl) es _ (s2 _ _)
-rounds-kind P TermKind.split t vs es full = plain-rounds P TermKind.split (λ i e. refl) es _ (s2 _ _)
-rounds-kind P TermKind.fun t vs es full = plain-rounds P TermKind.fun (λ i e. refl) es _ s0
-rounds-kind P TermKind.app t vs es full = plain-rounds P TermKind.app (λ i e. refl) es _ (s2 _ _)
-rounds-kind P TermKind.arith t vs es full = plain-rounds P TermKind.arith (λ i e. refl) es _ (s2 _ _)
-rounds-kind P TermKind.newLabel t vs es full = plain-rounds P TermKind.newLabel (λ i e. refl) es _ s0
-rounds-kind P TermKind.mark t vs es full = plain-rounds P TermKind.mark (λ i e. refl) es _ (s2 _ _)
-rounds-kind P TermKind.pcd t vs es full = pcd-rounds P es
-rounds-kind P TermKind.adv t vs es full = plain-rounds P TermKind.adv (λ i e. refl) es _ (s1 _)
-rounds-kind P TermKind.install t vs es full = plain-rounds P TermKind.install (λ i e. refl) es _ (s1 _)
-rounds-kind P TermKind.newCell t vs es full = plain-rounds P TermKind.newCell (λ i e. refl) es _ (s1-none _)
-rounds-kind P TermKind.read t vs es full = plain-rounds P TermKind.read (λ i e. refl) es _ (s1-none _)
-rounds-kind P TermKind.store t vs es full = plain-rounds P TermKind.store (λ i e. refl) es _ (s2 _ _)
-rounds-kind P TermKind.lower t vs es full = plain-rounds P TermKind.lower (λ i e. refl) es _ (s1 _)
-rounds-kind P TermKind.abort t vs es full = plain-rounds P TermKind.abort (λ i e. refl) es _ s0
-rounds-kind P TermKind.byte t vs es full = plain-rounds P TermKind.byte (λ i e. refl) es _ (s1-none _)
-rounds-kind P TermKind.obj t vs es full = plain-rounds P TermKind.obj (λ i e. refl) es _ s0
-rounds-kind P TermKind.call t vs es full = plain-rounds P TermKind.call (λ i e. refl) es _ (s1-none _)
-rounds-kind P TermKind.stack t vs es full = plain-rounds P TermKind.stack (λ i e. refl) es _ s0
-rounds-kind P TermKind.keep t vs es full = plain-rounds P TermKind.keep (λ i e. refl) es _ (s3 _ _ _)
-rounds-kind P TermKind.match t vs (more a (more b (more c r))) full = match-rounds P a b c r
-rounds-kind P TermKind.takedown t vs es full = plain-rounds P TermKind.takedown (λ i e. refl) es _ s0
+pub rounds-form : (P : Here) {k : TermKind} (φ : Form k) (t : Ty) (vs : List ℕ) (es : Tms) → Full k es → rounds P (assembleAs φ t vs es) ≡ joined sums (roundsAdds P (shapeAs φ)) 0 es
+unfolding rounds allRounds
+rounds-form P (operator o n r) t vs es full = plain-rounds P (childless (ownOf (extra0 o))) (λ i e. refl) es _ s0
+rounds-form P Form.unit t vs es full = plain-rounds P (shapeOf TermKind.unit) (λ i e. refl) es _ s0
+rounds-form P Form.truth t vs es full = plain-rounds P (shapeOf TermKind.truth) (λ i e. refl) es _ s0
+rounds-form P Form.number t vs es full = plain-rounds P (shapeOf TermKind.number) (λ i e. refl) es _ s0
+rounds-form P Form.var t vs es full = plain-rounds P (shapeOf TermKind.var) (λ i e. refl) es _ s0
+rounds-form P Form.seq t vs es full = plain-rounds P (shapeOf TermKind.seq) (λ i e. refl) es _ (s2 _ _)
+rounds-form P Form.print t vs es full = plain-rounds P (shapeOf TermKind.print) (λ i e. refl) es _ (s1-none _)
+rounds-form P Form.ite t vs es full = plain-rounds P (shapeOf TermKind.ite) (λ i e. refl) es _ (s3 _ _ _)
+rounds-form P Form.pair t vs es full = plain-rounds P (shapeOf TermKind.pair) (λ i e. refl) es _ (s2 _ _)
+rounds-form P Form.split t vs es full = plain-rounds P (shapeOf TermKind.split) (λ i e. refl) es _ (s2 _ _)
+rounds-form P Form.fun t vs es full = plain-rounds P (shapeOf TermKind.fun) (λ i e. refl) es _ s0
+rounds-form P Form.app t vs es full = plain-rounds P (shapeOf TermKind.app) (λ i e. refl) es _ (s2 _ _)
+rounds-form P Form.arith t vs es full = plain-rounds P (shapeOf TermKind.arith) (λ i e. refl) es _ (s2 _ _)
+rounds-form P Form.mark t vs es full = plain-rounds P (shapeOf TermKind.mark) (λ i e. refl) es _ (s2 _ _)
+rounds-form P Form.pcd t vs es full = pcd-rounds P es
+rounds-form P Form.adv t vs es full = plain-rounds P (shapeOf TermKind.adv) (λ i e. refl) es _ (s1 _)
+rounds-form P Form.install t vs es full = plain-rounds P (shapeOf TermKind.install) (λ i e. refl) es _ (s1 _)
+rounds-form P Form.newCell t vs es full = plain-rounds P (shapeOf TermKind.newCell) (λ i e. refl) es _ (s1-none _)
+rounds-form P Form.read t vs es full = plain-rounds P (shapeOf TermKind.read) (λ i e. refl) es _ (s1-none _)
+rounds-form P Form.store t vs es full = plain-rounds P (shapeOf TermKind.store) (λ i e. refl) es _ (s2 _ _)
+rounds-form P Form.lower t vs es full = plain-rounds P (shapeOf TermKind.lower) (λ i e. refl) es _ (s1 _)
+rounds-form P Form.byte t vs es full = plain-rounds P (shapeOf TermKind.byte) (λ i e. refl) es _ (s1-none _)
+rounds-form P Form.obj t vs es full = plain-rounds P (shapeOf TermKind.obj) (λ i e. refl) es _ s0
+rounds-form P Form.call t vs es full = plain-rounds P (shapeOf TermKind.call) (λ i e. refl) es _ (s1-none _)
+rounds-form P Form.keep t vs es full = plain-rounds P (shapeOf TermKind.keep) (λ i e. refl) es _ (s3 _ _ _)
+rounds-form P Form.match t vs (more a (more b (more c r))) full = match-rounds P a b c r
+rounds-form P Form.takedown t vs es full = plain-rounds P (shapeOf TermKind.takedown) (λ i e. refl) es _ s0
 
 -- What is installed: an advice takes its round.
 module _ (P : Here) (p : Dom) where
-  abbrev pub roundAdds : TermKind → ℕ → Tm → Numbers
-  roundAdds k i e = installed P p (roleAt (shapeOf k) i) e
+  abbrev pub roundAdds : Shape → ℕ → Tm → Numbers
+  roundAdds F i e = installed P p (roleAt F i) e
 
 abbrev pub roundNumbers : Bool → Here → Dom → Numbers
 roundNumbers b P p = choose b (binds p 1 ⊕ (once (deeper P) ⊕ once P)) none

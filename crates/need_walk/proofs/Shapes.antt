@@ -12,15 +12,16 @@ use Rattle.calculus.specs.State.{somePieces}
 use Rattle.calculus.specs.Plain.{domOf}
 use Rattle.calculus_needs.specs.Here.{Here, at, deeper, keeping}
 use Rattle.calculus_needs.specs.Numbers.{Numbers, none, _⊕_, dearer}
-use Rattle.calculus_needs.specs.Needs.{once, uses, variables, binds, aCell, aPiece, aLabel, anAdvice, aPrint, own2, need, needs, round, roundOf, rounds, allRounds}
+use Rattle.calculus_needs.specs.Needs.{Extra, noExtra, aNewLabel, keptPieces, extra0, withExtra, once, uses, variables, binds, aCell, aPiece, aLabel, anAdvice, aPrint, own2, need, needs, round, roundOf, rounds, allRounds}
 use Rattle.calculus_needs.proofs.Sums.{none-left, none-right, plus-assoc, plus-comm}
-use Rattle.image.specs.Kinds.{TermKind}
-use Rattle.image.specs.Program.{nth, behind, opOf, patternOf, assemble}
+use Rattle.image.specs.Kinds.{TermKind, Form, operator, isKind}
+use Rattle.image.specs.Program.{nth, behind, opOf, patternOf, assembleAs}
 use Rattle.need_sums.specs.declared.shapes.Own.{Own}
 use Rattle.need_sums.specs.declared.shapes.Role.{Role}
+use Rattle.need_sums.specs.declared.shapes.Shape.{Shape}
 use Rattle.need_sums.specs.declared.places.Mode.{Mode}
 use Rattle.need_sums.specs.declared.places.Stand.{Stand}
-use Rattle.need_sums.specs.Walks.{shapeOf, roleAt, childStand, branches, bindsVariables, isBranch}
+use Rattle.need_sums.specs.Walks.{childless, ownOf, shapeAs, shapeOf, roleAt, childStand, branches, bindsVariables, isBranch}
 use Rattle.need_walk.specs.Counted.{hereOf, counted}
 use Rattle.need_terms.specs.Parts.{partDomain, branchVariables}
 use Rattle.need_walk.proofs.Folds.{dearer-left-none, dearer-right-none, sums, choices, joined, joined-cong, joined-none, joined-nothing, joined-split}
@@ -62,13 +63,13 @@ addedBy b x = choose b none x
 abbrev pub offeredBy : Bool → Numbers → Numbers → Numbers
 offeredBy b y x = choose b (y ⊕ x) none
 
--- A kind none of whose children is a branch.
-no-branches : (k : TermKind) → branches (shapeOf k .first) ≡ false → branches (shapeOf k .second) ≡ false → branches (shapeOf k .third) ≡ false → branches (shapeOf k .rest) ≡ false
-    → (i : ℕ) → branches (roleAt (shapeOf k) i) ≡ false
-no-branches k a b c d zero = a
-no-branches k a b c d (suc zero) = b
-no-branches k a b c d (suc (suc zero)) = c
-no-branches k a b c d (suc (suc (suc j))) = d
+-- A shape none of whose children is a branch.
+no-branches : (F : Shape) → branches (F .first) ≡ false → branches (F .second) ≡ false → branches (F .third) ≡ false → branches (F .rest) ≡ false
+    → (i : ℕ) → branches (roleAt (F) i) ≡ false
+no-branches F a b c d zero = a
+no-branches F a b c d (suc zero) = b
+no-branches F a b c d (suc (suc zero)) = c
+no-branches F a b c d (suc (suc (suc j))) = d
 
 -- Sums in another order.
 t0 : (o : Numbers) → o ≡ o ⊕ ((none ⊕ (none ⊕ (none ⊕ none))) ⊕ none)
@@ -88,11 +89,11 @@ t3 o a b c = rw (none-right c, none-right (a ⊕ (b ⊕ c))) (ap (λ x. a ⊕ x)
 
 -- The sum over the children of a term that runs, and its dearest branch.
 module _ (W : Here → Numbers) (P : Here) (p : Dom) (v : ℕ) where
-  abbrev pub adds : TermKind → ℕ → Tm → Numbers
-  adds k i e = addedBy (branches (roleAt (shapeOf k) i)) (running W P p (roleAt (shapeOf k) i) e)
+  abbrev pub adds : Shape → ℕ → Tm → Numbers
+  adds F i e = addedBy (branches (roleAt (F) i)) (running W P p (roleAt (F) i) e)
 
-  abbrev pub offers : TermKind → ℕ → Tm → Numbers
-  offers k i e = offeredBy (branches (roleAt (shapeOf k) i)) (branchNumbers (P .dom) (roleAt (shapeOf k) i) v) (running W P p (roleAt (shapeOf k) i) e)
+  abbrev pub offers : Shape → ℕ → Tm → Numbers
+  offers F i e = offeredBy (branches (roleAt (F) i)) (branchNumbers (P .dom) (roleAt (F) i) v) (running W P p (roleAt (F) i) e)
 
   unit-none : (r : Role) → running W P p r (val Val.unit) ≡ none
   unfolding need
@@ -106,20 +107,20 @@ module _ (W : Here → Numbers) (P : Here) (p : Dom) (v : ℕ) where
   unit-none Role.AdviceBody = refl
   unit-none Role.Installed = refl
 
-  adds-unit : (k : TermKind) (i : ℕ) → adds k i (val Val.unit) ≡ none
-  adds-unit k i = look (branches (roleAt (shapeOf k) i)) (unit-none (roleAt (shapeOf k) i))
+  adds-unit : (F : Shape) (i : ℕ) → adds F i (val Val.unit) ≡ none
+  adds-unit F i = look (branches (roleAt (F) i)) (unit-none (roleAt (F) i))
     where
       look : (b : Bool) {x : Numbers} → x ≡ none → addedBy b x ≡ none
       look true e = refl
       look false e = e
 
-  no-branch : (k : TermKind) → ((i : ℕ) → branches (roleAt (shapeOf k) i) ≡ false) → (i : ℕ) (e : Tm) → offers k i e ≡ none
-  no-branch k h i e = rw (h i) refl
+  no-branch : (F : Shape) → ((i : ℕ) → branches (roleAt (F) i) ≡ false) → (i : ℕ) (e : Tm) → offers F i e ≡ none
+  no-branch F h i e = rw (h i) refl
 
-  -- A kind without branches, with at most three children.
-  plain-kind : (k : TermKind) → ((i : ℕ) → branches (roleAt (shapeOf k) i) ≡ false) → ((i : ℕ) (e : Tm) → adds k (suc (suc (suc i))) e ≡ none) → (es : Tms) (x o : Numbers)
-      → x ≡ o ⊕ ((adds k 0 (nth es 0) ⊕ (adds k 1 (nth es 1) ⊕ (adds k 2 (nth es 2) ⊕ none))) ⊕ none) → x ≡ o ⊕ (joined sums (adds k) 0 es ⊕ joined choices (offers k) 0 es)
-  plain-kind k b r es x o h = rw (joined-split sums (adds k) (adds-unit k) es, joined-none sums (adds k) r 0 (behind 3 es), joined-nothing choices (offers k) (no-branch k b) 0 es) h
+  -- A shape without branches, with at most three children.
+  plain-kind : (F : Shape) → ((i : ℕ) → branches (roleAt (F) i) ≡ false) → ((i : ℕ) (e : Tm) → adds F (suc (suc (suc i))) e ≡ none) → (es : Tms) (x o : Numbers)
+      → x ≡ o ⊕ ((adds F 0 (nth es 0) ⊕ (adds F 1 (nth es 1) ⊕ (adds F 2 (nth es 2) ⊕ none))) ⊕ none) → x ≡ o ⊕ (joined sums (adds F) 0 es ⊕ joined choices (offers F) 0 es)
+  plain-kind F b r es x o h = rw (joined-split sums (adds F) (adds-unit F) es, joined-none sums (adds F) r 0 (behind 3 es), joined-nothing choices (offers F) (no-branch F b) 0 es) h
 
   operands : (f : ℕ → Tm → Numbers) → ((i : ℕ) (e : Tm) → f i e ≡ need W (deeper P) e) → (i : ℕ) (es : Tms) → joined sums f i es ≡ needs W (deeper P) es
   unfolding joined needs
@@ -131,12 +132,12 @@ module _ (W : Here → Numbers) (P : Here) (p : Dom) (v : ℕ) where
   operands-behind f h i end = refl
   operands-behind f h i (more e es) = ap (λ x. x ⊕ joined sums f (suc (suc (suc (suc i)))) es) (h i e) ∙ ap (λ x. need W (deeper P) e ⊕ x) (operands-behind f h (suc i) es)
 
-  pcd-kind : (es : Tms) → needs W (deeper P) es ⊕ (once P ⊕ aPiece (P .dom)) ≡ (once P ⊕ aPiece (P .dom)) ⊕ (joined sums (adds TermKind.pcd) 0 es ⊕ joined choices (offers TermKind.pcd) 0 es)
+  pcd-kind : (es : Tms) → needs W (deeper P) es ⊕ (once P ⊕ aPiece (P .dom)) ≡ (once P ⊕ aPiece (P .dom)) ⊕ (joined sums (adds (shapeOf TermKind.pcd)) 0 es ⊕ joined choices (offers (shapeOf TermKind.pcd)) 0 es)
   pcd-kind es =
-      rw (operands (adds TermKind.pcd) (λ i e. all i e) 0 es, joined-nothing choices (offers TermKind.pcd) (no-branch TermKind.pcd (no-branches TermKind.pcd refl refl refl refl)) 0 es, none-right (needs W (deeper P) es))
+      rw (operands (adds (shapeOf TermKind.pcd)) (λ i e. all i e) 0 es, joined-nothing choices (offers (shapeOf TermKind.pcd)) (no-branch (shapeOf TermKind.pcd) (no-branches (shapeOf TermKind.pcd) refl refl refl refl)) 0 es, none-right (needs W (deeper P) es))
       (plus-comm (needs W (deeper P) es) (once P ⊕ aPiece (P .dom)))
     where
-      all : (i : ℕ) (e : Tm) → adds TermKind.pcd i e ≡ need W (deeper P) e
+      all : (i : ℕ) (e : Tm) → adds (shapeOf TermKind.pcd) i e ≡ need W (deeper P) e
       all zero e = refl
       all (suc zero) e = refl
       all (suc (suc zero)) e = refl
@@ -149,23 +150,23 @@ module _ (W : Here → Numbers) (P : Here) (p : Dom) (v : ℕ) where
       (sym (plus-assoc (a ⊕ d) o (dearer y z)) ∙ (ap (λ x. x ⊕ dearer y z) (plus-comm (a ⊕ d) o) ∙ plus-assoc o (a ⊕ d) (dearer y z)))
 
   ite-kind : (es : Tms)
-      → need W (deeper P) (nth es 0) ⊕ (once P ⊕ dearer (need W P (nth es 1)) (need W P (nth es 2))) ≡ once P ⊕ (joined sums (adds TermKind.ite) 0 es ⊕ joined choices (offers TermKind.ite) 0 es)
+      → need W (deeper P) (nth es 0) ⊕ (once P ⊕ dearer (need W P (nth es 1)) (need W P (nth es 2))) ≡ once P ⊕ (joined sums (adds (shapeOf TermKind.ite)) 0 es ⊕ joined choices (offers (shapeOf TermKind.ite)) 0 es)
   unfolding need
   ite-kind es =
       let a = need W (deeper P) (nth es 0) in
       let y = need W P (nth es 1) in
       let z = need W P (nth es 2) in
       rw (
-        joined-split sums (adds TermKind.ite) (adds-unit TermKind.ite) es,
-        joined-none sums (adds TermKind.ite) (λ i e. refl) 0 (behind 3 es),
-        joined-split choices (offers TermKind.ite) unit es,
-        joined-none choices (offers TermKind.ite) (λ i e. refl) 0 (behind 3 es),
+        joined-split sums (adds (shapeOf TermKind.ite)) (adds-unit (shapeOf TermKind.ite)) es,
+        joined-none sums (adds (shapeOf TermKind.ite)) (λ i e. refl) 0 (behind 3 es),
+        joined-split choices (offers (shapeOf TermKind.ite)) unit es,
+        joined-none choices (offers (shapeOf TermKind.ite)) (λ i e. refl) 0 (behind 3 es),
         none-left y,
         none-left z,
       )
       (ap (λ x. x ⊕ (once P ⊕ dearer y z)) (sym (none-right a)) ∙ t-branches (once P) a none y z)
     where
-      unit : (i : ℕ) → offers TermKind.ite i (val Val.unit) ≡ none
+      unit : (i : ℕ) → offers (shapeOf TermKind.ite) i (val Val.unit) ≡ none
       unit zero = refl
       unit (suc zero) = none-left none
       unit (suc (suc zero)) = none-left none
@@ -173,10 +174,10 @@ module _ (W : Here → Numbers) (P : Here) (p : Dom) (v : ℕ) where
 
   match-kind : (a b c : Tm) (r : Tms)
       → (need W (deeper P) a ⊕ needs W (deeper P) r) ⊕ (once P ⊕ dearer (binds (P .dom) v ⊕ need W P b) (need W P c))
-      ≡ once P ⊕ (joined sums (adds TermKind.match) 0 (more a (more b (more c r))) ⊕ joined choices (offers TermKind.match) 0 (more a (more b (more c r))))
+      ≡ once P ⊕ (joined sums (adds (shapeOf TermKind.match)) 0 (more a (more b (more c r))) ⊕ joined choices (offers (shapeOf TermKind.match)) 0 (more a (more b (more c r))))
   unfolding joined
   match-kind a b c r =
-      rw (operands-behind (adds TermKind.match) (λ i e. refl) 0 r, joined-none choices (offers TermKind.match) (λ i e. refl) 0 r, none-left (need W P c))
+      rw (operands-behind (adds (shapeOf TermKind.match)) (λ i e. refl) 0 r, joined-none choices (offers (shapeOf TermKind.match)) (λ i e. refl) 0 r, none-left (need W P c))
       (t-branches (once P) (need W (deeper P) a) (needs W (deeper P) r) (binds (P .dom) v ⊕ need W P b) (need W P c))
 
 arith-own : (W : Here → Numbers) (P : Here) (n : ℕ) → own2 W P (opOf n) ≡ once P
@@ -192,66 +193,48 @@ Three (more a end) = ⊥
 Three (more a (more b end)) = ⊥
 Three (more a (more b (more c r))) = Unit
 
-abbrev pub Full : TermKind → Tms → Type 0
-Full TermKind.unit es = Unit
-Full TermKind.truth es = Unit
-Full TermKind.number es = Unit
-Full TermKind.var es = Unit
-Full TermKind.seq es = Unit
-Full TermKind.print es = Unit
-Full TermKind.ite es = Unit
-Full TermKind.pair es = Unit
-Full TermKind.split es = Unit
-Full TermKind.fun es = Unit
-Full TermKind.app es = Unit
-Full TermKind.arith es = Unit
-Full TermKind.newLabel es = Unit
-Full TermKind.mark es = Unit
-Full TermKind.pcd es = Unit
-Full TermKind.adv es = Unit
-Full TermKind.install es = Unit
-Full TermKind.newCell es = Unit
-Full TermKind.read es = Unit
-Full TermKind.store es = Unit
-Full TermKind.lower es = Unit
-Full TermKind.abort es = Unit
-Full TermKind.byte es = Unit
-Full TermKind.obj es = Unit
-Full TermKind.call es = Unit
-Full TermKind.stack es = Unit
-Full TermKind.keep es = Unit
-Full TermKind.match es = Three es
-Full TermKind.takedown es = Unit
+abbrev pub FullIf : Bool → Tms → Type 0
+FullIf true es = Three es
+FullIf false es = Unit
 
-pub need-kind : (W : Here → Numbers) (P : Here) (k : TermKind) (t : Ty) (vs : List ℕ) (es : Tms) → Full k es
-    → need W P (assemble k t vs es) ≡ ownNumbers (shapeOf k .own) P (W P) ⊕ (joined sums (adds W P (partDomain k t vs) (branchVariables k vs) k) 0 es ⊕ joined choices (offers W P (partDomain k t vs) (branchVariables k vs) k) 0 es)
-unfolding need needs assemble
-need-kind W P TermKind.unit t vs es full = plain-kind W P 0 0 TermKind.unit (no-branches TermKind.unit refl refl refl refl) (λ i e. refl) es _ _ (t0 _)
-need-kind W P TermKind.truth t vs es full = plain-kind W P 0 0 TermKind.truth (no-branches TermKind.truth refl refl refl refl) (λ i e. refl) es _ _ (t0 _)
-need-kind W P TermKind.number t vs es full = plain-kind W P 0 0 TermKind.number (no-branches TermKind.number refl refl refl refl) (λ i e. refl) es _ _ (t0 _)
-need-kind W P TermKind.var t vs es full = plain-kind W P 0 0 TermKind.var (no-branches TermKind.var refl refl refl refl) (λ i e. refl) es _ _ (t0 _)
-need-kind W P TermKind.seq t vs es full = plain-kind W P 0 0 TermKind.seq (no-branches TermKind.seq refl refl refl refl) (λ i e. refl) es _ _ (t2-next _ _ _)
-need-kind W P TermKind.print t vs es full = plain-kind W P 0 0 TermKind.print (no-branches TermKind.print refl refl refl refl) (λ i e. refl) es _ _ (t1 _ _)
-need-kind W P TermKind.ite t vs es full = ite-kind W P 0 0 es
-need-kind W P TermKind.pair t vs es full = plain-kind W P 0 0 TermKind.pair (no-branches TermKind.pair refl refl refl refl) (λ i e. refl) es _ _ (t2 _ _ _)
-need-kind W P TermKind.split t vs es full = plain-kind W P 0 0 TermKind.split (no-branches TermKind.split refl refl refl refl) (λ i e. refl) es _ _ (t2-next _ _ _)
-need-kind W P TermKind.fun t vs es full = plain-kind W P 0 0 TermKind.fun (no-branches TermKind.fun refl refl refl refl) (λ i e. refl) es _ _ (t0 _)
-need-kind W P TermKind.app t vs es full = plain-kind W P 0 0 TermKind.app (no-branches TermKind.app refl refl refl refl) (λ i e. refl) es _ _ (t2 _ _ _)
-need-kind W P TermKind.arith t vs es full = rw (arith-own W P (getD vs 0 0)) (plain-kind W P 0 0 TermKind.arith (no-branches TermKind.arith refl refl refl refl) (λ i e. refl) es _ _ (t2 _ _ _))
-need-kind W P TermKind.newLabel t vs es full = plain-kind W P 0 0 TermKind.newLabel (no-branches TermKind.newLabel refl refl refl refl) (λ i e. refl) es _ _ (t0 _)
-need-kind W P TermKind.mark t vs es full = plain-kind W P 0 0 TermKind.mark (no-branches TermKind.mark refl refl refl refl) (λ i e. refl) es _ _ (t2 _ _ _)
-need-kind W P TermKind.pcd t vs es full = pcd-kind W P 0 0 es
-need-kind W P TermKind.adv t vs es full = plain-kind W P (domOf t) 0 TermKind.adv (no-branches TermKind.adv refl refl refl refl) (λ i e. refl) es _ _ (t1 _ _)
-need-kind W P TermKind.install t vs es full = plain-kind W P 0 0 TermKind.install (no-branches TermKind.install refl refl refl refl) (λ i e. refl) es _ _ (t1 _ _)
-need-kind W P TermKind.newCell t vs es full = plain-kind W P 0 0 TermKind.newCell (no-branches TermKind.newCell refl refl refl refl) (λ i e. refl) es _ _ (t1 _ _)
-need-kind W P TermKind.read t vs es full = plain-kind W P 0 0 TermKind.read (no-branches TermKind.read refl refl refl refl) (λ i e. refl) es _ _ (t1 _ _)
-need-kind W P TermKind.store t vs es full = plain-kind W P 0 0 TermKind.store (no-branches TermKind.store refl refl refl refl) (λ i e. refl) es _ _ (t2 _ _ _)
-need-kind W P TermKind.lower t vs es full = plain-kind W P (getD vs 0 0) 0 TermKind.lower (no-branches TermKind.lower refl refl refl refl) (λ i e. refl) es _ _ (t1 _ _)
-need-kind W P TermKind.abort t vs es full = plain-kind W P 0 0 TermKind.abort (no-branches TermKind.abort refl refl refl refl) (λ i e. refl) es _ _ (t0 _)
-need-kind W P TermKind.byte t vs es full = plain-kind W P 0 0 TermKind.byte (no-branches TermKind.byte refl refl refl refl) (λ i e. refl) es _ _ (t1 _ _)
-need-kind W P TermKind.obj t vs es full = plain-kind W P 0 0 TermKind.obj (no-branches TermKind.obj refl refl refl refl) (λ i e. refl) es _ _ (t0 _)
-need-kind W P TermKind.call t vs es full = plain-kind W P 0 0 TermKind.call (no-branches TermKind.call refl refl refl refl) (λ i e. refl) es _ _ (t1 _ _)
-need-kind W P TermKind.stack t vs es full = plain-kind W P 0 0 TermKind.stack (no-branches TermKind.stack refl refl refl refl) (λ i e. refl) es _ _ (t0 _)
-need-kind W P TermKind.keep t vs es full = plain-kind W P 0 0 TermKind.keep (no-branches TermKind.keep refl refl refl refl) (λ i e. refl) es _ _ (t3 _ _ _ _)
-need-kind W P TermKind.match t vs (more a (more b (more c r))) full = match-kind W P 0 (variables (patternOf vs)) a b c r
-need-kind W P TermKind.takedown t vs es full = plain-kind W P 0 0 TermKind.takedown (no-branches TermKind.takedown refl refl refl refl) (λ i e. refl) es _ _ (t0 _)
+abbrev pub Full : TermKind → Tms → Type 0
+Full k es = FullIf (isKind TermKind.match k) es
+
+-- What an operator without operands takes itself.
+own-extra : (x : Extra) (P : Here) (w : Numbers) → withExtra P x ≡ ownNumbers (ownOf x) P w
+own-extra noExtra P w = refl
+own-extra aNewLabel P w = refl
+own-extra keptPieces P w = refl
+
+pub need-form : (W : Here → Numbers) (P : Here) {k : TermKind} (φ : Form k) (t : Ty) (vs : List ℕ) (es : Tms) → Full k es
+    → need W P (assembleAs φ t vs es) ≡ ownNumbers (shapeAs φ .own) P (W P) ⊕ (joined sums (adds W P (partDomain k t vs) (branchVariables k vs) (shapeAs φ)) 0 es ⊕ joined choices (offers W P (partDomain k t vs) (branchVariables k vs) (shapeAs φ)) 0 es)
+unfolding need needs
+need-form W P {k} (operator o n r) t vs es full =
+    let F = childless (ownOf (extra0 o)) in
+    plain-kind W P (partDomain k t vs) (branchVariables k vs) F (no-branches F refl refl refl refl) (λ i e. refl) es _ _ (own-extra (extra0 o) P (W P) ∙ t0 _)
+need-form W P Form.unit t vs es full = plain-kind W P 0 0 (shapeOf TermKind.unit) (no-branches (shapeOf TermKind.unit) refl refl refl refl) (λ i e. refl) es _ _ (t0 _)
+need-form W P Form.truth t vs es full = plain-kind W P 0 0 (shapeOf TermKind.truth) (no-branches (shapeOf TermKind.truth) refl refl refl refl) (λ i e. refl) es _ _ (t0 _)
+need-form W P Form.number t vs es full = plain-kind W P 0 0 (shapeOf TermKind.number) (no-branches (shapeOf TermKind.number) refl refl refl refl) (λ i e. refl) es _ _ (t0 _)
+need-form W P Form.var t vs es full = plain-kind W P 0 0 (shapeOf TermKind.var) (no-branches (shapeOf TermKind.var) refl refl refl refl) (λ i e. refl) es _ _ (t0 _)
+need-form W P Form.seq t vs es full = plain-kind W P 0 0 (shapeOf TermKind.seq) (no-branches (shapeOf TermKind.seq) refl refl refl refl) (λ i e. refl) es _ _ (t2-next _ _ _)
+need-form W P Form.print t vs es full = plain-kind W P 0 0 (shapeOf TermKind.print) (no-branches (shapeOf TermKind.print) refl refl refl refl) (λ i e. refl) es _ _ (t1 _ _)
+need-form W P Form.ite t vs es full = ite-kind W P 0 0 es
+need-form W P Form.pair t vs es full = plain-kind W P 0 0 (shapeOf TermKind.pair) (no-branches (shapeOf TermKind.pair) refl refl refl refl) (λ i e. refl) es _ _ (t2 _ _ _)
+need-form W P Form.split t vs es full = plain-kind W P 0 0 (shapeOf TermKind.split) (no-branches (shapeOf TermKind.split) refl refl refl refl) (λ i e. refl) es _ _ (t2-next _ _ _)
+need-form W P Form.fun t vs es full = plain-kind W P 0 0 (shapeOf TermKind.fun) (no-branches (shapeOf TermKind.fun) refl refl refl refl) (λ i e. refl) es _ _ (t0 _)
+need-form W P Form.app t vs es full = plain-kind W P 0 0 (shapeOf TermKind.app) (no-branches (shapeOf TermKind.app) refl refl refl refl) (λ i e. refl) es _ _ (t2 _ _ _)
+need-form W P Form.arith t vs es full = rw (arith-own W P (getD vs 0 0)) (plain-kind W P 0 0 (shapeOf TermKind.arith) (no-branches (shapeOf TermKind.arith) refl refl refl refl) (λ i e. refl) es _ _ (t2 _ _ _))
+need-form W P Form.mark t vs es full = plain-kind W P 0 0 (shapeOf TermKind.mark) (no-branches (shapeOf TermKind.mark) refl refl refl refl) (λ i e. refl) es _ _ (t2 _ _ _)
+need-form W P Form.pcd t vs es full = pcd-kind W P 0 0 es
+need-form W P Form.adv t vs es full = plain-kind W P (domOf t) 0 (shapeOf TermKind.adv) (no-branches (shapeOf TermKind.adv) refl refl refl refl) (λ i e. refl) es _ _ (t1 _ _)
+need-form W P Form.install t vs es full = plain-kind W P 0 0 (shapeOf TermKind.install) (no-branches (shapeOf TermKind.install) refl refl refl refl) (λ i e. refl) es _ _ (t1 _ _)
+need-form W P Form.newCell t vs es full = plain-kind W P 0 0 (shapeOf TermKind.newCell) (no-branches (shapeOf TermKind.newCell) refl refl refl refl) (λ i e. refl) es _ _ (t1 _ _)
+need-form W P Form.read t vs es full = plain-kind W P 0 0 (shapeOf TermKind.read) (no-branches (shapeOf TermKind.read) refl refl refl refl) (λ i e. refl) es _ _ (t1 _ _)
+need-form W P Form.store t vs es full = plain-kind W P 0 0 (shapeOf TermKind.store) (no-branches (shapeOf TermKind.store) refl refl refl refl) (λ i e. refl) es _ _ (t2 _ _ _)
+need-form W P Form.lower t vs es full = plain-kind W P (getD vs 0 0) 0 (shapeOf TermKind.lower) (no-branches (shapeOf TermKind.lower) refl refl refl refl) (λ i e. refl) es _ _ (t1 _ _)
+need-form W P Form.byte t vs es full = plain-kind W P 0 0 (shapeOf TermKind.byte) (no-branches (shapeOf TermKind.byte) refl refl refl refl) (λ i e. refl) es _ _ (t1 _ _)
+need-form W P Form.obj t vs es full = plain-kind W P 0 0 (shapeOf TermKind.obj) (no-branches (shapeOf TermKind.obj) refl refl refl refl) (λ i e. refl) es _ _ (t0 _)
+need-form W P Form.call t vs es full = plain-kind W P 0 0 (shapeOf TermKind.call) (no-branches (shapeOf TermKind.call) refl refl refl refl) (λ i e. refl) es _ _ (t1 _ _)
+need-form W P Form.keep t vs es full = plain-kind W P 0 0 (shapeOf TermKind.keep) (no-branches (shapeOf TermKind.keep) refl refl refl refl) (λ i e. refl) es _ _ (t3 _ _ _ _)
+need-form W P Form.match t vs (more a (more b (more c r))) full = match-kind W P 0 (variables (patternOf vs)) a b c r
+need-form W P Form.takedown t vs es full = plain-kind W P 0 0 (shapeOf TermKind.takedown) (no-branches (shapeOf TermKind.takedown) refl refl refl refl) (λ i e. refl) es _ _ (t0 _)

@@ -2,23 +2,27 @@
 use Prim.Native.Nat.{ℕ, suc, _+_, _≤_, _<_}
 use native.Mathlib.Omega.{arith}
 use native.Mathlib.Numerals.{add-one}
-use mathlib.Core.Path.{_≡_, refl, sym, ap, _∙_}
-use mathlib.Core.Bool.{true}
+use mathlib.Core.Path.{_≡_, refl, sym, ap, subst, _∙_}
+use mathlib.Core.Bool.{Bool, true, false}
 use mathlib.Core.List.{List, [], _∷_, _++_}
 use lib.ListN.{length, getD, take}
-use lib.Dec.{leb}
+use lib.Dec.{eqb, leb}
 use lib.Seq.{take-suc, take-all, length-take-le}
-use Rattle.calculus.specs.Syntax.{Ty, Tm, Tms}
+use borrow.Author.Tests.{eq-eqb}
+use Rattle.calculus.specs.Syntax.{Ty, Val, Tm, Tms, val, var}
+use Rattle.calculus_needs.specs.Here.{Here}
 use Rattle.calculus_needs.specs.Numbers.{Numbers, none, _⊕_, dearer}
-use Rattle.calculus_needs.specs.Needs.{need, rounds}
+use Rattle.calculus_needs.specs.Needs.{need, roundOfValue, rounds}
 use Rattle.calculus_needs.proofs.Sums.{none-left, none-right, plus-assoc}
 use Rattle.calculus_needs.proofs.Shift.{level, rounds-once}
-use Rattle.laws.proofs.Booleans.{no-path, le-of}
+use Rattle.laws.proofs.Booleans.{no-path, le-of, eq-of}
 use Rattle.image.specs.Bytes.{lengthAt}
 use Rattle.image.proofs.Words.{words-length}
 use Rattle.image.proofs.Counts.{mostChildren, children-between}
 use Rattle.image.proofs.EveryKind.{everyOf, at-term}
-use Rattle.image.specs.Kinds.{TermKind, termRow}
+use Rattle.image.specs.Kinds.{TermKind, termRow, isKind}
+use Rattle.image.proofs.KindNumbers.{same-term-kind}
+use Rattle.check_rules.proofs.Elimination.{constants}
 use Rattle.image.specs.Records.{Layout, times, numbersAt}
 use Rattle.image.specs.Program.{Program, tree, toTm, toTms, subtrees, assemble}
 use Rattle.image.specs.Types.{termPlace, termKind, statedType, others, children, rootOf}
@@ -35,7 +39,7 @@ use Rattle.need_sums.specs.Rows.{rowCount, atMark}
 use Rattle.need_terms.specs.Parts.{partDomain, branchVariables}
 use Rattle.need_walk.specs.Counted.{hereOf, counted, termAt, Known, skips}
 use Rattle.need_walk.proofs.Folds.{sums, choices, joined, joined-at, joinedAt, joined-snoc}
-use Rattle.need_walk.proofs.Shapes.{Full}
+use Rattle.need_walk.proofs.Shapes.{FullIf, Full}
 use Rattle.need_walk.proofs.Modes.{ownCounted, added, offered, by-kind}
 use Rattle.need_walk.proofs.Cut.{cut-plus, cut-dearer, cut-none, cut-shift, reduction-cut, round-cut, added-cut, chosen-cut}
 
@@ -74,65 +78,40 @@ own-cut L s hd hr o p w rows known = look (s .mode) known
     look Mode.Round x = round-cut (S Mode.Round) hd hk o p
 
 -- A constant or a variable takes nothing.
+constant-takes : (r : Tm) (s : Stand) (v : Val) → ((P : Here) → roundOfValue P v ≡ none) → counted r s (val v) ≡ none
+unfolding need rounds
+constant-takes r s v h = in-mode (s .mode)
+  where
+    in-mode : (m : Mode) → counted r (record { mode = m; dom = s .dom; depth = s .depth; kept = s .kept }) (val v) ≡ none
+    in-mode Mode.Skip = refl
+    in-mode Mode.Program = refl
+    in-mode Mode.Body = refl
+    in-mode Mode.Rounds = refl
+    in-mode Mode.Round = ap (λ x. none ⊕ x) (h (hereOf s)) ∙ none-left none
+
+variable-takes : (r : Tm) (s : Stand) (i : ℕ) → counted r s (var i) ≡ none
+unfolding need rounds
+variable-takes r s i = in-mode (s .mode)
+  where
+    in-mode : (m : Mode) → counted r (record { mode = m; dom = s .dom; depth = s .depth; kept = s .kept }) (var i) ≡ none
+    in-mode Mode.Skip = refl
+    in-mode Mode.Program = refl
+    in-mode Mode.Body = refl
+    in-mode Mode.Rounds = refl
+    in-mode Mode.Round = none-left none
+
 leaf-kind : (k : TermKind) → termRow k .number ≤ 35 → (r : Tm) (s : Stand) (t : Ty) (vs : List ℕ) (es : Tms) → counted r s (assemble k t vs es) ≡ none
-unfolding need rounds assemble
-leaf-kind TermKind.unit l r s t vs es = in-mode (s .mode)
+unfolding assemble
+leaf-kind k l r s t vs es = look (eqb (termRow k .number) 35) refl
   where
-    in-mode : (m : Mode) → counted r (record { mode = m; dom = s .dom; depth = s .depth; kept = s .kept }) (assemble TermKind.unit t vs es) ≡ none
-    in-mode Mode.Skip = refl
-    in-mode Mode.Program = refl
-    in-mode Mode.Body = refl
-    in-mode Mode.Rounds = refl
-    in-mode Mode.Round = none-left none
-leaf-kind TermKind.truth l r s t vs es = in-mode (s .mode)
-  where
-    in-mode : (m : Mode) → counted r (record { mode = m; dom = s .dom; depth = s .depth; kept = s .kept }) (assemble TermKind.truth t vs es) ≡ none
-    in-mode Mode.Skip = refl
-    in-mode Mode.Program = refl
-    in-mode Mode.Body = refl
-    in-mode Mode.Rounds = refl
-    in-mode Mode.Round = none-left none
-leaf-kind TermKind.number l r s t vs es = in-mode (s .mode)
-  where
-    in-mode : (m : Mode) → counted r (record { mode = m; dom = s .dom; depth = s .depth; kept = s .kept }) (assemble TermKind.number t vs es) ≡ none
-    in-mode Mode.Skip = refl
-    in-mode Mode.Program = refl
-    in-mode Mode.Body = refl
-    in-mode Mode.Rounds = refl
-    in-mode Mode.Round = none-left none
-leaf-kind TermKind.var l r s t vs es = in-mode (s .mode)
-  where
-    in-mode : (m : Mode) → counted r (record { mode = m; dom = s .dom; depth = s .depth; kept = s .kept }) (assemble TermKind.var t vs es) ≡ none
-    in-mode Mode.Skip = refl
-    in-mode Mode.Program = refl
-    in-mode Mode.Body = refl
-    in-mode Mode.Rounds = refl
-    in-mode Mode.Round = none-left none
-leaf-kind TermKind.seq l r s t vs es = absurd (omega arith)
-leaf-kind TermKind.print l r s t vs es = absurd (omega arith)
-leaf-kind TermKind.ite l r s t vs es = absurd (omega arith)
-leaf-kind TermKind.pair l r s t vs es = absurd (omega arith)
-leaf-kind TermKind.split l r s t vs es = absurd (omega arith)
-leaf-kind TermKind.fun l r s t vs es = absurd (omega arith)
-leaf-kind TermKind.app l r s t vs es = absurd (omega arith)
-leaf-kind TermKind.arith l r s t vs es = absurd (omega arith)
-leaf-kind TermKind.newLabel l r s t vs es = absurd (omega arith)
-leaf-kind TermKind.mark l r s t vs es = absurd (omega arith)
-leaf-kind TermKind.pcd l r s t vs es = absurd (omega arith)
-leaf-kind TermKind.adv l r s t vs es = absurd (omega arith)
-leaf-kind TermKind.install l r s t vs es = absurd (omega arith)
-leaf-kind TermKind.newCell l r s t vs es = absurd (omega arith)
-leaf-kind TermKind.read l r s t vs es = absurd (omega arith)
-leaf-kind TermKind.store l r s t vs es = absurd (omega arith)
-leaf-kind TermKind.lower l r s t vs es = absurd (omega arith)
-leaf-kind TermKind.abort l r s t vs es = absurd (omega arith)
-leaf-kind TermKind.byte l r s t vs es = absurd (omega arith)
-leaf-kind TermKind.obj l r s t vs es = absurd (omega arith)
-leaf-kind TermKind.call l r s t vs es = absurd (omega arith)
-leaf-kind TermKind.stack l r s t vs es = absurd (omega arith)
-leaf-kind TermKind.keep l r s t vs es = absurd (omega arith)
-leaf-kind TermKind.match l r s t vs es = absurd (omega arith)
-leaf-kind TermKind.takedown l r s t vs es = absurd (omega arith)
+    Takes : TermKind → Type 0
+    Takes j = counted r s (assemble j t vs es) ≡ none
+
+    look : (b : Bool) → eqb (termRow k .number) 35 ≡ b → Takes k
+    look true q = subst Takes (sym (same-term-kind k TermKind.var (eq-of q))) (variable-takes r s (getD vs 0 0))
+    look false q =
+        let n : termRow k .number ≡ 35 → ⊥ = λ z. no-path (sym (eq-eqb _ 35 z) ∙ q) in
+        constants Takes (constant-takes r s _ (λ P. refl)) (constant-takes r s _ (λ P. refl)) (constant-takes r s _ (λ P. refl)) k (omega arith)
 
 -- A match has three children at least.
 three-of : (g : ℕ → Program) (es : List ℕ) → 3 ≤ length es → Full TermKind.match (toTms (subtrees g es))
@@ -143,35 +122,11 @@ three-of g (a ∷ b ∷ []) h = absurd (omega arith)
 three-of g (a ∷ b ∷ c ∷ es) h = tt
 
 full-of : (k : TermKind) (es : Tms) → (k ≡ TermKind.match → Full TermKind.match es) → Full k es
-full-of TermKind.unit es h = tt
-full-of TermKind.truth es h = tt
-full-of TermKind.number es h = tt
-full-of TermKind.var es h = tt
-full-of TermKind.seq es h = tt
-full-of TermKind.print es h = tt
-full-of TermKind.ite es h = tt
-full-of TermKind.pair es h = tt
-full-of TermKind.split es h = tt
-full-of TermKind.fun es h = tt
-full-of TermKind.app es h = tt
-full-of TermKind.arith es h = tt
-full-of TermKind.newLabel es h = tt
-full-of TermKind.mark es h = tt
-full-of TermKind.pcd es h = tt
-full-of TermKind.adv es h = tt
-full-of TermKind.install es h = tt
-full-of TermKind.newCell es h = tt
-full-of TermKind.read es h = tt
-full-of TermKind.store es h = tt
-full-of TermKind.lower es h = tt
-full-of TermKind.abort es h = tt
-full-of TermKind.byte es h = tt
-full-of TermKind.obj es h = tt
-full-of TermKind.call es h = tt
-full-of TermKind.stack es h = tt
-full-of TermKind.keep es h = tt
-full-of TermKind.match es h = h refl
-full-of TermKind.takedown es h = tt
+full-of k es h = go (isKind TermKind.match k) refl
+  where
+    go : (b : Bool) → isKind TermKind.match k ≡ b → FullIf b es
+    go true q = h (same-term-kind k TermKind.match (eq-of q))
+    go false q = tt
 
 -- A term has few children.
 most-few : (k : TermKind) → mostChildren (termRow k) ≤ placeLimit

@@ -2,13 +2,13 @@
 use check_records::numbers::TermNo;
 use check_rules::leaf::is_leaf;
 use image_needs::Needs;
-use need_sums::own::added;
-use need_sums::own::chosen;
-use need_sums::own::own_needs;
+use need_own::own::added;
+use need_own::own::chosen;
+use need_own::own::own_needs;
+use need_own::rows::at_mark;
 use need_sums::places::Mode;
 use need_sums::places::Stand;
 use need_sums::places::child_stand;
-use need_sums::rows::at_mark;
 use need_sums::shapes::role_at;
 use need_sums::sums::add;
 use need_sums::sums::dearer;

@@ -32,6 +32,6 @@ pub fn put_head(report: &mut [u8], outcome: Outcome, steps: u32)
     ensures { λ _. ⌜ now (report .exit) ≡ over 0 (headBytes (outcomeNumber outcome) steps) (now (report .entry)) ⌝ }
 {
     put_header(report, 0, 10, REPORT);
-    put16(report, 4, calculus::outcome_number(outcome));
+    put16(report, 4, crate::outcome_number(outcome));
     put32(report, 6, steps);
 }

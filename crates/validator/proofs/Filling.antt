@@ -11,7 +11,8 @@ use Rattle.image.specs.Types.{typePlace}
 use Rattle.image.proofs.Laid.{records-of}
 use Rattle.check_records.specs.declared.numbers.Counts.{Counts}
 use Rattle.check_records.specs.Descriptors.{Describes}
-use Rattle.check_layout.specs.Tables.{layoutOf, Tables}
+use Rattle.check_marks.specs.Marks.{marksOf, allMarks}
+use Rattle.check_layout.specs.Tables.{layoutOf, Tables, Marks}
 use Rattle.check_rules.specs.Lent.{TypeOffsets}
 use Rattle.validator.specs.Examined.{Filled}
 
@@ -60,6 +61,10 @@ module _ (b : List ℕ) (n : Counts) (ds ts ks es : List ℕ) (short : length b 
       terms = sym (ap length terms-held ∙ term-count);
     };
   }
+
+  -- The marks are those of all terms.
+  pub marked : (ms : List ℕ) → Marks b n ds ts es ms → ms ≡ allMarks b
+  marked ms m = m ∙ (ap (λ L. marksOf L (n .terms)) (sym held) ∙ ap (λ c. marksOf (recordsOf b) c) (filled .counts .terms))
 
 -- The offsets of the types, as the rules ask for them.
 pub offsets-held : {b : List ℕ} {n : Counts} {ds ts ks es : List ℕ} → Filled b n ds ts ks es → TypeOffsets b ts

@@ -17,10 +17,11 @@ use Rattle.verdict.proofs.Answered.{accepted-is, turn-stops, turn-goes, last-tu
 use Rattle.verdict.proofs.Passed.{shape-accepts}
 use Rattle.check_records.specs.declared.numbers.Counts.{Counts}
 use Rattle.check_layout.specs.declared.Scan.{Scan}
-use Rattle.check_layout.specs.Tables.{layoutOf, scanOf, Scanned}
+use Rattle.check_marks.specs.Marks.{allMarks}
+use Rattle.check_layout.specs.Tables.{layoutOf, scanOf, Marks, Scanned}
 use Rattle.validator.specs.declared.examine.Checked.{Checked}
 use Rattle.validator.specs.Examined.{checkedRecords, examined, verdictOf, withCounts, Filled, Answered}
-use Rattle.validator.proofs.Filling.{filled}
+use Rattle.validator.proofs.Filling.{filled, marked}
 
 -- Two checks in turn.
 refused-turn : (v w : Verdict) → isRefused v ≡ true → inTurn ((λ u. v) ∷ (λ u. w) ∷ []) ≡ v
@@ -45,7 +46,7 @@ pub shaped : (b : List ℕ) (v : Verdict) → v ≡ shape (recordsOf b) (length 
 shaped b v e h = shape-accepts (recordsOf b) (length b) .0 (sym e ∙ accepted-is v h)
 
 -- The scan stopped, or laid the image out.
-module _ (b ds ts ks es : List ℕ) (x : Scan) (short : length b ≤ imageLimit) (s : Scanned x b ds ts ks es) where
+module _ (b ds ts ks es ms : List ℕ) (x : Scan) (short : length b ≤ imageLimit) (s : Scanned x b ds ts ks es ms) where
   pub stopped-answer : (r : Refusal) (o : ℕ) → x ≡ Scan.Stopped r o → Answered (Checked.Refused r o) b ds ts ks es
   unfolding examined inTurn
   stopped-answer r o e =
@@ -64,6 +65,9 @@ module _ (b ds ts ks es : List ℕ) (x : Scan) (short : length b ≤ imageLimit)
     -- What the checks of the records ask, and what they answer.
     pub laid-tables : Filled b n ds ts ks es
     laid-tables = filled b n ds ts ks es short laid-answer (rw (s .counted n e) at (s .holds .tables))
+
+    pub laid-marks : ms ≡ allMarks b
+    laid-marks = marked b n ds ts ks es short laid-answer (rw (s .counted n e) at (s .holds .tables)) ms (subst (λ m. Marks b m ds ts es ms) (s .counted n e) (s .marks))
 
     pub checked-answer : (v : Verdict) (r : Checked) → v ≡ checkedRecords b → r ≡ withCounts v n → Answered r b ds ts ks es
     unfolding examined

@@ -8,6 +8,7 @@ ghost use lib.ListN.{length};
 ghost use Rattle.image.specs.Limits.{typeLimit, termLimit};
 ghost use Rattle.check_records.specs.Codes.{kindCodes};
 ghost use Rattle.check_records.specs.Tables.{Tables, Counted};
+ghost use Rattle.check_marks.specs.Marks.{allMarks};
 ghost use Rattle.check_layout.specs.Tables.{Lent};
 ghost use Rattle.check_rules.specs.Lent.{TypeOffsets};
 ghost use Rattle.validator.specs.Examined.{checkedRecords, withCounts, verdictOf, Answered};
@@ -27,11 +28,12 @@ fn check_laid_out(
     types: &[u16; 128],
     descriptors: &[u32; 128],
     terms: &[u16; 1024],
+    marks: &[u8],
 ) -> Verdict
-    requires { ⌜ (now kinds ≡ kindCodes) × Tables (now image) (now doms) (now terms) (now descriptors) × Counted (now image) counts × TypeOffsets (now image) (now types) ⌝ }
+    requires { ⌜ (now kinds ≡ kindCodes) × Tables (now image) (now doms) (now terms) (now descriptors) × Counted (now image) counts × TypeOffsets (now image) (now types) × (now marks ≡ allMarks (now image)) ⌝ }
     ensures { λ r. ⌜ r ≡ checkedRecords (now (image .entry)) ⌝ }
 {
-    let v = check_shape::check_shape(image, kinds, counts, doms, terms);
+    let v = check_shape::check_shape(image, kinds, counts, doms, terms, marks);
     if verdict::is_refused(v) {
         return v;
     }
@@ -67,11 +69,29 @@ pub fn examine_image(
     requires { ⌜ Lent (now image) (now kinds) (now doms) (now types) (now descriptors) (now terms) ⌝ }
     ensures { λ r. ⌜ Answered r (now (image .entry)) (now (doms .exit)) (now (types .exit)) (now (descriptors .exit)) (now (terms .exit)) × (length (now (types .exit)) ≡ typeLimit) × (length (now (descriptors .exit)) ≡ typeLimit) × (length (now (terms .exit)) ≡ termLimit) ⌝ }
 {
-    let scanned = check_layout::scan_records(image, kinds, doms, types, descriptors, terms);
+    let mut marks = [0u8; 1024];
+    let scanned = check_layout::scan_records(
+        image,
+        kinds,
+        doms,
+        types,
+        descriptors,
+        terms,
+        &mut marks,
+    );
     match scanned {
         check_layout::Scan::Stopped(why, at) => Checked::Refused(why, at),
         check_layout::Scan::Laid(counts) => with_counts(
-            check_laid_out(image, kinds, counts, doms, types, descriptors, terms),
+            check_laid_out(
+                image,
+                kinds,
+                counts,
+                doms,
+                types,
+                descriptors,
+                terms,
+                &marks,
+            ),
             counts,
         ),
     }

@@ -5,20 +5,20 @@ use mathlib.Core.Path.{_≡_, refl, sym, ap, subst, _∙_}
 use mathlib.Core.Bool.{true}
 use mathlib.Core.List.{List, [], _∷_, reverseAux}
 use lib.ListN.{drop}
-use Rattle.calculus.specs.Syntax.{Dom, Ty, Sigs, method, Val, Tm, Tms, Pattern, val, op0, split, adv, match, abort}
+use Rattle.calculus.specs.Syntax.{Dom, Ty, Sigs, method, Val, Tm, Tms, Pattern, val, op0, split, adv, match, abort, Op1, Op2, op1, op2, seq, ite, keep}
 use Rattle.calculus.specs.Typing.{Policy, noStore, t-abort, v-unit, TmTy, TmsTy, BodiesTy, a-body, is-val, is-lam, is-op0, is-op1, is-op2, is-seq, is-ite, is-split, is-pcd, is-adv, is-lower, is-obj, is-keep, is-match, is-end, is-more}
 use Rattle.calculus.specs.Plain.{domOf, methodDom}
-use Rattle.image.specs.Kinds.{TermKind}
-use Rattle.image.specs.Program.{Program, Programs, node, blank, end, more, nth, behind, patternOf, assemble, toTm, toTms}
+use Rattle.image.specs.Kinds.{TermKind, Form, operator, formOf}
+use Rattle.image.specs.Program.{Program, Programs, node, blank, end, more, nth, behind, patternOf, assembleAs, assemble, toTm, toTms}
 use Rattle.laws.proofs.Booleans.{no-path}
 use Rattle.verdict.specs.Settings.{matchBinds, Setting}
 use Rattle.verdict.specs.WellTyped.{firstOf, stated, stateds, aborts, childSetting, WellTyped, EachWellTyped}
 use Rattle.verdict.proofs.Patterns.{pattern-binds}
-use Rattle.verdict.proofs.Inversion.{abort-types}
+use Rattle.verdict.proofs.Inversion.{of-abort, abort-types}
 
 module _ (D : Policy) where
   pub abort-type : {Γ : List Ty} {c : Dom} {s t : Ty} → TmTy D noStore Γ c (op0 abort s) t → s ≡ t
-  abort-type (is-op0 r) = refl
+  abort-type d = of-abort d
 
   -- Wherever the aborts as are typed, the subterms es are, each where it stands.
   record Stand (at : ℕ → Setting Ty) (as′ es : Tms) : Type 0 where
@@ -31,7 +31,9 @@ module _ (D : Policy) where
 
   advice-parts : {Γ : List Ty} {c p : Dom} {s t : Ty} {b : Tm} → TmTy D noStore Γ c (adv p (op0 abort s) b) t
       → (q : Dom) × (t ≡ Ty.adv p) × (s ≡ Ty.pcd (firstOf s) q) × (D .leq p q ≡ true) × TmTy D noStore (firstOf s ∷ Γ) p b Ty.unit
-  advice-parts (is-adv {q = q} (is-op0 r) h d) = (q, refl, refl, h, d)
+  advice-parts {Γ = Γ} {p = p} {s = s} {b = b} (is-adv {q = q} {a = x} e h d) =
+      let f : firstOf s ≡ x = ap firstOf (of-abort e) in
+      (q, refl, of-abort e ∙ ap (λ y. Ty.pcd y q) (sym f), h, subst (λ y. TmTy D noStore (y ∷ Γ) p b Ty.unit) (sym f) d)
 
   -- Without a first subterm there is no pair and no pointcut.
   no-split : {Γ : List Ty} {c : Dom} {t : Ty} {e : Tm} {A : Type 0} → TmTy D noStore Γ c (split (val Val.unit) e) t → A
@@ -56,59 +58,79 @@ module _ (D : Policy) where
   shifted at p h (suc (suc zero)) l = absurd (omega arith)
   shifted at p h (suc (suc (suc j))) l = h j
 
-  rebuilt : (p : Setting Ty) (k : TermKind) (t : Ty) (vs : List ℕ) (ts : List Ty) (es : Tms) → Stand (childSetting p k t vs ts) (aborts ts) es
-      → TmTy D noStore (p .context) (p .dom) (assemble k t vs (aborts ts)) t → TmTy D noStore (p .context) (p .dom) (assemble k t vs es) t
-  unfolding assemble
-  rebuilt p TermKind.unit t vs ts es h d = d
-  rebuilt p TermKind.truth t vs ts es h d = d
-  rebuilt p TermKind.number t vs ts es h d = d
-  rebuilt p TermKind.var t vs ts es h d = d
-  rebuilt p TermKind.seq t vs ts es h (is-seq d e) = is-seq (h .one 0 d) (h .one 1 e)
-  rebuilt p TermKind.print t vs ts es h (is-op1 r d) = is-op1 r (h .one 0 d)
-  rebuilt p TermKind.ite t vs ts es h (is-ite d e f) = is-ite (h .one 0 d) (h .one 1 e) (h .one 2 f)
-  rebuilt p TermKind.pair t vs ts es h (is-op2 r d e) = is-op2 r (h .one 0 d) (h .one 1 e)
-  rebuilt p TermKind.split t vs [] es h d = no-split d
-  rebuilt p TermKind.split t vs (s ∷ ts) es h (is-split (is-op0 r) e) = is-split (h .one 0 (is-op0 r)) (h .one 1 e)
-  rebuilt p TermKind.fun t vs ts es h (is-lam d) = is-lam (h .one 0 d)
-  rebuilt p TermKind.app t vs ts es h (is-op2 r d e) = is-op2 r (h .one 0 d) (h .one 1 e)
-  rebuilt p TermKind.arith t vs ts es h (is-op2 r d e) = is-op2 r (h .one 0 d) (h .one 1 e)
-  rebuilt p TermKind.newLabel t vs ts es h d = d
-  rebuilt p TermKind.mark t vs ts es h (is-op2 r d e) = is-op2 r (h .one 0 d) (h .one 1 e)
-  rebuilt p TermKind.pcd t vs ts es h (is-pcd ds ls) = is-pcd (h .every 0 p (λ j l. refl) ds) ls
-  rebuilt p TermKind.adv t vs [] es h d = no-advice d
-  rebuilt p TermKind.adv t vs (s ∷ ts) es h d =
+  -- In an operation, a sequence, a choice and a keep, whose subterms stand where the term does, a subterm may give way to any that has its types.
+  module _ (p : Setting Ty) where
+    abbrev Typed : Tm → Ty → Type 0
+    Typed e t = TmTy D noStore (p .context) (p .dom) e t
+
+    abbrev Stands : Tm → Tm → Type 0
+    Stands e f = (s : Ty) → Typed e s → Typed f s
+
+    unary : {o : Op1} {t u : Ty} {a a′ : Tm} → Stands a a′ → Typed (op1 o t a) u → Typed (op1 o t a′) u
+    unary f (is-op1 r d) = is-op1 r (f _ d)
+
+    binary : {o : Op2} {t u : Ty} {a b a′ b′ : Tm} → Stands a a′ → Stands b b′ → Typed (op2 o t a b) u → Typed (op2 o t a′ b′) u
+    binary f g (is-op2 r d e) = is-op2 r (f _ d) (g _ e)
+
+    in-turn : {u : Ty} {a b a′ b′ : Tm} → Stands a a′ → Stands b b′ → Typed (seq a b) u → Typed (seq a′ b′) u
+    in-turn f g (is-seq d e) = is-seq (f _ d) (g _ e)
+
+    chosen : {u : Ty} {a b e a′ b′ e′ : Tm} → Stands a a′ → Stands b b′ → Stands e e′ → Typed (ite a b e) u → Typed (ite a′ b′ e′) u
+    chosen f g k (is-ite d e q) = is-ite (f _ d) (g _ e) (k _ q)
+
+    kept : {u : Ty} {a b e a′ b′ e′ : Tm} → Stands a a′ → Stands b b′ → Stands e e′ → Typed (keep a b e) u → Typed (keep a′ b′ e′) u
+    kept f g k (is-keep d e q) = is-keep (f _ d) (g _ e) (k _ q)
+
+  rebuilt : (p : Setting Ty) {k : TermKind} (φ : Form k) (t : Ty) (vs : List ℕ) (ts : List Ty) (es : Tms) → Stand (childSetting p k t vs ts) (aborts ts) es
+      → TmTy D noStore (p .context) (p .dom) (assembleAs φ t vs (aborts ts)) t → TmTy D noStore (p .context) (p .dom) (assembleAs φ t vs es) t
+  rebuilt p (operator o n r) t vs ts es h d = d
+  rebuilt p Form.unit t vs ts es h d = d
+  rebuilt p Form.truth t vs ts es h d = d
+  rebuilt p Form.number t vs ts es h d = d
+  rebuilt p Form.var t vs ts es h d = d
+  rebuilt p Form.seq t vs ts es h d = in-turn p (λ s e. h .one 0 e) (λ s e. h .one 1 e) d
+  rebuilt p Form.print t vs ts es h d = unary p (λ s e. h .one 0 e) d
+  rebuilt p Form.ite t vs ts es h d = chosen p (λ s e. h .one 0 e) (λ s e. h .one 1 e) (λ s e. h .one 2 e) d
+  rebuilt p Form.pair t vs ts es h d = binary p (λ s e. h .one 0 e) (λ s e. h .one 1 e) d
+  rebuilt p Form.split t vs [] es h d = no-split d
+  rebuilt p Form.split t vs (s ∷ ts) es h (is-split (is-op0 r) e) = is-split (h .one 0 (is-op0 r)) (h .one 1 e)
+  rebuilt p Form.fun t vs ts es h (is-lam d) = is-lam (h .one 0 d)
+  rebuilt p Form.app t vs ts es h d = binary p (λ s e. h .one 0 e) (λ s e. h .one 1 e) d
+  rebuilt p Form.arith t vs ts es h d = binary p (λ s e. h .one 0 e) (λ s e. h .one 1 e) d
+  rebuilt p Form.mark t vs ts es h d = binary p (λ s e. h .one 0 e) (λ s e. h .one 1 e) d
+  rebuilt p Form.pcd t vs ts es h (is-pcd ds ls) = is-pcd (h .every 0 p (λ j l. refl) ds) ls
+  rebuilt p Form.adv t vs [] es h d = no-advice d
+  rebuilt p Form.adv t vs (s ∷ ts) es h d =
       let a = advice-parts d in
       let first : TmTy D noStore (p .context) (p .dom) (op0 abort s) (Ty.pcd (firstOf s) (a .0)) = subst (λ u. TmTy D noStore (p .context) (p .dom) (op0 abort s) u) (a .2) (is-op0 t-abort) in
       subst (λ u. TmTy D noStore (p .context) (p .dom) (adv (domOf t) (nth es 0) (nth es 1)) u) (sym (a .1)) (is-adv (h .one 0 first) (a .3) (h .one 1 (a .4)))
-  rebuilt p TermKind.install t vs ts es h (is-op1 r d) = is-op1 r (h .one 0 d)
-  rebuilt p TermKind.newCell t vs ts es h (is-op1 r d) = is-op1 r (h .one 0 d)
-  rebuilt p TermKind.read t vs ts es h (is-op1 r d) = is-op1 r (h .one 0 d)
-  rebuilt p TermKind.store t vs ts es h (is-op2 r d e) = is-op2 r (h .one 0 d) (h .one 1 e)
-  rebuilt p TermKind.lower t vs ts es h (is-lower r d) = is-lower r (h .one 0 d)
-  rebuilt p TermKind.abort t vs ts es h d = d
-  rebuilt p TermKind.byte t vs ts es h (is-op1 r d) = is-op1 r (h .one 0 d)
-  rebuilt p TermKind.obj t vs ts es h (is-obj {ms = ms} d) = is-obj (h .bodies ms (Ty.obj ms ∷ p .context) (λ j. refl) d)
-  rebuilt p TermKind.call t vs ts es h (is-op1 r d) = is-op1 r (h .one 0 d)
-  rebuilt p TermKind.stack t vs ts es h d = d
-  rebuilt p TermKind.keep t vs ts es h (is-keep d e f) = is-keep (h .one 0 d) (h .one 1 e) (h .one 2 f)
-  rebuilt p TermKind.match t vs [] es h d = no-match d
-  rebuilt p TermKind.match t vs (s ∷ ts) es h (is-match {ts = xs} {us} (is-more (is-op0 r) ds) o f g) =
+  rebuilt p Form.install t vs ts es h d = unary p (λ s e. h .one 0 e) d
+  rebuilt p Form.newCell t vs ts es h d = unary p (λ s e. h .one 0 e) d
+  rebuilt p Form.read t vs ts es h d = unary p (λ s e. h .one 0 e) d
+  rebuilt p Form.store t vs ts es h d = binary p (λ s e. h .one 0 e) (λ s e. h .one 1 e) d
+  rebuilt p Form.lower t vs ts es h (is-lower r d) = is-lower r (h .one 0 d)
+  rebuilt p Form.byte t vs ts es h d = unary p (λ s e. h .one 0 e) d
+  rebuilt p Form.obj t vs ts es h (is-obj {ms = ms} d) = is-obj (h .bodies ms (Ty.obj ms ∷ p .context) (λ j. refl) d)
+  rebuilt p Form.call t vs ts es h d = unary p (λ s e. h .one 0 e) d
+  rebuilt p Form.keep t vs ts es h d = kept p (λ s e. h .one 0 e) (λ s e. h .one 1 e) (λ s e. h .one 2 e) d
+  rebuilt p Form.match t vs [] es h d = no-match d
+  rebuilt p Form.match t vs (s ∷ ts) es h (is-match {ts = xs} {us} (is-more (is-op0 r) ds) o f g) =
       let b : us ≡ matchBinds firstOf (patternOf vs) s (drop 3 (s ∷ ts)) = pattern-binds o ∙ ap (matchBinds firstOf (patternOf vs) Ty.stack) (behind-types (s ∷ ts) xs ds) in
       let At : Tm → List Ty → Type 0 = λ e x. TmTy D noStore (reverseAux x (p .context)) (p .dom) e t in
       is-match (is-more (h .one 0 (is-op0 r)) (h .every 3 p (λ j l. shifted (childSetting p TermKind.match t vs (s ∷ ts)) p (λ i. refl) j l) ds)) o (subst (At (nth es 1)) (sym b) (h .one 1 (subst (At (nth (aborts (s ∷ ts)) 1)) b f))) (h .one 2 g)
-  rebuilt p TermKind.takedown t vs ts es h d = d
+  rebuilt p Form.takedown t vs ts es h d = d
 
   abort-at : (p q : Setting Ty) (e : Program) {t : Ty} → q ≡ p → TmTy D noStore (p .context) (p .dom) (toTm e) (stated e) → TmTy D noStore (q .context) (q .dom) (op0 abort (stated e)) t → TmTy D noStore (q .context) (q .dom) (toTm e) t
-  abort-at p q e h d a = subst (λ s. TmTy D noStore (q .context) (q .dom) (toTm e) s) (abort-type a) (subst (λ r. TmTy D noStore (r .context) (r .dom) (toTm e) (stated e)) (sym h) d)
+  abort-at p q e h d a = subst (λ s. TmTy D noStore (q .context) (q .dom) (toTm e) s) (of-abort a) (subst (λ r. TmTy D noStore (r .context) (r .dom) (toTm e) (stated e)) (sym h) d)
 
   mutual
-    unfolding toTm WellTyped
+    unfolding toTm WellTyped assemble
 
     -- A well-typed program is well typed as a term, with the type that it states.
     pub well-term : (p : Setting Ty) (e : Program) → WellTyped D p e → TmTy D noStore (p .context) (p .dom) (toTm e) (stated e)
     well-term p (node k t vs es) w =
         let at : ℕ → Setting Ty = childSetting p k t vs (stateds es) in
-        rebuilt p k t vs (stateds es) (toTms es)
+        rebuilt p (formOf k) t vs (stateds es) (toTms es)
         (record {
           one = λ j d. child at 0 es (w .1) j j (omega arith) d;
           every = λ n q h d. children at 0 es (w .1) n q (λ j l. h j (omega arith)) d;

@@ -31,7 +31,7 @@ use Rattle.vm_theory.proofs.Arrive.{entry-has}
 use Rattle.vm_theory.proofs.Debt as debts
 use Rattle.vm_code.specs.Words.{isInstruction, termCount}
 use Rattle.vm_code.specs.Words as code
-use Rattle.vm_code.specs.Says.{SaysCode}
+use Rattle.vm_says.specs.Says.{SaysCode}
 use Rattle.vm_machine.specs.declared.Regs.{Regs}
 use Rattle.vm_machine.specs.Registers.{fullRoom}
 use Rattle.vm_machine.specs.States.{State}

@@ -29,7 +29,7 @@ use Rattle.vm_theory.proofs.Kept.{Waits, IsChain, a-call, chain-kept, call-kept
 use Rattle.vm_theory.proofs.Arrive.{entry-has, paid-has}
 use Rattle.vm_code.specs.Values.{tagOf, bodyOf}
 use Rattle.vm_code.specs.Words.{depthOf, nextOf, waitingEnding, isInstruction, termCount}
-use Rattle.vm_code.specs.Says.{endingWith, SaysAround, targetAt, SaysTarget, SaysCode}
+use Rattle.vm_says.specs.Says.{endingWith, SaysAround, targetAt, SaysTarget, SaysCode}
 use Rattle.vm_machine.specs.declared.Regs.{Regs}
 use Rattle.vm_machine.specs.Registers.{fullRoom, setPc, setHand, setEnv, setRoom}
 use Rattle.vm_machine.specs.Memory.{Memory, wordAt, above, slotBase, cellBase, keptBase, keptAt, slotIn, slotWord, slotEnv, slotPc, slotKind, slotHeld, callFrame, putWaiting, putReturn}

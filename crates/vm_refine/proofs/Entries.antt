@@ -12,9 +12,9 @@ use Rattle.vm_theory.specs.Table.{Node, Table, entryOf, isAtomAt, Linked}
 use Rattle.vm_theory.proofs.Located.{node-term, one-no-atom, two-no-atom, many-no-atom}
 use Rattle.vm_code.specs.Words.{classOf, fieldA, operandB, termCount}
 use Rattle.vm_code.specs.Classes as classes
-use Rattle.vm_code.specs.Classes.{Mode, worked, variable, constant, atom, Class, unary, binary, classWith}
-use Rattle.vm_code.specs.Says.{termMode, termField, unaryOf, binaryOf2, Says, says-unit, says-truth, says-number, says-variable, says-function, says-object, says-label, says-abort, says-one, says-stack, says-takedown, says-two, says-pointcut, says-match, targetAt, SaysCode}
-use Rattle.vm_code.proofs.Numbers.{unary-class, binary-class}
+use Rattle.vm_code.specs.Classes.{Mode, worked, variable, constant, atom, Class, unary, binary, classWith, nullaryOf}
+use Rattle.vm_says.specs.Says.{termMode, termField, unaryOf, binaryOf2, Says, says-unit, says-truth, says-number, says-variable, says-function, says-object, says-one, says-two, says-pointcut, says-match, targetAt, SaysCode, says-nullary}
+use Rattle.vm_code.proofs.Numbers.{unary-class, binary-class, single}
 use Rattle.vm_machine.specs.Fetch.{Program, codeAt}
 use Rattle.vm_machine.specs.Turn.{enteredBy, entryFrom, begunAt}
 
@@ -73,11 +73,8 @@ module _ (T : Table) (root : ℕ) (L : Linked T 0 root) (C : Program) (says : Sa
   word-by x w n q (says-variable c k) = rw (c, node-term T 0 root L q)
   word-by x w n q (says-function c g) = rw (c, node-term T 0 root L q)
   word-by x w n q (says-object c h) = rw (c, node-term T 0 root L q)
-  word-by x w n q (says-label c) = rw (c, node-term T 0 root L q)
-  word-by x w n q (says-abort c) = rw (c, node-term T 0 root L q)
+  word-by x w n q (says-nullary {o = o} c g h) = le-ltb (classOf w) 4 (omega (arith, single (nullaryOf o) .above)) ∙ sym (ap isAtom (node-term T 0 root L q))
   word-by x w n q (says-one c f h) = le-ltb (classOf w) 4 (omega arith) ∙ sym (one-no-atom T 0 root L q)
-  word-by x w n q (says-stack c) = rw (c, node-term T 0 root L q)
-  word-by x w n q (says-takedown c g h) = rw (c, node-term T 0 root L q)
   word-by x w n q (says-two c f g j) = le-ltb (classOf w) 4 (omega arith) ∙ sym (two-no-atom T 0 root L q)
   word-by x w n q (says-pointcut c m f i h) = le-ltb (classOf w) 4 (omega arith) ∙ sym (many-no-atom T 0 root L q)
   word-by x w n q (says-match c m i e f g h) = le-ltb (classOf w) 4 (omega arith) ∙ sym (many-no-atom T 0 root L q)
@@ -128,16 +125,14 @@ module _ (T : Table) (root : ℕ) (L : Linked T 0 root) (C : Program) (says : Sa
   entry-by n t N q (says-variable c k) ih a l = absurd (true≢false (sym (ap isAtom (node-term T 0 root L q)) ∙ a))
   entry-by n t N q (says-function c g) ih a l = absurd (true≢false (sym (ap isAtom (node-term T 0 root L q)) ∙ a))
   entry-by n t N q (says-object c h) ih a l = absurd (true≢false (sym (ap isAtom (node-term T 0 root L q)) ∙ a))
-  entry-by n t N q (says-label c) ih a l = rw c (sym (L .entered t ∙ ap (entryOf T t) q))
-  entry-by n t N q (says-abort c) ih a l = rw c (sym (L .entered t ∙ ap (entryOf T t) q))
+  entry-by n t N q (says-nullary {o = o} c g h) ih a l =
+      ap (λ (d : Class). enteredBy d t (codeAt C t) (entryFrom n C)) (ap classWith c ∙ single (nullaryOf o) .class) ∙ sym (L .entered t ∙ ap (entryOf T t) q)
   entry-by n t N q (says-one {H = H} {x = x} c f h) ih a l =
       ap (λ (d : Class). enteredBy d t (codeAt C t) (entryFrom n C)) (ap classWith c ∙ unary-class (unaryOf H) (termMode (T .term x)))
       ∙ unary-entry (unaryOf H) (termMode (T .term x)) t (codeAt C t) (entryFrom n C)
       ∙ begun-mode (T .term x) t (entryFrom n C (fieldA (codeAt C t)))
       ∙ operand-entry n x (fieldA (codeAt C t)) ih f (omega arith) (omega (arith, L .one-below t H x q)) t
       ∙ sym (L .entered t ∙ ap (entryOf T t) q)
-  entry-by n t N q (says-stack c) ih a l = rw c (sym (L .entered t ∙ ap (entryOf T t) q))
-  entry-by n t N q (says-takedown c g h) ih a l = rw c (sym (L .entered t ∙ ap (entryOf T t) q))
   entry-by n t N q (says-two {H = H} {x = x} {z = z} c f g j) ih a l =
       let below = L .two-below t H x z q in
       let inner : begun (termMode (T .term z)) t (entryFrom n C (operandB (codeAt C t))) ≡ choose (isAtomAt T z) t (T .entry z) =

@@ -16,7 +16,7 @@ use Rattle.vm_theory.proofs.Bound.{BoundTm}
 use Rattle.vm_code.specs.Values.{tagOf, bodyOf, functionValue, objectValue}
 use Rattle.vm_code.specs.Words.{classOf, fieldA, fieldB, hopsOf, termCount}
 use Rattle.vm_code.specs.Classes.{worked, variable, atom}
-use Rattle.vm_code.specs.Says.{termMode, termField, Says, says-unit, says-truth, says-number, says-variable, says-function, says-object, says-label, says-abort, says-one, says-stack, says-takedown, says-two, says-pointcut, says-match, SaysCode}
+use Rattle.vm_says.specs.Says.{termMode, termField, Says, says-unit, says-truth, says-number, says-variable, says-function, says-object, says-one, says-two, says-pointcut, says-match, SaysCode, says-nullary}
 use Rattle.vm_machine.specs.Memory.{Memory}
 use Rattle.vm_machine.specs.Memory as words
 use Rattle.vm_machine.specs.Fetch.{Program, codeAt, atomValue, operandValue}
@@ -50,11 +50,8 @@ module _ (T : Table) (root : ℕ) (L : Linked T 0 root) (C : Program) (says : Sa
   atom-by x w n q a (says-variable c k) = is-variable (node-term T 0 root L q) c k
   atom-by x w n q a (says-function {b = b} c g) = is-function q (node-term T 0 root L q) c (λ σ d l. record { number = b; begins = g; term = refl; located = l-function l q })
   atom-by x w n q a (says-object c h) = is-an-object q (node-term T 0 root L q) c
-  atom-by x w n q a (says-label c) = absurd (true≢false (sym a ∙ ap isAtom (node-term T 0 root L q)))
-  atom-by x w n q a (says-abort c) = absurd (true≢false (sym a ∙ ap isAtom (node-term T 0 root L q)))
+  atom-by x w n q a (says-nullary c g h) = absurd (true≢false (sym a ∙ ap isAtom (node-term T 0 root L q)))
   atom-by x w n q a (says-one c f h) = no-atoms x a (one-no-atom T 0 root L q)
-  atom-by x w n q a (says-stack c) = absurd (true≢false (sym a ∙ ap isAtom (node-term T 0 root L q)))
-  atom-by x w n q a (says-takedown c g h) = absurd (true≢false (sym a ∙ ap isAtom (node-term T 0 root L q)))
   atom-by x w n q a (says-two c f g j) = no-atoms x a (two-no-atom T 0 root L q)
   atom-by x w n q a (says-pointcut c m f i h) = no-atoms x a (many-no-atom T 0 root L q)
   atom-by x w n q a (says-match c m i e f g h) = no-atoms x a (many-no-atom T 0 root L q)

@@ -19,7 +19,7 @@ use Rattle.vm_theory.proofs.Reach.{reach-go}
 use Rattle.vm_theory.proofs.Located.{Located}
 use Rattle.vm_theory.proofs.Kept.{chain-kept, waits-kept}
 use Rattle.vm_code.specs.Words.{isInstruction, termCount}
-use Rattle.vm_code.specs.Says.{SaysTarget, SaysCode}
+use Rattle.vm_says.specs.Says.{SaysTarget, SaysCode}
 use Rattle.vm_machine.specs.declared.Regs.{Regs}
 use Rattle.vm_machine.specs.Registers.{headroom, fullRoom, setPc}
 use Rattle.vm_machine.specs.Memory.{Memory, slotBase, keptAt}

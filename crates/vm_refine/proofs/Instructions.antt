@@ -7,7 +7,7 @@ use mathlib.Core.List.{List, _∷_}
 use lib.ListN.{length}
 use Rattle.calculus.specs.Combinators.{choose}
 use Rattle.calculus.specs.Plain.{domOf, methodsOf, methodDom}
-use Rattle.calculus.specs.Syntax.{Dom, Ty, Tm, Tms, Op0, Op1, Op2, op0, newLabel, abort, takedown, theStack, print, install, read, byte, newCell, call, app, mark, store, plus, minus, less, equal}
+use Rattle.calculus.specs.Syntax.{Ty, Tm, Tms, Op0, Op1, Op2, op0, newLabel, abort, takedown, theStack, print, install, read, byte, newCell, call, app, mark, store, plus, minus, less, equal}
 use Rattle.calculus.specs.State.{Given}
 use Rattle.calculus.specs.Place.{Place, framed}
 use Rattle.closure_machine.specs.Closure.{CVal, Env, CState, close, closes, plainVal, plainEnv, plainState}
@@ -22,16 +22,15 @@ use Rattle.vm_theory.proofs.Reach.{Reach}
 use Rattle.vm_theory.proofs.Places.{site-place, site-kept}
 use Rattle.vm_theory.proofs.Located.{Located, l-operand, l-rest, l-then, l-else, l-split, l-advice, l-first, l-second, l-keep, describes}
 use Rattle.vm_code.specs.Words.{classOf, fieldA, fieldB, operandB, depthOf, domainOf}
-use Rattle.vm_code.specs.Classes.{Mode, Unary, Binary, Class, label, abort as aborted, stack, takedown as takenDown, unary, binary, labelClass, abortClass, stackClass, takedownClass, unaryClass, binaryClass, classWith}
-use Rattle.vm_code.specs.Says.{termMode, termField, unaryOp, unaryOf, binaryOf, binaryOf2, SaysOp, SaysHead, SaysHead2, SaysCode}
-use Rattle.vm_code.proofs.Numbers.{unary-class, binary-class}
+use Rattle.image.specs.Kinds.{named}
+use Rattle.vm_code.specs.Classes.{Mode, Unary, Binary, Class, nullary, unary, binary, unaryClass, binaryClass, classWith, nullaryClass, nullaryOf}
+use Rattle.vm_says.specs.Says.{termMode, termField, unaryOp, unaryOf, binaryOf, binaryOf2, SaysOp, SaysHead, SaysHead2, SaysCode}
+use Rattle.vm_code.proofs.Numbers.{unary-class, binary-class, single}
 use Rattle.vm_machine.specs.declared.Regs.{Regs}
 use Rattle.vm_machine.specs.Memory.{Memory, wordAt, slotAt}
 use Rattle.vm_machine.specs.States.{State, judged}
 use Rattle.vm_machine.specs.Fetch.{Program, codeAt, onlyOperand, firstOperand, secondOperand}
-use Rattle.vm_machine.specs.Moves.{unaryMove, binaryMove, moveBy, moveOf}
-use Rattle.vm_machine.specs.Reduce.{reduceLabel, reduceAbort, reduceTakedown}
-use Rattle.vm_machine.specs.Stacks.{reduceStack}
+use Rattle.vm_machine.specs.Moves.{unaryMove, binaryMove, moveBy, moveOf, nullaryMove}
 use Rattle.vm_machine.specs.Turn.{performed, turn}
 use Rattle.vm_machine.proofs.Branch.{branch-performed}
 use Rattle.vm_refine.proofs.Relations.{sizes, IsVal}
@@ -129,35 +128,21 @@ module _ (T : Table) (root : ℕ) (L : Linked T 0 root) (G : Given) (e₀ : Tm) 
     domain = says .around m no-atom .domain ∙ describes T 0 root L located no-atom .dom
 
     -- A term without operands.
-    pub label-turn : (y : Ty) → Reach G e₀ Ω k s (eval (op0 newLabel y) (P .env)) K → classOf w ≡ labelClass → Then (turn C (G .frame) S)
-    unfolding performed classWith
-    label-turn y reach q =
-        rw (turn-by label (ap classWith q))
-        (judged-now T root L G e₀ Ω N B C says S k s m P A D (eval (op0 newLabel y) (P .env)) K (measure S) (reduceLabel w S) (nullary-red newLabel y reach)
-        (λ R. label-now T root L G e₀ Ω N B C says S k s m P A D (eval (op0 newLabel y) (P .env)) K (placeOf P A) (keptBy A) y R))
+    judge0 : (o : Op0) (y : Ty) (S′ : State) → Reach G e₀ Ω k s (eval (op0 o y) (P .env)) K
+        → (Stepping T root L G e₀ Ω N B C says S k s m P A D (eval (op0 o y) (P .env)) K (reduce0C G (placeOf P A) (keptBy A) s o y) → Then S′) → Then (judged w S S′)
+    judge0 o y S′ reach h = judged-now T root L G e₀ Ω N B C says S k s m P A D (eval (op0 o y) (P .env)) K (measure S) S′ (nullary-red o y reach) h
 
-    pub stack-turn : (y : Ty) → Reach G e₀ Ω k s (eval (op0 theStack y) (P .env)) K → classOf w ≡ stackClass → Then (turn C (G .frame) S)
-    unfolding performed classWith
-    stack-turn y reach q =
-        rw (turn-by stack (ap classWith q))
-        (judged-now T root L G e₀ Ω N B C says S k s m P A D (eval (op0 theStack y) (P .env)) K (measure S) (reduceStack w S) (nullary-red theStack y reach)
-        (λ R. stack-now T root L G e₀ Ω N B C says S k s m P A D (eval (op0 theStack y) (P .env)) K y R))
+    nullary-now : (o : Op0) (y : Ty) → Reach G e₀ Ω k s (eval (op0 o y) (P .env)) K → fieldB w ≡ named o → Then (performed C w (nullaryMove (nullaryOf o)) S)
+    unfolding performed
+    nullary-now newLabel y reach e = judge0 newLabel y _ reach (λ R. label-now T root L G e₀ Ω N B C says S k s m P A D _ K (placeOf P A) (keptBy A) y R)
+    nullary-now abort y reach e = judge0 abort y _ reach (λ R. aborts T root L G e₀ Ω N B C says S k s m P A D _ K (measure S) R)
+    nullary-now theStack y reach e = judge0 theStack y _ reach (λ R. stack-now T root L G e₀ Ω N B C says S k s m P A D _ K y R)
+    nullary-now (takedown d) y reach e =
+        let here : Reach G e₀ Ω k s (eval (op0 (takedown (fieldB w)) y) (P .env)) K = rw e reach in
+        judge0 (takedown (fieldB w)) y _ here (λ R. takedown-now T root L G e₀ Ω N B C says S k s m P A D _ K (placeOf P A) (keptBy A) y R)
 
-    pub takedown-turn : (d : Dom) (y : Ty) → Reach G e₀ Ω k s (eval (op0 (takedown d) y) (P .env)) K → classOf w ≡ takedownClass → fieldB w ≡ d → Then (turn C (G .frame) S)
-    unfolding performed classWith
-    takedown-turn d y reach q e =
-        let x : Control = eval (op0 (takedown (fieldB w)) y) (P .env) in
-        let here : Reach G e₀ Ω k s x K = rw e reach in
-        rw (turn-by takenDown (ap classWith q))
-        (judged-now T root L G e₀ Ω N B C says S k s m P A D x K (measure S) (reduceTakedown w S) (nullary-red (takedown (fieldB w)) y here)
-        (λ R. takedown-now T root L G e₀ Ω N B C says S k s m P A D x K (placeOf P A) (keptBy A) y R))
-
-    pub abort-turn : (y : Ty) → Reach G e₀ Ω k s (eval (op0 abort y) (P .env)) K → classOf w ≡ abortClass → Then (turn C (G .frame) S)
-    unfolding performed classWith
-    abort-turn y reach q =
-        rw (turn-by aborted (ap classWith q))
-        (judged-now T root L G e₀ Ω N B C says S k s m P A D (eval (op0 abort y) (P .env)) K (measure S) (reduceAbort S) (nullary-red abort y reach)
-        (λ R. aborts T root L G e₀ Ω N B C says S k s m P A D (eval (op0 abort y) (P .env)) K (measure S) R))
+    pub nullary-turn : (o : Op0) (y : Ty) → Reach G e₀ Ω k s (eval (op0 o y) (P .env)) K → classOf w ≡ nullaryClass (nullaryOf o) → fieldB w ≡ named o → Then (turn C (G .frame) S)
+    nullary-turn o y reach q e = rw (turn-by (nullary (nullaryOf o)) (ap classWith q ∙ single (nullaryOf o) .class)) (nullary-now o y reach e)
 
     -- One operand: its word x stands for its value v.
     module _ (x : ℕ) (v : CVal) (is : IsVal T root L M (sizes r) x v) where

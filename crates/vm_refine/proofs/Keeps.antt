@@ -30,7 +30,7 @@ use Rattle.vm_theory.proofs.Arrive.{entry-has}
 use Rattle.vm_code.specs.Values.{tagOf, bodyOf}
 use Rattle.vm_code.specs.Words.{fieldC, depthOf, isInstruction, termCount}
 use Rattle.vm_code.specs.Words as code
-use Rattle.vm_code.specs.Says.{SaysTarget, SaysCode}
+use Rattle.vm_says.specs.Says.{SaysTarget, SaysCode}
 use Rattle.vm_machine.specs.declared.Regs.{Regs}
 use Rattle.vm_machine.specs.Registers.{headroom, fullRoom, setPc, setEnv, setRoom, setKept, stepped, halt}
 use Rattle.vm_machine.specs.Memory.{Memory, wordAt, above, slotBase, cellBase, keptBase, keptAt, entryLabel, slotIn, slotWord, slotEnv, slotPc, slotKind, keepFrame, putKeep, putKept}

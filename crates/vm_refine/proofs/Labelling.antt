@@ -21,7 +21,7 @@ use Rattle.vm_theory.proofs.Located.{Located, l-listed}
 use Rattle.vm_code.specs.Values.{bodyOf}
 use Rattle.vm_code.specs.Words.{termCount}
 use Rattle.vm_code.specs.Classes as classes
-use Rattle.vm_code.specs.Says.{SaysCode}
+use Rattle.vm_says.specs.Says.{SaysCode}
 use Rattle.vm_machine.specs.Memory.{Memory, withDigit}
 use Rattle.vm_machine.specs.Fetch.{Program, codeAt, atomValue}
 use Rattle.vm_machine.specs.Turn.{childAt, Taken, takeLabels}

@@ -17,7 +17,7 @@ use Rattle.image.specs.Bytes.{le16}
 use Rattle.closure_machine.specs.Closure.{CVal, Env, link, linkAll, topOfC, plainVal}
 use Rattle.vm_theory.specs.Table.{Table, Linked}
 use Rattle.vm_code.specs.Words.{countOf, entryPlace, closePlace}
-use Rattle.vm_code.specs.Says.{SaysPattern, says-end, says-rest, says-anything, says-cut}
+use Rattle.vm_says.specs.Says.{SaysPattern, says-end, says-rest, says-anything, says-cut}
 use Rattle.vm_machine.specs.Memory.{Memory, slotBase, binding, putBinding, topEntry}
 use Rattle.vm_machine.specs.Fetch.{Program}
 use Rattle.vm_machine.specs.Stacks.{entryAt, bindsRest, variables, Chained, bindEntries}

@@ -28,7 +28,7 @@ use Rattle.vm_theory.proofs.Kept.{some-operands, IsChain, waits-kept, chain-kep
 use Rattle.vm_theory.proofs.Arrive.{entry-has}
 use Rattle.vm_code.specs.Words.{depthOf, termCount}
 use Rattle.vm_code.specs.Words as code
-use Rattle.vm_code.specs.Says.{SaysCode}
+use Rattle.vm_says.specs.Says.{SaysCode}
 use Rattle.vm_machine.specs.declared.Regs.{Regs}
 use Rattle.vm_machine.specs.Registers.{headroom, fullRoom, setPc, setRoom, halt}
 use Rattle.vm_machine.specs.Memory.{Memory, keptBase, wordAt, slotBase, cellBase, slotIn, slotWord, slotKind, slotPc, slotEnv, slotHeld, pointcutFrame, putListed}

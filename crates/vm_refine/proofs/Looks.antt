@@ -22,7 +22,7 @@ use Rattle.vm_theory.proofs.Leads.{atom-leads}
 use Rattle.vm_theory.proofs.Bound.{bound-tm}
 use Rattle.vm_theory.proofs.Located.{Located, l-listed}
 use Rattle.vm_code.specs.Words.{countOf, entryPlace, closePlace}
-use Rattle.vm_code.specs.Says.{SaysPattern, says-end, says-rest, says-anything, says-cut, SaysCode}
+use Rattle.vm_says.specs.Says.{SaysPattern, says-end, says-rest, says-anything, says-cut, SaysCode}
 use Rattle.vm_machine.specs.Memory.{Memory, isKept, topEntry, restOf, entryLabel, hasBit, pieceSecond, pieceOf}
 use Rattle.vm_machine.specs.Fetch.{Program, codeAt, atomValue}
 use Rattle.vm_machine.specs.Stacks.{entryAt, cutTerm, restAfter, lookOn}

@@ -26,7 +26,7 @@ use Rattle.vm_theory.proofs.Reach.{Reach, reach-go, reach-moves, ends-full}
 use Rattle.vm_theory.proofs.Located.{describes}
 use Rattle.vm_theory.proofs.Kept.{IsChain, waits-kept, chain-kept}
 use Rattle.vm_code.specs.Words.{depthOf, termCount}
-use Rattle.vm_code.specs.Says.{SaysCode}
+use Rattle.vm_says.specs.Says.{SaysCode}
 use Rattle.vm_pools.specs.declared.Pool.{Pool}
 use Rattle.vm_machine.specs.declared.Regs.{Regs}
 use Rattle.vm_machine.specs.Registers.{headroom, fullRoom, setPc, setHand, setEnv, setRoom, setPools, stepped, halt}

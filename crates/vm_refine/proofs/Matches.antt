@@ -33,7 +33,7 @@ use Rattle.vm_code.specs.Values.{tagOf, bodyOf, unitValue}
 use Rattle.vm_code.specs.Words.{countOf, offsetOf, branchPlace, otherPlace, entryPlace, closePlace, termCount}
 use Rattle.vm_code.specs.Words as code
 use Rattle.vm_code.specs.Classes as classes
-use Rattle.vm_code.specs.Says.{SaysPattern, says-end, says-rest, SaysCode}
+use Rattle.vm_says.specs.Says.{SaysPattern, says-end, says-rest, SaysCode}
 use Rattle.vm_machine.specs.declared.Regs.{Regs}
 use Rattle.vm_machine.specs.Registers.{fullRoom, setPools, stepped}
 use Rattle.vm_pools.specs.Pools.{whole, chargeBindings}

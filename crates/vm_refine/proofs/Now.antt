@@ -20,7 +20,7 @@ use Rattle.vm_theory.proofs.Good.{Good}
 use Rattle.vm_theory.proofs.Places.{Stood, Fine}
 use Rattle.vm_theory.proofs.Located.{Located, Points}
 use Rattle.vm_theory.proofs.Kept.{Waits, IsChain}
-use Rattle.vm_code.specs.Says.{targetNumber}
+use Rattle.vm_says.specs.Says.{targetNumber}
 use Rattle.vm_machine.specs.Registers.{headroom, fullRoom}
 use Rattle.vm_machine.specs.States.{State}
 use Rattle.vm_machine.specs.Fits.{Fits}

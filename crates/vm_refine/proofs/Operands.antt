@@ -13,7 +13,7 @@ use Rattle.vm_theory.proofs.Located.{Located}
 use Rattle.vm_theory.proofs.Bound.{BoundOperand}
 use Rattle.vm_code.specs.Words.{fieldA, operandB, depthOf, termCount}
 use Rattle.vm_code.specs.Classes.{variable, atom}
-use Rattle.vm_code.specs.Says.{termMode, termField, SaysCode}
+use Rattle.vm_says.specs.Says.{termMode, termField, SaysCode}
 use Rattle.vm_machine.specs.declared.Regs.{Regs}
 use Rattle.vm_machine.specs.Memory.{Memory, slotAt}
 use Rattle.vm_machine.specs.Fetch.{Program, operandValue, firstWorked, onlyOperand, firstOperand, secondOperand}

@@ -24,7 +24,7 @@ use Rattle.vm_theory.proofs.Places.{site-place}
 use Rattle.vm_theory.proofs.Kept.{some-operands}
 use Rattle.vm_code.specs.Words.{countOf, depthOf, termCount}
 use Rattle.vm_code.specs.Words as code
-use Rattle.vm_code.specs.Says.{SaysCode}
+use Rattle.vm_says.specs.Says.{SaysCode}
 use Rattle.vm_machine.specs.declared.Regs.{Regs}
 use Rattle.vm_machine.specs.Registers.{fullRoom, setPc, setRoom, halt}
 use Rattle.vm_machine.specs.Memory.{Memory, slotHeld, pointcutFrame, putDigits, labelSet}

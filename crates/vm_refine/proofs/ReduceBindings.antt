@@ -21,7 +21,7 @@ use Rattle.vm_theory.proofs.Sound.{Sound}
 use Rattle.vm_theory.proofs.Located.{l-method}
 use Rattle.vm_code.specs.Values.{bodyOf, tagOf}
 use Rattle.vm_code.specs.Words.{fieldB, methodTarget, listOffset, termCount}
-use Rattle.vm_code.specs.Says.{Says, says-object, SaysBodies, bodies-here, bodies-listed, SaysTarget, SaysCode}
+use Rattle.vm_says.specs.Says.{Says, says-object, SaysBodies, bodies-here, bodies-listed, SaysTarget, SaysCode}
 use Rattle.vm_machine.specs.declared.Regs.{Regs}
 use Rattle.vm_machine.specs.Registers.{setPools, stepped}
 use Rattle.vm_pools.specs.Pools.{whole, chargeBindings}

@@ -20,7 +20,7 @@ use Rattle.vm_theory.proofs.Sound.{Sound}
 use Rattle.vm_code.specs.Values.{value, tagOf, bodyOf}
 use Rattle.vm_code.specs.Words.{fieldB}
 use Rattle.vm_code.specs.PassUp as passes
-use Rattle.vm_code.specs.Says.{SaysCode}
+use Rattle.vm_says.specs.Says.{SaysCode}
 use Rattle.vm_machine.specs.declared.Regs.{Regs}
 use Rattle.vm_machine.specs.Registers.{setPools, stepped}
 use Rattle.vm_pools.specs.Pools.{whole, chargeCells}

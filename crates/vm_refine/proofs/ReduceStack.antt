@@ -13,7 +13,7 @@ use Rattle.vm_theory.specs.Conf.{Site, Chain, Slots, keptBy, domAt, placeOf}
 use Rattle.vm_theory.specs.Table.{Table, Linked}
 use Rattle.vm_theory.proofs.Sound.{Sound}
 use Rattle.vm_code.specs.Values.{tagOf, bodyOf, value, bottomValue, keptValue}
-use Rattle.vm_code.specs.Says.{SaysCode}
+use Rattle.vm_says.specs.Says.{SaysCode}
 use Rattle.vm_machine.specs.declared.Regs.{Regs}
 use Rattle.vm_machine.specs.Registers.{setPools, stepped}
 use Rattle.vm_pools.specs.Pools.{whole, chargePieces}

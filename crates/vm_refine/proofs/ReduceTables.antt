@@ -28,7 +28,7 @@ use Rattle.base_bytes.specs.Bytes.{bytesOf, over}
 use Rattle.base_bytes.specs.Records.{logRecord}
 use Rattle.vm_code.specs.Values.{value}
 use Rattle.vm_code.specs.Words.{domainOf}
-use Rattle.vm_code.specs.Says.{SaysCode}
+use Rattle.vm_says.specs.Says.{SaysCode}
 use Rattle.vm_machine.specs.declared.Regs.{Regs}
 use Rattle.vm_machine.specs.Registers.{setLabels, setInstalled, setLogged, stepped}
 use Rattle.vm_machine.specs.Memory.{Memory, keptBase, wordAt, installedAt, putInstalled, pieceOf, pieceSecond, hasBit}

@@ -18,7 +18,7 @@ use Rattle.vm_theory.specs.Table.{objN, Table, termsOf, Linked}
 use Rattle.vm_theory.proofs.Located.{Located}
 use Rattle.vm_code.specs.Values.{tagOf, bodyOf}
 use Rattle.vm_code.specs.Words.{termCount}
-use Rattle.vm_code.specs.Says.{SaysTarget}
+use Rattle.vm_says.specs.Says.{SaysTarget}
 use Rattle.vm_machine.specs.declared.Regs.{Regs}
 use Rattle.vm_pools.specs.Pools.{whole}
 use Rattle.vm_machine.specs.Memory.{Memory, entryLabel, bindingAt, boundTarget, boundLink, noBinding, pieceFirst, pieceSecond, adviceTarget, adviceEnv, adviceDom, closureEnv, hasBit}

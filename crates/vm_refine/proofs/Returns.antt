@@ -33,7 +33,7 @@ use Rattle.vm_code.specs.Values.{bodyOf}
 use Rattle.vm_code.specs.Words.{classOf, depthOf, nextOf, termCount}
 use Rattle.vm_code.specs.Words as code
 use Rattle.vm_code.specs.Classes.{return, classWith, pointcutClass, matchClass}
-use Rattle.vm_code.specs.Says.{targetNumber, Says, says-pointcut, says-match, SaysCode}
+use Rattle.vm_says.specs.Says.{targetNumber, Says, says-pointcut, says-match, SaysCode}
 use Rattle.vm_machine.specs.declared.Regs.{Regs}
 use Rattle.vm_machine.specs.Registers.{headroom, fullRoom, setPc, setHand, setEnv, setRoom, setLeft, haltWith, halt, stuck}
 use Rattle.vm_machine.specs.Memory.{Memory, wordAt, slotBase, slotIn, slotAt, slotKind, slotPc, slotEnv, slotHeld, callFrame, adviceFrame, pointcutFrame, keepFrame, nextBinding, endBinding, putAdvice, bindingAt, boundTarget, digitsAt, digitCount, withDigit, heldStack, besideAt, restOf}

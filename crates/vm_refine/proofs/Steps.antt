@@ -26,7 +26,7 @@ use Rattle.vm_theory.proofs.Reach.{Roomy, Reach, not-wrong, ends-spent, ends-fu
 use Rattle.vm_theory.proofs.Located.{describes}
 use Rattle.vm_code.specs.Words.{depthOf}
 use Rattle.vm_code.specs.Words as code
-use Rattle.vm_code.specs.Says.{SaysCode}
+use Rattle.vm_says.specs.Says.{SaysCode}
 use Rattle.vm_machine.specs.declared.Regs.{Regs}
 use Rattle.vm_machine.specs.Registers.{headroom, fullRoom, haltWith, stepped, halt as halting}
 use Rattle.vm_pools.specs.Pools.{isMainline, whole, chargeBindings, chargeCells, chargePieces, hasRoom, bindingsOut, cellsOut, piecesOut}

@@ -18,7 +18,7 @@ use Rattle.vm_theory.specs.Conf.{Site, Chain, Slots}
 use Rattle.vm_theory.specs.Table.{Table, Linked}
 use Rattle.vm_theory.proofs.Sound.{Sound}
 use Rattle.vm_code.specs.Words.{fieldB}
-use Rattle.vm_code.specs.Says.{SaysCode}
+use Rattle.vm_says.specs.Says.{SaysCode}
 use Rattle.vm_machine.specs.declared.Regs.{Regs}
 use Rattle.vm_machine.specs.Registers.{setInstalled, stepped}
 use Rattle.vm_machine.specs.Memory.{Memory, wordAt, installedBase, installedAt, putInstalled, keptBase, pieceFirst, adviceDom, hasBit}

@@ -25,7 +25,7 @@ use Rattle.vm_theory.proofs.Arrive.{entry-has}
 use Rattle.vm_theory.proofs.Theorem.{start-good}
 use Rattle.vm_code.specs.Words.{isInstruction, termCount}
 use Rattle.vm_code.specs.Words as code
-use Rattle.vm_code.specs.Says.{targetNumber, SaysTarget, SaysCode}
+use Rattle.vm_says.specs.Says.{targetNumber, SaysTarget, SaysCode}
 use Rattle.vm_machine.specs.Registers.{headroom}
 use Rattle.vm_machine.specs.Memory.{Memory, noBinding}
 use Rattle.vm_machine.specs.States.{State}

@@ -21,7 +21,7 @@ use Rattle.vm_theory.proofs.Located.{Located, Points, p-home, p-to, node-term}
 use Rattle.vm_code.specs.Words.{classOf, countOf, offsetOf, branchPlace, otherPlace, entryPlace, termCount}
 use Rattle.vm_code.specs.Words as code
 use Rattle.vm_code.specs.Classes.{pointcut, match, classWith, pointcutClass, matchClass}
-use Rattle.vm_code.specs.Says.{targetNumber, Says, says-unit, says-truth, says-number, says-variable, says-function, says-object, says-label, says-abort, says-one, says-stack, says-takedown, says-two, says-pointcut, says-match, SaysPattern, SaysCode}
+use Rattle.vm_says.specs.Says.{targetNumber, Says, says-unit, says-truth, says-number, says-variable, says-function, says-object, says-one, says-two, says-pointcut, says-match, SaysPattern, SaysCode, says-nullary}
 use Rattle.vm_machine.specs.declared.Regs.{Regs}
 use Rattle.vm_machine.specs.Registers.{fullRoom}
 use Rattle.vm_machine.specs.Memory.{noDigits}
@@ -31,7 +31,7 @@ use Rattle.vm_machine.specs.Turn.{childAt, labelsFrom, beginLabels, performed, 
 use Rattle.vm_refine.proofs.Labels.{digitsOf, no-labels}
 use Rattle.vm_refine.proofs.Now.{Now}
 use Rattle.vm_refine.proofs.Steps.{level, measure, After}
-use Rattle.vm_refine.proofs.Instructions.{turn-by, in-place-of, label-turn, stack-turn, takedown-turn, abort-turn, one-turn, two-turn}
+use Rattle.vm_refine.proofs.Instructions.{turn-by, in-place-of, one-turn, two-turn, nullary-turn}
 use Rattle.vm_refine.proofs.Labelling.{none-done}
 use Rattle.vm_refine.proofs.Pointcuts.{labels-now}
 use Rattle.vm_refine.proofs.Matches.{begin-now}
@@ -85,15 +85,9 @@ module _ (T : Table) (root : ℕ) (L : Linked T 0 root) (G : Given) (e₀ : Tm) 
     node-now n q (says-variable c h) now = atom-not n q refl
     node-now n q (says-function c g) now = atom-not n q refl
     node-now n q (says-object c h) now = atom-not n q refl
-    node-now n q (says-label {y = y} c) now =
-        label-turn T root L G e₀ Ω N B logged C says S k s m hv P A D no-atom located pc (in-place-of T root L G e₀ Ω N B logged C says S k s m hv P A D no-atom located pc _ now) y (now .good .runs) c
-    node-now n q (says-abort {y = y} c) now =
-        abort-turn T root L G e₀ Ω N B logged C says S k s m hv P A D no-atom located pc (in-place-of T root L G e₀ Ω N B logged C says S k s m hv P A D no-atom located pc _ now) y (now .good .runs) c
+    node-now n q (says-nullary {o = o} {y = y} c g h) now =
+        nullary-turn T root L G e₀ Ω N B logged C says S k s m hv P A D no-atom located pc (in-place-of T root L G e₀ Ω N B logged C says S k s m hv P A D no-atom located pc _ now) o y (now .good .runs) c g
     node-now n q (says-one {H = H} {x = x} c f h) now = one-turn T root L G e₀ Ω N B logged C says S k s m hv P A D no-atom located pc H x q c f h now
-    node-now n q (says-stack {y = y} c) now =
-        stack-turn T root L G e₀ Ω N B logged C says S k s m hv P A D no-atom located pc (in-place-of T root L G e₀ Ω N B logged C says S k s m hv P A D no-atom located pc _ now) y (now .good .runs) c
-    node-now n q (says-takedown {p = d} {y = y} c g h) now =
-        takedown-turn T root L G e₀ Ω N B logged C says S k s m hv P A D no-atom located pc (in-place-of T root L G e₀ Ω N B logged C says S k s m hv P A D no-atom located pc _ now) d y (now .good .runs) c g
     node-now n q (says-two {H = H} {x = x} {z = z} c f g h) now = two-turn T root L G e₀ Ω N B logged C says S k s m hv P A D no-atom located pc H x z q c f g h now
     node-now n q (says-pointcut {xs = xs} c count few i children) now = pointcut-turn xs q c count few children now
     node-now n q (says-match {p = t} {x = x} {f = f} {g = g} {xs = xs} c few i a d e h) now = match-turn t x f g xs q c few a d e h now

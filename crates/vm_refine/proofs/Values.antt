@@ -21,7 +21,7 @@ use Rattle.vm_theory.proofs.Sound.{Sound}
 use Rattle.vm_theory.proofs.Located.{Located}
 use Rattle.vm_code.specs.Values.{tagOf, bodyOf, value, unitValue, truthValue, numberValue}
 use Rattle.vm_code.specs.Words.{fieldB, fieldC}
-use Rattle.vm_code.specs.Says.{SaysTarget, SaysCode}
+use Rattle.vm_says.specs.Says.{SaysTarget, SaysCode}
 use Rattle.vm_machine.specs.Registers.{stepped}
 use Rattle.vm_machine.specs.Memory.{Memory, cellAt}
 use Rattle.vm_machine.specs.Memory as words

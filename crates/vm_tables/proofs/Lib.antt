@@ -3,4 +3,3 @@ pub mod Chosen
 pub mod Stored
 pub mod Found
 pub mod Sizes
-pub mod Links

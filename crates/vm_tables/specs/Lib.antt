@@ -1,3 +1,2 @@
--- The machine's tables in the lent work area, and its links on the bytes (card 4).
+-- The machine's tables in the lent work area.
 pub mod View
-pub mod Links

@@ -1,19 +1,21 @@
 -- Term n of an image that is laid out, its record at o, as tables have them; and what is read of it by its kind's number.
 use Prim.Native.Nat.{ℕ, _+_, _*_, _≤_, _<_}
 use native.Mathlib.Omega.{arith}
-use mathlib.Core.Path.{_≡_, sym, ap, subst, _∙_}
-use mathlib.Core.Bool.{true}
+use mathlib.Core.Path.{_≡_, sym, ap, subst, _∙_, refl}
+use mathlib.Core.Bool.{true, Bool, false, not}
 use mathlib.Core.Logic.{_⊎_, inl, inr}
 use mathlib.Core.List.{List}
 use lib.ListN.{length, getD}
+use lib.Dec.{ltb}
 use Rattle.calculus.specs.Plain.{domOf, methodsOf, methodDom}
 use Rattle.image.specs.Limits.{imageLimit}
 use Rattle.image.specs.Bytes.{numberAt, fieldAt}
-use Rattle.image.specs.Kinds.{TermKind, termRow, leadOf, trailOf}
+use Rattle.image.specs.Kinds.{TermKind, termRow, leadOf, trailOf, isKind}
 use Rattle.image.specs.Records.{Layout}
 use Rattle.image.specs.Layout.{recordsOf}
 use Rattle.image.specs.Types.{termPlace, termKind, statedType, others, children}
-use Rattle.image.proofs.Counts.{leastChildren}
+use Rattle.laws.proofs.Booleans.{no-path, ge-of, eq-of}
+use Rattle.image.proofs.Counts.{leastChildren, mostChildren}
 use Rattle.image.proofs.KindNumbers.{same-term-kind}
 use Rattle.image.proofs.Offsets.{sideBySide, side-or-match}
 use Rattle.check_records.specs.Tables.{Tables}
@@ -22,9 +24,20 @@ use Rattle.vm_code.specs.PassUp.{cellNote}
 use Rattle.vm_terms.specs.Fields.{Lower}
 use Rattle.vm_terms.specs.Methods.{methodAt, TypeOffsets, Whole}
 use Rattle.vm_terms.specs.Noted.{descriptorDomain, descriptorNote, DescriptorFits}
-use Rattle.vm_terms.proofs.KindNumbers.{NotFrom32, last-number}
+use Rattle.vm_terms.proofs.KindNumbers.{numbersOf, Beyond, left-out}
 use Rattle.vm_terms.proofs.Matches.{Matched}
 use Rattle.vm_terms.proofs.Records.{Recorded, field-lower, few-terms, number-is, has-type, recorded, matched, place-is, has-descriptor, domain-is, note-is, fits, has-offset, type-stands, method-is}
+
+-- The kinds with an arm of their own in the first pass, and in the second.
+abbrev pub notByte : TermKind → Bool
+notByte k = not (isKind TermKind.byte k)
+
+abbrev pub hasChildren : TermKind → Bool
+hasChildren k = ltb 0 (mostChildren (termRow k))
+
+not-f : (a : Bool) → not a ≡ false → a ≡ true
+not-f true h = refl
+not-f false h = no-path h
 
 pub record Given (b ks : List ℕ) (n o : ℕ) : Type 0 where
   pub domain-table : List ℕ
@@ -95,9 +108,12 @@ module _ {b ks : List ℕ} {n o : ℕ} (G : Given b ks n o) where
     pub descriptor-fits : DescriptorFits ls descriptorOf
     descriptor-fits = subst (λ p. DescriptorFits ls (getD ks (fieldAt b p 0) 0)) (sym (G .place)) (fits b ds ts ks T n l ls N)
 
-  -- The kind of the last arm: of a number that is none of 32 to 59.
-  pub last-kind : {k : ℕ} → k ≡ numberAt b o → NotFrom32 k 28 → k ≡ 60
-  last-kind {k} e h = last-number k (termKind L n) (e ∙ number-told) h
+  -- The kind of the last arm, whose number is none of those of the arms: in the first pass the frame byte's, in the second one without children.
+  pub last-kind : {k : ℕ} → k ≡ numberAt b o → Beyond k (Unit {0}) (numbersOf notByte) → k ≡ 60
+  last-kind {k} e h = e ∙ (number-told ∙ eq-of (not-f _ (left-out notByte k (termKind L n) (e ∙ number-told) h)))
+
+  pub childless-kind : {k : ℕ} → k ≡ numberAt b o → Beyond k (Unit {0}) (numbersOf hasChildren) → mostChildren (termRow (termKind L n)) ≡ 0
+  childless-kind {k} e h = let z : mostChildren (termRow (termKind L n)) ≤ 0 = ge-of (left-out hasChildren k (termKind L n) (e ∙ number-told) h) in omega arith
 
   module _ (k : TermKind) (e : numberAt b o ≡ termRow k .number) where
     pub kind-told : termKind L n ≡ k

@@ -1,16 +1,33 @@
-// Reads an image from standard input, calls the engine as the bench sheet says (document 01) and prints the listing.
+// Calls the engine as the bench sheet says (document 01) and prints the listing of the image on standard input. With arguments
+// it prints verdict and listing of stored images, each with a budget of its own.
+mod sheet;
+mod stored;
+
 use console::IMAGE_ROOM;
 
 const BUDGET: u32 = 100000;
 
-fn main() {
+// What a program without arguments is called with.
+const OWN_NAME: usize = 1;
+
+fn list_input() {
     let mut image = [0u8; IMAGE_ROOM];
-    let input = console::read_sole_image(b"watch < IMAGE", &mut image);
+    let input = console::read_image(&mut image);
     if !input.whole {
         return;
     }
     let n = input.length;
-    let mut out = [0u8; sheet::LISTING_LENGTH];
-    let end = sheet::list_call(&image[..n], BUDGET, &mut out);
-    console::write_out(&out[..end]);
+    sheet::print_listing(&image[..n], BUDGET);
+}
+
+// The program's name, and then nothing or pairs.
+fn main() {
+    let words = os::arg_count();
+    if words == OWN_NAME {
+        return list_input();
+    }
+    if words % 2 == 0 {
+        return stored::tell_usage();
+    }
+    stored::run_pairs();
 }

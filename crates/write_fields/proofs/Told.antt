@@ -15,7 +15,7 @@ use Rattle.image.specs.Records.{times, kindAt, fieldsAt, asChild}
 use Rattle.laws.proofs.Booleans.{no-path, lt-of, ge-of, le-of, of-lt, of-le}
 use Rattle.image.proofs.EveryKind.{everyOf, at-kind}
 use Rattle.image.proofs.Counts.{fields-length}
-use Rattle.check_records.specs.Codes.{classNumber, classNumbers, codeAt, firstOf, groupOf, lastOf, Sized, timesIn}
+use Rattle.check_records.specs.Codes.{classNumber, classNumbers, codeAt, firstOf, groupOf, lastOf, Sized, timesIn, codeCount}
 use Rattle.check_records.proofs.Codes.{Packs, known-code, kind-sized, times-in, kind-small}
 use Rattle.check_records.proofs.Classes.{first-class}
 use Rattle.write_fields.specs.Classes.{Known, knownCount, slotIn, digitAt, classIn, isChild, childNo}
@@ -182,7 +182,7 @@ module _ (b : List ℕ) (o : ℕ) (K : Known b o) where
   pub code-sized : Sized code
   code-sized = kind-sized (kindAt b o) code code-packs
 
-  pub small-kind : numberAt b o < 61
+  pub small-kind : numberAt b o < codeCount
   small-kind = kind-small (numberAt b o) (kindAt b o) (K .kind)
 
   pub count-is : firstOf code + (timesIn code (lengthAt b o - 4) * groupOf code + lastOf code) ≡ knownCount b o

@@ -62,7 +62,8 @@ join64-requires c κs = search needs
 returns : tie.Need-returns
 unfolding numberAt gets
 returns c =
-    let a = c .before .before .before .before .before .before .before .before .before .before .args in
+    let start = c .before .before .before .before .before .before .before .before .before .before in
+    let a = start .args in
     c .join64 .ensures ∙ ap numberOf (bytes-at (now (a .area)) (8 * a .i) 7 (omega arith))
 
 pub load-spec : {M : Type 1} → statement M

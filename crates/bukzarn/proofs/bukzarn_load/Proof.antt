@@ -1,6 +1,7 @@
 -- Bytes and number of the answer, as one number, and the output as the call leaves it.
 use mathlib.Core.Path.{ap, _∙_}
-use Rattle.bukzarn.specs.Numbers.{asNumber, loadAsNumber}
+use Rattle.answers_as_numbers.specs.Numbers.{asNumber}
+use Rattle.bukzarn.specs.Numbers.{loadAsNumber}
 use borrow.Author.Needs.{needs}
 use Rattle.bukzarn.proofs.bukzarn_load.Statement.{statement}
 use Rattle.bukzarn.proofs.bukzarn_load.Tie as tie

@@ -1,6 +1,7 @@
 -- The forecast's number and place, as one number, and the lent places as `put_forecast` leaves them.
 use mathlib.Core.Path.{ap, _∙_}
-use Rattle.bukzarn.specs.Numbers.{refusedAsNumber, forecastAsNumber}
+use Rattle.answers_as_numbers.specs.Numbers.{refusedAsNumber}
+use Rattle.bukzarn.specs.Numbers.{forecastAsNumber}
 use borrow.Author.Needs.{needs}
 use Rattle.bukzarn.proofs.bukzarn_need.Statement.{statement}
 use Rattle.bukzarn.proofs.bukzarn_need.Tie as tie
@@ -25,10 +26,12 @@ same-length c = search needs
 
 returns : tie.Need-returns
 returns c =
-    let e = c .before .before .before .before .before .before .before .forecast-image .ensures in (
+    let at-put-forecast = c .before .before .before .before .before in
+    let at-forecast-image = at-put-forecast .before .before in
+    let e = at-forecast-image .forecast-image .ensures in (
       c .refused-as-number .ensures
           ∙ ((λ i. refusedAsNumber (c .before .before .forecast-number .ensures i) (c .before .forecast-place .ensures i)) ∙ ap forecastAsNumber e),
-      rw (← e) (c .before .before .before .before .before .put-forecast .ensures),
+      rw (← e) (at-put-forecast .put-forecast .ensures),
     )
 
 pub bukzarn-need-spec : {M : Type 1} → statement M

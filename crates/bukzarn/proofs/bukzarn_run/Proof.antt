@@ -1,6 +1,5 @@
 -- What `run` answers, as a number, and the memory as `run` leaves it.
-use mathlib.Core.Path.{ap, _∙_}
-use Rattle.bukzarn.specs.Numbers.{callNumber}
+use Rattle.bukzarn.proofs.Answered.{numbered}
 use borrow.Author.Needs.{needs}
 use Rattle.bukzarn.proofs.bukzarn_run.Statement.{statement}
 use Rattle.bukzarn.proofs.bukzarn_run.Tie as tie
@@ -22,13 +21,8 @@ same-length-3 c = search needs
 
 returns : tie.Need-returns
 returns c =
-    let e = c .before .before .before .before .before .before .before .run .ensures in
-    record {
-      number = c .call-number .ensures ∙ ap (λ L. callNumber (L .answer)) e;
-      log = ap (λ L. L .log) e;
-      report = ap (λ L. L .report) e;
-      work = ap (λ L. L .work) e;
-    }
+    let at-run = c .before .before .before .before .before .before .before in
+    numbered _ _ _ (at-run .run .ensures) (c .call-number .ensures)
 
 pub bukzarn-run-spec : {M : Type 1} → statement M
 bukzarn-run-spec =

@@ -1,6 +1,7 @@
 -- Bytes, number and place of the answer, as one number, and the output as the call leaves it.
 use mathlib.Core.Path.{ap, _∙_}
-use Rattle.bukzarn.specs.Numbers.{asNumber, strippedAsNumber}
+use Rattle.answers_as_numbers.specs.Numbers.{asNumber}
+use Rattle.bukzarn.specs.Numbers.{strippedAsNumber}
 use borrow.Author.Needs.{needs}
 use Rattle.bukzarn.proofs.bukzarn_strip.Statement.{statement}
 use Rattle.bukzarn.proofs.bukzarn_strip.Tie as tie
@@ -25,9 +26,11 @@ same-length c = search needs
 
 returns : tie.Need-returns
 returns c =
-    let e = c .before .before .before .before .before .before .write-stripped .ensures in (
+    let at-stripped-bytes = c .before .before .before in
+    let at-write-stripped = at-stripped-bytes .before .before .before in
+    let e = at-write-stripped .write-stripped .ensures in (
       c .as-number .ensures
-          ∙ ((λ i. asNumber (c .before .before .before .stripped-bytes .ensures i) (c .before .before .stripped-number .ensures i) (c .before .stripped-place .ensures i)) ∙ ap (λ L. strippedAsNumber (L .answer)) e),
+          ∙ ((λ i. asNumber (at-stripped-bytes .stripped-bytes .ensures i) (c .before .before .stripped-number .ensures i) (c .before .stripped-place .ensures i)) ∙ ap (λ L. strippedAsNumber (L .answer)) e),
       ap (λ L. L .out) e,
     )
 

@@ -1,6 +1,7 @@
 -- The verdict's number and place, as one number.
 use mathlib.Core.Path.{ap, _∙_}
-use Rattle.bukzarn.specs.Numbers.{refusedAsNumber, verdictAsNumber}
+use Rattle.answers_as_numbers.specs.Numbers.{refusedAsNumber}
+use Rattle.bukzarn.specs.Numbers.{verdictAsNumber}
 use borrow.Author.Needs.{needs}
 use Rattle.bukzarn.proofs.bukzarn_validate.Statement.{statement}
 use Rattle.bukzarn.proofs.bukzarn_validate.Tie as tie

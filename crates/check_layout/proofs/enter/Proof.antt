@@ -9,43 +9,38 @@ use lib.ListN.{length}
 use Rattle.check_records.specs.Codes.{sectionOf, codeAt, Sized}
 use Rattle.check_records.proofs.Codes.{code-sized}
 use Rattle.check_records.proofs.Heads.{Whole, whole-of}
-use Rattle.check_layout.specs.Fields.{typeCount, DescriptorFrom}
-use Rattle.check_layout.specs.Numbers.{numberTests, toldOf}
-use Rattle.check_layout.proofs.Entering.{full, placed, unknown-entry, fault-entry, kind-narrow, fields-narrow, type-held, domain-room, type-room, term-room, domain-entry, repeated-entry, type-entry, term-entry}
+use Rattle.check_fields.specs.Fields.{typeCount, DescriptorFrom}
+use Rattle.check_ranges.specs.Numbers.{numberTests, toldOf}
+use Rattle.check_ranges.specs.Terms.{TermFields}
+use Rattle.check_layout.proofs.Entering.{full, placed, unknown-entry, fault-entry, kind-narrow, fields-narrow, type-held, domain-room, type-room, domain-entry, repeated-entry, type-entry, marks-long, term-fields, term-answer}
 use borrow.Author.Needs.{needs}
 use Rattle.check_layout.proofs.enter.Statement.{statement}
 use Rattle.check_layout.proofs.enter.Tie as tie
 use Rattle.check_layout.proofs.enter.Reads as reads
 use Rattle.check_layout.proofs.enter.Lts as lts
-use Rattle.check_layout.proofs.fields.descriptor_of.Reads as descriptor-of-reads
+use Rattle.check_fields.proofs.descriptor_of.Reads as descriptor-of-reads
+use Rattle.check_layout.proofs.enter_term.Reads as enter-term-reads
 use Rattle.check_layout.proofs.places.put_domain.Reads as put-domain-reads
-use Rattle.check_layout.proofs.places.put_term.Reads as put-term-reads
 use Rattle.check_layout.proofs.places.put_type.Reads as put-type-reads
-use Rattle.check_layout.proofs.tests.first_fault.Reads as first-fault-reads
+use Rattle.check_ranges.proofs.tests.first_fault.Reads as first-fault-reads
 use Rattle.check_records.proofs.kinds.code_of.Reads as code-of-reads
 use Rattle.check_records.proofs.kinds.is_term.Reads as is-term-reads
 use Rattle.check_records.proofs.kinds.section_of.Reads as section-of-reads
 use Rattle.check_records.proofs.numbers.Counts.next_domain.Reads as next-domain-reads
-use Rattle.check_records.proofs.numbers.Counts.next_term.Reads as next-term-reads
 use Rattle.check_records.proofs.numbers.Counts.next_type.Reads as next-type-reads
 use Rattle.check_records.proofs.numbers.Counts.with_domain.Reads as with-domain-reads
-use Rattle.check_records.proofs.numbers.Counts.with_term.Reads as with-term-reads
 use Rattle.check_records.proofs.numbers.Counts.with_type.Reads as with-type-reads
 
 abbrev claims : lts.Claims
 claims = (
   code-of-reads.Asked,
   code-of-reads.Learnt,
-  first-fault-reads.Asked,
-  first-fault-reads.Learnt,
   is-term-reads.Asked,
   is-term-reads.Learnt,
-  next-term-reads.Asked,
-  next-term-reads.Learnt,
-  put-term-reads.Asked,
-  put-term-reads.Learnt,
-  with-term-reads.Asked,
-  with-term-reads.Learnt,
+  enter-term-reads.Asked,
+  enter-term-reads.Learnt,
+  first-fault-reads.Asked,
+  first-fault-reads.Learnt,
   section-of-reads.Asked,
   section-of-reads.Learnt,
   descriptor-of-reads.Asked,
@@ -64,7 +59,7 @@ claims = (
   with-domain-reads.Learnt,
 )
 
--- The places that the proof goes back to: the start, behind the tests of 3 and of 4 to 7, and where the section is a type's.
+-- The places that the proof goes back to: the start, behind the tests of 3 and of 4 to 7, where the record is no term's, and where the section is a type's.
 abbrev Start : Type 0
 Start = lts.Start claims reads.Pre reads.Post
 
@@ -78,13 +73,18 @@ abbrev Described : Type 0
 Described = lts.After-descriptor-of claims reads.Pre reads.Post
 
 abbrev start : Known → Start
-start c = c .before .before .before .before .before .before .before .before .before .before
+start c =
+    let start-2 = c .before .before .before .before .before .before .before .before .before .before .before in
+    start-2
+
+abbrev no-term-of : Passed → lts.Else2 claims reads.Pre reads.Post
+no-term-of c = c .before .before .before
 
 abbrev known-of : Passed → Known
-known-of c = c .before .before .before
+known-of c = no-term-of c .before .before
 
 abbrev passed-of : Described → Passed
-passed-of c = c .before .before .before .before .before
+passed-of c = c .before .before .before
 
 -- The record is whole.
 whole : (c : Start) → Whole (now (c .args .image)) (c .args .at) (c .pre .len) (c .args .kind)
@@ -98,20 +98,20 @@ known c e = c .if1 .left (c .before .code-of .ensures ∙ e)
 passes : (c : Passed) → let a = start (known-of c) .args in none ≡ firstFault (numberTests (now (a .fields)) (codeAt (a .kind)) (a .counts))
 passes c =
     let f = c .before .before in
-    let x = f .before in
+    let x = known-of c in
     let a = start x .args in
     ap toldOf (sym (c .enum-told .given .1)) ∙ (f .first-fault .ensures ∙ ap (λ y. firstFault (numberTests (now (a .fields)) y (a .counts))) (x .before .code-of .ensures))
 
 -- It is a term; it is none.
-is-term : (c : lts.Then2 claims reads.Pre reads.Post) → sectionOf (codeAt (start (known-of (c .before .before)) .args .kind)) ≡ 3
-is-term c = ap sectionOf (sym (known-of (c .before .before) .before .code-of .ensures)) ∙ eq-of (sym (c .before .is-term .ensures) ∙ c .if2 .taken)
+is-term : (c : lts.Then2 claims reads.Pre reads.Post) → sectionOf (codeAt (start (c .before .before) .args .kind)) ≡ 3
+is-term c = ap sectionOf (sym (c .before .before .before .code-of .ensures)) ∙ eq-of (sym (c .before .is-term .ensures) ∙ c .if2 .taken)
 
-no-term : (c : lts.Else2 claims reads.Pre reads.Post) → sectionOf (codeAt (start (known-of (c .before .before)) .args .kind)) ≡ 3 → ⊥
-no-term c e = no-path (sym (c .before .is-term .ensures ∙ of-eq (ap sectionOf (known-of (c .before .before) .before .code-of .ensures) ∙ e)) ∙ c .if2 .left)
+no-term : (c : lts.Else2 claims reads.Pre reads.Post) → sectionOf (codeAt (start (c .before .before) .args .kind)) ≡ 3 → ⊥
+no-term c e = no-path (sym (c .before .is-term .ensures ∙ of-eq (ap sectionOf (c .before .before .before .code-of .ensures) ∙ e)) ∙ c .if2 .left)
 
 -- Its section.
-section : (c : lts.After-section-of claims reads.Pre reads.Post) → c .section-of .result ≡ sectionOf (codeAt (start (known-of (c .before .before .before)) .args .kind))
-section c = c .section-of .ensures ∙ ap sectionOf (known-of (c .before .before .before) .before .code-of .ensures)
+section : (c : lts.After-section-of claims reads.Pre reads.Post) → c .section-of .result ≡ sectionOf (codeAt (start (known-of (c .before)) .args .kind))
+section c = c .section-of .ensures ∙ ap sectionOf (known-of (c .before) .before .code-of .ensures)
 
 -- A type's section and descriptor.
 typed : (c : Described) → sectionOf (codeAt (start (known-of (passed-of c)) .args .kind)) ≡ 2
@@ -129,21 +129,49 @@ code-of-requires c κs = search needs
 returns : tie.Need-returns
 returns c = record { entered = λ n R. unknown-entry R (sym (c .before .code-of .ensures) ∙ c .if1 .taken) }
 
+is-term-requires : tie.Need-is-term-requires
+is-term-requires c κs = search needs
+
+enter-term-requires : tie.Need-enter-term-requires
+enter-term-requires c κs =
+    let t = c .before .before in
+    let x = t .before .before in
+    let s = start x in
+    let R = s .pre .is in
+    let W = whole s in
+    let h = R .short in
+    let z = full R in
+    (subst (λ y. TermFields (now (s .args .fields)) y (s .args .counts)) (sym (x .before .code-of .ensures)) (term-fields R (known x) (is-term t)), omega arith, omega arith, R .tables .few, R .tables .long .terms, marks-long R)
+
+same-length : tie.Need-same-length
+same-length c = search needs
+
+same-length-2 : tie.Need-same-length-2
+same-length-2 c = search needs
+
+returns-2 : tie.Need-returns-2
+returns-2 c =
+    let e = c .before .before .before .before in
+    let t = e .before .before .before in
+    let x = t .before .before in
+    record { entered = λ q R. term-answer R (known x) (is-term t) (rw (x .before .code-of .ensures) at (e .enter-term .ensures)) }
+
 first-fault-requires : tie.Need-first-fault-requires
 first-fault-requires c κs =
-    let s = start c in
+    let x = c .before .before in
+    let s = start x in
     let W = whole s in
     let h = s .pre .is .short in
     let z = full (s .pre .is) in
-    (omega arith, subst Sized (sym (c .before .code-of .ensures)) (code-sized (s .args .kind) (known c)))
+    (omega arith, subst Sized (sym (x .before .code-of .ensures)) (code-sized (s .args .kind) (known x)))
 
 enum-known-tested : tie.Need-enum-known-tested
 enum-known-tested c = search needs
 
-returns-2 : tie.Need-returns-2
-returns-2 c =
+returns-3 : tie.Need-returns-3
+returns-3 c =
     let f = c .before .before .before in
-    let x = f .before in
+    let x = f .before .before .before in
     let a = start x .args in
     let e = ap toldOf (sym (c .before .tested .given .1)) ∙ (f .first-fault .ensures ∙ ap (λ y. firstFault (numberTests (now (a .fields)) y (a .counts))) (x .before .code-of .ensures)) in
     record { entered = λ n R. fault-entry R (known x) _ e }
@@ -151,46 +179,12 @@ returns-2 c =
 enum-told : tie.Need-enum-told
 enum-told c = search needs
 
-is-term-requires : tie.Need-is-term-requires
-is-term-requires c κs = search needs
-
-next-term-requires : tie.Need-next-term-requires
-next-term-requires c κs = search needs
-
-put-term-requires : tie.Need-put-term-requires
-put-term-requires c κs =
-    let n = c .before in
-    let i = n .before in
-    let t = i .before .before in
-    let x = known-of t in
-    let s = start x in
-    let W = whole s in
-    let h = s .pre .is .short in
-    let r = term-room (s .pre .is) (known x) (passes t) (is-term i) in
-    let d = s .pre .is .tables .long .terms in
-    let e = n .next-term .ensures in
-    (omega arith, omega arith)
-
-with-term-requires : tie.Need-with-term-requires
-with-term-requires c κs = search needs
-
-same-length : tie.Need-same-length
-same-length c = search needs
-
-returns-3 : tie.Need-returns-3
-returns-3 c =
-    let p = c .before .before .before in
-    let n = p .before .before in
-    let i = n .before in
-    let t = i .before .before in
-    record { entered = λ q R. rw (c .with-term .ensures, p .put-term .ensures, n .next-term .ensures) (term-entry R (known (known-of t)) (passes t) (is-term i)) }
-
 section-of-requires : tie.Need-section-of-requires
 section-of-requires c κs = search needs
 
 descriptor-of-requires : tie.Need-descriptor-of-requires
 descriptor-of-requires c κs =
-    let t = c .before .before .before .before in
+    let t = c .before .before in
     let x = known-of t in
     let s = start x in
     let e = x .before .code-of .ensures in
@@ -218,14 +212,14 @@ put-type-requires c κs =
 enum-known-new : tie.Need-enum-known-new
 enum-known-new c = search needs
 
-same-length-2 : tie.Need-same-length-2
-same-length-2 c = search needs
-
 same-length-3 : tie.Need-same-length-3
 same-length-3 c = search needs
 
 same-length-4 : tie.Need-same-length-4
 same-length-4 c = search needs
+
+same-length-5 : tie.Need-same-length-5
+same-length-5 c = search needs
 
 returns-4 : tie.Need-returns-4
 returns-4 c =
@@ -239,16 +233,18 @@ enum-told-2 : tie.Need-enum-told-2
 enum-told-2 c = search needs
 
 with-type-requires : tie.Need-with-type-requires
-with-type-requires c κs = start (known-of (passed-of (c .before .before .before .before .before .before .before .before .before .before .before .before .before))) .pre .is .tables .few
-
-same-length-5 : tie.Need-same-length-5
-same-length-5 c = search needs
+with-type-requires c κs =
+    let start-2 = c .before .before .before .before .before .before .before .before .before .before .before .before .before in
+    start (known-of (passed-of (start-2))) .pre .is .tables .few
 
 same-length-6 : tie.Need-same-length-6
 same-length-6 c = search needs
 
 same-length-7 : tie.Need-same-length-7
 same-length-7 c = search needs
+
+same-length-8 : tie.Need-same-length-8
+same-length-8 c = search needs
 
 returns-5 : tie.Need-returns-5
 returns-5 c =
@@ -265,8 +261,8 @@ put-domain-requires : tie.Need-put-domain-requires
 put-domain-requires c κs =
     let n = c .before in
     let i = n .before in
-    let e2 = i .before .before in
-    let t = e2 .before .before in
+    let t = i .before .before in
+    let e2 = no-term-of t in
     let x = known-of t in
     let s = start x in
     let W = whole s in
@@ -279,16 +275,16 @@ put-domain-requires c κs =
 with-domain-requires : tie.Need-with-domain-requires
 with-domain-requires c κs = search needs
 
-same-length-8 : tie.Need-same-length-8
-same-length-8 c = search needs
+same-length-9 : tie.Need-same-length-9
+same-length-9 c = search needs
 
 returns-6 : tie.Need-returns-6
 returns-6 c =
     let p = c .before .before .before in
     let n = p .before .before in
     let i = n .before in
-    let e2 = i .before .before in
-    let t = e2 .before .before in
+    let t = i .before .before in
+    let e2 = no-term-of t in
     record { entered = λ q R. rw (c .with-domain .ensures, p .put-domain .ensures, n .next-domain .ensures) (domain-entry R (known (known-of t)) (passes t) (no-term e2) (λ e. i .if3 .left (section (i .before) ∙ e))) }
 
 pub enter-spec : {M : Type 1} → statement M
@@ -297,33 +293,32 @@ enter-spec =
     (tie.spec
     code-of-requires
     returns
+    is-term-requires
+    enter-term-requires
+    same-length
+    same-length-2
+    returns-2
     first-fault-requires
     enum-known-tested
-    returns-2
-    enum-told
-    is-term-requires
-    next-term-requires
-    put-term-requires
-    with-term-requires
-    same-length
     returns-3
+    enum-told
     section-of-requires
     descriptor-of-requires
     next-type-requires
     put-type-requires
     enum-known-new
-    same-length-2
     same-length-3
     same-length-4
+    same-length-5
     returns-4
     enum-told-2
     with-type-requires
-    same-length-5
     same-length-6
     same-length-7
+    same-length-8
     returns-5
     next-domain-requires
     put-domain-requires
     with-domain-requires
-    same-length-8
+    same-length-9
     returns-6)

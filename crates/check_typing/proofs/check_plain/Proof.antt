@@ -35,10 +35,11 @@ plain-at-requires c κs = search needs
 
 returns : tie.Need-returns
 returns c =
-    let s = c .before .before .before .before .before .before .before in
+    let at-stated-type = c .before .before .before in
+    let s = at-stated-type .before .before .before .before in
     let L = recordsOf (now (s .args .image)) in
     let r : s .args .count - 1 ≡ rootOf L = ap (λ m. m - 1) (s .pre .3) in
-    c .plain-at .ensures ∙ rw (c .before .before .type-leaves .ensures, c .before .before .before .stated-type .ensures .0, c .before .term-place .ensures .0, r) (root-plain L)
+    c .plain-at .ensures ∙ rw (c .before .before .type-leaves .ensures, at-stated-type .stated-type .ensures .0, c .before .term-place .ensures .0, r) (root-plain L)
 
 pub check-plain-spec : {M : Type 1} → statement M
 check-plain-spec =

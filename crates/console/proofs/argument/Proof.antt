@@ -33,8 +33,10 @@ number-of-requires c κs = search needs
 
 returns-2 : tie.Need-returns-2
 returns-2 c =
-    let most = c .before .before .before .before .before .before .before .before .args .most in
-    let a = c .before .before .before .arg in
+    let at-arg = c .before .before .before in
+    let start = at-arg .before .before .before .before .before in
+    let most = start .args .most in
+    let a = at-arg .arg in
     subst (AtMost most) (sym (c .number-of .ensures)) (at-most most (take (a .result) (a .last .1 .0)))
 
 pub argument-spec : {M : Type 1} → statement M

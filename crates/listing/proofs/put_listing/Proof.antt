@@ -31,17 +31,24 @@ same-length : tie.Need-same-length
 same-length c = search needs
 
 returns : tie.Need-returns
-returns c = as-short (refusal-listed (c .before .before .before .before .before .before .before .before .before .before .args .a) (now (c .before .before .before .before .before .before .before .before .before .before .args .log)) (now (c .before .before .before .before .before .before .before .before .before .before .args .report)) (c .before .before .before .before .before .verdict .given .1)) (longer (omega arith) (c .before .before .put-refusal .ensures))
+returns c =
+    let at-verdict = c .before .before .before .before .before in
+    let start = at-verdict .before .before .before .before .before in
+    as-short (refusal-listed (start .args .a) (now (start .args .log)) (now (start .args .report)) (at-verdict .verdict .given .1)) (longer (omega arith) (c .before .before .put-refusal .ensures))
 
 same-length-2 : tie.Need-same-length-2
 same-length-2 c = search needs
 
 returns-2 : tie.Need-returns-2
 returns-2 c =
-    let a = c .before .before .before .before .before .before .before .before .before .before .before .args in
-    let l = ap length (c .before .before .before .before .front .ensures) ∙ length-take (a .a .log) (now (a .log)) in
-    let r = ap length (c .before .before .before .front2 .ensures) ∙ length-take (a .a .report) (now (a .report)) in
-    as-short (run-listed (a .a) (now (a .log)) (now (a .report)) (c .before .before .before .before .before .before .enum-told .given .1) (c .before .before .before .before .front .ensures) (c .before .before .before .front2 .ensures)) (longer (omega arith) (c .before .before .put-run .ensures))
+    let at-front2 = c .before .before .before in
+    let at-front = at-front2 .before in
+    let at-enum-told = at-front .before .before in
+    let start = at-enum-told .before .before .before .before .before in
+    let a = start .args in
+    let l = ap length (at-front .front .ensures) ∙ length-take (a .a .log) (now (a .log)) in
+    let r = ap length (at-front2 .front2 .ensures) ∙ length-take (a .a .report) (now (a .report)) in
+    as-short (run-listed (a .a) (now (a .log)) (now (a .report)) (at-enum-told .enum-told .given .1) (at-front .front .ensures) (at-front2 .front2 .ensures)) (longer (omega arith) (c .before .before .put-run .ensures))
 
 pub put-listing-spec : {M : Type 1} → statement M
 put-listing-spec =

@@ -45,10 +45,16 @@ same-length c = search needs
 
 returns : tie.Need-returns
 returns c =
-    let a = c .before .before .before .before .before .before .before .before .before .before .before .before .before .before .before .before .before .before .before .before .before .before .before .before .before .args in
-    let n : refusalNumber (a .why) < 65536 = omega (arith, c .before .before .before .before .before .before .before .before .before .before .before .before .before .before .before .before .before .refusal-number .ensures) in
+    let at-put-decimal2 = c .before .before .before .before .before .before .before in
+    let at-put2 = at-put-decimal2 .before .before .before .before in
+    let at-put-decimal = at-put2 .before .before .before .before .before in
+    let at-refusal-number = at-put-decimal .before in
+    let at-put = at-refusal-number .before .before .before .before in
+    let start = at-put .before .before .before .before in
+    let a = start .args in
+    let n : refusalNumber (a .why) < 65536 = omega (arith, at-refusal-number .refusal-number .ensures) in
     within-limit
-    (then (then (then (then (c .before .before .before .before .before .before .before .before .before .before .before .before .before .before .before .before .before .before .before .before .before .put .ensures) (as-text (ap decimal (c .before .before .before .before .before .before .before .before .before .before .before .before .before .before .before .before .before .refusal-number .ensures)) (c .before .before .before .before .before .before .before .before .before .before .before .before .before .before .before .before .put-decimal .ensures))) (c .before .before .before .before .before .before .before .before .before .before .before .put2 .ensures)) (c .before .before .before .before .before .before .before .put-decimal2 .ensures)) (c .before .before .put3 .ensures))
+    (then (then (then (then (at-put .put .ensures) (as-text (ap decimal (at-refusal-number .refusal-number .ensures)) (at-put-decimal .put-decimal .ensures))) (at-put2 .put2 .ensures)) (at-put-decimal2 .put-decimal2 .ensures)) (c .before .before .put3 .ensures))
     (refusal-short (a .why) (a .place) n (search needs))
 
 pub put-refusal-spec : {M : Type 1} → statement M

@@ -21,10 +21,15 @@ same-length c = search needs
 
 returns : tie.Need-returns
 returns c =
-    let a = c .before .before .before .before .before .before .before .before .before .before .before .before .before .before .before .args in
+    let at-put-ending = c .before .before .before .before .before .before in
+    let at-put-prints = at-put-ending .before .before .before .before in
+    let at-shared-slice-known2 = at-put-prints .before .before in
+    let at-shared-slice-known = at-shared-slice-known2 .before in
+    let start = at-shared-slice-known .before .before in
+    let a = start .args in
     within-limit
-    (then (then (c .before .before .before .before .before .before .before .before .before .before .put-prints .ensures) (c .before .before .before .before .before .before .put-ending .ensures)) (c .before .before .put-cells .ensures))
-    (run-short (a .ending) (a .steps) (now (a .log)) (now (a .report)) (search needs) (λ i. omega (arith, c .before .before .before .before .before .before .before .before .before .before .before .before .before .shared-slice-known .given i)) (λ i. omega (arith, c .before .before .before .before .before .before .before .before .before .before .before .before .shared-slice-known2 .given i)))
+    (then (then (at-put-prints .put-prints .ensures) (at-put-ending .put-ending .ensures)) (c .before .before .put-cells .ensures))
+    (run-short (a .ending) (a .steps) (now (a .log)) (now (a .report)) (search needs) (λ i. omega (arith, at-shared-slice-known .shared-slice-known .given i)) (λ i. omega (arith, at-shared-slice-known2 .shared-slice-known2 .given i)))
 
 pub put-run-spec : {M : Type 1} → statement M
 put-run-spec =

@@ -86,18 +86,28 @@ lowest-fault-child-count-requires t c κs =
 
 lowest-fault-loop-holds : (t : ℕ) → lowest-fault-lts.Need-loop-holds (claims t) (lowest-fault-at t) lowest-fault.Post lowest-fault-Inv-loop lowest-fault-μ-loop
 lowest-fault-loop-holds t c =
-    let s = c .before .before .before .before .before .before in let L = recordsOf (now (s .args .image)) in let n = s .args .n .0 in let m = s .args .outside in (omega arith, s .pre .1 .2 ∙ least-start L m n)
+    let s = c .before .before .before .before .before .before in
+    let L = recordsOf (now (s .args .image)) in
+    let n = s .args .n .0 in
+    let m = s .args .outside in
+    (omega arith, s .pre .1 .2 ∙ least-start L m n)
 
 lowest-fault-child-at-requires : (t : ℕ) → lowest-fault-lts.Need-child-at-requires (claims t) (lowest-fault-at t) lowest-fault.Post lowest-fault-Inv-loop lowest-fault-μ-loop
 lowest-fault-child-at-requires t c κs =
-    let s = c .before .before .before .before .before .before .before .before in let h = c .loop-test .taken in let k = c .before .before .child-count .ensures in (s .pre .1 .0, s .pre .1 .1, omega arith)
+    let s = c .before .before .before .before .before .before .before .before in
+    let h = c .loop-test .taken in
+    let k = c .before .before .child-count .ensures in
+    (s .pre .1 .0, s .pre .1 .1, omega arith)
 
 lowest-fault-is-outside-requires : (t : ℕ) → lowest-fault-lts.Need-is-outside-requires (claims t) (lowest-fault-at t) lowest-fault.Post lowest-fault-Inv-loop lowest-fault-μ-loop
 lowest-fault-is-outside-requires t c κs = search needs
 
 lowest-fault-lowest-fault-requires : (t : ℕ) → lowest-fault-lts.Need-lowest-fault-requires (claims t) (lowest-fault-at t) lowest-fault.Post lowest-fault-Inv-loop lowest-fault-μ-loop
 lowest-fault-lowest-fault-requires t c κs =
-    let s = c .before .before .before .before .before .before .before .before .before .before in let low = c .before .child-at .ensures .1 in let i = s .pre .1 .1 in (rw (← s .pre .0) low, (s .pre .1 .0, omega arith, s .pre .1 .2))
+    let s = c .before .before .before .before .before .before .before .before .before .before in
+    let low = c .before .child-at .ensures .1 in
+    let i = s .pre .1 .1 in
+    (rw (← s .pre .0) low, (s .pre .1 .0, omega arith, s .pre .1 .2))
 
 lowest-fault-lower-of-requires : (t : ℕ) → lowest-fault-lts.Need-lower-of-requires (claims t) (lowest-fault-at t) lowest-fault.Post lowest-fault-Inv-loop lowest-fault-μ-loop
 lowest-fault-lower-of-requires t c κs = search needs
@@ -111,7 +121,20 @@ lowest-fault-loop-less t c =
 
 lowest-fault-loop-again : (t : ℕ) → lowest-fault-lts.Need-loop-again (claims t) (lowest-fault-at t) lowest-fault.Post lowest-fault-Inv-loop lowest-fault-μ-loop
 lowest-fault-loop-again t c =
-    let s = c .before .before .before .before .before .before .before .before .before .before .before .before in let L = recordsOf (now (s .args .image)) in let n = s .args .n .0 in let m = s .args .outside in let l = c .before .before .before .before .before .loop in let h = c .before .before .before .before .loop-test .taken in let k = c .before .before .before .before .before .before .child-count .ensures in let g : l .j < length (children L n) = omega arith in (omega arith, least-turn L m n (l .j) g (c .before .before .is-outside .result) (c .before .before .before .child-at .result .0) (l .least) (c .before .lowest-fault .result) (c .lower-of .result) (c .before .before .is-outside .ensures (termKind L n) (c .before .before .before .before .before .before .before .before .before .kind-at .ensures)) (c .before .before .before .child-at .ensures .0) (c .before .lowest-fault .ensures) (l .inv .1) (c .lower-of .ensures))
+    let at-child-at = c .before .before .before in
+    let at-loop-test = at-child-at .before in
+    let at-loop = at-loop-test .before in
+    let at-child-count = at-loop .before in
+    let at-kind-at = at-child-count .before .before .before in
+    let s = at-kind-at .before .before .before in
+    let L = recordsOf (now (s .args .image)) in
+    let n = s .args .n .0 in
+    let m = s .args .outside in
+    let l = at-loop .loop in
+    let h = at-loop-test .loop-test .taken in
+    let k = at-child-count .child-count .ensures in
+    let g : l .j < length (children L n) = omega arith in
+    (omega arith, least-turn L m n (l .j) g (c .before .before .is-outside .result) (at-child-at .child-at .result .0) (l .least) (c .before .lowest-fault .result) (c .lower-of .result) (c .before .before .is-outside .ensures (termKind L n) (at-kind-at .kind-at .ensures)) (at-child-at .child-at .ensures .0) (c .before .lowest-fault .ensures) (l .inv .1) (c .lower-of .ensures))
 
 lowest-fault-own-fault-requires : (t : ℕ) → lowest-fault-lts.Need-own-fault-requires (claims t) (lowest-fault-at t) lowest-fault.Post lowest-fault-Inv-loop lowest-fault-μ-loop
 lowest-fault-own-fault-requires t c κs = search needs
@@ -121,7 +144,20 @@ lowest-fault-lower-of-requires-2 t c κs = search needs
 
 lowest-fault-returns : (t : ℕ) → lowest-fault-lts.Need-returns (claims t) (lowest-fault-at t) lowest-fault.Post lowest-fault-Inv-loop lowest-fault-μ-loop
 lowest-fault-returns t c =
-    let s = c .before .before .before .before .before .before .before .before .before .before in let L = recordsOf (now (s .args .image)) in let n = s .args .n .0 in let m = s .args .outside in let l = c .before .before .before .loop in let all = c .before .before .loop-test .left in let k = c .before .before .before .before .child-count .ensures in let g : length (children L n) ≤ l .j = omega arith in least-whole L m n (good-of (now (s .args .image)) (s .pre .1 .0 .laid-out)) (s .pre .1 .1) (l .j) g (c .before .before .before .before .before .is-permitted .result) (c .before .own-fault .result) (l .least) (c .lower-of2 .result) (c .before .before .before .before .before .is-permitted .ensures (termKind L n) (termKind L (firstChild L n)) (c .before .before .before .before .before .before .before .kind-at .ensures) (c .before .before .before .before .before .before .first-kind .ensures)) (c .before .own-fault .ensures ∙ ap (λ x. choose (c .before .before .before .before .before .is-permitted .result) x n) (s .pre .1 .2)) (l .inv .1) (c .lower-of2 .ensures)
+    let at-loop = c .before .before .before in
+    let at-child-count = at-loop .before in
+    let at-is-permitted = at-child-count .before in
+    let at-first-kind = at-is-permitted .before in
+    let at-kind-at = at-first-kind .before in
+    let s = at-kind-at .before .before .before in
+    let L = recordsOf (now (s .args .image)) in
+    let n = s .args .n .0 in
+    let m = s .args .outside in
+    let l = at-loop .loop in
+    let all = c .before .before .loop-test .left in
+    let k = at-child-count .child-count .ensures in
+    let g : length (children L n) ≤ l .j = omega arith in
+    least-whole L m n (good-of (now (s .args .image)) (s .pre .1 .0 .laid-out)) (s .pre .1 .1) (l .j) g (at-is-permitted .is-permitted .result) (c .before .own-fault .result) (l .least) (c .lower-of2 .result) (at-is-permitted .is-permitted .ensures (termKind L n) (termKind L (firstChild L n)) (at-kind-at .kind-at .ensures) (at-first-kind .first-kind .ensures)) (c .before .own-fault .ensures ∙ ap (λ x. choose (at-is-permitted .is-permitted .result) x n) (s .pre .1 .2)) (l .inv .1) (c .lower-of2 .ensures)
 
 pub +lowest-fault-spec : {M : Type 1} → statement M
 +lowest-fault-spec = close μ-lowest-fault λ t. lowest-fault-lts.spec (claims t)

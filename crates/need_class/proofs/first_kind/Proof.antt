@@ -35,7 +35,10 @@ kind-at-requires-2 c κs = search needs
 
 -- src/lib.rt:34:1
 returns-2 : tie.Need-returns-2
-returns-2 c = let s = c .before .before .before .before .before .before in let L = recordsOf (now (s .args .image)) in c .kind-at2 .ensures ∙ ap (λ x. termRow (termKind L x) .number) (c .before .child-at .ensures .0)
+returns-2 c =
+    let s = c .before .before .before .before .before .before in
+    let L = recordsOf (now (s .args .image)) in
+    c .kind-at2 .ensures ∙ ap (λ x. termRow (termKind L x) .number) (c .before .child-at .ensures .0)
 
 pub first-kind-spec : {M : Type 1} → statement M
 first-kind-spec =

@@ -26,11 +26,11 @@ use Rattle.need_rows.proofs.add_pieces.Reads as add-pieces
 use Rattle.need_rows.proofs.add_pieces.Kinds as add-pieces-kinds
 use Rattle.need_rows.proofs.+add_pieces.Lts-add_pieces as add-pieces-lts
 use Rattle.check_rules.proofs.leaf.is_leaf.Reads as is-leaf-reads
-use Rattle.need_sums.proofs.own.is_branch.Reads as is-branch-reads
+use Rattle.need_own.proofs.own.is_branch.Reads as is-branch-reads
 use Rattle.need_sums.proofs.places.child_stand.Reads as child-stand-reads
-use Rattle.need_sums.proofs.rows.add_rows.Reads as add-rows-reads
-use Rattle.need_sums.proofs.rows.charge_rows.Reads as charge-rows-reads
-use Rattle.need_sums.proofs.rows.raise_rows.Reads as raise-rows-reads
+use Rattle.need_own.proofs.rows.add_rows.Reads as add-rows-reads
+use Rattle.need_own.proofs.rows.charge_rows.Reads as charge-rows-reads
+use Rattle.need_own.proofs.rows.raise_rows.Reads as raise-rows-reads
 use Rattle.need_sums.proofs.shapes.role_at.Reads as role-at-reads
 use Rattle.need_terms.proofs.child_at.Reads as child-at-reads
 use Rattle.need_terms.proofs.child_count.Reads as child-count-reads
@@ -101,7 +101,9 @@ add-pieces-returns t c =
     nothing-added (inRow L (s .args .s) (s .args .n .0)) (skipped-row L (s .args .s) (s .args .n .0) (sym (c .before .skips-all .ensures) ∙ c .if1 .taken)) (now (s .args .rows))
 
 add-pieces-is-leaf-requires : (t : ℕ) → add-pieces-lts.Need-is-leaf-requires (claims t) (add-pieces-at t) add-pieces.Post add-pieces-Inv-loop add-pieces-μ-loop
-add-pieces-is-leaf-requires t c κs = let s = c .before .before .before .before .before .before in (s .pre .1 .0 .terms, s .pre .1 .1)
+add-pieces-is-leaf-requires t c κs =
+    let s = c .before .before .before .before .before .before in
+    (s .pre .1 .0 .terms, s .pre .1 .1)
 
 add-pieces-returns-2 : (t : ℕ) → add-pieces-lts.Need-returns-2 (claims t) (add-pieces-at t) add-pieces.Post add-pieces-Inv-loop add-pieces-μ-loop
 add-pieces-returns-2 t c =
@@ -113,13 +115,19 @@ add-pieces-returns-2 t c =
     nothing-added (inRow L (s .args .s) n) (λ i. leaf-takes L n (subst (λ x. x ≤ 35) m k) (keepingMore i (s .args .s))) (now (s .args .rows))
 
 add-pieces-shape-at-requires : (t : ℕ) → add-pieces-lts.Need-shape-at-requires (claims t) (add-pieces-at t) add-pieces.Post add-pieces-Inv-loop add-pieces-μ-loop
-add-pieces-shape-at-requires t c κs = let s = c .before .before .before .before .before .before .before .before in (s .pre .1 .0 .terms, s .pre .1 .1)
+add-pieces-shape-at-requires t c κs =
+    let s = c .before .before .before .before .before .before .before .before in
+    (s .pre .1 .0 .terms, s .pre .1 .1)
 
 add-pieces-part-domain-requires : (t : ℕ) → add-pieces-lts.Need-part-domain-requires (claims t) (add-pieces-at t) add-pieces.Post add-pieces-Inv-loop add-pieces-μ-loop
-add-pieces-part-domain-requires t c κs = let s = c .before .before .before .before .before .before .before .before .before in (s .pre .1 .0, s .pre .1 .1)
+add-pieces-part-domain-requires t c κs =
+    let s = c .before .before .before .before .before .before .before .before .before in
+    (s .pre .1 .0, s .pre .1 .1)
 
 add-pieces-child-count-requires : (t : ℕ) → add-pieces-lts.Need-child-count-requires (claims t) (add-pieces-at t) add-pieces.Post add-pieces-Inv-loop add-pieces-μ-loop
-add-pieces-child-count-requires t c κs = let s = c .before .before .before .before .before .before .before .before .before .before in (s .pre .1 .0 .terms, s .pre .1 .1)
+add-pieces-child-count-requires t c κs =
+    let s = c .before .before .before .before .before .before .before .before .before .before in
+    (s .pre .1 .0 .terms, s .pre .1 .1)
 
 add-pieces-loop-holds : (t : ℕ) → add-pieces-lts.Need-loop-holds (claims t) (add-pieces-at t) add-pieces.Post add-pieces-Inv-loop add-pieces-μ-loop
 add-pieces-loop-holds t c =
@@ -133,9 +141,10 @@ add-pieces-role-at-requires t c κs = search needs
 
 add-pieces-child-at-requires : (t : ℕ) → add-pieces-lts.Need-child-at-requires (claims t) (add-pieces-at t) add-pieces.Post add-pieces-Inv-loop add-pieces-μ-loop
 add-pieces-child-at-requires t c κs =
-    let s = c .before .before .before .before .before .before .before .before .before .before .before .before .before .before in
+    let at-child-count = c .before .before .before in
+    let s = at-child-count .before .before .before .before .before .before .before .before .before .before .before in
     let h = c .before .loop-test .taken in
-    let k = c .before .before .before .child-count .ensures in
+    let k = at-child-count .child-count .ensures in
     (s .pre .1 .0 .terms, s .pre .1 .1, omega arith)
 
 add-pieces-child-stand-requires : (t : ℕ) → add-pieces-lts.Need-child-stand-requires (claims t) (add-pieces-at t) add-pieces.Post add-pieces-Inv-loop add-pieces-μ-loop
@@ -153,20 +162,27 @@ add-pieces-slice-aggregate-add-pieces t c = search needs
 
 add-pieces-add-pieces-requires : (t : ℕ) → add-pieces-lts.Need-add-pieces-requires (claims t) (add-pieces-at t) add-pieces.Post add-pieces-Inv-loop add-pieces-μ-loop
 add-pieces-add-pieces-requires t c κs =
-    let s = c .before .before .before .before .before .before .before .before .before .before .before .before .before .before .before .before .before .before .before in
+    let at-child-stand = c .before .before .before in
+    let at-child-at = at-child-stand .before in
+    let at-role-at = at-child-at .before in
+    let at-loop-test = at-role-at .before in
+    let at-loop = at-loop-test .before in
+    let at-child-count = at-loop .before in
+    let at-part-domain = at-child-count .before in
+    let s = at-part-domain .before .before .before .before .before .before .before .before .before .before in
     let L = recordsOf (now (s .args .image)) in
     let S = s .args .s in
     let n = s .args .n .0 in
-    let role = c .before .before .before .before .before .role-at .result in
-    let p = c .before .before .before .before .before .before .before .before .before .part-domain .result in
-    let e = c .before .before .before .before .child-at .result .0 in
-    let q = c .before .before .before .child-stand .ensures in
-    let low = c .before .before .before .before .child-at .ensures .1 in
+    let role = at-role-at .role-at .result in
+    let p = at-part-domain .part-domain .result in
+    let e = at-child-at .child-at .result .0 in
+    let q = at-child-stand .child-stand .ensures in
+    let low = at-child-at .child-at .ensures .1 in
     let i = s .pre .1 .1 in
-    let h = c .before .before .before .before .before .before .loop-test .taken in
-    let k = c .before .before .before .before .before .before .before .before .child-count .ensures in
-    let child : IsChild L n (c .before .before .before .before .before .before .before .loop .j) e = record { there = i; place = omega arith; is = sym (c .before .before .before .before .child-at .ensures .0) } in
-    let placed = child-placed L S n e p (c .before .before .before .before .before .before .before .loop .j) role low child (s .pre .1 .2) in
+    let h = at-loop-test .loop-test .taken in
+    let k = at-child-count .child-count .ensures in
+    let child : IsChild L n (at-loop .loop .j) e = record { there = i; place = omega arith; is = sym (at-child-at .child-at .ensures .0) } in
+    let placed = child-placed L S n e p (at-loop .loop .j) role low child (s .pre .1 .2) in
     (rw (← s .pre .0) low, (s .pre .1 .0, omega arith, subst (λ y. Placed L y e) (sym q) placed, subst (λ y. ofAdvice (y .mode) ≡ true) (sym q) (child-of-advice S role p (s .pre .1 .3)), refl))
 
 add-pieces-slice-aggregate-raise-rows : (t : ℕ) → add-pieces-lts.Need-slice-aggregate-raise-rows (claims t) (add-pieces-at t) add-pieces.Post add-pieces-Inv-loop add-pieces-μ-loop
@@ -204,31 +220,43 @@ add-pieces-slice-aggregate-raise-rows-2 :
 add-pieces-slice-aggregate-raise-rows-2 t c = search needs
 
 add-pieces-raise-rows-requires : (t : ℕ) → add-pieces-lts.Need-raise-rows-requires (claims t) (add-pieces-at t) add-pieces.Post add-pieces-Inv-loop add-pieces-μ-loop
-add-pieces-raise-rows-requires t c κs = (c .before .before .before .before .before .before .before .before .before .before .before .loop .inv .2, c .before .before .before .add-pieces .kept .1 .1 .1 .1 .1 .0)
+add-pieces-raise-rows-requires t c κs =
+    let at-add-pieces = c .before .before .before in
+    let at-loop = at-add-pieces .before .before .before .before .before .before .before .before in
+    (at-loop .loop .inv .2, at-add-pieces .add-pieces .kept .1 .1 .1 .1 .1 .0)
 
 add-pieces-add-pieces-requires-2 : (t : ℕ) → add-pieces-lts.Need-add-pieces-requires-2 (claims t) (add-pieces-at t) add-pieces.Post add-pieces-Inv-loop add-pieces-μ-loop
 add-pieces-add-pieces-requires-2 t c κs =
-    let s = c .before .before .before .before .before .before .before .before .before .before .before .before .before .before .before .before .before .before .before in
+    let at-child-stand = c .before .before .before in
+    let at-child-at = at-child-stand .before in
+    let at-role-at = at-child-at .before in
+    let at-loop-test = at-role-at .before in
+    let at-loop = at-loop-test .before in
+    let at-child-count = at-loop .before in
+    let at-part-domain = at-child-count .before in
+    let s = at-part-domain .before .before .before .before .before .before .before .before .before .before in
     let L = recordsOf (now (s .args .image)) in
     let S = s .args .s in
     let n = s .args .n .0 in
-    let role = c .before .before .before .before .before .role-at .result in
-    let p = c .before .before .before .before .before .before .before .before .before .part-domain .result in
-    let e = c .before .before .before .before .child-at .result .0 in
-    let q = c .before .before .before .child-stand .ensures in
-    let low = c .before .before .before .before .child-at .ensures .1 in
+    let role = at-role-at .role-at .result in
+    let p = at-part-domain .part-domain .result in
+    let e = at-child-at .child-at .result .0 in
+    let q = at-child-stand .child-stand .ensures in
+    let low = at-child-at .child-at .ensures .1 in
     let i = s .pre .1 .1 in
-    let h = c .before .before .before .before .before .before .loop-test .taken in
-    let k = c .before .before .before .before .before .before .before .before .child-count .ensures in
-    let child : IsChild L n (c .before .before .before .before .before .before .before .loop .j) e = record { there = i; place = omega arith; is = sym (c .before .before .before .before .child-at .ensures .0) } in
-    let placed = child-placed L S n e p (c .before .before .before .before .before .before .before .loop .j) role low child (s .pre .1 .2) in
-    (rw (← s .pre .0) low, (s .pre .1 .0, omega arith, subst (λ y. Placed L y e) (sym q) placed, subst (λ y. ofAdvice (y .mode) ≡ true) (sym q) (child-of-advice S role p (s .pre .1 .3)), c .before .before .before .before .before .before .before .loop .inv .1))
+    let h = at-loop-test .loop-test .taken in
+    let k = at-child-count .child-count .ensures in
+    let child : IsChild L n (at-loop .loop .j) e = record { there = i; place = omega arith; is = sym (at-child-at .child-at .ensures .0) } in
+    let placed = child-placed L S n e p (at-loop .loop .j) role low child (s .pre .1 .2) in
+    (rw (← s .pre .0) low, (s .pre .1 .0, omega arith, subst (λ y. Placed L y e) (sym q) placed, subst (λ y. ofAdvice (y .mode) ≡ true) (sym q) (child-of-advice S role p (s .pre .1 .3)), at-loop .loop .inv .1))
 
 add-pieces-add-j : (t : ℕ) → add-pieces-lts.Need-add-j (claims t) (add-pieces-at t) add-pieces.Post add-pieces-Inv-loop add-pieces-μ-loop
 add-pieces-add-j t c =
-    let s = c .before .before .before .before .before .before .before .before .before .before .before .before .before .before .before .before .before .before in
-    let h = c .before .before .before .before .before .loop-test .taken in
-    let k = c .before .before .before .before .before .before .before .child-count .ensures in
+    let at-loop-test = c .before .before .before .before .before in
+    let at-child-count = at-loop-test .before .before in
+    let s = at-child-count .before .before .before .before .before .before .before .before .before .before .before in
+    let h = at-loop-test .loop-test .taken in
+    let k = at-child-count .child-count .ensures in
     let f = few-children (recordsOf (now (s .args .image))) (good-of (now (s .args .image)) (s .pre .1 .0 .terms .laid-out)) (s .args .n .0) (s .pre .1 .1) in
     omega arith
 
@@ -237,20 +265,27 @@ add-pieces-loop-less t c = let h = c .before .before .before .before .before .lo
 
 add-pieces-loop-again : (t : ℕ) → add-pieces-lts.Need-loop-again (claims t) (add-pieces-at t) add-pieces.Post add-pieces-Inv-loop add-pieces-μ-loop
 add-pieces-loop-again t c =
-    let s = c .before .before .before .before .before .before .before .before .before .before .before .before .before .before .before .before .before .before in
+    let at-child-at = c .before .before .before in
+    let at-role-at = at-child-at .before in
+    let at-loop-test = at-role-at .before in
+    let at-loop = at-loop-test .before in
+    let at-child-count = at-loop .before in
+    let at-part-domain = at-child-count .before in
+    let at-shape-at = at-part-domain .before in
+    let s = at-shape-at .before .before .before .before .before .before .before .before .before in
     let L = recordsOf (now (s .args .image)) in
     let S = s .args .s in
     let n = s .args .n .0 in
-    let l = c .before .before .before .before .before .before .loop in
-    let role = c .before .before .before .before .role-at .result in
-    let p = c .before .before .before .before .before .before .before .before .part-domain .result in
-    let e = c .before .before .before .child-at .result .0 in
-    let own = c .before .before .before .before .before .before .before .before .before .shape-at .result .own in
-    let k = c .before .before .before .before .before .before .before .child-count .ensures in
-    let t′ = c .before .before .before .before .before .loop-test .taken in
-    let hr = c .before .before .before .before .role-at .ensures ∙ ap (λ y. roleAt y (l .j)) (c .before .before .before .before .before .before .before .before .before .shape-at .ensures) in
-    let hp = c .before .before .before .before .before .before .before .before .part-domain .ensures in
-    let he = c .before .before .before .child-at .ensures .0 in
+    let l = at-loop .loop in
+    let role = at-role-at .role-at .result in
+    let p = at-part-domain .part-domain .result in
+    let e = at-child-at .child-at .result .0 in
+    let own = at-shape-at .shape-at .result .own in
+    let k = at-child-count .child-count .ensures in
+    let t′ = at-loop-test .loop-test .taken in
+    let hr = at-role-at .role-at .ensures ∙ ap (λ y. roleAt y (l .j)) (at-shape-at .shape-at .ensures) in
+    let hp = at-part-domain .part-domain .ensures in
+    let he = at-child-at .child-at .ensures .0 in
     let h : l .j < length (children L n) = omega arith in
     let b = sym (c .before .is-branch .ensures) in
     let long : length (c .if3 .rows) ≡ tableLength = ⊎-elim (λ w. ap length (w .8) ∙ l .inv .1) (λ w. ap length (w .5) ∙ (w .2 .kept .1 .1 .1 .1 .1 .0 ∙ l .inv .1)) (c .if3 .came) in
@@ -272,35 +307,56 @@ add-pieces-slice-aggregate-add-rows : (t : ℕ) → add-pieces-lts.Need-slice-ag
 add-pieces-slice-aggregate-add-rows t c = search needs
 
 add-pieces-add-rows-requires : (t : ℕ) → add-pieces-lts.Need-add-rows-requires (claims t) (add-pieces-at t) add-pieces.Post add-pieces-Inv-loop add-pieces-μ-loop
-add-pieces-add-rows-requires t c κs = (c .before .before .before .before .before .charge-rows .kept .0 ∙ c .before .before .before .before .before .before .before .before .loop .inv .1, c .before .before .before .before .before .before .before .before .loop .inv .2)
+add-pieces-add-rows-requires t c κs =
+    let at-charge-rows = c .before .before .before .before .before in
+    let at-loop = at-charge-rows .before .before .before in
+    (at-charge-rows .charge-rows .kept .0 ∙ at-loop .loop .inv .1, at-loop .loop .inv .2)
 
 add-pieces-same-length : (t : ℕ) → add-pieces-lts.Need-same-length (claims t) (add-pieces-at t) add-pieces.Post add-pieces-Inv-loop add-pieces-μ-loop
-add-pieces-same-length t c = c .before .before .add-rows .kept .0 ∙ (c .before .before .before .before .before .before .before .before .charge-rows .kept .0 ∙ (c .before .before .before .before .before .before .before .before .before .before .before .loop .inv .1 ∙ sym (c .before .before .before .before .before .before .before .before .before .before .before .before .before .before .before .before .before .before .before .before .before .before .before .pre .1 .4)))
+add-pieces-same-length t c =
+    let at-charge-rows = c .before .before .before .before .before .before .before .before in
+    let at-loop = at-charge-rows .before .before .before in
+    let start = at-loop .before .before .before .before .before .before .before .before .before .before .before .before in
+    c .before .before .add-rows .kept .0 ∙ (at-charge-rows .charge-rows .kept .0 ∙ (at-loop .loop .inv .1 ∙ sym (start .pre .1 .4)))
 
 add-pieces-returns-3 : (t : ℕ) → add-pieces-lts.Need-returns-3 (claims t) (add-pieces-at t) add-pieces.Post add-pieces-Inv-loop add-pieces-μ-loop
 add-pieces-returns-3 t c =
-    let s = c .before .before .before .before .before .before .before .before .before .before .before .before .before .before .before .before .before .before .before .before .before .before .before in
+    let at-charge-rows = c .before .before .before .before .before .before .before .before in
+    let at-loop-test = at-charge-rows .before .before in
+    let at-loop = at-loop-test .before in
+    let at-child-count = at-loop .before in
+    let at-shape-at = at-child-count .before .before in
+    let s = at-shape-at .before .before .before .before .before .before .before .before .before in
     let L = recordsOf (now (s .args .image)) in
     let n = s .args .n .0 in
-    let l = c .before .before .before .before .before .before .before .before .before .before .before .loop in
-    let k = c .before .before .before .before .before .before .before .before .before .before .before .before .child-count .ensures in
-    let all = c .before .before .before .before .before .before .before .before .before .before .loop-test .left in
+    let l = at-loop .loop in
+    let k = at-child-count .child-count .ensures in
+    let all = at-loop-test .loop-test .left in
     let h : length (children L n) ≤ l .j = omega arith in
-    with-branches L n (s .args .s) (c .before .before .before .before .before .before .before .before .before .before .before .before .before .before .shape-at .result .own) (now (s .args .rows)) (good-of (now (s .args .image)) (s .pre .1 .0 .terms .laid-out)) (s .pre .1 .1) (λ e. match-three (s .pre .1 .0 .terms) (s .pre .1 .1) e) (l .j) h (l .rows) (l .choice) (c .before .before .before .before .before .before .before .before .charge-rows .last .0) (l .chosen) (l .inv .3) (c .before .before .before .before .before .before .before .before .charge-rows .ensures) _ (c .before .before .add-rows .ensures)
+    with-branches L n (s .args .s) (at-shape-at .shape-at .result .own) (now (s .args .rows)) (good-of (now (s .args .image)) (s .pre .1 .0 .terms .laid-out)) (s .pre .1 .1) (λ e. match-three (s .pre .1 .0 .terms) (s .pre .1 .1) e) (l .j) h (l .rows) (l .choice) (at-charge-rows .charge-rows .last .0) (l .chosen) (l .inv .3) (at-charge-rows .charge-rows .ensures) _ (c .before .before .add-rows .ensures)
 
 add-pieces-same-length-2 : (t : ℕ) → add-pieces-lts.Need-same-length-2 (claims t) (add-pieces-at t) add-pieces.Post add-pieces-Inv-loop add-pieces-μ-loop
-add-pieces-same-length-2 t c = c .before .before .before .charge-rows .kept .0 ∙ (c .before .before .before .before .before .before .loop .inv .1 ∙ sym (c .before .before .before .before .before .before .before .before .before .before .before .before .before .before .before .before .before .before .pre .1 .4))
+add-pieces-same-length-2 t c =
+    let at-charge-rows = c .before .before .before in
+    let at-loop = at-charge-rows .before .before .before in
+    let start = at-loop .before .before .before .before .before .before .before .before .before .before .before .before in
+    at-charge-rows .charge-rows .kept .0 ∙ (at-loop .loop .inv .1 ∙ sym (start .pre .1 .4))
 
 add-pieces-returns-4 : (t : ℕ) → add-pieces-lts.Need-returns-4 (claims t) (add-pieces-at t) add-pieces.Post add-pieces-Inv-loop add-pieces-μ-loop
 add-pieces-returns-4 t c =
-    let s = c .before .before .before .before .before .before .before .before .before .before .before .before .before .before .before .before .before .before in
+    let at-charge-rows = c .before .before .before in
+    let at-loop-test = at-charge-rows .before .before in
+    let at-loop = at-loop-test .before in
+    let at-child-count = at-loop .before in
+    let at-shape-at = at-child-count .before .before in
+    let s = at-shape-at .before .before .before .before .before .before .before .before .before in
     let L = recordsOf (now (s .args .image)) in
     let n = s .args .n .0 in
-    let l = c .before .before .before .before .before .before .loop in
-    let k = c .before .before .before .before .before .before .before .child-count .ensures in
-    let all = c .before .before .before .before .before .loop-test .left in
+    let l = at-loop .loop in
+    let k = at-child-count .child-count .ensures in
+    let all = at-loop-test .loop-test .left in
     let h : length (children L n) ≤ l .j = omega arith in
-    without-branches L n (s .args .s) (c .before .before .before .before .before .before .before .before .before .shape-at .result .own) (now (s .args .rows)) (good-of (now (s .args .image)) (s .pre .1 .0 .terms .laid-out)) (s .pre .1 .1) (λ e. match-three (s .pre .1 .0 .terms) (s .pre .1 .1) e) (l .j) h (l .rows) (l .choice) (c .before .before .before .charge-rows .last .0) (l .chosen) (l .inv .3) (c .before .before .before .charge-rows .ensures) (c .if4 .left)
+    without-branches L n (s .args .s) (at-shape-at .shape-at .result .own) (now (s .args .rows)) (good-of (now (s .args .image)) (s .pre .1 .0 .terms .laid-out)) (s .pre .1 .1) (λ e. match-three (s .pre .1 .0 .terms) (s .pre .1 .1) e) (l .j) h (l .rows) (l .choice) (at-charge-rows .charge-rows .last .0) (l .chosen) (l .inv .3) (at-charge-rows .charge-rows .ensures) (c .if4 .left)
 
 pub +add-pieces-spec : {M : Type 1} → statement M
 +add-pieces-spec = close μ-add-pieces λ t. add-pieces-lts.spec (claims t)

@@ -41,15 +41,38 @@ term-fields-requires c κs = search needs
 
 -- src/lib.rt:111:32
 binds-rest-requires : tie.Need-binds-rest-requires
-binds-rest-requires c κs = let s = c .before .before .before .before .before .before in let e = same-term-kind (termKind (recordsOf (now (s .args .image))) (s .args .n .0)) TermKind.match (sym (c .before .before .before .kind-at .ensures) ∙ c .before .before .if1 .taken) in rw (c .term-fields .ensures) (entries-in (s .pre .0) (s .pre .1) e .long)
+binds-rest-requires c κs =
+    let at-kind-at = c .before .before .before in
+    let s = at-kind-at .before .before .before in
+    let e = same-term-kind (termKind (recordsOf (now (s .args .image))) (s .args .n .0)) TermKind.match (sym (at-kind-at .kind-at .ensures) ∙ c .before .before .if1 .taken) in
+    rw (c .term-fields .ensures) (entries-in (s .pre .0) (s .pre .1) e .long)
 
 -- src/lib.rt:111:9
 with-one-requires : tie.Need-with-one-requires
-with-one-requires c κs = let s = c .before .before .before .before .before .before .before in let e = same-term-kind (termKind (recordsOf (now (s .args .image))) (s .args .n .0)) TermKind.match (sym (c .before .before .before .before .kind-at .ensures) ∙ c .before .before .before .if1 .taken) in let z = match-few (s .pre .0) (s .pre .1) e in let q = c .before .before .child-count .ensures in omega arith
+with-one-requires c κs =
+    let at-if1 = c .before .before .before in
+    let at-kind-at = at-if1 .before in
+    let s = at-kind-at .before .before .before in
+    let e = same-term-kind (termKind (recordsOf (now (s .args .image))) (s .args .n .0)) TermKind.match (sym (at-kind-at .kind-at .ensures) ∙ at-if1 .if1 .taken) in
+    let z = match-few (s .pre .0) (s .pre .1) e in
+    let q = c .before .before .child-count .ensures in
+    omega arith
 
 -- src/lib.rt:111:9
 returns : tie.Need-returns
-returns c = let s = c .before .before .before .before .before .before .before .before in let L = recordsOf (now (s .args .image)) in let e = same-term-kind (termKind (recordsOf (now (s .args .image))) (s .args .n .0)) TermKind.match (sym (c .before .before .before .before .before .kind-at .ensures) ∙ c .before .before .before .before .if1 .taken) in let z = match-few (s .pre .0) (s .pre .1) e in let k = c .before .before .before .child-count .result in let q = c .before .before .before .child-count .ensures in let r : c .before .binds-rest .result ≡ ltb 0 (fieldIn (fieldsOf (now (s .args .image)) (s .args .n .0)) (firstEntry + entryCount (fieldsOf (now (s .args .image)) (s .args .n .0)))) = c .before .binds-rest .ensures ∙ ap (λ fs. ltb 0 (fieldIn fs (firstEntry + entryCount fs))) (c .before .before .term-fields .ensures) in let m : c .with-one .result ≡ withOne (k - 3) (c .before .binds-rest .result) = c .with-one .ensures in (m ∙ (match-binds (s .pre .0) (s .pre .1) e (c .before .binds-rest .result) r k q ∙ ap (λ x. branchVariables x (others L (s .args .n .0))) (sym e)), subst (λ x. x ≤ 4096) (sym m) (few-with-one (k - 3) (c .before .binds-rest .result) (omega arith)))
+returns c =
+    let at-child-count = c .before .before .before in
+    let at-if1 = at-child-count .before in
+    let at-kind-at = at-if1 .before in
+    let s = at-kind-at .before .before .before in
+    let L = recordsOf (now (s .args .image)) in
+    let e = same-term-kind (termKind (recordsOf (now (s .args .image))) (s .args .n .0)) TermKind.match (sym (at-kind-at .kind-at .ensures) ∙ at-if1 .if1 .taken) in
+    let z = match-few (s .pre .0) (s .pre .1) e in
+    let k = at-child-count .child-count .result in
+    let q = at-child-count .child-count .ensures in
+    let r : c .before .binds-rest .result ≡ ltb 0 (fieldIn (fieldsOf (now (s .args .image)) (s .args .n .0)) (firstEntry + entryCount (fieldsOf (now (s .args .image)) (s .args .n .0)))) = c .before .binds-rest .ensures ∙ ap (λ fs. ltb 0 (fieldIn fs (firstEntry + entryCount fs))) (c .before .before .term-fields .ensures) in
+    let m : c .with-one .result ≡ withOne (k - 3) (c .before .binds-rest .result) = c .with-one .ensures in
+    (m ∙ (match-binds (s .pre .0) (s .pre .1) e (c .before .binds-rest .result) r k q ∙ ap (λ x. branchVariables x (others L (s .args .n .0))) (sym e)), subst (λ x. x ≤ 4096) (sym m) (few-with-one (k - 3) (c .before .binds-rest .result) (omega arith)))
 
 -- src/lib.rt:105:1
 returns-2 : tie.Need-returns-2

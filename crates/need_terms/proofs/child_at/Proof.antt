@@ -34,7 +34,14 @@ child-of-requires c κs = let s = c .before .before .before .before .before in l
 
 -- src/lib.rt:52:1
 returns : tie.Need-returns
-returns c = let s = c .before .before .before .before .before .before in let L = recordsOf (now (s .args .image)) in let k = termKind L (s .args .n .0) in let j = s .args .j in let e = c .child-of .ensures k (c .before .before .kind-at .ensures) ∙ (ap (λ fs. getD (childrenIn fs k) j 0) (c .before .before .before .term-fields .ensures) ∙ ap (λ es. getD es j 0) (children-in (s .pre .0) (s .pre .1) refl)) in (e, subst (λ x. x < s .args .n .0) (sym e) (child-lower (s .pre .0) (s .pre .1) {k = k} refl j (s .pre .2)))
+returns c =
+    let at-term-fields = c .before .before .before in
+    let s = at-term-fields .before .before .before in
+    let L = recordsOf (now (s .args .image)) in
+    let k = termKind L (s .args .n .0) in
+    let j = s .args .j in
+    let e = c .child-of .ensures k (c .before .before .kind-at .ensures) ∙ (ap (λ fs. getD (childrenIn fs k) j 0) (at-term-fields .term-fields .ensures) ∙ ap (λ es. getD es j 0) (children-in (s .pre .0) (s .pre .1) refl)) in
+    (e, subst (λ x. x < s .args .n .0) (sym e) (child-lower (s .pre .0) (s .pre .1) {k = k} refl j (s .pre .2)))
 
 pub child-at-spec : {M : Type 1} → statement M
 child-at-spec =

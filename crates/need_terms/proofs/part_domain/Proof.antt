@@ -30,7 +30,12 @@ term-fields-requires c κs = search needs
 
 -- src/lib.rt:85:28
 own-descriptor-requires : tie.Need-own-descriptor-requires
-own-descriptor-requires c κs = let s = c .before .before .before .before .before .before in let y = typed-in (s .pre .0 .terms) (s .pre .1) in let t = y .type in let m = s .pre .0 .types .enough in rw (c .term-fields .ensures) (y .long, omega arith)
+own-descriptor-requires c κs =
+    let s = c .before .before .before .before .before .before in
+    let y = typed-in (s .pre .0 .terms) (s .pre .1) in
+    let t = y .type in
+    let m = s .pre .0 .types .enough in
+    rw (c .term-fields .ensures) (y .long, omega arith)
 
 -- src/lib.rt:85:9
 domain-of-requires : tie.Need-domain-of-requires
@@ -42,7 +47,13 @@ cast-result c = search needs
 
 -- src/lib.rt:85:9
 returns : tie.Need-returns
-returns c = let s = c .before .before .before .before .before .before .before .before in let L = recordsOf (now (s .args .image)) in let e = same-term-kind (termKind (recordsOf (now (s .args .image))) (s .args .n .0)) TermKind.adv (sym (c .before .before .before .before .kind-at .ensures) ∙ c .before .before .before .if1 .taken) in (c .domain-of .ensures .0 ∙ (ap descriptorDomain (c .before .own-descriptor .ensures) ∙ stated-domain (s .pre .0) (s .pre .1) _ (c .before .before .term-fields .ensures))) ∙ ap (λ k. partDomain k (statedType L (s .args .n .0)) (others L (s .args .n .0))) (sym e)
+returns c =
+    let at-if1 = c .before .before .before in
+    let at-kind-at = at-if1 .before in
+    let s = at-kind-at .before .before .before .before in
+    let L = recordsOf (now (s .args .image)) in
+    let e = same-term-kind (termKind (recordsOf (now (s .args .image))) (s .args .n .0)) TermKind.adv (sym (at-kind-at .kind-at .ensures) ∙ at-if1 .if1 .taken) in
+    (c .domain-of .ensures .0 ∙ (ap descriptorDomain (c .before .own-descriptor .ensures) ∙ stated-domain (s .pre .0) (s .pre .1) _ (c .before .before .term-fields .ensures))) ∙ ap (λ k. partDomain k (statedType L (s .args .n .0)) (others L (s .args .n .0))) (sym e)
 
 -- src/lib.rt:88:28
 term-fields-requires-2 : tie.Need-term-fields-requires-2
@@ -50,15 +61,27 @@ term-fields-requires-2 c κs = search needs
 
 -- src/lib.rt:88:9
 other-field-requires : tie.Need-other-field-requires
-other-field-requires c κs = let s = c .before .before .before .before .before .before .before in let e = same-term-kind (termKind (recordsOf (now (s .args .image))) (s .args .n .0)) TermKind.lower (sym (c .before .before .before .kind-at .ensures) ∙ c .before .if2 .taken) in rw (c .term-fields2 .ensures) (second-in (s .pre .0 .terms) (s .pre .1) e refl)
+other-field-requires c κs =
+    let at-kind-at = c .before .before .before in
+    let s = at-kind-at .before .before .before .before in
+    let e = same-term-kind (termKind (recordsOf (now (s .args .image))) (s .args .n .0)) TermKind.lower (sym (at-kind-at .kind-at .ensures) ∙ c .before .if2 .taken) in
+    rw (c .term-fields2 .ensures) (second-in (s .pre .0 .terms) (s .pre .1) e refl)
 
 -- src/lib.rt:88:9
 returns-2 : tie.Need-returns-2
-returns-2 c = let s = c .before .before .before .before .before .before .before .before in let L = recordsOf (now (s .args .image)) in let e = same-term-kind (termKind (recordsOf (now (s .args .image))) (s .args .n .0)) TermKind.lower (sym (c .before .before .before .before .kind-at .ensures) ∙ c .before .before .if2 .taken) in (c .other-field .ensures ∙ lower-domain (s .pre .0 .terms) (s .pre .1) e _ (c .before .term-fields2 .ensures)) ∙ ap (λ k. partDomain k (statedType L (s .args .n .0)) (others L (s .args .n .0))) (sym e)
+returns-2 c =
+    let at-kind-at = c .before .before .before .before in
+    let s = at-kind-at .before .before .before .before in
+    let L = recordsOf (now (s .args .image)) in
+    let e = same-term-kind (termKind (recordsOf (now (s .args .image))) (s .args .n .0)) TermKind.lower (sym (at-kind-at .kind-at .ensures) ∙ c .before .before .if2 .taken) in
+    (c .other-field .ensures ∙ lower-domain (s .pre .0 .terms) (s .pre .1) e _ (c .before .term-fields2 .ensures)) ∙ ap (λ k. partDomain k (statedType L (s .args .n .0)) (others L (s .args .n .0))) (sym e)
 
 -- src/lib.rt:79:1
 returns-3 : tie.Need-returns-3
-returns-3 c = let s = c .before .before .before .before .before .before in let L = recordsOf (now (s .args .image)) in no-domain (termKind L (s .args .n .0)) (statedType L (s .args .n .0)) (others L (s .args .n .0)) (λ e. c .before .if1 .left (c .before .before .kind-at .ensures ∙ e)) (λ e. c .if2 .left (c .before .before .kind-at .ensures ∙ e))
+returns-3 c =
+    let s = c .before .before .before .before .before .before in
+    let L = recordsOf (now (s .args .image)) in
+    no-domain (termKind L (s .args .n .0)) (statedType L (s .args .n .0)) (others L (s .args .n .0)) (λ e. c .before .if1 .left (c .before .before .kind-at .ensures ∙ e)) (λ e. c .if2 .left (c .before .before .kind-at .ensures ∙ e))
 
 pub part-domain-spec : {M : Type 1} → statement M
 part-domain-spec =

@@ -21,11 +21,11 @@ use Rattle.need_walk.proofs.walk.Reads as walk
 use Rattle.need_walk.proofs.walk.Kinds as walk-kinds
 use Rattle.need_walk.proofs.+walk.Lts-walk as walk-lts
 use Rattle.check_rules.proofs.leaf.is_leaf.Reads as is-leaf-reads
-use Rattle.need_sums.proofs.own.added.Reads as added-reads
-use Rattle.need_sums.proofs.own.chosen.Reads as chosen-reads
-use Rattle.need_sums.proofs.own.own_needs.Reads as own-needs-reads
+use Rattle.need_own.proofs.own.added.Reads as added-reads
+use Rattle.need_own.proofs.own.chosen.Reads as chosen-reads
+use Rattle.need_own.proofs.own.own_needs.Reads as own-needs-reads
 use Rattle.need_sums.proofs.places.child_stand.Reads as child-stand-reads
-use Rattle.need_sums.proofs.rows.at_mark.Reads as at-mark-reads
+use Rattle.need_own.proofs.rows.at_mark.Reads as at-mark-reads
 use Rattle.need_sums.proofs.shapes.role_at.Reads as role-at-reads
 use Rattle.need_sums.proofs.sums.add.Reads as add-reads
 use Rattle.need_sums.proofs.sums.dearer.Reads as dearer-reads
@@ -106,7 +106,9 @@ walk-returns t c =
     c .no-needs .ensures ∙ skip-none (termAt L (rootOf L)) (s .args .at .stand) (termAt L (s .args .at .term .0)) (sym (c .before .before .skips-all .ensures) ∙ c .before .if1 .taken)
 
 walk-is-leaf-requires : (t : ℕ) → walk-lts.Need-is-leaf-requires (claims t) (walk-at t) walk.Post walk-Inv-loop walk-μ-loop
-walk-is-leaf-requires t c κs = let s = c .before .before .before .before .before .before .before .before in (s .pre .1 .0 .terms, s .pre .1 .1)
+walk-is-leaf-requires t c κs =
+    let s = c .before .before .before .before .before .before .before .before in
+    (s .pre .1 .0 .terms, s .pre .1 .1)
 
 walk-no-needs-requires-2 : (t : ℕ) → walk-lts.Need-no-needs-requires-2 (claims t) (walk-at t) walk.Post walk-Inv-loop walk-μ-loop
 walk-no-needs-requires-2 t c κs = search needs
@@ -121,29 +123,44 @@ walk-returns-2 t c =
     c .no-needs2 .ensures ∙ leaf-none L n (subst (λ x. x ≤ 35) m k) (s .args .at .stand)
 
 walk-shape-at-requires : (t : ℕ) → walk-lts.Need-shape-at-requires (claims t) (walk-at t) walk.Post walk-Inv-loop walk-μ-loop
-walk-shape-at-requires t c κs = let s = c .before .before .before .before .before .before .before .before .before .before in (s .pre .1 .0 .terms, s .pre .1 .1)
+walk-shape-at-requires t c κs =
+    let s = c .before .before .before .before .before .before .before .before .before .before in
+    (s .pre .1 .0 .terms, s .pre .1 .1)
 
 walk-part-domain-requires : (t : ℕ) → walk-lts.Need-part-domain-requires (claims t) (walk-at t) walk.Post walk-Inv-loop walk-μ-loop
-walk-part-domain-requires t c κs = let s = c .before .before .before .before .before .before .before .before .before .before .before in (s .pre .1 .0, s .pre .1 .1)
+walk-part-domain-requires t c κs =
+    let s = c .before .before .before .before .before .before .before .before .before .before .before in
+    (s .pre .1 .0, s .pre .1 .1)
 
 walk-branch-variables-requires : (t : ℕ) → walk-lts.Need-branch-variables-requires (claims t) (walk-at t) walk.Post walk-Inv-loop walk-μ-loop
-walk-branch-variables-requires t c κs = let s = c .before .before .before .before .before .before .before .before .before .before .before .before in (s .pre .1 .0 .terms, s .pre .1 .1)
+walk-branch-variables-requires t c κs =
+    let s = c .before .before .before .before .before .before .before .before .before .before .before .before in
+    (s .pre .1 .0 .terms, s .pre .1 .1)
 
 walk-child-count-requires : (t : ℕ) → walk-lts.Need-child-count-requires (claims t) (walk-at t) walk.Post walk-Inv-loop walk-μ-loop
-walk-child-count-requires t c κs = let s = c .before .before .before .before .before .before .before .before .before .before .before .before .before in (s .pre .1 .0 .terms, s .pre .1 .1)
+walk-child-count-requires t c κs =
+    let s = c .before .before .before .before .before .before .before .before .before .before .before .before .before in
+    (s .pre .1 .0 .terms, s .pre .1 .1)
 
 walk-at-mark-requires : (t : ℕ) → walk-lts.Need-at-mark-requires (claims t) (walk-at t) walk.Post walk-Inv-loop walk-μ-loop
-walk-at-mark-requires t c κs = let s = c .before .before .before .before .before .before .before .before .before .before .before .before .before .before in (kept-row (recordsOf (now (s .args .image))) (s .args .at .stand) (s .args .at .term .0) (s .pre .1 .2), s .pre .1 .3)
+walk-at-mark-requires t c κs =
+    let s = c .before .before .before .before .before .before .before .before .before .before .before .before .before .before in
+    (kept-row (recordsOf (now (s .args .image))) (s .args .at .stand) (s .args .at .term .0) (s .pre .1 .2), s .pre .1 .3)
 
 walk-own-needs-requires : (t : ℕ) → walk-lts.Need-own-needs-requires (claims t) (walk-at t) walk.Post walk-Inv-loop walk-μ-loop
-walk-own-needs-requires t c κs = let d = c .before .before .before .before .before .before .before .before .before .before .before .before .before .before .before .pre .1 .2 .deep in omega arith
+walk-own-needs-requires t c κs =
+    let start = c .before .before .before .before .before .before .before .before .before .before .before .before .before .before .before in
+    let d = start .pre .1 .2 .deep in
+    omega arith
 
 walk-no-needs-requires-3 : (t : ℕ) → walk-lts.Need-no-needs-requires-3 (claims t) (walk-at t) walk.Post walk-Inv-loop walk-μ-loop
 walk-no-needs-requires-3 t c κs = search needs
 
 walk-loop-holds : (t : ℕ) → walk-lts.Need-loop-holds (claims t) (walk-at t) walk.Post walk-Inv-loop walk-μ-loop
 walk-loop-holds t c =
-    let s = c .before .before .before .before .before .before .before .before .before .before .before .before .before .before .before .before .before in
+    let at-part-domain = c .before .before .before .before .before in
+    let at-shape-at = at-part-domain .before in
+    let s = at-shape-at .before .before .before .before .before .before .before .before .before .before .before in
     let L = recordsOf (now (s .args .image)) in
     let n = s .args .at .term .0 in
     let S = s .args .at .stand in
@@ -151,8 +168,8 @@ walk-loop-holds t c =
     let d = P .deep in
     let own = shapeOf (termKind L n) .own in
     let o = c .before .own-needs .ensures
-    ∙ (ap (λ x. ownNeeds (x .own) S (c .before .before .before .before .before .part-domain .result) (c .before .before .at-mark .result)) (c .before .before .before .before .before .before .shape-at .ensures)
-    ∙ (ap (λ x. ownNeeds own S x (c .before .before .at-mark .result)) (c .before .before .before .before .before .part-domain .ensures)
+    ∙ (ap (λ x. ownNeeds (x .own) S (at-part-domain .part-domain .result) (c .before .before .at-mark .result)) (at-shape-at .shape-at .ensures)
+    ∙ (ap (λ x. ownNeeds own S x (c .before .before .at-mark .result)) (at-part-domain .part-domain .ensures)
     ∙ (ap (λ x. ownNeeds own S (domain-at L n) x) (c .before .before .at-mark .ensures) ∙ own-cut L S (omega arith) (kept-row L S n P) own (domain-at L n) (s .args .each) (now (s .args .rows)) (s .pre .1 .4)))) in
     (omega arith, o ∙ sum-start L n S, c .no-needs3 .ensures ∙ choice-start L n S)
 
@@ -161,9 +178,10 @@ walk-role-at-requires t c κs = search needs
 
 walk-child-at-requires : (t : ℕ) → walk-lts.Need-child-at-requires (claims t) (walk-at t) walk.Post walk-Inv-loop walk-μ-loop
 walk-child-at-requires t c κs =
-    let s = c .before .before .before .before .before .before .before .before .before .before .before .before .before .before .before .before .before .before .before .before in
+    let at-child-count = c .before .before .before .before .before .before in
+    let s = at-child-count .before .before .before .before .before .before .before .before .before .before .before .before .before .before in
     let h = c .before .loop-test .taken in
-    let k = c .before .before .before .before .before .before .child-count .ensures in
+    let k = at-child-count .child-count .ensures in
     (s .pre .1 .0 .terms, s .pre .1 .1, omega arith)
 
 walk-child-stand-requires : (t : ℕ) → walk-lts.Need-child-stand-requires (claims t) (walk-at t) walk.Post walk-Inv-loop walk-μ-loop
@@ -175,22 +193,26 @@ walk-child-stand-requires t c κs =
 
 walk-walk-requires : (t : ℕ) → walk-lts.Need-walk-requires (claims t) (walk-at t) walk.Post walk-Inv-loop walk-μ-loop
 walk-walk-requires t c κs =
-    let s = c .before .before .before .before .before .before .before .before .before .before .before .before .before .before .before .before .before .before .before .before .before .before in
+    let at-loop-test = c .before .before .before in
+    let at-loop = at-loop-test .before in
+    let at-child-count = at-loop .before .before .before .before in
+    let at-part-domain = at-child-count .before .before in
+    let s = at-part-domain .before .before .before .before .before .before .before .before .before .before .before .before in
     let L = recordsOf (now (s .args .image)) in
     let S = s .args .at .stand in
     let n = s .args .at .term .0 in
     let role = c .before .before .role-at .result in
-    let p = c .before .before .before .before .before .before .before .before .before .before .part-domain .result in
+    let p = at-part-domain .part-domain .result in
     let e = c .before .child-at .result .0 in
     let q = c .child-stand .ensures in
     let low = c .before .child-at .ensures .1 in
     let i = s .pre .1 .1 in
-    let h = c .before .before .before .loop-test .taken in
-    let k = c .before .before .before .before .before .before .before .before .child-count .ensures in
+    let h = at-loop-test .loop-test .taken in
+    let k = at-child-count .child-count .ensures in
     let w = s .args .each in
     let rows = now (s .args .rows) in
-    let child : IsChild L n (c .before .before .before .before .loop .j) e = record { there = i; place = omega arith; is = sym (c .before .child-at .ensures .0) } in
-    let placed = child-placed L S n e p (c .before .before .before .before .loop .j) role low child (s .pre .1 .2) in
+    let child : IsChild L n (at-loop .loop .j) e = record { there = i; place = omega arith; is = sym (c .before .child-at .ensures .0) } in
+    let placed = child-placed L S n e p (at-loop .loop .j) role low child (s .pre .1 .2) in
     (rw (← s .pre .0) low, (s .pre .1 .0, omega arith, subst (λ y. Placed L y e) (sym q) placed, s .pre .1 .3, subst (λ y. Known L y w rows) (sym q) (child-known L S role p w rows (s .pre .1 .4))))
 
 walk-added-requires : (t : ℕ) → walk-lts.Need-added-requires (claims t) (walk-at t) walk.Post walk-Inv-loop walk-μ-loop
@@ -207,48 +229,65 @@ walk-dearer-requires t c κs = search needs
 
 walk-add-j : (t : ℕ) → walk-lts.Need-add-j (claims t) (walk-at t) walk.Post walk-Inv-loop walk-μ-loop
 walk-add-j t c =
-    let s = c .before .before .before .before .before .before .before .before .before .before .before .before .before .before .before .before .before .before .before .before .before .before .before .before .before .before .before in
-    let h = c .before .before .before .before .before .before .before .before .loop-test .taken in
-    let k = c .before .before .before .before .before .before .before .before .before .before .before .before .before .child-count .ensures in
+    let at-loop-test = c .before .before .before .before .before .before .before .before in
+    let at-child-count = at-loop-test .before .before .before .before .before in
+    let s = at-child-count .before .before .before .before .before .before .before .before .before .before .before .before .before .before in
+    let h = at-loop-test .loop-test .taken in
+    let k = at-child-count .child-count .ensures in
     let f = few-children (recordsOf (now (s .args .image))) (good-of (now (s .args .image)) (s .pre .1 .0 .terms .laid-out)) (s .args .at .term .0) (s .pre .1 .1) in
     omega arith
 
 walk-loop-less : (t : ℕ) → walk-lts.Need-loop-less (claims t) (walk-at t) walk.Post walk-Inv-loop walk-μ-loop
-walk-loop-less t c = let h = c .before .before .before .before .before .before .before .before .loop-test .taken in omega arith
+walk-loop-less t c =
+    let at-loop-test = c .before .before .before .before .before .before .before .before in
+    let h = at-loop-test .loop-test .taken in
+    omega arith
 
 walk-loop-again : (t : ℕ) → walk-lts.Need-loop-again (claims t) (walk-at t) walk.Post walk-Inv-loop walk-μ-loop
 walk-loop-again t c =
-    let s = c .before .before .before .before .before .before .before .before .before .before .before .before .before .before .before .before .before .before .before .before .before .before .before .before .before .before .before in
+    let at-added = c .before .before .before in
+    let at-walk = at-added .before in
+    let at-child-stand = at-walk .before in
+    let at-child-at = at-child-stand .before in
+    let at-role-at = at-child-at .before in
+    let at-loop-test = at-role-at .before in
+    let at-loop = at-loop-test .before in
+    let at-child-count = at-loop .before .before .before .before in
+    let at-branch-variables = at-child-count .before in
+    let at-part-domain = at-branch-variables .before in
+    let at-shape-at = at-part-domain .before in
+    let s = at-shape-at .before .before .before .before .before .before .before .before .before .before .before in
     let L = recordsOf (now (s .args .image)) in
     let S = s .args .at .stand in
     let n = s .args .at .term .0 in
-    let l = c .before .before .before .before .before .before .before .before .before .loop in
+    let l = at-loop .loop in
     let R = termAt L (rootOf L) in
-    let role = c .before .before .before .before .before .before .before .role-at .result in
-    let p = c .before .before .before .before .before .before .before .before .before .before .before .before .before .before .before .part-domain .result in
-    let e = c .before .before .before .before .before .before .child-at .result .0 in
-    let x = c .before .before .before .before .walk .result in
-    let k = c .before .before .before .before .before .before .before .before .before .before .before .before .before .child-count .ensures in
-    let t′ = c .before .before .before .before .before .before .before .before .loop-test .taken in
-    let hx = c .before .before .before .before .walk .ensures ∙ ap (λ y. cutNeeds (counted R y (termAt L e))) (c .before .before .before .before .before .child-stand .ensures) in
-    let hr = c .before .before .before .before .before .before .before .role-at .ensures ∙ ap (λ y. roleAt y (l .j)) (c .before .before .before .before .before .before .before .before .before .before .before .before .before .before .before .before .shape-at .ensures) in
-    let hp = c .before .before .before .before .before .before .before .before .before .before .before .before .before .before .before .part-domain .ensures in
-    let he = c .before .before .before .before .before .before .child-at .ensures .0 in
+    let role = at-role-at .role-at .result in
+    let p = at-part-domain .part-domain .result in
+    let e = at-child-at .child-at .result .0 in
+    let x = at-walk .walk .result in
+    let k = at-child-count .child-count .ensures in
+    let t′ = at-loop-test .loop-test .taken in
+    let hx = at-walk .walk .ensures ∙ ap (λ y. cutNeeds (counted R y (termAt L e))) (at-child-stand .child-stand .ensures) in
+    let hr = at-role-at .role-at .ensures ∙ ap (λ y. roleAt y (l .j)) (at-shape-at .shape-at .ensures) in
+    let hp = at-part-domain .part-domain .ensures in
+    let he = at-child-at .child-at .ensures .0 in
     let h : l .j < length (children L n) = omega arith in
-    let v = c .before .before .before .before .before .before .before .before .before .before .before .before .before .before .branch-variables in
-    (omega arith, sum-turn L n S (l .j) h role p e x hr hp he hx (l .sum) (c .before .before .before .added .result) (c .before .before .add .result) (l .inv .1) (c .before .before .before .added .ensures) (c .before .before .add .ensures), choice-turn L n S (l .j) h role p e x hr hp he hx (l .choice) (v .result) (c .before .chosen .result) (c .dearer .result) (l .inv .2) (v .ensures .0) (v .ensures .1) (c .before .chosen .ensures) (c .dearer .ensures))
+    let v = at-branch-variables .branch-variables in
+    (omega arith, sum-turn L n S (l .j) h role p e x hr hp he hx (l .sum) (at-added .added .result) (c .before .before .add .result) (l .inv .1) (at-added .added .ensures) (c .before .before .add .ensures), choice-turn L n S (l .j) h role p e x hr hp he hx (l .choice) (v .result) (c .before .chosen .result) (c .dearer .result) (l .inv .2) (v .ensures .0) (v .ensures .1) (c .before .chosen .ensures) (c .dearer .ensures))
 
 walk-add-requires-2 : (t : ℕ) → walk-lts.Need-add-requires-2 (claims t) (walk-at t) walk.Post walk-Inv-loop walk-μ-loop
 walk-add-requires-2 t c κs = search needs
 
 walk-returns-3 : (t : ℕ) → walk-lts.Need-returns-3 (claims t) (walk-at t) walk.Post walk-Inv-loop walk-μ-loop
 walk-returns-3 t c =
-    let s = c .before .before .before .before .before .before .before .before .before .before .before .before .before .before .before .before .before .before .before .before in
+    let at-child-count = c .before .before .before .before .before .before in
+    let s = at-child-count .before .before .before .before .before .before .before .before .before .before .before .before .before .before in
     let L = recordsOf (now (s .args .image)) in
     let S = s .args .at .stand in
     let n = s .args .at .term .0 in
     let l = c .before .before .loop in
-    let k = c .before .before .before .before .before .before .child-count .ensures in
+    let k = at-child-count .child-count .ensures in
     let all = c .before .loop-test .left in
     let h : length (children L n) ≤ l .j = omega arith in
     all-through L n (good-of (now (s .args .image)) (s .pre .1 .0 .terms .laid-out)) (s .pre .1 .1) (λ e. match-three (s .pre .1 .0 .terms) (s .pre .1 .1) e) S (l .j) h (l .sum) (l .choice) (c .add2 .result) (l .inv .1) (l .inv .2) (c .add2 .ensures)

@@ -42,7 +42,12 @@ term-place-requires c κs = search needs
 -- src/lib.rt:78:9
 returns : tie.Need-returns
 returns c =
-    let s = c .before .before .before .before .before .before in let few = good-of (now (s .args .image)) (s .pre .0 .terms .laid-out) .few-terms in let some = s .pre .1 in let e = s .pre .2 in let L = recordsOf (now (s .args .image)) in outside-told L (omega arith) (s .args .count) (c .before .before .lowest-fault .result) e (c .before .before .lowest-fault .ensures) (c .before .if1 .taken) (c .term-place .result) (c .term-place .ensures .0)
+    let s = c .before .before .before .before .before .before in
+    let few = good-of (now (s .args .image)) (s .pre .0 .terms .laid-out) .few-terms in
+    let some = s .pre .1 in
+    let e = s .pre .2 in
+    let L = recordsOf (now (s .args .image)) in
+    outside-told L (omega arith) (s .args .count) (c .before .before .lowest-fault .result) e (c .before .before .lowest-fault .ensures) (c .before .if1 .taken) (c .term-place .result) (c .term-place .ensures .0)
 
 -- src/lib.rt:80:21
 program-needs-requires : tie.Need-program-needs-requires
@@ -51,7 +56,12 @@ program-needs-requires c κs = search needs
 -- src/lib.rt:71:1
 returns-2 : tie.Need-returns-2
 returns-2 c =
-    let s = c .before .before .before .before .before .before in let few = good-of (now (s .args .image)) (s .pre .0 .terms .laid-out) .few-terms in let some = s .pre .1 in let e = s .pre .2 in let L = recordsOf (now (s .args .image)) in known-told L (omega arith) (s .args .count) (c .before .before .lowest-fault .result) e (c .before .before .lowest-fault .ensures) (c .before .if1 .left) (c .program-needs .result) (c .program-needs .ensures)
+    let s = c .before .before .before .before .before .before in
+    let few = good-of (now (s .args .image)) (s .pre .0 .terms .laid-out) .few-terms in
+    let some = s .pre .1 in
+    let e = s .pre .2 in
+    let L = recordsOf (now (s .args .image)) in
+    known-told L (omega arith) (s .args .count) (c .before .before .lowest-fault .result) e (c .before .before .lowest-fault .ensures) (c .before .if1 .left) (c .program-needs .result) (c .program-needs .ensures)
 
 pub forecast-accepted-spec : {M : Type 1} → statement M
 forecast-accepted-spec =

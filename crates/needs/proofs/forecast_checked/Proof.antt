@@ -58,12 +58,17 @@ forecast-accepted-requires c κs =
 -- src/lib.rt:84:1
 returns : tie.Need-returns
 returns c =
-    let s = c .before .before .before .before .before .before .before .before .before .before .before .before in refused-told (now (s .args .image)) (s .pre) _ (c .before .before .before .before .examine-image .ensures .0 .answer) _ _ (c .before .checked .given .1)
+    let at-examine-image = c .before .before .before .before in
+    let s = at-examine-image .before .before .before .before .before .before .before .before in
+    refused-told (now (s .args .image)) (s .pre) _ (at-examine-image .examine-image .ensures .0 .answer) _ _ (c .before .checked .given .1)
 
 -- src/lib.rt:84:1
 returns-2 : tie.Need-returns-2
 returns-2 c =
-    let s = c .before .before .before .before .before .before .before .before .before .before .before .before .before .before .before in accepted-told (now (s .args .image)) (s .pre) _ (c .before .before .before .before .before .before .before .examine-image .ensures .0 .answer) _ (c .before .before .before .before .checked2 .given .1) (c .forecast-accepted .result) (c .forecast-accepted .ensures)
+    let at-checked2 = c .before .before .before .before in
+    let at-examine-image = at-checked2 .before .before .before in
+    let s = at-examine-image .before .before .before .before .before .before .before .before in
+    accepted-told (now (s .args .image)) (s .pre) _ (at-examine-image .examine-image .ensures .0 .answer) _ (at-checked2 .checked2 .given .1) (c .forecast-accepted .result) (c .forecast-accepted .ensures)
 
 pub forecast-checked-spec : {M : Type 1} → statement M
 forecast-checked-spec =

@@ -52,14 +52,18 @@ slice-aggregate-walk-2 c = search needs
 
 walk-requires-2 : tie.Need-walk-requires-2
 walk-requires-2 c κs =
-    let s = c .before .before .before .before .before .before .before .before .before .before .before .before .before in
+    let at-add-pieces = c .before .before .before in
+    let at-level-stand2 = at-add-pieces .before .before in
+    let at-walk = at-level-stand2 .before in
+    let at-level-stand = at-walk .before .before in
+    let s = at-level-stand .before .before .before .before .before in
     let L = recordsOf (now (s .args .image)) in
     let few = good-of (now (s .args .image)) (s .pre .0 .terms .laid-out) .few-terms in
     let some = s .pre .1 in
     let root = s .pre .2 in
-    let rows = c .before .before .before .add-pieces .last .1 .1 .1 .1 .1 .0 in
-    let known : Known L programStand (c .before .before .before .before .before .before .walk .result) rows = marks-known L (c .before .before .before .before .before .before .before .before .level-stand .result) (c .before .before .before .before .before .level-stand2 .result) (s .args .root .0) (c .before .before .before .before .before .before .walk .result) rows (c .before .before .before .before .before .before .before .before .level-stand .ensures) (c .before .before .before .before .before .level-stand2 .ensures) root (c .before .before .before .before .before .before .walk .ensures) (c .before .before .before .add-pieces .ensures) in
-    (s .pre .0, omega arith, program-placed L _ _ (c .before .program-stand .ensures) root (omega arith) (s .pre .3), c .before .before .before .add-pieces .kept .1 .1 .1 .1 .1 .0, rw (c .before .program-stand .ensures) known)
+    let rows = at-add-pieces .add-pieces .last .1 .1 .1 .1 .1 .0 in
+    let known : Known L programStand (at-walk .walk .result) rows = marks-known L (at-level-stand .level-stand .result) (at-level-stand2 .level-stand2 .result) (s .args .root .0) (at-walk .walk .result) rows (at-level-stand .level-stand .ensures) (at-level-stand2 .level-stand2 .ensures) root (at-walk .walk .ensures) (at-add-pieces .add-pieces .ensures) in
+    (s .pre .0, omega arith, program-placed L _ _ (c .before .program-stand .ensures) root (omega arith) (s .pre .3), at-add-pieces .add-pieces .kept .1 .1 .1 .1 .1 .0, rw (c .before .program-stand .ensures) known)
 
 returns : tie.Need-returns
 returns c =

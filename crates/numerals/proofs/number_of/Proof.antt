@@ -36,8 +36,10 @@ loop-less c = search needs
 
 loop-again : tie.Need-loop-again Inv-loop μ-loop
 loop-again c =
-    let s = c .before .before .before .before .before .before .args in
-    let l = c .before .before .before .loop in
+    let at-loop = c .before .before .before in
+    let start = at-loop .before .before .before in
+    let s = start .args in
+    let l = at-loop .loop in
     (search needs, l .inv .1 ∙ one-more (s .most) (now (s .digits)) (l .said) (l .i) (search needs) ∙ ap (λ x. afterAll (s .most) x (drop (l .i + 1) (now (s .digits)))) (sym (c .with-byte .ensures)))
 
 returns-2 : tie.Need-returns-2 Inv-loop μ-loop

@@ -42,7 +42,14 @@ same-length-2 : tie.Need-same-length-2
 same-length-2 c = search needs
 
 returns-2 : tie.Need-returns-2
-returns-2 c = let s = c .before .before .before .before .before .before .before .before .before .before .before .before .before in let a = s .args in printed (now (a .work)) _ (now (a .log)) _ (a .r) _ (a .w) (a .x) (s .pre .1) _ _ (c .before .before .before .before .before .before .before .before .before .before .if1 .left) (c .before .before .before .before .before .before .before .before .domain-of .ensures) (c .before .before .before .before .before .before .before .body .ensures) (c .before .before .before .before .before .before .put-log .ensures) (c .before .before .given .ensures)
+returns-2 c =
+    let at-put-log = c .before .before .before .before .before .before in
+    let at-body = at-put-log .before in
+    let at-domain-of = at-body .before in
+    let at-if1 = at-domain-of .before .before in
+    let s = at-if1 .before .before .before in
+    let a = s .args in
+    printed (now (a .work)) _ (now (a .log)) _ (a .r) _ (a .w) (a .x) (s .pre .1) _ _ (at-if1 .if1 .left) (at-domain-of .domain-of .ensures) (at-body .body .ensures) (at-put-log .put-log .ensures) (c .before .before .given .ensures)
 
 pub reduce-print-spec : {M : Type 1} → statement M
 reduce-print-spec =

@@ -6,7 +6,9 @@ use Rattle.write_fixed.proofs.write_checked.Statement.{statement}
 use Rattle.write_fixed.proofs.write_checked.Tie as tie
 
 returns : tie.Need-returns
-returns c = let s = c .before .before .before .before .before .before .before in short-left (now (s .args .image)) (now (s .args .out)) (s .pre .0) (s .pre .1) (c .if1 .taken)
+returns c =
+    let s = c .before .before .before .before .before .before .before in
+    short-left (now (s .args .image)) (now (s .args .out)) (s .pre .0) (s .pre .1) (c .if1 .taken)
 
 write-whole-requires : tie.Need-write-whole-requires
 write-whole-requires c κs =
@@ -19,9 +21,10 @@ same-length c = search needs
 
 returns-2 : tie.Need-returns-2
 returns-2 c =
-    let s = c .before .before .before .before .before .before .before .before .before .before .before in
+    let at-if1 = c .before .before .before .before in
+    let s = at-if1 .before .before .before .before .before .before .before in
     let w = c .before .before .write-whole in
-    written-left (now (s .args .image)) (now (s .args .out)) (s .pre .0) (s .pre .1) _ _ (c .before .before .before .before .if1 .left) (w .ensures .0) (w .ensures .1)
+    written-left (now (s .args .image)) (now (s .args .out)) (s .pre .0) (s .pre .1) _ _ (at-if1 .if1 .left) (w .ensures .0) (w .ensures .1)
 
 pub write-checked-spec : {M : Type 1} → statement M
 write-checked-spec = tie.close (tie.spec returns write-whole-requires same-length returns-2)

@@ -42,15 +42,21 @@ slice-aggregate-write-checked-4 c = search needs
 
 write-checked-requires : tie.Need-write-checked-requires
 write-checked-requires c κs =
-    let t = c .before .before .before .before .before .before .checked2 .given .1 in
-    let e = c .before .before .before .before .before .before .before .before .before .examine-image .ensures .0 in
+    let at-checked2 = c .before .before .before .before .before .before in
+    let at-examine-image = at-checked2 .before .before .before in
+    let at-kind-codes = at-examine-image .before .before .before .before .before .before in
+    let at-if1 = at-kind-codes .before in
+    let t = at-checked2 .checked2 .given .1 in
+    let e = at-examine-image .examine-image .ensures .0 in
     let f = e .filled _ t in
-    (c .before .before .before .before .before .before .before .before .before .before .before .before .before .before .before .before .if1 .left, sym (e .answer) ∙ ap verdictOf t, c .before .before .before .before .before .before .before .before .before .before .before .before .before .before .before .kind-codes .ensures, (_, f .tables), f .counts, record { laid-out = f .tables .laid-out; offsets = rw (← f .counts .types) (f .types) })
+    (at-if1 .if1 .left, sym (e .answer) ∙ ap verdictOf t, at-kind-codes .kind-codes .ensures, (_, f .tables), f .counts, record { laid-out = f .tables .laid-out; offsets = rw (← f .counts .types) (f .types) })
 
 returns-2 : tie.Need-returns-2
 returns-2 c =
-    let s = c .before .before .before .before .before .before .before .before .before .before .before .before .before .before in
-    examined-left (now (s .args .image)) (now (s .args .out)) (c .before .before .before .before .before .before .before .before .before .before .before .if1 .left) _ _ (ap verdictOf (sym (c .before .checked .given .1)) ∙ c .before .before .before .before .examine-image .ensures .0 .answer)
+    let at-examine-image = c .before .before .before .before in
+    let at-if1 = at-examine-image .before .before .before .before .before .before .before in
+    let s = at-if1 .before .before .before in
+    examined-left (now (s .args .image)) (now (s .args .out)) (at-if1 .if1 .left) _ _ (ap verdictOf (sym (c .before .checked .given .1)) ∙ at-examine-image .examine-image .ensures .0 .answer)
 
 same-length : tie.Need-same-length
 same-length c = search needs

@@ -56,10 +56,12 @@ is-low-watch-requires c κs =
 -- src/lib.rt:95:13
 idle-body-requires : tie.Need-idle-body-requires Inv-loop μ-loop
 idle-body-requires c κs =
-    let s = c .before .before .before .before .before .before .before .before .before .before .before .before .before in
+    let at-loop-test = c .before .before .before in
+    let at-loop = at-loop-test .before in
+    let s = at-loop .before .before .before .before .before .before .before .before .before in
     let p = s .pre .1 in
-    let m : c .before .before .before .before .loop .i < s .args .count = c .before .before .before .loop-test .taken in
-    ((s .pre .0 .0, (now (s .args .descriptors), s .pre .0 .1)), omega arith, sym (c .before .before .is-low-watch .ensures) ∙ c .before .if1 .taken, c .before .before .before .before .loop .inv .1 .same)
+    let m : at-loop .loop .i < s .args .count = at-loop-test .loop-test .taken in
+    ((s .pre .0 .0, (now (s .args .descriptors), s .pre .0 .1)), omega arith, sym (c .before .before .is-low-watch .ensures) ∙ c .before .if1 .taken, at-loop .loop .inv .1 .same)
 
 -- src/lib.rt:97:9
 add-i : tie.Need-add-i Inv-loop μ-loop
@@ -72,8 +74,9 @@ loop-less c = search needs
 -- src/lib.rt:92:5
 loop-again : tie.Need-loop-again Inv-loop μ-loop
 loop-again c =
-    let s = c .before .before .before .before .before .before .before .before .before .before .before .before in
-    let l = c .before .before .before .loop in
+    let at-loop = c .before .before .before in
+    let s = at-loop .before .before .before .before .before .before .before .before .before in
+    let l = at-loop .loop in
     let b : List ℕ = now (s .args .image) in
     let H : Dom → Bool = inMask (s .args .high) in
     let I = l .inv .1 in

@@ -42,16 +42,20 @@ in-mask-requires c κs = search needs
 -- src/lib.rt:54:9
 returns : tie.Need-returns
 returns c =
-    let s = c .before .before .before .before .before .before .before .before .before in
+    let at-if1 = c .before .before .before in
+    let at-kind-at = at-if1 .before in
+    let at-term-place = at-kind-at .before in
+    let s = at-term-place .before .before .before .before in
     ap not (c .in-mask .ensures)
-    ∙ advice-low (now (s .args .image)) (s .pre .0 .0) (now (s .args .terms)) (now (s .args .descriptors)) (s .pre .0 .1) (s .args .n .0) (s .pre .1) (s .args .high) (c .before .before .before .before .before .term-place .ensures .0) (c .before .before .before .before .kind-at .ensures) (c .before .before .before .if1 .taken)
+    ∙ advice-low (now (s .args .image)) (s .pre .0 .0) (now (s .args .terms)) (now (s .args .descriptors)) (s .pre .0 .1) (s .args .n .0) (s .pre .1) (s .args .high) (at-term-place .term-place .ensures .0) (at-kind-at .kind-at .ensures) (at-if1 .if1 .taken)
     (c .before .domain-of .ensures .0 ∙ ap descriptorDomain (c .before .before .descriptor-at .ensures))
 
 -- src/lib.rt:57:26
 field-at-requires : tie.Need-field-at-requires
 field-at-requires c κs =
-    let s = c .before .before .before .before .before .before .before in
-    lower-there (now (s .args .image)) (s .pre .0 .0) (now (s .args .terms)) (now (s .args .descriptors)) (s .pre .0 .1) (s .args .n .0) (s .pre .1) (c .before .before .before .term-place .ensures .0) (c .before .before .kind-at .ensures) (c .if2 .taken)
+    let at-term-place = c .before .before .before in
+    let s = at-term-place .before .before .before .before in
+    lower-there (now (s .args .image)) (s .pre .0 .0) (now (s .args .terms)) (now (s .args .descriptors)) (s .pre .0 .1) (s .args .n .0) (s .pre .1) (at-term-place .term-place .ensures .0) (c .before .before .kind-at .ensures) (c .if2 .taken)
 
 -- src/lib.rt:57:13
 wide-requires : tie.Need-wide-requires
@@ -64,16 +68,21 @@ in-mask-requires-2 c κs = search needs
 -- src/lib.rt:58:9
 returns-2 : tie.Need-returns-2
 returns-2 c =
-    let s = c .before .before .before .before .before .before .before .before .before .before in
+    let at-if2 = c .before .before .before in
+    let at-if1 = at-if2 .before in
+    let at-kind-at = at-if1 .before in
+    let at-term-place = at-kind-at .before in
+    let s = at-term-place .before .before .before .before in
     ap not (c .in-mask2 .ensures)
-    ∙ lower-low (now (s .args .image)) (s .pre .0 .0) (now (s .args .terms)) (now (s .args .descriptors)) (s .pre .0 .1) (s .args .n .0) (s .pre .1) (s .args .high) (c .before .before .before .before .before .before .term-place .ensures .0) (c .before .before .before .before .before .kind-at .ensures) (c .before .before .before .before .if1 .left) (c .before .before .before .if2 .taken)
+    ∙ lower-low (now (s .args .image)) (s .pre .0 .0) (now (s .args .terms)) (now (s .args .descriptors)) (s .pre .0 .1) (s .args .n .0) (s .pre .1) (s .args .high) (at-term-place .term-place .ensures .0) (at-kind-at .kind-at .ensures) (at-if1 .if1 .left) (at-if2 .if2 .taken)
     (c .before .wide .ensures .0 ∙ c .before .before .field-at .ensures)
 
 -- src/lib.rt:46:1
 returns-3 : tie.Need-returns-3
 returns-3 c =
-    let s = c .before .before .before .before .before .before .before in
-    no-watch (now (s .args .image)) (s .pre .0 .0) (now (s .args .terms)) (now (s .args .descriptors)) (s .pre .0 .1) (s .args .n .0) (s .pre .1) (s .args .high) (c .before .before .before .term-place .ensures .0) (c .before .before .kind-at .ensures) (c .before .if1 .left) (c .if2 .left)
+    let at-term-place = c .before .before .before in
+    let s = at-term-place .before .before .before .before in
+    no-watch (now (s .args .image)) (s .pre .0 .0) (now (s .args .terms)) (now (s .args .descriptors)) (s .pre .0 .1) (s .args .n .0) (s .pre .1) (s .args .high) (at-term-place .term-place .ensures .0) (c .before .before .kind-at .ensures) (c .before .if1 .left) (c .if2 .left)
 
 pub is-low-watch-spec : {M : Type 1} → statement M
 is-low-watch-spec =

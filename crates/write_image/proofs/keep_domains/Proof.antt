@@ -26,8 +26,9 @@ same-length c = search needs
 
 returns : tie.Need-returns
 returns c =
-    let s = c .before .before .before .before .before .before .before .before .before .before in
-    let m = masks-taken (now (s .args .image)) (now (s .args .doms)) _ (s .args .count) (s .pre .0) (s .pre .1) (c .before .before .before .before .before .set-masks .ensures) in
+    let at-set-masks = c .before .before .before .before .before in
+    let s = at-set-masks .before .before .before .before .before in
+    let m = masks-taken (now (s .args .image)) (now (s .args .doms)) _ (s .args .count) (s .pre .0) (s .pre .1) (at-set-masks .set-masks .ensures) in
     let w = c .before .before .write-domains .ensures in
     (w .0 ∙ ap (λ ms. length (domainBytes ms)) (m .0), w .1 ∙ ap (λ ms. over 0 (domainBytes ms) (now (s .args .out))) (m .0))
 

@@ -32,12 +32,16 @@ sub-grow c = search needs
 
 grow-requires : tie.Need-grow-requires
 grow-requires c κs =
-    let a = c .before .before .before .before .before .before .before .before .before .args in
-    let l = c .before .before .before .before .before .before .if2 .left in
+    let at-put-head = c .before .before .before in
+    let at-if3 = at-put-head .before .before in
+    let at-if2 = at-if3 .before in
+    let start = at-if2 .before .before .before in
+    let a = start .args in
+    let l = at-if2 .if2 .left in
     let m = few (a .depth - 1) (omega arith) in
-    let n = c .before .before .before .put-head .kept .0 in
-    let e = c .before .before .before .put-head .ensures .0 ∙ head-length in
-    let o = c .before .before .before .before .before .if3 .left in
+    let n = at-put-head .put-head .kept .0 in
+    let e = at-put-head .put-head .ensures .0 ∙ head-length in
+    let o = at-if3 .if3 .left in
     record { depth = omega arith; bytes = omega arith; terms = omega arith }
 
 same-length : tie.Need-same-length
@@ -45,11 +49,16 @@ same-length c = search needs
 
 returns-4 : tie.Need-returns-4
 returns-4 c =
-    let a = c .before .before .before .before .before .before .before .before .before .before .before .before .args in
-    let z = c .before .before .before .before .before .before .before .before .before .before .if1 .left in
-    let l = c .before .before .before .before .before .before .before .before .before .if2 .left in
-    let o = c .before .before .before .before .before .before .before .before .if3 .left in
-    let w = whole-image (a .depth) (a .seed) (now (a .out)) (c .before .before .before .before .before .before .put-head .ensures .0) refl refl o l (c .before .before .before .before .before .before .put-head .ensures .1) (c .before .before .grow .ensures) in
+    let at-put-head = c .before .before .before .before .before .before in
+    let at-if3 = at-put-head .before .before in
+    let at-if2 = at-if3 .before in
+    let at-if1 = at-if2 .before in
+    let start = at-if1 .before .before in
+    let a = start .args in
+    let z = at-if1 .if1 .left in
+    let l = at-if2 .if2 .left in
+    let o = at-if3 .if3 .left in
+    let w = whole-image (a .depth) (a .seed) (now (a .out)) (at-put-head .put-head .ensures .0) refl refl o l (at-put-head .put-head .ensures .1) (c .before .before .grow .ensures) in
     loaded-written (a .seed) (a .depth) (now (a .out)) (omega arith) l o (w .0) (w .1)
 
 pub generate-spec : {M : Type 1} → statement M

@@ -29,11 +29,13 @@ slice-aggregate-put-record c = search needs
 
 put-record-requires : tie.Need-put-record-requires
 put-record-requires c κs =
+    let at-write-domains = c .before .before .before .before in
+    let start = at-write-domains .before .before .before .before in
     let n = head-length in
-    let w = c .before .before .before .before .write-domains in
+    let w = at-write-domains .write-domains in
     let e : w .result ≡ 6 = w .ensures .0 ∙ domain-length in
     let k = w .kept .0 in
-    let p = c .before .before .before .before .before .before .before .before .pre in
+    let p = start .pre in
     (search needs, search needs, omega arith)
 
 slice-aggregate-put-record-2 : tie.Need-slice-aggregate-put-record-2
@@ -41,14 +43,17 @@ slice-aggregate-put-record-2 c = search needs
 
 put-record-requires-2 : tie.Need-put-record-requires-2
 put-record-requires-2 c κs =
+    let at-put-record = c .before .before .before .before in
+    let at-write-domains = at-put-record .before .before .before .before .before in
+    let start = at-write-domains .before .before .before .before in
     let n = head-length in
-    let u = c .before .before .before .before .put-record in
-    let w = c .before .before .before .before .before .before .before .before .before .write-domains in
+    let u = at-put-record .put-record in
+    let w = at-write-domains .write-domains in
     let e : w .result ≡ 6 = w .ensures .0 ∙ domain-length in
     let f = u .ensures .0 in
     let k = w .kept .0 in
     let l = u .kept .0 in
-    let p = c .before .before .before .before .before .before .before .before .before .before .before .before .before .pre in
+    let p = start .pre in
     (search needs, search needs, omega arith)
 
 same-length : tie.Need-same-length
@@ -56,11 +61,14 @@ same-length c = search needs
 
 returns : tie.Need-returns
 returns c =
-    let a = c .before .before .before .before .before .before .before .before .before .before .before .before .before .before .before .before .args in
+    let at-put-record = c .before .before .before .before .before .before .before in
+    let at-write-domains = at-put-record .before .before .before .before .before in
+    let start = at-write-domains .before .before .before .before in
+    let a = start .args in
     let n = head-length in
-    let p = c .before .before .before .before .before .before .before .before .before .before .before .before .before .before .before .before .pre in
-    let w = c .before .before .before .before .before .before .before .before .before .before .before .before .write-domains in
-    let u = c .before .before .before .before .before .before .before .put-record in
+    let p = start .pre in
+    let w = at-write-domains .write-domains in
+    let u = at-put-record .put-record in
     let v = c .before .before .put-record2 in
     let e : w .result ≡ 6 = w .ensures .0 ∙ domain-length in
     let d = domain-length in

@@ -23,8 +23,10 @@ same-length c = search needs
 
 returns : tie.Need-returns
 returns c =
-    let a = c .before .before .before .before .before .before .before .args in
-    let w = c .before .before .before .put-record in
+    let at-put-record = c .before .before .before in
+    let start = at-put-record .before .before .before .before in
+    let a = start .args in
+    let w = at-put-record .put-record in
     let n : length (take (a .count) (now (a .numbers))) ≡ a .count = length-take-le (a .count) (now (a .numbers)) (omega arith) in
     record {
       bytes = w .ensures .1 ∙ ap (λ k. over (a .done .at) (little ((4 + 2 * k) ∷ a .kind ∷ take (a .count) (now (a .numbers)))) (now (a .out))) (sym n);

@@ -47,11 +47,12 @@ loop-less c = search needs
 
 loop-again : tie.Need-loop-again Inv-loop μ-loop
 loop-again c =
-    let k = c .before .before .before .before .before .before in
+    let at-shared-slice-known2 = c .before .before .before in
+    let k = at-shared-slice-known2 .before .before .before in
     let l = k .loop in
     let a = k .before .before .before .args in
     let w = c .before .before .put16 in
-    (omega arith, w .kept .0 ∙ l .inv .1, number-step (now (a .numbers)) (now (a .out)) (l .out) _ (a .at) (l .i) (omega arith) (omega arith) (omega (arith, c .before .before .before .shared-slice-known2 .given (l .i))) (l .inv .2) (w .ensures))
+    (omega arith, w .kept .0 ∙ l .inv .1, number-step (now (a .numbers)) (now (a .out)) (l .out) _ (a .at) (l .i) (omega arith) (omega arith) (omega (arith, at-shared-slice-known2 .shared-slice-known2 .given (l .i))) (l .inv .2) (w .ensures))
 
 same-length : tie.Need-same-length Inv-loop μ-loop
 same-length c = search needs

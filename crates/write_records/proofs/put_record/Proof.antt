@@ -33,9 +33,11 @@ same-length c = search needs
 
 returns : tie.Need-returns
 returns c =
+    let at-put-head = c .before .before .before .before .before .before in
+    let start = at-put-head .before .before .before .before in
     let w = c .before .before .put-numbers in
-    let v = c .before .before .before .before .before .before .put-head in
-    let a = c .before .before .before .before .before .before .before .before .before .before .args in
+    let v = at-put-head .put-head in
+    let a = start .args in
     (refl, record-whole (4 + 2 * a .count) (a .kind) (take (a .count) (now (a .numbers))) (now (a .out)) _ _ (a .at) (omega (arith, length-take-le (a .count) (now (a .numbers)) (omega arith))) (v .ensures) (w .ensures))
 
 pub put-record-spec : {M : Type 1} → statement M

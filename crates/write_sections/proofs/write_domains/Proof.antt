@@ -32,8 +32,9 @@ shared-slice-read-put-domain c = search needs
 
 put-domain-requires : tie.Need-put-domain-requires Inv-loop μ-loop
 put-domain-requires c κs =
-    let s = c .before .before .before .before .before .before in
-    let i = c .before .before .before .loop in
+    let at-loop = c .before .before .before in
+    let s = at-loop .before .before .before in
+    let i = at-loop .loop in
     let l : i .i < s .args .count = search needs in
     let e = domain-at (now (s .args .masks)) (s .args .count) (i .i) l (s .pre .0) in
     let r = record-fits (map (λ m. domainRecord m) (take (s .args .count) (now (s .args .masks)))) 0 (i .i) (i .at) (e .0) _ (e .1) (i .inv .2) {n = length (now (s .args .out))} (search needs) in
@@ -48,8 +49,9 @@ loop-less c = search needs
 
 loop-again : tie.Need-loop-again Inv-loop μ-loop
 loop-again c =
-    let s = c .before .before .before .before .before .before .before .before .before in
-    let i = c .before .before .before .before .before .before .loop in
+    let at-loop = c .before .before .before .before .before .before in
+    let s = at-loop .before .before .before in
+    let i = at-loop .loop in
     let w = c .before .before .put-domain in
     let l : i .i < s .args .count = search needs in
     let rs : List Record = map (λ m. domainRecord m) (take (s .args .count) (now (s .args .masks))) in

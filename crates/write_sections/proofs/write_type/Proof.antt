@@ -102,7 +102,9 @@ type-offset-requires : tie.Need-type-offset-requires Inv-loop μ-loop
 type-offset-requires c κs = let s = c .before .before .before .before .before in in-table (s .pre .1) (s .pre .2)
 
 known-fields-requires : tie.Need-known-fields-requires Inv-loop μ-loop
-known-fields-requires c κs = let s = c .before .before .before .before .before .before in (s .pre .0, rw (c .type-offset .ensures, place-is (s .pre .1) (s .pre .2)) (known (s .pre .1) (s .pre .2)))
+known-fields-requires c κs =
+    let s = c .before .before .before .before .before .before in
+    (s .pre .0, rw (c .type-offset .ensures, place-is (s .pre .1) (s .pre .2)) (known (s .pre .1) (s .pre .2)))
 
 loop-holds : tie.Need-loop-holds Inv-loop μ-loop
 loop-holds c = (omega arith, refl, numbered-none _ _ _ _)
@@ -132,15 +134,17 @@ kept-number-requires c κs =
 
 mul-numbers : tie.Need-mul-numbers Inv-loop μ-loop
 mul-numbers c =
-    let k = c .before .before .before .before .before .before in
-    let l : c .before .before .before .before .before .loop .i < k .known-fields .result .count = search needs in
+    let at-loop = c .before .before .before .before .before in
+    let k = at-loop .before in
+    let l : at-loop .loop .i < k .known-fields .result .count = search needs in
     let f = few k in
     search needs
 
 array-write-numbers : tie.Need-array-write-numbers Inv-loop μ-loop
 array-write-numbers c =
-    let k = c .before .before .before .before .before .before in
-    let l : c .before .before .before .before .before .loop .i < k .known-fields .result .count = search needs in
+    let at-loop = c .before .before .before .before .before in
+    let k = at-loop .before in
+    let l : at-loop .loop .i < k .known-fields .result .count = search needs in
     let f = few k in
     omega arith
 
@@ -152,8 +156,9 @@ loop-less c = search needs
 
 loop-again : tie.Need-loop-again Inv-loop μ-loop
 loop-again c =
-    let k = c .before .before .before .before .before .before in
-    let i = c .before .before .before .before .before .loop in
+    let at-loop = c .before .before .before .before .before in
+    let k = at-loop .before in
+    let i = at-loop .loop in
     let l : i .i < k .known-fields .result .count = search needs in
     let f = few k in
     let n = sorted k in
@@ -164,15 +169,18 @@ loop-again c =
     )
 
 type-kind-requires : tie.Need-type-kind-requires Inv-loop μ-loop
-type-kind-requires c κs = let s = c .before .before .before .before .before .before .before .before .before .before .before in (s .pre .1, s .pre .2)
+type-kind-requires c κs =
+    let s = c .before .before .before .before .before .before .before .before .before .before .before in
+    (s .pre .1, s .pre .2)
 
 slice-aggregate-put-record : tie.Need-slice-aggregate-put-record Inv-loop μ-loop
 slice-aggregate-put-record c = search needs
 
 put-record-requires : tie.Need-put-record-requires Inv-loop μ-loop
 put-record-requires c κs =
-    let k = c .before .before .before .before .before .before in
-    let i = c .before .before .before .before .before .loop in
+    let at-loop = c .before .before .before .before .before in
+    let k = at-loop .before in
+    let i = at-loop .loop in
     let f = few k in
     let n = sorted k in
     let g = i .inv .1 in
@@ -185,10 +193,12 @@ same-length c = search needs
 
 returns : tie.Need-returns Inv-loop μ-loop
 returns c =
-    let k = c .before .before .before .before .before .before .before .before .before in
-    let i = c .before .before .before .before .before .before .before .before .loop in
+    let at-type-kind = c .before .before .before .before in
+    let at-loop = at-type-kind .before .before .before .before in
+    let k = at-loop .before in
+    let i = at-loop .loop in
     let w = c .before .before .put-record in
-    let m = c .before .before .before .before .type-kind in
+    let m = at-type-kind .type-kind in
     let g : k .known-fields .result .count ≤ i .i = search needs in
     let b = i .inv .0 in
     let f = few k in

@@ -28,7 +28,8 @@ abbrev μ-loop : tie.MeasureT-loop
 
 loop-holds : tie.Need-loop-holds Inv-loop μ-loop
 loop-holds c =
-    let a = c .before .before .before .before .before .before .args in
+    let start-2 = c .before .before .before .before .before .before in
+    let a = start-2 .args in
     let f = firsts-none (records (now (a .image)) (a .n) (now (a .order))) (a .start) (now (a .out)) in
     (omega arith, refl, f .0, f .1)
 
@@ -40,8 +41,9 @@ shared-slice-read-t16 c = search needs
 
 write-type-requires : tie.Need-write-type-requires Inv-loop μ-loop
 write-type-requires c κs =
-    let s = c .before .before .before .before .before .before .before .before .before .before in
-    let i = c .before .before .before .loop in
+    let at-loop = c .before .before .before in
+    let s = at-loop .before .before .before .before .before .before .before in
+    let i = at-loop .loop in
     let E = s .pre .2 in
     let l : i .i < s .args .n = search needs in
     let e = type-at E (i .i) l in
@@ -58,8 +60,9 @@ loop-less c = search needs
 
 loop-again : tie.Need-loop-again Inv-loop μ-loop
 loop-again c =
-    let s = c .before .before .before .before .before .before .before .before .before .before .before .before .before in
-    let i = c .before .before .before .before .before .before .loop in
+    let at-loop = c .before .before .before .before .before .before in
+    let s = at-loop .before .before .before .before .before .before .before in
+    let i = at-loop .loop in
     let w = c .before .before .write-type in
     let E = s .pre .2 in
     let l : i .i < s .args .n = search needs in

@@ -19,11 +19,15 @@ is-wrong-set-requires c κs = search needs
 
 -- src/lib.rt:86:9
 returns : tie.Need-returns
-returns c = let s = c .before .before .before .before .before .before .before .before .before in wrong-left (now (s .args .image)) (s .args .mask) (now (s .args .out)) (s .pre .0) (s .pre .1) (sym (c .before .is-wrong-set .ensures) ∙ c .if1 .taken)
+returns c =
+    let s = c .before .before .before .before .before .before .before .before .before in
+    wrong-left (now (s .args .image)) (s .args .mask) (now (s .args .out)) (s .pre .0) (s .pre .1) (sym (c .before .is-wrong-set .ensures) ∙ c .if1 .taken)
 
 -- src/lib.rt:90:9
 returns-2 : tie.Need-returns-2
-returns-2 c = let s = c .before .before .before .before .before .before .before .before .before .before in short-left (now (s .args .image)) (s .args .mask) (now (s .args .out)) (s .pre .0) (s .pre .1) (sym (c .before .before .is-wrong-set .ensures) ∙ c .before .if1 .left) (c .if2 .taken)
+returns-2 c =
+    let s = c .before .before .before .before .before .before .before .before .before .before in
+    short-left (now (s .args .image)) (s .args .mask) (now (s .args .out)) (s .pre .0) (s .pre .1) (sym (c .before .before .is-wrong-set .ensures) ∙ c .before .if1 .left) (c .if2 .taken)
 
 -- src/lib.rt:102:9
 array-borrow-prefix-copy : tie.Need-array-borrow-prefix-copy
@@ -50,9 +54,13 @@ same-length c = search needs
 -- src/lib.rt:71:1
 returns-3 : tie.Need-returns-3
 returns-3 c =
-    let s = c .before .before .before .before .before .before .before .before .before .before .before .before .before .before .before .before in
-    let w = c .before .before .before .write-copy in
-    written-left (now (s .args .image)) (s .args .mask) (now (s .args .out)) (s .pre .0) (s .pre .1) (sym (c .before .before .before .before .before .before .before .before .is-wrong-set .ensures) ∙ c .before .before .before .before .before .before .before .if1 .left) _ _ (c .before .before .before .before .before .before .if2 .left) (w .ensures .0) (w .ensures .1)
+    let at-write-copy = c .before .before .before in
+    let at-if2 = at-write-copy .before .before .before in
+    let at-if1 = at-if2 .before in
+    let at-is-wrong-set = at-if1 .before in
+    let s = at-is-wrong-set .before .before .before .before .before .before .before .before in
+    let w = at-write-copy .write-copy in
+    written-left (now (s .args .image)) (s .args .mask) (now (s .args .out)) (s .pre .0) (s .pre .1) (sym (at-is-wrong-set .is-wrong-set .ensures) ∙ at-if1 .if1 .left) _ _ (at-if2 .if2 .left) (w .ensures .0) (w .ensures .1)
 
 pub write-checked-spec : {M : Type 1} → statement M
 write-checked-spec =

@@ -25,10 +25,11 @@ idle-copy-requires c κs = search needs
 -- src/lib.rt:67:5
 write-whole-requires : tie.Need-write-whole-requires
 write-whole-requires c κs =
-    let s = c .before .before .before .before .before .before .before .before .before .before .before .before .before .before in
+    let at-idle-copy = c .before .before .before .before in
+    let s = at-idle-copy .before .before .before .before .before .before .before .before .before .before in
     let b : List ℕ = now (s .args .image) in
     let A = accepted b (s .pre .0) (s .pre .1) in
-    let x = c .before .before .before .before .idle-copy in
+    let x = at-idle-copy .idle-copy in
     let T = s .pre .3 in
     let C : List ℕ = x .last .1 .1 .1 .1 .1 .0 in
     let H : Dom → Bool = inMask (s .args .mask) in
@@ -46,10 +47,11 @@ same-length-2 c = search needs
 -- src/lib.rt:51:1
 returns : tie.Need-returns
 returns c =
-    let s = c .before .before .before .before .before .before .before .before .before .before .before .before .before .before .before .before .before in
+    let at-idle-copy = c .before .before .before .before .before .before .before in
+    let s = at-idle-copy .before .before .before .before .before .before .before .before .before .before in
     let b : List ℕ = now (s .args .image) in
     let A = accepted b (s .pre .0) (s .pre .1) in
-    let x = c .before .before .before .before .before .before .before .idle-copy in
+    let x = at-idle-copy .idle-copy in
     let T = s .pre .3 in
     let C : List ℕ = x .last .1 .1 .1 .1 .1 .0 in
     let H : Dom → Bool = inMask (s .args .mask) in

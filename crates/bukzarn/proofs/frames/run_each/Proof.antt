@@ -3,16 +3,12 @@ use Prim.Native.Nat.{_-_, _/_, _≤_, _<_}
 use mathlib.Core.Path.{_≡_, refl, ap, _∙_}
 use lib.ListN.{length, length-set}
 use native.Mathlib.Omega.{arith}
-use Rattle.bukzarn.specs.Recordings.{partLength, firstCalls}
+use Rattle.recordings.specs.Recordings.{partLength, firstCalls}
 use Rattle.calls.proofs.Accepted.{accepted-with}
-use Rattle.bukzarn.proofs.Recordings.{part-inside, length-part, length-with-part, part-lent, part-back, first-none, run-recorded}
+use Rattle.recordings.proofs.Recordings.{part-inside, length-part, length-with-part, part-lent, part-back, first-none, run-recorded}
 use borrow.Author.Needs.{needs}
 use Rattle.bukzarn.proofs.frames.run_each.Statement.{statement}
 use Rattle.bukzarn.proofs.frames.run_each.Tie as tie
-use Rattle.bukzarn.proofs.frames.run_each.Reads as reads
-use Rattle.bukzarn.proofs.frames.run_each.Lts as lts
-use Rattle.bukzarn.proofs.numbers.call_number.Reads as call-number-reads
-use Rattle.engine.proofs.runs.run_code.Reads as run-code-reads
 
 abbrev Inv-loop : tie.InvT-loop
 Inv-loop image code dispatch target frames budget logs₀ reports₀ numbers₀ work₀ count frame log report i₀ logs reports numbers work i =
@@ -22,73 +18,60 @@ Inv-loop image code dispatch target frames budget logs₀ reports₀ numbers₀ 
 abbrev μ-loop : tie.MeasureT-loop
 μ-loop image code dispatch target frames budget logs₀ reports₀ numbers₀ work₀ count frame log report i₀ logs reports numbers work i = count - i
 
--- src/frames.rt:43:17
 div-frame : tie.Need-div-frame Inv-loop μ-loop
 div-frame c = search needs
 
--- src/frames.rt:44:15
 div-log : tie.Need-div-log Inv-loop μ-loop
 div-log c = search needs
 
--- src/frames.rt:45:18
 div-report : tie.Need-div-report Inv-loop μ-loop
 div-report c = search needs
 
--- src/frames.rt:47:5
 loop-holds : tie.Need-loop-holds Inv-loop μ-loop
 loop-holds c = (search needs, (refl, refl, refl, refl), first-none _ _ _ _ _)
 
--- src/frames.rt:48:17
 mul-f : tie.Need-mul-f Inv-loop μ-loop
 mul-f c =
     let s = c .before .before .before .before .before .before .before .before .before .before in
     let h = part-inside (length (now (s .args .numbers))) (c .before .loop .i) (c .loop-test .taken) (now (s .args .frames)) in
     search needs
 
--- src/frames.rt:49:21
 add-f-end : tie.Need-add-f-end Inv-loop μ-loop
 add-f-end c =
     let s = c .before .before .before .before .before .before .before .before .before .before in
     let h = part-inside (length (now (s .args .numbers))) (c .before .loop .i) (c .loop-test .taken) (now (s .args .frames)) in
     search needs
 
--- src/frames.rt:50:17
 mul-l : tie.Need-mul-l Inv-loop μ-loop
 mul-l c =
     let s = c .before .before .before .before .before .before .before .before .before .before in
     let h = part-inside (length (now (s .args .numbers))) (c .before .loop .i) (c .loop-test .taken) (now (s .args .logs)) in
     search needs
 
--- src/frames.rt:51:21
 add-l-end : tie.Need-add-l-end Inv-loop μ-loop
 add-l-end c =
     let s = c .before .before .before .before .before .before .before .before .before .before in
     let h = part-inside (length (now (s .args .numbers))) (c .before .loop .i) (c .loop-test .taken) (now (s .args .logs)) in
     search needs
 
--- src/frames.rt:52:17
 mul-r : tie.Need-mul-r Inv-loop μ-loop
 mul-r c =
     let s = c .before .before .before .before .before .before .before .before .before .before in
     let h = part-inside (length (now (s .args .numbers))) (c .before .loop .i) (c .loop-test .taken) (now (s .args .reports)) in
     search needs
 
--- src/frames.rt:53:21
 add-r-end : tie.Need-add-r-end Inv-loop μ-loop
 add-r-end c =
     let s = c .before .before .before .before .before .before .before .before .before .before in
     let h = part-inside (length (now (s .args .numbers))) (c .before .loop .i) (c .loop-test .taken) (now (s .args .reports)) in
     search needs
 
--- src/frames.rt:59:13
 sub-run-code : tie.Need-sub-run-code Inv-loop μ-loop
 sub-run-code c = search needs
 
--- src/frames.rt:59:13
 part-run-code-start : tie.Need-part-run-code-start Inv-loop μ-loop
 part-run-code-start c = search needs
 
--- src/frames.rt:59:13
 part-run-code-end : tie.Need-part-run-code-end Inv-loop μ-loop
 part-run-code-end c =
     let t = c in
@@ -96,15 +79,12 @@ part-run-code-end c =
     let h = part-inside (length (now (s .args .numbers))) (t .before .loop .i) (t .loop-test .taken) (now (s .args .frames)) in
     search needs
 
--- src/frames.rt:61:13
 sub-run-code-2 : tie.Need-sub-run-code-2 Inv-loop μ-loop
 sub-run-code-2 c = search needs
 
--- src/frames.rt:61:13
 part-run-code-start-2 : tie.Need-part-run-code-start-2 Inv-loop μ-loop
 part-run-code-start-2 c = search needs
 
--- src/frames.rt:61:13
 part-run-code-end-2 : tie.Need-part-run-code-end-2 Inv-loop μ-loop
 part-run-code-end-2 c =
     let t = c .before in
@@ -112,15 +92,12 @@ part-run-code-end-2 c =
     let h = part-inside (length (now (s .args .numbers))) (t .before .loop .i) (t .loop-test .taken) (now (s .args .logs)) in
     search needs
 
--- src/frames.rt:62:13
 sub-run-code-3 : tie.Need-sub-run-code-3 Inv-loop μ-loop
 sub-run-code-3 c = search needs
 
--- src/frames.rt:62:13
 part-run-code-start-3 : tie.Need-part-run-code-start-3 Inv-loop μ-loop
 part-run-code-start-3 c = search needs
 
--- src/frames.rt:62:13
 part-run-code-end-3 : tie.Need-part-run-code-end-3 Inv-loop μ-loop
 part-run-code-end-3 c =
     let t = c .before .before in
@@ -128,7 +105,6 @@ part-run-code-end-3 c =
     let h = part-inside (length (now (s .args .numbers))) (t .before .loop .i) (t .loop-test .taken) (now (s .args .reports)) in
     search needs
 
--- src/frames.rt:54:13
 run-code-requires : tie.Need-run-code-requires Inv-loop μ-loop
 run-code-requires c κs =
     let t = c .before .before .before .before in
@@ -140,11 +116,9 @@ run-code-requires c κs =
     let long = ap length parts ∙ length-part n (l .i) (t .loop-test .taken) (l .reports) ∙ ap (_/ n) same in
     (s .pre .0, s .pre .1, omega (arith, l .inv .1 .3, s .pre .3), rw long (s .pre .4))
 
--- src/frames.rt:65:22
 call-number-requires : tie.Need-call-number-requires Inv-loop μ-loop
 call-number-requires c κs = search needs
 
--- src/frames.rt:65:9
 mul-numbers : tie.Need-mul-numbers Inv-loop μ-loop
 mul-numbers c =
     let t = c .before .before .before .before .before .before .before .before .before .before .before .before in
@@ -152,11 +126,9 @@ mul-numbers c =
     let h : t .before .loop .i < length (now (s .args .numbers)) = t .loop-test .taken in
     search needs
 
--- src/frames.rt:65:9
 slice-write-numbers : tie.Need-slice-write-numbers Inv-loop μ-loop
 slice-write-numbers c = search needs
 
--- src/frames.rt:66:9
 add-i : tie.Need-add-i Inv-loop μ-loop
 add-i c =
     let t = c .before .before .before .before .before .before .before .before .before .before .before .before in
@@ -164,11 +136,9 @@ add-i c =
     let h : t .before .loop .i < length (now (s .args .numbers)) = t .loop-test .taken in
     search needs
 
--- src/frames.rt:47:5
 loop-less : tie.Need-loop-less Inv-loop μ-loop
 loop-less c = search needs
 
--- src/frames.rt:47:5
 loop-again : tie.Need-loop-again Inv-loop μ-loop
 loop-again c =
     let k = c .before .before .before .before .before .before .before in
@@ -188,27 +158,22 @@ loop-again c =
     let enough = accepted-with (now (a .image)) (s .pre .0) (length (l .work)) (partLength n (l .reports)) (omega (arith, same .3, s .pre .3)) (rw (same .2) (s .pre .4)) in
     (omega (arith, below), (length-set (l .numbers) (l .i) _ ∙ same .0, ap length logs-back ∙ length-with-part n (l .i) below (l .logs) _ log-kept ∙ same .1, ap length reports-back ∙ length-with-part n (l .i) below (l .reports) _ report-kept ∙ same .2, k .run-code .kept .1 .1 .1 .1 .1 .1 .1 .1 .0 ∙ same .3), run-recorded (now (a .image)) (now (a .frames)) (a .budget) n (l .i) below (record { answers = l .numbers; logs = l .logs; reports = l .reports; work = l .work }) _ _ _ _ _ _ _ _ _ _ _ (l .inv .2) enough (part-lent n (l .i) below (now (a .frames)) (now (a .frames)) refl) lent-log lent-report (k .run-code .ensures) logs-back reports-back (c .call-number .ensures))
 
--- src/frames.rt:27:1
 same-length : tie.Need-same-length Inv-loop μ-loop
 same-length c = search needs
 
--- src/frames.rt:27:1
 same-length-2 : tie.Need-same-length-2 Inv-loop μ-loop
 same-length-2 c = search needs
 
--- src/frames.rt:27:1
 same-length-3 : tie.Need-same-length-3 Inv-loop μ-loop
 same-length-3 c = search needs
 
--- src/frames.rt:27:1
 same-length-4 : tie.Need-same-length-4 Inv-loop μ-loop
 same-length-4 c = search needs
 
--- src/frames.rt:27:1
 returns : tie.Need-returns Inv-loop μ-loop
 returns c =
-    let l = c .before .loop in
     let s = c .before .before .before .before .before .before .before .before .before .before in
+    let l = c .before .loop in
     let done : l .i ≡ length (now (s .args .numbers)) = omega (arith, l .inv .0, c .loop-test .left) in
     l .inv .2 ∙ ap (λ k. firstCalls (now (s .args .image)) (now (s .args .frames)) (s .args .budget) (length (now (s .args .numbers))) k (record { answers = now (s .args .numbers); logs = now (s .args .logs); reports = now (s .args .reports); work = now (s .args .work) })) done
 

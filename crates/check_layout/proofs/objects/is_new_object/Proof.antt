@@ -4,8 +4,8 @@ use mathlib.Core.Path.{_≡_, refl, sym, ap, _∙_}
 use mathlib.Core.Bool.{Bool, true, not}
 use denote.Ref.{now}
 use Rattle.laws.specs.Tests.{allBelow}
-use Rattle.check_layout.specs.Numbers.{sameObject, newObject}
-use Rattle.check_layout.proofs.Numbers.{below-more, below-not}
+use Rattle.check_layout.specs.NewTypes.{sameObject, newObject}
+use Rattle.check_layout.proofs.Descriptors.{below-more, below-not}
 use borrow.Author.Needs.{needs}
 use Rattle.check_layout.proofs.objects.is_new_object.Statement.{statement}
 use Rattle.check_layout.proofs.objects.is_new_object.Tie as tie
@@ -21,7 +21,9 @@ unfolding allBelow
 loop-holds c = (search needs, refl)
 
 is-same-object-requires : tie.Need-is-same-object-requires Inv-loop μ-loop
-is-same-object-requires c κs = let s = c .before .before .before .before .before .before .before in (search needs, search needs, s .pre .2 .at (c .before .before .loop .i) (search needs))
+is-same-object-requires c κs =
+    let s = c .before .before .before .before .before .before .before in
+    (search needs, search needs, s .pre .2 .at (c .before .before .loop .i) (search needs))
 
 returns : tie.Need-returns Inv-loop μ-loop
 returns c =

@@ -4,7 +4,7 @@ use denote.Ref.{now}
 use lib.ListN.{getD}
 use borrow.Author.Tests.{eq-eqb, ne-eqb}
 use Rattle.check_records.specs.Heads.{fieldsAt}
-use Rattle.check_layout.specs.Numbers.{sameFields}
+use Rattle.check_layout.specs.NewTypes.{sameFields}
 use borrow.Author.Needs.{needs}
 use Rattle.check_layout.proofs.objects.is_same_object.Statement.{statement}
 use Rattle.check_layout.proofs.objects.is_same_object.Tie as tie
@@ -16,7 +16,9 @@ type-offset-requires : tie.Need-type-offset-requires
 type-offset-requires c κs = search needs
 
 fields-at-requires : tie.Need-fields-at-requires
-fields-at-requires c κs = rw (c .type-offset .ensures) (c .before .before .before .before .before .before .before .pre .2)
+fields-at-requires c κs =
+    let start = c .before .before .before .before .before .before .before in
+    rw (c .type-offset .ensures) (start .pre .2)
 
 same-fields-requires : tie.Need-same-fields-requires
 same-fields-requires c κs = search needs

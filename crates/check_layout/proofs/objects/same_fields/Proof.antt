@@ -9,7 +9,7 @@ use lib.Dec.{eqb}
 use borrow.Author.Tests.{eq-eqb, ne-eqb}
 use Rattle.laws.specs.Tests.{allBelow}
 use Rattle.check_records.specs.Heads.{fieldIn}
-use Rattle.check_layout.proofs.Numbers.{below-more, below-not, and-no}
+use Rattle.check_layout.proofs.Descriptors.{below-more, below-not, and-no}
 use borrow.Author.Needs.{needs}
 use Rattle.check_layout.proofs.objects.same_fields.Statement.{statement}
 use Rattle.check_layout.proofs.objects.same_fields.Tie as tie

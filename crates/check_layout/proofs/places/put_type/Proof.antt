@@ -3,8 +3,9 @@ use mathlib.Core.Path.{_≡_}
 use mathlib.Core.Bool.{true, false}
 use mathlib.Core.Logic.{⊎-elim}
 use denote.Ref.{now}
-use Rattle.check_layout.specs.Numbers.{newType}
-use Rattle.check_layout.proofs.Numbers.{yes-of, no-of, repeated, not-repeated}
+use Rattle.check_layout.specs.NewTypes.{newType}
+use Rattle.check_ranges.proofs.Numbers.{yes-of, no-of}
+use Rattle.check_layout.proofs.Descriptors.{repeated, not-repeated}
 use Rattle.check_layout.proofs.Filter.{unseen-type}
 use borrow.Author.Needs.{needs}
 use Rattle.check_layout.proofs.places.put_type.Statement.{statement}
@@ -27,7 +28,8 @@ same-length-2 c = search needs
 
 returns : tie.Need-returns
 returns c =
-    let a = c .before .before .before .before .before .before .before .before .before .before .before .args in
+    let start = c .before .before .before .before .before .before .before .before .before .before .before in
+    let a = start .args in
     let h : newType (now (a .image)) (now (a .fields)) (a .t .0) (now (a .types)) (now (a .descriptors)) (a .descriptor) ≡ false = no-of _ _ (c .before .is-new-type .ensures) (c .if2 .taken) in
     record { answer = repeated _ h; types = rw h; descriptors = rw h; filter = rw h }
 

@@ -47,15 +47,16 @@ loop-less c = search needs
 
 loop-again : tie.Need-loop-again Inv-loop μ-loop
 loop-again c =
-    let s = c .before .before .before .before .before .before .before in
-    let i = c .before .before .before .before .loop .inv in
+    let at-loop = c .before .before .before .before in
+    let s = at-loop .before .before .before in
+    let i = at-loop .loop .inv in
     let n = s .pre .1 in
     let L = recordsOf (now (s .args .image)) in
     let m : length (masks L) ≡ length (L .domains) = length-map (L .domains) (λ o. fieldAt (L .image) o 0) in (
       omega arith,
       i .1,
-      ap length (c .set-mask .ensures) ∙ length-set (c .before .before .before .before .loop .table) (c .before .before .before .before .loop .i) (c .before .before .mask-of .result) ∙ i .2,
-      λ k. ap (λ t. getD t k 0) (c .set-mask .ensures) ∙ ap (λ v. getD (set (c .before .before .before .before .loop .table) (c .before .before .before .before .loop .i) v) k 0) (c .before .before .mask-of .ensures) ∙ filled-more (c .before .before .before .before .loop .table) (masks L) (c .before .before .before .before .loop .i) (omega arith) (omega arith) (i .3) k,
+      ap length (c .set-mask .ensures) ∙ length-set (at-loop .loop .table) (at-loop .loop .i) (c .before .before .mask-of .result) ∙ i .2,
+      λ k. ap (λ t. getD t k 0) (c .set-mask .ensures) ∙ ap (λ v. getD (set (at-loop .loop .table) (at-loop .loop .i) v) k 0) (c .before .before .mask-of .ensures) ∙ filled-more (at-loop .loop .table) (masks L) (at-loop .loop .i) (omega arith) (omega arith) (i .3) k,
     )
 
 returns : tie.Need-returns Inv-loop μ-loop

@@ -39,10 +39,13 @@ judge-requires c κs = search needs
 
 returns-2 : tie.Need-returns-2
 returns-2 c =
-    let s = c .before .before .before .before .before .before .before .before in
+    let at-scope-type = c .before .before .before in
+    let at-if1 = at-scope-type .before in
+    let at-other-field = at-if1 .before in
+    let s = at-other-field .before .before .before in
     λ d.
-    let e = c .before .before .before .before .before .other-field .ensures in
-    c .judge .ensures ∙ simp (c .before .same-type .ensures, c .before .before .before .scope-type .ensures, c .before .before .own-type .ensures, e) (variable-bound (now (s .args .image)) (now (s .args .fields)) (now (s .args .scope)) (s .args .len) d (s .args .at) (rw (← e) (c .before .before .before .before .if1 .left)))
+    let e = at-other-field .other-field .ensures in
+    c .judge .ensures ∙ simp (c .before .same-type .ensures, at-scope-type .scope-type .ensures, c .before .before .own-type .ensures, e) (variable-bound (now (s .args .image)) (now (s .args .fields)) (now (s .args .scope)) (s .args .len) d (s .args .at) (rw (← e) (at-if1 .if1 .left)))
 
 pub check-variable-spec : {M : Type 1} → statement M
 check-variable-spec =

@@ -2,6 +2,9 @@
 use borrow.Author.Needs.{needs}
 use Rattle.check_rules.proofs.terms.own_descriptor.Statement.{statement}
 use Rattle.check_rules.proofs.terms.own_descriptor.Tie as tie
+use mathlib.Core.Path.{ap, _∙_}
+use denote.Ref.{now}
+use lib.ListN.{getD}
 
 own-type-requires : tie.Need-own-type-requires
 own-type-requires c κs = search needs
@@ -10,7 +13,9 @@ type-descriptor-requires : tie.Need-type-descriptor-requires
 type-descriptor-requires c κs = search needs
 
 returns : tie.Need-returns
-returns c = cc
+returns c =
+    let s = c .before .before .before .before in
+    c .type-descriptor .ensures ∙ ap (λ t. getD (now (s .args .descriptors)) t 0) (c .before .own-type .ensures)
 
 pub own-descriptor-spec : {M : Type 1} → statement M
 own-descriptor-spec = tie.close (tie.spec own-type-requires type-descriptor-requires returns)

@@ -1,4 +1,4 @@
--- The loop keeps what is required of the terms from i on.
+-- `check_shape::depths::first_deep` meets its contract: the loop keeps what is required of the terms from i on.
 use borrow.Author.Tests.{le-leb, lt-leb}
 use Prim.Native.Nat.{_-_, _≤_}
 use native.Mathlib.Omega.{arith}
@@ -7,8 +7,8 @@ use lib.ListN.{getD}
 use denote.Ref.{now}
 use Rattle.image.specs.declared.Refusal.{Refusal}
 use Rattle.verdict.specs.declared.Verdict.{Verdict}
-use Rattle.check_shape.specs.Marks.{deepFrom}
-use Rattle.check_shape.proofs.Answers.{from-start, from-hold, from-end, from-next, from-here}
+use Rattle.check_shape.specs.Depths.{deepFrom}
+use Rattle.check_shape.proofs.Answers.{from-start, from-end, from-next, from-here}
 use borrow.Author.Needs.{needs}
 use Rattle.check_shape.proofs.depths.first_deep.Statement.{statement}
 use Rattle.check_shape.proofs.depths.first_deep.Tie as tie
@@ -19,12 +19,6 @@ Inv-loop depths terms end i₀ i = (i ≤ end .0) × (deepFrom terms depths (end
 abbrev μ-loop : tie.MeasureT-loop
 μ-loop depths terms end i₀ i = end .0 - i
 
-none-deep-requires : tie.Need-none-deep-requires Inv-loop μ-loop
-none-deep-requires c κs = search needs
-
-returns : tie.Need-returns Inv-loop μ-loop
-returns c = sym (from-hold _ _ _ _ (sym (c .before .none-deep .ensures) ∙ c .if1 .taken))
-
 loop-holds : tie.Need-loop-holds Inv-loop μ-loop
 loop-holds c = (search needs, from-start _ _ _ _)
 
@@ -34,12 +28,14 @@ mark-of-requires c κs = search needs
 term-offset-requires : tie.Need-term-offset-requires Inv-loop μ-loop
 term-offset-requires c κs = search needs
 
-returns-2 : tie.Need-returns-2 Inv-loop μ-loop
-returns-2 c =
-    let l = c .before .before .before .before .before .loop in
-    let d = getD (now (c .before .before .before .before .before .before .before .before .before .before .args .depths)) (l .i) 0 in
+returns : tie.Need-returns Inv-loop μ-loop
+returns c =
+    let at-loop = c .before .before .before .before .before in
+    let start = at-loop .before .before .before in
+    let l = at-loop .loop in
+    let d = getD (now (start .args .depths)) (l .i) 0 in
     let z = c .before .before .mark-of .ensures in
-    let deep = lt-leb d 64 (omega (arith, c .before .if3 .taken)) in
+    let deep = lt-leb d 64 (omega (arith, c .before .if2 .taken)) in
     sym (l .inv .1 ∙ from-here _ _ _ _ (l .i) (omega arith) deep ∙ ap (λ o. Verdict.Refused Refusal.TooDeep o) (sym (c .term-offset .ensures)))
 
 add-i : tie.Need-add-i Inv-loop μ-loop
@@ -50,13 +46,15 @@ loop-less c = search needs
 
 loop-again : tie.Need-loop-again Inv-loop μ-loop
 loop-again c =
-    let l = c .before .before .before .before .loop in
-    let d = getD (now (c .before .before .before .before .before .before .before .before .before .args .depths)) (l .i) 0 in
+    let at-loop = c .before .before .before .before in
+    let start = at-loop .before .before .before in
+    let l = at-loop .loop in
+    let d = getD (now (start .args .depths)) (l .i) 0 in
     let z = c .before .mark-of .ensures in
-    (search needs, l .inv .1 ∙ from-next _ _ _ _ (l .i) (omega arith) (le-leb d 64 (omega (arith, c .if3 .left))))
+    (search needs, l .inv .1 ∙ from-next _ _ _ _ (l .i) (omega arith) (le-leb d 64 (omega (arith, c .if2 .left))))
 
-returns-3 : tie.Need-returns-3 Inv-loop μ-loop
-returns-3 c =
+returns-2 : tie.Need-returns-2 Inv-loop μ-loop
+returns-2 c =
     let l = c .before .before .loop in
     sym (l .inv .1 ∙ from-end _ _ _ _ (l .i) (omega arith))
 
@@ -66,13 +64,11 @@ first-deep-spec =
     (tie.spec
     Inv-loop
     μ-loop
-    none-deep-requires
-    returns
     loop-holds
     mark-of-requires
     term-offset-requires
-    returns-2
+    returns
     add-i
     loop-less
     loop-again
-    returns-3)
+    returns-2)

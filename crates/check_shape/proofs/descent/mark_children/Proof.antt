@@ -3,9 +3,8 @@ use borrow.Author.Needs.{needs}
 use mathlib.Core.Path.{subst, sym, _∙_}
 use denote.Ref.{now}
 use Rattle.check_records.specs.Heads.{sideOf, entriesOf}
-use Rattle.check_shape.specs.Records.{Lower}
-use Rattle.check_shape.proofs.TermRecords.{lower-first, lower-rest}
-use Rattle.check_shape.proofs.UseCounts.{low-append}
+use Rattle.check_marks.specs.Marks.{Lower}
+use Rattle.check_marks.proofs.ChildByChild.{lower-first, lower-rest}
 use Rattle.check_shape.proofs.DepthMarks.{set-append}
 use Rattle.check_shape.proofs.descent.mark_children.Statement.{statement}
 use Rattle.check_shape.proofs.descent.mark_children.Tie as tie
@@ -18,24 +17,25 @@ mark-side-requires c κs =
 
 mark-entries-requires : tie.Need-mark-entries-requires
 mark-entries-requires c κs =
-    let m = c .before .before .before .mark-side in
-    let s = c .before .before .before .before .before .before .before in
+    let at-mark-side = c .before .before .before in
+    let s = at-mark-side .before .before .before .before in
+    let m = at-mark-side .mark-side in
     let fs = now (s .args .fields) in
-    (s .pre .0, subst (λ n. Lower n (entriesOf (s .args .code) fs)) (sym (m .kept .1 .1 .1 .1 .0)) (lower-rest _ (sideOf (s .args .code) fs) (entriesOf (s .args .code) fs) (s .pre .1)))
+    (s .pre .0, subst (λ n. Lower n (entriesOf (s .args .code) fs)) (sym (m .kept .1 .1 .1 .0)) (lower-rest _ (sideOf (s .args .code) fs) (entriesOf (s .args .code) fs) (s .pre .1)))
 
 same-length : tie.Need-same-length
 same-length c = search needs
 
 returns : tie.Need-returns
 returns c =
-    let m = c .before .before .mark-entries in
     let t = c .before .before .before .before .before .before in
+    let m = c .before .before .mark-entries in
     let side = t .mark-side in
     let a = t .before .before .before .before .args in
     let fs = now (a .fields) in
     let es = sideOf (a .code) fs in
     let gs = entriesOf (a .code) fs in
-    (rw (side .ensures .0, side .ensures .1) at (m .ensures .0) ∙ sym (low-append es gs (now (a .depths)) (a .d) (a .low .0)), rw (side .ensures .1) at (m .ensures .1) ∙ sym (set-append es gs (now (a .depths)) (a .d)))
+    rw (side .ensures) at (m .ensures) ∙ sym (set-append es gs (now (a .depths)) (a .d))
 
 pub mark-children-spec : {M : Type 1} → statement M
 mark-children-spec =

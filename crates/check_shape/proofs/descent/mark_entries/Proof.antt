@@ -12,24 +12,21 @@ use Rattle.verdict.specs.Shape.{setAll}
 use Rattle.check_records.specs.Codes.{countOf, childrenIn, entriesIn}
 use Rattle.check_records.specs.Heads.{entriesOf}
 use Rattle.check_records.proofs.Entries.{entriesLeft, all-left, next-left, none-left}
-use Rattle.check_shape.specs.Records.{Lower}
-use Rattle.check_shape.specs.Marks.{lowAll}
-use Rattle.check_shape.proofs.TermRecords.{lower-first, lower-rest}
-use Rattle.check_shape.proofs.UseCounts.{low-append}
+use Rattle.check_marks.specs.Marks.{Lower}
+use Rattle.check_marks.proofs.ChildByChild.{lower-first, lower-rest}
 use Rattle.check_shape.proofs.DepthMarks.{set-append}
 use Rattle.check_shape.proofs.descent.mark_entries.Statement.{statement}
 use Rattle.check_shape.proofs.descent.mark_entries.Tie as tie
 
 abbrev Inv-loop : tie.InvT-loop
-Inv-loop fields code d depths₀ before first count next₀ j₀ depths next j =
+Inv-loop fields code d depths₀ before first count j₀ depths j =
     (j ≤ count)
     × (length depths ≡ length depths₀)
     × Lower (length depths) (entriesLeft fields first count j)
-    × (lowAll (entriesOf code fields) d (next₀ .0) depths₀ ≡ lowAll (entriesLeft fields first count j) d (next .0) depths)
     × (setAll (entriesOf code fields) d depths₀ ≡ setAll (entriesLeft fields first count j) d depths)
 
 abbrev μ-loop : tie.MeasureT-loop
-μ-loop fields code d depths₀ before first count next₀ j₀ depths next j = count - j
+μ-loop fields code d depths₀ before first count j₀ depths j = count - j
 
 -- The entries are those that are left at first.
 at-first : (fs : List ℕ) (x first count : ℕ) → first ≡ countOf x + childrenIn x (length fs) → count ≡ entriesIn x (length fs) → entriesOf x fs ≡ entriesLeft fs first count 0
@@ -56,7 +53,7 @@ loop-holds c =
     let first = f .field-count .result + k .child-count .result in
     let q : first ≡ countOf (a .code) + childrenIn (a .code) (length (now (a .fields))) = omega (arith, f .field-count .ensures, k .child-count .ensures) in
     let e = at-first (now (a .fields)) (a .code) first (c .entry-count .result) q (c .entry-count .ensures) in
-    (search needs, refl, subst (λ es. Lower (length (now (a .depths))) es) e (s .pre .1), ap (λ es. lowAll es (a .d) (a .low .0) (now (a .depths))) e, ap (λ es. setAll es (a .d) (now (a .depths))) e)
+    (search needs, refl, subst (λ es. Lower (length (now (a .depths))) es) e (s .pre .1), ap (λ es. setAll es (a .d) (now (a .depths))) e)
 
 add-field : tie.Need-add-field Inv-loop μ-loop
 add-field c = search needs
@@ -105,18 +102,16 @@ loop-again c =
     let es = asChild an-entry (v .result) in
     let gs = entriesLeft fs first count (l .j + 1) in
     let e = next-left fs first count (l .j) (v .result) (t .loop-test .taken) (v .ensures) in
-    let ds = m .last .1 .1 .1 .0 in
-    let kept : length ds ≡ length (l .depths) = m .kept .1 .1 .1 .0 in
-    let low : lowAll (entriesLeft fs first count (l .j)) (a .d) (l .next .0) (l .depths) ≡ lowAll gs (a .d) (m .result .0) ds = ap (λ xs. lowAll xs (a .d) (l .next .0) (l .depths)) e ∙ low-append es gs (l .depths) (a .d) (l .next .0) ∙ rw (m .ensures .0, m .ensures .1) refl in
-    let deep : setAll (entriesLeft fs first count (l .j)) (a .d) (l .depths) ≡ setAll gs (a .d) ds = ap (λ xs. setAll xs (a .d) (l .depths)) e ∙ set-append es gs (l .depths) (a .d) ∙ ap (λ xs. setAll gs (a .d) xs) (sym (m .ensures .1)) in
+    let ds = m .last .1 .1 .0 in
+    let kept : length ds ≡ length (l .depths) = m .kept .1 .1 .0 in
+    let deep : setAll (entriesLeft fs first count (l .j)) (a .d) (l .depths) ≡ setAll gs (a .d) ds = ap (λ xs. setAll xs (a .d) (l .depths)) e ∙ set-append es gs (l .depths) (a .d) ∙ ap (λ xs. setAll gs (a .d) xs) (sym (m .ensures)) in
     let below = lower-rest (length (l .depths)) es gs (subst (λ xs. Lower (length (l .depths)) xs) e (l .inv .2)) in
-    (search needs, kept ∙ l .inv .1, subst (λ q. Lower q gs) (sym kept) below, l .inv .3 ∙ low, l .inv .4 ∙ deep)
+    (search needs, kept ∙ l .inv .1, subst (λ q. Lower q gs) (sym kept) below, l .inv .3 ∙ deep)
 
 same-length : tie.Need-same-length Inv-loop μ-loop
 same-length c = search needs
 
 returns : tie.Need-returns Inv-loop μ-loop
-unfolding lowAll
 returns c =
     let l = c .before .loop in
     let n = c .before .before in
@@ -126,7 +121,7 @@ returns c =
     let fs = now (a .fields) in
     let first = f .field-count .result + k .child-count .result in
     let e = none-left fs first (n .entry-count .result) (l .j) (search needs) in
-    (sym (l .inv .3 ∙ ap (λ es. lowAll es (a .d) (l .next .0) (l .depths)) e), sym (l .inv .4 ∙ ap (λ es. setAll es (a .d) (l .depths)) e))
+    sym (l .inv .3 ∙ ap (λ es. setAll es (a .d) (l .depths)) e)
 
 pub mark-entries-spec : {M : Type 1} → statement M
 mark-entries-spec =

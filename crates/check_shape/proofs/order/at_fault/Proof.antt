@@ -46,8 +46,10 @@ array-read-if2 c = search needs
 
 returns-2 : tie.Need-returns-2 Inv-loop μ-loop
 returns-2 c =
-    let a = c .before .before .before .before .before .before .before .args in
-    let l = c .before .before .before .loop in
+    let at-loop = c .before .before .before in
+    let start = at-loop .before .before .before .before in
+    let a = start .args in
+    let l = at-loop .loop in
     let unnamed = not (names (a .t1) (a .d .0) (a .d .0)) in
     let some = found-absent (a .t1) (a .n) (a .d .0) (l .e) (omega arith) (c .before .if2 .taken) (c .if3 .taken) in
     sym (ap (unnamed ||_) some ∙ or-true unnamed)
@@ -69,7 +71,8 @@ loop-less c = search needs
 
 loop-again : tie.Need-loop-again Inv-loop μ-loop
 loop-again c =
-    let a = c .before .before .before .before .before .before .args in
+    let start = c .before .before .before .before .before .before in
+    let a = start .args in
     let l = c .before .before .loop in
     let o = a .t1 in (
       omega arith,
@@ -89,10 +92,13 @@ either-requires c κs = search needs
 
 returns-3 : tie.Need-returns-3 Inv-loop μ-loop
 returns-3 c =
-    let a = c .before .before .before .before .before .before .before .args in
-    let l = c .before .before .before .loop in
+    let at-loop = c .before .before .before in
+    let at-if1 = at-loop .before in
+    let start = at-if1 .before .before .before in
+    let a = start .args in
+    let l = at-loop .loop in
     let h : l .e ≡ 16 = omega arith in
-    let own = not-false (names (a .t1) (a .d .0) (a .d .0)) (c .before .before .before .before .if1 .left) in
+    let own = not-false (names (a .t1) (a .d .0) (a .d .0)) (at-if1 .if1 .left) in
     simp own (c .either .ensures ∙ ap (getD (l .named) (a .d .0) false ||_) (c .before .gap-in .ensures) ∙ rw h at (l .inv .1))
 
 pub at-fault-spec : {M : Type 1} → statement M

@@ -37,8 +37,9 @@ fields-at-requires c κs =
 
 mask-of-requires : tie.Need-mask-of-requires Inv-loop μ-loop
 mask-of-requires c κs =
-    let l = c .before .before .before .loop in
-    let s = c .before .before .before .before .before .before in
+    let at-loop = c .before .before .before in
+    let s = at-loop .before .before .before in
+    let l = at-loop .loop in
     let D = s .pre .stands (l .d) (omega arith) in
     let m = D .mask in
     rw (c .fields-at .ensures, c .before .domain-offset .ensures) (omega (arith, bytes-length (now (s .args .image)) (getD (now (s .args .doms)) (l .d) 0) (D .whole)))
@@ -60,14 +61,16 @@ loop-less c = search needs
 
 loop-again : tie.Need-loop-again Inv-loop μ-loop
 loop-again c =
-    let l = c .before .before .before .before .before .loop in
-    let s = c .before .before .before .before .before .before .before .before in
+    let at-domain-offset = c .before .before .before in
+    let at-loop = at-domain-offset .before .before in
+    let s = at-loop .before .before .before in
+    let l = at-loop .loop in
     let b = now (s .args .image) in
     let ds = now (s .args .doms) in
     let o = getD ds (l .d) 0 in
     let D = s .pre .stands (l .d) (omega arith) in
     let m = D .mask in
-    let at = ap (fieldsAt b) (c .before .before .before .domain-offset .ensures) in
+    let at = ap (fieldsAt b) (at-domain-offset .domain-offset .ensures) in
     let mask = c .before .mask-of .ensures ∙ ap (λ fs. fieldIn fs 0) (c .before .before .fields-at .ensures ∙ at) ∙ field-is b o (lengthAt b o) 0 (omega arith) in
     let row = c .row-of .ensures ∙ ap (bits domainLimit) mask in
     (omega arith, rows-more (recordsOf b) b ds (s .pre) (l .o) (l .d) (omega arith) (l .inv .1) _ row)

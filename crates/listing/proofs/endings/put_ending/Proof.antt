@@ -24,7 +24,11 @@ same-length : tie.Need-same-length
 same-length c = search needs
 
 returns-2 : tie.Need-returns-2
-returns-2 c = as-text (ending-said (c .before .before .before .before .before .before .before .before .before .before .before .before .before .args .steps) _ (c .before .before .before .before .before .before .before .before .before .ending .given .1)) (then (c .before .before .before .before .before .before .put-outcome .ensures) (c .before .before .put-result .ensures))
+returns-2 c =
+    let at-put-outcome = c .before .before .before .before .before .before in
+    let at-ending = at-put-outcome .before .before .before in
+    let start = at-ending .before .before .before .before in
+    as-text (ending-said (start .args .steps) _ (at-ending .ending .given .1)) (then (at-put-outcome .put-outcome .ensures) (c .before .before .put-result .ensures))
 
 pub put-ending-spec : {M : Type 1} → statement M
 put-ending-spec =

@@ -15,7 +15,11 @@ same-length : tie.Need-same-length
 same-length c = search needs
 
 returns : tie.Need-returns
-returns c = as-text (result-said (c .before .before .before .before .before .before .before .before .args .outcome) _ (c .before .before .before .before .before .outcome-number .ensures) _ (c .before .before .before .before .if1 .taken)) (c .before .before .put-value .ensures)
+returns c =
+    let at-if1 = c .before .before .before .before in
+    let at-outcome-number = at-if1 .before in
+    let start = at-outcome-number .before .before .before in
+    as-text (result-said (start .args .outcome) _ (at-outcome-number .outcome-number .ensures) _ (at-if1 .if1 .taken)) (c .before .before .put-value .ensures)
 
 returns-2 : tie.Need-returns-2
 returns-2 c = as-text (no-result (c .before .before .before .before .args .outcome) _ (c .before .outcome-number .ensures) _ (c .if1 .left)) (puts-nothing _ _)

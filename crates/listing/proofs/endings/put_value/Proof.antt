@@ -23,7 +23,10 @@ same-length : tie.Need-same-length
 same-length c = search needs
 
 returns : tie.Need-returns
-returns c = then (then (c .before .before .before .before .before .before .before .before .before .before .before .put .ensures) (c .before .before .before .before .before .before .before .put-leaves .ensures)) (c .before .before .put2 .ensures)
+returns c =
+    let at-put-leaves = c .before .before .before .before .before .before .before in
+    let at-put = at-put-leaves .before .before .before .before in
+    then (then (at-put .put .ensures) (at-put-leaves .put-leaves .ensures)) (c .before .before .put2 .ensures)
 
 pub put-value-spec : {M : Type 1} → statement M
 put-value-spec =

@@ -34,19 +34,32 @@ same-length : tie.Need-same-length
 same-length c = search needs
 
 returns : tie.Need-returns
-returns c = as-text (unit-said (c .before .before .before .before .before .before .before .before .args .kind) (now (c .before .before .before .before .before .before .before .before .args .fields)) (c .before .before .before .before .before .match .keys1)) (c .before .before .put .ensures)
+returns c =
+    let at-match = c .before .before .before .before .before in
+    let start = at-match .before .before .before in
+    as-text (unit-said (start .args .kind) (now (start .args .fields)) (at-match .match .keys1)) (c .before .before .put .ensures)
 
 same-length-2 : tie.Need-same-length-2
 same-length-2 c = search needs
 
 returns-2 : tie.Need-returns-2
-returns-2 c = as-text (truth-said (c .before .before .before .before .before .before .before .before .args .kind) (now (c .before .before .before .before .before .before .before .before .args .fields)) _ (c .before .before .before .before .before .match .keys2) (c .before .before .before .word .ensures)) (c .before .before .put-truth .ensures)
+returns-2 c =
+    let at-word = c .before .before .before in
+    let at-match = at-word .before .before in
+    let start = at-match .before .before .before in
+    as-text (truth-said (start .args .kind) (now (start .args .fields)) _ (at-match .match .keys2) (at-word .word .ensures)) (c .before .before .put-truth .ensures)
 
 same-length-3 : tie.Need-same-length-3
 same-length-3 c = search needs
 
 returns-3 : tie.Need-returns-3
-returns-3 c = as-text (number-said (c .before .before .before .before .before .before .before .before .before .before .args .kind) (now (c .before .before .before .before .before .before .before .before .before .before .args .fields)) _ _ _ (c .before .before .before .before .before .before .before .match .keys3) (c .before .before .before .long .ensures) (c .before .before .before .before .before .word2 .ensures) (c .before .before .before .before .word3 .ensures)) (c .before .before .put-number .ensures)
+returns-3 c =
+    let at-long = c .before .before .before in
+    let at-word3 = at-long .before in
+    let at-word2 = at-word3 .before in
+    let at-match = at-word2 .before .before in
+    let start = at-match .before .before .before in
+    as-text (number-said (start .args .kind) (now (start .args .fields)) _ _ _ (at-match .match .keys3) (at-long .long .ensures) (at-word2 .word2 .ensures) (at-word3 .word3 .ensures)) (c .before .before .put-number .ensures)
 
 returns-4 : tie.Need-returns-4
 returns-4 c = as-text (no-leaf (c .before .before .before .args .kind) (now (c .before .before .before .args .fields)) (c .match .rest .0 .0 .1) (c .match .rest .0 .1) (c .match .rest .1)) (puts-nothing _ _)

@@ -56,8 +56,11 @@ loop-less c = search needs
 
 loop-again : tie.Need-loop-again Inv-loop μ-loop
 loop-again c =
-    let l = c .before .before .before .before .before .before .before .before .loop in
-    walk-on leafText leafIn (l .inv) _ _ _ (omega arith) refl (c .before .before .before .before .before .word .ensures) (c .before .before .before .put-leaf .ensures) (c .size-at2 .ensures)
+    let at-put-leaf = c .before .before .before in
+    let at-word = at-put-leaf .before .before in
+    let at-loop = at-word .before .before .before in
+    let l = at-loop .loop in
+    walk-on leafText leafIn (l .inv) _ _ _ (omega arith) refl (at-word .word .ensures) (at-put-leaf .put-leaf .ensures) (c .size-at2 .ensures)
 
 same-length : tie.Need-same-length Inv-loop μ-loop
 same-length c = kept (c .before .loop .inv .put)

@@ -17,7 +17,9 @@ same-length : tie.Need-same-length
 same-length c = search needs
 
 returns : tie.Need-returns
-returns c = then (c .before .before .before .before .before .before .put .ensures) (c .before .before .put-signed .ensures)
+returns c =
+    let at-put = c .before .before .before .before .before .before in
+    then (at-put .put .ensures) (c .before .before .put-signed .ensures)
 
 pub put-number-spec : {M : Type 1} → statement M
 put-number-spec =

@@ -25,13 +25,22 @@ same-length : tie.Need-same-length
 same-length c = search needs
 
 returns : tie.Need-returns
-returns c = as-text (plain-said (c .before .before .before .before .before .before .before .before .before .args .kind) (now (c .before .before .before .before .before .before .before .before .before .args .fields)) _ _ (c .before .before .before .before .before .before .match .keys1) (c .before .before .before .before .word .ensures) (c .before .before .before .behind .ensures)) (c .before .before .put-plain-cell .ensures)
+returns c =
+    let at-behind = c .before .before .before in
+    let at-word = at-behind .before in
+    let at-match = at-word .before .before in
+    let start = at-match .before .before .before in
+    as-text (plain-said (start .args .kind) (now (start .args .fields)) _ _ (at-match .match .keys1) (at-word .word .ensures) (at-behind .behind .ensures)) (c .before .before .put-plain-cell .ensures)
 
 same-length-2 : tie.Need-same-length-2
 same-length-2 c = search needs
 
 returns-2 : tie.Need-returns-2
-returns-2 c = as-text (other-said (c .before .before .before .before .before .before .before .before .args .kind) (now (c .before .before .before .before .before .before .before .before .args .fields)) _ (c .before .before .before .before .before .match .keys2) (c .before .before .before .word2 .ensures)) (c .before .before .put-other-cell .ensures)
+returns-2 c =
+    let at-word2 = c .before .before .before in
+    let at-match = at-word2 .before .before in
+    let start = at-match .before .before .before in
+    as-text (other-said (start .args .kind) (now (start .args .fields)) _ (at-match .match .keys2) (at-word2 .word2 .ensures)) (c .before .before .put-other-cell .ensures)
 
 returns-3 : tie.Need-returns-3
 returns-3 c = as-text (no-cell (c .before .before .before .args .kind) (now (c .before .before .before .args .fields)) (c .match .rest .0 .1) (c .match .rest .1)) (puts-nothing _ _)

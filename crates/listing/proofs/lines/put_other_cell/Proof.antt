@@ -29,7 +29,11 @@ same-length : tie.Need-same-length
 same-length c = search needs
 
 returns : tie.Need-returns
-returns c = then (then (then (c .before .before .before .before .before .before .before .before .before .before .before .before .before .before .before .before .put .ensures) (c .before .before .before .before .before .before .before .before .before .before .before .before .put-decimal .ensures)) (c .before .before .before .before .before .before .before .put2 .ensures)) (c .before .before .put3 .ensures)
+returns c =
+    let at-put2 = c .before .before .before .before .before .before .before in
+    let at-put-decimal = at-put2 .before .before .before .before .before in
+    let at-put = at-put-decimal .before .before .before .before in
+    then (then (then (at-put .put .ensures) (at-put-decimal .put-decimal .ensures)) (at-put2 .put2 .ensures)) (c .before .before .put3 .ensures)
 
 pub put-other-cell-spec : {M : Type 1} → statement M
 put-other-cell-spec =

@@ -26,7 +26,11 @@ same-length : tie.Need-same-length
 same-length c = search needs
 
 returns : tie.Need-returns
-returns c = then (then (then (c .before .before .before .before .before .before .before .before .before .before .before .before .before .before .before .put .ensures) (c .before .before .before .before .before .before .before .before .before .before .before .put-decimal .ensures)) (c .before .before .before .before .before .before .before .put-leaves .ensures)) (c .before .before .put2 .ensures)
+returns c =
+    let at-put-leaves = c .before .before .before .before .before .before .before in
+    let at-put-decimal = at-put-leaves .before .before .before .before in
+    let at-put = at-put-decimal .before .before .before .before in
+    then (then (then (at-put .put .ensures) (at-put-decimal .put-decimal .ensures)) (at-put-leaves .put-leaves .ensures)) (c .before .before .put2 .ensures)
 
 pub put-plain-cell-spec : {M : Type 1} → statement M
 put-plain-cell-spec =

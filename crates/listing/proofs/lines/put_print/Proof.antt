@@ -28,7 +28,14 @@ same-length : tie.Need-same-length
 same-length c = search needs
 
 returns-2 : tie.Need-returns-2
-returns-2 c = as-text (print-said (c .before .before .before .before .before .before .before .before .before .before .before .args .kind) (now (c .before .before .before .before .before .before .before .before .before .before .before .args .fields)) _ _ _ _ (c .before .before .before .before .before .before .before .before .if1 .left) (c .before .before .before .before .before .before .word .ensures) (c .before .before .before .long .ensures) (c .before .before .before .before .before .word2 .ensures) (c .before .before .before .before .word3 .ensures)) (c .before .before .put-printed .ensures)
+returns-2 c =
+    let at-long = c .before .before .before in
+    let at-word3 = at-long .before in
+    let at-word2 = at-word3 .before in
+    let at-word = at-word2 .before in
+    let at-if1 = at-word .before .before in
+    let start = at-if1 .before .before .before in
+    as-text (print-said (start .args .kind) (now (start .args .fields)) _ _ _ _ (at-if1 .if1 .left) (at-word .word .ensures) (at-long .long .ensures) (at-word2 .word2 .ensures) (at-word3 .word3 .ensures)) (c .before .before .put-printed .ensures)
 
 pub put-print-spec : {M : Type 1} → statement M
 put-print-spec =

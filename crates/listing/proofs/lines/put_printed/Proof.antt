@@ -32,7 +32,12 @@ same-length : tie.Need-same-length
 same-length c = search needs
 
 returns : tie.Need-returns
-returns c = then (then (then (then (c .before .before .before .before .before .before .before .before .before .before .before .before .before .before .before .before .before .before .before .before .put .ensures) (c .before .before .before .before .before .before .before .before .before .before .before .before .before .before .before .before .put-decimal .ensures)) (c .before .before .before .before .before .before .before .before .before .before .before .put2 .ensures)) (c .before .before .before .before .before .before .before .put-signed .ensures)) (c .before .before .put3 .ensures)
+returns c =
+    let at-put-signed = c .before .before .before .before .before .before .before in
+    let at-put2 = at-put-signed .before .before .before .before in
+    let at-put-decimal = at-put2 .before .before .before .before .before in
+    let at-put = at-put-decimal .before .before .before .before in
+    then (then (then (then (at-put .put .ensures) (at-put-decimal .put-decimal .ensures)) (at-put2 .put2 .ensures)) (at-put-signed .put-signed .ensures)) (c .before .before .put3 .ensures)
 
 pub put-printed-spec : {M : Type 1} → statement M
 put-printed-spec =

@@ -62,7 +62,10 @@ put-decimal-returns : (t : ℕ) → put-decimal-lts.Need-returns (
   put-decimal-below t,
   put-decimal.Post,
 ) (put-decimal-at t) put-decimal.Post
-put-decimal-returns t c = as-text (sym (one-digit (c .before .before .before .before .before .before .args .n) _ (c .before .before .before .before .if1 .taken) refl)) (c .before .before .put-byte .ensures)
+put-decimal-returns t c =
+    let at-if1 = c .before .before .before .before in
+    let start = at-if1 .before .before in
+    as-text (sym (one-digit (start .args .n) _ (at-if1 .if1 .taken) refl)) (c .before .before .put-byte .ensures)
 
 put-decimal-put-decimal-requires : (t : ℕ) → put-decimal-lts.Need-put-decimal-requires (
   put-byte-reads.Asked,
@@ -94,7 +97,11 @@ put-decimal-returns-2 : (t : ℕ) → put-decimal-lts.Need-returns-2 (
   put-decimal-below t,
   put-decimal.Post,
 ) (put-decimal-at t) put-decimal.Post
-put-decimal-returns-2 t c = as-text (sym (more-digits (c .before .before .before .before .before .before .before .before .before .before .args .n) _ (c .before .before .before .before .before .before .before .before .if1 .left) refl)) (then (c .before .before .before .before .before .before .put-decimal .ensures) (c .before .before .put-byte2 .ensures))
+put-decimal-returns-2 t c =
+    let at-put-decimal = c .before .before .before .before .before .before in
+    let at-if1 = at-put-decimal .before .before in
+    let start = at-if1 .before .before in
+    as-text (sym (more-digits (start .args .n) _ (at-if1 .if1 .left) refl)) (then (at-put-decimal .put-decimal .ensures) (c .before .before .put-byte2 .ensures))
 
 pub +put-decimal-spec : {M : Type 1} → statement M
 +put-decimal-spec = close μ-put-decimal λ t. put-decimal-lts.spec (

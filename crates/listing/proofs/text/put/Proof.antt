@@ -32,8 +32,10 @@ loop-less c = search needs
 
 loop-again : tie.Need-loop-again Inv-loop μ-loop
 loop-again c =
-    let l = c .before .before .before .before .before .before .loop in
-    (search needs, one-more (now (c .before .before .before .before .before .before .before .before .before .args .text)) (l .i) (search needs) (l .inv .1) (c .before .before .put-byte .ensures))
+    let at-loop = c .before .before .before .before .before .before in
+    let start = at-loop .before .before .before in
+    let l = at-loop .loop in
+    (search needs, one-more (now (start .args .text)) (l .i) (search needs) (l .inv .1) (c .before .before .put-byte .ensures))
 
 same-length : tie.Need-same-length Inv-loop μ-loop
 same-length c = kept (c .before .loop .inv .1)

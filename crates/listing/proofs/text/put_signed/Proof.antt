@@ -13,7 +13,10 @@ same-length : tie.Need-same-length
 same-length c = search needs
 
 returns : tie.Need-returns
-returns c = as-text (sym (not-negative (c .before .before .before .before .before .before .args .n) (c .before .before .before .before .if1 .taken))) (c .before .before .put-decimal .ensures)
+returns c =
+    let at-if1 = c .before .before .before .before in
+    let start = at-if1 .before .before in
+    as-text (sym (not-negative (start .args .n) (at-if1 .if1 .taken))) (c .before .before .put-decimal .ensures)
 
 slice-aggregate-put : tie.Need-slice-aggregate-put
 slice-aggregate-put c = search needs
@@ -31,7 +34,11 @@ same-length-2 : tie.Need-same-length-2
 same-length-2 c = search needs
 
 returns-2 : tie.Need-returns-2
-returns-2 c = as-text (sym (negative (c .before .before .before .before .before .before .before .before .before .before .before .args .n) (c .before .before .before .before .before .before .before .before .before .if1 .left))) (then (c .before .before .before .before .before .before .put .ensures) (c .before .before .put-decimal2 .ensures))
+returns-2 c =
+    let at-put = c .before .before .before .before .before .before in
+    let at-if1 = at-put .before .before .before in
+    let start = at-if1 .before .before in
+    as-text (sym (negative (start .args .n) (at-if1 .if1 .left))) (then (at-put .put .ensures) (c .before .before .put-decimal2 .ensures))
 
 pub put-signed-spec : {M : Type 1} → statement M
 put-signed-spec =

@@ -1,5 +1,6 @@
 use borrow.Author.Needs.{needs}
-use mathlib.Core.Path.{refl, sym, _∙_}
+use mathlib.Core.Path.{refl, sym, ap, _∙_}
+use Rattle.need_sums.specs.Walks.{asked}
 use Rattle.need_sums.proofs.places.round_child.Statement.{statement}
 use Rattle.need_sums.proofs.places.round_child.Tie as tie
 use Rattle.need_sums.proofs.places.round_child.Reads as reads
@@ -30,7 +31,9 @@ asked-requires c κs = search needs
 
 -- src/places.rt:121:1
 returns-2 : tie.Need-returns-2
-returns-2 c = let f = c .before .rounds-mode .ensures in let g = c .asked .ensures in rw (sym (c .before .before .before .is-advice-body .ensures) ∙ c .before .before .if1 .left) cc
+returns-2 c =
+    let s = c .before .before .before .before in
+    rw (sym (c .before .before .before .is-advice-body .ensures) ∙ c .before .before .if1 .left) (c .asked .ensures ∙ ap (asked (s .args .s)) (c .before .rounds-mode .ensures))
 
 pub round-child-spec : {M : Type 1} → statement M
 round-child-spec =

@@ -5,6 +5,7 @@ use Rattle.need_sums.proofs.places.running_child.Reads as reads
 use Rattle.need_sums.proofs.places.running_child.Lts as lts
 use Rattle.need_sums.proofs.places.inside.Reads as inside-reads
 use Rattle.need_sums.proofs.places.skipped.Reads as skipped-reads
+use mathlib.Core.Path.{refl}
 
 -- src/places.rt:56:26
 enum-told : tie.Need-enum-told
@@ -72,27 +73,27 @@ enum-told-9 c = search needs
 
 -- src/places.rt:51:1
 returns : tie.Need-returns
-returns c = let f0 = c .skipped .ensures in rw (c .before .enum-told .given .1) cc
+returns c = rw (c .before .enum-told .given .1) (c .skipped .ensures)
 
 -- src/places.rt:51:1
 returns-2 : tie.Need-returns-2
-returns-2 c = let f0 = c .skipped2 .ensures in rw (c .before .enum-told2 .given .1) cc
+returns-2 c = rw (c .before .enum-told2 .given .1) (c .skipped2 .ensures)
 
 -- src/places.rt:51:1
 returns-3 : tie.Need-returns-3
-returns-3 c = let f0 = c .inside .ensures in rw (c .before .enum-told3 .given .1) cc
+returns-3 c = rw (c .before .enum-told3 .given .1) (c .inside .ensures)
 
 -- src/places.rt:51:1
 returns-4 : tie.Need-returns-4
-returns-4 c = rw (c .before .before .enum-told4 .given .1) cc
+returns-4 c = rw (c .before .before .enum-told4 .given .1) refl
 
 -- src/places.rt:51:1
 returns-5 : tie.Need-returns-5
-returns-5 c = let f0 = c .inside2 .ensures in rw (c .before .enum-told5 .given .1) cc
+returns-5 c = rw (c .before .enum-told5 .given .1) (c .inside2 .ensures)
 
 -- src/places.rt:51:1
 returns-6 : tie.Need-returns-6
-returns-6 c = let f0 = c .inside3 .ensures in rw (c .before .enum-told6 .given .1) cc
+returns-6 c = rw (c .before .enum-told6 .given .1) (c .inside3 .ensures)
 
 -- src/places.rt:51:1
 returns-7 : tie.Need-returns-7

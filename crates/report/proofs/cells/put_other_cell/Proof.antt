@@ -27,8 +27,10 @@ same-length c = search needs
 returns : tie.Need-returns
 unfolding bytesOf
 returns c =
-    let a = c .before .before .before .before .before .before .before .before .before .args in
-    (refl, record-written otherCellKind (now (a .report)) (a .at) (bytes16 (a .dom)) 6 refl (c .before .before .before .before .before .before .put-header .ensures) (c .before .before .put16 .ensures) (omega arith))
+    let at-put-header = c .before .before .before .before .before .before in
+    let start = at-put-header .before .before .before in
+    let a = start .args in
+    (refl, record-written otherCellKind (now (a .report)) (a .at) (bytes16 (a .dom)) 6 refl (at-put-header .put-header .ensures) (c .before .before .put16 .ensures) (omega arith))
 
 pub put-other-cell-spec : {M : Type 1} → statement M
 put-other-cell-spec =

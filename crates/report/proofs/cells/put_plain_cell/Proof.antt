@@ -23,9 +23,11 @@ sub-put-header c = search needs
 
 cast-put-header : tie.Need-cast-put-header
 cast-put-header c =
-    let a = c .before .before .before .before .before .before .args in
+    let at-put-leaves = c .before .before .before in
+    let start = at-put-leaves .before .before .before in
+    let a = start .args in
     let n = slots-short (a .count) (a .slots) in
-    record { fits = omega (arith, c .before .before .before .put-leaves .ensures .0) }
+    record { fits = omega (arith, at-put-leaves .put-leaves .ensures .0) }
 
 put-header-requires : tie.Need-put-header-requires
 put-header-requires c κs = search needs
@@ -42,13 +44,16 @@ same-length c = search needs
 returns : tie.Need-returns
 unfolding bytesOf
 returns c =
-    let a = c .before .before .before .before .before .before .before .before .before .before .before .before .before .args in
+    let at-put-header = c .before .before .before .before .before .before in
+    let at-put-leaves = at-put-header .before .before .before .before in
+    let start = at-put-leaves .before .before .before in
+    let a = start .args in
     let ls = leavesBytes (leavesIn (a .count) (a .slots)) in
     let n = slots-short (a .count) (a .slots) in
-    let w = c .before .before .before .before .before .before .before .before .before .before .put-leaves .ensures in
-    let e : c .before .before .before .before .before .before .before .before .before .before .put-leaves .result - a .at ≡ 6 + length ls = omega (arith, w .0) in
+    let w = at-put-leaves .put-leaves .ensures in
+    let e : at-put-leaves .put-leaves .result - a .at ≡ 6 + length ls = omega (arith, w .0) in
     let i : a .at + 6 ≡ a .at + 4 + 2 = omega arith in
-    (omega (arith, w .0), header-last plainCellKind (now (a .report)) (a .at) (bytes16 (a .dom)) ls (6 + length ls) (a .at + 6) refl i (w .1) (rw e at (c .before .before .before .before .before .before .put-header .ensures)) (c .before .before .put16 .ensures) (omega arith))
+    (omega (arith, w .0), header-last plainCellKind (now (a .report)) (a .at) (bytes16 (a .dom)) ls (6 + length ls) (a .at + 6) refl i (w .1) (rw e at (at-put-header .put-header .ensures)) (c .before .before .put16 .ensures) (omega arith))
 
 pub put-plain-cell-spec : {M : Type 1} → statement M
 put-plain-cell-spec =

@@ -28,9 +28,13 @@ same-length c = search needs
 returns : tie.Need-returns
 unfolding bytesOf
 returns c =
-    let a = c .before .before .before .before .before .before .before .before .before .before .before .before .before .before .args in
-    let e = c .before .before .before .before .before .before .before .outcome-number .ensures in
-    fields-written reportKind (now (a .report)) 0 (bytes16 (outcomeNumber (a .outcome))) (bytes32 (a .steps)) 10 6 refl refl (c .before .before .before .before .before .before .before .before .before .before .before .put-header .ensures) (rw e at (c .before .before .before .before .before .before .put16 .ensures)) (c .before .before .put32 .ensures) (omega arith)
+    let at-put16 = c .before .before .before .before .before .before in
+    let at-outcome-number = at-put16 .before in
+    let at-put-header = at-outcome-number .before .before .before .before in
+    let start = at-put-header .before .before .before in
+    let a = start .args in
+    let e = at-outcome-number .outcome-number .ensures in
+    fields-written reportKind (now (a .report)) 0 (bytes16 (outcomeNumber (a .outcome))) (bytes32 (a .steps)) 10 6 refl refl (at-put-header .put-header .ensures) (rw e at (at-put16 .put16 .ensures)) (c .before .before .put32 .ensures) (omega arith)
 
 pub put-head-spec : {M : Type 1} → statement M
 put-head-spec =

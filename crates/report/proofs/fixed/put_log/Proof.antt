@@ -30,8 +30,11 @@ same-length c = search needs
 returns : tie.Need-returns
 unfolding bytesOf
 returns c =
-    let a = c .before .before .before .before .before .before .before .before .before .before .before .before .before .args in
-    fields-written logKind (now (a .log)) (a .at) (bytes16 (a .dom)) (bytes32 (a .number)) 10 (a .at + 6) refl (omega arith) (c .before .before .before .before .before .before .before .before .before .before .put-header .ensures) (c .before .before .before .before .before .before .put16 .ensures) (c .before .before .put32 .ensures) (omega arith)
+    let at-put16 = c .before .before .before .before .before .before in
+    let at-put-header = at-put16 .before .before .before .before in
+    let start = at-put-header .before .before .before in
+    let a = start .args in
+    fields-written logKind (now (a .log)) (a .at) (bytes16 (a .dom)) (bytes32 (a .number)) 10 (a .at + 6) refl (omega arith) (at-put-header .put-header .ensures) (at-put16 .put16 .ensures) (c .before .before .put32 .ensures) (omega arith)
 
 pub put-log-spec : {M : Type 1} → statement M
 put-log-spec =

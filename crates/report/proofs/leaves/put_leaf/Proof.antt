@@ -64,10 +64,14 @@ same-length-2 c = search needs
 returns-2 : tie.Need-returns-2
 unfolding bytesOf
 returns-2 c =
-    let a = c .before .before .before .before .before .before .before .before .before .before .before .before .before .args in
-    let l = c .before .before .before .before .before .before .before .before .before .before .leaf .given in
-    let w = rw (c .before .before .before .bit .ensures) at (c .before .before .put16 .ensures) in
-    rw (l .1) (refl, record-written 66 (now (a .report)) (a .at) (bytes16 (choose (l .0 .0) 1 0)) 6 refl (c .before .before .before .before .before .before .before .put-header2 .ensures) w (omega arith))
+    let at-bit = c .before .before .before in
+    let at-put-header2 = at-bit .before .before .before .before in
+    let at-leaf = at-put-header2 .before .before .before in
+    let start = at-leaf .before .before .before in
+    let a = start .args in
+    let l = at-leaf .leaf .given in
+    let w = rw (at-bit .bit .ensures) at (c .before .before .put16 .ensures) in
+    rw (l .1) (refl, record-written 66 (now (a .report)) (a .at) (bytes16 (choose (l .0 .0) 1 0)) 6 refl (at-put-header2 .put-header2 .ensures) w (omega arith))
 
 same-length-3 : tie.Need-same-length-3
 same-length-3 c = search needs
@@ -75,9 +79,12 @@ same-length-3 c = search needs
 returns-3 : tie.Need-returns-3
 unfolding bytesOf
 returns-3 c =
-    let a = c .before .before .before .before .before .before .before .before .before .before .before .before .args in
-    let l = c .before .before .before .before .before .before .before .before .before .leaf2 .given in
-    rw (l .1) (refl, record-written 67 (now (a .report)) (a .at) (bytes32 (l .0 .0)) 8 refl (c .before .before .before .before .before .before .put-header3 .ensures) (c .before .before .put32 .ensures) (omega arith))
+    let at-put-header3 = c .before .before .before .before .before .before in
+    let at-leaf2 = at-put-header3 .before .before .before in
+    let start = at-leaf2 .before .before .before in
+    let a = start .args in
+    let l = at-leaf2 .leaf2 .given in
+    rw (l .1) (refl, record-written 67 (now (a .report)) (a .at) (bytes32 (l .0 .0)) 8 refl (at-put-header3 .put-header3 .ensures) (c .before .before .put32 .ensures) (omega arith))
 
 pub put-leaf-spec : {M : Type 1} → statement M
 put-leaf-spec =

@@ -44,8 +44,10 @@ loop-less c = search needs
 
 loop-again : tie.Need-loop-again Inv-loop μ-loop
 loop-again c =
-    let a = c .before .before .before .before .before .before .before .before .args in
-    let l = c .before .before .before .before .before .before .loop in
+    let at-loop = c .before .before .before .before .before .before in
+    let start = at-loop .before .before in
+    let a = start .args in
+    let l = at-loop .loop in
     let w = c .before .before .put-leaf in
     let g : length (a .t3) ≡ 8 = search needs in
     let s = leaves-step (a .t3) (now (a .report)) (a .at) (l .i) (l .o) _ (omega arith) (l .inv .3) (l .inv .4) (w .ensures .0) (w .ensures .1) (omega arith) in

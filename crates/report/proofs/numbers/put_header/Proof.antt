@@ -24,8 +24,10 @@ same-length c = search needs
 returns : tie.Need-returns
 unfolding bytesOf
 returns c =
-    let a = c .before .before .before .before .before .before .before .before .before .args in
-    onward (bytes16 (a .size)) (bytes16 (a .kind)) (now (a .out)) (a .at) (a .at + 2) (c .before .before .before .before .before .before .put16 .ensures) (c .before .before .put162 .ensures) refl (omega arith)
+    let at-put16 = c .before .before .before .before .before .before in
+    let start = at-put16 .before .before .before in
+    let a = start .args in
+    onward (bytes16 (a .size)) (bytes16 (a .kind)) (now (a .out)) (a .at) (a .at + 2) (at-put16 .put16 .ensures) (c .before .before .put162 .ensures) refl (omega arith)
 
 pub put-header-spec : {M : Type 1} → statement M
 put-header-spec =

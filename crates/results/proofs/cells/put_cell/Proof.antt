@@ -34,8 +34,10 @@ plain-leaves-requires c κs = search needs
 
 put-plain-cell-requires : tie.Need-put-plain-cell-requires
 put-plain-cell-requires c κs =
-    let M = memoryOf (now (c .before .before .before .before .before .before .before .before .args .work)) in
-    let v = c .before .before .before .before .before .cell-at .result in
+    let at-cell-at = c .before .before .before .before .before in
+    let start = at-cell-at .before .before .before in
+    let M = memoryOf (now (start .args .work)) in
+    let v = at-cell-at .cell-at .result in
     let n = gathered-few (plainLeavesIn M v) (c .before .before .plain-leaves .ensures) (plain-few M v) in
     (n, omega arith)
 

@@ -169,7 +169,10 @@ gather-gather-requires : (t : ℕ) → gather-lts.Need-gather-requires (
   gather-below t,
   gather.Post,
 ) (gather-at t) gather.Post
-gather-gather-requires t c κs = let s = c .before .before .before .before .before .before .before in let m = s .pre .0 in (omega arith, s .pre .1)
+gather-gather-requires t c κs =
+    let s = c .before .before .before .before .before .before .before in
+    let m = s .pre .0 in
+    (omega arith, s .pre .1)
 
 gather-sub-gather-2 : (t : ℕ) → gather-lts.Need-sub-gather-2 (
   tag-reads.Asked,
@@ -201,7 +204,10 @@ gather-gather-requires-2 : (t : ℕ) → gather-lts.Need-gather-requires-2 (
   gather-below t,
   gather.Post,
 ) (gather-at t) gather.Post
-gather-gather-requires-2 t c κs = let s = c .before .before .before .before .before .before .before .before in let m = s .pre .0 in (omega arith, s .pre .1)
+gather-gather-requires-2 t c κs =
+    let s = c .before .before .before .before .before .before .before .before in
+    let m = s .pre .0 in
+    (omega arith, s .pre .1)
 
 gather-returns-3 : (t : ℕ) → gather-lts.Need-returns-3 (
   tag-reads.Asked,

@@ -14,9 +14,10 @@ tag-requires c κs = search needs
 
 put-one-leaf-requires : tie.Need-put-one-leaf-requires
 put-one-leaf-requires c κs =
-    let s = c .before .before .before .before .before .before .before in
+    let at-if1 = c .before .before .before in
+    let s = at-if1 .before .before .before .before in
     let t = c .before .before .tag .ensures in
-    (s .pre .0, s .pre .1, s .pre .2, s .pre .3, c .before .before .before .if1 .taken, omega (arith, c .before .if2 .taken))
+    (s .pre .0, s .pre .1, s .pre .2, s .pre .3, at-if1 .if1 .taken, omega (arith, c .before .if2 .taken))
 
 same-length : tie.Need-same-length
 same-length c = search needs

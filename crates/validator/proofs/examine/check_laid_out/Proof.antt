@@ -16,7 +16,8 @@ returns c = shape-refuses _ _ (c .before .before .check-shape .ensures) (sym (c 
 
 check-typing-requires : tie.Need-check-typing-requires
 check-typing-requires c κs =
-    let p = c .before .before .before .before .before .before .before .pre in
+    let start = c .before .before .before .before .before .before .before .before in
+    let p = start .pre in
     let v = c .before .before .check-shape .ensures in
     let a = sym (c .before .is-refused .ensures) ∙ c .if1 .left in
     (p .1, p .2, shaped _ _ v a, p .3)

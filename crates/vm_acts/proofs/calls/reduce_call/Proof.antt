@@ -27,9 +27,13 @@ same-length c = search needs
 
 returns : tie.Need-returns
 returns c =
-    let a = c .before .before .before .before .before .before .before .before .before .before .before .args in
-    method-made (record { code = now (a .code); image = now (a .image) }) (a .w) (a .x) _ _ _ (c .before .before .before .before .before .before .before .object-term .ensures) (c .before .before .before .before .before .field-b .ensures)
-    (c .before .before .before .before .method-at .ensures) _ _ (a .r) _ (c .before .before .call-body .ensures (now (a .image)))
+    let at-method-at = c .before .before .before .before in
+    let at-field-b = at-method-at .before in
+    let at-object-term = at-field-b .before .before in
+    let start = at-object-term .before .before .before .before in
+    let a = start .args in
+    method-made (record { code = now (a .code); image = now (a .image) }) (a .w) (a .x) _ _ _ (at-object-term .object-term .ensures) (at-field-b .field-b .ensures)
+    (at-method-at .method-at .ensures) _ _ (a .r) _ (c .before .before .call-body .ensures (now (a .image)))
 
 pub reduce-call-spec : {M : Type 1} → statement M
 reduce-call-spec =

@@ -30,13 +30,22 @@ add-q : tie.Need-add-q
 add-q c = search needs
 
 completed-requires : tie.Need-completed-requires
-completed-requires c κs = let s = c .before .before .before .before .before .before .before .before .before in (search needs, omega (arith, c .before .before .depth-of .ensures, s .pre .2))
+completed-requires c κs =
+    let s = c .before .before .before .before .before .before .before .before .before in
+    (search needs, omega (arith, c .before .before .depth-of .ensures, s .pre .2))
 
 same-length : tie.Need-same-length
 same-length c = search needs
 
 returns : tie.Need-returns
-returns c = let a = c .before .before .before .before .before .before .before .before .before .before .before .before .args in λ image. returned-made (record { code = now (a .code); image = image }) (a .f) _ _ (a .r) _ _ _ _ _ _ (c .before .before .before .before .before .before .before .before .before .slot-pc .ensures) refl (c .before .before .before .before .before .depth-of .ensures) (c .before .before .before .before .before .before .slot-env .ensures) (ap (setEnv (c .before .before .before .before .before .before .slot-env .result)) (ap (setRoom (a .r .room + c .before .before .before .before .before .depth-of .result)) (c .before .before .before .before .before .before .before .same .ensures))) (c .before .before .completed .ensures)
+returns c =
+    let at-depth-of = c .before .before .before .before .before in
+    let at-slot-env = at-depth-of .before in
+    let at-same = at-slot-env .before in
+    let at-slot-pc = at-same .before .before in
+    let start = at-slot-pc .before .before .before in
+    let a = start .args in
+    λ image. returned-made (record { code = now (a .code); image = image }) (a .f) _ _ (a .r) _ _ _ _ _ _ (at-slot-pc .slot-pc .ensures) refl (at-depth-of .depth-of .ensures) (at-slot-env .slot-env .ensures) (ap (setEnv (at-slot-env .slot-env .result)) (ap (setRoom (a .r .room + at-depth-of .depth-of .result)) (at-same .same .ensures))) (c .before .before .completed .ensures)
 
 pub returned-spec : {M : Type 1} → statement M
 returned-spec =

@@ -56,15 +56,18 @@ loop-less c = search needs
 
 loop-again : tie.Need-loop-again Inv-loop μ-loop
 loop-again c =
-    let x = c .before .before .before .before .before .before in
+    let at-if1 = c .before .before .before in
+    let at-class-of = at-if1 .before in
+    let x = at-class-of .before .before in
     let l = x .before .before .loop in
     let a = x .before .before .before .before .before .before .before .args in
-    l .inv ∙ one-taken (record { code = now (a .code); image = now (a .image) }) (memoryOf (now (a .work))) (a .env) (a .w) _ (l .i) (l .d) _ _ _ (x .before .loop-test .taken) (x .child-at .ensures .0) refl (c .before .before .before .before .class-of .ensures) _ _ _ (c .before .before .before .if1 .left) (c .before .before .atom-value .ensures (record { code = now (a .code); image = now (a .image) })) (c .before .body .ensures) (c .with-digit .ensures)
+    l .inv ∙ one-taken (record { code = now (a .code); image = now (a .image) }) (memoryOf (now (a .work))) (a .env) (a .w) _ (l .i) (l .d) _ _ _ (x .before .loop-test .taken) (x .child-at .ensures .0) refl (at-class-of .class-of .ensures) _ _ _ (at-if1 .if1 .left) (c .before .before .atom-value .ensures (record { code = now (a .code); image = now (a .image) })) (c .before .body .ensures) (c .with-digit .ensures)
 
 returns-2 : tie.Need-returns-2 Inv-loop μ-loop
 returns-2 c =
+    let start = c .before .before .before .before .before .before in
     let l = c .before .loop in
-    let a = c .before .before .before .before .before .before .args in
+    let a = start .args in
     from-count (record { code = now (a .code); image = now (a .image) }) (memoryOf (now (a .work))) (a .env) (a .w) _ _ _ _ (c .before .before .count-of .ensures) (l .inv ∙ none-left (record { code = now (a .code); image = now (a .image) }) (memoryOf (now (a .work))) (a .env) (a .w) _ (l .i) (l .d) (search needs))
 
 pub take-labels-spec : {M : Type 1} → statement M

@@ -34,11 +34,12 @@ same-length c = search needs
 
 returns : tie.Need-returns
 returns c =
-    let d = c .before .before .before .before .before .before .before .before in
+    let at-put-digits = c .before .before .before .before .before in
+    let d = at-put-digits .before .before .before in
     let s = d .before .before .before .before in
     let a = s .args in
     child-made (record { code = now (a .code); image = now (a .image) }) (now (a .work)) _ (a .r) _ (a .w) _ _ _ _ (record { count = a .done .count; digits = a .done .digits })
-    (c .before .before .same .ensures) (d .depth-of .ensures) refl (search needs) (c .before .child-at .ensures .0) (c .entry-from .ensures .0 (now (a .image))) (c .before .before .before .before .before .put-digits .ensures)
+    (c .before .before .same .ensures) (d .depth-of .ensures) refl (search needs) (c .before .child-at .ensures .0) (c .entry-from .ensures .0 (now (a .image))) (at-put-digits .put-digits .ensures)
 
 pub begin-child-spec : {M : Type 1} → statement M
 begin-child-spec =

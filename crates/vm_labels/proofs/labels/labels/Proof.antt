@@ -17,7 +17,11 @@ mul-is-strange : tie.Need-mul-is-strange
 mul-is-strange c = let s = c .before .before .before .before .before in let a = s .args in let h = part-pc (record { code = now (a .code); image = now (a .image) }) (memoryOf (now (a .work))) (a .f) (a .r) _ (a .resumed) (c .part-of .ensures (now (a .image))) (s .pre .2) in omega (arith, h)
 
 shared-slice-read-is-strange : tie.Need-shared-slice-read-is-strange
-shared-slice-read-is-strange c = let s = c .before .before .before .before .before .before in let a = s .args in let h = part-pc (record { code = now (a .code); image = now (a .image) }) (memoryOf (now (a .work))) (a .f) (a .r) _ (a .resumed) (c .before .part-of .ensures (now (a .image))) (s .pre .2) in omega (arith, h, s .pre .0)
+shared-slice-read-is-strange c =
+    let s = c .before .before .before .before .before .before in
+    let a = s .args in
+    let h = part-pc (record { code = now (a .code); image = now (a .image) }) (memoryOf (now (a .work))) (a .f) (a .r) _ (a .resumed) (c .before .part-of .ensures (now (a .image))) (s .pre .2) in
+    omega (arith, h, s .pre .0)
 
 is-strange-requires : tie.Need-is-strange-requires
 is-strange-requires c κs = search needs
@@ -56,9 +60,12 @@ same-length-2 c = search needs
 
 returns-2 : tie.Need-returns-2
 returns-2 c =
-    let p = c .before .before .before .before .before .before .before .before in
+    let at-same = c .before .before .before .before in
+    let at-if1 = at-same .before in
+    let at-is-strange = at-if1 .before in
+    let p = at-is-strange .before .before in
     let a = p .before .before .before .before .before .args in
-    labelled-on (record { code = now (a .code); image = now (a .image) }) (now (a .work)) _ (a .r) _ (a .f) (p .part-of .result) (a .resumed) (p .part-of .ensures (now (a .image))) _ (c .before .before .before .before .same .ensures) (sym (c .before .before .before .before .before .before .is-strange .ensures) ∙ c .before .before .before .before .before .if1 .left) (c .before .before .labels-from .ensures)
+    labelled-on (record { code = now (a .code); image = now (a .image) }) (now (a .work)) _ (a .r) _ (a .f) (p .part-of .result) (a .resumed) (p .part-of .ensures (now (a .image))) _ (at-same .same .ensures) (sym (at-is-strange .is-strange .ensures) ∙ at-if1 .if1 .left) (c .before .before .labels-from .ensures)
 
 pub labels-spec : {M : Type 1} → statement M
 labels-spec =

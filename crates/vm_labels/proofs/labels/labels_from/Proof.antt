@@ -28,9 +28,11 @@ same-length c = search needs
 
 returns : tie.Need-returns
 returns c =
-    let t = c .before .before .before .before .before .before .before in
+    let at-if1 = c .before .before .before .before in
+    let at-count-of = at-if1 .before .before in
+    let t = at-count-of .before in
     let a = t .before .before .before .before .before .before .args in
-    all-done (record { code = now (a .code); image = now (a .image) }) (now (a .work)) _ (a .r) _ (a .r .pc) (a .from .count) (a .from .digits) (record { count = t .take-labels .result .count; digits = t .take-labels .result .digits }) (t .take-labels .ensures) _ (c .before .before .before .before .before .before .count-of .ensures) (c .before .before .before .before .if1 .taken) (c .before .before .make-pointcut .ensures)
+    all-done (record { code = now (a .code); image = now (a .image) }) (now (a .work)) _ (a .r) _ (a .r .pc) (a .from .count) (a .from .digits) (record { count = t .take-labels .result .count; digits = t .take-labels .result .digits }) (t .take-labels .ensures) _ (at-count-of .count-of .ensures) (at-if1 .if1 .taken) (c .before .before .make-pointcut .ensures)
 
 depth-of-requires : tie.Need-depth-of-requires
 depth-of-requires c κs = search needs
@@ -46,9 +48,12 @@ same-length-2 c = search needs
 
 returns-2 : tie.Need-returns-2
 returns-2 c =
-    let t = c .before .before .before .before .before .before .before in
+    let at-depth-of = c .before .before .before in
+    let at-if1 = at-depth-of .before in
+    let at-count-of = at-if1 .before .before in
+    let t = at-count-of .before in
     let a = t .before .before .before .before .before .before .args in
-    no-room (record { code = now (a .code); image = now (a .image) }) (now (a .work)) (now (a .work)) (a .r) _ (a .r .pc) (a .from .count) (a .from .digits) (record { count = t .take-labels .result .count; digits = t .take-labels .result .digits }) (t .take-labels .ensures) _ (c .before .before .before .before .before .before .count-of .ensures) (c .before .before .before .before .if1 .left) _ (c .before .before .before .depth-of .ensures) (c .before .if2 .taken) (c .halt .ensures)
+    no-room (record { code = now (a .code); image = now (a .image) }) (now (a .work)) (now (a .work)) (a .r) _ (a .r .pc) (a .from .count) (a .from .digits) (record { count = t .take-labels .result .count; digits = t .take-labels .result .digits }) (t .take-labels .ensures) _ (at-count-of .count-of .ensures) (at-if1 .if1 .left) _ (at-depth-of .depth-of .ensures) (c .before .if2 .taken) (c .halt .ensures)
 
 begin-child-requires : tie.Need-begin-child-requires
 begin-child-requires c κs = search needs
@@ -58,9 +63,13 @@ same-length-3 c = search needs
 
 returns-3 : tie.Need-returns-3
 returns-3 c =
-    let t = c .before .before .before .before .before .before .before .before .before .before in
+    let at-if2 = c .before .before .before .before in
+    let at-depth-of = at-if2 .before .before in
+    let at-if1 = at-depth-of .before in
+    let at-count-of = at-if1 .before .before in
+    let t = at-count-of .before in
     let a = t .before .before .before .before .before .before .args in
-    one-begun (record { code = now (a .code); image = now (a .image) }) (now (a .work)) _ (a .r) _ (a .r .pc) (a .from .count) (a .from .digits) (record { count = t .take-labels .result .count; digits = t .take-labels .result .digits }) (t .take-labels .ensures) _ (c .before .before .before .before .before .before .before .before .before .count-of .ensures) (c .before .before .before .before .before .before .before .if1 .left) _ (c .before .before .before .before .before .before .depth-of .ensures) (c .before .before .before .before .if2 .left) (c .before .before .begin-child .ensures)
+    one-begun (record { code = now (a .code); image = now (a .image) }) (now (a .work)) _ (a .r) _ (a .r .pc) (a .from .count) (a .from .digits) (record { count = t .take-labels .result .count; digits = t .take-labels .result .digits }) (t .take-labels .ensures) _ (at-count-of .count-of .ensures) (at-if1 .if1 .left) _ (at-depth-of .depth-of .ensures) (at-if2 .if2 .left) (c .before .before .begin-child .ensures)
 
 pub labels-from-spec : {M : Type 1} → statement M
 labels-from-spec =

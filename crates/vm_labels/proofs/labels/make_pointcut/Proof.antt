@@ -32,7 +32,15 @@ halt-requires-2 : tie.Need-halt-requires-2
 halt-requires-2 c κs = search needs
 
 returns-2 : tie.Need-returns-2
-returns-2 c = let a = c .before .before .before .before .before .before .before .before .before .before .before .before .args in judged-made _ (now (a .work)) (now (a .work)) (a .r) _ (a .w) _ (c .before .before .before .before .before .before .before .before .before .before .depth-of .ensures) (c .before .before .before .before .before .before .before .before .if1 .left) (piece-unpaid (now (a .work)) (a .r) _ (a .w) pointcutTag 0 (labelSet (countOf (a .w)) (a .digits) 0) _ _ (c .before .before .before .before .before .half-of .ensures) (c .before .before .before .has-room .ensures) _ _ (c .before .before .before .before .before .before .if2 .taken) (c .before .before .pieces-out .ensures) (c .before .spent-or .ensures) (c .halt2 .ensures))
+returns-2 c =
+    let at-has-room = c .before .before .before in
+    let at-half-of = at-has-room .before .before in
+    let at-if2 = at-half-of .before in
+    let at-if1 = at-if2 .before .before in
+    let at-depth-of = at-if1 .before .before in
+    let start = at-depth-of .before .before in
+    let a = start .args in
+    judged-made _ (now (a .work)) (now (a .work)) (a .r) _ (a .w) _ (at-depth-of .depth-of .ensures) (at-if1 .if1 .left) (piece-unpaid (now (a .work)) (a .r) _ (a .w) pointcutTag 0 (labelSet (countOf (a .w)) (a .digits) 0) _ _ (at-half-of .half-of .ensures) (at-has-room .has-room .ensures) _ _ (at-if2 .if2 .taken) (c .before .before .pieces-out .ensures) (c .before .spent-or .ensures) (c .halt2 .ensures))
 
 count-of-requires : tie.Need-count-of-requires
 count-of-requires c κs = search needs
@@ -47,7 +55,14 @@ same-length : tie.Need-same-length
 same-length c = search needs
 
 returns-3 : tie.Need-returns-3
-returns-3 c = let a = c .before .before .before .before .before .before .before .before .before .before .before .before .args in judged-made _ (now (a .work)) _ (a .r) _ (a .w) _ (c .before .before .before .before .before .before .before .before .before .before .depth-of .ensures) (c .before .before .before .before .before .before .before .before .if1 .left) (pointcut-as (now (a .work)) _ (a .r) _ (a .w) _ _ (a .digits) (c .before .before .before .before .count-of .ensures) (c .before .before .before .label-set .ensures) (c .before .before .new-piece .ensures))
+returns-3 c =
+    let at-label-set = c .before .before .before in
+    let at-count-of = at-label-set .before in
+    let at-if1 = at-count-of .before .before .before .before in
+    let at-depth-of = at-if1 .before .before in
+    let start = at-depth-of .before .before in
+    let a = start .args in
+    judged-made _ (now (a .work)) _ (a .r) _ (a .w) _ (at-depth-of .depth-of .ensures) (at-if1 .if1 .left) (pointcut-as (now (a .work)) _ (a .r) _ (a .w) _ _ (a .digits) (at-count-of .count-of .ensures) (at-label-set .label-set .ensures) (c .before .before .new-piece .ensures))
 
 pub make-pointcut-spec : {M : Type 1} → statement M
 make-pointcut-spec =

@@ -44,9 +44,13 @@ add-t20 c = search needs
 
 returns : tie.Need-returns
 returns c =
-    let d = c .before .before .before .before .before .before .before in
+    let at-slot-env = c .before .before .before in
+    let at-with-digit = at-slot-env .before in
+    let at-body = at-with-digit .before in
+    let at-digit-count = at-body .before in
+    let d = at-digit-count .before in
     let a = d .before .before .before .before .before .args in
-    λ image. resumed-part (record { code = now (a .code); image = image }) (memoryOf (now (a .work))) (a .resumed) (a .f) (a .r) _ _ _ _ _ _ _ (d .before .before .if1 .taken) (d .before .slot-pc .ensures) (c .before .before .before .slot-env .ensures) (d .digits-at .ensures) (c .before .before .before .before .before .before .digit-count .ensures) (c .before .before .before .before .before .body .ensures) (c .before .before .before .before .with-digit .ensures) (c .before .depth-of .ensures)
+    λ image. resumed-part (record { code = now (a .code); image = image }) (memoryOf (now (a .work))) (a .resumed) (a .f) (a .r) _ _ _ _ _ _ _ (d .before .before .if1 .taken) (d .before .slot-pc .ensures) (at-slot-env .slot-env .ensures) (d .digits-at .ensures) (at-digit-count .digit-count .ensures) (at-body .body .ensures) (at-with-digit .with-digit .ensures) (c .before .depth-of .ensures)
 
 returns-2 : tie.Need-returns-2
 returns-2 c = let a = c .before .before .before .args in λ image. begun-part (record { code = now (a .code); image = image }) (memoryOf (now (a .work))) (a .resumed) (a .f) (a .r) (c .if1 .left)

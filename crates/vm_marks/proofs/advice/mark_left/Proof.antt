@@ -29,7 +29,13 @@ same-length : tie.Need-same-length
 same-length c = search needs
 
 returns : tie.Need-returns
-returns c = let a = c .before .before .before .before .before .before .before .before .before .before .args in mark-left-made (now (a .work)) _ (a .r) _ _ (a .w) (a .f) _ _ (c .before .before .before .before .before .before .before .before .same .ensures) (c .before .before .before .before .before .before .depth-of .ensures) (c .before .before .before .before .slot-env .ensures) (c .before .before .completed .ensures)
+returns c =
+    let at-slot-env = c .before .before .before .before in
+    let at-depth-of = at-slot-env .before .before in
+    let at-same = at-depth-of .before .before in
+    let start = at-same .before .before in
+    let a = start .args in
+    mark-left-made (now (a .work)) _ (a .r) _ _ (a .w) (a .f) _ _ (at-same .same .ensures) (at-depth-of .depth-of .ensures) (at-slot-env .slot-env .ensures) (c .before .before .completed .ensures)
 
 pub mark-left-spec : {M : Type 1} → statement M
 mark-left-spec =

@@ -27,7 +27,14 @@ same-length : tie.Need-same-length
 same-length c = search needs
 
 returns-2 : tie.Need-returns-2
-returns-2 c = let a = c .before .before .before .before .before .before .before .before .before .before .before .args in λ image. advice-next (record { code = now (a .code); image = image }) (now (a .work)) _ (a .r) _ (a .f) (c .before .before .before .before .before .before .before .if1 .left) _ _ (c .before .before .before .before .before .before .next-binding .ensures) (c .before .before .before .before .before .end-binding .ensures) (c .before .before .before .before .if2 .taken) (c .before .before .next-body .ensures)
+returns-2 c =
+    let at-if2 = c .before .before .before .before in
+    let at-end-binding = at-if2 .before in
+    let at-next-binding = at-end-binding .before in
+    let at-if1 = at-next-binding .before in
+    let start = at-if1 .before .before .before .before in
+    let a = start .args in
+    λ image. advice-next (record { code = now (a .code); image = image }) (now (a .work)) _ (a .r) _ (a .f) (at-if1 .if1 .left) _ _ (at-next-binding .next-binding .ensures) (at-end-binding .end-binding .ensures) (at-if2 .if2 .taken) (c .before .before .next-body .ensures)
 
 slot-pc-requires : tie.Need-slot-pc-requires
 slot-pc-requires c κs = search needs
@@ -39,13 +46,28 @@ shared-slice-read-mark-left : tie.Need-shared-slice-read-mark-left
 shared-slice-read-mark-left c = search needs
 
 mark-left-requires : tie.Need-mark-left-requires
-mark-left-requires c κs = let a = c .before .before .before .before .before .before .before .before .before .before .args in (search needs, room-of-mark (record { code = now (a .code); image = [] }) (now (a .work)) (now (a .work)) (a .r) (a .r) (a .f) (c .before .before .before .before .before .before .if1 .left) _ _ (c .before .before .before .before .before .next-binding .ensures) (c .before .before .before .before .end-binding .ensures) _ [] (c .before .before .before .if2 .left) (c .before .slot-pc .ensures) (c .before .before .before .before .before .before .before .before .before .before .pre .3 [] []), search needs)
+mark-left-requires c κs =
+    let at-if2 = c .before .before .before in
+    let at-end-binding = at-if2 .before in
+    let at-next-binding = at-end-binding .before in
+    let at-if1 = at-next-binding .before in
+    let start = at-if1 .before .before .before .before in
+    let a = start .args in
+    (search needs, room-of-mark (record { code = now (a .code); image = [] }) (now (a .work)) (now (a .work)) (a .r) (a .r) (a .f) (at-if1 .if1 .left) _ _ (at-next-binding .next-binding .ensures) (at-end-binding .end-binding .ensures) _ [] (at-if2 .if2 .left) (c .before .slot-pc .ensures) (start .pre .3 [] []), search needs)
 
 same-length-2 : tie.Need-same-length-2
 same-length-2 c = search needs
 
 returns-3 : tie.Need-returns-3
-returns-3 c = let a = c .before .before .before .before .before .before .before .before .before .before .before .before .before .args in λ image. advice-done (record { code = now (a .code); image = image }) (now (a .work)) _ (a .r) _ (a .f) (c .before .before .before .before .before .before .before .before .before .if1 .left) _ _ (c .before .before .before .before .before .before .before .before .next-binding .ensures) (c .before .before .before .before .before .before .before .end-binding .ensures) _ (c .before .before .before .before .before .before .if2 .left) (c .before .before .before .before .slot-pc .ensures) (c .before .before .mark-left .ensures)
+returns-3 c =
+    let at-slot-pc = c .before .before .before .before in
+    let at-if2 = at-slot-pc .before .before in
+    let at-end-binding = at-if2 .before in
+    let at-next-binding = at-end-binding .before in
+    let at-if1 = at-next-binding .before in
+    let start = at-if1 .before .before .before .before in
+    let a = start .args in
+    λ image. advice-done (record { code = now (a .code); image = image }) (now (a .work)) _ (a .r) _ (a .f) (at-if1 .if1 .left) _ _ (at-next-binding .next-binding .ensures) (at-end-binding .end-binding .ensures) _ (at-if2 .if2 .left) (at-slot-pc .slot-pc .ensures) (c .before .before .mark-left .ensures)
 
 pub next-advice-spec : {M : Type 1} → statement M
 next-advice-spec =

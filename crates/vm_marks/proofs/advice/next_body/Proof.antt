@@ -29,13 +29,24 @@ same-requires : tie.Need-same-requires
 same-requires c κs = search needs
 
 sub-q : tie.Need-sub-q
-sub-q c = c .before .before .before .before .before .before .before .before .before .before .before .before .before .pre .2
+sub-q c =
+    let start = c .before .before .before .before .before .before .before .before .before .before .before .before .before in
+    start .pre .2
 
 same-length : tie.Need-same-length
 same-length c = search needs
 
 returns : tie.Need-returns
-returns c = let a = c .before .before .before .before .before .before .before .before .before .before .before .before .before .args in next-body-made (now (a .work)) _ (a .r) _ (a .f) _ _ _ _ _ (c .before .before .before .before .before .before .before .before .before .before .before .next-binding .ensures) (c .before .before .before .before .before .end-binding .ensures) (c .before .before .before .before .before .before .before .slot-pc .ensures) (c .before .before .before .before .before .before .slot-env .ensures) (c .before .before .before .before .before .before .before .before .before .body-at .ensures) (c .before .same .ensures) (c .before .before .before .before .put-advice .ensures)
+returns c =
+    let at-put-advice = c .before .before .before .before in
+    let at-end-binding = at-put-advice .before in
+    let at-slot-env = at-end-binding .before in
+    let at-slot-pc = at-slot-env .before in
+    let at-body-at = at-slot-pc .before .before in
+    let at-next-binding = at-body-at .before .before in
+    let start = at-next-binding .before .before in
+    let a = start .args in
+    next-body-made (now (a .work)) _ (a .r) _ (a .f) _ _ _ _ _ (at-next-binding .next-binding .ensures) (at-end-binding .end-binding .ensures) (at-slot-pc .slot-pc .ensures) (at-slot-env .slot-env .ensures) (at-body-at .body-at .ensures) (c .before .same .ensures) (at-put-advice .put-advice .ensures)
 
 pub next-body-spec : {M : Type 1} → statement M
 next-body-spec =

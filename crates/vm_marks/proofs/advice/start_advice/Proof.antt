@@ -41,7 +41,14 @@ same-length : tie.Need-same-length
 same-length c = search needs
 
 returns-2 : tie.Need-returns-2
-returns-2 c = let a = c .before .before .before .before .before .before .before .before .before .before .before .before .args in start-made (now (a .work)) _ (a .r) _ (a .w) _ (a .n) (a .m) (c .before .before .before .before .before .before .before .before .before .before .depth-of .ensures) _ (c .before .before .before .before .before .before .before .before .if1 .left) (c .before .before .before .before .before .before .body-at .ensures) (c .before .same .ensures) (c .before .before .before .before .put-advice .ensures)
+returns-2 c =
+    let at-put-advice = c .before .before .before .before in
+    let at-body-at = at-put-advice .before .before in
+    let at-if1 = at-body-at .before .before in
+    let at-depth-of = at-if1 .before .before in
+    let start = at-depth-of .before .before in
+    let a = start .args in
+    start-made (now (a .work)) _ (a .r) _ (a .w) _ (a .n) (a .m) (at-depth-of .depth-of .ensures) _ (at-if1 .if1 .left) (at-body-at .body-at .ensures) (c .before .same .ensures) (at-put-advice .put-advice .ensures)
 
 pub start-advice-spec : {M : Type 1} → statement M
 start-advice-spec =

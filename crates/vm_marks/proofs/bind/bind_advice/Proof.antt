@@ -17,7 +17,13 @@ same-length : tie.Need-same-length
 same-length c = search needs
 
 returns : tie.Need-returns
-returns c = let a = c .before .before .before .before .before .before .before .before .args in placed (now (a .work)) _ (a .n) (a .v) (a .a) _ _ (c .before .before .before .before .before .before .if1 .taken) (c .before .before .before .before .advice-target .ensures) (c .before .before .before .advice-env .ensures) (c .before .before .bind .ensures)
+returns c =
+    let at-advice-env = c .before .before .before in
+    let at-advice-target = at-advice-env .before in
+    let at-if1 = at-advice-target .before .before in
+    let start = at-if1 .before .before in
+    let a = start .args in
+    placed (now (a .work)) _ (a .n) (a .v) (a .a) _ _ (at-if1 .if1 .taken) (at-advice-target .advice-target .ensures) (at-advice-env .advice-env .ensures) (c .before .before .bind .ensures)
 
 returns-2 : tie.Need-returns-2
 returns-2 c = let a = c .before .before .args in past (now (a .work)) (now (a .work)) (a .n) (a .v) (a .a) (c .if1 .left)

@@ -33,10 +33,13 @@ loop-less c = search needs
 
 loop-again : tie.Need-loop-again Inv-loop μ-loop
 loop-again c =
-    let a = c .before .before .before .before .before .before .before .args in
-    let l = c .before .before .before .before .before .loop in
+    let at-loop-test = c .before .before .before .before in
+    let at-loop = at-loop-test .before in
+    let start = at-loop .before .before in
+    let a = start .args in
+    let l = at-loop .loop in
     let b = c .before .before .bind-one .ensures in
-    (omega arith, search needs, omega (arith, l .inv .2, b .1), omega (arith, l .inv .3, b .2, c .before .before .before .before .loop-test .taken), b .0 .memory .rest ∙ l .inv .4, l .inv .5 ∙ matching-on (l .i) _ (a .l) (a .v) _ _ _ _ (omega (arith, c .before .before .before .before .loop-test .taken)) (b .0))
+    (omega arith, search needs, omega (arith, l .inv .2, b .1), omega (arith, l .inv .3, b .2, at-loop-test .loop-test .taken), b .0 .memory .rest ∙ l .inv .4, l .inv .5 ∙ matching-on (l .i) _ (a .l) (a .v) _ _ _ _ (omega (arith, at-loop-test .loop-test .taken)) (b .0))
 
 same-length : tie.Need-same-length Inv-loop μ-loop
 same-length c = search needs

@@ -37,17 +37,27 @@ same-length c = search needs
 
 returns : tie.Need-returns
 returns c =
-    let a = c .before .before .before .before .before .before .before .before .before .before .before .before .before .before .before .before .args in
+    let at-bind-advice = c .before .before .before .before in
+    let at-whole = at-bind-advice .before in
+    let at-piece-first = at-whole .before .before in
+    let at-if1 = at-piece-first .before .before in
+    let at-has-bit = at-if1 .before in
+    let at-piece-second = at-has-bit .before in
+    let at-installed-at = at-piece-second .before .before in
+    let start = at-installed-at .before .before .before in
+    let a = start .args in
     let n : whole (c .charge .result) ≡ whole (a .b) + 1 = one-more (isMainline (c .before .advice-dom .result)) (a .b) _ (c .charge .ensures) in
-    (one-bound (now (a .work)) (a .l) (a .v) (a .i) (a .b) _ _ _ (c .before .before .before .before .before .before .before .before .before .before .before .before .before .installed-at .ensures) (c .before .before .before .before .before .before .before .before .before .before .before .piece-second .ensures) (c .before .before .before .before .before .before .before .before .before .before .has-bit .ensures) _ _ _ _ _ (c .before .before .before .before .before .before .before .before .before .if1 .taken) (c .before .before .before .before .before .before .before .piece-first .ensures) (c .before .before .before .before .before .whole .ensures) (c .before .advice-dom .ensures) (c .before .before .before .before .bind-advice .ensures) (c .charge .ensures), omega (arith, n), omega (arith, n))
+    (one-bound (now (a .work)) (a .l) (a .v) (a .i) (a .b) _ _ _ (at-installed-at .installed-at .ensures) (at-piece-second .piece-second .ensures) (at-has-bit .has-bit .ensures) _ _ _ _ _ (at-if1 .if1 .taken) (at-piece-first .piece-first .ensures) (at-whole .whole .ensures) (c .before .advice-dom .ensures) (at-bind-advice .bind-advice .ensures) (c .charge .ensures), omega (arith, n), omega (arith, n))
 
 same-length-2 : tie.Need-same-length-2
 same-length-2 c = search needs
 
 returns-2 : tie.Need-returns-2
 returns-2 c =
-    let a = c .before .before .before .before .before .before .before .args in
-    (other-bound (now (a .work)) (a .l) (a .v) (a .i) (a .b) _ _ _ (c .before .before .before .before .installed-at .ensures) (c .before .before .piece-second .ensures) (c .before .has-bit .ensures) (c .if1 .left), omega arith, omega arith)
+    let at-installed-at = c .before .before .before .before in
+    let start = at-installed-at .before .before .before in
+    let a = start .args in
+    (other-bound (now (a .work)) (a .l) (a .v) (a .i) (a .b) _ _ _ (at-installed-at .installed-at .ensures) (c .before .before .piece-second .ensures) (c .before .has-bit .ensures) (c .if1 .left), omega arith, omega arith)
 
 pub bind-one-spec : {M : Type 1} → statement M
 bind-one-spec =

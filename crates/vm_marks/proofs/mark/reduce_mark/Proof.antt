@@ -20,10 +20,20 @@ same-length : tie.Need-same-length
 same-length c = search needs
 
 returns : tie.Need-returns
-returns c = let a = c .before .before .before .before .before .before .before .before .args in unheard-made (now (a .work)) (a .r) _ (a .w) (a .x) (a .y) _ _ (c .before .before .before .before .before .before .label-of .ensures .0) (c .before .before .before .before .before .has-bit .ensures) _ (c .before .before .before .before .if1 .taken) (c .before .before .unheard .ensures)
+returns c =
+    let at-if1 = c .before .before .before .before in
+    let at-has-bit = at-if1 .before in
+    let at-label-of = at-has-bit .before in
+    let start = at-label-of .before .before in
+    let a = start .args in
+    unheard-made (now (a .work)) (a .r) _ (a .w) (a .x) (a .y) _ _ (at-label-of .label-of .ensures .0) (at-has-bit .has-bit .ensures) _ (at-if1 .if1 .taken) (c .before .before .unheard .ensures)
 
 bind-matching-requires : tie.Need-bind-matching-requires
-bind-matching-requires c κs = let f = c .before .before .before .before .before .before .before .pre .1 .1 in (search needs, c .before .before .before .before .before .label-of .ensures .1, f .installed, bound-places _ (f .bindings))
+bind-matching-requires c κs =
+    let at-label-of = c .before .before .before .before .before in
+    let start = at-label-of .before .before in
+    let f = start .pre .1 .1 in
+    (search needs, at-label-of .label-of .ensures .1, f .installed, bound-places _ (f .bindings))
 
 within-halves-requires : tie.Need-within-halves-requires
 within-halves-requires c κs = search needs
@@ -38,7 +48,15 @@ same-length-2 : tie.Need-same-length-2
 same-length-2 c = search needs
 
 returns-2 : tie.Need-returns-2
-returns-2 c = let a = c .before .before .before .before .before .before .before .before .before .before .before .before .before .before .args in over-made (now (a .work)) (a .r) _ (a .w) (a .x) (a .y) _ _ (c .before .before .before .before .before .before .before .before .before .before .before .before .label-of .ensures .0) (c .before .before .before .before .before .before .before .before .before .before .before .has-bit .ensures) (c .before .before .before .before .before .before .before .before .before .before .if1 .left) _ _ (c .before .before .before .before .before .before .bind-matching .ensures .0) _ (c .before .before .before .within-halves .ensures) _ (c .before .before .if2 .taken) (c .before .mark-out .ensures) (c .halt .ensures)
+returns-2 c =
+    let at-within-halves = c .before .before .before in
+    let at-bind-matching = at-within-halves .before .before .before in
+    let at-if1 = at-bind-matching .before .before .before .before in
+    let at-has-bit = at-if1 .before in
+    let at-label-of = at-has-bit .before in
+    let start = at-label-of .before .before in
+    let a = start .args in
+    over-made (now (a .work)) (a .r) _ (a .w) (a .x) (a .y) _ _ (at-label-of .label-of .ensures .0) (at-has-bit .has-bit .ensures) (at-if1 .if1 .left) _ _ (at-bind-matching .bind-matching .ensures .0) _ (at-within-halves .within-halves .ensures) _ (c .before .before .if2 .taken) (c .before .mark-out .ensures) (c .halt .ensures)
 
 halt-requires-2 : tie.Need-halt-requires-2
 halt-requires-2 c κs = search needs
@@ -47,22 +65,52 @@ same-length-3 : tie.Need-same-length-3
 same-length-3 c = search needs
 
 returns-3 : tie.Need-returns-3
-returns-3 c = let a = c .before .before .before .before .before .before .before .before .before .before .before .before .before .before .before .args in spent-made (now (a .work)) (a .r) _ (a .w) (a .x) (a .y) _ _ (c .before .before .before .before .before .before .before .before .before .before .before .before .before .label-of .ensures .0) (c .before .before .before .before .before .before .before .before .before .before .before .before .has-bit .ensures) (c .before .before .before .before .before .before .before .before .before .before .before .if1 .left) _ _ (c .before .before .before .before .before .before .before .bind-matching .ensures .0) _ (c .before .before .before .before .within-halves .ensures) (c .before .before .before .if2 .left) (c .before .if3 .taken) (c .halt2 .ensures)
+returns-3 c =
+    let at-if2 = c .before .before .before in
+    let at-within-halves = at-if2 .before in
+    let at-bind-matching = at-within-halves .before .before .before in
+    let at-if1 = at-bind-matching .before .before .before .before in
+    let at-has-bit = at-if1 .before in
+    let at-label-of = at-has-bit .before in
+    let start = at-label-of .before .before in
+    let a = start .args in
+    spent-made (now (a .work)) (a .r) _ (a .w) (a .x) (a .y) _ _ (at-label-of .label-of .ensures .0) (at-has-bit .has-bit .ensures) (at-if1 .if1 .left) _ _ (at-bind-matching .bind-matching .ensures .0) _ (at-within-halves .within-halves .ensures) (at-if2 .if2 .left) (c .before .if3 .taken) (c .halt2 .ensures)
 
 whole-requires : tie.Need-whole-requires
-whole-requires c κs = omega (arith, bound-places _ (c .before .before .before .before .before .before .before .before .before .before .before .before .before .before .pre .1 .1 .bindings))
+whole-requires c κs =
+    let start = c .before .before .before .before .before .before .before .before .before .before .before .before .before .before in
+    omega (arith, bound-places _ (start .pre .1 .1 .bindings))
 
 whole-requires-2 : tie.Need-whole-requires-2
-whole-requires-2 c κs = omega (arith, c .before .before .before .before .before .before .before .bind-matching .ensures .2)
+whole-requires-2 c κs =
+    let at-bind-matching = c .before .before .before .before .before .before .before in
+    omega (arith, at-bind-matching .bind-matching .ensures .2)
 
 given-requires : tie.Need-given-requires
-given-requires c κs = (omega (arith, c .before .before .before .before .before .before .before .before .before .before .bind-matching .kept .0, c .before .before .before .before .before .before .before .before .before .before .before .before .before .before .before .before .before .before .pre .0), omega (arith, c .before .before .before .before .before .before .before .before .before .before .before .before .before .before .before .before .before .before .pre .1 .1 .room), omega (arith, c .before .before .before .before .if3 .left))
+given-requires c κs =
+    let at-if3 = c .before .before .before .before in
+    let at-bind-matching = at-if3 .before .before .before .before .before .before in
+    let start = at-bind-matching .before .before .before .before .before .before .before .before in
+    (omega (arith, at-bind-matching .bind-matching .kept .0, start .pre .0), omega (arith, start .pre .1 .1 .room), omega (arith, at-if3 .if3 .left))
 
 same-length-4 : tie.Need-same-length-4
 same-length-4 c = search needs
 
 returns-4 : tie.Need-returns-4
-returns-4 c = let a = c .before .before .before .before .before .before .before .before .before .before .before .before .before .before .before .before .before .before .before .before .before .args in none-made (now (a .work)) (a .r) _ (a .w) (a .x) (a .y) _ _ (c .before .before .before .before .before .before .before .before .before .before .before .before .before .before .before .before .before .before .before .label-of .ensures .0) (c .before .before .before .before .before .before .before .before .before .before .before .before .before .before .before .before .before .before .has-bit .ensures) (c .before .before .before .before .before .before .before .before .before .before .before .before .before .before .before .before .before .if1 .left) _ _ (c .before .before .before .before .before .before .before .before .before .before .before .before .before .bind-matching .ensures .0) _ (c .before .before .before .before .before .before .before .before .before .before .within-halves .ensures) (c .before .before .before .before .before .before .before .before .before .if2 .left) (c .before .before .before .before .before .before .before .if3 .left) _ _ (c .before .before .before .before .before .whole2 .ensures) (c .before .before .before .before .before .before .whole .ensures) _ (c .before .before .before .before .if4 .taken) (c .before .before .given .ensures)
+returns-4 c =
+    let at-if4 = c .before .before .before .before in
+    let at-whole2 = at-if4 .before in
+    let at-whole = at-whole2 .before in
+    let at-if3 = at-whole .before in
+    let at-if2 = at-if3 .before .before in
+    let at-within-halves = at-if2 .before in
+    let at-bind-matching = at-within-halves .before .before .before in
+    let at-if1 = at-bind-matching .before .before .before .before in
+    let at-has-bit = at-if1 .before in
+    let at-label-of = at-has-bit .before in
+    let start = at-label-of .before .before in
+    let a = start .args in
+    none-made (now (a .work)) (a .r) _ (a .w) (a .x) (a .y) _ _ (at-label-of .label-of .ensures .0) (at-has-bit .has-bit .ensures) (at-if1 .if1 .left) _ _ (at-bind-matching .bind-matching .ensures .0) _ (at-within-halves .within-halves .ensures) (at-if2 .if2 .left) (at-if3 .if3 .left) _ _ (at-whole2 .whole2 .ensures) (at-whole .whole .ensures) _ (at-if4 .if4 .taken) (c .before .before .given .ensures)
 
 same-requires : tie.Need-same-requires
 same-requires c κs = search needs
@@ -72,15 +120,38 @@ sub-s c = omega (arith, c .before .before .before .before .before .if3 .left)
 
 start-advice-requires : tie.Need-start-advice-requires
 start-advice-requires c κs =
-    let f = fits-same (c .before .before .before .before .before .before .before .before .before .before .before .before .before .before .before .before .before .before .before .before .pre .1 .0) (c .before .before .before .before .before .before .before .before .before .before .before .before .before .before .before .before .before .before .before .before .args .r) (c .before .before .same .result) (c .before .before .same .ensures) (c .before .before .before .before .before .before .before .before .before .before .before .before .before .before .before .before .before .before .before .before .pre .1 .1) in
-    let h = places-for (c .before .before .before .before .before .before .before .before .before .before .before .before .bind-matching .result) (c .before .before .before .before .before .before .before .before .before .within-halves .result) (c .before .before .before .before .before .before .before .before .before .within-halves .ensures) (c .before .before .before .before .before .before .before .before .if2 .left) in
-    (omega (arith, c .before .before .before .before .before .before .before .before .before .before .before .before .bind-matching .kept .0, c .before .before .before .before .before .before .before .before .before .before .before .before .before .before .before .before .before .before .before .before .pre .0), f .room, f .pc, f .env, omega (arith, h, c .before .before .before .before .before .before .before .before .before .before .before .before .bind-matching .ensures .1, c .before .before .before .if4 .left, c .before .before .before .before .whole2 .ensures, c .before .before .before .before .before .whole .ensures), omega (arith, h, c .before .before .before .before .whole2 .ensures))
+    let at-if4 = c .before .before .before in
+    let at-whole2 = at-if4 .before in
+    let at-whole = at-whole2 .before in
+    let at-if2 = at-whole .before .before .before in
+    let at-within-halves = at-if2 .before in
+    let at-bind-matching = at-within-halves .before .before .before in
+    let start = at-bind-matching .before .before .before .before .before .before .before .before in
+    let f = fits-same (start .pre .1 .0) (start .args .r) (c .before .before .same .result) (c .before .before .same .ensures) (start .pre .1 .1) in
+    let h = places-for (at-bind-matching .bind-matching .result) (at-within-halves .within-halves .result) (at-within-halves .within-halves .ensures) (at-if2 .if2 .left) in
+    (omega (arith, at-bind-matching .bind-matching .kept .0, start .pre .0), f .room, f .pc, f .env, omega (arith, h, at-bind-matching .bind-matching .ensures .1, at-if4 .if4 .left, at-whole2 .whole2 .ensures, at-whole .whole .ensures), omega (arith, h, at-whole2 .whole2 .ensures))
 
 same-length-5 : tie.Need-same-length-5
-same-length-5 c = c .before .before .start-advice .kept .0 ∙ c .before .before .before .before .before .before .before .before .before .before .before .before .before .before .before .bind-matching .kept .0
+same-length-5 c =
+    let at-bind-matching = c .before .before .before .before .before .before .before .before .before .before .before .before .before .before .before in
+    c .before .before .start-advice .kept .0 ∙ at-bind-matching .bind-matching .kept .0
 
 returns-5 : tie.Need-returns-5
-returns-5 c = let a = c .before .before .before .before .before .before .before .before .before .before .before .before .before .before .before .before .before .before .before .before .before .before .before .args in some-made (now (a .work)) (a .r) _ (a .w) (a .x) (a .y) _ _ (c .before .before .before .before .before .before .before .before .before .before .before .before .before .before .before .before .before .before .before .before .before .label-of .ensures .0) (c .before .before .before .before .before .before .before .before .before .before .before .before .before .before .before .before .before .before .before .before .has-bit .ensures) (c .before .before .before .before .before .before .before .before .before .before .before .before .before .before .before .before .before .before .before .if1 .left) _ _ (c .before .before .before .before .before .before .before .before .before .before .before .before .before .before .before .bind-matching .ensures .0) _ (c .before .before .before .before .before .before .before .before .before .before .before .before .within-halves .ensures) (c .before .before .before .before .before .before .before .before .before .before .before .if2 .left) (c .before .before .before .before .before .before .before .before .before .if3 .left) _ _ (c .before .before .before .before .before .before .before .whole2 .ensures) (c .before .before .before .before .before .before .before .before .whole .ensures) _ _ (c .before .before .before .before .before .before .if4 .left) (c .before .before .before .before .before .same .ensures) (c .before .before .start-advice .ensures)
+returns-5 c =
+    let at-same = c .before .before .before .before .before in
+    let at-if4 = at-same .before in
+    let at-whole2 = at-if4 .before in
+    let at-whole = at-whole2 .before in
+    let at-if3 = at-whole .before in
+    let at-if2 = at-if3 .before .before in
+    let at-within-halves = at-if2 .before in
+    let at-bind-matching = at-within-halves .before .before .before in
+    let at-if1 = at-bind-matching .before .before .before .before in
+    let at-has-bit = at-if1 .before in
+    let at-label-of = at-has-bit .before in
+    let start = at-label-of .before .before in
+    let a = start .args in
+    some-made (now (a .work)) (a .r) _ (a .w) (a .x) (a .y) _ _ (at-label-of .label-of .ensures .0) (at-has-bit .has-bit .ensures) (at-if1 .if1 .left) _ _ (at-bind-matching .bind-matching .ensures .0) _ (at-within-halves .within-halves .ensures) (at-if2 .if2 .left) (at-if3 .if3 .left) _ _ (at-whole2 .whole2 .ensures) (at-whole .whole .ensures) _ _ (at-if4 .if4 .left) (at-same .same .ensures) (c .before .before .start-advice .ensures)
 
 pub reduce-mark-spec : {M : Type 1} → statement M
 reduce-mark-spec =

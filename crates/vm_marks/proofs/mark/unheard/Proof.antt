@@ -20,7 +20,11 @@ same-length : tie.Need-same-length
 same-length c = search needs
 
 returns-2 : tie.Need-returns-2
-returns-2 c = let a = c .before .before .before .before .before .before .before .args in left-made (given (a .w) unitValue) (now (a .work)) _ (a .r) _ (c .before .before .before .before .if1 .left) (c .before .before .given .ensures)
+returns-2 c =
+    let at-if1 = c .before .before .before .before in
+    let start = at-if1 .before .before .before in
+    let a = start .args in
+    left-made (given (a .w) unitValue) (now (a .work)) _ (a .r) _ (at-if1 .if1 .left) (c .before .before .given .ensures)
 
 pub unheard-spec : {M : Type 1} → statement M
 unheard-spec = tie.close (tie.spec halt-requires returns given-requires same-length returns-2)

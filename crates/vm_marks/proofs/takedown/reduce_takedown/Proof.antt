@@ -33,8 +33,11 @@ same-length c = search needs
 
 returns : tie.Need-returns
 returns c =
-    let s = c .before .before .before .before .before .before .before .before .before .before .before in
-    takedown-made (now (s .args .work)) _ _ (s .args .r) _ _ (s .args .w) _ _ (s .pre .1) (c .before .before .before .before .before .before .before .before .field-b .ensures) (c .before .before .before .before .before .before .before .stay-others .ensures) (c .before .before .before .before .same .ensures) (c .before .before .given .ensures)
+    let at-same = c .before .before .before .before in
+    let at-stay-others = at-same .before .before .before in
+    let at-field-b = at-stay-others .before in
+    let s = at-field-b .before .before .before in
+    takedown-made (now (s .args .work)) _ _ (s .args .r) _ _ (s .args .w) _ _ (s .pre .1) (at-field-b .field-b .ensures) (at-stay-others .stay-others .ensures) (at-same .same .ensures) (c .before .before .given .ensures)
 
 pub reduce-takedown-spec : {M : Type 1} → statement M
 reduce-takedown-spec =

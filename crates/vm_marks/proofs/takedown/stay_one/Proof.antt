@@ -18,7 +18,11 @@ same-length : tie.Need-same-length
 same-length c = search needs
 
 returns : tie.Need-returns
-returns c = let a = c .before .before .before .before .before .before .before .args in (one-goes (now (a .work)) (a .d) (a .i) (a .n) _ _ _ (c .before .before .before .before .installed-at .ensures) (c .before .before .piece-first .ensures) (c .before .advice-dom .ensures) (c .if1 .taken), omega arith)
+returns c =
+    let at-installed-at = c .before .before .before .before in
+    let start = at-installed-at .before .before .before in
+    let a = start .args in
+    (one-goes (now (a .work)) (a .d) (a .i) (a .n) _ _ _ (at-installed-at .installed-at .ensures) (c .before .before .piece-first .ensures) (c .before .advice-dom .ensures) (c .if1 .taken), omega arith)
 
 put-installed-requires : tie.Need-put-installed-requires
 put-installed-requires c κs = search needs
@@ -30,7 +34,14 @@ same-length-2 : tie.Need-same-length-2
 same-length-2 c = search needs
 
 returns-2 : tie.Need-returns-2
-returns-2 c = let a = c .before .before .before .before .before .before .before .before .before .before .before .args in (one-stays (now (a .work)) (a .d) (a .i) (a .n) _ _ _ (c .before .before .before .before .before .before .before .before .installed-at .ensures) (c .before .before .before .before .before .before .piece-first .ensures) (c .before .before .before .before .before .advice-dom .ensures) _ (c .before .before .before .before .if1 .left) (c .before .before .put-installed .ensures), omega arith)
+returns-2 c =
+    let at-if1 = c .before .before .before .before in
+    let at-advice-dom = at-if1 .before in
+    let at-piece-first = at-advice-dom .before in
+    let at-installed-at = at-piece-first .before .before in
+    let start = at-installed-at .before .before .before in
+    let a = start .args in
+    (one-stays (now (a .work)) (a .d) (a .i) (a .n) _ _ _ (at-installed-at .installed-at .ensures) (at-piece-first .piece-first .ensures) (at-advice-dom .advice-dom .ensures) _ (at-if1 .if1 .left) (c .before .before .put-installed .ensures), omega arith)
 
 pub stay-one-spec : {M : Type 1} → statement M
 stay-one-spec =

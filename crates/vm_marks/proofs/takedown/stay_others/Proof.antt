@@ -32,13 +32,16 @@ loop-less c = search needs
 
 loop-again : tie.Need-loop-again Inv-loop μ-loop
 loop-again c =
-    let a = c .before .before .before .before .before .before .before .args in
-    let l = c .before .before .before .before .before .loop in (
+    let at-loop-test = c .before .before .before .before in
+    let at-loop = at-loop-test .before in
+    let start = at-loop .before .before in
+    let a = start .args in
+    let l = at-loop .loop in (
       omega arith,
       search needs,
       omega arith,
       c .before .before .stay-one .ensures .0 .memory .rest ∙ l .inv .3,
-      l .inv .4 ∙ stay-on (a .n) (l .i) (a .d) _ _ _ _ (c .before .before .before .before .loop-test .taken) (c .before .before .stay-one .ensures .0),
+      l .inv .4 ∙ stay-on (a .n) (l .i) (a .d) _ _ _ _ (at-loop-test .loop-test .taken) (c .before .before .stay-one .ensures .0),
     )
 
 same-length : tie.Need-same-length Inv-loop μ-loop

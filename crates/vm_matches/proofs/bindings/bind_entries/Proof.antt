@@ -29,7 +29,13 @@ rest-of-requires : tie.Need-rest-of-requires Inv-loop μ-loop
 rest-of-requires c κs = search needs
 
 bind-entry-requires : tie.Need-bind-entry-requires Inv-loop μ-loop
-bind-entry-requires c κs = let a = c .before .before .before .before .before .before .before .before .args in let l = c .before .before .before .before .loop in (search needs, search needs, l .inv .3, (λ code. room-here (record { code = code; image = now (a .image) }) (a .w) _ (l .i) (l .b .count) (l .inv .4 code) (c .before .before .before .loop-test .taken)))
+bind-entry-requires c κs =
+    let at-loop-test = c .before .before .before in
+    let at-loop = at-loop-test .before in
+    let start = at-loop .before .before .before .before in
+    let a = start .args in
+    let l = at-loop .loop in
+    (search needs, search needs, l .inv .3, (λ code. room-here (record { code = code; image = now (a .image) }) (a .w) _ (l .i) (l .b .count) (l .inv .4 code) (at-loop-test .loop-test .taken)))
 
 add-i : tie.Need-add-i Inv-loop μ-loop
 add-i c = search needs
@@ -38,16 +44,35 @@ loop-less : tie.Need-loop-less Inv-loop μ-loop
 loop-less c = search needs
 
 loop-again : tie.Need-loop-again Inv-loop μ-loop
-loop-again c = let a = c .before .before .before .before .before .before .before .before .before .before .before .args in let l = c .before .before .before .before .before .before .before .loop in let e = c .before .before .bind-entry .ensures in (omega arith, search needs, e .0 [] .memory .rest ∙ l .inv .2, e .1, (λ code. room-on (record { code = code; image = now (a .image) }) (a .w) _ (l .i) (l .b .count) (l .inv .4 code) (l .rest) _ _ (l .b) _ (c .before .before .before .before .before .before .loop-test .taken) refl (e .0 code)), (λ code. l .inv .5 code ∙ bound-on (record { code = code; image = now (a .image) }) (a .w) _ (l .i) (l .rest) _ _ _ (l .b) _ (c .before .before .before .before .before .before .loop-test .taken) (c .before .before .before .before .rest-of .ensures) (e .0 code)))
+loop-again c =
+    let at-rest-of = c .before .before .before .before in
+    let at-loop-test = at-rest-of .before .before in
+    let at-loop = at-loop-test .before in
+    let start = at-loop .before .before .before .before in
+    let a = start .args in
+    let l = at-loop .loop in
+    let e = c .before .before .bind-entry .ensures in
+    (omega arith, search needs, e .0 [] .memory .rest ∙ l .inv .2, e .1, (λ code. room-on (record { code = code; image = now (a .image) }) (a .w) _ (l .i) (l .b .count) (l .inv .4 code) (l .rest) _ _ (l .b) _ (at-loop-test .loop-test .taken) refl (e .0 code)), (λ code. l .inv .5 code ∙ bound-on (record { code = code; image = now (a .image) }) (a .w) _ (l .i) (l .rest) _ _ _ (l .b) _ (at-loop-test .loop-test .taken) (at-rest-of .rest-of .ensures) (e .0 code)))
 
 bind-rest-requires : tie.Need-bind-rest-requires Inv-loop μ-loop
-bind-rest-requires c κs = let a = c .before .before .before .before .before .before .args in let l = c .before .before .loop in (search needs, l .inv .3, (λ code. room-left (record { code = code; image = now (a .image) }) (a .w) _ (l .i) (l .b .count) (l .inv .4 code) (c .before .loop-test .left)))
+bind-rest-requires c κs =
+    let start = c .before .before .before .before .before .before in
+    let a = start .args in
+    let l = c .before .before .loop in
+    (search needs, l .inv .3, (λ code. room-left (record { code = code; image = now (a .image) }) (a .w) _ (l .i) (l .b .count) (l .inv .4 code) (c .before .loop-test .left)))
 
 same-length : tie.Need-same-length Inv-loop μ-loop
 same-length c = search needs
 
 returns : tie.Need-returns Inv-loop μ-loop
-returns c = let a = c .before .before .before .before .before .before .before .before .before .args in let l = c .before .before .before .before .before .loop in let e = c .before .before .bind-rest .ensures in ((λ code. bound-done (record { code = code; image = now (a .image) }) (a .w) _ (l .i) _ (l .rest) (now (a .work)) _ _ (l .b) _ (c .before .before .before .before .loop-test .left) (l .inv .5 code) (l .inv .2) (e .0 code)), e .1)
+returns c =
+    let at-loop-test = c .before .before .before .before in
+    let at-loop = at-loop-test .before in
+    let start = at-loop .before .before .before .before in
+    let a = start .args in
+    let l = at-loop .loop in
+    let e = c .before .before .bind-rest .ensures in
+    ((λ code. bound-done (record { code = code; image = now (a .image) }) (a .w) _ (l .i) _ (l .rest) (now (a .work)) _ _ (l .b) _ (at-loop-test .loop-test .left) (l .inv .5 code) (l .inv .2) (e .0 code)), e .1)
 
 pub bind-entries-spec : {M : Type 1} → statement M
 bind-entries-spec =

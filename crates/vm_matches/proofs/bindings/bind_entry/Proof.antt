@@ -15,13 +15,24 @@ top-entry-requires : tie.Need-top-entry-requires
 top-entry-requires c κs = search needs
 
 bind-inside-requires : tie.Need-bind-inside-requires
-bind-inside-requires c κs = let s = c .before .before .before .before .before .before .before in let a = s .args in (search needs, entry-room (record { code = []; image = now (a .image) }) (a .w) (a .i) _ (c .before .before .before .before .entry-at .ensures []) (a .b .count) (c .before .before .before .if1 .left) (s .pre .3 []), s .pre .2)
+bind-inside-requires c κs =
+    let at-if1 = c .before .before .before in
+    let at-entry-at = at-if1 .before in
+    let s = at-entry-at .before .before .before in
+    let a = s .args in
+    (search needs, entry-room (record { code = []; image = now (a .image) }) (a .w) (a .i) _ (at-entry-at .entry-at .ensures []) (a .b .count) (at-if1 .if1 .left) (s .pre .3 []), s .pre .2)
 
 same-length : tie.Need-same-length
 same-length c = search needs
 
 returns-2 : tie.Need-returns-2
-returns-2 c = let s = c .before .before .before .before .before .before .before .before .before .before in let a = s .args in ((λ code. entry-value (record { code = code; image = now (a .image) }) (a .w) (a .i) _ (c .before .before .before .before .before .before .before .entry-at .ensures code) (a .v) _ (now (a .work)) _ (a .b) _ (c .before .before .before .before .before .before .if1 .left) (c .before .before .before .before .top-entry .ensures) (c .before .before .bind-inside .ensures .0)), c .before .before .bind-inside .ensures .1)
+returns-2 c =
+    let at-top-entry = c .before .before .before .before in
+    let at-if1 = at-top-entry .before .before in
+    let at-entry-at = at-if1 .before in
+    let s = at-entry-at .before .before .before in
+    let a = s .args in
+    ((λ code. entry-value (record { code = code; image = now (a .image) }) (a .w) (a .i) _ (at-entry-at .entry-at .ensures code) (a .v) _ (now (a .work)) _ (a .b) _ (at-if1 .if1 .left) (at-top-entry .top-entry .ensures) (c .before .before .bind-inside .ensures .0)), c .before .before .bind-inside .ensures .1)
 
 pub bind-entry-spec : {M : Type 1} → statement M
 bind-entry-spec =

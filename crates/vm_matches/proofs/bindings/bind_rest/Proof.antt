@@ -15,7 +15,12 @@ same-length : tie.Need-same-length
 same-length c = search needs
 
 returns : tie.Need-returns
-returns c = let s = c .before .before .before .before .before .before .before .before in let a = s .args in ((λ code. rest-bound (record { code = code; image = now (a .image) }) (a .w) _ (c .before .before .before .before .before .binds-rest .ensures code) (a .v) (now (a .work)) _ (a .b) _ (c .before .before .before .before .if1 .taken) (c .before .before .bind-inside .ensures .0)), c .before .before .bind-inside .ensures .1)
+returns c =
+    let at-if1 = c .before .before .before .before in
+    let at-binds-rest = at-if1 .before in
+    let s = at-binds-rest .before .before .before in
+    let a = s .args in
+    ((λ code. rest-bound (record { code = code; image = now (a .image) }) (a .w) _ (at-binds-rest .binds-rest .ensures code) (a .v) (now (a .work)) _ (a .b) _ (at-if1 .if1 .taken) (c .before .before .bind-inside .ensures .0)), c .before .before .bind-inside .ensures .1)
 
 returns-2 : tie.Need-returns-2
 returns-2 c = let s = c .before .before .before .before in let a = s .args in ((λ code. rest-free (record { code = code; image = now (a .image) }) (a .w) _ (c .before .binds-rest .ensures code) (a .v) (now (a .work)) (a .b) (c .if1 .left)), s .pre .1)

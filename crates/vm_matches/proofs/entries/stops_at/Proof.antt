@@ -24,7 +24,12 @@ both-requires : tie.Need-both-requires
 both-requires c κs = search needs
 
 returns : tie.Need-returns
-returns c = let a = c .before .before .before .before .before .before .before .args in stops-as (record { code = now (a .code); image = now (a .image) }) (a .w) (a .i) _ _ _ _ _ (c .before .before .before .before .entry-at .ensures (now (a .code))) (c .before .before .before .cut-term .ensures .0) refl (c .before .class-of .ensures) (c .both .ensures)
+returns c =
+    let at-cut-term = c .before .before .before in
+    let at-entry-at = at-cut-term .before in
+    let start = at-entry-at .before .before .before in
+    let a = start .args in
+    stops-as (record { code = now (a .code); image = now (a .image) }) (a .w) (a .i) _ _ _ _ _ (at-entry-at .entry-at .ensures (now (a .code))) (at-cut-term .cut-term .ensures .0) refl (c .before .class-of .ensures) (c .both .ensures)
 
 pub stops-at-spec : {M : Type 1} → statement M
 stops-at-spec =

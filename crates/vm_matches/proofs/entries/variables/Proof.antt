@@ -37,7 +37,12 @@ loop-less : tie.Need-loop-less Inv-loop μ-loop
 loop-less c = search needs
 
 loop-again : tie.Need-loop-again Inv-loop μ-loop
-loop-again c = let a = c .before .before .before .before .before .before .args in let l = c .before .before .before .loop in (omega arith, omega (arith, c .of-entry .ensures .1, l .inv .1), λ code. l .inv .2 code ∙ count-more (record { code = code; image = now (a .image) }) (a .w) _ (l .i) _ _ (c .before .before .loop-test .taken) (c .before .entry-at .ensures code) (c .of-entry .ensures .0) (l .c))
+loop-again c =
+    let at-loop = c .before .before .before in
+    let start = at-loop .before .before .before in
+    let a = start .args in
+    let l = at-loop .loop in
+    (omega arith, omega (arith, c .of-entry .ensures .1, l .inv .1), λ code. l .inv .2 code ∙ count-more (record { code = code; image = now (a .image) }) (a .w) _ (l .i) _ _ (c .before .before .loop-test .taken) (c .before .entry-at .ensures code) (c .of-entry .ensures .0) (l .c))
 
 binds-rest-requires : tie.Need-binds-rest-requires Inv-loop μ-loop
 binds-rest-requires c κs = search needs
@@ -49,7 +54,13 @@ add-result : tie.Need-add-result Inv-loop μ-loop
 add-result c = search needs
 
 returns : tie.Need-returns Inv-loop μ-loop
-returns c = let a = c .before .before .before .before .before .before .args in let l = c .before .before .before .loop in ((λ code. sym (ap (λ (x : ℕ). variables (record { code = code; image = now (a .image) }) (a .w) x 0) (sym (c .before .before .before .before .count-of .ensures)) ∙ l .inv .2 code ∙ count-all (record { code = code; image = now (a .image) }) (a .w) _ (l .i) _ _ (c .before .before .loop-test .left) (c .before .binds-rest .ensures code) (c .of-close .ensures .0) (l .c))), omega (arith, c .before .before .before .before .count-of .ensures, c .of-close .ensures .1, l .inv .0, l .inv .1))
+returns c =
+    let at-loop = c .before .before .before in
+    let at-count-of = at-loop .before in
+    let start = at-count-of .before .before in
+    let a = start .args in
+    let l = at-loop .loop in
+    ((λ code. sym (ap (λ (x : ℕ). variables (record { code = code; image = now (a .image) }) (a .w) x 0) (sym (at-count-of .count-of .ensures)) ∙ l .inv .2 code ∙ count-all (record { code = code; image = now (a .image) }) (a .w) _ (l .i) _ _ (c .before .before .loop-test .left) (c .before .binds-rest .ensures code) (c .of-close .ensures .0) (l .c))), omega (arith, at-count-of .count-of .ensures, c .of-close .ensures .1, l .inv .0, l .inv .1))
 
 pub variables-spec : {M : Type 1} → statement M
 variables-spec =

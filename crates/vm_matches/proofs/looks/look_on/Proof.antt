@@ -25,7 +25,13 @@ stops-at-requires : tie.Need-stops-at-requires Inv-loop μ-loop
 stops-at-requires c κs = search needs
 
 returns : tie.Need-returns Inv-loop μ-loop
-returns c = let a = c .before .before .before .before .before .before .before .before .before .args in let l = c .before .before .before .before .loop in (look-all (record { code = now (a .code); image = now (a .image) }) (memoryOf (now (a .work))) (a .env) (a .w) _ (a .from .next) (lookedOf (a .from)) (c .before .before .before .before .before .count-of .ensures) (l .inv .0 ∙ look-stop (record { code = now (a .code); image = now (a .image) }) (memoryOf (now (a .work))) (a .env) (a .w) _ (lookedOf (l .k)) (c .before .before .if1 .taken) (sym (c .before .stops-at .ensures) ∙ c .if2 .taken)), l .inv .1)
+returns c =
+    let at-loop = c .before .before .before .before in
+    let at-count-of = at-loop .before in
+    let start = at-count-of .before .before .before .before in
+    let a = start .args in
+    let l = at-loop .loop in
+    (look-all (record { code = now (a .code); image = now (a .image) }) (memoryOf (now (a .work))) (a .env) (a .w) _ (a .from .next) (lookedOf (a .from)) (at-count-of .count-of .ensures) (l .inv .0 ∙ look-stop (record { code = now (a .code); image = now (a .image) }) (memoryOf (now (a .work))) (a .env) (a .w) _ (lookedOf (l .k)) (c .before .before .if1 .taken) (sym (c .before .stops-at .ensures) ∙ c .if2 .taken)), l .inv .1)
 
 past-entry-requires : tie.Need-past-entry-requires Inv-loop μ-loop
 past-entry-requires c κs = search needs
@@ -34,10 +40,21 @@ loop-less : tie.Need-loop-less Inv-loop μ-loop
 loop-less c = search needs
 
 loop-again : tie.Need-loop-again Inv-loop μ-loop
-loop-again c = let a = c .before .before .before .before .before .before .before .before .before .before .args in let l = c .before .before .before .before .before .loop in (l .inv .0 ∙ look-past (record { code = now (a .code); image = now (a .image) }) (memoryOf (now (a .work))) (a .env) (a .w) _ (lookedOf (l .k)) _ (c .before .before .before .if1 .taken) (sym (c .before .before .stops-at .ensures) ∙ c .before .if2 .left) (c .past-entry .ensures .0) (c .past-entry .ensures .2), c .past-entry .ensures .1 ∙ l .inv .1)
+loop-again c =
+    let at-if1 = c .before .before .before in
+    let at-loop = at-if1 .before .before in
+    let start = at-loop .before .before .before .before .before in
+    let a = start .args in
+    let l = at-loop .loop in
+    (l .inv .0 ∙ look-past (record { code = now (a .code); image = now (a .image) }) (memoryOf (now (a .work))) (a .env) (a .w) _ (lookedOf (l .k)) _ (at-if1 .if1 .taken) (sym (c .before .before .stops-at .ensures) ∙ c .before .if2 .left) (c .past-entry .ensures .0) (c .past-entry .ensures .2), c .past-entry .ensures .1 ∙ l .inv .1)
 
 returns-2 : tie.Need-returns-2 Inv-loop μ-loop
-returns-2 c = let a = c .before .before .before .before .before .before .before .args in let l = c .before .before .loop in (look-all (record { code = now (a .code); image = now (a .image) }) (memoryOf (now (a .work))) (a .env) (a .w) _ (a .from .next) (lookedOf (a .from)) (c .before .before .before .count-of .ensures) (l .inv .0 ∙ look-none (record { code = now (a .code); image = now (a .image) }) (memoryOf (now (a .work))) (a .env) (a .w) _ (lookedOf (l .k)) (c .if1 .left)), l .inv .1)
+returns-2 c =
+    let at-count-of = c .before .before .before in
+    let start = at-count-of .before .before .before .before in
+    let a = start .args in
+    let l = c .before .before .loop in
+    (look-all (record { code = now (a .code); image = now (a .image) }) (memoryOf (now (a .work))) (a .env) (a .w) _ (a .from .next) (lookedOf (a .from)) (at-count-of .count-of .ensures) (l .inv .0 ∙ look-none (record { code = now (a .code); image = now (a .image) }) (memoryOf (now (a .work))) (a .env) (a .w) _ (lookedOf (l .k)) (c .if1 .left)), l .inv .1)
 
 pub look-on-spec : {M : Type 1} → statement M
 look-on-spec =

@@ -13,7 +13,10 @@ past-any-requires : tie.Need-past-any-requires
 past-any-requires c κs = search needs
 
 returns : tie.Need-returns
-returns c = let a = c .before .before .before .before .before .before .args in (entry-any (record { code = now (a .code); image = now (a .image) }) (memoryOf (now (a .work))) (a .env) (a .w) (lookedOf (a .k)) _ (c .before .before .entry-at .ensures (now (a .code))) _ (c .before .if1 .taken) (c .past-any .ensures .0), c .past-any .ensures .1, c .past-any .ensures .2)
+returns c =
+    let start = c .before .before .before .before .before .before in
+    let a = start .args in
+    (entry-any (record { code = now (a .code); image = now (a .image) }) (memoryOf (now (a .work))) (a .env) (a .w) (lookedOf (a .k)) _ (c .before .before .entry-at .ensures (now (a .code))) _ (c .before .if1 .taken) (c .past-any .ensures .0), c .past-any .ensures .1, c .past-any .ensures .2)
 
 cut-term-requires : tie.Need-cut-term-requires
 cut-term-requires c κs = search needs
@@ -31,7 +34,13 @@ past-cut-requires : tie.Need-past-cut-requires
 past-cut-requires c κs = search needs
 
 returns-2 : tie.Need-returns-2
-returns-2 c = let a = c .before .before .before .before .before .before .before .before .before .args in (entry-cut (record { code = now (a .code); image = now (a .image) }) (memoryOf (now (a .work))) (a .env) (a .w) (lookedOf (a .k)) _ (c .before .before .before .before .before .entry-at .ensures (now (a .code))) _ _ _ (c .before .before .before .before .if1 .left) (c .before .before .before .cut-term .ensures .0) (c .before .atom-value .ensures (record { code = now (a .code); image = now (a .image) })) (c .past-cut .ensures .0), c .past-cut .ensures .1, c .past-cut .ensures .2)
+returns-2 c =
+    let at-cut-term = c .before .before .before in
+    let at-if1 = at-cut-term .before in
+    let at-entry-at = at-if1 .before in
+    let start = at-entry-at .before .before .before .before in
+    let a = start .args in
+    (entry-cut (record { code = now (a .code); image = now (a .image) }) (memoryOf (now (a .work))) (a .env) (a .w) (lookedOf (a .k)) _ (at-entry-at .entry-at .ensures (now (a .code))) _ _ _ (at-if1 .if1 .left) (at-cut-term .cut-term .ensures .0) (c .before .atom-value .ensures (record { code = now (a .code); image = now (a .image) })) (c .past-cut .ensures .0), c .past-cut .ensures .1, c .past-cut .ensures .2)
 
 pub past-entry-spec : {M : Type 1} → statement M
 past-entry-spec =

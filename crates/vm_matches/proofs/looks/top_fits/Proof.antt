@@ -27,7 +27,14 @@ both-requires : tie.Need-both-requires
 both-requires c κs = search needs
 
 returns : tie.Need-returns
-returns c = let a = c .before .before .before .before .before .before .before .before .args in top-as (memoryOf (now (a .work))) (a .v) (a .stack) _ _ _ _ _ _ _ (c .before .before .before .before .before .before .piece-of .ensures) (c .before .before .before .before .before .piece-second .ensures) (c .before .before .before .before .top-entry .ensures) (c .before .before .before .entry-label .ensures .0) (c .before .before .is-kept .ensures) (c .before .has-bit .ensures) (c .both .ensures)
+returns c =
+    let at-entry-label = c .before .before .before in
+    let at-top-entry = at-entry-label .before in
+    let at-piece-second = at-top-entry .before in
+    let at-piece-of = at-piece-second .before in
+    let start = at-piece-of .before .before in
+    let a = start .args in
+    top-as (memoryOf (now (a .work))) (a .v) (a .stack) _ _ _ _ _ _ _ (at-piece-of .piece-of .ensures) (at-piece-second .piece-second .ensures) (at-top-entry .top-entry .ensures) (at-entry-label .entry-label .ensures .0) (c .before .before .is-kept .ensures) (c .before .has-bit .ensures) (c .both .ensures)
 
 pub top-fits-spec : {M : Type 1} → statement M
 top-fits-spec =

@@ -29,19 +29,41 @@ halt-requires : tie.Need-halt-requires
 halt-requires c κs = search needs
 
 returns : tie.Need-returns
-returns c = let a = c .before .before .before .before .before .before .before .before .before .before .before .args in branch-full (record { code = now (a .code); image = now (a .image) }) (now (a .work)) (now (a .work)) (now (a .work)) (a .r) _ (a .w) (a .v) _ (c .before .before .before .before .variables .ensures .0 (now (a .code))) _ _ (c .before .before .before .before .before .before .before .half-of .ensures) (c .before .before .before .has-room .ensures) _ (c .before .before .if1 .taken) (c .before .bindings-out .ensures) (c .halt .ensures)
+returns c =
+    let at-has-room = c .before .before .before in
+    let at-variables = at-has-room .before in
+    let at-half-of = at-variables .before .before .before in
+    let start = at-half-of .before .before .before .before in
+    let a = start .args in
+    branch-full (record { code = now (a .code); image = now (a .image) }) (now (a .work)) (now (a .work)) (now (a .work)) (a .r) _ (a .w) (a .v) _ (at-variables .variables .ensures .0 (now (a .code))) _ _ (at-half-of .half-of .ensures) (at-has-room .has-room .ensures) _ (c .before .before .if1 .taken) (c .before .bindings-out .ensures) (c .halt .ensures)
 
 halt-requires-2 : tie.Need-halt-requires-2
 halt-requires-2 c κs = search needs
 
 returns-2 : tie.Need-returns-2
-returns-2 c = let a = c .before .before .before .before .before .before .before .before .before .before .before .before .args in branch-spent (record { code = now (a .code); image = now (a .image) }) (now (a .work)) (now (a .work)) (now (a .work)) (a .r) _ (a .w) (a .v) _ (c .before .before .before .before .before .variables .ensures .0 (now (a .code))) _ _ (c .before .before .before .before .before .before .before .before .half-of .ensures) (c .before .before .before .before .has-room .ensures) (c .before .if2 .taken) (c .before .before .before .if1 .left) (c .halt2 .ensures)
+returns-2 c =
+    let at-if1 = c .before .before .before in
+    let at-has-room = at-if1 .before in
+    let at-variables = at-has-room .before in
+    let at-half-of = at-variables .before .before .before in
+    let start = at-half-of .before .before .before .before in
+    let a = start .args in
+    branch-spent (record { code = now (a .code); image = now (a .image) }) (now (a .work)) (now (a .work)) (now (a .work)) (a .r) _ (a .w) (a .v) _ (at-variables .variables .ensures .0 (now (a .code))) _ _ (at-half-of .half-of .ensures) (at-has-room .has-room .ensures) (c .before .if2 .taken) (at-if1 .if1 .left) (c .halt2 .ensures)
 
 whole-requires : tie.Need-whole-requires
 whole-requires c κs = search needs
 
 bind-entries-requires : tie.Need-bind-entries-requires
-bind-entries-requires c κs = let s = c .before .before .before .before .before .before .before .before .before .before .before .before .before in let a = s .args in let k = whole-room bindingLimit (c .before .before .before .before .before .before .variables .result) (λ p. p .bindings) bindingsOut (a .w) (a .r) _ _ (c .before .before .before .before .before .before .before .before .before .half-of .ensures) (c .before .before .before .before .before .has-room .ensures) (s .pre .0 .bindings) (not-false (c .before .before .before .before .before .has-room .result) (c .before .before .before .before .if1 .left)) in let h : (code : List ℕ) → c .before .whole .result + variables (record { code = code; image = now (a .image) }) (a .w) (countOf (a .w)) 0 ≤ 2048 = λ code. omega (arith, c .before .before .before .before .before .before .variables .ensures .0 code, c .before .whole .ensures, k) in (search needs, s .pre .0 .env, h)
+bind-entries-requires c κs =
+    let at-if1 = c .before .before .before .before in
+    let at-has-room = at-if1 .before in
+    let at-variables = at-has-room .before in
+    let at-half-of = at-variables .before .before .before in
+    let s = at-half-of .before .before .before .before in
+    let a = s .args in
+    let k = whole-room bindingLimit (at-variables .variables .result) (λ p. p .bindings) bindingsOut (a .w) (a .r) _ _ (at-half-of .half-of .ensures) (at-has-room .has-room .ensures) (s .pre .0 .bindings) (not-false (at-has-room .has-room .result) (at-if1 .if1 .left)) in
+    let h : (code : List ℕ) → c .before .whole .result + variables (record { code = code; image = now (a .image) }) (a .w) (countOf (a .w)) 0 ≤ 2048 = λ code. omega (arith, at-variables .variables .ensures .0 code, c .before .whole .ensures, k) in
+    (search needs, s .pre .0 .env, h)
 
 branch-place-requires : tie.Need-branch-place-requires
 branch-place-requires c κs = search needs
@@ -50,19 +72,43 @@ branch-at-requires : tie.Need-branch-at-requires
 branch-at-requires c κs = search needs
 
 called-requires : tie.Need-called-requires
-called-requires c κs = let s = c .before .before .before .before .before .before .before .before .before .before .before .before .before .before .before .before .before .before .before in let m = s .pre .0 in (omega (arith, m .coded), search needs, m .room, s .pre .1, m .pc, m .env, c .before .before .before .before .before .bind-entries .ensures .1)
+called-requires c κs =
+    let at-bind-entries = c .before .before .before .before .before in
+    let s = at-bind-entries .before .before .before .before .before .before .before .before .before .before .before .before .before .before in
+    let m = s .pre .0 in
+    (omega (arith, m .coded), search needs, m .room, s .pre .1, m .pc, m .env, at-bind-entries .bind-entries .ensures .1)
 
 sub-q : tie.Need-sub-q
 sub-q c = search needs
 
 charge-bindings-requires : tie.Need-charge-bindings-requires
-charge-bindings-requires c κs = let s = c .before .before .before .before .before .before .before .before .before .before .before .before .before .before .before .before .before .before .before .before .before .before .before in let a = s .args in omega (arith, whole-room bindingLimit (c .before .before .before .before .before .before .before .before .before .before .before .before .before .before .before .before .variables .result) (λ p. p .bindings) bindingsOut (a .w) (a .r) _ _ (c .before .before .before .before .before .before .before .before .before .before .before .before .before .before .before .before .before .before .before .half-of .ensures) (c .before .before .before .before .before .before .before .before .before .before .before .before .before .before .before .has-room .ensures) (s .pre .0 .bindings) (not-false (c .before .before .before .before .before .before .before .before .before .before .before .before .before .before .before .has-room .result) (c .before .before .before .before .before .before .before .before .before .before .before .before .before .before .if1 .left)))
+charge-bindings-requires c κs =
+    let at-if1 = c .before .before .before .before .before .before .before .before .before .before .before .before .before .before in
+    let at-has-room = at-if1 .before in
+    let at-variables = at-has-room .before in
+    let at-half-of = at-variables .before .before .before in
+    let s = at-half-of .before .before .before .before in
+    let a = s .args in
+    omega (arith, whole-room bindingLimit (at-variables .variables .result) (λ p. p .bindings) bindingsOut (a .w) (a .r) _ _ (at-half-of .half-of .ensures) (at-has-room .has-room .ensures) (s .pre .0 .bindings) (not-false (at-has-room .has-room .result) (at-if1 .if1 .left)))
 
 same-length : tie.Need-same-length
 same-length c = search needs
 
 returns-3 : tie.Need-returns-3
-returns-3 c = let a = c .before .before .before .before .before .before .before .before .before .before .before .before .before .before .before .before .before .before .before .before .before .before .before .before .args in branch-made (record { code = now (a .code); image = now (a .image) }) (now (a .work)) _ _ (a .r) _ (a .w) (a .v) _ (c .before .before .before .before .before .before .before .before .before .before .before .before .before .before .before .before .before .variables .ensures .0 (now (a .code))) _ _ (c .before .before .before .before .before .before .before .before .before .before .before .before .before .before .before .before .before .before .before .before .half-of .ensures) (c .before .before .before .before .before .before .before .before .before .before .before .before .before .before .before .before .has-room .ensures) (c .before .before .before .before .before .before .before .before .before .before .before .before .before .if2 .left) _ _ _ _ _ (c .before .before .before .before .before .before .before .before .before .before .before .before .before .before .before .if1 .left) (c .before .before .before .before .before .before .before .before .before .before .before .before .whole .ensures) (c .charge-bindings .ensures) (c .before .before .before .before .before .before .before .before .before .before .bind-entries .ensures .0 (now (a .code))) (c .before .before .before .before .before .before .before .branch-place .ensures) (c .before .before .before .before .before .before .branch-at .ensures) (c .before .before .before .before .called .ensures (now (a .image)))
+returns-3 c =
+    let at-called = c .before .before .before .before in
+    let at-branch-at = at-called .before .before in
+    let at-branch-place = at-branch-at .before in
+    let at-bind-entries = at-branch-place .before .before .before in
+    let at-whole = at-bind-entries .before .before in
+    let at-if2 = at-whole .before in
+    let at-if1 = at-if2 .before .before in
+    let at-has-room = at-if1 .before in
+    let at-variables = at-has-room .before in
+    let at-half-of = at-variables .before .before .before in
+    let start = at-half-of .before .before .before .before in
+    let a = start .args in
+    branch-made (record { code = now (a .code); image = now (a .image) }) (now (a .work)) _ _ (a .r) _ (a .w) (a .v) _ (at-variables .variables .ensures .0 (now (a .code))) _ _ (at-half-of .half-of .ensures) (at-has-room .has-room .ensures) (at-if2 .if2 .left) _ _ _ _ _ (at-if1 .if1 .left) (at-whole .whole .ensures) (c .charge-bindings .ensures) (at-bind-entries .bind-entries .ensures .0 (now (a .code))) (at-branch-place .branch-place .ensures) (at-branch-at .branch-at .ensures) (at-called .called .ensures (now (a .image)))
 
 pub first-branch-spec : {M : Type 1} → statement M
 first-branch-spec =

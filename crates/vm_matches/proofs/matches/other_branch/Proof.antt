@@ -8,7 +8,10 @@ halt-requires : tie.Need-halt-requires
 halt-requires c κs = search needs
 
 returns : tie.Need-returns
-returns c = let a = c .before .before .before .before .before .before .args in other-spent (record { code = now (a .code); image = now (a .image) }) (now (a .work)) (now (a .work)) (a .r) _ (a .w) (c .before .if1 .taken) (c .halt .ensures)
+returns c =
+    let start = c .before .before .before .before .before .before in
+    let a = start .args in
+    other-spent (record { code = now (a .code); image = now (a .image) }) (now (a .work)) (now (a .work)) (a .r) _ (a .w) (c .before .if1 .taken) (c .halt .ensures)
 
 other-place-requires : tie.Need-other-place-requires
 other-place-requires c κs = search needs
@@ -26,7 +29,14 @@ same-length : tie.Need-same-length
 same-length c = search needs
 
 returns-2 : tie.Need-returns-2
-returns-2 c = let a = c .before .before .before .before .before .before .before .before .before .before .before .before .args in other-made (record { code = now (a .code); image = now (a .image) }) (now (a .work)) _ (a .r) _ (a .w) (c .before .before .before .before .before .before .before .if1 .left) _ _ (c .before .before .before .before .before .before .other-place .ensures) (c .before .before .before .before .before .branch-at .ensures) (c .before .before .before .called .ensures (now (a .image)))
+returns-2 c =
+    let at-called = c .before .before .before in
+    let at-branch-at = at-called .before .before in
+    let at-other-place = at-branch-at .before in
+    let at-if1 = at-other-place .before in
+    let start = at-if1 .before .before .before .before .before in
+    let a = start .args in
+    other-made (record { code = now (a .code); image = now (a .image) }) (now (a .work)) _ (a .r) _ (a .w) (at-if1 .if1 .left) _ _ (at-other-place .other-place .ensures) (at-branch-at .branch-at .ensures) (at-called .called .ensures (now (a .image)))
 
 pub other-branch-spec : {M : Type 1} → statement M
 other-branch-spec =

@@ -15,7 +15,12 @@ same-length : tie.Need-same-length
 same-length c = search needs
 
 returns : tie.Need-returns
-returns c = let a = c .before .before .before .before .before .before .before .before .before .args in matched (record { code = now (a .code); image = now (a .image) }) (now (a .work)) _ (a .r) _ (a .w) (a .k .stack) (lookedOf (a .k)) _ (c .before .before .before .before .before .matches .ensures (now (a .code))) (c .before .before .before .before .if1 .taken) (c .before .before .first-branch .ensures)
+returns c =
+    let at-if1 = c .before .before .before .before in
+    let at-matches = at-if1 .before in
+    let start = at-matches .before .before .before .before in
+    let a = start .args in
+    matched (record { code = now (a .code); image = now (a .image) }) (now (a .work)) _ (a .r) _ (a .w) (a .k .stack) (lookedOf (a .k)) _ (at-matches .matches .ensures (now (a .code))) (at-if1 .if1 .taken) (c .before .before .first-branch .ensures)
 
 other-branch-requires : tie.Need-other-branch-requires
 other-branch-requires c κs = search needs
@@ -24,7 +29,12 @@ same-length-2 : tie.Need-same-length-2
 same-length-2 c = search needs
 
 returns-2 : tie.Need-returns-2
-returns-2 c = let a = c .before .before .before .before .before .before .before .before .before .args in not-matched (record { code = now (a .code); image = now (a .image) }) (now (a .work)) _ (a .r) _ (a .w) (a .k .stack) (lookedOf (a .k)) _ (c .before .before .before .before .before .matches .ensures (now (a .code))) (c .before .before .before .before .if1 .left) (c .before .before .other-branch .ensures)
+returns-2 c =
+    let at-if1 = c .before .before .before .before in
+    let at-matches = at-if1 .before in
+    let start = at-matches .before .before .before .before in
+    let a = start .args in
+    not-matched (record { code = now (a .code); image = now (a .image) }) (now (a .work)) _ (a .r) _ (a .w) (a .k .stack) (lookedOf (a .k)) _ (at-matches .matches .ensures (now (a .code))) (at-if1 .if1 .left) (c .before .before .other-branch .ensures)
 
 pub reduce-match-spec : {M : Type 1} → statement M
 reduce-match-spec =

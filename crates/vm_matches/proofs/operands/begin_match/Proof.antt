@@ -38,7 +38,16 @@ same-length : tie.Need-same-length
 same-length c = search needs
 
 returns : tie.Need-returns
-returns c = let a = c .before .before .before .before .before .before .before .before .before .before .before .before .before .before .before .before .args in match-atom (record { code = now (a .code); image = now (a .image) }) (now (a .work)) _ (a .r) _ _ _ _ (c .before .before .before .before .before .before .before .before .before .before .before .offset-of .ensures) (c .before .before .before .before .before .before .before .before .before .before .number-at .ensures .0) (c .before .before .before .before .before .before .before .before .class-of .ensures) _ (c .before .before .before .unlooked .result) (c .before .before .before .before .before .before .before .if1 .taken) (c .before .before .before .before .before .atom-value .ensures (record { code = now (a .code); image = now (a .image) })) (c .before .before .before .unlooked .ensures .0) (c .before .before .before .unlooked .ensures .1) (c .before .before .entries-from .ensures)
+returns c =
+    let at-unlooked = c .before .before .before in
+    let at-atom-value = at-unlooked .before .before in
+    let at-if1 = at-atom-value .before .before in
+    let at-class-of = at-if1 .before in
+    let at-number-at = at-class-of .before .before in
+    let at-offset-of = at-number-at .before in
+    let start = at-offset-of .before .before .before .before .before in
+    let a = start .args in
+    match-atom (record { code = now (a .code); image = now (a .image) }) (now (a .work)) _ (a .r) _ _ _ _ (at-offset-of .offset-of .ensures) (at-number-at .number-at .ensures .0) (at-class-of .class-of .ensures) _ (at-unlooked .unlooked .result) (at-if1 .if1 .taken) (at-atom-value .atom-value .ensures (record { code = now (a .code); image = now (a .image) })) (at-unlooked .unlooked .ensures .0) (at-unlooked .unlooked .ensures .1) (c .before .before .entries-from .ensures)
 
 begin-operand-requires : tie.Need-begin-operand-requires
 begin-operand-requires c κs = search needs
@@ -47,7 +56,14 @@ same-length-2 : tie.Need-same-length-2
 same-length-2 c = search needs
 
 returns-2 : tie.Need-returns-2
-returns-2 c = let a = c .before .before .before .before .before .before .before .before .before .before .before .before .before .args in match-operand (record { code = now (a .code); image = now (a .image) }) (now (a .work)) _ (a .r) _ _ _ _ (c .before .before .before .before .before .before .before .before .offset-of .ensures) (c .before .before .before .before .before .before .before .number-at .ensures .0) (c .before .before .before .before .before .class-of .ensures) (c .before .before .before .before .if1 .left) (c .before .before .begin-operand .ensures (now (a .image)))
+returns-2 c =
+    let at-if1 = c .before .before .before .before in
+    let at-class-of = at-if1 .before in
+    let at-number-at = at-class-of .before .before in
+    let at-offset-of = at-number-at .before in
+    let start = at-offset-of .before .before .before .before .before in
+    let a = start .args in
+    match-operand (record { code = now (a .code); image = now (a .image) }) (now (a .work)) _ (a .r) _ _ _ _ (at-offset-of .offset-of .ensures) (at-number-at .number-at .ensures .0) (at-class-of .class-of .ensures) (at-if1 .if1 .left) (c .before .before .begin-operand .ensures (now (a .image)))
 
 pub begin-match-spec : {M : Type 1} → statement M
 begin-match-spec =

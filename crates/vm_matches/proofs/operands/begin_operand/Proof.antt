@@ -22,7 +22,11 @@ halt-requires : tie.Need-halt-requires
 halt-requires c κs = search needs
 
 returns : tie.Need-returns
-returns c = let a = c .before .before .before .before .before .before .before .args in λ image. operand-framed (record { code = now (a .code); image = image }) (now (a .work)) (now (a .work)) (a .r) _ (a .x) (a .v) (a .byte) _ (c .before .before .before .depth-of .ensures) (c .before .if1 .taken) (c .halt .ensures)
+returns c =
+    let at-depth-of = c .before .before .before in
+    let start = at-depth-of .before .before .before .before in
+    let a = start .args in
+    λ image. operand-framed (record { code = now (a .code); image = image }) (now (a .work)) (now (a .work)) (a .r) _ (a .x) (a .v) (a .byte) _ (at-depth-of .depth-of .ensures) (c .before .if1 .taken) (c .halt .ensures)
 
 sub-room : tie.Need-sub-room
 sub-room c = search needs
@@ -40,13 +44,22 @@ same-requires : tie.Need-same-requires
 same-requires c κs = search needs
 
 entry-from-requires : tie.Need-entry-from-requires
-entry-from-requires c κs = (omega (arith, c .before .before .before .before .before .before .before .before .before .before .before .before .before .pre .0 .coded), c .before .before .before .before .before .before .before .before .before .before .before .before .before .pre .2)
+entry-from-requires c κs =
+    let start = c .before .before .before .before .before .before .before .before .before .before .before .before .before in
+    (omega (arith, start .pre .0 .coded), start .pre .2)
 
 same-length : tie.Need-same-length
 same-length c = search needs
 
 returns-2 : tie.Need-returns-2
-returns-2 c = let a = c .before .before .before .before .before .before .before .before .before .before .before .before .before .before .args in λ image. operand-begun (record { code = now (a .code); image = image }) (now (a .work)) _ (a .r) (a .r) (a .x) (a .v) (a .byte) _ (c .before .before .before .before .before .before .before .before .before .before .depth-of .ensures) _ _ _ (c .before .same .ensures) refl (c .before .before .before .before .before .before .before .before .if1 .left) (c .entry-from .ensures .0 image) (c .before .before .before .before .put-match .ensures (a .r .pc) (a .r .env) (a .v) (c .before .before .before .before .before .match-word .ensures))
+returns-2 c =
+    let at-put-match = c .before .before .before .before in
+    let at-match-word = at-put-match .before in
+    let at-if1 = at-match-word .before .before .before in
+    let at-depth-of = at-if1 .before .before in
+    let start = at-depth-of .before .before .before .before in
+    let a = start .args in
+    λ image. operand-begun (record { code = now (a .code); image = image }) (now (a .work)) _ (a .r) (a .r) (a .x) (a .v) (a .byte) _ (at-depth-of .depth-of .ensures) _ _ _ (c .before .same .ensures) refl (at-if1 .if1 .left) (c .entry-from .ensures .0 image) (at-put-match .put-match .ensures (a .r .pc) (a .r .env) (a .v) (at-match-word .match-word .ensures))
 
 pub begin-operand-spec : {M : Type 1} → statement M
 begin-operand-spec =

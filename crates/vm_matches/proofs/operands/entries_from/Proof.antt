@@ -24,7 +24,13 @@ same-length : tie.Need-same-length
 same-length c = search needs
 
 returns : tie.Need-returns
-returns c = let t = c .before .before .before .before .before .before .before in let a = c .before .before .before .before .before .before .before .before .before .before .before .before .before .args in entries-done (record { code = now (a .code); image = now (a .image) }) (now (a .work)) _ (a .r) _ (a .r .pc) (a .from .stack) (lookedOf (a .from)) (lookedOf (t .look-on .result)) (t .look-on .ensures .0) _ (c .before .before .before .before .before .before .count-of .ensures) _ (t .look-on .ensures .1) (c .before .before .before .before .if1 .taken) (c .before .before .make-match .ensures)
+returns c =
+    let at-if1 = c .before .before .before .before in
+    let at-count-of = at-if1 .before .before in
+    let t = at-count-of .before in
+    let start = t .before .before .before .before .before .before in
+    let a = start .args in
+    entries-done (record { code = now (a .code); image = now (a .image) }) (now (a .work)) _ (a .r) _ (a .r .pc) (a .from .stack) (lookedOf (a .from)) (lookedOf (t .look-on .result)) (t .look-on .ensures .0) _ (at-count-of .count-of .ensures) _ (t .look-on .ensures .1) (at-if1 .if1 .taken) (c .before .before .make-match .ensures)
 
 entry-at-requires : tie.Need-entry-at-requires
 entry-at-requires c κs = search needs
@@ -42,7 +48,16 @@ same-length-2 : tie.Need-same-length-2
 same-length-2 c = search needs
 
 returns-2 : tie.Need-returns-2
-returns-2 c = let t = c .before .before .before .before .before .before .before .before .before .before in let a = c .before .before .before .before .before .before .before .before .before .before .before .before .before .before .before .before .args in entries-on (record { code = now (a .code); image = now (a .image) }) (now (a .work)) _ (a .r) _ (a .r .pc) (a .from .stack) (lookedOf (a .from)) (lookedOf (t .look-on .result)) (t .look-on .ensures .0) _ (c .before .before .before .before .before .before .before .before .before .count-of .ensures) _ _ _ _ (t .look-on .ensures .1) (c .before .before .before .before .before .before .before .if1 .left) (c .before .before .before .before .before .before .entry-at .ensures (now (a .code))) (c .before .before .before .before .before .cut-term .ensures .0) (c .before .before .before .looked-byte .ensures .0) (c .before .before .begin-operand .ensures (now (a .image)))
+returns-2 c =
+    let at-looked-byte = c .before .before .before in
+    let at-cut-term = at-looked-byte .before .before in
+    let at-entry-at = at-cut-term .before in
+    let at-if1 = at-entry-at .before in
+    let at-count-of = at-if1 .before .before in
+    let t = at-count-of .before in
+    let start = t .before .before .before .before .before .before in
+    let a = start .args in
+    entries-on (record { code = now (a .code); image = now (a .image) }) (now (a .work)) _ (a .r) _ (a .r .pc) (a .from .stack) (lookedOf (a .from)) (lookedOf (t .look-on .result)) (t .look-on .ensures .0) _ (at-count-of .count-of .ensures) _ _ _ _ (t .look-on .ensures .1) (at-if1 .if1 .left) (at-entry-at .entry-at .ensures (now (a .code))) (at-cut-term .cut-term .ensures .0) (at-looked-byte .looked-byte .ensures .0) (c .before .before .begin-operand .ensures (now (a .image)))
 
 pub entries-from-spec : {M : Type 1} → statement M
 entries-from-spec =

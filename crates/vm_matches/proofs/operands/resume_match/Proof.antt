@@ -35,13 +35,28 @@ slot-env-requires : tie.Need-slot-env-requires
 slot-env-requires c κs = search needs
 
 entries-from-requires : tie.Need-entries-from-requires
-entries-from-requires c κs = let s = c .before .before .before .before .before .before .before .before .before .before .before .before .before in let a = s .args in still-matchable (now (a .code)) (now (a .work)) (a .r) (c .before .before .before .before .before .same .result) (a .f) _ _ _ (s .pre .0) (s .pre .1) (c .before .before .before .before .before .before .before .before .before .slot-pc .ensures) (c .before .before .before .before .before .same .ensures) (c .before .before .before .depth-of .ensures)
+entries-from-requires c κs =
+    let at-depth-of = c .before .before .before in
+    let at-same = at-depth-of .before .before in
+    let at-slot-pc = at-same .before .before .before .before in
+    let s = at-slot-pc .before .before .before .before in
+    let a = s .args in
+    still-matchable (now (a .code)) (now (a .work)) (a .r) (at-same .same .result) (a .f) _ _ _ (s .pre .0) (s .pre .1) (at-slot-pc .slot-pc .ensures) (at-same .same .ensures) (at-depth-of .depth-of .ensures)
 
 same-length : tie.Need-same-length
 same-length c = search needs
 
 returns : tie.Need-returns
-returns c = let a = c .before .before .before .before .before .before .before .before .before .before .before .before .before .before .before .before .args in match-resumed (record { code = now (a .code); image = now (a .image) }) (now (a .work)) _ (a .r) _ _ (a .f) _ _ _ _ (c .before .before .before .before .before .before .before .before .before .looked-again .result) (c .before .before .before .before .before .before .before .before .before .before .byte-beside .ensures .0) (c .before .before .before .before .before .before .before .before .before .looked-again .ensures .0) (c .before .before .before .before .before .before .before .before .before .before .before .before .slot-pc .ensures) (c .before .before .before .before .before .before .before .before .same .ensures) (c .before .before .before .before .before .before .depth-of .ensures) (c .before .before .before .before .slot-env .ensures) (c .before .before .entries-from .ensures)
+returns c =
+    let at-slot-env = c .before .before .before .before in
+    let at-depth-of = at-slot-env .before .before in
+    let at-same = at-depth-of .before .before in
+    let at-looked-again = at-same .before in
+    let at-byte-beside = at-looked-again .before in
+    let at-slot-pc = at-byte-beside .before .before in
+    let start = at-slot-pc .before .before .before .before in
+    let a = start .args in
+    match-resumed (record { code = now (a .code); image = now (a .image) }) (now (a .work)) _ (a .r) _ _ (a .f) _ _ _ _ (at-looked-again .looked-again .result) (at-byte-beside .byte-beside .ensures .0) (at-looked-again .looked-again .ensures .0) (at-slot-pc .slot-pc .ensures) (at-same .same .ensures) (at-depth-of .depth-of .ensures) (at-slot-env .slot-env .ensures) (c .before .before .entries-from .ensures)
 
 pub resume-match-spec : {M : Type 1} → statement M
 resume-match-spec =

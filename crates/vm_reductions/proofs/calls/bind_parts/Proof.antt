@@ -22,7 +22,11 @@ same-length : tie.Need-same-length
 same-length c = search needs
 
 returns : tie.Need-returns
-returns c = parts-made _ _ _ _ _ _ _ _ (c .before .before .before .before .before .before .before .before .before .before .piece-first .ensures) (c .before .before .before .before .before .before .before .before .piece-second .ensures) (c .before .before .before .before .before .before .bind .ensures) (c .before .before .bind2 .ensures)
+returns c =
+    let at-bind = c .before .before .before .before .before .before in
+    let at-piece-second = at-bind .before .before in
+    let at-piece-first = at-piece-second .before .before in
+    parts-made _ _ _ _ _ _ _ _ (at-piece-first .piece-first .ensures) (at-piece-second .piece-second .ensures) (at-bind .bind .ensures) (c .before .before .bind2 .ensures)
 
 pub bind-parts-spec : {M : Type 1} → statement M
 bind-parts-spec =

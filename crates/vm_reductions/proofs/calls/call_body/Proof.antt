@@ -18,7 +18,13 @@ halt-requires : tie.Need-halt-requires
 halt-requires c κs = search needs
 
 returns : tie.Need-returns
-returns c = let a = c .before .before .before .before .before .before .before .before .before .before .args in λ image. spent-call-made (record { code = now (a .code); image = image }) (now (a .work)) (now (a .work)) (now (a .work)) (a .r) _ (a .w) (a .x) (a .g) _ _ (c .before .before .before .before .before .before .before .half-of .ensures) (c .before .before .before .before .has-room .ensures) (c .before .if2 .taken) (c .before .before .before .if1 .taken) (c .halt .ensures)
+returns c =
+    let at-if1 = c .before .before .before in
+    let at-has-room = at-if1 .before in
+    let at-half-of = at-has-room .before .before .before in
+    let start = at-half-of .before .before .before in
+    let a = start .args in
+    λ image. spent-call-made (record { code = now (a .code); image = image }) (now (a .work)) (now (a .work)) (now (a .work)) (a .r) _ (a .w) (a .x) (a .g) _ _ (at-half-of .half-of .ensures) (at-has-room .has-room .ensures) (c .before .if2 .taken) (at-if1 .if1 .taken) (c .halt .ensures)
 
 whole-requires : tie.Need-whole-requires
 whole-requires c κs = search needs
@@ -27,22 +33,52 @@ closure-env-requires : tie.Need-closure-env-requires
 closure-env-requires c κs = search needs
 
 bind-requires : tie.Need-bind-requires
-bind-requires c κs = (search needs, omega (arith, c .before .before .whole .ensures, whole-room bindingLimit 1 (λ p. p .bindings) bindingsOut (c .before .before .before .before .before .before .before .before .before .before .before .before .args .w) (c .before .before .before .before .before .before .before .before .before .before .before .before .args .r) _ _ (c .before .before .before .before .before .before .before .before .before .half-of .ensures) (c .before .before .before .before .before .before .has-room .ensures) (c .before .before .before .before .before .before .before .before .before .before .before .before .pre .3 .1 .bindings) (c .before .before .before .before .before .if1 .taken)), omega arith, omega (arith, c .closure-env .ensures))
+bind-requires c κs =
+    let at-if1 = c .before .before .before .before .before in
+    let at-has-room = at-if1 .before in
+    let at-half-of = at-has-room .before .before .before in
+    let start = at-half-of .before .before .before in
+    (search needs, omega (arith, c .before .before .whole .ensures, whole-room bindingLimit 1 (λ p. p .bindings) bindingsOut (start .args .w) (start .args .r) _ _ (at-half-of .half-of .ensures) (at-has-room .has-room .ensures) (start .pre .3 .1 .bindings) (at-if1 .if1 .taken)), omega arith, omega (arith, c .closure-env .ensures))
 
 called-requires : tie.Need-called-requires
-called-requires c κs = let f = c .before .before .before .before .before .before .before .before .before .before .before .before .before .before .before .before .pre .3 .1 in (search needs, search needs, omega (arith, f .room), c .before .before .before .before .before .before .before .before .before .before .before .before .before .before .before .before .pre .2, f .pc, f .env, omega (arith, c .before .before .before .before .before .before .whole .ensures, whole-room bindingLimit 1 (λ p. p .bindings) bindingsOut (c .before .before .before .before .before .before .before .before .before .before .before .before .before .before .before .before .args .w) (c .before .before .before .before .before .before .before .before .before .before .before .before .before .before .before .before .args .r) _ _ (c .before .before .before .before .before .before .before .before .before .before .before .before .before .half-of .ensures) (c .before .before .before .before .before .before .before .before .before .before .has-room .ensures) (c .before .before .before .before .before .before .before .before .before .before .before .before .before .before .before .before .pre .3 .1 .bindings) (c .before .before .before .before .before .before .before .before .before .if1 .taken)))
+called-requires c κs =
+    let at-whole = c .before .before .before .before .before .before in
+    let at-if1 = at-whole .before .before .before in
+    let at-has-room = at-if1 .before in
+    let at-half-of = at-has-room .before .before .before in
+    let start = at-half-of .before .before .before in
+    let f = start .pre .3 .1 in
+    (search needs, search needs, omega (arith, f .room), start .pre .2, f .pc, f .env, omega (arith, at-whole .whole .ensures, whole-room bindingLimit 1 (λ p. p .bindings) bindingsOut (start .args .w) (start .args .r) _ _ (at-half-of .half-of .ensures) (at-has-room .has-room .ensures) (start .pre .3 .1 .bindings) (at-if1 .if1 .taken)))
 
 sub-q : tie.Need-sub-q
-sub-q c = omega (arith, c .before .before .before .before .before .before .before .before .before .before .before .if2 .left)
+sub-q c =
+    let at-if2 = c .before .before .before .before .before .before .before .before .before .before .before in
+    omega (arith, at-if2 .if2 .left)
 
 charge-bindings-requires : tie.Need-charge-bindings-requires
-charge-bindings-requires c κs = omega (arith, whole-room bindingLimit 1 (λ p. p .bindings) bindingsOut (c .before .before .before .before .before .before .before .before .before .before .before .before .before .before .before .before .before .before .before .before .args .w) (c .before .before .before .before .before .before .before .before .before .before .before .before .before .before .before .before .before .before .before .before .args .r) _ _ (c .before .before .before .before .before .before .before .before .before .before .before .before .before .before .before .before .before .half-of .ensures) (c .before .before .before .before .before .before .before .before .before .before .before .before .before .before .has-room .ensures) (c .before .before .before .before .before .before .before .before .before .before .before .before .before .before .before .before .before .before .before .before .pre .3 .1 .bindings) (c .before .before .before .before .before .before .before .before .before .before .before .before .before .if1 .taken))
+charge-bindings-requires c κs =
+    let at-if1 = c .before .before .before .before .before .before .before .before .before .before .before .before .before in
+    let at-has-room = at-if1 .before in
+    let at-half-of = at-has-room .before .before .before in
+    let start = at-half-of .before .before .before in
+    omega (arith, whole-room bindingLimit 1 (λ p. p .bindings) bindingsOut (start .args .w) (start .args .r) _ _ (at-half-of .half-of .ensures) (at-has-room .has-room .ensures) (start .pre .3 .1 .bindings) (at-if1 .if1 .taken))
 
 same-length : tie.Need-same-length
 same-length c = search needs
 
 returns-2 : tie.Need-returns-2
-returns-2 c = let a = c .before .before .before .before .before .before .before .before .before .before .before .before .before .before .before .before .before .before .before .before .before .args in λ image. call-made (record { code = now (a .code); image = image }) (now (a .work)) _ _ (a .r) _ (a .w) (a .x) (a .g) _ _ (c .before .before .before .before .before .before .before .before .before .before .before .before .before .before .before .before .before .before .half-of .ensures) (c .before .before .before .before .before .before .before .before .before .before .before .before .before .before .before .has-room .ensures) (c .before .before .before .before .before .before .before .before .before .before .before .before .if2 .left) _ _ _ (c .before .before .before .before .before .before .before .before .before .before .before .before .before .before .if1 .taken) (c .before .before .before .before .before .before .before .before .before .before .before .whole .ensures) (c .before .before .before .before .before .before .before .before .before .closure-env .ensures) (c .charge-bindings .ensures) (c .before .before .before .before .before .before .before .before .bind .ensures) (c .before .before .before .before .called .ensures image)
+returns-2 c =
+    let at-called = c .before .before .before .before in
+    let at-bind = at-called .before .before .before .before in
+    let at-closure-env = at-bind .before in
+    let at-whole = at-closure-env .before .before in
+    let at-if2 = at-whole .before in
+    let at-if1 = at-if2 .before .before in
+    let at-has-room = at-if1 .before in
+    let at-half-of = at-has-room .before .before .before in
+    let start = at-half-of .before .before .before in
+    let a = start .args in
+    λ image. call-made (record { code = now (a .code); image = image }) (now (a .work)) _ _ (a .r) _ (a .w) (a .x) (a .g) _ _ (at-half-of .half-of .ensures) (at-has-room .has-room .ensures) (at-if2 .if2 .left) _ _ _ (at-if1 .if1 .taken) (at-whole .whole .ensures) (at-closure-env .closure-env .ensures) (c .charge-bindings .ensures) (at-bind .bind .ensures) (at-called .called .ensures image)
 
 bindings-out-requires : tie.Need-bindings-out-requires
 bindings-out-requires c κs = search needs
@@ -51,7 +87,12 @@ halt-requires-2 : tie.Need-halt-requires-2
 halt-requires-2 c κs = search needs
 
 returns-3 : tie.Need-returns-3
-returns-3 c = let a = c .before .before .before .before .before .before .before .before .before .args in λ image. no-call-made (record { code = now (a .code); image = image }) (now (a .work)) (now (a .work)) (now (a .work)) (a .r) _ (a .w) (a .x) (a .g) _ _ (c .before .before .before .before .before .before .half-of .ensures) (c .before .before .before .has-room .ensures) _ (c .before .before .if1 .left) (c .before .bindings-out .ensures) (c .halt2 .ensures)
+returns-3 c =
+    let at-has-room = c .before .before .before in
+    let at-half-of = at-has-room .before .before .before in
+    let start = at-half-of .before .before .before in
+    let a = start .args in
+    λ image. no-call-made (record { code = now (a .code); image = image }) (now (a .work)) (now (a .work)) (now (a .work)) (a .r) _ (a .w) (a .x) (a .g) _ _ (at-half-of .half-of .ensures) (at-has-room .has-room .ensures) _ (c .before .before .if1 .left) (c .before .bindings-out .ensures) (c .halt2 .ensures)
 
 pub call-body-spec : {M : Type 1} → statement M
 call-body-spec =

@@ -23,28 +23,62 @@ closure-env-requires : tie.Need-closure-env-requires
 closure-env-requires c κs = search needs
 
 bind-requires : tie.Need-bind-requires
-bind-requires c κs = (search needs, omega (arith, c .before .before .whole .ensures, whole-room bindingLimit 1 (λ p. p .bindings) bindingsOut (c .before .before .before .before .before .before .before .before .before .before .args .w) (c .before .before .before .before .before .before .before .before .before .before .args .r) _ _ (c .before .before .before .before .before .before .before .half-of .ensures) (c .before .before .before .before .has-room .ensures) (c .before .before .before .before .before .before .before .before .before .before .pre .4 .1 .bindings) (c .before .before .before .if1 .taken)), omega arith, omega (arith, c .closure-env .ensures))
+bind-requires c κs =
+    let at-if1 = c .before .before .before in
+    let at-has-room = at-if1 .before in
+    let at-half-of = at-has-room .before .before .before in
+    let start = at-half-of .before .before .before in
+    (search needs, omega (arith, c .before .before .whole .ensures, whole-room bindingLimit 1 (λ p. p .bindings) bindingsOut (start .args .w) (start .args .r) _ _ (at-half-of .half-of .ensures) (at-has-room .has-room .ensures) (start .pre .4 .1 .bindings) (at-if1 .if1 .taken)), omega arith, omega (arith, c .closure-env .ensures))
 
 same-requires : tie.Need-same-requires
 same-requires c κs = search needs
 
 sub-s : tie.Need-sub-s
-sub-s c = omega (arith, c .before .before .before .before .before .before .before .before .before .before .before .before .before .before .before .pre .2)
+sub-s c =
+    let start = c .before .before .before .before .before .before .before .before .before .before .before .before .before .before .before in
+    omega (arith, start .pre .2)
 
 charge-bindings-requires : tie.Need-charge-bindings-requires
-charge-bindings-requires c κs = omega (arith, whole-room bindingLimit 1 (λ p. p .bindings) bindingsOut (c .before .before .before .before .before .before .before .before .before .before .before .before .before .before .before .args .w) (c .before .before .before .before .before .before .before .before .before .before .before .before .before .before .before .args .r) _ _ (c .before .before .before .before .before .before .before .before .before .before .before .before .half-of .ensures) (c .before .before .before .before .before .before .before .before .before .has-room .ensures) (c .before .before .before .before .before .before .before .before .before .before .before .before .before .before .before .pre .4 .1 .bindings) (c .before .before .before .before .before .before .before .before .if1 .taken))
+charge-bindings-requires c κs =
+    let at-if1 = c .before .before .before .before .before .before .before .before in
+    let at-has-room = at-if1 .before in
+    let at-half-of = at-has-room .before .before .before in
+    let start = at-half-of .before .before .before in
+    omega (arith, whole-room bindingLimit 1 (λ p. p .bindings) bindingsOut (start .args .w) (start .args .r) _ _ (at-half-of .half-of .ensures) (at-has-room .has-room .ensures) (start .pre .4 .1 .bindings) (at-if1 .if1 .taken))
 
 function-target-requires : tie.Need-function-target-requires
 function-target-requires c κs = search needs
 
 called-requires : tie.Need-called-requires
-called-requires c κs = let f = c .before .before .before .before .before .before .before .before .before .before .before .before .before .before .before .before .before .before .pre .4 .1 in let e = c .before .before .before .before .same .ensures in (omega (arith, c .before .before .before .before .before .before .before .before .before .before .before .before .before .before .before .before .before .before .pre .0), omega (arith, c .before .before .before .before .before .before .before .bind .kept .0, c .before .before .before .before .before .before .before .before .before .before .before .before .before .before .before .before .before .before .pre .1), omega (arith, ap (λ (v : Regs). v .room) e, f .room), omega (arith, ap (λ (v : Regs). v .room) e, c .before .before .before .before .before .before .before .before .before .before .before .before .before .before .before .before .before .before .pre .3), omega (arith, ap (λ (v : Regs). v .pc) e, f .pc), omega (arith, ap (λ (v : Regs). v .env) e, f .env), omega (arith, c .before .before .before .before .before .before .before .before .before .before .whole .ensures, whole-room bindingLimit 1 (λ p. p .bindings) bindingsOut (c .before .before .before .before .before .before .before .before .before .before .before .before .before .before .before .before .before .before .args .w) (c .before .before .before .before .before .before .before .before .before .before .before .before .before .before .before .before .before .before .args .r) _ _ (c .before .before .before .before .before .before .before .before .before .before .before .before .before .before .before .half-of .ensures) (c .before .before .before .before .before .before .before .before .before .before .before .before .has-room .ensures) (c .before .before .before .before .before .before .before .before .before .before .before .before .before .before .before .before .before .before .pre .4 .1 .bindings) (c .before .before .before .before .before .before .before .before .before .before .before .if1 .taken)))
+called-requires c κs =
+    let at-same = c .before .before .before .before in
+    let at-bind = at-same .before .before .before in
+    let at-whole = at-bind .before .before .before in
+    let at-if1 = at-whole .before in
+    let at-has-room = at-if1 .before in
+    let at-half-of = at-has-room .before .before .before in
+    let start = at-half-of .before .before .before in
+    let f = start .pre .4 .1 in
+    let e = at-same .same .ensures in
+    (omega (arith, start .pre .0), omega (arith, at-bind .bind .kept .0, start .pre .1), omega (arith, ap (λ (v : Regs). v .room) e, f .room), omega (arith, ap (λ (v : Regs). v .room) e, start .pre .3), omega (arith, ap (λ (v : Regs). v .pc) e, f .pc), omega (arith, ap (λ (v : Regs). v .env) e, f .env), omega (arith, at-whole .whole .ensures, whole-room bindingLimit 1 (λ p. p .bindings) bindingsOut (start .args .w) (start .args .r) _ _ (at-half-of .half-of .ensures) (at-has-room .has-room .ensures) (start .pre .4 .1 .bindings) (at-if1 .if1 .taken)))
 
 same-length : tie.Need-same-length
 same-length c = search needs
 
 returns : tie.Need-returns
-returns c = let a = c .before .before .before .before .before .before .before .before .before .before .before .before .before .before .before .before .before .before .before .before .before .args in λ image. apply-made (record { code = now (a .code); image = image }) (now (a .work)) _ _ (a .r) _ (a .w) (a .x) (a .y) _ _ (c .before .before .before .before .before .before .before .before .before .before .before .before .before .before .before .before .before .before .half-of .ensures) (c .before .before .before .before .before .before .before .before .before .before .before .before .before .before .before .has-room .ensures) (c .before .before .before .before .before .before .before .before .before .before .before .before .before .before .before .before .before .before .before .before .before .pre .2) _ _ _ _ _ (c .before .before .before .before .before .before .before .before .before .before .before .before .before .before .if1 .taken) (c .before .before .before .before .before .before .before .before .before .before .before .before .before .whole .ensures) (c .before .before .before .function-target .ensures) (c .before .before .before .before .before .before .before .before .before .before .before .closure-env .ensures) (c .before .before .before .before .before .before .before .same .ensures) (c .before .before .before .before .before .charge-bindings .ensures) (c .before .before .before .before .before .before .before .before .before .before .bind .ensures) (c .before .before .called .ensures image)
+returns c =
+    let at-function-target = c .before .before .before in
+    let at-charge-bindings = at-function-target .before .before in
+    let at-same = at-charge-bindings .before .before in
+    let at-bind = at-same .before .before .before in
+    let at-closure-env = at-bind .before in
+    let at-whole = at-closure-env .before .before in
+    let at-if1 = at-whole .before in
+    let at-has-room = at-if1 .before in
+    let at-half-of = at-has-room .before .before .before in
+    let start = at-half-of .before .before .before in
+    let a = start .args in
+    λ image. apply-made (record { code = now (a .code); image = image }) (now (a .work)) _ _ (a .r) _ (a .w) (a .x) (a .y) _ _ (at-half-of .half-of .ensures) (at-has-room .has-room .ensures) (start .pre .2) _ _ _ _ _ (at-if1 .if1 .taken) (at-whole .whole .ensures) (at-function-target .function-target .ensures) (at-closure-env .closure-env .ensures) (at-same .same .ensures) (at-charge-bindings .charge-bindings .ensures) (at-bind .bind .ensures) (c .before .before .called .ensures image)
 
 bindings-out-requires : tie.Need-bindings-out-requires
 bindings-out-requires c κs = search needs
@@ -53,7 +87,12 @@ halt-requires : tie.Need-halt-requires
 halt-requires c κs = search needs
 
 returns-2 : tie.Need-returns-2
-returns-2 c = let a = c .before .before .before .before .before .before .before .before .before .args in λ image. no-apply-made (record { code = now (a .code); image = image }) (now (a .work)) (now (a .work)) (now (a .work)) (a .r) _ (a .w) (a .x) (a .y) _ _ (c .before .before .before .before .before .before .half-of .ensures) (c .before .before .before .has-room .ensures) _ (c .before .before .if1 .left) (c .before .bindings-out .ensures) (c .halt .ensures)
+returns-2 c =
+    let at-has-room = c .before .before .before in
+    let at-half-of = at-has-room .before .before .before in
+    let start = at-half-of .before .before .before in
+    let a = start .args in
+    λ image. no-apply-made (record { code = now (a .code); image = image }) (now (a .work)) (now (a .work)) (now (a .work)) (a .r) _ (a .w) (a .x) (a .y) _ _ (at-half-of .half-of .ensures) (at-has-room .has-room .ensures) _ (c .before .before .if1 .left) (c .before .bindings-out .ensures) (c .halt .ensures)
 
 pub reduce-apply-spec : {M : Type 1} → statement M
 reduce-apply-spec =

@@ -21,28 +21,64 @@ piece-of-requires : tie.Need-piece-of-requires
 piece-of-requires c κs = search needs
 
 bind-parts-requires : tie.Need-bind-parts-requires
-bind-parts-requires c κs = (search needs, omega (arith, c .piece-of .ensures), omega (arith, c .before .before .whole .ensures, whole-room bindingLimit 2 (λ p. p .bindings) bindingsOut (c .before .before .before .before .before .before .before .before .before .before .args .w) (c .before .before .before .before .before .before .before .before .before .before .args .r) _ _ (c .before .before .before .before .before .before .before .half-of .ensures) (c .before .before .before .before .has-room .ensures) (c .before .before .before .before .before .before .before .before .before .before .pre .4 .1 .bindings) (c .before .before .before .if1 .taken)), c .before .before .before .before .before .before .before .before .before .before .pre .4 .1 .env)
+bind-parts-requires c κs =
+    let at-if1 = c .before .before .before in
+    let at-has-room = at-if1 .before in
+    let at-half-of = at-has-room .before .before .before in
+    let start = at-half-of .before .before .before in
+    (search needs, omega (arith, c .piece-of .ensures), omega (arith, c .before .before .whole .ensures, whole-room bindingLimit 2 (λ p. p .bindings) bindingsOut (start .args .w) (start .args .r) _ _ (at-half-of .half-of .ensures) (at-has-room .has-room .ensures) (start .pre .4 .1 .bindings) (at-if1 .if1 .taken)), start .pre .4 .1 .env)
 
 field-b-requires : tie.Need-field-b-requires
 field-b-requires c κs = search needs
 
 add-called : tie.Need-add-called
-add-called c = omega (arith, c .before .before .before .before .before .before .before .whole .ensures, whole-room bindingLimit 2 (λ p. p .bindings) bindingsOut (c .before .before .before .before .before .before .before .before .before .before .before .before .before .before .before .args .w) (c .before .before .before .before .before .before .before .before .before .before .before .before .before .before .before .args .r) _ _ (c .before .before .before .before .before .before .before .before .before .before .before .before .half-of .ensures) (c .before .before .before .before .before .before .before .before .before .has-room .ensures) (c .before .before .before .before .before .before .before .before .before .before .before .before .before .before .before .pre .4 .1 .bindings) (c .before .before .before .before .before .before .before .before .if1 .taken))
+add-called c =
+    let at-whole = c .before .before .before .before .before .before .before in
+    let at-if1 = at-whole .before in
+    let at-has-room = at-if1 .before in
+    let at-half-of = at-has-room .before .before .before in
+    let start = at-half-of .before .before .before in
+    omega (arith, at-whole .whole .ensures, whole-room bindingLimit 2 (λ p. p .bindings) bindingsOut (start .args .w) (start .args .r) _ _ (at-half-of .half-of .ensures) (at-has-room .has-room .ensures) (start .pre .4 .1 .bindings) (at-if1 .if1 .taken))
 
 called-requires : tie.Need-called-requires
-called-requires c κs = let f = c .before .before .before .before .before .before .before .before .before .before .before .before .before .before .before .pre .4 .1 in (search needs, search needs, omega (arith, f .room), c .before .before .before .before .before .before .before .before .before .before .before .before .before .before .before .pre .3, f .pc, f .env, omega (arith, c .before .before .before .before .before .before .before .whole .ensures, whole-room bindingLimit 2 (λ p. p .bindings) bindingsOut (c .before .before .before .before .before .before .before .before .before .before .before .before .before .before .before .args .w) (c .before .before .before .before .before .before .before .before .before .before .before .before .before .before .before .args .r) _ _ (c .before .before .before .before .before .before .before .before .before .before .before .before .half-of .ensures) (c .before .before .before .before .before .before .before .before .before .has-room .ensures) (c .before .before .before .before .before .before .before .before .before .before .before .before .before .before .before .pre .4 .1 .bindings) (c .before .before .before .before .before .before .before .before .if1 .taken)))
+called-requires c κs =
+    let at-whole = c .before .before .before .before .before .before .before in
+    let at-if1 = at-whole .before in
+    let at-has-room = at-if1 .before in
+    let at-half-of = at-has-room .before .before .before in
+    let start = at-half-of .before .before .before in
+    let f = start .pre .4 .1 in
+    (search needs, search needs, omega (arith, f .room), start .pre .3, f .pc, f .env, omega (arith, at-whole .whole .ensures, whole-room bindingLimit 2 (λ p. p .bindings) bindingsOut (start .args .w) (start .args .r) _ _ (at-half-of .half-of .ensures) (at-has-room .has-room .ensures) (start .pre .4 .1 .bindings) (at-if1 .if1 .taken)))
 
 sub-q : tie.Need-sub-q
-sub-q c = omega (arith, c .before .before .before .before .before .before .before .before .before .before .before .before .before .before .before .before .before .before .before .pre .2)
+sub-q c =
+    let start = c .before .before .before .before .before .before .before .before .before .before .before .before .before .before .before .before .before .before .before in
+    omega (arith, start .pre .2)
 
 charge-bindings-requires : tie.Need-charge-bindings-requires
-charge-bindings-requires c κs = omega (arith, whole-room bindingLimit 2 (λ p. p .bindings) bindingsOut (c .before .before .before .before .before .before .before .before .before .before .before .before .before .before .before .before .before .before .before .args .w) (c .before .before .before .before .before .before .before .before .before .before .before .before .before .before .before .before .before .before .before .args .r) _ _ (c .before .before .before .before .before .before .before .before .before .before .before .before .before .before .before .before .half-of .ensures) (c .before .before .before .before .before .before .before .before .before .before .before .before .before .has-room .ensures) (c .before .before .before .before .before .before .before .before .before .before .before .before .before .before .before .before .before .before .before .pre .4 .1 .bindings) (c .before .before .before .before .before .before .before .before .before .before .before .before .if1 .taken))
+charge-bindings-requires c κs =
+    let at-if1 = c .before .before .before .before .before .before .before .before .before .before .before .before in
+    let at-has-room = at-if1 .before in
+    let at-half-of = at-has-room .before .before .before in
+    let start = at-half-of .before .before .before in
+    omega (arith, whole-room bindingLimit 2 (λ p. p .bindings) bindingsOut (start .args .w) (start .args .r) _ _ (at-half-of .half-of .ensures) (at-has-room .has-room .ensures) (start .pre .4 .1 .bindings) (at-if1 .if1 .taken))
 
 same-length : tie.Need-same-length
 same-length c = search needs
 
 returns : tie.Need-returns
-returns c = let a = c .before .before .before .before .before .before .before .before .before .before .before .before .before .before .before .before .before .before .before .before .args in λ image. split-made (record { code = now (a .code); image = image }) (now (a .work)) _ _ (a .r) _ (a .w) (a .x) _ _ (c .before .before .before .before .before .before .before .before .before .before .before .before .before .before .before .before .before .half-of .ensures) (c .before .before .before .before .before .before .before .before .before .before .before .before .before .before .has-room .ensures) (c .before .before .before .before .before .before .before .before .before .before .before .before .before .before .before .before .before .before .before .before .pre .2) _ _ _ _ (c .before .before .before .before .before .before .before .before .before .before .before .before .before .if1 .taken) (c .before .before .before .before .before .before .before .before .before .before .before .before .whole .ensures) (c .before .before .before .before .before .before .before .before .before .before .piece-of .ensures) (c .before .before .before .before .before .field-b .ensures) (c .charge-bindings .ensures) (c .before .before .before .before .before .before .before .before .before .bind-parts .ensures) (c .before .before .before .before .called .ensures image)
+returns c =
+    let at-called = c .before .before .before .before in
+    let at-field-b = at-called .before in
+    let at-bind-parts = at-field-b .before .before .before .before in
+    let at-piece-of = at-bind-parts .before in
+    let at-whole = at-piece-of .before .before in
+    let at-if1 = at-whole .before in
+    let at-has-room = at-if1 .before in
+    let at-half-of = at-has-room .before .before .before in
+    let start = at-half-of .before .before .before in
+    let a = start .args in
+    λ image. split-made (record { code = now (a .code); image = image }) (now (a .work)) _ _ (a .r) _ (a .w) (a .x) _ _ (at-half-of .half-of .ensures) (at-has-room .has-room .ensures) (start .pre .2) _ _ _ _ (at-if1 .if1 .taken) (at-whole .whole .ensures) (at-piece-of .piece-of .ensures) (at-field-b .field-b .ensures) (c .charge-bindings .ensures) (at-bind-parts .bind-parts .ensures) (at-called .called .ensures image)
 
 bindings-out-requires : tie.Need-bindings-out-requires
 bindings-out-requires c κs = search needs
@@ -51,7 +87,12 @@ halt-requires : tie.Need-halt-requires
 halt-requires c κs = search needs
 
 returns-2 : tie.Need-returns-2
-returns-2 c = let a = c .before .before .before .before .before .before .before .before .before .args in λ image. no-split-made (record { code = now (a .code); image = image }) (now (a .work)) (now (a .work)) (now (a .work)) (a .r) _ (a .w) (a .x) _ _ (c .before .before .before .before .before .before .half-of .ensures) (c .before .before .before .has-room .ensures) _ (c .before .before .if1 .left) (c .before .bindings-out .ensures) (c .halt .ensures)
+returns-2 c =
+    let at-has-room = c .before .before .before in
+    let at-half-of = at-has-room .before .before .before in
+    let start = at-half-of .before .before .before in
+    let a = start .args in
+    λ image. no-split-made (record { code = now (a .code); image = image }) (now (a .work)) (now (a .work)) (now (a .work)) (a .r) _ (a .w) (a .x) _ _ (at-half-of .half-of .ensures) (at-has-room .has-room .ensures) _ (c .before .before .if1 .left) (c .before .bindings-out .ensures) (c .halt .ensures)
 
 pub reduce-split-spec : {M : Type 1} → statement M
 reduce-split-spec =

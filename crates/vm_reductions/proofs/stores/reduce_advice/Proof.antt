@@ -26,7 +26,15 @@ same-length : tie.Need-same-length
 same-length c = search needs
 
 returns : tie.Need-returns
-returns c = let a = c .before .before .before .before .before .before .before .before .before .before .before .args in advice-made (now (a .work)) _ (a .r) _ (a .w) (a .x) _ _ _ _ _ (c .before .before .before .before .before .before .before .before .before .field-b .ensures) (c .before .before .before .before .before .before .before .before .field-c .ensures) (c .before .before .before .before .before .piece-of .ensures) (c .before .before .before .before .before .before .before .advice-word .ensures) (c .before .before .before .before .piece-second .ensures) (c .before .before .new-piece .ensures)
+returns c =
+    let at-piece-second = c .before .before .before .before in
+    let at-piece-of = at-piece-second .before in
+    let at-advice-word = at-piece-of .before .before in
+    let at-field-c = at-advice-word .before in
+    let at-field-b = at-field-c .before in
+    let start = at-field-b .before .before in
+    let a = start .args in
+    advice-made (now (a .work)) _ (a .r) _ (a .w) (a .x) _ _ _ _ _ (at-field-b .field-b .ensures) (at-field-c .field-c .ensures) (at-piece-of .piece-of .ensures) (at-advice-word .advice-word .ensures) (at-piece-second .piece-second .ensures) (c .before .before .new-piece .ensures)
 
 pub reduce-advice-spec : {M : Type 1} → statement M
 reduce-advice-spec =

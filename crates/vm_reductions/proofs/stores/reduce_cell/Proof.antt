@@ -21,7 +21,12 @@ field-b-requires : tie.Need-field-b-requires
 field-b-requires c κs = search needs
 
 put-cell-requires : tie.Need-put-cell-requires
-put-cell-requires c κs = (search needs, omega (arith, c .before .before .whole .ensures, whole-room cellLimit 1 (λ p. p .cells) cellsOut (c .before .before .before .before .before .before .before .before .before .args .w) (c .before .before .before .before .before .before .before .before .before .args .r) _ _ (c .before .before .before .before .before .before .before .half-of .ensures) (c .before .before .before .before .has-room .ensures) (c .before .before .before .before .before .before .before .before .before .pre .2 .1 .cells) (c .before .before .before .if1 .taken)), search needs)
+put-cell-requires c κs =
+    let at-if1 = c .before .before .before in
+    let at-has-room = at-if1 .before in
+    let at-half-of = at-has-room .before .before .before in
+    let start = at-half-of .before .before in
+    (search needs, omega (arith, c .before .before .whole .ensures, whole-room cellLimit 1 (λ p. p .cells) cellsOut (start .args .w) (start .args .r) _ _ (at-half-of .half-of .ensures) (at-has-room .has-room .ensures) (start .pre .2 .1 .cells) (at-if1 .if1 .taken)), search needs)
 
 value-requires : tie.Need-value-requires
 value-requires c κs = search needs
@@ -30,13 +35,29 @@ given-requires : tie.Need-given-requires
 given-requires c κs = search needs
 
 charge-cells-requires : tie.Need-charge-cells-requires
-charge-cells-requires c κs = omega (arith, whole-room cellLimit 1 (λ p. p .cells) cellsOut (c .before .before .before .before .before .before .before .before .before .before .before .before .before .before .before .before .before .args .w) (c .before .before .before .before .before .before .before .before .before .before .before .before .before .before .before .before .before .args .r) _ _ (c .before .before .before .before .before .before .before .before .before .before .before .before .before .before .before .half-of .ensures) (c .before .before .before .before .before .before .before .before .before .before .before .before .has-room .ensures) (c .before .before .before .before .before .before .before .before .before .before .before .before .before .before .before .before .before .pre .2 .1 .cells) (c .before .before .before .before .before .before .before .before .before .before .before .if1 .taken))
+charge-cells-requires c κs =
+    let at-if1 = c .before .before .before .before .before .before .before .before .before .before .before in
+    let at-has-room = at-if1 .before in
+    let at-half-of = at-has-room .before .before .before in
+    let start = at-half-of .before .before in
+    omega (arith, whole-room cellLimit 1 (λ p. p .cells) cellsOut (start .args .w) (start .args .r) _ _ (at-half-of .half-of .ensures) (at-has-room .has-room .ensures) (start .pre .2 .1 .cells) (at-if1 .if1 .taken))
 
 same-length : tie.Need-same-length
 same-length c = search needs
 
 returns : tie.Need-returns
-returns c = let a = c .before .before .before .before .before .before .before .before .before .before .before .before .before .before .before .before .before .before .args in cell-made (now (a .work)) _ _ (a .r) _ (a .w) (a .x) _ _ (c .before .before .before .before .before .before .before .before .before .before .before .before .before .before .before .before .half-of .ensures) (c .before .before .before .before .before .before .before .before .before .before .before .before .before .has-room .ensures) (c .before .before .before .before .before .before .before .before .before .before .before .before .before .before .before .before .before .before .pre .1) _ _ _ _ (c .before .before .before .before .before .before .before .before .before .before .before .before .if1 .taken) (c .before .before .before .before .before .before .before .before .before .before .before .whole .ensures) (c .before .before .before .before .value .ensures) (c .before .before .before .before .before .before .before .before .before .field-b .ensures) (c .charge-cells .ensures) (c .before .before .before .before .before .before .before .before .put-cell .ensures) (c .before .before .before .given .ensures)
+returns c =
+    let at-given = c .before .before .before in
+    let at-value = at-given .before in
+    let at-put-cell = at-value .before .before .before .before in
+    let at-field-b = at-put-cell .before in
+    let at-whole = at-field-b .before .before in
+    let at-if1 = at-whole .before in
+    let at-has-room = at-if1 .before in
+    let at-half-of = at-has-room .before .before .before in
+    let start = at-half-of .before .before in
+    let a = start .args in
+    cell-made (now (a .work)) _ _ (a .r) _ (a .w) (a .x) _ _ (at-half-of .half-of .ensures) (at-has-room .has-room .ensures) (start .pre .1) _ _ _ _ (at-if1 .if1 .taken) (at-whole .whole .ensures) (at-value .value .ensures) (at-field-b .field-b .ensures) (c .charge-cells .ensures) (at-put-cell .put-cell .ensures) (at-given .given .ensures)
 
 cells-out-requires : tie.Need-cells-out-requires
 cells-out-requires c κs = search needs
@@ -45,7 +66,12 @@ halt-requires : tie.Need-halt-requires
 halt-requires c κs = search needs
 
 returns-2 : tie.Need-returns-2
-returns-2 c = let a = c .before .before .before .before .before .before .before .before .args in no-cell-made (now (a .work)) (now (a .work)) (now (a .work)) (a .r) _ (a .w) (a .x) _ _ (c .before .before .before .before .before .before .half-of .ensures) (c .before .before .before .has-room .ensures) _ (c .before .before .if1 .left) (c .before .cells-out .ensures) (c .halt .ensures)
+returns-2 c =
+    let at-has-room = c .before .before .before in
+    let at-half-of = at-has-room .before .before .before in
+    let start = at-half-of .before .before in
+    let a = start .args in
+    no-cell-made (now (a .work)) (now (a .work)) (now (a .work)) (a .r) _ (a .w) (a .x) _ _ (at-half-of .half-of .ensures) (at-has-room .has-room .ensures) _ (c .before .before .if1 .left) (c .before .cells-out .ensures) (c .halt .ensures)
 
 pub reduce-cell-spec : {M : Type 1} → statement M
 reduce-cell-spec =

@@ -23,7 +23,15 @@ same-length : tie.Need-same-length
 same-length c = search needs
 
 returns : tie.Need-returns
-returns c = let a = c .before .before .before .before .before .before .before .before .before .before .before .before .before .before .args in install-made (now (a .work)) _ _ (a .r) _ (a .w) (a .x) (c .before .before .before .before .before .before .before .before .before .before .before .before .before .before .pre .1) _ _ (c .before .before .before .before .before .before .before .before .before .before .before .before .if1 .taken) (c .before .before .before .before .before .before .before .before .before .before .before .piece-of .ensures) (c .before .before .before .before .before .before .before .before .before .piece-second .ensures) (c .before .before .before .before .before .before .before .put-installed .ensures) (c .before .before .before .given .ensures)
+returns c =
+    let at-given = c .before .before .before in
+    let at-put-installed = at-given .before .before .before .before in
+    let at-piece-second = at-put-installed .before .before in
+    let at-piece-of = at-piece-second .before .before in
+    let at-if1 = at-piece-of .before in
+    let start = at-if1 .before .before in
+    let a = start .args in
+    install-made (now (a .work)) _ _ (a .r) _ (a .w) (a .x) (start .pre .1) _ _ (at-if1 .if1 .taken) (at-piece-of .piece-of .ensures) (at-piece-second .piece-second .ensures) (at-put-installed .put-installed .ensures) (at-given .given .ensures)
 
 halt-requires : tie.Need-halt-requires
 halt-requires c κs = search needs

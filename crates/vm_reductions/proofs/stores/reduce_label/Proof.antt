@@ -17,7 +17,12 @@ same-length : tie.Need-same-length
 same-length c = search needs
 
 returns : tie.Need-returns
-returns c = let a = c .before .before .before .before .before .before .before .args in label-made (now (a .work)) _ (a .r) _ (a .w) (search needs) _ (c .before .before .before .before .before .if1 .taken) (c .before .before .before .value .ensures) (c .before .before .given .ensures)
+returns c =
+    let at-value = c .before .before .before in
+    let at-if1 = at-value .before .before in
+    let start = at-if1 .before .before in
+    let a = start .args in
+    label-made (now (a .work)) _ (a .r) _ (a .w) (search needs) _ (at-if1 .if1 .taken) (at-value .value .ensures) (c .before .before .given .ensures)
 
 halt-requires : tie.Need-halt-requires
 halt-requires c κs = search needs

@@ -17,7 +17,12 @@ same-length : tie.Need-same-length
 same-length c = search needs
 
 returns : tie.Need-returns
-returns c = let a = c .before .before .before .before .before .before .before .before .before .before .args in store-made (now (a .work)) _ _ (a .r) _ (a .w) (a .x) (a .y) _ (search needs) (c .before .before .before .before .before .before .before .cell-of .ensures) (c .before .before .before .before .before .before .store-cell .ensures) (c .before .before .given .ensures)
+returns c =
+    let at-store-cell = c .before .before .before .before .before .before in
+    let at-cell-of = at-store-cell .before in
+    let start = at-cell-of .before .before .before in
+    let a = start .args in
+    store-made (now (a .work)) _ _ (a .r) _ (a .w) (a .x) (a .y) _ (search needs) (at-cell-of .cell-of .ensures) (at-store-cell .store-cell .ensures) (c .before .before .given .ensures)
 
 pub reduce-store-spec : {M : Type 1} → statement M
 reduce-store-spec =

@@ -25,7 +25,12 @@ same-length : tie.Need-same-length
 same-length c = search needs
 
 returns : tie.Need-returns
-returns c = let a = c .before .before .before .before .before .before .before .before .before .args in (body-begun (a .r) _ (a .w) _ (a .t) (c .before .before .before .same .ensures) (c .before .before .depth-of .ensures), c .before .before .before .before .before .before .keep-value .ensures)
+returns c =
+    let at-same = c .before .before .before in
+    let at-keep-value = at-same .before .before .before in
+    let start = at-keep-value .before .before .before in
+    let a = start .args in
+    (body-begun (a .r) _ (a .w) _ (a .t) (at-same .same .ensures) (c .before .before .depth-of .ensures), at-keep-value .keep-value .ensures)
 
 pub begin-body-spec : {M : Type 1} → statement M
 begin-body-spec =

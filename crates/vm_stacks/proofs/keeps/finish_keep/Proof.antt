@@ -27,7 +27,12 @@ same-length : tie.Need-same-length
 same-length c = search needs
 
 returns-2 : tie.Need-returns-2
-returns-2 c = let a = c .before .before .before .before .before .before .before .before .before .before .before .args in λ image. atom-given (now (a .work)) _ (a .r) _ (a .w) (λ S. atomValue (record { code = now (a .code); image = image }) (S .memory) (S .regs .env) (codeAt (record { code = now (a .code); image = image }) (a .g))) (c .before .before .before .before .before .before .before .if1 .left) _ (λ log. c .before .before .before .atom-value .ensures (record { code = now (a .code); image = image })) (c .before .before .given .ensures)
+returns-2 c =
+    let at-atom-value = c .before .before .before in
+    let at-if1 = at-atom-value .before .before .before .before in
+    let start = at-if1 .before .before .before .before in
+    let a = start .args in
+    λ image. atom-given (now (a .work)) _ (a .r) _ (a .w) (λ S. atomValue (record { code = now (a .code); image = image }) (S .memory) (S .regs .env) (codeAt (record { code = now (a .code); image = image }) (a .g))) (at-if1 .if1 .left) _ (λ log. at-atom-value .atom-value .ensures (record { code = now (a .code); image = image })) (c .before .before .given .ensures)
 
 pub finish-keep-spec : {M : Type 1} → statement M
 finish-keep-spec =

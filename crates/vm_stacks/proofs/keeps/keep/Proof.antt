@@ -12,7 +12,11 @@ halt-requires : tie.Need-halt-requires
 halt-requires c κs = search needs
 
 returns : tie.Need-returns
-returns c = let a = c .before .before .before .before .before .before .args in λ image. judged-frames (startKeep (record { code = now (a .code); image = image }) (a .w) (a .x) (a .y)) (now (a .work)) (now (a .work)) (a .r) _ (a .w) _ (c .before .before .before .depth-of .ensures) (c .before .if1 .taken) (c .halt .ensures)
+returns c =
+    let at-depth-of = c .before .before .before in
+    let start = at-depth-of .before .before .before in
+    let a = start .args in
+    λ image. judged-frames (startKeep (record { code = now (a .code); image = image }) (a .w) (a .x) (a .y)) (now (a .work)) (now (a .work)) (a .r) _ (a .w) _ (at-depth-of .depth-of .ensures) (c .before .if1 .taken) (c .halt .ensures)
 
 start-keep-requires : tie.Need-start-keep-requires
 start-keep-requires c κs = search needs
@@ -21,7 +25,12 @@ same-length : tie.Need-same-length
 same-length c = search needs
 
 returns-2 : tie.Need-returns-2
-returns-2 c = let a = c .before .before .before .before .before .before .before .before .before .args in λ image. judged-made (startKeep (record { code = now (a .code); image = image }) (a .w) (a .x) (a .y)) (now (a .work)) _ (a .r) _ (a .w) _ (c .before .before .before .before .before .before .depth-of .ensures) (c .before .before .before .before .if1 .left) (c .before .before .start-keep .ensures image)
+returns-2 c =
+    let at-if1 = c .before .before .before .before in
+    let at-depth-of = at-if1 .before .before in
+    let start = at-depth-of .before .before .before in
+    let a = start .args in
+    λ image. judged-made (startKeep (record { code = now (a .code); image = image }) (a .w) (a .x) (a .y)) (now (a .work)) _ (a .r) _ (a .w) _ (at-depth-of .depth-of .ensures) (at-if1 .if1 .left) (c .before .before .start-keep .ensures image)
 
 pub keep-spec : {M : Type 1} → statement M
 keep-spec =

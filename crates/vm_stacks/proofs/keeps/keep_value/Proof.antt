@@ -23,7 +23,13 @@ same-length : tie.Need-same-length
 same-length c = search needs
 
 returns : tie.Need-returns
-returns c = let a = c .before .before .before .before .before .before .before .before .before .before .before .args in kept-stored (now (a .work)) _ _ (a .r) (a .w) (a .x) (a .y) _ _ (c .before .before .before .before .before .before .before .before .depth-of .ensures) (c .before .before .before .body .ensures) (c .before .before .before .before .before .before .before .put-keep .ensures) (c .before .before .put-kept .ensures)
+returns c =
+    let at-body = c .before .before .before in
+    let at-put-keep = at-body .before .before .before .before in
+    let at-depth-of = at-put-keep .before in
+    let start = at-depth-of .before .before .before in
+    let a = start .args in
+    kept-stored (now (a .work)) _ _ (a .r) (a .w) (a .x) (a .y) _ _ (at-depth-of .depth-of .ensures) (at-body .body .ensures) (at-put-keep .put-keep .ensures) (c .before .before .put-kept .ensures)
 
 pub keep-value-spec : {M : Type 1} → statement M
 keep-value-spec =

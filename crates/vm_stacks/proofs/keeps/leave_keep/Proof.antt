@@ -42,13 +42,27 @@ slot-env-requires : tie.Need-slot-env-requires
 slot-env-requires c κs = search needs
 
 given-requires : tie.Need-given-requires
-given-requires c κs = let s = c .before .before .before .before .before .before .before .before .before .before .before .before in (search needs, omega (arith, c .before .before .before .depth-of .ensures, s .pre .2), subst (λ (z : Regs). 0 < z .left) (sym (c .before .before .before .before .before .same .ensures)) (omega (arith, c .before .before .before .before .before .before .before .before .if1 .left)))
+given-requires c κs =
+    let at-depth-of = c .before .before .before in
+    let at-same = at-depth-of .before .before in
+    let at-if1 = at-same .before .before .before in
+    let s = at-if1 .before .before .before .before in
+    (search needs, omega (arith, at-depth-of .depth-of .ensures, s .pre .2), subst (λ (z : Regs). 0 < z .left) (sym (at-same .same .ensures)) (omega (arith, at-if1 .if1 .left)))
 
 same-length : tie.Need-same-length
 same-length c = search needs
 
 returns-2 : tie.Need-returns-2
-returns-2 c = let a = c .before .before .before .before .before .before .before .before .before .before .before .before .before .before .before .args in λ image. keep-left (record { code = now (a .code); image = image }) (now (a .work)) _ (a .r) _ (a .f) _ _ _ _ _ _ (c .before .before .before .before .before .before .before .before .before .before .before .if1 .left) (c .before .before .before .before .before .before .before .before .before .before .slot-pc .ensures) refl (c .before .before .before .before .before .before .before .before .same .ensures) (c .before .before .before .before .before .before .depth-of .ensures) (c .before .before .before .before .before .before .before .one-less .ensures) (c .before .before .before .before .slot-env .ensures) (c .before .before .given .ensures)
+returns-2 c =
+    let at-slot-env = c .before .before .before .before in
+    let at-depth-of = at-slot-env .before .before in
+    let at-one-less = at-depth-of .before in
+    let at-same = at-one-less .before in
+    let at-slot-pc = at-same .before .before in
+    let at-if1 = at-slot-pc .before in
+    let start = at-if1 .before .before .before .before in
+    let a = start .args in
+    λ image. keep-left (record { code = now (a .code); image = image }) (now (a .work)) _ (a .r) _ (a .f) _ _ _ _ _ _ (at-if1 .if1 .left) (at-slot-pc .slot-pc .ensures) refl (at-same .same .ensures) (at-depth-of .depth-of .ensures) (at-one-less .one-less .ensures) (at-slot-env .slot-env .ensures) (c .before .before .given .ensures)
 
 pub leave-keep-spec : {M : Type 1} → statement M
 leave-keep-spec =

@@ -14,7 +14,12 @@ same-length : tie.Need-same-length
 same-length c = search needs
 
 returns : tie.Need-returns
-returns c = let a = c .before .before .before .before .before .before .before .before .args in λ image. keep-atom (record { code = now (a .code); image = image }) (now (a .work)) _ (a .r) _ (a .w) (a .x) (a .y) _ (c .before .before .before .before .before .field-c .ensures) (c .before .before .before .before .if1 .taken) (c .before .before .finish-keep .ensures image)
+returns c =
+    let at-if1 = c .before .before .before .before in
+    let at-field-c = at-if1 .before in
+    let start = at-field-c .before .before .before in
+    let a = start .args in
+    λ image. keep-atom (record { code = now (a .code); image = image }) (now (a .work)) _ (a .r) _ (a .w) (a .x) (a .y) _ (at-field-c .field-c .ensures) (at-if1 .if1 .taken) (c .before .before .finish-keep .ensures image)
 
 begin-body-requires : tie.Need-begin-body-requires
 begin-body-requires c κs = search needs
@@ -23,7 +28,12 @@ same-length-2 : tie.Need-same-length-2
 same-length-2 c = search needs
 
 returns-2 : tie.Need-returns-2
-returns-2 c = let a = c .before .before .before .before .before .before .before .before .args in λ image. keep-body (record { code = now (a .code); image = image }) (now (a .work)) _ (a .r) _ (a .w) (a .x) (a .y) _ (c .before .before .before .before .before .field-c .ensures) (c .before .before .before .before .if1 .left) (c .before .before .begin-body .ensures .0) (c .before .before .begin-body .ensures .1)
+returns-2 c =
+    let at-if1 = c .before .before .before .before in
+    let at-field-c = at-if1 .before in
+    let start = at-field-c .before .before .before in
+    let a = start .args in
+    λ image. keep-body (record { code = now (a .code); image = image }) (now (a .work)) _ (a .r) _ (a .w) (a .x) (a .y) _ (at-field-c .field-c .ensures) (at-if1 .if1 .left) (c .before .before .begin-body .ensures .0) (c .before .before .begin-body .ensures .1)
 
 pub start-keep-spec : {M : Type 1} → statement M
 start-keep-spec =

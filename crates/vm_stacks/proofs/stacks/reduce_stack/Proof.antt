@@ -22,31 +22,64 @@ halt-requires : tie.Need-halt-requires
 halt-requires c κs = search needs
 
 returns : tie.Need-returns
-returns c = let a = c .before .before .before .before .before .before .before .before .args in stack-full (now (a .work)) (now (a .work)) (now (a .work)) (a .r) _ (a .w) _ _ (c .before .before .before .before .before .before .half-of .ensures) (c .before .before .before .has-room .ensures) _ (c .before .before .if1 .taken) (c .before .pieces-out .ensures) (c .halt .ensures)
+returns c =
+    let at-has-room = c .before .before .before in
+    let at-half-of = at-has-room .before .before .before in
+    let start = at-half-of .before .before in
+    let a = start .args in
+    stack-full (now (a .work)) (now (a .work)) (now (a .work)) (a .r) _ (a .w) _ _ (at-half-of .half-of .ensures) (at-has-room .has-room .ensures) _ (c .before .before .if1 .taken) (c .before .pieces-out .ensures) (c .halt .ensures)
 
 halt-requires-2 : tie.Need-halt-requires-2
 halt-requires-2 c κs = search needs
 
 returns-2 : tie.Need-returns-2
-returns-2 c = let a = c .before .before .before .before .before .before .before .before .before .args in stack-spent (now (a .work)) (now (a .work)) (now (a .work)) (a .r) _ (a .w) _ _ (c .before .before .before .before .before .before .before .half-of .ensures) (c .before .before .before .before .has-room .ensures) (c .before .if2 .taken) (c .before .before .before .if1 .left) (c .halt2 .ensures)
+returns-2 c =
+    let at-if1 = c .before .before .before in
+    let at-has-room = at-if1 .before in
+    let at-half-of = at-has-room .before .before .before in
+    let start = at-half-of .before .before in
+    let a = start .args in
+    stack-spent (now (a .work)) (now (a .work)) (now (a .work)) (a .r) _ (a .w) _ _ (at-half-of .half-of .ensures) (at-has-room .has-room .ensures) (c .before .if2 .taken) (at-if1 .if1 .left) (c .halt2 .ensures)
 
 whole-requires : tie.Need-whole-requires
 whole-requires c κs = search needs
 
 stack-pieces-requires : tie.Need-stack-pieces-requires
-stack-pieces-requires c κs = let s = c .before .before .before .before .before .before .before .before .before .before in let a = s .args in (search needs, omega (arith, c .whole .ensures, whole-room pieceLimit (a .r .kept) (λ p. p .pieces) piecesOut (a .w) (a .r) _ _ (c .before .before .before .before .before .before .before .before .half-of .ensures) (c .before .before .before .before .before .has-room .ensures) (s .pre .1 .1 .pieces) (not-false (c .before .before .before .before .before .has-room .result) (c .before .before .before .before .if1 .left))))
+stack-pieces-requires c κs =
+    let at-if1 = c .before .before .before .before in
+    let at-has-room = at-if1 .before in
+    let at-half-of = at-has-room .before .before .before in
+    let s = at-half-of .before .before in
+    let a = s .args in
+    (search needs, omega (arith, c .whole .ensures, whole-room pieceLimit (a .r .kept) (λ p. p .pieces) piecesOut (a .w) (a .r) _ _ (at-half-of .half-of .ensures) (at-has-room .has-room .ensures) (s .pre .1 .1 .pieces) (not-false (at-has-room .has-room .result) (at-if1 .if1 .left))))
 
 given-requires : tie.Need-given-requires
 given-requires c κs = search needs
 
 charge-pieces-requires : tie.Need-charge-pieces-requires
-charge-pieces-requires c κs = let s = c .before .before .before .before .before .before .before .before .before .before .before .before .before .before .before .before .before in let a = s .args in omega (arith, whole-room pieceLimit (a .r .kept) (λ p. p .pieces) piecesOut (a .w) (a .r) _ _ (c .before .before .before .before .before .before .before .before .before .before .before .before .before .before .before .half-of .ensures) (c .before .before .before .before .before .before .before .before .before .before .before .before .has-room .ensures) (s .pre .1 .1 .pieces) (not-false (c .before .before .before .before .before .before .before .before .before .before .before .before .has-room .result) (c .before .before .before .before .before .before .before .before .before .before .before .if1 .left)))
+charge-pieces-requires c κs =
+    let at-if1 = c .before .before .before .before .before .before .before .before .before .before .before in
+    let at-has-room = at-if1 .before in
+    let at-half-of = at-has-room .before .before .before in
+    let s = at-half-of .before .before in
+    let a = s .args in
+    omega (arith, whole-room pieceLimit (a .r .kept) (λ p. p .pieces) piecesOut (a .w) (a .r) _ _ (at-half-of .half-of .ensures) (at-has-room .has-room .ensures) (s .pre .1 .1 .pieces) (not-false (at-has-room .has-room .result) (at-if1 .if1 .left)))
 
 same-length : tie.Need-same-length
 same-length c = search needs
 
 returns-3 : tie.Need-returns-3
-returns-3 c = let a = c .before .before .before .before .before .before .before .before .before .before .before .before .before .before .before .before .before .before .args in stack-made (now (a .work)) _ _ (a .r) _ (a .w) _ _ (c .before .before .before .before .before .before .before .before .before .before .before .before .before .before .before .before .half-of .ensures) (c .before .before .before .before .before .before .before .before .before .before .before .before .before .has-room .ensures) (c .before .before .before .before .before .before .before .before .before .before .if2 .left) _ _ _ (c .before .before .before .before .before .before .before .before .before .before .before .before .if1 .left) (c .before .before .before .before .before .before .before .before .whole .ensures) (c .charge-pieces .ensures) (c .before .before .before .before .before .before .before .stack-pieces .ensures) (c .before .before .before .given .ensures)
+returns-3 c =
+    let at-given = c .before .before .before in
+    let at-stack-pieces = at-given .before .before .before .before in
+    let at-whole = at-stack-pieces .before in
+    let at-if2 = at-whole .before .before in
+    let at-if1 = at-if2 .before .before in
+    let at-has-room = at-if1 .before in
+    let at-half-of = at-has-room .before .before .before in
+    let start = at-half-of .before .before in
+    let a = start .args in
+    stack-made (now (a .work)) _ _ (a .r) _ (a .w) _ _ (at-half-of .half-of .ensures) (at-has-room .has-room .ensures) (at-if2 .if2 .left) _ _ _ (at-if1 .if1 .left) (at-whole .whole .ensures) (c .charge-pieces .ensures) (at-stack-pieces .stack-pieces .ensures) (at-given .given .ensures)
 
 pub reduce-stack-spec : {M : Type 1} → statement M
 reduce-stack-spec =

@@ -46,7 +46,15 @@ loop-less : tie.Need-loop-less Inv-loop μ-loop
 loop-less c = search needs
 
 loop-again : tie.Need-loop-again Inv-loop μ-loop
-loop-again c = let a = c .before .before .before .before .before .before .before .before .before .before .before .args in let l = c .before .before .before .before .before .before .before .before .loop in (omega arith, search needs, c .before .before .before .put-piece .ensures .rest ∙ l .inv .2, l .inv .3 ∙ pieces-on (a .n) (l .i) (a .p) _ _ (l .v) _ _ (c .before .before .before .before .before .before .before .loop-test .taken) (c .before .before .before .before .before .kept-at .ensures) (c .before .before .before .put-piece .ensures) (c .kept .ensures))
+loop-again c =
+    let at-put-piece = c .before .before .before in
+    let at-kept-at = at-put-piece .before .before in
+    let at-loop-test = at-kept-at .before .before in
+    let at-loop = at-loop-test .before in
+    let start = at-loop .before .before .before in
+    let a = start .args in
+    let l = at-loop .loop in
+    (omega arith, search needs, at-put-piece .put-piece .ensures .rest ∙ l .inv .2, l .inv .3 ∙ pieces-on (a .n) (l .i) (a .p) _ _ (l .v) _ _ (at-loop-test .loop-test .taken) (at-kept-at .kept-at .ensures) (at-put-piece .put-piece .ensures) (c .kept .ensures))
 
 same-length : tie.Need-same-length Inv-loop μ-loop
 same-length c = search needs

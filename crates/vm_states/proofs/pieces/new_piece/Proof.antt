@@ -18,7 +18,12 @@ whole-requires : tie.Need-whole-requires
 whole-requires c κs = search needs
 
 put-piece-requires : tie.Need-put-piece-requires
-put-piece-requires c κs = let a = c .before .before .before .before .before .before .before .before .args in (search needs, omega (arith, c .before .whole .ensures, whole-room pieceLimit 1 (λ p. p .pieces) piecesOut (a .w) (a .r) (c .before .before .before .before .before .before .half-of .result) (c .before .before .before .has-room .result) (c .before .before .before .before .before .before .half-of .ensures) (c .before .before .before .has-room .ensures) (c .before .before .before .before .before .before .before .before .pre .4) (c .before .before .if1 .taken)))
+put-piece-requires c κs =
+    let at-has-room = c .before .before .before in
+    let at-half-of = at-has-room .before .before .before in
+    let start = at-half-of .before .before in
+    let a = start .args in
+    (search needs, omega (arith, c .before .whole .ensures, whole-room pieceLimit 1 (λ p. p .pieces) piecesOut (a .w) (a .r) (at-half-of .half-of .result) (at-has-room .has-room .result) (at-half-of .half-of .ensures) (at-has-room .has-room .ensures) (start .pre .4) (c .before .before .if1 .taken)))
 
 value-requires : tie.Need-value-requires
 value-requires c κs = search needs
@@ -27,13 +32,29 @@ given-requires : tie.Need-given-requires
 given-requires c κs = search needs
 
 charge-pieces-requires : tie.Need-charge-pieces-requires
-charge-pieces-requires c κs = let a = c .before .before .before .before .before .before .before .before .before .before .before .before .before .before .before .before .args in omega (arith, whole-room pieceLimit 1 (λ p. p .pieces) piecesOut (a .w) (a .r) (c .before .before .before .before .before .before .before .before .before .before .before .before .before .before .half-of .result) (c .before .before .before .before .before .before .before .before .before .before .before .has-room .result) (c .before .before .before .before .before .before .before .before .before .before .before .before .before .before .half-of .ensures) (c .before .before .before .before .before .before .before .before .before .before .before .has-room .ensures) (c .before .before .before .before .before .before .before .before .before .before .before .before .before .before .before .before .pre .4) (c .before .before .before .before .before .before .before .before .before .before .if1 .taken))
+charge-pieces-requires c κs =
+    let at-if1 = c .before .before .before .before .before .before .before .before .before .before in
+    let at-has-room = at-if1 .before in
+    let at-half-of = at-has-room .before .before .before in
+    let start = at-half-of .before .before in
+    let a = start .args in
+    omega (arith, whole-room pieceLimit 1 (λ p. p .pieces) piecesOut (a .w) (a .r) (at-half-of .half-of .result) (at-has-room .has-room .result) (at-half-of .half-of .ensures) (at-has-room .has-room .ensures) (start .pre .4) (at-if1 .if1 .taken))
 
 same-length : tie.Need-same-length
 same-length c = search needs
 
 returns : tie.Need-returns
-returns c = let a = c .before .before .before .before .before .before .before .before .before .before .before .before .before .before .before .before .before .args in piece-made (now (a .work)) _ _ (a .r) _ (a .w) (a .tag) (a .a) (a .b) _ _ (c .before .before .before .before .before .before .before .before .before .before .before .before .before .before .before .half-of .ensures) (c .before .before .before .before .before .before .before .before .before .before .before .before .has-room .ensures) (c .before .before .before .before .before .before .before .before .before .before .before .before .before .before .before .before .before .pre .2) _ _ _ (c .before .before .before .before .before .before .before .before .before .before .before .if1 .taken) (c .before .before .before .before .before .before .before .before .before .before .whole .ensures) (c .before .before .before .before .value .ensures) (c .charge-pieces .ensures) (c .before .before .before .before .before .before .before .before .put-piece .ensures) (c .before .before .before .given .ensures)
+returns c =
+    let at-given = c .before .before .before in
+    let at-value = at-given .before in
+    let at-put-piece = at-value .before .before .before .before in
+    let at-whole = at-put-piece .before .before in
+    let at-if1 = at-whole .before in
+    let at-has-room = at-if1 .before in
+    let at-half-of = at-has-room .before .before .before in
+    let start = at-half-of .before .before in
+    let a = start .args in
+    piece-made (now (a .work)) _ _ (a .r) _ (a .w) (a .tag) (a .a) (a .b) _ _ (at-half-of .half-of .ensures) (at-has-room .has-room .ensures) (start .pre .2) _ _ _ (at-if1 .if1 .taken) (at-whole .whole .ensures) (at-value .value .ensures) (c .charge-pieces .ensures) (at-put-piece .put-piece .ensures) (at-given .given .ensures)
 
 pieces-out-requires : tie.Need-pieces-out-requires
 pieces-out-requires c κs = search needs
@@ -42,7 +63,12 @@ halt-requires : tie.Need-halt-requires
 halt-requires c κs = search needs
 
 returns-2 : tie.Need-returns-2
-returns-2 c = let a = c .before .before .before .before .before .before .before .before .args in no-piece-made (now (a .work)) (now (a .work)) (now (a .work)) (a .r) _ (a .w) (a .tag) (a .a) (a .b) _ _ (c .before .before .before .before .before .before .half-of .ensures) (c .before .before .before .has-room .ensures) _ (c .before .before .if1 .left) (c .before .pieces-out .ensures) (c .halt .ensures)
+returns-2 c =
+    let at-has-room = c .before .before .before in
+    let at-half-of = at-has-room .before .before .before in
+    let start = at-half-of .before .before in
+    let a = start .args in
+    no-piece-made (now (a .work)) (now (a .work)) (now (a .work)) (a .r) _ (a .w) (a .tag) (a .a) (a .b) _ _ (at-half-of .half-of .ensures) (at-has-room .has-room .ensures) _ (c .before .before .if1 .left) (c .before .pieces-out .ensures) (c .halt .ensures)
 
 pub new-piece-spec : {M : Type 1} → statement M
 new-piece-spec =

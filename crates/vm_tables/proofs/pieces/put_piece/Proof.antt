@@ -28,7 +28,9 @@ same-length : tie.Need-same-length
 same-length c = search needs
 
 returns : tie.Need-returns
-returns c = and-word _ _ _ _ _ _ (c .before .before .before .before .before .before .put-word .ensures) (c .before .before .put-word2 .ensures)
+returns c =
+    let at-put-word = c .before .before .before .before .before .before in
+    and-word _ _ _ _ _ _ (at-put-word .put-word .ensures) (c .before .before .put-word2 .ensures)
 
 pub put-piece-spec : {M : Type 1} → statement M
 put-piece-spec =

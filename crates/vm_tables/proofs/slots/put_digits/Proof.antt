@@ -19,7 +19,10 @@ same-length : tie.Need-same-length
 same-length c = search needs
 
 returns : tie.Need-returns
-returns c = digits-stored _ _ _ _ _ _ _ _ _ (search needs) (search needs) (c .before .before .before .before .before .before .before .slot-word .ensures) (c .before .before .before .before .before .before .put-slot .ensures) (c .before .before .put-beside .ensures)
+returns c =
+    let at-put-slot = c .before .before .before .before .before .before in
+    let at-slot-word = at-put-slot .before in
+    digits-stored _ _ _ _ _ _ _ _ _ (search needs) (search needs) (at-slot-word .slot-word .ensures) (at-put-slot .put-slot .ensures) (c .before .before .put-beside .ensures)
 
 pub put-digits-spec : {M : Type 1} → statement M
 put-digits-spec =

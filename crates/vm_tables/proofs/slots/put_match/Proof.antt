@@ -16,7 +16,9 @@ same-length : tie.Need-same-length
 same-length c = search needs
 
 returns : tie.Need-returns
-returns c = match-stored _ _ _ _ _ _ _ (search needs) (search needs) (c .before .before .before .before .before .before .put-slot .ensures) (c .before .before .put-beside .ensures)
+returns c =
+    let at-put-slot = c .before .before .before .before .before .before in
+    match-stored _ _ _ _ _ _ _ (search needs) (search needs) (at-put-slot .put-slot .ensures) (c .before .before .put-beside .ensures)
 
 pub put-match-spec : {M : Type 1} → statement M
 put-match-spec =

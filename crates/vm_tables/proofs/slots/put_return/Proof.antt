@@ -19,7 +19,11 @@ same-length : tie.Need-same-length
 same-length c = search needs
 
 returns : tie.Need-returns
-returns c = return-stored _ _ _ _ _ _ _ _ _ (c .before .before .before .before .before .before .slot-at .ensures) (c .before .before .before .before .before .slot-held .ensures) (c .before .before .before .slot-word .ensures) (c .before .before .put-slot .ensures)
+returns c =
+    let at-slot-word = c .before .before .before in
+    let at-slot-held = at-slot-word .before .before in
+    let at-slot-at = at-slot-held .before in
+    return-stored _ _ _ _ _ _ _ _ _ (at-slot-at .slot-at .ensures) (at-slot-held .slot-held .ensures) (at-slot-word .slot-word .ensures) (c .before .before .put-slot .ensures)
 
 pub put-return-spec : {M : Type 1} → statement M
 put-return-spec =

@@ -10,15 +10,15 @@ use Rattle.check_typing.proofs.pass.+check_moved+check_term.Lts-check_m
 use Rattle.check_typing.proofs.pass.+check_moved+check_term.Lts-check_term as term-lts
 use Rattle.check_rules.proofs.leaf.check_leaf.Reads as check-leaf-reads
 use Rattle.check_rules.proofs.leaf.is_leaf.Reads as is-leaf-reads
-use Rattle.check_rules.proofs.rule.check_rule.Reads as check-rule-reads
+use Rattle.check_dispatch.proofs.rule.check_rule.Reads as check-rule-reads
 use Rattle.check_rules.proofs.terms.child_at_field.Reads as child-at-field-reads
 use Rattle.check_rules.proofs.terms.child_count.Reads as child-count-reads
 use Rattle.check_rules.proofs.terms.child_of.Reads as child-of-reads
 use Rattle.check_rules.proofs.terms.lead_of.Reads as lead-of-reads
 use Rattle.check_rules.proofs.terms.term_fields.Reads as term-fields-reads
 use Rattle.check_rules.proofs.terms.term_kind.Reads as term-kind-reads
-use Rattle.check_typing.proofs.scope.child_setting.Reads as child-setting-reads
-use Rattle.check_typing.proofs.scope.moves_child.Reads as moves-child-reads
+use Rattle.check_scopes.proofs.scope.child_setting.Reads as child-setting-reads
+use Rattle.check_scopes.proofs.scope.moves_child.Reads as moves-child-reads
 use Rattle.verdict.proofs.is_refused.Reads as is-refused-reads
 
 -- The term number falls, or the children of the same term are looked at.

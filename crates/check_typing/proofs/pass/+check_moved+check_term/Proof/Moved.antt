@@ -20,8 +20,10 @@ use Rattle.verdict.proofs.Answered.{accepted-is}
 use Rattle.check_rules.specs.Lent.{IsTerm, contextIn, settingIn}
 use Rattle.check_rules.specs.Fields.{fieldsOf, childrenIn, settingFrom, HasChild}
 use Rattle.check_rules.proofs.Located.{number-is, kind-is}
-use Rattle.check_typing.specs.Turns.{Passed, ChildAt, Room}
-use Rattle.check_typing.proofs.TermPass.{front, take-fewer, same-setting}
+use Rattle.check_scopes.specs.Scopes.{Passed, ChildAt}
+use Rattle.check_typing.specs.Turns.{Room}
+use Rattle.check_typing.proofs.TermPass.{front, same-setting}
+use Rattle.check_scopes.proofs.Bindings.{take-fewer}
 use Rattle.check_typing.proofs.Children.{has-there, passed-there, below, there, room-there, child-next, all-passed, refused-there}
 use Rattle.check_typing.proofs.ScopeRoom.{more-room}
 

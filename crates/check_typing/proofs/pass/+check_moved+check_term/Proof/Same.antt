@@ -26,8 +26,9 @@ use Rattle.check_rules.specs.Judged.{ruleVerdict}
 use Rattle.image.proofs.KindNumbers.{same-term-kind}
 use Rattle.check_rules.proofs.Counts.{children-counted}
 use Rattle.check_rules.proofs.Located.{number-is}
-use Rattle.check_typing.specs.Turns.{movesChild, Room}
-use Rattle.check_typing.proofs.ChildSettings.{stays-here, stays-side, here-at}
+use Rattle.check_scopes.specs.Scopes.{movesChild}
+use Rattle.check_typing.specs.Turns.{Room}
+use Rattle.check_scopes.proofs.ChildSettings.{stays-here, stays-side, here-at}
 use Rattle.check_typing.proofs.TermPass.{front, same-setting, leaf-checked}
 use Rattle.check_typing.proofs.Children.{has-there, below, there, room-there, child-next, all-passed, refused-there}
 

@@ -1,0 +1,109 @@
+-- `check_core::watches::labels_fit` meets its contract.
+use borrow.Author.Needs.{needs}
+use Rattle.check_core.proofs.watches.labels_fit.Statement.{statement}
+use Rattle.check_core.proofs.watches.labels_fit.Tie as tie
+use native.Mathlib.Omega.{arith}
+use mathlib.Core.Path.{_≡_, sym, _∙_}
+use denote.Ref.{now}
+use Prim.Native.Nat.{_-_, _≤_}
+use lib.ListN.{getD, drop}
+use Rattle.laws.specs.Tests.{allOf}
+use Rattle.image.specs.Kinds.{TermKind}
+use Rattle.check_rules.specs.Fields.{typesIn}
+use Rattle.check_rules.specs.Judged.{labelOf}
+use Rattle.check_rules.proofs.Lists.{test-more, test-fails, test-ends}
+use Rattle.check_rules.proofs.OnDescriptors.{labels-length, label-at}
+
+abbrev Inv-loop : tie.InvT-loop
+Inv-loop image terms descriptors fields a k i₀ i = (i ≤ k) × (allOf (labelOf descriptors (a .0)) (drop i (typesIn image fields TermKind.pcd)) ≡ allOf (labelOf descriptors (a .0)) (typesIn image fields TermKind.pcd))
+
+abbrev μ-loop : tie.MeasureT-loop
+μ-loop image terms descriptors fields a k i₀ i = k - i
+
+labels-in-requires : tie.Need-labels-in-requires Inv-loop μ-loop
+labels-in-requires c κs = search needs
+
+loop-holds : tie.Need-loop-holds Inv-loop μ-loop
+loop-holds c = search needs
+
+add-descriptor-at-field : tie.Need-add-descriptor-at-field Inv-loop μ-loop
+add-descriptor-at-field c = search needs
+
+descriptor-at-field-requires : tie.Need-descriptor-at-field-requires Inv-loop μ-loop
+descriptor-at-field-requires c κs =
+    let s = c .before .before .before .before .before .before .before in
+    let k = c .before .before .labels-in .ensures in
+    (s .pre .0 .terms, s .pre .0 .types, s .pre .1 .each (c .before .loop .i) (omega arith))
+
+is-kind-requires : tie.Need-is-kind-requires Inv-loop μ-loop
+is-kind-requires c κs = search needs
+
+first-type-requires : tie.Need-first-type-requires Inv-loop μ-loop
+first-type-requires c κs = search needs
+
+same-type-requires : tie.Need-same-type-requires Inv-loop μ-loop
+same-type-requires c κs = search needs
+
+both-requires : tie.Need-both-requires Inv-loop μ-loop
+both-requires c κs = search needs
+
+add-i : tie.Need-add-i Inv-loop μ-loop
+add-i c = search needs
+
+loop-less : tie.Need-loop-less Inv-loop μ-loop
+loop-less c = search needs
+
+loop-again : tie.Need-loop-again Inv-loop μ-loop
+loop-again c =
+    let at-first-type = c .before .before .before in
+    let at-is-kind = at-first-type .before in
+    let at-descriptor-at-field = at-is-kind .before in
+    let at-loop = at-descriptor-at-field .before .before in
+    let at-labels-in = at-loop .before in
+    let s = at-labels-in .before .before .before .before .before in
+    let k = at-labels-in .labels-in .ensures in
+    let n = labels-length (now (s .args .image)) (now (s .args .fields)) in
+    let l = label-at (now (s .args .image)) (now (s .args .fields)) (at-loop .loop .i) (omega arith) in
+    let e : labelOf (now (s .args .descriptors)) (s .args .a .0) (getD (typesIn (now (s .args .image)) (now (s .args .fields)) TermKind.pcd) (at-loop .loop .i) 0) ≡ c .before .both .result = sym (c .before .both .ensures ∙ simp (at-is-kind .is-kind .ensures, c .before .before .same-type .ensures, at-first-type .first-type .ensures, at-descriptor-at-field .descriptor-at-field .ensures, ← l)) in
+    (omega arith, test-more _ _ (at-loop .loop .i) (omega arith) (e ∙ c .if1 .taken) ∙ at-loop .loop .inv .1)
+
+returns : tie.Need-returns Inv-loop μ-loop
+returns c =
+    let at-first-type = c .before .before .before in
+    let at-is-kind = at-first-type .before in
+    let at-descriptor-at-field = at-is-kind .before in
+    let at-loop = at-descriptor-at-field .before .before in
+    let at-labels-in = at-loop .before in
+    let s = at-labels-in .before .before .before .before .before in
+    let k = at-labels-in .labels-in .ensures in
+    let n = labels-length (now (s .args .image)) (now (s .args .fields)) in
+    let l = label-at (now (s .args .image)) (now (s .args .fields)) (at-loop .loop .i) (omega arith) in
+    let e : labelOf (now (s .args .descriptors)) (s .args .a .0) (getD (typesIn (now (s .args .image)) (now (s .args .fields)) TermKind.pcd) (at-loop .loop .i) 0) ≡ c .before .both .result = sym (c .before .both .ensures ∙ simp (at-is-kind .is-kind .ensures, c .before .before .same-type .ensures, at-first-type .first-type .ensures, at-descriptor-at-field .descriptor-at-field .ensures, ← l)) in
+    test-fails _ _ (at-loop .loop .i) (omega arith) (e ∙ c .if1 .left) ∙ at-loop .loop .inv .1
+
+returns-2 : tie.Need-returns-2 Inv-loop μ-loop
+returns-2 c =
+    let s = c .before .before .before .before .before .before .before in
+    let k = c .before .before .labels-in .ensures in
+    let n = labels-length (now (s .args .image)) (now (s .args .fields)) in
+    test-ends _ _ (c .before .loop .i) (omega arith) ∙ c .before .loop .inv .1
+
+pub labels-fit-spec : {M : Type 1} → statement M
+labels-fit-spec =
+    tie.close
+    (tie.spec
+    Inv-loop
+    μ-loop
+    labels-in-requires
+    loop-holds
+    add-descriptor-at-field
+    descriptor-at-field-requires
+    is-kind-requires
+    first-type-requires
+    same-type-requires
+    both-requires
+    add-i
+    loop-less
+    loop-again
+    returns
+    returns-2)

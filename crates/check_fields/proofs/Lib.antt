@@ -1,0 +1,1 @@
+-- The proofs of the functions stand beside each other; no law is needed.

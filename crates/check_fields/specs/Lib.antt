@@ -1,0 +1,2 @@
+-- What the fields of a record are, in the bytes that they occupy.
+pub mod Fields

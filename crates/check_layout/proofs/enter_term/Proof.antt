@@ -1,0 +1,73 @@
+-- `check_layout::enter_term` meets its contract: what 4 to 7 answer decides.
+use Prim.Native.Nat.{_<_}
+use native.Mathlib.Omega.{arith}
+use denote.Ref.{now}
+use Rattle.image.specs.Limits.{termLimit}
+use Rattle.check_layout.proofs.Marked.{term-refused, term-passed, passed-room}
+use borrow.Author.Needs.{needs}
+use Rattle.check_layout.proofs.enter_term.Statement.{statement}
+use Rattle.check_layout.proofs.enter_term.Tie as tie
+
+term-fault-requires : tie.Need-term-fault-requires
+term-fault-requires c κs = search needs
+
+enum-known-tested : tie.Need-enum-known-tested
+enum-known-tested c = search needs
+
+enum-told : tie.Need-enum-told
+enum-told c = search needs
+
+next-term-requires : tie.Need-next-term-requires
+next-term-requires c κs = search needs
+
+put-term-requires : tie.Need-put-term-requires
+put-term-requires c κs =
+    let n = c .before in
+    let t = n .before in
+    let f = t .before .before .before .before in
+    let s = f .before .before .before .before .before in
+    let p = s .pre in
+    let r : s .args .counts .terms < termLimit = passed-room (now (s .args .fields)) (s .args .code) (s .args .counts) (f .term-fault .result) (f .term-fault .ensures .0) (t .enum-told .given .1) (p .0 .term) in
+    let l = p .4 in
+    (p .2, omega (arith, n .next-term .ensures))
+
+with-term-requires : tie.Need-with-term-requires
+with-term-requires c κs = search needs
+
+same-length : tie.Need-same-length
+same-length c = search needs
+
+returns : tie.Need-returns
+returns c =
+    let f = c .before .before .before .before .before in
+    term-refused _ _ _ _ (f .term-fault .ensures .0) (c .before .tested .given .1) _ _ (f .term-fault .ensures .1)
+
+same-length-2 : tie.Need-same-length-2
+same-length-2 c = search needs
+
+same-length-3 : tie.Need-same-length-3
+same-length-3 c = search needs
+
+returns-2 : tie.Need-returns-2
+returns-2 c =
+    let p = c .before .before .before in
+    let n = p .before .before in
+    let t = n .before in
+    let f = t .before .before .before .before in
+    term-passed _ _ _ _ (f .term-fault .ensures .0) (t .enum-told .given .1) (c .with-term .ensures) (rw (n .next-term .ensures) at (p .put-term .ensures)) (f .term-fault .ensures .1)
+
+pub enter-term-spec : {M : Type 1} → statement M
+enter-term-spec =
+    tie.close
+    (tie.spec
+    term-fault-requires
+    enum-known-tested
+    enum-told
+    next-term-requires
+    put-term-requires
+    with-term-requires
+    same-length
+    returns
+    same-length-2
+    same-length-3
+    returns-2)

@@ -1,0 +1,2 @@
+-- Laws of the leaves of plain types.
+pub mod PlainTypes

@@ -1,0 +1,18 @@
+-- `check_marks::children::enter_leaf` meets its contract: a term without children has the height 1.
+use Rattle.check_marks.specs.Marks.{useAll, highest}
+use borrow.Author.Needs.{needs}
+use Rattle.check_marks.proofs.children.enter_leaf.Statement.{statement}
+use Rattle.check_marks.proofs.children.enter_leaf.Tie as tie
+
+set-height-requires : tie.Need-set-height-requires
+set-height-requires c κs = search needs
+
+same-length : tie.Need-same-length
+same-length c = search needs
+
+returns : tie.Need-returns
+unfolding useAll highest
+returns c = c .before .before .set-height .ensures
+
+pub enter-leaf-spec : {M : Type 1} → statement M
+enter-leaf-spec = tie.close (tie.spec set-height-requires same-length returns)

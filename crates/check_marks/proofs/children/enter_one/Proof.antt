@@ -1,0 +1,25 @@
+-- `check_marks::children::enter_one` meets its contract: the child is used, and the term is higher.
+use mathlib.Core.Path.{refl, _∙_}
+use Rattle.check_marks.specs.Marks.{useAll, highest}
+use borrow.Author.Needs.{needs}
+use Rattle.check_marks.proofs.children.enter_one.Statement.{statement}
+use Rattle.check_marks.proofs.children.enter_one.Tie as tie
+
+use-child-requires : tie.Need-use-child-requires
+use-child-requires c κs = search needs
+
+set-height-requires : tie.Need-set-height-requires
+set-height-requires c κs = search needs
+
+same-length : tie.Need-same-length
+same-length c = search needs
+
+returns : tie.Need-returns
+unfolding useAll highest
+returns c =
+    let h = c .before .before in
+    let u1 = h .before .before .before .before in
+    h .set-height .ensures ∙ rw (u1 .use-child .ensures .0, u1 .use-child .ensures .1) refl
+
+pub enter-one-spec : {M : Type 1} → statement M
+enter-one-spec = tie.close (tie.spec use-child-requires set-height-requires same-length returns)

@@ -1,0 +1,65 @@
+-- The mark of a term (document 01, "Turned back at the gate", refusals 11 and 12): 0 until its record is there; then its height, a term without children having 1, up to one past the limit of the depths; 128 more once it is a child; and 255 once it is a child again, whatever its height.
+use Prim.Native.Nat.{ℕ, zero, suc, _+_, _%_, _≤_, _<_, min, max}
+use mathlib.Core.Path.{_≡_}
+use mathlib.Core.Bool.{Bool, true, false, _&&_}
+use mathlib.Core.List.{List, [], _∷_}
+use lib.ListN.{length, getD, set, replicate}
+use lib.Dec.{leb, ltb}
+use Rattle.calculus.specs.Combinators.{choose}
+use Rattle.image.specs.Limits.{termLimit, depthLimit}
+use Rattle.image.specs.Records.{Layout}
+use Rattle.image.specs.Layout.{recordsOf}
+use Rattle.image.specs.Types.{children}
+
+-- One more, up to a limit.
+abbrev pub more : ℕ → ℕ → ℕ
+more limit n = min limit (suc n)
+
+-- The height in a mark; a mark with one use more; the mark is that of a term that is used once.
+abbrev pub heightIn : ℕ → ℕ
+heightIn m = m % 128
+
+abbrev pub usedMark : ℕ → ℕ
+usedMark m = choose (ltb m 128) (m + 128) 255
+
+abbrev pub isOnce : ℕ → Bool
+isOnce m = leb 128 m && ltb m 255
+
+-- The marks with one use more of term e; of each of the terms es, one after another.
+abbrev pub used : ℕ → List ℕ → List ℕ
+used e ms = set ms e (usedMark (getD ms e 0))
+
+unfoldable pub useAll : List ℕ → List ℕ → List ℕ
+useAll [] ms = ms
+useAll (e ∷ es) ms = useAll es (used e ms)
+
+-- The greatest of h and of the heights of the terms es, which are used meanwhile.
+unfoldable pub highest : List ℕ → List ℕ → ℕ → ℕ
+highest [] ms h = h
+highest (e ∷ es) ms h = highest es (used e ms) (max h (heightIn (getD ms e 0)))
+
+-- The height of a term with the children es; the marks with one term more, n, which has these children.
+abbrev pub heightOf : List ℕ → List ℕ → ℕ
+heightOf es ms = more (suc depthLimit) (highest es ms 0)
+
+abbrev pub entered : List ℕ → ℕ → List ℕ → List ℕ
+entered es n ms = set (useAll es ms) n (heightOf es ms)
+
+-- The marks when the n first terms of a layout are there.
+unfoldable pub marksOf : Layout → ℕ → List ℕ
+marksOf L zero = replicate termLimit 0
+marksOf L (suc n) = entered (children L n) n (marksOf L n)
+
+-- The marks of all terms of an image that is laid out.
+abbrev pub allMarks : List ℕ → List ℕ
+allMarks b = marksOf (recordsOf b) (length (recordsOf b .terms))
+
+-- Each of the numbers is below n.
+pub record Lower (n : ℕ) (es : List ℕ) : Type 0 where
+  pub at : (j : ℕ) → j < length es → getD es j 0 < n
+
+-- Of the n first marks, the first that is not that of a term used once is i's, which is n if there is none.
+pub record FirstMisused (ms : List ℕ) (n i : ℕ) : Type 0 where
+  pub inside : i ≤ n
+  pub before : (k : ℕ) → k < i → isOnce (getD ms k 0) ≡ true
+  pub here : i < n → isOnce (getD ms i 0) ≡ false

@@ -1,0 +1,76 @@
+-- `check_ranges::ranges::in_range` meets its contract: in each arm the code is a number, and the tests are the definition's.
+use mathlib.Core.Path.{_≡_}
+use Prim.Native.Nat.{ℕ, _-_}
+use mathlib.Core.Bool.{and-true}
+use mathlib.Core.Logic.{⊎-elim}
+use native.Mathlib.Omega.{arith}
+use Rattle.laws.specs.Tests.{all}
+use Rattle.image.specs.Kinds.{TypeKind, domain, type}
+use Rattle.check_records.specs.Codes.{classNumbers, codeOf}
+use Rattle.check_ranges.specs.Ranges.{rangesFrom, groupsFrom, classesPast}
+use Rattle.check_ranges.proofs.Numbers.{first-held}
+use borrow.Author.Needs.{needs}
+use Rattle.check_ranges.proofs.ranges.in_range.Statement.{statement}
+use Rattle.check_ranges.proofs.ranges.in_range.Tie as tie
+
+names-type-requires : tie.Need-names-type-requires
+names-type-requires c κs = let k = c in omega (arith, first-held _ _ _ (k .match .keys2) (k .before .before .pre .1))
+
+names-domain-requires : tie.Need-names-domain-requires
+names-domain-requires c κs = let k = c .before in omega (arith, first-held _ _ _ (k .match .keys2) (k .before .before .pre .1))
+
+both-requires : tie.Need-both-requires
+both-requires c κs = search needs
+
+names-type-requires-2 : tie.Need-names-type-requires-2
+names-type-requires-2 c κs = let k = c in omega (arith, first-held _ _ _ (k .match .keys3) (k .before .before .pre .1))
+
+names-domain-requires-2 : tie.Need-names-domain-requires-2
+names-domain-requires-2 c κs = let k = c .before in omega (arith, first-held _ _ _ (k .match .keys3) (k .before .before .pre .1))
+
+names-type-requires-3 : tie.Need-names-type-requires-3
+names-type-requires-3 c κs = let k = c .before .before in omega (arith, first-held _ _ _ (k .match .keys3) (k .before .before .pre .1))
+
+both-requires-2 : tie.Need-both-requires-2
+both-requires-2 c κs = search needs
+
+both-requires-3 : tie.Need-both-requires-3
+both-requires-3 c κs = search needs
+
+all-in-range-requires : tie.Need-all-in-range-requires
+all-in-range-requires c κs = search needs
+
+returns : tie.Need-returns
+unfolding all rangesFrom groupsFrom classesPast classNumbers
+returns c =
+    let k : ℕ = c .before .before .args .code in
+    ⊎-elim (λ (e : k ≡ codeOf domain). simp e) (λ (e : k ≡ codeOf (type TypeKind.unit)). simp e) (c .match .keys1)
+
+returns-2 : tie.Need-returns-2
+unfolding all rangesFrom groupsFrom classesPast
+returns-2 c = simp (c .before .before .before .match .keys2, c .both .ensures, c .before .names-domain .ensures, c .before .before .names-type .ensures, and-true)
+
+returns-3 : tie.Need-returns-3
+unfolding all rangesFrom groupsFrom classesPast
+returns-3 c = simp (c .before .before .before .before .before .match .keys3, c .both3 .ensures, c .before .both2 .ensures, c .before .before .names-type3 .ensures, c .before .before .before .names-domain2 .ensures, c .before .before .before .before .names-type2 .ensures, and-true)
+
+returns-4 : tie.Need-returns-4
+returns-4 c = search needs
+
+pub in-range-spec : {M : Type 1} → statement M
+in-range-spec =
+    tie.close
+    (tie.spec
+    names-type-requires
+    names-domain-requires
+    both-requires
+    names-type-requires-2
+    names-domain-requires-2
+    names-type-requires-3
+    both-requires-2
+    both-requires-3
+    all-in-range-requires
+    returns
+    returns-2
+    returns-3
+    returns-4)

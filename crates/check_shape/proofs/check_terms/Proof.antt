@@ -1,0 +1,65 @@
+-- `check_shape::check_terms` meets its contract: the marks show the uses, and how deep a term can be.
+use native.Mathlib.Omega.{arith}
+use mathlib.Core.Path.{ap, sym, _∙_}
+use Rattle.image.specs.declared.Refusal.{Refusal}
+use Rattle.verdict.specs.declared.Verdict.{Verdict}
+use Rattle.check_shape.proofs.MarkedTerms.{enough-marks, refused-first, depths-decide, accepted-low}
+use borrow.Author.Needs.{needs}
+use Rattle.check_shape.proofs.check_terms.Statement.{statement}
+use Rattle.check_shape.proofs.check_terms.Tie as tie
+
+sub-t8 : tie.Need-sub-t8
+sub-t8 c = search needs
+
+cast-t9 : tie.Need-cast-t9
+cast-t9 c = search needs
+
+first-misused-requires : tie.Need-first-misused-requires
+first-misused-requires c κs = let p = c .before .before .before .before .pre in let l = enough-marks _ _ _ (p .1) (p .3) in omega arith
+
+term-offset-requires : tie.Need-term-offset-requires
+term-offset-requires c κs = search needs
+
+returns : tie.Need-returns
+returns c =
+    let m = c .before .before .before .before in
+    let p = m .before .before .before .before .before .pre in
+    ap (λ o. Verdict.Refused Refusal.UseCount o) (c .term-offset .ensures) ∙ sym (refused-first _ _ _ (p .1) (p .3) _ (p .2) (m .first-misused .ensures) (omega arith))
+
+mark-of-requires : tie.Need-mark-of-requires
+mark-of-requires c κs =
+    let start = c .before .before .before .before .before .before .before .before in
+    let p = start .pre in
+    let l = enough-marks _ _ _ (p .1) (p .3) in
+    let z = p .2 in
+    omega arith
+
+returns-2 : tie.Need-returns-2
+returns-2 c =
+    let r = c .before in
+    let m = r .before .before .before .before in
+    let p = m .before .before .before .before .before .pre in
+    sym (accepted-low _ _ _ (p .1) (p .3) _ (p .2) (m .first-misused .ensures) (omega arith) (omega (arith, r .mark-of .ensures)))
+
+check-depths-requires : tie.Need-check-depths-requires
+check-depths-requires c κs = search needs
+
+returns-3 : tie.Need-returns-3
+returns-3 c =
+    let m = c .before .before .before .before .before .before in
+    let p = m .before .before .before .before .before .pre in
+    c .check-depths .ensures ∙ sym (depths-decide _ _ _ (p .1) (p .3) _ (p .2) (m .first-misused .ensures) (omega arith))
+
+pub check-terms-spec : {M : Type 1} → statement M
+check-terms-spec =
+    tie.close
+    (tie.spec
+    sub-t8
+    cast-t9
+    first-misused-requires
+    term-offset-requires
+    returns
+    mark-of-requires
+    returns-2
+    check-depths-requires
+    returns-3)

@@ -1,0 +1,2 @@
+-- Laws of the turns of the loops over rows.
+pub mod Turns

@@ -1,0 +1,96 @@
+use borrow.Author.Needs.{needs}
+use Prim.Native.Nat.{_+_, _-_, _≤_}
+use native.Mathlib.Omega.{arith}
+use mathlib.Core.Path.{_≡_}
+use lib.ListN.{length, getD, length-set}
+use Rattle.need_sums.specs.Sums.{cut}
+use Rattle.need_sums.specs.Rows.{tableLength, Changed}
+use Rattle.need_own.proofs.Turns.{start, turn, finish}
+use Rattle.need_own.proofs.rows.add_rows.Statement.{statement}
+use Rattle.need_own.proofs.rows.add_rows.Tie as tie
+
+abbrev Inv-loop : tie.InvT-loop
+Inv-loop rows₀ part x₀ rows x = (x ≤ tableLength) × (length rows ≡ tableLength) × Changed (λ x y. cut (y + getD part x 0)) 0 x rows₀ rows
+
+abbrev μ-loop : tie.MeasureT-loop
+μ-loop rows₀ part x₀ rows x = tableLength - x
+
+-- src/rows.rt:37:5
+loop-holds : tie.Need-loop-holds Inv-loop μ-loop
+loop-holds c = (omega arith, c .before .before .pre .0, start _ 0 _)
+
+-- src/rows.rt:38:24
+mul-plus : tie.Need-mul-plus Inv-loop μ-loop
+mul-plus c = search needs
+
+-- src/rows.rt:38:24
+slice-read-plus : tie.Need-slice-read-plus Inv-loop μ-loop
+slice-read-plus c = search needs
+
+-- src/rows.rt:38:33
+mul-plus-2 : tie.Need-mul-plus-2 Inv-loop μ-loop
+mul-plus-2 c = search needs
+
+-- src/rows.rt:38:33
+shared-slice-read-plus : tie.Need-shared-slice-read-plus Inv-loop μ-loop
+shared-slice-read-plus c = search needs
+
+-- src/rows.rt:38:19
+plus-requires : tie.Need-plus-requires Inv-loop μ-loop
+plus-requires c κs = search needs
+
+-- src/rows.rt:38:9
+mul-rows : tie.Need-mul-rows Inv-loop μ-loop
+mul-rows c = search needs
+
+-- src/rows.rt:38:9
+slice-write-rows : tie.Need-slice-write-rows Inv-loop μ-loop
+slice-write-rows c = search needs
+
+-- src/rows.rt:39:9
+add-x : tie.Need-add-x Inv-loop μ-loop
+add-x c = search needs
+
+-- src/rows.rt:37:5
+loop-less : tie.Need-loop-less Inv-loop μ-loop
+loop-less c = search needs
+
+-- src/rows.rt:37:5
+loop-again : tie.Need-loop-again Inv-loop μ-loop
+loop-again c =
+    let l = c .before .before .before .before .loop in
+    let t = c .before .before .before .loop-test .taken in
+    let long = l .inv .1 in
+    (omega arith, simp length-set long, turn _ 0 (l .x) _ (l .rows) (c .plus .result) (omega arith) (omega arith) (l .inv .2) (c .plus .ensures))
+
+-- src/rows.rt:32:1
+same-length : tie.Need-same-length Inv-loop μ-loop
+same-length c = search needs
+
+-- src/rows.rt:32:1
+returns : tie.Need-returns Inv-loop μ-loop
+returns c =
+    let l = c .before .loop in
+    let t = c .loop-test .left in
+    let most = l .inv .0 in
+    finish _ 0 (l .x) tableLength _ (l .rows) (omega arith) (l .inv .2)
+
+pub add-rows-spec : {M : Type 1} → statement M
+add-rows-spec =
+    tie.close
+    (tie.spec
+    Inv-loop
+    μ-loop
+    loop-holds
+    mul-plus
+    slice-read-plus
+    mul-plus-2
+    shared-slice-read-plus
+    plus-requires
+    mul-rows
+    slice-write-rows
+    add-x
+    loop-less
+    loop-again
+    same-length
+    returns)

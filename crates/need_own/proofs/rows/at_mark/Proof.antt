@@ -1,0 +1,43 @@
+use borrow.Author.Needs.{needs}
+use Prim.Native.Nat.{_+_}
+use native.Mathlib.Omega.{arith}
+use mathlib.Core.Path.{_≡_}
+use denote.Ref.{now}
+use lib.ListN.{getD}
+use Rattle.need_sums.specs.Sums.{cut}
+use Rattle.need_sums.specs.Rows.{atMark}
+use Rattle.need_own.proofs.rows.at_mark.Statement.{statement}
+use Rattle.need_own.proofs.rows.at_mark.Tie as tie
+
+-- src/rows.rt:26:16
+mul-n : tie.Need-mul-n
+mul-n c = search needs
+
+-- src/rows.rt:26:16
+shared-slice-read-n : tie.Need-shared-slice-read-n
+shared-slice-read-n c = search needs
+
+-- src/rows.rt:27:27
+add-n : tie.Need-add-n
+add-n c = search needs
+
+-- src/rows.rt:27:22
+mul-n-2 : tie.Need-mul-n-2
+mul-n-2 c = search needs
+
+-- src/rows.rt:27:22
+shared-slice-read-n-2 : tie.Need-shared-slice-read-n-2
+shared-slice-read-n-2 c = search needs
+
+-- src/rows.rt:20:1
+returns : tie.Need-returns
+unfolding atMark
+returns c =
+    let a = c .before .before .args in
+    let main : getD (a .rows .now) (a .kept) 0 ≡ cut (getD (a .rows .now) (a .kept) 0) = omega (arith, c .before .shared-slice-known .given (a .kept)) in
+    let others : getD (a .rows .now) (64 + a .kept) 0 ≡ cut (getD (a .rows .now) (64 + a .kept) 0) = omega (arith, c .shared-slice-known2 .given (64 + a .kept)) in
+    cc
+
+pub at-mark-spec : {M : Type 1} → statement M
+at-mark-spec =
+    tie.close (tie.spec mul-n shared-slice-read-n add-n mul-n-2 shared-slice-read-n-2 returns)

@@ -1,0 +1,95 @@
+use borrow.Author.Needs.{needs}
+use Prim.Native.Nat.{_-_, _≤_, max}
+use native.Mathlib.Omega.{arith}
+use mathlib.Core.Path.{_≡_}
+use lib.ListN.{length, getD, length-set}
+use Rattle.need_sums.specs.Rows.{tableLength, Changed}
+use Rattle.need_own.proofs.Turns.{start, turn, finish}
+use Rattle.need_own.proofs.rows.raise_rows.Statement.{statement}
+use Rattle.need_own.proofs.rows.raise_rows.Tie as tie
+
+abbrev Inv-loop : tie.InvT-loop
+Inv-loop rows₀ part x₀ rows x = (x ≤ tableLength) × (length rows ≡ tableLength) × Changed (λ x y. max y (getD part x 0)) 0 x rows₀ rows
+
+abbrev μ-loop : tie.MeasureT-loop
+μ-loop rows₀ part x₀ rows x = tableLength - x
+
+-- src/rows.rt:49:5
+loop-holds : tie.Need-loop-holds Inv-loop μ-loop
+loop-holds c = (omega arith, c .before .before .pre .0, start _ 0 _)
+
+-- src/rows.rt:50:26
+mul-larger : tie.Need-mul-larger Inv-loop μ-loop
+mul-larger c = search needs
+
+-- src/rows.rt:50:26
+slice-read-larger : tie.Need-slice-read-larger Inv-loop μ-loop
+slice-read-larger c = search needs
+
+-- src/rows.rt:50:35
+mul-larger-2 : tie.Need-mul-larger-2 Inv-loop μ-loop
+mul-larger-2 c = search needs
+
+-- src/rows.rt:50:35
+shared-slice-read-larger : tie.Need-shared-slice-read-larger Inv-loop μ-loop
+shared-slice-read-larger c = search needs
+
+-- src/rows.rt:50:19
+larger-requires : tie.Need-larger-requires Inv-loop μ-loop
+larger-requires c κs = search needs
+
+-- src/rows.rt:50:9
+mul-rows : tie.Need-mul-rows Inv-loop μ-loop
+mul-rows c = search needs
+
+-- src/rows.rt:50:9
+slice-write-rows : tie.Need-slice-write-rows Inv-loop μ-loop
+slice-write-rows c = search needs
+
+-- src/rows.rt:51:9
+add-x : tie.Need-add-x Inv-loop μ-loop
+add-x c = search needs
+
+-- src/rows.rt:49:5
+loop-less : tie.Need-loop-less Inv-loop μ-loop
+loop-less c = search needs
+
+-- src/rows.rt:49:5
+loop-again : tie.Need-loop-again Inv-loop μ-loop
+loop-again c =
+    let l = c .before .before .before .before .loop in
+    let t = c .before .before .before .loop-test .taken in
+    let long = l .inv .1 in
+    (omega arith, simp length-set long, turn _ 0 (l .x) _ (l .rows) (c .larger .result) (omega arith) (omega arith) (l .inv .2) (c .larger .ensures))
+
+-- src/rows.rt:44:1
+same-length : tie.Need-same-length Inv-loop μ-loop
+same-length c = search needs
+
+-- src/rows.rt:44:1
+returns : tie.Need-returns Inv-loop μ-loop
+returns c =
+    let l = c .before .loop in
+    let t = c .loop-test .left in
+    let most = l .inv .0 in
+    finish _ 0 (l .x) tableLength _ (l .rows) (omega arith) (l .inv .2)
+
+pub raise-rows-spec : {M : Type 1} → statement M
+raise-rows-spec =
+    tie.close
+    (tie.spec
+    Inv-loop
+    μ-loop
+    loop-holds
+    mul-larger
+    slice-read-larger
+    mul-larger-2
+    shared-slice-read-larger
+    larger-requires
+    mul-rows
+    slice-write-rows
+    add-x
+    loop-less
+    loop-again
+    same-length
+    returns)

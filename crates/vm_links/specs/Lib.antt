@@ -1,0 +1,2 @@
+-- The machine's links, on the bytes (document 02, card 4).
+pub mod Links

@@ -1,0 +1,2 @@
+-- That the code says what the terms are.
+pub mod Says
