@@ -15,15 +15,22 @@ use Rattle.image.specs.Types.{children}
 abbrev pub more : ℕ → ℕ → ℕ
 more limit n = min limit (suc n)
 
+-- What the first use adds to a mark, which is more than any height; and the mark of a term that is used again.
+abbrev pub firstUse : ℕ
+firstUse = 128
+
+abbrev pub usedAgain : ℕ
+usedAgain = 255
+
 -- The height in a mark; a mark with one use more; the mark is that of a term that is used once.
 abbrev pub heightIn : ℕ → ℕ
-heightIn m = m % 128
+heightIn m = m % firstUse
 
 abbrev pub usedMark : ℕ → ℕ
-usedMark m = choose (ltb m 128) (m + 128) 255
+usedMark m = choose (ltb m firstUse) (m + firstUse) usedAgain
 
 abbrev pub isOnce : ℕ → Bool
-isOnce m = leb 128 m && ltb m 255
+isOnce m = leb firstUse m && ltb m usedAgain
 
 -- The marks with one use more of term e; of each of the terms es, one after another.
 abbrev pub used : ℕ → List ℕ → List ℕ
