@@ -42,6 +42,9 @@ pub fn call_number(a: Answer) -> u64
         Verdict::Accepted => {
             (a.report % BYTE_COUNT) as u64 + LOG_UNIT * ((a.log % LOG_COUNT) as u64)
         }
-        Verdict::Refused(why, place) => refused_as_number(image::refusal_number(why), place),
+        Verdict::Refused(why, place) => refused_as_number(
+            image_refusals::refusal_number(why),
+            place,
+        ),
     }
 }

@@ -6,7 +6,7 @@ use native.Mathlib.Numerals.{add-one}
 use mathlib.Core.Path.{_≡_, refl, sym, ap, _∙_}
 use mathlib.Core.List.{List, [], _∷_, _++_}
 use lib.Arith.{mod-mul}
-use lib.ListN.{length, getD, take, drop, set}
+use lib.ListN.{length, getD, take, drop, set, length-set}
 use lib.Seq.{sets, sets-eq, drop-cons}
 use Rattle.base_bytes.specs.Bytes.{AreBytes, bytesOf, numberOf, over}
 
@@ -64,6 +64,18 @@ stores-sets xs k j (v ∷ vs) = let e : k + suc j ≡ suc (k + j) = add-suc k j 
 pub stores-over : (xs : List ℕ) (k v : ℕ) (vs : List ℕ) → k + suc (length vs) ≤ length xs → stores (set xs k v) k 1 vs ≡ over k (v ∷ vs) xs
 unfolding over
 stores-over xs k v vs h = stores-sets (set xs k v) k 1 vs ∙ ap (λ i. sets (set xs k v) i vs) (add-one k) ∙ sets-eq (v ∷ vs) xs k h
+
+-- Stores change no length, so what was inside is inside behind them.
+stores-length : (xs : List ℕ) (k j : ℕ) (vs : List ℕ) → length (stores xs k j vs) ≡ length xs
+unfolding stores
+stores-length xs k j [] = refl
+stores-length xs k j (v ∷ vs) = stores-length (set xs (k + j) v) k (suc j) vs ∙ length-set xs (k + j) v
+
+pub same-size : (xs : List ℕ) (k v : ℕ) (vs : List ℕ) → length (stores (set xs k v) k 1 vs) ≡ length xs
+same-size xs k v vs = stores-length (set xs k v) k 1 vs ∙ length-set xs k v
+
+pub inside-still : (xs : List ℕ) (k v : ℕ) (vs : List ℕ) {n : ℕ} → n < length xs → n < length (stores (set xs k v) k 1 vs)
+inside-still xs k v vs h = rw (same-size xs k v vs) h
 
 -- The bytes of a number, as code works them out: one division each.
 pub bytes2 : (n : ℕ) → n % 256 ∷ n / 256 % 256 ∷ [] ≡ bytesOf 2 n

@@ -4,13 +4,15 @@ use mathlib.Core.Path.{_≡_, refl}
 use mathlib.Core.Bool.{true, false}
 use mathlib.Core.List.{List, [], _∷_}
 use Rattle.calculus.specs.declared.Outcome.{Outcome}
+use Rattle.calculus.specs.declared.Leaf.{Leaf}
 use Rattle.calculus.specs.Combinators.{cases}
-use Rattle.calculus.specs.Syntax.{Ty, noMethod, method, Val, Tm, Pattern, atEnd, atRest, anything, pointcut, val, var, op0, op1, op2, seq, obj, keep, match, end, more, abort, takedown, theStack, print, install, byte, newCell, call, mark, plus, minus}
+use Rattle.calculus.specs.Syntax.{Ty, noMethod, method, Val, Tm, Pattern, atEnd, atRest, anything, pointcut, val, var, op0, op1, op2, seq, ite, obj, keep, match, end, more, abort, takedown, theStack, print, install, byte, newCell, call, mark, plus, minus}
 use Rattle.calculus.specs.State.{Advice, State, Given, Counts, Uses, Print, picked, logOf, branchesOf, someBindings, oneCell, onePiece, atDom, fresh, charged, labelled, installed}
 use Rattle.calculus.specs.Subst.{subst}
 use Rattle.calculus.specs.Answer.{Answer, go, full, carry, if-room, with, spend}
 use Rattle.calculus.specs.Step.{step}
 use Rattle.calculus.specs.Run.{End, done, stopped, after, run}
+use Rattle.calculus.specs.Report.{leaves}
 
 abbrev G : Given
 G = record { frame = []; logLength = 100 }
@@ -35,6 +37,16 @@ left-first : facts fresh (op2 minus Ty.number (seq (say (number 1)) (number 5)) 
     ≡ record { end = done (Val.num 2); steps = 5; log = record { dom = 0; shown = 1 } ∷ record { dom = 0; shown = 2 } ∷ [] }
 unfolding run after cases step carry if-room with picked
 left-first = refl
+
+-- An if goes on with its first branch where its truth holds, and else with its second.
+chosen-branch : (facts fresh (ite (val (Val.truth true)) (number 1) (number 2)) .end ≡ done (Val.num 1)) × (facts fresh (ite (val (Val.truth false)) (number 1) (number 2)) .end ≡ done (Val.num 2))
+unfolding run after cases step if-room with
+chosen-branch = (refl, refl)
+
+-- A result's "leaves, left to right": of the pair of the pair of 1 and true, and unit.
+leaves-in-order : leaves (Val.pair (Val.pair (Val.num 1) (Val.truth true)) Val.unit) ≡ Leaf.Number 1 ∷ Leaf.Truth true ∷ Leaf.Unit ∷ []
+unfolding leaves
+leaves-in-order = refl
 
 -- Label 0, and two advice on it: print x at domain 1, installed first, and print 7 at domain 0.
 abbrev on : ℕ → Tm → Advice Tm

@@ -8,7 +8,7 @@ use Rattle.calculus_needs.specs.Here.{Here, at, deeper, keeping}
 use Rattle.calculus_needs.specs.Numbers.{Numbers, none}
 use Rattle.calculus_needs.specs.Class.{isAdvice, permits1, permits2, inClass, allInClass}
 use Rattle.calculus_needs.specs.Needs.{own2, need, needs, installs, rounds, allRounds}
-use Rattle.calculus_needs.proofs.Sums.{none-left}
+use Rattle.calculus_needs.proofs.Sums.{plus-same, dearer-same, plus-none}
 
 pub both : (a b : Bool) → T a → T b → T (a && b)
 both true b x y = y
@@ -193,21 +193,21 @@ mutual
   rounds-none (var k) x Q = refl
   rounds-none (lam t b) x Q = refl
   rounds-none (op0 o t) x Q = refl
-  rounds-none (op1 o t e) x Q = rw (rounds-none e (x .1) Q, installs-none o e (x .0) Q) (none-left none)
-  rounds-none (op2 o t e f) x Q = rw (rounds-none e (x .1) Q, rounds-none f (x .2) Q) (none-left none)
-  rounds-none (seq e f) x Q = rw (rounds-none e (x .0) Q, rounds-none f (x .1) Q) (none-left none)
-  rounds-none (ite e f g) x Q = rw (rounds-none e (x .0) Q, rounds-none f (x .1) Q, rounds-none g (x .2) Q, none-left none) (none-left none)
-  rounds-none (split e f) x Q = rw (rounds-none e (x .0) Q, rounds-none f (x .1) Q) (none-left none)
+  rounds-none (op1 o t e) x Q = plus-none (rounds-none e (x .1) Q) (installs-none o e (x .0) Q)
+  rounds-none (op2 o t e f) x Q = plus-none (rounds-none e (x .1) Q) (rounds-none f (x .2) Q)
+  rounds-none (seq e f) x Q = plus-none (rounds-none e (x .0) Q) (rounds-none f (x .1) Q)
+  rounds-none (ite e f g) x Q = plus-none (rounds-none e (x .0) Q) (plus-none (rounds-none f (x .1) Q) (rounds-none g (x .2) Q))
+  rounds-none (split e f) x Q = plus-none (rounds-none e (x .0) Q) (rounds-none f (x .1) Q)
   rounds-none (pcd es) x Q = all-rounds-none es x Q
   rounds-none (adv p e b) x Q = rounds-none e (x .0) Q
   rounds-none (lower p e) x Q = rounds-none e x Q
   rounds-none (obj t bs) x Q = refl
-  rounds-none (keep e f g) x Q = rw (rounds-none e (x .0) Q, rounds-none f (x .1) Q, rounds-none g (x .2) Q, none-left none) (none-left none)
-  rounds-none (match p es f g) x Q = rw (all-rounds-none es (x .0) Q, rounds-none f (x .1) Q, rounds-none g (x .2) Q, none-left none) (none-left none)
+  rounds-none (keep e f g) x Q = plus-none (rounds-none e (x .0) Q) (plus-none (rounds-none f (x .1) Q) (rounds-none g (x .2) Q))
+  rounds-none (match p es f g) x Q = plus-none (all-rounds-none es (x .0) Q) (plus-none (rounds-none f (x .1) Q) (rounds-none g (x .2) Q))
 
   all-rounds-none : (es : Tms) → AllAdmitted false es → (Q : Here) → allRounds Q es ≡ none
   all-rounds-none end x Q = refl
-  all-rounds-none (more e es) x Q = rw (rounds-none e (x .0) Q, all-rounds-none es (x .1) Q) (none-left none)
+  all-rounds-none (more e es) x Q = plus-none (rounds-none e (x .0) Q) (all-rounds-none es (x .1) Q)
 
 module _ (W : Here → Numbers) where
   own-same : (P : Here) (o : Op2) → Permits2 false o → own2 W P o ≡ own2 (λ Q. none) P o
@@ -228,18 +228,18 @@ module _ (W : Here → Numbers) where
     need-same (var k) x P = refl
     need-same (lam t b) x P = refl
     need-same (op0 o t) x P = refl
-    need-same (op1 o t e) x P = rw (need-same e (x .1) (deeper P)) refl
-    need-same (op2 o t e f) x P = rw (need-same e (x .1) (deeper P), need-same f (x .2) (deeper P), own-same P o (x .0)) refl
-    need-same (seq e f) x P = rw (need-same e (x .0) (deeper P), need-same f (x .1) P) refl
-    need-same (ite e f g) x P = rw (need-same e (x .0) (deeper P), need-same f (x .1) P, need-same g (x .2) P) refl
-    need-same (split e f) x P = rw (need-same e (x .0) (deeper P), need-same f (x .1) P) refl
-    need-same (pcd es) x P = rw (needs-same es x (deeper P)) refl
-    need-same (adv p e b) x P = rw (need-same e (x .0) (deeper P)) refl
-    need-same (lower p e) x P = rw (need-same e x (at p (deeper P))) refl
+    need-same (op1 o t e) x P = plus-same (need-same e (x .1) (deeper P)) refl
+    need-same (op2 o t e f) x P = plus-same (need-same e (x .1) (deeper P)) (plus-same (need-same f (x .2) (deeper P)) (own-same P o (x .0)))
+    need-same (seq e f) x P = plus-same (need-same e (x .0) (deeper P)) (plus-same refl (need-same f (x .1) P))
+    need-same (ite e f g) x P = plus-same (need-same e (x .0) (deeper P)) (plus-same refl (dearer-same (need-same f (x .1) P) (need-same g (x .2) P)))
+    need-same (split e f) x P = plus-same (need-same e (x .0) (deeper P)) (plus-same refl (need-same f (x .1) P))
+    need-same (pcd es) x P = plus-same (needs-same es x (deeper P)) refl
+    need-same (adv p e b) x P = plus-same (need-same e (x .0) (deeper P)) refl
+    need-same (lower p e) x P = plus-same (need-same e x (at p (deeper P))) refl
     need-same (obj t bs) x P = refl
-    need-same (keep e f g) x P = rw (need-same e (x .0) (deeper P), need-same f (x .1) (deeper P), need-same g (x .2) (keeping (deeper P))) refl
-    need-same (match p es f g) x P = rw (needs-same es (x .0) (deeper P), need-same f (x .1) P, need-same g (x .2) P) refl
+    need-same (keep e f g) x P = plus-same (need-same e (x .0) (deeper P)) (plus-same (need-same f (x .1) (deeper P)) (plus-same (need-same g (x .2) (keeping (deeper P))) refl))
+    need-same (match p es f g) x P = plus-same (needs-same es (x .0) (deeper P)) (plus-same refl (dearer-same (plus-same refl (need-same f (x .1) P)) (need-same g (x .2) P)))
 
     needs-same : (es : Tms) → AllAdmitted false es → (P : Here) → needs W P es ≡ needs (λ Q. none) P es
     needs-same end x P = refl
-    needs-same (more e es) x P = rw (need-same e (x .0) P, needs-same es (x .1) P) refl
+    needs-same (more e es) x P = plus-same (need-same e (x .0) P) (needs-same es (x .1) P)

@@ -1,4 +1,5 @@
 -- What a run needs is no more than the tree says (document 02, card 10).
+pub mod Examples
 pub mod Sums
 pub mod Admitted
 pub mod Substituted

@@ -28,7 +28,7 @@ use Rattle.calculus_needs.specs.Class.{straight2, straight}
 use Rattle.calculus_needs.specs.Needs.{once, spent, uses, variables, binds, aCell, aPiece, aLabel, anAdvice, aPrint, own0, own1, own2, need, round, roundOfValue, installs, rounds, straight0}
 use Rattle.calculus_needs.specs.Used.{usedUp}
 use Rattle.calculus_needs.specs.Claims.{Under}
-use Rattle.calculus_needs.proofs.Sums.{same, under-refl, under-same, under-trans, under-plus, under-left, under-right, dearer-left, dearer-right, none-left, none-right, none-under, counts-left, counts-right, plus-assoc, plus-comm}
+use Rattle.calculus_needs.proofs.Sums.{same, under-refl, under-same, under-trans, under-plus, under-left, under-right, dearer-left, dearer-right, none-left, none-right, none-under, counts-left, counts-right, plus-assoc, plus-comm, plus-same, plus-none}
 use Rattle.calculus_needs.proofs.Admitted.{Admitted, Over, OverValue, Permits1, Permits2, outside, rounds-none, need-same}
 use Rattle.calculus_needs.proofs.Substituted.{need-subst, straight-subst, admitted-subst, rounds-subst}
 use Rattle.calculus_needs.proofs.Takes.{standing, AdmittedAdvice, Meets, Gained, One, Takes, Takes.takes-go, Takes.takes-halt, Takes.takes-wrong, takes-value, takes-with, takes-room, takes-spend}
@@ -141,14 +141,14 @@ filtered-under p Q (a ∷ x) = look (p a) (filtered-under p Q x)
 
 standing-snoc : (Q : Here) (x : List (Advice Tm)) (a : Advice Tm) → standing Q (x ++ (a ∷ [])) ≡ standing Q x ⊕ round Q (a .dom) (a .body)
 standing-snoc Q [] a = none-right (round Q (a .dom) (a .body)) ∙ sym (none-left (round Q (a .dom) (a .body)))
-standing-snoc Q (b ∷ x) a = rw (standing-snoc Q x a) (sym (plus-assoc (round Q (b .dom) (b .body)) (standing Q x) (round Q (a .dom) (a .body))))
+standing-snoc Q (b ∷ x) a = plus-same refl (standing-snoc Q x a) ∙ sym (plus-assoc (round Q (b .dom) (b .body)) (standing Q x) (round Q (a .dom) (a .body)))
 
 -- In which order they stand does not matter.
 standing-onto : (Q : Here) (x y : List (Advice Tm)) → standing Q (reverseAux x y) ≡ standing Q x ⊕ standing Q y
 standing-onto Q [] y = sym (none-left (standing Q y))
 standing-onto Q (a ∷ x) y =
     let r = round Q (a .dom) (a .body) in
-    standing-onto Q x (a ∷ y) ∙ (sym (plus-assoc (standing Q x) r (standing Q y)) ∙ rw (plus-comm (standing Q x) r) refl)
+    standing-onto Q x (a ∷ y) ∙ (sym (plus-assoc (standing Q x) r (standing Q y)) ∙ plus-same (plus-comm (standing Q x) r) refl)
 
 standing-reverse : (Q : Here) (x : List (Advice Tm)) → standing Q (reverse x) ≡ standing Q x
 standing-reverse Q x = standing-onto Q x [] ∙ none-right (standing Q x)
@@ -163,7 +163,7 @@ module _ (v : Val) where
   composed-rounds : {x : List (Advice Tm)} → All AdmittedAdvice x → (Q : Here) → rounds Q (composed v x) ≡ none
   unfolding rounds
   composed-rounds all-nil Q = refl
-  composed-rounds (all-cons {x = a} h hs) Q = rw (rounds-none (subst 0 v (a .body)) (admitted-subst v false (a .body) 0 h) Q, composed-rounds hs Q) (none-left none)
+  composed-rounds (all-cons {x = a} h hs) Q = plus-none (rounds-none (subst 0 v (a .body)) (admitted-subst v false (a .body) 0 h) Q) (composed-rounds hs Q)
 
   swap : (k l m n : Numbers) → (k ⊕ l) ⊕ (m ⊕ n) ≡ (k ⊕ m) ⊕ (l ⊕ n)
   swap k l m n = rw (plus-assoc k l (m ⊕ n), ← plus-assoc l m n, plus-comm l m, plus-assoc m l n, ← plus-assoc k m (l ⊕ n)) refl
@@ -178,8 +178,8 @@ module _ (v : Val) where
   composed-needs W (all-cons {x = a} {xs} h hs) P =
       let body : need W (at (a .dom) (deeper (deeper P))) (subst 0 v (a .body)) ≡ need (λ Q. none) (at (a .dom) (deeper (deeper P))) (a .body) =
       need-same W (subst 0 v (a .body)) (admitted-subst v false (a .body) 0 h) (at (a .dom) (deeper (deeper P))) ∙ need-subst (λ Q. none) v (a .body) (at (a .dom) (deeper (deeper P))) 0 in
-      rw (body, ← composed-needs W hs P)
-      (shuffle (binds (a .dom) 1) (bound xs) (need (λ Q. none) (at (a .dom) (deeper (deeper P))) (a .body)) (once (deeper P)) (once P) (need W P (composed v xs)))
+      plus-same refl (plus-same (plus-same body refl) refl)
+      ∙ (shuffle (binds (a .dom) 1) (bound xs) (need (λ Q. none) (at (a .dom) (deeper (deeper P))) (a .body)) (once (deeper P)) (once P) (need W P (composed v xs)) ∙ plus-same refl (composed-needs W hs P))
 
 module _ (G : Given) (W : Here → Numbers) (s : State) (A : All AdmittedAdvice (s .advices)) (P : Place) where
   one-fewer : (k f : ℕ) (p : Dom) → Under (usedUp (suc k) (max f (P .depth)) (cleared p s)) (usedUp k f s ⊕ once (here P))

@@ -10,6 +10,7 @@ use Rattle.calculus_needs.specs.Here.{Here, at, deeper, keeping}
 use Rattle.calculus_needs.specs.Numbers.{Numbers, none}
 use Rattle.calculus_needs.specs.Class.{straight, allStraight}
 use Rattle.calculus_needs.specs.Needs.{need, needs, roundOf, installs, rounds, allRounds}
+use Rattle.calculus_needs.proofs.Sums.{plus-same, dearer-same}
 use Rattle.calculus_needs.proofs.Admitted.{Admitted, AllAdmitted, Over, Permits1}
 
 -- A value in the place of a variable changes nothing.
@@ -31,21 +32,21 @@ module _ (W : Here → Numbers) (v : Val) where
     need-subst (var i) P k = need-var P k i
     need-subst (lam t b) P k = refl
     need-subst (op0 o t) P k = refl
-    need-subst (op1 o t e) P k = rw (need-subst e (deeper P) k) refl
-    need-subst (op2 o t e f) P k = rw (need-subst e (deeper P) k, need-subst f (deeper P) k) refl
-    need-subst (seq e f) P k = rw (need-subst e (deeper P) k, need-subst f P k) refl
-    need-subst (ite e f g) P k = rw (need-subst e (deeper P) k, need-subst f P k, need-subst g P k) refl
-    need-subst (split e f) P k = rw (need-subst e (deeper P) k, need-subst f P (suc (suc k))) refl
-    need-subst (pcd es) P k = rw (needs-subst es (deeper P) k) refl
-    need-subst (adv p e b) P k = rw (need-subst e (deeper P) k) refl
-    need-subst (lower p e) P k = rw (need-subst e (at p (deeper P)) k) refl
+    need-subst (op1 o t e) P k = plus-same (need-subst e (deeper P) k) refl
+    need-subst (op2 o t e f) P k = plus-same (need-subst e (deeper P) k) (plus-same (need-subst f (deeper P) k) refl)
+    need-subst (seq e f) P k = plus-same (need-subst e (deeper P) k) (plus-same refl (need-subst f P k))
+    need-subst (ite e f g) P k = plus-same (need-subst e (deeper P) k) (plus-same refl (dearer-same (need-subst f P k) (need-subst g P k)))
+    need-subst (split e f) P k = plus-same (need-subst e (deeper P) k) (plus-same refl (need-subst f P (suc (suc k))))
+    need-subst (pcd es) P k = plus-same (needs-subst es (deeper P) k) refl
+    need-subst (adv p e b) P k = plus-same (need-subst e (deeper P) k) refl
+    need-subst (lower p e) P k = plus-same (need-subst e (at p (deeper P)) k) refl
     need-subst (obj t bs) P k = refl
-    need-subst (keep e f g) P k = rw (need-subst e (deeper P) k, need-subst f (deeper P) k, need-subst g (keeping (deeper P)) k) refl
-    need-subst (match p es f g) P k = rw (needs-subst es (deeper P) k, need-subst f P (under p k), need-subst g P k) refl
+    need-subst (keep e f g) P k = plus-same (need-subst e (deeper P) k) (plus-same (need-subst f (deeper P) k) (plus-same (need-subst g (keeping (deeper P)) k) refl))
+    need-subst (match p es f g) P k = plus-same (needs-subst es (deeper P) k) (plus-same refl (dearer-same (plus-same refl (need-subst f P (under p k))) (need-subst g P k)))
 
     needs-subst : (es : Tms) (P : Here) (k : ℕ) → needs W P (substs k v es) ≡ needs W P es
     needs-subst end P k = refl
-    needs-subst (more e es) P k = rw (need-subst e P k, needs-subst es P k) refl
+    needs-subst (more e es) P k = plus-same (need-subst e P k) (needs-subst es P k)
 
 module _ (v : Val) where
   straight-var : (k i : ℕ) → straight (substVar k v i) ≡ true
@@ -157,18 +158,18 @@ module _ (v : Val) where
     rounds-subst (var i) x Q k = rounds-var Q k i
     rounds-subst (lam t b) x Q k = refl
     rounds-subst (op0 o t) x Q k = refl
-    rounds-subst (op1 o t e) x Q k = rw (rounds-subst e (x .1) Q k, installs-subst Q o e k (x .0)) refl
-    rounds-subst (op2 o t e f) x Q k = rw (rounds-subst e (x .1) Q k, rounds-subst f (x .2) Q k) refl
-    rounds-subst (seq e f) x Q k = rw (rounds-subst e (x .0) Q k, rounds-subst f (x .1) Q k) refl
-    rounds-subst (ite e f g) x Q k = rw (rounds-subst e (x .0) Q k, rounds-subst f (x .1) Q k, rounds-subst g (x .2) Q k) refl
-    rounds-subst (split e f) x Q k = rw (rounds-subst e (x .0) Q k, rounds-subst f (x .1) Q (suc (suc k))) refl
+    rounds-subst (op1 o t e) x Q k = plus-same (rounds-subst e (x .1) Q k) (installs-subst Q o e k (x .0))
+    rounds-subst (op2 o t e f) x Q k = plus-same (rounds-subst e (x .1) Q k) (rounds-subst f (x .2) Q k)
+    rounds-subst (seq e f) x Q k = plus-same (rounds-subst e (x .0) Q k) (rounds-subst f (x .1) Q k)
+    rounds-subst (ite e f g) x Q k = plus-same (rounds-subst e (x .0) Q k) (plus-same (rounds-subst f (x .1) Q k) (rounds-subst g (x .2) Q k))
+    rounds-subst (split e f) x Q k = plus-same (rounds-subst e (x .0) Q k) (rounds-subst f (x .1) Q (suc (suc k)))
     rounds-subst (pcd es) x Q k = all-rounds-subst es x Q k
     rounds-subst (adv p e b) x Q k = rounds-subst e (x .0) Q k
     rounds-subst (lower p e) x Q k = rounds-subst e x Q k
     rounds-subst (obj t bs) x Q k = refl
-    rounds-subst (keep e f g) x Q k = rw (rounds-subst e (x .0) Q k, rounds-subst f (x .1) Q k, rounds-subst g (x .2) Q k) refl
-    rounds-subst (match p es f g) x Q k = rw (all-rounds-subst es (x .0) Q k, rounds-subst f (x .1) Q (under p k), rounds-subst g (x .2) Q k) refl
+    rounds-subst (keep e f g) x Q k = plus-same (rounds-subst e (x .0) Q k) (plus-same (rounds-subst f (x .1) Q k) (rounds-subst g (x .2) Q k))
+    rounds-subst (match p es f g) x Q k = plus-same (all-rounds-subst es (x .0) Q k) (plus-same (rounds-subst f (x .1) Q (under p k)) (rounds-subst g (x .2) Q k))
 
     all-rounds-subst : (es : Tms) → AllAdmitted true es → (Q : Here) (k : ℕ) → allRounds Q (substs k v es) ≡ allRounds Q es
     all-rounds-subst end x Q k = refl
-    all-rounds-subst (more e es) x Q k = rw (rounds-subst e (x .0) Q k, all-rounds-subst es (x .1) Q k) refl
+    all-rounds-subst (more e es) x Q k = plus-same (rounds-subst e (x .0) Q k) (all-rounds-subst es (x .1) Q k)

@@ -1,6 +1,6 @@
 -- The laws of the sums.
 use native.Mathlib.Omega.{arith}
-use mathlib.Core.Path.{_≡_}
+use mathlib.Core.Path.{_≡_, ap, _∙_}
 use Rattle.calculus.specs.State.{Uses, noUses, addUses}
 use Rattle.calculus_needs.specs.Numbers.{Numbers, none, _⊕_, dearer}
 use Rattle.calculus_needs.specs.Claims.{Under}
@@ -41,6 +41,16 @@ plus-assoc l m n = same (omega arith) (omega arith) (omega arith) (omega arith) 
 pub plus-comm : (m n : Numbers) → m ⊕ n ≡ n ⊕ m
 unfolding _⊕_
 plus-comm m n = same (omega arith) (omega arith) (omega arith) (omega arith) (omega arith) (omega arith) (omega arith) (omega arith) (omega arith) (omega arith) (omega arith)
+
+-- Sums, and dearer ones, of the same parts.
+pub plus-same : {k l m n : Numbers} → k ≡ l → m ≡ n → k ⊕ m ≡ l ⊕ n
+plus-same {l = l} {m = m} h i = ap (λ x. x ⊕ m) h ∙ ap (λ x. l ⊕ x) i
+
+pub dearer-same : {k l m n : Numbers} → k ≡ l → m ≡ n → dearer k m ≡ dearer l n
+dearer-same {l = l} {m = m} h i = ap (λ x. dearer x m) h ∙ ap (λ x. dearer l x) i
+
+pub plus-none : {k l : Numbers} → k ≡ none → l ≡ none → k ⊕ l ≡ none
+plus-none h i = plus-same h i ∙ none-left none
 
 -- Each number at most the other's.
 pub under-refl : (m : Numbers) → Under m m

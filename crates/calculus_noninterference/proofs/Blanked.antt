@@ -97,6 +97,43 @@ module _ (hi : Dom → Bool) where
   labels-rel no-labels = all2-nil
   labels-rel (a-label x l y) = absurd (none-some x)
 
+  -- What holds of every term that is x with low bodies blanked holds of e, which is one.
+  module _ (P : Tm → Type 0) (e : Tm) where
+    abbrev OfTerm : Tm → Type 0
+    OfTerm (val v) = P (val v) → P e
+    OfTerm (var k) = P (var k) → P e
+    OfTerm (lam t x) = ((b : Tm) → (hi (domOf t) ≡ true → Blanked b x) → P (lam t b)) → P e
+    OfTerm (op0 o t) = P (op0 o t) → P e
+    OfTerm (op1 o t x) = ((f : Tm) → Blanked f x → P (op1 o t f)) → P e
+    OfTerm (op2 o t x y) = ((f g : Tm) → Blanked f x → Blanked g y → P (op2 o t f g)) → P e
+    OfTerm (seq x y) = ((f g : Tm) → Blanked f x → Blanked g y → P (seq f g)) → P e
+    OfTerm (ite x y z) = ((f g h : Tm) → Blanked f x → Blanked g y → Blanked h z → P (ite f g h)) → P e
+    OfTerm (split x y) = ((f g : Tm) → Blanked f x → Blanked g y → P (split f g)) → P e
+    OfTerm (pcd xs) = ((fs : Tms) → Blankeds fs xs → P (pcd fs)) → P e
+    OfTerm (adv p x y) = ((f b : Tm) → Blanked f x → (hi p ≡ true → Blanked b y) → P (adv p f b)) → P e
+    OfTerm (lower p x) = ((b : Tm) → (hi p ≡ true → Blanked b x) → P (lower p b)) → P e
+    OfTerm (obj t xs) = ((bs : Tms) → BlankedBs (methodsOf t) bs xs → P (obj t bs)) → P e
+    OfTerm (keep x y z) = ((f g h : Tm) → Blanked f x → Blanked g y → Blanked h z → P (keep f g h)) → P e
+    OfTerm (match p xs y z) = ((fs : Tms) (g h : Tm) → Blankeds fs xs → Blanked g y → Blanked h z → P (match p fs g h)) → P e
+
+  -- `Blanked` is matched here alone.
+  of-term : (P : Tm → Type 0) {e x : Tm} → Blanked e x → OfTerm P e x
+  of-term P b-val = λ k. k
+  of-term P b-var = λ k. k
+  of-term P (b-lam f) = λ k. k _ f
+  of-term P b-op0 = λ k. k
+  of-term P (b-op1 a) = λ k. k _ a
+  of-term P (b-op2 a b) = λ k. k _ _ a b
+  of-term P (b-seq a b) = λ k. k _ _ a b
+  of-term P (b-ite a b c) = λ k. k _ _ _ a b c
+  of-term P (b-split a b) = λ k. k _ _ a b
+  of-term P (b-pcd a) = λ k. k _ a
+  of-term P (b-adv a f) = λ k. k _ _ a f
+  of-term P (b-lower f) = λ k. k _ f
+  of-term P (b-obj a) = λ k. k _ a
+  of-term P (b-keep a b c) = λ k. k _ _ _ a b c
+  of-term P (b-match a b c) = λ k. k _ _ _ a b c
+
   module _ {D : Policy} {W : World} (z : W .stripped ≡ false) where
     mutual
       unfolding blank blanks blankBodies
@@ -117,21 +154,21 @@ module _ (hi : Dom → Bool) where
       val-rel (ValTy.v-kept x y z) = absurd (none-some x)
 
       tm-rel : {Γ : List Ty} {c : Dom} {e e′ : Tm} {t : Ty} → TmTy D noStore Γ c e t → Blanked e′ (blank hi e) → RelT hi W e e′
-      tm-rel (is-val x) b-val = r-val (val-rel x)
-      tm-rel (is-var x) b-var = r-var
-      tm-rel (is-lam {p} x) (b-lam f) = r-lam (body-rel p _ f (λ y. tm-rel x y))
-      tm-rel (is-op0 r) b-op0 = r-op0
-      tm-rel (is-op1 r x) (b-op1 a) = r-op1 (tm-rel x a)
-      tm-rel (is-op2 r x y) (b-op2 a b) = r-op2 (tm-rel x a) (tm-rel y b)
-      tm-rel (is-seq x y) (b-seq a b) = r-seq (tm-rel x a) (tm-rel y b)
-      tm-rel (is-ite x y z) (b-ite a b c) = r-ite (tm-rel x a) (tm-rel y b) (tm-rel z c)
-      tm-rel (is-split x y) (b-split a b) = r-split (tm-rel x a) (tm-rel y b)
-      tm-rel (is-pcd x l) (b-pcd a) = r-pcd (tms-rel x a)
-      tm-rel (is-adv {p} x l y) (b-adv a f) = r-adv (tm-rel x a) (low-rel z p _ f (λ b. tm-rel y b))
-      tm-rel (is-lower {p} l x) (b-lower f) = r-lower (low-rel z p _ f (λ b. tm-rel x b))
-      tm-rel (is-obj x) (b-obj a) = r-obj (bodies-rel x a)
-      tm-rel (is-keep x y z) (b-keep a b c) = r-keep (tm-rel x a) (tm-rel y b) (tm-rel z c)
-      tm-rel (is-match x l y z) (b-match a b c) = r-match (tms-rel x a) (tm-rel y b) (tm-rel z c)
+      tm-rel (is-val x) b = of-term (RelT hi W _) b (r-val (val-rel x))
+      tm-rel (is-var x) b = of-term (RelT hi W _) b r-var
+      tm-rel (is-lam {p} x) b = of-term (RelT hi W _) b (λ y f. r-lam (body-rel p _ f (λ a. tm-rel x a)))
+      tm-rel (is-op0 r) b = of-term (RelT hi W _) b r-op0
+      tm-rel (is-op1 r x) b = of-term (RelT hi W _) b (λ f a. r-op1 (tm-rel x a))
+      tm-rel (is-op2 r x y) b = of-term (RelT hi W _) b (λ f g i j. r-op2 (tm-rel x i) (tm-rel y j))
+      tm-rel (is-seq x y) b = of-term (RelT hi W _) b (λ f g i j. r-seq (tm-rel x i) (tm-rel y j))
+      tm-rel (is-ite x y u) b = of-term (RelT hi W _) b (λ f g h i j k. r-ite (tm-rel x i) (tm-rel y j) (tm-rel u k))
+      tm-rel (is-split x y) b = of-term (RelT hi W _) b (λ f g i j. r-split (tm-rel x i) (tm-rel y j))
+      tm-rel (is-pcd x l) b = of-term (RelT hi W _) b (λ fs i. r-pcd (tms-rel x i))
+      tm-rel (is-adv {p} x l y) b = of-term (RelT hi W _) b (λ f g i j. r-adv (tm-rel x i) (low-rel z p _ j (λ a. tm-rel y a)))
+      tm-rel (is-lower {p} l x) b = of-term (RelT hi W _) b (λ f j. r-lower (low-rel z p _ j (λ a. tm-rel x a)))
+      tm-rel (is-obj x) b = of-term (RelT hi W _) b (λ bs i. r-obj (bodies-rel x i))
+      tm-rel (is-keep x y u) b = of-term (RelT hi W _) b (λ f g h i j k. r-keep (tm-rel x i) (tm-rel y j) (tm-rel u k))
+      tm-rel (is-match x l y u) b = of-term (RelT hi W _) b (λ fs g h i j k. r-match (tms-rel x i) (tm-rel y j) (tm-rel u k))
 
       tms-rel : {Γ ts : List Ty} {c : Dom} {es es′ : Tms} → TmsTy D noStore Γ c es ts → Blankeds es′ (blanks hi es) → RelTs hi W es es′
       tms-rel is-end b-end = r-end

@@ -63,6 +63,10 @@ module _ (x : ℕ) (fs : List ℕ) (n : Counts) where
   unfolding all rangesFrom groupsFrom classesPast classNumbers words
   arith-has e = record { range = simp (e, and-true); children = simp e }
 
+  pub lower-has : x ≡ codeOf (term TermKind.lower) → Has x fs n (typed && (ltb (fieldIn fs 1) (n .domains) && child 2)) (fieldIn fs 2 ∷ [])
+  unfolding all rangesFrom groupsFrom classesPast classNumbers words
+  lower-has e = record { range = simp (e, and-true); children = simp e }
+
   -- A pointcut has as many children as its fields hold.
   pub pointcut-range : x ≡ codeOf (term TermKind.pcd) → (typed && groupsFrom (length fs / 2 - 1) 1 5 fs n 1) ≡ rangeFits fs x n
   unfolding all rangesFrom groupsFrom classesPast classNumbers

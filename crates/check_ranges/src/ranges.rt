@@ -9,8 +9,10 @@ use check_records::kinds::CLASS_OPERATION;
 use check_records::kinds::CLASS_TERM;
 use check_records::kinds::CLASS_TRUTH;
 use check_records::kinds::CLASS_TYPE;
+use check_records::kinds::DOMAIN;
 use check_records::kinds::MASK;
 use check_records::kinds::NO_FIELDS;
+use check_records::kinds::TWO_TYPES;
 use check_records::kinds::TYPE_AND_DOMAIN;
 use check_records::kinds::TYPE_DOMAIN_AND_TYPE;
 use check_records::kinds::field_classes;
@@ -175,8 +177,8 @@ pub fn all_in_range(fields: &[u8], code: u32, counts: Counts) -> bool
     )
 }
 
-// 7 of a domain or a type. The most frequent kinds of types are tested in straight line, since their fields are known from the
-// code; all others go through the loops.
+// 7 of a domain or a type. Types but objects' are tested in straight line, since their fields are known from the code; those
+// go through the loops.
 pub fn in_range(fields: &[u8], code: u32, counts: Counts) -> bool
     requires { ⌜ Sized code × Held code (length (now fields)) ⌝ }
     ensures { λ r. ⌜ r ≡ rangeFits (now (fields .entry)) code counts ⌝ }
@@ -194,6 +196,8 @@ pub fn in_range(fields: &[u8], code: u32, counts: Counts) -> bool
                 names_type(fields, 2, counts),
             ),
         ),
+        TWO_TYPES => both(names_type(fields, 0, counts), names_type(fields, 1, counts)),
+        DOMAIN => names_domain(fields, 0, counts),
         _ => all_in_range(fields, code, counts),
     }
 }

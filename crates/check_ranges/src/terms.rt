@@ -5,6 +5,7 @@ use crate::ranges::all_in_range;
 use crate::ranges::children_in_range;
 use crate::tests::Tested;
 use check_fields::below;
+use check_fields::names_domain;
 use check_fields::names_term;
 use check_fields::names_type;
 use check_marks::children::enter_children;
@@ -20,6 +21,7 @@ use check_records::kinds::TYPE_AND_FREE;
 use check_records::kinds::TYPE_AND_THREE_CHILDREN;
 use check_records::kinds::TYPE_AND_TWO_CHILDREN;
 use check_records::kinds::TYPE_AND_TWO_FREE;
+use check_records::kinds::TYPE_DOMAIN_AND_CHILD;
 use check_records::kinds::TYPE_OPERATION_AND_TWO_CHILDREN;
 use check_records::numbers::Counts;
 use laws::both;
@@ -129,6 +131,24 @@ fn take_operation(fields: &[u8], counts: Counts, marks: &mut [u8]) -> bool
     ok
 }
 
+// A type, a domain and a child.
+fn take_lowered(fields: &[u8], counts: Counts, marks: &mut [u8]) -> bool
+    requires { ⌜ (6 ≤ length (now fields)) × Few counts × (counts .terms < length (now marks)) ⌝ }
+    ensures { λ r. ⌜ (r ≡ (ltb (fieldIn (now (fields .entry)) 0) (counts .types) && (ltb (fieldIn (now (fields .entry)) 1) (counts .domains) && ltb (fieldIn (now (fields .entry)) 2) (counts .terms)))) × (now (marks .exit) ≡ choose r (entered (fieldIn (now (fields .entry)) 2 ∷ []) (counts .terms) (now (marks .entry))) (now (marks .entry))) ⌝ }
+{
+    let ok = both(
+        names_type(fields, 0, counts),
+        both(
+            names_domain(fields, 1, counts),
+            names_term(fields, 2, counts),
+        ),
+    );
+    if ok {
+        enter_one(marks, counts.next_term(), term_field(fields, 2));
+    }
+    ok
+}
+
 // A type, and nothing but children: a pointcut.
 fn take_group(fields: &[u8], code: u32, counts: Counts, marks: &mut [u8]) -> bool
     requires { ⌜ (2 ≤ length (now fields)) × Fitting code (now fields) × ((ltb (fieldIn (now fields) 0) (counts .types) && groupsFrom (length (now fields) / 2 - 1) 1 5 (now fields) counts 1) ≡ true → Lower (counts .terms) (childrenOf code (now fields))) × Few counts × (counts .terms < length (now marks)) ⌝ }
@@ -167,6 +187,7 @@ fn take(fields: &[u8], code: u32, counts: Counts, marks: &mut [u8]) -> bool
         TYPE_AND_TWO_CHILDREN => take_two(fields, counts, marks),
         TYPE_AND_THREE_CHILDREN => take_three(fields, counts, marks),
         TYPE_OPERATION_AND_TWO_CHILDREN => take_operation(fields, counts, marks),
+        TYPE_DOMAIN_AND_CHILD => take_lowered(fields, counts, marks),
         TYPE_AND_CHILDREN => take_group(fields, code, counts, marks),
         _ => take_any(fields, code, counts, marks),
     }

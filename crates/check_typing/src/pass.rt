@@ -84,7 +84,7 @@ fn check_moved(
 // A term and the terms below it: its rule, then its children. Those of most kinds stand where the term does. A constant or a
 // variable has none: as a child it is checked on the spot, since a call costs more than its rule. Each level goes to a lower
 // number, one deeper, and binds nine variables at most: the depth bounds the places of the scope that are used.
-pub fn check_term(
+fn check_here(
     image: &[u8],
     terms: &[u16; 1024],
     descriptors: &[u32; 128],
@@ -129,4 +129,25 @@ pub fn check_term(
         j += 1;
     }
     Verdict::Accepted
+}
+
+// The same, with the image lent as the slice of all its bytes: its address and its length then travel as two words. Else the
+// compiler copies both at each term as one word of 16 bytes, and reading the term's record waits for the copy.
+pub fn check_term(
+    image: &[u8],
+    terms: &[u16; 1024],
+    descriptors: &[u32; 128],
+    n: TermNo,
+    c: DomainNo,
+    masks: &[u16; 16],
+    scope: &mut [u8; 576],
+    len: usize,
+    types: &[u16; 128],
+) -> Verdict
+    requires { ⌜ Lent (now image) (now terms) (now descriptors) × IsTerm (now image) (n .0) × Masks (now image) (now masks) × Room (now image) (now scope) len (n .0) × TypeOffsets (now image) (now types) ⌝ }
+    ensures { λ r. ⌜ (r ≡ checked (recordsOf (now (image .entry))) (settingIn (now (scope .entry)) len (c .0)) (n .0)) × (take len (now (scope .exit)) ≡ take len (now (scope .entry))) × (length (now (scope .exit)) ≡ length (now (scope .entry))) ⌝ }
+{
+    let whole = image.len();
+    let bytes = &image[..whole];
+    check_here(bytes, terms, descriptors, n, c, masks, scope, len, types)
 }

@@ -5,11 +5,11 @@ use mathlib.Core.Bool.{Bool, true, false, not}
 use mathlib.Core.List.{List}
 use lib.ListN.{getD}
 use Rattle.calculus.specs.Combinators.{choose}
-use Rattle.calculus.specs.Syntax.{Dom, Ty, Sigs, noMethod, method, Val, Tms, val, lam, pcd, adv, lower, obj}
+use Rattle.calculus.specs.Syntax.{Dom, Ty, Sigs, noMethod, method, Val, Tm, Tms, Op2, val, lam, op1, op2, seq, ite, split, pcd, adv, lower, obj, keep, match, print, install, read, byte, newCell, call, app, mark, store}
 use Rattle.calculus.specs.Plain.{domOf, methodsOf, methodDom}
 use Rattle.calculus.specs.Blank.{blank as blankTm, blanks, blankBodies}
 use Rattle.image.specs.Kinds.{TermKind, Form, operator, formOf}
-use Rattle.image.specs.Program.{Program, Programs, node, blank, end, more, nth, behind, assembleAs, assemble, toTm, toTms, lowBody, blanked, blankeds}
+use Rattle.image.specs.Program.{Program, Programs, node, blank, end, more, nth, behind, opOf, patternOf, assembleAs, assemble, toTm, toTms, lowBody, blanked, blankeds}
 
 pub choose-not : {A : Type 0} (b : Bool) (x y : A) → choose (not b) x y ≡ choose b y x
 choose-not true x y = refl
@@ -39,6 +39,13 @@ module _ (high : Dom → Bool) where
   blanks-behind (suc n) Tms.end = refl
   blanks-behind (suc n) (Tms.more e es) = blanks-behind n es
 
+  -- Terms of the same parts.
+  same2 : {A : Type 0} (f : A → Tm → Tm) {a b : A} {c d : Tm} → a ≡ b → c ≡ d → f a c ≡ f b d
+  same2 f {b = b} {c = c} h k = ap (λ x. f x c) h ∙ ap (f b) k
+
+  same3 : {A : Type 0} (f : A → Tm → Tm → Tm) {a b : A} {c d e g : Tm} → a ≡ b → c ≡ d → e ≡ g → f a c e ≡ f b d g
+  same3 f {b = b} {c = c} {e = e} h k l = ap (λ x. f x c e) h ∙ same2 (f b) k l
+
   assembled : {k : TermKind} (φ : Form k) (t : Ty) (vs : List ℕ) (fs es : Tms) → Blanked (lowBody high k t vs) fs es → assembleAs φ t vs fs ≡ blankTm high (assembleAs φ t vs es)
   unfolding blankTm
   assembled (operator o n r) t vs fs es h = refl
@@ -46,29 +53,31 @@ module _ (high : Dom → Bool) where
   assembled Form.truth t vs fs es h = refl
   assembled Form.number t vs fs es h = refl
   assembled Form.var t vs fs es h = refl
-  assembled Form.seq t vs fs es h = cc (h .one 0, h .one 1)
-  assembled Form.print t vs fs es h = cc (h .one 0)
-  assembled Form.ite t vs fs es h = cc (h .one 0, h .one 1, h .one 2)
-  assembled Form.pair t vs fs es h = cc (h .one 0, h .one 1)
-  assembled Form.split t vs fs es h = cc (h .one 0, h .one 1)
+  assembled Form.seq t vs fs es h = same2 seq (h .one 0) (h .one 1)
+  assembled Form.print t vs fs es h = ap (op1 print t) (h .one 0)
+  assembled Form.ite t vs fs es h = same3 ite (h .one 0) (h .one 1) (h .one 2)
+  assembled Form.pair t vs fs es h = same2 (op2 Op2.pair t) (h .one 0) (h .one 1)
+  assembled Form.split t vs fs es h = same2 split (h .one 0) (h .one 1)
   assembled Form.fun t vs fs es h = ap (lam t) (h .one 0 ∙ choose-not (high (domOf t)) (val Val.unit) (blankTm high (nth es 0)))
-  assembled Form.app t vs fs es h = cc (h .one 0, h .one 1)
-  assembled Form.arith t vs fs es h = cc (h .one 0, h .one 1)
-  assembled Form.mark t vs fs es h = cc (h .one 0, h .one 1)
+  assembled Form.app t vs fs es h = same2 (op2 app t) (h .one 0) (h .one 1)
+  assembled Form.arith t vs fs es h = same2 (op2 (opOf (getD vs 0 0)) t) (h .one 0) (h .one 1)
+  assembled Form.mark t vs fs es h = same2 (op2 mark t) (h .one 0) (h .one 1)
   assembled Form.pcd t vs fs es h = ap pcd (h .every (λ i. refl))
   assembled Form.adv t vs fs es h =
       ap (λ x. adv (domOf t) x (nth fs 1)) (h .one 0)
       ∙ ap (adv (domOf t) (blankTm high (nth es 0))) (h .one 1 ∙ choose-not (high (domOf t)) (val Val.unit) (blankTm high (nth es 1)))
-  assembled Form.install t vs fs es h = cc (h .one 0)
-  assembled Form.newCell t vs fs es h = cc (h .one 0)
-  assembled Form.read t vs fs es h = cc (h .one 0)
-  assembled Form.store t vs fs es h = cc (h .one 0, h .one 1)
+  assembled Form.install t vs fs es h = ap (op1 install t) (h .one 0)
+  assembled Form.newCell t vs fs es h = ap (op1 newCell t) (h .one 0)
+  assembled Form.read t vs fs es h = ap (op1 read t) (h .one 0)
+  assembled Form.store t vs fs es h = same2 (op2 store t) (h .one 0) (h .one 1)
   assembled Form.lower t vs fs es h = ap (lower (getD vs 0 0)) (h .one 0 ∙ choose-not (high (getD vs 0 0)) (val Val.unit) (blankTm high (nth es 0)))
-  assembled Form.byte t vs fs es h = cc (h .one 0)
+  assembled Form.byte t vs fs es h = ap (op1 byte t) (h .one 0)
   assembled Form.obj t vs fs es h = ap (obj t) (h .bodies (methodsOf t) (λ i. refl))
-  assembled Form.call t vs fs es h = cc (h .one 0)
-  assembled Form.keep t vs fs es h = cc (h .one 0, h .one 1, h .one 2)
-  assembled Form.match t vs fs es h = let r = ap (behind 3) (h .every (match-high t vs)) ∙ blanks-behind 3 es in cc (h .one 0, h .one 1, h .one 2, r)
+  assembled Form.call t vs fs es h = ap (op1 (call (getD vs 0 0)) t) (h .one 0)
+  assembled Form.keep t vs fs es h = same3 keep (h .one 0) (h .one 1) (h .one 2)
+  assembled Form.match t vs fs es h =
+      let r = ap (behind 3) (h .every (match-high t vs)) ∙ blanks-behind 3 es in
+      ap (λ x. match (patternOf vs) (Tms.more x (behind 3 fs)) (nth fs 1) (nth fs 2)) (h .one 0) ∙ same3 (λ x y z. match (patternOf vs) (Tms.more (blankTm high (nth es 0)) x) y z) r (h .one 1) (h .one 2)
   assembled Form.takedown t vs fs es h = refl
 
   -- One more subterm, which stands first.

@@ -35,7 +35,7 @@ pub fn forecast_number(f: Forecast) -> u16
     ensures { λ r. ⌜ r ≡ forecastNumber f ⌝ }
 {
     match f {
-        Forecast::Refused(why, _) => image::refusal_number(why),
+        Forecast::Refused(why, _) => image_refusals::refusal_number(why),
         Forecast::OutsideClass(_) => OUTSIDE_NUMBER,
         Forecast::Known(_) => 0,
     }

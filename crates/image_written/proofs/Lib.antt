@@ -19,3 +19,4 @@ pub mod Stripping
 pub mod Load
 pub mod Fronts
 pub mod LoadExamples
+pub mod Calls

@@ -1,9 +1,12 @@
 -- A program without its watches (document 02, card 13): "with every low lower body and low advice body replaced by unit".
 use Prim.Native.Nat.{ℕ, suc}
-use mathlib.Core.Bool.{Bool, true, false}
+use mathlib.Core.Bool.{Bool, true, false, not, _&&_, _||_}
 use mathlib.Core.List.{List, []}
+use lib.Dec.{leb}
+use Rattle.laws.specs.Tests.{anyBelow}
 use Rattle.calculus.specs.Syntax.{Dom, Ty}
 use Rattle.calculus.specs.Combinators.{choose}
+use Rattle.image.specs.Limits.{domainLimit}
 use Rattle.image.specs.Kinds.{Body, here, function-body, advice-body, split-body, lower-body, method-body, match-body, TermKind, bodyOf}
 use Rattle.image.specs.Layout.{recordsOf}
 use Rattle.image.specs.Program.{Program, Programs, node, blank, end, more, lowBody, program}
@@ -26,6 +29,10 @@ watches method-body = false
 watches match-body = false
 
 module _ (high : Dom → Bool) where
+  -- "23 the given set lacks domain 0, names an absent domain, or lacks a domain above a member", by the order of the domains and how many there are.
+  abbrev pub wrongHigh : (Dom → Dom → Bool) → ℕ → Bool
+  wrongHigh below count = not (high 0) || anyBelow domainLimit (λ d. high d && (leb count d || anyBelow domainLimit (λ q. below d q && not (high q))))
+
   -- Whether child i gives way.
   abbrev pub givesWay : TermKind → Ty → List ℕ → ℕ → Bool
   givesWay k t vs i = choose (watches (bodyOf k i)) (lowBody high k t vs i) false

@@ -1,6 +1,9 @@
 -- The fixed form of an image (document 02, card 11): a function of its domains' masks and of its program alone.
 use Prim.Native.Nat.{ℕ, suc, _+_, _-_}
+use mathlib.Core.Bool.{Bool}
 use mathlib.Core.List.{List, [], _∷_, _++_, map}
+use lib.ListN.{length}
+use lib.Dec.{ltb}
 use Rattle.calculus.specs.Syntax.{Ty}
 use Rattle.image.specs.Kinds.{domain, type, term}
 use Rattle.image.specs.Types.{headOf}
@@ -59,3 +62,7 @@ written masks e = writtenOver (tableOf e) masks e
 -- The fixed form of an accepted image.
 unfoldable pub fixed : List ℕ → List ℕ
 fixed b = written (masks (recordsOf b)) (program (recordsOf b))
+
+-- "The output is shorter than the image": 20 for a fixed form (card 11), 24 for an image without its watches (card 13).
+abbrev pub tooShort : List ℕ → List ℕ → Bool
+tooShort out b = ltb (length out) (length b)

@@ -25,7 +25,7 @@ fn put_refusal(out: &mut [u8], why: Refusal, place: usize) -> usize
     ensures { λ r. ⌜ PutsWithin refusalBound (now (out .entry)) (refusalLine why place) (now (out .exit)) r ⌝ }
 {
     let o = put(out, 0, b"refused ");
-    let o = put_decimal(out, o, image::refusal_number(why) as u64);
+    let o = put_decimal(out, o, image_refusals::refusal_number(why) as u64);
     let o = put(out, o, b" ");
     let o = put_decimal(out, o, place as u64);
     put(out, o, b"\n")

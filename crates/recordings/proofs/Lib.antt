@@ -1,2 +1,3 @@
 -- Equal parts of lent memory, and calls one after another.
+pub mod Examples
 pub mod Recordings

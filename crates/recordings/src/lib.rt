@@ -23,7 +23,7 @@ pub fn refuse_each(why: Refusal, place: usize, numbers: &mut [u64])
     ensures { λ _. ⌜ now (numbers .exit) ≡ replicate (length (now (numbers .entry))) (refusedAsNumber (refusalNumber why) place) ⌝ }
 {
     answer_each(
-        refused_as_number(image::refusal_number(why), place),
+        refused_as_number(image_refusals::refusal_number(why), place),
         numbers,
     );
 }

@@ -62,7 +62,7 @@ pub fn verdict_number(v: Verdict) -> u16
 {
     match v {
         Verdict::Accepted => 0,
-        Verdict::Refused(why, _) => image::refusal_number(why),
+        Verdict::Refused(why, _) => image_refusals::refusal_number(why),
     }
 }
 

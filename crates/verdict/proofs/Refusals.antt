@@ -36,6 +36,8 @@ verdicts =
     case (deep 63) Verdict.Accepted
     ∷ case (image (domains 16 1 ∷ number ∷ literal 5 ∷ [])) Verdict.Accepted
     ∷ case (labelled 8) Verdict.Accepted
+    -- a split of the pair of 5 and 6, whose body adds both parts
+    ∷ case (image (one-domain ∷ number ∷ rec 19 (0 ∷ 0 ∷ []) ∷ literal 5 ∷ literal 6 ∷ rec 39 (1 ∷ 0 ∷ 1 ∷ []) ∷ rec 35 (0 ∷ 1 ∷ []) ∷ rec 35 (0 ∷ 0 ∷ []) ∷ rec 43 (0 ∷ 0 ∷ 3 ∷ 4 ∷ []) ∷ rec 40 (0 ∷ 2 ∷ 5 ∷ []) ∷ [])) Verdict.Accepted
     -- card 1: a domain, a type and terms with and without children, longer by one byte and by more
     ∷ case longer-image Verdict.Accepted
     -- 2: 3 bytes left; a length under 4; past the end, also of an unknown kind
@@ -80,8 +82,9 @@ verdicts =
     ∷ case (deep 64) (Verdict.Refused Refusal.TooDeep 10)
     -- 13
     ∷ case (image (one-domain ∷ number ∷ rec 35 (0 ∷ 0 ∷ []) ∷ [])) (Verdict.Refused Refusal.UnboundVariable 10)
-    -- 14: a number of type unit; a wrong child is its parent's fault
+    -- 14: a number of type unit; of two such, the left one; a wrong child is its parent's fault
     ∷ case (image (one-domain ∷ unit ∷ literal 5 ∷ [])) (Verdict.Refused Refusal.TypeRule 10)
+    ∷ case (image (one-domain ∷ unit ∷ literal 5 ∷ literal 5 ∷ rec 36 (0 ∷ 0 ∷ 1 ∷ []) ∷ [])) (Verdict.Refused Refusal.TypeRule 10)
     ∷ case (image (one-domain ∷ number ∷ unit ∷ rec 32 (1 ∷ []) ∷ rec 37 (1 ∷ 0 ∷ []) ∷ [])) (Verdict.Refused Refusal.TypeRule 20)
     -- 15: a lowered body, checked at its own domain, that stores to a higher cell
     ∷ case

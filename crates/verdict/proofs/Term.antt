@@ -2,19 +2,18 @@
 use Prim.Native.Nat.{ℕ, zero, suc, _+_, _≤_}
 use native.Mathlib.Omega.{arith}
 use mathlib.Core.Path.{_≡_, refl, sym, ap, subst, _∙_}
-use mathlib.Core.Bool.{true}
 use mathlib.Core.List.{List, [], _∷_, reverseAux}
-use lib.ListN.{drop}
-use Rattle.calculus.specs.Syntax.{Dom, Ty, Sigs, method, Val, Tm, Tms, Pattern, val, op0, split, adv, match, abort, Op1, Op2, op1, op2, seq, ite, keep}
-use Rattle.calculus.specs.Typing.{Policy, noStore, t-abort, v-unit, TmTy, TmsTy, BodiesTy, a-body, is-val, is-lam, is-op0, is-op1, is-op2, is-seq, is-ite, is-split, is-pcd, is-adv, is-lower, is-obj, is-keep, is-match, is-end, is-more}
+use lib.ListN.{getD, drop}
+use Rattle.calculus.specs.Syntax.{Dom, Ty, Sigs, method, Val, Tm, Tms, Pattern, val, lam, op0, split, pcd, adv, lower, obj, match, abort, Op1, Op2, op1, op2}
+use Rattle.calculus.specs.Typing.{Policy, noStore, TmTy, TmsTy, BodiesTy, a-body, is-lam, is-op1, is-op2, is-seq, is-ite, is-split, is-pcd, is-adv, is-lower, is-obj, is-keep, is-match, is-end, is-more}
 use Rattle.calculus.specs.Plain.{domOf, methodDom}
 use Rattle.image.specs.Kinds.{TermKind, Form, operator, formOf}
 use Rattle.image.specs.Program.{Program, Programs, node, blank, end, more, nth, behind, patternOf, assembleAs, assemble, toTm, toTms}
 use Rattle.laws.proofs.Booleans.{no-path}
 use Rattle.verdict.specs.Settings.{matchBinds, Setting}
-use Rattle.verdict.specs.WellTyped.{firstOf, stated, stateds, aborts, childSetting, WellTyped, EachWellTyped}
+use Rattle.verdict.specs.WellTyped.{firstOf, secondOf, stated, stateds, aborts, childSetting, WellTyped, EachWellTyped}
 use Rattle.verdict.proofs.Patterns.{pattern-binds}
-use Rattle.verdict.proofs.Inversion.{of-abort, abort-types}
+use Rattle.verdict.proofs.Inversion.{premises, more-premises, of-abort, of-unit, abort-types}
 
 module _ (D : Policy) where
   pub abort-type : {Γ : List Ty} {c : Dom} {s t : Ty} → TmTy D noStore Γ c (op0 abort s) t → s ≡ t
@@ -27,20 +26,18 @@ module _ (D : Policy) where
     bodies : (ms : Sigs) (Δ : List Ty) → ((j : ℕ) → at j ≡ record { context = Δ; dom = methodDom ms j }) → BodiesTy D noStore Δ as′ ms → BodiesTy D noStore Δ es ms
 
   unit-type : {Γ : List Ty} {c : Dom} {t : Ty} → TmTy D noStore Γ c (val Val.unit) t → t ≡ Ty.unit
-  unit-type (is-val v-unit) = refl
+  unit-type {Γ} {c} d = of-unit D Γ c d
 
-  advice-parts : {Γ : List Ty} {c p : Dom} {s t : Ty} {b : Tm} → TmTy D noStore Γ c (adv p (op0 abort s) b) t
-      → (q : Dom) × (t ≡ Ty.adv p) × (s ≡ Ty.pcd (firstOf s) q) × (D .leq p q ≡ true) × TmTy D noStore (firstOf s ∷ Γ) p b Ty.unit
-  advice-parts {Γ = Γ} {p = p} {s = s} {b = b} (is-adv {q = q} {a = x} e h d) =
-      let f : firstOf s ≡ x = ap firstOf (of-abort e) in
-      (q, refl, of-abort e ∙ ap (λ y. Ty.pcd y q) (sym f), h, subst (λ y. TmTy D noStore (y ∷ Γ) p b Ty.unit) (sym f) d)
+  -- What follows at a type follows at one that is equal to it.
+  across : (P Q : Ty → Type 0) {s u : Ty} → s ≡ u → (P s → Q s) → P u → Q u
+  across P Q e f x = subst Q e (f (subst P (sym e) x))
 
   -- Without a first subterm there is no pair and no pointcut.
   no-split : {Γ : List Ty} {c : Dom} {t : Ty} {e : Tm} {A : Type 0} → TmTy D noStore Γ c (split (val Val.unit) e) t → A
-  no-split (is-split {a = a} {b = b} d e) = let z : Ty.pair a b ≡ Ty.unit = unit-type d in no-path cc
+  no-split d = let r = premises d in let z : Ty.pair (r .0) (r .1) ≡ Ty.unit = unit-type (r .2) in no-path cc
 
   no-advice : {Γ : List Ty} {c p : Dom} {t : Ty} {e : Tm} {A : Type 0} → TmTy D noStore Γ c (adv p (val Val.unit) e) t → A
-  no-advice (is-adv {q = q} {a = a} d h e) = let z : Ty.pcd a q ≡ Ty.unit = unit-type d in no-path cc
+  no-advice d = let r = premises d in let z : Ty.pcd (r .0) (r .1) ≡ Ty.unit = unit-type (r .3) in no-path cc
 
   -- Card 6: the types behind the first three.
   behind-types : {Γ : List Ty} {c : Dom} (ts us : List Ty) → TmsTy D noStore Γ c (behind 3 (aborts ts)) us → us ≡ drop 3 ts
@@ -50,7 +47,7 @@ module _ (D : Policy) where
   behind-types {Γ} {c} (a ∷ b ∷ d ∷ ts) us ds = abort-types D Γ c ts us ds
 
   no-match : {Γ : List Ty} {c : Dom} {t : Ty} {p : Pattern} {es : Tms} {f g : Tm} {A : Type 0} → TmTy D noStore Γ c (match p (Tms.more (val Val.unit) es) f g) t → A
-  no-match (is-match (is-more d ds) o f g) = let z : Ty.stack ≡ Ty.unit = unit-type d in no-path cc
+  no-match d = let z : Ty.stack ≡ Ty.unit = unit-type (more-premises (premises d .2) .0) in no-path cc
 
   shifted : (at : ℕ → Setting Ty) (p : Setting Ty) → ((j : ℕ) → at (suc (suc (suc j))) ≡ p) → (j : ℕ) → 3 ≤ j → at j ≡ p
   shifted at p h zero l = absurd (omega arith)
@@ -58,7 +55,7 @@ module _ (D : Policy) where
   shifted at p h (suc (suc zero)) l = absurd (omega arith)
   shifted at p h (suc (suc (suc j))) l = h j
 
-  -- In an operation, a sequence, a choice and a keep, whose subterms stand where the term does, a subterm may give way to any that has its types.
+  -- In an operation, whose subterms stand where the term does, a subterm may give way to any that has its types.
   module _ (p : Setting Ty) where
     abbrev Typed : Tm → Ty → Type 0
     Typed e t = TmTy D noStore (p .context) (p .dom) e t
@@ -66,20 +63,11 @@ module _ (D : Policy) where
     abbrev Stands : Tm → Tm → Type 0
     Stands e f = (s : Ty) → Typed e s → Typed f s
 
-    unary : {o : Op1} {t u : Ty} {a a′ : Tm} → Stands a a′ → Typed (op1 o t a) u → Typed (op1 o t a′) u
-    unary f (is-op1 r d) = is-op1 r (f _ d)
+    unary : {o : Op1} {t : Ty} {a a′ : Tm} → Stands a a′ → Typed (op1 o t a) t → Typed (op1 o t a′) t
+    unary f d = let r = premises d in is-op1 (r .1) (f (r .0) (r .2))
 
-    binary : {o : Op2} {t u : Ty} {a b a′ b′ : Tm} → Stands a a′ → Stands b b′ → Typed (op2 o t a b) u → Typed (op2 o t a′ b′) u
-    binary f g (is-op2 r d e) = is-op2 r (f _ d) (g _ e)
-
-    in-turn : {u : Ty} {a b a′ b′ : Tm} → Stands a a′ → Stands b b′ → Typed (seq a b) u → Typed (seq a′ b′) u
-    in-turn f g (is-seq d e) = is-seq (f _ d) (g _ e)
-
-    chosen : {u : Ty} {a b e a′ b′ e′ : Tm} → Stands a a′ → Stands b b′ → Stands e e′ → Typed (ite a b e) u → Typed (ite a′ b′ e′) u
-    chosen f g k (is-ite d e q) = is-ite (f _ d) (g _ e) (k _ q)
-
-    kept : {u : Ty} {a b e a′ b′ e′ : Tm} → Stands a a′ → Stands b b′ → Stands e e′ → Typed (keep a b e) u → Typed (keep a′ b′ e′) u
-    kept f g k (is-keep d e q) = is-keep (f _ d) (g _ e) (k _ q)
+    binary : {o : Op2} {t : Ty} {a b a′ b′ : Tm} → Stands a a′ → Stands b b′ → Typed (op2 o t a b) t → Typed (op2 o t a′ b′) t
+    binary f g d = let r = premises d in is-op2 (r .2) (f (r .0) (r .3)) (g (r .1) (r .4))
 
   rebuilt : (p : Setting Ty) {k : TermKind} (φ : Form k) (t : Ty) (vs : List ℕ) (ts : List Ty) (es : Tms) → Stand (childSetting p k t vs ts) (aborts ts) es
       → TmTy D noStore (p .context) (p .dom) (assembleAs φ t vs (aborts ts)) t → TmTy D noStore (p .context) (p .dom) (assembleAs φ t vs es) t
@@ -88,36 +76,51 @@ module _ (D : Policy) where
   rebuilt p Form.truth t vs ts es h d = d
   rebuilt p Form.number t vs ts es h d = d
   rebuilt p Form.var t vs ts es h d = d
-  rebuilt p Form.seq t vs ts es h d = in-turn p (λ s e. h .one 0 e) (λ s e. h .one 1 e) d
+  rebuilt p Form.seq t vs ts es h d = let r = premises d in is-seq (h .one 0 (r .0)) (h .one 1 (r .1))
   rebuilt p Form.print t vs ts es h d = unary p (λ s e. h .one 0 e) d
-  rebuilt p Form.ite t vs ts es h d = chosen p (λ s e. h .one 0 e) (λ s e. h .one 1 e) (λ s e. h .one 2 e) d
+  rebuilt p Form.ite t vs ts es h d = let r = premises d in is-ite (h .one 0 (r .0)) (h .one 1 (r .1)) (h .one 2 (r .2))
   rebuilt p Form.pair t vs ts es h d = binary p (λ s e. h .one 0 e) (λ s e. h .one 1 e) d
   rebuilt p Form.split t vs [] es h d = no-split d
-  rebuilt p Form.split t vs (s ∷ ts) es h (is-split (is-op0 r) e) = is-split (h .one 0 (is-op0 r)) (h .one 1 e)
-  rebuilt p Form.fun t vs ts es h (is-lam d) = is-lam (h .one 0 d)
+  rebuilt p Form.split t vs (s ∷ ts) es h d =
+      let r = premises d in
+      let At : Tm → Ty → Type 0 = λ e x. TmTy D noStore (secondOf x ∷ firstOf x ∷ p .context) (p .dom) e t in
+      is-split (h .one 0 (r .2)) (across (At (nth (aborts (s ∷ ts)) 1)) (At (nth es 1)) (of-abort (r .2)) (λ f. h .one 1 f) (r .3))
+  rebuilt p Form.fun t vs ts es h d =
+      let r = premises d in
+      let At : Tm → Ty → Type 0 = λ e x. TmTy D noStore (firstOf x ∷ p .context) (domOf x) e (r .2) in
+      subst (λ x. TmTy D noStore (p .context) (p .dom) (lam x (nth es 0)) x) (sym (r .3)) (is-lam (across (At (nth (aborts ts) 0)) (At (nth es 0)) (r .3) (λ f. h .one 0 f) (r .4)))
   rebuilt p Form.app t vs ts es h d = binary p (λ s e. h .one 0 e) (λ s e. h .one 1 e) d
   rebuilt p Form.arith t vs ts es h d = binary p (λ s e. h .one 0 e) (λ s e. h .one 1 e) d
   rebuilt p Form.mark t vs ts es h d = binary p (λ s e. h .one 0 e) (λ s e. h .one 1 e) d
-  rebuilt p Form.pcd t vs ts es h (is-pcd ds ls) = is-pcd (h .every 0 p (λ j l. refl) ds) ls
+  rebuilt p Form.pcd t vs ts es h d =
+      let r = premises d in
+      subst (λ x. TmTy D noStore (p .context) (p .dom) (pcd es) x) (sym (r .3)) (is-pcd (h .every 0 p (λ j l. refl) (r .4)) (r .5))
   rebuilt p Form.adv t vs [] es h d = no-advice d
   rebuilt p Form.adv t vs (s ∷ ts) es h d =
-      let a = advice-parts d in
-      let first : TmTy D noStore (p .context) (p .dom) (op0 abort s) (Ty.pcd (firstOf s) (a .0)) = subst (λ u. TmTy D noStore (p .context) (p .dom) (op0 abort s) u) (a .2) (is-op0 t-abort) in
-      subst (λ u. TmTy D noStore (p .context) (p .dom) (adv (domOf t) (nth es 0) (nth es 1)) u) (sym (a .1)) (is-adv (h .one 0 first) (a .3) (h .one 1 (a .4)))
+      let r = premises d in
+      let At : Tm → Ty → Type 0 = λ e x. TmTy D noStore (firstOf x ∷ p .context) (domOf t) e Ty.unit in
+      subst (λ x. TmTy D noStore (p .context) (p .dom) (adv (domOf t) (nth es 0) (nth es 1)) x) (sym (r .2)) (is-adv (h .one 0 (r .3)) (r .4) (across (At (nth (aborts (s ∷ ts)) 1)) (At (nth es 1)) (of-abort (r .3)) (λ f. h .one 1 f) (r .5)))
   rebuilt p Form.install t vs ts es h d = unary p (λ s e. h .one 0 e) d
   rebuilt p Form.newCell t vs ts es h d = unary p (λ s e. h .one 0 e) d
   rebuilt p Form.read t vs ts es h d = unary p (λ s e. h .one 0 e) d
   rebuilt p Form.store t vs ts es h d = binary p (λ s e. h .one 0 e) (λ s e. h .one 1 e) d
-  rebuilt p Form.lower t vs ts es h (is-lower r d) = is-lower r (h .one 0 d)
+  rebuilt p Form.lower t vs ts es h d = let r = premises d in subst (λ x. TmTy D noStore (p .context) (p .dom) (lower (getD vs 0 0) (nth es 0)) x) (sym (r .0)) (is-lower (r .1) (h .one 0 (r .2)))
   rebuilt p Form.byte t vs ts es h d = unary p (λ s e. h .one 0 e) d
-  rebuilt p Form.obj t vs ts es h (is-obj {ms = ms} d) = is-obj (h .bodies ms (Ty.obj ms ∷ p .context) (λ j. refl) d)
+  rebuilt p Form.obj t vs ts es h d =
+      let r = premises d in
+      let each : (j : ℕ) → childSetting p TermKind.obj t vs ts j ≡ record { context = Ty.obj (r .0) ∷ p .context; dom = methodDom (r .0) j } = λ j. ap (λ x. childSetting p TermKind.obj x vs ts j) (r .1) in
+      subst (λ x. TmTy D noStore (p .context) (p .dom) (obj x es) x) (sym (r .1)) (is-obj (h .bodies (r .0) (Ty.obj (r .0) ∷ p .context) each (r .2)))
   rebuilt p Form.call t vs ts es h d = unary p (λ s e. h .one 0 e) d
-  rebuilt p Form.keep t vs ts es h d = kept p (λ s e. h .one 0 e) (λ s e. h .one 1 e) (λ s e. h .one 2 e) d
+  rebuilt p Form.keep t vs ts es h d = let r = premises d in is-keep (h .one 0 (r .1)) (h .one 1 (r .2)) (h .one 2 (r .3))
   rebuilt p Form.match t vs [] es h d = no-match d
-  rebuilt p Form.match t vs (s ∷ ts) es h (is-match {ts = xs} {us} (is-more (is-op0 r) ds) o f g) =
-      let b : us ≡ matchBinds firstOf (patternOf vs) s (drop 3 (s ∷ ts)) = pattern-binds o ∙ ap (matchBinds firstOf (patternOf vs) Ty.stack) (behind-types (s ∷ ts) xs ds) in
+  rebuilt p Form.match t vs (s ∷ ts) es h d =
+      let r = premises d in
+      let m = more-premises (r .2) in
+      let b : r .1 ≡ matchBinds firstOf (patternOf vs) s (drop 3 (s ∷ ts)) =
+      pattern-binds (r .3) ∙ ap (matchBinds firstOf (patternOf vs) Ty.stack) (behind-types (s ∷ ts) (r .0) (m .1)) ∙ ap (λ x. matchBinds firstOf (patternOf vs) x (drop 3 (s ∷ ts))) (sym (of-abort (m .0)))
+      in
       let At : Tm → List Ty → Type 0 = λ e x. TmTy D noStore (reverseAux x (p .context)) (p .dom) e t in
-      is-match (is-more (h .one 0 (is-op0 r)) (h .every 3 p (λ j l. shifted (childSetting p TermKind.match t vs (s ∷ ts)) p (λ i. refl) j l) ds)) o (subst (At (nth es 1)) (sym b) (h .one 1 (subst (At (nth (aborts (s ∷ ts)) 1)) b f))) (h .one 2 g)
+      is-match (is-more (h .one 0 (m .0)) (h .every 3 p (λ j l. shifted (childSetting p TermKind.match t vs (s ∷ ts)) p (λ i. refl) j l) (m .1))) (r .3) (subst (At (nth es 1)) (sym b) (h .one 1 (subst (At (nth (aborts (s ∷ ts)) 1)) b (r .4)))) (h .one 2 (r .5))
   rebuilt p Form.takedown t vs ts es h d = d
 
   abort-at : (p q : Setting Ty) (e : Program) {t : Ty} → q ≡ p → TmTy D noStore (p .context) (p .dom) (toTm e) (stated e) → TmTy D noStore (q .context) (q .dom) (op0 abort (stated e)) t → TmTy D noStore (q .context) (q .dom) (toTm e) t

@@ -4,6 +4,7 @@ use native.Mathlib.Omega.{arith}
 use mathlib.Core.Path.{_≡_, refl, sym, ap, ap₂, subst, _∙_}
 use mathlib.Core.Bool.{Bool, true, false, not, false≢true}
 use mathlib.Core.List.{List}
+use lib.ListN.{set}
 use lib.Dec.{eqb, leb}
 use borrow.Author.Tests.{le-leb, lt-leb, not-true, not-false}
 use Rattle.calculus.specs.declared.Outcome.{Outcome}
@@ -17,7 +18,7 @@ use Rattle.vm_machine.specs.declared.Regs.{Regs}
 use Rattle.vm_machine.specs.Registers.{headroom, fullRoom, setPc, setEnv, setRoom, haltWith, halt, stuck}
 use Rattle.vm_pools.specs.Pools.{hasRoom, piecesOut}
 use Rattle.vm_machine.specs.Halves.{halfOf}
-use Rattle.vm_machine.specs.Memory.{Memory, slotPc, slotEnv, digitsAt, digitCount, noDigits, withDigit, labelSet, putDigits}
+use Rattle.vm_machine.specs.Memory.{Memory, slotPc, slotEnv, digitsAt, digitCount, noDigits, withDigit, labelSet, putWord, pointcutFrame, slotWord, slotIn, putListed, putDigits}
 use Rattle.vm_machine.specs.States.{State, withRegs, judged}
 use Rattle.vm_machine.specs.Fetch.{Program, codeAt}
 use Rattle.vm_machine.specs.Reduce.{newPiece}
@@ -69,18 +70,25 @@ made-room w s S =
     room-of (leb (S .regs .room) (depthOf w)) _ _ (S .regs .room) refl
     (room-of (hasRoom pieceLimit (halfOf w) 1 (S .regs .pools .pieces)) _ _ (S .regs .room) (room-of (leb (S .regs .left) headroom) _ _ (S .regs .room) refl refl) refl)
 
+-- The frame of a body with m places of room, made from inside or from around it.
+pub listed-around : (a b : List ℕ) (room d m pc env held byte : ℕ) → m ≡ room - d → d < room → Holds (putListed (m + 1) 1 pc env held byte (memoryOf a)) a b → Holds (putListed room d pc env held byte (memoryOf a)) a b
+listed-around a b room d m pc env held byte e h H =
+    let M : Memory = memoryOf a in
+    let put : ℕ → ℕ → Memory = λ i j. (let N : Memory = putWord i (slotWord pointcutFrame pc env held) M in record { words = N .words; beside = set (N .beside) j byte }) in
+    let i : slotIn (m + 1) 1 ≡ slotIn room d = omega arith in
+    let j : m + 1 - 1 ≡ room - d = omega arith in
+    subst (λ (N : Memory). Holds N a b) (ap₂ put i j) H
+
 -- A child is begun under d unfinished terms: m is the room of its body.
 pub child-made : (C : Program) (a b : List ℕ) (r s : Regs) (w m d x e : ℕ) (k : Taken) → s ≡ r → d ≡ depthOf w → m ≡ r .room - (d + 1) → d + 1 < r .room → x ≡ childAt C w (k .count) → e ≡ entryFrom termCount C x
     → Holds (putDigits (m + 1) 1 (r .pc) (r .env) (k .digits) (memoryOf a)) a b → Phase (childBegun C (r .pc) w k) a b r (setPc e (setRoom m s))
 child-made C a b r s w m d x e k same depth room h child entry held =
     let M : Memory = memoryOf a in
-    let i : 2048 + (m + 1) - 1 ≡ 2048 + r .room - (depthOf w + 1) = omega arith in
-    let j : m + 1 - 1 ≡ r .room - (depthOf w + 1) = omega arith in
     let n : m ≡ r .room - (depthOf w + 1) = omega arith in
     let f : Regs → ℕ → ℕ → Regs = λ p y z. setPc z (setRoom y p) in
     stored-made (childBegun C (r .pc) w k) (putDigits (r .room) (depthOf w + 1) (r .pc) (r .env) (k .digits) M) a b r (setPc e (setRoom m s))
     (setPc (entryFrom termCount C (childAt C w (k .count))) (setRoom (r .room - (depthOf w + 1)) r)) (λ log. refl)
-    (ap (λ p. f p m e) same ∙ ap₂ (f r) n (entry ∙ ap (entryFrom termCount C) child)) (rw (i, j) at held)
+    (ap (λ p. f p m e) same ∙ ap₂ (f r) n (entry ∙ ap (entryFrom termCount C) child)) (listed-around a b (r .room) (depthOf w + 1) m (r .pc) (r .env) (k .digits % 68719476736) (k .digits / 68719476736 % 256) n (omega arith) held)
 
 -- The children of pointcut t, from child i on: those that are atoms are taken, k.
 module _ (C : Program) (a b : List ℕ) (r q : Regs) (t i d : ℕ) (k : Taken) (taken : k ≡ takeLabels C (memoryOf a) (r .env) (codeAt C t) (countOf (codeAt C t) - i) i d) (n : ℕ)

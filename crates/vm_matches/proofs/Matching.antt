@@ -1,5 +1,5 @@
 -- A match is made, and its operands begin and are worked out, by the tests that lead there.
-use Prim.Native.Nat.{ℕ, _+_, _-_, _%_, _≤_, _<_}
+use Prim.Native.Nat.{ℕ, _+_, _-_, _/_, _%_, _≤_, _<_}
 use native.Mathlib.Omega.{arith}
 use mathlib.Core.Path.{_≡_, refl, sym, ap, subst, _∙_}
 use mathlib.Core.Bool.{Bool, true, false, not}
@@ -33,6 +33,7 @@ use Rattle.vm_states.proofs.Made.{as-phase, stored-made, regs-made, then-set, s
 use Rattle.vm_states.proofs.Ended.{left-made, unpaid-left}
 use Rattle.vm_states.proofs.Halves.{half-made, half-full, half-spent}
 use Rattle.vm_reductions.proofs.Reduced.{counted, stored-called, bindings-charged}
+use Rattle.vm_labels.proofs.Labelling.{listed-around}
 use Rattle.vm_matches.specs.declared.Progress.{Progress}
 use Rattle.vm_matches.specs.declared.Chain.{Chain}
 use Rattle.vm_matches.specs.Parts.{lookedOf, LookedAgain, Chains, firstBranch, otherBranch}
@@ -104,12 +105,10 @@ module _ (C : Program) (a b : List ℕ) (r q : Regs) (x v byte d : ℕ) (depth :
       → Phase (beginOperand C (r .pc) x v byte) a b r (setPc e (setRoom m s))
   operand-begun s m e same room h entry held =
       let D : ℕ = depthOf (codeAt C (r .pc)) + 1 in
-      let i : 2048 + (m + 1) - 1 ≡ 2048 + r .room - D = omega arith in
-      let j : m + 1 - 1 ≡ r .room - D = omega arith in
       let n : m ≡ r .room - D = omega arith in
       stored-made (beginOperand C (r .pc) x v byte) (putMatch (r .room) D (r .pc) (r .env) v byte (memoryOf a)) a b r (setPc e (setRoom m s)) (setPc (entryFrom termCount C x) (setRoom (r .room - D) r))
       (λ log. sym (chosen-no _ _ _ (lt-leb (r .room) D (omega arith))))
-      (ap (λ (p : Regs). setPc e (setRoom m p)) same ∙ ap (λ (p : ℕ). setPc e (setRoom p r)) n ∙ ap (λ (p : ℕ). setPc p (setRoom (r .room - D) r)) entry) (rw (i, j) at held)
+      (ap (λ (p : Regs). setPc e (setRoom m p)) same ∙ ap (λ (p : ℕ). setPc e (setRoom p r)) n ∙ ap (λ (p : ℕ). setPc p (setRoom (r .room - D) r)) entry) (listed-around a b (r .room) D m (r .pc) (r .env) (v / 268435456) byte n (omega arith) held)
 
 -- The entries of match t with the stack v, from where it was left: those that can be looked at are, k.
 module _ (C : Program) (a b : List ℕ) (r q : Regs) (t v : ℕ) (from k : Looked) (looked : k ≡ lookOn C (memoryOf a) (r .env) (codeAt C t) (countOf (codeAt C t) - from .next) from) (n : ℕ)

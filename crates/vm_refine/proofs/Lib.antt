@@ -33,6 +33,7 @@ pub mod Listed
 pub mod Pointcuts
 pub mod Looks
 pub mod Matches
+pub mod Home
 pub mod Returns
 pub mod Turn
 pub mod Ends

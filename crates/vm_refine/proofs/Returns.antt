@@ -32,17 +32,17 @@ use Rattle.vm_theory.proofs.Inside.{next-inside}
 use Rattle.vm_code.specs.Values.{bodyOf}
 use Rattle.vm_code.specs.Words.{classOf, depthOf, nextOf, termCount}
 use Rattle.vm_code.specs.Words as code
-use Rattle.vm_code.specs.Classes.{return, classWith, pointcutClass, matchClass}
+use Rattle.vm_code.specs.Classes.{pointcutClass, matchClass}
 use Rattle.vm_says.specs.Says.{targetNumber, Says, says-pointcut, says-match, SaysCode}
 use Rattle.vm_machine.specs.declared.Regs.{Regs}
 use Rattle.vm_machine.specs.Registers.{headroom, fullRoom, setPc, setHand, setEnv, setRoom, setLeft, haltWith, halt, stuck}
-use Rattle.vm_machine.specs.Memory.{Memory, wordAt, slotBase, slotIn, slotAt, slotKind, slotPc, slotEnv, slotHeld, callFrame, adviceFrame, pointcutFrame, keepFrame, nextBinding, endBinding, putAdvice, bindingAt, boundTarget, digitsAt, digitCount, withDigit, heldStack, besideAt, restOf}
+use Rattle.vm_machine.specs.Memory.{Memory, wordAt, slotBase, slotIn, slotAt, slotPc, slotEnv, slotHeld, callFrame, adviceFrame, pointcutFrame, nextBinding, endBinding, putAdvice, bindingAt, boundTarget, digitsAt, digitCount, withDigit, heldStack, besideAt, restOf}
 use Rattle.vm_machine.specs.States.{State, withRegs, withMemory, completed}
 use Rattle.vm_machine.specs.Fetch.{Program, codeAt}
-use Rattle.vm_machine.specs.Moves.{returnMove, moveOf}
 use Rattle.vm_machine.specs.Reduce.{bodyAt, nextAdvice}
 use Rattle.vm_machine.specs.Stacks.{leaveKeep, unlooked, pastCut, lookedWith, stackToCome, restAfter}
-use Rattle.vm_machine.specs.Turn.{entriesFrom, labelsFrom, resumeLabels, resumeMatch, resumed, returned, performed, turn}
+use Rattle.vm_machine.specs.Turn.{entriesFrom, labelsFrom, resumeLabels, resumeMatch, resumed, returned, turn}
+use Rattle.vm_refine.proofs.Home.{home-done, home-call, home-advice, home-pointcut, home-keep}
 use Rattle.vm_refine.proofs.Relations.{Sizes, sizes, is-unit, IsEnv, env-used, env-grows, IsTriggered, no-more, one-left, triggered-at}
 use Rattle.vm_refine.proofs.Views.{AsLabel, a-label, no-label, as-label, AsPointcut, a-pointcut, no-pointcut, as-pointcut}
 use Rattle.vm_refine.proofs.Labels.{digitsOf, one-more, with-digit, digit-count}
@@ -80,35 +80,6 @@ module _ (T : Table) (root : ℕ) (L : Linked T 0 root) (G : Given) (e₀ : Tm) 
     abbrev z : Sizes
     z = sizes r
 
-    -- What the turn does.
-    turn-home : turn C (G .frame) S ≡ performed C (codeAt C code.home) (returnMove M r) S
-    unfolding turn moveOf classWith
-    turn-home = let q : classWith (classOf (codeAt C code.home)) ≡ return = ap classWith (says .return) in rw (pc, q)
-
-    home-done : r .room ≡ fullRoom → turn C (G .frame) S ≡ withRegs (halt Outcome.Done r) S
-    unfolding performed
-    home-done q = turn-home ∙ rw (eq-eqb (r .room) fullRoom q)
-
-    module _ (f : ℕ) (is : slotAt M (r .room) 0 ≡ f) (inside : r .room < fullRoom) where
-      no-top : eqb (r .room) fullRoom ≡ false
-      no-top = ne-eqb (r .room) fullRoom (λ x. omega arith)
-
-      home-call : slotKind f ≡ callFrame → turn C (G .frame) S ≡ returned C f S
-      unfolding performed
-      home-call q = turn-home ∙ rw (no-top, is, q)
-
-      home-advice : slotKind f ≡ adviceFrame → turn C (G .frame) S ≡ nextAdvice C f S
-      unfolding performed
-      home-advice q = turn-home ∙ rw (no-top, is, q)
-
-      home-pointcut : slotKind f ≡ pointcutFrame → turn C (G .frame) S ≡ resumed C f S
-      unfolding performed
-      home-pointcut q = turn-home ∙ rw (no-top, is, q)
-
-      home-keep : slotKind f ≡ keepFrame → turn C (G .frame) S ≡ leaveKeep C f S
-      unfolding performed
-      home-keep q = turn-home ∙ rw (no-top, is, q)
-
     -- The slot that the body runs over.
     over-slot : 0 < base A₀ → slotAt M (r .room) 0 ≡ slotOf M (base A₀)
     over-slot h = ap (λ (i : ℕ). wordAt M i) (omega (arith, now .room)) ∙ sym (slot-word M (base A₀) h)
@@ -121,7 +92,7 @@ module _ (T : Table) (root : ℕ) (L : Linked T 0 root) (G : Given) (e₀ : Tm) 
     done-now q =
         let top : r .room ≡ fullRoom = omega (arith, now .room, ap base q) in
         let reach : Reach G e₀ Ω k s (ret v) [] = subst (λ (X : Chain). Reach G e₀ Ω k s (ret v) (stackOf X D)) q (now .good .runs) in
-        rw (home-done top)
+        rw (home-done C (G .frame) S pc (says .return) top)
         (after-halted
         (halted-done refl refl (ends-over G e₀ Ω k s (ret v) [] reach N (r .left - headroom) (omega (arith, now .common .budget, now .common .running)) v refl) (now .common .store) (now .common .used) (now .ready)
         (omega (arith, now .common .budget, now .common .running))
@@ -381,30 +352,30 @@ module _ (T : Table) (root : ℕ) (L : Linked T 0 root) (G : Given) (e₀ : Tm) 
     chain-now (callA P ∷ A) q c f h reach =
         let b : base A₀ ≡ depthAt P A = ap base q in
         let e : slotAt M (r .room) 0 ≡ slotOf M (depthAt P A) = over-slot (omega (arith, f .2)) ∙ ap (λ (i : ℕ). slotOf M i) b in
-        rw (home-call (slotOf M (depthAt P A)) e (omega (arith, now .room, f .2)) (c .0 .says .kind)) (call-now P A a-call _ (c .0) (c .1) (f .0) (f .1) h (slotOf M (depthAt P A)) (c .0 .says) b (f .2) reach)
+        rw (home-call C (G .frame) S pc (says .return) (slotOf M (depthAt P A)) e (omega (arith, now .room, f .2)) (c .0 .says .kind)) (call-now P A a-call _ (c .0) (c .1) (f .0) (f .1) h (slotOf M (depthAt P A)) (c .0 .says) b (f .2) reach)
     chain-now (adviceA d u x P ∷ A) q c f h reach =
         let b : base A₀ ≡ depthAt P A + 2 = omega (arith, ap base q) in
         let i : ℕ = suc (suc (depthAt P A)) in
         let e : slotAt M (r .room) 0 ≡ slotOf M i = over-slot (omega arith) ∙ ap (λ (j : ℕ). slotOf M j) (ap base q) in
-        rw (home-advice (slotOf M i) e (omega (arith, now .room)) (c .0 .says .0 .kind)) (advice-now P A (an-advice u x) _ (c .0) (c .1) (f .0) (f .1) h d x u (slotOf M i) (c .0 .says .0) b (c .0 .says .1) reach)
+        rw (home-advice C (G .frame) S pc (says .return) (slotOf M i) e (omega (arith, now .room)) (c .0 .says .0 .kind)) (advice-now P A (an-advice u x) _ (c .0) (c .1) (f .0) (f .1) h d x u (slotOf M i) (c .0 .says .0) b (c .0 .says .1) reach)
     chain-now (restA u x P ∷ A) q c f h reach = absurd (c .0 .says)
     chain-now (manyA pcdN vs es P ∷ A) q c f h reach =
         let b : base A₀ ≡ suc (depthAt P A) = ap base q in
         let i : ℕ = suc (depthAt P A) in
         let e : slotAt M (r .room) 0 ≡ slotOf M i = over-slot (omega arith) ∙ ap (λ (j : ℕ). slotOf M j) b in
-        rw (home-pointcut (slotOf M i) e (omega (arith, now .room)) (c .0 .says .0 .kind))
+        rw (home-pointcut C (G .frame) S pc (says .return) (slotOf M i) e (omega (arith, now .room)) (c .0 .says .0 .kind))
         (pointcut-now P A (some-operands pcdN vs es) _ (c .0) (c .1) (f .0) (f .1) h vs es (slotOf M i) (c .0 .says .0) (rw b (c .0 .says .1)) b reach)
     chain-now (manyA (matchN t e₁ e₂) vs es P ∷ A) q c f h reach =
         let b : base A₀ ≡ suc (depthAt P A) = ap base q in
         let i : ℕ = suc (depthAt P A) in
         let e : slotAt M (r .room) 0 ≡ slotOf M i = over-slot (omega arith) ∙ ap (λ (j : ℕ). slotOf M j) b in
-        rw (home-pointcut (slotOf M i) e (omega (arith, now .room)) (c .0 .says .0 .kind))
+        rw (home-pointcut C (G .frame) S pc (says .return) (slotOf M i) e (omega (arith, now .room)) (c .0 .says .0 .kind))
         (match-now P A (some-operands (matchN t e₁ e₂) vs es) _ (c .0) (c .1) (f .0) (f .1) h t e₁ e₂ vs es (slotOf M i) (c .0 .says .0) (rw b (c .0 .says .1)) b reach)
     chain-now (keepA u y P ∷ A) q c f h reach =
         let b : base A₀ ≡ suc (depthAt P A) = ap base q in
         let i : ℕ = suc (depthAt P A) in
         let e : slotAt M (r .room) 0 ≡ slotOf M i = over-slot (omega arith) ∙ ap (λ (j : ℕ). slotOf M j) b in
-        rw (home-keep (slotOf M i) e (omega (arith, now .room)) (c .0 .says .0 .kind))
+        rw (home-keep C (G .frame) S pc (says .return) (slotOf M i) e (omega (arith, now .room)) (c .0 .says .0 .kind))
         (leave-now T root L G e₀ Ω N B C says S k s v P A D u y (slotOf M i) _ (c .0) (c .1) (f .0) (f .1) (kept-left T root L y (keptBy A) (c .0 .says .1) h) (now .common) (now .ready) (now .env-fits) pc
         (omega (arith, now .room, b)) (omega (arith, now .room, kept-fits T root L A₀ (now .kept))) (c .0 .says .0) reach)
 

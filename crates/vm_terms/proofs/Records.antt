@@ -49,6 +49,10 @@ pub record Recorded (b : List ℕ) (o n : ℕ) (k : TermKind) (vs xs : List ℕ)
   pub lower : (i : ℕ) → i < length xs → getD xs i 0 < n
   pub operation : k ≡ TermKind.arith → fieldAt b o 1 < operationCount
 
+-- The children that every term of the kind has, as fields.
+pub child-field : {b : List ℕ} {o n : ℕ} {vs xs : List ℕ} (k : TermKind) → Recorded b o n k vs xs → (i : ℕ) → i < leastChildren (termRow k) → getD xs i 0 ≡ fieldAt b o (leadOf k + i)
+child-field k R i h = R .child i (let z = R .least in omega arith)
+
 -- A child that every term of the kind has, as a field: where it stands, and that it is a lower term.
 pub field-lower : {b : List ℕ} {o n : ℕ} {k : TermKind} {vs xs : List ℕ} → Recorded b o n k vs xs → (i : ℕ) → i < leastChildren (termRow k) → fieldAt b o (leadOf k + i) < n
 field-lower R i h = let e = R .child i (let z = R .least in omega arith) in let l = R .lower i (let z = R .least in omega arith) in omega arith

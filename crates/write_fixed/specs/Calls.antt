@@ -3,14 +3,13 @@ use Prim.Native.Nat.{ℕ}
 use mathlib.Core.Path.{_≡_}
 use mathlib.Core.List.{List}
 use lib.ListN.{length}
-use lib.Dec.{ltb}
 use Rattle.calculus.specs.Combinators.{choose}
 use Rattle.image.specs.Limits.{workLength, reportLength}
 use Rattle.image.specs.Refusals.{refusalNumber}
 use Rattle.verdict.specs.declared.Verdict.{Verdict}
 use Rattle.verdict.specs.Verdicts.{verdict}
 use Rattle.base_bytes.specs.Bytes.{over}
-use Rattle.image_written.specs.Written.{fixed}
+use Rattle.image_written.specs.Written.{fixed, tooShort}
 use Rattle.write_fixed.specs.declared.Written.{Written}
 
 -- "20 the output is shorter than the image, place 0": the number of each answer, 0 where the fixed form was written, and the place.
@@ -42,7 +41,7 @@ pub record Left : Type 0 where
 abbrev pub afterCheck : Verdict → List ℕ → List ℕ → Left
 afterCheck (Verdict.Refused r place) b out = record { answer = Written.Refused r place; out = out }
 afterCheck Verdict.Accepted b out =
-    choose (ltb (length out) (length b)) (record { answer = Written.ShortOutput; out = out }) (record { answer = Written.Bytes (length (fixed b)); out = over 0 (fixed b) out })
+    choose (tooShort out b) (record { answer = Written.ShortOutput; out = out }) (record { answer = Written.Bytes (length (fixed b)); out = over 0 (fixed b) out })
 
 -- "After the check's refusals", 1 to 16: those of a call with a work area and a report that are long enough.
 unfoldable pub fixedCall : List ℕ → List ℕ → Left

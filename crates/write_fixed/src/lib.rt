@@ -80,7 +80,7 @@ pub fn written_number(w: Written) -> u16
 {
     match w {
         Written::Bytes(_) => 0,
-        Written::Refused(why, _) => image::refusal_number(why),
+        Written::Refused(why, _) => image_refusals::refusal_number(why),
         Written::ShortOutput => SHORT_OUTPUT,
     }
 }

@@ -1,13 +1,11 @@
 -- What a call that writes an image without its watches answers, and what the output then holds, from any image, mask and output (document 02, card 13).
 use Prim.Native.Nat.{ℕ}
-use mathlib.Core.Bool.{Bool, not, _&&_, _||_}
+use mathlib.Core.Bool.{Bool}
 use mathlib.Core.List.{List}
 use lib.ListN.{length}
-use lib.Dec.{ltb, leb}
-use Rattle.laws.specs.Tests.{anyBelow}
 use Rattle.calculus.specs.Combinators.{choose}
 use Rattle.calculus.specs.Syntax.{Dom}
-use Rattle.image.specs.Limits.{domainLimit, workLength, reportLength}
+use Rattle.image.specs.Limits.{workLength, reportLength}
 use Rattle.image.specs.Refusals.{refusalNumber}
 use Rattle.image.specs.Records.{Layout}
 use Rattle.image.specs.Layout.{recordsOf}
@@ -15,13 +13,14 @@ use Rattle.verdict.specs.declared.Verdict.{Verdict}
 use Rattle.verdict.specs.Domains.{leq}
 use Rattle.verdict.specs.Verdicts.{verdict}
 use Rattle.base_bytes.specs.Bytes.{over}
-use Rattle.image_written.specs.Stripped.{withoutWatches}
+use Rattle.image_written.specs.Written.{tooShort}
+use Rattle.image_written.specs.Stripped.{wrongHigh, withoutWatches}
 use Rattle.write_idle.specs.Idle.{inMask}
 use Rattle.write_stripped.specs.declared.Stripped.{Stripped}
 
--- "23 the given set lacks domain 0, names an absent domain, or lacks a domain above a member", by the order of the domains and how many there are.
+-- "23 the given set lacks domain 0, names an absent domain, or lacks a domain above a member": of a mask, by the order of the domains and how many there are.
 abbrev pub wrongBy : (Dom → Dom → Bool) → ℕ → ℕ → Bool
-wrongBy below count mask = not (inMask mask 0) || anyBelow domainLimit (λ d. inMask mask d && (leb count d || anyBelow domainLimit (λ q. below d q && not (inMask mask q))))
+wrongBy below count mask = wrongHigh (inMask mask) below count
 
 abbrev pub wrongSet : Layout → ℕ → Bool
 wrongSet L mask = wrongBy (leq L) (length (L .domains)) mask
@@ -62,7 +61,7 @@ abbrev pub afterCheck : Verdict → List ℕ → ℕ → List ℕ → Left
 afterCheck (Verdict.Refused r place) b mask out = record { answer = Stripped.Refused r place; out = out }
 afterCheck Verdict.Accepted b mask out =
     choose (wrongSet (recordsOf b) mask) (record { answer = Stripped.WrongSet; out = out })
-    (choose (ltb (length out) (length b)) (record { answer = Stripped.ShortOutput; out = out })
+    (choose (tooShort out b) (record { answer = Stripped.ShortOutput; out = out })
     (record { answer = Stripped.Bytes (length (withoutWatches (inMask mask) b)); out = over 0 (withoutWatches (inMask mask) b) out }))
 
 -- The check's refusals are 1 to 16: those of a call with a work area and a report that are long enough.

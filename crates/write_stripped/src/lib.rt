@@ -150,7 +150,7 @@ pub fn stripped_number(s: Stripped) -> u16
 {
     match s {
         Stripped::Bytes(_) => 0,
-        Stripped::Refused(why, _) => image::refusal_number(why),
+        Stripped::Refused(why, _) => image_refusals::refusal_number(why),
         Stripped::WrongSet => WRONG_SET,
         Stripped::ShortOutput => SHORT_OUTPUT,
     }

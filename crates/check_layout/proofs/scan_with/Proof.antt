@@ -106,22 +106,22 @@ enum-known-entered : tie.Need-enum-known-entered Inv-loop μ-loop
 enum-known-entered c = search needs
 
 same-length : tie.Need-same-length Inv-loop μ-loop
-same-length c = search needs
+same-length c = let e = c .before .before .before .before .before .before .before .before .before .before .before .before .before .before .before in e .enter .kept .1 .1 .1 .1 .1 .1 .0 ∙ loop-of (record-of e) .loop .inv .1
 
 same-length-2 : tie.Need-same-length-2 Inv-loop μ-loop
-same-length-2 c = search needs
+same-length-2 c = let e = c .before .before .before .before .before .before .before .before .before .before .before .before .before .before .before in e .enter .kept .1 .1 .1 .1 .1 .1 .1 .0 ∙ loop-of (record-of e) .loop .inv .2
 
 same-length-3 : tie.Need-same-length-3 Inv-loop μ-loop
-same-length-3 c = search needs
+same-length-3 c = let e = c .before .before .before .before .before .before .before .before .before .before .before .before .before .before .before in e .enter .kept .1 .1 .1 .1 .1 .1 .1 .1 .0 ∙ loop-of (record-of e) .loop .inv .3
 
 same-length-4 : tie.Need-same-length-4 Inv-loop μ-loop
-same-length-4 c = search needs
+same-length-4 c = let e = c .before .before .before .before .before .before .before .before .before .before .before .before .before .before .before in e .enter .kept .1 .1 .1 .1 .1 .1 .1 .1 .1 .0 ∙ loop-of (record-of e) .loop .inv .4
 
 same-length-5 : tie.Need-same-length-5 Inv-loop μ-loop
-same-length-5 c = search needs
+same-length-5 c = let e = c .before .before .before .before .before .before .before .before .before .before .before .before .before .before .before in e .enter .kept .1 .1 .1 .1 .1 .1 .1 .1 .1 .1 .0 ∙ loop-of (record-of e) .loop .inv .5
 
 same-length-6 : tie.Need-same-length-6 Inv-loop μ-loop
-same-length-6 c = search needs
+same-length-6 c = let e = c .before .before .before .before .before .before .before .before .before .before .before .before .before .before .before in e .enter .kept .1 .1 .1 .1 .1 .1 .1 .1 .1 .1 .1 .0 ∙ loop-of (record-of e) .loop .inv .6
 
 returns : tie.Need-returns Inv-loop μ-loop
 returns c =
@@ -156,22 +156,22 @@ enum-known-head-2 : tie.Need-enum-known-head-2 Inv-loop μ-loop
 enum-known-head-2 c = search needs
 
 same-length-7 : tie.Need-same-length-7 Inv-loop μ-loop
-same-length-7 c = search needs
+same-length-7 c = c .before .before .before .before .before .loop .inv .1
 
 same-length-8 : tie.Need-same-length-8 Inv-loop μ-loop
-same-length-8 c = search needs
+same-length-8 c = c .before .before .before .before .before .loop .inv .2
 
 same-length-9 : tie.Need-same-length-9 Inv-loop μ-loop
-same-length-9 c = search needs
+same-length-9 c = c .before .before .before .before .before .loop .inv .3
 
 same-length-10 : tie.Need-same-length-10 Inv-loop μ-loop
-same-length-10 c = search needs
+same-length-10 c = c .before .before .before .before .before .loop .inv .4
 
 same-length-11 : tie.Need-same-length-11 Inv-loop μ-loop
-same-length-11 c = search needs
+same-length-11 c = c .before .before .before .before .before .loop .inv .5
 
 same-length-12 : tie.Need-same-length-12 Inv-loop μ-loop
-same-length-12 c = search needs
+same-length-12 c = c .before .before .before .before .before .loop .inv .6
 
 returns-2 : tie.Need-returns-2 Inv-loop μ-loop
 returns-2 c = stops (c .before .before .before .before .before .loop .inv .0) (search needs) (sym (c .before .before .before .head-from .ensures) ∙ c .before .head2 .given .1)
@@ -180,22 +180,22 @@ enum-told : tie.Need-enum-told Inv-loop μ-loop
 enum-told c = search needs
 
 same-length-13 : tie.Need-same-length-13 Inv-loop μ-loop
-same-length-13 c = search needs
+same-length-13 c = c .before .before .before .before .loop .inv .1
 
 same-length-14 : tie.Need-same-length-14 Inv-loop μ-loop
-same-length-14 c = search needs
+same-length-14 c = c .before .before .before .before .loop .inv .2
 
 same-length-15 : tie.Need-same-length-15 Inv-loop μ-loop
-same-length-15 c = search needs
+same-length-15 c = c .before .before .before .before .loop .inv .3
 
 same-length-16 : tie.Need-same-length-16 Inv-loop μ-loop
-same-length-16 c = search needs
+same-length-16 c = c .before .before .before .before .loop .inv .4
 
 same-length-17 : tie.Need-same-length-17 Inv-loop μ-loop
-same-length-17 c = search needs
+same-length-17 c = c .before .before .before .before .loop .inv .5
 
 same-length-18 : tie.Need-same-length-18 Inv-loop μ-loop
-same-length-18 c = search needs
+same-length-18 c = c .before .before .before .before .loop .inv .6
 
 returns-3 : tie.Need-returns-3 Inv-loop μ-loop
 returns-3 c =
@@ -203,22 +203,22 @@ returns-3 c =
     ends (l .loop .inv .0) (end-of (now (start-of l .args .image)) (l .loop .at) (sym (c .before .before .head-from .ensures) ∙ c .enum-told .given .1))
 
 same-length-19 : tie.Need-same-length-19 Inv-loop μ-loop
-same-length-19 c = search needs
+same-length-19 c = c .before .loop .inv .1
 
 same-length-20 : tie.Need-same-length-20 Inv-loop μ-loop
-same-length-20 c = search needs
+same-length-20 c = c .before .loop .inv .2
 
 same-length-21 : tie.Need-same-length-21 Inv-loop μ-loop
-same-length-21 c = search needs
+same-length-21 c = c .before .loop .inv .3
 
 same-length-22 : tie.Need-same-length-22 Inv-loop μ-loop
-same-length-22 c = search needs
+same-length-22 c = c .before .loop .inv .4
 
 same-length-23 : tie.Need-same-length-23 Inv-loop μ-loop
-same-length-23 c = search needs
+same-length-23 c = c .before .loop .inv .5
 
 same-length-24 : tie.Need-same-length-24 Inv-loop μ-loop
-same-length-24 c = search needs
+same-length-24 c = c .before .loop .inv .6
 
 returns-4 : tie.Need-returns-4 Inv-loop μ-loop
 returns-4 c = ends (c .before .loop .inv .0) (search needs)

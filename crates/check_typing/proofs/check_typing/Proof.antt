@@ -2,16 +2,31 @@
 use borrow.Author.Needs.{needs}
 use Rattle.check_typing.proofs.check_typing.Statement.{statement}
 use Rattle.check_typing.proofs.check_typing.Tie as tie
+use Prim.Native.Nat.{ℕ}
+use native.Mathlib.Omega.{arith}
+use mathlib.Core.List.{List}
+use Rattle.check_records.specs.Tables.{Tables}
+use Rattle.check_rules.specs.Lent.{Terms, Types}
 use mathlib.Core.Path.{sym, _∙_}
 use denote.Ref.{now}
 use Rattle.image.specs.Layout.{recordsOf}
 use Rattle.check_typing.proofs.Root.{typing-refused, typing-plain}
 
+-- The tables of the terms and of the types, of all that are lent.
+module _ {b ds ts ks : List ℕ} where
+  terms-lent : Tables b ds ts ks → Terms b ts
+  terms-lent T = record { laid-out = T .laid-out; offsets = T .terms }
+
+  types-lent : Tables b ds ts ks → Types b ks
+  types-lent T = record { laid-out = T .laid-out; enough = T .enough; descriptors = T .descriptors }
+
 set-masks-requires : tie.Need-set-masks-requires
 set-masks-requires c κs = search needs
 
 check-root-requires : tie.Need-check-root-requires
-check-root-requires c κs = search needs
+check-root-requires c κs =
+    let p = c .before .before .before .before .before .pre in
+    (record { terms = terms-lent (p .0); types = types-lent (p .0) }, p .1 .terms, omega (arith, p .1 .terms, p .2 .has-terms), c .before .set-masks .ensures, p .2, p .3)
 
 is-refused-requires : tie.Need-is-refused-requires
 is-refused-requires c κs = search needs
@@ -22,7 +37,9 @@ returns c =
     typing-refused (recordsOf (now (s .args .image))) (c .before .before .check-root .result) (c .before .before .check-root .ensures) (sym (c .before .is-refused .ensures) ∙ c .if1 .taken)
 
 check-plain-requires : tie.Need-check-plain-requires
-check-plain-requires c κs = search needs
+check-plain-requires c κs =
+    let p = c .before .before .before .before .before .before .before .before .before .before .pre in
+    (terms-lent (p .0), types-lent (p .0), p .1 .types, p .1 .terms, omega (arith, p .1 .terms, p .2 .has-terms))
 
 returns-2 : tie.Need-returns-2
 returns-2 c =

@@ -3,7 +3,7 @@ use Rattle.image_needs.proofs.forecast_number.Statement.{statement}
 use Rattle.image_needs.proofs.forecast_number.Tie as tie
 use Rattle.image_needs.proofs.forecast_number.Reads as reads
 use Rattle.image_needs.proofs.forecast_number.Lts as lts
-use Rattle.image.proofs.refusal_number.Reads as refusal-number-reads
+use Rattle.image_refusals.proofs.refusal_number.Reads as refusal-number-reads
 
 -- src/lib.rt:38:27
 enum-known-f : tie.Need-enum-known-f

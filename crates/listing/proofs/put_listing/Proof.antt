@@ -28,7 +28,7 @@ put-run-requires : tie.Need-put-run-requires
 put-run-requires c κs = search needs
 
 same-length : tie.Need-same-length
-same-length c = search needs
+same-length c = c .before .before .put-refusal .kept .0
 
 returns : tie.Need-returns
 returns c =
@@ -37,7 +37,7 @@ returns c =
     as-short (refusal-listed (start .args .a) (now (start .args .log)) (now (start .args .report)) (at-verdict .verdict .given .1)) (longer (omega arith) (c .before .before .put-refusal .ensures))
 
 same-length-2 : tie.Need-same-length-2
-same-length-2 c = search needs
+same-length-2 c = c .before .before .put-run .kept .0
 
 returns-2 : tie.Need-returns-2
 returns-2 c =

@@ -1,7 +1,7 @@
 -- The word, the number, a space, the place, the end of the line.
 use Prim.Native.Nat.{_<_}
 use native.Mathlib.Omega.{arith}
-use mathlib.Core.Path.{ap}
+use mathlib.Core.Path.{ap, _∙_}
 use Rattle.image.specs.Refusals.{refusalNumber}
 use Rattle.listing.specs.Text.{decimal}
 use Rattle.listing.proofs.Puts.{then, as-text, within-limit}
@@ -41,7 +41,13 @@ put-requires-3 : tie.Need-put-requires-3
 put-requires-3 c κs = search needs
 
 same-length : tie.Need-same-length
-same-length c = search needs
+same-length c =
+    let at-put3 = c .before .before in
+    let at-put-decimal2 = at-put3 .before .before .before .before .before in
+    let at-put2 = at-put-decimal2 .before .before .before .before in
+    let at-put-decimal = at-put2 .before .before .before .before .before in
+    let at-put = at-put-decimal .before .before .before .before .before in
+    at-put3 .put3 .kept .0 ∙ at-put-decimal2 .put-decimal2 .kept .0 ∙ at-put2 .put2 .kept .0 ∙ at-put-decimal .put-decimal .kept .0 ∙ at-put .put .kept .0
 
 returns : tie.Need-returns
 returns c =

@@ -1,4 +1,5 @@
 -- What was printed, how it ended, the cells.
+use mathlib.Core.Path.{_∙_}
 use native.Mathlib.Omega.{arith}
 use denote.Ref.{now}
 use Rattle.listing.proofs.Puts.{then, within-limit}
@@ -17,7 +18,11 @@ put-cells-requires : tie.Need-put-cells-requires
 put-cells-requires c κs = search needs
 
 same-length : tie.Need-same-length
-same-length c = search needs
+same-length c =
+    let at-put-cells = c .before .before in
+    let at-put-ending = at-put-cells .before .before .before .before in
+    let at-put-prints = at-put-ending .before .before .before .before in
+    at-put-cells .put-cells .kept .0 ∙ at-put-ending .put-ending .kept .0 ∙ at-put-prints .put-prints .kept .0
 
 returns : tie.Need-returns
 returns c =

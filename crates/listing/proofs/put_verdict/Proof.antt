@@ -23,13 +23,13 @@ put-refusal-requires : tie.Need-put-refusal-requires
 put-refusal-requires c κs = search needs
 
 same-length : tie.Need-same-length
-same-length c = search needs
+same-length c = c .before .before .put .kept .0
 
 returns : tie.Need-returns
 returns c = as-short (ap verdictLine (sym (c .before .before .before .before .before .enum-told .given .1))) (within-limit (c .before .before .put .ensures) (omega arith))
 
 same-length-2 : tie.Need-same-length-2
-same-length-2 c = search needs
+same-length-2 c = c .before .before .put-refusal .kept .0
 
 returns-2 : tie.Need-returns-2
 returns-2 c = as-short (ap verdictLine (sym (c .before .before .before .before .before .v .given .1))) (c .before .before .put-refusal .ensures)

@@ -3,7 +3,7 @@ use Rattle.write_stripped.proofs.stripped_number.Statement.{statement}
 use Rattle.write_stripped.proofs.stripped_number.Tie as tie
 use Rattle.write_stripped.proofs.stripped_number.Reads as reads
 use Rattle.write_stripped.proofs.stripped_number.Lts as lts
-use Rattle.image.proofs.refusal_number.Reads as refusal-number-reads
+use Rattle.image_refusals.proofs.refusal_number.Reads as refusal-number-reads
 
 -- src/lib.rt:75:31
 enum-told : tie.Need-enum-told

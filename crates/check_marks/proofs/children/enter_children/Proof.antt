@@ -22,7 +22,11 @@ set-height-requires : tie.Need-set-height-requires
 set-height-requires c κs = search needs
 
 same-length : tie.Need-same-length
-same-length c = search needs
+same-length c =
+    let at-set-height = c .before .before in
+    let at-use-entries = at-set-height .before .before .before .before in
+    let at-use-side = at-use-entries .before .before .before .before in
+    at-set-height .set-height .kept .0 ∙ at-use-entries .use-entries .kept .1 .1 .1 .0 ∙ at-use-side .use-side .kept .1 .1 .0
 
 returns : tie.Need-returns
 returns c =

@@ -8,7 +8,7 @@ set-height-requires : tie.Need-set-height-requires
 set-height-requires c κs = search needs
 
 same-length : tie.Need-same-length
-same-length c = search needs
+same-length c = c .before .before .set-height .kept .0
 
 returns : tie.Need-returns
 unfolding useAll highest

@@ -12,7 +12,10 @@ set-height-requires : tie.Need-set-height-requires
 set-height-requires c κs = search needs
 
 same-length : tie.Need-same-length
-same-length c = search needs
+same-length c =
+    let at-set-height = c .before .before in
+    let at-use-child = at-set-height .before .before .before .before in
+    at-set-height .set-height .kept .0 ∙ at-use-child .use-child .kept .0
 
 returns : tie.Need-returns
 unfolding useAll highest

@@ -1,5 +1,9 @@
 -- `check_marks::children::use_child` meets its contract.
-use Rattle.check_marks.specs.Marks.{useAll, highest}
+use Prim.Native.Nat.{max}
+use denote.Ref.{now}
+use lib.ListN.{set}
+use mathlib.Core.Path.{ap, _∙_}
+use Rattle.check_marks.specs.Marks.{heightIn, usedMark, useAll, highest}
 use borrow.Author.Needs.{needs}
 use Rattle.check_marks.proofs.children.use_child.Statement.{statement}
 use Rattle.check_marks.proofs.children.use_child.Tie as tie
@@ -17,11 +21,16 @@ higher-requires : tie.Need-higher-requires
 higher-requires c κs = search needs
 
 same-length : tie.Need-same-length
-same-length c = search needs
+same-length c = c .before .before .before .set-mark .kept .0
 
 returns : tie.Need-returns
 unfolding useAll highest
-returns c = (cc, cc)
+returns c =
+    let at-set = c .before .before .before in
+    let at-mark = at-set .before .before .before in
+    let a = at-mark .before .before .before .args in
+    let m = at-mark .mark-of .ensures in
+    (c .higher .ensures ∙ ap (λ n. max (a .h) (heightIn n)) m, at-set .set-mark .ensures ∙ ap (set (now (a .marks)) (a .e .0)) (at-set .before .used-mark .ensures ∙ ap usedMark m))
 
 pub use-child-spec : {M : Type 1} → statement M
 use-child-spec =

@@ -51,10 +51,10 @@ claims = (
 -- The tests of the groups and of the last fields, with what their numbers are.
 module _ (fs : List ℕ) (n : Counts) {r : Bool} {t t′ g g′ cs f f′ k k′ : ℕ} where
   groups-same : r ≡ groupsFrom t g cs fs n f → t ≡ t′ → g ≡ g′ → cs ≡ classesPast f k → f ≡ f′ → k ≡ k′ → r ≡ groupsFrom t′ g′ (classesPast f′ k′) fs n f′
-  groups-same h a b c d e = cc
+  groups-same h a b c d e = h ∙ (λ i. groupsFrom (a i) (b i) (c i) fs n (d i)) ∙ λ i. groupsFrom t′ g′ (classesPast (d i) (e i)) fs n f′
 
   last-same : {l l′ : ℕ} → r ≡ rangesFrom l cs fs n (f + t * g) → l ≡ l′ → t ≡ t′ → g ≡ g′ → cs ≡ classesPast (f + g) k → f ≡ f′ → k ≡ k′ → r ≡ rangesFrom l′ (classesPast (f′ + g′) k′) fs n (f′ + t′ * g′)
-  last-same {l} {l′} h a b c d e i = cc
+  last-same {l′ = l′} h a b c d e k = h ∙ (λ i. rangesFrom (a i) (d i) fs n (e i + b i * c i)) ∙ λ i. rangesFrom l′ (classesPast (e i + c i) (k i)) fs n (f′ + t′ * g′)
 
 -- The places that the proof goes back to: the start, and behind the tests of the first fields and of the groups.
 abbrev Start : Type 0

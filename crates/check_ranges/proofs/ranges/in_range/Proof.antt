@@ -37,6 +37,18 @@ both-requires-2 c κs = search needs
 both-requires-3 : tie.Need-both-requires-3
 both-requires-3 c κs = search needs
 
+names-type-requires-4 : tie.Need-names-type-requires-4
+names-type-requires-4 c κs = let k = c in omega (arith, first-held _ _ _ (k .match .keys4) (k .before .before .pre .1))
+
+names-type-requires-5 : tie.Need-names-type-requires-5
+names-type-requires-5 c κs = let k = c .before in omega (arith, first-held _ _ _ (k .match .keys4) (k .before .before .pre .1))
+
+both-requires-4 : tie.Need-both-requires-4
+both-requires-4 c κs = search needs
+
+names-domain-requires-3 : tie.Need-names-domain-requires-3
+names-domain-requires-3 c κs = let k = c in omega (arith, first-held _ _ _ (k .match .keys5) (k .before .before .pre .1))
+
 all-in-range-requires : tie.Need-all-in-range-requires
 all-in-range-requires c κs = search needs
 
@@ -55,7 +67,15 @@ unfolding all rangesFrom groupsFrom classesPast
 returns-3 c = simp (c .before .before .before .before .before .match .keys3, c .both3 .ensures, c .before .both2 .ensures, c .before .before .names-type3 .ensures, c .before .before .before .names-domain2 .ensures, c .before .before .before .before .names-type2 .ensures, and-true)
 
 returns-4 : tie.Need-returns-4
-returns-4 c = search needs
+unfolding all rangesFrom groupsFrom classesPast
+returns-4 c = simp (c .before .before .before .match .keys4, c .both4 .ensures, c .before .names-type5 .ensures, c .before .before .names-type4 .ensures, and-true)
+
+returns-5 : tie.Need-returns-5
+unfolding all rangesFrom groupsFrom classesPast
+returns-5 c = simp (c .before .match .keys5, c .names-domain3 .ensures, and-true)
+
+returns-6 : tie.Need-returns-6
+returns-6 c = search needs
 
 pub in-range-spec : {M : Type 1} → statement M
 in-range-spec =
@@ -69,8 +89,14 @@ in-range-spec =
     names-type-requires-3
     both-requires-2
     both-requires-3
+    names-type-requires-4
+    names-type-requires-5
+    both-requires-4
+    names-domain-requires-3
     all-in-range-requires
     returns
     returns-2
     returns-3
-    returns-4)
+    returns-4
+    returns-5
+    returns-6)

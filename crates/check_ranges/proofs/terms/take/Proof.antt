@@ -4,7 +4,7 @@ use mathlib.Core.Path.{sym, _∙_}
 use mathlib.Core.Logic.{⊎-elim}
 use Rattle.check_records.specs.Codes.{classNumbers}
 use Rattle.check_ranges.proofs.Numbers.{first-held}
-use Rattle.check_ranges.proofs.Frequent.{taken, unit-has, var-has, number-has, one-has, two-has, three-has, arith-has, pointcut-range}
+use Rattle.check_ranges.proofs.Frequent.{taken, unit-has, var-has, number-has, one-has, two-has, three-has, arith-has, lower-has, pointcut-range}
 use borrow.Author.Needs.{needs}
 use Rattle.check_ranges.proofs.terms.take.Statement.{statement}
 use Rattle.check_ranges.proofs.terms.take.Tie as tie
@@ -39,12 +39,18 @@ take-operation-requires c κs =
     let p = k .before .before .before .pre in
     (omega (arith, first-held _ _ _ (k .match .keys5) (p .1)), p .4, p .5)
 
+take-lowered-requires : tie.Need-take-lowered-requires
+take-lowered-requires c κs =
+    let k = c .before in
+    let p = k .before .before .before .pre in
+    (omega (arith, first-held _ _ _ (k .match .keys6) (p .1)), p .4, p .5)
+
 take-group-requires : tie.Need-take-group-requires
 unfolding classNumbers
 take-group-requires c κs =
     let k = c .before in
     let p = k .before .before .before .pre in
-    (omega (arith, first-held _ _ _ (k .match .keys6) (p .1)), p .2, λ h. p .3 (sym (pointcut-range _ _ _ (k .match .keys6)) ∙ h), p .4, p .5)
+    (omega (arith, first-held _ _ _ (k .match .keys7) (p .1)), p .2, λ h. p .3 (sym (pointcut-range _ _ _ (k .match .keys7)) ∙ h), p .4, p .5)
 
 take-any-requires : tie.Need-take-any-requires
 take-any-requires c κs = search needs
@@ -92,15 +98,22 @@ same-length-6 c = search needs
 
 returns-6 : tie.Need-returns-6
 unfolding classNumbers
-returns-6 c =
-    let q = c .before .before in
-    (q .take-group .ensures .0 ∙ pointcut-range _ _ _ (q .before .before .match .keys6), q .take-group .ensures .1)
+returns-6 c = let q = c .before .before in taken (lower-has _ _ _ (q .before .before .match .keys6)) _ _ _ (q .take-lowered .ensures)
 
 same-length-7 : tie.Need-same-length-7
 same-length-7 c = search needs
 
 returns-7 : tie.Need-returns-7
-returns-7 c = search needs
+unfolding classNumbers
+returns-7 c =
+    let q = c .before .before in
+    (q .take-group .ensures .0 ∙ pointcut-range _ _ _ (q .before .before .match .keys7), q .take-group .ensures .1)
+
+same-length-8 : tie.Need-same-length-8
+same-length-8 c = search needs
+
+returns-8 : tie.Need-returns-8
+returns-8 c = search needs
 
 pub take-spec : {M : Type 1} → statement M
 take-spec =
@@ -111,6 +124,7 @@ take-spec =
     take-two-requires
     take-three-requires
     take-operation-requires
+    take-lowered-requires
     take-group-requires
     take-any-requires
     same-length
@@ -126,4 +140,6 @@ take-spec =
     same-length-6
     returns-6
     same-length-7
-    returns-7)
+    returns-7
+    same-length-8
+    returns-8)

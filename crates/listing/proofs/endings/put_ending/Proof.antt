@@ -1,4 +1,5 @@
 -- No outcome, or one.
+use mathlib.Core.Path.{_∙_}
 use Rattle.listing.proofs.Puts.{as-text, puts-nothing, then}
 use Rattle.listing.proofs.Said.{no-ending, ending-said}
 use borrow.Author.Needs.{needs}
@@ -21,7 +22,10 @@ returns : tie.Need-returns
 returns c = as-text (no-ending (c .before .before .before .before .args .steps) _ (c .enum-told .given .1)) (puts-nothing _ _)
 
 same-length : tie.Need-same-length
-same-length c = search needs
+same-length c =
+    let at-put-result = c .before .before in
+    let at-put-outcome = at-put-result .before .before .before .before in
+    at-put-result .put-result .kept .0 ∙ at-put-outcome .put-outcome .kept .0
 
 returns-2 : tie.Need-returns-2
 returns-2 c =

@@ -12,7 +12,7 @@ put-value-requires : tie.Need-put-value-requires
 put-value-requires c κs = search needs
 
 same-length : tie.Need-same-length
-same-length c = search needs
+same-length c = c .before .before .put-value .kept .0
 
 returns : tie.Need-returns
 returns c =

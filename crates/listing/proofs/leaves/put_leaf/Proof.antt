@@ -31,7 +31,7 @@ put-number-requires : tie.Need-put-number-requires
 put-number-requires c κs = search needs
 
 same-length : tie.Need-same-length
-same-length c = search needs
+same-length c = c .before .before .put .kept .0
 
 returns : tie.Need-returns
 returns c =
@@ -40,7 +40,7 @@ returns c =
     as-text (unit-said (start .args .kind) (now (start .args .fields)) (at-match .match .keys1)) (c .before .before .put .ensures)
 
 same-length-2 : tie.Need-same-length-2
-same-length-2 c = search needs
+same-length-2 c = c .before .before .put-truth .kept .0
 
 returns-2 : tie.Need-returns-2
 returns-2 c =
@@ -50,7 +50,7 @@ returns-2 c =
     as-text (truth-said (start .args .kind) (now (start .args .fields)) _ (at-match .match .keys2) (at-word .word .ensures)) (c .before .before .put-truth .ensures)
 
 same-length-3 : tie.Need-same-length-3
-same-length-3 c = search needs
+same-length-3 c = c .before .before .put-number .kept .0
 
 returns-3 : tie.Need-returns-3
 returns-3 c =

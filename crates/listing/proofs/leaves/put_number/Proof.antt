@@ -1,4 +1,5 @@
 -- The space, then the number.
+use mathlib.Core.Path.{_∙_}
 use Rattle.listing.proofs.Puts.{then}
 use borrow.Author.Needs.{needs}
 use Rattle.listing.proofs.leaves.put_number.Statement.{statement}
@@ -14,7 +15,10 @@ put-signed-requires : tie.Need-put-signed-requires
 put-signed-requires c κs = search needs
 
 same-length : tie.Need-same-length
-same-length c = search needs
+same-length c =
+    let at-put-signed = c .before .before in
+    let at-put = at-put-signed .before .before .before .before in
+    at-put-signed .put-signed .kept .0 ∙ at-put .put .kept .0
 
 returns : tie.Need-returns
 returns c =

@@ -14,7 +14,7 @@ put-requires : tie.Need-put-requires
 put-requires c κs = search needs
 
 same-length : tie.Need-same-length
-same-length c = search needs
+same-length c = c .before .before .put .kept .0
 
 returns : tie.Need-returns
 returns c = as-text (ap (λ b. leafText (Leaf.Truth b)) (sym (c .before .before .before .before .before .if1 .taken))) (c .before .before .put .ensures)
@@ -26,7 +26,7 @@ put-requires-2 : tie.Need-put-requires-2
 put-requires-2 c κs = search needs
 
 same-length-2 : tie.Need-same-length-2
-same-length-2 c = search needs
+same-length-2 c = c .before .before .put2 .kept .0
 
 returns-2 : tie.Need-returns-2
 returns-2 c = as-text (ap (λ b. leafText (Leaf.Truth b)) (sym (c .before .before .before .before .before .if1 .left))) (c .before .before .put2 .ensures)

@@ -22,7 +22,7 @@ put-other-cell-requires : tie.Need-put-other-cell-requires
 put-other-cell-requires c κs = search needs
 
 same-length : tie.Need-same-length
-same-length c = search needs
+same-length c = c .before .before .put-plain-cell .kept .0
 
 returns : tie.Need-returns
 returns c =
@@ -33,7 +33,7 @@ returns c =
     as-text (plain-said (start .args .kind) (now (start .args .fields)) _ _ (at-match .match .keys1) (at-word .word .ensures) (at-behind .behind .ensures)) (c .before .before .put-plain-cell .ensures)
 
 same-length-2 : tie.Need-same-length-2
-same-length-2 c = search needs
+same-length-2 c = c .before .before .put-other-cell .kept .0
 
 returns-2 : tie.Need-returns-2
 returns-2 c =

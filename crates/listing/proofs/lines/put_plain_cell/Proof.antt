@@ -1,4 +1,5 @@
 -- The word, the domain, the leaves, the end of the line.
+use mathlib.Core.Path.{_∙_}
 use Rattle.listing.proofs.Puts.{then}
 use borrow.Author.Needs.{needs}
 use Rattle.listing.proofs.lines.put_plain_cell.Statement.{statement}
@@ -23,7 +24,12 @@ put-requires-2 : tie.Need-put-requires-2
 put-requires-2 c κs = search needs
 
 same-length : tie.Need-same-length
-same-length c = search needs
+same-length c =
+    let at-put2 = c .before .before in
+    let at-put-leaves = at-put2 .before .before .before .before .before in
+    let at-put-decimal = at-put-leaves .before .before .before .before in
+    let at-put = at-put-decimal .before .before .before .before in
+    at-put2 .put2 .kept .0 ∙ at-put-leaves .put-leaves .kept .0 ∙ at-put-decimal .put-decimal .kept .0 ∙ at-put .put .kept .0
 
 returns : tie.Need-returns
 returns c =

@@ -25,7 +25,7 @@ put-printed-requires : tie.Need-put-printed-requires
 put-printed-requires c κs = search needs
 
 same-length : tie.Need-same-length
-same-length c = search needs
+same-length c = c .before .before .put-printed .kept .0
 
 returns-2 : tie.Need-returns-2
 returns-2 c =

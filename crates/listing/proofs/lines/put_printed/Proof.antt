@@ -1,4 +1,5 @@
 -- The word, the domain, a space, the number, the end of the line.
+use mathlib.Core.Path.{_∙_}
 use Rattle.listing.proofs.Puts.{then}
 use borrow.Author.Needs.{needs}
 use Rattle.listing.proofs.lines.put_printed.Statement.{statement}
@@ -29,7 +30,13 @@ put-requires-3 : tie.Need-put-requires-3
 put-requires-3 c κs = search needs
 
 same-length : tie.Need-same-length
-same-length c = search needs
+same-length c =
+    let at-put3 = c .before .before in
+    let at-put-signed = at-put3 .before .before .before .before .before in
+    let at-put2 = at-put-signed .before .before .before .before in
+    let at-put-decimal = at-put2 .before .before .before .before .before in
+    let at-put = at-put-decimal .before .before .before .before in
+    at-put3 .put3 .kept .0 ∙ at-put-signed .put-signed .kept .0 ∙ at-put2 .put2 .kept .0 ∙ at-put-decimal .put-decimal .kept .0 ∙ at-put .put .kept .0
 
 returns : tie.Need-returns
 returns c =

@@ -1,7 +1,7 @@
 -- A number below 2^31 as it is; any other below 0.
 use Rattle.listing.proofs.Puts.{as-text, then}
 use Rattle.listing.proofs.Decimal.{not-negative, negative}
-use mathlib.Core.Path.{sym}
+use mathlib.Core.Path.{sym, _∙_}
 use borrow.Author.Needs.{needs}
 use Rattle.listing.proofs.text.put_signed.Statement.{statement}
 use Rattle.listing.proofs.text.put_signed.Tie as tie
@@ -10,7 +10,7 @@ put-decimal-requires : tie.Need-put-decimal-requires
 put-decimal-requires c κs = search needs
 
 same-length : tie.Need-same-length
-same-length c = search needs
+same-length c = c .before .before .put-decimal .kept .0
 
 returns : tie.Need-returns
 returns c =
@@ -31,7 +31,10 @@ put-decimal-requires-2 : tie.Need-put-decimal-requires-2
 put-decimal-requires-2 c κs = search needs
 
 same-length-2 : tie.Need-same-length-2
-same-length-2 c = search needs
+same-length-2 c =
+    let at-put-decimal2 = c .before .before in
+    let at-put = at-put-decimal2 .before .before .before .before in
+    at-put-decimal2 .put-decimal2 .kept .0 ∙ at-put .put .kept .0
 
 returns-2 : tie.Need-returns-2
 returns-2 c =

@@ -17,7 +17,7 @@ step-under-requires c κs = search needs
 
 -- src/own.rt:47:25
 enum-told : tie.Need-enum-told
-enum-told c = search needs
+enum-told c = c .match .keys1
 
 -- src/own.rt:47:25
 no-needs-requires : tie.Need-no-needs-requires
@@ -25,23 +25,23 @@ no-needs-requires c κs = search needs
 
 -- src/own.rt:48:22
 enum-told-2 : tie.Need-enum-told-2
-enum-told-2 c = search needs
+enum-told-2 c = c .match .keys2
 
 -- src/own.rt:50:13
 enum-told-3 : tie.Need-enum-told-3
-enum-told-3 c = search needs
+enum-told-3 c = c .match .keys3
 
 -- src/own.rt:54:13
 enum-told-4 : tie.Need-enum-told-4
-enum-told-4 c = search needs
+enum-told-4 c = c .match .keys4
 
 -- src/own.rt:58:13
 enum-told-5 : tie.Need-enum-told-5
-enum-told-5 c = search needs
+enum-told-5 c = c .match .keys5
 
 -- src/own.rt:61:22
 enum-told-6 : tie.Need-enum-told-6
-enum-told-6 c = search needs
+enum-told-6 c = c .match .keys6
 
 -- src/own.rt:61:22
 charged-requires : tie.Need-charged-requires
@@ -49,7 +49,7 @@ charged-requires c κs = search needs
 
 -- src/own.rt:62:23
 enum-told-7 : tie.Need-enum-told-7
-enum-told-7 c = search needs
+enum-told-7 c = c .match .keys7
 
 -- src/own.rt:62:23
 charged-requires-2 : tie.Need-charged-requires-2
@@ -57,7 +57,7 @@ charged-requires-2 c κs = search needs
 
 -- src/own.rt:63:25
 enum-told-8 : tie.Need-enum-told-8
-enum-told-8 c = search needs
+enum-told-8 c = c .match .keys8
 
 -- src/own.rt:63:25
 charged-requires-3 : tie.Need-charged-requires-3
@@ -65,7 +65,7 @@ charged-requires-3 c κs = search needs
 
 -- src/own.rt:64:25
 enum-told-9 : tie.Need-enum-told-9
-enum-told-9 c = search needs
+enum-told-9 c = c .match .keys9
 
 -- src/own.rt:64:25
 charged-requires-4 : tie.Need-charged-requires-4
@@ -73,7 +73,7 @@ charged-requires-4 c κs = search needs
 
 -- src/own.rt:65:29
 enum-told-10 : tie.Need-enum-told-10
-enum-told-10 c = search needs
+enum-told-10 c = c .match .keys10
 
 -- src/own.rt:65:29
 charged-requires-5 : tie.Need-charged-requires-5
@@ -81,7 +81,7 @@ charged-requires-5 c κs = search needs
 
 -- src/own.rt:66:23
 enum-told-11 : tie.Need-enum-told-11
-enum-told-11 c = search needs
+enum-told-11 c = c .match .keys11
 
 -- src/own.rt:66:23
 charged-requires-6 : tie.Need-charged-requires-6
@@ -89,7 +89,7 @@ charged-requires-6 c κs = search needs
 
 -- src/own.rt:67:22
 enum-told-12 : tie.Need-enum-told-12
-enum-told-12 c = search needs
+enum-told-12 c = c .match .keys12
 
 -- src/own.rt:67:22
 add-requires : tie.Need-add-requires

@@ -54,7 +54,23 @@ plus-requires-10 c κs = search needs
 -- src/sums.rt:40:1
 returns : tie.Need-returns
 unfolding addNeeds
-returns c = cc
+returns c =
+    let at-advice = c .before .before in
+    let at-cells = at-advice .before .before .before in
+    let at-pieces = at-cells .before .before in
+    λ i. record {
+      steps = at-pieces .before .before .before .plus .ensures i;
+      bindings = at-pieces .before .before .plus2 .ensures i;
+      «other_bindings» = at-pieces .before .plus3 .ensures i;
+      pieces = at-pieces .plus4 .ensures i;
+      «other_pieces» = at-cells .before .plus5 .ensures i;
+      cells = at-cells .plus6 .ensures i;
+      «other_cells» = at-advice .before .before .plus7 .ensures i;
+      labels = at-advice .before .plus8 .ensures i;
+      advice = at-advice .plus9 .ensures i;
+      frames = c .before .larger .ensures i;
+      log = c .plus10 .ensures i;
+    }
 
 pub add-spec : {M : Type 1} → statement M
 add-spec =

@@ -52,7 +52,7 @@ add-result-3 : tie.Need-add-result-3
 add-result-3 c = search needs
 
 same-length : tie.Need-same-length
-same-length c = search needs
+same-length c = c .before .before .put-header .kept .0
 
 returns : tie.Need-returns
 unfolding bytesOf

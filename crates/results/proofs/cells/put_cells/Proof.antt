@@ -37,13 +37,15 @@ loop-less c = search needs
 
 loop-again : tie.Need-loop-again Inv-loop μ-loop
 loop-again c =
-    let at-loop = c .before .before .before .before .before in
+    let at-test = c .before .before .before .before in
+    let at-loop = at-test .before in
     let start = at-loop .before .before .before in
     let a = start .args in
     let l = at-loop .loop in
     let w = c .before .before .put-cell in
-    let s = cells-step (memoryOf (now (a .work))) (now (a .report)) (a .at) (l .i) (l .o) (l .inv .3) (l .inv .4) (w .ensures .0) (w .ensures .1) (omega arith) in
-    (omega arith, omega (arith, s .2), w .kept .0 ∙ l .inv .2, s .0, s .1)
+    let t = at-test .loop-test .taken in
+    let s = cells-step (memoryOf (now (a .work))) (now (a .report)) (a .at) (l .i) (l .o) (l .inv .3) (l .inv .4) (w .ensures .0) (w .ensures .1) (omega (arith, l .inv .1, start .pre .2)) in
+    (omega arith, omega (arith, s .2, l .inv .1), w .kept .0 ∙ l .inv .2, s .0, s .1)
 
 same-length : tie.Need-same-length Inv-loop μ-loop
 same-length c = search needs

@@ -26,7 +26,7 @@ completed-requires : tie.Need-completed-requires
 completed-requires c κs = search needs
 
 same-length : tie.Need-same-length
-same-length c = search needs
+same-length c = c .before .before .completed .kept .0
 
 returns : tie.Need-returns
 returns c =

@@ -24,7 +24,7 @@ next-body-requires : tie.Need-next-body-requires
 next-body-requires c κs = search needs
 
 same-length : tie.Need-same-length
-same-length c = search needs
+same-length c = c .before .before .next-body .kept .0
 
 returns-2 : tie.Need-returns-2
 returns-2 c =
@@ -56,7 +56,7 @@ mark-left-requires c κs =
     (search needs, room-of-mark (record { code = now (a .code); image = [] }) (now (a .work)) (now (a .work)) (a .r) (a .r) (a .f) (at-if1 .if1 .left) _ _ (at-next-binding .next-binding .ensures) (at-end-binding .end-binding .ensures) _ [] (at-if2 .if2 .left) (c .before .slot-pc .ensures) (start .pre .3 [] []), search needs)
 
 same-length-2 : tie.Need-same-length-2
-same-length-2 c = search needs
+same-length-2 c = c .before .before .mark-left .kept .0
 
 returns-3 : tie.Need-returns-3
 returns-3 c =

@@ -34,7 +34,7 @@ sub-q c =
     start .pre .2
 
 same-length : tie.Need-same-length
-same-length c = search needs
+same-length c = c .before .before .before .before .put-advice .kept .0
 
 returns : tie.Need-returns
 returns c =

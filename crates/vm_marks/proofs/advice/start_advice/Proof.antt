@@ -38,7 +38,7 @@ sub-q : tie.Need-sub-q
 sub-q c = search needs
 
 same-length : tie.Need-same-length
-same-length c = search needs
+same-length c = c .before .before .before .before .put-advice .kept .0
 
 returns-2 : tie.Need-returns-2
 returns-2 c =

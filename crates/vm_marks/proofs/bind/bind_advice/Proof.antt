@@ -14,7 +14,7 @@ bind-requires : tie.Need-bind-requires
 bind-requires c κs = search needs
 
 same-length : tie.Need-same-length
-same-length c = search needs
+same-length c = c .before .before .bind .kept .0
 
 returns : tie.Need-returns
 returns c =

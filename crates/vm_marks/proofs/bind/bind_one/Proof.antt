@@ -33,7 +33,7 @@ charge-requires : tie.Need-charge-requires
 charge-requires c κs = search needs
 
 same-length : tie.Need-same-length
-same-length c = search needs
+same-length c = c .before .before .before .before .bind-advice .kept .0
 
 returns : tie.Need-returns
 returns c =

@@ -17,7 +17,7 @@ unheard-requires : tie.Need-unheard-requires
 unheard-requires c κs = (search needs, c .before .before .before .before .before .pre .1 .1 .room)
 
 same-length : tie.Need-same-length
-same-length c = search needs
+same-length c = c .before .before .unheard .kept .0
 
 returns : tie.Need-returns
 returns c =
@@ -45,7 +45,7 @@ halt-requires : tie.Need-halt-requires
 halt-requires c κs = search needs
 
 same-length-2 : tie.Need-same-length-2
-same-length-2 c = search needs
+same-length-2 c = c .before .before .before .before .before .before .bind-matching .kept .0
 
 returns-2 : tie.Need-returns-2
 returns-2 c =
@@ -62,7 +62,7 @@ halt-requires-2 : tie.Need-halt-requires-2
 halt-requires-2 c κs = search needs
 
 same-length-3 : tie.Need-same-length-3
-same-length-3 c = search needs
+same-length-3 c = c .before .before .before .before .before .before .before .bind-matching .kept .0
 
 returns-3 : tie.Need-returns-3
 returns-3 c =
@@ -94,7 +94,10 @@ given-requires c κs =
     (omega (arith, at-bind-matching .bind-matching .kept .0, start .pre .0), omega (arith, start .pre .1 .1 .room), omega (arith, at-if3 .if3 .left))
 
 same-length-4 : tie.Need-same-length-4
-same-length-4 c = search needs
+same-length-4 c =
+    let at-given = c .before .before in
+    let at-bind-matching = at-given .before .before .before .before .before .before .before .before .before .before .before in
+    at-given .given .kept .0 ∙ at-bind-matching .bind-matching .kept .0
 
 returns-4 : tie.Need-returns-4
 returns-4 c =

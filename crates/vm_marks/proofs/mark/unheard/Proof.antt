@@ -17,7 +17,7 @@ given-requires : tie.Need-given-requires
 given-requires c κs = search needs
 
 same-length : tie.Need-same-length
-same-length c = search needs
+same-length c = c .before .before .given .kept .0
 
 returns-2 : tie.Need-returns-2
 returns-2 c =

@@ -1,7 +1,7 @@
 -- What stays is moved together; then the instruction gives unit.
 use Prim.Native.Nat.{_<_}
 use native.Mathlib.Omega.{arith}
-use mathlib.Core.Path.{sym, subst}
+use mathlib.Core.Path.{sym, subst, _∙_}
 use denote.Ref.{now}
 use Rattle.vm_machine.specs.declared.Regs.{Regs}
 use Rattle.vm_machine.specs.Registers.{headroom}
@@ -29,7 +29,10 @@ given-requires c κs =
     (search needs, omega (arith, f .room), omega (arith, l))
 
 same-length : tie.Need-same-length
-same-length c = search needs
+same-length c =
+    let at-given = c .before .before in
+    let at-stay-others = at-given .before .before .before .before .before in
+    at-given .given .kept .0 ∙ at-stay-others .stay-others .kept .0
 
 returns : tie.Need-returns
 returns c =

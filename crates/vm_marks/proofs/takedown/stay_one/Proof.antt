@@ -31,7 +31,7 @@ add-result : tie.Need-add-result
 add-result c = search needs
 
 same-length-2 : tie.Need-same-length-2
-same-length-2 c = search needs
+same-length-2 c = c .before .before .put-installed .kept .0
 
 returns-2 : tie.Need-returns-2
 returns-2 c =

@@ -23,7 +23,7 @@ bind-inside-requires c κs =
     (search needs, entry-room (record { code = []; image = now (a .image) }) (a .w) (a .i) _ (at-entry-at .entry-at .ensures []) (a .b .count) (at-if1 .if1 .left) (s .pre .3 []), s .pre .2)
 
 same-length : tie.Need-same-length
-same-length c = search needs
+same-length c = c .before .before .bind-inside .kept .0
 
 returns-2 : tie.Need-returns-2
 returns-2 c =

@@ -12,7 +12,7 @@ bind-inside-requires : tie.Need-bind-inside-requires
 bind-inside-requires c κs = let s = c .before .before .before .before .before in let a = s .args in (search needs, rest-room (record { code = []; image = now (a .image) }) (a .w) _ (c .before .before .binds-rest .ensures []) (a .b .count) (c .before .if1 .taken) (s .pre .2 []), s .pre .1)
 
 same-length : tie.Need-same-length
-same-length c = search needs
+same-length c = c .before .before .bind-inside .kept .0
 
 returns : tie.Need-returns
 returns c =

@@ -1,3 +1,4 @@
+use mathlib.Core.Path.{_∙_}
 use denote.Ref.{now}
 use native.Mathlib.Omega.{arith}
 use Prim.Native.Nat.{ℕ, _+_, _≤_}
@@ -92,7 +93,10 @@ charge-bindings-requires c κs =
     omega (arith, whole-room bindingLimit (at-variables .variables .result) (λ p. p .bindings) bindingsOut (a .w) (a .r) _ _ (at-half-of .half-of .ensures) (at-has-room .has-room .ensures) (s .pre .0 .bindings) (not-false (at-has-room .has-room .result) (at-if1 .if1 .left)))
 
 same-length : tie.Need-same-length
-same-length c = search needs
+same-length c =
+    let at-called = c .before .before .before .before in
+    let at-bind-entries = at-called .before .before .before .before .before .before in
+    at-called .called .kept .1 .0 ∙ at-bind-entries .bind-entries .kept .1 .0
 
 returns-3 : tie.Need-returns-3
 returns-3 c =

@@ -23,7 +23,7 @@ reduce-match-requires : tie.Need-reduce-match-requires
 reduce-match-requires c κs = search needs
 
 same-length : tie.Need-same-length
-same-length c = search needs
+same-length c = c .before .before .reduce-match .kept .1 .1 .0
 
 returns-2 : tie.Need-returns-2
 returns-2 c =

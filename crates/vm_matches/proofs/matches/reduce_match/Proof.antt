@@ -12,7 +12,7 @@ first-branch-requires : tie.Need-first-branch-requires
 first-branch-requires c κs = search needs
 
 same-length : tie.Need-same-length
-same-length c = search needs
+same-length c = c .before .before .first-branch .kept .1 .1 .0
 
 returns : tie.Need-returns
 returns c =
@@ -26,7 +26,7 @@ other-branch-requires : tie.Need-other-branch-requires
 other-branch-requires c κs = search needs
 
 same-length-2 : tie.Need-same-length-2
-same-length-2 c = search needs
+same-length-2 c = c .before .before .other-branch .kept .1 .1 .0
 
 returns-2 : tie.Need-returns-2
 returns-2 c =

@@ -35,7 +35,7 @@ entries-from-requires : tie.Need-entries-from-requires
 entries-from-requires c κs = search needs
 
 same-length : tie.Need-same-length
-same-length c = search needs
+same-length c = c .before .before .entries-from .kept .1 .1 .0
 
 returns : tie.Need-returns
 returns c =
@@ -53,7 +53,7 @@ begin-operand-requires : tie.Need-begin-operand-requires
 begin-operand-requires c κs = search needs
 
 same-length-2 : tie.Need-same-length-2
-same-length-2 c = search needs
+same-length-2 c = c .before .before .begin-operand .kept .1 .0
 
 returns-2 : tie.Need-returns-2
 returns-2 c =

@@ -49,7 +49,7 @@ entry-from-requires c κs =
     (omega (arith, start .pre .0 .coded), start .pre .2)
 
 same-length : tie.Need-same-length
-same-length c = search needs
+same-length c = c .before .before .before .before .put-match .kept .0
 
 returns-2 : tie.Need-returns-2
 returns-2 c =

@@ -44,7 +44,7 @@ entries-from-requires c κs =
     still-matchable (now (a .code)) (now (a .work)) (a .r) (at-same .same .result) (a .f) _ _ _ (s .pre .0) (s .pre .1) (at-slot-pc .slot-pc .ensures) (at-same .same .ensures) (at-depth-of .depth-of .ensures)
 
 same-length : tie.Need-same-length
-same-length c = search needs
+same-length c = c .before .before .entries-from .kept .1 .1 .0
 
 returns : tie.Need-returns
 returns c =

@@ -14,7 +14,7 @@ put-word-requires : tie.Need-put-word-requires
 put-word-requires c κs = search needs
 
 same-length : tie.Need-same-length
-same-length c = search needs
+same-length c = c .before .before .put-word .kept .0
 
 returns : tie.Need-returns
 returns c = put-as _ _ _ _ _ _ refl (c .before .before .before .above .ensures) (c .before .before .put-word .ensures)

@@ -13,7 +13,7 @@ put-cell-requires : tie.Need-put-cell-requires
 put-cell-requires c κs = search needs
 
 same-length : tie.Need-same-length
-same-length c = search needs
+same-length c = c .before .before .put-cell .kept .0
 
 returns : tie.Need-returns
 returns c = cell-stored _ _ _ _ _ _ (c .before .before .before .before .before .cell-at .ensures) (c .before .before .before .before .cell-note .ensures) (c .before .before .put-cell .ensures)

@@ -1,3 +1,4 @@
+use mathlib.Core.Path.{_∙_}
 use Rattle.vm_tables.proofs.Stored.{and-word}
 use borrow.Author.Needs.{needs}
 use Rattle.vm_tables.proofs.pieces.put_piece.Statement.{statement}
@@ -25,7 +26,10 @@ put-word-requires-2 : tie.Need-put-word-requires-2
 put-word-requires-2 c κs = search needs
 
 same-length : tie.Need-same-length
-same-length c = search needs
+same-length c =
+    let at-put-word2 = c .before .before in
+    let at-put-word = at-put-word2 .before .before .before .before in
+    at-put-word2 .put-word2 .kept .0 ∙ at-put-word .put-word .kept .0
 
 returns : tie.Need-returns
 returns c =

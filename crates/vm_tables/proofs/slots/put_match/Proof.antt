@@ -1,3 +1,4 @@
+use mathlib.Core.Path.{_∙_}
 use Rattle.vm_tables.proofs.Stored.{match-stored}
 use borrow.Author.Needs.{needs}
 use Rattle.vm_tables.proofs.slots.put_match.Statement.{statement}
@@ -13,7 +14,10 @@ put-beside-requires : tie.Need-put-beside-requires
 put-beside-requires c κs = search needs
 
 same-length : tie.Need-same-length
-same-length c = search needs
+same-length c =
+    let at-put-beside = c .before .before in
+    let at-put-slot = at-put-beside .before .before .before .before in
+    at-put-beside .put-beside .kept .0 ∙ at-put-slot .put-slot .kept .0
 
 returns : tie.Need-returns
 returns c =

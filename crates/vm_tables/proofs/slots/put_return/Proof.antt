@@ -16,7 +16,7 @@ put-slot-requires : tie.Need-put-slot-requires
 put-slot-requires c κs = search needs
 
 same-length : tie.Need-same-length
-same-length c = search needs
+same-length c = c .before .before .put-slot .kept .0
 
 returns : tie.Need-returns
 returns c =

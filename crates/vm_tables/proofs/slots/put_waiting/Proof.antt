@@ -11,7 +11,7 @@ put-slot-requires : tie.Need-put-slot-requires
 put-slot-requires c κs = search needs
 
 same-length : tie.Need-same-length
-same-length c = search needs
+same-length c = c .before .before .put-slot .kept .0
 
 returns : tie.Need-returns
 returns c = put-as _ _ _ _ _ _ refl (c .before .before .before .above .ensures) (c .before .before .put-slot .ensures)

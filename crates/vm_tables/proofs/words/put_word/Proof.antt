@@ -7,7 +7,7 @@ store-requires : tie.Need-store-requires
 store-requires c κs = search needs
 
 same-length : tie.Need-same-length
-same-length c = search needs
+same-length c = c .before .before .store .kept .0
 
 returns : tie.Need-returns
 returns c = store-word _ _ _ _ (c .before .before .before .before .before .pre .0) (c .before .before .before .before .before .pre .1) (search needs) (c .before .before .store .ensures)

@@ -1,3 +1,6 @@
+use mathlib.Core.Path.{ap, _∙_}
+use Rattle.calculus.specs.Numbers.{isLess}
+use Rattle.vm_code.specs.Values.{truthValue}
 use borrow.Author.Needs.{needs}
 use Rattle.vm_words.proofs.value.is_less.Statement.{statement}
 use Rattle.vm_words.proofs.value.is_less.Tie as tie
@@ -15,7 +18,7 @@ truth-requires : tie.Need-truth-requires
 truth-requires c κs = search needs
 
 returns : tie.Need-returns
-returns c = cc
+returns c = c .truth .ensures ∙ ap truthValue (c .before .less .ensures ∙ λ i. isLess (c .before .before .before .body .ensures i) (c .before .before .body2 .ensures i))
 
 pub is-less-spec : {M : Type 1} → statement M
 is-less-spec =

@@ -1,3 +1,5 @@
+use mathlib.Core.Path.{_∙_}
+use mathlib.Core.Bool.{not, _&&_}
 use borrow.Author.Needs.{needs}
 use Rattle.write_stripped.proofs.sets.is_lacking.Statement.{statement}
 use Rattle.write_stripped.proofs.sets.is_lacking.Tie as tie
@@ -21,7 +23,7 @@ both-requires c κs = search needs
 
 -- src/sets.rt:18:1
 returns : tie.Need-returns
-returns c = cc (c .both .ensures, c .before .in-mask .ensures, c .before .before .leq .ensures)
+returns c = c .both .ensures ∙ λ i. c .before .before .leq .ensures i && not (c .before .in-mask .ensures i)
 
 pub is-lacking-spec : {M : Type 1} → statement M
 is-lacking-spec = tie.close (tie.spec leq-requires in-mask-requires both-requires returns)

@@ -1,3 +1,5 @@
+use mathlib.Core.Path.{_∙_}
+use mathlib.Core.Bool.{not, _||_}
 use borrow.Author.Needs.{needs}
 use Rattle.write_stripped.proofs.sets.is_wrong.Statement.{statement}
 use Rattle.write_stripped.proofs.sets.is_wrong.Tie as tie
@@ -21,7 +23,7 @@ either-requires c κs = search needs
 
 -- src/sets.rt:58:1
 returns : tie.Need-returns
-returns c = cc (c .either .ensures, c .before .has-wrong-member .ensures, c .before .before .in-mask .ensures)
+returns c = c .either .ensures ∙ λ i. not (c .before .before .in-mask .ensures i) || c .before .has-wrong-member .ensures i
 
 pub is-wrong-spec : {M : Type 1} → statement M
 is-wrong-spec =

@@ -1,3 +1,6 @@
+use mathlib.Core.Path.{ap, _∙_}
+use mathlib.Core.Bool.{_&&_, _||_}
+use lib.Dec.{leb}
 use borrow.Author.Needs.{needs}
 use Rattle.write_stripped.proofs.sets.is_wrong_member.Statement.{statement}
 use Rattle.write_stripped.proofs.sets.is_wrong_member.Tie as tie
@@ -26,7 +29,10 @@ both-requires c κs = search needs
 
 -- src/sets.rt:38:1
 returns : tie.Need-returns
-returns c = cc (c .both .ensures, c .before .either .ensures, c .before .before .lacks-above .ensures, c .before .before .before .in-mask .ensures)
+returns c =
+    let at-mask = c .before .before .before in
+    let a = at-mask .before .args in
+    c .both .ensures ∙ λ i. at-mask .in-mask .ensures i && (c .before .either .ensures ∙ ap (λ f. leb (a .count) (a .d) || f) (c .before .before .lacks-above .ensures)) i
 
 pub is-wrong-member-spec : {M : Type 1} → statement M
 is-wrong-member-spec =

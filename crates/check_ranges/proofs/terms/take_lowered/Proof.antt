@@ -1,0 +1,82 @@
+-- `check_ranges::terms::take_lowered` meets its contract: a child that passes is there.
+use native.Mathlib.Omega.{arith}
+use mathlib.Core.Path.{refl, _∙_}
+use Rattle.check_ranges.proofs.Taken.{both-told, child-told}
+use borrow.Author.Needs.{needs}
+use Rattle.check_ranges.proofs.terms.take_lowered.Statement.{statement}
+use Rattle.check_ranges.proofs.terms.take_lowered.Tie as tie
+
+names-type-requires : tie.Need-names-type-requires
+names-type-requires c κs = search needs
+
+names-domain-requires : tie.Need-names-domain-requires
+names-domain-requires c κs = search needs
+
+names-term-requires : tie.Need-names-term-requires
+names-term-requires c κs = search needs
+
+both-requires : tie.Need-both-requires
+both-requires c κs = search needs
+
+both-requires-2 : tie.Need-both-requires-2
+both-requires-2 c κs = search needs
+
+next-term-requires : tie.Need-next-term-requires
+next-term-requires c κs = search needs
+
+term-field-requires : tie.Need-term-field-requires
+term-field-requires c κs = search needs
+
+enter-one-requires : tie.Need-enter-one-requires
+enter-one-requires c κs =
+    let n = c .before in
+    let t = n .before .before in
+    let o = t .before in
+    let p0 = o .before in
+    let p1 = p0 .before in
+    let p2 = p1 .before in
+    let p3 = p2 .before in
+    let s = p3 .before .before .before in
+    let y1 = both-told (p3 .names-type .result) (p0 .both .result) (o .both2 .ensures) (t .if1 .taken) in
+    let y0 = both-told (p2 .names-domain .result) (p1 .names-term .result) (p0 .both .ensures) (y1 .1) in
+    (omega (arith, n .next-term .ensures), child-told (p1 .names-term .ensures) (y0 .1) (c .term-field .ensures) (s .pre .2))
+
+same-length : tie.Need-same-length
+same-length c = search needs
+
+returns : tie.Need-returns
+returns c =
+    let q = c .before .before in
+    let n = q .before .before in
+    let t = n .before .before in
+    let o = t .before in
+    let p0 = o .before in
+    let p1 = p0 .before in
+    let p2 = p1 .before in
+    let p3 = p2 .before in
+    (rw (o .both2 .ensures, p0 .both .ensures, p1 .names-term .ensures, p2 .names-domain .ensures, p3 .names-type .ensures) refl, rw (t .if1 .taken) (q .enter-one .ensures ∙ rw (n .next-term .ensures, q .before .term-field .ensures) refl))
+
+returns-2 : tie.Need-returns-2
+returns-2 c =
+    let o = c .before in
+    let p0 = o .before in
+    let p1 = p0 .before in
+    let p2 = p1 .before in
+    let p3 = p2 .before in
+    (rw (o .both2 .ensures, p0 .both .ensures, p1 .names-term .ensures, p2 .names-domain .ensures, p3 .names-type .ensures) refl, rw (c .if1 .left) refl)
+
+pub take-lowered-spec : {M : Type 1} → statement M
+take-lowered-spec =
+    tie.close
+    (tie.spec
+    names-type-requires
+    names-domain-requires
+    names-term-requires
+    both-requires
+    both-requires-2
+    next-term-requires
+    term-field-requires
+    enter-one-requires
+    same-length
+    returns
+    returns-2)
