@@ -1,17 +1,17 @@
 #!/usr/bin/env python3
 """The order of crates.txt in which the gate waits least.
 
-The gate proves the crates layer by layer, as many at a time as there are processors, and waits for all of these before it
-goes on. So within a layer the longest to prove comes first. Standard input is what the gate printed, with the seconds of
-each crate; a crate that it does not tell of counts as short. Prints the lines of crates.txt in that order, or with --cost
-only how many seconds two processors take for the crates in the order that they have.
+The gate proves the crates layer by layer, four at a time (RT_JOBS in .ci/run), and waits for all of these before it goes
+on. So within a layer the longest to prove comes first. Standard input is what the gate printed, with the seconds of each
+crate; a crate that it does not tell of counts as short. Prints the lines of crates.txt in that order, or with --cost only
+how many seconds the gate takes for the crates in the order that they have.
 """
 import re
 import sys
 from pathlib import Path
 
 ROOT = Path(__file__).resolve().parents[1]
-PROCESSORS = 2
+TOGETHER = 4
 
 
 def crates(text):
@@ -43,11 +43,11 @@ def ordered(below, took):
     return sorted(below, key=lambda name: (layer[name], -took.get(name, 0), name))
 
 
-def cost(names, layer, took):
+def cost(names, layer, took, together=TOGETHER):
     total = 0
     for height in range(max(layer.values()) + 1):
         here = [took.get(name, 0) for name in names if layer[name] == height]
-        total += sum(max(here[i:i + PROCESSORS]) for i in range(0, len(here), PROCESSORS))
+        total += sum(max(here[i:i + together]) for i in range(0, len(here), together))
     return total
 
 

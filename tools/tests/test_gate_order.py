@@ -13,8 +13,8 @@ class Order(unittest.TestCase):
         took = gate_order.seconds(LOG)
         self.assertEqual(gate_order.ordered(BELOW, took), ["base", "long", "other", "short", "top"])
         layer = gate_order.layers(BELOW)
-        self.assertEqual(gate_order.cost(list(BELOW), layer, took), 2 + 30 + 20 + 1)
-        self.assertEqual(gate_order.cost(gate_order.ordered(BELOW, took), layer, took), 2 + 30 + 3 + 1)
+        self.assertEqual(gate_order.cost(list(BELOW), layer, took, 2), 2 + 30 + 20 + 1)
+        self.assertEqual(gate_order.cost(gate_order.ordered(BELOW, took), layer, took, 2), 2 + 30 + 3 + 1)
 
     def test_the_file_is_in_layers(self):
         below = gate_order.crates((common.ROOT / "crates.txt").read_text())
