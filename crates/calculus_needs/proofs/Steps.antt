@@ -19,8 +19,9 @@ use Rattle.calculus_needs.specs.Class.{straight2, straight, allStraight}
 use Rattle.calculus_needs.specs.Needs.{once, uses, variables, binds, aPiece, aCell, aLabel, anAdvice, aPrint, own1, own2, need, needs, roundOf, installs, rounds, allRounds, Extra, noExtra, aNewLabel, keptPieces, extra0, withExtra}
 use Rattle.calculus_needs.specs.Used.{reach, reachFirst}
 use Rattle.calculus.specs.Typing.{Policy, StoreTyping}
+use Rattle.calculus_inversion.proofs.Inversion.{premises}
 use Rattle.calculus_needs.specs.Claims.{Under}
-use Rattle.calculus_needs.proofs.Typed.{Typed, AllTyped, typed-op1, typed-op2, typed-seq, typed-ite, typed-split, typed-pcd, typed-adv, typed-lower, typed-keep, typed-match, typed-more, no-var, keep-label}
+use Rattle.calculus_needs.proofs.Typed.{Typed, AllTyped, typed-more, keep-label}
 use Rattle.calculus_needs.proofs.Sums.{under-refl, under-trans, under-left, none-left, none-right, plus-assoc}
 use Rattle.calculus_needs.proofs.Admitted.{both, first, second, Admitted, AllAdmitted, Over, Permits1}
 use Rattle.calculus_needs.proofs.Takes.{standing, AdmittedAdvice, Takes, Takes.takes-wrong, takes-within, takes-as, takes-cases, takes-framed}
@@ -118,7 +119,7 @@ module _ (D : Policy) (Σ : StoreTyping) (G : Given) (W : Here → Numbers) (s :
       (takes-framed G W s P (once-own1 (here P) o) (takes1 G W s A P (Keeps (op1 o t e)) (λ e′ x. absurd x) o t v (permits-kept o e (val v) (c .0) (i .kept)))))
       (λ eq. takes-within G W s (own1 (here P) o) (λ Q. installs o Q e) (op1 o t) (λ t′. t′)
       (λ e′ k. record { needs = refl; rounds′ = λ Q. rw (installs-kept o e e′ (c .0) k Q) refl; straight′ = λ t′ x. x; admitted′ = λ c′. (permits-kept o e e′ (c .0) k, c′); holds = λ x. absurd x })
-      (h (typed-op1 D Σ (y .2)) (c .1) (deeper P)))
+      (h (_, _, premises (y .2) .3) (c .1) (deeper P)))
 
   steps-op2 : (o : Op2) (t : Ty) (e f : Tm) → Steps e → Steps f → Steps (op2 o t e f)
   unfolding step need rounds straight reach Admitted Over
@@ -140,7 +141,7 @@ module _ (D : Policy) (Σ : StoreTyping) (G : Given) (W : Here → Numbers) (s :
         admitted′ = λ c′. (c .0, tt, c′);
         holds = λ q. absurd q;
       })
-      (k (typed-op2 D Σ (y .2) .1) (c .2) (deeper P))))))
+      (k (_, _, premises (y .2) .5) (c .2) (deeper P))))))
       (λ eq. takes-within G W s (need W (here (deeper P)) f ⊕ own2 W (here P) o) (λ Q. rounds Q f) (λ x. op2 o t x f) (λ x. first (straight e) (straight f) (second (straight2 o) (straight e && straight f) x))
       (λ e′ x. record {
         needs = refl;
@@ -149,7 +150,7 @@ module _ (D : Policy) (Σ : StoreTyping) (G : Given) (W : Here → Numbers) (s :
         admitted′ = λ c′. (c .0, c′, c .2);
         holds = λ q. absurd q;
       })
-      (h (typed-op2 D Σ (y .2) .0) (c .1) (deeper P)))
+      (h (_, _, premises (y .2) .4) (c .1) (deeper P)))
 
   steps-seq : (e f : Tm) → Steps e → Steps (seq e f)
   unfolding step need rounds straight reach Admitted Over
@@ -160,7 +161,7 @@ module _ (D : Policy) (Σ : StoreTyping) (G : Given) (W : Here → Numbers) (s :
       (takes-framed G W s P (under-left (once (here P)) (need W (here P) f)) (takes-seq G W s A P (Keeps (seq e f)) (λ e′ x. absurd x) f v (c .1))))
       (λ eq. takes-within G W s (once (here P) ⊕ need W (here P) f) (λ Q. rounds Q f) (λ x. seq x f) (λ x. first (straight e) (straight f) x)
       (λ e′ x. record { needs = refl; rounds′ = λ Q. refl; straight′ = λ q z. both (straight e′) (straight f) z (second (straight e) (straight f) q); admitted′ = λ c′. (c′, c .1); holds = λ q. absurd q })
-      (h (typed-seq D Σ (y .2)) (c .0) (deeper P)))
+      (h (_, _, premises (y .2) .0) (c .0) (deeper P)))
 
   steps-ite : (e f g : Tm) → Steps e → Steps (ite e f g)
   unfolding step need rounds straight reach Admitted Over
@@ -171,7 +172,7 @@ module _ (D : Policy) (Σ : StoreTyping) (G : Given) (W : Here → Numbers) (s :
       (takes-framed G W s P (under-left (once (here P)) (dearer (need W (here P) f) (need W (here P) g))) (takes-ite G W s A P (Keeps (ite e f g)) (λ e′ x. absurd x) f g v (c .1) (c .2))))
       (λ eq. takes-within G W s (once (here P) ⊕ dearer (need W (here P) f) (need W (here P) g)) (λ Q. rounds Q f ⊕ rounds Q g) (λ x. ite x f g) (λ x. absurd x)
       (λ e′ x. record { needs = refl; rounds′ = λ Q. refl; straight′ = λ q z. q; admitted′ = λ c′. (c′, c .1, c .2); holds = λ q. absurd q })
-      (h (typed-ite D Σ (y .2)) (c .0) (deeper P)))
+      (h (_, _, premises (y .2) .0) (c .0) (deeper P)))
 
   steps-split : (e f : Tm) → Steps e → Steps (split e f)
   unfolding step need rounds straight reach Admitted Over
@@ -183,7 +184,7 @@ module _ (D : Policy) (Σ : StoreTyping) (G : Given) (W : Here → Numbers) (s :
       (takes-split G W s A P (Keeps (split e f)) (λ e′ x. absurd x) f v (c .1))))
       (λ eq. takes-within G W s ((once (here P) ⊕ binds (P .dom) 2) ⊕ need W (here P) f) (λ Q. rounds Q f) (λ x. split x f) (λ x. first (straight e) (straight f) x)
       (λ e′ x. record { needs = refl; rounds′ = λ Q. refl; straight′ = λ q z. both (straight e′) (straight f) z (second (straight e) (straight f) q); admitted′ = λ c′. (c′, c .1); holds = λ q. absurd q })
-      (h (typed-split D Σ (y .2)) (c .0) (deeper P)))
+      (h (_, _, premises (y .2) .2) (c .0) (deeper P)))
 
   steps-adv : (p : Dom) (e b : Tm) → Steps e → Steps (adv p e b)
   unfolding step need rounds straight reach Admitted Over
@@ -195,7 +196,7 @@ module _ (D : Policy) (Σ : StoreTyping) (G : Given) (W : Here → Numbers) (s :
       (λ eq. takes-as G W s {b = straight e} refl (λ Q. none-right (rounds Q e)) (λ x. x)
       (takes-within G W s (once (here P) ⊕ aPiece (P .dom)) (λ Q. nothing) (λ x. adv p x b) (λ x. x)
       (λ e′ x. record { needs = refl; rounds′ = λ Q. sym (none-right (rounds Q e′)); straight′ = λ q z. z; admitted′ = λ c′. (c′, c .1); holds = λ q. (tt, λ Q. refl) })
-      (h (typed-adv D Σ (y .2)) (c .0) (deeper P))))
+      (h (_, _, premises (y .2) .3) (c .0) (deeper P))))
 
   steps-lower : (p : Dom) (e : Tm) → Steps e → Steps (lower p e)
   unfolding step need rounds straight reach Admitted Over
@@ -207,7 +208,7 @@ module _ (D : Policy) (Σ : StoreTyping) (G : Given) (W : Here → Numbers) (s :
       (λ eq. takes-as G W s {b = straight e} refl (λ Q. none-right (rounds Q e)) (λ x. x)
       (takes-within G W s (once (here P)) (λ Q. nothing) (lower p) (λ x. x)
       (λ e′ x. record { needs = refl; rounds′ = λ Q. sym (none-right (rounds Q e′)); straight′ = λ q z. z; admitted′ = λ c′. c′; holds = λ q. absurd q })
-      (h (typed-lower D Σ (y .2)) c (at p (deeper P)))))
+      (h (_, _, premises (y .2) .2) c (at p (deeper P)))))
 
   -- Operands, after the values vs, latest first; k makes a term of them, of which rest is left.
   abbrev Firsts : Tms → Type 0
@@ -246,7 +247,7 @@ module _ (D : Policy) (Σ : StoreTyping) (G : Given) (W : Here → Numbers) (s :
   unfolding step need rounds straight reach Admitted Over
   steps-pcd es h y c P =
       takes-as G W s {b = allStraight es && true} refl (λ Q. none-right (allRounds Q es)) (λ x. both (allStraight es) true x tt)
-      (h (typed-pcd D Σ (y .2)) c P [] pcd (once (here P) ⊕ aPiece (P .dom)) (λ Q. nothing) true (under-left (once (here P)) (aPiece (P .dom))) (λ fs. refl) (λ fs Q. sym (none-right (allRounds Q fs))) (λ fs b x. x) (λ fs x. x) (reducePcd P s)
+      (h (_, _, premises (y .2) .4) c P [] pcd (once (here P) ⊕ aPiece (P .dom)) (λ Q. nothing) true (under-left (once (here P)) (aPiece (P .dom))) (λ fs. refl) (λ fs Q. sym (none-right (allRounds Q fs))) (λ fs b x. x) (λ fs x. x) (reducePcd P s)
       (λ ws. takes-pcd G W s A P (Keeps (pcd end)) (λ e x. absurd x) ws))
 
   steps-match : (p : Pattern) (es : Tms) (f g : Tm) → Firsts es → Steps (match p es f g)
@@ -254,7 +255,7 @@ module _ (D : Policy) (Σ : StoreTyping) (G : Given) (W : Here → Numbers) (s :
   steps-match p es f g h y c P =
       let rest = once (here P) ⊕ dearer (binds (P .dom) (variables p) ⊕ need W (here P) f) (need W (here P) g) in
       takes-as G W s {b = allStraight es && false} refl (λ Q. refl) (λ x. absurd x)
-      (h (typed-match D Σ (y .2)) (c .0) P [] (λ x. match p x f g) rest (λ Q. rounds Q f ⊕ rounds Q g) false (under-left (once (here P)) (dearer (binds (P .dom) (variables p) ⊕ need W (here P) f) (need W (here P) g)))
+      (h (_, _, premises (y .2) .2) (c .0) P [] (λ x. match p x f g) rest (λ Q. rounds Q f ⊕ rounds Q g) false (under-left (once (here P)) (dearer (binds (P .dom) (variables p) ⊕ need W (here P) f) (need W (here P) g)))
       (λ fs. refl) (λ fs Q. refl) (λ fs b x. b) (λ fs x. (x, c .1, c .2)) (reduceMatch P s p f g)
       (λ ws. takes-match G W s A P (Keeps (pcd end)) (λ e x. absurd x) p f g (c .1) (c .2) ws))
 
@@ -288,7 +289,7 @@ module _ (D : Policy) (Σ : StoreTyping) (G : Given) (W : Here → Numbers) (s :
         admitted′ = λ c′. (tt, tt, c′);
         holds = λ q. absurd q;
       })
-      (rw same-place at (m (typed-keep D Σ (y .2) .2) (c .2) (keeping v w (deeper P))))))))
+      (rw same-place at (m (_, _, premises (y .2) .3) (c .2) (keeping v w (deeper P))))))))
       (λ eq′. takes-within G W s (need W K g ⊕ once (here P)) (λ Q. rounds Q g) (λ x. keep (val v) x g) (λ x. first (straight f) (straight g) x)
       (λ f′ x. record {
         needs = none-left (need W H f′ ⊕ (need W K g ⊕ once (here P)));
@@ -297,7 +298,7 @@ module _ (D : Policy) (Σ : StoreTyping) (G : Given) (W : Here → Numbers) (s :
         admitted′ = λ c′. (tt, c′, c .2);
         holds = λ q. absurd q;
       })
-      (k (typed-keep D Σ (y .2) .1) (c .1) (deeper P)))))
+      (k (_, _, premises (y .2) .2) (c .1) (deeper P)))))
       (λ eq. takes-within G W s (need W H f ⊕ (need W K g ⊕ once (here P))) (λ Q. rounds Q f ⊕ rounds Q g) (λ x. keep x f g) (λ x. first (straight e) (straight f && straight g) x)
       (λ e′ x. record {
         needs = refl;
@@ -306,7 +307,7 @@ module _ (D : Policy) (Σ : StoreTyping) (G : Given) (W : Here → Numbers) (s :
         admitted′ = λ c′. (c′, c .1, c .2);
         holds = λ q. absurd q;
       })
-      (h (typed-keep D Σ (y .2) .0) (c .0) (deeper P)))
+      (h (_, _, premises (y .2) .1) (c .0) (deeper P)))
 
   steps-op0 : (o : Op0) (t : Ty) → Steps (op0 o t)
   unfolding step need rounds straight reach Over
@@ -314,7 +315,7 @@ module _ (D : Policy) (Σ : StoreTyping) (G : Given) (W : Here → Numbers) (s :
 
   steps-var : (k : ℕ) → Steps (var k)
   unfolding step need rounds straight reach Over
-  steps-var k y c P = absurd (no-var D Σ (y .2))
+  steps-var k y c P = absurd (none-some (premises (y .2)))
 
   steps-val : (v : Val) → Steps (val v)
   unfolding step

@@ -4,7 +4,7 @@ use native.Mathlib.Omega.{arith}
 use native.Mathlib.Numerals.{add-one}
 use mathlib.Core.Path.{_≡_, refl, ap, subst, sym, _∙_}
 use mathlib.Core.List.{List, [], _∷_, _++_}
-use lib.ListN.{length, getD, drop, length-append, length-set, drop-of-length-le, List·getD-append}
+use lib.ListN.{length, getD, drop, length-append, drop-of-length-le, List·getD-append}
 use lib.Seq.{drop-cons, getD-append-add}
 use Rattle.image.specs.Bytes.{le16}
 use Rattle.image.specs.Records.{Layout}
@@ -13,19 +13,11 @@ use Rattle.image.proofs.Laid.{Below, below-at}
 use Rattle.image.proofs.Words.{words-length, words-at}
 use Rattle.check_records.specs.Codes.{countOf, childrenIn}
 use Rattle.check_records.specs.Heads.{fieldIn, sideOf}
-use Rattle.check_marks.specs.Marks.{Lower, heightIn, used, useAll, highest, entered, marksOf}
+use Rattle.check_marks.specs.Marks.{Lower, firstUse, heightIn, used, useAll, highest, entered, marksOf}
 
 -- What is left of the children is one child and the rest of them, or none.
 module _ (es ms : List ℕ) (j : ℕ) where
-  pub use-next : j < length es → useAll (drop j es) ms ≡ useAll (drop (j + 1) es) (used (getD es j 0) ms)
-  unfolding useAll
-  use-next h = rw (add-one, drop-cons es j 0 h) refl
-
-  pub use-end : length es ≤ j → useAll (drop j es) ms ≡ ms
-  unfolding useAll
-  use-end h = rw (drop-of-length-le es h) refl
-
-  pub high-next : (h : ℕ) → j < length es → highest (drop j es) ms h ≡ highest (drop (j + 1) es) (used (getD es j 0) ms) (max h (heightIn (getD ms (getD es j 0) 0)))
+  pub high-next : (h : ℕ) → j < length es → highest (drop j es) ms h ≡ highest (drop (j + 1) es) (used ms (getD es j 0)) (max h (heightIn (getD ms (getD es j 0) 0)))
   unfolding highest
   high-next h l = rw (add-one, drop-cons es j 0 l) refl
 
@@ -33,20 +25,16 @@ module _ (es ms : List ℕ) (j : ℕ) where
   unfolding highest
   high-end h l = rw (drop-of-length-le es l) refl
 
-pub use-append : (es gs ms : List ℕ) → useAll (es ++ gs) ms ≡ useAll gs (useAll es ms)
-unfolding useAll
-use-append [] gs ms = refl
-use-append (e ∷ es) gs ms = use-append es gs (used e ms)
-
 pub high-append : (es gs ms : List ℕ) (h : ℕ) → highest (es ++ gs) ms h ≡ highest gs (useAll es ms) (highest es ms h)
-unfolding useAll highest
+unfolding highest
 high-append [] gs ms h = refl
-high-append (e ∷ es) gs ms h = high-append es gs (used e ms) (max h (heightIn (getD ms e 0)))
+high-append (e ∷ es) gs ms h = high-append es gs (used ms e) (max h (heightIn (getD ms e 0)))
 
-pub use-length : (es ms : List ℕ) → length (useAll es ms) ≡ length ms
-unfolding useAll
-use-length [] ms = refl
-use-length (e ∷ es) ms = use-length es (used e ms) ∙ length-set ms e _
+-- A mark has the height below what a use adds, so the greatest height is below it too.
+pub high-low : (es ms : List ℕ) (h r : ℕ) → r ≡ highest es ms h → h < firstUse → r < firstUse
+unfolding highest
+high-low [] ms h r q l = rw q l
+high-low (e ∷ es) ms h r q l = high-low es (used ms e) (max h (heightIn (getD ms e 0))) r q (omega arith)
 
 -- The children side by side in the fields fs of a record whose kind has the code x: how many there are, and child j.
 module _ (x : ℕ) (fs : List ℕ) where

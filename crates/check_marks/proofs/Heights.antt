@@ -5,9 +5,7 @@ use mathlib.Core.Path.{_≡_, refl, subst}
 use mathlib.Core.Bool.{Bool, true, false}
 use mathlib.Core.List.{List, [], _∷_}
 use lib.ListN.{length, getD, length-set}
-use lib.Seq.{getD-set-same, getD-set-other}
 use lib.Dec.{eqb, ltb}
-use borrow.Author.Tests.{eqb-false}
 use Rattle.image.specs.Limits.{depthLimit}
 use Rattle.image.specs.Records.{Layout}
 use Rattle.image.specs.Types.{children, rootOf}
@@ -15,6 +13,7 @@ use Rattle.image.proofs.Laid.{Good, below-at}
 use Rattle.laws.proofs.Booleans.{eq-of, lt-of}
 use Rattle.verdict.specs.Shape.{count, uses, usedOnce, depths}
 use Rattle.verdict.specs.Acceptable.{IsChild, Depth, at-root, at-child}
+use Rattle.verdict.proofs.Changes.{change-at}
 use Rattle.verdict.proofs.Uses.{child-counts}
 use Rattle.verdict.proofs.Depths.{depth-of}
 use Rattle.check_marks.specs.Marks.{heightIn, usedMark, used, highest, marksOf}
@@ -28,34 +27,25 @@ used-high m = go (ltb m 128) refl
     go true t = let z : m < 128 = lt-of t in rw t (omega arith)
     go false t = rw t (omega arith)
 
-used-kept : (ms : List ℕ) (x e h : ℕ) → e < length ms → h ≤ heightIn (getD ms e 0) → h ≤ heightIn (getD (used x ms) e 0)
-used-kept ms x e h p l = go (eqb e x) refl
-  where
-    go : (t : Bool) → eqb e x ≡ t → h ≤ heightIn (getD (used x ms) e 0)
-    go true t =
-        let z : e ≡ x = eq-of t in
-        let s : getD (used e ms) e 0 ≡ usedMark (getD ms e 0) = getD-set-same ms e (usedMark (getD ms e 0)) 0 p in
-        let q = used-high (getD ms e 0) in
-        let r : h ≤ heightIn (getD (used e ms) e 0) = rw s (omega arith) in
-        subst (λ y. h ≤ heightIn (getD (used y ms) e 0)) z r
-    go false t = let s : getD (used x ms) e 0 ≡ getD ms e 0 = getD-set-other ms x e (usedMark (getD ms x 0)) 0 (eqb-false e x t) in rw s l
+used-kept : (ms : List ℕ) (x e h : ℕ) → e < length ms → h ≤ heightIn (getD ms e 0) → h ≤ heightIn (getD (used ms x) e 0)
+used-kept ms x e h p l = change-at usedMark (λ _ m. h ≤ heightIn m) (λ _ m q. let z = used-high m in omega arith) (x ∷ []) ms e 0 p l
 
 -- The greatest height is no less than any.
 high-above : (es ms : List ℕ) (h : ℕ) → h ≤ highest es ms h
 unfolding highest
 high-above [] ms h = omega arith
-high-above (e ∷ es) ms h = let z = high-above es (used e ms) (max h (heightIn (getD ms e 0))) in omega arith
+high-above (e ∷ es) ms h = let z = high-above es (used ms e) (max h (heightIn (getD ms e 0))) in omega arith
 
 high-child : (es ms : List ℕ) (e h g : ℕ) → e < length ms → h ≤ heightIn (getD ms e 0) → 0 < count e es → h ≤ highest es ms g
 unfolding highest count
 high-child [] ms e h g p l c = absurd (omega arith)
-high-child (x ∷ es) ms e h g p l c = go (λ k. high-child es (used x ms) e h next (rw length-set p) (used-kept ms x e h p l) k) (eqb e x) refl
+high-child (x ∷ es) ms e h g p l c = go (λ k. high-child es (used ms x) e h next (rw length-set p) (used-kept ms x e h p l) k) (eqb e x) refl
   where
     next : ℕ
     next = max g (heightIn (getD ms x 0))
 
-    go : (0 < count e es → h ≤ highest es (used x ms) next) → (t : Bool) → eqb e x ≡ t → h ≤ highest es (used x ms) next
-    go ih true t = let z : e ≡ x = eq-of t in let q = high-above es (used x ms) next in let r : h ≤ heightIn (getD ms x 0) = subst (λ y. h ≤ heightIn (getD ms y 0)) z l in omega arith
+    go : (0 < count e es → h ≤ highest es (used ms x) next) → (t : Bool) → eqb e x ≡ t → h ≤ highest es (used ms x) next
+    go ih true t = let z : e ≡ x = eq-of t in let q = high-above es (used ms x) next in let r : h ≤ heightIn (getD ms x 0) = subst (λ y. h ≤ heightIn (getD ms y 0)) z l in omega arith
     go ih false t = let k : 0 < 0 + count e es = rw t at c in ih (omega arith)
 
 mark-high : (h u : ℕ) → h ≤ suc depthLimit → h ≤ heightIn (markOf h u)

@@ -1,10 +1,10 @@
 -- A mark says how often a term is used: refusal 11.
-use borrow.Author.Tests.{lt-ltb, le-ltb, lt-leb, le-leb, ne-eqb, eqb-false}
+use borrow.Author.Tests.{lt-ltb, le-ltb, lt-leb, le-leb, ne-eqb}
 use Prim.Native.Nat.{ℕ, zero, suc, _+_, _≤_, _<_}
 use native.Mathlib.Omega.{arith}
-use mathlib.Core.Path.{_≡_, refl, ap, subst, sym, _∙_}
+use mathlib.Core.Path.{_≡_, refl, ap, sym, _∙_}
 use mathlib.Core.Bool.{Bool, true, false}
-use mathlib.Core.List.{List, [], _∷_}
+use mathlib.Core.List.{List}
 use lib.ListN.{length, getD, set, length-set, length-replicate}
 use lib.Seq.{getD-set-same, getD-set-other}
 use lib.Dec.{eqb, ltb}
@@ -12,11 +12,11 @@ use Rattle.image.specs.Limits.{termLimit, depthLimit}
 use Rattle.image.specs.Records.{Layout}
 use Rattle.image.specs.Types.{children}
 use Rattle.image.proofs.Laid.{Good}
-use Rattle.laws.proofs.Booleans.{eq-of, lt-of, ge-of}
+use Rattle.laws.proofs.Booleans.{lt-of, ge-of}
 use Rattle.verdict.specs.Shape.{count, uses}
+use Rattle.verdict.proofs.Changes.{change-length, change-at}
 use Rattle.verdict.proofs.Depth.{below-count}
-use Rattle.check_marks.specs.Marks.{usedMark, isOnce, used, useAll, heightOf, marksOf}
-use Rattle.check_marks.proofs.ChildByChild.{use-length}
+use Rattle.check_marks.specs.Marks.{usedMark, isOnce, useAll, heightOf, marksOf}
 
 -- The mark of a term that has the height h and is used so often.
 abbrev pub markOf : ℕ → ℕ → ℕ
@@ -40,21 +40,7 @@ once-is h (suc (suc u)) l = sym (ne-eqb (suc (suc u)) 1 (λ q. omega arith))
 
 -- One use more of each of es.
 uses-more : (es ms : List ℕ) (e h u : ℕ) → Low h → e < length ms → getD ms e 0 ≡ markOf h u → getD (useAll es ms) e 0 ≡ markOf h (u + count e es)
-unfolding useAll count
-uses-more [] ms e h u l p q = let z : u + 0 ≡ u = omega arith in rw z q
-uses-more (x ∷ es) ms e h u l p q = go (λ w r. uses-more es (used x ms) e h w l (rw length-set p) r) (eqb e x) refl
-  where
-    go : ((w : ℕ) → getD (used x ms) e 0 ≡ markOf h w → getD (useAll es (used x ms)) e 0 ≡ markOf h (w + count e es)) → (t : Bool) → eqb e x ≡ t
-        → getD (useAll es (used x ms)) e 0 ≡ markOf h (u + count e (x ∷ es))
-    go ih true t =
-        let z : e ≡ x = eq-of t in
-        let s : getD (used e ms) e 0 ≡ markOf h (suc u) = getD-set-same ms e (usedMark (getD ms e 0)) 0 p ∙ (ap usedMark q ∙ one-more h u l) in
-        let k : suc u + count e es ≡ u + (1 + count e es) = omega arith in
-        rw t (rw (← k) (ih (suc u) (subst (λ y. getD (used y ms) e 0 ≡ markOf h (suc u)) z s)))
-    go ih false t =
-        let s : getD (used x ms) e 0 ≡ getD ms e 0 = getD-set-other ms x e (usedMark (getD ms x 0)) 0 (eqb-false e x t) in
-        let k : u + (0 + count e es) ≡ u + count e es = omega arith in
-        rw (t, k) (ih u (s ∙ q))
+uses-more es ms e h u l p q = change-at usedMark (λ n m. m ≡ markOf h n) (λ n m w. ap usedMark w ∙ one-more h n l) es ms e u p q
 
 module _ (L : Layout) where
   -- The height of term n.
@@ -64,7 +50,7 @@ module _ (L : Layout) where
   pub marks-length : (m : ℕ) → length (marksOf L m) ≡ termLimit
   unfolding marksOf
   marks-length zero = length-replicate {A = ℕ} termLimit 0
-  marks-length (suc m) = length-set (useAll (children L m) (marksOf L m)) m _ ∙ (use-length (children L m) (marksOf L m) ∙ marks-length m)
+  marks-length (suc m) = length-set (useAll (children L m) (marksOf L m)) m _ ∙ (change-length usedMark (children L m) (marksOf L m) ∙ marks-length m)
 
   module _ (good : Good L) where
     -- A term is no child of a term at or below it.
@@ -100,7 +86,7 @@ module _ (L : Layout) where
             let k : m ≤ e = ge-of t in
             let z : e ≡ m = omega arith in
             let n : uses L m e + count e cs ≡ 0 = no-uses (suc m) e l (omega arith) in
-            let p : m < length ms = let x = use-length cs (marksOf L m) in let y = marks-length m in let f = few in omega arith in
+            let p : m < length ms = let x = change-length usedMark cs (marksOf L m) in let y = marks-length m in let f = few in omega arith in
             rw (n, z) (getD-set-same ms m (height m) 0 p)
 
     -- Refusal 11, and the height of the root, by the marks of all terms.

@@ -2,7 +2,7 @@
 use Prim.Native.Nat.{ℕ, zero, suc, _+_, _%_, _≤_, _<_, min, max}
 use mathlib.Core.Path.{_≡_}
 use mathlib.Core.Bool.{Bool, true, false, _&&_}
-use mathlib.Core.List.{List, [], _∷_}
+use mathlib.Core.List.{List, [], _∷_, foldl}
 use lib.ListN.{length, getD, set, replicate}
 use lib.Dec.{leb, ltb}
 use Rattle.calculus.specs.Combinators.{choose}
@@ -33,17 +33,16 @@ abbrev pub isOnce : ℕ → Bool
 isOnce m = leb firstUse m && ltb m usedAgain
 
 -- The marks with one use more of term e; of each of the terms es, one after another.
-abbrev pub used : ℕ → List ℕ → List ℕ
-used e ms = set ms e (usedMark (getD ms e 0))
+abbrev pub used : List ℕ → ℕ → List ℕ
+used ms e = set ms e (usedMark (getD ms e 0))
 
-unfoldable pub useAll : List ℕ → List ℕ → List ℕ
-useAll [] ms = ms
-useAll (e ∷ es) ms = useAll es (used e ms)
+abbrev pub useAll : List ℕ → List ℕ → List ℕ
+useAll es ms = foldl used ms es
 
 -- The greatest of h and of the heights of the terms es, which are used meanwhile.
 unfoldable pub highest : List ℕ → List ℕ → ℕ → ℕ
 highest [] ms h = h
-highest (e ∷ es) ms h = highest es (used e ms) (max h (heightIn (getD ms e 0)))
+highest (e ∷ es) ms h = highest es (used ms e) (max h (heightIn (getD ms e 0)))
 
 -- The height of a term with the children es; the marks with one term more, n, which has these children.
 abbrev pub heightOf : List ℕ → List ℕ → ℕ

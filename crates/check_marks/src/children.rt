@@ -12,7 +12,7 @@ ghost use Rattle.image.specs.Limits.{depthLimit};
 ghost use Rattle.image.specs.Kinds.{an-entry};
 ghost use Rattle.image.specs.Records.{asChild};
 ghost use Rattle.check_records.specs.Heads.{sideOf, entriesOf, childrenOf, Fitting};
-ghost use Rattle.check_marks.specs.Marks.{Lower, more, usedMark, useAll, highest, entered};
+ghost use Rattle.check_marks.specs.Marks.{Lower, more, firstUse, usedMark, useAll, highest, entered};
 
 // What a use adds to a mark, and the mark of a term that is used again.
 pub const USED: u8 = 128;
@@ -29,28 +29,29 @@ fn used_mark(mark: u8) -> u8
     if mark < USED { mark + USED } else { AGAIN }
 }
 
-fn higher(h: u8, g: u8) -> u8
+fn higher(h: u32, g: u32) -> u32
     ensures { λ r. ⌜ r ≡ max h g ⌝ }
 {
     if h < g { g } else { h }
 }
 
-// One use more of the term e. The greatest height so far is h; the greater of it and the term's.
-fn use_child(marks: &mut [u8], e: TermNo, h: u8) -> u8
+// One use more of the term e. The greatest height so far is h; the greater of it and the term's. It is handed from child to child
+// as a word, since a byte would be widened again for each of them.
+fn use_child(marks: &mut [u8], e: TermNo, h: u32) -> u32
     requires { ⌜ e .0 < length (now marks) ⌝ }
     ensures { λ r. ⌜ (r ≡ highest (e .0 ∷ []) (now (marks .entry)) h) × (now (marks .exit) ≡ useAll (e .0 ∷ []) (now (marks .entry))) ⌝ }
 {
     let mark = mark_of(marks, e);
     set_mark(marks, e, used_mark(mark));
-    higher(h, mark % USED)
+    higher(h, (mark % USED) as u32)
 }
 
 // The height of the term n, whose children have at most the height h.
-fn set_height(marks: &mut [u8], n: TermNo, h: u8)
-    requires { ⌜ n .0 < length (now marks) ⌝ }
+fn set_height(marks: &mut [u8], n: TermNo, h: u32)
+    requires { ⌜ (n .0 < length (now marks)) × (h < firstUse) ⌝ }
     ensures { λ _. ⌜ now (marks .exit) ≡ set (now (marks .entry)) (n .0) (more (suc depthLimit) h) ⌝ }
 {
-    set_mark(marks, n, one_more(TOO_HIGH, h));
+    set_mark(marks, n, one_more(TOO_HIGH, h as u8));
 }
 
 // The term n without children; with the child e; with e and f; with e, f and g.
@@ -89,13 +90,13 @@ pub fn enter_three(marks: &mut [u8], n: TermNo, e: TermNo, f: TermNo, g: TermNo)
 }
 
 // The children side by side in a term's fields.
-fn use_side(fields: &[u8], code: u32, marks: &mut [u8]) -> u8
+fn use_side(fields: &[u8], code: u32, marks: &mut [u8]) -> u32
     requires { ⌜ Fitting code (now fields) × Lower (length (now marks)) (sideOf code (now fields)) ⌝ }
     ensures { λ r. ⌜ (r ≡ highest (sideOf code (now (fields .entry))) (now (marks .entry)) 0) × (now (marks .exit) ≡ useAll (sideOf code (now (fields .entry))) (now (marks .entry))) ⌝ }
 {
     let first = check_records::kinds::field_count(code);
     let count = check_records::kinds::child_count(code, fields.len());
-    let mut h: u8 = 0;
+    let mut h: u32 = 0;
     let mut j: usize = 0;
     while j < count {
         let e = check_records::fields::term_field(fields, first + j);
@@ -106,7 +107,7 @@ fn use_side(fields: &[u8], code: u32, marks: &mut [u8]) -> u8
 }
 
 // The child that an entry names (document 02, card 6); 0 names none.
-fn use_entry(entry: u16, h: u8, marks: &mut [u8]) -> u8
+fn use_entry(entry: u16, h: u32, marks: &mut [u8]) -> u32
     requires { ⌜ Lower (length (now marks)) (asChild an-entry entry) ⌝ }
     ensures { λ r. ⌜ (r ≡ highest (asChild an-entry entry) (now (marks .entry)) h) × (now (marks .exit) ≡ useAll (asChild an-entry entry) (now (marks .entry))) ⌝ }
 {
@@ -117,7 +118,7 @@ fn use_entry(entry: u16, h: u8, marks: &mut [u8]) -> u8
 }
 
 // The entries in a term's fields, of which only a match has any.
-fn use_entries(fields: &[u8], code: u32, below: u8, marks: &mut [u8]) -> u8
+fn use_entries(fields: &[u8], code: u32, below: u32, marks: &mut [u8]) -> u32
     requires { ⌜ Fitting code (now fields) × Lower (length (now marks)) (entriesOf code (now fields)) ⌝ }
     ensures { λ r. ⌜ (r ≡ highest (entriesOf code (now (fields .entry))) (now (marks .entry)) below) × (now (marks .exit) ≡ useAll (entriesOf code (now (fields .entry))) (now (marks .entry))) ⌝ }
 {

@@ -2,12 +2,11 @@
 use borrow.Author.Tests.{leb-true, leb-false, le-leb, lt-leb}
 use Prim.Native.Nat.{ℕ, zero, suc, _+_, _-_, min, _≤_, _<_}
 use native.Mathlib.Omega.{arith}
-use native.Mathlib.Numerals.{add-one}
 use mathlib.Core.Path.{_≡_, refl, ap, subst, sym, _∙_}
 use mathlib.Core.Bool.{Bool, true, false}
 use mathlib.Core.List.{List, [], _∷_, _++_, map}
-use lib.ListN.{length, getD, take, drop, set, replicate, drop-of-length-le, List·getD-map, List·getD-append}
-use lib.Seq.{drop-cons, take-set-lt}
+use lib.ListN.{length, getD, take, set, replicate, List·getD-map, List·getD-append}
+use lib.Seq.{take-set-lt}
 use lib.Dec.{leb}
 use Rattle.image.specs.Limits.{depthLimit}
 use Rattle.image.specs.Records.{Layout}
@@ -19,18 +18,6 @@ use Rattle.check_shape.specs.Depths.{cappedFrom, deepFrom}
 use Rattle.check_shape.specs.Checks.{noTermDeep}
 use Rattle.check_shape.proofs.Answers.{from-same}
 use Rattle.check_shape.proofs.Zeros.{zeros-front}
-
--- One child after another.
-module _ (es ds : List ℕ) (d j : ℕ) where
-  pub set-next : j < length es → setAll (drop j es) d ds ≡ setAll (drop (j + 1) es) d (set ds (getD es j 0) d)
-  set-next h = rw (add-one, drop-cons es j 0 h) refl
-
-  pub set-end : length es ≤ j → setAll (drop j es) d ds ≡ ds
-  set-end h = rw (drop-of-length-le es h) refl
-
-pub set-append : (es gs ds : List ℕ) (d : ℕ) → setAll (es ++ gs) d ds ≡ setAll gs d (setAll es d ds)
-set-append [] gs ds d = refl
-set-append (e ∷ es) gs ds d = set-append es gs (set ds e d) d
 
 -- One term after another, down.
 pub capped-next : (L : Layout) (i : ℕ) (ds es : List ℕ) → 0 < i → children L (i - 1) ≡ es → cappedFrom L i ds ≡ cappedFrom L (i - 1) (setAll es (more (suc depthLimit) (getD ds (i - 1) 0)) ds)

@@ -3,3 +3,4 @@ pub mod Children
 pub mod TermPass
 pub mod ScopeRoom
 pub mod Root
+pub mod Faults

@@ -5,16 +5,36 @@ use check_records::numbers::DomainNo;
 use check_records::numbers::TermNo;
 use verdict::Verdict;
 ghost use mathlib.Core.Path.{_≡_};
-ghost use Prim.Native.Nat.{_<_};
+ghost use Prim.Native.Nat.{_/_, _<_};
 ghost use lib.ListN.{length};
 ghost use Rattle.image.specs.Layout.{recordsOf};
 ghost use Rattle.verdict.specs.Check.{typing};
 ghost use Rattle.verdict.specs.Shape.{Shaped};
 ghost use Rattle.check_records.specs.Tables.{Tables, Counted};
 ghost use Rattle.check_rules.specs.Lent.{Lent, Masks, Terms, Types, TypeOffsets};
+ghost use Rattle.check_typing.specs.Faults.{verdictAt};
 ghost use Rattle.check_typing.specs.Turns.{rootChecked, rootPlain, plainAt};
 
 pub mod pass;
+
+// The verdict that a fault stands for.
+fn verdict_of(image: &[u8], terms: &[u16], fault: u64) -> Verdict
+    requires { ⌜ Terms (now image) (now terms) × (fault / 4 < length (recordsOf (now image) .terms)) ⌝ }
+    ensures { λ r. ⌜ r ≡ verdictAt (recordsOf (now (image .entry))) fault ⌝ }
+{
+    if fault == 0 {
+        return Verdict::Accepted;
+    }
+    let n = TermNo((fault / 4 % 65536) as u16);
+    let at = check_rules::terms::term_place(image, terms, n);
+    if fault % 4 == 1 {
+        return Verdict::Refused(image::Refusal::UnboundVariable, at);
+    }
+    if fault % 4 == 2 {
+        return Verdict::Refused(image::Refusal::TypeRule, at);
+    }
+    Verdict::Refused(image::Refusal::DomainRule, at)
+}
 
 // The root is the last term. It is checked with no variables, at domain 0. No term is deeper than 64 (refusal 12), and a level
 // binds nine variables at most, as a match does with eight entries (document 02, card 6), so a scope of 576 places is enough.
@@ -31,7 +51,7 @@ fn check_root(
 {
     let mut scope = [0u8; 576];
     let root = TermNo((count - 1) as u16);
-    pass::check_term(
+    let fault = pass::check_term(
         image,
         terms,
         descriptors,
@@ -41,7 +61,8 @@ fn check_root(
         &mut scope,
         0,
         types,
-    )
+    );
+    verdict_of(image, terms, fault)
 }
 
 // 16 for a term at an offset, from the leaves of its type.

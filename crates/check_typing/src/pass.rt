@@ -1,5 +1,6 @@
 // 13, 14 and 15 at each term, parent before children, left first (document 01, "Turned back at the gate"). The check recurses
-// over a term's children, and the term number falls.
+// over a term's children, and the term number falls. The answer on a term and those below it is a fault, one number that travels
+// in a register: 0 where all pass, else the term whose rule refuses, and by which of the three.
 use check_dispatch::rule::check_rule;
 use check_records::numbers::DomainNo;
 use check_records::numbers::TermNo;
@@ -14,18 +15,30 @@ use check_rules::terms::term_kind;
 use check_scopes::scope::Setting;
 use check_scopes::scope::child_setting;
 use check_scopes::scope::moves_child;
+use image_refusals::refusal_number;
 use verdict::Verdict;
 use verdict::is_refused;
 ghost use mathlib.Core.Path.{_≡_};
 ghost use mathlib.Core.List.{List};
-ghost use Prim.Native.Nat.{ℕ};
+ghost use Prim.Native.Nat.{ℕ, _+_, _*_, _≤_};
 ghost use lib.ListN.{length, take};
 ghost use Rattle.image.specs.Layout.{recordsOf};
 ghost use Rattle.verdict.specs.Check.{checked};
 ghost use Rattle.verdict.specs.declared.Verdict.{Verdict};
 ghost use Rattle.check_rules.specs.Judged.{ruleVerdict};
 ghost use Rattle.check_rules.specs.Lent.{Lent, TypeOffsets, Masks, IsTerm, settingIn};
+ghost use Rattle.check_typing.specs.Faults.{faultAt, verdictAt};
 ghost use Rattle.check_typing.specs.Turns.{Room};
+
+// What the rule of term n alone comes to, as a fault.
+fn fault_of(v: Verdict, n: TermNo) -> u64
+    ensures { λ r. ⌜ r ≡ faultAt v (n .0) ⌝ }
+{
+    match v {
+        Verdict::Accepted => 0,
+        Verdict::Refused(why, _) => (refusal_number(why) % 4) as u64 + 4 * (n.0 as u64),
+    }
+}
 
 // The children of a term that has passed its rule, each where it stands.
 fn check_moved(
@@ -38,9 +51,9 @@ fn check_moved(
     scope: &mut [u8; 576],
     len: usize,
     types: &[u16; 128],
-) -> Verdict
+) -> u64
     requires { ⌜ Lent (now image) (now terms) (now descriptors) × IsTerm (now image) (n .0) × Masks (now image) (now masks) × Room (now image) (now scope) len (n .0) × TypeOffsets (now image) (now types) × ((Γ : List ℕ) → ruleVerdict (recordsOf (now image)) (record { context = Γ; dom = c .0 }) (n .0) ≡ Verdict.Accepted) ⌝ }
-    ensures { λ r. ⌜ (r ≡ checked (recordsOf (now (image .entry))) (settingIn (now (scope .entry)) len (c .0)) (n .0)) × (take len (now (scope .exit)) ≡ take len (now (scope .entry))) × (length (now (scope .exit)) ≡ length (now (scope .entry))) ⌝ }
+    ensures { λ r. ⌜ (verdictAt (recordsOf (now (image .entry))) r ≡ checked (recordsOf (now (image .entry))) (settingIn (now (scope .entry)) len (c .0)) (n .0)) × (r ≤ 4 * n .0 + 3) × (take len (now (scope .exit)) ≡ take len (now (scope .entry))) × (length (now (scope .exit)) ≡ length (now (scope .entry))) ⌝ }
 {
     let kind = term_kind(image, terms, n);
     let fields = term_fields(image, terms, n);
@@ -73,12 +86,12 @@ fn check_moved(
             p.len,
             types,
         );
-        if is_refused(r) {
+        if r != 0 {
             return r;
         }
         j += 1;
     }
-    Verdict::Accepted
+    0
 }
 
 // A term and the terms below it: its rule, then its children. Those of most kinds stand where the term does. A constant or a
@@ -94,16 +107,16 @@ fn check_here(
     scope: &mut [u8; 576],
     len: usize,
     types: &[u16; 128],
-) -> Verdict
+) -> u64
     requires { ⌜ Lent (now image) (now terms) (now descriptors) × IsTerm (now image) (n .0) × Masks (now image) (now masks) × Room (now image) (now scope) len (n .0) × TypeOffsets (now image) (now types) ⌝ }
-    ensures { λ r. ⌜ (r ≡ checked (recordsOf (now (image .entry))) (settingIn (now (scope .entry)) len (c .0)) (n .0)) × (take len (now (scope .exit)) ≡ take len (now (scope .entry))) × (length (now (scope .exit)) ≡ length (now (scope .entry))) ⌝ }
+    ensures { λ r. ⌜ (verdictAt (recordsOf (now (image .entry))) r ≡ checked (recordsOf (now (image .entry))) (settingIn (now (scope .entry)) len (c .0)) (n .0)) × (r ≤ 4 * n .0 + 3) × (take len (now (scope .exit)) ≡ take len (now (scope .entry))) × (length (now (scope .exit)) ≡ length (now (scope .entry))) ⌝ }
 {
     if is_leaf(image, terms, n) {
-        return check_leaf(image, terms, descriptors, n, scope, len);
+        return fault_of(check_leaf(image, terms, descriptors, n, scope, len), n);
     }
     let v = check_rule(image, types, terms, descriptors, n, c, masks);
     if is_refused(v) {
-        return v;
+        return fault_of(v, n);
     }
     let kind = term_kind(image, terms, n);
     if moves_child(kind) {
@@ -118,17 +131,17 @@ fn check_here(
         if is_leaf(image, terms, e) {
             let q = check_leaf(image, terms, descriptors, e, scope, len);
             if is_refused(q) {
-                return q;
+                return fault_of(q, e);
             }
         } else {
             let r = check_term(image, terms, descriptors, e, c, masks, scope, len, types);
-            if is_refused(r) {
+            if r != 0 {
                 return r;
             }
         }
         j += 1;
     }
-    Verdict::Accepted
+    0
 }
 
 // The same, with the image lent as the slice of all its bytes: its address and its length then travel as two words. Else the
@@ -143,9 +156,9 @@ pub fn check_term(
     scope: &mut [u8; 576],
     len: usize,
     types: &[u16; 128],
-) -> Verdict
+) -> u64
     requires { ⌜ Lent (now image) (now terms) (now descriptors) × IsTerm (now image) (n .0) × Masks (now image) (now masks) × Room (now image) (now scope) len (n .0) × TypeOffsets (now image) (now types) ⌝ }
-    ensures { λ r. ⌜ (r ≡ checked (recordsOf (now (image .entry))) (settingIn (now (scope .entry)) len (c .0)) (n .0)) × (take len (now (scope .exit)) ≡ take len (now (scope .entry))) × (length (now (scope .exit)) ≡ length (now (scope .entry))) ⌝ }
+    ensures { λ r. ⌜ (verdictAt (recordsOf (now (image .entry))) r ≡ checked (recordsOf (now (image .entry))) (settingIn (now (scope .entry)) len (c .0)) (n .0)) × (r ≤ 4 * n .0 + 3) × (take len (now (scope .exit)) ≡ take len (now (scope .entry))) × (length (now (scope .exit)) ≡ length (now (scope .entry))) ⌝ }
 {
     let whole = image.len();
     let bytes = &image[..whole];

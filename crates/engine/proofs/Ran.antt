@@ -4,7 +4,6 @@ use native.Mathlib.Omega.{arith}
 use mathlib.Core.Path.{_≡_, ap, ap₂, _∙_}
 use mathlib.Core.List.{List, _++_}
 use lib.ListN.{length, replicate}
-use lib.Dec.{lit<}
 use Rattle.image.specs.Limits.{workLength}
 use Rattle.image.specs.Layout.{recordsOf}
 use Rattle.verdict.proofs.Passed.{passed-iff}
@@ -22,8 +21,6 @@ use Rattle.vm_machine.specs.Memory.{Memory}
 use Rattle.vm_machine.specs.States.{State}
 use Rattle.vm_machine.specs.Run.{startState, turnsFor, vmRun}
 use Rattle.vm_machine.specs.Fits.{Safe}
-use Rattle.vm_fusion.specs.Sequences.{Fused}
-use Rattle.vm_fuse.proofs.Laws.{zeros-fused}
 use Rattle.vm_tables.specs.View.{memoryOf}
 use Rattle.vm_states.specs.Phases.{Moved}
 use Rattle.calls.specs.declared.Answer.{Answer}
@@ -40,14 +37,6 @@ types-in b ds ts ks T = record { laid-out = T .laid-out; enough = T .enough; des
 
 pub few-types : (b ds ts ks : List ℕ) (n : ℕ) → Tables b ds ts ks → n ≡ length (recordsOf b .types) → n ≤ 128
 few-types b ds ts ks n T e = let f = good-of b (T .laid-out) .few-types in omega arith
-
--- Terms are at most 1,024, so that there is a dispatch number for each.
-pub few-terms : (b ds ts ks : List ℕ) (n : ℕ) → Tables b ds ts ks → n ≡ length (recordsOf b .terms) → n ≤ home
-few-terms b ds ts ks n T e = let f = good-of b (T .laid-out) .few-terms in omega arith
-
--- A table of zeros says nothing, and is long enough.
-pub no-numbers : (code dispatch : List ℕ) → dispatch ≡ replicate 1025 0 → (home < length dispatch) × Fused code dispatch
-no-numbers code dispatch e = rw e (lit< tt, zeros-fused code 1025)
 
 -- An accepted image has a term.
 pub some-term : (b : List ℕ) (count : ℕ) → Accepts b → count ≡ length (recordsOf b .terms) → 0 < count

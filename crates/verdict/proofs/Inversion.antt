@@ -2,12 +2,13 @@
 use Prim.Native.Nat.{ℕ, zero, suc}
 use mathlib.Core.Path.{_≡_, refl, sym, ap, subst, _∙_}
 use mathlib.Core.Bool.{Bool, true}
-use mathlib.Core.List.{List, [], _∷_, reverseAux}
+use mathlib.Core.List.{List, [], _∷_}
 use mathlib.Core.Option.{some}
 use lib.ListN.{getElem?}
 use Rattle.calculus.specs.Syntax.{Dom, Ty, Sigs, Val, Tm, Tms, Op0, Op1, Op2, val, var, lam, op0, op1, op2, seq, ite, split, pcd, adv, lower, obj, keep, match, Pattern, newLabel, abort, takedown, theStack, print, install, read, byte, newCell, call, app, mark, store, plus, minus, less, equal}
-use Rattle.calculus.specs.Typing.{Policy, noStore, PatternTy, t-newLabel, t-abort, t-takedown, t-stack, t-print, t-install, t-read, t-byte, t-newCell, t-call, t-pair, t-app, t-mark, t-store, t-plus, t-minus, t-less, t-equal, LabelTys, ValTy, TmTy, TmsTy, BodiesTy, Rule0, Rule1, Rule2, v-unit, v-truth, v-num, is-val, is-var, is-lam, is-op0, is-op1, is-op2, is-seq, is-ite, is-split, is-pcd, is-adv, is-lower, is-obj, is-keep, is-match, is-end, is-more}
+use Rattle.calculus.specs.Typing.{Policy, noStore, PatternTy, t-newLabel, t-abort, t-takedown, t-stack, t-print, t-install, t-read, t-byte, t-newCell, t-call, t-pair, t-app, t-mark, t-store, t-plus, t-minus, t-less, t-equal, LabelTys, ValTy, TmTy, TmsTy, BodiesTy, Rule0, Rule1, Rule2, v-unit, v-truth, v-num, is-end, is-more}
 use Rattle.calculus.specs.Typing as Typing
+use Rattle.calculus_inversion.proofs.Inversion.{premises}
 use Rattle.image.specs.Program.{opOf}
 use Rattle.verdict.specs.WellTyped.{aborts}
 
@@ -68,46 +69,6 @@ asked2 t-minus = (refl, refl, refl)
 asked2 t-less = (refl, refl, refl)
 asked2 t-equal = (refl, refl, refl)
 
-module _ (D : Policy) (Γ : List Ty) (c : Dom) where
-  -- e has type u at Γ and c.
-  abbrev Has : Tm → Ty → Type 0
-  Has e u = TmTy D noStore Γ c e u
-
-  -- The premises of the rule that gives a term its type.
-  abbrev Premises : Tm → Ty → Type 0
-  Premises (val v) u = ValTy D noStore v u
-  Premises (var k) u = getElem? Γ k ≡ some u
-  Premises (lam t e) u = (a : Ty) × (p : Dom) × (b : Ty) × (t ≡ Ty.fun a p b) × TmTy D noStore (a ∷ Γ) p e b
-  Premises (op0 o t) u = (t ≡ u) × Rule0 D c o t
-  Premises (op1 o t e) u = (a : Ty) × Rule1 D c o t a × Has e a
-  Premises (op2 o t e f) u = (a : Ty) × (b : Ty) × Rule2 D c o t a b × Has e a × Has f b
-  Premises (seq e f) u = Has e Ty.unit × Has f u
-  Premises (ite e f g) u = Has e Ty.truth × Has f u × Has g u
-  Premises (split e f) u = (a : Ty) × (b : Ty) × Has e (Ty.pair a b) × TmTy D noStore (b ∷ a ∷ Γ) c f u
-  Premises (pcd es) u = (ts : List Ty) × (a : Ty) × (p : Dom) × (u ≡ Ty.pcd a p) × TmsTy D noStore Γ c es ts × LabelTys D a p ts
-  Premises (adv p e b) u = (a : Ty) × (q : Dom) × (u ≡ Ty.adv p) × Has e (Ty.pcd a q) × (D .leq p q ≡ true) × TmTy D noStore (a ∷ Γ) p b Ty.unit
-  Premises (lower p e) u = (u ≡ Ty.unit) × (D .leq p c ≡ true) × TmTy D noStore Γ p e Ty.unit
-  Premises (obj t bs) u = (ms : Sigs) × (t ≡ Ty.obj ms) × BodiesTy D noStore (Ty.obj ms ∷ Γ) bs ms
-  Premises (keep e f g) u = (a : Ty) × Has e (Ty.label a c) × Has f a × Has g u
-  Premises (match p es f g) u = (ts : List Ty) × (us : List Ty) × TmsTy D noStore Γ c es (Ty.stack ∷ ts) × PatternTy p ts us × TmTy D noStore (reverseAux us Γ) c f u × Has g u
-
-pub premises : {D : Policy} {Γ : List Ty} {c : Dom} {e : Tm} {u : Ty} → TmTy D noStore Γ c e u → Premises D Γ c e u
-premises (is-val d) = d
-premises (is-var h) = h
-premises (is-lam {p = p} {a = a} {b = b} d) = (a, p, b, refl, d)
-premises (is-op0 r) = (refl, r)
-premises (is-op1 {a = a} r d) = (a, r, d)
-premises (is-op2 {a = a} {b = b} r d e) = (a, b, r, d, e)
-premises (is-seq d e) = (d, e)
-premises (is-ite d e f) = (d, e, f)
-premises (is-split {a = a} {b = b} d e) = (a, b, d, e)
-premises (is-pcd {ts = ts} {p = p} {a = a} ds ls) = (ts, a, p, refl, ds, ls)
-premises (is-adv {q = q} {a = a} d h e) = (a, q, refl, d, h, e)
-premises (is-lower h d) = (refl, h, d)
-premises (is-obj {ms = ms} d) = (ms, refl, d)
-premises (is-keep {a = a} d e f) = (a, d, e, f)
-premises (is-match {ts = ts} {us = us} ds o e f) = (ts, us, ds, o, e, f)
-
 pub more-premises : {D : Policy} {Γ : List Ty} {c : Dom} {e : Tm} {es : Tms} {u : Ty} {us : List Ty} → TmsTy D noStore Γ c (Tms.more e es) (u ∷ us) → TmTy D noStore Γ c e u × TmsTy D noStore Γ c es us
 more-premises (is-more d ds) = (d, ds)
 
@@ -116,6 +77,10 @@ pub of-abort : {D : Policy} {Γ : List Ty} {c : Dom} {a u : Ty} → TmTy D noSto
 of-abort d = premises d .0
 
 module _ (D : Policy) (Γ : List Ty) (c : Dom) where
+  -- e has type u at Γ and c.
+  abbrev Has : Tm → Ty → Type 0
+  Has e u = TmTy D noStore Γ c e u
+
   value-unit : {u : Ty} → ValTy D noStore Val.unit u → u ≡ Ty.unit
   value-unit v-unit = refl
 
@@ -125,38 +90,38 @@ module _ (D : Policy) (Γ : List Ty) (c : Dom) where
   value-number : {n : ℕ} {u : Ty} → ValTy D noStore (Val.num n) u → u ≡ Ty.number
   value-number v-num = refl
 
-  pub of-unit : {u : Ty} → Has D Γ c (val Val.unit) u → u ≡ Ty.unit
+  pub of-unit : {u : Ty} → Has (val Val.unit) u → u ≡ Ty.unit
   of-unit d = value-unit (premises d)
 
-  pub of-truth : {b : Bool} {u : Ty} → Has D Γ c (val (Val.truth b)) u → u ≡ Ty.truth
+  pub of-truth : {b : Bool} {u : Ty} → Has (val (Val.truth b)) u → u ≡ Ty.truth
   of-truth d = value-truth (premises d)
 
-  pub of-number : {n : ℕ} {u : Ty} → Has D Γ c (val (Val.num n)) u → u ≡ Ty.number
+  pub of-number : {n : ℕ} {u : Ty} → Has (val (Val.num n)) u → u ≡ Ty.number
   of-number d = value-number (premises d)
 
-  pub of-var : {k : ℕ} {u : Ty} → Has D Γ c (var k) u → getElem? Γ k ≡ some u
+  pub of-var : {k : ℕ} {u : Ty} → Has (var k) u → getElem? Γ k ≡ some u
   of-var d = premises d
 
-  pub of-seq : {a b u : Ty} → Has D Γ c (seq (op0 abort a) (op0 abort b)) u → (a ≡ Ty.unit) × (b ≡ u)
+  pub of-seq : {a b u : Ty} → Has (seq (op0 abort a) (op0 abort b)) u → (a ≡ Ty.unit) × (b ≡ u)
   of-seq d = let r = premises d in (of-abort (r .0), of-abort (r .1))
 
-  pub of-print : {t a u : Ty} → Has D Γ c (op1 print t (op0 abort a)) u → (t ≡ Ty.unit) × (a ≡ Ty.number)
-  of-print d = let r = premises d in let s = asked1 (r .1) in (s .0, of-abort (r .2) ∙ s .1)
+  pub of-print : {t a u : Ty} → Has (op1 print t (op0 abort a)) u → (t ≡ Ty.unit) × (a ≡ Ty.number)
+  of-print d = let r = premises d in let s = asked1 (r .2) in (s .0, of-abort (r .3) ∙ s .1)
 
-  pub of-ite : {a b d u : Ty} → Has D Γ c (ite (op0 abort a) (op0 abort b) (op0 abort d)) u → (a ≡ Ty.truth) × (b ≡ u) × (d ≡ u)
+  pub of-ite : {a b d u : Ty} → Has (ite (op0 abort a) (op0 abort b) (op0 abort d)) u → (a ≡ Ty.truth) × (b ≡ u) × (d ≡ u)
   of-ite d = let r = premises d in (of-abort (r .0), of-abort (r .1), of-abort (r .2))
 
-  pub of-pair : {t a b u : Ty} → Has D Γ c (op2 Op2.pair t (op0 abort a) (op0 abort b)) u → t ≡ Ty.pair a b
-  of-pair {a = a} d = let r = premises d in asked2 (r .2) ∙ ap (λ x. Ty.pair x (r .1)) (sym (of-abort (r .3))) ∙ ap (Ty.pair a) (sym (of-abort (r .4)))
+  pub of-pair : {t a b u : Ty} → Has (op2 Op2.pair t (op0 abort a) (op0 abort b)) u → t ≡ Ty.pair a b
+  of-pair {a = a} d = let r = premises d in asked2 (r .3) ∙ ap (λ x. Ty.pair x (r .1)) (sym (of-abort (r .4))) ∙ ap (Ty.pair a) (sym (of-abort (r .5)))
 
-  pub of-split : {a b u : Ty} → Has D Γ c (split (op0 abort a) (op0 abort b)) u → (x : Ty) × (y : Ty) × (a ≡ Ty.pair x y) × (b ≡ u)
+  pub of-split : {a b u : Ty} → Has (split (op0 abort a) (op0 abort b)) u → (x : Ty) × (y : Ty) × (a ≡ Ty.pair x y) × (b ≡ u)
   of-split d = let r = premises d in (r .0, r .1, of-abort (r .2), of-abort (r .3))
 
-  pub of-fun : {t b u : Ty} → Has D Γ c (lam t (op0 abort b)) u → (x : Ty) × (p : Dom) × (t ≡ Ty.fun x p b)
-  of-fun d = let r = premises d in (r .0, r .1, r .3 ∙ ap (Ty.fun (r .0) (r .1)) (sym (of-abort (r .4))))
+  pub of-fun : {t b u : Ty} → Has (lam t (op0 abort b)) u → (x : Ty) × (p : Dom) × (t ≡ Ty.fun x p b)
+  of-fun d = let r = premises d in (r .0, r .1, r .4 ∙ ap (Ty.fun (r .0) (r .1)) (sym (of-abort (r .5))))
 
-  pub of-app : {t a b u : Ty} → Has D Γ c (op2 app t (op0 abort a) (op0 abort b)) u → a ≡ Ty.fun b c t
-  of-app {t = t} d = let r = premises d in of-abort (r .3) ∙ asked2 (r .2) ∙ ap (λ x. Ty.fun x c t) (sym (of-abort (r .4)))
+  pub of-app : {t a b u : Ty} → Has (op2 app t (op0 abort a) (op0 abort b)) u → a ≡ Ty.fun b c t
+  of-app {t = t} d = let r = premises d in of-abort (r .4) ∙ asked2 (r .3) ∙ ap (λ x. Ty.fun x c t) (sym (of-abort (r .5)))
 
   op-types : (x : ℕ) {t a b : Ty} → Asks2 D c (opOf x) t a b → (t ≡ opTy x) × (a ≡ Ty.number) × (b ≡ Ty.number)
   op-types zero h = h
@@ -164,63 +129,63 @@ module _ (D : Policy) (Γ : List Ty) (c : Dom) where
   op-types (suc (suc zero)) h = h
   op-types (suc (suc (suc x))) h = h
 
-  pub of-arith : (x : ℕ) {t a b u : Ty} → Has D Γ c (op2 (opOf x) t (op0 abort a) (op0 abort b)) u → (t ≡ opTy x) × (a ≡ Ty.number) × (b ≡ Ty.number)
-  of-arith x d = let r = premises d in let o = op-types x (asked2 (r .2)) in (o .0, of-abort (r .3) ∙ o .1, of-abort (r .4) ∙ o .2)
+  pub of-arith : (x : ℕ) {t a b u : Ty} → Has (op2 (opOf x) t (op0 abort a) (op0 abort b)) u → (t ≡ opTy x) × (a ≡ Ty.number) × (b ≡ Ty.number)
+  of-arith x d = let r = premises d in let o = op-types x (asked2 (r .3)) in (o .0, of-abort (r .4) ∙ o .1, of-abort (r .5) ∙ o .2)
 
-  pub of-newLabel : {t u : Ty} → Has D Γ c (op0 newLabel t) u → (a : Ty) × (p : Dom) × (t ≡ Ty.label a p) × (D .leq p c ≡ true)
+  pub of-newLabel : {t u : Ty} → Has (op0 newLabel t) u → (a : Ty) × (p : Dom) × (t ≡ Ty.label a p) × (D .leq p c ≡ true)
   of-newLabel d = asked0 (premises d .1)
 
-  pub of-mark : {t a b u : Ty} → Has D Γ c (op2 mark t (op0 abort a) (op0 abort b)) u → (t ≡ Ty.unit) × (a ≡ Ty.label b c)
-  of-mark d = let r = premises d in let s = asked2 (r .2) in (s .0, of-abort (r .3) ∙ s .1 ∙ ap (λ x. Ty.label x c) (sym (of-abort (r .4))))
+  pub of-mark : {t a b u : Ty} → Has (op2 mark t (op0 abort a) (op0 abort b)) u → (t ≡ Ty.unit) × (a ≡ Ty.label b c)
+  of-mark d = let r = premises d in let s = asked2 (r .3) in (s .0, of-abort (r .4) ∙ s .1 ∙ ap (λ x. Ty.label x c) (sym (of-abort (r .5))))
 
   pub abort-types : (ts us : List Ty) → TmsTy D noStore Γ c (aborts ts) us → us ≡ ts
   abort-types [] us is-end = refl
   abort-types (t ∷ ts) us (is-more {ts = vs} d ds) = rw (of-abort d, abort-types ts vs ds) refl
 
-  pub of-pcd : (ts : List Ty) {u : Ty} → Has D Γ c (pcd (aborts ts)) u → (a : Ty) × (p : Dom) × (u ≡ Ty.pcd a p) × LabelTys D a p ts
+  pub of-pcd : (ts : List Ty) {u : Ty} → Has (pcd (aborts ts)) u → (a : Ty) × (p : Dom) × (u ≡ Ty.pcd a p) × LabelTys D a p ts
   of-pcd ts d = let r = premises d in (r .1, r .2, r .3, subst (λ vs. LabelTys D (r .1) (r .2) vs) (abort-types ts (r .0) (r .4)) (r .5))
 
-  pub of-adv : {p : Dom} {a b u : Ty} → Has D Γ c (adv p (op0 abort a) (op0 abort b)) u → (x : Ty) × (q : Dom) × (u ≡ Ty.adv p) × (a ≡ Ty.pcd x q) × (b ≡ Ty.unit) × (D .leq p q ≡ true)
+  pub of-adv : {p : Dom} {a b u : Ty} → Has (adv p (op0 abort a) (op0 abort b)) u → (x : Ty) × (q : Dom) × (u ≡ Ty.adv p) × (a ≡ Ty.pcd x q) × (b ≡ Ty.unit) × (D .leq p q ≡ true)
   of-adv d = let r = premises d in (r .0, r .1, r .2, of-abort (r .3), of-abort (r .5), r .4)
 
-  pub of-install : {t a u : Ty} → Has D Γ c (op1 install t (op0 abort a)) u → (p : Dom) × (t ≡ Ty.unit) × (a ≡ Ty.adv p) × (D .leq p c ≡ true)
-  of-install d = let r = premises d in let s = asked1 (r .1) in (s .0, s .1, of-abort (r .2) ∙ s .2, s .3)
+  pub of-install : {t a u : Ty} → Has (op1 install t (op0 abort a)) u → (p : Dom) × (t ≡ Ty.unit) × (a ≡ Ty.adv p) × (D .leq p c ≡ true)
+  of-install d = let r = premises d in let s = asked1 (r .2) in (s .0, s .1, of-abort (r .3) ∙ s .2, s .3)
 
-  pub of-newCell : {t a u : Ty} → Has D Γ c (op1 newCell t (op0 abort a)) u → (p : Dom) × (t ≡ Ty.ref a p) × (D .leq p c ≡ true)
-  of-newCell d = let r = premises d in let s = asked1 (r .1) in (s .0, s .1 ∙ ap (λ x. Ty.ref x (s .0)) (sym (of-abort (r .2))), s .2)
+  pub of-newCell : {t a u : Ty} → Has (op1 newCell t (op0 abort a)) u → (p : Dom) × (t ≡ Ty.ref a p) × (D .leq p c ≡ true)
+  of-newCell d = let r = premises d in let s = asked1 (r .2) in (s .0, s .1 ∙ ap (λ x. Ty.ref x (s .0)) (sym (of-abort (r .3))), s .2)
 
-  pub of-read : {t a u : Ty} → Has D Γ c (op1 read t (op0 abort a)) u → (p : Dom) × (a ≡ Ty.ref t p) × (D .leq c p ≡ true)
-  of-read d = let r = premises d in let s = asked1 (r .1) in (s .0, of-abort (r .2) ∙ s .1, s .2)
+  pub of-read : {t a u : Ty} → Has (op1 read t (op0 abort a)) u → (p : Dom) × (a ≡ Ty.ref t p) × (D .leq c p ≡ true)
+  of-read d = let r = premises d in let s = asked1 (r .2) in (s .0, of-abort (r .3) ∙ s .1, s .2)
 
-  pub of-store : {t a b u : Ty} → Has D Γ c (op2 store t (op0 abort a) (op0 abort b)) u → (p : Dom) × (t ≡ Ty.unit) × (a ≡ Ty.ref b p) × (D .leq p c ≡ true)
-  of-store d = let r = premises d in let s = asked2 (r .2) in (s .0, s .1, of-abort (r .3) ∙ s .2 ∙ ap (λ x. Ty.ref x (s .0)) (sym (of-abort (r .4))), s .3)
+  pub of-store : {t a b u : Ty} → Has (op2 store t (op0 abort a) (op0 abort b)) u → (p : Dom) × (t ≡ Ty.unit) × (a ≡ Ty.ref b p) × (D .leq p c ≡ true)
+  of-store d = let r = premises d in let s = asked2 (r .3) in (s .0, s .1, of-abort (r .4) ∙ s .2 ∙ ap (λ x. Ty.ref x (s .0)) (sym (of-abort (r .5))), s .3)
 
-  pub of-lower : {p : Dom} {a u : Ty} → Has D Γ c (lower p (op0 abort a)) u → (u ≡ Ty.unit) × (a ≡ Ty.unit) × (D .leq p c ≡ true)
+  pub of-lower : {p : Dom} {a u : Ty} → Has (lower p (op0 abort a)) u → (u ≡ Ty.unit) × (a ≡ Ty.unit) × (D .leq p c ≡ true)
   of-lower d = let r = premises d in (r .0, of-abort (r .2), r .1)
 
-  pub of-byte : {t a u : Ty} → Has D Γ c (op1 byte t (op0 abort a)) u → (t ≡ Ty.number) × (a ≡ Ty.number)
-  of-byte d = let r = premises d in let s = asked1 (r .1) in (s .0, of-abort (r .2) ∙ s .1)
+  pub of-byte : {t a u : Ty} → Has (op1 byte t (op0 abort a)) u → (t ≡ Ty.number) × (a ≡ Ty.number)
+  of-byte d = let r = premises d in let s = asked1 (r .2) in (s .0, of-abort (r .3) ∙ s .1)
 
   -- Card 3.
-  pub of-obj : {t u : Ty} {bs : Tms} → Has D Γ c (obj t bs) u → (ms : Sigs) × (t ≡ Ty.obj ms) × BodiesTy D noStore (Ty.obj ms ∷ Γ) bs ms
-  of-obj d = premises d
+  pub of-obj : {t u : Ty} {bs : Tms} → Has (obj t bs) u → (ms : Sigs) × (t ≡ Ty.obj ms) × BodiesTy D noStore (Ty.obj ms ∷ Γ) bs ms
+  of-obj d = let r = premises d in (r .0, r .2, r .3)
 
-  pub of-call : {m : ℕ} {t a u : Ty} → Has D Γ c (op1 (call m) t (op0 abort a)) u → (ms : Sigs) × (a ≡ Ty.obj ms) × Typing.Has c t ms m
-  of-call d = let r = premises d in let s = asked1 (r .1) in (s .0, of-abort (r .2) ∙ s .1, s .2)
+  pub of-call : {m : ℕ} {t a u : Ty} → Has (op1 (call m) t (op0 abort a)) u → (ms : Sigs) × (a ≡ Ty.obj ms) × Typing.Has c t ms m
+  of-call d = let r = premises d in let s = asked1 (r .2) in (s .0, of-abort (r .3) ∙ s .1, s .2)
 
   -- Card 6.
-  pub of-stack : {t u : Ty} → Has D Γ c (op0 theStack t) u → t ≡ Ty.stack
+  pub of-stack : {t u : Ty} → Has (op0 theStack t) u → t ≡ Ty.stack
   of-stack d = asked0 (premises d .1)
 
-  pub of-keep : {a b d u : Ty} → Has D Γ c (keep (op0 abort a) (op0 abort b) (op0 abort d)) u → (a ≡ Ty.label b c) × (d ≡ u)
+  pub of-keep : {a b d u : Ty} → Has (keep (op0 abort a) (op0 abort b) (op0 abort d)) u → (a ≡ Ty.label b c) × (d ≡ u)
   of-keep d = let r = premises d in (of-abort (r .1) ∙ ap (λ x. Ty.label x c) (sym (of-abort (r .2))), of-abort (r .3))
 
-  pub of-match : (p : Pattern) (xs : List Ty) {a b d u : Ty} → Has D Γ c (match p (Tms.more (op0 abort a) (aborts xs)) (op0 abort b) (op0 abort d)) u
+  pub of-match : (p : Pattern) (xs : List Ty) {a b d u : Ty} → Has (match p (Tms.more (op0 abort a) (aborts xs)) (op0 abort b) (op0 abort d)) u
       → (us : List Ty) × (a ≡ Ty.stack) × (b ≡ u) × (d ≡ u) × PatternTy p xs us
   of-match p xs d =
       let r = premises d in
       let s = more-premises (r .2) in
       (r .1, of-abort (s .0), of-abort (r .4), of-abort (r .5), subst (λ v. PatternTy p v (r .1)) (abort-types xs (r .0) (s .1)) (r .3))
 
-  pub of-takedown : {p : Dom} {t u : Ty} → Has D Γ c (op0 (takedown p) t) u → (t ≡ Ty.unit) × (D .leq p c ≡ true)
+  pub of-takedown : {p : Dom} {t u : Ty} → Has (op0 (takedown p) t) u → (t ≡ Ty.unit) × (D .leq p c ≡ true)
   of-takedown d = asked0 (premises d .1)

@@ -5,15 +5,16 @@ use mathlib.Core.Path.{_≡_, refl, sym, ap, subst, _∙_}
 use mathlib.Core.List.{List, [], _∷_, reverseAux}
 use lib.ListN.{getD, drop}
 use Rattle.calculus.specs.Syntax.{Dom, Ty, Sigs, method, Val, Tm, Tms, Pattern, val, lam, op0, split, pcd, adv, lower, obj, match, abort, Op1, Op2, op1, op2}
-use Rattle.calculus.specs.Typing.{Policy, noStore, TmTy, TmsTy, BodiesTy, a-body, is-lam, is-op1, is-op2, is-seq, is-ite, is-split, is-pcd, is-adv, is-lower, is-obj, is-keep, is-match, is-end, is-more}
+use Rattle.calculus.specs.Typing.{Policy, noStore, TmTy, TmsTy, BodiesTy, a-body, is-op1, is-op2, is-seq, is-ite, is-split, is-keep, is-match, is-end, is-more}
 use Rattle.calculus.specs.Plain.{domOf, methodDom}
+use Rattle.calculus_inversion.proofs.Inversion.{premises, concluded}
 use Rattle.image.specs.Kinds.{TermKind, Form, operator, formOf}
 use Rattle.image.specs.Program.{Program, Programs, node, blank, end, more, nth, behind, patternOf, assembleAs, assemble, toTm, toTms}
 use Rattle.laws.proofs.Booleans.{no-path}
 use Rattle.verdict.specs.Settings.{matchBinds, Setting}
 use Rattle.verdict.specs.WellTyped.{firstOf, secondOf, stated, stateds, aborts, childSetting, WellTyped, EachWellTyped}
 use Rattle.verdict.proofs.Patterns.{pattern-binds}
-use Rattle.verdict.proofs.Inversion.{premises, more-premises, of-abort, of-unit, abort-types}
+use Rattle.verdict.proofs.Inversion.{more-premises, of-abort, of-unit, abort-types}
 
 module _ (D : Policy) where
   pub abort-type : {Γ : List Ty} {c : Dom} {s t : Ty} → TmTy D noStore Γ c (op0 abort s) t → s ≡ t
@@ -64,10 +65,10 @@ module _ (D : Policy) where
     Stands e f = (s : Ty) → Typed e s → Typed f s
 
     unary : {o : Op1} {t : Ty} {a a′ : Tm} → Stands a a′ → Typed (op1 o t a) t → Typed (op1 o t a′) t
-    unary f d = let r = premises d in is-op1 (r .1) (f (r .0) (r .2))
+    unary f d = let r = premises d in is-op1 (r .2) (f (r .0) (r .3))
 
     binary : {o : Op2} {t : Ty} {a b a′ b′ : Tm} → Stands a a′ → Stands b b′ → Typed (op2 o t a b) t → Typed (op2 o t a′ b′) t
-    binary f g d = let r = premises d in is-op2 (r .2) (f (r .0) (r .3)) (g (r .1) (r .4))
+    binary f g d = let r = premises d in is-op2 (r .3) (f (r .0) (r .4)) (g (r .1) (r .5))
 
   rebuilt : (p : Setting Ty) {k : TermKind} (φ : Form k) (t : Ty) (vs : List ℕ) (ts : List Ty) (es : Tms) → Stand (childSetting p k t vs ts) (aborts ts) es
       → TmTy D noStore (p .context) (p .dom) (assembleAs φ t vs (aborts ts)) t → TmTy D noStore (p .context) (p .dom) (assembleAs φ t vs es) t
@@ -88,28 +89,26 @@ module _ (D : Policy) where
   rebuilt p Form.fun t vs ts es h d =
       let r = premises d in
       let At : Tm → Ty → Type 0 = λ e x. TmTy D noStore (firstOf x ∷ p .context) (domOf x) e (r .2) in
-      subst (λ x. TmTy D noStore (p .context) (p .dom) (lam x (nth es 0)) x) (sym (r .3)) (is-lam (across (At (nth (aborts ts) 0)) (At (nth es 0)) (r .3) (λ f. h .one 0 f) (r .4)))
+      concluded (lam t (nth es 0)) (r .0, r .1, r .2, r .3, r .4, across (At (nth (aborts ts) 0)) (At (nth es 0)) (r .4) (λ f. h .one 0 f) (r .5))
   rebuilt p Form.app t vs ts es h d = binary p (λ s e. h .one 0 e) (λ s e. h .one 1 e) d
   rebuilt p Form.arith t vs ts es h d = binary p (λ s e. h .one 0 e) (λ s e. h .one 1 e) d
   rebuilt p Form.mark t vs ts es h d = binary p (λ s e. h .one 0 e) (λ s e. h .one 1 e) d
-  rebuilt p Form.pcd t vs ts es h d =
-      let r = premises d in
-      subst (λ x. TmTy D noStore (p .context) (p .dom) (pcd es) x) (sym (r .3)) (is-pcd (h .every 0 p (λ j l. refl) (r .4)) (r .5))
+  rebuilt p Form.pcd t vs ts es h d = let r = premises d in concluded (pcd es) (r .0, r .1, r .2, r .3, h .every 0 p (λ j l. refl) (r .4), r .5)
   rebuilt p Form.adv t vs [] es h d = no-advice d
   rebuilt p Form.adv t vs (s ∷ ts) es h d =
       let r = premises d in
       let At : Tm → Ty → Type 0 = λ e x. TmTy D noStore (firstOf x ∷ p .context) (domOf t) e Ty.unit in
-      subst (λ x. TmTy D noStore (p .context) (p .dom) (adv (domOf t) (nth es 0) (nth es 1)) x) (sym (r .2)) (is-adv (h .one 0 (r .3)) (r .4) (across (At (nth (aborts (s ∷ ts)) 1)) (At (nth es 1)) (of-abort (r .3)) (λ f. h .one 1 f) (r .5)))
+      concluded (adv (domOf t) (nth es 0) (nth es 1)) (r .0, r .1, r .2, h .one 0 (r .3), r .4, across (At (nth (aborts (s ∷ ts)) 1)) (At (nth es 1)) (of-abort (r .3)) (λ f. h .one 1 f) (r .5))
   rebuilt p Form.install t vs ts es h d = unary p (λ s e. h .one 0 e) d
   rebuilt p Form.newCell t vs ts es h d = unary p (λ s e. h .one 0 e) d
   rebuilt p Form.read t vs ts es h d = unary p (λ s e. h .one 0 e) d
   rebuilt p Form.store t vs ts es h d = binary p (λ s e. h .one 0 e) (λ s e. h .one 1 e) d
-  rebuilt p Form.lower t vs ts es h d = let r = premises d in subst (λ x. TmTy D noStore (p .context) (p .dom) (lower (getD vs 0 0) (nth es 0)) x) (sym (r .0)) (is-lower (r .1) (h .one 0 (r .2)))
+  rebuilt p Form.lower t vs ts es h d = let r = premises d in concluded (lower (getD vs 0 0) (nth es 0)) (r .0, r .1, h .one 0 (r .2))
   rebuilt p Form.byte t vs ts es h d = unary p (λ s e. h .one 0 e) d
   rebuilt p Form.obj t vs ts es h d =
       let r = premises d in
-      let each : (j : ℕ) → childSetting p TermKind.obj t vs ts j ≡ record { context = Ty.obj (r .0) ∷ p .context; dom = methodDom (r .0) j } = λ j. ap (λ x. childSetting p TermKind.obj x vs ts j) (r .1) in
-      subst (λ x. TmTy D noStore (p .context) (p .dom) (obj x es) x) (sym (r .1)) (is-obj (h .bodies (r .0) (Ty.obj (r .0) ∷ p .context) each (r .2)))
+      let each : (j : ℕ) → childSetting p TermKind.obj t vs ts j ≡ record { context = Ty.obj (r .0) ∷ p .context; dom = methodDom (r .0) j } = λ j. ap (λ x. childSetting p TermKind.obj x vs ts j) (r .2) in
+      concluded (obj t es) (r .0, r .1, r .2, h .bodies (r .0) (Ty.obj (r .0) ∷ p .context) each (r .3))
   rebuilt p Form.call t vs ts es h d = unary p (λ s e. h .one 0 e) d
   rebuilt p Form.keep t vs ts es h d = let r = premises d in is-keep (h .one 0 (r .1)) (h .one 1 (r .2)) (h .one 2 (r .3))
   rebuilt p Form.match t vs [] es h d = no-match d

@@ -2,7 +2,7 @@
 use Prim.Native.Nat.{ℕ, zero, suc, _+_, _≤_, _<_}
 use mathlib.Core.Path.{_≡_}
 use mathlib.Core.Bool.{Bool, true, false, not}
-use mathlib.Core.List.{List, [], _∷_}
+use mathlib.Core.List.{List, [], _∷_, foldl}
 use lib.ListN.{length, getD, set, replicate}
 use lib.Dec.{eqb, leb}
 use Rattle.calculus.specs.Combinators.{choose}
@@ -24,8 +24,7 @@ count n (m ∷ ms) = choose (eqb n m) 1 0 + count n ms
 
 -- The numbers es all set to d.
 abbrev pub setAll : List ℕ → ℕ → List ℕ → List ℕ
-setAll [] d ds = ds
-setAll (e ∷ es) d ds = setAll es d (set ds e d)
+setAll es d ds = foldl (λ xs e. set xs e d) ds es
 
 module _ (L : Layout) where
   -- 9: each section has a record.

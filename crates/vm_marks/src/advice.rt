@@ -27,10 +27,8 @@ use vm_tables::slots::next_binding;
 use vm_tables::slots::put_advice;
 use vm_tables::slots::slot_env;
 use vm_tables::slots::slot_pc;
+use vm_words::code::HOME;
 use vm_words::code::depth_of;
-
-// The instruction that goes back to what called a body.
-const HOME: usize = 1024;
 
 // Where the body of the advice whose variable binding b is begins: that of an atom, which is unit, is done.
 fn body_at(work: &[u8], b: usize) -> usize

@@ -243,7 +243,7 @@ module _ (T : Table) (root : ℕ) (L : Linked T 0 root) (G : Given) (e₀ : Tm) 
                 reach = atom-leads G e₀ Ω s e (P .env) F a .reached k at-body;
                 is = ap (λ (X : Place). due (framed X (go s (ret u))) K) (site-place P A D (p .stood .0) (p .fine));
               })
-              (λ R. gives T root L G e₀ Ω N B C says S k s m P A D (ret u) F R M (S .log) (stepped r) s
+              (λ R. gives R M (S .log) (stepped r) s
               (record { env = refl; room = refl; left = refl; pc = refl; store = st; used = p .common .used; grows = grows-refl M z; slots = slots-refl M; kept = refl; keeps = λ i. refl }) (atomValue C M (r .env) (codeAt C f)) u refl
               (atom-is T root L C says M z (r .env) (P .env) (p .env) (p .env-fits) f (target .1) a located (bound-tm G e₀ Ω k s e (P .env) F at-body)))
 

@@ -45,7 +45,7 @@ use Rattle.vm_refine.proofs.Slots.{slotOf, slot-word, slot-same, Held, 
 use Rattle.vm_refine.proofs.Now.{InPlace, Now, halted-stopped}
 use Rattle.vm_refine.proofs.Views.{AsLabel, a-label, no-label, as-label}
 use Rattle.vm_refine.proofs.Arrives.{completed-now}
-use Rattle.vm_refine.proofs.Steps.{measure, After, after-halted, fits-in, Stepping, no-room, if-left-with, no-wrong}
+use Rattle.vm_refine.proofs.Steps.{measure, After, after-halted, fits-in, Stepping, no-room, if-left-with, no-way}
 use Rattle.vm_refine.proofs.Gives.{Left, still, falls}
 use Rattle.vm_refine.proofs.Advice.{stack-depth, advised}
 use Rattle.vm_refine.proofs.Matching.{newest-first, Written, written-refl, Made, made-all, none-named}
@@ -140,8 +140,8 @@ module _ (T : Table) (root : ℕ) (L : Linked T 0 root) (G : Given) (e₀ : Tm) 
     -- Nothing is triggered.
     quiet : (v : CVal) (M′ : Memory) (q : Regs) (s′ : CState) → At (go s′ (triggered v [])) → Changed M′ q s′ → headroom < r .left → Then (completed w 0 (record { memory = M′; log = S .log; regs = q }))
     quiet v M′ q s′ R l more =
-        falls T root L G e₀ Ω N B C says S k s m P A D c F R M′ (S .log) q s′ l more refl
-        (completed-now T root L G e₀ Ω N B C says (record { memory = M′; log = S .log; regs = q }) (suc k) s′ m P A D (still T root L G e₀ Ω N B C says S k s m P A D c F R M′ (S .log) q s′ l more) (omega (arith, R .shallow)) 0 CVal.unit (is-unit refl)
+        falls R M′ (S .log) q s′ l more refl
+        (completed-now T root L G e₀ Ω N B C says (record { memory = M′; log = S .log; regs = q }) (suc k) s′ m P A D (still R M′ (S .log) q s′ l more) (omega (arith, R .shallow)) 0 CVal.unit (is-unit refl)
         (reach-moves G e₀ Ω (suc k) s′ (triggered v []) K (reach-go G e₀ Ω k s c F (R .reach) s′ (triggered v []) K (R .is)) (ret CVal.unit) K refl))
 
     -- The first advice begins.
@@ -154,7 +154,7 @@ module _ (T : Table) (root : ℕ) (L : Linked T 0 root) (G : Given) (e₀ : Tm) 
         S′ = record { memory = M′; log = S .log; regs = q }
 
         p : InPlace T root L G e₀ Ω N B S′ (suc k) s′ m P A D
-        p = still T root L G e₀ Ω N B C says S k s m P A D c F R M′ (S .log) q s′ l more
+        p = still R M′ (S .log) q s′ l more
 
         deep : depthOf w ≡ length (P .skel)
         deep = says .around m (p .no-atom) .depth ∙ describes T 0 root L (p .located) (p .no-atom) .depth
@@ -204,7 +204,7 @@ module _ (T : Table) (root : ℕ) (L : Linked T 0 root) (G : Given) (e₀ : Tm) 
             (frame-chain S′ (suc k) s′ m P A D p (n + 1) end within (q .pc) (q .env) (l .pc ∙ R .pc) (p .env-fits) (p .env) (depthOf w + 2) (q .room) index d v x (omega arith) (omega arith)
             (triggered-at T root L M′ (sizes q) (sym next) refl rest))
             (frame-kept S′ (suc k) s′ m P A D p (n + 1) end within (q .pc) (q .env) (l .pc ∙ R .pc) (p .env-fits) (p .env) (depthOf w + 2) (q .room) index) reach in
-            falls T root L G e₀ Ω N B C says S k s m P A D c F R M′ (S .log) q s′ l more {S″ = S″} refl now
+            falls R M′ (S .log) q s′ l more {S″ = S″} refl now
 
         try : (t : Bool) → leb (q .room) (depthOf w + 1) ≡ t
             → Then (choose t (withRegs (halt Outcome.Frames q) S′) (withMemory (putAdvice (q .room) (depthOf w + 2) (q .pc) (q .env) (n + 1) end M′) (setPc (bodyAt M′ n) (setHand 0 (setEnv n (setRoom (q .room - (depthOf w + 2)) q)))) S′))
@@ -348,10 +348,10 @@ module _ (T : Table) (root : ℕ) (L : Linked T 0 root) (G : Given) (e₀ : Tm) 
 
         -- the label is there
         there : (o : Option Dom) (a : CAnswer) → At (with o (λ p. a)) → At a
-        there none a Q = absurd (no-wrong T root L G e₀ Ω N B C says S k s m P A D c F Q refl)
+        there none a Q = no-way Q refl
         there (some p) a Q = Q
 
         try : {u : CVal} → AsLabel T root L (S .memory) (sizes r) x u → At (reduce2C G X s mark y u v′) → Then (reduceMark w x x′ S)
         try (a-label {l = l} p q) Q =
             rw q (named l (omega arith) (hasBit (r .named) l) refl (rw (spend-advice s (λ s′. go s′ (triggered v′ (triggeredBy l (s .advices)))) (triggeredBy l (s .advices))) at (there (getElem? (s .labels) l) _ Q)))
-        try (no-label p) Q = absurd (no-wrong T root L G e₀ Ω N B C says S k s m P A D c F Q (rw p))
+        try (no-label p) Q = no-way Q (rw p)

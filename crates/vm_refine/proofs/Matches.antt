@@ -138,7 +138,7 @@ module _ (T : Table) (root : ℕ) (L : Linked T 0 root) (G : Given) (e₀ : Tm) 
         unfolding reduceMatch
         taken none e R =
             rw (same ∙ ap isFound e, other)
-            (calls T root L G e₀ Ω N B C says S k s m P A D c F R M (S .log) (stepped r) (saying false s)
+            (calls R M (S .log) (stepped r) (saying false s)
             (record { env = refl; room = refl; left = refl; pc = refl; store = store-told T root L B M (S .log) z s (placeOf P A .dom) false st; used = p .common .used; grows = grows-refl M z; slots = slots-refl M; kept = refl; keeps = λ i. refl })
             (begunAt C g) (r .env) (T .term g) (domAt P) (P .env) (body-of g (omega (arith, other)) (l-other (p .located) node)) (p .env) (p .env-fits) refl refl)
         taken (some ws) e R =
@@ -153,7 +153,7 @@ module _ (T : Table) (root : ℕ) (L : Linked T 0 root) (G : Given) (e₀ : Tm) 
             let more : whole (q .pools .bindings) ≡ whole (r .pools .bindings) + length ws = whole-charged (halfOf w) (length ws) (r .pools .bindings) in
             let z′ : sizes q ≡ resized T root L (whole (r .pools .bindings) + length ws) (z .np) z = ap (λ (n : ℕ). resized T root L n (z .np) z) more in
             let grown : Grows M z (X .memory) (sizes q) = subst (λ (y : Sizes). Grows M z (X .memory) y) (sym z′) (t .grows) in
-            calls T root L G e₀ Ω N B C says S k s m P A D c F Q (X .memory) (S .log) q (saying true s′)
+            calls Q (X .memory) (S .log) q (saying true s′)
             (record {
               env = refl;
               room = refl;

@@ -10,7 +10,7 @@ use borrow.Author.Tests.{lt-ltb}
 use Rattle.calculus.specs.Plain.{domOf, methodsOf, methodDom}
 use Rattle.calculus.specs.Syntax.{Dom, Ty, Tm, Tms, call, app}
 use Rattle.calculus.specs.State.{Given, charged, addUses, atDom, someBindings}
-use Rattle.calculus.specs.Answer.{go, wrong, with}
+use Rattle.calculus.specs.Answer.{go, with}
 use Rattle.calculus.specs.Reduce.{bind, methodBody}
 use Rattle.image.specs.Bytes.{le16}
 use Rattle.closure_machine.specs.Closure.{CVal, Env, link, CState}
@@ -36,7 +36,7 @@ use Rattle.vm_refine.proofs.Relations.{Sizes, sizes, IsBody, IsObject, 
 use Rattle.vm_refine.proofs.Tables.{word-other, word-same, grows-put, grows-sizes, grows-trans, Above, above-put, above-trans, SameSlots, slots-put, slots-trans}
 use Rattle.vm_refine.proofs.Store.{Store, resized, store-charged}
 use Rattle.vm_refine.proofs.Views.{AsFunction, a-function, no-function, as-function, AsObject, an-object, no-object, as-object, AsPair, a-pair, no-pair, as-pair}
-use Rattle.vm_refine.proofs.Steps.{measure, After, Stepping, no-wrong, if-bindings}
+use Rattle.vm_refine.proofs.Steps.{measure, After, Stepping, no-way, if-bindings}
 use Rattle.vm_refine.proofs.Entries.{begun-at}
 use Rattle.vm_refine.proofs.Gives.{calls}
 
@@ -111,9 +111,6 @@ module _ (T : Table) (root : ℕ) (L : Linked T 0 root) (G : Given) (e₀ : Tm) 
   abbrev Is : ℕ → CVal → Type 0
   Is x v = IsVal T root L M z x v
 
-  no-way : {a : CAnswer} {X : Type 0} → At a → a ≡ wrong → X
-  no-way R e = absurd (no-wrong T root L G e₀ Ω N B C says S k s m P A D c F R e)
-
   -- The state with n bindings more, and the registers after it.
   abbrev bound : ℕ → CState
   bound j = charged (addUses (s .used) (atDom (domAt P) (someBindings j))) s
@@ -132,7 +129,7 @@ module _ (T : Table) (root : ℕ) (L : Linked T 0 root) (G : Given) (e₀ : Tm) 
       (λ room used Q′.
       let fit : n < 2048 = omega arith in
       let f = subst (λ (y : Sizes). Grows M z (putBinding n word M) y) (sym (larger 1)) (grows-bound T root L M z (st .words) fit (st .pieces-fit) word) in
-      calls T root L G e₀ Ω N B C says S k s m P A D c F Q′ (putBinding n word M) (S .log) (after 1) (bound 1)
+      calls Q′ (putBinding n word M) (S .log) (after 1) (bound 1)
       (record {
         env = refl;
         room = refl;
@@ -250,7 +247,7 @@ module _ (T : Table) (root : ℕ) (L : Linked T 0 root) (G : Given) (e₀ : Tm) 
           env-bound-to T root L M z (st .words) fit (st .pieces-fit) word one 0 (r .env) refl (omega arith) (omega (arith, Q .place .env-fits)) iu (Q .place .env) in
           let ie′ : IsEnv T root L M″ (resized T root L (n + 1 + 1) (z .np) z′) (n + 1) (link t (link u (P .env))) =
           env-bound-to T root L M′ z′ words′ fit′ (st .pieces-fit) word′ two 0 n refl (omega arith) (omega arith) (val-grows T root L M z M′ z′ g it) ie in
-          calls T root L G e₀ Ω N B C says S k s m P A D c F Q M″ (S .log) (after 2) (bound 2)
+          calls Q M″ (S .log) (after 2) (bound 2)
           (record {
             env = refl;
             room = refl;

@@ -10,7 +10,7 @@ use Rattle.calculus.specs.Syntax.{Ty, Tm, newCell, store}
 use Rattle.calculus.specs.Plain.{domOf, heldPlain}
 use Rattle.calculus.specs.State.{Cell, Given, stored, charged, addUses, atDom, oneCell, celled}
 use Rattle.calculus.specs.Place.{Place}
-use Rattle.calculus.specs.Answer.{go, wrong, with}
+use Rattle.calculus.specs.Answer.{go, with}
 use Rattle.laws.proofs.Lookup.{place-below, get-set, get-snoc}
 use Rattle.closure_machine.specs.Closure.{CVal, CState, plainVal}
 use Rattle.closure_machine.specs.Machine.{Control, ret, Stack, CAnswer, reduce1C, reduce2C}
@@ -34,8 +34,8 @@ use Rattle.vm_refine.proofs.Relations.{Sizes, sizes, IsVal, is-unit, is
 use Rattle.vm_refine.proofs.Tables.{word-same, word-other, grows-put, grows-sizes, grows-trans, slots-put}
 use Rattle.vm_refine.proofs.Store.{IsCell, advices-change, Store, cell-change}
 use Rattle.vm_refine.proofs.Views.{AsCell, a-cell, no-cell, as-cell}
-use Rattle.vm_refine.proofs.Steps.{measure, After, Stepping, no-wrong, if-cell}
-use Rattle.vm_refine.proofs.Gives.{Left, gives}
+use Rattle.vm_refine.proofs.Steps.{measure, After, Stepping, no-way, if-cell}
+use Rattle.vm_refine.proofs.Gives.{gives}
 use Rattle.vm_refine.proofs.Values.{tag-value}
 
 -- The parts of a cell.
@@ -69,13 +69,6 @@ module _ (T : Table) (root : ℕ) (L : Linked T 0 root) (G : Given) (e₀ : Tm) 
   abbrev Is : ℕ → CVal → Type 0
   Is x v = IsVal T root L M z x v
 
-  no-way : {a : CAnswer} {X : Type 0} → At a → a ≡ wrong → X
-  no-way R e = absurd (no-wrong T root L G e₀ Ω N B C says S k s m P A D c F R e)
-
-  gave : {a : CAnswer} → At a → (M′ : Memory) (log′ : List ℕ) (q : Regs) (s′ : CState) → Left T root L G e₀ Ω N B C says S k s m P A D c F M′ log′ q s′ → (x : ℕ) (v : CVal) → a ≡ go s′ (ret v) → IsVal T root L M′ (sizes q) x v
-      → Made (completed w x (record { memory = M′; log = log′; regs = q }))
-  gave R M′ log′ q s′ l x v e i = gives T root L G e₀ Ω N B C says S k s m P A D c F R M′ log′ q s′ l x v e i
-
   -- A cell that is there is written.
   pub store-now : (X : Place) (y : Ty) {x x′ : ℕ} {v v′ : CVal} → Is x v → Is x′ v′ → At (reduce2C G X s store y v v′) → Then (reduceStore w x x′ S)
   unfolding with plainVal
@@ -95,7 +88,7 @@ module _ (T : Table) (root : ℕ) (L : Linked T 0 root) (G : Given) (e₀ : Tm) 
           let parts = cell-word x′ (cellNote (cellAt M j)) (omega arith) in
           let is : IsCell T root L tables z word new =
           record { value = val-like T root L tables z (parts .0) (parts .1) (val-grows T root L M z tables z g i′); note = parts .2 ∙ st .are-cells j old there .note; low = st .are-cells j old there .low } in
-          gave Q tables (S .log) (stepped r) (stored j old v′ s)
+          gives Q tables (S .log) (stepped r) (stored j old v′ s)
           (record {
             env = refl;
             room = refl;
@@ -187,7 +180,7 @@ module _ (T : Table) (root : ℕ) (L : Linked T 0 root) (G : Given) (e₀ : Tm) 
 
       made : nc + 1 ≤ 256 → Used (after .pools) (s′ .used) → At (go s′ (ret (CVal.cell (length (s .cells))))) → Made (completed w (value 5 nc) (record { memory = tables; log = S .log; regs = after }))
       made h u Q =
-          gave Q tables (S .log) after s′
+          gives Q tables (S .log) after s′
           (record {
             env = refl;
             room = refl;

@@ -8,7 +8,7 @@ use lib.ListN.{length, length-set}
 use Rattle.calculus.specs.Combinators.{cases}
 use Rattle.calculus.specs.Syntax.{Dom, Ty, Tm, Op2}
 use Rattle.calculus.specs.State.{Given, charged, addUses, atDom, onePiece}
-use Rattle.calculus.specs.Answer.{go, wrong, with}
+use Rattle.calculus.specs.Answer.{go, with}
 use Rattle.calculus.specs.Reduce.{piece, collect}
 use Rattle.closure_machine.specs.Closure.{CVal, Env, CState, plainVal}
 use Rattle.closure_machine.specs.Machine.{Control, ret, pcdN, Stack, CAnswer, reduce2C, reduceNC, reduceAdvC}
@@ -32,7 +32,7 @@ use Rattle.vm_refine.proofs.Tables.{word-same, word-other, grows-put, g
 use Rattle.vm_refine.proofs.Store.{Store, store-charged}
 use Rattle.vm_refine.proofs.Labels.{Labels, digitsOf, onto, set-of-labels}
 use Rattle.vm_refine.proofs.Views.{AsPointcut, a-pointcut, no-pointcut, as-pointcut}
-use Rattle.vm_refine.proofs.Steps.{measure, After, Stepping, no-wrong, if-pieces}
+use Rattle.vm_refine.proofs.Steps.{measure, After, Stepping, no-way, if-pieces}
 use Rattle.vm_refine.proofs.Gives.{gives}
 use Rattle.vm_refine.proofs.Values.{tag-value}
 
@@ -77,9 +77,6 @@ module _ (T : Table) (root : ℕ) (L : Linked T 0 root) (G : Given) (e₀ : Tm) 
   abbrev Is : ℕ → CVal → Type 0
   Is x v = IsVal T root L M z x v
 
-  no-way : {a : CAnswer} {X : Type 0} → At a → a ≡ wrong → X
-  no-way R e = absurd (no-wrong T root L G e₀ Ω N B C says S k s m P A D c F R e)
-
   -- The tables and sizes with a piece more.
   abbrev tables : ℕ → ℕ → Memory
   tables x y = putPiece np x y M
@@ -120,7 +117,7 @@ module _ (T : Table) (root : ℕ) (L : Linked T 0 root) (G : Given) (e₀ : Tm) 
           let room : np < 512 = omega arith in
           let first : pieceFirst (tables x y) np ≡ x = word-other half (i + 1) y i (λ e. omega arith) ∙ word-same M i x (omega (arith, st .words)) in
           let second : pieceSecond (tables x y) np ≡ y = word-same half (i + 1) y (rw (length-set (M .words) i x) (omega (arith, st .words))) in
-          gives T root L G e₀ Ω N B C says S k s m P A D c F Q (tables x y) (S .log) after s′
+          gives Q (tables x y) (S .log) after s′
           (record {
             env = refl;
             room = refl;

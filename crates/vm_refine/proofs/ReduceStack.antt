@@ -135,7 +135,7 @@ module _ (T : Table) (root : ℕ) (L : Linked T 0 root) (G : Given) (e₀ : Tm) 
           let t : Taken T root L (S .memory) (sizes r) (r .kept) (keptBy A) K = taken T root L (S .memory) (sizes r) (st .words) (st .bindings-fit) (R .place .kept) fit in
           let z′ : sizes after ≡ resized T root L (sizes r .nb) (np + r .kept) (sizes r) = ap (λ (n : ℕ). resized T root L (sizes r .nb) n (sizes r)) larger in
           let g : Grows (S .memory) (sizes r) (K .memory) (sizes after) = subst (λ (z : Sizes). Grows (S .memory) (sizes r) (K .memory) z) (sym z′) (t .grows) in
-          gives T root L G e₀ Ω N B C says S k s m P A D c F Q (K .memory) (S .log) after s′
+          gives Q (K .memory) (S .log) after s′
           (record {
             env = refl;
             room = refl;

@@ -16,7 +16,7 @@ use Rattle.calculus.specs.Plain.{domOf}
 use Rattle.calculus.specs.State.{Entry, Advice, Given, Event, prints, Print, logOf, labelled, installed, told}
 use Rattle.calculus.specs.Compose.{member}
 use Rattle.calculus.specs.Place.{Place}
-use Rattle.calculus.specs.Answer.{go, wrong, with}
+use Rattle.calculus.specs.Answer.{go, with}
 use Rattle.calculus.specs.Reduce.{labelRoom, adviceRoom, logRoom}
 use Rattle.laws.proofs.Lookup.{place-below}
 use Rattle.closure_machine.specs.Closure.{CVal, Env, Body, CState, plainVal}
@@ -41,8 +41,8 @@ use Rattle.vm_refine.proofs.Tables.{word-same, word-other, grows-put, g
 use Rattle.vm_refine.proofs.Store.{logBytes, install-more, advices-change, Store, cell-change, log-one, bytes-one, bytes-length, log-length}
 use Rattle.vm_refine.proofs.Labels.{has-union}
 use Rattle.vm_refine.proofs.Views.{AsNumber, a-number, no-number, as-number, AsAdvice, a-advice, no-advice, as-advice}
-use Rattle.vm_refine.proofs.Steps.{measure, After, Stepping, no-wrong, if-there-is-room}
-use Rattle.vm_refine.proofs.Gives.{Left, gives}
+use Rattle.vm_refine.proofs.Steps.{measure, After, Stepping, no-way, if-there-is-room}
+use Rattle.vm_refine.proofs.Gives.{gives}
 use Rattle.vm_refine.proofs.Values.{tag-value}
 
 record-length : (d n : ℕ) → length (logRecord d n) ≡ 10
@@ -91,13 +91,6 @@ module _ (T : Table) (root : ℕ) (L : Linked T 0 root) (G : Given) (e₀ : Tm) 
   abbrev Is : ℕ → CVal → Type 0
   Is x v = IsVal T root L M z x v
 
-  no-way : {a : CAnswer} {X : Type 0} → At a → a ≡ wrong → X
-  no-way R e = absurd (no-wrong T root L G e₀ Ω N B C says S k s m P A D c F R e)
-
-  gave : {a : CAnswer} → At a → (M′ : Memory) (log′ : List ℕ) (q : Regs) (s′ : CState) → Left T root L G e₀ Ω N B C says S k s m P A D c F M′ log′ q s′ → (x : ℕ) (v : CVal) → a ≡ go s′ (ret v) → IsVal T root L M′ (sizes q) x v
-      → Made (completed w x (record { memory = M′; log = log′; regs = q }))
-  gave R M′ log′ q s′ l x v e i = gives T root L G e₀ Ω N B C says S k s m P A D c F R M′ log′ q s′ l x v e i
-
   pub label-now : (X : Place) (x : List (Entry CVal)) (y : Ty) → At (reduce0C G X x s newLabel y) → Then (reduceLabel w S)
   label-now X x y R =
       if-there-is-room T root L G e₀ Ω N B C says S k s m P A D c F (measure S) (labelRoom s) Outcome.Labels _ _ (ltb (r .labels) labelLimit) (ap (λ (i : ℕ). ltb i labelLimit) (st .labels)) R refl
@@ -114,7 +107,7 @@ module _ (T : Table) (root : ℕ) (L : Linked T 0 root) (G : Given) (e₀ : Tm) 
 
       made : length (s .labels) < labelLimit → At (go (labelled (domOf y) s) (ret (CVal.label (length (s .labels))))) → Made (completed w (value 6 (r .labels)) (record { memory = M; log = S .log; regs = after }))
       made h Q =
-          gave Q M (S .log) after (labelled (domOf y) s)
+          gives Q M (S .log) after (labelled (domOf y) s)
           (record {
             env = refl;
             room = refl;
@@ -175,7 +168,7 @@ module _ (T : Table) (root : ℕ) (L : Linked T 0 root) (G : Given) (e₀ : Tm) 
       made n h Q =
           let new : logOf (s .trace ++ (said n ∷ [])) ≡ ps ++ (record { dom = X .dom; shown = n } ∷ []) = log-one (s .trace) (X .dom) n (s .used .mainline) in
           let count : length (logOf (s .trace ++ (said n ∷ []))) ≡ length ps + 1 = ap length new ∙ length-append ps (record { dom = X .dom; shown = n } ∷ []) in
-          gave Q M (over (r .logged) (logRecord (domainOf w) n) (S .log)) after (told (said n) s)
+          gives Q M (over (r .logged) (logRecord (domainOf w) n) (S .log)) after (told (said n) s)
           (record {
             env = refl;
             room = refl;
@@ -254,7 +247,7 @@ module _ (T : Table) (root : ℕ) (L : Linked T 0 root) (G : Given) (e₀ : Tm) 
           let twice : pieceOf x % 512 ≡ pieceOf x = omega arith in
           let now : installedAt tables (0 + length (s .advices)) ≡ pieceOf x =
           ap (λ (j : ℕ). wordAt tables j % 512) same ∙ ap (λ (y : ℕ). y % 512) (word-same M (3841 + r .installed) (pieceOf x) (omega (arith, st .words, st .advices))) ∙ twice in
-          gave Q tables (S .log) after (installed a s)
+          gives Q tables (S .log) after (installed a s)
           (record {
             env = refl;
             room = refl;

@@ -205,9 +205,6 @@ module _ (T : Table) (root : ℕ) (L : Linked T 0 root) (G : Given) (e₀ : Tm) 
           u : Used (r .pools) (s .used)
           u = R .place .common .used
 
-      pub no-wrong : {a : CAnswer} → Stepping S k s m P A D c F a → a ≡ wrong → ⊥
-      no-wrong R q = not-wrong G e₀ Ω k s c F (R .reach) K (R .is ∙ ap (λ (x : CAnswer). due x K) q)
-
       -- Abort ends the run with its step, or is spent.
       pub aborts : (b : ℕ) → Stepping S k s m P A D c F halt → After b (ifLeft S (withRegs (halting Outcome.Aborted (stepped r)) S))
       aborts b R =
@@ -239,3 +236,9 @@ module _ (T : Table) (root : ℕ) (L : Linked T 0 root) (G : Given) (e₀ : Tm) 
               let d : depthOf (codeAt C m) < r .room = leb-false (r .room) (depthOf (codeAt C m)) q in
               let u : depthAt P A ≤ 512 = omega (arith, deep, p .room) in
               h (record { place = p; pc = R .pc; reach = R .reach; shallow = u; is = frames true (le-leb (depthAt P A) frameLimit u) })
+
+-- No step goes wrong.
+module _ {T : Table} {root : ℕ} {L : Linked T 0 root} {G : Given} {e₀ : Tm} {Ω : Sound G e₀} {N : ℕ} {B : List ℕ} {C : Program} {says : SaysCode T (C .image) (C .code)}
+    {S : State} {k : ℕ} {s : CState} {m : ℕ} {P : Site} {A : Chain} {D : Slots} {c : Control} {F : Stack} where
+  pub no-way : {a : CAnswer} {X : Type 0} → Stepping T root L G e₀ Ω N B C says S k s m P A D c F a → a ≡ wrong → X
+  no-way R q = absurd (not-wrong G e₀ Ω k s c F (R .reach) (stackAt P A D) (R .is ∙ ap (λ (x : CAnswer). due x (stackAt P A D)) q))

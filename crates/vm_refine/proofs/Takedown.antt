@@ -117,7 +117,7 @@ module _ (T : Table) (root : ℕ) (L : Linked T 0 root) (G : Given) (e₀ : Tm) 
       → After T root L G e₀ Ω N B (measure S) (reduceTakedown (codeAt C m) S)
   unfolding reduceTakedown
   takedown-now X x y R =
-      gives T root L G e₀ Ω N B C says S k s m P A D c F R (K .memory) (S .log) after (cleared d s)
+      gives R (K .memory) (S .log) after (cleared d s)
       (record {
         env = refl;
         room = refl;

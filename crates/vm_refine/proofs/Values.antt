@@ -32,7 +32,7 @@ use Rattle.vm_machine.specs.Reduce.{given}
 use Rattle.vm_refine.proofs.Relations.{Sizes, sizes, IsVal, is-unit, is-truth, is-num}
 use Rattle.vm_refine.proofs.Tables.{grows-refl, slots-refl}
 use Rattle.vm_refine.proofs.Views.{AsUnit, a-unit, no-unit, as-unit, AsTruth, a-truth, no-truth, as-truth, AsNumber, a-number, no-number, as-number, AsCell, a-cell, no-cell, as-cell}
-use Rattle.vm_refine.proofs.Steps.{measure, After, Stepping, no-wrong}
+use Rattle.vm_refine.proofs.Steps.{measure, After, Stepping, no-way}
 use Rattle.vm_refine.proofs.Gives.{Left, gives, goes-on}
 
 -- The tag and the body of a value.
@@ -106,13 +106,10 @@ module _ (T : Table) (root : ℕ) (L : Linked T 0 root) (G : Given) (e₀ : Tm) 
       record { env = refl; room = refl; left = refl; pc = refl; store = R .place .common .store; used = R .place .common .used; grows = grows-refl (S .memory) (sizes (S .regs)); slots = slots-refl (S .memory); kept = refl; keeps = λ i. refl }
 
   pub value-now : {a : CAnswer} → At a → (x : ℕ) (v : CVal) → a ≡ go s (ret v) → Is x v → Made (given (codeAt C m) x S)
-  value-now R x v e i = gives T root L G e₀ Ω N B C says S k s m P A D c F R (S .memory) (S .log) (stepped (S .regs)) s (unchanged R) x v e i
+  value-now R x v e i = gives R (S .memory) (S .log) (stepped (S .regs)) s (unchanged R) x v e i
 
   term-now : {a : CAnswer} → At a → (g f : ℕ) → SaysTarget T g f → Located T 0 root L f (P .skel) (P .dom) → a ≡ go s (eval (T .term f) (P .env)) → Made (goneTo C (codeAt C m) g (withRegs (stepped (S .regs)) S))
-  term-now R g f t l e = goes-on T root L G e₀ Ω N B C says S k s m P A D c F R (S .memory) (S .log) (stepped (S .regs)) s (unchanged R) g f t l e
-
-  no-way : {a : CAnswer} {X : Type 0} → At a → a ≡ wrong → X
-  no-way R e = absurd (no-wrong T root L G e₀ Ω N B C says S k s m P A D c F R e)
+  term-now R g f t l e = goes-on R (S .memory) (S .log) (stepped (S .regs)) s (unchanged R) g f t l e
 
   pub lower-now : {x : ℕ} {v : CVal} → Is x v → At (reduceSeqC s (ret CVal.unit) v) → Made (given (codeAt C m) unitValue S)
   unfolding with plainVal

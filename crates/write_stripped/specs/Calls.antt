@@ -18,14 +18,14 @@ use Rattle.image_written.specs.Stripped.{wrongHigh, withoutWatches}
 use Rattle.write_idle.specs.Idle.{inMask}
 use Rattle.write_stripped.specs.declared.Stripped.{Stripped}
 
--- "23 the given set lacks domain 0, names an absent domain, or lacks a domain above a member": of a mask, by the order of the domains and how many there are.
+-- Refusal 23, which `wrongHigh` decides, of a mask: by the order of the domains and how many there are, and by those of an image.
 abbrev pub wrongBy : (Dom → Dom → Bool) → ℕ → ℕ → Bool
 wrongBy below count mask = wrongHigh (inMask mask) below count
 
 abbrev pub wrongSet : Layout → ℕ → Bool
 wrongSet L mask = wrongBy (leq L) (length (L .domains)) mask
 
--- "24 the output is shorter than the image": the number of each answer, 0 where the image was written, and the place.
+-- The number of each answer, 0 where the image was written, and the place. Refusal 24 is decided by `tooShort`.
 abbrev pub wrongSetNumber : ℕ
 wrongSetNumber = 23
 

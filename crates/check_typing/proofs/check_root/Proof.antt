@@ -13,11 +13,11 @@ use Rattle.check_rules.proofs.Located.{good-of}
 use Rattle.check_typing.proofs.Root.{root-checked}
 use Rattle.check_typing.proofs.ScopeRoom.{root-room}
 
-sub-t9 : tie.Need-sub-t9
-sub-t9 c = search needs
+sub-t10 : tie.Need-sub-t10
+sub-t10 c = search needs
 
-cast-t10 : tie.Need-cast-t10
-cast-t10 c =
+cast-t11 : tie.Need-cast-t11
+cast-t11 c =
     let s = c .before in
     let f = good-of (now (s .args .image)) (s .pre .0 .terms .laid-out) .few-terms in
     let e = s .pre .1 in
@@ -30,13 +30,20 @@ check-term-requires c κs =
     let z = s .pre .2 in
     (s .pre .0, omega arith, s .pre .3, root-room (s .pre .0 .terms) _ (s .args .count) (s .pre .4) e refl, s .pre .5)
 
+verdict-of-requires : tie.Need-verdict-of-requires
+verdict-of-requires c κs =
+    let s = c .before .before .before .before in
+    let e = s .pre .1 in
+    let z = s .pre .2 in
+    (s .pre .0 .terms, omega (arith, e, z, c .before .check-term .ensures .1))
+
 returns : tie.Need-returns
 returns c =
-    let s = c .before .before .before in
+    let s = c .before .before .before .before .before in
     let e = s .pre .1 in
     let z = s .pre .2 in
     let L = recordsOf (now (s .args .image)) in
-    c .check-term .ensures .0 ∙ ap (λ n. checked L (settingIn _ 0 0) (n - 1)) e ∙ root-checked L (omega arith) _
+    c .verdict-of .ensures ∙ c .before .before .check-term .ensures .0 ∙ ap (λ n. checked L (settingIn _ 0 0) (n - 1)) e ∙ root-checked L (omega arith) _
 
 pub check-root-spec : {M : Type 1} → statement M
-check-root-spec = tie.close (tie.spec sub-t9 cast-t10 check-term-requires returns)
+check-root-spec = tie.close (tie.spec sub-t10 cast-t11 check-term-requires verdict-of-requires returns)

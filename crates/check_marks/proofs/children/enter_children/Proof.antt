@@ -1,9 +1,11 @@
 -- `check_marks::children::enter_children` meets its contract: those side by side come before the entries.
 use mathlib.Core.Path.{refl, sym, subst, _∙_}
+use mathlib.Core.List.{foldl-append}
+use lib.Dec.{lit<}
 use denote.Ref.{now}
 use Rattle.check_records.specs.Heads.{sideOf, entriesOf}
-use Rattle.check_marks.specs.Marks.{Lower}
-use Rattle.check_marks.proofs.ChildByChild.{lower-first, lower-rest, use-append, high-append}
+use Rattle.check_marks.specs.Marks.{Lower, used}
+use Rattle.check_marks.proofs.ChildByChild.{lower-first, lower-rest, high-append, high-low}
 use borrow.Author.Needs.{needs}
 use Rattle.check_marks.proofs.children.enter_children.Statement.{statement}
 use Rattle.check_marks.proofs.children.enter_children.Tie as tie
@@ -19,7 +21,10 @@ use-entries-requires c κs =
     (s .pre .0, subst (λ n. Lower n es) (sym (u .use-side .kept .1 .1 .0)) (lower-rest _ (sideOf (s .args .code) (now (s .args .fields))) es (s .pre .2)))
 
 set-height-requires : tie.Need-set-height-requires
-set-height-requires c κs = search needs
+set-height-requires c κs =
+    let e = c .before .before .before in
+    let u = e .before .before .before .before in
+    (search needs, high-low _ _ _ _ (e .use-entries .ensures .0) (high-low _ _ 0 _ (u .use-side .ensures .0) (lit< tt)))
 
 same-length : tie.Need-same-length
 same-length c =
@@ -37,7 +42,7 @@ returns c =
     let fs = now (a .fields) in
     let cs = sideOf (a .code) fs in
     let gs = entriesOf (a .code) fs in
-    h .set-height .ensures ∙ rw (use-append cs gs (now (a .marks)), high-append cs gs (now (a .marks)) 0, e .use-entries .ensures .0, e .use-entries .ensures .1, u .use-side .ensures .0, u .use-side .ensures .1) refl
+    h .set-height .ensures ∙ rw (foldl-append used (now (a .marks)) cs gs, high-append cs gs (now (a .marks)) 0, e .use-entries .ensures .0, e .use-entries .ensures .1, u .use-side .ensures .0, u .use-side .ensures .1) refl
 
 pub enter-children-spec : {M : Type 1} → statement M
 enter-children-spec =

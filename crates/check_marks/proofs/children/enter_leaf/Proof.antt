@@ -1,5 +1,5 @@
 -- `check_marks::children::enter_leaf` meets its contract: a term without children has the height 1.
-use Rattle.check_marks.specs.Marks.{useAll, highest}
+use Rattle.check_marks.specs.Marks.{highest}
 use borrow.Author.Needs.{needs}
 use Rattle.check_marks.proofs.children.enter_leaf.Statement.{statement}
 use Rattle.check_marks.proofs.children.enter_leaf.Tie as tie
@@ -11,7 +11,7 @@ same-length : tie.Need-same-length
 same-length c = c .before .before .set-height .kept .0
 
 returns : tie.Need-returns
-unfolding useAll highest
+unfolding highest
 returns c = c .before .before .set-height .ensures
 
 pub enter-leaf-spec : {M : Type 1} → statement M

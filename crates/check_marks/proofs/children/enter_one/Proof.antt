@@ -1,6 +1,8 @@
 -- `check_marks::children::enter_one` meets its contract: the child is used, and the term is higher.
 use mathlib.Core.Path.{refl, _∙_}
-use Rattle.check_marks.specs.Marks.{useAll, highest}
+use lib.Dec.{lit<}
+use Rattle.check_marks.specs.Marks.{highest}
+use Rattle.check_marks.proofs.ChildByChild.{high-low}
 use borrow.Author.Needs.{needs}
 use Rattle.check_marks.proofs.children.enter_one.Statement.{statement}
 use Rattle.check_marks.proofs.children.enter_one.Tie as tie
@@ -9,7 +11,7 @@ use-child-requires : tie.Need-use-child-requires
 use-child-requires c κs = search needs
 
 set-height-requires : tie.Need-set-height-requires
-set-height-requires c κs = search needs
+set-height-requires c κs = (search needs, high-low _ _ 0 _ (c .before .before .before .use-child .ensures .0) (lit< tt))
 
 same-length : tie.Need-same-length
 same-length c =
@@ -18,7 +20,7 @@ same-length c =
     at-set-height .set-height .kept .0 ∙ at-use-child .use-child .kept .0
 
 returns : tie.Need-returns
-unfolding useAll highest
+unfolding highest
 returns c =
     let h = c .before .before in
     let u1 = h .before .before .before .before in

@@ -1,6 +1,8 @@
 -- `check_marks::children::enter_two` meets its contract: one child is used after the other.
 use mathlib.Core.Path.{refl, _∙_}
-use Rattle.check_marks.specs.Marks.{useAll, highest}
+use lib.Dec.{lit<}
+use Rattle.check_marks.specs.Marks.{highest}
+use Rattle.check_marks.proofs.ChildByChild.{high-low}
 use borrow.Author.Needs.{needs}
 use Rattle.check_marks.proofs.children.enter_two.Statement.{statement}
 use Rattle.check_marks.proofs.children.enter_two.Tie as tie
@@ -12,7 +14,10 @@ use-child-requires-2 : tie.Need-use-child-requires-2
 use-child-requires-2 c κs = search needs
 
 set-height-requires : tie.Need-set-height-requires
-set-height-requires c κs = search needs
+set-height-requires c κs =
+    let u2 = c .before .before .before in
+    let u1 = u2 .before .before .before .before in
+    (search needs, high-low _ _ _ _ (u2 .use-child2 .ensures .0) (high-low _ _ 0 _ (u1 .use-child .ensures .0) (lit< tt)))
 
 same-length : tie.Need-same-length
 same-length c =
@@ -22,7 +27,7 @@ same-length c =
     at-set-height .set-height .kept .0 ∙ at-use-child2 .use-child2 .kept .0 ∙ at-use-child .use-child .kept .0
 
 returns : tie.Need-returns
-unfolding useAll highest
+unfolding highest
 returns c =
     let h = c .before .before in
     let u2 = h .before .before .before .before in

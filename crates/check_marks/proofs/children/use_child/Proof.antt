@@ -3,7 +3,7 @@ use Prim.Native.Nat.{max}
 use denote.Ref.{now}
 use lib.ListN.{set}
 use mathlib.Core.Path.{ap, _∙_}
-use Rattle.check_marks.specs.Marks.{heightIn, usedMark, useAll, highest}
+use Rattle.check_marks.specs.Marks.{heightIn, usedMark, highest}
 use borrow.Author.Needs.{needs}
 use Rattle.check_marks.proofs.children.use_child.Statement.{statement}
 use Rattle.check_marks.proofs.children.use_child.Tie as tie
@@ -17,6 +17,9 @@ used-mark-requires c κs = search needs
 set-mark-requires : tie.Need-set-mark-requires
 set-mark-requires c κs = search needs
 
+cast-higher : tie.Need-cast-higher
+cast-higher c = search needs
+
 higher-requires : tie.Need-higher-requires
 higher-requires c κs = search needs
 
@@ -24,7 +27,7 @@ same-length : tie.Need-same-length
 same-length c = c .before .before .before .set-mark .kept .0
 
 returns : tie.Need-returns
-unfolding useAll highest
+unfolding highest
 returns c =
     let at-set = c .before .before .before in
     let at-mark = at-set .before .before .before in
@@ -39,6 +42,7 @@ use-child-spec =
     mark-of-requires
     used-mark-requires
     set-mark-requires
+    cast-higher
     higher-requires
     same-length
     returns)

@@ -2,7 +2,7 @@
 use Prim.Native.Nat.{ℕ, _+_, _-_, _≤_}
 use native.Mathlib.Omega.{arith}
 use mathlib.Core.Path.{_≡_, refl, ap, subst, sym, _∙_}
-use mathlib.Core.List.{List}
+use mathlib.Core.List.{List, foldl-append}
 use lib.ListN.{length}
 use denote.Ref.{now}
 use Rattle.image.specs.Kinds.{an-entry}
@@ -10,8 +10,8 @@ use Rattle.image.specs.Records.{asChild}
 use Rattle.check_records.specs.Codes.{countOf, childrenIn, entriesIn}
 use Rattle.check_records.specs.Heads.{entriesOf}
 use Rattle.check_records.proofs.Entries.{entriesLeft, all-left, next-left, none-left}
-use Rattle.check_marks.specs.Marks.{Lower, useAll, highest}
-use Rattle.check_marks.proofs.ChildByChild.{lower-first, lower-rest, use-append, high-append}
+use Rattle.check_marks.specs.Marks.{Lower, used, useAll, highest}
+use Rattle.check_marks.proofs.ChildByChild.{lower-first, lower-rest, high-append}
 use borrow.Author.Needs.{needs}
 use Rattle.check_marks.proofs.children.use_entries.Statement.{statement}
 use Rattle.check_marks.proofs.children.use_entries.Tie as tie
@@ -104,7 +104,7 @@ loop-again c =
     let ms = m .last .1 .1 .0 in
     let kept : length ms ≡ length (l .marks) = m .kept .1 .1 .0 in
     let high : highest (entriesLeft fs first count (l .j)) (l .marks) (l .h) ≡ highest gs ms (m .result) = ap (λ xs. highest xs (l .marks) (l .h)) e ∙ high-append es gs (l .marks) (l .h) ∙ rw (m .ensures .0, m .ensures .1) refl in
-    let uses : useAll (entriesLeft fs first count (l .j)) (l .marks) ≡ useAll gs ms = ap (λ xs. useAll xs (l .marks)) e ∙ use-append es gs (l .marks) ∙ ap (λ xs. useAll gs xs) (sym (m .ensures .1)) in
+    let uses : useAll (entriesLeft fs first count (l .j)) (l .marks) ≡ useAll gs ms = ap (λ xs. useAll xs (l .marks)) e ∙ foldl-append used (l .marks) es gs ∙ ap (λ xs. useAll gs xs) (sym (m .ensures .1)) in
     let below = lower-rest (length (l .marks)) es gs (subst (λ xs. Lower (length (l .marks)) xs) e (l .inv .2)) in
     (search needs, kept ∙ l .inv .1, subst (λ q. Lower q gs) (sym kept) below, l .inv .3 ∙ high, l .inv .4 ∙ uses)
 
@@ -112,7 +112,7 @@ same-length : tie.Need-same-length Inv-loop μ-loop
 same-length c = search needs
 
 returns : tie.Need-returns Inv-loop μ-loop
-unfolding useAll highest
+unfolding highest
 returns c =
     let l = c .before .loop in
     let n = c .before .before in

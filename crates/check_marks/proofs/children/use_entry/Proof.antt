@@ -1,13 +1,13 @@
 -- `check_marks::children::use_entry` meets its contract: an entry of 0 names no child, any other names one.
 use mathlib.Core.Path.{refl}
 use lib.Dec.{lit<}
-use Rattle.check_marks.specs.Marks.{useAll, highest}
+use Rattle.check_marks.specs.Marks.{highest}
 use borrow.Author.Needs.{needs}
 use Rattle.check_marks.proofs.children.use_entry.Statement.{statement}
 use Rattle.check_marks.proofs.children.use_entry.Tie as tie
 
 returns : tie.Need-returns
-unfolding useAll highest
+unfolding highest
 returns c = rw (c .if1 .taken) (refl, refl)
 
 entry-term-requires : tie.Need-entry-term-requires

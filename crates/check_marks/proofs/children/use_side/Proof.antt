@@ -4,10 +4,11 @@ use native.Mathlib.Omega.{arith}
 use mathlib.Core.Path.{_≡_, refl, ap, sym, _∙_}
 use lib.ListN.{length, getD, drop}
 use denote.Ref.{now}
+use Rattle.verdict.proofs.Changes.{fold-next, fold-end}
 use Rattle.check_records.specs.Codes.{childrenIn}
 use Rattle.check_records.specs.Heads.{fieldIn, sideOf}
-use Rattle.check_marks.specs.Marks.{useAll, highest}
-use Rattle.check_marks.proofs.ChildByChild.{use-next, use-end, high-next, high-end, side-length, side-is}
+use Rattle.check_marks.specs.Marks.{used, useAll, highest}
+use Rattle.check_marks.proofs.ChildByChild.{high-next, high-end, side-length, side-is}
 use borrow.Author.Needs.{needs}
 use Rattle.check_marks.proofs.children.use_side.Statement.{statement}
 use Rattle.check_marks.proofs.children.use_side.Tie as tie
@@ -60,7 +61,7 @@ loop-less : tie.Need-loop-less Inv-loop μ-loop
 loop-less c = search needs
 
 loop-again : tie.Need-loop-again Inv-loop μ-loop
-unfolding useAll highest
+unfolding highest
 loop-again c =
     let u = c .before .before .use-child in
     let t = c .before .before .before .before in
@@ -74,7 +75,7 @@ loop-again c =
     let i : l .j < length cs = rw (side-length x fs) n in
     let e : t .term-field .result .0 ≡ getD cs (l .j) 0 = t .term-field .ensures ∙ ap (λ y. fieldIn fs (y + l .j)) (k .before .field-count .ensures) ∙ side-is x fs (l .j) n in
     let high : highest (drop (l .j) cs) (l .marks) (l .h) ≡ highest (drop (l .j + 1) cs) (u .last .0) (u .result) = high-next cs (l .marks) (l .j) (l .h) i ∙ rw (u .ensures .0, u .ensures .1, e) refl in
-    let uses : useAll (drop (l .j) cs) (l .marks) ≡ useAll (drop (l .j + 1) cs) (u .last .0) = use-next cs (l .marks) (l .j) i ∙ rw (u .ensures .1, e) refl in
+    let uses : useAll (drop (l .j) cs) (l .marks) ≡ useAll (drop (l .j + 1) cs) (u .last .0) = fold-next used cs (l .marks) (l .j) i ∙ rw (u .ensures .1, e) refl in
     (search needs, u .kept .0 ∙ l .inv .1, l .inv .2 ∙ high, l .inv .3 ∙ uses)
 
 same-length : tie.Need-same-length Inv-loop μ-loop
@@ -87,7 +88,7 @@ returns c =
     let a = start .args in
     let cs = sideOf (a .code) (now (a .fields)) in
     let h : length cs ≤ l .j = rw (side-length (a .code) (now (a .fields))) (omega (arith, c .before .before .child-count .ensures)) in
-    (sym (l .inv .2 ∙ high-end cs (l .marks) (l .j) (l .h) h), sym (l .inv .3 ∙ use-end cs (l .marks) (l .j) h))
+    (sym (l .inv .2 ∙ high-end cs (l .marks) (l .j) (l .h) h), sym (l .inv .3 ∙ fold-end used cs (l .marks) (l .j) h))
 
 pub use-side-spec : {M : Type 1} → statement M
 use-side-spec =

@@ -1,11 +1,11 @@
 -- `check_shape::descent::mark_children` meets its contract: the children side by side, then those of the entries.
 use borrow.Author.Needs.{needs}
 use mathlib.Core.Path.{subst, sym, _∙_}
+use mathlib.Core.List.{foldl-append}
 use denote.Ref.{now}
 use Rattle.check_records.specs.Heads.{sideOf, entriesOf}
 use Rattle.check_marks.specs.Marks.{Lower}
 use Rattle.check_marks.proofs.ChildByChild.{lower-first, lower-rest}
-use Rattle.check_shape.proofs.DepthMarks.{set-append}
 use Rattle.check_shape.proofs.descent.mark_children.Statement.{statement}
 use Rattle.check_shape.proofs.descent.mark_children.Tie as tie
 
@@ -35,7 +35,7 @@ returns c =
     let fs = now (a .fields) in
     let es = sideOf (a .code) fs in
     let gs = entriesOf (a .code) fs in
-    rw (side .ensures) at (m .ensures) ∙ sym (set-append es gs (now (a .depths)) (a .d))
+    rw (side .ensures) at (m .ensures) ∙ sym (foldl-append _ (now (a .depths)) es gs)
 
 pub mark-children-spec : {M : Type 1} → statement M
 mark-children-spec =

@@ -3,7 +3,7 @@ use borrow.Author.Needs.{needs}
 use Prim.Native.Nat.{ℕ, _+_, _-_, _≤_}
 use native.Mathlib.Omega.{arith}
 use mathlib.Core.Path.{_≡_, refl, ap, subst, sym, _∙_}
-use mathlib.Core.List.{List}
+use mathlib.Core.List.{List, foldl-append}
 use lib.ListN.{length}
 use denote.Ref.{now}
 use Rattle.image.specs.Kinds.{an-entry}
@@ -14,7 +14,6 @@ use Rattle.check_records.specs.Heads.{entriesOf}
 use Rattle.check_records.proofs.Entries.{entriesLeft, all-left, next-left, none-left}
 use Rattle.check_marks.specs.Marks.{Lower}
 use Rattle.check_marks.proofs.ChildByChild.{lower-first, lower-rest}
-use Rattle.check_shape.proofs.DepthMarks.{set-append}
 use Rattle.check_shape.proofs.descent.mark_entries.Statement.{statement}
 use Rattle.check_shape.proofs.descent.mark_entries.Tie as tie
 
@@ -104,7 +103,7 @@ loop-again c =
     let e = next-left fs first count (l .j) (v .result) (t .loop-test .taken) (v .ensures) in
     let ds = m .last .1 .1 .0 in
     let kept : length ds ≡ length (l .depths) = m .kept .1 .1 .0 in
-    let deep : setAll (entriesLeft fs first count (l .j)) (a .d) (l .depths) ≡ setAll gs (a .d) ds = ap (λ xs. setAll xs (a .d) (l .depths)) e ∙ set-append es gs (l .depths) (a .d) ∙ ap (λ xs. setAll gs (a .d) xs) (sym (m .ensures)) in
+    let deep : setAll (entriesLeft fs first count (l .j)) (a .d) (l .depths) ≡ setAll gs (a .d) ds = ap (λ xs. setAll xs (a .d) (l .depths)) e ∙ foldl-append _ (l .depths) es gs ∙ ap (λ xs. setAll gs (a .d) xs) (sym (m .ensures)) in
     let below = lower-rest (length (l .depths)) es gs (subst (λ xs. Lower (length (l .depths)) xs) e (l .inv .2)) in
     (search needs, kept ∙ l .inv .1, subst (λ q. Lower q gs) (sym kept) below, l .inv .3 ∙ deep)
 

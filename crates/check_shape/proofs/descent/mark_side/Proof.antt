@@ -5,10 +5,10 @@ use mathlib.Core.Path.{_≡_, refl, ap, sym, _∙_}
 use lib.ListN.{length, getD, drop, set}
 use denote.Ref.{now}
 use Rattle.verdict.specs.Shape.{setAll}
+use Rattle.verdict.proofs.Changes.{fold-next, fold-end}
 use Rattle.check_records.specs.Codes.{childrenIn}
 use Rattle.check_records.specs.Heads.{fieldIn, sideOf}
 use Rattle.check_marks.proofs.ChildByChild.{side-length, side-is}
-use Rattle.check_shape.proofs.DepthMarks.{set-next, set-end}
 use borrow.Author.Needs.{needs}
 use Rattle.check_shape.proofs.descent.mark_side.Statement.{statement}
 use Rattle.check_shape.proofs.descent.mark_side.Tie as tie
@@ -71,7 +71,7 @@ loop-again c =
     let h : l .j < length cs = rw (side-length x fs) n in
     let e : t .term-field .result .0 ≡ getD cs (l .j) 0 = t .term-field .ensures ∙ ap (λ i. fieldIn fs (i + l .j)) (k .before .field-count .ensures) ∙ side-is x fs (l .j) n in
     let r : m .last .0 ≡ set (l .depths) (getD cs (l .j) 0) (a .d) = rw e at (m .ensures) in
-    (search needs, m .kept .0 ∙ l .inv .1, l .inv .2 ∙ set-next cs (l .depths) (a .d) (l .j) h ∙ ap (λ ds. setAll (drop (l .j + 1) cs) (a .d) ds) (sym r))
+    (search needs, m .kept .0 ∙ l .inv .1, l .inv .2 ∙ fold-next (λ ds n. set ds n (a .d)) cs (l .depths) (l .j) h ∙ ap (λ ds. setAll (drop (l .j + 1) cs) (a .d) ds) (sym r))
 
 same-length : tie.Need-same-length Inv-loop μ-loop
 same-length c = search needs
@@ -83,7 +83,7 @@ returns c =
     let a = start .args in
     let cs = sideOf (a .code) (now (a .fields)) in
     let h : length cs ≤ l .j = rw (side-length (a .code) (now (a .fields))) (omega (arith, c .before .before .child-count .ensures)) in
-    sym (l .inv .2 ∙ set-end cs (l .depths) (a .d) (l .j) h)
+    sym (l .inv .2 ∙ fold-end (λ ds n. set ds n (a .d)) cs (l .depths) (l .j) h)
 
 pub mark-side-spec : {M : Type 1} → statement M
 mark-side-spec =

@@ -13,7 +13,8 @@ use Rattle.check_typing.proofs.pass.+check_here+check_moved+check_term.
 use Rattle.check_typing.proofs.pass.+check_here+check_moved+check_term.{statement}
 use Rattle.check_typing.proofs.pass.+check_here+check_moved+check_term.Tie.{close}
 use native.Mathlib.Omega.{arith}
-use mathlib.Core.Path.{refl, sym, ap, _∙_}
+use mathlib.Core.Path.{_≡_, refl, sym, ap, subst, _∙_}
+use mathlib.Core.List.{List}
 use mathlib.Core.Logic.{⊎-elim}
 use borrow.Author.Tests.{leb-true, leb-false}
 use lib.ListN.{length, take}
@@ -23,7 +24,9 @@ use Rattle.image.specs.Layout.{recordsOf}
 use Rattle.verdict.specs.Check.{checked}
 use Rattle.check_rules.specs.Lent.{contextIn, settingIn}
 use Rattle.check_rules.proofs.Located.{typed-in}
+use Rattle.check_typing.specs.Faults.{verdictAt}
 use Rattle.check_typing.proofs.TermPass.{front-start, refused-here, leaf-checked}
+use Rattle.check_typing.proofs.Faults.{fault-refused, fault-accepted, own-back, own-below}
 use Rattle.check_typing.proofs.ScopeRoom.{more-room}
 mod Cycle
 mod Moved
@@ -69,17 +72,17 @@ module _ (t : ℕ) where
       let l = moved.lower x in
       (omega arith, (s .pre .1 .0, moved.inside x, s .pre .1 .2, moved.room x, s .pre .1 .4))
 
-  moved-is-refused-requires : moved-lts.Need-is-refused-requires (moved-claims t) (check-moved-at t) moved-reads.Post moved.Inv-loop moved.μ-loop
-  moved-is-refused-requires c κs = search needs
-
   -- A child is refused.
   moved-returns : moved-lts.Need-returns (moved-claims t) (check-moved-at t) moved-reads.Post moved.Inv-loop moved.μ-loop
   moved-returns c =
-      let v = c .before .before .check-term in
-      let x = c .before .before .before .before in (
-        moved.stops x (v .result) (v .ensures .0) (sym (c .before .is-refused .ensures) ∙ c .if1 .taken),
-        moved.kept x (v .last .1 .1 .1 .1 .1 .1 .0) (v .ensures .1),
-        v .ensures .2 ∙ moved.same-length x,
+      let v = c .before .check-term in
+      let x = c .before .before .before in
+      let l = moved.lower x in
+      let L = recordsOf (moved.image-of (moved.parent-of x)) in (
+        moved.stops x (verdictAt L (v .result)) (v .ensures .0) (fault-refused L (v .result) (c .if1 .taken)),
+        omega (arith, l, v .ensures .1),
+        moved.kept x (v .last .1 .1 .1 .1 .1 .1 .0) (v .ensures .2),
+        v .ensures .3 ∙ moved.same-length x,
       )
 
   moved-add-j : moved-lts.Need-add-j (moved-claims t) (check-moved-at t) moved-reads.Post moved.Inv-loop moved.μ-loop
@@ -90,9 +93,10 @@ module _ (t : ℕ) where
 
   moved-loop-again : moved-lts.Need-loop-again (moved-claims t) (check-moved-at t) moved-reads.Post moved.Inv-loop moved.μ-loop
   moved-loop-again c =
-      let v = c .before .before .check-term in
-      let x = c .before .before .before .before in
-      moved.goes-on x (v .result) (v .last .1 .1 .1 .1 .1 .1 .0) (v .ensures .0) (sym (c .before .is-refused .ensures) ∙ c .if1 .left) (v .ensures .2) (v .ensures .1)
+      let v = c .before .check-term in
+      let x = c .before .before .before in
+      let L = recordsOf (moved.image-of (moved.parent-of x)) in
+      moved.goes-on x (verdictAt L (v .result)) (v .last .1 .1 .1 .1 .1 .1 .0) (v .ensures .0) (fault-accepted L (v .result) (c .if1 .left)) (v .ensures .3) (v .ensures .2)
 
   -- All children pass.
   moved-returns-2 : moved-lts.Need-returns-2 (moved-claims t) (check-moved-at t) moved-reads.Post moved.Inv-loop moved.μ-loop
@@ -100,7 +104,7 @@ module _ (t : ℕ) where
       let l = c .before in
       let d = l .before in
       let all = c .loop-test .left in
-      (sym (l .loop .inv .3 (moved.kind-of (moved.start-of d)) (moved.numbered d)) ∙ moved.whole d (l .loop .j) (omega arith), l .loop .inv .2, l .loop .inv .1)
+      (sym (l .loop .inv .3 (moved.kind-of (moved.start-of d)) (moved.numbered d)) ∙ moved.whole d (l .loop .j) (omega arith), omega arith, l .loop .inv .2, l .loop .inv .1)
 
 -- A term: its rule, then its children.
 module _ (t : ℕ) where
@@ -113,11 +117,20 @@ module _ (t : ℕ) where
       let r = more-room (s .pre .1 .3) (s .pre .1 .1) in
       (s .pre .1 .0, s .pre .1 .1, leb-true _ _ (sym (c .before .before .before .before .is-leaf .ensures) ∙ c .before .before .before .if1 .taken), omega arith)
 
+  fault-of-requires : here-lts.Need-fault-of-requires (here-claims t) (check-here-at t) here-reads.Post same.Inv-loop same.μ-loop
+  fault-of-requires c κs = search needs
+
   -- A constant or a variable is checked by its rule alone.
   returns : here-lts.Need-returns (here-claims t) (check-here-at t) here-reads.Post same.Inv-loop same.μ-loop
   returns c =
-      let s = c .before .before .before .before .before .before .before .before in (
-        c .check-leaf .ensures (s .args .c .0) ∙ leaf-checked (s .pre .1 .0 .terms) (s .pre .1 .1) (same.setting-of s) (leb-true _ _ (sym (c .before .before .before .before .before .is-leaf .ensures) ∙ c .before .before .before .before .if1 .taken)),
+      let s = c .before .before .before .before .before .before .before .before .before in
+      let v = c .before .check-leaf in
+      let n = s .args .n .0 in
+      let f = c .fault-of .ensures in
+      let e = v .ensures (s .args .c .0) in
+      let small = leb-true _ _ (sym (c .before .before .before .before .before .before .is-leaf .ensures) ∙ c .before .before .before .before .before .if1 .taken) in (
+        own-back (recordsOf (same.image-of s)) (same.setting-of s) n e f ∙ (e ∙ leaf-checked (s .pre .1 .0 .terms) (s .pre .1 .1) (same.setting-of s) small),
+        own-below (v .result) n f,
         refl,
         refl,
       )
@@ -130,12 +143,19 @@ module _ (t : ℕ) where
   is-refused-requires : here-lts.Need-is-refused-requires (here-claims t) (check-here-at t) here-reads.Post same.Inv-loop same.μ-loop
   is-refused-requires c κs = search needs
 
+  fault-of-requires-2 : here-lts.Need-fault-of-requires-2 (here-claims t) (check-here-at t) here-reads.Post same.Inv-loop same.μ-loop
+  fault-of-requires-2 c κs = search needs
+
   -- The term itself is refused.
   returns-2 : here-lts.Need-returns-2 (here-claims t) (check-here-at t) here-reads.Post same.Inv-loop same.μ-loop
   returns-2 c =
-      let s = c .before .before .before .before .before .before .before .before .before .before in
-      let v = c .before .before .check-rule in (
-        refused-here (s .pre .1 .0 .terms) (s .pre .1 .1) (same.setting-of s) (v .result) (v .ensures (contextIn (now (s .args .scope)) (s .args .len))) (sym (c .before .is-refused .ensures) ∙ c .if2 .taken),
+      let s = c .before .before .before .before .before .before .before .before .before .before .before in
+      let v = c .before .before .before .check-rule in
+      let n = s .args .n .0 in
+      let f = c .fault-of2 .ensures in
+      let e = v .ensures (contextIn (now (s .args .scope)) (s .args .len)) in (
+        own-back (recordsOf (same.image-of s)) (same.setting-of s) n e f ∙ refused-here (s .pre .1 .0 .terms) (s .pre .1 .1) (same.setting-of s) (v .result) e (sym (c .before .before .is-refused .ensures) ∙ c .before .if2 .taken),
+        own-below (v .result) n f,
         refl,
         refl,
       )
@@ -188,14 +208,22 @@ module _ (t : ℕ) where
   is-refused-requires-2 : here-lts.Need-is-refused-requires-2 (here-claims t) (check-here-at t) here-reads.Post same.Inv-loop same.μ-loop
   is-refused-requires-2 c κs = search needs
 
+  fault-of-requires-3 : here-lts.Need-fault-of-requires-3 (here-claims t) (check-here-at t) here-reads.Post same.Inv-loop same.μ-loop
+  fault-of-requires-3 c κs = search needs
+
   -- A child that is a constant or a variable is refused.
   returns-4 : here-lts.Need-returns-4 (here-claims t) (check-here-at t) here-reads.Post same.Inv-loop same.μ-loop
   returns-4 c =
-      let v = c .before .before .check-leaf2 in
-      let y = c .before .before .before .before .before .before .before in
+      let v = c .before .before .before .check-leaf2 in
+      let y = c .before .before .before .before .before .before .before .before in
       let x = y .before .before in
+      let leaf = c .before .before .before .before .before .before .before .if4 .taken in
+      let f = c .fault-of3 .ensures in
+      let own = own-below (v .result) (same.number-of x) f in
+      let low = same.lower x in
       let l = same.turn-of x .before .loop in (
-        same.stops x (v .result) (same.leaf-is y (c .before .before .before .before .before .before .if4 .taken) (v .result) (v .ensures)) (sym (c .before .is-refused2 .ensures) ∙ c .if5 .taken),
+        same.leaf-back y (v .result) (v .ensures) f ∙ same.stops x (v .result) (same.leaf-is y leaf (v .result) (v .ensures)) (sym (c .before .before .is-refused2 .ensures) ∙ c .before .if5 .taken),
+        omega arith,
         l .inv .2,
         l .inv .1,
       )
@@ -208,18 +236,18 @@ module _ (t : ℕ) where
       let l = same.lower x in
       (omega arith, (s .pre .1 .0, same.inside x, s .pre .1 .2, same.room x, s .pre .1 .4))
 
-  is-refused-requires-3 : here-lts.Need-is-refused-requires-3 (here-claims t) (check-here-at t) here-reads.Post same.Inv-loop same.μ-loop
-  is-refused-requires-3 c κs = search needs
-
   -- Another child is refused.
   returns-5 : here-lts.Need-returns-5 (here-claims t) (check-here-at t) here-reads.Post same.Inv-loop same.μ-loop
   returns-5 c =
-      let v = c .before .before .check-term in
-      let x = c .before .before .before .before .before .before .before in
+      let v = c .before .check-term in
+      let x = c .before .before .before .before .before .before in
+      let L = recordsOf (same.image-of (same.parent-of (same.turn-of x))) in
+      let low = same.lower x in
       let l = same.turn-of x .before .loop in (
-        same.stops x (v .result) (v .ensures .0) (sym (c .before .is-refused3 .ensures) ∙ c .if6 .taken),
-        v .ensures .1 ∙ l .inv .2,
-        v .ensures .2 ∙ l .inv .1,
+        same.stops x (verdictAt L (v .result)) (v .ensures .0) (fault-refused L (v .result) (c .if6 .taken)),
+        omega (arith, low, v .ensures .1),
+        v .ensures .2 ∙ l .inv .2,
+        v .ensures .3 ∙ l .inv .1,
       )
 
   add-j : here-lts.Need-add-j (here-claims t) (check-here-at t) here-reads.Post same.Inv-loop same.μ-loop
@@ -233,6 +261,7 @@ module _ (t : ℕ) where
       let y = c .before in
       let x = y .before .before in
       let n = same.parent-of (same.turn-of x) .args .len in
+      let L = recordsOf (same.image-of (same.parent-of (same.turn-of x))) in
       ⊎-elim
       (λ w.
       let v = w .4 in
@@ -240,8 +269,8 @@ module _ (t : ℕ) where
       same.goes-on x (v .result) (c .if4 .scope) (same.leaf-is y (w .0 .taken) (v .result) (v .ensures)) (sym (w .5 .ensures) ∙ w .6 .left) (ap length e) (ap (take n) e))
       (λ w.
       let v = w .2 in
-      let e = w .5 in
-      same.goes-on x (v .result) (c .if4 .scope) (v .ensures .0) (sym (w .3 .ensures) ∙ w .4 .left) (ap length e ∙ v .ensures .2) (ap (take n) e ∙ v .ensures .1))
+      let e = w .4 in
+      same.goes-on x (verdictAt L (v .result)) (c .if4 .scope) (v .ensures .0) (fault-accepted L (v .result) (w .3 .left)) (ap length e ∙ v .ensures .3) (ap (take n) e ∙ v .ensures .2))
       (c .if4 .came)
 
   -- All children pass.
@@ -250,7 +279,7 @@ module _ (t : ℕ) where
       let l = c .before in
       let d = l .before in
       let all = c .loop-test .left in
-      (sym (l .loop .inv .3 (same.kind-of (same.start-of d)) (same.numbered d)) ∙ same.whole d (l .loop .j) (omega arith), l .loop .inv .2, l .loop .inv .1)
+      (sym (l .loop .inv .3 (same.kind-of (same.start-of d)) (same.numbered d)) ∙ same.whole d (l .loop .j) (omega arith), omega arith, l .loop .inv .2, l .loop .inv .1)
 
 -- The same, with the image as the slice of all its bytes.
 module _ (t : ℕ) where
@@ -267,7 +296,7 @@ module _ (t : ℕ) where
   term-returns c =
       let s = c .before .before .before .before in
       let v = c .check-here in
-      (v .ensures .0 ∙ ap (λ i. checked (recordsOf i) (settingIn (now (s .args .scope)) (s .args .len) (s .args .c .0)) (s .args .n .0)) (take-length (now (s .args .image))), v .ensures .1, v .ensures .2)
+      (subst (λ i. verdictAt (recordsOf i) (v .result) ≡ checked (recordsOf i) (settingIn (now (s .args .scope)) (s .args .len) (s .args .c .0)) (s .args .n .0)) (take-length (now (s .args .image))) (v .ensures .0), v .ensures .1, v .ensures .2, v .ensures .3)
 
 pub +check-here+check-moved+check-term-spec : {M : Type 1} → statement M
 +check-here+check-moved+check-term-spec =
@@ -281,9 +310,11 @@ pub +check-here+check-moved+check-term-spec : {M : Type 1} → statement M
     same.μ-loop
     (is-leaf-requires t)
     (check-leaf-requires t)
+    (fault-of-requires t)
     (returns t)
     (check-rule-requires t)
     (is-refused-requires t)
+    (fault-of-requires-2 t)
     (returns-2 t)
     (term-kind-requires t)
     (moves-child-requires t)
@@ -298,9 +329,9 @@ pub +check-here+check-moved+check-term-spec : {M : Type 1} → statement M
     (is-leaf-requires-2 t)
     (check-leaf-requires-2 t)
     (is-refused-requires-2 t)
+    (fault-of-requires-3 t)
     (returns-4 t)
     (check-term-requires t)
-    (is-refused-requires-3 t)
     (returns-5 t)
     (add-j t)
     (loop-less t)
@@ -319,7 +350,6 @@ pub +check-here+check-moved+check-term-spec : {M : Type 1} → statement M
     (moved-child-of-requires t)
     (moved-child-setting-requires t)
     (moved-check-term-requires t)
-    (moved-is-refused-requires t)
     (moved-returns t)
     (moved-add-j t)
     (moved-loop-less t)

@@ -23,6 +23,7 @@ use Rattle.check_rules.proofs.terms.term_kind.Reads as term-kind-reads
 use Rattle.check_scopes.proofs.scope.child_setting.Reads as child-setting-reads
 use Rattle.check_scopes.proofs.scope.moves_child.Reads as moves-child-reads
 use Rattle.verdict.proofs.is_refused.Reads as is-refused-reads
+use Rattle.check_typing.proofs.pass.fault_of.Reads as fault-of-reads
 
 -- The term number falls; or the same term is looked at, then its children.
 abbrev pub μ-check-moved : Measures 6 check-moved-kinds.ps ℕ
@@ -74,8 +75,6 @@ moved-claims t = (
   child-setting-reads.Learnt,
   check-term-below t,
   check-term.Post,
-  is-refused-reads.Asked,
-  is-refused-reads.Learnt,
 )
 
 abbrev pub here-claims : ℕ → here-lts.Claims
@@ -84,6 +83,8 @@ here-claims t = (
   is-leaf-reads.Learnt,
   check-leaf-reads.Asked,
   check-leaf-reads.Learnt,
+  fault-of-reads.Asked,
+  fault-of-reads.Learnt,
   check-rule-reads.Asked,
   check-rule-reads.Learnt,
   is-refused-reads.Asked,

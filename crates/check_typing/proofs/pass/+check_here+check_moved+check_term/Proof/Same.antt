@@ -27,9 +27,11 @@ use Rattle.image.proofs.KindNumbers.{same-term-kind}
 use Rattle.check_rules.proofs.Counts.{children-counted}
 use Rattle.check_rules.proofs.Located.{number-is}
 use Rattle.check_scopes.specs.Scopes.{movesChild}
+use Rattle.check_typing.specs.Faults.{faultAt, verdictAt}
 use Rattle.check_typing.specs.Turns.{Room}
 use Rattle.check_scopes.proofs.ChildSettings.{stays-here, stays-side, here-at}
 use Rattle.check_typing.proofs.TermPass.{front, same-setting, leaf-checked}
+use Rattle.check_typing.proofs.Faults.{own-back}
 use Rattle.check_typing.proofs.Children.{has-there, below, there, room-there, child-next, all-passed, refused-there}
 
 -- The children before child j pass, and the first places of the scope are kept.
@@ -228,3 +230,12 @@ module _ {t : ℕ} where
       let x = c .before .before in
       let s = parent-of (turn-of x) in
       q (s .args .c .0) ∙ leaf-checked (s .pre .1 .0 .terms) (inside x) (settingIn (scope-of (turn-of x)) (s .args .len) (s .args .c .0)) (small c h)
+
+  -- The fault that is made of its verdict says it.
+  pub leaf-back : (c : Tested t) (v : Verdict)
+      → ((p : ℕ) → v ≡ ruleVerdict (recordsOf (image-of (parent-of (turn-of (c .before .before))))) (settingIn (scope-of (turn-of (c .before .before))) (parent-of (turn-of (c .before .before)) .args .len) p) (number-of (c .before .before)))
+      → {f : ℕ} → f ≡ faultAt v (number-of (c .before .before)) → verdictAt (recordsOf (image-of (parent-of (turn-of (c .before .before))))) f ≡ v
+  leaf-back c v q e =
+      let x = c .before .before in
+      let s = parent-of (turn-of x) in
+      own-back (recordsOf (image-of s)) (settingIn (scope-of (turn-of x)) (s .args .len) (s .args .c .0)) (number-of x) (q (s .args .c .0)) e

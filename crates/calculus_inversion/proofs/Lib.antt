@@ -1,0 +1,2 @@
+-- A typing read backwards.
+pub mod Inversion

@@ -1,0 +1,20 @@
+-- What the typing pass hands from term to term: a verdict by 13, 14 or 15 as one number. 0 is accepted; of a refusal it has four times the number of the term at fault, and the refusal's number less 12.
+use Prim.Native.Nat.{ℕ, _+_, _*_, _/_, _%_}
+use lib.Dec.{eqb}
+use Rattle.calculus.specs.Combinators.{choose}
+use Rattle.image.specs.declared.Refusal.{Refusal}
+use Rattle.image.specs.Refusals.{refusalNumber}
+use Rattle.image.specs.Records.{Layout}
+use Rattle.image.specs.Types.{termPlace}
+use Rattle.verdict.specs.declared.Verdict.{Verdict}
+
+-- The verdict v of term n's own rule.
+abbrev pub faultAt : Verdict → ℕ → ℕ
+faultAt Verdict.Accepted n = 0
+faultAt (Verdict.Refused r place) n = refusalNumber r % 4 + 4 * n
+
+abbrev pub refusalWith : ℕ → Refusal
+refusalWith k = choose (eqb k 1) Refusal.UnboundVariable (choose (eqb k 2) Refusal.TypeRule Refusal.DomainRule)
+
+abbrev pub verdictAt : Layout → ℕ → Verdict
+verdictAt L f = choose (eqb f 0) Verdict.Accepted (Verdict.Refused (refusalWith (f % 4)) (termPlace L (f / 4)))
