@@ -1,4 +1,4 @@
--- What the typing pass hands from term to term: a verdict by 13, 14 or 15 as one number. 0 is accepted; of a refusal it has four times the number of the term at fault, and the refusal's number less 12.
+-- What the typing pass hands from term to term (document 01, "Turned back at the gate", refusals 13 to 15): a verdict as one number. 0 is accepted; of a refusal it has four times the number of the term at fault, and the refusal's number less 12.
 use Prim.Native.Nat.{ℕ, _+_, _*_, _/_, _%_}
 use lib.Dec.{eqb}
 use Rattle.calculus.specs.Combinators.{choose}
@@ -13,6 +13,7 @@ abbrev pub faultAt : Verdict → ℕ → ℕ
 faultAt Verdict.Accepted n = 0
 faultAt (Verdict.Refused r place) n = refusalNumber r % 4 + 4 * n
 
+-- And back: the refusal that a remainder by four stands for, and the verdict of a fault.
 abbrev pub refusalWith : ℕ → Refusal
 refusalWith k = choose (eqb k 1) Refusal.UnboundVariable (choose (eqb k 2) Refusal.TypeRule Refusal.DomainRule)
 
