@@ -1,4 +1,4 @@
--- The laws that turn tests on numbers into the definition's, and the tables into its layout.
+-- The laws that turn tests on numbers into the definition's, and the tables into its layout; and, for the loop that is walked by hand, slices that are lent again and locals.
 pub mod Descriptors
 pub mod Filter
 pub mod Parts
@@ -11,3 +11,5 @@ pub mod Steps
 pub mod Entering
 pub mod Going
 pub mod Stages
+pub mod Lending
+pub mod Locals

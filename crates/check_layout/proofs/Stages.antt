@@ -1,8 +1,9 @@
 -- The loop over the records: its stages, and how it ends.
 use Prim.Native.Nat.{ℕ, _+_, _≤_, _<_}
 use native.Mathlib.Omega.{arith}
-use mathlib.Core.Path.{_≡_, sym, ap, _∙_}
-use mathlib.Core.Bool.{Bool}
+use mathlib.Core.Path.{_≡_, refl, sym, ap, _∙_}
+use mathlib.Core.Bool.{Bool, true, false}
+use lib.Dec.{ltb}
 use mathlib.Core.List.{List}
 use mathlib.Core.Option.{some}
 use lib.ListN.{length, replicate}
@@ -10,17 +11,25 @@ use Rattle.image.specs.declared.Refusal.{Refusal}
 use Rattle.image.specs.Limits.{termLimit}
 use Rattle.image.specs.Records.{Layout}
 use Rattle.image.specs.Layout.{layout}
-use Rattle.laws.proofs.Booleans.{no-path}
+use Rattle.laws.proofs.Booleans.{no-path, lt-of, ge-of}
 use Rattle.check_records.specs.declared.numbers.Counts.{Counts}
 use Rattle.check_records.specs.Counts.{noRecords}
 use Rattle.check_records.specs.declared.reader.Head.{Head}
 use Rattle.check_records.specs.Heads.{headAt}
-use Rattle.check_records.proofs.Heads.{whole-of, broken-of}
+use Rattle.check_records.proofs.Heads.{at-end, whole-of, broken-of}
 use Rattle.check_marks.specs.Marks.{marksOf}
 use Rattle.check_layout.specs.declared.Scan.{Scan}
 use Rattle.check_layout.specs.declared.Entry.{Entry}
 use Rattle.check_layout.specs.Tables.{layoutOf, remainders, Filters, entryOf, countsBehind, Marks, Entered, Lent, Reached, scanOf, endOf, Holds, ScannedWith}
 use Rattle.check_layout.proofs.Going.{Going, going-start, going-end, going-stop, going-on, broken, told-fault, told-none}
+
+-- A refusal is told only before the end.
+refused-inside : (b : List ℕ) (o : ℕ) (r : Refusal) → headAt b o ≡ Head.Refused r → o < length b
+refused-inside b o r h = go (ltb o (length b)) refl
+  where
+    go : (t : Bool) → ltb o (length b) ≡ t → o < length b
+    go true e = lt-of e
+    go false e = let z : Head.End ≡ Head.Refused r = at-end b o (ge-of e) ∙ h in no-path cc
 
 -- The records before o are in the tables, and the walk is as far.
 pub record Stage (b : List ℕ) (o : ℕ) (n : Counts) (ds ts ks : List ℕ) (rs : List Bool) (es ms : List ℕ) : Type 0 where
@@ -64,8 +73,9 @@ module _ {b : List ℕ} {o : ℕ} {n : Counts} {ds ts ks : List ℕ} {rs : List 
       let e = going-end o L (S .going) (omega arith) in
       scanned (Scan.Laid n) (sym e) (λ m d. cc) (ap (λ x. endOf x b) e ∙ (omega arith))
 
-  pub stops : o < length b → {r : Refusal} → headAt b o ≡ Head.Refused r → ScannedWith (Scan.Stopped r o) b ds ts ks rs es ms
-  stops l {r} h =
+  pub stops : {r : Refusal} → headAt b o ≡ Head.Refused r → ScannedWith (Scan.Stopped r o) b ds ts ks rs es ms
+  stops {r} h =
+      let l = refused-inside b o r h in
       let z = broken-of b o r h in
       let e = going-stop o L (S .going) l r (broken o L (z .0) ∙ ap some (sym (z .1))) in
       scanned (Scan.Stopped r o) (sym e) (λ m d. no-path cc) (ap (λ x. endOf x b) e)

@@ -104,6 +104,7 @@ fn enter(
 }
 
 // The scan with a filter of descriptors, which may hold anything at first: with all false the fewest descriptors are compared.
+// Its loop keeps the walk over the image, which hands each record's fields on to enter. So its proof is by hand.
 fn scan_with(
     image: &[u8],
     kinds: &[u32],
@@ -117,18 +118,18 @@ fn scan_with(
     requires { ⌜ Lent (now image) (now kinds) (now doms) (now types) (now descriptors) (now terms) × (remainders ≤ length (now filter)) × (now marks ≡ replicate termLimit 0) ⌝ }
     ensures { λ r. ⌜ ScannedWith r (now (image .entry)) (now (doms .exit)) (now (types .exit)) (now (descriptors .exit)) (now (filter .exit)) (now (terms .exit)) (now (marks .exit)) ⌝ }
 {
-    let mut at: usize = 0;
+    let mut walk = check_records::reader::new(image, 0);
     let mut counts = Counts::none();
-    while at < image.len() {
-        let head = check_records::reader::head_from(image, at);
+    loop {
+        let head = check_records::reader::next(walk);
         match head {
             check_records::reader::Head::Record { len, kind } => {
-                let fields = check_records::reader::fields_from(image, at, len);
+                let fields = check_records::reader::fields(walk, len);
                 let entered = enter(
                     image,
                     fields,
                     kinds,
-                    at,
+                    walk.at,
                     kind,
                     counts,
                     doms,
@@ -140,23 +141,22 @@ fn scan_with(
                 );
                 match entered {
                     Entry::Fault(why) => {
-                        return Scan::Stopped(why, at);
+                        return Scan::Stopped(why, walk.at);
                     }
                     Entry::Laid(next) => {
                         counts = next;
-                        at = check_records::reader::next_from(image, at, len);
+                        walk = check_records::reader::past(walk, len);
                     }
                 }
             }
             check_records::reader::Head::Refused(why) => {
-                return Scan::Stopped(why, at);
+                return Scan::Stopped(why, walk.at);
             }
             check_records::reader::Head::End => {
                 return Scan::Laid(counts);
             }
         }
     }
-    Scan::Laid(counts)
 }
 
 pub fn scan_records(

@@ -1,5 +1,6 @@
 // The record reader (document 01, "The image": "A walk keeps the lent image and the offset of its next record, and hands
-// each record's fields on as the part of the image that they occupy").
+// each record's fields on as the part of the image that they occupy"). The loop over the records keeps a Walk in a local
+// (check_layout, scan_with): it asks for the next head and the fields, and goes on past the record.
 ghost use mathlib.Core.Path.{_≡_};
 ghost use Prim.Native.Nat.{_+_, _<_, _≤_, _^_};
 ghost use lib.ListN.{length};
@@ -84,33 +85,12 @@ pub fn past<'a>(w: Walk<'a>, len: usize) -> Walk<'a>
     }
 }
 
-// The offset of the walk's next record.
-pub fn offset<'a>(w: Walk<'a>) -> usize
-    ensures { λ n. ⌜ n ≡ w .entry .at ⌝ }
-{
-    w.at
-}
-
-// The same with plain parameters, for every caller: what stands at an offset, the fields of the record there, and the
-// offset of the next one.
-pub fn head_from(image: &[u8], at: usize) -> Head
-    ensures { λ r. ⌜ r ≡ headAt (now (image .entry)) at ⌝ }
-{
-    next(new(image, at))
-}
-
+// The fields of the record of len bytes at an offset, for a user that has no walk: each names its record by its offset.
 pub fn fields_from(image: &[u8], at: usize, len: usize) -> &[u8]
     requires { ⌜ (4 ≤ len) × (at + len ≤ length (now image)) ⌝ }
     ensures { λ r. ⌜ now r ≡ fieldBytes (now (image .entry)) at len ⌝ }
 {
     fields(new(image, at), len)
-}
-
-pub fn next_from(image: &[u8], at: usize, len: usize) -> usize
-    requires { ⌜ at + len < 2 ^ 64 ⌝ }
-    ensures { λ r. ⌜ r ≡ at + len ⌝ }
-{
-    offset(past(new(image, at), len))
 }
 
 // The fields of the record at an offset where a whole record stands.
