@@ -128,16 +128,9 @@ fn check_here(
     let mut j: usize = 0;
     while j < k {
         let e = child_at_field(fields, lead + j);
-        if is_leaf(image, terms, e) {
-            let q = check_leaf(image, terms, descriptors, e, scope, len);
-            if is_refused(q) {
-                return fault_of(q, e);
-            }
-        } else {
-            let r = check_term(image, terms, descriptors, e, c, masks, scope, len, types);
-            if r != 0 {
-                return r;
-            }
+        let r = check_term(image, terms, descriptors, e, c, masks, scope, len, types);
+        if r != 0 {
+            return r;
         }
         j += 1;
     }

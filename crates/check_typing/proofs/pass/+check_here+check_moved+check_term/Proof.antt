@@ -194,57 +194,23 @@ module _ (t : ℕ) where
   child-at-field-requires : here-lts.Need-child-at-field-requires (here-claims t) (check-here-at t) here-reads.Post same.Inv-loop same.μ-loop
   child-at-field-requires c κs = same.field-there c
 
-  is-leaf-requires-2 : here-lts.Need-is-leaf-requires-2 (here-claims t) (check-here-at t) here-reads.Post same.Inv-loop same.μ-loop
-  is-leaf-requires-2 c κs = let x = c .before in (same.parent-of (same.turn-of x) .pre .1 .0 .terms, same.inside x)
-
-  check-leaf-requires-2 : here-lts.Need-check-leaf-requires-2 (here-claims t) (check-here-at t) here-reads.Post same.Inv-loop same.μ-loop
-  check-leaf-requires-2 c κs =
-      let y = c .before .before .before .before in
-      let x = y .before .before in
-      let s = same.parent-of (same.turn-of x) in
-      let r = more-room (same.room x) (same.inside x) in
-      (s .pre .1 .0, same.inside x, same.small y (c .before .before .before .if4 .taken), omega arith)
-
-  is-refused-requires-2 : here-lts.Need-is-refused-requires-2 (here-claims t) (check-here-at t) here-reads.Post same.Inv-loop same.μ-loop
-  is-refused-requires-2 c κs = search needs
-
-  fault-of-requires-3 : here-lts.Need-fault-of-requires-3 (here-claims t) (check-here-at t) here-reads.Post same.Inv-loop same.μ-loop
-  fault-of-requires-3 c κs = search needs
-
-  -- A child that is a constant or a variable is refused.
-  returns-4 : here-lts.Need-returns-4 (here-claims t) (check-here-at t) here-reads.Post same.Inv-loop same.μ-loop
-  returns-4 c =
-      let v = c .before .before .before .check-leaf2 in
-      let y = c .before .before .before .before .before .before .before .before in
-      let x = y .before .before in
-      let leaf = c .before .before .before .before .before .before .before .if4 .taken in
-      let f = c .fault-of3 .ensures in
-      let own = own-below (v .result) (same.number-of x) f in
-      let low = same.lower x in
-      let l = same.turn-of x .before .loop in (
-        same.leaf-back y (v .result) (v .ensures) f ∙ same.stops x (v .result) (same.leaf-is y leaf (v .result) (v .ensures)) (sym (c .before .before .is-refused2 .ensures) ∙ c .before .if5 .taken),
-        omega arith,
-        l .inv .2,
-        l .inv .1,
-      )
-
   check-term-requires : here-lts.Need-check-term-requires (here-claims t) (check-here-at t) here-reads.Post same.Inv-loop same.μ-loop
   check-term-requires c κs =
-      let x = c .before .before .before .before in
+      let x = c .before in
       let s = same.parent-of (same.turn-of x) in
       let e = s .pre .0 in
       let l = same.lower x in
       (omega arith, (s .pre .1 .0, same.inside x, s .pre .1 .2, same.room x, s .pre .1 .4))
 
-  -- Another child is refused.
-  returns-5 : here-lts.Need-returns-5 (here-claims t) (check-here-at t) here-reads.Post same.Inv-loop same.μ-loop
-  returns-5 c =
+  -- A child is refused.
+  returns-4 : here-lts.Need-returns-4 (here-claims t) (check-here-at t) here-reads.Post same.Inv-loop same.μ-loop
+  returns-4 c =
       let v = c .before .check-term in
-      let x = c .before .before .before .before .before .before in
+      let x = c .before .before .before in
       let L = recordsOf (same.image-of (same.parent-of (same.turn-of x))) in
       let low = same.lower x in
       let l = same.turn-of x .before .loop in (
-        same.stops x (verdictAt L (v .result)) (v .ensures .0) (fault-refused L (v .result) (c .if6 .taken)),
+        same.stops x (verdictAt L (v .result)) (v .ensures .0) (fault-refused L (v .result) (c .if4 .taken)),
         omega (arith, low, v .ensures .1),
         v .ensures .2 ∙ l .inv .2,
         v .ensures .3 ∙ l .inv .1,
@@ -258,24 +224,14 @@ module _ (t : ℕ) where
 
   loop-again : here-lts.Need-loop-again (here-claims t) (check-here-at t) here-reads.Post same.Inv-loop same.μ-loop
   loop-again c =
-      let y = c .before in
-      let x = y .before .before in
-      let n = same.parent-of (same.turn-of x) .args .len in
+      let v = c .before .check-term in
+      let x = c .before .before .before in
       let L = recordsOf (same.image-of (same.parent-of (same.turn-of x))) in
-      ⊎-elim
-      (λ w.
-      let v = w .4 in
-      let e = w .7 in
-      same.goes-on x (v .result) (c .if4 .scope) (same.leaf-is y (w .0 .taken) (v .result) (v .ensures)) (sym (w .5 .ensures) ∙ w .6 .left) (ap length e) (ap (take n) e))
-      (λ w.
-      let v = w .2 in
-      let e = w .4 in
-      same.goes-on x (verdictAt L (v .result)) (c .if4 .scope) (v .ensures .0) (fault-accepted L (v .result) (w .3 .left)) (ap length e ∙ v .ensures .3) (ap (take n) e ∙ v .ensures .2))
-      (c .if4 .came)
+      same.goes-on x (verdictAt L (v .result)) (v .last .1 .1 .1 .1 .1 .1 .0) (v .ensures .0) (fault-accepted L (v .result) (c .if4 .left)) (v .ensures .3) (v .ensures .2)
 
   -- All children pass.
-  returns-6 : here-lts.Need-returns-6 (here-claims t) (check-here-at t) here-reads.Post same.Inv-loop same.μ-loop
-  returns-6 c =
+  returns-5 : here-lts.Need-returns-5 (here-claims t) (check-here-at t) here-reads.Post same.Inv-loop same.μ-loop
+  returns-5 c =
       let l = c .before in
       let d = l .before in
       let all = c .loop-test .left in
@@ -326,17 +282,12 @@ pub +check-here+check-moved+check-term-spec : {M : Type 1} → statement M
     (loop-holds t)
     (add-child-at-field t)
     (child-at-field-requires t)
-    (is-leaf-requires-2 t)
-    (check-leaf-requires-2 t)
-    (is-refused-requires-2 t)
-    (fault-of-requires-3 t)
-    (returns-4 t)
     (check-term-requires t)
-    (returns-5 t)
+    (returns-4 t)
     (add-j t)
     (loop-less t)
     (loop-again t)
-    (returns-6 t))
+    (returns-5 t))
     (λ t. moved-lts.spec (moved-claims t)
     (check-moved-at t)
     moved-reads.Post

@@ -59,9 +59,6 @@ Turn t = lts.In-loop (here-claims t) (check-here-at t) reads.Post Inv-loop μ-lo
 abbrev pub Child : ℕ → Type 0
 Child t = lts.After-child-at-field (here-claims t) (check-here-at t) reads.Post Inv-loop μ-loop
 
-abbrev pub Tested : ℕ → Type 0
-Tested t = lts.After-is-leaf2 (here-claims t) (check-here-at t) reads.Post Inv-loop μ-loop
-
 module _ {t : ℕ} where
   -- The term's image and its kind; where it stands; the verdict that is asked for.
   abbrev pub image-of : Term t → List ℕ
@@ -218,24 +215,3 @@ module _ {t : ℕ} where
       let x = turn-of c in
       let l = x .loop-test .taken in
       (omega arith, n ∙ x .before .loop .inv .1, h ∙ x .before .loop .inv .2, λ m e. rw (← same-kind (counted-of x) m e) (sym (q ∙ child-is c) ∙ accepted-is v r))
-
-  -- A constant or a variable is checked by its rule alone.
-  pub small : (c : Tested t) → c .is-leaf2 .result ≡ true → numberAt (image-of (parent-of (turn-of (c .before .before)))) (termPlace (recordsOf (image-of (parent-of (turn-of (c .before .before))))) (number-of (c .before .before))) ≤ 35
-  small c h = leb-true _ _ (sym (c .is-leaf2 .ensures) ∙ h)
-
-  pub leaf-is : (c : Tested t) → c .is-leaf2 .result ≡ true → (v : Verdict)
-      → ((p : ℕ) → v ≡ ruleVerdict (recordsOf (image-of (parent-of (turn-of (c .before .before))))) (settingIn (scope-of (turn-of (c .before .before))) (parent-of (turn-of (c .before .before)) .args .len) p) (number-of (c .before .before)))
-      → v ≡ checked (recordsOf (image-of (parent-of (turn-of (c .before .before))))) (settingIn (scope-of (turn-of (c .before .before))) (parent-of (turn-of (c .before .before)) .args .len) (parent-of (turn-of (c .before .before)) .args .c .0)) (number-of (c .before .before))
-  leaf-is c h v q =
-      let x = c .before .before in
-      let s = parent-of (turn-of x) in
-      q (s .args .c .0) ∙ leaf-checked (s .pre .1 .0 .terms) (inside x) (settingIn (scope-of (turn-of x)) (s .args .len) (s .args .c .0)) (small c h)
-
-  -- The fault that is made of its verdict says it.
-  pub leaf-back : (c : Tested t) (v : Verdict)
-      → ((p : ℕ) → v ≡ ruleVerdict (recordsOf (image-of (parent-of (turn-of (c .before .before))))) (settingIn (scope-of (turn-of (c .before .before))) (parent-of (turn-of (c .before .before)) .args .len) p) (number-of (c .before .before)))
-      → {f : ℕ} → f ≡ faultAt v (number-of (c .before .before)) → verdictAt (recordsOf (image-of (parent-of (turn-of (c .before .before))))) f ≡ v
-  leaf-back c v q e =
-      let x = c .before .before in
-      let s = parent-of (turn-of x) in
-      own-back (recordsOf (image-of s)) (settingIn (scope-of (turn-of x)) (s .args .len) (s .args .c .0)) (number-of x) (q (s .args .c .0)) e
