@@ -25,8 +25,6 @@ use Rattle.image.specs.Program.{toTm}
 use Rattle.image_needs.specs.Forecasts.{needsOf}
 use Rattle.image_needs.proofs.Known.{Known, known}
 use Rattle.verdict.specs.Domains.{policy}
-use Rattle.verdict.proofs.Accept.{accepted-good}
-use Rattle.verdict.proofs.Passed.{passed-iff}
 use Rattle.report.specs.Read.{readLog, readReport}
 use Rattle.report.proofs.Narrow.{narrowPrint, narrowCell, log-read, report-read}
 use Rattle.calls.specs.Runs.{Accepts, programOf, givenBy, runOf}
@@ -38,7 +36,6 @@ use Rattle.demands.specs.Forecast.{usedOf, Told, OneWay, Holds, Card10}
 use Rattle.demands.proofs.AcceptedBytes.{program-cells-few}
 use Rattle.demands.proofs.Demands.{accepts, demand1}
 use Rattle.demands.proofs.MainlineRoom.{ended}
-use Rattle.demands.proofs.OneWay.{one-way}
 
 -- The number of the outcome of a run that is done or aborted.
 settled-number : {x : End} → Settled x → (o : Outcome) → outcomeOf x ≡ some o → (outcomeNumber o ≡ outcomeNumber Outcome.Done) ⊎ (outcomeNumber o ≡ outcomeNumber Outcome.Aborted)
@@ -93,8 +90,7 @@ module _ (b frame : List ℕ) (budget : ℕ) (log report work : List ℕ) (class
   straight-run : OneWay b → SaysDone (reportWritten X) → usedOf b frame budget log ≡ needOf e
   straight-run w p =
       let x = ended b frame budget log report work h p in
-      let there = passed-iff b (length work) (length report) .0 h .shaped .has-terms in
-      met-exactly D (transitive b A) G (typed b A .typed) class budget (one-way b (accepted-good b (length work) (length report) h) there w) (x .0) (x .1)
+      met-exactly D (transitive b A) G (typed b A .typed) class budget w (x .0) (x .1)
 
   told-exactly : usedOf b frame budget log ≡ needOf e → Told _≡_ (needsOf (needOf e)) budget X
   told-exactly m =
@@ -107,7 +103,7 @@ module _ (b frame : List ℕ) (budget : ℕ) (log report work : List ℕ) (class
   pub holds : Holds b (needsOf (needOf e)) frame budget log X
   holds =
       record {
-        under = under;
+        under = λ k l. never-exceeded D (transitive b A) G (typed b A .typed) class k;
         told = told;
         meets = straight-run;
         told-meets = λ w p. told-exactly (straight-run w p);

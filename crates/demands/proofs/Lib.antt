@@ -15,7 +15,6 @@ pub mod Unpaid
 pub mod Branches
 pub mod MainlineRoom
 pub mod NewestFirst
-pub mod OneWay
 pub mod Forecast
 pub mod CalmPrograms
 pub mod StrippedTrees

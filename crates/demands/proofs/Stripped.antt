@@ -32,6 +32,7 @@ use Rattle.verdict.specs.declared.Verdict.{Verdict}
 use Rattle.verdict.specs.Verdicts.{verdict}
 use Rattle.verdict.specs.Domains.{policy}
 use Rattle.verdict.proofs.Accept.{accepted-good, accepted-order}
+use Rattle.image_written.specs.Written.{written as writtenFrom, fixed}
 use Rattle.image_written.specs.Stripped.{withoutWatches}
 use Rattle.image_written.proofs.Stripping.{stripped-holds, stripped-short}
 use Rattle.report.specs.declared.Ending.{Ending}
@@ -120,6 +121,10 @@ card13 high b b′ highs same calm frame budget log log′ report report′ work
     let shares : SaysDone (writtenReport E) → SharesWritten high E E′ = λ p. subst (SharesWritten high E) right (stripped-written high b (accepts b report work h) highs calm frame budget log l p) in
     rw (demand2-run b frame budget log report work h, demand2-run b′ frame budget log′ report′ work′ h′, take-front (writtenLog E) log, take-front (writtenLog E′) log′, take-front (writtenReport E) report, take-front (writtenReport E′) report′) shares
 
+in-form : (high : Dom → Bool) (b : List ℕ) (work report : ℕ) → verdict b work report ≡ Verdict.Accepted → fixed (withoutWatches high b) ≡ withoutWatches high b
+unfolding fixed withoutWatches
+in-form high b work report ok = let h = stripped-holds high b work report ok in ap₂ writtenFrom (h .domains) (h .tree)
+
 -- And of the image that is written.
 pub card13-written : (high : Dom → Bool) (b report work : List ℕ) → Runs b report work → WrittenStripped high b report work
 card13-written high b report work ok =
@@ -129,6 +134,9 @@ card13-written high b report work ok =
       accepted = h .accepted;
       short = stripped-short high b (length work) (length report) ok;
       stripped = same;
+      domains = h .domains;
+      tree = h .tree;
+      fixed-form = in-form high b (length work) (length report) ok;
       shares = λ highs calm frame budget log log′ l n p. card13 high b (withoutWatches high b) highs same calm frame budget log log′ report report work work l n ok (h .accepted) p;
     }
 

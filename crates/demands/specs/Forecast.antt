@@ -3,18 +3,16 @@
 use Prim.Native.Nat.{ℕ, _+_, _≤_, _<_}
 use mathlib.Core.Path.{_≡_}
 use mathlib.Core.Logic.{_⊎_}
-use mathlib.Core.Bool.{Bool, false, _||_}
 use mathlib.Core.List.{List}
 use lib.ListN.{length}
+use lib.Dec.{T}
 use Rattle.calculus.specs.declared.Outcome.{Outcome}
 use Rattle.calculus.specs.Limits.{wordSize}
 use Rattle.calculus.specs.Report.{outcomeNumber}
 use Rattle.calculus_needs.specs.Numbers.{Numbers}
+use Rattle.calculus_needs.specs.Class.{straight}
 use Rattle.calculus_needs.specs.Used.{usedBy}
 use Rattle.calculus_needs.specs.Claims.{Under, Enough}
-use Rattle.image.specs.Kinds.{TermKind, isKind}
-use Rattle.image.specs.Layout.{recordsOf}
-use Rattle.image.specs.Types.{termKind}
 use Rattle.image.specs.Program.{toTm}
 use Rattle.image_needs.specs.declared.Needs.{Needs}
 use Rattle.image_needs.specs.declared.Forecast.{Forecast}
@@ -49,12 +47,9 @@ pub record Told (R : ℕ → ℕ → Type 0) (n : Needs) (budget : ℕ) (X : Lef
   pub cells : R (length (readReport (reportWritten X) .cells)) (n .cells + n .«other_cells»)
   pub prints : R (length (readLog (logWritten X))) (n .log)
 
--- "Without choice, mark or takedown": no term of the image is an if, a match, a mark or a takedown.
-abbrev pub manyWays : TermKind → Bool
-manyWays k = isKind TermKind.ite k || (isKind TermKind.match k || (isKind TermKind.mark k || isKind TermKind.takedown k))
-
+-- "Without choice, mark or takedown": none stands outside the bodies of functions, methods and advice, so a done run, which takes every term outside them, makes none.
 abbrev pub OneWay : List ℕ → Type 0
-OneWay b = (n : ℕ) → n < length (recordsOf b .terms) → manyWays (termKind (recordsOf b) n) ≡ false
+OneWay b = T (straight (toTm (programOf b)))
 
 abbrev pub SaysAborted : List ℕ → Type 0
 SaysAborted report = readReport report .outcome ≡ outcomeNumber Outcome.Aborted
@@ -62,7 +57,7 @@ SaysAborted report = readReport report .outcome ≡ outcomeNumber Outcome.Aborte
 -- Of an image whose forecast is n, and a call on it that runs and leaves X.
 pub record Holds (b : List ℕ) (n : Needs) (frame : List ℕ) (budget : ℕ) (log : List ℕ) (X : Left) : Type 0 where
   -- "No run of that image exceeds any of them."
-  pub under : Under (usedOf b frame budget log) (numbersOf n)
+  pub under : (k : ℕ) → k ≤ budget → Under (usedOf b frame k log) (numbersOf n)
   pub told : Told _≤_ n budget X
   -- "A done run without choice, mark or takedown meets each exactly."
   pub meets : OneWay b → SaysDone (reportWritten X) → usedOf b frame budget log ≡ numbersOf n

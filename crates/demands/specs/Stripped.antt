@@ -12,7 +12,9 @@ use Rattle.calculus_stripped.specs.Strip.{strip}
 use Rattle.image.specs.Kinds.{TermKind, isKind}
 use Rattle.image.specs.Layout.{recordsOf}
 use Rattle.image.specs.Program.{Program, node, blank, Programs, end, more, toTm, lowBody}
-use Rattle.image_written.specs.Stripped.{withoutWatches}
+use Rattle.verdict.specs.Domains.{masks}
+use Rattle.image_written.specs.Written.{fixed}
+use Rattle.image_written.specs.Stripped.{stripped as stripped′, withoutWatches}
 use Rattle.write_idle.specs.Idle.{inMask}
 use Rattle.write_stripped.specs.declared.Stripped.{Stripped}
 use Rattle.write_stripped.specs.Calls.{strippedCall}
@@ -76,6 +78,11 @@ pub record WrittenStripped (high : Dom → Bool) (b report work : List ℕ) : Ty
   pub accepted : Runs (withoutWatches high b) report work
   pub short : length (withoutWatches high b) ≤ length b
   pub stripped : StrippedOf high b (withoutWatches high b)
+  -- the same domains, and the program with its types
+  pub domains : masks (recordsOf (withoutWatches high b)) ≡ masks (recordsOf b)
+  pub tree : programOf (withoutWatches high b) ≡ stripped′ high (programOf b)
+  -- "in the fixed form of card 11"
+  pub fixed-form : fixed (withoutWatches high b) ≡ withoutWatches high b
   pub shares : HighSet (recordsOf b) high → lowTakesDown high (programOf b) ≡ false
       → (frame : List ℕ) (budget : ℕ) (log log′ : List ℕ) → budget < wordSize → length log ≡ length log′
       → SaysDone (reportWritten (called b frame budget log report work))

@@ -2,7 +2,6 @@
 use Prim.Native.Nat.{ℕ}
 use mathlib.Core.Path.{_≡_, refl}
 use mathlib.Core.List.{List, [], _∷_}
-use lib.ListN.{length}
 use Rattle.calculus.specs.Combinators.{cases}
 use Rattle.calculus.specs.State.{picked}
 use Rattle.calculus.specs.Subst.{subst}
@@ -11,14 +10,14 @@ use Rattle.calculus.specs.Step.{step}
 use Rattle.calculus.specs.Run.{after, run}
 use Rattle.calculus.specs.Report.{leaves}
 use Rattle.calculus_needs.specs.Numbers.{_⊕_, dearer}
+use Rattle.calculus_needs.specs.Class.{straight}
 use Rattle.calculus_needs.specs.Needs.{need, rounds}
 use Rattle.image.specs.Limits.{workLength, reportLength}
 use Rattle.laws.specs.Tests.{all, allOf, anyBelow, firstFault}
-use Rattle.laws.proofs.Tests.{none-below}
 use Rattle.image.specs.Bytes.{words}
 use Rattle.image.specs.Kinds.{find}
 use Rattle.image.specs.Layout.{allWithin, tests, walk, layout, recordsOf}
-use Rattle.image.specs.Types.{typeOut, typeFrom, typeOf, termKind}
+use Rattle.image.specs.Types.{typeOut, typeFrom, typeOf}
 use Rattle.image.specs.Program.{tree, program, assemble, toTm}
 use Rattle.verdict.specs.Answers.{requireFrom, inTurn}
 use Rattle.verdict.specs.Domains.{bits, order, leq}
@@ -37,7 +36,7 @@ use Rattle.calls.specs.Calls.{Left, called}
 use Rattle.listing.specs.Sheet.{zeros}
 use Rattle.demands.specs.Calls.{Runs, reportWritten}
 use Rattle.demands.specs.SameBytes.{SaysDone}
-use Rattle.demands.specs.Forecast.{numbersOf, usedOf, Told, manyWays, OneWay}
+use Rattle.demands.specs.Forecast.{numbersOf, usedOf, Told, OneWay}
 use Rattle.demands.proofs.Forecast.{card10}
 
 unfoldable pub one-way-image : List ℕ
@@ -76,8 +75,8 @@ unfolding one-way-image verdict inTurn requireFrom walk layout recordsOf tests f
 runs = refl
 
 no-other-way : OneWay one-way-image
-unfolding one-way-image anyBelow walk layout recordsOf tests find words allWithin all allOf firstFault little rec image one-domain two-domains unit number literal typeOf typeFrom typeOut
-no-other-way = none-below (length (recordsOf one-way-image .terms)) (λ n. manyWays (termKind (recordsOf one-way-image) n)) refl
+unfolding one-way-image straight walk layout recordsOf tests find words allWithin all allOf firstFault little rec image one-domain two-domains unit number literal typeOf typeFrom typeOut program tree toTm assemble
+no-other-way = tt
 
 unfoldable pub oneWayCall : Left
 oneWayCall = called one-way-image [] 11 (zeros 10) (zeros reportLength) (zeros workLength)
