@@ -21,9 +21,8 @@ use Rattle.verdict.specs.declared.Verdict.{Verdict}
 use Rattle.verdict.specs.Domains.{bits, masks, order, leq, policy}
 use Rattle.verdict.specs.Order.{atFault}
 use Rattle.verdict.specs.Shape.{Shaped}
-use Rattle.verdict.specs.Acceptable.{mainline}
 use Rattle.verdict.specs.Verdicts.{verdict}
-use Rattle.verdict.specs.WellTyped.{WellTyped, stated}
+use Rattle.verdict.specs.WellTyped.{mainline, WellTyped, stated}
 use Rattle.verdict.proofs.Passed.{Passed, passed-iff}
 use Rattle.verdict.proofs.Accept.{root-stated}
 use Rattle.image_written.specs.Records.{Record, image}

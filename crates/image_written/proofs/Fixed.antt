@@ -16,8 +16,7 @@ use Rattle.image.proofs.Laid.{Good, layout-good, image-kept}
 use Rattle.calculus.specs.Plain.{isPlain}
 use Rattle.verdict.specs.declared.Verdict.{Verdict}
 use Rattle.verdict.specs.Domains.{masks, policy}
-use Rattle.verdict.specs.WellTyped.{WellTyped, stated}
-use Rattle.verdict.specs.Acceptable.{mainline}
+use Rattle.verdict.specs.WellTyped.{mainline, WellTyped, stated}
 use Rattle.verdict.specs.Verdicts.{verdict}
 use Rattle.verdict.proofs.Passed.{Passed, passed-iff}
 use Rattle.verdict.proofs.Accept.{root-stated}

@@ -16,8 +16,7 @@ use Rattle.image.specs.Program.{Program, Programs, node, blank, end, more, asse
 use Rattle.verdict.specs.Domains.{bits, order, leq, policy}
 use Rattle.verdict.specs.Order.{atFault}
 use Rattle.verdict.specs.Settings.{Setting}
-use Rattle.verdict.specs.Acceptable.{mainline}
-use Rattle.verdict.specs.WellTyped.{WellTyped, stated}
+use Rattle.verdict.specs.WellTyped.{mainline, WellTyped, stated}
 use Rattle.image_written.specs.Parts.{recur, same}
 use Rattle.image_written.specs.Table.{place, has}
 use Rattle.image_written.specs.Records.{Record, image, bytes, little}

@@ -17,9 +17,8 @@ use Rattle.image.proofs.Bodies.{Owner, body-owner}
 use Rattle.verdict.specs.declared.Verdict.{Verdict}
 use Rattle.verdict.specs.Domains.{policy}
 use Rattle.verdict.specs.Settings.{Setting}
-use Rattle.verdict.specs.Acceptable.{mainline}
 use Rattle.verdict.specs.Verdicts.{verdict}
-use Rattle.verdict.specs.WellTyped.{WellTyped, EachWellTyped, stated, stateds, aborts, childSetting}
+use Rattle.verdict.specs.WellTyped.{mainline, WellTyped, EachWellTyped, stated, stateds, aborts, childSetting}
 use Rattle.verdict.proofs.Passed.{passed-iff}
 use Rattle.verdict.proofs.Term.{abort-type}
 use Rattle.image_written.specs.Parts.{partsFirst}

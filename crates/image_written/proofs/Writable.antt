@@ -14,8 +14,7 @@ use Rattle.image.specs.LaidOut.{Within}
 use Rattle.image.specs.Program.{Program, Programs, node, blank, end, more}
 use Rattle.verdict.specs.Domains.{masks, policy}
 use Rattle.verdict.specs.Order.{atFault}
-use Rattle.verdict.specs.Acceptable.{mainline}
-use Rattle.verdict.specs.WellTyped.{WellTyped, stated}
+use Rattle.verdict.specs.WellTyped.{mainline, WellTyped, stated}
 use Rattle.image_written.specs.Parts.{Part, sub, at, partsOf, partsFirst}
 use Rattle.image_written.specs.Table.{has, tableOf}
 use Rattle.image_written.specs.Written.{terms, writtenOver, written}

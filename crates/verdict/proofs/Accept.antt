@@ -11,6 +11,7 @@ use Rattle.calculus.specs.Typing.{noStore, TmTy}
 use Rattle.image.specs.Records.{Layout}
 use Rattle.image.specs.Layout.{laid, layout, recordsOf}
 use Rattle.image.specs.Types.{typeOf, statedType, rootOf, rootType}
+use Rattle.image.specs.LaidOut.{LaidOut}
 use Rattle.image.specs.Program.{tree, program, toTm}
 use Rattle.image.proofs.TypeNumbers.{same-number}
 use Rattle.image.proofs.Laid.{Good, layout-good, records-of, image-kept}
@@ -19,13 +20,29 @@ use Rattle.verdict.specs.declared.Verdict.{Verdict}
 use Rattle.verdict.specs.Domains.{policy}
 use Rattle.verdict.specs.Shape.{usedOnce, Shaped}
 use Rattle.verdict.specs.Verdicts.{verdict}
-use Rattle.verdict.specs.WellTyped.{stated, WellTyped}
-use Rattle.verdict.specs.Acceptable.{PartialOrder, mainline, Acceptable}
+use Rattle.verdict.specs.WellTyped.{stated, mainline, WellTyped}
+use Rattle.verdict.specs.Ascribed.{ascribed}
+use Rattle.verdict.specs.Acceptable.{PartialOrder, Acceptable}
 use Rattle.verdict.proofs.Order.{order-iff}
 use Rattle.verdict.proofs.Uses.{once-iff}
 use Rattle.verdict.proofs.Depths.{shallow-iff}
 use Rattle.verdict.proofs.Passed.{Passed, passed-iff}
 use Rattle.verdict.proofs.Term.{well-term}
+use Rattle.verdict.proofs.Ascribed.{program-ascribed}
+
+tree-stated : (L : Layout) (f n : ℕ) → 0 < f → stated (tree L f n) ≡ statedType L n
+unfolding tree
+tree-stated L zero n h = absurd (omega arith)
+tree-stated L (suc f) n h = refl
+
+-- The type that a program states is its root's.
+pub root-stated : (L : Layout) → 0 < length (L .terms) → stated (program L) ≡ rootType L
+unfolding program
+root-stated L h = tree-stated L (length (L .terms)) (rootOf L) h
+
+-- Of an image that is laid out and has terms, the program is well typed, term by term, exactly if there is the one derivation that acceptance asks for.
+pub typed-ascribed : (L : Layout) → LaidOut L → 0 < length (L .terms) → WellTyped (policy L) mainline (program L) ↔ TmTy (policy L) noStore [] 0 (ascribed (program L)) (rootType L)
+typed-ascribed L h n = subst (λ t. WellTyped (policy L) mainline (program L) ↔ TmTy (policy L) noStore [] 0 (ascribed (program L)) t) (root-stated L n) (program-ascribed (policy L) L h)
 
 -- What passes is acceptable, by the records that the walk has found.
 passed-acceptable : (b : List ℕ) (work report : ℕ) → Passed b work report → Acceptable b work report
@@ -34,18 +51,19 @@ passed-acceptable b work report p =
     let s = p .shaped in
     let good = layout-good b L (p .laid-out) in
     let e : L .image ≡ b = image-kept b L (p .laid-out) in
+    let l : LaidOut L = laid-iff L .0 (ap (λ c. layout c) e ∙ p .laid-out) in
     record {
       short = p .short;
       records = L;
       image = e;
-      laid-out = laid-iff L .0 (ap (λ c. layout c) e ∙ p .laid-out);
+      laid-out = l;
       has-domains = s .has-domains;
       has-types = s .has-types;
       has-terms = s .has-terms;
       ordered = order-iff L .0 (s .ordered);
       used = λ n l. once-iff L n .0 (s .used n l);
       shallow = shallow-iff L good (s .has-terms) (s .used) .0 (s .shallow);
-      well-typed = p .well-typed;
+      well-typed = typed-ascribed L l (s .has-terms) .0 (p .well-typed);
       plain = p .plain;
       work-enough = p .work-enough;
       report-enough = p .report-enough;
@@ -78,7 +96,7 @@ acceptable-passed b work report a =
       short = a .short;
       laid-out = acceptable-laid a ∙ ap laid e;
       shaped = subst Shaped e s;
-      well-typed = subst (λ K. WellTyped (policy K) mainline (program K)) e (a .well-typed);
+      well-typed = subst (λ K. WellTyped (policy K) mainline (program K)) e (typed-ascribed L (a .laid-out) (a .has-terms) .1 (a .well-typed));
       plain = subst (λ K. isPlain (rootType K) ≡ true) e (a .plain);
       work-enough = a .work-enough;
       report-enough = a .report-enough;
@@ -91,16 +109,6 @@ accepted-iff b work report =
 
 pub accepted-good : (b : List ℕ) (work report : ℕ) → verdict b work report ≡ Verdict.Accepted → Good (recordsOf b)
 accepted-good b work report h = layout-good b (recordsOf b) (passed-iff b work report .0 h .laid-out)
-
-tree-stated : (L : Layout) (f n : ℕ) → 0 < f → stated (tree L f n) ≡ statedType L n
-unfolding tree
-tree-stated L zero n h = absurd (omega arith)
-tree-stated L (suc f) n h = refl
-
--- The type that a program states is its root's.
-pub root-stated : (L : Layout) → 0 < length (L .terms) → stated (program L) ≡ rootType L
-unfolding program
-root-stated L h = tree-stated L (length (L .terms)) (rootOf L) h
 
 -- An accepted image's program is a well-typed term of the calculus, at domain 0, in the empty context, and its type is plain.
 pub accepted-typed : (b : List ℕ) (work report : ℕ) → verdict b work report ≡ Verdict.Accepted → TmTy (policy (recordsOf b)) noStore [] 0 (toTm (program (recordsOf b))) (rootType (recordsOf b))

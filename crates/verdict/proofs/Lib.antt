@@ -11,6 +11,7 @@ pub mod Sound
 pub mod Inversion
 pub mod LocalComplete
 pub mod Complete
+pub mod Ascribed
 pub mod Changes
 pub mod Depth
 pub mod Uses

@@ -21,8 +21,7 @@ use Rattle.verdict.specs.Order.{atFault}
 use Rattle.verdict.specs.Shape.{shape, Shaped}
 use Rattle.verdict.specs.Check.{rootSetting, typing}
 use Rattle.verdict.specs.Verdicts.{laidOut, verdict}
-use Rattle.verdict.specs.WellTyped.{WellTyped}
-use Rattle.verdict.specs.Acceptable.{mainline}
+use Rattle.verdict.specs.WellTyped.{mainline, WellTyped}
 use Rattle.verdict.proofs.Answered.{not-refused, in-turn, turn-in, turned, required, of-required, required-each, each-required}
 use Rattle.verdict.proofs.Sound.{ChildSound, check-sound}
 use Rattle.verdict.proofs.Complete.{ChildComplete, check-complete}

@@ -4,7 +4,8 @@ use mathlib.Core.Path.{_≡_}
 use mathlib.Core.Bool.{true}
 use mathlib.Core.List.{List, []}
 use lib.ListN.{length, getD}
-use Rattle.calculus.specs.Syntax.{Dom, Ty}
+use Rattle.calculus.specs.Syntax.{Dom}
+use Rattle.calculus.specs.Typing.{noStore, TmTy}
 use Rattle.calculus.specs.Plain.{isPlain}
 use Rattle.image.specs.Limits.{imageLimit, depthLimit, workLength, reportLength}
 use Rattle.image.specs.Records.{Layout}
@@ -12,8 +13,7 @@ use Rattle.image.specs.Types.{children, rootOf, rootType}
 use Rattle.image.specs.LaidOut.{LaidOut}
 use Rattle.image.specs.Program.{program}
 use Rattle.verdict.specs.Domains.{leq, policy}
-use Rattle.verdict.specs.Settings.{Setting}
-use Rattle.verdict.specs.WellTyped.{WellTyped}
+use Rattle.verdict.specs.Ascribed.{ascribed}
 
 module _ (L : Layout) where
   -- Masks name no absent domain, and are a partial order.
@@ -41,10 +41,6 @@ module _ (L : Layout) where
     at-root : Depth (rootOf L) 1
     at-child : {n d i e : ℕ} → Depth n d → IsChild n i e → Depth e (suc d)
 
--- Where a program stands: no variables, and the mainline's domain 0.
-abbrev pub mainline : Setting Ty
-mainline = record { context = []; dom = 0 }
-
 -- All that acceptance asks of an image, a work area and a report of so many bytes. No other records of the image are laid out (the law `acceptable-records`).
 pub record Acceptable (b : List ℕ) (work report : ℕ) : Type 0 where
   -- 1
@@ -63,8 +59,8 @@ pub record Acceptable (b : List ℕ) (work report : ℕ) : Type 0 where
   pub used : (n : ℕ) → n < rootOf records → UsedOnce records n
   -- 12
   pub shallow : (n d : ℕ) → Depth records n d → d ≤ depthLimit
-  -- 13 to 15
-  pub well-typed : WellTyped (policy records) mainline (program records)
+  -- 13 to 15: a derivation by figures 2 and 3, at the mainline's domain 0, without variables
+  pub well-typed : TmTy (policy records) noStore [] 0 (ascribed (program records)) (rootType records)
   -- 16
   pub plain : isPlain (rootType records) ≡ true
   -- 17 and 18

@@ -2,6 +2,7 @@
 pub mod Domains
 pub mod Settings
 pub mod WellTyped
+pub mod Ascribed
 pub mod Acceptable
 pub mod Answers
 pub mod Order

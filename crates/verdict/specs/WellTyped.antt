@@ -1,4 +1,4 @@
--- Programs that are well typed by the calculus's rules (document 003, figures 2 and 3; document 01, "Typing"), every term having the type that it states.
+-- Programs that are well typed by the calculus's rules (document 003, figures 2 and 3; document 01, "Typing"), every term having the type that it states, said term by term: those of `Acceptable`, which has it as one derivation (the law `typed-ascribed`).
 use Prim.Native.Nat.{ℕ, suc}
 use mathlib.Core.List.{List, [], _∷_}
 use Rattle.calculus.specs.Syntax.{Ty, Tms, op0, abort}
@@ -52,6 +52,10 @@ aborts (t ∷ ts) = Tms.more (op0 abort t) (aborts ts)
 abbrev pub childSetting : Setting Ty → TermKind → Ty → List ℕ → List Ty → ℕ → Setting Ty
 childSetting p k t vs ts i =
     record { context = contextOf firstOf secondOf (bodyOf k i) t vs ts (p .context); dom = domainOf (bodyOf k i) t vs (p .dom) i }
+
+-- Where a program stands: no variables, and the mainline's domain 0.
+abbrev pub mainline : Setting Ty
+mainline = record { context = []; dom = 0 }
 
 module _ (D : Policy) where
   -- A program is well typed where it stands if, by the calculus's rules, its root term would have the type that it states over any children of the types that they state, and each child is well typed where it stands.
