@@ -4,9 +4,9 @@ use native.Mathlib.Omega.{arith}
 use mathlib.Core.Path.{_≡_, refl, sym, ap, _∙_}
 use mathlib.Core.Bool.{Bool, true, false}
 use mathlib.Core.List.{List, [], _∷_, _++_}
-use lib.ListN.{length, getD, take, drop, length-drop, List·getD-eq-default}
+use lib.ListN.{length, getD, set, take, drop, length-drop, List·getD-eq-default}
 use lib.Dec.{eqb, ltb}
-use lib.Seq.{getD-take, getD-drop, getD-set-same, getD-set-other, take-take, drop-drop, take-at, drop-at, length-take-le}
+use lib.Seq.{set-getD, getD-take, getD-drop, getD-set-same, getD-set-other, take-take, drop-drop, take-at, drop-at, length-take-le}
 use borrow.Author.Tests.{ltb-true, ltb-false, eqb-true, eqb-false}
 use Rattle.base_bytes.specs.Bytes.{AreBytes, bytesOf, numberOf, numberAt}
 use Rattle.base_bytes.specs.Memory.{wordCount, besideCount, besideBase, memoryLength}
@@ -171,3 +171,11 @@ module _ {k : Link} {f : ℕ → ℕ} (F : LinkWord k f) (w : List ℕ) (i : ℕ
         try false e false g =
             let q : memoryLength + (j - memoryLength) ≡ j = omega (arith, ltb-false j memoryLength g) in
             rw (← q) (past-all (j - memoryLength))
+
+-- Card 4, of a word that stands with a link in it: where the link becomes another, no byte of the work area changes beside its two.
+module _ {k : Link} {f : ℕ → ℕ} (F : LinkWord k f) (w : List ℕ) (i : ℕ) (at : i < wordCount) (bytes : AreBytes w) (long : memoryLength ≤ length w) (l : ℕ) (h : l < linkSize) (was : wordAt (memoryOf w) i ≡ f l) where
+  stays : Holds (putWord i (f l) (memoryOf w)) w w
+  stays = record { memory = ap (λ (x : List ℕ). record { words = x; beside = memoryOf w .beside }) (sym (ap (λ (v : ℕ). set (memoryOf w .words) i v) (sym was) ∙ set-getD (memoryOf w .words) i 0)); rest = refl }
+
+  pub card4-changed : (w′ : List ℕ) → AreBytes w′ → memoryLength ≤ length w′ → (l′ : ℕ) → l′ < linkSize → Holds (putWord i (f l′) (memoryOf w)) w w′ → SameBeside k i w w′
+  card4-changed w′ bytes′ long′ l′ h′ H = card4-beside F w i at w w′ bytes bytes′ long long′ l l′ h h′ stays H
