@@ -4,6 +4,7 @@ use engine::check::Lent;
 use engine::check::check_call;
 use engine::prepare::prepare;
 use engine::runs::run_code;
+use image::WORK_LENGTH;
 use recordings::refuse_each;
 use validator::examine::Checked;
 ghost use mathlib.Core.Path.{_≡_};
@@ -14,7 +15,8 @@ ghost use Rattle.calls.specs.Runs.{Accepts};
 ghost use Rattle.recordings.specs.Recordings.{partLength, calledOver};
 ghost use Rattle.engine.specs.Prepared.{Runnable};
 
-// Runs of code that is ready, each over its own frame, with a log and a report of its own.
+// Runs of code that is ready, each over its own frame, with a log and a report of its own. The work area is cleared once, after
+// the last run: no run depends on what its front held before.
 fn run_each(
     image: &[u8],
     code: &[u64],
@@ -56,6 +58,7 @@ fn run_each(
         numbers[i] = call_number(answer);
         i += 1;
     }
+    base_bytes::clear(work, WORK_LENGTH);
 }
 
 // One call after another: `frames`, `logs` and `reports` are cut into as many equal parts as there are answers, and call i has

@@ -14,6 +14,7 @@ use Rattle.validator.specs.declared.examine.Checked.{Checked}
 use Rattle.validator.specs.Examined as Examined
 use Rattle.validator.specs.Examined.{verdictOf, examined}
 use Rattle.validator.proofs.Parts.{too-long, examined-refuses, short-work, short-report, all-enough}
+use Rattle.base_bytes.specs.Bytes.{cleared}
 use Rattle.calls.specs.declared.Answer.{Answer}
 use Rattle.calls.specs.Runs.{Accepts, runOf}
 use Rattle.calls.specs.Calls.{refusedAnswer, Left, leftBy, called}
@@ -75,5 +76,8 @@ module _ (b frame : List ℕ) (budget : ℕ) (log report work : List ℕ) where
       → record { answer = a; log = log; report = report; work = work } ≡ called b frame budget log report work
   refusal-left r place a e d = (λ i. record { answer = d i; log = log; report = report; work = work }) ∙ sym (refused-leaves b frame budget log report work r place e)
 
-  pub run-called : (X : Left) → verdict b (length work) (length report) ≡ Verdict.Accepted → X ≡ leftBy (runOf b frame budget log) log report work → X ≡ called b frame budget log report work
-  run-called X e d = d ∙ sym (accepted-leaves b frame budget log report work e)
+  -- The run leaves work′, which is then cleared.
+  pub run-called : (a : Answer) (log′ report′ work′ work″ : List ℕ) → verdict b (length work) (length report) ≡ Verdict.Accepted
+      → record { answer = a; log = log′; report = report′; work = cleared workLength work′ } ≡ leftBy (runOf b frame budget log) log report work → work″ ≡ cleared workLength work′
+      → record { answer = a; log = log′; report = report′; work = work″ } ≡ called b frame budget log report work
+  run-called a log′ report′ work′ work″ e d w = (λ i. record { answer = a; log = log′; report = report′; work = w i }) ∙ d ∙ sym (accepted-leaves b frame budget log report work e)

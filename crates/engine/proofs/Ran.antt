@@ -1,4 +1,4 @@
--- What the run of an accepted image leaves, from what the machine, the report and the clearing leave.
+-- What the run of an accepted image leaves, from what the machine and the report leave.
 use Prim.Native.Nat.{ℕ, _≤_, _<_}
 use native.Mathlib.Omega.{arith}
 use mathlib.Core.Path.{_≡_, ap, ap₂, _∙_}
@@ -72,14 +72,15 @@ module _ (b frame : List ℕ) (A : Accepts b) (bytes : AreBytes b) (budget : ℕ
   pub report-asks : (q : Regs) → q ≡ S .regs → (whole (q .pools .cells) ≤ 256) × (q .rest ≤ budget)
   report-asks q e = rw e (leaves-run .cells, leaves-run .rest)
 
-  pub run-left : (work′ work″ log′ report report′ : List ℕ) (q : Regs) (a : Answer) → Moved S work work′ log′ q → a ≡ answerIn (memoryOf work′) q budget
-      → report′ ≡ over 0 (reportIn (memoryOf work′) q budget) report → work″ ≡ cleared workLength work′ → record { answer = a; log = log′; report = report′; work = work″ } ≡ leftBy (runOf b frame budget log) log report work
+  -- The front of the work area holds anything; past it nothing changed.
+  pub run-left : (work′ log′ report report′ : List ℕ) (q : Regs) (a : Answer) → Moved S work work′ log′ q → a ≡ answerIn (memoryOf work′) q budget → report′ ≡ over 0 (reportIn (memoryOf work′) q budget) report
+      → record { answer = a; log = log′; report = report′; work = cleared workLength work′ } ≡ leftBy (runOf b frame budget log) log report work
   unfolding cleared
-  run-left work′ work″ log′ report report′ q a m p r w =
+  run-left work′ log′ report report′ q a m p r =
       let t : a ≡ answerIn (S .memory) (S .regs) budget = p ∙ ap₂ (λ N s. answerIn N s budget) (m .memory .memory) (m .regs) in
       let u : report′ ≡ over 0 (reportIn (S .memory) (S .regs) budget) report = r ∙ ap₂ (λ N s. over 0 (reportIn N s budget) report) (m .memory .memory) (m .regs) in
       let answered = t ∙ leaves-run .answer in
       let logged = m .logged ∙ leaves-run .log in
       let reported = u ∙ ap (λ x. over 0 x report) (leaves-run .report) in
-      let clear : work″ ≡ cleared workLength work = w ∙ ap (λ x. replicate workLength 0 ++ x) (m .memory .rest) in
-      λ i. record { answer = answered i; log = logged i; report = reported i; work = clear i }
+      let kept : cleared workLength work′ ≡ cleared workLength work = ap (λ x. replicate workLength 0 ++ x) (m .memory .rest) in
+      λ i. record { answer = answered i; log = logged i; report = reported i; work = kept i }

@@ -8,6 +8,7 @@ pub mod runs;
 use calls::Answer;
 use check::Lent;
 use check::check_call;
+use image::WORK_LENGTH;
 use validator::examine::Checked;
 ghost use mathlib.Core.Path.{_≡_};
 ghost use Rattle.calls.specs.Calls.{called};
@@ -46,7 +47,7 @@ pub fn run(
                 &mut code,
                 &mut dispatch,
             );
-            runs::run_code(
+            let answer = runs::run_code(
                 image,
                 &code,
                 &dispatch,
@@ -56,7 +57,9 @@ pub fn run(
                 log,
                 report,
                 work,
-            )
+            );
+            base_bytes::clear(work, WORK_LENGTH);
+            answer
         }
     }
 }

@@ -5,13 +5,14 @@ use native.Mathlib.Numerals.{add-one}
 use native.Mathlib.Nat.{suc-mul, mul-le-mul-right, mul-div-le}
 use mathlib.Core.Path.{_≡_, refl, sym, ap, ap₂, _∙_}
 use mathlib.Core.List.{List, [], _∷_, _++_, append-assoc, append-nil}
-use lib.ListN.{length, take, drop, set, replicate, length-take, length-drop, take-append-drop}
-use lib.Seq.{drop-drop, drop-length, length-take-le}
+use lib.ListN.{length, take, drop, set, replicate, length-take, length-drop, length-append, length-replicate, take-append-drop}
+use lib.Seq.{drop-drop, drop-length, drop-append-seam, length-take-le}
 use borrow.Author.Fill.{fill-more}
 use Rattle.image.specs.declared.Refusal.{Refusal}
+use Rattle.image.specs.Limits.{workLength}
 use Rattle.verdict.specs.declared.Verdict.{Verdict}
 use Rattle.verdict.specs.Verdicts.{verdict}
-use Rattle.base_bytes.specs.Bytes.{over}
+use Rattle.base_bytes.specs.Bytes.{over, cleared}
 use Rattle.base_bytes.proofs.Over.{length-over}
 use Rattle.calls.specs.declared.Answer.{Answer}
 use Rattle.calls.specs.Runs.{runOf}
@@ -23,6 +24,19 @@ use Rattle.calls.proofs.Called.{refused-leaves, accepted-leaves}
 -- A list that is filled to its end.
 pub filled : (xs : List ℕ) (i v : ℕ) → i ≡ length xs → replicate i v ++ drop i xs ≡ replicate (length xs) v
 filled xs i v e = ap (λ k. replicate k v ++ drop k xs) e ∙ ap (replicate (length xs) v ++_) (drop-length xs) ∙ append-nil (replicate (length xs) v)
+
+-- A list whose front is cleared is as long as it was, and clearing it again changes nothing.
+module _ (n : ℕ) (xs : List ℕ) where
+  zeros : length (replicate {A = ℕ} n 0) ≡ n
+  zeros = length-replicate n 0
+
+  length-cleared : n ≤ length xs → length (cleared n xs) ≡ length xs
+  unfolding cleared
+  length-cleared h = omega (arith, length-append (replicate n 0) (drop n xs), zeros, length-drop n xs)
+
+  cleared-twice : cleared n (cleared n xs) ≡ cleared n xs
+  unfolding cleared
+  cleared-twice = ap (replicate n 0 ++_) (ap (λ k. drop k (replicate n 0 ++ drop n xs)) (sym zeros) ∙ drop-append-seam (replicate n 0) (drop n xs))
 
 -- Part i of n lies inside the whole, and is as long as each.
 module _ (n i : ℕ) (below : i < n) (xs : List ℕ) where
@@ -97,15 +111,41 @@ module _ (b frames : List ℕ) (budget n i : ℕ) (below : i < n) (R : Recording
       → callOver b frames budget n i R ≡ record { answer = refusedAnswer r place; log = part n i (R .logs); report = part n i (R .reports); work = R .work }
   refused-call r place e = refused-leaves b (part n i frames) budget (part n i (R .logs)) (part n i (R .reports)) (R .work) r place (verdict-of (Verdict.Refused r place) e)
 
-  -- The run's result, recorded: f, l and p are what it was lent.
-  pub run-recorded : (R₀ : Recording) (f l p l′ p′ w′ logs reports : List ℕ) (a : Answer) (k : ℕ) → R ≡ firstCalls b frames budget n i R₀ → verdict b (length (R .work)) (partLength n (R .reports)) ≡ Verdict.Accepted
-      → f ≡ part n i frames → l ≡ part n i (R .logs) → p ≡ part n i (R .reports) → record { answer = a; log = l′; report = p′; work = w′ } ≡ leftBy (runOf b f budget l) l p (R .work)
+-- Of the work area that an accepted call is lent, only the length and the bytes past the published length matter.
+abbrev pub withClearWork : Recording → Recording
+withClearWork R = record { answers = R .answers; logs = R .logs; reports = R .reports; work = cleared workLength (R .work) }
+
+module _ (b frames : List ℕ) (budget n i : ℕ) (below : i < n) (R : Recording) (enough : workLength ≤ length (R .work)) (accepted : verdict b (length (R .work)) (partLength n (R .reports)) ≡ Verdict.Accepted) where
+  abbrev ranOver : Left
+  ranOver = leftBy (runOf b (part n i frames) budget (part n i (R .logs))) (part n i (R .logs)) (part n i (R .reports)) (R .work)
+
+  clear-call : ranOver ≡ callOver b frames budget n i (withClearWork R)
+  clear-call =
+      let still = ap (λ k. verdict b k (partLength n (R .reports))) (length-cleared workLength (R .work) enough) ∙ accepted in
+      let L = ranOver in
+      accepted-call b frames budget n i below (withClearWork R) ranOver still
+      (ap (λ w. record { answer = L .answer; log = L .log; report = L .report; work = w }) (sym (cleared-twice workLength (R .work))))
+
+  front-unseen : callOver b frames budget n i (withClearWork R) ≡ callOver b frames budget n i R
+  front-unseen = sym clear-call ∙ accepted-call b frames budget n i below R ranOver accepted refl
+
+  -- The run's result, recorded: f, l and p are what it was lent. The work area is not cleared yet, before the run and after.
+  pub run-recorded : (R₀ : Recording) (f l p l′ p′ w′ logs reports : List ℕ) (a : Answer) (k : ℕ) → withClearWork R ≡ firstCalls b frames budget n i R₀
+      → f ≡ part n i frames → l ≡ part n i (R .logs) → p ≡ part n i (R .reports) → record { answer = a; log = l′; report = p′; work = cleared workLength w′ } ≡ leftBy (runOf b f budget l) l p (R .work)
       → logs ≡ withPart n i l′ (R .logs) → reports ≡ withPart n i p′ (R .reports) → k ≡ callNumber a
-      → record { answers = set (R .answers) i k; logs = logs; reports = reports; work = w′ } ≡ firstCalls b frames budget n (i + 1) R₀
-  run-recorded R₀ f l p l′ p′ w′ logs reports a k e v ef el ep d s t u =
-      (λ j. record { answers = set (R .answers) i (u j); logs = s j; reports = t j; work = w′ })
-      ∙ call-recorded b frames budget n i R₀ R _ e (accepted-call _ v (d ∙ λ j. leftBy (runOf b (ef j) budget (el j)) (el j) (ep j) (R .work)))
+      → withClearWork (record { answers = set (R .answers) i k; logs = logs; reports = reports; work = w′ }) ≡ firstCalls b frames budget n (i + 1) R₀
+  run-recorded R₀ f l p l′ p′ w′ logs reports a k e ef el ep d s t u =
+      (λ j. record { answers = set (R .answers) i (u j); logs = s j; reports = t j; work = cleared workLength w′ })
+      ∙ call-recorded b frames budget n i R₀ (withClearWork R) _ e (d ∙ (λ j. leftBy (runOf b (ef j) budget (el j)) (el j) (ep j) (R .work)) ∙ clear-call)
       ∙ ap (λ m. firstCalls b frames budget n m R₀) (sym (add-one i))
+
+-- Calls that are accepted, from the first on: what the front of the work area holds before it makes no difference.
+module _ (b frames : List ℕ) (budget n : ℕ) (some : 0 < n) (R : Recording) (enough : workLength ≤ length (R .work)) (accepted : verdict b (length (R .work)) (partLength n (R .reports)) ≡ Verdict.Accepted) where
+  pub calls-unseen : (k : ℕ) → 0 < k → firstCalls b frames budget n k (withClearWork R) ≡ firstCalls b frames budget n k R
+  unfolding firstCalls
+  calls-unseen zero h = absurd (omega arith)
+  calls-unseen (suc zero) h = ap (λ L. recorded b frames budget n 0 L R) (front-unseen b frames budget n 0 some R enough accepted)
+  calls-unseen (suc (suc k)) h = ap (λ X. recorded b frames budget n (suc k) (callOver b frames budget n (suc k) X) X) (calls-unseen (suc k) (omega arith))
 
 -- Where one call is refused, all are, and nothing but the answers is written.
 module _ (b frames : List ℕ) (budget n : ℕ) (R : Recording) (enough : n ≤ length (R .answers)) (r : Refusal) (place : ℕ)

@@ -1,5 +1,6 @@
 -- A refusal, or the run of the code of an accepted image.
 use denote.Ref.{now}
+use native.Mathlib.Omega.{arith}
 use Rattle.engine.proofs.Gate.{refused-so, accepted-so, image-accepted, code-asks, lent-enough, refusal-left, run-called}
 use borrow.Author.Needs.{needs}
 use Rattle.engine.proofs.run.Statement.{statement}
@@ -40,6 +41,15 @@ run-code-requires c κs =
     let h = lent-enough (now (s .args .image)) _ _ _ _ _ (e .check-call .ensures .0) _ (k .checked2 .given .1) in
     (image-accepted (now (s .args .image)) _ _ _ _ _ (e .check-call .ensures .0) _ (k .checked2 .given .1), p .prepare .ensures .0, h .0, h .1)
 
+clear-requires : tie.Need-clear-requires
+clear-requires c κs =
+    let r = c .before .before .before .before .before .before .before in
+    let k = r .before .before .before .before .before .before .before .before .before .before .before .before .before in
+    let e = k .before .before in
+    let s = e .before .before .before .before .before .before .before .before .before in
+    let h = lent-enough (now (s .args .image)) _ _ _ _ _ (e .check-call .ensures .0) _ (k .checked2 .given .1) in
+    omega (arith, r .run-code .kept .1 .1 .1 .1 .1 .1 .1 .1 .0, h .0)
+
 returns : tie.Need-returns
 returns c =
     let k = c .before .before in
@@ -58,11 +68,12 @@ same-length-3 c = search needs
 
 returns-2 : tie.Need-returns-2
 returns-2 c =
-    let r = c .before .before .before .before .before .before in
+    let w = c .before .before in
+    let r = w .before .before .before .before .before .before .before .before in
     let k = r .before .before .before .before .before .before .before .before .before .before .before .before .before in
     let e = k .before .before in
     let s = e .before .before .before .before .before .before .before .before .before in
-    run-called (now (s .args .image)) (now (s .args .frame)) (s .args .budget) (now (s .args .log)) (now (s .args .report)) (now (s .args .work)) _ (accepted-so (now (s .args .image)) _ _ _ _ _ (e .check-call .ensures .0) _ (k .checked2 .given .1)) (r .run-code .ensures)
+    run-called (now (s .args .image)) (now (s .args .frame)) (s .args .budget) (now (s .args .log)) (now (s .args .report)) (now (s .args .work)) _ _ _ _ _ (accepted-so (now (s .args .image)) _ _ _ _ _ (e .check-call .ensures .0) _ (k .checked2 .given .1)) (r .run-code .ensures) (w .clear .ensures)
 
 pub run-spec : {M : Type 1} → statement M
 run-spec =
@@ -76,6 +87,7 @@ run-spec =
     slice-aggregate-run-code
     slice-aggregate-run-code-2
     run-code-requires
+    clear-requires
     returns
     same-length
     same-length-2

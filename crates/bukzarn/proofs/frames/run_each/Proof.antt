@@ -3,9 +3,10 @@ use Prim.Native.Nat.{_-_, _/_, _≤_, _<_}
 use mathlib.Core.Path.{_≡_, refl, ap, _∙_}
 use lib.ListN.{length, length-set}
 use native.Mathlib.Omega.{arith}
-use Rattle.recordings.specs.Recordings.{partLength, firstCalls}
+use Rattle.recordings.specs.Recordings.{partLength, Recording, firstCalls}
+use Rattle.image.specs.Limits.{workLength}
 use Rattle.calls.proofs.Accepted.{accepted-with}
-use Rattle.recordings.proofs.Recordings.{part-inside, length-part, length-with-part, part-lent, part-back, first-none, run-recorded}
+use Rattle.recordings.proofs.Recordings.{part-inside, length-part, length-with-part, part-lent, part-back, withClearWork, calls-unseen, first-none, run-recorded}
 use borrow.Author.Needs.{needs}
 use Rattle.bukzarn.proofs.frames.run_each.Statement.{statement}
 use Rattle.bukzarn.proofs.frames.run_each.Tie as tie
@@ -13,7 +14,7 @@ use Rattle.bukzarn.proofs.frames.run_each.Tie as tie
 abbrev Inv-loop : tie.InvT-loop
 Inv-loop image code dispatch target frames budget logs₀ reports₀ numbers₀ work₀ count frame log report i₀ logs reports numbers work i =
     (i ≤ count) × ((length numbers ≡ length numbers₀) × (length logs ≡ length logs₀) × (length reports ≡ length reports₀) × (length work ≡ length work₀))
-    × (record { answers = numbers; logs = logs; reports = reports; work = work } ≡ firstCalls image frames budget count i (record { answers = numbers₀; logs = logs₀; reports = reports₀; work = work₀ }))
+    × (withClearWork (record { answers = numbers; logs = logs; reports = reports; work = work }) ≡ firstCalls image frames budget count i (withClearWork (record { answers = numbers₀; logs = logs₀; reports = reports₀; work = work₀ })))
 
 abbrev μ-loop : tie.MeasureT-loop
 μ-loop image code dispatch target frames budget logs₀ reports₀ numbers₀ work₀ count frame log report i₀ logs reports numbers work i = count - i
@@ -155,8 +156,15 @@ loop-again c =
     let report-kept = k .run-code .kept .1 .1 .1 .1 .1 .1 .1 .0 ∙ ap length lent-report ∙ length-part n (l .i) below (l .reports) in
     let logs-back = part-back n (l .i) below (l .logs) (now (a .logs)) (same .1) _ log-kept in
     let reports-back = part-back n (l .i) below (l .reports) (now (a .reports)) (same .2) _ report-kept in
-    let enough = accepted-with (now (a .image)) (s .pre .0) (length (l .work)) (partLength n (l .reports)) (omega (arith, same .3, s .pre .3)) (rw (same .2) (s .pre .4)) in
-    (omega (arith, below), (length-set (l .numbers) (l .i) _ ∙ same .0, ap length logs-back ∙ length-with-part n (l .i) below (l .logs) _ log-kept ∙ same .1, ap length reports-back ∙ length-with-part n (l .i) below (l .reports) _ report-kept ∙ same .2, k .run-code .kept .1 .1 .1 .1 .1 .1 .1 .1 .0 ∙ same .3), run-recorded (now (a .image)) (now (a .frames)) (a .budget) n (l .i) below (record { answers = l .numbers; logs = l .logs; reports = l .reports; work = l .work }) _ _ _ _ _ _ _ _ _ _ _ (l .inv .2) enough (part-lent n (l .i) below (now (a .frames)) (now (a .frames)) refl) lent-log lent-report (k .run-code .ensures) logs-back reports-back (c .call-number .ensures))
+    let long : workLength ≤ length (l .work) = omega (arith, same .3, s .pre .3) in
+    let enough = accepted-with (now (a .image)) (s .pre .0) (length (l .work)) (partLength n (l .reports)) long (rw (same .2) (s .pre .4)) in
+    (omega (arith, below), (length-set (l .numbers) (l .i) _ ∙ same .0, ap length logs-back ∙ length-with-part n (l .i) below (l .logs) _ log-kept ∙ same .1, ap length reports-back ∙ length-with-part n (l .i) below (l .reports) _ report-kept ∙ same .2, k .run-code .kept .1 .1 .1 .1 .1 .1 .1 .1 .0 ∙ same .3), run-recorded (now (a .image)) (now (a .frames)) (a .budget) n (l .i) below (record { answers = l .numbers; logs = l .logs; reports = l .reports; work = l .work }) long enough _ _ _ _ _ _ _ _ _ _ _ (l .inv .2) (part-lent n (l .i) below (now (a .frames)) (now (a .frames)) refl) lent-log lent-report (k .run-code .ensures) logs-back reports-back (c .call-number .ensures))
+
+clear-requires : tie.Need-clear-requires Inv-loop μ-loop
+clear-requires c κs =
+    let t = c .before in
+    let s = t .before .before .before .before .before .before .before .before .before .before in
+    omega (arith, t .before .loop .inv .1 .3, s .pre .3)
 
 same-length : tie.Need-same-length Inv-loop μ-loop
 same-length c = search needs
@@ -172,10 +180,18 @@ same-length-4 c = search needs
 
 returns : tie.Need-returns Inv-loop μ-loop
 returns c =
-    let s = c .before .before .before .before .before .before .before .before .before .before in
-    let l = c .before .loop in
-    let done : l .i ≡ length (now (s .args .numbers)) = omega (arith, l .inv .0, c .loop-test .left) in
-    l .inv .2 ∙ ap (λ k. firstCalls (now (s .args .image)) (now (s .args .frames)) (s .args .budget) (length (now (s .args .numbers))) k (record { answers = now (s .args .numbers); logs = now (s .args .logs); reports = now (s .args .reports); work = now (s .args .work) })) done
+    let t = c .before .before .before .before in
+    let s = t .before .before .before .before .before .before .before .before .before .before in
+    let a = s .args in
+    let l = t .before .loop in
+    let n = length (now (a .numbers)) in
+    let R : Recording = record { answers = now (a .numbers); logs = now (a .logs); reports = now (a .reports); work = now (a .work) } in
+    let done : l .i ≡ n = omega (arith, l .inv .0, t .loop-test .left) in
+    let enough = accepted-with (now (a .image)) (s .pre .0) (length (now (a .work))) (partLength n (now (a .reports))) (s .pre .3) (s .pre .4) in
+    (λ j. record { answers = l .numbers; logs = l .logs; reports = l .reports; work = c .before .before .clear .ensures j })
+    ∙ l .inv .2
+    ∙ ap (λ k. firstCalls (now (a .image)) (now (a .frames)) (a .budget) n k (withClearWork R)) done
+    ∙ calls-unseen (now (a .image)) (now (a .frames)) (a .budget) n (s .pre .2) R (s .pre .3) enough n (s .pre .2)
 
 pub run-each-spec : {M : Type 1} → statement M
 run-each-spec =
@@ -209,6 +225,7 @@ run-each-spec =
     add-i
     loop-less
     loop-again
+    clear-requires
     same-length
     same-length-2
     same-length-3
