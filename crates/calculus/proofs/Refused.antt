@@ -5,7 +5,7 @@ use mathlib.Core.List.{List, [], _∷_}
 use lib.Dec.{eqb}
 use native.Mathlib.Omega.{arith}
 use Rattle.calculus.specs.Syntax.{Dom, Ty, noMethod, method, Val, Tm, val, var, lam, op0, op1, op2, seq, ite, split, pcd, adv, lower, obj, keep, match, end, more, newLabel, takedown, install, read, newCell, call, app, mark, store}
-use Rattle.calculus.specs.Typing.{Policy, noStore, Rule0, Rule1, Rule2, TmTy, a-type, has-first, t-call, t-newLabel, t-takedown, t-install, t-read, t-newCell, t-app, t-mark, t-store, is-val, is-var, is-lam, is-op0, is-op1, is-op2, is-seq, is-ite, is-split, is-pcd, is-adv, is-lower, is-obj, is-keep, is-match, is-end, is-more}
+use Rattle.calculus.specs.Typing.{Policy, noStore, _⊢_⦂_ as Rule0, _⊢_⦂_⇒_ as Rule1, _⊢_⦂_⇒_⇒_ as Rule2, _⨾_⊢_⦂_ as TmTy, a-type, has-first, t-call, t-newLabel, t-takedown, t-install, t-read, t-newCell, t-app, t-mark, t-store, is-val, is-var, is-lam, is-op0, is-op1, is-op2, is-seq, is-ite, is-split, is-pcd, is-adv, is-lower, is-obj, is-keep, is-match, is-end, is-more}
 use Rattle.calculus.specs.Plain.{domOf, methodsOf, methodDom}
 
 -- Two domains, 1 ≤ 0: the mainline is high, the watch low.
@@ -30,8 +30,8 @@ apart e = absurd (omega arith)
 -- An operation's rule, and the typings of its operands. All forms are matched here, once; below, each theorem would have the other forms to rule out.
 abbrev Operation : List Ty → Dom → Tm → Type 0
 Operation Γ c (op0 o t) = Rule0 watched c o t
-Operation Γ c (op1 o t e) = (a : Ty) × Rule1 watched c o t a × TmTy watched noStore Γ c e a
-Operation Γ c (op2 o t e f) = (a : Ty) × (b : Ty) × Rule2 watched c o t a b × TmTy watched noStore Γ c e a
+Operation Γ c (op1 o t e) = (a : Ty) × Rule1 watched c o a t × TmTy watched noStore Γ c e a
+Operation Γ c (op2 o t e f) = (a : Ty) × (b : Ty) × Rule2 watched c o a b t × TmTy watched noStore Γ c e a
 Operation Γ c (val v) = Unit {0}
 Operation Γ c (var k) = Unit {0}
 Operation Γ c (lam t e) = Unit {0}
@@ -67,21 +67,21 @@ variable : {c : Dom} {x t : Ty} → TmTy watched noStore (x ∷ []) c (var 0) t 
 variable (is-var e) = cc
 
 -- Low code applies no high function: one runs at the current domain.
-applied : {c : Dom} {t a b : Ty} → Rule2 watched c app t a b → domOf a ≡ c
+applied : {c : Dom} {t a b : Ty} → Rule2 watched c app a b t → domOf a ≡ c
 applied t-app = refl
 
 pub apply-refused : Refused (Ty.fun Ty.number 0 Ty.unit) 1 (op2 app Ty.unit (var 0) three) Ty.unit
 apply-refused d = let r = operation d in apart (sym (ap domOf (variable (r .3))) ∙ applied (r .2))
 
 -- Low code calls no high method: one runs at the current domain.
-called : {c : Dom} {t a : Ty} → Rule1 watched c (call 0) t a → methodDom (methodsOf a) 0 ≡ c
+called : {c : Dom} {t a : Ty} → Rule1 watched c (call 0) a t → methodDom (methodsOf a) 0 ≡ c
 called (t-call has-first) = refl
 
 pub call-refused : Refused (Ty.obj (method 0 Ty.unit noMethod)) 1 (op1 (call 0) Ty.unit (var 0)) Ty.unit
 call-refused d = let r = operation d in apart (sym (ap (λ s. methodDom (methodsOf s) 0) (variable (r .2))) ∙ called (r .1))
 
 -- Low code marks no high label: it is of the current domain.
-marked : {c : Dom} {t a b : Ty} → Rule2 watched c mark t a b → domOf a ≡ c
+marked : {c : Dom} {t a b : Ty} → Rule2 watched c mark a b t → domOf a ≡ c
 marked t-mark = refl
 
 pub mark-refused : Refused (Ty.label Ty.number 0) 1 (op2 mark Ty.unit (var 0) three) Ty.unit
@@ -109,7 +109,7 @@ pub advice-refused : Refused (Ty.pcd Ty.number 1) 0 (adv 0 (var 0) (val Val.unit
 advice-refused d = let r = hung d in upward (subst (λ s. watched .leq 0 (domOf s) ≡ true) (variable (r .1)) (r .2))
 
 -- Low code installs no high advice: its domain is at or below the current one.
-installed : {c : Dom} {t a : Ty} → Rule1 watched c install t a → watched .leq (domOf a) c ≡ true
+installed : {c : Dom} {t a : Ty} → Rule1 watched c install a t → watched .leq (domOf a) c ≡ true
 installed (t-install l) = l
 
 pub install-refused : Refused (Ty.adv 0) 1 (op1 install Ty.unit (var 0)) Ty.unit
@@ -129,21 +129,21 @@ labelled (t-newLabel l) = l
 pub label-refused : Refused Ty.unit 1 (op0 newLabel (Ty.label Ty.number 0)) (Ty.label Ty.number 0)
 label-refused d = upward (labelled (operation d))
 
-celled : {c : Dom} {t a : Ty} → Rule1 watched c newCell t a → watched .leq (domOf t) c ≡ true
+celled : {c : Dom} {t a : Ty} → Rule1 watched c newCell a t → watched .leq (domOf t) c ≡ true
 celled (t-newCell l) = l
 
 pub cell-refused : Refused Ty.unit 1 (op1 newCell (Ty.ref Ty.number 0) three) (Ty.ref Ty.number 0)
 cell-refused d = upward (celled (operation d .1))
 
 -- High code reads no low cell: the current domain is at or below the cell's.
-opened : {c : Dom} {t a : Ty} → Rule1 watched c read t a → watched .leq c (domOf a) ≡ true
+opened : {c : Dom} {t a : Ty} → Rule1 watched c read a t → watched .leq c (domOf a) ≡ true
 opened (t-read l) = l
 
 pub read-refused : Refused (Ty.ref Ty.number 1) 0 (op1 read Ty.number (var 0)) Ty.number
 read-refused d = let r = operation d in upward (subst (λ s. watched .leq 0 (domOf s) ≡ true) (variable (r .2)) (opened (r .1)))
 
 -- Low code stores to no high cell: the cell's domain is at or below the current one.
-stored : {c : Dom} {t a b : Ty} → Rule2 watched c store t a b → watched .leq (domOf a) c ≡ true
+stored : {c : Dom} {t a b : Ty} → Rule2 watched c store a b t → watched .leq (domOf a) c ≡ true
 stored (t-store l) = l
 
 pub store-refused : Refused (Ty.ref Ty.number 0) 1 (op2 store Ty.unit (var 0) three) Ty.unit

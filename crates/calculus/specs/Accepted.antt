@@ -4,7 +4,7 @@ use mathlib.Core.Bool.{true}
 use mathlib.Core.List.{[]}
 use Rattle.calculus.specs.Syntax.{Dom, Ty, Tm}
 use Rattle.calculus.specs.Plain.{isPlain}
-use Rattle.calculus.specs.Typing.{Policy, noStore, TmTy}
+use Rattle.calculus.specs.Typing.{Policy, noStore, _⨾_⊢_⦂_ as TmTy}
 
 -- What type safety assumes of the order of domains, a partial order in document 003: transitivity, and nothing else.
 abbrev pub Transitive : Policy → Type 0

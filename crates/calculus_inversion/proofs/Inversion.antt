@@ -5,7 +5,7 @@ use mathlib.Core.List.{List, _∷_, reverseAux}
 use mathlib.Core.Option.{some}
 use lib.ListN.{getElem?}
 use Rattle.calculus.specs.Syntax.{Dom, Ty, Sigs, Tm, val, var, lam, op0, op1, op2, seq, ite, split, pcd, adv, lower, obj, keep, match}
-use Rattle.calculus.specs.Typing.{Policy, StoreTyping, PatternTy, Rule0, Rule1, Rule2, LabelTys, ValTy, TmTy, TmsTy, BodiesTy, is-val, is-var, is-lam, is-op0, is-op1, is-op2, is-seq, is-ite, is-split, is-pcd, is-adv, is-lower, is-obj, is-keep, is-match}
+use Rattle.calculus.specs.Typing.{Policy, StoreTyping, PatternTy, _⊢_⦂_ as Rule0, _⊢_⦂_⇒_ as Rule1, _⊢_⦂_⇒_⇒_ as Rule2, LabelTys, ⊢_⦂_ as ValTy, _⨾_⊢_⦂_ as TmTy, _⨾_⊢*_⦂_ as TmsTy, _⊢ᵐ_⦂_ as BodiesTy, is-val, is-var, is-lam, is-op0, is-op1, is-op2, is-seq, is-ite, is-split, is-pcd, is-adv, is-lower, is-obj, is-keep, is-match}
 
 module _ (D : Policy) (Σ : StoreTyping) (Γ : List Ty) (c : Dom) where
   -- e has type u where the term stands.
@@ -18,8 +18,8 @@ module _ (D : Policy) (Σ : StoreTyping) (Γ : List Ty) (c : Dom) where
   Premises (var k) u = getElem? Γ k ≡ some u
   Premises (lam t e) u = (a : Ty) × (p : Dom) × (b : Ty) × (t ≡ u) × (t ≡ Ty.fun a p b) × TmTy D Σ (a ∷ Γ) p e b
   Premises (op0 o t) u = (t ≡ u) × Rule0 D c o t
-  Premises (op1 o t e) u = (a : Ty) × (t ≡ u) × Rule1 D c o t a × Here e a
-  Premises (op2 o t e f) u = (a : Ty) × (b : Ty) × (t ≡ u) × Rule2 D c o t a b × Here e a × Here f b
+  Premises (op1 o t e) u = (a : Ty) × (t ≡ u) × Rule1 D c o a t × Here e a
+  Premises (op2 o t e f) u = (a : Ty) × (b : Ty) × (t ≡ u) × Rule2 D c o a b t × Here e a × Here f b
   Premises (seq e f) u = Here e Ty.unit × Here f u
   Premises (ite e f g) u = Here e Ty.truth × Here f u × Here g u
   Premises (split e f) u = (a : Ty) × (b : Ty) × Here e (Ty.pair a b) × TmTy D Σ (b ∷ a ∷ Γ) c f u

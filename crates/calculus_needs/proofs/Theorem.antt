@@ -15,7 +15,7 @@ use Rattle.calculus.specs.Place.{top}
 use Rattle.calculus_needs.specs.Here.{Here, here}
 use Rattle.calculus.specs.Step.{step}
 use Rattle.calculus.specs.Run.{End, done, stopped, Ended, ended, after, run}
-use Rattle.calculus.specs.Typing.{StoreTyping, Policy, TmTy, noStore}
+use Rattle.calculus.specs.Typing.{StoreTyping, Policy, _⨾_⊢_⦂_ as TmTy, noStore}
 use Rattle.calculus.specs.Accepted.{Transitive}
 use Rattle.laws.proofs.Lists.{All, All.all-nil}
 use Rattle.calculus_safety.proofs.StoreFits.{StateFits, fits-fresh}

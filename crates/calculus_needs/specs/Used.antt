@@ -40,9 +40,9 @@ peak (suc n) G s e =
     (λ v. 0)
     (λ u. after (step e G top s)
     (λ s′ e′. max (reach 0 e) (peak n G s′ e′))
-    (λ o. reach 0 e)
-    (λ x. reach 0 e)
-    (λ x. 0))
+    (λ room. reach 0 e)
+    (λ aborted. reach 0 e)
+    (λ no-rule. 0))
 
 -- What has been used after k steps, with at most f unfinished terms around a redex.
 abbrev pub usedUp : ℕ → ℕ → State → Numbers

@@ -11,7 +11,7 @@ use Rattle.calculus.specs.Answer.{Answer, go, carry, within, if-room, with}
 use Rattle.calculus.specs.Place.{Place, at, deeper, framed}
 use Rattle.calculus.specs.Reduce.{reduceSeq, reduceLower}
 use Rattle.calculus.specs.Step.{step}
-use Rattle.calculus.specs.Typing.{Policy, StoreTyping, ValTy, TmTy, is-lower}
+use Rattle.calculus.specs.Typing.{Policy, StoreTyping, ⊢_⦂_ as ValTy, _⨾_⊢_⦂_ as TmTy, is-lower}
 use Rattle.calculus_safety.proofs.StoreFits.{StateFits}
 use Rattle.calculus_safety.proofs.Values.{val-ty}
 use Rattle.calculus_noninterference.specs.Observe.{Highs, lacksMainline}

@@ -6,7 +6,7 @@ use mathlib.Core.List.{List}
 use Rattle.calculus.specs.Syntax.{Dom, Ty, Sigs, noMethod, method, Val, Tm, Tms, Pattern, Op0, Op1, Op2, val, var, lam, op0, op1, op2, seq, ite, split, pcd, adv, lower, obj, keep, match, end, more}
 use Rattle.calculus.specs.Plain.{domOf, methodsOf}
 use Rattle.calculus.specs.Blank.{body, blank, blanks, blankBodies}
-use Rattle.calculus.specs.Typing.{Policy, noStore, LabelsOf, no-labels, a-label, ValTy, TmTy, TmsTy, BodiesTy, is-val, is-var, is-lam, is-op0, is-op1, is-op2, is-seq, is-ite, is-split, is-pcd, is-adv, is-lower, is-obj, is-keep, is-match, is-end, is-more, no-body, a-body}
+use Rattle.calculus.specs.Typing.{Policy, noStore, LabelsOf, no-labels, a-label, ⊢_⦂_ as ValTy, _⨾_⊢_⦂_ as TmTy, _⨾_⊢*_⦂_ as TmsTy, _⊢ᵐ_⦂_ as BodiesTy, is-val, is-var, is-lam, is-op0, is-op1, is-op2, is-seq, is-ite, is-split, is-pcd, is-adv, is-lower, is-obj, is-keep, is-match, is-end, is-more, no-body, a-body}
 use Rattle.laws.proofs.Lists.{none-some, All2.all2-nil}
 use Rattle.calculus_noninterference.proofs.Clash.{clash}
 use Rattle.calculus_noninterference.proofs.Interleave.{Side, Matches}

@@ -18,7 +18,7 @@ use Rattle.calculus.specs.Place.{Place, at, deeper, keeping}
 use Rattle.calculus.specs.Compose.{member}
 use Rattle.calculus.specs.Reduce.{reduce0, reduce1, reduce2, reduceMatch, arith, num, truth, collect, methodBody, bind, branch, matchOn, substAll}
 use Rattle.calculus.specs.Step.{before, step, stepFirst}
-use Rattle.calculus.specs.Typing.{Policy, StoreTyping, Has, has-first, has-later, Rule0, Rule1, Rule2, ValTy, TmTy, TmsTy, BodiesTy, a-body, t-newLabel, t-abort, t-takedown, t-stack, t-print, t-install, t-read, t-byte, t-newCell, t-call, t-pair, t-app, t-mark, t-store, t-plus, t-minus, t-less, t-equal, is-val, is-var, is-lam, is-op0, is-op1, is-op2, is-seq, is-ite, is-split, is-pcd, is-adv, is-lower, is-obj, is-keep, is-match, is-end, is-more}
+use Rattle.calculus.specs.Typing.{Policy, StoreTyping, Has, has-first, has-later, _⊢_⦂_ as Rule0, _⊢_⦂_⇒_ as Rule1, _⊢_⦂_⇒_⇒_ as Rule2, ⊢_⦂_ as ValTy, _⨾_⊢_⦂_ as TmTy, _⨾_⊢*_⦂_ as TmsTy, _⊢ᵐ_⦂_ as BodiesTy, a-body, t-newLabel, t-abort, t-takedown, t-stack, t-print, t-install, t-read, t-byte, t-newCell, t-call, t-pair, t-app, t-mark, t-store, t-plus, t-minus, t-less, t-equal, is-val, is-var, is-lam, is-op0, is-op1, is-op2, is-seq, is-ite, is-split, is-pcd, is-adv, is-lower, is-obj, is-keep, is-match, is-end, is-more}
 use Rattle.laws.proofs.Lists.{All.all-nil, All.all-cons, all-snoc, all-reverse}
 use Rattle.calculus_safety.proofs.Safety.{close}
 use Rattle.calculus_safety.proofs.Safe.{Found, Found.found, Found.nothing}
@@ -113,7 +113,7 @@ module _ (hi : Dom → Bool) where
         calm-method v has-first (a-body {e} y ys) h x = charge _ _ (calm-subst hi v h c 0 e (x .0))
         calm-method v (has-later l) (a-body y ys) h x = calm-method v l ys h (x .1)
 
-        calm1 : {o : Op1} {t a : Ty} {v : Val} → Rule1 D c o t a → ValTy D Σ v a → CalmVal hi v → CalmAnswer c s (reduce1 G (at c P) s o t v)
+        calm1 : {o : Op1} {t a : Ty} {v : Val} → Rule1 D c o a t → ValTy D Σ v a → CalmVal hi v → CalmAnswer c s (reduce1 G (at c P) s o t v)
         unfolding Calm CalmVal with
         calm1 {v} t-print y h = calm-with (numberOf v) _ (λ n e. calm-room _ _ (calm-go (record { cells = S .cells; advices = S .advices }) (record { advices = λ f. omega nat.arith; others = no-more-refl (s .used .others) }) tt))
         calm1 (t-install l) (ValTy.v-advice {ls} {p} {e} y o z) h = calm-room _ _ (calm-go (record { cells = S .cells; advices = all-snoc (S .advices) h }) (record { advices = λ f. omega (nat.arith, length-append (s .advices) (record { dom = p; labels = ls; body = e } ∷ [])); others = no-more-refl (s .used .others) }) tt)
@@ -122,7 +122,7 @@ module _ (hi : Dom → Bool) where
         calm1 (t-newCell l) y h = calm-spend _ _ (λ u m. calm-go (record { cells = all-snoc (S .cells) h; advices = S .advices }) (record { advices = λ f. omega nat.arith; others = m }) tt)
         calm1 (t-call l) (ValTy.v-object y) h = calm-method _ l y h h
 
-        calm2 : {o : Op2} {t a b : Ty} {v : Val} (w : Val) → Rule2 D c o t a b → ValTy D Σ v a → CalmVal hi v → CalmVal hi w → CalmAnswer c s (reduce2 G (at c P) s o t v w)
+        calm2 : {o : Op2} {t a b : Ty} {v : Val} (w : Val) → Rule2 D c o a b t → ValTy D Σ v a → CalmVal hi v → CalmVal hi w → CalmAnswer c s (reduce2 G (at c P) s o t v w)
         unfolding Calm CalmVal with
         calm2 w t-pair y h k = charge _ _ (h, k)
         calm2 w t-app (ValTy.v-fun {e} y) h k = charge _ _ (calm-subst hi w k c 0 e h)

@@ -9,7 +9,7 @@ use lib.Dec.{eqb, ltb, eqb→eq, ltb→lt}
 use Rattle.calculus.specs.Combinators.{choose}
 use Rattle.calculus.specs.Syntax.{Dom, Ty, Sigs, Val, Tm, Tms, val, var, lam, op1, op2, seq, split, pcd, adv, lower, obj, more, Pattern}
 use Rattle.calculus.specs.Subst.{subst, substs, substVar, under}
-use Rattle.calculus.specs.Typing.{Policy, StoreTyping, TmTy, TmsTy, BodiesTy, is-val, is-var, is-lam, is-op0, is-op1, is-op2, is-seq, is-ite, is-split, is-pcd, is-adv, is-lower, is-obj, is-end, is-more, no-body, a-body, PatternTy, p-end, p-rest, p-any, p-cut, is-keep, is-match}
+use Rattle.calculus.specs.Typing.{Policy, StoreTyping, _⨾_⊢_⦂_ as TmTy, _⨾_⊢*_⦂_ as TmsTy, _⊢ᵐ_⦂_ as BodiesTy, is-val, is-var, is-lam, is-op0, is-op1, is-op2, is-seq, is-ite, is-split, is-pcd, is-adv, is-lower, is-obj, is-end, is-more, no-body, a-body, PatternTy, p-end, p-rest, p-any, p-cut, is-keep, is-match}
 use Rattle.laws.proofs.Lookup.{place-below}
 use Rattle.calculus_noninterference.proofs.Related.{ClosedBody, ClosedBodies}
 

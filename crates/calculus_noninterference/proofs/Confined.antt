@@ -20,7 +20,7 @@ use Rattle.calculus.specs.Place.{Place, at, deeper, keeping}
 use Rattle.calculus.specs.Compose.{member, matching, triggeredBy}
 use Rattle.calculus.specs.Reduce.{reduce0, reduce1, reduce2, num, truth, arith, collect, methodBody, matched, branch, matchOn, substAll, reduceMatch}
 use Rattle.calculus.specs.Step.{step, stepFirst}
-use Rattle.calculus.specs.Typing.{Policy, StoreTyping, Rule0, Rule1, Rule2, ValTy, TmTy, TmsTy, t-newLabel, t-abort, t-takedown, t-stack, t-print, t-install, t-read, t-byte, t-newCell, t-call, t-pair, t-app, t-mark, t-store, t-plus, t-minus, t-less, t-equal, v-cell, v-label, v-advice, is-val, is-var, is-lam, is-op0, is-op1, is-op2, is-seq, is-ite, is-split, is-pcd, is-adv, is-lower, is-obj, is-keep, is-match, is-end, is-more}
+use Rattle.calculus.specs.Typing.{Policy, StoreTyping, _⊢_⦂_ as Rule0, _⊢_⦂_⇒_ as Rule1, _⊢_⦂_⇒_⇒_ as Rule2, ⊢_⦂_ as ValTy, _⨾_⊢_⦂_ as TmTy, _⨾_⊢*_⦂_ as TmsTy, t-newLabel, t-abort, t-takedown, t-stack, t-print, t-install, t-read, t-byte, t-newCell, t-call, t-pair, t-app, t-mark, t-store, t-plus, t-minus, t-less, t-equal, v-cell, v-label, v-advice, is-val, is-var, is-lam, is-op0, is-op1, is-op2, is-seq, is-ite, is-split, is-pcd, is-adv, is-lower, is-obj, is-keep, is-match, is-end, is-more}
 use Rattle.laws.proofs.Lists.{All, All.all-nil, All.all-cons, all-map, all-reverse}
 use Rattle.calculus_safety.proofs.StoreFits.{StateFits, AdviceFits, AdviceFits.advice-fits}
 use Rattle.calculus_safety.proofs.Values.{val-ty}
@@ -155,7 +155,7 @@ module _ (hi : Dom → Bool) where
     confined0 G P s (t-takedown l) = c-go (e-clear _ (under l))
     confined0 G P s t-stack = confined-at _ _ (λ u x. c-go (e-charge x))
 
-    confined1 : {Σ : StoreTyping} {c : Dom} {o : Op1} {t a : Ty} {v : Val} (G : Given) (P : Place) (s : State) → Rule1 D c o t a → ValTy D Σ v a → StateFits D Σ s → Confined c s (reduce1 G (at c P) s o t v)
+    confined1 : {Σ : StoreTyping} {c : Dom} {o : Op1} {t a : Ty} {v : Val} (G : Given) (P : Place) (s : State) → Rule1 D c o a t → ValTy D Σ v a → StateFits D Σ s → Confined c s (reduce1 G (at c P) s o t v)
     confined1 {v} G P s t-print h k = confined-with (numberOf v) _ (λ n. confined-room _ _ refl (c-go (e-event (λ f. refl) _ (λ x. x))))
     confined1 G P s (t-install l) (v-advice x y z) k = confined-some _ refl (confined-room _ _ refl (c-go (e-advice _ (under l))))
     confined1 {v} G P s (t-read l) h k = confined-with (cellOf v) _ (λ r. confined-with (getElem? (s .cells) r) _ (λ a. c-go e-stay))
@@ -166,7 +166,7 @@ module _ (hi : Dom → Bool) where
     confined-arith : {c : Dom} {A : Type 0} (s : State) (k : A → Tm) (f : ℕ → ℕ → A) (v w : Val) → Confined c s (arith s k f (numberOf v) (numberOf w))
     confined-arith s k f v w = confined-with (numberOf v) _ (λ m. confined-with (numberOf w) _ (λ n. c-go e-stay))
 
-    confined2 : {Σ : StoreTyping} {c : Dom} {o : Op2} {t a b : Ty} {v : Val} (w : Val) (G : Given) (P : Place) (s : State) → Rule2 D c o t a b → ValTy D Σ v a → StateFits D Σ s → Confined c s (reduce2 G (at c P) s o t v w)
+    confined2 : {Σ : StoreTyping} {c : Dom} {o : Op2} {t a b : Ty} {v : Val} (w : Val) (G : Given) (P : Place) (s : State) → Rule2 D c o a b t → ValTy D Σ v a → StateFits D Σ s → Confined c s (reduce2 G (at c P) s o t v w)
     confined2 w G P s t-pair h k = confined-at _ _ (λ u x. c-go (e-charge x))
     confined2 {v} w G P s t-app h k = confined-with (bodyOf v) _ (λ n. confined-at _ _ (λ u x. c-go (e-charge x)))
     confined2 w G P s t-mark (v-label {l} g) k =

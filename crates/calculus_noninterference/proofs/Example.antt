@@ -14,7 +14,7 @@ use Rattle.calculus.specs.Subst.{subst}
 use Rattle.calculus.specs.Answer.{carry, if-room, with, spend}
 use Rattle.calculus.specs.Step.{step}
 use Rattle.calculus.specs.Run.{End, done, after, run}
-use Rattle.calculus.specs.Typing.{noStore, TmTy, t-newLabel, t-takedown, t-print, t-install, t-read, t-newCell, t-app, t-mark, no-types, a-type, v-num, is-val, is-var, is-lam, is-op0, is-op1, is-op2, is-seq, is-pcd, is-adv, is-end, is-more}
+use Rattle.calculus.specs.Typing.{noStore, _⨾_⊢_⦂_ as TmTy, t-newLabel, t-takedown, t-print, t-install, t-read, t-newCell, t-app, t-mark, no-types, a-type, v-num, is-val, is-var, is-lam, is-op0, is-op1, is-op2, is-seq, is-pcd, is-adv, is-end, is-more}
 use Rattle.calculus.specs.Blank.{blank}
 use Rattle.calculus_safety.proofs.Example.{falling, falling-trans}
 use Rattle.calculus_noninterference.specs.Observe.{Highs, Shown, highOf, highPrints, highCells, Same}

@@ -4,7 +4,7 @@ use mathlib.Core.Bool.{Bool}
 use mathlib.Core.List.{[]}
 use mathlib.Core.Option.{some}
 use Rattle.calculus.specs.Syntax.{Dom, Ty, Val, Tm, Tms, asValue, val, lam, obj}
-use Rattle.calculus.specs.Typing.{Policy, StoreTyping, TmTy, is-val, is-var, is-lam, is-op0, is-op1, is-op2, is-seq, is-ite, is-split, is-pcd, is-adv, is-lower, is-obj, is-keep, is-match}
+use Rattle.calculus.specs.Typing.{Policy, StoreTyping, _⨾_⊢_⦂_ as TmTy, is-val, is-var, is-lam, is-op0, is-op1, is-op2, is-seq, is-ite, is-split, is-pcd, is-adv, is-lower, is-obj, is-keep, is-match}
 use Rattle.calculus_noninterference.proofs.Clash.{no-some}
 use Rattle.calculus_noninterference.proofs.Closed.{closed-body, closed-bodies}
 use Rattle.calculus_noninterference.proofs.Related.{World, ClosedBody, ClosedBodies, RelV, RelT, v-fun, v-object, r-val, r-val-lam, r-lam-val, r-val-obj, r-obj-val}

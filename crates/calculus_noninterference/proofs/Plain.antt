@@ -8,7 +8,7 @@ use Rattle.calculus.specs.Combinators.{choose}
 use Rattle.calculus.specs.Syntax.{Dom, Ty, Val}
 use Rattle.calculus.specs.State.{Cell, State}
 use Rattle.calculus.specs.Plain.{isPlain, leafCount}
-use Rattle.calculus.specs.Typing.{Policy, StoreTyping, ValTy}
+use Rattle.calculus.specs.Typing.{Policy, StoreTyping, ⊢_⦂_ as ValTy}
 use Rattle.laws.proofs.Lists.{All, All.all-cons}
 use Rattle.calculus_safety.proofs.StoreFits.{StateFits}
 use Rattle.calculus_noninterference.specs.Observe.{shown, highOf}

@@ -11,7 +11,7 @@ use Rattle.calculus.specs.Subst.{subst}
 use Rattle.calculus.specs.Answer.{carry, if-room, with, spend}
 use Rattle.calculus.specs.Step.{step}
 use Rattle.calculus.specs.Run.{End, done, after, run}
-use Rattle.calculus.specs.Typing.{noStore, TmTy, t-read, t-newCell, t-app, v-unit, v-num, is-val, is-lam, is-op1, is-op2, is-seq, is-lower}
+use Rattle.calculus.specs.Typing.{noStore, _⨾_⊢_⦂_ as TmTy, t-read, t-newCell, t-app, v-unit, v-num, is-val, is-lam, is-op1, is-op2, is-seq, is-lower}
 use Rattle.calculus.specs.Blank.{blank}
 use Rattle.calculus_safety.proofs.Example.{falling, falling-trans}
 use Rattle.calculus.specs.Accepted.{Accepted}

@@ -17,7 +17,7 @@ use Rattle.calculus.specs.View.{topOf, labelsOf}
 use Rattle.calculus.specs.Answer.{go, with, spend}
 use Rattle.calculus.specs.Place.{Place, at, keeping}
 use Rattle.calculus.specs.Reduce.{piece, bind, reduce0, reduce1, reduce2, arith, num, truth, reduceSeq, reduceIte, reduceSplit, reduceAdv, reduceLower, collect, reducePcd, methodBody, stackVal, consFound, matched, branch, matchOn, substAll, reduceMatch}
-use Rattle.calculus.specs.Typing.{Policy, Has, has-first, has-later, StoreTyping, Rule0, Rule1, Rule2, ValTy, t-newLabel, t-abort, t-takedown, t-print, t-install, t-read, t-byte, t-newCell, t-call, t-pair, t-app, t-mark, t-store, t-plus, t-minus, t-less, t-equal, PatternTy, p-end, p-rest, p-any, p-cut, t-stack}
+use Rattle.calculus.specs.Typing.{Policy, Has, has-first, has-later, StoreTyping, _⊢_⦂_ as Rule0, _⊢_⦂_⇒_ as Rule1, _⊢_⦂_⇒_⇒_ as Rule2, ⊢_⦂_ as ValTy, t-newLabel, t-abort, t-takedown, t-print, t-install, t-read, t-byte, t-newCell, t-call, t-pair, t-app, t-mark, t-store, t-plus, t-minus, t-less, t-equal, PatternTy, p-end, p-rest, p-any, p-cut, t-stack}
 use Rattle.laws.proofs.Lists.{All2.all2-nil, All2.all2-cons, All2, all2-length}
 use Rattle.calculus_safety.proofs.StoreFits.{StateFits}
 use Rattle.calculus_noninterference.specs.Observe.{Highs}
@@ -158,7 +158,7 @@ module _ (hi : Dom → Bool) {D : Policy} (H : Highs D hi) {W : World} {s s′ :
   two-call has-first (r-body (b-low f) k) u = clash h f
   two-call (has-later x) (r-body r k) u = two-call x k u
 
-  pub two1 : {o : Op1} {t a : Ty} {v v′ : Val} → G .frame ≡ G′ .frame → (W .stripped ≡ true → G .logLength ≤ G′ .logLength) → Rule1 D c o t a → ValTy D Σ v a → RelV hi W v v′ → Two hi W (reduce1 G (at c P) s o t v) (reduce1 G′ (at c P′) s′ o t v′)
+  pub two1 : {o : Op1} {t a : Ty} {v v′ : Val} → G .frame ≡ G′ .frame → (W .stripped ≡ true → G .logLength ≤ G′ .logLength) → Rule1 D c o a t → ValTy D Σ v a → RelV hi W v v′ → Two hi W (reduce1 G (at c P) s o t v) (reduce1 G′ (at c P′) s′ o t v′)
   two1 frame log t-print (ValTy.v-num {n}) v-num = two-some hi _ _ (two-room hi _ _ _ refl (λ z. log-room _ _ _ _ (log z) (log-no-longer hi z (R .trace))) (two-go (grows-refl W) (event-both hi R _ _ (ap (λ u. record { dom = c; said = prints n u }) (R .used .mainline)) h) (r-val v-unit)))
   two1 frame log (t-install l) (ValTy.v-advice x y z) (v-advice m r) = two-some hi _ _ (two-room hi _ _ _ refl (λ i. fewer _ _ adviceLimit (no-longer (λ a k. clash i (k .1)) (R .advices))) (two-go (grows-refl W) (advice-both hi R (record { same-dom = refl; labels = m; body = r })) (r-val v-unit)))
   two1 frame log (t-read l) (ValTy.v-cell {r} x) (v-cell m) = let k = get-both m (R .cells) in two-some hi _ _ (two-found hi _ _ (k .2) (k .3) (two-stay hi R (r-val (two-read r l x (k .2) (k .4)))))
@@ -166,7 +166,7 @@ module _ (hi : Dom → Bool) {D : Policy} (H : Highs D hi) {W : World} {s s′ :
   two1 frame log (t-newCell l) x r = two-spend hi s s′ _ _ _ _ (R .used) (same-use _) (λ u u′ e. two-go (grows-cell W both) (cell-both hi R u u′ e (record { same-dom = refl; same-plain = refl; held = λ o. r })) (r-val (v-cell (matched-last (R .cells)))))
   two1 frame log (t-call {ms} x) (ValTy.v-object y) (v-object r) = two-some hi _ _ (two-call x r (v-object {t = Ty.obj ms} r))
 
-  pub two2 : {o : Op2} {t a b : Ty} {v v′ w w′ : Val} → Rule2 D c o t a b → ValTy D Σ v a → ValTy D Σ w b → RelV hi W v v′ → RelV hi W w w′ → Two hi W (reduce2 G (at c P) s o t v w) (reduce2 G′ (at c P′) s′ o t v′ w′)
+  pub two2 : {o : Op2} {t a b : Ty} {v v′ w w′ : Val} → Rule2 D c o a b t → ValTy D Σ v a → ValTy D Σ w b → RelV hi W v v′ → RelV hi W w w′ → Two hi W (reduce2 G (at c P) s o t v w) (reduce2 G′ (at c P′) s′ o t v′ w′)
   two2 t-pair x y r u = two-charge hi R _ _ (same-use _) (r-val (v-pair r u))
   two2 t-app (ValTy.v-fun x) y (v-fun (b-rel r)) u = two-some hi _ _ (two-charge hi R _ _ (same-use _) (relT-subst hi r 0 u))
   two2 t-app (ValTy.v-fun x) y (v-fun (b-low f)) u = clash h f

@@ -13,7 +13,7 @@ use Rattle.calculus.specs.Place.{top}
 use Rattle.calculus.specs.Step.{step}
 use Rattle.calculus.specs.Plain.{isPlain}
 use Rattle.calculus.specs.Run.{done, Ended, ended, run}
-use Rattle.calculus.specs.Typing.{Policy, StoreTyping, noStore, ValTy, TmTy}
+use Rattle.calculus.specs.Typing.{Policy, StoreTyping, noStore, ⊢_⦂_ as ValTy, _⨾_⊢_⦂_ as TmTy}
 use Rattle.laws.proofs.Lists.{Prefix, prefix-refl, prefix-trans, All.all-nil, All2.all2-nil}
 use Rattle.calculus.specs.Accepted.{Transitive}
 use Rattle.calculus_safety.proofs.StoreFits.{StateFits, fits-fresh}

@@ -10,7 +10,7 @@ use Rattle.calculus.specs.View.{labelOf}
 use Rattle.calculus.specs.Answer.{Answer, wrong}
 use Rattle.calculus.specs.Place.{Place, at, deeper, keeping}
 use Rattle.calculus.specs.Step.{before, step, stepFirst}
-use Rattle.calculus.specs.Typing.{Policy, StoreTyping, Rule0, Rule1, Rule2, TmTy, TmsTy, is-op0, is-op1, is-op2, is-seq, is-ite, is-split, is-pcd, is-adv, is-lower, is-more, PatternTy, ValTy, is-keep, is-match, is-end}
+use Rattle.calculus.specs.Typing.{Policy, StoreTyping, _⊢_⦂_ as Rule0, _⊢_⦂_⇒_ as Rule1, _⊢_⦂_⇒_⇒_ as Rule2, _⨾_⊢_⦂_ as TmTy, _⨾_⊢*_⦂_ as TmsTy, is-op0, is-op1, is-op2, is-seq, is-ite, is-split, is-pcd, is-adv, is-lower, is-more, PatternTy, ⊢_⦂_ as ValTy, is-keep, is-match, is-end}
 use Rattle.laws.proofs.Lists.{All2.all2-nil, All2.all2-cons, All2, all2-reverse}
 use Rattle.calculus_safety.proofs.StoreFits.{StateFits}
 use Rattle.calculus_safety.proofs.Values.{val-ty}
@@ -29,10 +29,10 @@ module _ {D : Policy} {Σ : StoreTyping} {c : Dom} where
   inv-op0 : {o : Op0} {t u : Ty} → TmTy D Σ [] c (op0 o t) u → Rule0 D c o t
   inv-op0 (is-op0 r) = r
 
-  inv-op1 : {o : Op1} {t u : Ty} {e : Tm} → TmTy D Σ [] c (op1 o t e) u → (a : Ty) × Rule1 D c o t a × TmTy D Σ [] c e a
+  inv-op1 : {o : Op1} {t u : Ty} {e : Tm} → TmTy D Σ [] c (op1 o t e) u → (a : Ty) × Rule1 D c o a t × TmTy D Σ [] c e a
   inv-op1 (is-op1 {a} r h) = (a, r, h)
 
-  inv-op2 : {o : Op2} {t u : Ty} {e f : Tm} → TmTy D Σ [] c (op2 o t e f) u → (a b : Ty) × Rule2 D c o t a b × TmTy D Σ [] c e a × TmTy D Σ [] c f b
+  inv-op2 : {o : Op2} {t u : Ty} {e f : Tm} → TmTy D Σ [] c (op2 o t e f) u → (a b : Ty) × Rule2 D c o a b t × TmTy D Σ [] c e a × TmTy D Σ [] c f b
   inv-op2 (is-op2 {a} {b} r h k) = (a, b, r, h, k)
 
   inv-seq : {u : Ty} {e f : Tm} → TmTy D Σ [] c (seq e f) u → TmTy D Σ [] c e Ty.unit × TmTy D Σ [] c f u

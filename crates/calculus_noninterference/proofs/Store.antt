@@ -8,7 +8,7 @@ use lib.ListN.{getElem?}
 use Rattle.calculus.specs.Syntax.{Dom, Ty, Val}
 use Rattle.calculus.specs.State.{Cell, State}
 use Rattle.calculus.specs.Plain.{isPlain}
-use Rattle.calculus.specs.Typing.{Policy, StoreTyping, ValTy}
+use Rattle.calculus.specs.Typing.{Policy, StoreTyping, ⊢_⦂_ as ValTy}
 use Rattle.laws.proofs.Lists.{All, All.all-nil, All.all-cons, All2, All2.all2-nil, All2.all2-cons}
 use Rattle.calculus_safety.proofs.StoreFits.{CellFits, CellFits.cell-fits, StateFits, cell-there}
 

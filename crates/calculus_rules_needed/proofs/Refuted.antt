@@ -1,7 +1,7 @@
 -- What the statements mean: each speaks of two accepted programs, and by demand 3 the term that lacks a premise has no type there.
 use mathlib.Core.Path.{refl}
 use Rattle.calculus.specs.Syntax.{Dom, op0, abort}
-use Rattle.calculus.specs.Typing.{Policy, noStore, TmTy, t-abort, is-op0}
+use Rattle.calculus.specs.Typing.{Policy, noStore, _⨾_⊢_⦂_ as TmTy, t-abort, is-op0}
 use Rattle.calculus.proofs.Refused.{watched}
 use Rattle.calculus.specs.Accepted.{Transitive, Accepted}
 use Rattle.calculus_noninterference.specs.Observe.{Highs}

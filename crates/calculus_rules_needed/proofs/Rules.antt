@@ -11,7 +11,7 @@ use Rattle.calculus.specs.Subst.{subst}
 use Rattle.calculus.specs.Answer.{carry, if-room, with, spend}
 use Rattle.calculus.specs.Step.{step}
 use Rattle.calculus.specs.Run.{after, run}
-use Rattle.calculus.specs.Typing.{Policy, noStore, TmTy, has-first, t-newLabel, t-print, t-install, t-read, t-newCell, t-app, t-mark, t-store, no-types, a-type, v-unit, v-num, is-val, is-var, is-lam, is-op0, is-op1, is-op2, is-seq, is-pcd, is-adv, is-lower, is-obj, is-end, is-more, no-body, a-body}
+use Rattle.calculus.specs.Typing.{Policy, noStore, _⨾_⊢_⦂_ as TmTy, has-first, t-newLabel, t-print, t-install, t-read, t-newCell, t-app, t-mark, t-store, no-types, a-type, v-unit, v-num, is-val, is-var, is-lam, is-op0, is-op1, is-op2, is-seq, is-pcd, is-adv, is-lower, is-obj, is-end, is-more, no-body, a-body}
 use Rattle.calculus.specs.Blank.{blank}
 use Rattle.calculus.specs.Accepted.{Accepted}
 use Rattle.calculus_noninterference.specs.Observe.{highOf}

@@ -7,7 +7,7 @@ use lib.Dec.{eqb}
 use Rattle.calculus.specs.Syntax.{Dom, Ty, Sigs, Tm, op0, op1, op2, pcd, adv, lower, end, more, takedown, install, read, newCell, call, app, mark, store}
 use Rattle.calculus.specs.State.{Given, fresh}
 use Rattle.calculus.specs.Run.{Ended, run}
-use Rattle.calculus.specs.Typing.{Policy, Has, noStore, TmTy}
+use Rattle.calculus.specs.Typing.{Policy, Has, noStore, _⨾_⊢_⦂_ as TmTy}
 use Rattle.calculus.specs.Blank.{blank}
 use Rattle.calculus.specs.Accepted.{Accepted}
 use Rattle.calculus_noninterference.specs.Observe.{Same}

@@ -10,7 +10,7 @@ use Rattle.calculus.specs.Syntax.{Dom, Ty, Val, Tm}
 use Rattle.calculus.specs.State.{Advice}
 use Rattle.calculus.specs.Combinators.{choose}
 use Rattle.calculus.specs.Compose.{member, matching, composed}
-use Rattle.calculus.specs.Typing.{StoreTyping, Policy, LabelsOf, ValTy, TmTy}
+use Rattle.calculus.specs.Typing.{StoreTyping, Policy, LabelsOf, ⊢_⦂_ as ValTy, _⨾_⊢_⦂_ as TmTy}
 use Rattle.laws.proofs.Lists.{All, All.all-nil, All.all-cons}
 use Rattle.calculus.specs.Accepted.{Transitive}
 use Rattle.calculus_safety.proofs.Substitute.{Without.here, subst-tm}

@@ -8,7 +8,7 @@ use borrow.Author.Tests.{le-leb, leb-true}
 use Rattle.calculus.specs.Syntax.{Ty, Val, Tm, val, var, lam, op0, op1, op2, seq, pcd, adv, end, more, newLabel, print, install, app, mark}
 use Rattle.calculus.specs.State.{Given, fresh}
 use Rattle.calculus.specs.Run.{run}
-use Rattle.calculus.specs.Typing.{Policy, noStore, LabelTys, TmTy, TmsTy, ValTy, Rule0, Rule1, Rule2}
+use Rattle.calculus.specs.Typing.{Policy, noStore, LabelTys, _⨾_⊢_⦂_ as TmTy, _⨾_⊢*_⦂_ as TmsTy, ⊢_⦂_ as ValTy, _⊢_⦂_ as Rule0, _⊢_⦂_⇒_ as Rule1, _⊢_⦂_⇒_⇒_ as Rule2}
 use Rattle.calculus.specs.Accepted.{Transitive}
 use Rattle.calculus_safety.proofs.Runs.{EndsWell, program-safe}
 

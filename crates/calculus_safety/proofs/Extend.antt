@@ -2,7 +2,7 @@
 use Prim.Native.Nat.{ℕ}
 use mathlib.Core.List.{List, [], _∷_, _++_}
 use Rattle.calculus.specs.Syntax.{Dom, Ty, Sigs, Val, Tm, Tms}
-use Rattle.calculus.specs.Typing.{StoreTyping, Policy, LabelsOf, ValTy, TmTy, TmsTy, BodiesTy, LabelsOf.no-labels, LabelsOf.a-label}
+use Rattle.calculus.specs.Typing.{StoreTyping, Policy, LabelsOf, ⊢_⦂_ as ValTy, _⨾_⊢_⦂_ as TmTy, _⨾_⊢*_⦂_ as TmsTy, _⊢ᵐ_⦂_ as BodiesTy, LabelsOf.no-labels, LabelsOf.a-label}
 use Rattle.laws.proofs.Lists.{Prefix, prefix-refl, prefix-append, prefix-get, prefix-trans}
 
 pub record Extends (Σ Σ′ : StoreTyping) : Type 0 where

@@ -14,7 +14,7 @@ use Rattle.calculus.specs.Answer.{go, with}
 use Rattle.calculus.specs.Place.{Place, at, keeping}
 use Rattle.calculus.specs.Compose.{member}
 use Rattle.calculus.specs.Reduce.{reduce0, reduce1, reduce2, reduceSeq, reduceIte, reduceSplit, reduceAdv, reduceLower, reducePcd, collect, methodBody, stackVal, consFound, matched, branch, matchOn, substAll, reduceKeep, reduceMatch}
-use Rattle.calculus.specs.Typing.{StoreTyping, Policy, PatternTy, Has, LabelsOf, LabelTys, ValTy, TmTy, BodiesTy, Rule0, Rule1, Rule2}
+use Rattle.calculus.specs.Typing.{StoreTyping, Policy, PatternTy, Has, LabelsOf, LabelTys, ⊢_⦂_ as ValTy, _⨾_⊢_⦂_ as TmTy, _⊢ᵐ_⦂_ as BodiesTy, _⊢_⦂_ as Rule0, _⊢_⦂_⇒_ as Rule1, _⊢_⦂_⇒_⇒_ as Rule2}
 use Rattle.laws.proofs.Lists.{All2, All2.all2-nil, All2.all2-cons, all-snoc, all-reverse, all2-snoc, all2-set, all2-length, get-last, All.all-nil, All.all-cons}
 use Rattle.calculus.specs.Accepted.{Transitive}
 use Rattle.calculus_safety.proofs.Extend.{extends-cell, extends-label, grow-val}
@@ -108,7 +108,7 @@ module _ (D : Policy) {Σ : StoreTyping} {c : Dom} (s : State) (fits : StateFits
     safe0 kept (Rule0.t-takedown {p} h) = here-val _ (record { cells = fits .cells; labels = fits .labels; advices = all-filtered _ (fits .advices) }) ValTy.v-unit
     safe0 kept Rule0.t-stack = safe-spend D _ s _ (here-val _ fits (stack-typed D kept))
 
-    pub safe1 : {o : Op1} {t a : Ty} {v : Val} → Rule1 D c o t a → ValTy D Σ v a → Safe D Σ c t (reduce1 G (at c P) s o t v)
+    pub safe1 : {o : Op1} {t a : Ty} {v : Val} → Rule1 D c o a t → ValTy D Σ v a → Safe D Σ c t (reduce1 G (at c P) s o t v)
     unfolding with
     safe1 Rule1.t-print ValTy.v-num = safe-room D _ _ tt (here-val _ fits ValTy.v-unit)
     safe1 (Rule1.t-install h) (ValTy.v-advice ls o b) =
@@ -124,7 +124,7 @@ module _ (D : Policy) {Σ : StoreTyping} {c : Dom} (s : State) (fits : StateFits
         (TmTy.is-val (ValTy.v-cell place)))
     safe1 (Rule1.t-call x) (ValTy.v-object k) = let e = body-typed D x k in rw (e .1) (safe-spend D _ s _ (safe-here D _ fits (subst-tm D (ValTy.v-object k) (e .2) here)))
 
-    pub safe2 : Transitive D → {o : Op2} {t a b : Ty} {v w : Val} → Rule2 D c o t a b → ValTy D Σ v a → ValTy D Σ w b → Safe D Σ c t (reduce2 G (at c P) s o t v w)
+    pub safe2 : Transitive D → {o : Op2} {t a b : Ty} {v w : Val} → Rule2 D c o a b t → ValTy D Σ v a → ValTy D Σ w b → Safe D Σ c t (reduce2 G (at c P) s o t v w)
     unfolding with
     safe2 trans Rule2.t-pair hv hw = safe-spend D _ s _ (here-val _ fits (ValTy.v-pair hv hw))
     safe2 trans Rule2.t-app (ValTy.v-fun h) hw = safe-spend D _ s _ (safe-here D _ fits (subst-tm D hw h here))

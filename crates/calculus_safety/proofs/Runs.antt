@@ -14,7 +14,7 @@ use Rattle.calculus.specs.Place.{top}
 use Rattle.calculus.specs.Step.{step}
 use Rattle.calculus.specs.Run.{End, done, stopped, stuck, Ended, ended, after, unpaid, run}
 use Rattle.calculus.specs.Report.{outcomeNumber, outcomeOf, report}
-use Rattle.calculus.specs.Typing.{StoreTyping, Policy, ValTy, TmTy, noStore}
+use Rattle.calculus.specs.Typing.{StoreTyping, Policy, ⊢_⦂_ as ValTy, _⨾_⊢_⦂_ as TmTy, noStore}
 use Rattle.laws.proofs.Lists.{All.all-nil}
 use Rattle.calculus.specs.Accepted.{Transitive}
 use Rattle.calculus_safety.proofs.Extend.{Extends, extends-refl, extends-trans}

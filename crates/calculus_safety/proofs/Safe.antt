@@ -10,7 +10,7 @@ use Rattle.calculus.specs.Syntax.{Dom, Ty, Tm}
 use Rattle.calculus.specs.State.{State, Uses, addUses, charged}
 use Rattle.calculus.specs.Answer.{Answer, go, full, halt, carry, within, if-room, spend}
 use Rattle.calculus.specs.Report.{outcomeNumber}
-use Rattle.calculus.specs.Typing.{StoreTyping, Policy, TmTy}
+use Rattle.calculus.specs.Typing.{StoreTyping, Policy, _⨾_⊢_⦂_ as TmTy}
 use Rattle.calculus_safety.proofs.Extend.{Extends, extends-refl}
 use Rattle.calculus_safety.proofs.StoreFits.{StateFits}
 

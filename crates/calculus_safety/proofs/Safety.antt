@@ -8,7 +8,7 @@ use Rattle.calculus.specs.State.{State, Given}
 use Rattle.calculus.specs.Answer.{Answer, go, wrong}
 use Rattle.calculus.specs.Place.{Place, at, deeper, keeping}
 use Rattle.calculus.specs.Step.{step, stepFirst}
-use Rattle.calculus.specs.Typing.{StoreTyping, Policy, ValTy, TmTy, TmsTy}
+use Rattle.calculus.specs.Typing.{StoreTyping, Policy, ⊢_⦂_ as ValTy, _⨾_⊢_⦂_ as TmTy, _⨾_⊢*_⦂_ as TmsTy}
 use Rattle.laws.proofs.Lists.{none-some, All2, All2.all2-nil, All2.all2-cons, all2-reverse}
 use Rattle.calculus.specs.Accepted.{Transitive}
 use Rattle.calculus_safety.proofs.Extend.{Extends, grow-val, grow-tm, grow-tms}

@@ -9,7 +9,7 @@ use Rattle.calculus.specs.Combinators.{choose, filtered}
 use Rattle.calculus.specs.Syntax.{Dom, Ty, Val, Tm}
 use Rattle.calculus.specs.State.{Cell, Advice, Entry, State, fresh}
 use Rattle.calculus.specs.Plain.{isPlain}
-use Rattle.calculus.specs.Typing.{StoreTyping, Policy, LabelsOf, ValTy, TmTy, noStore}
+use Rattle.calculus.specs.Typing.{StoreTyping, Policy, LabelsOf, ⊢_⦂_ as ValTy, _⨾_⊢_⦂_ as TmTy, noStore}
 use Rattle.laws.proofs.Lists.{All, All2, all-map, all2-map, all2-get, All.all-nil, All.all-cons, All2.all2-nil}
 use Rattle.calculus_safety.proofs.Extend.{Extends, grow-labels, grow-val, grow-tm}
 

@@ -10,7 +10,7 @@ use lib.Dec.{T, eqb, ltb, eqb→eq, eqb-refl, ltb→lt, nltb→le}
 use Rattle.calculus.specs.Syntax.{Dom, Ty, Sigs, Val, Tm, Tms, Pattern, val, var}
 use Rattle.calculus.specs.Combinators.{choose}
 use Rattle.calculus.specs.Subst.{substVar, under, subst, substs}
-use Rattle.calculus.specs.Typing.{StoreTyping, Policy, PatternTy, ValTy, TmTy, TmsTy, BodiesTy}
+use Rattle.calculus.specs.Typing.{StoreTyping, Policy, PatternTy, ⊢_⦂_ as ValTy, _⨾_⊢_⦂_ as TmTy, _⨾_⊢*_⦂_ as TmsTy, _⊢ᵐ_⦂_ as BodiesTy}
 
 -- Δ is Γ without its place k, where a stands.
 pub data Without (a : Ty) : ℕ → List Ty → List Ty → Type 0 where

@@ -4,7 +4,7 @@ use mathlib.Core.List.{List, [], _∷_, reverseAux}
 use mathlib.Core.Option.{Option, some, Option·some-injective}
 use Rattle.calculus.specs.Syntax.{Dom, Ty, Val, Tm, Tms, asValue}
 use Rattle.calculus.specs.Step.{before}
-use Rattle.calculus.specs.Typing.{StoreTyping, Policy, LabelTys, ValTy, TmTy, TmsTy}
+use Rattle.calculus.specs.Typing.{StoreTyping, Policy, LabelTys, ⊢_⦂_ as ValTy, _⨾_⊢_⦂_ as TmTy, _⨾_⊢*_⦂_ as TmsTy}
 use Rattle.laws.proofs.Lists.{none-some, All2, All2.all2-nil, All2.all2-cons}
 use Rattle.calculus_safety.proofs.Extend.{Extends, grow-val}
 use Rattle.calculus_safety.proofs.Safe.{Found, Found.found, Found.nothing}

@@ -4,7 +4,7 @@ use mathlib.Core.Bool.{Bool, true}
 use mathlib.Core.List.{List}
 use Rattle.calculus.specs.Combinators.{choose}
 use Rattle.calculus.specs.Syntax.{Dom, Ty, Sigs, Val, Tm, Tms, Op0, val, lam, op1, op2, seq, split, pcd, adv, lower, obj, more}
-use Rattle.calculus.specs.Typing.{StoreTyping, Policy, Rule0, ValTy, TmTy, TmsTy, BodiesTy, t-newLabel, t-abort, t-takedown, t-stack, is-val, is-var, is-lam, is-op0, is-op1, is-op2, is-seq, is-ite, is-split, is-pcd, is-adv, is-lower, is-obj, is-keep, is-match, is-end, is-more, no-body, a-body}
+use Rattle.calculus.specs.Typing.{StoreTyping, Policy, _⊢_⦂_ as Rule0, ⊢_⦂_ as ValTy, _⨾_⊢_⦂_ as TmTy, _⨾_⊢*_⦂_ as TmsTy, _⊢ᵐ_⦂_ as BodiesTy, t-newLabel, t-abort, t-takedown, t-stack, is-val, is-var, is-lam, is-op0, is-op1, is-op2, is-seq, is-ite, is-split, is-pcd, is-adv, is-lower, is-obj, is-keep, is-match, is-end, is-more, no-body, a-body}
 use Rattle.calculus_noninterference.specs.Calm.{CalmOp, Calm, Calms, CalmBodies, CalmVal}
 use Rattle.calculus_stripped.specs.Strip.{strip, strips, stripVal}
 

@@ -4,7 +4,7 @@ use mathlib.Core.Bool.{Bool, true, false}
 use mathlib.Core.List.{List}
 use Rattle.calculus.specs.Combinators.{choose}
 use Rattle.calculus.specs.Syntax.{Dom, Ty, Sigs, Val, Tm, Tms, val}
-use Rattle.calculus.specs.Typing.{Policy, noStore, ValTy, TmTy, TmsTy, BodiesTy, is-val, is-var, is-lam, is-op0, is-op1, is-op2, is-seq, is-ite, is-split, is-pcd, is-adv, is-lower, is-obj, is-keep, is-match, is-end, is-more, no-body, a-body}
+use Rattle.calculus.specs.Typing.{Policy, noStore, ⊢_⦂_ as ValTy, _⨾_⊢_⦂_ as TmTy, _⨾_⊢*_⦂_ as TmsTy, _⊢ᵐ_⦂_ as BodiesTy, is-val, is-var, is-lam, is-op0, is-op1, is-op2, is-seq, is-ite, is-split, is-pcd, is-adv, is-lower, is-obj, is-keep, is-match, is-end, is-more, no-body, a-body}
 use Rattle.laws.proofs.Lists.{none-some}
 use Rattle.calculus_noninterference.proofs.Related.{World, RelV, RelT, RelL, RelTs, RelBs, b-rel, l-high, l-low, v-unit, v-truth, v-num, v-pair, v-fun, v-labels, v-advice, v-object, v-bottom, r-val, r-var, r-lam, r-op0, r-op1, r-op2, r-seq, r-ite, r-split, r-pcd, r-adv, r-lower, r-obj, r-keep, r-match, r-end, r-more, r-no-body, r-body}
 use Rattle.calculus_noninterference.proofs.Blanked.{labels-rel}

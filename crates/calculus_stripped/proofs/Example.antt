@@ -10,7 +10,7 @@ use Rattle.calculus.specs.State.{Given, Print, picked, logOf, fresh}
 use Rattle.calculus.specs.Answer.{carry, if-room, with, spend}
 use Rattle.calculus.specs.Step.{step}
 use Rattle.calculus.specs.Run.{End, done, stopped, after, run}
-use Rattle.calculus.specs.Typing.{noStore, TmTy, t-takedown, t-print, t-install, no-types, v-unit, v-num, is-val, is-op0, is-op1, is-seq, is-pcd, is-adv, is-lower, is-end}
+use Rattle.calculus.specs.Typing.{noStore, _⨾_⊢_⦂_ as TmTy, t-takedown, t-print, t-install, no-types, v-unit, v-num, is-val, is-op0, is-op1, is-seq, is-pcd, is-adv, is-lower, is-end}
 use Rattle.calculus.specs.Accepted.{Accepted}
 use Rattle.calculus_safety.proofs.Example.{falling, falling-trans}
 use Rattle.calculus_noninterference.specs.Observe.{highOf, highPrints}

@@ -11,7 +11,7 @@ use Rattle.calculus.specs.Place.{top}
 use Rattle.calculus.specs.Plain.{isPlain}
 use Rattle.calculus.specs.Step.{step}
 use Rattle.calculus.specs.Run.{done, Ended, ended, run}
-use Rattle.calculus.specs.Typing.{Policy, ValTy}
+use Rattle.calculus.specs.Typing.{Policy, ⊢_⦂_ as ValTy}
 use Rattle.calculus.specs.Accepted.{Transitive}
 use Rattle.calculus_safety.proofs.Values.{val-ty}
 use Rattle.calculus_noninterference.specs.Observe.{Highs, highCells, NoMore}

@@ -3,7 +3,7 @@ use mathlib.Core.Bool.{Bool, true, false}
 use mathlib.Core.List.{List}
 use Rattle.calculus.specs.Combinators.{choose}
 use Rattle.calculus.specs.Syntax.{Dom, Ty, Sigs, Val, Tm, Tms, val}
-use Rattle.calculus.specs.Typing.{StoreTyping, Policy, ValTy, TmTy, TmsTy, BodiesTy, is-val, is-var, is-lam, is-op0, is-op1, is-op2, is-seq, is-ite, is-split, is-pcd, is-adv, is-lower, is-obj, is-keep, is-match, is-end, is-more, no-body, a-body}
+use Rattle.calculus.specs.Typing.{StoreTyping, Policy, ⊢_⦂_ as ValTy, _⨾_⊢_⦂_ as TmTy, _⨾_⊢*_⦂_ as TmsTy, _⊢ᵐ_⦂_ as BodiesTy, is-val, is-var, is-lam, is-op0, is-op1, is-op2, is-seq, is-ite, is-split, is-pcd, is-adv, is-lower, is-obj, is-keep, is-match, is-end, is-more, no-body, a-body}
 use Rattle.calculus_stripped.specs.Strip.{strip, strips, stripVal}
 
 module _ {D : Policy} {Σ : StoreTyping} (high : Dom → Bool) where

@@ -15,7 +15,7 @@ use Rattle.calculus.specs.State.{Cell, Given, fresh, logOf}
 use Rattle.calculus.specs.Run.{End, Ended, run}
 use Rattle.calculus.specs.Report.{leaves, resultOf, cellReport, report}
 use Rattle.calculus.specs.Blank.{blank}
-use Rattle.calculus.specs.Typing.{Policy, StoreTyping, ValTy, noStore, TmTy}
+use Rattle.calculus.specs.Typing.{Policy, StoreTyping, ⊢_⦂_ as ValTy, noStore, _⨾_⊢_⦂_ as TmTy}
 use Rattle.laws.proofs.Lists.{All, All.all-nil, All.all-cons, All2, All2.all2-nil, All2.all2-cons}
 use Rattle.calculus_safety.proofs.StoreFits.{CellFits, CellFits.cell-fits}
 use Rattle.calculus.specs.Accepted.{Transitive, Accepted}

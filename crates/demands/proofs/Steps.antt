@@ -13,7 +13,7 @@ use Rattle.calculus.specs.Place.{top}
 use Rattle.calculus.specs.Step.{step}
 use Rattle.calculus.specs.Run.{End, done, stopped, stuck, Ended, ended, after, unpaid, run}
 use Rattle.calculus.specs.Report.{outcomeOf, report}
-use Rattle.calculus.specs.Typing.{Policy, StoreTyping, TmTy, noStore}
+use Rattle.calculus.specs.Typing.{Policy, StoreTyping, _⨾_⊢_⦂_ as TmTy, noStore}
 use Rattle.calculus.specs.Accepted.{Transitive}
 use Rattle.calculus_safety.proofs.StoreFits.{StateFits, fits-fresh}
 use Rattle.calculus_safety.proofs.Safe.{Safe, Safe.safe-go, Safe.safe-full, Safe.safe-halt}

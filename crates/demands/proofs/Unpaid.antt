@@ -17,7 +17,7 @@ use Rattle.calculus.specs.Place.{top}
 use Rattle.calculus.specs.Step.{step}
 use Rattle.calculus.specs.Run.{done, stopped, stuck, Ended, ended, after, unpaid, run}
 use Rattle.calculus.specs.Report.{outcomeNumber}
-use Rattle.calculus.specs.Typing.{Policy, StoreTyping, TmTy}
+use Rattle.calculus.specs.Typing.{Policy, StoreTyping, _⨾_⊢_⦂_ as TmTy}
 use Rattle.calculus.specs.Accepted.{Transitive}
 use Rattle.laws.proofs.Booleans.{and-i}
 use Rattle.calculus_safety.proofs.StoreFits.{StateFits, fits-fresh}

@@ -6,12 +6,12 @@ use mathlib.Core.List.{List}
 use lib.ListN.{length}
 use lib.Dec.{eqb, ltb}
 use Rattle.calculus.specs.declared.Outcome.{Outcome}
-use Rattle.calculus.specs.Combinators.{choose, cases}
-use Rattle.calculus.specs.Syntax.{Tm, asValue}
+use Rattle.calculus.specs.Combinators.{choose}
+use Rattle.calculus.specs.Syntax.{Tm}
 use Rattle.calculus.specs.State.{State, Given, fresh}
 use Rattle.calculus.specs.Place.{top}
 use Rattle.calculus.specs.Step.{step}
-use Rattle.calculus.specs.Run.{done, stopped, stuck, Ended, ended, after}
+use Rattle.calculus.specs.Run.{stopped, stuck, Ended, ended, after, unlessDone}
 use Rattle.calculus.specs.Report.{outcomeNumber}
 use Rattle.image.specs.Program.{toTm}
 use Rattle.verdict.specs.Verdicts.{verdict}
@@ -22,15 +22,14 @@ use Rattle.calls.specs.Calls.{Left, leftBy, afterVerdict, called}
 
 -- A run before the card: where no value is reached it is spent as soon as steps equal the budget. All else is as in `run`.
 unfoldable pub runBefore : ℕ → Given → ℕ → State → Tm → Ended
-runBefore zero G k s e = cases (asValue e) (λ v. ended (done v) k s) (λ u. ended (stopped Outcome.Spent) k s)
+runBefore zero G k s e = unlessDone e k s λ no-value. ended (stopped Outcome.Spent) k s
 runBefore (suc n) G k s e =
-    cases (asValue e)
-    (λ v. ended (done v) k s)
-    (λ u. after (step e G top s)
+    unlessDone e k s λ no-value.
+    after (step e G top s)
     (λ s′ e′. runBefore n G (suc k) s′ e′)
-    (λ o. ended (stopped o) k s)
-    (λ x. ended (stopped Outcome.Aborted) (suc k) s)
-    (λ x. ended stuck k s))
+    (λ room. ended (stopped room) k s)
+    (λ aborted. ended (stopped Outcome.Aborted) (suc k) s)
+    (λ no-rule. ended stuck k s)
 
 -- A whole call before the card.
 abbrev pub calledBefore : List ℕ → List ℕ → ℕ → List ℕ → List ℕ → List ℕ → Left

@@ -7,7 +7,7 @@ use mathlib.Core.List.{List, [], _∷_, _++_}
 use lib.ListN.{length, getD}
 use Rattle.calculus.specs.Syntax.{Dom, Ty, Tm, op0, abort, adv, lower}
 use Rattle.calculus.specs.Combinators.{choose}
-use Rattle.calculus.specs.Typing.{Policy, noStore, TmTy, is-val, is-adv, is-lower, v-unit}
+use Rattle.calculus.specs.Typing.{Policy, noStore, _⨾_⊢_⦂_ as TmTy, is-val, is-adv, is-lower, v-unit}
 use Rattle.image.specs.Limits.{depthLimit}
 use Rattle.image.specs.Kinds.{Body, here, function-body, advice-body, split-body, lower-body, method-body, match-body, TermKind, bodyOf}
 use Rattle.image.specs.Layout.{recordsOf}

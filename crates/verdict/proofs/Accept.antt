@@ -7,7 +7,7 @@ use mathlib.Core.Bool.{true}
 use mathlib.Core.List.{List, []}
 use lib.ListN.{length}
 use Rattle.calculus.specs.Plain.{isPlain}
-use Rattle.calculus.specs.Typing.{noStore, TmTy}
+use Rattle.calculus.specs.Typing.{noStore, _⨾_⊢_⦂_ as TmTy}
 use Rattle.image.specs.Records.{Layout}
 use Rattle.image.specs.Layout.{laid, layout, recordsOf}
 use Rattle.image.specs.Types.{typeOf, statedType, rootOf, rootType}

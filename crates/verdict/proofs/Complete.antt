@@ -5,7 +5,7 @@ use mathlib.Core.List.{List, [], _∷_}
 use mathlib.Core.Option.{none}
 use lib.ListN.{length}
 use Rattle.calculus.specs.Syntax.{Ty}
-use Rattle.calculus.specs.Typing.{noStore, TmTy}
+use Rattle.calculus.specs.Typing.{noStore, _⨾_⊢_⦂_ as TmTy}
 use Rattle.laws.specs.Tests.{firstFault}
 use Rattle.image.specs.Records.{Layout}
 use Rattle.image.specs.Types.{termKind, typeNo, statedType, others, children}

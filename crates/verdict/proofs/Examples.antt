@@ -6,7 +6,7 @@ use mathlib.Core.List.{List, [], _∷_}
 use lib.Dec.{eqb}
 use Rattle.calculus.specs.Syntax.{Dom, Tm}
 use Rattle.calculus.specs.Blank.{blank}
-use Rattle.calculus.specs.Typing.{noStore, TmTy, v-unit, is-val, is-seq}
+use Rattle.calculus.specs.Typing.{noStore, _⨾_⊢_⦂_ as TmTy, v-unit, is-val, is-seq}
 use Rattle.image.specs.declared.Refusal.{Refusal}
 use Rattle.image.specs.Limits.{workLength, reportLength}
 use Rattle.laws.specs.Tests.{all, allOf, anyBelow, firstFault}

@@ -6,7 +6,7 @@ use mathlib.Core.List.{List, [], _∷_}
 use mathlib.Core.Option.{some}
 use lib.ListN.{getElem?}
 use Rattle.calculus.specs.Syntax.{Dom, Ty, Sigs, Val, Tm, Tms, Op0, Op1, Op2, val, var, lam, op0, op1, op2, seq, ite, split, pcd, adv, lower, obj, keep, match, Pattern, newLabel, abort, takedown, theStack, print, install, read, byte, newCell, call, app, mark, store, plus, minus, less, equal}
-use Rattle.calculus.specs.Typing.{Policy, noStore, PatternTy, t-newLabel, t-abort, t-takedown, t-stack, t-print, t-install, t-read, t-byte, t-newCell, t-call, t-pair, t-app, t-mark, t-store, t-plus, t-minus, t-less, t-equal, LabelTys, ValTy, TmTy, TmsTy, BodiesTy, Rule0, Rule1, Rule2, v-unit, v-truth, v-num, is-end, is-more}
+use Rattle.calculus.specs.Typing.{Policy, noStore, PatternTy, t-newLabel, t-abort, t-takedown, t-stack, t-print, t-install, t-read, t-byte, t-newCell, t-call, t-pair, t-app, t-mark, t-store, t-plus, t-minus, t-less, t-equal, LabelTys, ⊢_⦂_ as ValTy, _⨾_⊢_⦂_ as TmTy, _⨾_⊢*_⦂_ as TmsTy, _⊢ᵐ_⦂_ as BodiesTy, _⊢_⦂_ as Rule0, _⊢_⦂_⇒_ as Rule1, _⊢_⦂_⇒_⇒_ as Rule2, v-unit, v-truth, v-num, is-end, is-more}
 use Rattle.calculus.specs.Typing as Typing
 use Rattle.calculus_inversion.proofs.Inversion.{premises}
 use Rattle.image.specs.Program.{opOf}
@@ -51,7 +51,7 @@ asked0 t-abort = refl
 asked0 (t-takedown h) = (refl, h)
 asked0 t-stack = refl
 
-asked1 : {D : Policy} {c : Dom} {o : Op1} {t a : Ty} → Rule1 D c o t a → Asks1 D c o t a
+asked1 : {D : Policy} {c : Dom} {o : Op1} {t a : Ty} → Rule1 D c o a t → Asks1 D c o t a
 asked1 t-print = (refl, refl)
 asked1 (t-install {p = p} h) = (p, refl, refl, h)
 asked1 (t-read {p = p} h) = (p, refl, h)
@@ -59,7 +59,7 @@ asked1 t-byte = (refl, refl)
 asked1 (t-newCell {p = p} h) = (p, refl, h)
 asked1 (t-call {ms = ms} h) = (ms, refl, h)
 
-asked2 : {D : Policy} {c : Dom} {o : Op2} {t a b : Ty} → Rule2 D c o t a b → Asks2 D c o t a b
+asked2 : {D : Policy} {c : Dom} {o : Op2} {t a b : Ty} → Rule2 D c o a b t → Asks2 D c o t a b
 asked2 t-pair = refl
 asked2 t-app = refl
 asked2 t-mark = (refl, refl)

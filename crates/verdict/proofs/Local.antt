@@ -8,7 +8,7 @@ use mathlib.Core.Option.{some}
 use lib.ListN.{length, getD, getElem?, length-map}
 use lib.Dec.{eqb}
 use Rattle.calculus.specs.Syntax.{Dom, Ty, op0, abort}
-use Rattle.calculus.specs.Typing.{noStore, t-newLabel, t-abort, t-takedown, t-stack, t-print, t-install, t-read, t-byte, t-newCell, t-call, t-pair, t-app, t-mark, t-store, t-plus, t-minus, t-less, t-equal, LabelTys, no-types, a-type, TmTy, TmsTy, Rule2, v-unit, v-truth, v-num, is-val, is-var, is-lam, is-op0, is-op1, is-op2, is-seq, is-ite, is-split, is-pcd, is-adv, is-lower, is-obj, is-keep, is-match, is-end, is-more}
+use Rattle.calculus.specs.Typing.{noStore, t-newLabel, t-abort, t-takedown, t-stack, t-print, t-install, t-read, t-byte, t-newCell, t-call, t-pair, t-app, t-mark, t-store, t-plus, t-minus, t-less, t-equal, LabelTys, no-types, a-type, _⨾_⊢_⦂_ as TmTy, _⨾_⊢*_⦂_ as TmsTy, _⊢_⦂_⇒_⇒_ as Rule2, v-unit, v-truth, v-num, is-val, is-var, is-lam, is-op0, is-op1, is-op2, is-seq, is-ite, is-split, is-pcd, is-adv, is-lower, is-obj, is-keep, is-match, is-end, is-more}
 use Rattle.laws.specs.Tests.{all}
 use Rattle.image.specs.Kinds.{TypeKind, TermKind, termRow}
 use Rattle.image.specs.Records.{Layout}
@@ -63,7 +63,7 @@ module _ (L : Layout) (good : Good L) where
   look (a ∷ Γ) zero h = refl
   look (a ∷ Γ) (suc k) h = look Γ k (omega arith)
 
-  op-rule : (c : Dom) (x t : ℕ) → t < length (L .types) → isType L (opGives x) t ≡ true → Rule2 (policy L) c (opOf x) (typeOf L t) Ty.number Ty.number
+  op-rule : (c : Dom) (x t : ℕ) → t < length (L .types) → isType L (opGives x) t ≡ true → Rule2 (policy L) c (opOf x) Ty.number Ty.number (typeOf L t)
   unfolding typeOut
   op-rule c zero t n h = rw (out-as L good TypeKind.number t n h) t-plus
   op-rule c (suc zero) t n h = rw (out-as L good TypeKind.number t n h) t-minus

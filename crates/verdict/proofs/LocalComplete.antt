@@ -8,7 +8,7 @@ use mathlib.Core.Option.{some}
 use lib.ListN.{length, getD, getElem?, length-map}
 use lib.Dec.{eqb}
 use Rattle.calculus.specs.Syntax.{Dom, Ty, Sigs, Pattern, atEnd, atRest, anything, pointcut}
-use Rattle.calculus.specs.Typing.{noStore, PatternTy, Has, BodiesTy, LabelTys, a-type, TmTy}
+use Rattle.calculus.specs.Typing.{noStore, PatternTy, Has, _⊢ᵐ_⦂_ as BodiesTy, LabelTys, a-type, _⨾_⊢_⦂_ as TmTy}
 use Rattle.laws.specs.Tests.{all}
 use Rattle.image.specs.Kinds.{TypeKind, TermKind, termRow}
 use Rattle.image.specs.Records.{Layout}

@@ -7,7 +7,7 @@ use mathlib.Core.List.{List, [], _∷_, map}
 use lib.ListN.{length, getD}
 use lib.Dec.{eqb}
 use Rattle.calculus.specs.Syntax.{Dom, Ty, op0, abort}
-use Rattle.calculus.specs.Typing.{Policy, noStore, Has, has-first, has-later, t-abort, TmTy, BodiesTy, no-body, a-body, is-op0}
+use Rattle.calculus.specs.Typing.{Policy, noStore, Has, has-first, has-later, t-abort, _⨾_⊢_⦂_ as TmTy, _⊢ᵐ_⦂_ as BodiesTy, no-body, a-body, is-op0}
 use Rattle.image.specs.Kinds.{a-type, free, TypeKind, typeRow}
 use Rattle.image.specs.Records.{Layout, fieldsAt}
 use Rattle.image.specs.Types.{typePlace, typeFields, typeField, methodCount, isType, methodsOut}

@@ -5,7 +5,7 @@ use mathlib.Core.Bool.{true}
 use mathlib.Core.List.{List, []}
 use lib.ListN.{length, getD}
 use Rattle.calculus.specs.Syntax.{Dom}
-use Rattle.calculus.specs.Typing.{noStore, TmTy}
+use Rattle.calculus.specs.Typing.{noStore, _⨾_⊢_⦂_ as TmTy}
 use Rattle.calculus.specs.Plain.{isPlain}
 use Rattle.image.specs.Limits.{imageLimit, depthLimit, workLength, reportLength}
 use Rattle.image.specs.Records.{Layout}

@@ -2,7 +2,7 @@
 use Prim.Native.Nat.{ℕ, suc}
 use mathlib.Core.List.{List, [], _∷_}
 use Rattle.calculus.specs.Syntax.{Ty, Tms, op0, abort}
-use Rattle.calculus.specs.Typing.{Policy, noStore, TmTy}
+use Rattle.calculus.specs.Typing.{Policy, noStore, _⨾_⊢_⦂_ as TmTy}
 use Rattle.image.specs.Kinds.{TermKind, bodyOf}
 use Rattle.image.specs.Program.{Program, Programs, node, blank, end, more, assemble}
 use Rattle.verdict.specs.Settings.{Setting, contextOf, domainOf}

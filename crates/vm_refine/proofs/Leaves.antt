@@ -10,7 +10,7 @@ use borrow.Author.Tests.{leb-true}
 use Rattle.calculus.specs.Syntax.{Ty, Val}
 use Rattle.calculus.specs.Plain.{leafCount, bothLeaves, fewLeaves, isPlain}
 use Rattle.calculus.specs.Report.{leaves}
-use Rattle.calculus.specs.Typing.{Policy, StoreTyping, ValTy}
+use Rattle.calculus.specs.Typing.{Policy, StoreTyping, ⊢_⦂_ as ValTy}
 use Rattle.closure_machine.specs.Closure.{CVal, plainVal}
 use Rattle.vm_theory.specs.Table.{Table, Linked}
 use Rattle.vm_machine.specs.Memory.{Memory}
