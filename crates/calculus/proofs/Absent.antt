@@ -13,7 +13,7 @@ abbrev Stuck : Tm → Type 0
 Stuck e = (n : ℕ) (G : Given) → run (suc n) G 0 fresh e ≡ ended stuck 0 fresh
 
 abbrev three : Tm
-three = val (Val.num 3)
+three = val (Val.number 3)
 
 -- !r
 pub read-absent : Stuck (op1 read Ty.number (val (Val.cell 7)))

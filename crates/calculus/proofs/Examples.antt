@@ -27,24 +27,24 @@ abbrev facts : State → Tm → Facts
 facts s e = let E = run 100 G 0 s e in record { end = E .end; steps = E .steps; log = logOf (E .state .trace) }
 
 abbrev number : ℕ → Tm
-number n = val (Val.num n)
+number n = val (Val.number n)
 
 abbrev say : Tm → Tm
 say e = op1 print Ty.unit e
 
 -- "Evaluation is left to right": (print 1; 5) minus (print 2; 3)
 left-first : facts fresh (op2 minus Ty.number (seq (say (number 1)) (number 5)) (seq (say (number 2)) (number 3)))
-    ≡ record { end = done (Val.num 2); steps = 5; log = record { dom = 0; shown = 1 } ∷ record { dom = 0; shown = 2 } ∷ [] }
+    ≡ record { end = done (Val.number 2); steps = 5; log = record { dom = 0; shown = 1 } ∷ record { dom = 0; shown = 2 } ∷ [] }
 unfolding run after cases step carry if-room with picked
 left-first = refl
 
 -- An if goes on with its first branch where its truth holds, and else with its second.
-chosen-branch : (facts fresh (ite (val (Val.truth true)) (number 1) (number 2)) .end ≡ done (Val.num 1)) × (facts fresh (ite (val (Val.truth false)) (number 1) (number 2)) .end ≡ done (Val.num 2))
+chosen-branch : (facts fresh (ite (val (Val.truth true)) (number 1) (number 2)) .end ≡ done (Val.number 1)) × (facts fresh (ite (val (Val.truth false)) (number 1) (number 2)) .end ≡ done (Val.number 2))
 unfolding run after cases step if-room with
 chosen-branch = (refl, refl)
 
 -- A result's "leaves, left to right": of the pair of the pair of 1 and true, and unit.
-leaves-in-order : leaves (Val.pair (Val.pair (Val.num 1) (Val.truth true)) Val.unit) ≡ Leaf.Number 1 ∷ Leaf.Truth true ∷ Leaf.Unit ∷ []
+leaves-in-order : leaves (Val.pair (Val.pair (Val.number 1) (Val.truth true)) Val.unit) ≡ Leaf.Number 1 ∷ Leaf.Truth true ∷ Leaf.Unit ∷ []
 unfolding leaves
 leaves-in-order = refl
 
@@ -83,11 +83,11 @@ frames-513 = refl
 -- Card 3: an object of two methods; the second adds 1 to what the first, called on the object itself, gives.
 unfoldable pub called : Tm
 called =
-    let numbers : Ty = Ty.obj (method 0 Ty.number (method 0 Ty.number noMethod)) in
+    let numbers : Ty = Ty.object (method 0 Ty.number (method 0 Ty.number noMethod)) in
     op1 (call 1) Ty.number (obj numbers (more (number 4) (more (op2 plus Ty.number (op1 (call 0) Ty.number (var 0)) (number 1)) end)))
 
 -- "A call is one step and one binding; an object takes no step and no piece": two calls and the sum.
-calls : facts fresh called ≡ record { end = done (Val.num 5); steps = 3; log = [] }
+calls : facts fresh called ≡ record { end = done (Val.number 5); steps = 3; log = [] }
 unfolding called run after cases step subst carry if-room with spend picked
 calls = refl
 
@@ -110,7 +110,7 @@ abort-spent = refl
 
 -- Card 6: the stack matched with a pattern whose one pointcut, if it has one, names label 0: print x in the first branch, print 8 in the other.
 abbrev looked : Pattern → Tm → Tm
-looked p x = match p (more (op0 theStack Ty.stack) (more (val (Val.labels (0 ∷ []))) end)) (say x) (say (number 8))
+looked p x = match p (more (op0 theStack Ty.stack) (more (val (Val.pointcut (0 ∷ []))) end)) (say x) (say (number 8))
 
 abbrev looking : State
 looking = installed (on 1 (looked (pointcut atRest) (var 1))) (labelled 0 fresh)

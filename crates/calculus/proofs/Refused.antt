@@ -17,7 +17,7 @@ abbrev pub Refused : Ty → Dom → Tm → Ty → Type 0
 Refused x c e t = TmTy watched noStore (x ∷ []) c e t → ⊥
 
 abbrev three : Tm
-three = val (Val.num 3)
+three = val (Val.number 3)
 
 -- 0 ≤ 1 does not hold.
 upward : {X : Type 0} → false ≡ true → X
@@ -77,7 +77,7 @@ apply-refused d = let r = operation d in apart (sym (ap domOf (variable (r .3)))
 called : {c : Dom} {t a : Ty} → Rule1 watched c (call 0) a t → methodDom (methodsOf a) 0 ≡ c
 called (t-call has-first) = refl
 
-pub call-refused : Refused (Ty.obj (method 0 Ty.unit noMethod)) 1 (op1 (call 0) Ty.unit (var 0)) Ty.unit
+pub call-refused : Refused (Ty.object (method 0 Ty.unit noMethod)) 1 (op1 (call 0) Ty.unit (var 0)) Ty.unit
 call-refused d = let r = operation d in apart (sym (ap (λ s. methodDom (methodsOf s) 0) (variable (r .2))) ∙ called (r .1))
 
 -- Low code marks no high label: it is of the current domain.
@@ -98,21 +98,21 @@ keep-refused d = let r = kept d in apart (sym (ap domOf (variable (r .1))) ∙ r
 named : {Γ : List Ty} {c : Dom} {t : Ty} {e : Tm} → TmTy watched noStore Γ c (pcd (more e end)) t → (a : Ty) × TmTy watched noStore Γ c e a × (watched .leq (domOf t) (domOf a) ≡ true)
 named (is-pcd (is-more d is-end) (a-type l n)) = (_, d, l)
 
-pub pointcut-refused : Refused (Ty.label Ty.number 1) 0 (pcd (more (var 0) end)) (Ty.pcd Ty.number 0)
+pub pointcut-refused : Refused (Ty.label Ty.number 1) 0 (pcd (more (var 0) end)) (Ty.pointcut Ty.number 0)
 pointcut-refused d = let r = named d in upward (subst (λ s. watched .leq 0 (domOf s) ≡ true) (variable (r .1)) (r .2))
 
 -- High advice hangs on no low pointcut: its domain is at or below the pointcut's.
 hung : {Γ : List Ty} {c p : Dom} {t : Ty} {e b : Tm} → TmTy watched noStore Γ c (adv p e b) t → (a : Ty) × TmTy watched noStore Γ c e a × (watched .leq p (domOf a) ≡ true)
 hung (is-adv d l h) = (_, d, l)
 
-pub advice-refused : Refused (Ty.pcd Ty.number 1) 0 (adv 0 (var 0) (val Val.unit)) (Ty.adv 0)
+pub advice-refused : Refused (Ty.pointcut Ty.number 1) 0 (adv 0 (var 0) (val Val.unit)) (Ty.advice 0)
 advice-refused d = let r = hung d in upward (subst (λ s. watched .leq 0 (domOf s) ≡ true) (variable (r .1)) (r .2))
 
 -- Low code installs no high advice: its domain is at or below the current one.
 installed : {c : Dom} {t a : Ty} → Rule1 watched c install a t → watched .leq (domOf a) c ≡ true
 installed (t-install l) = l
 
-pub install-refused : Refused (Ty.adv 0) 1 (op1 install Ty.unit (var 0)) Ty.unit
+pub install-refused : Refused (Ty.advice 0) 1 (op1 install Ty.unit (var 0)) Ty.unit
 install-refused d = let r = operation d in upward (subst (λ s. watched .leq (domOf s) 1 ≡ true) (variable (r .2)) (installed (r .1)))
 
 -- Low code takes no high advice down (card 7).

@@ -41,12 +41,12 @@ leafValue (Leaf.Number n) = n
 unfoldable pub leaves : Val → List Leaf
 leaves Val.unit = Leaf.Unit ∷ []
 leaves (Val.truth b) = Leaf.Truth b ∷ []
-leaves (Val.num n) = Leaf.Number n ∷ []
+leaves (Val.number n) = Leaf.Number n ∷ []
 leaves (Val.pair v w) = leaves v ++ leaves w
 leaves (Val.fun t e) = []
 leaves (Val.label l) = []
 leaves (Val.cell r) = []
-leaves (Val.labels ls) = []
+leaves (Val.pointcut ls) = []
 leaves (Val.advice p ls e) = []
 leaves (Val.object t bs) = []
 leaves Val.bottom = []

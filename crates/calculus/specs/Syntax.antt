@@ -15,10 +15,10 @@ mutual
     pair : Ty → Ty → Ty
     -- from a, running at p, to b
     fun : Ty → Dom → Ty → Ty
-    ref label pcd : Ty → Dom → Ty
-    adv : Dom → Ty
+    ref label pointcut : Ty → Dom → Ty
+    advice : Dom → Ty
     -- card 3: an object with these methods
-    obj : Sigs → Ty
+    object : Sigs → Ty
     -- card 6: a stack of kept values
     stack : Ty
 
@@ -55,13 +55,13 @@ mutual
   pub data Val : Type 0 where
     unit : Val
     truth : Bool → Val
-    num : ℕ → Val
+    number : ℕ → Val
     pair : Val → Val → Val
     -- a function: its type, and its body, which binds one variable
     fun : Ty → Tm → Val
     label cell : ℕ → Val
     -- a pointcut: the labels that it names
-    labels : List ℕ → Val
+    pointcut : List ℕ → Val
     -- advice: its domain, its pointcut's labels, its body, which binds one variable
     advice : Dom → List ℕ → Tm → Val
     -- card 3: an object: its type, and a body for each method, which binds the object itself

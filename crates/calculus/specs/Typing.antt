@@ -35,7 +35,7 @@ pub data PatternTy : Pattern → List Ty → List Ty → Type 0 where
   p-end : PatternTy atEnd [] []
   p-rest : PatternTy atRest [] (Ty.stack ∷ [])
   p-any : {p : Pattern} {ts us : List Ty} → PatternTy p ts us → PatternTy (anything p) ts us
-  p-cut : {p : Pattern} {ts us : List Ty} {a : Ty} {q : Dom} → PatternTy p ts us → PatternTy (pointcut p) (Ty.pcd a q ∷ ts) (a ∷ us)
+  p-cut : {p : Pattern} {ts us : List Ty} {a : Ty} {q : Dom} → PatternTy p ts us → PatternTy (pointcut p) (Ty.pointcut a q ∷ ts) (a ∷ us)
 
 module _ (D : Policy) where
   -- The figures' p ≤ q; the symbol ≤ is that of numbers.
@@ -59,7 +59,7 @@ module _ (D : Policy) where
     -- print e; document 01: of a number
     t-print : c ⊢ print ⦂ Ty.number ⇒ Ty.unit
     -- ⇑ e
-    t-install : {p : Dom} → p ⊑ c → c ⊢ install ⦂ Ty.adv p ⇒ Ty.unit
+    t-install : {p : Dom} → p ⊑ c → c ⊢ install ⦂ Ty.advice p ⇒ Ty.unit
     -- !e
     t-read : {a : Ty} {p : Dom} → c ⊑ p → c ⊢ read ⦂ Ty.ref a p ⇒ a
     -- document 01
@@ -67,7 +67,7 @@ module _ (D : Policy) where
     -- ref_p e
     t-newCell : {a : Ty} {p : Dom} → p ⊑ c → c ⊢ newCell ⦂ a ⇒ Ty.ref a p
     -- e.m (card 3): the method runs at the current domain
-    t-call : {b : Ty} {ms : Sigs} {m : ℕ} → Has c b ms m → c ⊢ call m ⦂ Ty.obj ms ⇒ b
+    t-call : {b : Ty} {ms : Sigs} {m : ℕ} → Has c b ms m → c ⊢ call m ⦂ Ty.object ms ⇒ b
 
   pub data _⊢_⦂_⇒_⇒_ (c : Dom) : Op2 → Ty → Ty → Ty → Type 0 where
     -- (e1, e2)
@@ -109,7 +109,7 @@ module _ (D : Policy) where
         -- true, false
         v-truth : {b : Bool} → ⊢ Val.truth b ⦂ Ty.truth
         -- document 01, in the place of strings
-        v-num : {n : ℕ} → ⊢ Val.num n ⦂ Ty.number
+        v-number : {n : ℕ} → ⊢ Val.number n ⦂ Ty.number
         -- (v1, v2)
         v-pair : {v w : Val} {a b : Ty} →
             ⊢ v ⦂ a →
@@ -128,19 +128,19 @@ module _ (D : Policy) where
             Σ .cells at r is Ty.ref a p →
             ⊢ Val.cell r ⦂ Ty.ref a p
         -- {l1 .. ln}_p
-        v-labels : {ls : List ℕ} {a : Ty} {p : Dom} →
+        v-pointcut : {ls : List ℕ} {a : Ty} {p : Dom} →
             LabelsOf a p ls →
-            ⊢ Val.labels ls ⦂ Ty.pcd a p
+            ⊢ Val.pointcut ls ⦂ Ty.pointcut a p
         -- {v.x →_p e}
         v-advice : {ls : List ℕ} {a : Ty} {p q : Dom} {e : Tm} →
             LabelsOf a q ls →
             p ⊑ q →
             a ∷ [] ⨾ p ⊢ e ⦂ Ty.unit →
-            ⊢ Val.advice p ls e ⦂ Ty.adv p
+            ⊢ Val.advice p ls e ⦂ Ty.advice p
         -- [m_i = ς_p x.e_i] (card 3)
         v-object : {ms : Sigs} {bs : Tms} →
-            Ty.obj ms ∷ [] ⊢ᵐ bs ⦂ ms →
-            ⊢ Val.object (Ty.obj ms) bs ⦂ Ty.obj ms
+            Ty.object ms ∷ [] ⊢ᵐ bs ⦂ ms →
+            ⊢ Val.object (Ty.object ms) bs ⦂ Ty.object ms
         -- stacks (card 6): a kept value is of its label's type
         v-bottom : ⊢ Val.bottom ⦂ Ty.stack
         v-kept : {l : ℕ} {v k : Val} {a : Ty} {q : Dom} →
@@ -196,13 +196,13 @@ module _ (D : Policy) where
         is-pcd : {Γ ts : List Ty} {c p : Dom} {a : Ty} {es : Tms} →
             Γ ⨾ c ⊢* es ⦂ ts →
             LabelTys a p ts →
-            Γ ⨾ c ⊢ pcd es ⦂ Ty.pcd a p
+            Γ ⨾ c ⊢ pcd es ⦂ Ty.pointcut a p
         -- {e1.x →_p e2}
         is-adv : {Γ : List Ty} {c p q : Dom} {a : Ty} {e b : Tm} →
-            Γ ⨾ c ⊢ e ⦂ Ty.pcd a q →
+            Γ ⨾ c ⊢ e ⦂ Ty.pointcut a q →
             p ⊑ q →
             a ∷ Γ ⨾ p ⊢ b ⦂ Ty.unit →
-            Γ ⨾ c ⊢ adv p e b ⦂ Ty.adv p
+            Γ ⨾ c ⊢ adv p e b ⦂ Ty.advice p
         -- p<e>
         is-lower : {Γ : List Ty} {c p : Dom} {e : Tm} →
             p ⊑ c →
@@ -210,8 +210,8 @@ module _ (D : Policy) where
             Γ ⨾ c ⊢ lower p e ⦂ Ty.unit
         -- [m_i = ς_p x.e_i] (card 3), by figure 2 under outer variables
         is-obj : {Γ : List Ty} {c : Dom} {ms : Sigs} {bs : Tms} →
-            Ty.obj ms ∷ Γ ⊢ᵐ bs ⦂ ms →
-            Γ ⨾ c ⊢ obj (Ty.obj ms) bs ⦂ Ty.obj ms
+            Ty.object ms ∷ Γ ⊢ᵐ bs ⦂ ms →
+            Γ ⨾ c ⊢ obj (Ty.object ms) bs ⦂ Ty.object ms
         -- store e1[e2] in e3 (card 6): the label is of the current domain
         is-keep : {Γ : List Ty} {c : Dom} {a t : Ty} {e f g : Tm} →
             Γ ⨾ c ⊢ e ⦂ Ty.label a c →

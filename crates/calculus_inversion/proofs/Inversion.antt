@@ -23,10 +23,10 @@ module _ (D : Policy) (Σ : StoreTyping) (Γ : List Ty) (c : Dom) where
   Premises (seq e f) u = Here e Ty.unit × Here f u
   Premises (ite e f g) u = Here e Ty.truth × Here f u × Here g u
   Premises (split e f) u = (a : Ty) × (b : Ty) × Here e (Ty.pair a b) × TmTy D Σ (b ∷ a ∷ Γ) c f u
-  Premises (pcd es) u = (ts : List Ty) × (a : Ty) × (p : Dom) × (u ≡ Ty.pcd a p) × TmsTy D Σ Γ c es ts × LabelTys D a p ts
-  Premises (adv p e b) u = (a : Ty) × (q : Dom) × (u ≡ Ty.adv p) × Here e (Ty.pcd a q) × (D .leq p q ≡ true) × TmTy D Σ (a ∷ Γ) p b Ty.unit
+  Premises (pcd es) u = (ts : List Ty) × (a : Ty) × (p : Dom) × (u ≡ Ty.pointcut a p) × TmsTy D Σ Γ c es ts × LabelTys D a p ts
+  Premises (adv p e b) u = (a : Ty) × (q : Dom) × (u ≡ Ty.advice p) × Here e (Ty.pointcut a q) × (D .leq p q ≡ true) × TmTy D Σ (a ∷ Γ) p b Ty.unit
   Premises (lower p e) u = (u ≡ Ty.unit) × (D .leq p c ≡ true) × TmTy D Σ Γ p e Ty.unit
-  Premises (obj t bs) u = (ms : Sigs) × (t ≡ u) × (t ≡ Ty.obj ms) × BodiesTy D Σ (Ty.obj ms ∷ Γ) bs ms
+  Premises (obj t bs) u = (ms : Sigs) × (t ≡ u) × (t ≡ Ty.object ms) × BodiesTy D Σ (Ty.object ms ∷ Γ) bs ms
   Premises (keep e f g) u = (a : Ty) × Here e (Ty.label a c) × Here f a × Here g u
   Premises (match p es f g) u = (ts : List Ty) × (us : List Ty) × TmsTy D Σ Γ c es (Ty.stack ∷ ts) × PatternTy p ts us × TmTy D Σ (reverseAux us Γ) c f u × Here g u
 

@@ -74,12 +74,12 @@ unfoldable mutual
   pub OverValue : Val → Type 0
   OverValue Val.unit = ⊥
   OverValue (Val.truth b) = ⊥
-  OverValue (Val.num n) = ⊥
+  OverValue (Val.number n) = ⊥
   OverValue (Val.pair v w) = ⊥
   OverValue (Val.fun t e) = ⊥
   OverValue (Val.label l) = ⊥
   OverValue (Val.cell r) = ⊥
-  OverValue (Val.labels ls) = ⊥
+  OverValue (Val.pointcut ls) = ⊥
   OverValue (Val.advice p ls b) = Admitted false b
   OverValue (Val.object t bs) = ⊥
   OverValue Val.bottom = ⊥

@@ -120,12 +120,12 @@ round-alike P k p b = after (binds p 1) (both (need-alike (λ Q. none) (λ Q j. 
 value-alike : (P : Here) (k : ℕ) (v : Val) → Alike (roundOfValue P v) (roundOfValue (with-kept k P) v)
 value-alike P k Val.unit = itself
 value-alike P k (Val.truth b) = itself
-value-alike P k (Val.num n) = itself
+value-alike P k (Val.number n) = itself
 value-alike P k (Val.pair v w) = itself
 value-alike P k (Val.fun t e) = itself
 value-alike P k (Val.label l) = itself
 value-alike P k (Val.cell r) = itself
-value-alike P k (Val.labels ls) = itself
+value-alike P k (Val.pointcut ls) = itself
 value-alike P k (Val.advice p ls b) = round-alike P k p b
 value-alike P k (Val.object t bs) = itself
 value-alike P k Val.bottom = itself

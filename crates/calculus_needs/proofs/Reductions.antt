@@ -235,7 +235,7 @@ module _ (G : Given) (W : Here → Numbers) (s : State) (A : All AdmittedAdvice 
     takes-lower v = takes-with G W s (unitOf v) _ (λ u e. plain Val.unit refl refl refl refl)
 
     pub takes-pcd : (vs : List Val) → Takes G W s (here P) X (once (here P) ⊕ aPiece (P .dom)) w b (P .depth) (reducePcd P s vs)
-    takes-pcd vs = takes-with G W s (collect vs []) _ (λ ls e. a-piece X (Val.labels ls) (hx (val (Val.labels ls))))
+    takes-pcd vs = takes-with G W s (collect vs []) _ (λ ls e. a-piece X (Val.pointcut ls) (hx (val (Val.pointcut ls))))
 
   module _ (X : Tm → Type 0) (hx : (e : Tm) → X e) {b : Bool} where
     takes-install : (t : Ty) (v : Val) → OverValue v → Takes G W s (here P) X (once (here P) ⊕ anAdvice) (λ Q. roundOfValue Q v) b (P .depth) (reduce1 G P s install t v)

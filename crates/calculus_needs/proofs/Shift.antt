@@ -146,12 +146,12 @@ module _ (d : ℕ) where
   value-shifts : (P : Here) (c : Dom) (v : Val) → Shifts (roundOfValue P v) (roundOfValue (at c (raise d P)) v)
   value-shifts P c Val.unit = nothing
   value-shifts P c (Val.truth b) = nothing
-  value-shifts P c (Val.num n) = nothing
+  value-shifts P c (Val.number n) = nothing
   value-shifts P c (Val.pair v w) = nothing
   value-shifts P c (Val.fun t e) = nothing
   value-shifts P c (Val.label l) = nothing
   value-shifts P c (Val.cell r) = nothing
-  value-shifts P c (Val.labels ls) = nothing
+  value-shifts P c (Val.pointcut ls) = nothing
   value-shifts P c (Val.advice p ls b) = round-shifts P c p b
   value-shifts P c (Val.object t bs) = nothing
   value-shifts P c Val.bottom = nothing

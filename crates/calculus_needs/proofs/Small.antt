@@ -37,12 +37,12 @@ unfoldable mutual
   pub amountOf : ℕ → (Pattern → ℕ) → Val → ℕ
   amountOf K pat Val.unit = 0
   amountOf K pat (Val.truth b) = 0
-  amountOf K pat (Val.num n) = 0
+  amountOf K pat (Val.number n) = 0
   amountOf K pat (Val.pair v w) = 0
   amountOf K pat (Val.fun t e) = 0
   amountOf K pat (Val.label l) = 0
   amountOf K pat (Val.cell r) = 0
-  amountOf K pat (Val.labels ls) = 0
+  amountOf K pat (Val.pointcut ls) = 0
   amountOf K pat (Val.advice p ls b) = amount K pat b
   amountOf K pat (Val.object t bs) = 0
   amountOf K pat Val.bottom = 0
@@ -198,12 +198,12 @@ module _ (D : ℕ) where
     small-value : (v : Val) (P : Here) → P .depth + (2 + size (val v)) ≤ D → P .kept + size (val v) ≤ D → Rounds (amount B variables (val v)) none (roundOfValue P v)
     small-value Val.unit P h k = no-advice (small-none _)
     small-value (Val.truth b) P h k = no-advice (small-none _)
-    small-value (Val.num n) P h k = no-advice (small-none _)
+    small-value (Val.number n) P h k = no-advice (small-none _)
     small-value (Val.pair v w) P h k = no-advice (small-none _)
     small-value (Val.fun t e) P h k = no-advice (small-none _)
     small-value (Val.label l) P h k = no-advice (small-none _)
     small-value (Val.cell r) P h k = no-advice (small-none _)
-    small-value (Val.labels ls) P h k = no-advice (small-none _)
+    small-value (Val.pointcut ls) P h k = no-advice (small-none _)
     small-value (Val.advice p ls b) P h k = record { rest = small-none _; advised = upto (small-plus (small-none 0) (small-round P p b (omega arith) (omega arith))) (omega arith) }
     small-value (Val.object t bs) P h k = no-advice (small-none _)
     small-value Val.bottom P h k = no-advice (small-none _)

@@ -118,12 +118,12 @@ round P p b = binds p 1 ⊕ (need (λ Q. none) (at p (deeper (deeper P))) b ⊕ 
 abbrev pub roundOfValue : Here → Val → Numbers
 roundOfValue P Val.unit = none
 roundOfValue P (Val.truth b) = none
-roundOfValue P (Val.num n) = none
+roundOfValue P (Val.number n) = none
 roundOfValue P (Val.pair v w) = none
 roundOfValue P (Val.fun t e) = none
 roundOfValue P (Val.label l) = none
 roundOfValue P (Val.cell r) = none
-roundOfValue P (Val.labels ls) = none
+roundOfValue P (Val.pointcut ls) = none
 roundOfValue P (Val.advice p ls b) = round P p b
 roundOfValue P (Val.object t bs) = none
 roundOfValue P Val.bottom = none

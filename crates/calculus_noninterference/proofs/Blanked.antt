@@ -10,7 +10,7 @@ use Rattle.calculus.specs.Typing.{Policy, noStore, LabelsOf, no-labels, a-label
 use Rattle.laws.proofs.Lists.{none-some, All2.all2-nil}
 use Rattle.calculus_noninterference.proofs.Clash.{clash}
 use Rattle.calculus_noninterference.proofs.Interleave.{Side, Matches}
-use Rattle.calculus_noninterference.proofs.Related.{World, RelV, RelT, RelB, RelL, l-high, l-low, RelTs, RelBs, b-rel, b-low, v-unit, v-truth, v-num, v-pair, v-fun, v-labels, v-advice, v-object, v-bottom, r-val, r-var, r-lam, r-op0, r-op1, r-op2, r-seq, r-ite, r-split, r-pcd, r-adv, r-lower, r-obj, r-keep, r-match, r-end, r-more, r-no-body, r-body}
+use Rattle.calculus_noninterference.proofs.Related.{World, RelV, RelT, RelB, RelL, l-high, l-low, RelTs, RelBs, b-rel, b-low, v-unit, v-truth, v-number, v-pair, v-fun, v-pointcut, v-advice, v-object, v-bottom, r-val, r-var, r-lam, r-op0, r-op1, r-op2, r-seq, r-ite, r-split, r-pcd, r-adv, r-lower, r-obj, r-keep, r-match, r-end, r-more, r-no-body, r-body}
 
 module _ (hi : Dom → Bool) where
   -- x is e with low bodies blanked: the graph of `blank`, which says nothing of a low body.
@@ -142,12 +142,12 @@ module _ (hi : Dom → Bool) where
       val-rel : {v : Val} {t : Ty} → ValTy D noStore v t → RelV hi W v v
       val-rel ValTy.v-unit = v-unit
       val-rel ValTy.v-truth = v-truth
-      val-rel ValTy.v-num = v-num
+      val-rel ValTy.v-number = v-number
       val-rel (ValTy.v-pair x y) = v-pair (val-rel x) (val-rel y)
       val-rel (ValTy.v-fun {e} x) = v-fun (b-rel (tm-rel x (blanked e)))
       val-rel (ValTy.v-label x) = absurd (none-some x)
       val-rel (ValTy.v-cell x) = absurd (none-some x)
-      val-rel (ValTy.v-labels x) = v-labels (labels-rel x)
+      val-rel (ValTy.v-pointcut x) = v-pointcut (labels-rel x)
       val-rel (ValTy.v-advice {p} {e} x l y) = v-advice (labels-rel x) (low-rel z p _ (blanked-body p (blanked e)) (λ b. tm-rel y b))
       val-rel (ValTy.v-object {bs} x) = v-object (bodies-rel x (blanked-bs _ bs))
       val-rel ValTy.v-bottom = v-bottom

@@ -131,12 +131,12 @@ module _ (hi : Dom → Bool) where
   unfolding CalmVal
   calm-top Val.unit h = nothing
   calm-top (Val.truth b) h = nothing
-  calm-top (Val.num n) h = nothing
+  calm-top (Val.number n) h = nothing
   calm-top (Val.pair v w) h = nothing
   calm-top (Val.fun t e) h = nothing
   calm-top (Val.label l) h = nothing
   calm-top (Val.cell r) h = nothing
-  calm-top (Val.labels ls) h = nothing
+  calm-top (Val.pointcut ls) h = nothing
   calm-top (Val.advice p ls e) h = nothing
   calm-top (Val.object t bs) h = nothing
   calm-top Val.bottom h = nothing

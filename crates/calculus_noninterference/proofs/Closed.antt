@@ -44,7 +44,7 @@ module _ {D : Policy} {Σ : StoreTyping} (v : Val) where
     closed-tm (is-pcd h o) k l = ap pcd (closed-tms h k l)
     closed-tm (is-adv {p} h o g) k l = ap₂ (adv p) (closed-tm h k l) (closed-tm g (suc k) (omega arith))
     closed-tm (is-lower {p} o h) k l = ap (lower p) (closed-tm h k l)
-    closed-tm (is-obj {ms} h) k l = ap (obj (Ty.obj ms)) (closed-bs h (suc k) (omega arith))
+    closed-tm (is-obj {ms} h) k l = ap (obj (Ty.object ms)) (closed-bs h (suc k) (omega arith))
     closed-tm (is-keep h g f) k l = let x = closed-tm h k l in let y = closed-tm g k l in let z = closed-tm f k l in cc
     closed-tm (is-match {Γ} {p} h o g f) k l = let x = closed-tms h k l in let y = closed-tm g (under p k) (length-under o Γ k l) in let z = closed-tm f k l in cc
 

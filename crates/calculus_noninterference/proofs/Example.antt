@@ -14,7 +14,7 @@ use Rattle.calculus.specs.Subst.{subst}
 use Rattle.calculus.specs.Answer.{carry, if-room, with, spend}
 use Rattle.calculus.specs.Step.{step}
 use Rattle.calculus.specs.Run.{End, done, after, run}
-use Rattle.calculus.specs.Typing.{noStore, _⨾_⊢_⦂_ as TmTy, t-newLabel, t-takedown, t-print, t-install, t-read, t-newCell, t-app, t-mark, no-types, a-type, v-num, is-val, is-var, is-lam, is-op0, is-op1, is-op2, is-seq, is-pcd, is-adv, is-end, is-more}
+use Rattle.calculus.specs.Typing.{noStore, _⨾_⊢_⦂_ as TmTy, t-newLabel, t-takedown, t-print, t-install, t-read, t-newCell, t-app, t-mark, no-types, a-type, v-number, is-val, is-var, is-lam, is-op0, is-op1, is-op2, is-seq, is-pcd, is-adv, is-end, is-more}
 use Rattle.calculus.specs.Blank.{blank}
 use Rattle.calculus_safety.proofs.Example.{falling, falling-trans}
 use Rattle.calculus_noninterference.specs.Observe.{Highs, Shown, highOf, highPrints, highCells, Same}
@@ -38,7 +38,7 @@ program b =
     op2 app Ty.number
     (lam (Ty.fun (Ty.label Ty.number 0) 0 Ty.number)
     (seq (op1 install Ty.unit (adv 1 (pcd (more (var 0) end)) b))
-    (seq (op2 mark Ty.unit (var 0) (val (Val.num 3))) (seq (say (val (Val.num 5))) (op1 read Ty.number (op1 newCell (Ty.ref Ty.number 0) (val (Val.num 7))))))))
+    (seq (op2 mark Ty.unit (var 0) (val (Val.number 3))) (seq (say (val (Val.number 5))) (op1 read Ty.number (op1 newCell (Ty.ref Ty.number 0) (val (Val.number 7))))))))
     (op0 newLabel (Ty.label Ty.number 0))
 
 accepted : {b : Tm} → TmTy falling noStore (Ty.number ∷ Ty.label Ty.number 0 ∷ []) 1 b Ty.unit → Accepted falling (program b)
@@ -48,7 +48,7 @@ accepted h = record {
       is-op2 t-app
       (is-lam
       (is-seq (is-op1 (t-install refl) (is-adv (is-pcd {p = 1} (is-more (is-var refl) is-end) (a-type refl no-types)) refl h))
-      (is-seq (is-op2 t-mark (is-var refl) (is-val v-num)) (is-seq (is-op1 t-print (is-val v-num)) (is-op1 (t-read refl) (is-op1 (t-newCell refl) (is-val v-num)))))))
+      (is-seq (is-op2 t-mark (is-var refl) (is-val v-number)) (is-seq (is-op1 t-print (is-val v-number)) (is-op1 (t-read refl) (is-op1 (t-newCell refl) (is-val v-number)))))))
       (is-op0 (t-newLabel refl));
   plain = refl;
 }
@@ -62,10 +62,10 @@ abbrev left : Tm
 left = say (var 0)
 
 abbrev right : Tm
-right = seq (say (val (Val.num 8))) (say (val (Val.num 9)))
+right = seq (say (val (Val.number 8))) (say (val (Val.number 9)))
 
 same : (G : Given) (n n′ : ℕ) → Same hi (run n G 0 fresh (program left)) (run n′ G 0 fresh (program right))
-same G n n′ = demand3 falling hi falling-trans highs (program left) (program right) (accepted (is-op1 t-print (is-var refl))) (accepted (is-seq (is-op1 t-print (is-val v-num)) (is-op1 t-print (is-val v-num)))) (alike left right) G G refl n n′
+same G n n′ = demand3 falling hi falling-trans highs (program left) (program right) (accepted (is-op1 t-print (is-var refl))) (accepted (is-seq (is-op1 t-print (is-val v-number)) (is-op1 t-print (is-val v-number)))) (alike left right) G G refl n n′
 
 -- What is computed of a run of 100 steps: how it ends, its log, its high prints and its high cells; and what domain 0 had used at its print, and has at the end (card 9).
 abbrev G : Given
@@ -83,7 +83,7 @@ facts e = let E = run 100 G 0 fresh e in record { end = E .end; log = logOf (E .
 
 -- The logs differ; the rest is the same.
 abbrev sevens : List Print → Facts
-sevens x = record { end = done (Val.num 7); log = x; prints = record { dom = 0; shown = 5 } ∷ []; cells = record { dom = 0; value = some (Val.num 7) } ∷ []; counts = record { bindings = 1; cells = 0; pieces = 2 } ∷ record { bindings = 1; cells = 1; pieces = 2 } ∷ [] }
+sevens x = record { end = done (Val.number 7); log = x; prints = record { dom = 0; shown = 5 } ∷ []; cells = record { dom = 0; value = some (Val.number 7) } ∷ []; counts = record { bindings = 1; cells = 0; pieces = 2 } ∷ record { bindings = 1; cells = 1; pieces = 2 } ∷ [] }
 
 left-facts : facts (program left) ≡ sevens (record { dom = 1; shown = 3 } ∷ record { dom = 0; shown = 5 } ∷ [])
 unfolding highOf run after cases step carry if-room with spend picked subst

@@ -28,7 +28,7 @@ is-value (is-split h k) p = no-some p
 is-value (is-pcd h l) p = no-some p
 is-value (is-adv h k l) p = no-some p
 is-value (is-lower h k) p = no-some p
-is-value (is-obj {ms} {bs} h) p = transp (IsValue (obj (Ty.obj ms) bs)) (cc) (as-obj (closed-bodies h))
+is-value (is-obj {ms} {bs} h) p = transp (IsValue (obj (Ty.object ms) bs)) (cc) (as-obj (closed-bodies h))
 is-value (is-keep h k l) p = no-some p
 is-value (is-match h k l m) p = no-some p
 

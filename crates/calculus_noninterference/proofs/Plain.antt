@@ -14,7 +14,7 @@ use Rattle.calculus_safety.proofs.StoreFits.{StateFits}
 use Rattle.calculus_noninterference.specs.Observe.{shown, highOf}
 use Rattle.calculus_noninterference.proofs.Clash.{clash, no-some}
 use Rattle.calculus_noninterference.proofs.Interleave.{Side, i-nil, i-both, i-left, i-right}
-use Rattle.calculus_noninterference.proofs.Related.{World, RelV, v-unit, v-truth, v-num, v-pair, RelCell, Cells, RelS}
+use Rattle.calculus_noninterference.proofs.Related.{World, RelV, v-unit, v-truth, v-number, v-pair, RelCell, Cells, RelS}
 use Rattle.calculus_noninterference.proofs.Store.{PlainCell, plain-cells}
 
 -- The parts of a plain pair are plain.
@@ -37,12 +37,12 @@ module _ {D : Policy} {hi : Dom → Bool} {Σ : StoreTyping} {W : World} where
   leaves-same : {v v′ : Val} {a : Ty} {n : ℕ} → ValTy D Σ v a → leafCount a ≡ some n → RelV hi W v v′ → v ≡ v′
   leaves-same ValTy.v-unit p v-unit = refl
   leaves-same ValTy.v-truth p v-truth = refl
-  leaves-same ValTy.v-num p v-num = refl
+  leaves-same ValTy.v-number p v-number = refl
   leaves-same (ValTy.v-pair {a} {b} x y) p (v-pair r q) = let u = leaves-same x (pair-leaves a b p .0 .1) r in let w = leaves-same y (pair-leaves a b p .1 .1) q in cc
   leaves-same (ValTy.v-fun x) p r = no-some p
   leaves-same (ValTy.v-label x) p r = no-some p
   leaves-same (ValTy.v-cell x) p r = no-some p
-  leaves-same (ValTy.v-labels x) p r = no-some p
+  leaves-same (ValTy.v-pointcut x) p r = no-some p
   leaves-same (ValTy.v-advice x y z) p r = no-some p
   leaves-same (ValTy.v-object x) p r = no-some p
   leaves-same ValTy.v-bottom p r = no-some p

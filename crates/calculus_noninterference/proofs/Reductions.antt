@@ -25,7 +25,7 @@ use Rattle.calculus_noninterference.proofs.Clash.{clash}
 use Rattle.calculus_noninterference.proofs.Halves.{no-more-refl}
 use Rattle.calculus_noninterference.proofs.Interleave.{both, Matches, matched-last, get-both, interleaving-reverse, no-longer}
 use Rattle.calculus_noninterference.proofs.Traces.{log-no-longer}
-use Rattle.calculus_noninterference.proofs.Related.{World, grows-refl, RelCell, RelV, RelT, RelL, RelVs, RelBs, SameUse, RelPlace, b-rel, b-low, v-unit, v-truth, v-num, v-pair, v-fun, v-label, v-cell, v-labels, v-advice, v-object, r-val, r-body, RelS, RelKept, v-bottom, v-kept}
+use Rattle.calculus_noninterference.proofs.Related.{World, grows-refl, RelCell, RelV, RelT, RelL, RelVs, RelBs, SameUse, RelPlace, b-rel, b-low, v-unit, v-truth, v-number, v-pair, v-fun, v-label, v-cell, v-pointcut, v-advice, v-object, r-val, r-body, RelS, RelKept, v-bottom, v-kept}
 use Rattle.calculus.specs.Subst.{subst}
 use Rattle.calculus_noninterference.proofs.Substitute.{rel-choose, relT-subst}
 use Rattle.calculus_noninterference.proofs.Store.{cell-dom}
@@ -44,12 +44,12 @@ module _ (hi : Dom → Bool) (W : World) where
   collected all2-nil m = c-some m
   collected (all2-cons v-unit r) m = c-none
   collected (all2-cons v-truth r) m = c-none
-  collected (all2-cons v-num r) m = c-none
+  collected (all2-cons v-number r) m = c-none
   collected (all2-cons (v-pair q u) r) m = c-none
   collected (all2-cons (v-fun b) r) m = c-none
   collected (all2-cons (v-label n) r) m = collected r (all2-cons n m)
   collected (all2-cons (v-cell n) r) m = c-none
-  collected (all2-cons (v-labels n) r) m = c-none
+  collected (all2-cons (v-pointcut n) r) m = c-none
   collected (all2-cons (v-advice n b) r) m = c-none
   collected (all2-cons (v-object b) r) m = c-none
   collected (all2-cons v-bottom r) m = c-none
@@ -83,7 +83,7 @@ module _ (hi : Dom → Bool) (W : World) where
   matched-rel (p-any p) hs rs ValTy.v-bottom v-bottom = bound-none
   matched-rel (p-any p) hs rs (ValTy.v-kept x y z) (v-kept m r k) = matched-rel p hs rs z k
   matched-rel (p-cut p) (all2-cons h hs) (all2-cons q rs) ValTy.v-bottom v-bottom = bound-none
-  matched-rel (p-cut p) (all2-cons (ValTy.v-labels h) hs) (all2-cons (v-labels q) rs) (ValTy.v-kept x y z) (v-kept m r k) = bound-more _ _ (member-same m q) r (matched-rel p hs rs z k)
+  matched-rel (p-cut p) (all2-cons (ValTy.v-pointcut h) hs) (all2-cons (v-pointcut q) rs) (ValTy.v-kept x y z) (v-kept m r k) = bound-more _ _ (member-same m q) r (matched-rel p hs rs z k)
 
   substAll-rel : {vs vs′ : List Val} {f f′ : Tm} → RelVs hi W vs vs′ → RelT hi W f f′ → RelT hi W (substAll vs f) (substAll vs′ f′)
   substAll-rel all2-nil r = r
@@ -107,9 +107,9 @@ module _ (hi : Dom → Bool) {W : World} {s s′ : State} (R : RelS hi W s s′)
   two-arith : {A : Type 0} (k : A → Tm) (f : ℕ → ℕ → A) (m n : ℕ) → RelT hi W (k (f m n)) (k (f m n)) → Two hi W (arith s k f (some m) (some n)) (arith s′ k f (some m) (some n))
   two-arith k f m n r = two-some hi _ _ (two-some hi _ _ (two-stay r))
 
-  two-labels : (c : Dom) {o o′ : Option (List ℕ)} → Collected hi W o o′ → Two hi W (with o (λ ls. piece c s (val (Val.labels ls)))) (with o′ (λ ls. piece c s′ (val (Val.labels ls))))
+  two-labels : (c : Dom) {o o′ : Option (List ℕ)} → Collected hi W o o′ → Two hi W (with o (λ ls. piece c s (val (Val.pointcut ls)))) (with o′ (λ ls. piece c s′ (val (Val.pointcut ls))))
   two-labels c c-none = two-none hi _ _
-  two-labels c (c-some m) = two-some hi _ _ (two-charge _ _ (same-use _) (r-val (v-labels m)))
+  two-labels c (c-some m) = two-some hi _ _ (two-charge _ _ (same-use _) (r-val (v-pointcut m)))
 
   pub two-pcd : (c : Dom) (P P′ : Place) {vs vs′ : List Val} → RelVs hi W vs vs′ → Two hi W (reducePcd (at c P) s vs) (reducePcd (at c P′) s′ vs′)
   two-pcd c P P′ r = two-labels c (collected hi W r all2-nil)
@@ -127,8 +127,8 @@ module _ (hi : Dom → Bool) {W : World} {s s′ : State} (R : RelS hi W s s′)
     pub two-split : (c : Dom) (P P′ : Place) {a b : Ty} {v v′ : Val} {f f′ : Tm} → ValTy D Σ v (Ty.pair a b) → RelV hi W v v′ → RelT hi W f f′ → Two hi W (reduceSplit (at c P) s f v) (reduceSplit (at c P′) s′ f′ v′)
     two-split c P P′ (ValTy.v-pair x y) (v-pair r q) u = two-some hi _ _ (two-charge _ _ (same-use _) (relT-subst hi (relT-subst hi u 1 r) 0 q))
 
-    pub two-adv : (c : Dom) (P P′ : Place) {a : Ty} {p q : Dom} {v v′ : Val} {b b′ : Tm} → ValTy D Σ v (Ty.pcd a q) → RelV hi W v v′ → RelL hi W p b b′ → Two hi W (reduceAdv (at c P) s p b v) (reduceAdv (at c P′) s′ p b′ v′)
-    two-adv c P P′ (ValTy.v-labels x) (v-labels m) r = two-some hi _ _ (two-charge _ _ (same-use _) (r-val (v-advice m r)))
+    pub two-adv : (c : Dom) (P P′ : Place) {a : Ty} {p q : Dom} {v v′ : Val} {b b′ : Tm} → ValTy D Σ v (Ty.pointcut a q) → RelV hi W v v′ → RelL hi W p b b′ → Two hi W (reduceAdv (at c P) s p b v) (reduceAdv (at c P′) s′ p b′ v′)
+    two-adv c P P′ (ValTy.v-pointcut x) (v-pointcut m) r = two-some hi _ _ (two-charge _ _ (same-use _) (r-val (v-advice m r)))
 
 -- Where there are no more, there is room (card 13).
 fewer : (m n L : ℕ) → n ≤ m → ltb m L ≡ true → ltb n L ≡ true
@@ -159,12 +159,12 @@ module _ (hi : Dom → Bool) {D : Policy} (H : Highs D hi) {W : World} {s s′ :
   two-call (has-later x) (r-body r k) u = two-call x k u
 
   pub two1 : {o : Op1} {t a : Ty} {v v′ : Val} → G .frame ≡ G′ .frame → (W .stripped ≡ true → G .logLength ≤ G′ .logLength) → Rule1 D c o a t → ValTy D Σ v a → RelV hi W v v′ → Two hi W (reduce1 G (at c P) s o t v) (reduce1 G′ (at c P′) s′ o t v′)
-  two1 frame log t-print (ValTy.v-num {n}) v-num = two-some hi _ _ (two-room hi _ _ _ refl (λ z. log-room _ _ _ _ (log z) (log-no-longer hi z (R .trace))) (two-go (grows-refl W) (event-both hi R _ _ (ap (λ u. record { dom = c; said = prints n u }) (R .used .mainline)) h) (r-val v-unit)))
+  two1 frame log t-print (ValTy.v-number {n}) v-number = two-some hi _ _ (two-room hi _ _ _ refl (λ z. log-room _ _ _ _ (log z) (log-no-longer hi z (R .trace))) (two-go (grows-refl W) (event-both hi R _ _ (ap (λ u. record { dom = c; said = prints n u }) (R .used .mainline)) h) (r-val v-unit)))
   two1 frame log (t-install l) (ValTy.v-advice x y z) (v-advice m r) = two-some hi _ _ (two-room hi _ _ _ refl (λ i. fewer _ _ adviceLimit (no-longer (λ a k. clash i (k .1)) (R .advices))) (two-go (grows-refl W) (advice-both hi R (record { same-dom = refl; labels = m; body = r })) (r-val v-unit)))
   two1 frame log (t-read l) (ValTy.v-cell {r} x) (v-cell m) = let k = get-both m (R .cells) in two-some hi _ _ (two-found hi _ _ (k .2) (k .3) (two-stay hi R (r-val (two-read r l x (k .2) (k .4)))))
-  two1 frame log t-byte (ValTy.v-num {n}) v-num = two-some hi _ _ (transp (λ (f : List ℕ). Two hi W (go s (val (Val.num (frameByte (G .frame) n)))) (go s′ (val (Val.num (frameByte f n))))) frame (two-stay hi R (r-val v-num)))
+  two1 frame log t-byte (ValTy.v-number {n}) v-number = two-some hi _ _ (transp (λ (f : List ℕ). Two hi W (go s (val (Val.number (frameByte (G .frame) n)))) (go s′ (val (Val.number (frameByte f n))))) frame (two-stay hi R (r-val v-number)))
   two1 frame log (t-newCell l) x r = two-spend hi s s′ _ _ _ _ (R .used) (same-use _) (λ u u′ e. two-go (grows-cell W both) (cell-both hi R u u′ e (record { same-dom = refl; same-plain = refl; held = λ o. r })) (r-val (v-cell (matched-last (R .cells)))))
-  two1 frame log (t-call {ms} x) (ValTy.v-object y) (v-object r) = two-some hi _ _ (two-call x r (v-object {t = Ty.obj ms} r))
+  two1 frame log (t-call {ms} x) (ValTy.v-object y) (v-object r) = two-some hi _ _ (two-call x r (v-object {t = Ty.object ms} r))
 
   pub two2 : {o : Op2} {t a b : Ty} {v v′ w w′ : Val} → Rule2 D c o a b t → ValTy D Σ v a → ValTy D Σ w b → RelV hi W v v′ → RelV hi W w w′ → Two hi W (reduce2 G (at c P) s o t v w) (reduce2 G′ (at c P′) s′ o t v′ w′)
   two2 t-pair x y r u = two-charge hi R _ _ (same-use _) (r-val (v-pair r u))
@@ -172,10 +172,10 @@ module _ (hi : Dom → Bool) {D : Policy} (H : Highs D hi) {W : World} {s s′ :
   two2 t-app (ValTy.v-fun x) y (v-fun (b-low f)) u = clash h f
   two2 t-mark (ValTy.v-label x) y (v-label m) u = let k = get-both m (R .labels) in two-some hi _ _ (two-found hi _ _ (k .2) (k .3) (two-charge hi R _ _ (record { mainline = mainline-bindings hi (H .mainline) (interleaving-reverse (R .advices)) m; others = λ z. others-bindings hi z (interleaving-reverse (R .advices)) m }) (composed-rel hi (interleaving-reverse (R .advices)) m u)))
   two2 (t-store l) (ValTy.v-cell x) y (v-cell m) u = let k = get-both m (R .cells) in two-some hi _ _ (two-found hi _ _ (k .2) (k .3) (two-go (grows-refl W) (store-both hi R m (k .4) u) (r-val v-unit)))
-  two2 t-plus (ValTy.v-num {n = m}) (ValTy.v-num {n}) v-num v-num = two-arith hi R num sum m n (r-val v-num)
-  two2 t-minus (ValTy.v-num {n = m}) (ValTy.v-num {n}) v-num v-num = two-arith hi R num difference m n (r-val v-num)
-  two2 t-less (ValTy.v-num {n = m}) (ValTy.v-num {n}) v-num v-num = two-arith hi R truth isLess m n (r-val v-truth)
-  two2 t-equal (ValTy.v-num {n = m}) (ValTy.v-num {n}) v-num v-num = two-arith hi R truth isEqual m n (r-val v-truth)
+  two2 t-plus (ValTy.v-number {n = m}) (ValTy.v-number {n}) v-number v-number = two-arith hi R num sum m n (r-val v-number)
+  two2 t-minus (ValTy.v-number {n = m}) (ValTy.v-number {n}) v-number v-number = two-arith hi R num difference m n (r-val v-number)
+  two2 t-less (ValTy.v-number {n = m}) (ValTy.v-number {n}) v-number v-number = two-arith hi R truth isLess m n (r-val v-truth)
+  two2 t-equal (ValTy.v-number {n = m}) (ValTy.v-number {n}) v-number v-number = two-arith hi R truth isEqual m n (r-val v-truth)
 
   -- A match takes the same branch in both runs (card 6); no rule on its pointcuts' domains is used.
   two-branch : {f f′ g g′ : Tm} {o o′ : Option (List Val)} → Bound hi W o o′ → RelT hi W f f′ → RelT hi W g g′ → Two hi W (branch (at c P) s (λ ws. substAll ws f) g o) (branch (at c P′) s′ (λ ws. substAll ws f′) g′ o′)

@@ -65,12 +65,12 @@ module _ (hi : Dom → Bool) where
       pub data RelV : Val → Val → Type 0 where
         v-unit : RelV Val.unit Val.unit
         v-truth : {b : Bool} → RelV (Val.truth b) (Val.truth b)
-        v-num : {n : ℕ} → RelV (Val.num n) (Val.num n)
+        v-number : {n : ℕ} → RelV (Val.number n) (Val.number n)
         v-pair : {v v′ w w′ : Val} → RelV v v′ → RelV w w′ → RelV (Val.pair v w) (Val.pair v′ w′)
         v-fun : {t : Ty} {e e′ : Tm} → RelB (domOf t) e e′ → RelV (Val.fun t e) (Val.fun t e′)
         v-label : {l l′ : ℕ} → Matched (W .labels) l l′ → RelV (Val.label l) (Val.label l′)
         v-cell : {r r′ : ℕ} → Matched (W .cells) r r′ → RelV (Val.cell r) (Val.cell r′)
-        v-labels : {ls ls′ : List ℕ} → Matches (W .labels) ls ls′ → RelV (Val.labels ls) (Val.labels ls′)
+        v-pointcut : {ls ls′ : List ℕ} → Matches (W .labels) ls ls′ → RelV (Val.pointcut ls) (Val.pointcut ls′)
         v-advice : {p : Dom} {ls ls′ : List ℕ} {e e′ : Tm} → Matches (W .labels) ls ls′ → RelL p e e′ → RelV (Val.advice p ls e) (Val.advice p ls′ e′)
         v-object : {t : Ty} {bs bs′ : Tms} → RelBs (methodsOf t) bs bs′ → RelV (Val.object t bs) (Val.object t bs′)
         v-bottom : RelV Val.bottom Val.bottom
@@ -186,12 +186,12 @@ module _ (hi : Dom → Bool) where
     pub relV-mono : {W X : World} {v v′ : Val} → RelV W v v′ → Grows W X → RelV X v v′
     relV-mono v-unit x = v-unit
     relV-mono v-truth x = v-truth
-    relV-mono v-num x = v-num
+    relV-mono v-number x = v-number
     relV-mono (v-pair r s) x = v-pair (relV-mono r x) (relV-mono s x)
     relV-mono (v-fun r) x = v-fun (relB-mono r x)
     relV-mono (v-label m) x = v-label (matched-mono m (x .labels))
     relV-mono (v-cell m) x = v-cell (matched-mono m (x .cells))
-    relV-mono (v-labels m) x = v-labels (matches-mono m (x .labels))
+    relV-mono (v-pointcut m) x = v-pointcut (matches-mono m (x .labels))
     relV-mono (v-advice m r) x = v-advice (matches-mono m (x .labels)) (relL-mono r x)
     relV-mono (v-object r) x = v-object (relBs-mono r x)
     relV-mono v-bottom x = v-bottom

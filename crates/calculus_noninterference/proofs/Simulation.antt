@@ -47,7 +47,7 @@ module _ {D : Policy} {Σ : StoreTyping} {c : Dom} where
   inv-pcd : {u : Ty} {es : Tms} → TmTy D Σ [] c (pcd es) u → (ts : List Ty) × TmsTy D Σ [] c es ts
   inv-pcd (is-pcd {ts} h l) = (ts, h)
 
-  inv-adv : {u : Ty} {p : Dom} {e b : Tm} → TmTy D Σ [] c (adv p e b) u → (a : Ty) × (q : Dom) × TmTy D Σ [] c e (Ty.pcd a q)
+  inv-adv : {u : Ty} {p : Dom} {e b : Tm} → TmTy D Σ [] c (adv p e b) u → (a : Ty) × (q : Dom) × TmTy D Σ [] c e (Ty.pointcut a q)
   inv-adv (is-adv {q} {a} h l k) = (a, q, h)
 
   inv-lower : {u : Ty} {p : Dom} {e : Tm} → TmTy D Σ [] c (lower p e) u → TmTy D Σ [] p e Ty.unit

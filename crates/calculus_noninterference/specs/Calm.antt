@@ -44,12 +44,12 @@ module _ (high : Dom → Bool) where
     pub CalmVal : Val → Type 0
     CalmVal Val.unit = Unit {0}
     CalmVal (Val.truth b) = Unit {0}
-    CalmVal (Val.num n) = Unit {0}
+    CalmVal (Val.number n) = Unit {0}
     CalmVal (Val.pair v w) = CalmVal v × CalmVal w
     CalmVal (Val.fun t b) = Calm (domOf t) b
     CalmVal (Val.label l) = Unit {0}
     CalmVal (Val.cell r) = Unit {0}
-    CalmVal (Val.labels ls) = Unit {0}
+    CalmVal (Val.pointcut ls) = Unit {0}
     CalmVal (Val.advice p ls b) = Calm p b
     CalmVal (Val.object t bs) = CalmBodies (methodsOf t) bs
     CalmVal Val.bottom = Unit {0}

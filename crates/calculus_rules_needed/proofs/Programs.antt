@@ -10,14 +10,14 @@ use Rattle.calculus_noninterference.specs.Observe.{highPrints, highCells, Same}
 use Rattle.calculus_rules_needed.specs.Need.{isHigh}
 
 abbrev pub number : ℕ → Tm
-number n = val (Val.num n)
+number n = val (Val.number n)
 
 abbrev pub unit : Tm
 unit = val Val.unit
 
 -- The type of an object of one method (card 3).
 abbrev pub oneMethod : Dom → Ty → Ty
-oneMethod p b = Ty.obj (method p b noMethod)
+oneMethod p b = Ty.object (method p b noMethod)
 
 abbrev pub say : Tm → Tm
 say e = op1 print Ty.unit e
@@ -52,8 +52,8 @@ abbrev pub markIt : Tm
 markIt = op2 mark Ty.unit (var 0) (number 3)
 
 -- Two results, two lists of high prints, two numbers of high cells that are not the same.
-pub results-differ : {E E′ : Ended} (m n : ℕ) → E .end ≡ done (Val.num m) → E′ .end ≡ done (Val.num n) → (m ≡ n → ⊥) → Same isHigh E E′ → ⊥
-results-differ m n p q f S = let z : Val.num m ≡ Val.num n = S .result (Val.num m) (Val.num n) p q in f (cc)
+pub results-differ : {E E′ : Ended} (m n : ℕ) → E .end ≡ done (Val.number m) → E′ .end ≡ done (Val.number n) → (m ≡ n → ⊥) → Same isHigh E E′ → ⊥
+results-differ m n p q f S = let z : Val.number m ≡ Val.number n = S .result (Val.number m) (Val.number n) p q in f (cc)
 
 abbrev first : List Print → ℕ
 first [] = 0

@@ -11,7 +11,7 @@ use Rattle.calculus.specs.Subst.{subst}
 use Rattle.calculus.specs.Answer.{carry, if-room, with, spend}
 use Rattle.calculus.specs.Step.{step}
 use Rattle.calculus.specs.Run.{after, run}
-use Rattle.calculus.specs.Typing.{Policy, noStore, _⨾_⊢_⦂_ as TmTy, has-first, t-newLabel, t-print, t-install, t-read, t-newCell, t-app, t-mark, t-store, no-types, a-type, v-unit, v-num, is-val, is-var, is-lam, is-op0, is-op1, is-op2, is-seq, is-pcd, is-adv, is-lower, is-obj, is-end, is-more, no-body, a-body}
+use Rattle.calculus.specs.Typing.{Policy, noStore, _⨾_⊢_⦂_ as TmTy, has-first, t-newLabel, t-print, t-install, t-read, t-newCell, t-app, t-mark, t-store, no-types, a-type, v-unit, v-number, is-val, is-var, is-lam, is-op0, is-op1, is-op2, is-seq, is-pcd, is-adv, is-lower, is-obj, is-end, is-more, no-body, a-body}
 use Rattle.calculus.specs.Blank.{blank}
 use Rattle.calculus.specs.Accepted.{Accepted}
 use Rattle.calculus_noninterference.specs.Observe.{highOf}
@@ -26,10 +26,10 @@ accepted-unit : {D : Policy} {e : Tm} → TmTy D noStore [] 0 e Ty.unit → Acce
 accepted-unit h = record { type = Ty.unit; typed = h; plain = refl }
 
 typed-say : {D : Policy} {Γ : List Ty} {c : Dom} (n : ℕ) → TmTy D noStore Γ c (say (number n)) Ty.unit
-typed-say n = is-op1 t-print (is-val v-num)
+typed-say n = is-op1 t-print (is-val v-number)
 
 accepted-cell : {D : Policy} {q : Dom} {e f : Tm} → D .leq q 0 ≡ true → TmTy D noStore (Ty.ref Ty.number q ∷ []) 0 e Ty.unit → TmTy D noStore (Ty.ref Ty.number q ∷ []) 0 f Ty.number → Accepted D (withCell q e f)
-accepted-cell n h k = accepted-number (is-op2 t-app (is-lam (is-seq h k)) (is-op1 (t-newCell n) (is-val v-num)))
+accepted-cell n h k = accepted-number (is-op2 t-app (is-lam (is-seq h k)) (is-op1 (t-newCell n) (is-val v-number)))
 
 accepted-label : {D : Policy} {q : Dom} {e f : Tm} → D .leq q 0 ≡ true → TmTy D noStore (Ty.label Ty.number q ∷ []) 0 e Ty.unit → TmTy D noStore (Ty.label Ty.number q ∷ []) 0 f Ty.unit → Accepted D (withLabel q e f)
 accepted-label n h k = accepted-unit (is-op2 t-app (is-lam (is-seq h (is-seq k (typed-say 5)))) (is-op0 (t-newLabel n)))
@@ -40,15 +40,15 @@ module _ {D : Policy} (o : Ordered D) where
   typed-nothing = is-lower (o .below) (is-val v-unit)
 
   typed-mark : {Γ : List Ty} {c : Dom} → TmTy D noStore (Ty.label Ty.number c ∷ Γ) c markIt Ty.unit
-  typed-mark = is-op2 t-mark (is-var refl) (is-val v-num)
+  typed-mark = is-op2 t-mark (is-var refl) (is-val v-number)
 
-  typed-on : {Γ : List Ty} {c p q : Dom} → D .leq p q ≡ true → TmTy D noStore (Ty.label Ty.number q ∷ Γ) c onLabel (Ty.pcd Ty.number p)
+  typed-on : {Γ : List Ty} {c p q : Dom} → D .leq p q ≡ true → TmTy D noStore (Ty.label Ty.number q ∷ Γ) c onLabel (Ty.pointcut Ty.number p)
   typed-on l = is-pcd (is-more (is-var refl) is-end) (a-type l no-types)
 
-  typed-watching : {Γ : List Ty} {c : Dom} {e : Tm} → TmTy D noStore Γ c e (Ty.pcd Ty.number 0) → TmTy D noStore Γ c (watching e) (Ty.adv 0)
+  typed-watching : {Γ : List Ty} {c : Dom} {e : Tm} → TmTy D noStore Γ c e (Ty.pointcut Ty.number 0) → TmTy D noStore Γ c (watching e) (Ty.advice 0)
   typed-watching h = is-adv h (o .high) (is-op1 t-print (is-var refl))
 
-  typed-put : {Γ : List Ty} {e : Tm} → TmTy D noStore Γ 0 e (Ty.adv 0) → TmTy D noStore Γ 0 (put e) Ty.unit
+  typed-put : {Γ : List Ty} {e : Tm} → TmTy D noStore Γ 0 e (Ty.advice 0) → TmTy D noStore Γ 0 (put e) Ty.unit
   typed-put h = is-op1 (t-install (o .high)) h
 
   typed-read : {Γ : List Ty} → TmTy D noStore (Ty.ref Ty.number 0 ∷ Γ) 0 readIt Ty.number
@@ -64,7 +64,7 @@ apply-low-needed = record {
   lacks = λ D o. but-apply (is-var refl) (is-val v-unit);
   left = λ e. op2 app Ty.number (lam (Ty.fun (Ty.fun Ty.unit 1 Ty.number) 0 Ty.number) e) (lam (Ty.fun Ty.unit 1 Ty.number) (number 3));
   right = λ e. op2 app Ty.number (lam (Ty.fun (Ty.fun Ty.unit 1 Ty.number) 0 Ty.number) e) (lam (Ty.fun Ty.unit 1 Ty.number) (number 4));
-  fits = λ D o e h. (accepted-number (is-op2 t-app (is-lam h) (is-lam (is-val v-num))), accepted-number (is-op2 t-app (is-lam h) (is-lam (is-val v-num))));
+  fits = λ D o e h. (accepted-number (is-op2 t-app (is-lam h) (is-lam (is-val v-number))), accepted-number (is-op2 t-app (is-lam h) (is-lam (is-val v-number))));
   alike = refl;
   differ = results-differ 3 4 refl refl (λ z. omega arith);
 }
@@ -76,7 +76,7 @@ apply-high-needed = record {
   context = Ty.ref Ty.number 0 ∷ [];
   type = Ty.unit;
   term = op2 app Ty.unit (lam (Ty.fun Ty.number 0 Ty.unit) (op2 store Ty.unit (var 1) (var 0))) (number 3);
-  lacks = λ D o. but-apply (is-lam (is-op2 (t-store (o .high)) (is-var refl) (is-var refl))) (is-val v-num);
+  lacks = λ D o. but-apply (is-lam (is-op2 (t-store (o .high)) (is-var refl) (is-var refl))) (is-val v-number);
   left = λ e. withCell 0 (lower 1 e) readIt;
   right = λ e. withCell 0 (lower 1 unit) readIt;
   fits = λ D o e h. (accepted-cell (o .high) (is-lower (o .below) h) (typed-read o), accepted-cell (o .high) (typed-nothing o) (typed-read o));
@@ -95,8 +95,8 @@ call-low-needed = record {
   left = λ e. op2 app Ty.number (lam (Ty.fun (oneMethod 1 Ty.number) 0 Ty.number) e) (obj (oneMethod 1 Ty.number) (more (number 3) end));
   right = λ e. op2 app Ty.number (lam (Ty.fun (oneMethod 1 Ty.number) 0 Ty.number) e) (obj (oneMethod 1 Ty.number) (more (number 4) end));
   fits = λ D o e h. (
-    accepted-number (is-op2 t-app (is-lam h) (is-obj (a-body (is-val v-num) no-body))),
-    accepted-number (is-op2 t-app (is-lam h) (is-obj (a-body (is-val v-num) no-body))),
+    accepted-number (is-op2 t-app (is-lam h) (is-obj (a-body (is-val v-number) no-body))),
+    accepted-number (is-op2 t-app (is-lam h) (is-obj (a-body (is-val v-number) no-body))),
   );
   alike = refl;
   differ = results-differ 3 4 refl refl (λ z. omega arith);
@@ -109,7 +109,7 @@ call-high-needed = record {
   context = Ty.ref Ty.number 0 ∷ [];
   type = Ty.unit;
   term = op1 (call 0) Ty.unit (obj (oneMethod 0 Ty.unit) (more (op2 store Ty.unit (var 1) (number 3)) end));
-  lacks = λ D o. but-call has-first (is-obj (a-body (is-op2 (t-store (o .high)) (is-var refl) (is-val v-num)) no-body));
+  lacks = λ D o. but-call has-first (is-obj (a-body (is-op2 (t-store (o .high)) (is-var refl) (is-val v-number)) no-body));
   left = λ e. withCell 0 (lower 1 e) readIt;
   right = λ e. withCell 0 (lower 1 unit) readIt;
   fits = λ D o e h. (accepted-cell (o .high) (is-lower (o .below) h) (typed-read o), accepted-cell (o .high) (typed-nothing o) (typed-read o));
@@ -124,7 +124,7 @@ mark-needed = record {
   context = Ty.label Ty.number 0 ∷ [];
   type = Ty.unit;
   term = markIt;
-  lacks = λ D o. but-mark (is-var refl) (is-val v-num);
+  lacks = λ D o. but-mark (is-var refl) (is-val v-number);
   left = λ e. withLabel 0 (put (watching onLabel)) (lower 1 e);
   right = λ e. withLabel 0 (put (watching onLabel)) (lower 1 unit);
   fits = λ D o e h. (
@@ -140,7 +140,7 @@ pub pointcut-needed : Needed pointcut-rule 0
 unfolding blank highOf run after cases step carry if-room with spend picked subst
 pointcut-needed = record {
   context = Ty.label Ty.number 1 ∷ [];
-  type = Ty.pcd Ty.number 0;
+  type = Ty.pointcut Ty.number 0;
   term = onLabel;
   lacks = λ D o. but-pointcut (is-var refl);
   left = λ e. withLabel 1 (put (watching e)) (lower 1 markIt);
@@ -158,7 +158,7 @@ pub advice-needed : Needed advice-rule 0
 unfolding blank highOf run after cases step carry if-room with spend picked subst
 advice-needed = record {
   context = Ty.label Ty.number 1 ∷ [];
-  type = Ty.adv 0;
+  type = Ty.advice 0;
   term = watching onLabel;
   lacks = λ D o. but-advice (typed-on o (o .low)) (is-op1 t-print (is-var refl));
   left = λ e. withLabel 1 (put e) (lower 1 markIt);
@@ -208,7 +208,7 @@ cell-needed = record {
   context = [];
   type = Ty.ref Ty.number 0;
   term = op1 newCell (Ty.ref Ty.number 0) (number 3);
-  lacks = λ D o. but-cell (is-val v-num);
+  lacks = λ D o. but-cell (is-val v-number);
   left = λ e. lower 1 (op2 app Ty.unit (lam (Ty.fun (Ty.ref Ty.number 0) 1 Ty.unit) unit) e);
   right = λ e. lower 1 unit;
   fits = λ D o e h. (accepted-unit (is-lower (o .below) (is-op2 t-app (is-lam (is-val v-unit)) h)), accepted-unit (typed-nothing o));
@@ -226,7 +226,7 @@ read-needed = record {
   lacks = λ D o. but-read (is-var refl);
   left = λ e. withCell 1 (lower 1 storeIt) e;
   right = λ e. withCell 1 (lower 1 unit) e;
-  fits = λ D o e h. (accepted-cell (o .below) (is-lower (o .below) (is-op2 (t-store (o .low)) (is-var refl) (is-val v-num))) h, accepted-cell (o .below) (typed-nothing o) h);
+  fits = λ D o e h. (accepted-cell (o .below) (is-lower (o .below) (is-op2 (t-store (o .low)) (is-var refl) (is-val v-number))) h, accepted-cell (o .below) (typed-nothing o) h);
   alike = refl;
   differ = results-differ 3 0 refl refl (λ z. omega arith);
 }
@@ -238,7 +238,7 @@ store-needed = record {
   context = Ty.ref Ty.number 0 ∷ [];
   type = Ty.unit;
   term = storeIt;
-  lacks = λ D o. but-store (is-var refl) (is-val v-num);
+  lacks = λ D o. but-store (is-var refl) (is-val v-number);
   left = λ e. withCell 0 (lower 1 e) readIt;
   right = λ e. withCell 0 (lower 1 unit) readIt;
   fits = λ D o e h. (accepted-cell (o .high) (is-lower (o .below) h) (typed-read o), accepted-cell (o .high) (typed-nothing o) (typed-read o));
@@ -268,7 +268,7 @@ lowered-needed = record {
   context = Ty.ref Ty.number 0 ∷ [];
   type = Ty.unit;
   term = lower 1 storeIt;
-  lacks = λ D o. but-body (o .below) (is-op2 (t-store (o .high)) (is-var refl) (is-val v-num));
+  lacks = λ D o. but-body (o .below) (is-op2 (t-store (o .high)) (is-var refl) (is-val v-number));
   left = λ e. withCell 0 e readIt;
   right = λ e. withCell 0 (lower 1 unit) readIt;
   fits = λ D o e h. (accepted-cell (o .high) h (typed-read o), accepted-cell (o .high) (typed-nothing o) (typed-read o));

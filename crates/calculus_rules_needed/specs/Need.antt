@@ -22,7 +22,7 @@ module _ (D : Policy) (Γ : List Ty) (c : Dom) where
     -- e1 e2: the function's domain need not be c
     but-apply : {a b : Ty} {p : Dom} {e f : Tm} → TmTy D noStore Γ c e (Ty.fun a p b) → TmTy D noStore Γ c f a → Lacks apply-rule (op2 app b e f) b
     -- e.m: the method's domain need not be c
-    but-call : {b : Ty} {p : Dom} {ms : Sigs} {m : ℕ} {e : Tm} → Has p b ms m → TmTy D noStore Γ c e (Ty.obj ms) → Lacks call-rule (op1 (call m) b e) b
+    but-call : {b : Ty} {p : Dom} {ms : Sigs} {m : ℕ} {e : Tm} → Has p b ms m → TmTy D noStore Γ c e (Ty.object ms) → Lacks call-rule (op1 (call m) b e) b
     -- e1[e2]: the label's domain need not be c
     but-mark : {a : Ty} {p : Dom} {e f : Tm} → TmTy D noStore Γ c e (Ty.label a p) → TmTy D noStore Γ c f a → Lacks mark-rule (op2 mark Ty.unit e f) Ty.unit
     -- ref_p e: no p ≤ c
@@ -30,7 +30,7 @@ module _ (D : Policy) (Γ : List Ty) (c : Dom) where
     -- e1 := e2: no p ≤ c
     but-store : {a : Ty} {p : Dom} {e f : Tm} → TmTy D noStore Γ c e (Ty.ref a p) → TmTy D noStore Γ c f a → Lacks store-rule (op2 store Ty.unit e f) Ty.unit
     -- ⇑ e: no p ≤ c
-    but-install : {p : Dom} {e : Tm} → TmTy D noStore Γ c e (Ty.adv p) → Lacks install-rule (op1 install Ty.unit e) Ty.unit
+    but-install : {p : Dom} {e : Tm} → TmTy D noStore Γ c e (Ty.advice p) → Lacks install-rule (op1 install Ty.unit e) Ty.unit
     -- a takedown of p: no p ≤ c
     but-takedown : {p : Dom} → Lacks takedown-rule (op0 (takedown p) Ty.unit) Ty.unit
     -- !e: no c ≤ p
@@ -40,9 +40,9 @@ module _ (D : Policy) (Γ : List Ty) (c : Dom) where
     -- p<e>: e is typed at c, not at p
     but-body : {p : Dom} {e : Tm} → D .leq p c ≡ true → TmTy D noStore Γ c e Ty.unit → Lacks body-rule (lower p e) Ty.unit
     -- {e}_p, of a label of domain q: no p ≤ q
-    but-pointcut : {a : Ty} {p q : Dom} {e : Tm} → TmTy D noStore Γ c e (Ty.label a q) → Lacks pointcut-rule (pcd (more e end)) (Ty.pcd a p)
+    but-pointcut : {a : Ty} {p q : Dom} {e : Tm} → TmTy D noStore Γ c e (Ty.label a q) → Lacks pointcut-rule (pcd (more e end)) (Ty.pointcut a p)
     -- {e1.x →_p e2}, of a pointcut of domain q: no p ≤ q
-    but-advice : {a : Ty} {p q : Dom} {e b : Tm} → TmTy D noStore Γ c e (Ty.pcd a q) → TmTy D noStore (a ∷ Γ) p b Ty.unit → Lacks advice-rule (adv p e b) (Ty.adv p)
+    but-advice : {a : Ty} {p q : Dom} {e b : Tm} → TmTy D noStore Γ c e (Ty.pointcut a q) → TmTy D noStore (a ∷ Γ) p b Ty.unit → Lacks advice-rule (adv p e b) (Ty.advice p)
 
 -- Two domains: 0 is high, 1 is low and below it.
 pub record Ordered (D : Policy) : Type 0 where

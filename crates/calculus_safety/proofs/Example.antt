@@ -23,7 +23,7 @@ falling-trans p q r h k = le-leb r p (le-trans (leb-true r q k) (leb-true q p h)
 abbrev shown : Tm
 shown =
     op2 app Ty.unit
-    (lam (Ty.fun (Ty.label Ty.number 0) 0 Ty.unit) (seq (op1 install Ty.unit (adv 1 (pcd (more (var 0) end)) (op1 print Ty.unit (var 0)))) (op2 mark Ty.unit (var 0) (val (Val.num 3)))))
+    (lam (Ty.fun (Ty.label Ty.number 0) 0 Ty.unit) (seq (op1 install Ty.unit (adv 1 (pcd (more (var 0) end)) (op1 print Ty.unit (var 0)))) (op2 mark Ty.unit (var 0) (val (Val.number 3)))))
     (op0 newLabel (Ty.label Ty.number 0))
 
 shown-typed : TmTy falling noStore [] 0 shown Ty.unit
@@ -33,7 +33,7 @@ shown-typed =
     (TmTy.is-seq
     (TmTy.is-op1 (Rule1.t-install refl)
     (TmTy.is-adv {q = 0} (TmTy.is-pcd (TmsTy.is-more (TmTy.is-var refl) TmsTy.is-end) (LabelTys.a-type refl LabelTys.no-types)) refl (TmTy.is-op1 Rule1.t-print (TmTy.is-var refl))))
-    (TmTy.is-op2 Rule2.t-mark (TmTy.is-var refl) (TmTy.is-val ValTy.v-num))))
+    (TmTy.is-op2 Rule2.t-mark (TmTy.is-var refl) (TmTy.is-val ValTy.v-number))))
     (TmTy.is-op0 (Rule0.t-newLabel refl))
 
 pub shown-safe : (G : Given) (n : ℕ) → EndsWell falling Ty.unit noStore (run n G 0 fresh shown)

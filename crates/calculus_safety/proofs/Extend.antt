@@ -36,12 +36,12 @@ module _ (D : Policy) {Σ Σ′ : StoreTyping} (x : Extends Σ Σ′) where
     pub grow-val : {v : Val} {t : Ty} → ValTy D Σ v t → ValTy D Σ′ v t
     grow-val ValTy.v-unit = ValTy.v-unit
     grow-val ValTy.v-truth = ValTy.v-truth
-    grow-val ValTy.v-num = ValTy.v-num
+    grow-val ValTy.v-number = ValTy.v-number
     grow-val (ValTy.v-pair h k) = ValTy.v-pair (grow-val h) (grow-val k)
     grow-val (ValTy.v-fun h) = ValTy.v-fun (grow-tm h)
     grow-val (ValTy.v-label {l} g) = ValTy.v-label (prefix-get (x .labels) l g)
     grow-val (ValTy.v-cell {r} g) = ValTy.v-cell (prefix-get (x .cells) r g)
-    grow-val (ValTy.v-labels h) = ValTy.v-labels (grow-labels h)
+    grow-val (ValTy.v-pointcut h) = ValTy.v-pointcut (grow-labels h)
     grow-val (ValTy.v-advice h o b) = ValTy.v-advice (grow-labels h) o (grow-tm b)
     grow-val (ValTy.v-object h) = ValTy.v-object (grow-bodies h)
     grow-val ValTy.v-bottom = ValTy.v-bottom

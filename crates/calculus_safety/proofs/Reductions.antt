@@ -73,7 +73,7 @@ module _ (D : Policy) {Σ : StoreTyping} where
   matched-typed (PatternTy.p-any p) hs ValTy.v-bottom = nothing
   matched-typed (PatternTy.p-any p) hs (ValTy.v-kept g h k) = matched-typed p hs k
   matched-typed (PatternTy.p-cut p) (all2-cons h hs) ValTy.v-bottom = nothing
-  matched-typed (PatternTy.p-cut {us} {a} p) (all2-cons (ValTy.v-labels {ls} n) hs) (ValTy.v-kept {l} {v} {a = b} g h k) = look (member l ls) refl (matched-typed p hs k)
+  matched-typed (PatternTy.p-cut {us} {a} p) (all2-cons (ValTy.v-pointcut {ls} n) hs) (ValTy.v-kept {l} {v} {a = b} g h k) = look (member l ls) refl (matched-typed p hs k)
     where
       look : {o : Option (List Val)} (m : Bool) → member l ls ≡ m → Bound D Σ us o → Bound D Σ (a ∷ us) (choose m (consFound v o) none)
       look true e next =
@@ -110,11 +110,11 @@ module _ (D : Policy) {Σ : StoreTyping} {c : Dom} (s : State) (fits : StateFits
 
     pub safe1 : {o : Op1} {t a : Ty} {v : Val} → Rule1 D c o a t → ValTy D Σ v a → Safe D Σ c t (reduce1 G (at c P) s o t v)
     unfolding with
-    safe1 Rule1.t-print ValTy.v-num = safe-room D _ _ tt (here-val _ fits ValTy.v-unit)
+    safe1 Rule1.t-print ValTy.v-number = safe-room D _ _ tt (here-val _ fits ValTy.v-unit)
     safe1 (Rule1.t-install h) (ValTy.v-advice ls o b) =
         safe-room D _ _ tt (here-val _ (record { cells = fits .cells; labels = fits .labels; advices = all-snoc (fits .advices) (advice-fits ls o b) }) ValTy.v-unit)
     safe1 (Rule1.t-read h) (ValTy.v-cell {r} g) = let k = cell-there D s fits r g in rw (k .1) (here-val _ fits (held-typed D (k .2)))
-    safe1 Rule1.t-byte ValTy.v-num = here-val _ fits ValTy.v-num
+    safe1 Rule1.t-byte ValTy.v-number = here-val _ fits ValTy.v-number
     safe1 (Rule1.t-newCell {a} {p} h) hv =
         let x = extends-cell Σ (Ty.ref a p) in
         let place : getElem? (Σ .cells ++ (Ty.ref a p ∷ [])) (length (s .cells)) ≡ some (Ty.ref a p) = rw (← all2-length (fits .cells)) (get-last (Σ .cells) (Ty.ref a p)) in
@@ -133,10 +133,10 @@ module _ (D : Policy) {Σ : StoreTyping} {c : Dom} (s : State) (fits : StateFits
     safe2 trans (Rule2.t-store h) (ValTy.v-cell {r} g) hw =
         let k = cell-there D s fits r g in
         rw (k .1) (here-val _ (record { cells = all2-set (fits .cells) r g (held-set D (k .2) hw); labels = fits .labels; advices = fits .advices }) ValTy.v-unit)
-    safe2 trans Rule2.t-plus ValTy.v-num ValTy.v-num = here-val _ fits ValTy.v-num
-    safe2 trans Rule2.t-minus ValTy.v-num ValTy.v-num = here-val _ fits ValTy.v-num
-    safe2 trans Rule2.t-less ValTy.v-num ValTy.v-num = here-val _ fits ValTy.v-truth
-    safe2 trans Rule2.t-equal ValTy.v-num ValTy.v-num = here-val _ fits ValTy.v-truth
+    safe2 trans Rule2.t-plus ValTy.v-number ValTy.v-number = here-val _ fits ValTy.v-number
+    safe2 trans Rule2.t-minus ValTy.v-number ValTy.v-number = here-val _ fits ValTy.v-number
+    safe2 trans Rule2.t-less ValTy.v-number ValTy.v-number = here-val _ fits ValTy.v-truth
+    safe2 trans Rule2.t-equal ValTy.v-number ValTy.v-number = here-val _ fits ValTy.v-truth
 
   pub safe-seq : {t : Ty} {f : Tm} {v : Val} → ValTy D Σ v Ty.unit → TmTy D Σ [] c f t → Safe D Σ c t (reduceSeq s f v)
   unfolding with
@@ -154,19 +154,19 @@ module _ (D : Policy) {Σ : StoreTyping} {c : Dom} (s : State) (fits : StateFits
   unfolding with
   safe-split P (ValTy.v-pair h h′) k = safe-spend D _ s _ (safe-here D _ fits (subst-tm D h′ (subst-tm D h k (there here)) here))
 
-  pub safe-adv : (P : Place) {p q : Dom} {a : Ty} {b : Tm} {v : Val} → ValTy D Σ v (Ty.pcd a q) → D .leq p q ≡ true → TmTy D Σ (a ∷ []) p b Ty.unit → Safe D Σ c (Ty.adv p) (reduceAdv P s p b v)
+  pub safe-adv : (P : Place) {p q : Dom} {a : Ty} {b : Tm} {v : Val} → ValTy D Σ v (Ty.pointcut a q) → D .leq p q ≡ true → TmTy D Σ (a ∷ []) p b Ty.unit → Safe D Σ c (Ty.advice p) (reduceAdv P s p b v)
   unfolding with
-  safe-adv P (ValTy.v-labels h) o k = safe-spend D _ s _ (here-val _ fits (ValTy.v-advice h o k))
+  safe-adv P (ValTy.v-pointcut h) o k = safe-spend D _ s _ (here-val _ fits (ValTy.v-advice h o k))
 
   pub safe-lower : {v : Val} → ValTy D Σ v Ty.unit → Safe D Σ c Ty.unit (reduceLower s v)
   unfolding with
   safe-lower ValTy.v-unit = here-val _ fits ValTy.v-unit
 
-  pub safe-pcd : (P : Place) {a : Ty} {p : Dom} {vs : List Val} {ts : List Ty} → All2 (ValTy D Σ) vs ts → LabelTys D a p ts → Safe D Σ c (Ty.pcd a p) (reducePcd P s vs)
+  pub safe-pcd : (P : Place) {a : Ty} {p : Dom} {vs : List Val} {ts : List Ty} → All2 (ValTy D Σ) vs ts → LabelTys D a p ts → Safe D Σ c (Ty.pointcut a p) (reducePcd P s vs)
   unfolding with
   safe-pcd P hs os =
       let m = collect-labels D hs os LabelsOf.no-labels in
-      rw (m .1) (safe-spend D _ s _ (here-val _ fits (ValTy.v-labels (m .2))))
+      rw (m .1) (safe-spend D _ s _ (here-val _ fits (ValTy.v-pointcut (m .2))))
 
   -- Card 6.
   pub safe-keep : {t : Ty} {v : Val} → ValTy D Σ v t → Safe D Σ c t (reduceKeep s v)

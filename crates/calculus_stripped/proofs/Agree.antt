@@ -25,14 +25,14 @@ module _ {D : Policy} (f g : Dom → Bool) (same : (p q : Dom) → D .leq p q �
       strip-val : {v : Val} {t : Ty} → ValTy D Σ v t → stripVal f v ≡ stripVal g v
       strip-val ValTy.v-unit = refl
       strip-val ValTy.v-truth = refl
-      strip-val ValTy.v-num = refl
+      strip-val ValTy.v-number = refl
       strip-val (ValTy.v-pair h k) = ap₂ Val.pair (strip-val h) (strip-val k)
       strip-val (ValTy.v-fun {a} {b} {p} h) = ap (Val.fun (Ty.fun a p b)) (strip-same h)
       strip-val (ValTy.v-label x) = refl
       strip-val (ValTy.v-cell x) = refl
-      strip-val (ValTy.v-labels h) = refl
+      strip-val (ValTy.v-pointcut h) = refl
       strip-val (ValTy.v-advice {ls} {p} {q} h l k) = ap (Val.advice p ls) (body-same f g (same p q l .0) (strip-same k))
-      strip-val (ValTy.v-object {ms} h) = ap (Val.object (Ty.obj ms)) (strip-bodies h)
+      strip-val (ValTy.v-object {ms} h) = ap (Val.object (Ty.object ms)) (strip-bodies h)
       strip-val ValTy.v-bottom = refl
       strip-val (ValTy.v-kept {l} x h k) = ap₂ (Val.kept l) (strip-val h) (strip-val k)
 
@@ -49,7 +49,7 @@ module _ {D : Policy} (f g : Dom → Bool) (same : (p q : Dom) → D .leq p q �
       strip-same (is-pcd h l) = ap pcd (strips-same h)
       strip-same (is-adv {p} {q} h l k) = ap₂ (adv p) (strip-same h) (body-same f g (same p q l .0) (strip-same k))
       strip-same (is-lower {c} {p} l h) = ap (lower p) (body-same f g (same p c l .0) (strip-same h))
-      strip-same (is-obj {ms} h) = ap (obj (Ty.obj ms)) (strip-bodies h)
+      strip-same (is-obj {ms} h) = ap (obj (Ty.object ms)) (strip-bodies h)
       strip-same (is-keep h k l) = let x = strip-same h in let y = strip-same k in let z = strip-same l in cc
       strip-same (is-match h p k l) = let x = strips-same h in let y = strip-same k in let z = strip-same l in cc
 
@@ -67,12 +67,12 @@ module _ {D : Policy} (f g : Dom → Bool) (same : (p q : Dom) → D .leq p q �
       calm-val : {v : Val} {t : Ty} → ValTy D Σ v t → CalmVal f v → CalmVal g v
       calm-val ValTy.v-unit x = tt
       calm-val ValTy.v-truth x = tt
-      calm-val ValTy.v-num x = tt
+      calm-val ValTy.v-number x = tt
       calm-val (ValTy.v-pair h k) x = (calm-val h (x .0), calm-val k (x .1))
       calm-val (ValTy.v-fun h) x = calm-same h x
       calm-val (ValTy.v-label y) x = tt
       calm-val (ValTy.v-cell y) x = tt
-      calm-val (ValTy.v-labels h) x = tt
+      calm-val (ValTy.v-pointcut h) x = tt
       calm-val (ValTy.v-advice h l k) x = calm-same k x
       calm-val (ValTy.v-object h) x = calm-bodies h x
       calm-val ValTy.v-bottom x = tt

@@ -6,7 +6,7 @@ use Rattle.calculus.specs.Combinators.{choose}
 use Rattle.calculus.specs.Syntax.{Dom, Ty, Sigs, Val, Tm, Tms, val}
 use Rattle.calculus.specs.Typing.{Policy, noStore, ⊢_⦂_ as ValTy, _⨾_⊢_⦂_ as TmTy, _⨾_⊢*_⦂_ as TmsTy, _⊢ᵐ_⦂_ as BodiesTy, is-val, is-var, is-lam, is-op0, is-op1, is-op2, is-seq, is-ite, is-split, is-pcd, is-adv, is-lower, is-obj, is-keep, is-match, is-end, is-more, no-body, a-body}
 use Rattle.laws.proofs.Lists.{none-some}
-use Rattle.calculus_noninterference.proofs.Related.{World, RelV, RelT, RelL, RelTs, RelBs, b-rel, l-high, l-low, v-unit, v-truth, v-num, v-pair, v-fun, v-labels, v-advice, v-object, v-bottom, r-val, r-var, r-lam, r-op0, r-op1, r-op2, r-seq, r-ite, r-split, r-pcd, r-adv, r-lower, r-obj, r-keep, r-match, r-end, r-more, r-no-body, r-body}
+use Rattle.calculus_noninterference.proofs.Related.{World, RelV, RelT, RelL, RelTs, RelBs, b-rel, l-high, l-low, v-unit, v-truth, v-number, v-pair, v-fun, v-pointcut, v-advice, v-object, v-bottom, r-val, r-var, r-lam, r-op0, r-op1, r-op2, r-seq, r-ite, r-split, r-pcd, r-adv, r-lower, r-obj, r-keep, r-match, r-end, r-more, r-no-body, r-body}
 use Rattle.calculus_noninterference.proofs.Blanked.{labels-rel}
 use Rattle.calculus_stripped.specs.Strip.{strip, strips, stripVal}
 
@@ -22,12 +22,12 @@ module _ (hi : Dom → Bool) {W : World} where
       stripVal-rel : {v : Val} {t : Ty} → ValTy D noStore v t → RelV hi W v (stripVal hi v)
       stripVal-rel ValTy.v-unit = v-unit
       stripVal-rel ValTy.v-truth = v-truth
-      stripVal-rel ValTy.v-num = v-num
+      stripVal-rel ValTy.v-number = v-number
       stripVal-rel (ValTy.v-pair x y) = v-pair (stripVal-rel x) (stripVal-rel y)
       stripVal-rel (ValTy.v-fun x) = v-fun (b-rel (strip-rel x))
       stripVal-rel (ValTy.v-label x) = absurd (none-some x)
       stripVal-rel (ValTy.v-cell x) = absurd (none-some x)
-      stripVal-rel (ValTy.v-labels x) = v-labels (labels-rel hi x)
+      stripVal-rel (ValTy.v-pointcut x) = v-pointcut (labels-rel hi x)
       stripVal-rel (ValTy.v-advice {p} x l y) = v-advice (labels-rel hi x) (low-rel (hi p) refl (strip-rel y))
       stripVal-rel (ValTy.v-object x) = v-object (bodies-rel x)
       stripVal-rel ValTy.v-bottom = v-bottom

@@ -10,7 +10,7 @@ use Rattle.calculus.specs.State.{Given, Print, picked, logOf, fresh}
 use Rattle.calculus.specs.Answer.{carry, if-room, with, spend}
 use Rattle.calculus.specs.Step.{step}
 use Rattle.calculus.specs.Run.{End, done, stopped, after, run}
-use Rattle.calculus.specs.Typing.{noStore, _⨾_⊢_⦂_ as TmTy, t-takedown, t-print, t-install, no-types, v-unit, v-num, is-val, is-op0, is-op1, is-seq, is-pcd, is-adv, is-lower, is-end}
+use Rattle.calculus.specs.Typing.{noStore, _⨾_⊢_⦂_ as TmTy, t-takedown, t-print, t-install, no-types, v-unit, v-number, is-val, is-op0, is-op1, is-seq, is-pcd, is-adv, is-lower, is-end}
 use Rattle.calculus.specs.Accepted.{Accepted}
 use Rattle.calculus_safety.proofs.Example.{falling, falling-trans}
 use Rattle.calculus_noninterference.specs.Observe.{highOf, highPrints}
@@ -25,7 +25,7 @@ abbrev watch : Tm → Tm
 watch b = op1 install Ty.unit (adv 1 (pcd end) b)
 
 abbrev say : ℕ → Tm
-say n = op1 print Ty.unit (val (Val.num n))
+say n = op1 print Ty.unit (val (Val.number n))
 
 -- The bodies of a low lower and of low advice give way to unit; a low function keeps its body, but for such bodies inside it.
 stripped-low : (e : Tm) → strip hi (seq (lower 1 e) (seq (watch e) (op1 print Ty.unit (lam (Ty.fun Ty.unit 1 Ty.unit) (seq (lower 1 e) (op0 abort Ty.unit)))))) ≡ seq (lower 1 (val Val.unit)) (seq (watch (val Val.unit)) (op1 print Ty.unit (lam (Ty.fun Ty.unit 1 Ty.unit) (seq (lower 1 (val Val.unit)) (op0 abort Ty.unit)))))
@@ -37,7 +37,7 @@ abbrev watched : Tm
 watched = seq (lower 1 (say 8)) (say 5)
 
 watched-accepted : Accepted falling watched
-watched-accepted = record { type = Ty.unit; typed = is-seq (is-lower refl (is-op1 t-print (is-val v-num))) (is-op1 t-print (is-val v-num)); plain = refl }
+watched-accepted = record { type = Ty.unit; typed = is-seq (is-lower refl (is-op1 t-print (is-val v-number))) (is-op1 t-print (is-val v-number)); plain = refl }
 
 watched-calm : Calm hi 0 watched
 unfolding Calm

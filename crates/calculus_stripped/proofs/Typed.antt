@@ -17,12 +17,12 @@ module _ {D : Policy} {Σ : StoreTyping} (high : Dom → Bool) where
     stripVal-typed : {v : Val} {t : Ty} → ValTy D Σ v t → ValTy D Σ (stripVal high v) t
     stripVal-typed ValTy.v-unit = ValTy.v-unit
     stripVal-typed ValTy.v-truth = ValTy.v-truth
-    stripVal-typed ValTy.v-num = ValTy.v-num
+    stripVal-typed ValTy.v-number = ValTy.v-number
     stripVal-typed (ValTy.v-pair h k) = ValTy.v-pair (stripVal-typed h) (stripVal-typed k)
     stripVal-typed (ValTy.v-fun h) = ValTy.v-fun (strip-typed h)
     stripVal-typed (ValTy.v-label g) = ValTy.v-label g
     stripVal-typed (ValTy.v-cell g) = ValTy.v-cell g
-    stripVal-typed (ValTy.v-labels h) = ValTy.v-labels h
+    stripVal-typed (ValTy.v-pointcut h) = ValTy.v-pointcut h
     stripVal-typed (ValTy.v-advice {p} h o b) = ValTy.v-advice h o (unit-typed (high p) (strip-typed b))
     stripVal-typed (ValTy.v-object h) = ValTy.v-object (strip-bodies h)
     stripVal-typed ValTy.v-bottom = ValTy.v-bottom

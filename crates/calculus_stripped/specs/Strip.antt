@@ -30,12 +30,12 @@ module _ (high : Dom → Bool) where
     pub stripVal : Val → Val
     stripVal Val.unit = Val.unit
     stripVal (Val.truth b) = Val.truth b
-    stripVal (Val.num n) = Val.num n
+    stripVal (Val.number n) = Val.number n
     stripVal (Val.pair v w) = Val.pair (stripVal v) (stripVal w)
     stripVal (Val.fun t b) = Val.fun t (strip b)
     stripVal (Val.label l) = Val.label l
     stripVal (Val.cell r) = Val.cell r
-    stripVal (Val.labels ls) = Val.labels ls
+    stripVal (Val.pointcut ls) = Val.pointcut ls
     stripVal (Val.advice p ls b) = Val.advice p ls (body high p (strip b))
     stripVal (Val.object t bs) = Val.object t (strips bs)
     stripVal Val.bottom = Val.bottom

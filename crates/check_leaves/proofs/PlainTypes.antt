@@ -40,9 +40,9 @@ some-leaf (Ty.pair a b) n h = go (leafCount a) (leafCount b) (some-leaf a) h
 some-leaf (Ty.fun a p b) n h = no-path cc
 some-leaf (Ty.ref a p) n h = no-path cc
 some-leaf (Ty.label a p) n h = no-path cc
-some-leaf (Ty.pcd a p) n h = no-path cc
-some-leaf (Ty.adv p) n h = no-path cc
-some-leaf (Ty.obj ms) n h = no-path cc
+some-leaf (Ty.pointcut a p) n h = no-path cc
+some-leaf (Ty.advice p) n h = no-path cc
+some-leaf (Ty.object ms) n h = no-path cc
 some-leaf Ty.stack n h = no-path cc
 
 few-or-0 : (x : Option ℕ) → fewOr0 x ≤ leafLimit

@@ -49,12 +49,12 @@ module _ {D : Policy} {Σ : StoreTyping} where
   unfolding leaves
   leaves-agree ValTy.v-unit = refl
   leaves-agree ValTy.v-truth = refl
-  leaves-agree ValTy.v-num = refl
+  leaves-agree ValTy.v-number = refl
   leaves-agree (ValTy.v-pair {v} {w} {a} {b} x y) = rw (length-append (leaves v) (leaves w)) (both-agree (leafCount a) (leafCount b) (length (leaves v)) (length (leaves w)) (leaves-agree x) (leaves-agree y))
   leaves-agree (ValTy.v-fun x) = tt
   leaves-agree (ValTy.v-label x) = tt
   leaves-agree (ValTy.v-cell x) = tt
-  leaves-agree (ValTy.v-labels x) = tt
+  leaves-agree (ValTy.v-pointcut x) = tt
   leaves-agree (ValTy.v-advice x y z) = tt
   leaves-agree (ValTy.v-object x) = tt
   leaves-agree ValTy.v-bottom = tt

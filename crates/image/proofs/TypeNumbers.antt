@@ -64,7 +64,7 @@ out-cong TypeKind.ref n vs g h l e = cc (e 0 refl)
 out-cong TypeKind.label n vs g h l e = cc (e 0 refl)
 out-cong TypeKind.pcd n vs g h l e = cc (e 0 refl)
 out-cong TypeKind.adv n vs g h l e = refl
-out-cong TypeKind.obj n vs g h l e = ap Ty.obj (methods-cong (times (typeRow TypeKind.obj) n) vs g h l e)
+out-cong TypeKind.obj n vs g h l e = ap Ty.object (methods-cong (times (typeRow TypeKind.obj) n) vs g h l e)
 out-cong TypeKind.stack n vs g h l e = refl
 
 -- Lists of the same few numbers.

@@ -71,7 +71,7 @@ abbrev pub assembleAs : {k : TermKind} → Form k → Ty → List ℕ → Tms �
 assembleAs (operator o n r) t vs es = op0 o t
 assembleAs Form.unit t vs es = val Val.unit
 assembleAs Form.truth t vs es = val (Val.truth (eqb (getD vs 0 0) 1))
-assembleAs Form.number t vs es = val (Val.num (getD vs 0 0 + 65536 * getD vs 1 0))
+assembleAs Form.number t vs es = val (Val.number (getD vs 0 0 + 65536 * getD vs 1 0))
 assembleAs Form.var t vs es = var (getD vs 0 0)
 assembleAs Form.seq t vs es = seq (nth es 0) (nth es 1)
 assembleAs Form.print t vs es = op1 print t (nth es 0)

@@ -77,9 +77,9 @@ headOf (Ty.pair a b) = TypeKind.pair
 headOf (Ty.fun a p b) = TypeKind.fun
 headOf (Ty.ref a p) = TypeKind.ref
 headOf (Ty.label a p) = TypeKind.label
-headOf (Ty.pcd a p) = TypeKind.pcd
-headOf (Ty.adv p) = TypeKind.adv
-headOf (Ty.obj ms) = TypeKind.obj
+headOf (Ty.pointcut a p) = TypeKind.pcd
+headOf (Ty.advice p) = TypeKind.adv
+headOf (Ty.object ms) = TypeKind.obj
 headOf Ty.stack = TypeKind.stack
 
 -- Card 3: methods, each a domain and a type.
@@ -97,9 +97,9 @@ typeOut TypeKind.pair vs g = Ty.pair (g (getD vs 0 0)) (g (getD vs 1 0))
 typeOut TypeKind.fun vs g = Ty.fun (g (getD vs 0 0)) (getD vs 1 0) (g (getD vs 2 0))
 typeOut TypeKind.ref vs g = Ty.ref (g (getD vs 0 0)) (getD vs 1 0)
 typeOut TypeKind.label vs g = Ty.label (g (getD vs 0 0)) (getD vs 1 0)
-typeOut TypeKind.pcd vs g = Ty.pcd (g (getD vs 0 0)) (getD vs 1 0)
-typeOut TypeKind.adv vs g = Ty.adv (getD vs 0 0)
-typeOut TypeKind.obj vs g = Ty.obj (methodsOut vs g)
+typeOut TypeKind.pcd vs g = Ty.pointcut (g (getD vs 0 0)) (getD vs 1 0)
+typeOut TypeKind.adv vs g = Ty.advice (getD vs 0 0)
+typeOut TypeKind.obj vs g = Ty.object (methodsOut vs g)
 typeOut TypeKind.stack vs g = Ty.stack
 
 -- A type's parts have lower numbers, so a fuel of t + 1 is enough.

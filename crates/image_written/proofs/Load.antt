@@ -7,7 +7,7 @@ use mathlib.Core.List.{List, [], _∷_, _++_, map}
 use lib.ListN.{length}
 use Rattle.calculus.specs.Syntax.{Dom, Ty}
 use Rattle.calculus.specs.Plain.{isPlain}
-use Rattle.calculus.specs.Typing.{Policy, is-val, is-op0, is-op1, is-op2, is-seq, v-num, t-abort, t-print, t-plus, t-minus}
+use Rattle.calculus.specs.Typing.{Policy, is-val, is-op0, is-op1, is-op2, is-seq, v-number, t-abort, t-print, t-plus, t-minus}
 use Rattle.image.specs.Limits.{depthLimit, workLength, reportLength}
 use Rattle.laws.specs.Tests.{anyBelow}
 use Rattle.image.specs.Kinds.{TermKind, Row, fieldsOf}
@@ -112,7 +112,7 @@ fit-literal d n =
       few-terms = omega arith;
       few-bytes = omega arith;
       shallow = tt;
-      typed = λ p. (is-val v-num, tt);
+      typed = λ p. (is-val v-number, tt);
     }
 
 -- Children that state what is asked.

@@ -35,9 +35,9 @@ recur-law f (Ty.pair a b) = refl
 recur-law f (Ty.fun a p b) = refl
 recur-law f (Ty.ref a p) = refl
 recur-law f (Ty.label a p) = refl
-recur-law f (Ty.pcd a p) = refl
-recur-law f (Ty.adv p) = refl
-recur-law f (Ty.obj ms) = ap (λ ps. f (Ty.obj ms) ps) (recurs-law f ms)
+recur-law f (Ty.pointcut a p) = refl
+recur-law f (Ty.advice p) = refl
+recur-law f (Ty.object ms) = ap (λ ps. f (Ty.object ms) ps) (recurs-law f ms)
 recur-law f Ty.stack = refl
 
 pub parts-first-law : (t : Ty) → partsFirst t ≡ joined (mapParts (λ a. partsFirst a) (partsOf t)) ++ (t ∷ [])
@@ -63,9 +63,9 @@ mutual
   by-parts P f (Ty.fun a p b) = f (Ty.fun a p b) (by-parts P f a, (by-parts P f b, tt))
   by-parts P f (Ty.ref a p) = f (Ty.ref a p) (by-parts P f a, tt)
   by-parts P f (Ty.label a p) = f (Ty.label a p) (by-parts P f a, tt)
-  by-parts P f (Ty.pcd a p) = f (Ty.pcd a p) (by-parts P f a, tt)
-  by-parts P f (Ty.adv p) = f (Ty.adv p) tt
-  by-parts P f (Ty.obj ms) = f (Ty.obj ms) (by-methods P f ms)
+  by-parts P f (Ty.pointcut a p) = f (Ty.pointcut a p) (by-parts P f a, tt)
+  by-parts P f (Ty.advice p) = f (Ty.advice p) tt
+  by-parts P f (Ty.object ms) = f (Ty.object ms) (by-methods P f ms)
   by-parts P f Ty.stack = f Ty.stack tt
 
   by-methods : (P : Ty → Type 0) → ((t : Ty) → AllSubs P (partsOf t) → P t) → (ms : Sigs) → AllSubs P (methodParts ms)
@@ -107,12 +107,12 @@ made (Ty.pair a b) vs g h = cc (told-at g vs _ h 0 (omega arith), told-at g vs _
 made (Ty.fun a p b) vs g h = cc (told-at g vs _ h 0 (omega arith), told-at g vs _ h 1 (omega arith), told-at g vs _ h 2 (omega arith))
 made (Ty.ref a p) vs g h = cc (told-at g vs _ h 0 (omega arith), told-at g vs _ h 1 (omega arith))
 made (Ty.label a p) vs g h = cc (told-at g vs _ h 0 (omega arith), told-at g vs _ h 1 (omega arith))
-made (Ty.pcd a p) vs g h = cc (told-at g vs _ h 0 (omega arith), told-at g vs _ h 1 (omega arith))
-made (Ty.adv p) vs g h = told-at-adv p vs h
+made (Ty.pointcut a p) vs g h = cc (told-at g vs _ h 0 (omega arith), told-at g vs _ h 1 (omega arith))
+made (Ty.advice p) vs g h = told-at-adv p vs h
   where
-    told-at-adv : (p : Dom) (vs : List ℕ) → Told g vs (partsOf (Ty.adv p)) → Ty.adv (getD vs 0 0) ≡ Ty.adv p
-    told-at-adv p vs h = ap Ty.adv (told-at g vs (at p ∷ []) h 0 (omega arith))
-made (Ty.obj ms) vs g h = ap Ty.obj (methods-made ms vs g h)
+    told-at-adv : (p : Dom) (vs : List ℕ) → Told g vs (partsOf (Ty.advice p)) → Ty.advice (getD vs 0 0) ≡ Ty.advice p
+    told-at-adv p vs h = ap Ty.advice (told-at g vs (at p ∷ []) h 0 (omega arith))
+made (Ty.object ms) vs g h = ap Ty.object (methods-made ms vs g h)
 made Ty.stack vs g h = refl
 
 -- The fields that parts stand for, and a type's record: its group stands once for each method.
@@ -136,9 +136,9 @@ groupsOf (Ty.pair a b) = 0
 groupsOf (Ty.fun a p b) = 0
 groupsOf (Ty.ref a p) = 0
 groupsOf (Ty.label a p) = 0
-groupsOf (Ty.pcd a p) = 0
-groupsOf (Ty.adv p) = 0
-groupsOf (Ty.obj ms) = methods ms
+groupsOf (Ty.pointcut a p) = 0
+groupsOf (Ty.advice p) = 0
+groupsOf (Ty.object ms) = methods ms
 groupsOf Ty.stack = 0
 
 method-fields : (ms : Sigs) → again (methods ms) (a-domain ∷ a-type ∷ []) ++ [] ≡ partFields (methodParts ms)
@@ -153,9 +153,9 @@ row-parts (Ty.pair a b) = refl
 row-parts (Ty.fun a p b) = refl
 row-parts (Ty.ref a p) = refl
 row-parts (Ty.label a p) = refl
-row-parts (Ty.pcd a p) = refl
-row-parts (Ty.adv p) = refl
-row-parts (Ty.obj ms) = method-fields ms
+row-parts (Ty.pointcut a p) = refl
+row-parts (Ty.advice p) = refl
+row-parts (Ty.object ms) = method-fields ms
 row-parts Ty.stack = refl
 
 pub no-groups : (t : Ty) → length (typeRow (headOf t) .group) ≡ 0 → groupsOf t ≡ 0
@@ -166,9 +166,9 @@ no-groups (Ty.pair a b) h = refl
 no-groups (Ty.fun a p b) h = refl
 no-groups (Ty.ref a p) h = refl
 no-groups (Ty.label a p) h = refl
-no-groups (Ty.pcd a p) h = refl
-no-groups (Ty.adv p) h = refl
-no-groups (Ty.obj ms) h = absurd (omega arith)
+no-groups (Ty.pointcut a p) h = refl
+no-groups (Ty.advice p) h = refl
+no-groups (Ty.object ms) h = absurd (omega arith)
 no-groups Ty.stack h = refl
 
 -- Types of one kind with the same parts are the same: each is what its kind makes of its parts, told by their places.

@@ -25,9 +25,9 @@ partsOf (Ty.pair a b) = sub a ∷ sub b ∷ []
 partsOf (Ty.fun a p b) = sub a ∷ at p ∷ sub b ∷ []
 partsOf (Ty.ref a p) = sub a ∷ at p ∷ []
 partsOf (Ty.label a p) = sub a ∷ at p ∷ []
-partsOf (Ty.pcd a p) = sub a ∷ at p ∷ []
-partsOf (Ty.adv p) = at p ∷ []
-partsOf (Ty.obj ms) = methodParts ms
+partsOf (Ty.pointcut a p) = sub a ∷ at p ∷ []
+partsOf (Ty.advice p) = at p ∷ []
+partsOf (Ty.object ms) = methodParts ms
 partsOf Ty.stack = []
 
 -- What f makes of a type and of what it makes of its parts.
@@ -40,9 +40,9 @@ unfoldable mutual
   recur f (Ty.fun a p b) = f (Ty.fun a p b) (sub (recur f a) ∷ at p ∷ sub (recur f b) ∷ [])
   recur f (Ty.ref a p) = f (Ty.ref a p) (sub (recur f a) ∷ at p ∷ [])
   recur f (Ty.label a p) = f (Ty.label a p) (sub (recur f a) ∷ at p ∷ [])
-  recur f (Ty.pcd a p) = f (Ty.pcd a p) (sub (recur f a) ∷ at p ∷ [])
-  recur f (Ty.adv p) = f (Ty.adv p) (at p ∷ [])
-  recur f (Ty.obj ms) = f (Ty.obj ms) (recurs f ms)
+  recur f (Ty.pointcut a p) = f (Ty.pointcut a p) (sub (recur f a) ∷ at p ∷ [])
+  recur f (Ty.advice p) = f (Ty.advice p) (at p ∷ [])
+  recur f (Ty.object ms) = f (Ty.object ms) (recurs f ms)
   recur f Ty.stack = f Ty.stack []
 
   pub recurs : {A : Type 0} → (Ty → List (Part A) → A) → Sigs → List (Part A)

@@ -133,7 +133,7 @@ module _ (D : Policy) where
   parts p Form.adv t vs ts es no-pin l d = λ j m. absurd (omega arith)
   parts p Form.adv t vs ts es (a-pin f k) l d =
       let r = premises d in
-      both-of _ l (Ty.pcd (r .0) (r .1), r .3)
+      both-of _ l (Ty.pointcut (r .0) (r .1), r .3)
       (Ty.unit, subst (λ x. TmTy D noStore (firstOf x ∷ p .context) (domOf t) (nth es 1) Ty.unit) (sym (f _ _ _ (r .3))) (r .5))
   parts p Form.install t vs ts es f l d = let r = premises d in first-of _ l (r .0, r .3)
   parts p Form.newCell t vs ts es f l d = let r = premises d in first-of _ l (r .0, r .3)

@@ -6,7 +6,7 @@ use mathlib.Core.List.{List, [], _∷_}
 use mathlib.Core.Option.{some}
 use lib.ListN.{getElem?}
 use Rattle.calculus.specs.Syntax.{Dom, Ty, Sigs, Val, Tm, Tms, Op0, Op1, Op2, val, var, lam, op0, op1, op2, seq, ite, split, pcd, adv, lower, obj, keep, match, Pattern, newLabel, abort, takedown, theStack, print, install, read, byte, newCell, call, app, mark, store, plus, minus, less, equal}
-use Rattle.calculus.specs.Typing.{Policy, noStore, PatternTy, t-newLabel, t-abort, t-takedown, t-stack, t-print, t-install, t-read, t-byte, t-newCell, t-call, t-pair, t-app, t-mark, t-store, t-plus, t-minus, t-less, t-equal, LabelTys, ⊢_⦂_ as ValTy, _⨾_⊢_⦂_ as TmTy, _⨾_⊢*_⦂_ as TmsTy, _⊢ᵐ_⦂_ as BodiesTy, _⊢_⦂_ as Rule0, _⊢_⦂_⇒_ as Rule1, _⊢_⦂_⇒_⇒_ as Rule2, v-unit, v-truth, v-num, is-end, is-more}
+use Rattle.calculus.specs.Typing.{Policy, noStore, PatternTy, t-newLabel, t-abort, t-takedown, t-stack, t-print, t-install, t-read, t-byte, t-newCell, t-call, t-pair, t-app, t-mark, t-store, t-plus, t-minus, t-less, t-equal, LabelTys, ⊢_⦂_ as ValTy, _⨾_⊢_⦂_ as TmTy, _⨾_⊢*_⦂_ as TmsTy, _⊢ᵐ_⦂_ as BodiesTy, _⊢_⦂_ as Rule0, _⊢_⦂_⇒_ as Rule1, _⊢_⦂_⇒_⇒_ as Rule2, v-unit, v-truth, v-number, is-end, is-more}
 use Rattle.calculus.specs.Typing as Typing
 use Rattle.calculus_inversion.proofs.Inversion.{premises}
 use Rattle.image.specs.Program.{opOf}
@@ -29,11 +29,11 @@ module _ (D : Policy) (c : Dom) where
 
   abbrev Asks1 : Op1 → Ty → Ty → Type 0
   Asks1 print t a = (t ≡ Ty.unit) × (a ≡ Ty.number)
-  Asks1 install t a = (p : Dom) × (t ≡ Ty.unit) × (a ≡ Ty.adv p) × (D .leq p c ≡ true)
+  Asks1 install t a = (p : Dom) × (t ≡ Ty.unit) × (a ≡ Ty.advice p) × (D .leq p c ≡ true)
   Asks1 read t a = (p : Dom) × (a ≡ Ty.ref t p) × (D .leq c p ≡ true)
   Asks1 byte t a = (t ≡ Ty.number) × (a ≡ Ty.number)
   Asks1 newCell t a = (p : Dom) × (t ≡ Ty.ref a p) × (D .leq p c ≡ true)
-  Asks1 (call m) t a = (ms : Sigs) × (a ≡ Ty.obj ms) × Typing.Has c t ms m
+  Asks1 (call m) t a = (ms : Sigs) × (a ≡ Ty.object ms) × Typing.Has c t ms m
 
   abbrev Asks2 : Op2 → Ty → Ty → Ty → Type 0
   Asks2 Op2.pair t a b = t ≡ Ty.pair a b
@@ -87,8 +87,8 @@ module _ (D : Policy) (Γ : List Ty) (c : Dom) where
   value-truth : {b : Bool} {u : Ty} → ValTy D noStore (Val.truth b) u → u ≡ Ty.truth
   value-truth v-truth = refl
 
-  value-number : {n : ℕ} {u : Ty} → ValTy D noStore (Val.num n) u → u ≡ Ty.number
-  value-number v-num = refl
+  value-number : {n : ℕ} {u : Ty} → ValTy D noStore (Val.number n) u → u ≡ Ty.number
+  value-number v-number = refl
 
   pub of-unit : {u : Ty} → Has (val Val.unit) u → u ≡ Ty.unit
   of-unit d = value-unit (premises d)
@@ -96,7 +96,7 @@ module _ (D : Policy) (Γ : List Ty) (c : Dom) where
   pub of-truth : {b : Bool} {u : Ty} → Has (val (Val.truth b)) u → u ≡ Ty.truth
   of-truth d = value-truth (premises d)
 
-  pub of-number : {n : ℕ} {u : Ty} → Has (val (Val.num n)) u → u ≡ Ty.number
+  pub of-number : {n : ℕ} {u : Ty} → Has (val (Val.number n)) u → u ≡ Ty.number
   of-number d = value-number (premises d)
 
   pub of-var : {k : ℕ} {u : Ty} → Has (var k) u → getElem? Γ k ≡ some u
@@ -142,13 +142,13 @@ module _ (D : Policy) (Γ : List Ty) (c : Dom) where
   abort-types [] us is-end = refl
   abort-types (t ∷ ts) us (is-more {ts = vs} d ds) = rw (of-abort d, abort-types ts vs ds) refl
 
-  pub of-pcd : (ts : List Ty) {u : Ty} → Has (pcd (aborts ts)) u → (a : Ty) × (p : Dom) × (u ≡ Ty.pcd a p) × LabelTys D a p ts
+  pub of-pcd : (ts : List Ty) {u : Ty} → Has (pcd (aborts ts)) u → (a : Ty) × (p : Dom) × (u ≡ Ty.pointcut a p) × LabelTys D a p ts
   of-pcd ts d = let r = premises d in (r .1, r .2, r .3, subst (λ vs. LabelTys D (r .1) (r .2) vs) (abort-types ts (r .0) (r .4)) (r .5))
 
-  pub of-adv : {p : Dom} {a b u : Ty} → Has (adv p (op0 abort a) (op0 abort b)) u → (x : Ty) × (q : Dom) × (u ≡ Ty.adv p) × (a ≡ Ty.pcd x q) × (b ≡ Ty.unit) × (D .leq p q ≡ true)
+  pub of-adv : {p : Dom} {a b u : Ty} → Has (adv p (op0 abort a) (op0 abort b)) u → (x : Ty) × (q : Dom) × (u ≡ Ty.advice p) × (a ≡ Ty.pointcut x q) × (b ≡ Ty.unit) × (D .leq p q ≡ true)
   of-adv d = let r = premises d in (r .0, r .1, r .2, of-abort (r .3), of-abort (r .5), r .4)
 
-  pub of-install : {t a u : Ty} → Has (op1 install t (op0 abort a)) u → (p : Dom) × (t ≡ Ty.unit) × (a ≡ Ty.adv p) × (D .leq p c ≡ true)
+  pub of-install : {t a u : Ty} → Has (op1 install t (op0 abort a)) u → (p : Dom) × (t ≡ Ty.unit) × (a ≡ Ty.advice p) × (D .leq p c ≡ true)
   of-install d = let r = premises d in let s = asked1 (r .2) in (s .0, s .1, of-abort (r .3) ∙ s .2, s .3)
 
   pub of-newCell : {t a u : Ty} → Has (op1 newCell t (op0 abort a)) u → (p : Dom) × (t ≡ Ty.ref a p) × (D .leq p c ≡ true)
@@ -167,10 +167,10 @@ module _ (D : Policy) (Γ : List Ty) (c : Dom) where
   of-byte d = let r = premises d in let s = asked1 (r .2) in (s .0, of-abort (r .3) ∙ s .1)
 
   -- Card 3.
-  pub of-obj : {t u : Ty} {bs : Tms} → Has (obj t bs) u → (ms : Sigs) × (t ≡ Ty.obj ms) × BodiesTy D noStore (Ty.obj ms ∷ Γ) bs ms
+  pub of-obj : {t u : Ty} {bs : Tms} → Has (obj t bs) u → (ms : Sigs) × (t ≡ Ty.object ms) × BodiesTy D noStore (Ty.object ms ∷ Γ) bs ms
   of-obj d = let r = premises d in (r .0, r .2, r .3)
 
-  pub of-call : {m : ℕ} {t a u : Ty} → Has (op1 (call m) t (op0 abort a)) u → (ms : Sigs) × (a ≡ Ty.obj ms) × Typing.Has c t ms m
+  pub of-call : {m : ℕ} {t a u : Ty} → Has (op1 (call m) t (op0 abort a)) u → (ms : Sigs) × (a ≡ Ty.object ms) × Typing.Has c t ms m
   of-call d = let r = premises d in let s = asked1 (r .2) in (s .0, of-abort (r .3) ∙ s .1, s .2)
 
   -- Card 6.

@@ -8,7 +8,7 @@ use mathlib.Core.Option.{some}
 use lib.ListN.{length, getD, getElem?, length-map}
 use lib.Dec.{eqb}
 use Rattle.calculus.specs.Syntax.{Dom, Ty, op0, abort}
-use Rattle.calculus.specs.Typing.{noStore, t-newLabel, t-abort, t-takedown, t-stack, t-print, t-install, t-read, t-byte, t-newCell, t-call, t-pair, t-app, t-mark, t-store, t-plus, t-minus, t-less, t-equal, LabelTys, no-types, a-type, _⨾_⊢_⦂_ as TmTy, _⨾_⊢*_⦂_ as TmsTy, _⊢_⦂_⇒_⇒_ as Rule2, v-unit, v-truth, v-num, is-val, is-var, is-lam, is-op0, is-op1, is-op2, is-seq, is-ite, is-split, is-pcd, is-adv, is-lower, is-obj, is-keep, is-match, is-end, is-more}
+use Rattle.calculus.specs.Typing.{noStore, t-newLabel, t-abort, t-takedown, t-stack, t-print, t-install, t-read, t-byte, t-newCell, t-call, t-pair, t-app, t-mark, t-store, t-plus, t-minus, t-less, t-equal, LabelTys, no-types, a-type, _⨾_⊢_⦂_ as TmTy, _⨾_⊢*_⦂_ as TmsTy, _⊢_⦂_⇒_⇒_ as Rule2, v-unit, v-truth, v-number, is-val, is-var, is-lam, is-op0, is-op1, is-op2, is-seq, is-ite, is-split, is-pcd, is-adv, is-lower, is-obj, is-keep, is-match, is-end, is-more}
 use Rattle.laws.specs.Tests.{all}
 use Rattle.image.specs.Kinds.{TypeKind, TermKind, termRow}
 use Rattle.image.specs.Records.{Layout}
@@ -104,7 +104,7 @@ module _ (L : Layout) (good : Good L) where
       rw (out-as L good TypeKind.truth t o (each _ h14 .0)) (is-val v-truth)
   local-sound TermKind.number Γ c t vs ts l m w =
       λ o ks h13 h14 h15.
-      rw (out-as L good TypeKind.number t o (each _ h14 .0)) (is-val v-num)
+      rw (out-as L good TypeKind.number t o (each _ h14 .0)) (is-val v-number)
   local-sound TermKind.var Γ c t vs ts l m w =
       λ o ks h13 h14 h15.
       let q : getD Γ (getD vs 0 0) 0 ≡ t = eq-of h14 in

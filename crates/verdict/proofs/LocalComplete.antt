@@ -70,15 +70,15 @@ module _ (L : Layout) (good : Good L) where
   unfolding typeOut
   in-label t n h = let e = out-as L good TypeKind.label t n (in-kind t n h) in (cc, cc)
 
-  in-pcd : {a : Ty} {p : Dom} (t : ℕ) → t < length (L .types) → typeOf L t ≡ Ty.pcd a p → (typeOf L (typeField L t 0) ≡ a) × (typeField L t 1 ≡ p)
+  in-pcd : {a : Ty} {p : Dom} (t : ℕ) → t < length (L .types) → typeOf L t ≡ Ty.pointcut a p → (typeOf L (typeField L t 0) ≡ a) × (typeField L t 1 ≡ p)
   unfolding typeOut
   in-pcd t n h = let e = out-as L good TypeKind.pcd t n (in-kind t n h) in (cc, cc)
 
-  in-adv : {p : Dom} (t : ℕ) → t < length (L .types) → typeOf L t ≡ Ty.adv p → (typeField L t 0 ≡ p)
+  in-adv : {p : Dom} (t : ℕ) → t < length (L .types) → typeOf L t ≡ Ty.advice p → (typeField L t 0 ≡ p)
   unfolding typeOut
   in-adv t n h = let e = out-as L good TypeKind.adv t n (in-kind t n h) in cc
 
-  in-obj : {ms : Sigs} (t : ℕ) → t < length (L .types) → typeOf L t ≡ Ty.obj ms → methodsOut (typeFields L t) (λ a. typeOf L a) ≡ ms
+  in-obj : {ms : Sigs} (t : ℕ) → t < length (L .types) → typeOf L t ≡ Ty.object ms → methodsOut (typeFields L t) (λ a. typeOf L a) ≡ ms
   unfolding typeOut
   in-obj t n h = let e = out-as L good TypeKind.obj t n (in-kind t n h) in cc
 
@@ -253,7 +253,7 @@ module _ (L : Layout) (good : Good L) where
       λ o ks g d.
       let e = of-obj (policy L) (outs L Γ) c d in
       let h = in-kind t o (e .1) in
-      let b = bodies-types (λ a. typeOf L a) (policy L) (methodCount L t) (typeFields L t) ts (method-fields L good t o h) (subst (λ ms. BodiesTy (policy L) noStore (Ty.obj (e .0) ∷ outs L Γ) (aborts (outs L ts)) ms) (sym (in-obj t o (e .1))) (e .2)) in
+      let b = bodies-types (λ a. typeOf L a) (policy L) (methodCount L t) (typeFields L t) ts (method-fields L good t o h) (subst (λ ms. BodiesTy (policy L) noStore (Ty.object (e .0) ∷ outs L Γ) (aborts (outs L ts)) ms) (sym (in-obj t o (e .1))) (e .2)) in
       let n = b .0 in
       let f : (i : ℕ) → i < length ts → typeField L t (2 * (0 + i) + 1) ≡ getD ts i 0 =
       λ i q. let z : 0 + i ≡ i = omega arith in rw z (types-apart L good _ _ (method-type L good t o h i (omega arith)) (below-at (length (L .types)) ts i ks q) (b .1 i (omega arith))) in

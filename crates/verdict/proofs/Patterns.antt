@@ -38,7 +38,7 @@ pattern-count (p-cut o) = ap suc (pattern-count o)
 pub any-part : {p : Pattern} {ts us : List Ty} → PatternTy (anything p) ts us → PatternTy p ts us
 any-part (p-any o) = o
 
-pub cut-parts : {p : Pattern} {t : Ty} {ts us : List Ty} → PatternTy (pointcut p) (t ∷ ts) us → (a : Ty) × (q : Dom) × (ws : List Ty) × (t ≡ Ty.pcd a q) × PatternTy p ts ws
+pub cut-parts : {p : Pattern} {t : Ty} {ts us : List Ty} → PatternTy (pointcut p) (t ∷ ts) us → (a : Ty) × (q : Dom) × (ws : List Ty) × (t ≡ Ty.pointcut a q) × PatternTy p ts ws
 cut-parts (p-cut {us = ws} {a} {q} o) = (a, q, ws, refl, o)
 
 module _ (L : Layout) (good : Good L) where

@@ -48,7 +48,7 @@ module _ (D : Policy) where
   no-split d = let r = premises d in let z : Ty.pair (r .0) (r .1) ≡ Ty.unit = unit-type (r .2) in no-path cc
 
   no-advice : {Γ : List Ty} {c p : Dom} {t : Ty} {e : Tm} {A : Type 0} → TmTy D noStore Γ c (adv p (val Val.unit) e) t → A
-  no-advice d = let r = premises d in let z : Ty.pcd (r .0) (r .1) ≡ Ty.unit = unit-type (r .3) in no-path cc
+  no-advice d = let r = premises d in let z : Ty.pointcut (r .0) (r .1) ≡ Ty.unit = unit-type (r .3) in no-path cc
 
   -- Card 6: the types behind the first three.
   behind-pinned : (n : ℕ) {ts : List Ty} {es : Tms} → Pinned ts es → Pinned (drop n ts) (behind n es)
@@ -126,8 +126,8 @@ module _ (D : Policy) where
   rebuilt p Form.byte t vs ts as′ es k h d = unary p (λ s e. h .one 0 e) d
   rebuilt p Form.obj t vs ts as′ es k h d =
       let r = premises d in
-      let each : (j : ℕ) → childSetting p TermKind.obj t vs ts j ≡ record { context = Ty.obj (r .0) ∷ p .context; dom = methodDom (r .0) j } = λ j. ap (λ x. childSetting p TermKind.obj x vs ts j) (r .2) in
-      concluded (obj t es) (r .0, r .1, r .2, h .bodies (r .0) (Ty.obj (r .0) ∷ p .context) each (r .3))
+      let each : (j : ℕ) → childSetting p TermKind.obj t vs ts j ≡ record { context = Ty.object (r .0) ∷ p .context; dom = methodDom (r .0) j } = λ j. ap (λ x. childSetting p TermKind.obj x vs ts j) (r .2) in
+      concluded (obj t es) (r .0, r .1, r .2, h .bodies (r .0) (Ty.object (r .0) ∷ p .context) each (r .3))
   rebuilt p Form.call t vs ts as′ es k h d = unary p (λ s e. h .one 0 e) d
   rebuilt p Form.keep t vs ts as′ es k h d = let r = premises d in is-keep (h .one 0 (r .1)) (h .one 1 (r .2)) (h .one 2 (r .3))
   rebuilt p Form.match t vs ts as′ es no-pin h d = no-match d

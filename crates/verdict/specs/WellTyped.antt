@@ -16,9 +16,9 @@ firstOf (Ty.pair a b) = a
 firstOf (Ty.fun a p b) = a
 firstOf (Ty.ref a p) = a
 firstOf (Ty.label a p) = a
-firstOf (Ty.pcd a p) = a
-firstOf (Ty.adv p) = Ty.unit
-firstOf (Ty.obj ms) = Ty.unit
+firstOf (Ty.pointcut a p) = a
+firstOf (Ty.advice p) = Ty.unit
+firstOf (Ty.object ms) = Ty.unit
 firstOf Ty.stack = Ty.unit
 
 abbrev pub secondOf : Ty → Ty
@@ -29,9 +29,9 @@ secondOf (Ty.pair a b) = b
 secondOf (Ty.fun a p b) = Ty.unit
 secondOf (Ty.ref a p) = Ty.unit
 secondOf (Ty.label a p) = Ty.unit
-secondOf (Ty.pcd a p) = Ty.unit
-secondOf (Ty.adv p) = Ty.unit
-secondOf (Ty.obj ms) = Ty.unit
+secondOf (Ty.pointcut a p) = Ty.unit
+secondOf (Ty.advice p) = Ty.unit
+secondOf (Ty.object ms) = Ty.unit
 secondOf Ty.stack = Ty.unit
 
 -- The types that programs state.

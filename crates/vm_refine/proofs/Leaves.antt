@@ -23,12 +23,12 @@ use Rattle.vm_refine.proofs.Ends.{Stands}
 unfoldable pub pairDepth : Val → ℕ
 pairDepth Val.unit = 0
 pairDepth (Val.truth b) = 0
-pairDepth (Val.num n) = 0
+pairDepth (Val.number n) = 0
 pairDepth (Val.pair v w) = suc (max (pairDepth v) (pairDepth w))
 pairDepth (Val.fun t e) = 0
 pairDepth (Val.label l) = 0
 pairDepth (Val.cell r) = 0
-pairDepth (Val.labels ls) = 0
+pairDepth (Val.pointcut ls) = 0
 pairDepth (Val.advice p ls e) = 0
 pairDepth (Val.object t bs) = 0
 pairDepth Val.bottom = 0
@@ -69,7 +69,7 @@ leaves-count : {D : Policy} {Σ : StoreTyping} {v : Val} {t : Ty} → ValTy D Σ
 unfolding leaves pairDepth
 leaves-count ValTy.v-unit n p = let q : 1 ≡ n = cc in (q, omega arith)
 leaves-count ValTy.v-truth n p = let q : 1 ≡ n = cc in (q, omega arith)
-leaves-count ValTy.v-num n p = let q : 1 ≡ n = cc in (q, omega arith)
+leaves-count ValTy.v-number n p = let q : 1 ≡ n = cc in (q, omega arith)
 leaves-count (ValTy.v-pair {v = v} {w = w} {a = a} {b = b} h k) n p = both (leafCount a) (leafCount b) refl refl (leaves-count h) (leaves-count k) p
   where
     both : (x y : Option ℕ) → leafCount a ≡ x → leafCount b ≡ y → ((m : ℕ) → leafCount a ≡ some m → (length (leaves v) ≡ m) × (pairDepth v < m))
@@ -85,7 +85,7 @@ leaves-count (ValTy.v-pair {v = v} {w = w} {a = a} {b = b} h k) n p = both (leaf
 leaves-count (ValTy.v-fun h) n p = absurd (Option·none-ne-some n p)
 leaves-count (ValTy.v-label h) n p = absurd (Option·none-ne-some n p)
 leaves-count (ValTy.v-cell h) n p = absurd (Option·none-ne-some n p)
-leaves-count (ValTy.v-labels h) n p = absurd (Option·none-ne-some n p)
+leaves-count (ValTy.v-pointcut h) n p = absurd (Option·none-ne-some n p)
 leaves-count (ValTy.v-advice h g k) n p = absurd (Option·none-ne-some n p)
 leaves-count (ValTy.v-object h) n p = absurd (Option·none-ne-some n p)
 leaves-count ValTy.v-bottom n p = absurd (Option·none-ne-some n p)

@@ -65,16 +65,16 @@ module _ (T : Table) (root : ℕ) (L : Linked T 0 root) (M : Memory) (z : Sizes)
   rest-after (past-pointcut {n = n} {k = k} u l) v i = subst (λ (x : ℕ). Is x (restC k)) (sym (after-last n v)) (rest-is (rest-after l v i))
 
   -- Whether its label is among those of a pointcut.
-  pub cut-hits : {v : ℕ} {k : CVal} (x : ℕ) (ls : List ℕ) → Is v k → HasLabels (pieceSecond M (pieceOf x)) ls → (isKept v && hasBit (pieceSecond M (pieceOf x)) (entryLabel (topEntry M v))) ≡ (hasTop k && hitsTop k (CVal.labels ls))
+  pub cut-hits : {v : ℕ} {k : CVal} (x : ℕ) (ls : List ℕ) → Is v k → HasLabels (pieceSecond M (pieceOf x)) ls → (isKept v && hasBit (pieceSecond M (pieceOf x)) (entryLabel (topEntry M v))) ≡ (hasTop k && hitsTop k (CVal.pointcut ls))
   unfolding plainVal
   cut-hits {v} x ls i h = by (as-kept T root L M z i)
     where
       hit : ℕ → Bool
       hit l = hasBit (pieceSecond M (pieceOf x)) l
 
-      by : {k : CVal} → AsKept T root L M z v k → (isKept v && hasBit (pieceSecond M (pieceOf x)) (entryLabel (topEntry M v))) ≡ (hasTop k && hitsTop k (CVal.labels ls))
+      by : {k : CVal} → AsKept T root L M z v k → (isKept v && hasBit (pieceSecond M (pieceOf x)) (entryLabel (topEntry M v))) ≡ (hasTop k && hitsTop k (CVal.pointcut ls))
       by (a-kept t lt l iu is) = rw t (h .has (entryLabel (topEntry M v)) (omega arith) ∙ ap (λ (y : ℕ). member y ls) l)
-      by (no-kept t n) = ap (λ (b : Bool). b && hasBit (pieceSecond M (pieceOf x)) (entryLabel (topEntry M v))) t ∙ sym (ap (λ (o : Option (Entry CVal × CVal)). topHas o && topHits o (CVal.labels ls)) n)
+      by (no-kept t n) = ap (λ (b : Bool). b && hasBit (pieceSecond M (pieceOf x)) (entryLabel (topEntry M v))) t ∙ sym (ap (λ (o : Option (Entry CVal × CVal)). topHas o && topHits o (CVal.pointcut ls)) n)
 
 module _ (T : Table) (root : ℕ) (L : Linked T 0 root) (G : Given) (e₀ : Tm) (Ω : Sound G e₀) (C : Program) (says : SaysCode T (C .image) (C .code))
     (M : Memory) (z : Sizes) (env : ℕ) (ρ : Env) (ie : IsEnv T root L M z env ρ) (fits : env < 2048) (k : ℕ) (s : CState) (K : Stack)
@@ -140,10 +140,10 @@ module _ (T : Table) (root : ℕ) (L : Linked T 0 root) (G : Given) (e₀ : Tm) 
         where
           view : {v : CVal} → AsPointcut T root L M z word v → Reach G e₀ Ω k s (ret v) (opNF operator (u ∷ vs) (termsOf T ys) ρ ∷ K) → Stops (lookOn C M env w n (machine.pastCut M word (at i r b)))
           view (a-pointcut {ls = ls} tag lt has) reach′ =
-              let count : length (us ++ (CVal.labels ls ∷ [])) ≡ suc (length us) = length-append us (CVal.labels ls ∷ []) ∙ omega arith in
+              let count : length (us ++ (CVal.pointcut ls ∷ [])) ≡ suc (length us) = length-append us (CVal.pointcut ls ∷ []) ∙ omega arith in
               subst (λ (x : Bool). Stops (lookOn C M env w n (at (suc i) (restOf M r) (b && x)))) (sym (cut-hits T root L M z word ls ir has))
-              (ih (us ++ (CVal.labels ls ∷ [])) (restC kk) (b && (hasTop kk && hitsTop kk (CVal.labels ls))) (CVal.labels ls) (u ∷ vs) (restOf M r)
-              (ap (λ (x : ℕ). drop x cuts) count ∙ place .1) (past-pointcut (CVal.labels ls) l) (one-operand-more (CVal.labels ls) k₀ (u ∷ vs) us t) (rest-is T root L M z ir) reach′)
+              (ih (us ++ (CVal.pointcut ls ∷ [])) (restC kk) (b && (hasTop kk && hitsTop kk (CVal.pointcut ls))) (CVal.pointcut ls) (u ∷ vs) (restOf M r)
+              (ap (λ (x : ℕ). drop x cuts) count ∙ place .1) (past-pointcut (CVal.pointcut ls) l) (one-operand-more (CVal.pointcut ls) k₀ (u ∷ vs) us t) (rest-is T root L M z ir) reach′)
           view (no-pointcut {v = v} nope) reach′ = absurd (reach-cut G e₀ Ω k s v u vs p (T .term f) (T .term g) (termsOf T ys) ρ K reach′ nope)
 
       try : (a : Bool) → isAtomAt T y ≡ a → Later → Stops (choose a (lookOn C M env w n (machine.pastCut M word (at i r b))) (at i r b))

@@ -146,7 +146,7 @@ module _ (T : Table) (root : ℕ) (L : Linked T 0 root) (G : Given) (e₀ : Tm) 
   pub pointcut-now : (ρ : Env) (ds : List ℕ) (n : ℕ) → Labels ds → length ds ≡ n → At (reduceNC G (placeOf P A) s pcdN ρ (map CVal.label ds)) → Then (newPiece w 7 0 (labelSet n (digitsOf ds) 0) S)
   unfolding with
   pointcut-now ρ ds n ls few R =
-      new-piece 7 0 (labelSet n (digitsOf ds) 0) (CVal.labels (onto ds [])) (rw (collected ds []) at R)
+      new-piece 7 0 (labelSet n (digitsOf ds) 0) (CVal.pointcut (onto ds [])) (rw (collected ds []) at R)
       (λ room g first second.
       let word : pieceOf (value 7 np) ≡ np = piece-word 7 np (omega arith) room in
       let M′ : Memory = tables 0 (labelSet n (digitsOf ds) 0) in

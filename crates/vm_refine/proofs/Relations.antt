@@ -74,12 +74,12 @@ module _ (T : Table) (root : ℕ) (L : Linked T 0 root) where
       pub data IsVal : ℕ → CVal → Type 0 where
         is-unit : {w : ℕ} → tagOf w ≡ 0 → IsVal w CVal.unit
         is-truth : {w : ℕ} {b : Bool} → tagOf w ≡ 1 → bodyOf w ≡ choose b 1 0 → IsVal w (CVal.truth b)
-        is-num : {w n : ℕ} → tagOf w ≡ 2 → bodyOf w ≡ n → IsVal w (CVal.num n)
+        is-num : {w n : ℕ} → tagOf w ≡ 2 → bodyOf w ≡ n → IsVal w (CVal.number n)
         is-fun : {w : ℕ} {y : Ty} {e : Tm} {ρ : Env} → tagOf w ≡ 3 → IsBody (bodyOf w % 2048) e (domOf y) → IsEnv (closureEnv w) ρ → IsVal w (CVal.fun y e ρ)
         is-pair : {w : ℕ} {v u : CVal} → tagOf w ≡ 4 → bodyOf w % 512 < z .np → IsVal (pieceFirst M (bodyOf w % 512)) v → IsVal (pieceSecond M (bodyOf w % 512)) u → IsVal w (CVal.pair v u)
         is-cell : {w r : ℕ} → tagOf w ≡ 5 → bodyOf w % 256 ≡ r → IsVal w (CVal.cell r)
         is-label : {w l : ℕ} → tagOf w ≡ 6 → bodyOf w % 64 ≡ l → IsVal w (CVal.label l)
-        is-labels : {w : ℕ} {ls : List ℕ} → tagOf w ≡ 7 → bodyOf w % 512 < z .np → HasLabels (pieceSecond M (bodyOf w % 512)) ls → IsVal w (CVal.labels ls)
+        is-labels : {w : ℕ} {ls : List ℕ} → tagOf w ≡ 7 → bodyOf w % 512 < z .np → HasLabels (pieceSecond M (bodyOf w % 512)) ls → IsVal w (CVal.pointcut ls)
         is-advice : {w : ℕ} {d : Dom} {e : Tm} {ls : List ℕ} {ρ : Env} → tagOf w ≡ 8 → IsAdvice (bodyOf w % 512) d ls e ρ → IsVal w (CVal.advice d ls e ρ)
         is-object : {w : ℕ} {y : Ty} {es : Tms} {ρ : Env} → tagOf w ≡ 9 → IsObject (bodyOf w % 1024) y es → IsEnv (closureEnv w) ρ → IsVal w (CVal.object y es ρ)
         -- a stack (card 6): of nothing, or an entry over the rest

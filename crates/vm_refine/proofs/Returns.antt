@@ -336,13 +336,13 @@ module _ (T : Table) (root : ℕ) (L : Linked T 0 root) (G : Given) (e₀ : Tm) 
                   view [] u back′ reach′ = absurd (nil≢cons back′)
                   view (u′ ∷ vs′) (a-pointcut {ls = ls} tag small has) back′ reach′ =
                       let rest = rest-after T root L M z l (heldStack f) iv in
-                      let more = past-pointcut (CVal.labels ls) l in
+                      let more = past-pointcut (CVal.pointcut ls) l in
                       let s₁ = looked-says C w h more in
-                      let count : length (us ++ (CVal.labels ls ∷ [])) ≡ suc (length us) = length-append us (CVal.labels ls ∷ []) ∙ omega arith in
-                      let left : es ≡ termsOf T (drop (length (us ++ (CVal.labels ls ∷ []))) cuts) = es₀ ∙ ap (λ (i : ℕ). termsOf T (drop i cuts)) (sym count) in
+                      let count : length (us ++ (CVal.pointcut ls ∷ [])) ≡ suc (length us) = length-append us (CVal.pointcut ls ∷ []) ∙ omega arith in
+                      let left : es ≡ termsOf T (drop (length (us ++ (CVal.pointcut ls ∷ []))) cuts) = es₀ ∙ ap (λ (i : ℕ). termsOf T (drop i cuts)) (sym count) in
                       subst (λ (g : Bool). Then (entriesFrom C m (heldStack f) (record { next = suc n; rest = restOf M (restAfter M n (heldStack f)); fits = y && g }) S′)) (sym (cut-hits T root L M z (r .hand) ls rest has))
-                      (entries-now T root L G e₀ Ω N B C says S′ k s m P A D p refl t i j x cuts nd few d e h (measure S) (omega (arith, low, deep, now .room)) (heldStack f) k₀ iv (suc n) (us ++ (CVal.labels ls ∷ [])) q (restC kk) (CVal.labels ls)
-                      (u′ ∷ vs′) (y && (hasTop kk && hitsTop kk (CVal.labels ls))) (restOf M (restAfter M n (heldStack f))) _ more (s₁ .1) (s₁ .0) refl (one-operand-more (CVal.labels ls) k₀ (u′ ∷ vs′) us back′)
+                      (entries-now T root L G e₀ Ω N B C says S′ k s m P A D p refl t i j x cuts nd few d e h (measure S) (omega (arith, low, deep, now .room)) (heldStack f) k₀ iv (suc n) (us ++ (CVal.pointcut ls ∷ [])) q (restC kk) (CVal.pointcut ls)
+                      (u′ ∷ vs′) (y && (hasTop kk && hitsTop kk (CVal.pointcut ls))) (restOf M (restAfter M n (heldStack f))) _ more (s₁ .1) (s₁ .0) refl (one-operand-more (CVal.pointcut ls) k₀ (u′ ∷ vs′) us back′)
                       (rest-is T root L M z rest) (rw (q₁, q₂, ← left) reach′))
                   view (u′ ∷ vs′) (no-pointcut {v = u} bad) back′ reach′ = absurd (reach-cut G e₀ Ω k s u u′ vs′ t e₁ e₂ es (P .env) (stackAt P A D) reach′ bad)
 

@@ -44,12 +44,12 @@ body-value t n h = omega arith
 
 -- Arithmetic: its operators, and what they give.
 pub data Arithmetic : Op2 → (ℕ → ℕ → ℕ) → (ℕ → ℕ → CVal) → Type 0 where
-  a-plus : Arithmetic plus (λ x y. numberValue (sum x y)) (λ x y. CVal.num (sum x y))
-  a-minus : Arithmetic minus (λ x y. numberValue (difference x y)) (λ x y. CVal.num (difference x y))
+  a-plus : Arithmetic plus (λ x y. numberValue (sum x y)) (λ x y. CVal.number (sum x y))
+  a-minus : Arithmetic minus (λ x y. numberValue (difference x y)) (λ x y. CVal.number (difference x y))
   a-less : Arithmetic less (λ x y. truthValue (isLess x y)) (λ x y. CVal.truth (isLess x y))
   an-equal : Arithmetic equal (λ x y. truthValue (isEqual x y)) (λ x y. CVal.truth (isEqual x y))
 
-arithmetic-answer : {o : Op2} {f : ℕ → ℕ → ℕ} {g : ℕ → ℕ → CVal} → Arithmetic o f g → (G : Given) (X : Place) (s : CState) (t : Ty) (n n′ : ℕ) → reduce2C G X s o t (CVal.num n) (CVal.num n′) ≡ go s (ret (g n n′))
+arithmetic-answer : {o : Op2} {f : ℕ → ℕ → ℕ} {g : ℕ → ℕ → CVal} → Arithmetic o f g → (G : Given) (X : Place) (s : CState) (t : Ty) (n n′ : ℕ) → reduce2C G X s o t (CVal.number n) (CVal.number n′) ≡ go s (ret (g n n′))
 unfolding with plainVal
 arithmetic-answer a-plus G X s t n n′ = refl
 arithmetic-answer a-minus G X s t n n′ = refl
@@ -64,7 +64,7 @@ first-wrong a-less G X s t v u p = rw p
 first-wrong an-equal G X s t v u p = rw p
 
 second-wrong : {o : Op2} {f : ℕ → ℕ → ℕ} {g : ℕ → ℕ → CVal} → Arithmetic o f g → (G : Given) (X : Place) (s : CState) (t : Ty) (n : ℕ) (u : CVal) → numberOf (plainVal u) ≡ none
-    → reduce2C G X s o t (CVal.num n) u ≡ wrong
+    → reduce2C G X s o t (CVal.number n) u ≡ wrong
 unfolding with plainVal
 second-wrong a-plus G X s t n u p = rw p
 second-wrong a-minus G X s t n u p = rw p
@@ -72,7 +72,7 @@ second-wrong a-less G X s t n u p = rw p
 second-wrong an-equal G X s t n u p = rw p
 
 module _ (T : Table) (root : ℕ) (L : Linked T 0 root) (M : Memory) (z : Sizes) where
-  number-is : (n : ℕ) → IsVal T root L M z (numberValue n) (CVal.num n)
+  number-is : (n : ℕ) → IsVal T root L M z (numberValue n) (CVal.number n)
   number-is n = is-num (tag-value 2 n (omega arith)) (body-value 2 n (omega arith))
 
   truth-is : (b : Bool) → IsVal T root L M z (truthValue b) (CVal.truth b)
@@ -150,7 +150,7 @@ module _ (T : Table) (root : ℕ) (L : Linked T 0 root) (G : Given) (e₀ : Tm) 
       try : {u : CVal} → AsNumber T root L (S .memory) (sizes (S .regs)) x u → At (reduce1C G X s byte t u) → Made (given (codeAt C m) (numberValue (frameByte (G .frame) (bodyOf x))) S)
       try (a-number {n = n} p q) Q =
           rw q
-          (value-now Q (numberValue (frameByte (G .frame) n)) (CVal.num (frameByte (G .frame) n)) refl (number-is T root L (S .memory) (sizes (S .regs)) (frameByte (G .frame) n)))
+          (value-now Q (numberValue (frameByte (G .frame) n)) (CVal.number (frameByte (G .frame) n)) refl (number-is T root L (S .memory) (sizes (S .regs)) (frameByte (G .frame) n)))
       try (no-number p) Q = no-way Q (rw p)
 
   pub read-now : (X : Place) (t : Ty) {x : ℕ} {v : CVal} → Is x v → At (reduce1C G X s read t v) → Made (given (codeAt C m) (cellAt (S .memory) (words.cellOf x)) S)

@@ -54,7 +54,7 @@ module _ (T : Table) (root : ℕ) (L : Linked T 0 root) (M : Memory) (z : Sizes)
   as-truth (is-kept p q l a b) = no-truth refl
 
   pub data AsNumber (w : ℕ) : CVal → Type 0 where
-    a-number : {n : ℕ} → tagOf w ≡ 2 → bodyOf w ≡ n → AsNumber w (CVal.num n)
+    a-number : {n : ℕ} → tagOf w ≡ 2 → bodyOf w ≡ n → AsNumber w (CVal.number n)
     no-number : {v : CVal} → numberOf (plainVal v) ≡ none → AsNumber w v
 
   pub as-number : {w : ℕ} {v : CVal} → IsVal T root L M z w v → AsNumber w v
@@ -149,7 +149,7 @@ module _ (T : Table) (root : ℕ) (L : Linked T 0 root) (M : Memory) (z : Sizes)
   as-cell (is-kept p q l a b) = no-cell refl
 
   pub data AsPointcut (w : ℕ) : CVal → Type 0 where
-    a-pointcut : {ls : List ℕ} → tagOf w ≡ 7 → bodyOf w % 512 < z .np → HasLabels (pieceSecond M (bodyOf w % 512)) ls → AsPointcut w (CVal.labels ls)
+    a-pointcut : {ls : List ℕ} → tagOf w ≡ 7 → bodyOf w % 512 < z .np → HasLabels (pieceSecond M (bodyOf w % 512)) ls → AsPointcut w (CVal.pointcut ls)
     no-pointcut : {v : CVal} → labelsOf (plainVal v) ≡ none → AsPointcut w v
 
   pub as-pointcut : {w : ℕ} {v : CVal} → IsVal T root L M z w v → AsPointcut w v
