@@ -1,8 +1,9 @@
 #!/usr/bin/env python3
 """The definitions that a reader of the demands must believe.
 
-They are the statements of the demands, of acceptance and of card 12, what the contracts of the engine and of its
-library for other languages cite, and all definitions that these use, file by file: the closure of their imports.
+They are the statements of the demands, of acceptance, of cards 4 and 12 and of P1 to P8, what the contracts of the
+engine and of its library for other languages cite, and all definitions that these use, file by file: the closure of
+their imports. P1 to P8 are a table that stands among the proofs, with its images.
 docs/CLAIMS.md lists the same files, and a test compares the two.
 """
 import re
@@ -11,8 +12,9 @@ from pathlib import Path
 
 ROOT = Path(__file__).resolve().parents[1]
 STATEMENTS = ("demands/specs", "calls/specs", "verdict/specs/Acceptable.antt", "listing/specs/Listing.antt",
-              "write_load/specs/Card12.antt", "answers_as_numbers/specs", "recordings/specs", "bukzarn/specs")
-IMPORT = re.compile(r"\s*use Rattle·(\w+?)(?:·specs)?\.specs\.([\w.]+?)\.\{")
+              "write_load/specs/Card12.antt", "answers_as_numbers/specs", "recordings/specs", "bukzarn/specs",
+              "vm_links/specs", "demands_examples/proofs/Sheet.antt")
+IMPORT = re.compile(r"\s*use Rattle·(\w+?)(?:·specs|·proofs)?\.(specs|proofs)\.([\w.]+?)(?:\.\{| as )")
 
 
 def imports(file):
@@ -21,8 +23,8 @@ def imports(file):
         found = IMPORT.match(line)
         if not found:
             continue
-        crate, module = ROOT / "crates" / found[1], found[2].split(".")
-        yield crate / "src" if module[0] == "declared" else crate.joinpath("specs", *module).with_suffix(".antt")
+        crate, part, module = ROOT / "crates" / found[1], found[2], found[3].split(".")
+        yield crate / "src" if module[0] == "declared" else crate.joinpath(part, *module).with_suffix(".antt")
 
 
 def closure(files):

@@ -14,7 +14,8 @@ class Documents(unittest.TestCase):
         listed = set()
         for crate, files in re.findall(r"^\| (\w+) \| (.*) \|$", table.split("|---|---|")[1], re.M):
             for name in files.split(", "):
-                listed.add(f"crates/{crate}/src" if name == "src" else f"crates/{crate}/specs/{name}.antt")
+                part, _, module = name.rpartition("/")
+                listed.add(f"crates/{crate}/src" if name == "src" else f"crates/{crate}/{part or 'specs'}/{module}.antt")
         self.assertEqual(sorted(listed), believed())
 
     def test_the_map_of_crates(self):
@@ -39,6 +40,17 @@ class Documents(unittest.TestCase):
         for file, loop in shown:
             code = "\n".join(line.strip() for line in (common.ROOT / file).read_text(encoding="utf-8").splitlines())
             self.assertIn("\n".join(line.strip() for line in loop.splitlines()), code, file)
+
+    def test_edits_that_are_named(self):
+        """Every edit that docs/CLAIMS.md or docs/DECISIONS.md names as CRATE/LABEL is there."""
+        crates = {folder.name for folder in (common.ROOT / "crates").iterdir()}
+        for page in ("CLAIMS.md", "DECISIONS.md"):
+            text = (common.ROOT / "docs" / page).read_text(encoding="utf-8")
+            named = [found for found in re.findall(r"`(\w+)/(\w+)`", text) if found[0] in crates]
+            self.assertTrue(named, page)
+            for crate, label in named:
+                edit = common.ROOT / "crates" / crate / "must-fail" / f"{label}.edit"
+                self.assertTrue(edit.is_file(), f"{page}: {crate}/{label}")
 
     def test_edits_name_text_that_is_there(self):
         """The text that an edit of must-fail/ replaces stands once in its file."""

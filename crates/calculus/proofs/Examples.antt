@@ -2,17 +2,20 @@
 use Prim.Native.Nat.{ℕ, zero, suc, _-_}
 use mathlib.Core.Path.{_≡_, refl}
 use mathlib.Core.Bool.{true, false}
-use mathlib.Core.List.{List, [], _∷_}
+use mathlib.Core.List.{List, [], _∷_, map}
+use lib.ListN.{replicate}
 use Rattle.calculus.specs.declared.Outcome.{Outcome}
 use Rattle.calculus.specs.declared.Leaf.{Leaf}
 use Rattle.calculus.specs.Combinators.{cases}
-use Rattle.calculus.specs.Syntax.{Ty, noMethod, method, Val, Tm, Pattern, atEnd, atRest, anything, pointcut, val, var, op0, op1, op2, seq, ite, obj, keep, match, end, more, abort, takedown, theStack, print, install, byte, newCell, call, mark, plus, minus}
-use Rattle.calculus.specs.State.{Advice, State, Given, Counts, Uses, Print, picked, logOf, branchesOf, someBindings, oneCell, onePiece, atDom, fresh, charged, labelled, installed}
+use Rattle.calculus.specs.Limits.{minusOne}
+use Rattle.calculus.specs.Plain.{isPlain}
+use Rattle.calculus.specs.Syntax.{Ty, noMethod, method, Val, Tm, Pattern, atEnd, atRest, anything, pointcut, val, var, op0, op1, op2, seq, ite, obj, keep, match, end, more, newLabel, abort, takedown, theStack, print, install, byte, newCell, call, mark, plus, minus}
+use Rattle.calculus.specs.State.{Advice, State, Given, Counts, Uses, Print, picked, logOf, branchesOf, someBindings, oneCell, onePiece, noUses, atDom, fresh, charged, labelled, installed, without}
 use Rattle.calculus.specs.Subst.{subst}
 use Rattle.calculus.specs.Answer.{Answer, go, full, carry, if-room, with, spend}
 use Rattle.calculus.specs.Step.{step}
 use Rattle.calculus.specs.Run.{End, done, stopped, after, run}
-use Rattle.calculus.specs.Report.{leaves}
+use Rattle.calculus.specs.Report.{outcomeNumber, leaves}
 
 abbrev G : Given
 G = record { frame = []; logLength = 100 }
@@ -65,6 +68,32 @@ newest-first = refl
 abort-counted : facts fresh (op0 abort Ty.unit) ≡ record { end = stopped Outcome.Aborted; steps = 1; log = [] }
 unfolding run after cases step if-room picked
 abort-counted = refl
+
+-- "A frame byte at index n is that byte .. or -1 where n is negative or not below the frame's length": of the bytes 8 and 9, at 1, at 2 and at -1.
+abbrev byteAt : ℕ → End
+byteAt n = run 1 (record { frame = 8 ∷ 9 ∷ []; logLength = 0 }) 0 fresh (op1 byte Ty.number (number n)) .end
+
+frame-bytes : (byteAt 1 ≡ done (Val.number 9)) × (byteAt 2 ≡ done (Val.number minusOne)) × (byteAt minusOne ≡ done (Val.number minusOne))
+unfolding run after cases step carry if-room with
+frame-bytes = (refl, refl, refl)
+
+-- "A plain type .. with at most 8 leaves": pairs of 8 numbers, and of 9.
+abbrev twice : Ty → Ty
+twice t = Ty.pair t t
+
+abbrev eightNumbers : Ty
+eightNumbers = twice (twice (twice Ty.number))
+
+eight-leaves : (isPlain eightNumbers ≡ true) × (isPlain (Ty.pair eightNumbers Ty.number) ≡ false)
+eight-leaves = (refl, refl)
+
+-- "Outcomes: 0 done, 1 spent, 2 aborted, 3 frames, 4 bindings, 5 cells, 6 labels, 7 installed advice, 8 pieces, 9 log", and card 9: "10 bindings, 11 cells, 12 pieces, for the other domains' half".
+outcomes-numbered :
+    map outcomeNumber
+    (Outcome.Done ∷ Outcome.Spent ∷ Outcome.Aborted ∷ Outcome.Frames ∷ Outcome.Bindings ∷ Outcome.Cells ∷ Outcome.Labels ∷ Outcome.Advice ∷ Outcome.Pieces ∷ Outcome.Log
+    ∷ Outcome.OtherBindings ∷ Outcome.OtherCells ∷ Outcome.OtherPieces ∷ [])
+    ≡ 0 ∷ 1 ∷ 2 ∷ 3 ∷ 4 ∷ 5 ∷ 6 ∷ 7 ∷ 8 ∷ 9 ∷ 10 ∷ 11 ∷ 12 ∷ []
+outcomes-numbered = refl
 
 -- n frame bytes, one inside another.
 unfoldable pub nest : ℕ → Tm
@@ -163,6 +192,10 @@ taken-down : facts clearing (seq marked marked)
 unfolding run after cases step subst carry if-room with spend picked
 taken-down = refl
 
+-- "Others keep their order": domain 1's is taken down, and the two of domain 0 stay as they stood.
+order-kept : map (λ a. a .body) (without 1 (on 0 (number 1) ∷ on 1 (number 2) ∷ on 0 (number 3) ∷ [])) ≡ number 1 ∷ number 3 ∷ []
+order-kept = refl
+
 -- "Freed advice room is used again": 100 times an advice is installed and taken down, in four steps each.
 unfoldable pub again : ℕ → Tm
 again zero = val Val.unit
@@ -171,6 +204,24 @@ again (suc n) = seq (op1 install Ty.unit (val (Val.advice 1 [] (val Val.unit))))
 room-again : run 400 G 0 fresh (again 100) .end ≡ done Val.unit
 unfolding again run after cases step if-room with carry
 room-again = refl
+
+-- "Room runs out exactly when a step would pass the limit": with 63 labels there is room for the last one, with 64 there is none; the same of installed advice.
+abbrev withLabels : ℕ → State
+withLabels n = record { cells = []; labels = replicate n 0; advices = []; used = noUses; trace = [] }
+
+abbrev withAdvice : ℕ → State
+withAdvice n = record { cells = []; labels = []; advices = replicate n (on 0 (val Val.unit)); used = noUses; trace = [] }
+
+abbrev madeOver : State → Tm → End
+madeOver s e = run 1 G 0 s e .end
+
+last-label : (madeOver (withLabels 63) (op0 newLabel (Ty.label Ty.number 0)) ≡ done (Val.label 63)) × (madeOver (withLabels 64) (op0 newLabel (Ty.label Ty.number 0)) ≡ stopped Outcome.Labels)
+unfolding run after cases step if-room
+last-label = (refl, refl)
+
+last-advice : (madeOver (withAdvice 63) (op1 install Ty.unit (val (Val.advice 0 [] (val Val.unit)))) ≡ done Val.unit) × (madeOver (withAdvice 64) (op1 install Ty.unit (val (Val.advice 0 [] (val Val.unit)))) ≡ stopped Outcome.Advice)
+unfolding run after cases step if-room with
+last-advice = (refl, refl)
 
 -- Card 9: a cell is charged to the current domain, not to its own.
 cell-charged : run 100 G 0 fresh (op1 newCell (Ty.ref Ty.number 1) (number 3)) .state .used ≡ atDom 0 oneCell

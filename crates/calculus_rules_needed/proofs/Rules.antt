@@ -1,4 +1,4 @@
--- Each domain rule of document 01 and of the cards but that of new labels, which demand 3 does without, is needed.
+-- Each domain rule of document 01 and of the cards is needed, but those of new labels and of keeps, which demand 3 does without.
 use Prim.Native.Nat.{ℕ}
 use native.Mathlib.Omega.{arith}
 use mathlib.Core.Path.{_≡_, refl}

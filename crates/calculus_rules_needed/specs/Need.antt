@@ -12,7 +12,7 @@ use Rattle.calculus.specs.Blank.{blank}
 use Rattle.calculus.specs.Accepted.{Accepted}
 use Rattle.calculus_noninterference.specs.Observe.{Same}
 
--- Document 01, "Domain rules", but that of new labels, which demand 3 does without; and "the body of lower at its field p"; card 3, "a call needs that domain to be the current one"; card 7, a takedown's domain "must be ≤ the current one".
+-- Document 01, "Domain rules", but that of new labels, which demand 3 does without, as it does without card 6's rule of keeps; and "the body of lower at its field p"; card 3, "a call needs that domain to be the current one"; card 7, a takedown's domain "must be ≤ the current one".
 pub data DomainRule : Type 0 where
   apply-rule call-rule mark-rule cell-rule store-rule install-rule takedown-rule read-rule lower-rule body-rule pointcut-rule advice-rule : DomainRule
 

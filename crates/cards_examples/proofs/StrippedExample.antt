@@ -36,7 +36,8 @@ use Rattle.calls.specs.Calls.{Left, called}
 use Rattle.demands.specs.Calls.{Runs, reportWritten}
 use Rattle.demands.specs.SameBytes.{SaysDone}
 use Rattle.demands.specs.Compare.{HighSet}
-use Rattle.demands.specs.Stripped.{takesDown, lowTakesDown, StrippedOf, SharesLeft}
+use Rattle.demands.specs.LowTakedowns.{takesDown, lowTakesDown}
+use Rattle.demands.specs.Stripped.{StrippedOf, SharesLeft}
 use Rattle.demands_examples.proofs.Mainline.{mainlineOnly, mainline-high}
 use Rattle.demands.proofs.Stripped.{card13}
 

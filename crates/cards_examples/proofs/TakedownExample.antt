@@ -30,8 +30,7 @@ use Rattle.calls.specs.Calls.{Left, called}
 use Rattle.listing.specs.Sheet.{zeros}
 use Rattle.demands.specs.Calls.{Runs, logWritten}
 use Rattle.demands.specs.Compare.{HighSet, SameLeft}
-use Rattle.demands.specs.LowTakedowns.{WithTakedowns, same, inside, no-child, alike}
-use Rattle.demands.specs.LowTakedowns as low
+use Rattle.demands.specs.LowTakedowns.{takesDown, lowTakesDown, WithTakedown, same, inside, no-child, alike, low-body}
 use Rattle.demands_examples.proofs.Mainline.{mainlineOnly, mainline-high}
 use Rattle.demands.proofs.LowTakedowns.{card7}
 
@@ -56,11 +55,15 @@ unfolding leq order bits recordsOf layout walk tests find words allWithin all al
     little rec image one-domain two-domains unit number literal watchedOnce cleared-image left-image
 high-mainline = mainline-high (recordsOf left-image) refl refl
 
-with-takedown : WithTakedowns mainlineOnly (programOf left-image) (programOf cleared-image)
+with-takedown : WithTakedown mainlineOnly (programOf left-image) (programOf cleared-image)
 unfolding program tree recordsOf layout walk tests find words allWithin all allOf firstFault typeOf typeFrom typeOut
-    little rec image one-domain two-domains unit number literal watchedOnce cleared-image left-image
-with-takedown =
-    inside (alike (inside (alike (inside (alike (same _) (alike (inside (alike (inside (low.cleared refl no-child)) (alike (same _) no-child))) no-child))) no-child)) (alike (same _) no-child))
+    little rec image one-domain two-domains unit number literal watchedOnce cleared-image left-image takesDown lowTakesDown
+with-takedown = record {
+  programs =
+      inside
+      (alike (inside (alike (inside (alike (same _) (alike (inside (alike (inside (low-body refl no-child)) (alike (same _) no-child))) no-child))) no-child)) (alike (same _) no-child));
+  takedown = refl;
+}
 
 unfoldable pub watchCall : List ℕ → Left
 watchCall b = called b [] 100 (zeros 40) (zeros reportLength) (zeros workLength)

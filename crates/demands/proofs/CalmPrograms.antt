@@ -13,7 +13,7 @@ use Rattle.image.specs.Kinds.{TermKind, bodyOf}
 use Rattle.image.specs.Program.{Program, node, blank, Programs, end, more, nth, behind, assemble, toTm, toTms, ownDomain, isLow}
 use Rattle.calculus_noninterference.specs.Calm.{Calm, Calms, CalmBodies, CalmVal}
 use Rattle.calculus_noninterference.proofs.Clash.{clash}
-use Rattle.demands.specs.Stripped.{isTakedown, takesDown, takeDown, lowTakesDown, lowTakeDown}
+use Rattle.demands.specs.LowTakedowns.{isTakedown, takesDown, takeDown, lowTakesDown, lowTakeDown}
 
 -- The domain at which a child runs: its own, else that of the term.
 abbrev childDom : Dom → Option Dom → Dom

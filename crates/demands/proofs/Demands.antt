@@ -11,11 +11,12 @@ use Rattle.calculus.specs.State.{Given, fresh, logOf}
 use Rattle.calculus.specs.Run.{Ended}
 use Rattle.calculus.specs.Report.{outcomeNumber, report as reported}
 use Rattle.calculus.specs.Typing.{Policy}
-use Rattle.image.specs.declared.Refusal.{Refusal}
+use Rattle.image.specs.Refusals.{refusalNumber}
 use Rattle.image.specs.Limits.{workLength, reportLength}
 use Rattle.image.specs.Layout.{recordsOf}
 use Rattle.image.specs.Program.{toTm}
 use Rattle.verdict.specs.declared.Verdict.{Verdict}
+use Rattle.verdict.specs.Answers.{refusalOf}
 use Rattle.verdict.specs.Verdicts.{verdict}
 use Rattle.verdict.specs.Domains.{policy}
 use Rattle.verdict.specs.Acceptable.{Acceptable}
@@ -28,8 +29,8 @@ use Rattle.report.proofs.Lengths.{length-log}
 use Rattle.report.proofs.Narrow.{report-read}
 use Rattle.demands.proofs.AcceptedBytes.{program-cells-few, program-result-few, program-report-short, program-log-short}
 use Rattle.calls.specs.Runs.{Accepts, programOf, givenBy, runOf}
-use Rattle.calls.specs.Calls.{refusedAnswer, leftBy, called}
-use Rattle.demands.specs.Calls.{Runs, RunsOut}
+use Rattle.calls.specs.Calls.{leftBy, called}
+use Rattle.demands.specs.Calls.{Runs, RunsOut, Rejection, Demand1Refused}
 use Rattle.demands.specs.Compare.{Demand3}
 use Rattle.calls.proofs.Slots.{leaves-back}
 use Rattle.calls.proofs.Called.{refused-leaves, accepted-leaves}
@@ -86,10 +87,13 @@ module _ (b frame : List ℕ) (budget : ℕ) (log report work : List ℕ) where
         work-length = length-cleared workLength work (ok .work-enough);
       })
 
-  -- Demand 1, of every other call: its number and place, and all lent memory "left as it was".
-  pub demand1-refused : (r : Refusal) (place : ℕ) → verdict b (length work) (length report) ≡ Verdict.Refused r place
-      → called b frame budget log report work ≡ record { answer = refusedAnswer r place; log = log; report = report; work = work }
-  demand1-refused = refused-leaves b frame budget log report work
+  -- The number and place that the answer gives are those of the verdict, by `refusalNumber`.
+  pub answer-number : refusalOf (called b frame budget log report work .answer .verdict) ≡ refusalOf (verdict b (length work) (length report))
+  answer-number = look (verdict b (length work) (length report)) refl
+    where
+      look : (v : Verdict) → verdict b (length work) (length report) ≡ v → refusalOf (called b frame budget log report work .answer .verdict) ≡ refusalOf v
+      look Verdict.Accepted h = ap (λ X. refusalOf (X .answer .verdict)) (accepted-leaves b frame budget log report work h)
+      look (Verdict.Refused r place) h = ap (λ X. refusalOf (X .answer .verdict)) (refused-leaves b frame budget log report work r place h)
 
   -- Demand 2, of the gate: a call runs exactly if the image follows the layouts and the typing rules and the lent memory is long enough.
   pub demand2-gate : Runs b report work ↔ Acceptable b (length work) (length report)
@@ -101,6 +105,28 @@ module _ (b frame : List ℕ) (budget : ℕ) (log report work : List ℕ) where
 
   pub demand2-steps : Runs b report work → called b frame budget log report work .answer .steps ≡ runOf b frame budget log .steps
   demand2-steps h = ap (λ X. X .answer .steps) (demand2-run h)
+
+-- Demand 1, of every other call (specs/Calls.antt).
+pub demand1-refused : Demand1Refused
+demand1-refused b frame budget log report work refused = look (verdict b (length work) (length report)) refl
+  where
+    look : (v : Verdict) → verdict b (length work) (length report) ≡ v → Rejection v log report work (called b frame budget log report work)
+    look Verdict.Accepted h = absurd (refused (demand2-gate b frame budget log report work .0 h))
+    look (Verdict.Refused r place) h =
+        subst (Rejection (Verdict.Refused r place) log report work) (sym (refused-leaves b frame budget log report work r place h))
+        (record {
+          number = refusalNumber r;
+          place = place;
+          refusal = refl;
+          answered = refl;
+          no-outcome = refl;
+          no-steps = refl;
+          no-log = refl;
+          no-report = refl;
+          log-same = refl;
+          report-same = refl;
+          work-same = refl;
+        })
 
 -- Demand 3: "one claim about the bytes that two whole runs leave" (specs/Compare.antt).
 pub demand3 : Demand3

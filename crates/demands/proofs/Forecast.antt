@@ -23,7 +23,8 @@ use Rattle.calculus_needs.proofs.Theorem.{never-exceeded, met-exactly, done-or-
 use Rattle.image.specs.Layout.{recordsOf}
 use Rattle.image.specs.Program.{toTm}
 use Rattle.image_needs.specs.Forecasts.{needsOf}
-use Rattle.image_needs.proofs.Known.{Known, known}
+use Rattle.image_needs.specs.declared.Forecast.{Forecast}
+use Rattle.image_needs.proofs.Known.{Known, Outside, known, outside, known-back, outside-back, refused-first}
 use Rattle.verdict.specs.Domains.{policy}
 use Rattle.report.specs.Read.{readLog, readReport}
 use Rattle.report.proofs.Narrow.{narrowPrint, narrowCell, log-read, report-read}
@@ -32,7 +33,7 @@ use Rattle.calls.specs.Calls.{Left, called}
 use Rattle.calls.proofs.Accepted.{transitive, typed}
 use Rattle.demands.specs.Calls.{Runs, RunsOut, logWritten, reportWritten}
 use Rattle.demands.specs.SameBytes.{SaysDone}
-use Rattle.demands.specs.Forecast.{usedOf, Told, OneWay, Holds, Card10}
+use Rattle.demands.specs.Forecast.{usedOf, Told, OneWay, Holds, Card10, Card10Refused}
 use Rattle.demands.proofs.AcceptedBytes.{program-cells-few}
 use Rattle.demands.proofs.Demands.{accepts, demand1}
 use Rattle.demands.proofs.MainlineRoom.{ended}
@@ -114,3 +115,17 @@ pub card10 : Card10
 card10 b n f frame budget log report work h =
     let K : Known b n = known b n f in
     subst (λ m. Holds b m frame budget log (called b frame budget log report work)) (K .numbers) (holds b frame budget log report work (K .class) h)
+
+pub card10-refused : (b : List ℕ) → Card10Refused b
+card10-refused b =
+    record {
+      refused = refused-first b;
+      outside = λ place. (
+        λ h. let o : Outside b place = outside b place h in (o .accepted, o .class, sym (o .place-is)),
+        λ h. outside-back b (h .0) (h .1) ∙ ap Forecast.OutsideClass (sym (h .2)),
+      );
+      inside = λ n. (
+        λ h. let k : Known b n = known b n h in (k .accepted, k .class, sym (k .numbers)),
+        λ h. known-back b (h .0) (h .1) ∙ ap Forecast.Known (sym (h .2)),
+      );
+    }

@@ -4,7 +4,7 @@ use mathlib.Core.Path.{_≡_, refl, ap}
 use mathlib.Core.Bool.{Bool}
 use Rattle.calculus.specs.Syntax.{Dom}
 use Rattle.image.specs.Program.{Program, node, Programs, lowBody, blanked, blankeds}
-use Rattle.demands.specs.LowTakedowns.{clearedFirst, WithTakedowns, same, inside, TakenChildren, no-child, alike, cleared, deeper, Card7}
+use Rattle.demands.specs.LowTakedowns.{SameButLow, same, inside, LowChildren, no-child, alike, low-body, Card7}
 use Rattle.demands.proofs.Demands.{demand3}
 use Rattle.demands.proofs.LowMethods.{low-blank, like-blank}
 
@@ -12,15 +12,14 @@ module _ (high : Dom → Bool) where
   mutual
     unfolding blanked
 
-    takedowns-blanked : {e f : Program} → WithTakedowns high e f → blanked high e ≡ blanked high f
-    takedowns-blanked (same e) = refl
-    takedowns-blanked (inside {k} {t} {vs} s) = ap (node k t vs) (taken-blanked (lowBody high k t vs) s)
+    pub same-blanked : {e f : Program} → SameButLow high e f → blanked high e ≡ blanked high f
+    same-blanked (same e) = refl
+    same-blanked (inside {k} {t} {vs} s) = ap (node k t vs) (children-blanked (lowBody high k t vs) s)
 
-    taken-blanked : (low : ℕ → Bool) → {es fs : Programs} → TakenChildren high low es fs → blankeds high es low ≡ blankeds high fs low
-    taken-blanked low no-child = refl
-    taken-blanked low (alike {e = e} {f = f} {es = es} {fs = fs} s r) = like-blank high low e f es fs (takedowns-blanked s) (taken-blanked (λ i. low (suc i)) r)
-    taken-blanked low (cleared {p = p} {t = t} {u = u} {e = e} {es = es} {fs = fs} l r) = low-blank high low e (clearedFirst p t u e) es fs l (taken-blanked (λ i. low (suc i)) r)
-    taken-blanked low (deeper {k = k} {t = t} {vs = vs} {ds = ds} {cs = cs} {es = es} {fs = fs} l s r) = low-blank high low (node k t vs ds) (node k t vs cs) es fs l (taken-blanked (λ i. low (suc i)) r)
+    children-blanked : (low : ℕ → Bool) → {es fs : Programs} → LowChildren high low es fs → blankeds high es low ≡ blankeds high fs low
+    children-blanked low no-child = refl
+    children-blanked low (alike {e = e} {f = f} {es = es} {fs = fs} s r) = like-blank high low e f es fs (same-blanked s) (children-blanked (λ i. low (suc i)) r)
+    children-blanked low (low-body {e = e} {f = f} {es = es} {fs = fs} l r) = low-blank high low e f es fs l (children-blanked (λ i. low (suc i)) r)
 
 pub card7 : Card7
-card7 high b b′ domains highs s = demand3 high b b′ (record { domains = domains; highs = highs; programs = takedowns-blanked high s })
+card7 high b b′ domains highs s = demand3 high b b′ (record { domains = domains; highs = highs; programs = same-blanked high (s .programs) })

@@ -46,7 +46,8 @@ use Rattle.calls.proofs.Accepted.{transitive, typed}
 use Rattle.demands.specs.Calls.{Runs}
 use Rattle.demands.specs.Compare.{HighSet}
 use Rattle.demands.specs.SameBytes.{SaysDone}
-use Rattle.demands.specs.Stripped.{lowTakesDown, StrippedOf, SharesBytes, Card13, WrittenStripped, DoneStays}
+use Rattle.demands.specs.LowTakedowns.{lowTakesDown}
+use Rattle.demands.specs.Stripped.{StrippedOf, SharesBytes, Card13, WrittenStripped, DoneStays}
 use Rattle.demands.proofs.AcceptedBytes.{program-cells-few}
 use Rattle.demands.proofs.ByField.{small-field}
 use Rattle.demands.proofs.SameBytes.{prints-read, written, says-done, cells-read}
@@ -121,6 +122,7 @@ card13 high b b′ highs same calm frame budget log log′ report report′ work
     let shares : SaysDone (writtenReport E) → SharesWritten high E E′ = λ p. subst (SharesWritten high E) right (stripped-written high b (accepts b report work h) highs calm frame budget log l p) in
     rw (demand2-run b frame budget log report work h, demand2-run b′ frame budget log′ report′ work′ h′, take-front (writtenLog E) log, take-front (writtenLog E′) log′, take-front (writtenReport E) report, take-front (writtenReport E′) report′) shares
 
+-- Its masks and its program are those from which it was written.
 in-form : (high : Dom → Bool) (b : List ℕ) (work report : ℕ) → verdict b work report ≡ Verdict.Accepted → fixed (withoutWatches high b) ≡ withoutWatches high b
 unfolding fixed withoutWatches
 in-form high b work report ok = let h = stripped-holds high b work report ok in ap₂ writtenFrom (h .domains) (h .tree)
@@ -137,7 +139,6 @@ card13-written high b report work ok =
       domains = h .domains;
       tree = h .tree;
       fixed-form = in-form high b (length work) (length report) ok;
-      shares = λ highs calm frame budget log log′ l n p. card13 high b (withoutWatches high b) highs same calm frame budget log log′ report report work work l n ok (h .accepted) p;
     }
 
 -- A done call stays the same at any larger budget.

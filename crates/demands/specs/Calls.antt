@@ -1,4 +1,4 @@
--- What a whole call wrote, and what demand 1 says of a call that runs (document 01, "A run" and "Turned back at the gate").
+-- What a whole call wrote, and what demand 1 says of a call that runs and of one that is turned back (document 01, "A run" and "Turned back at the gate").
 use Prim.Native.Nat.{ℕ, _*_, _≤_, _<_}
 use mathlib.Core.Path.{_≡_}
 use mathlib.Core.List.{List}
@@ -11,11 +11,13 @@ use Rattle.calculus.specs.Run.{Ended}
 use Rattle.calculus.specs.Report.{outcomeNumber, report as reported}
 use Rattle.image.specs.Limits.{workLength, reportLength}
 use Rattle.verdict.specs.declared.Verdict.{Verdict}
+use Rattle.verdict.specs.Answers.{refusalOf}
 use Rattle.verdict.specs.Verdicts.{verdict}
+use Rattle.verdict.specs.Acceptable.{Acceptable}
 use Rattle.report.specs.declared.Ending.{Ending}
 use Rattle.report.specs.Written.{leavesIn, logBytes, reportBytes}
 use Rattle.report.specs.Read.{readReport}
-use Rattle.calls.specs.Calls.{Left}
+use Rattle.calls.specs.Calls.{Left, called}
 
 -- "A call turned back at the gate makes no run": a call with image b, this report and this work area makes one.
 abbrev pub Runs : List ℕ → List ℕ → List ℕ → Type 0
@@ -59,3 +61,26 @@ pub record RunsOut (E : Ended) (budget : ℕ) (log report work : List ℕ) (X : 
   pub work-zero : take workLength (X .work) ≡ replicate workLength 0
   pub work-past : drop workLength (X .work) ≡ drop workLength work
   pub work-length : length (X .work) ≡ length work
+
+-- Of a call that is turned back: v is the verdict of its image and its lent memory, and X what the call answers and leaves.
+pub record Rejection (v : Verdict) (log report work : List ℕ) (X : Left) : Type 0 where
+  -- "Number" and "Returned" of document 01's table: the number (`refusalNumber`) and place of the first refusal, in the table's order; the answer gives them
+  pub number : ℕ
+  pub place : ℕ
+  pub refusal : refusalOf v ≡ some (number, place)
+  pub answered : refusalOf (X .answer .verdict) ≡ some (number, place)
+  -- it makes no run, so it has no outcome and wrote nothing
+  pub no-outcome : X .answer .ending ≡ Ending.NoOutcome
+  pub no-steps : X .answer .steps ≡ 0
+  pub no-log : X .answer .log ≡ 0
+  pub no-report : X .answer .report ≡ 0
+  -- "Left as it was": "all lent memory"
+  pub log-same : X .log ≡ log
+  pub report-same : X .report ≡ report
+  pub work-same : X .work ≡ work
+
+-- Demand 1, of every call that is not acceptable.
+abbrev pub Demand1Refused : Type 0
+Demand1Refused =
+    (b frame : List ℕ) (budget : ℕ) (log report work : List ℕ) → (Acceptable b (length work) (length report) → ⊥)
+    → Rejection (verdict b (length work) (length report)) log report work (called b frame budget log report work)

@@ -36,7 +36,7 @@ abbrev pub calledBefore : List ℕ → List ℕ → ℕ → List ℕ → List �
 calledBefore b frame budget log report work =
     afterVerdict (verdict b (length work) (length report)) (runBefore budget (givenBy frame log) 0 fresh (toTm (programOf b))) log report work
 
--- The outcomes 3 to 9, of which each names a room.
+-- The outcomes 3 to 12, of which each names a room: the card's 3 to 9, and 10 to 12, which card 9 added.
 abbrev pub namesRoom : Ending → Bool
 namesRoom (Ending.Ended o) = ltb (outcomeNumber Outcome.Aborted) (outcomeNumber o)
 namesRoom Ending.NoOutcome = false

@@ -13,7 +13,7 @@ use Rattle.laws.specs.Tests.{firstFault}
 use Rattle.image.specs.Bytes.{lengthAt, numberAt, fieldAt}
 use Rattle.image.specs.Kinds.{in-domains, in-operations, in-truths, any-number, Field, a-type, a-domain, own, free, a-term, an-entry, TypeKind, TermKind, Kind, domain, type, term, domainRow, typeRow, termRow, rowOf, kindOf, find, again}
 use Rattle.image.specs.Records.{Layout, kindAt, times, knownLength, fieldsAt, numbersAt, asChild, given, childrenAt}
-use Rattle.image.specs.Layout.{nothing, framed, known, longEnough, rightLength, isNil, inOrder, hasRoom, within, allWithin, inRange, sameNumbers, sameType, isNew, tests, add, stopped, laid, walk, layout, recordsOf}
+use Rattle.image.specs.Layout.{isSome, nothing, framed, known, longEnough, rightLength, isNil, inOrder, hasRoom, within, allWithin, inRange, sameNumbers, sameType, isNew, tests, add, stopped, laid, walk, layout, recordsOf}
 use Rattle.image.specs.Types.{typeKindOf, termKindOf, domainPlace, typePlace, termPlace, typeKind, termKind}
 use Rattle.image.specs.LaidOut.{Stands, Within, IsRecord}
 use Rattle.laws.proofs.Booleans.{no-path, and-l, and-r, and-i, not-t, lt-of, le-of, eq-of, of-eq}
@@ -74,7 +74,7 @@ pub kind-known : (b : List ℕ) (o : ℕ) → known b o ≡ true → kindOf (num
 kind-known b o h = go (kindOf (numberAt b o)) refl
   where
     go : (x : Option Kind) → kindOf (numberAt b o) ≡ x → kindOf (numberAt b o) ≡ some (kindAt b o)
-    go none e = let z : false ≡ true = rw e at h in no-path (sym z)
+    go none e = no-path (sym h ∙ ap isSome e)
     go (some k) e = rw e refl
 
 enough : (gs : List Field) (m n : ℕ) → longEnough gs m n ≡ true → m ≤ n

@@ -1,4 +1,5 @@
--- What the walk assures of the records that it lays out; kinds and types by their numbers; programs that differ only in low bodies.
+-- What the walk assures of the records that it lays out; kinds, types and refusals by their numbers; programs that differ only in low bodies.
+pub mod Refusals
 pub mod Words
 pub mod KindNumbers
 pub mod EveryKind

@@ -23,7 +23,7 @@ use Rattle.image.proofs.Laid.{Below, Good}
 use Rattle.image_needs.specs.Faults.{isAdvice, permits, outside, least, permitted, lowest, lowestFault}
 
 -- Of subterms, i being the place of the first: each is in the class, outside advice bodies or not as g says.
-abbrev Each : (ℕ → Bool) → ℕ → Tms → Type 0
+abbrev pub Each : (ℕ → Bool) → ℕ → Tms → Type 0
 Each g i end = Unit
 Each g i (more e es) = T (inClass (g i) e) × Each g (suc i) es
 
@@ -45,7 +45,7 @@ module _ (m : Bool) where
   rest-in (suc n) end h = h
   rest-in (suc n) (more e es) h = rest-in n es (second (inClass m e) (allInClass m es) h)
 
-  match-outside : (i : ℕ) → outside m (bodyOf TermKind.match i) ≡ m
+  pub match-outside : (i : ℕ) → outside m (bodyOf TermKind.match i) ≡ m
   match-outside zero = refl
   match-outside (suc zero) = refl
   match-outside (suc (suc zero)) = refl

@@ -1,4 +1,4 @@
--- A program is well typed exactly if the one term that it is, each part held to the type that it states, is well typed by the calculus's rules: so where `childSetting` has a child stand is where the rules have it stand.
+-- A program is well typed term by term exactly if it is well typed as one term of the calculus with every stated type in it: so where `childSetting` has a child stand is where the rules of figures 2 and 3 have it stand.
 use Prim.Native.Nat.{ℕ, zero, suc, _+_, _≤_, _<_}
 use native.Mathlib.Omega.{arith}
 use mathlib.Core.Path.{_≡_, refl, sym, ap, subst, _∙_}
@@ -50,15 +50,15 @@ three-then T a b c d (suc zero) m = b
 three-then T a b c d (suc (suc zero)) m = c
 three-then T a b c d (suc (suc (suc j))) m = d j m
 
--- No term of a program has more children than its kind may have.
+-- Arity: no term of a program has more children than its kind may have.
 unfoldable mutual
-  pub Fitted : Program → Type 0
-  Fitted (node k t vs es) = (length (stateds es) ≤ mostChildren (termRow k)) × EachFitted es
-  Fitted blank = Unit {0}
+  pub WithinArity : Program → Type 0
+  WithinArity (node k t vs es) = (length (stateds es) ≤ mostChildren (termRow k)) × EachWithinArity es
+  WithinArity blank = Unit {0}
 
-  pub EachFitted : Programs → Type 0
-  EachFitted end = Unit {0}
-  EachFitted (more e es) = Fitted e × EachFitted es
+  pub EachWithinArity : Programs → Type 0
+  EachWithinArity end = Unit {0}
+  EachWithinArity (more e es) = WithinArity e × EachWithinArity es
 
 module _ (D : Policy) where
   ascribed-type : {Γ : List Ty} {c : Dom} (e : Program) {u : Ty} → TmTy D noStore Γ c (ascribed e) u → stated e ≡ u
@@ -74,7 +74,7 @@ module _ (D : Policy) where
   mutual
     unfolding ascribed WellTyped
 
-    -- A well-typed program has the type that it states, each of its terms held to its own.
+    -- A program that is well typed term by term has the type that it states, as one term.
     pub well-ascribed : (p : Setting Ty) (e : Program) → WellTyped D p e → TmTy D noStore (p .context) (p .dom) (ascribed e) (stated e)
     well-ascribed p (node k t vs es) w =
         is-ite (is-val v-truth) (over D p k t vs (stateds es) (aborts (stateds es)) (ascribeds es) (aborts-pinned D (stateds es)) (well-ascribeds (childSetting p k t vs (stateds es)) 0 es (w .1)) (w .0)) (is-op0 t-abort)
@@ -162,10 +162,10 @@ module _ (D : Policy) where
       a-child (subst (λ x. TmTy D noStore (at i .context) (at i .dom) (nth es 0) x) (sym (f _ _ _ (r .1))) (r .1)) (each-of at (suc i) k (λ j m e l. h (suc j) m (omega arith) (omega arith)))
 
   mutual
-    unfolding ascribed WellTyped assemble Fitted
+    unfolding ascribed WellTyped assemble WithinArity
 
     -- And the other way.
-    pub ascribed-well : (p : Setting Ty) (e : Program) → Fitted e → TmTy D noStore (p .context) (p .dom) (ascribed e) (stated e) → WellTyped D p e
+    pub ascribed-well : (p : Setting Ty) (e : Program) → WithinArity e → TmTy D noStore (p .context) (p .dom) (ascribed e) (stated e) → WellTyped D p e
     ascribed-well p (node k t vs es) f d =
         let at : ℕ → Setting Ty = childSetting p k t vs (stateds es) in
         let d′ = premises d .1 in
@@ -173,43 +173,43 @@ module _ (D : Policy) where
         (over D p k t vs (stateds es) (ascribeds es) (aborts (stateds es)) (ascribeds-pinned es) (aborts-each D at 0 (stateds es)) d′, ascribed-wells at 0 es (f .1) (each-of at 0 (ascribeds-pinned es) (λ j m e l. let r : m ≡ j = omega arith in rw r (h j l))))
     ascribed-well p blank f d = let r = premises d in let z : Ty.truth ≡ Ty.unit = of-abort (r .2) in no-path cc
 
-    ascribed-wells : (at : ℕ → Setting Ty) (i : ℕ) (es : Programs) → EachFitted es → Each D at i (stateds es) (ascribeds es) → EachWellTyped D at i es
+    ascribed-wells : (at : ℕ → Setting Ty) (i : ℕ) (es : Programs) → EachWithinArity es → Each D at i (stateds es) (ascribeds es) → EachWellTyped D at i es
     ascribed-wells at i end f w = tt
     ascribed-wells at i (more e es) f (a-child d w) = (ascribed-well (at i) e (f .0) d, ascribed-wells at (suc i) es (f .1) w)
 
-  pub ascribed-iff : (p : Setting Ty) (e : Program) → Fitted e → WellTyped D p e ↔ TmTy D noStore (p .context) (p .dom) (ascribed e) (stated e)
+  pub ascribed-iff : (p : Setting Ty) (e : Program) → WithinArity e → WellTyped D p e ↔ TmTy D noStore (p .context) (p .dom) (ascribed e) (stated e)
   ascribed-iff p e f = (well-ascribed p e, ascribed-well p e f)
 
--- The trees of an image fit.
+-- The trees of an image are within it.
 subtrees-length : (g : ℕ → Program) (es : List ℕ) → length (stateds (subtrees g es)) ≡ length es
 subtrees-length g [] = refl
 subtrees-length g (e ∷ es) = ap suc (subtrees-length g es)
 
-subtrees-fitted : (g : ℕ → Program) (n : ℕ) → ((e : ℕ) → e < n → Fitted (g e)) → (es : List ℕ) → Below n es → EachFitted (subtrees g es)
-unfolding Fitted
-subtrees-fitted g n h [] b = tt
-subtrees-fitted g n h (e ∷ es) b = (h e (b .0), subtrees-fitted g n h es (b .1))
+subtrees-within : (g : ℕ → Program) (n : ℕ) → ((e : ℕ) → e < n → WithinArity (g e)) → (es : List ℕ) → Below n es → EachWithinArity (subtrees g es)
+unfolding WithinArity
+subtrees-within g n h [] b = tt
+subtrees-within g n h (e ∷ es) b = (h e (b .0), subtrees-within g n h es (b .1))
 
 module _ (L : Layout) (good : Good L) where
-  tree-fitted : (f n : ℕ) → n < length (L .terms) → Fitted (tree L f n)
-  unfolding tree Fitted
-  tree-fitted zero n l = tt
-  tree-fitted (suc f) n l =
+  tree-within : (f n : ℕ) → n < length (L .terms) → WithinArity (tree L f n)
+  unfolding tree WithinArity
+  tree-within zero n l = tt
+  tree-within (suc f) n l =
       let t = term-facts L good n l in
       let s = subtrees-length (λ e. tree L f e) (children L n) in
       let m = length-map (children L n) (λ e. typeNo L e) in
-      (omega arith, subtrees-fitted (λ e. tree L f e) (length (L .terms)) (tree-fitted f) (children L n) (t .below))
+      (omega arith, subtrees-within (λ e. tree L f e) (length (L .terms)) (tree-within f) (children L n) (t .below))
 
   -- Where there is no term, there is no root either.
-  root-fitted : (f : ℕ) → f ≡ length (L .terms) → Fitted (tree L f (rootOf L))
-  unfolding tree Fitted
-  root-fitted zero e = tt
-  root-fitted (suc f) e = tree-fitted (suc f) (rootOf L) (omega arith)
+  root-within : (f : ℕ) → f ≡ length (L .terms) → WithinArity (tree L f (rootOf L))
+  unfolding tree WithinArity
+  root-within zero e = tt
+  root-within (suc f) e = tree-within (suc f) (rootOf L) (omega arith)
 
-  program-fitted : Fitted (program L)
+  program-within : WithinArity (program L)
   unfolding program
-  program-fitted = root-fitted (length (L .terms)) refl
+  program-within = root-within (length (L .terms)) refl
 
--- The program of an image is well typed exactly if it is one well-typed term of the calculus, at domain 0 and without variables, each of its terms held to the type that it states. No domain and no context of a child is named.
+-- The program of an image is well typed exactly if it is one well-typed term of the calculus, at domain 0 and without variables, with every stated type in it. No domain and no context of a child is named.
 pub program-ascribed : (D : Policy) (L : Layout) → LaidOut L → WellTyped D mainline (program L) ↔ TmTy D noStore [] 0 (ascribed (program L)) (stated (program L))
-program-ascribed D L h = ascribed-iff D mainline (program L) (program-fitted L (layout-good (L .image) L (laid-iff L .1 h)))
+program-ascribed D L h = ascribed-iff D mainline (program L) (program-within L (layout-good (L .image) L (laid-iff L .1 h)))

@@ -59,7 +59,7 @@ pub record Acceptable (b : List ℕ) (work report : ℕ) : Type 0 where
   pub used : (n : ℕ) → n < rootOf records → UsedOnce records n
   -- 12
   pub shallow : (n d : ℕ) → Depth records n d → d ≤ depthLimit
-  -- 13 to 15: a derivation by figures 2 and 3, at the mainline's domain 0, without variables
+  -- 13 to 15: "Type rules are figures 2 and 3", and "the root is checked at domain 0": one derivation by these rules, at domain 0 and under no variables, of the whole program with every stated type in it
   pub well-typed : TmTy (policy records) noStore [] 0 (ascribed (program records)) (rootType records)
   -- 16
   pub plain : isPlain (rootType records) ≡ true

@@ -1,4 +1,4 @@
--- Programs that are well typed by the calculus's rules (document 003, figures 2 and 3; document 01, "Typing"), every term having the type that it states, said term by term: those of `Acceptable`, which has it as one derivation (the law `typed-ascribed`).
+-- Programs that are well typed term by term: what the typing pass finds of a program, each child being checked where `contextOf` and `domainOf` have it stand (Settings.antt). Acceptance does not ask this: it asks for one derivation by document 003's rules (Acceptable.antt), and the law `typed-ascribed` says that the two are the same. So a child that was checked under other variables or at another domain than the rules have it would break that law.
 use Prim.Native.Nat.{ℕ, suc}
 use mathlib.Core.List.{List, [], _∷_}
 use Rattle.calculus.specs.Syntax.{Ty, Tms, op0, abort}

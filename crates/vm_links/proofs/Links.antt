@@ -15,7 +15,7 @@ use Rattle.base_bytes.proofs.Bytes.{length-bytes, number-back, bytes-parts, byt
 use Rattle.base_bytes.proofs.Memory.{length-words, beside-at, take-of-drop}
 use Rattle.vm_machine.specs.Memory.{Memory, wordAt, putWord}
 use Rattle.vm_tables.specs.View.{memoryOf, Holds}
-use Rattle.vm_links.specs.Links.{Link, outer, frame, next, end, closure, advice, linkByte, linkSize, readLink, LinkWord, a-binding, a-frame, a-next, an-end, a-function, an-object, an-advice, linkAt, SameBeside}
+use Rattle.vm_links.specs.Links.{Link, outer, frame, next, end, closure, advice, linkByte, linkSize, readLink, LinkWord, a-binding, a-frame, a-next, an-end, a-function, an-object, an-advice, linkAt, SameBeside, Card4}
 use Rattle.vm_tables.proofs.Stored.{load-word}
 
 byte-low : (k : Link) → linkByte k ≤ 6
@@ -172,10 +172,14 @@ module _ {k : Link} {f : ℕ → ℕ} (F : LinkWord k f) (w : List ℕ) (i : ℕ
             let q : memoryLength + (j - memoryLength) ≡ j = omega (arith, ltb-false j memoryLength g) in
             rw (← q) (past-all (j - memoryLength))
 
--- Card 4, of a word that stands with a link in it: where the link becomes another, no byte of the work area changes beside its two.
-module _ {k : Link} {f : ℕ → ℕ} (F : LinkWord k f) (w : List ℕ) (i : ℕ) (at : i < wordCount) (bytes : AreBytes w) (long : memoryLength ≤ length w) (l : ℕ) (h : l < linkSize) (was : wordAt (memoryOf w) i ≡ f l) where
-  stays : Holds (putWord i (f l) (memoryOf w)) w w
-  stays = record { memory = ap (λ (x : List ℕ). record { words = x; beside = memoryOf w .beside }) (sym (ap (λ (v : ℕ). set (memoryOf w .words) i v) (sym was) ∙ set-getD (memoryOf w .words) i 0)); rest = refl }
+-- Card 4, before and after: to write a word as it stands changes nothing, so a word that is written with another link differs from it in the link alone.
+stays : (f : ℕ → ℕ) (w : List ℕ) (i l : ℕ) → wordAt (memoryOf w) i ≡ f l → Holds (putWord i (f l) (memoryOf w)) w w
+stays f w i l was = record {
+  memory = ap (λ (x : List ℕ). record { words = x; beside = memoryOf w .beside }) (sym (ap (λ (v : ℕ). set (memoryOf w .words) i v) (sym was) ∙ set-getD (memoryOf w .words) i 0));
+  rest = refl;
+}
 
-  pub card4-changed : (w′ : List ℕ) → AreBytes w′ → memoryLength ≤ length w′ → (l′ : ℕ) → l′ < linkSize → Holds (putWord i (f l′) (memoryOf w)) w w′ → SameBeside k i w w′
-  card4-changed w′ bytes′ long′ l′ h′ H = card4-beside F w i at w w′ bytes bytes′ long long′ l l′ h h′ stays H
+pub card4 : Card4
+card4 k f F w w′ bytes bytes′ long long′ i l l′ at h h′ was H =
+    let r = card4-written F w i at w′ bytes′ long′ l′ h′ H in
+    record { bytes = r .0; reads = r .1; beside = card4-beside F w i at w w′ bytes bytes′ long long′ l l′ h h′ (stays f w i l was) H }

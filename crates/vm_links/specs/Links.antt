@@ -2,11 +2,13 @@
 use Prim.Native.Nat.{ℕ, _+_, _*_, _≤_, _<_}
 use mathlib.Core.Path.{_≡_}
 use mathlib.Core.List.{List}
-use lib.ListN.{getD}
-use Rattle.base_bytes.specs.Bytes.{numberAt}
+use lib.ListN.{length, getD, set}
+use Rattle.base_bytes.specs.Bytes.{AreBytes, numberAt}
+use Rattle.base_bytes.specs.Memory.{wordCount, memoryLength}
 use Rattle.vm_code.specs.Values.{functionValue, objectValue}
 use Rattle.vm_code.specs.Words.{home}
-use Rattle.vm_machine.specs.Memory.{above, binding, boundLink, adviceWord, adviceEnv, closureEnv, slotWord, slotEnv, adviceFrame, bindingsLeft, nextBinding, endBinding}
+use Rattle.vm_machine.specs.Memory.{Memory, wordAt, putWord, above, binding, boundLink, adviceWord, adviceEnv, closureEnv, slotWord, slotEnv, adviceFrame, bindingsLeft, nextBinding, endBinding}
+use Rattle.vm_tables.specs.View.{memoryOf, Holds}
 
 -- The links. (None leads from frame to frame: a frame's slot follows from the unfinished terms around it.)
 pub data Link : Type 0 where
@@ -64,6 +66,25 @@ linkOffset k i = 8 * i + linkByte k
 abbrev pub linkAt : Link → ℕ → List ℕ → ℕ
 linkAt k i w = numberAt linkLength (linkOffset k i) w
 
--- Every other byte of two work areas is the same.
+-- Every other byte of two work areas is the same, past the published length too.
 abbrev pub SameBeside : Link → ℕ → List ℕ → List ℕ → Type 0
 SameBeside k i w w′ = (j : ℕ) → (j ≡ linkOffset k i → ⊥) → (j ≡ linkOffset k i + 1 → ⊥) → getD w j 0 ≡ getD w′ j 0
+
+-- "A link that is written reads back as the place it named, and no byte beside its two changes": word i of the work area w had a link of kind k in it, and has the link l in its place now, in w′.
+pub record Replacement (k : Link) (i l : ℕ) (w w′ : List ℕ) : Type 0 where
+  pub bytes : linkAt k i w′ ≡ l
+  pub reads : readLink k (wordAt (memoryOf w′) i) ≡ l
+  pub beside : SameBeside k i w w′
+
+-- Of every word that the machine writes with a link, wherever it stands in a work area of bytes that is long enough.
+abbrev pub Card4 : Type 0
+Card4 =
+    (k : Link) (f : ℕ → ℕ) → LinkWord k f → (w w′ : List ℕ) → AreBytes w → AreBytes w′ → memoryLength ≤ length w → memoryLength ≤ length w′
+    → (i l l′ : ℕ) → i < wordCount → l < linkSize → l′ < linkSize → wordAt (memoryOf w) i ≡ f l → Holds (putWord i (f l′) (memoryOf w)) w w′ → Replacement k i l′ w w′
+
+-- A store into the tables M leaves N, and puts the link l of kind k into a word: that word is one of the `LinkWord`s. (Of a pointcut's and a match's frame the byte beside changes too; it holds no link.)
+pub record PutsLink (k : Link) (l : ℕ) (M N : Memory) : Type 0 where
+  pub word : ℕ
+  pub around : ℕ → ℕ
+  pub is-word : LinkWord k around
+  pub words : N .words ≡ set (M .words) word (around l)
