@@ -52,12 +52,23 @@ table_by() {
     cmp "$out/table" examples/ascent/watched.csv && [ $status -eq "$expected" ]
 }
 
+# A receiver writes the rows of a frame before it waits for the next one, and refuses another image than the one named.
+live_by() {
+    local image=examples/ascent/watched.img name
+    name=$(sha256sum $image | cut -c 1-64)
+    python3 tools/house/paused_pipe.py "$@" $image {} 12 "$name" || return 1
+    "$@" examples/ascent/plain.img examples/ascent/ascent.frames 12 "$name" >"$out/none" && return 1
+    [ ! -s "$out/none" ]
+}
+
 receiver_in_c() {
-    compiled receiver && expected=4 table_by "$out/receiver"
+    compiled receiver && expected=4 table_by "$out/receiver" && live_by "$out/receiver"
 }
 
 receiver_in_rust() {
-    expected=0 table_by cargo run --quiet --release --manifest-path bindings/rust/Cargo.toml --example receiver --
+    local receiver=bindings/rust/target/release/examples/receiver
+    cargo build --quiet --release --manifest-path bindings/rust/Cargo.toml --example receiver &&
+        expected=0 table_by $receiver && live_by $receiver
 }
 
 cargo_in() {

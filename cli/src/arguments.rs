@@ -1,8 +1,10 @@
-//! The words of a command: files, and options with values.
+//! The words of a command: files, options with values, and options without.
 use crate::error::Error;
+use crate::files;
+use crate::printable::display_name;
 use std::ffi::{OsStr, OsString};
 use std::os::unix::ffi::OsStrExt;
-use std::path::{Path, PathBuf};
+use std::path::PathBuf;
 
 /// The words of one command.
 #[derive(Debug)]
@@ -11,21 +13,29 @@ pub struct Arguments {
     /// The words that are no options.
     pub files: Vec<PathBuf>,
     values: Vec<(&'static str, OsString)>,
+    flags: Vec<&'static str>,
     /// Is help asked for?
     pub help: bool,
 }
 
 impl Arguments {
-    /// Takes the words of a command apart. Every option has a value: `--name value` or `--name=value`, given once. Words
-    /// need not be UTF-8, since names of files need not be.
-    pub fn parse(words: &[OsString], command: &'static str, options: &[&'static str]) -> Result<Arguments, Error> {
-        let mut found = Arguments { command, files: Vec::new(), values: Vec::new(), help: false };
+    /// Takes the words of a command apart. An option has a value, `--name value` or `--name=value`; a flag has none. Each is
+    /// given once. Words need not be UTF-8, since names of files need not be.
+    pub fn parse(
+        words: &[OsString],
+        command: &'static str,
+        options: &[&'static str],
+        flags: &[&'static str],
+    ) -> Result<Arguments, Error> {
+        let mut found = Arguments { command, files: Vec::new(), values: Vec::new(), flags: Vec::new(), help: false };
         let mut rest = words.iter();
         while let Some(word) = rest.next() {
-            match word.as_bytes() {
-                b"--help" | b"-h" => found.help = true,
-                b"--" => found.files.extend(rest.by_ref().map(PathBuf::from)),
-                [b'-', _, ..] => found.option(word, &mut rest, options)?,
+            let flag = flags.iter().find(|flag| word == **flag);
+            match (word.as_bytes(), flag) {
+                (b"--help" | b"-h", _) => found.help = true,
+                (b"--", _) => found.files.extend(rest.by_ref().map(PathBuf::from)),
+                (_, Some(flag)) => found.flags.push(flag),
+                ([b'-', _, ..], None) => found.option(word, &mut rest, options)?,
                 _ => found.files.push(PathBuf::from(word)),
             }
         }
@@ -42,7 +52,7 @@ impl Arguments {
         let mut parts = word.as_bytes().splitn(2, |byte| *byte == b'=').map(OsStr::from_bytes);
         let (name, own) = (parts.next().unwrap_or_default(), parts.next());
         let Some(known) = options.iter().find(|option| name == **option) else {
-            return Err(self.usage(format!("there is no option {}", name.display())));
+            return Err(self.usage(format!("there is no option {}", display_name(name))));
         };
         if self.value(known).is_some() {
             return Err(self.usage(format!("{known} is given twice")));
@@ -62,6 +72,11 @@ impl Arguments {
     /// The value of an option.
     pub fn value(&self, name: &str) -> Option<&OsStr> {
         self.values.iter().find(|(option, _)| *option == name).map(|(_, value)| value.as_os_str())
+    }
+
+    /// Is an option without a value given?
+    pub fn flag(&self, name: &str) -> bool {
+        self.flags.contains(&name)
     }
 
     /// The number that an option gives, within limits; the one that holds without it.
@@ -87,23 +102,26 @@ impl Arguments {
         }
     }
 
-    /// What is written to is neither read nor written to otherwise.
+    /// What is written to is neither read nor written to otherwise, whatever its names: files are compared by device and
+    /// number, standard input and output too.
     pub fn outputs_apart(&self, inputs: &[&str], outputs: &[&str]) -> Result<(), Error> {
-        let mut taken: Vec<PathBuf> = self.files.iter().map(|file| real(file.as_os_str())).collect();
-        taken.extend(inputs.iter().filter_map(|name| self.value(name)).map(real));
-        for name in outputs {
-            let Some(file) = self.value(name).filter(|file| *file != "-").map(real) else { continue };
-            // A device, like /dev/null, may be named as often as one likes.
-            if taken.contains(&file) && (file.is_file() || !file.exists()) {
-                return Err(self.usage(format!("{name} would write to {}, which has another use", file.display())));
+        let read =
+            self.files.iter().map(|file| file.as_os_str()).chain(inputs.iter().filter_map(|name| self.value(name)));
+        let mut taken: Vec<_> = read.filter_map(files::identity).collect();
+        if let Some(output) = files::stdout_identity() {
+            if taken.contains(&output) {
+                return Err(self.usage("standard output goes to a file that is read".into()));
             }
-            taken.push(file);
+            taken.push(output);
+        }
+        for name in outputs {
+            let Some(file) = self.value(name).filter(|file| *file != "-") else { continue };
+            let Some(identity) = files::identity(file) else { continue };
+            if taken.contains(&identity) {
+                return Err(self.usage(format!("{name} would write to {}, which has another use", display_name(file))));
+            }
+            taken.push(identity);
         }
         Ok(())
     }
-}
-
-/// The path of a file without links, where it exists.
-fn real(name: &OsStr) -> PathBuf {
-    std::fs::canonicalize(name).unwrap_or_else(|_| Path::new(name).into())
 }

@@ -1,5 +1,6 @@
 //! What ends a command early, and the exit status.
-use bukzarn::Refusal;
+use crate::printable::printable;
+use bukzarn::{Name, Refusal};
 use std::fmt;
 use std::io;
 
@@ -9,7 +10,7 @@ use std::io;
 pub enum Status {
     /// Every run is done; the image is accepted; what was asked for is written.
     Done = 0,
-    /// The image or what was asked of it is refused, or a text gives no image.
+    /// The image or what was asked of it is refused, it is another one, or a text gives no image.
     Refused = 1,
     /// The words of the command make no sense.
     Usage = 2,
@@ -28,6 +29,8 @@ pub enum Error {
     Refused(Refusal),
     /// The library refused a text that was taken for an image.
     TextTaken(Refusal),
+    /// The image is another one than that of the name that was given; its own.
+    OtherImage(Name),
     /// The text gives no image; the assembler has said why.
     NoImage,
     /// Reading or writing what is named failed.
@@ -41,7 +44,7 @@ impl Error {
     pub fn status(&self) -> Status {
         match self {
             Error::Usage(..) => Status::Usage,
-            Error::Refused(_) | Error::TextTaken(_) | Error::NoImage => Status::Refused,
+            Error::Refused(_) | Error::TextTaken(_) | Error::OtherImage(_) | Error::NoImage => Status::Refused,
             Error::Failed(..) | Error::Input(_) => Status::Failed,
         }
     }
@@ -63,8 +66,9 @@ impl fmt::Display for Error {
             Error::TextTaken(refusal) => {
                 write!(f, "{refusal}. This is a text, not an image: the name of a procedure's text ends with .proc")
             }
+            Error::OtherImage(name) => write!(f, "this is another image: its name is {name}"),
             Error::NoImage => f.write_str("the text gives no image"),
-            Error::Failed(name, error) => write!(f, "{name}: {error}"),
+            Error::Failed(name, error) => write!(f, "{name}: {}", printable(&error.to_string(), false)),
             Error::Input(words) => f.write_str(words),
         }
     }

@@ -1,22 +1,30 @@
 //! `bukzarn`: the watch engine as a command. It runs an image over one frame or over a recording, tells whether an image
 //! is accepted and what its runs will need, and writes images.
-#![forbid(unsafe_code)]
+#![deny(unsafe_code)]
 
 mod arguments;
 mod check;
 mod error;
+mod files;
 mod help;
 mod input;
+mod memory;
 mod need;
 mod output;
 mod plan;
+mod printable;
 mod program;
 mod progress;
 mod run;
+#[allow(unsafe_code)]
+mod signals;
+mod sink;
 mod tally;
+mod totals;
 mod written;
 
 use error::{Error, Status};
+use printable::display_name;
 use std::ffi::OsString;
 use std::io::Write;
 use std::process::ExitCode;
@@ -27,6 +35,7 @@ fn main() -> ExitCode {
         tell(&error);
         error.status()
     });
+    signals::reraise();
     ExitCode::from(status as u8)
 }
 
@@ -42,9 +51,9 @@ fn perform(words: &[OsString]) -> Result<Status, Error> {
         "fixed" => written::fixed(rest),
         "strip" => written::strip(rest),
         "load" => written::load(rest),
-        "--help" | "-h" | "help" => help::show(rest.first().and_then(|word| word.to_str()).unwrap_or_default()),
+        "--help" | "-h" | "help" => help::command(rest),
         "--version" | "-V" => help::version(),
-        _ => Err(Error::Usage(format!("there is no command '{}'", command.display()), "")),
+        _ => Err(Error::Usage(format!("there is no command '{}'", display_name(command)), "")),
     }
 }
 

@@ -2,7 +2,7 @@
 use crate::arguments::Arguments;
 use crate::error::{Error, Status};
 use crate::program::Program;
-use crate::{help, output, plan};
+use crate::{help, plan, sink};
 use bukzarn::{need, Needs};
 use std::ffi::OsString;
 use std::fmt::Write;
@@ -14,7 +14,7 @@ const BAR: u64 = 20;
 
 /// Writes the numbers; a refusal's line stands where the listing would.
 pub fn command(words: &[OsString]) -> Result<Status, Error> {
-    let words = Arguments::parse(words, "need", &OPTIONS)?;
+    let words = Arguments::parse(words, "need", &OPTIONS, &[])?;
     if words.help {
         return help::show("need");
     }
@@ -27,7 +27,7 @@ pub fn command(words: &[OsString]) -> Result<Status, Error> {
     };
     let program = Program::read(&words)?;
     match need(&program.image) {
-        Ok(needs) => output::write_whole(write(&needs, &Limits { budget, log }).as_bytes()).map(|()| Status::Done),
+        Ok(needs) => sink::write_whole(write(&needs, &Limits { budget, log }).as_bytes()).map(|()| Status::Done),
         Err(refusal) => program.refused(refusal, words.value("--out").is_none_or(|name| name == "listing")),
     }
 }

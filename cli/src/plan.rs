@@ -2,7 +2,7 @@
 use crate::arguments::Arguments;
 use crate::error::Error;
 use crate::input::LONGEST_FRAME;
-use crate::output::Format;
+use crate::output::{Format, Rows};
 
 /// The bench sheet's budget and log (document 01, "Bench sheet").
 const BUDGET: u64 = 100_000;
@@ -15,6 +15,10 @@ const LONGEST_LOG: u64 = 1 << 28;
 const INPUTS: [&str; 2] = ["--frame", "--frames"];
 const OUTPUTS: [&str; 2] = ["--report", "--log-file"];
 
+/// The options without a value.
+pub const CELLS: &str = "--cells";
+pub const TOTALS: &str = "--totals";
+
 /// What the options say.
 pub struct Plan {
     /// The length of a frame of the recording; nothing for a single frame.
@@ -25,6 +29,8 @@ pub struct Plan {
     pub log: usize,
     /// How the runs are written.
     pub format: Format,
+    /// What the rows are about.
+    pub rows: Rows,
 }
 
 impl Plan {
@@ -45,7 +51,20 @@ impl Plan {
         let length = words.number("--length", 1, LONGEST_FRAME as u64, 0)?;
         let (budget, log) = budget_and_log(words)?;
         let length = recording.then_some(usize::try_from(length).unwrap_or(LONGEST_FRAME));
-        Ok(Plan { length, budget, log, format: format(words, recording)? })
+        let rows = rows(words)?;
+        Ok(Plan { length, budget, log, format: format(words, recording, rows)?, rows })
+    }
+}
+
+/// What the rows are about: printed numbers, unless `--cells` or `--totals` say otherwise.
+fn rows(words: &Arguments) -> Result<Rows, Error> {
+    match (words.flag(CELLS), words.flag(TOTALS)) {
+        (true, true) => {
+            Err(words.usage(format!("{CELLS} and {TOTALS} exclude each other: each is a table of its own")))
+        }
+        (true, false) => Ok(Rows::Cells),
+        (false, true) => Ok(Rows::Totals),
+        (false, false) => Ok(Rows::Printed),
     }
 }
 
@@ -56,11 +75,18 @@ pub fn budget_and_log(words: &Arguments) -> Result<(u32, usize), Error> {
     Ok((u32::try_from(budget).unwrap_or(u32::MAX), usize::try_from(log).unwrap_or(usize::MAX)))
 }
 
-/// The format that is asked for; else a table of a recording, a listing of a single frame.
-fn format(words: &Arguments, recording: bool) -> Result<Format, Error> {
+/// The format that is asked for; else a table, but a listing of a single frame.
+fn format(words: &Arguments, recording: bool, rows: Rows) -> Result<Format, Error> {
+    let own = rows != Rows::Printed;
     let Some(name) = words.value("--out") else {
-        return Ok(if recording { Format::Table } else { Format::Listing });
+        return Ok(if recording || own { Format::Table } else { Format::Listing });
     };
-    let found = Format::ALL.into_iter().find(|(known, _)| name == *known);
-    found.map(|(_, format)| format).ok_or_else(|| words.usage("--out takes table, csv, json or listing".into()))
+    let found = Format::ALL.into_iter().find(|(known, _)| name == *known).map(|(_, format)| format);
+    match found {
+        Some(Format::Listing | Format::Json) if own => {
+            Err(words.usage(format!("{CELLS} and {TOTALS} are tables: --out takes table or csv")))
+        }
+        Some(format) => Ok(format),
+        None => Err(words.usage("--out takes table, csv, json or listing".into())),
+    }
 }

@@ -2,9 +2,9 @@
 use crate::arguments::Arguments;
 use crate::error::{Error, Status};
 use crate::help;
-use crate::output::Sink;
-use crate::program::Program;
-use bukzarn::{fixed_form, load as load_of, stripped_form, Refusal};
+use crate::program::{Program, NAME};
+use crate::sink::Sink;
+use bukzarn::{fixed_form, image_name, load as load_of, stripped_form, Refusal, NAME_DIGITS};
 use std::ffi::{OsStr, OsString};
 use std::io::{self, IsTerminal, Write};
 use std::path::Path;
@@ -15,18 +15,26 @@ const OUT: &str = "-o";
 /// The most domains that an image has.
 const DOMAINS: u32 = 16;
 
-/// The one image of a program.
+/// The one image of a program, or the archive's name for it: the first digits of its SHA-256 sum.
 pub fn fixed(words: &[OsString]) -> Result<Status, Error> {
-    let words = Arguments::parse(words, "fixed", &[OUT])?;
+    let words = Arguments::parse(words, "fixed", &[OUT], &[NAME])?;
     if words.help {
         return help::show("fixed");
     }
-    rewritten(&words, fixed_form)
+    if !words.flag(NAME) {
+        return rewritten(&words, fixed_form);
+    }
+    words.outputs_apart(&[], &[OUT])?;
+    let program = Program::read(&words)?;
+    match fixed_form(&program.image) {
+        Ok(form) => write(&words, format!("{:.NAME_DIGITS$}\n", image_name(&form).to_string()).as_bytes()),
+        Err(refusal) => program.refused(refusal, false),
+    }
 }
 
 /// An image without the watches below the kept domains.
 pub fn strip(words: &[OsString]) -> Result<Status, Error> {
-    let words = Arguments::parse(words, "strip", &["--keep", OUT])?;
+    let words = Arguments::parse(words, "strip", &["--keep", OUT], &[])?;
     if words.help {
         return help::show("strip");
     }
@@ -36,7 +44,7 @@ pub fn strip(words: &[OsString]) -> Result<Status, Error> {
 
 /// The image of a seed and a depth.
 pub fn load(words: &[OsString]) -> Result<Status, Error> {
-    let words = Arguments::parse(words, "load", &[OUT])?;
+    let words = Arguments::parse(words, "load", &[OUT], &[])?;
     if words.help {
         return help::show("load");
     }

@@ -3,15 +3,19 @@
 
     cli/tests/fuzz.py [--seed N] [--seconds S] [--command FILE]
 
-Every call must end by itself, with one of the five exit statuses and without a panic or a traceback; a verdict must be
-that of the tool's own check (tools/watchlang/gate.py). Counts the calls by command and status. The same seed makes the
+Every call must end by itself, with one of the five exit statuses, or by the signal that it was sent, without a panic or a
+traceback; a verdict must be that of the tool's own check (python/bukzarn/lang/gate.py). Inputs stay as they are, whatever
+the outputs name, also where they are hard links or standard input; no file is left beside; nothing is shown that a terminal
+would obey. Counts the calls by command and status. The same seed makes the
 same calls, as far as the time goes. A call that fails is printed with its folder, which is kept.
 """
 import argparse
 import collections
+import contextlib
 import os
 import random
 import shutil
+import signal
 import subprocess
 import sys
 import tempfile
@@ -19,28 +23,30 @@ import time
 from pathlib import Path
 
 ROOT = Path(__file__).resolve().parents[2]
-sys.path.insert(0, str(ROOT / "tools"))
+sys.path.insert(0, str(ROOT / "python"))
 sys.setrecursionlimit(50_000)
 
-from watchlang.gate import verdict  # noqa: E402
+from bukzarn.lang.gate import verdict  # noqa: E402
 
 STATUSES = range(5)
+SIGNALS = (-signal.SIGHUP, -signal.SIGINT, -signal.SIGTERM)
 LONGEST_CALL = 60  # seconds
 WRONG = (b"panicked", b"Traceback")
 TEXTS_IN = 40  # one call in so many is about a text: starting Python takes long
 
 COMMANDS = {
-    "run": ("--budget", "--log", "--out", "--report", "--log-file"),
-    "check": (),
+    "run": ("--budget", "--log", "--out", "--report", "--log-file", "--name", "--cells", "--totals"),
+    "check": ("--name",),
     "need": ("--out", "--budget", "--log"),
-    "fixed": ("-o",),
+    "fixed": ("-o", "--name of it"),
     "strip": ("--keep", "-o"),
     "load": ("-o",),
 }
 # What each option takes: values that make sense, and others.
 NUMBERS = ("0", "1", "9", "10", "12", "255", "100000", "4294967295"), ("4294967296", "-1", "+1", "1e3", "", "x", "9" * 20)
-INPUTS = ("recording", "image", "/dev/null"), ("made", "-", ".", "missing", "no/such/folder/file", "", b"\xff\xfe")
-OUTPUTS = ("made", "made2", "/dev/null", "/dev/full"), ("image", "recording", "-", ".", "no/such/folder/file", "", b"\xff")
+INPUTS = ("recording", "image", "/dev/null", "-"), ("made", "-", ".", "missing", "no/such/folder/file", "", b"\xff\xfe\x1b[31m")
+OUTPUTS = (("made", "made2", "/dev/null", "/dev/full", "./made", "dangling"),
+           ("image", "recording", "hard", "soft", "-", ".", "no/such/folder/file", "", b"\xff", "\x1b[31m", "/dev/stdin"))
 VALUES = {
     "--frame": INPUTS, "--frames": INPUTS, "--length": (("1", "12", "12", "256", "5000"), NUMBERS[1]),
     "--budget": NUMBERS, "--log": NUMBERS, "-o": OUTPUTS, "--report": OUTPUTS, "--log-file": OUTPUTS,
@@ -48,6 +54,11 @@ VALUES = {
     "--keep": (("0", "0,1", "0x3", "0x1"), ("1", "0,0", "0xffff", "0x", "15", "16", ",", "decoder", "")),
 }
 SENSE_IN = 20  # of so many values all but one make sense
+VALUES["--name"] = ("0123456789abcdef", "0" * 64), ("", "x", "0123", "0" * 65, b"\xff" * 16)
+FLAGS = ("--cells", "--totals", "--name of it")
+REDIRECTED = ("< recording", "< image", ">&-", "2>&-", "> /dev/full", "<&-", *[""] * 24)
+KILLED_IN = 25  # one call in so many is sent a signal while it runs
+OBEYED = (b"\x1b", b"\x07", b"\x9b")
 
 
 class Case:
@@ -87,9 +98,22 @@ class Case:
         image = self.damaged(self.rng.choice(self.seeds["images"]))
         (self.folder / "image").write_bytes(image)
         (self.folder / "recording").write_bytes(self.damaged(self.rng.choice(self.seeds["recordings"])))
-        for name in ("made", "made2"):
+        for name in ("made", "made2", "hard", "soft", "dangling", "\x1b[31m", b"\xff".decode("utf-8", "surrogateescape")):
             (self.folder / name).unlink(missing_ok=True)
+        for left in self.folder.glob(".bukzarn*"):  # of a call that was ended by a signal
+            left.unlink()
+        os.link(self.folder / self.rng.choice(("image", "recording")), self.folder / "hard")
+        (self.folder / "soft").symlink_to("recording")
+        (self.folder / "dangling").symlink_to("made")
+        self.inputs = {name: (self.folder / name).read_bytes() for name in ("image", "recording")}
         return image
+
+    def kept(self, words, redirected):
+        """Is what the words read what it was, and is nothing left beside?"""
+        read = {words[1], *(value for option, value in zip(words, words[1:]) if option in ("--frame", "--frames"))}
+        read |= {redirected[2:]} if "-" in read else set()
+        same = all((self.folder / name).read_bytes() == self.inputs[name] for name in read & set(self.inputs))
+        return same and not any(file.name.startswith(".bukzarn") for file in self.folder.iterdir())
 
     def texts(self):
         procedure, watches = self.rng.choice(self.seeds["texts"])
@@ -119,7 +143,7 @@ class Case:
         if command == "run":
             names += rng.choice(([], ["--frame"], ["--frames", "--length"], ["--frames", "--length"], ["--length"]))
         for option in names:
-            options += [option, self.value(option)]
+            options += [option.split()[0]] if option in FLAGS else [option, self.value(option)]
         if rng.randrange(30) == 0:
             odd = rng.choice(("--help", "--", "-", "--fast", "--=", "-x", b"--\xff=1"))
             options.insert(rng.randrange(len(options) + 1), odd)
@@ -136,13 +160,19 @@ def seeds():
     return {"images": images, "texts": texts, "recordings": recordings}
 
 
-def call(program, words, folder, rng):
+def call(program, given, folder, rng, redirected):
     """The call's status and what it said; a reader who goes away at once is one of the cases."""
     pipe = subprocess.PIPE
-    child = subprocess.Popen([program, *words], cwd=folder, stdin=pipe, stdout=pipe, stderr=pipe)
+    words = ["bash", "-c", f'exec "$0" "$@" {redirected}', program, *given] if redirected else [program, *given]
+    child = subprocess.Popen(words, cwd=folder, stdin=pipe, stdout=pipe, stderr=pipe)
     if rng.randrange(25) == 0:
         child.stdout.close()
         child.stdout = None
+    if rng.randrange(KILLED_IN) == 0:
+        with contextlib.suppress(BrokenPipeError):
+            os.write(child.stdin.fileno(), rng.randbytes(rng.choice((0, 12, 30))))
+        time.sleep(rng.choice((0, 0.002, 0.02)))
+        child.send_signal(rng.choice((signal.SIGINT, signal.SIGTERM, signal.SIGHUP)))
     try:
         out, error = child.communicate(rng.choice((b"", b"\n", rng.randbytes(40))), timeout=LONGEST_CALL)
     except subprocess.TimeoutExpired:
@@ -152,13 +182,17 @@ def call(program, words, folder, rng):
     return child.returncode, out or b"", error
 
 
-def fault(words, image, status, out, error):
+def fault(words, image, status, out, error, kept):
     """What is wrong with a call, or nothing."""
     if status is None:
         return f"did not end within {LONGEST_CALL} seconds"
-    if status not in STATUSES or any(word in error for word in WRONG):
+    if status not in (*STATUSES, *SIGNALS) or any(word in error for word in WRONG):
         return f"ended with {status}: {error.decode(errors='replace')[-400:]}"
-    if words == ["check", "image"] and out:
+    if not kept:
+        return "an input was changed, or a file left beside"
+    if any(sign in error for sign in OBEYED):
+        return f"showed a sign that a terminal obeys: {error!r}"
+    if words == ["check", "image"] and out and status in (0, 1):
         refused = verdict(image)
         wanted = f"refused {refused.number} {refused.place}\n" if refused else "accepted\n"
         if out.decode() != wanted:
@@ -178,11 +212,12 @@ def main():
     while time.monotonic() < end:
         image = case.write()
         words = case.words(rng.choice(list(COMMANDS)))
-        status, out, error = call(args.command, words, folder, rng)
-        wrong = fault(words, image, status, out, error)
+        redirected = rng.choice(REDIRECTED)
+        status, out, error = call(args.command, words, folder, rng, redirected)
+        wrong = fault(words, image, status, out, error, status in SIGNALS or case.kept(words, redirected))
         if wrong:
             sys.exit(f"call {sum(counts.values())} in {folder}: {words}\n{wrong}")
-        counts[words[0], status] += 1
+        counts[words[0], max(status, -1)] += 1
     shutil.rmtree(folder)
     print(f"seed {args.seed}: {sum(counts.values())} calls, none crashed, hung or panicked")
     for name in COMMANDS:

@@ -1,6 +1,7 @@
-/* A receiver: reads a recording, frames of one length one after another, runs an image over each, and prints a line for
-   each printed number: frame, domain, number. Frames whose run is not done are counted and told at the end. It makes a
-   call for each frame, as for frames that come one by one; bukzarn_run_frames would take many of a recording at once.
+/* A receiver: reads a recording or a pipe, frames of one length one after another, runs an image over each, and prints a
+   line for each printed number: frame, domain, number, before it waits for the next frame. Frames whose run is not done are
+   counted and told at the end. It makes a call for each frame, as for frames that come one by one; bukzarn_run_frames would
+   take many of a recording at once. With a name it refuses another image than the one of that name (name.h).
 
    Build and run in the repository's root:
        rt staticlib bukzarn
@@ -8,12 +9,13 @@
            examples/c/receiver.c target/staticlib/libbukzarn.a
        target/receiver_c examples/ascent/watched.img examples/ascent/ascent.frames 12
 
-   Exit status: 0 every run is done, 1 refused, 2 wrong use, 3 reading or writing failed, 4 a run ended otherwise. */
+   Exit status: 0 every run is done, 1 refused or another image, 2 wrong use, 3 reading or writing failed, 4 a run ended otherwise. */
 #include <inttypes.h>
 #include <stdio.h>
 #include <stdlib.h>
 
 #include "bukzarn.h"
+#include "name.h"
 
 enum { DONE = 0, REFUSED = 1, USAGE = 2, FAILED = 3, OTHERWISE = 4 };
 enum { BUDGET = 100000, LOG_LENGTH = 16384, FRAME_LIMIT = 65536 };
@@ -35,6 +37,17 @@ static long read_image(const char *name)
     int failed = ferror(file);
     fclose(file);
     return failed ? -1 : (long)length;
+}
+
+/* Is this the image of the name that came with it? Else says what it is. */
+static int has_name(size_t image_length, const char *digits)
+{
+    char name[NAME_DIGITS + 1];
+    name_of(name, image, image_length);
+    if (name_begins_with(name, digits))
+        return 1;
+    fprintf(stderr, "receiver_c: this is another image: its name is %s\n", name);
+    return 0;
 }
 
 static void print_log(unsigned long number, size_t length)
@@ -59,6 +72,8 @@ static int receive(size_t image_length, FILE *recording, size_t length)
         }
         print_log(number++, bukzarn_log_bytes(answer));
         otherwise += bukzarn_outcome_of(report) != BUKZARN_DONE;
+        if (fflush(stdout) != 0)
+            break;
     }
     if (ferror(recording) || fflush(stdout) != 0 || ferror(stdout)) {
         fprintf(stderr, "receiver_c: reading or writing failed\n");
@@ -75,15 +90,17 @@ static int receive(size_t image_length, FILE *recording, size_t length)
 int main(int argc, char **argv)
 {
     char *end = "";
-    long length = argc == 4 ? strtol(argv[3], &end, 10) : 0;
+    long length = argc == 4 || argc == 5 ? strtol(argv[3], &end, 10) : 0;
     if (length < 1 || length > FRAME_LIMIT || *end != '\0') {
-        fprintf(stderr, "usage: receiver_c IMAGE RECORDING LENGTH, with a length from 1 to %d\n", FRAME_LIMIT);
+        fprintf(stderr, "usage: receiver_c IMAGE RECORDING LENGTH [NAME], with a length from 1 to %d\n", FRAME_LIMIT);
         return USAGE;
     }
     long image_length = read_image(argv[1]);
+    if (image_length >= 0 && argc == 5 && !has_name((size_t)image_length, argv[4]))
+        return REFUSED;
     FILE *recording = fopen(argv[2], "rb");
     if (image_length < 0 || recording == NULL) {
-        fprintf(stderr, "receiver_c: %s cannot be read\n", image_length < 0 ? argv[1] : argv[2]);
+        fprintf(stderr, "receiver_c: the %s cannot be read\n", image_length < 0 ? "image" : "recording");
         return FAILED;
     }
     int status = receive((size_t)image_length, recording, (size_t)length);

@@ -89,7 +89,7 @@ int main(int argc, char **argv)
     }
     size_t length = fread(image, 1, sizeof image, file);
     if (ferror(file)) {
-        fprintf(stderr, "watch_c: %s cannot be read\n", argv[1]);
+        fprintf(stderr, "watch_c: the image cannot be read\n");
         return 2;
     }
     fclose(file);

@@ -4,9 +4,10 @@ from pathlib import Path
 
 ROOT = Path(__file__).resolve().parents[2]
 STORED = ROOT / "crates/watch"
-sys.path.insert(0, str(ROOT / "tools"))
+for folder in ("python", "tools/generate", "tools/house"):
+    sys.path.insert(0, str(ROOT / folder))
 
-import watchtool  # noqa: E402 (the path is set here)
+from bukzarn import watchtool  # noqa: E402 (the path is set here)
 
 sys.setrecursionlimit(watchtool.DEEPEST)
 

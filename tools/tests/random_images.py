@@ -2,9 +2,9 @@
 import random
 
 import common  # noqa: F401 (the path of the tools)
-from watchlang import kinds, terms, types
-from watchlang.layout import Refused, laid_out
-from watchlang.records import written
+from bukzarn.lang import kinds, terms, types
+from bukzarn.lang.layout import Refused, laid_out
+from bukzarn.lang.records import written
 
 
 class Maker:

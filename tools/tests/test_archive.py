@@ -5,8 +5,8 @@ from unittest import mock
 
 import common
 from test_tool import run
-from watchlang import archive, programs
-from watchlang.layout import Refused
+from bukzarn.lang import archive, programs
+from bukzarn.lang.layout import Refused
 
 FOLDER = common.ROOT / "examples"
 # The image of this example is its own fixed form.

@@ -35,7 +35,7 @@ class Commands(unittest.TestCase):
         folder = tempfile.TemporaryDirectory()
         self.addCleanup(folder.cleanup)
         self.root = Path(folder.name)
-        for name in ("tools", "examples"):
+        for name in ("tools", "python", "examples"):
             shutil.copytree(common.ROOT / name, self.root / name, ignore=shutil.ignore_patterns("__pycache__", "tests"))
         (self.root / "target").symlink_to(common.ROOT / "target")
 
@@ -111,14 +111,56 @@ class Commands(unittest.TestCase):
         section = "A procedure without its watches"
         if not (common.ROOT / "target/bin/strip").exists():
             self.skipTest("the programs are not built")
-        command = commands(section, RESEARCHERS)[-1]
         lines = indented(section, RESEARCHERS)
-        self.assertEqual(self.shell(command, self.root).splitlines(), lines[lines.index(command) + 1:])
+        for command in [line for line in lines if " rerun " in line]:
+            if "--frames" not in command or BUKZARN.exists():
+                shown = lines[lines.index(command) + 1:]
+                said = self.shell(command, self.root).splitlines()
+                self.assertEqual(said, shown[:len(said)])
+
+    def test_totals_are_as_shown(self):
+        """docs/RESEARCHERS.md, over the recorded ascent; docs/STATIONS.md, many recordings side by side."""
+        if not BUKZARN.exists():
+            self.skipTest("the command is not built")
+        lines = indented("Over a recording", RESEARCHERS)
+        command = next(line for line in lines if line.endswith("--totals"))
+        said = self.shell(command, self.root / "examples/ascent", 4).splitlines()
+        start = lines.index(said[0])
+        self.assertEqual(lines[start:start + len(said)], said)
+
+    def test_the_first_page(self):
+        """README.md, "Use it", word for word: each command ends as the page says, and the picture is there."""
+        if not BUKZARN.exists():
+            self.skipTest("the command is not built")
+        (self.root / "target").unlink()
+        (self.root / "target/bin").mkdir(parents=True)
+        (self.root / "target/bin/bukzarn").symlink_to(BUKZARN)
+        page = (common.ROOT / "README.md").read_text(encoding="utf-8")
+        shown = commands("Use it", page)
+        self.assertEqual(len(shown), 8)
+        for command in shown:
+            self.shell(command, self.root, 4 if "--frames" in command else 1 if "alter.watch" in command else 0)
+        self.assertEqual((self.root / "target/ascent.csv").read_bytes(), (common.ROOT / "examples/ascent/watched.csv").read_bytes())
+        self.assertTrue((self.root / "target/ascent.svg").read_text(encoding="utf-8").startswith("<svg"))
+
+    def test_a_whole_archive(self):
+        """The lines of docs/STATIONS.md, over three recordings, one of them with a name that a shell would take apart."""
+        if not BUKZARN.exists():
+            self.skipTest("the command is not built")
+        shown = indented("A whole archive", (common.ROOT / "docs/STATIONS.md").read_text(encoding="utf-8"))
+        year = self.root / "year"
+        year.mkdir()
+        for name in ("a", "b", "$(touch ran) c;'"):
+            shutil.copy(common.ROOT / "examples/ascent/ascent.frames", year / f"{name}.frames")
+        self.shell("\n".join(shown), self.root, 123)
+        table = (common.ROOT / "examples/ascent/watched.csv").read_bytes()
+        self.assertEqual([file.read_bytes() for file in year.glob("*.csv")], [table] * 3)
+        self.assertFalse((self.root / "ran").exists())
 
     def test_images_and_listings_are_made_anew(self):
         """The last command of the page writes what is stored, from the texts and the built programs."""
         command = commands("Commands")[-2]
-        self.assertTrue(command.startswith("python3 tools/make_examples.py"), command)
+        self.assertTrue(command.startswith("python3 tools/generate/make_examples.py"), command)
         if not (common.ROOT / "target/bin/need").exists():
             self.skipTest("the programs are not built")
         for file in (self.root / "examples").glob("*.img"):

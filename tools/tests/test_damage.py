@@ -4,11 +4,11 @@ import unittest
 
 import common
 import make_examples
-from watchlang import recordform, refusals, report
-from watchlang.assembler import assemble
-from watchlang.disassembler import disassemble
-from watchlang.gate import verdict
-from watchlang.lexer import SourceError, tokens
+from bukzarn.lang import recordform, refusals, report
+from bukzarn.lang.assembler import assemble
+from bukzarn.lang.disassembler import disassemble
+from bukzarn.lang.gate import verdict
+from bukzarn.lang.lexer import SourceError, tokens
 
 FOLDER = common.ROOT / "examples"
 ROUNDS = 400

@@ -5,10 +5,10 @@ import unittest
 import common
 import make_examples
 import random_images
-from watchlang.assembler import assemble
-from watchlang.disassembler import program, tree
-from watchlang.gate import verdict
-from watchlang.layout import laid_out
+from bukzarn.lang.assembler import assemble
+from bukzarn.lang.disassembler import program, tree
+from bukzarn.lang.gate import verdict
+from bukzarn.lang.layout import laid_out
 
 WATCH, NEED, FIXED, STRIP = (common.ROOT / "target/bin" / name for name in ("watch", "need", "fixed", "strip"))
 

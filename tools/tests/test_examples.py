@@ -6,11 +6,11 @@ from pathlib import Path
 import common
 import make_examples
 import make_stored
-from watchlang import refusals
-from watchlang.assembler import assemble
-from watchlang.disassembler import disassemble, program, tree
-from watchlang.layout import laid_out
-from watchlang.terms import child_domains
+from bukzarn.lang import refusals
+from bukzarn.lang.assembler import assemble
+from bukzarn.lang.disassembler import disassemble, program, tree
+from bukzarn.lang.layout import laid_out
+from bukzarn.lang.terms import child_domains
 
 FOLDER = common.ROOT / "examples"
 WITH_WATCHES = ("count", "trace", "watched", "corrected", "three", "plausible", "greedy")
@@ -153,7 +153,7 @@ class Stored(unittest.TestCase):
 
 class Files(unittest.TestCase):
     def test_no_file_is_long(self):
-        for file in Path(common.ROOT / "tools").rglob("*.py"):
+        for file in (*Path(common.ROOT / "tools").rglob("*.py"), *Path(common.ROOT / "python").rglob("*.py")):
             self.assertLessEqual(len(file.read_text().splitlines()), 400, file)
 
 

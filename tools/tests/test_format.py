@@ -4,11 +4,11 @@ import unittest
 
 import common
 from test_numbers import cases, constants
-from watchlang import kinds, outcomes, report
-from watchlang.assembler import assemble
-from watchlang.gate import verdict
-from watchlang.layout import laid_out
-from watchlang.records import lengths
+from bukzarn.lang import kinds, outcomes, report
+from bukzarn.lang.assembler import assemble
+from bukzarn.lang.gate import verdict
+from bukzarn.lang.layout import laid_out
+from bukzarn.lang.records import lengths
 
 PAGE = (common.ROOT / "docs/FORMAT.md").read_text(encoding="utf-8")
 HEAD, LONG = 4, 4

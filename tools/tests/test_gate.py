@@ -2,8 +2,8 @@
 import unittest
 
 import common
-from watchlang import kinds, refusals, rules
-from watchlang.gate import verdict
+from bukzarn.lang import kinds, refusals, rules
+from bukzarn.lang.gate import verdict
 
 
 class Gate(unittest.TestCase):

@@ -3,11 +3,11 @@ import re
 import unittest
 
 import common
-from watchlang import hints, kinds
-from watchlang.assembler import assemble
-from watchlang.gate import verdict
-from watchlang.layout import laid_out
-from watchlang.lexer import KEYWORDS
+from bukzarn.lang import hints, kinds
+from bukzarn.lang.assembler import assemble
+from bukzarn.lang.gate import verdict
+from bukzarn.lang.layout import laid_out
+from bukzarn.lang.lexer import KEYWORDS
 
 PAGE = (common.ROOT / "docs/LANGUAGE.md").read_text(encoding="utf-8")
 
@@ -39,6 +39,9 @@ PARTS = {
     "keep A with B { C }": {"A": LABEL},
     "match A with [P as x, any, rest as y] then B else C": {"A": "stack", "P": CUT},
     "(var 2 : t)": {"t": "number", "2": "0"},
+    "A and B": {"A": "true", "B": "false"},
+    "A or B": {"A": "true", "B": "false"},
+    "not A": {"A": "true"},
     "abort t": {"t": "number"},
     "(A : t)": {"t": "number"},
 }
@@ -97,16 +100,27 @@ class Page(unittest.TestCase):
                     self.assertLessEqual(set(numbers(said)), found)
 
     def test_what_other_languages_have(self):
-        """The messages say the same as the page, and what the page says to write is accepted."""
-        told = [*hints.INSTEAD.values(), hints.NEGATIVE]
+        """The messages say the same as the page."""
         found = rows("If you come from another language")
         self.assertEqual(len(found), 8)
-        for (instead,), cell in found:
-            write = cell.strip("`")
-            self.assertIn(f"for {instead} write {write}", told)
-            value = "true" if re.search(r"if a then|\bnot\b", write) else "1"
-            text = f"domain d let a = {value} in let b = {value} in let x = 1 in {{ {write} }}"
-            self.assertIsNone(verdict(assemble(text).image), write)
+        for (sign,), cell in found:
+            self.assertIn(f"write {cell.strip('`')}", hints.INSTEAD[sign.replace("\\", "")])
+
+    def test_shorter_ways_stand_for_what_the_page_says(self):
+        """Each operator gives the image of the form beside it."""
+        shown = 0
+        for texts, said in rows("Terms"):
+            form = re.match(r"`([^`]+)`(:|$)", said)
+            if len(texts) == 1 and form and re.match(r"A [<>=!]+ B|A and B|A or B|not A|-A", texts[0]):
+                parts = {"A": "true", "B": "false"} if re.search(r"and|or|not", texts[0]) else {"A": "frame[1]", "B": "frame[2]"}
+                made = [re.sub(r"\b[AB]\b", lambda found: parts[found.group()], text) for text in (texts[0], form[1])]
+                self.assertEqual(*(assemble(HEAD + text).image for text in made), texts[0])
+                shown += 1
+        self.assertEqual(shown, 8)
+
+    def test_the_words_of_the_language_are_listed(self):
+        listed = PAGE.split("words of the language:\n\n")[1].split("\n\n")[0]
+        self.assertEqual(re.findall("`([a-z]+)`", listed), sorted(KEYWORDS))
 
     def test_the_words_of_the_language_are_used_on_the_page(self):
         shown = " ".join(re.findall("`([^`]*)`", PAGE) + PAGE.split("```")[1::2])

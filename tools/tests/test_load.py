@@ -4,9 +4,9 @@ import unittest
 
 import common
 from test_tool import EXAMPLES, run
-from watchlang import generated, kinds
-from watchlang.gate import verdict
-from watchlang.records import record
+from bukzarn.lang import generated, kinds
+from bukzarn.lang.gate import verdict
+from bukzarn.lang.records import record
 
 LOAD = common.ROOT / "target/bin/load"
 HEAD = record(kinds.DOMAIN, 1) + record(kinds.UNIT_T) + record(kinds.NUMBER_T)

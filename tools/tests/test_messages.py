@@ -9,10 +9,10 @@ import unittest
 from pathlib import Path
 
 import common
-from watchlang import forms, refusals
-from watchlang.assembler import assemble
-from watchlang.gate import verdict
-from watchlang.lexer import TOKEN_LIMIT, SourceError, tokens
+from bukzarn.lang import forms, refusals
+from bukzarn.lang.assembler import assemble
+from bukzarn.lang.gate import verdict
+from bukzarn.lang.lexer import TOKEN_LIMIT, SourceError, tokens
 
 HEAD = "domain main\ndomain watch <= main\n"
 LEVEL = HEAD + "let level = new label number in let c = new cell 1 in watches at watch; mark level with 5; "
@@ -41,26 +41,46 @@ ERRORS = (
     ("print 1)", "found ')': there is nothing here for it to close"),
     ("(1, 2, 3)", "for three write (a, (b, c))"),
     # Signs and words of other languages.
-    ("if 1 > 2 then 1 else 2", "'>' is not part of the language: for a > b write b < a"),
-    ("if 1 >= 2 then 1 else 2", "for a >= b write if a < b then false else true"),
-    ("if 1 <= 2 then 1 else 2", "for a <= b write if b < a then false else true"),
-    ("if 1 ≤ 2 then 1 else 2", "'≤' is not part of the language: for a <= b write"),
-    ("if 1 != 2 then 1 else 2", "for a != b write if a == b then false else true"),
+    ("if 1 ≤ 2 then 1 else 2", "'≤' is not part of the language: write a <= b"),
     ("if 1 = 2 then 1 else 2", "expected 'then' after the test of an if, but found '=': to compare write a == b"),
-    ("if true && false then 1 else 2", "for a and b write if a then b else false"),
-    ("if true and false then 1 else 2", "for a and b write if a then b else false"),
-    ("if true || false then 1 else 2", "for a or b write if a then true else b"),
-    ("if not true then 1 else 2", "for not a write if a then false else true"),
-    ("2 * 3", "there is no multiplication"),
+    ("if true && false then 1 else 2", "'&&' is not part of the language: write a and b"),
+    ("if true || false then 1 else 2", "'||' is not part of the language: write a or b"),
+    ("if !true then 1 else 2", "'!' is not part of the language: write not a"),
+    ("1 and true", "line 3, column 1: 'and' takes a truth, but this is a number: compare it, with == or <"),
+    ("true or frame[0]", "line 3, column 9: 'or' takes a truth, but this is a number"),
+    ("not 5", "line 3, column 5: 'not' takes a truth, but this is a number"),
+    ("1 + not true", "found 'not': put parentheses or braces around it"),
+    ("-true", "'-' takes a number, but this is a truth"),
+    ("true > 1", "line 3, column 1: '>' takes a number, but this is a truth"),
+    ("and true", "found 'and': it belongs to TEST and TEST"),
+    ("frame[0] * frame[1]", "one factor must be a constant, k * x"),
+    ("2 * true", "'*' takes a number, but this is a truth"),
+    ("1000000 * 1000000", "the product must be from -2147483648 to 2147483647, but is 1000000000000"),
+    ("4 / 2", "'/' is not part of the language: there is no division"),
+    # Both sides do something, and the right one would come first.
+    ("let c = new cell 1 in { c := 2; 3 } > { c := 4; 5 }", "'>' works out its right side first, and both sides do something: "
+                                                          "bind one of them before"),
+    ("{ print 1; 2 } <= { print 3; 4 }", "'<=' works out its right side first"),
+    ("define f (n : number) { n } in f(1) > f(2)", "'>' works out its right side first"),
+    # Constants.
+    ("const a = 5\nconst a = 6\na", "a constant is declared twice: a"),
+    ("const a = 5\nlet a = 6 in a", "line 4, column 5: a is a constant, 5: take another name for a variable"),
+    ("const a = 5\ndefine f (a : number) { a } in f(1)", "a is a constant, 5: take another name for a parameter"),
+    ("const a = 2147483648\na", "a constant must be from -2147483648 to 2147483647"),
+    ("const a = true\na", "expected a number for a constant, but found 'true': write const NAME = NUMBER"),
+    ("const a 5\na", "found '5': write const NAME = NUMBER"),
+    ("let x = 5 in const a = 5 a", "found 'const'"),
     ("// 3", "a comment starts with #"),
     ('print "p"', "there are no strings"),
     ("c += 1", "to add to a cell write"),
     ("c++", "'++' is not part of the language: to add to a cell write"),
-    ("1.5", "numbers are whole: count in tenths"),
+    ("1.5", "line 3, column 1: numbers are whole: count in tenths or hundredths, so that 5.5 degrees are 55 tenths"),
+    ("let t = 6 in\n  if 5.5 < t then print t else ()", "line 4, column 6: numbers are whole: count in tenths"),
+    (".5", "found '.': numbers are whole"),
     ("1e3", "'1e3' is not a number"),
     ("5 \u2212 3", "write the plain sign -"),
-    ("let x = 5 in -x", "for -x write 0 - x"),
-    ("1 < 2 < 3", "comparisons cannot be chained"),
+    ("1 < 2 < 3", "comparisons cannot be chained: write a < b and b < c"),
+    ("1 < 2 >= 3", "comparisons cannot be chained: write a < b and b < c"),
     ("x = 5; x", "x is not bound here: to bind a name write let x = ... in"),
     ("var x = 5; x", "found 'x': to bind a name write let x = ... in"),
     ("def f(x) { x } in f(1)", "def is not bound here: write define f (x : type)"),
@@ -68,6 +88,11 @@ ERRORS = (
     ("Print 5", "Print is not bound here: perhaps you mean print"),
     ("let level = 5 in leve1", "leve1 is not bound here: perhaps you mean level; in scope are: level"),
     # Branches, functions, types, domains, the frame.
+    ("if 1 < 2 then 3 else ()", "line 3, column 22: the first branch gives a number, the second nothing: give both branches"),
+    ("match stack with [] then 3\nelse ()", "line 4, column 6: the first branch gives a number, the second nothing"),
+    (LABEL + "install advice on pointcut {l} as x { if x < 5 then print 5 else\n6 }", "line 4, column 1: the first branch gives "
+     "nothing, the second a number"),
+    ("if true then (1, 2) else (1, true)", "the branches give different types: give both branches the same type"),
     ("if 1 < 2 then 3", "found the end of the text: write if TEST then TERM else TERM, with else () where nothing"),
     ("if 1 < 2 then print 1; print 2 else ()", "found ';': put a branch of several terms in braces, { a; b }"),
     ("if 1 < 2 then let x = 1 in x else 2", "found 'let': put parentheses or braces around it: { let ... }"),
@@ -156,8 +181,8 @@ MENDS = (
     (OBJECT + "print o", "Call one of the object's methods: o.m."),
     ("let f = function (x : number) { x } in print f", "Apply the function: f(x)."),
     ("if 1 then 2 else 3", "Compare it, with == or <."),
-    ("if 1 < 2 then 3 else ()", "Give both branches the same type"),
-    ("match stack with [] then 3 else ()", "Give both branches the same type"),
+    ("(if 1 < 2 then 3 else () : number)", "Give both branches the same type"),
+    ("(match stack with [] then 3 else () : number)", "Give both branches the same type"),
     ("5; 6", "Print it, or give it a name with let."),
     ("(5 : truth)", "Change the part that is named, or its stated type."),
 )
@@ -171,7 +196,8 @@ DEEP = ("(", "{ ", "(1, ", "1 + (", "f(", "read ", "let x = ", "let x = 1 in ", 
 
 # A program that checks all files of its arguments, and prints how each check ended.
 CHECK_ALL = """
-import sys, watchtool
+import sys
+from bukzarn import watchtool
 for file in sys.argv[1:]:
     try:
         watchtool.main(["check", file])
@@ -209,6 +235,28 @@ class Messages(unittest.TestCase):
             with self.assertRaises(SourceError) as caught:
                 assemble(LEVEL + "1", "p", [(watch, "w")])
             self.assertIn(words, str(caught.exception))
+
+    def test_a_watch_without_a_term(self):
+        for watch, place in (("", "line 1, column 1"), ("\n\n", "line 1, column 1"), ("# nothing yet\n", "line 1, column 1"),
+                             ("const a = 5\n", "line 1, column 11")):
+            with self.assertRaises(SourceError) as caught:
+                assemble(LEVEL + "1", "p", [(watch, "w")])
+            self.assertIn(f"w, {place}: this watch is empty: write install advice on pointcut", str(caught.exception))
+            self.assertTrue(caught.exception.excerpt().endswith("^"))
+
+    def test_the_line_is_shown_with_a_sign_below(self):
+        for line, shown in (("  print 5.5", "\n    print 5.5\n          ^"), ("\tprint\t5.5", "\n    print 5.5\n          ^"),
+                            ("print 5.5 # \x1b[31m\u202e", "\n    print 5.5 # \\x1b[31m\\u202e\n          ^"),
+                            ("print 1; " * 40 + "print 5.5", "\n    ... " + ("print 1; " * 40)[-44:] + "print 5.5\n"
+                             + " " * 58 + "^")):
+            with self.assertRaises(SourceError) as caught:
+                assemble(HEAD + line, "p")
+            self.assertEqual(caught.exception.excerpt(), shown)
+
+    def test_a_constant_of_a_watch_is_no_variable_of_its_procedure(self):
+        with self.assertRaises(SourceError) as caught:
+            assemble(LEVEL + "1", "p", [("const c = 5\nprint c", "w")])
+        self.assertIn("w, line 1, column 7: c is a variable of the procedure", str(caught.exception))
 
     def test_names_that_the_procedure_binds_later(self):
         procedure = HEAD + "watches at watch; let top = 5 in define f (n : number) { n } in f(top)"
@@ -289,10 +337,10 @@ class Files(unittest.TestCase):
             files[-1].write_text("domain a\n" + part * ((TOKEN_LIMIT - 100) // (len(tokens(part, "")) - 1)))
         start = spent()
         command = [sys.executable, "-c", CHECK_ALL, *files]
-        ended = subprocess.run(command, cwd=TOOL.parent, capture_output=True, text=True, check=False)
+        ended = subprocess.run(command, cwd=common.ROOT / "python", capture_output=True, text=True, check=False)
         self.assertEqual((ended.returncode, ended.stderr), (0, ""))
         self.assertLess(spent() - start, len(DEEP))
-        said = ended.stdout.splitlines()
+        said = [line for line in ended.stdout.splitlines() if not line.startswith("    ")]
         self.assertEqual(len(said), len(DEEP))
         for file, line in zip(files, said):
             self.assertRegex(line, rf"^watchtool: {file}, line [0-9]+, column [0-9]+: ")

@@ -7,8 +7,8 @@ from unittest import mock
 import common
 import make_examples
 from test_tool import run
-from watchlang import needs, programs
-from watchlang.layout import Refused
+from bukzarn.lang import needs, programs
+from bukzarn.lang.layout import Refused
 
 FOLDER = common.ROOT / "examples"
 

@@ -3,7 +3,7 @@ import re
 import unittest
 
 import common
-from watchlang import generated, kinds, needs, outcomes, refusals
+from bukzarn.lang import archive, generated, header as heads, kinds, needs, outcomes, refusals, sounding
 
 
 def text(*path):
@@ -56,6 +56,32 @@ class Numbers(unittest.TestCase):
         listed = text("examples", "c", "watch.c").split("outcomes[] = {")[1].split("}")[0]
         self.assertEqual(re.findall('"(.*?)"', listed), words)
         self.header_has(numbers)
+
+    def test_kinds_of_the_command(self):
+        """What `bukzarn run` reads of an image, to see whether its watches keep something: the fields of each kind of term,
+        and the kinds that it names. Where a record has as many children as its length says, they are not in the table."""
+        code = text("cli", "src", "memory.rs")
+        letters = re.findall('"(.*?)"', code.split("const TERMS")[1].split("];")[0])
+        terms = [kind for kind in kinds.KINDS if kinds.section(kind) == 2]
+        self.assertEqual(terms, list(range(kinds.UNIT, kinds.UNIT + len(letters))))
+        for kind, own in zip(terms, letters):
+            said = kinds.KINDS[kind][1][1:].replace("n", "nn")
+            self.assertEqual(own, "" if kind in kinds.GROUPS else said, kinds.name(kind))
+        named = {name: int(number) for name, number in re.findall(r"^const (\w+): u16 = (\d+);", code, re.M)}
+        self.assertGreaterEqual(len(named), 14)
+        known = {"FIRST_TYPE": kinds.UNIT_T, "FIRST_TERM": kinds.UNIT}
+        for name, number in named.items():
+            own = name.removesuffix("_TYPE") + "_T" if name.endswith("_TYPE") else name
+            self.assertEqual(number, known.get(name, getattr(kinds, own, None)), name)
+
+    def test_names_of_images(self):
+        """The least digits of a name are those of the archive's, in Rust and in C."""
+        self.assertIn(f"pub const NAME_DIGITS: usize = {archive.DIGITS};", text("bindings", "rust", "src", "name.rs"))
+        self.assertIn(f"NAME_LEAST = {archive.DIGITS},", text("examples", "c", "name.h"))
+
+    def test_the_range_of_numbers(self):
+        self.assertEqual((heads.SMALLEST, heads.LARGEST), (sounding.LEAST, sounding.GREATEST))
+        self.assertEqual((heads.SMALLEST, heads.LARGEST), (-(1 << 31), (1 << 31) - 1))
 
     def test_rooms(self):
         """What is said of an outcome names the limit; that of bindings, cells and pieces is of one half."""

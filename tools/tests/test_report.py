@@ -3,7 +3,7 @@ import struct
 import unittest
 
 import common
-from watchlang import outcomes, report
+from bukzarn.lang import outcomes, report
 
 
 def leaf(word):

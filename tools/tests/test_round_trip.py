@@ -4,11 +4,11 @@ import unittest
 
 import common
 import random_images
-from watchlang import kinds, recordform
-from watchlang.assembler import assemble
-from watchlang.disassembler import disassemble, program
-from watchlang.gate import verdict
-from watchlang.layout import Refused
+from bukzarn.lang import kinds, recordform
+from bukzarn.lang.assembler import assemble
+from bukzarn.lang.disassembler import disassemble, program
+from bukzarn.lang.gate import verdict
+from bukzarn.lang.layout import Refused
 
 RANDOM = 600
 

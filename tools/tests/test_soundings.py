@@ -8,9 +8,9 @@ from pathlib import Path
 
 import common
 import make_recording
-import watchtool
-from watchlang import sounding
-from watchlang.profile import HEIGHT, LEFT, TOP, profile
+from bukzarn import watchtool
+from bukzarn.lang import sounding
+from bukzarn.lang.profile import COLOURS, HEIGHT, LEFT, PANEL, TOP, profile
 
 FOLDER = common.ROOT / "examples/ascent"
 WATCHES = ("cloud", "cold", "battery")
@@ -77,7 +77,7 @@ class Pictures(unittest.TestCase):
         levels = [level for level in stored("watched").levels if level.marks]
         self.assertEqual(len(marks), 2 * len(levels))
         gaps = 1 + len(make_recording.GAPS)
-        self.assertEqual(len(curves), 2 * gaps)
+        self.assertEqual(len(curves), 3 * gaps)  # temperature, dew point, humidity
         for line in curves:
             for x, y in re.findall(r"([\d.]+),([\d.]+)", line.getAttribute("points")):
                 self.assertTrue(TOP <= float(y) <= TOP + HEIGHT and 0 <= float(x) <= 800, (x, y))
@@ -99,8 +99,10 @@ class Pictures(unittest.TestCase):
     def test_runs_can_be_told_apart_in_grey(self):
         """By their width and dashes alone."""
         _, curves, _ = self.drawn(*[stored("plain")] * 4)
-        styles = {(c.getAttribute("stroke-width"), c.getAttribute("stroke-dasharray")) for c in curves}
-        self.assertEqual(len(styles), 4)
+        for dew in (False, True):
+            styles = {(c.getAttribute("stroke-width"), c.getAttribute("stroke-dasharray")) for c in curves
+                      if (c.getAttribute("stroke") in COLOURS[sounding.DEW_POINT]) == dew}
+            self.assertEqual(len(styles), 4)
 
     def test_texts_do_not_overlap(self):
         """Beside the pressure axis and below each panel."""
@@ -130,7 +132,8 @@ class Pictures(unittest.TestCase):
     def test_the_legend_names_runs_and_watches(self):
         made = profile([stored("plain"), stored("watched")]).split('<g id="legend">')[1]
         self.assertEqual(re.findall("<text.*?>(.*)</text>", made),
-                         ["plain: 559 levels", "watched: 559 levels", "a watch of domain 1 printed: 114 levels"])
+                         ["plain: 559 levels", "watched: 559 levels", "dew point, from temperature and humidity",
+                          "a watch of domain 1 printed: 114 levels"])
 
     def test_pressure_goes_down_the_page(self):
         line = re.search(r'polyline points="(\S+).* (\S+)" fill', profile([stored("plain")]))
@@ -143,6 +146,45 @@ class Pictures(unittest.TestCase):
         points = curves[0].getAttribute("points").split()
         self.assertEqual((len(points), len(set(points))), (2, 1))
 
+    def test_every_domain_has_a_sign(self):
+        """Each of its own, none on another at one level, and a line of the legend for each."""
+        level = sounding.Level(0, [1000.0, 5.0, 50], [(domain, 7) for domain in range(1, 16)])
+        one = sounding.Sounding("one", sounding.COLUMNS, [level])
+        marks, _, _ = self.drawn(one)
+        self.assertEqual(len({m.getAttribute("d") for m in marks[:15]}), 15)
+        self.assertEqual(len({m.getAttribute("transform") for m in marks[:15]}), 15)
+        self.assertEqual(profile([one]).count("a watch of domain "), 15)
+
+    def test_a_constant_has_air_around_it(self):
+        one = sounding.Sounding("one", sounding.columns("pressure,wind"), [sounding.Level(n, [1000.0 - n, 5.0]) for n in range(9)])
+        _, curves, _ = self.drawn(one)
+        places = {float(point.split(",")[0]) for point in curves[0].getAttribute("points").split()}
+        self.assertEqual(places, {LEFT + PANEL / 2})
+
+    def test_no_band_without_a_title(self):
+        heights = [int(xml.dom.minidom.parseString(profile([stored("plain")], title)).documentElement.getAttribute("height"))
+                   for title in ("", "A title")]
+        self.assertEqual(heights[1] - heights[0], 34)
+        self.assertIn(f'viewBox="0 34 ', profile([stored("plain")]))
+
+    def test_dew_points(self):
+        """Against the psychrometric tables: 20 degrees and 50 per cent are 9.3, saturated air has its own."""
+        for temperature, humidity, dew in ((20, 50, 9.3), (0, 100, 0), (-30, 100, -30), (30, 80, 26.2), (-60, 10, -77)):
+            self.assertAlmostEqual(sounding.dew_point(temperature, humidity), dew, delta=0.6)
+        for temperature, humidity in ((20, 0), (20, -5), (-300, 50), (20, 10_000), (5_000, 50)):
+            self.assertIsNone(sounding.dew_point(temperature, humidity))
+        odd = sounding.Sounding("odd", sounding.COLUMNS, [sounding.Level(0, [1000.0, 5.0, 0])])
+        self.assertNotIn("dew point", profile([odd]))
+
+    def test_foreign_signs(self):
+        """What no XML may have is written out, in titles, in names of files and of columns."""
+        level = sounding.Level(0, [1000.0, 5.0])
+        one = sounding.Sounding("\x1b]0;x\x07\udcff", sounding.columns("pressure,\x9bwind\u202e"), [level])
+        made = profile([one], "<b>\x00 & \udcfe")
+        self.assertTrue(made.encode("utf-8").isascii() or "°" in made)
+        xml.dom.minidom.parseString(made.encode("utf-8"))
+        for said in ("\\x1b]0;x\\x07\\xff", "\\x9bwind\\u202e", "&lt;b&gt;\\x00 &amp; \\xfe"):
+            self.assertIn(said, made)
 
     def test_tables_of_one_name_are_told_apart(self):
         args = watchtool.Commands().parser.parse_args(["plot", str(FOLDER / "plain.csv"), str(FOLDER / "../ascent/plain.csv")])
@@ -150,11 +192,11 @@ class Pictures(unittest.TestCase):
 
 
 class Tables(unittest.TestCase):
-    def read(self, text):
+    def read(self, text, cut=False):
         with tempfile.TemporaryDirectory() as folder:
             file = Path(folder, "t.csv")
             file.write_bytes(text if isinstance(text, bytes) else text.encode())
-            return sounding.read(file, sounding.COLUMNS)
+            return sounding.read(str(file), sounding.COLUMNS, cut)
 
     def test_both_forms_are_read(self):
         for text in ("frame,domain,number\n0,0,9990\n0,0,-15\n0,0,50\n0,1,7\n",
@@ -164,14 +206,24 @@ class Tables(unittest.TestCase):
             self.assertEqual(made.text(), "frame  pressure  temperature  humidity  watches\n"
                                           "    0     999.0         -1.5        50  1:7\n")
 
-    def test_levels_that_are_not_finished_are_left_out(self):
-        made = self.read("frame,domain,number\n0,0,9990\n0,0,-15\n1,1,8\n1,0,1\n1,0,2\n1,0,3\n1,0,4\n")
-        self.assertEqual(made.levels, [sounding.Level(1, [0.1, 0.2, 3.0], [(1, 8)])])
+    def test_levels_that_are_not_finished(self):
+        """They are refused, or left out on demand."""
+        text = "frame,domain,number\n0,0,9990\n0,0,-15\n1,1,8\n1,0,1\n1,0,2\n1,0,3\n1,0,4\n"
+        self.assertEqual(self.read(text, True).levels, [sounding.Level(1, [0.1, 0.2, 3.0], [(1, 8)])])
+        for lines, words in ((3, "frame 0 has 2 numbers of the decoder, which do not divide into 3 columns (pressure, "
+                                 "temperature, humidity)"), (None, "frame 0 has 2 numbers")):
+            with self.assertRaises(sounding.Unreadable) as caught:
+                self.read("\n".join(text.split("\n")[:lines]))
+            self.assertIn(words, str(caught.exception))
+        with self.assertRaises(sounding.Unreadable) as caught:
+            self.read("frame,domain,number\n" + text.split("-15\n")[1])
+        self.assertIn("frame 1 has 4 numbers of the decoder", str(caught.exception))
 
     def test_what_is_no_table(self):
         head = "frame,domain,number\n"
         for text in ("", "a\n", head, head + "1,2\n", head + "1,2,x\n", head + "1,2," + "9" * 5000, head + "0,0,--1\n",
-                     head + "0,16,1\n", head + "-1,0,1\n", head + "0,0,²\n", b"\xff\xfe"):
+                     head + "0,16,1\n", head + "-1,0,1\n", head + "0,0,²\n", head + "0,0,2147483648\n0,0,1\n0,0,1\n",
+                     head + "0,0,1\n0,0,-2147483649\n0,0,1\n", b"\xff\xfe"):
             with self.subTest(text[:30]), self.assertRaises(sounding.Unreadable):
                 self.read(text)
 

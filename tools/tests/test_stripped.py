@@ -5,9 +5,9 @@ from unittest import mock
 
 import common
 from test_tool import run
-from watchlang import programs, stripped
-from watchlang.assembler import assemble
-from watchlang.layout import Refused
+from bukzarn.lang import programs, stripped
+from bukzarn.lang.assembler import assemble
+from bukzarn.lang.layout import Refused
 
 FOLDER = common.ROOT / "examples"
 PLAIN = (FOLDER / "plain.img").read_bytes()
@@ -42,8 +42,49 @@ class Stripped(unittest.TestCase):
             self.assertNotIn("Nothing is claimed", said)
 
     def test_what_nothing_is_claimed_of(self):
-        self.assertIn("the run with the watches is not done", self.tool("rerun", FOLDER / "greedy.img").decode())
-        self.assertIn("a low body contains a takedown", self.tool("rerun", FOLDER / "three.img").decode())
+        """Whether they agree is no claim then."""
+        for name, why in (("greedy", "the run with the watches is not done. Here they differ in"),
+                          ("three", "a low body contains a takedown. Here they are alike")):
+            said = self.tool("rerun", FOLDER / f"{name}.img").decode()
+            self.assertIn(f"Nothing is claimed of the two: {why}", said)
+            self.assertNotIn("They agree", said)
+
+    def over(self, full, bare, takedown=False):
+        """What is said of the runs of two images over a recording, and whether it holds."""
+        seen = [[stripped.read_json(line, 1) for line in lines] for lines in (full, bare)]
+        return stripped.compare_frames(zip(*seen), takedown)
+
+    def test_a_recording_frame_by_frame(self):
+        run = ('{"frame":0,"outcome":"OUTCOME","steps":9,"log":[{"domain":0,"number":5},{"domain":1,"number":NUMBER}],'
+               '"result":[1],"cells":[{"domain":0,"leaves":[2]},{"domain":1,"leaves":[NUMBER]},{"domain":0,"leaves":null}]}')
+        done, low = run.replace("OUTCOME", "done").replace("NUMBER", "6"), run.replace("OUTCOME", "done").replace("NUMBER", "7")
+        aborted, high = run.replace("OUTCOME", "aborted").replace("NUMBER", "6"), done.replace("5}", "4}")
+        self.assertEqual(self.over([done, done], [low, done]), (
+            "frames               2\ndone                 2 with the watches, 2 without them\nhigh log records     2 and 2\n"
+            "The 2 frames that are done with the watches agree in result, high cells and high log.\n", True))
+        said, holds = self.over([done, aborted, aborted], [low, aborted, done])
+        self.assertTrue(holds and said.endswith("Nothing is claimed of the other 2: the run with the watches is not done; 1 of "
+                                                "them differ: frame 2.\n"), said)
+        said, holds = self.over([done, done, done], [done, high, high])
+        self.assertTrue(not holds and said.endswith("2 of the 3 frames that are done with the watches differ: frames 1, 2.\n"), said)
+        said, holds = self.over([done, done], [done, high], True)
+        self.assertTrue(holds and "agree" not in said, said)
+        self.assertTrue(said.endswith("Nothing is claimed of all 2: a low body contains a takedown; 1 of them differ: frame 1.\n"), said)
+
+    def test_the_ascent_with_and_without_watches(self):
+        if not all((common.ROOT / "target/bin" / name).exists() for name in ("bukzarn", "strip")):
+            self.skipTest("the command or the program is not built")
+        ascent = FOLDER / "ascent"
+        said = run("rerun", ascent / "watched.img", "--frames", ascent / "ascent.frames", "--length", "12")[0].decode()
+        self.assertIn("The 559 frames that are done with the watches agree in result, high cells and high log.\n"
+                      "Nothing is claimed of the other 41: ", said)
+        for words in (("--frames", ascent / "ascent.frames"), ("--length", "12")):
+            with self.assertRaises(SystemExit) as caught:
+                run("rerun", ascent / "watched.img", *words)
+            self.assertEqual(caught.exception.code, 2)
+        with self.assertRaises(SystemExit) as caught:
+            run("rerun", ascent / "watched.img", "--frames", ascent / "none", "--length", "12")
+        self.assertIn("none: No such file", str(caught.exception))
 
     def test_runs_that_differ(self):
         """A run without watches that printed another number is told, and ends the tool."""

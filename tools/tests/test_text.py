@@ -3,11 +3,11 @@ import re
 import unittest
 
 import common  # noqa: F401
-from watchlang import recordform
-from watchlang.assembler import assemble
-from watchlang.disassembler import disassemble
-from watchlang.gate import verdict
-from watchlang.lexer import SourceError
+from bukzarn.lang import recordform
+from bukzarn.lang.assembler import assemble
+from bukzarn.lang.disassembler import disassemble
+from bukzarn.lang.gate import verdict
+from bukzarn.lang.lexer import SourceError
 
 HEAD = "domain main\ndomain watch <= main\n"
 
@@ -134,7 +134,7 @@ class Text(unittest.TestCase):
         label = "let l = new label number in "
         for text, number in (
                 ("match 5 with [] then 1 else 2", 14), ("match stack with [5 as x] then 1 else 2", 14),
-                ("match stack with [rest as s] then 1 else true", 14), ("(match stack with [] then 1 else 2 : truth)", 14),
+                ("(match stack with [rest as s] then 1 else true : number)", 14), ("(match stack with [] then 1 else 2 : truth)", 14),
                 (label + "keep l with true { 1 }", 14), (label + "(keep l with 1 { 1 } : truth)", 14),
                 ("keep 5 with 5 { 1 }", 14), ("(stack : number)", 14),
                 (label + "lower to watch { keep l with 1 { () } }", 15), ("stack", 16)):
@@ -220,7 +220,7 @@ ERRORS = (
     ("domain a\nobject { m at a : unit; n at a : unit } as s { m { () } }", "1 body, but its type has 2 methods"),
     ("domain a\nobject as s { m { () } }", "an object's type stands after object"),
     ("domain a\n5.m", "m can only be called on an object, but this is a number"),
-    ("domain a\n5.0", "what is called must be an object with a method 0, counted from 0"),
+    ("domain a\n5.0", "numbers are whole: count in tenths or hundredths"),
     ("domain a\ntype s = object { m at a : unit; n at a : unit }\ntype t = object { n at a : unit; m at a : unit }\n"
      "object s as s { m { () } n { () } }", "line 4: m is more than one method"),
     ("domain a\nkeep 1 { 2 }", "expected 'with' and a value after the label of a keep"),

@@ -9,10 +9,10 @@ import unittest
 from pathlib import Path
 
 import common
-import watchtool
-from watchlang import refusals
-from watchlang.layout import laid_out
-from watchlang.picture import picture
+from bukzarn import watchtool
+from bukzarn.lang import refusals
+from bukzarn.lang.layout import laid_out
+from bukzarn.lang.picture import picture
 
 EXAMPLES = common.ROOT / "examples"
 
@@ -64,7 +64,10 @@ class Tool(unittest.TestCase):
             said = run("explain", "--refused", number, 7)[0].decode()
             self.assertTrue(said.startswith(f"refused {number} 7: "), said)
             self.assertIn("\nTo mend it: ", said)
-        self.assertEqual(run("explain", "--refused", 25, 0)[0], b"there is no refusal 25: they are 1 to 24\n")
+        last = max(refusals.REFUSALS)
+        code, _, told = status("explain", "--refused", str(last + 1), "1")
+        self.assertEqual((code, told.splitlines()[-1]),
+                         (2, f"watchtool.py: error: there is no refusal {last + 1}: they are 1 to {last}"))
         self.assertTrue(run("explain", "--outcome", "other-cells")[0].startswith(b"outcome 11, other-cells: "))
         self.assertEqual(run("explain", "--outcome", "11"), run("explain", "--outcome", "other-cells"))
         self.assertEqual(status("explain")[0], 2)

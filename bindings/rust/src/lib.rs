@@ -24,9 +24,10 @@
 //! length, and refuses short ones. [`run_frames`] and [`call_frames`] do the same over many frames, with one check of the
 //! image. [`validate`] answers the verdict alone, [`need`] what a run will need, worked out
 //! without a run, [`fixed_form`] the one image of an image's program, [`load`] the image of a seed and a depth,
-//! [`stripped_form`] an image without its watches.
+//! [`stripped_form`] an image without its watches. [`image_name`] is the name under which an image travels.
 //!
-//! A refused call is an error with its reason in words. No call panics, whatever the image and the frame.
+//! A refused call is an error with its reason in words. No call panics, whatever the image and the frame; [`program`] says
+//! where its makers of terms do.
 #![deny(missing_docs, unsafe_code)]
 
 mod call;
@@ -34,6 +35,7 @@ mod fixed;
 mod frames;
 mod lent;
 mod load;
+mod name;
 mod needs;
 mod outcome;
 pub mod program;
@@ -48,6 +50,7 @@ pub use fixed::{fixed_form, write_fixed};
 pub use frames::{call_frames, Frames};
 pub use lent::{run, run_frames, Lent};
 pub use load::{generate, load, LOAD_DEPTH, LOAD_LENGTH};
+pub use name::{image_name, Name, NAME_DIGITS};
 pub use needs::{need, Needs};
 pub use outcome::Outcome;
 pub use records::{Cell, Leaf, Leaves, LogRecord, Run};

@@ -39,3 +39,11 @@ pub fn file(name: &str, bytes: &[u8]) -> String {
     fs::write(&path, bytes).unwrap();
     path.to_str().unwrap().into()
 }
+
+/// An empty folder of a test's own.
+pub fn folder(name: &str) -> PathBuf {
+    let path = Path::new(env!("CARGO_TARGET_TMPDIR")).join(format!("folder-{name}"));
+    let _ = fs::remove_dir_all(&path);
+    fs::create_dir_all(&path).unwrap();
+    path
+}

@@ -1,5 +1,8 @@
 //! Writing images: programs as trees of terms, written as the bytes of an image (document 01, "The image").
 //!
+//! Terms and types belong to the program that made them. A method that asks for the shape of another program's type
+//! panics, or answers for another type; one that is given a part of the wrong kind panics as it says.
+//!
 //! A [`Program`] keeps the masks of the domains and the types, each once. Its methods make terms with the types that
 //! their parts ask for. Nothing here decides whether an image is accepted: the engine does.
 //!
@@ -133,9 +136,10 @@ impl Program {
         write::field(self.masks.len())
     }
 
-    /// Is domain `p` at or below domain `q`?
+    /// Is domain `p` at or below domain `q`? No, if there is no such domain.
     #[must_use]
     pub fn below(&self, p: u16, q: u16) -> bool {
-        self.masks[usize::from(p)] >> q & 1 == 1
+        let mask = self.masks.get(usize::from(p)).copied().unwrap_or_default();
+        mask.checked_shr(q.into()).is_some_and(|from_q| from_q & 1 == 1)
     }
 }

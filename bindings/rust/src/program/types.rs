@@ -65,6 +65,9 @@ impl Program {
     }
 
     /// What a type is made of.
+    ///
+    /// # Panics
+    /// If the type is another program's, and this one has not as many.
     #[must_use]
     pub fn shape(&self, of: Type) -> Shape {
         self.types[usize::from(of.0)].clone()
