@@ -1,6 +1,8 @@
 #!/usr/bin/env bash
-# Passes the tests of everything around the proved crates: the tools, the Rust crate, the command bukzarn, the programs in
-# C. The library is built first (rt staticlib bukzarn); to test another, name its folder in BUKZARN_LIBRARY.
+# Passes the tests of everything around the proved crates: the tools, the package for Python, the bench in the browser, the
+# library for other processors, the Rust crate, the command bukzarn, the programs in C. The library is built first (rt staticlib
+# bukzarn); to test another, name its folder in BUKZARN_LIBRARY. What needs programs or packages that are not installed is
+# skipped, and a line says so.
 #     tools/test.sh
 set -uo pipefail
 root=$(cd "$(dirname "$0")/.." && pwd)
@@ -20,6 +22,32 @@ try() {
         tail -n 40 "$out/said"
         failed=1
     fi
+}
+
+# The same of tests in Python, with a line for each that was skipped.
+try_python() {
+    local name=$1 python=$2
+    shift 2
+    try "$name" "$python" -m unittest -v "$@"
+    sed -n "s/^\(test_[a-z0-9_]*\) .*skipped '\(.*\)'$/skipped \1: \2/p; s/^.* \.\.\. skipped '\(.*\)'$/skipped \1/p" "$out/said" | sort -u
+}
+
+# A Python that has a package: the first of those on this machine that does.
+python_with() {
+    local python
+    for python in python3 /usr/bin/python3; do
+        if "$python" -c "import $1" 2>/dev/null; then
+            echo "$python"
+            return
+        fi
+    done
+    echo python3
+}
+
+# The archive beside the shared library that Python loads, in a folder of their own.
+shared() {
+    mkdir "$out/library" && cp "$BUKZARN_LIBRARY/libbukzarn.a" "$out/library" &&
+        python3 python/bukzarn/build.py "$out/library/libbukzarn.a" -o "$out/library/libbukzarn.so"
 }
 
 compiled() {
@@ -88,7 +116,18 @@ if [ -z "${BUKZARN_LIBRARY:-}" ]; then
 fi
 BUKZARN_LIBRARY=$(cd "$BUKZARN_LIBRARY" && pwd) || exit 1
 export BUKZARN_LIBRARY
-try "the tools (Python)" python3 -m unittest discover tools/tests
+try "the shared library" shared
+BUKZARN_LIBRARY=$out/library
+# Some files have tests that some Python on this machine may be able to run and the usual one not.
+apart='test_python|test_decoder|test_bench|test_bench_page|test_cross'
+modules=$(cd tools/tests && ls test_*.py | sed 's/\.py$//' | grep -Evx "$apart")
+cd tools/tests || exit 1
+# shellcheck disable=SC2086 # the names of modules, a word each
+try_python "the tools (Python)" python3 $modules
+try_python "the package for Python" "$(python_with pandas)" test_python test_decoder
+try_python "the bench in the browser" "$(python_with selenium)" test_bench test_bench_page
+try_python "the library for other processors" python3 test_cross
+cd ../..
 try "the Rust crate" cargo_in bindings/rust test
 try "the bench" cargo_in bench test
 try "the Rust code: layout" laid_out bindings/rust cli bench

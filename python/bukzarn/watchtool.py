@@ -4,7 +4,8 @@ import argparse
 import os
 import sys
 
-from bukzarn.lang import archive, generated, needs, outcomes, outfile, programs, refusals, report, sounding, stripped
+from bukzarn import Image, NoLibrary
+from bukzarn.lang import archive, generated, needs, outcomes, outfile, refusals, report, sounding, stripped
 from bukzarn.lang.disassembler import disassemble, program
 from bukzarn.lang.gate import verdict
 from bukzarn.lang.layout import Refused
@@ -12,7 +13,7 @@ from bukzarn.lang.lexer import SourceError
 from bukzarn.lang.picture import picture
 from bukzarn.lang.printable import printable
 from bukzarn.lang.profile import profile
-from bukzarn.texts import STDIN_TEXTS, Fault, Misused, contents, load, write
+from bukzarn.texts import STDIN_TEXTS, Fault, Misused, contents, load, text, write
 
 # Enough for texts that are far deeper than an image may be, and few enough for the memory that Python has for calls.
 DEEPEST = 6_000
@@ -87,23 +88,28 @@ def show_report(args):
     write("".join(head + tell(run) for head, run in zip(heads, runs)), args.out)
 
 
-def ask(program, made, *words):
-    """What a built program writes for an image; a refusal ends the tool, explained."""
+def engine(files):
+    """The image of files, for the library's calls; a refusal of one is explained with the line of its text."""
+    made = load(files)
+    return Image(made.image, made.domains or (), made.places)
+
+
+def ask(call):
+    """What a call of the library answers; a refusal ends the tool, explained."""
     try:
-        return programs.run(program, made.image, *words)
+        return call()
     except Refused as refused:
-        raise Fault(words_of(made, refused).rstrip()) from None
+        raise Fault(str(refused)) from None
 
 
 def need(args):
-    """The program's numbers beside the limits of a call."""
-    numbers = needs.read(ask("need", load(args.files)).decode())
-    write(needs.table(numbers, args.budget, args.log), args.out)
+    """The library's numbers beside the limits of a call."""
+    write(ask(engine(args.files).need).table(args.budget, args.log), args.out)
 
 
 def fixed(args):
     """The fixed form, or the name that the archive has for it."""
-    form = ask("fixed", load(args.files))
+    form = ask(engine(args.files).fixed_form).data
     write(archive.name(form) + "\n" if args.name else form, args.out)
 
 
@@ -115,45 +121,55 @@ def generate(args):
         raise Fault(refusals.in_general(refused.number, refused.place).rstrip()) from None
 
 
-def bare(made, high):
+def bare(image, high):
     """An image without the watches below the high domains; of a set that is not one the fault is told."""
     try:
-        return programs.run("strip", made.image, str(high))
+        return image.stripped_form(stripped.members(high))
     except Refused as refused:
         if refused.number != stripped.WRONG_SET:
-            raise Fault(words_of(made, refused).rstrip()) from None
-        here = stripped.fault(made.image, high, made.domains)
+            raise Fault(str(refused)) from None
+        here = stripped.fault(image.data, high, list(image.domains))
         raise Fault(refusals.in_general(refused.number, refused.place, here).rstrip()) from None
 
 
 def strip(args):
-    made = load(args.files)
-    write(bare(made, stripped.mask(args.keep, made.domains)), args.out)
+    image = engine(args.files)
+    write(bare(image, stripped.mask(args.keep, image.domains)).data, args.out)
 
 
 def rerun(args):
-    """Both runs are those of the program `watch`, over the bench sheet's frame; of a recording, those of `bukzarn`."""
+    """Both runs are the library's, over the bench sheet's frame or each frame of a recording."""
     if bool(args.frames) != (args.length is not None):
         raise Misused("--frames and --length go together")
-    made = load(args.files)
-    high = stripped.mask(args.keep, made.domains)
-    without, takedown = bare(made, high), stripped.low_takedown(made.image, high)
+    image = engine(args.files)
+    high = stripped.mask(args.keep, image.domains)
+    without, takedown = bare(image, high), stripped.low_takedown(image.data, high)
     if args.frames:
-        words, holds = rerun_frames(made.image, without, high, takedown, args)
+        words, holds = rerun_frames(image, without, high, takedown, args)
     else:
-        full, without = (stripped.read(programs.run("watch", image).decode(), high) for image in (made.image, without))
+        full, without = (stripped.read(ask(i.run).listing(), high) for i in (image, without))
         words, holds = stripped.told(full, without, takedown)
     write(words, args.out)
     if not holds:
         raise Fault("the two runs differ where they may not")
 
 
+def read_frames(file, length):
+    """The frames of a recording, one after another."""
+    if not length:
+        raise Misused("a frame has at least one byte: --length N")
+    with open(file, "rb") as recording:
+        while frame := recording.read(length):
+            if len(frame) < length:
+                raise Fault(f"{file}: the last frame has {len(frame)} of {length} bytes")
+            yield frame
+
+
 def rerun_frames(full, without, high, takedown, args):
     """The runs of two images over the frames of a recording, compared."""
-    with (programs.Recording(full, args.frames, args.length) as first,
-          programs.Recording(without, args.frames, args.length) as second):
-        pairs = ((stripped.read_json(a, high), stripped.read_json(b, high)) for a, b in zip(first, second, strict=True))
-        return stripped.compare_frames(pairs, takedown)
+    def seen(image):
+        return (stripped.read(run.listing(), high) for run in image.run_each(read_frames(args.frames, args.length)))
+    return stripped.compare_frames(zip(seen(full), seen(without), strict=True), takedown)
 
 
 def soundings(args):
@@ -173,11 +189,29 @@ def plot(args):
     write(profile(soundings(args), args.title), args.out)
 
 
+def bench(args):
+    """Serves the bench until it is ended. What it needs is read here, since the other commands do without."""
+    from bukzarn.bench.serve import StartError, bench as made
+    texts = [(text(file), file) for file in args.files]
+    try:
+        server = made(texts, args.frames, args.length, args.port, args.columns)
+    except StartError as error:
+        raise Fault(str(error)) from None
+    print(f"The bench is at {server.url} (Ctrl-C ends it)", flush=True)
+    server.serve_forever()
+
+
 def natural(word):
     """A number of an option or a seed: digits, below 2^32."""
     if not word.isascii() or not word.isdecimal() or len(word) > 10 or int(word) >= generated.MODULUS:
         raise argparse.ArgumentTypeError(f"'{word[:20]}' is not a number from 0 to {generated.MODULUS - 1}")
     return int(word)
+
+
+def column_option(word):
+    """The columns of an option, as they were written."""
+    sounding.columns(word)
+    return word
 
 
 def outcome(word):
@@ -205,13 +239,14 @@ class Commands:
         self.parser = Parser(
             prog="watchtool.py", description=__doc__,
             epilog="FILE is an image if its name ends with .img, else a text (docs/LANGUAGE.md). COMMAND --help tells how to use "
-                   "a command. need, fixed, strip and rerun ask the built programs in target/bin, or in the folder that "
-                   "BUKZARN_PROGRAMS names. Exit status: 0 if all went well, 1 if something was refused or a file is "
-                   "wrong, 2 if the command was used wrongly.")
+                   "a command. need, fixed, strip, rerun and bench call the proved library, which python/bukzarn/build.py makes "
+                   "loadable. Exit status: 0 if all went well, 1 if something was refused or a file is wrong, 2 if the "
+                   "command was used wrongly.")
         self.found = self.parser.add_subparsers(dest="command", metavar="COMMAND", required=True)
         self.of_texts()
         self.of_images()
         self.of_soundings()
+        self.of_the_bench()
 
     def add(self, name, perform, words, files="", out=True):
         """A command; `files` is how many texts it takes, as argparse says it."""
@@ -271,6 +306,15 @@ class Commands:
             sub.add_argument("--cut", action="store_true", help="leave out the numbers of a level that a run did not finish")
         sub.add_argument("--title", default="", help="a line above the picture")
 
+    def of_the_bench(self):
+        sub = self.add("bench", bench, "serve a page on which a watch is written, judged as one types, and drawn", out=False)
+        sub.add_argument("files", nargs="+", metavar="FILE", help="a procedure, and the watches to begin with")
+        sub.add_argument("--frames", metavar="FILE", help="a recording (the bench sheet's frame)")
+        sub.add_argument("--length", type=natural, metavar="N", help="the bytes of a frame of it")
+        sub.add_argument("--columns", type=column_option, default=sounding.COLUMNS_TEXT, metavar="NAMES",
+                         help=f"what the decoder prints for each level ({sounding.COLUMNS_TEXT})")
+        sub.add_argument("--port", type=natural, default=0, metavar="N", help="where the page is served (any free port)")
+
 
 def inputs(args):
     """The files that a command reads."""
@@ -303,7 +347,7 @@ def perform(words):
 
 
 # What ends a command, in words.
-FAULTS = (report.Damaged, sounding.Unreadable, programs.NoAnswer, stripped.NoDomain, Fault)
+FAULTS = (report.Damaged, sounding.Unreadable, NoLibrary, stripped.NoDomain, Fault)
 
 
 def flush_stdout():

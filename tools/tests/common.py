@@ -1,5 +1,6 @@
 """What the tests share: the repository's folders, the stored images and their listings."""
 import sys
+import unittest
 from pathlib import Path
 
 ROOT = Path(__file__).resolve().parents[2]
@@ -7,9 +8,21 @@ STORED = ROOT / "crates/watch"
 for folder in ("python", "tools/generate", "tools/house"):
     sys.path.insert(0, str(ROOT / folder))
 
-from bukzarn import watchtool  # noqa: E402 (the path is set here)
+from bukzarn import NoLibrary, _library, watchtool  # noqa: E402 (the path is set here)
 
 sys.setrecursionlimit(watchtool.DEEPEST)
+
+
+def without_library():
+    """Why the proved library cannot be called here; nothing if it can."""
+    try:
+        _library.library_path()
+    except NoLibrary as error:
+        return str(error)
+    return ""
+
+
+with_library = unittest.skipIf(without_library(), without_library())
 
 
 def stored_images():

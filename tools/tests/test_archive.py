@@ -1,12 +1,10 @@
-"""The fixed form and the archive's name; the program `fixed` is stood for by an answer of its own where it is not built."""
+"""The fixed form and the archive's name."""
 import hashlib
 import unittest
-from unittest import mock
 
 import common
 from test_tool import run
-from bukzarn.lang import archive, programs
-from bukzarn.lang.layout import Refused
+from bukzarn.lang import archive
 
 FOLDER = common.ROOT / "examples"
 # The image of this example is its own fixed form.
@@ -14,21 +12,14 @@ FORM = (FOLDER / "first.img").read_bytes()
 
 
 class Archive(unittest.TestCase):
-    def tool(self, *words, answer=lambda name, image: FORM):
-        with mock.patch.object(programs, "run", answer):
-            return run("fixed", *words)[0]
+    @common.with_library
+    def test_the_form_is_what_the_library_writes(self):
+        self.assertEqual(run("fixed", FOLDER / "newer.img")[0], FORM)
+        self.assertNotEqual((FOLDER / "newer.img").read_bytes(), FORM)
 
-    def test_the_form_is_what_the_program_writes(self):
-        asked = []
-
-        def answer(name, image):
-            asked.append((name, image))
-            return FORM
-        self.assertEqual(self.tool(FOLDER / "newer.img", answer=answer), FORM)
-        self.assertEqual(asked, [("fixed", (FOLDER / "newer.img").read_bytes())])
-
+    @common.with_library
     def test_a_name_is_the_front_of_the_hash(self):
-        said = self.tool(FOLDER / "newer.img", "--name").decode()
+        said = run("fixed", FOLDER / "newer.img", "--name")[0].decode()
         self.assertEqual(said, hashlib.sha256(FORM).hexdigest()[:16] + "\n")
         self.assertNotEqual(archive.name(FORM + b"\0"), archive.name(FORM))
 
@@ -36,11 +27,10 @@ class Archive(unittest.TestCase):
         for document in ("examples/README.md", "docs/RESEARCHERS.md"):
             self.assertIn(archive.name(FORM), (common.ROOT / document).read_text(encoding="utf-8"))
 
+    @common.with_library
     def test_a_refused_image_is_explained(self):
-        def answer(name, image):
-            raise Refused(15, 450, "")
         with self.assertRaises(SystemExit) as caught:
-            self.tool(FOLDER / "sonde.proc", FOLDER / "alter.watch", answer=answer)
+            run("fixed", FOLDER / "sonde.proc", FOLDER / "alter.watch")
         self.assertIn("alter.watch, line 4, column 5:", str(caught.exception))
 
 

@@ -69,14 +69,15 @@ class Commands(unittest.TestCase):
 
     def test_what_the_page_shows(self):
         """The answers of commands that stand on the page, and names that it tells."""
-        programs = (common.ROOT / "target/bin/need").exists()
+        library = not common.without_library()
+        programs = library and (common.ROOT / "target/bin/strip").exists()
         for section, needed in (("A ground check whose needs are known", True), ("Two watches that are refused", False)):
-            if programs or not needed:
+            if library or not needed:
                 lines = indented(section)
                 said = self.shell(commands(section)[0], self.root).splitlines()
                 start = lines.index(said[0])
                 self.assertEqual(lines[start:start + len(said)], said)
-        for command in commands("Two images of one program") if programs else ():
+        for command in commands("Two images of one program") if library else ():
             self.assertIn(f"`{self.shell(command, self.root).strip()}`", PAGE)
         for command in commands("An archived procedure without its watches") if programs else ():
             self.shell(command, self.root)
@@ -107,16 +108,14 @@ class Commands(unittest.TestCase):
         self.shell(assembles, self.root, 1)
         self.shell(kept, self.root)
 
+    @common.with_library
     def test_a_rerun_is_told_as_shown(self):
         section = "A procedure without its watches"
-        if not (common.ROOT / "target/bin/strip").exists():
-            self.skipTest("the programs are not built")
         lines = indented(section, RESEARCHERS)
         for command in [line for line in lines if " rerun " in line]:
-            if "--frames" not in command or BUKZARN.exists():
-                shown = lines[lines.index(command) + 1:]
-                said = self.shell(command, self.root).splitlines()
-                self.assertEqual(said, shown[:len(said)])
+            shown = lines[lines.index(command) + 1:]
+            said = self.shell(command, self.root).splitlines()
+            self.assertEqual(said, shown[:len(said)])
 
     def test_totals_are_as_shown(self):
         """docs/RESEARCHERS.md, over the recorded ascent; docs/STATIONS.md, many recordings side by side."""

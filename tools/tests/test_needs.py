@@ -1,14 +1,12 @@
-"""What a flight will need, as the tool tells it; the program `need` is stood for by its stored listings."""
-import tempfile
+"""What a flight will need, as the tool tells it."""
 import unittest
-from pathlib import Path
 from unittest import mock
 
 import common
 import make_examples
 from test_tool import run
-from bukzarn.lang import needs, programs
-from bukzarn.lang.layout import Refused
+from bukzarn import Image, NoLibrary, Refused, _library
+from bukzarn.lang import needs
 
 FOLDER = common.ROOT / "examples"
 
@@ -17,22 +15,22 @@ def stored(name):
     return (FOLDER / f"{name}.need").read_text()
 
 
-def answered(name, image, *_):
-    """What the program answers for an example's image."""
-    assert name == "need"
-    for example in make_examples.WITH_NEEDS:
-        if (FOLDER / f"{example}.img").read_bytes() == image:
-            if stored(example).startswith("refused"):
-                raise Refused(*map(int, stored(example).split()[1:]), "")
-            return stored(example).encode()
-    raise AssertionError("no listing is stored for this image")
-
-
 class Needs(unittest.TestCase):
     def tool(self, *words):
-        with mock.patch.object(programs, "run", answered):
-            return run("need", *words)[0].decode()
+        return run("need", *words)[0].decode()
 
+    @common.with_library
+    def test_the_library_says_what_the_program_says(self):
+        """Of each example whose listing of the program `need` is stored."""
+        for name in make_examples.WITH_NEEDS:
+            image = Image.read(FOLDER / f"{name}.img")
+            try:
+                said = "".join(f"{word} {number}\n" for word, number in image.need().numbers().items())
+            except Refused as refused:
+                said = f"refused {refused.number} {refused.place}\n"
+            self.assertEqual(said, stored(name), name)
+
+    @common.with_library
     def test_every_number_has_a_bar(self):
         said = self.tool(FOLDER / "ground.proc", FOLDER / "limits.watch").splitlines()
         self.assertEqual([line.split()[0] for line in said[:-1]], list(needs.limits()))
@@ -40,6 +38,7 @@ class Needs(unittest.TestCase):
         self.assertEqual(said[6], "other-cells            0 of       128  ....................")
         self.assertEqual(said[-1], "All are within their limits: every run is done or aborted, whatever the frame.")
 
+    @common.with_library
     def test_a_call_with_too_little(self):
         said = self.tool(FOLDER / "limits.img", "--budget", 87, "--log", 59)
         self.assertIn("steps                 88 of        87  ####################  over\n", said)
@@ -51,6 +50,7 @@ class Needs(unittest.TestCase):
         for number, limit, filled in ((0, 64, 0), (1, 64, 1), (32, 64, 10), (64, 64, 20), (65, 64, 20), (1, 0, 20), (0, 0, 0)):
             self.assertEqual(needs.bar(number, limit).count("#"), filled)
 
+    @common.with_library
     def test_an_image_outside_the_class_is_explained(self):
         with self.assertRaises(SystemExit) as caught:
             self.tool(FOLDER / "sonde.proc")
@@ -67,22 +67,11 @@ class Needs(unittest.TestCase):
             self.assertLessEqual(steps, numbers["steps"])
             self.assertLessEqual(sum(line.startswith("log ") for line in lines), numbers["log"])
 
-    def test_a_program_that_is_not_built(self):
-        with mock.patch.object(programs, "FOLDER", common.ROOT / "no such folder"):
-            with self.assertRaises(SystemExit) as caught:
+    def test_a_library_that_is_not_there(self):
+        with mock.patch.object(_library, "library_path", side_effect=NoLibrary("it is not there: make it")):
+            with mock.patch.dict(_library.library.functions, clear=True), self.assertRaises(SystemExit) as caught:
                 run("need", FOLDER / "ground.img")
-        self.assertIn("rt check need", str(caught.exception))
-
-    def test_a_program_that_fails(self):
-        for ending, told in (("exit 3", "need gave no answer (status 3)"),
-                             ("echo no input >&2", "need gave no answer (no input)")):
-            with tempfile.TemporaryDirectory() as folder:
-                program = Path(folder, "need")
-                program.write_text(f"#!/bin/sh\ncat > /dev/null\n{ending}\n")
-                program.chmod(0o755)
-                with mock.patch.object(programs, "FOLDER", Path(folder)), self.assertRaises(SystemExit) as caught:
-                    run("need", FOLDER / "ground.img")
-            self.assertIn(told, str(caught.exception))
+        self.assertEqual(str(caught.exception), "watchtool: it is not there: make it")
 
 
 if __name__ == "__main__":

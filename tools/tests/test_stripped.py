@@ -1,39 +1,30 @@
-"""A program with and without its watches, as the tool compares them; the programs are stood for by stored answers: the
-examples' listings, and for the form without watches the procedure's own image."""
+"""A program with and without its watches, as the tool compares them."""
 import unittest
+from dataclasses import replace
 from unittest import mock
 
 import common
 from test_tool import run
-from bukzarn.lang import programs, stripped
+from bukzarn import Image
+from bukzarn.lang import stripped
 from bukzarn.lang.assembler import assemble
-from bukzarn.lang.layout import Refused
 
 FOLDER = common.ROOT / "examples"
 PLAIN = (FOLDER / "plain.img").read_bytes()
 DOMAINS = "domain decoder domain watch <= decoder "
 
 
-def answered(name, image, *words):
-    """The procedure without watches, or an example's listing."""
-    if name == "strip":
-        if words != ("1",):
-            raise Refused(23, 0, "")
-        return PLAIN
-    example = next(file for file in FOLDER.glob("*.img") if file.read_bytes() == image)
-    return example.with_suffix(".txt").read_bytes()
-
-
 class Stripped(unittest.TestCase):
     def tool(self, *words):
-        with mock.patch.object(programs, "run", answered):
-            return run(*words)[0]
+        return run(*words)[0]
 
+    @common.with_library
     def test_the_watches_are_gone(self):
         texts = FOLDER / "sonde.proc", FOLDER / "count.watch", FOLDER / "trace.watch"
         self.assertEqual(self.tool("strip", *texts, "--keep", "decoder"), PLAIN)
         self.assertEqual(self.tool("strip", FOLDER / "watched.img", "--keep", "0"), PLAIN)
 
+    @common.with_library
     def test_runs_with_and_without_watches_agree(self):
         for name in ("count", "trace", "watched", "corrected"):
             said = self.tool("rerun", FOLDER / f"{name}.img").decode()
@@ -41,6 +32,7 @@ class Stripped(unittest.TestCase):
             self.assertTrue(said.endswith("They agree in result, high cells and high log.\n"), name)
             self.assertNotIn("Nothing is claimed", said)
 
+    @common.with_library
     def test_what_nothing_is_claimed_of(self):
         """Whether they agree is no claim then."""
         for name, why in (("greedy", "the run with the watches is not done. Here they differ in"),
@@ -51,14 +43,13 @@ class Stripped(unittest.TestCase):
 
     def over(self, full, bare, takedown=False):
         """What is said of the runs of two images over a recording, and whether it holds."""
-        seen = [[stripped.read_json(line, 1) for line in lines] for lines in (full, bare)]
+        seen = [[stripped.read(listing, 1) for listing in listings] for listings in (full, bare)]
         return stripped.compare_frames(zip(*seen), takedown)
 
     def test_a_recording_frame_by_frame(self):
-        run = ('{"frame":0,"outcome":"OUTCOME","steps":9,"log":[{"domain":0,"number":5},{"domain":1,"number":NUMBER}],'
-               '"result":[1],"cells":[{"domain":0,"leaves":[2]},{"domain":1,"leaves":[NUMBER]},{"domain":0,"leaves":null}]}')
+        run = "log 0 5\nlog 1 NUMBER\nOUTCOME 9\nvalue 1\ncell 0 2\ncell 1 NUMBER\ncell 0 other\n"
         done, low = run.replace("OUTCOME", "done").replace("NUMBER", "6"), run.replace("OUTCOME", "done").replace("NUMBER", "7")
-        aborted, high = run.replace("OUTCOME", "aborted").replace("NUMBER", "6"), done.replace("5}", "4}")
+        aborted, high = run.replace("OUTCOME", "aborted").replace("NUMBER", "6"), done.replace("log 0 5", "log 0 4")
         self.assertEqual(self.over([done, done], [low, done]), (
             "frames               2\ndone                 2 with the watches, 2 without them\nhigh log records     2 and 2\n"
             "The 2 frames that are done with the watches agree in result, high cells and high log.\n", True))
@@ -71,9 +62,8 @@ class Stripped(unittest.TestCase):
         self.assertTrue(holds and "agree" not in said, said)
         self.assertTrue(said.endswith("Nothing is claimed of all 2: a low body contains a takedown; 1 of them differ: frame 1.\n"), said)
 
+    @common.with_library
     def test_the_ascent_with_and_without_watches(self):
-        if not all((common.ROOT / "target/bin" / name).exists() for name in ("bukzarn", "strip")):
-            self.skipTest("the command or the program is not built")
         ascent = FOLDER / "ascent"
         said = run("rerun", ascent / "watched.img", "--frames", ascent / "ascent.frames", "--length", "12")[0].decode()
         self.assertIn("The 559 frames that are done with the watches agree in result, high cells and high log.\n"
@@ -85,13 +75,19 @@ class Stripped(unittest.TestCase):
         with self.assertRaises(SystemExit) as caught:
             run("rerun", ascent / "watched.img", "--frames", ascent / "none", "--length", "12")
         self.assertIn("none: No such file", str(caught.exception))
+        with self.assertRaises(SystemExit) as caught:
+            run("rerun", ascent / "watched.img", "--frames", ascent / "ascent.frames", "--length", "7")
+        self.assertIn("the last frame has 4 of 7 bytes", str(caught.exception))
 
+    @common.with_library
     def test_runs_that_differ(self):
         """A run without watches that printed another number is told, and ends the tool."""
-        def wrong(name, image, *words):
-            said = answered(name, image, *words)
-            return said.replace(b"log 0 10020", b"log 0 10021") if name == "watch" and image == PLAIN else said
-        with mock.patch.object(programs, "run", wrong), self.assertRaises(SystemExit) as caught:
+        honest = Image.run
+
+        def wrong(image):
+            made = honest(image)
+            return replace(made, log=made.log[1:]) if image.data == PLAIN else made
+        with mock.patch.object(Image, "run", wrong), self.assertRaises(SystemExit) as caught:
             run("rerun", FOLDER / "watched.img")
         self.assertIn("differ where they may not", str(caught.exception))
 
@@ -121,6 +117,7 @@ class Stripped(unittest.TestCase):
                           ("lower to watch { (); if true then () else takedown of watch }; ()", True)):
             self.assertEqual(stripped.low_takedown(assemble(DOMAINS + text).image, 1), low, text)
 
+    @common.with_library
     def test_a_set_that_is_not_high(self):
         with self.assertRaises(SystemExit) as caught:
             self.tool("strip", FOLDER / "sonde.proc", "--keep", "watch")

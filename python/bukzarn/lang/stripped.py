@@ -1,5 +1,4 @@
 """A program with and without its watches (document 02, card 13): the domains that are kept, and two listings compared."""
-import json
 from dataclasses import dataclass
 
 from . import hints, kinds
@@ -34,6 +33,11 @@ def mask(keep, names):
             raise NoDomain(f"there is no domain '{word[:40]}'; the domains are {said}{hints.near(word, known)}")
         made |= 1 << known.get(word, numbers.get(word))
     return made
+
+
+def members(mask):
+    """The domains of a mask."""
+    return [d for d in range(kinds.DOMAIN_LIMIT) if mask >> d & 1]
 
 
 def fault(image, high, names):
@@ -109,14 +113,6 @@ def told(full, bare, takedown):
         why = TAKEDOWN if takedown else "the run with the watches is not done"
         lines.append(f"Nothing is claimed of the two: {why}. Here {said}.")
     return "\n".join(lines) + "\n", not found or not claimed
-
-
-def read_json(line, high):
-    """The same of a run of a recording, as `bukzarn run --out json` writes it."""
-    run = json.loads(line)
-    log = [(record["domain"], record["number"]) for record in run["log"] if high >> record["domain"] & 1]
-    plain = [cell for cell in run["cells"] if high >> cell["domain"] & 1 and cell["leaves"] is not None]
-    return Seen(run["outcome"], run["steps"], run["result"], [(cell["domain"], cell["leaves"]) for cell in plain], log)
 
 
 def frame_list(frames):
