@@ -75,7 +75,8 @@ enum bukzarn_refusal {
     BUKZARN_WRONG_DEPTH = 21,      /* of bukzarn_load alone: a depth of 0 or over 9; place 0 */
     BUKZARN_SHORT_LOAD = 22,       /* of bukzarn_load alone: an output under 16,384 bytes; place 0 */
     BUKZARN_WRONG_SET = 23,        /* of bukzarn_strip alone: no set of high domains; place 0 */
-    BUKZARN_SHORT_STRIPPED_OUTPUT = 24 /* of bukzarn_strip alone; place 0 */
+    BUKZARN_SHORT_STRIPPED_OUTPUT = 24, /* of bukzarn_strip alone; place 0 */
+    BUKZARN_TOO_FEW_PLACES = 25    /* of bukzarn_need alone: fewer than BUKZARN_NEEDS places; place 0 */
 };
 
 /* Kinds of the records in log and report. A record is its length in bytes, its kind, then its fields; all are
@@ -157,9 +158,9 @@ enum bukzarn_need_number {
 };
 
 /* What any run of the image uses at most, whatever the frame, the budget and the log, without a run. Answers 0, and
-   writes the numbers to the first BUKZARN_NEEDS places, if there are as many; or refuses the image: with 1 to 16 if the
-   check does, else with 19 if the image has an apply, a call, an install that does not stand directly over an advice, or
-   a mark or an install in the body of an advice. Of a refusal the numbers are as they were, and the answer is 2^16 times
+   writes the numbers to the first BUKZARN_NEEDS places; or refuses: with 1 to 16 if the check refuses the image, else
+   with 19 if the image has an apply, a call, an install that does not stand directly over an advice, or a mark or an
+   install in the body of an advice, else with 25 if there are fewer places. Of a refusal the numbers are as they were, and the answer is 2^16 times
    its number plus 2^24 times its place (bukzarn_refusal_number, bukzarn_place). Where every number is within the
    engine's room, the steps within the budget, and 10 times the log records within the log, a run is done or aborted.
    The image is only read, and does not overlap the numbers. */

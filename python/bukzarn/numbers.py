@@ -64,6 +64,7 @@ class Refusal(IntEnum):
     SHORT_LOAD = 22
     WRONG_SET = 23
     SHORT_STRIPPED_OUTPUT = 24
+    TOO_FEW_PLACES = 25
 
     @property
     def words(self) -> str:

@@ -57,12 +57,14 @@ pub enum Cause {
     WrongSet,
     /// The output is shorter than the image that is to be written without its watches (document 02, card 13).
     ShortStrippedOutput,
+    /// There are fewer places than numbers of a forecast. `needs` lends enough, so it never answers this.
+    TooFewPlaces,
     /// A number that this crate has no name for: the library is newer than the crate.
     Unknown(u16),
 }
 
 /// Each cause that has a name: its number, and why in words.
-const NAMED: [(u16, Cause, &str); 24] = [
+const NAMED: [(u16, Cause, &str); 25] = [
     (1, Cause::ImageTooLong, "the image has more than 16,384 bytes"),
     (2, Cause::BrokenRecord, "1 to 3 bytes are left over, or a record's length is under 4 or past the image's end"),
     (3, Cause::UnknownKind, "a record has an unknown kind"),
@@ -92,6 +94,7 @@ const NAMED: [(u16, Cause, &str); 24] = [
     (22, Cause::ShortLoad, "the output for a load is shorter than 16,384 bytes"),
     (23, Cause::WrongSet, "domain 0 or a domain above a kept one is not kept, or a kept one is not in the image"),
     (24, Cause::ShortStrippedOutput, "the output is shorter than the image that is to be stripped"),
+    (25, Cause::TooFewPlaces, "there are fewer places than numbers of a forecast"),
 ];
 
 impl Cause {

@@ -1,12 +1,13 @@
 -- What lent numbers hold after a forecast (document 02, card 10).
 use Prim.Native.Nat.{ℕ}
-use mathlib.Core.Bool.{cond}
+use mathlib.Core.Bool.{cond, _&&_}
 use mathlib.Core.List.{List, [], _∷_}
 use lib.ListN.{length}
-use lib.Dec.{ltb}
+use lib.Dec.{eqb, ltb}
 use Rattle.base_bytes.specs.Bytes.{over}
 use Rattle.image_needs.specs.declared.Needs.{Needs}
 use Rattle.image_needs.specs.declared.Forecast.{Forecast}
+use Rattle.image_needs.specs.Forecasts.{forecastNumber}
 
 -- The eleven numbers, in the order of the declaration.
 abbrev pub numbersOf : Needs → List ℕ
@@ -24,11 +25,18 @@ numbersOf n =
     ∷ n .log
     ∷ []
 
-abbrev pub elevenNumbers : ℕ
-elevenNumbers = 11
+abbrev pub numberCount : ℕ
+numberCount = 11
 
 -- Numbers that are known stand in the first places, where there are as many; else nothing is written.
 abbrev pub numbersLeft : Forecast → List ℕ → List ℕ
 numbersLeft (Forecast.Refused r place) xs = xs
 numbersLeft (Forecast.OutsideClass place) xs = xs
-numbersLeft (Forecast.Known n) xs = cond (ltb (length xs) elevenNumbers) xs (over 0 (numbersOf n) xs)
+numbersLeft (Forecast.Known n) xs = cond (ltb (length xs) numberCount) xs (over 0 (numbersOf n) xs)
+
+-- The number that is answered, for so many lent places: that of the forecast; where its numbers are known and there are fewer places, one behind those of documents 01 and 02.
+abbrev pub tooFewPlaces : ℕ
+tooFewPlaces = 25
+
+abbrev pub needNumber : Forecast → ℕ → ℕ
+needNumber f places = cond (eqb (forecastNumber f) 0 && ltb places numberCount) tooFewPlaces (forecastNumber f)

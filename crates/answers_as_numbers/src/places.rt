@@ -5,14 +5,14 @@ ghost use mathlib.Core.Path.{_≡_};
 ghost use Prim.Native.Nat.{_≤_};
 ghost use lib.ListN.{length};
 ghost use Rattle.base_bytes.specs.Bytes.{over};
-ghost use Rattle.answers_as_numbers.specs.Places.{elevenNumbers, numbersOf, numbersLeft};
+ghost use Rattle.answers_as_numbers.specs.Places.{numberCount, numbersOf, numbersLeft, needNumber};
 
 // How many numbers a forecast has.
-const ELEVEN: usize = 11;
+const NUMBERS: usize = 11;
 
 // The eleven numbers in the first places.
 fn put_numbers(numbers: &mut [u32], n: Needs)
-    requires { ⌜ elevenNumbers ≤ length (now numbers) ⌝ }
+    requires { ⌜ numberCount ≤ length (now numbers) ⌝ }
     ensures { λ _. ⌜ now (numbers .exit) ≡ over 0 (numbersOf n) (now (numbers .entry)) ⌝ }
 {
     numbers[0] = n.steps;
@@ -36,10 +36,26 @@ pub fn put_forecast(numbers: &mut [u32], f: Forecast)
         Forecast::Refused(_, _) => {}
         Forecast::OutsideClass(_) => {}
         Forecast::Known(known) => {
-            if numbers.len() < ELEVEN {
+            if numbers.len() < NUMBERS {
                 return;
             }
             put_numbers(numbers, known);
         }
     }
+}
+
+// The refusal of a forecast whose numbers have too few places, behind those of documents 01 and 02.
+const TOO_FEW_PLACES: u16 = 25;
+
+// The number that is answered, for so many lent places.
+pub fn need_number(f: Forecast, places: usize) -> u16
+    ensures { λ r. ⌜ r ≡ needNumber f places ⌝ }
+{
+    let n = image_needs::forecast_number(f);
+    if n == 0 {
+        if places < NUMBERS {
+            return TOO_FEW_PLACES;
+        }
+    }
+    n
 }

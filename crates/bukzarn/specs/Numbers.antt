@@ -5,7 +5,7 @@ use mathlib.Core.List.{List}
 use Rattle.verdict.specs.declared.Verdict.{Verdict}
 use Rattle.validator.specs.Numbers.{verdictNumber, verdictPlace}
 use Rattle.image_needs.specs.declared.Forecast.{Forecast}
-use Rattle.image_needs.specs.Forecasts.{forecastNumber, forecastPlace}
+use Rattle.image_needs.specs.Forecasts.{forecastPlace}
 use Rattle.calls.specs.Calls.{Left}
 use Rattle.write_fixed.specs.declared.Written.{Written}
 use Rattle.write_fixed.specs.Calls.{writtenNumber, writtenPlace, writtenBytes}
@@ -14,12 +14,14 @@ use Rattle.write_load.specs.Loads.{loadNumber, loadBytes}
 use Rattle.write_stripped.specs.declared.Stripped.{Stripped}
 use Rattle.write_stripped.specs.Calls.{strippedNumber, strippedPlace, strippedBytes}
 use Rattle.answers_as_numbers.specs.Numbers.{asNumber, refusedAsNumber, callNumber}
+use Rattle.answers_as_numbers.specs.Places.{needNumber}
 
 abbrev pub verdictAsNumber : Verdict → ℕ
 verdictAsNumber v = refusedAsNumber (verdictNumber v) (verdictPlace v)
 
-abbrev pub forecastAsNumber : Forecast → ℕ
-forecastAsNumber f = refusedAsNumber (forecastNumber f) (forecastPlace f)
+-- Of a forecast for so many lent places.
+abbrev pub needAsNumber : Forecast → ℕ → ℕ
+needAsNumber f places = refusedAsNumber (needNumber f places) (forecastPlace f)
 
 abbrev pub writtenAsNumber : Written → ℕ
 writtenAsNumber w = asNumber (writtenBytes w) (writtenNumber w) (writtenPlace w)

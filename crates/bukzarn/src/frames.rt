@@ -1,19 +1,19 @@
 // The calls of one image over the frames of a recording: the image is checked once.
 use answers_as_numbers::numbers::call_number;
-use engine::check::Lent;
-use engine::check::check_call;
-use engine::prepare::prepare;
-use engine::runs::run_code;
+use engine_core::prepare::prepare;
+use engine_core::runs::run_code;
 use image::WORK_LENGTH;
 use recordings::refuse_each;
-use validator::examine::Checked;
+use validator_core::call::Lent;
+use validator_core::call::check_call;
+use validator_core::examine::Checked;
 ghost use mathlib.Core.Path.{_≡_};
 ghost use Prim.Native.Nat.{_≤_, _<_};
 ghost use lib.ListN.{length};
 ghost use Rattle.image.specs.Limits.{workLength, reportLength};
 ghost use Rattle.calls.specs.Runs.{Accepts};
 ghost use Rattle.recordings.specs.Recordings.{partLength, calledOver};
-ghost use Rattle.engine.specs.Prepared.{Runnable};
+ghost use Rattle.engine_core.specs.Prepared.{Runnable};
 
 // Runs of code that is ready, each over its own frame, with a log and a report of its own. The work area is cleared once, after
 // the last run: no run depends on what its front held before.

@@ -2,18 +2,20 @@
 // number. Memory that is lent may have any length and content.
 pub mod frames;
 
+use answers_as_numbers::places::need_number;
+use answers_as_numbers::places::put_forecast;
 use answers_as_numbers::numbers::as_number;
 use answers_as_numbers::numbers::call_number;
 use answers_as_numbers::numbers::refused_as_number;
-use answers_as_numbers::places::put_forecast;
 ghost use mathlib.Core.Path.{_≡_};
+ghost use lib.ListN.{length};
 ghost use Rattle.verdict.specs.Verdicts.{verdict};
 ghost use Rattle.image_needs.specs.Forecasts.{forecast};
 ghost use Rattle.calls.specs.Calls.{called};
 ghost use Rattle.write_fixed.specs.Calls.{fixedCall};
 ghost use Rattle.write_load.specs.Loads.{loaded};
 ghost use Rattle.write_stripped.specs.Calls.{strippedCall};
-ghost use Rattle.bukzarn.specs.Numbers.{verdictAsNumber, forecastAsNumber, writtenAsNumber, loadAsNumber, strippedAsNumber, Numbered};
+ghost use Rattle.bukzarn.specs.Numbers.{verdictAsNumber, needAsNumber, writtenAsNumber, loadAsNumber, strippedAsNumber, Numbered};
 ghost use Rattle.answers_as_numbers.specs.Places.{numbersLeft};
 
 // A call of the engine: the bytes of report and of log that were written, or the refusal.
@@ -40,18 +42,16 @@ pub extern "C" fn bukzarn_validate(image: &[u8], work: usize, report: usize) -> 
     refused_as_number(validator::verdict_number(v), validator::verdict_place(v))
 }
 
-// What a flight will need (document 02, card 10): the eleven numbers in the first places, if there are as many, and 0; or the
-// refusal.
+// What a flight will need (document 02, card 10): the eleven numbers in the first places, and 0; or the refusal; where there are
+// fewer places, the refusal of these.
 #[no_mangle]
 pub extern "C" fn bukzarn_need(image: &[u8], numbers: &mut [u32]) -> u64
-    ensures { λ n. ⌜ (n ≡ forecastAsNumber (forecast (now (image .entry)))) × (now (numbers .exit) ≡ numbersLeft (forecast (now (image .entry))) (now (numbers .entry))) ⌝ }
+    ensures { λ n. ⌜ (n ≡ needAsNumber (forecast (now (image .entry))) (length (now (numbers .entry)))) × (now (numbers .exit) ≡ numbersLeft (forecast (now (image .entry))) (now (numbers .entry))) ⌝ }
 {
+    let places = numbers.len();
     let f = needs::forecast_image(image);
     put_forecast(numbers, f);
-    refused_as_number(
-        image_needs::forecast_number(f),
-        image_needs::forecast_place(f),
-    )
+    refused_as_number(need_number(f, places), image_needs::forecast_place(f))
 }
 
 // The fixed form of an image (card 11): the bytes written, or the refusal.

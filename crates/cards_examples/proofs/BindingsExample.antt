@@ -25,7 +25,7 @@ use Rattle.verdict.specs.Check.{checkAll, check, typing}
 use Rattle.verdict.specs.Verdicts.{verdict}
 use Rattle.verdict.proofs.Images.{little, rec, image, one-domain, two-domains, unit, number, literal}
 use Rattle.base_bytes.specs.Bytes.{bytesOf, numberOf, numberAt, over, cleared}
-use Rattle.report.specs.Records.{recordsBytes, recordsAfter}
+use Rattle.report.specs.Records.{recordsBytes}
 use Rattle.report.specs.Read.{readReport}
 use Rattle.calls.specs.Calls.{Left, called}
 use Rattle.listing.specs.Sheet.{zeros}

@@ -1,27 +1,28 @@
 // The rules of cells and of lower (document 01, "Typing").
-use check_records::numbers::DomainNo;
-use check_rules::domains::leq;
 use check_rules::judge::all_three;
 use check_rules::judge::both;
 use check_rules::judge::judge;
-use check_rules::kinds::REFERENCE_TYPE;
-use check_rules::kinds::UNIT_TYPE;
-use check_rules::terms::descriptor_at_field;
-use check_rules::terms::other_field;
-use check_rules::terms::own_descriptor;
-use check_rules::terms::own_type;
-use check_rules::terms::type_at_field;
-use check_rules::types::first_type;
-use check_rules::types::is_kind;
-use check_rules::types::same_type;
-use check_rules::types::second_domain;
+use read_records::kinds::REFERENCE_TYPE;
+use read_records::kinds::UNIT_TYPE;
+use read_records::numbers::DomainNo;
+use read_terms::domains::leq;
+use read_terms::terms::descriptor_at_field;
+use read_terms::terms::other_field;
+use read_terms::terms::own_descriptor;
+use read_terms::terms::own_type;
+use read_terms::terms::type_at_field;
+use read_terms::types::first_type;
+use read_terms::types::is_kind;
+use read_terms::types::same_type;
+use read_terms::types::second_domain;
 use verdict::Verdict;
 ghost use mathlib.Core.Path.{_≡_};
 ghost use mathlib.Core.List.{List};
 ghost use Prim.Native.Nat.{ℕ};
 ghost use Rattle.image.specs.Kinds.{TermKind};
-ghost use Rattle.check_rules.specs.Lent.{Lent, Masks};
-ghost use Rattle.check_rules.specs.Fields.{ruleIn, Typed, AtField};
+ghost use Rattle.read_terms.specs.Lent.{Lent, Masks};
+ghost use Rattle.check_rules.specs.Rules.{ruleIn};
+ghost use Rattle.read_terms.specs.Fields.{Typed, AtField};
 ghost use Rattle.check_rules.specs.Judged.{judged};
 
 // A new cell holds its child, at a domain that is below the current one.

@@ -23,12 +23,12 @@ use check_objects::objects::check_object;
 use check_objects::stacks::check_keep;
 use check_objects::stacks::check_match;
 use check_objects::stacks::check_stack;
-use check_records::numbers::DomainNo;
-use check_records::numbers::TermNo;
-use check_rules::kinds;
-use check_rules::terms::term_fields;
-use check_rules::terms::term_kind;
-use check_rules::terms::term_place;
+use read_records::kinds;
+use read_records::numbers::DomainNo;
+use read_records::numbers::TermNo;
+use read_terms::terms::term_fields;
+use read_terms::terms::term_kind;
+use read_terms::terms::term_place;
 use verdict::Verdict;
 ghost use mathlib.Core.Path.{_≡_};
 ghost use mathlib.Core.List.{List};
@@ -36,7 +36,7 @@ ghost use Prim.Native.Nat.{ℕ, _<_};
 ghost use Rattle.image.specs.Bytes.{numberAt};
 ghost use Rattle.image.specs.Layout.{recordsOf};
 ghost use Rattle.image.specs.Types.{termPlace};
-ghost use Rattle.check_rules.specs.Lent.{Lent, TypeOffsets, Masks, IsTerm};
+ghost use Rattle.read_terms.specs.Lent.{Lent, TypeOffsets, Masks, IsTerm};
 ghost use Rattle.check_rules.specs.Judged.{ruleVerdict};
 
 // Abort, which has any type, asks nothing.

@@ -4,9 +4,9 @@ use mathlib.Core.Path.{_≡_}
 use mathlib.Core.List.{List}
 use lib.Dec.{eqb, ltb}
 use Rattle.calculus.specs.Combinators.{choose}
-use Rattle.check_records.specs.Codes.{groupOf, countOf}
-use Rattle.check_records.specs.Heads.{fieldIn}
-use Rattle.check_records.specs.Descriptors.{descriptorKind, descriptorField0, descriptorField1, descriptorField2}
+use Rattle.read_records.specs.Codes.{groupOf, countOf}
+use Rattle.read_records.specs.Heads.{fieldIn}
+use Rattle.read_records.specs.Descriptors.{descriptorKind, descriptorField0, descriptorField1, descriptorField2}
 
 -- How many fields a type of the code x has, whose fields take n bytes: where there is a group, as many as the bytes hold (card 3).
 abbrev pub typeCount : ℕ → ℕ → ℕ

@@ -18,14 +18,14 @@ use Rattle.image.specs.Layout.{rightLength, isNew, tests, add}
 use Rattle.image.specs.Layout as Image
 use Rattle.laws.proofs.Booleans.{no-path, lt-of, of-eq}
 use Rattle.laws.proofs.Tests.{each, passed}
-use Rattle.check_records.specs.declared.numbers.Counts.{Counts}
-use Rattle.check_records.specs.Counts.{withDomain, withType, withTerm}
-use Rattle.check_records.specs.Codes.{sectionNumber, groupOf, classesOf, sectionOf, firstOf, timesIn, codeAt}
-use Rattle.check_records.specs.Descriptors.{Describes}
-use Rattle.check_records.proofs.Codes.{Packs, times-in, known-code, unknown-code, kind-small, code-sized}
+use Rattle.read_records.specs.declared.numbers.Counts.{Counts}
+use Rattle.read_records.specs.Counts.{withDomain, withType, withTerm}
+use Rattle.read_records.specs.Codes.{sectionNumber, groupOf, classesOf, sectionOf, firstOf, timesIn, codeAt}
+use Rattle.read_records.specs.Descriptors.{Describes}
+use Rattle.read_records.proofs.Codes.{Packs, times-in, known-code, unknown-code, kind-small, code-sized}
 use Rattle.image.proofs.Counts.{fields-length}
-use Rattle.check_records.proofs.Heads.{Whole, whole-of}
-use Rattle.check_records.proofs.Parts.{part-length, children-fit, children-are}
+use Rattle.read_records.proofs.Heads.{Whole, whole-of}
+use Rattle.read_records.proofs.Parts.{part-length, children-fit, children-are}
 use Rattle.check_layout.specs.declared.Entry.{Entry}
 use Rattle.check_ranges.specs.declared.tests.Tested.{Tested}
 use Rattle.check_fields.specs.Fields.{typeCount, Narrow, DescriptorFrom}
@@ -40,8 +40,8 @@ use Rattle.check_layout.proofs.Parts.{descriptor-part}
 use Rattle.check_layout.proofs.Narrow.{type-counted, narrow}
 use Rattle.image.specs.LaidOut.{Stands}
 use Rattle.image.proofs.Laid.{stands, Passes, tests-passed, add-good}
-use Rattle.check_records.specs.Heads.{fieldBytes, childrenOf, Fitting}
-use Rattle.check_records.specs.Heads as Heads
+use Rattle.read_records.specs.Heads.{fieldBytes, childrenOf, Fitting}
+use Rattle.read_records.specs.Heads as Heads
 use Rattle.check_layout.proofs.Sections.{right-length}
 use Rattle.check_layout.proofs.NewTypes.{reached-good, types-placed, new-law}
 use Rattle.check_marks.specs.Marks.{Lower, entered, marksOf}

@@ -9,8 +9,8 @@ use lib.Seq.{getD-set-same, getD-set-other}
 use lib.Dec.{eqb, ltb}
 use Rattle.calculus.specs.Combinators.{choose}
 use Rattle.image.specs.Kinds.{TypeKind, typeRow}
-use Rattle.check_records.specs.Heads.{fieldsAt}
-use Rattle.check_records.specs.Descriptors.{descriptorKind}
+use Rattle.read_records.specs.Heads.{fieldsAt}
+use Rattle.read_records.specs.Descriptors.{descriptorKind}
 use Rattle.laws.proofs.Booleans.{no-path, not-t, lt-of, ge-of, eq-of, of-eq}
 use Rattle.laws.proofs.Tests.{all-below, below-all}
 use Rattle.check_layout.specs.NewTypes.{newDescriptor, sameFields, newObject, newType}

@@ -11,9 +11,9 @@ use Rattle.image.specs.Kinds.{TypeKind, TermKind, domain, type, term}
 use Rattle.image.specs.Records.{Layout}
 use Rattle.image.specs.Layout.{add}
 use Rattle.laws.proofs.Lists.{each-snoc}
-use Rattle.check_records.specs.declared.numbers.Counts.{Counts}
-use Rattle.check_records.specs.Counts.{withDomain, withType, withTerm}
-use Rattle.check_records.specs.Descriptors.{Describes}
+use Rattle.read_records.specs.declared.numbers.Counts.{Counts}
+use Rattle.read_records.specs.Counts.{withDomain, withType, withTerm}
+use Rattle.read_records.specs.Descriptors.{Describes}
 use Rattle.check_layout.specs.Tables.{layoutOf, Described, Tables}
 
 -- A table with one offset more.

@@ -11,5 +11,3 @@ pub mod Steps
 pub mod Entering
 pub mod Going
 pub mod Stages
-pub mod Lending
-pub mod Locals

@@ -15,10 +15,10 @@ use Rattle.image.specs.Records.{Layout, kindAt, childrenAt}
 use Rattle.image.specs.Layout.{add}
 use Rattle.image.specs.Types.{termKindOf, children}
 use Rattle.image.proofs.Laid.{Below, Good}
-use Rattle.check_records.specs.declared.numbers.Counts.{Counts}
-use Rattle.check_records.specs.Counts.{withTerm}
-use Rattle.check_records.specs.Codes.{sectionOf}
-use Rattle.check_records.specs.Heads.{childrenOf}
+use Rattle.read_records.specs.declared.numbers.Counts.{Counts}
+use Rattle.read_records.specs.Counts.{withTerm}
+use Rattle.read_records.specs.Codes.{sectionOf}
+use Rattle.read_records.specs.Heads.{childrenOf}
 use Rattle.check_marks.specs.Marks.{Lower, entered, marksOf}
 use Rattle.check_marks.proofs.ChildByChild.{below-lower, marks-same}
 use Rattle.check_ranges.specs.declared.tests.Tested.{Tested}

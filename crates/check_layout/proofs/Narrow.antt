@@ -13,12 +13,12 @@ use Rattle.image.specs.Kinds.{in-domains, in-operations, in-truths, any-number,
 use Rattle.laws.proofs.Booleans.{no-path, and-l, and-r, lt-of, ge-of, eq-of}
 use Rattle.laws.proofs.Tests.{each}
 use Rattle.image.proofs.EveryKind.{everyOf, at-type}
-use Rattle.check_records.specs.declared.numbers.Counts.{Counts}
-use Rattle.check_records.specs.Counts.{Few}
-use Rattle.check_records.specs.Codes.{classNumber, classNumbers, groupOf, countOf, lastOf, classesOf, firstOf, timesIn}
-use Rattle.check_records.specs.Heads.{fieldIn}
-use Rattle.check_records.proofs.Codes.{Packs}
-use Rattle.check_records.proofs.Classes.{first-class}
+use Rattle.read_records.specs.declared.numbers.Counts.{Counts}
+use Rattle.read_records.specs.Counts.{Few}
+use Rattle.read_records.specs.Codes.{classNumber, classNumbers, groupOf, countOf, lastOf, classesOf, firstOf, timesIn}
+use Rattle.read_records.specs.Heads.{fieldIn}
+use Rattle.read_records.proofs.Codes.{Packs}
+use Rattle.read_records.proofs.Classes.{first-class}
 use Rattle.check_fields.specs.Fields.{typeCount, Narrow, fieldFrom}
 use Rattle.check_ranges.specs.Ranges.{inClass, rangesFrom, groupsFrom, classesPast}
 use Rattle.check_ranges.specs.Numbers.{lengthFits}

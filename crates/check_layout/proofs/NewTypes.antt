@@ -24,11 +24,11 @@ use Rattle.image.proofs.EveryKind.{everyOf, at-type, or-else}
 use Rattle.image.proofs.Words.{words-length}
 use Rattle.image.proofs.Offsets.{number-at}
 use Rattle.image.proofs.Laid.{same-numbers, numbers-same, kind-number, Passes, tests-passed, Good, add-good, nothing-good, same-image}
-use Rattle.check_records.specs.declared.numbers.Counts.{Counts}
-use Rattle.check_records.specs.Heads.{IsWhole, fieldsAt, fieldIn}
-use Rattle.check_records.specs.Descriptors.{descriptorKind, Describes}
-use Rattle.check_records.proofs.Descriptors.{same-lists, same-fields, same-descriptor}
-use Rattle.check_records.proofs.Parts.{bytes-length, field-is}
+use Rattle.read_records.specs.declared.numbers.Counts.{Counts}
+use Rattle.read_records.specs.Heads.{IsWhole, fieldsAt, fieldIn}
+use Rattle.read_records.specs.Descriptors.{descriptorKind, Describes}
+use Rattle.read_records.proofs.Descriptors.{same-lists, same-fields, same-descriptor}
+use Rattle.read_records.proofs.Parts.{bytes-length, field-is}
 use Rattle.check_layout.specs.NewTypes.{newDescriptor, sameFields, newObject, newType}
 use Rattle.check_layout.specs.Tables.{layoutOf, Tables, Reached, Placed}
 use Rattle.check_layout.proofs.Sections.{all-places}

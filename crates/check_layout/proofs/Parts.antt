@@ -12,13 +12,13 @@ use Rattle.image.specs.Kinds.{in-domains, in-operations, in-truths, any-number,
 use Rattle.image.specs.Records.{Layout, kindAt, fieldsAt}
 use Rattle.image.specs.Layout.{within, allWithin}
 use Rattle.laws.proofs.Booleans.{lt-of, ge-of}
-use Rattle.check_records.specs.declared.numbers.Counts.{Counts}
-use Rattle.check_records.specs.Codes.{classNumber, classNumbers}
-use Rattle.check_records.specs.Heads.{fieldBytes, fieldIn}
-use Rattle.check_records.specs.Descriptors.{fieldOr0, Describes}
-use Rattle.check_records.proofs.Classes.{first-class}
-use Rattle.check_records.proofs.Descriptors.{has-field, no-field}
-use Rattle.check_records.proofs.Parts.{field-is}
+use Rattle.read_records.specs.declared.numbers.Counts.{Counts}
+use Rattle.read_records.specs.Codes.{classNumber, classNumbers}
+use Rattle.read_records.specs.Heads.{fieldBytes, fieldIn}
+use Rattle.read_records.specs.Descriptors.{fieldOr0, Describes}
+use Rattle.read_records.proofs.Classes.{first-class}
+use Rattle.read_records.proofs.Descriptors.{has-field, no-field}
+use Rattle.read_records.proofs.Parts.{field-is}
 use Rattle.check_fields.specs.Fields.{fieldFrom, DescriptorFrom}
 use Rattle.check_ranges.specs.Ranges.{inClass, rangesFrom, groupsFrom, classesPast}
 

@@ -13,9 +13,9 @@ use Rattle.image.specs.Layout.{longEnough, rightLength, isNil, inOrder, hasRoom
 use Rattle.laws.proofs.Booleans.{same-truth}
 use Rattle.laws.proofs.Tests.{all-of, of-all, all-below, below-all}
 use Rattle.image.proofs.Counts.{fields-length}
-use Rattle.check_records.specs.declared.numbers.Counts.{Counts}
-use Rattle.check_records.specs.Codes.{sectionNumber, sectionOf}
-use Rattle.check_records.proofs.Codes.{Packs}
+use Rattle.read_records.specs.declared.numbers.Counts.{Counts}
+use Rattle.read_records.specs.Codes.{sectionNumber, sectionOf}
+use Rattle.read_records.proofs.Codes.{Packs}
 use Rattle.check_ranges.specs.Numbers.{lengthFits, orderFits, roomFits}
 
 -- 4

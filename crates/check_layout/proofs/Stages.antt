@@ -12,11 +12,11 @@ use Rattle.image.specs.Limits.{termLimit}
 use Rattle.image.specs.Records.{Layout}
 use Rattle.image.specs.Layout.{layout}
 use Rattle.laws.proofs.Booleans.{no-path, lt-of, ge-of}
-use Rattle.check_records.specs.declared.numbers.Counts.{Counts}
-use Rattle.check_records.specs.Counts.{noRecords}
-use Rattle.check_records.specs.declared.reader.Head.{Head}
-use Rattle.check_records.specs.Heads.{headAt}
-use Rattle.check_records.proofs.Heads.{at-end, whole-of, broken-of}
+use Rattle.read_records.specs.declared.numbers.Counts.{Counts}
+use Rattle.read_records.specs.Counts.{noRecords}
+use Rattle.read_records.specs.declared.reader.Head.{Head}
+use Rattle.read_records.specs.Heads.{headAt}
+use Rattle.read_records.proofs.Heads.{at-end, whole-of, broken-of}
 use Rattle.check_marks.specs.Marks.{marksOf}
 use Rattle.check_layout.specs.declared.Scan.{Scan}
 use Rattle.check_layout.specs.declared.Entry.{Entry}

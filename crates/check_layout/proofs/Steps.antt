@@ -13,12 +13,12 @@ use Rattle.image.specs.Kinds.{Kind, Row, rowOf, kindOf, fieldsOf}
 use Rattle.image.specs.Records.{times, Layout}
 use Rattle.image.specs.Layout.{framed, rightLength, inOrder, hasRoom, allWithin, inRange, isNew, tests}
 use Rattle.laws.proofs.Booleans.{no-path}
-use Rattle.check_records.specs.declared.numbers.Counts.{Counts}
-use Rattle.check_records.specs.Codes.{classNumbers, timesIn, codeAt}
-use Rattle.check_records.specs.Heads.{fieldBytes, fieldsAt}
-use Rattle.check_records.proofs.Codes.{known-code, times-in}
-use Rattle.check_records.proofs.Heads.{Whole}
-use Rattle.check_records.proofs.Parts.{bytes-length}
+use Rattle.read_records.specs.declared.numbers.Counts.{Counts}
+use Rattle.read_records.specs.Codes.{classNumbers, timesIn, codeAt}
+use Rattle.read_records.specs.Heads.{fieldBytes, fieldsAt}
+use Rattle.read_records.proofs.Codes.{known-code, times-in}
+use Rattle.read_records.proofs.Heads.{Whole}
+use Rattle.read_records.proofs.Parts.{bytes-length}
 use Rattle.check_ranges.specs.Numbers.{lengthFits, rangeFits, numberTests}
 use Rattle.check_layout.specs.Tables.{layoutOf, Tables}
 use Rattle.check_ranges.proofs.Numbers.{four, fits-size}

@@ -7,8 +7,8 @@ use lib.Dec.{eqb}
 use Rattle.laws.specs.Tests.{allBelow}
 use Rattle.calculus.specs.Combinators.{choose}
 use Rattle.image.specs.Kinds.{TypeKind, typeRow}
-use Rattle.check_records.specs.Heads.{fieldsAt, fieldIn}
-use Rattle.check_records.specs.Descriptors.{descriptorKind}
+use Rattle.read_records.specs.Heads.{fieldsAt, fieldIn}
+use Rattle.read_records.specs.Descriptors.{descriptorKind}
 
 -- 8: a descriptor, which has all fields of a type but an object's, is none of the first n.
 abbrev pub newDescriptor : ℕ → List ℕ → ℕ → Bool

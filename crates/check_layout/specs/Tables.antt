@@ -14,12 +14,12 @@ use Rattle.image.specs.Layout.{nothing, tests, add, stopped, laid, layout}
 use Rattle.image.specs.Layout as Image
 use Rattle.image.specs.Types.{typePlace}
 use Rattle.calculus.specs.Combinators.{choose}
-use Rattle.check_records.specs.declared.numbers.Counts.{Counts}
-use Rattle.check_records.specs.declared.reader.Head.{Head}
-use Rattle.check_records.specs.Counts.{Few, withTerm}
-use Rattle.check_records.specs.Heads.{headAt, fieldBytes, IsWhole, childrenOf}
-use Rattle.check_records.specs.Codes.{kindCodes}
-use Rattle.check_records.specs.Descriptors.{Describes}
+use Rattle.read_records.specs.declared.numbers.Counts.{Counts}
+use Rattle.read_records.specs.declared.reader.Head.{Head}
+use Rattle.read_records.specs.Counts.{Few, withTerm}
+use Rattle.read_records.specs.Heads.{headAt, fieldBytes, IsWhole, childrenOf}
+use Rattle.read_records.specs.Codes.{kindCodes}
+use Rattle.read_records.specs.Descriptors.{Describes}
 use Rattle.check_marks.specs.Marks.{entered, marksOf}
 use Rattle.check_layout.specs.declared.Scan.{Scan}
 use Rattle.check_layout.specs.declared.Entry.{Entry}

@@ -1,11 +1,11 @@
 // An inner crate: the refusals 2 to 8 (document 01, "Turned back at the gate"), record by record, front to back, and the
 // tables of the records that are not refused.
-use check_records::numbers::Counts;
+use read_records::numbers::Counts;
 ghost use mathlib.Core.Path.{_≡_};
 ghost use Prim.Native.Nat.{_≤_, _<_};
 ghost use lib.ListN.{length, replicate};
 ghost use Rattle.image.specs.Limits.{termLimit};
-ghost use Rattle.check_records.specs.Counts.{Few};
+ghost use Rattle.read_records.specs.Counts.{Few};
 ghost use Rattle.check_ranges.specs.Terms.{TermFields};
 ghost use Rattle.check_layout.specs.Tables.{remainders, Lent, Scanned, ScannedWith, Enterable, Enters, EntersTerm};
 
@@ -64,11 +64,11 @@ fn enter(
     requires { ⌜ Enterable (now image) (now fields) (now kinds) at kind counts (now doms) (now types) (now descriptors) (now filter) (now terms) (now marks) ⌝ }
     ensures { λ r. ⌜ Enters r (now (image .entry)) (now (fields .entry)) (now (kinds .entry)) at kind counts (now (doms .entry)) (now (types .entry)) (now (descriptors .entry)) (now (filter .entry)) (now (terms .entry)) (now (marks .entry)) (now (doms .exit)) (now (types .exit)) (now (descriptors .exit)) (now (filter .exit)) (now (terms .exit)) (now (marks .exit)) ⌝ }
 {
-    let code = check_records::kinds::code_of(kinds, kind);
+    let code = read_records::table::code_of(kinds, kind);
     if code == 0 {
         return Entry::Fault(image::Refusal::UnknownKind);
     }
-    if check_records::kinds::is_term(code) {
+    if read_records::table::is_term(code) {
         return enter_term(fields, code, at, counts, terms, marks);
     }
     let tested = check_ranges::tests::first_fault(fields, code, counts);
@@ -78,7 +78,7 @@ fn enter(
         }
         check_ranges::tests::Tested::Passed => {}
     }
-    if check_records::kinds::section_of(code) == check_records::kinds::TYPES {
+    if read_records::table::section_of(code) == read_records::table::TYPES {
         let descriptor = check_fields::descriptor_of(fields, code, kind);
         let new = places::put_type(
             image,
@@ -118,13 +118,13 @@ fn scan_with(
     requires { ⌜ Lent (now image) (now kinds) (now doms) (now types) (now descriptors) (now terms) × (remainders ≤ length (now filter)) × (now marks ≡ replicate termLimit 0) ⌝ }
     ensures { λ r. ⌜ ScannedWith r (now (image .entry)) (now (doms .exit)) (now (types .exit)) (now (descriptors .exit)) (now (filter .exit)) (now (terms .exit)) (now (marks .exit)) ⌝ }
 {
-    let mut walk = check_records::reader::new(image, 0);
+    let mut walk = read_records::reader::new(image, 0);
     let mut counts = Counts::none();
     loop {
-        let head = check_records::reader::next(walk);
+        let head = read_records::reader::next(walk);
         match head {
-            check_records::reader::Head::Record { len, kind } => {
-                let fields = check_records::reader::fields(walk, len);
+            read_records::reader::Head::Record { len, kind } => {
+                let fields = read_records::reader::fields(walk, len);
                 let entered = enter(
                     image,
                     fields,
@@ -145,14 +145,14 @@ fn scan_with(
                     }
                     Entry::Laid(next) => {
                         counts = next;
-                        walk = check_records::reader::past(walk, len);
+                        walk = read_records::reader::past(walk, len);
                     }
                 }
             }
-            check_records::reader::Head::Refused(why) => {
+            read_records::reader::Head::Refused(why) => {
                 return Scan::Stopped(why, walk.at);
             }
-            check_records::reader::Head::End => {
+            read_records::reader::Head::End => {
                 return Scan::Laid(counts);
             }
         }

@@ -1,15 +1,15 @@
 // 8: no two types are equal. A type of objects may have more fields than its descriptor (document 02, card 3).
-use check_records::fields::field;
-use check_records::numbers::TypeNo;
-use check_records::numbers::descriptor_kind;
-use check_records::numbers::type_descriptor;
-use check_records::numbers::type_offset;
-use check_records::reader::fields_at;
 use laws::both;
+use read_records::fields::field;
+use read_records::numbers::TypeNo;
+use read_records::numbers::descriptor_kind;
+use read_records::numbers::type_descriptor;
+use read_records::numbers::type_offset;
+use read_records::reader::fields_at;
 ghost use mathlib.Core.Path.{_≡_};
 ghost use Prim.Native.Nat.{_≤_, _<_};
 ghost use lib.ListN.{length, getD};
-ghost use Rattle.check_records.specs.Heads.{IsWhole};
+ghost use Rattle.read_records.specs.Heads.{IsWhole};
 ghost use Rattle.check_layout.specs.NewTypes.{newDescriptor, sameFields, sameObject, newObject, newType};
 ghost use Rattle.check_layout.specs.Tables.{Placed};
 

@@ -1,8 +1,8 @@
 // The tables of records: the offset of each, section by section, by its number; the descriptors of the types, and the filter of
 // the descriptors.
-use check_records::numbers::DomainNo;
-use check_records::numbers::TermNo;
-use check_records::numbers::TypeNo;
+use read_records::numbers::DomainNo;
+use read_records::numbers::TermNo;
+use read_records::numbers::TypeNo;
 ghost use mathlib.Core.Path.{_≡_};
 ghost use Prim.Native.Nat.{_<_};
 ghost use lib.ListN.{length, set};

@@ -11,8 +11,8 @@ use Rattle.image.specs.Records.{Layout}
 use Rattle.image.specs.Types.{children}
 use Rattle.image.proofs.Laid.{Below, below-at}
 use Rattle.image.proofs.Words.{words-length, words-at}
-use Rattle.check_records.specs.Codes.{countOf, childrenIn}
-use Rattle.check_records.specs.Heads.{fieldIn, sideOf}
+use Rattle.read_records.specs.Codes.{countOf, childrenIn}
+use Rattle.read_records.specs.Heads.{fieldIn, sideOf}
 use Rattle.check_marks.specs.Marks.{Lower, firstUse, heightIn, used, useAll, highest, entered, marksOf}
 
 -- What is left of the children is one child and the rest of them, or none.

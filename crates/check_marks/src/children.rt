@@ -3,7 +3,7 @@
 use crate::marks::mark_of;
 use crate::marks::one_more;
 use crate::marks::set_mark;
-use check_records::numbers::TermNo;
+use read_records::numbers::TermNo;
 ghost use mathlib.Core.Path.{_≡_};
 ghost use Prim.Native.Nat.{suc, _<_, max};
 ghost use mathlib.Core.List.{[], _∷_};
@@ -11,7 +11,7 @@ ghost use lib.ListN.{length, set};
 ghost use Rattle.image.specs.Limits.{depthLimit};
 ghost use Rattle.image.specs.Kinds.{an-entry};
 ghost use Rattle.image.specs.Records.{asChild};
-ghost use Rattle.check_records.specs.Heads.{sideOf, entriesOf, childrenOf, Fitting};
+ghost use Rattle.read_records.specs.Heads.{sideOf, entriesOf, childrenOf, Fitting};
 ghost use Rattle.check_marks.specs.Marks.{Lower, more, firstUse, usedMark, useAll, highest, entered};
 
 // What a use adds to a mark, and the mark of a term that is used again.
@@ -94,12 +94,12 @@ fn use_side(fields: &[u8], code: u32, marks: &mut [u8]) -> u32
     requires { ⌜ Fitting code (now fields) × Lower (length (now marks)) (sideOf code (now fields)) ⌝ }
     ensures { λ r. ⌜ (r ≡ highest (sideOf code (now (fields .entry))) (now (marks .entry)) 0) × (now (marks .exit) ≡ useAll (sideOf code (now (fields .entry))) (now (marks .entry))) ⌝ }
 {
-    let first = check_records::kinds::field_count(code);
-    let count = check_records::kinds::child_count(code, fields.len());
+    let first = read_records::table::field_count(code);
+    let count = read_records::table::child_count(code, fields.len());
     let mut h: u32 = 0;
     let mut j: usize = 0;
     while j < count {
-        let e = check_records::fields::term_field(fields, first + j);
+        let e = read_records::fields::term_field(fields, first + j);
         h = use_child(marks, e, h);
         j += 1;
     }
@@ -114,7 +114,7 @@ fn use_entry(entry: u16, h: u32, marks: &mut [u8]) -> u32
     if entry == 0 {
         return h;
     }
-    use_child(marks, check_records::numbers::entry_term(entry), h)
+    use_child(marks, read_records::numbers::entry_term(entry), h)
 }
 
 // The entries in a term's fields, of which only a match has any.
@@ -122,13 +122,13 @@ fn use_entries(fields: &[u8], code: u32, below: u32, marks: &mut [u8]) -> u32
     requires { ⌜ Fitting code (now fields) × Lower (length (now marks)) (entriesOf code (now fields)) ⌝ }
     ensures { λ r. ⌜ (r ≡ highest (entriesOf code (now (fields .entry))) (now (marks .entry)) below) × (now (marks .exit) ≡ useAll (entriesOf code (now (fields .entry))) (now (marks .entry))) ⌝ }
 {
-    let before = check_records::kinds::field_count(code);
-    let first = before + check_records::kinds::child_count(code, fields.len());
-    let count = check_records::kinds::entry_count(code, fields.len());
+    let before = read_records::table::field_count(code);
+    let first = before + read_records::table::child_count(code, fields.len());
+    let count = read_records::table::entry_count(code, fields.len());
     let mut h = below;
     let mut j: usize = 0;
     while j < count {
-        let entry = check_records::fields::field(fields, first + j);
+        let entry = read_records::fields::field(fields, first + j);
         h = use_entry(entry, h, marks);
         j += 1;
     }

@@ -1,5 +1,5 @@
 // A number for each term.
-use check_records::numbers::TermNo;
+use read_records::numbers::TermNo;
 ghost use mathlib.Core.Path.{_≡_};
 ghost use Prim.Native.Nat.{_<_};
 ghost use lib.ListN.{length, getD, set};

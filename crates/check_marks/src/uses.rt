@@ -2,8 +2,8 @@
 use crate::children::AGAIN;
 use crate::children::USED;
 use crate::marks::mark_of;
-use check_records::numbers::TermNo;
 use laws::both;
+use read_records::numbers::TermNo;
 ghost use mathlib.Core.Path.{_≡_};
 ghost use Prim.Native.Nat.{_≤_};
 ghost use lib.ListN.{length, getD};

@@ -11,9 +11,9 @@ use Rattle.laws.specs.Tests.{all}
 use Rattle.image.specs.Limits.{operationCount}
 use Rattle.image.specs.Bytes.{words}
 use Rattle.image.specs.Kinds.{TermKind, term}
-use Rattle.check_records.specs.declared.numbers.Counts.{Counts}
-use Rattle.check_records.specs.Codes.{classNumbers, codeOf}
-use Rattle.check_records.specs.Heads.{fieldIn, childrenOf}
+use Rattle.read_records.specs.declared.numbers.Counts.{Counts}
+use Rattle.read_records.specs.Codes.{classNumbers, codeOf}
+use Rattle.read_records.specs.Heads.{fieldIn, childrenOf}
 use Rattle.check_marks.specs.Marks.{entered}
 use Rattle.check_ranges.specs.Ranges.{rangesFrom, groupsFrom, classesPast}
 use Rattle.check_ranges.specs.Numbers.{rangeFits}

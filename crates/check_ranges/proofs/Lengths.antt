@@ -10,7 +10,7 @@ use Rattle.laws.specs.Tests.{all}
 use Rattle.image.specs.Records.{goesInto}
 use Rattle.laws.proofs.Booleans.{and-l, and-r, and-i, same-truth, le-of, of-le, eq-of, of-eq}
 use Rattle.laws.proofs.Tests.{each, of-each}
-use Rattle.check_records.specs.Codes.{sizeOf, groupOf, lastOf, leastOf, firstOf, groupLimit, Sized}
+use Rattle.read_records.specs.Codes.{sizeOf, groupOf, lastOf, leastOf, firstOf, groupLimit, Sized}
 use Rattle.check_ranges.specs.Numbers.{lengthFits, groupsFill}
 
 -- A record of n bytes that has f first and l last fields, and a group of g fields, at least a times.

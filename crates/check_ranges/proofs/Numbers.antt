@@ -12,7 +12,7 @@ use Rattle.laws.specs.Tests.{firstFault}
 use Rattle.laws.proofs.Booleans.{le-of, eq-of}
 use Rattle.laws.proofs.Tests.{each}
 use Rattle.calculus.specs.Combinators.{choose}
-use Rattle.check_records.specs.Codes.{groupOf, lastOf, firstOf, timesIn}
+use Rattle.read_records.specs.Codes.{groupOf, lastOf, firstOf, timesIn}
 use Rattle.check_ranges.specs.Numbers.{lengthFits, Held}
 
 -- A record of the right length holds its kind's known fields.

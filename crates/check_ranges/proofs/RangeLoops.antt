@@ -8,8 +8,8 @@ use mathlib.Core.Bool.{Bool, true, false, _&&_, and-true}
 use mathlib.Core.List.{List, [], _∷_}
 use lib.Dec.{ltb}
 use Rattle.laws.specs.Tests.{all}
-use Rattle.check_records.specs.declared.numbers.Counts.{Counts}
-use Rattle.check_records.specs.Heads.{fieldIn}
+use Rattle.read_records.specs.declared.numbers.Counts.{Counts}
+use Rattle.read_records.specs.Heads.{fieldIn}
 use Rattle.check_ranges.specs.Ranges.{inClass, rangesFrom, groupsFrom, classesPast}
 
 module _ (fs : List ℕ) (m : Counts) where

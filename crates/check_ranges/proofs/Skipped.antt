@@ -10,10 +10,10 @@ use Rattle.calculus.specs.Combinators.{choose}
 use Rattle.laws.specs.Tests.{all}
 use Rattle.laws.proofs.Booleans.{lt-of}
 use Rattle.image.specs.Records.{goesInto}
-use Rattle.check_records.specs.declared.numbers.Counts.{Counts}
-use Rattle.check_records.specs.Codes.{groupOf, lastOf, leastOf, classesOf, firstOf, timesIn, Sized}
-use Rattle.check_records.specs.Heads.{fieldIn}
-use Rattle.check_records.proofs.Skipped.{field-skipped}
+use Rattle.read_records.specs.declared.numbers.Counts.{Counts}
+use Rattle.read_records.specs.Codes.{groupOf, lastOf, leastOf, classesOf, firstOf, timesIn, Sized}
+use Rattle.read_records.specs.Heads.{fieldIn}
+use Rattle.read_records.proofs.Skipped.{field-skipped}
 use Rattle.check_fields.specs.Fields.{fieldFrom}
 use Rattle.check_ranges.specs.Ranges.{rangesFrom, groupsFrom, classesPast}
 use Rattle.check_ranges.specs.Numbers.{lengthFits, Held, rangeFits, numberTests}

@@ -6,8 +6,8 @@ use mathlib.Core.Bool.{Bool, true, _&&_}
 use lib.Dec.{ltb}
 use Rattle.image.specs.Limits.{termLimit}
 use Rattle.laws.proofs.Booleans.{and-l, and-r, lt-of}
-use Rattle.check_records.specs.declared.numbers.Counts.{Counts}
-use Rattle.check_records.specs.Codes.{sectionOf}
+use Rattle.read_records.specs.declared.numbers.Counts.{Counts}
+use Rattle.read_records.specs.Codes.{sectionOf}
 use Rattle.check_ranges.specs.Numbers.{orderFits, roomFits}
 
 -- An answer is yes: both of its parts are; the child is there.

@@ -9,8 +9,8 @@ use Rattle.image.specs.declared.Refusal.{Refusal}
 use Rattle.image.specs.Limits.{domainLimit, typeLimit, termLimit}
 use Rattle.laws.specs.Tests.{all}
 use Rattle.calculus.specs.Combinators.{choose}
-use Rattle.check_records.specs.Codes.{groupOf, lastOf, leastOf, classesOf, sectionOf, firstOf, groupLimit, mostOf, timesIn}
-use Rattle.check_records.specs.declared.numbers.Counts.{Counts}
+use Rattle.read_records.specs.Codes.{groupOf, lastOf, leastOf, classesOf, sectionOf, firstOf, groupLimit, mostOf, timesIn}
+use Rattle.read_records.specs.declared.numbers.Counts.{Counts}
 use Rattle.check_ranges.specs.declared.tests.Tested.{Tested}
 use Rattle.check_ranges.specs.Ranges.{rangesFrom, groupsFrom, classesPast}
 

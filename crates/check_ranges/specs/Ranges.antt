@@ -5,10 +5,10 @@ use mathlib.Core.List.{List}
 use lib.Dec.{eqb, ltb, leb}
 use Rattle.image.specs.Limits.{operationCount}
 use Rattle.calculus.specs.Combinators.{choose}
-use Rattle.check_records.specs.declared.numbers.Counts.{Counts}
-use Rattle.check_records.specs.Heads.{fieldIn}
+use Rattle.read_records.specs.declared.numbers.Counts.{Counts}
+use Rattle.read_records.specs.Heads.{fieldIn}
 
--- A field of the class c (classNumber of the crate check_records), behind so many records: the number of a type or of a domain that is there, an operation, one of the 2 truths, any number, the number of a term that is there, or an entry.
+-- A field of the class c (classNumber of the crate read_records), behind so many records: the number of a type or of a domain that is there, an operation, one of the 2 truths, any number, the number of a term that is there, or an entry.
 abbrev pub inClass : Counts → ℕ → ℕ → Bool
 inClass n c v =
     choose (eqb c 0) (ltb v (n .types))

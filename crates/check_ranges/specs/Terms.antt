@@ -6,9 +6,9 @@ use mathlib.Core.List.{List}
 use mathlib.Core.Option.{none}
 use lib.ListN.{length}
 use Rattle.laws.specs.Tests.{firstFault}
-use Rattle.check_records.specs.declared.numbers.Counts.{Counts}
-use Rattle.check_records.specs.Codes.{sectionOf, Sized}
-use Rattle.check_records.specs.Heads.{childrenOf, Fitting}
+use Rattle.read_records.specs.declared.numbers.Counts.{Counts}
+use Rattle.read_records.specs.Codes.{sectionOf, Sized}
+use Rattle.read_records.specs.Heads.{childrenOf, Fitting}
 use Rattle.check_marks.specs.Marks.{Lower, entered}
 use Rattle.check_ranges.specs.declared.tests.Tested.{Tested}
 use Rattle.check_ranges.specs.Numbers.{lengthFits, rangeFits, numberTests}

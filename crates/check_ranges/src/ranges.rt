@@ -3,31 +3,31 @@ use check_fields::below;
 use check_fields::names_domain;
 use check_fields::names_term;
 use check_fields::names_type;
-use check_records::kinds::CLASS_DOMAIN;
-use check_records::kinds::CLASS_FREE;
-use check_records::kinds::CLASS_OPERATION;
-use check_records::kinds::CLASS_TERM;
-use check_records::kinds::CLASS_TRUTH;
-use check_records::kinds::CLASS_TYPE;
-use check_records::kinds::DOMAIN;
-use check_records::kinds::MASK;
-use check_records::kinds::NO_FIELDS;
-use check_records::kinds::TWO_TYPES;
-use check_records::kinds::TYPE_AND_DOMAIN;
-use check_records::kinds::TYPE_DOMAIN_AND_TYPE;
-use check_records::kinds::field_classes;
-use check_records::kinds::first_count;
-use check_records::kinds::group_count;
-use check_records::kinds::group_times;
-use check_records::kinds::last_count;
-use check_records::numbers::Counts;
 use laws::both;
+use read_records::numbers::Counts;
+use read_records::table::CLASS_DOMAIN;
+use read_records::table::CLASS_FREE;
+use read_records::table::CLASS_OPERATION;
+use read_records::table::CLASS_TERM;
+use read_records::table::CLASS_TRUTH;
+use read_records::table::CLASS_TYPE;
+use read_records::table::DOMAIN;
+use read_records::table::MASK;
+use read_records::table::NO_FIELDS;
+use read_records::table::TWO_TYPES;
+use read_records::table::TYPE_AND_DOMAIN;
+use read_records::table::TYPE_DOMAIN_AND_TYPE;
+use read_records::table::field_classes;
+use read_records::table::first_count;
+use read_records::table::group_count;
+use read_records::table::group_times;
+use read_records::table::last_count;
 ghost use mathlib.Core.Path.{_≡_};
 ghost use Prim.Native.Nat.{_+_, _-_, _*_, _/_, _≤_, _<_};
 ghost use lib.ListN.{length};
 ghost use lib.Dec.{leb};
-ghost use Rattle.check_records.specs.Codes.{Sized};
-ghost use Rattle.check_records.specs.Heads.{fieldIn};
+ghost use Rattle.read_records.specs.Codes.{Sized};
+ghost use Rattle.read_records.specs.Heads.{fieldIn};
 ghost use Rattle.check_ranges.specs.Ranges.{inClass, rangesFrom, groupsFrom, classesPast};
 ghost use Rattle.check_ranges.specs.Numbers.{Held, rangeFits};
 
@@ -41,7 +41,7 @@ fn names_entry(fields: &[u8], i: usize, counts: Counts) -> bool
     requires { ⌜ 2 * i + 1 < length (now fields) ⌝ }
     ensures { λ r. ⌜ r ≡ leb (fieldIn (now (fields .entry)) i) (counts .terms) ⌝ }
 {
-    let entry = check_records::fields::field(fields, i) as usize;
+    let entry = read_records::fields::field(fields, i) as usize;
     entry <= counts.terms
 }
 

@@ -1,12 +1,12 @@
 // The refusals 4 to 6, each a function, and 4 to 7 in their order.
-use check_records::kinds::TYPES;
-use check_records::numbers::Counts;
 use laws::both;
+use read_records::numbers::Counts;
+use read_records::table::TYPES;
 ghost use mathlib.Core.Path.{_≡_};
 ghost use Prim.Native.Nat.{_+_, _≤_, _<_};
 ghost use lib.ListN.{length};
 ghost use Rattle.laws.specs.Tests.{firstFault};
-ghost use Rattle.check_records.specs.Codes.{groupOf, sectionOf, Sized};
+ghost use Rattle.read_records.specs.Codes.{groupOf, sectionOf, Sized};
 ghost use Rattle.check_ranges.specs.Numbers.{groupsFill, lengthFits, orderFits, roomFits, numberTests, toldOf};
 
 // How often a group stands, at most; and how many records a section may have.
@@ -28,8 +28,8 @@ fn groups_fill(code: u32, bytes: usize) -> bool
     requires { ⌜ 0 < groupOf code ⌝ }
     ensures { λ r. ⌜ r ≡ groupsFill code bytes ⌝ }
 {
-    let most = GROUP_LIMIT - check_records::kinds::least_times(code);
-    let group = check_records::kinds::group_count(code);
+    let most = GROUP_LIMIT - read_records::table::least_times(code);
+    let group = read_records::table::group_count(code);
     if group == 1 {
         return both(bytes % 2 == 0, bytes / 2 <= most);
     }
@@ -42,14 +42,14 @@ pub fn right_length(code: u32, len: usize) -> bool
     requires { ⌜ Sized code ⌝ }
     ensures { λ r. ⌜ r ≡ lengthFits code len ⌝ }
 {
-    let least = check_records::kinds::least_length(code);
+    let least = read_records::table::least_length(code);
     if len == least {
         return true;
     }
     if len < least {
         return false;
     }
-    if check_records::kinds::group_count(code) == 0 {
+    if read_records::table::group_count(code) == 0 {
         return true;
     }
     groups_fill(code, len - least)
@@ -59,10 +59,10 @@ pub fn right_length(code: u32, len: usize) -> bool
 pub fn in_order(code: u32, counts: Counts) -> bool
     ensures { λ r. ⌜ r ≡ orderFits (sectionOf code) counts ⌝ }
 {
-    if check_records::kinds::is_term(code) {
+    if read_records::table::is_term(code) {
         return true;
     }
-    if check_records::kinds::section_of(code) == TYPES {
+    if read_records::table::section_of(code) == TYPES {
         return counts.terms == 0;
     }
     if counts.types == 0 {
@@ -75,10 +75,10 @@ pub fn in_order(code: u32, counts: Counts) -> bool
 pub fn has_room(code: u32, counts: Counts) -> bool
     ensures { λ r. ⌜ r ≡ roomFits (sectionOf code) counts ⌝ }
 {
-    if check_records::kinds::is_term(code) {
+    if read_records::table::is_term(code) {
         return counts.terms < TERM_LIMIT;
     }
-    if check_records::kinds::section_of(code) == TYPES {
+    if read_records::table::section_of(code) == TYPES {
         return counts.types < TYPE_LIMIT;
     }
     counts.domains < DOMAIN_LIMIT

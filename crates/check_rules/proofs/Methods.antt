@@ -28,14 +28,16 @@ use Rattle.verdict.specs.Settings.{Setting}
 use Rattle.verdict.specs.Rules.{Descriptor, is, bodiesFit}
 use Rattle.verdict.specs.Check.{describe, described}
 use Rattle.verdict.proofs.Methods.{method-fields}
-use Rattle.check_records.specs.Heads.{IsWhole, fieldsAt, fieldIn}
-use Rattle.check_records.proofs.Parts.{bytes-length, field-is}
-use Rattle.check_rules.specs.Lent.{Types, TypeOffsets, IsType, IsObject}
-use Rattle.check_rules.specs.Fields.{typesIn, countIn, ruleIn}
-use Rattle.check_rules.specs.Judged.{judged, descriptorIs, callFits}
-use Rattle.check_rules.proofs.Lists.{table-long, table-at}
-use Rattle.check_rules.proofs.Descriptors.{describes}
-use Rattle.check_rules.proofs.Located.{good-of, image-is}
+use Rattle.read_records.specs.Heads.{IsWhole, fieldsAt, fieldIn}
+use Rattle.read_records.proofs.Parts.{bytes-length, field-is}
+use Rattle.read_terms.specs.Lent.{Types, TypeOffsets, IsType, IsObject}
+use Rattle.read_terms.specs.Fields.{typesIn, countIn}
+use Rattle.check_rules.specs.Rules.{ruleIn}
+use Rattle.check_rules.specs.Judged.{judged, callFits}
+use Rattle.read_terms.specs.Descriptors.{descriptorIs}
+use Rattle.read_terms.proofs.Lists.{table-long, table-at}
+use Rattle.read_terms.proofs.Descriptors.{describes}
+use Rattle.read_terms.proofs.Located.{good-of, image-is}
 use Rattle.check_rules.proofs.Small.{alone, holds-first, fails-first, mistyped}
 use Rattle.check_rules.proofs.OnDescriptors.{typeAtField, types-length}
 

@@ -22,20 +22,23 @@ use Rattle.verdict.specs.Settings.{Setting}
 use Rattle.verdict.specs.Rules.{Descriptor, Rule, fits, fitsAt, is, rule}
 use Rattle.verdict.specs.Check.{describe, described, typeNos}
 use Rattle.verdict.proofs.Descriptors.{same-rule}
-use Rattle.check_records.specs.Heads.{fieldIn}
-use Rattle.check_records.specs.Descriptors.{descriptorKind, descriptorField0, descriptorField1}
-use Rattle.check_rules.specs.Lent.{Types, Lent, Masks, IsType, IsTerm}
-use Rattle.check_rules.specs.Fields.{countIn, childrenIn, othersIn, typesIn, ruleIn, Typed, AtField, Labels, entryTerms, Entries}
-use Rattle.check_rules.specs.Judged.{judged, descriptorIs, bitOf, labelOf, labelAbove, cutOf}
+use Rattle.read_records.specs.Heads.{fieldIn}
+use Rattle.read_records.specs.Descriptors.{descriptorKind, descriptorField0, descriptorField1}
+use Rattle.read_terms.specs.Lent.{Types, Lent, Masks, IsType, IsTerm}
+use Rattle.read_terms.specs.Fields.{countIn, childrenIn, othersIn, typesIn, Typed, AtField, Labels, entryTerms, Entries}
+use Rattle.check_rules.specs.Rules.{ruleIn}
+use Rattle.check_rules.specs.Judged.{judged, labelOf, labelAbove, cutOf}
+use Rattle.read_terms.specs.Descriptors.{descriptorIs}
+use Rattle.read_terms.specs.Masks.{bitOf}
 use Rattle.check_rules.proofs.Small.{alone, accepted}
 use Rattle.laws.proofs.Lists.{map-at}
-use Rattle.check_rules.proofs.Lists.{tests-mapped, tests-both, each-mapped}
-use Rattle.check_rules.proofs.Matches.{match-children, entry-there}
-use Rattle.check_rules.proofs.Counts.{giving-fields, children-counted}
-use Rattle.check_rules.proofs.Elimination.{constants}
-use Rattle.check_rules.proofs.Descriptors.{unpacked, describes}
-use Rattle.check_rules.proofs.Located.{typed-in, type-in}
-use Rattle.check_rules.proofs.Masks.{order-is}
+use Rattle.read_terms.proofs.Lists.{tests-mapped, tests-both, each-mapped}
+use Rattle.read_terms.proofs.Matches.{match-children, entry-there}
+use Rattle.read_terms.proofs.Counts.{giving-fields, children-counted}
+use Rattle.read_terms.proofs.Elimination.{constants}
+use Rattle.read_terms.proofs.Descriptors.{unpacked, describes}
+use Rattle.read_terms.proofs.Located.{typed-in, type-in}
+use Rattle.read_terms.proofs.Masks.{order-is}
 
 -- The descriptor of a term's own type, and of the type of the child at field k.
 abbrev pub ownDescriptor : List ℕ → List ℕ → ℕ

@@ -5,7 +5,7 @@ use mathlib.Core.Path.{_≡_, refl, ap, sym, _∙_}
 use mathlib.Core.List.{List}
 use lib.ListN.{length, getD, take}
 use lib.Seq.{getD-take, take-take}
-use Rattle.check_rules.specs.Lent.{contextIn}
+use Rattle.check_rules.specs.Scopes.{contextIn}
 
 pub context-length : (xs : List ℕ) (n : ℕ) → length (contextIn xs n) ≡ n
 unfolding contextIn

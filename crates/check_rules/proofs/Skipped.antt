@@ -9,9 +9,10 @@ use Rattle.image.specs.Kinds as Kinds
 use Rattle.image.specs.Kinds.{Field, TermKind, termRow}
 use Rattle.image.specs.Records.{goesInto, times, asChild, asOther, given}
 use Rattle.verdict.specs.Settings.{Setting}
-use Rattle.check_records.specs.Heads.{fieldIn}
-use Rattle.check_records.proofs.Skipped.{words-skipped, field-skipped}
-use Rattle.check_rules.specs.Fields.{classesIn, numbersIn, othersIn, childrenIn, ruleIn, settingFrom}
+use Rattle.read_records.specs.Heads.{fieldIn}
+use Rattle.read_records.proofs.Skipped.{words-skipped, field-skipped}
+use Rattle.read_terms.specs.Fields.{classesIn, numbersIn, othersIn, childrenIn}
+use Rattle.check_rules.specs.Rules.{ruleIn, settingFrom}
 
 module _ (fs gs : List ℕ) (k : TermKind) (none : length (termRow k .group) ≡ 0) (holds : 2 * length (classesIn fs k) ≤ length fs) where
   no-times : (m : ℕ) → times (termRow k) m ≡ 0

@@ -14,13 +14,15 @@ use Rattle.image.specs.Types.{termPlace, termKind}
 use Rattle.verdict.specs.declared.Verdict.{Verdict}
 use Rattle.verdict.specs.Settings.{Setting}
 use Rattle.verdict.specs.Check.{ruleAt, settingAt}
-use Rattle.check_records.specs.Heads.{fieldIn}
-use Rattle.check_rules.specs.Lent.{Terms, IsTerm, contextIn, settingIn}
-use Rattle.check_rules.specs.Fields.{fieldsOf, ruleIn, settingFrom}
+use Rattle.read_records.specs.Heads.{fieldIn}
+use Rattle.read_terms.specs.Lent.{Terms, IsTerm}
+use Rattle.check_rules.specs.Scopes.{contextIn, settingIn}
+use Rattle.read_terms.specs.Fields.{fieldsOf}
+use Rattle.check_rules.specs.Rules.{ruleIn, settingFrom}
 use Rattle.check_rules.specs.Judged.{judged, ruleVerdict}
 use Rattle.check_rules.proofs.Small.{unbound}
 use Rattle.check_rules.proofs.Scopes.{context-length, context-at}
-use Rattle.check_rules.proofs.Located.{type-in, children-in, others-in}
+use Rattle.read_terms.proofs.Located.{type-in, children-in, others-in}
 
 module _ {b table : List ℕ} (T : Terms b table) {n : ℕ} (h : IsTerm b n) {k : TermKind} (e : termKind (recordsOf b) n ≡ k) (p : Setting ℕ) where
   rule-in : ruleIn b (fieldsOf b n) k p ≡ ruleAt (recordsOf b) p n

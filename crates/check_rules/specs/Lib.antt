@@ -1,4 +1,4 @@
--- What the functions of this crate are lent, the fields of a term and its rule on them, and what a rule comes to (document 01, "Typing").
-pub mod Lent
-pub mod Fields
+-- The rule of a term on its fields, the scope that it stands in, and what a rule comes to (document 01, "Typing").
+pub mod Rules
+pub mod Scopes
 pub mod Judged

@@ -1,28 +1,29 @@
 // The rules of constants and variables, which have no children (document 01, "Typing").
 use crate::judge::judge;
-use crate::kinds;
-use crate::terms::other_field;
-use crate::terms::own_descriptor;
-use crate::terms::own_type;
-use crate::terms::term_fields;
-use crate::terms::term_kind;
-use crate::terms::term_place;
-use crate::types::is_kind;
-use crate::types::same_type;
-use check_records::numbers::TermNo;
-use check_records::numbers::TypeNo;
+use read_records::kinds;
+use read_records::numbers::TermNo;
+use read_records::numbers::TypeNo;
+use read_terms::terms::other_field;
+use read_terms::terms::own_descriptor;
+use read_terms::terms::own_type;
+use read_terms::terms::term_fields;
+use read_terms::terms::term_kind;
+use read_terms::terms::term_place;
+use read_terms::types::is_kind;
+use read_terms::types::same_type;
 use verdict::Verdict;
 ghost use mathlib.Core.Path.{_≡_};
 ghost use Prim.Native.Nat.{ℕ, _≤_, _<_};
 ghost use lib.ListN.{length, getD};
-ghost use lib.Dec.{leb};
 ghost use Rattle.image.specs.Bytes.{numberAt};
 ghost use Rattle.image.specs.Kinds.{TermKind, termRow};
 ghost use Rattle.image.specs.Layout.{recordsOf};
 ghost use Rattle.image.specs.Types.{termPlace};
 ghost use Rattle.verdict.specs.Settings.{Setting};
-ghost use Rattle.check_rules.specs.Lent.{Terms, Types, Lent, IsTerm, settingIn};
-ghost use Rattle.check_rules.specs.Fields.{ruleIn, Typed};
+ghost use Rattle.read_terms.specs.Lent.{Types, Lent, IsTerm};
+ghost use Rattle.check_rules.specs.Scopes.{settingIn};
+ghost use Rattle.check_rules.specs.Rules.{ruleIn};
+ghost use Rattle.read_terms.specs.Fields.{Typed};
 ghost use Rattle.check_rules.specs.Judged.{judged, ruleVerdict};
 
 // The type in a place of the scope.
@@ -59,14 +60,6 @@ fn check_constant(image: &[u8], descriptors: &[u32], kind: u16, at: usize, field
 {
     let own = own_descriptor(descriptors, fields);
     judge(at, is_kind(own, kind - 16), true)
-}
-
-// Whether a term is a constant or a variable: the kinds up to 35.
-pub fn is_leaf(image: &[u8], terms: &[u16], n: TermNo) -> bool
-    requires { ⌜ Terms (now image) (now terms) × IsTerm (now image) (n .0) ⌝ }
-    ensures { λ r. ⌜ r ≡ leb (numberAt (now (image .entry)) (termPlace (recordsOf (now (image .entry))) (n .0))) 35 ⌝ }
-{
-    term_kind(image, terms, n) <= kinds::VARIABLE
 }
 
 // 13 and 14 at a constant or a variable.

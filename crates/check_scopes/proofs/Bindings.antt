@@ -16,11 +16,11 @@ use Rattle.image.specs.Program.{patternOf}
 use Rattle.image.specs.Types.{typeNo, typeField}
 use Rattle.verdict.specs.Settings.{matchBinds}
 use Rattle.verdict.specs.Check.{typeNos}
-use Rattle.check_records.specs.Heads.{fieldIn}
-use Rattle.check_records.proofs.Entries.{entriesLeft, next-left}
-use Rattle.check_rules.specs.Lent.{contextIn}
-use Rattle.check_rules.specs.Fields.{othersIn, typesIn, firstEntry, entryCount, entryTerms}
-use Rattle.check_rules.proofs.Matches.{match-children, close-told}
+use Rattle.read_records.specs.Heads.{fieldIn}
+use Rattle.read_records.proofs.Entries.{entriesLeft, next-left}
+use Rattle.check_rules.specs.Scopes.{contextIn}
+use Rattle.read_terms.specs.Fields.{othersIn, typesIn, firstEntry, entryCount, entryTerms}
+use Rattle.read_terms.proofs.Matches.{match-children, close-told}
 use Rattle.check_rules.proofs.OnDescriptors.{typeAtField}
 use Rattle.check_scopes.specs.Scopes.{bindLimit, valueTypes, Binds, ChildAt}
 use Rattle.check_scopes.proofs.ChildSettings.{bound-context}

@@ -26,15 +26,16 @@ use Rattle.verdict.specs.Settings.{Setting}
 use Rattle.verdict.specs.Check.{described}
 use Rattle.verdict.proofs.Contexts.{part-there}
 use Rattle.verdict.proofs.Methods.{has-method, method-fields}
-use Rattle.check_records.specs.Heads.{fieldIn}
-use Rattle.check_records.specs.Descriptors.{descriptorField0, descriptorField1}
-use Rattle.check_rules.specs.Lent.{Types, Lent, TypeOffsets, IsType, IsObject, contextIn, settingIn}
-use Rattle.check_rules.specs.Fields.{childrenIn, countIn, typesIn}
-use Rattle.check_rules.proofs.Descriptors.{unpacked, describes}
-use Rattle.check_rules.proofs.Counts.{children-counted}
-use Rattle.check_rules.proofs.Located.{good-of}
+use Rattle.read_records.specs.Heads.{fieldIn}
+use Rattle.read_records.specs.Descriptors.{descriptorField0, descriptorField1}
+use Rattle.read_terms.specs.Lent.{Types, Lent, TypeOffsets, IsType, IsObject}
+use Rattle.check_rules.specs.Scopes.{contextIn, settingIn}
+use Rattle.read_terms.specs.Fields.{childrenIn, countIn, typesIn}
+use Rattle.read_terms.proofs.Descriptors.{unpacked, describes}
+use Rattle.read_terms.proofs.Counts.{children-counted}
+use Rattle.read_terms.proofs.Located.{good-of}
 use Rattle.check_rules.proofs.Scopes.{context-kept}
-use Rattle.check_rules.proofs.Elimination.{apart, left-over}
+use Rattle.read_terms.proofs.Elimination.{apart, left-over}
 use Rattle.check_rules.proofs.Methods.{bodies-counted}
 use Rattle.check_rules.proofs.OnDescriptors.{ownDescriptor, typeAtField, descriptorAtField, at-field-typed}
 use Rattle.check_scopes.specs.Scopes.{elsewhere, anyElsewhere, movesChild, Passed, ChildAt}

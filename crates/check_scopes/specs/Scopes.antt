@@ -9,8 +9,9 @@ use Rattle.image.specs.Kinds.{Body, here, function-body, advice-body, split-bod
 use Rattle.image.specs.Records.{Layout}
 use Rattle.image.specs.Types.{typeField}
 use Rattle.verdict.specs.Check.{typeNos}
-use Rattle.check_rules.specs.Lent.{contextIn, settingIn}
-use Rattle.check_rules.specs.Fields.{countIn, ruleIn, settingFrom, Typed, AtField, Entries}
+use Rattle.check_rules.specs.Scopes.{contextIn, settingIn}
+use Rattle.read_terms.specs.Fields.{countIn, Typed, AtField, Entries}
+use Rattle.check_rules.specs.Rules.{ruleIn, settingFrom}
 
 -- A child that stands elsewhere than its term, under other variables or at another domain (document 01, "Typing"); and the kinds that have such a child.
 abbrev pub elsewhere : Body → Bool

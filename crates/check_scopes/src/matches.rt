@@ -2,15 +2,15 @@
 // under the rest of the stack if its close is 1.
 use crate::scope::Setting;
 use crate::scope::bind;
-use check_records::fields::field;
-use check_records::numbers::entry_term;
-use check_records::numbers::type_descriptor;
-use check_rules::entries::FIRST_ENTRY;
-use check_rules::entries::binds_rest;
-use check_rules::entries::entries_in;
-use check_rules::terms::stated_type;
-use check_rules::terms::type_at_field;
-use check_rules::types::first_type;
+use read_records::fields::field;
+use read_records::numbers::entry_term;
+use read_records::numbers::type_descriptor;
+use read_terms::entries::FIRST_ENTRY;
+use read_terms::entries::binds_rest;
+use read_terms::entries::entries_in;
+use read_terms::terms::stated_type;
+use read_terms::terms::type_at_field;
+use read_terms::types::first_type;
 ghost use mathlib.Core.Path.{_≡_};
 ghost use Prim.Native.Nat.{_+_, _*_, _≤_, _<_};
 ghost use lib.ListN.{length};
@@ -18,8 +18,8 @@ ghost use Rattle.image.specs.Kinds.{TermKind, an-entry};
 ghost use Rattle.image.specs.Limits.{entryLimit, depthLimit};
 ghost use Rattle.image.specs.Records.{asChild};
 ghost use Rattle.image.specs.Layout.{recordsOf};
-ghost use Rattle.check_rules.specs.Lent.{Lent};
-ghost use Rattle.check_rules.specs.Fields.{entryTerms, Entries};
+ghost use Rattle.read_terms.specs.Lent.{Lent};
+ghost use Rattle.read_terms.specs.Fields.{entryTerms, Entries};
 ghost use Rattle.check_scopes.specs.Scopes.{bindLimit, Passed, ChildAt, valueTypes, Binds};
 
 // An entry binds the value of the pointcut that it names; 0 binds nothing.

@@ -2,23 +2,23 @@
 // the current domain (document 01, "Typing").
 use crate::matches::match_setting;
 use check_objects::objects::method_domain;
-use check_records::numbers::DomainNo;
-use check_records::numbers::TypeNo;
-use check_rules::kinds;
-use check_rules::terms::descriptor_at_field;
-use check_rules::terms::other_field;
-use check_rules::terms::own_descriptor;
-use check_rules::terms::own_type;
-use check_rules::types::first_domain;
-use check_rules::types::first_type;
-use check_rules::types::second_domain;
-use check_rules::types::second_type;
+use read_records::kinds;
+use read_records::numbers::DomainNo;
+use read_records::numbers::TypeNo;
+use read_terms::terms::descriptor_at_field;
+use read_terms::terms::other_field;
+use read_terms::terms::own_descriptor;
+use read_terms::terms::own_type;
+use read_terms::types::first_domain;
+use read_terms::types::first_type;
+use read_terms::types::second_domain;
+use read_terms::types::second_type;
 ghost use mathlib.Core.Path.{_≡_};
 ghost use Prim.Native.Nat.{_<_};
 ghost use lib.ListN.{length, set};
 ghost use Rattle.image.specs.Kinds.{TermKind, termRow};
-ghost use Rattle.check_rules.specs.Lent.{Types, Lent, TypeOffsets};
-ghost use Rattle.check_rules.specs.Fields.{childrenIn, countIn};
+ghost use Rattle.read_terms.specs.Lent.{Types, Lent, TypeOffsets};
+ghost use Rattle.read_terms.specs.Fields.{childrenIn, countIn};
 ghost use Rattle.check_scopes.specs.Scopes.{Passed, ChildAt, movesChild};
 
 // How many places of the scope are used, and the current domain.

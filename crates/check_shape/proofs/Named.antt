@@ -12,7 +12,8 @@ use Rattle.laws.specs.Tests.{anyBelow}
 use Rattle.check_shape.specs.Faults.{names, gapIn, eitherRow, faultIn}
 use Rattle.laws.proofs.Booleans.{no-path}
 use Rattle.laws.proofs.Tests.{none-below, below-none}
-use Rattle.check_shape.proofs.Orders.{any-none, any-more, any-same, row-blank}
+use Rattle.laws.proofs.Tests.{any-none, any-more, any-same}
+use Rattle.check_shape.proofs.Orders.{row-blank}
 
 or-or-or-comm : (a b c d : Bool) → (a || b) || (c || d) ≡ (a || c) || (b || d)
 or-or-or-comm true b c d = refl

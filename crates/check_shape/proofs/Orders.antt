@@ -19,21 +19,8 @@ use Rattle.check_shape.specs.Faults.{names, gapIn, faultIn, faulty, orde
 use Rattle.check_shape.specs.Checks.{domainsOrdered}
 use Rattle.laws.proofs.Booleans.{lt-of, ge-of}
 use Rattle.laws.proofs.Lists.{map-at}
+use Rattle.laws.proofs.Tests.{any-same}
 use Rattle.check_shape.proofs.Answers.{from-same}
-
--- Some number below n, and below n + 1.
-pub any-none : (p : ℕ → Bool) → false ≡ anyBelow 0 p
-unfolding anyBelow
-any-none p = refl
-
-pub any-more : (n : ℕ) (p : ℕ → Bool) (b : Bool) → b ≡ anyBelow n p → (b || p n) ≡ anyBelow (n + 1) p
-unfolding anyBelow
-any-more n p b e = rw (add-one, e)
-
-pub any-same : (n : ℕ) (p q : ℕ → Bool) → ((i : ℕ) → p i ≡ q i) → anyBelow n p ≡ anyBelow n q
-unfolding anyBelow
-any-same zero p q h = refl
-any-same (suc n) p q h = rw (any-same n p q h, h n)
 
 -- One bit more of a row.
 pub row-more : (row : List Bool) (q m k : ℕ) → q < length row → take (q + 1) (set row q (eqb (m % 2) 1)) ++ bits k (m / 2) ≡ take q row ++ bits (suc k) m

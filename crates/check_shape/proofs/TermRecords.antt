@@ -8,9 +8,9 @@ use Rattle.image.specs.Records.{Layout}
 use Rattle.image.specs.Layout.{recordsOf}
 use Rattle.image.specs.Types.{termPlace, termKind, children}
 use Rattle.image.proofs.Laid.{Good, layout-good, image-kept}
-use Rattle.check_records.specs.Tables.{Tables}
-use Rattle.check_records.proofs.Codes.{known-code, kind-small}
-use Rattle.check_records.proofs.Parts.{whole, children-fit, children-are}
+use Rattle.read_records.specs.Tables.{Tables}
+use Rattle.read_records.proofs.Codes.{known-code, kind-small}
+use Rattle.read_records.proofs.Parts.{whole, children-fit, children-are}
 use Rattle.check_marks.proofs.ChildByChild.{below-lower}
 use Rattle.check_shape.specs.Records.{TermAt, childrenOfTerm, DomainsOf, Domains, TermsOf, Terms}
 

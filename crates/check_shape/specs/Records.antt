@@ -8,8 +8,8 @@ use Rattle.image.specs.Bytes.{numberAt, lengthAt}
 use Rattle.image.specs.Records.{Layout}
 use Rattle.image.specs.Layout.{laid, layout, recordsOf}
 use Rattle.image.specs.Types.{children}
-use Rattle.check_records.specs.Codes.{codeCount, codeAt}
-use Rattle.check_records.specs.Heads.{IsWhole, fieldsAt, Fitting, childrenOf}
+use Rattle.read_records.specs.Codes.{codeCount, codeAt}
+use Rattle.read_records.specs.Heads.{IsWhole, fieldsAt, Fitting, childrenOf}
 use Rattle.check_marks.specs.Marks.{Lower, allMarks}
 
 -- The record at o is a whole one, and has a mask.

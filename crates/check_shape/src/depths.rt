@@ -1,8 +1,8 @@
 // Refusal 12: no term is deeper than 64, the root having depth 1. A depth is kept up to one past the limit.
 use check_marks::marks::mark_of;
-use check_records::numbers::TermNo;
-use check_records::numbers::term_offset;
 use image::Refusal;
+use read_records::numbers::TermNo;
+use read_records::numbers::term_offset;
 use verdict::Verdict;
 ghost use mathlib.Core.Path.{_≡_};
 ghost use Prim.Native.Nat.{_≤_};

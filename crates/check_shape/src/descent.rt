@@ -3,8 +3,8 @@ use crate::depths::TOO_DEEP;
 use check_marks::marks::mark_of;
 use check_marks::marks::one_more;
 use check_marks::marks::set_mark;
-use check_records::numbers::TermNo;
-use check_records::numbers::term_offset;
+use read_records::numbers::TermNo;
+use read_records::numbers::term_offset;
 use verdict::Verdict;
 ghost use mathlib.Core.Path.{_≡_};
 ghost use Prim.Native.Nat.{_<_};
@@ -14,8 +14,8 @@ ghost use Rattle.image.specs.Kinds.{an-entry};
 ghost use Rattle.image.specs.Records.{asChild};
 ghost use Rattle.image.specs.Layout.{recordsOf};
 ghost use Rattle.verdict.specs.Shape.{setAll};
-ghost use Rattle.check_records.specs.Codes.{kindCodes};
-ghost use Rattle.check_records.specs.Heads.{sideOf, entriesOf, childrenOf, Fitting};
+ghost use Rattle.read_records.specs.Codes.{kindCodes};
+ghost use Rattle.read_records.specs.Heads.{sideOf, entriesOf, childrenOf, Fitting};
 ghost use Rattle.check_marks.specs.Marks.{Lower};
 ghost use Rattle.check_shape.specs.Records.{childrenOfTerm, Terms};
 ghost use Rattle.check_shape.specs.Depths.{depthBelow, cappedFrom};
@@ -26,11 +26,11 @@ fn mark_side(fields: &[u8], code: u32, d: u8, depths: &mut [u8])
     requires { ⌜ Fitting code (now fields) × Lower (length (now depths)) (sideOf code (now fields)) ⌝ }
     ensures { λ _. ⌜ now (depths .exit) ≡ setAll (sideOf code (now (fields .entry))) d (now (depths .entry)) ⌝ }
 {
-    let first = check_records::kinds::field_count(code);
-    let count = check_records::kinds::child_count(code, fields.len());
+    let first = read_records::table::field_count(code);
+    let count = read_records::table::child_count(code, fields.len());
     let mut j: usize = 0;
     while j < count {
-        let e = check_records::fields::term_field(fields, first + j);
+        let e = read_records::fields::term_field(fields, first + j);
         set_mark(depths, e, d);
         j += 1;
     }
@@ -42,7 +42,7 @@ fn mark_entry(entry: u16, d: u8, depths: &mut [u8])
     ensures { λ _. ⌜ now (depths .exit) ≡ setAll (asChild an-entry entry) d (now (depths .entry)) ⌝ }
 {
     if entry != 0 {
-        let e = check_records::numbers::entry_term(entry);
+        let e = read_records::numbers::entry_term(entry);
         set_mark(depths, e, d);
     }
 }
@@ -52,12 +52,12 @@ fn mark_entries(fields: &[u8], code: u32, d: u8, depths: &mut [u8])
     requires { ⌜ Fitting code (now fields) × Lower (length (now depths)) (entriesOf code (now fields)) ⌝ }
     ensures { λ _. ⌜ now (depths .exit) ≡ setAll (entriesOf code (now (fields .entry))) d (now (depths .entry)) ⌝ }
 {
-    let before = check_records::kinds::field_count(code);
-    let first = before + check_records::kinds::child_count(code, fields.len());
-    let count = check_records::kinds::entry_count(code, fields.len());
+    let before = read_records::table::field_count(code);
+    let first = before + read_records::table::child_count(code, fields.len());
+    let count = read_records::table::entry_count(code, fields.len());
     let mut j: usize = 0;
     while j < count {
-        mark_entry(check_records::fields::field(fields, first + j), d, depths);
+        mark_entry(read_records::fields::field(fields, first + j), d, depths);
         j += 1;
     }
 }
@@ -77,9 +77,9 @@ fn mark_term(image: &[u8], kinds: &[u32], terms: &[u16], n: TermNo, depths: &mut
     ensures { λ _. ⌜ now (depths .exit) ≡ setAll (childrenOfTerm (now (image .entry)) (getD (now (terms .entry)) (n .0) 0)) (depthBelow (now (depths .entry)) (n .0)) (now (depths .entry)) ⌝ }
 {
     let at = term_offset(terms, n);
-    let code = check_records::kinds::known_code(kinds, check_records::words::kind_at(image, at));
+    let code = read_records::table::known_code(kinds, read_records::words::kind_at(image, at));
     let d = one_more(TOO_DEEP, mark_of(depths, n));
-    let fields = check_records::reader::fields_at(image, at);
+    let fields = read_records::reader::fields_at(image, at);
     mark_children(fields, code, d, depths);
 }
 

@@ -2,10 +2,10 @@
 // linear in the image.
 use check_marks::marks::mark_of;
 use check_marks::uses::first_misused;
-use check_records::numbers::Counts;
-use check_records::numbers::TermNo;
-use check_records::numbers::term_offset;
 use image::Refusal;
+use read_records::numbers::Counts;
+use read_records::numbers::TermNo;
+use read_records::numbers::term_offset;
 use verdict::Verdict;
 use verdict::is_refused;
 ghost use mathlib.Core.Path.{_≡_};
@@ -15,7 +15,7 @@ ghost use lib.ListN.{length};
 ghost use lib.Dec.{ltb};
 ghost use Rattle.image.specs.Layout.{recordsOf};
 ghost use Rattle.verdict.specs.Shape.{shape};
-ghost use Rattle.check_records.specs.Codes.{kindCodes};
+ghost use Rattle.read_records.specs.Codes.{kindCodes};
 ghost use Rattle.check_marks.specs.Marks.{allMarks};
 ghost use Rattle.check_shape.specs.Records.{Domains, Terms, Marked};
 ghost use Rattle.check_shape.specs.Checks.{termsRight, passes};

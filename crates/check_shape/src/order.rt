@@ -1,17 +1,17 @@
 // Refusal 10: the order of the domains, as sixteen rows of sixteen truths, and the first domain at fault in it.
-use check_records::numbers::DomainNo;
-use check_records::numbers::domain_offset;
 use image::Refusal;
 use laws::either;
+use read_records::numbers::DomainNo;
+use read_records::numbers::domain_offset;
 use verdict::Verdict;
 ghost use mathlib.Core.Path.{_≡_};
 ghost use Prim.Native.Nat.{_≤_, _<_};
-ghost use mathlib.Core.Bool.{not, _&&_, _||_};
+ghost use mathlib.Core.Bool.{not, _&&_};
 ghost use lib.ListN.{length};
 ghost use Rattle.image.specs.Limits.{domainLimit};
 ghost use Rattle.image.specs.Layout.{recordsOf};
 ghost use Rattle.verdict.specs.Domains.{bits};
-ghost use Rattle.check_records.specs.Heads.{fieldIn};
+ghost use Rattle.read_records.specs.Heads.{fieldIn};
 ghost use Rattle.check_shape.specs.Faults.{gapIn, eitherRow, faulty, orderFrom, Rows};
 ghost use Rattle.check_shape.specs.Records.{Domains};
 ghost use Rattle.check_shape.specs.Checks.{domainsOrdered};
@@ -36,7 +36,7 @@ fn mask_of(fields: &[u8]) -> u16
     requires { ⌜ 1 < length (now fields) ⌝ }
     ensures { λ r. ⌜ r ≡ fieldIn (now (fields .entry)) 0 ⌝ }
 {
-    check_records::fields::field(fields, 0)
+    read_records::fields::field(fields, 0)
 }
 
 // The order, an array that is handed over by value, as document 01 asks; the rows of absent domains are all false.
@@ -47,7 +47,7 @@ pub fn order_of(image: &[u8], doms: &[u16]) -> [[bool; 16]; 16]
     let mut o = [[false; 16]; 16];
     let mut d: usize = 0;
     while d < doms.len() {
-        let fields = check_records::reader::fields_at(
+        let fields = read_records::reader::fields_at(
             image,
             domain_offset(doms, DomainNo(d as u16)),
         );

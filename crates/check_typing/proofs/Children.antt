@@ -13,10 +13,12 @@ use Rattle.verdict.specs.declared.Verdict.{Verdict}
 use Rattle.verdict.specs.Answers.{isRefused}
 use Rattle.verdict.specs.Settings.{Setting}
 use Rattle.verdict.specs.Check.{checked}
-use Rattle.check_rules.specs.Lent.{Terms, IsTerm, settingIn}
-use Rattle.check_rules.specs.Fields.{fieldsOf, childrenIn, countIn, ruleIn, settingFrom, Typed, AtField, HasChild, Entries}
+use Rattle.read_terms.specs.Lent.{Terms, IsTerm}
+use Rattle.check_rules.specs.Scopes.{settingIn}
+use Rattle.read_terms.specs.Fields.{fieldsOf, childrenIn, countIn, Typed, AtField, HasChild, Entries}
+use Rattle.check_rules.specs.Rules.{ruleIn, settingFrom}
 use Rattle.check_rules.specs.Judged.{ruleVerdict}
-use Rattle.check_rules.proofs.Located.{typed-in, children-in, child-lower, at-field-in, has-child, entries-in}
+use Rattle.read_terms.proofs.Located.{typed-in, children-in, child-lower, at-field-in, has-child, entries-in}
 use Rattle.check_rules.proofs.Verdict.{verdict-in}
 use Rattle.check_scopes.specs.Scopes.{bindLimit, Passed}
 use Rattle.check_typing.specs.Turns.{Room}

@@ -13,10 +13,10 @@ use Rattle.verdict.specs.declared.Verdict.{Verdict}
 use Rattle.verdict.specs.Answers.{isRefused, require, inTurn}
 use Rattle.verdict.specs.Check.{check, checked, rootSetting, typing}
 use Rattle.verdict.proofs.Answered.{last-turn}
-use Rattle.check_rules.specs.Lent.{contextIn, settingIn}
+use Rattle.check_rules.specs.Scopes.{contextIn, settingIn}
 use Rattle.check_typing.specs.Turns.{rootChecked, rootPlain, plainAt}
-use Rattle.check_records.specs.Leaves.{plainLeaves}
-use Rattle.check_leaves.proofs.PlainTypes.{plain-is}
+use Rattle.read_records.specs.Leaves.{plainLeaves}
+use Rattle.read_leaves.proofs.PlainTypes.{plain-is}
 
 module _ (L : Layout) where
   pub root-checked : 0 < length (L .terms) → (scope : List ℕ) → checked L (settingIn scope 0 0) (rootOf L) ≡ rootChecked L

@@ -11,8 +11,8 @@ use Rattle.image.specs.Types.{children}
 use Rattle.laws.proofs.Booleans.{of-eq}
 use Rattle.verdict.specs.Shape.{count, depths, Shaped}
 use Rattle.verdict.proofs.Depth.{depth-root, depth-child}
-use Rattle.check_rules.specs.Lent.{Terms, IsTerm}
-use Rattle.check_rules.proofs.Located.{good-of}
+use Rattle.read_terms.specs.Lent.{Terms, IsTerm}
+use Rattle.read_terms.proofs.Located.{good-of}
 use Rattle.check_scopes.specs.Scopes.{bindLimit}
 use Rattle.check_typing.specs.Turns.{Room}
 

@@ -23,12 +23,14 @@ use Rattle.verdict.specs.Rules.{Rule, ruleFaults}
 use Rattle.verdict.specs.Check.{ruleAt, checkAll, checked}
 use Rattle.verdict.proofs.Answered.{accepted-is}
 use Rattle.verdict.proofs.Fuel.{checked-refused, checked-children}
-use Rattle.check_rules.specs.Lent.{Terms, IsTerm, settingIn}
+use Rattle.read_terms.specs.Lent.{Terms, IsTerm}
+use Rattle.check_rules.specs.Scopes.{settingIn}
 use Rattle.check_rules.specs.Judged.{judged, ruleVerdict}
-use Rattle.check_rules.specs.Fields.{fieldsOf, childrenIn, settingFrom}
-use Rattle.check_rules.proofs.Elimination.{leaf-childless}
+use Rattle.read_terms.specs.Fields.{fieldsOf, childrenIn}
+use Rattle.check_rules.specs.Rules.{settingFrom}
+use Rattle.read_terms.proofs.Elimination.{leaf-childless}
 use Rattle.check_rules.proofs.Small.{unbound, mistyped}
-use Rattle.check_rules.proofs.Located.{good-of, number-is, children-in}
+use Rattle.read_terms.proofs.Located.{good-of, number-is, children-in}
 use Rattle.check_rules.proofs.Verdict.{setting-in}
 use Rattle.check_rules.proofs.Scopes.{context-kept}
 

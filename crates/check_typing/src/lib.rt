@@ -1,8 +1,8 @@
 // An inner crate: refusals 13 to 16, the typing pass (document 01, "Typing" and "Turned back at the gate"). It is linear in
 // the image.
-use check_records::numbers::Counts;
-use check_records::numbers::DomainNo;
-use check_records::numbers::TermNo;
+use read_records::numbers::Counts;
+use read_records::numbers::DomainNo;
+use read_records::numbers::TermNo;
 use verdict::Verdict;
 ghost use mathlib.Core.Path.{_≡_};
 ghost use Prim.Native.Nat.{_/_, _<_};
@@ -10,8 +10,8 @@ ghost use lib.ListN.{length};
 ghost use Rattle.image.specs.Layout.{recordsOf};
 ghost use Rattle.verdict.specs.Check.{typing};
 ghost use Rattle.verdict.specs.Shape.{Shaped};
-ghost use Rattle.check_records.specs.Tables.{Tables, Counted};
-ghost use Rattle.check_rules.specs.Lent.{Lent, Masks, Terms, Types, TypeOffsets};
+ghost use Rattle.read_records.specs.Tables.{Tables, Counted};
+ghost use Rattle.read_terms.specs.Lent.{Lent, Masks, Terms, Types, TypeOffsets};
 ghost use Rattle.check_typing.specs.Faults.{verdictAt};
 ghost use Rattle.check_typing.specs.Turns.{rootChecked, rootPlain, plainAt};
 
@@ -26,7 +26,7 @@ fn verdict_of(image: &[u8], terms: &[u16], fault: u64) -> Verdict
         return Verdict::Accepted;
     }
     let n = TermNo((fault / 4 % 65536) as u16);
-    let at = check_rules::terms::term_place(image, terms, n);
+    let at = read_terms::terms::term_place(image, terms, n);
     if fault % 4 == 1 {
         return Verdict::Refused(image::Refusal::UnboundVariable, at);
     }
@@ -86,13 +86,13 @@ fn check_plain(
     ensures { λ r. ⌜ r ≡ rootPlain (recordsOf (now (image .entry))) ⌝ }
 {
     let root = TermNo((count - 1) as u16);
-    let n = check_leaves::type_leaves(
+    let n = read_leaves::type_leaves(
         image,
         descriptors,
         types,
-        check_rules::terms::stated_type(image, terms, root),
+        read_terms::terms::stated_type(image, terms, root),
     );
-    plain_at(n, check_rules::terms::term_place(image, terms, root))
+    plain_at(n, read_terms::terms::term_place(image, terms, root))
 }
 
 // Refusals 13 to 16 of an image that has passed 9 to 12, with so many domains, types and terms, and the tables that hold them.
@@ -108,7 +108,7 @@ pub fn check_typing(
     ensures { λ r. ⌜ r ≡ typing (recordsOf (now (image .entry))) ⌝ }
 {
     let mut masks = [0u16; 16];
-    check_rules::domains::set_masks(image, doms, counts.domains, &mut masks);
+    read_terms::domains::set_masks(image, doms, counts.domains, &mut masks);
     let v = check_root(image, types, terms, descriptors, counts.terms, &masks);
     if verdict::is_refused(v) {
         return v;

@@ -2,20 +2,20 @@
 // over a term's children, and the term number falls. The answer on a term and those below it is a fault, one number that travels
 // in a register: 0 where all pass, else the term whose rule refuses, and by which of the three.
 use check_dispatch::rule::check_rule;
-use check_records::numbers::DomainNo;
-use check_records::numbers::TermNo;
 use check_rules::leaf::check_leaf;
-use check_rules::leaf::is_leaf;
-use check_rules::terms::child_at_field;
-use check_rules::terms::child_count;
-use check_rules::terms::child_of;
-use check_rules::terms::lead_of;
-use check_rules::terms::term_fields;
-use check_rules::terms::term_kind;
 use check_scopes::scope::Setting;
 use check_scopes::scope::child_setting;
 use check_scopes::scope::moves_child;
 use image_refusals::refusal_number;
+use read_records::numbers::DomainNo;
+use read_records::numbers::TermNo;
+use read_terms::terms::child_at_field;
+use read_terms::terms::child_count;
+use read_terms::terms::child_of;
+use read_terms::terms::is_leaf;
+use read_terms::terms::lead_of;
+use read_terms::terms::term_fields;
+use read_terms::terms::term_kind;
 use verdict::Verdict;
 use verdict::is_refused;
 ghost use mathlib.Core.Path.{_≡_};
@@ -26,7 +26,8 @@ ghost use Rattle.image.specs.Layout.{recordsOf};
 ghost use Rattle.verdict.specs.Check.{checked};
 ghost use Rattle.verdict.specs.declared.Verdict.{Verdict};
 ghost use Rattle.check_rules.specs.Judged.{ruleVerdict};
-ghost use Rattle.check_rules.specs.Lent.{Lent, TypeOffsets, Masks, IsTerm, settingIn};
+ghost use Rattle.read_terms.specs.Lent.{Lent, TypeOffsets, Masks, IsTerm};
+ghost use Rattle.check_rules.specs.Scopes.{settingIn};
 ghost use Rattle.check_typing.specs.Faults.{faultAt, verdictAt};
 ghost use Rattle.check_typing.specs.Turns.{Room};
 

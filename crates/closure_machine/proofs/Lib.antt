@@ -3,6 +3,4 @@ pub mod Close
 pub mod Plug
 pub mod Reduce
 pub mod Runs
-pub mod Theorem
 pub mod Loop
-pub mod Examples

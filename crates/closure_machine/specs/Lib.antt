@@ -1,4 +1,4 @@
 -- The closure machine: the calculus's runs without substitution.
 pub mod Closure
 pub mod Machine
-pub mod Settle
+pub mod Measure

@@ -1,3 +1,2 @@
 -- The engine's call.
-pub mod Ran
-pub mod Gate
+pub mod Called

@@ -1,15 +1,14 @@
 // The watch engine (document 01): it accepts or refuses an image, and runs an accepted one over a frame up to a budget of
 // steps. It writes no lent memory of a call that it refuses.
 mod answers;
-pub mod check;
-pub mod prepare;
-pub mod runs;
 
 use calls::Answer;
-use check::Lent;
-use check::check_call;
+use engine_core::prepare::prepare;
+use engine_core::runs::run_code;
 use image::WORK_LENGTH;
-use validator::examine::Checked;
+use validator_core::call::Lent;
+use validator_core::call::check_call;
+use validator_core::examine::Checked;
 ghost use mathlib.Core.Path.{_≡_};
 ghost use Rattle.calls.specs.Calls.{called};
 
@@ -38,7 +37,7 @@ pub fn run(
         Checked::Accepted(counts) => {
             let mut code = [0u64; 1025];
             let mut dispatch = [0u8; 1025];
-            let target = prepare::prepare(
+            let target = prepare(
                 image,
                 &types,
                 &descriptors,
@@ -47,7 +46,7 @@ pub fn run(
                 &mut code,
                 &mut dispatch,
             );
-            let answer = runs::run_code(
+            let answer = run_code(
                 image,
                 &code,
                 &dispatch,

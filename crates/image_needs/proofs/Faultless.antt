@@ -7,7 +7,7 @@ use mathlib.Core.List.{List, [], _∷_}
 use lib.ListN.{length, getD, length-map}
 use lib.Dec.{T, leb}
 use Rattle.calculus.specs.Combinators.{choose}
-use Rattle.calculus.specs.Syntax.{Ty, Tm, Tms, end, more}
+use Rattle.calculus.specs.Syntax.{Ty, Tms, end, more}
 use Rattle.calculus_needs.specs.Class.{isAdvice as isAdviceTm, permits2, inClass, allInClass}
 use Rattle.calculus_needs.proofs.Admitted.{both, first, second}
 use Rattle.image.specs.Kinds.{TermKind, Form, operator, formOf, termRow, bodyOf}

@@ -1,8 +1,9 @@
 -- Tests of lists and of the numbers below a bound: what holds of each where the test holds, and the other way round.
-use Prim.Native.Nat.{ℕ, zero, suc, _≤_, _<_}
+use Prim.Native.Nat.{ℕ, zero, suc, _+_, _≤_, _<_}
 use native.Mathlib.Omega.{arith}
+use native.Mathlib.Numerals.{add-one}
 use mathlib.Core.Path.{_≡_, refl, sym}
-use mathlib.Core.Bool.{Bool, true, false}
+use mathlib.Core.Bool.{Bool, true, false, _||_}
 use mathlib.Core.List.{List, [], _∷_}
 use mathlib.Core.Option.{none}
 use lib.ListN.{length, getD}
@@ -71,3 +72,17 @@ pub passed : {A : Type 0} (a : A) (t : Bool) (ts : List (A × Bool)) → firstFa
 unfolding firstFault
 passed a true ts h = (refl, h)
 passed a false ts h = no-path cc
+
+-- Some number below n, and below n + 1.
+pub any-none : (p : ℕ → Bool) → false ≡ anyBelow 0 p
+unfolding anyBelow
+any-none p = refl
+
+pub any-more : (n : ℕ) (p : ℕ → Bool) (b : Bool) → b ≡ anyBelow n p → (b || p n) ≡ anyBelow (n + 1) p
+unfolding anyBelow
+any-more n p b e = rw (add-one, e)
+
+pub any-same : (n : ℕ) (p q : ℕ → Bool) → ((i : ℕ) → p i ≡ q i) → anyBelow n p ≡ anyBelow n q
+unfolding anyBelow
+any-same zero p q h = refl
+any-same (suc n) p q h = rw (any-same n p q h, h n)

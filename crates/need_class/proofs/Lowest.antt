@@ -6,17 +6,20 @@ use mathlib.Core.Path.{_≡_, refl, sym, ap, _∙_}
 use mathlib.Core.Bool.{Bool, true, false, not, _&&_}
 use mathlib.Core.List.{List, [], _∷_, _++_}
 use lib.ListN.{length, getD, take}
-use lib.Dec.{eqb, leb}
+use lib.Dec.{eqb, leb, ltb}
 use lib.Seq.{take-suc, take-all, length-take-le}
-use borrow.Author.Tests.{ne-eqb}
+use borrow.Author.Tests.{ne-eqb, ltb-true, ltb-false}
 use Rattle.calculus.specs.Combinators.{choose}
 use Rattle.laws.proofs.Booleans.{and-l, and-r, not-t, le-of}
 use Rattle.image.specs.Kinds.{Body, here, function-body, advice-body, split-body, lower-body, method-body, match-body, TermKind, termRow, bodies, bodyOf}
 use Rattle.image.specs.Records.{Layout}
+use Rattle.image.specs.Layout.{recordsOf}
 use Rattle.image.specs.Types.{termKind, children}
 use Rattle.image.proofs.Laid.{Good, Below}
 use Rattle.image.proofs.EveryKind.{everyOf, at-term}
-use Rattle.check_rules.proofs.Elimination.{apart}
+use Rattle.read_terms.specs.Lent.{Terms, IsTerm}
+use Rattle.read_terms.proofs.Located.{child-lower}
+use Rattle.read_terms.proofs.Elimination.{apart}
 use Rattle.image_needs.specs.Faults.{permits, outside, least, permitted, lowest}
 use Rattle.need_class.specs.First.{lowestAt}
 
@@ -24,6 +27,17 @@ use Rattle.need_class.specs.First.{lowestAt}
 pub no-first : (es : List ℕ) → length es ≡ 0 → getD es 0 0 ≡ 0
 no-first [] h = refl
 no-first (e ∷ es) h = absurd (omega arith)
+
+-- The first child is one of the terms, and so is the term of number 0.
+pub first-there : {b table : List ℕ} (T : Terms b table) {n : ℕ} (h : IsTerm b n) (e : ℕ) → e ≡ getD (children (recordsOf b) n) 0 0 → IsTerm b e
+first-there {b} T {n} h e is = look (ltb 0 (length es)) refl
+  where
+    es : List ℕ
+    es = children (recordsOf b) n
+
+    look : (c : Bool) → ltb 0 (length es) ≡ c → IsTerm b e
+    look true q = let z = child-lower T h {k = termKind (recordsOf b) n} refl 0 (ltb-true 0 (length es) q) in omega arith
+    look false q = let m = ltb-false 0 (length es) q in let z = no-first es (omega arith) in omega arith
 
 -- The kinds that are not permitted everywhere.
 abbrev tied : List TermKind

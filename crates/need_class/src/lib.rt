@@ -1,21 +1,22 @@
 // An inner crate: refusal 19 (document 02, card 10), the lowest term of an image that may not stand where it does.
-use check_records::numbers::TermNo;
-use check_rules::kinds;
 use laws::both;
-use need_terms::child_at;
-use need_terms::child_count;
-use need_terms::kind_at;
+use need_terms::child_in;
+use read_records::kinds;
+use read_records::numbers::TermNo;
+use read_terms::terms::child_count;
+use read_terms::terms::term_fields;
+use read_terms::terms::term_kind;
 ghost use mathlib.Core.Path.{_≡_};
-ghost use Prim.Native.Nat.{_<_, _≤_, min};
-ghost use mathlib.Core.Bool.{Bool};
-ghost use lib.ListN.{length};
+ghost use Prim.Native.Nat.{min};
+ghost use lib.ListN.{length, getD};
 ghost use Rattle.calculus.specs.Combinators.{choose};
 ghost use Rattle.image.specs.Kinds.{TermKind, termRow, bodyOf};
 ghost use Rattle.image.specs.Layout.{recordsOf};
-ghost use Rattle.image.specs.Types.{termKind};
-ghost use Rattle.check_rules.specs.Lent.{Terms, IsTerm};
+ghost use Rattle.read_terms.specs.Lent.{Terms, IsTerm};
+ghost use Rattle.read_terms.specs.Fields.{childrenIn};
 ghost use Rattle.image_needs.specs.Faults.{permits};
-ghost use Rattle.need_class.specs.First.{firstChild, lowestAt};
+ghost use Rattle.need_terms.specs.Parts.{Part};
+ghost use Rattle.need_class.specs.First.{lowestAt};
 
 // Whether a term of a kind may stand here, over a first child of a kind; outside: outside advice bodies.
 fn is_permitted(outside: bool, kind: u16, child: u16) -> bool
@@ -30,15 +31,15 @@ fn is_permitted(outside: bool, kind: u16, child: u16) -> bool
     }
 }
 
-// The kind of a term's first child; of a term without children, any.
-fn first_kind(image: &[u8], terms: &[u16], n: TermNo) -> u16
-    requires { ⌜ Terms (now image) (now terms) × IsTerm (now image) (n .0) ⌝ }
-    ensures { λ r. ⌜ r ≡ termRow (termKind (recordsOf (now (image .entry))) (firstChild (recordsOf (now (image .entry))) (n .0))) .number ⌝ }
+// The first child of a term with these fields; where it has none, the first of all terms.
+fn first_child(kind: u16, fields: &[u8]) -> TermNo
+    requires { ⌜ Part kind (now fields) ⌝ }
+    ensures { λ r. ⌜ ((k : TermKind) → kind ≡ termRow k .number → r .0 ≡ getD (childrenIn (now (fields .entry)) k) 0 0) ⌝ }
 {
-    if child_count(image, terms, n) == 0 {
-        return kind_at(image, terms, TermNo(0));
+    if child_count(kind, fields) == 0 {
+        return TermNo(0);
     }
-    kind_at(image, terms, child_at(image, terms, n, 0))
+    child_in(kind, fields, 0)
 }
 
 // Where child j of a term of a kind stands.
@@ -51,34 +52,39 @@ fn is_outside(outside: bool, kind: u16, j: usize) -> bool
     outside
 }
 
-fn lower_of(a: u16, b: u16) -> u16
-    ensures { λ r. ⌜ r ≡ min a b ⌝ }
+fn lower_of(a: TermNo, b: TermNo) -> TermNo
+    ensures { λ r. ⌜ r .0 ≡ min (a .0) (b .0) ⌝ }
 {
-    if a <= b { a } else { b }
+    if a.0 <= b.0 { a } else { b }
 }
 
-fn own_fault(permitted: bool, n: u16, none: u16) -> u16
-    ensures { λ r. ⌜ r ≡ choose permitted none n ⌝ }
+fn own_fault(permitted: bool, n: TermNo, none: TermNo) -> TermNo
+    ensures { λ r. ⌜ r .0 ≡ choose permitted (none .0) (n .0) ⌝ }
 {
     if permitted { none } else { n }
 }
 
-// The lowest number of a term that may not stand where it does, among term n and the terms below it; the number of all terms
-// if there is none.
-pub fn lowest_fault(image: &[u8], terms: &[u16], count: u16, outside: bool, n: TermNo) -> u16
-    requires { ⌜ Terms (now image) (now terms) × IsTerm (now image) (n .0) × (count ≡ length (recordsOf (now image) .terms)) ⌝ }
-    ensures { λ r. ⌜ r ≡ lowestAt (recordsOf (now (image .entry))) outside (n .0) ⌝ }
+// The lowest term that may not stand where it does, among term n and the terms below it; the number past the last term if
+// there is none.
+pub fn lowest_fault(image: &[u8], terms: &[u16], none: TermNo, outside: bool, n: TermNo) -> TermNo
+    requires { ⌜ Terms (now image) (now terms) × IsTerm (now image) (n .0) × (none .0 ≡ length (recordsOf (now image) .terms)) ⌝ }
+    ensures { λ r. ⌜ r .0 ≡ lowestAt (recordsOf (now (image .entry))) outside (n .0) ⌝ }
 {
-    let kind = kind_at(image, terms, n);
-    let ok = is_permitted(outside, kind, first_kind(image, terms, n));
-    let k = child_count(image, terms, n);
-    let mut least = count;
+    let kind = term_kind(image, terms, n);
+    let fields = term_fields(image, terms, n);
+    let ok = is_permitted(
+        outside,
+        kind,
+        term_kind(image, terms, first_child(kind, fields)),
+    );
+    let k = child_count(kind, fields);
+    let mut least = none;
     let mut j: usize = 0;
     while j < k {
-        let e = child_at(image, terms, n, j);
-        let f = lowest_fault(image, terms, count, is_outside(outside, kind, j), e);
+        let e = child_in(kind, fields, j);
+        let f = lowest_fault(image, terms, none, is_outside(outside, kind, j), e);
         least = lower_of(least, f);
         j += 1;
     }
-    lower_of(own_fault(ok, n.0, count), least)
+    lower_of(own_fault(ok, n, none), least)
 }

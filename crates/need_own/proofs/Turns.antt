@@ -10,7 +10,7 @@ use lib.Dec.{eqb, ltb}
 use Rattle.calculus.specs.Combinators.{choose}
 use Rattle.laws.proofs.Booleans.{no-path, lt-of, ge-of}
 use Rattle.need_sums.specs.declared.shapes.Own.{Own}
-use Rattle.need_sums.specs.declared.places.Stand.{Stand}
+use Rattle.need_sums.specs.declared.places.Position.{Position}
 use Rattle.need_sums.specs.Sums.{cut}
 use Rattle.need_sums.specs.Rows.{rowCount, Changed, piecesOf, takesPieces, inBody, ownPieces, Summed}
 
@@ -53,8 +53,8 @@ nothing-taken Own.TwoBindings k h = refl
 nothing-taken Own.Stack k h = no-path h
 nothing-taken Own.Mark k h = refl
 
-pub unchanged : (o : Own) (s : Stand) (xs : List ℕ) → (inBody (s .mode) && takesPieces o) ≡ false → Summed (ownPieces o s) xs xs
-unchanged o s xs h x l = let z : ownPieces o s x ≡ 0 = look (inBody (s .mode)) (eqb (s .dom) 0) (ltb x rowCount) h in omega arith
+pub unchanged : (o : Own) (s : Position) (xs : List ℕ) → (inBody (s .mode) && takesPieces o) ≡ false → Summed (ownPieces o s) xs xs
+unchanged o s xs h x l = let z : ownPieces o s x ≡ 0 = look (inBody (s .mode)) (eqb (s .dom .0) 0) (ltb x rowCount) h in omega arith
   where
     none-of : (k : ℕ) → (b : Bool) → (true && takesPieces o) ≡ false → choose b (piecesOf o k) 0 ≡ 0
     none-of k true h = nothing-taken o k h
@@ -66,15 +66,15 @@ unchanged o s xs h x l = let z : ownPieces o s x ≡ 0 = look (inBody (s .mode))
     look true true false h = refl
     look true false false h = nothing-taken o (x - rowCount + s .kept) h
 
-module _ (o : Own) (s : Stand) (xs ys : List ℕ) (body : inBody (s .mode) ≡ true) where
-  pub mainline-charged : eqb (s .dom) 0 ≡ true → Changed (λ x y. cut (y + piecesOf o (x - 0 + s .kept))) 0 (0 + rowCount) xs ys → Summed (ownPieces o s) xs ys
+module _ (o : Own) (s : Position) (xs ys : List ℕ) (body : inBody (s .mode) ≡ true) where
+  pub mainline-charged : eqb (s .dom .0) 0 ≡ true → Changed (λ x y. cut (y + piecesOf o (x - 0 + s .kept))) 0 (0 + rowCount) xs ys → Summed (ownPieces o s) xs ys
   mainline-charged d C x l = rw (body, d) (go (ltb x rowCount) refl)
     where
       go : (b : Bool) → ltb x rowCount ≡ b → cut (getD ys x 0) ≡ cut (getD xs x 0 + choose b (piecesOf o (x + s .kept)) 0)
       go true q = let m : x < rowCount = lt-of q in let e = C .within x (omega arith) (omega arith) in let z : x - 0 ≡ x = omega arith in rw (e, z) (omega arith)
       go false q = let m : rowCount ≤ x = ge-of q in let e = C .above x (omega arith) in omega arith
 
-  pub others-charged : eqb (s .dom) 0 ≡ false → Changed (λ x y. cut (y + piecesOf o (x - rowCount + s .kept))) rowCount (rowCount + rowCount) xs ys → Summed (ownPieces o s) xs ys
+  pub others-charged : eqb (s .dom .0) 0 ≡ false → Changed (λ x y. cut (y + piecesOf o (x - rowCount + s .kept))) rowCount (rowCount + rowCount) xs ys → Summed (ownPieces o s) xs ys
   others-charged d C x l = rw (body, d) (go (ltb x rowCount) refl)
     where
       go : (b : Bool) → ltb x rowCount ≡ b → cut (getD ys x 0) ≡ cut (getD xs x 0 + choose b 0 (piecesOf o (x - rowCount + s .kept)))

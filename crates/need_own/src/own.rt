@@ -1,15 +1,19 @@
 // What a term takes itself, and how what its children take is put together.
 use image_needs::Needs;
 use need_sums::places::Mode;
-use need_sums::places::Stand;
+use need_sums::places::Position;
 use need_sums::shapes::Own;
 use need_sums::shapes::Role;
 use need_sums::sums::add;
 use need_sums::sums::no_needs;
 use need_sums::sums::raise;
+use read_records::numbers::DomainNo;
 ghost use mathlib.Core.Path.{_≡_};
 ghost use Prim.Native.Nat.{_+_, _≤_};
 ghost use Rattle.need_sums.specs.Walks.{placeLimit, stepNeeds, chargedNeeds, ownNeeds, addedNeeds, chosenNeeds};
+
+// The mainline's domain.
+pub const MAINLINE: u16 = 0;
 
 // One step under so many unfinished terms.
 fn step_under(depth: u32) -> Needs
@@ -22,11 +26,11 @@ fn step_under(depth: u32) -> Needs
 }
 
 // With so many bindings, cells and pieces, charged to a domain (document 02, card 9).
-fn charged(n: Needs, dom: u16, bindings: u32, cells: u32, pieces: u32) -> Needs
-    ensures { λ r. ⌜ r ≡ chargedNeeds n dom bindings cells pieces ⌝ }
+fn charged(n: Needs, dom: DomainNo, bindings: u32, cells: u32, pieces: u32) -> Needs
+    ensures { λ r. ⌜ r ≡ chargedNeeds n (dom .0) bindings cells pieces ⌝ }
 {
     let mut m = n;
-    if dom == 0 {
+    if dom.0 == MAINLINE {
         m.bindings = bindings;
         m.cells = cells;
         m.pieces = pieces;
@@ -39,10 +43,11 @@ fn charged(n: Needs, dom: u16, bindings: u32, cells: u32, pieces: u32) -> Needs
 }
 
 // A term's own reduction; w is what all advice takes at a mark there.
-fn reduction(own: Own, s: Stand, w: Needs) -> Needs
+fn reduction(own: Own, s: Position, w: Needs) -> Needs
     ensures { λ r. ⌜ r ≡ Rattle.need_sums.specs.Walks.reductionNeeds own s w ⌝ }
 {
     let mut n = step_under(s.depth);
+    let c = s.dom;
     match own {
         Own::Nothing => no_needs(),
         Own::Step => n,
@@ -58,12 +63,12 @@ fn reduction(own: Own, s: Stand, w: Needs) -> Needs
             n.advice = 1;
             n
         }
-        Own::Cell => charged(n, s.dom, 0, 1, 0),
-        Own::Piece => charged(n, s.dom, 0, 0, 1),
-        Own::Advised => charged(n, s.dom, 0, 0, 1),
-        Own::Binding => charged(n, s.dom, 1, 0, 0),
-        Own::TwoBindings => charged(n, s.dom, 2, 0, 0),
-        Own::Stack => charged(n, s.dom, 0, 0, s.kept),
+        Own::Cell => charged(n, c, 0, 1, 0),
+        Own::Piece => charged(n, c, 0, 0, 1),
+        Own::Advised => charged(n, c, 0, 0, 1),
+        Own::Binding => charged(n, c, 1, 0, 0),
+        Own::TwoBindings => charged(n, c, 2, 0, 0),
+        Own::Stack => charged(n, c, 0, 0, s.kept),
         Own::Mark => add(n, w),
     }
 }
@@ -88,9 +93,9 @@ fn is_advised(own: Own) -> bool
 }
 
 // What an advice of domain p takes at a mark, without its body: its binding, and the steps out of the lower and of the sequence.
-fn round_steps(own: Own, s: Stand, p: u16) -> Needs
+fn advice_steps(own: Own, s: Position, p: DomainNo) -> Needs
     requires { ⌜ s .depth ≤ placeLimit ⌝ }
-    ensures { λ r. ⌜ r ≡ Rattle.need_sums.specs.Walks.roundNeeds own s p ⌝ }
+    ensures { λ r. ⌜ r ≡ Rattle.need_sums.specs.Walks.adviceNeeds own s (p .0) ⌝ }
 {
     if is_advised(own) {
         let mut n = no_needs();
@@ -102,22 +107,22 @@ fn round_steps(own: Own, s: Stand, p: u16) -> Needs
 }
 
 // What a term takes itself, by what is asked of it; w is what all advice takes at a mark that nothing encloses.
-pub fn own_needs(own: Own, s: Stand, p: u16, w: Needs) -> Needs
+pub fn own_needs(own: Own, s: Position, p: DomainNo, w: Needs) -> Needs
     requires { ⌜ s .depth ≤ placeLimit ⌝ }
-    ensures { λ r. ⌜ r ≡ ownNeeds own s p w ⌝ }
+    ensures { λ r. ⌜ r ≡ ownNeeds own s (p .0) w ⌝ }
 {
     let m = s.mode;
     match m {
         Mode::Skip => no_needs(),
         Mode::Program => reduction(own, s, raise(s.depth, w)),
         Mode::Body => reduction(own, s, no_needs()),
-        Mode::Rounds => no_needs(),
-        Mode::Round => round_steps(own, s, p),
+        Mode::AllAdvice => no_needs(),
+        Mode::InstalledAdvice => advice_steps(own, s, p),
     }
 }
 
 // Whether a child is one of two branches of which the dearer counts.
-pub fn is_branch(s: Stand, role: Role) -> bool
+pub fn is_branch(s: Position, role: Role) -> bool
     ensures { λ r. ⌜ r ≡ Rattle.need_sums.specs.Walks.isBranch s role ⌝ }
 {
     let m = s.mode;
@@ -125,8 +130,8 @@ pub fn is_branch(s: Stand, role: Role) -> bool
         Mode::Skip => false,
         Mode::Program => branches(role),
         Mode::Body => branches(role),
-        Mode::Rounds => false,
-        Mode::Round => false,
+        Mode::AllAdvice => false,
+        Mode::InstalledAdvice => false,
     }
 }
 
@@ -147,7 +152,7 @@ fn branches(role: Role) -> bool
 }
 
 // What a child adds that takes x: nothing as a branch.
-pub fn added(s: Stand, role: Role, x: Needs) -> Needs
+pub fn added(s: Position, role: Role, x: Needs) -> Needs
     ensures { λ r. ⌜ r ≡ addedNeeds s role x ⌝ }
 {
     if is_branch(s, role) {
@@ -173,17 +178,18 @@ fn binds_variables(role: Role) -> bool
 }
 
 // The bindings of a branch: the first branch of a match binds so many variables.
-fn branch_bindings(s: Stand, role: Role, variables: u32) -> Needs
+fn branch_bindings(s: Position, role: Role, variables: u32) -> Needs
     ensures { λ r. ⌜ r ≡ Rattle.need_sums.specs.Walks.branchNeeds s role variables ⌝ }
 {
     if binds_variables(role) {
-        return charged(no_needs(), s.dom, variables, 0, 0);
+        let c = s.dom;
+        return charged(no_needs(), c, variables, 0, 0);
     }
     no_needs()
 }
 
 // What a child offers as a branch: nothing if it is none.
-pub fn chosen(s: Stand, role: Role, variables: u32, x: Needs) -> Needs
+pub fn chosen(s: Position, role: Role, variables: u32, x: Needs) -> Needs
     ensures { λ r. ⌜ r ≡ chosenNeeds s role variables x ⌝ }
 {
     if is_branch(s, role) {

@@ -1,8 +1,9 @@
 // Tables of pieces: what all advice takes of them at a mark, for each number of values that may be kept around it.
+use crate::own::MAINLINE;
 use image_needs::Needs;
 use laws::both;
 use need_sums::places::Mode;
-use need_sums::places::Stand;
+use need_sums::places::Position;
 use need_sums::shapes::Own;
 use need_sums::sums::larger;
 use need_sums::sums::plus;
@@ -99,8 +100,8 @@ fn is_body(mode: Mode) -> bool
         Mode::Skip => false,
         Mode::Program => false,
         Mode::Body => true,
-        Mode::Rounds => false,
-        Mode::Round => false,
+        Mode::AllAdvice => false,
+        Mode::InstalledAdvice => false,
     }
 }
 
@@ -125,13 +126,14 @@ fn charge_half(rows: &mut [u32], at: usize, own: Own, kept: u32)
 }
 
 // What a term takes itself, in the half of its domain.
-pub fn charge_rows(rows: &mut [u32], own: Own, s: Stand)
+pub fn charge_rows(rows: &mut [u32], own: Own, s: Position)
     requires { ⌜ (s .kept ≤ placeLimit) × (length (now rows) ≡ tableLength) ⌝ }
     ensures { λ _. ⌜ Summed (ownPieces own s) (now (rows .entry)) (now (rows .exit)) ⌝ }
 {
     let mode = s.mode;
+    let c = s.dom;
     if both(is_body(mode), takes_pieces(own)) {
-        if s.dom == 0 {
+        if c.0 == MAINLINE {
             charge_half(rows, 0, own, s.kept);
         } else {
             charge_half(rows, ROWS, own, s.kept);

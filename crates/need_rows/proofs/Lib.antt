@@ -1,3 +1,4 @@
 -- The proofs of the walk for pieces.
 pub mod Pieces
 pub mod Children
+pub mod TwoBranches

@@ -17,7 +17,7 @@ use Rattle.laws.proofs.Booleans.{no-path, of-lt}
 use Rattle.need_sums.specs.declared.shapes.Own.{Own}
 use Rattle.need_sums.specs.declared.shapes.Role.{Role}
 use Rattle.need_sums.specs.declared.places.Mode.{Mode}
-use Rattle.need_sums.specs.declared.places.Stand.{Stand}
+use Rattle.need_sums.specs.declared.places.Position.{Position}
 use Rattle.need_sums.specs.Sums.{cut}
 use Rattle.need_sums.specs.Walks.{bindsVariables, isAdvised}
 use Rattle.need_sums.specs.Rows.{rowCount, tableLength, halfPieces, ownPieces, Summed}
@@ -116,45 +116,45 @@ piece-round true P p x =
 piece-round false P p x = piece-none x
 
 -- What a term takes itself.
-module _ (s : Stand) (x : ℕ) where
+module _ (s : Position) (x : ℕ) where
   abbrev P : ℕ → Here
   P i = hereOf (keepingMore i s)
 
   flat : (f : ℕ → Numbers) → ((i : ℕ) → f i .used .mainline .pieces ≡ 0) → ((i : ℕ) → f i .used .others .pieces ≡ 0)
-      → pieceAt f x ≡ choose (ltb x rowCount) (choose (eqb (s .dom) 0) 0 0) (choose (eqb (s .dom) 0) 0 0)
-  flat f a b = piece-zero f a b x ∙ sym (look (ltb x rowCount) (eqb (s .dom) 0))
+      → pieceAt f x ≡ choose (ltb x rowCount) (choose (eqb (s .dom .0) 0) 0 0) (choose (eqb (s .dom .0) 0) 0 0)
+  flat f a b = piece-zero f a b x ∙ sym (look (ltb x rowCount) (eqb (s .dom .0) 0))
     where
       look : (t m : Bool) → _≡_ {A = ℕ} (choose t (choose m 0 0) (choose m 0 0)) 0
       look true m = same-zero m
       look false m = same-zero m
 
-  body-pieces : (o : Own) → pieceAt (λ i. ownNumbers o (P i) none) x ≡ halfPieces (eqb (s .dom) 0) o (s .kept) x
+  body-pieces : (o : Own) → pieceAt (λ i. ownNumbers o (P i) none) x ≡ halfPieces (eqb (s .dom .0) 0) o (s .kept) x
   unfolding _⊕_
   body-pieces Own.Nothing = flat (λ i. ownNumbers Own.Nothing (P i) none) (λ i. refl) (λ i. refl)
   body-pieces Own.Step = flat (λ i. ownNumbers Own.Step (P i) none) (λ i. refl) (λ i. refl)
   body-pieces Own.Label = flat (λ i. ownNumbers Own.Label (P i) none) (λ i. refl) (λ i. refl)
   body-pieces Own.Print = flat (λ i. ownNumbers Own.Print (P i) none) (λ i. refl) (λ i. refl)
   body-pieces Own.Advice = flat (λ i. ownNumbers Own.Advice (P i) none) (λ i. refl) (λ i. refl)
-  body-pieces Own.Cell = charged-at P (s .dom) (λ i. oneCell) x
-  body-pieces Own.Piece = charged-at P (s .dom) (λ i. onePiece) x
-  body-pieces Own.Advised = charged-at P (s .dom) (λ i. onePiece) x
-  body-pieces Own.Binding = charged-at P (s .dom) (λ i. someBindings 1) x
-  body-pieces Own.TwoBindings = charged-at P (s .dom) (λ i. someBindings 2) x
-  body-pieces Own.Stack = charged-at P (s .dom) (λ i. somePieces (i + s .kept)) x
+  body-pieces Own.Cell = charged-at P (s .dom .0) (λ i. oneCell) x
+  body-pieces Own.Piece = charged-at P (s .dom .0) (λ i. onePiece) x
+  body-pieces Own.Advised = charged-at P (s .dom .0) (λ i. onePiece) x
+  body-pieces Own.Binding = charged-at P (s .dom .0) (λ i. someBindings 1) x
+  body-pieces Own.TwoBindings = charged-at P (s .dom .0) (λ i. someBindings 2) x
+  body-pieces Own.Stack = charged-at P (s .dom .0) (λ i. somePieces (i + s .kept)) x
   body-pieces Own.Mark = flat (λ i. ownNumbers Own.Mark (P i) none) (λ i. refl) (λ i. refl)
 
   pub own-pieces : (R : Tm) (o : Own) (p : Dom) → ofAdvice (s .mode) ≡ true → pieceAt (λ i. ownCounted R (keepingMore i s) o p) x ≡ ownPieces o s x
   own-pieces R o p h = look (s .mode) h
     where
-      S : Mode → Stand
+      S : Mode → Position
       S m = record { mode = m; dom = s .dom; depth = s .depth; kept = s .kept }
 
       look : (m : Mode) → ofAdvice m ≡ true → pieceAt (λ i. ownCounted R (keepingMore i (S m)) o p) x ≡ ownPieces o (S m) x
       look Mode.Skip h = piece-none x
       look Mode.Program h = no-path (sym h)
       look Mode.Body h = body-pieces o
-      look Mode.Rounds h = piece-none x
-      look Mode.Round h = piece-round (isAdvised o) P p x
+      look Mode.AllAdvice h = piece-none x
+      look Mode.InstalledAdvice h = piece-round (isAdvised o) P p x
 
 -- Where nothing is taken nothing changes.
 pub nothing-added : (f : ℕ → Numbers) → ((i : ℕ) → f i ≡ none) → (xs : List ℕ) → Summed (pieceAt f) xs xs

@@ -7,16 +7,16 @@ use Rattle.calculus_needs.specs.Numbers.{Numbers}
 use Rattle.image.specs.Records.{Layout}
 use Rattle.image.specs.Types.{rootOf}
 use Rattle.need_sums.specs.declared.places.Mode.{Mode}
-use Rattle.need_sums.specs.declared.places.Stand.{Stand}
+use Rattle.need_sums.specs.declared.places.Position.{Position}
 use Rattle.need_sums.specs.Rows.{rowCount}
 use Rattle.need_walk.specs.Counted.{counted, termAt}
 
 -- The same place with i values more kept around it.
-abbrev pub keepingMore : ℕ → Stand → Stand
+abbrev pub keepingMore : ℕ → Position → Position
 keepingMore i s = record { mode = s .mode; dom = s .dom; depth = s .depth; kept = i + s .kept }
 
 -- What a term of an image takes in row i.
-abbrev pub inRow : Layout → Stand → ℕ → ℕ → Numbers
+abbrev pub inRow : Layout → Position → ℕ → ℕ → Numbers
 inRow L s n i = counted (termAt L (rootOf L)) (keepingMore i s) (termAt L n)
 
 -- The pieces of numbers that depend on the row, at place x of a table.
@@ -28,5 +28,5 @@ abbrev pub ofAdvice : Mode → Bool
 ofAdvice Mode.Skip = true
 ofAdvice Mode.Program = false
 ofAdvice Mode.Body = true
-ofAdvice Mode.Rounds = true
-ofAdvice Mode.Round = true
+ofAdvice Mode.AllAdvice = true
+ofAdvice Mode.InstalledAdvice = true

@@ -8,7 +8,7 @@ use Rattle.laws.proofs.Booleans.{no-path}
 use Rattle.laws.proofs.Tests.{each}
 use Rattle.image.specs.Kinds.{TermKind, termRow}
 use Rattle.image.proofs.EveryKind.{everyOf}
-use Rattle.check_rules.proofs.Elimination.{apart, left-over}
+use Rattle.read_terms.proofs.Elimination.{apart, left-over}
 use Rattle.need_sums.specs.declared.shapes.Own.{Own}
 use Rattle.need_sums.specs.declared.shapes.Role.{Role}
 use Rattle.need_sums.specs.declared.shapes.Shape.{Shape}

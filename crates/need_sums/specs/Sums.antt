@@ -1,5 +1,5 @@
 -- The eleven numbers of card 10 (document 02) in 32 bits: a sum stops at the largest.
-use Prim.Native.Nat.{ℕ, zero, suc, _+_, min, max}
+use Prim.Native.Nat.{ℕ, _+_, min, max}
 use lib.Dec.{eqb}
 use Rattle.calculus.specs.Combinators.{choose}
 use Rattle.calculus_needs.specs.Numbers.{Numbers}

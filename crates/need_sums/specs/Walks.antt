@@ -10,7 +10,7 @@ use Rattle.need_sums.specs.declared.shapes.Own.{Own}
 use Rattle.need_sums.specs.declared.shapes.Role.{Role}
 use Rattle.need_sums.specs.declared.shapes.Shape.{Shape}
 use Rattle.need_sums.specs.declared.places.Mode.{Mode}
-use Rattle.need_sums.specs.declared.places.Stand.{Stand}
+use Rattle.need_sums.specs.declared.places.Position.{Position}
 use Rattle.need_sums.specs.Sums.{noNeeds, addNeeds, raiseNeeds}
 
 -- Depths and kept values that a walk comes to are below this: an image has at most 1,024 terms.
@@ -76,36 +76,36 @@ roleAt s (suc (suc zero)) = s .third
 roleAt s (suc (suc (suc j))) = s .rest
 
 -- Where a child stands.
-abbrev pub asked : Stand → Mode → Stand
+abbrev pub asked : Position → Mode → Position
 asked s m = record { mode = m; dom = s .dom; depth = s .depth; kept = s .kept }
 
-abbrev pub skipped : Stand → Stand
+abbrev pub skipped : Position → Position
 skipped s = asked s Mode.Skip
 
-abbrev pub inside : Stand → ℕ → Stand
-inside s p = record { mode = s .mode; dom = p; depth = s .depth + 1; kept = s .kept }
+abbrev pub inside : Position → ℕ → Position
+inside s p = record { mode = s .mode; dom = record { 0 = p }; depth = s .depth + 1; kept = s .kept }
 
-abbrev pub runningChild : Stand → Role → ℕ → Stand
+abbrev pub runningChild : Position → Role → ℕ → Position
 runningChild s Role.Skipped p = skipped s
-runningChild s Role.Operand p = inside s (s .dom)
+runningChild s Role.Operand p = inside s (s .dom .0)
 runningChild s Role.Lowered p = inside s p
 runningChild s Role.Kept p = record { mode = s .mode; dom = s .dom; depth = s .depth + 1; kept = s .kept + 1 }
 runningChild s Role.Next p = s
 runningChild s Role.Branch p = s
 runningChild s Role.FirstBranch p = s
 runningChild s Role.AdviceBody p = skipped s
-runningChild s Role.Installed p = inside s (s .dom)
+runningChild s Role.Installed p = inside s (s .dom .0)
 
-abbrev pub roundsMode : Role → Mode
-roundsMode Role.Skipped = Mode.Skip
-roundsMode Role.Operand = Mode.Rounds
-roundsMode Role.Lowered = Mode.Rounds
-roundsMode Role.Kept = Mode.Rounds
-roundsMode Role.Next = Mode.Rounds
-roundsMode Role.Branch = Mode.Rounds
-roundsMode Role.FirstBranch = Mode.Rounds
-roundsMode Role.AdviceBody = Mode.Skip
-roundsMode Role.Installed = Mode.Round
+abbrev pub adviceMode : Role → Mode
+adviceMode Role.Skipped = Mode.Skip
+adviceMode Role.Operand = Mode.AllAdvice
+adviceMode Role.Lowered = Mode.AllAdvice
+adviceMode Role.Kept = Mode.AllAdvice
+adviceMode Role.Next = Mode.AllAdvice
+adviceMode Role.Branch = Mode.AllAdvice
+adviceMode Role.FirstBranch = Mode.AllAdvice
+adviceMode Role.AdviceBody = Mode.Skip
+adviceMode Role.Installed = Mode.InstalledAdvice
 
 abbrev pub isAdviceBody : Role → Bool
 isAdviceBody Role.Skipped = false
@@ -118,18 +118,18 @@ isAdviceBody Role.FirstBranch = false
 isAdviceBody Role.AdviceBody = true
 isAdviceBody Role.Installed = false
 
-abbrev pub roundChild : Stand → Role → ℕ → Stand
-roundChild s r p = choose (isAdviceBody r) (record { mode = Mode.Body; dom = p; depth = s .depth + 2; kept = s .kept }) (asked s (roundsMode r))
+abbrev pub installedChild : Position → Role → ℕ → Position
+installedChild s r p = choose (isAdviceBody r) (record { mode = Mode.Body; dom = record { 0 = p }; depth = s .depth + 2; kept = s .kept }) (asked s (adviceMode r))
 
-abbrev pub childIn : Mode → Stand → Role → ℕ → Stand
+abbrev pub childIn : Mode → Position → Role → ℕ → Position
 childIn Mode.Skip s r p = s
 childIn Mode.Program s r p = runningChild s r p
 childIn Mode.Body s r p = runningChild s r p
-childIn Mode.Rounds s r p = asked s (roundsMode r)
-childIn Mode.Round s r p = roundChild s r p
+childIn Mode.AllAdvice s r p = asked s (adviceMode r)
+childIn Mode.InstalledAdvice s r p = installedChild s r p
 
-abbrev pub childStand : Stand → Role → ℕ → Stand
-childStand s r p = childIn (s .mode) s r p
+abbrev pub childPosition : Position → Role → ℕ → Position
+childPosition s r p = childIn (s .mode) s r p
 
 -- What a term takes itself.
 abbrev pub stepNeeds : ℕ → Needs
@@ -177,7 +177,7 @@ chargedNeeds n c b e p =
       log = n .log;
     })
 
-abbrev pub reductionNeeds : Own → Stand → Needs → Needs
+abbrev pub reductionNeeds : Own → Position → Needs → Needs
 reductionNeeds Own.Nothing s w = noNeeds
 reductionNeeds Own.Step s w = stepNeeds (s .depth)
 reductionNeeds Own.Label s w = record {
@@ -219,16 +219,16 @@ reductionNeeds Own.Advice s w = record {
   frames = s .depth;
   log = 0;
 }
-reductionNeeds Own.Cell s w = chargedNeeds (stepNeeds (s .depth)) (s .dom) 0 1 0
-reductionNeeds Own.Piece s w = chargedNeeds (stepNeeds (s .depth)) (s .dom) 0 0 1
-reductionNeeds Own.Advised s w = chargedNeeds (stepNeeds (s .depth)) (s .dom) 0 0 1
-reductionNeeds Own.Binding s w = chargedNeeds (stepNeeds (s .depth)) (s .dom) 1 0 0
-reductionNeeds Own.TwoBindings s w = chargedNeeds (stepNeeds (s .depth)) (s .dom) 2 0 0
-reductionNeeds Own.Stack s w = chargedNeeds (stepNeeds (s .depth)) (s .dom) 0 0 (s .kept)
+reductionNeeds Own.Cell s w = chargedNeeds (stepNeeds (s .depth)) (s .dom .0) 0 1 0
+reductionNeeds Own.Piece s w = chargedNeeds (stepNeeds (s .depth)) (s .dom .0) 0 0 1
+reductionNeeds Own.Advised s w = chargedNeeds (stepNeeds (s .depth)) (s .dom .0) 0 0 1
+reductionNeeds Own.Binding s w = chargedNeeds (stepNeeds (s .depth)) (s .dom .0) 1 0 0
+reductionNeeds Own.TwoBindings s w = chargedNeeds (stepNeeds (s .depth)) (s .dom .0) 2 0 0
+reductionNeeds Own.Stack s w = chargedNeeds (stepNeeds (s .depth)) (s .dom .0) 0 0 (s .kept)
 reductionNeeds Own.Mark s w = addNeeds (stepNeeds (s .depth)) w
 
-abbrev pub roundStart : ℕ → ℕ → Needs
-roundStart d p =
+abbrev pub adviceStart : ℕ → ℕ → Needs
+adviceStart d p =
     chargedNeeds
     (record { steps = 2; bindings = 0; «other_bindings» = 0; pieces = 0; «other_pieces» = 0; cells = 0; «other_cells» = 0; labels = 0; advice = 0; frames = d + 1; log = 0 })
     p 1 0 0
@@ -247,17 +247,17 @@ isAdvised Own.TwoBindings = false
 isAdvised Own.Stack = false
 isAdvised Own.Mark = false
 
-abbrev pub roundNeeds : Own → Stand → ℕ → Needs
-roundNeeds o s p = choose (isAdvised o) (roundStart (s .depth) p) noNeeds
+abbrev pub adviceNeeds : Own → Position → ℕ → Needs
+adviceNeeds o s p = choose (isAdvised o) (adviceStart (s .depth) p) noNeeds
 
-abbrev pub ownIn : Mode → Own → Stand → ℕ → Needs → Needs
+abbrev pub ownIn : Mode → Own → Position → ℕ → Needs → Needs
 ownIn Mode.Skip o s p w = noNeeds
 ownIn Mode.Program o s p w = reductionNeeds o s (raiseNeeds (s .depth) w)
 ownIn Mode.Body o s p w = reductionNeeds o s noNeeds
-ownIn Mode.Rounds o s p w = noNeeds
-ownIn Mode.Round o s p w = roundNeeds o s p
+ownIn Mode.AllAdvice o s p w = noNeeds
+ownIn Mode.InstalledAdvice o s p w = adviceNeeds o s p
 
-abbrev pub ownNeeds : Own → Stand → ℕ → Needs → Needs
+abbrev pub ownNeeds : Own → Position → ℕ → Needs → Needs
 ownNeeds o s p w = ownIn (s .mode) o s p w
 
 -- Branches: of two of them the dearer counts, where the term runs.
@@ -276,13 +276,13 @@ abbrev pub branchIn : Mode → Role → Bool
 branchIn Mode.Skip r = false
 branchIn Mode.Program r = branches r
 branchIn Mode.Body r = branches r
-branchIn Mode.Rounds r = false
-branchIn Mode.Round r = false
+branchIn Mode.AllAdvice r = false
+branchIn Mode.InstalledAdvice r = false
 
-abbrev pub isBranch : Stand → Role → Bool
+abbrev pub isBranch : Position → Role → Bool
 isBranch s r = branchIn (s .mode) r
 
-abbrev pub addedNeeds : Stand → Role → Needs → Needs
+abbrev pub addedNeeds : Position → Role → Needs → Needs
 addedNeeds s r x = choose (isBranch s r) noNeeds x
 
 abbrev pub bindsVariables : Role → Bool
@@ -296,8 +296,8 @@ bindsVariables Role.FirstBranch = true
 bindsVariables Role.AdviceBody = false
 bindsVariables Role.Installed = false
 
-abbrev pub branchNeeds : Stand → Role → ℕ → Needs
-branchNeeds s r v = choose (bindsVariables r) (chargedNeeds noNeeds (s .dom) v 0 0) noNeeds
+abbrev pub branchNeeds : Position → Role → ℕ → Needs
+branchNeeds s r v = choose (bindsVariables r) (chargedNeeds noNeeds (s .dom .0) v 0 0) noNeeds
 
-abbrev pub chosenNeeds : Stand → Role → ℕ → Needs → Needs
+abbrev pub chosenNeeds : Position → Role → ℕ → Needs → Needs
 chosenNeeds s r v x = choose (isBranch s r) (addNeeds (branchNeeds s r v) x) noNeeds

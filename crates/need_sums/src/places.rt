@@ -1,8 +1,9 @@
 // Where a term stands in the walk.
 use crate::shapes::Role;
+use read_records::numbers::DomainNo;
 ghost use mathlib.Core.Path.{_≡_};
 ghost use Prim.Native.Nat.{_+_, _≤_};
-ghost use Rattle.need_sums.specs.Walks.{placeLimit, childStand};
+ghost use Rattle.need_sums.specs.Walks.{placeLimit, childPosition};
 
 // What is asked of a term: nothing; what it takes where it stands, in the program or in the body of an advice; what the advice
 // that it installs takes at a mark, the term itself being what is installed or not.
@@ -10,36 +11,37 @@ pub enum Mode {
     Skip,
     Program,
     Body,
-    Rounds,
-    Round,
+    AllAdvice,
+    InstalledAdvice,
 }
 
 // And its place: the domain, the unfinished terms around it, and the values that are kept around it.
-pub struct Stand {
+pub struct Position {
     pub mode: Mode,
-    pub dom: u16,
+    pub dom: DomainNo,
     pub depth: u32,
     pub kept: u32,
 }
 
-fn skipped(s: Stand) -> Stand
+fn skipped(s: Position) -> Position
     ensures { λ r. ⌜ r ≡ Rattle.need_sums.specs.Walks.skipped s ⌝ }
 {
-    Stand {
+    let c = s.dom;
+    Position {
         mode: Mode::Skip,
-        dom: s.dom,
+        dom: c,
         depth: s.depth,
         kept: s.kept,
     }
 }
 
 // Inside the parent, at the domain p.
-fn inside(s: Stand, p: u16) -> Stand
+fn inside(s: Position, p: DomainNo) -> Position
     requires { ⌜ s .depth ≤ placeLimit ⌝ }
-    ensures { λ r. ⌜ r ≡ Rattle.need_sums.specs.Walks.inside s p ⌝ }
+    ensures { λ r. ⌜ r ≡ Rattle.need_sums.specs.Walks.inside s (p .0) ⌝ }
 {
     let m = s.mode;
-    Stand {
+    Position {
         mode: m,
         dom: p,
         depth: s.depth + 1,
@@ -47,10 +49,19 @@ fn inside(s: Stand, p: u16) -> Stand
     }
 }
 
+// Inside the parent, at its domain.
+fn deeper(s: Position) -> Position
+    requires { ⌜ s .depth ≤ placeLimit ⌝ }
+    ensures { λ r. ⌜ r ≡ Rattle.need_sums.specs.Walks.inside s (s .dom .0) ⌝ }
+{
+    let c = s.dom;
+    inside(s, c)
+}
+
 // A child of a term that runs.
-fn running_child(s: Stand, role: Role, p: u16) -> Stand
+fn running_child(s: Position, role: Role, p: DomainNo) -> Position
     requires { ⌜ (s .depth ≤ placeLimit) × (s .kept ≤ placeLimit) ⌝ }
-    ensures { λ r. ⌜ r ≡ Rattle.need_sums.specs.Walks.runningChild s role p ⌝ }
+    ensures { λ r. ⌜ r ≡ Rattle.need_sums.specs.Walks.runningChild s role (p .0) ⌝ }
 {
     match role {
         Role::Skipped => skipped(s),
@@ -58,46 +69,48 @@ fn running_child(s: Stand, role: Role, p: u16) -> Stand
         Role::Lowered => inside(s, p),
         Role::Kept => {
             let m = s.mode;
-            Stand {
+            let c = s.dom;
+            Position {
                 mode: m,
-                dom: s.dom,
+                dom: c,
                 depth: s.depth + 1,
                 kept: s.kept + 1,
             }
         }
-        Role::Operand => inside(s, s.dom),
-        Role::Installed => inside(s, s.dom),
+        Role::Operand => deeper(s),
+        Role::Installed => deeper(s),
         Role::Next => s,
         Role::Branch => s,
         Role::FirstBranch => s,
     }
 }
 
-fn asked(s: Stand, mode: Mode) -> Stand
+fn asked(s: Position, mode: Mode) -> Position
     ensures { λ r. ⌜ r ≡ Rattle.need_sums.specs.Walks.asked s mode ⌝ }
 {
-    Stand {
+    let c = s.dom;
+    Position {
         mode: mode,
-        dom: s.dom,
+        dom: c,
         depth: s.depth,
         kept: s.kept,
     }
 }
 
 // What is asked of a child of a term of which it is asked what its advice takes.
-fn rounds_mode(role: Role) -> Mode
-    ensures { λ r. ⌜ r ≡ Rattle.need_sums.specs.Walks.roundsMode role ⌝ }
+fn advice_mode(role: Role) -> Mode
+    ensures { λ r. ⌜ r ≡ Rattle.need_sums.specs.Walks.adviceMode role ⌝ }
 {
     match role {
         Role::Skipped => Mode::Skip,
-        Role::Operand => Mode::Rounds,
-        Role::Lowered => Mode::Rounds,
-        Role::Kept => Mode::Rounds,
-        Role::Next => Mode::Rounds,
-        Role::Branch => Mode::Rounds,
-        Role::FirstBranch => Mode::Rounds,
+        Role::Operand => Mode::AllAdvice,
+        Role::Lowered => Mode::AllAdvice,
+        Role::Kept => Mode::AllAdvice,
+        Role::Next => Mode::AllAdvice,
+        Role::Branch => Mode::AllAdvice,
+        Role::FirstBranch => Mode::AllAdvice,
         Role::AdviceBody => Mode::Skip,
-        Role::Installed => Mode::Round,
+        Role::Installed => Mode::InstalledAdvice,
     }
 }
 
@@ -118,32 +131,32 @@ fn is_advice_body(role: Role) -> bool
 }
 
 // A child of what is installed: the body of an advice runs lowered to its domain, in a sequence (document 003, figure 5).
-fn round_child(s: Stand, role: Role, p: u16) -> Stand
+fn installed_child(s: Position, role: Role, p: DomainNo) -> Position
     requires { ⌜ s .depth ≤ placeLimit ⌝ }
-    ensures { λ r. ⌜ r ≡ Rattle.need_sums.specs.Walks.roundChild s role p ⌝ }
+    ensures { λ r. ⌜ r ≡ Rattle.need_sums.specs.Walks.installedChild s role (p .0) ⌝ }
 {
     if is_advice_body(role) {
-        return Stand {
+        return Position {
             mode: Mode::Body,
             dom: p,
             depth: s.depth + 2,
             kept: s.kept,
         };
     }
-    asked(s, rounds_mode(role))
+    asked(s, advice_mode(role))
 }
 
 // A child with a role; p is the domain that the term gives to a body.
-pub fn child_stand(s: Stand, role: Role, p: u16) -> Stand
+pub fn child_position(s: Position, role: Role, p: DomainNo) -> Position
     requires { ⌜ (s .depth ≤ placeLimit) × (s .kept ≤ placeLimit) ⌝ }
-    ensures { λ r. ⌜ r ≡ childStand s role p ⌝ }
+    ensures { λ r. ⌜ r ≡ childPosition s role (p .0) ⌝ }
 {
     let m = s.mode;
     match m {
         Mode::Skip => s,
         Mode::Program => running_child(s, role, p),
         Mode::Body => running_child(s, role, p),
-        Mode::Rounds => asked(s, rounds_mode(role)),
-        Mode::Round => round_child(s, role, p),
+        Mode::AllAdvice => asked(s, advice_mode(role)),
+        Mode::InstalledAdvice => installed_child(s, role, p),
     }
 }

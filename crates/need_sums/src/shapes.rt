@@ -1,7 +1,6 @@
 // What a kind of term takes when it runs, and what becomes of its children.
-use check_rules::kinds;
+use read_records::kinds;
 ghost use mathlib.Core.Path.{_≡_};
-ghost use Prim.Native.Nat.{ℕ};
 ghost use Rattle.image.specs.Kinds.{TermKind, termRow};
 ghost use Rattle.need_sums.specs.Walks.{shapeOf, roleAt};
 

@@ -1,22 +1,20 @@
 -- Numbers that stop at the largest 32-bit number: what the functions on them say is what the definition says, cut.
-use Prim.Native.Nat.{ℕ, zero, suc, _+_, _≤_, min, max}
+use Prim.Native.Nat.{ℕ, zero, suc, _+_, _≤_}
 use native.Mathlib.Omega.{arith}
 use mathlib.Core.Path.{_≡_, refl, sym, ap, _∙_}
 use mathlib.Core.Bool.{Bool, true, false}
 use lib.Dec.{eqb}
 use borrow.Author.Tests.{ne-eqb}
 use Rattle.calculus.specs.Combinators.{choose}
-use Rattle.calculus.specs.State.{somePieces}
-use Rattle.calculus_needs.specs.Here.{Here}
 use Rattle.calculus_needs.specs.Numbers.{Numbers, none, _⊕_, dearer}
-use Rattle.calculus_needs.specs.Needs.{once, uses, binds, aCell, aPiece, aLabel, anAdvice, aPrint, rounds}
+use Rattle.calculus_needs.specs.Needs.{once, uses, binds}
 use Rattle.calculus_needs.proofs.Shift.{shift, raised}
 use Rattle.image_needs.specs.declared.Needs.{Needs}
 use Rattle.need_sums.specs.declared.shapes.Own.{Own}
 use Rattle.need_sums.specs.declared.shapes.Role.{Role}
-use Rattle.need_sums.specs.declared.places.Stand.{Stand}
-use Rattle.need_sums.specs.Sums.{largest, cut, cutNeeds, noNeeds, addNeeds, dearerNeeds, raisedTo, raiseNeeds}
-use Rattle.need_sums.specs.Walks.{placeLimit, stepNeeds, chargedNeeds, reductionNeeds, roundStart, roundNeeds, isAdvised, bindsVariables, branchNeeds, isBranch, addedNeeds, chosenNeeds}
+use Rattle.need_sums.specs.declared.places.Position.{Position}
+use Rattle.need_sums.specs.Sums.{cut, cutNeeds, noNeeds, addNeeds, dearerNeeds, raisedTo, raiseNeeds}
+use Rattle.need_sums.specs.Walks.{placeLimit, stepNeeds, chargedNeeds, reductionNeeds, adviceStart, adviceNeeds, isAdvised, bindsVariables, branchNeeds, isBranch, addedNeeds, chosenNeeds}
 use Rattle.need_walk.specs.Counted.{hereOf}
 use Rattle.need_walk.proofs.Shapes.{ownNumbers, branchNumbers}
 use Rattle.need_walk.proofs.Rounds.{roundNumbers}
@@ -79,7 +77,7 @@ charged-cut d c b e g hd hb he hg = look (eqb c 0)
     look true = same refl (omega arith) refl (omega arith) refl (omega arith) refl refl refl (omega arith) refl
     look false = same refl refl (omega arith) refl (omega arith) refl (omega arith) refl refl (omega arith) refl
 
-module _ (s : Stand) (hd : s .depth ≤ placeLimit) (hk : s .kept ≤ placeLimit) where
+module _ (s : Position) (hd : s .depth ≤ placeLimit) (hk : s .kept ≤ placeLimit) where
   pub reduction-cut : (o : Own) (w : Numbers) → reductionNeeds o s (cutNeeds w) ≡ cutNeeds (ownNumbers o (hereOf s) w)
   unfolding _⊕_ cutNeeds addNeeds
   reduction-cut Own.Nothing w = refl
@@ -87,15 +85,15 @@ module _ (s : Stand) (hd : s .depth ≤ placeLimit) (hk : s .kept ≤ placeLimit
   reduction-cut Own.Label w = same refl refl refl refl refl refl refl refl refl (omega arith) refl
   reduction-cut Own.Print w = same refl refl refl refl refl refl refl refl refl (omega arith) refl
   reduction-cut Own.Advice w = same refl refl refl refl refl refl refl refl refl (omega arith) refl
-  reduction-cut Own.Cell w = charged-cut (s .depth) (s .dom) 0 1 0 hd (omega arith) (omega arith) (omega arith)
-  reduction-cut Own.Piece w = charged-cut (s .depth) (s .dom) 0 0 1 hd (omega arith) (omega arith) (omega arith)
-  reduction-cut Own.Advised w = charged-cut (s .depth) (s .dom) 0 0 1 hd (omega arith) (omega arith) (omega arith)
-  reduction-cut Own.Binding w = charged-cut (s .depth) (s .dom) 1 0 0 hd (omega arith) (omega arith) (omega arith)
-  reduction-cut Own.TwoBindings w = charged-cut (s .depth) (s .dom) 2 0 0 hd (omega arith) (omega arith) (omega arith)
-  reduction-cut Own.Stack w = charged-cut (s .depth) (s .dom) 0 0 (s .kept) hd (omega arith) (omega arith) hk
+  reduction-cut Own.Cell w = charged-cut (s .depth) (s .dom .0) 0 1 0 hd (omega arith) (omega arith) (omega arith)
+  reduction-cut Own.Piece w = charged-cut (s .depth) (s .dom .0) 0 0 1 hd (omega arith) (omega arith) (omega arith)
+  reduction-cut Own.Advised w = charged-cut (s .depth) (s .dom .0) 0 0 1 hd (omega arith) (omega arith) (omega arith)
+  reduction-cut Own.Binding w = charged-cut (s .depth) (s .dom .0) 1 0 0 hd (omega arith) (omega arith) (omega arith)
+  reduction-cut Own.TwoBindings w = charged-cut (s .depth) (s .dom .0) 2 0 0 hd (omega arith) (omega arith) (omega arith)
+  reduction-cut Own.Stack w = charged-cut (s .depth) (s .dom .0) 0 0 (s .kept) hd (omega arith) (omega arith) hk
   reduction-cut Own.Mark w = same (omega arith) (omega arith) (omega arith) (omega arith) (omega arith) (omega arith) (omega arith) (omega arith) (omega arith) (omega arith) (omega arith)
 
-  round-start : (p : ℕ) → roundStart (s .depth) p ≡ cutNeeds (roundNumbers true (hereOf s) p)
+  round-start : (p : ℕ) → adviceStart (s .depth) p ≡ cutNeeds (roundNumbers true (hereOf s) p)
   unfolding _⊕_ cutNeeds
   round-start p = look (eqb p 0)
     where
@@ -114,20 +112,20 @@ module _ (s : Stand) (hd : s .depth ≤ placeLimit) (hk : s .kept ≤ placeLimit
             prints = 0;
             frames = 0;
           }
-          ⊕ (once (record { dom = s .dom; depth = suc (s .depth); kept = s .kept }) ⊕ once (hereOf s)))
+          ⊕ (once (record { dom = s .dom .0; depth = suc (s .depth); kept = s .kept }) ⊕ once (hereOf s)))
       look true = same refl refl refl refl refl refl refl refl refl (omega arith) refl
       look false = same refl refl refl refl refl refl refl refl refl (omega arith) refl
 
-  pub round-cut : (o : Own) (p : ℕ) → roundNeeds o s p ≡ cutNeeds (roundNumbers (isAdvised o) (hereOf s) p)
+  pub round-cut : (o : Own) (p : ℕ) → adviceNeeds o s p ≡ cutNeeds (roundNumbers (isAdvised o) (hereOf s) p)
   unfolding cutNeeds
   round-cut o p = look (isAdvised o)
     where
-      look : (b : Bool) → choose b (roundStart (s .depth) p) noNeeds ≡ cutNeeds (roundNumbers b (hereOf s) p)
+      look : (b : Bool) → choose b (adviceStart (s .depth) p) noNeeds ≡ cutNeeds (roundNumbers b (hereOf s) p)
       look true = round-start p
       look false = refl
 
 -- What a child adds, and what it offers.
-pub added-cut : (s : Stand) (role : Role) (x : Numbers) → addedNeeds s role (cutNeeds x) ≡ cutNeeds (added s role x)
+pub added-cut : (s : Position) (role : Role) (x : Numbers) → addedNeeds s role (cutNeeds x) ≡ cutNeeds (added s role x)
 added-cut s role x = look (isBranch s role)
   where
     look : (b : Bool) → choose b noNeeds (cutNeeds x) ≡ cutNeeds (choose b none x)
@@ -156,16 +154,16 @@ bound-cut c v h = look (eqb c 0)
     look true = same refl (omega arith) refl refl refl refl refl refl refl refl refl
     look false = same refl refl (omega arith) refl refl refl refl refl refl refl refl
 
-branch-cut : (s : Stand) (role : Role) (v : ℕ) → v ≤ placeLimit → branchNeeds s role v ≡ cutNeeds (branchNumbers (s .dom) role v)
+branch-cut : (s : Position) (role : Role) (v : ℕ) → v ≤ placeLimit → branchNeeds s role v ≡ cutNeeds (branchNumbers (s .dom .0) role v)
 branch-cut s role v h = look (bindsVariables role)
   where
-    look : (b : Bool) → choose b (chargedNeeds noNeeds (s .dom) v 0 0) noNeeds ≡ cutNeeds (choose b (binds (s .dom) v) none)
-    look true = bound-cut (s .dom) v h
+    look : (b : Bool) → choose b (chargedNeeds noNeeds (s .dom .0) v 0 0) noNeeds ≡ cutNeeds (choose b (binds (s .dom .0) v) none)
+    look true = bound-cut (s .dom .0) v h
     look false = sym cut-none
 
-pub chosen-cut : (s : Stand) (role : Role) (v : ℕ) (x : Numbers) → v ≤ placeLimit → chosenNeeds s role v (cutNeeds x) ≡ cutNeeds (offered s role v x)
+pub chosen-cut : (s : Position) (role : Role) (v : ℕ) (x : Numbers) → v ≤ placeLimit → chosenNeeds s role v (cutNeeds x) ≡ cutNeeds (offered s role v x)
 chosen-cut s role v x h = look (isBranch s role)
   where
-    look : (b : Bool) → choose b (addNeeds (branchNeeds s role v) (cutNeeds x)) noNeeds ≡ cutNeeds (choose b (branchNumbers (s .dom) role v ⊕ x) none)
-    look true = ap (λ y. addNeeds y (cutNeeds x)) (branch-cut s role v h) ∙ sym (cut-plus (branchNumbers (s .dom) role v) x)
+    look : (b : Bool) → choose b (addNeeds (branchNeeds s role v) (cutNeeds x)) noNeeds ≡ cutNeeds (choose b (branchNumbers (s .dom .0) role v ⊕ x) none)
+    look true = ap (λ y. addNeeds y (cutNeeds x)) (branch-cut s role v h) ∙ sym (cut-plus (branchNumbers (s .dom .0) role v) x)
     look false = sym cut-none

@@ -1,5 +1,5 @@
 -- What the children of a term take, put together child by child: a sum, and the dearest of some.
-use Prim.Native.Nat.{ℕ, zero, suc, _+_, max}
+use Prim.Native.Nat.{ℕ, suc, _+_}
 use native.Mathlib.Omega.{arith}
 use mathlib.Core.Path.{_≡_, refl, sym, ap, _∙_}
 use mathlib.Core.List.{List, [], _∷_, _++_}
@@ -7,7 +7,7 @@ use lib.ListN.{length}
 use Rattle.calculus.specs.Syntax.{Val, Tm, Tms, val, end, more}
 use Rattle.calculus_needs.specs.Numbers.{Numbers, none, _⊕_, dearer}
 use Rattle.calculus_needs.proofs.Sums.{same, none-left, none-right, plus-assoc}
-use Rattle.image.specs.Program.{Program, Programs, nth, behind, subtrees, toTm, toTms}
+use Rattle.image.specs.Program.{Program, nth, behind, subtrees, toTm, toTms}
 
 -- The dearer of a number and none.
 pub dearer-left-none : (m : Numbers) → dearer none m ≡ m

@@ -4,5 +4,5 @@ pub mod Shapes
 pub mod Rounds
 pub mod Modes
 pub mod Cut
-pub mod Stands
+pub mod Positions
 pub mod Walked

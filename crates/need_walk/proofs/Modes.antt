@@ -3,12 +3,9 @@ use Prim.Native.Nat.{ℕ, zero, suc, _+_}
 use native.Mathlib.Omega.{arith}
 use native.Mathlib.Numerals.{add-one}
 use mathlib.Core.Path.{_≡_, refl, sym, ap, _∙_}
-use mathlib.Core.Bool.{Bool, true, false}
+use mathlib.Core.Bool.{true, false}
 use mathlib.Core.List.{List}
-use lib.ListN.{getD}
-use Rattle.calculus.specs.Combinators.{choose}
-use Rattle.calculus.specs.Syntax.{Dom, Ty, Val, Tm, Tms, val, end, more}
-use Rattle.calculus.specs.Plain.{domOf}
+use Rattle.calculus.specs.Syntax.{Dom, Ty, Val, Tm, Tms, val, more}
 use Rattle.calculus_needs.specs.Here.{Here, at, deeper}
 use Rattle.calculus_needs.specs.Numbers.{Numbers, none, _⊕_}
 use Rattle.calculus_needs.specs.Needs.{Extra, noExtra, aNewLabel, keptPieces, extra0, once, binds, need, round, roundOf, rounds}
@@ -19,8 +16,8 @@ use Rattle.need_sums.specs.declared.shapes.Own.{Own}
 use Rattle.need_sums.specs.declared.shapes.Role.{Role}
 use Rattle.need_sums.specs.declared.shapes.Shape.{Shape}
 use Rattle.need_sums.specs.declared.places.Mode.{Mode}
-use Rattle.need_sums.specs.declared.places.Stand.{Stand}
-use Rattle.need_sums.specs.Walks.{childless, ownOf, shapeAs, shapeOf, roleAt, childStand, branches, isBranch, isAdviceBody, isAdvised}
+use Rattle.need_sums.specs.declared.places.Position.{Position}
+use Rattle.need_sums.specs.Walks.{childless, ownOf, shapeAs, shapeOf, roleAt, childPosition, branches, isBranch, isAdviceBody, isAdvised}
 use Rattle.need_walk.specs.Counted.{hereOf, counted}
 use Rattle.need_terms.specs.Parts.{partDomain, branchVariables}
 use Rattle.need_walk.proofs.Folds.{sums, choices, joined, joined-cong, joined-none, joined-nothing, joined-split}
@@ -32,33 +29,33 @@ abbrev ownCountedIn : Mode → Tm → Here → Own → Dom → Numbers
 ownCountedIn Mode.Skip r P o p = none
 ownCountedIn Mode.Program r P o p = ownNumbers o P (rounds P r)
 ownCountedIn Mode.Body r P o p = ownNumbers o P none
-ownCountedIn Mode.Rounds r P o p = none
-ownCountedIn Mode.Round r P o p = roundNumbers (isAdvised o) P p
+ownCountedIn Mode.AllAdvice r P o p = none
+ownCountedIn Mode.InstalledAdvice r P o p = roundNumbers (isAdvised o) P p
 
-abbrev pub ownCounted : Tm → Stand → Own → Dom → Numbers
+abbrev pub ownCounted : Tm → Position → Own → Dom → Numbers
 ownCounted r s o p = ownCountedIn (s .mode) r (hereOf s) o p
 
 -- What child i adds, and what it offers as a branch, x being what it takes.
-abbrev pub added : Stand → Role → Numbers → Numbers
+abbrev pub added : Position → Role → Numbers → Numbers
 added s role x = addedBy (isBranch s role) x
 
-abbrev pub offered : Stand → Role → ℕ → Numbers → Numbers
-offered s role v x = offeredBy (isBranch s role) (branchNumbers (s .dom) role v) x
+abbrev pub offered : Position → Role → ℕ → Numbers → Numbers
+offered s role v x = offeredBy (isBranch s role) (branchNumbers (s .dom .0) role v) x
 
 module _ (r : Tm) (c : Dom) (d q : ℕ) (p : Dom) (v : ℕ) where
-  abbrev stand : Mode → Stand
-  stand m = record { mode = m; dom = c; depth = d; kept = q }
+  abbrev position : Mode → Position
+  position m = record { mode = m; dom = record { 0 = c }; depth = d; kept = q }
 
   abbrev P : Here
   P = record { dom = c; depth = d; kept = q }
 
-  abbrev addsAt : Stand → TermKind → ℕ → Tm → Numbers
-  addsAt s k i e = added s (roleAt (shapeOf k) i) (counted r (childStand s (roleAt (shapeOf k) i) p) e)
+  abbrev addsAt : Position → TermKind → ℕ → Tm → Numbers
+  addsAt s k i e = added s (roleAt (shapeOf k) i) (counted r (childPosition s (roleAt (shapeOf k) i) p) e)
 
-  abbrev offersAt : Stand → TermKind → ℕ → Tm → Numbers
-  offersAt s k i e = offered s (roleAt (shapeOf k) i) v (counted r (childStand s (roleAt (shapeOf k) i) p) e)
+  abbrev offersAt : Position → TermKind → ℕ → Tm → Numbers
+  offersAt s k i e = offered s (roleAt (shapeOf k) i) v (counted r (childPosition s (roleAt (shapeOf k) i) p) e)
 
-  child-program : (role : Role) (e : Tm) → counted r (childStand (stand Mode.Program) role p) e ≡ running (λ Q. rounds Q r) P p role e
+  child-program : (role : Role) (e : Tm) → counted r (childPosition (position Mode.Program) role p) e ≡ running (λ Q. rounds Q r) P p role e
   child-program Role.Skipped e = refl
   child-program Role.Operand e = ap (λ x. need (λ Q. rounds Q r) (record { dom = c; depth = x; kept = q }) e) (add-one d)
   child-program Role.Lowered e = ap (λ x. need (λ Q. rounds Q r) (record { dom = p; depth = x; kept = q }) e) (add-one d)
@@ -70,18 +67,18 @@ module _ (r : Tm) (c : Dom) (d q : ℕ) (p : Dom) (v : ℕ) where
   child-program Role.Installed e = ap (λ x. need (λ Q. rounds Q r) (record { dom = c; depth = x; kept = q }) e) (add-one d)
 
   run-program : (k : TermKind) (t : Ty) (vs : List ℕ) (es : Tms) → Full k es → p ≡ partDomain k t vs → v ≡ branchVariables k vs
-      → need (λ Q. rounds Q r) P (assemble k t vs es) ≡ ownNumbers (shapeOf k .own) P (rounds P r) ⊕ (joined sums (addsAt (stand Mode.Program) k) 0 es ⊕ joined choices (offersAt (stand Mode.Program) k) 0 es)
+      → need (λ Q. rounds Q r) P (assemble k t vs es) ≡ ownNumbers (shapeOf k .own) P (rounds P r) ⊕ (joined sums (addsAt (position Mode.Program) k) 0 es ⊕ joined choices (offersAt (position Mode.Program) k) 0 es)
   unfolding assemble
   run-program k t vs es full ep ev =
       rw (
-        joined-cong sums (addsAt (stand Mode.Program) k) (adds (λ Q. rounds Q r) P p v (shapeOf k)) (λ i e. ap (λ x. addedBy (branches (roleAt (shapeOf k) i)) x) (child-program (roleAt (shapeOf k) i) e)) 0 es,
-        joined-cong choices (offersAt (stand Mode.Program) k) (offers (λ Q. rounds Q r) P p v (shapeOf k)) (λ i e. ap (λ x. offeredBy (branches (roleAt (shapeOf k) i)) (branchNumbers c (roleAt (shapeOf k) i) v) x) (child-program (roleAt (shapeOf k) i) e)) 0 es,
+        joined-cong sums (addsAt (position Mode.Program) k) (adds (λ Q. rounds Q r) P p v (shapeOf k)) (λ i e. ap (λ x. addedBy (branches (roleAt (shapeOf k) i)) x) (child-program (roleAt (shapeOf k) i) e)) 0 es,
+        joined-cong choices (offersAt (position Mode.Program) k) (offers (λ Q. rounds Q r) P p v (shapeOf k)) (λ i e. ap (λ x. offeredBy (branches (roleAt (shapeOf k) i)) (branchNumbers c (roleAt (shapeOf k) i) v) x) (child-program (roleAt (shapeOf k) i) e)) 0 es,
         ep,
         ev,
       )
       (need-form (λ Q. rounds Q r) P (formOf k) t vs es full)
 
-  child-body : (role : Role) (e : Tm) → counted r (childStand (stand Mode.Body) role p) e ≡ running (λ Q. none) P p role e
+  child-body : (role : Role) (e : Tm) → counted r (childPosition (position Mode.Body) role p) e ≡ running (λ Q. none) P p role e
   child-body Role.Skipped e = refl
   child-body Role.Operand e = ap (λ x. need (λ Q. none) (record { dom = c; depth = x; kept = q }) e) (add-one d)
   child-body Role.Lowered e = ap (λ x. need (λ Q. none) (record { dom = p; depth = x; kept = q }) e) (add-one d)
@@ -93,19 +90,19 @@ module _ (r : Tm) (c : Dom) (d q : ℕ) (p : Dom) (v : ℕ) where
   child-body Role.Installed e = ap (λ x. need (λ Q. none) (record { dom = c; depth = x; kept = q }) e) (add-one d)
 
   run-body : (k : TermKind) (t : Ty) (vs : List ℕ) (es : Tms) → Full k es → p ≡ partDomain k t vs → v ≡ branchVariables k vs
-      → need (λ Q. none) P (assemble k t vs es) ≡ ownNumbers (shapeOf k .own) P none ⊕ (joined sums (addsAt (stand Mode.Body) k) 0 es ⊕ joined choices (offersAt (stand Mode.Body) k) 0 es)
+      → need (λ Q. none) P (assemble k t vs es) ≡ ownNumbers (shapeOf k .own) P none ⊕ (joined sums (addsAt (position Mode.Body) k) 0 es ⊕ joined choices (offersAt (position Mode.Body) k) 0 es)
   unfolding assemble
   run-body k t vs es full ep ev =
       rw (
-        joined-cong sums (addsAt (stand Mode.Body) k) (adds (λ Q. none) P p v (shapeOf k)) (λ i e. ap (λ x. addedBy (branches (roleAt (shapeOf k) i)) x) (child-body (roleAt (shapeOf k) i) e)) 0 es,
-        joined-cong choices (offersAt (stand Mode.Body) k) (offers (λ Q. none) P p v (shapeOf k)) (λ i e. ap (λ x. offeredBy (branches (roleAt (shapeOf k) i)) (branchNumbers c (roleAt (shapeOf k) i) v) x) (child-body (roleAt (shapeOf k) i) e)) 0 es,
+        joined-cong sums (addsAt (position Mode.Body) k) (adds (λ Q. none) P p v (shapeOf k)) (λ i e. ap (λ x. addedBy (branches (roleAt (shapeOf k) i)) x) (child-body (roleAt (shapeOf k) i) e)) 0 es,
+        joined-cong choices (offersAt (position Mode.Body) k) (offers (λ Q. none) P p v (shapeOf k)) (λ i e. ap (λ x. offeredBy (branches (roleAt (shapeOf k) i)) (branchNumbers c (roleAt (shapeOf k) i) v) x) (child-body (roleAt (shapeOf k) i) e)) 0 es,
         ep,
         ev,
       )
       (need-form (λ Q. none) P (formOf k) t vs es full)
 
   -- Rounds.
-  child-rounds : (role : Role) (e : Tm) → counted r (childStand (stand Mode.Rounds) role p) e ≡ installing P role e
+  child-rounds : (role : Role) (e : Tm) → counted r (childPosition (position Mode.AllAdvice) role p) e ≡ installing P role e
   child-rounds Role.Skipped e = refl
   child-rounds Role.Operand e = refl
   child-rounds Role.Lowered e = refl
@@ -120,14 +117,14 @@ module _ (r : Tm) (c : Dom) (d q : ℕ) (p : Dom) (v : ℕ) where
   plain-tidy x = rw (none-right x, none-left x) refl
 
   run-rounds : (k : TermKind) (t : Ty) (vs : List ℕ) (es : Tms) → Full k es
-      → rounds P (assemble k t vs es) ≡ none ⊕ (joined sums (addsAt (stand Mode.Rounds) k) 0 es ⊕ joined choices (offersAt (stand Mode.Rounds) k) 0 es)
+      → rounds P (assemble k t vs es) ≡ none ⊕ (joined sums (addsAt (position Mode.AllAdvice) k) 0 es ⊕ joined choices (offersAt (position Mode.AllAdvice) k) 0 es)
   unfolding assemble
   run-rounds k t vs es full =
-      rw (joined-cong sums (addsAt (stand Mode.Rounds) k) (roundsAdds P (shapeOf k)) (λ i e. child-rounds (roleAt (shapeOf k) i) e) 0 es, joined-nothing choices (offersAt (stand Mode.Rounds) k) (λ i e. refl) 0 es)
+      rw (joined-cong sums (addsAt (position Mode.AllAdvice) k) (roundsAdds P (shapeOf k)) (λ i e. child-rounds (roleAt (shapeOf k) i) e) 0 es, joined-nothing choices (offersAt (position Mode.AllAdvice) k) (λ i e. refl) 0 es)
       (rounds-form P (formOf k) t vs es full ∙ plain-tidy (joined sums (roundsAdds P (shapeOf k)) 0 es))
 
   -- A round.
-  child-round : (role : Role) (e : Tm) → counted r (childStand (stand Mode.Round) role p) e ≡ installed P p role e
+  child-round : (role : Role) (e : Tm) → counted r (childPosition (position Mode.InstalledAdvice) role p) e ≡ installed P p role e
   child-round Role.Skipped e = refl
   child-round Role.Operand e = refl
   child-round Role.Lowered e = refl
@@ -206,27 +203,27 @@ module _ (r : Tm) (c : Dom) (d q : ℕ) (p : Dom) (v : ℕ) where
   round-rest Form.takedown t vs es full ep = plain-round (shapeOf TermKind.takedown) es _ (rounds-form P Form.takedown t vs es full) (no-advice (shapeOf TermKind.takedown) refl refl refl refl)
 
   run-round : (k : TermKind) (t : Ty) (vs : List ℕ) (es : Tms) → Full k es → p ≡ partDomain k t vs
-      → rounds P (assemble k t vs es) ⊕ roundOf P (assemble k t vs es) ≡ roundNumbers (isAdvised (shapeOf k .own)) P p ⊕ (joined sums (addsAt (stand Mode.Round) k) 0 es ⊕ joined choices (offersAt (stand Mode.Round) k) 0 es)
+      → rounds P (assemble k t vs es) ⊕ roundOf P (assemble k t vs es) ≡ roundNumbers (isAdvised (shapeOf k .own)) P p ⊕ (joined sums (addsAt (position Mode.InstalledAdvice) k) 0 es ⊕ joined choices (offersAt (position Mode.InstalledAdvice) k) 0 es)
   unfolding assemble
   run-round k t vs es full ep =
-      rw (joined-cong sums (addsAt (stand Mode.Round) k) (roundAdds P p (shapeOf k)) (λ i e. child-round (roleAt (shapeOf k) i) e) 0 es, joined-nothing choices (offersAt (stand Mode.Round) k) (λ i e. refl) 0 es)
+      rw (joined-cong sums (addsAt (position Mode.InstalledAdvice) k) (roundAdds P p (shapeOf k)) (λ i e. child-round (roleAt (shapeOf k) i) e) 0 es, joined-nothing choices (offersAt (position Mode.InstalledAdvice) k) (λ i e. refl) 0 es)
       (round-rest (formOf k) t vs es full ep)
 
-  run-skip : (k : TermKind) (es : Tms) → none ≡ none ⊕ (joined sums (addsAt (stand Mode.Skip) k) 0 es ⊕ joined choices (offersAt (stand Mode.Skip) k) 0 es)
-  run-skip k es = rw (joined-nothing sums (addsAt (stand Mode.Skip) k) (λ i e. refl) 0 es, joined-nothing choices (offersAt (stand Mode.Skip) k) (λ i e. refl) 0 es) (plain-tidy none)
+  run-skip : (k : TermKind) (es : Tms) → none ≡ none ⊕ (joined sums (addsAt (position Mode.Skip) k) 0 es ⊕ joined choices (offersAt (position Mode.Skip) k) 0 es)
+  run-skip k es = rw (joined-nothing sums (addsAt (position Mode.Skip) k) (λ i e. refl) 0 es, joined-nothing choices (offersAt (position Mode.Skip) k) (λ i e. refl) 0 es) (plain-tidy none)
 
   in-mode : (m : Mode) (k : TermKind) (t : Ty) (vs : List ℕ) (es : Tms) → Full k es → p ≡ partDomain k t vs → v ≡ branchVariables k vs
-      → counted r (stand m) (assemble k t vs es) ≡ ownCounted r (stand m) (shapeOf k .own) p ⊕ (joined sums (addsAt (stand m) k) 0 es ⊕ joined choices (offersAt (stand m) k) 0 es)
+      → counted r (position m) (assemble k t vs es) ≡ ownCounted r (position m) (shapeOf k .own) p ⊕ (joined sums (addsAt (position m) k) 0 es ⊕ joined choices (offersAt (position m) k) 0 es)
   in-mode Mode.Skip k t vs es full ep ev = run-skip k es
   in-mode Mode.Program k t vs es full ep ev = run-program k t vs es full ep ev
   in-mode Mode.Body k t vs es full ep ev = run-body k t vs es full ep ev
-  in-mode Mode.Rounds k t vs es full ep ev = run-rounds k t vs es full
-  in-mode Mode.Round k t vs es full ep ev = run-round k t vs es full ep
+  in-mode Mode.AllAdvice k t vs es full ep ev = run-rounds k t vs es full
+  in-mode Mode.InstalledAdvice k t vs es full ep ev = run-round k t vs es full ep
 
 -- Of any place.
-pub by-kind : (r : Tm) (s : Stand) (k : TermKind) (t : Ty) (vs : List ℕ) (es : Tms) → Full k es
+pub by-kind : (r : Tm) (s : Position) (k : TermKind) (t : Ty) (vs : List ℕ) (es : Tms) → Full k es
     → counted r s (assemble k t vs es)
     ≡ ownCounted r s (shapeOf k .own) (partDomain k t vs)
-    ⊕ (joined sums (λ i e. added s (roleAt (shapeOf k) i) (counted r (childStand s (roleAt (shapeOf k) i) (partDomain k t vs)) e)) 0 es
-    ⊕ joined choices (λ i e. offered s (roleAt (shapeOf k) i) (branchVariables k vs) (counted r (childStand s (roleAt (shapeOf k) i) (partDomain k t vs)) e)) 0 es)
-by-kind r s k t vs es full = in-mode r (s .dom) (s .depth) (s .kept) (partDomain k t vs) (branchVariables k vs) (s .mode) k t vs es full refl refl
+    ⊕ (joined sums (λ i e. added s (roleAt (shapeOf k) i) (counted r (childPosition s (roleAt (shapeOf k) i) (partDomain k t vs)) e)) 0 es
+    ⊕ joined choices (λ i e. offered s (roleAt (shapeOf k) i) (branchVariables k vs) (counted r (childPosition s (roleAt (shapeOf k) i) (partDomain k t vs)) e)) 0 es)
+by-kind r s k t vs es full = in-mode r (s .dom .0) (s .depth) (s .kept) (partDomain k t vs) (branchVariables k vs) (s .mode) k t vs es full refl refl

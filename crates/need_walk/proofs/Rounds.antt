@@ -1,20 +1,19 @@
 -- What the advice that a term installs takes at a mark, by its kind.
 use Prim.Native.Nat.{ℕ, zero, suc}
 use mathlib.Core.Path.{_≡_, refl, sym, ap, _∙_}
-use mathlib.Core.Bool.{Bool, true, false}
+use mathlib.Core.Bool.{Bool}
 use mathlib.Core.List.{List}
 use Rattle.calculus.specs.Combinators.{choose}
 use Rattle.calculus.specs.Syntax.{Dom, Ty, Val, Tm, Tms, val, end, more}
-use Rattle.calculus.specs.Plain.{domOf}
 use Rattle.calculus_needs.specs.Here.{Here, at, deeper}
 use Rattle.calculus_needs.specs.Numbers.{Numbers, none, _⊕_}
-use Rattle.calculus_needs.specs.Needs.{extra0, once, binds, need, round, roundOf, rounds, allRounds}
+use Rattle.calculus_needs.specs.Needs.{extra0, once, binds, need, roundOf, rounds, allRounds}
 use Rattle.calculus_needs.proofs.Sums.{none-left, none-right, plus-assoc, plus-comm}
 use Rattle.image.specs.Kinds.{TermKind, Form, operator}
 use Rattle.image.specs.Program.{nth, behind, assembleAs}
 use Rattle.need_sums.specs.declared.shapes.Role.{Role}
 use Rattle.need_sums.specs.declared.shapes.Shape.{Shape}
-use Rattle.need_sums.specs.Walks.{childless, ownOf, shapeAs, shapeOf, roleAt, isAdviceBody, isAdvised}
+use Rattle.need_sums.specs.Walks.{childless, ownOf, shapeAs, shapeOf, roleAt, isAdviceBody}
 use Rattle.need_walk.proofs.Folds.{sums, joined, joined-none, joined-split}
 use Rattle.need_walk.proofs.Shapes.{Full}
 

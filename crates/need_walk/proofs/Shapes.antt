@@ -1,30 +1,26 @@
 -- What a term takes by its kind: what it takes itself, then what its children take, each by its role, then the dearest of its branches.
-use Prim.Native.Nat.{ℕ, zero, suc, _+_}
+use Prim.Native.Nat.{ℕ, zero, suc}
 use native.Mathlib.Omega.{arith}
-use native.Mathlib.Numerals.{add-one}
 use mathlib.Core.Path.{_≡_, refl, sym, ap, _∙_}
 use mathlib.Core.Bool.{Bool, true, false}
 use mathlib.Core.List.{List}
 use lib.ListN.{getD}
 use Rattle.calculus.specs.Combinators.{choose}
-use Rattle.calculus.specs.Syntax.{Dom, Ty, Val, Tm, Tms, Op2, val, op2, end, more}
+use Rattle.calculus.specs.Syntax.{Dom, Ty, Val, Tm, Tms, val, end, more}
 use Rattle.calculus.specs.State.{somePieces}
 use Rattle.calculus.specs.Plain.{domOf}
 use Rattle.calculus_needs.specs.Here.{Here, at, deeper, keeping}
 use Rattle.calculus_needs.specs.Numbers.{Numbers, none, _⊕_, dearer}
-use Rattle.calculus_needs.specs.Needs.{Extra, noExtra, aNewLabel, keptPieces, extra0, withExtra, once, uses, variables, binds, aCell, aPiece, aLabel, anAdvice, aPrint, own2, need, needs, round, roundOf, rounds, allRounds}
+use Rattle.calculus_needs.specs.Needs.{Extra, noExtra, aNewLabel, keptPieces, extra0, withExtra, once, uses, variables, binds, aCell, aPiece, aLabel, anAdvice, aPrint, own2, need, needs}
 use Rattle.calculus_needs.proofs.Sums.{none-left, none-right, plus-assoc, plus-comm}
 use Rattle.image.specs.Kinds.{TermKind, Form, operator, isKind}
 use Rattle.image.specs.Program.{nth, behind, opOf, patternOf, assembleAs}
 use Rattle.need_sums.specs.declared.shapes.Own.{Own}
 use Rattle.need_sums.specs.declared.shapes.Role.{Role}
 use Rattle.need_sums.specs.declared.shapes.Shape.{Shape}
-use Rattle.need_sums.specs.declared.places.Mode.{Mode}
-use Rattle.need_sums.specs.declared.places.Stand.{Stand}
-use Rattle.need_sums.specs.Walks.{childless, ownOf, shapeAs, shapeOf, roleAt, childStand, branches, bindsVariables, isBranch}
-use Rattle.need_walk.specs.Counted.{hereOf, counted}
+use Rattle.need_sums.specs.Walks.{childless, ownOf, shapeAs, shapeOf, roleAt, branches, bindsVariables}
 use Rattle.need_terms.specs.Parts.{partDomain, branchVariables}
-use Rattle.need_walk.proofs.Folds.{dearer-left-none, dearer-right-none, sums, choices, joined, joined-cong, joined-none, joined-nothing, joined-split}
+use Rattle.need_walk.proofs.Folds.{dearer-left-none, dearer-right-none, sums, choices, joined, joined-none, joined-nothing, joined-split}
 
 -- What a term takes itself, of w for all advice at a mark.
 abbrev pub ownNumbers : Own → Here → Numbers → Numbers

@@ -22,7 +22,7 @@ use Rattle.image.proofs.Counts.{mostChildren, children-between}
 use Rattle.image.proofs.EveryKind.{everyOf, at-term}
 use Rattle.image.specs.Kinds.{TermKind, termRow, isKind}
 use Rattle.image.proofs.KindNumbers.{same-term-kind}
-use Rattle.check_rules.proofs.Elimination.{constants}
+use Rattle.read_terms.proofs.Elimination.{constants}
 use Rattle.image.specs.Records.{Layout, times, numbersAt}
 use Rattle.image.specs.Program.{Program, tree, toTm, toTms, subtrees, assemble}
 use Rattle.image.specs.Types.{termPlace, termKind, statedType, others, children, rootOf}
@@ -32,9 +32,9 @@ use Rattle.image_needs.specs.declared.Needs.{Needs}
 use Rattle.need_sums.specs.declared.shapes.Own.{Own}
 use Rattle.need_sums.specs.declared.shapes.Role.{Role}
 use Rattle.need_sums.specs.declared.places.Mode.{Mode}
-use Rattle.need_sums.specs.declared.places.Stand.{Stand}
+use Rattle.need_sums.specs.declared.places.Position.{Position}
 use Rattle.need_sums.specs.Sums.{cutNeeds, noNeeds, addNeeds, dearerNeeds, raiseNeeds}
-use Rattle.need_sums.specs.Walks.{placeLimit, shapeOf, roleAt, childStand, reductionNeeds, ownNeeds, addedNeeds, chosenNeeds}
+use Rattle.need_sums.specs.Walks.{placeLimit, shapeOf, roleAt, childPosition, reductionNeeds, ownNeeds, addedNeeds, chosenNeeds}
 use Rattle.need_sums.specs.Rows.{rowCount, atMark}
 use Rattle.need_terms.specs.Parts.{partDomain, branchVariables}
 use Rattle.need_walk.specs.Counted.{hereOf, counted, termAt, Known, skips}
@@ -44,25 +44,25 @@ use Rattle.need_walk.proofs.Modes.{ownCounted, added, offered, by-kind}
 use Rattle.need_walk.proofs.Cut.{cut-plus, cut-dearer, cut-none, cut-shift, reduction-cut, round-cut, added-cut, chosen-cut}
 
 -- Nothing is asked of a term that is skipped, and a constant or a variable takes nothing.
-pub skip-none : (r : Tm) (s : Stand) (e : Tm) → skips (s .mode) ≡ true → noNeeds ≡ cutNeeds (counted r s e)
-skip-none r s e h = look (s .mode) (s .dom) (s .depth) (s .kept) h
+pub skip-none : (r : Tm) (s : Position) (e : Tm) → skips (s .mode) ≡ true → noNeeds ≡ cutNeeds (counted r s e)
+skip-none r s e h = look (s .mode) (s .dom .0) (s .depth) (s .kept) h
   where
-    look : (m : Mode) (c d q : ℕ) → skips m ≡ true → noNeeds ≡ cutNeeds (counted r (record { mode = m; dom = c; depth = d; kept = q }) e)
+    look : (m : Mode) (c d q : ℕ) → skips m ≡ true → noNeeds ≡ cutNeeds (counted r (record { mode = m; dom = record { 0 = c }; depth = d; kept = q }) e)
     look Mode.Skip c d q x = sym cut-none
     look Mode.Program c d q x = no-path (sym x)
     look Mode.Body c d q x = no-path (sym x)
-    look Mode.Rounds c d q x = no-path (sym x)
-    look Mode.Round c d q x = no-path (sym x)
+    look Mode.AllAdvice c d q x = no-path (sym x)
+    look Mode.InstalledAdvice c d q x = no-path (sym x)
 
 -- What the term takes itself.
-pub own-cut : (L : Layout) (s : Stand) → s .depth ≤ placeLimit → s .kept < rowCount → (o : Own) (p : ℕ) (w : Needs) (rows : List ℕ) → Known L s w rows
+pub own-cut : (L : Layout) (s : Position) → s .depth ≤ placeLimit → s .kept < rowCount → (o : Own) (p : ℕ) (w : Needs) (rows : List ℕ) → Known L s w rows
     → ownNeeds o s p (atMark w rows (s .kept)) ≡ cutNeeds (ownCounted (termAt L (rootOf L)) s o p)
 own-cut L s hd hr o p w rows known = look (s .mode) known
   where
     R : Tm
     R = termAt L (rootOf L)
 
-    S : Mode → Stand
+    S : Mode → Position
     S m = record { mode = m; dom = s .dom; depth = s .depth; kept = s .kept }
 
     hk : s .kept ≤ placeLimit
@@ -74,11 +74,11 @@ own-cut L s hd hr o p w rows known = look (s .mode) known
         ap (λ y. reductionNeeds o (S Mode.Program) y) (ap (raiseNeeds (s .depth)) (x (s .kept) hr) ∙ (cut-shift (s .depth) (rounds (level (s .kept)) R) ∙ ap cutNeeds (sym (rounds-once R (hereOf s)))))
         ∙ reduction-cut (S Mode.Program) hd hk o (rounds (hereOf s) R)
     look Mode.Body x = ap (λ y. reductionNeeds o (S Mode.Body) y) (sym cut-none) ∙ reduction-cut (S Mode.Body) hd hk o none
-    look Mode.Rounds x = sym cut-none
-    look Mode.Round x = round-cut (S Mode.Round) hd hk o p
+    look Mode.AllAdvice x = sym cut-none
+    look Mode.InstalledAdvice x = round-cut (S Mode.InstalledAdvice) hd hk o p
 
 -- A constant or a variable takes nothing.
-constant-takes : (r : Tm) (s : Stand) (v : Val) → ((P : Here) → roundOfValue P v ≡ none) → counted r s (val v) ≡ none
+constant-takes : (r : Tm) (s : Position) (v : Val) → ((P : Here) → roundOfValue P v ≡ none) → counted r s (val v) ≡ none
 unfolding need rounds
 constant-takes r s v h = in-mode (s .mode)
   where
@@ -86,10 +86,10 @@ constant-takes r s v h = in-mode (s .mode)
     in-mode Mode.Skip = refl
     in-mode Mode.Program = refl
     in-mode Mode.Body = refl
-    in-mode Mode.Rounds = refl
-    in-mode Mode.Round = ap (λ x. none ⊕ x) (h (hereOf s)) ∙ none-left none
+    in-mode Mode.AllAdvice = refl
+    in-mode Mode.InstalledAdvice = ap (λ x. none ⊕ x) (h (hereOf s)) ∙ none-left none
 
-variable-takes : (r : Tm) (s : Stand) (i : ℕ) → counted r s (var i) ≡ none
+variable-takes : (r : Tm) (s : Position) (i : ℕ) → counted r s (var i) ≡ none
 unfolding need rounds
 variable-takes r s i = in-mode (s .mode)
   where
@@ -97,10 +97,10 @@ variable-takes r s i = in-mode (s .mode)
     in-mode Mode.Skip = refl
     in-mode Mode.Program = refl
     in-mode Mode.Body = refl
-    in-mode Mode.Rounds = refl
-    in-mode Mode.Round = none-left none
+    in-mode Mode.AllAdvice = refl
+    in-mode Mode.InstalledAdvice = none-left none
 
-leaf-kind : (k : TermKind) → termRow k .number ≤ 35 → (r : Tm) (s : Stand) (t : Ty) (vs : List ℕ) (es : Tms) → counted r s (assemble k t vs es) ≡ none
+leaf-kind : (k : TermKind) → termRow k .number ≤ 35 → (r : Tm) (s : Position) (t : Ty) (vs : List ℕ) (es : Tms) → counted r s (assemble k t vs es) ≡ none
 unfolding assemble
 leaf-kind k l r s t vs es = look (eqb (termRow k .number) 35) refl
   where
@@ -156,20 +156,20 @@ module _ (L : Layout) (n : ℕ) where
   abbrev pub role-of : ℕ → Role
   role-of i = roleAt (shapeOf kind-at) i
 
-  abbrev pub adds-at : Stand → ℕ → ℕ → Numbers
-  adds-at s i e = added s (role-of i) (counted R (childStand s (role-of i) domain-at) (termAt L e))
+  abbrev pub adds-at : Position → ℕ → ℕ → Numbers
+  adds-at s i e = added s (role-of i) (counted R (childPosition s (role-of i) domain-at) (termAt L e))
 
-  abbrev pub offers-at : Stand → ℕ → ℕ → Numbers
-  offers-at s i e = offered s (role-of i) (branchVariables kind-at (others L n)) (counted R (childStand s (role-of i) domain-at) (termAt L e))
+  abbrev pub offers-at : Position → ℕ → ℕ → Numbers
+  offers-at s i e = offered s (role-of i) (branchVariables kind-at (others L n)) (counted R (childPosition s (role-of i) domain-at) (termAt L e))
 
-  abbrev pub own-at : Stand → Numbers
+  abbrev pub own-at : Position → Numbers
   own-at s = ownCounted R s (shapeOf kind-at .own) domain-at
 
   -- The first j children: their sum with what the term takes itself, and the dearest branch.
-  unfoldable pub sumTo : Stand → ℕ → Numbers
+  unfoldable pub sumTo : Position → ℕ → Numbers
   sumTo s j = own-at s ⊕ joinedAt sums (adds-at s) 0 (take j (children L n))
 
-  unfoldable pub choiceTo : Stand → ℕ → Numbers
+  unfoldable pub choiceTo : Position → ℕ → Numbers
   choiceTo s j = joinedAt choices (offers-at s) 0 (take j (children L n))
 
   abbrev subterms : Tms
@@ -179,21 +179,21 @@ module _ (L : Layout) (n : ℕ) where
   unfolding tree toTm
   term-is = refl
 
-  pub leaf-takes : termRow kind-at .number ≤ 35 → (s : Stand) → counted R s (termAt L n) ≡ none
+  pub leaf-takes : termRow kind-at .number ≤ 35 → (s : Position) → counted R s (termAt L n) ≡ none
   leaf-takes l s = ap (counted R s) term-is ∙ leaf-kind kind-at l R s (statedType L n) (others L n) subterms
 
-  pub leaf-none : termRow kind-at .number ≤ 35 → (s : Stand) → noNeeds ≡ cutNeeds (counted R s (termAt L n))
+  pub leaf-none : termRow kind-at .number ≤ 35 → (s : Position) → noNeeds ≡ cutNeeds (counted R s (termAt L n))
   leaf-none l s = sym cut-none ∙ ap cutNeeds (sym (leaf-takes l s))
 
-  pub sum-start : (s : Stand) → cutNeeds (own-at s) ≡ cutNeeds (sumTo s 0)
+  pub sum-start : (s : Position) → cutNeeds (own-at s) ≡ cutNeeds (sumTo s 0)
   unfolding sumTo joinedAt
   sum-start s = ap cutNeeds (sym (none-right (own-at s)))
 
-  pub choice-start : (s : Stand) → noNeeds ≡ cutNeeds (choiceTo s 0)
+  pub choice-start : (s : Position) → noNeeds ≡ cutNeeds (choiceTo s 0)
   unfolding choiceTo joinedAt
   choice-start s = sym cut-none
 
-  module _ (s : Stand) (j : ℕ) (h : j < length (children L n)) where
+  module _ (s : Position) (j : ℕ) (h : j < length (children L n)) where
     es : List ℕ
     es = children L n
 
@@ -215,19 +215,19 @@ module _ (L : Layout) (n : ℕ) where
     choice-next = ap (λ x. joinedAt choices (offers-at s) 0 x) one-more ∙ joined-snoc choices (offers-at s) 0 (take j (children L n)) (getD (children L n) j 0) j long
 
     -- A turn of the loop: the child with the role takes x.
-    module _ (role : Role) (p e : ℕ) (x : Needs) (hr : role ≡ role-of j) (hp : p ≡ domain-at) (he : e ≡ getD (children L n) j 0) (hx : x ≡ cutNeeds (counted R (childStand s role p) (termAt L e))) where
-      takes : x ≡ cutNeeds (counted R (childStand s (role-of j) domain-at) (termAt L (getD (children L n) j 0)))
-      takes = hx ∙ ap cutNeeds (ap (λ y. counted R (childStand s y p) (termAt L e)) hr ∙ (ap (λ y. counted R (childStand s (role-of j) y) (termAt L e)) hp ∙ ap (λ y. counted R (childStand s (role-of j) domain-at) (termAt L y)) he))
+    module _ (role : Role) (p e : ℕ) (x : Needs) (hr : role ≡ role-of j) (hp : p ≡ domain-at) (he : e ≡ getD (children L n) j 0) (hx : x ≡ cutNeeds (counted R (childPosition s role p) (termAt L e))) where
+      takes : x ≡ cutNeeds (counted R (childPosition s (role-of j) domain-at) (termAt L (getD (children L n) j 0)))
+      takes = hx ∙ ap cutNeeds (ap (λ y. counted R (childPosition s y p) (termAt L e)) hr ∙ (ap (λ y. counted R (childPosition s (role-of j) y) (termAt L e)) hp ∙ ap (λ y. counted R (childPosition s (role-of j) domain-at) (termAt L y)) he))
 
       pub sum-turn : (sum a r : Needs) → sum ≡ cutNeeds (sumTo s j) → a ≡ addedNeeds s role x → r ≡ addNeeds sum a → r ≡ cutNeeds (sumTo s (j + 1))
       sum-turn sum a r hs ha h′ =
-          let c = counted R (childStand s (role-of j) domain-at) (termAt L (getD (children L n) j 0)) in
+          let c = counted R (childPosition s (role-of j) domain-at) (termAt L (getD (children L n) j 0)) in
           let q : a ≡ cutNeeds (adds-at s j (getD (children L n) j 0)) = ha ∙ (ap (λ y. addedNeeds s y x) hr ∙ (ap (addedNeeds s (role-of j)) takes ∙ added-cut s (role-of j) c)) in
           h′ ∙ (ap (λ y. addNeeds y a) hs ∙ (ap (addNeeds (cutNeeds (sumTo s j))) q ∙ (sym (cut-plus (sumTo s j) (adds-at s j (getD (children L n) j 0))) ∙ ap cutNeeds (sym sum-next))))
 
       pub choice-turn : (choice : Needs) (v : ℕ) (a r : Needs) → choice ≡ cutNeeds (choiceTo s j) → v ≡ branchVariables kind-at (others L n) → v ≤ placeLimit → a ≡ chosenNeeds s role v x → r ≡ dearerNeeds choice a → r ≡ cutNeeds (choiceTo s (j + 1))
       choice-turn choice v a r hs hv few ha h′ =
-          let c = counted R (childStand s (role-of j) domain-at) (termAt L (getD (children L n) j 0)) in
+          let c = counted R (childPosition s (role-of j) domain-at) (termAt L (getD (children L n) j 0)) in
           let q : a ≡ cutNeeds (offers-at s j (getD (children L n) j 0)) =
           ha ∙ (ap (λ y. chosenNeeds s y v x) hr ∙ (ap (chosenNeeds s (role-of j) v) takes ∙ (chosen-cut s (role-of j) v c few ∙ ap (λ y. cutNeeds (offered s (role-of j) y c)) hv))) in
           h′ ∙ (ap (λ y. dearerNeeds y a) hs ∙ (ap (dearerNeeds (cutNeeds (choiceTo s j))) q ∙ (sym (cut-dearer (choiceTo s j) (offers-at s j (getD (children L n) j 0))) ∙ ap cutNeeds (sym choice-next))))
@@ -248,20 +248,20 @@ module _ (L : Layout) (n : ℕ) where
         let m = b .0 in
         ap (λ x. dearer (f i (toTm x)) (joinedAt choices (λ j e. f j (toTm (tree L n e))) (suc i) es)) (tree-fuel L good n (suc e) e m (omega arith) (omega arith)) ∙ ap (λ x. dearer (f i (termAt L e)) x) (same-branches f (suc i) es (b .1))
 
-    term-takes : (kind-at ≡ TermKind.match → 3 ≤ length (children L n)) → (s : Stand)
+    term-takes : (kind-at ≡ TermKind.match → 3 ≤ length (children L n)) → (s : Position)
         → counted R s (termAt L n) ≡ own-at s ⊕ (joinedAt sums (adds-at s) 0 (children L n) ⊕ joinedAt choices (offers-at s) 0 (children L n))
     term-takes three s =
         let es = children L n in
         let full = full-of kind-at subterms (λ e. three-of (λ e. tree L n e) es (three e)) in
-        let f : ℕ → Tm → Numbers = λ i e. added s (role-of i) (counted R (childStand s (role-of i) domain-at) e) in
-        let g : ℕ → Tm → Numbers = λ i e. offered s (role-of i) (branchVariables kind-at (others L n)) (counted R (childStand s (role-of i) domain-at) e) in
+        let f : ℕ → Tm → Numbers = λ i e. added s (role-of i) (counted R (childPosition s (role-of i) domain-at) e) in
+        let g : ℕ → Tm → Numbers = λ i e. offered s (role-of i) (branchVariables kind-at (others L n)) (counted R (childPosition s (role-of i) domain-at) e) in
         let below = good .terms n l .below in
         let a : joined sums f 0 subterms ≡ joinedAt sums (adds-at s) 0 es = joined-at sums f (λ e. tree L n e) 0 es ∙ same-trees f 0 es below in
         let b : joined choices g 0 subterms ≡ joinedAt choices (offers-at s) 0 es = joined-at choices g (λ e. tree L n e) 0 es ∙ same-branches g 0 es below in
         ap (counted R s) term-is ∙ (by-kind R s kind-at (statedType L n) (others L n) subterms full ∙ (ap (λ x. own-at s ⊕ (x ⊕ joined choices g 0 subterms)) a ∙ ap (λ x. own-at s ⊕ (joinedAt sums (adds-at s) 0 es ⊕ x)) b))
 
     -- Where all children are through.
-    pub through : (kind-at ≡ TermKind.match → 3 ≤ length (children L n)) → (s : Stand) (j : ℕ) → length (children L n) ≤ j → counted R s (termAt L n) ≡ sumTo s j ⊕ choiceTo s j
+    pub through : (kind-at ≡ TermKind.match → 3 ≤ length (children L n)) → (s : Position) (j : ℕ) → length (children L n) ≤ j → counted R s (termAt L n) ≡ sumTo s j ⊕ choiceTo s j
     unfolding sumTo choiceTo
     through three s j h =
         let es = children L n in
@@ -270,7 +270,7 @@ module _ (L : Layout) (n : ℕ) where
         ∙ (sym (plus-assoc (own-at s) (joinedAt sums (adds-at s) 0 es) (joinedAt choices (offers-at s) 0 es))
         ∙ ap (λ x. (own-at s ⊕ joinedAt sums (adds-at s) 0 x) ⊕ joinedAt choices (offers-at s) 0 x) (sym t))
 
-    pub all-through : (kind-at ≡ TermKind.match → 3 ≤ length (children L n)) → (s : Stand) (j : ℕ) → length (children L n) ≤ j → (sum choice r : Needs)
+    pub all-through : (kind-at ≡ TermKind.match → 3 ≤ length (children L n)) → (s : Position) (j : ℕ) → length (children L n) ≤ j → (sum choice r : Needs)
         → sum ≡ cutNeeds (sumTo s j) → choice ≡ cutNeeds (choiceTo s j) → r ≡ addNeeds sum choice → r ≡ cutNeeds (counted R s (termAt L n))
     all-through three s j h sum choice r hs hc hr =
         hr ∙ (ap (λ y. addNeeds y choice) hs ∙ (ap (addNeeds (cutNeeds (sumTo s j))) hc ∙ (sym (cut-plus (sumTo s j) (choiceTo s j)) ∙ ap cutNeeds (sym (through three s j h)))))

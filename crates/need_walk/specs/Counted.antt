@@ -15,23 +15,23 @@ use Rattle.image.specs.Types.{rootOf}
 use Rattle.verdict.specs.Acceptable.{Depth}
 use Rattle.image_needs.specs.declared.Needs.{Needs}
 use Rattle.need_sums.specs.declared.places.Mode.{Mode}
-use Rattle.need_sums.specs.declared.places.Stand.{Stand}
+use Rattle.need_sums.specs.declared.places.Position.{Position}
 use Rattle.need_sums.specs.Sums.{cutNeeds}
 use Rattle.need_sums.specs.Walks.{placeLimit}
 use Rattle.need_sums.specs.Rows.{rowCount, atMark}
 
-abbrev pub hereOf : Stand → Here
-hereOf s = record { dom = s .dom; depth = s .depth; kept = s .kept }
+abbrev pub hereOf : Position → Here
+hereOf s = record { dom = s .dom .0; depth = s .depth; kept = s .kept }
 
 -- What is asked of the term e of a program r.
 abbrev countedIn : Mode → Tm → Here → Tm → Numbers
 countedIn Mode.Skip r P e = none
 countedIn Mode.Program r P e = need (λ Q. rounds Q r) P e
 countedIn Mode.Body r P e = need (λ Q. none) P e
-countedIn Mode.Rounds r P e = rounds P e
-countedIn Mode.Round r P e = rounds P e ⊕ roundOf P e
+countedIn Mode.AllAdvice r P e = rounds P e
+countedIn Mode.InstalledAdvice r P e = rounds P e ⊕ roundOf P e
 
-abbrev pub counted : Tm → Stand → Tm → Numbers
+abbrev pub counted : Tm → Position → Tm → Numbers
 counted r s e = countedIn (s .mode) r (hereOf s) e
 
 -- Term n of an image.
@@ -43,7 +43,7 @@ abbrev pub Shallow : Layout → Type 0
 Shallow L = (n d : ℕ) → Depth L n d → d ≤ depthLimit
 
 -- Where a walk may stand at term n: no place below it is too deep, and fewer values are kept there than the term is deep.
-pub record Placed (L : Layout) (s : Stand) (n : ℕ) : Type 0 where
+pub record Placed (L : Layout) (s : Position) (n : ℕ) : Type 0 where
   pub deep : s .depth + 2 * n ≤ placeLimit
   pub shallow : Shallow L
   pub own-depth : ℕ
@@ -55,10 +55,10 @@ abbrev KnownIn : Mode → Layout → Needs → List ℕ → Type 0
 KnownIn Mode.Skip L w rows = Unit
 KnownIn Mode.Program L w rows = (k : ℕ) → k < rowCount → atMark w rows k ≡ cutNeeds (rounds (level k) (termAt L (rootOf L)))
 KnownIn Mode.Body L w rows = Unit
-KnownIn Mode.Rounds L w rows = Unit
-KnownIn Mode.Round L w rows = Unit
+KnownIn Mode.AllAdvice L w rows = Unit
+KnownIn Mode.InstalledAdvice L w rows = Unit
 
-abbrev pub Known : Layout → Stand → Needs → List ℕ → Type 0
+abbrev pub Known : Layout → Position → Needs → List ℕ → Type 0
 Known L s w rows = KnownIn (s .mode) L w rows
 
 -- Nothing is asked.
@@ -66,9 +66,9 @@ abbrev pub skips : Mode → Bool
 skips Mode.Skip = true
 skips Mode.Program = false
 skips Mode.Body = false
-skips Mode.Rounds = false
-skips Mode.Round = false
+skips Mode.AllAdvice = false
+skips Mode.InstalledAdvice = false
 
 -- All advice, at a mark that nothing encloses, with k values kept around it.
-abbrev pub levelStand : ℕ → Stand
-levelStand k = record { mode = Mode.Rounds; dom = 0; depth = 0; kept = k }
+abbrev pub markPosition : ℕ → Position
+markPosition k = record { mode = Mode.AllAdvice; dom = record { 0 = 0 }; depth = 0; kept = k }

@@ -1,36 +1,39 @@
 // An inner crate: the walk over the terms of an image that works out the numbers of card 10 (document 02).
-use check_records::numbers::TermNo;
-use check_rules::leaf::is_leaf;
 use image_needs::Needs;
 use need_own::own::added;
 use need_own::own::chosen;
 use need_own::own::own_needs;
 use need_own::rows::at_mark;
 use need_sums::places::Mode;
-use need_sums::places::Stand;
-use need_sums::places::child_stand;
+use need_sums::places::Position;
+use need_sums::places::child_position;
 use need_sums::shapes::role_at;
+use need_sums::shapes::shape_of;
 use need_sums::sums::add;
 use need_sums::sums::dearer;
 use need_sums::sums::no_needs;
 use need_terms::branch_variables;
-use need_terms::child_at;
-use need_terms::child_count;
+use need_terms::child_in;
 use need_terms::part_domain;
-use need_terms::shape_at;
+use read_records::kinds;
+use read_records::numbers::DomainNo;
+use read_records::numbers::TermNo;
+use read_terms::terms::child_count;
+use read_terms::terms::term_fields;
+use read_terms::terms::term_kind;
 ghost use mathlib.Core.Path.{_≡_};
 ghost use lib.ListN.{length};
 ghost use Rattle.image.specs.Layout.{recordsOf};
 ghost use Rattle.image.specs.Types.{rootOf};
-ghost use Rattle.check_rules.specs.Lent.{Lent, IsTerm};
+ghost use Rattle.read_terms.specs.Lent.{Lent, IsTerm};
 ghost use Rattle.need_sums.specs.Sums.{cutNeeds};
 ghost use Rattle.need_sums.specs.Rows.{tableLength};
-ghost use Rattle.need_walk.specs.Counted.{counted, termAt, Placed, Known, skips, levelStand};
+ghost use Rattle.need_walk.specs.Counted.{counted, termAt, Placed, Known, skips, markPosition};
 
 // A term, and where it stands.
 pub struct Visit {
     pub term: TermNo,
-    pub stand: Stand,
+    pub position: Position,
 }
 
 pub fn skips_all(mode: Mode) -> bool
@@ -40,24 +43,24 @@ pub fn skips_all(mode: Mode) -> bool
         Mode::Skip => true,
         Mode::Program => false,
         Mode::Body => false,
-        Mode::Rounds => false,
-        Mode::Round => false,
+        Mode::AllAdvice => false,
+        Mode::InstalledAdvice => false,
     }
 }
 
 // Of all advice, at a mark that nothing encloses and around which no value is kept.
-pub fn level_stand() -> Stand
-    ensures { λ r. ⌜ r ≡ levelStand 0 ⌝ }
+pub fn mark_position() -> Position
+    ensures { λ r. ⌜ r ≡ markPosition 0 ⌝ }
 {
-    Stand {
-        mode: Mode::Rounds,
-        dom: 0,
+    Position {
+        mode: Mode::AllAdvice,
+        dom: DomainNo(0),
         depth: 0,
         kept: 0,
     }
 }
 
-// What a term and the terms below it take where they stand. Each level goes to a lower number. What all advice takes at a mark
+// What a term and the terms below it take where they stand. A constant or a variable takes nothing. Each level goes to a lower number. What all advice takes at a mark
 // that nothing encloses is known: its pieces by the rows of a table, one for each number of kept values, the rest of it as it
 // is at every mark.
 pub fn walk(
@@ -68,38 +71,37 @@ pub fn walk(
     each: Needs,
     rows: &[u32],
 ) -> Needs
-    requires { ⌜ Lent (now image) (now terms) (now descriptors) × IsTerm (now image) (at .term .0) × Placed (recordsOf (now image)) (at .stand) (at .term .0) × (length (now rows) ≡ tableLength) × Known (recordsOf (now image)) (at .stand) each (now rows) ⌝ }
-    ensures { λ r. ⌜ r ≡ cutNeeds (counted (termAt (recordsOf (now (image .entry))) (rootOf (recordsOf (now (image .entry))))) (at .stand) (termAt (recordsOf (now (image .entry))) (at .term .0))) ⌝ }
+    requires { ⌜ Lent (now image) (now terms) (now descriptors) × IsTerm (now image) (at .term .0) × Placed (recordsOf (now image)) (at .position) (at .term .0) × (length (now rows) ≡ tableLength) × Known (recordsOf (now image)) (at .position) each (now rows) ⌝ }
+    ensures { λ r. ⌜ r ≡ cutNeeds (counted (termAt (recordsOf (now (image .entry))) (rootOf (recordsOf (now (image .entry))))) (at .position) (termAt (recordsOf (now (image .entry))) (at .term .0))) ⌝ }
 {
     let n = at.term;
-    let s = at.stand;
+    let s = at.position;
     let mode = s.mode;
     if skips_all(mode) {
         return no_needs();
     }
-    if is_leaf(image, terms, n) {
+    let kind = term_kind(image, terms, n);
+    if kind <= kinds::VARIABLE {
         return no_needs();
     }
-    let shape = shape_at(image, terms, n);
+    let fields = term_fields(image, terms, n);
+    let shape = shape_of(kind);
     let own = shape.own;
-    let p = part_domain(image, terms, descriptors, n);
-    let v = branch_variables(image, terms, n);
-    let k = child_count(image, terms, n);
+    let p = part_domain(kind, fields, descriptors);
+    let v = branch_variables(kind, fields);
+    let k = child_count(kind, fields);
     let mut sum = own_needs(own, s, p, at_mark(each, rows, s.kept));
     let mut choice = no_needs();
     let mut j: usize = 0;
     while j < k {
         let role = role_at(shape, j);
-        let e = child_at(image, terms, n, j);
-        let q = child_stand(s, role, p);
-        let x = walk(
-            image,
-            terms,
-            descriptors,
-            Visit { term: e, stand: q },
-            each,
-            rows,
-        );
+        let e = child_in(kind, fields, j);
+        let q = child_position(s, role, p);
+        let below = Visit {
+            term: e,
+            position: q,
+        };
+        let x = walk(image, terms, descriptors, below, each, rows);
         sum = add(sum, added(s, role, x));
         choice = dearer(choice, chosen(s, role, v, x));
         j += 1;

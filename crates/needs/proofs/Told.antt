@@ -1,8 +1,8 @@
 -- What is said of an image, from what the check, the lowest fault and the walk say.
-use Prim.Native.Nat.{ℕ, zero, suc, _+_, _-_, _*_, _≤_, _<_}
+use Prim.Native.Nat.{ℕ, suc, _+_, _-_, _≤_, _<_}
 use native.Mathlib.Omega.{arith}
 use mathlib.Core.Path.{_≡_, refl, sym, ap, subst, _∙_}
-use mathlib.Core.Bool.{true, false}
+use mathlib.Core.Bool.{true}
 use mathlib.Core.List.{List}
 use lib.ListN.{length, getD, replicate}
 use lib.Dec.{ltb}
@@ -24,24 +24,24 @@ use Rattle.verdict.specs.declared.Verdict.{Verdict}
 use Rattle.verdict.specs.Acceptable.{Depth}
 use Rattle.verdict.specs.Verdicts.{verdict}
 use Rattle.verdict.proofs.Accept.{accepted-iff, acceptable-records}
-use Rattle.check_records.specs.declared.numbers.Counts.{Counts}
-use Rattle.check_rules.specs.Lent.{Terms, Types, Lent}
-use Rattle.validator.specs.declared.examine.Checked.{Checked}
-use Rattle.validator.specs.Examined.{examined, verdictOf, Filled, Answered}
-use Rattle.validator.proofs.Parts.{too-long, examined-refuses, all-enough}
+use Rattle.read_records.specs.declared.numbers.Counts.{Counts}
+use Rattle.read_terms.specs.Lent.{Lent}
+use Rattle.validator_core.specs.declared.examine.Checked.{Checked}
+use Rattle.validator_core.specs.Examined.{examined, verdictOf, Filled}
+use Rattle.validator_core.proofs.Parts.{too-long, examined-refuses, all-enough}
 use Rattle.image_needs.specs.declared.Needs.{Needs}
 use Rattle.image_needs.specs.declared.Forecast.{Forecast}
 use Rattle.image_needs.specs.Faults.{lowest, lowestFault}
 use Rattle.image_needs.specs.Forecasts.{needsOf, classed, unless, forecast}
 use Rattle.image_needs.proofs.Fits.{deepest, highest, accepted-small}
 use Rattle.need_class.specs.First.{lowestAt}
-use Rattle.need_sums.specs.declared.places.Stand.{Stand}
+use Rattle.need_sums.specs.declared.places.Position.{Position}
 use Rattle.need_sums.specs.Sums.{cut, cutNeeds}
 use Rattle.need_sums.specs.Rows.{rowCount, tableLength, atMark, Summed}
-use Rattle.need_walk.specs.Counted.{counted, termAt, Shallow, Placed, levelStand}
+use Rattle.need_walk.specs.Counted.{counted, termAt, Shallow, Placed, markPosition}
 use Rattle.need_rows.specs.Pieces.{inRow, pieceAt}
 use Rattle.need_rows.proofs.Pieces.{mainline-row, others-row}
-use Rattle.needs.specs.Known.{programStand, cutProgram, cutClassed}
+use Rattle.needs.specs.Known.{programPosition, cutProgram, cutClassed}
 
 -- The root's term is the program.
 pub root-term : (L : Layout) → 0 < length (L .terms) → termAt L (rootOf L) ≡ toTm (program L)
@@ -68,14 +68,14 @@ alike-cut m n w rows k ew e p q =
 root-depth : (L : Layout) (r : ℕ) → r ≡ rootOf L → Depth L r 1
 root-depth L r e = subst (λ m. Depth L m 1) (sym e) Depth.at-root
 
-pub level-placed : (L : Layout) (s : Stand) (r : ℕ) → s ≡ levelStand 0 → r ≡ rootOf L → r < 1024 → Shallow L → Placed L s r
+pub level-placed : (L : Layout) (s : Position) (r : ℕ) → s ≡ markPosition 0 → r ≡ rootOf L → r < 1024 → Shallow L → Placed L s r
 level-placed L s r e er h sh = rw e (record { deep = omega arith; shallow = sh; own-depth = 1; at-depth = root-depth L r er; kept = omega arith })
 
-pub program-placed : (L : Layout) (s : Stand) (r : ℕ) → s ≡ programStand → r ≡ rootOf L → r < 1024 → Shallow L → Placed L s r
+pub program-placed : (L : Layout) (s : Position) (r : ℕ) → s ≡ programPosition → r ≡ rootOf L → r < 1024 → Shallow L → Placed L s r
 program-placed L s r e er h sh = rw e (record { deep = omega arith; shallow = sh; own-depth = 1; at-depth = root-depth L r er; kept = omega arith })
 
 -- All advice at a mark: its pieces by the rows, the rest as it is where no value is kept.
-module _ (L : Layout) (s q : Stand) (r : ℕ) (w : Needs) (rows : List ℕ) (es : s ≡ levelStand 0) (eq : q ≡ levelStand 0) (er : r ≡ rootOf L) (ew : w ≡ cutNeeds (counted (termAt L (rootOf L)) s (termAt L r)))
+module _ (L : Layout) (s q : Position) (r : ℕ) (w : Needs) (rows : List ℕ) (es : s ≡ markPosition 0) (eq : q ≡ markPosition 0) (er : r ≡ rootOf L) (ew : w ≡ cutNeeds (counted (termAt L (rootOf L)) s (termAt L r)))
     (A : Summed (pieceAt (inRow L q r)) (replicate tableLength 0) rows) where
   row-is : (k : ℕ) → inRow L q r k ≡ rounds (level k) (termAt L (rootOf L))
   row-is k = let z : k + 0 ≡ k = omega arith in ap (λ x. inRow L x r k) eq ∙ (ap (λ y. rounds (level y) (termAt L r)) z ∙ ap (λ x. rounds (level k) (termAt L x)) er)
@@ -89,9 +89,9 @@ module _ (L : Layout) (s q : Stand) (r : ℕ) (w : Needs) (rows : List ℕ) (es 
       (mainline-row (inRow L q r) rows A k l ∙ ap (λ x. cut (x .used .mainline .pieces)) (row-is k))
       (others-row (inRow L q r) rows A k l ∙ ap (λ x. cut (x .used .others .pieces)) (row-is k))
 
-pub program-known : (L : Layout) → 0 < length (L .terms) → (s : Stand) (r : ℕ) (w : Needs) → s ≡ programStand → r ≡ rootOf L → w ≡ cutNeeds (counted (termAt L (rootOf L)) s (termAt L r)) → w ≡ cutProgram L
+pub program-known : (L : Layout) → 0 < length (L .terms) → (s : Position) (r : ℕ) (w : Needs) → s ≡ programPosition → r ≡ rootOf L → w ≡ cutNeeds (counted (termAt L (rootOf L)) s (termAt L r)) → w ≡ cutProgram L
 program-known L some s r w es er h =
-    h ∙ (ap (λ x. cutNeeds (counted (termAt L (rootOf L)) x (termAt L r))) es ∙ (ap (λ x. cutNeeds (counted (termAt L (rootOf L)) programStand (termAt L x))) er ∙ ap (λ e. cutNeeds (needOf e)) (root-term L some)))
+    h ∙ (ap (λ x. cutNeeds (counted (termAt L (rootOf L)) x (termAt L r))) es ∙ (ap (λ x. cutNeeds (counted (termAt L (rootOf L)) programPosition (termAt L x))) er ∙ ap (λ e. cutNeeds (needOf e)) (root-term L some)))
 
 -- 19, or the numbers.
 module _ (L : Layout) (some : 0 < length (L .terms)) (count f : ℕ) (ec : count ≡ length (L .terms)) (ef : f ≡ lowestAt L true (count - 1)) where

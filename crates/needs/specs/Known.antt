@@ -10,11 +10,11 @@ use Rattle.image_needs.specs.declared.Needs.{Needs}
 use Rattle.image_needs.specs.declared.Forecast.{Forecast}
 use Rattle.image_needs.specs.Faults.{lowestFault}
 use Rattle.need_sums.specs.declared.places.Mode.{Mode}
-use Rattle.need_sums.specs.declared.places.Stand.{Stand}
+use Rattle.need_sums.specs.declared.places.Position.{Position}
 use Rattle.need_sums.specs.Sums.{cutNeeds}
 
-abbrev pub programStand : Stand
-programStand = record { mode = Mode.Program; dom = 0; depth = 0; kept = 0 }
+abbrev pub programPosition : Position
+programPosition = record { mode = Mode.Program; dom = record { 0 = 0 }; depth = 0; kept = 0 }
 
 -- The numbers of a program.
 abbrev pub cutProgram : Layout → Needs

@@ -1,8 +1,6 @@
 // What a flight will need (document 02, card 10): for an image that the check accepts and that is in the class, upper numbers
 // of steps, of bindings, pieces and cells for each half, and of labels, advice, frames and log records; for any other image
 // the one refusal. It reads the image alone, writes no lent memory and makes no run.
-use check_records::numbers::Counts;
-use check_records::numbers::TermNo;
 use image::IMAGE_LIMIT;
 use image::Refusal;
 use image_needs::Forecast;
@@ -10,31 +8,34 @@ use image_needs::Needs;
 use need_class::lowest_fault;
 use need_rows::add_pieces;
 use need_sums::places::Mode;
-use need_sums::places::Stand;
+use need_sums::places::Position;
 use need_sums::sums::no_needs;
 use need_walk::Visit;
-use need_walk::level_stand;
+use need_walk::mark_position;
 use need_walk::walk;
-use validator::examine::Checked;
-use validator::examine::examine_image;
+use read_records::numbers::DomainNo;
+use read_records::numbers::TermNo;
+use read_terms::terms::term_place;
+use validator_core::examine::Checked;
+use validator_core::examine::examine_image;
 ghost use mathlib.Core.Path.{_≡_};
 ghost use Prim.Native.Nat.{_≤_, _<_};
 ghost use lib.ListN.{length};
 ghost use Rattle.image.specs.Limits.{imageLimit};
 ghost use Rattle.image.specs.Layout.{recordsOf};
 ghost use Rattle.image.specs.Types.{rootOf};
-ghost use Rattle.check_rules.specs.Lent.{Lent};
+ghost use Rattle.read_terms.specs.Lent.{Lent};
 ghost use Rattle.image_needs.specs.Forecasts.{forecast};
 ghost use Rattle.need_walk.specs.Counted.{Shallow};
-ghost use Rattle.needs.specs.Known.{programStand, cutClassed, cutProgram};
+ghost use Rattle.needs.specs.Known.{programPosition, cutClassed, cutProgram};
 
 // Where the whole program stands.
-fn program_stand() -> Stand
-    ensures { λ r. ⌜ r ≡ programStand ⌝ }
+fn program_position() -> Position
+    ensures { λ r. ⌜ r ≡ programPosition ⌝ }
 {
-    Stand {
+    Position {
         mode: Mode::Program,
-        dom: 0,
+        dom: DomainNo(0),
         depth: 0,
         kept: 0,
     }
@@ -42,7 +43,7 @@ fn program_stand() -> Stand
 
 // The numbers of a program: first what all its advice takes at a mark, with no value kept around it; then its pieces for each
 // number of kept values; then the program itself.
-fn program_needs(image: &[u8], terms: &[u16], descriptors: &[u32], root: TermNo) -> Needs
+fn program_needs(image: &[u8], terms: &[u16; 1024], descriptors: &[u32; 128], root: TermNo) -> Needs
     requires { ⌜ Lent (now image) (now terms) (now descriptors) × (0 < length (recordsOf (now image) .terms)) × (root .0 ≡ rootOf (recordsOf (now image))) × Shallow (recordsOf (now image)) ⌝ }
     ensures { λ r. ⌜ r ≡ cutProgram (recordsOf (now (image .entry))) ⌝ }
 {
@@ -54,19 +55,19 @@ fn program_needs(image: &[u8], terms: &[u16], descriptors: &[u32], root: TermNo)
         descriptors,
         Visit {
             term: root,
-            stand: level_stand(),
+            position: mark_position(),
         },
         none,
         &rows,
     );
-    add_pieces(image, terms, descriptors, root, level_stand(), &mut rows);
+    add_pieces(image, terms, descriptors, root, mark_position(), &mut rows);
     walk(
         image,
         terms,
         descriptors,
         Visit {
             term: root,
-            stand: program_stand(),
+            position: program_position(),
         },
         each,
         &rows,
@@ -74,14 +75,20 @@ fn program_needs(image: &[u8], terms: &[u16], descriptors: &[u32], root: TermNo)
 }
 
 // Of an image that the check accepts, with so many terms.
-fn forecast_accepted(image: &[u8], terms: &[u16], descriptors: &[u32], count: usize) -> Forecast
+fn forecast_accepted(
+    image: &[u8],
+    terms: &[u16; 1024],
+    descriptors: &[u32; 128],
+    count: usize,
+) -> Forecast
     requires { ⌜ Lent (now image) (now terms) (now descriptors) × (0 < count) × (count ≡ length (recordsOf (now image) .terms)) × Shallow (recordsOf (now image)) ⌝ }
     ensures { λ r. ⌜ r ≡ cutClassed (recordsOf (now (image .entry))) ⌝ }
 {
     let root = TermNo((count - 1) as u16);
-    let fault = lowest_fault(image, terms, count as u16, true, root);
-    if (fault as usize) < count {
-        return Forecast::OutsideClass(check_rules::terms::term_place(image, terms, TermNo(fault)));
+    let none = TermNo(count as u16);
+    let fault = lowest_fault(image, terms, none, true, root);
+    if fault.0 < none.0 {
+        return Forecast::OutsideClass(term_place(image, terms, fault));
     }
     Forecast::Known(program_needs(image, terms, descriptors, root))
 }
@@ -91,7 +98,7 @@ fn forecast_checked(image: &[u8]) -> Forecast
     requires { ⌜ length (now image) ≤ imageLimit ⌝ }
     ensures { λ r. ⌜ r ≡ forecast (now (image .entry)) ⌝ }
 {
-    let kinds = check_records::kinds::kind_codes();
+    let kinds = read_records::table::kind_codes();
     let mut doms = [0u16; 16];
     let mut types = [0u16; 128];
     let mut descriptors = [0u32; 128];

@@ -3,9 +3,9 @@ use Prim.Native.Nat.{ℕ, zero, suc, _+_, _-_, _*_, _/_, _≤_, _<_}
 use native.Mathlib.Omega.{arith}
 use native.Mathlib.Numerals.{add-one}
 use native.Mathlib.Nat.{suc-mul, mul-le-mul-right, mul-div-le}
-use mathlib.Core.Path.{_≡_, refl, sym, ap, ap₂, _∙_}
-use mathlib.Core.List.{List, [], _∷_, _++_, append-assoc, append-nil}
-use lib.ListN.{length, take, drop, set, replicate, length-take, length-drop, length-append, length-replicate, take-append-drop}
+use mathlib.Core.Path.{_≡_, refl, sym, ap, _∙_}
+use mathlib.Core.List.{List, _++_, append-assoc, append-nil}
+use lib.ListN.{length, take, drop, set, replicate, length-drop, length-append, length-replicate, take-append-drop}
 use lib.Seq.{drop-drop, drop-length, drop-append-seam, length-take-le}
 use borrow.Author.Fill.{fill-more}
 use Rattle.image.specs.declared.Refusal.{Refusal}
@@ -16,7 +16,7 @@ use Rattle.base_bytes.specs.Bytes.{over, cleared}
 use Rattle.base_bytes.proofs.Over.{length-over}
 use Rattle.calls.specs.declared.Answer.{Answer}
 use Rattle.calls.specs.Runs.{runOf}
-use Rattle.calls.specs.Calls.{Left, leftBy, called, refusedAnswer}
+use Rattle.calls.specs.Calls.{Left, leftBy, refusedAnswer}
 use Rattle.answers_as_numbers.specs.Numbers.{callNumber}
 use Rattle.recordings.specs.Recordings.{partLength, part, withPart, Recording, callOver, recorded, firstCalls}
 use Rattle.calls.proofs.Called.{refused-leaves, accepted-leaves}

@@ -3,6 +3,7 @@ use crate::Slot;
 use crate::leaves::put_leaves;
 use crate::numbers::put_header;
 use crate::numbers::put16;
+use read_records::numbers::DomainNo;
 ghost use mathlib.Core.Path.{_≡_};
 ghost use mathlib.Core.Option.{none, some};
 ghost use Prim.Native.Nat.{_+_, _*_, _≤_};
@@ -19,25 +20,25 @@ const OTHER_CELL: u16 = 69;
 pub fn put_plain_cell(
     report: &mut [u8],
     at: usize,
-    dom: u16,
+    dom: DomainNo,
     slots: [Slot; 8],
     count: usize,
 ) -> usize
     requires { ⌜ (count ≤ 8) × (at + 6 + 8 * count ≤ length (now report)) ⌝ }
-    ensures { λ r. ⌜ (r ≡ at + length (cellBytes (record { dom = dom; held = some (leavesIn count slots) }))) × (now (report .exit) ≡ over at (cellBytes (record { dom = dom; held = some (leavesIn count slots) })) (now (report .entry))) ⌝ }
+    ensures { λ r. ⌜ (r ≡ at + length (cellBytes (record { dom = dom .0; held = some (leavesIn count slots) }))) × (now (report .exit) ≡ over at (cellBytes (record { dom = dom .0; held = some (leavesIn count slots) })) (now (report .entry))) ⌝ }
 {
     let end = put_leaves(report, at + 6, slots, count);
     put_header(report, at, (end - at) as u16, PLAIN_CELL);
-    put16(report, at + 4, dom);
+    put16(report, at + 4, dom.0);
     end
 }
 
 // Another cell; answers the offset past it.
-pub fn put_other_cell(report: &mut [u8], at: usize, dom: u16) -> usize
+pub fn put_other_cell(report: &mut [u8], at: usize, dom: DomainNo) -> usize
     requires { ⌜ at + 6 ≤ length (now report) ⌝ }
-    ensures { λ r. ⌜ (r ≡ at + length (cellBytes (record { dom = dom; held = none }))) × (now (report .exit) ≡ over at (cellBytes (record { dom = dom; held = none })) (now (report .entry))) ⌝ }
+    ensures { λ r. ⌜ (r ≡ at + length (cellBytes (record { dom = dom .0; held = none }))) × (now (report .exit) ≡ over at (cellBytes (record { dom = dom .0; held = none })) (now (report .entry))) ⌝ }
 {
     put_header(report, at, 6, OTHER_CELL);
-    put16(report, at + 4, dom);
+    put16(report, at + 4, dom.0);
     at + 6
 }

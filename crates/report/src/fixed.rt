@@ -3,6 +3,7 @@ use crate::numbers::put_header;
 use crate::numbers::put16;
 use crate::numbers::put32;
 use calculus::Outcome;
+use read_records::numbers::DomainNo;
 ghost use mathlib.Core.Path.{_≡_};
 ghost use Prim.Native.Nat.{_+_, _≤_};
 ghost use lib.ListN.{length};
@@ -17,12 +18,12 @@ const LOG: u16 = 64;
 const REPORT: u16 = 70;
 
 // A printed number with its domain.
-pub fn put_log(log: &mut [u8], at: usize, dom: u16, number: u32)
+pub fn put_log(log: &mut [u8], at: usize, dom: DomainNo, number: u32)
     requires { ⌜ at + 10 ≤ length (now log) ⌝ }
-    ensures { λ _. ⌜ now (log .exit) ≡ over at (logRecord dom number) (now (log .entry)) ⌝ }
+    ensures { λ _. ⌜ now (log .exit) ≡ over at (logRecord (dom .0) number) (now (log .entry)) ⌝ }
 {
     put_header(log, at, 10, LOG);
-    put16(log, at + 4, dom);
+    put16(log, at + 4, dom.0);
     put32(log, at + 6, number);
 }
 

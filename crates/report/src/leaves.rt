@@ -26,7 +26,7 @@ fn bit(b: bool) -> u16
 }
 
 // A leaf's record; answers the offset past it.
-pub fn put_leaf(report: &mut [u8], at: usize, leaf: Leaf) -> usize
+fn put_leaf(report: &mut [u8], at: usize, leaf: Leaf) -> usize
     requires { ⌜ at + 8 ≤ length (now report) ⌝ }
     ensures { λ r. ⌜ (r ≡ at + length (leafBytes leaf)) × (now (report .exit) ≡ over at (leafBytes leaf) (now (report .entry))) ⌝ }
 {

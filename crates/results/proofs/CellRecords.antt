@@ -29,23 +29,26 @@ pub cell-written : (xs : List ℕ) (o : ℕ) {c d : CellReport} {r : ℕ} {ys : 
     → (r ≡ o + length (cellBytes d)) × (ys ≡ over o (cellBytes d) xs)
 cell-written xs o e p = (p .0 ∙ ap (λ c. o + length (cellBytes c)) e, p .1 ∙ ap (λ c. over o (cellBytes c) xs) e)
 
-module _ (M : Memory) (i w note : ℕ) (a : w ≡ cellAt M i) (b : note ≡ cellNote w) where
+module _ (M : Memory) (i w note d : ℕ) (a : w ≡ cellAt M i) (b : note ≡ cellNote w) (e : d ≡ note % 16) where
   is-note : note ≡ cellNote (cellAt M i)
   is-note = b ∙ ap cellNote a
+
+  is-domain : d ≡ cellNote (cellAt M i) % 16
+  is-domain = e ∙ ap (λ n. n % 16) is-note
 
   abbrev held-if : Bool → CellReport
   held-if q = record { dom = cellNote (cellAt M i) % 16; held = choose q (some (plainLeavesIn M (cellAt M i))) none }
 
   -- Cell i, by its note.
-  pub other-cell : note < 16 → record { dom = note % 16; held = none } ≡ cellIn M i
+  pub other-cell : note < 16 → record { dom = d; held = none } ≡ cellIn M i
   other-cell h =
-      ap (λ n. record { dom = n % 16; held = none }) is-note ∙ ap held-if (sym (ap (leb 16) (sym is-note) ∙ lt-leb 16 note h))
+      ap (λ n. record { dom = n; held = none }) is-domain ∙ ap held-if (sym (ap (leb 16) (sym is-note) ∙ lt-leb 16 note h))
 
   pub plain-cell : (g : Gathered) → 16 ≤ note → g ≡ gathered (plainLeavesIn M w)
-      → record { dom = note % 16; held = some (leavesIn (g .count) (g .slots)) } ≡ cellIn M i
+      → record { dom = d; held = some (leavesIn (g .count) (g .slots)) } ≡ cellIn M i
   plain-cell g h f =
       let l = gathered-leaves (plainLeavesIn M w) f (plain-few M w) ∙ ap (plainLeavesIn M) a in
-      ap₂ {C = CellReport} (λ n x. record { dom = n % 16; held = some x }) is-note l ∙ ap held-if (sym (ap (leb 16) (sym is-note) ∙ le-leb 16 note h))
+      ap₂ {C = CellReport} (λ n x. record { dom = n; held = some x }) is-domain l ∙ ap held-if (sym (ap (leb 16) (sym is-note) ∙ le-leb 16 note h))
 
 module _ (M : Memory) where
   few-held : (i : ℕ) (b : Bool) → FewLeaves (choose b (some (plainLeavesIn M (cellAt M i))) none)

@@ -3,7 +3,7 @@ use Prim.Native.Nat.{ℕ, _+_, _-_, _*_, _≤_}
 use native.Mathlib.Omega.{arith}
 use mathlib.Core.Path.{_≡_, refl, sym, ap, _∙_}
 use mathlib.Core.Bool.{Bool, true, false}
-use mathlib.Core.List.{List, [], _∷_, _++_, append-nil}
+use mathlib.Core.List.{List, [], _++_}
 use lib.ListN.{length, length-append}
 use borrow.Author.Tests.{eq-eqb, ne-eqb}
 use Rattle.calculus.specs.declared.Outcome.{Outcome}
@@ -14,20 +14,16 @@ use Rattle.verdict.specs.declared.Verdict.{Verdict}
 use Rattle.base_bytes.specs.Bytes.{bytesOf, over}
 use Rattle.base_bytes.proofs.Over.{onward}
 use Rattle.report.specs.declared.Ending.{Ending}
-use Rattle.report.specs.Records.{recordsBytes}
-use Rattle.report.specs.Written.{leavesIn, leafBytes, leavesBytes, cellsBytes, headBytes, reportBytes}
+use Rattle.report.specs.Written.{leavesIn, leavesBytes, cellsBytes, headBytes, reportBytes}
 use Rattle.report.proofs.Lengths.{leaves-short, length-parts}
 use Rattle.vm_machine.specs.declared.Regs.{Regs}
 use Rattle.vm_pools.specs.Pools.{whole}
 use Rattle.vm_machine.specs.Memory.{Memory}
-use Rattle.vm_code.specs.Values.{tagOf}
-use Rattle.vm_machine.specs.Leaves.{leafOf}
 use Rattle.calls.specs.declared.Answer.{Answer}
-use Rattle.calls.specs.Calls.{slotsOf}
 use Rattle.results.specs.declared.Gathered.{Gathered}
 use Rattle.results.specs.Gathered.{gathered}
 use Rattle.results.specs.Ended.{haltedWith, isDone, plainLeavesIn, resultIn, cellsIn, reportIn, answerIn}
-use Rattle.results.proofs.Gathering.{gathered-leaves, plain-few, plain-one}
+use Rattle.results.proofs.Gathering.{gathered-leaves, plain-few}
 
 -- The result's leaves, by the outcome's number n.
 pub done-leaves : (M : Memory) (n w : ℕ) → n ≡ 0 → plainLeavesIn M w ≡ choose (isDone n) (plainLeavesIn M w) []
@@ -68,17 +64,3 @@ module _ (M : Memory) (r : Regs) (g : Gathered) (e : g ≡ gathered (resultIn M 
       let i : j ≡ 10 + length (leavesBytes (resultIn M r)) = b .0 ∙ ap (λ x. 10 + length (leavesBytes x)) l in
       let w = report-written xs (outcomeNumber (haltedWith r)) (budget - r .rest) (resultIn M r) (cellsIn M r) j end (a ∙ ap (λ x. over 0 (headBytes (outcomeNumber x) (budget - r .rest)) xs) h) (b .1 ∙ ap (λ x. over 10 (leavesBytes x) ys) l) i (d .1) (d .0) (omega (arith, d .2)) in
       (rw (h, w .0, e), w .1)
-
--- A result that is one leaf l, gathered: t is the tag of its word.
-module _ (M : Memory) (r : Regs) (t : ℕ) (e : t ≡ tagOf (r .hand)) (small : t ≤ 2) (done : r .outcome ≡ 0) (l : Leaf) (q : l ≡ leafOf (r .hand)) where
-  pub one-gathered : record { count = 1; slots = slotsOf (l ∷ []) } ≡ gathered (resultIn M r)
-  one-gathered = ap (λ x. gathered (x ∷ [])) q ∙ ap gathered (sym (sym (done-leaves M (r .outcome) (r .hand) done) ∙ plain-one (r .hand) t e M small))
-
-  pub done-ended : Outcome.Done ≡ haltedWith r
-  done-ended = rw done
-
--- One leaf's bytes.
-pub one-leaf-bytes : (l : Leaf) (xs : List ℕ) (o : ℕ) {j : ℕ} {zs : List ℕ} → (j ≡ o + length (leafBytes l)) × (zs ≡ over o (leafBytes l) xs)
-    → (j ≡ o + length (leavesBytes (l ∷ []))) × (zs ≡ over o (leavesBytes (l ∷ [])) xs)
-unfolding recordsBytes
-one-leaf-bytes l xs o b = rw (append-nil (leafBytes l)) b

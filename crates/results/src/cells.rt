@@ -1,17 +1,25 @@
 // The records of the cells.
 use crate::leaves::plain_leaves;
+use read_records::numbers::DomainNo;
 use report::cells::put_other_cell;
 use report::cells::put_plain_cell;
 use vm_tables::cells::cell_at;
 use vm_tables::cells::cell_note;
 ghost use mathlib.Core.Path.{_≡_};
-ghost use Prim.Native.Nat.{_+_, _*_, _<_, _≤_};
+ghost use Prim.Native.Nat.{_+_, _*_, _%_, _<_, _≤_};
 ghost use lib.ListN.{length};
 ghost use Rattle.base_bytes.specs.Bytes.{over};
 ghost use Rattle.base_bytes.specs.Memory.{memoryLength};
 ghost use Rattle.report.specs.Written.{cellBytes, cellsBytes};
 ghost use Rattle.vm_tables.specs.View.{memoryOf};
 ghost use Rattle.results.specs.Ended.{cellIn, cellsFrom};
+
+// The domain that a cell's note names.
+fn note_domain(note: u64) -> DomainNo
+    ensures { λ r. ⌜ r .0 ≡ note % 16 ⌝ }
+{
+    DomainNo((note % 16) as u16)
+}
 
 // Cell i; answers the offset past it. A plain cell's note is 16 or more.
 pub fn put_cell(report: &mut [u8], at: usize, work: &[u8], i: usize) -> usize
@@ -20,7 +28,7 @@ pub fn put_cell(report: &mut [u8], at: usize, work: &[u8], i: usize) -> usize
 {
     let w = cell_at(work, i);
     let note = cell_note(w);
-    let dom = (note % 16) as u16;
+    let dom = note_domain(note);
     if note < 16 {
         return put_other_cell(report, at, dom);
     }

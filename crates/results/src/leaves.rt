@@ -9,7 +9,7 @@ use vm_words::value::PAIR;
 use vm_words::value::body;
 use vm_words::value::tag;
 ghost use mathlib.Core.Path.{_≡_};
-ghost use mathlib.Core.List.{[]};
+ghost use mathlib.Core.List.{[], _∷_};
 ghost use Prim.Native.Nat.{_≤_};
 ghost use lib.ListN.{length};
 ghost use Rattle.base_bytes.specs.Memory.{memoryLength};
@@ -19,7 +19,7 @@ ghost use Rattle.results.specs.Gathered.{withLeaf, withLeaves, gathered}
 ghost use Rattle.results.specs.Ended.{plainLeavesIn};
 
 // The highest tag of a leaf.
-pub const NUMBER: u64 = 2;
+const NUMBER: u64 = 2;
 
 pub fn no_leaves() -> Gathered
     ensures { λ r. ⌜ r ≡ gathered [] ⌝ }
@@ -47,7 +47,7 @@ fn with_leaf(held: Gathered, leaf: Leaf) -> Gathered
 }
 
 // The leaf of a word whose tag is at most that of a number.
-pub fn leaf_of(w: u64) -> Leaf
+fn leaf_of(w: u64) -> Leaf
     ensures { λ r. ⌜ r ≡ leafOf w ⌝ }
 {
     match tag(w) {
@@ -85,13 +85,26 @@ fn gather(work: &[u8], depth: usize, w: u64, held: Gathered) -> Gathered
     gather(work, depth - 1, b, first)
 }
 
-// The leaves of a value: at most eight. Most values are no pairs, and those need no walk.
+// One leaf alone.
+fn one_leaf(leaf: Leaf) -> Gathered
+    ensures { λ r. ⌜ r ≡ gathered (leaf ∷ []) ⌝ }
+{
+    let unit = Slot { leaf: Leaf::Unit };
+    let mut slots = [unit; 8];
+    slots[0] = Slot { leaf: leaf };
+    Gathered {
+        count: 1,
+        slots: slots,
+    }
+}
+
+// The leaves of a value: at most eight. Most values are one leaf, and those need no walk.
 pub fn plain_leaves(work: &[u8], w: u64) -> Gathered
     requires { ⌜ memoryLength ≤ length (now work) ⌝ }
     ensures { λ r. ⌜ r ≡ gathered (plainLeavesIn (memoryOf (now (work .entry))) w) ⌝ }
 {
-    if tag(w) != PAIR {
-        return with_word(no_leaves(), w);
+    if tag(w) <= NUMBER {
+        return one_leaf(leaf_of(w));
     }
     gather(work, 8, w, no_leaves())
 }

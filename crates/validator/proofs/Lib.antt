@@ -1,4 +1,1 @@
--- What a finished scan gives, and the verdict by its parts.
-pub mod Filling
-pub mod Passes
-pub mod Parts
+-- The proofs of the functions are in folders of their own.

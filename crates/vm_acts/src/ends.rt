@@ -11,6 +11,7 @@ use vm_states::regs::same;
 use vm_tables::slots::slot_env;
 use vm_tables::slots::slot_pc;
 use vm_words::code::depth_of;
+use vm_words::terms::instruction;
 
 // A call or split has its value: f is the word of its slot.
 pub fn returned(code: &[u64], work: &mut [u8], r: Regs, f: u64) -> Regs
@@ -18,7 +19,7 @@ pub fn returned(code: &[u64], work: &mut [u8], r: Regs, f: u64) -> Regs
     ensures { λ q. ⌜ ((image : List ℕ) → Phase (machine.returned (record { code = now (code .entry); image = image }) f) (now (work .entry)) (now (work .exit)) r q) ⌝ }
 {
     let pc = slot_pc(f);
-    let w = code[pc];
+    let w = instruction(code, pc);
     let mut q = same(r);
     q.env = slot_env(f);
     q.room = r.room + depth_of(w);

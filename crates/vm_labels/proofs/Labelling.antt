@@ -91,21 +91,17 @@ child-made C a b r s w m d x e k same depth room h child entry held =
     (ap (λ p. f p m e) same ∙ ap₂ (f r) n (entry ∙ ap (entryFrom termCount C) child)) (listed-around a b (r .room) (depthOf w + 1) m (r .pc) (r .env) (k .digits % 68719476736) (k .digits / 68719476736 % 256) n (omega arith) held)
 
 -- The children of pointcut t, from child i on: those that are atoms are taken, k.
-module _ (C : Program) (a b : List ℕ) (r q : Regs) (t i d : ℕ) (k : Taken) (taken : k ≡ takeLabels C (memoryOf a) (r .env) (codeAt C t) (countOf (codeAt C t) - i) i d) (n : ℕ)
-    (count : n ≡ countOf (codeAt C t)) where
-  abbrev w : ℕ
-  w = codeAt C t
-
+module _ (C : Program) (a b : List ℕ) (r q : Regs) (t i d w : ℕ) (word : w ≡ codeAt C t) (k : Taken) (taken : k ≡ takeLabels C (memoryOf a) (r .env) w (countOf w - i) i d) (n : ℕ) (count : n ≡ countOf w) where
   abbrev make : State → State
   make S = judged w S (newPiece w pointcutTag 0 (labelSet (countOf w) (k .digits) 0) S)
 
-  abbrev by : Taken → State → State
-  by x S =
-      choose (leb (countOf w) (x .count)) (judged w S (newPiece w pointcutTag 0 (labelSet (countOf w) (x .digits) 0) S))
-      (choose (leb (S .regs .room) (depthOf w + 1)) (withRegs (halt Outcome.Frames (S .regs)) S) (childBegun C t w x S))
+  abbrev by : ℕ → Taken → State → State
+  by u x S =
+      choose (leb (countOf u) (x .count)) (judged u S (newPiece u pointcutTag 0 (labelSet (countOf u) (x .digits) 0) S))
+      (choose (leb (S .regs .room) (depthOf u + 1)) (withRegs (halt Outcome.Frames (S .regs)) S) (childBegun C t u x S))
 
-  known : (log : List ℕ) → by k (stateOf a log r) ≡ labelsFrom C t i d (stateOf a log r)
-  known log = ap (λ x. by x (stateOf a log r)) taken
+  known : (log : List ℕ) → by w k (stateOf a log r) ≡ labelsFrom C t i d (stateOf a log r)
+  known log = ap (λ x. by w x (stateOf a log r)) taken ∙ ap (λ u. by u (takeLabels C (memoryOf a) (r .env) u (countOf u - i) i d) (stateOf a log r)) word
 
   all-by : n ≤ k .count → (log : List ℕ) → make (stateOf a log r) ≡ labelsFrom C t i d (stateOf a log r)
   all-by h log = sym (chosen-yes _ _ _ (le-leb (countOf w) (k .count) (omega arith))) ∙ known log

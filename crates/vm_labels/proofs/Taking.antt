@@ -1,28 +1,23 @@
 -- The children of a pointcut, one after another.
-use Prim.Native.Nat.{ℕ, suc, _+_, _-_, _%_, _≤_, _<_}
+use Prim.Native.Nat.{ℕ, suc, _+_, _-_, _*_, _%_, _≤_, _<_}
 use native.Mathlib.Omega.{arith}
 use native.Mathlib.Numerals.{add-one}
 use mathlib.Core.Path.{_≡_, sym, ap, ap₂, _∙_}
 use mathlib.Core.List.{List}
-use lib.ListN.{length, getD, List·getD-eq-default}
 use borrow.Author.Tests.{lt-ltb, le-ltb}
-use Rattle.image.specs.Bytes.{le16}
+use Rattle.image.proofs.Words.{le16-part}
+use Rattle.read_records.specs.Heads.{fieldIn}
 use Rattle.vm_code.specs.Values.{bodyOf}
-use Rattle.vm_code.specs.Words.{classOf}
+use Rattle.vm_code.specs.Words.{classOf, offsetOf, countOf, termCount}
 use Rattle.vm_code.specs.Classes.{firstInstruction}
 use Rattle.vm_machine.specs.Memory.{Memory, withDigit}
 use Rattle.vm_machine.specs.Fetch.{Program, codeAt, atomValue}
 use Rattle.vm_machine.specs.Turn.{Taken, childAt, takeLabels}
+use Rattle.vm_labels.specs.Parts.{childFields}
 
--- Numbers at the end of an image, and past it.
-pub last-byte : (xs : List ℕ) (at b : ℕ) → length xs ≤ at + 1 → b ≡ getD xs at 0 → b < 256 → b ≡ le16 xs at
-last-byte xs at b h e l = let z = List·getD-eq-default xs 0 {n = at + 1} h in omega arith
-
-pub past-bytes : (xs : List ℕ) (at : ℕ) → length xs ≤ at → 0 ≡ le16 xs at
-past-bytes xs at h =
-    let y = List·getD-eq-default xs 0 {n = at} h in
-    let z = List·getD-eq-default xs 0 {n = at + 1} (omega arith) in
-    omega arith
+-- Child i in the fields fs that hold the children of a pointcut with word w; x is the term that field i names.
+pub child-in : (C : Program) (w i x : ℕ) (fs : List ℕ) → fs ≡ childFields (C .image) w → i < countOf w → x ≡ fieldIn fs i % termCount → x ≡ childAt C w i
+child-in C w i x fs e h k = k ∙ ap (_% termCount) (ap (λ ys. fieldIn ys i) e ∙ le16-part (C .image) (offsetOf w) (2 * countOf w) (2 * i) (omega arith))
 
 module _ (C : Program) (M : Memory) (env w n : ℕ) where
   -- The pointcut has m children; k is what is taken.

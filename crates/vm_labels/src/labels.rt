@@ -17,15 +17,15 @@ ghost use Rattle.vm_machine.specs.Reduce.{newPiece};
 ghost use Rattle.vm_machine.specs.Turn.{labelsFrom};
 ghost use Rattle.vm_tables.specs.View.{memoryOf};
 ghost use Rattle.vm_states.specs.Phases.{Phase};
-ghost use Rattle.vm_labels.specs.Parts.{RoomAfter, childBegun, isStrange, labelled};
+ghost use Rattle.vm_labels.specs.Parts.{RoomAfter, childFields, childBegun, isStrange, labelled};
 ghost use Rattle.vm_labels.specs.Parts as parts;
 use crate::Done;
 use crate::Part;
-use crate::children::child_at;
+use crate::children::child_fields;
 use crate::children::take_labels;
+use crate::children::term_at;
 use crate::entry::entry_from;
 use vm_machine::Regs;
-use vm_states::limits::BINDING_PLACES;
 use vm_states::limits::PIECES;
 use vm_states::outcomes::FRAMES;
 use vm_states::pieces::new_piece;
@@ -37,6 +37,7 @@ use vm_states::regs::halt;
 use vm_states::regs::same;
 use vm_states::regs::spent_or;
 use vm_states::regs::stuck;
+use vm_tables::labels::LABELS;
 use vm_tables::labels::digit_count;
 use vm_tables::labels::label_set;
 use vm_tables::labels::with_digit;
@@ -44,22 +45,19 @@ use vm_tables::slots::digits_at;
 use vm_tables::slots::put_digits;
 use vm_tables::slots::slot_env;
 use vm_tables::slots::slot_pc;
+use vm_tables::words::BINDING_PLACES;
+use vm_words::classes;
 use vm_words::code::class_of;
 use vm_words::code::count_of;
 use vm_words::code::depth_of;
+use vm_words::terms::instruction;
 use vm_words::value::POINTCUT;
 use vm_words::value::body;
-
-// The class of a pointcut.
-const POINTCUT_CLASS: u64 = 5;
 
 // The digits of no labels; and the most labels that a pointcut has.
 const NO_DIGITS: u64 = 1;
 
 const MOST_LABELS: usize = 8;
-
-// Labels are numbers below this.
-const LABELS: u64 = 64;
 
 // All children are done: the pointcut with word w is made.
 fn make_pointcut(work: &mut [u8], r: Regs, w: u64, digits: u64) -> Regs
@@ -78,15 +76,15 @@ fn make_pointcut(work: &mut [u8], r: Regs, w: u64, digits: u64) -> Regs
 }
 
 // The next child is begun: it is a body of its own.
-fn begin_child(code: &[u64], image: &[u8], work: &mut [u8], r: Regs, w: u64, done: Done) -> Regs
-    requires { ⌜ (termCount ≤ length (now code)) × (memoryLength ≤ length (now work)) × (r .pc ≤ home) × (r .env < 2048) × (depthOf w + 1 < r .room) × (r .room ≤ fullRoom + depthOf w) × (done .count < 16) ⌝ }
-    ensures { λ q. ⌜ Phase (childBegun (record { code = now (code .entry); image = now (image .entry) }) (r .pc) w (record { count = done .count; digits = done .digits })) (now (work .entry)) (now (work .exit)) r q ⌝ }
+fn begin_child(code: &[u64], fields: &[u8], work: &mut [u8], r: Regs, w: u64, done: Done) -> Regs
+    requires { ⌜ (termCount ≤ length (now code)) × (memoryLength ≤ length (now work)) × (r .pc ≤ home) × (r .env < 2048) × (depthOf w + 1 < r .room) × (r .room ≤ fullRoom + depthOf w) × (done .count < countOf w) ⌝ }
+    ensures { λ q. ⌜ ((image : List ℕ) → now (fields .entry) ≡ childFields image w → Phase (childBegun (record { code = now (code .entry); image = image }) (r .pc) w (record { count = done .count; digits = done .digits })) (now (work .entry)) (now (work .exit)) r q) ⌝ }
 {
     let room = r.room - (depth_of(w) + 1);
     put_digits(work, room + 1, 1, r.pc, r.env, done.digits);
     let mut q = same(r);
     q.room = room;
-    q.pc = entry_from(code, child_at(image, w, done.count));
+    q.pc = entry_from(code, term_at(fields, done.count));
     q
 }
 
@@ -96,15 +94,16 @@ fn labels_from(code: &[u64], image: &[u8], work: &mut [u8], r: Regs, from: Done)
     ensures { λ q. ⌜ Phase (labelsFrom (record { code = now (code .entry); image = now (image .entry) }) (r .pc) (from .count) (from .digits)) (now (work .entry)) (now (work .exit)) r q ⌝ }
 {
     let pc = r.pc;
-    let w = code[pc];
-    let done = take_labels(code, image, work, r.env, w, from);
+    let w = instruction(code, pc);
+    let fields = child_fields(image, w);
+    let done = take_labels(code, fields, work, r.env, w, from);
     if count_of(w) <= done.count {
         return make_pointcut(work, r, w, done.digits);
     }
     if r.room <= depth_of(w) + 1 {
         return halt(r, FRAMES);
     }
-    begin_child(code, image, work, r, w, done)
+    begin_child(code, fields, work, r, w, done)
 }
 
 // Where they go on, of a pointcut that is begun or resumed.
@@ -122,7 +121,7 @@ fn part_of(code: &[u64], work: &[u8], r: Regs, resumed: bool, f: u64) -> Part
         return Part {
             pc: pc,
             env: slot_env(f) % BINDING_PLACES,
-            room: r.room + (depth_of(code[pc]) + 1),
+            room: r.room + (depth_of(instruction(code, pc)) + 1),
             done: done,
         };
     }
@@ -142,7 +141,7 @@ fn part_of(code: &[u64], work: &[u8], r: Regs, resumed: bool, f: u64) -> Part
 fn is_strange(resumed: bool, w: u64) -> bool
     ensures { λ b. ⌜ b ≡ isStrange resumed w ⌝ }
 {
-    resumed && class_of(w) != POINTCUT_CLASS
+    resumed && class_of(w) != classes::POINTCUT
 }
 
 // A pointcut is begun; or, resumed, a child of it is worked out, and f is the word of its slot.
@@ -152,7 +151,7 @@ pub fn labels(code: &[u64], image: &[u8], work: &mut [u8], r: Regs, resumed: boo
 {
     let p = part_of(code, work, r, resumed, f);
     let pc = p.pc;
-    if is_strange(resumed, code[pc]) {
+    if is_strange(resumed, instruction(code, pc)) {
         return stuck(r);
     }
     let mut q = same(r);

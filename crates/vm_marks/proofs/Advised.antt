@@ -2,7 +2,6 @@
 use Prim.Native.Nat.{ℕ, _+_, _-_, _%_, _≤_, _<_}
 use mathlib.Core.Path.{_≡_, refl, sym, ap, subst, _∙_}
 use mathlib.Core.List.{List}
-use lib.ListN.{getD}
 use lib.Dec.{leb, ltb}
 use borrow.Author.Tests.{le-leb, lt-leb, lt-ltb, le-ltb}
 use Rattle.calculus.specs.declared.Outcome.{Outcome}
@@ -88,11 +87,12 @@ module _ (C : Program) (a b : List ℕ) (r q : Regs) (f : ℕ) where
     none-left l S z =
         chosen-no _ _ _ (ap (λ (i : ℕ). ltb i (headroom + 2)) z ∙ le-ltb (r .left) (headroom + 2) h) ∙ chosen-no _ _ _ (le-ltb (nextBinding f) (endBinding f) (subst (λ (i : ℕ). endBinding f ≤ i) en (subst (λ (i : ℕ). i ≤ n) ee l)))
 
-    pub advice-done : (pc : ℕ) → e ≤ n → pc ≡ slotPc f → Phase (markLeft (getD (C .code) pc 0) f) a b r q → Phase (nextAdvice C f) a b r q
-    advice-done pc l ep p =
-        as-phase (markLeft (codeAt C (slotPc f)) f) (nextAdvice C f) a b r q (λ log. sym (none-left l (stateOf a log r) refl)) (subst (λ (i : ℕ). Phase (markLeft (getD (C .code) i 0) f) a b r q) ep p)
+    -- The mark pc has word w.
+    pub advice-done : (pc w : ℕ) → e ≤ n → pc ≡ slotPc f → w ≡ codeAt C pc → Phase (markLeft w f) a b r q → Phase (nextAdvice C f) a b r q
+    advice-done pc w l ep ew p =
+        as-phase (markLeft (codeAt C (slotPc f)) f) (nextAdvice C f) a b r q (λ log. sym (none-left l (stateOf a log r) refl)) (subst (λ (u : ℕ). Phase (markLeft u f) a b r q) (ew ∙ ap (codeAt C) ep) p)
 
     -- The room of the mark's body, if what is made has no more than there is.
-    pub room-of-mark : (pc : ℕ) (log : List ℕ) → e ≤ n → pc ≡ slotPc f → nextAdvice C f (stateOf a log r) .regs .room ≤ fullRoom → r .room + (depthOf (getD (C .code) pc 0) + 2) ≤ fullRoom
-    room-of-mark pc log l ep k =
-        subst (λ (i : ℕ). r .room + (depthOf (getD (C .code) i 0) + 2) ≤ fullRoom) (sym ep) (subst (λ (S : State). S .regs .room ≤ fullRoom) (none-left l (stateOf a log r) refl) k)
+    pub room-of-mark : (pc w : ℕ) (log : List ℕ) → e ≤ n → pc ≡ slotPc f → w ≡ codeAt C pc → nextAdvice C f (stateOf a log r) .regs .room ≤ fullRoom → r .room + (depthOf w + 2) ≤ fullRoom
+    room-of-mark pc w log l ep ew k =
+        subst (λ (u : ℕ). r .room + (depthOf u + 2) ≤ fullRoom) (sym (ew ∙ ap (codeAt C) ep)) (subst (λ (S : State). S .regs .room ≤ fullRoom) (none-left l (stateOf a log r) refl) k)

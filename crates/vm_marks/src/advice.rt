@@ -12,9 +12,7 @@ ghost use Rattle.vm_tables.specs.View.{memoryOf};
 ghost use Rattle.vm_states.specs.Phases.{stateOf, Phase};
 ghost use Rattle.vm_marks.specs.Parts.{nextBody, markLeft};
 use vm_machine::Regs;
-use vm_states::ends::TERMS;
 use vm_states::ends::completed;
-use vm_states::limits::BINDING_PLACES;
 use vm_states::outcomes;
 use vm_states::regs::HEADROOM;
 use vm_states::regs::halt;
@@ -27,8 +25,11 @@ use vm_tables::slots::next_binding;
 use vm_tables::slots::put_advice;
 use vm_tables::slots::slot_env;
 use vm_tables::slots::slot_pc;
+use vm_tables::words::BINDING_PLACES;
 use vm_words::code::HOME;
 use vm_words::code::depth_of;
+use vm_words::terms::TERMS;
+use vm_words::terms::instruction;
 
 // Where the body of the advice whose variable binding b is begins: that of an atom, which is unit, is done.
 fn body_at(work: &[u8], b: usize) -> usize
@@ -107,5 +108,5 @@ pub fn next_advice(code: &[u64], work: &mut [u8], r: Regs, f: u64) -> Regs
     if next_binding(f) < end_binding(f) {
         return next_body(work, r, f);
     }
-    mark_left(work, r, code[slot_pc(f)], f)
+    mark_left(work, r, instruction(code, slot_pc(f)), f)
 }

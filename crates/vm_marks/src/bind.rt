@@ -9,7 +9,7 @@ ghost use Rattle.vm_tables.specs.View.{memoryOf, Holds};
 ghost use Rattle.vm_marks.specs.Parts.{advised};
 ghost use Rattle.vm_marks.specs.Binds.{boundIn, Binds};
 use vm_pools::Pool;
-use vm_states::limits::BINDING_PLACES;
+use vm_states::pools::is_mainline;
 use vm_tables::bindings::bind;
 use vm_tables::labels::has_bit;
 use vm_tables::pieces::advice_dom;
@@ -18,9 +18,7 @@ use vm_tables::pieces::advice_target;
 use vm_tables::pieces::installed_at;
 use vm_tables::pieces::piece_first;
 use vm_tables::pieces::piece_second;
-
-// The mainline's domain.
-const MAINLINE: usize = 0;
+use vm_tables::words::BINDING_PLACES;
 
 // The binding at place n, with the value v, of the advice with word a. A binding past the table is not made.
 fn bind_advice(work: &mut [u8], n: usize, v: u64, a: u64)
@@ -42,7 +40,7 @@ fn bind_one(work: &mut [u8], l: u64, v: u64, i: usize, b: Pool) -> Pool
     if has_bit(piece_second(work, p), l) {
         let a = piece_first(work, p);
         bind_advice(work, b.whole(), v, a);
-        return b.charge(advice_dom(a) == MAINLINE, 1);
+        return b.charge(is_mainline(advice_dom(a)), 1);
     }
     b
 }

@@ -22,11 +22,9 @@ use vm_states::outcomes;
 use vm_states::regs::HEADROOM;
 use vm_states::regs::halt;
 use vm_states::regs::same;
+use vm_tables::labels::LABELS;
 use vm_tables::labels::has_bit;
 use vm_words::value::body;
-
-// Labels are numbers below this.
-const LABELS: u64 = 64;
 
 fn label_of(v: u64) -> u64
     ensures { λ l. ⌜ (l ≡ bodyOf v % 64) × (l < 64) ⌝ }

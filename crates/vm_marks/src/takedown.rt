@@ -7,6 +7,7 @@ ghost use Rattle.vm_machine.specs.Fits.{Fits};
 ghost use Rattle.vm_machine.specs.Reduce.{stayOne, stayOthers, reduceTakedown};
 ghost use Rattle.vm_states.specs.Phases.{Phase};
 ghost use Rattle.vm_marks.specs.Binds.{boundIn, Binds};
+use read_records::numbers::DomainNo;
 use vm_machine::Regs;
 use vm_states::ends::given;
 use vm_states::regs::same;
@@ -14,16 +15,16 @@ use vm_tables::pieces::advice_dom;
 use vm_tables::pieces::installed_at;
 use vm_tables::pieces::piece_first;
 use vm_tables::pieces::put_installed;
-use vm_words::code::field_b;
+use vm_words::code::takedown_domain;
 
 // Installed advice i stays, at place n, unless it is of the domain d; the next place is returned.
-fn stay_one(work: &mut [u8], d: usize, i: usize, n: usize) -> usize
+fn stay_one(work: &mut [u8], d: DomainNo, i: usize, n: usize) -> usize
     requires { ⌜ (memoryLength ≤ length (now work)) × (i < 64) × (n ≤ i) ⌝ }
-    ensures { λ m. ⌜ Binds (stayOne d i (boundIn (now (work .entry)) n)) (now (work .entry)) (now (work .exit)) m × (m ≤ n + 1) ⌝ }
+    ensures { λ m. ⌜ Binds (stayOne (d .0) i (boundIn (now (work .entry)) n)) (now (work .entry)) (now (work .exit)) m × (m ≤ n + 1) ⌝ }
 {
     let p = installed_at(work, i);
     let a = piece_first(work, p);
-    if advice_dom(a) == d {
+    if advice_dom(a).0 == d.0 {
         return n;
     }
     put_installed(work, n, p);
@@ -31,9 +32,9 @@ fn stay_one(work: &mut [u8], d: usize, i: usize, n: usize) -> usize
 }
 
 // Of n installed advices those stay that are not of the domain d; it is returned how many.
-fn stay_others(work: &mut [u8], n: usize, d: usize) -> usize
+fn stay_others(work: &mut [u8], n: usize, d: DomainNo) -> usize
     requires { ⌜ (memoryLength ≤ length (now work)) × (n ≤ 64) ⌝ }
-    ensures { λ m. ⌜ Binds (stayOthers n 0 d (boundIn (now (work .entry)) 0)) (now (work .entry)) (now (work .exit)) m ⌝ }
+    ensures { λ m. ⌜ Binds (stayOthers n 0 (d .0) (boundIn (now (work .entry)) 0)) (now (work .entry)) (now (work .exit)) m ⌝ }
 {
     let mut m: usize = 0;
     let mut i: usize = 0;
@@ -44,12 +45,12 @@ fn stay_others(work: &mut [u8], n: usize, d: usize) -> usize
     m
 }
 
-// The advice of the domain in field b is taken down.
+// The advice of its domain is taken down.
 pub fn reduce_takedown(work: &mut [u8], r: Regs, w: u64) -> Regs
     requires { ⌜ (memoryLength ≤ length (now work)) × (headroom < r .left) × ((size : ℕ) × Fits size r) ⌝ }
     ensures { λ q. ⌜ Phase (reduceTakedown w) (now (work .entry)) (now (work .exit)) r q ⌝ }
 {
-    let n = stay_others(work, r.installed, field_b(w));
+    let n = stay_others(work, r.installed, takedown_domain(w));
     let mut s = same(r);
     s.installed = n;
     given(work, s, w, 0)

@@ -28,21 +28,21 @@ chained-is B w w′ q b =
 same-chain : (w : List ℕ) (b : Chain) → Chains (chainIn w b) w w b
 same-chain w b = record { memory = record { memory = refl; rest = refl }; count = refl; env = refl }
 
+-- The entry x, which is e: v is what is left of the stack.
+module _ (x e : ℕ) (at : e ≡ x) where
+  pub entry-nothing : (v : ℕ) (a : List ℕ) (b : Chain) → e ≡ 0 → Chains (entryBound x v (chainIn a b)) a a b
+  entry-nothing v a b z = subst (λ (X : Chained). Chains X a a b) (sym (chosen-yes _ _ _ (eq-eqb x 0 (sym at ∙ z)))) (same-chain a b)
+
+  pub entry-value : (v y : ℕ) (a a′ : List ℕ) (b q : Chain) → (e ≡ 0 → ⊥) → y ≡ topEntry (memoryOf a) v → Chains (bindInside y (chainIn a b)) a a′ q → Chains (entryBound x v (chainIn a b)) a a′ q
+  entry-value v y a a′ b q n h m =
+      subst (λ (X : Chained). Chains X a a′ q) (ap (λ (z : ℕ). bindInside z (chainIn a b)) h ∙ sym (chosen-no _ _ _ (ne-eqb x 0 (λ z. n (at ∙ z))))) m
+
+  pub entry-room : (c : ℕ) → (e ≡ 0 → ⊥) → c + choose (eqb x 0) 0 1 ≤ 2048 → c < 2048
+  entry-room c n h =
+      let m : c + 1 ≤ 2048 = subst (λ (t : Bool). c + choose t 0 1 ≤ 2048) (ne-eqb x 0 (λ z. n (at ∙ z))) h in
+      omega arith
+
 module _ (C : Program) (w : ℕ) where
-  -- Entry i, which is e: v is what is left of the stack.
-  module _ (i e : ℕ) (at : e ≡ entryAt C w i) where
-    pub entry-nothing : (v : ℕ) (a : List ℕ) (b : Chain) → e ≡ 0 → Chains (entryBound C w i v (chainIn a b)) a a b
-    entry-nothing v a b z = subst (λ (X : Chained). Chains X a a b) (sym (chosen-yes _ _ _ (eq-eqb (entryAt C w i) 0 (sym at ∙ z)))) (same-chain a b)
-
-    pub entry-value : (v y : ℕ) (a a′ : List ℕ) (b q : Chain) → (e ≡ 0 → ⊥) → y ≡ topEntry (memoryOf a) v → Chains (bindInside y (chainIn a b)) a a′ q → Chains (entryBound C w i v (chainIn a b)) a a′ q
-    entry-value v y a a′ b q n h m =
-        subst (λ (X : Chained). Chains X a a′ q) (ap (λ (z : ℕ). bindInside z (chainIn a b)) h ∙ sym (chosen-no _ _ _ (ne-eqb (entryAt C w i) 0 (λ z. n (at ∙ z))))) m
-
-    pub entry-room : (c : ℕ) → (e ≡ 0 → ⊥) → c + choose (eqb (entryAt C w i) 0) 0 1 ≤ 2048 → c < 2048
-    entry-room c n h =
-        let m : c + 1 ≤ 2048 = subst (λ (x : Bool). c + choose x 0 1 ≤ 2048) (ne-eqb (entryAt C w i) 0 (λ z. n (at ∙ z))) h in
-        omega arith
-
   -- The rest: whether the close binds it is t.
   module _ (t : Bool) (is : t ≡ bindsRest C w) where
     pub rest-bound : (v : ℕ) (a a′ : List ℕ) (b q : Chain) → t ≡ true → Chains (bindInside v (chainIn a b)) a a′ q → Chains (restBound C w v (chainIn a b)) a a′ q
@@ -69,18 +69,21 @@ module _ (C : Program) (w : ℕ) where
         ap (λ (x : ℕ). bindEntries C w x 0 v B) k
 
     module _ (i : ℕ) where
-      -- One more; u is the rest behind it.
-      pub bound-on : (v u : ℕ) (a a′ : List ℕ) (b q : Chain) → i < n → u ≡ restOf (memoryOf a) v → Chains (entryBound C w i v (chainIn a b)) a a′ q
+      -- One more, the entry e; u is the rest behind it.
+      entry-is : (e v : ℕ) (a a′ : List ℕ) (b q : Chain) → e ≡ entryAt C w i → Chains (entryBound e v (chainIn a b)) a a′ q → Chains (entryBound (entryAt C w i) v (chainIn a b)) a a′ q
+      entry-is e v a a′ b q at m = subst (λ (x : ℕ). Chains (entryBound x v (chainIn a b)) a a′ q) at m
+
+      pub bound-on : (e v u : ℕ) (a a′ : List ℕ) (b q : Chain) → e ≡ entryAt C w i → i < n → u ≡ restOf (memoryOf a) v → Chains (entryBound e v (chainIn a b)) a a′ q
           → bindEntries C w (n - i) i v (chainIn a b) ≡ bindEntries C w (n - (i + 1)) (i + 1) u (chainIn a′ q)
       unfolding bindEntries
-      bound-on v u a a′ b q h e m =
+      bound-on e v u a a′ b q at h f m =
           let k : n - i ≡ suc (n - (i + 1)) = omega arith in
           let j : suc i ≡ i + 1 = omega arith in
-          let B : Chained = entryBound C w i v (chainIn a b) in
+          let B : Chained = entryBound (entryAt C w i) v (chainIn a b) in
           ap (λ (x : ℕ). bindEntries C w x i v (chainIn a b)) k
           ∙ ap (λ (x : ℕ). bindEntries C w (n - (i + 1)) x (restOf (memoryOf a) v) B) j
-          ∙ ap (λ (x : ℕ). bindEntries C w (n - (i + 1)) (i + 1) x B) (sym e)
-          ∙ ap (bindEntries C w (n - (i + 1)) (i + 1) u) (chained-is B a a′ q m)
+          ∙ ap (λ (x : ℕ). bindEntries C w (n - (i + 1)) (i + 1) x B) (sym f)
+          ∙ ap (bindEntries C w (n - (i + 1)) (i + 1) u) (chained-is B a a′ q (entry-is e v a a′ b q at m))
 
       -- All are: the rest is left.
       pub bound-done : (B : Chained) (v : ℕ) (a₀ a a′ : List ℕ) (b q : Chain) → n ≤ i → B ≡ bindEntries C w (n - i) i v (chainIn a b) → drop memoryLength a ≡ drop memoryLength a₀ → Chains (restBound C w v (chainIn a b)) a a′ q → Chains B a₀ a′ q
@@ -99,12 +102,12 @@ module _ (C : Program) (w : ℕ) where
             let j : suc i ≡ i + 1 = omega arith in
             subst (λ (x : ℕ). c + (choose (eqb (entryAt C w i) 0) 0 1 + variables C w (n - (i + 1)) x) ≤ 2048) j (subst (λ (x : ℕ). c + variables C w x i ≤ 2048) k room)
 
-        pub room-here : i < n → c + choose (eqb (entryAt C w i) 0) 0 1 ≤ 2048
-        room-here h = omega (arith, both-rooms h)
+        pub room-here : (e : ℕ) → e ≡ entryAt C w i → i < n → c + choose (eqb e 0) 0 1 ≤ 2048
+        room-here e at h = let k : c + choose (eqb (entryAt C w i) 0) 0 1 ≤ 2048 = omega (arith, both-rooms h) in subst (λ (x : ℕ). c + choose (eqb x 0) 0 1 ≤ 2048) (sym at) k
 
-        pub room-on : (v : ℕ) (a a′ : List ℕ) (b q : Chain) → i < n → b .count ≡ c → Chains (entryBound C w i v (chainIn a b)) a a′ q → q .count + variables C w (n - (i + 1)) (i + 1) ≤ 2048
-        room-on v a a′ b q h e m =
-            let x : q .count ≡ b .count + choose (eqb (entryAt C w i) 0) 0 1 = m .count ∙ counted (eqb (entryAt C w i) 0) in
+        pub room-on : (e v : ℕ) (a a′ : List ℕ) (b q : Chain) → e ≡ entryAt C w i → i < n → b .count ≡ c → Chains (entryBound e v (chainIn a b)) a a′ q → q .count + variables C w (n - (i + 1)) (i + 1) ≤ 2048
+        room-on e v a a′ b q at h f m =
+            let x : q .count ≡ b .count + choose (eqb (entryAt C w i) 0) 0 1 = entry-is e v a a′ b q at m .count ∙ counted (eqb (entryAt C w i) 0) in
             omega (arith, both-rooms h)
           where
             counted : (z : Bool) → choose z (chainIn a b) (bindInside (topEntry (memoryOf a) v) (chainIn a b)) .count ≡ b .count + choose z 0 1

@@ -39,10 +39,6 @@ use Rattle.vm_matches.specs.declared.Chain.{Chain}
 use Rattle.vm_matches.specs.Parts.{lookedOf, LookedAgain, Chains, firstBranch, otherBranch}
 use Rattle.vm_matches.specs.Operands.{Matchable, RoomOf}
 
--- Where a branch is begun: n is the number at its offset.
-pub branch-as : (C : Program) (o n g : ℕ) → n ≡ le16 (C .image) o → g ≡ begunAt C (n % termCount) → g ≡ begunAt C (le16 (C .image) o % termCount)
-branch-as C o n g e d = d ∙ ap (λ (x : ℕ). begunAt C (x % termCount)) e
-
 -- The first branch of a match with word w and the stack v: m variables are bound, which the half h has room for or not (card 9).
 module _ (C : Program) (a b c : List ℕ) (r q : Regs) (w v m : ℕ) (count : m ≡ variables C w (countOf w) 0) (h t : Bool) (is : h ≡ halfOf w) (test : t ≡ hasRoom bindingLimit h m (r .pools .bindings)) where
   -- The bindings, from place n on.
@@ -111,16 +107,12 @@ module _ (C : Program) (a b : List ℕ) (r q : Regs) (x v byte d : ℕ) (depth :
       (ap (λ (p : Regs). setPc e (setRoom m p)) same ∙ ap (λ (p : ℕ). setPc e (setRoom p r)) n ∙ ap (λ (p : ℕ). setPc p (setRoom (r .room - D) r)) entry) (listed-around a b (r .room) D m (r .pc) (r .env) (v / 268435456) byte n (omega arith) held)
 
 -- The entries of match t with the stack v, from where it was left: those that can be looked at are, k.
-module _ (C : Program) (a b : List ℕ) (r q : Regs) (t v : ℕ) (from k : Looked) (looked : k ≡ lookOn C (memoryOf a) (r .env) (codeAt C t) (countOf (codeAt C t) - from .next) from) (n : ℕ)
-    (count : n ≡ countOf (codeAt C t)) where
-  abbrev w : ℕ
-  w = codeAt C t
+module _ (C : Program) (a b : List ℕ) (r q : Regs) (t v w : ℕ) (word : w ≡ codeAt C t) (from k : Looked) (looked : k ≡ lookOn C (memoryOf a) (r .env) w (countOf w - from .next) from) (n : ℕ) (count : n ≡ countOf w) where
+  abbrev by : ℕ → Looked → State → State
+  by u j S = choose (leb (countOf u) (j .next)) (judged u S (reduceMatch C u v j S)) (beginOperand C t (cutTerm (entryAt C u (j .next))) v (lookedByte j) S)
 
-  abbrev by : Looked → State → State
-  by j S = choose (leb (countOf w) (j .next)) (judged w S (reduceMatch C w v j S)) (beginOperand C t (cutTerm (entryAt C w (j .next))) v (lookedByte j) S)
-
-  known : (log : List ℕ) → by k (stateOf a log r) ≡ entriesFrom C t v from (stateOf a log r)
-  known log = ap (λ (j : Looked). by j (stateOf a log r)) looked
+  known : (log : List ℕ) → by w k (stateOf a log r) ≡ entriesFrom C t v from (stateOf a log r)
+  known log = ap (λ (j : Looked). by w j (stateOf a log r)) looked ∙ ap (λ (u : ℕ). by u (lookOn C (memoryOf a) (r .env) u (countOf u - from .next) from) (stateOf a log r)) word
 
   pub entries-done : (u : ℕ) → u ≡ v → n ≤ k .next → Phase (λ S. judged w S (reduceMatch C w u k S)) a b r q → Phase (entriesFrom C t v from) a b r q
   entries-done u e h p =
@@ -134,27 +126,27 @@ module _ (C : Program) (a b : List ℕ) (r q : Regs) (t v : ℕ) (from k : Looke
       as-phase (beginOperand C t (cutTerm (entryAt C w (k .next))) v (lookedByte k)) (entriesFrom C t v from) a b r q (λ log. sym (chosen-no _ _ _ (lt-leb (countOf w) (k .next) (omega arith))) ∙ known log)
       (subst (λ (z : ℕ). Phase (beginOperand C t (cutTerm (entryAt C w (k .next))) v z) a b r q) l Q)
 
--- A match begins: x is its stack's term, and c the class of that one's word.
-module _ (C : Program) (a b : List ℕ) (r q : Regs) (o n c : ℕ) (offset : o ≡ offsetOf (codeAt C (r .pc))) (number : n ≡ le16 (C .image) o) (class : c ≡ classOf (codeAt C (n % termCount))) where
+-- A match with word w begins: x is its stack's term, and c the class of that one's word.
+module _ (C : Program) (a b : List ℕ) (r q : Regs) (w x c : ℕ) (word : w ≡ codeAt C (r .pc)) (stack : x ≡ le16 (C .image) (offsetOf w + 0) % termCount) (class : c ≡ classOf (codeAt C x)) where
   abbrev term : ℕ
   term = le16 (C .image) (offsetOf (codeAt C (r .pc))) % termCount
 
-  is-term : n % termCount ≡ term
-  is-term = ap (_% termCount) (number ∙ ap (le16 (C .image)) offset)
+  is-term : x ≡ term
+  is-term = let z : offsetOf w + 0 ≡ offsetOf w = omega arith in stack ∙ ap (λ (o : ℕ). le16 (C .image) o % termCount) (z ∙ ap offsetOf word)
 
-  pub match-atom : (v : ℕ) (k : Progress) → c < firstInstruction → v ≡ atomValue C (memoryOf a) (r .env) (codeAt C (n % termCount)) → lookedOf k ≡ unlooked v → k .stack ≡ v → Phase (entriesFrom C (r .pc) (k .stack) (lookedOf k)) a b r q → Phase (beginMatch C) a b r q
+  pub match-atom : (v : ℕ) (k : Progress) → c < firstInstruction → v ≡ atomValue C (memoryOf a) (r .env) (codeAt C x) → lookedOf k ≡ unlooked v → k .stack ≡ v → Phase (entriesFrom C (r .pc) (k .stack) (lookedOf k)) a b r q → Phase (beginMatch C) a b r q
   unfolding beginMatch
   match-atom v k h e d s p =
       let u : v ≡ atomValue C (memoryOf a) (r .env) (codeAt C term) = e ∙ ap (λ (z : ℕ). atomValue C (memoryOf a) (r .env) (codeAt C z)) is-term in
-      let z : isAtom (codeAt C term) ≡ true = ap (λ (y : ℕ). isAtom (codeAt C y)) (sym is-term) ∙ lt-ltb (classOf (codeAt C (n % termCount))) firstInstruction (subst (_< firstInstruction) class h) in
+      let z : isAtom (codeAt C term) ≡ true = ap (λ (y : ℕ). isAtom (codeAt C y)) (sym is-term) ∙ lt-ltb (classOf (codeAt C x)) firstInstruction (subst (_< firstInstruction) class h) in
       let P : Phase (entriesFrom C (r .pc) v (unlooked v)) a b r q = subst (λ (y : ℕ). Phase (entriesFrom C (r .pc) y (unlooked v)) a b r q) s (subst (λ (y : Looked). Phase (entriesFrom C (r .pc) (k .stack) y) a b r q) d p) in
       as-phase (entriesFrom C (r .pc) v (unlooked v)) (beginMatch C) a b r q (λ log. ap (λ (y : ℕ). entriesFrom C (r .pc) y (unlooked y) (stateOf a log r)) u ∙ sym (chosen-yes _ _ _ z)) P
 
-  pub match-operand : firstInstruction ≤ c → Phase (beginOperand C (r .pc) (n % termCount) unitValue stackToCome) a b r q → Phase (beginMatch C) a b r q
+  pub match-operand : firstInstruction ≤ c → Phase (beginOperand C (r .pc) x unitValue stackToCome) a b r q → Phase (beginMatch C) a b r q
   unfolding beginMatch
   match-operand h p =
-      let z : isAtom (codeAt C term) ≡ false = ap (λ (y : ℕ). isAtom (codeAt C y)) (sym is-term) ∙ le-ltb (classOf (codeAt C (n % termCount))) firstInstruction (subst (firstInstruction ≤_) class h) in
-      as-phase (beginOperand C (r .pc) (n % termCount) unitValue stackToCome) (beginMatch C) a b r q (λ log. ap (λ (y : ℕ). beginOperand C (r .pc) y unitValue stackToCome (stateOf a log r)) is-term ∙ sym (chosen-no _ _ _ z)) p
+      let z : isAtom (codeAt C term) ≡ false = ap (λ (y : ℕ). isAtom (codeAt C y)) (sym is-term) ∙ le-ltb (classOf (codeAt C x)) firstInstruction (subst (firstInstruction ≤_) class h) in
+      as-phase (beginOperand C (r .pc) x unitValue stackToCome) (beginMatch C) a b r q (λ log. ap (λ (y : ℕ). beginOperand C (r .pc) y unitValue stackToCome (stateOf a log r)) is-term ∙ sym (chosen-no _ _ _ z)) p
 
 -- A match that is resumed: its registers.
 pub still-matchable : (code work : List ℕ) (r s : Regs) (f t env d : ℕ) → Matchable code work r → r .room < fullRoom → t ≡ slotPc f → s ≡ r → d ≡ depthOf (getD code t 0)

@@ -1,12 +1,14 @@
 -- Parts of the definitions of matches (crate vm_machine, specs/Stacks.antt and specs/Turn.antt).
-use Prim.Native.Nat.{ℕ, _%_}
+use Prim.Native.Nat.{ℕ, _+_, _*_, _%_}
 use mathlib.Core.Path.{_≡_}
 use mathlib.Core.Bool.{Bool, not, _&&_}
 use mathlib.Core.List.{List}
+use lib.ListN.{take, drop}
 use lib.Dec.{eqb, leb}
 use Rattle.calculus.specs.Combinators.{choose}
 use Rattle.image.specs.Bytes.{le16}
-use Rattle.vm_code.specs.Words.{countOf, branchPlace, otherPlace, termCount}
+use Rattle.read_records.specs.Heads.{fieldIn}
+use Rattle.vm_code.specs.Words.{offsetOf, countOf, branchPlace, otherPlace, termCount}
 use Rattle.vm_code.specs.Classes.{isAtom}
 use Rattle.vm_machine.specs.declared.Regs.{Regs}
 use Rattle.vm_machine.specs.Registers.{setPools, stepped}
@@ -21,6 +23,13 @@ use Rattle.vm_machine.specs.Turn.{begunAt}
 use Rattle.vm_tables.specs.View.{memoryOf, Holds}
 use Rattle.vm_matches.specs.declared.Progress.{Progress}
 use Rattle.vm_matches.specs.declared.Chain.{Chain}
+
+-- The fields of a match with word w from its stack on, in the image b: the part that the word names; and its entry i among them.
+abbrev pub matchFields : List ℕ → ℕ → List ℕ
+matchFields b w = take (2 * (3 + countOf w + 1)) (drop (offsetOf w) b)
+
+abbrev pub entryIn : List ℕ → ℕ → ℕ
+entryIn fs i = fieldIn fs (3 + i)
 
 -- A match under way, as the machine has it.
 abbrev pub lookedOf : Progress → Looked
@@ -52,9 +61,9 @@ pub record Chains (B : Chained) (w w′ : List ℕ) (q : Chain) : Type 0 where
   pub count : q .count ≡ B .count
   pub env : q .env ≡ B .env
 
--- The binding of entry i and that of the rest, v being what is left of the stack.
-abbrev pub entryBound : Program → ℕ → ℕ → ℕ → Chained → Chained
-entryBound C w i v B = choose (eqb (entryAt C w i) 0) B (bindInside (topEntry (B .memory) v) B)
+-- The binding of the entry e and that of the rest, v being what is left of the stack.
+abbrev pub entryBound : ℕ → ℕ → Chained → Chained
+entryBound e v B = choose (eqb e 0) B (bindInside (topEntry (B .memory) v) B)
 
 abbrev pub restBound : Program → ℕ → ℕ → Chained → Chained
 restBound C w v B = choose (bindsRest C w) (bindInside v B) B

@@ -1,13 +1,14 @@
 // "Values bind in the first branch, left to right, rest last."
-ghost use mathlib.Core.List.{List};
-ghost use Prim.Native.Nat.{ℕ, _+_, _≤_, _<_};
+ghost use mathlib.Core.Path.{_≡_};
+ghost use Prim.Native.Nat.{_+_, _≤_, _<_};
 ghost use lib.ListN.{length};
 ghost use lib.Dec.{eqb};
 ghost use Rattle.calculus.specs.Combinators.{choose};
 ghost use Rattle.base_bytes.specs.Memory.{memoryLength};
 ghost use Rattle.vm_code.specs.Words.{countOf};
-ghost use Rattle.vm_machine.specs.Stacks.{entryAt, bindsRest, variables, bindInside, bindEntries};
-ghost use Rattle.vm_matches.specs.Parts.{chainIn, Chains, entryBound, restBound};
+ghost use Rattle.vm_machine.specs.Fetch.{Program};
+ghost use Rattle.vm_machine.specs.Stacks.{bindsRest, variables, bindInside, bindEntries};
+ghost use Rattle.vm_matches.specs.Parts.{matchFields, entryIn, chainIn, Chains, entryBound, restBound};
 use crate::Chain;
 use crate::entries::binds_rest;
 use crate::entries::entry_at;
@@ -29,12 +30,12 @@ fn bind_inside(work: &mut [u8], v: u64, b: Chain) -> Chain
     }
 }
 
-// The value of entry i of a match with word w: v is what is left of the stack. An entry for anything binds nothing.
-fn bind_entry(image: &[u8], work: &mut [u8], w: u64, i: usize, v: u64, b: Chain) -> Chain
-    requires { ⌜ (memoryLength ≤ length (now work)) × (i < 16) × (b .env < 2048) × ((code : List ℕ) → b .count + choose (eqb (entryAt (record { code = code; image = now image }) w i) 0) 0 1 ≤ 2048) ⌝ }
-    ensures { λ q. ⌜ ((code : List ℕ) → Chains (entryBound (record { code = code; image = now (image .entry) }) w i v (chainIn (now (work .entry)) b)) (now (work .entry)) (now (work .exit)) q) × (q .env < 2048) ⌝ }
+// The value of entry i: v is what is left of the stack. An entry for anything binds nothing.
+fn bind_entry(fields: &[u8], work: &mut [u8], i: usize, v: u64, b: Chain) -> Chain
+    requires { ⌜ (memoryLength ≤ length (now work)) × (i < 16) × (b .env < 2048) × (b .count + choose (eqb (entryIn (now fields) i) 0) 0 1 ≤ 2048) ⌝ }
+    ensures { λ q. ⌜ Chains (entryBound (entryIn (now (fields .entry)) i) v (chainIn (now (work .entry)) b)) (now (work .entry)) (now (work .exit)) q × (q .env < 2048) ⌝ }
 {
-    if entry_at(image, w, i) == 0 {
+    if entry_at(fields, i) == 0 {
         return b;
     }
     let y = top_entry(work, v);
@@ -42,20 +43,20 @@ fn bind_entry(image: &[u8], work: &mut [u8], w: u64, i: usize, v: u64, b: Chain)
 }
 
 // The rest, where the close binds it.
-fn bind_rest(image: &[u8], work: &mut [u8], w: u64, v: u64, b: Chain) -> Chain
-    requires { ⌜ (memoryLength ≤ length (now work)) × (b .env < 2048) × ((code : List ℕ) → b .count + choose (bindsRest (record { code = code; image = now image }) w) 1 0 ≤ 2048) ⌝ }
-    ensures { λ q. ⌜ ((code : List ℕ) → Chains (restBound (record { code = code; image = now (image .entry) }) w v (chainIn (now (work .entry)) b)) (now (work .entry)) (now (work .exit)) q) × (q .env < 2048) ⌝ }
+fn bind_rest(fields: &[u8], work: &mut [u8], w: u64, v: u64, b: Chain) -> Chain
+    requires { ⌜ (memoryLength ≤ length (now work)) × (b .env < 2048) × ((C : Program) × (now fields ≡ matchFields (C .image) w) × (b .count + choose (bindsRest C w) 1 0 ≤ 2048)) ⌝ }
+    ensures { λ q. ⌜ ((C : Program) → now (fields .entry) ≡ matchFields (C .image) w → Chains (restBound C w v (chainIn (now (work .entry)) b)) (now (work .entry)) (now (work .exit)) q) × (q .env < 2048) ⌝ }
 {
-    if binds_rest(image, w) {
+    if binds_rest(fields, w) {
         return bind_inside(work, v, b);
     }
     b
 }
 
 // The values of all entries of the stack v, and the rest.
-pub fn bind_entries(image: &[u8], work: &mut [u8], w: u64, v: u64, from: Chain) -> Chain
-    requires { ⌜ (memoryLength ≤ length (now work)) × (from .env < 2048) × ((code : List ℕ) → from .count + variables (record { code = code; image = now image }) w (countOf w) 0 ≤ 2048) ⌝ }
-    ensures { λ q. ⌜ ((code : List ℕ) → Chains (bindEntries (record { code = code; image = now (image .entry) }) w (countOf w) 0 v (chainIn (now (work .entry)) from)) (now (work .entry)) (now (work .exit)) q) × (q .env < 2048) ⌝ }
+pub fn bind_entries(fields: &[u8], work: &mut [u8], w: u64, v: u64, from: Chain) -> Chain
+    requires { ⌜ (memoryLength ≤ length (now work)) × (from .env < 2048) × ((C : Program) × (now fields ≡ matchFields (C .image) w) × (from .count + variables C w (countOf w) 0 ≤ 2048)) ⌝ }
+    ensures { λ q. ⌜ ((C : Program) → now (fields .entry) ≡ matchFields (C .image) w → Chains (bindEntries C w (countOf w) 0 v (chainIn (now (work .entry)) from)) (now (work .entry)) (now (work .exit)) q) × (q .env < 2048) ⌝ }
 {
     let n = count_of(w);
     let mut rest = v;
@@ -63,9 +64,9 @@ pub fn bind_entries(image: &[u8], work: &mut [u8], w: u64, v: u64, from: Chain) 
     let mut i: usize = 0;
     while i < n {
         let behind = rest_of(work, rest);
-        b = bind_entry(image, work, w, i, rest, b);
+        b = bind_entry(fields, work, i, rest, b);
         rest = behind;
         i += 1;
     }
-    bind_rest(image, work, w, rest, b)
+    bind_rest(fields, work, w, rest, b)
 }

@@ -1,19 +1,19 @@
 // A match looks at its entries one by one, as their pointcuts become known.
 ghost use mathlib.Core.Path.{_≡_};
-ghost use mathlib.Core.Bool.{_&&_};
+ghost use mathlib.Core.List.{List};
 ghost use Prim.Native.Nat.{ℕ, _+_, _-_, _≤_, _<_};
 ghost use lib.ListN.{length};
 ghost use Rattle.base_bytes.specs.Memory.{memoryLength};
 ghost use Rattle.vm_code.specs.Words.{termCount, countOf};
 ghost use Rattle.vm_machine.specs.Stacks.{unlooked, pastAny, pastCut, lookOn, restAfter, lookedByte, lookedWith};
 ghost use Rattle.vm_tables.specs.View.{memoryOf};
-ghost use Rattle.vm_matches.specs.Parts.{lookedOf, topFits, pastEntry, LookedAgain};
+ghost use Rattle.vm_matches.specs.Parts.{matchFields, lookedOf, topFits, pastEntry, LookedAgain};
 use crate::Progress;
 use crate::entries::cut_term;
 use crate::entries::entry_at;
 use crate::entries::stops_at;
 use laws::both;
-use vm_states::ends::atom_value;
+use vm_states::ends::atom_at;
 use vm_tables::kept::entry_label;
 use vm_tables::kept::is_kept;
 use vm_tables::kept::rest_of;
@@ -78,38 +78,37 @@ fn past_cut(work: &[u8], v: u64, k: Progress) -> Progress
 }
 
 // Past the next entry, which is for anything or an atom.
-fn past_entry(code: &[u64], image: &[u8], work: &[u8], env: usize, w: u64, k: Progress) -> Progress
+fn past_entry(code: &[u64], fields: &[u8], work: &[u8], env: usize, k: Progress) -> Progress
     requires { ⌜ (termCount ≤ length (now code)) × (memoryLength ≤ length (now work)) × (env < 2048) × (k .next < 16) ⌝ }
-    ensures { λ q. ⌜ (lookedOf q ≡ pastEntry (record { code = now (code .entry); image = now (image .entry) }) (memoryOf (now (work .entry))) env w (lookedOf k)) × (q .stack ≡ k .stack) × (q .next ≡ k .next + 1) ⌝ }
+    ensures { λ q. ⌜ ((image : List ℕ) (w : ℕ) → k .next < countOf w → now (fields .entry) ≡ matchFields image w → lookedOf q ≡ pastEntry (record { code = now (code .entry); image = image }) (memoryOf (now (work .entry))) env w (lookedOf k)) × (q .stack ≡ k .stack) × (q .next ≡ k .next + 1) ⌝ }
 {
-    let e = entry_at(image, w, k.next);
+    let e = entry_at(fields, k.next);
     if e == 0 {
         return past_any(work, k);
     }
-    let t = cut_term(e);
-    let v = atom_value(work, env, code[t]);
+    let v = atom_at(code, work, env, cut_term(e));
     past_cut(work, v, k)
 }
 
 // Past all entries, unless one is a pointcut that is no atom: it stops there.
 pub fn look_on(
     code: &[u64],
-    image: &[u8],
+    fields: &[u8],
     work: &[u8],
     env: usize,
     w: u64,
     from: Progress,
 ) -> Progress
     requires { ⌜ (termCount ≤ length (now code)) × (memoryLength ≤ length (now work)) × (env < 2048) ⌝ }
-    ensures { λ q. ⌜ (lookedOf q ≡ lookOn (record { code = now (code .entry); image = now (image .entry) }) (memoryOf (now (work .entry))) env w (countOf w - from .next) (lookedOf from)) × (q .stack ≡ from .stack) ⌝ }
+    ensures { λ q. ⌜ ((image : List ℕ) → now (fields .entry) ≡ matchFields image w → lookedOf q ≡ lookOn (record { code = now (code .entry); image = image }) (memoryOf (now (work .entry))) env w (countOf w - from .next) (lookedOf from)) × (q .stack ≡ from .stack) ⌝ }
 {
     let n = count_of(w);
     let mut k = from;
     while k.next < n {
-        if stops_at(code, image, w, k.next) {
+        if stops_at(code, fields, k.next) {
             return k;
         }
-        k = past_entry(code, image, work, env, w, k);
+        k = past_entry(code, fields, work, env, k);
     }
     k
 }
@@ -142,7 +141,7 @@ fn looked_with(work: &[u8], v: u64, byte: u64) -> Progress
     requires { ⌜ memoryLength ≤ length (now work) ⌝ }
     ensures { λ k. ⌜ (lookedOf k ≡ lookedWith (memoryOf (now (work .entry))) v byte) × (k .stack ≡ v) × (k .next < 16) ⌝ }
 {
-    let n = (byte % 16) as usize;
+    let n = (byte % ALL_FIT) as usize;
     Progress {
         stack: v,
         next: n,

@@ -1,24 +1,25 @@
 // A match all of whose operands are worked out: one step, and in the first branch one binding a variable.
 ghost use mathlib.Core.Path.{_≡_};
-ghost use Prim.Native.Nat.{ℕ, _%_, _≤_, _<_};
+ghost use mathlib.Core.List.{List};
+ghost use Prim.Native.Nat.{ℕ, _+_, _*_, _%_, _≤_, _<_};
 ghost use lib.ListN.{length};
-ghost use Rattle.base_bytes.specs.Memory.{memoryLength};
 ghost use Rattle.image.specs.Bytes.{le16};
-ghost use Rattle.vm_code.specs.Words.{depthOf, termCount, home};
+ghost use Rattle.vm_code.specs.Words.{depthOf, termCount, offsetOf};
 ghost use Rattle.vm_machine.specs.States.{judged};
 ghost use Rattle.vm_machine.specs.Turn.{begunAt, reduceMatch};
 ghost use Rattle.vm_states.specs.Phases.{Phase};
-ghost use Rattle.vm_matches.specs.Parts.{lookedOf, firstBranch, otherBranch};
-ghost use Rattle.vm_matches.specs.Operands.{Matchable};
+ghost use Rattle.vm_matches.specs.Parts.{matchFields, lookedOf, firstBranch, otherBranch};
+ghost use Rattle.vm_matches.specs.Operands.{Matchable, OfMatch};
 use crate::Chain;
 use crate::Progress;
 use crate::bindings::bind_entries;
+use crate::entries::FIRST_BRANCH;
+use crate::entries::OTHER_BRANCH;
 use crate::entries::matches;
 use crate::entries::variables;
-use vm_labels::children::number_at;
+use vm_labels::children::term_at;
 use vm_labels::entry::begun_at;
 use vm_machine::Regs;
-use vm_states::ends::TERMS;
 use vm_states::ends::called;
 use vm_states::limits::BINDINGS;
 use vm_states::outcomes;
@@ -27,28 +28,25 @@ use vm_states::pools::half_of;
 use vm_states::pools::has_room;
 use vm_states::regs::HEADROOM;
 use vm_states::regs::halt;
-use vm_words::code::branch_place;
 use vm_words::code::depth_of;
-use vm_words::code::other_place;
 
-// Where the branch is begun whose number stands at an offset of the image.
-fn branch_at(code: &[u64], image: &[u8], at: usize) -> usize
-    requires { ⌜ (termCount ≤ length (now code)) × (at < 65536) ⌝ }
-    ensures { λ g. ⌜ g ≡ begunAt (record { code = now (code .entry); image = now (image .entry) }) (le16 (now (image .entry)) at % termCount) ⌝ }
+// Where the branch is begun that field i names.
+fn branch_at(code: &[u64], fields: &[u8], i: usize) -> usize
+    requires { ⌜ (termCount ≤ length (now code)) × (i < 3) ⌝ }
+    ensures { λ g. ⌜ ((image : List ℕ) (w : ℕ) → now (fields .entry) ≡ matchFields image w → g ≡ begunAt (record { code = now (code .entry); image = image }) (le16 image (offsetOf w + 2 * i) % termCount)) ⌝ }
 {
-    let n = number_at(image, at);
-    begun_at(code, n % TERMS)
+    begun_at(code, term_at(fields, i))
 }
 
 // The stack v matches: the room of the bindings is looked at before the budget (card 5).
-fn first_branch(code: &[u64], image: &[u8], work: &mut [u8], r: Regs, w: u64, v: u64) -> Regs
-    requires { ⌜ Matchable (now code) (now work) r × (depthOf w ≤ r .room) ⌝ }
-    ensures { λ q. ⌜ Phase (firstBranch (record { code = now (code .entry); image = now (image .entry) }) w v) (now (work .entry)) (now (work .exit)) r q ⌝ }
+fn first_branch(code: &[u64], fields: &[u8], work: &mut [u8], r: Regs, w: u64, v: u64) -> Regs
+    requires { ⌜ Matchable (now code) (now work) r × (depthOf w ≤ r .room) × OfMatch (now fields) w ⌝ }
+    ensures { λ q. ⌜ ((image : List ℕ) → now (fields .entry) ≡ matchFields image w → Phase (firstBranch (record { code = now (code .entry); image = image }) w v) (now (work .entry)) (now (work .exit)) r q) ⌝ }
 {
     let h = half_of(w);
     let p = r.pools;
     let x = p.bindings;
-    let m = variables(image, w);
+    let m = variables(fields, w);
     if !has_room(x, h, m, BINDINGS) {
         return halt(r, bindings_out(h));
     }
@@ -59,8 +57,8 @@ fn first_branch(code: &[u64], image: &[u8], work: &mut [u8], r: Regs, w: u64, v:
         count: x.whole(),
         env: r.env,
     };
-    let b = bind_entries(image, work, w, v, from);
-    let g = branch_at(code, image, branch_place(w));
+    let b = bind_entries(fields, work, w, v, from);
+    let g = branch_at(code, fields, FIRST_BRANCH);
     let mut q = called(code, work, r, w, g, b.env);
     q.left = r.left - 1;
     q.pools = p.charge_bindings(h, m);
@@ -68,35 +66,42 @@ fn first_branch(code: &[u64], image: &[u8], work: &mut [u8], r: Regs, w: u64, v:
 }
 
 // It does not.
-fn other_branch(code: &[u64], image: &[u8], work: &mut [u8], r: Regs, w: u64) -> Regs
-    requires { ⌜ Matchable (now code) (now work) r × (depthOf w ≤ r .room) ⌝ }
-    ensures { λ q. ⌜ Phase (otherBranch (record { code = now (code .entry); image = now (image .entry) }) w) (now (work .entry)) (now (work .exit)) r q ⌝ }
+fn other_branch(code: &[u64], fields: &[u8], work: &mut [u8], r: Regs, w: u64) -> Regs
+    requires { ⌜ Matchable (now code) (now work) r × (depthOf w ≤ r .room) × OfMatch (now fields) w ⌝ }
+    ensures { λ q. ⌜ ((image : List ℕ) → now (fields .entry) ≡ matchFields image w → Phase (otherBranch (record { code = now (code .entry); image = image }) w) (now (work .entry)) (now (work .exit)) r q) ⌝ }
 {
     if r.left <= HEADROOM {
         return halt(r, outcomes::SPENT);
     }
-    let g = branch_at(code, image, other_place(w));
+    let g = branch_at(code, fields, OTHER_BRANCH);
     let mut q = called(code, work, r, w, g, r.env);
     q.left = r.left - 1;
     q
 }
 
-fn reduce_match(code: &[u64], image: &[u8], work: &mut [u8], r: Regs, w: u64, k: Progress) -> Regs
-    requires { ⌜ Matchable (now code) (now work) r × (depthOf w ≤ r .room) ⌝ }
-    ensures { λ q. ⌜ Phase (reduceMatch (record { code = now (code .entry); image = now (image .entry) }) w (k .stack) (lookedOf k)) (now (work .entry)) (now (work .exit)) r q ⌝ }
+fn reduce_match(code: &[u64], fields: &[u8], work: &mut [u8], r: Regs, w: u64, k: Progress) -> Regs
+    requires { ⌜ Matchable (now code) (now work) r × (depthOf w ≤ r .room) × OfMatch (now fields) w ⌝ }
+    ensures { λ q. ⌜ ((image : List ℕ) → now (fields .entry) ≡ matchFields image w → Phase (reduceMatch (record { code = now (code .entry); image = image }) w (k .stack) (lookedOf k)) (now (work .entry)) (now (work .exit)) r q) ⌝ }
 {
-    if matches(image, w, k) {
-        return first_branch(code, image, work, r, w, k.stack);
+    if matches(fields, w, k) {
+        return first_branch(code, fields, work, r, w, k.stack);
     }
-    other_branch(code, image, work, r, w)
+    other_branch(code, fields, work, r, w)
 }
 
-pub fn make_match(code: &[u64], image: &[u8], work: &mut [u8], r: Regs, w: u64, k: Progress) -> Regs
-    requires { ⌜ Matchable (now code) (now work) r ⌝ }
-    ensures { λ q. ⌜ Phase (λ S. judged w S (reduceMatch (record { code = now (code .entry); image = now (image .entry) }) w (k .stack) (lookedOf k) S)) (now (work .entry)) (now (work .exit)) r q ⌝ }
+pub fn make_match(
+    code: &[u64],
+    fields: &[u8],
+    work: &mut [u8],
+    r: Regs,
+    w: u64,
+    k: Progress,
+) -> Regs
+    requires { ⌜ Matchable (now code) (now work) r × OfMatch (now fields) w ⌝ }
+    ensures { λ q. ⌜ ((image : List ℕ) → now (fields .entry) ≡ matchFields image w → Phase (λ S. judged w S (reduceMatch (record { code = now (code .entry); image = image }) w (k .stack) (lookedOf k) S)) (now (work .entry)) (now (work .exit)) r q) ⌝ }
 {
     if r.room <= depth_of(w) {
         return halt(r, outcomes::FRAMES);
     }
-    reduce_match(code, image, work, r, w, k)
+    reduce_match(code, fields, work, r, w, k)
 }

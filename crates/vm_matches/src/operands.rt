@@ -1,28 +1,30 @@
 // A match begins, or an operand of it is worked out: its stack, then the pointcuts of its entries, left to right.
 ghost use mathlib.Core.List.{List};
+ghost use mathlib.Core.Path.{_≡_};
 ghost use Prim.Native.Nat.{ℕ, _+_, _≤_, _<_};
-ghost use Rattle.vm_code.specs.Words.{depthOf, termCount};
+ghost use lib.ListN.{getD};
+ghost use Rattle.vm_code.specs.Words.{termCount};
 ghost use Rattle.vm_machine.specs.Registers.{fullRoom};
-ghost use Rattle.vm_machine.specs.Fetch.{codeAt};
 ghost use Rattle.vm_machine.specs.Turn.{beginOperand, entriesFrom, beginMatch, resumeMatch};
 ghost use Rattle.vm_states.specs.Phases.{Phase};
-ghost use Rattle.vm_matches.specs.Parts.{lookedOf};
-ghost use Rattle.vm_matches.specs.Operands.{Matchable, RoomOf};
+ghost use Rattle.vm_matches.specs.Parts.{matchFields, lookedOf};
+ghost use Rattle.vm_matches.specs.Operands.{Matchable, OfMatch, RoomOf};
 use crate::Progress;
+use crate::entries::STACK;
 use crate::entries::cut_term;
 use crate::entries::entry_at;
+use crate::entries::match_fields;
 use crate::looks::STACK_TO_COME;
 use crate::looks::look_on;
 use crate::looks::looked_again;
 use crate::looks::looked_byte;
 use crate::looks::unlooked;
 use crate::matches::make_match;
-use vm_labels::children::number_at;
+use read_records::numbers::TermNo;
+use vm_labels::children::term_at;
 use vm_labels::entry::entry_from;
 use vm_machine::Regs;
-use vm_states::ends::TERMS;
 use vm_states::ends::atom_value;
-use vm_states::limits::BINDING_PLACES;
 use vm_states::outcomes;
 use vm_states::regs::halt;
 use vm_states::regs::same;
@@ -31,21 +33,21 @@ use vm_tables::slots::match_word;
 use vm_tables::slots::put_match;
 use vm_tables::slots::slot_env;
 use vm_tables::slots::slot_pc;
+use vm_tables::words::BINDING_PLACES;
+use vm_words::classes::INSTRUCTION;
 use vm_words::code::class_of;
 use vm_words::code::count_of;
 use vm_words::code::depth_of;
-use vm_words::code::offset_of;
-
-// The number of the first class that is no atom's.
-const INSTRUCTION: u64 = 4;
+use vm_words::terms::instruction;
+use vm_words::terms::word_of;
 
 // The operand x of the match at hand begins as a body of its own; v is the match's stack, and the byte its progress.
-fn begin_operand(code: &[u64], work: &mut [u8], r: Regs, x: usize, v: u64, byte: u64) -> Regs
-    requires { ⌜ Matchable (now code) (now work) r × RoomOf (now code) r × (x < termCount) × (byte < 256) ⌝ }
-    ensures { λ q. ⌜ ((image : List ℕ) → Phase (beginOperand (record { code = now (code .entry); image = image }) (r .pc) x v byte) (now (work .entry)) (now (work .exit)) r q) ⌝ }
+fn begin_operand(code: &[u64], work: &mut [u8], r: Regs, x: TermNo, v: u64, byte: u64) -> Regs
+    requires { ⌜ Matchable (now code) (now work) r × RoomOf (now code) r × (x .0 < termCount) × (byte < 256) ⌝ }
+    ensures { λ q. ⌜ ((image : List ℕ) → Phase (beginOperand (record { code = now (code .entry); image = image }) (r .pc) (x .0) v byte) (now (work .entry)) (now (work .exit)) r q) ⌝ }
 {
     let pc = r.pc;
-    let d = depth_of(code[pc]) + 1;
+    let d = depth_of(instruction(code, pc)) + 1;
     if r.room <= d {
         return halt(r, outcomes::FRAMES);
     }
@@ -58,18 +60,23 @@ fn begin_operand(code: &[u64], work: &mut [u8], r: Regs, x: usize, v: u64, byte:
 }
 
 // The entries of the match at hand, from where it was left: the next pointcut that is no atom is a body of its own; after the
-// last entry the match is made.
-fn entries_from(code: &[u64], image: &[u8], work: &mut [u8], r: Regs, from: Progress) -> Regs
-    requires { ⌜ Matchable (now code) (now work) r × RoomOf (now code) r ⌝ }
-    ensures { λ q. ⌜ Phase (entriesFrom (record { code = now (code .entry); image = now (image .entry) }) (r .pc) (from .stack) (lookedOf from)) (now (work .entry)) (now (work .exit)) r q ⌝ }
+// last entry the match is made. It has the word w.
+fn entries_from(
+    code: &[u64],
+    fields: &[u8],
+    work: &mut [u8],
+    r: Regs,
+    w: u64,
+    from: Progress,
+) -> Regs
+    requires { ⌜ Matchable (now code) (now work) r × RoomOf (now code) r × (w ≡ getD (now code) (r .pc) 0) × OfMatch (now fields) w ⌝ }
+    ensures { λ q. ⌜ ((image : List ℕ) → now (fields .entry) ≡ matchFields image w → Phase (entriesFrom (record { code = now (code .entry); image = image }) (r .pc) (from .stack) (lookedOf from)) (now (work .entry)) (now (work .exit)) r q) ⌝ }
 {
-    let pc = r.pc;
-    let w = code[pc];
-    let k = look_on(code, image, work, r.env, w, from);
+    let k = look_on(code, fields, work, r.env, w, from);
     if count_of(w) <= k.next {
-        return make_match(code, image, work, r, w, k);
+        return make_match(code, fields, work, r, w, k);
     }
-    let x = cut_term(entry_at(image, w, k.next));
+    let x = cut_term(entry_at(fields, k.next));
     begin_operand(code, work, r, x, k.stack, looked_byte(k))
 }
 
@@ -77,13 +84,13 @@ pub fn begin_match(code: &[u64], image: &[u8], work: &mut [u8], r: Regs) -> Regs
     requires { ⌜ Matchable (now code) (now work) r × (r .room ≤ fullRoom) ⌝ }
     ensures { λ q. ⌜ Phase (beginMatch (record { code = now (code .entry); image = now (image .entry) })) (now (work .entry)) (now (work .exit)) r q ⌝ }
 {
-    let pc = r.pc;
-    let n = number_at(image, offset_of(code[pc]));
-    let x = n % TERMS;
-    let u = code[x];
+    let w = instruction(code, r.pc);
+    let fields = match_fields(image, w);
+    let x = term_at(fields, STACK);
+    let u = word_of(code, x);
     if class_of(u) < INSTRUCTION {
         let v = atom_value(work, r.env, u);
-        return entries_from(code, image, work, r, unlooked(v));
+        return entries_from(code, fields, work, r, w, unlooked(v));
     }
     begin_operand(code, work, r, x, 0, STACK_TO_COME)
 }
@@ -94,10 +101,11 @@ pub fn resume_match(code: &[u64], image: &[u8], work: &mut [u8], r: Regs, f: u64
     ensures { λ q. ⌜ Phase (resumeMatch (record { code = now (code .entry); image = now (image .entry) }) f) (now (work .entry)) (now (work .exit)) r q ⌝ }
 {
     let pc = slot_pc(f);
+    let w = instruction(code, pc);
     let k = looked_again(work, r.hand, f, byte_beside(work, r.room));
     let mut q = same(r);
-    q.room = r.room + (depth_of(code[pc]) + 1);
+    q.room = r.room + (depth_of(w) + 1);
     q.env = slot_env(f) % BINDING_PLACES;
     q.pc = pc;
-    entries_from(code, image, work, q, k)
+    entries_from(code, match_fields(image, w), work, q, w, k)
 }

@@ -6,6 +6,7 @@ ghost use Rattle.vm_machine.specs.Registers.{headroom};
 ghost use Rattle.vm_machine.specs.Fits.{Fits};
 ghost use Rattle.vm_machine.specs.Reduce.{reducePrint};
 ghost use Rattle.vm_states.specs.Phases.{stateOf, Moved};
+use read_records::numbers::DomainNo;
 use report::fixed::put_log;
 use vm_machine::Regs;
 use vm_states::ends::given;
@@ -24,7 +25,8 @@ pub fn reduce_print(work: &mut [u8], log: &mut [u8], r: Regs, w: u64, x: u64) ->
     if log.len() - at < LOG_RECORD {
         return halt(r, outcomes::LOG);
     }
-    put_log(log, at, domain_of(w) as u16, body(x) as u32);
+    let dom: DomainNo = domain_of(w);
+    put_log(log, at, dom, body(x) as u32);
     let mut q = given(work, r, w, 0);
     q.logged = at + LOG_RECORD;
     q

@@ -27,20 +27,23 @@ use vm_tables::bindings::bind;
 use vm_tables::pieces::piece_first;
 use vm_tables::pieces::piece_of;
 use vm_tables::pieces::piece_second;
+use vm_words::code::TARGETS;
 use vm_words::code::field_b;
+use vm_words::value::ENVIRONMENT;
+use vm_words::value::ENVIRONMENTS;
 use vm_words::value::body;
 
 // The environment of a function's or an object's value, and the target of the body of a function's.
 fn closure_env(f: u64) -> usize
     ensures { λ r. ⌜ r ≡ closureEnv f ⌝ }
 {
-    (body(f) / 65536 % 65536) as usize
+    (body(f) / ENVIRONMENT % ENVIRONMENTS) as usize
 }
 
 fn function_target(f: u64) -> usize
     ensures { λ r. ⌜ r ≡ bodyOf f % 2048 ⌝ }
 {
-    (body(f) % 2048) as usize
+    (body(f) % TARGETS) as usize
 }
 
 // The function x is applied to the value y.

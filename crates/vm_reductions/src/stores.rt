@@ -7,6 +7,7 @@ ghost use Rattle.vm_machine.specs.Registers.{headroom};
 ghost use Rattle.vm_machine.specs.Fits.{Fits};
 ghost use Rattle.vm_machine.specs.Reduce.{reduceStore, reduceCell, reduceLabel, reduceAdvice, reduceInstall, reduceAbort};
 ghost use Rattle.vm_states.specs.Phases.{Phase};
+use read_records::numbers::DomainNo;
 use vm_machine::Regs;
 use vm_states::ends::given;
 use vm_states::limits;
@@ -24,8 +25,8 @@ use vm_tables::pieces::advice_word;
 use vm_tables::pieces::piece_of;
 use vm_tables::pieces::piece_second;
 use vm_tables::pieces::put_installed;
+use vm_words::code::advice_domain;
 use vm_words::code::field_b;
-use vm_words::code::field_c;
 use vm_words::value;
 
 // The cell x holds the value y.
@@ -74,7 +75,8 @@ pub fn reduce_advice(work: &mut [u8], r: Regs, w: u64, x: u64) -> Regs
     requires { ⌜ (memoryLength ≤ length (now work)) × (headroom < r .left) × ((size : ℕ) × Fits size r) ⌝ }
     ensures { λ q. ⌜ Phase (reduceAdvice w x) (now (work .entry)) (now (work .exit)) r q ⌝ }
 {
-    let a = advice_word(field_b(w), r.env, field_c(w));
+    let dom: DomainNo = advice_domain(w);
+    let a = advice_word(field_b(w), r.env, dom);
     let b = piece_second(work, piece_of(x));
     new_piece(work, r, w, value::ADVICE, a, b)
 }

@@ -15,7 +15,7 @@ use Rattle.closure_machine.specs.Machine.{Control, eval, ret, op2R, Stack, CAns
 use Rattle.vm_theory.specs.Code.{Head, op1H, seqH, iteH, splitH, advH, lowerH, hand, slot, inPlace, Instr, one, two, fetch}
 use Rattle.vm_theory.specs.Conf.{Site, Chain, Slots, Conf, keptBy, depthAt, domAt, placeOf}
 use Rattle.vm_theory.specs.Stands.{headFrame, secondFrame, stackAt}
-use Rattle.vm_theory.specs.Turn.{reduceHead}
+use Rattle.vm_theory.specs.Heads.{reduceHead}
 use Rattle.vm_theory.specs.Table.{HeadN, op1N, seqN, iteN, splitN, advN, lowerN, HeadN2, op2N, keepN, oneN, twoN, Table, headOf, headOf2, operandAt, isAtomAt, Linked}
 use Rattle.vm_theory.proofs.Sound.{Sound}
 use Rattle.vm_theory.proofs.Reach.{Reach}

@@ -10,7 +10,7 @@ use Rattle.calculus.specs.Syntax.{Dom, Tm, Tms, end, more, pcd}
 use Rattle.calculus.specs.State.{Given}
 use Rattle.closure_machine.specs.Closure.{CVal, Env, CState, close}
 use Rattle.closure_machine.specs.Machine.{Control, eval, ret, pcdN, opNF, Stack, placeAt, redex, reduceNC, move}
-use Rattle.closure_machine.specs.Settle.{work}
+use Rattle.closure_machine.specs.Measure.{work}
 use Rattle.vm_theory.specs.Code.{Skel, isAtom}
 use Rattle.vm_theory.specs.Table.{manyN, pcdM, Table, In, here, there, termsOf, isAtomAt, Linked}
 use Rattle.vm_theory.proofs.Sound.{Sound}

@@ -18,7 +18,7 @@ use Rattle.calculus.specs.Reduce.{branch, matchOn}
 use Rattle.image.specs.Bytes.{le16}
 use Rattle.closure_machine.specs.Closure.{CVal, CState, close, linkAll, topOfC, plainVal}
 use Rattle.closure_machine.specs.Machine.{Control, eval, ret, OpN, matchN, opNF, Stack, CAnswer, due, placeAt, reduceNC}
-use Rattle.closure_machine.specs.Settle.{work}
+use Rattle.closure_machine.specs.Measure.{work}
 use Rattle.vm_theory.specs.Code.{atomOf}
 use Rattle.vm_theory.specs.Conf.{Site, Chain, Slots, domAt, placeOf}
 use Rattle.vm_theory.specs.Stands.{stackAt}

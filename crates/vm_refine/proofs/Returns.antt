@@ -40,7 +40,7 @@ use Rattle.vm_machine.specs.Memory.{Memory, wordAt, slotBase, slotIn, slotAt, s
 use Rattle.vm_machine.specs.States.{State, withRegs, withMemory, completed}
 use Rattle.vm_machine.specs.Fetch.{Program, codeAt}
 use Rattle.vm_machine.specs.Reduce.{bodyAt, nextAdvice}
-use Rattle.vm_machine.specs.Stacks.{leaveKeep, unlooked, pastCut, lookedWith, stackToCome, restAfter}
+use Rattle.vm_machine.specs.Stacks.{unlooked, pastCut, lookedWith, stackToCome, restAfter}
 use Rattle.vm_machine.specs.Turn.{entriesFrom, labelsFrom, resumeLabels, resumeMatch, resumed, returned, turn}
 use Rattle.vm_refine.proofs.Home.{home-done, home-call, home-advice, home-pointcut, home-keep}
 use Rattle.vm_refine.proofs.Relations.{Sizes, sizes, is-unit, IsEnv, env-used, env-grows, IsTriggered, no-more, one-left, triggered-at}

@@ -14,15 +14,14 @@ use Rattle.calculus.specs.Run.{run}
 use Rattle.closure_machine.specs.Closure.{CVal, Body, empty, CState}
 use Rattle.vm_theory.specs.Code.{atomOf, Pc}
 use Rattle.vm_theory.specs.Conf.{Slots, Conf, body, complete, begin}
-use Rattle.vm_theory.specs.Runs.{start}
+use Rattle.vm_theory.specs.Conf.{start}
 use Rattle.vm_theory.specs.Table.{Table, Target, home, to, isAtomAt, Linked}
 use Rattle.vm_theory.proofs.Sound.{Sound}
 use Rattle.vm_theory.proofs.Reach.{reach-start}
 use Rattle.vm_theory.proofs.Bound.{bound-tm}
-use Rattle.vm_theory.proofs.Good.{Good}
 use Rattle.vm_theory.proofs.Located.{Points, p-home, p-to, l-root, entry-points}
 use Rattle.vm_theory.proofs.Arrive.{entry-has}
-use Rattle.vm_theory.proofs.Theorem.{start-good}
+use Rattle.vm_theory.proofs.Good.{Good, start-good}
 use Rattle.vm_code.specs.Words.{isInstruction, termCount}
 use Rattle.vm_code.specs.Words as code
 use Rattle.vm_says.specs.Says.{targetNumber, SaysTarget, SaysCode}

@@ -14,24 +14,25 @@ ghost use Rattle.vm_machine.specs.Fits.{Fits};
 ghost use Rattle.vm_tables.specs.View.{memoryOf, Holds};
 ghost use Rattle.vm_states.specs.Phases.{Phase};
 ghost use Rattle.vm_stacks.specs.Parts.{keepStarted};
+use read_records::numbers::TermNo;
 use vm_machine::Regs;
-use vm_states::ends::TERMS;
-use vm_states::ends::atom_value;
+use vm_states::ends::atom_at;
 use vm_states::ends::given;
 use vm_states::outcomes;
 use vm_states::regs::HEADROOM;
 use vm_states::regs::halt;
 use vm_states::regs::same;
 use vm_tables::kept::put_kept;
+use vm_tables::labels::LABELS;
 use vm_tables::slots::put_keep;
 use vm_tables::slots::slot_env;
 use vm_tables::slots::slot_pc;
 use vm_words::code::depth_of;
 use vm_words::code::field_c;
+use vm_words::terms::TERMS;
+use vm_words::terms::instruction;
+use vm_words::terms::term_with;
 use vm_words::value::body;
-
-// Labels are numbers below this.
-const LABELS: u64 = 64;
 
 // The frame of the keep with word w, and the value y under the label x.
 fn keep_value(work: &mut [u8], r: Regs, w: u64, x: u64, y: u64)
@@ -50,7 +51,8 @@ fn finish_keep(code: &[u64], work: &mut [u8], r: Regs, w: u64, g: usize) -> Regs
     if r.left <= HEADROOM {
         return halt(r, outcomes::SPENT);
     }
-    given(work, r, w, atom_value(work, r.env, code[g]))
+    let t: TermNo = term_with(g);
+    given(work, r, w, atom_at(code, work, r.env, t))
 }
 
 // The body of the keep with word w begins with the instruction t.
@@ -102,7 +104,7 @@ pub fn leave_keep(code: &[u64], work: &mut [u8], r: Regs, f: u64) -> Regs
         return halt(r, outcomes::SPENT);
     }
     let pc = slot_pc(f);
-    let w = code[pc];
+    let w = instruction(code, pc);
     let mut q = same(r);
     q.kept = one_less(r.kept);
     q.room = r.room + (depth_of(w) + 1);

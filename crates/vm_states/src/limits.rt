@@ -10,8 +10,8 @@ pub const ADVICE: usize = 64;
 
 pub const PIECES: usize = 256;
 
-// The places of the table of bindings, which both halves share.
-pub const BINDING_PLACES: usize = 2048;
+// The room of a body that nothing encloses: a place for each of 512 frames, and one for the body itself.
+pub const FULL_ROOM: usize = 513;
 
 // The bytes of one log record.
 pub const LOG_RECORD: usize = 10;

@@ -1,21 +1,28 @@
 // Card 9: the half of each room that is charged, whether it has room, and the outcome where it has none.
 ghost use mathlib.Core.Path.{_≡_};
 ghost use Prim.Native.Nat.{_+_, _≤_};
+ghost use lib.Dec.{eqb};
 ghost use Rattle.calculus.specs.Report.{outcomeNumber};
 ghost use Rattle.vm_pools.specs.Pools.{whole, poolBound, hasRoom, bindingsOut, cellsOut, piecesOut};
 ghost use Rattle.vm_machine.specs.Halves.{halfOf};
 use crate::outcomes;
+use read_records::numbers::DomainNo;
+use read_records::numbers::MAINLINE;
 use vm_pools::Pool;
 use vm_words::code::domain_of;
 
-// The mainline's domain.
-pub const MAINLINE: u64 = 0;
+// The domain is the mainline's.
+pub fn is_mainline(d: DomainNo) -> bool
+    ensures { λ r. ⌜ r ≡ eqb (d .0) 0 ⌝ }
+{
+    d.0 == MAINLINE.0
+}
 
 // The half that the instruction with word w charges, by the domain at which it runs.
 pub fn half_of(w: u64) -> bool
     ensures { λ h. ⌜ h ≡ halfOf w ⌝ }
 {
-    domain_of(w) == MAINLINE
+    is_mainline(domain_of(w))
 }
 
 // So many more of one half stay within its limit.

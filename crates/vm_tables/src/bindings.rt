@@ -11,14 +11,19 @@ ghost use Rattle.vm_tables.specs.View.{memoryOf, Holds};
 use crate::words::above;
 use crate::words::put_word;
 use crate::words::word;
+use vm_words::code::TARGETS;
 
-const NO_BINDING: usize = 2047;
+// The link of the outermost binding: there is no binding of that number.
+pub const NO_BINDING: usize = 2047;
+
+// Where a binding's target begins, above its link of two bytes.
+const TARGET: u64 = 65536;
 
 fn binding(v: u64, target: usize, link: usize) -> u64
     requires { ⌜ (target < 2048) × (link < 65536) ⌝ }
     ensures { λ r. ⌜ r ≡ machine.binding v target link ⌝ }
 {
-    above(v, link as u64 + 65536 * (target as u64))
+    above(v, link as u64 + TARGET * (target as u64))
 }
 
 // Binding i becomes one of the value v.
@@ -32,13 +37,13 @@ pub fn bind(work: &mut [u8], i: usize, v: u64, target: usize, link: usize)
 pub fn bound_target(w: u64) -> usize
     ensures { λ r. ⌜ r ≡ boundTarget w ⌝ }
 {
-    (w / 65536 % 2048) as usize
+    (w / TARGET % TARGETS) as usize
 }
 
 fn bound_link(w: u64) -> usize
     ensures { λ r. ⌜ r ≡ boundLink w ⌝ }
 {
-    (w % 65536) as usize
+    (w % TARGET) as usize
 }
 
 pub fn binding_at(work: &[u8], i: usize) -> u64

@@ -5,16 +5,21 @@ ghost use lib.ListN.{length};
 ghost use Rattle.base_bytes.specs.Memory.{memoryLength};
 ghost use Rattle.vm_machine.specs.Memory.{cellAt, putCell, cellNote, cellOf};
 ghost use Rattle.vm_tables.specs.View.{memoryOf, Holds};
+use crate::words::CELL_PLACES;
 use crate::words::CELLS;
 use crate::words::above;
 use crate::words::put_word;
 use crate::words::word;
+use vm_words::value::BODY;
+
+// Notes have two bytes.
+const NOTES: u64 = 65536;
 
 // The cell that a value refers to.
 pub fn cell_of(v: u64) -> usize
     ensures { λ r. ⌜ r ≡ cellOf v ⌝ }
 {
-    (v / 4294967296 % 256) as usize
+    (v / BODY % (CELL_PLACES as u64)) as usize
 }
 
 pub fn cell_at(work: &[u8], r: usize) -> u64
@@ -27,7 +32,7 @@ pub fn cell_at(work: &[u8], r: usize) -> u64
 pub fn cell_note(w: u64) -> u64
     ensures { λ r. ⌜ r ≡ cellNote w ⌝ }
 {
-    w % 65536
+    w % NOTES
 }
 
 pub fn put_cell(work: &mut [u8], r: usize, v: u64, note: u64)

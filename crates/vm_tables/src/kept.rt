@@ -6,6 +6,7 @@ ghost use lib.ListN.{length};
 ghost use Rattle.base_bytes.specs.Memory.{memoryLength};
 ghost use Rattle.vm_machine.specs.Memory.{keptAt, putKept, entryLabel, isKept, topEntry, restOf};
 ghost use Rattle.vm_tables.specs.View.{memoryOf, Holds};
+use crate::labels::LABELS;
 use crate::pieces::piece_first;
 use crate::pieces::piece_of;
 use crate::pieces::piece_second;
@@ -13,9 +14,9 @@ use crate::words::KEPT;
 use crate::words::above;
 use crate::words::put_word;
 use crate::words::word;
-
-// The tag of a stack that has an entry.
-const KEPT_TAG: u64 = 11;
+use vm_words::value;
+use vm_words::value::TAG;
+use vm_words::value::TAGS;
 
 pub fn kept_at(work: &[u8], i: usize) -> u64
     requires { ⌜ (memoryLength ≤ length (now work)) × (i < 513) ⌝ }
@@ -35,14 +36,14 @@ pub fn put_kept(work: &mut [u8], i: usize, v: u64, label: u64)
 pub fn entry_label(w: u64) -> u64
     ensures { λ r. ⌜ (r ≡ entryLabel w) × (r < 64) ⌝ }
 {
-    w % 64
+    w % LABELS
 }
 
 // Of the stack v: whether it has an entry, its top entry's word, and the rest.
 pub fn is_kept(v: u64) -> bool
     ensures { λ r. ⌜ r ≡ isKept v ⌝ }
 {
-    v / 268435456 % 16 == KEPT_TAG
+    v / TAG % TAGS == value::KEPT
 }
 
 pub fn top_entry(work: &[u8], v: u64) -> u64

@@ -3,6 +3,12 @@ ghost use mathlib.Core.Path.{_≡_};
 ghost use Prim.Native.Nat.{_<_};
 ghost use Rattle.vm_machine.specs.Memory.{hasBit, withBit, withDigit, digitCount, labelSet};
 
+// There are so many labels: they are numbers below this, and digits in this base.
+pub const LABELS: u64 = 64;
+
+// What stays of the digits where one more is put below them is less than this: 64 times it fits a word.
+const SHIFTED: u64 = 288230376151711744;
+
 pub fn has_bit(s: u64, l: u64) -> bool
     requires { ⌜ l < 64 ⌝ }
     ensures { λ r. ⌜ r ≡ hasBit s l ⌝ }
@@ -21,7 +27,7 @@ pub fn with_digit(d: u64, l: u64) -> u64
     requires { ⌜ l < 64 ⌝ }
     ensures { λ r. ⌜ r ≡ withDigit d l ⌝ }
 {
-    64 * (d % 288230376151711744) + l
+    LABELS * (d % SHIFTED) + l
 }
 
 // How many digits there are, at most n.
@@ -34,7 +40,7 @@ pub fn digit_count(n: usize, digits: u64) -> usize
         if d <= 1 {
             return i;
         }
-        d = d / 64;
+        d = d / LABELS;
         i += 1;
     }
     i
@@ -48,8 +54,8 @@ pub fn label_set(n: usize, digits: u64) -> u64
     let mut s: u64 = 0;
     let mut i: usize = 0;
     while i < n {
-        s = with_bit(s, d % 64);
-        d = d / 64;
+        s = with_bit(s, d % LABELS);
+        d = d / LABELS;
         i += 1;
     }
     s

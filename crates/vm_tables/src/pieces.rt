@@ -7,9 +7,20 @@ ghost use Rattle.base_bytes.specs.Memory.{memoryLength};
 ghost use Rattle.vm_machine.specs.Memory.{putPiece, pieceFirst, pieceSecond, pieceOf, adviceWord, adviceTarget, adviceEnv, adviceDom, installedAt, putInstalled};
 ghost use Rattle.vm_tables.specs.View.{memoryOf, Holds};
 use crate::words::INSTALLED;
+use crate::words::PIECE_PLACES;
 use crate::words::PIECES;
 use crate::words::put_word;
 use crate::words::word;
+use read_records::numbers::DomainNo;
+use vm_words::code::TARGETS;
+use vm_words::value::BODY;
+use vm_words::value::ENVIRONMENT;
+use vm_words::value::ENVIRONMENTS;
+
+// Where the domain of an advice begins in its word, and how many domains there are.
+const DOMAIN: u64 = ENVIRONMENT * ENVIRONMENTS;
+
+const DOMAINS: u64 = 16;
 
 pub fn put_piece(work: &mut [u8], p: usize, a: u64, b: u64)
     requires { ⌜ (memoryLength ≤ length (now work)) × (p < 512) ⌝ }
@@ -37,32 +48,32 @@ pub fn piece_second(work: &[u8], p: usize) -> u64
 pub fn piece_of(v: u64) -> usize
     ensures { λ r. ⌜ r ≡ pieceOf v ⌝ }
 {
-    (v / 4294967296 % 512) as usize
+    (v / BODY % (PIECE_PLACES as u64)) as usize
 }
 
-pub fn advice_word(target: usize, env: usize, dom: usize) -> u64
-    requires { ⌜ (target < 65536) × (env < 65536) × (dom < 65536) ⌝ }
-    ensures { λ r. ⌜ r ≡ adviceWord target env dom ⌝ }
+pub fn advice_word(target: usize, env: usize, dom: DomainNo) -> u64
+    requires { ⌜ (target < 65536) × (env < 65536) ⌝ }
+    ensures { λ r. ⌜ r ≡ adviceWord target env (dom .0) ⌝ }
 {
-    (target as u64) + 65536 * (env as u64) + 4294967296 * (dom as u64)
+    (target as u64) + ENVIRONMENT * (env as u64) + DOMAIN * (dom.0 as u64)
 }
 
 pub fn advice_target(w: u64) -> usize
     ensures { λ r. ⌜ r ≡ adviceTarget w ⌝ }
 {
-    (w % 2048) as usize
+    (w % TARGETS) as usize
 }
 
 pub fn advice_env(w: u64) -> usize
     ensures { λ r. ⌜ r ≡ adviceEnv w ⌝ }
 {
-    (w / 65536 % 65536) as usize
+    (w / ENVIRONMENT % ENVIRONMENTS) as usize
 }
 
-pub fn advice_dom(w: u64) -> usize
-    ensures { λ r. ⌜ r ≡ adviceDom w ⌝ }
+pub fn advice_dom(w: u64) -> DomainNo
+    ensures { λ r. ⌜ r .0 ≡ adviceDom w ⌝ }
 {
-    (w / 4294967296 % 16) as usize
+    DomainNo((w / DOMAIN % DOMAINS) as u16)
 }
 
 // The piece of installed advice i, from 0 on.
@@ -70,7 +81,7 @@ pub fn installed_at(work: &[u8], i: usize) -> usize
     requires { ⌜ (memoryLength ≤ length (now work)) × (i < 64) ⌝ }
     ensures { λ r. ⌜ r ≡ installedAt (memoryOf (now (work .entry))) i ⌝ }
 {
-    (word(work, INSTALLED + i) % 512) as usize
+    (word(work, INSTALLED + i) % (PIECE_PLACES as u64)) as usize
 }
 
 pub fn put_installed(work: &mut [u8], i: usize, p: usize)

@@ -7,47 +7,77 @@ ghost use lib.ListN.{length, set};
 ghost use Rattle.base_bytes.specs.Memory.{memoryLength, besideBase};
 ghost use Rattle.vm_machine.specs.Memory.{slotWord, slotEnv, slotPc, slotKind, slotHeld, slotIn, slotAt, putSlot, putWaiting, putReturn, putAdvice, nextBinding, endBinding, putDigits, digitsAt, putKeep, putMatch, keepFrame, pointcutFrame, heldStack, besideAt};
 ghost use Rattle.vm_tables.specs.View.{memoryOf, Holds};
+use crate::words::ABOVE;
 use crate::words::BESIDE;
 use crate::words::SLOTS;
 use crate::words::above;
 use crate::words::put_word;
 use crate::words::word;
+use vm_words::value::ENVIRONMENTS;
 
-const CALL: u64 = 0;
+// The kinds of a frame: a call leaves one, a mark, a pointcut or match, and a keep (card 6).
+pub const CALL_FRAME: u64 = 0;
 
-const ADVICE: u64 = 1;
+pub const ADVICE_FRAME: u64 = 1;
 
-const POINTCUT: u64 = 2;
+const POINTCUT_FRAME: u64 = 2;
+
+pub const KEEP_FRAME: u64 = 3;
+
+// The parts of a slot's word: where each begins, and how many numbers it holds. What is held begins where a value's tag does.
+const PC: u64 = ENVIRONMENTS;
+
+const PCS: u64 = 1024;
+
+const KIND: u64 = PC * PCS;
+
+const KINDS: u64 = 4;
+
+// Of the digits so much is held in the word, and the rest in the byte beside.
+const DIGITS: u64 = 68719476736;
+
+const BYTES: u64 = 256;
+
+// A mark's frame holds bindings: where the next one and the end of their range begin, in the word and in what is held.
+const NEXT: u64 = 4294967296;
+
+const BINDINGS: u64 = 65536;
+
+const END: u64 = NEXT * BINDINGS;
+
+const HELD_NEXT: u64 = NEXT / ABOVE;
+
+const HELD_END: u64 = END / ABOVE;
 
 fn slot_word(kind: u64, pc: usize, env: usize, held: u64) -> u64
     requires { ⌜ (kind < 3) × (pc ≤ 1024) × (env < 65536) × (held < 68719476736) ⌝ }
     ensures { λ r. ⌜ r ≡ slotWord kind pc env held ⌝ }
 {
-    (env as u64) + 65536 * (pc as u64) + 67108864 * kind + 268435456 * held
+    (env as u64) + PC * (pc as u64) + KIND * kind + ABOVE * held
 }
 
 pub fn slot_env(f: u64) -> usize
     ensures { λ r. ⌜ r ≡ slotEnv f ⌝ }
 {
-    (f % 65536) as usize
+    (f % ENVIRONMENTS) as usize
 }
 
 pub fn slot_pc(f: u64) -> usize
     ensures { λ r. ⌜ r ≡ slotPc f ⌝ }
 {
-    (f / 65536 % 1024) as usize
+    (f / PC % PCS) as usize
 }
 
 pub fn slot_kind(f: u64) -> u64
     ensures { λ r. ⌜ r ≡ slotKind f ⌝ }
 {
-    f / 67108864 % 4
+    f / KIND % KINDS
 }
 
 fn slot_held(f: u64) -> u64
     ensures { λ r. ⌜ r ≡ slotHeld f ⌝ }
 {
-    f / 268435456
+    f / ABOVE
 }
 
 // The place of a slot. (The base comes first: so no number is too low to take d from. What is resumed may have more room than
@@ -87,7 +117,7 @@ pub fn put_return(work: &mut [u8], room: usize, d: usize, pc: usize, env: usize)
     ensures { λ _. ⌜ Holds (putReturn room d pc env (memoryOf (now (work .entry)))) (now (work .entry)) (now (work .exit)) ⌝ }
 {
     let held = slot_held(slot_at(work, room, d));
-    put_slot(work, room, d, slot_word(CALL, pc, env, held));
+    put_slot(work, room, d, slot_word(CALL_FRAME, pc, env, held));
 }
 
 // A mark's frame is there: the mark, its environment, and the bindings that are left, two bytes for each end of their
@@ -104,20 +134,20 @@ pub fn put_advice(
     requires { ⌜ (memoryLength ≤ length (now work)) × (room ≤ 513) × (d ≤ 66) × (pc ≤ 1024) × (env < 65536) × (next < 65536) × (end < 65536) ⌝ }
     ensures { λ _. ⌜ Holds (putAdvice room d pc env next end (memoryOf (now (work .entry)))) (now (work .entry)) (now (work .exit)) ⌝ }
 {
-    let held = 16 * (next as u64) + 1048576 * (end as u64);
-    put_slot(work, room, d, slot_word(ADVICE, pc, env, held));
+    let held = HELD_NEXT * (next as u64) + HELD_END * (end as u64);
+    put_slot(work, room, d, slot_word(ADVICE_FRAME, pc, env, held));
 }
 
 pub fn next_binding(f: u64) -> usize
     ensures { λ r. ⌜ r ≡ nextBinding f ⌝ }
 {
-    (f / 4294967296 % 65536) as usize
+    (f / NEXT % BINDINGS) as usize
 }
 
 pub fn end_binding(f: u64) -> usize
     ensures { λ r. ⌜ r ≡ endBinding f ⌝ }
 {
-    (f / 281474976710656 % 65536) as usize
+    (f / END % BINDINGS) as usize
 }
 
 // The byte beside slot i becomes another.
@@ -137,16 +167,16 @@ pub fn put_digits(work: &mut [u8], room: usize, d: usize, pc: usize, env: usize,
         work,
         room,
         d,
-        slot_word(POINTCUT, pc, env, digits % 68719476736),
+        slot_word(POINTCUT_FRAME, pc, env, digits % DIGITS),
     );
-    put_beside(work, room - d, digits / 68719476736 % 256);
+    put_beside(work, room - d, digits / DIGITS % BYTES);
 }
 
 fn join(low: u64, high: u8) -> u64
     requires { ⌜ low < 68719476736 ⌝ }
     ensures { λ r. ⌜ r ≡ low + 68719476736 * high ⌝ }
 {
-    low + 68719476736 * (high as u64)
+    low + DIGITS * (high as u64)
 }
 
 // The digits in the slot of a body with so much room; f is its word.
@@ -157,12 +187,12 @@ pub fn digits_at(work: &[u8], room: usize, f: u64) -> u64
     join(slot_held(f), work[BESIDE + room])
 }
 
-// The word of a keep's frame (card 6): its kind is 3, and nothing is held.
+// The word of a keep's frame (card 6): nothing is held.
 fn keep_word(pc: usize, env: usize) -> u64
     requires { ⌜ (pc ≤ 1024) × (env < 65536) ⌝ }
     ensures { λ r. ⌜ r ≡ slotWord keepFrame pc env 0 ⌝ }
 {
-    (env as u64) + 65536 * (pc as u64) + 201326592
+    (env as u64) + PC * (pc as u64) + KIND * KEEP_FRAME
 }
 
 // A keep's frame is there: it and its environment.
@@ -178,7 +208,7 @@ pub fn match_word(pc: usize, env: usize, v: u64) -> u64
     requires { ⌜ (pc ≤ 1024) × (env < 65536) ⌝ }
     ensures { λ r. ⌜ r ≡ slotWord pointcutFrame pc env (v / 268435456) ⌝ }
 {
-    slot_word(POINTCUT, pc, env, v / 268435456)
+    slot_word(POINTCUT_FRAME, pc, env, v / ABOVE)
 }
 
 // A match's frame is there, with the word f and a byte beside.
@@ -194,7 +224,7 @@ pub fn put_match(work: &mut [u8], room: usize, d: usize, f: u64, byte: u64)
 pub fn held_stack(f: u64) -> u64
     ensures { λ r. ⌜ r ≡ heldStack f ⌝ }
 {
-    268435456 * slot_held(f)
+    ABOVE * slot_held(f)
 }
 
 fn wide(b: u8) -> u64

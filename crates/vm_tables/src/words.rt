@@ -7,18 +7,36 @@ ghost use Rattle.vm_machine.specs.Memory.{wordAt, putWord};
 ghost use Rattle.vm_machine.specs.Memory as machine;
 ghost use Rattle.vm_tables.specs.View.{memoryOf, Holds};
 
-// Where each table but the first, the bindings, begins, in words; the single bytes beside the slots, in bytes.
-pub const SLOTS: usize = 2048;
+// How many places each table has (document 01, "A run"): both halves of bindings, pieces and cells share one (card 9). A run has
+// 512 frames at most, and a slot more; so many values are kept at most (card 6).
+pub const BINDING_PLACES: usize = 2048;
 
-pub const PIECES: usize = 2561;
+const SLOT_PLACES: usize = 513;
 
-pub const CELLS: usize = 3585;
+pub const PIECE_PLACES: usize = 512;
 
-pub const INSTALLED: usize = 3841;
+pub const CELL_PLACES: usize = 256;
 
-pub const KEPT: usize = 3905;
+const INSTALLED_PLACES: usize = 64;
 
-pub const BESIDE: usize = 35344;
+const KEPT_PLACES: usize = 513;
+
+// Where each table but the first, the bindings, begins, in words: behind those before it. A piece has two words.
+pub const SLOTS: usize = BINDING_PLACES;
+
+pub const PIECES: usize = SLOTS + SLOT_PLACES;
+
+pub const CELLS: usize = PIECES + 2 * PIECE_PLACES;
+
+pub const INSTALLED: usize = CELLS + CELL_PLACES;
+
+pub const KEPT: usize = INSTALLED + INSTALLED_PLACES;
+
+// Where the single bytes beside the slots begin, in bytes: behind all words, which have eight.
+pub const BESIDE: usize = 8 * (KEPT + KEPT_PLACES);
+
+// Below a table's word has notes of its own; the tag and body of a value stand above them, where they stand in the value.
+pub const ABOVE: u64 = vm_words::value::TAG;
 
 pub fn word(work: &[u8], i: usize) -> u64
     requires { ⌜ (memoryLength ≤ length (now work)) × (i < wordCount) ⌝ }
@@ -39,5 +57,5 @@ pub fn above(v: u64, x: u64) -> u64
     requires { ⌜ x < 268435456 ⌝ }
     ensures { λ r. ⌜ r ≡ machine.above v x ⌝ }
 {
-    x + 268435456 * (v / 268435456)
+    x + ABOVE * (v / ABOVE)
 }

@@ -1,3 +1,4 @@
 -- The parts of words.
 pub mod Parts
 pub mod ObjectWords
+pub mod Noted

@@ -1,2 +1,3 @@
 -- What the functions that make words are proved equal to.
 pub mod Words
+pub mod Noted

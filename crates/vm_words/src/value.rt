@@ -1,11 +1,28 @@
 // Values as words: a tag of 4 bits and a body of 32 bits, 2^28 * tag + 2^32 * body; the low 28 bits say nothing, so a word
 // of a table that holds a value is one.
+use crate::terms::TERMS;
+use read_records::numbers::TermNo;
 ghost use mathlib.Core.Path.{_≡_};
-ghost use Prim.Native.Nat.{_<_};
+ghost use Prim.Native.Nat.{_%_, _<_};
 ghost use Rattle.calculus.specs.Numbers.{isLess, isEqual, frameByte};
 ghost use Rattle.calculus.specs.Numbers as numbers;
 ghost use Rattle.vm_code.specs.Values.{tagOf, bodyOf, numberValue, truthValue, functionValue, objectValue, bottomValue, keptValue};
 ghost use Rattle.vm_code.specs.Values as defined;
+ghost use Rattle.vm_code.specs.Words.{termCount};
+
+// Where the tag and the body begin, and how many tags there are.
+pub const TAG: u64 = 268435456;
+
+pub const BODY: u64 = 4294967296;
+
+pub const TAGS: u64 = 16;
+
+// The tags.
+const TRUTH: u64 = 1;
+
+const NUMBER: u64 = 2;
+
+const FUNCTION: u64 = 3;
 
 pub const PAIR: u64 = 4;
 
@@ -17,36 +34,53 @@ pub const POINTCUT: u64 = 7;
 
 pub const ADVICE: u64 = 8;
 
+const OBJECT: u64 = 9;
+
+// The empty stack, and one whose top entry is a piece (card 6).
+const BOTTOM: u64 = 10;
+
+pub const KEPT: u64 = 11;
+
+// The values of the two truths.
+const FALSE: u64 = TAG * TRUTH;
+
+const TRUE: u64 = TAG * TRUTH + BODY;
+
+// In the body of a function or an object the environment begins here, and is below this.
+pub const ENVIRONMENT: u64 = 65536;
+
+pub const ENVIRONMENTS: u64 = 65536;
+
 pub fn value(tag: u64, body: u64) -> u64
     requires { ⌜ (tag < 16) × (body < 4294967296) ⌝ }
     ensures { λ r. ⌜ r ≡ defined.value tag body ⌝ }
 {
-    268435456 * tag + 4294967296 * body
+    TAG * tag + BODY * body
 }
 
 pub fn tag(v: u64) -> u64
     ensures { λ r. ⌜ r ≡ tagOf v ⌝ }
 {
-    v / 268435456 % 16
+    v / TAG % TAGS
 }
 
 pub fn body(v: u64) -> u64
     ensures { λ r. ⌜ r ≡ bodyOf v ⌝ }
 {
-    v / 4294967296
+    v / BODY
 }
 
 fn number(n: u64) -> u64
     requires { ⌜ n < 4294967296 ⌝ }
     ensures { λ r. ⌜ r ≡ numberValue n ⌝ }
 {
-    536870912 + 4294967296 * n
+    TAG * NUMBER + BODY * n
 }
 
 fn truth(b: bool) -> u64
     ensures { λ r. ⌜ r ≡ truthValue b ⌝ }
 {
-    if b { 4563402752 } else { 268435456 }
+    if b { TRUE } else { FALSE }
 }
 
 // A function's value: its environment, and the target of its body.
@@ -54,44 +88,55 @@ pub fn function(env: usize, target: usize) -> u64
     requires { ⌜ (env < 65536) × (target < 65536) ⌝ }
     ensures { λ r. ⌜ r ≡ functionValue env target ⌝ }
 {
-    805306368 + 4294967296 * (65536 * (env as u64) + (target as u64))
+    TAG * FUNCTION + BODY * (ENVIRONMENT * (env as u64) + (target as u64))
 }
 
-// An object's value: its environment, and the number of its term (card 3).
-pub fn object(env: usize, term: usize) -> u64
-    requires { ⌜ (env < 65536) × (term < 65536) ⌝ }
-    ensures { λ r. ⌜ r ≡ objectValue env term ⌝ }
+// An object's value: its environment, and its term (card 3).
+pub fn object(env: usize, term: TermNo) -> u64
+    requires { ⌜ env < 65536 ⌝ }
+    ensures { λ r. ⌜ r ≡ objectValue env (term .0) ⌝ }
 {
-    2415919104 + 4294967296 * (65536 * (env as u64) + (term as u64))
+    TAG * OBJECT + BODY * (ENVIRONMENT * (env as u64) + (term.0 as u64))
 }
 
-// The empty stack, and one whose top entry is a piece (card 6).
-pub const KEPT: u64 = 11;
+// The term of an object's value.
+pub fn object_term(v: u64) -> TermNo
+    ensures { λ r. ⌜ r .0 ≡ bodyOf v % termCount ⌝ }
+{
+    TermNo((body(v) % (TERMS as u64)) as u16)
+}
 
 pub fn bottom() -> u64
     ensures { λ r. ⌜ r ≡ bottomValue ⌝ }
 {
-    2684354560
+    TAG * BOTTOM
 }
 
 pub fn kept(piece: usize) -> u64
     requires { ⌜ piece < 65536 ⌝ }
     ensures { λ r. ⌜ r ≡ keptValue piece ⌝ }
 {
-    2952790016 + 4294967296 * (piece as u64)
+    TAG * KEPT + BODY * (piece as u64)
 }
 
-// The ends of the range of numbers, as patterns.
+// Numbers are patterns of 32 bits, of which there are so many. The ends of their range, and -1, as patterns.
+const PATTERNS: u64 = 4294967296;
+
 const LOWEST: u64 = 2147483648;
 
 const HIGHEST: u64 = 2147483647;
+
+const MINUS_ONE: u64 = PATTERNS - 1;
+
+// Two patterns with their sign bits flipped that sum to this or more sum past the highest number.
+const TOO_HIGH: u64 = LOWEST + PATTERNS;
 
 // A pattern with its sign bit flipped: signed numbers are ordered as these are.
 fn flipped(x: u64) -> u32
     requires { ⌜ x < 4294967296 ⌝ }
     ensures { λ r. ⌜ r ≡ numbers.flipped x ⌝ }
 {
-    std::num::wrapping_add_u32(x as u32, 2147483648)
+    std::num::wrapping_add_u32(x as u32, LOWEST as u32)
 }
 
 // Sums and differences stop at the ends of the range; inside it they are those of the patterns.
@@ -100,11 +145,11 @@ fn sum(x: u64, y: u64) -> u64
     ensures { λ r. ⌜ (r ≡ numbers.sum x y) × (r < 4294967296) ⌝ }
 {
     let s = flipped(x) as u64 + flipped(y) as u64;
-    if s < 2147483648 {
+    if s < LOWEST {
         return LOWEST;
     }
-    if s < 6442450944 {
-        return (x + y) % 4294967296;
+    if s < TOO_HIGH {
+        return (x + y) % PATTERNS;
     }
     HIGHEST
 }
@@ -113,13 +158,13 @@ fn difference(x: u64, y: u64) -> u64
     requires { ⌜ (x < 4294967296) × (y < 4294967296) ⌝ }
     ensures { λ r. ⌜ (r ≡ numbers.difference x y) × (r < 4294967296) ⌝ }
 {
-    let s = flipped(x) as u64 + 2147483648;
+    let s = flipped(x) as u64 + LOWEST;
     let t = flipped(y) as u64;
     if s < t {
         return LOWEST;
     }
-    if s - t < 4294967296 {
-        return (x + (4294967296 - y)) % 4294967296;
+    if s - t < PATTERNS {
+        return (x + (PATTERNS - y)) % PATTERNS;
     }
     HIGHEST
 }
@@ -165,13 +210,13 @@ fn wide(b: u8) -> u64
 fn byte_at(frame: &[u8], n: u64) -> u64
     ensures { λ r. ⌜ (r ≡ frameByte (now (frame .entry)) n) × (r < 4294967296) ⌝ }
 {
-    if n < 2147483648 {
+    if n < LOWEST {
         let at = n as usize;
         if at < frame.len() {
             return wide(frame[at]);
         }
     }
-    4294967295
+    MINUS_ONE
 }
 
 // The same from an index that is a value, as a value.

@@ -9,16 +9,15 @@ use lib.ListN.{length, getD, length-append, List·getD-append}
 use lib.Seq.{getD-append-add}
 use lib.Dec.{ltb, leb}
 use Rattle.calculus.specs.Combinators.{choose}
-use Rattle.image.specs.Bytes.{numberAt, lengthAt}
 use Rattle.image.specs.Kinds.{in-domains, in-operations, in-truths, any-number, Field, a-type, own, free, a-term, an-entry, Kind, Row, rowOf, again, fieldsOf}
-use Rattle.image.specs.Records.{times, kindAt, fieldsAt, asChild}
+use Rattle.image.specs.Records.{times, asChild}
 use Rattle.laws.proofs.Booleans.{no-path, lt-of, ge-of, le-of, of-lt, of-le}
 use Rattle.image.proofs.EveryKind.{everyOf, at-kind}
 use Rattle.image.proofs.Counts.{fields-length}
-use Rattle.check_records.specs.Codes.{classNumber, classNumbers, codeAt, firstOf, groupOf, lastOf, Sized, timesIn, codeCount}
-use Rattle.check_records.proofs.Codes.{Packs, known-code, kind-sized, times-in, kind-small}
-use Rattle.check_records.proofs.Classes.{first-class}
-use Rattle.write_fields.specs.Classes.{Known, knownCount, slotIn, digitAt, classIn, isChild, childNo}
+use Rattle.read_records.specs.Codes.{classNumber, classNumbers, codeAt, firstOf, groupOf, lastOf, Sized, timesIn, codeCount}
+use Rattle.read_records.proofs.Codes.{Packs, known-code, kind-sized, times-in, kind-small}
+use Rattle.read_records.proofs.Classes.{first-class}
+use Rattle.write_fields.specs.Classes.{kindNumbered, knownFields, knownCount, Known, slotIn, digitAt, classIn, isChild, childNo}
 
 -- No kind has more than six classes, nor more than sixteen fields.
 abbrev narrow : Kind → Bool
@@ -171,36 +170,39 @@ pub digit5 : (cs : ℕ) → cs / 32768 % 8 ≡ digitAt 5 cs
 unfolding digitAt
 digit5 cs = omega arith
 
--- Of a record that stands at o.
-module _ (b : List ℕ) (o : ℕ) (K : Known b o) where
+-- Of a record of the kind with the number q, whose fields are fs.
+module _ (q : ℕ) (fs : List ℕ) (K : Known q fs) where
   abbrev code : ℕ
-  code = codeAt (numberAt b o)
+  code = codeAt q
 
-  pub code-packs : Packs (kindAt b o) code
-  code-packs = known-code (numberAt b o) (kindAt b o) (K .kind)
+  abbrev row : Row
+  row = rowOf (kindNumbered q)
+
+  pub code-packs : Packs (kindNumbered q) code
+  code-packs = known-code q (kindNumbered q) (K .kind)
 
   pub code-sized : Sized code
-  code-sized = kind-sized (kindAt b o) code code-packs
+  code-sized = kind-sized (kindNumbered q) code code-packs
 
-  pub small-kind : numberAt b o < codeCount
-  small-kind = kind-small (numberAt b o) (kindAt b o) (K .kind)
+  pub small-kind : q < codeCount
+  small-kind = kind-small q (kindNumbered q) (K .kind)
 
-  pub count-is : firstOf code + (timesIn code (lengthAt b o - 4) * groupOf code + lastOf code) ≡ knownCount b o
+  pub count-is : firstOf code + (timesIn code (length fs) * groupOf code + lastOf code) ≡ knownCount q fs
   count-is =
       let P = code-packs in
-      let t = times-in (kindAt b o) code (lengthAt b o) P in
-      rw (t, P .first, P .group, P .last) (sym (fields-length (rowOf (kindAt b o)) (times (rowOf (kindAt b o)) (lengthAt b o))))
+      let n : 4 + length fs - 4 ≡ length fs = omega arith in
+      let t : timesIn code (length fs) ≡ times row (4 + length fs) = ap (λ m. timesIn code m) (sym n) ∙ times-in (kindNumbered q) code (4 + length fs) P in
+      rw (t, P .first, P .group, P .last) (sym (fields-length row (times row (4 + length fs))))
 
-  pub enough-fields : firstOf code + lastOf code ≤ knownCount b o
+  pub enough-fields : firstOf code + lastOf code ≤ knownCount q fs
   enough-fields = let c = count-is in omega arith
 
-  pub few-fields : knownCount b o ≤ 16
+  pub few-fields : knownCount q fs ≤ 16
   few-fields =
-      let w : Row = rowOf (kindAt b o) in
-      let c : ℕ = times w (lengthAt b o) in
-      let e = fields-length w c in
-      let i = grow c (w .most) (length (w .group)) (K .stands .most) in
-      let k = sixteen-fields (kindAt b o) in
+      let c : ℕ = times row (4 + length fs) in
+      let e = fields-length row c in
+      let i = grow c (row .most) (length (row .group)) (K .most) in
+      let k = sixteen-fields (kindNumbered q) in
       omega arith
     where
       grow : (c m g : ℕ) → c ≤ m → c * g ≤ m * g
@@ -208,24 +210,24 @@ module _ (b : List ℕ) (o : ℕ) (K : Known b o) where
       grow (suc c) zero g h = absurd (omega arith)
       grow (suc c) (suc m) g h = let i = grow c m g (omega arith) in let x = suc-mul c g in let y = suc-mul m g in omega arith
 
-  pub slot-fits : (i : ℕ) → i < knownCount b o → slotIn code (knownCount b o) i < 6
-  slot-fits i l = slot-small (kindAt b o) code code-packs (times (rowOf (kindAt b o)) (lengthAt b o)) i l
+  pub slot-fits : (i : ℕ) → i < knownCount q fs → slotIn code (knownCount q fs) i < 6
+  slot-fits i l = slot-small (kindNumbered q) code code-packs (times row (4 + length fs)) i l
 
-  pub class-is : (i : ℕ) → i < knownCount b o → classIn code (knownCount b o) i ≡ classNumber (getD (fieldsAt b o (rowOf (kindAt b o))) i free)
-  class-is i l = class-right (kindAt b o) code code-packs (times (rowOf (kindAt b o)) (lengthAt b o)) i l
+  pub class-is : (i : ℕ) → i < knownCount q fs → classIn code (knownCount q fs) i ≡ classNumber (getD (knownFields q fs) i free)
+  class-is i l = class-right (kindNumbered q) code code-packs (times row (4 + length fs)) i l
 
 -- The same of numbers that are known to be the code and the count: what class_of asks, and what it tells.
-module _ {b : List ℕ} {o : ℕ} (K : Known b o) {x n : ℕ} (code-is : x ≡ codeAt (numberAt b o)) (counted : n ≡ knownCount b o) (i : ℕ) (l : i < n) where
+module _ {q : ℕ} {fs : List ℕ} (K : Known q fs) {x n : ℕ} (code-is : x ≡ codeAt q) (counted : n ≡ knownCount q fs) (i : ℕ) (l : i < n) where
   pub class-asks : Sized x × (firstOf x + lastOf x ≤ n) × (i < n) × (slotIn x n i < 6)
   class-asks =
-      let m : i < knownCount b o = omega arith in
+      let m : i < knownCount q fs = omega arith in
       subst (λ y. Sized y × (firstOf y + lastOf y ≤ n) × (i < n) × (slotIn y n i < 6)) (sym code-is)
-      (subst (λ m. Sized (codeAt (numberAt b o)) × (firstOf (codeAt (numberAt b o)) + lastOf (codeAt (numberAt b o)) ≤ m) × (i < m) × (slotIn (codeAt (numberAt b o)) m i < 6)) (sym counted) (code-sized b o K, enough-fields b o K, m, slot-fits b o K i m))
+      (subst (λ m. Sized (codeAt q) × (firstOf (codeAt q) + lastOf (codeAt q) ≤ m) × (i < m) × (slotIn (codeAt q) m i < 6)) (sym counted) (code-sized q fs K, enough-fields q fs K, m, slot-fits q fs K i m))
 
-  pub class-tells : {r : ℕ} → r ≡ classIn x n i → r ≡ classNumber (getD (fieldsAt b o (rowOf (kindAt b o))) i free)
+  pub class-tells : {r : ℕ} → r ≡ classIn x n i → r ≡ classNumber (getD (knownFields q fs) i free)
   class-tells {r} e =
-      let m : i < knownCount b o = omega arith in
-      e ∙ ap (λ y. classIn y n i) code-is ∙ ap (λ q. classIn (codeAt (numberAt b o)) q i) counted ∙ class-is b o K i m
+      let m : i < knownCount q fs = omega arith in
+      e ∙ ap (λ y. classIn y n i) code-is ∙ ap (λ j. classIn (codeAt q) j i) counted ∙ class-is q fs K i m
 
 -- The child that a field names.
 pub child-is : (f : Field) (v : ℕ) → isChild (classNumber f) v ≡ true → asChild f v ≡ childNo (classNumber f) v ∷ []
@@ -245,9 +247,6 @@ no-child (a-term b) v h = no-path h
 no-child an-entry zero h = refl
 no-child an-entry (suc v) h = let z : ltb 0 (suc v) ≡ true = of-lt {m = 0} {n = suc v} (omega arith) in no-path (sym z ∙ h)
 
--- A known field stands inside the image.
-pub known-inside : {b : List ℕ} {o : ℕ} → Known b o → (i : ℕ) → i < knownCount b o → o + 4 + 2 * i + 1 < length b
-known-inside K i l =
-    let s = K .stands .size in
-    let n = K .stands .inside in
-    omega arith
+-- A known field stands among the fields.
+pub known-inside : {q : ℕ} {fs : List ℕ} → Known q fs → (i : ℕ) → i < knownCount q fs → 2 * i + 1 < length fs
+known-inside K i l = let s = K .held in omega arith

@@ -1,5 +1,5 @@
--- What each known field of a record is, told by the code of its kind (the crate check_records, specs/Codes.antt): the class that stands for it in the code, and the child that it names.
-use Prim.Native.Nat.{ℕ, zero, suc, _+_, _-_, _/_, _%_}
+-- What each known field of a record is, told by the code of its kind (the crate read_records, specs/Codes.antt): the class that stands for it in the code, and the child that it names.
+use Prim.Native.Nat.{ℕ, zero, suc, _+_, _-_, _*_, _/_, _%_, _≤_}
 use mathlib.Core.Path.{_≡_}
 use mathlib.Core.Bool.{Bool, true, false}
 use mathlib.Core.List.{List}
@@ -7,20 +7,26 @@ use mathlib.Core.Option.{some}
 use lib.ListN.{length}
 use lib.Dec.{eqb, ltb, leb}
 use Rattle.calculus.specs.Combinators.{choose}
-use Rattle.image.specs.Bytes.{numberAt}
-use Rattle.image.specs.Kinds.{rowOf, kindOf}
-use Rattle.image.specs.Records.{kindAt, fieldsAt}
-use Rattle.image.specs.LaidOut.{Stands}
-use Rattle.check_records.specs.Codes.{firstOf, groupOf, lastOf, classesOf}
+use Rattle.image.specs.Kinds.{Field, Kind, domain, rowOf, kindOf, fieldsOf}
+use Rattle.image.specs.Records.{orElse, times}
+use Rattle.read_records.specs.Codes.{firstOf, groupOf, lastOf, classesOf}
 
--- A record of a known kind stands at o.
-pub record Known (b : List ℕ) (o : ℕ) : Type 0 where
-  pub kind : kindOf (numberAt b o) ≡ some (kindAt b o)
-  pub stands : Stands b (rowOf (kindAt b o)) o
+-- The kind of a number, if it is one's; a domain stands for no kind.
+abbrev pub kindNumbered : ℕ → Kind
+kindNumbered q = orElse (kindOf q) domain
 
--- How many known fields it has.
-abbrev pub knownCount : List ℕ → ℕ → ℕ
-knownCount b o = length (fieldsAt b o (rowOf (kindAt b o)))
+-- The known fields of a record of the kind with the number q, whose fields occupy the bytes fs: what each is, and how many there are.
+abbrev pub knownFields : ℕ → List ℕ → List Field
+knownFields q fs = fieldsOf (rowOf (kindNumbered q)) (times (rowOf (kindNumbered q)) (4 + length fs))
+
+abbrev pub knownCount : ℕ → List ℕ → ℕ
+knownCount q fs = length (knownFields q fs)
+
+-- Such a record: its kind is known, its fields are there, and the group stands no more often than it may.
+pub record Known (q : ℕ) (fs : List ℕ) : Type 0 where
+  pub kind : kindOf q ≡ some (kindNumbered q)
+  pub held : 2 * knownCount q fs ≤ length fs
+  pub most : times (rowOf (kindNumbered q)) (4 + length fs) ≤ rowOf (kindNumbered q) .most
 
 -- Which of the classes of the code x is that of field i of n: those of the first fields stand first, then those of the group, which are at most two, then those of the last.
 abbrev pub slotIn : ℕ → ℕ → ℕ → ℕ

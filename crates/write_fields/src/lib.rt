@@ -1,21 +1,19 @@
 // An inner crate: what the known fields of a record are, one by one, for a walk that writes the image anew (document 02,
 // card 11). The code of the record's kind says it; so a kind that the table has needs nothing here.
-use check_records::kinds::CLASS_ENTRY;
-use check_records::kinds::CLASS_TERM;
-use check_records::kinds::field_classes;
-use check_records::kinds::first_count;
-use check_records::kinds::group_count;
-use check_records::kinds::group_times;
-use check_records::kinds::known_code;
-use check_records::kinds::last_count;
-use check_records::numbers::TermNo;
-use check_records::words::kind_at;
-use check_records::words::word;
+use read_records::numbers::TermNo;
+use read_records::numbers::entry_term;
+use read_records::table::CLASS_ENTRY;
+use read_records::table::CLASS_TERM;
+use read_records::table::field_classes;
+use read_records::table::first_count;
+use read_records::table::group_count;
+use read_records::table::group_times;
+use read_records::table::known_code;
+use read_records::table::last_count;
 ghost use mathlib.Core.Path.{_≡_};
 ghost use mathlib.Core.Bool.{true};
 ghost use Prim.Native.Nat.{_+_, _≤_, _<_};
-ghost use Rattle.image.specs.Bytes.{numberAt};
-ghost use Rattle.check_records.specs.Codes.{kindCodes, codeAt, firstOf, lastOf, Sized};
+ghost use Rattle.read_records.specs.Codes.{kindCodes, codeAt, firstOf, lastOf, Sized};
 ghost use Rattle.write_fields.specs.Classes.{Known, knownCount, slotIn, digitAt, classIn, isChild, childNo, asField};
 
 // The code of a record's kind, and how many known fields it has.
@@ -24,13 +22,13 @@ pub struct Fields {
     pub count: usize,
 }
 
-pub fn known_fields(image: &[u8], codes: &[u32], at: usize) -> Fields
-    requires { ⌜ (now codes ≡ kindCodes) × Known (now image) at ⌝ }
-    ensures { λ r. ⌜ (r .code ≡ codeAt (numberAt (now (image .entry)) at)) × (r .count ≡ knownCount (now (image .entry)) at) ⌝ }
+// Of a record of a kind, whose fields these are.
+pub fn known_fields(codes: &[u32], kind: u16, fields: &[u8]) -> Fields
+    requires { ⌜ (now codes ≡ kindCodes) × Known kind (now fields) ⌝ }
+    ensures { λ r. ⌜ (r .code ≡ codeAt kind) × (r .count ≡ knownCount kind (now (fields .entry))) ⌝ }
 {
-    let code = known_code(codes, kind_at(image, at));
-    let bytes = (word(image, at) as usize) - 4;
-    let groups = group_times(code, bytes) * group_count(code);
+    let code = known_code(codes, kind);
+    let groups = group_times(code, fields.len()) * group_count(code);
     Fields {
         code: code,
         count: first_count(code) + (groups + last_count(code)),
@@ -99,18 +97,18 @@ pub fn child_no(class: u32, v: u16) -> TermNo
     ensures { λ r. ⌜ r .0 ≡ childNo class v ⌝ }
 {
     if class == CLASS_ENTRY {
-        return TermNo(v - 1);
+        return entry_term(v);
     }
     TermNo(v)
 }
 
 // The number of a field that names child n.
-pub fn as_field(class: u32, n: u16) -> u16
-    requires { ⌜ n < 65535 ⌝ }
-    ensures { λ r. ⌜ r ≡ asField class n ⌝ }
+pub fn as_field(class: u32, n: TermNo) -> u16
+    requires { ⌜ n .0 < 65535 ⌝ }
+    ensures { λ r. ⌜ r ≡ asField class (n .0) ⌝ }
 {
     if class == CLASS_ENTRY {
-        return n + 1;
+        return n.0 + 1;
     }
-    n
+    n.0
 }

@@ -12,8 +12,8 @@ use Rattle.image.proofs.Laid.{layout-good}
 use Rattle.verdict.specs.declared.Verdict.{Verdict}
 use Rattle.verdict.specs.Verdicts.{verdict}
 use Rattle.verdict.proofs.Passed.{passed-iff}
-use Rattle.validator.specs.Examined.{examined}
-use Rattle.validator.proofs.Parts.{too-long, examined-refuses, accepted}
+use Rattle.validator_core.specs.Examined.{examined}
+use Rattle.validator_core.proofs.Parts.{too-long, examined-refuses, accepted}
 use Rattle.base_bytes.specs.Bytes.{over}
 use Rattle.image_written.specs.Written.{fixed}
 use Rattle.image_written.proofs.Sizes.{few-terms}

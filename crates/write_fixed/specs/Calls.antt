@@ -1,6 +1,5 @@
 -- What a call that writes the fixed form of an image answers, and what the output then holds, from any image and any output (document 02, card 11).
 use Prim.Native.Nat.{ℕ}
-use mathlib.Core.Path.{_≡_}
 use mathlib.Core.List.{List}
 use lib.ListN.{length}
 use Rattle.calculus.specs.Combinators.{choose}

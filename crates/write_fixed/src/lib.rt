@@ -1,19 +1,22 @@
 // The fixed form of an image (document 02, card 11): equal programs over equal domains have equal bytes. The image is checked
 // first; an image that is refused is not written, nor is one where the output is shorter than it.
-use check_records::numbers::Counts;
 use image::IMAGE_LIMIT;
 use image::Refusal;
-use validator::examine::Checked;
+use read_records::numbers::Counts;
+use validator_core::examine::Checked;
+use write_image::DOMAIN_LIMIT;
+use write_image::TERM_LIMIT;
+use write_image::TYPE_LIMIT;
 ghost use mathlib.Core.Path.{_≡_};
 ghost use mathlib.Core.List.{List};
 ghost use Prim.Native.Nat.{ℕ, _≤_};
 ghost use lib.ListN.{length};
 ghost use Rattle.image.specs.Limits.{imageLimit};
 ghost use Rattle.verdict.specs.declared.Verdict.{Verdict};
-ghost use Rattle.check_records.specs.Codes.{kindCodes};
-ghost use Rattle.check_records.specs.Tables.{Tables, Counted};
-ghost use Rattle.check_rules.specs.Lent.{TypeOffsets};
-ghost use Rattle.validator.specs.Examined.{examined};
+ghost use Rattle.read_records.specs.Codes.{kindCodes};
+ghost use Rattle.read_records.specs.Tables.{Tables, Counted};
+ghost use Rattle.read_terms.specs.Lent.{TypeOffsets};
+ghost use Rattle.validator_core.specs.Examined.{examined};
 ghost use Rattle.write_fixed.specs.Calls.{writtenNumber, writtenPlace, writtenBytes, fixedCall};
 
 // So many bytes were written; or why none was.
@@ -53,12 +56,12 @@ pub fn write_fixed(image: &[u8], out: &mut [u8]) -> Written
     if IMAGE_LIMIT < image.len() {
         return Written::Refused(Refusal::ImageTooLong, 0);
     }
-    let codes = check_records::kinds::kind_codes();
-    let mut doms = [0u16; 16];
-    let mut types = [0u16; 128];
-    let mut descriptors = [0u32; 128];
-    let mut terms = [0u16; 1024];
-    let checked = validator::examine::examine_image(
+    let codes = read_records::table::kind_codes();
+    let mut doms = [0u16; DOMAIN_LIMIT];
+    let mut types = [0u16; TYPE_LIMIT];
+    let mut descriptors = [0u32; TYPE_LIMIT];
+    let mut terms = [0u16; TERM_LIMIT];
+    let checked = validator_core::examine::examine_image(
         image,
         &codes,
         &mut doms,

@@ -1,5 +1,5 @@
 -- What the functions read of a term, and one body more that gives way.
-use Prim.Native.Nat.{ℕ, _+_, _*_, _≤_, _<_}
+use Prim.Native.Nat.{ℕ, _+_, _<_}
 use native.Mathlib.Omega.{arith}
 use mathlib.Core.Path.{_≡_, refl, sym, ap, subst, _∙_}
 use mathlib.Core.Bool.{Bool, true, false, not}
@@ -8,110 +8,105 @@ use mathlib.Core.Logic.{_≢_}
 use lib.ListN.{length, getD, set, length-set}
 use lib.Seq.{getD-set-same, getD-set-other}
 use lib.Dec.{eqb}
-use borrow.Author.Tests.{ne-eqb}
 use Rattle.calculus.specs.Syntax.{Dom}
 use Rattle.calculus.specs.Combinators.{choose}
 use Rattle.calculus.specs.Plain.{domOf}
-use Rattle.image.specs.Bytes.{numberAt, fieldAt}
+use Rattle.image.specs.Bytes.{words, lengthAt, numberAt, fieldAt}
 use Rattle.image.specs.Kinds.{TermKind, termRow}
-use Rattle.image.specs.Records.{Layout, othersAt}
+use Rattle.image.specs.Records.{Layout}
 use Rattle.image.specs.Layout.{recordsOf}
-use Rattle.image.specs.Types.{termPlace, termKind, statedType, others}
-use Rattle.image.specs.LaidOut.{Stands}
+use Rattle.image.specs.Types.{typePlace, termPlace, termKind, typeNo, statedType, others}
 use Rattle.laws.proofs.Booleans.{no-path, eq-of, of-eq}
-use Rattle.image.proofs.KindNumbers.{same-term-kind}
-use Rattle.image.proofs.Offsets.{other-at}
-use Rattle.image.proofs.Laid.{Good, layout-good, image-kept}
-use Rattle.check_records.specs.Tables.{Tables}
-use Rattle.vm_terms.specs.Noted.{descriptorDomain}
-use Rattle.vm_terms.proofs.Records.{place-is, has-type, domain-is, has-descriptor}
+use Rattle.image.proofs.Laid.{Good}
+use Rattle.read_records.specs.Descriptors.{Describes}
+use Rattle.read_records.specs.Heads.{fieldIn}
+use Rattle.read_records.proofs.Parts.{bytes-length, field-is}
+use Rattle.read_terms.specs.Descriptors.{descriptorDomain}
+use Rattle.read_terms.specs.Lent.{Lent, IsTerm}
+use Rattle.read_terms.specs.Fields.{fieldsOf, othersIn, AtField}
+use Rattle.read_terms.proofs.Located.{good-of, image-is, kind-is, inside, long-enough, whole, typed-in, type-in, others-in, second-in, at-field-in}
+use Rattle.read_terms.proofs.Described.{descriptor-domain}
 use Rattle.image_written.proofs.Stripping.{Watch, of-advice, of-lower}
-use Rattle.write_idle.specs.Idle.{inMask, isKind, lowWatch, bodyAt, kindByte, Idled}
-use Rattle.write_idle.proofs.Watches.{by-number, body-below}
+use Rattle.write_idle.specs.Idle.{lowWatch, bodyAt, kindByte, Idled}
+use Rattle.write_idle.specs.WatchFields.{lowWatchIn}
+use Rattle.write_idle.proofs.Watches.{by-number}
 
 -- Numbers that are not equal.
 differ : (n m : ℕ) → eqb n m ≡ false → n ≢ m
 differ n m q e = no-path (sym (of-eq e) ∙ q)
 
-module _ (b ds ts ks : List ℕ) (T : Tables b ds ts ks) (n : ℕ) (l : n < length (recordsOf b .terms)) where
+-- The domain of a lower stands behind its type.
+lower-domain : (fs : List ℕ) → fieldIn fs 1 ≡ getD (othersIn fs TermKind.lower) 0 0
+unfolding words
+lower-domain fs = refl
+
+module _ {b ts ks : List ℕ} (T : Lent b ts ks) {n : ℕ} (l : IsTerm b n) where
   abbrev L : Layout
   L = recordsOf b
 
+  abbrev fs : List ℕ
+  fs = fieldsOf b n
+
+  abbrev q : ℕ
+  q = numberAt b (termPlace L n)
+
   same : L .image ≡ b
-  same = image-kept b L (T .laid-out)
+  same = image-is b (T .terms .laid-out)
 
   good : Good L
-  good = layout-good b L (T .laid-out)
+  good = good-of b (T .terms .laid-out)
 
-  number-is : numberAt (L .image) (termPlace L n) ≡ termRow (termKind L n) .number
-  number-is = good .terms n l .is .stands .number
+  -- What is asked of the fields.
+  pub watch-asks : (1 < length fs) × (fieldIn fs 0 < length ks) × (q ≡ termRow TermKind.lower .number → 3 < length fs)
+  watch-asks =
+      let t = typed-in (T .terms) l in
+      let y = t .type in
+      let e = T .types .enough in
+      (t .long, omega arith, λ e. second-in (T .terms) l (kind-is (T .terms) l TermKind.lower e) refl)
 
-  kind-of : {at kind : ℕ} → at ≡ termPlace L n → kind ≡ numberAt b at → numberAt (L .image) (termPlace L n) ≡ kind
-  kind-of e f = ap (λ i. numberAt i (termPlace L n)) same ∙ ap (λ o. numberAt b o) (sym e) ∙ sym f
+  -- The fields tell what the term is.
+  domain-in : descriptorDomain (getD ks (fieldIn fs 0) 0) ≡ domOf (statedType L n)
+  domain-in =
+      let y : typeNo L n < length (L .types) = good .terms n l .typed in
+      ap (λ t. descriptorDomain (getD ks t 0)) (type-in (T .terms) l)
+      ∙ descriptor-domain L good (typeNo L n) y (getD ks (typeNo L n) 0) (subst (λ i. Describes i (typePlace L (typeNo L n)) (getD ks (typeNo L n) 0)) (sym same) (T .types .descriptors (typeNo L n) y))
 
-  -- Advice and lower have three fields.
-  of-kind : (k : TermKind) {at kind : ℕ} → at ≡ termPlace L n → kind ≡ numberAt b at → kind ≡ termRow k .number → termKind L n ≡ k
-  of-kind k e f g = same-term-kind (termKind L n) k (sym number-is ∙ kind-of e f ∙ g)
+  pub watch-in : (high : Dom → Bool) → lowWatchIn high q fs ks ≡ lowWatch L high n
+  watch-in high =
+      ap (λ d. choose (eqb q (termRow TermKind.adv .number)) (not (high d)) (choose (eqb q (termRow TermKind.lower .number)) (not (high (fieldIn fs 1))) false)) domain-in
+      ∙ (lower (eqb q (termRow TermKind.lower .number)) refl
+      ∙ ap (λ i. choose (eqb (numberAt i (termPlace L n)) (termRow TermKind.adv .number)) (not (high (domOf (statedType L n)))) (choose (eqb (numberAt i (termPlace L n)) (termRow TermKind.lower .number)) (not (high (getD (others L n) 0 0))) false)) (sym same))
+    where
+      lower : (c : Bool) → eqb q (termRow TermKind.lower .number) ≡ c
+          → choose (eqb q (termRow TermKind.adv .number)) (not (high (domOf (statedType L n)))) (choose (eqb q (termRow TermKind.lower .number)) (not (high (fieldIn fs 1))) false)
+          ≡ choose (eqb q (termRow TermKind.adv .number)) (not (high (domOf (statedType L n)))) (choose (eqb q (termRow TermKind.lower .number)) (not (high (getD (others L n) 0 0))) false)
+      lower true e =
+          let d : fieldIn fs 1 ≡ getD (others L n) 0 0 = lower-domain fs ∙ ap (λ vs. getD vs 0 0) (others-in (T .terms) l (kind-is (T .terms) l TermKind.lower (eq-of e))) in
+          rw d refl
+      lower false e = rw e refl
 
-  three-fields : (k : TermKind) (j : ℕ) → Watch k j → Stands (L .image) (termRow k) (termPlace L n) → termPlace L n + 10 ≤ length b
-  three-fields k j of-advice s = let i = s .inside in let z = s .size in let m : length (L .image) ≡ length b = ap length same in omega arith
-  three-fields k j of-lower s = let i = s .inside in let z = s .size in let m : length (L .image) ≡ length b = ap length same in omega arith
-
-  third-there : (k : TermKind) (j : ℕ) → Watch k j → termKind L n ≡ k → termPlace L n + 10 ≤ length b
-  third-there k j w e = three-fields k j w (subst (λ x. Stands (L .image) (termRow x) (termPlace L n)) e (good .terms n l .is .stands))
-
-  pub lower-there : {at kind : ℕ} → at ≡ termPlace L n → kind ≡ numberAt b at → kind ≡ termRow TermKind.lower .number → at + 4 + 2 * 1 + 1 < length b
-  lower-there e f g = let z = third-there TermKind.lower 0 of-lower (of-kind TermKind.lower e f g) in omega arith
-
-  pub descriptor-there : {at : ℕ} → at ≡ termPlace L n → fieldAt b at 0 < length ks
-  descriptor-there e = subst (λ o. fieldAt b o 0 < length ks) (place-is b ds ts ks T n l ∙ sym e) (has-descriptor b ds ts ks T n l)
-
-  module _ (high : ℕ) {at kind : ℕ} (e : at ≡ termPlace L n) (f : kind ≡ numberAt b at) where
-    pub advice-low : {d : ℕ} → kind ≡ termRow TermKind.adv .number → d ≡ descriptorDomain (getD ks (fieldAt b at 0) 0) → not (inMask high d) ≡ lowWatch L (inMask high) n
-    advice-low g q =
-        let z : isKind L TermKind.adv n ≡ true = of-eq (kind-of e f ∙ g) in
-        let y = q ∙ ap (λ o. descriptorDomain (getD ks (fieldAt b o 0) 0)) (e ∙ sym (place-is b ds ts ks T n l)) ∙ domain-is b ds ts ks T n l in
-        ap (λ d. not (inMask high d)) y ∙ ap (λ x. choose x (not (inMask high (domOf (statedType L n)))) (choose (isKind L TermKind.lower n) (not (inMask high (getD (others L n) 0 0))) false)) (sym z)
-
-    not-advice : (kind ≡ termRow TermKind.adv .number → ⊥) → isKind L TermKind.adv n ≡ false
-    not-advice h = ne-eqb _ _ (λ z. h (sym (kind-of e f) ∙ z))
-
-    pub lower-low : {d : ℕ} → (kind ≡ termRow TermKind.adv .number → ⊥) → kind ≡ termRow TermKind.lower .number → d ≡ fieldAt b at 1 → not (inMask high d) ≡ lowWatch L (inMask high) n
-    lower-low {d} h g q =
-        let x = not-advice h in
-        let z : isKind L TermKind.lower n ≡ true = of-eq (kind-of e f ∙ g) in
-        let y : d ≡ getD (others L n) 0 0 = q ∙ ap (λ o. fieldAt b o 1) e ∙ ap (λ i. fieldAt i (termPlace L n) 1) (sym same) ∙ own (termKind L n) (of-kind TermKind.lower e f g) in
-        rw (x, z) (ap (λ p. not (inMask high p)) y)
-      where
-        own : (k : TermKind) → k ≡ TermKind.lower → fieldAt (L .image) (termPlace L n) 1 ≡ getD (othersAt (L .image) (termPlace L n) (termRow k)) 0 0
-        own k r = subst (λ j. fieldAt (L .image) (termPlace L n) 1 ≡ getD (othersAt (L .image) (termPlace L n) (termRow j)) 0 0) (sym r) (sym (other-at TermKind.lower refl (L .image) (termPlace L n) 0 (omega arith)))
-
-    pub no-watch : (kind ≡ termRow TermKind.adv .number → ⊥) → (kind ≡ termRow TermKind.lower .number → ⊥) → false ≡ lowWatch L (inMask high) n
-    no-watch h g =
-        let x = not-advice h in
-        let z : isKind L TermKind.lower n ≡ false = ne-eqb _ _ (λ y. g (sym (kind-of e f) ∙ y)) in
-        rw (x, z) refl
-
-  -- The body of a low watch, as the image has it.
+  -- The body of a low watch, in its fields and in the image.
   module _ (high : Dom → Bool) (low : lowWatch L high n ≡ true) where
-    pub body-there : {at : ℕ} → at ≡ termPlace L n → at + 4 + 2 * 2 + 1 < length b
-    body-there e =
-        let w = by-number high (termKind L n) _ number-is (statedType L n) (others L n) low in
-        let z = third-there (termKind L n) (w .0) (w .1 .0) refl in
-        omega arith
+    pub body-there : AtField b fs 2
+    body-there =
+        let w = by-number high (termKind L n) _ (good .terms n l .is .stands .number) (statedType L n) (others L n) low in
+        go (termKind L n) (w .0) (w .1 .0) refl
+      where
+        go : (k : TermKind) (j : ℕ) → Watch k j → termKind L n ≡ k → AtField b fs 2
+        go k j of-advice e = at-field-in (T .terms) l e 1 (omega arith)
+        go k j of-lower e = at-field-in (T .terms) l e 0 (omega arith)
 
-    pub body-is : {at e : ℕ} → at ≡ termPlace L n → e ≡ fieldAt b at 2 → (e ≡ bodyAt L n) × (e < length (L .terms))
-    body-is q f =
-        let z = f ∙ ap (λ o. fieldAt b o 2) q ∙ ap (λ i. fieldAt i (termPlace L n) 2) (sym same) in
-        let y = body-below L good high n l low in
-        (z, omega arith)
+    pub body-is : fieldIn fs 2 ≡ bodyAt L n
+    body-is =
+        let h = body-there .long in
+        let m = bytes-length b (termPlace L n) (whole (T .terms) l) in
+        field-is b (termPlace L n) (lengthAt b (termPlace L n)) 2 (omega arith) ∙ ap (λ i. fieldAt i (termPlace L n) 2) (sym same)
 
     pub byte-there : kindByte L n < length b
     byte-there =
-        let y = body-below L good high n l low in
-        let z : bodyAt L n < length (L .terms) = omega arith in
-        let h = has-type b ds ts ks T (bodyAt L n) z in
-        let p = place-is b ds ts ks T (bodyAt L n) z in
+        let h : IsTerm b (bodyAt L n) = subst (λ e. IsTerm b e) body-is (body-there .term) in
+        let i = inside (T .terms) h in
+        let m = long-enough (T .terms) h in
         omega arith
 
 -- No body yet; and one term more.

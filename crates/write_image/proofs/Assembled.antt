@@ -16,7 +16,7 @@ use Rattle.image.proofs.Laid.{Good, layout-good}
 use Rattle.verdict.specs.Domains.{masks}
 use Rattle.base_bytes.specs.Bytes.{over}
 use Rattle.base_bytes.proofs.Over.{onward}
-use Rattle.check_rules.specs.Lent.{Domains, Masks}
+use Rattle.read_terms.specs.Lent.{Domains, Masks}
 use Rattle.image_written.specs.Table.{place, entered, typesIn, tableOf}
 use Rattle.image_written.specs.Records.{Record, image}
 use Rattle.image_written.specs.Written.{terms, domainRecord, typeRecord, termRecords, recordsOver, writtenOver, written, fixed}

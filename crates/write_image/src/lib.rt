@@ -1,8 +1,8 @@
 // An inner crate: an image that is laid out, written anew (document 02, card 11): its domains, the types of its terms in their
 // order, its terms by a walk from the root.
-use check_records::numbers::Counts;
-use check_records::numbers::TermNo;
-use check_rules::domains::set_masks;
+use read_records::numbers::Counts;
+use read_records::numbers::TermNo;
+use read_terms::domains::set_masks;
 use write_program::Done;
 use write_program::write_term;
 use write_sections::write_domains;
@@ -16,12 +16,19 @@ ghost use Rattle.image.specs.Limits.{termLimit};
 ghost use Rattle.image.specs.Layout.{recordsOf};
 ghost use Rattle.verdict.specs.Domains.{masks};
 ghost use Rattle.base_bytes.specs.Bytes.{over};
-ghost use Rattle.check_records.specs.Codes.{kindCodes};
-ghost use Rattle.check_records.specs.Tables.{Counted};
-ghost use Rattle.check_rules.specs.Lent.{Domains, Terms, TypeOffsets};
+ghost use Rattle.read_records.specs.Codes.{kindCodes};
+ghost use Rattle.read_records.specs.Tables.{Counted};
+ghost use Rattle.read_terms.specs.Lent.{Domains, Terms, TypeOffsets};
 ghost use Rattle.image_written.specs.Written.{fixed};
 ghost use Rattle.write_sections.specs.Sections.{domainBytes};
 ghost use Rattle.write_image.specs.Fits.{Fits};
+
+// The most domains, types and terms of an image (document 01, "Limits").
+pub const DOMAIN_LIMIT: usize = 16;
+
+pub const TYPE_LIMIT: usize = 128;
+
+pub const TERM_LIMIT: usize = 1024;
 
 // The last term is the root.
 fn root_of(counts: Counts) -> TermNo
@@ -36,7 +43,7 @@ fn keep_domains(image: &[u8], doms: &[u16], count: usize, out: &mut [u8]) -> usi
     requires { ⌜ Domains (now image) (now doms) × (count ≡ length (recordsOf (now image) .domains)) × (length (domainBytes (masks (recordsOf (now image)))) ≤ length (now out)) ⌝ }
     ensures { λ r. ⌜ (r ≡ length (domainBytes (masks (recordsOf (now (image .entry)))))) × (now (out .exit) ≡ over 0 (domainBytes (masks (recordsOf (now (image .entry))))) (now (out .entry))) ⌝ }
 {
-    let mut masks = [0u16; 16];
+    let mut masks = [0u16; DOMAIN_LIMIT];
     set_masks(image, doms, count, &mut masks);
     write_domains(&masks, count, out)
 }
@@ -55,8 +62,8 @@ pub fn write_whole(
     ensures { λ r. ⌜ (r ≡ length (fixed (now (image .entry)))) × (now (out .exit) ≡ over 0 (fixed (now (image .entry))) (now (out .entry))) ⌝ }
 {
     let root = root_of(counts);
-    let mut places = [NO_PLACE; 128];
-    let mut order = [0u16; 128];
+    let mut places = [NO_PLACE; TYPE_LIMIT];
+    let mut order = [0u16; TYPE_LIMIT];
     let n = enter_term(image, codes, types, terms, &mut places, &mut order, 0, root);
     let behind_domains = keep_domains(image, doms, counts.domains, out);
     let behind_types = write_types(image, codes, types, &places, &order, n, out, behind_domains);

@@ -52,10 +52,13 @@ module _ {out : List ℕ} {done here : Done} {d : ℕ} (R : Room out done d) (sa
         let g3 = g .3 in
         record { depth = omega arith; bytes = omega arith; terms = omega arith }
 
-    pub some-first : 0 < left .terms
-    some-first = let g = first-room .2 in omega arith
+    pub some-first : (0 < left .terms) × (left .terms ≤ 1024)
+    some-first =
+        let g = first-room .2 in
+        let t = room-second .terms in
+        (omega arith, omega arith)
 
-    pub room-sum : {out₂ : List ℕ} {right : Done} → Grew (d - 1) out₁ left out₂ right → (right .at + 12 ≤ length out₂) × (right .terms < 1024) × (0 < right .terms) × (left .terms - 1 < 1024)
+    pub room-sum : {out₂ : List ℕ} {right : Done} → Grew (d - 1) out₁ left out₂ right → (right .at + 12 ≤ length out₂) × (right .terms < 1024) × (0 < right .terms)
     room-sum {out₂} {right} Y =
         let m = most-less d h in
         let b = R .bytes in
@@ -69,7 +72,7 @@ module _ {out : List ℕ} {done here : Done} {d : ℕ} (R : Room out done d) (sa
         let k1 = k .1 in
         let k2 = k .2 in
         let k3 = k .3 in
-        (omega arith, omega arith, omega arith, omega arith)
+        (omega arith, omega arith, omega arith)
 
   -- A print and what follows it.
   module _ (h : 1 < d) {out₁ : List ℕ} {inner : Done} (X : Grew (d - 2) out here out₁ inner) where
@@ -107,7 +110,13 @@ module _ {out : List ℕ} {done here : Done} {d : ℕ} (R : Room out done d) (sa
           let qt = Q .terms in
           record { depth = omega arith; bytes = omega arith; terms = omega arith }
 
-      pub room-sequence : {out₃ : List ℕ} {second : Done} → Grew (d - 1) out₂ first out₃ second → (second .at + 12 ≤ length out₃) × (second .terms < 1024) × (0 < second .terms) × (first .terms - 1 < 1024)
+      pub some-print : (0 < first .terms) × (first .terms ≤ 1024)
+      some-print =
+          let q = Q .terms in
+          let t = room-behind .terms in
+          (omega arith, omega arith)
+
+      pub room-sequence : {out₃ : List ℕ} {second : Done} → Grew (d - 1) out₂ first out₃ second → (second .at + 12 ≤ length out₃) × (second .terms < 1024) × (0 < second .terms)
       room-sequence {out₃} {second} Y =
           let i = inner-most d h in
           let m = i .0 in
@@ -125,7 +134,7 @@ module _ {out : List ℕ} {done here : Done} {d : ℕ} (R : Room out done d) (sa
           let k1 = k .1 in
           let k2 = k .2 in
           let k3 = k .3 in
-          (omega arith, omega arith, omega arith, omega arith)
+          (omega arith, omega arith, omega arith)
 
 pub room-both : {out : List ℕ} {done : Done} {d : ℕ} → Room out done d → 0 < d → done .at + (12 * most (d - 1) + 12 * most (d - 1) + 12) ≤ length out
 room-both {out} {done} {d} R h = let m = most-less d h in let b = R .bytes in omega arith

@@ -1,16 +1,19 @@
 // Generated images (document 02, card 12): a load that every station can repeat. Equal seeds and depths give equal bytes,
 // whatever the output held.
-use check_rules::kinds::ARITHMETIC;
-use check_rules::kinds::NUMBER;
-use check_rules::kinds::NUMBER_TYPE;
-use check_rules::kinds::PRINT;
-use check_rules::kinds::SEQUENCE;
-use check_rules::kinds::UNIT_TYPE;
+use read_records::kinds::ARITHMETIC;
+use read_records::kinds::NUMBER;
+use read_records::kinds::NUMBER_TYPE;
+use read_records::kinds::PRINT;
+use read_records::kinds::SEQUENCE;
+use read_records::kinds::UNIT_TYPE;
+use read_records::numbers::TermNo;
+use read_records::numbers::TypeNo;
 use write_records::put_record;
 use write_sections::write_domains;
 ghost use mathlib.Core.Path.{_≡_};
-ghost use Prim.Native.Nat.{_+_, _*_, _≤_, _<_};
+ghost use Prim.Native.Nat.{_+_, _-_, _*_, _≤_, _<_};
 ghost use lib.ListN.{length, take};
+ghost use Rattle.image.specs.Limits.{termLimit};
 ghost use Rattle.base_bytes.specs.Bytes.{over};
 ghost use Rattle.image_written.specs.Generated.{next};
 ghost use Rattle.write_load.specs.Loads.{loaded, loadNumber, loadBytes};
@@ -47,9 +50,9 @@ const SHORT_OUTPUT: u16 = 22;
 // Domain 0 alone, which names itself; type 0 is unit, type 1 number.
 const ALONE: u16 = 1;
 
-const OF_UNIT: u16 = 0;
+const OF_UNIT: TypeNo = TypeNo(0);
 
-const OF_NUMBER: u16 = 1;
+const OF_NUMBER: TypeNo = TypeNo(1);
 
 // An image of so many bytes; or a depth of 0 or over 9; or an output that is too short.
 pub enum Load {
@@ -74,7 +77,7 @@ fn draw(state: u32) -> u32
 
 // One term more: its record, of a kind, with the first of some numbers for its fields.
 fn put_term(out: &mut [u8], done: Done, kind: u16, numbers: &[u16], count: usize) -> Done
-    requires { ⌜ (count ≤ 4) × (count ≤ length (now numbers)) × (done .at + 12 ≤ length (now out)) × (done .terms < 1024) ⌝ }
+    requires { ⌜ (count ≤ 4) × (count ≤ length (now numbers)) × (done .at + 12 ≤ length (now out)) × (done .terms < termLimit) ⌝ }
     ensures { λ r. ⌜ Put (now (out .entry)) done (now (out .exit)) r kind (take count (now (numbers .entry))) ⌝ }
 {
     let at = put_record(out, done.at, kind, numbers, count);
@@ -85,13 +88,21 @@ fn put_term(out: &mut [u8], done: Done, kind: u16, numbers: &[u16], count: usize
     }
 }
 
+// The last term that is written.
+fn last_term(done: Done) -> TermNo
+    requires { ⌜ (0 < done .terms) × (done .terms ≤ termLimit) ⌝ }
+    ensures { λ r. ⌜ r .0 ≡ done .terms - 1 ⌝ }
+{
+    TermNo((done.terms - 1) as u16)
+}
+
 // A number is the next draw.
 fn put_number(out: &mut [u8], done: Done) -> Done
-    requires { ⌜ (done .at + 12 ≤ length (now out)) × (done .terms < 1024) ⌝ }
+    requires { ⌜ (done .at + 12 ≤ length (now out)) × (done .terms < termLimit) ⌝ }
     ensures { λ r. ⌜ Grew 0 (now (out .entry)) done (now (out .exit)) r ⌝ }
 {
     let state = draw(done.state);
-    let numbers = [OF_NUMBER, (state / DIVISOR) as u16, 0];
+    let numbers = [OF_NUMBER.0, (state / DIVISOR) as u16, 0];
     let here = Done {
         state: state,
         at: done.at,
@@ -102,28 +113,31 @@ fn put_number(out: &mut [u8], done: Done) -> Done
 
 // A print of the tree that was written last.
 fn put_print(out: &mut [u8], done: Done) -> Done
-    requires { ⌜ (done .at + 12 ≤ length (now out)) × (done .terms < 1024) × (0 < done .terms) ⌝ }
+    requires { ⌜ (done .at + 12 ≤ length (now out)) × (done .terms < termLimit) × (0 < done .terms) ⌝ }
     ensures { λ r. ⌜ Put (now (out .entry)) done (now (out .exit)) r 37 (printFields (done .terms)) ⌝ }
 {
-    let numbers = [OF_UNIT, (done.terms - 1) as u16];
+    let last = last_term(done);
+    let numbers = [OF_UNIT.0, last.0];
     put_term(out, done, PRINT, &numbers, 2)
 }
 
 // A sequence of two terms, of which the second was written last.
-fn put_sequence(out: &mut [u8], done: Done, first: usize) -> Done
-    requires { ⌜ (done .at + 12 ≤ length (now out)) × (done .terms < 1024) × (0 < done .terms) × (first < 1024) ⌝ }
-    ensures { λ r. ⌜ Put (now (out .entry)) done (now (out .exit)) r 36 (sequenceFields first (done .terms)) ⌝ }
+fn put_sequence(out: &mut [u8], done: Done, first: TermNo) -> Done
+    requires { ⌜ (done .at + 12 ≤ length (now out)) × (done .terms < termLimit) × (0 < done .terms) ⌝ }
+    ensures { λ r. ⌜ Put (now (out .entry)) done (now (out .exit)) r 36 (sequenceFields (first .0) (done .terms)) ⌝ }
 {
-    let numbers = [OF_NUMBER, first as u16, (done.terms - 1) as u16];
+    let last = last_term(done);
+    let numbers = [OF_NUMBER.0, first.0, last.0];
     put_term(out, done, SEQUENCE, &numbers, 3)
 }
 
 // A sum or a difference of two terms, of which the second was written last.
-fn put_sum(out: &mut [u8], done: Done, op: u32, first: usize) -> Done
-    requires { ⌜ (done .at + 12 ≤ length (now out)) × (done .terms < 1024) × (0 < done .terms) × (first < 1024) × (op ≤ 1) ⌝ }
-    ensures { λ r. ⌜ Put (now (out .entry)) done (now (out .exit)) r 43 (sumFields op first (done .terms)) ⌝ }
+fn put_sum(out: &mut [u8], done: Done, op: u32, first: TermNo) -> Done
+    requires { ⌜ (done .at + 12 ≤ length (now out)) × (done .terms < termLimit) × (0 < done .terms) × (op ≤ 1) ⌝ }
+    ensures { λ r. ⌜ Put (now (out .entry)) done (now (out .exit)) r 43 (sumFields op (first .0) (done .terms)) ⌝ }
 {
-    let numbers = [OF_NUMBER, op as u16, first as u16, (done.terms - 1) as u16];
+    let last = last_term(done);
+    let numbers = [OF_NUMBER.0, op as u16, first.0, last.0];
     put_term(out, done, ARITHMETIC, &numbers, 4)
 }
 
@@ -162,11 +176,11 @@ fn grow(out: &mut [u8], done: Done, depth: usize) -> Done
         let inner = grow(out, here, depth - 2);
         let first = put_print(out, inner);
         let second = grow(out, first, depth - 1);
-        return put_sequence(out, second, first.terms - 1);
+        return put_sequence(out, second, last_term(first));
     }
     let left = grow(out, here, depth - 1);
     let right = grow(out, left, depth - 1);
-    put_sum(out, right, c - 1, left.terms - 1)
+    put_sum(out, right, c - 1, last_term(left))
 }
 
 // The domain and the two types that every generated image has, and the offset behind them.

@@ -17,8 +17,8 @@ use Rattle.image.proofs.Words.{words-length}
 use Rattle.image.proofs.Laid.{image-kept}
 use Rattle.base_bytes.specs.Bytes.{over}
 use Rattle.base_bytes.proofs.Over.{over-nothing, onward}
-use Rattle.check_records.specs.Codes.{classNumber}
-use Rattle.check_rules.specs.Lent.{Terms, IsTerm}
+use Rattle.read_records.specs.Codes.{classNumber}
+use Rattle.read_terms.specs.Lent.{Terms, IsTerm}
 use Rattle.write_fields.specs.Classes.{isChild, childNo, asField}
 use Rattle.image_written.specs.Table.{has, place}
 use Rattle.image_written.specs.Records.{little, image}

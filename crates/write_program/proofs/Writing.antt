@@ -15,7 +15,7 @@ use Rattle.image.proofs.Laid.{Good}
 use Rattle.laws.proofs.Booleans.{no-path, of-lt}
 use Rattle.base_bytes.specs.Bytes.{over}
 use Rattle.base_bytes.proofs.Over.{onward}
-use Rattle.check_records.specs.Codes.{classNumber}
+use Rattle.read_records.specs.Codes.{classNumber}
 use Rattle.write_fields.specs.Classes.{isChild, childNo, asField}
 use Rattle.write_types.specs.Entries.{keptNumber}
 use Rattle.image_written.specs.Table.{place}

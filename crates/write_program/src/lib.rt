@@ -1,15 +1,16 @@
 // An inner crate: the terms of an image written anew, by a walk from a term that writes it after its children, left to right
 // (document 02, card 11). It recurses over the fields of a term that name its children; the term number falls. No kind is
 // named: the code of a record's kind says what each field is.
-use check_records::numbers::TermNo;
-use check_records::words::field_at;
-use check_rules::terms::term_kind;
-use check_rules::terms::term_place;
+use read_records::fields::field;
+use read_records::numbers::TermNo;
+use read_terms::terms::term_fields;
+use read_terms::terms::term_kind;
 use write_fields::as_field;
 use write_fields::child_no;
 use write_fields::class_of;
 use write_fields::is_child;
 use write_fields::known_fields;
+use write_records::FIELD_LIMIT;
 use write_records::put_record;
 use write_types::kept_number;
 ghost use mathlib.Core.Path.{_≡_};
@@ -19,8 +20,8 @@ ghost use lib.ListN.{length, take};
 ghost use Rattle.image.specs.Limits.{termLimit};
 ghost use Rattle.image.specs.Layout.{recordsOf};
 ghost use Rattle.base_bytes.specs.Bytes.{over};
-ghost use Rattle.check_records.specs.Codes.{kindCodes};
-ghost use Rattle.check_rules.specs.Lent.{Terms, IsTerm};
+ghost use Rattle.read_records.specs.Codes.{kindCodes};
+ghost use Rattle.read_terms.specs.Lent.{Terms, IsTerm};
 ghost use Rattle.write_fields.specs.Classes.{asField};
 ghost use Rattle.image_written.specs.Records.{little};
 ghost use Rattle.write_program.specs.Writing.{behind, Room, Wrote};
@@ -31,12 +32,20 @@ pub struct Done {
     pub terms: usize,
 }
 
-// The number of a field of a class that names the last term that is written.
-fn last_number(class: u32, d: Done) -> u16
-    requires { ⌜ (0 < d .terms) × (d .terms ≤ termLimit) ⌝ }
-    ensures { λ r. ⌜ r ≡ asField class (d .terms - 1) ⌝ }
+// The last term that is written.
+fn last_term(done: Done) -> TermNo
+    requires { ⌜ (0 < done .terms) × (done .terms ≤ termLimit) ⌝ }
+    ensures { λ r. ⌜ r .0 ≡ done .terms - 1 ⌝ }
 {
-    as_field(class, (d.terms - 1) as u16)
+    TermNo((done.terms - 1) as u16)
+}
+
+// The number of a field of a class that names it.
+fn last_number(class: u32, done: Done) -> u16
+    requires { ⌜ (0 < done .terms) × (done .terms ≤ termLimit) ⌝ }
+    ensures { λ r. ⌜ r ≡ asField class (done .terms - 1) ⌝ }
+{
+    as_field(class, last_term(done))
 }
 
 // One term more: its record, of a kind, with the first of some numbers for its fields.
@@ -65,14 +74,15 @@ pub fn write_term(
     requires { ⌜ (now codes ≡ kindCodes) × Terms (now image) (now terms) × IsTerm (now image) (e .0) × (length (recordsOf (now image) .types) ≤ length (now places)) × Room (now image) (e .0) done (length (now out)) ⌝ }
     ensures { λ r. ⌜ (r .at ≡ behind (now (image .entry)) (e .0) done .at) × (r .terms ≡ behind (now (image .entry)) (e .0) done .terms) × Wrote (now (image .entry)) (now (places .entry)) (e .0) done (now (out .entry)) (now (out .exit)) ⌝ }
 {
-    let at = term_place(image, terms, e);
-    let fields = known_fields(image, codes, at);
-    let mut numbers = [0u16; 16];
+    let fields = term_fields(image, terms, e);
+    let kind = term_kind(image, terms, e);
+    let known = known_fields(codes, kind, fields);
+    let mut numbers = [0u16; FIELD_LIMIT];
     let mut d = done;
     let mut i: usize = 0;
-    while i < fields.count {
-        let class = class_of(fields, i);
-        let v = field_at(image, at, i);
+    while i < known.count {
+        let class = class_of(known, i);
+        let v = field(fields, i);
         if is_child(class, v) {
             d = write_term(image, codes, terms, places, out, d, child_no(class, v));
             numbers[i] = last_number(class, d);
@@ -81,5 +91,5 @@ pub fn write_term(
         }
         i += 1;
     }
-    put_term(out, d, term_kind(image, terms, e), &numbers, fields.count)
+    put_term(out, d, kind, &numbers, known.count)
 }

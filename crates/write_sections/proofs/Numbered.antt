@@ -16,8 +16,8 @@ use Rattle.image.proofs.Laid.{image-kept}
 use Rattle.image.proofs.TypeNumbers.{kind-head}
 use Rattle.laws.proofs.Booleans.{no-path}
 use Rattle.base_bytes.specs.Bytes.{over}
-use Rattle.check_records.specs.Codes.{classNumber}
-use Rattle.check_rules.specs.Lent.{TypeOffsets, IsType}
+use Rattle.read_records.specs.Codes.{classNumber}
+use Rattle.read_terms.specs.Lent.{TypeOffsets, IsType}
 use Rattle.image_written.specs.Parts.{partsOf}
 use Rattle.image_written.specs.Table.{place, has, partNo, partNos}
 use Rattle.image_written.specs.Records.{little, bytes}

@@ -15,9 +15,9 @@ use Rattle.verdict.specs.declared.Verdict.{Verdict}
 use Rattle.verdict.specs.Domains.{masks}
 use Rattle.verdict.specs.Verdicts.{verdict}
 use Rattle.verdict.proofs.Passed.{Passed, passed-iff}
-use Rattle.check_records.specs.declared.numbers.Counts.{Counts}
-use Rattle.check_records.specs.Tables.{Counted}
-use Rattle.check_rules.specs.Lent.{Domains, Terms, TypeOffsets}
+use Rattle.read_records.specs.declared.numbers.Counts.{Counts}
+use Rattle.read_records.specs.Tables.{Counted}
+use Rattle.read_terms.specs.Lent.{Domains, Terms, TypeOffsets}
 use Rattle.image_written.specs.Written.{terms, written, fixed}
 use Rattle.image_written.specs.Stripped.{stripped, withoutWatches}
 use Rattle.image_written.proofs.Sizes.{few-terms}

@@ -10,8 +10,8 @@ use Rattle.image.specs.Limits.{imageLimit, workLength, reportLength}
 use Rattle.image.specs.Layout.{recordsOf}
 use Rattle.verdict.specs.declared.Verdict.{Verdict}
 use Rattle.verdict.specs.Verdicts.{verdict}
-use Rattle.validator.specs.Examined.{examined}
-use Rattle.validator.proofs.Parts.{too-long, examined-refuses, accepted}
+use Rattle.validator_core.specs.Examined.{examined}
+use Rattle.validator_core.proofs.Parts.{too-long, examined-refuses, accepted}
 use Rattle.base_bytes.specs.Bytes.{over}
 use Rattle.image_written.specs.Stripped.{withoutWatches}
 use Rattle.write_idle.specs.Idle.{inMask}

@@ -9,10 +9,10 @@ use Rattle.calculus.specs.Syntax.{Dom}
 use Rattle.image.specs.Limits.{domainLimit}
 use Rattle.image.specs.Layout.{recordsOf}
 use Rattle.verdict.specs.Domains.{leq}
-use Rattle.check_rules.specs.Lent.{Masks}
-use Rattle.check_rules.specs.Judged.{bitOf}
-use Rattle.check_rules.proofs.Masks.{order-is}
-use Rattle.check_shape.proofs.Orders.{any-same}
+use Rattle.read_terms.specs.Lent.{Masks}
+use Rattle.read_terms.specs.Masks.{bitOf}
+use Rattle.read_terms.proofs.Masks.{order-is}
+use Rattle.laws.proofs.Tests.{any-same}
 use Rattle.write_idle.specs.Idle.{inMask}
 use Rattle.write_stripped.specs.Calls.{wrongBy, wrongSet}
 

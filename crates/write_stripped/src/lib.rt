@@ -3,12 +3,15 @@
 // given mask is no set of high domains, or the output is shorter than the image.
 mod sets;
 
-use check_records::numbers::Counts;
-use check_rules::domains::set_masks;
 use image::IMAGE_LIMIT;
 use image::Refusal;
-use validator::examine::Checked;
+use read_records::numbers::Counts;
+use read_terms::domains::set_masks;
+use validator_core::examine::Checked;
 use write_idle::idle_copy;
+use write_image::DOMAIN_LIMIT;
+use write_image::TERM_LIMIT;
+use write_image::TYPE_LIMIT;
 use write_image::write_whole;
 ghost use mathlib.Core.Path.{_≡_};
 ghost use Prim.Native.Nat.{_≤_};
@@ -17,10 +20,10 @@ ghost use Rattle.image.specs.Limits.{imageLimit};
 ghost use Rattle.image.specs.Layout.{recordsOf};
 ghost use Rattle.verdict.specs.declared.Verdict.{Verdict};
 ghost use Rattle.base_bytes.specs.Bytes.{over};
-ghost use Rattle.check_records.specs.Codes.{kindCodes};
-ghost use Rattle.check_records.specs.Tables.{Tables, Counted};
-ghost use Rattle.check_rules.specs.Lent.{Domains, TypeOffsets};
-ghost use Rattle.validator.specs.Examined.{examined};
+ghost use Rattle.read_records.specs.Codes.{kindCodes};
+ghost use Rattle.read_records.specs.Tables.{Tables, Counted};
+ghost use Rattle.read_terms.specs.Lent.{Domains, TypeOffsets};
+ghost use Rattle.validator_core.specs.Examined.{examined};
 ghost use Rattle.image_written.specs.Stripped.{withoutWatches};
 ghost use Rattle.write_idle.specs.Idle.{inMask};
 ghost use Rattle.write_stripped.specs.Calls.{wrongSet, strippedNumber, strippedPlace, strippedBytes, strippedCall};
@@ -43,7 +46,7 @@ fn is_wrong_set(image: &[u8], doms: &[u16], count: usize, mask: u16) -> bool
     requires { ⌜ Domains (now image) (now doms) × (count ≡ length (recordsOf (now image) .domains)) ⌝ }
     ensures { λ r. ⌜ r ≡ wrongSet (recordsOf (now (image .entry))) mask ⌝ }
 {
-    let mut masks = [0u16; 16];
+    let mut masks = [0u16; DOMAIN_LIMIT];
     set_masks(image, doms, count, &mut masks);
     sets::is_wrong(&masks, count, mask)
 }
@@ -90,7 +93,7 @@ fn write_checked(
     if out.len() < size {
         return Stripped::ShortOutput;
     }
-    let mut copy = [0u8; 16384];
+    let mut copy = [0u8; IMAGE_LIMIT];
     let n = write_copy(
         image,
         codes,
@@ -113,12 +116,12 @@ pub fn write_stripped(image: &[u8], mask: u16, out: &mut [u8]) -> Stripped
     if IMAGE_LIMIT < image.len() {
         return Stripped::Refused(Refusal::ImageTooLong, 0);
     }
-    let codes = check_records::kinds::kind_codes();
-    let mut doms = [0u16; 16];
-    let mut types = [0u16; 128];
-    let mut descriptors = [0u32; 128];
-    let mut terms = [0u16; 1024];
-    let checked = validator::examine::examine_image(
+    let codes = read_records::table::kind_codes();
+    let mut doms = [0u16; DOMAIN_LIMIT];
+    let mut types = [0u16; TYPE_LIMIT];
+    let mut descriptors = [0u32; TYPE_LIMIT];
+    let mut terms = [0u16; TERM_LIMIT];
+    let checked = validator_core::examine::examine_image(
         image,
         &codes,
         &mut doms,

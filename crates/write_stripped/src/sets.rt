@@ -1,49 +1,49 @@
 // Sets of high domains, as masks: such a set has domain 0 and, with each member, every domain above it.
-use check_records::numbers::DomainNo;
-use check_rules::domains::leq;
 use laws::both;
 use laws::either;
+use read_records::numbers::DomainNo;
+use read_terms::domains::DOMAIN_LIMIT;
+use read_terms::domains::leq;
 use write_idle::in_mask;
 ghost use mathlib.Core.Path.{_≡_};
 ghost use mathlib.Core.Bool.{not, _&&_, _||_};
-ghost use Prim.Native.Nat.{_<_};
 ghost use lib.Dec.{leb};
 ghost use Rattle.laws.specs.Tests.{anyBelow};
 ghost use Rattle.image.specs.Limits.{domainLimit};
-ghost use Rattle.check_rules.specs.Judged.{bitOf};
+ghost use Rattle.read_terms.specs.Masks.{bitOf};
 ghost use Rattle.write_idle.specs.Idle.{inMask};
 ghost use Rattle.write_stripped.specs.Calls.{wrongBy};
 
+// The mainline's domain.
+const MAINLINE: DomainNo = DomainNo(0);
+
 // Domain q is above d, and not in the set.
-fn is_lacking(masks: &[u16; 16], mask: u16, d: u16, q: u16) -> bool
-    ensures { λ r. ⌜ r ≡ (bitOf (now (masks .entry)) d q && not (inMask mask q)) ⌝ }
+fn is_lacking(masks: &[u16; 16], mask: u16, d: DomainNo, q: DomainNo) -> bool
+    ensures { λ r. ⌜ r ≡ (bitOf (now (masks .entry)) (d .0) (q .0) && not (inMask mask (q .0))) ⌝ }
 {
-    both(
-        leq(masks, DomainNo(d), DomainNo(q)),
-        !in_mask(mask, q as u64),
-    )
+    both(leq(masks, d, q), !in_mask(mask, q))
 }
 
 // The set lacks a domain above d.
-fn lacks_above(masks: &[u16; 16], mask: u16, d: u16) -> bool
-    ensures { λ r. ⌜ r ≡ anyBelow domainLimit (λ q. bitOf (now (masks .entry)) d q && not (inMask mask q)) ⌝ }
+fn lacks_above(masks: &[u16; 16], mask: u16, d: DomainNo) -> bool
+    ensures { λ r. ⌜ r ≡ anyBelow domainLimit (λ q. bitOf (now (masks .entry)) (d .0) q && not (inMask mask q)) ⌝ }
 {
     let mut found = false;
     let mut q: u16 = 0;
-    while q < 16 {
-        found = either(found, is_lacking(masks, mask, d, q));
+    while q < DOMAIN_LIMIT {
+        found = either(found, is_lacking(masks, mask, d, DomainNo(q)));
         q += 1;
     }
     found
 }
 
 // Domain d is in the set, and absent or without one that is above it.
-fn is_wrong_member(masks: &[u16; 16], count: usize, mask: u16, d: u16) -> bool
-    ensures { λ r. ⌜ r ≡ (inMask mask d && (leb count d || anyBelow domainLimit (λ q. bitOf (now (masks .entry)) d q && not (inMask mask q)))) ⌝ }
+fn is_wrong_member(masks: &[u16; 16], count: usize, mask: u16, d: DomainNo) -> bool
+    ensures { λ r. ⌜ r ≡ (inMask mask (d .0) && (leb count (d .0) || anyBelow domainLimit (λ q. bitOf (now (masks .entry)) (d .0) q && not (inMask mask q)))) ⌝ }
 {
-    let absent = count <= (d as usize);
+    let absent = count <= (d.0 as usize);
     both(
-        in_mask(mask, d as u64),
+        in_mask(mask, d),
         either(absent, lacks_above(masks, mask, d)),
     )
 }
@@ -53,8 +53,8 @@ fn has_wrong_member(masks: &[u16; 16], count: usize, mask: u16) -> bool
 {
     let mut found = false;
     let mut d: u16 = 0;
-    while d < 16 {
-        found = either(found, is_wrong_member(masks, count, mask, d));
+    while d < DOMAIN_LIMIT {
+        found = either(found, is_wrong_member(masks, count, mask, DomainNo(d)));
         d += 1;
     }
     found
@@ -64,5 +64,8 @@ fn has_wrong_member(masks: &[u16; 16], count: usize, mask: u16) -> bool
 pub fn is_wrong(masks: &[u16; 16], count: usize, mask: u16) -> bool
     ensures { λ r. ⌜ r ≡ wrongBy (bitOf (now (masks .entry))) count mask ⌝ }
 {
-    either(!in_mask(mask, 0), has_wrong_member(masks, count, mask))
+    either(
+        !in_mask(mask, MAINLINE),
+        has_wrong_member(masks, count, mask),
+    )
 }

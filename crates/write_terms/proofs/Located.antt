@@ -7,19 +7,22 @@ use mathlib.Core.List.{List, [], _∷_, _++_, append-nil}
 use mathlib.Core.Option.{some}
 use lib.ListN.{length, getD}
 use Rattle.calculus.specs.Syntax.{Ty}
-use Rattle.image.specs.Bytes.{numberAt, fieldAt}
-use Rattle.image.specs.Kinds.{in-domains, in-operations, in-truths, any-number, Field, a-type, own, free, a-term, an-entry, domain, term, termRow, rowOf}
-use Rattle.image.specs.LaidOut.{Within}
-use Rattle.image.specs.Records.{kindAt, orElse, fieldsAt}
+use Rattle.image.specs.Bytes.{numberAt}
+use Rattle.image.specs.Kinds.{in-domains, in-operations, in-truths, any-number, Field, a-type, own, free, a-term, an-entry, domain, term, termRow, rowOf, kindOf}
+use Rattle.image.specs.LaidOut.{Stands, Within}
+use Rattle.image.specs.Records.{kindAt, orElse, fieldsAt, numbersAt}
 use Rattle.image.specs.Layout.{recordsOf}
 use Rattle.image.specs.Types.{termPlace, termKind, typeNo, statedType, children}
-use Rattle.image.proofs.Laid.{Good, TermOk, layout-good, image-kept}
-use Rattle.image.proofs.Offsets.{number-at}
+use Rattle.image.proofs.Laid.{Good}
 use Rattle.laws.proofs.Booleans.{no-path}
-use Rattle.check_records.specs.Codes.{classNumber, codeAt}
-use Rattle.check_rules.specs.Lent.{Terms, IsTerm}
-use Rattle.write_fields.specs.Classes.{Known, knownCount, classIn, isChild, childNo}
-use Rattle.write_fields.proofs.Told.{class-tells, child-is, no-child}
+use Rattle.read_records.specs.Codes.{classNumber, codeAt}
+use Rattle.read_terms.specs.Lent.{Terms, IsTerm}
+use Rattle.read_terms.specs.Fields.{fieldsOf}
+use Rattle.read_terms.proofs.Located.{good-of, image-is, term-ok}
+use Rattle.write_fields.specs.Classes.{knownCount, Known, isChild, childNo}
+use Rattle.write_fields.proofs.Told.{child-is, no-child}
+use Rattle.write_fields.proofs.Standing.{RecordRead, record-read}
+use Rattle.write_fields.proofs.Standing as Standing
 use Rattle.image_written.specs.Parts.{partsFirst}
 use Rattle.image_written.specs.Table.{entered, typesIn, typesInAll}
 use Rattle.image_written.proofs.Entering.{entered-append}
@@ -42,36 +45,28 @@ module _ {b table : List ℕ} (T : Terms b table) {n : ℕ} (h : IsTerm b n) whe
   o = termPlace (recordsOf b) n
 
   pub good : Good (recordsOf b)
-  good = layout-good b (recordsOf b) (T .laid-out)
+  good = good-of b (T .laid-out)
 
   same : recordsOf b .image ≡ b
-  same = image-kept b (recordsOf b) (T .laid-out)
+  same = image-is b (T .laid-out)
 
-  term-ok : TermOk b (length (recordsOf b .domains)) (length (recordsOf b .types)) (termKind (recordsOf b) n) n o
-  term-ok = subst (λ i. TermOk i (length (recordsOf b .domains)) (length (recordsOf b .types)) (termKind (recordsOf b) n) n o) same (good .terms n h)
+  kind-is : kindAt b o ≡ term (termKind (recordsOf b) n)
+  kind-is = ap (λ q. orElse q domain) (term-ok T h .kind)
 
-  pub kind-is : kindAt b o ≡ term (termKind (recordsOf b) n)
-  kind-is = ap (λ q. orElse q domain) (term-ok .kind)
+  kind-known : kindOf (numberAt b o) ≡ some (kindAt b o)
+  kind-known = term-ok T h .kind ∙ ap some (sym kind-is)
 
-  pub known : Known b o
-  known = record { kind = term-ok .kind ∙ ap some (sym kind-is); stands = rw kind-is (term-ok .is .stands) }
+  stands : Stands b (rowOf (kindAt b o)) o
+  stands = rw kind-is (term-ok T h .is .stands)
 
-  sorts-are : fieldsAt b o (rowOf (kindAt b o)) ≡ sortsAt (recordsOf b) n
-  sorts-are = ap (λ k. fieldsAt b o (rowOf k)) kind-is ∙ ap (λ i. fieldsAt i o (termRow (termKind (recordsOf b) n))) (sym same)
+  pub known : Known (numberAt b o) (fieldsOf b n)
+  known = Standing.known kind-known stands
 
-  pub count-is : knownCount b o ≡ length (sortsAt (recordsOf b) n)
-  count-is = ap length sorts-are
-
-  pub field-is : (i : ℕ) → i < knownCount b o → fieldAt b o i ≡ getD (numbersOf (recordsOf b) n) i 0
-  field-is i l =
-      let c = count-is in
-      sym (number-at (recordsOf b .image) o (termRow (termKind (recordsOf b) n)) i (omega arith) ∙ ap (λ j. fieldAt j o i) same)
-
-  pub class-of : {x m : ℕ} → x ≡ codeAt (numberAt b o) → m ≡ knownCount b o → (i : ℕ) → i < m → {r : ℕ} → r ≡ classIn x m i → r ≡ classNumber (getD (sortsAt (recordsOf b) n) i free)
-  class-of {x} {m} e f i l {r} g = class-tells known e f i l g ∙ ap (λ fs. classNumber (getD fs i free)) sorts-are
-
-  pub type-is : fieldAt b o 0 ≡ typeNo (recordsOf b) n
-  type-is = ap (λ j. fieldAt j o 0) (sym same)
+  -- Its record, read.
+  pub read : {p x m : ℕ} {fs : List ℕ} → p ≡ numberAt b o → fs ≡ fieldsOf b n → (x ≡ codeAt p) × (m ≡ knownCount p fs) → RecordRead fs x m (sortsAt (recordsOf b) n) (numbersOf (recordsOf b) n)
+  read {p} {x} {m} {fs} e f g =
+      subst (λ i. RecordRead fs x m (fieldsAt i o (termRow (termKind (recordsOf b) n))) (numbersAt i o (termRow (termKind (recordsOf b) n)))) (sym same)
+      (subst (λ k. RecordRead fs x m (fieldsAt b o (rowOf k)) (numbersAt b o (rowOf k))) kind-is (record-read kind-known stands e f g))
 
   pub typed : typeNo (recordsOf b) n < length (recordsOf b .types)
   typed = good .terms n h .typed

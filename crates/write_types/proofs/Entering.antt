@@ -10,11 +10,11 @@ use lib.Dec.{eqb}
 use Rattle.calculus.specs.Syntax.{Ty}
 use Rattle.image.specs.Layout.{recordsOf}
 use Rattle.image.specs.Kinds.{free}
-use Rattle.image.specs.Types.{typePlace, typeFields, typeField, typeOf}
+use Rattle.image.specs.Types.{typeFields, typeField, typeOf}
 use Rattle.laws.proofs.Booleans.{no-path, eq-of, of-eq}
 use Rattle.image.proofs.Laid.{Good, Below, layout-good}
 use Rattle.image.proofs.TypeNumbers.{types-apart}
-use Rattle.check_rules.specs.Lent.{TypeOffsets, IsType}
+use Rattle.read_terms.specs.Lent.{TypeOffsets, IsType}
 use Rattle.image_written.specs.Parts.{partsOf, partsFirst, joined}
 use Rattle.image_written.specs.Table.{place, has, enter, entered}
 use Rattle.image_written.proofs.Parts.{mapParts}
@@ -24,9 +24,8 @@ use Rattle.image_written.proofs.Entering.{entered-append, enter-one, enter-behi
 use Rattle.image_written.proofs.Taken.{fields-there, parts-whole}
 use Rattle.image_written.proofs.Sizes.{From, table-few}
 use Rattle.image_written.proofs.Steps.{entered-there}
-use Rattle.check_records.specs.Codes.{classNumber}
-use Rattle.write_fields.specs.Classes.{knownCount}
-use Rattle.write_types.proofs.Located.{good, count-is, class-type, before-type, before-other, sortsAt, frontOf}
+use Rattle.read_records.specs.Codes.{classNumber}
+use Rattle.write_types.proofs.Located.{good, class-type, before-type, before-other, sortsAt, frontOf}
 use Rattle.write_types.specs.Entries.{noPlace, placeIn, entriesOf, Entries, PartsThere, Placed}
 
 map-snoc : {A B : Type 0} (f : A → B) (xs : List A) (x : A) → map f (xs ++ (x ∷ [])) ≡ map f xs ++ (f x ∷ [])
@@ -167,17 +166,14 @@ module _ {b : List ℕ} {n m : ℕ} {places places′ order order′ : List ℕ}
   all-entered = ap (λ X. enter X (typeOf (recordsOf b) t)) e ∙ behind .2
 
 -- One field more of a type of which the parts so far are entered.
-module _ {b table : List ℕ} (O : TypeOffsets b table) {t : ℕ} (h : IsType b t) (i : ℕ) (l : i < knownCount b (typePlace (recordsOf b) t)) where
-  field-there : i < length (sortsAt b t)
-  field-there = let c = count-is O h in omega arith
-
+module _ {b table : List ℕ} (O : TypeOffsets b table) {t : ℕ} (h : IsType b t) (i : ℕ) (l : i < length (sortsAt b t)) where
   pub part-entered : (T U : List Ty) → classNumber (getD (sortsAt b t) i free) ≡ 0 → U ≡ entered T (frontOf b t i) → entered U (partsFirst (typeOf (recordsOf b) (typeField (recordsOf b) t i))) ≡ entered T (frontOf b t (i + 1))
   part-entered T U e u =
       let z : suc i ≡ i + 1 = omega arith in
-      let f : frontOf b t (suc i) ≡ frontOf b t i ++ partsFirst (typeOf (recordsOf b) (typeField (recordsOf b) t i)) = before-type (λ a. typeOf (recordsOf b) a) (sortsAt b t) (typeFields (recordsOf b) t) i (fields-there (recordsOf b) (good O h) t) field-there (class-type _ e) in
+      let f : frontOf b t (suc i) ≡ frontOf b t i ++ partsFirst (typeOf (recordsOf b) (typeField (recordsOf b) t i)) = before-type (λ a. typeOf (recordsOf b) a) (sortsAt b t) (typeFields (recordsOf b) t) i (fields-there (recordsOf b) (good O h) t) l (class-type _ e) in
       ap (λ X. entered X (partsFirst (typeOf (recordsOf b) (typeField (recordsOf b) t i)))) u ∙ sym (entered-append T (frontOf b t i) _) ∙ ap (λ xs. entered T xs) (sym f) ∙ ap (λ j. entered T (frontOf b t j)) z
 
   pub no-part : (classNumber (getD (sortsAt b t) i free) ≡ 0 → ⊥) → frontOf b t i ≡ frontOf b t (i + 1)
   no-part e =
       let z : suc i ≡ i + 1 = omega arith in
-      sym (before-other (λ a. typeOf (recordsOf b) a) (sortsAt b t) (typeFields (recordsOf b) t) i (fields-there (recordsOf b) (good O h) t) field-there e) ∙ ap (λ j. frontOf b t j) z
+      sym (before-other (λ a. typeOf (recordsOf b) a) (sortsAt b t) (typeFields (recordsOf b) t) i (fields-there (recordsOf b) (good O h) t) l e) ∙ ap (λ j. frontOf b t j) z

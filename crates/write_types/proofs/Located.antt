@@ -7,61 +7,56 @@ use mathlib.Core.Option.{some}
 use lib.ListN.{length, getD, take}
 use lib.Seq.{take-all}
 use Rattle.calculus.specs.Syntax.{Ty}
-use Rattle.image.specs.Bytes.{lengthAt, numberAt, fieldAt}
-use Rattle.image.specs.Kinds.{in-domains, in-operations, in-truths, any-number, Field, a-type, own, free, a-term, an-entry, domain, type, typeRow, rowOf}
-use Rattle.image.specs.Records.{kindAt, orElse, fieldsAt}
+use Rattle.image.specs.Bytes.{lengthAt, numberAt}
+use Rattle.image.specs.Kinds.{in-domains, in-operations, in-truths, any-number, Field, a-type, own, free, a-term, an-entry, domain, type, typeRow, rowOf, kindOf}
+use Rattle.image.specs.Records.{kindAt, orElse, fieldsAt, numbersAt}
+use Rattle.image.specs.LaidOut.{Stands}
 use Rattle.image.specs.Layout.{recordsOf}
 use Rattle.image.specs.Types.{typePlace, typeKind, typeFields, typeField, typeOf}
-use Rattle.image.proofs.Laid.{Good, TypeOk, layout-good, image-kept}
-use Rattle.image.proofs.Offsets.{number-at}
-use Rattle.check_records.specs.Codes.{classNumber, codeAt}
-use Rattle.check_rules.specs.Lent.{TypeOffsets, IsType}
-use Rattle.check_rules.proofs.Lists.{table-long, table-at}
-use Rattle.write_fields.specs.Classes.{Known, knownCount, classIn}
-use Rattle.write_fields.proofs.Told.{class-tells}
+use Rattle.image.proofs.Laid.{Good}
+use Rattle.read_records.specs.Codes.{classNumber, codeAt}
+use Rattle.read_terms.specs.Lent.{TypeOffsets, IsType}
+use Rattle.read_terms.specs.Methods.{typeFieldsOf}
+use Rattle.read_terms.proofs.Located.{good-of, image-is}
+use Rattle.read_terms.proofs.TypeRecords.{type-ok}
+use Rattle.write_fields.specs.Classes.{knownCount, Known}
+use Rattle.write_fields.proofs.Standing.{RecordRead, record-read}
+use Rattle.write_fields.proofs.Standing as Standing
 use Rattle.image_written.specs.Parts.{at, partsOf, partsFirst, joined}
 use Rattle.image_written.proofs.Parts.{mapParts}
 use Rattle.image_written.proofs.Taken.{partFrom, partsFrom, sortsOf, sorts, fields-there, type-parts}
+
+-- What the known fields of type t are.
+abbrev pub sortsAt : List ℕ → ℕ → List Field
+sortsAt b t = sortsOf (typeKind (recordsOf b) t) (lengthAt (recordsOf b .image) (typePlace (recordsOf b) t))
 
 module _ {b table : List ℕ} (O : TypeOffsets b table) {t : ℕ} (h : IsType b t) where
   abbrev o : ℕ
   o = typePlace (recordsOf b) t
 
   pub good : Good (recordsOf b)
-  good = layout-good b (recordsOf b) (O .laid-out)
+  good = good-of b (O .laid-out)
 
   same : recordsOf b .image ≡ b
-  same = image-kept b (recordsOf b) (O .laid-out)
-
-  pub in-table : t < length table
-  in-table = let z = table-long table (recordsOf b .types) (O .offsets) in omega arith
-
-  pub place-is : getD table t 0 ≡ o
-  place-is = table-at table (recordsOf b .types) (O .offsets) t h
-
-  type-ok : TypeOk b (length (recordsOf b .domains)) (recordsOf b .types) (typeKind (recordsOf b) t) t o
-  type-ok = subst (λ i. TypeOk i (length (recordsOf b .domains)) (recordsOf b .types) (typeKind (recordsOf b) t) t o) same (good .types t h)
+  same = image-is b (O .laid-out)
 
   kind-is : kindAt b o ≡ type (typeKind (recordsOf b) t)
-  kind-is = ap (λ q. orElse q domain) (type-ok .kind)
+  kind-is = ap (λ q. orElse q domain) (type-ok O h .kind)
 
-  pub known : Known b o
-  known = record { kind = type-ok .kind ∙ ap some (sym kind-is); stands = rw kind-is (type-ok .is .stands) }
+  kind-known : kindOf (numberAt b o) ≡ some (kindAt b o)
+  kind-known = type-ok O h .kind ∙ ap some (sym kind-is)
 
-  -- The fields, as the program sees them and as the definition does.
-  sorts-are : fieldsAt b o (rowOf (kindAt b o)) ≡ sorts (recordsOf b) good t
-  sorts-are = ap (λ k. fieldsAt b o (rowOf k)) kind-is ∙ ap (λ i. fieldsAt i o (typeRow (typeKind (recordsOf b) t))) (sym same)
+  stands : Stands b (rowOf (kindAt b o)) o
+  stands = rw kind-is (type-ok O h .is .stands)
 
-  pub count-is : knownCount b o ≡ length (sorts (recordsOf b) good t)
-  count-is = ap length sorts-are
+  pub known : Known (numberAt b o) (typeFieldsOf b t)
+  known = Standing.known kind-known stands
 
-  pub field-is : (i : ℕ) → i < knownCount b o → fieldAt b o i ≡ typeField (recordsOf b) t i
-  field-is i l =
-      let c = count-is in
-      sym (number-at (recordsOf b .image) o (typeRow (typeKind (recordsOf b) t)) i (omega arith) ∙ ap (λ j. fieldAt j o i) same)
-
-  pub class-of : {x n : ℕ} → x ≡ codeAt (numberAt b o) → n ≡ knownCount b o → (i : ℕ) → i < n → {r : ℕ} → r ≡ classIn x n i → r ≡ classNumber (getD (sorts (recordsOf b) good t) i free)
-  class-of {x} {n} e f i l {r} g = class-tells known e f i l g ∙ ap (λ fs. classNumber (getD fs i free)) sorts-are
+  -- Its record, read.
+  pub read : {p x m : ℕ} {fs : List ℕ} → p ≡ numberAt b o → fs ≡ typeFieldsOf b t → (x ≡ codeAt p) × (m ≡ knownCount p fs) → RecordRead fs x m (sortsAt b t) (typeFields (recordsOf b) t)
+  read {p} {x} {m} {fs} e f g =
+      subst (λ i. RecordRead fs x m (fieldsAt i o (typeRow (typeKind (recordsOf b) t))) (numbersAt i o (typeRow (typeKind (recordsOf b) t)))) (sym same)
+      (subst (λ k. RecordRead fs x m (fieldsAt b o (rowOf k)) (numbersAt b o (rowOf k))) kind-is (record-read kind-known stands e f g))
 
   -- A field that names a type names a lower one.
   pub lower : (i : ℕ) → getD (sorts (recordsOf b) good t) i free ≡ a-type → typeField (recordsOf b) t i < t
@@ -113,9 +108,6 @@ module _ (g : ℕ → Ty) where
   before-other fs vs i l h e = before-next fs vs i l h ∙ ap (λ p. before g fs vs i ++ joined (mapParts (λ a. partsFirst a) (p ∷ []))) (other-class (getD fs i free) (getD vs i 0) g e) ∙ append-nil (before g fs vs i)
 
 -- Of type t of an image.
-abbrev pub sortsAt : List ℕ → ℕ → List Field
-sortsAt b t = sortsOf (typeKind (recordsOf b) t) (lengthAt (recordsOf b .image) (typePlace (recordsOf b) t))
-
 abbrev pub frontOf : List ℕ → ℕ → ℕ → List Ty
 frontOf b t i = before (λ a. typeOf (recordsOf b) a) (sortsAt b t) (typeFields (recordsOf b) t) i
 

@@ -44,6 +44,6 @@ pub record PartsThere (b : List ℕ) (n : ℕ) (order : List ℕ) (t : ℕ) : Ty
 pub record Placed (b places : List ℕ) (T : List Ty) : Type 0 where
   pub each : (t : ℕ) → t < length (recordsOf b .types) → has T (typeOf (recordsOf b) t) ≡ true → getD places t 0 ≡ place T (typeOf (recordsOf b) t)
 
--- The number of a field of class c (the crate check_records, specs/Codes.antt) and number v that names no child, in the image that is written: a type's place, and any other number as it is.
+-- The number of a field of class c (the crate read_records, specs/Codes.antt) and number v that names no child, in the image that is written: a type's place, and any other number as it is.
 abbrev pub keptNumber : List ℕ → ℕ → ℕ → ℕ
 keptNumber places c v = choose (eqb c 0) (getD places v 0) v

@@ -64,6 +64,8 @@ REFUSALS = {
          "Keep domain 0, and with each domain every domain above it. The image is not at fault."),
     24: ("the output that was lent for the image without its watches is shorter than the image",
          "Lend an output as long as the image: without watches it is never longer. The image is not at fault."),
+    25: ("fewer places were lent than a forecast has numbers",
+         "Lend eleven places. The image is not at fault."),
 }
 
 # For some kinds of terms, how to keep their type rule.
@@ -150,7 +152,7 @@ def mend_of(image, number, place):
 
 def describe(image, place, number, places, domains):
     """The record at a place: which one it is, and where it stands in the text."""
-    if number in (1, 9, 17, 18, 20, 21, 22, 23, 24):
+    if number in (1, 9, 17, 18, 20, 21, 22, 23, 24, 25):
         return []
     found = record_at(image, place) if place < len(image) else 2
     if not isinstance(found, Record):

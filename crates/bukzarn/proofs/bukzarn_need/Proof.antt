@@ -1,7 +1,9 @@
 -- The forecast's number and place, as one number, and the lent places as `put_forecast` leaves them.
 use mathlib.Core.Path.{ap, _∙_}
+use lib.ListN.{length}
+use denote.Ref.{now}
 use Rattle.answers_as_numbers.specs.Numbers.{refusedAsNumber}
-use Rattle.bukzarn.specs.Numbers.{forecastAsNumber}
+use Rattle.bukzarn.specs.Numbers.{needAsNumber}
 use borrow.Author.Needs.{needs}
 use Rattle.bukzarn.proofs.bukzarn_need.Statement.{statement}
 use Rattle.bukzarn.proofs.bukzarn_need.Tie as tie
@@ -12,8 +14,8 @@ forecast-image-requires c κs = search needs
 put-forecast-requires : tie.Need-put-forecast-requires
 put-forecast-requires c κs = search needs
 
-forecast-number-requires : tie.Need-forecast-number-requires
-forecast-number-requires c κs = search needs
+need-number-requires : tie.Need-need-number-requires
+need-number-requires c κs = search needs
 
 forecast-place-requires : tie.Need-forecast-place-requires
 forecast-place-requires c κs = search needs
@@ -28,9 +30,10 @@ returns : tie.Need-returns
 returns c =
     let at-put-forecast = c .before .before .before .before .before in
     let at-forecast-image = at-put-forecast .before .before in
+    let places = length (now (at-forecast-image .before .before .before .args .numbers)) in
     let e = at-forecast-image .forecast-image .ensures in (
       c .refused-as-number .ensures
-          ∙ ((λ i. refusedAsNumber (c .before .before .forecast-number .ensures i) (c .before .forecast-place .ensures i)) ∙ ap forecastAsNumber e),
+          ∙ ((λ i. refusedAsNumber (c .before .before .need-number .ensures i) (c .before .forecast-place .ensures i)) ∙ ap (λ f. needAsNumber f places) e),
       rw (← e) (at-put-forecast .put-forecast .ensures),
     )
 
@@ -40,7 +43,7 @@ bukzarn-need-spec =
     (tie.spec
     forecast-image-requires
     put-forecast-requires
-    forecast-number-requires
+    need-number-requires
     forecast-place-requires
     refused-as-number-requires
     same-length

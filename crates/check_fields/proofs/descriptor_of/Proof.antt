@@ -2,10 +2,10 @@
 use borrow.Author.Needs.{needs}
 use Prim.Native.Nat.{ℕ, _<_}
 use mathlib.Core.List.{List}
-use Rattle.check_records.specs.Descriptors.{descriptorKind, descriptorField0, descriptorField1, descriptorField2}
+use Rattle.read_records.specs.Descriptors.{descriptorKind, descriptorField0, descriptorField1, descriptorField2}
 use denote.Ref.{now}
 use Rattle.check_fields.specs.Fields.{fieldFrom, Narrow}
-use Rattle.check_records.proofs.Descriptors.{made}
+use Rattle.read_records.proofs.Descriptors.{made}
 use mathlib.Core.Path.{_≡_, _∙_, ap}
 use Rattle.check_fields.proofs.descriptor_of.Statement.{statement}
 use Rattle.check_fields.proofs.descriptor_of.Tie as tie

@@ -1,6 +1,6 @@
 -- `check_fields::type_count` meets its contract.
 use borrow.Author.Tests.{eq-eqb, ne-eqb}
-use Rattle.check_records.specs.Codes.{groupOf}
+use Rattle.read_records.specs.Codes.{groupOf}
 use mathlib.Core.Path.{sym, _∙_}
 use borrow.Author.Needs.{needs}
 use Rattle.check_fields.proofs.type_count.Statement.{statement}

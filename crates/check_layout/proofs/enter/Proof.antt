@@ -6,9 +6,9 @@ use denote.Ref.{now}
 use Rattle.laws.specs.Tests.{firstFault}
 use Rattle.laws.proofs.Booleans.{no-path, eq-of, of-eq}
 use lib.ListN.{length}
-use Rattle.check_records.specs.Codes.{sectionOf, codeAt, Sized}
-use Rattle.check_records.proofs.Codes.{code-sized}
-use Rattle.check_records.proofs.Heads.{Whole, whole-of}
+use Rattle.read_records.specs.Codes.{sectionOf, codeAt, Sized}
+use Rattle.read_records.proofs.Codes.{code-sized}
+use Rattle.read_records.proofs.Heads.{Whole, whole-of}
 use Rattle.check_fields.specs.Fields.{typeCount, DescriptorFrom}
 use Rattle.check_ranges.specs.Numbers.{numberTests, toldOf}
 use Rattle.check_ranges.specs.Terms.{TermFields}
@@ -23,13 +23,13 @@ use Rattle.check_layout.proofs.enter_term.Reads as enter-term-reads
 use Rattle.check_layout.proofs.places.put_domain.Reads as put-domain-reads
 use Rattle.check_layout.proofs.places.put_type.Reads as put-type-reads
 use Rattle.check_ranges.proofs.tests.first_fault.Reads as first-fault-reads
-use Rattle.check_records.proofs.kinds.code_of.Reads as code-of-reads
-use Rattle.check_records.proofs.kinds.is_term.Reads as is-term-reads
-use Rattle.check_records.proofs.kinds.section_of.Reads as section-of-reads
-use Rattle.check_records.proofs.numbers.Counts.next_domain.Reads as next-domain-reads
-use Rattle.check_records.proofs.numbers.Counts.next_type.Reads as next-type-reads
-use Rattle.check_records.proofs.numbers.Counts.with_domain.Reads as with-domain-reads
-use Rattle.check_records.proofs.numbers.Counts.with_type.Reads as with-type-reads
+use Rattle.read_records.proofs.table.code_of.Reads as code-of-reads
+use Rattle.read_records.proofs.table.is_term.Reads as is-term-reads
+use Rattle.read_records.proofs.table.section_of.Reads as section-of-reads
+use Rattle.read_records.proofs.numbers.Counts.next_domain.Reads as next-domain-reads
+use Rattle.read_records.proofs.numbers.Counts.next_type.Reads as next-type-reads
+use Rattle.read_records.proofs.numbers.Counts.with_domain.Reads as with-domain-reads
+use Rattle.read_records.proofs.numbers.Counts.with_type.Reads as with-type-reads
 
 abbrev claims : lts.Claims
 claims = (

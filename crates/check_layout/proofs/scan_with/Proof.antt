@@ -56,18 +56,18 @@ use Rattle.image.specs.declared.Refusal.{Refusal}
 use Rattle.image.proofs.Refusal as Rf
 use Rattle.image.proofs.Refusal.Laws as Rf′
 use Rattle.image.specs.Limits.{termLimit}
-use Rattle.check_records.specs.Counts.{noRecords}
-use Rattle.check_records.specs.Heads.{headAt, fieldBytes}
-use Rattle.check_records.specs.declared.numbers.Counts.{Counts}
-use Rattle.check_records.specs.declared.reader.Walk.{Walk}
-use Rattle.check_records.specs.declared.reader.Head.{Head}
-use Rattle.check_records.proofs.Heads.{whole-of, end-of}
-use Rattle.check_records.proofs.numbers.Counts as Cn
-use Rattle.check_records.proofs.numbers.Counts.Laws as Cn′
-use Rattle.check_records.proofs.reader.Walk as T
-use Rattle.check_records.proofs.reader.Walk.Laws as T′
-use Rattle.check_records.proofs.reader.Head as Hd
-use Rattle.check_records.proofs.reader.Head.Laws as Hd′
+use Rattle.read_records.specs.Counts.{noRecords}
+use Rattle.read_records.specs.Heads.{headAt, fieldBytes}
+use Rattle.read_records.specs.declared.numbers.Counts.{Counts}
+use Rattle.read_records.specs.declared.reader.Walk.{Walk}
+use Rattle.read_records.specs.declared.reader.Head.{Head}
+use Rattle.read_records.proofs.Heads.{whole-of, end-of}
+use Rattle.read_records.proofs.numbers.Counts as Cn
+use Rattle.read_records.proofs.numbers.Counts.Laws as Cn′
+use Rattle.read_records.proofs.reader.Walk as T
+use Rattle.read_records.proofs.reader.Walk.Laws as T′
+use Rattle.read_records.proofs.reader.Head as Hd
+use Rattle.read_records.proofs.reader.Head.Laws as Hd′
 use Rattle.check_layout.specs.Tables as LaidOut
 use Rattle.check_layout.specs.Tables.{remainders, Lent, Entering}
 use Rattle.check_layout.specs.declared.Scan.{Scan}
@@ -77,28 +77,28 @@ use Rattle.check_layout.proofs.Scan as Sc
 use Rattle.check_layout.proofs.Scan.Laws as Sc′
 use Rattle.check_layout.proofs.Entry as En
 use Rattle.check_layout.proofs.Entry.Laws as En′
-use Rattle.check_layout.proofs.Locals.{slot, after-all, arm-of, no, has, frees-all}
+use Rattle.laws.proofs.Locals.{slot, after-all, arm-of, no, has, frees-all}
 use Rattle.check_layout.proofs.scan_with.Proof.Owned.{Lists, Passed, Loans, Same, stayed, first-lists, κ0, q0, κ1, v-image, v-kinds, v-doms, v-types, v-descriptors, v-filter, v-terms, v-marks, α, walk-at, own-walk, Others, Held, Kept, New, None, Next, Fields, Past, Enter, walks, to-enter, goes-enter, Left, comes-enter, vals, args, Post, leaves, starts, to-new, goes-new, new-said, to-next, goes-next, next-said, to-fields, goes-fields, fields-said, to-past, goes-past, past-said}
-use Rattle.check_records.proofs.reader.new as new-fn
-use Rattle.check_records.proofs.reader.new.Symbol as new-def
-use Rattle.check_records.proofs.reader.new.Symbol.{name as #check-records·reader·new}
-use Rattle.check_records.proofs.reader.new.Met as new-thm
-use Rattle.check_records.proofs.numbers.Counts.none as none-fn
-use Rattle.check_records.proofs.numbers.Counts.none.Symbol as none-def
-use Rattle.check_records.proofs.numbers.Counts.none.Symbol.{name as #check-records·numbers·Counts·none}
-use Rattle.check_records.proofs.numbers.Counts.none.Met as none-thm
-use Rattle.check_records.proofs.reader.next as next-fn
-use Rattle.check_records.proofs.reader.next.Symbol as next-def
-use Rattle.check_records.proofs.reader.next.Symbol.{name as #check-records·reader·next}
-use Rattle.check_records.proofs.reader.next.Met as next-thm
-use Rattle.check_records.proofs.reader.fields as fields-fn
-use Rattle.check_records.proofs.reader.fields.Symbol as fields-def
-use Rattle.check_records.proofs.reader.fields.Symbol.{name as #check-records·reader·fields}
-use Rattle.check_records.proofs.reader.fields.Met as fields-thm
-use Rattle.check_records.proofs.reader.past as past-fn
-use Rattle.check_records.proofs.reader.past.Symbol as past-def
-use Rattle.check_records.proofs.reader.past.Symbol.{name as #check-records·reader·past}
-use Rattle.check_records.proofs.reader.past.Met as past-thm
+use Rattle.read_records.proofs.reader.new as new-fn
+use Rattle.read_records.proofs.reader.new.Symbol as new-def
+use Rattle.read_records.proofs.reader.new.Symbol.{name as #read-records·reader·new}
+use Rattle.read_records.proofs.reader.new.Met as new-thm
+use Rattle.read_records.proofs.numbers.Counts.none as none-fn
+use Rattle.read_records.proofs.numbers.Counts.none.Symbol as none-def
+use Rattle.read_records.proofs.numbers.Counts.none.Symbol.{name as #read-records·numbers·Counts·none}
+use Rattle.read_records.proofs.numbers.Counts.none.Met as none-thm
+use Rattle.read_records.proofs.reader.next as next-fn
+use Rattle.read_records.proofs.reader.next.Symbol as next-def
+use Rattle.read_records.proofs.reader.next.Symbol.{name as #read-records·reader·next}
+use Rattle.read_records.proofs.reader.next.Met as next-thm
+use Rattle.read_records.proofs.reader.fields as fields-fn
+use Rattle.read_records.proofs.reader.fields.Symbol as fields-def
+use Rattle.read_records.proofs.reader.fields.Symbol.{name as #read-records·reader·fields}
+use Rattle.read_records.proofs.reader.fields.Met as fields-thm
+use Rattle.read_records.proofs.reader.past as past-fn
+use Rattle.read_records.proofs.reader.past.Symbol as past-def
+use Rattle.read_records.proofs.reader.past.Symbol.{name as #read-records·reader·past}
+use Rattle.read_records.proofs.reader.past.Met as past-thm
 use Rattle.check_layout.proofs.enter.Symbol as enter-def
 use Rattle.check_layout.proofs.enter.Symbol.{name as #check-layout·enter}
 use Rattle.check_layout.proofs.enter.Met as enter-thm
@@ -140,11 +140,11 @@ module _ (P : Passed) where
 
 module _ {M : Type 1} (𝓤 : URA M) (H : Heap 𝓤) (A : Atoms 𝓤) (W : Given 𝓤 H A) (mem : Memory → SProp 𝓤) (run : Routine → Fun 𝓤) (P : Passed)
     (lent : Lent (now (P .image)) (now (P .kinds)) (now (P .doms)) (now (P .types)) (now (P .descriptors)) (now (P .terms))) (𝓣 : Tables 𝓤 H)
-    (known-new : Triple 𝓤 (𝓣 .C #check-records·reader·new) (New 𝓤 H A mem run))
-    (known-none : Triple 𝓤 (𝓣 .C #check-records·numbers·Counts·none) (None 𝓤 H A mem run))
-    (known-next : Triple 𝓤 (𝓣 .C #check-records·reader·next) (Next 𝓤 H A mem run))
-    (known-fields : Triple 𝓤 (𝓣 .C #check-records·reader·fields) (Fields 𝓤 H A mem run))
-    (known-past : Triple 𝓤 (𝓣 .C #check-records·reader·past) (Past 𝓤 H A mem run))
+    (known-new : Triple 𝓤 (𝓣 .C #read-records·reader·new) (New 𝓤 H A mem run))
+    (known-none : Triple 𝓤 (𝓣 .C #read-records·numbers·Counts·none) (None 𝓤 H A mem run))
+    (known-next : Triple 𝓤 (𝓣 .C #read-records·reader·next) (Next 𝓤 H A mem run))
+    (known-fields : Triple 𝓤 (𝓣 .C #read-records·reader·fields) (Fields 𝓤 H A mem run))
+    (known-past : Triple 𝓤 (𝓣 .C #read-records·reader·past) (Past 𝓤 H A mem run))
     (known-enter : Triple 𝓤 (𝓣 .C #check-layout·enter) (Enter 𝓤 H A mem run)) where
   abbrev C : Calls 𝓤 H
   C = 𝓣 .C
@@ -378,11 +378,11 @@ module _ {M : Type 1} (𝓤 : URA M) (H : Heap 𝓤) (A : Atoms 𝓤) (W : Given
       }))))))))))))))))))))))))))))))))))))))))))))))
 
 module _ {M : Type 1} (𝓤 : URA M) (H : Heap 𝓤) (A : Atoms 𝓤) (W : Given 𝓤 H A) (mem : Memory → SProp 𝓤) (run : Routine → Fun 𝓤) (𝓣 : Tables 𝓤 H)
-    (known-new : Triple 𝓤 (𝓣 .C #check-records·reader·new) (New 𝓤 H A mem run))
-    (known-none : Triple 𝓤 (𝓣 .C #check-records·numbers·Counts·none) (None 𝓤 H A mem run))
-    (known-next : Triple 𝓤 (𝓣 .C #check-records·reader·next) (Next 𝓤 H A mem run))
-    (known-fields : Triple 𝓤 (𝓣 .C #check-records·reader·fields) (Fields 𝓤 H A mem run))
-    (known-past : Triple 𝓤 (𝓣 .C #check-records·reader·past) (Past 𝓤 H A mem run))
+    (known-new : Triple 𝓤 (𝓣 .C #read-records·reader·new) (New 𝓤 H A mem run))
+    (known-none : Triple 𝓤 (𝓣 .C #read-records·numbers·Counts·none) (None 𝓤 H A mem run))
+    (known-next : Triple 𝓤 (𝓣 .C #read-records·reader·next) (Next 𝓤 H A mem run))
+    (known-fields : Triple 𝓤 (𝓣 .C #read-records·reader·fields) (Fields 𝓤 H A mem run))
+    (known-past : Triple 𝓤 (𝓣 .C #read-records·reader·past) (Past 𝓤 H A mem run))
     (known-enter : Triple 𝓤 (𝓣 .C #check-layout·enter) (Enter 𝓤 H A mem run)) where
   scan-walks : Walks 𝓤 H A scan.ended stayed (WpFn 𝓤 H (𝓣 .C) (𝓣 .Λ) code.function) (scan.clauses 𝓤 H A mem run)
   scan-walks = walked 𝓤 H A scan.ended stayed (scan.clauses 𝓤 H A mem run) (WpFn 𝓤 H (𝓣 .C) (𝓣 .Λ) code.function)
@@ -403,9 +403,9 @@ scan-with-spec 𝓤 H 𝓜 𝓖 𝓡 =
     entered 𝓤 H (tripleOf 𝓤 H (𝓖 .A) scan.signature (scan.spec 𝓤 H (𝓖 .A) (𝓜 .mem) (𝓡 .run)))
     (tables 𝓤 H 𝓜 𝓡 code.env .C) (tables 𝓤 H 𝓜 𝓡 code.env .Λ) #check-layout·scan-with code.function (code.unfolded 𝓤 H 𝓜 𝓡)
     (scan-meets 𝓤 H (𝓖 .A) (givenOf 𝓤 H 𝓜 𝓖) (𝓜 .mem) (𝓡 .run) (tablesOf 𝓤 H 𝓜 (tables 𝓤 H 𝓜 𝓡 code.env))
-    (cited 𝓤 H (New 𝓤 H (𝓖 .A) (𝓜 .mem) (𝓡 .run)) 𝓜 𝓡 code.env #check-records·reader·new new-def.routine code.calls-check-records·reader·new (new-thm.met 𝓤 H 𝓜 𝓖 𝓡))
-    (cited 𝓤 H (None 𝓤 H (𝓖 .A) (𝓜 .mem) (𝓡 .run)) 𝓜 𝓡 code.env #check-records·numbers·Counts·none none-def.routine code.calls-check-records·numbers·Counts·none (none-thm.met 𝓤 H 𝓜 𝓖 𝓡))
-    (cited 𝓤 H (Next 𝓤 H (𝓖 .A) (𝓜 .mem) (𝓡 .run)) 𝓜 𝓡 code.env #check-records·reader·next next-def.routine code.calls-check-records·reader·next (next-thm.met 𝓤 H 𝓜 𝓖 𝓡))
-    (cited 𝓤 H (Fields 𝓤 H (𝓖 .A) (𝓜 .mem) (𝓡 .run)) 𝓜 𝓡 code.env #check-records·reader·fields fields-def.routine code.calls-check-records·reader·fields (fields-thm.met 𝓤 H 𝓜 𝓖 𝓡))
-    (cited 𝓤 H (Past 𝓤 H (𝓖 .A) (𝓜 .mem) (𝓡 .run)) 𝓜 𝓡 code.env #check-records·reader·past past-def.routine code.calls-check-records·reader·past (past-thm.met 𝓤 H 𝓜 𝓖 𝓡))
+    (cited 𝓤 H (New 𝓤 H (𝓖 .A) (𝓜 .mem) (𝓡 .run)) 𝓜 𝓡 code.env #read-records·reader·new new-def.routine code.calls-read-records·reader·new (new-thm.met 𝓤 H 𝓜 𝓖 𝓡))
+    (cited 𝓤 H (None 𝓤 H (𝓖 .A) (𝓜 .mem) (𝓡 .run)) 𝓜 𝓡 code.env #read-records·numbers·Counts·none none-def.routine code.calls-read-records·numbers·Counts·none (none-thm.met 𝓤 H 𝓜 𝓖 𝓡))
+    (cited 𝓤 H (Next 𝓤 H (𝓖 .A) (𝓜 .mem) (𝓡 .run)) 𝓜 𝓡 code.env #read-records·reader·next next-def.routine code.calls-read-records·reader·next (next-thm.met 𝓤 H 𝓜 𝓖 𝓡))
+    (cited 𝓤 H (Fields 𝓤 H (𝓖 .A) (𝓜 .mem) (𝓡 .run)) 𝓜 𝓡 code.env #read-records·reader·fields fields-def.routine code.calls-read-records·reader·fields (fields-thm.met 𝓤 H 𝓜 𝓖 𝓡))
+    (cited 𝓤 H (Past 𝓤 H (𝓖 .A) (𝓜 .mem) (𝓡 .run)) 𝓜 𝓡 code.env #read-records·reader·past past-def.routine code.calls-read-records·reader·past (past-thm.met 𝓤 H 𝓜 𝓖 𝓡))
     (cited 𝓤 H (Enter 𝓤 H (𝓖 .A) (𝓜 .mem) (𝓡 .run)) 𝓜 𝓡 code.env #check-layout·enter enter-def.routine code.calls-check-layout·enter (enter-thm.met 𝓤 H 𝓜 𝓖 𝓡)))

@@ -6,7 +6,7 @@ use Prim.Native.Nat.{_-_}
 use mathlib.Core.Path.{_≡_, ap, _∙_}
 use Rattle.image.specs.Layout.{recordsOf}
 use Rattle.image.specs.Types.{rootOf}
-use Rattle.check_rules.proofs.Located.{good-of}
+use Rattle.read_terms.proofs.Located.{good-of}
 use Rattle.check_typing.proofs.Root.{root-plain}
 use Rattle.check_typing.proofs.check_plain.Statement.{statement}
 use Rattle.check_typing.proofs.check_plain.Tie as tie

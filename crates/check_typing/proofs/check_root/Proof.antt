@@ -8,8 +8,8 @@ use Prim.Native.Nat.{_-_}
 use denote.Ref.{now}
 use Rattle.image.specs.Layout.{recordsOf}
 use Rattle.verdict.specs.Check.{checked}
-use Rattle.check_rules.specs.Lent.{settingIn}
-use Rattle.check_rules.proofs.Located.{good-of}
+use Rattle.check_rules.specs.Scopes.{settingIn}
+use Rattle.read_terms.proofs.Located.{good-of}
 use Rattle.check_typing.proofs.Root.{root-checked}
 use Rattle.check_typing.proofs.ScopeRoom.{root-room}
 

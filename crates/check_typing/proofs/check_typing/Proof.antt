@@ -5,8 +5,8 @@ use Rattle.check_typing.proofs.check_typing.Tie as tie
 use Prim.Native.Nat.{ℕ}
 use native.Mathlib.Omega.{arith}
 use mathlib.Core.List.{List}
-use Rattle.check_records.specs.Tables.{Tables}
-use Rattle.check_rules.specs.Lent.{Terms, Types}
+use Rattle.read_records.specs.Tables.{Tables}
+use Rattle.read_terms.specs.Lent.{Terms, Types}
 use mathlib.Core.Path.{sym, _∙_}
 use denote.Ref.{now}
 use Rattle.image.specs.Layout.{recordsOf}

@@ -5,7 +5,7 @@ use mathlib.Core.Path.{refl}
 use borrow.Author.Tests.{ne-eqb}
 use denote.Ref.{now}
 use Rattle.image.specs.Layout.{recordsOf}
-use Rattle.check_rules.proofs.Located.{good-of}
+use Rattle.read_terms.proofs.Located.{good-of}
 use Rattle.check_typing.proofs.Faults.{no-fault, fault-at}
 use Rattle.check_typing.proofs.verdict_of.Statement.{statement}
 use Rattle.check_typing.proofs.verdict_of.Tie as tie

@@ -1,7 +1,9 @@
 -- A refusal, or the run of the code of an accepted image.
 use denote.Ref.{now}
 use native.Mathlib.Omega.{arith}
-use Rattle.engine.proofs.Gate.{refused-so, accepted-so, image-accepted, code-asks, lent-enough, refusal-left, run-called}
+use Rattle.validator_core.proofs.Calls.{refused-so, accepted-so, lent-enough}
+use Rattle.engine_core.proofs.Accepted.{image-accepted, code-asks}
+use Rattle.engine.proofs.Called.{refusal-left, run-called}
 use borrow.Author.Needs.{needs}
 use Rattle.engine.proofs.run.Statement.{statement}
 use Rattle.engine.proofs.run.Tie as tie

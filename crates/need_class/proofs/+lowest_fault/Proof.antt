@@ -2,27 +2,33 @@ use borrow.Author.Needs.{needs}
 use Prim.Native.Nat.{ℕ, _-_, _≤_, _<_}
 use native.Mathlib.Omega.{arith}
 use mathlib.Core.Path.{_≡_, ap, _∙_}
+use mathlib.Core.List.{List}
 use denote.Ref.{now}
 use lib.ListN.{length}
 use Rattle.calculus.specs.Combinators.{choose}
+use Rattle.image.specs.Kinds.{termRow}
+use Rattle.image.specs.Records.{Layout}
 use Rattle.image.specs.Layout.{recordsOf}
 use Rattle.image.specs.Types.{termKind, children}
-use Rattle.check_rules.proofs.Located.{good-of}
+use Rattle.read_terms.proofs.Located.{good-of, number-is}
+use Rattle.need_terms.specs.Parts.{HasFields}
+use Rattle.need_terms.proofs.Described.{kind-of, part-of, count-of, has-of, child-is, child-below}
 use Rattle.need_class.specs.First.{firstChild}
-use Rattle.need_class.proofs.Lowest.{leastTo, least-start, least-turn, least-whole}
+use Rattle.need_class.proofs.Lowest.{first-there, leastTo, least-start, least-turn, least-whole}
 use borrow.Fn.Kinds.{In}
 use borrow.Fn.PlainCycle.{Measures, is, falls, and}
 use Rattle.need_class.proofs.lowest_fault.Reads as lowest-fault
 use Rattle.need_class.proofs.lowest_fault.Kinds as lowest-fault-kinds
 use Rattle.need_class.proofs.+lowest_fault.Lts-lowest_fault as lowest-fault-lts
-use Rattle.need_class.proofs.first_kind.Reads as first-kind-reads
+use Rattle.need_class.proofs.first_child.Reads as first-child-reads
 use Rattle.need_class.proofs.is_outside.Reads as is-outside-reads
 use Rattle.need_class.proofs.is_permitted.Reads as is-permitted-reads
 use Rattle.need_class.proofs.lower_of.Reads as lower-of-reads
 use Rattle.need_class.proofs.own_fault.Reads as own-fault-reads
-use Rattle.need_terms.proofs.child_at.Reads as child-at-reads
-use Rattle.need_terms.proofs.child_count.Reads as child-count-reads
-use Rattle.need_terms.proofs.kind_at.Reads as kind-at-reads
+use Rattle.need_terms.proofs.child_in.Reads as child-in-reads
+use Rattle.read_terms.proofs.terms.child_count.Reads as child-count-reads
+use Rattle.read_terms.proofs.terms.term_fields.Reads as term-fields-reads
+use Rattle.read_terms.proofs.terms.term_kind.Reads as term-kind-reads
 use Rattle.need_class.proofs.+lowest_fault.{statement}
 use Rattle.need_class.proofs.+lowest_fault.Tie.{close}
 
@@ -43,16 +49,18 @@ lowest-fault-below t =
 
 abbrev claims : ℕ → lowest-fault-lts.Claims
 claims t = (
-  kind-at-reads.Asked,
-  kind-at-reads.Learnt,
-  first-kind-reads.Asked,
-  first-kind-reads.Learnt,
+  term-kind-reads.Asked,
+  term-kind-reads.Learnt,
+  term-fields-reads.Asked,
+  term-fields-reads.Learnt,
+  first-child-reads.Asked,
+  first-child-reads.Learnt,
   is-permitted-reads.Asked,
   is-permitted-reads.Learnt,
   child-count-reads.Asked,
   child-count-reads.Learnt,
-  child-at-reads.Asked,
-  child-at-reads.Learnt,
+  child-in-reads.Asked,
+  child-in-reads.Learnt,
   is-outside-reads.Asked,
   is-outside-reads.Learnt,
   lowest-fault-below t,
@@ -64,48 +72,112 @@ claims t = (
 )
 
 abbrev lowest-fault-Inv-loop : lowest-fault-lts.InvT-loop
-lowest-fault-Inv-loop image terms count outside n kind ok k least₀ j₀ least j = (j ≤ k) × (least ≡ leastTo (recordsOf image) outside (n .0) j)
+lowest-fault-Inv-loop image terms past outside n kind fields ok k least₀ j₀ least j = (j ≤ k) × (least .0 ≡ leastTo (recordsOf image) outside (n .0) j)
 
 abbrev lowest-fault-μ-loop : lowest-fault-lts.MeasureT-loop
-lowest-fault-μ-loop image terms count outside n kind ok k least₀ j₀ least j = k - j
+lowest-fault-μ-loop image terms past outside n kind fields ok k least₀ j₀ least j = k - j
 
-lowest-fault-kind-at-requires : (t : ℕ) → lowest-fault-lts.Need-kind-at-requires (claims t) (lowest-fault-at t) lowest-fault.Post lowest-fault-Inv-loop lowest-fault-μ-loop
-lowest-fault-kind-at-requires t c κs =
-    let s = c .before .before in (s .pre .1 .0, s .pre .1 .1)
+-- The places that the proof goes back to: the start, the term's fields, and the count of its children.
+abbrev Start : ℕ → Type 0
+Start t = lowest-fault-lts.Start (claims t) (lowest-fault-at t) lowest-fault.Post lowest-fault-Inv-loop lowest-fault-μ-loop
 
-lowest-fault-first-kind-requires : (t : ℕ) → lowest-fault-lts.Need-first-kind-requires (claims t) (lowest-fault-at t) lowest-fault.Post lowest-fault-Inv-loop lowest-fault-μ-loop
-lowest-fault-first-kind-requires t c κs =
-    let s = c .before .before .before in (s .pre .1 .0, s .pre .1 .1)
+abbrev Fields : ℕ → Type 0
+Fields t = lowest-fault-lts.After-term-fields (claims t) (lowest-fault-at t) lowest-fault.Post lowest-fault-Inv-loop lowest-fault-μ-loop
+
+abbrev Counted : ℕ → Type 0
+Counted t = lowest-fault-lts.After-child-count (claims t) (lowest-fault-at t) lowest-fault.Post lowest-fault-Inv-loop lowest-fault-μ-loop
+
+module _ {t : ℕ} where
+  -- The image, its records, and the term.
+  abbrev image-of : Start t → List ℕ
+  image-of s = now (s .args .image)
+
+  abbrev layout-of : Start t → Layout
+  layout-of s = recordsOf (image-of s)
+
+  abbrev term-of : Start t → ℕ
+  term-of s = s .args .n .0
+
+  -- The number of its kind, from its head, and its fields.
+  abbrev start-of : Fields t → Start t
+  start-of f = f .before .before .before .before
+
+  abbrev kind-read : Fields t → ℕ
+  kind-read f = f .before .term-kind .result
+
+  abbrev fields-read : Fields t → List ℕ
+  fields-read f = now (f .term-fields .result)
+
+  read : (f : Fields t) → HasFields (image-of (start-of f)) (term-of (start-of f)) (kind-read f) (fields-read f)
+  read f = record { there = start-of f .pre .1 .1; number = f .before .term-kind .ensures; fields = f .term-fields .ensures }
+
+  abbrev fields-of : Counted t → Fields t
+  fields-of c = c .before .before .before .before
+
+  abbrev begun : Counted t → Start t
+  begun c = start-of (fields-of c)
+
+  -- How many children it has, and child j.
+  numbered : (c : Counted t) → kind-read (fields-of c) ≡ termRow (termKind (layout-of (begun c)) (term-of (begun c))) .number
+  numbered c = kind-of (begun c .pre .1 .0) (read (fields-of c))
+
+  count-is : (c : Counted t) → c .child-count .result ≡ length (children (layout-of (begun c)) (term-of (begun c)))
+  count-is c = count-of (begun c .pre .1 .0) (read (fields-of c)) (c .child-count .result) (c .child-count .ensures)
+
+  first-is : (c : Counted t) → c .before .before .before .first-child .result .0 ≡ firstChild (layout-of (begun c)) (term-of (begun c))
+  first-is c = child-is (begun c .pre .1 .0) (read (fields-of c)) 0 (c .before .before .before .first-child .result .0) (c .before .before .before .first-child .ensures)
+
+  -- The kind of its first child.
+  first-numbered : (c : Counted t) → c .before .before .term-kind2 .result ≡ termRow (termKind (layout-of (begun c)) (firstChild (layout-of (begun c)) (term-of (begun c)))) .number
+  first-numbered c =
+      let T = begun c .pre .1 .0 in
+      let e = c .before .before .before .first-child .result .0 in
+      let there = first-there T (begun c .pre .1 .1) e (first-is c) in
+      c .before .before .term-kind2 .ensures ∙ (number-is T there ∙ ap (λ x. termRow (termKind (layout-of (begun c)) x) .number) (first-is c))
+
+lowest-fault-term-kind-requires : (t : ℕ) → lowest-fault-lts.Need-term-kind-requires (claims t) (lowest-fault-at t) lowest-fault.Post lowest-fault-Inv-loop lowest-fault-μ-loop
+lowest-fault-term-kind-requires t c κs = let s = c .before .before in (s .pre .1 .0, s .pre .1 .1)
+
+lowest-fault-term-fields-requires : (t : ℕ) → lowest-fault-lts.Need-term-fields-requires (claims t) (lowest-fault-at t) lowest-fault.Post lowest-fault-Inv-loop lowest-fault-μ-loop
+lowest-fault-term-fields-requires t c κs = let s = c .before .before .before in (s .pre .1 .0, s .pre .1 .1)
+
+lowest-fault-first-child-requires : (t : ℕ) → lowest-fault-lts.Need-first-child-requires (claims t) (lowest-fault-at t) lowest-fault.Post lowest-fault-Inv-loop lowest-fault-μ-loop
+lowest-fault-first-child-requires t c κs = part-of (start-of c .pre .1 .0) (read c)
+
+lowest-fault-term-kind-requires-2 : (t : ℕ) → lowest-fault-lts.Need-term-kind-requires-2 (claims t) (lowest-fault-at t) lowest-fault.Post lowest-fault-Inv-loop lowest-fault-μ-loop
+lowest-fault-term-kind-requires-2 t c κs =
+    let f = c .before in
+    let s = start-of f in
+    let e = c .first-child .result .0 in
+    (s .pre .1 .0, first-there (s .pre .1 .0) (s .pre .1 .1) e (child-is (s .pre .1 .0) (read f) 0 e (c .first-child .ensures)))
 
 lowest-fault-is-permitted-requires : (t : ℕ) → lowest-fault-lts.Need-is-permitted-requires (claims t) (lowest-fault-at t) lowest-fault.Post lowest-fault-Inv-loop lowest-fault-μ-loop
 lowest-fault-is-permitted-requires t c κs = search needs
 
 lowest-fault-child-count-requires : (t : ℕ) → lowest-fault-lts.Need-child-count-requires (claims t) (lowest-fault-at t) lowest-fault.Post lowest-fault-Inv-loop lowest-fault-μ-loop
-lowest-fault-child-count-requires t c κs =
-    let s = c .before .before .before .before .before in (s .pre .1 .0, s .pre .1 .1)
+lowest-fault-child-count-requires t c κs = let f = c .before .before .before in part-of (start-of f .pre .1 .0) (read f) .long
 
 lowest-fault-loop-holds : (t : ℕ) → lowest-fault-lts.Need-loop-holds (claims t) (lowest-fault-at t) lowest-fault.Post lowest-fault-Inv-loop lowest-fault-μ-loop
-lowest-fault-loop-holds t c =
-    let s = c .before .before .before .before .before .before in
-    let L = recordsOf (now (s .args .image)) in
-    let n = s .args .n .0 in
-    let m = s .args .outside in
-    (omega arith, s .pre .1 .2 ∙ least-start L m n)
+lowest-fault-loop-holds t c = let s = begun c in (omega arith, s .pre .1 .2 ∙ least-start (layout-of s) (s .args .outside) (term-of s))
 
-lowest-fault-child-at-requires : (t : ℕ) → lowest-fault-lts.Need-child-at-requires (claims t) (lowest-fault-at t) lowest-fault.Post lowest-fault-Inv-loop lowest-fault-μ-loop
-lowest-fault-child-at-requires t c κs =
-    let s = c .before .before .before .before .before .before .before .before in
+lowest-fault-child-in-requires : (t : ℕ) → lowest-fault-lts.Need-child-in-requires (claims t) (lowest-fault-at t) lowest-fault.Post lowest-fault-Inv-loop lowest-fault-μ-loop
+lowest-fault-child-in-requires t c κs =
+    let d = c .before .before in
     let h = c .loop-test .taken in
-    let k = c .before .before .child-count .ensures in
-    (s .pre .1 .0, s .pre .1 .1, omega arith)
+    let k = count-is d in
+    has-of (begun d .pre .1 .0) (read (fields-of d)) (c .before .loop .j) (omega arith)
 
 lowest-fault-is-outside-requires : (t : ℕ) → lowest-fault-lts.Need-is-outside-requires (claims t) (lowest-fault-at t) lowest-fault.Post lowest-fault-Inv-loop lowest-fault-μ-loop
 lowest-fault-is-outside-requires t c κs = search needs
 
 lowest-fault-lowest-fault-requires : (t : ℕ) → lowest-fault-lts.Need-lowest-fault-requires (claims t) (lowest-fault-at t) lowest-fault.Post lowest-fault-Inv-loop lowest-fault-μ-loop
 lowest-fault-lowest-fault-requires t c κs =
-    let s = c .before .before .before .before .before .before .before .before .before .before in
-    let low = c .before .child-at .ensures .1 in
+    let at-loop = c .before .before .before in
+    let d = at-loop .before in
+    let s = begun d in
+    let h = c .before .before .loop-test .taken in
+    let k = count-is d in
+    let low = child-below (s .pre .1 .0) (read (fields-of d)) (at-loop .loop .j) (c .before .child-in .result .0) (c .before .child-in .ensures) (omega arith) in
     let i = s .pre .1 .1 in
     (rw (← s .pre .0) low, (s .pre .1 .0, omega arith, s .pre .1 .2))
 
@@ -116,25 +188,23 @@ lowest-fault-add-j : (t : ℕ) → lowest-fault-lts.Need-add-j (claims t) (lowes
 lowest-fault-add-j t c = search needs
 
 lowest-fault-loop-less : (t : ℕ) → lowest-fault-lts.Need-loop-less (claims t) (lowest-fault-at t) lowest-fault.Post lowest-fault-Inv-loop lowest-fault-μ-loop
-lowest-fault-loop-less t c =
-    let h = c .before .before .before .before .loop-test .taken in omega arith
+lowest-fault-loop-less t c = let h = c .before .before .before .before .loop-test .taken in omega arith
 
 lowest-fault-loop-again : (t : ℕ) → lowest-fault-lts.Need-loop-again (claims t) (lowest-fault-at t) lowest-fault.Post lowest-fault-Inv-loop lowest-fault-μ-loop
 lowest-fault-loop-again t c =
-    let at-child-at = c .before .before .before in
-    let at-loop-test = at-child-at .before in
+    let at-child-in = c .before .before .before in
+    let at-loop-test = at-child-in .before in
     let at-loop = at-loop-test .before in
-    let at-child-count = at-loop .before in
-    let at-kind-at = at-child-count .before .before .before in
-    let s = at-kind-at .before .before .before in
-    let L = recordsOf (now (s .args .image)) in
-    let n = s .args .n .0 in
-    let m = s .args .outside in
+    let d = at-loop .before in
+    let s = begun d in
+    let L = layout-of s in
+    let n = term-of s in
     let l = at-loop .loop in
+    let e = at-child-in .child-in .result .0 in
     let h = at-loop-test .loop-test .taken in
-    let k = at-child-count .child-count .ensures in
+    let k = count-is d in
     let g : l .j < length (children L n) = omega arith in
-    (omega arith, least-turn L m n (l .j) g (c .before .before .is-outside .result) (at-child-at .child-at .result .0) (l .least) (c .before .lowest-fault .result) (c .lower-of .result) (c .before .before .is-outside .ensures (termKind L n) (at-kind-at .kind-at .ensures)) (at-child-at .child-at .ensures .0) (c .before .lowest-fault .ensures) (l .inv .1) (c .lower-of .ensures))
+    (omega arith, least-turn L (s .args .outside) n (l .j) g (c .before .before .is-outside .result) e (l .least .0) (c .before .lowest-fault .result .0) (c .lower-of .result .0) (c .before .before .is-outside .ensures (termKind L n) (numbered d)) (child-is (s .pre .1 .0) (read (fields-of d)) (l .j) e (at-child-in .child-in .ensures)) (c .before .lowest-fault .ensures) (l .inv .1) (c .lower-of .ensures))
 
 lowest-fault-own-fault-requires : (t : ℕ) → lowest-fault-lts.Need-own-fault-requires (claims t) (lowest-fault-at t) lowest-fault.Post lowest-fault-Inv-loop lowest-fault-μ-loop
 lowest-fault-own-fault-requires t c κs = search needs
@@ -145,19 +215,16 @@ lowest-fault-lower-of-requires-2 t c κs = search needs
 lowest-fault-returns : (t : ℕ) → lowest-fault-lts.Need-returns (claims t) (lowest-fault-at t) lowest-fault.Post lowest-fault-Inv-loop lowest-fault-μ-loop
 lowest-fault-returns t c =
     let at-loop = c .before .before .before in
-    let at-child-count = at-loop .before in
-    let at-is-permitted = at-child-count .before in
-    let at-first-kind = at-is-permitted .before in
-    let at-kind-at = at-first-kind .before in
-    let s = at-kind-at .before .before .before in
-    let L = recordsOf (now (s .args .image)) in
-    let n = s .args .n .0 in
-    let m = s .args .outside in
+    let d = at-loop .before in
+    let s = begun d in
+    let L = layout-of s in
+    let n = term-of s in
     let l = at-loop .loop in
+    let ok = d .before .is-permitted in
     let all = c .before .before .loop-test .left in
-    let k = at-child-count .child-count .ensures in
+    let k = count-is d in
     let g : length (children L n) ≤ l .j = omega arith in
-    least-whole L m n (good-of (now (s .args .image)) (s .pre .1 .0 .laid-out)) (s .pre .1 .1) (l .j) g (at-is-permitted .is-permitted .result) (c .before .own-fault .result) (l .least) (c .lower-of2 .result) (at-is-permitted .is-permitted .ensures (termKind L n) (termKind L (firstChild L n)) (at-kind-at .kind-at .ensures) (at-first-kind .first-kind .ensures)) (c .before .own-fault .ensures ∙ ap (λ x. choose (at-is-permitted .is-permitted .result) x n) (s .pre .1 .2)) (l .inv .1) (c .lower-of2 .ensures)
+    least-whole L (s .args .outside) n (good-of (image-of s) (s .pre .1 .0 .laid-out)) (s .pre .1 .1) (l .j) g (ok .result) (c .before .own-fault .result .0) (l .least .0) (c .lower-of2 .result .0) (ok .ensures (termKind L n) (termKind L (firstChild L n)) (numbered d) (first-numbered d)) (c .before .own-fault .ensures ∙ ap (λ x. choose (ok .result) x n) (s .pre .1 .2)) (l .inv .1) (c .lower-of2 .ensures)
 
 pub +lowest-fault-spec : {M : Type 1} → statement M
 +lowest-fault-spec = close μ-lowest-fault λ t. lowest-fault-lts.spec (claims t)
@@ -165,12 +232,14 @@ pub +lowest-fault-spec : {M : Type 1} → statement M
     lowest-fault.Post
     lowest-fault-Inv-loop
     lowest-fault-μ-loop
-    (lowest-fault-kind-at-requires t)
-    (lowest-fault-first-kind-requires t)
+    (lowest-fault-term-kind-requires t)
+    (lowest-fault-term-fields-requires t)
+    (lowest-fault-first-child-requires t)
+    (lowest-fault-term-kind-requires-2 t)
     (lowest-fault-is-permitted-requires t)
     (lowest-fault-child-count-requires t)
     (lowest-fault-loop-holds t)
-    (lowest-fault-child-at-requires t)
+    (lowest-fault-child-in-requires t)
     (lowest-fault-is-outside-requires t)
     (lowest-fault-lowest-fault-requires t)
     (lowest-fault-lower-of-requires t)

@@ -5,19 +5,13 @@ use lib.Dec.{eqb}
 use Rattle.need_class.proofs.Lowest.{outside-of}
 use Rattle.need_class.proofs.is_outside.Statement.{statement}
 use Rattle.need_class.proofs.is_outside.Tie as tie
-use Rattle.need_class.proofs.is_outside.Reads as reads
-use Rattle.need_class.proofs.is_outside.Lts as lts
-use Rattle.laws.proofs.both.Reads as both-reads
 
--- src/lib.rt:47:8
 both-requires : tie.Need-both-requires
 both-requires c κs = search needs
 
--- src/lib.rt:48:9
 returns : tie.Need-returns
 returns c = λ k e. outside-of k (c .before .before .args .j) (c .before .before .args .outside) true (ap (λ x. eqb x 47 && eqb (c .before .before .args .j) 1) (sym e) ∙ (sym (c .before .both .ensures) ∙ c .if1 .taken))
 
--- src/lib.rt:44:1
 returns-2 : tie.Need-returns-2
 returns-2 c = λ k e. outside-of k (c .before .before .args .j) (c .before .before .args .outside) false (ap (λ x. eqb x 47 && eqb (c .before .before .args .j) 1) (sym e) ∙ (sym (c .before .both .ensures) ∙ c .if1 .left))
 

@@ -8,31 +8,22 @@ use Rattle.image_needs.specs.Faults.{permits}
 use Rattle.need_class.proofs.Lowest.{free-kind}
 use Rattle.need_class.proofs.is_permitted.Statement.{statement}
 use Rattle.need_class.proofs.is_permitted.Tie as tie
-use Rattle.need_class.proofs.is_permitted.Reads as reads
-use Rattle.need_class.proofs.is_permitted.Lts as lts
-use Rattle.laws.proofs.both.Reads as both-reads
 
--- src/lib.rt:27:27
 both-requires : tie.Need-both-requires
 both-requires c κs = search needs
 
--- src/lib.rt:20:1
 returns : tie.Need-returns
 returns c = λ k j e e′. ap (λ x. permits (c .before .args .outside) x j) (same-term-kind TermKind.app k (sym (c .match .keys1) ∙ e))
 
--- src/lib.rt:20:1
 returns-2 : tie.Need-returns-2
 returns-2 c = λ k j e e′. ap (λ x. permits (c .before .args .outside) x j) (same-term-kind TermKind.call k (sym (c .match .keys2) ∙ e))
 
--- src/lib.rt:20:1
 returns-3 : tie.Need-returns-3
 returns-3 c = λ k j e e′. ap (λ x. permits (c .before .args .outside) x j) (same-term-kind TermKind.mark k (sym (c .match .keys3) ∙ e))
 
--- src/lib.rt:20:1
 returns-4 : tie.Need-returns-4
 returns-4 c = λ k j e e′. c .both .ensures ∙ (ap (λ x. c .before .before .args .outside && x) (ap (λ x. eqb x 47) e′) ∙ ap (λ x. permits (c .before .before .args .outside) x j) (same-term-kind TermKind.install k (sym (c .before .match .keys4) ∙ e)))
 
--- src/lib.rt:20:1
 returns-5 : tie.Need-returns-5
 returns-5 c = λ k j e e′. free-kind _ (c .match .rest) k e (c .before .args .outside) j
 

@@ -1,49 +1,29 @@
 use borrow.Author.Needs.{needs}
 use Prim.Native.Nat.{_<_}
-use mathlib.Core.Path.{refl, sym, ap, subst, _∙_}
+use mathlib.Core.Path.{sym, subst}
 use denote.Ref.{now}
 use Rattle.needs.proofs.Told.{shallow-terms, refused-told, accepted-told, some-terms, lent-from}
 use Rattle.needs.proofs.forecast_checked.Statement.{statement}
 use Rattle.needs.proofs.forecast_checked.Tie as tie
-use Rattle.needs.proofs.forecast_checked.Reads as reads
-use Rattle.needs.proofs.forecast_checked.Lts as lts
-use Rattle.check_records.proofs.kinds.kind_codes.Reads as kind-codes-reads
-use Rattle.needs.proofs.forecast_accepted.Reads as forecast-accepted-reads
-use Rattle.validator.proofs.examine.examine_image.Reads as examine-image-reads
 
--- src/lib.rt:88:17
 kind-codes-requires : tie.Need-kind-codes-requires
 kind-codes-requires c κs = search needs
 
--- src/lib.rt:95:9
 slice-aggregate-examine-image : tie.Need-slice-aggregate-examine-image
 slice-aggregate-examine-image c = search needs
 
--- src/lib.rt:96:9
 slice-aggregate-examine-image-2 : tie.Need-slice-aggregate-examine-image-2
 slice-aggregate-examine-image-2 c = search needs
 
--- src/lib.rt:93:9
 examine-image-requires : tie.Need-examine-image-requires
 examine-image-requires c κs = search needs
 
--- src/lib.rt:102:26
 enum-known-checked : tie.Need-enum-known-checked
 enum-known-checked c = search needs
 
--- src/lib.rt:103:27
 enum-known-checked-2 : tie.Need-enum-known-checked-2
 enum-known-checked-2 c = search needs
 
--- src/lib.rt:103:63
-slice-aggregate-forecast-accepted : tie.Need-slice-aggregate-forecast-accepted
-slice-aggregate-forecast-accepted c = search needs
-
--- src/lib.rt:103:71
-slice-aggregate-forecast-accepted-2 : tie.Need-slice-aggregate-forecast-accepted-2
-slice-aggregate-forecast-accepted-2 c = search needs
-
--- src/lib.rt:103:38
 forecast-accepted-requires : tie.Need-forecast-accepted-requires
 forecast-accepted-requires c κs =
     let k = c .before .before .before in
@@ -55,14 +35,12 @@ forecast-accepted-requires c κs =
     let n = F .counts .terms in
     (lent-from F, subst (λ k. 0 < k) (sym n) (some-terms (now (s .args .image)) (s .pre) _ (E .answer) _ t), n, shallow-terms (now (s .args .image)) (s .pre) _ (E .answer) _ t)
 
--- src/lib.rt:84:1
 returns : tie.Need-returns
 returns c =
     let at-examine-image = c .before .before .before .before in
     let s = at-examine-image .before .before .before .before .before .before .before .before in
     refused-told (now (s .args .image)) (s .pre) _ (at-examine-image .examine-image .ensures .0 .answer) _ _ (c .before .checked .given .1)
 
--- src/lib.rt:84:1
 returns-2 : tie.Need-returns-2
 returns-2 c =
     let at-checked2 = c .before .before .before .before in
@@ -80,8 +58,6 @@ forecast-checked-spec =
     examine-image-requires
     enum-known-checked
     enum-known-checked-2
-    slice-aggregate-forecast-accepted
-    slice-aggregate-forecast-accepted-2
     forecast-accepted-requires
     returns
     returns-2)

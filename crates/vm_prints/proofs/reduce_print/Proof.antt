@@ -17,14 +17,11 @@ returns c = let a = c .before .before .before .before .args in no-room (now (a .
 domain-of-requires : tie.Need-domain-of-requires
 domain-of-requires c κs = search needs
 
-cast-put-log : tie.Need-cast-put-log
-cast-put-log c = search needs
-
 body-requires : tie.Need-body-requires
 body-requires c κs = search needs
 
-cast-put-log-2 : tie.Need-cast-put-log-2
-cast-put-log-2 c = search needs
+cast-put-log : tie.Need-cast-put-log
+cast-put-log c = search needs
 
 put-log-requires : tie.Need-put-log-requires
 put-log-requires c κs = search needs
@@ -45,8 +42,8 @@ returns-2 : tie.Need-returns-2
 returns-2 c =
     let at-put-log = c .before .before .before .before .before .before in
     let at-body = at-put-log .before in
-    let at-domain-of = at-body .before in
-    let at-if1 = at-domain-of .before .before in
+    let at-domain-of = at-body .before .before in
+    let at-if1 = at-domain-of .before in
     let s = at-if1 .before .before .before in
     let a = s .args in
     printed (now (a .work)) _ (now (a .log)) _ (a .r) _ (a .w) (a .x) (s .pre .1) _ _ (at-if1 .if1 .left) (at-domain-of .domain-of .ensures) (at-body .body .ensures) (at-put-log .put-log .ensures) (c .before .before .given .ensures)
@@ -59,9 +56,8 @@ reduce-print-spec =
     halt-requires
     returns
     domain-of-requires
-    cast-put-log
     body-requires
-    cast-put-log-2
+    cast-put-log
     put-log-requires
     given-requires
     add-q

@@ -1,3 +1,4 @@
+-- `write_fields::class_at` meets its contract.
 use native.Mathlib.Omega.{arith}
 use mathlib.Core.Path.{_≡_}
 use Rattle.write_fields.specs.Classes.{digitAt}

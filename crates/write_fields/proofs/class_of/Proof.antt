@@ -1,23 +1,20 @@
+-- `write_fields::class_of` meets its contract.
 use borrow.Author.Needs.{needs}
 use mathlib.Core.Path.{ap, _∙_}
-use Rattle.check_records.specs.Codes.{classesOf}
+use Rattle.read_records.specs.Codes.{classesOf}
 use Rattle.write_fields.specs.Classes.{digitAt}
 use Rattle.write_fields.proofs.class_of.Statement.{statement}
 use Rattle.write_fields.proofs.class_of.Tie as tie
 
--- src/lib.rt:81:14
 field-classes-requires : tie.Need-field-classes-requires
 field-classes-requires c κs = search needs
 
--- src/lib.rt:81:42
 slot-of-requires : tie.Need-slot-of-requires
 slot-of-requires c κs = search needs
 
--- src/lib.rt:81:5
 class-at-requires : tie.Need-class-at-requires
 class-at-requires c κs = rw (c .slot-of .ensures) (c .before .before .pre .3)
 
--- src/lib.rt:77:1
 returns : tie.Need-returns
 returns c = c .class-at .ensures ∙ ap (λ q. digitAt (c .before .slot-of .result) q) (c .before .before .field-classes .ensures) ∙ ap (λ j. digitAt j (classesOf (c .before .before .before .args .fields .code))) (c .before .slot-of .ensures)
 

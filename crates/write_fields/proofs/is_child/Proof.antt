@@ -1,3 +1,4 @@
+-- `write_fields::is_child` meets its contract.
 use borrow.Author.Tests.{eq-eqb, ne-eqb}
 use Rattle.write_fields.proofs.is_child.Statement.{statement}
 use Rattle.write_fields.proofs.is_child.Tie as tie

@@ -1,3 +1,4 @@
+-- `write_fields::slot_of` meets its contract.
 use borrow.Author.Needs.{needs}
 use borrow.Author.Tests.{le-leb, lt-leb, lt-ltb, le-ltb}
 use Rattle.write_fields.proofs.slot_of.Statement.{statement}

@@ -1,3 +1,4 @@
+-- `write_idle::copy_bytes` meets its contract.
 use borrow.Author.Needs.{needs}
 use Prim.Native.Nat.{ℕ, _-_, _≤_, _<_}
 use native.Mathlib.Omega.{arith}
@@ -8,8 +9,6 @@ use lib.Seq.{ext-getD}
 use Rattle.write_idle.proofs.Reading.{copied-more}
 use Rattle.write_idle.proofs.copy_bytes.Statement.{statement}
 use Rattle.write_idle.proofs.copy_bytes.Tie as tie
-use Rattle.write_idle.proofs.copy_bytes.Reads as reads
-use Rattle.write_idle.proofs.copy_bytes.Lts as lts
 
 abbrev Inv-loop : tie.InvT-loop
 Inv-loop image copy₀ i₀ copy i = (i ≤ length image) × (length copy ≡ length copy₀) × ((k : ℕ) → k < i → getD copy k 0 ≡ getD image k 0)
@@ -17,27 +16,21 @@ Inv-loop image copy₀ i₀ copy i = (i ≤ length image) × (length copy ≡ le
 abbrev μ-loop : tie.MeasureT-loop
 μ-loop image copy₀ i₀ copy i = length image - i
 
--- src/lib.rt:79:5
 loop-holds : tie.Need-loop-holds Inv-loop μ-loop
 loop-holds c = (omega arith, refl, λ k l. absurd (omega arith))
 
--- src/lib.rt:80:19
 shared-slice-read-copy : tie.Need-shared-slice-read-copy Inv-loop μ-loop
 shared-slice-read-copy c = search needs
 
--- src/lib.rt:80:9
 slice-write-copy : tie.Need-slice-write-copy Inv-loop μ-loop
 slice-write-copy c = search needs
 
--- src/lib.rt:81:9
 add-i : tie.Need-add-i Inv-loop μ-loop
 add-i c = search needs
 
--- src/lib.rt:79:5
 loop-less : tie.Need-loop-less Inv-loop μ-loop
 loop-less c = search needs
 
--- src/lib.rt:79:5
 loop-again : tie.Need-loop-again Inv-loop μ-loop
 loop-again c =
     let s = c .before .before .before in
@@ -47,11 +40,9 @@ loop-again c =
     let m : l .i < length (now (s .args .image)) = c .before .loop-test .taken in
     (omega arith, length-set (l .copy) (l .i) _ ∙ l .inv .1, copied-more (now (s .args .image)) (l .copy) (l .i) (omega arith) (l .inv .2))
 
--- src/lib.rt:74:1
 same-length : tie.Need-same-length Inv-loop μ-loop
 same-length c = search needs
 
--- src/lib.rt:74:1
 returns : tie.Need-returns Inv-loop μ-loop
 returns c =
     let s = c .before .before in

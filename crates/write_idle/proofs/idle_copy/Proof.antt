@@ -1,20 +1,28 @@
+-- `write_idle::idle_copy` meets its contract.
 use borrow.Author.Needs.{needs}
 use Prim.Native.Nat.{ℕ, _+_, _-_, _≤_, _<_}
 use native.Mathlib.Omega.{arith}
-use mathlib.Core.Path.{_≡_, sym, subst, _∙_}
+use mathlib.Core.Path.{_≡_, sym, ap, subst, _∙_}
 use mathlib.Core.Logic.{⊎-elim}
 use mathlib.Core.Bool.{Bool}
 use mathlib.Core.List.{List}
 use denote.Ref.{now}
+use lib.ListN.{set}
 use Rattle.calculus.specs.Syntax.{Dom}
+use Rattle.image.specs.Bytes.{numberAt}
 use Rattle.image.specs.Layout.{recordsOf}
-use Rattle.vm_terms.proofs.Records.{few-terms}
-use Rattle.write_idle.specs.Idle.{inMask, Idled}
-use Rattle.write_idle.proofs.Reading.{byte-there, idled-none, idled-stays, idled-more}
+use Rattle.image.specs.Types.{termPlace}
+use Rattle.read_records.specs.Heads.{fieldIn}
+use Rattle.read_terms.proofs.Located.{good-of}
+use Rattle.write_idle.specs.Idle.{inMask, lowWatch, Idled}
+use Rattle.write_idle.specs.WatchFields.{lowWatchIn}
+use Rattle.write_idle.proofs.Reading.{watch-asks, watch-in, body-there, body-is, byte-there, idled-none, idled-stays, idled-more}
 use Rattle.write_idle.proofs.idle_copy.Statement.{statement}
 use Rattle.write_idle.proofs.idle_copy.Tie as tie
 use Rattle.write_idle.proofs.idle_copy.Reads as reads
 use Rattle.write_idle.proofs.idle_copy.Lts as lts
+use Rattle.read_terms.proofs.terms.term_fields.Reads as term-fields-reads
+use Rattle.read_terms.proofs.terms.term_kind.Reads as term-kind-reads
 use Rattle.write_idle.proofs.copy_bytes.Reads as copy-bytes-reads
 use Rattle.write_idle.proofs.idle_body.Reads as idle-body-reads
 use Rattle.write_idle.proofs.is_low_watch.Reads as is-low-watch-reads
@@ -25,80 +33,117 @@ Inv-loop image terms descriptors count high copy₀ i₀ copy i = (i ≤ count) 
 abbrev μ-loop : tie.MeasureT-loop
 μ-loop image terms descriptors count high copy₀ i₀ copy i = count - i
 
--- src/lib.rt:90:5
+abbrev claims : lts.Claims
+claims = (
+  copy-bytes-reads.Asked,
+  copy-bytes-reads.Learnt,
+  term-fields-reads.Asked,
+  term-fields-reads.Learnt,
+  term-kind-reads.Asked,
+  term-kind-reads.Learnt,
+  is-low-watch-reads.Asked,
+  is-low-watch-reads.Learnt,
+  idle-body-reads.Asked,
+  idle-body-reads.Learnt,
+)
+
 copy-bytes-requires : tie.Need-copy-bytes-requires Inv-loop μ-loop
 copy-bytes-requires c κs = search needs
 
--- src/lib.rt:92:5
 loop-holds : tie.Need-loop-holds Inv-loop μ-loop
 loop-holds c =
     let s = c .before .before .before .before .before .before .before .before in
     let b : List ℕ = now (s .args .image) in
     (omega arith, subst (λ xs. Idled (recordsOf b) (inMask (s .args .high)) 0 b xs) (sym (c .before .before .copy-bytes .ensures)) (idled-none (recordsOf b) (inMask (s .args .high)) b))
 
--- src/lib.rt:93:24
-cast-t13 : tie.Need-cast-t13 Inv-loop μ-loop
-cast-t13 c =
+cast-is-low-watch : tie.Need-cast-is-low-watch Inv-loop μ-loop
+cast-is-low-watch c =
     let s = c .before .before .before .before .before .before .before .before .before .before in
-    let f = few-terms (now (s .args .image)) (s .pre .0 .0) (now (s .args .terms)) (now (s .args .descriptors)) (s .pre .0 .1) in
+    let f = good-of (now (s .args .image)) (s .pre .0 .terms .laid-out) .few-terms in
     let p = s .pre .1 in
     let m : c .before .loop .i < s .args .count = c .loop-test .taken in
     search needs
 
--- src/lib.rt:94:12
-is-low-watch-requires : tie.Need-is-low-watch-requires Inv-loop μ-loop
-is-low-watch-requires c κs =
+term-fields-requires : tie.Need-term-fields-requires Inv-loop μ-loop
+term-fields-requires c κs =
     let s = c .before .before .before .before .before .before .before .before .before .before in
     let p = s .pre .1 in
     let m : c .before .loop .i < s .args .count = c .loop-test .taken in
-    (s .pre .0, omega arith)
+    (s .pre .0 .terms, omega arith)
 
--- src/lib.rt:95:13
-idle-body-requires : tie.Need-idle-body-requires Inv-loop μ-loop
-idle-body-requires c κs =
-    let at-loop-test = c .before .before .before in
-    let at-loop = at-loop-test .before in
+term-kind-requires : tie.Need-term-kind-requires Inv-loop μ-loop
+term-kind-requires c κs =
+    let s = c .before .before .before .before .before .before .before .before .before .before .before in
+    let p = s .pre .1 in
+    let m : c .before .before .loop .i < s .args .count = c .before .loop-test .taken in
+    (s .pre .0 .terms, omega arith)
+
+is-low-watch-requires : tie.Need-is-low-watch-requires Inv-loop μ-loop
+is-low-watch-requires c κs =
+    let at-loop = c .before .before .before in
     let s = at-loop .before .before .before .before .before .before .before .before .before in
     let p = s .pre .1 in
-    let m : at-loop .loop .i < s .args .count = at-loop-test .loop-test .taken in
-    ((s .pre .0 .0, (now (s .args .descriptors), s .pre .0 .1)), omega arith, sym (c .before .before .is-low-watch .ensures) ∙ c .before .if1 .taken, at-loop .loop .inv .1 .same)
+    let m : at-loop .loop .i < s .args .count = c .before .before .loop-test .taken in
+    rw (c .term-kind .ensures, c .before .term-fields .ensures) (watch-asks (s .pre .0) (omega arith))
 
--- src/lib.rt:97:9
+-- A term has been looked at: what its fields told.
+abbrev Watched : Type 0
+Watched = lts.After-is-low-watch claims reads.Pre reads.Post Inv-loop μ-loop
+
+told : (w : Watched) → let s = w .before .before .before .before .before .before .before .before .before .before .before .before .before in w .is-low-watch .result ≡ lowWatch (recordsOf (now (s .args .image))) (inMask (s .args .high)) (w .before .before .before .before .loop .i)
+told w =
+    let at-loop = w .before .before .before .before in
+    let s = at-loop .before .before .before .before .before .before .before .before .before in
+    let b : List ℕ = now (s .args .image) in
+    let H : Dom → Bool = inMask (s .args .high) in
+    let p = s .pre .1 in
+    let m : at-loop .loop .i < s .args .count = w .before .before .before .loop-test .taken in
+    w .is-low-watch .ensures ∙ ap (λ q. lowWatchIn H q (now (w .before .before .term-fields .result)) (now (s .args .descriptors))) (w .before .term-kind .ensures)
+    ∙ ap (λ fs. lowWatchIn H (numberAt b (termPlace (recordsOf b) (at-loop .loop .i))) fs (now (s .args .descriptors))) (w .before .before .term-fields .ensures) ∙ watch-in (s .pre .0) (omega arith) H
+
+idle-body-requires : tie.Need-idle-body-requires Inv-loop μ-loop
+idle-body-requires c κs =
+    let w = c .before .before in
+    let at-loop = w .before .before .before .before in
+    let s = at-loop .before .before .before .before .before .before .before .before .before in
+    let p = s .pre .1 in
+    let m : at-loop .loop .i < s .args .count = w .before .before .before .loop-test .taken in
+    (s .pre .0 .terms, rw (w .before .before .term-fields .ensures) (body-there (s .pre .0) (omega arith) (inMask (s .args .high)) (sym (told w) ∙ c .before .if1 .taken)), at-loop .loop .inv .1 .same)
+
 add-i : tie.Need-add-i Inv-loop μ-loop
 add-i c = search needs
 
--- src/lib.rt:92:5
 loop-less : tie.Need-loop-less Inv-loop μ-loop
 loop-less c = search needs
 
--- src/lib.rt:92:5
 loop-again : tie.Need-loop-again Inv-loop μ-loop
 loop-again c =
-    let at-loop = c .before .before .before in
+    let v = c .before in
+    let at-loop = v .before .before .before .before in
     let s = at-loop .before .before .before .before .before .before .before .before .before in
     let l = at-loop .loop in
     let b : List ℕ = now (s .args .image) in
     let H : Dom → Bool = inMask (s .args .high) in
     let I = l .inv .1 in
     let p = s .pre .1 in
-    let m : l .i < s .args .count = c .before .before .loop-test .taken in
-    let e = c .before .is-low-watch .ensures in
+    let m : l .i < s .args .count = v .before .before .before .loop-test .taken in
+    let e = told v in
     ⊎-elim
     (λ w.
     let low = sym e ∙ w .0 .taken in
-    let k = byte-there b (s .pre .0 .0) (now (s .args .terms)) (now (s .args .descriptors)) (s .pre .0 .1) (l .i) (omega arith) H low in
+    let k = byte-there (s .pre .0) {n = l .i} (omega arith) H low in
     let n = I .same in
-    rw (w .5) (omega arith, subst (λ xs. Idled (recordsOf b) H (l .i + 1) b xs) (sym (w .2 .ensures)) (idled-more (recordsOf b) H b (l .i) (l .copy) I low (omega arith))))
+    let f : fieldIn (now (v .before .before .term-fields .result)) 2 ≡ _ = ap (λ fs. fieldIn fs 2) (v .before .before .term-fields .ensures) ∙ body-is (s .pre .0) {n = l .i} (omega arith) H low in
+    let g = w .2 .ensures ∙ ap (λ e. set (l .copy) (termPlace (recordsOf b) e + 2) 32) f in
+    rw (w .5) (omega arith, subst (λ xs. Idled (recordsOf b) H (l .i + 1) b xs) (sym g) (idled-more (recordsOf b) H b (l .i) (l .copy) I low (omega arith))))
     (λ w. rw (w .1) (omega arith, idled-stays (recordsOf b) H b (l .i) (l .copy) I (sym e ∙ w .0 .left)))
     (c .if1 .came)
 
--- src/lib.rt:86:1
 same-length : tie.Need-same-length Inv-loop μ-loop
 same-length c =
     let s = c .before .before .before .before .before .before .before .before .before .before in
     c .before .loop .inv .1 .same ∙ sym (s .pre .2)
 
--- src/lib.rt:86:1
 returns : tie.Need-returns Inv-loop μ-loop
 returns c =
     let s = c .before .before .before .before .before .before .before .before .before .before in
@@ -117,7 +162,9 @@ idle-copy-spec =
     μ-loop
     copy-bytes-requires
     loop-holds
-    cast-t13
+    cast-is-low-watch
+    term-fields-requires
+    term-kind-requires
     is-low-watch-requires
     idle-body-requires
     add-i

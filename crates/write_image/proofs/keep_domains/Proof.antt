@@ -1,9 +1,11 @@
 -- `write_image::keep_domains` meets its contract.
 use borrow.Author.Needs.{needs}
+use native.Mathlib.Omega.{arith}
 use mathlib.Core.Path.{ap, _∙_}
 use denote.Ref.{now}
 use lib.ListN.{length}
 use Rattle.base_bytes.specs.Bytes.{over}
+use Rattle.read_terms.proofs.Located.{good-of}
 use Rattle.write_sections.specs.Sections.{domainBytes}
 use Rattle.write_image.proofs.Assembled.{masks-taken}
 use Rattle.write_image.proofs.keep_domains.Statement.{statement}
@@ -19,7 +21,9 @@ write-domains-requires : tie.Need-write-domains-requires
 write-domains-requires c κs =
     let s = c .before .before .before .before .before .before .before in
     let m = masks-taken (now (s .args .image)) (now (s .args .doms)) _ (s .args .count) (s .pre .0) (s .pre .1) (c .before .before .set-masks .ensures) in
-    (m .1, rw (m .0) (s .pre .2))
+    let f = good-of (now (s .args .image)) (s .pre .0 .laid-out) .few-domains in
+    let n = s .pre .1 in
+    (omega arith, m .1, rw (m .0) (s .pre .2))
 
 same-length : tie.Need-same-length
 same-length c = search needs

@@ -8,7 +8,7 @@ use Rattle.image_written.specs.Generated.{next, drawn, sum, traced, both, grow}
 use Rattle.write_load.specs.Growing.{numberFollows}
 use Rattle.write_load.proofs.Draws.{number-follows, sum-follows, trace-follows, no-number, deep}
 use Rattle.write_load.proofs.Growing.{same-grew, sum-grew, trace-grew}
-use Rattle.write_load.proofs.Rooms.{room-number, room-first, room-inner, room-second, room-sum, some-first, room-both, room-print, room-behind, room-sequence, room-trace}
+use Rattle.write_load.proofs.Rooms.{room-number, room-first, room-inner, room-second, room-sum, some-first, room-both, room-print, room-behind, some-print, room-sequence, room-trace}
 use Rattle.write_load.proofs.grow.Reads as reads
 use Rattle.write_load.proofs.+grow.Lts-grow as lts
 use Rattle.write_load.proofs.+grow.Proof.Cycle.{μ-grow, grow-at, claims}
@@ -95,8 +95,11 @@ module _ (t : ℕ) where
       let m = k .before .before .before .before .before .pre .0 in
       (omega arith, room-behind (k .before .before .before .before .before .pre .1) refl refl h (c .before .before .before .before .before .before .before .grow .ensures) (c .before .before .before .put-print .ensures) (c .before .before .before .put-print .kept .0))
 
-  sub-put-sequence : lts.Need-sub-put-sequence (claims t) (grow-at t) reads.Post
-  sub-put-sequence c = search needs
+  last-term-requires : lts.Need-last-term-requires (claims t) (grow-at t) reads.Post
+  last-term-requires c κs =
+      let k = c .before .before .before .before .before .before .before .before .before .before .before .before .before .before in
+      let h = deep (choice-of k) (depth-of k) (c .before .before .before .before .before .before .before .before .before .before .before .before .before .if3 .taken) (no-number-drawn k) in
+      some-print (k .before .before .before .before .before .pre .1) refl refl h (c .before .before .before .before .before .before .before .before .before .before .before .grow .ensures) (c .before .before .before .before .before .before .before .put-print .ensures) (c .before .before .before .before .before .before .before .put-print .kept .0)
 
   put-sequence-requires : lts.Need-put-sequence-requires (claims t) (grow-at t) reads.Post
   put-sequence-requires c κs =
@@ -114,7 +117,7 @@ module _ (t : ℕ) where
       let h = deep (choice-of k) (depth-of k) (c .before .before .before .before .before .before .before .before .before .before .before .before .before .before .before .before .before .if3 .taken) (no-number-drawn k) in
       let w = k .before .before .draw .ensures in
       let e = trace-follows (depth-of k) (s .args .done .state) h (choice-is k ∙ c .before .before .before .before .before .before .before .before .before .before .before .before .before .before .before .before .before .if3 .taken) ∙ ap (λ q. both traced (grow (depth-of k - 2) q) (grow (depth-of k - 1))) (sym w) in
-      trace-grew (depth-of k) e refl refl (room-trace (s .pre .1) h) (c .before .before .before .before .before .before .before .before .before .before .before .before .before .before .before .grow .ensures) (c .before .before .before .before .before .before .before .before .before .before .before .put-print .ensures) (c .before .before .before .before .before .before .before .grow2 .ensures) (c .before .before .put-sequence .ensures)
+      trace-grew (depth-of k) e refl refl (room-trace (s .pre .1) h) (c .before .before .before .before .before .before .before .before .before .before .before .before .before .before .before .grow .ensures) (c .before .before .before .before .before .before .before .before .before .before .before .put-print .ensures) (c .before .before .before .before .before .before .before .grow2 .ensures) (rw (c .before .before .before .last-term .ensures) at (c .before .before .put-sequence .ensures))
 
   sub-grow-3 : lts.Need-sub-grow-3 (claims t) (grow-at t) reads.Post
   sub-grow-3 c = search needs
@@ -139,8 +142,8 @@ module _ (t : ℕ) where
   sub-put-sum : lts.Need-sub-put-sum (claims t) (grow-at t) reads.Post
   sub-put-sum c = let k = c .before .before .before .before .before .before .before .before .before .before in let n = no-number (choice-of k) (depth-of k) (no-number-drawn k) in search needs
 
-  sub-put-sum-2 : lts.Need-sub-put-sum-2 (claims t) (grow-at t) reads.Post
-  sub-put-sum-2 c = let k = c .before .before .before .before .before .before .before .before .before .before .before in let n = some-first (k .before .before .before .before .before .pre .1) refl refl (some-depth k) (c .before .before .before .before .before .before .before .before .grow3 .ensures) in search needs
+  last-term-requires-2 : lts.Need-last-term-requires-2 (claims t) (grow-at t) reads.Post
+  last-term-requires-2 c κs = let k = c .before .before .before .before .before .before .before .before .before .before in some-first (k .before .before .before .before .before .pre .1) refl refl (some-depth k) (c .before .before .before .before .before .before .before .grow3 .ensures)
 
   put-sum-requires : lts.Need-put-sum-requires (claims t) (grow-at t) reads.Post
   put-sum-requires c κs =
@@ -149,7 +152,7 @@ module _ (t : ℕ) where
       let r = room-sum (k .before .before .before .before .before .pre .1) refl refl d (c .before .before .before .before .before .before .before .before .grow3 .ensures) (c .before .before .before .before .grow4 .ensures) in
       let n = no-number (choice-of k) (depth-of k) (no-number-drawn k) in
       let e = c .before .before .before .before .before .before .before .before .before .before .if3 .left in
-      (r .0, r .1, r .2, r .3, omega arith)
+      (r .0, r .1, r .2, omega arith)
 
   same-length-4 : lts.Need-same-length-4 (claims t) (grow-at t) reads.Post
   same-length-4 c = search needs
@@ -164,7 +167,7 @@ module _ (t : ℕ) where
       let z = c .before .before .before .before .before .before .before .before .before .before .before .before .before .if3 .left in
       let o : choice-of k ≡ suc (choice-of k - 1) = omega arith in
       let e = sum-follows (depth-of k) (s .args .done .state) (choice-of k - 1) d (choice-is k ∙ o) (omega arith) ∙ ap (λ q. both (sum (choice-of k - 1)) (grow (depth-of k - 1) q) (grow (depth-of k - 1))) (sym w) in
-      sum-grew (depth-of k) (choice-of k - 1) e refl refl (room-both (s .pre .1) d) (c .before .before .before .before .before .before .before .before .before .before .before .grow3 .ensures) (c .before .before .before .before .before .before .before .grow4 .ensures) (c .before .before .put-sum .ensures)
+      sum-grew (depth-of k) (choice-of k - 1) e refl refl (room-both (s .pre .1) d) (c .before .before .before .before .before .before .before .before .before .before .before .grow3 .ensures) (c .before .before .before .before .before .before .before .grow4 .ensures) (rw (c .before .before .before .last-term2 .ensures) at (c .before .before .put-sum .ensures))
 
 pub +grow-spec : {M : Type 1} → statement M
 +grow-spec =
@@ -185,7 +188,7 @@ pub +grow-spec : {M : Type 1} → statement M
     (put-print-requires t)
     (sub-grow-2 t)
     (grow-requires-2 t)
-    (sub-put-sequence t)
+    (last-term-requires t)
     (put-sequence-requires t)
     (same-length-3 t)
     (returns-3 t)
@@ -194,7 +197,7 @@ pub +grow-spec : {M : Type 1} → statement M
     (sub-grow-4 t)
     (grow-requires-4 t)
     (sub-put-sum t)
-    (sub-put-sum-2 t)
+    (last-term-requires-2 t)
     (put-sum-requires t)
     (same-length-4 t)
     (returns-4 t)

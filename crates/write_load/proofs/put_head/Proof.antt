@@ -22,7 +22,7 @@ write-domains-requires c κs =
     let n = head-length in
     let d = domain-length in
     let p = c .before .before .before .pre in
-    (search needs, omega arith)
+    (search needs, search needs, omega arith)
 
 slice-aggregate-put-record : tie.Need-slice-aggregate-put-record
 slice-aggregate-put-record c = search needs

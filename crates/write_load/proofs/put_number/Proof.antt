@@ -8,8 +8,8 @@ use Rattle.write_load.proofs.put_number.Tie as tie
 draw-requires : tie.Need-draw-requires
 draw-requires c κs = search needs
 
-cast-t7 : tie.Need-cast-t7
-cast-t7 c = search needs
+cast-t8 : tie.Need-cast-t8
+cast-t8 c = search needs
 
 slice-aggregate-put-term : tie.Need-slice-aggregate-put-term
 slice-aggregate-put-term c = search needs
@@ -27,4 +27,4 @@ returns c =
 pub put-number-spec : {M : Type 1} → statement M
 put-number-spec =
     tie.close
-    (tie.spec draw-requires cast-t7 slice-aggregate-put-term put-term-requires same-length returns)
+    (tie.spec draw-requires cast-t8 slice-aggregate-put-term put-term-requires same-length returns)

@@ -6,20 +6,16 @@ use mathlib.Core.Path.{_≡_, refl, sym, ap, subst, _∙_}
 use mathlib.Core.Logic.{⊎-elim}
 use mathlib.Core.List.{List}
 use denote.Ref.{now}
-use lib.ListN.{length, getD, length-set}
-use Rattle.image.specs.Bytes.{numberAt, fieldAt}
-use Rattle.image.specs.Kinds.{free}
+use lib.ListN.{length, length-set}
 use Rattle.image.specs.Layout.{recordsOf}
-use Rattle.image.specs.Types.{termPlace}
-use Rattle.check_records.specs.Codes.{classNumber, codeAt}
-use Rattle.check_rules.specs.Lent.{Terms, IsTerm}
-use Rattle.write_fields.specs.Classes.{Known, knownCount, classIn, asField}
-use Rattle.write_fields.proofs.Told.{class-asks, few-fields, known-inside}
+use Rattle.read_terms.specs.Lent.{Terms, IsTerm}
+use Rattle.write_fields.specs.Classes.{asField}
+use Rattle.write_fields.proofs.Standing.{RecordRead}
 use Rattle.image_written.specs.Written.{terms}
 use Rattle.image_written.proofs.Sums.{weight}
 use Rattle.image_written.proofs.Sizes.{termSize}
 use Rattle.image_written.proofs.Fronts.{treeAt, sortsAt, numbersOf}
-use Rattle.write_terms.proofs.Located.{known, count-is, field-is, class-of, child-lower}
+use Rattle.write_terms.proofs.Located.{known, read, child-lower}
 use Rattle.write_program.specs.Writing.{Room, Wrote}
 use Rattle.write_program.proofs.Begun.{Begun, Come, come-none, begun-none, record-room, come-behind, few-terms, type-number, child-room, child-number, come-child, begun-child, come-same, begun-kept, begun-all}
 use Rattle.write_program.proofs.write_term.Reads as reads
@@ -29,12 +25,15 @@ use Rattle.write_program.proofs.+write_term.{statement}
 use Rattle.write_program.proofs.+write_term.Tie.{close}
 mod Cycle
 
+-- The loop keeps the fields, and not the term's number: what it claims holds of every term that they are the fields of.
 abbrev Inv-loop : lts.InvT-loop
-Inv-loop image codes terms places out₀ e at fields numbers₀ d₀ i₀ out numbers d i =
-    (i ≤ fields .count) × (length out ≡ length out₀) × (length numbers ≡ 16) × Come image (e .0) i d₀ d × Begun image places (e .0) d₀ i out₀ out numbers
+Inv-loop image codes terms places out₀ fields kind known numbers₀ d₀ i₀ out numbers d i =
+    (i ≤ known .count) × (length out ≡ length out₀) × (length numbers ≡ 16)
+    × ((e : ℕ) → IsTerm image e → Room image e d₀ (length out₀) → RecordRead fields (known .code) (known .count) (sortsAt (recordsOf image) e) (numbersOf (recordsOf image) e)
+    → Come image e i d₀ d × Begun image places e d₀ i out₀ out numbers)
 
 abbrev μ-loop : lts.MeasureT-loop
-μ-loop image codes terms places out₀ e at fields numbers₀ d₀ i₀ out numbers d i = fields .count - i
+μ-loop image codes terms places out₀ fields kind known numbers₀ d₀ i₀ out numbers d i = known .count - i
 
 module _ (t : ℕ) where
   -- The term's record has been read.
@@ -42,72 +41,42 @@ module _ (t : ℕ) where
   Read = lts.After-known-fields (claims t) (write-term-at t) reads.Post Inv-loop μ-loop
 
   abbrev image-of : Read → List ℕ
-  image-of k = now (k .before .before .before .before .before .before .before .args .image)
+  image-of k = now (k .before .before .before .before .before .before .before .before .args .image)
 
   abbrev number-of : Read → ℕ
-  number-of k = k .before .before .before .before .before .before .before .args .e .0
+  number-of k = k .before .before .before .before .before .before .before .before .args .e .0
 
-  abbrev place-of : Read → ℕ
-  place-of k = termPlace (recordsOf (image-of k)) (number-of k)
-
-  table : (k : Read) → Terms (image-of k) (now (k .before .before .before .before .before .before .before .args .terms))
-  table k = k .before .before .before .before .before .before .before .pre .1 .1
+  table : (k : Read) → Terms (image-of k) (now (k .before .before .before .before .before .before .before .before .args .terms))
+  table k = k .before .before .before .before .before .before .before .before .pre .1 .1
 
   is-term : (k : Read) → IsTerm (image-of k) (number-of k)
-  is-term k = k .before .before .before .before .before .before .before .pre .1 .2
+  is-term k = k .before .before .before .before .before .before .before .before .pre .1 .2
 
-  room : (k : Read) → Room (image-of k) (number-of k) (k .before .before .before .before .before .before .before .args .done) (length (now (k .before .before .before .before .before .before .before .args .out)))
-  room k = k .before .before .before .before .before .before .before .pre .1 .4
+  room : (k : Read) → Room (image-of k) (number-of k) (k .before .before .before .before .before .before .before .before .args .done) (length (now (k .before .before .before .before .before .before .before .before .args .out)))
+  room k = k .before .before .before .before .before .before .before .before .pre .1 .4
 
-  placed : (k : Read) → k .before .term-place .result ≡ place-of k
-  placed k = k .before .term-place .ensures .0
+  read-of : (k : Read) → RecordRead (now (k .before .before .term-fields .result)) (k .known-fields .result .code) (k .known-fields .result .count) (sortsAt (recordsOf (image-of k)) (number-of k)) (numbersOf (recordsOf (image-of k)) (number-of k))
+  read-of k = read (table k) (is-term k) (k .before .term-kind .ensures) (k .before .before .term-fields .ensures) (k .known-fields .ensures)
 
-  coded : (k : Read) → k .known-fields .result .code ≡ codeAt (numberAt (image-of k) (place-of k))
-  coded k = k .known-fields .ensures .0 ∙ ap (λ o. codeAt (numberAt (image-of k) o)) (placed k)
+  term-fields-requires : lts.Need-term-fields-requires (claims t) (write-term-at t) reads.Post Inv-loop μ-loop
+  term-fields-requires c κs = let s = c .before .before .before .before .before in (s .pre .1 .1, s .pre .1 .2)
 
-  counted : (k : Read) → k .known-fields .result .count ≡ knownCount (image-of k) (place-of k)
-  counted k = k .known-fields .ensures .1 ∙ ap (λ o. knownCount (image-of k) o) (placed k)
-
-  there : (k : Read) → Known (image-of k) (place-of k)
-  there k = known (table k) (is-term k)
-
-  few : (k : Read) → k .known-fields .result .count ≤ 16
-  few k =
-      let a = counted k in
-      let f = few-fields (image-of k) (place-of k) (there k) in
-      omega arith
-
-  sorted : (k : Read) → k .known-fields .result .count ≡ length (sortsAt (recordsOf (image-of k)) (number-of k))
-  sorted k = counted k ∙ count-is (table k) (is-term k)
-
-  classed : (k : Read) (i : ℕ) {r : ℕ} → i < k .known-fields .result .count → r ≡ classIn (k .known-fields .result .code) (k .known-fields .result .count) i → r ≡ classNumber (getD (sortsAt (recordsOf (image-of k)) (number-of k)) i free)
-  classed k i {r} l e = class-of (table k) (is-term k) (coded k) (counted k) i l e
-
-  field-of : (k : Read) (i : ℕ) {v : ℕ} → i < k .known-fields .result .count → v ≡ fieldAt (image-of k) (k .before .term-place .result) i → v ≡ getD (numbersOf (recordsOf (image-of k)) (number-of k)) i 0
-  field-of k i {v} l e = let n = counted k in e ∙ ap (λ o. fieldAt (image-of k) o i) (placed k) ∙ field-is (table k) (is-term k) i (omega arith)
-
-  term-place-requires : lts.Need-term-place-requires (claims t) (write-term-at t) reads.Post Inv-loop μ-loop
-  term-place-requires c κs = let s = c .before .before .before .before .before in (s .pre .1 .1, s .pre .1 .2)
+  term-kind-requires : lts.Need-term-kind-requires (claims t) (write-term-at t) reads.Post Inv-loop μ-loop
+  term-kind-requires c κs = let s = c .before .before .before .before .before .before in (s .pre .1 .1, s .pre .1 .2)
 
   known-fields-requires : lts.Need-known-fields-requires (claims t) (write-term-at t) reads.Post Inv-loop μ-loop
-  known-fields-requires c κs = let s = c .before .before .before .before .before .before in (s .pre .1 .0, rw (c .term-place .ensures .0) (known (s .pre .1 .1) (s .pre .1 .2)))
+  known-fields-requires c κs = let s = c .before .before .before .before .before .before .before in (s .pre .1 .0, rw (c .term-kind .ensures, c .before .term-fields .ensures) (known (s .pre .1 .1) (s .pre .1 .2)))
 
   loop-holds : lts.Need-loop-holds (claims t) (write-term-at t) reads.Post Inv-loop μ-loop
   loop-holds c =
-      let s = c .before .before .before .before .before .before .before in
-      (omega arith, refl, refl, come-none (s .pre .1 .1) (s .pre .1 .2) (s .args .done), begun-none (s .pre .1 .1) (s .pre .1 .2) (now (s .args .places)) (s .args .done) (now (s .args .out)) _)
+      let s = c .before .before .before .before .before .before .before .before in
+      (omega arith, refl, refl, λ e h r R. (come-none (s .pre .1 .1) h (s .args .done), begun-none (s .pre .1 .1) h (now (s .args .places)) (s .args .done) (now (s .args .out)) _))
 
   class-of-requires : lts.Need-class-of-requires (claims t) (write-term-at t) reads.Post Inv-loop μ-loop
-  class-of-requires c κs = let k = c .before .before .before in class-asks (there k) (coded k) (counted k) (c .before .before .loop .i) (search needs)
+  class-of-requires c κs = let k = c .before .before .before in read-of k .asks (c .before .before .loop .i) (search needs)
 
-  field-at-requires : lts.Need-field-at-requires (claims t) (write-term-at t) reads.Post Inv-loop μ-loop
-  field-at-requires c κs =
-      let k = c .before .before .before .before in
-      let l : c .before .before .before .loop .i < k .known-fields .result .count = search needs in
-      let n = counted k in
-      let o = placed k in
-      let i = known-inside (known (table k) (is-term k)) (c .before .before .before .loop .i) (omega arith) in
-      omega arith
+  field-requires : lts.Need-field-requires (claims t) (write-term-at t) reads.Post Inv-loop μ-loop
+  field-requires c κs = read-of (c .before .before .before .before) .inside (c .before .before .before .loop .i) (search needs)
 
   is-child-requires : lts.Need-is-child-requires (claims t) (write-term-at t) reads.Post Inv-loop μ-loop
   is-child-requires c κs = search needs
@@ -118,16 +87,16 @@ module _ (t : ℕ) where
   write-term-requires : lts.Need-write-term-requires (claims t) (write-term-at t) reads.Post Inv-loop μ-loop
   write-term-requires c κs =
       let k = c .before .before .before .before .before .before .before .before .before in
-      let s = k .before .before .before .before .before .before .before in
+      let s = k .before .before .before .before .before .before .before .before in
       let i = c .before .before .before .before .before .before .before .before .loop in
       let x = c .before .before .before in
       let l : i .i < k .known-fields .result .count = search needs in
-      let n = sorted k in
+      let n = read-of k .count in
       let q = sym (x .is-child .ensures) ∙ c .before .before .if2 .taken in
-      let a = classed k (i .i) l (x .before .before .class-of .ensures) in
-      let v = field-of k (i .i) l (x .before .field-at .ensures) in
+      let a = read-of k .class (i .i) l (x .before .before .class-of .ensures) in
+      let v = read-of k .number (i .i) l (x .before .field .ensures) in
       let d = child-lower (table k) (is-term k) (i .i) (omega arith) a v q in
-      let r = child-room (table k) (is-term k) (i .i) (omega arith) a v q (room k) (i .inv .3) in
+      let r = child-room (table k) (is-term k) (i .i) (omega arith) a v q (room k) (i .inv .3 (number-of k) (is-term k) (room k) (read-of k) .0) in
       let f = c .child-no .ensures in
       let m = s .pre .0 in
       let h = is-term k in
@@ -140,22 +109,22 @@ module _ (t : ℕ) where
       let k = x .before .before .before .before .before .before in
       let i = x .before .before .before .before .before .loop in
       let l : i .i < k .known-fields .result .count = search needs in
-      let n = sorted k in
-      let a = classed k (i .i) l (x .before .before .class-of .ensures) in
-      let v = field-of k (i .i) l (x .before .field-at .ensures) in
-      child-number (table k) (is-term k) (i .i) (omega arith) a v (sym (x .is-child .ensures) ∙ y .before .before .before .if2 .taken) (room k) (i .inv .3)
+      let n = read-of k .count in
+      let a = read-of k .class (i .i) l (x .before .before .class-of .ensures) in
+      let v = read-of k .number (i .i) l (x .before .field .ensures) in
+      child-number (table k) (is-term k) (i .i) (omega arith) a v (sym (x .is-child .ensures) ∙ y .before .before .before .if2 .taken) (room k) (i .inv .3 (number-of k) (is-term k) (room k) (read-of k) .0)
       (y .write-term .ensures .1 ∙ ap (λ j. i .d .terms + terms (treeAt (recordsOf (image-of k)) j)) (y .before .child-no .ensures))
 
   mul-numbers : lts.Need-mul-numbers (claims t) (write-term-at t) reads.Post Inv-loop μ-loop
   mul-numbers c =
       let l : c .before .before .before .before .before .before .before .before .before .before .before .before .loop .i < c .before .before .before .before .before .before .before .before .before .before .before .before .before .known-fields .result .count = c .before .before .before .before .before .before .before .before .before .before .if1 .taken in
-      let f = few (c .before .before .before .before .before .before .before .before .before .before .before .before .before) in
+      let f = read-of (c .before .before .before .before .before .before .before .before .before .before .before .before .before) .few in
       search needs
 
   array-write-numbers : lts.Need-array-write-numbers (claims t) (write-term-at t) reads.Post Inv-loop μ-loop
   array-write-numbers c =
       let l : c .before .before .before .before .before .before .before .before .before .before .before .before .loop .i < c .before .before .before .before .before .before .before .before .before .before .before .before .before .known-fields .result .count = c .before .before .before .before .before .before .before .before .before .before .if1 .taken in
-      let f = few (c .before .before .before .before .before .before .before .before .before .before .before .before .before) in
+      let f = read-of (c .before .before .before .before .before .before .before .before .before .before .before .before .before) .few in
       search needs
 
   kept-number-requires : lts.Need-kept-number-requires (claims t) (write-term-at t) reads.Post Inv-loop μ-loop
@@ -163,24 +132,24 @@ module _ (t : ℕ) where
       let k = c .before .before .before .before .before .before .before in
       let i = c .before .before .before .before .before .before .loop in
       let l : i .i < k .known-fields .result .count = search needs in
-      let n = sorted k in
+      let n = read-of k .count in
       λ z.
-      let y = type-number (table k) (is-term k) (i .i) (omega arith) (classed k (i .i) l (c .before .before .before .class-of .ensures)) (field-of k (i .i) l (c .before .before .field-at .ensures)) z in
-      let p = k .before .before .before .before .before .before .before .pre .1 .3 in
+      let y = type-number (table k) (is-term k) (i .i) (omega arith) (read-of k .class (i .i) l (c .before .before .before .class-of .ensures)) (read-of k .number (i .i) l (c .before .before .field .ensures)) z in
+      let p = k .before .before .before .before .before .before .before .before .pre .1 .3 in
       omega arith
 
   mul-numbers-2 : lts.Need-mul-numbers-2 (claims t) (write-term-at t) reads.Post Inv-loop μ-loop
   mul-numbers-2 c =
       let k = c .before .before .before .before .before .before .before .before in
       let l : c .before .before .before .before .before .before .before .loop .i < k .known-fields .result .count = search needs in
-      let f = few k in
+      let f = read-of k .few in
       search needs
 
   array-write-numbers-2 : lts.Need-array-write-numbers-2 (claims t) (write-term-at t) reads.Post Inv-loop μ-loop
   array-write-numbers-2 c =
       let k = c .before .before .before .before .before .before .before .before in
       let l : c .before .before .before .before .before .before .before .loop .i < k .known-fields .result .count = search needs in
-      let f = few k in
+      let f = read-of k .few in
       search needs
 
   add-i : lts.Need-add-i (claims t) (write-term-at t) reads.Post Inv-loop μ-loop
@@ -195,11 +164,10 @@ module _ (t : ℕ) where
       let k = c .before .before .before .before .before .before .before in
       let i = c .before .before .before .before .before .before .loop in
       let l : i .i < k .known-fields .result .count = search needs in
-      let f = few k in
-      let n = sorted k in
+      let f = read-of k .few in
       let g = i .inv .2 in
-      let a = classed k (i .i) l (q .before .before .class-of .ensures) in
-      let v = field-of k (i .i) l (q .before .field-at .ensures) in
+      let class = q .before .before .class-of .ensures in
+      let number = q .before .field .ensures in
       ⊎-elim
       (λ w.
       let q′ = sym (q .is-child .ensures) ∙ w .0 .taken in
@@ -210,8 +178,14 @@ module _ (t : ℕ) where
         omega arith,
         r .kept .1 .1 .1 .1 .0 ∙ i .inv .1,
         length-set (i .numbers) (i .i) (w .6 .result) ∙ i .inv .2,
-        come-child (table k) (is-term k) (i .i) (omega arith) a v q′ (i .inv .3) (r .ensures .0 ∙ ap (λ j. i .d .at + weight termSize (treeAt (recordsOf (image-of k)) j)) s) y,
-        begun-child (table k) (is-term k) (i .i) (omega arith) a v q′ (omega arith) (room k) (i .inv .3) (i .inv .4) (subst (λ j. Wrote (image-of k) (now (k .before .before .before .before .before .before .before .args .places)) j (i .d) (i .out) (r .last .1 .1 .1 .1 .0)) s (r .ensures .2)) (w .6 .ensures ∙ ap (λ z. asField (q .before .before .class-of .result) (z - 1)) y),
+        λ e h room′ R.
+            let n = R .count in
+            let a = R .class (i .i) l class in
+            let v = R .number (i .i) l number in
+            let I = i .inv .3 e h room′ R in (
+              come-child (table k) h (i .i) (omega arith) a v q′ (I .0) (r .ensures .0 ∙ ap (λ j. i .d .at + weight termSize (treeAt (recordsOf (image-of k)) j)) s) y,
+              begun-child (table k) h (i .i) (omega arith) a v q′ (omega arith) room′ (I .0) (I .1) (subst (λ j. Wrote (image-of k) (now (k .before .before .before .before .before .before .before .before .args .places)) j (i .d) (i .out) (r .last .1 .1 .1 .1 .0)) s (r .ensures .2)) (w .6 .ensures ∙ ap (λ z. asField (q .before .before .class-of .result) (z - 1)) y),
+            ),
       ))
       (λ w.
       let q′ = sym (q .is-child .ensures) ∙ w .0 .left in
@@ -219,47 +193,48 @@ module _ (t : ℕ) where
         omega arith,
         i .inv .1,
         length-set (i .numbers) (i .i) (w .1 .result) ∙ i .inv .2,
-        come-same (table k) (is-term k) (i .i) (omega arith) a v q′ (i .inv .3),
-        begun-kept (table k) (is-term k) (i .i) (omega arith) a v q′ (omega arith) (i .inv .4) (w .1 .ensures),
+        λ e h room′ R.
+            let n = R .count in
+            let a = R .class (i .i) l class in
+            let v = R .number (i .i) l number in
+            let I = i .inv .3 e h room′ R in
+            (come-same (table k) h (i .i) (omega arith) a v q′ (I .0), begun-kept (table k) h (i .i) (omega arith) a v q′ (omega arith) (I .1) (w .1 .ensures)),
       ))
       (c .if2 .came)
-
-  term-kind-requires : lts.Need-term-kind-requires (claims t) (write-term-at t) reads.Post Inv-loop μ-loop
-  term-kind-requires c κs = let s = c .before .before .before .before .before .before .before .before .before .before .before in (s .pre .1 .1, s .pre .1 .2)
 
   slice-aggregate-put-term : lts.Need-slice-aggregate-put-term (claims t) (write-term-at t) reads.Post Inv-loop μ-loop
   slice-aggregate-put-term c = search needs
 
   put-term-requires : lts.Need-put-term-requires (claims t) (write-term-at t) reads.Post Inv-loop μ-loop
   put-term-requires c κs =
-      let k = c .before .before .before .before .before .before in
-      let i = c .before .before .before .before .before .loop in
-      let f = few k in
-      let n = sorted k in
+      let k = c .before .before .before .before .before in
+      let i = c .before .before .before .before .loop in
+      let f = read-of k .few in
+      let n = read-of k .count in
       let g = i .inv .2 in
-      let r = record-room (table k) (is-term k) (i .i) (room k) (i .inv .3) in
+      let r = record-room (table k) (is-term k) (i .i) (room k) (i .inv .3 (number-of k) (is-term k) (room k) (read-of k) .0) in
       let o = i .inv .1 in
-      (f, omega arith, omega arith, few-terms (table k) (is-term k) (i .i) (room k) (i .inv .3))
+      (f, omega arith, omega arith, few-terms (table k) (is-term k) (i .i) (room k) (i .inv .3 (number-of k) (is-term k) (room k) (read-of k) .0))
 
   same-length : lts.Need-same-length (claims t) (write-term-at t) reads.Post Inv-loop μ-loop
   same-length c = search needs
 
   returns : lts.Need-returns (claims t) (write-term-at t) reads.Post Inv-loop μ-loop
   returns c =
-      let k = c .before .before .before .before .before .before .before .before .before in
-      let i = c .before .before .before .before .before .before .before .before .loop in
+      let k = c .before .before .before .before .before .before .before .before in
+      let i = c .before .before .before .before .before .before .before .loop in
       let w = c .before .before .put-term .ensures in
-      let m = c .before .before .before .before .term-kind in
+      let m = k .before .term-kind in
       let g : k .known-fields .result .count ≤ i .i = search needs in
-      let f = few k in
-      let n = sorted k in
+      let f = read-of k .few in
+      let n = read-of k .count in
       let b = i .inv .0 in
       let u = i .inv .2 in
-      let p = come-behind (table k) (is-term k) (i .i) (omega arith) (i .inv .3) in
+      let p = come-behind (table k) (is-term k) (i .i) (omega arith) (i .inv .3 (number-of k) (is-term k) (room k) (read-of k) .0) in
       let x = p .0 in
       let y = p .1 in
       let z = w .0 in
-      (omega arith, w .1 ∙ y, begun-all (table k) (is-term k) (i .i) (k .known-fields .result .count) (m .result) (sym n) (omega arith) (omega arith) (m .ensures) (room k) (i .inv .3) (i .inv .4) (w .2))
+      (omega arith, w .1 ∙ y, begun-all (table k) (is-term k) (i .i) (k .known-fields .result .count) (m .result) (sym n) (omega arith) (omega arith) (m .ensures) (room k) (i .inv .3 (number-of k) (is-term k) (room k) (read-of k) .0) (i .inv .3 (number-of k) (is-term k) (room k) (read-of k) .1) (w .2))
 
 pub +write-term-spec : {M : Type 1} → statement M
 +write-term-spec =
@@ -269,11 +244,12 @@ pub +write-term-spec : {M : Type 1} → statement M
     reads.Post
     Inv-loop
     μ-loop
-    (term-place-requires t)
+    (term-fields-requires t)
+    (term-kind-requires t)
     (known-fields-requires t)
     (loop-holds t)
     (class-of-requires t)
-    (field-at-requires t)
+    (field-requires t)
     (is-child-requires t)
     (child-no-requires t)
     (write-term-requires t)
@@ -286,7 +262,6 @@ pub +write-term-spec : {M : Type 1} → statement M
     (add-i t)
     (loop-less t)
     (loop-again t)
-    (term-kind-requires t)
     (slice-aggregate-put-term t)
     (put-term-requires t)
     (same-length t)

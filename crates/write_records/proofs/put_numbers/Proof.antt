@@ -1,3 +1,4 @@
+-- `write_records::put_numbers` meets its contract.
 use borrow.Author.Needs.{needs}
 use Prim.Native.Nat.{_-_, _≤_}
 use native.Mathlib.Omega.{arith}

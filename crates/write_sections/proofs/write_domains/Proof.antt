@@ -7,7 +7,7 @@ use mathlib.Core.List.{List, map}
 use denote.Ref.{now}
 use lib.ListN.{length, take}
 use Rattle.base_bytes.specs.Bytes.{over}
-use Rattle.image_written.specs.Records.{Record, image}
+use Rattle.image_written.specs.Records.{Record, bytes, image}
 use Rattle.image_written.specs.Written.{domainRecord}
 use Rattle.write_sections.proofs.Firsts.{firsts, firsts-all, firsts-none, record-fits, come-more, over-more, domain-at, domains-count}
 use Rattle.write_sections.proofs.write_domains.Statement.{statement}
@@ -24,11 +24,11 @@ abbrev μ-loop : tie.MeasureT-loop
 loop-holds : tie.Need-loop-holds Inv-loop μ-loop
 loop-holds c = let s = c .before .before in let f = firsts-none (map (λ m. domainRecord m) (take (s .args .count) (now (s .args .masks)))) 0 (now (s .args .out)) in (omega arith, refl, f .0, f .1)
 
-mul-put-domain : tie.Need-mul-put-domain Inv-loop μ-loop
-mul-put-domain c = search needs
+cast-t8 : tie.Need-cast-t8 Inv-loop μ-loop
+cast-t8 c = search needs
 
-shared-slice-read-put-domain : tie.Need-shared-slice-read-put-domain Inv-loop μ-loop
-shared-slice-read-put-domain c = search needs
+mask-of-requires : tie.Need-mask-of-requires Inv-loop μ-loop
+mask-of-requires c κs = search needs
 
 put-domain-requires : tie.Need-put-domain-requires Inv-loop μ-loop
 put-domain-requires c κs =
@@ -36,7 +36,7 @@ put-domain-requires c κs =
     let s = at-loop .before .before .before in
     let i = at-loop .loop in
     let l : i .i < s .args .count = search needs in
-    let e = domain-at (now (s .args .masks)) (s .args .count) (i .i) l (s .pre .0) in
+    let e = domain-at (now (s .args .masks)) (s .args .count) (i .i) l (s .pre .1) in
     let r = record-fits (map (λ m. domainRecord m) (take (s .args .count) (now (s .args .masks)))) 0 (i .i) (i .at) (e .0) _ (e .1) (i .inv .2) {n = length (now (s .args .out))} (search needs) in
     let o = i .inv .1 in
     omega arith
@@ -55,8 +55,8 @@ loop-again c =
     let w = c .before .before .put-domain in
     let l : i .i < s .args .count = search needs in
     let rs : List Record = map (λ m. domainRecord m) (take (s .args .count) (now (s .args .masks))) in
-    let e = domain-at (now (s .args .masks)) (s .args .count) (i .i) l (s .pre .0) in
-    (omega arith, w .kept .0 ∙ i .inv .1, come-more rs 0 (i .i) (i .at) (e .0) _ (e .1) (i .inv .2) (w .result) (w .ensures .0), over-more rs 0 (i .i) (i .at) (e .0) _ (e .1) (i .inv .2) (now (s .args .out)) (search needs) (i .inv .3) (w .ensures .1))
+    let e = domain-at (now (s .args .masks)) (s .args .count) (i .i) l (s .pre .1) in
+    (omega arith, w .kept .0 ∙ i .inv .1, come-more rs 0 (i .i) (i .at) (e .0) _ (e .1) (i .inv .2) (w .result) (w .ensures .0), over-more rs 0 (i .i) (i .at) (e .0) _ (e .1) (i .inv .2) (now (s .args .out)) (search needs) (i .inv .3) (w .ensures .1 ∙ ap (λ m. over (i .at) (bytes (domainRecord m)) (i .out)) (c .before .before .before .before .mask-of .ensures)))
 
 same-length : tie.Need-same-length Inv-loop μ-loop
 same-length c = search needs
@@ -68,7 +68,7 @@ returns c =
     let g : s .args .count ≤ i .i = search needs in
     let h = i .inv .0 in
     let rs : List Record = map (λ m. domainRecord m) (take (s .args .count) (now (s .args .masks))) in
-    let z : i .i ≡ length rs = let n = domains-count (now (s .args .masks)) (s .args .count) (s .pre .0) in omega arith in
+    let z : i .i ≡ length rs = let n = domains-count (now (s .args .masks)) (s .args .count) (s .pre .1) in omega arith in
     let e : firsts rs (i .i) ≡ image rs = ap (λ j. firsts rs j) z ∙ firsts-all rs in
     (i .inv .2 ∙ ap (λ bs. 0 + length bs) e ∙ omega arith, i .inv .3 ∙ ap (λ bs. over 0 bs (now (s .args .out))) e)
 
@@ -79,8 +79,8 @@ write-domains-spec =
     Inv-loop
     μ-loop
     loop-holds
-    mul-put-domain
-    shared-slice-read-put-domain
+    cast-t8
+    mask-of-requires
     put-domain-requires
     add-i
     loop-less

@@ -2,15 +2,17 @@
 use borrow.Author.Needs.{needs}
 use Prim.Native.Nat.{ℕ, _+_, _-_, _≤_, _<_}
 use native.Mathlib.Omega.{arith}
-use mathlib.Core.Path.{_≡_, refl, sym, ap, _∙_}
+use mathlib.Core.Path.{_≡_, refl, sym, ap, subst, _∙_}
 use mathlib.Core.List.{List, map}
 use denote.Ref.{now}
-use lib.ListN.{length}
+use lib.ListN.{length, getD}
 use Rattle.base_bytes.specs.Bytes.{over}
 use Rattle.image_written.specs.Records.{Record, image}
 use Rattle.image_written.specs.Written.{typeRecord}
 use Rattle.write_types.specs.Entries.{entriesOf}
-use Rattle.write_types.proofs.Entering.{entries-placed}
+use Rattle.read_terms.proofs.Located.{good-of}
+use Rattle.write_types.proofs.Entering.{few-entries, entries-placed}
+use Rattle.write_sections.specs.Sections.{typeSize, WroteType}
 use Rattle.write_sections.proofs.Firsts.{firsts, firsts-all, firsts-none, record-fits, come-more, over-more, types-count, number-is, type-at, type-size, parts-in}
 use Rattle.write_sections.proofs.write_types.Statement.{statement}
 use Rattle.write_sections.proofs.write_types.Tie as tie
@@ -33,11 +35,21 @@ loop-holds c =
     let f = firsts-none (records (now (a .image)) (a .n) (now (a .order))) (a .start) (now (a .out)) in
     (omega arith, refl, f .0, f .1)
 
-mul-t14 : tie.Need-mul-t14 Inv-loop μ-loop
-mul-t14 c = search needs
+cast-t13 : tie.Need-cast-t13 Inv-loop μ-loop
+cast-t13 c =
+    let s = c .before .before .before .before .before .before .before .before in
+    let E = s .pre .2 in
+    let l : c .before .loop .i < s .args .n = search needs in
+    let f = few-entries E in
+    let g = good-of (now (s .args .image)) (E .laid-out) .few-types in
+    search needs
 
-shared-slice-read-t16 : tie.Need-shared-slice-read-t16 Inv-loop μ-loop
-shared-slice-read-t16 c = search needs
+type-at-requires : tie.Need-type-at-requires Inv-loop μ-loop
+type-at-requires c κs =
+    let s = c .before .before .before .before .before .before .before .before in
+    let l : c .before .loop .i < s .args .n = search needs in
+    let f = s .pre .2 .few in
+    omega arith
 
 write-type-requires : tie.Need-write-type-requires Inv-loop μ-loop
 write-type-requires c κs =
@@ -50,7 +62,8 @@ write-type-requires c κs =
     let z = type-size E (i .i) l in
     let r = record-fits (records (now (s .args .image)) (s .args .n) (now (s .args .order))) (s .args .start) (i .i) (i .at) (e .0) _ (e .1) (i .inv .2) {n = length (now (s .args .out))} (s .pre .3) in
     let o = i .inv .1 in
-    (s .pre .0, s .pre .1, number-is E (i .i) l, E .enough-places, omega arith)
+    let m : i .at + typeSize (now (s .args .image)) (getD (now (s .args .order)) (i .i) 0) ≤ length (i .out) = omega arith in
+    (s .pre .0, s .pre .1, rw (c .before .type-at .ensures) (number-is E (i .i) l), E .enough-places, rw (c .before .type-at .ensures) m)
 
 add-i : tie.Need-add-i Inv-loop μ-loop
 add-i c = search needs
@@ -64,15 +77,17 @@ loop-again c =
     let s = at-loop .before .before .before .before .before .before .before in
     let i = at-loop .loop in
     let w = c .before .before .write-type in
+    let t = c .before .before .before .before .type-at .ensures in
     let E = s .pre .2 in
     let l : i .i < s .args .n = search needs in
     let rs : List Record = records (now (s .args .image)) (s .args .n) (now (s .args .order)) in
     let e = type-at E (i .i) l in
-    let z = type-size E (i .i) l in (
+    let z = type-size E (i .i) l in
+    let W = subst (λ t. WroteType (now (s .args .image)) (now (s .args .places)) t (i .at) (i .out) (w .last .1 .1 .1 .1 .0)) t (w .ensures .1) in (
       omega arith,
       w .kept .1 .1 .1 .1 .0 ∙ i .inv .1,
-      come-more rs (s .args .start) (i .i) (i .at) (e .0) _ (e .1) (i .inv .2) (w .result) (w .ensures .0 ∙ ap (λ q. i .at + q) (sym z)),
-      over-more rs (s .args .start) (i .i) (i .at) (e .0) _ (e .1) (i .inv .2) (now (s .args .out)) (s .pre .3) (i .inv .3) (w .ensures .1 .over-table (entriesOf (now (s .args .image)) (s .args .n) (now (s .args .order))) (entries-placed E) (parts-in E (i .i) l)),
+      come-more rs (s .args .start) (i .i) (i .at) (e .0) _ (e .1) (i .inv .2) (w .result) (w .ensures .0 ∙ ap (λ t. i .at + typeSize (now (s .args .image)) t) t ∙ ap (λ q. i .at + q) (sym z)),
+      over-more rs (s .args .start) (i .i) (i .at) (e .0) _ (e .1) (i .inv .2) (now (s .args .out)) (s .pre .3) (i .inv .3) (W .over-table (entriesOf (now (s .args .image)) (s .args .n) (now (s .args .order))) (entries-placed E) (parts-in E (i .i) l)),
     )
 
 same-length : tie.Need-same-length Inv-loop μ-loop
@@ -96,8 +111,8 @@ write-types-spec =
     Inv-loop
     μ-loop
     loop-holds
-    mul-t14
-    shared-slice-read-t16
+    cast-t13
+    type-at-requires
     write-type-requires
     add-i
     loop-less

@@ -1,43 +1,32 @@
+-- `write_stripped::stripped_number` meets its contract.
 use borrow.Author.Needs.{needs}
 use Rattle.write_stripped.proofs.stripped_number.Statement.{statement}
 use Rattle.write_stripped.proofs.stripped_number.Tie as tie
-use Rattle.write_stripped.proofs.stripped_number.Reads as reads
-use Rattle.write_stripped.proofs.stripped_number.Lts as lts
-use Rattle.image_refusals.proofs.refusal_number.Reads as refusal-number-reads
 
--- src/lib.rt:75:31
 enum-told : tie.Need-enum-told
 enum-told c = search needs
 
--- src/lib.rt:76:27
 enum-known-s : tie.Need-enum-known-s
 enum-known-s c = search needs
 
--- src/lib.rt:76:38
 refusal-number-requires : tie.Need-refusal-number-requires
 refusal-number-requires c κs = search needs
 
--- src/lib.rt:77:31
 enum-told-2 : tie.Need-enum-told-2
 enum-told-2 c = search needs
 
--- src/lib.rt:78:34
 enum-told-3 : tie.Need-enum-told-3
 enum-told-3 c = search needs
 
--- src/lib.rt:71:1
 returns : tie.Need-returns
 returns c = search needs
 
--- src/lib.rt:71:1
 returns-2 : tie.Need-returns-2
 returns-2 c = rw (c .before .before .s .given .1) (c .refusal-number .ensures)
 
--- src/lib.rt:71:1
 returns-3 : tie.Need-returns-3
 returns-3 c = search needs
 
--- src/lib.rt:71:1
 returns-4 : tie.Need-returns-4
 returns-4 c = search needs
 

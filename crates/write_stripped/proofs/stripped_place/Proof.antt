@@ -1,39 +1,30 @@
+-- `write_stripped::stripped_place` meets its contract.
 use borrow.Author.Needs.{needs}
 use mathlib.Core.Path.{refl}
 use Rattle.write_stripped.proofs.stripped_place.Statement.{statement}
 use Rattle.write_stripped.proofs.stripped_place.Tie as tie
-use Rattle.write_stripped.proofs.stripped_place.Reads as reads
-use Rattle.write_stripped.proofs.stripped_place.Lts as lts
 
--- src/lib.rt:86:31
 enum-told : tie.Need-enum-told
 enum-told c = search needs
 
--- src/lib.rt:87:30
 enum-known-s : tie.Need-enum-known-s
 enum-known-s c = search needs
 
--- src/lib.rt:88:31
 enum-told-2 : tie.Need-enum-told-2
 enum-told-2 c = search needs
 
--- src/lib.rt:89:34
 enum-told-3 : tie.Need-enum-told-3
 enum-told-3 c = search needs
 
--- src/lib.rt:82:1
 returns : tie.Need-returns
 returns c = search needs
 
--- src/lib.rt:82:1
 returns-2 : tie.Need-returns-2
 returns-2 c = rw (c .before .s .given .1) refl
 
--- src/lib.rt:82:1
 returns-3 : tie.Need-returns-3
 returns-3 c = search needs
 
--- src/lib.rt:82:1
 returns-4 : tie.Need-returns-4
 returns-4 c = search needs
 

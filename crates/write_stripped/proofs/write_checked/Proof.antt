@@ -1,3 +1,4 @@
+-- `write_stripped::write_checked` meets its contract.
 use borrow.Author.Needs.{needs}
 use Prim.Native.Nat.{ℕ, _≤_}
 use mathlib.Core.Path.{sym, subst, _∙_}
@@ -8,50 +9,38 @@ use lib.Seq.{length-take-le}
 use Rattle.write_stripped.proofs.Gate.{wrong-left, short-left, written-left}
 use Rattle.write_stripped.proofs.write_checked.Statement.{statement}
 use Rattle.write_stripped.proofs.write_checked.Tie as tie
-use Rattle.write_stripped.proofs.write_checked.Reads as reads
-use Rattle.write_stripped.proofs.write_checked.Lts as lts
-use Rattle.write_stripped.proofs.is_wrong_set.Reads as is-wrong-set-reads
-use Rattle.write_stripped.proofs.write_copy.Reads as write-copy-reads
 
--- src/lib.rt:85:8
 is-wrong-set-requires : tie.Need-is-wrong-set-requires
 is-wrong-set-requires c κs = search needs
 
--- src/lib.rt:86:9
 returns : tie.Need-returns
 returns c =
     let s = c .before .before .before .before .before .before .before .before .before in
     wrong-left (now (s .args .image)) (s .args .mask) (now (s .args .out)) (s .pre .0) (s .pre .1) (sym (c .before .is-wrong-set .ensures) ∙ c .if1 .taken)
 
--- src/lib.rt:90:9
 returns-2 : tie.Need-returns-2
 returns-2 c =
     let s = c .before .before .before .before .before .before .before .before .before .before in
     short-left (now (s .args .image)) (s .args .mask) (now (s .args .out)) (s .pre .0) (s .pre .1) (sym (c .before .before .is-wrong-set .ensures) ∙ c .before .if1 .left) (c .if2 .taken)
 
--- src/lib.rt:102:9
 array-borrow-prefix-copy : tie.Need-array-borrow-prefix-copy
 array-borrow-prefix-copy c = search needs
 
--- src/lib.rt:102:9
 slice-aggregate-write-copy : tie.Need-slice-aggregate-write-copy
 slice-aggregate-write-copy c =
     let s = c .before .before .before .before .before .before .before .before .before .before .before in
     let b : List ℕ = now (s .args .image) in
     sym (length-take-le (length b) (replicate 16384 0) (subst (λ n. length b ≤ n) (sym (length-replicate {A = ℕ} 16384 0)) (s .pre .0)))
 
--- src/lib.rt:93:9
 write-copy-requires : tie.Need-write-copy-requires
 write-copy-requires c κs =
     let s = c .before .before .before .before .before .before .before .before .before .before .before .before in
     let b : List ℕ = now (s .args .image) in
     (s .pre .0, s .pre .1, s .pre .2, s .pre .3, s .pre .4, s .pre .5, length-take-le (length b) (replicate 16384 0) (subst (λ n. length b ≤ n) (sym (length-replicate {A = ℕ} 16384 0)) (s .pre .0)), c .before .before .if2 .left)
 
--- src/lib.rt:71:1
 same-length : tie.Need-same-length
 same-length c = search needs
 
--- src/lib.rt:71:1
 returns-3 : tie.Need-returns-3
 returns-3 c =
     let at-write-copy = c .before .before .before in

@@ -1,3 +1,4 @@
+-- `write_stripped::write_copy` meets its contract.
 use borrow.Author.Needs.{needs}
 use Prim.Native.Nat.{ℕ}
 use mathlib.Core.Path.{ap, subst, _∙_}
@@ -9,20 +10,17 @@ use Rattle.calculus.specs.Syntax.{Dom}
 use Rattle.image.specs.Layout.{recordsOf}
 use Rattle.base_bytes.specs.Bytes.{over}
 use Rattle.write_idle.specs.Idle.{inMask, Idled}
-use Rattle.validator.proofs.Parts.{accepted}
+use Rattle.validator_core.proofs.Parts.{accepted}
 use Rattle.write_stripped.proofs.Copies.{copy-domains, copy-types, copy-terms, copy-counted, copy-fits, copy-written}
 use Rattle.write_stripped.proofs.write_copy.Statement.{statement}
 use Rattle.write_stripped.proofs.write_copy.Tie as tie
-use Rattle.write_stripped.proofs.write_copy.Reads as reads
-use Rattle.write_stripped.proofs.write_copy.Lts as lts
-use Rattle.write_idle.proofs.idle_copy.Reads as idle-copy-reads
-use Rattle.write_image.proofs.write_whole.Reads as write-whole-reads
 
--- src/lib.rt:66:5
 idle-copy-requires : tie.Need-idle-copy-requires
-idle-copy-requires c κs = search needs
+idle-copy-requires c κs =
+    let s = c .before .before .before .before .before .before .before .before .before in
+    let T = s .pre .3 in
+    (record { terms = record { laid-out = T .laid-out; offsets = T .terms }; types = record { laid-out = T .laid-out; enough = T .enough; descriptors = T .descriptors } }, s .pre .4 .terms, s .pre .6)
 
--- src/lib.rt:67:5
 write-whole-requires : tie.Need-write-whole-requires
 write-whole-requires c κs =
     let at-idle-copy = c .before .before .before .before in
@@ -36,15 +34,12 @@ write-whole-requires c κs =
     let I : Idled (recordsOf b) H (length (recordsOf b .terms)) b C = subst (λ m. Idled (recordsOf b) H m b C) (s .pre .4 .terms) (x .ensures) in
     (s .pre .2, copy-domains b A H C I _ (T .domains), copy-types b A H C I _ (s .pre .5), copy-terms b A H C I _ (T .terms), copy-counted b A H C I _ (s .pre .4), copy-fits b A H C I _ (s .pre .7))
 
--- src/lib.rt:51:1
 same-length : tie.Need-same-length
 same-length c = search needs
 
--- src/lib.rt:51:1
 same-length-2 : tie.Need-same-length-2
 same-length-2 c = search needs
 
--- src/lib.rt:51:1
 returns : tie.Need-returns
 returns c =
     let at-idle-copy = c .before .before .before .before .before .before .before in

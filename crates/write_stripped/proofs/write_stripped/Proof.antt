@@ -1,65 +1,48 @@
+-- `write_stripped::write_stripped` meets its contract.
 use borrow.Author.Needs.{needs}
 use mathlib.Core.Path.{sym, ap, _∙_}
 use denote.Ref.{now}
-use Rattle.validator.specs.Examined.{verdictOf}
+use Rattle.validator_core.specs.Examined.{verdictOf}
 use Rattle.write_stripped.proofs.Gate.{too-long-left, examined-left}
 use Rattle.write_stripped.proofs.write_stripped.Statement.{statement}
 use Rattle.write_stripped.proofs.write_stripped.Tie as tie
-use Rattle.write_stripped.proofs.write_stripped.Reads as reads
-use Rattle.write_stripped.proofs.write_stripped.Lts as lts
-use Rattle.check_records.proofs.kinds.kind_codes.Reads as kind-codes-reads
-use Rattle.validator.proofs.examine.examine_image.Reads as examine-image-reads
-use Rattle.write_stripped.proofs.write_checked.Reads as write-checked-reads
 
--- src/lib.rt:113:9
 returns : tie.Need-returns
 returns c = let s = c .before .before .before in too-long-left (now (s .args .image)) (s .args .mask) (now (s .args .out)) (c .if1 .taken)
 
--- src/lib.rt:115:17
 kind-codes-requires : tie.Need-kind-codes-requires
 kind-codes-requires c κs = search needs
 
--- src/lib.rt:122:9
 slice-aggregate-examine-image : tie.Need-slice-aggregate-examine-image
 slice-aggregate-examine-image c = search needs
 
--- src/lib.rt:123:9
 slice-aggregate-examine-image-2 : tie.Need-slice-aggregate-examine-image-2
 slice-aggregate-examine-image-2 c = search needs
 
--- src/lib.rt:120:9
 examine-image-requires : tie.Need-examine-image-requires
 examine-image-requires c κs = search needs
 
--- src/lib.rt:129:26
 enum-known-checked : tie.Need-enum-known-checked
 enum-known-checked c = search needs
 
--- src/lib.rt:130:27
 enum-known-checked-2 : tie.Need-enum-known-checked-2
 enum-known-checked-2 c = search needs
 
--- src/lib.rt:131:34
 slice-aggregate-write-checked : tie.Need-slice-aggregate-write-checked
 slice-aggregate-write-checked c = search needs
 
--- src/lib.rt:131:50
 slice-aggregate-write-checked-2 : tie.Need-slice-aggregate-write-checked-2
 slice-aggregate-write-checked-2 c = search needs
 
--- src/lib.rt:131:57
 slice-aggregate-write-checked-3 : tie.Need-slice-aggregate-write-checked-3
 slice-aggregate-write-checked-3 c = search needs
 
--- src/lib.rt:131:65
 slice-aggregate-write-checked-4 : tie.Need-slice-aggregate-write-checked-4
 slice-aggregate-write-checked-4 c = search needs
 
--- src/lib.rt:131:79
 slice-aggregate-write-checked-5 : tie.Need-slice-aggregate-write-checked-5
 slice-aggregate-write-checked-5 c = search needs
 
--- src/lib.rt:131:13
 write-checked-requires : tie.Need-write-checked-requires
 write-checked-requires c κs =
     let at-checked2 = c .before .before .before .before .before .before .before in
@@ -71,7 +54,6 @@ write-checked-requires c κs =
     let f = e .filled _ t in
     (at-if1 .if1 .left, sym (e .answer) ∙ ap verdictOf t, at-kind-codes .kind-codes .ensures, f .tables, f .counts, record { laid-out = f .tables .laid-out; offsets = rw (← f .counts .types) (f .types) })
 
--- src/lib.rt:109:1
 returns-2 : tie.Need-returns-2
 returns-2 c =
     let at-examine-image = c .before .before .before .before in
@@ -79,11 +61,9 @@ returns-2 c =
     let s = at-if1 .before .before .before in
     examined-left (now (s .args .image)) (s .args .mask) (now (s .args .out)) (at-if1 .if1 .left) _ _ (ap verdictOf (sym (c .before .checked .given .1)) ∙ at-examine-image .examine-image .ensures .0 .answer)
 
--- src/lib.rt:109:1
 same-length : tie.Need-same-length
 same-length c = search needs
 
--- src/lib.rt:109:1
 returns-3 : tie.Need-returns-3
 returns-3 c = search needs
 

@@ -1,8 +1,9 @@
+-- `write_types::enter_one` meets its contract.
 use borrow.Author.Needs.{needs}
 use mathlib.Core.Path.{_∙_}
 use denote.Ref.{now}
+use Rattle.read_terms.proofs.Located.{good-of}
 use Rattle.write_types.proofs.Entering.{few-entries, told-there, there-enter, room, one-entered, entries-more}
-use Rattle.check_rules.proofs.Located.{good-of}
 use Rattle.write_types.proofs.enter_one.Statement.{statement}
 use Rattle.write_types.proofs.enter_one.Tie as tie
 
@@ -19,32 +20,24 @@ returns c =
     let q = told-there E (s .pre .1) _ (c .before .is-entered .ensures) in
     (E, there-enter E (s .pre .1) (q ∙ c .if1 .taken))
 
-cast-places : tie.Need-cast-places
-cast-places c =
+cast-t10 : tie.Need-cast-t10
+cast-t10 c =
     let s = c .before .before .before .before .before .before in
     let E = s .pre .0 in
     let f = few-entries E in
     let g = good-of (now (s .args .image)) (E .laid-out) .few-types in
     search needs
 
-cast-places-2 : tie.Need-cast-places-2
-cast-places-2 c = search needs
+set-place-requires : tie.Need-set-place-requires
+set-place-requires c κs = search needs
 
-mul-places : tie.Need-mul-places
-mul-places c = search needs
-
-slice-write-places : tie.Need-slice-write-places
-slice-write-places c = search needs
-
-mul-order : tie.Need-mul-order
-mul-order c = search needs
-
-slice-write-order : tie.Need-slice-write-order
-slice-write-order c =
-    let s = c .before .before .before .before .before .before .before in
+set-type-requires : tie.Need-set-type-requires
+set-type-requires c κs =
+    let w = c .before .before .before .before .before in
+    let s = w .before .before .before .before .before .before in
     let E = s .pre .0 in
-    let q = told-there E (s .pre .1) _ (c .before .before .is-entered .ensures) in
-    room E (s .pre .1) (s .pre .2) (q ∙ c .before .if1 .left)
+    let q = told-there E (s .pre .1) _ (w .before .is-entered .ensures) in
+    room E (s .pre .1) (s .pre .2) (q ∙ w .if1 .left)
 
 add-result : tie.Need-add-result
 add-result c = search needs
@@ -57,10 +50,11 @@ same-length-3 c = search needs
 
 returns-2 : tie.Need-returns-2
 returns-2 c =
-    let s = c .before .before .before .before .before .before .before in
+    let w = c .before .before .before .before .before .before .before .before in
+    let s = w .before .before .before .before .before .before in
     let E = s .pre .0 in
-    let q = told-there E (s .pre .1) _ (c .before .before .is-entered .ensures) ∙ c .before .if1 .left in
-    (entries-more E (s .pre .1) (s .pre .2) q, one-entered E (s .pre .1) (s .pre .2) q)
+    let q = told-there E (s .pre .1) _ (w .before .is-entered .ensures) ∙ w .if1 .left in
+    rw (c .before .before .before .before .before .before .set-place .ensures, c .before .before .set-type .ensures) (entries-more E (s .pre .1) (s .pre .2) q, one-entered E (s .pre .1) (s .pre .2) q)
 
 pub enter-one-spec : {M : Type 1} → statement M
 enter-one-spec =
@@ -69,12 +63,9 @@ enter-one-spec =
     is-entered-requires
     same-length
     returns
-    cast-places
-    cast-places-2
-    mul-places
-    slice-write-places
-    mul-order
-    slice-write-order
+    cast-t10
+    set-place-requires
+    set-type-requires
     add-result
     same-length-2
     same-length-3

@@ -4,7 +4,8 @@ use mathlib.Core.Path.{_≡_, refl}
 use lib.ListN.{length}
 use native.Mathlib.Omega.{arith}
 use Rattle.recordings.proofs.Recordings.{first-none, all-refused}
-use Rattle.engine.proofs.Gate.{refused-so, image-accepted, code-asks, lent-enough}
+use Rattle.validator_core.proofs.Calls.{refused-so, lent-enough}
+use Rattle.engine_core.proofs.Accepted.{image-accepted, code-asks}
 use borrow.Author.Needs.{needs}
 use Rattle.bukzarn.proofs.frames.bukzarn_run_frames.Statement.{statement}
 use Rattle.bukzarn.proofs.frames.bukzarn_run_frames.Tie as tie

@@ -9,9 +9,9 @@ use Prim.Native.Nat.{_-_, _≤_}
 use lib.ListN.{getD, drop}
 use Rattle.laws.specs.Tests.{allOf}
 use Rattle.image.specs.Kinds.{TermKind}
-use Rattle.check_rules.specs.Fields.{typesIn}
+use Rattle.read_terms.specs.Fields.{typesIn}
 use Rattle.check_rules.specs.Judged.{labelAbove}
-use Rattle.check_rules.proofs.Lists.{test-more, test-fails, test-ends}
+use Rattle.read_terms.proofs.Lists.{test-more, test-fails, test-ends}
 use Rattle.check_rules.proofs.OnDescriptors.{labels-length, label-at}
 
 abbrev Inv-loop : tie.InvT-loop

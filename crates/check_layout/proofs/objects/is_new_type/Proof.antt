@@ -1,7 +1,7 @@
 -- `check_layout::objects::is_new_type` meets its contract.
 use mathlib.Core.Path.{sym, _∙_}
 use borrow.Author.Tests.{eq-eqb, ne-eqb}
-use Rattle.check_records.specs.Descriptors.{descriptorKind}
+use Rattle.read_records.specs.Descriptors.{descriptorKind}
 use borrow.Author.Needs.{needs}
 use Rattle.check_layout.proofs.objects.is_new_type.Statement.{statement}
 use Rattle.check_layout.proofs.objects.is_new_type.Tie as tie

@@ -3,7 +3,7 @@ use mathlib.Core.Path.{_≡_, sym, ap, _∙_}
 use denote.Ref.{now}
 use lib.ListN.{getD}
 use borrow.Author.Tests.{eq-eqb, ne-eqb}
-use Rattle.check_records.specs.Heads.{fieldsAt}
+use Rattle.read_records.specs.Heads.{fieldsAt}
 use Rattle.check_layout.specs.NewTypes.{sameFields}
 use borrow.Author.Needs.{needs}
 use Rattle.check_layout.proofs.objects.is_same_object.Statement.{statement}

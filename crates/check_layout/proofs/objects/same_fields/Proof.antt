@@ -8,7 +8,7 @@ use lib.ListN.{length}
 use lib.Dec.{eqb}
 use borrow.Author.Tests.{eq-eqb, ne-eqb}
 use Rattle.laws.specs.Tests.{allBelow}
-use Rattle.check_records.specs.Heads.{fieldIn}
+use Rattle.read_records.specs.Heads.{fieldIn}
 use Rattle.check_layout.proofs.Descriptors.{below-more, below-not, and-no}
 use borrow.Author.Needs.{needs}
 use Rattle.check_layout.proofs.objects.same_fields.Statement.{statement}

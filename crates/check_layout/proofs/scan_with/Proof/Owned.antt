@@ -36,23 +36,23 @@ use denote.Triple.Spec.{tripleOf}
 use denote.Triple.Clauses.{Lasts, ensured, lasts}
 use denote.Triple.Walked.{says, Stays, stay-none-slice, stay-slice, walkOf, ends-at}
 use denote.Exit.{yes}
-use Rattle.check_records.specs.declared.numbers.Counts.{Counts}
-use Rattle.check_records.specs.declared.reader.Walk.{Walk}
-use Rattle.check_records.specs.declared.reader.Head.{Head}
-use Rattle.check_records.specs.Heads.{headAt, fieldBytes}
-use Rattle.check_records.proofs.numbers.Counts as Cn
-use Rattle.check_records.proofs.numbers.Counts.Laws as Cn′
-use Rattle.check_records.proofs.reader.Walk as T
-use Rattle.check_records.proofs.reader.Walk.Laws as T′
-use Rattle.check_records.proofs.reader.next as next
-use Rattle.check_records.proofs.reader.new as new
-use Rattle.check_records.proofs.numbers.Counts.none as none
-use Rattle.check_records.proofs.reader.fields as fields
-use Rattle.check_records.proofs.reader.past as past
+use Rattle.read_records.specs.declared.numbers.Counts.{Counts}
+use Rattle.read_records.specs.declared.reader.Walk.{Walk}
+use Rattle.read_records.specs.declared.reader.Head.{Head}
+use Rattle.read_records.specs.Heads.{headAt, fieldBytes}
+use Rattle.read_records.proofs.numbers.Counts as Cn
+use Rattle.read_records.proofs.numbers.Counts.Laws as Cn′
+use Rattle.read_records.proofs.reader.Walk as T
+use Rattle.read_records.proofs.reader.Walk.Laws as T′
+use Rattle.read_records.proofs.reader.next as next
+use Rattle.read_records.proofs.reader.new as new
+use Rattle.read_records.proofs.numbers.Counts.none as none
+use Rattle.read_records.proofs.reader.fields as fields
+use Rattle.read_records.proofs.reader.past as past
 use Rattle.check_layout.specs.Tables.{Enterable, Enters, ScannedWith}
 use Rattle.check_layout.specs.declared.Scan.{Scan}
 use Rattle.check_layout.specs.declared.Entry.{Entry}
-use Rattle.check_layout.proofs.Lending.{Loan, LentAgain, lends, comes-back}
+use Rattle.laws.proofs.Lending.{Loan, LentAgain, lends, comes-back}
 use Rattle.check_layout.proofs.Scan as Sc
 use Rattle.check_layout.proofs.Entry as En
 use Rattle.check_layout.proofs.enter as enter

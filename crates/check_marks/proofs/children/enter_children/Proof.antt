@@ -3,7 +3,7 @@ use mathlib.Core.Path.{refl, sym, subst, _∙_}
 use mathlib.Core.List.{foldl-append}
 use lib.Dec.{lit<}
 use denote.Ref.{now}
-use Rattle.check_records.specs.Heads.{sideOf, entriesOf}
+use Rattle.read_records.specs.Heads.{sideOf, entriesOf}
 use Rattle.check_marks.specs.Marks.{Lower, used}
 use Rattle.check_marks.proofs.ChildByChild.{lower-first, lower-rest, high-append, high-low}
 use borrow.Author.Needs.{needs}

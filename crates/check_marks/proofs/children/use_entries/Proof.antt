@@ -7,9 +7,9 @@ use lib.ListN.{length}
 use denote.Ref.{now}
 use Rattle.image.specs.Kinds.{an-entry}
 use Rattle.image.specs.Records.{asChild}
-use Rattle.check_records.specs.Codes.{countOf, childrenIn, entriesIn}
-use Rattle.check_records.specs.Heads.{entriesOf}
-use Rattle.check_records.proofs.Entries.{entriesLeft, all-left, next-left, none-left}
+use Rattle.read_records.specs.Codes.{countOf, childrenIn, entriesIn}
+use Rattle.read_records.specs.Heads.{entriesOf}
+use Rattle.read_records.proofs.Entries.{entriesLeft, all-left, next-left, none-left}
 use Rattle.check_marks.specs.Marks.{Lower, used, useAll, highest}
 use Rattle.check_marks.proofs.ChildByChild.{lower-first, lower-rest, high-append}
 use borrow.Author.Needs.{needs}

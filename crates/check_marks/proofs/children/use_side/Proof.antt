@@ -5,8 +5,8 @@ use mathlib.Core.Path.{_≡_, refl, ap, sym, _∙_}
 use lib.ListN.{length, getD, drop}
 use denote.Ref.{now}
 use Rattle.verdict.proofs.Changes.{fold-next, fold-end}
-use Rattle.check_records.specs.Codes.{childrenIn}
-use Rattle.check_records.specs.Heads.{fieldIn, sideOf}
+use Rattle.read_records.specs.Codes.{childrenIn}
+use Rattle.read_records.specs.Heads.{fieldIn, sideOf}
 use Rattle.check_marks.specs.Marks.{used, useAll, highest}
 use Rattle.check_marks.proofs.ChildByChild.{high-next, high-end, side-length, side-is}
 use borrow.Author.Needs.{needs}

@@ -10,7 +10,7 @@ use Rattle.image.specs.Layout.{recordsOf}
 use Rattle.image.specs.Types.{typeField}
 use Rattle.verdict.specs.Rules.{bodiesFit}
 use Rattle.verdict.specs.Check.{describe, described}
-use Rattle.check_rules.specs.Fields.{typesIn}
+use Rattle.read_terms.specs.Fields.{typesIn}
 use Rattle.check_rules.proofs.Methods.{fit-more, fit-fails, fit-ends}
 use Rattle.check_rules.proofs.OnDescriptors.{types-length, body-at}
 use borrow.Author.Needs.{needs}

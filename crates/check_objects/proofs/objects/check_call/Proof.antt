@@ -7,7 +7,7 @@ use lib.Dec.{eqb}
 use borrow.Author.Tests.{not-true, not-false}
 use Rattle.image.specs.Layout.{recordsOf}
 use Rattle.image.specs.Types.{typeField}
-use Rattle.check_records.specs.Heads.{fieldIn}
+use Rattle.read_records.specs.Heads.{fieldIn}
 use Rattle.check_rules.specs.Judged.{callFits}
 use Rattle.check_rules.proofs.OnDescriptors.{typeAtField}
 use Rattle.check_rules.proofs.Methods.{call-refused, call-judged, call-tells}

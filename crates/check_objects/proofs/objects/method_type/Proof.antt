@@ -6,7 +6,7 @@ use lib.ListN.{length}
 use Prim.Native.Nat.{_+_, _*_}
 use Rattle.image.specs.Layout.{recordsOf}
 use Rattle.image.specs.Types.{methodCount}
-use Rattle.check_records.specs.Heads.{fieldIn}
+use Rattle.read_records.specs.Heads.{fieldIn}
 use Rattle.check_rules.proofs.Methods.{few-methods, method-bytes, method-field}
 use Rattle.check_objects.proofs.objects.method_type.Statement.{statement}
 use Rattle.check_objects.proofs.objects.method_type.Tie as tie

@@ -8,8 +8,8 @@ use Rattle.image.specs.Layout.{recordsOf}
 use Rattle.image.specs.Types.{methodCount}
 use Rattle.verdict.specs.Rules.{bodiesFit}
 use Rattle.verdict.specs.Check.{describe, described}
-use Rattle.check_records.specs.Heads.{fieldIn}
-use Rattle.check_rules.specs.Fields.{typesIn}
+use Rattle.read_records.specs.Heads.{fieldIn}
+use Rattle.read_terms.specs.Fields.{typesIn}
 use Rattle.check_rules.proofs.Methods.{kind-seen, object-seen, first-fails, second-fails, third-tells, bodies-counted}
 use borrow.Author.Needs.{needs}
 use Rattle.check_objects.proofs.objects.object_fits.Statement.{statement}

@@ -1,7 +1,7 @@
 -- `check_objects::objects::type_fields` meets its contract.
 use mathlib.Core.Path.{ap, _∙_}
 use denote.Ref.{now}
-use Rattle.check_records.specs.Heads.{fieldsAt}
+use Rattle.read_records.specs.Heads.{fieldsAt}
 use Rattle.check_rules.proofs.Methods.{type-in-table, type-place-is, type-whole}
 use Rattle.check_objects.proofs.objects.type_fields.Statement.{statement}
 use Rattle.check_objects.proofs.objects.type_fields.Tie as tie

@@ -11,12 +11,12 @@ use Rattle.laws.specs.Tests.{allOf}
 use Rattle.image.specs.Kinds.{an-entry}
 use Rattle.image.specs.Records.{asChild}
 use Rattle.image.specs.Layout.{recordsOf}
-use Rattle.check_records.specs.Heads.{fieldIn}
-use Rattle.check_records.proofs.Entries.{entriesLeft, next-left, none-left}
-use Rattle.check_rules.specs.Fields.{firstEntry, entryTerms}
+use Rattle.read_records.specs.Heads.{fieldIn}
+use Rattle.read_records.proofs.Entries.{entriesLeft, next-left, none-left}
+use Rattle.read_terms.specs.Fields.{firstEntry, entryTerms}
 use Rattle.check_rules.specs.Judged.{cutOf}
-use Rattle.check_rules.proofs.Lists.{each-append}
-use Rattle.check_rules.proofs.Matches.{at-first}
+use Rattle.read_terms.proofs.Lists.{each-append}
+use Rattle.read_terms.proofs.Matches.{at-first}
 use Rattle.check_objects.proofs.stacks.entries_fit.Statement.{statement}
 use Rattle.check_objects.proofs.stacks.entries_fit.Tie as tie
 

@@ -6,8 +6,8 @@ use mathlib.Core.List.{List}
 use native.Mathlib.Omega.{arith}
 use lib.ListN.{length}
 use denote.Ref.{now}
-use Rattle.check_records.specs.declared.numbers.Counts.{Counts}
-use Rattle.check_records.specs.Codes.{groupOf, lastOf, classesOf, firstOf, timesIn}
+use Rattle.read_records.specs.declared.numbers.Counts.{Counts}
+use Rattle.read_records.specs.Codes.{groupOf, lastOf, classesOf, firstOf, timesIn}
 use Rattle.check_ranges.specs.Ranges.{rangesFrom, groupsFrom, classesPast}
 use Rattle.check_ranges.proofs.RangeLoops.{first-fails, second-fails, third-left}
 use Rattle.check_ranges.proofs.Numbers.{yes-of, no-of}
@@ -20,11 +20,11 @@ use Rattle.check_ranges.proofs.ranges.classes_past.Reads as classes-pas
 use Rattle.check_ranges.proofs.ranges.few_in_range.Reads as few-in-range-reads
 use Rattle.check_ranges.proofs.ranges.fields_in_range.Reads as fields-in-range-reads
 use Rattle.check_ranges.proofs.ranges.groups_in_range.Reads as groups-in-range-reads
-use Rattle.check_records.proofs.kinds.field_classes.Reads as field-classes-reads
-use Rattle.check_records.proofs.kinds.first_count.Reads as first-count-reads
-use Rattle.check_records.proofs.kinds.group_count.Reads as group-count-reads
-use Rattle.check_records.proofs.kinds.group_times.Reads as group-times-reads
-use Rattle.check_records.proofs.kinds.last_count.Reads as last-count-reads
+use Rattle.read_records.proofs.table.field_classes.Reads as field-classes-reads
+use Rattle.read_records.proofs.table.first_count.Reads as first-count-reads
+use Rattle.read_records.proofs.table.group_count.Reads as group-count-reads
+use Rattle.read_records.proofs.table.group_times.Reads as group-times-reads
+use Rattle.read_records.proofs.table.last_count.Reads as last-count-reads
 
 abbrev claims : lts.Claims
 claims = (

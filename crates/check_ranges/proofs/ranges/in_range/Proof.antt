@@ -6,7 +6,7 @@ use mathlib.Core.Logic.{⊎-elim}
 use native.Mathlib.Omega.{arith}
 use Rattle.laws.specs.Tests.{all}
 use Rattle.image.specs.Kinds.{TypeKind, domain, type}
-use Rattle.check_records.specs.Codes.{classNumbers, codeOf}
+use Rattle.read_records.specs.Codes.{classNumbers, codeOf}
 use Rattle.check_ranges.specs.Ranges.{rangesFrom, groupsFrom, classesPast}
 use Rattle.check_ranges.proofs.Numbers.{first-held}
 use borrow.Author.Needs.{needs}

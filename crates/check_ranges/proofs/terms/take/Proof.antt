@@ -2,7 +2,7 @@
 use native.Mathlib.Omega.{arith}
 use mathlib.Core.Path.{sym, _∙_}
 use mathlib.Core.Logic.{⊎-elim}
-use Rattle.check_records.specs.Codes.{classNumbers}
+use Rattle.read_records.specs.Codes.{classNumbers}
 use Rattle.check_ranges.proofs.Numbers.{first-held}
 use Rattle.check_ranges.proofs.Frequent.{taken, unit-has, var-has, number-has, one-has, two-has, three-has, arith-has, lower-has, pointcut-range}
 use borrow.Author.Needs.{needs}

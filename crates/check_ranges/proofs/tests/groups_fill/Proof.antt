@@ -1,6 +1,6 @@
 -- `check_ranges::tests::groups_fill` meets its contract.
 use mathlib.Core.Path.{_≡_, sym, _∙_}
-use Rattle.check_records.specs.Codes.{groupOf}
+use Rattle.read_records.specs.Codes.{groupOf}
 use borrow.Author.Needs.{needs}
 use Rattle.check_ranges.proofs.tests.groups_fill.Statement.{statement}
 use Rattle.check_ranges.proofs.tests.groups_fill.Tie as tie

@@ -2,7 +2,7 @@
 use mathlib.Core.Path.{_≡_, sym, ap, _∙_}
 use native.Mathlib.Omega.{arith}
 use Prim.Native.Nat.{_-_}
-use Rattle.check_records.specs.Codes.{groupOf}
+use Rattle.read_records.specs.Codes.{groupOf}
 use Rattle.check_ranges.specs.Numbers.{groupsFill}
 use Rattle.check_ranges.proofs.Lengths.{least-fits, short-fails, longer-fits, group-fits}
 use borrow.Author.Needs.{needs}

@@ -8,8 +8,8 @@ use denote.Ref.{now}
 use Rattle.image.specs.Kinds.{TermKind}
 use Rattle.image.specs.Layout.{recordsOf}
 use Rattle.image.specs.Types.{termKind}
-use Rattle.check_rules.specs.Lent.{settingIn}
-use Rattle.check_rules.proofs.Located.{number-is, kind-read, number-from, typed-in, second-in}
+use Rattle.check_rules.specs.Scopes.{settingIn}
+use Rattle.read_terms.proofs.Located.{number-is, kind-read, number-from, typed-in, second-in}
 use Rattle.check_rules.proofs.Verdict.{answered-in}
 
 term-place-requires : tie.Need-term-place-requires

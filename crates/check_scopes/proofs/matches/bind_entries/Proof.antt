@@ -10,9 +10,9 @@ use Rattle.image.specs.Limits.{depthLimit}
 use Rattle.image.specs.Kinds.{an-entry}
 use Rattle.image.specs.Records.{asChild}
 use Rattle.image.specs.Layout.{recordsOf}
-use Rattle.check_records.proofs.Entries.{entriesLeft, none-left}
-use Rattle.check_rules.specs.Fields.{firstEntry, entryTerms}
-use Rattle.check_rules.proofs.Matches.{few-named, at-first}
+use Rattle.read_records.proofs.Entries.{entriesLeft, none-left}
+use Rattle.read_terms.specs.Fields.{firstEntry, entryTerms}
+use Rattle.read_terms.proofs.Matches.{few-named, at-first}
 use Rattle.check_scopes.specs.Scopes.{bindLimit, valueTypes, Binds}
 use Rattle.check_scopes.proofs.Bindings.{values-length, binds-none, binds-entry}
 use Rattle.check_scopes.proofs.matches.bind_entries.Statement.{statement}

@@ -7,8 +7,8 @@ use Prim.Native.Nat.{_<_}
 use lib.ListN.{length, getD}
 use Rattle.image.specs.Layout.{recordsOf}
 use Rattle.image.specs.Types.{typeNo, typeField}
-use Rattle.check_rules.specs.Lent.{IsType}
-use Rattle.check_records.specs.Descriptors.{descriptorField0}
+use Rattle.read_terms.specs.Lent.{IsType}
+use Rattle.read_records.specs.Descriptors.{descriptorField0}
 use Rattle.check_scopes.proofs.ChildSettings.{part-is}
 use Rattle.check_scopes.proofs.Bindings.{binds-none, binds-one}
 use Rattle.check_scopes.proofs.matches.bind_entry.Statement.{statement}

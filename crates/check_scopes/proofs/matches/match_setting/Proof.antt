@@ -5,8 +5,8 @@ use native.Mathlib.Omega.{arith}
 use mathlib.Core.Path.{refl, sym, _∙_}
 use lib.ListN.{length}
 use denote.Ref.{now}
-use Rattle.check_rules.proofs.Counts.{match-count}
-use Rattle.check_rules.proofs.Located.{good-of}
+use Rattle.read_terms.proofs.Counts.{match-count}
+use Rattle.read_terms.proofs.Located.{good-of}
 use Rattle.check_scopes.proofs.Bindings.{with-rest, without-rest}
 use Rattle.check_scopes.proofs.matches.match_setting.Statement.{statement}
 use Rattle.check_scopes.proofs.matches.match_setting.Tie as tie

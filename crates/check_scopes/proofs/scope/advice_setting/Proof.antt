@@ -7,7 +7,7 @@ use mathlib.Core.Path.{_≡_, ap, _∙_}
 use Prim.Native.Nat.{_<_}
 use denote.Ref.{now}
 use lib.Dec.{lit<}
-use Rattle.check_records.specs.Descriptors.{descriptorField0}
+use Rattle.read_records.specs.Descriptors.{descriptorField0}
 use Rattle.check_rules.proofs.OnDescriptors.{ownDescriptor, descriptorAtField}
 use Rattle.check_scopes.proofs.ChildSettings.{advice-small, advice-at}
 

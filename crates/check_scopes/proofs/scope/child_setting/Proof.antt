@@ -7,7 +7,7 @@ use denote.Ref.{now}
 use Rattle.image.specs.Kinds.{TermKind}
 use Rattle.image.proofs.KindNumbers.{same-term-kind}
 use Rattle.check_scopes.proofs.ChildSettings.{same-at, split-first, advice-first, match-others}
-use Rattle.check_rules.proofs.Counts.{children-counted}
+use Rattle.read_terms.proofs.Counts.{children-counted}
 
 function-setting-requires : tie.Need-function-setting-requires
 function-setting-requires c κs =

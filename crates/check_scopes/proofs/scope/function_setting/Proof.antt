@@ -5,7 +5,7 @@ use Rattle.check_scopes.proofs.scope.function_setting.Tie as tie
 use native.Mathlib.Omega.{arith}
 use mathlib.Core.Path.{_≡_, ap, _∙_}
 use denote.Ref.{now}
-use Rattle.check_records.specs.Descriptors.{descriptorField0, descriptorField1}
+use Rattle.read_records.specs.Descriptors.{descriptorField0, descriptorField1}
 use Rattle.check_rules.proofs.OnDescriptors.{ownDescriptor}
 use Rattle.check_scopes.proofs.ChildSettings.{function-small, function-at}
 

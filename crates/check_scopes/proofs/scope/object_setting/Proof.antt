@@ -5,7 +5,7 @@ use denote.Ref.{now}
 use Prim.Native.Nat.{_*_}
 use Rattle.image.specs.Layout.{recordsOf}
 use Rattle.image.specs.Types.{typeField}
-use Rattle.check_records.specs.Heads.{fieldIn}
+use Rattle.read_records.specs.Heads.{fieldIn}
 use Rattle.check_scopes.proofs.ChildSettings.{object-is, method-there, object-small, object-at}
 use borrow.Author.Needs.{needs}
 use Rattle.check_scopes.proofs.scope.object_setting.Statement.{statement}

@@ -7,7 +7,7 @@ use mathlib.Core.Path.{_≡_, ap, _∙_}
 use Prim.Native.Nat.{_<_}
 use denote.Ref.{now}
 use lib.Dec.{lit<}
-use Rattle.check_records.specs.Descriptors.{descriptorField0, descriptorField1}
+use Rattle.read_records.specs.Descriptors.{descriptorField0, descriptorField1}
 use Rattle.check_rules.proofs.OnDescriptors.{descriptorAtField}
 use Rattle.check_scopes.proofs.ChildSettings.{split-small, split-at}
 

@@ -3,7 +3,7 @@ use borrow.Author.Needs.{needs}
 use mathlib.Core.Path.{subst, sym, _∙_}
 use mathlib.Core.List.{foldl-append}
 use denote.Ref.{now}
-use Rattle.check_records.specs.Heads.{sideOf, entriesOf}
+use Rattle.read_records.specs.Heads.{sideOf, entriesOf}
 use Rattle.check_marks.specs.Marks.{Lower}
 use Rattle.check_marks.proofs.ChildByChild.{lower-first, lower-rest}
 use Rattle.check_shape.proofs.descent.mark_children.Statement.{statement}

@@ -9,9 +9,9 @@ use denote.Ref.{now}
 use Rattle.image.specs.Kinds.{an-entry}
 use Rattle.image.specs.Records.{asChild}
 use Rattle.verdict.specs.Shape.{setAll}
-use Rattle.check_records.specs.Codes.{countOf, childrenIn, entriesIn}
-use Rattle.check_records.specs.Heads.{entriesOf}
-use Rattle.check_records.proofs.Entries.{entriesLeft, all-left, next-left, none-left}
+use Rattle.read_records.specs.Codes.{countOf, childrenIn, entriesIn}
+use Rattle.read_records.specs.Heads.{entriesOf}
+use Rattle.read_records.proofs.Entries.{entriesLeft, all-left, next-left, none-left}
 use Rattle.check_marks.specs.Marks.{Lower}
 use Rattle.check_marks.proofs.ChildByChild.{lower-first, lower-rest}
 use Rattle.check_shape.proofs.descent.mark_entries.Statement.{statement}

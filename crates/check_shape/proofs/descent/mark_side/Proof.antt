@@ -6,8 +6,8 @@ use lib.ListN.{length, getD, drop, set}
 use denote.Ref.{now}
 use Rattle.verdict.specs.Shape.{setAll}
 use Rattle.verdict.proofs.Changes.{fold-next, fold-end}
-use Rattle.check_records.specs.Codes.{childrenIn}
-use Rattle.check_records.specs.Heads.{fieldIn, sideOf}
+use Rattle.read_records.specs.Codes.{childrenIn}
+use Rattle.read_records.specs.Heads.{fieldIn, sideOf}
 use Rattle.check_marks.proofs.ChildByChild.{side-length, side-is}
 use borrow.Author.Needs.{needs}
 use Rattle.check_shape.proofs.descent.mark_side.Statement.{statement}

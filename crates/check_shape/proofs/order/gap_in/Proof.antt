@@ -6,7 +6,7 @@ use mathlib.Core.Bool.{false, not, _&&_, _||_}
 use mathlib.Core.Path.{_≡_, ap, _∙_}
 use lib.ListN.{getD}
 use Rattle.laws.specs.Tests.{anyBelow}
-use Rattle.check_shape.proofs.Orders.{any-none, any-more}
+use Rattle.laws.proofs.Tests.{any-none, any-more}
 use Rattle.check_shape.proofs.order.gap_in.Statement.{statement}
 use Rattle.check_shape.proofs.order.gap_in.Tie as tie
 

@@ -14,16 +14,14 @@ use Rattle.check_typing.proofs.pass.+check_here+check_moved+check_term.
 use Rattle.check_typing.proofs.pass.+check_here+check_moved+check_term.Tie.{close}
 use native.Mathlib.Omega.{arith}
 use mathlib.Core.Path.{_≡_, refl, sym, ap, subst, _∙_}
-use mathlib.Core.List.{List}
-use mathlib.Core.Logic.{⊎-elim}
 use borrow.Author.Tests.{leb-true, leb-false}
-use lib.ListN.{length, take}
+use lib.ListN.{length}
 use lib.Seq.{take-length}
 use denote.Ref.{now}
 use Rattle.image.specs.Layout.{recordsOf}
 use Rattle.verdict.specs.Check.{checked}
-use Rattle.check_rules.specs.Lent.{contextIn, settingIn}
-use Rattle.check_rules.proofs.Located.{typed-in}
+use Rattle.check_rules.specs.Scopes.{contextIn, settingIn}
+use Rattle.read_terms.proofs.Located.{typed-in}
 use Rattle.check_typing.specs.Faults.{verdictAt}
 use Rattle.check_typing.proofs.TermPass.{front-start, refused-here, leaf-checked}
 use Rattle.check_typing.proofs.Faults.{fault-refused, fault-accepted, own-back, own-below}

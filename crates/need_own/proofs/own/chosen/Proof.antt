@@ -3,36 +3,24 @@ use mathlib.Core.Path.{sym, ap, _∙_}
 use Rattle.need_sums.specs.Sums.{addNeeds}
 use Rattle.need_own.proofs.own.chosen.Statement.{statement}
 use Rattle.need_own.proofs.own.chosen.Tie as tie
-use Rattle.need_own.proofs.own.chosen.Reads as reads
-use Rattle.need_own.proofs.own.chosen.Lts as lts
-use Rattle.need_own.proofs.own.branch_bindings.Reads as branch-bindings-reads
-use Rattle.need_own.proofs.own.is_branch.Reads as is-branch-reads
-use Rattle.need_sums.proofs.sums.add.Reads as add-reads
-use Rattle.need_sums.proofs.sums.no_needs.Reads as no-needs-reads
 
--- src/own.rt:189:8
 is-branch-requires : tie.Need-is-branch-requires
 is-branch-requires c κs = search needs
 
--- src/own.rt:190:20
 branch-bindings-requires : tie.Need-branch-bindings-requires
 branch-bindings-requires c κs = search needs
 
--- src/own.rt:190:9
 add-requires : tie.Need-add-requires
 add-requires c κs = search needs
 
--- src/own.rt:190:9
 returns : tie.Need-returns
 returns c =
     let s = c .before .before .before .before in
     rw (sym (c .before .before .before .is-branch .ensures) ∙ c .before .before .if1 .taken) (c .add .ensures ∙ ap (λ n. addNeeds n (s .args .x)) (c .before .branch-bindings .ensures))
 
--- src/own.rt:192:5
 no-needs-requires : tie.Need-no-needs-requires
 no-needs-requires c κs = search needs
 
--- src/own.rt:186:1
 returns-2 : tie.Need-returns-2
 returns-2 c = rw (sym (c .before .before .is-branch .ensures) ∙ c .before .if1 .left) (c .no-needs .ensures)
 

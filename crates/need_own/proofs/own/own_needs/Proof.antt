@@ -1,82 +1,59 @@
 use borrow.Author.Needs.{needs}
 use Rattle.need_sums.specs.Walks.{reductionNeeds, ownIn}
-use mathlib.Core.Path.{refl, sym, ap, _∙_}
+use mathlib.Core.Path.{sym, ap, _∙_}
 use Rattle.need_own.proofs.own.own_needs.Statement.{statement}
 use Rattle.need_own.proofs.own.own_needs.Tie as tie
-use Rattle.need_own.proofs.own.own_needs.Reads as reads
-use Rattle.need_own.proofs.own.own_needs.Lts as lts
-use Rattle.need_own.proofs.own.reduction.Reads as reduction-reads
-use Rattle.need_own.proofs.own.round_steps.Reads as round-steps-reads
-use Rattle.need_sums.proofs.sums.no_needs.Reads as no-needs-reads
-use Rattle.need_sums.proofs.sums.raise.Reads as raise-reads
 
--- src/own.rt:111:23
 enum-told : tie.Need-enum-told
 enum-told c = search needs
 
--- src/own.rt:111:23
 no-needs-requires : tie.Need-no-needs-requires
 no-needs-requires c κs = search needs
 
--- src/own.rt:112:44
 enum-told-2 : tie.Need-enum-told-2
 enum-told-2 c = search needs
 
--- src/own.rt:112:44
 raise-requires : tie.Need-raise-requires
 raise-requires c κs = search needs
 
--- src/own.rt:112:26
 reduction-requires : tie.Need-reduction-requires
 reduction-requires c κs = search needs
 
--- src/own.rt:113:41
 enum-told-3 : tie.Need-enum-told-3
 enum-told-3 c = search needs
 
--- src/own.rt:113:41
 no-needs-requires-2 : tie.Need-no-needs-requires-2
 no-needs-requires-2 c κs = search needs
 
--- src/own.rt:113:23
 reduction-requires-2 : tie.Need-reduction-requires-2
 reduction-requires-2 c κs = search needs
 
--- src/own.rt:114:25
 enum-told-4 : tie.Need-enum-told-4
 enum-told-4 c = search needs
 
--- src/own.rt:114:25
 no-needs-requires-3 : tie.Need-no-needs-requires-3
 no-needs-requires-3 c κs = search needs
 
--- src/own.rt:115:24
 enum-told-5 : tie.Need-enum-told-5
 enum-told-5 c = search needs
 
--- src/own.rt:115:24
-round-steps-requires : tie.Need-round-steps-requires
-round-steps-requires c κs = search needs
+advice-steps-requires : tie.Need-advice-steps-requires
+advice-steps-requires c κs = search needs
 
--- src/own.rt:105:1
 returns : tie.Need-returns
-returns c = c .no-needs .ensures ∙ ap (λ m. ownIn m (c .before .before .before .args .own) (c .before .before .before .args .s) (c .before .before .before .args .p) (c .before .before .before .args .w)) (sym (c .before .enum-told .given .1))
+returns c = c .no-needs .ensures ∙ ap (λ m. ownIn m (c .before .before .before .args .own) (c .before .before .before .args .s) (c .before .before .before .args .p .0) (c .before .before .before .args .w)) (sym (c .before .enum-told .given .1))
 
--- src/own.rt:105:1
 returns-2 : tie.Need-returns-2
-returns-2 c = c .reduction .ensures ∙ (ap (λ n. reductionNeeds (c .before .before .before .before .args .own) (c .before .before .before .before .args .s) n) (c .before .raise .ensures) ∙ ap (λ m. ownIn m (c .before .before .before .before .args .own) (c .before .before .before .before .args .s) (c .before .before .before .before .args .p) (c .before .before .before .before .args .w)) (sym (c .before .before .enum-told2 .given .1)))
+returns-2 c = c .reduction .ensures ∙ (ap (λ n. reductionNeeds (c .before .before .before .before .args .own) (c .before .before .before .before .args .s) n) (c .before .raise .ensures) ∙ ap (λ m. ownIn m (c .before .before .before .before .args .own) (c .before .before .before .before .args .s) (c .before .before .before .before .args .p .0) (c .before .before .before .before .args .w)) (sym (c .before .before .enum-told2 .given .1)))
 
--- src/own.rt:105:1
 returns-3 : tie.Need-returns-3
-returns-3 c = c .reduction2 .ensures ∙ (ap (λ n. reductionNeeds (c .before .before .before .before .args .own) (c .before .before .before .before .args .s) n) (c .before .no-needs2 .ensures) ∙ ap (λ m. ownIn m (c .before .before .before .before .args .own) (c .before .before .before .before .args .s) (c .before .before .before .before .args .p) (c .before .before .before .before .args .w)) (sym (c .before .before .enum-told3 .given .1)))
+returns-3 c = c .reduction2 .ensures ∙ (ap (λ n. reductionNeeds (c .before .before .before .before .args .own) (c .before .before .before .before .args .s) n) (c .before .no-needs2 .ensures) ∙ ap (λ m. ownIn m (c .before .before .before .before .args .own) (c .before .before .before .before .args .s) (c .before .before .before .before .args .p .0) (c .before .before .before .before .args .w)) (sym (c .before .before .enum-told3 .given .1)))
 
--- src/own.rt:105:1
 returns-4 : tie.Need-returns-4
-returns-4 c = c .no-needs3 .ensures ∙ ap (λ m. ownIn m (c .before .before .before .args .own) (c .before .before .before .args .s) (c .before .before .before .args .p) (c .before .before .before .args .w)) (sym (c .before .enum-told4 .given .1))
+returns-4 c = c .no-needs3 .ensures ∙ ap (λ m. ownIn m (c .before .before .before .args .own) (c .before .before .before .args .s) (c .before .before .before .args .p .0) (c .before .before .before .args .w)) (sym (c .before .enum-told4 .given .1))
 
--- src/own.rt:105:1
 returns-5 : tie.Need-returns-5
-returns-5 c = c .round-steps .ensures ∙ ap (λ m. ownIn m (c .before .before .before .args .own) (c .before .before .before .args .s) (c .before .before .before .args .p) (c .before .before .before .args .w)) (sym (c .before .enum-told5 .given .1))
+returns-5 c = c .advice-steps .ensures ∙ ap (λ m. ownIn m (c .before .before .before .args .own) (c .before .before .before .args .s) (c .before .before .before .args .p .0) (c .before .before .before .args .w)) (sym (c .before .enum-told5 .given .1))
 
 pub own-needs-spec : {M : Type 1} → statement M
 own-needs-spec =
@@ -93,7 +70,7 @@ own-needs-spec =
     enum-told-4
     no-needs-requires-3
     enum-told-5
-    round-steps-requires
+    advice-steps-requires
     returns
     returns-2
     returns-3

@@ -1,147 +1,108 @@
 use borrow.Author.Needs.{needs}
 use Rattle.need_sums.specs.Walks.{chargedNeeds}
 use Rattle.need_sums.specs.Sums.{addNeeds}
-use mathlib.Core.Path.{refl, sym, ap, _∙_}
+use mathlib.Core.Path.{refl, ap, _∙_}
 use Rattle.need_own.proofs.own.reduction.Statement.{statement}
 use Rattle.need_own.proofs.own.reduction.Tie as tie
-use Rattle.need_own.proofs.own.reduction.Reads as reads
-use Rattle.need_own.proofs.own.reduction.Lts as lts
-use Rattle.need_own.proofs.own.charged.Reads as charged-reads
-use Rattle.need_own.proofs.own.step_under.Reads as step-under-reads
-use Rattle.need_sums.proofs.sums.add.Reads as add-reads
-use Rattle.need_sums.proofs.sums.no_needs.Reads as no-needs-reads
 
--- src/own.rt:45:9
 step-under-requires : tie.Need-step-under-requires
 step-under-requires c κs = search needs
 
--- src/own.rt:47:25
 enum-told : tie.Need-enum-told
 enum-told c = c .match .keys1
 
--- src/own.rt:47:25
 no-needs-requires : tie.Need-no-needs-requires
 no-needs-requires c κs = search needs
 
--- src/own.rt:48:22
 enum-told-2 : tie.Need-enum-told-2
 enum-told-2 c = c .match .keys2
 
--- src/own.rt:50:13
 enum-told-3 : tie.Need-enum-told-3
 enum-told-3 c = c .match .keys3
 
--- src/own.rt:54:13
 enum-told-4 : tie.Need-enum-told-4
 enum-told-4 c = c .match .keys4
 
--- src/own.rt:58:13
 enum-told-5 : tie.Need-enum-told-5
 enum-told-5 c = c .match .keys5
 
--- src/own.rt:61:22
 enum-told-6 : tie.Need-enum-told-6
 enum-told-6 c = c .match .keys6
 
--- src/own.rt:61:22
 charged-requires : tie.Need-charged-requires
 charged-requires c κs = search needs
 
--- src/own.rt:62:23
 enum-told-7 : tie.Need-enum-told-7
 enum-told-7 c = c .match .keys7
 
--- src/own.rt:62:23
 charged-requires-2 : tie.Need-charged-requires-2
 charged-requires-2 c κs = search needs
 
--- src/own.rt:63:25
 enum-told-8 : tie.Need-enum-told-8
 enum-told-8 c = c .match .keys8
 
--- src/own.rt:63:25
 charged-requires-3 : tie.Need-charged-requires-3
 charged-requires-3 c κs = search needs
 
--- src/own.rt:64:25
 enum-told-9 : tie.Need-enum-told-9
 enum-told-9 c = c .match .keys9
 
--- src/own.rt:64:25
 charged-requires-4 : tie.Need-charged-requires-4
 charged-requires-4 c κs = search needs
 
--- src/own.rt:65:29
 enum-told-10 : tie.Need-enum-told-10
 enum-told-10 c = c .match .keys10
 
--- src/own.rt:65:29
 charged-requires-5 : tie.Need-charged-requires-5
 charged-requires-5 c κs = search needs
 
--- src/own.rt:66:23
 enum-told-11 : tie.Need-enum-told-11
 enum-told-11 c = c .match .keys11
 
--- src/own.rt:66:23
 charged-requires-6 : tie.Need-charged-requires-6
 charged-requires-6 c κs = search needs
 
--- src/own.rt:67:22
 enum-told-12 : tie.Need-enum-told-12
 enum-told-12 c = c .match .keys12
 
--- src/own.rt:67:22
 add-requires : tie.Need-add-requires
 add-requires c κs = search needs
 
--- src/own.rt:42:1
 returns : tie.Need-returns
 returns c = rw (c .before .enum-told .given .1) (c .no-needs .ensures)
 
--- src/own.rt:42:1
 returns-2 : tie.Need-returns-2
-returns-2 c = rw (c .enum-told2 .given .1) (c .before .before .step-under .ensures)
+returns-2 c = rw (c .enum-told2 .given .1) (c .before .before .before .step-under .ensures)
 
--- src/own.rt:42:1
 returns-3 : tie.Need-returns-3
-returns-3 c = rw (c .enum-told3 .given .1, c .before .before .step-under .ensures) refl
+returns-3 c = rw (c .enum-told3 .given .1, c .before .before .before .step-under .ensures) refl
 
--- src/own.rt:42:1
 returns-4 : tie.Need-returns-4
-returns-4 c = rw (c .enum-told4 .given .1, c .before .before .step-under .ensures) refl
+returns-4 c = rw (c .enum-told4 .given .1, c .before .before .before .step-under .ensures) refl
 
--- src/own.rt:42:1
 returns-5 : tie.Need-returns-5
-returns-5 c = rw (c .enum-told5 .given .1, c .before .before .step-under .ensures) refl
+returns-5 c = rw (c .enum-told5 .given .1, c .before .before .before .step-under .ensures) refl
 
--- src/own.rt:42:1
 returns-6 : tie.Need-returns-6
-returns-6 c = rw (c .before .enum-told6 .given .1) (c .charged .ensures ∙ ap (λ n. chargedNeeds n (c .before .before .before .before .args .s .dom) 0 1 0) (c .before .before .before .step-under .ensures))
+returns-6 c = rw (c .before .enum-told6 .given .1) (c .charged .ensures ∙ ap (λ n. chargedNeeds n (c .before .before .before .before .before .args .s .dom .0) 0 1 0) (c .before .before .before .before .step-under .ensures))
 
--- src/own.rt:42:1
 returns-7 : tie.Need-returns-7
-returns-7 c = rw (c .before .enum-told7 .given .1) (c .charged2 .ensures ∙ ap (λ n. chargedNeeds n (c .before .before .before .before .args .s .dom) 0 0 1) (c .before .before .before .step-under .ensures))
+returns-7 c = rw (c .before .enum-told7 .given .1) (c .charged2 .ensures ∙ ap (λ n. chargedNeeds n (c .before .before .before .before .before .args .s .dom .0) 0 0 1) (c .before .before .before .before .step-under .ensures))
 
--- src/own.rt:42:1
 returns-8 : tie.Need-returns-8
-returns-8 c = rw (c .before .enum-told8 .given .1) (c .charged3 .ensures ∙ ap (λ n. chargedNeeds n (c .before .before .before .before .args .s .dom) 0 0 1) (c .before .before .before .step-under .ensures))
+returns-8 c = rw (c .before .enum-told8 .given .1) (c .charged3 .ensures ∙ ap (λ n. chargedNeeds n (c .before .before .before .before .before .args .s .dom .0) 0 0 1) (c .before .before .before .before .step-under .ensures))
 
--- src/own.rt:42:1
 returns-9 : tie.Need-returns-9
-returns-9 c = rw (c .before .enum-told9 .given .1) (c .charged4 .ensures ∙ ap (λ n. chargedNeeds n (c .before .before .before .before .args .s .dom) 1 0 0) (c .before .before .before .step-under .ensures))
+returns-9 c = rw (c .before .enum-told9 .given .1) (c .charged4 .ensures ∙ ap (λ n. chargedNeeds n (c .before .before .before .before .before .args .s .dom .0) 1 0 0) (c .before .before .before .before .step-under .ensures))
 
--- src/own.rt:42:1
 returns-10 : tie.Need-returns-10
-returns-10 c = rw (c .before .enum-told10 .given .1) (c .charged5 .ensures ∙ ap (λ n. chargedNeeds n (c .before .before .before .before .args .s .dom) 2 0 0) (c .before .before .before .step-under .ensures))
+returns-10 c = rw (c .before .enum-told10 .given .1) (c .charged5 .ensures ∙ ap (λ n. chargedNeeds n (c .before .before .before .before .before .args .s .dom .0) 2 0 0) (c .before .before .before .before .step-under .ensures))
 
--- src/own.rt:42:1
 returns-11 : tie.Need-returns-11
-returns-11 c = rw (c .before .enum-told11 .given .1) (c .charged6 .ensures ∙ ap (λ n. chargedNeeds n (c .before .before .before .before .args .s .dom) 0 0 (c .before .before .before .before .args .s .kept)) (c .before .before .before .step-under .ensures))
+returns-11 c = rw (c .before .enum-told11 .given .1) (c .charged6 .ensures ∙ ap (λ n. chargedNeeds n (c .before .before .before .before .before .args .s .dom .0) 0 0 (c .before .before .before .before .before .args .s .kept)) (c .before .before .before .before .step-under .ensures))
 
--- src/own.rt:42:1
 returns-12 : tie.Need-returns-12
-returns-12 c = rw (c .before .enum-told12 .given .1) (c .add .ensures ∙ ap (λ n. addNeeds n (c .before .before .before .before .args .w)) (c .before .before .before .step-under .ensures))
+returns-12 c = rw (c .before .enum-told12 .given .1) (c .add .ensures ∙ ap (λ n. addNeeds n (c .before .before .before .before .before .args .w)) (c .before .before .before .before .step-under .ensures))
 
 pub reduction-spec : {M : Type 1} → statement M
 reduction-spec =

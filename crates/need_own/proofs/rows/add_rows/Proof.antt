@@ -15,47 +15,36 @@ Inv-loop rows₀ part x₀ rows x = (x ≤ tableLength) × (length rows ≡ tabl
 abbrev μ-loop : tie.MeasureT-loop
 μ-loop rows₀ part x₀ rows x = tableLength - x
 
--- src/rows.rt:37:5
 loop-holds : tie.Need-loop-holds Inv-loop μ-loop
 loop-holds c = (omega arith, c .before .before .pre .0, start _ 0 _)
 
--- src/rows.rt:38:24
 mul-plus : tie.Need-mul-plus Inv-loop μ-loop
 mul-plus c = search needs
 
--- src/rows.rt:38:24
 slice-read-plus : tie.Need-slice-read-plus Inv-loop μ-loop
 slice-read-plus c = search needs
 
--- src/rows.rt:38:33
 mul-plus-2 : tie.Need-mul-plus-2 Inv-loop μ-loop
 mul-plus-2 c = search needs
 
--- src/rows.rt:38:33
 shared-slice-read-plus : tie.Need-shared-slice-read-plus Inv-loop μ-loop
 shared-slice-read-plus c = search needs
 
--- src/rows.rt:38:19
 plus-requires : tie.Need-plus-requires Inv-loop μ-loop
 plus-requires c κs = search needs
 
--- src/rows.rt:38:9
 mul-rows : tie.Need-mul-rows Inv-loop μ-loop
 mul-rows c = search needs
 
--- src/rows.rt:38:9
 slice-write-rows : tie.Need-slice-write-rows Inv-loop μ-loop
 slice-write-rows c = search needs
 
--- src/rows.rt:39:9
 add-x : tie.Need-add-x Inv-loop μ-loop
 add-x c = search needs
 
--- src/rows.rt:37:5
 loop-less : tie.Need-loop-less Inv-loop μ-loop
 loop-less c = search needs
 
--- src/rows.rt:37:5
 loop-again : tie.Need-loop-again Inv-loop μ-loop
 loop-again c =
     let l = c .before .before .before .before .loop in
@@ -63,11 +52,9 @@ loop-again c =
     let long = l .inv .1 in
     (omega arith, simp length-set long, turn _ 0 (l .x) _ (l .rows) (c .plus .result) (omega arith) (omega arith) (l .inv .2) (c .plus .ensures))
 
--- src/rows.rt:32:1
 same-length : tie.Need-same-length Inv-loop μ-loop
 same-length c = search needs
 
--- src/rows.rt:32:1
 returns : tie.Need-returns Inv-loop μ-loop
 returns c =
     let l = c .before .loop in

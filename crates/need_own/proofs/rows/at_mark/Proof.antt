@@ -9,27 +9,21 @@ use Rattle.need_sums.specs.Rows.{atMark}
 use Rattle.need_own.proofs.rows.at_mark.Statement.{statement}
 use Rattle.need_own.proofs.rows.at_mark.Tie as tie
 
--- src/rows.rt:26:16
 mul-n : tie.Need-mul-n
 mul-n c = search needs
 
--- src/rows.rt:26:16
 shared-slice-read-n : tie.Need-shared-slice-read-n
 shared-slice-read-n c = search needs
 
--- src/rows.rt:27:27
 add-n : tie.Need-add-n
 add-n c = search needs
 
--- src/rows.rt:27:22
 mul-n-2 : tie.Need-mul-n-2
 mul-n-2 c = search needs
 
--- src/rows.rt:27:22
 shared-slice-read-n-2 : tie.Need-shared-slice-read-n-2
 shared-slice-read-n-2 c = search needs
 
--- src/rows.rt:20:1
 returns : tie.Need-returns
 unfolding atMark
 returns c =

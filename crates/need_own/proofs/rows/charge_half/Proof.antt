@@ -15,51 +15,39 @@ Inv-loop rows₀ at own kept i₀ rows i = (i ≤ rowCount) × (length rows ≡ 
 abbrev μ-loop : tie.MeasureT-loop
 μ-loop rows₀ at own kept i₀ rows i = rowCount - i
 
--- src/rows.rt:119:5
 loop-holds : tie.Need-loop-holds Inv-loop μ-loop
 loop-holds c = (omega arith, c .before .pre .2, let a = c .before .args in finish _ (a .at) (a .at) (a .at + 0) _ _ (omega arith) (start _ (a .at) _))
 
--- src/rows.rt:120:34
 add-plus : tie.Need-add-plus Inv-loop μ-loop
 add-plus c = search needs
 
--- src/rows.rt:120:29
 mul-plus : tie.Need-mul-plus Inv-loop μ-loop
 mul-plus c = search needs
 
--- src/rows.rt:120:29
 slice-read-plus : tie.Need-slice-read-plus Inv-loop μ-loop
 slice-read-plus c = search needs
 
--- src/rows.rt:120:43
 row-pieces-requires : tie.Need-row-pieces-requires Inv-loop μ-loop
 row-pieces-requires c κs = search needs
 
--- src/rows.rt:120:24
 plus-requires : tie.Need-plus-requires Inv-loop μ-loop
 plus-requires c κs = search needs
 
--- src/rows.rt:120:14
 add-rows : tie.Need-add-rows Inv-loop μ-loop
 add-rows c = search needs
 
--- src/rows.rt:120:9
 mul-rows : tie.Need-mul-rows Inv-loop μ-loop
 mul-rows c = search needs
 
--- src/rows.rt:120:9
 slice-write-rows : tie.Need-slice-write-rows Inv-loop μ-loop
 slice-write-rows c = search needs
 
--- src/rows.rt:121:9
 add-i : tie.Need-add-i Inv-loop μ-loop
 add-i c = search needs
 
--- src/rows.rt:119:5
 loop-less : tie.Need-loop-less Inv-loop μ-loop
 loop-less c = search needs
 
--- src/rows.rt:119:5
 loop-again : tie.Need-loop-again Inv-loop μ-loop
 loop-again c =
     let at-loop-test = c .before .before .before in
@@ -74,11 +62,9 @@ loop-again c =
     let v = c .plus .ensures ∙ ap (λ y. cut (getD (l .rows) (a .at + l .i) 0 + y)) (c .before .row-pieces .ensures ∙ ap (λ y. piecesOf (a .own) (y + a .kept)) (sym z)) in
     (omega arith, simp length-set long, finish _ (a .at) (a .at + l .i + 1) (a .at + (l .i + 1)) _ _ (omega arith) (turn _ (a .at) (a .at + l .i) _ (l .rows) (c .plus .result) (omega arith) (omega arith) (l .inv .2) v))
 
--- src/rows.rt:114:1
 same-length : tie.Need-same-length Inv-loop μ-loop
 same-length c = search needs
 
--- src/rows.rt:114:1
 returns : tie.Need-returns Inv-loop μ-loop
 returns c =
     let l = c .before .loop in

@@ -9,31 +9,24 @@ use Rattle.need_own.proofs.Turns.{unchanged, mainline-charged, others-c
 use Rattle.need_own.proofs.rows.charge_rows.Statement.{statement}
 use Rattle.need_own.proofs.rows.charge_rows.Tie as tie
 
--- src/rows.rt:131:19
 is-body-requires : tie.Need-is-body-requires
 is-body-requires c κs = search needs
 
--- src/rows.rt:131:34
 takes-pieces-requires : tie.Need-takes-pieces-requires
 takes-pieces-requires c κs = search needs
 
--- src/rows.rt:131:8
 both-requires : tie.Need-both-requires
 both-requires c κs = search needs
 
--- src/rows.rt:133:13
 charge-half-requires : tie.Need-charge-half-requires
 charge-half-requires c κs = search needs
 
--- src/rows.rt:135:13
 charge-half-requires-2 : tie.Need-charge-half-requires-2
 charge-half-requires-2 c κs = search needs
 
--- src/rows.rt:126:1
 same-length : tie.Need-same-length
 same-length c = search needs
 
--- src/rows.rt:126:1
 returns : tie.Need-returns
 returns c =
     let at-if2 = c .before .before .before .before in
@@ -41,16 +34,14 @@ returns c =
     let at-both = at-if1 .before in
     let at-takes-pieces = at-both .before in
     let at-is-body = at-takes-pieces .before in
-    let s = at-is-body .before .before in
+    let s = at-is-body .before .before .before in
     let t = at-both .both .ensures ∙ (ap (λ x. x && at-takes-pieces .takes-pieces .result) (at-is-body .is-body .ensures) ∙ ap (λ x. inBody (s .args .s .mode) && x) (at-takes-pieces .takes-pieces .ensures)) in
     let b : inBody (s .args .s .mode) ≡ true = and-l (inBody (s .args .s .mode)) (takesPieces (s .args .own)) (sym t ∙ at-if1 .if1 .taken) in
     mainline-charged (s .args .own) (s .args .s) (now (s .args .rows)) _ b (eq-eqb _ _ (at-if2 .if2 .taken)) (c .before .before .charge-half .ensures)
 
--- src/rows.rt:126:1
 same-length-2 : tie.Need-same-length-2
 same-length-2 c = search needs
 
--- src/rows.rt:126:1
 returns-2 : tie.Need-returns-2
 returns-2 c =
     let at-if2 = c .before .before .before .before in
@@ -58,15 +49,14 @@ returns-2 c =
     let at-both = at-if1 .before in
     let at-takes-pieces = at-both .before in
     let at-is-body = at-takes-pieces .before in
-    let s = at-is-body .before .before in
+    let s = at-is-body .before .before .before in
     let t = at-both .both .ensures ∙ (ap (λ x. x && at-takes-pieces .takes-pieces .result) (at-is-body .is-body .ensures) ∙ ap (λ x. inBody (s .args .s .mode) && x) (at-takes-pieces .takes-pieces .ensures)) in
     let b : inBody (s .args .s .mode) ≡ true = and-l (inBody (s .args .s .mode)) (takesPieces (s .args .own)) (sym t ∙ at-if1 .if1 .taken) in
     others-charged (s .args .own) (s .args .s) (now (s .args .rows)) _ b (ne-eqb _ _ (at-if2 .if2 .left)) (c .before .before .charge-half2 .ensures)
 
--- src/rows.rt:126:1
 returns-3 : tie.Need-returns-3
 returns-3 c =
-    let s = c .before .before .before .before .before in
+    let s = c .before .before .before .before .before .before in
     let t = c .before .both .ensures ∙ (ap (λ x. x && c .before .before .takes-pieces .result) (c .before .before .before .is-body .ensures) ∙ ap (λ x. inBody (s .args .s .mode) && x) (c .before .before .takes-pieces .ensures)) in
     unchanged (s .args .own) (s .args .s) (now (s .args .rows)) (sym t ∙ c .if1 .left)
 

@@ -14,47 +14,36 @@ Inv-loop rows₀ part x₀ rows x = (x ≤ tableLength) × (length rows ≡ tabl
 abbrev μ-loop : tie.MeasureT-loop
 μ-loop rows₀ part x₀ rows x = tableLength - x
 
--- src/rows.rt:49:5
 loop-holds : tie.Need-loop-holds Inv-loop μ-loop
 loop-holds c = (omega arith, c .before .before .pre .0, start _ 0 _)
 
--- src/rows.rt:50:26
 mul-larger : tie.Need-mul-larger Inv-loop μ-loop
 mul-larger c = search needs
 
--- src/rows.rt:50:26
 slice-read-larger : tie.Need-slice-read-larger Inv-loop μ-loop
 slice-read-larger c = search needs
 
--- src/rows.rt:50:35
 mul-larger-2 : tie.Need-mul-larger-2 Inv-loop μ-loop
 mul-larger-2 c = search needs
 
--- src/rows.rt:50:35
 shared-slice-read-larger : tie.Need-shared-slice-read-larger Inv-loop μ-loop
 shared-slice-read-larger c = search needs
 
--- src/rows.rt:50:19
 larger-requires : tie.Need-larger-requires Inv-loop μ-loop
 larger-requires c κs = search needs
 
--- src/rows.rt:50:9
 mul-rows : tie.Need-mul-rows Inv-loop μ-loop
 mul-rows c = search needs
 
--- src/rows.rt:50:9
 slice-write-rows : tie.Need-slice-write-rows Inv-loop μ-loop
 slice-write-rows c = search needs
 
--- src/rows.rt:51:9
 add-x : tie.Need-add-x Inv-loop μ-loop
 add-x c = search needs
 
--- src/rows.rt:49:5
 loop-less : tie.Need-loop-less Inv-loop μ-loop
 loop-less c = search needs
 
--- src/rows.rt:49:5
 loop-again : tie.Need-loop-again Inv-loop μ-loop
 loop-again c =
     let l = c .before .before .before .before .loop in
@@ -62,11 +51,9 @@ loop-again c =
     let long = l .inv .1 in
     (omega arith, simp length-set long, turn _ 0 (l .x) _ (l .rows) (c .larger .result) (omega arith) (omega arith) (l .inv .2) (c .larger .ensures))
 
--- src/rows.rt:44:1
 same-length : tie.Need-same-length Inv-loop μ-loop
 same-length c = search needs
 
--- src/rows.rt:44:1
 returns : tie.Need-returns Inv-loop μ-loop
 returns c =
     let l = c .before .loop in

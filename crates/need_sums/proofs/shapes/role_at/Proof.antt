@@ -3,22 +3,16 @@ use mathlib.Core.Path.{sym}
 use Rattle.need_sums.proofs.Tables.{rest-role}
 use Rattle.need_sums.proofs.shapes.role_at.Statement.{statement}
 use Rattle.need_sums.proofs.shapes.role_at.Tie as tie
-use Rattle.need_sums.proofs.shapes.role_at.Reads as reads
-use Rattle.need_sums.proofs.shapes.role_at.Lts as lts
 
--- src/shapes.rt:142:9
 returns : tie.Need-returns
 returns c = search needs
 
--- src/shapes.rt:145:9
 returns-2 : tie.Need-returns-2
 returns-2 c = search needs
 
--- src/shapes.rt:148:9
 returns-3 : tie.Need-returns-3
 returns-3 c = search needs
 
--- src/shapes.rt:138:1
 returns-4 : tie.Need-returns-4
 returns-4 c = sym (rest-role _ _ (c .before .before .if1 .left) (c .before .if2 .left) (c .if3 .left))
 

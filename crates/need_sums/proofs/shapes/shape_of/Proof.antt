@@ -6,230 +6,169 @@ use Rattle.need_sums.specs.Walks.{shapeOf}
 use Rattle.need_sums.proofs.Tables.{plain-shape}
 use Rattle.need_sums.proofs.shapes.shape_of.Statement.{statement}
 use Rattle.need_sums.proofs.shapes.shape_of.Tie as tie
-use Rattle.need_sums.proofs.shapes.shape_of.Reads as reads
-use Rattle.need_sums.proofs.shapes.shape_of.Lts as lts
-use Rattle.need_sums.proofs.shapes.childless.Reads as childless-reads
-use Rattle.need_sums.proofs.shapes.one.Reads as one-reads
-use Rattle.need_sums.proofs.shapes.three.Reads as three-reads
-use Rattle.need_sums.proofs.shapes.two.Reads as two-reads
 
--- src/shapes.rt:105:24
 childless-requires : tie.Need-childless-requires
 childless-requires c κs = search needs
 
--- src/shapes.rt:106:25
 childless-requires-2 : tie.Need-childless-requires-2
 childless-requires-2 c κs = search needs
 
--- src/shapes.rt:107:26
 childless-requires-3 : tie.Need-childless-requires-3
 childless-requires-3 c κs = search needs
 
--- src/shapes.rt:108:28
 childless-requires-4 : tie.Need-childless-requires-4
 childless-requires-4 c κs = search needs
 
--- src/shapes.rt:109:28
 two-requires : tie.Need-two-requires
 two-requires c κs = search needs
 
--- src/shapes.rt:110:25
 one-requires : tie.Need-one-requires
 one-requires c κs = search needs
 
--- src/shapes.rt:111:26
 three-requires : tie.Need-three-requires
 three-requires c κs = search needs
 
--- src/shapes.rt:112:24
 two-requires-2 : tie.Need-two-requires-2
 two-requires-2 c κs = search needs
 
--- src/shapes.rt:113:25
 two-requires-3 : tie.Need-two-requires-3
 two-requires-3 c κs = search needs
 
--- src/shapes.rt:114:28
 childless-requires-5 : tie.Need-childless-requires-5
 childless-requires-5 c κs = search needs
 
--- src/shapes.rt:115:25
 two-requires-4 : tie.Need-two-requires-4
 two-requires-4 c κs = search needs
 
--- src/shapes.rt:116:30
 two-requires-5 : tie.Need-two-requires-5
 two-requires-5 c κs = search needs
 
--- src/shapes.rt:117:29
 childless-requires-6 : tie.Need-childless-requires-6
 childless-requires-6 c κs = search needs
 
--- src/shapes.rt:118:24
 two-requires-6 : tie.Need-two-requires-6
 two-requires-6 c κs = search needs
 
--- src/shapes.rt:126:26
 two-requires-7 : tie.Need-two-requires-7
 two-requires-7 c κs = search needs
 
--- src/shapes.rt:127:27
 one-requires-2 : tie.Need-one-requires-2
 one-requires-2 c κs = search needs
 
--- src/shapes.rt:128:28
 one-requires-3 : tie.Need-one-requires-3
 one-requires-3 c κs = search needs
 
--- src/shapes.rt:129:24
 one-requires-4 : tie.Need-one-requires-4
 one-requires-4 c κs = search needs
 
--- src/shapes.rt:130:25
 two-requires-8 : tie.Need-two-requires-8
 two-requires-8 c κs = search needs
 
--- src/shapes.rt:131:25
 one-requires-5 : tie.Need-one-requires-5
 one-requires-5 c κs = search needs
 
--- src/shapes.rt:132:26
 childless-requires-7 : tie.Need-childless-requires-7
 childless-requires-7 c κs = search needs
 
--- src/shapes.rt:133:24
 one-requires-6 : tie.Need-one-requires-6
 one-requires-6 c κs = search needs
 
--- src/shapes.rt:134:25
 childless-requires-8 : tie.Need-childless-requires-8
 childless-requires-8 c κs = search needs
 
--- src/shapes.rt:135:24
 three-requires-2 : tie.Need-three-requires-2
 three-requires-2 c κs = search needs
 
--- src/shapes.rt:136:25
 three-requires-3 : tie.Need-three-requires-3
 three-requires-3 c κs = search needs
 
--- src/shapes.rt:137:30
 one-requires-7 : tie.Need-one-requires-7
 one-requires-7 c κs = search needs
 
--- src/shapes.rt:138:14
 childless-requires-9 : tie.Need-childless-requires-9
 childless-requires-9 c κs = search needs
 
--- src/shapes.rt:101:1
 returns : tie.Need-returns
 returns c = λ k e. c .childless .ensures ∙ ap shapeOf (same-term-kind TermKind.unit k (sym (c .before .match .keys1) ∙ e))
 
--- src/shapes.rt:101:1
 returns-2 : tie.Need-returns-2
 returns-2 c = λ k e. c .childless2 .ensures ∙ ap shapeOf (same-term-kind TermKind.truth k (sym (c .before .match .keys2) ∙ e))
 
--- src/shapes.rt:101:1
 returns-3 : tie.Need-returns-3
 returns-3 c = λ k e. c .childless3 .ensures ∙ ap shapeOf (same-term-kind TermKind.number k (sym (c .before .match .keys3) ∙ e))
 
--- src/shapes.rt:101:1
 returns-4 : tie.Need-returns-4
 returns-4 c = λ k e. c .childless4 .ensures ∙ ap shapeOf (same-term-kind TermKind.var k (sym (c .before .match .keys4) ∙ e))
 
--- src/shapes.rt:101:1
 returns-5 : tie.Need-returns-5
 returns-5 c = λ k e. c .two .ensures ∙ ap shapeOf (same-term-kind TermKind.seq k (sym (c .before .match .keys5) ∙ e))
 
--- src/shapes.rt:101:1
 returns-6 : tie.Need-returns-6
 returns-6 c = λ k e. c .one .ensures ∙ ap shapeOf (same-term-kind TermKind.print k (sym (c .before .match .keys6) ∙ e))
 
--- src/shapes.rt:101:1
 returns-7 : tie.Need-returns-7
 returns-7 c = λ k e. c .three .ensures ∙ ap shapeOf (same-term-kind TermKind.ite k (sym (c .before .match .keys7) ∙ e))
 
--- src/shapes.rt:101:1
 returns-8 : tie.Need-returns-8
 returns-8 c = λ k e. c .two2 .ensures ∙ ap shapeOf (same-term-kind TermKind.pair k (sym (c .before .match .keys8) ∙ e))
 
--- src/shapes.rt:101:1
 returns-9 : tie.Need-returns-9
 returns-9 c = λ k e. c .two3 .ensures ∙ ap shapeOf (same-term-kind TermKind.split k (sym (c .before .match .keys9) ∙ e))
 
--- src/shapes.rt:101:1
 returns-10 : tie.Need-returns-10
 returns-10 c = λ k e. c .childless5 .ensures ∙ ap shapeOf (same-term-kind TermKind.fun k (sym (c .before .match .keys10) ∙ e))
 
--- src/shapes.rt:101:1
 returns-11 : tie.Need-returns-11
 returns-11 c = λ k e. c .two4 .ensures ∙ ap shapeOf (same-term-kind TermKind.app k (sym (c .before .match .keys11) ∙ e))
 
--- src/shapes.rt:101:1
 returns-12 : tie.Need-returns-12
 returns-12 c = λ k e. c .two5 .ensures ∙ ap shapeOf (same-term-kind TermKind.arith k (sym (c .before .match .keys12) ∙ e))
 
--- src/shapes.rt:101:1
 returns-13 : tie.Need-returns-13
 returns-13 c = λ k e. c .childless6 .ensures ∙ ap shapeOf (same-term-kind TermKind.newLabel k (sym (c .before .match .keys13) ∙ e))
 
--- src/shapes.rt:101:1
 returns-14 : tie.Need-returns-14
 returns-14 c = λ k e. c .two6 .ensures ∙ ap shapeOf (same-term-kind TermKind.mark k (sym (c .before .match .keys14) ∙ e))
 
--- src/shapes.rt:101:1
 returns-15 : tie.Need-returns-15
 returns-15 c = λ k e. ap shapeOf (same-term-kind TermKind.pcd k (sym (c .match .keys15) ∙ e))
 
--- src/shapes.rt:101:1
 returns-16 : tie.Need-returns-16
 returns-16 c = λ k e. c .two7 .ensures ∙ ap shapeOf (same-term-kind TermKind.adv k (sym (c .before .match .keys16) ∙ e))
 
--- src/shapes.rt:101:1
 returns-17 : tie.Need-returns-17
 returns-17 c = λ k e. c .one2 .ensures ∙ ap shapeOf (same-term-kind TermKind.install k (sym (c .before .match .keys17) ∙ e))
 
--- src/shapes.rt:101:1
 returns-18 : tie.Need-returns-18
 returns-18 c = λ k e. c .one3 .ensures ∙ ap shapeOf (same-term-kind TermKind.newCell k (sym (c .before .match .keys18) ∙ e))
 
--- src/shapes.rt:101:1
 returns-19 : tie.Need-returns-19
 returns-19 c = λ k e. c .one4 .ensures ∙ ap shapeOf (same-term-kind TermKind.read k (sym (c .before .match .keys19) ∙ e))
 
--- src/shapes.rt:101:1
 returns-20 : tie.Need-returns-20
 returns-20 c = λ k e. c .two8 .ensures ∙ ap shapeOf (same-term-kind TermKind.store k (sym (c .before .match .keys20) ∙ e))
 
--- src/shapes.rt:101:1
 returns-21 : tie.Need-returns-21
 returns-21 c = λ k e. c .one5 .ensures ∙ ap shapeOf (same-term-kind TermKind.lower k (sym (c .before .match .keys21) ∙ e))
 
--- src/shapes.rt:101:1
 returns-22 : tie.Need-returns-22
 returns-22 c = λ k e. c .childless7 .ensures ∙ ap shapeOf (same-term-kind TermKind.obj k (sym (c .before .match .keys22) ∙ e))
 
--- src/shapes.rt:101:1
 returns-23 : tie.Need-returns-23
 returns-23 c = λ k e. c .one6 .ensures ∙ ap shapeOf (same-term-kind TermKind.call k (sym (c .before .match .keys23) ∙ e))
 
--- src/shapes.rt:101:1
 returns-24 : tie.Need-returns-24
 returns-24 c = λ k e. c .childless8 .ensures ∙ ap shapeOf (same-term-kind TermKind.stack k (sym (c .before .match .keys24) ∙ e))
 
--- src/shapes.rt:101:1
 returns-25 : tie.Need-returns-25
 returns-25 c = λ k e. c .three2 .ensures ∙ ap shapeOf (same-term-kind TermKind.keep k (sym (c .before .match .keys25) ∙ e))
 
--- src/shapes.rt:101:1
 returns-26 : tie.Need-returns-26
 returns-26 c = λ k e. c .three3 .ensures ∙ ap shapeOf (same-term-kind TermKind.match k (sym (c .before .match .keys26) ∙ e))
 
--- src/shapes.rt:101:1
 returns-27 : tie.Need-returns-27
 returns-27 c = λ k e. c .one7 .ensures ∙ ap shapeOf (same-term-kind TermKind.byte k (sym (c .before .match .keys27) ∙ e))
 
--- src/shapes.rt:101:1
 returns-28 : tie.Need-returns-28
 returns-28 c = λ k e. c .childless9 .ensures ∙ sym (plain-shape _ (c .before .match .rest) k e)
 

@@ -2,56 +2,40 @@ use borrow.Author.Needs.{needs}
 use Rattle.need_sums.specs.Sums.{addNeeds}
 use Rattle.need_sums.proofs.sums.add.Statement.{statement}
 use Rattle.need_sums.proofs.sums.add.Tie as tie
-use Rattle.need_sums.proofs.sums.add.Reads as reads
-use Rattle.need_sums.proofs.sums.add.Lts as lts
-use Rattle.need_sums.proofs.sums.larger.Reads as larger-reads
-use Rattle.need_sums.proofs.sums.plus.Reads as plus-reads
 
--- src/sums.rt:44:16
 plus-requires : tie.Need-plus-requires
 plus-requires c κs = search needs
 
--- src/sums.rt:45:19
 plus-requires-2 : tie.Need-plus-requires-2
 plus-requires-2 c κs = search needs
 
--- src/sums.rt:46:25
 plus-requires-3 : tie.Need-plus-requires-3
 plus-requires-3 c κs = search needs
 
--- src/sums.rt:47:17
 plus-requires-4 : tie.Need-plus-requires-4
 plus-requires-4 c κs = search needs
 
--- src/sums.rt:48:23
 plus-requires-5 : tie.Need-plus-requires-5
 plus-requires-5 c κs = search needs
 
--- src/sums.rt:49:16
 plus-requires-6 : tie.Need-plus-requires-6
 plus-requires-6 c κs = search needs
 
--- src/sums.rt:50:22
 plus-requires-7 : tie.Need-plus-requires-7
 plus-requires-7 c κs = search needs
 
--- src/sums.rt:51:17
 plus-requires-8 : tie.Need-plus-requires-8
 plus-requires-8 c κs = search needs
 
--- src/sums.rt:52:17
 plus-requires-9 : tie.Need-plus-requires-9
 plus-requires-9 c κs = search needs
 
--- src/sums.rt:53:17
 larger-requires : tie.Need-larger-requires
 larger-requires c κs = search needs
 
--- src/sums.rt:54:14
 plus-requires-10 : tie.Need-plus-requires-10
 plus-requires-10 c κs = search needs
 
--- src/sums.rt:40:1
 returns : tie.Need-returns
 unfolding addNeeds
 returns c =

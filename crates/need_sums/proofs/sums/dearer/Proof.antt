@@ -2,55 +2,40 @@ use borrow.Author.Needs.{needs}
 use Rattle.need_sums.specs.Sums.{dearerNeeds}
 use Rattle.need_sums.proofs.sums.dearer.Statement.{statement}
 use Rattle.need_sums.proofs.sums.dearer.Tie as tie
-use Rattle.need_sums.proofs.sums.dearer.Reads as reads
-use Rattle.need_sums.proofs.sums.dearer.Lts as lts
-use Rattle.need_sums.proofs.sums.larger.Reads as larger-reads
 
--- src/sums.rt:63:16
 larger-requires : tie.Need-larger-requires
 larger-requires c κs = search needs
 
--- src/sums.rt:64:19
 larger-requires-2 : tie.Need-larger-requires-2
 larger-requires-2 c κs = search needs
 
--- src/sums.rt:65:25
 larger-requires-3 : tie.Need-larger-requires-3
 larger-requires-3 c κs = search needs
 
--- src/sums.rt:66:17
 larger-requires-4 : tie.Need-larger-requires-4
 larger-requires-4 c κs = search needs
 
--- src/sums.rt:67:23
 larger-requires-5 : tie.Need-larger-requires-5
 larger-requires-5 c κs = search needs
 
--- src/sums.rt:68:16
 larger-requires-6 : tie.Need-larger-requires-6
 larger-requires-6 c κs = search needs
 
--- src/sums.rt:69:22
 larger-requires-7 : tie.Need-larger-requires-7
 larger-requires-7 c κs = search needs
 
--- src/sums.rt:70:17
 larger-requires-8 : tie.Need-larger-requires-8
 larger-requires-8 c κs = search needs
 
--- src/sums.rt:71:17
 larger-requires-9 : tie.Need-larger-requires-9
 larger-requires-9 c κs = search needs
 
--- src/sums.rt:72:17
 larger-requires-10 : tie.Need-larger-requires-10
 larger-requires-10 c κs = search needs
 
--- src/sums.rt:73:14
 larger-requires-11 : tie.Need-larger-requires-11
 larger-requires-11 c κs = search needs
 
--- src/sums.rt:59:1
 returns : tie.Need-returns
 unfolding dearerNeeds
 returns c =

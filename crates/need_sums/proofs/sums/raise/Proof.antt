@@ -2,15 +2,10 @@ use borrow.Author.Needs.{needs}
 use Rattle.need_sums.specs.Sums.{raiseNeeds}
 use Rattle.need_sums.proofs.sums.raise.Statement.{statement}
 use Rattle.need_sums.proofs.sums.raise.Tie as tie
-use Rattle.need_sums.proofs.sums.raise.Reads as reads
-use Rattle.need_sums.proofs.sums.raise.Lts as lts
-use Rattle.need_sums.proofs.sums.raised.Reads as raised-reads
 
--- src/sums.rt:92:5
 raised-requires : tie.Need-raised-requires
 raised-requires c κs = search needs
 
--- src/sums.rt:88:1
 returns : tie.Need-returns
 unfolding raiseNeeds
 returns c =

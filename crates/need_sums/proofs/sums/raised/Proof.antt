@@ -2,19 +2,13 @@ use borrow.Author.Needs.{needs}
 use borrow.Author.Tests.{eq-eqb, ne-eqb}
 use Rattle.need_sums.proofs.sums.raised.Statement.{statement}
 use Rattle.need_sums.proofs.sums.raised.Tie as tie
-use Rattle.need_sums.proofs.sums.raised.Reads as reads
-use Rattle.need_sums.proofs.sums.raised.Lts as lts
-use Rattle.need_sums.proofs.sums.plus.Reads as plus-reads
 
--- src/sums.rt:82:9
 returns : tie.Need-returns
 returns c = simp (eq-eqb _ _ (c .if1 .taken))
 
--- src/sums.rt:84:5
 plus-requires : tie.Need-plus-requires
 plus-requires c κs = search needs
 
--- src/sums.rt:78:1
 returns-2 : tie.Need-returns-2
 returns-2 c = simp (ne-eqb _ _ (c .before .if1 .left), c .plus .ensures)
 

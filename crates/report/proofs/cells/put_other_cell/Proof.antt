@@ -30,7 +30,7 @@ returns c =
     let at-put-header = c .before .before .before .before .before .before in
     let start = at-put-header .before .before .before in
     let a = start .args in
-    (refl, record-written otherCellKind (now (a .report)) (a .at) (bytes16 (a .dom)) 6 refl (at-put-header .put-header .ensures) (c .before .before .put16 .ensures) (omega arith))
+    (refl, record-written otherCellKind (now (a .report)) (a .at) (bytes16 (a .dom .0)) 6 refl (at-put-header .put-header .ensures) (c .before .before .put16 .ensures) (omega arith))
 
 pub put-other-cell-spec : {M : Type 1} → statement M
 put-other-cell-spec =

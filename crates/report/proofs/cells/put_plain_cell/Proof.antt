@@ -53,7 +53,7 @@ returns c =
     let w = at-put-leaves .put-leaves .ensures in
     let e : at-put-leaves .put-leaves .result - a .at ≡ 6 + length ls = omega (arith, w .0) in
     let i : a .at + 6 ≡ a .at + 4 + 2 = omega arith in
-    (omega (arith, w .0), header-last plainCellKind (now (a .report)) (a .at) (bytes16 (a .dom)) ls (6 + length ls) (a .at + 6) refl i (w .1) (rw e at (at-put-header .put-header .ensures)) (c .before .before .put16 .ensures) (omega arith))
+    (omega (arith, w .0), header-last plainCellKind (now (a .report)) (a .at) (bytes16 (a .dom .0)) ls (6 + length ls) (a .at + 6) refl i (w .1) (rw e at (at-put-header .put-header .ensures)) (c .before .before .put16 .ensures) (omega arith))
 
 pub put-plain-cell-spec : {M : Type 1} → statement M
 put-plain-cell-spec =

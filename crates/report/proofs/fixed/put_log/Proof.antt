@@ -34,7 +34,7 @@ returns c =
     let at-put-header = at-put16 .before .before .before .before in
     let start = at-put-header .before .before .before in
     let a = start .args in
-    fields-written logKind (now (a .log)) (a .at) (bytes16 (a .dom)) (bytes32 (a .number)) 10 (a .at + 6) refl (omega arith) (at-put-header .put-header .ensures) (at-put16 .put16 .ensures) (c .before .before .put32 .ensures) (omega arith)
+    fields-written logKind (now (a .log)) (a .at) (bytes16 (a .dom .0)) (bytes32 (a .number)) 10 (a .at + 6) refl (omega arith) (at-put-header .put-header .ensures) (at-put16 .put16 .ensures) (c .before .before .put32 .ensures) (omega arith)
 
 pub put-log-spec : {M : Type 1} → statement M
 put-log-spec =

@@ -14,8 +14,8 @@ cell-at-requires c κs = search needs
 cell-note-requires : tie.Need-cell-note-requires
 cell-note-requires c κs = search needs
 
-cast-dom : tie.Need-cast-dom
-cast-dom c = search needs
+note-domain-requires : tie.Need-note-domain-requires
+note-domain-requires c κs = search needs
 
 put-other-cell-requires : tie.Need-put-other-cell-requires
 put-other-cell-requires c κs = search needs
@@ -26,15 +26,15 @@ same-length c = search needs
 returns : tie.Need-returns
 returns c =
     let s = c .before .before .before .before in
-    let a = s .before .before .before .before .before .args in
-    cell-written (now (a .report)) (a .at) (other-cell (memoryOf (now (a .work))) (a .i) _ _ (s .before .before .cell-at .ensures) (s .before .cell-note .ensures) (s .if1 .taken)) (c .before .before .put-other-cell .ensures)
+    let a = s .before .before .before .before .before .before .args in
+    cell-written (now (a .report)) (a .at) (other-cell (memoryOf (now (a .work))) (a .i) _ _ _ (s .before .before .before .cell-at .ensures) (s .before .before .cell-note .ensures) (s .before .note-domain .ensures) (s .if1 .taken)) (c .before .before .put-other-cell .ensures)
 
 plain-leaves-requires : tie.Need-plain-leaves-requires
 plain-leaves-requires c κs = search needs
 
 put-plain-cell-requires : tie.Need-put-plain-cell-requires
 put-plain-cell-requires c κs =
-    let at-cell-at = c .before .before .before .before .before in
+    let at-cell-at = c .before .before .before .before .before .before in
     let start = at-cell-at .before .before .before in
     let M = memoryOf (now (start .args .work)) in
     let v = at-cell-at .cell-at .result in
@@ -48,8 +48,8 @@ returns-2 : tie.Need-returns-2
 returns-2 c =
     let w = c .before .before .before .before .before in
     let s = w .before in
-    let a = s .before .before .before .before .before .args in
-    cell-written (now (a .report)) (a .at) (plain-cell (memoryOf (now (a .work))) (a .i) _ _ (s .before .before .cell-at .ensures) (s .before .cell-note .ensures) _ (s .if1 .left) (w .plain-leaves .ensures)) (c .before .before .put-plain-cell .ensures)
+    let a = s .before .before .before .before .before .before .args in
+    cell-written (now (a .report)) (a .at) (plain-cell (memoryOf (now (a .work))) (a .i) _ _ _ (s .before .before .before .cell-at .ensures) (s .before .before .cell-note .ensures) (s .before .note-domain .ensures) _ (s .if1 .left) (w .plain-leaves .ensures)) (c .before .before .put-plain-cell .ensures)
 
 pub put-cell-spec : {M : Type 1} → statement M
 put-cell-spec =
@@ -57,7 +57,7 @@ put-cell-spec =
     (tie.spec
     cell-at-requires
     cell-note-requires
-    cast-dom
+    note-domain-requires
     put-other-cell-requires
     same-length
     returns

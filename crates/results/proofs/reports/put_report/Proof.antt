@@ -1,102 +1,51 @@
-use native.Mathlib.Omega.{arith}
 use denote.Ref.{now}
-use Rattle.report.proofs.Lengths.{slots-short}
+use mathlib.Core.Path.{ap, _∙_}
 use Rattle.vm_tables.specs.View.{memoryOf}
-use Rattle.results.specs.Ended.{resultIn}
-use Rattle.results.proofs.Gathering.{gathered-few}
-use Rattle.results.proofs.WholeReport.{result-few, reported}
+use Rattle.results.specs.Gathered.{gathered}
+use Rattle.results.proofs.WholeReport.{done-leaves, other-leaves}
 use borrow.Author.Needs.{needs}
 use Rattle.results.proofs.reports.put_report.Statement.{statement}
 use Rattle.results.proofs.reports.put_report.Tie as tie
 
-tag-requires : tie.Need-tag-requires
-tag-requires c κs = search needs
+plain-leaves-requires : tie.Need-plain-leaves-requires
+plain-leaves-requires c κs = search needs
 
-put-one-leaf-requires : tie.Need-put-one-leaf-requires
-put-one-leaf-requires c κs =
-    let at-if1 = c .before .before .before in
-    let s = at-if1 .before .before .before .before in
-    let t = c .before .before .tag .ensures in
-    (s .pre .0, s .pre .1, s .pre .2, s .pre .3, at-if1 .if1 .taken, omega (arith, c .before .if2 .taken))
+put-answer-requires : tie.Need-put-answer-requires
+put-answer-requires c κs =
+    let s = c .before .before .before .before .before .before in
+    let a = s .args in
+    (s .pre .0, s .pre .1, s .pre .2, s .pre .3, c .plain-leaves .ensures ∙ ap gathered (done-leaves (memoryOf (now (a .work))) (a .r .outcome) (a .r .hand) (c .before .before .if1 .taken)))
 
 same-length : tie.Need-same-length
 same-length c = search needs
 
 returns : tie.Need-returns
-returns c = c .before .before .put-one-leaf .ensures
+returns c = c .before .before .put-answer .ensures
 
-outcome-with-requires : tie.Need-outcome-with-requires
-outcome-with-requires c κs = search needs
+no-leaves-requires : tie.Need-no-leaves-requires
+no-leaves-requires c κs = search needs
 
-cast-steps : tie.Need-cast-steps
-cast-steps c = search needs
-
-sub-steps : tie.Need-sub-steps
-sub-steps c = search needs
-
-put-head-requires : tie.Need-put-head-requires
-put-head-requires c κs = search needs
-
-result-leaves-requires : tie.Need-result-leaves-requires
-result-leaves-requires c κs = search needs
-
-put-leaves-requires : tie.Need-put-leaves-requires
-put-leaves-requires c κs =
-    let g = c .before .before in
-    let h = g .before .before .before in
-    let s = h .before .before .before .before .before .before .before .before in
+put-answer-requires-2 : tie.Need-put-answer-requires-2
+put-answer-requires-2 c κs =
+    let s = c .before .before .before .before .before .before in
     let a = s .args in
-    let M = memoryOf (now (a .work)) in
-    let n = gathered-few (resultIn M (a .r)) (g .result-leaves .ensures) (result-few M (a .r)) in
-    (n, omega (arith, n, s .pre .1, h .put-head .kept .0))
-
-cell-count-requires : tie.Need-cell-count-requires
-cell-count-requires c κs = search needs
-
-put-cells-requires : tie.Need-put-cells-requires
-put-cells-requires c κs =
-    let l = c .before .before .before .before in
-    let g = l .before .before .before in
-    let h = g .before .before .before in
-    let s = h .before .before .before .before .before .before .before .before in
-    let a = s .args in
-    let r = g .result-leaves in
-    let M = memoryOf (now (a .work)) in
-    let n = gathered-few (resultIn M (a .r)) (r .ensures) (result-few M (a .r)) in
-    let m = slots-short (r .result .count) (r .result .slots) in
-    let e = c .cell-count .ensures in
-    let few = s .pre .2 in
-    (s .pre .0, omega (arith, e, few), omega (arith, e, few, l .put-leaves .ensures .0, h .put-head .kept .0))
+    (s .pre .0, s .pre .1, s .pre .2, s .pre .3, c .no-leaves .ensures ∙ ap gathered (other-leaves (memoryOf (now (a .work))) (a .r .outcome) (a .r .hand) (c .before .before .if1 .left)))
 
 same-length-2 : tie.Need-same-length-2
 same-length-2 c = search needs
 
 returns-2 : tie.Need-returns-2
-returns-2 c =
-    let d = c .before .before in
-    let l = d .before .before .before .before .before in
-    let g = l .before .before .before in
-    let h = g .before .before .before in
-    let o = h .before .before .before in
-    let s = o .before .before .before .before .before in
-    let a = s .args in
-    reported (memoryOf (now (a .work))) (a .r) _ (g .result-leaves .ensures) (a .budget) (now (a .report)) (o .outcome-with .result) _ _ (o .outcome-with .ensures) (h .put-head .ensures) (l .put-leaves .ensures) (rw (d .before .cell-count .ensures) at (d .put-cells .ensures)) (s .pre .2) (s .pre .1)
+returns-2 c = c .before .before .put-answer2 .ensures
 
 pub put-report-spec : {M : Type 1} → statement M
 put-report-spec =
     tie.close
     (tie.spec
-    tag-requires
-    put-one-leaf-requires
+    plain-leaves-requires
+    put-answer-requires
     same-length
     returns
-    outcome-with-requires
-    cast-steps
-    sub-steps
-    put-head-requires
-    result-leaves-requires
-    put-leaves-requires
-    cell-count-requires
-    put-cells-requires
+    no-leaves-requires
+    put-answer-requires-2
     same-length-2
     returns-2)

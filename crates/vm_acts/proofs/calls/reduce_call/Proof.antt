@@ -1,3 +1,6 @@
+use mathlib.Core.Path.{ap, _∙_}
+use Rattle.vm_machine.specs.Fetch.{Program}
+use Rattle.vm_machine.specs.Turn.{methodAt}
 use denote.Ref.{now}
 use Rattle.vm_acts.proofs.Called.{method-made}
 use borrow.Author.Needs.{needs}
@@ -7,11 +10,8 @@ use Rattle.vm_acts.proofs.calls.reduce_call.Tie as tie
 object-term-requires : tie.Need-object-term-requires
 object-term-requires c κs = search needs
 
-mul-method-at : tie.Need-mul-method-at
-mul-method-at c = search needs
-
-shared-slice-read-method-at : tie.Need-shared-slice-read-method-at
-shared-slice-read-method-at c = search needs
+word-of-requires : tie.Need-word-of-requires
+word-of-requires c κs = search needs
 
 field-b-requires : tie.Need-field-b-requires
 field-b-requires c κs = search needs
@@ -27,21 +27,23 @@ same-length c = search needs
 
 returns : tie.Need-returns
 returns c =
-    let at-method-at = c .before .before .before .before in
+    let at-call-body = c .before .before in
+    let at-method-at = at-call-body .before .before in
     let at-field-b = at-method-at .before in
-    let at-object-term = at-field-b .before .before in
-    let start = at-object-term .before .before .before .before in
-    let a = start .args in
-    method-made (record { code = now (a .code); image = now (a .image) }) (a .w) (a .x) _ _ _ (at-object-term .object-term .ensures) (at-field-b .field-b .ensures)
-    (at-method-at .method-at .ensures) _ _ (a .r) _ (c .before .before .call-body .ensures (now (a .image)))
+    let at-word-of = at-field-b .before in
+    let at-object-term = at-word-of .before in
+    let s = at-object-term .before .before .before .before in
+    let a = s .args in
+    let C : Program = record { code = now (a .code); image = now (a .image) } in
+    method-made C (a .w) (a .x) _ _ _ (at-object-term .object-term .ensures) (at-field-b .field-b .ensures)
+    (at-method-at .method-at .ensures ∙ ap (λ u. methodAt C u (at-field-b .field-b .result)) (at-word-of .word-of .ensures)) _ _ (a .r) _ (at-call-body .call-body .ensures (now (a .image)))
 
 pub reduce-call-spec : {M : Type 1} → statement M
 reduce-call-spec =
     tie.close
     (tie.spec
     object-term-requires
-    mul-method-at
-    shared-slice-read-method-at
+    word-of-requires
     field-b-requires
     method-at-requires
     call-body-requires

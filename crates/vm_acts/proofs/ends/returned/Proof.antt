@@ -1,6 +1,6 @@
 use native.Mathlib.Omega.{arith}
 use denote.Ref.{now}
-use mathlib.Core.Path.{refl, ap}
+use mathlib.Core.Path.{ap}
 use Prim.Native.Nat.{_+_}
 use Rattle.vm_machine.specs.Registers.{setEnv, setRoom}
 use Rattle.vm_acts.proofs.Judged.{returned-made}
@@ -11,11 +11,8 @@ use Rattle.vm_acts.proofs.ends.returned.Tie as tie
 slot-pc-requires : tie.Need-slot-pc-requires
 slot-pc-requires c κs = search needs
 
-mul-w : tie.Need-mul-w
-mul-w c = search needs
-
-shared-slice-read-w : tie.Need-shared-slice-read-w
-shared-slice-read-w c = search needs
+instruction-requires : tie.Need-instruction-requires
+instruction-requires c κs = search needs
 
 same-requires : tie.Need-same-requires
 same-requires c κs = search needs
@@ -31,29 +28,31 @@ add-q c = search needs
 
 completed-requires : tie.Need-completed-requires
 completed-requires c κs =
-    let s = c .before .before .before .before .before .before .before .before .before in
-    (search needs, omega (arith, c .before .before .depth-of .ensures, s .pre .2))
+    let at-depth-of = c .before .before in
+    let s = at-depth-of .before .before .before .before .before .before .before in
+    (search needs, omega (arith, at-depth-of .depth-of .ensures, s .pre .2))
 
 same-length : tie.Need-same-length
 same-length c = search needs
 
 returns : tie.Need-returns
 returns c =
-    let at-depth-of = c .before .before .before .before .before in
+    let at-completed = c .before .before in
+    let at-depth-of = at-completed .before .before .before in
     let at-slot-env = at-depth-of .before in
     let at-same = at-slot-env .before in
-    let at-slot-pc = at-same .before .before in
-    let start = at-slot-pc .before .before .before in
-    let a = start .args in
-    λ image. returned-made (record { code = now (a .code); image = image }) (a .f) _ _ (a .r) _ _ _ _ _ _ (at-slot-pc .slot-pc .ensures) refl (at-depth-of .depth-of .ensures) (at-slot-env .slot-env .ensures) (ap (setEnv (at-slot-env .slot-env .result)) (ap (setRoom (a .r .room + at-depth-of .depth-of .result)) (at-same .same .ensures))) (c .before .before .completed .ensures)
+    let at-instruction = at-same .before in
+    let at-slot-pc = at-instruction .before in
+    let s = at-slot-pc .before .before .before in
+    let a = s .args in
+    λ image. returned-made (record { code = now (a .code); image = image }) (a .f) _ _ (a .r) _ _ _ _ _ _ (at-slot-pc .slot-pc .ensures) (at-instruction .instruction .ensures) (at-depth-of .depth-of .ensures) (at-slot-env .slot-env .ensures) (ap (setEnv (at-slot-env .slot-env .result)) (ap (setRoom (a .r .room + at-depth-of .depth-of .result)) (at-same .same .ensures))) (at-completed .completed .ensures)
 
 pub returned-spec : {M : Type 1} → statement M
 returned-spec =
     tie.close
     (tie.spec
     slot-pc-requires
-    mul-w
-    shared-slice-read-w
+    instruction-requires
     same-requires
     slot-env-requires
     depth-of-requires

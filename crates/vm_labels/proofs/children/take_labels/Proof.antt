@@ -1,43 +1,57 @@
-use Prim.Native.Nat.{_-_}
+use Prim.Native.Nat.{ℕ, _-_}
 use mathlib.Core.Path.{_≡_, refl, _∙_}
+use mathlib.Core.List.{List}
+use native.Mathlib.Omega.{arith}
 use denote.Ref.{now}
+use Rattle.vm_machine.specs.Fetch.{Program}
 use Rattle.vm_machine.specs.Turn.{takeLabels}
 use Rattle.vm_tables.specs.View.{memoryOf}
-use Rattle.vm_labels.proofs.Taking.{from-count, none-left, no-atom, one-taken}
+use Rattle.vm_labels.specs.Parts.{childFields}
+use Rattle.vm_labels.proofs.Taking.{child-in, from-count, none-left, no-atom, one-taken}
 use borrow.Author.Needs.{needs}
 use Rattle.vm_labels.proofs.children.take_labels.Statement.{statement}
 use Rattle.vm_labels.proofs.children.take_labels.Tie as tie
 
 abbrev Inv-loop : tie.InvT-loop
-Inv-loop code image work env w n i₀ d₀ i d = takeLabels (record { code = code; image = image }) (memoryOf work) env w (n - i₀) i₀ d₀ ≡ takeLabels (record { code = code; image = image }) (memoryOf work) env w (n - i) i d
+Inv-loop code fields work env w n i₀ d₀ i d =
+    (image : List ℕ) → fields ≡ childFields image w → takeLabels (record { code = code; image = image }) (memoryOf work) env w (n - i₀) i₀ d₀ ≡ takeLabels (record { code = code; image = image }) (memoryOf work) env w (n - i) i d
 
 abbrev μ-loop : tie.MeasureT-loop
-μ-loop code image work env w n i₀ d₀ i d = n - i
+μ-loop code fields work env w n i₀ d₀ i d = n - i
 
 count-of-requires : tie.Need-count-of-requires Inv-loop μ-loop
 count-of-requires c κs = search needs
 
 loop-holds : tie.Need-loop-holds Inv-loop μ-loop
-loop-holds c = refl
+loop-holds c = λ image e. refl
 
-child-at-requires : tie.Need-child-at-requires Inv-loop μ-loop
-child-at-requires c κs = search needs
+term-at-requires : tie.Need-term-at-requires Inv-loop μ-loop
+term-at-requires c κs =
+    let at-count-of = c .before .before in
+    omega (arith, at-count-of .count-of .ensures)
 
-mul-u : tie.Need-mul-u Inv-loop μ-loop
-mul-u c = search needs
-
-shared-slice-read-u : tie.Need-shared-slice-read-u Inv-loop μ-loop
-shared-slice-read-u c = search needs
+word-of-requires : tie.Need-word-of-requires Inv-loop μ-loop
+word-of-requires c κs = search needs
 
 class-of-requires : tie.Need-class-of-requires Inv-loop μ-loop
 class-of-requires c κs = search needs
 
 returns : tie.Need-returns Inv-loop μ-loop
 returns c =
-    let x = c .before .before .before in
-    let l = x .before .before .loop in
-    let a = x .before .before .before .before .before .before .before .args in
-    from-count (record { code = now (a .code); image = now (a .image) }) (memoryOf (now (a .work))) (a .env) (a .w) _ _ _ _ (x .before .before .before .count-of .ensures) (l .inv ∙ no-atom (record { code = now (a .code); image = now (a .image) }) (memoryOf (now (a .work))) (a .env) (a .w) _ (l .i) (l .d) _ _ _ (x .before .loop-test .taken) (x .child-at .ensures .0) refl (c .before .class-of .ensures) (c .if1 .taken))
+    let at-class-of = c .before in
+    let at-word-of = at-class-of .before in
+    let at-term-at = at-word-of .before in
+    let at-loop-test = at-term-at .before in
+    let at-loop = at-loop-test .before in
+    let at-count-of = at-loop .before in
+    let s = at-count-of .before .before .before .before in
+    let a = s .args in
+    let l = at-loop .loop in
+    let M = memoryOf (now (a .work)) in
+    λ image e.
+    let C : Program = record { code = now (a .code); image = image } in
+    from-count C M (a .env) (a .w) _ _ _ _ (at-count-of .count-of .ensures)
+    (l .inv image e ∙ no-atom C M (a .env) (a .w) _ (l .i) (l .d) _ _ _ (at-loop-test .loop-test .taken) (child-in C (a .w) (l .i) _ (now (a .fields)) e (omega (arith, at-count-of .count-of .ensures)) (at-term-at .term-at .ensures)) (at-word-of .word-of .ensures) (at-class-of .class-of .ensures) (c .if1 .taken))
 
 atom-value-requires : tie.Need-atom-value-requires Inv-loop μ-loop
 atom-value-requires c κs = search needs
@@ -56,19 +70,34 @@ loop-less c = search needs
 
 loop-again : tie.Need-loop-again Inv-loop μ-loop
 loop-again c =
-    let at-if1 = c .before .before .before in
+    let at-body = c .before in
+    let at-atom-value = at-body .before in
+    let at-if1 = at-atom-value .before in
     let at-class-of = at-if1 .before in
-    let x = at-class-of .before .before in
-    let l = x .before .before .loop in
-    let a = x .before .before .before .before .before .before .before .args in
-    l .inv ∙ one-taken (record { code = now (a .code); image = now (a .image) }) (memoryOf (now (a .work))) (a .env) (a .w) _ (l .i) (l .d) _ _ _ (x .before .loop-test .taken) (x .child-at .ensures .0) refl (at-class-of .class-of .ensures) _ _ _ (at-if1 .if1 .left) (c .before .before .atom-value .ensures (record { code = now (a .code); image = now (a .image) })) (c .before .body .ensures) (c .with-digit .ensures)
+    let at-word-of = at-class-of .before in
+    let at-term-at = at-word-of .before in
+    let at-loop-test = at-term-at .before in
+    let at-loop = at-loop-test .before in
+    let at-count-of = at-loop .before in
+    let s = at-count-of .before .before .before .before in
+    let a = s .args in
+    let l = at-loop .loop in
+    let M = memoryOf (now (a .work)) in
+    λ image e.
+    let C : Program = record { code = now (a .code); image = image } in
+    l .inv image e ∙ one-taken C M (a .env) (a .w) _ (l .i) (l .d) _ _ _ (at-loop-test .loop-test .taken) (child-in C (a .w) (l .i) _ (now (a .fields)) e (omega (arith, at-count-of .count-of .ensures)) (at-term-at .term-at .ensures)) (at-word-of .word-of .ensures) (at-class-of .class-of .ensures) _ _ _ (at-if1 .if1 .left) (at-atom-value .atom-value .ensures C) (at-body .body .ensures) (c .with-digit .ensures)
 
 returns-2 : tie.Need-returns-2 Inv-loop μ-loop
 returns-2 c =
-    let start = c .before .before .before .before .before .before in
-    let l = c .before .loop in
-    let a = start .args in
-    from-count (record { code = now (a .code); image = now (a .image) }) (memoryOf (now (a .work))) (a .env) (a .w) _ _ _ _ (c .before .before .count-of .ensures) (l .inv ∙ none-left (record { code = now (a .code); image = now (a .image) }) (memoryOf (now (a .work))) (a .env) (a .w) _ (l .i) (l .d) (search needs))
+    let at-loop = c .before in
+    let at-count-of = at-loop .before in
+    let s = at-count-of .before .before .before .before in
+    let a = s .args in
+    let l = at-loop .loop in
+    let M = memoryOf (now (a .work)) in
+    λ image e.
+    let C : Program = record { code = now (a .code); image = image } in
+    from-count C M (a .env) (a .w) _ _ _ _ (at-count-of .count-of .ensures) (l .inv image e ∙ none-left C M (a .env) (a .w) _ (l .i) (l .d) (search needs))
 
 pub take-labels-spec : {M : Type 1} → statement M
 take-labels-spec =
@@ -78,9 +107,8 @@ take-labels-spec =
     μ-loop
     count-of-requires
     loop-holds
-    child-at-requires
-    mul-u
-    shared-slice-read-u
+    term-at-requires
+    word-of-requires
     class-of-requires
     returns
     atom-value-requires

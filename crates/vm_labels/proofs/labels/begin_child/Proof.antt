@@ -1,3 +1,6 @@
+use Rattle.vm_machine.specs.Fetch.{Program}
+use Rattle.vm_machine.specs.Turn.{Taken}
+use Rattle.vm_labels.proofs.Taking.{child-in}
 use Rattle.vm_labels.proofs.Labelling.{child-made}
 use denote.Ref.{now}
 use mathlib.Core.Path.{refl}
@@ -23,8 +26,8 @@ put-digits-requires c κs = search needs
 same-requires : tie.Need-same-requires
 same-requires c κs = search needs
 
-child-at-requires : tie.Need-child-at-requires
-child-at-requires c κs = search needs
+term-at-requires : tie.Need-term-at-requires
+term-at-requires c κs = search needs
 
 entry-from-requires : tie.Need-entry-from-requires
 entry-from-requires c κs = search needs
@@ -34,12 +37,17 @@ same-length c = search needs
 
 returns : tie.Need-returns
 returns c =
-    let at-put-digits = c .before .before .before .before .before in
-    let d = at-put-digits .before .before .before in
-    let s = d .before .before .before .before in
+    let at-term-at = c .before in
+    let at-same = at-term-at .before in
+    let at-put-digits = at-same .before .before .before in
+    let at-depth-of = at-put-digits .before .before .before in
+    let s = at-depth-of .before .before .before .before in
     let a = s .args in
-    child-made (record { code = now (a .code); image = now (a .image) }) (now (a .work)) _ (a .r) _ (a .w) _ _ _ _ (record { count = a .done .count; digits = a .done .digits })
-    (c .before .before .same .ensures) (d .depth-of .ensures) refl (search needs) (c .before .child-at .ensures .0) (c .entry-from .ensures .0 (now (a .image))) (at-put-digits .put-digits .ensures)
+    let k : Taken = record { count = a .done .count; digits = a .done .digits } in
+    λ image e.
+    let C : Program = record { code = now (a .code); image = image } in
+    child-made C (now (a .work)) _ (a .r) _ (a .w) _ _ _ _ k (at-same .same .ensures) (at-depth-of .depth-of .ensures) refl (search needs)
+    (child-in C (a .w) (k .count) _ (now (a .fields)) e (s .pre .6) (at-term-at .term-at .ensures)) (c .entry-from .ensures .0 image) (at-put-digits .put-digits .ensures)
 
 pub begin-child-spec : {M : Type 1} → statement M
 begin-child-spec =
@@ -51,7 +59,7 @@ begin-child-spec =
     add-put-digits
     put-digits-requires
     same-requires
-    child-at-requires
+    term-at-requires
     entry-from-requires
     same-length
     returns)

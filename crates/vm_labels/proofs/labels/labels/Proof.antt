@@ -1,7 +1,9 @@
+use Rattle.vm_machine.specs.Fetch.{Program}
+use mathlib.Core.Path.{sym, ap, subst, _∙_}
+use Rattle.vm_labels.specs.Parts.{isStrange}
 use Rattle.vm_labels.proofs.Labelling.{part-pc, part-env, part-room, labelled-on, room-on, strange-stuck}
 use denote.Ref.{now}
 use native.Mathlib.Omega.{arith}
-use mathlib.Core.Path.{sym, subst, _∙_}
 use Rattle.calculus.specs.Limits.{pieceLimit}
 use Rattle.vm_machine.specs.declared.Regs.{Regs}
 use Rattle.vm_machine.specs.Fits.{PoolFits}
@@ -13,14 +15,11 @@ use Rattle.vm_labels.proofs.labels.labels.Tie as tie
 part-of-requires : tie.Need-part-of-requires
 part-of-requires c κs = search needs
 
-mul-is-strange : tie.Need-mul-is-strange
-mul-is-strange c = let s = c .before .before .before .before .before in let a = s .args in let h = part-pc (record { code = now (a .code); image = now (a .image) }) (memoryOf (now (a .work))) (a .f) (a .r) _ (a .resumed) (c .part-of .ensures (now (a .image))) (s .pre .2) in omega (arith, h)
-
-shared-slice-read-is-strange : tie.Need-shared-slice-read-is-strange
-shared-slice-read-is-strange c =
-    let s = c .before .before .before .before .before .before in
+instruction-requires : tie.Need-instruction-requires
+instruction-requires c κs =
+    let s = c .before .before .before .before .before in
     let a = s .args in
-    let h = part-pc (record { code = now (a .code); image = now (a .image) }) (memoryOf (now (a .work))) (a .f) (a .r) _ (a .resumed) (c .before .part-of .ensures (now (a .image))) (s .pre .2) in
+    let h = part-pc (record { code = now (a .code); image = now (a .image) }) (memoryOf (now (a .work))) (a .f) (a .r) _ (a .resumed) (c .part-of .ensures (now (a .image))) (s .pre .2) in
     omega (arith, h, s .pre .0)
 
 is-strange-requires : tie.Need-is-strange-requires
@@ -34,25 +33,37 @@ same-length c = search needs
 
 returns : tie.Need-returns
 returns c =
-    let p = c .before .before .before .before in
-    let a = p .before .before .before .before .before .args in
-    strange-stuck (record { code = now (a .code); image = now (a .image) }) (now (a .work)) (now (a .work)) (a .r) _ (a .f) (p .part-of .result) (a .resumed) (p .part-of .ensures (now (a .image))) (sym (c .before .before .is-strange .ensures) ∙ c .before .if1 .taken) (c .stuck .ensures)
+    let at-if1 = c .before in
+    let at-is-strange = at-if1 .before in
+    let at-instruction = at-is-strange .before in
+    let at-part-of = at-instruction .before in
+    let s = at-part-of .before .before .before .before .before in
+    let a = s .args in
+    strange-stuck (record { code = now (a .code); image = now (a .image) }) (now (a .work)) (now (a .work)) (a .r) _ (a .f) (at-part-of .part-of .result) (a .resumed) (at-part-of .part-of .ensures (now (a .image))) (sym (at-is-strange .is-strange .ensures ∙ ap (isStrange (a .resumed)) (at-instruction .instruction .ensures)) ∙ at-if1 .if1 .taken) (c .stuck .ensures)
 
 same-requires : tie.Need-same-requires
 same-requires c κs = search needs
 
 labels-from-requires : tie.Need-labels-from-requires
 labels-from-requires c κs =
-    let p = c .before .before .before .before .before in
-    let s = p .before .before .before .before .before in
-    let a = s .args in (
+    let at-same = c .before in
+    let at-if1 = at-same .before in
+    let at-is-strange = at-if1 .before in
+    let at-instruction = at-is-strange .before in
+    let at-part-of = at-instruction .before in
+    let s = at-part-of .before .before .before .before .before in
+    let a = s .args in
+    let C : Program = record { code = now (a .code); image = now (a .image) } in
+    let M = memoryOf (now (a .work)) in
+    let p = at-part-of .part-of .result in
+    let e = at-part-of .part-of .ensures (now (a .image)) in (
       s .pre .0,
       s .pre .1,
-      part-pc (record { code = now (a .code); image = now (a .image) }) (memoryOf (now (a .work))) (a .f) (a .r) (p .part-of .result) (a .resumed) (p .part-of .ensures (now (a .image))) (s .pre .2),
-      part-env (record { code = now (a .code); image = now (a .image) }) (memoryOf (now (a .work))) (a .f) (a .r) (p .part-of .result) (a .resumed) (p .part-of .ensures (now (a .image))) (s .pre .3),
-      part-room (record { code = now (a .code); image = now (a .image) }) (memoryOf (now (a .work))) (a .f) (a .r) (p .part-of .result) (a .resumed) (p .part-of .ensures (now (a .image))) (s .pre .4) (s .pre .5),
-      subst (λ (x : Regs). PoolFits pieceLimit (x .pools .pieces)) (sym (c .before .same .ensures)) (s .pre .6),
-      room-on (record { code = now (a .code); image = now (a .image) }) (now (a .work)) (now (a .work)) (a .r) (a .r) (a .f) (p .part-of .result) (a .resumed) (p .part-of .ensures (now (a .image))) _ (c .before .same .ensures) (sym (c .before .before .before .is-strange .ensures) ∙ c .before .before .if1 .left) (s .pre .7),
+      part-pc C M (a .f) (a .r) p (a .resumed) e (s .pre .2),
+      part-env C M (a .f) (a .r) p (a .resumed) e (s .pre .3),
+      part-room C M (a .f) (a .r) p (a .resumed) e (s .pre .4) (s .pre .5),
+      subst (λ (x : Regs). PoolFits pieceLimit (x .pools .pieces)) (sym (at-same .same .ensures)) (s .pre .6),
+      room-on C (now (a .work)) (now (a .work)) (a .r) (a .r) (a .f) p (a .resumed) e _ (at-same .same .ensures) (sym (at-is-strange .is-strange .ensures ∙ ap (isStrange (a .resumed)) (at-instruction .instruction .ensures)) ∙ at-if1 .if1 .left) (s .pre .7),
     )
 
 same-length-2 : tie.Need-same-length-2
@@ -60,20 +71,22 @@ same-length-2 c = search needs
 
 returns-2 : tie.Need-returns-2
 returns-2 c =
-    let at-same = c .before .before .before .before in
+    let at-labels-from = c .before .before in
+    let at-same = at-labels-from .before .before in
     let at-if1 = at-same .before in
     let at-is-strange = at-if1 .before in
-    let p = at-is-strange .before .before in
-    let a = p .before .before .before .before .before .args in
-    labelled-on (record { code = now (a .code); image = now (a .image) }) (now (a .work)) _ (a .r) _ (a .f) (p .part-of .result) (a .resumed) (p .part-of .ensures (now (a .image))) _ (at-same .same .ensures) (sym (at-is-strange .is-strange .ensures) ∙ at-if1 .if1 .left) (c .before .before .labels-from .ensures)
+    let at-instruction = at-is-strange .before in
+    let at-part-of = at-instruction .before in
+    let s = at-part-of .before .before .before .before .before in
+    let a = s .args in
+    labelled-on (record { code = now (a .code); image = now (a .image) }) (now (a .work)) _ (a .r) _ (a .f) (at-part-of .part-of .result) (a .resumed) (at-part-of .part-of .ensures (now (a .image))) _ (at-same .same .ensures) (sym (at-is-strange .is-strange .ensures ∙ ap (isStrange (a .resumed)) (at-instruction .instruction .ensures)) ∙ at-if1 .if1 .left) (at-labels-from .labels-from .ensures)
 
 pub labels-spec : {M : Type 1} → statement M
 labels-spec =
     tie.close
     (tie.spec
     part-of-requires
-    mul-is-strange
-    shared-slice-read-is-strange
+    instruction-requires
     is-strange-requires
     stuck-requires
     same-length

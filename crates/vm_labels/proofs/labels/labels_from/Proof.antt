@@ -1,14 +1,16 @@
+use Rattle.vm_machine.specs.Fetch.{Program}
+use Rattle.vm_machine.specs.Turn.{Taken}
 use Rattle.vm_labels.proofs.Labelling.{all-done, all-room, no-room, one-begun}
 use denote.Ref.{now}
 use borrow.Author.Needs.{needs}
 use Rattle.vm_labels.proofs.labels.labels_from.Statement.{statement}
 use Rattle.vm_labels.proofs.labels.labels_from.Tie as tie
 
-mul-w : tie.Need-mul-w
-mul-w c = search needs
+instruction-requires : tie.Need-instruction-requires
+instruction-requires c κs = search needs
 
-shared-slice-read-w : tie.Need-shared-slice-read-w
-shared-slice-read-w c = search needs
+child-fields-requires : tie.Need-child-fields-requires
+child-fields-requires c κs = search needs
 
 take-labels-requires : tie.Need-take-labels-requires
 take-labels-requires c κs = search needs
@@ -18,21 +20,33 @@ count-of-requires c κs = search needs
 
 make-pointcut-requires : tie.Need-make-pointcut-requires
 make-pointcut-requires c κs =
-    let t = c .before .before .before .before in
-    let s = t .before .before .before .before .before .before in
+    let at-if1 = c .before in
+    let at-count-of = at-if1 .before .before in
+    let at-take-labels = at-count-of .before in
+    let at-child-fields = at-take-labels .before .before in
+    let at-instruction = at-child-fields .before in
+    let s = at-instruction .before .before .before .before in
     let a = s .args in
-    (s .pre .1, all-room (record { code = now (a .code); image = now (a .image) }) (now (a .work)) (now (a .work)) (a .r) (a .r) (a .r .pc) (a .from .count) (a .from .digits) (record { count = t .take-labels .result .count; digits = t .take-labels .result .digits }) (t .take-labels .ensures) _ (c .before .before .before .count-of .ensures) (c .before .if1 .taken) (s .pre .6 .0) (s .pre .6 .1), s .pre .5)
+    let C : Program = record { code = now (a .code); image = now (a .image) } in
+    let k : Taken = record { count = at-take-labels .take-labels .result .count; digits = at-take-labels .take-labels .result .digits } in
+    (s .pre .1, all-room C (now (a .work)) (now (a .work)) (a .r) (a .r) (a .r .pc) (a .from .count) (a .from .digits) _ (at-instruction .instruction .ensures) k (at-take-labels .take-labels .ensures (now (a .image)) (at-child-fields .child-fields .ensures)) _ (at-count-of .count-of .ensures) (at-if1 .if1 .taken) (s .pre .6 .0) (s .pre .6 .1), s .pre .5)
 
 same-length : tie.Need-same-length
 same-length c = search needs
 
 returns : tie.Need-returns
 returns c =
-    let at-if1 = c .before .before .before .before in
+    let at-make-pointcut = c .before .before in
+    let at-if1 = at-make-pointcut .before .before in
     let at-count-of = at-if1 .before .before in
-    let t = at-count-of .before in
-    let a = t .before .before .before .before .before .before .args in
-    all-done (record { code = now (a .code); image = now (a .image) }) (now (a .work)) _ (a .r) _ (a .r .pc) (a .from .count) (a .from .digits) (record { count = t .take-labels .result .count; digits = t .take-labels .result .digits }) (t .take-labels .ensures) _ (at-count-of .count-of .ensures) (at-if1 .if1 .taken) (c .before .before .make-pointcut .ensures)
+    let at-take-labels = at-count-of .before in
+    let at-child-fields = at-take-labels .before .before in
+    let at-instruction = at-child-fields .before in
+    let s = at-instruction .before .before .before .before in
+    let a = s .args in
+    let C : Program = record { code = now (a .code); image = now (a .image) } in
+    let k : Taken = record { count = at-take-labels .take-labels .result .count; digits = at-take-labels .take-labels .result .digits } in
+    all-done C (now (a .work)) _ (a .r) _ (a .r .pc) (a .from .count) (a .from .digits) _ (at-instruction .instruction .ensures) k (at-take-labels .take-labels .ensures (now (a .image)) (at-child-fields .child-fields .ensures)) _ (at-count-of .count-of .ensures) (at-if1 .if1 .taken) (at-make-pointcut .make-pointcut .ensures)
 
 depth-of-requires : tie.Need-depth-of-requires
 depth-of-requires c κs = search needs
@@ -48,12 +62,18 @@ same-length-2 c = search needs
 
 returns-2 : tie.Need-returns-2
 returns-2 c =
-    let at-depth-of = c .before .before .before in
+    let at-if2 = c .before in
+    let at-depth-of = at-if2 .before .before in
     let at-if1 = at-depth-of .before in
     let at-count-of = at-if1 .before .before in
-    let t = at-count-of .before in
-    let a = t .before .before .before .before .before .before .args in
-    no-room (record { code = now (a .code); image = now (a .image) }) (now (a .work)) (now (a .work)) (a .r) _ (a .r .pc) (a .from .count) (a .from .digits) (record { count = t .take-labels .result .count; digits = t .take-labels .result .digits }) (t .take-labels .ensures) _ (at-count-of .count-of .ensures) (at-if1 .if1 .left) _ (at-depth-of .depth-of .ensures) (c .before .if2 .taken) (c .halt .ensures)
+    let at-take-labels = at-count-of .before in
+    let at-child-fields = at-take-labels .before .before in
+    let at-instruction = at-child-fields .before in
+    let s = at-instruction .before .before .before .before in
+    let a = s .args in
+    let C : Program = record { code = now (a .code); image = now (a .image) } in
+    let k : Taken = record { count = at-take-labels .take-labels .result .count; digits = at-take-labels .take-labels .result .digits } in
+    no-room C (now (a .work)) (now (a .work)) (a .r) _ (a .r .pc) (a .from .count) (a .from .digits) _ (at-instruction .instruction .ensures) k (at-take-labels .take-labels .ensures (now (a .image)) (at-child-fields .child-fields .ensures)) _ (at-count-of .count-of .ensures) (at-if1 .if1 .left) _ (at-depth-of .depth-of .ensures) (at-if2 .if2 .taken) (c .halt .ensures)
 
 begin-child-requires : tie.Need-begin-child-requires
 begin-child-requires c κs = search needs
@@ -63,20 +83,26 @@ same-length-3 c = search needs
 
 returns-3 : tie.Need-returns-3
 returns-3 c =
-    let at-if2 = c .before .before .before .before in
+    let at-begin-child = c .before .before in
+    let at-if2 = at-begin-child .before .before in
     let at-depth-of = at-if2 .before .before in
     let at-if1 = at-depth-of .before in
     let at-count-of = at-if1 .before .before in
-    let t = at-count-of .before in
-    let a = t .before .before .before .before .before .before .args in
-    one-begun (record { code = now (a .code); image = now (a .image) }) (now (a .work)) _ (a .r) _ (a .r .pc) (a .from .count) (a .from .digits) (record { count = t .take-labels .result .count; digits = t .take-labels .result .digits }) (t .take-labels .ensures) _ (at-count-of .count-of .ensures) (at-if1 .if1 .left) _ (at-depth-of .depth-of .ensures) (at-if2 .if2 .left) (c .before .before .begin-child .ensures)
+    let at-take-labels = at-count-of .before in
+    let at-child-fields = at-take-labels .before .before in
+    let at-instruction = at-child-fields .before in
+    let s = at-instruction .before .before .before .before in
+    let a = s .args in
+    let C : Program = record { code = now (a .code); image = now (a .image) } in
+    let k : Taken = record { count = at-take-labels .take-labels .result .count; digits = at-take-labels .take-labels .result .digits } in
+    one-begun C (now (a .work)) _ (a .r) _ (a .r .pc) (a .from .count) (a .from .digits) _ (at-instruction .instruction .ensures) k (at-take-labels .take-labels .ensures (now (a .image)) (at-child-fields .child-fields .ensures)) _ (at-count-of .count-of .ensures) (at-if1 .if1 .left) _ (at-depth-of .depth-of .ensures) (at-if2 .if2 .left) (at-begin-child .begin-child .ensures (now (a .image)) (at-child-fields .child-fields .ensures))
 
 pub labels-from-spec : {M : Type 1} → statement M
 labels-from-spec =
     tie.close
     (tie.spec
-    mul-w
-    shared-slice-read-w
+    instruction-requires
+    child-fields-requires
     take-labels-requires
     count-of-requires
     make-pointcut-requires

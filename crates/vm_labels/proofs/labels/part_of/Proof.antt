@@ -1,3 +1,5 @@
+use mathlib.Core.Path.{ap, _∙_}
+use Rattle.vm_code.specs.Words.{depthOf}
 use Rattle.vm_labels.proofs.Labelling.{few-digits, resumed-part, begun-part}
 use denote.Ref.{now}
 use native.Mathlib.Omega.{arith}
@@ -10,7 +12,10 @@ slot-pc-requires : tie.Need-slot-pc-requires
 slot-pc-requires c κs = search needs
 
 digits-at-requires : tie.Need-digits-at-requires
-digits-at-requires c κs = let s = c .before .before .before .before in (s .pre .1, s .pre .3 (c .before .if1 .taken))
+digits-at-requires c κs =
+    let at-if1 = c .before in
+    let s = at-if1 .before .before .before in
+    (s .pre .1, s .pre .3 (at-if1 .if1 .taken))
 
 digit-count-requires : tie.Need-digit-count-requires
 digit-count-requires c κs = search needs
@@ -27,30 +32,32 @@ with-digit-requires c κs = search needs
 slot-env-requires : tie.Need-slot-env-requires
 slot-env-requires c κs = search needs
 
-mul-depth-of : tie.Need-mul-depth-of
-mul-depth-of c = search needs
-
-shared-slice-read-depth-of : tie.Need-shared-slice-read-depth-of
-shared-slice-read-depth-of c = search needs
+instruction-requires : tie.Need-instruction-requires
+instruction-requires c κs = search needs
 
 depth-of-requires : tie.Need-depth-of-requires
 depth-of-requires c κs = search needs
 
-add-t19 : tie.Need-add-t19
-add-t19 c = search needs
+add-t17 : tie.Need-add-t17
+add-t17 c = search needs
 
-add-t20 : tie.Need-add-t20
-add-t20 c = search needs
+add-t18 : tie.Need-add-t18
+add-t18 c = search needs
 
 returns : tie.Need-returns
 returns c =
-    let at-slot-env = c .before .before .before in
+    let at-depth-of = c .before in
+    let at-instruction = at-depth-of .before in
+    let at-slot-env = at-instruction .before in
     let at-with-digit = at-slot-env .before in
     let at-body = at-with-digit .before in
     let at-digit-count = at-body .before in
-    let d = at-digit-count .before in
-    let a = d .before .before .before .before .before .args in
-    λ image. resumed-part (record { code = now (a .code); image = image }) (memoryOf (now (a .work))) (a .resumed) (a .f) (a .r) _ _ _ _ _ _ _ (d .before .before .if1 .taken) (d .before .slot-pc .ensures) (at-slot-env .slot-env .ensures) (d .digits-at .ensures) (at-digit-count .digit-count .ensures) (at-body .body .ensures) (at-with-digit .with-digit .ensures) (c .before .depth-of .ensures)
+    let at-digits-at = at-digit-count .before in
+    let at-slot-pc = at-digits-at .before in
+    let at-if1 = at-slot-pc .before in
+    let s = at-if1 .before .before .before in
+    let a = s .args in
+    λ image. resumed-part (record { code = now (a .code); image = image }) (memoryOf (now (a .work))) (a .resumed) (a .f) (a .r) _ _ _ _ _ _ _ (at-if1 .if1 .taken) (at-slot-pc .slot-pc .ensures) (at-slot-env .slot-env .ensures) (at-digits-at .digits-at .ensures) (at-digit-count .digit-count .ensures) (at-body .body .ensures) (at-with-digit .with-digit .ensures) (at-depth-of .depth-of .ensures ∙ ap depthOf (at-instruction .instruction .ensures))
 
 returns-2 : tie.Need-returns-2
 returns-2 c = let a = c .before .before .before .args in λ image. begun-part (record { code = now (a .code); image = image }) (memoryOf (now (a .work))) (a .resumed) (a .f) (a .r) (c .if1 .left)
@@ -66,10 +73,9 @@ part-of-spec =
     body-requires
     with-digit-requires
     slot-env-requires
-    mul-depth-of
-    shared-slice-read-depth-of
+    instruction-requires
     depth-of-requires
-    add-t19
-    add-t20
+    add-t17
+    add-t18
     returns
     returns-2)

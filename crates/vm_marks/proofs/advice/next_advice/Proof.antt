@@ -39,35 +39,35 @@ returns-2 c =
 slot-pc-requires : tie.Need-slot-pc-requires
 slot-pc-requires c κs = search needs
 
-mul-mark-left : tie.Need-mul-mark-left
-mul-mark-left c = search needs
-
-shared-slice-read-mark-left : tie.Need-shared-slice-read-mark-left
-shared-slice-read-mark-left c = search needs
+instruction-requires : tie.Need-instruction-requires
+instruction-requires c κs = search needs
 
 mark-left-requires : tie.Need-mark-left-requires
 mark-left-requires c κs =
-    let at-if2 = c .before .before .before in
+    let at-slot-pc = c .before in
+    let at-if2 = at-slot-pc .before .before in
     let at-end-binding = at-if2 .before in
     let at-next-binding = at-end-binding .before in
     let at-if1 = at-next-binding .before in
-    let start = at-if1 .before .before .before .before in
-    let a = start .args in
-    (search needs, room-of-mark (record { code = now (a .code); image = [] }) (now (a .work)) (now (a .work)) (a .r) (a .r) (a .f) (at-if1 .if1 .left) _ _ (at-next-binding .next-binding .ensures) (at-end-binding .end-binding .ensures) _ [] (at-if2 .if2 .left) (c .before .slot-pc .ensures) (start .pre .3 [] []), search needs)
+    let s = at-if1 .before .before .before .before in
+    let a = s .args in
+    (search needs, room-of-mark (record { code = now (a .code); image = [] }) (now (a .work)) (now (a .work)) (a .r) (a .r) (a .f) (at-if1 .if1 .left) _ _ (at-next-binding .next-binding .ensures) (at-end-binding .end-binding .ensures) _ _ [] (at-if2 .if2 .left) (at-slot-pc .slot-pc .ensures) (c .instruction .ensures) (s .pre .3 [] []), search needs)
 
 same-length-2 : tie.Need-same-length-2
 same-length-2 c = c .before .before .mark-left .kept .0
 
 returns-3 : tie.Need-returns-3
 returns-3 c =
-    let at-slot-pc = c .before .before .before .before in
+    let at-mark-left = c .before .before in
+    let at-instruction = at-mark-left .before in
+    let at-slot-pc = at-instruction .before in
     let at-if2 = at-slot-pc .before .before in
     let at-end-binding = at-if2 .before in
     let at-next-binding = at-end-binding .before in
     let at-if1 = at-next-binding .before in
-    let start = at-if1 .before .before .before .before in
-    let a = start .args in
-    λ image. advice-done (record { code = now (a .code); image = image }) (now (a .work)) _ (a .r) _ (a .f) (at-if1 .if1 .left) _ _ (at-next-binding .next-binding .ensures) (at-end-binding .end-binding .ensures) _ (at-if2 .if2 .left) (at-slot-pc .slot-pc .ensures) (c .before .before .mark-left .ensures)
+    let s = at-if1 .before .before .before .before in
+    let a = s .args in
+    λ image. advice-done (record { code = now (a .code); image = image }) (now (a .work)) _ (a .r) _ (a .f) (at-if1 .if1 .left) _ _ (at-next-binding .next-binding .ensures) (at-end-binding .end-binding .ensures) _ _ (at-if2 .if2 .left) (at-slot-pc .slot-pc .ensures) (at-instruction .instruction .ensures) (at-mark-left .mark-left .ensures)
 
 pub next-advice-spec : {M : Type 1} → statement M
 next-advice-spec =
@@ -82,8 +82,7 @@ next-advice-spec =
     same-length
     returns-2
     slot-pc-requires
-    mul-mark-left
-    shared-slice-read-mark-left
+    instruction-requires
     mark-left-requires
     same-length-2
     returns-3)

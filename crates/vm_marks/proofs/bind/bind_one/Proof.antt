@@ -1,8 +1,9 @@
+use mathlib.Core.Bool.{Bool}
+use mathlib.Core.Path.{_≡_, ap, _∙_}
+use Rattle.vm_pools.specs.Pools.{charge, whole}
 use denote.Ref.{now}
 use native.Mathlib.Omega.{arith}
 use Prim.Native.Nat.{_+_}
-use mathlib.Core.Path.{_≡_}
-use Rattle.vm_pools.specs.Pools.{isMainline, whole}
 use Rattle.vm_marks.proofs.Matched.{one-bound, other-bound, one-more}
 use borrow.Author.Needs.{needs}
 use Rattle.vm_marks.proofs.bind.bind_one.Statement.{statement}
@@ -29,25 +30,32 @@ bind-advice-requires c κs = search needs
 advice-dom-requires : tie.Need-advice-dom-requires
 advice-dom-requires c κs = search needs
 
+is-mainline-requires : tie.Need-is-mainline-requires
+is-mainline-requires c κs = search needs
+
 charge-requires : tie.Need-charge-requires
 charge-requires c κs = search needs
 
 same-length : tie.Need-same-length
-same-length c = c .before .before .before .before .bind-advice .kept .0
+same-length c =
+    let at-bind-advice = c .before .before .before .before .before in
+    at-bind-advice .bind-advice .kept .0
 
 returns : tie.Need-returns
 returns c =
-    let at-bind-advice = c .before .before .before .before in
+    let at-is-mainline = c .before in
+    let at-advice-dom = at-is-mainline .before in
+    let at-bind-advice = at-advice-dom .before .before .before in
     let at-whole = at-bind-advice .before in
     let at-piece-first = at-whole .before .before in
     let at-if1 = at-piece-first .before .before in
     let at-has-bit = at-if1 .before in
     let at-piece-second = at-has-bit .before in
     let at-installed-at = at-piece-second .before .before in
-    let start = at-installed-at .before .before .before in
-    let a = start .args in
-    let n : whole (c .charge .result) ≡ whole (a .b) + 1 = one-more (isMainline (c .before .advice-dom .result)) (a .b) _ (c .charge .ensures) in
-    (one-bound (now (a .work)) (a .l) (a .v) (a .i) (a .b) _ _ _ (at-installed-at .installed-at .ensures) (at-piece-second .piece-second .ensures) (at-has-bit .has-bit .ensures) _ _ _ _ _ (at-if1 .if1 .taken) (at-piece-first .piece-first .ensures) (at-whole .whole .ensures) (c .before .advice-dom .ensures) (at-bind-advice .bind-advice .ensures) (c .charge .ensures), omega (arith, n), omega (arith, n))
+    let s = at-installed-at .before .before .before in
+    let a = s .args in
+    let n : whole (c .charge .result) ≡ whole (a .b) + 1 = one-more (at-is-mainline .is-mainline .result) (a .b) _ (c .charge .ensures) in
+    (one-bound (now (a .work)) (a .l) (a .v) (a .i) (a .b) _ _ _ (at-installed-at .installed-at .ensures) (at-piece-second .piece-second .ensures) (at-has-bit .has-bit .ensures) _ _ _ _ _ (at-if1 .if1 .taken) (at-piece-first .piece-first .ensures) (at-whole .whole .ensures) (at-advice-dom .advice-dom .ensures) (at-bind-advice .bind-advice .ensures) (c .charge .ensures ∙ ap (λ (h : Bool). charge h 1 (a .b)) (at-is-mainline .is-mainline .ensures)), omega (arith, n), omega (arith, n))
 
 same-length-2 : tie.Need-same-length-2
 same-length-2 c = search needs
@@ -70,6 +78,7 @@ bind-one-spec =
     whole-requires
     bind-advice-requires
     advice-dom-requires
+    is-mainline-requires
     charge-requires
     same-length
     returns

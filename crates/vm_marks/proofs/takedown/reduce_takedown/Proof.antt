@@ -11,8 +11,8 @@ use borrow.Author.Needs.{needs}
 use Rattle.vm_marks.proofs.takedown.reduce_takedown.Statement.{statement}
 use Rattle.vm_marks.proofs.takedown.reduce_takedown.Tie as tie
 
-field-b-requires : tie.Need-field-b-requires
-field-b-requires c κs = search needs
+takedown-domain-requires : tie.Need-takedown-domain-requires
+takedown-domain-requires c κs = search needs
 
 stay-others-requires : tie.Need-stay-others-requires
 stay-others-requires c κs = search needs
@@ -36,17 +36,19 @@ same-length c =
 
 returns : tie.Need-returns
 returns c =
-    let at-same = c .before .before .before .before in
+    let at-given = c .before .before in
+    let at-same = at-given .before .before in
     let at-stay-others = at-same .before .before .before in
-    let at-field-b = at-stay-others .before in
-    let s = at-field-b .before .before .before in
-    takedown-made (now (s .args .work)) _ _ (s .args .r) _ _ (s .args .w) _ _ (s .pre .1) (at-field-b .field-b .ensures) (at-stay-others .stay-others .ensures) (at-same .same .ensures) (c .before .before .given .ensures)
+    let at-takedown-domain = at-stay-others .before in
+    let s = at-takedown-domain .before .before .before in
+    let a = s .args in
+    takedown-made (now (a .work)) _ _ (a .r) _ _ (a .w) _ _ (s .pre .1) (at-takedown-domain .takedown-domain .ensures) (at-stay-others .stay-others .ensures) (at-same .same .ensures) (at-given .given .ensures)
 
 pub reduce-takedown-spec : {M : Type 1} → statement M
 reduce-takedown-spec =
     tie.close
     (tie.spec
-    field-b-requires
+    takedown-domain-requires
     stay-others-requires
     same-requires
     given-requires

@@ -19,10 +19,12 @@ same-length c = search needs
 
 returns : tie.Need-returns
 returns c =
-    let at-installed-at = c .before .before .before .before in
-    let start = at-installed-at .before .before .before in
-    let a = start .args in
-    (one-goes (now (a .work)) (a .d) (a .i) (a .n) _ _ _ (at-installed-at .installed-at .ensures) (c .before .before .piece-first .ensures) (c .before .advice-dom .ensures) (c .if1 .taken), omega arith)
+    let at-advice-dom = c .before .before .before in
+    let at-piece-first = at-advice-dom .before in
+    let at-installed-at = at-piece-first .before .before in
+    let s = at-installed-at .before .before .before in
+    let a = s .args in
+    (one-goes (now (a .work)) (a .d .0) (a .i) (a .n) _ _ _ (at-installed-at .installed-at .ensures) (at-piece-first .piece-first .ensures) (at-advice-dom .advice-dom .ensures) (c .if1 .taken), omega arith)
 
 put-installed-requires : tie.Need-put-installed-requires
 put-installed-requires c κs = search needs
@@ -35,13 +37,14 @@ same-length-2 c = c .before .before .put-installed .kept .0
 
 returns-2 : tie.Need-returns-2
 returns-2 c =
-    let at-if1 = c .before .before .before .before in
-    let at-advice-dom = at-if1 .before in
+    let at-put-installed = c .before .before in
+    let at-if1 = at-put-installed .before .before in
+    let at-advice-dom = at-if1 .before .before .before in
     let at-piece-first = at-advice-dom .before in
     let at-installed-at = at-piece-first .before .before in
-    let start = at-installed-at .before .before .before in
-    let a = start .args in
-    (one-stays (now (a .work)) (a .d) (a .i) (a .n) _ _ _ (at-installed-at .installed-at .ensures) (at-piece-first .piece-first .ensures) (at-advice-dom .advice-dom .ensures) _ (at-if1 .if1 .left) (c .before .before .put-installed .ensures), omega arith)
+    let s = at-installed-at .before .before .before in
+    let a = s .args in
+    (one-stays (now (a .work)) (a .d .0) (a .i) (a .n) _ _ _ (at-installed-at .installed-at .ensures) (at-piece-first .piece-first .ensures) (at-advice-dom .advice-dom .ensures) _ (at-if1 .if1 .left) (at-put-installed .put-installed .ensures), omega arith)
 
 pub stay-one-spec : {M : Type 1} → statement M
 stay-one-spec =

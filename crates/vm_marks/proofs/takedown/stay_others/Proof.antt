@@ -13,7 +13,7 @@ use Rattle.vm_marks.proofs.takedown.stay_others.Tie as tie
 
 abbrev Inv-loop : tie.InvT-loop
 Inv-loop work₀ n d m₀ i₀ work m i =
-    (i ≤ n) × (length work ≡ length work₀) × (m ≤ i) × (drop memoryLength work ≡ drop memoryLength work₀) × (stayOthers n 0 d (boundIn work₀ 0) ≡ stayOthers (n - i) i d (boundIn work m))
+    (i ≤ n) × (length work ≡ length work₀) × (m ≤ i) × (drop memoryLength work ≡ drop memoryLength work₀) × (stayOthers n 0 (d .0) (boundIn work₀ 0) ≡ stayOthers (n - i) i (d .0) (boundIn work m))
 
 abbrev μ-loop : tie.MeasureT-loop
 μ-loop work₀ n d m₀ i₀ work m i = n - i
@@ -32,23 +32,28 @@ loop-less c = search needs
 
 loop-again : tie.Need-loop-again Inv-loop μ-loop
 loop-again c =
-    let at-loop-test = c .before .before .before .before in
+    let at-stay-one = c .before .before in
+    let at-loop-test = at-stay-one .before .before in
     let at-loop = at-loop-test .before in
-    let start = at-loop .before .before in
-    let a = start .args in
+    let s = at-loop .before .before in
+    let a = s .args in
     let l = at-loop .loop in (
       omega arith,
       search needs,
       omega arith,
-      c .before .before .stay-one .ensures .0 .memory .rest ∙ l .inv .3,
-      l .inv .4 ∙ stay-on (a .n) (l .i) (a .d) _ _ _ _ (at-loop-test .loop-test .taken) (c .before .before .stay-one .ensures .0),
+      at-stay-one .stay-one .ensures .0 .memory .rest ∙ l .inv .3,
+      l .inv .4 ∙ stay-on (a .n) (l .i) (a .d .0) _ _ _ _ (at-loop-test .loop-test .taken) (at-stay-one .stay-one .ensures .0),
     )
 
 same-length : tie.Need-same-length Inv-loop μ-loop
 same-length c = search needs
 
 returns : tie.Need-returns Inv-loop μ-loop
-returns c = let a = c .before .before .before .args in let l = c .before .loop in stay-done _ (a .n) (l .i) (a .d) (now (a .work)) _ _ (c .loop-test .left) (l .inv .4) (l .inv .3)
+returns c =
+    let at-loop = c .before in
+    let s = at-loop .before .before in
+    let a = s .args in
+    let l = at-loop .loop in stay-done _ (a .n) (l .i) (a .d .0) (now (a .work)) _ _ (c .loop-test .left) (l .inv .4) (l .inv .3)
 
 pub stay-others-spec : {M : Type 1} → statement M
 stay-others-spec =

@@ -1,29 +1,37 @@
 use denote.Ref.{now}
 use mathlib.Core.Path.{_≡_, refl, _∙_}
 use native.Mathlib.Omega.{arith}
-use Prim.Native.Nat.{ℕ, _+_, _-_, _≤_, _<_}
+use Prim.Native.Nat.{_+_, _-_, _≤_, _<_}
 use Rattle.base_bytes.specs.Memory.{memoryLength}
 use lib.ListN.{length, drop}
-use mathlib.Core.List.{List, []}
 use Rattle.vm_code.specs.Words.{countOf}
+use Rattle.vm_machine.specs.Fetch.{Program}
 use Rattle.vm_machine.specs.Stacks.{variables, bindEntries}
-use Rattle.vm_matches.specs.Parts.{chainIn}
+use Rattle.vm_matches.specs.Parts.{matchFields, entryIn, chainIn}
+use Rattle.vm_matches.proofs.Fields.{entry-of}
 use Rattle.vm_matches.proofs.Binding.{room-start, bound-start, bound-on, bound-done, room-here, room-on, room-left}
 use borrow.Author.Needs.{needs}
 use Rattle.vm_matches.proofs.bindings.bind_entries.Statement.{statement}
 use Rattle.vm_matches.proofs.bindings.bind_entries.Tie as tie
 
 abbrev Inv-loop : tie.InvT-loop
-Inv-loop image work₀ w v n rest₀ b₀ i₀ work rest b i = (i ≤ n) × (length work ≡ length work₀) × (drop memoryLength work ≡ drop memoryLength work₀) × (b .env < 2048) × ((code : List ℕ) → b .count + variables (record { code = code; image = image }) w (n - i) i ≤ 2048) × ((code : List ℕ) → bindEntries (record { code = code; image = image }) w (countOf w) 0 v (chainIn work₀ b₀) ≡ bindEntries (record { code = code; image = image }) w (n - i) i rest (chainIn work b))
+Inv-loop fields work₀ w v n rest₀ b₀ i₀ work rest b i =
+    (i ≤ n) × (length work ≡ length work₀) × (drop memoryLength work ≡ drop memoryLength work₀) × (b .env < 2048)
+    × ((C : Program) × (fields ≡ matchFields (C .image) w) × (b .count + variables C w (n - i) i ≤ 2048))
+    × ((C : Program) → fields ≡ matchFields (C .image) w → bindEntries C w (countOf w) 0 v (chainIn work₀ b₀) ≡ bindEntries C w (n - i) i rest (chainIn work b))
 
 abbrev μ-loop : tie.MeasureT-loop
-μ-loop image work₀ w v n rest₀ b₀ i₀ work rest b i = n - i
+μ-loop fields work₀ w v n rest₀ b₀ i₀ work rest b i = n - i
 
 count-of-requires : tie.Need-count-of-requires Inv-loop μ-loop
 count-of-requires c κs = search needs
 
 loop-holds : tie.Need-loop-holds Inv-loop μ-loop
-loop-holds c = let s = c .before .before .before in let a = s .args in (omega arith, refl, refl, s .pre .1, (λ code. room-start (record { code = code; image = now (a .image) }) (a .w) _ (a .from .count) (c .count-of .ensures) (s .pre .2 code)), (λ code. bound-start (record { code = code; image = now (a .image) }) (a .w) _ (a .v) _ (c .count-of .ensures)))
+loop-holds c =
+    let s = c .before .before .before in
+    let a = s .args in
+    let p = s .pre .2 in
+    (omega arith, refl, refl, s .pre .1, (p .0, p .1, room-start (p .0) (a .w) _ (a .from .count) (c .count-of .ensures) (p .2)), (λ C e. bound-start C (a .w) _ (a .v) _ (c .count-of .ensures)))
 
 rest-of-requires : tie.Need-rest-of-requires Inv-loop μ-loop
 rest-of-requires c κs = search needs
@@ -32,10 +40,13 @@ bind-entry-requires : tie.Need-bind-entry-requires Inv-loop μ-loop
 bind-entry-requires c κs =
     let at-loop-test = c .before .before .before in
     let at-loop = at-loop-test .before in
-    let start = at-loop .before .before .before .before in
-    let a = start .args in
+    let at-count-of = at-loop .before in
+    let s = at-count-of .before .before .before in
+    let a = s .args in
     let l = at-loop .loop in
-    (search needs, search needs, l .inv .3, (λ code. room-here (record { code = code; image = now (a .image) }) (a .w) _ (l .i) (l .b .count) (l .inv .4 code) (at-loop-test .loop-test .taken)))
+    let p = l .inv .4 in
+    let e = entry-of (p .0) (a .w) (now (a .fields)) (p .1) (l .i) _ (omega (arith, at-count-of .count-of .ensures)) refl in
+    (search needs, search needs, l .inv .3, room-here (p .0) (a .w) _ (l .i) (l .b .count) (p .2) (entryIn (now (a .fields)) (l .i)) e (at-loop-test .loop-test .taken))
 
 add-i : tie.Need-add-i Inv-loop μ-loop
 add-i c = search needs
@@ -45,34 +56,49 @@ loop-less c = search needs
 
 loop-again : tie.Need-loop-again Inv-loop μ-loop
 loop-again c =
-    let at-rest-of = c .before .before .before .before in
+    let at-bind-entry = c .before .before in
+    let at-rest-of = at-bind-entry .before .before in
     let at-loop-test = at-rest-of .before .before in
     let at-loop = at-loop-test .before in
-    let start = at-loop .before .before .before .before in
-    let a = start .args in
+    let at-count-of = at-loop .before in
+    let s = at-count-of .before .before .before in
+    let a = s .args in
     let l = at-loop .loop in
-    let e = c .before .before .bind-entry .ensures in
-    (omega arith, search needs, e .0 [] .memory .rest ∙ l .inv .2, e .1, (λ code. room-on (record { code = code; image = now (a .image) }) (a .w) _ (l .i) (l .b .count) (l .inv .4 code) (l .rest) _ _ (l .b) _ (at-loop-test .loop-test .taken) refl (e .0 code)), (λ code. l .inv .5 code ∙ bound-on (record { code = code; image = now (a .image) }) (a .w) _ (l .i) (l .rest) _ _ _ (l .b) _ (at-loop-test .loop-test .taken) (at-rest-of .rest-of .ensures) (e .0 code)))
+    let p = l .inv .4 in
+    let x = entryIn (now (a .fields)) (l .i) in
+    let h : l .i < countOf (a .w) = omega (arith, at-count-of .count-of .ensures) in
+    let m = at-bind-entry .bind-entry .ensures in (
+      omega arith,
+      search needs,
+      m .0 .memory .rest ∙ l .inv .2,
+      m .1,
+      (p .0, p .1, room-on (p .0) (a .w) _ (l .i) (l .b .count) (p .2) x (l .rest) _ _ (l .b) _ (entry-of (p .0) (a .w) (now (a .fields)) (p .1) (l .i) x h refl) (at-loop-test .loop-test .taken) refl (m .0)),
+      λ C e. l .inv .5 C e ∙ bound-on C (a .w) _ (l .i) x (l .rest) _ _ _ (l .b) _ (entry-of C (a .w) (now (a .fields)) e (l .i) x h refl) (at-loop-test .loop-test .taken) (at-rest-of .rest-of .ensures) (m .0),
+    )
 
 bind-rest-requires : tie.Need-bind-rest-requires Inv-loop μ-loop
 bind-rest-requires c κs =
-    let start = c .before .before .before .before .before .before in
-    let a = start .args in
-    let l = c .before .before .loop in
-    (search needs, l .inv .3, (λ code. room-left (record { code = code; image = now (a .image) }) (a .w) _ (l .i) (l .b .count) (l .inv .4 code) (c .before .loop-test .left)))
+    let at-loop-test = c .before in
+    let at-loop = at-loop-test .before in
+    let s = at-loop .before .before .before .before in
+    let a = s .args in
+    let l = at-loop .loop in
+    let p = l .inv .4 in
+    (search needs, l .inv .3, (p .0, p .1, room-left (p .0) (a .w) _ (l .i) (l .b .count) (p .2) (at-loop-test .loop-test .left)))
 
 same-length : tie.Need-same-length Inv-loop μ-loop
 same-length c = search needs
 
 returns : tie.Need-returns Inv-loop μ-loop
 returns c =
-    let at-loop-test = c .before .before .before .before in
+    let at-bind-rest = c .before .before in
+    let at-loop-test = at-bind-rest .before .before in
     let at-loop = at-loop-test .before in
-    let start = at-loop .before .before .before .before in
-    let a = start .args in
+    let s = at-loop .before .before .before .before in
+    let a = s .args in
     let l = at-loop .loop in
-    let e = c .before .before .bind-rest .ensures in
-    ((λ code. bound-done (record { code = code; image = now (a .image) }) (a .w) _ (l .i) _ (l .rest) (now (a .work)) _ _ (l .b) _ (at-loop-test .loop-test .left) (l .inv .5 code) (l .inv .2) (e .0 code)), e .1)
+    let m = at-bind-rest .bind-rest .ensures in
+    ((λ C e. bound-done C (a .w) _ (l .i) _ (l .rest) (now (a .work)) _ _ (l .b) _ (at-loop-test .loop-test .left) (l .inv .5 C e) (l .inv .2) (m .0 C e)), m .1)
 
 pub bind-entries-spec : {M : Type 1} → statement M
 bind-entries-spec =

@@ -1,5 +1,5 @@
 use denote.Ref.{now}
-use mathlib.Core.List.{[]}
+use Rattle.vm_matches.specs.Parts.{entryIn}
 use Rattle.vm_matches.proofs.Binding.{entry-nothing, entry-value, entry-room}
 use borrow.Author.Needs.{needs}
 use Rattle.vm_matches.proofs.bindings.bind_entry.Statement.{statement}
@@ -9,7 +9,11 @@ entry-at-requires : tie.Need-entry-at-requires
 entry-at-requires c κs = search needs
 
 returns : tie.Need-returns
-returns c = let a = c .before .before .before .before .args in ((λ code. entry-nothing (record { code = code; image = now (a .image) }) (a .w) (a .i) _ (c .before .entry-at .ensures code) (a .v) (now (a .work)) (a .b) (c .if1 .taken)), c .before .before .before .before .pre .2)
+returns c =
+    let at-entry-at = c .before in
+    let s = at-entry-at .before .before .before in
+    let a = s .args in
+    (entry-nothing (entryIn (now (a .fields)) (a .i)) _ (at-entry-at .entry-at .ensures) (a .v) (now (a .work)) (a .b) (c .if1 .taken), s .pre .2)
 
 top-entry-requires : tie.Need-top-entry-requires
 top-entry-requires c κs = search needs
@@ -20,19 +24,22 @@ bind-inside-requires c κs =
     let at-entry-at = at-if1 .before in
     let s = at-entry-at .before .before .before in
     let a = s .args in
-    (search needs, entry-room (record { code = []; image = now (a .image) }) (a .w) (a .i) _ (at-entry-at .entry-at .ensures []) (a .b .count) (at-if1 .if1 .left) (s .pre .3 []), s .pre .2)
+    (search needs, entry-room (entryIn (now (a .fields)) (a .i)) _ (at-entry-at .entry-at .ensures) (a .b .count) (at-if1 .if1 .left) (s .pre .3), s .pre .2)
 
 same-length : tie.Need-same-length
-same-length c = c .before .before .bind-inside .kept .0
+same-length c =
+    let at-bind-inside = c .before .before in
+    at-bind-inside .bind-inside .kept .0
 
 returns-2 : tie.Need-returns-2
 returns-2 c =
-    let at-top-entry = c .before .before .before .before in
+    let at-bind-inside = c .before .before in
+    let at-top-entry = at-bind-inside .before .before in
     let at-if1 = at-top-entry .before .before in
     let at-entry-at = at-if1 .before in
     let s = at-entry-at .before .before .before in
     let a = s .args in
-    ((λ code. entry-value (record { code = code; image = now (a .image) }) (a .w) (a .i) _ (at-entry-at .entry-at .ensures code) (a .v) _ (now (a .work)) _ (a .b) _ (at-if1 .if1 .left) (at-top-entry .top-entry .ensures) (c .before .before .bind-inside .ensures .0)), c .before .before .bind-inside .ensures .1)
+    (entry-value (entryIn (now (a .fields)) (a .i)) _ (at-entry-at .entry-at .ensures) (a .v) _ (now (a .work)) _ (a .b) _ (at-if1 .if1 .left) (at-top-entry .top-entry .ensures) (at-bind-inside .bind-inside .ensures .0), at-bind-inside .bind-inside .ensures .1)
 
 pub bind-entry-spec : {M : Type 1} → statement M
 bind-entry-spec =

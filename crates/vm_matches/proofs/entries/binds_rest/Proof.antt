@@ -1,21 +1,34 @@
-use mathlib.Core.Path.{ap, _∙_}
+use mathlib.Core.Path.{ap}
 use denote.Ref.{now}
-use Rattle.image.specs.Bytes.{le16}
 use Prim.Native.Nat.{ℕ}
 use mathlib.Core.Bool.{not}
 use lib.Dec.{eqb}
+use Rattle.vm_matches.proofs.Fields.{close-of}
 use borrow.Author.Needs.{needs}
 use Rattle.vm_matches.proofs.entries.binds_rest.Statement.{statement}
 use Rattle.vm_matches.proofs.entries.binds_rest.Tie as tie
 
-close-place-requires : tie.Need-close-place-requires
-close-place-requires c κs = search needs
+count-of-requires : tie.Need-count-of-requires
+count-of-requires c κs = search needs
 
-number-at-requires : tie.Need-number-at-requires
-number-at-requires c κs = search needs
+add-field-or-zero : tie.Need-add-field-or-zero
+add-field-or-zero c = search needs
+
+field-or-zero-requires : tie.Need-field-or-zero-requires
+field-or-zero-requires c κs = search needs
 
 returns : tie.Need-returns
-returns c = λ code. ap (λ (x : ℕ). not (eqb x 0)) (c .number-at .ensures .0 ∙ ap (le16 (now (c .before .before .before .args .image))) (c .before .close-place .ensures))
+returns c =
+    let at-count-of = c .before in
+    let s = at-count-of .before .before in
+    let a = s .args in
+    λ C e. ap (λ (x : ℕ). not (eqb x 0)) (close-of C (a .w) (now (a .fields)) e _ _ (at-count-of .count-of .ensures) (c .field-or-zero .ensures))
 
 pub binds-rest-spec : {M : Type 1} → statement M
-binds-rest-spec = tie.close (tie.spec close-place-requires number-at-requires returns)
+binds-rest-spec =
+    tie.close
+    (tie.spec
+    count-of-requires
+    add-field-or-zero
+    field-or-zero-requires
+    returns)

@@ -17,8 +17,20 @@ both-requires : tie.Need-both-requires
 both-requires c κs = search needs
 
 returns : tie.Need-returns
-returns c = let a = c .before .before .before .before .before .args in λ code. c .both .ensures ∙ ap (a .k .fits &&_) (c .before .either .ensures ∙ ap₂ (λ (x y : Bool). x || not y) (c .before .before .before .binds-rest .ensures code) (c .before .before .is-kept .ensures))
+returns c =
+    let at-either = c .before in
+    let at-is-kept = at-either .before in
+    let at-binds-rest = at-is-kept .before in
+    let s = at-binds-rest .before .before in
+    let a = s .args in
+    λ C e. c .both .ensures ∙ ap (a .k .fits &&_) (at-either .either .ensures ∙ ap₂ (λ (x y : Bool). x || not y) (at-binds-rest .binds-rest .ensures C e) (at-is-kept .is-kept .ensures))
 
 pub matches-spec : {M : Type 1} → statement M
 matches-spec =
-    tie.close (tie.spec binds-rest-requires is-kept-requires either-requires both-requires returns)
+    tie.close
+    (tie.spec
+    binds-rest-requires
+    is-kept-requires
+    either-requires
+    both-requires
+    returns)

@@ -1,5 +1,6 @@
-use mathlib.Core.Path.{refl}
 use denote.Ref.{now}
+use Rattle.vm_machine.specs.Fetch.{Program}
+use Rattle.vm_matches.proofs.Fields.{entry-of}
 use Rattle.vm_matches.proofs.Looking.{stops-as}
 use borrow.Author.Needs.{needs}
 use Rattle.vm_matches.proofs.entries.stops_at.Statement.{statement}
@@ -11,11 +12,8 @@ entry-at-requires c κs = search needs
 cut-term-requires : tie.Need-cut-term-requires
 cut-term-requires c κs = search needs
 
-mul-u : tie.Need-mul-u
-mul-u c = search needs
-
-shared-slice-read-u : tie.Need-shared-slice-read-u
-shared-slice-read-u c = search needs
+word-of-requires : tie.Need-word-of-requires
+word-of-requires c κs = search needs
 
 class-of-requires : tie.Need-class-of-requires
 class-of-requires c κs = search needs
@@ -25,11 +23,15 @@ both-requires c κs = search needs
 
 returns : tie.Need-returns
 returns c =
-    let at-cut-term = c .before .before .before in
+    let at-class-of = c .before in
+    let at-word-of = at-class-of .before in
+    let at-cut-term = at-word-of .before in
     let at-entry-at = at-cut-term .before in
-    let start = at-entry-at .before .before .before in
-    let a = start .args in
-    stops-as (record { code = now (a .code); image = now (a .image) }) (a .w) (a .i) _ _ _ _ _ (at-entry-at .entry-at .ensures (now (a .code))) (at-cut-term .cut-term .ensures .0) refl (c .before .class-of .ensures) (c .both .ensures)
+    let s = at-entry-at .before .before .before in
+    let a = s .args in
+    λ image w h e.
+    let C : Program = record { code = now (a .code); image = image } in
+    stops-as C w (a .i) _ _ _ _ _ (entry-of C w (now (a .fields)) e (a .i) _ h (at-entry-at .entry-at .ensures)) (at-cut-term .cut-term .ensures) (at-word-of .word-of .ensures) (at-class-of .class-of .ensures) (c .both .ensures)
 
 pub stops-at-spec : {M : Type 1} → statement M
 stops-at-spec =
@@ -37,8 +39,7 @@ stops-at-spec =
     (tie.spec
     entry-at-requires
     cut-term-requires
-    mul-u
-    shared-slice-read-u
+    word-of-requires
     class-of-requires
     both-requires
     returns)

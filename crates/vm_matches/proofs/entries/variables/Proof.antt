@@ -1,8 +1,10 @@
+use Rattle.vm_machine.specs.Fetch.{Program}
+use Rattle.vm_matches.specs.Parts.{matchFields}
+use Rattle.vm_matches.proofs.Fields.{entry-of}
 use denote.Ref.{now}
 use mathlib.Core.Path.{_≡_, sym, ap, _∙_}
 use native.Mathlib.Omega.{arith}
 use Prim.Native.Nat.{ℕ, _+_, _-_, _≤_}
-use mathlib.Core.List.{List}
 use Rattle.vm_machine.specs.Stacks.{variables}
 use Rattle.vm_matches.proofs.Looking.{count-start, count-more, count-all}
 use borrow.Author.Needs.{needs}
@@ -10,16 +12,19 @@ use Rattle.vm_matches.proofs.entries.variables.Statement.{statement}
 use Rattle.vm_matches.proofs.entries.variables.Tie as tie
 
 abbrev Inv-loop : tie.InvT-loop
-Inv-loop image w n c₀ i₀ c i = (i ≤ n) × (c ≤ i) × ((code : List ℕ) → variables (record { code = code; image = image }) w n 0 ≡ c + variables (record { code = code; image = image }) w (n - i) i)
+Inv-loop fields w n c₀ i₀ c i = (i ≤ n) × (c ≤ i) × ((C : Program) → fields ≡ matchFields (C .image) w → variables C w n 0 ≡ c + variables C w (n - i) i)
 
 abbrev μ-loop : tie.MeasureT-loop
-μ-loop image w n c₀ i₀ c i = n - i
+μ-loop fields w n c₀ i₀ c i = n - i
 
 count-of-requires : tie.Need-count-of-requires Inv-loop μ-loop
 count-of-requires c κs = search needs
 
 loop-holds : tie.Need-loop-holds Inv-loop μ-loop
-loop-holds c = let a = c .before .before .args in (omega arith, omega arith, λ code. count-start (record { code = code; image = now (a .image) }) (a .w) _ 0)
+loop-holds c =
+    let s = c .before .before in
+    let a = s .args in
+    (omega arith, omega arith, λ C e. count-start C (a .w) _ 0)
 
 entry-at-requires : tie.Need-entry-at-requires Inv-loop μ-loop
 entry-at-requires c κs = search needs
@@ -38,11 +43,14 @@ loop-less c = search needs
 
 loop-again : tie.Need-loop-again Inv-loop μ-loop
 loop-again c =
-    let at-loop = c .before .before .before in
-    let start = at-loop .before .before .before in
-    let a = start .args in
+    let at-entry-at = c .before in
+    let at-loop-test = at-entry-at .before in
+    let at-loop = at-loop-test .before in
+    let at-count-of = at-loop .before in
+    let s = at-count-of .before .before in
+    let a = s .args in
     let l = at-loop .loop in
-    (omega arith, omega (arith, c .of-entry .ensures .1, l .inv .1), λ code. l .inv .2 code ∙ count-more (record { code = code; image = now (a .image) }) (a .w) _ (l .i) _ _ (c .before .before .loop-test .taken) (c .before .entry-at .ensures code) (c .of-entry .ensures .0) (l .c))
+    (omega arith, omega (arith, c .of-entry .ensures .1, l .inv .1), λ C e. l .inv .2 C e ∙ count-more C (a .w) _ (l .i) _ _ (at-loop-test .loop-test .taken) (entry-of C (a .w) (now (a .fields)) e (l .i) _ (omega (arith, at-count-of .count-of .ensures)) (at-entry-at .entry-at .ensures)) (c .of-entry .ensures .0) (l .c))
 
 binds-rest-requires : tie.Need-binds-rest-requires Inv-loop μ-loop
 binds-rest-requires c κs = search needs
@@ -55,12 +63,14 @@ add-result c = search needs
 
 returns : tie.Need-returns Inv-loop μ-loop
 returns c =
-    let at-loop = c .before .before .before in
+    let at-binds-rest = c .before in
+    let at-loop-test = at-binds-rest .before in
+    let at-loop = at-loop-test .before in
     let at-count-of = at-loop .before in
-    let start = at-count-of .before .before in
-    let a = start .args in
+    let s = at-count-of .before .before in
+    let a = s .args in
     let l = at-loop .loop in
-    ((λ code. sym (ap (λ (x : ℕ). variables (record { code = code; image = now (a .image) }) (a .w) x 0) (sym (at-count-of .count-of .ensures)) ∙ l .inv .2 code ∙ count-all (record { code = code; image = now (a .image) }) (a .w) _ (l .i) _ _ (c .before .before .loop-test .left) (c .before .binds-rest .ensures code) (c .of-close .ensures .0) (l .c))), omega (arith, at-count-of .count-of .ensures, c .of-close .ensures .1, l .inv .0, l .inv .1))
+    ((λ C e. sym (ap (λ (x : ℕ). variables C (a .w) x 0) (sym (at-count-of .count-of .ensures)) ∙ l .inv .2 C e ∙ count-all C (a .w) _ (l .i) _ _ (at-loop-test .loop-test .left) (at-binds-rest .binds-rest .ensures C e) (c .of-close .ensures .0) (l .c))), omega (arith, at-count-of .count-of .ensures, c .of-close .ensures .1, l .inv .0, l .inv .1))
 
 pub variables-spec : {M : Type 1} → statement M
 variables-spec =

@@ -1,17 +1,31 @@
+use mathlib.Core.Path.{ap, _∙_}
 use denote.Ref.{now}
-use Rattle.vm_matches.proofs.Matching.{branch-as}
+use Rattle.vm_machine.specs.Fetch.{Program}
+use Rattle.vm_machine.specs.Turn.{begunAt}
+use Rattle.vm_matches.proofs.Fields.{term-of}
 use borrow.Author.Needs.{needs}
 use Rattle.vm_matches.proofs.matches.branch_at.Statement.{statement}
 use Rattle.vm_matches.proofs.matches.branch_at.Tie as tie
 
-number-at-requires : tie.Need-number-at-requires
-number-at-requires c κs = search needs
+term-at-requires : tie.Need-term-at-requires
+term-at-requires c κs = search needs
 
 begun-at-requires : tie.Need-begun-at-requires
 begun-at-requires c κs = search needs
 
 returns : tie.Need-returns
-returns c = let a = c .before .before .before .before .args in branch-as (record { code = now (a .code); image = now (a .image) }) (a .at) _ _ (c .before .number-at .ensures .0) (c .begun-at .ensures (now (a .image)))
+returns c =
+    let at-term-at = c .before in
+    let s = at-term-at .before .before .before in
+    let a = s .args in
+    λ image w e.
+    let C : Program = record { code = now (a .code); image = image } in
+    c .begun-at .ensures image ∙ ap (begunAt C) (term-of C w (now (a .fields)) e (a .i) _ (s .pre .1) (at-term-at .term-at .ensures))
 
 pub branch-at-spec : {M : Type 1} → statement M
-branch-at-spec = tie.close (tie.spec number-at-requires begun-at-requires returns)
+branch-at-spec =
+    tie.close
+    (tie.spec
+    term-at-requires
+    begun-at-requires
+    returns)

@@ -1,8 +1,8 @@
-use mathlib.Core.Path.{_∙_}
+use mathlib.Core.Path.{refl, _∙_}
+use Rattle.vm_machine.specs.Fetch.{Program}
 use denote.Ref.{now}
 use native.Mathlib.Omega.{arith}
-use Prim.Native.Nat.{ℕ, _+_, _≤_}
-use mathlib.Core.List.{List}
+use Prim.Native.Nat.{_+_, _≤_}
 use borrow.Author.Tests.{not-false}
 use Rattle.calculus.specs.Limits.{bindingLimit}
 use Rattle.vm_code.specs.Words.{countOf}
@@ -31,50 +31,57 @@ halt-requires c κs = search needs
 
 returns : tie.Need-returns
 returns c =
-    let at-has-room = c .before .before .before in
+    let at-bindings-out = c .before in
+    let at-if1 = at-bindings-out .before in
+    let at-has-room = at-if1 .before in
     let at-variables = at-has-room .before in
     let at-half-of = at-variables .before .before .before in
-    let start = at-half-of .before .before .before .before in
-    let a = start .args in
-    branch-full (record { code = now (a .code); image = now (a .image) }) (now (a .work)) (now (a .work)) (now (a .work)) (a .r) _ (a .w) (a .v) _ (at-variables .variables .ensures .0 (now (a .code))) _ _ (at-half-of .half-of .ensures) (at-has-room .has-room .ensures) _ (c .before .before .if1 .taken) (c .before .bindings-out .ensures) (c .halt .ensures)
+    let s = at-half-of .before .before .before .before in
+    let a = s .args in
+    λ image e.
+    let C : Program = record { code = now (a .code); image = image } in
+    branch-full C (now (a .work)) (now (a .work)) (now (a .work)) (a .r) _ (a .w) (a .v) _ (at-variables .variables .ensures .0 C e) _ _ (at-half-of .half-of .ensures) (at-has-room .has-room .ensures) _ (at-if1 .if1 .taken) (at-bindings-out .bindings-out .ensures) (c .halt .ensures)
 
 halt-requires-2 : tie.Need-halt-requires-2
 halt-requires-2 c κs = search needs
 
 returns-2 : tie.Need-returns-2
 returns-2 c =
-    let at-if1 = c .before .before .before in
+    let at-if2 = c .before in
+    let at-if1 = at-if2 .before .before in
     let at-has-room = at-if1 .before in
     let at-variables = at-has-room .before in
     let at-half-of = at-variables .before .before .before in
-    let start = at-half-of .before .before .before .before in
-    let a = start .args in
-    branch-spent (record { code = now (a .code); image = now (a .image) }) (now (a .work)) (now (a .work)) (now (a .work)) (a .r) _ (a .w) (a .v) _ (at-variables .variables .ensures .0 (now (a .code))) _ _ (at-half-of .half-of .ensures) (at-has-room .has-room .ensures) (c .before .if2 .taken) (at-if1 .if1 .left) (c .halt2 .ensures)
+    let s = at-half-of .before .before .before .before in
+    let a = s .args in
+    λ image e.
+    let C : Program = record { code = now (a .code); image = image } in
+    branch-spent C (now (a .work)) (now (a .work)) (now (a .work)) (a .r) _ (a .w) (a .v) _ (at-variables .variables .ensures .0 C e) _ _ (at-half-of .half-of .ensures) (at-has-room .has-room .ensures) (at-if2 .if2 .taken) (at-if1 .if1 .left) (c .halt2 .ensures)
 
 whole-requires : tie.Need-whole-requires
 whole-requires c κs = search needs
 
 bind-entries-requires : tie.Need-bind-entries-requires
 bind-entries-requires c κs =
-    let at-if1 = c .before .before .before .before in
+    let at-whole = c .before in
+    let at-if1 = at-whole .before .before .before in
     let at-has-room = at-if1 .before in
     let at-variables = at-has-room .before in
     let at-half-of = at-variables .before .before .before in
     let s = at-half-of .before .before .before .before in
     let a = s .args in
+    let p = s .pre .2 in
+    let C : Program = record { code = now (a .code); image = p .0 } in
     let k = whole-room bindingLimit (at-variables .variables .result) (λ p. p .bindings) bindingsOut (a .w) (a .r) _ _ (at-half-of .half-of .ensures) (at-has-room .has-room .ensures) (s .pre .0 .bindings) (not-false (at-has-room .has-room .result) (at-if1 .if1 .left)) in
-    let h : (code : List ℕ) → c .before .whole .result + variables (record { code = code; image = now (a .image) }) (a .w) (countOf (a .w)) 0 ≤ 2048 = λ code. omega (arith, at-variables .variables .ensures .0 code, c .before .whole .ensures, k) in
-    (search needs, s .pre .0 .env, h)
-
-branch-place-requires : tie.Need-branch-place-requires
-branch-place-requires c κs = search needs
+    let h : at-whole .whole .result + variables C (a .w) (countOf (a .w)) 0 ≤ 2048 = omega (arith, at-variables .variables .ensures .0 C (p .1), at-whole .whole .ensures, k) in
+    (search needs, s .pre .0 .env, (C, p .1, h))
 
 branch-at-requires : tie.Need-branch-at-requires
 branch-at-requires c κs = search needs
 
 called-requires : tie.Need-called-requires
 called-requires c κs =
-    let at-bind-entries = c .before .before .before .before .before in
+    let at-bind-entries = c .before .before .before .before in
     let s = at-bind-entries .before .before .before .before .before .before .before .before .before .before .before .before .before .before in
     let m = s .pre .0 in
     (omega (arith, m .coded), search needs, m .room, s .pre .1, m .pc, m .env, at-bind-entries .bind-entries .ensures .1)
@@ -84,7 +91,7 @@ sub-q c = search needs
 
 charge-bindings-requires : tie.Need-charge-bindings-requires
 charge-bindings-requires c κs =
-    let at-if1 = c .before .before .before .before .before .before .before .before .before .before .before .before .before .before in
+    let at-if1 = c .before .before .before .before .before .before .before .before .before .before .before .before .before in
     let at-has-room = at-if1 .before in
     let at-variables = at-has-room .before in
     let at-half-of = at-variables .before .before .before in
@@ -95,24 +102,25 @@ charge-bindings-requires c κs =
 same-length : tie.Need-same-length
 same-length c =
     let at-called = c .before .before .before .before in
-    let at-bind-entries = at-called .before .before .before .before .before .before in
+    let at-bind-entries = at-called .before .before .before .before .before in
     at-called .called .kept .1 .0 ∙ at-bind-entries .bind-entries .kept .1 .0
 
 returns-3 : tie.Need-returns-3
 returns-3 c =
     let at-called = c .before .before .before .before in
     let at-branch-at = at-called .before .before in
-    let at-branch-place = at-branch-at .before in
-    let at-bind-entries = at-branch-place .before .before .before in
+    let at-bind-entries = at-branch-at .before .before .before in
     let at-whole = at-bind-entries .before .before in
     let at-if2 = at-whole .before in
     let at-if1 = at-if2 .before .before in
     let at-has-room = at-if1 .before in
     let at-variables = at-has-room .before in
     let at-half-of = at-variables .before .before .before in
-    let start = at-half-of .before .before .before .before in
-    let a = start .args in
-    branch-made (record { code = now (a .code); image = now (a .image) }) (now (a .work)) _ _ (a .r) _ (a .w) (a .v) _ (at-variables .variables .ensures .0 (now (a .code))) _ _ (at-half-of .half-of .ensures) (at-has-room .has-room .ensures) (at-if2 .if2 .left) _ _ _ _ _ (at-if1 .if1 .left) (at-whole .whole .ensures) (c .charge-bindings .ensures) (at-bind-entries .bind-entries .ensures .0 (now (a .code))) (at-branch-place .branch-place .ensures) (at-branch-at .branch-at .ensures) (at-called .called .ensures (now (a .image)))
+    let s = at-half-of .before .before .before .before in
+    let a = s .args in
+    λ image e.
+    let C : Program = record { code = now (a .code); image = image } in
+    branch-made C (now (a .work)) _ _ (a .r) _ (a .w) (a .v) _ (at-variables .variables .ensures .0 C e) _ _ (at-half-of .half-of .ensures) (at-has-room .has-room .ensures) (at-if2 .if2 .left) _ _ _ _ _ (at-if1 .if1 .left) (at-whole .whole .ensures) (c .charge-bindings .ensures) (at-bind-entries .bind-entries .ensures .0 C e) refl (at-branch-at .branch-at .ensures image (a .w) e) (at-called .called .ensures image)
 
 pub first-branch-spec : {M : Type 1} → statement M
 first-branch-spec =
@@ -128,7 +136,6 @@ first-branch-spec =
     returns-2
     whole-requires
     bind-entries-requires
-    branch-place-requires
     branch-at-requires
     called-requires
     sub-q

@@ -14,26 +14,36 @@ halt-requires c κs = search needs
 
 returns : tie.Need-returns
 returns c =
-    let at-depth-of = c .before .before .before in
-    let start = at-depth-of .before .before .before .before in
-    let a = start .args in
-    judged-frames (reduceMatch (record { code = now (a .code); image = now (a .image) }) (a .w) (a .k .stack) (lookedOf (a .k))) (now (a .work)) (now (a .work)) (a .r) _ (a .w) _ (at-depth-of .depth-of .ensures) (c .before .if1 .taken) (c .halt .ensures)
+    let at-if1 = c .before in
+    let at-depth-of = at-if1 .before .before in
+    let s = at-depth-of .before .before .before .before in
+    let a = s .args in
+    λ image e. judged-frames (reduceMatch (record { code = now (a .code); image = image }) (a .w) (a .k .stack) (lookedOf (a .k))) (now (a .work)) (now (a .work)) (a .r) _ (a .w) _ (at-depth-of .depth-of .ensures) (at-if1 .if1 .taken) (c .halt .ensures)
 
 reduce-match-requires : tie.Need-reduce-match-requires
 reduce-match-requires c κs = search needs
 
 same-length : tie.Need-same-length
-same-length c = c .before .before .reduce-match .kept .1 .1 .0
+same-length c =
+    let at-reduce-match = c .before .before in
+    at-reduce-match .reduce-match .kept .1 .1 .0
 
 returns-2 : tie.Need-returns-2
 returns-2 c =
-    let at-if1 = c .before .before .before .before in
+    let at-reduce-match = c .before .before in
+    let at-if1 = at-reduce-match .before .before in
     let at-depth-of = at-if1 .before .before in
-    let start = at-depth-of .before .before .before .before in
-    let a = start .args in
-    judged-made (reduceMatch (record { code = now (a .code); image = now (a .image) }) (a .w) (a .k .stack) (lookedOf (a .k))) (now (a .work)) _ (a .r) _ (a .w) _ (at-depth-of .depth-of .ensures) (at-if1 .if1 .left) (c .before .before .reduce-match .ensures)
+    let s = at-depth-of .before .before .before .before in
+    let a = s .args in
+    λ image e. judged-made (reduceMatch (record { code = now (a .code); image = image }) (a .w) (a .k .stack) (lookedOf (a .k))) (now (a .work)) _ (a .r) _ (a .w) _ (at-depth-of .depth-of .ensures) (at-if1 .if1 .left) (at-reduce-match .reduce-match .ensures image e)
 
 pub make-match-spec : {M : Type 1} → statement M
 make-match-spec =
     tie.close
-    (tie.spec depth-of-requires halt-requires returns reduce-match-requires same-length returns-2)
+    (tie.spec
+    depth-of-requires
+    halt-requires
+    returns
+    reduce-match-requires
+    same-length
+    returns-2)

@@ -1,3 +1,4 @@
+use mathlib.Core.Path.{refl}
 use denote.Ref.{now}
 use Rattle.vm_matches.proofs.Matching.{other-spent, other-made}
 use borrow.Author.Needs.{needs}
@@ -9,12 +10,10 @@ halt-requires c κs = search needs
 
 returns : tie.Need-returns
 returns c =
-    let start = c .before .before .before .before .before .before in
-    let a = start .args in
-    other-spent (record { code = now (a .code); image = now (a .image) }) (now (a .work)) (now (a .work)) (a .r) _ (a .w) (c .before .if1 .taken) (c .halt .ensures)
-
-other-place-requires : tie.Need-other-place-requires
-other-place-requires c κs = search needs
+    let at-if1 = c .before in
+    let s = at-if1 .before .before .before .before .before in
+    let a = s .args in
+    λ image e. other-spent (record { code = now (a .code); image = image }) (now (a .work)) (now (a .work)) (a .r) _ (a .w) (at-if1 .if1 .taken) (c .halt .ensures)
 
 branch-at-requires : tie.Need-branch-at-requires
 branch-at-requires c κs = search needs
@@ -26,17 +25,18 @@ sub-q : tie.Need-sub-q
 sub-q c = search needs
 
 same-length : tie.Need-same-length
-same-length c = c .before .before .before .called .kept .1 .0
+same-length c =
+    let at-called = c .before .before .before in
+    at-called .called .kept .1 .0
 
 returns-2 : tie.Need-returns-2
 returns-2 c =
     let at-called = c .before .before .before in
     let at-branch-at = at-called .before .before in
-    let at-other-place = at-branch-at .before in
-    let at-if1 = at-other-place .before in
-    let start = at-if1 .before .before .before .before .before in
-    let a = start .args in
-    other-made (record { code = now (a .code); image = now (a .image) }) (now (a .work)) _ (a .r) _ (a .w) (at-if1 .if1 .left) _ _ (at-other-place .other-place .ensures) (at-branch-at .branch-at .ensures) (at-called .called .ensures (now (a .image)))
+    let at-if1 = at-branch-at .before in
+    let s = at-if1 .before .before .before .before .before in
+    let a = s .args in
+    λ image e. other-made (record { code = now (a .code); image = image }) (now (a .work)) _ (a .r) _ (a .w) (at-if1 .if1 .left) _ _ refl (at-branch-at .branch-at .ensures image (a .w) e) (at-called .called .ensures image)
 
 pub other-branch-spec : {M : Type 1} → statement M
 other-branch-spec =
@@ -44,7 +44,6 @@ other-branch-spec =
     (tie.spec
     halt-requires
     returns
-    other-place-requires
     branch-at-requires
     called-requires
     sub-q

@@ -12,29 +12,35 @@ first-branch-requires : tie.Need-first-branch-requires
 first-branch-requires c κs = search needs
 
 same-length : tie.Need-same-length
-same-length c = c .before .before .first-branch .kept .1 .1 .0
+same-length c =
+    let at-first-branch = c .before .before in
+    at-first-branch .first-branch .kept .1 .1 .0
 
 returns : tie.Need-returns
 returns c =
-    let at-if1 = c .before .before .before .before in
+    let at-first-branch = c .before .before in
+    let at-if1 = at-first-branch .before .before in
     let at-matches = at-if1 .before in
-    let start = at-matches .before .before .before .before in
-    let a = start .args in
-    matched (record { code = now (a .code); image = now (a .image) }) (now (a .work)) _ (a .r) _ (a .w) (a .k .stack) (lookedOf (a .k)) _ (at-matches .matches .ensures (now (a .code))) (at-if1 .if1 .taken) (c .before .before .first-branch .ensures)
+    let s = at-matches .before .before .before .before in
+    let a = s .args in
+    λ image e. matched (record { code = now (a .code); image = image }) (now (a .work)) _ (a .r) _ (a .w) (a .k .stack) (lookedOf (a .k)) _ (at-matches .matches .ensures (record { code = now (a .code); image = image }) e) (at-if1 .if1 .taken) (at-first-branch .first-branch .ensures image e)
 
 other-branch-requires : tie.Need-other-branch-requires
 other-branch-requires c κs = search needs
 
 same-length-2 : tie.Need-same-length-2
-same-length-2 c = c .before .before .other-branch .kept .1 .1 .0
+same-length-2 c =
+    let at-other-branch = c .before .before in
+    at-other-branch .other-branch .kept .1 .1 .0
 
 returns-2 : tie.Need-returns-2
 returns-2 c =
-    let at-if1 = c .before .before .before .before in
+    let at-other-branch = c .before .before in
+    let at-if1 = at-other-branch .before .before in
     let at-matches = at-if1 .before in
-    let start = at-matches .before .before .before .before in
-    let a = start .args in
-    not-matched (record { code = now (a .code); image = now (a .image) }) (now (a .work)) _ (a .r) _ (a .w) (a .k .stack) (lookedOf (a .k)) _ (at-matches .matches .ensures (now (a .code))) (at-if1 .if1 .left) (c .before .before .other-branch .ensures)
+    let s = at-matches .before .before .before .before in
+    let a = s .args in
+    λ image e. not-matched (record { code = now (a .code); image = image }) (now (a .work)) _ (a .r) _ (a .w) (a .k .stack) (lookedOf (a .k)) _ (at-matches .matches .ensures (record { code = now (a .code); image = image }) e) (at-if1 .if1 .left) (at-other-branch .other-branch .ensures image e)
 
 pub reduce-match-spec : {M : Type 1} → statement M
 reduce-match-spec =

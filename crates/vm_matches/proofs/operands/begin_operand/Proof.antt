@@ -1,16 +1,14 @@
+use mathlib.Core.Path.{refl, ap, _∙_}
+use Rattle.vm_code.specs.Words.{depthOf}
 use native.Mathlib.Omega.{arith}
 use denote.Ref.{now}
-use mathlib.Core.Path.{refl}
 use Rattle.vm_matches.proofs.Matching.{operand-framed, operand-begun}
 use borrow.Author.Needs.{needs}
 use Rattle.vm_matches.proofs.operands.begin_operand.Statement.{statement}
 use Rattle.vm_matches.proofs.operands.begin_operand.Tie as tie
 
-mul-depth-of : tie.Need-mul-depth-of
-mul-depth-of c = search needs
-
-shared-slice-read-depth-of : tie.Need-shared-slice-read-depth-of
-shared-slice-read-depth-of c = search needs
+instruction-requires : tie.Need-instruction-requires
+instruction-requires c κs = search needs
 
 depth-of-requires : tie.Need-depth-of-requires
 depth-of-requires c κs = search needs
@@ -23,10 +21,12 @@ halt-requires c κs = search needs
 
 returns : tie.Need-returns
 returns c =
-    let at-depth-of = c .before .before .before in
-    let start = at-depth-of .before .before .before .before in
-    let a = start .args in
-    λ image. operand-framed (record { code = now (a .code); image = image }) (now (a .work)) (now (a .work)) (a .r) _ (a .x) (a .v) (a .byte) _ (at-depth-of .depth-of .ensures) (c .before .if1 .taken) (c .halt .ensures)
+    let at-if1 = c .before in
+    let at-depth-of = at-if1 .before .before in
+    let at-instruction = at-depth-of .before in
+    let s = at-instruction .before .before .before in
+    let a = s .args in
+    λ image. operand-framed (record { code = now (a .code); image = image }) (now (a .work)) (now (a .work)) (a .r) _ (a .x .0) (a .v) (a .byte) _ (at-depth-of .depth-of .ensures ∙ ap depthOf (at-instruction .instruction .ensures)) (at-if1 .if1 .taken) (c .halt .ensures)
 
 sub-room : tie.Need-sub-room
 sub-room c = search needs
@@ -45,28 +45,31 @@ same-requires c κs = search needs
 
 entry-from-requires : tie.Need-entry-from-requires
 entry-from-requires c κs =
-    let start = c .before .before .before .before .before .before .before .before .before .before .before .before .before in
-    (omega (arith, start .pre .0 .coded), start .pre .2)
+    let s = c .before .before .before .before .before .before .before .before .before .before .before .before .before in
+    (omega (arith, s .pre .0 .coded), s .pre .2)
 
 same-length : tie.Need-same-length
-same-length c = c .before .before .before .before .put-match .kept .0
+same-length c =
+    let at-put-match = c .before .before .before .before in
+    at-put-match .put-match .kept .0
 
 returns-2 : tie.Need-returns-2
 returns-2 c =
-    let at-put-match = c .before .before .before .before in
+    let at-same = c .before in
+    let at-put-match = at-same .before .before .before in
     let at-match-word = at-put-match .before in
     let at-if1 = at-match-word .before .before .before in
     let at-depth-of = at-if1 .before .before in
-    let start = at-depth-of .before .before .before .before in
-    let a = start .args in
-    λ image. operand-begun (record { code = now (a .code); image = image }) (now (a .work)) _ (a .r) (a .r) (a .x) (a .v) (a .byte) _ (at-depth-of .depth-of .ensures) _ _ _ (c .before .same .ensures) refl (at-if1 .if1 .left) (c .entry-from .ensures .0 image) (at-put-match .put-match .ensures (a .r .pc) (a .r .env) (a .v) (at-match-word .match-word .ensures))
+    let at-instruction = at-depth-of .before in
+    let s = at-instruction .before .before .before in
+    let a = s .args in
+    λ image. operand-begun (record { code = now (a .code); image = image }) (now (a .work)) _ (a .r) (a .r) (a .x .0) (a .v) (a .byte) _ (at-depth-of .depth-of .ensures ∙ ap depthOf (at-instruction .instruction .ensures)) _ _ _ (at-same .same .ensures) refl (at-if1 .if1 .left) (c .entry-from .ensures .0 image) (at-put-match .put-match .ensures (a .r .pc) (a .r .env) (a .v) (at-match-word .match-word .ensures))
 
 pub begin-operand-spec : {M : Type 1} → statement M
 begin-operand-spec =
     tie.close
     (tie.spec
-    mul-depth-of
-    shared-slice-read-depth-of
+    instruction-requires
     depth-of-requires
     add-d
     halt-requires

@@ -1,3 +1,5 @@
+use mathlib.Core.Path.{ap, _∙_}
+use Rattle.vm_code.specs.Words.{depthOf}
 use denote.Ref.{now}
 use Rattle.vm_matches.proofs.Matching.{still-matchable, match-resumed}
 use borrow.Author.Needs.{needs}
@@ -7,6 +9,9 @@ use Rattle.vm_matches.proofs.operands.resume_match.Tie as tie
 slot-pc-requires : tie.Need-slot-pc-requires
 slot-pc-requires c κs = search needs
 
+instruction-requires : tie.Need-instruction-requires
+instruction-requires c κs = search needs
+
 byte-beside-requires : tie.Need-byte-beside-requires
 byte-beside-requires c κs = search needs
 
@@ -15,12 +20,6 @@ looked-again-requires c κs = search needs
 
 same-requires : tie.Need-same-requires
 same-requires c κs = search needs
-
-mul-depth-of : tie.Need-mul-depth-of
-mul-depth-of c = search needs
-
-shared-slice-read-depth-of : tie.Need-shared-slice-read-depth-of
-shared-slice-read-depth-of c = search needs
 
 depth-of-requires : tie.Need-depth-of-requires
 depth-of-requires c κs = search needs
@@ -34,44 +33,55 @@ add-q-2 c = search needs
 slot-env-requires : tie.Need-slot-env-requires
 slot-env-requires c κs = search needs
 
+match-fields-requires : tie.Need-match-fields-requires
+match-fields-requires c κs = search needs
+
 entries-from-requires : tie.Need-entries-from-requires
 entries-from-requires c κs =
-    let at-depth-of = c .before .before .before in
-    let at-same = at-depth-of .before .before in
-    let at-slot-pc = at-same .before .before .before .before in
+    let at-match-fields = c .before in
+    let at-depth-of = at-match-fields .before .before .before in
+    let at-same = at-depth-of .before in
+    let at-instruction = at-same .before .before .before .before in
+    let at-slot-pc = at-instruction .before in
     let s = at-slot-pc .before .before .before .before in
     let a = s .args in
-    still-matchable (now (a .code)) (now (a .work)) (a .r) (at-same .same .result) (a .f) _ _ _ (s .pre .0) (s .pre .1) (at-slot-pc .slot-pc .ensures) (at-same .same .ensures) (at-depth-of .depth-of .ensures)
+    let m = still-matchable (now (a .code)) (now (a .work)) (a .r) (at-same .same .result) (a .f) _ _ _ (s .pre .0) (s .pre .1) (at-slot-pc .slot-pc .ensures) (at-same .same .ensures) (at-depth-of .depth-of .ensures ∙ ap depthOf (at-instruction .instruction .ensures)) in
+    (m .0, m .1, at-instruction .instruction .ensures, (now (a .image), at-match-fields .match-fields .ensures))
 
 same-length : tie.Need-same-length
-same-length c = c .before .before .entries-from .kept .1 .1 .0
+same-length c =
+    let at-entries-from = c .before .before in
+    at-entries-from .entries-from .kept .1 .1 .0
 
 returns : tie.Need-returns
 returns c =
-    let at-slot-env = c .before .before .before .before in
+    let at-entries-from = c .before .before in
+    let at-match-fields = at-entries-from .before .before in
+    let at-slot-env = at-match-fields .before in
     let at-depth-of = at-slot-env .before .before in
-    let at-same = at-depth-of .before .before in
+    let at-same = at-depth-of .before in
     let at-looked-again = at-same .before in
     let at-byte-beside = at-looked-again .before in
-    let at-slot-pc = at-byte-beside .before .before in
-    let start = at-slot-pc .before .before .before .before in
-    let a = start .args in
-    match-resumed (record { code = now (a .code); image = now (a .image) }) (now (a .work)) _ (a .r) _ _ (a .f) _ _ _ _ (at-looked-again .looked-again .result) (at-byte-beside .byte-beside .ensures .0) (at-looked-again .looked-again .ensures .0) (at-slot-pc .slot-pc .ensures) (at-same .same .ensures) (at-depth-of .depth-of .ensures) (at-slot-env .slot-env .ensures) (c .before .before .entries-from .ensures)
+    let at-instruction = at-byte-beside .before .before in
+    let at-slot-pc = at-instruction .before in
+    let s = at-slot-pc .before .before .before .before in
+    let a = s .args in
+    match-resumed (record { code = now (a .code); image = now (a .image) }) (now (a .work)) _ (a .r) _ _ (a .f) _ _ _ _ (at-looked-again .looked-again .result) (at-byte-beside .byte-beside .ensures .0) (at-looked-again .looked-again .ensures .0) (at-slot-pc .slot-pc .ensures) (at-same .same .ensures) (at-depth-of .depth-of .ensures ∙ ap depthOf (at-instruction .instruction .ensures)) (at-slot-env .slot-env .ensures) (at-entries-from .entries-from .ensures (now (a .image)) (at-match-fields .match-fields .ensures))
 
 pub resume-match-spec : {M : Type 1} → statement M
 resume-match-spec =
     tie.close
     (tie.spec
     slot-pc-requires
+    instruction-requires
     byte-beside-requires
     looked-again-requires
     same-requires
-    mul-depth-of
-    shared-slice-read-depth-of
     depth-of-requires
     add-q
     add-q-2
     slot-env-requires
+    match-fields-requires
     entries-from-requires
     same-length
     returns)

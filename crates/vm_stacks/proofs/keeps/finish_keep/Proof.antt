@@ -1,3 +1,8 @@
+use Prim.Native.Nat.{_%_}
+use mathlib.Core.Path.{_≡_, ap, _∙_}
+use lib.ListN.{getD}
+use native.Mathlib.Omega.{arith}
+use Rattle.vm_tables.specs.View.{memoryOf}
 use denote.Ref.{now}
 use Rattle.vm_machine.specs.Fetch.{codeAt, atomValue}
 use Rattle.vm_stacks.proofs.Keeping.{atom-given, atom-spent}
@@ -11,14 +16,11 @@ halt-requires c κs = search needs
 returns : tie.Need-returns
 returns c = let a = c .before .before .before .before .before .args in λ image. atom-spent (now (a .work)) (now (a .work)) (a .r) _ (a .w) (λ S. atomValue (record { code = now (a .code); image = image }) (S .memory) (S .regs .env) (codeAt (record { code = now (a .code); image = image }) (a .g))) (c .before .if1 .taken) (c .halt .ensures)
 
-mul-atom-value : tie.Need-mul-atom-value
-mul-atom-value c = search needs
+term-with-requires : tie.Need-term-with-requires
+term-with-requires c κs = search needs
 
-shared-slice-read-atom-value : tie.Need-shared-slice-read-atom-value
-shared-slice-read-atom-value c = search needs
-
-atom-value-requires : tie.Need-atom-value-requires
-atom-value-requires c κs = search needs
+atom-at-requires : tie.Need-atom-at-requires
+atom-at-requires c κs = search needs
 
 given-requires : tie.Need-given-requires
 given-requires c κs = search needs
@@ -28,11 +30,15 @@ same-length c = search needs
 
 returns-2 : tie.Need-returns-2
 returns-2 c =
-    let at-atom-value = c .before .before .before in
-    let at-if1 = at-atom-value .before .before .before .before in
-    let start = at-if1 .before .before .before .before in
-    let a = start .args in
-    λ image. atom-given (now (a .work)) _ (a .r) _ (a .w) (λ S. atomValue (record { code = now (a .code); image = image }) (S .memory) (S .regs .env) (codeAt (record { code = now (a .code); image = image }) (a .g))) (at-if1 .if1 .left) _ (λ log. at-atom-value .atom-value .ensures (record { code = now (a .code); image = image })) (c .before .before .given .ensures)
+    let at-given = c .before .before in
+    let at-atom-at = at-given .before in
+    let at-term-with = at-atom-at .before .before .before in
+    let at-if1 = at-term-with .before in
+    let s = at-if1 .before .before .before .before in
+    let a = s .args in
+    let z : a .g % 1024 ≡ a .g = omega (arith, s .pre .2) in
+    λ image. atom-given (now (a .work)) _ (a .r) _ (a .w) (λ S. atomValue (record { code = now (a .code); image = image }) (S .memory) (S .regs .env) (codeAt (record { code = now (a .code); image = image }) (a .g))) (at-if1 .if1 .left) _
+    (λ log. at-atom-at .atom-at .ensures image ∙ ap (λ i. atomValue (record { code = now (a .code); image = image }) (memoryOf (now (a .work))) (a .r .env) (getD (now (a .code)) i 0)) (at-term-with .term-with .ensures ∙ z)) (at-given .given .ensures)
 
 pub finish-keep-spec : {M : Type 1} → statement M
 finish-keep-spec =
@@ -40,9 +46,8 @@ finish-keep-spec =
     (tie.spec
     halt-requires
     returns
-    mul-atom-value
-    shared-slice-read-atom-value
-    atom-value-requires
+    term-with-requires
+    atom-at-requires
     given-requires
     same-length
     returns-2)

@@ -2,7 +2,7 @@ use native.Mathlib.Omega.{arith}
 use Prim.Native.Nat.{_<_}
 use Rattle.vm_machine.specs.declared.Regs.{Regs}
 use denote.Ref.{now}
-use mathlib.Core.Path.{refl, sym, subst}
+use mathlib.Core.Path.{sym, subst}
 use Rattle.vm_stacks.proofs.Keeping.{keep-spent, keep-left}
 use borrow.Author.Needs.{needs}
 use Rattle.vm_stacks.proofs.keeps.leave_keep.Statement.{statement}
@@ -17,11 +17,8 @@ returns c = let a = c .before .before .before .before .before .args in λ image.
 slot-pc-requires : tie.Need-slot-pc-requires
 slot-pc-requires c κs = search needs
 
-mul-w : tie.Need-mul-w
-mul-w c = search needs
-
-shared-slice-read-w : tie.Need-shared-slice-read-w
-shared-slice-read-w c = search needs
+instruction-requires : tie.Need-instruction-requires
+instruction-requires c κs = search needs
 
 same-requires : tie.Need-same-requires
 same-requires c κs = search needs
@@ -54,15 +51,17 @@ same-length c = search needs
 
 returns-2 : tie.Need-returns-2
 returns-2 c =
-    let at-slot-env = c .before .before .before .before in
+    let at-given = c .before .before in
+    let at-slot-env = at-given .before .before in
     let at-depth-of = at-slot-env .before .before in
     let at-one-less = at-depth-of .before in
     let at-same = at-one-less .before in
-    let at-slot-pc = at-same .before .before in
+    let at-instruction = at-same .before in
+    let at-slot-pc = at-instruction .before in
     let at-if1 = at-slot-pc .before in
-    let start = at-if1 .before .before .before .before in
-    let a = start .args in
-    λ image. keep-left (record { code = now (a .code); image = image }) (now (a .work)) _ (a .r) _ (a .f) _ _ _ _ _ _ (at-if1 .if1 .left) (at-slot-pc .slot-pc .ensures) refl (at-same .same .ensures) (at-depth-of .depth-of .ensures) (at-one-less .one-less .ensures) (at-slot-env .slot-env .ensures) (c .before .before .given .ensures)
+    let s = at-if1 .before .before .before .before in
+    let a = s .args in
+    λ image. keep-left (record { code = now (a .code); image = image }) (now (a .work)) _ (a .r) _ (a .f) _ _ _ _ _ _ (at-if1 .if1 .left) (at-slot-pc .slot-pc .ensures) (at-instruction .instruction .ensures) (at-same .same .ensures) (at-depth-of .depth-of .ensures) (at-one-less .one-less .ensures) (at-slot-env .slot-env .ensures) (at-given .given .ensures)
 
 pub leave-keep-spec : {M : Type 1} → statement M
 leave-keep-spec =
@@ -71,8 +70,7 @@ leave-keep-spec =
     halt-requires
     returns
     slot-pc-requires
-    mul-w
-    shared-slice-read-w
+    instruction-requires
     same-requires
     one-less-requires
     depth-of-requires

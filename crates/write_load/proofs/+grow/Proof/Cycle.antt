@@ -7,6 +7,7 @@ use Rattle.write_load.proofs.grow.Kinds as kinds
 use Rattle.write_load.proofs.+grow.Lts-grow as lts
 use Rattle.write_load.proofs.draw.Reads as draw-reads
 use Rattle.write_load.proofs.is_number.Reads as is-number-reads
+use Rattle.write_load.proofs.last_term.Reads as last-term-reads
 use Rattle.write_load.proofs.put_number.Reads as put-number-reads
 use Rattle.write_load.proofs.put_print.Reads as put-print-reads
 use Rattle.write_load.proofs.put_sequence.Reads as put-sequence-reads
@@ -33,6 +34,8 @@ claims t = (
   reads.Post,
   put-print-reads.Asked,
   put-print-reads.Learnt,
+  last-term-reads.Asked,
+  last-term-reads.Learnt,
   put-sequence-reads.Asked,
   put-sequence-reads.Learnt,
   put-sum-reads.Asked,

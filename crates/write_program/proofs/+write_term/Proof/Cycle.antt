@@ -5,15 +5,15 @@ use borrow.Fn.PlainCycle.{Measures, is, falls, and}
 use Rattle.write_program.proofs.write_term.Reads as reads
 use Rattle.write_program.proofs.write_term.Kinds as kinds
 use Rattle.write_program.proofs.+write_term.Lts-write_term as lts
-use Rattle.check_rules.proofs.terms.term_place.Reads as term-place-reads
+use Rattle.read_terms.proofs.terms.term_fields.Reads as term-fields-reads
 use Rattle.write_fields.proofs.known_fields.Reads as known-fields-reads
 use Rattle.write_fields.proofs.class_of.Reads as class-of-reads
-use Rattle.check_records.proofs.words.field_at.Reads as field-at-reads
+use Rattle.read_records.proofs.fields.field.Reads as field-reads
 use Rattle.write_fields.proofs.is_child.Reads as is-child-reads
 use Rattle.write_fields.proofs.child_no.Reads as child-no-reads
 use Rattle.write_program.proofs.last_number.Reads as last-number-reads
 use Rattle.write_types.proofs.kept_number.Reads as kept-number-reads
-use Rattle.check_rules.proofs.terms.term_kind.Reads as term-kind-reads
+use Rattle.read_terms.proofs.terms.term_kind.Reads as term-kind-reads
 use Rattle.write_program.proofs.put_term.Reads as put-term-reads
 
 abbrev pub μ-write-term : Measures 5 kinds.ps ℕ
@@ -27,14 +27,16 @@ write-term-below t = and 5 kinds.ps (falls 5 kinds.ps _<_ μ-write-term t) reads
 
 abbrev pub claims : ℕ → lts.Claims
 claims t = (
-  term-place-reads.Asked,
-  term-place-reads.Learnt,
+  term-fields-reads.Asked,
+  term-fields-reads.Learnt,
+  term-kind-reads.Asked,
+  term-kind-reads.Learnt,
   known-fields-reads.Asked,
   known-fields-reads.Learnt,
   class-of-reads.Asked,
   class-of-reads.Learnt,
-  field-at-reads.Asked,
-  field-at-reads.Learnt,
+  field-reads.Asked,
+  field-reads.Learnt,
   is-child-reads.Asked,
   is-child-reads.Learnt,
   child-no-reads.Asked,
@@ -45,8 +47,6 @@ claims t = (
   last-number-reads.Learnt,
   kept-number-reads.Asked,
   kept-number-reads.Learnt,
-  term-kind-reads.Asked,
-  term-kind-reads.Learnt,
   put-term-reads.Asked,
   put-term-reads.Learnt,
 )

@@ -1,3 +1,4 @@
+-- `write_stripped::sets::has_wrong_member` meets its contract.
 use borrow.Author.Needs.{needs}
 use Prim.Native.Nat.{_-_, _≤_}
 use native.Mathlib.Omega.{arith}
@@ -7,15 +8,11 @@ use denote.Ref.{now}
 use lib.Dec.{leb}
 use Rattle.laws.specs.Tests.{anyBelow}
 use Rattle.image.specs.Limits.{domainLimit}
-use Rattle.check_rules.specs.Judged.{bitOf}
-use Rattle.check_shape.proofs.Orders.{any-more}
+use Rattle.read_terms.specs.Masks.{bitOf}
+use Rattle.laws.proofs.Tests.{any-more}
 use Rattle.write_idle.specs.Idle.{inMask}
 use Rattle.write_stripped.proofs.sets.has_wrong_member.Statement.{statement}
 use Rattle.write_stripped.proofs.sets.has_wrong_member.Tie as tie
-use Rattle.write_stripped.proofs.sets.has_wrong_member.Reads as reads
-use Rattle.write_stripped.proofs.sets.has_wrong_member.Lts as lts
-use Rattle.laws.proofs.either.Reads as either-reads
-use Rattle.write_stripped.proofs.sets.is_wrong_member.Reads as is-wrong-member-reads
 
 abbrev Inv-loop : tie.InvT-loop
 Inv-loop masks count mask found₀ d₀ found d = (d ≤ 16) × (found ≡ anyBelow d (λ k. inMask mask k && (leb count k || anyBelow domainLimit (λ q. bitOf masks k q && not (inMask mask q)))))
@@ -23,34 +20,27 @@ Inv-loop masks count mask found₀ d₀ found d = (d ≤ 16) × (found ≡ anyBe
 abbrev μ-loop : tie.MeasureT-loop
 μ-loop masks count mask found₀ d₀ found d = 16 - d
 
--- src/sets.rt:50:5
 loop-holds : tie.Need-loop-holds Inv-loop μ-loop
 unfolding anyBelow
 loop-holds c = (omega arith, refl)
 
--- src/sets.rt:51:31
 is-wrong-member-requires : tie.Need-is-wrong-member-requires Inv-loop μ-loop
 is-wrong-member-requires c κs = search needs
 
--- src/sets.rt:51:9
 either-requires : tie.Need-either-requires Inv-loop μ-loop
 either-requires c κs = search needs
 
--- src/sets.rt:52:9
 add-d : tie.Need-add-d Inv-loop μ-loop
 add-d c = search needs
 
--- src/sets.rt:50:5
 loop-less : tie.Need-loop-less Inv-loop μ-loop
 loop-less c = search needs
 
--- src/sets.rt:50:5
 loop-again : tie.Need-loop-again Inv-loop μ-loop
 loop-again c =
     let l = c .before .before .before .loop in
     (omega (arith, c .before .before .loop-test .taken), c .either .ensures ∙ ap (λ t. l .found || t) (c .before .is-wrong-member .ensures) ∙ any-more (l .d) _ (l .found) (l .inv .1))
 
--- src/sets.rt:45:1
 returns : tie.Need-returns Inv-loop μ-loop
 returns c =
     let s = c .before .before in

@@ -1,3 +1,4 @@
+-- `write_stripped::sets::lacks_above` meets its contract.
 use borrow.Author.Needs.{needs}
 use Prim.Native.Nat.{_-_, _≤_}
 use native.Mathlib.Omega.{arith}
@@ -5,50 +6,39 @@ use mathlib.Core.Path.{_≡_, refl, ap, _∙_}
 use mathlib.Core.Bool.{not, _&&_, _||_}
 use denote.Ref.{now}
 use Rattle.laws.specs.Tests.{anyBelow}
-use Rattle.check_rules.specs.Judged.{bitOf}
-use Rattle.check_shape.proofs.Orders.{any-more}
+use Rattle.read_terms.specs.Masks.{bitOf}
+use Rattle.laws.proofs.Tests.{any-more}
 use Rattle.write_idle.specs.Idle.{inMask}
 use Rattle.write_stripped.proofs.sets.lacks_above.Statement.{statement}
 use Rattle.write_stripped.proofs.sets.lacks_above.Tie as tie
-use Rattle.write_stripped.proofs.sets.lacks_above.Reads as reads
-use Rattle.write_stripped.proofs.sets.lacks_above.Lts as lts
-use Rattle.laws.proofs.either.Reads as either-reads
-use Rattle.write_stripped.proofs.sets.is_lacking.Reads as is-lacking-reads
 
 abbrev Inv-loop : tie.InvT-loop
-Inv-loop masks mask d found₀ q₀ found q = (q ≤ 16) × (found ≡ anyBelow q (λ k. bitOf masks d k && not (inMask mask k)))
+Inv-loop masks mask d found₀ q₀ found q = (q ≤ 16) × (found ≡ anyBelow q (λ k. bitOf masks (d .0) k && not (inMask mask k)))
 
 abbrev μ-loop : tie.MeasureT-loop
 μ-loop masks mask d found₀ q₀ found q = 16 - q
 
--- src/sets.rt:30:5
 loop-holds : tie.Need-loop-holds Inv-loop μ-loop
 unfolding anyBelow
 loop-holds c = (omega arith, refl)
 
--- src/sets.rt:31:31
 is-lacking-requires : tie.Need-is-lacking-requires Inv-loop μ-loop
 is-lacking-requires c κs = search needs
 
--- src/sets.rt:31:9
 either-requires : tie.Need-either-requires Inv-loop μ-loop
 either-requires c κs = search needs
 
--- src/sets.rt:32:9
 add-q : tie.Need-add-q Inv-loop μ-loop
 add-q c = search needs
 
--- src/sets.rt:30:5
 loop-less : tie.Need-loop-less Inv-loop μ-loop
 loop-less c = search needs
 
--- src/sets.rt:30:5
 loop-again : tie.Need-loop-again Inv-loop μ-loop
 loop-again c =
     let l = c .before .before .before .loop in
     (omega (arith, c .before .before .loop-test .taken), c .either .ensures ∙ ap (λ t. l .found || t) (c .before .is-lacking .ensures) ∙ any-more (l .q) _ (l .found) (l .inv .1))
 
--- src/sets.rt:25:1
 returns : tie.Need-returns Inv-loop μ-loop
 returns c =
     let s = c .before .before in
@@ -56,7 +46,7 @@ returns c =
     let g : 16 ≤ l .q = search needs in
     let h = l .inv .0 in
     let e : l .q ≡ 16 = omega arith in
-    l .inv .1 ∙ ap (λ n. anyBelow n (λ k. bitOf (now (s .args .masks)) (s .args .d) k && not (inMask (s .args .mask) k))) e
+    l .inv .1 ∙ ap (λ n. anyBelow n (λ k. bitOf (now (s .args .masks)) (s .args .d .0) k && not (inMask (s .args .mask) k))) e
 
 pub lacks-above-spec : {M : Type 1} → statement M
 lacks-above-spec =

@@ -5,9 +5,10 @@ use borrow.Fn.PlainCycle.{Measures, is, falls, and}
 use Rattle.write_terms.proofs.enter_term.Reads as reads
 use Rattle.write_terms.proofs.enter_term.Kinds as kinds
 use Rattle.write_terms.proofs.+enter_term.Lts-enter_term as lts
-use Rattle.check_rules.proofs.terms.stated_type.Reads as stated-type-reads
-use Rattle.check_records.proofs.words.field_at.Reads as field-at-reads
-use Rattle.check_rules.proofs.terms.term_place.Reads as term-place-reads
+use Rattle.read_records.proofs.fields.field.Reads as field-reads
+use Rattle.read_terms.proofs.terms.own_type.Reads as own-type-reads
+use Rattle.read_terms.proofs.terms.term_fields.Reads as term-fields-reads
+use Rattle.read_terms.proofs.terms.term_kind.Reads as term-kind-reads
 use Rattle.write_fields.proofs.child_no.Reads as child-no-reads
 use Rattle.write_fields.proofs.class_of.Reads as class-of-reads
 use Rattle.write_fields.proofs.is_child.Reads as is-child-reads
@@ -25,22 +26,24 @@ enter-term-below t = and 6 kinds.ps (falls 6 kinds.ps _<_ μ-enter-term t) reads
 
 abbrev pub claims : ℕ → lts.Claims
 claims t = (
-  term-place-reads.Asked,
-  term-place-reads.Learnt,
+  term-fields-reads.Asked,
+  term-fields-reads.Learnt,
+  term-kind-reads.Asked,
+  term-kind-reads.Learnt,
   known-fields-reads.Asked,
   known-fields-reads.Learnt,
   class-of-reads.Asked,
   class-of-reads.Learnt,
-  field-at-reads.Asked,
-  field-at-reads.Learnt,
+  field-reads.Asked,
+  field-reads.Learnt,
   is-child-reads.Asked,
   is-child-reads.Learnt,
   child-no-reads.Asked,
   child-no-reads.Learnt,
   enter-term-below t,
   reads.Post,
-  stated-type-reads.Asked,
-  stated-type-reads.Learnt,
+  own-type-reads.Asked,
+  own-type-reads.Learnt,
   enter-type-reads.Asked,
   enter-type-reads.Learnt,
 )

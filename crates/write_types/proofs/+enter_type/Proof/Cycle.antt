@@ -5,8 +5,9 @@ use borrow.Fn.PlainCycle.{Measures, is, falls, and}
 use Rattle.write_types.proofs.enter_type.Reads as reads
 use Rattle.write_types.proofs.enter_type.Kinds as kinds
 use Rattle.write_types.proofs.+enter_type.Lts-enter_type as lts
-use Rattle.check_records.proofs.numbers.type_offset.Reads as type-offset-reads
-use Rattle.check_records.proofs.words.field_at.Reads as field-at-reads
+use Rattle.read_records.proofs.fields.type_field.Reads as type-field-reads
+use Rattle.read_terms.proofs.type_records.type_fields.Reads as type-fields-reads
+use Rattle.read_terms.proofs.type_records.type_kind.Reads as type-kind-reads
 use Rattle.write_fields.proofs.class_of.Reads as class-of-reads
 use Rattle.write_fields.proofs.known_fields.Reads as known-fields-reads
 use Rattle.write_types.proofs.enter_one.Reads as enter-one-reads
@@ -26,14 +27,16 @@ abbrev pub claims : ℕ → lts.Claims
 claims t = (
   is-entered-reads.Asked,
   is-entered-reads.Learnt,
-  type-offset-reads.Asked,
-  type-offset-reads.Learnt,
+  type-fields-reads.Asked,
+  type-fields-reads.Learnt,
+  type-kind-reads.Asked,
+  type-kind-reads.Learnt,
   known-fields-reads.Asked,
   known-fields-reads.Learnt,
   class-of-reads.Asked,
   class-of-reads.Learnt,
-  field-at-reads.Asked,
-  field-at-reads.Learnt,
+  type-field-reads.Asked,
+  type-field-reads.Learnt,
   enter-type-below t,
   reads.Post,
   enter-one-reads.Asked,

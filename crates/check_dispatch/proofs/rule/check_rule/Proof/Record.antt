@@ -10,20 +10,21 @@ use Rattle.image.specs.Layout.{recordsOf}
 use Rattle.image.specs.Types.{termPlace, termKind}
 use Rattle.verdict.specs.declared.Verdict.{Verdict}
 use Rattle.verdict.specs.Settings.{Setting}
-use Rattle.check_rules.specs.Lent.{Lent, TypeOffsets, Masks, IsTerm}
-use Rattle.check_rules.specs.Fields.{fieldsOf, countIn, ruleIn, Typed, AtField, Labels, Bodies, Entries}
+use Rattle.read_terms.specs.Lent.{Lent, TypeOffsets, Masks, IsTerm}
+use Rattle.read_terms.specs.Fields.{fieldsOf, countIn, Typed, AtField, Labels, Bodies, Entries}
+use Rattle.check_rules.specs.Rules.{ruleIn}
 use Rattle.check_rules.specs.Judged.{judged, ruleVerdict}
-use Rattle.check_rules.proofs.Elimination.{beforeLast, apart, last-kind}
-use Rattle.check_rules.proofs.Located.{number-is, kind-read, typed-in, at-field-in, labels-in, bodies-in, call-long, takedown-long, entries-in}
-use Rattle.check_rules.proofs.Counts.{match-count}
+use Rattle.read_terms.proofs.Elimination.{beforeLast, apart, last-kind}
+use Rattle.read_terms.proofs.Located.{number-is, kind-read, typed-in, at-field-in, labels-in, bodies-in, call-long, takedown-long, entries-in}
+use Rattle.read_terms.proofs.Counts.{match-count}
 use Rattle.check_rules.proofs.Verdict.{verdict-in, answered-in}
 use Rattle.check_rules.proofs.OnDescriptors.{abort-right}
 use Rattle.check_dispatch.proofs.rule.check_rule.Tie as tie
 use Rattle.check_dispatch.proofs.rule.check_rule.Reads as reads
 use Rattle.check_dispatch.proofs.rule.check_rule.Lts as lts
-use Rattle.check_rules.proofs.terms.term_place.Reads as term-place-reads
-use Rattle.check_rules.proofs.terms.term_fields.Reads as term-fields-reads
-use Rattle.check_rules.proofs.terms.term_kind.Reads as term-kind-reads
+use Rattle.read_terms.proofs.terms.term_place.Reads as term-place-reads
+use Rattle.read_terms.proofs.terms.term_fields.Reads as term-fields-reads
+use Rattle.read_terms.proofs.terms.term_kind.Reads as term-kind-reads
 use Rattle.check_core.proofs.core.check_sequence.Reads as check-sequence-reads
 use Rattle.check_core.proofs.core.check_print.Reads as check-print-reads
 use Rattle.check_core.proofs.core.check_choice.Reads as check-choice-reads

@@ -17,9 +17,11 @@ use Rattle.verdict.specs.Answers.{isRefused}
 use Rattle.verdict.specs.Settings.{Setting}
 use Rattle.verdict.specs.Check.{checked}
 use Rattle.verdict.proofs.Answered.{accepted-is}
-use Rattle.check_rules.specs.Lent.{IsTerm, contextIn, settingIn}
-use Rattle.check_rules.specs.Fields.{fieldsOf, childrenIn, settingFrom, HasChild}
-use Rattle.check_rules.proofs.Located.{number-is, kind-is}
+use Rattle.read_terms.specs.Lent.{IsTerm}
+use Rattle.check_rules.specs.Scopes.{contextIn, settingIn}
+use Rattle.read_terms.specs.Fields.{fieldsOf, childrenIn, HasChild}
+use Rattle.check_rules.specs.Rules.{settingFrom}
+use Rattle.read_terms.proofs.Located.{number-is, kind-is}
 use Rattle.check_scopes.specs.Scopes.{Passed, ChildAt}
 use Rattle.check_typing.specs.Turns.{Room}
 use Rattle.check_typing.proofs.TermPass.{front, same-setting}

@@ -7,31 +7,28 @@ use denote.Ref.{now}
 use native.Mathlib.Omega.{arith}
 use mathlib.Core.Path.{_≡_, refl, sym, ap, _∙_}
 use mathlib.Core.Bool.{true, false}
-use borrow.Author.Tests.{leb-true}
 use mathlib.Core.List.{List}
 use lib.ListN.{length, getD, take}
-use Rattle.image.specs.Bytes.{numberAt}
 use Rattle.image.specs.Kinds.{TermKind, termRow}
 use Rattle.image.specs.Layout.{recordsOf}
-use Rattle.image.specs.Types.{termPlace, termKind}
+use Rattle.image.specs.Types.{termKind}
 use Rattle.verdict.specs.declared.Verdict.{Verdict}
 use Rattle.verdict.specs.Answers.{isRefused}
 use Rattle.verdict.specs.Settings.{Setting}
 use Rattle.verdict.specs.Check.{checked}
 use Rattle.verdict.proofs.Answered.{accepted-is}
-use Rattle.check_records.specs.Heads.{fieldIn}
-use Rattle.check_rules.specs.Lent.{IsTerm, contextIn, settingIn}
-use Rattle.check_rules.specs.Fields.{fieldsOf, countIn, childrenIn, HasChild}
+use Rattle.read_records.specs.Heads.{fieldIn}
+use Rattle.read_terms.specs.Lent.{IsTerm}
+use Rattle.check_rules.specs.Scopes.{contextIn, settingIn}
+use Rattle.read_terms.specs.Fields.{fieldsOf, countIn, childrenIn, HasChild}
 use Rattle.check_rules.specs.Judged.{ruleVerdict}
 use Rattle.image.proofs.KindNumbers.{same-term-kind}
-use Rattle.check_rules.proofs.Counts.{children-counted}
-use Rattle.check_rules.proofs.Located.{number-is}
+use Rattle.read_terms.proofs.Counts.{children-counted}
+use Rattle.read_terms.proofs.Located.{number-is}
 use Rattle.check_scopes.specs.Scopes.{movesChild}
-use Rattle.check_typing.specs.Faults.{faultAt, verdictAt}
 use Rattle.check_typing.specs.Turns.{Room}
 use Rattle.check_scopes.proofs.ChildSettings.{stays-here, stays-side, here-at}
-use Rattle.check_typing.proofs.TermPass.{front, same-setting, leaf-checked}
-use Rattle.check_typing.proofs.Faults.{own-back}
+use Rattle.check_typing.proofs.TermPass.{front, same-setting}
 use Rattle.check_typing.proofs.Children.{has-there, below, there, room-there, child-next, all-passed, refused-there}
 
 -- The children before child j pass, and the first places of the scope are kept.

@@ -1,0 +1,2 @@
+-- What an accepted image runs by.
+pub mod Prepared

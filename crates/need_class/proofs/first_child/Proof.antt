@@ -1,0 +1,30 @@
+use borrow.Author.Needs.{needs}
+use native.Mathlib.Omega.{arith}
+use mathlib.Core.Path.{sym, _∙_}
+use denote.Ref.{now}
+use Rattle.read_terms.specs.Fields.{childrenIn}
+use Rattle.need_class.proofs.Lowest.{no-first}
+use Rattle.need_class.proofs.first_child.Statement.{statement}
+use Rattle.need_class.proofs.first_child.Tie as tie
+
+child-count-requires : tie.Need-child-count-requires
+child-count-requires c κs = search needs
+
+returns : tie.Need-returns
+returns c =
+    let fs = now (c .before .before .before .args .fields) in
+    λ k e. sym (no-first (childrenIn fs k) (sym (c .before .child-count .ensures k e) ∙ c .if1 .taken))
+
+child-in-requires : tie.Need-child-in-requires
+child-in-requires c κs =
+    let P = c .before .before .before .pre in
+    let n = c .before .child-count .ensures (P .term-kind) (P .number) in
+    let some = c .if1 .left in
+    (P, omega arith)
+
+returns-2 : tie.Need-returns-2
+returns-2 c = search needs
+
+pub first-child-spec : {M : Type 1} → statement M
+first-child-spec =
+    tie.close (tie.spec child-count-requires returns child-in-requires returns-2)

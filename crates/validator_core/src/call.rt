@@ -1,0 +1,54 @@
+// The check of a call: its image, then the lengths of lent memory (document 01, "Turned back at the gate").
+use crate::examine::Checked;
+use image::IMAGE_LIMIT;
+use image::REPORT_LENGTH;
+use image::Refusal;
+use image::WORK_LENGTH;
+ghost use mathlib.Core.Path.{_≡_};
+ghost use lib.ListN.{length};
+ghost use Rattle.image.specs.Limits.{typeLimit, termLimit};
+ghost use Rattle.validator_core.specs.Calls.{Answered};
+
+// The lengths of the lent work area and of the lent report.
+pub struct Lent {
+    pub work: usize,
+    pub report: usize,
+}
+
+// Refusals 1 to 18 in their order; the tables of an accepted image are those of its types and terms.
+pub fn check_call(
+    image: &[u8],
+    lent: Lent,
+    types: &mut [u16; 128],
+    descriptors: &mut [u32; 128],
+    terms: &mut [u16; 1024],
+) -> Checked
+    requires { ⌜ (length (now types) ≡ typeLimit) × (length (now descriptors) ≡ typeLimit) × (length (now terms) ≡ termLimit) ⌝ }
+    ensures { λ r. ⌜ Answered (now (image .entry)) lent r (now (types .exit)) (now (descriptors .exit)) (now (terms .exit)) × (length (now (types .exit)) ≡ typeLimit) × (length (now (descriptors .exit)) ≡ typeLimit) × (length (now (terms .exit)) ≡ termLimit) ⌝ }
+{
+    if IMAGE_LIMIT < image.len() {
+        return Checked::Refused(Refusal::ImageTooLong, 0);
+    }
+    let kinds = read_records::table::kind_codes();
+    let mut doms = [0u16; 16];
+    let checked = crate::examine::examine_image(
+        image,
+        &kinds,
+        &mut doms,
+        types,
+        descriptors,
+        terms,
+    );
+    match checked {
+        Checked::Refused(why, place) => Checked::Refused(why, place),
+        Checked::Accepted(counts) => {
+            if lent.work < WORK_LENGTH {
+                return Checked::Refused(Refusal::ShortWorkArea, 0);
+            }
+            if lent.report < REPORT_LENGTH {
+                return Checked::Refused(Refusal::ShortReport, 0);
+            }
+            Checked::Accepted(counts)
+        }
+    }
+}
