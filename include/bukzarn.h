@@ -7,7 +7,7 @@
    Recursion is at most 64 deep; docs/STATIONS.md has the stack that calls were measured to take.
 
    "Document 01" is the paper that decides layouts, numbers and limits; document 02 asks for changes, card by card. What
-   bukzarn_run answers and leaves is the definition `called` in crates/calls/specs/Calls.antt, and the library is proved
+   bukzarn_run answers and leaves is the definition `called` in crates/call_spec/specs/Calls.antt, and the library is proved
    to meet it for every input; the other functions have such definitions too (crates/bukzarn/src names them). */
 #ifndef BUKZARN_H
 #define BUKZARN_H

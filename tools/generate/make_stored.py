@@ -12,7 +12,7 @@ from pathlib import Path
 
 sys.path.insert(0, str(Path(__file__).resolve().parents[2] / "python"))
 
-from halves_cases import halves_cases  # noqa: E402 (the path is set here)
+from quota_cases import quota_cases  # noqa: E402 (the path is set here)
 from make_cases import BUDGET, all_cases  # noqa: E402
 from make_examples import EXAMPLES, examples  # noqa: E402
 from newest_cases import newest_cases  # noqa: E402
@@ -28,7 +28,7 @@ def made(folder=EXAMPLES):
     yield from stack_cases()
     yield from takedown_cases()
     yield from newest_cases()
-    yield from halves_cases()
+    yield from quota_cases()
     for name, _ in examples(folder):
         yield name, (folder / f"{name}.img").read_bytes(), BUDGET
 

@@ -11,9 +11,9 @@ import sys
 from pathlib import Path
 
 ROOT = Path(__file__).resolve().parents[2]
-STATEMENTS = ("demands/specs", "calls/specs", "verdict/specs/Acceptable.antt", "listing/specs/Listing.antt",
+STATEMENTS = ("demands/specs", "call_spec/specs", "verdict/specs/Acceptable.antt", "listing/specs/Listing.antt",
               "write_load/specs/Card12.antt", "answers_as_numbers/specs", "recordings/specs", "bukzarn/specs",
-              "vm_links/specs", "demands_examples/proofs/Sheet.antt")
+              "vm_links/specs", "demands_examples/proofs/Conformance.antt")
 IMPORT = re.compile(r"\s*use Rattle·(\w+?)(?:·specs|·proofs)?\.(specs|proofs)\.([\w.]+?)(?:\.\{| as )")
 
 

@@ -36,10 +36,10 @@ OTHER_MEANING = {
     ("need_class", "is_permitted", "child"): "the number of the child's kind",
     ("vm_reductions", "bind_parts", "p"): "a piece",
     ("vm_stacks", "stack_pieces", "p"): "a piece",
-    ("vm_tables", "put_piece", "p"): "a piece",
-    ("vm_tables", "piece_first", "p"): "a piece",
-    ("vm_tables", "piece_second", "p"): "a piece",
-    ("vm_tables", "put_installed", "p"): "a piece",
+    ("vm_memory", "put_piece", "p"): "a piece",
+    ("vm_memory", "piece_first", "p"): "a piece",
+    ("vm_memory", "piece_second", "p"): "a piece",
+    ("vm_memory", "put_installed", "p"): "a piece",
     ("vm_words", "value", "body"): "what a value's word holds behind its tag",
 }
 
@@ -49,7 +49,7 @@ OTHER_INDEX = {
     ("check_layout", "put_type", "descriptors"): "i is the number of the type t",
     ("vm_passes", "build_code", "code"): "the word behind the terms'",
     ("vm_passes", "build_code", "dispatch"): "the number behind the terms'",
-    ("vm_turns", "started", "dispatch"): "a program counter, which may be the place behind the terms",
+    ("vm_loop", "started", "dispatch"): "a program counter, which may be the place behind the terms",
     ("vm_words", "instruction", "code"): "a program counter, which may be the place behind the terms",
 }
 

@@ -12,8 +12,8 @@ MOST_PARAMETERS = 6
 LONG = {
     ("bukzarn", "bukzarn_run_frames"): "the arguments of its calls, a line each",
     ("vm_pass_up", "word_of"): "an arm for each kind",
-    ("vm_starts", "first_of"): "an arm for each class",
-    ("vm_starts", "other_first"): "an arm for each class",
+    ("vm_dispatch", "first_of"): "an arm for each class",
+    ("vm_dispatch", "other_first"): "an arm for each class",
 }
 
 # More parameters than that: each table that is lent is a slice of its own, since a struct with slices in it takes a proof by
@@ -24,17 +24,17 @@ bukzarn: bukzarn_run_frames run_each
 check_core: check_install check_lower check_new_cell check_read check_store
 check_dispatch: check_rule
 check_layout: enter put_type scan_records scan_with
-check_objects: check_call
+check_objects: check_method_call
 check_scopes: child_setting
-check_typing: check_here check_moved check_term
+check_typing: check_here check_subterms check_term
 engine_core: prepare run_code
 validator_core: check_laid_out
-vm_acts: apply
+vm_actions: apply
+vm_execute: performed
+vm_loop: run_program run_turns
+vm_memory: put_advice
 vm_pass_up: pass_up
 vm_passes: build_code pass_down surround_children
-vm_perform: performed
-vm_tables: put_advice
-vm_turns: run_program run_turns
 write_fixed: write_checked
 write_image: write_whole
 write_program: write_term

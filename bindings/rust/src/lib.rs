@@ -2,7 +2,7 @@
 //!
 //! An *image* is a small program with marked points; the engine accepts or refuses it, and runs an accepted one over a
 //! received *frame* up to a budget of steps. The engine is a library that is proved to meet its contract for every
-//! input (`crates/calls/specs/Calls.antt`, `called`); this crate lends it memory and reads what it wrote. "Document 01"
+//! input (`crates/call_spec/specs/Calls.antt`, `called`); this crate lends it memory and reads what it wrote. "Document 01"
 //! is the paper that decides layouts, numbers and limits.
 //!
 //! ```

@@ -2,7 +2,7 @@
 use Prim.Native.Nat.{ℕ, _+_, _*_, _%_, _^_}
 use Rattle.image.specs.Refusals.{refusalNumber}
 use Rattle.verdict.specs.declared.Verdict.{Verdict}
-use Rattle.calls.specs.declared.Answer.{Answer}
+use Rattle.call_spec.specs.declared.Answer.{Answer}
 
 -- Bytes that were written, of an image or a report, which never has 2^16; and of a refusal 2^16 times its number (documents 01 and 02) and 2^24 times its place, which is cut so that the sum has 64 bits. What an answer lacks is 0.
 abbrev pub asNumber : ℕ → ℕ → ℕ → ℕ

@@ -1,5 +1,5 @@
 // Answers as one number.
-use calls::Answer;
+use call_spec::Answer;
 use verdict::Verdict;
 ghost use mathlib.Core.Path.{_≡_};
 ghost use Rattle.answers_as_numbers.specs.Numbers.{asNumber, refusedAsNumber, callNumber};

@@ -1,7 +1,7 @@
 -- A call with its answer as one number, from what the call answers and leaves.
 use Prim.Native.Nat.{ℕ}
 use mathlib.Core.Path.{_≡_, ap, _∙_}
-use Rattle.calls.specs.Calls.{Left}
+use Rattle.call_spec.specs.Calls.{Left}
 use Rattle.answers_as_numbers.specs.Numbers.{callNumber}
 use Rattle.bukzarn.specs.Numbers.{Numbered}
 

@@ -6,7 +6,7 @@ use Rattle.verdict.specs.declared.Verdict.{Verdict}
 use Rattle.validator.specs.Numbers.{verdictNumber, verdictPlace}
 use Rattle.image_needs.specs.declared.Forecast.{Forecast}
 use Rattle.image_needs.specs.Forecasts.{forecastPlace}
-use Rattle.calls.specs.Calls.{Left}
+use Rattle.call_spec.specs.Calls.{Left}
 use Rattle.write_fixed.specs.declared.Written.{Written}
 use Rattle.write_fixed.specs.Calls.{writtenNumber, writtenPlace, writtenBytes}
 use Rattle.write_load.specs.declared.Load.{Load}
@@ -14,7 +14,7 @@ use Rattle.write_load.specs.Loads.{loadNumber, loadBytes}
 use Rattle.write_stripped.specs.declared.Stripped.{Stripped}
 use Rattle.write_stripped.specs.Calls.{strippedNumber, strippedPlace, strippedBytes}
 use Rattle.answers_as_numbers.specs.Numbers.{asNumber, refusedAsNumber, callNumber}
-use Rattle.answers_as_numbers.specs.Places.{needNumber}
+use Rattle.answers_as_numbers.specs.Forecasts.{needNumber}
 
 abbrev pub verdictAsNumber : Verdict → ℕ
 verdictAsNumber v = refusedAsNumber (verdictNumber v) (verdictPlace v)

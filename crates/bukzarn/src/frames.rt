@@ -11,7 +11,7 @@ ghost use mathlib.Core.Path.{_≡_};
 ghost use Prim.Native.Nat.{_≤_, _<_};
 ghost use lib.ListN.{length};
 ghost use Rattle.image.specs.Limits.{workLength, reportLength};
-ghost use Rattle.calls.specs.Runs.{Accepts};
+ghost use Rattle.call_spec.specs.Runs.{Accepts};
 ghost use Rattle.recordings.specs.Recordings.{partLength, calledOver};
 ghost use Rattle.engine_core.specs.Prepared.{Runnable};
 

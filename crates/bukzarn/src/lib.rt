@@ -2,8 +2,8 @@
 // number. Memory that is lent may have any length and content.
 pub mod frames;
 
-use answers_as_numbers::places::need_number;
-use answers_as_numbers::places::put_forecast;
+use answers_as_numbers::forecasts::need_number;
+use answers_as_numbers::forecasts::put_forecast;
 use answers_as_numbers::numbers::as_number;
 use answers_as_numbers::numbers::call_number;
 use answers_as_numbers::numbers::refused_as_number;
@@ -11,12 +11,12 @@ ghost use mathlib.Core.Path.{_≡_};
 ghost use lib.ListN.{length};
 ghost use Rattle.verdict.specs.Verdicts.{verdict};
 ghost use Rattle.image_needs.specs.Forecasts.{forecast};
-ghost use Rattle.calls.specs.Calls.{called};
+ghost use Rattle.call_spec.specs.Calls.{called};
 ghost use Rattle.write_fixed.specs.Calls.{fixedCall};
 ghost use Rattle.write_load.specs.Loads.{loaded};
 ghost use Rattle.write_stripped.specs.Calls.{strippedCall};
 ghost use Rattle.bukzarn.specs.Numbers.{verdictAsNumber, needAsNumber, writtenAsNumber, loadAsNumber, strippedAsNumber, Numbered};
-ghost use Rattle.answers_as_numbers.specs.Places.{numbersLeft};
+ghost use Rattle.answers_as_numbers.specs.Forecasts.{numbersLeft};
 
 // A call of the engine: the bytes of report and of log that were written, or the refusal.
 #[no_mangle]

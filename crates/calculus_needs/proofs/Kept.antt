@@ -25,10 +25,10 @@ pieceless m = record {
 }
 
 -- The same in all but pieces.
-pub record Alike (m n : Numbers) : Type 0 where
+pub record SameButPieces (m n : Numbers) : Type 0 where
   pub alike : pieceless m ≡ pieceless n
 
-itself : {m : Numbers} → Alike m m
+itself : {m : Numbers} → SameButPieces m m
 itself = record { alike = refl }
 
 plus-pieceless : (m n : Numbers) → pieceless (m ⊕ n) ≡ pieceless m ⊕ pieceless n
@@ -39,15 +39,15 @@ dearer-pieceless : (m n : Numbers) → pieceless (dearer m n) ≡ dearer (piecel
 unfolding pieceless dearer
 dearer-pieceless m n = refl
 
-both : {m m′ n n′ : Numbers} → Alike m m′ → Alike n n′ → Alike (m ⊕ n) (m′ ⊕ n′)
+both : {m m′ n n′ : Numbers} → SameButPieces m m′ → SameButPieces n n′ → SameButPieces (m ⊕ n) (m′ ⊕ n′)
 both {m} {m′} {n} {n′} x y =
     record { alike = plus-pieceless m n ∙ (ap (λ z. z ⊕ pieceless n) (x .alike) ∙ (ap (λ z. pieceless m′ ⊕ z) (y .alike) ∙ sym (plus-pieceless m′ n′))) }
 
 -- Behind the same.
-after : (x : Numbers) {n n′ : Numbers} → Alike n n′ → Alike (x ⊕ n) (x ⊕ n′)
+after : (x : Numbers) {n n′ : Numbers} → SameButPieces n n′ → SameButPieces (x ⊕ n) (x ⊕ n′)
 after x y = both itself y
 
-either : {m m′ n n′ : Numbers} → Alike m m′ → Alike n n′ → Alike (dearer m n) (dearer m′ n′)
+either : {m m′ n n′ : Numbers} → SameButPieces m m′ → SameButPieces n n′ → SameButPieces (dearer m n) (dearer m′ n′)
 either {m} {m′} {n} {n′} x y =
     record { alike = dearer-pieceless m n ∙ (ap (λ z. dearer z (pieceless n)) (x .alike) ∙ (ap (λ z. dearer (pieceless m′) z) (y .alike) ∙ sym (dearer-pieceless m′ n′))) }
 
@@ -55,22 +55,22 @@ either {m} {m′} {n} {n′} x y =
 abbrev pub with-kept : ℕ → Here → Here
 with-kept k P = record { dom = P .dom; depth = P .depth; kept = k }
 
-some-pieces : (c : Dom) (j k : ℕ) → Alike (uses c (somePieces j)) (uses c (somePieces k))
+some-pieces : (c : Dom) (j k : ℕ) → SameButPieces (uses c (somePieces j)) (uses c (somePieces k))
 unfolding pieceless
 some-pieces c j k = look (eqb c 0)
   where
     look : (b : Bool)
-        → Alike (record { steps = 0; used = record { mainline = choose b (somePieces j) noCounts; others = choose b noCounts (somePieces j) }; labels = 0; advices = 0; prints = 0; frames = 0 })
+        → SameButPieces (record { steps = 0; used = record { mainline = choose b (somePieces j) noCounts; others = choose b noCounts (somePieces j) }; labels = 0; advices = 0; prints = 0; frames = 0 })
         (record { steps = 0; used = record { mainline = choose b (somePieces k) noCounts; others = choose b noCounts (somePieces k) }; labels = 0; advices = 0; prints = 0; frames = 0 })
     look true = record { alike = refl }
     look false = record { alike = refl }
 
-extra-alike : (P : Here) (k : ℕ) (x : Extra) → Alike (withExtra P x) (withExtra (with-kept k P) x)
+extra-alike : (P : Here) (k : ℕ) (x : Extra) → SameButPieces (withExtra P x) (withExtra (with-kept k P) x)
 extra-alike P k noExtra = itself
 extra-alike P k aNewLabel = itself
 extra-alike P k keptPieces = after (once P) (some-pieces (P .dom) (P .kept) k)
 
-own1-alike : (P : Here) (k : ℕ) (o : Op1) → Alike (own1 P o) (own1 (with-kept k P) o)
+own1-alike : (P : Here) (k : ℕ) (o : Op1) → SameButPieces (own1 P o) (own1 (with-kept k P) o)
 own1-alike P k print = itself
 own1-alike P k install = itself
 own1-alike P k read = itself
@@ -78,8 +78,8 @@ own1-alike P k byte = itself
 own1-alike P k newCell = itself
 own1-alike P k (call m) = itself
 
-module _ (W : Here → Numbers) (hW : (P : Here) (k : ℕ) → Alike (W P) (W (with-kept k P))) where
-  own2-alike : (P : Here) (k : ℕ) (o : Op2) → Alike (own2 W P o) (own2 W (with-kept k P) o)
+module _ (W : Here → Numbers) (hW : (P : Here) (k : ℕ) → SameButPieces (W P) (W (with-kept k P))) where
+  own2-alike : (P : Here) (k : ℕ) (o : Op2) → SameButPieces (own2 W P o) (own2 W (with-kept k P) o)
   own2-alike P k Op2.pair = itself
   own2-alike P k app = itself
   own2-alike P k mark = after (once P) (hW P k)
@@ -92,7 +92,7 @@ module _ (W : Here → Numbers) (hW : (P : Here) (k : ℕ) → Alike (W P) (W (w
   mutual
     unfolding need needs
 
-    pub need-alike : (e : Tm) (P : Here) (k : ℕ) → Alike (need W P e) (need W (with-kept k P) e)
+    pub need-alike : (e : Tm) (P : Here) (k : ℕ) → SameButPieces (need W P e) (need W (with-kept k P) e)
     need-alike (val v) P k = itself
     need-alike (var j) P k = itself
     need-alike (lam t b) P k = itself
@@ -110,14 +110,14 @@ module _ (W : Here → Numbers) (hW : (P : Here) (k : ℕ) → Alike (W P) (W (w
     need-alike (match p es f g) P k =
         both (needs-alike es (deeper P) k) (after (once P) (either (after (binds (P .dom) (variables p)) (need-alike f P k)) (need-alike g P k)))
 
-    needs-alike : (es : Tms) (P : Here) (k : ℕ) → Alike (needs W P es) (needs W (with-kept k P) es)
+    needs-alike : (es : Tms) (P : Here) (k : ℕ) → SameButPieces (needs W P es) (needs W (with-kept k P) es)
     needs-alike end P k = itself
     needs-alike (more e es) P k = both (need-alike e P k) (needs-alike es P k)
 
-round-alike : (P : Here) (k : ℕ) (p : Dom) (b : Tm) → Alike (round P p b) (round (with-kept k P) p b)
+round-alike : (P : Here) (k : ℕ) (p : Dom) (b : Tm) → SameButPieces (round P p b) (round (with-kept k P) p b)
 round-alike P k p b = after (binds p 1) (both (need-alike (λ Q. none) (λ Q j. itself) b (at p (deeper (deeper P))) k) itself)
 
-value-alike : (P : Here) (k : ℕ) (v : Val) → Alike (roundOfValue P v) (roundOfValue (with-kept k P) v)
+value-alike : (P : Here) (k : ℕ) (v : Val) → SameButPieces (roundOfValue P v) (roundOfValue (with-kept k P) v)
 value-alike P k Val.unit = itself
 value-alike P k (Val.truth b) = itself
 value-alike P k (Val.number n) = itself
@@ -131,7 +131,7 @@ value-alike P k (Val.object t bs) = itself
 value-alike P k Val.bottom = itself
 value-alike P k (Val.kept l v j) = itself
 
-over-alike : (P : Here) (k : ℕ) (e : Tm) → Alike (roundOf P e) (roundOf (with-kept k P) e)
+over-alike : (P : Here) (k : ℕ) (e : Tm) → SameButPieces (roundOf P e) (roundOf (with-kept k P) e)
 over-alike P k (val v) = value-alike P k v
 over-alike P k (var j) = itself
 over-alike P k (lam t b) = itself
@@ -148,7 +148,7 @@ over-alike P k (obj t bs) = itself
 over-alike P k (keep e f g) = itself
 over-alike P k (match p es f g) = itself
 
-installs-alike : (o : Op1) (P : Here) (k : ℕ) (e : Tm) → Alike (installs o P e) (installs o (with-kept k P) e)
+installs-alike : (o : Op1) (P : Here) (k : ℕ) (e : Tm) → SameButPieces (installs o P e) (installs o (with-kept k P) e)
 installs-alike print P k e = itself
 installs-alike install P k e = over-alike P k e
 installs-alike read P k e = itself
@@ -159,7 +159,7 @@ installs-alike (call m) P k e = itself
 mutual
   unfolding rounds allRounds
 
-  pub rounds-alike : (e : Tm) (P : Here) (k : ℕ) → Alike (rounds P e) (rounds (with-kept k P) e)
+  pub rounds-alike : (e : Tm) (P : Here) (k : ℕ) → SameButPieces (rounds P e) (rounds (with-kept k P) e)
   rounds-alike (val v) P k = itself
   rounds-alike (var j) P k = itself
   rounds-alike (lam t b) P k = itself
@@ -176,6 +176,6 @@ mutual
   rounds-alike (keep e f g) P k = both (rounds-alike e P k) (both (rounds-alike f P k) (rounds-alike g P k))
   rounds-alike (match p es f g) P k = both (all-alike es P k) (both (rounds-alike f P k) (rounds-alike g P k))
 
-  all-alike : (es : Tms) (P : Here) (k : ℕ) → Alike (allRounds P es) (allRounds (with-kept k P) es)
+  all-alike : (es : Tms) (P : Here) (k : ℕ) → SameButPieces (allRounds P es) (allRounds (with-kept k P) es)
   all-alike end P k = itself
   all-alike (more e es) P k = both (rounds-alike e P k) (all-alike es P k)

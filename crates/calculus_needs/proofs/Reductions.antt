@@ -11,8 +11,8 @@ use Rattle.calculus.specs.declared.Outcome.{Outcome}
 use Rattle.calculus.specs.Limits.{labelLimit, adviceLimit, logRecordLength}
 use Rattle.calculus.specs.Combinators.{choose, cases, filtered}
 use Rattle.calculus.specs.Syntax.{Dom, Ty, Val, Tm, Pattern, atEnd, atRest, anything, pointcut, Op0, Op1, Op2, val, newLabel, abort, takedown, theStack, call, print, install, read, byte, newCell, app, mark, store, plus, minus, less, equal}
-use Rattle.calculus.specs.State.{Advice, Event, State, Given, Counts, Uses, addUses, atDom, adviceBindings, cleared, without, otherThan, Entry, charged, someBindings, oneCell, onePiece, somePieces, turns, celled, labelled, installed, told, prints, picked, printOf, logOf, consOption}
-use Rattle.calculus.specs.Answer.{Answer, go, with, spend}
+use Rattle.calculus.specs.State.{Advice, Event, State, Given, Counts, Uses, addUses, atDom, adviceBindings, dropAdvice, without, otherThan, Entry, withUses, someBindings, oneCell, onePiece, somePieces, branched, withCells, addLabel, addAdvice, addEvent, prints, picked, printOf, logOf, consOption}
+use Rattle.calculus.specs.Answer.{Answer, reduct, with, spend}
 use Rattle.calculus.specs.Place.{Place}
 use Rattle.calculus_needs.specs.Here.{Here, here, at, deeper}
 use Rattle.calculus.specs.Compose.{member, triggeredBy, composed}
@@ -31,7 +31,7 @@ use Rattle.calculus_needs.specs.Claims.{Under}
 use Rattle.calculus_needs.proofs.Sums.{same, under-refl, under-same, under-trans, under-plus, under-left, under-right, dearer-left, dearer-right, none-left, none-right, none-under, counts-left, counts-right, plus-assoc, plus-comm, plus-same, plus-none}
 use Rattle.calculus_needs.proofs.Admitted.{Admitted, Over, OverValue, Permits1, Permits2, outside, rounds-none, need-same}
 use Rattle.calculus_needs.proofs.Substituted.{need-subst, straight-subst, admitted-subst, rounds-subst}
-use Rattle.calculus_needs.proofs.Takes.{standing, AdmittedAdvice, Meets, Gained, One, Takes, Takes.takes-go, Takes.takes-halt, Takes.takes-wrong, takes-value, takes-with, takes-room, takes-spend}
+use Rattle.calculus_needs.proofs.Takes.{standing, AdmittedAdvice, Meets, Gained, One, Takes, Takes.takes-go, Takes.takes-halt, Takes.takes-wrong, takes-value, takes-with, takes-capacity, takes-spend}
 
 -- One step, and what it used, count by count.
 gained : {b : Bool} (s : State) (g : Numbers) (s′ : State) → g .steps ≡ 1 → s′ .used ≡ addUses (s .used) (g .used)
@@ -71,7 +71,7 @@ log-print (a ∷ x) p n u = more (printOf a) _ _ (log-print x p n u)
     more Option.none y z h = h
     more (some b) y z h = omega arith
 
-log-turn : (x : List Event) (p : Dom) (b : Bool) → length (logOf (x ++ (record { dom = p; said = turns b } ∷ []))) ≡ length (logOf x) + 0
+log-turn : (x : List Event) (p : Dom) (b : Bool) → length (logOf (x ++ (record { dom = p; said = branched b } ∷ []))) ≡ length (logOf x) + 0
 unfolding picked
 log-turn [] p b = refl
 log-turn (a ∷ x) p b = more (printOf a) _ _ (log-turn x p b)
@@ -182,7 +182,7 @@ module _ (v : Val) where
       ∙ (shuffle (binds (a .dom) 1) (bound xs) (need (λ Q. none) (at (a .dom) (deeper (deeper P))) (a .body)) (once (deeper P)) (once P) (need W P (composed v xs)) ∙ plus-same refl (composed-needs W hs P))
 
 module _ (G : Given) (W : Here → Numbers) (s : State) (A : All AdmittedAdvice (s .advices)) (P : Place) where
-  one-fewer : (k f : ℕ) (p : Dom) → Under (usedUp (suc k) (max f (P .depth)) (cleared p s)) (usedUp k f s ⊕ once (here P))
+  one-fewer : (k f : ℕ) (p : Dom) → Under (usedUp (suc k) (max f (P .depth)) (dropAdvice p s)) (usedUp k f s ⊕ once (here P))
   unfolding _⊕_
   one-fewer k f p =
       let l = filtered-length (otherThan p) (s .advices) in
@@ -193,35 +193,35 @@ module _ (G : Given) (W : Here → Numbers) (s : State) (A : All AdmittedAdvice 
 
   -- A step that uses u, if there is room.
   takes-spent : {X : Tm → Type 0} {m : Numbers} {w : Here → Numbers} {b : Bool} (u : Uses) (k : State → Answer State Tm) → Under (once (here P) ⊕ spent u) m
-      → Takes G W s (here P) X m w b (P .depth) (k (charged (addUses (s .used) u) s)) → Takes G W s (here P) X m w b (P .depth) (spend u s k)
+      → Takes G W s (here P) X m w b (P .depth) (k (withUses (addUses (s .used) u) s)) → Takes G W s (here P) X m w b (P .depth) (spend u s k)
   takes-spent u k l h = takes-spend G W s u k (once (here P) ⊕ spent u) (besides-one (here P) (spent u) refl refl) l (spent-used (here P) u) h
 
   -- A step that makes n pieces.
-  pieces : (X : Tm → Type 0) {w : Here → Numbers} {b : Bool} (n : ℕ) (u : Val) → X (val u) → Takes G W s (here P) X (once (here P) ⊕ uses (P .dom) (somePieces n)) w b (P .depth) (spend (atDom (P .dom) (somePieces n)) s (λ s′. go s′ (val u)))
+  pieces : (X : Tm → Type 0) {w : Here → Numbers} {b : Bool} (n : ℕ) (u : Val) → X (val u) → Takes G W s (here P) X (once (here P) ⊕ uses (P .dom) (somePieces n)) w b (P .depth) (spend (atDom (P .dom) (somePieces n)) s (λ s′. reduct s′ (val u)))
   pieces X n u x =
       takes-spent (atDom (P .dom) (somePieces n)) _ (under-refl _)
-      (takes-value G W s (once (here P) ⊕ uses (P .dom) (somePieces n)) refl (besides-one (here P) (uses (P .dom) (somePieces n)) refl refl) (gained-spent (here P) s (charged (addUses (s .used) (atDom (P .dom) (somePieces n))) s) (atDom (P .dom) (somePieces n)) refl refl refl refl) refl A x)
+      (takes-value G W s (once (here P) ⊕ uses (P .dom) (somePieces n)) refl (besides-one (here P) (uses (P .dom) (somePieces n)) refl refl) (gained-spent (here P) s (withUses (addUses (s .used) (atDom (P .dom) (somePieces n))) s) (atDom (P .dom) (somePieces n)) refl refl refl refl) refl A x)
 
   -- A step that makes a piece.
-  a-piece : (X : Tm → Type 0) {w : Here → Numbers} {b : Bool} (u : Val) → X (val u) → Takes G W s (here P) X (once (here P) ⊕ aPiece (P .dom)) w b (P .depth) (spend (atDom (P .dom) onePiece) s (λ s′. go s′ (val u)))
+  a-piece : (X : Tm → Type 0) {w : Here → Numbers} {b : Bool} (u : Val) → X (val u) → Takes G W s (here P) X (once (here P) ⊕ aPiece (P .dom)) w b (P .depth) (spend (atDom (P .dom) onePiece) s (λ s′. reduct s′ (val u)))
   a-piece X u x =
       takes-spent (atDom (P .dom) onePiece) _ (under-refl _)
-      (takes-value G W s (once (here P) ⊕ aPiece (P .dom)) refl (besides-one (here P) (aPiece (P .dom)) refl refl) (gained-spent (here P) s (charged (addUses (s .used) (atDom (P .dom) onePiece)) s) (atDom (P .dom) onePiece) refl refl refl refl) refl A x)
+      (takes-value G W s (once (here P) ⊕ aPiece (P .dom)) refl (besides-one (here P) (aPiece (P .dom)) refl refl) (gained-spent (here P) s (withUses (addUses (s .used) (atDom (P .dom) onePiece)) s) (atDom (P .dom) onePiece) refl refl refl refl) refl A x)
 
   module _ (X : Tm → Type 0) (hx : (e : Tm) → X e) {w : Here → Numbers} {b : Bool} where
     -- A step to a value that leaves the counts.
-    plain : {s′ : State} (u : Val) → s′ .used ≡ s .used → s′ .labels ≡ s .labels → s .advices ≡ s′ .advices → s′ .trace ≡ s .trace → Takes G W s (here P) X (once (here P)) w b (P .depth) (go s′ (val u))
+    plain : {s′ : State} (u : Val) → s′ .used ≡ s .used → s′ .labels ≡ s .labels → s .advices ≡ s′ .advices → s′ .trace ≡ s .trace → Takes G W s (here P) X (once (here P)) w b (P .depth) (reduct s′ (val u))
     plain {s′} u eu el ea et = takes-value G W s (once (here P)) refl (refl, refl) (gained-once s s′ (here P) eu el (sym ea) et) ea A (hx (val u))
 
-    arithmetic : (x y : Option ℕ) (k : ℕ → ℕ → Val) → Takes G W s (here P) X (once (here P)) w b (P .depth) (with x (λ m. with y (λ n. go s (val (k m n)))))
+    arithmetic : (x y : Option ℕ) (k : ℕ → ℕ → Val) → Takes G W s (here P) X (once (here P)) w b (P .depth) (with x (λ m. with y (λ n. reduct s (val (k m n)))))
     arithmetic x y k = takes-with G W s x _ (λ m e. takes-with G W s y _ (λ n e′. plain (k m n) refl refl refl refl))
 
     pub takes0 : (o : Op0) (t : Ty) → (T b → T (straight0 o)) → Takes G W s (here P) X (own0 (here P) o) w b (P .depth) (reduce0 G P s o t)
     unfolding _⊕_ need rounds straight Admitted
     takes0 newLabel t never =
-        takes-room G W s _ Outcome.Labels (once (here P) ⊕ aLabel) (besides-one (here P) aLabel refl refl) (under-refl _) (λ n. let l = nltb→le (length (s .labels)) labelLimit n in omega arith)
+        takes-capacity G W s _ Outcome.Labels (once (here P) ⊕ aLabel) (besides-one (here P) aLabel refl refl) (under-refl _) (λ n. let l = nltb→le (length (s .labels)) labelLimit n in omega arith)
         (takes-value G W s (once (here P) ⊕ aLabel) refl (besides-one (here P) aLabel refl refl)
-        (gained-besides (here P) s (labelled (domOf t) s) aLabel refl (sym (counts-right (s .used))) (length-append (s .labels) (domOf t ∷ [])) (omega arith) (omega arith)) refl A (hx _))
+        (gained-besides (here P) s (addLabel (domOf t) s) aLabel refl (sym (counts-right (s .used))) (length-append (s .labels) (domOf t ∷ [])) (omega arith) (omega arith)) refl A (hx _))
     takes0 abort t never = takes-halt (once (here P)) (refl, refl) (under-refl _)
     takes0 theStack t never = pieces X (length (P .kept)) (stackVal (P .kept)) (hx (val (stackVal (P .kept))))
     takes0 (takedown p) t never =
@@ -242,9 +242,9 @@ module _ (G : Given) (W : Here → Numbers) (s : State) (A : All AdmittedAdvice 
     unfolding _⊕_ OverValue with need rounds straight Admitted
     takes-install t (Val.advice p ls e) c =
         let a : Advice Tm = record { dom = p; labels = ls; body = e } in
-        takes-room G W s _ Outcome.Advice (once (here P) ⊕ anAdvice) (besides-one (here P) anAdvice refl refl) (under-refl _) (λ n. let l = nltb→le (length (s .advices)) adviceLimit n in omega arith)
+        takes-capacity G W s _ Outcome.Advice (once (here P) ⊕ anAdvice) (besides-one (here P) anAdvice refl refl) (under-refl _) (λ n. let l = nltb→le (length (s .advices)) adviceLimit n in omega arith)
         (takes-go {e′ = val Val.unit} (once (here P) ⊕ anAdvice)
-        (gained-besides (here P) s (installed a s) anAdvice refl (sym (counts-right (s .used))) (omega arith) (length-append (s .advices) (a ∷ [])) (omega arith))
+        (gained-besides (here P) s (addAdvice a s) anAdvice refl (sym (counts-right (s .used))) (omega arith) (length-append (s .advices) (a ∷ [])) (omega arith))
         (besides-one (here P) anAdvice refl refl) (record { under = under-same (none-right _); exact = λ t′. none-right _ }) (λ t′. tt) tt (hx (val Val.unit)) (all-snoc A c)
         (λ Q. under-same (none-right (standing Q (s .advices ++ (a ∷ []))) ∙ standing-snoc Q (s .advices) a)))
 
@@ -252,10 +252,10 @@ module _ (G : Given) (W : Here → Numbers) (s : State) (A : All AdmittedAdvice 
     unfolding _⊕_ Over
     takes1 print t v c =
         takes-with G W s (numberOf v) _
-        (λ n e. takes-room G W s _ Outcome.Log (once (here P) ⊕ aPrint) (besides-one (here P) aPrint refl refl) (under-refl _)
+        (λ n e. takes-capacity G W s _ Outcome.Log (once (here P) ⊕ aPrint) (besides-one (here P) aPrint refl refl) (under-refl _)
         (λ r. let l = nleb→lt logRecordLength (G .logLength - logRecordLength * length (logOf (s .trace))) r in omega arith)
         (takes-value G W s (once (here P) ⊕ aPrint) refl (besides-one (here P) aPrint refl refl)
-        (gained-besides (here P) s (told (record { dom = P .dom; said = prints n (s .used .mainline) }) s) aPrint refl (sym (counts-right (s .used))) (omega arith) (omega arith) (log-print (s .trace) (P .dom) n (s .used .mainline))) refl A (hx (val Val.unit))))
+        (gained-besides (here P) s (addEvent (record { dom = P .dom; said = prints n (s .used .mainline) }) s) aPrint refl (sym (counts-right (s .used))) (omega arith) (omega arith) (log-print (s .trace) (P .dom) n (s .used .mainline))) refl A (hx (val Val.unit))))
     takes1 install t v c = takes-install t v (c .1)
     takes1 read t v c = takes-with G W s (cellOf v) _ (λ r e. takes-with G W s (getElem? (s .cells) r) _ (λ k e′. plain X hx _ refl refl refl refl))
     takes1 byte t v c = takes-with G W s (numberOf v) _ (λ n e. plain X hx _ refl refl refl refl)
@@ -263,12 +263,12 @@ module _ (G : Given) (W : Here → Numbers) (s : State) (A : All AdmittedAdvice 
     takes1 newCell t v c =
         takes-spent (atDom (P .dom) oneCell) _ (under-refl _)
         (takes-value G W s (once (here P) ⊕ aCell (P .dom)) refl (besides-one (here P) (aCell (P .dom)) refl refl)
-        (gained-spent (here P) s (celled (s .cells ++ (record { dom = domOf t; plain = heldPlain t; held = v } ∷ [])) (charged (addUses (s .used) (atDom (P .dom) oneCell)) s)) (atDom (P .dom) oneCell) refl refl refl refl) refl A (hx _))
+        (gained-spent (here P) s (withCells (s .cells ++ (record { dom = domOf t; plain = heldPlain t; held = v } ∷ [])) (withUses (addUses (s .used) (atDom (P .dom) oneCell)) s)) (atDom (P .dom) oneCell) refl refl refl refl) refl A (hx _))
 
   -- What goes on after a value.
   module _ (X : Tm → Type 0) (hx : (e : Tm) → X e) where
     onward : {s′ : State} {w : Here → Numbers} {b : Bool} {m : Numbers} (e : Tm) (g : Numbers) → Gained b s g s′ → One (P .depth) g → s .advices ≡ s′ .advices → Admitted true e
-        → (T b → T (straight e)) → Meets b (g ⊕ need W (here P) e) m → ((Q : Here) → Under (rounds Q e) (w Q)) → Takes G W s (here P) X m w b (P .depth) (go s′ e)
+        → (T b → T (straight e)) → Meets b (g ⊕ need W (here P) e) m → ((Q : Here) → Under (rounds Q e) (w Q)) → Takes G W s (here P) X m w b (P .depth) (reduct s′ e)
     onward e g gd fr ea c st m u = takes-go {e′ = e} g gd fr m st c (hx e) (rw ea at A) (λ Q. rw (← ea) (under-plus (under-refl (standing Q (s .advices))) (u Q)))
 
     pub takes-seq : (f : Tm) (v : Val) → Admitted true f → Takes G W s (here P) X (once (here P) ⊕ need W (here P) f) (λ Q. rounds Q f) (straight f) (P .depth) (reduceSeq s f v)
@@ -280,7 +280,7 @@ module _ (G : Given) (W : Here → Numbers) (s : State) (A : All AdmittedAdvice 
         → Takes G W s (here P) X (once (here P) ⊕ dearer (need W (here P) f) (need W (here P) g)) (λ Q. rounds Q f ⊕ rounds Q g) false (P .depth) (reduceIte s f g v)
     takes-ite f g v cf cg = takes-with G W s (truthOf v) _ (λ x e. branch x)
       where
-        branch : (x : Bool) → Takes G W s (here P) X (once (here P) ⊕ dearer (need W (here P) f) (need W (here P) g)) (λ Q. rounds Q f ⊕ rounds Q g) false (P .depth) (go s (choose x f g))
+        branch : (x : Bool) → Takes G W s (here P) X (once (here P) ⊕ dearer (need W (here P) f) (need W (here P) g)) (λ Q. rounds Q f ⊕ rounds Q g) false (P .depth) (reduct s (choose x f g))
         branch true =
             onward f (once (here P)) (gained-once s s (here P) refl refl refl refl) (refl, refl) refl cf (λ t. absurd t)
             (record { under = under-plus (under-refl (once (here P))) (dearer-left (need W (here P) f) (need W (here P) g)); exact = λ t. absurd t }) (λ Q. under-left (rounds Q f) (rounds Q g))
@@ -290,15 +290,15 @@ module _ (G : Given) (W : Here → Numbers) (s : State) (A : All AdmittedAdvice 
 
     -- A step that uses u and goes on with e.
     takes-bound : {w : Here → Numbers} {b : Bool} {m : Numbers} (u : Uses) (e : Tm) → Admitted true e → (T b → T (straight e)) → Meets b ((once (here P) ⊕ spent u) ⊕ need W (here P) e) m → ((Q : Here) → Under (rounds Q e) (w Q))
-        → Takes G W s (here P) X m w b (P .depth) (spend u s (λ s′. go s′ e))
+        → Takes G W s (here P) X m w b (P .depth) (spend u s (λ s′. reduct s′ e))
     takes-bound u e c st m l =
         takes-spent u _ (under-trans (under-left (once (here P) ⊕ spent u) (need W (here P) e)) (m .under))
-        (onward e (once (here P) ⊕ spent u) (gained-spent (here P) s (charged (addUses (s .used) u) s) u refl refl refl refl) (besides-one (here P) (spent u) refl refl) refl c st m l)
+        (onward e (once (here P) ⊕ spent u) (gained-spent (here P) s (withUses (addUses (s .used) u) s) u refl refl refl refl) (besides-one (here P) (spent u) refl refl) refl c st m l)
 
     pub takes-split : (f : Tm) (v : Val) → Admitted true f → Takes G W s (here P) X ((once (here P) ⊕ binds (P .dom) 2) ⊕ need W (here P) f) (λ Q. rounds Q f) (straight f) (P .depth) (reduceSplit P s f v)
     takes-split f v c = takes-with G W s (pairOf v) _ (λ vw e. open′ (vw .0) (vw .1))
       where
-        open′ : (x y : Val) → Takes G W s (here P) X ((once (here P) ⊕ binds (P .dom) 2) ⊕ need W (here P) f) (λ Q. rounds Q f) (straight f) (P .depth) (spend (atDom (P .dom) (someBindings 2)) s (λ s′. go s′ (subst 0 y (subst 1 x f))))
+        open′ : (x y : Val) → Takes G W s (here P) X ((once (here P) ⊕ binds (P .dom) 2) ⊕ need W (here P) f) (λ Q. rounds Q f) (straight f) (P .depth) (spend (atDom (P .dom) (someBindings 2)) s (λ s′. reduct s′ (subst 0 y (subst 1 x f))))
         open′ x y =
             let n : need W (here P) (subst 0 y (subst 1 x f)) ≡ need W (here P) f = need-subst W y (subst 1 x f) (here P) 0 ∙ need-subst W x f (here P) 1 in
             let t : straight (subst 0 y (subst 1 x f)) ≡ straight f = straight-subst y (subst 1 x f) 0 ∙ straight-subst x f 1 in
@@ -307,7 +307,7 @@ module _ (G : Given) (W : Here → Numbers) (s : State) (A : All AdmittedAdvice 
             (λ Q. under-same (rounds-subst y (subst 1 x f) c′ Q 0 ∙ rounds-subst x f c Q 1))
 
     takes-mark : ((Q : Here) → Under (standing Q (s .advices)) (W Q)) → {w : Here → Numbers} {b : Bool} (l : ℕ) (u : Val) → (T b → ⊥)
-        → Takes G W s (here P) X (once (here P) ⊕ W (here P)) w b (P .depth) (spend (adviceBindings (triggeredBy l (s .advices))) s (λ s′. go s′ (composed u (triggeredBy l (s .advices)))))
+        → Takes G W s (here P) X (once (here P) ⊕ W (here P)) w b (P .depth) (spend (adviceBindings (triggeredBy l (s .advices))) s (λ s′. reduct s′ (composed u (triggeredBy l (s .advices)))))
     takes-mark sw {w} l u never =
         let x = triggeredBy l (s .advices) in
         let admitted = all-filtered (λ a. member l (a .labels)) (all-reverse A) in
@@ -336,7 +336,7 @@ module _ (G : Given) (W : Here → Numbers) (s : State) (A : All AdmittedAdvice 
 
       takes-branch : (o : Option (List Val)) → ((ws : List Val) → o ≡ some ws → length ws ≡ variables p) → Matched (branch P s (λ ws. substAll ws f) g o)
       takes-branch Option.none n =
-          onward g (once (here P)) (gained s (once (here P)) (told (record { dom = P .dom; said = turns false }) s) refl (sym (counts-right (s .used))) (omega arith) (omega arith) (log-turn (s .trace) (P .dom) false))
+          onward g (once (here P)) (gained s (once (here P)) (addEvent (record { dom = P .dom; said = branched false }) s) refl (sym (counts-right (s .used))) (omega arith) (omega arith) (log-turn (s .trace) (P .dom) false))
           (refl, refl) refl cg (λ t. absurd t)
           (record { under = under-plus (under-refl (once (here P))) (dearer-right (binds (P .dom) (variables p) ⊕ need W (here P) f) (need W (here P) g)); exact = λ t. absurd t }) (λ Q. under-right (rounds Q f) (rounds Q g))
       takes-branch (some ws) n =
@@ -347,7 +347,7 @@ module _ (G : Given) (W : Here → Numbers) (s : State) (A : All AdmittedAdvice 
           rw (n ws refl)
           (takes-spent u _ (under-trans (under-left (once (here P) ⊕ spent u) (need W (here P) (substAll ws f))) less)
           (onward (substAll ws f) (once (here P) ⊕ spent u)
-          (gained-besides (here P) s (told (record { dom = P .dom; said = turns true }) (charged (addUses (s .used) u) s)) (spent u) refl refl (omega arith) (omega arith) (log-turn (s .trace) (P .dom) true))
+          (gained-besides (here P) s (addEvent (record { dom = P .dom; said = branched true }) (withUses (addUses (s .used) u) s)) (spent u) refl refl (omega arith) (omega arith) (log-turn (s .trace) (P .dom) true))
           (besides-one (here P) (spent u) refl refl) refl (all-admitted-subst f cf ws) (λ t. absurd t) (record { under = less; exact = λ t. absurd t })
           (λ Q. rw (all-rounds-of f cf ws Q) (under-left (rounds Q f) (rounds Q g)))))
 

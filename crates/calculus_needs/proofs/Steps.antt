@@ -75,46 +75,46 @@ once-own2 W P less = under-refl (once P)
 once-own2 W P equal = under-refl (once P)
 
 -- A value needs nothing.
-pub record Idle (W : Here → Numbers) (e : Tm) (v : Val) : Type 0 where
+pub record NeedsNothing (W : Here → Numbers) (e : Tm) (v : Val) : Type 0 where
   pub needs′ : (P : Here) → need W P e ≡ nothing
   pub rounds′ : (Q : Here) → rounds Q e ≡ nothing
   pub straight′ : T (straight e)
   pub kept : Keeps e (val v)
 
-pub idle : (W : Here → Numbers) (e : Tm) (v : Val) → asValue e ≡ some v → Idle W e v
+pub needs-nothing : (W : Here → Numbers) (e : Tm) (v : Val) → asValue e ≡ some v → NeedsNothing W e v
 unfolding need rounds straight Over
-idle W (val u) v eq = let same : u ≡ v = Option·some-injective u v eq in record { needs′ = λ P. refl; rounds′ = λ Q. refl; straight′ = tt; kept = rw (← same) (λ c. (c, λ Q. refl)) }
-idle W (lam t b) v eq = record { needs′ = λ P. refl; rounds′ = λ Q. refl; straight′ = tt; kept = λ c. absurd c }
-idle W (var k) v eq = absurd (none-some eq)
-idle W (op0 o t) v eq = absurd (none-some eq)
-idle W (op1 o t e) v eq = absurd (none-some eq)
-idle W (op2 o t e f) v eq = absurd (none-some eq)
-idle W (seq e f) v eq = absurd (none-some eq)
-idle W (ite e f g) v eq = absurd (none-some eq)
-idle W (split e f) v eq = absurd (none-some eq)
-idle W (pcd es) v eq = absurd (none-some eq)
-idle W (adv p e b) v eq = absurd (none-some eq)
-idle W (lower p e) v eq = absurd (none-some eq)
-idle W (obj t bs) v eq = record { needs′ = λ P. refl; rounds′ = λ Q. refl; straight′ = tt; kept = λ c. absurd c }
-idle W (keep e f g) v eq = absurd (none-some eq)
-idle W (match p es f g) v eq = absurd (none-some eq)
+needs-nothing W (val u) v eq = let same : u ≡ v = Option·some-injective u v eq in record { needs′ = λ P. refl; rounds′ = λ Q. refl; straight′ = tt; kept = rw (← same) (λ c. (c, λ Q. refl)) }
+needs-nothing W (lam t b) v eq = record { needs′ = λ P. refl; rounds′ = λ Q. refl; straight′ = tt; kept = λ c. absurd c }
+needs-nothing W (var k) v eq = absurd (none-some eq)
+needs-nothing W (op0 o t) v eq = absurd (none-some eq)
+needs-nothing W (op1 o t e) v eq = absurd (none-some eq)
+needs-nothing W (op2 o t e f) v eq = absurd (none-some eq)
+needs-nothing W (seq e f) v eq = absurd (none-some eq)
+needs-nothing W (ite e f g) v eq = absurd (none-some eq)
+needs-nothing W (split e f) v eq = absurd (none-some eq)
+needs-nothing W (pcd es) v eq = absurd (none-some eq)
+needs-nothing W (adv p e b) v eq = absurd (none-some eq)
+needs-nothing W (lower p e) v eq = absurd (none-some eq)
+needs-nothing W (obj t bs) v eq = record { needs′ = λ P. refl; rounds′ = λ Q. refl; straight′ = tt; kept = λ c. absurd c }
+needs-nothing W (keep e f g) v eq = absurd (none-some eq)
+needs-nothing W (match p es f g) v eq = absurd (none-some eq)
 
 module _ (D : Policy) (Σ : StoreTyping) (G : Given) (W : Here → Numbers) (s : State) (A : All AdmittedAdvice (s .advices)) (sw : (Q : Here) → Under (standing Q (s .advices)) (W Q)) where
   abbrev Steps : Tm → Type 0
   Steps e = Typed D Σ e → Admitted true e → (P : Place) → Takes G W s (here P) (Keeps e) (need W (here P) e) (λ Q. rounds Q e) (straight e) (reach (P .depth) e) (step e G P s)
 
   -- An operand that is a value drops out.
-  drop-left : {e : Tm} {v : Val} → Idle W e v → (P : Here) (m : Numbers) → m ≡ need W P e ⊕ m
+  drop-left : {e : Tm} {v : Val} → NeedsNothing W e v → (P : Here) (m : Numbers) → m ≡ need W P e ⊕ m
   drop-left i P m = rw (i .needs′ P) (sym (none-left m))
 
-  drop-rounds : {e : Tm} {v : Val} → Idle W e v → (Q : Here) (m : Numbers) → m ≡ rounds Q e ⊕ m
+  drop-rounds : {e : Tm} {v : Val} → NeedsNothing W e v → (Q : Here) (m : Numbers) → m ≡ rounds Q e ⊕ m
   drop-rounds i Q m = rw (i .rounds′ Q) (sym (none-left m))
 
   steps-op1 : (o : Op1) (t : Ty) (e : Tm) → Steps e → Steps (op1 o t e)
   unfolding step need rounds straight reach Admitted Over
   steps-op1 o t e h y c P =
       takes-cases G W s (asValue e) _ _
-      (λ v eq. let i = idle W e v eq in
+      (λ v eq. let i = needs-nothing W e v eq in
       takes-as G W s {b = straight e} (drop-left i (here (deeper P)) (own1 (here P) o)) (λ Q. installs-kept o e (val v) (c .0) (i .kept) Q ∙ drop-rounds i Q (installs o Q e)) (λ t′. t′)
       (takes-framed G W s P (once-own1 (here P) o) (takes1 G W s A P (Keeps (op1 o t e)) (λ e′ x. absurd x) o t v (permits-kept o e (val v) (c .0) (i .kept)))))
       (λ eq. takes-within G W s (own1 (here P) o) (λ Q. installs o Q e) (op1 o t) (λ t′. t′)
@@ -125,11 +125,11 @@ module _ (D : Policy) (Σ : StoreTyping) (G : Given) (W : Here → Numbers) (s :
   unfolding step need rounds straight reach Admitted Over
   steps-op2 o t e f h k y c P =
       takes-cases G W s (asValue e) _ _
-      (λ v eq. let i = idle W e v eq in
+      (λ v eq. let i = needs-nothing W e v eq in
       takes-as G W s {b = straight2 o && straight f} (drop-left i (here (deeper P)) (need W (here (deeper P)) f ⊕ own2 W (here P) o)) (λ Q. drop-rounds i Q (rounds Q f))
       (λ x. both (straight2 o) (straight f) (first (straight2 o) (straight e && straight f) x) (second (straight e) (straight f) (second (straight2 o) (straight e && straight f) x)))
       (takes-cases G W s (asValue f) _ _
-      (λ u eq′. let j = idle W f u eq′ in
+      (λ u eq′. let j = needs-nothing W f u eq′ in
       takes-as G W s {b = straight2 o} (drop-left j (here (deeper P)) (own2 W (here P) o)) (λ Q. refl) (λ x. first (straight2 o) (straight f) x)
       (takes-framed G W s P (once-own2 W (here P) o) (takes2 G W s A P (Keeps (op2 o t e f)) (λ e′ x. absurd x) sw o t v u (c .0) (λ x. x))))
       (λ eq′. takes-as G W s {b = straight2 o && straight f} refl (λ Q. none-right (rounds Q f)) (λ x. x)
@@ -156,7 +156,7 @@ module _ (D : Policy) (Σ : StoreTyping) (G : Given) (W : Here → Numbers) (s :
   unfolding step need rounds straight reach Admitted Over
   steps-seq e f h y c P =
       takes-cases G W s (asValue e) _ _
-      (λ v eq. let i = idle W e v eq in
+      (λ v eq. let i = needs-nothing W e v eq in
       takes-as G W s {b = straight f} (drop-left i (here (deeper P)) (once (here P) ⊕ need W (here P) f)) (λ Q. drop-rounds i Q (rounds Q f)) (λ x. second (straight e) (straight f) x)
       (takes-framed G W s P (under-left (once (here P)) (need W (here P) f)) (takes-seq G W s A P (Keeps (seq e f)) (λ e′ x. absurd x) f v (c .1))))
       (λ eq. takes-within G W s (once (here P) ⊕ need W (here P) f) (λ Q. rounds Q f) (λ x. seq x f) (λ x. first (straight e) (straight f) x)
@@ -167,7 +167,7 @@ module _ (D : Policy) (Σ : StoreTyping) (G : Given) (W : Here → Numbers) (s :
   unfolding step need rounds straight reach Admitted Over
   steps-ite e f g h y c P =
       takes-cases G W s (asValue e) _ _
-      (λ v eq. let i = idle W e v eq in
+      (λ v eq. let i = needs-nothing W e v eq in
       takes-as G W s {b = false} (drop-left i (here (deeper P)) (once (here P) ⊕ dearer (need W (here P) f) (need W (here P) g))) (λ Q. drop-rounds i Q (rounds Q f ⊕ rounds Q g)) (λ x. x)
       (takes-framed G W s P (under-left (once (here P)) (dearer (need W (here P) f) (need W (here P) g))) (takes-ite G W s A P (Keeps (ite e f g)) (λ e′ x. absurd x) f g v (c .1) (c .2))))
       (λ eq. takes-within G W s (once (here P) ⊕ dearer (need W (here P) f) (need W (here P) g)) (λ Q. rounds Q f ⊕ rounds Q g) (λ x. ite x f g) (λ x. absurd x)
@@ -178,7 +178,7 @@ module _ (D : Policy) (Σ : StoreTyping) (G : Given) (W : Here → Numbers) (s :
   unfolding step need rounds straight reach Admitted Over
   steps-split e f h y c P =
       takes-cases G W s (asValue e) _ _
-      (λ v eq. let i = idle W e v eq in
+      (λ v eq. let i = needs-nothing W e v eq in
       takes-as G W s {b = straight f} (drop-left i (here (deeper P)) ((once (here P) ⊕ binds (P .dom) 2) ⊕ need W (here P) f)) (λ Q. drop-rounds i Q (rounds Q f)) (λ x. second (straight e) (straight f) x)
       (takes-framed G W s P (under-trans (under-left (once (here P)) (binds (P .dom) 2)) (under-left (once (here P) ⊕ binds (P .dom) 2) (need W (here P) f)))
       (takes-split G W s A P (Keeps (split e f)) (λ e′ x. absurd x) f v (c .1))))
@@ -190,7 +190,7 @@ module _ (D : Policy) (Σ : StoreTyping) (G : Given) (W : Here → Numbers) (s :
   unfolding step need rounds straight reach Admitted Over
   steps-adv p e b h y c P =
       takes-cases G W s (asValue e) _ _
-      (λ v eq. let i = idle W e v eq in
+      (λ v eq. let i = needs-nothing W e v eq in
       takes-as G W s {w = λ Q. rounds Q e} {b = straight e} (drop-left i (here (deeper P)) (once (here P) ⊕ aPiece (P .dom))) (λ Q. refl) (λ x. x)
       (takes-framed G W s P (under-left (once (here P)) (aPiece (P .dom))) (takes-adv G W s A P (Keeps (adv p e b)) p b v (λ ls x. (c .1, λ Q. refl)))))
       (λ eq. takes-as G W s {b = straight e} refl (λ Q. none-right (rounds Q e)) (λ x. x)
@@ -202,7 +202,7 @@ module _ (D : Policy) (Σ : StoreTyping) (G : Given) (W : Here → Numbers) (s :
   unfolding step need rounds straight reach Admitted Over
   steps-lower p e h y c P =
       takes-cases G W s (asValue e) _ _
-      (λ v eq. let i = idle W e v eq in
+      (λ v eq. let i = needs-nothing W e v eq in
       takes-as G W s {w = λ Q. rounds Q e} {b = straight e} (drop-left i (here (at p (deeper P))) (once (here P))) (λ Q. refl) (λ x. x)
       (takes-framed G W s P (under-refl (once (here P))) (takes-lower G W s A P (Keeps (lower p e)) (λ e′ x. absurd x) v)))
       (λ eq. takes-as G W s {b = straight e} refl (λ Q. none-right (rounds Q e)) (λ x. x)
@@ -227,7 +227,7 @@ module _ (D : Policy) (Σ : StoreTyping) (G : Given) (W : Here → Numbers) (s :
   unfolding stepFirst need needs rounds allRounds straight allStraight reachFirst AllAdmitted Over
   firsts-more e es h hs y c P vs k rest wr br u kn kr ks kc r hr =
       takes-cases G W s (asValue e) _ _
-      (λ v eq. let i = idle W e v eq in
+      (λ v eq. let i = needs-nothing W e v eq in
       takes-as G W s {b = allStraight es && br} (rw (i .needs′ (here (deeper P)), none-left (needs W (here (deeper P)) es)) refl) (λ Q. rw (i .rounds′ Q, none-left (allRounds Q es)) refl)
       (λ x. both (allStraight es) br (second (straight e) (allStraight es) (first (straight e && allStraight es) br x)) (second (straight e && allStraight es) br x))
       (hs (typed-more D Σ (y .2) .1) (c .1) P (v ∷ vs) k rest wr br u (λ fs. kn (more (val v) fs) ∙ rw (none-left (needs W (here (deeper P)) fs)) refl) (λ fs Q. kr (more (val v) fs) Q ∙ rw (none-left (allRounds Q fs)) refl)
@@ -269,13 +269,13 @@ module _ (D : Policy) (Σ : StoreTyping) (G : Given) (W : Here → Numbers) (s :
       let K = Rattle.calculus_needs.specs.Here.keeping (here (deeper P)) in
       let b2 : (x : T (straight e && (straight f && straight g))) → T (straight f && straight g) = λ x. second (straight e) (straight f && straight g) x in
       takes-cases G W s (asValue e) _ _
-      (λ v eq. let i = idle W e v eq in
+      (λ v eq. let i = needs-nothing W e v eq in
       takes-as G W s {b = straight f && straight g} (drop-left i H (need W H f ⊕ (need W K g ⊕ once (here P)))) (λ Q. drop-rounds i Q (rounds Q f ⊕ rounds Q g)) b2
       (takes-cases G W s (asValue f) _ _
-      (λ w eq′. let j = idle W f w eq′ in
+      (λ w eq′. let j = needs-nothing W f w eq′ in
       takes-as G W s {b = straight g} (drop-left j H (need W K g ⊕ once (here P))) (λ Q. drop-rounds j Q (rounds Q g)) (λ x. second (straight f) (straight g) x)
       (takes-cases G W s (asValue g) _ _
-      (λ u eq″. let z = idle W g u eq″ in
+      (λ u eq″. let z = needs-nothing W g u eq″ in
       takes-as G W s {b = straight g} (drop-left z K (once (here P))) (λ Q. refl) (λ x. x)
       (takes-framed G W s P (under-refl (once (here P))) (takes-keep G W s A P (Keeps (keep e f g)) (λ e′ x. absurd x) u)))
       (λ eq″. let L = keep-label D Σ (y .2) eq in

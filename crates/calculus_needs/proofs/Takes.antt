@@ -11,8 +11,8 @@ use Rattle.calculus.specs.declared.Outcome.{Outcome}
 use Rattle.calculus.specs.Limits.{frameLimit, bindingLimit, cellLimit, pieceLimit, labelLimit, adviceLimit, logRecordLength}
 use Rattle.calculus.specs.Combinators.{cases}
 use Rattle.calculus.specs.Syntax.{Val, Tm, val}
-use Rattle.calculus.specs.State.{Advice, State, Given, Uses, addUses, charged, logOf}
-use Rattle.calculus.specs.Answer.{Answer, go, full, halt, wrong, carry, within, if-room, with, spend}
+use Rattle.calculus.specs.State.{Advice, State, Given, Uses, addUses, withUses, logOf}
+use Rattle.calculus.specs.Answer.{Answer, reduct, atCapacity, halt, wrong, carry, within, if-capacity, with, spend}
 use Rattle.calculus.specs.Place.{Place, framed}
 use Rattle.calculus_needs.specs.Here.{Here, here}
 use Rattle.laws.proofs.Lists.{All}
@@ -71,8 +71,8 @@ module _ (G : Given) (W : Here → Numbers) (s : State) where
   -- The answer to a step at P, whose redex stands under d terms, of a term that needs m, installs w and is straight where b; X holds of the term that it makes.
   pub data Takes (P : Here) (X : Tm → Type 0) (m : Numbers) (w : Here → Numbers) (b : Bool) (d : ℕ) : Answer State Tm → Type 0 where
     takes-go : {s′ : State} {e′ : Tm} (g : Numbers) → Gained b s g s′ → One d g → Meets b (g ⊕ need W P e′) m → (T b → T (straight e′)) → Admitted true e′ → X e′
-        → All AdmittedAdvice (s′ .advices) → ((Q : Here) → Under (standing Q (s′ .advices) ⊕ rounds Q e′) (standing Q (s .advices) ⊕ w Q)) → Takes P X m w b d (go s′ e′)
-    takes-full : {o : Outcome} (g : Numbers) → One d g → Under g m → Lacks G s g o → Takes P X m w b d (full o)
+        → All AdmittedAdvice (s′ .advices) → ((Q : Here) → Under (standing Q (s′ .advices) ⊕ rounds Q e′) (standing Q (s .advices) ⊕ w Q)) → Takes P X m w b d (reduct s′ e′)
+    takes-full : {o : Outcome} (g : Numbers) → One d g → Under g m → Lacks G s g o → Takes P X m w b d (atCapacity o)
     takes-halt : (g : Numbers) → One d g → Under g m → Takes P X m w b d halt
     takes-wrong : Takes P X m w b d wrong
 
@@ -111,7 +111,7 @@ module _ (G : Given) (W : Here → Numbers) (s : State) where
   module _ {P : Here} {X : Tm → Type 0} {m : Numbers} {w : Here → Numbers} {b : Bool} where
     -- A step to a value, which leaves the advice.
     pub takes-value : {s′ : State} {u : Val} {d : ℕ} (g : Numbers) → g ≡ m → One d g → Gained b s g s′ → s .advices ≡ s′ .advices → All AdmittedAdvice (s .advices) → X (val u)
-        → Takes P X m w b d (go s′ (val u))
+        → Takes P X m w b d (reduct s′ (val u))
     unfolding need rounds straight Admitted
     takes-value {s′} {u} g em fr gained same′ advices x =
         takes-go {e′ = val u} g gained fr (record { under = rw (none-right g) (under-same em); exact = λ t. rw (none-right g) em }) (λ t. tt) tt x (rw same′ at advices)
@@ -128,13 +128,13 @@ module _ (G : Given) (W : Here → Numbers) (s : State) where
     takes-with none k f = takes-wrong
     takes-with (some x) k f = f x refl
 
-    pub takes-room : (c : Bool) (o : Outcome) {d : ℕ} {r : Answer State Tm} (g : Numbers) → One d g → Under g m → (T (not c) → Lacks G s g o) → Takes P X m w b d r → Takes P X m w b d (if-room c o r)
-    unfolding if-room
-    takes-room true o g fr u f h = h
-    takes-room false o g fr u f h = takes-full g fr u (f tt)
+    pub takes-capacity : (c : Bool) (o : Outcome) {d : ℕ} {r : Answer State Tm} (g : Numbers) → One d g → Under g m → (T (not c) → Lacks G s g o) → Takes P X m w b d r → Takes P X m w b d (if-capacity c o r)
+    unfolding if-capacity
+    takes-capacity true o g fr u f h = h
+    takes-capacity false o g fr u f h = takes-full g fr u (f tt)
 
     pub takes-spend : (n : Uses) (k : State → Answer State Tm) {d : ℕ} (g : Numbers) → One d g → Under g m → n ≡ g .used
-        → Takes P X m w b d (k (charged (addUses (s .used) n) s)) → Takes P X m w b d (spend n s k)
+        → Takes P X m w b d (k (withUses (addUses (s .used) n) s)) → Takes P X m w b d (spend n s k)
     unfolding spend
     takes-spend n k g fr u same′ h =
         let eb : n .mainline .bindings ≡ g .used .mainline .bindings = ap (λ x. x .mainline .bindings) same′ in
@@ -143,12 +143,12 @@ module _ (G : Given) (W : Here → Numbers) (s : State) where
         let ec′ : n .others .cells ≡ g .used .others .cells = ap (λ x. x .others .cells) same′ in
         let ep : n .mainline .pieces ≡ g .used .mainline .pieces = ap (λ x. x .mainline .pieces) same′ in
         let ep′ : n .others .pieces ≡ g .used .others .pieces = ap (λ x. x .others .pieces) same′ in
-        takes-room _ Outcome.Bindings g fr u (λ t. let l = nleb→lt (n .mainline .bindings) (bindingLimit - s .used .mainline .bindings) t in omega arith)
-        (takes-room _ Outcome.Cells g fr u (λ t. let l = nleb→lt (n .mainline .cells) (cellLimit - s .used .mainline .cells) t in omega arith)
-        (takes-room _ Outcome.Pieces g fr u (λ t. let l = nleb→lt (n .mainline .pieces) (pieceLimit - s .used .mainline .pieces) t in omega arith)
-        (takes-room _ Outcome.OtherBindings g fr u (λ t. let l = nleb→lt (n .others .bindings) (bindingLimit - s .used .others .bindings) t in omega arith)
-        (takes-room _ Outcome.OtherCells g fr u (λ t. let l = nleb→lt (n .others .cells) (cellLimit - s .used .others .cells) t in omega arith)
-        (takes-room _ Outcome.OtherPieces g fr u (λ t. let l = nleb→lt (n .others .pieces) (pieceLimit - s .used .others .pieces) t in omega arith) h)))))
+        takes-capacity _ Outcome.Bindings g fr u (λ t. let l = nleb→lt (n .mainline .bindings) (bindingLimit - s .used .mainline .bindings) t in omega arith)
+        (takes-capacity _ Outcome.Cells g fr u (λ t. let l = nleb→lt (n .mainline .cells) (cellLimit - s .used .mainline .cells) t in omega arith)
+        (takes-capacity _ Outcome.Pieces g fr u (λ t. let l = nleb→lt (n .mainline .pieces) (pieceLimit - s .used .mainline .pieces) t in omega arith)
+        (takes-capacity _ Outcome.OtherBindings g fr u (λ t. let l = nleb→lt (n .others .bindings) (bindingLimit - s .used .others .bindings) t in omega arith)
+        (takes-capacity _ Outcome.OtherCells g fr u (λ t. let l = nleb→lt (n .others .cells) (cellLimit - s .used .others .cells) t in omega arith)
+        (takes-capacity _ Outcome.OtherPieces g fr u (λ t. let l = nleb→lt (n .others .pieces) (pieceLimit - s .used .others .pieces) t in omega arith) h)))))
 
   pub takes-framed : {X : Tm → Type 0} {m : Numbers} {w : Here → Numbers} {b : Bool} (P : Place) {r : Answer State Tm} → Under (once (here P)) m → Takes (here P) X m w b (P .depth) r → Takes (here P) X m w b (P .depth) (framed P r)
-  takes-framed P u h = takes-room _ Outcome.Frames (once (here P)) (refl, refl) u (λ t. nleb→lt (P .depth) frameLimit t) h
+  takes-framed P u h = takes-capacity _ Outcome.Frames (once (here P)) (refl, refl) u (λ t. nleb→lt (P .depth) frameLimit t) h

@@ -10,7 +10,7 @@ use Rattle.calculus.specs.declared.Outcome.{Outcome}
 use Rattle.calculus.specs.Combinators.{cases}
 use Rattle.calculus.specs.Syntax.{Ty, Val, Tm, asValue}
 use Rattle.calculus.specs.State.{State, Given, fresh, picked}
-use Rattle.calculus.specs.Answer.{Answer, go, wrong}
+use Rattle.calculus.specs.Answer.{Answer, reduct, wrong}
 use Rattle.calculus.specs.Place.{top}
 use Rattle.calculus_needs.specs.Here.{Here, here}
 use Rattle.calculus.specs.Step.{step}
@@ -24,11 +24,11 @@ use Rattle.calculus_needs.specs.Numbers.{Numbers, _⊕_}
 use Rattle.calculus_needs.specs.Class.{inClass, straight}
 use Rattle.calculus_needs.specs.Needs.{need, rounds, needOf}
 use Rattle.calculus_needs.specs.Used.{reach, peak, usedUp, usedBy}
-use Rattle.calculus_needs.specs.Claims.{Under, Enough, Settled, is-done, is-aborted}
+use Rattle.calculus_needs.specs.Claims.{Under, Enough, DoneOrAborted, is-done, is-aborted}
 use Rattle.calculus_needs.proofs.Sums.{under-refl, under-same, under-trans, under-plus, under-left, none-left, none-right, plus-assoc}
 use Rattle.calculus_needs.proofs.Admitted.{Admitted, admitted}
 use Rattle.calculus_needs.proofs.Takes.{standing, AdmittedAdvice, Meets, Gained, One, Lacks, Takes, Takes.takes-go, Takes.takes-full, Takes.takes-halt, Takes.takes-wrong}
-use Rattle.calculus_needs.proofs.Steps.{Keeps, idle, steps}
+use Rattle.calculus_needs.proofs.Steps.{Keeps, needs-nothing, steps}
 
 never-full : {n : ℕ} {G : Given} {N : Numbers} (k f : ℕ) (s : State) (g : Numbers) → Enough n G N → Under (usedUp k f s ⊕ g) N → (o : Outcome) → Lacks G s g o → ⊥
 unfolding _⊕_
@@ -50,7 +50,7 @@ never-full k f s g E u Outcome.Log l = let a = E .prints in let b = u .prints in
 pub record Ends (N : Numbers) (G : Given) (n : ℕ) (b : Bool) (k f : ℕ) (x : Ended) (p : ℕ) : Type 0 where
   pub under : Under (usedUp (x .steps) (max f p) (x .state)) N
   pub exact : T b → (v : Val) → x .end ≡ done v → usedUp (x .steps) (max f p) (x .state) ≡ N
-  pub settles : Enough (k + n) G N → Settled (x .end)
+  pub settles : Enough (k + n) G N → DoneOrAborted (x .end)
 
 one-step : (k f d : ℕ) (s : State) (g : Numbers) → One d g → Under (usedUp (k + 1) (max f d) s) (usedUp k f s ⊕ g)
 unfolding _⊕_
@@ -112,7 +112,7 @@ module _ (D : Policy) (trans : Transitive D) (G : Given) (W : Here → Numbers) 
 
     ends-done : (n : ℕ) (v : Val) → asValue e ≡ some v → Ends N G n b k f (ended (done v) k s) 0
     ends-done n v eq =
-        let i = idle W e v eq in
+        let i = needs-nothing W e v eq in
         let whole : usedUp k f s ⊕ need W (here top) e ≡ usedUp k f s = rw (i .needs′ (here top)) (none-right (usedUp k f s)) in
         record { under = used-now; exact = λ x u d. rest-zero ∙ (sym whole ∙ C .exact x .0); settles = λ E. is-done }
 
@@ -139,7 +139,7 @@ module _ (D : Policy) (trans : Transitive D) (G : Given) (W : Here → Numbers) 
     ends-halt n g o u = let y : suc k ≡ k + 1 = omega arith in record { under = rw y (used-more g o u); exact = λ z v d. absurd (not-done d); settles = λ E. is-aborted }
 
     -- What holds after a step.
-    next : {s′ : State} {e′ : Tm} → step e G top s ≡ go s′ e′ → (g : Numbers) → Gained (straight e) s g s′ → One (reach 0 e) g → Meets (straight e) (g ⊕ need W (here top) e′) (need W (here top) e)
+    next : {s′ : State} {e′ : Tm} → step e G top s ≡ reduct s′ e′ → (g : Numbers) → Gained (straight e) s g s′ → One (reach 0 e) g → Meets (straight e) (g ⊕ need W (here top) e′) (need W (here top) e)
         → (T (straight e) → T (straight e′)) → Admitted true e′ → All AdmittedAdvice (s′ .advices) → ((Q : Here) → Under (standing Q (s′ .advices) ⊕ rounds Q e′) (standing Q (s .advices) ⊕ rounds Q e))
         → (Σ′ : StoreTyping) × Point Σ′ b (suc k) (max f (reach 0 e)) s′ e′
     next {s′} {e′} er g gained o meets st c a w =
@@ -229,5 +229,5 @@ module _ (D : Policy) (trans : Transitive D) (G : Given) {e : Tm} {t : Ty} (type
   met-exactly x v d = rw (none-max (peak n G fresh e)) at (ends .exact x v d)
 
   -- Card 10: "Where all are within the limits, the budget and the log, the outcome is done or aborted."
-  pub done-or-aborted : Enough n G (needOf e) → Settled (run n G 0 fresh e .end)
+  pub done-or-aborted : Enough n G (needOf e) → DoneOrAborted (run n G 0 fresh e .end)
   done-or-aborted E = ends .settles (rw (zero-plus n) E)

@@ -36,6 +36,6 @@ pub record Enough (n : ℕ) (G : Given) (N : Numbers) : Type 0 where
   pub frames : N .frames ≤ frameLimit
 
 -- "The outcome is done or aborted."
-pub data Settled : End → Type 0 where
-  is-done : {v : Val} → Settled (done v)
-  is-aborted : Settled (stopped Outcome.Aborted)
+pub data DoneOrAborted : End → Type 0 where
+  is-done : {v : Val} → DoneOrAborted (done v)
+  is-aborted : DoneOrAborted (stopped Outcome.Aborted)

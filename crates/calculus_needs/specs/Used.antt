@@ -40,7 +40,7 @@ peak (suc n) G s e =
     (λ v. 0)
     (λ u. after (step e G top s)
     (λ s′ e′. max (reach 0 e) (peak n G s′ e′))
-    (λ room. reach 0 e)
+    (λ capacity. reach 0 e)
     (λ aborted. reach 0 e)
     (λ no-rule. 0))
 

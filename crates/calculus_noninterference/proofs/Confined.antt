@@ -12,10 +12,10 @@ use Rattle.calculus.specs.declared.Outcome.{Outcome}
 use Rattle.calculus.specs.Limits.{bindingLimit, cellLimit, pieceLimit}
 use Rattle.calculus.specs.Combinators.{cases, choose}
 use Rattle.calculus.specs.Syntax.{Dom, Ty, Val, Tm, Tms, Op0, Op1, Op2, asValue, Pattern}
-use Rattle.calculus.specs.State.{Cell, Advice, Event, Counts, Uses, noCounts, addCounts, atDom, adviceBindings, State, Given, charged, celled, stored, labelled, installed, cleared, told}
+use Rattle.calculus.specs.State.{Cell, Advice, Event, Counts, Uses, noCounts, addCounts, atDom, adviceBindings, State, Given, withUses, withCells, stored, addLabel, addAdvice, dropAdvice, addEvent}
 use Rattle.calculus.specs.View.{unitOf, truthOf, numberOf, pairOf, bodyOf, cellOf, labelsOf, bodiesOf, topOf}
 use Rattle.calculus.specs.Numbers.{sum, difference, isLess, isEqual}
-use Rattle.calculus.specs.Answer.{Answer, go, full, halt, wrong, carry, within, if-room, with, spend}
+use Rattle.calculus.specs.Answer.{Answer, reduct, atCapacity, halt, wrong, carry, within, if-capacity, with, spend}
 use Rattle.calculus.specs.Place.{Place, at, deeper, keeping}
 use Rattle.calculus.specs.Compose.{member, matching, triggeredBy}
 use Rattle.calculus.specs.Reduce.{reduce0, reduce1, reduce2, num, truth, arith, collect, methodBody, matched, branch, matchOn, substAll, reduceMatch}
@@ -28,7 +28,7 @@ use Rattle.calculus_safety.proofs.Composed.{member-label}
 use Rattle.calculus_noninterference.specs.Observe.{Highs, lacksMainline}
 use Rattle.calculus_noninterference.proofs.Store.{cell-dom}
 use Rattle.calculus_noninterference.proofs.Clash.{clash}
-use Rattle.calculus_noninterference.proofs.Halves.{add-none, at-low, advice-low}
+use Rattle.calculus_noninterference.proofs.Quotas.{add-none, at-low, advice-low}
 
 -- Where nothing is needed there is room.
 none-needed : {n : ℕ} (m : ℕ) → n ≡ 0 → leb n m ≡ true
@@ -52,14 +52,14 @@ module _ (hi : Dom → Bool) where
 
   -- What a step at c may do to a state: the cells that it makes or changes, the advice that it installs or takes down and what it says are of domains under c.
   pub data Effect (c : Dom) (s : State) : State → Type 0 where
-    e-charge : {u : Uses} → Spares c (s .used) u → Effect c s (charged u s)
-    e-cell : {u : Uses} → Spares c (s .used) u → (a : Cell Val) → Under (a .dom) c → Effect c s (celled (s .cells ++ (a ∷ [])) (charged u s))
+    e-charge : {u : Uses} → Spares c (s .used) u → Effect c s (withUses u s)
+    e-cell : {u : Uses} → Spares c (s .used) u → (a : Cell Val) → Under (a .dom) c → Effect c s (withCells (s .cells ++ (a ∷ [])) (withUses u s))
     e-store : (r : ℕ) (a : Cell Val) (v : Val) → getElem? (s .cells) r ≡ some a → Under (a .dom) c → Effect c s (stored r a v s)
     -- a label may be of any domain: the rule for new labels is not needed here
-    e-label : (p : Dom) → Effect c s (labelled p s)
-    e-advice : (a : Advice Tm) → Under (a .dom) c → Effect c s (installed a s)
-    e-clear : (p : Dom) → Under p c → Effect c s (cleared p s)
-    e-event : {u : Uses} → Spares c (s .used) u → (a : Event) → Under (a .dom) c → Effect c s (told a (charged u s))
+    e-label : (p : Dom) → Effect c s (addLabel p s)
+    e-advice : (a : Advice Tm) → Under (a .dom) c → Effect c s (addAdvice a s)
+    e-clear : (p : Dom) → Under p c → Effect c s (dropAdvice p s)
+    e-event : {u : Uses} → Spares c (s .used) u → (a : Event) → Under (a .dom) c → Effect c s (addEvent a (withUses u s))
 
   effect-up : {c p : Dom} {s s′ : State} → Under p c → Effect p s s′ → Effect c s s′
   effect-up u (e-charge x) = e-charge (λ f. x (low-of u f))
@@ -76,9 +76,9 @@ module _ (hi : Dom → Bool) where
 
   -- An answer to a step at c over s, if the step was made, had only such an effect.
   pub data Confined (c : Dom) (s : State) : Answer State Tm → Type 0 where
-    c-go : {s′ : State} {e : Tm} → Effect c s s′ → Confined c s (go s′ e)
+    c-go : {s′ : State} {e : Tm} → Effect c s s′ → Confined c s (reduct s′ e)
     -- a low domain does not find that domain 0 lacks room (card 9)
-    c-full : {o : Outcome} → (hi c ≡ false → lacksMainline o ≡ false) → Confined c s (full o)
+    c-full : {o : Outcome} → (hi c ≡ false → lacksMainline o ≡ false) → Confined c s (atCapacity o)
     c-halt : Confined c s halt
     c-wrong : Confined c s wrong
 
@@ -96,23 +96,23 @@ module _ (hi : Dom → Bool) where
     confined-within k c-halt = c-halt
     confined-within k c-wrong = c-wrong
 
-    confined-room : (b : Bool) (o : Outcome) {a : Answer State Tm} → lacksMainline o ≡ false → Confined c s a → Confined c s (if-room b o a)
-    unfolding if-room
-    confined-room true o n m = m
-    confined-room false o n m = c-full (λ f. n)
+    confined-capacity : (b : Bool) (o : Outcome) {a : Answer State Tm} → lacksMainline o ≡ false → Confined c s a → Confined c s (if-capacity b o a)
+    unfolding if-capacity
+    confined-capacity true o n m = m
+    confined-capacity false o n m = c-full (λ f. n)
 
-    confined-mainline : (b : Bool) (o : Outcome) {a : Answer State Tm} → (hi c ≡ false → b ≡ true) → Confined c s a → Confined c s (if-room b o a)
-    unfolding if-room
+    confined-mainline : (b : Bool) (o : Outcome) {a : Answer State Tm} → (hi c ≡ false → b ≡ true) → Confined c s a → Confined c s (if-capacity b o a)
+    unfolding if-capacity
     confined-mainline true o n m = m
     confined-mainline false o n m = c-full (λ f. clash (n f) refl)
 
-    confined-spend : (n : Uses) (k : State → Answer State Tm) → (hi c ≡ false → n .mainline ≡ noCounts) → ((u : Uses) → Spares c (s .used) u → Confined c s (k (charged u s))) → Confined c s (spend n s k)
+    confined-spend : (n : Uses) (k : State → Answer State Tm) → (hi c ≡ false → n .mainline ≡ noCounts) → ((u : Uses) → Spares c (s .used) u → Confined c s (k (withUses u s))) → Confined c s (spend n s k)
     unfolding spend
     confined-spend n k z m =
         confined-mainline _ _ (λ f. none-needed (bindingLimit - s .used .mainline .bindings) (ap (λ u. u .bindings) (z f)))
         (confined-mainline _ _ (λ f. none-needed (cellLimit - s .used .mainline .cells) (ap (λ u. u .cells) (z f)))
         (confined-mainline _ _ (λ f. none-needed (pieceLimit - s .used .mainline .pieces) (ap (λ u. u .pieces) (z f)))
-        (confined-room _ _ refl (confined-room _ _ refl (confined-room _ _ refl (m _ (λ f. sym (ap (addCounts (s .used .mainline)) (z f) ∙ add-none (s .used .mainline)))))))))
+        (confined-capacity _ _ refl (confined-capacity _ _ refl (confined-capacity _ _ refl (m _ (λ f. sym (ap (addCounts (s .used .mainline)) (z f) ∙ add-none (s .used .mainline)))))))))
 
     confined-with : {A : Type 0} (o : Option A) (k : A → Answer State Tm) → ((a : A) → Confined c s (k a)) → Confined c s (with o k)
     unfolding with
@@ -134,7 +134,7 @@ module _ (hi : Dom → Bool) where
     under {p} {c} l h = H .up p c h l
 
     -- What is charged to the current domain.
-    confined-at : {c : Dom} {s : State} (n : Counts) (k : State → Answer State Tm) → ((u : Uses) → Spares c (s .used) u → Confined c s (k (charged u s))) → Confined c s (spend (atDom c n) s k)
+    confined-at : {c : Dom} {s : State} (n : Counts) (k : State → Answer State Tm) → ((u : Uses) → Spares c (s .used) u → Confined c s (k (withUses u s))) → Confined c s (spend (atDom c n) s k)
     confined-at {c} n k m = confined-spend (atDom c n) k (at-low hi (H .mainline) c n) m
 
     -- The advice that a label of domain c triggers is of domains under c (card 9).
@@ -150,14 +150,14 @@ module _ (hi : Dom → Bool) where
         look false e next = next
 
     confined0 : {c : Dom} {o : Op0} {t : Ty} (G : Given) (P : Place) (s : State) → Rule0 D c o t → Confined c s (reduce0 G (at c P) s o t)
-    confined0 G P s (t-newLabel l) = confined-room _ _ refl (c-go (e-label _))
+    confined0 G P s (t-newLabel l) = confined-capacity _ _ refl (c-go (e-label _))
     confined0 G P s t-abort = c-halt
     confined0 G P s (t-takedown l) = c-go (e-clear _ (under l))
     confined0 G P s t-stack = confined-at _ _ (λ u x. c-go (e-charge x))
 
     confined1 : {Σ : StoreTyping} {c : Dom} {o : Op1} {t a : Ty} {v : Val} (G : Given) (P : Place) (s : State) → Rule1 D c o a t → ValTy D Σ v a → StateFits D Σ s → Confined c s (reduce1 G (at c P) s o t v)
-    confined1 {v} G P s t-print h k = confined-with (numberOf v) _ (λ n. confined-room _ _ refl (c-go (e-event (λ f. refl) _ (λ x. x))))
-    confined1 G P s (t-install l) (v-advice x y z) k = confined-some _ refl (confined-room _ _ refl (c-go (e-advice _ (under l))))
+    confined1 {v} G P s t-print h k = confined-with (numberOf v) _ (λ n. confined-capacity _ _ refl (c-go (e-event (λ f. refl) _ (λ x. x))))
+    confined1 G P s (t-install l) (v-advice x y z) k = confined-some _ refl (confined-capacity _ _ refl (c-go (e-advice _ (under l))))
     confined1 {v} G P s (t-read l) h k = confined-with (cellOf v) _ (λ r. confined-with (getElem? (s .cells) r) _ (λ a. c-go e-stay))
     confined1 {v} G P s t-byte h k = confined-with (numberOf v) _ (λ n. c-go e-stay)
     confined1 G P s (t-newCell l) h k = confined-at _ _ (λ u x. c-go (e-cell x _ (under l)))
@@ -201,31 +201,31 @@ module _ (hi : Dom → Bool) where
 
         confined-step : {Γ : List Ty} {c : Dom} {e : Tm} {t : Ty} → TmTy D Σ Γ c e t → Γ ≡ [] → (P : Place) → Confined c s (step e G (at c P) s)
         confined-step (is-val h) γ P = c-wrong
-        confined-step (is-var h) γ P = confined-room _ _ refl c-wrong
+        confined-step (is-var h) γ P = confined-capacity _ _ refl c-wrong
         confined-step (is-lam h) γ P = c-wrong
-        confined-step (is-op0 r) γ P = confined-room _ _ refl (confined0 G P s r)
-        confined-step (is-op1 {e} r h) γ P = confined-cases (asValue e) _ _ (λ v p. confined-room _ _ refl (confined1 G P s r (val-ty (closed γ h) p) K)) (confined-within _ (confined-step h γ (deeper P)))
+        confined-step (is-op0 r) γ P = confined-capacity _ _ refl (confined0 G P s r)
+        confined-step (is-op1 {e} r h) γ P = confined-cases (asValue e) _ _ (λ v p. confined-capacity _ _ refl (confined1 G P s r (val-ty (closed γ h) p) K)) (confined-within _ (confined-step h γ (deeper P)))
         confined-step (is-op2 {e} {f} r h g) γ P =
             confined-cases (asValue e) _ _
-            (λ v p. confined-cases (asValue f) _ _ (λ w q. confined-room _ _ refl (confined2 w G P s r (val-ty (closed γ h) p) K)) (confined-within _ (confined-step g γ (deeper P))))
+            (λ v p. confined-cases (asValue f) _ _ (λ w q. confined-capacity _ _ refl (confined2 w G P s r (val-ty (closed γ h) p) K)) (confined-within _ (confined-step g γ (deeper P))))
             (confined-within _ (confined-step h γ (deeper P)))
-        confined-step (is-seq {e} h g) γ P = confined-cases (asValue e) _ _ (λ v p. confined-room _ _ refl (confined-with (unitOf v) _ (λ u. c-go e-stay))) (confined-within _ (confined-step h γ (deeper P)))
-        confined-step (is-ite {e} h g f) γ P = confined-cases (asValue e) _ _ (λ v p. confined-room _ _ refl (confined-with (truthOf v) _ (λ u. c-go e-stay))) (confined-within _ (confined-step h γ (deeper P)))
-        confined-step (is-split {e} h g) γ P = confined-cases (asValue e) _ _ (λ v p. confined-room _ _ refl (confined-with (pairOf v) _ (λ u. confined-at _ _ (λ n x. c-go (e-charge x))))) (confined-within _ (confined-step h γ (deeper P)))
+        confined-step (is-seq {e} h g) γ P = confined-cases (asValue e) _ _ (λ v p. confined-capacity _ _ refl (confined-with (unitOf v) _ (λ u. c-go e-stay))) (confined-within _ (confined-step h γ (deeper P)))
+        confined-step (is-ite {e} h g f) γ P = confined-cases (asValue e) _ _ (λ v p. confined-capacity _ _ refl (confined-with (truthOf v) _ (λ u. c-go e-stay))) (confined-within _ (confined-step h γ (deeper P)))
+        confined-step (is-split {e} h g) γ P = confined-cases (asValue e) _ _ (λ v p. confined-capacity _ _ refl (confined-with (pairOf v) _ (λ u. confined-at _ _ (λ n x. c-go (e-charge x))))) (confined-within _ (confined-step h γ (deeper P)))
         confined-step (is-pcd h o) γ P = confined-first h γ P [] _ _ (λ vs. confined-with (collect vs []) _ (λ l. confined-at _ _ (λ n x. c-go (e-charge x))))
-        confined-step (is-adv {e} h l g) γ P = confined-cases (asValue e) _ _ (λ v p. confined-room _ _ refl (confined-with (labelsOf v) _ (λ u. confined-at _ _ (λ n x. c-go (e-charge x))))) (confined-within _ (confined-step h γ (deeper P)))
-        confined-step (is-lower {e} l h) γ P = confined-cases (asValue e) _ _ (λ v p. confined-room _ _ refl (confined-with (unitOf v) _ (λ u. c-go e-stay))) (confined-within _ (confined-up (under l) (confined-step h γ (deeper P))))
+        confined-step (is-adv {e} h l g) γ P = confined-cases (asValue e) _ _ (λ v p. confined-capacity _ _ refl (confined-with (labelsOf v) _ (λ u. confined-at _ _ (λ n x. c-go (e-charge x))))) (confined-within _ (confined-step h γ (deeper P)))
+        confined-step (is-lower {e} l h) γ P = confined-cases (asValue e) _ _ (λ v p. confined-capacity _ _ refl (confined-with (unitOf v) _ (λ u. c-go e-stay))) (confined-within _ (confined-up (under l) (confined-step h γ (deeper P))))
         confined-step (is-obj h) γ P = c-wrong
         confined-step (is-keep {e} {f} {g} h k l) γ P =
             confined-cases (asValue e) _ _
             (λ v p. confined-cases (asValue f) _ _
-            (λ w q. confined-cases (asValue g) _ _ (λ u r. confined-room _ _ refl (c-go e-stay)) (confined-within _ (confined-step l γ (keeping v w (deeper P)))))
+            (λ w q. confined-cases (asValue g) _ _ (λ u r. confined-capacity _ _ refl (c-go e-stay)) (confined-within _ (confined-step l γ (keeping v w (deeper P)))))
             (confined-within _ (confined-step k γ (deeper P))))
             (confined-within _ (confined-step h γ (deeper P)))
         confined-step (is-match {p} {f} {g} h o k l) γ P = confined-first h γ P [] _ _ (λ vs. confined-match s P p f g vs)
 
         confined-first : {Γ ts : List Ty} {c : Dom} {es : Tms} → TmsTy D Σ Γ c es ts → Γ ≡ [] → (P : Place) (vs : List Val) (k : Tms → Tm) (r : List Val → Answer State Tm) → ((ws : List Val) → Confined c s (r ws)) → Confined c s (stepFirst es G (at c P) s vs k r)
-        confined-first is-end γ P vs k r m = confined-room _ _ refl (m vs)
+        confined-first is-end γ P vs k r m = confined-capacity _ _ refl (m vs)
         confined-first (is-more {e} h g) γ P vs k r m = confined-cases (asValue e) _ _ (λ v p. confined-first g γ P (v ∷ vs) k r m) (confined-within _ (confined-step h γ (deeper P)))
 
       pub confined : {c : Dom} {e : Tm} {t : Ty} → TmTy D Σ [] c e t → (P : Place) → Confined c s (step e G (at c P) s)

@@ -11,7 +11,7 @@ use Rattle.calculus.specs.Combinators.{cases}
 use Rattle.calculus.specs.Syntax.{Dom, Ty, Val, Tm, val, var, lam, op0, op1, op2, seq, pcd, adv, end, more, newLabel, takedown, print, install, read, newCell, app, mark}
 use Rattle.calculus.specs.State.{Given, Counts, Print, picked, logOf, mainlineCounts, fresh}
 use Rattle.calculus.specs.Subst.{subst}
-use Rattle.calculus.specs.Answer.{carry, if-room, with, spend}
+use Rattle.calculus.specs.Answer.{carry, if-capacity, with, spend}
 use Rattle.calculus.specs.Step.{step}
 use Rattle.calculus.specs.Run.{End, done, after, run}
 use Rattle.calculus.specs.Typing.{noStore, _⨾_⊢_⦂_ as TmTy, t-newLabel, t-takedown, t-print, t-install, t-read, t-newCell, t-app, t-mark, no-types, a-type, v-number, is-val, is-var, is-lam, is-op0, is-op1, is-op2, is-seq, is-pcd, is-adv, is-end, is-more}
@@ -86,11 +86,11 @@ abbrev sevens : List Print → Facts
 sevens x = record { end = done (Val.number 7); log = x; prints = record { dom = 0; shown = 5 } ∷ []; cells = record { dom = 0; value = some (Val.number 7) } ∷ []; counts = record { bindings = 1; cells = 0; pieces = 2 } ∷ record { bindings = 1; cells = 1; pieces = 2 } ∷ [] }
 
 left-facts : facts (program left) ≡ sevens (record { dom = 1; shown = 3 } ∷ record { dom = 0; shown = 5 } ∷ [])
-unfolding highOf run after cases step carry if-room with spend picked subst
+unfolding highOf run after cases step carry if-capacity with spend picked subst
 left-facts = refl
 
 right-facts : facts (program right) ≡ sevens (record { dom = 1; shown = 8 } ∷ record { dom = 1; shown = 9 } ∷ record { dom = 0; shown = 5 } ∷ [])
-unfolding highOf run after cases step carry if-room with spend picked subst
+unfolding highOf run after cases step carry if-capacity with spend picked subst
 right-facts = refl
 
 -- Card 7: "a takedown written into a low body is one more difference under which high printed numbers still agree".
@@ -101,5 +101,5 @@ same-takedown : (G : Given) (n n′ : ℕ) → Same hi (run n G 0 fresh (program
 same-takedown G n n′ = demand3 falling hi falling-trans highs (program left) (program clearing) (accepted (is-op1 t-print (is-var refl))) (accepted (is-op0 (t-takedown refl))) (alike left clearing) G G refl n n′
 
 clearing-facts : facts (program clearing) ≡ sevens (record { dom = 0; shown = 5 } ∷ [])
-unfolding highOf run after cases step carry if-room with spend picked subst
+unfolding highOf run after cases step carry if-capacity with spend picked subst
 clearing-facts = refl

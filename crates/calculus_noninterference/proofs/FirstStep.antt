@@ -7,7 +7,7 @@ use Rattle.calculus.specs.declared.Outcome.{Outcome}
 use Rattle.calculus.specs.Combinators.{cases}
 use Rattle.calculus.specs.Syntax.{Val, Tm, asValue}
 use Rattle.calculus.specs.State.{State, Given}
-use Rattle.calculus.specs.Answer.{Answer, go, full, halt, wrong}
+use Rattle.calculus.specs.Answer.{Answer, reduct, atCapacity, halt, wrong}
 use Rattle.calculus.specs.Place.{top}
 use Rattle.calculus.specs.Step.{step}
 use Rattle.calculus.specs.Run.{End, done, stopped, stuck, Ended, ended, after, unpaid, run}
@@ -20,7 +20,7 @@ unfolding run after cases
 run-value zero G k s e p = rw (p, run)
 run-value (suc n) G k s e p = rw (p, run)
 
-pub run-go : (n : ℕ) (G : Given) (k : ℕ) (s : State) (e : Tm) {t : State} {f : Tm} → asValue e ≡ none → step e G top s ≡ go t f → run (suc n) G k s e ≡ run n G (suc k) t f
+pub run-go : (n : ℕ) (G : Given) (k : ℕ) (s : State) (e : Tm) {t : State} {f : Tm} → asValue e ≡ none → step e G top s ≡ reduct t f → run (suc n) G k s e ≡ run n G (suc k) t f
 unfolding run after cases
 run-go n G k s e p q = rw (p, q, run)
 
@@ -42,8 +42,8 @@ valueless-stuck : {s : State} {a : Answer State Tm} (k : ℕ) → Valueless s a 
 valueless-stuck k = record { over = refl; no-value = λ v p. transp IsDone p tt; short = λ x. clash x refl }
 
 valueless-unpaid : {s : State} (a : Answer State Tm) (k : ℕ) → Valueless s a (ended (unpaid a) k s)
-valueless-unpaid (go t f) k = valueless-stopped _ _ (λ x. clash x refl)
-valueless-unpaid (full o) k = valueless-stopped _ _ (λ x. x)
+valueless-unpaid (reduct t f) k = valueless-stopped _ _ (λ x. clash x refl)
+valueless-unpaid (atCapacity o) k = valueless-stopped _ _ (λ x. x)
 valueless-unpaid halt k = valueless-stopped _ _ (λ x. clash x refl)
 valueless-unpaid wrong k = valueless-stuck _
 
@@ -56,6 +56,6 @@ run-spent G k s e p = rw (p, run) (valueless-unpaid (step e G top s) k)
 pub run-none : (n : ℕ) (G : Given) (k : ℕ) (s : State) (e : Tm) (a : Answer State Tm) → asValue e ≡ none → step e G top s ≡ a → NoStep a → Valueless s a (run n G k s e)
 unfolding run after cases
 run-none zero G k s e a p q f = rw (← q) (run-spent G k s e p)
-run-none (suc n) G k s e (full o) p q f = rw (p, q, run) (valueless-stopped _ _ (λ x. x))
+run-none (suc n) G k s e (atCapacity o) p q f = rw (p, q, run) (valueless-stopped _ _ (λ x. x))
 run-none (suc n) G k s e halt p q f = rw (p, q, run) (valueless-stopped _ _ (λ x. clash x refl))
 run-none (suc n) G k s e wrong p q f = rw (p, q, run) (valueless-stuck _)

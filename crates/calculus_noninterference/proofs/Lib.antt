@@ -1,6 +1,6 @@
 -- Noninterference.
 pub mod Clash
-pub mod Halves
+pub mod Quotas
 pub mod Interleave
 pub mod Filtered
 pub mod Related
@@ -9,8 +9,8 @@ pub mod Blanked
 pub mod Store
 pub mod Closed
 pub mod Confined
-pub mod Calm
-pub mod CalmStep
+pub mod NoLowTakedown
+pub mod NoLowTakedownStep
 pub mod States
 pub mod Paired
 pub mod Marks

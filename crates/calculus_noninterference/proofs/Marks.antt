@@ -11,7 +11,7 @@ use Rattle.calculus.specs.Compose.{member, matching, composed}
 use Rattle.laws.proofs.Lists.{All2.all2-nil, All2.all2-cons}
 use Rattle.calculus_noninterference.specs.Observe.{NoMore}
 use Rattle.calculus_noninterference.proofs.Clash.{clash}
-use Rattle.calculus_noninterference.proofs.Halves.{mainline-both, mainline-alone, no-more-refl, others-both, others-alone}
+use Rattle.calculus_noninterference.proofs.Quotas.{mainline-both, mainline-alone, no-more-refl, others-both, others-alone}
 use Rattle.calculus_noninterference.proofs.Interleave.{Side, Matched, Matches, matched-eqb, i-nil, i-both, i-left, i-right}
 use Rattle.calculus_noninterference.proofs.Related.{World, inert-lower, RelV, RelT, v-unit, r-val, r-seq, r-lower, r-skip-left, r-skip-right, RelAdvice, Advices}
 use Rattle.calculus_noninterference.proofs.Substitute.{relL-subst}

@@ -10,31 +10,31 @@ use Rattle.calculus.specs.declared.Outcome.{Outcome}
 use Rattle.calculus.specs.Limits.{frameLimit, bindingLimit, cellLimit, pieceLimit}
 use Rattle.calculus.specs.Combinators.{cases}
 use Rattle.calculus.specs.Syntax.{Dom, Val, Tm, asValue}
-use Rattle.calculus.specs.State.{Uses, addCounts, addUses, State, charged}
-use Rattle.calculus.specs.Answer.{Answer, go, full, halt, wrong, carry, within, if-room, with, spend}
+use Rattle.calculus.specs.State.{Uses, addCounts, addUses, State, withUses}
+use Rattle.calculus.specs.Answer.{Answer, reduct, atCapacity, halt, wrong, carry, within, if-capacity, with, spend}
 use Rattle.calculus.specs.Place.{Place, framed}
 use Rattle.calculus_noninterference.specs.Observe.{lacksMainline}
 use Rattle.calculus_noninterference.proofs.Clash.{clash, not-so}
-use Rattle.calculus_noninterference.proofs.Halves.{no-more-add}
+use Rattle.calculus_noninterference.proofs.Quotas.{no-more-add}
 use Rattle.calculus_noninterference.proofs.Related.{World, Grows, RelV, RelT, RelS, SameUse, RelPlace}
 
 -- No step was made.
 pub data NoStep : Answer State Tm → Type 0 where
-  n-full : {o : Outcome} → NoStep (full o)
+  n-full : {o : Outcome} → NoStep (atCapacity o)
   n-halt : NoStep halt
   n-wrong : NoStep wrong
 
 -- The answer is that domain 0 lacks room (card 9).
 abbrev pub Short : Answer State Tm → Type 0
-Short (go s e) = ⊥
-Short (full o) = lacksMainline o ≡ true
+Short (reduct s e) = ⊥
+Short (atCapacity o) = lacksMainline o ≡ true
 Short halt = ⊥
 Short wrong = ⊥
 
 short-within : (a : Answer State Tm) (k : Tm → Tm) → Short (within k a) → Short a
 unfolding carry
-short-within (go s e) k x = x
-short-within (full o) k x = x
+short-within (reduct s e) k x = x
+short-within (atCapacity o) k x = x
 short-within halt k x = x
 short-within wrong k x = x
 
@@ -44,15 +44,15 @@ no-step-within k n-full = n-full
 no-step-within k n-halt = n-halt
 no-step-within k n-wrong = n-wrong
 
-pub no-step-room : {a : Answer State Tm} (b : Bool) (o : Outcome) → NoStep a → NoStep (if-room b o a)
-unfolding if-room
-no-step-room true o h = h
-no-step-room false o h = n-full
+pub no-step-capacity : {a : Answer State Tm} (b : Bool) (o : Outcome) → NoStep a → NoStep (if-capacity b o a)
+unfolding if-capacity
+no-step-capacity true o h = h
+no-step-capacity false o h = n-full
 
-pub not-short-room : (a : Answer State Tm) (b : Bool) (o : Outcome) → lacksMainline o ≡ false → (Short a → ⊥) → Short (if-room b o a) → ⊥
-unfolding if-room
-not-short-room a true o n h x = h x
-not-short-room a false o n h x = clash x n
+pub not-short-capacity : (a : Answer State Tm) (b : Bool) (o : Outcome) → lacksMainline o ≡ false → (Short a → ⊥) → Short (if-capacity b o a) → ⊥
+unfolding if-capacity
+not-short-capacity a true o n h x = h x
+not-short-capacity a false o n h x = clash x n
 
 pub cases-none : {A : Type 0} {x : Option A} (f : A → Answer State Tm) (a : Unit {0} → Answer State Tm) → x ≡ none → cases x f a ≡ a tt
 unfolding cases
@@ -62,7 +62,7 @@ pub cases-some : {A : Type 0} {x : Option A} {v : A} (f : A → Answer State Tm)
 unfolding cases
 cases-some f a p = ap (λ x. cases x f a) p
 
-within-go : {a : Answer State Tm} {s : State} {e : Tm} (k : Tm → Tm) → a ≡ go s e → within k a ≡ go s (k e)
+within-go : {a : Answer State Tm} {s : State} {e : Tm} (k : Tm → Tm) → a ≡ reduct s e → within k a ≡ reduct s (k e)
 unfolding carry
 within-go k p = ap (λ x. within k x) p
 
@@ -77,7 +77,7 @@ module _ (hi : Dom → Bool) where
   module _ (W : World) where
     -- The answers to a step of each: if both were made, what they made is related; where domain 0 lacks room in the left, the right makes no step either; a stripped right lacks nothing that the left has (card 13).
     pub data Two : Answer State Tm → Answer State Tm → Type 0 where
-      two-go : {X : World} {s s′ : State} {e e′ : Tm} → Grows W X → RelS hi X s s′ → RelT hi X e e′ → Two (go s e) (go s′ e′)
+      two-go : {X : World} {s s′ : State} {e e′ : Tm} → Grows W X → RelS hi X s s′ → RelT hi X e e′ → Two (reduct s e) (reduct s′ e′)
       none-left : {a a′ : Answer State Tm} → NoStep a → (Short a → NoStep a′) → Two a a′
       none-right : {a a′ : Answer State Tm} → W .stripped ≡ false → NoStep a′ → Two a a′
 
@@ -88,40 +88,40 @@ module _ (hi : Dom → Bool) where
       -- both make a step
       s-both : asValue e ≡ none → asValue e′ ≡ none → Two a a′ → Sim s s′ e e′ a a′
       -- one makes a step that the other does not see; a stripped right makes none alone
-      s-left : {X : World} {t : State} {f : Tm} → asValue e ≡ none → a ≡ go t f → Grows W X → RelS hi X t s′ → RelT hi X f e′ → Sim s s′ e e′ a a′
-      s-right : {X : World} {t : State} {f : Tm} → W .stripped ≡ false → asValue e′ ≡ none → a′ ≡ go t f → Grows W X → RelS hi X s t → RelT hi X e f → Sim s s′ e e′ a a′
+      s-left : {X : World} {t : State} {f : Tm} → asValue e ≡ none → a ≡ reduct t f → Grows W X → RelS hi X t s′ → RelT hi X f e′ → Sim s s′ e e′ a a′
+      s-right : {X : World} {t : State} {f : Tm} → W .stripped ≡ false → asValue e′ ≡ none → a′ ≡ reduct t f → Grows W X → RelS hi X s t → RelT hi X e f → Sim s s′ e e′ a a′
       -- one ends here
       s-none-left : asValue e ≡ none → NoStep a → (Short a → ⊥) → Sim s s′ e e′ a a′
       s-none-right : W .stripped ≡ false → asValue e′ ≡ none → NoStep a′ → Sim s s′ e e′ a a′
 
   module _ {W : World} where
     -- Room that is not domain 0's, which a stripped right has where the left has it; and room that is, of which both have as much.
-    pub two-room : {a a′ : Answer State Tm} (b b′ : Bool) (o : Outcome) → lacksMainline o ≡ false → (W .stripped ≡ true → b ≡ true → b′ ≡ true) → Two W a a′ → Two W (if-room b o a) (if-room b′ o a′)
-    unfolding if-room
-    two-room true true o n i t = t
-    two-room true false o n i t = none-right (not-so (W .stripped) (λ z. clash (i z refl) refl)) n-full
-    two-room false b o n i t = none-left n-full (λ x. clash x n)
+    pub two-capacity : {a a′ : Answer State Tm} (b b′ : Bool) (o : Outcome) → lacksMainline o ≡ false → (W .stripped ≡ true → b ≡ true → b′ ≡ true) → Two W a a′ → Two W (if-capacity b o a) (if-capacity b′ o a′)
+    unfolding if-capacity
+    two-capacity true true o n i t = t
+    two-capacity true false o n i t = none-right (not-so (W .stripped) (λ z. clash (i z refl) refl)) n-full
+    two-capacity false b o n i t = none-left n-full (λ x. clash x n)
 
     pub two-framed : {P P′ : Place} {a a′ : Answer State Tm} → RelPlace hi W P P′ → Two W a a′ → Two W (framed P a) (framed P′ a′)
-    two-framed {P} {P′} Q t = two-room _ _ _ refl (λ z e. (let l = Q .depth z in let h = leb-true (P .depth) frameLimit e in le-leb (P′ .depth) frameLimit (omega arith))) t
+    two-framed {P} {P′} Q t = two-capacity _ _ _ refl (λ z e. (let l = Q .depth z in let h = leb-true (P .depth) frameLimit e in le-leb (P′ .depth) frameLimit (omega arith))) t
 
-    two-mainline : {a a′ : Answer State Tm} {b b′ : Bool} (o : Outcome) → b ≡ b′ → Two W a a′ → Two W (if-room b o a) (if-room b′ o a′)
-    unfolding if-room
-    two-mainline {a} {a′} {b} o e t = transp (λ c. Two W (if-room b o a) (if-room c o a′)) e (pick b)
+    two-mainline : {a a′ : Answer State Tm} {b b′ : Bool} (o : Outcome) → b ≡ b′ → Two W a a′ → Two W (if-capacity b o a) (if-capacity b′ o a′)
+    unfolding if-capacity
+    two-mainline {a} {a′} {b} o e t = transp (λ c. Two W (if-capacity b o a) (if-capacity c o a′)) e (pick b)
       where
-        pick : (c : Bool) → Two W (if-room c o a) (if-room c o a′)
+        pick : (c : Bool) → Two W (if-capacity c o a) (if-capacity c o a′)
         pick true = t
         pick false = none-left n-full (λ x. n-full)
 
-    pub two-spend : (s s′ : State) (n n′ : Uses) (k k′ : State → Answer State Tm) → SameUse (W .stripped) (s .used) (s′ .used) → SameUse (W .stripped) n n′ → ((u u′ : Uses) → SameUse (W .stripped) u u′ → Two W (k (charged u s)) (k′ (charged u′ s′))) → Two W (spend n s k) (spend n′ s′ k′)
+    pub two-spend : (s s′ : State) (n n′ : Uses) (k k′ : State → Answer State Tm) → SameUse (W .stripped) (s .used) (s′ .used) → SameUse (W .stripped) n n′ → ((u u′ : Uses) → SameUse (W .stripped) u u′ → Two W (k (withUses u s)) (k′ (withUses u′ s′))) → Two W (spend n s k) (spend n′ s′ k′)
     unfolding spend
     two-spend s s′ n n′ k k′ o e t =
         two-mainline Outcome.Bindings (ap₂ (λ x y. leb (x .bindings) (bindingLimit - y .bindings)) (e .mainline) (o .mainline))
         (two-mainline Outcome.Cells (ap₂ (λ x y. leb (x .cells) (cellLimit - y .cells)) (e .mainline) (o .mainline))
         (two-mainline Outcome.Pieces (ap₂ (λ x y. leb (x .pieces) (pieceLimit - y .pieces)) (e .mainline) (o .mainline))
-        (two-room _ _ _ refl (λ z. enough bindingLimit _ _ _ _ (e .others z .bindings) (o .others z .bindings))
-        (two-room _ _ _ refl (λ z. enough cellLimit _ _ _ _ (e .others z .cells) (o .others z .cells))
-        (two-room _ _ _ refl (λ z. enough pieceLimit _ _ _ _ (e .others z .pieces) (o .others z .pieces)) (t _ _ (add-same o e)))))))
+        (two-capacity _ _ _ refl (λ z. enough bindingLimit _ _ _ _ (e .others z .bindings) (o .others z .bindings))
+        (two-capacity _ _ _ refl (λ z. enough cellLimit _ _ _ _ (e .others z .cells) (o .others z .cells))
+        (two-capacity _ _ _ refl (λ z. enough pieceLimit _ _ _ _ (e .others z .pieces) (o .others z .pieces)) (t _ _ (add-same o e)))))))
 
     -- Where domain 0 lacks room in the left, the right makes no step.
     pub two-short : {a a′ : Answer State Tm} → Two W a a′ → Short a → NoStep a′

@@ -8,7 +8,7 @@ use Rattle.calculus.specs.Combinators.{cases}
 use Rattle.calculus.specs.Syntax.{Dom, Ty, Val, Tm, val, lam, op1, op2, seq, lower, read, newCell, app}
 use Rattle.calculus.specs.State.{Given, picked, fresh}
 use Rattle.calculus.specs.Subst.{subst}
-use Rattle.calculus.specs.Answer.{carry, if-room, with, spend}
+use Rattle.calculus.specs.Answer.{carry, if-capacity, with, spend}
 use Rattle.calculus.specs.Step.{step}
 use Rattle.calculus.specs.Run.{End, done, after, run}
 use Rattle.calculus.specs.Typing.{noStore, _⨾_⊢_⦂_ as TmTy, t-read, t-newCell, t-app, v-unit, v-number, is-val, is-lam, is-op1, is-op2, is-seq, is-lower}
@@ -55,9 +55,9 @@ abbrev seven : List Dom → Facts
 seven x = record { end = done (Val.number 7); doms = x; high = record { dom = 0; value = some (Val.number 7) } ∷ [] }
 
 low-before-high : facts (program makesCell) ≡ seven (1 ∷ 0 ∷ [])
-unfolding highOf run after cases step carry if-room with spend picked subst
+unfolding highOf run after cases step carry if-capacity with spend picked subst
 low-before-high = refl
 
 high-alone : facts (program nothing) ≡ seven (0 ∷ [])
-unfolding highOf run after cases step carry if-room with spend picked subst
+unfolding highOf run after cases step carry if-capacity with spend picked subst
 high-alone = refl

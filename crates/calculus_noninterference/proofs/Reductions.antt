@@ -14,7 +14,7 @@ use Rattle.calculus.specs.Syntax.{Dom, Ty, Sigs, Val, Tm, Tms, Op0, Op1, Op2, v
 use Rattle.calculus.specs.State.{Cell, State, Given, Counts, Uses, somePieces, someBindings, atDom, Entry, prints}
 use Rattle.calculus.specs.Numbers.{frameByte, sum, difference, isLess, isEqual}
 use Rattle.calculus.specs.View.{topOf, labelsOf}
-use Rattle.calculus.specs.Answer.{go, with, spend}
+use Rattle.calculus.specs.Answer.{reduct, with, spend}
 use Rattle.calculus.specs.Place.{Place, at, keeping}
 use Rattle.calculus.specs.Reduce.{piece, bind, reduce0, reduce1, reduce2, arith, num, truth, reduceSeq, reduceIte, reduceSplit, reduceAdv, reduceLower, collect, reducePcd, methodBody, stackVal, consFound, matched, branch, matchOn, substAll, reduceMatch}
 use Rattle.calculus.specs.Typing.{Policy, Has, has-first, has-later, StoreTyping, _⊢_⦂_ as Rule0, _⊢_⦂_⇒_ as Rule1, _⊢_⦂_⇒_⇒_ as Rule2, ⊢_⦂_ as ValTy, t-newLabel, t-abort, t-takedown, t-print, t-install, t-read, t-byte, t-newCell, t-call, t-pair, t-app, t-mark, t-store, t-plus, t-minus, t-less, t-equal, PatternTy, p-end, p-rest, p-any, p-cut, t-stack}
@@ -22,7 +22,7 @@ use Rattle.laws.proofs.Lists.{All2.all2-nil, All2.all2-cons, All2, all2-length}
 use Rattle.calculus_safety.proofs.StoreFits.{StateFits}
 use Rattle.calculus_noninterference.specs.Observe.{Highs}
 use Rattle.calculus_noninterference.proofs.Clash.{clash}
-use Rattle.calculus_noninterference.proofs.Halves.{no-more-refl}
+use Rattle.calculus_noninterference.proofs.Quotas.{no-more-refl}
 use Rattle.calculus_noninterference.proofs.Interleave.{both, Matches, matched-last, get-both, interleaving-reverse, no-longer}
 use Rattle.calculus_noninterference.proofs.Traces.{log-no-longer}
 use Rattle.calculus_noninterference.proofs.Related.{World, grows-refl, RelCell, RelV, RelT, RelL, RelVs, RelBs, SameUse, RelPlace, b-rel, b-low, v-unit, v-truth, v-number, v-pair, v-fun, v-label, v-cell, v-pointcut, v-advice, v-object, r-val, r-body, RelS, RelKept, v-bottom, v-kept}
@@ -30,7 +30,7 @@ use Rattle.calculus.specs.Subst.{subst}
 use Rattle.calculus_noninterference.proofs.Substitute.{rel-choose, relT-subst}
 use Rattle.calculus_noninterference.proofs.Store.{cell-dom}
 use Rattle.calculus_noninterference.proofs.States.{grows-cell, grows-label, rel-charged, cell-both, store-both, label-both, advice-both, clear-both, event-both}
-use Rattle.calculus_noninterference.proofs.Paired.{n-halt, Two, two-go, none-left, two-room, two-spend, two-some, two-found, two-none}
+use Rattle.calculus_noninterference.proofs.Paired.{n-halt, Two, two-go, none-left, two-capacity, two-spend, two-some, two-found, two-none}
 use Rattle.calculus_noninterference.proofs.Marks.{composed-rel, member-same, mainline-bindings, others-bindings}
 
 module _ (hi : Dom → Bool) (W : World) where
@@ -97,11 +97,11 @@ same-size c f {m} e = rw (← e) (same-use (atDom c (f m)))
 
 module _ (hi : Dom → Bool) {W : World} {s s′ : State} (R : RelS hi W s s′) where
   -- The states stay.
-  pub two-stay : {e e′ : Tm} → RelT hi W e e′ → Two hi W (go s e) (go s′ e′)
+  pub two-stay : {e e′ : Tm} → RelT hi W e e′ → Two hi W (reduct s e) (reduct s′ e′)
   two-stay r = two-go (grows-refl W) R r
 
   -- Only the counts change.
-  two-charge : (n n′ : Uses) {e e′ : Tm} → SameUse (W .stripped) n n′ → RelT hi W e e′ → Two hi W (spend n s (λ x. go x e)) (spend n′ s′ (λ x. go x e′))
+  two-charge : (n n′ : Uses) {e e′ : Tm} → SameUse (W .stripped) n n′ → RelT hi W e e′ → Two hi W (spend n s (λ x. reduct x e)) (spend n′ s′ (λ x. reduct x e′))
   two-charge n n′ o r = two-spend hi s s′ n n′ _ _ (R .used) o (λ u u′ e. two-go (grows-refl W) (rel-charged hi R u u′ e) r)
 
   two-arith : {A : Type 0} (k : A → Tm) (f : ℕ → ℕ → A) (m n : ℕ) → RelT hi W (k (f m n)) (k (f m n)) → Two hi W (arith s k f (some m) (some n)) (arith s′ k f (some m) (some n))
@@ -134,13 +134,13 @@ module _ (hi : Dom → Bool) {W : World} {s s′ : State} (R : RelS hi W s s′)
 fewer : (m n L : ℕ) → n ≤ m → ltb m L ≡ true → ltb n L ≡ true
 fewer m n L l e = let h = ltb-true m L e in lt-ltb n L (omega nat.arith)
 
-log-room : (a a′ m m′ : ℕ) → a ≤ a′ → m′ ≤ m → leb logRecordLength (a - logRecordLength * m) ≡ true → leb logRecordLength (a′ - logRecordLength * m′) ≡ true
-log-room a a′ m m′ x y e = let h = leb-true logRecordLength (a - logRecordLength * m) e in le-leb logRecordLength (a′ - logRecordLength * m′) (omega nat.arith)
+log-capacity : (a a′ m m′ : ℕ) → a ≤ a′ → m′ ≤ m → leb logRecordLength (a - logRecordLength * m) ≡ true → leb logRecordLength (a′ - logRecordLength * m′) ≡ true
+log-capacity a a′ m m′ x y e = let h = leb-true logRecordLength (a - logRecordLength * m) e in le-leb logRecordLength (a′ - logRecordLength * m′) (omega nat.arith)
 
 -- The operators, at a current domain c that is high.
 module _ (hi : Dom → Bool) {D : Policy} (H : Highs D hi) {W : World} {s s′ : State} (R : RelS hi W s s′) {Σ : StoreTyping} (K : StateFits D Σ s) (G G′ : Given) {c : Dom} (h : hi c ≡ true) (P P′ : Place) where
   pub two0 : RelPlace hi W P P′ → {o : Op0} {t : Ty} → Rule0 D c o t → Two hi W (reduce0 G (at c P) s o t) (reduce0 G′ (at c P′) s′ o t)
-  two0 Q (t-newLabel {p} l) = two-room hi _ _ _ refl (λ z. fewer _ _ labelLimit (no-longer (λ a r. clash z r) (R .labels))) (two-go (grows-label W both) (label-both hi R p) (r-val (v-label (matched-last (R .labels)))))
+  two0 Q (t-newLabel {p} l) = two-capacity hi _ _ _ refl (λ z. fewer _ _ labelLimit (no-longer (λ a r. clash z r) (R .labels))) (two-go (grows-label W both) (label-both hi R p) (r-val (v-label (matched-last (R .labels)))))
   two0 Q t-abort = none-left n-halt (λ x. absurd x)
   two0 Q (t-takedown {p} l) = two-go (grows-refl W) (clear-both hi R p) (r-val v-unit)
   two0 Q t-stack = two-charge hi R _ _ (same-size c somePieces (all2-length (Q .kept))) (r-val (stack-rel hi W (Q .kept)))
@@ -159,10 +159,10 @@ module _ (hi : Dom → Bool) {D : Policy} (H : Highs D hi) {W : World} {s s′ :
   two-call (has-later x) (r-body r k) u = two-call x k u
 
   pub two1 : {o : Op1} {t a : Ty} {v v′ : Val} → G .frame ≡ G′ .frame → (W .stripped ≡ true → G .logLength ≤ G′ .logLength) → Rule1 D c o a t → ValTy D Σ v a → RelV hi W v v′ → Two hi W (reduce1 G (at c P) s o t v) (reduce1 G′ (at c P′) s′ o t v′)
-  two1 frame log t-print (ValTy.v-number {n}) v-number = two-some hi _ _ (two-room hi _ _ _ refl (λ z. log-room _ _ _ _ (log z) (log-no-longer hi z (R .trace))) (two-go (grows-refl W) (event-both hi R _ _ (ap (λ u. record { dom = c; said = prints n u }) (R .used .mainline)) h) (r-val v-unit)))
-  two1 frame log (t-install l) (ValTy.v-advice x y z) (v-advice m r) = two-some hi _ _ (two-room hi _ _ _ refl (λ i. fewer _ _ adviceLimit (no-longer (λ a k. clash i (k .1)) (R .advices))) (two-go (grows-refl W) (advice-both hi R (record { same-dom = refl; labels = m; body = r })) (r-val v-unit)))
+  two1 frame log t-print (ValTy.v-number {n}) v-number = two-some hi _ _ (two-capacity hi _ _ _ refl (λ z. log-capacity _ _ _ _ (log z) (log-no-longer hi z (R .trace))) (two-go (grows-refl W) (event-both hi R _ _ (ap (λ u. record { dom = c; said = prints n u }) (R .used .mainline)) h) (r-val v-unit)))
+  two1 frame log (t-install l) (ValTy.v-advice x y z) (v-advice m r) = two-some hi _ _ (two-capacity hi _ _ _ refl (λ i. fewer _ _ adviceLimit (no-longer (λ a k. clash i (k .1)) (R .advices))) (two-go (grows-refl W) (advice-both hi R (record { same-dom = refl; labels = m; body = r })) (r-val v-unit)))
   two1 frame log (t-read l) (ValTy.v-cell {r} x) (v-cell m) = let k = get-both m (R .cells) in two-some hi _ _ (two-found hi _ _ (k .2) (k .3) (two-stay hi R (r-val (two-read r l x (k .2) (k .4)))))
-  two1 frame log t-byte (ValTy.v-number {n}) v-number = two-some hi _ _ (transp (λ (f : List ℕ). Two hi W (go s (val (Val.number (frameByte (G .frame) n)))) (go s′ (val (Val.number (frameByte f n))))) frame (two-stay hi R (r-val v-number)))
+  two1 frame log t-byte (ValTy.v-number {n}) v-number = two-some hi _ _ (transp (λ (f : List ℕ). Two hi W (reduct s (val (Val.number (frameByte (G .frame) n)))) (reduct s′ (val (Val.number (frameByte f n))))) frame (two-stay hi R (r-val v-number)))
   two1 frame log (t-newCell l) x r = two-spend hi s s′ _ _ _ _ (R .used) (same-use _) (λ u u′ e. two-go (grows-cell W both) (cell-both hi R u u′ e (record { same-dom = refl; same-plain = refl; held = λ o. r })) (r-val (v-cell (matched-last (R .cells)))))
   two1 frame log (t-call {ms} x) (ValTy.v-object y) (v-object r) = two-some hi _ _ (two-call x r (v-object {t = Ty.object ms} r))
 

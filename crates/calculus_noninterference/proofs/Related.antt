@@ -11,7 +11,7 @@ use Rattle.calculus.specs.Place.{Place, deeper}
 use Rattle.calculus.specs.Plain.{domOf, methodsOf}
 use Rattle.laws.proofs.Lists.{Prefix, prefix-refl, All2}
 use Rattle.calculus_noninterference.specs.Observe.{NoMore}
-use Rattle.calculus_noninterference.proofs.Calm.{CalmKept}
+use Rattle.calculus_noninterference.proofs.NoLowTakedown.{NoLowTakedownKept}
 use Rattle.calculus_noninterference.proofs.Interleave.{Side, Matched, Matches, matched-mono, matches-mono, Interleaving}
 
 -- The orders in which the two runs' cells and labels were made; and whether the right's program is the left's, stripped (card 13): then the right has nothing alone, and never lacks room that the left has.
@@ -136,10 +136,10 @@ module _ (hi : Dom → Bool) where
     pub record RelPlace (P P′ : Place) : Type 0 where
       pub kept : RelKept (P .kept) (P′ .kept)
       pub depth : W .stripped ≡ true → P′ .depth ≤ P .depth
-      pub calm : W .stripped ≡ true → CalmKept hi (P .kept)
+      pub no-low-takedown : W .stripped ≡ true → NoLowTakedownKept hi (P .kept)
 
     pub inward : {P P′ : Place} → RelPlace P P′ → RelPlace (deeper P) (deeper P′)
-    inward Q = record { kept = Q .kept; depth = λ z. (let l = Q .depth z in omega arith); calm = Q .calm }
+    inward Q = record { kept = Q .kept; depth = λ z. (let l = Q .depth z in omega arith); no-low-takedown = Q .no-low-takedown }
 
     -- What high code made in both runs stands in both, whatever its domain; what it holds is related only where the domain is high.
     pub record RelCell (a b : Cell Val) : Type 0 where

@@ -8,7 +8,7 @@ use mathlib.Core.List.{[]}
 use mathlib.Core.Option.{Option, none, some}
 use Rattle.calculus.specs.Syntax.{Dom, Ty, Val, Tm, asValue}
 use Rattle.calculus.specs.State.{State, Given, fresh}
-use Rattle.calculus.specs.Answer.{Answer, go, halt}
+use Rattle.calculus.specs.Answer.{Answer, reduct, halt}
 use Rattle.calculus.specs.Place.{top}
 use Rattle.calculus.specs.Step.{step}
 use Rattle.calculus.specs.Plain.{isPlain}
@@ -20,11 +20,11 @@ use Rattle.calculus_safety.proofs.StoreFits.{StateFits, fits-fresh}
 use Rattle.calculus_safety.proofs.Values.{val-ty}
 use Rattle.calculus_safety.proofs.Safety.{preservation}
 use Rattle.calculus_noninterference.specs.Observe.{Highs, highCells, endsShort}
-use Rattle.calculus_noninterference.specs.Calm.{Calm}
+use Rattle.calculus_noninterference.specs.NoLowTakedown.{NoLowTakedown}
 use Rattle.calculus_noninterference.proofs.Clash.{clash}
-use Rattle.calculus_noninterference.proofs.Halves.{no-more-refl}
-use Rattle.calculus_noninterference.proofs.Calm.{CalmState, calm-fresh}
-use Rattle.calculus_noninterference.proofs.CalmStep.{made-calm, calm-step}
+use Rattle.calculus_noninterference.proofs.Quotas.{no-more-refl}
+use Rattle.calculus_noninterference.proofs.NoLowTakedown.{NoLowTakedownState, no-low-takedown-fresh}
+use Rattle.calculus_noninterference.proofs.NoLowTakedownStep.{made-no-low-takedown, no-low-takedown-step}
 use Rattle.calculus_noninterference.proofs.Interleave.{i-nil}
 use Rattle.calculus_noninterference.proofs.Related.{World, noWorld, Grows, RelV, RelT, RelS}
 use Rattle.calculus_noninterference.proofs.Confined.{Confined, c-go, c-full, c-halt, c-wrong, confined}
@@ -37,7 +37,7 @@ use Rattle.calculus_noninterference.proofs.FirstStep.{run-value, run-go
 -- The high events of one run begin those of the other; where the first ends because domain 0 lacks room, the second has no value and no more high events; where both are done, equal results, if the left's type u is plain, equal high cells, and equal counts of domain 0.
 pub record Agree (hi : Dom → Bool) (u : Ty) (E E′ : Ended) : Type 0 where
   pub events : Prefix (highEvents hi (E .state .trace)) (highEvents hi (E′ .state .trace)) ⊎ Prefix (highEvents hi (E′ .state .trace)) (highEvents hi (E .state .trace))
-  pub room : endsShort (E .end) ≡ true → ((v : Val) → E′ .end ≡ done v → ⊥) × Prefix (highEvents hi (E′ .state .trace)) (highEvents hi (E .state .trace))
+  pub capacity : endsShort (E .end) ≡ true → ((v : Val) → E′ .end ≡ done v → ⊥) × Prefix (highEvents hi (E′ .state .trace)) (highEvents hi (E .state .trace))
   pub result : (v v′ : Val) → E .end ≡ done v → E′ .end ≡ done v′ → isPlain u ≡ true → v ≡ v′
   pub cells : (v v′ : Val) → E .end ≡ done v → E′ .end ≡ done v′ → highCells hi E ≡ highCells hi E′
   pub mainline : (v v′ : Val) → E .end ≡ done v → E′ .end ≡ done v′ → E .state .used .mainline ≡ E′ .state .used .mainline
@@ -49,7 +49,7 @@ module _ {D : Policy} {hi : Dom → Bool} (H : Highs D hi) (trans : Transitive D
     pub fits : StateFits D Σ s
     pub typed : TmTy D Σ [] 0 e t
 
-  typed-step : (G : Given) {t : Ty} {s s′ : State} {e e′ : Tm} → Typed t s e → step e G top s ≡ go s′ e′ → Typed t s′ e′
+  typed-step : (G : Given) {t : Ty} {s s′ : State} {e e′ : Tm} → Typed t s e → step e G top s ≡ reduct s′ e′ → Typed t s′ e′
   typed-step G {s} {s′} {e′} T q = let x = preservation D (T .Σ) trans G (T .typed) top all-nil s (T .fits) s′ e′ q in record { Σ = x .0; fits = x .2; typed = x .3 }
 
   valueless-events : {s : State} {a : Answer State Tm} {E : Ended} → Valueless s a E → Prefix (highEvents hi (s .trace)) (highEvents hi (E .state .trace))
@@ -78,12 +78,12 @@ module _ {D : Policy} {hi : Dom → Bool} (H : Highs D hi) (trans : Transitive D
       pick ih (some v) p = rw (run-value (suc n) G k s e p) (prefix-refl _)
 
   -- The same without takedowns at low domains (card 13).
-  pub record CalmRun (s : State) (e : Tm) : Type 0 where
-    pub state : CalmState hi s
-    pub term : Calm hi 0 e
+  pub record NoLowTakedownRun (s : State) (e : Tm) : Type 0 where
+    pub state : NoLowTakedownState hi s
+    pub term : NoLowTakedown hi 0 e
 
-  calm-next : (G : Given) {t : Ty} {s s′ : State} {e e′ : Tm} → Typed t s e → CalmRun s e → step e G top s ≡ go s′ e′ → CalmRun s′ e′
-  calm-next G {s} T C q = let x = made-calm hi (rw q at (calm-step hi H s (C .state) G (T .typed) (C .term) top all-nil)) in record { state = x .0; term = x .2 }
+  no-low-takedown-next : (G : Given) {t : Ty} {s s′ : State} {e e′ : Tm} → Typed t s e → NoLowTakedownRun s e → step e G top s ≡ reduct s′ e′ → NoLowTakedownRun s′ e′
+  no-low-takedown-next G {s} T C q = let x = made-no-low-takedown hi (rw q at (no-low-takedown-step hi H s (C .state) G (T .typed) (C .term) top all-nil)) in record { state = x .0; term = x .2 }
 
   -- b: the right's program is the left's, stripped (card 13); then its log is no shorter, and the left's code is calm.
   module _ (b : Bool) (t t′ : Ty) (G G′ : Given) (frame : G .frame ≡ G′ .frame) (log : b ≡ true → G .logLength ≤ G′ .logLength) where
@@ -95,24 +95,24 @@ module _ {D : Policy} {hi : Dom → Bool} (H : Highs D hi) (trans : Transitive D
       pub terms : RelT hi world e e′
       pub left : Typed t s e
       pub right : Typed t′ s′ e′
-      pub calm : b ≡ true → CalmRun s e
+      pub no-low-takedown : b ≡ true → NoLowTakedownRun s e
 
     -- What comes next of the two.
     pub next : {s s′ : State} {e e′ : Tm} (P : Pair s s′ e e′) → Sim hi (P .world) s s′ e e′ (step e G top s) (step e′ G′ top s′)
     next P =
         let stripped : P .world .stripped ≡ true → b ≡ true = λ z. sym (P .mode) ∙ z in
-        sim hi H G G′ frame (λ z. log (stripped z)) (P .states) (P .left .fits) (P .right .fits) (λ z. P .calm (stripped z) .state)
-        (P .terms) 0 (H .mainline) (P .left .typed) (P .right .typed) (λ z. P .calm (stripped z) .term) top top (record { kept = all2-nil; depth = λ z. omega arith; calm = λ z. all-nil })
+        sim hi H G G′ frame (λ z. log (stripped z)) (P .states) (P .left .fits) (P .right .fits) (λ z. P .no-low-takedown (stripped z) .state)
+        (P .terms) 0 (H .mainline) (P .left .typed) (P .right .typed) (λ z. P .no-low-takedown (stripped z) .term) top top (record { kept = all2-nil; depth = λ z. omega arith; no-low-takedown = λ z. all-nil })
 
     -- The pair after a step of both, of the left alone, of the right alone.
-    pub after-both : {s s′ u u′ : State} {e e′ f f′ : Tm} (P : Pair s s′ e e′) {X : World} → Grows (P .world) X → step e G top s ≡ go u f → step e′ G′ top s′ ≡ go u′ f′ → RelS hi X u u′ → RelT hi X f f′ → Pair u u′ f f′
-    after-both P x q q′ R T = record { world = _; mode = sym (x .same) ∙ P .mode; states = R; terms = T; left = typed-step G (P .left) q; right = typed-step G′ (P .right) q′; calm = λ z. calm-next G (P .left) (P .calm z) q }
+    pub after-both : {s s′ u u′ : State} {e e′ f f′ : Tm} (P : Pair s s′ e e′) {X : World} → Grows (P .world) X → step e G top s ≡ reduct u f → step e′ G′ top s′ ≡ reduct u′ f′ → RelS hi X u u′ → RelT hi X f f′ → Pair u u′ f f′
+    after-both P x q q′ R T = record { world = _; mode = sym (x .same) ∙ P .mode; states = R; terms = T; left = typed-step G (P .left) q; right = typed-step G′ (P .right) q′; no-low-takedown = λ z. no-low-takedown-next G (P .left) (P .no-low-takedown z) q }
 
-    pub after-left : {s s′ u : State} {e e′ f : Tm} (P : Pair s s′ e e′) {X : World} → Grows (P .world) X → step e G top s ≡ go u f → RelS hi X u s′ → RelT hi X f e′ → Pair u s′ f e′
-    after-left P x q R T = record { world = _; mode = sym (x .same) ∙ P .mode; states = R; terms = T; left = typed-step G (P .left) q; right = P .right; calm = λ z. calm-next G (P .left) (P .calm z) q }
+    pub after-left : {s s′ u : State} {e e′ f : Tm} (P : Pair s s′ e e′) {X : World} → Grows (P .world) X → step e G top s ≡ reduct u f → RelS hi X u s′ → RelT hi X f e′ → Pair u s′ f e′
+    after-left P x q R T = record { world = _; mode = sym (x .same) ∙ P .mode; states = R; terms = T; left = typed-step G (P .left) q; right = P .right; no-low-takedown = λ z. no-low-takedown-next G (P .left) (P .no-low-takedown z) q }
 
-    after-right : {s s′ u : State} {e e′ f : Tm} (P : Pair s s′ e e′) {X : World} → Grows (P .world) X → step e′ G′ top s′ ≡ go u f → RelS hi X s u → RelT hi X e f → Pair s u e f
-    after-right P x q R T = record { world = _; mode = sym (x .same) ∙ P .mode; states = R; terms = T; left = P .left; right = typed-step G′ (P .right) q; calm = P .calm }
+    after-right : {s s′ u : State} {e e′ f : Tm} (P : Pair s s′ e e′) {X : World} → Grows (P .world) X → step e′ G′ top s′ ≡ reduct u f → RelS hi X s u → RelT hi X e f → Pair s u e f
+    after-right P x q R T = record { world = _; mode = sym (x .same) ∙ P .mode; states = R; terms = T; left = P .left; right = typed-step G′ (P .right) q; no-low-takedown = P .no-low-takedown }
 
     abbrev Goal : ℕ → ℕ → Type 0
     Goal n n′ = (k k′ : ℕ) (s s′ : State) (e e′ : Tm) → Pair s s′ e e′ → Agree hi t (run n G k s e) (run n′ G′ k′ s′ e′)
@@ -120,7 +120,7 @@ module _ {D : Policy} {hi : Dom → Bool} (H : Highs D hi) (trans : Transitive D
     -- One run ends without a value where the other still runs.
     left-ends : {a a′ : Answer State Tm} {E : Ended} (n′ k′ : ℕ) {s s′ : State} {e e′ : Tm} → Pair s s′ e e′ → Valueless s a E → (Short a → Valueless s′ a′ (run n′ G′ k′ s′ e′)) → Agree hi t E (run n′ G′ k′ s′ e′)
     left-ends n′ k′ {s′} {e′} P S f = record {
-      room = λ x. let S′ = f (S .short x) in (S′ .no-value, rw (S .over, S′ .over, events-same hi (P .states .trace)) (prefix-refl _));
+      capacity = λ x. let S′ = f (S .short x) in (S′ .no-value, rw (S .over, S′ .over, events-same hi (P .states .trace)) (prefix-refl _));
       events = inl (rw (S .over, events-same hi (P .states .trace)) (more n′ G′ t′ k′ s′ e′ (P .right)));
       result = λ v v′ p q. absurd (S .no-value v p);
       cells = λ v v′ p q. absurd (S .no-value v p);
@@ -129,7 +129,7 @@ module _ {D : Policy} {hi : Dom → Bool} (H : Highs D hi) (trans : Transitive D
 
     right-ends : {a′ : Answer State Tm} {E′ : Ended} (n k : ℕ) {s s′ : State} {e e′ : Tm} → Pair s s′ e e′ → Valueless s′ a′ E′ → Agree hi t (run n G k s e) E′
     right-ends n k {s} {e} P S = record {
-      room = λ x. (S .no-value, rw (S .over, sym (events-same hi (P .states .trace))) (more n G t k s e (P .left)));
+      capacity = λ x. (S .no-value, rw (S .over, sym (events-same hi (P .states .trace))) (more n G t k s e (P .left)));
       events = inr (rw (S .over, sym (events-same hi (P .states .trace))) (more n G t k s e (P .left)));
       result = λ v v′ p q. absurd (S .no-value v′ q);
       cells = λ v v′ p q. absurd (S .no-value v′ q);
@@ -138,7 +138,7 @@ module _ {D : Policy} {hi : Dom → Bool} (H : Highs D hi) (trans : Transitive D
 
     pub both-end : {v v′ : Val} (k k′ : ℕ) {s s′ : State} {e e′ : Tm} → (P : Pair s s′ e e′) → RelV hi (P .world) v v′ → ValTy D (P .left .Σ) v t → Agree hi t (ended (done v) k s) (ended (done v′) k′ s′)
     both-end k k′ P r h = record {
-      room = λ x. clash x refl;
+      capacity = λ x. clash x refl;
       events = inl (rw (events-same hi (P .states .trace)) (prefix-refl _));
       result = λ w w′ p q l. (let z = plain-same l h r in cc);
       cells = λ w w′ p q. shown-cells D hi (P .left .Σ) (P .states) (P .left .fits);
@@ -155,11 +155,11 @@ module _ {D : Policy} {hi : Dom → Bool} (H : Highs D hi) (trans : Transitive D
     step-both (suc n) (suc n′) ih k k′ {s} {s′} {e} {e′} P p p′ q q′ (none-left f x) = left-ends (suc n′) k′ P (run-none (suc n) G k s e _ p q f) (λ y. run-none (suc n′) G′ k′ s′ e′ _ p′ q′ (x y))
     step-both (suc n) (suc n′) ih k k′ {s′} {e′} P p p′ q q′ (none-right z f) = right-ends (suc n) k P (run-none (suc n′) G′ k′ s′ e′ _ p′ q′ f)
 
-    step-left : (n n′ : ℕ) → Before n n′ → (k k′ : ℕ) {s s′ : State} {e e′ : Tm} (P : Pair s s′ e e′) {X : World} {u : State} {f : Tm} → Grows (P .world) X → asValue e ≡ none → step e G top s ≡ go u f → RelS hi X u s′ → RelT hi X f e′ → Agree hi t (run n G k s e) (run n′ G′ k′ s′ e′)
+    step-left : (n n′ : ℕ) → Before n n′ → (k k′ : ℕ) {s s′ : State} {e e′ : Tm} (P : Pair s s′ e e′) {X : World} {u : State} {f : Tm} → Grows (P .world) X → asValue e ≡ none → step e G top s ≡ reduct u f → RelS hi X u s′ → RelT hi X f e′ → Agree hi t (run n G k s e) (run n′ G′ k′ s′ e′)
     step-left zero n′ ih k k′ {s} {e} P x p q R T = left-ends {a′ = halt} n′ k′ P (run-spent G k s e p) (λ y. absurd (rw q at y))
     step-left (suc n) n′ ih k k′ {s} {e} P x p q R T = rw (run-go n G k s e p q) (ih n n′ (omega arith) (suc k) k′ _ _ _ _ (after-left P x q R T))
 
-    step-right : (n n′ : ℕ) → Before n n′ → (k k′ : ℕ) {s s′ : State} {e e′ : Tm} (P : Pair s s′ e e′) {X : World} {u : State} {f : Tm} → Grows (P .world) X → asValue e′ ≡ none → step e′ G′ top s′ ≡ go u f → RelS hi X s u → RelT hi X e f → Agree hi t (run n G k s e) (run n′ G′ k′ s′ e′)
+    step-right : (n n′ : ℕ) → Before n n′ → (k k′ : ℕ) {s s′ : State} {e e′ : Tm} (P : Pair s s′ e e′) {X : World} {u : State} {f : Tm} → Grows (P .world) X → asValue e′ ≡ none → step e′ G′ top s′ ≡ reduct u f → RelS hi X s u → RelT hi X e f → Agree hi t (run n G k s e) (run n′ G′ k′ s′ e′)
     step-right n zero ih k k′ {s′} {e′} P x p q R T = right-ends n k P (run-spent G′ k′ s′ e′ p)
     step-right n (suc n′) ih k k′ {s′} {e′} P x p q R T = rw (run-go n′ G′ k′ s′ e′ p q) (ih n n′ (omega arith) k (suc k′) _ _ _ _ (after-right P x q R T))
 
@@ -177,7 +177,7 @@ module _ {D : Policy} {hi : Dom → Bool} (H : Highs D hi) (trans : Transitive D
     agree-below (suc m) n n′ h k k′ s s′ e e′ P = by-step n n′ (λ j j′ l. agree-below m j j′ (omega arith)) k k′ P refl refl (next P)
 
     -- Two related programs, from the start.
-    pub start : (e e′ : Tm) → TmTy D noStore [] 0 e t → TmTy D noStore [] 0 e′ t′ → RelT hi (noWorld b) e e′ → (b ≡ true → Calm hi 0 e) → Pair fresh fresh e e′
+    pub start : (e e′ : Tm) → TmTy D noStore [] 0 e t → TmTy D noStore [] 0 e′ t′ → RelT hi (noWorld b) e e′ → (b ≡ true → NoLowTakedown hi 0 e) → Pair fresh fresh e e′
     start e e′ T T′ r C = record {
       world = noWorld b;
       mode = refl;
@@ -185,7 +185,7 @@ module _ {D : Policy} {hi : Dom → Bool} (H : Highs D hi) (trans : Transitive D
       terms = r;
       left = record { Σ = noStore; fits = fits-fresh D; typed = T };
       right = record { Σ = noStore; fits = fits-fresh D; typed = T′ };
-      calm = λ z. record { state = calm-fresh hi; term = C z };
+      no-low-takedown = λ z. record { state = no-low-takedown-fresh hi; term = C z };
     }
 
     pub agree : {s s′ : State} {e e′ : Tm} → Pair s s′ e e′ → (n n′ : ℕ) → Agree hi t (run n G 0 s e) (run n′ G′ 0 s′ e′)

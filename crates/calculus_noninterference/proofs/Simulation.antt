@@ -15,11 +15,11 @@ use Rattle.laws.proofs.Lists.{All2.all2-nil, All2.all2-cons, All2, all2-reverse
 use Rattle.calculus_safety.proofs.StoreFits.{StateFits}
 use Rattle.calculus_safety.proofs.Values.{val-ty}
 use Rattle.calculus_noninterference.specs.Observe.{Highs}
-use Rattle.calculus_noninterference.specs.Calm.{Calm, Calms}
-use Rattle.calculus_noninterference.proofs.Calm.{CalmState, calm-value, calm-keeping}
+use Rattle.calculus_noninterference.specs.NoLowTakedown.{NoLowTakedown, NoLowTakedowns}
+use Rattle.calculus_noninterference.proofs.NoLowTakedown.{NoLowTakedownState, no-low-takedown-value, no-low-takedown-keeping}
 use Rattle.calculus_noninterference.proofs.Clash.{clash}
 use Rattle.calculus_noninterference.proofs.Related.{World, Grows, RelT, RelL, l-high, l-low, RelTs, RelVs, RelPlace, inward, v-fun, v-object, r-val, r-var, r-lam, r-val-lam, r-lam-val, r-op0, r-op1, r-op2, r-seq, r-ite, r-split, r-pcd, r-adv, r-lower, r-obj, r-val-obj, r-obj-val, r-keep, r-match, r-skip-left, r-skip-right, r-end, r-more, relV-mono, relT-mono, relL-mono, relTs-mono, RelS}
-use Rattle.calculus_noninterference.proofs.Paired.{n-wrong, no-step-room, not-short-room, Two, Sim, s-values, s-both, s-none-left, two-framed, lift-in, lift}
+use Rattle.calculus_noninterference.proofs.Paired.{n-wrong, no-step-capacity, not-short-capacity, Two, Sim, s-values, s-both, s-none-left, two-framed, lift-in, lift}
 use Rattle.calculus_noninterference.proofs.Reductions.{two-pcd, two-seq, two-lower, two-ite, two-split, two-adv, two0, two1, two2, keeping-rel, two-stay, two-match}
 use Rattle.calculus_noninterference.proofs.Alone.{skips, skip-left, skip-right, sim-low}
 use Rattle.calculus_noninterference.proofs.Operands.{value-left, value-right}
@@ -62,7 +62,7 @@ module _ {D : Policy} {Σ : StoreTyping} {c : Dom} where
   inv-more : {ts : List Ty} {e : Tm} {es : Tms} → TmsTy D Σ [] c (more e es) ts → (a : Ty) × (us : List Ty) × TmTy D Σ [] c e a × TmsTy D Σ [] c es us
   inv-more (is-more {ts} {a} h k) = (a, ts, h, k)
 
-module _ (hi : Dom → Bool) {D : Policy} (H : Highs D hi) (G G′ : Given) (frame : G .frame ≡ G′ .frame) {W : World} (log : W .stripped ≡ true → G .logLength ≤ G′ .logLength) {s s′ : State} (R : RelS hi W s s′) {Σ Σ′ : StoreTyping} (K : StateFits D Σ s) (K′ : StateFits D Σ′ s′) (S : W .stripped ≡ true → CalmState hi s) where
+module _ (hi : Dom → Bool) {D : Policy} (H : Highs D hi) (G G′ : Given) (frame : G .frame ≡ G′ .frame) {W : World} (log : W .stripped ≡ true → G .logLength ≤ G′ .logLength) {s s′ : State} (R : RelS hi W s s′) {Σ Σ′ : StoreTyping} (K : StateFits D Σ s) (K′ : StateFits D Σ′ s′) (S : W .stripped ≡ true → NoLowTakedownState hi s) where
   -- A lower to a high domain goes on in both runs.
   sim-lower : {p : Dom} (c : Dom) {e e′ : Tm} → hi p ≡ true → TmTy D Σ [] p e Ty.unit → (P P′ : Place) → RelPlace hi W P P′
       → Sim hi W s s′ e e′ (step e G (at p (deeper P)) s) (step e′ G′ (at p (deeper P′)) s′)
@@ -71,11 +71,11 @@ module _ (hi : Dom → Bool) {D : Policy} (H : Highs D hi) (G G′ : Given) (fra
   sim-lower {p} c h T P P′ Q m = lift hi (lower p) (lower p) refl refl (λ X x x′ w y. r-lower (l-high h y)) (λ v v′ k k′ y. s-both refl refl (two-framed hi Q (two-lower hi R (val-ty T k) y))) m
 
   mutual
-    unfolding step Calm Calms
+    unfolding step NoLowTakedown NoLowTakedowns
 
-    pub sim : {e e′ : Tm} → RelT hi W e e′ → (c : Dom) {t t′ : Ty} → hi c ≡ true → TmTy D Σ [] c e t → TmTy D Σ′ [] c e′ t′ → (W .stripped ≡ true → Calm hi c e) → (P P′ : Place) → RelPlace hi W P P′ → Sim hi W s s′ e e′ (step e G (at c P) s) (step e′ G′ (at c P′) s′)
+    pub sim : {e e′ : Tm} → RelT hi W e e′ → (c : Dom) {t t′ : Ty} → hi c ≡ true → TmTy D Σ [] c e t → TmTy D Σ′ [] c e′ t′ → (W .stripped ≡ true → NoLowTakedown hi c e) → (P P′ : Place) → RelPlace hi W P P′ → Sim hi W s s′ e e′ (step e G (at c P) s) (step e′ G′ (at c P′) s′)
     sim (r-val r) c h T T′ C P P′ Q = s-values refl refl r
-    sim r-var c h T T′ C P P′ Q = s-none-left refl (no-step-room _ _ n-wrong) (not-short-room wrong _ _ refl (λ y. y))
+    sim r-var c h T T′ C P P′ Q = s-none-left refl (no-step-capacity _ _ n-wrong) (not-short-capacity wrong _ _ refl (λ y. y))
     sim (r-lam r) c h T T′ C P P′ Q = s-values refl refl (v-fun r)
     sim (r-val-lam x r) c h T T′ C P P′ Q = s-values refl refl r
     sim (r-lam-val x r) c h T T′ C P P′ Q = s-values refl refl r
@@ -131,7 +131,7 @@ module _ (hi : Dom → Bool) {D : Policy} (H : Highs D hi) (G G′ : Given) (fra
         (λ X x w m. r-keep (relT-mono hi (value-left hi (inv-keep T′ .1) p′ y) w) (relT-mono hi (value-left hi (inv-keep T′ .2) k′ z) w) m)
         (λ X x w m. r-keep (relT-mono hi (value-right hi (inv-keep T .1) p y) w) (relT-mono hi (value-right hi (inv-keep T .2) k z) w) m)
         (λ a a′ i i′ m. s-both refl refl (two-framed hi Q (two-stay hi R (r-val m))))
-        (sim u c h (inv-keep T .3) (inv-keep T′ .3) (λ i. C i .2) (keeping v b (deeper P)) (keeping v′ b′ (deeper P′)) (record { kept = keeping-rel hi W (deeper P) (deeper P′) (val-ty (inv-keep T .1) p) y z (Q .kept); depth = inward hi W Q .depth; calm = λ i. calm-keeping hi b (labelOf v) (calm-value hi c f k (C i .1)) (Q .calm i) })))
+        (sim u c h (inv-keep T .3) (inv-keep T′ .3) (λ i. C i .2) (keeping v b (deeper P)) (keeping v′ b′ (deeper P′)) (record { kept = keeping-rel hi W (deeper P) (deeper P′) (val-ty (inv-keep T .1) p) y z (Q .kept); depth = inward hi W Q .depth; no-low-takedown = λ i. no-low-takedown-keeping hi b (labelOf v) (no-low-takedown-value hi c f k (C i .1)) (Q .no-low-takedown i) })))
         (sim q c h (inv-keep T .2) (inv-keep T′ .2) (λ z. C z .1) (deeper P) (deeper P′) (inward hi W Q)))
         (sim r c h (inv-keep T .1) (inv-keep T′ .1) (λ z. C z .0) (deeper P) (deeper P′) (inward hi W Q))
     sim (r-match {p} {f} {f′} {g} {g′} r q u) c h T T′ C P P′ Q =
@@ -142,15 +142,15 @@ module _ (hi : Dom → Bool) {D : Policy} (H : Highs D hi) (G G′ : Given) (fra
     sim (r-obj r) c h T T′ C P P′ Q = s-values refl refl (v-object r)
     sim (r-val-obj x r) c h T T′ C P P′ Q = s-values refl refl r
     sim (r-obj-val x r) c h T T′ C P P′ Q = s-values refl refl r
-    sim (r-skip-left i r) c h T T′ C P P′ Q = skip-left hi R _ (skips hi (W .stripped ≡ true) H s K S G i (inv-seq T .0) (λ z. C z .0) P (Q .calm) _) r
+    sim (r-skip-left i r) c h T T′ C P P′ Q = skip-left hi R _ (skips hi (W .stripped ≡ true) H s K S G i (inv-seq T .0) (λ z. C z .0) P (Q .no-low-takedown) _) r
     sim (r-skip-right z i r) c h T T′ C P P′ Q = skip-right hi R z _ (skips hi (W .stripped ≡ true) H s′ K′ (λ t. clash t z) G′ i (inv-seq T′ .0) (λ t. clash t z) P′ (λ t. clash t z) _) r
 
-    sim-body : {p : Dom} {e e′ : Tm} → RelL hi W p e e′ → (c : Dom) → TmTy D Σ [] p e Ty.unit → TmTy D Σ′ [] p e′ Ty.unit → (W .stripped ≡ true → Calm hi p e) → (P P′ : Place) → RelPlace hi W P P′ → Sim hi W s s′ (lower p e) (lower p e′) (step (lower p e) G (at c P) s) (step (lower p e′) G′ (at c P′) s′)
+    sim-body : {p : Dom} {e e′ : Tm} → RelL hi W p e e′ → (c : Dom) → TmTy D Σ [] p e Ty.unit → TmTy D Σ′ [] p e′ Ty.unit → (W .stripped ≡ true → NoLowTakedown hi p e) → (P P′ : Place) → RelPlace hi W P P′ → Sim hi W s s′ (lower p e) (lower p e′) (step (lower p e) G (at c P) s) (step (lower p e′) G′ (at c P′) s′)
     sim-body (l-high {p} x r) c T T′ C P P′ Q = sim-lower c x T P P′ Q (sim r p x T T′ C (deeper P) (deeper P′) (inward hi W Q))
     sim-body (l-low l u) c T T′ C P P′ Q = sim-low hi R H K K′ S G G′ c l u T T′ C P P′ Q
 
     -- Operands of the whole terms w and w′, after those that are the values vs and vs′: k puts operands back, r reduces values.
-    sims : {es es′ : Tms} → RelTs hi W es es′ → (c : Dom) {ts ts′ : List Ty} → hi c ≡ true → TmsTy D Σ [] c es ts → TmsTy D Σ′ [] c es′ ts′ → (W .stripped ≡ true → Calms hi c es) → (P P′ : Place) → RelPlace hi W P P′ → {w w′ : Tm} → asValue w ≡ none → asValue w′ ≡ none
+    sims : {es es′ : Tms} → RelTs hi W es es′ → (c : Dom) {ts ts′ : List Ty} → hi c ≡ true → TmsTy D Σ [] c es ts → TmsTy D Σ′ [] c es′ ts′ → (W .stripped ≡ true → NoLowTakedowns hi c es) → (P P′ : Place) → RelPlace hi W P P′ → {w w′ : Tm} → asValue w ≡ none → asValue w′ ≡ none
         → (vs vs′ : List Val) → RelVs hi W vs vs′ → (us : List Ty) → All2 (ValTy D Σ) vs us → (k k′ : Tms → Tm)
         → ((X : World) (x x′ : Tms) → Grows W X → RelTs hi X x x′ → RelT hi X (k (before vs x)) (k′ (before vs′ x′)))
         → ((X : World) (x : Tms) → Grows W X → RelTs hi X x es′ → RelT hi X (k (before vs x)) w′)

@@ -8,16 +8,16 @@ use lib.ListN.{length, getElem?}
 use lib.Dec.{eqb, eqb→eq}
 use borrow.Author.Tests.{not-false}
 use Rattle.calculus.specs.Syntax.{Dom, Val, Tm}
-use Rattle.calculus.specs.State.{Cell, Advice, Event, Uses, State, charged, celled, stored, labelled, installed, otherThan, without, cleared, told}
+use Rattle.calculus.specs.State.{Cell, Advice, Event, Uses, State, withUses, withCells, stored, addLabel, addAdvice, otherThan, without, dropAdvice, addEvent}
 use Rattle.laws.proofs.Lists.{prefix-refl, prefix-append}
 use Rattle.calculus_noninterference.specs.Observe.{NoMore}
 use Rattle.calculus_noninterference.proofs.Clash.{clash}
-use Rattle.calculus_noninterference.proofs.Halves.{no-more-trans}
+use Rattle.calculus_noninterference.proofs.Quotas.{no-more-trans}
 use Rattle.calculus_noninterference.proofs.Interleave.{Side, both, left, right, Matched, interleaving-map, append-both, append-left, append-right, set-both, set-left, set-right}
 use Rattle.calculus_noninterference.proofs.Filtered.{filtered-whole, filtered-both, filtered-left, filtered-right}
 use Rattle.calculus_noninterference.proofs.Related.{World, Grows, grows-refl, RelV, RelCell, RelAdvice, Cells, Labels, Advices, Events, SameUse, RelS, cell-mono, advice-mono, alone-mono}
 use Rattle.calculus_noninterference.proofs.Confined.{Effect, Spares, low-of, e-charge, e-cell, e-store, e-label, e-advice, e-clear, e-event}
-use Rattle.calculus_noninterference.proofs.CalmStep.{Steady}
+use Rattle.calculus_noninterference.proofs.NoLowTakedownStep.{Steady}
 
 -- A world with one more cell, one more label.
 abbrev pub withCell : World → Side → World
@@ -44,13 +44,13 @@ putTrace x s = record { cells = s .cells; labels = s .labels; advices = s .advic
 
 module _ (hi : Dom → Bool) {W : World} {s s′ : State} (R : RelS hi W s s′) where
   -- Other counts; and one field after another replaced on both sides.
-  pub rel-charged : (u u′ : Uses) → SameUse (W .stripped) u u′ → RelS hi W (charged u s) (charged u′ s′)
+  pub rel-charged : (u u′ : Uses) → SameUse (W .stripped) u u′ → RelS hi W (withUses u s) (withUses u′ s′)
   rel-charged u u′ e = record { cells = R .cells; labels = R .labels; advice-order = R .advice-order; advices = R .advices; event-order = R .event-order; trace = R .trace; used = e }
 
-  put-cells : {x y : List (Cell Val)} → Cells hi W (W .cells) x y → RelS hi W (celled x s) (celled y s′)
+  put-cells : {x y : List (Cell Val)} → Cells hi W (W .cells) x y → RelS hi W (withCells x s) (withCells y s′)
   put-cells k = record { cells = k; labels = R .labels; advice-order = R .advice-order; advices = R .advices; event-order = R .event-order; trace = R .trace; used = R .used }
 
-  grow-cells : (v : Side) {x y : List (Cell Val)} → (Cells hi (withCell W v) (W .cells) (s .cells) (s′ .cells) → Cells hi (withCell W v) (W .cells ++ (v ∷ [])) x y) → RelS hi (withCell W v) (celled x s) (celled y s′)
+  grow-cells : (v : Side) {x y : List (Cell Val)} → (Cells hi (withCell W v) (W .cells) (s .cells) (s′ .cells) → Cells hi (withCell W v) (W .cells ++ (v ∷ [])) x y) → RelS hi (withCell W v) (withCells x s) (withCells y s′)
   grow-cells v f = record { cells = f (interleaving-map (cell-mono hi (grows-cell W v)) (alone-mono hi (grows-cell W v) (λ a. a .dom)) (R .cells)); labels = R .labels; advice-order = R .advice-order; advices = interleaving-map (advice-mono hi (grows-cell W v)) (alone-mono hi (grows-cell W v) (λ a. a .dom)) (R .advices); event-order = R .event-order; trace = R .trace; used = R .used }
 
   grow-labels : (v : Side) {x y : List Dom} → Labels (W .stripped) (W .labels ++ (v ∷ [])) x y → RelS hi (withLabel W v) (putLabels x s) (putLabels y s′)
@@ -64,22 +64,22 @@ module _ (hi : Dom → Bool) {W : World} {s s′ : State} (R : RelS hi W s s′)
 
 -- Both runs make, change or say the same.
 module _ (hi : Dom → Bool) {W : World} {s s′ : State} (R : RelS hi W s s′) where
-  pub cell-both : (u u′ : Uses) → SameUse (W .stripped) u u′ → {a b : Cell Val} → RelCell hi W a b → RelS hi (withCell W both) (celled (s .cells ++ (a ∷ [])) (charged u s)) (celled (s′ .cells ++ (b ∷ [])) (charged u′ s′))
+  pub cell-both : (u u′ : Uses) → SameUse (W .stripped) u u′ → {a b : Cell Val} → RelCell hi W a b → RelS hi (withCell W both) (withCells (s .cells ++ (a ∷ [])) (withUses u s)) (withCells (s′ .cells ++ (b ∷ [])) (withUses u′ s′))
   cell-both u u′ e {a} {b} h = grow-cells hi (rel-charged hi R u u′ e) both (λ k. append-both k (cell-mono hi (grows-cell W both) a b h))
 
   pub store-both : {r r′ : ℕ} {a a′ : Cell Val} {v v′ : Val} → Matched (W .cells) r r′ → RelCell hi W a a′ → RelV hi W v v′ → RelS hi W (stored r a v s) (stored r′ a′ v′ s′)
   store-both m c u = put-cells hi R (set-both (R .cells) (record { same-dom = c .same-dom; same-plain = c .same-plain; held = λ h. u }) m)
 
-  pub label-both : (p : Dom) → RelS hi (withLabel W both) (labelled p s) (labelled p s′)
+  pub label-both : (p : Dom) → RelS hi (withLabel W both) (addLabel p s) (addLabel p s′)
   label-both p = grow-labels hi R both (append-both (R .labels) refl)
 
-  pub advice-both : {a b : Advice Tm} → RelAdvice hi W a b → RelS hi W (installed a s) (installed b s′)
+  pub advice-both : {a b : Advice Tm} → RelAdvice hi W a b → RelS hi W (addAdvice a s) (addAdvice b s′)
   advice-both h = put-advices hi R (append-both (R .advices) h)
 
-  pub clear-both : (p : Dom) → RelS hi W (cleared p s) (cleared p s′)
+  pub clear-both : (p : Dom) → RelS hi W (dropAdvice p s) (dropAdvice p s′)
   clear-both p = put-advices hi R (filtered-both _ _ _ (otherThan p) (λ a b h. ap (λ q. not (eqb q p)) (h .same-dom)) (R .advices) .1)
 
-  pub event-both : (a b : Event) → a ≡ b → hi (a .dom) ≡ true → RelS hi W (told a s) (told b s′)
+  pub event-both : (a b : Event) → a ≡ b → hi (a .dom) ≡ true → RelS hi W (addEvent a s) (addEvent b s′)
   event-both a b e h = put-trace hi R (append-both (R .trace) (record { same = e; high = h }))
 
 -- What a takedown of a low domain takes down is low (card 7).
@@ -106,10 +106,10 @@ module _ (hi : Dom → Bool) {W : World} {s s′ : State} (R : RelS hi W s s′)
   left-used f y m = record { mainline = sym (y f) ∙ R .used .mainline; others = λ z. no-more-trans (m z) (R .used .others z) }
 
   -- A takedown of the left alone: of a low domain; where the right is stripped, of nothing.
-  clear-left : (p : Dom) → hi p ≡ false → (W .stripped ≡ true → length (s .advices) ≤ length (without p (s .advices))) → RelS hi W (cleared p s) s′
+  clear-left : (p : Dom) → hi p ≡ false → (W .stripped ≡ true → length (s .advices) ≤ length (without p (s .advices))) → RelS hi W (dropAdvice p s) s′
   clear-left p l m = pick (W .stripped) refl
     where
-      pick : (b : Bool) → W .stripped ≡ b → RelS hi W (cleared p s) s′
+      pick : (b : Bool) → W .stripped ≡ b → RelS hi W (dropAdvice p s) s′
       pick true z = put-advices hi R (transp (λ x. Advices hi W (R .advice-order) x (s′ .advices)) (sym (filtered-whole (otherThan p) (s .advices) (m z))) (R .advices))
       pick false z = put-advices hi R (filtered-left _ _ _ (otherThan p) (λ a b (h : RelAdvice hi W a b) e. (rw (h .same-dom) at (low-gone hi a p l e), z)) (R .advices) .1)
 

@@ -22,4 +22,4 @@ pub demand3 : (D : Policy) (hi : Dom → Bool) → Transitive D → Highs D hi
     → Same hi (run n G 0 fresh e) (run n′ G′ 0 fresh e′)
 demand3 D hi trans H e e′ A A′ same G G′ frame n n′ =
     let a = agree H trans false (A .type) (A′ .type) G G′ frame (λ z. clash z refl) (start H trans false (A .type) (A′ .type) G G′ frame (λ z. clash z refl) e e′ (A .typed) (A′ .typed) (blank-rel hi refl (A .typed) same) (λ z. clash z refl)) n n′ in
-    record { prints = cut-prints hi _ _ (a .events); branches = cut-branches hi _ _ (a .events); counts = cut-counts hi (H .mainline) _ _ (a .events); room = λ x. (let y = a .room x in record { not-done = y .0; no-more = fewer-prints hi _ _ (y .1) }); result = λ v v′ p p′. a .result v v′ p p′ (A .plain); cells = a .cells; final = a .mainline }
+    record { prints = cut-prints hi _ _ (a .events); branches = cut-branches hi _ _ (a .events); counts = cut-counts hi (H .mainline) _ _ (a .events); capacity = λ x. (let y = a .capacity x in record { not-done = y .0; no-more = fewer-prints hi _ _ (y .1) }); result = λ v v′ p p′. a .result v v′ p p′ (A .plain); cells = a .cells; final = a .mainline }

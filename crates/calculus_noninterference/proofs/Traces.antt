@@ -11,7 +11,7 @@ use lib.Seq.{take-nil}
 use lib.Dec.{eqb, eqb→eq}
 use Rattle.calculus.specs.Combinators.{choose}
 use Rattle.calculus.specs.Syntax.{Dom}
-use Rattle.calculus.specs.State.{Event, Said, prints, Print, printOf, consOption, picked, logOf, State, turns, branchOf, branchesOf, mainlineCountOf, mainlineCounts}
+use Rattle.calculus.specs.State.{Event, Said, prints, Print, printOf, consOption, picked, logOf, State, branched, branchOf, branchesOf, mainlineCountOf, mainlineCounts}
 use Rattle.laws.proofs.Lists.{Prefix, Prefix.pre-nil, Prefix.pre-cons, prefix-refl}
 use Rattle.calculus_safety.proofs.Safe.{Found, Found.found, Found.nothing}
 use Rattle.calculus_noninterference.specs.Observe.{highOf, CutEqual}
@@ -59,14 +59,14 @@ module _ (hi : Dom → Bool) where
     where
       pick : (o : Said) → Found (λ b. b .dom ≡ a .dom) (printOf (record { dom = a .dom; said = o }))
       pick (prints n u) = found refl
-      pick (turns b) = nothing
+      pick (branched b) = nothing
 
   branch-dom : (a : Event) → Found (λ b. b .dom ≡ a .dom) (branchOf a)
   branch-dom a = pick (a .said)
     where
       pick : (o : Said) → Found (λ b. b .dom ≡ a .dom) (branchOf (record { dom = a .dom; said = o }))
       pick (prints n u) = nothing
-      pick (turns b) = found refl
+      pick (branched b) = found refl
 
   -- Where the high events of one trace begin those of the other, so does what is picked of them.
   cut-picked : {A : Type 0} (f : Event → Option A) (dom : A → Dom) → ((a : Event) → Found (λ b. dom b ≡ a .dom) (f a)) → (x y : List Event) → Prefix (highEvents x) (highEvents y) ⊎ Prefix (highEvents y) (highEvents x) → CutEqual (highOf hi dom (picked f x)) (highOf hi dom (picked f y))
@@ -93,7 +93,7 @@ module _ (hi : Dom → Bool) where
         pick : (o : Said) (b : Bool) → eqb (a .dom) 0 ≡ b → mainlineCountOf (record { dom = a .dom; said = o }) ≡ none
         pick (prints n u) true e = let z : a .dom ≡ 0 = eqb→eq (a .dom) 0 (rw e tt) in clash (rw z main) f
         pick (prints n u) false e = rw e
-        pick (turns t) b e = refl
+        pick (branched t) b e = refl
 
     mainline-picked : (x : List Event) → picked mainlineCountOf (highEvents x) ≡ mainlineCounts x
     unfolding highOf picked

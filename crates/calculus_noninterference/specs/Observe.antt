@@ -87,7 +87,7 @@ pub record Same (hi : Dom → Bool) (E E′ : Ended) : Type 0 where
   -- card 9: domain 0's counts just after each of its prints
   pub counts : CutEqual (mainlineCounts (E .state .trace)) (mainlineCounts (E′ .state .trace))
   -- card 9, what it is for: where the first run ends because domain 0 lacks room, the second does not get past that point, whatever its low bodies use
-  pub room : endsShort (E .end) ≡ true → NotPast hi E E′
+  pub capacity : endsShort (E .end) ≡ true → NotPast hi E E′
   -- "Where both runs are done"
   pub result : (v v′ : Val) → E .end ≡ done v → E′ .end ≡ done v′ → v ≡ v′
   pub cells : (v v′ : Val) → E .end ≡ done v → E′ .end ≡ done v′ → highCells hi E ≡ highCells hi E′

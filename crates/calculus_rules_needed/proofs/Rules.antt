@@ -8,7 +8,7 @@ use Rattle.calculus.specs.Combinators.{cases}
 use Rattle.calculus.specs.Syntax.{Dom, Ty, Tm, var, lam, op0, op1, op2, seq, lower, obj, end, more, takedown, newCell, call, app, store}
 use Rattle.calculus.specs.State.{picked}
 use Rattle.calculus.specs.Subst.{subst}
-use Rattle.calculus.specs.Answer.{carry, if-room, with, spend}
+use Rattle.calculus.specs.Answer.{carry, if-capacity, with, spend}
 use Rattle.calculus.specs.Step.{step}
 use Rattle.calculus.specs.Run.{after, run}
 use Rattle.calculus.specs.Typing.{Policy, noStore, _⨾_⊢_⦂_ as TmTy, has-first, t-newLabel, t-print, t-install, t-read, t-newCell, t-app, t-mark, t-store, no-types, a-type, v-unit, v-number, is-val, is-var, is-lam, is-op0, is-op1, is-op2, is-seq, is-pcd, is-adv, is-lower, is-obj, is-end, is-more, no-body, a-body}
@@ -56,7 +56,7 @@ module _ {D : Policy} (o : Ordered D) where
 
 -- High code that ran a low function would hand on what it gives: (λ f. f ()) (λ_1 x. 3), and with 4.
 pub apply-low-needed : Needed apply-rule 0
-unfolding blank highOf run after cases step carry if-room with spend picked subst
+unfolding blank highOf run after cases step carry if-capacity with spend picked subst
 apply-low-needed = record {
   context = Ty.fun Ty.unit 1 Ty.number ∷ [];
   type = Ty.number;
@@ -71,7 +71,7 @@ apply-low-needed = record {
 
 -- Low code that ran a high function would store to high cells.
 pub apply-high-needed : Needed apply-rule 1
-unfolding blank highOf run after cases step carry if-room with spend picked subst
+unfolding blank highOf run after cases step carry if-capacity with spend picked subst
 apply-high-needed = record {
   context = Ty.ref Ty.number 0 ∷ [];
   type = Ty.unit;
@@ -86,7 +86,7 @@ apply-high-needed = record {
 
 -- The same of calls (card 3). High code that called a low method would hand on what it gives: (λ x. x.0) [ς_1 s. 3], and with 4.
 pub call-low-needed : Needed call-rule 0
-unfolding blank highOf run after cases step carry if-room with spend picked subst
+unfolding blank highOf run after cases step carry if-capacity with spend picked subst
 call-low-needed = record {
   context = oneMethod 1 Ty.number ∷ [];
   type = Ty.number;
@@ -104,7 +104,7 @@ call-low-needed = record {
 
 -- Low code that called a high method would store to high cells.
 pub call-high-needed : Needed call-rule 1
-unfolding blank highOf run after cases step carry if-room with spend picked subst
+unfolding blank highOf run after cases step carry if-capacity with spend picked subst
 call-high-needed = record {
   context = Ty.ref Ty.number 0 ∷ [];
   type = Ty.unit;
@@ -119,7 +119,7 @@ call-high-needed = record {
 
 -- Low code that marked a high label would run high advice.
 pub mark-needed : Needed mark-rule 1
-unfolding blank highOf run after cases step carry if-room with spend picked subst
+unfolding blank highOf run after cases step carry if-capacity with spend picked subst
 mark-needed = record {
   context = Ty.label Ty.number 0 ∷ [];
   type = Ty.unit;
@@ -137,7 +137,7 @@ mark-needed = record {
 
 -- A high pointcut that named a low label would let low code run high advice.
 pub pointcut-needed : Needed pointcut-rule 0
-unfolding blank highOf run after cases step carry if-room with spend picked subst
+unfolding blank highOf run after cases step carry if-capacity with spend picked subst
 pointcut-needed = record {
   context = Ty.label Ty.number 1 ∷ [];
   type = Ty.pointcut Ty.number 0;
@@ -155,7 +155,7 @@ pointcut-needed = record {
 
 -- High advice on a low pointcut likewise.
 pub advice-needed : Needed advice-rule 0
-unfolding blank highOf run after cases step carry if-room with spend picked subst
+unfolding blank highOf run after cases step carry if-capacity with spend picked subst
 advice-needed = record {
   context = Ty.label Ty.number 1 ∷ [];
   type = Ty.advice 0;
@@ -170,7 +170,7 @@ advice-needed = record {
 
 -- Low code that installed high advice would have it run at high marks.
 pub install-needed : Needed install-rule 1
-unfolding blank highOf run after cases step carry if-room with spend picked subst
+unfolding blank highOf run after cases step carry if-capacity with spend picked subst
 install-needed = record {
   context = Ty.label Ty.number 0 ∷ [];
   type = Ty.unit;
@@ -185,7 +185,7 @@ install-needed = record {
 
 -- Low code that took high advice down would keep it from high marks (card 7).
 pub takedown-needed : Needed takedown-rule 1
-unfolding blank highOf run after cases step carry if-room with spend picked subst
+unfolding blank highOf run after cases step carry if-capacity with spend picked subst
 takedown-needed = record {
   context = Ty.label Ty.number 0 ∷ [];
   type = Ty.unit;
@@ -203,7 +203,7 @@ takedown-needed = record {
 
 -- Low code that made a high cell would add to the high cells.
 pub cell-needed : Needed cell-rule 1
-unfolding blank highOf run after cases step carry if-room with spend picked subst
+unfolding blank highOf run after cases step carry if-capacity with spend picked subst
 cell-needed = record {
   context = [];
   type = Ty.ref Ty.number 0;
@@ -218,7 +218,7 @@ cell-needed = record {
 
 -- High code that read a low cell would learn what low code stored.
 pub read-needed : Needed read-rule 0
-unfolding blank highOf run after cases step carry if-room with spend picked subst
+unfolding blank highOf run after cases step carry if-capacity with spend picked subst
 read-needed = record {
   context = Ty.ref Ty.number 1 ∷ [];
   type = Ty.number;
@@ -233,7 +233,7 @@ read-needed = record {
 
 -- Low code that stored to a high cell would change what high code reads.
 pub store-needed : Needed store-rule 1
-unfolding blank highOf run after cases step carry if-room with spend picked subst
+unfolding blank highOf run after cases step carry if-capacity with spend picked subst
 store-needed = record {
   context = Ty.ref Ty.number 0 ∷ [];
   type = Ty.unit;
@@ -248,7 +248,7 @@ store-needed = record {
 
 -- Low code that raised itself would print at a high domain.
 pub lower-needed : Needed lower-rule 1
-unfolding blank highOf run after cases step carry if-room with spend picked subst
+unfolding blank highOf run after cases step carry if-capacity with spend picked subst
 lower-needed = record {
   context = [];
   type = Ty.unit;
@@ -263,7 +263,7 @@ lower-needed = record {
 
 -- A lowered body that was checked at the outer domain would store to a high cell.
 pub lowered-needed : Needed body-rule 0
-unfolding blank highOf run after cases step carry if-room with spend picked subst
+unfolding blank highOf run after cases step carry if-capacity with spend picked subst
 lowered-needed = record {
   context = Ty.ref Ty.number 0 ∷ [];
   type = Ty.unit;

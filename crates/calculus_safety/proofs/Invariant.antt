@@ -9,8 +9,8 @@ use Rattle.calculus.specs.declared.Outcome.{Outcome}
 use Rattle.calculus.specs.Limits.{bindingLimit, cellLimit, pieceLimit}
 use Rattle.calculus.specs.Combinators.{cases}
 use Rattle.calculus.specs.Syntax.{Dom, Ty, Val, Tm, Tms, Pattern, Op0, Op1, Op2, asValue, val, var, lam, op0, op1, op2, seq, ite, split, pcd, adv, lower, obj, keep, match, end, more}
-use Rattle.calculus.specs.State.{State, Given, Counts, Uses, addUses, charged}
-use Rattle.calculus.specs.Answer.{Answer, go, full, halt, wrong, carry, within, if-room, with, spend}
+use Rattle.calculus.specs.State.{State, Given, Counts, Uses, addUses, withUses}
+use Rattle.calculus.specs.Answer.{Answer, reduct, atCapacity, halt, wrong, carry, within, if-capacity, with, spend}
 use Rattle.calculus.specs.Place.{Place, top, at, deeper, keeping}
 use Rattle.calculus.specs.Reduce.{reduce0, reduce1, reduce2, piece, bind, reduceMatch}
 use Rattle.calculus.specs.Step.{step, stepFirst}
@@ -25,15 +25,15 @@ pub record Covers (n u : Counts) : Type 0 where
 module _ (Q : State → Type 0) where
   -- The state that an answer has, if it has one, has the property Q.
   pub data Makes : Answer State Tm → Type 0 where
-    makes-go : {s : State} {e : Tm} → Q s → Makes (go s e)
-    makes-full : {o : Outcome} → Makes (full o)
+    makes-go : {s : State} {e : Tm} → Q s → Makes (reduct s e)
+    makes-full : {o : Outcome} → Makes (atCapacity o)
     makes-halt : Makes halt
     makes-wrong : Makes wrong
 
-  pub makes-room : (b : Bool) (o : Outcome) {r : Answer State Tm} → (T b → Makes r) → Makes (if-room b o r)
-  unfolding if-room
-  makes-room true o f = f tt
-  makes-room false o f = makes-full
+  pub makes-capacity : (b : Bool) (o : Outcome) {r : Answer State Tm} → (T b → Makes r) → Makes (if-capacity b o r)
+  unfolding if-capacity
+  makes-capacity true o f = f tt
+  makes-capacity false o f = makes-full
 
   pub makes-with : {A : Type 0} (o : Option A) (k : A → Answer State Tm) → ((x : A) → Makes (k x)) → Makes (with o k)
   unfolding with
@@ -54,11 +54,11 @@ module _ (Q : State → Type 0) where
 
   -- A step that uses n has room for it.
   pub makes-spend : (n : Uses) (s : State) (k : State → Answer State Tm)
-      → (Covers (n .mainline) (s .used .mainline) → Covers (n .others) (s .used .others) → Makes (k (charged (addUses (s .used) n) s)))
+      → (Covers (n .mainline) (s .used .mainline) → Covers (n .others) (s .used .others) → Makes (k (withUses (addUses (s .used) n) s)))
       → Makes (spend n s k)
   unfolding spend
   makes-spend n s k f =
-      makes-room _ _ (λ b. makes-room _ _ (λ c. makes-room _ _ (λ p. makes-room _ _ (λ b′. makes-room _ _ (λ c′. makes-room _ _
+      makes-capacity _ _ (λ b. makes-capacity _ _ (λ c. makes-capacity _ _ (λ p. makes-capacity _ _ (λ b′. makes-capacity _ _ (λ c′. makes-capacity _ _
       (λ p′. f (record { bindings = b; cells = c; pieces = p }) (record { bindings = b′; cells = c′; pieces = p′ })))))))
 
 -- The reductions of the state s make only states with the property Q.
@@ -80,31 +80,31 @@ module _ {G : Given} {Q : State → Type 0} {s : State} (R : Reduces G Q s) wher
 
     pub step-makes : (e : Tm) → (P : Place) → Makes Q (step e G P s)
     step-makes (val v) = λ P. makes-wrong
-    step-makes (var k) = λ P. makes-room Q _ _ (λ b. makes-wrong)
+    step-makes (var k) = λ P. makes-capacity Q _ _ (λ b. makes-wrong)
     step-makes (lam t b) = λ P. makes-wrong
-    step-makes (op0 o t) = λ P. makes-room Q _ _ (λ b. R .reduces0 P o t)
-    step-makes (op1 o t e) = λ P. makes-cases Q _ _ _ (λ v. makes-room Q _ _ (λ b. R .reduces1 P o t v)) (makes-within Q _ (step-makes e (deeper P)))
+    step-makes (op0 o t) = λ P. makes-capacity Q _ _ (λ b. R .reduces0 P o t)
+    step-makes (op1 o t e) = λ P. makes-cases Q _ _ _ (λ v. makes-capacity Q _ _ (λ b. R .reduces1 P o t v)) (makes-within Q _ (step-makes e (deeper P)))
     step-makes (op2 o t e f) =
         λ P. makes-cases Q _ _ _
-        (λ v. makes-cases Q _ _ _ (λ w. makes-room Q _ _ (λ b. R .reduces2 P o t v w)) (makes-within Q _ (step-makes f (deeper P))))
+        (λ v. makes-cases Q _ _ _ (λ w. makes-capacity Q _ _ (λ b. R .reduces2 P o t v w)) (makes-within Q _ (step-makes f (deeper P))))
         (makes-within Q _ (step-makes e (deeper P)))
-    step-makes (seq e f) = λ P. makes-cases Q _ _ _ (λ v. makes-room Q _ _ (λ b. makes-with Q _ _ (λ u. makes-go (R .stays)))) (makes-within Q _ (step-makes e (deeper P)))
-    step-makes (ite e f g) = λ P. makes-cases Q _ _ _ (λ v. makes-room Q _ _ (λ b. makes-with Q _ _ (λ u. makes-go (R .stays)))) (makes-within Q _ (step-makes e (deeper P)))
-    step-makes (split e f) = λ P. makes-cases Q _ _ _ (λ v. makes-room Q _ _ (λ b. makes-with Q _ _ (λ u. R .binds (P .dom) 2 _))) (makes-within Q _ (step-makes e (deeper P)))
+    step-makes (seq e f) = λ P. makes-cases Q _ _ _ (λ v. makes-capacity Q _ _ (λ b. makes-with Q _ _ (λ u. makes-go (R .stays)))) (makes-within Q _ (step-makes e (deeper P)))
+    step-makes (ite e f g) = λ P. makes-cases Q _ _ _ (λ v. makes-capacity Q _ _ (λ b. makes-with Q _ _ (λ u. makes-go (R .stays)))) (makes-within Q _ (step-makes e (deeper P)))
+    step-makes (split e f) = λ P. makes-cases Q _ _ _ (λ v. makes-capacity Q _ _ (λ b. makes-with Q _ _ (λ u. R .binds (P .dom) 2 _))) (makes-within Q _ (step-makes e (deeper P)))
     step-makes (pcd es) = λ P. steps-first es P [] pcd _ (λ ws. makes-with Q _ _ (λ ls. R .pieces (P .dom) _))
-    step-makes (adv p e b) = λ P. makes-cases Q _ _ _ (λ v. makes-room Q _ _ (λ b′. makes-with Q _ _ (λ ls. R .pieces (P .dom) _))) (makes-within Q _ (step-makes e (deeper P)))
-    step-makes (lower p e) = λ P. makes-cases Q _ _ _ (λ v. makes-room Q _ _ (λ b. makes-with Q _ _ (λ u. makes-go (R .stays)))) (makes-within Q _ (step-makes e (at p (deeper P))))
+    step-makes (adv p e b) = λ P. makes-cases Q _ _ _ (λ v. makes-capacity Q _ _ (λ b′. makes-with Q _ _ (λ ls. R .pieces (P .dom) _))) (makes-within Q _ (step-makes e (deeper P)))
+    step-makes (lower p e) = λ P. makes-cases Q _ _ _ (λ v. makes-capacity Q _ _ (λ b. makes-with Q _ _ (λ u. makes-go (R .stays)))) (makes-within Q _ (step-makes e (at p (deeper P))))
     step-makes (obj t bs) = λ P. makes-wrong
     step-makes (keep e f g) =
         λ P. makes-cases Q _ _ _
         (λ v. makes-cases Q _ _ _
-        (λ w. makes-cases Q _ _ _ (λ u. makes-room Q _ _ (λ b. makes-go (R .stays))) (makes-within Q _ (step-makes g (keeping v w (deeper P)))))
+        (λ w. makes-cases Q _ _ _ (λ u. makes-capacity Q _ _ (λ b. makes-go (R .stays))) (makes-within Q _ (step-makes g (keeping v w (deeper P)))))
         (makes-within Q _ (step-makes f (deeper P))))
         (makes-within Q _ (step-makes e (deeper P)))
     step-makes (match p es f g) = λ P. steps-first es P [] _ _ (λ ws. R .matches P p f g ws)
 
     steps-first : (es : Tms) → StepsFirst es
-    steps-first end = λ P vs k r h. makes-room Q _ _ (λ b. h vs)
+    steps-first end = λ P vs k r h. makes-capacity Q _ _ (λ b. h vs)
     steps-first (more e es) = λ P vs k r h. makes-cases Q _ _ _ (λ v. steps-first es P (v ∷ vs) k r h) (makes-within Q _ (step-makes e (deeper P)))
 
 module _ (G : Given) (Q : State → Type 0) (keeps : (s : State) → Q s → Reduces G Q s) where

@@ -10,7 +10,7 @@ use Rattle.calculus.specs.Combinators.{choose, cases}
 use Rattle.calculus.specs.Syntax.{Dom, Ty, Sigs, Val, Tm, Tms, Pattern, Op0, Op1, Op2, val}
 use Rattle.calculus.specs.State.{Cell, State, Given, Entry}
 use Rattle.calculus.specs.View.{topOf, labelsOf}
-use Rattle.calculus.specs.Answer.{go, with}
+use Rattle.calculus.specs.Answer.{reduct, with}
 use Rattle.calculus.specs.Place.{Place, at, keeping}
 use Rattle.calculus.specs.Compose.{member}
 use Rattle.calculus.specs.Reduce.{reduce0, reduce1, reduce2, reduceSeq, reduceIte, reduceSplit, reduceAdv, reduceLower, reducePcd, collect, methodBody, stackVal, consFound, matched, branch, matchOn, substAll, reduceKeep, reduceMatch}
@@ -20,7 +20,7 @@ use Rattle.calculus.specs.Accepted.{Transitive}
 use Rattle.calculus_safety.proofs.Extend.{extends-cell, extends-label, grow-val}
 use Rattle.calculus_safety.proofs.Substitute.{Without, Without.here, Without.there, subst-tm}
 use Rattle.calculus_safety.proofs.StoreFits.{CellFits, CellFits.cell-fits, LabelFits.label-fits, AdviceFits.advice-fits, StateFits, all-filtered, cell-there, label-there, grow-cells, grow-advices, EntryFits.entry-fits, KeptFits}
-use Rattle.calculus_safety.proofs.Safe.{Safe, Safe.safe-go, Safe.safe-halt, safe-here, safe-room, safe-spend, Found, Found.found, Found.nothing}
+use Rattle.calculus_safety.proofs.Safe.{Safe, Safe.safe-go, Safe.safe-halt, safe-here, safe-capacity, safe-spend, Found, Found.found, Found.nothing}
 use Rattle.calculus_safety.proofs.Composed.{composed-typed, member-label}
 
 -- What a match binds (card 6), and the places of its variables.
@@ -92,7 +92,7 @@ module _ (D : Policy) {Σ : StoreTyping} where
 
 module _ (D : Policy) {Σ : StoreTyping} {c : Dom} (s : State) (fits : StateFits D Σ s) where
   -- A value, in a store typing that stays.
-  here-val : {t : Ty} {v : Val} (s′ : State) → StateFits D Σ s′ → ValTy D Σ v t → Safe D Σ c t (go s′ (val v))
+  here-val : {t : Ty} {v : Val} (s′ : State) → StateFits D Σ s′ → ValTy D Σ v t → Safe D Σ c t (reduct s′ (val v))
   here-val s′ f h = safe-here D s′ f (TmTy.is-val h)
 
   module _ (G : Given) (P : Place) where
@@ -100,7 +100,7 @@ module _ (D : Policy) {Σ : StoreTyping} {c : Dom} (s : State) (fits : StateFits
     safe0 kept (Rule0.t-newLabel {a} {p} h) =
         let x = extends-label Σ (Ty.label a p) in
         let place : getElem? (Σ .labels ++ (Ty.label a p ∷ [])) (length (s .labels)) ≡ some (Ty.label a p) = rw (← all2-length (fits .labels)) (get-last (Σ .labels) (Ty.label a p)) in
-        safe-room D _ _ tt
+        safe-capacity D _ _ tt
         (safe-go x
         (record { cells = grow-cells D x (fits .cells); labels = all2-snoc (fits .labels) label-fits; advices = grow-advices D x (fits .advices) })
         (TmTy.is-val (ValTy.v-label place)))
@@ -110,9 +110,9 @@ module _ (D : Policy) {Σ : StoreTyping} {c : Dom} (s : State) (fits : StateFits
 
     pub safe1 : {o : Op1} {t a : Ty} {v : Val} → Rule1 D c o a t → ValTy D Σ v a → Safe D Σ c t (reduce1 G (at c P) s o t v)
     unfolding with
-    safe1 Rule1.t-print ValTy.v-number = safe-room D _ _ tt (here-val _ fits ValTy.v-unit)
+    safe1 Rule1.t-print ValTy.v-number = safe-capacity D _ _ tt (here-val _ fits ValTy.v-unit)
     safe1 (Rule1.t-install h) (ValTy.v-advice ls o b) =
-        safe-room D _ _ tt (here-val _ (record { cells = fits .cells; labels = fits .labels; advices = all-snoc (fits .advices) (advice-fits ls o b) }) ValTy.v-unit)
+        safe-capacity D _ _ tt (here-val _ (record { cells = fits .cells; labels = fits .labels; advices = all-snoc (fits .advices) (advice-fits ls o b) }) ValTy.v-unit)
     safe1 (Rule1.t-read h) (ValTy.v-cell {r} g) = let k = cell-there D s fits r g in rw (k .1) (here-val _ fits (held-typed D (k .2)))
     safe1 Rule1.t-byte ValTy.v-number = here-val _ fits ValTy.v-number
     safe1 (Rule1.t-newCell {a} {p} h) hv =
@@ -146,7 +146,7 @@ module _ (D : Policy) {Σ : StoreTyping} {c : Dom} (s : State) (fits : StateFits
   unfolding with
   safe-ite {t} {f} {g} (ValTy.v-truth {b}) k l = branch b
     where
-      branch : (b : Bool) → Safe D Σ c t (go s (choose b f g))
+      branch : (b : Bool) → Safe D Σ c t (reduct s (choose b f g))
       branch true = safe-here D s fits k
       branch false = safe-here D s fits l
 

@@ -7,16 +7,16 @@ use lib.Dec.{T, ltb}
 use Rattle.calculus.specs.declared.Outcome.{Outcome}
 use Rattle.calculus.specs.Combinators.{cases}
 use Rattle.calculus.specs.Syntax.{Dom, Ty, Tm}
-use Rattle.calculus.specs.State.{State, Uses, addUses, charged}
-use Rattle.calculus.specs.Answer.{Answer, go, full, halt, carry, within, if-room, spend}
+use Rattle.calculus.specs.State.{State, Uses, addUses, withUses}
+use Rattle.calculus.specs.Answer.{Answer, reduct, atCapacity, halt, carry, within, if-capacity, spend}
 use Rattle.calculus.specs.Report.{outcomeNumber}
 use Rattle.calculus.specs.Typing.{StoreTyping, Policy, _⨾_⊢_⦂_ as TmTy}
 use Rattle.calculus_safety.proofs.Extend.{Extends, extends-refl}
 use Rattle.calculus_safety.proofs.StoreFits.{StateFits}
 
 -- The outcome of a missing room: not done, spent or aborted (document 01, "A run", numbers 0 to 2).
-abbrev pub IsRoom : Outcome → Type 0
-IsRoom o = T (ltb 2 (outcomeNumber o))
+abbrev pub IsCapacity : Outcome → Type 0
+IsCapacity o = T (ltb 2 (outcomeNumber o))
 
 -- What an option holds, if anything, has a property.
 pub data Found {A : Type 0} (R : A → Type 0) : Option A → Type 0 where
@@ -26,23 +26,23 @@ pub data Found {A : Type 0} (R : A → Type 0) : Option A → Type 0 where
 module _ (D : Policy) where
   -- The answer to a step from Σ, of a term of type t at c: it is not wrong, and what it made fits a store typing that extends Σ.
   pub data Safe (Σ : StoreTyping) (c : Dom) (t : Ty) : Answer State Tm → Type 0 where
-    safe-go : {Σ′ : StoreTyping} {s : State} {e : Tm} → Extends Σ Σ′ → StateFits D Σ′ s → TmTy D Σ′ [] c e t → Safe Σ c t (go s e)
-    safe-full : {o : Outcome} → IsRoom o → Safe Σ c t (full o)
+    safe-go : {Σ′ : StoreTyping} {s : State} {e : Tm} → Extends Σ Σ′ → StateFits D Σ′ s → TmTy D Σ′ [] c e t → Safe Σ c t (reduct s e)
+    safe-full : {o : Outcome} → IsCapacity o → Safe Σ c t (atCapacity o)
     safe-halt : Safe Σ c t halt
 
   module _ {Σ : StoreTyping} {c : Dom} {t : Ty} where
     -- The store typing stays.
-    pub safe-here : (s : State) {e : Tm} → StateFits D Σ s → TmTy D Σ [] c e t → Safe Σ c t (go s e)
+    pub safe-here : (s : State) {e : Tm} → StateFits D Σ s → TmTy D Σ [] c e t → Safe Σ c t (reduct s e)
     safe-here s f h = safe-go (extends-refl Σ) f h
 
-    pub safe-room : (b : Bool) (o : Outcome) {r : Answer State Tm} → IsRoom o → Safe Σ c t r → Safe Σ c t (if-room b o r)
-    unfolding if-room
-    safe-room true o m h = h
-    safe-room false o m h = safe-full m
+    pub safe-capacity : (b : Bool) (o : Outcome) {r : Answer State Tm} → IsCapacity o → Safe Σ c t r → Safe Σ c t (if-capacity b o r)
+    unfolding if-capacity
+    safe-capacity true o m h = h
+    safe-capacity false o m h = safe-full m
 
-    pub safe-spend : (n : Uses) (s : State) (k : State → Answer State Tm) → Safe Σ c t (k (charged (addUses (s .used) n) s)) → Safe Σ c t (spend n s k)
+    pub safe-spend : (n : Uses) (s : State) (k : State → Answer State Tm) → Safe Σ c t (k (withUses (addUses (s .used) n) s)) → Safe Σ c t (spend n s k)
     unfolding spend
-    safe-spend n s k h = safe-room _ _ tt (safe-room _ _ tt (safe-room _ _ tt (safe-room _ _ tt (safe-room _ _ tt (safe-room _ _ tt h)))))
+    safe-spend n s k h = safe-capacity _ _ tt (safe-capacity _ _ tt (safe-capacity _ _ tt (safe-capacity _ _ tt (safe-capacity _ _ tt (safe-capacity _ _ tt h)))))
 
     pub safe-within : {c′ : Dom} {t′ : Ty} (k : Tm → Tm) {r : Answer State Tm} → ((Σ′ : StoreTyping) → Extends Σ Σ′ → (e : Tm) → TmTy D Σ′ [] c e t → TmTy D Σ′ [] c′ (k e) t′) → Safe Σ c t r → Safe Σ c′ t′ (within k r)
     unfolding carry

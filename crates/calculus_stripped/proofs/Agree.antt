@@ -5,18 +5,18 @@ use mathlib.Core.List.{List}
 use Rattle.calculus.specs.Combinators.{choose}
 use Rattle.calculus.specs.Syntax.{Dom, Ty, Sigs, Val, Tm, Tms, Op0, val, lam, op1, op2, seq, split, pcd, adv, lower, obj, more}
 use Rattle.calculus.specs.Typing.{StoreTyping, Policy, _⊢_⦂_ as Rule0, ⊢_⦂_ as ValTy, _⨾_⊢_⦂_ as TmTy, _⨾_⊢*_⦂_ as TmsTy, _⊢ᵐ_⦂_ as BodiesTy, t-newLabel, t-abort, t-takedown, t-stack, is-val, is-var, is-lam, is-op0, is-op1, is-op2, is-seq, is-ite, is-split, is-pcd, is-adv, is-lower, is-obj, is-keep, is-match, is-end, is-more, no-body, a-body}
-use Rattle.calculus_noninterference.specs.Calm.{CalmOp, Calm, Calms, CalmBodies, CalmVal}
+use Rattle.calculus_noninterference.specs.NoLowTakedown.{NoLowTakedownOp, NoLowTakedown, NoLowTakedowns, NoLowTakedownBodies, NoLowTakedownVal}
 use Rattle.calculus_stripped.specs.Strip.{strip, strips, stripVal}
 
 body-same : (f g : Dom → Bool) {p : Dom} {e e′ : Tm} → f p ≡ g p → e ≡ e′ → choose (f p) e (val Val.unit) ≡ choose (g p) e′ (val Val.unit)
 body-same f g h k = ap₂ (λ b e. choose b e (val Val.unit)) h k
 
 module _ {D : Policy} (f g : Dom → Bool) (same : (p q : Dom) → D .leq p q ≡ true → (f p ≡ g p) × (f q ≡ g q)) where
-  calm-op : {c : Dom} {o : Op0} {t : Ty} → Rule0 D c o t → CalmOp f c o → CalmOp g c o
-  calm-op (t-newLabel l) x = tt
-  calm-op t-abort x = tt
-  calm-op {c} (t-takedown {p} l) x = sym (same p c l .1) ∙ x
-  calm-op t-stack x = tt
+  no-low-takedown-op : {c : Dom} {o : Op0} {t : Ty} → Rule0 D c o t → NoLowTakedownOp f c o → NoLowTakedownOp g c o
+  no-low-takedown-op (t-newLabel l) x = tt
+  no-low-takedown-op t-abort x = tt
+  no-low-takedown-op {c} (t-takedown {p} l) x = sym (same p c l .1) ∙ x
+  no-low-takedown-op t-stack x = tt
 
   module _ {Σ : StoreTyping} where
     mutual
@@ -62,43 +62,43 @@ module _ {D : Policy} (f g : Dom → Bool) (same : (p q : Dom) → D .leq p q �
       strip-bodies (a-body h k) = ap₂ more (strip-same h) (strip-bodies k)
 
     mutual
-      unfolding Calm Calms CalmBodies CalmVal
+      unfolding NoLowTakedown NoLowTakedowns NoLowTakedownBodies NoLowTakedownVal
 
-      calm-val : {v : Val} {t : Ty} → ValTy D Σ v t → CalmVal f v → CalmVal g v
-      calm-val ValTy.v-unit x = tt
-      calm-val ValTy.v-truth x = tt
-      calm-val ValTy.v-number x = tt
-      calm-val (ValTy.v-pair h k) x = (calm-val h (x .0), calm-val k (x .1))
-      calm-val (ValTy.v-fun h) x = calm-same h x
-      calm-val (ValTy.v-label y) x = tt
-      calm-val (ValTy.v-cell y) x = tt
-      calm-val (ValTy.v-pointcut h) x = tt
-      calm-val (ValTy.v-advice h l k) x = calm-same k x
-      calm-val (ValTy.v-object h) x = calm-bodies h x
-      calm-val ValTy.v-bottom x = tt
-      calm-val (ValTy.v-kept y h k) x = (calm-val h (x .0), calm-val k (x .1))
+      no-low-takedown-val : {v : Val} {t : Ty} → ValTy D Σ v t → NoLowTakedownVal f v → NoLowTakedownVal g v
+      no-low-takedown-val ValTy.v-unit x = tt
+      no-low-takedown-val ValTy.v-truth x = tt
+      no-low-takedown-val ValTy.v-number x = tt
+      no-low-takedown-val (ValTy.v-pair h k) x = (no-low-takedown-val h (x .0), no-low-takedown-val k (x .1))
+      no-low-takedown-val (ValTy.v-fun h) x = no-low-takedown-same h x
+      no-low-takedown-val (ValTy.v-label y) x = tt
+      no-low-takedown-val (ValTy.v-cell y) x = tt
+      no-low-takedown-val (ValTy.v-pointcut h) x = tt
+      no-low-takedown-val (ValTy.v-advice h l k) x = no-low-takedown-same k x
+      no-low-takedown-val (ValTy.v-object h) x = no-low-takedown-bodies h x
+      no-low-takedown-val ValTy.v-bottom x = tt
+      no-low-takedown-val (ValTy.v-kept y h k) x = (no-low-takedown-val h (x .0), no-low-takedown-val k (x .1))
 
-      pub calm-same : {Γ : List Ty} {c : Dom} {e : Tm} {t : Ty} → TmTy D Σ Γ c e t → Calm f c e → Calm g c e
-      calm-same (is-val h) x = calm-val h x
-      calm-same (is-var y) x = tt
-      calm-same (is-lam h) x = calm-same h x
-      calm-same (is-op0 r) x = calm-op r x
-      calm-same (is-op1 r h) x = calm-same h x
-      calm-same (is-op2 r h k) x = (calm-same h (x .0), calm-same k (x .1))
-      calm-same (is-seq h k) x = (calm-same h (x .0), calm-same k (x .1))
-      calm-same (is-ite h k l) x = (calm-same h (x .0), calm-same k (x .1), calm-same l (x .2))
-      calm-same (is-split h k) x = (calm-same h (x .0), calm-same k (x .1))
-      calm-same (is-pcd h l) x = calms-same h x
-      calm-same (is-adv h l k) x = (calm-same h (x .0), calm-same k (x .1))
-      calm-same (is-lower l h) x = calm-same h x
-      calm-same (is-obj h) x = calm-bodies h x
-      calm-same (is-keep h k l) x = (calm-same h (x .0), calm-same k (x .1), calm-same l (x .2))
-      calm-same (is-match h p k l) x = (calms-same h (x .0), calm-same k (x .1), calm-same l (x .2))
+      pub no-low-takedown-same : {Γ : List Ty} {c : Dom} {e : Tm} {t : Ty} → TmTy D Σ Γ c e t → NoLowTakedown f c e → NoLowTakedown g c e
+      no-low-takedown-same (is-val h) x = no-low-takedown-val h x
+      no-low-takedown-same (is-var y) x = tt
+      no-low-takedown-same (is-lam h) x = no-low-takedown-same h x
+      no-low-takedown-same (is-op0 r) x = no-low-takedown-op r x
+      no-low-takedown-same (is-op1 r h) x = no-low-takedown-same h x
+      no-low-takedown-same (is-op2 r h k) x = (no-low-takedown-same h (x .0), no-low-takedown-same k (x .1))
+      no-low-takedown-same (is-seq h k) x = (no-low-takedown-same h (x .0), no-low-takedown-same k (x .1))
+      no-low-takedown-same (is-ite h k l) x = (no-low-takedown-same h (x .0), no-low-takedown-same k (x .1), no-low-takedown-same l (x .2))
+      no-low-takedown-same (is-split h k) x = (no-low-takedown-same h (x .0), no-low-takedown-same k (x .1))
+      no-low-takedown-same (is-pcd h l) x = no-low-takedowns-same h x
+      no-low-takedown-same (is-adv h l k) x = (no-low-takedown-same h (x .0), no-low-takedown-same k (x .1))
+      no-low-takedown-same (is-lower l h) x = no-low-takedown-same h x
+      no-low-takedown-same (is-obj h) x = no-low-takedown-bodies h x
+      no-low-takedown-same (is-keep h k l) x = (no-low-takedown-same h (x .0), no-low-takedown-same k (x .1), no-low-takedown-same l (x .2))
+      no-low-takedown-same (is-match h p k l) x = (no-low-takedowns-same h (x .0), no-low-takedown-same k (x .1), no-low-takedown-same l (x .2))
 
-      calms-same : {Γ ts : List Ty} {c : Dom} {es : Tms} → TmsTy D Σ Γ c es ts → Calms f c es → Calms g c es
-      calms-same is-end x = tt
-      calms-same (is-more h k) x = (calm-same h (x .0), calms-same k (x .1))
+      no-low-takedowns-same : {Γ ts : List Ty} {c : Dom} {es : Tms} → TmsTy D Σ Γ c es ts → NoLowTakedowns f c es → NoLowTakedowns g c es
+      no-low-takedowns-same is-end x = tt
+      no-low-takedowns-same (is-more h k) x = (no-low-takedown-same h (x .0), no-low-takedowns-same k (x .1))
 
-      calm-bodies : {Γ : List Ty} {bs : Tms} {ms : Sigs} → BodiesTy D Σ Γ bs ms → CalmBodies f ms bs → CalmBodies g ms bs
-      calm-bodies no-body x = tt
-      calm-bodies (a-body h k) x = (calm-same h (x .0), calm-bodies k (x .1))
+      no-low-takedown-bodies : {Γ : List Ty} {bs : Tms} {ms : Sigs} → BodiesTy D Σ Γ bs ms → NoLowTakedownBodies f ms bs → NoLowTakedownBodies g ms bs
+      no-low-takedown-bodies no-body x = tt
+      no-low-takedown-bodies (a-body h k) x = (no-low-takedown-same h (x .0), no-low-takedown-bodies k (x .1))

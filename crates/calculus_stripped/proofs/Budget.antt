@@ -6,7 +6,7 @@ use mathlib.Core.Option.{Option, none, some}
 use Rattle.calculus.specs.Combinators.{cases}
 use Rattle.calculus.specs.Syntax.{Val, Tm, asValue}
 use Rattle.calculus.specs.State.{State, Given}
-use Rattle.calculus.specs.Answer.{Answer, go, full, halt, wrong}
+use Rattle.calculus.specs.Answer.{Answer, reduct, atCapacity, halt, wrong}
 use Rattle.calculus.specs.Place.{top}
 use Rattle.calculus.specs.Step.{step}
 use Rattle.calculus.specs.Run.{End, done, stopped, stuck, unpaid, after, run}
@@ -18,8 +18,8 @@ NotDone stuck = Unit {0}
 
 -- A step for which nothing is left of the budget does not end a run with done.
 unpaid-not-done : (a : Answer State Tm) → NotDone (unpaid a)
-unpaid-not-done (go s e) = tt
-unpaid-not-done (full o) = tt
+unpaid-not-done (reduct s e) = tt
+unpaid-not-done (atCapacity o) = tt
 unpaid-not-done halt = tt
 unpaid-not-done wrong = tt
 
@@ -39,7 +39,7 @@ done-stays (suc n) (suc m) l G k s e v p = look (asValue e) refl (step e G top s
 
     look : (o : Option Val) → asValue e ≡ o → (a : Answer State Tm) → step e G top s ≡ a → Later → run (suc m) G k s e ≡ run (suc n) G k s e
     look (some w) q a r later = rw q
-    look none q (go s′ e′) r later = rw (q, r) (later s′ e′ (rw (q, r) at p))
-    look none q (full o) r later = rw (q, r)
+    look none q (reduct s′ e′) r later = rw (q, r) (later s′ e′ (rw (q, r) at p))
+    look none q (atCapacity o) r later = rw (q, r)
     look none q halt r later = rw (q, r)
     look none q wrong r later = rw (q, r)

@@ -1,7 +1,7 @@
 -- Card 13's theorems.
 pub mod Budget
 pub mod Typed
-pub mod Alike
+pub mod Related
 pub mod Agree
 pub mod Runs
 pub mod Theorem

@@ -9,13 +9,13 @@ use Rattle.calculus.specs.Run.{done, run}
 use Rattle.calculus.specs.Typing.{Policy}
 use Rattle.calculus.specs.Accepted.{Transitive, Accepted}
 use Rattle.calculus_noninterference.specs.Observe.{Highs}
-use Rattle.calculus_noninterference.specs.Calm.{Calm}
+use Rattle.calculus_noninterference.specs.NoLowTakedown.{NoLowTakedown}
 use Rattle.calculus_noninterference.proofs.Traces.{same-prints}
 use Rattle.calculus_noninterference.proofs.Runs.{start}
 use Rattle.calculus_stripped.specs.Strip.{strip}
 use Rattle.calculus_stripped.specs.Shared.{SharesDone}
 use Rattle.calculus_stripped.proofs.Typed.{strip-typed}
-use Rattle.calculus_stripped.proofs.Alike.{strip-rel}
+use Rattle.calculus_stripped.proofs.Related.{strip-rel}
 use Rattle.calculus_stripped.proofs.Runs.{Shares, shares}
 
 -- "It is always accepted."
@@ -24,7 +24,7 @@ stripped-accepted hi A = record { type = A .type; typed = strip-typed hi (A .typ
 
 -- If every takedown of an accepted program runs at a high domain, and its run is done, so is the run of the stripped one with the same frame, budget and log length, and it shares what the card says.
 pub stripped-run : (D : Policy) (hi : Dom → Bool) → Transitive D → Highs D hi
-    → (e : Tm) → Accepted D e → Calm hi 0 e
+    → (e : Tm) → Accepted D e → NoLowTakedown hi 0 e
     → (G : Given) (n : ℕ) (v : Val) → run n G 0 fresh e .end ≡ done v
     → SharesDone hi v (run n G 0 fresh e) (run n G 0 fresh (strip hi e))
 stripped-run D hi trans H e A C G n v h =

@@ -6,7 +6,7 @@ use Rattle.calculus.specs.declared.Outcome.{Outcome}
 use Rattle.calculus.specs.Combinators.{cases}
 use Rattle.calculus.specs.State.{picked}
 use Rattle.calculus.specs.Subst.{subst}
-use Rattle.calculus.specs.Answer.{carry, if-room, with, spend}
+use Rattle.calculus.specs.Answer.{carry, if-capacity, with, spend}
 use Rattle.calculus.specs.Step.{step}
 use Rattle.calculus.specs.Run.{after, run}
 use Rattle.calculus.specs.Report.{leaves, outcomeNumber}
@@ -27,11 +27,11 @@ use Rattle.verdict.proofs.Images.{little, rec, image, one-domain, two-domains, 
 use Rattle.base_bytes.specs.Bytes.{bytesOf, numberOf, numberAt, over, cleared}
 use Rattle.report.specs.Records.{recordsBytes}
 use Rattle.report.specs.Read.{readReport}
-use Rattle.calls.specs.Calls.{Left, called}
-use Rattle.listing.specs.Sheet.{zeros}
+use Rattle.call_spec.specs.Calls.{Left, called}
+use Rattle.listing.specs.Conformance.{zeros}
 use Rattle.demands.specs.Calls.{Runs, reportWritten}
-use Rattle.demands.specs.MainlineRoom.{fromMainline, DifferBelow, SaysShort, NoFurther}
-use Rattle.demands.proofs.MainlineRoom.{card9-room}
+use Rattle.demands.specs.MainlineCapacity.{fromMainline, DifferBelow, SaysShort, NoFurther}
+use Rattle.demands.proofs.MainlineCapacity.{card9-capacity}
 
 -- The low body, then the call. The records of the low body end with term k.
 unfoldable pub endless : ℕ → List (List ℕ) → List ℕ
@@ -65,7 +65,7 @@ outcome-4 : readReport (reportWritten (endlessCall idle-image)) .outcome ≡ out
 unfolding endlessCall called
     verdict inTurn requireFrom walk layout recordsOf tests find words allWithin all allOf anyBelow firstFault shape atFault leq order bits count uses depths depthsFrom typing check checkAll typeOf typeFrom typeOut
     little rec image one-domain two-domains unit number literal endless idle-image
-    program tree toTm assemble run after cases step subst carry if-room with spend picked leaves
+    program tree toTm assemble run after cases step subst carry if-capacity with spend picked leaves
     over cleared bytesOf recordsBytes numberAt numberOf
 outcome-4 = refl
 
@@ -75,5 +75,5 @@ says-short = rw outcome-4 refl
 pub short-too : NoFurther (fromMainline (recordsOf idle-image)) (endlessCall idle-image) (endlessCall printing-image)
 unfolding endlessCall
 short-too =
-    card9-room idle-image printing-image differ [] 2000 2000 (zeros 40) (zeros 40) (zeros reportLength) (zeros reportLength) (zeros workLength) (zeros workLength)
+    card9-capacity idle-image printing-image differ [] 2000 2000 (zeros 40) (zeros 40) (zeros reportLength) (zeros reportLength) (zeros workLength) (zeros workLength)
     (both-run .0) (both-run .1) says-short

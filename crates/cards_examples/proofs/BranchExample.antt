@@ -6,7 +6,7 @@ use mathlib.Core.List.{List, [], _∷_, _++_}
 use Rattle.calculus.specs.Combinators.{cases}
 use Rattle.calculus.specs.State.{Branch, picked, branchesOf}
 use Rattle.calculus.specs.Subst.{subst}
-use Rattle.calculus.specs.Answer.{carry, if-room, with, spend}
+use Rattle.calculus.specs.Answer.{carry, if-capacity, with, spend}
 use Rattle.calculus.specs.Step.{step}
 use Rattle.calculus.specs.Run.{Ended, after, run}
 use Rattle.calculus_noninterference.specs.Observe.{highOf, highBranches, CutEqual}
@@ -24,8 +24,8 @@ use Rattle.verdict.specs.Shape.{count, uses, depthsFrom, depths, shape}
 use Rattle.verdict.specs.Check.{checkAll, check, typing}
 use Rattle.verdict.specs.Verdicts.{verdict}
 use Rattle.verdict.proofs.Images.{little, rec, image, one-domain, two-domains, unit, number, literal}
-use Rattle.calls.specs.Runs.{runOf}
-use Rattle.listing.specs.Sheet.{zeros}
+use Rattle.call_spec.specs.Runs.{runOf}
+use Rattle.listing.specs.Conformance.{zeros}
 use Rattle.demands.specs.Calls.{Runs}
 use Rattle.demands.specs.Compare.{HighSet, Compared}
 use Rattle.demands.proofs.Branches.{card6}
@@ -74,7 +74,7 @@ pub branches-taken : (highBranches mainlineOnly (matchRun high-match) ≡ firstA
     × (branchesOf (matchRun high-match .state .trace) ≡ firstAt 0 ∷ []) × (branchesOf (matchRun both-match .state .trace) ≡ firstAt 1 ∷ firstAt 0 ∷ [])
 unfolding matchRun highOf walk layout recordsOf tests find words allWithin all allOf firstFault typeOf typeFrom typeOut
     little rec image one-domain two-domains unit number literal matchedUnder high-match both-match
-    program tree toTm assemble run after cases step subst carry if-room with spend picked
+    program tree toTm assemble run after cases step subst carry if-capacity with spend picked
 branches-taken = (refl, refl, refl, refl)
 
 pub branches-same : CutEqual (highBranches mainlineOnly (matchRun high-match)) (highBranches mainlineOnly (matchRun both-match))

@@ -19,7 +19,7 @@ use Rattle.verdict.specs.Check.{checkAll, check, typing}
 use Rattle.verdict.specs.Verdicts.{verdict}
 use Rattle.verdict.proofs.Images.{little, rec, image, one-domain, unit, number, literal, p2-image}
 use Rattle.write_fixed.specs.Calls.{fixedCall}
-use Rattle.listing.specs.Sheet.{zeros}
+use Rattle.listing.specs.Conformance.{zeros}
 use Rattle.demands.specs.Calls.{Runs}
 use Rattle.demands.specs.Fixed.{SameProgram}
 use Rattle.demands.proofs.Fixed.{card11}

@@ -9,7 +9,7 @@ use Rattle.calculus.specs.declared.Outcome.{Outcome}
 use Rattle.calculus.specs.Combinators.{cases}
 use Rattle.calculus.specs.State.{picked}
 use Rattle.calculus.specs.Subst.{subst}
-use Rattle.calculus.specs.Answer.{carry, if-room, with, spend}
+use Rattle.calculus.specs.Answer.{carry, if-capacity, with, spend}
 use Rattle.calculus.specs.Step.{step}
 use Rattle.calculus.specs.Run.{after, run}
 use Rattle.calculus.specs.Report.{leaves}
@@ -31,8 +31,8 @@ use Rattle.verdict.proofs.Images.{little, rec, image, one-domain, two-domains, 
 use Rattle.base_bytes.specs.Bytes.{bytesOf, numberOf, numberAt, over, cleared}
 use Rattle.report.specs.declared.Ending.{Ending}
 use Rattle.report.specs.Records.{recordsBytes}
-use Rattle.calls.specs.Runs.{programOf}
-use Rattle.calls.specs.Calls.{Left, called}
+use Rattle.call_spec.specs.Runs.{programOf}
+use Rattle.call_spec.specs.Calls.{Left, called}
 use Rattle.demands.specs.Calls.{Runs, reportWritten}
 use Rattle.demands.specs.SameBytes.{SaysDone}
 use Rattle.demands.specs.Compare.{HighSet}
@@ -68,10 +68,10 @@ unfolding strip program tree toTm assemble recordsOf layout walk tests find word
     little rec image one-domain two-domains unit number literal lowThenFive eight-image five-image
 eight-stripped = refl
 
-eight-calm : lowTakesDown mainlineOnly (programOf eight-image) ≡ false
+eight-no-low-takedown : lowTakesDown mainlineOnly (programOf eight-image) ≡ false
 unfolding lowTakesDown takesDown program tree recordsOf layout walk tests find words allWithin all allOf firstFault typeOf typeFrom typeOut
     little rec image one-domain two-domains unit number literal lowThenFive eight-image
-eight-calm = refl
+eight-no-low-takedown = refl
 
 both-run : Runs eight-image (zeros reportLength) (zeros workLength) × Runs five-image (zeros reportLength) (zeros workLength)
 unfolding verdict inTurn requireFrom walk layout recordsOf tests find words allWithin all allOf anyBelow firstFault shape atFault leq order bits count uses depths depthsFrom typing check checkAll typeOf typeFrom typeOut
@@ -81,13 +81,13 @@ both-run = (refl, refl)
 eight-done : SaysDone (reportWritten (callOf eight-image 10))
 unfolding called verdict inTurn requireFrom walk layout recordsOf tests find words allWithin all allOf anyBelow firstFault shape atFault leq order bits count uses depths depthsFrom typing check checkAll typeOf typeFrom typeOut
     little rec image one-domain two-domains unit number literal lowThenFive eight-image
-    program tree toTm assemble run after cases step subst carry if-room with spend picked leaves
+    program tree toTm assemble run after cases step subst carry if-capacity with spend picked leaves
     over cleared bytesOf numberOf numberAt recordsBytes
 eight-done = refl
 
 pub eight-shares : SharesLeft mainlineOnly (callOf eight-image 10) (callOf five-image 10)
 eight-shares =
-    card13 mainlineOnly eight-image five-image high-mainline eight-stripped eight-calm [] 10 (zeros 20) (zeros 20) (zeros reportLength) (zeros reportLength) (zeros workLength) (zeros workLength) (omega arith) refl
+    card13 mainlineOnly eight-image five-image high-mainline eight-stripped eight-no-low-takedown [] 10 (zeros 20) (zeros 20) (zeros reportLength) (zeros reportLength) (zeros workLength) (zeros workLength) (omega arith) refl
     (both-run .0) (both-run .1) eight-done
 
 -- 64 watches of domain 1, a low body, and one watch more. f installs a watch; six times a function is made of the last that calls it twice. Terms are numbered from n on.
@@ -132,6 +132,6 @@ hung-takes-down = refl
 pub hung-endings : (callOf hung-image 1000 .answer .ending ≡ Ending.Ended Outcome.Done) × (callOf unhung-image 1000 .answer .ending ≡ Ending.Ended Outcome.Advice)
 unfolding called verdict inTurn requireFrom walk layout recordsOf tests find words allWithin all allOf anyBelow firstFault shape atFault leq order bits count uses depths depthsFrom typing check checkAll typeOf typeFrom typeOut
     little rec image one-domain two-domains unit number literal hung hung-image unhung-image
-    program tree toTm assemble run after cases step subst carry if-room with spend picked leaves
+    program tree toTm assemble run after cases step subst carry if-capacity with spend picked leaves
     over cleared bytesOf recordsBytes
 hung-endings = (refl, refl)

@@ -5,7 +5,7 @@ use mathlib.Core.List.{List, [], _∷_, _++_}
 use Rattle.calculus.specs.Combinators.{cases}
 use Rattle.calculus.specs.State.{picked}
 use Rattle.calculus.specs.Subst.{subst}
-use Rattle.calculus.specs.Answer.{carry, if-room, with, spend}
+use Rattle.calculus.specs.Answer.{carry, if-capacity, with, spend}
 use Rattle.calculus.specs.Step.{step}
 use Rattle.calculus.specs.Run.{after, run}
 use Rattle.calculus.specs.Report.{leaves}
@@ -25,9 +25,9 @@ use Rattle.verdict.specs.Verdicts.{verdict}
 use Rattle.verdict.proofs.Images.{little, rec, image, one-domain, two-domains, unit, number, literal}
 use Rattle.base_bytes.specs.Bytes.{bytesOf, over, cleared}
 use Rattle.report.specs.Records.{recordsBytes}
-use Rattle.calls.specs.Runs.{programOf}
-use Rattle.calls.specs.Calls.{Left, called}
-use Rattle.listing.specs.Sheet.{zeros}
+use Rattle.call_spec.specs.Runs.{programOf}
+use Rattle.call_spec.specs.Calls.{Left, called}
+use Rattle.listing.specs.Conformance.{zeros}
 use Rattle.demands.specs.Calls.{Runs, logWritten}
 use Rattle.demands.specs.Compare.{HighSet, SameLeft}
 use Rattle.demands.specs.LowTakedowns.{takesDown, lowTakesDown, WithTakedown, same, inside, no-child, alike, low-body}
@@ -82,7 +82,7 @@ both-run = (refl, refl)
 pub takedown-logs : (logWritten (watchCall left-image) ≡ 10 ∷ 0 ∷ 64 ∷ 0 ∷ 1 ∷ 0 ∷ 5 ∷ 0 ∷ 0 ∷ 0 ∷ 10 ∷ 0 ∷ 64 ∷ 0 ∷ 0 ∷ 0 ∷ 6 ∷ 0 ∷ 0 ∷ 0 ∷ []) × (logWritten (watchCall cleared-image) ≡ 10 ∷ 0 ∷ 64 ∷ 0 ∷ 0 ∷ 0 ∷ 6 ∷ 0 ∷ 0 ∷ 0 ∷ [])
 unfolding watchCall called verdict inTurn requireFrom walk layout recordsOf tests find words allWithin all allOf anyBelow firstFault shape atFault leq order bits count uses depths depthsFrom typing check checkAll typeOf typeFrom typeOut
     little rec image one-domain two-domains unit number literal watchedOnce cleared-image left-image
-    program tree toTm assemble run after cases step subst carry if-room with spend picked leaves
+    program tree toTm assemble run after cases step subst carry if-capacity with spend picked leaves
     over cleared bytesOf recordsBytes
 takedown-logs = (refl, refl)
 

@@ -18,7 +18,7 @@ use check_core::watches::check_mark;
 use check_core::watches::check_new_label;
 use check_core::watches::check_pointcut;
 use check_core::watches::check_takedown;
-use check_objects::objects::check_call;
+use check_objects::objects::check_method_call;
 use check_objects::objects::check_object;
 use check_objects::stacks::check_keep;
 use check_objects::stacks::check_match;
@@ -74,7 +74,7 @@ pub fn check_rule(
         kinds::LOWER => check_lower(image, masks, terms, descriptors, at, fields, c),
         kinds::ABORT => Verdict::Accepted,
         kinds::OBJECT => check_object(image, types, terms, descriptors, at, fields),
-        kinds::CALL => check_call(image, types, terms, descriptors, at, fields, c),
+        kinds::CALL => check_method_call(image, types, terms, descriptors, at, fields, c),
         kinds::STACK => check_stack(image, descriptors, at, fields),
         kinds::KEEP => check_keep(image, terms, descriptors, at, fields, c),
         kinds::MATCH => check_match(image, terms, descriptors, at, fields),

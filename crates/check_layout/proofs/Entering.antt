@@ -27,16 +27,16 @@ use Rattle.image.proofs.Counts.{fields-length}
 use Rattle.read_records.proofs.Heads.{Whole, whole-of}
 use Rattle.read_records.proofs.Parts.{part-length, children-fit, children-are}
 use Rattle.check_layout.specs.declared.Entry.{Entry}
-use Rattle.check_ranges.specs.declared.tests.Tested.{Tested}
+use Rattle.check_ranges.specs.declared.faults.Tested.{Tested}
 use Rattle.check_fields.specs.Fields.{typeCount, Narrow, DescriptorFrom}
 use Rattle.check_ranges.specs.Ranges.{rangesFrom, groupsFrom, classesPast}
-use Rattle.check_ranges.specs.Numbers.{lengthFits, Held, roomFits, numberTests, toldOf}
+use Rattle.check_ranges.specs.Numbers.{lengthFits, Held, capacityFits, numberTests, toldOf}
 use Rattle.check_layout.specs.NewTypes.{newType}
 use Rattle.check_layout.specs.Tables.{layoutOf, Tables, Filters, Placed, PutType, entering, Marks, Entering, Entered, entryFor, EntersTerm}
 use Rattle.check_ranges.proofs.Numbers.{fits-held}
 use Rattle.check_layout.proofs.Descriptors.{not-repeated, old-descriptor, new-descriptor}
 use Rattle.check_layout.proofs.Filter.{filters-more}
-use Rattle.check_layout.proofs.Parts.{descriptor-part}
+use Rattle.check_layout.proofs.RecordFields.{descriptor-part}
 use Rattle.check_layout.proofs.Narrow.{type-counted, narrow}
 use Rattle.image.specs.LaidOut.{Stands}
 use Rattle.image.proofs.Laid.{stands, Passes, tests-passed, add-good}
@@ -44,9 +44,9 @@ use Rattle.read_records.specs.Heads.{fieldBytes, childrenOf, Fitting}
 use Rattle.read_records.specs.Heads as Heads
 use Rattle.check_layout.proofs.Sections.{right-length}
 use Rattle.check_layout.proofs.NewTypes.{reached-good, types-placed, new-law}
-use Rattle.check_marks.specs.Marks.{Lower, entered, marksOf}
-use Rattle.check_marks.proofs.ChildByChild.{marks-same}
-use Rattle.check_marks.proofs.UseCounts.{marks-length}
+use Rattle.check_uses.specs.Marks.{Lower, entered, marksOf}
+use Rattle.check_uses.proofs.ChildByChild.{marks-same}
+use Rattle.check_uses.proofs.UseCounts.{marks-length}
 use Rattle.check_ranges.specs.Terms.{TermFields}
 use Rattle.check_layout.proofs.Marked.{last-lower, last-marked}
 use Rattle.check_layout.proofs.Kept.{term-count, domain-more, term-more, type-more, domain-kept, term-kept, type-kept}
@@ -187,8 +187,8 @@ module _ {b fs kinds : List ℕ} {o q k : ℕ} {n : Counts} {ds ts ks : List ℕ
     pub fits : lengthFits (codeAt k) q ≡ true
     fits = rw full at (passed _ _ _ (sym h) .0)
 
-    pub room : roomFits (sectionOf (codeAt k)) n ≡ true
-    room = passed _ _ _ (passed _ _ _ (passed _ _ _ (sym h) .1) .1) .0
+    pub capacity : capacityFits (sectionOf (codeAt k)) n ≡ true
+    capacity = passed _ _ _ (passed _ _ _ (passed _ _ _ (sym h) .1) .1) .0
 
     right : lengthFits (codeAt k) (length fs + 4) ≡ true
     right = rw (← full) at fits
@@ -236,25 +236,25 @@ module _ {b fs kinds : List ℕ} {o q k : ℕ} {n : Counts} {ds ts ks : List ℕ
           marks = M′;
         }
 
-    room-at : (s : ℕ) → sectionOf (codeAt k) ≡ s → roomFits s n ≡ true
-    room-at s e = ap (λ x. roomFits x n) (sym e) ∙ room
+    capacity-at : (s : ℕ) → sectionOf (codeAt k) ≡ s → capacityFits s n ≡ true
+    capacity-at s e = ap (λ x. capacityFits x n) (sym e) ∙ capacity
 
     -- A record of neither section 3 nor section 2 is a domain's.
     known-domain : (sectionOf (codeAt k) ≡ 3 → ⊥) → (sectionOf (codeAt k) ≡ 2 → ⊥) → kindOf (numberAt b o) ≡ some domain
     known-domain a c = let K = known-kind u in let P = kind-packs (K .kind) (K .is) in K .is ∙ ap some (is-domain (K .kind) (λ e. a (P .section ∙ e)) (λ e. c (P .section ∙ e)))
 
-    pub domain-room : (sectionOf (codeAt k) ≡ 3 → ⊥) → (sectionOf (codeAt k) ≡ 2 → ⊥) → n .domains < domainLimit
-    domain-room a c = lt-of (room-at 1 (kind-packs domain (known-domain a c) .section))
+    pub domain-capacity : (sectionOf (codeAt k) ≡ 3 → ⊥) → (sectionOf (codeAt k) ≡ 2 → ⊥) → n .domains < domainLimit
+    domain-capacity a c = lt-of (capacity-at 1 (kind-packs domain (known-domain a c) .section))
 
-    pub type-room : sectionOf (codeAt k) ≡ 2 → n .types < typeLimit
-    type-room e = lt-of (room-at 2 e)
+    pub type-capacity : sectionOf (codeAt k) ≡ 2 → n .types < typeLimit
+    type-capacity e = lt-of (capacity-at 2 e)
 
-    pub term-room : sectionOf (codeAt k) ≡ 3 → n .terms < termLimit
-    term-room e = lt-of (room-at 3 e)
+    pub term-capacity : sectionOf (codeAt k) ≡ 3 → n .terms < termLimit
+    term-capacity e = lt-of (capacity-at 3 e)
 
     pub domain-entry : (sectionOf (codeAt k) ≡ 3 → ⊥) → (sectionOf (codeAt k) ≡ 2 → ⊥) → Entered (Entry.Laid (withDomain n)) b o n ds ts es (set ds (n .domains) o) ts ks rs es ms
     domain-entry a c =
-        let m = domain-room a c in
+        let m = domain-capacity a c in
         enters domain (known-domain a c) refl (withDomain n) _ ts ks rs es ms (domain-more (R .tables) o m) (domain-kept (R .tables) o m) (R .filter) (same-marks (n .domains + 1) (n .types) _ ts)
 
     -- A record of section 3 is a term's, with the children that the definition gives it.
@@ -262,7 +262,7 @@ module _ {b fs kinds : List ℕ} {o q k : ℕ} {n : Counts} {ds ts ks : List ℕ
     term-entry s =
         let t = known-term u s in
         let K = t .kind in
-        let m = term-room s in
+        let m = term-capacity s in
         let c = term-count (R .tables) in
         let l = term-more (R .tables) o K m in
         let w : marksOf (add (term K) o L) (suc (n .terms)) ≡ entered (childrenAt b o (termRow K)) (n .terms) (marksOf L (n .terms)) = subst (λ x. marksOf (add (term K) o L) (suc x) ≡ entered (childrenAt b o (termRow K)) x (marksOf L x)) c (last-marked L o K (at-kind (term K) (t .is))) in
@@ -311,7 +311,7 @@ module _ {b fs kinds : List ℕ} {o q k : ℕ} {n : Counts} {ds ts ks : List ℕ
         pub type-entry : t ≡ Tested.Passed → Entered (Entry.Laid (withType n)) b o n ds ts es ds ts′ ks′ rs′ es ms
         type-entry e =
             let a : newType b fs (n .types) ts ks x ≡ true = new-descriptor _ (ap toldOf (sym e) ∙ p .answer) in
-            let m = type-room s in
+            let m = type-capacity s in
             let l = R .tables .long .descriptors in
             rw (p .types, p .descriptors, p .filter, a)
             (enters (type (type-is .kind)) (type-is .is) (new ∙ a) (withType n) ds _ _ _ es ms (type-more (R .tables) o (type-is .kind) m) (type-kept (R .tables) o (type-is .kind) x m descriptor-is) (filters-more (R .filter) x (omega arith)) (same-marks (n .domains) (n .types + 1) ds _))

@@ -46,9 +46,9 @@ module _ {n : ℕ} {ks : List ℕ} {rs : List Bool} (N : Filters n ks rs) (x : �
   pub filters-more : n < length ks → Filters (n + 1) (set ks n x) (set rs (x % remainders) true)
   filters-more l = record { places = rw (length-set rs (x % remainders) true) (N .places); at = λ i m. go i m (ltb i n) refl }
     where
-      room : x % remainders < length rs
-      room = let p = N .places in omega arith
+      capacity : x % remainders < length rs
+      capacity = let p = N .places in omega arith
 
       go : (i : ℕ) → i < n + 1 → (t : Bool) → ltb i n ≡ t → getD (set rs (x % remainders) true) (getD (set ks n x) i 0 % remainders) false ≡ true
-      go i m true e = let z : i < n = lt-of e in rw (getD-set-other ks n i x 0 (λ q. absurd (omega arith))) (stays rs (x % remainders) _ room (N .at i z))
-      go i m false e = let g : n ≤ i = ge-of e in let z : i ≡ n = omega arith in rw (z, getD-set-same ks n x 0 l, getD-set-same rs (x % remainders) true false room)
+      go i m true e = let z : i < n = lt-of e in rw (getD-set-other ks n i x 0 (λ q. absurd (omega arith))) (stays rs (x % remainders) _ capacity (N .at i z))
+      go i m false e = let g : n ≤ i = ge-of e in let z : i ≡ n = omega arith in rw (z, getD-set-same ks n x 0 l, getD-set-same rs (x % remainders) true false capacity)

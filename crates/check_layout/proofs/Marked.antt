@@ -14,17 +14,17 @@ use Rattle.image.specs.Kinds.{TermKind, term, termRow}
 use Rattle.image.specs.Records.{Layout, kindAt, childrenAt}
 use Rattle.image.specs.Layout.{add}
 use Rattle.image.specs.Types.{termKindOf, children}
-use Rattle.image.proofs.Laid.{Below, Good}
+use Rattle.image.proofs.Laid.{Below, LayoutOk}
 use Rattle.read_records.specs.declared.numbers.Counts.{Counts}
 use Rattle.read_records.specs.Counts.{withTerm}
 use Rattle.read_records.specs.Codes.{sectionOf}
 use Rattle.read_records.specs.Heads.{childrenOf}
-use Rattle.check_marks.specs.Marks.{Lower, entered, marksOf}
-use Rattle.check_marks.proofs.ChildByChild.{below-lower, marks-same}
-use Rattle.check_ranges.specs.declared.tests.Tested.{Tested}
+use Rattle.check_uses.specs.Marks.{Lower, entered, marksOf}
+use Rattle.check_uses.proofs.ChildByChild.{below-lower, marks-same}
+use Rattle.check_ranges.specs.declared.faults.Tested.{Tested}
 use Rattle.check_ranges.specs.Numbers.{numberTests, toldOf}
 use Rattle.check_ranges.specs.Terms.{marksBehind}
-use Rattle.check_ranges.proofs.Taken.{term-room}
+use Rattle.check_ranges.proofs.Taken.{term-capacity}
 use Rattle.check_layout.specs.declared.Entry.{Entry}
 use Rattle.check_layout.specs.Tables.{entryFor, EntersTerm}
 
@@ -49,7 +49,7 @@ module _ (L : Layout) (o : ℕ) (k : TermKind) (e : kindAt (L .image) o ≡ term
       let p : getD (M .terms) m 0 ≡ o = rw z at (getD-append-add (L .terms) (o ∷ []) 0 0) in
       ap at-place p ∙ ap (λ j. childrenAt (L .image) o (termRow (termKindOf j))) e
 
-  pub last-lower : Good M → Lower m (childrenAt (L .image) o (termRow k))
+  pub last-lower : LayoutOk M → Lower m (childrenAt (L .image) o (termRow k))
   last-lower g =
       let n = length-append (L .terms) (o ∷ []) in
       below-lower m _ (subst (λ es. Below m es) last (g .terms m (omega arith) .below))
@@ -75,8 +75,8 @@ module _ (fs : List ℕ) (x : ℕ) (n : Counts) (r : Tested) (a : toldOf r ≡ f
     passes : none ≡ firstFault (numberTests fs x n)
     passes = ap toldOf (sym e) ∙ a
 
-    pub passed-room : sectionOf x ≡ 3 → n .terms < termLimit
-    passed-room s = term-room x n s (passed _ _ _ (passed _ _ _ (passed _ _ _ (sym passes) .1) .1) .0)
+    pub passed-capacity : sectionOf x ≡ 3 → n .terms < termLimit
+    passed-capacity s = term-capacity x n s (passed _ _ _ (passed _ _ _ (passed _ _ _ (sym passes) .1) .1) .0)
 
     pub term-passed : {m : Counts} → m ≡ withTerm n → {o : ℕ} {es es′ : List ℕ} → es′ ≡ set es (n .terms) o → {ms ms′ : List ℕ} → ms′ ≡ behind-it ms → EntersTerm (Entry.Laid m) fs x o n es ms es′ ms′
     term-passed c d {ms} b =

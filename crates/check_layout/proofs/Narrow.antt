@@ -23,7 +23,7 @@ use Rattle.check_fields.specs.Fields.{typeCount, Narrow, fieldFrom}
 use Rattle.check_ranges.specs.Ranges.{inClass, rangesFrom, groupsFrom, classesPast}
 use Rattle.check_ranges.specs.Numbers.{lengthFits}
 use Rattle.check_ranges.proofs.Numbers.{fits-exact}
-use Rattle.check_layout.proofs.Parts.{classes-past}
+use Rattle.check_layout.proofs.RecordFields.{classes-past}
 
 -- Every field of a type is a type or a domain; none stands behind the first ones and the group.
 abbrev named : List Field → Bool

@@ -23,7 +23,7 @@ use Rattle.image.proofs.KindNumbers.{same-kind}
 use Rattle.image.proofs.EveryKind.{everyOf, at-type, or-else}
 use Rattle.image.proofs.Words.{words-length}
 use Rattle.image.proofs.Offsets.{number-at}
-use Rattle.image.proofs.Laid.{same-numbers, numbers-same, kind-number, Passes, tests-passed, Good, add-good, nothing-good, same-image}
+use Rattle.image.proofs.Laid.{same-numbers, numbers-same, kind-number, Passes, tests-passed, LayoutOk, add-good, nothing-good, same-image}
 use Rattle.read_records.specs.declared.numbers.Counts.{Counts}
 use Rattle.read_records.specs.Heads.{IsWhole, fieldsAt, fieldIn}
 use Rattle.read_records.specs.Descriptors.{descriptorKind, Describes}
@@ -39,7 +39,7 @@ reached-image : {b : List ℕ} {o : ℕ} {L : Layout} → Reached b o L → L .i
 reached-image Reached.start = refl
 reached-image {b} (Reached.next {o} {L} r l t) = same-image L o (kindAt b o) ∙ reached-image r
 
-pub reached-good : {b : List ℕ} {o : ℕ} {L : Layout} → Reached b o L → Good L
+pub reached-good : {b : List ℕ} {o : ℕ} {L : Layout} → Reached b o L → LayoutOk L
 reached-good {b} Reached.start = nothing-good b
 reached-good {b} (Reached.next {o} {L} r l t) =
     let e : kindAt (L .image) o ≡ kindAt b o = ap (λ i. kindAt i o) (reached-image r) in
@@ -105,7 +105,7 @@ and-same : (a b c : Bool) → (a ≡ true → b ≡ c) → (a && b) ≡ (a && c)
 and-same true b c h = h refl
 and-same false b c h = refl
 
-module _ {b : List ℕ} {n : Counts} {ds ts ks es : List ℕ} (T : Tables b n ds ts ks es) (good : Good (layoutOf b n ds ts es)) where
+module _ {b : List ℕ} {n : Counts} {ds ts ks es : List ℕ} (T : Tables b n ds ts ks es) (good : LayoutOk (layoutOf b n ds ts es)) where
   abbrev L : Layout
   L = layoutOf b n ds ts es
 

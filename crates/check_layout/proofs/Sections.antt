@@ -9,14 +9,14 @@ use Rattle.calculus.specs.Combinators.{choose}
 use Rattle.image.specs.Kinds.{Field, Kind, domain, type, term, rowOf}
 use Rattle.laws.specs.Tests.{allOf, allBelow}
 use Rattle.image.specs.Records.{Layout, times, knownLength}
-use Rattle.image.specs.Layout.{longEnough, rightLength, isNil, inOrder, hasRoom}
+use Rattle.image.specs.Layout.{longEnough, rightLength, isNil, inOrder, hasCapacity}
 use Rattle.laws.proofs.Booleans.{same-truth}
 use Rattle.laws.proofs.Tests.{all-of, of-all, all-below, below-all}
 use Rattle.image.proofs.Counts.{fields-length}
 use Rattle.read_records.specs.declared.numbers.Counts.{Counts}
 use Rattle.read_records.specs.Codes.{sectionNumber, sectionOf}
 use Rattle.read_records.proofs.Codes.{Packs}
-use Rattle.check_ranges.specs.Numbers.{lengthFits, orderFits, roomFits}
+use Rattle.check_ranges.specs.Numbers.{lengthFits, orderFits, capacityFits}
 
 -- 4
 long-enough : (gs : List Field) (m n : ℕ) → longEnough gs m n ≡ choose (eqb (length gs) 0) (leb m n) (eqb n m)
@@ -43,13 +43,13 @@ module _ (L : Layout) (n : Counts) (types : length (L .types) ≡ n .types) (dom
   in-order (term k) = refl
 
   -- 6
-  has-room : (k : Kind) → hasRoom k L ≡ roomFits (sectionNumber k) n
-  has-room domain = rw domains
-  has-room (type k) = rw types
-  has-room (term k) = rw terms
+  has-capacity : (k : Kind) → hasCapacity k L ≡ capacityFits (sectionNumber k) n
+  has-capacity domain = rw domains
+  has-capacity (type k) = rw types
+  has-capacity (term k) = rw terms
 
   pub order-law : (k : Kind) (x : ℕ) → Packs k x → inOrder k L ≡ orderFits (sectionOf x) n
   order-law k x P = in-order k ∙ ap (λ s. orderFits s n) (sym (P .section))
 
-  pub room-law : (k : Kind) (x : ℕ) → Packs k x → hasRoom k L ≡ roomFits (sectionOf x) n
-  room-law k x P = has-room k ∙ ap (λ s. roomFits s n) (sym (P .section))
+  pub capacity-law : (k : Kind) (x : ℕ) → Packs k x → hasCapacity k L ≡ capacityFits (sectionOf x) n
+  capacity-law k x P = has-capacity k ∙ ap (λ s. capacityFits s n) (sym (P .section))

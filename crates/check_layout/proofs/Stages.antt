@@ -17,7 +17,7 @@ use Rattle.read_records.specs.Counts.{noRecords}
 use Rattle.read_records.specs.declared.reader.Head.{Head}
 use Rattle.read_records.specs.Heads.{headAt}
 use Rattle.read_records.proofs.Heads.{at-end, whole-of, broken-of}
-use Rattle.check_marks.specs.Marks.{marksOf}
+use Rattle.check_uses.specs.Marks.{marksOf}
 use Rattle.check_layout.specs.declared.Scan.{Scan}
 use Rattle.check_layout.specs.declared.Entry.{Entry}
 use Rattle.check_layout.specs.Tables.{layoutOf, remainders, Filters, entryOf, countsBehind, Marks, Entered, Lent, Reached, scanOf, endOf, Holds, ScannedWith}

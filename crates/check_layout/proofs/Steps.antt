@@ -11,7 +11,7 @@ use Rattle.laws.specs.Tests.{all, firstFault}
 use Rattle.image.specs.Bytes.{words, lengthAt, numberAt}
 use Rattle.image.specs.Kinds.{Kind, Row, rowOf, kindOf, fieldsOf}
 use Rattle.image.specs.Records.{times, Layout}
-use Rattle.image.specs.Layout.{framed, rightLength, inOrder, hasRoom, allWithin, inRange, isNew, tests}
+use Rattle.image.specs.Layout.{framed, rightLength, inOrder, hasCapacity, allWithin, inRange, isNew, tests}
 use Rattle.laws.proofs.Booleans.{no-path}
 use Rattle.read_records.specs.declared.numbers.Counts.{Counts}
 use Rattle.read_records.specs.Codes.{classNumbers, timesIn, codeAt}
@@ -22,8 +22,8 @@ use Rattle.read_records.proofs.Parts.{bytes-length}
 use Rattle.check_ranges.specs.Numbers.{lengthFits, rangeFits, numberTests}
 use Rattle.check_layout.specs.Tables.{layoutOf, Tables}
 use Rattle.check_ranges.proofs.Numbers.{four, fits-size}
-use Rattle.check_layout.proofs.Parts.{classes-past, past-both, all-part}
-use Rattle.check_layout.proofs.Sections.{right-length, order-law, room-law}
+use Rattle.check_layout.proofs.RecordFields.{classes-past, past-both, all-part}
+use Rattle.check_layout.proofs.Sections.{right-length, order-law, capacity-law}
 use Rattle.check_layout.proofs.Kept.{type-count, domain-count, term-count}
 
 -- 4 to 8, of which 7 need only be the same where 4 holds.
@@ -54,7 +54,7 @@ module _ {b : List ℕ} {o q k : ℕ} (W : Whole b o q k) {n : Counts} {ds ts ks
   unknown e = rw (W .framed, e)
 
   known-tests : (K : Kind) → kindOf (numberAt b o) ≡ some K
-      → firstFault (tests L o) ≡ firstFault (five (rightLength (rowOf K) (lengthAt b o)) (inOrder K L) (hasRoom K L) (inRange L o (rowOf K)) (isNew K o L))
+      → firstFault (tests L o) ≡ firstFault (five (rightLength (rowOf K) (lengthAt b o)) (inOrder K L) (hasCapacity K L) (inRange L o (rowOf K)) (isNew K o L))
   unfolding tests firstFault five
   known-tests K e = rw (W .framed, e)
 
@@ -85,5 +85,5 @@ module _ {b : List ℕ} {o q k : ℕ} (W : Whole b o q k) {n : Counts} {ds ts ks
       let full : length (fieldsAt b o) + 4 ≡ lengthAt b o = let z = bytes-length b o (omega arith, omega arith) in omega arith in
       let x = right-length K (codeAt (numberAt b o)) (lengthAt b o) P in
       let y = order-law L n (type-count T) (domain-count T) (term-count T) K (codeAt (numberAt b o)) P in
-      let z = room-law L n (type-count T) (domain-count T) (term-count T) K (codeAt (numberAt b o)) P in
+      let z = capacity-law L n (type-count T) (domain-count T) (term-count T) K (codeAt (numberAt b o)) P in
       rw (W .len, W .kind, full) (known-tests K e ∙ rw (x, y, z) (same-five _ _ _ _ _ _ (range-law K e)))

@@ -20,10 +20,10 @@ use Rattle.read_records.specs.Counts.{Few, withTerm}
 use Rattle.read_records.specs.Heads.{headAt, fieldBytes, IsWhole, childrenOf}
 use Rattle.read_records.specs.Codes.{kindCodes}
 use Rattle.read_records.specs.Descriptors.{Describes}
-use Rattle.check_marks.specs.Marks.{entered, marksOf}
+use Rattle.check_uses.specs.Marks.{entered, marksOf}
 use Rattle.check_layout.specs.declared.Scan.{Scan}
 use Rattle.check_layout.specs.declared.Entry.{Entry}
-use Rattle.check_ranges.specs.declared.tests.Tested.{Tested}
+use Rattle.check_ranges.specs.declared.faults.Tested.{Tested}
 use Rattle.check_layout.specs.NewTypes.{newType}
 use Rattle.check_ranges.specs.Numbers.{toldOf, numberTests}
 

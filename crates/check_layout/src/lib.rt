@@ -9,8 +9,8 @@ ghost use Rattle.read_records.specs.Counts.{Few};
 ghost use Rattle.check_ranges.specs.Terms.{TermFields};
 ghost use Rattle.check_layout.specs.Tables.{remainders, Lent, Scanned, ScannedWith, Enterable, Enters, EntersTerm};
 
-pub mod objects;
-pub mod places;
+pub mod new_types;
+pub mod tables;
 
 // Refused, at a record's offset; or all records are in the tables, so many of each section.
 pub enum Scan {
@@ -38,9 +38,9 @@ fn enter_term(
 {
     let tested = check_ranges::terms::term_fault(fields, code, counts, marks);
     match tested {
-        check_ranges::tests::Tested::Fault(why) => Entry::Fault(why),
-        check_ranges::tests::Tested::Passed => {
-            places::put_term(at, counts.next_term(), terms);
+        check_ranges::faults::Tested::Fault(why) => Entry::Fault(why),
+        check_ranges::faults::Tested::Passed => {
+            tables::put_term(at, counts.next_term(), terms);
             Entry::Laid(counts.with_term())
         }
     }
@@ -71,16 +71,16 @@ fn enter(
     if read_records::table::is_term(code) {
         return enter_term(fields, code, at, counts, terms, marks);
     }
-    let tested = check_ranges::tests::first_fault(fields, code, counts);
+    let tested = check_ranges::faults::first_fault(fields, code, counts);
     match tested {
-        check_ranges::tests::Tested::Fault(why) => {
+        check_ranges::faults::Tested::Fault(why) => {
             return Entry::Fault(why);
         }
-        check_ranges::tests::Tested::Passed => {}
+        check_ranges::faults::Tested::Passed => {}
     }
     if read_records::table::section_of(code) == read_records::table::TYPES {
         let descriptor = check_fields::descriptor_of(fields, code, kind);
-        let new = places::put_type(
+        let new = tables::put_type(
             image,
             fields,
             at,
@@ -91,15 +91,15 @@ fn enter(
             filter,
         );
         match new {
-            check_ranges::tests::Tested::Fault(why) => {
+            check_ranges::faults::Tested::Fault(why) => {
                 return Entry::Fault(why);
             }
-            check_ranges::tests::Tested::Passed => {
+            check_ranges::faults::Tested::Passed => {
                 return Entry::Laid(counts.with_type());
             }
         }
     }
-    places::put_domain(at, counts.next_domain(), doms);
+    tables::put_domain(at, counts.next_domain(), doms);
     Entry::Laid(counts.with_domain())
 }
 

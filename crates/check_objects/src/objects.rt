@@ -152,7 +152,7 @@ fn call_fits(
 }
 
 // A call of a method that runs at the current domain; the method's number stands behind the object.
-pub fn check_call(
+pub fn check_method_call(
     image: &[u8],
     types: &[u16],
     terms: &[u16],

@@ -14,7 +14,7 @@ use Rattle.image.specs.Kinds.{TermKind, term}
 use Rattle.read_records.specs.declared.numbers.Counts.{Counts}
 use Rattle.read_records.specs.Codes.{classNumbers, codeOf}
 use Rattle.read_records.specs.Heads.{fieldIn, childrenOf}
-use Rattle.check_marks.specs.Marks.{entered}
+use Rattle.check_uses.specs.Marks.{entered}
 use Rattle.check_ranges.specs.Ranges.{rangesFrom, groupsFrom, classesPast}
 use Rattle.check_ranges.specs.Numbers.{rangeFits}
 

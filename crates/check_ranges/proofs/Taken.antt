@@ -8,7 +8,7 @@ use Rattle.image.specs.Limits.{termLimit}
 use Rattle.laws.proofs.Booleans.{and-l, and-r, lt-of}
 use Rattle.read_records.specs.declared.numbers.Counts.{Counts}
 use Rattle.read_records.specs.Codes.{sectionOf}
-use Rattle.check_ranges.specs.Numbers.{orderFits, roomFits}
+use Rattle.check_ranges.specs.Numbers.{orderFits, capacityFits}
 
 -- An answer is yes: both of its parts are; the child is there.
 pub both-told : (a b : Bool) {r : Bool} → r ≡ (a && b) → r ≡ true → (a ≡ true) × (b ≡ true)
@@ -22,5 +22,5 @@ module _ (x : ℕ) (n : Counts) (e : sectionOf x ≡ 3) where
   pub term-ordered : orderFits (sectionOf x) n ≡ true
   term-ordered = ap (λ s. orderFits s n) e
 
-  pub term-room : roomFits (sectionOf x) n ≡ true → n .terms < termLimit
-  term-room h = lt-of (ap (λ s. roomFits s n) (sym e) ∙ h)
+  pub term-capacity : capacityFits (sectionOf x) n ≡ true → n .terms < termLimit
+  term-capacity h = lt-of (ap (λ s. capacityFits s n) (sym e) ∙ h)

@@ -11,7 +11,7 @@ use Rattle.laws.specs.Tests.{all}
 use Rattle.calculus.specs.Combinators.{choose}
 use Rattle.read_records.specs.Codes.{groupOf, lastOf, leastOf, classesOf, sectionOf, firstOf, groupLimit, mostOf, timesIn}
 use Rattle.read_records.specs.declared.numbers.Counts.{Counts}
-use Rattle.check_ranges.specs.declared.tests.Tested.{Tested}
+use Rattle.check_ranges.specs.declared.faults.Tested.{Tested}
 use Rattle.check_ranges.specs.Ranges.{rangesFrom, groupsFrom, classesPast}
 
 -- 4: a length; the group stands as often as it says, and without one there may be more bytes than the known fields take (card 1).
@@ -33,8 +33,8 @@ Held x n = 2 * (firstOf x + (timesIn x n * groupOf x + lastOf x)) ≤ n
 abbrev pub orderFits : ℕ → Counts → Bool
 orderFits s n = choose (eqb s 3) true (choose (eqb s 2) (eqb (n .terms) 0) (all (eqb (n .types) 0 ∷ eqb (n .terms) 0 ∷ [])))
 
-abbrev pub roomFits : ℕ → Counts → Bool
-roomFits s n = choose (eqb s 3) (ltb (n .terms) termLimit) (choose (eqb s 2) (ltb (n .types) typeLimit) (ltb (n .domains) domainLimit))
+abbrev pub capacityFits : ℕ → Counts → Bool
+capacityFits s n = choose (eqb s 3) (ltb (n .terms) termLimit) (choose (eqb s 2) (ltb (n .types) typeLimit) (ltb (n .domains) domainLimit))
 
 -- 7: the first fields, the group's each time that it stands, and the last ones.
 abbrev pub rangeFits : List ℕ → ℕ → Counts → Bool
@@ -51,7 +51,7 @@ abbrev pub numberTests : List ℕ → ℕ → Counts → List (Refusal × Bool)
 numberTests fs code n =
     (Refusal.WrongLength, lengthFits code (length fs + 4))
     ∷ (Refusal.SectionOrder, orderFits (sectionOf code) n)
-    ∷ (Refusal.TooManyRecords, roomFits (sectionOf code) n)
+    ∷ (Refusal.TooManyRecords, capacityFits (sectionOf code) n)
     ∷ (Refusal.FieldRange, rangeFits fs code n)
     ∷ []
 

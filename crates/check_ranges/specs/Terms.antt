@@ -1,4 +1,4 @@
--- 4 to 7 of a term (document 01, "Turned back at the gate"), and its marks, which the crate check_marks defines.
+-- 4 to 7 of a term (document 01, "Turned back at the gate"), and its marks, which the crate check_uses defines.
 use Prim.Native.Nat.{ℕ, _+_}
 use mathlib.Core.Path.{_≡_}
 use mathlib.Core.Bool.{true}
@@ -9,8 +9,8 @@ use Rattle.laws.specs.Tests.{firstFault}
 use Rattle.read_records.specs.declared.numbers.Counts.{Counts}
 use Rattle.read_records.specs.Codes.{sectionOf, Sized}
 use Rattle.read_records.specs.Heads.{childrenOf, Fitting}
-use Rattle.check_marks.specs.Marks.{Lower, entered}
-use Rattle.check_ranges.specs.declared.tests.Tested.{Tested}
+use Rattle.check_uses.specs.Marks.{Lower, entered}
+use Rattle.check_ranges.specs.declared.faults.Tested.{Tested}
 use Rattle.check_ranges.specs.Numbers.{lengthFits, rangeFits, numberTests}
 
 -- Fields of a record with the code x, behind so many records: if they pass 7, the children among them are lower terms.

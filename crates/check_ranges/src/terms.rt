@@ -1,18 +1,18 @@
 // 4 to 7 of a term, and its marks: those of its children, which are used once more, and its own, the height. A frequent kind has
 // both in straight line, since its fields are known from the code.
+use crate::faults::Tested;
 use crate::ranges::OPERATIONS;
 use crate::ranges::all_in_range;
 use crate::ranges::children_in_range;
-use crate::tests::Tested;
 use check_fields::below;
 use check_fields::names_domain;
 use check_fields::names_term;
 use check_fields::names_type;
-use check_marks::children::enter_children;
-use check_marks::children::enter_leaf;
-use check_marks::children::enter_one;
-use check_marks::children::enter_three;
-use check_marks::children::enter_two;
+use check_uses::children::enter_children;
+use check_uses::children::enter_leaf;
+use check_uses::children::enter_one;
+use check_uses::children::enter_three;
+use check_uses::children::enter_two;
 use laws::both;
 use read_records::fields::term_field;
 use read_records::numbers::Counts;
@@ -37,7 +37,7 @@ ghost use Rattle.laws.specs.Tests.{firstFault};
 ghost use Rattle.read_records.specs.Counts.{Few};
 ghost use Rattle.read_records.specs.Codes.{Sized};
 ghost use Rattle.read_records.specs.Heads.{fieldIn, childrenOf, Fitting};
-ghost use Rattle.check_marks.specs.Marks.{Lower, entered};
+ghost use Rattle.check_uses.specs.Marks.{Lower, entered};
 ghost use Rattle.check_ranges.specs.Ranges.{groupsFrom};
 ghost use Rattle.check_ranges.specs.Numbers.{Held, rangeFits, numberTests, toldOf};
 ghost use Rattle.check_ranges.specs.Terms.{ChildrenLower, TermFields, marksBehind};
@@ -198,10 +198,10 @@ pub fn term_fault(fields: &[u8], code: u32, counts: Counts, marks: &mut [u8]) ->
     requires { ⌜ (length (now fields) ≤ 65535) × TermFields (now fields) code counts × Few counts × (termLimit ≤ length (now marks)) ⌝ }
     ensures { λ r. ⌜ (toldOf r ≡ firstFault (numberTests (now (fields .entry)) code counts)) × (now (marks .exit) ≡ marksBehind r (childrenOf code (now (fields .entry))) (counts .terms) (now (marks .entry))) ⌝ }
 {
-    if !crate::tests::right_length(code, fields.len() + 4) {
+    if !crate::faults::right_length(code, fields.len() + 4) {
         return Tested::Fault(image::Refusal::WrongLength);
     }
-    if !crate::tests::has_room(code, counts) {
+    if !crate::faults::has_capacity(code, counts) {
         return Tested::Fault(image::Refusal::TooManyRecords);
     }
     if !take(fields, code, counts, marks) {

@@ -126,7 +126,7 @@ module _ {b descriptors fs scope : List ℕ} {len c : ℕ} (T : Types b descript
 
   pub function-at : ChildAt b fs TermKind.fun 0 scope (set scope len (descriptorField0 (ownDescriptor descriptors fs))) len c (len + 1) (descriptorField1 (ownDescriptor descriptors fs))
   function-at =
-      let r = P .room in
+      let r = P .capacity in
       let l = P .places in
       let x : typeField (recordsOf b) (fieldIn fs 0) 0 ≡ descriptorField0 (ownDescriptor descriptors fs) = part-is T (P .typed .type) 0 in
       let y : typeField (recordsOf b) (fieldIn fs 0) 1 ≡ descriptorField1 (ownDescriptor descriptors fs) = part-is T (P .typed .type) 1 in
@@ -154,7 +154,7 @@ module _ {b terms descriptors fs scope : List ℕ} {len c : ℕ} (G : Lent b ter
   pub advice-at : ChildAt b fs TermKind.adv 1 scope (set scope len (descriptorField0 (descriptorAtField b descriptors fs 1))) len c (len + 1) (descriptorField0 (ownDescriptor descriptors fs))
   unfolding words
   advice-at =
-      let r = P .room in
+      let r = P .capacity in
       let l = P .places in
       let x : typeField (recordsOf b) (typeAtField b fs 1) 0 ≡ descriptorField0 (descriptorAtField b descriptors fs 1) = part-is (G .types) (at-field-typed G (P .children 0 (lit< tt))) 0 in
       let y : typeField (recordsOf b) (fieldIn fs 0) 0 ≡ descriptorField0 (ownDescriptor descriptors fs) = part-is (G .types) (P .typed .type) 0 in
@@ -182,7 +182,7 @@ module _ {b terms descriptors fs scope : List ℕ} {len c : ℕ} (G : Lent b ter
   pub split-at : ChildAt b fs TermKind.split 1 scope (set (set scope len (descriptorField0 (descriptorAtField b descriptors fs 1))) (len + 1) (descriptorField1 (descriptorAtField b descriptors fs 1))) len c (len + 2) c
   unfolding words
   split-at =
-      let r = P .room in
+      let r = P .capacity in
       let l = P .places in
       let first : ℕ = descriptorField0 (descriptorAtField b descriptors fs 1) in
       let second : ℕ = descriptorField1 (descriptorAtField b descriptors fs 1) in
@@ -233,7 +233,7 @@ module _ {b table fs scope : List ℕ} {len c i : ℕ} (T : TypeOffsets b table)
 
   pub object-at : ChildAt b fs TermKind.obj i scope (set scope len own) len c (len + 1) (typeField (recordsOf b) own (2 * i))
   object-at =
-      let r = P .room in
+      let r = P .capacity in
       let p = P .places in
       record {
         stands = settings-alike (bound-context scope len own (omega arith)) (sym method-domain);

@@ -41,7 +41,7 @@ pub record Passed (b fs : List ℕ) (k : TermKind) (scope : List ℕ) (len c : �
   pub entries : k ≡ TermKind.match → Entries b fs
   pub fits : ruleIn b fs k (settingIn scope len c) .typed ≡ true
   pub places : length scope ≡ bindLimit * depthLimit
-  pub room : len + bindLimit ≤ bindLimit * depthLimit
+  pub capacity : len + bindLimit ≤ bindLimit * depthLimit
 
 -- Its child i stands in the first m places of the scope after, at the domain d; the first places that were used are kept.
 pub record ChildAt (b fs : List ℕ) (k : TermKind) (i : ℕ) (before after : List ℕ) (len c m d : ℕ) : Type 0 where

@@ -12,7 +12,7 @@ use Rattle.image.specs.Limits.{depthLimit}
 use Rattle.image.specs.Records.{Layout}
 use Rattle.image.specs.Types.{children}
 use Rattle.verdict.specs.Shape.{setAll, depthsFrom, depths}
-use Rattle.check_marks.specs.Marks.{more}
+use Rattle.check_uses.specs.Marks.{more}
 use Rattle.check_shape.specs.Records.{TermsOf}
 use Rattle.check_shape.specs.Depths.{cappedFrom, deepFrom}
 use Rattle.check_shape.specs.Checks.{noTermDeep}

@@ -11,21 +11,21 @@ use Rattle.image.specs.Limits.{depthLimit}
 use Rattle.image.specs.Records.{Layout}
 use Rattle.image.specs.Layout.{recordsOf}
 use Rattle.image.specs.Types.{rootOf}
-use Rattle.image.proofs.Laid.{Good, layout-good}
+use Rattle.image.proofs.Laid.{LayoutOk, layout-good}
 use Rattle.laws.proofs.Tests.{below-all}
 use Rattle.verdict.specs.declared.Verdict.{Verdict}
 use Rattle.verdict.specs.Answers.{isRefused}
 use Rattle.verdict.specs.Shape.{usedOnce}
 use Rattle.verdict.proofs.Answered.{turn-stops, turn-goes, last-turn}
-use Rattle.check_marks.specs.Marks.{isOnce, marksOf, FirstMisused}
-use Rattle.check_marks.proofs.UseCounts.{height, marks-length, once-marked, root-marked}
-use Rattle.check_marks.proofs.Heights.{shallow}
+use Rattle.check_uses.specs.Marks.{isOnce, marksOf, FirstMisused}
+use Rattle.check_uses.proofs.UseCounts.{height, marks-length, once-marked, root-marked}
+use Rattle.check_uses.proofs.Heights.{shallow}
 use Rattle.check_shape.specs.Records.{Terms, Marked}
 use Rattle.check_shape.specs.Checks.{termsUsedOnce, noTermDeep, termsRight}
 use Rattle.check_shape.proofs.Answers.{from-hold, from-first}
 
 -- The marks ms, of which that of f is the first below the root's that is not of a term used once; at least one term is there.
-module _ (L : Layout) (good : Good L) (ms : List ℕ) (f : ℕ) (marks : ms ≡ marksOf L (length (L .terms))) (some : 0 < length (L .terms)) (F : FirstMisused ms (rootOf L) f) where
+module _ (L : Layout) (good : LayoutOk L) (ms : List ℕ) (f : ℕ) (marks : ms ≡ marksOf L (length (L .terms))) (some : 0 < length (L .terms)) (F : FirstMisused ms (rootOf L) f) where
   once : (k : ℕ) → k < length (L .terms) → isOnce (getD ms k 0) ≡ usedOnce L k
   once k l = ap (λ xs. isOnce (getD xs k 0)) marks ∙ once-marked L good k l
 
@@ -51,7 +51,7 @@ module _ (b ts ms : List ℕ) (T : Terms b ts) (M : Marked b ms) where
   abbrev L : Layout
   L = recordsOf b
 
-  good : Good L
+  good : LayoutOk L
   good = layout-good b L (M .laid-out)
 
   pub enough-marks : length ts ≤ length ms

@@ -7,15 +7,15 @@ use lib.ListN.{length, take}
 use Rattle.image.specs.Records.{Layout}
 use Rattle.image.specs.Layout.{recordsOf}
 use Rattle.image.specs.Types.{termPlace, termKind, children}
-use Rattle.image.proofs.Laid.{Good, layout-good, image-kept}
+use Rattle.image.proofs.Laid.{LayoutOk, layout-good, image-kept}
 use Rattle.read_records.specs.Tables.{Tables}
 use Rattle.read_records.proofs.Codes.{known-code, kind-small}
 use Rattle.read_records.proofs.Parts.{whole, children-fit, children-are}
-use Rattle.check_marks.proofs.ChildByChild.{below-lower}
+use Rattle.check_uses.proofs.ChildByChild.{below-lower}
 use Rattle.check_shape.specs.Records.{TermAt, childrenOfTerm, DomainsOf, Domains, TermsOf, Terms}
 
 -- What a good layout says of its domains and terms.
-module _ (L : Layout) (G : Good L) where
+module _ (L : Layout) (G : LayoutOk L) where
   good-domains : DomainsOf L (L .image) (L .domains)
   good-domains =
       record {
@@ -52,7 +52,7 @@ module _ (L : Layout) (G : Good L) where
 
 -- The tables hold them.
 module _ (b ds ns ks : List ℕ) (T : Tables b ds ns ks) where
-  good : Good (recordsOf b)
+  good : LayoutOk (recordsOf b)
   good = layout-good b (recordsOf b) (T .laid-out)
 
   is-image : recordsOf b .image ≡ b

@@ -10,7 +10,7 @@ use Rattle.image.specs.Types.{children}
 use Rattle.verdict.specs.declared.Verdict.{Verdict}
 use Rattle.verdict.specs.Answers.{requireFrom}
 use Rattle.verdict.specs.Shape.{setAll}
-use Rattle.check_marks.specs.Marks.{more}
+use Rattle.check_uses.specs.Marks.{more}
 
 -- The depth of the children of term n, whose own depth is among ds, up to one past the limit.
 abbrev pub depthBelow : List ℕ → ℕ → ℕ

@@ -10,7 +10,7 @@ use Rattle.image.specs.Layout.{laid, layout, recordsOf}
 use Rattle.image.specs.Types.{children}
 use Rattle.read_records.specs.Codes.{codeCount, codeAt}
 use Rattle.read_records.specs.Heads.{IsWhole, fieldsAt, Fitting, childrenOf}
-use Rattle.check_marks.specs.Marks.{Lower, allMarks}
+use Rattle.check_uses.specs.Marks.{Lower, allMarks}
 
 -- The record at o is a whole one, and has a mask.
 pub record DomainAt (b : List ℕ) (o : ℕ) : Type 0 where

@@ -1,5 +1,5 @@
 // Refusal 12: no term is deeper than 64, the root having depth 1. A depth is kept up to one past the limit.
-use check_marks::marks::mark_of;
+use check_uses::marks::mark_of;
 use image::Refusal;
 use read_records::numbers::TermNo;
 use read_records::numbers::term_offset;

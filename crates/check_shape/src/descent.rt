@@ -1,8 +1,8 @@
 // Refusal 12 of an image whose root is too high: the depth of each term is set in one pass, from the root down.
 use crate::depths::TOO_DEEP;
-use check_marks::marks::mark_of;
-use check_marks::marks::one_more;
-use check_marks::marks::set_mark;
+use check_uses::marks::mark_of;
+use check_uses::marks::one_more;
+use check_uses::marks::set_mark;
 use read_records::numbers::TermNo;
 use read_records::numbers::term_offset;
 use verdict::Verdict;
@@ -16,7 +16,7 @@ ghost use Rattle.image.specs.Layout.{recordsOf};
 ghost use Rattle.verdict.specs.Shape.{setAll};
 ghost use Rattle.read_records.specs.Codes.{kindCodes};
 ghost use Rattle.read_records.specs.Heads.{sideOf, entriesOf, childrenOf, Fitting};
-ghost use Rattle.check_marks.specs.Marks.{Lower};
+ghost use Rattle.check_uses.specs.Marks.{Lower};
 ghost use Rattle.check_shape.specs.Records.{childrenOfTerm, Terms};
 ghost use Rattle.check_shape.specs.Depths.{depthBelow, cappedFrom};
 ghost use Rattle.check_shape.specs.Checks.{noTermDeep};

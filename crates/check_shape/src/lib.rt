@@ -1,7 +1,7 @@
 // An inner crate: refusals 9 to 12, once the records are laid out (document 01, "Turned back at the gate"). Each pass is
 // linear in the image.
-use check_marks::marks::mark_of;
-use check_marks::uses::first_misused;
+use check_uses::marks::mark_of;
+use check_uses::uses::first_misused;
 use image::Refusal;
 use read_records::numbers::Counts;
 use read_records::numbers::TermNo;
@@ -16,7 +16,7 @@ ghost use lib.Dec.{ltb};
 ghost use Rattle.image.specs.Layout.{recordsOf};
 ghost use Rattle.verdict.specs.Shape.{shape};
 ghost use Rattle.read_records.specs.Codes.{kindCodes};
-ghost use Rattle.check_marks.specs.Marks.{allMarks};
+ghost use Rattle.check_uses.specs.Marks.{allMarks};
 ghost use Rattle.check_shape.specs.Records.{Domains, Terms, Marked};
 ghost use Rattle.check_shape.specs.Checks.{termsRight, passes};
 ghost use Rattle.check_shape.specs.Counted.{Counted};

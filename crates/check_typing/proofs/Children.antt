@@ -21,9 +21,9 @@ use Rattle.check_rules.specs.Judged.{ruleVerdict}
 use Rattle.read_terms.proofs.Located.{typed-in, children-in, child-lower, at-field-in, has-child, entries-in}
 use Rattle.check_rules.proofs.Verdict.{verdict-in}
 use Rattle.check_scopes.specs.Scopes.{bindLimit, Passed}
-use Rattle.check_typing.specs.Turns.{Room}
+use Rattle.check_typing.specs.Turns.{Capacity}
 use Rattle.check_typing.proofs.TermPass.{types-fit, front, front-next, front-stops, front-whole}
-use Rattle.check_typing.proofs.ScopeRoom.{child-room}
+use Rattle.check_typing.proofs.ScopeCapacity.{child-capacity}
 
 -- What term n asks of its fields, which are fs.
 module _ {b terms : List ℕ} (T : Terms b terms) {n : ℕ} (h : IsTerm b n) {fs : List ℕ} (f : fs ≡ fieldsOf b n) {k : TermKind} (e : termKind (recordsOf b) n ≡ k) where
@@ -45,7 +45,7 @@ module _ {b terms : List ℕ} (T : Terms b terms) {n : ℕ} (h : IsTerm b n) {fs
   -- It has passed its rule.
   pub passed-there : {scope : List ℕ} {len c : ℕ} → ruleVerdict (recordsOf b) (settingIn scope len c) n ≡ Verdict.Accepted → length scope ≡ bindLimit * depthLimit → len + bindLimit ≤ bindLimit * depthLimit → Passed b fs k scope len c
   passed-there {scope} {len} {c} a q r =
-      record { typed = types-there; children = behind; entries = entries-there; fits = fits-there (settingIn scope len c) a; places = q; room = r }
+      record { typed = types-there; children = behind; entries = entries-there; fits = fits-there (settingIn scope len c) a; places = q; capacity = r }
 
 -- Child i of term n, whose fields are fs, has the number e.
 module _ {b terms : List ℕ} (T : Terms b terms) {n : ℕ} (h : IsTerm b n) {fs : List ℕ} (f : fs ≡ fieldsOf b n) {i e : ℕ} (l : i < length (childrenIn fs (termKind (recordsOf b) n))) (g : e ≡ getD (childrenIn fs (termKind (recordsOf b) n)) i 0) where
@@ -64,8 +64,8 @@ module _ {b terms : List ℕ} (T : Terms b terms) {n : ℕ} (h : IsTerm b n) {fs
   pub there : IsTerm b e
   there = let q = below in omega arith
 
-  pub room-there : {scope : List ℕ} {len : ℕ} → Room b scope len n → (s : List ℕ) (m : ℕ) → m ≤ len + bindLimit → length s ≡ length scope → Room b s m e
-  room-there R s m q z = child-room T R h s i m e index-in number-in q z
+  pub capacity-there : {scope : List ℕ} {len : ℕ} → Capacity b scope len n → (s : List ℕ) (m : ℕ) → m ≤ len + bindLimit → length s ≡ length scope → Capacity b s m e
+  capacity-there R s m q z = child-capacity T R h s i m e index-in number-in q z
 
 -- The verdict on child i, behind those before it, which pass; and a refusal of it is the term's.
 module _ (b fs : List ℕ) (k : TermKind) (p : Setting ℕ) where

@@ -1,6 +1,6 @@
 -- Laws of the pass over the terms.
 pub mod Children
 pub mod TermPass
-pub mod ScopeRoom
+pub mod ScopeCapacity
 pub mod Root
 pub mod Faults

@@ -17,7 +17,7 @@ use Rattle.verdict.specs.Check.{check, rootSetting}
 use Rattle.check_scopes.specs.Scopes.{bindLimit}
 
 -- The scope has room for all that term n and the terms below it bind. The image has passed refusals 11 and 12 (document 01, "Turned back at the gate"): each term but the root is a child once, and none is deeper than 64, the root having depth 1. A level binds nine variables at most, so at depth d at most 9 * (d - 1) places are used, and 9 * 64 are enough.
-pub record Room (b scope : List ℕ) (len n : ℕ) : Type 0 where
+pub record Capacity (b scope : List ℕ) (len n : ℕ) : Type 0 where
   pub places : length scope ≡ bindLimit * depthLimit
   pub shaped : Shaped (recordsOf b)
   pub few : len + bindLimit ≤ bindLimit * getD (depths (recordsOf b)) n 0

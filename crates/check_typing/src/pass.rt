@@ -29,7 +29,7 @@ ghost use Rattle.check_rules.specs.Judged.{ruleVerdict};
 ghost use Rattle.read_terms.specs.Lent.{Lent, TypeOffsets, Masks, IsTerm};
 ghost use Rattle.check_rules.specs.Scopes.{settingIn};
 ghost use Rattle.check_typing.specs.Faults.{faultAt, verdictAt};
-ghost use Rattle.check_typing.specs.Turns.{Room};
+ghost use Rattle.check_typing.specs.Turns.{Capacity};
 
 // What the rule of term n alone comes to, as a fault.
 fn fault_of(v: Verdict, n: TermNo) -> u64
@@ -42,7 +42,7 @@ fn fault_of(v: Verdict, n: TermNo) -> u64
 }
 
 // The children of a term that has passed its rule, each where it stands.
-fn check_moved(
+fn check_subterms(
     image: &[u8],
     terms: &[u16; 1024],
     descriptors: &[u32; 128],
@@ -53,7 +53,7 @@ fn check_moved(
     len: usize,
     types: &[u16; 128],
 ) -> u64
-    requires { ⌜ Lent (now image) (now terms) (now descriptors) × IsTerm (now image) (n .0) × Masks (now image) (now masks) × Room (now image) (now scope) len (n .0) × TypeOffsets (now image) (now types) × ((Γ : List ℕ) → ruleVerdict (recordsOf (now image)) (record { context = Γ; dom = c .0 }) (n .0) ≡ Verdict.Accepted) ⌝ }
+    requires { ⌜ Lent (now image) (now terms) (now descriptors) × IsTerm (now image) (n .0) × Masks (now image) (now masks) × Capacity (now image) (now scope) len (n .0) × TypeOffsets (now image) (now types) × ((Γ : List ℕ) → ruleVerdict (recordsOf (now image)) (record { context = Γ; dom = c .0 }) (n .0) ≡ Verdict.Accepted) ⌝ }
     ensures { λ r. ⌜ (verdictAt (recordsOf (now (image .entry))) r ≡ checked (recordsOf (now (image .entry))) (settingIn (now (scope .entry)) len (c .0)) (n .0)) × (r ≤ 4 * n .0 + 3) × (take len (now (scope .exit)) ≡ take len (now (scope .entry))) × (length (now (scope .exit)) ≡ length (now (scope .entry))) ⌝ }
 {
     let kind = term_kind(image, terms, n);
@@ -109,7 +109,7 @@ fn check_here(
     len: usize,
     types: &[u16; 128],
 ) -> u64
-    requires { ⌜ Lent (now image) (now terms) (now descriptors) × IsTerm (now image) (n .0) × Masks (now image) (now masks) × Room (now image) (now scope) len (n .0) × TypeOffsets (now image) (now types) ⌝ }
+    requires { ⌜ Lent (now image) (now terms) (now descriptors) × IsTerm (now image) (n .0) × Masks (now image) (now masks) × Capacity (now image) (now scope) len (n .0) × TypeOffsets (now image) (now types) ⌝ }
     ensures { λ r. ⌜ (verdictAt (recordsOf (now (image .entry))) r ≡ checked (recordsOf (now (image .entry))) (settingIn (now (scope .entry)) len (c .0)) (n .0)) × (r ≤ 4 * n .0 + 3) × (take len (now (scope .exit)) ≡ take len (now (scope .entry))) × (length (now (scope .exit)) ≡ length (now (scope .entry))) ⌝ }
 {
     if is_leaf(image, terms, n) {
@@ -121,7 +121,7 @@ fn check_here(
     }
     let kind = term_kind(image, terms, n);
     if moves_child(kind) {
-        return check_moved(image, terms, descriptors, n, c, masks, scope, len, types);
+        return check_subterms(image, terms, descriptors, n, c, masks, scope, len, types);
     }
     let fields = term_fields(image, terms, n);
     let k = child_count(kind, fields);
@@ -151,7 +151,7 @@ pub fn check_term(
     len: usize,
     types: &[u16; 128],
 ) -> u64
-    requires { ⌜ Lent (now image) (now terms) (now descriptors) × IsTerm (now image) (n .0) × Masks (now image) (now masks) × Room (now image) (now scope) len (n .0) × TypeOffsets (now image) (now types) ⌝ }
+    requires { ⌜ Lent (now image) (now terms) (now descriptors) × IsTerm (now image) (n .0) × Masks (now image) (now masks) × Capacity (now image) (now scope) len (n .0) × TypeOffsets (now image) (now types) ⌝ }
     ensures { λ r. ⌜ (verdictAt (recordsOf (now (image .entry))) r ≡ checked (recordsOf (now (image .entry))) (settingIn (now (scope .entry)) len (c .0)) (n .0)) × (r ≤ 4 * n .0 + 3) × (take len (now (scope .exit)) ≡ take len (now (scope .entry))) × (length (now (scope .exit)) ≡ length (now (scope .entry))) ⌝ }
 {
     let whole = image.len();

@@ -8,7 +8,7 @@ ghost use Rattle.numerals.specs.Numerals.{AtMost};
 ghost use Rattle.io.specs.Counts.{Counts};
 
 // A byte more than the longest image, so that a longer one is seen to be too long.
-pub const IMAGE_ROOM: usize = 16385;
+pub const IMAGE_CAPACITY: usize = 16385;
 
 // What a program without arguments is called with.
 const OWN_NAME: usize = 1;

@@ -14,7 +14,7 @@ use Rattle.image.specs.Kinds.{a-domain, free, Body, here, function-body, advice
 use Rattle.image.specs.Records.{Layout, fieldsAt, numbersAt, othersAt}
 use Rattle.image.specs.Types.{termPlace, termKind, statedType, others, children, rootOf}
 use Rattle.image.specs.Program.{Program, node, blank, more, subtrees, tree, program, ownDomain, isLow, lowBody, blanked, blankeds}
-use Rattle.image.proofs.Laid.{Below, Good}
+use Rattle.image.proofs.Laid.{Below, LayoutOk}
 use Rattle.image.proofs.Bodies.{Owner, body-owner}
 use Rattle.image.proofs.TypeDomains.{type-domain, method-domain}
 use Rattle.report.specs.Fits.{shortSize, byField}
@@ -55,7 +55,7 @@ module _ (hi hi′ : Dom → Bool) (same : (d : Dom) → d < domainLimit → hi 
       pick true q = refl
       pick false q = q
 
-  module _ (L : Layout) (good : Good L) where
+  module _ (L : Layout) (good : LayoutOk L) where
     tree-same : (f n : ℕ) → n < length (L .terms) → blanked hi (tree L f n) ≡ blanked hi′ (tree L f n)
     unfolding tree blanked
     tree-same zero n l = refl

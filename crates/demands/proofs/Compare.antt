@@ -21,9 +21,9 @@ use Rattle.demands.specs.SameBytes.{SameBytes}
 use Rattle.report.specs.OfRun.{writtenLog, writtenReport}
 use Rattle.report.specs.Fits.{byField}
 use Rattle.demands.proofs.AcceptedBytes.{demand3-bytes}
-use Rattle.calls.specs.Runs.{Accepts, programOf, givenBy, runOf}
+use Rattle.call_spec.specs.Runs.{Accepts, programOf, givenBy, runOf}
 use Rattle.demands.specs.Compare.{Compared}
-use Rattle.calls.proofs.Accepted.{transitive, typed}
+use Rattle.call_spec.proofs.Accepted.{transitive, typed}
 use Rattle.demands.proofs.ByField.{small-field, program-same}
 
 -- The program of an accepted image names no domain that its 2 bytes could change.

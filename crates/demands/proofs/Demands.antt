@@ -28,13 +28,13 @@ use Rattle.report.specs.Fits.{shortSize}
 use Rattle.report.proofs.Lengths.{length-log}
 use Rattle.report.proofs.Narrow.{report-read}
 use Rattle.demands.proofs.AcceptedBytes.{program-cells-few, program-result-few, program-report-short, program-log-short}
-use Rattle.calls.specs.Runs.{Accepts, programOf, givenBy, runOf}
-use Rattle.calls.specs.Calls.{leftBy, called}
-use Rattle.demands.specs.Calls.{Runs, RunsOut, Rejection, Demand1Refused}
+use Rattle.call_spec.specs.Runs.{Accepts, programOf, givenBy, runOf}
+use Rattle.call_spec.specs.Calls.{leftBy, called}
+use Rattle.demands.specs.Calls.{Runs, RunOutput, Rejection, Demand1Refused}
 use Rattle.demands.specs.Compare.{Demand3}
-use Rattle.calls.proofs.Slots.{leaves-back}
-use Rattle.calls.proofs.Called.{refused-leaves, accepted-leaves}
-use Rattle.calls.proofs.Accepted.{transitive, typed}
+use Rattle.call_spec.proofs.Slots.{leaves-back}
+use Rattle.call_spec.proofs.Called.{refused-leaves, accepted-leaves}
+use Rattle.call_spec.proofs.Accepted.{transitive, typed}
 use Rattle.demands.proofs.Outcomes.{one-outcome}
 use Rattle.demands.proofs.Compare.{demand3-written}
 use Rattle.demands.proofs.Steps.{steps-within, spent-steps}
@@ -46,7 +46,7 @@ accepts b report work h = record { work = length work; report = length report; v
 
 module _ (b frame : List ℕ) (budget : ℕ) (log report work : List ℕ) where
   -- Demand 1, of a call that runs: it ends with one of document 01's outcomes, log and report hold exactly the listed records, and nothing else changes but the work area, which is cleared (specs/Calls.antt).
-  pub demand1 : Runs b report work → RunsOut (runOf b frame budget log) budget log report work (called b frame budget log report work)
+  pub demand1 : Runs b report work → RunOutput (runOf b frame budget log) budget log report work (called b frame budget log report work)
   demand1 h =
       let A = accepts b report work h in
       let E : Ended = runOf b frame budget log in
@@ -62,7 +62,7 @@ module _ (b frame : List ℕ) (budget : ℕ) (log report work : List ℕ) where
       let back = ap readReport (take-front (writtenReport E) report) ∙ report-read (reportedNumber (r .outcome)) (r .steps) (r .result) (r .cells) few in
       let steps : r .steps ≤ budget = omega (arith, steps-within budget G 0 fresh (toTm (programOf b))) in
       let enough = ok .report-enough in
-      subst (RunsOut E budget log report work) (sym (accepted-leaves b frame budget log report work h))
+      subst (RunOutput E budget log report work) (sym (accepted-leaves b frame budget log report work h))
       (record {
         outcome = one .0;
         outcome-is = one .1;
@@ -96,8 +96,8 @@ module _ (b frame : List ℕ) (budget : ℕ) (log report work : List ℕ) where
       look (Verdict.Refused r place) h = ap (λ X. refusalOf (X .answer .verdict)) (refused-leaves b frame budget log report work r place h)
 
   -- Demand 2, of the gate: a call runs exactly if the image follows the layouts and the typing rules and the lent memory is long enough.
-  pub demand2-gate : Runs b report work ↔ Acceptable b (length work) (length report)
-  demand2-gate = accepted-iff b (length work) (length report)
+  pub demand2-acceptance : Runs b report work ↔ Acceptable b (length work) (length report)
+  demand2-acceptance = accepted-iff b (length work) (length report)
 
   -- Demand 2, of the run: the call answers and leaves what the calculus's run of the image's program says, and "the steps counted are the steps of this definition".
   pub demand2-run : Runs b report work → called b frame budget log report work ≡ leftBy (runOf b frame budget log) log report work
@@ -111,7 +111,7 @@ pub demand1-refused : Demand1Refused
 demand1-refused b frame budget log report work refused = look (verdict b (length work) (length report)) refl
   where
     look : (v : Verdict) → verdict b (length work) (length report) ≡ v → Rejection v log report work (called b frame budget log report work)
-    look Verdict.Accepted h = absurd (refused (demand2-gate b frame budget log report work .0 h))
+    look Verdict.Accepted h = absurd (refused (demand2-acceptance b frame budget log report work .0 h))
     look (Verdict.Refused r place) h =
         subst (Rejection (Verdict.Refused r place) log report work) (sym (refused-leaves b frame budget log report work r place h))
         (record {

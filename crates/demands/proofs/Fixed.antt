@@ -18,8 +18,8 @@ use Rattle.image_written.specs.Written.{fixed}
 use Rattle.image_written.proofs.Fixed.{fixed-holds, fixed-twice, fixed-short, fixed-same}
 use Rattle.write_fixed.specs.declared.Written.{Written}
 use Rattle.write_fixed.specs.Calls.{Left, afterCheck, fixedCall}
-use Rattle.calls.specs.Runs.{givenBy, runOf}
-use Rattle.calls.specs.Calls.{afterVerdict, called}
+use Rattle.call_spec.specs.Runs.{givenBy, runOf}
+use Rattle.call_spec.specs.Calls.{afterVerdict, called}
 use Rattle.demands.specs.Calls.{Runs}
 use Rattle.demands.specs.Fixed.{SameProgram, Card11}
 use Rattle.demands.proofs.Written.{take-front}

@@ -18,7 +18,7 @@ use Rattle.calculus_safety.proofs.Within.{program-within}
 use Rattle.calculus_needs.specs.Numbers.{Numbers}
 use Rattle.calculus_needs.specs.Class.{inClass}
 use Rattle.calculus_needs.specs.Needs.{needOf}
-use Rattle.calculus_needs.specs.Claims.{Under, Settled, is-done, is-aborted}
+use Rattle.calculus_needs.specs.Claims.{Under, DoneOrAborted, is-done, is-aborted}
 use Rattle.calculus_needs.proofs.Theorem.{never-exceeded, met-exactly, done-or-aborted}
 use Rattle.image.specs.Layout.{recordsOf}
 use Rattle.image.specs.Program.{toTm}
@@ -28,18 +28,18 @@ use Rattle.image_needs.proofs.Known.{Known, Outside, known, outside, known-back
 use Rattle.verdict.specs.Domains.{policy}
 use Rattle.report.specs.Read.{readLog, readReport}
 use Rattle.report.proofs.Narrow.{narrowPrint, narrowCell, log-read, report-read}
-use Rattle.calls.specs.Runs.{Accepts, programOf, givenBy, runOf}
-use Rattle.calls.specs.Calls.{Left, called}
-use Rattle.calls.proofs.Accepted.{transitive, typed}
-use Rattle.demands.specs.Calls.{Runs, RunsOut, logWritten, reportWritten}
+use Rattle.call_spec.specs.Runs.{Accepts, programOf, givenBy, runOf}
+use Rattle.call_spec.specs.Calls.{Left, called}
+use Rattle.call_spec.proofs.Accepted.{transitive, typed}
+use Rattle.demands.specs.Calls.{Runs, RunOutput, logWritten, reportWritten}
 use Rattle.demands.specs.SameBytes.{SaysDone}
 use Rattle.demands.specs.Forecast.{usedOf, Told, OneWay, Holds, Card10, Card10Refused}
 use Rattle.demands.proofs.AcceptedBytes.{program-cells-few}
 use Rattle.demands.proofs.Demands.{accepts, demand1}
-use Rattle.demands.proofs.MainlineRoom.{ended}
+use Rattle.demands.proofs.MainlineCapacity.{ended}
 
 -- The number of the outcome of a run that is done or aborted.
-settled-number : {x : End} → Settled x → (o : Outcome) → outcomeOf x ≡ some o → (outcomeNumber o ≡ outcomeNumber Outcome.Done) ⊎ (outcomeNumber o ≡ outcomeNumber Outcome.Aborted)
+settled-number : {x : End} → DoneOrAborted x → (o : Outcome) → outcomeOf x ≡ some o → (outcomeNumber o ≡ outcomeNumber Outcome.Done) ⊎ (outcomeNumber o ≡ outcomeNumber Outcome.Aborted)
 settled-number is-done o e = inl (ap outcomeNumber (sym (Option·some-injective Outcome.Done o e)))
 settled-number is-aborted o e = inr (ap outcomeNumber (sym (Option·some-injective Outcome.Aborted o e)))
 
@@ -62,7 +62,7 @@ module _ (b frame : List ℕ) (budget : ℕ) (log report work : List ℕ) (class
   A : Accepts b
   A = accepts b report work h
 
-  out : RunsOut E budget log report work X
+  out : RunOutput E budget log report work X
   out = demand1 b frame budget log report work h
 
   -- What the bytes tell is what the run used.

@@ -13,10 +13,10 @@ pub mod LowMethods
 pub mod LowTakedowns
 pub mod Unpaid
 pub mod Branches
-pub mod MainlineRoom
+pub mod MainlineCapacity
 pub mod NewestFirst
 pub mod Forecast
-pub mod CalmPrograms
+pub mod NoLowTakedownPrograms
 pub mod StrippedTrees
 pub mod Stripped
 pub mod StrippedCall

@@ -7,7 +7,7 @@ use lib.ListN.{getElem?}
 use Rattle.calculus.specs.Syntax.{Dom, Ty, Val, Tm, mark}
 use Rattle.calculus.specs.State.{Advice, State, Given, adviceBindings}
 use Rattle.calculus.specs.Place.{Place}
-use Rattle.calculus.specs.Answer.{go, with, spend}
+use Rattle.calculus.specs.Answer.{reduct, with, spend}
 use Rattle.calculus.specs.Compose.{member, matching, triggeredBy, composed}
 use Rattle.calculus.specs.Reduce.{reduce2}
 use Rattle.calculus.proofs.Filtered.{filtered-reverse}
@@ -18,7 +18,7 @@ newest : (l : ℕ) (x : List (Advice Tm)) → triggeredBy l x ≡ reverse (match
 newest l x = filtered-reverse (λ a. member l (a .labels)) x
 
 figure5 : (G : Given) (P : Place) (s : State) (t : Ty) (l : ℕ) (v : Val) (p : Dom) → getElem? (s .labels) l ≡ some p
-    → reduce2 G P s mark t (Val.label l) v ≡ spend (adviceBindings (matching l (reverse (s .advices)))) s (λ s′. go s′ (composed v (matching l (reverse (s .advices)))))
+    → reduce2 G P s mark t (Val.label l) v ≡ spend (adviceBindings (matching l (reverse (s .advices)))) s (λ s′. reduct s′ (composed v (matching l (reverse (s .advices)))))
 unfolding with
 figure5 G P s t l v p there = rw there
 

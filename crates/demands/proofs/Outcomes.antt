@@ -8,8 +8,8 @@ use Rattle.calculus.specs.Report.{report}
 use Rattle.image.specs.Layout.{recordsOf}
 use Rattle.verdict.specs.Domains.{policy}
 use Rattle.calculus_safety.proofs.Runs.{reports-outcome}
-use Rattle.calls.specs.Runs.{Accepts, givenBy, runOf}
-use Rattle.calls.proofs.Accepted.{transitive, typed}
+use Rattle.call_spec.specs.Runs.{Accepts, givenBy, runOf}
+use Rattle.call_spec.proofs.Accepted.{transitive, typed}
 
 -- The outcome is one of document 01's ten or of card 9's three.
 pub one-outcome : (b : List ℕ) → Accepts b → (frame : List ℕ) (budget : ℕ) (log : List ℕ) → (o : Outcome) × (report (runOf b frame budget log) .outcome ≡ some o)

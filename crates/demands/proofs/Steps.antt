@@ -8,7 +8,7 @@ use Rattle.calculus.specs.declared.Outcome.{Outcome}
 use Rattle.calculus.specs.Combinators.{cases}
 use Rattle.calculus.specs.Syntax.{Ty, Val, Tm, asValue}
 use Rattle.calculus.specs.State.{State, Given, fresh}
-use Rattle.calculus.specs.Answer.{Answer, go, full, halt, wrong}
+use Rattle.calculus.specs.Answer.{Answer, reduct, atCapacity, halt, wrong}
 use Rattle.calculus.specs.Place.{top}
 use Rattle.calculus.specs.Step.{step}
 use Rattle.calculus.specs.Run.{End, done, stopped, stuck, Ended, ended, after, unpaid, run}
@@ -33,8 +33,8 @@ steps-within (suc n) G k s e = look (λ s′ e′. steps-within n G (suc k) s′
     Next = (s′ : State) (e′ : Tm) → run n G (suc k) s′ e′ .steps ≤ suc k + n
 
     answered : Next → (a : Answer State Tm) → after {R = Ended} a (λ s′ e′. run n G (suc k) s′ e′) (λ o. ended (stopped o) k s) (λ x. ended (stopped Outcome.Aborted) (suc k) s) (λ x. ended stuck k s) .steps ≤ k + suc n
-    answered next (go s′ e′) = let h = next s′ e′ in omega arith
-    answered next (full o) = omega arith
+    answered next (reduct s′ e′) = let h = next s′ e′ in omega arith
+    answered next (atCapacity o) = omega arith
     answered next halt = omega arith
     answered next wrong = omega arith
 

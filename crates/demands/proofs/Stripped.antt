@@ -17,13 +17,13 @@ use Rattle.calculus.specs.Typing.{Policy}
 use Rattle.calculus.specs.Accepted.{Accepted}
 use Rattle.calculus_safety.proofs.Runs.{program-safe}
 use Rattle.calculus_noninterference.specs.Observe.{Highs}
-use Rattle.calculus_noninterference.specs.Calm.{Calm}
+use Rattle.calculus_noninterference.specs.NoLowTakedown.{NoLowTakedown}
 use Rattle.calculus_noninterference.proofs.Reported.{reports-done}
 use Rattle.calculus_stripped.specs.Strip.{strip}
 use Rattle.calculus_stripped.specs.Shared.{SharesDone}
 use Rattle.calculus_stripped.proofs.Budget.{done-stays}
 use Rattle.calculus_stripped.proofs.Typed.{strip-typed}
-use Rattle.calculus_stripped.proofs.Agree.{strip-same, calm-same}
+use Rattle.calculus_stripped.proofs.Agree.{strip-same, no-low-takedown-same}
 use Rattle.calculus_stripped.proofs.Theorem.{stripped-run}
 use Rattle.calculus_stripped.proofs.Reported.{shares-result, shares-cells}
 use Rattle.image.specs.Layout.{recordsOf}
@@ -40,9 +40,9 @@ use Rattle.report.specs.OfRun.{endingOf, reportedNumber, writtenLog, writtenRep
 use Rattle.report.specs.Fits.{shortSize, CellsFew, byField}
 use Rattle.report.specs.Read.{readReport}
 use Rattle.report.proofs.Narrow.{narrowPrint, narrowLeaf, narrowCell}
-use Rattle.calls.specs.Runs.{Accepts, programOf, givenBy, runOf}
-use Rattle.calls.specs.Calls.{leftBy, afterVerdict, called}
-use Rattle.calls.proofs.Accepted.{transitive, typed}
+use Rattle.call_spec.specs.Runs.{Accepts, programOf, givenBy, runOf}
+use Rattle.call_spec.specs.Calls.{leftBy, afterVerdict, called}
+use Rattle.call_spec.proofs.Accepted.{transitive, typed}
 use Rattle.demands.specs.Calls.{Runs}
 use Rattle.demands.specs.Compare.{HighSet}
 use Rattle.demands.specs.SameBytes.{SaysDone}
@@ -55,7 +55,7 @@ use Rattle.demands.proofs.Compare.{highs-by-field}
 use Rattle.demands.proofs.Steps.{steps-within}
 use Rattle.demands.proofs.Written.{take-front}
 use Rattle.demands.proofs.Demands.{accepts, demand2-run}
-use Rattle.demands.proofs.CalmPrograms.{calm-program}
+use Rattle.demands.proofs.NoLowTakedownPrograms.{no-low-takedown-program}
 use Rattle.demands.proofs.StrippedTrees.{stripped-term}
 
 -- A call that is done, of an accepted image: its run has a result.
@@ -81,7 +81,7 @@ shares-written high E E′ v F F′ p l S =
       steps = omega (arith, s, s′, few);
     }
 
-module _ (high : Dom → Bool) (b : List ℕ) (A : Accepts b) (highs : HighSet (recordsOf b) high) (calm : lowTakesDown high (programOf b) ≡ false) where
+module _ (high : Dom → Bool) (b : List ℕ) (A : Accepts b) (highs : HighSet (recordsOf b) high) (no-low-takedown : lowTakesDown high (programOf b) ≡ false) where
   abbrev D : Policy
   D = policy (recordsOf b)
 
@@ -108,18 +108,18 @@ module _ (high : Dom → Bool) (b : List ℕ) (A : Accepts b) (highs : HighSet (
       let F′ = program-cells-few D (transitive b A) G budget (strip-typed (byField high) (typed b A .typed)) in
       let x = done-run b A frame budget log (says-done high E F p) in
       let H : Highs D (byField high) = highs-by-field high b b A A (record { domains = refl; highs = highs; programs = refl }) in
-      let C : Calm (byField high) 0 e = calm-same high (byField high) same-field (typed b A .typed) (calm-program high (programOf b) 0 (highs .mainline) calm) in
+      let C : NoLowTakedown (byField high) 0 e = no-low-takedown-same high (byField high) same-field (typed b A .typed) (no-low-takedown-program high (programOf b) 0 (highs .mainline) no-low-takedown) in
       let few : E .steps < wordSize = omega (arith, steps-within budget G 0 fresh e) in
       subst (λ f. SharesWritten high E (run budget G 0 fresh f)) (sym stripped-same)
       (shares-written high E (run budget G 0 fresh (strip (byField high) e)) (x .0) F F′ (x .1) few (stripped-run D (byField high) (transitive b A) H e (typed b A) C G budget (x .0) (x .1)))
 
 -- The card's claim.
 pub card13 : Card13
-card13 high b b′ highs same calm frame budget log log′ report report′ work work′ l n h h′ =
+card13 high b b′ highs same no-low-takedown frame budget log log′ report report′ work work′ l n h h′ =
     let E : Ended = runOf b frame budget log in
     let E′ : Ended = runOf b′ frame budget log′ in
     let right : run budget (givenBy frame log) 0 fresh (strip high (toTm (programOf b))) ≡ E′ = ap₂ (λ k f. run budget (record { frame = frame; logLength = k }) 0 fresh f) n (sym same) in
-    let shares : SaysDone (writtenReport E) → SharesWritten high E E′ = λ p. subst (SharesWritten high E) right (stripped-written high b (accepts b report work h) highs calm frame budget log l p) in
+    let shares : SaysDone (writtenReport E) → SharesWritten high E E′ = λ p. subst (SharesWritten high E) right (stripped-written high b (accepts b report work h) highs no-low-takedown frame budget log l p) in
     rw (demand2-run b frame budget log report work h, demand2-run b′ frame budget log′ report′ work′ h′, take-front (writtenLog E) log, take-front (writtenLog E′) log′, take-front (writtenReport E) report, take-front (writtenReport E′) report′) shares
 
 -- Its masks and its program are those from which it was written.

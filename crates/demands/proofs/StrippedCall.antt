@@ -15,17 +15,17 @@ use Rattle.calculus.specs.Syntax.{Dom}
 use Rattle.image.specs.Limits.{domainLimit, workLength, reportLength}
 use Rattle.image.specs.Records.{Layout}
 use Rattle.image.specs.Layout.{recordsOf}
-use Rattle.image.proofs.Laid.{Good}
+use Rattle.image.proofs.Laid.{LayoutOk}
 use Rattle.verdict.specs.declared.Verdict.{Verdict}
 use Rattle.verdict.specs.Domains.{leq}
 use Rattle.verdict.specs.Verdicts.{verdict}
 use Rattle.verdict.proofs.Accept.{accepted-good}
 use Rattle.base_bytes.specs.Bytes.{over}
 use Rattle.image_written.specs.Stripped.{withoutWatches}
-use Rattle.write_idle.specs.Idle.{inMask}
+use Rattle.write_unit_bodies.specs.UnitBodies.{inMask}
 use Rattle.write_stripped.specs.declared.Stripped.{Stripped}
 use Rattle.write_stripped.specs.Calls.{wrongSet, Left, afterCheck, strippedCall}
-use Rattle.calls.specs.Calls.{called}
+use Rattle.call_spec.specs.Calls.{called}
 use Rattle.demands.specs.Calls.{Runs}
 use Rattle.demands.specs.Compare.{HighSet}
 use Rattle.demands.specs.Stripped.{SharesLeft, WritesStripped, Card13Call}
@@ -53,7 +53,7 @@ card13-call b mask n out h = look (verdict b workLength reportLength) refl h
     Asked : Left → Type 0
     Asked X = X .answer ≡ Stripped.Bytes n → WritesStripped b mask n out (X .out)
 
-    go : Good (recordsOf b) → (x : Bool) → wrongSet (recordsOf b) mask ≡ x → (y : Bool)
+    go : LayoutOk (recordsOf b) → (x : Bool) → wrongSet (recordsOf b) mask ≡ x → (y : Bool)
         → Asked
         (choose x (record { answer = Stripped.WrongSet; out = out })
         (choose y (record { answer = Stripped.ShortOutput; out = out }) (record { answer = Stripped.Bytes (length W); out = over 0 W out })))
@@ -68,10 +68,10 @@ card13-call b mask n out h = look (verdict b workLength reportLength) refl h
           bytes = bytes;
           past = ap (λ i. drop i (over 0 W out)) (sym k) ∙ drop-front W out ∙ ap (λ i. drop i out) k;
           accepted = λ report work h. subst (λ c. Runs c report work) (sym bytes) (card13-written (inMask mask) b report work h .accepted);
-          shares = λ calm frame budget log log′ report report′ work work′ l m h h′ d.
+          shares = λ no-low-takedown frame budget log log′ report report′ work work′ l m h h′ d.
               let w = card13-written (inMask mask) b report′ work′ h′ in
               subst (λ c. SharesLeft (inMask mask) (called b frame budget log report work) (called c frame budget log′ report′ work′)) (sym bytes)
-              (card13 (inMask mask) b W highs (w .stripped) calm frame budget log log′ report report′ work work′ l m h (w .accepted) d);
+              (card13 (inMask mask) b W highs (w .stripped) no-low-takedown frame budget log log′ report report′ work work′ l m h (w .accepted) d);
         }
 
     look : (w : Verdict) → verdict b workLength reportLength ≡ w → Asked (afterCheck w b mask out)

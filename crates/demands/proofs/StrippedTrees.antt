@@ -11,7 +11,7 @@ use Rattle.calculus_stripped.specs.Strip.{strip, strips, stripVal}
 use Rattle.image.specs.Kinds.{TermKind, Form, operator, formOf}
 use Rattle.image.specs.Program.{Program, Programs, node, blank, end, more, nth, behind, assemble, toTm, toTms, assembleAs}
 use Rattle.image.proofs.Blanked.{choose-not, same-choice}
-use Rattle.image_written.specs.Stripped.{idle, givesWay, stripped, strippeds}
+use Rattle.image_written.specs.Stripped.{asUnit, givesWay, stripped, strippeds}
 
 module _ (high : Dom → Bool) where
   -- Of the subterms fs and es: each of fs is that of es, stripped, or unit where it gives way; and all of them are where none does.
@@ -69,7 +69,7 @@ module _ (high : Dom → Bool) where
   unfolding toTm toTms stripped strippeds assemble strip strips
   first-stripped low e es h r = record { one = one; every = every }
     where
-      head : (b : Bool) → toTm (choose b (idle e) (stripped high e)) ≡ choose b (val Val.unit) (strip high (toTm e))
+      head : (b : Bool) → toTm (choose b (asUnit e) (stripped high e)) ≡ choose b (val Val.unit) (strip high (toTm e))
       head true = refl
       head false = h
 

@@ -8,11 +8,11 @@ use Rattle.calculus.specs.Run.{run}
 use Rattle.image.specs.Program.{toTm}
 use Rattle.verdict.specs.declared.Verdict.{Verdict}
 use Rattle.verdict.specs.Verdicts.{verdict}
-use Rattle.image_alike.specs.Trimmed.{ReadableImage, trimmed, trimmedPlace}
-use Rattle.image_alike.specs.Moved.{moved}
-use Rattle.image_alike.proofs.Theorem.{trimmed-records, trimmed-verdict, trimmed-program}
-use Rattle.calls.specs.Runs.{givenBy, runOf}
-use Rattle.calls.specs.Calls.{afterVerdict, called}
+use Rattle.image_trimmed.specs.Trimmed.{ReadableImage, trimmed, trimmedPlace}
+use Rattle.image_trimmed.specs.Places.{mapPlace}
+use Rattle.image_trimmed.proofs.Theorem.{trimmed-records, trimmed-verdict, trimmed-program}
+use Rattle.call_spec.specs.Runs.{givenBy, runOf}
+use Rattle.call_spec.specs.Calls.{afterVerdict, called}
 use Rattle.demands.specs.Calls.{Runs}
 use Rattle.demands.specs.Trimmed.{leftMoved, Card1}
 
@@ -24,15 +24,15 @@ module _ (b : List ℕ) (R : ReadableImage b) (frame : List ℕ) (budget : ℕ) 
   unfolding called
   call-same = go (verdict b (length work) (length report)) refl
     where
-      moves : verdict (trimmed b) (length work) (length report) ≡ moved (trimmedPlace b) (verdict b (length work) (length report))
+      moves : verdict (trimmed b) (length work) (length report) ≡ mapPlace (trimmedPlace b) (verdict b (length work) (length report))
       moves = trimmed-verdict b R (length work) (length report)
 
       go : (v : Verdict) → verdict b (length work) (length report) ≡ v → called (trimmed b) frame budget log report work ≡ leftMoved (trimmedPlace b) (called b frame budget log report work)
       go Verdict.Accepted e =
-          let z : verdict (trimmed b) (length work) (length report) ≡ Verdict.Accepted = moves ∙ ap (moved (trimmedPlace b)) e in
+          let z : verdict (trimmed b) (length work) (length report) ≡ Verdict.Accepted = moves ∙ ap (mapPlace (trimmedPlace b)) e in
           rw (z, e) (ap (λ E. afterVerdict Verdict.Accepted E log report work) (run-same e))
       go (Verdict.Refused r o) e =
-          let z : verdict (trimmed b) (length work) (length report) ≡ Verdict.Refused r (trimmedPlace b o) = moves ∙ ap (moved (trimmedPlace b)) e in
+          let z : verdict (trimmed b) (length work) (length report) ≡ Verdict.Refused r (trimmedPlace b o) = moves ∙ ap (mapPlace (trimmedPlace b)) e in
           rw (z, e) refl
 
 pub card1 : (b : List ℕ) → ReadableImage b → Card1 b

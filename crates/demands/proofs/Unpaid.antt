@@ -12,7 +12,7 @@ use Rattle.calculus.specs.declared.Outcome.{Outcome}
 use Rattle.calculus.specs.Combinators.{choose, cases}
 use Rattle.calculus.specs.Syntax.{Ty, Val, Tm, asValue}
 use Rattle.calculus.specs.State.{State, Given, fresh}
-use Rattle.calculus.specs.Answer.{Answer, go}
+use Rattle.calculus.specs.Answer.{Answer, reduct}
 use Rattle.calculus.specs.Place.{top}
 use Rattle.calculus.specs.Step.{step}
 use Rattle.calculus.specs.Run.{done, stopped, stuck, Ended, ended, after, unpaid, run}
@@ -29,10 +29,10 @@ use Rattle.image.specs.Program.{toTm}
 use Rattle.verdict.specs.declared.Verdict.{Verdict}
 use Rattle.verdict.specs.Verdicts.{verdict}
 use Rattle.verdict.specs.Domains.{policy}
-use Rattle.calls.specs.Runs.{Accepts, programOf, givenBy, runOf}
-use Rattle.calls.specs.Calls.{Left, answerOf, leftBy, called}
-use Rattle.calls.proofs.Accepted.{transitive, typed}
-use Rattle.demands.specs.Unpaid.{runBefore, calledBefore, namesRoom, lacksNext, Card5}
+use Rattle.call_spec.specs.Runs.{Accepts, programOf, givenBy, runOf}
+use Rattle.call_spec.specs.Calls.{Left, answerOf, leftBy, called}
+use Rattle.call_spec.proofs.Accepted.{transitive, typed}
+use Rattle.demands.specs.Unpaid.{runBefore, calledBefore, namesCapacity, lacksNext, Card5}
 
 -- Of two runs, before with a step more and before: which is the run now, and what it was where they differ.
 record Told (m : ℕ) (E Z X : Ended) : Type 0 where
@@ -47,8 +47,8 @@ and-no : (b : Bool) → (b && false) ≡ false
 and-no true = refl
 and-no false = refl
 
-no-room : (m : ℕ) (Z : Ended) → namesRoom (answerOf Z .ending) ≡ false → lacksNext m (answerOf Z) ≡ false
-no-room m Z h = rw h (and-no (eqb (Z .steps) m))
+no-capacity : (m : ℕ) (Z : Ended) → namesCapacity (answerOf Z .ending) ≡ false → lacksNext m (answerOf Z) ≡ false
+no-capacity m Z h = rw h (and-no (eqb (Z .steps) m))
 
 one-more : (m : ℕ) (Z : Ended) → Z .steps ≡ suc m → lacksNext m (answerOf Z) ≡ false
 one-more m Z e = rw (e, ne-eqb (suc m) m (λ z. omega arith)) refl
@@ -81,7 +81,7 @@ module _ (D : Policy) (trans : Transitive D) (G : Given) where
 
       look : (o : Option Val) → asValue e ≡ o
           → Told m (cases o (λ v. ended (done v) k s) (λ u. ended (unpaid (step e G top s)) k s)) (cases o (λ v. ended (done v) k s) (λ u. following (step e G top s))) (cases o (λ v. ended (done v) k s) (λ u. ended (stopped Outcome.Spent) k s))
-      look (some v) q = same (no-room m (ended (done v) k s) refl)
+      look (some v) q = same (no-capacity m (ended (done v) k s) refl)
       look none q = answered (safe D Σ trans G h refl q top all-nil s f)
   told (suc n) {Σ} {e} {t} h k s f m z = look (asValue e) refl (λ Σ′ s′ e′ f′ h′. told n h′ (suc k) s′ f′ m (z ∙ omega arith))
     where
@@ -98,12 +98,12 @@ module _ (D : Policy) (trans : Transitive D) (G : Given) where
       answered : Later → {a : Answer State Tm} → Safe D Σ 0 t a → Told m (by (λ s′ e′. run n G (suc k) s′ e′) a) (by (λ s′ e′. runBefore (suc n) G (suc k) s′ e′) a) (by (λ s′ e′. runBefore n G (suc k) s′ e′) a)
       answered later (safe-go {Σ′} {s = s′} {e = e′} x f′ h′) = later Σ′ s′ e′ f′ h′
       answered later (safe-full {o} r) = ends-now (λ i. omega arith)
-      answered later safe-halt = same (no-room m (ended (stopped Outcome.Aborted) (suc k) s) refl)
+      answered later safe-halt = same (no-capacity m (ended (stopped Outcome.Aborted) (suc k) s) refl)
 
       look : (o : Option Val) → asValue e ≡ o → Later
           → Told m (cases o (λ v. ended (done v) k s) (λ u. by (λ s′ e′. run n G (suc k) s′ e′) (step e G top s))) (cases o (λ v. ended (done v) k s) (λ u. by (λ s′ e′. runBefore (suc n) G (suc k) s′ e′) (step e G top s)))
           (cases o (λ v. ended (done v) k s) (λ u. by (λ s′ e′. runBefore n G (suc k) s′ e′) (step e G top s)))
-      look (some v) q later = same (no-room m (ended (done v) k s) refl)
+      look (some v) q later = same (no-capacity m (ended (done v) k s) refl)
       look none q later = answered later (safe D Σ trans G h refl q top all-nil s f)
 
 -- What the two calls before left, and the answer of the one now.
@@ -124,7 +124,7 @@ module _ (b frame : List ℕ) (budget : ℕ) (log report work : List ℕ) where
         now = c ∙ ap (λ (E : Ended). leftBy E log report work) (w .now) ∙ left-either (lacksNext budget (answerOf (before (suc budget)))) (before (suc budget)) (before budget);
         changed = λ t.
             record {
-              room = w .was t .0;
+              capacity = w .was t .0;
               last = before budget .state;
               was = ap (λ (E : Ended). leftBy E log report work) (w .was t .2);
               is = ap (λ (E : Ended). leftBy E log report work) (w .was t .1);
@@ -133,11 +133,11 @@ module _ (b frame : List ℕ) (budget : ℕ) (log report work : List ℕ) where
 
   pub card5 : Card5 b frame budget log report work (calledBefore b frame budget log report work) (calledBefore b frame (suc budget) log report work)
   unfolding called
-  card5 = go (verdict b (length work) (length report)) refl
+  card5 = reduct (verdict b (length work) (length report)) refl
     where
-      go : (v : Verdict) → verdict b (length work) (length report) ≡ v
+      reduct : (v : Verdict) → verdict b (length work) (length report) ≡ v
           → Card5 b frame budget log report work (calledBefore b frame budget log report work) (calledBefore b frame (suc budget) log report work)
-      go Verdict.Accepted e =
+      reduct Verdict.Accepted e =
           let A : Accepts b = record { work = length work; report = length report; verdict-is = e } in
           left-told (told (policy (recordsOf b)) (transitive b A) (givenBy frame log) budget (typed b A .typed) 0 fresh (fits-fresh (policy (recordsOf b))) budget (omega arith)) _ _ (rw e refl) (rw e refl) (rw e refl)
-      go (Verdict.Refused r place) e = rw e (record { now = rw (e, and-no (eqb 0 budget)) refl; changed = λ t. absurd (true≢false (sym t ∙ and-no (eqb 0 budget))) })
+      reduct (Verdict.Refused r place) e = rw e (record { now = rw (e, and-no (eqb 0 budget)) refl; changed = λ t. absurd (true≢false (sym t ∙ and-no (eqb 0 budget))) })

@@ -5,7 +5,7 @@ use mathlib.Core.Bool.{Bool}
 use mathlib.Core.List.{List}
 use Rattle.calculus.specs.Syntax.{Dom}
 use Rattle.calculus_noninterference.specs.Observe.{highBranches, CutEqual}
-use Rattle.calls.specs.Runs.{runOf}
+use Rattle.call_spec.specs.Runs.{runOf}
 use Rattle.demands.specs.Calls.{Runs}
 use Rattle.demands.specs.Compare.{Compared}
 

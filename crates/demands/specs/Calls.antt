@@ -17,7 +17,7 @@ use Rattle.verdict.specs.Acceptable.{Acceptable}
 use Rattle.report.specs.declared.Ending.{Ending}
 use Rattle.report.specs.Written.{leavesIn, logBytes, reportBytes}
 use Rattle.report.specs.Read.{readReport}
-use Rattle.calls.specs.Calls.{Left, called}
+use Rattle.call_spec.specs.Calls.{Left, called}
 
 -- "A call turned back at the gate makes no run": a call with image b, this report and this work area makes one.
 abbrev pub Runs : List ℕ → List ℕ → List ℕ → Type 0
@@ -31,7 +31,7 @@ abbrev pub reportWritten : Left → List ℕ
 reportWritten X = take (X .answer .report) (X .report)
 
 -- Of a call that runs: E is the calculus's run of the image's program, and X what the call answers and leaves.
-pub record RunsOut (E : Ended) (budget : ℕ) (log report work : List ℕ) (X : Left) : Type 0 where
+pub record RunOutput (E : Ended) (budget : ℕ) (log report work : List ℕ) (X : Left) : Type 0 where
   -- one of document 01's outcomes, with card 9's: the run's, and the call's
   pub outcome : Outcome
   pub outcome-is : reported E .outcome ≡ some outcome

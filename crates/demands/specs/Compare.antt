@@ -10,8 +10,8 @@ use Rattle.image.specs.Layout.{recordsOf}
 use Rattle.image.specs.Program.{blanked}
 use Rattle.verdict.specs.Domains.{masks, leq}
 use Rattle.demands.specs.SameBytes.{SameBytes}
-use Rattle.calls.specs.Runs.{programOf}
-use Rattle.calls.specs.Calls.{Left, called}
+use Rattle.call_spec.specs.Runs.{programOf}
+use Rattle.call_spec.specs.Calls.{Left, called}
 use Rattle.demands.specs.Calls.{Runs, logWritten, reportWritten}
 
 -- "The high domains are any set of the images' domains that holds 0 and, with each member d, every domain q with d ≤ q."

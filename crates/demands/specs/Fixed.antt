@@ -11,8 +11,8 @@ use Rattle.base_bytes.specs.Bytes.{over}
 use Rattle.image_written.specs.Written.{fixed}
 use Rattle.write_fixed.specs.declared.Written.{Written}
 use Rattle.write_fixed.specs.Calls.{fixedCall}
-use Rattle.calls.specs.Runs.{runOf}
-use Rattle.calls.specs.Calls.{called}
+use Rattle.call_spec.specs.Runs.{runOf}
+use Rattle.call_spec.specs.Calls.{called}
 use Rattle.demands.specs.Calls.{Runs}
 
 -- Two images have the same domains and the same program tree with types.

@@ -27,8 +27,8 @@ use Rattle.image_needs.specs.declared.Forecast.{Forecast}
 use Rattle.image_needs.specs.Faults.{lowestFault}
 use Rattle.image_needs.specs.Forecasts.{needsOf, forecast}
 use Rattle.report.specs.Read.{readLog, readReport}
-use Rattle.calls.specs.Runs.{programOf, givenBy}
-use Rattle.calls.specs.Calls.{Left, called}
+use Rattle.call_spec.specs.Runs.{programOf, givenBy}
+use Rattle.call_spec.specs.Calls.{Left, called}
 use Rattle.demands.specs.Calls.{Runs, logWritten, reportWritten}
 use Rattle.demands.specs.SameBytes.{SaysDone}
 

@@ -7,7 +7,7 @@ pub mod LowMethods
 pub mod LowTakedowns
 pub mod Unpaid
 pub mod Branches
-pub mod MainlineRoom
+pub mod MainlineCapacity
 pub mod NewestFirst
 pub mod Forecast
 pub mod Fixed

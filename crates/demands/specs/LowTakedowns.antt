@@ -9,8 +9,8 @@ use Rattle.image.specs.Kinds.{TermKind, isKind}
 use Rattle.image.specs.Layout.{recordsOf}
 use Rattle.image.specs.Program.{Program, node, blank, Programs, end, more, lowBody}
 use Rattle.verdict.specs.Domains.{masks}
-use Rattle.calls.specs.Runs.{programOf}
-use Rattle.calls.specs.Calls.{called}
+use Rattle.call_spec.specs.Runs.{programOf}
+use Rattle.call_spec.specs.Calls.{called}
 use Rattle.demands.specs.Calls.{Runs}
 use Rattle.demands.specs.Compare.{HighSet, SameLeft}
 

@@ -9,7 +9,7 @@ use lib.ListN.{getElem?}
 use Rattle.calculus.specs.Syntax.{Dom, Ty, Val, Tm, mark}
 use Rattle.calculus.specs.State.{Advice, State, Given, adviceBindings}
 use Rattle.calculus.specs.Place.{Place}
-use Rattle.calculus.specs.Answer.{go, spend}
+use Rattle.calculus.specs.Answer.{reduct, spend}
 use Rattle.calculus.specs.Compose.{matching, triggeredBy, composed}
 use Rattle.calculus.specs.Reduce.{reduce2}
 use Rattle.calculus_noninterference.specs.Observe.{highOf}
@@ -22,7 +22,7 @@ pub record Card8 : Type 0 where
   -- the step of a mark with a label that is there: figure 5, which takes the matching advice in the order of its list, over the installed advice reversed
   pub figure5 :
       (G : Given) (P : Place) (s : State) (t : Ty) (l : ℕ) (v : Val) (p : Dom) → getElem? (s .labels) l ≡ some p
-      → reduce2 G P s mark t (Val.label l) v ≡ spend (adviceBindings (matching l (reverse (s .advices)))) s (λ s′. go s′ (composed v (matching l (reverse (s .advices)))))
+      → reduce2 G P s mark t (Val.label l) v ≡ spend (adviceBindings (matching l (reverse (s .advices)))) s (λ s′. reduct s′ (composed v (matching l (reverse (s .advices)))))
   -- what is picked is what matches, in the order of installation reversed
   pub newest : (l : ℕ) (x : List (Advice Tm)) → triggeredBy l x ≡ reverse (matching l x)
   -- of what is picked, the high ones are those picked from the high ones alone

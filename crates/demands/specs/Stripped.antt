@@ -13,13 +13,13 @@ use Rattle.image.specs.Program.{toTm}
 use Rattle.verdict.specs.Domains.{masks}
 use Rattle.image_written.specs.Written.{fixed}
 use Rattle.image_written.specs.Stripped.{stripped as strippedTree, withoutWatches}
-use Rattle.write_idle.specs.Idle.{inMask}
+use Rattle.write_unit_bodies.specs.UnitBodies.{inMask}
 use Rattle.write_stripped.specs.declared.Stripped.{Stripped}
 use Rattle.write_stripped.specs.Calls.{strippedCall}
 use Rattle.report.specs.declared.Ending.{Ending}
 use Rattle.report.specs.Read.{readReport}
-use Rattle.calls.specs.Runs.{programOf}
-use Rattle.calls.specs.Calls.{Left, called}
+use Rattle.call_spec.specs.Runs.{programOf}
+use Rattle.call_spec.specs.Calls.{Left, called}
 use Rattle.demands.specs.Calls.{Runs, logWritten, reportWritten}
 use Rattle.demands.specs.SameBytes.{highPrintsIn, highCellsIn, SaysDone}
 use Rattle.demands.specs.Compare.{HighSet}

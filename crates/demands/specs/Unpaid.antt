@@ -16,9 +16,9 @@ use Rattle.calculus.specs.Report.{outcomeNumber}
 use Rattle.image.specs.Program.{toTm}
 use Rattle.verdict.specs.Verdicts.{verdict}
 use Rattle.report.specs.declared.Ending.{Ending}
-use Rattle.calls.specs.declared.Answer.{Answer}
-use Rattle.calls.specs.Runs.{programOf, givenBy}
-use Rattle.calls.specs.Calls.{Left, leftBy, afterVerdict, called}
+use Rattle.call_spec.specs.declared.Answer.{Answer}
+use Rattle.call_spec.specs.Runs.{programOf, givenBy}
+use Rattle.call_spec.specs.Calls.{Left, leftBy, afterVerdict, called}
 
 -- A run before the card: where no value is reached it is spent as soon as steps equal the budget. All else is as in `run`.
 unfoldable pub runBefore : ℕ → Given → ℕ → State → Tm → Ended
@@ -27,7 +27,7 @@ runBefore (suc n) G k s e =
     unlessDone e k s λ no-value.
     after (step e G top s)
     (λ s′ e′. runBefore n G (suc k) s′ e′)
-    (λ room. ended (stopped room) k s)
+    (λ capacity. ended (stopped capacity) k s)
     (λ aborted. ended (stopped Outcome.Aborted) (suc k) s)
     (λ no-rule. ended stuck k s)
 
@@ -37,20 +37,20 @@ calledBefore b frame budget log report work =
     afterVerdict (verdict b (length work) (length report)) (runBefore budget (givenBy frame log) 0 fresh (toTm (programOf b))) log report work
 
 -- The outcomes 3 to 12, of which each names a room: the card's 3 to 9, and 10 to 12, which card 9 added.
-abbrev pub namesRoom : Ending → Bool
-namesRoom (Ending.Ended o) = ltb (outcomeNumber Outcome.Aborted) (outcomeNumber o)
-namesRoom Ending.NoOutcome = false
+abbrev pub namesCapacity : Ending → Bool
+namesCapacity (Ending.Ended o) = ltb (outcomeNumber Outcome.Aborted) (outcomeNumber o)
+namesCapacity Ending.NoOutcome = false
 
 -- "No value reached, and no room for the next step" after so many steps: with a step more in the budget a call was told so.
 abbrev pub lacksNext : ℕ → Answer → Bool
-lacksNext steps a = eqb (a .steps) steps && namesRoom (a .ending)
+lacksNext steps a = eqb (a .steps) steps && namesCapacity (a .ending)
 
 -- Two calls that left the same but for the outcome: spent, and a room that is missing. last is the state in which both runs ended, after as many steps as the budget.
 pub record OnlyOutcome (budget : ℕ) (log report work : List ℕ) (X Z : Left) : Type 0 where
-  pub room : Outcome
+  pub capacity : Outcome
   pub last : State
   pub was : X ≡ leftBy (ended (stopped Outcome.Spent) budget last) log report work
-  pub is : Z ≡ leftBy (ended (stopped room) budget last) log report work
+  pub is : Z ≡ leftBy (ended (stopped capacity) budget last) log report work
 
 -- Of any call, X being what it answered and left before, and Z what it did with a step more in the budget.
 pub record Card5 (b frame : List ℕ) (budget : ℕ) (log report work : List ℕ) (X Z : Left) : Type 0 where

@@ -5,7 +5,7 @@ use mathlib.Core.List.{List, [], _∷_}
 use Rattle.calculus.specs.Combinators.{cases}
 use Rattle.calculus.specs.State.{picked}
 use Rattle.calculus.specs.Subst.{subst}
-use Rattle.calculus.specs.Answer.{carry, if-room, with, spend}
+use Rattle.calculus.specs.Answer.{carry, if-capacity, with, spend}
 use Rattle.calculus.specs.Step.{step}
 use Rattle.calculus.specs.Run.{after, run}
 use Rattle.calculus.specs.Report.{leaves}
@@ -26,9 +26,9 @@ use Rattle.verdict.proofs.Images.{little, rec, image, one-domain, two-domains, 
 use Rattle.verdict.proofs.Examples.{lowered, same-lowered}
 use Rattle.base_bytes.specs.Bytes.{bytesOf, over, cleared}
 use Rattle.report.specs.Records.{recordsBytes}
-use Rattle.calls.specs.Runs.{programOf}
-use Rattle.calls.specs.Calls.{Left, called}
-use Rattle.listing.specs.Sheet.{zeros}
+use Rattle.call_spec.specs.Runs.{programOf}
+use Rattle.call_spec.specs.Calls.{Left, called}
+use Rattle.listing.specs.Conformance.{zeros}
 use Rattle.demands.specs.Calls.{Runs, logWritten}
 use Rattle.demands.specs.Compare.{HighSet, Compared, SameLeft}
 use Rattle.demands.specs.LowMethods.{SameButMethods, inside, object, no-child, alike, low-body}
@@ -57,7 +57,7 @@ low-runs = (refl, refl)
 pub low-logs : (logWritten (lowCall 1) ≡ 10 ∷ 0 ∷ 64 ∷ 0 ∷ 1 ∷ 0 ∷ 1 ∷ 0 ∷ 0 ∷ 0 ∷ []) × (logWritten (lowCall 2) ≡ 10 ∷ 0 ∷ 64 ∷ 0 ∷ 1 ∷ 0 ∷ 2 ∷ 0 ∷ 0 ∷ 0 ∷ [])
 unfolding lowCall called lowered verdict inTurn requireFrom walk layout recordsOf tests find words allWithin all allOf anyBelow firstFault shape atFault leq order bits count uses depths depthsFrom typing check checkAll typeOf typeFrom typeOut
     little rec image one-domain two-domains unit number literal
-    program tree toTm assemble run after cases step subst carry if-room with spend picked leaves
+    program tree toTm assemble run after cases step subst carry if-capacity with spend picked leaves
     over cleared bytesOf recordsBytes
 low-logs = (refl, refl)
 
@@ -106,7 +106,7 @@ both-run = (refl, refl)
 pub method-logs : (logWritten (methodCall 1) ≡ 10 ∷ 0 ∷ 64 ∷ 0 ∷ 1 ∷ 0 ∷ 1 ∷ 0 ∷ 0 ∷ 0 ∷ []) × (logWritten (methodCall 2) ≡ 10 ∷ 0 ∷ 64 ∷ 0 ∷ 1 ∷ 0 ∷ 2 ∷ 0 ∷ 0 ∷ 0 ∷ [])
 unfolding methodCall called calling verdict inTurn requireFrom walk layout recordsOf tests find words allWithin all allOf anyBelow firstFault shape atFault leq order bits count uses depths depthsFrom typing check checkAll typeOf typeFrom typeOut
     little rec image one-domain two-domains unit number literal
-    program tree toTm assemble run after cases step subst carry if-room with spend picked leaves
+    program tree toTm assemble run after cases step subst carry if-capacity with spend picked leaves
     over cleared bytesOf recordsBytes
 method-logs = (refl, refl)
 

@@ -5,7 +5,7 @@ use mathlib.Core.List.{List, [], _∷_}
 use Rattle.calculus.specs.Combinators.{cases}
 use Rattle.calculus.specs.State.{picked}
 use Rattle.calculus.specs.Subst.{subst}
-use Rattle.calculus.specs.Answer.{carry, if-room, with, spend}
+use Rattle.calculus.specs.Answer.{carry, if-capacity, with, spend}
 use Rattle.calculus.specs.Step.{step}
 use Rattle.calculus.specs.Run.{after, run}
 use Rattle.calculus.specs.Report.{leaves}
@@ -32,8 +32,8 @@ use Rattle.image_needs.specs.declared.Needs.{Needs}
 use Rattle.image_needs.specs.declared.Forecast.{Forecast}
 use Rattle.image_needs.specs.Faults.{least, lowest, lowestFault}
 use Rattle.image_needs.specs.Forecasts.{forecast}
-use Rattle.calls.specs.Calls.{Left, called}
-use Rattle.listing.specs.Sheet.{zeros}
+use Rattle.call_spec.specs.Calls.{Left, called}
+use Rattle.listing.specs.Conformance.{zeros}
 use Rattle.demands.specs.Calls.{Runs, reportWritten}
 use Rattle.demands.specs.SameBytes.{SaysDone}
 use Rattle.demands.specs.Forecast.{numbersOf, usedOf, Told, OneWay}
@@ -86,7 +86,7 @@ says-done : SaysDone (reportWritten oneWayCall)
 unfolding one-way-image oneWayCall called
     verdict inTurn requireFrom walk layout recordsOf tests find words allWithin all allOf anyBelow firstFault shape atFault leq order bits count uses depths depthsFrom typing check checkAll typeOf typeFrom typeOut
     little rec image one-domain two-domains unit number literal
-    program tree toTm assemble run after cases step subst carry if-room with spend picked leaves
+    program tree toTm assemble run after cases step subst carry if-capacity with spend picked leaves
     over cleared bytesOf recordsBytes numberAt numberOf
 says-done = refl
 

@@ -1,8 +1,8 @@
 -- Calls by computation: the bench sheet, and for each claim calls that meet its premises.
 pub mod UnpaidExample
-pub mod Sheet
+pub mod Conformance
 pub mod Mainline
 pub mod Example
-pub mod RoomExample
+pub mod CapacityExample
 pub mod NewestFirstExample
 pub mod ForecastExample

@@ -5,7 +5,7 @@ use mathlib.Core.List.{List, [], _∷_, _++_}
 use Rattle.calculus.specs.Combinators.{cases}
 use Rattle.calculus.specs.State.{picked}
 use Rattle.calculus.specs.Subst.{subst}
-use Rattle.calculus.specs.Answer.{carry, if-room, with, spend}
+use Rattle.calculus.specs.Answer.{carry, if-capacity, with, spend}
 use Rattle.calculus.specs.Step.{step}
 use Rattle.calculus.specs.Run.{after, run}
 use Rattle.calculus.specs.Report.{leaves}
@@ -25,8 +25,8 @@ use Rattle.verdict.specs.Verdicts.{verdict}
 use Rattle.verdict.proofs.Images.{little, rec, image, one-domain, two-domains, unit, number, literal}
 use Rattle.base_bytes.specs.Bytes.{bytesOf, over, cleared}
 use Rattle.report.specs.Records.{recordsBytes}
-use Rattle.calls.specs.Calls.{Left, called}
-use Rattle.listing.specs.Sheet.{zeros}
+use Rattle.call_spec.specs.Calls.{Left, called}
+use Rattle.listing.specs.Conformance.{zeros}
 use Rattle.demands.specs.Calls.{Runs, logWritten}
 use Rattle.demands.specs.Compare.{Compared, SameLeft}
 use Rattle.demands.proofs.Demands.{demand3}
@@ -69,7 +69,7 @@ logged d n = 10 ∷ 0 ∷ 64 ∷ 0 ∷ d ∷ 0 ∷ n ∷ 0 ∷ 0 ∷ 0 ∷ []
 pub mark-logs : (logWritten (markCall low-between) ≡ logged 0 7 ++ logged 1 5 ++ logged 0 3) × (logWritten (markCall none-between) ≡ logged 0 7 ++ logged 0 3)
 unfolding markCall called verdict inTurn requireFrom walk layout recordsOf tests find words allWithin all allOf anyBelow firstFault shape atFault leq order bits count uses depths depthsFrom typing check checkAll typeOf typeFrom typeOut
     little rec image one-domain two-domains unit number literal watchedTwice low-between none-between
-    program tree toTm assemble run after cases step subst carry if-room with spend picked leaves
+    program tree toTm assemble run after cases step subst carry if-capacity with spend picked leaves
     over cleared bytesOf recordsBytes
 mark-logs = (refl, refl)
 

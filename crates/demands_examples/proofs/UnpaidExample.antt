@@ -5,7 +5,7 @@ use mathlib.Core.List.{List, [], _∷_}
 use Rattle.calculus.specs.declared.Outcome.{Outcome}
 use Rattle.calculus.specs.Combinators.{cases}
 use Rattle.calculus.specs.State.{picked}
-use Rattle.calculus.specs.Answer.{if-room, with}
+use Rattle.calculus.specs.Answer.{if-capacity, with}
 use Rattle.calculus.specs.Step.{step}
 use Rattle.calculus.specs.Run.{run}
 use Rattle.image.specs.Limits.{workLength, reportLength}
@@ -23,8 +23,8 @@ use Rattle.verdict.specs.Check.{checkAll, check, typing}
 use Rattle.verdict.specs.Verdicts.{verdict}
 use Rattle.verdict.proofs.Images.{little, rec, image, one-domain, unit, number, literal}
 use Rattle.report.specs.declared.Ending.{Ending}
-use Rattle.calls.specs.Calls.{called}
-use Rattle.listing.specs.Sheet.{zeros}
+use Rattle.call_spec.specs.Calls.{called}
+use Rattle.listing.specs.Conformance.{zeros}
 use Rattle.demands.specs.Unpaid.{runBefore, calledBefore}
 
 unfoldable printing : List ℕ
@@ -41,5 +41,5 @@ unpaid-print : (endings 9 ≡ Ending.Ended Outcome.Log ∷ Ending.Ended Outcome.
 unfolding printing called
     verdict inTurn requireFrom walk layout recordsOf tests find words allWithin all allOf anyBelow firstFault shape atFault leq order bits count uses depths depthsFrom typing check checkAll typeOf typeFrom typeOut
     little rec image one-domain unit number literal
-    program tree toTm assemble run runBefore cases step if-room with picked
+    program tree toTm assemble run runBefore cases step if-capacity with picked
 unpaid-print = (refl, refl)

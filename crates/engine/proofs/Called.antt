@@ -8,10 +8,10 @@ use Rattle.image.specs.Limits.{workLength}
 use Rattle.verdict.specs.declared.Verdict.{Verdict}
 use Rattle.verdict.specs.Verdicts.{verdict}
 use Rattle.base_bytes.specs.Bytes.{cleared}
-use Rattle.calls.specs.declared.Answer.{Answer}
-use Rattle.calls.specs.Runs.{runOf}
-use Rattle.calls.specs.Calls.{refusedAnswer, leftBy, called}
-use Rattle.calls.proofs.Called.{refused-leaves, accepted-leaves}
+use Rattle.call_spec.specs.declared.Answer.{Answer}
+use Rattle.call_spec.specs.Runs.{runOf}
+use Rattle.call_spec.specs.Calls.{refusedAnswer, leftBy, called}
+use Rattle.call_spec.proofs.Called.{refused-leaves, accepted-leaves}
 
 module _ (b frame : List ℕ) (budget : ℕ) (log report work : List ℕ) where
   pub refusal-left : (r : Refusal) (place : ℕ) (a : Answer) → verdict b (length work) (length report) ≡ Verdict.Refused r place → a ≡ refusedAnswer r place

@@ -1,12 +1,12 @@
 // The answer of a refusal.
 use calculus::Leaf;
-use calls::Answer;
+use call_spec::Answer;
 use image::Refusal;
 use report::Ending;
 use report::Slot;
 use verdict::Verdict;
 ghost use mathlib.Core.Path.{_≡_};
-ghost use Rattle.calls.specs.Calls.{refusedAnswer};
+ghost use Rattle.call_spec.specs.Calls.{refusedAnswer};
 
 // The answer of a call that makes no run: it has no outcome.
 pub fn refused(why: Refusal, place: usize) -> Answer

@@ -2,7 +2,7 @@
 // steps. It writes no lent memory of a call that it refuses.
 mod answers;
 
-use calls::Answer;
+use call_spec::Answer;
 use engine_core::prepare::prepare;
 use engine_core::runs::run_code;
 use image::WORK_LENGTH;
@@ -10,7 +10,7 @@ use validator_core::call::Lent;
 use validator_core::call::check_call;
 use validator_core::examine::Checked;
 ghost use mathlib.Core.Path.{_≡_};
-ghost use Rattle.calls.specs.Calls.{called};
+ghost use Rattle.call_spec.specs.Calls.{called};
 
 // One call: image and frame are only read; log, report and work area may have any length and content. Only an accepted image
 // has code, so that a refused call makes no room for it.

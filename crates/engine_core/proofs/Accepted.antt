@@ -7,7 +7,7 @@ use Rattle.validator_core.specs.declared.call.Lent.{Lent}
 use Rattle.validator_core.specs.declared.examine.Checked.{Checked}
 use Rattle.validator_core.specs.Calls.{Read, Answered}
 use Rattle.validator_core.proofs.Calls.{accepted-so}
-use Rattle.calls.specs.Runs.{Accepts}
+use Rattle.call_spec.specs.Runs.{Accepts}
 
 module _ (b ts ks es : List ℕ) (lent : Lent) (c : Checked) (A : Answered b lent c ts ks es) (n : Counts) (e : c ≡ Checked.Accepted n) where
   pub image-accepted : Accepts b

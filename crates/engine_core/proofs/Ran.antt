@@ -13,7 +13,7 @@ use Rattle.read_terms.proofs.Located.{good-of}
 use Rattle.base_bytes.specs.Bytes.{AreBytes, over, cleared}
 use Rattle.base_bytes.specs.Memory.{wordCount}
 use Rattle.base_bytes.proofs.Memory.{length-words, length-beside}
-use Rattle.vm_code.specs.Words.{home}
+use Rattle.vm_code.specs.Words.{returnPc}
 use Rattle.vm_code.specs.Code.{codeOf, rootTarget}
 use Rattle.vm_machine.specs.declared.Regs.{Regs}
 use Rattle.vm_pools.specs.Pools.{whole}
@@ -21,15 +21,15 @@ use Rattle.vm_machine.specs.Memory.{Memory}
 use Rattle.vm_machine.specs.States.{State}
 use Rattle.vm_machine.specs.Run.{startState, turnsFor, vmRun}
 use Rattle.vm_machine.specs.Fits.{Safe}
-use Rattle.vm_tables.specs.View.{memoryOf}
-use Rattle.vm_states.specs.Phases.{Moved}
-use Rattle.calls.specs.declared.Answer.{Answer}
-use Rattle.calls.specs.Runs.{Accepts, runOf}
-use Rattle.calls.specs.Calls.{leftBy}
-use Rattle.results.specs.Ended.{reportIn, answerIn}
-use Rattle.agreement.specs.Machine.{LeavesRun}
-use Rattle.agreement.proofs.Machine.{image-fits, image-safe}
-use Rattle.agreement.proofs.Tables.{image-leaves}
+use Rattle.vm_memory.specs.View.{memoryOf}
+use Rattle.vm_registers.specs.Phases.{Represents}
+use Rattle.call_spec.specs.declared.Answer.{Answer}
+use Rattle.call_spec.specs.Runs.{Accepts, runOf}
+use Rattle.call_spec.specs.Calls.{leftBy}
+use Rattle.vm_results.specs.Ended.{reportIn, answerIn}
+use Rattle.engine_correct.specs.Machine.{LeavesRun}
+use Rattle.engine_correct.proofs.Machine.{image-fits, image-safe}
+use Rattle.engine_correct.proofs.Tables.{image-leaves}
 
 -- The descriptors are those of the image's types, which are at most 128.
 pub types-in : (b ds ts ks : List ℕ) → Tables b ds ts ks → Types b ks
@@ -59,7 +59,7 @@ module _ (b frame : List ℕ) (A : Accepts b) (bytes : AreBytes b) (budget : ℕ
   beside = omega (arith, length-beside work enough)
 
   -- The code has the word that goes back to a caller; and the run is safe.
-  pub code-long : home < length code
+  pub code-long : returnPc < length code
   code-long = rw same (image-fits b A bytes .long)
 
   pub run-safe : Safe (record { code = code; image = b }) frame (turnsFor budget) (startState (record { code = code; image = b }) target budget M log)
@@ -73,7 +73,7 @@ module _ (b frame : List ℕ) (A : Accepts b) (bytes : AreBytes b) (budget : ℕ
   report-asks q e = rw e (leaves-run .cells, leaves-run .rest)
 
   -- The front of the work area holds anything; past it nothing changed.
-  pub run-left : (work′ log′ report report′ : List ℕ) (q : Regs) (a : Answer) → Moved S work work′ log′ q → a ≡ answerIn (memoryOf work′) q budget → report′ ≡ over 0 (reportIn (memoryOf work′) q budget) report
+  pub run-left : (work′ log′ report report′ : List ℕ) (q : Regs) (a : Answer) → Represents S work work′ log′ q → a ≡ answerIn (memoryOf work′) q budget → report′ ≡ over 0 (reportIn (memoryOf work′) q budget) report
       → record { answer = a; log = log′; report = report′; work = cleared workLength work′ } ≡ leftBy (runOf b frame budget log) log report work
   unfolding cleared
   run-left work′ log′ report report′ q a m p r =

@@ -16,7 +16,7 @@ use Rattle.image.specs.Types.{children}
 use Rattle.image.specs.Program.{subtrees, tree}
 use Rattle.laws.proofs.Booleans.{le-of}
 use Rattle.laws.proofs.Tests.{each, passed}
-use Rattle.image.proofs.Laid.{Below, Good, same-image}
+use Rattle.image.proofs.Laid.{Below, LayoutOk, same-image}
 
 -- A record that passes has 4 bytes or more, inside the image.
 passed-size : (L : Layout) (o : ℕ) → firstFault (tests L o) ≡ none → (4 ≤ lengthAt (L .image) o) × (o + lengthAt (L .image) o ≤ length (L .image))
@@ -64,7 +64,7 @@ walk-fuel (suc f) (suc g) o L l m = go (λ p K x y. walk-fuel f g p K x y) (eqb 
     go next true e = rw (e, walk) refl
     go next false e = read next e (firstFault (tests L o)) refl
 
-module _ (L : Layout) (good : Good L) where
+module _ (L : Layout) (good : LayoutOk L) where
   trees-cong : (f g m : ℕ) → ((e : ℕ) → e < m → tree L f e ≡ tree L g e) → (es : List ℕ) → Below m es → subtrees (λ e. tree L f e) es ≡ subtrees (λ e. tree L g e) es
   trees-cong f g m h [] b = refl
   trees-cong f g m h (e ∷ es) b = let x = h e (b .0) in let y = trees-cong f g m h es (b .1) in cc

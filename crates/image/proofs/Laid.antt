@@ -13,7 +13,7 @@ use Rattle.laws.specs.Tests.{firstFault}
 use Rattle.image.specs.Bytes.{lengthAt, numberAt, fieldAt}
 use Rattle.image.specs.Kinds.{in-domains, in-operations, in-truths, any-number, Field, a-type, a-domain, own, free, a-term, an-entry, TypeKind, TermKind, Kind, domain, type, term, domainRow, typeRow, termRow, rowOf, kindOf, find, again}
 use Rattle.image.specs.Records.{Layout, kindAt, times, knownLength, fieldsAt, numbersAt, asChild, given, childrenAt}
-use Rattle.image.specs.Layout.{isSome, nothing, framed, known, longEnough, rightLength, isNil, inOrder, hasRoom, within, allWithin, inRange, sameNumbers, sameType, isNew, tests, add, stopped, laid, walk, layout, recordsOf}
+use Rattle.image.specs.Layout.{isSome, nothing, framed, known, longEnough, rightLength, isNil, inOrder, hasCapacity, within, allWithin, inRange, sameNumbers, sameType, isNew, tests, add, stopped, laid, walk, layout, recordsOf}
 use Rattle.image.specs.Types.{typeKindOf, termKindOf, domainPlace, typePlace, termPlace, typeKind, termKind}
 use Rattle.image.specs.LaidOut.{Stands, Within, IsRecord}
 use Rattle.laws.proofs.Booleans.{no-path, and-l, and-r, and-i, not-t, lt-of, le-of, eq-of, of-eq}
@@ -48,7 +48,7 @@ pub record TermOk (b : List ℕ) (domains types : ℕ) (k : TermKind) (n o : ℕ
   pub domained : (i : ℕ) → getD (fieldsAt b o (termRow k)) i free ≡ a-domain → getD (numbersAt b o (termRow k)) i 0 < domains
   pub below : Below n (childrenAt b o (termRow k))
 
-pub record Good (L : Layout) : Type 0 where
+pub record LayoutOk (L : Layout) : Type 0 where
   pub few-domains : length (L .domains) ≤ domainLimit
   pub few-types : length (L .types) ≤ typeLimit
   pub few-terms : length (L .terms) ≤ termLimit
@@ -174,7 +174,7 @@ pub record Passes (L : Layout) (o : ℕ) (k : Kind) : Type 0 where
   pub kind : kindOf (numberAt (L .image) o) ≡ some k
   pub right : rightLength (rowOf k) (lengthAt (L .image) o) ≡ true
   pub order : inOrder k L ≡ true
-  pub room : hasRoom k L ≡ true
+  pub capacity : hasCapacity k L ≡ true
   pub range : inRange L o (rowOf k) ≡ true
   pub new : isNew k o L ≡ true
 
@@ -188,15 +188,15 @@ tests-passed L o h =
     let h6 = passed _ _ _ (h5 .1) in
     let h7 = passed _ _ _ (h6 .1) in
     let h8 = passed _ _ _ (h7 .1) in
-    record { whole = h2 .0; kind = kind-known (L .image) o (h3 .0); right = h4 .0; order = h5 .0; room = h6 .0; range = h7 .0; new = h8 .0 }
+    record { whole = h2 .0; kind = kind-known (L .image) o (h3 .0); right = h4 .0; order = h5 .0; capacity = h6 .0; range = h7 .0; new = h8 .0 }
 
 -- A record that passes the tests keeps the layout good.
-pub add-good : (L : Layout) (o : ℕ) (k : Kind) → kindAt (L .image) o ≡ k → Passes L o k → Good L → Good (add k o L)
+pub add-good : (L : Layout) (o : ℕ) (k : Kind) → kindAt (L .image) o ≡ k → Passes L o k → LayoutOk L → LayoutOk (add k o L)
 add-good L o domain e p g =
     let order = each _ (p .order) in
     let no-types : length (L .types) ≡ 0 = nil (L .types) (order .0) in
     let no-terms : length (L .terms) ≡ 0 = nil (L .terms) (order .1 .0) in
-    let room : length (L .domains) < domainLimit = lt-of (p .room) in
+    let capacity : length (L .domains) < domainLimit = lt-of (p .capacity) in
     record {
       few-domains = omega (arith, length-append (L .domains) (o ∷ []));
       few-types = g .few-types;
@@ -207,7 +207,7 @@ add-good L o domain e p g =
     }
 add-good L o (type k) e p g =
     let no-terms : length (L .terms) ≡ 0 = nil (L .terms) (p .order) in
-    let room : length (L .types) < typeLimit = lt-of (p .room) in
+    let capacity : length (L .types) < typeLimit = lt-of (p .capacity) in
     let b : List ℕ = L .image in
     let ts : List ℕ = L .types ++ (o ∷ []) in
     let before : (u : ℕ) → u < length (L .types) → getD ts u 0 ≡ getD (L .types) u 0 = λ u l. List·getD-append (L .types) (o ∷ []) 0 u l in
@@ -231,7 +231,7 @@ add-good L o (type k) e p g =
       terms = λ n l. absurd (omega arith);
     }
 add-good L o (term k) e p g =
-    let room : length (L .terms) < termLimit = lt-of (p .room) in
+    let capacity : length (L .terms) < termLimit = lt-of (p .capacity) in
     let b : List ℕ = L .image in
     let first = type-there k b o in
     let at-first : getD (numbersAt b o (termRow k)) 0 0 ≡ fieldAt b o 0 = words-at b (o + 4) (length (fieldsAt b o (termRow k))) 0 (first .1) in
@@ -254,7 +254,7 @@ add-good L o (term k) e p g =
           (subst (λ j. TermOk b (length (L .domains)) (length (L .types)) j (length (L .terms)) o) (sym (ap termKindOf e)) ok);
     }
 
-pub nothing-good : (b : List ℕ) → Good (nothing b)
+pub nothing-good : (b : List ℕ) → LayoutOk (nothing b)
 nothing-good b =
     record {
       few-domains = omega arith;
@@ -293,9 +293,9 @@ module _ (P : ℕ → Layout → Type 0) (keep : (o : ℕ) (L : Layout) → firs
 pub walk-keeps : (P : Layout → Type 0) → ((o : ℕ) (L : Layout) → firstFault (tests L o) ≡ none → P L → P (add (kindAt (L .image) o) o L)) → (f o : ℕ) (L M : Layout) → walk f o L ≡ laid M → P L → P M
 walk-keeps P keep f o L M h g = walk-reaches (λ p K. P K) keep f o L M h g
 
-pub layout-good : (b : List ℕ) (L : Layout) → layout b ≡ laid L → Good L
+pub layout-good : (b : List ℕ) (L : Layout) → layout b ≡ laid L → LayoutOk L
 unfolding layout
-layout-good b L h = walk-keeps Good (λ o K q g. add-good K o (kindAt (K .image) o) refl (tests-passed K o q) g) (length b) 0 (nothing b) L h (nothing-good b)
+layout-good b L h = walk-keeps LayoutOk (λ o K q g. add-good K o (kindAt (K .image) o) refl (tests-passed K o q) g) (length b) 0 (nothing b) L h (nothing-good b)
 
 pub records-of : (b : List ℕ) (L : Layout) → layout b ≡ laid L → recordsOf b ≡ L
 unfolding recordsOf

@@ -14,7 +14,7 @@ use Rattle.laws.specs.Tests.{firstFault}
 use Rattle.image.specs.Bytes.{lengthAt, numberAt}
 use Rattle.image.specs.Kinds.{in-domains, in-operations, in-truths, any-number, Field, a-type, own, free, a-term, an-entry, Kind, domain, type, term, domainRow, typeRow, termRow, rowOf, kindOf}
 use Rattle.image.specs.Records.{Layout, orElse, kindAt, fieldsAt, numbersAt}
-use Rattle.image.specs.Layout.{nothing, known, longEnough, rightLength, isNil, inOrder, hasRoom, within, allWithin, inRange, sameType, isNew, tests, add, laid, walk, layout}
+use Rattle.image.specs.Layout.{nothing, known, longEnough, rightLength, isNil, inOrder, hasCapacity, within, allWithin, inRange, sameType, isNew, tests, add, laid, walk, layout}
 use Rattle.image.specs.Types.{typeKindOf, typePlace, typeNumber, typeKind, typeFields, termKind}
 use Rattle.image.specs.LaidOut.{EndToEnd, Stands, Within, IsRecord, SameType, LaidOut}
 use Rattle.laws.proofs.Booleans.{no-path, and-i, of-lt, of-le, eq-of, of-eq}
@@ -90,7 +90,7 @@ walked-out b L h =
 record Follows (K : Layout) (o : ℕ) (k : Kind) : Type 0 where
   is : IsRecord (K .image) (rowOf k) o (length (K .domains)) (length (K .types)) (length (K .terms))
   order : inOrder k K ≡ true
-  room : hasRoom k K ≡ true
+  capacity : hasCapacity k K ≡ true
   new : isNew k o K ≡ true
 
 of-within : (K : Layout) (f : Field) (v : ℕ) → Within (length (K .domains)) (length (K .types)) (length (K .terms)) f v → within K f v ≡ true
@@ -146,7 +146,7 @@ follows-passes K o k w =
     (pass _ _ _ there
     (pass _ _ _ (subst (λ j. rightLength (rowOf j) (lengthAt b o) ≡ true) q right)
     (pass _ _ _ (subst (λ j. inOrder j K ≡ true) q (w .order))
-    (pass _ _ _ (subst (λ j. hasRoom j K ≡ true) q (w .room))
+    (pass _ _ _ (subst (λ j. hasCapacity j K ≡ true) q (w .capacity))
     (pass _ _ _ (subst (λ j. inRange K o (rowOf j) ≡ true) q range)
     (pass _ _ _ (subst (λ j. isNew j o K ≡ true) q (w .new)) pass-all))))))
 
@@ -181,12 +181,12 @@ module _ (L : Layout) (l : LaidOut L) where
       let s = seam (L .terms) zs p rest e in
       let few = l .few-terms in
       let m = s .1 in
-      let room : length zs < termLimit = omega arith in
+      let capacity : length zs < termLimit = omega arith in
       follows-walks f o _ L (term (termKind L (length zs)))
       (record {
         is = subst (λ q. IsRecord (L .image) (termRow (termKind L (length zs))) q (length (L .domains)) (length (L .types)) (length zs)) (s .0 ∙ j .0) (l .terms (length zs) m);
         order = refl;
-        room = of-lt room;
+        capacity = of-lt capacity;
         new = refl;
       })
       (walk-terms rest (zs ++ (o ∷ [])) f _ (onward (L .terms) zs p o rest (j .0) e) (j .1) (omega arith))
@@ -198,12 +198,12 @@ module _ (L : Layout) (l : LaidOut L) where
       let s = seam (L .types) ys p rest e in
       let few = l .few-types in
       let m = s .1 in
-      let room : length ys < typeLimit = omega arith in
+      let capacity : length ys < typeLimit = omega arith in
       follows-walks f o _ L (type (typeKind L (length ys)))
       (record {
         is = subst (λ q. IsRecord (L .image) (typeRow (typeKind L (length ys))) q (length (L .domains)) (length ys) 0) (s .0 ∙ j .0) (l .types (length ys) m);
         order = refl;
-        room = of-lt room;
+        capacity = of-lt capacity;
         new = of-all _ ys (λ u k. other u k (sameType (L .image) (typeRow (typeKind L (length ys))) o (getD ys u 0)) refl);
       })
       (walk-types rest (ys ++ (o ∷ [])) f _ (onward (L .types) ys p o rest (j .0) e) (j .1) (omega arith))
@@ -224,13 +224,13 @@ module _ (L : Layout) (l : LaidOut L) where
       let s = seam (L .domains) xs p rest e in
       let few = l .few-domains in
       let m = s .1 in
-      let room : length xs < domainLimit = omega arith in
+      let capacity : length xs < domainLimit = omega arith in
       let st : Stands (L .image) domainRow o = subst (λ q. Stands (L .image) domainRow q) (s .0 ∙ j .0) (l .domains (length xs) m) in
       follows-walks f o _ L domain
       (record {
         is = record { stands = st; fields = λ i k. mask i k };
         order = of-each _ (refl, (refl, tt));
-        room = of-lt room;
+        capacity = of-lt capacity;
         new = refl;
       })
       (walk-domains rest (xs ++ (o ∷ [])) f _ (onward (L .domains) xs p o rest (j .0) e) (j .1) (omega arith))

@@ -11,7 +11,7 @@ use Rattle.image.specs.Kinds.{a-domain, free, TypeKind, typeRow}
 use Rattle.image.specs.Bytes.{lengthAt}
 use Rattle.image.specs.Records.{Layout, times, fieldsAt}
 use Rattle.image.specs.Types.{typePlace, typeKind, typeFields, methodsOut, typeOut, typeOf}
-use Rattle.image.proofs.Laid.{Good}
+use Rattle.image.proofs.Laid.{LayoutOk}
 use Rattle.image.proofs.TypeNumbers.{methodFields, type-out}
 use Rattle.image.proofs.Words.{words-length}
 
@@ -30,7 +30,7 @@ out-domain m l b o TypeKind.obj vs g h = l
 out-domain m l b o TypeKind.stack vs g h = l
 
 -- For a caller whose domains are numbers below 16.
-pub type-domain : (L : Layout) → Good L → (t : ℕ) → t < length (L .types) → domOf (typeOf L t) < domainLimit
+pub type-domain : (L : Layout) → LayoutOk L → (t : ℕ) → t < length (L .types) → domOf (typeOf L t) < domainLimit
 type-domain L good t l =
     let ok = good .types t l in
     let few = good .few-domains in
@@ -60,7 +60,7 @@ out-methods m l b o TypeKind.adv vs g n h j = l
 out-methods m l b o TypeKind.obj vs g n h j = methods-domain m l (times (typeRow TypeKind.obj) (lengthAt b o)) vs g n h j
 out-methods m l b o TypeKind.stack vs g n h j = l
 
-pub method-domain : (L : Layout) → Good L → (t : ℕ) → t < length (L .types) → (j : ℕ) → methodDom (methodsOf (typeOf L t)) j < domainLimit
+pub method-domain : (L : Layout) → LayoutOk L → (t : ℕ) → t < length (L .types) → (j : ℕ) → methodDom (methodsOf (typeOf L t)) j < domainLimit
 method-domain L good t l j =
     let ok = good .types t l in
     let few = good .few-domains in

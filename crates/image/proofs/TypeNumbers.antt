@@ -17,7 +17,7 @@ use Rattle.laws.proofs.Booleans.{no-path, lt-of, ge-of, eq-of, of-eq}
 use Rattle.laws.proofs.Tests.{of-each}
 use Rattle.image.proofs.KindNumbers.{same-kind}
 use Rattle.image.proofs.Words.{words-length}
-use Rattle.image.proofs.Laid.{same-numbers, Good, kind-number}
+use Rattle.image.proofs.Laid.{same-numbers, LayoutOk, kind-number}
 
 head-out : (k : TypeKind) (vs : List ℕ) (g : ℕ → Ty) → headOf (typeOut k vs g) ≡ k
 unfolding typeOut
@@ -123,7 +123,7 @@ out-agree TypeKind.adv n m vs ws g l e h ih = same1 vs ws l e cc
 out-agree TypeKind.obj n m vs ws g l e h ih = methods-agree (times (typeRow TypeKind.obj) n) (times (typeRow TypeKind.obj) m) vs ws g l e (cc) ih
 out-agree TypeKind.stack n m vs ws g l e h ih = same0 vs ws l e
 
-module _ (L : Layout) (good : Good L) where
+module _ (L : Layout) (good : LayoutOk L) where
   -- The length of type t's record, what its fields are, and how many.
   abbrev sizeOf : ℕ → ℕ
   sizeOf t = lengthAt (L .image) (typePlace L t)
@@ -200,7 +200,7 @@ module _ (L : Layout) (good : Good L) where
   same-number t u lt lu = (λ e. ap (λ a. typeOf L a) e, λ h. types-apart t u lt lu h)
 
 -- Layouts whose types have the same kinds and the same fields have the same types.
-module _ (L M : Layout) (good : Good L) (kinds : (t : ℕ) → t < length (L .types) → typeKind M t ≡ typeKind L t) (fields : (t : ℕ) → t < length (L .types) → typeFields M t ≡ typeFields L t) where
+module _ (L M : Layout) (good : LayoutOk L) (kinds : (t : ℕ) → t < length (L .types) → typeKind M t ≡ typeKind L t) (fields : (t : ℕ) → t < length (L .types) → typeFields M t ≡ typeFields L t) where
   from-same : (f t : ℕ) → t < length (L .types) → typeFrom M f t ≡ typeFrom L f t
   unfolding typeFrom
   from-same zero t h = refl

@@ -48,10 +48,10 @@ inOrder (type k) L = isNil (L .terms)
 inOrder (term k) L = true
 
 -- 6: there is room for one more in its section.
-abbrev pub hasRoom : Kind → Layout → Bool
-hasRoom domain L = ltb (length (L .domains)) domainLimit
-hasRoom (type k) L = ltb (length (L .types)) typeLimit
-hasRoom (term k) L = ltb (length (L .terms)) termLimit
+abbrev pub hasCapacity : Kind → Layout → Bool
+hasCapacity domain L = ltb (length (L .domains)) domainLimit
+hasCapacity (type k) L = ltb (length (L .types)) typeLimit
+hasCapacity (term k) L = ltb (length (L .terms)) termLimit
 
 -- 7: each field is in its range, the records so far being L's: so a type's parts are lower types, and a term's children lower terms.
 abbrev pub within : Layout → Field → ℕ → Bool
@@ -95,7 +95,7 @@ tests L o =
     ∷ (Refusal.UnknownKind, known b o)
     ∷ (Refusal.WrongLength, rightLength (rowOf k) (lengthAt b o))
     ∷ (Refusal.SectionOrder, inOrder k L)
-    ∷ (Refusal.TooManyRecords, hasRoom k L)
+    ∷ (Refusal.TooManyRecords, hasCapacity k L)
     ∷ (Refusal.FieldRange, inRange L o (rowOf k))
     ∷ (Refusal.RepeatedType, isNew k o L)
     ∷ []

@@ -19,7 +19,7 @@ use Rattle.laws.proofs.Booleans.{of-T, eq-of}
 use Rattle.image.proofs.Words.{words-length}
 use Rattle.image.proofs.Counts.{fields-give, giving-row}
 use Rattle.image.proofs.KindNumbers.{same-term-kind}
-use Rattle.image.proofs.Laid.{Below, Good}
+use Rattle.image.proofs.Laid.{Below, LayoutOk}
 use Rattle.image_needs.specs.Faults.{isAdvice, permits, outside, least, permitted, lowest, lowestFault}
 
 -- Of subterms, i being the place of the first: each is in the class, outside advice bodies or not as g says.
@@ -109,7 +109,7 @@ advice-term : (k : TermKind) (t : Ty) (vs : List ℕ) (es : Tms) → T (isAdvice
 unfolding assemble
 advice-term k t vs es a = rw (advice-kind k a) tt
 
-module _ (L : Layout) (good : Good L) where
+module _ (L : Layout) (good : LayoutOk L) where
   abbrev count : ℕ
   count = length (L .terms)
 

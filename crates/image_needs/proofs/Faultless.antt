@@ -16,7 +16,7 @@ use Rattle.image.specs.Types.{typeNo, termKind, children, rootOf}
 use Rattle.image.specs.Program.{Program, nth, opOf, behind, subtrees, tree, program, assembleAs, assemble, toTm, toTms}
 use Rattle.image.proofs.Counts.{mostChildren}
 use Rattle.image.proofs.EveryKind.{everyOf, at-term}
-use Rattle.image.proofs.Laid.{Below, Good}
+use Rattle.image.proofs.Laid.{Below, LayoutOk}
 use Rattle.verdict.proofs.Sound.{term-facts}
 use Rattle.image_needs.specs.Faults.{isAdvice, permits, outside, least, permitted, lowest, lowestFault}
 use Rattle.image_needs.proofs.Class.{Each, match-outside}
@@ -180,7 +180,7 @@ unfolding toTm
 size-subtrees g [] = refl
 size-subtrees g (e ∷ es) = ap suc (size-subtrees g es)
 
-module _ (L : Layout) (good : Good L) where
+module _ (L : Layout) (good : LayoutOk L) where
   abbrev count : ℕ
   count = length (L .terms)
 

@@ -19,7 +19,7 @@ use Rattle.image.specs.Limits.{termLimit}
 use Rattle.image.specs.Layout.{recordsOf}
 use Rattle.image.specs.Types.{termPlace, termKind, others, rootOf}
 use Rattle.image.specs.Program.{Program, Programs, node, blank, end, more, program, nth, behind, closeOf, entryOf, patternOf, assembleAs, assemble, toTm, toTms}
-use Rattle.image.proofs.Laid.{Good}
+use Rattle.image.proofs.Laid.{LayoutOk}
 use Rattle.image.proofs.EveryKind.{everyOf, at-term}
 use Rattle.verdict.specs.declared.Verdict.{Verdict}
 use Rattle.verdict.specs.Shape.{usedOnce}
@@ -143,7 +143,7 @@ unfolding sumBelow
 sum-few zero m w h = let z = zero-mul m in omega arith
 sum-few (suc n) m w h = let a = sum-few n m w (λ c l. h c (omega arith)) in let b = h n (omega arith) in let z = suc-mul n m in omega arith
 
-module _ (L : Layout) (good : Good L) (once : (y : ℕ) → y < rootOf L → usedOnce L y ≡ true) (some : 0 < length (L .terms)) where
+module _ (L : Layout) (good : LayoutOk L) (once : (y : ℕ) → y < rootOf L → usedOnce L y ≡ true) (some : 0 < length (L .terms)) where
   others-few : (m : ℕ) → m < length (L .terms) → length (others L m) ≤ fieldLimit
   others-few m l =
       let f : length (fieldsAt (L .image) (termPlace L m) (termRow (termKind L m))) ≤ fieldLimit = fields-few (termKind L m) _ (good .terms m l .is .stands .most) in

@@ -15,7 +15,7 @@ use Rattle.image.specs.Layout.{laid, layout, recordsOf}
 use Rattle.image.specs.Types.{rootType}
 use Rattle.laws.specs.Tests.{anyBelow}
 use Rattle.image.specs.Program.{Program, node, blank, program}
-use Rattle.image.proofs.Laid.{Good, layout-good, records-of}
+use Rattle.image.proofs.Laid.{LayoutOk, layout-good, records-of}
 use Rattle.image.proofs.LaidOut.{laid-iff}
 use Rattle.verdict.specs.declared.Verdict.{Verdict}
 use Rattle.verdict.specs.Domains.{bits, masks, order, leq, policy}
@@ -79,7 +79,7 @@ written-holds K T e work report W w r =
     let F : Fits L ds ts es = as-fits ds ts es in
     let laid-as : layout b ≡ laid L = laid-iff L .1 (laid-out n T ms e lm (W .few-domains) (W .table) (W .few-types) (W .formed) (W .few-terms)) in
     let recs : recordsOf b ≡ L = records-of b L laid-as in
-    let good : Good L = layout-good b L laid-as in
+    let good : LayoutOk L = layout-good b L laid-as in
     let m : masks L ≡ ms = same-masks n T ms e L good (W .table) F in
     let dc : length (L .domains) ≡ n = same-count L K m in
     let tc = types-count n T (W .table) L (F .types) in

@@ -13,16 +13,16 @@ use Rattle.image.specs.Records.{Layout, fieldsAt, numbersAt, asChild, asOther, 
 use Rattle.image.specs.TermFields.{termFields}
 use Rattle.image.specs.Types.{headOf, termKindOf, typeOut, typeOf, termPlace, typeFields, termKind, typeNo, others, children, rootOf, statedType}
 use Rattle.image.specs.Program.{Program, Programs, node, blank, end, more, subtrees, tree, program}
-use Rattle.image.proofs.Laid.{Good}
+use Rattle.image.proofs.Laid.{LayoutOk}
 use Rattle.image.proofs.TypeNumbers.{type-out}
 use Rattle.image.proofs.EveryKind.{has-type}
 use Rattle.verdict.specs.Domains.{masks}
-use Rattle.image_written.specs.Parts.{partsOf}
+use Rattle.image_written.specs.TypeParts.{partsOf}
 use Rattle.image_written.specs.Table.{place, has, partNos}
 use Rattle.image_written.specs.Records.{Record, record-of}
 use Rattle.image_written.specs.Written.{terms, termsAll, roots, domainRecord, typeRecord, termRecords, termRecordsAll}
 use Rattle.image_written.proofs.Reading.{Reads, reads-kind, reads-field, Sized, reads-sorts, reads-numbers, Match, match-at, match-length}
-use Rattle.image_written.proofs.Parts.{made}
+use Rattle.image_written.proofs.TypeParts.{made}
 use Rattle.image_written.proofs.Places.{has-place, has-more, place-more, at-place}
 use Rattle.image_written.proofs.Writable.{TableFrom, Fielded, Formed, FormedAll}
 use Rattle.image_written.proofs.Tables.{told, table-at}
@@ -35,7 +35,7 @@ masks-back b [] (m ∷ ms) h = absurd h
 masks-back b (o ∷ os) [] h = absurd h
 masks-back b (o ∷ os) (m ∷ ms) h = let x : fieldAt b o 0 ≡ m = reads-field (h .0) 0 (omega arith) in let y = masks-back b os ms (h .1) in cc
 
-module _ (n : ℕ) (T : List Ty) (ms : List ℕ) (e : Program) (L : Layout) (good : Good L) (table : TableFrom n [] T) (F : Fits L (map (λ m. domainRecord m) ms) (map (λ t. typeRecord T t) T) (termRecords T 0 e)) where
+module _ (n : ℕ) (T : List Ty) (ms : List ℕ) (e : Program) (L : Layout) (good : LayoutOk L) (table : TableFrom n [] T) (F : Fits L (map (λ m. domainRecord m) ms) (map (λ t. typeRecord T t) T) (termRecords T 0 e)) where
   pub same-masks : masks L ≡ ms
   same-masks = masks-back (L .image) (L .domains) ms (F .domains)
 

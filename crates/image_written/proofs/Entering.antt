@@ -6,9 +6,9 @@ use mathlib.Core.List.{List, [], _∷_, _++_, append-assoc, append-nil}
 use Rattle.calculus.specs.Syntax.{Ty}
 use Rattle.calculus.specs.Combinators.{choose}
 use Rattle.image.specs.Program.{Program, Programs, node, blank, end, more}
-use Rattle.image_written.specs.Parts.{Part, sub, at, partsOf, partsFirst, joined}
+use Rattle.image_written.specs.TypeParts.{Part, sub, at, partsOf, partsFirst, joined}
 use Rattle.image_written.specs.Table.{has, enter, entered, typesIn, typesInAll, tableOf}
-use Rattle.image_written.proofs.Parts.{mapParts, AllSubs, by-parts, parts-first-law}
+use Rattle.image_written.proofs.TypeParts.{mapParts, AllSubs, by-parts, parts-first-law}
 use Rattle.image_written.proofs.Places.{has-more, has-last}
 use Rattle.image_written.proofs.Writable.{Bounded, PartsIn, TableFrom, Every, DomainsIn, Whole, Shaped, ShapedAll, Formed, FormedAll}
 use Rattle.image_written.proofs.Tables.{parts-more}

@@ -12,7 +12,7 @@ use Rattle.image.specs.Records.{Layout}
 use Rattle.image.specs.Layout.{recordsOf}
 use Rattle.image.specs.Types.{rootType}
 use Rattle.image.specs.Program.{Program, program}
-use Rattle.image.proofs.Laid.{Good, layout-good, image-kept}
+use Rattle.image.proofs.Laid.{LayoutOk, layout-good, image-kept}
 use Rattle.calculus.specs.Plain.{isPlain}
 use Rattle.verdict.specs.declared.Verdict.{Verdict}
 use Rattle.verdict.specs.Domains.{masks, policy}
@@ -53,7 +53,7 @@ module _ (b : List ℕ) (work report : ℕ) (ok : verdict b work report ≡ Verd
   a : Passed b work report
   a = passed-iff b work report .0 ok
 
-  good : Good (recordsOf b)
+  good : LayoutOk (recordsOf b)
   good = layout-good b (recordsOf b) (a .laid-out)
 
   pub accepted-shaped : Shaped (length (recordsOf b .domains)) (program (recordsOf b))

@@ -14,7 +14,7 @@ use Rattle.image.specs.TermFields.{next, rest, filled, termFields}
 use Rattle.image.specs.Program.{Program, Programs, node, subtrees, tree, program}
 use Rattle.laws.proofs.Booleans.{no-path}
 use Rattle.image.proofs.Words.{words-length}
-use Rattle.image.proofs.Laid.{Good, Below, type-there}
+use Rattle.image.proofs.Laid.{LayoutOk, Below, type-there}
 use Rattle.image.proofs.Fuel.{tree-fuel}
 use Rattle.image.proofs.Offsets.{number-at}
 use Rattle.image.proofs.TermFields.{times-for, read-filled}
@@ -80,7 +80,7 @@ module _ (L : Layout) where
       let c = counted n in
       ap (λ fs. given asChild fs (take i (numbersOf n))) (take-all i (sortsAt n) h) ∙ ap (λ ws. given asChild (sortsAt n) ws) (take-all i (numbersOf n) (omega arith))
 
-  module _ (good : Good L) where
+  module _ (good : LayoutOk L) where
     same-trees : (n : ℕ) → n ≤ length (L .terms) → (es : List ℕ) → Below n es → subtrees (λ e. tree L n e) es ≡ trees es
     same-trees n l [] b = refl
     same-trees n l (e ∷ es) b =

@@ -17,11 +17,11 @@ use Rattle.image.specs.Program.{Program, Programs, node, blank, end, more}
 use Rattle.laws.proofs.Lists.{map-at}
 use Rattle.image.proofs.KindNumbers.{same-kind}
 use Rattle.image.proofs.Laid.{Below}
-use Rattle.image_written.specs.Parts.{Part, sub, at, partsOf}
+use Rattle.image_written.specs.TypeParts.{Part, sub, at, partsOf}
 use Rattle.image_written.specs.Table.{place, has, partNos}
 use Rattle.image_written.specs.Records.{Record, record-of, bytes, image}
 use Rattle.image_written.specs.Written.{terms, termsAll, roots, domainRecord, typeRecord, termRecords, termRecordsAll}
-use Rattle.image_written.proofs.Parts.{partFields, groupsOf, row-parts, no-groups}
+use Rattle.image_written.proofs.TypeParts.{partFields, groupsOf, row-parts, no-groups}
 use Rattle.image_written.proofs.Places.{has-place, place-more}
 use Rattle.image_written.proofs.Reading.{Reads, reads-kind, Sized, reads-sorts, reads-numbers, reads-stands, placed, placed-append, Match, match-length, match-at, match-placed, match-ends}
 use Rattle.image_written.proofs.Writable.{PartsIn, TableFrom, Fielded, several, Formed, FormedAll}

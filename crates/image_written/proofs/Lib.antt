@@ -1,5 +1,5 @@
 -- What holds of images that are written.
-pub mod Parts
+pub mod TypeParts
 pub mod Places
 pub mod Reading
 pub mod Writable

@@ -17,7 +17,7 @@ use Rattle.verdict.specs.Domains.{bits, order, leq, policy}
 use Rattle.verdict.specs.Order.{atFault}
 use Rattle.verdict.specs.Settings.{Setting}
 use Rattle.verdict.specs.WellTyped.{mainline, WellTyped, stated}
-use Rattle.image_written.specs.Parts.{recur, same}
+use Rattle.image_written.specs.TypeParts.{recur, same}
 use Rattle.image_written.specs.Table.{place, has}
 use Rattle.image_written.specs.Records.{Record, image, bytes, little}
 use Rattle.image_written.specs.Written.{terms, domainRecord, typeRecord, termRecords, recordsOver, writtenOver}

@@ -10,9 +10,9 @@ use lib.Dec.{ltb}
 use Rattle.calculus.specs.Syntax.{Ty}
 use Rattle.calculus.specs.Combinators.{choose}
 use Rattle.laws.proofs.Booleans.{no-path, lt-of, of-lt, ge-of}
-use Rattle.image_written.specs.Parts.{same}
+use Rattle.image_written.specs.TypeParts.{same}
 use Rattle.image_written.specs.Table.{place, has}
-use Rattle.image_written.proofs.Parts.{same-sound, same-refl}
+use Rattle.image_written.proofs.TypeParts.{same-sound, same-refl}
 
 pub has-place : (T : List Ty) (t : Ty) → has T t ≡ true → place T t < length T
 has-place T t h = lt-of h

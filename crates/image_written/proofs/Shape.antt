@@ -15,7 +15,7 @@ use Rattle.image.specs.TermFields.{termFields}
 use Rattle.image.specs.Types.{children, rootOf}
 use Rattle.image.specs.Program.{Program, Programs, node, blank, end, more}
 use Rattle.laws.proofs.Booleans.{lt-of, of-lt, ge-of, eq-of, of-eq}
-use Rattle.image.proofs.Laid.{Good}
+use Rattle.image.proofs.Laid.{LayoutOk}
 use Rattle.verdict.specs.Shape.{count, uses, usedOnce, depths}
 use Rattle.verdict.proofs.Depth.{depth-root, depth-child}
 use Rattle.image_written.specs.Table.{place}
@@ -100,7 +100,7 @@ module _ (n : ℕ) (T : List Ty) where
         sums : (u v w c m′ r s t q : ℕ) {k : ℕ} → u + m′ ≡ r → v + c + t ≡ q → w + r ≡ s → s ≡ t → q ≡ k → u + v + (w + c) + m′ ≡ k
         sums u v w c m′ r s t q a b d e f = omega arith
 
-  module _ (ms : List ℕ) (e : Program) (L : Layout) (good : Good L) (table : TableFrom n [] T)
+  module _ (ms : List ℕ) (e : Program) (L : Layout) (good : LayoutOk L) (table : TableFrom n [] T)
       (F : Fits L (map (λ m. domainRecord m) ms) (map (λ t. typeRecord T t) T) (termRecords T 0 e)) where
     mutual
       unfolding Formed terms termRecords uses usedIn

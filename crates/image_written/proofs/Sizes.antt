@@ -18,13 +18,13 @@ use Rattle.image.specs.Types.{headOf, typeOf, typeKind, typePlace, termPlace, t
 use Rattle.image.specs.Program.{Program, Programs, node, blank, end, more, program}
 use Rattle.laws.proofs.Booleans.{no-path, eq-of}
 use Rattle.image.proofs.Words.{words-length}
-use Rattle.image.proofs.Laid.{Good, Below, walk-reaches}
+use Rattle.image.proofs.Laid.{LayoutOk, Below, walk-reaches}
 use Rattle.image.proofs.EveryKind.{has-type}
 use Rattle.image.proofs.TermFields.{times-for}
 use Rattle.image.proofs.TypeNumbers.{kind-head}
 use Rattle.verdict.specs.Shape.{count, usedOnce}
 use Rattle.verdict.specs.Domains.{masks}
-use Rattle.image_written.specs.Parts.{partsOf}
+use Rattle.image_written.specs.TypeParts.{partsOf}
 use Rattle.image_written.specs.Table.{place, has, enter, entered, tableOf, typesIn}
 use Rattle.image_written.specs.Records.{Record, record-of, size, bytes, image}
 use Rattle.image_written.specs.Written.{terms, roots, domainRecord, typeRecord, termRecords, termRecordsAll, recordsOver, writtenOver}
@@ -32,7 +32,7 @@ use Rattle.image_written.proofs.Reading.{bytes-length}
 use Rattle.image_written.proofs.Writable.{TableFrom, Fielded, Formed, FormedAll, Every, Shaped, several}
 use Rattle.image_written.proofs.Laying.{image-append, roots-length, fielded}
 use Rattle.image_written.proofs.Filled.{fields-count}
-use Rattle.image_written.proofs.Parts.{row-parts}
+use Rattle.image_written.proofs.TypeParts.{row-parts}
 use Rattle.image_written.proofs.Places.{has-more, has-last}
 use Rattle.image_written.proofs.Tables.{parts-length, fields-length}
 use Rattle.image_written.proofs.Entering.{table-of, formed-of}
@@ -103,7 +103,7 @@ layout-total b L h =
     walk-reaches (λ o K. total K ≡ o) (λ o K q g. total-add K o (kindAt (K .image) o) ∙ ap (λ x. x + lengthAt (K .image) o) g) (length b) 0 (nothing b) L h refl
 
 -- Types of a table, and type numbers of a layout for them.
-module _ (L : Layout) (good : Good L) where
+module _ (L : Layout) (good : LayoutOk L) where
   abbrev pub From : Ty → Type 0
   From t = (j : ℕ) × (j < length (L .types)) × (typeOf L j ≡ t)
 

@@ -6,10 +6,10 @@ use mathlib.Core.Bool.{true}
 use mathlib.Core.List.{List, [], _∷_, _++_, append-assoc, append-nil}
 use Rattle.calculus.specs.Syntax.{Ty}
 use Rattle.image.specs.Program.{Program, subtrees}
-use Rattle.image_written.specs.Parts.{Part, sub, at, partsOf, partsFirst, joined}
+use Rattle.image_written.specs.TypeParts.{Part, sub, at, partsOf, partsFirst, joined}
 use Rattle.image_written.specs.Table.{place, has, entered, typesIn, typesInAll}
 use Rattle.image_written.specs.Written.{terms, termsAll, roots, termRecords, termRecordsAll}
-use Rattle.image_written.proofs.Parts.{mapParts, AllSubs, by-parts, parts-first-law}
+use Rattle.image_written.proofs.TypeParts.{mapParts, AllSubs, by-parts, parts-first-law}
 use Rattle.image_written.proofs.Places.{at-place, has-place}
 use Rattle.image_written.proofs.Writable.{PartsIn, TableFrom}
 use Rattle.image_written.proofs.Tables.{table-parts}

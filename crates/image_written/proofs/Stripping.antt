@@ -21,9 +21,9 @@ use Rattle.verdict.specs.Verdicts.{verdict}
 use Rattle.verdict.specs.WellTyped.{mainline, WellTyped, EachWellTyped, stated, stateds, aborts, childSetting}
 use Rattle.verdict.proofs.Passed.{passed-iff}
 use Rattle.verdict.proofs.Term.{abort-type}
-use Rattle.image_written.specs.Parts.{partsFirst}
+use Rattle.image_written.specs.TypeParts.{partsFirst}
 use Rattle.image_written.specs.Table.{typesIn, typesInAll}
-use Rattle.image_written.specs.Stripped.{idle, watches, givesWay, stripped, strippeds, withoutWatches}
+use Rattle.image_written.specs.Stripped.{asUnit, watches, givesWay, stripped, strippeds, withoutWatches}
 use Rattle.image_written.proofs.Writable.{Fielded, Every, Shaped, ShapedAll, Shallow, ShallowAll, several}
 use Rattle.image_written.proofs.Taken.{every-join}
 use Rattle.image_written.proofs.Sums.{Weighing, weight, weightAll, weight-terms}
@@ -55,7 +55,7 @@ module _ (high : Dom → Bool) where
     same-stateds : (es : Programs) (low : ℕ → Bool) → stateds (strippeds high es low) ≡ stateds es
     same-stateds end low = refl
     same-stateds (more e es) low =
-        let a : stated (choose (low 0) (idle e) (stripped high e)) ≡ stated e = either (λ x. stated x ≡ stated e) (low 0) (idle e) (stripped high e) refl (same-stated e) in
+        let a : stated (choose (low 0) (asUnit e) (stripped high e)) ≡ stated e = either (λ x. stated x ≡ stated e) (low 0) (asUnit e) (stripped high e) refl (same-stated e) in
         let b = same-stateds es (λ i. low (suc i)) in
         cc (a, b)
 
@@ -68,10 +68,10 @@ module _ (high : Dom → Bool) where
   unit-fielded : (n : ℕ) → Fielded n TermKind.unit [] 0
   unit-fielded n = record { groups = 0; numbers = 0 ∷ []; sized = record { count = refl; none = λ h. refl; least = omega arith; most = omega arith }; others = refl; children = refl; ranged = tt }
 
-  idle-shaped : (n : ℕ) (e : Program) → Shaped n e → Shaped n (idle e)
+  as-unit-shaped : (n : ℕ) (e : Program) → Shaped n e → Shaped n (asUnit e)
   unfolding Shaped
-  idle-shaped n (node k t vs es) h = (h .0, unit-fielded n, tt)
-  idle-shaped n blank h = absurd h
+  as-unit-shaped n (node k t vs es) h = (h .0, unit-fielded n, tt)
+  as-unit-shaped n blank h = absurd h
 
   mutual
     unfolding stripped Shaped
@@ -84,12 +84,12 @@ module _ (high : Dom → Bool) where
     strip-shaped-all : (n : ℕ) (es : Programs) (low : ℕ → Bool) → ShapedAll n es → ShapedAll n (strippeds high es low)
     strip-shaped-all n end low h = tt
     strip-shaped-all n (more e es) low h =
-        (either (λ x. Shaped n x) (low 0) (idle e) (stripped high e) (idle-shaped n e (h .0)) (strip-shaped n e (h .0)), strip-shaped-all n es (λ i. low (suc i)) (h .1))
+        (either (λ x. Shaped n x) (low 0) (asUnit e) (stripped high e) (as-unit-shaped n e (h .0)) (strip-shaped n e (h .0)), strip-shaped-all n es (λ i. low (suc i)) (h .1))
 
-  idle-every : (n : ℕ) (P : Ty → Type 0) (e : Program) → Shaped n e → Every P (typesIn e) → Every P (typesIn (idle e))
+  as-unit-every : (n : ℕ) (P : Ty → Type 0) (e : Program) → Shaped n e → Every P (typesIn e) → Every P (typesIn (asUnit e))
   unfolding typesIn Shaped
-  idle-every n P (node k t vs es) s h = every-right P (typesInAll es) (partsFirst t) h
-  idle-every n P blank s h = absurd s
+  as-unit-every n P (node k t vs es) s h = every-right P (typesInAll es) (partsFirst t) h
+  as-unit-every n P blank s h = absurd s
 
   mutual
     unfolding stripped typesIn Shaped
@@ -103,15 +103,15 @@ module _ (high : Dom → Bool) where
     strip-every-all n P end low s h = tt
     strip-every-all n P (more e es) low s h =
         let a = every-left P (typesIn e) (typesInAll es) h in
-        every-join P (typesIn (choose (low 0) (idle e) (stripped high e))) (typesInAll (strippeds high es (λ i. low (suc i))))
-        (either (λ x. Every P (typesIn x)) (low 0) (idle e) (stripped high e) (idle-every n P e (s .0) a) (strip-every n P e (s .0) a))
+        every-join P (typesIn (choose (low 0) (asUnit e) (stripped high e))) (typesInAll (strippeds high es (λ i. low (suc i))))
+        (either (λ x. Every P (typesIn x)) (low 0) (asUnit e) (stripped high e) (as-unit-every n P e (s .0) a) (strip-every n P e (s .0) a))
         (strip-every-all n P es (λ i. low (suc i)) (s .1) (every-right P (typesIn e) (typesInAll es) h))
 
-  idle-shallow : (n : ℕ) (e : Program) (d : ℕ) → Shaped n e → Shallow e d → Shallow (idle e) d
+  as-unit-shallow : (n : ℕ) (e : Program) (d : ℕ) → Shaped n e → Shallow e d → Shallow (asUnit e) d
   unfolding Shallow Shaped
-  idle-shallow n (node k t vs es) zero s h = h
-  idle-shallow n (node k t vs es) (suc d) s h = tt
-  idle-shallow n blank d s h = absurd s
+  as-unit-shallow n (node k t vs es) zero s h = h
+  as-unit-shallow n (node k t vs es) (suc d) s h = tt
+  as-unit-shallow n blank d s h = absurd s
 
   mutual
     unfolding stripped Shallow Shaped
@@ -124,14 +124,14 @@ module _ (high : Dom → Bool) where
     strip-shallow-all : (n : ℕ) (es : Programs) (low : ℕ → Bool) (d : ℕ) → ShapedAll n es → ShallowAll es d → ShallowAll (strippeds high es low) d
     strip-shallow-all n end low d s h = tt
     strip-shallow-all n (more e es) low d s h =
-        (either (λ x. Shallow x d) (low 0) (idle e) (stripped high e) (idle-shallow n e d (s .0) (h .0)) (strip-shallow n e d (s .0) (h .0)), strip-shallow-all n es (λ i. low (suc i)) d (s .1) (h .1))
+        (either (λ x. Shallow x d) (low 0) (asUnit e) (stripped high e) (as-unit-shallow n e d (s .0) (h .0)) (strip-shallow n e d (s .0) (h .0)), strip-shallow-all n es (λ i. low (suc i)) d (s .1) (h .1))
 
   -- No more terms, and no more bytes.
   module _ (v : Weighing) (least : (k : TermKind) (vs : List ℕ) (q : ℕ) → v TermKind.unit [] 0 ≤ v k vs q) where
-    idle-lighter : (n : ℕ) (e : Program) → Shaped n e → weight v (idle e) ≤ weight v e
+    as-unit-lighter : (n : ℕ) (e : Program) → Shaped n e → weight v (asUnit e) ≤ weight v e
     unfolding weight Shaped
-    idle-lighter n (node k t vs es) s = let a = least k vs (several es) in omega arith
-    idle-lighter n blank s = absurd s
+    as-unit-lighter n (node k t vs es) s = let a = least k vs (several es) in omega arith
+    as-unit-lighter n blank s = absurd s
 
     mutual
       unfolding stripped weight Shaped
@@ -146,7 +146,7 @@ module _ (high : Dom → Bool) where
       strip-lighter-all : (n : ℕ) (es : Programs) (low : ℕ → Bool) → ShapedAll n es → weightAll v (strippeds high es low) ≤ weightAll v es
       strip-lighter-all n end low s = omega arith
       strip-lighter-all n (more e es) low s =
-          let a = either (λ x. weight v x ≤ weight v e) (low 0) (idle e) (stripped high e) (idle-lighter n e (s .0)) (strip-lighter n e (s .0)) in
+          let a = either (λ x. weight v x ≤ weight v e) (low 0) (asUnit e) (stripped high e) (as-unit-lighter n e (s .0)) (strip-lighter n e (s .0)) in
           let b = strip-lighter-all n es (λ i. low (suc i)) (s .1) in
           omega arith
 
@@ -198,9 +198,9 @@ module _ (D : Policy) (Γ : List Ty) (c : Dom) where
   body-unit of-lower t vs (s ∷ ts) d l = lower-unit D d
 
 module _ (high : Dom → Bool) (D : Policy) where
-  idle-typed : (p : Setting Ty) (e : Program) → stated e ≡ Ty.unit → WellTyped D p (idle e)
+  as-unit-typed : (p : Setting Ty) (e : Program) → stated e ≡ Ty.unit → WellTyped D p (asUnit e)
   unfolding WellTyped assemble
-  idle-typed p e h = (rw h (is-val v-unit), tt)
+  as-unit-typed p e h = (rw h (is-val v-unit), tt)
 
   mutual
     unfolding stripped WellTyped Shaped
@@ -221,8 +221,8 @@ module _ (high : Dom → Bool) (D : Policy) where
     strip-typed-all n at i (more e es) low s w h =
         (go (low 0) refl (strip-typed n (at i) e (s .0) (w .0)), strip-typed-all n at (suc i) es (λ j. low (suc j)) (s .1) (w .1) (λ j l q. h (suc j) (omega arith) q))
       where
-        go : (b : Bool) → low 0 ≡ b → WellTyped D (at i) (stripped high e) → WellTyped D (at i) (choose (low 0) (idle e) (stripped high e))
-        go true q r = rw q (idle-typed (at i) e (h 0 (omega arith) q))
+        go : (b : Bool) → low 0 ≡ b → WellTyped D (at i) (stripped high e) → WellTyped D (at i) (choose (low 0) (asUnit e) (stripped high e))
+        go true q r = rw q (as-unit-typed (at i) e (h 0 (omega arith) q))
         go false q r = rw q r
 
 module _ (high : Dom → Bool) (b : List ℕ) (work report : ℕ) (ok : verdict b work report ≡ Verdict.Accepted) where

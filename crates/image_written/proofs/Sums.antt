@@ -12,7 +12,7 @@ use Rattle.image.specs.Records.{Layout}
 use Rattle.image.specs.Types.{termKind, others, children, rootOf}
 use Rattle.image.specs.Program.{Program, Programs, node, blank, end, more, subtrees, tree, program}
 use Rattle.laws.proofs.Booleans.{lt-of, ge-of, eq-of, of-eq}
-use Rattle.image.proofs.Laid.{Good, Below}
+use Rattle.image.proofs.Laid.{LayoutOk, Below}
 use Rattle.image.proofs.Fuel.{tree-fuel}
 use Rattle.verdict.specs.Shape.{count, uses, usedOnce}
 use Rattle.verdict.proofs.Depth.{below-count}
@@ -171,7 +171,7 @@ weight-trees v g w m h (c ∷ es) b = let a = h c (b .0) in let r = weight-trees
 abbrev pub own : Weighing → Layout → ℕ → ℕ
 own v L m = v (termKind L m) (others L m) (length (children L m))
 
-module _ (v : Weighing) (L : Layout) (good : Good L) (once : (y : ℕ) → y < rootOf L → usedOnce L y ≡ true) where
+module _ (v : Weighing) (L : Layout) (good : LayoutOk L) (once : (y : ℕ) → y < rootOf L → usedOnce L y ≡ true) where
   -- The weight of term m and of all below it.
   abbrev W : ℕ → ℕ
   W m = weight v (tree L (suc m) m)

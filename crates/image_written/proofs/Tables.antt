@@ -8,9 +8,9 @@ use lib.ListN.{length, getD, take, drop, take-append-drop}
 use lib.Seq.{split-at, length-take-le}
 use Rattle.calculus.specs.Syntax.{Ty}
 use Rattle.image.specs.Types.{headOf, typeOut}
-use Rattle.image_written.specs.Parts.{Part, sub, at, partsOf}
+use Rattle.image_written.specs.TypeParts.{Part, sub, at, partsOf}
 use Rattle.image_written.specs.Table.{place, has, partNos}
-use Rattle.image_written.proofs.Parts.{Told, made, partFields}
+use Rattle.image_written.proofs.TypeParts.{Told, made, partFields}
 use Rattle.image_written.proofs.Places.{at-place, has-more, place-last}
 use Rattle.image_written.proofs.Writable.{Bounded, PartsIn, TableFrom}
 

@@ -18,13 +18,13 @@ use Rattle.image.specs.Program.{Program, subtrees, tree, program}
 use Rattle.laws.proofs.Booleans.{no-path, of-eq}
 use Rattle.image.proofs.Words.{words-length}
 use Rattle.image.proofs.EveryKind.{everyOf, at-type}
-use Rattle.image.proofs.Laid.{Good, Below}
+use Rattle.image.proofs.Laid.{LayoutOk, Below}
 use Rattle.image.proofs.TypeNumbers.{methodFields, kind-head, type-out}
 use Rattle.verdict.specs.Shape.{count, usedOnce, depths}
 use Rattle.verdict.proofs.Depth.{depth-root, depth-child}
-use Rattle.image_written.specs.Parts.{Part, sub, at, methodParts, partsOf, partsFirst, joined}
+use Rattle.image_written.specs.TypeParts.{Part, sub, at, methodParts, partsOf, partsFirst, joined}
 use Rattle.image_written.specs.Table.{typesIn, typesInAll}
-use Rattle.image_written.proofs.Parts.{mapParts, methods, groupsOf, parts-first-law}
+use Rattle.image_written.proofs.TypeParts.{mapParts, methods, groupsOf, parts-first-law}
 use Rattle.image_written.proofs.Writable.{Ranged, Fielded, Every, DomainsIn, Whole, Shaped, ShapedAll, Shallow, ShallowAll, several}
 
 -- The parts of a type that is made of the numbers vs of its fields.
@@ -169,7 +169,7 @@ pub several-trees : (g : ℕ → Program) (es : List ℕ) → several (subtrees 
 several-trees g [] = refl
 several-trees g (x ∷ es) = ap suc (several-trees g es)
 
-module _ (L : Layout) (good : Good L) where
+module _ (L : Layout) (good : LayoutOk L) where
   -- The length of type t's record, and what its fields are.
   abbrev pub sizeOf : ℕ → ℕ
   sizeOf t = lengthAt (L .image) (typePlace L t)

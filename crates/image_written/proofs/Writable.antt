@@ -15,10 +15,10 @@ use Rattle.image.specs.Program.{Program, Programs, node, blank, end, more}
 use Rattle.verdict.specs.Domains.{masks, policy}
 use Rattle.verdict.specs.Order.{atFault}
 use Rattle.verdict.specs.WellTyped.{mainline, WellTyped, stated}
-use Rattle.image_written.specs.Parts.{Part, sub, at, partsOf, partsFirst}
+use Rattle.image_written.specs.TypeParts.{Part, sub, at, partsOf, partsFirst}
 use Rattle.image_written.specs.Table.{has, tableOf}
 use Rattle.image_written.specs.Written.{terms, writtenOver, written}
-use Rattle.image_written.proofs.Parts.{groupsOf}
+use Rattle.image_written.proofs.TypeParts.{groupsOf}
 use Rattle.image_written.proofs.Reading.{Sized}
 
 -- A type's record has as many methods as it may.

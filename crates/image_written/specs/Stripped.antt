@@ -15,8 +15,8 @@ use Rattle.verdict.specs.WellTyped.{stated}
 use Rattle.image_written.specs.Written.{written}
 
 -- Unit in the place of a term of type unit.
-abbrev pub idle : Program → Program
-idle e = node TermKind.unit (stated e) [] end
+abbrev pub asUnit : Program → Program
+asUnit e = node TermKind.unit (stated e) [] end
 
 -- The bodies that give way where they are low: of advice and of lower, not of functions and methods.
 abbrev pub watches : Body → Bool
@@ -44,7 +44,7 @@ module _ (high : Dom → Bool) where
 
     pub strippeds : Programs → (ℕ → Bool) → Programs
     strippeds end low = end
-    strippeds (more e es) low = more (choose (low 0) (idle e) (stripped e)) (strippeds es (λ i. low (suc i)))
+    strippeds (more e es) low = more (choose (low 0) (asUnit e) (stripped e)) (strippeds es (λ i. low (suc i)))
 
   -- The fixed form of an accepted image without its watches.
   unfoldable pub withoutWatches : List ℕ → List ℕ

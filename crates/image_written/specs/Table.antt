@@ -7,7 +7,7 @@ use lib.Dec.{ltb}
 use Rattle.calculus.specs.Syntax.{Ty}
 use Rattle.calculus.specs.Combinators.{choose}
 use Rattle.image.specs.Program.{Program, Programs, node, blank, end, more}
-use Rattle.image_written.specs.Parts.{Part, sub, at, same, partsFirst}
+use Rattle.image_written.specs.TypeParts.{Part, sub, at, same, partsFirst}
 
 -- The place of the first type that is the same as t; the table's length if there is none.
 unfoldable pub place : List Ty → Ty → ℕ

@@ -11,7 +11,7 @@ use Rattle.image.specs.TermFields.{termFields}
 use Rattle.image.specs.Layout.{recordsOf}
 use Rattle.image.specs.Program.{Program, Programs, node, blank, end, more, program}
 use Rattle.verdict.specs.Domains.{masks}
-use Rattle.image_written.specs.Parts.{partsOf}
+use Rattle.image_written.specs.TypeParts.{partsOf}
 use Rattle.image_written.specs.Table.{place, partNos, tableOf}
 use Rattle.image_written.specs.Records.{Record, record-of, image}
 

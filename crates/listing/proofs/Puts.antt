@@ -55,11 +55,11 @@ kept {xs} {text} {ys} {o} h = look (leb o (length xs)) refl
 pub then : {xs ys zs p q : List ℕ} {o j end : ℕ} → Puts xs o p ys j → Puts ys j q zs end → Puts xs o (p ++ q) zs end
 then {xs} {ys} {zs} {p} {q} {o} {j} {end} a b = record { bytes = written (leb o (length xs)) refl; past = passed }
   where
-    room : length ys - j ≡ length xs - o - length p
-    room = let n = length-take (length xs - o) p in let k = kept a in omega (arith, a .past)
+    capacity : length ys - j ≡ length xs - o - length p
+    capacity = let n = length-take (length xs - o) p in let k = kept a in omega (arith, a .past)
 
     both : fitting xs o (p ++ q) ≡ fitting xs o p ++ fitting ys j q
-    both = take-append (length xs - o) p q ∙ ap (λ n. fitting xs o p ++ take n q) (sym room)
+    both = take-append (length xs - o) p q ∙ ap (λ n. fitting xs o p ++ take n q) (sym capacity)
 
     passed : end ≡ o + length (fitting xs o (p ++ q))
     passed = rw (both, length-append (fitting xs o p) (fitting ys j q)) (omega (arith, a .past, b .past))

@@ -20,7 +20,7 @@ use Rattle.report.specs.declared.Ending.{Ending}
 use Rattle.report.specs.Records.{recordsIn}
 use Rattle.report.specs.Read.{leafIn}
 use Rattle.listing.specs.Text.{ascii}
-use Rattle.calls.specs.declared.Answer.{Answer}
+use Rattle.call_spec.specs.declared.Answer.{Answer}
 use Rattle.listing.specs.Lines.{printLine, leafText, outcomeLine, valueLine, resultLine, endingLines, cellLine, refusalLine}
 use Rattle.listing.specs.Listing.{runListing, listingBy, listing}
 use Rattle.listing.specs.Offsets.{printTextIn, leafTextIn, cellTextIn}

@@ -2,6 +2,6 @@
 pub mod Text
 pub mod Lines
 pub mod Listing
-pub mod Sheet
+pub mod Conformance
 pub mod Puts
 pub mod Offsets

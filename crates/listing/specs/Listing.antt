@@ -5,7 +5,7 @@ use lib.ListN.{take}
 use Rattle.verdict.specs.declared.Verdict.{Verdict}
 use Rattle.report.specs.declared.Ending.{Ending}
 use Rattle.report.specs.Read.{readLog, readReport}
-use Rattle.calls.specs.declared.Answer.{Answer}
+use Rattle.call_spec.specs.declared.Answer.{Answer}
 use Rattle.listing.specs.Text.{texts}
 use Rattle.listing.specs.Lines.{printLine, endingLines, cellLine, refusalLine}
 

@@ -6,7 +6,7 @@ mod lines;
 mod offsets;
 mod text;
 
-use calls::Answer;
+use call_spec::Answer;
 use image::Refusal;
 use report::Ending;
 use text::put;

@@ -1,5 +1,5 @@
 // Reads an image from standard input and prints `refused N PLACE`, or the eleven numbers of card 10 (document 02), a line each.
-use console::IMAGE_ROOM;
+use console::IMAGE_CAPACITY;
 use image_needs::Forecast;
 use image_needs::Needs;
 use libc::STDOUT_FILENO;
@@ -11,7 +11,7 @@ fn line(name: &[u8], n: u64) -> bool {
         && io::write_all(STDOUT_FILENO, b"\n")
 }
 
-fn halves(n: Needs) -> bool {
+fn quotas(n: Needs) -> bool {
     line(b"bindings ", n.bindings as u64)
         && line(b"other-bindings ", n.other_bindings as u64)
         && line(b"pieces ", n.pieces as u64)
@@ -22,7 +22,7 @@ fn halves(n: Needs) -> bool {
 
 fn numbers(n: Needs) -> bool {
     line(b"steps ", n.steps as u64)
-        && halves(n)
+        && quotas(n)
         && line(b"labels ", n.labels as u64)
         && line(b"advice ", n.advice as u64)
         && line(b"frames ", n.frames as u64)
@@ -44,7 +44,7 @@ fn told(f: Forecast) -> bool {
 }
 
 fn main() {
-    let mut image = [0u8; IMAGE_ROOM];
+    let mut image = [0u8; IMAGE_CAPACITY];
     let input = console::read_sole_image(b"need < IMAGE", &mut image);
     if !input.whole {
         return;

@@ -15,7 +15,7 @@ use Rattle.image.specs.Kinds.{Body, here, function-body, advice-body, split-bod
 use Rattle.image.specs.Records.{Layout}
 use Rattle.image.specs.Layout.{recordsOf}
 use Rattle.image.specs.Types.{termKind, children}
-use Rattle.image.proofs.Laid.{Good, Below}
+use Rattle.image.proofs.Laid.{LayoutOk, Below}
 use Rattle.image.proofs.EveryKind.{everyOf, at-term}
 use Rattle.read_terms.specs.Lent.{Terms, IsTerm}
 use Rattle.read_terms.proofs.Located.{child-lower}
@@ -134,7 +134,7 @@ least-snoc f d i (a ∷ es) e m q = ap (λ x. min (f i a) x) (least-snoc f d (su
     assoc : (a b c : ℕ) → min a (min b c) ≡ min (min a b) c
     assoc a b c = omega arith
 
-module _ (L : Layout) (good : Good L) where
+module _ (L : Layout) (good : LayoutOk L) where
   least-cong : (f g : ℕ → ℕ → ℕ) (d n : ℕ) → ((i e : ℕ) → e < n → f i e ≡ g i e) → (i : ℕ) (es : List ℕ) → Below n es → least f d i es ≡ least g d i es
   unfolding least
   least-cong f g d n h i [] b = refl
@@ -172,7 +172,7 @@ module _ (L : Layout) (m : Bool) (n : ℕ) where
       hr ∙ (ap (λ x. min x f) ha ∙ (ap (min (leastTo j)) g
       ∙ (sym (least-snoc below-child (length (L .terms)) 0 (take j es) (getD es j 0) j long) ∙ ap (least below-child (length (L .terms)) 0) (sym one))))
 
-  pub least-whole : Good L → n < length (L .terms) → (j : ℕ) → length (children L n) ≤ j → (ok : Bool) (o a r : ℕ) → ok ≡ permitted L m n → o ≡ choose ok (length (L .terms)) n → a ≡ leastTo j → r ≡ min o a → r ≡ lowestAt L m n
+  pub least-whole : LayoutOk L → n < length (L .terms) → (j : ℕ) → length (children L n) ≤ j → (ok : Bool) (o a r : ℕ) → ok ≡ permitted L m n → o ≡ choose ok (length (L .terms)) n → a ≡ leastTo j → r ≡ min o a → r ≡ lowestAt L m n
   unfolding leastTo lowestAt lowest
   least-whole good l j h ok o a r hk ho ha hr =
       let es = children L n in

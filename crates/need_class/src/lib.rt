@@ -15,7 +15,7 @@ ghost use Rattle.image.specs.Layout.{recordsOf};
 ghost use Rattle.read_terms.specs.Lent.{Terms, IsTerm};
 ghost use Rattle.read_terms.specs.Fields.{childrenIn};
 ghost use Rattle.image_needs.specs.Faults.{permits};
-ghost use Rattle.need_terms.specs.Parts.{Part};
+ghost use Rattle.need_terms.specs.GivenToChildren.{Part};
 ghost use Rattle.need_class.specs.First.{lowestAt};
 
 // Whether a term of a kind may stand here, over a first child of a kind; outside: outside advice bodies.

@@ -10,7 +10,7 @@ use lib.Dec.{eqb, ltb}
 use Rattle.calculus.specs.Combinators.{choose}
 use Rattle.laws.proofs.Booleans.{no-path, lt-of, ge-of}
 use Rattle.need_sums.specs.declared.shapes.Own.{Own}
-use Rattle.need_sums.specs.declared.places.Position.{Position}
+use Rattle.need_sums.specs.declared.positions.Position.{Position}
 use Rattle.need_sums.specs.Sums.{cut}
 use Rattle.need_sums.specs.Rows.{rowCount, Changed, piecesOf, takesPieces, inBody, ownPieces, Summed}
 

@@ -1,7 +1,7 @@
 // What a term takes itself, and how what its children take is put together.
 use image_needs::Needs;
-use need_sums::places::Mode;
-use need_sums::places::Position;
+use need_sums::positions::Mode;
+use need_sums::positions::Position;
 use need_sums::shapes::Own;
 use need_sums::shapes::Role;
 use need_sums::sums::add;

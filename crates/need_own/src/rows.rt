@@ -2,8 +2,8 @@
 use crate::own::MAINLINE;
 use image_needs::Needs;
 use laws::both;
-use need_sums::places::Mode;
-use need_sums::places::Position;
+use need_sums::positions::Mode;
+use need_sums::positions::Position;
 use need_sums::shapes::Own;
 use need_sums::sums::larger;
 use need_sums::sums::plus;
@@ -114,7 +114,7 @@ fn row_pieces(own: Own, i: usize, kept: u32) -> u32
 }
 
 // One half of a table, which begins at a place.
-fn charge_half(rows: &mut [u32], at: usize, own: Own, kept: u32)
+fn charge_quota(rows: &mut [u32], at: usize, own: Own, kept: u32)
     requires { ⌜ (at ≤ rowCount) × (kept ≤ placeLimit) × (length (now rows) ≡ tableLength) ⌝ }
     ensures { λ _. ⌜ Changed (λ x y. cut (y + piecesOf own (x - at + kept))) at (at + rowCount) (now (rows .entry)) (now (rows .exit)) ⌝ }
 {
@@ -134,9 +134,9 @@ pub fn charge_rows(rows: &mut [u32], own: Own, s: Position)
     let c = s.dom;
     if both(is_body(mode), takes_pieces(own)) {
         if c.0 == MAINLINE {
-            charge_half(rows, 0, own, s.kept);
+            charge_quota(rows, 0, own, s.kept);
         } else {
-            charge_half(rows, ROWS, own, s.kept);
+            charge_quota(rows, ROWS, own, s.kept);
         }
     }
 }

@@ -14,15 +14,15 @@ use Rattle.laws.proofs.Booleans.{no-path}
 use Rattle.image.specs.Kinds.{TermKind}
 use Rattle.image.specs.Records.{Layout}
 use Rattle.image.specs.Types.{others, children, rootOf}
-use Rattle.image.proofs.Laid.{Good}
+use Rattle.image.proofs.Laid.{LayoutOk}
 use Rattle.need_sums.specs.declared.shapes.Own.{Own}
 use Rattle.need_sums.specs.declared.shapes.Role.{Role}
-use Rattle.need_sums.specs.declared.places.Mode.{Mode}
-use Rattle.need_sums.specs.declared.places.Position.{Position}
+use Rattle.need_sums.specs.declared.positions.Mode.{Mode}
+use Rattle.need_sums.specs.declared.positions.Position.{Position}
 use Rattle.need_sums.specs.Sums.{cut}
 use Rattle.need_sums.specs.Walks.{shapeOf, asked, adviceMode, isAdviceBody, runningChild, childPosition, isBranch}
 use Rattle.need_sums.specs.Rows.{tableLength, Changed, ownPieces, Summed}
-use Rattle.need_terms.specs.Parts.{branchVariables}
+use Rattle.need_terms.specs.GivenToChildren.{branchVariables}
 use Rattle.need_walk.specs.Counted.{counted, termAt, skips}
 use Rattle.need_walk.proofs.Folds.{joinedAt}
 use Rattle.need_walk.proofs.Shapes.{branchNumbers, addedBy, offeredBy}
@@ -191,7 +191,7 @@ module _ (L : Layout) (n : ℕ) (s : Position) where
   unfolding choiceAt choiceTo joinedAt
   choice-first x = piece-none x
 
-  all-rows : Good L → n < length (L .terms) → (kind-at L n ≡ TermKind.match → 3 ≤ length (children L n)) → (j : ℕ) → length (children L n) ≤ j → (x : ℕ) → pieceAt (inRow L s n) x ≡ sumAt j x + choiceAt j x
+  all-rows : LayoutOk L → n < length (L .terms) → (kind-at L n ≡ TermKind.match → 3 ≤ length (children L n)) → (j : ℕ) → length (children L n) ≤ j → (x : ℕ) → pieceAt (inRow L s n) x ≡ sumAt j x + choiceAt j x
   unfolding sumAt choiceAt
   all-rows good l three j h x =
       piece-cong (inRow L s n) (λ i. sumTo L n (keepingMore i s) j ⊕ choiceTo L n (keepingMore i s) j) (λ i. through L n good l three (keepingMore i s) j h) x
@@ -301,7 +301,7 @@ module _ (L : Layout) (n : ℕ) (s : Position) (own : Own) (before : List ℕ) w
         sofar-same (ownPieces own s) (sumAt L n s j) (sumAt L n s (j + 1)) before rows (sum-branch L n s j h role (domain-at L n) (getD (children L n) j 0) hr refl refl hb) T
 
   -- All children are through.
-  module _ (good : Good L) (l : n < length (L .terms)) (three : kind-at L n ≡ TermKind.match → 3 ≤ length (children L n)) (j : ℕ) (h : j ≡ length (children L n))
+  module _ (good : LayoutOk L) (l : n < length (L .terms)) (three : kind-at L n ≡ TermKind.match → 3 ≤ length (children L n)) (j : ℕ) (h : j ≡ length (children L n))
       (rows charged : List ℕ) (T : Through j rows) (A : Summed (ownPieces own s) rows charged) where
     all-of : (x : ℕ) → pieceAt (inRow L s n) x ≡ sumAt L n s j x + choiceAt L n s j x
     all-of = all-rows L n s good l three j (omega arith)

@@ -16,11 +16,11 @@ use borrow.Author.Tests.{le-ltb}
 use Rattle.laws.proofs.Booleans.{no-path, of-lt}
 use Rattle.need_sums.specs.declared.shapes.Own.{Own}
 use Rattle.need_sums.specs.declared.shapes.Role.{Role}
-use Rattle.need_sums.specs.declared.places.Mode.{Mode}
-use Rattle.need_sums.specs.declared.places.Position.{Position}
+use Rattle.need_sums.specs.declared.positions.Mode.{Mode}
+use Rattle.need_sums.specs.declared.positions.Position.{Position}
 use Rattle.need_sums.specs.Sums.{cut}
 use Rattle.need_sums.specs.Walks.{bindsVariables, isAdvised}
-use Rattle.need_sums.specs.Rows.{rowCount, tableLength, halfPieces, ownPieces, Summed}
+use Rattle.need_sums.specs.Rows.{rowCount, tableLength, quotaPieces, ownPieces, Summed}
 use Rattle.need_walk.specs.Counted.{hereOf}
 use Rattle.need_walk.proofs.Shapes.{ownNumbers, branchNumbers}
 use Rattle.need_walk.proofs.Rounds.{roundNumbers}
@@ -128,7 +128,7 @@ module _ (s : Position) (x : ℕ) where
       look true m = same-zero m
       look false m = same-zero m
 
-  body-pieces : (o : Own) → pieceAt (λ i. ownNumbers o (P i) none) x ≡ halfPieces (eqb (s .dom .0) 0) o (s .kept) x
+  body-pieces : (o : Own) → pieceAt (λ i. ownNumbers o (P i) none) x ≡ quotaPieces (eqb (s .dom .0) 0) o (s .kept) x
   unfolding _⊕_
   body-pieces Own.Nothing = flat (λ i. ownNumbers Own.Nothing (P i) none) (λ i. refl) (λ i. refl)
   body-pieces Own.Step = flat (λ i. ownNumbers Own.Step (P i) none) (λ i. refl) (λ i. refl)

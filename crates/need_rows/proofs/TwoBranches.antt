@@ -13,11 +13,11 @@ use Rattle.image.specs.Records.{Layout, times, numbersAt}
 use Rattle.image.specs.Types.{termPlace, children}
 use Rattle.image.proofs.Counts.{leastChildren, children-between}
 use Rattle.image.proofs.EveryKind.{everyOf, at-term}
-use Rattle.image.proofs.Laid.{Good}
+use Rattle.image.proofs.Laid.{LayoutOk}
 use Rattle.image.proofs.Words.{words-length}
 use Rattle.need_sums.specs.declared.shapes.Role.{Role}
-use Rattle.need_sums.specs.declared.places.Mode.{Mode}
-use Rattle.need_sums.specs.declared.places.Position.{Position}
+use Rattle.need_sums.specs.declared.positions.Mode.{Mode}
+use Rattle.need_sums.specs.declared.positions.Position.{Position}
 use Rattle.need_sums.specs.Walks.{shapeOf, roleAt, runningChild, childPosition, branches, branchIn, isBranch}
 use Rattle.need_walk.proofs.Walked.{kind-at}
 
@@ -127,7 +127,7 @@ module _ (s : Position) where
   all-plain k h (suc (suc zero)) = same-branch (shapeOf k .third) (shapeOf k .second) (third-too k) ∙ h
   all-plain k h (suc (suc (suc i))) = not-branch (shapeOf k .rest) (rest-plain k)
 
-pub three-children : (L : Layout) → Good L → (n : ℕ) → n < length (L .terms) → (s : Position) → isBranch s (shapeOf (kind-at L n) .second) ≡ true → 3 ≤ length (children L n)
+pub three-children : (L : Layout) → LayoutOk L → (n : ℕ) → n < length (L .terms) → (s : Position) → isBranch s (shapeOf (kind-at L n) .second) ≡ true → 3 ≤ length (children L n)
 three-children L good n l s h =
     let t = good .terms n l in
     let r = termRow (kind-at L n) in

@@ -6,8 +6,8 @@ use Rattle.calculus.specs.Combinators.{choose}
 use Rattle.calculus_needs.specs.Numbers.{Numbers}
 use Rattle.image.specs.Records.{Layout}
 use Rattle.image.specs.Types.{rootOf}
-use Rattle.need_sums.specs.declared.places.Mode.{Mode}
-use Rattle.need_sums.specs.declared.places.Position.{Position}
+use Rattle.need_sums.specs.declared.positions.Mode.{Mode}
+use Rattle.need_sums.specs.declared.positions.Position.{Position}
 use Rattle.need_sums.specs.Rows.{rowCount}
 use Rattle.need_walk.specs.Counted.{counted, termAt}
 

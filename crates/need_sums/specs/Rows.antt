@@ -9,8 +9,8 @@ use Rattle.calculus.specs.Combinators.{choose}
 use Rattle.image.specs.Limits.{depthLimit}
 use Rattle.image_needs.specs.declared.Needs.{Needs}
 use Rattle.need_sums.specs.declared.shapes.Own.{Own}
-use Rattle.need_sums.specs.declared.places.Mode.{Mode}
-use Rattle.need_sums.specs.declared.places.Position.{Position}
+use Rattle.need_sums.specs.declared.positions.Mode.{Mode}
+use Rattle.need_sums.specs.declared.positions.Position.{Position}
 use Rattle.need_sums.specs.Sums.{cut}
 
 -- Fewer values are kept around a term than it is deep.
@@ -80,11 +80,11 @@ inBody Mode.AllAdvice = false
 inBody Mode.InstalledAdvice = false
 
 -- The same at a place of a table, charged to one half: in row i there are i values more around the mark.
-abbrev pub halfPieces : Bool → Own → ℕ → ℕ → ℕ
-halfPieces main o k x = choose (ltb x rowCount) (choose main (piecesOf o (x + k)) 0) (choose main 0 (piecesOf o (x - rowCount + k)))
+abbrev pub quotaPieces : Bool → Own → ℕ → ℕ → ℕ
+quotaPieces main o k x = choose (ltb x rowCount) (choose main (piecesOf o (x + k)) 0) (choose main 0 (piecesOf o (x - rowCount + k)))
 
 abbrev pub ownPieces : Own → Position → ℕ → ℕ
-ownPieces o s x = choose (inBody (s .mode)) (halfPieces (eqb (s .dom .0) 0) o (s .kept) x) 0
+ownPieces o s x = choose (inBody (s .mode)) (quotaPieces (eqb (s .dom .0) 0) o (s .kept) x) 0
 
 -- A table with numbers added to its places. Sums stop at the largest number.
 abbrev pub Summed : (ℕ → ℕ) → List ℕ → List ℕ → Type 0

@@ -9,8 +9,8 @@ use Rattle.image_needs.specs.declared.Needs.{Needs}
 use Rattle.need_sums.specs.declared.shapes.Own.{Own}
 use Rattle.need_sums.specs.declared.shapes.Role.{Role}
 use Rattle.need_sums.specs.declared.shapes.Shape.{Shape}
-use Rattle.need_sums.specs.declared.places.Mode.{Mode}
-use Rattle.need_sums.specs.declared.places.Position.{Position}
+use Rattle.need_sums.specs.declared.positions.Mode.{Mode}
+use Rattle.need_sums.specs.declared.positions.Position.{Position}
 use Rattle.need_sums.specs.Sums.{noNeeds, addNeeds, raiseNeeds}
 
 -- Depths and kept values that a walk comes to are below this: an image has at most 1,024 terms.

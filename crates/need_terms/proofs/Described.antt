@@ -31,7 +31,7 @@ use Rattle.read_terms.proofs.Located.{good-of, image-is, number-is, typed-in, t
 use Rattle.read_terms.proofs.Matches.{close-told}
 use Rattle.read_terms.specs.Descriptors.{descriptorDomain}
 use Rattle.read_terms.proofs.Described.{descriptor-domain}
-use Rattle.need_terms.specs.Parts.{partDomain, branchVariables, withOne, domainIn, matchVariables, variablesIn, HasFields, MatchPart, Part}
+use Rattle.need_terms.specs.GivenToChildren.{partDomain, branchVariables, withOne, domainIn, matchVariables, variablesIn, HasFields, MatchPart, Part}
 
 -- The domain in a lower's field.
 lower-field : (fs : List ℕ) → fieldIn fs 1 ≡ getD (othersIn fs TermKind.lower) 0 0

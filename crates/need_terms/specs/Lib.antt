@@ -1,2 +1,2 @@
 -- The terms of an image by their numbers.
-pub mod Parts
+pub mod GivenToChildren

@@ -16,7 +16,7 @@ ghost use lib.ListN.{length, getD};
 ghost use Rattle.image.specs.Kinds.{TermKind, termRow};
 ghost use Rattle.read_records.specs.Heads.{fieldIn};
 ghost use Rattle.read_terms.specs.Fields.{childrenIn};
-ghost use Rattle.need_terms.specs.Parts.{Part, domainIn, variablesIn};
+ghost use Rattle.need_terms.specs.GivenToChildren.{Part, domainIn, variablesIn};
 
 // The field of a lower's domain: it stands behind the type.
 const LOWERED: usize = 1;
@@ -46,7 +46,7 @@ pub fn part_domain(kind: u16, fields: &[u8], descriptors: &[u32]) -> DomainNo
 // One more if it is so.
 fn with_one(n: usize, more: bool) -> u32
     requires { ⌜ n ≤ 4095 ⌝ }
-    ensures { λ r. ⌜ (r ≡ Rattle.need_terms.specs.Parts.withOne n more) × (r ≤ 4096) ⌝ }
+    ensures { λ r. ⌜ (r ≡ Rattle.need_terms.specs.GivenToChildren.withOne n more) × (r ≤ 4096) ⌝ }
 {
     if more {
         return (n as u32) + 1;

@@ -12,7 +12,7 @@ use Rattle.calculus_needs.proofs.Shift.{shift, raised}
 use Rattle.image_needs.specs.declared.Needs.{Needs}
 use Rattle.need_sums.specs.declared.shapes.Own.{Own}
 use Rattle.need_sums.specs.declared.shapes.Role.{Role}
-use Rattle.need_sums.specs.declared.places.Position.{Position}
+use Rattle.need_sums.specs.declared.positions.Position.{Position}
 use Rattle.need_sums.specs.Sums.{cut, cutNeeds, noNeeds, addNeeds, dearerNeeds, raisedTo, raiseNeeds}
 use Rattle.need_sums.specs.Walks.{placeLimit, stepNeeds, chargedNeeds, reductionNeeds, adviceStart, adviceNeeds, isAdvised, bindsVariables, branchNeeds, isBranch, addedNeeds, chosenNeeds}
 use Rattle.need_walk.specs.Counted.{hereOf}

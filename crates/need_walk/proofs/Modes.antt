@@ -15,11 +15,11 @@ use Rattle.image.specs.Program.{nth, behind, assembleAs, assemble}
 use Rattle.need_sums.specs.declared.shapes.Own.{Own}
 use Rattle.need_sums.specs.declared.shapes.Role.{Role}
 use Rattle.need_sums.specs.declared.shapes.Shape.{Shape}
-use Rattle.need_sums.specs.declared.places.Mode.{Mode}
-use Rattle.need_sums.specs.declared.places.Position.{Position}
+use Rattle.need_sums.specs.declared.positions.Mode.{Mode}
+use Rattle.need_sums.specs.declared.positions.Position.{Position}
 use Rattle.need_sums.specs.Walks.{childless, ownOf, shapeAs, shapeOf, roleAt, childPosition, branches, isBranch, isAdviceBody, isAdvised}
 use Rattle.need_walk.specs.Counted.{hereOf, counted}
-use Rattle.need_terms.specs.Parts.{partDomain, branchVariables}
+use Rattle.need_terms.specs.GivenToChildren.{partDomain, branchVariables}
 use Rattle.need_walk.proofs.Folds.{sums, choices, joined, joined-cong, joined-none, joined-nothing, joined-split}
 use Rattle.need_walk.proofs.Shapes.{Full, ownNumbers, running, branchNumbers, addedBy, offeredBy, adds, offers, need-form}
 use Rattle.need_walk.proofs.Rounds.{installing, installed, roundsAdds, rounds-form, roundNumbers, roundAdds}

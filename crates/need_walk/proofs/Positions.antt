@@ -8,8 +8,8 @@ use Rattle.image.specs.Records.{Layout}
 use Rattle.verdict.specs.Acceptable.{IsChild, Depth}
 use Rattle.image_needs.specs.declared.Needs.{Needs}
 use Rattle.need_sums.specs.declared.shapes.Role.{Role}
-use Rattle.need_sums.specs.declared.places.Mode.{Mode}
-use Rattle.need_sums.specs.declared.places.Position.{Position}
+use Rattle.need_sums.specs.declared.positions.Mode.{Mode}
+use Rattle.need_sums.specs.declared.positions.Position.{Position}
 use Rattle.need_sums.specs.Walks.{asked, adviceMode, isAdviceBody, runningChild, childPosition}
 use Rattle.need_sums.specs.Rows.{rowCount}
 use Rattle.need_walk.specs.Counted.{Placed, Known}

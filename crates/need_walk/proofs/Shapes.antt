@@ -19,7 +19,7 @@ use Rattle.need_sums.specs.declared.shapes.Own.{Own}
 use Rattle.need_sums.specs.declared.shapes.Role.{Role}
 use Rattle.need_sums.specs.declared.shapes.Shape.{Shape}
 use Rattle.need_sums.specs.Walks.{childless, ownOf, shapeAs, shapeOf, roleAt, branches, bindsVariables}
-use Rattle.need_terms.specs.Parts.{partDomain, branchVariables}
+use Rattle.need_terms.specs.GivenToChildren.{partDomain, branchVariables}
 use Rattle.need_walk.proofs.Folds.{dearer-left-none, dearer-right-none, sums, choices, joined, joined-none, joined-nothing, joined-split}
 
 -- What a term takes itself, of w for all advice at a mark.

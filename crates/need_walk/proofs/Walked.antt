@@ -26,17 +26,17 @@ use Rattle.read_terms.proofs.Elimination.{constants}
 use Rattle.image.specs.Records.{Layout, times, numbersAt}
 use Rattle.image.specs.Program.{Program, tree, toTm, toTms, subtrees, assemble}
 use Rattle.image.specs.Types.{termPlace, termKind, statedType, others, children, rootOf}
-use Rattle.image.proofs.Laid.{Good, Below}
+use Rattle.image.proofs.Laid.{LayoutOk, Below}
 use Rattle.image.proofs.Fuel.{tree-fuel}
 use Rattle.image_needs.specs.declared.Needs.{Needs}
 use Rattle.need_sums.specs.declared.shapes.Own.{Own}
 use Rattle.need_sums.specs.declared.shapes.Role.{Role}
-use Rattle.need_sums.specs.declared.places.Mode.{Mode}
-use Rattle.need_sums.specs.declared.places.Position.{Position}
+use Rattle.need_sums.specs.declared.positions.Mode.{Mode}
+use Rattle.need_sums.specs.declared.positions.Position.{Position}
 use Rattle.need_sums.specs.Sums.{cutNeeds, noNeeds, addNeeds, dearerNeeds, raiseNeeds}
 use Rattle.need_sums.specs.Walks.{placeLimit, shapeOf, roleAt, childPosition, reductionNeeds, ownNeeds, addedNeeds, chosenNeeds}
 use Rattle.need_sums.specs.Rows.{rowCount, atMark}
-use Rattle.need_terms.specs.Parts.{partDomain, branchVariables}
+use Rattle.need_terms.specs.GivenToChildren.{partDomain, branchVariables}
 use Rattle.need_walk.specs.Counted.{hereOf, counted, termAt, Known, skips}
 use Rattle.need_walk.proofs.Folds.{sums, choices, joined, joined-at, joinedAt, joined-snoc}
 use Rattle.need_walk.proofs.Shapes.{FullIf, Full}
@@ -133,7 +133,7 @@ most-few : (k : TermKind) → mostChildren (termRow k) ≤ placeLimit
 unfolding everyOf
 most-few k = le-of (at-term (λ k. leb (mostChildren (termRow k)) placeLimit) refl k)
 
-pub few-children : (L : Layout) → Good L → (n : ℕ) → n < length (L .terms) → length (children L n) ≤ placeLimit
+pub few-children : (L : Layout) → LayoutOk L → (n : ℕ) → n < length (L .terms) → length (children L n) ≤ placeLimit
 few-children L good n l =
     let t = good .terms n l in
     let r = termRow (termKind L n) in
@@ -232,7 +232,7 @@ module _ (L : Layout) (n : ℕ) where
           ha ∙ (ap (λ y. chosenNeeds s y v x) hr ∙ (ap (chosenNeeds s (role-of j) v) takes ∙ (chosen-cut s (role-of j) v c few ∙ ap (λ y. cutNeeds (offered s (role-of j) y c)) hv))) in
           h′ ∙ (ap (λ y. dearerNeeds y a) hs ∙ (ap (dearerNeeds (cutNeeds (choiceTo s j))) q ∙ (sym (cut-dearer (choiceTo s j) (offers-at s j (getD (children L n) j 0))) ∙ ap cutNeeds (sym choice-next))))
 
-  module _ (good : Good L) (l : n < length (L .terms)) where
+  module _ (good : LayoutOk L) (l : n < length (L .terms)) where
     -- The fuel does not matter.
     same-trees : (f : ℕ → Tm → Numbers) (i : ℕ) (es : List ℕ) → Below n es → joinedAt sums (λ j e. f j (toTm (tree L n e))) i es ≡ joinedAt sums (λ j e. f j (termAt L e)) i es
     unfolding joinedAt

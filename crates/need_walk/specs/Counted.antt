@@ -14,8 +14,8 @@ use Rattle.image.specs.Program.{tree, toTm}
 use Rattle.image.specs.Types.{rootOf}
 use Rattle.verdict.specs.Acceptable.{Depth}
 use Rattle.image_needs.specs.declared.Needs.{Needs}
-use Rattle.need_sums.specs.declared.places.Mode.{Mode}
-use Rattle.need_sums.specs.declared.places.Position.{Position}
+use Rattle.need_sums.specs.declared.positions.Mode.{Mode}
+use Rattle.need_sums.specs.declared.positions.Position.{Position}
 use Rattle.need_sums.specs.Sums.{cutNeeds}
 use Rattle.need_sums.specs.Walks.{placeLimit}
 use Rattle.need_sums.specs.Rows.{rowCount, atMark}

@@ -28,14 +28,14 @@ use Rattle.read_records.specs.declared.numbers.Counts.{Counts}
 use Rattle.read_terms.specs.Lent.{Lent}
 use Rattle.validator_core.specs.declared.examine.Checked.{Checked}
 use Rattle.validator_core.specs.Examined.{examined, verdictOf, Filled}
-use Rattle.validator_core.proofs.Parts.{too-long, examined-refuses, all-enough}
+use Rattle.validator_core.proofs.Stages.{too-long, examined-refuses, all-enough}
 use Rattle.image_needs.specs.declared.Needs.{Needs}
 use Rattle.image_needs.specs.declared.Forecast.{Forecast}
 use Rattle.image_needs.specs.Faults.{lowest, lowestFault}
 use Rattle.image_needs.specs.Forecasts.{needsOf, classed, unless, forecast}
 use Rattle.image_needs.proofs.Fits.{deepest, highest, accepted-small}
 use Rattle.need_class.specs.First.{lowestAt}
-use Rattle.need_sums.specs.declared.places.Position.{Position}
+use Rattle.need_sums.specs.declared.positions.Position.{Position}
 use Rattle.need_sums.specs.Sums.{cut, cutNeeds}
 use Rattle.need_sums.specs.Rows.{rowCount, tableLength, atMark, Summed}
 use Rattle.need_walk.specs.Counted.{counted, termAt, Shallow, Placed, markPosition}

@@ -9,8 +9,8 @@ use Rattle.image.specs.Program.{program, toTm}
 use Rattle.image_needs.specs.declared.Needs.{Needs}
 use Rattle.image_needs.specs.declared.Forecast.{Forecast}
 use Rattle.image_needs.specs.Faults.{lowestFault}
-use Rattle.need_sums.specs.declared.places.Mode.{Mode}
-use Rattle.need_sums.specs.declared.places.Position.{Position}
+use Rattle.need_sums.specs.declared.positions.Mode.{Mode}
+use Rattle.need_sums.specs.declared.positions.Position.{Position}
 use Rattle.need_sums.specs.Sums.{cutNeeds}
 
 abbrev pub programPosition : Position

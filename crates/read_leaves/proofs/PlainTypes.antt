@@ -17,7 +17,7 @@ use Rattle.image.specs.Records.{Layout, fieldsAt}
 use Rattle.image.specs.Layout.{recordsOf}
 use Rattle.image.specs.Types.{typePlace, typeKind, typeFields, typeField, isType, typeOut, typeOf}
 use Rattle.laws.proofs.Booleans.{no-path, le-of, of-eq}
-use Rattle.image.proofs.Laid.{Good, layout-good, image-kept}
+use Rattle.image.proofs.Laid.{LayoutOk, layout-good, image-kept}
 use Rattle.image.proofs.TypeNumbers.{type-out, type-kind}
 use Rattle.read_records.specs.Descriptors.{descriptorKind, descriptorField0, descriptorField1}
 use Rattle.read_terms.specs.Lent.{Types}
@@ -111,7 +111,7 @@ by-kind TypeKind.stack vs g x table e h = rw e
 
 -- Type t, after the types before it.
 module _ (b descriptors : List ℕ) (T : Types b descriptors) (t : ℕ) (h : t < length (recordsOf b .types)) where
-  good-types : Good (recordsOf b)
+  good-types : LayoutOk (recordsOf b)
   good-types = layout-good b (recordsOf b) (T .laid-out)
 
   kind-descriptor : descriptorKind (getD descriptors t 0) ≡ typeRow (typeKind (recordsOf b) t) .number

@@ -9,7 +9,7 @@ use Rattle.image.specs.Kinds.{domain, type, rowOf}
 use Rattle.image.specs.Records.{Layout, orElse, kindAt, numbersAt}
 use Rattle.image.specs.Layout.{recordsOf}
 use Rattle.image.specs.Types.{typePlace, typeKind, typeFields, typeField, methodCount}
-use Rattle.image.proofs.Laid.{Good, layout-good, image-kept}
+use Rattle.image.proofs.Laid.{LayoutOk, layout-good, image-kept}
 use Rattle.verdict.specs.Rules.{Descriptor}
 use Rattle.verdict.specs.Check.{describe}
 use Rattle.verdict.proofs.Descriptors.{same-descriptor}
@@ -26,7 +26,7 @@ unpacked L t x =
       methods = methodCount L t;
     }
 
-module _ (L : Layout) (good : Good L) (t : ℕ) (h : t < length (L .types)) where
+module _ (L : Layout) (good : LayoutOk L) (t : ℕ) (h : t < length (L .types)) where
   kind-at : kindAt (L .image) (typePlace L t) ≡ type (typeKind L t)
   kind-at = ap (λ q. orElse q domain) (good .types t h .kind)
 

@@ -19,7 +19,7 @@ use Rattle.image.specs.Types.{termPlace, termKind, typeNo, others, children}
 use Rattle.laws.proofs.Booleans.{le-of}
 use Rattle.image.proofs.KindNumbers.{same-term-kind}
 use Rattle.image.proofs.EveryKind.{everyOf, at-term}
-use Rattle.image.proofs.Laid.{TermOk, below-at, type-there, Good, layout-good, image-kept}
+use Rattle.image.proofs.Laid.{TermOk, below-at, type-there, LayoutOk, layout-good, image-kept}
 use Rattle.image.proofs.Offsets.{number-at, sideBySide, side-or-match, fields-count, child-at}
 use Rattle.read_records.specs.Heads.{IsWhole, fieldIn}
 use Rattle.read_records.proofs.Parts.{words-part, bytes-length}
@@ -36,7 +36,7 @@ unfolding everyOf
 from-32 k = le-of (at-term (λ k. leb 32 (termRow k .number)) refl k)
 
 module _ (b : List ℕ) (laid-out : layout b ≡ laid (recordsOf b)) where
-  pub good-of : Good (recordsOf b)
+  pub good-of : LayoutOk (recordsOf b)
   good-of = layout-good b (recordsOf b) laid-out
 
   pub image-is : recordsOf b .image ≡ b

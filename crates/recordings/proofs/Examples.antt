@@ -2,7 +2,7 @@
 use Prim.Native.Nat.{ℕ}
 use mathlib.Core.Path.{_≡_, refl}
 use mathlib.Core.List.{List, [], _∷_}
-use Rattle.calls.specs.Calls.{called}
+use Rattle.call_spec.specs.Calls.{called}
 use Rattle.recordings.specs.Recordings.{part, Recording, callOver}
 
 abbrev frames : List ℕ

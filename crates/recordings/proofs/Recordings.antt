@@ -14,12 +14,12 @@ use Rattle.verdict.specs.declared.Verdict.{Verdict}
 use Rattle.verdict.specs.Verdicts.{verdict}
 use Rattle.base_bytes.specs.Bytes.{over, cleared}
 use Rattle.base_bytes.proofs.Over.{length-over}
-use Rattle.calls.specs.declared.Answer.{Answer}
-use Rattle.calls.specs.Runs.{runOf}
-use Rattle.calls.specs.Calls.{Left, leftBy, refusedAnswer}
+use Rattle.call_spec.specs.declared.Answer.{Answer}
+use Rattle.call_spec.specs.Runs.{runOf}
+use Rattle.call_spec.specs.Calls.{Left, leftBy, refusedAnswer}
 use Rattle.answers_as_numbers.specs.Numbers.{callNumber}
 use Rattle.recordings.specs.Recordings.{partLength, part, withPart, Recording, callOver, recorded, firstCalls}
-use Rattle.calls.proofs.Called.{refused-leaves, accepted-leaves}
+use Rattle.call_spec.proofs.Called.{refused-leaves, accepted-leaves}
 
 -- A list that is filled to its end.
 pub filled : (xs : List ℕ) (i v : ℕ) → i ≡ length xs → replicate i v ++ drop i xs ≡ replicate (length xs) v

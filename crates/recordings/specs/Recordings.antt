@@ -3,7 +3,7 @@ use Prim.Native.Nat.{ℕ, zero, suc, _*_, _/_}
 use mathlib.Core.List.{List}
 use lib.ListN.{length, take, drop, set}
 use Rattle.base_bytes.specs.Bytes.{over}
-use Rattle.calls.specs.Calls.{Left, called}
+use Rattle.call_spec.specs.Calls.{Left, called}
 use Rattle.answers_as_numbers.specs.Numbers.{callNumber}
 
 -- Bytes in n equal parts: the length of a part, part i, and the bytes with other ones in part i's place. What is left over behind the last part belongs to none.

@@ -1,7 +1,7 @@
 // Reads an image from standard input and writes it without its watches to standard output (document 02, card 13); its argument
 // is the mask of the high domains, as a decimal number. A refusal is `refused N PLACE` on standard error, and nothing is
 // written.
-use console::IMAGE_ROOM;
+use console::IMAGE_CAPACITY;
 use numerals::Numeral;
 
 // A mask has 16 bits.
@@ -9,13 +9,13 @@ const MOST_MASK: u32 = 65535;
 
 // The image on standard input without its watches below these high domains.
 fn strip_image(mask: u16) {
-    let mut image = [0u8; IMAGE_ROOM];
+    let mut image = [0u8; IMAGE_CAPACITY];
     let input = console::read_image(&mut image);
     if !input.whole {
         return;
     }
     let n = input.length;
-    let mut out = [0u8; IMAGE_ROOM];
+    let mut out = [0u8; IMAGE_CAPACITY];
     let s = write_stripped::write_stripped(&image[..n], mask, &mut out);
     console::write_image(
         &out,

@@ -1,10 +1,10 @@
 // Reads an image from standard input and prints `accepted` or `refused N PLACE`. The lent memory counts as long enough.
-use console::IMAGE_ROOM;
+use console::IMAGE_CAPACITY;
 use image::REPORT_LENGTH;
 use image::WORK_LENGTH;
 
 fn main() {
-    let mut image = [0u8; IMAGE_ROOM];
+    let mut image = [0u8; IMAGE_CAPACITY];
     let input = console::read_sole_image(b"validate < IMAGE", &mut image);
     if !input.whole {
         return;

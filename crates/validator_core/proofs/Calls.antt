@@ -15,7 +15,7 @@ use Rattle.validator_core.specs.declared.examine.Checked.{Checked}
 use Rattle.validator_core.specs.Examined as Examined
 use Rattle.validator_core.specs.Examined.{verdictOf, examined}
 use Rattle.validator_core.specs.Calls.{Answered}
-use Rattle.validator_core.proofs.Parts.{too-long, examined-refuses, short-work, short-report, all-enough}
+use Rattle.validator_core.proofs.Stages.{too-long, examined-refuses, short-work, short-report, all-enough}
 
 -- What `check_call` answers; what the tables hold matters only if it accepts.
 module _ (b : List ℕ) (lent : Lent) where

@@ -11,7 +11,7 @@ use Rattle.image.specs.Types.{typePlace}
 use Rattle.image.proofs.Laid.{records-of}
 use Rattle.read_records.specs.declared.numbers.Counts.{Counts}
 use Rattle.read_records.specs.Descriptors.{Describes}
-use Rattle.check_marks.specs.Marks.{marksOf, allMarks}
+use Rattle.check_uses.specs.Marks.{marksOf, allMarks}
 use Rattle.check_layout.specs.Tables.{layoutOf, Tables, Marks}
 use Rattle.read_terms.specs.Lent.{TypeOffsets}
 use Rattle.validator_core.specs.Examined.{Filled}

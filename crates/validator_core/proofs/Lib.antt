@@ -1,5 +1,5 @@
 -- What a finished scan gives, and the verdict by its parts.
 pub mod Filling
 pub mod Passes
-pub mod Parts
+pub mod Stages
 pub mod Calls

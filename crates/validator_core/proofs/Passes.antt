@@ -17,7 +17,7 @@ use Rattle.verdict.proofs.Answered.{accepted-is, turn-stops, turn-goes, last-tu
 use Rattle.verdict.proofs.Passed.{shape-accepts}
 use Rattle.read_records.specs.declared.numbers.Counts.{Counts}
 use Rattle.check_layout.specs.declared.Scan.{Scan}
-use Rattle.check_marks.specs.Marks.{allMarks}
+use Rattle.check_uses.specs.Marks.{allMarks}
 use Rattle.check_layout.specs.Tables.{layoutOf, scanOf, Marks, Scanned}
 use Rattle.validator_core.specs.declared.examine.Checked.{Checked}
 use Rattle.validator_core.specs.Examined.{checkedRecords, examined, verdictOf, withCounts, Filled, Answered}

@@ -8,7 +8,7 @@ ghost use lib.ListN.{length};
 ghost use Rattle.image.specs.Limits.{typeLimit, termLimit};
 ghost use Rattle.read_records.specs.Codes.{kindCodes};
 ghost use Rattle.read_records.specs.Tables.{Tables, Counted};
-ghost use Rattle.check_marks.specs.Marks.{allMarks};
+ghost use Rattle.check_uses.specs.Marks.{allMarks};
 ghost use Rattle.check_layout.specs.Tables.{Lent};
 ghost use Rattle.read_terms.specs.Lent.{TypeOffsets};
 ghost use Rattle.validator_core.specs.Examined.{checkedRecords, withCounts, verdictOf, Answered};

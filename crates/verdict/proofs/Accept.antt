@@ -14,7 +14,7 @@ use Rattle.image.specs.Types.{typeOf, statedType, rootOf, rootType}
 use Rattle.image.specs.LaidOut.{LaidOut}
 use Rattle.image.specs.Program.{tree, program, toTm}
 use Rattle.image.proofs.TypeNumbers.{same-number}
-use Rattle.image.proofs.Laid.{Good, layout-good, records-of, image-kept}
+use Rattle.image.proofs.Laid.{LayoutOk, layout-good, records-of, image-kept}
 use Rattle.image.proofs.LaidOut.{laid-iff}
 use Rattle.verdict.specs.declared.Verdict.{Verdict}
 use Rattle.verdict.specs.Domains.{policy}
@@ -107,7 +107,7 @@ pub accepted-iff : (b : List ℕ) (work report : ℕ) → verdict b work report 
 accepted-iff b work report =
     (λ h. passed-acceptable b work report (passed-iff b work report .0 h), λ a. passed-iff b work report .1 (acceptable-passed b work report a))
 
-pub accepted-good : (b : List ℕ) (work report : ℕ) → verdict b work report ≡ Verdict.Accepted → Good (recordsOf b)
+pub accepted-good : (b : List ℕ) (work report : ℕ) → verdict b work report ≡ Verdict.Accepted → LayoutOk (recordsOf b)
 accepted-good b work report h = layout-good b (recordsOf b) (passed-iff b work report .0 h .laid-out)
 
 -- An accepted image's program is a well-typed term of the calculus, at domain 0, in the empty context, and its type is plain.

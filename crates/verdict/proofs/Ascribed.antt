@@ -15,7 +15,7 @@ use Rattle.image.specs.Types.{typeNo, children, rootOf}
 use Rattle.image.specs.LaidOut.{LaidOut}
 use Rattle.image.specs.Program.{Program, Programs, node, blank, end, more, subtrees, tree, program, nth, behind, patternOf, assembleAs, assemble}
 use Rattle.laws.proofs.Booleans.{no-path}
-use Rattle.image.proofs.Laid.{Below, Good, layout-good}
+use Rattle.image.proofs.Laid.{Below, LayoutOk, layout-good}
 use Rattle.image.proofs.LaidOut.{laid-iff}
 use Rattle.image.proofs.Counts.{mostChildren}
 use Rattle.verdict.specs.Settings.{Setting}
@@ -190,7 +190,7 @@ unfolding WithinArity
 subtrees-within g n h [] b = tt
 subtrees-within g n h (e ∷ es) b = (h e (b .0), subtrees-within g n h es (b .1))
 
-module _ (L : Layout) (good : Good L) where
+module _ (L : Layout) (good : LayoutOk L) where
   tree-within : (f n : ℕ) → n < length (L .terms) → WithinArity (tree L f n)
   unfolding tree WithinArity
   tree-within zero n l = tt

@@ -10,7 +10,7 @@ use Rattle.laws.specs.Tests.{firstFault}
 use Rattle.image.specs.Records.{Layout}
 use Rattle.image.specs.Types.{termKind, typeNo, statedType, others, children}
 use Rattle.image.specs.Program.{subtrees, tree, assemble}
-use Rattle.image.proofs.Laid.{Below, Good}
+use Rattle.image.proofs.Laid.{Below, LayoutOk}
 use Rattle.verdict.specs.declared.Verdict.{Verdict}
 use Rattle.verdict.specs.Domains.{policy}
 use Rattle.verdict.specs.Settings.{Setting}
@@ -26,7 +26,7 @@ no-fault : (r : Rule) → Passes r → firstFault (ruleFaults r) ≡ none
 unfolding firstFault
 no-fault r p = let a = p .bound in let b = p .typed in let c = p .allowed in rw (a, b, c, firstFault) refl
 
-module _ (L : Layout) (good : Good L) where
+module _ (L : Layout) (good : LayoutOk L) where
   unfoldable pub ChildComplete : ℕ → Type 0
   ChildComplete f = (q : Setting ℕ) (e : ℕ) → e < length (L .terms) → Below (length (L .types)) (q .context) → WellTyped (policy L) (settingOut L q) (tree L f e) → check L f q e ≡ Verdict.Accepted
 

@@ -13,7 +13,7 @@ use Rattle.image.specs.Types.{typePlace, typeField, isType, typeOut, typeOf}
 use Rattle.laws.specs.Tests.{all}
 use Rattle.laws.proofs.Booleans.{and-l, and-r}
 use Rattle.laws.proofs.Tests.{each}
-use Rattle.image.proofs.Laid.{Below, Good}
+use Rattle.image.proofs.Laid.{Below, LayoutOk}
 use Rattle.image.proofs.Bodies.{Owner, body-owner}
 use Rattle.image.proofs.Counts.{leastChildren, mostChildren}
 use Rattle.image.proofs.TypeNumbers.{type-kind, out-as}
@@ -23,7 +23,7 @@ use Rattle.verdict.specs.Check.{described, ruleBy}
 use Rattle.verdict.specs.WellTyped.{firstOf, secondOf}
 use Rattle.verdict.proofs.Local.{two-of, three-more, outs}
 
-module _ (L : Layout) (good : Good L) where
+module _ (L : Layout) (good : LayoutOk L) where
   -- A type's parts are types.
   pub part-there : (k : TypeKind) (i t : ℕ) → t < length (L .types) → isType L k t ≡ true → getD (fieldsAt (L .image) (typePlace L t) (typeRow k)) i free ≡ a-type → typeField L t i < length (L .types)
   part-there k i t n h e =

@@ -11,7 +11,7 @@ use Rattle.calculus.specs.Combinators.{choose}
 use Rattle.image.specs.Records.{Layout}
 use Rattle.image.specs.Types.{children, rootOf}
 use Rattle.laws.proofs.Booleans.{lt-of, ge-of, eq-of}
-use Rattle.image.proofs.Laid.{Below, Good}
+use Rattle.image.proofs.Laid.{Below, LayoutOk}
 use Rattle.verdict.specs.Shape.{count, setAll, uses, usedOnce, depthsFrom, depths}
 use Rattle.verdict.proofs.Changes.{change-length, change-at}
 
@@ -95,7 +95,7 @@ module _ (L : Layout) where
           let one : count e (children L k) ≤ uses L m e = uses-one e m k (omega arith) in
           rw nm (omega arith)
 
-module _ (L : Layout) (good : Good L) (once : (n : ℕ) → n < rootOf L → usedOnce L n ≡ true) where
+module _ (L : Layout) (good : LayoutOk L) (once : (n : ℕ) → n < rootOf L → usedOnce L n ≡ true) where
   -- A term is no child of a term at or below it.
   no-child : (n k : ℕ) → k ≤ n → k < length (L .terms) → count n (children L k) ≡ 0
   no-child n k h l = below-count k n (children L k) (good .terms k l .below) h

@@ -10,13 +10,13 @@ use Rattle.image.specs.Limits.{depthLimit}
 use Rattle.image.specs.Records.{Layout}
 use Rattle.image.specs.Types.{children, rootOf}
 use Rattle.laws.proofs.Booleans.{lt-of, ge-of}
-use Rattle.image.proofs.Laid.{Good, below-at}
+use Rattle.image.proofs.Laid.{LayoutOk, below-at}
 use Rattle.verdict.specs.Shape.{usedOnce, depths}
 use Rattle.verdict.specs.Acceptable.{IsChild, Depth, at-root, at-child}
 use Rattle.verdict.proofs.Depth.{depth-root, depth-child}
 use Rattle.verdict.proofs.Uses.{child-counts, once-iff}
 
-module _ (L : Layout) (good : Good L) (some : 0 < length (L .terms)) (once : (n : ℕ) → n < rootOf L → usedOnce L n ≡ true) where
+module _ (L : Layout) (good : LayoutOk L) (some : 0 < length (L .terms)) (once : (n : ℕ) → n < rootOf L → usedOnce L n ≡ true) where
   child-depth : {n i e : ℕ} → IsChild L n i e → getD (depths L) e 0 ≡ suc (getD (depths L) n 0)
   child-depth {n} {i} {e} c = depth-child L good once n e (c .there) (child-counts L c)
 

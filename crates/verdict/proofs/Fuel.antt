@@ -12,13 +12,13 @@ use Rattle.laws.specs.Tests.{firstFault}
 use Rattle.image.specs.Records.{Layout}
 use Rattle.image.specs.Types.{termPlace, children}
 use Rattle.laws.proofs.Booleans.{no-path}
-use Rattle.image.proofs.Laid.{Below, Good}
+use Rattle.image.proofs.Laid.{Below, LayoutOk}
 use Rattle.verdict.specs.declared.Verdict.{Verdict}
 use Rattle.verdict.specs.Settings.{Setting}
 use Rattle.verdict.specs.Rules.{Rule, ruleFaults}
 use Rattle.verdict.specs.Check.{ruleAt, settingAt, checkAll, check, checked}
 
-module _ (L : Layout) (good : Good L) where
+module _ (L : Layout) (good : LayoutOk L) where
   children-cong : (u v : ℕ → ℕ → Verdict) (m : ℕ) → ((i e : ℕ) → e < m → u i e ≡ v i e) → (i : ℕ) (es : List ℕ) → Below m es → checkAll L u i es ≡ checkAll L v i es
   unfolding checkAll
   children-cong u v m h i [] b = refl

@@ -17,7 +17,7 @@ use Rattle.image.specs.Program.{opOf, patternOf, assemble}
 use Rattle.laws.proofs.Booleans.{and-l, and-r, lt-of, eq-of}
 use Rattle.laws.proofs.Tests.{each}
 use Rattle.image.proofs.Fitting.{Fitting, match-pointcuts}
-use Rattle.image.proofs.Laid.{Below, Good}
+use Rattle.image.proofs.Laid.{Below, LayoutOk}
 use Rattle.image.proofs.Counts.{leastChildren, mostChildren}
 use Rattle.image.proofs.TypeNumbers.{out-as}
 use Rattle.verdict.specs.Domains.{leq, policy}
@@ -57,7 +57,7 @@ module _ (L : Layout) where
   abbrev pub outs : List ℕ → List Ty
   outs ts = map (λ a. typeOf L a) ts
 
-module _ (L : Layout) (good : Good L) where
+module _ (L : Layout) (good : LayoutOk L) where
   look : (Γ : List ℕ) (k : ℕ) → k < length Γ → getElem? (outs L Γ) k ≡ some (typeOf L (getD Γ k 0))
   look [] k h = absurd (omega arith)
   look (a ∷ Γ) zero h = refl

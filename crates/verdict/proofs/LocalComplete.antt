@@ -16,7 +16,7 @@ use Rattle.image.specs.Types.{headOf, typeFields, typeField, methodCount, isTyp
 use Rattle.image.specs.Program.{patternOf, assemble}
 use Rattle.laws.proofs.Booleans.{no-path, and-i, of-lt, of-eq}
 use Rattle.laws.proofs.Tests.{of-each}
-use Rattle.image.proofs.Laid.{Below, Good, below-at}
+use Rattle.image.proofs.Laid.{Below, LayoutOk, below-at}
 use Rattle.image.proofs.Counts.{leastChildren, mostChildren}
 use Rattle.image.proofs.TypeNumbers.{out-as, is-head, types-apart}
 use Rattle.verdict.specs.Domains.{leq, policy}
@@ -35,7 +35,7 @@ pub record Passes (r : Rule) : Type 0 where
   pub typed : r .typed ≡ true
   pub allowed : r .allowed ≡ true
 
-module _ (L : Layout) (good : Good L) where
+module _ (L : Layout) (good : LayoutOk L) where
   found : (Γ : List ℕ) (k : ℕ) (t : Ty) → getElem? (outs L Γ) k ≡ some t → (k < length Γ) × (typeOf L (getD Γ k 0) ≡ t)
   found [] k t h = no-path cc
   found (a ∷ Γ) zero t h = (omega arith, cc)

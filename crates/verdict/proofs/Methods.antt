@@ -12,7 +12,7 @@ use Rattle.image.specs.Kinds.{a-type, free, TypeKind, typeRow}
 use Rattle.image.specs.Records.{Layout, fieldsAt}
 use Rattle.image.specs.Types.{typePlace, typeFields, typeField, methodCount, isType, methodsOut}
 use Rattle.laws.proofs.Booleans.{and-l, and-r, and-i, eq-of, of-eq}
-use Rattle.image.proofs.Laid.{Good}
+use Rattle.image.proofs.Laid.{LayoutOk}
 use Rattle.image.proofs.Words.{words-length}
 use Rattle.image.proofs.TypeNumbers.{methodFields, type-kind}
 use Rattle.verdict.specs.Rules.{Descriptor, bodiesFit}
@@ -98,7 +98,7 @@ module _ (L : Layout) where
       and-i (of-eq first) (bodies-fit a (suc m) ts rest)
 
   -- The fields of an object's type are those of its methods.
-  module _ (good : Good L) (t : ℕ) (n : t < length (L .types)) (h : isType L TypeKind.obj t ≡ true) where
+  module _ (good : LayoutOk L) (t : ℕ) (n : t < length (L .types)) (h : isType L TypeKind.obj t ≡ true) where
     pub method-fields : length (typeFields L t) ≡ 2 * methodCount L t
     method-fields =
         let e = type-kind L good TypeKind.obj t n h in

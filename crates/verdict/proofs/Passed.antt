@@ -14,7 +14,7 @@ use Rattle.image.specs.Types.{rootOf, rootType}
 use Rattle.image.specs.Program.{program}
 use Rattle.laws.proofs.Booleans.{no-path, not-t, le-of, of-le}
 use Rattle.laws.proofs.Tests.{each, of-each}
-use Rattle.image.proofs.Laid.{Good, layout-good, records-of}
+use Rattle.image.proofs.Laid.{LayoutOk, layout-good, records-of}
 use Rattle.verdict.specs.declared.Verdict.{Verdict}
 use Rattle.verdict.specs.Domains.{policy}
 use Rattle.verdict.specs.Order.{atFault}
@@ -64,7 +64,7 @@ shape-accepts L size = (there, back)
 root-there : (L : Layout) → 0 < length (L .terms) → rootOf L < length (L .terms)
 root-there L h = omega arith
 
-pub typing-accepts : (L : Layout) → Good L → 0 < length (L .terms) → typing L ≡ Verdict.Accepted ↔ (WellTyped (policy L) mainline (program L) × (isPlain (rootType L) ≡ true))
+pub typing-accepts : (L : Layout) → LayoutOk L → 0 < length (L .terms) → typing L ≡ Verdict.Accepted ↔ (WellTyped (policy L) mainline (program L) × (isPlain (rootType L) ≡ true))
 unfolding typing program ChildSound ChildComplete
 typing-accepts L good l = (there, back)
   where

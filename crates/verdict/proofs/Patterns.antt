@@ -12,7 +12,7 @@ use Rattle.image.specs.Kinds.{TypeKind}
 use Rattle.image.specs.Records.{Layout}
 use Rattle.image.specs.Types.{isType, typeOut, typeOf}
 use Rattle.laws.proofs.Booleans.{and-l, and-r}
-use Rattle.image.proofs.Laid.{Below, Good}
+use Rattle.image.proofs.Laid.{Below, LayoutOk}
 use Rattle.image.proofs.Fitting.{pointcuts}
 use Rattle.image.proofs.TypeNumbers.{out-as}
 use Rattle.verdict.specs.Settings.{matchBinds}
@@ -41,7 +41,7 @@ any-part (p-any o) = o
 pub cut-parts : {p : Pattern} {t : Ty} {ts us : List Ty} → PatternTy (pointcut p) (t ∷ ts) us → (a : Ty) × (q : Dom) × (ws : List Ty) × (t ≡ Ty.pointcut a q) × PatternTy p ts ws
 cut-parts (p-cut {us = ws} {a} {q} o) = (a, q, ws, refl, o)
 
-module _ (L : Layout) (good : Good L) where
+module _ (L : Layout) (good : LayoutOk L) where
   pub pattern-typed : (p : Pattern) (xs : List ℕ) → Below (length (L .types)) xs → all (map (λ a. is TypeKind.pcd a) (described L xs)) ≡ true → pointcuts p ≡ length xs
       → PatternTy p (map (λ a. typeOf L a) xs) (matchBinds firstOf p Ty.stack (map (λ a. typeOf L a) xs))
   unfolding typeOut all

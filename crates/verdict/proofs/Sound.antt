@@ -16,7 +16,7 @@ use Rattle.image.specs.Types.{termPlace, termKind, typeNo, statedType, others, 
 use Rattle.image.specs.Program.{subtrees, tree}
 use Rattle.laws.proofs.Tests.{passed}
 use Rattle.image.proofs.Words.{words-length}
-use Rattle.image.proofs.Laid.{Below, Good}
+use Rattle.image.proofs.Laid.{Below, LayoutOk}
 use Rattle.image.proofs.Fitting.{Fitting}
 use Rattle.image.proofs.Counts.{leastChildren, mostChildren, children-between}
 use Rattle.verdict.specs.declared.Verdict.{Verdict}
@@ -37,7 +37,7 @@ below-le (e ∷ es) h b = (let z = b .0 in omega arith, below-le es h (b .1))
 abbrev pub settingOut : Layout → Setting ℕ → Setting Ty
 settingOut L p = record { context = outs L (p .context); dom = p .dom }
 
-module _ (L : Layout) (good : Good L) where
+module _ (L : Layout) (good : LayoutOk L) where
   types-below : (es : List ℕ) → Below (length (L .terms)) es → Below (length (L .types)) (typeNos L es)
   types-below [] b = tt
   types-below (e ∷ es) b = (good .terms e (b .0) .typed, types-below es (b .1))

@@ -13,7 +13,7 @@ use Rattle.vm_code.specs.Classes.{firstInstruction}
 use Rattle.vm_machine.specs.Memory.{Memory, withDigit}
 use Rattle.vm_machine.specs.Fetch.{Program, codeAt, atomValue}
 use Rattle.vm_machine.specs.Turn.{Taken, childAt, takeLabels}
-use Rattle.vm_labels.specs.Parts.{childFields}
+use Rattle.vm_labels.specs.PointcutChildren.{childFields}
 
 -- Child i in the fields fs that hold the children of a pointcut with word w; x is the term that field i names.
 pub child-in : (C : Program) (w i x : ℕ) (fs : List ℕ) → fs ≡ childFields (C .image) w → i < countOf w → x ≡ fieldIn fs i % termCount → x ≡ childAt C w i

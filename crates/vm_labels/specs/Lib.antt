@@ -1,2 +1,2 @@
 -- Parts of what a pointcut's children are.
-pub mod Parts
+pub mod PointcutChildren

@@ -15,6 +15,6 @@ pub struct Done {
 pub struct Part {
     pub pc: usize,
     pub env: usize,
-    pub room: usize,
+    pub frames: usize,
     pub done: Done,
 }

@@ -14,9 +14,9 @@ use Rattle.base_bytes.specs.Memory as area
 use Rattle.base_bytes.proofs.Bytes.{length-bytes, number-back, bytes-parts, bytes-back, bytes8}
 use Rattle.base_bytes.proofs.Memory.{length-words, beside-at, take-of-drop}
 use Rattle.vm_machine.specs.Memory.{Memory, wordAt, putWord}
-use Rattle.vm_tables.specs.View.{memoryOf, Holds}
+use Rattle.vm_memory.specs.View.{memoryOf, Holds}
 use Rattle.vm_links.specs.Links.{Link, outer, frame, next, end, closure, advice, linkByte, linkSize, readLink, LinkWord, a-binding, a-frame, a-next, an-end, a-function, an-object, an-advice, linkAt, SameBeside, Card4}
-use Rattle.vm_tables.proofs.Stored.{load-word}
+use Rattle.vm_memory.proofs.Stored.{load-word}
 
 byte-low : (k : Link) → linkByte k ≤ 6
 byte-low outer = omega arith

@@ -1,8 +1,8 @@
--- The words that the machine's stores write with links are those of card 4: what each store of crate vm_tables leaves by its contract (`Holds`), link by link.
+-- The words that the machine's stores write with links are those of card 4: what each store of crate vm_memory leaves by its contract (`Holds`), link by link.
 use Prim.Native.Nat.{ℕ, _+_, _*_, _%_, _/_, _≤_, _<_}
 use mathlib.Core.Path.{refl}
 use Rattle.vm_code.specs.Values.{functionValue, objectValue}
-use Rattle.vm_code.specs.Words.{home}
+use Rattle.vm_code.specs.Words.{returnPc}
 use Rattle.vm_machine.specs.Memory.{Memory, bindingBase, pieceBase, putWord, above, binding, putBinding, adviceWord, slotHeld, slotAt, slotIn, callFrame, adviceFrame, pointcutFrame, keepFrame, bindingsLeft, putReturn, putAdvice, putDigits, putMatch, putKeep}
 use Rattle.vm_links.specs.Links.{outer, frame, next, end, closure, advice, linkSize, a-binding, a-frame, a-next, an-end, a-function, an-object, an-advice, PutsLink}
 
@@ -23,28 +23,28 @@ module _ (M : Memory) where
   pub piece-links : (p target env dom : ℕ) → target < 65536 → PutsLink advice env M (putWord (pieceBase + 2 * p) (adviceWord target env dom) M)
   piece-links p target env dom h = record { word = pieceBase + 2 * p; around = _; is-word = an-advice target dom h; words = refl }
 
-  module _ (room d pc env : ℕ) where
+  module _ (frames d pc env : ℕ) where
     -- `put_return`: the environment of a call's frame.
-    pub return-links : PutsLink frame env M (putReturn room d pc env M)
-    return-links = record { word = slotIn room d; around = _; is-word = a-frame callFrame pc (slotHeld (slotAt M room d)); words = refl }
+    pub return-links : PutsLink frame env M (putReturn frames d pc env M)
+    return-links = record { word = slotIn frames d; around = _; is-word = a-frame callFrame pc (slotHeld (slotAt M frames d)); words = refl }
 
     -- `put_advice`: the environment of a mark's frame, and the two ends of the bindings that are left.
     module _ (m n : ℕ) where
-      pub advice-links : PutsLink frame env M (putAdvice room d pc env m n M)
-      advice-links = record { word = slotIn room d; around = _; is-word = a-frame adviceFrame pc (bindingsLeft m n); words = refl }
+      pub advice-links : PutsLink frame env M (putAdvice frames d pc env m n M)
+      advice-links = record { word = slotIn frames d; around = _; is-word = a-frame adviceFrame pc (bindingsLeft m n); words = refl }
 
-      pub advice-next : pc ≤ home → env < linkSize → PutsLink next m M (putAdvice room d pc env m n M)
-      advice-next h g = record { word = slotIn room d; around = _; is-word = a-next pc env n h g; words = refl }
+      pub advice-next : pc ≤ returnPc → env < linkSize → PutsLink next m M (putAdvice frames d pc env m n M)
+      advice-next h g = record { word = slotIn frames d; around = _; is-word = a-next pc env n h g; words = refl }
 
-      pub advice-end : pc ≤ home → env < linkSize → m < linkSize → PutsLink end n M (putAdvice room d pc env m n M)
-      advice-end h g k = record { word = slotIn room d; around = _; is-word = an-end pc env m h g k; words = refl }
+      pub advice-end : pc ≤ returnPc → env < linkSize → m < linkSize → PutsLink end n M (putAdvice frames d pc env m n M)
+      advice-end h g k = record { word = slotIn frames d; around = _; is-word = an-end pc env m h g k; words = refl }
 
     -- `put_digits`, `put_match`, `put_keep`: the environment of a pointcut's frame, a match's and a keep's.
-    pub digits-links : (digits : ℕ) → PutsLink frame env M (putDigits room d pc env digits M)
-    digits-links digits = record { word = slotIn room d; around = _; is-word = a-frame pointcutFrame pc (digits % 68719476736); words = refl }
+    pub digits-links : (digits : ℕ) → PutsLink frame env M (putDigits frames d pc env digits M)
+    digits-links digits = record { word = slotIn frames d; around = _; is-word = a-frame pointcutFrame pc (digits % 68719476736); words = refl }
 
-    pub match-links : (v byte : ℕ) → PutsLink frame env M (putMatch room d pc env v byte M)
-    match-links v byte = record { word = slotIn room d; around = _; is-word = a-frame pointcutFrame pc (v / 268435456); words = refl }
+    pub match-links : (v byte : ℕ) → PutsLink frame env M (putMatch frames d pc env v byte M)
+    match-links v byte = record { word = slotIn frames d; around = _; is-word = a-frame pointcutFrame pc (v / 268435456); words = refl }
 
-    pub keep-links : PutsLink frame env M (putKeep room d pc env M)
-    keep-links = record { word = slotIn room d; around = _; is-word = a-frame keepFrame pc 0; words = refl }
+    pub keep-links : PutsLink frame env M (putKeep frames d pc env M)
+    keep-links = record { word = slotIn frames d; around = _; is-word = a-frame keepFrame pc 0; words = refl }

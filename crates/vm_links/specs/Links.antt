@@ -6,9 +6,9 @@ use lib.ListN.{length, getD, set}
 use Rattle.base_bytes.specs.Bytes.{AreBytes, numberAt}
 use Rattle.base_bytes.specs.Memory.{wordCount, memoryLength}
 use Rattle.vm_code.specs.Values.{functionValue, objectValue}
-use Rattle.vm_code.specs.Words.{home}
+use Rattle.vm_code.specs.Words.{returnPc}
 use Rattle.vm_machine.specs.Memory.{Memory, wordAt, putWord, above, binding, boundLink, adviceWord, adviceEnv, closureEnv, slotWord, slotEnv, adviceFrame, bindingsLeft, nextBinding, endBinding}
-use Rattle.vm_tables.specs.View.{memoryOf, Holds}
+use Rattle.vm_memory.specs.View.{memoryOf, Holds}
 
 -- The links. (None leads from frame to frame: a frame's slot follows from the unfinished terms around it.)
 pub data Link : Type 0 where
@@ -53,8 +53,8 @@ readLink advice = adviceEnv
 pub data LinkWord : Link → (ℕ → ℕ) → Type 0 where
   a-binding : (v target : ℕ) → LinkWord outer (λ l. binding v target l)
   a-frame : (kind pc held : ℕ) → LinkWord frame (λ l. slotWord kind pc l held)
-  a-next : (pc env m : ℕ) → pc ≤ home → env < linkSize → LinkWord next (λ l. slotWord adviceFrame pc env (bindingsLeft l m))
-  an-end : (pc env n : ℕ) → pc ≤ home → env < linkSize → n < linkSize → LinkWord end (λ l. slotWord adviceFrame pc env (bindingsLeft n l))
+  a-next : (pc env m : ℕ) → pc ≤ returnPc → env < linkSize → LinkWord next (λ l. slotWord adviceFrame pc env (bindingsLeft l m))
+  an-end : (pc env n : ℕ) → pc ≤ returnPc → env < linkSize → n < linkSize → LinkWord end (λ l. slotWord adviceFrame pc env (bindingsLeft n l))
   a-function : (target x : ℕ) → target < 65536 → x < 268435456 → LinkWord closure (λ l. above (functionValue l target) x)
   an-object : (term x : ℕ) → term < 65536 → x < 268435456 → LinkWord closure (λ l. above (objectValue l term) x)
   an-advice : (target dom : ℕ) → target < 65536 → LinkWord advice (λ l. adviceWord target l dom)

@@ -11,10 +11,10 @@ use Rattle.vm_pools.specs.declared.Pool.{Pool}
 use Rattle.vm_pools.specs.Pools.{isMainline, whole, charge}
 use Rattle.vm_machine.specs.Memory.{Memory, bindingPlaces, binding, putBinding, installedAt, hasBit, pieceFirst, pieceSecond, adviceTarget, adviceEnv, adviceDom}
 use Rattle.vm_machine.specs.Reduce.{Bound, bindOne, bindMatching}
-use Rattle.vm_tables.specs.View.{memoryOf, Holds}
-use Rattle.vm_tables.proofs.Chosen.{chosen-yes, chosen-no}
+use Rattle.vm_memory.specs.View.{memoryOf, Holds}
+use Rattle.vm_memory.proofs.Chosen.{chosen-yes, chosen-no}
 use Rattle.vm_marks.specs.Binds.{boundIn, Binds}
-use Rattle.vm_marks.specs.Parts.{advised}
+use Rattle.vm_marks.specs.NextAdvice.{advised}
 
 -- What is written is that of a B that is known by its tables.
 pub binds-by : {N : Type 0} (A B : Bound N) (w w′ : List ℕ) (n : N) → A ≡ B → Binds A w w′ n → Binds B w w′ n

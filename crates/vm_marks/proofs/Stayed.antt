@@ -9,14 +9,14 @@ use Rattle.base_bytes.specs.Memory.{memoryLength}
 use Rattle.vm_code.specs.Values.{unitValue}
 use Rattle.vm_code.specs.Words.{fieldB}
 use Rattle.vm_machine.specs.declared.Regs.{Regs}
-use Rattle.vm_machine.specs.Registers.{headroom, setInstalled}
+use Rattle.vm_machine.specs.Registers.{fuelBias, setInstalled}
 use Rattle.vm_machine.specs.Memory.{installedAt, putInstalled, pieceFirst, adviceDom}
 use Rattle.vm_machine.specs.States.{State}
 use Rattle.vm_machine.specs.Reduce.{Bound, stayOne, stayOthers, given, reduceTakedown}
-use Rattle.vm_tables.specs.View.{memoryOf, Holds}
-use Rattle.vm_tables.proofs.Chosen.{chosen-yes, chosen-no}
-use Rattle.vm_states.specs.Phases.{Moved, Phase}
-use Rattle.vm_states.proofs.Made.{stored-then}
+use Rattle.vm_memory.specs.View.{memoryOf, Holds}
+use Rattle.vm_memory.proofs.Chosen.{chosen-yes, chosen-no}
+use Rattle.vm_registers.specs.Phases.{Represents, Phase}
+use Rattle.vm_registers.proofs.Made.{stored-then}
 use Rattle.vm_marks.specs.Binds.{boundIn, Binds}
 use Rattle.vm_marks.proofs.Matched.{binds-by, bound-is}
 
@@ -55,7 +55,7 @@ stay-done B n i d w w′ m h e r =
     binds-by (boundIn w′ m) B w w′ m (sym z) (record { memory = record { memory = refl; rest = r }; count = refl })
 
 -- The takedown of the domain d: n advices stay, and the instruction gives unit from the registers s with that count.
-pub takedown-made : (a b c : List ℕ) (r s q : Regs) (w d n : ℕ) → headroom < r .left → d ≡ fieldB w → Binds (stayOthers (r .installed) 0 d (boundIn a 0)) a b n → s ≡ r → Phase (given w unitValue) b c (setInstalled n (s .named) s) q
+pub takedown-made : (a b c : List ℕ) (r s q : Regs) (w d n : ℕ) → fuelBias < r .fuel → d ≡ fieldB w → Binds (stayOthers (r .installed) 0 d (boundIn a 0)) a b n → s ≡ r → Phase (given w unitValue) b c (setInstalled n (s .named) s) q
     → Phase (reduceTakedown w) a c r q
 unfolding reduceTakedown
 takedown-made a b c r s q w d n left e k z p =
@@ -64,7 +64,7 @@ takedown-made a b c r s q w d n left e k z p =
     let p₁ : Phase (given w unitValue) b c (setInstalled n (r .named) r) q = subst (λ (v : Regs). Phase (given w unitValue) b c (setInstalled n (v .named) v) q) z p in
     let p₂ : Phase (given w unitValue) b c (setInstalled (B .count) (r .named) r) q = subst (λ (j : ℕ). Phase (given w unitValue) b c (setInstalled j (r .named) r) q) (held .count) p₁ in
     record {
-      moved =
-          λ log. subst (λ (T : State). Moved T a c log q) (sym (chosen-no _ _ _ (lt-leb (r .left) headroom left)))
-          (stored-then (given w unitValue) (B .memory) a b c (setInstalled (B .count) (r .named) r) q (held .memory) p₂ .moved log);
+      represents =
+          λ log. subst (λ (T : State). Represents T a c log q) (sym (chosen-no _ _ _ (lt-leb (r .fuel) fuelBias left)))
+          (stored-then (given w unitValue) (B .memory) a b c (setInstalled (B .count) (r .named) r) q (held .memory) p₂ .represents log);
     }

@@ -3,7 +3,7 @@ use mathlib.Core.Path.{_≡_}
 use Prim.Native.Nat.{ℕ}
 use mathlib.Core.List.{List}
 use Rattle.vm_machine.specs.Reduce.{Bound}
-use Rattle.vm_tables.specs.View.{memoryOf, Holds}
+use Rattle.vm_memory.specs.View.{memoryOf, Holds}
 
 -- The tables in a work area, with such a count.
 abbrev pub boundIn : {N : Type 0} → List ℕ → N → Bound N

@@ -1,3 +1,3 @@
 -- What the binding of matching advice promises, and parts of definitions.
 pub mod Binds
-pub mod Parts
+pub mod NextAdvice

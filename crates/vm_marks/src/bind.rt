@@ -5,20 +5,20 @@ ghost use Rattle.base_bytes.specs.Memory.{memoryLength};
 ghost use Rattle.vm_pools.specs.Pools.{whole, poolBound};
 ghost use Rattle.vm_machine.specs.Memory.{bindingPlaces};
 ghost use Rattle.vm_machine.specs.Reduce.{bindOne, bindMatching};
-ghost use Rattle.vm_tables.specs.View.{memoryOf, Holds};
-ghost use Rattle.vm_marks.specs.Parts.{advised};
+ghost use Rattle.vm_memory.specs.View.{memoryOf, Holds};
+ghost use Rattle.vm_marks.specs.NextAdvice.{advised};
 ghost use Rattle.vm_marks.specs.Binds.{boundIn, Binds};
+use vm_memory::bindings::bind;
+use vm_memory::labels::has_bit;
+use vm_memory::pieces::advice_dom;
+use vm_memory::pieces::advice_env;
+use vm_memory::pieces::advice_target;
+use vm_memory::pieces::installed_at;
+use vm_memory::pieces::piece_first;
+use vm_memory::pieces::piece_second;
+use vm_memory::words::BINDING_PLACES;
 use vm_pools::Pool;
-use vm_states::pools::is_mainline;
-use vm_tables::bindings::bind;
-use vm_tables::labels::has_bit;
-use vm_tables::pieces::advice_dom;
-use vm_tables::pieces::advice_env;
-use vm_tables::pieces::advice_target;
-use vm_tables::pieces::installed_at;
-use vm_tables::pieces::piece_first;
-use vm_tables::pieces::piece_second;
-use vm_tables::words::BINDING_PLACES;
+use vm_registers::pools::is_mainline;
 
 // The binding at place n, with the value v, of the advice with word a. A binding past the table is not made.
 fn bind_advice(work: &mut [u8], n: usize, v: u64, a: u64)

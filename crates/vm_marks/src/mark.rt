@@ -5,25 +5,25 @@ ghost use lib.ListN.{length};
 ghost use Rattle.base_bytes.specs.Memory.{memoryLength};
 ghost use Rattle.calculus.specs.Report.{outcomeNumber};
 ghost use Rattle.vm_code.specs.Values.{bodyOf, unitValue};
-ghost use Rattle.vm_pools.specs.Pools.{withinHalves, markOut};
-ghost use Rattle.vm_machine.specs.States.{ifLeft};
+ghost use Rattle.vm_pools.specs.Pools.{withinQuotas, markOut};
+ghost use Rattle.vm_machine.specs.States.{ifFuel};
 ghost use Rattle.vm_machine.specs.Fits.{Fits};
 ghost use Rattle.vm_machine.specs.Reduce.{reduceMark};
 ghost use Rattle.vm_machine.specs.Reduce as reduce;
-ghost use Rattle.vm_states.specs.Phases.{Phase};
+ghost use Rattle.vm_registers.specs.Phases.{Phase};
 use crate::advice::start_advice;
 use crate::bind::bind_matching;
 use laws::both;
 use vm_machine::Regs;
+use vm_memory::labels::LABELS;
+use vm_memory::labels::has_bit;
 use vm_pools::Pool;
-use vm_states::ends::given;
-use vm_states::limits::BINDINGS;
-use vm_states::outcomes;
-use vm_states::regs::HEADROOM;
-use vm_states::regs::halt;
-use vm_states::regs::same;
-use vm_tables::labels::LABELS;
-use vm_tables::labels::has_bit;
+use vm_registers::ends::given;
+use vm_registers::limits::BINDINGS;
+use vm_registers::outcomes;
+use vm_registers::regs::FUEL_BIAS;
+use vm_registers::regs::halt;
+use vm_registers::regs::same;
 use vm_words::value::body;
 
 fn label_of(v: u64) -> u64
@@ -33,8 +33,8 @@ fn label_of(v: u64) -> u64
 }
 
 // The bindings of both halves stay within their limits.
-fn within_halves(b: Pool) -> bool
-    ensures { λ t. ⌜ t ≡ withinHalves b ⌝ }
+fn within_quotas(b: Pool) -> bool
+    ensures { λ t. ⌜ t ≡ withinQuotas b ⌝ }
 {
     both(b.mainline <= BINDINGS, b.others <= BINDINGS)
 }
@@ -51,11 +51,11 @@ fn mark_out(b: Pool) -> u32
 }
 
 // No advice that is installed names the label.
-fn unheard(work: &mut [u8], r: Regs, w: u64) -> Regs
-    requires { ⌜ (memoryLength ≤ length (now work)) × (r .room ≤ 513) ⌝ }
-    ensures { λ q. ⌜ Phase (λ S. ifLeft S (reduce.given w unitValue S)) (now (work .entry)) (now (work .exit)) r q ⌝ }
+fn mark_without_advice(work: &mut [u8], r: Regs, w: u64) -> Regs
+    requires { ⌜ (memoryLength ≤ length (now work)) × (r .frames ≤ 513) ⌝ }
+    ensures { λ q. ⌜ Phase (λ S. ifFuel S (reduce.given w unitValue S)) (now (work .entry)) (now (work .exit)) r q ⌝ }
 {
-    if r.left <= HEADROOM {
+    if r.fuel <= FUEL_BIAS {
         return halt(r, outcomes::SPENT);
     }
     given(work, r, w, 0)
@@ -69,15 +69,15 @@ pub fn reduce_mark(work: &mut [u8], r: Regs, w: u64, x: u64, y: u64) -> Regs
 {
     let l = label_of(x);
     if !has_bit(r.named, l) {
-        return unheard(work, r, w);
+        return mark_without_advice(work, r, w);
     }
     let mut p = r.pools;
     let b = p.bindings;
     let c = bind_matching(work, r.installed, l, y, b);
-    if !within_halves(c) {
+    if !within_quotas(c) {
         return halt(r, mark_out(c));
     }
-    if r.left <= HEADROOM {
+    if r.fuel <= FUEL_BIAS {
         return halt(r, outcomes::SPENT);
     }
     let n = b.whole();
@@ -87,7 +87,7 @@ pub fn reduce_mark(work: &mut [u8], r: Regs, w: u64, x: u64, y: u64) -> Regs
     }
     p.bindings = c;
     let mut s = same(r);
-    s.left = r.left - 1;
+    s.fuel = r.fuel - 1;
     s.pools = p;
     start_advice(work, s, w, n, m)
 }

@@ -2,19 +2,19 @@
 ghost use Prim.Native.Nat.{ℕ, _+_, _≤_, _<_};
 ghost use lib.ListN.{length};
 ghost use Rattle.base_bytes.specs.Memory.{memoryLength};
-ghost use Rattle.vm_machine.specs.Registers.{headroom};
+ghost use Rattle.vm_machine.specs.Registers.{fuelBias};
 ghost use Rattle.vm_machine.specs.Fits.{Fits};
 ghost use Rattle.vm_machine.specs.Reduce.{stayOne, stayOthers, reduceTakedown};
-ghost use Rattle.vm_states.specs.Phases.{Phase};
+ghost use Rattle.vm_registers.specs.Phases.{Phase};
 ghost use Rattle.vm_marks.specs.Binds.{boundIn, Binds};
 use read_records::numbers::DomainNo;
 use vm_machine::Regs;
-use vm_states::ends::given;
-use vm_states::regs::same;
-use vm_tables::pieces::advice_dom;
-use vm_tables::pieces::installed_at;
-use vm_tables::pieces::piece_first;
-use vm_tables::pieces::put_installed;
+use vm_memory::pieces::advice_dom;
+use vm_memory::pieces::installed_at;
+use vm_memory::pieces::piece_first;
+use vm_memory::pieces::put_installed;
+use vm_registers::ends::given;
+use vm_registers::regs::same;
 use vm_words::code::takedown_domain;
 
 // Installed advice i stays, at place n, unless it is of the domain d; the next place is returned.
@@ -47,7 +47,7 @@ fn stay_others(work: &mut [u8], n: usize, d: DomainNo) -> usize
 
 // The advice of its domain is taken down.
 pub fn reduce_takedown(work: &mut [u8], r: Regs, w: u64) -> Regs
-    requires { ⌜ (memoryLength ≤ length (now work)) × (headroom < r .left) × ((size : ℕ) × Fits size r) ⌝ }
+    requires { ⌜ (memoryLength ≤ length (now work)) × (fuelBias < r .fuel) × ((size : ℕ) × Fits size r) ⌝ }
     ensures { λ q. ⌜ Phase (reduceTakedown w) (now (work .entry)) (now (work .exit)) r q ⌝ }
 {
     let n = stay_others(work, r.installed, takedown_domain(w));

@@ -13,10 +13,10 @@ use Rattle.vm_code.specs.Words.{countOf}
 use Rattle.vm_machine.specs.Memory.{Memory, topEntry, restOf}
 use Rattle.vm_machine.specs.Fetch.{Program}
 use Rattle.vm_machine.specs.Stacks.{Chained, entryAt, bindsRest, variables, bindInside, bindEntries}
-use Rattle.vm_tables.specs.View.{memoryOf}
-use Rattle.vm_tables.proofs.Chosen.{chosen-yes, chosen-no}
+use Rattle.vm_memory.specs.View.{memoryOf}
+use Rattle.vm_memory.proofs.Chosen.{chosen-yes, chosen-no}
 use Rattle.vm_matches.specs.declared.Chain.{Chain}
-use Rattle.vm_matches.specs.Parts.{chainIn, Chains, entryBound, restBound}
+use Rattle.vm_matches.specs.Matching.{chainIn, Chains, entryBound, restBound}
 
 -- The tables, the count and the innermost binding that a Chains tells of.
 chained-is : (B : Chained) (w w′ : List ℕ) (q : Chain) → Chains B w w′ q → B ≡ chainIn w′ q
@@ -37,8 +37,8 @@ module _ (x e : ℕ) (at : e ≡ x) where
   entry-value v y a a′ b q n h m =
       subst (λ (X : Chained). Chains X a a′ q) (ap (λ (z : ℕ). bindInside z (chainIn a b)) h ∙ sym (chosen-no _ _ _ (ne-eqb x 0 (λ z. n (at ∙ z))))) m
 
-  pub entry-room : (c : ℕ) → (e ≡ 0 → ⊥) → c + choose (eqb x 0) 0 1 ≤ 2048 → c < 2048
-  entry-room c n h =
+  pub entry-frames : (c : ℕ) → (e ≡ 0 → ⊥) → c + choose (eqb x 0) 0 1 ≤ 2048 → c < 2048
+  entry-frames c n h =
       let m : c + 1 ≤ 2048 = subst (λ (t : Bool). c + choose t 0 1 ≤ 2048) (ne-eqb x 0 (λ z. n (at ∙ z))) h in
       omega arith
 
@@ -51,15 +51,15 @@ module _ (C : Program) (w : ℕ) where
     pub rest-free : (v : ℕ) (a : List ℕ) (b : Chain) → t ≡ false → Chains (restBound C w v (chainIn a b)) a a b
     rest-free v a b e = subst (λ (X : Chained). Chains X a a b) (sym (chosen-no _ _ _ (sym is ∙ e))) (same-chain a b)
 
-    pub rest-room : (c : ℕ) → t ≡ true → c + choose (bindsRest C w) 1 0 ≤ 2048 → c < 2048
-    rest-room c e h =
+    pub rest-frames : (c : ℕ) → t ≡ true → c + choose (bindsRest C w) 1 0 ≤ 2048 → c < 2048
+    rest-frames c e h =
         let m : c + 1 ≤ 2048 = subst (λ (x : Bool). c + choose x 1 0 ≤ 2048) (sym is ∙ e) h in
         omega arith
 
   -- Of n entries: none is bound yet.
   module _ (n : ℕ) where
-    pub room-start : (c : ℕ) → n ≡ countOf w → c + variables C w (countOf w) 0 ≤ 2048 → c + variables C w (n - 0) 0 ≤ 2048
-    room-start c e h =
+    pub frames-start : (c : ℕ) → n ≡ countOf w → c + variables C w (countOf w) 0 ≤ 2048 → c + variables C w (n - 0) 0 ≤ 2048
+    frames-start c e h =
         let k : countOf w ≡ n - 0 = omega arith in
         subst (λ (x : ℕ). c + variables C w x 0 ≤ 2048) k h
 
@@ -94,28 +94,28 @@ module _ (C : Program) (w : ℕ) where
           subst (λ (X : Chained). Chains X a₀ a′ q) (sym z) (record { memory = record { memory = m .memory .memory; rest = m .memory .rest ∙ r }; count = m .count; env = m .env })
 
       -- There is room for them.
-      module _ (c : ℕ) (room : c + variables C w (n - i) i ≤ 2048) where
-        both-rooms : i < n → c + (choose (eqb (entryAt C w i) 0) 0 1 + variables C w (n - (i + 1)) (i + 1)) ≤ 2048
+      module _ (c : ℕ) (frames : c + variables C w (n - i) i ≤ 2048) where
+        both-frames : i < n → c + (choose (eqb (entryAt C w i) 0) 0 1 + variables C w (n - (i + 1)) (i + 1)) ≤ 2048
         unfolding variables
-        both-rooms h =
+        both-frames h =
             let k : n - i ≡ suc (n - (i + 1)) = omega arith in
             let j : suc i ≡ i + 1 = omega arith in
-            subst (λ (x : ℕ). c + (choose (eqb (entryAt C w i) 0) 0 1 + variables C w (n - (i + 1)) x) ≤ 2048) j (subst (λ (x : ℕ). c + variables C w x i ≤ 2048) k room)
+            subst (λ (x : ℕ). c + (choose (eqb (entryAt C w i) 0) 0 1 + variables C w (n - (i + 1)) x) ≤ 2048) j (subst (λ (x : ℕ). c + variables C w x i ≤ 2048) k frames)
 
-        pub room-here : (e : ℕ) → e ≡ entryAt C w i → i < n → c + choose (eqb e 0) 0 1 ≤ 2048
-        room-here e at h = let k : c + choose (eqb (entryAt C w i) 0) 0 1 ≤ 2048 = omega (arith, both-rooms h) in subst (λ (x : ℕ). c + choose (eqb x 0) 0 1 ≤ 2048) (sym at) k
+        pub frames-here : (e : ℕ) → e ≡ entryAt C w i → i < n → c + choose (eqb e 0) 0 1 ≤ 2048
+        frames-here e at h = let k : c + choose (eqb (entryAt C w i) 0) 0 1 ≤ 2048 = omega (arith, both-frames h) in subst (λ (x : ℕ). c + choose (eqb x 0) 0 1 ≤ 2048) (sym at) k
 
-        pub room-on : (e v : ℕ) (a a′ : List ℕ) (b q : Chain) → e ≡ entryAt C w i → i < n → b .count ≡ c → Chains (entryBound e v (chainIn a b)) a a′ q → q .count + variables C w (n - (i + 1)) (i + 1) ≤ 2048
-        room-on e v a a′ b q at h f m =
+        pub frames-on : (e v : ℕ) (a a′ : List ℕ) (b q : Chain) → e ≡ entryAt C w i → i < n → b .count ≡ c → Chains (entryBound e v (chainIn a b)) a a′ q → q .count + variables C w (n - (i + 1)) (i + 1) ≤ 2048
+        frames-on e v a a′ b q at h f m =
             let x : q .count ≡ b .count + choose (eqb (entryAt C w i) 0) 0 1 = entry-is e v a a′ b q at m .count ∙ counted (eqb (entryAt C w i) 0) in
-            omega (arith, both-rooms h)
+            omega (arith, both-frames h)
           where
             counted : (z : Bool) → choose z (chainIn a b) (bindInside (topEntry (memoryOf a) v) (chainIn a b)) .count ≡ b .count + choose z 0 1
             counted true = omega arith
             counted false = refl
 
-        pub room-left : n ≤ i → c + choose (bindsRest C w) 1 0 ≤ 2048
+        pub frames-left : n ≤ i → c + choose (bindsRest C w) 1 0 ≤ 2048
         unfolding variables
-        room-left h =
+        frames-left h =
             let k : n - i ≡ 0 = omega arith in
-            subst (λ (x : ℕ). c + variables C w x i ≤ 2048) k room
+            subst (λ (x : ℕ). c + variables C w x i ≤ 2048) k frames

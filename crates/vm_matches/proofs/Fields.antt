@@ -9,7 +9,7 @@ use Rattle.read_records.specs.Heads.{fieldIn}
 use Rattle.vm_code.specs.Words.{offsetOf, countOf, closePlace, termCount}
 use Rattle.vm_machine.specs.Fetch.{Program}
 use Rattle.vm_machine.specs.Stacks.{entryAt}
-use Rattle.vm_matches.specs.Parts.{matchFields, entryIn}
+use Rattle.vm_matches.specs.Matching.{matchFields, entryIn}
 
 module _ (C : Program) (w : ℕ) (fs : List ℕ) (part : fs ≡ matchFields (C .image) w) where
   field-of : (i : ℕ) → i ≤ 3 + countOf w → fieldIn fs i ≡ le16 (C .image) (offsetOf w + 2 * i)

@@ -11,9 +11,9 @@ use Rattle.vm_code.specs.Classes.{firstInstruction, isAtom}
 use Rattle.vm_machine.specs.Memory.{Memory, pieceOf, pieceSecond, hasBit, isKept, topEntry, entryLabel, restOf, heldStack}
 use Rattle.vm_machine.specs.Fetch.{Program, codeAt, atomValue}
 use Rattle.vm_machine.specs.Stacks.{Looked, entryAt, cutTerm, bindsRest, unlooked, pastAny, pastCut, lookOn, restAfter, lookedByte, lookedWith, stackToCome, variables}
-use Rattle.vm_tables.proofs.Chosen.{chosen-yes, chosen-no}
+use Rattle.vm_memory.proofs.Chosen.{chosen-yes, chosen-no}
 use Rattle.vm_matches.specs.declared.Progress.{Progress}
-use Rattle.vm_matches.specs.Parts.{lookedOf, stopsAt, topFits, pastEntry, LookedAgain}
+use Rattle.vm_matches.specs.Matching.{lookedOf, stopsAt, topFits, pastEntry, LookedAgain}
 
 -- Whether entry i stops: v is it, u the word of its pointcut and k that one's class.
 pub stops-as : (C : Program) (w i v t u k : ℕ) (b : Bool) → v ≡ entryAt C w i → t ≡ cutTerm v → u ≡ codeAt C t → k ≡ classOf u → b ≡ (not (eqb v 0) && leb firstInstruction k) → b ≡ stopsAt C w i

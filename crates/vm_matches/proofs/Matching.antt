@@ -17,30 +17,30 @@ use Rattle.vm_code.specs.Words.{classOf, depthOf, countOf, offsetOf, branchPlac
 use Rattle.vm_code.specs.Classes.{firstInstruction, isAtom}
 use Rattle.vm_pools.specs.declared.Pools.{Pools}
 use Rattle.vm_machine.specs.declared.Regs.{Regs}
-use Rattle.vm_machine.specs.Registers.{headroom, fullRoom, setPc, setEnv, setRoom, setLeft, haltWith, halt, stepped}
-use Rattle.vm_pools.specs.Pools.{whole, chargeBindings, hasRoom, bindingsOut}
-use Rattle.vm_machine.specs.Halves.{halfOf}
+use Rattle.vm_machine.specs.Registers.{fuelBias, frameSlots, setPc, setEnv, setFrames, setFuel, haltWith, halt, stepped}
+use Rattle.vm_pools.specs.Pools.{whole, chargeBindings, hasCapacity, bindingsOut}
+use Rattle.vm_machine.specs.Quotas.{quotaOf}
 use Rattle.vm_machine.specs.Memory.{bindingPlaces, slotPc, slotEnv, putMatch, heldStack, besideAt}
 use Rattle.vm_machine.specs.States.{State, withRegs, judged}
 use Rattle.vm_machine.specs.Fetch.{Program, codeAt, atomValue, called}
 use Rattle.vm_machine.specs.Stacks.{Looked, Chained, entryAt, cutTerm, unlooked, pastCut, lookOn, lookedByte, lookedWith, stackToCome, matches, variables, bindEntries}
 use Rattle.vm_machine.specs.Turn.{entryFrom, begunAt, beginOperand, reduceMatch, entriesFrom, beginMatch, resumeMatch}
 use Rattle.vm_machine.specs.Fits.{PoolFits}
-use Rattle.vm_tables.specs.View.{memoryOf, Holds}
-use Rattle.vm_tables.proofs.Chosen.{chosen-yes, chosen-no}
-use Rattle.vm_states.specs.Phases.{stateOf, Phase}
-use Rattle.vm_states.proofs.Made.{as-phase, stored-made, regs-made, then-set, set-either}
-use Rattle.vm_states.proofs.Ended.{left-made, unpaid-left}
-use Rattle.vm_states.proofs.Halves.{half-made, half-full, half-spent}
+use Rattle.vm_memory.specs.View.{memoryOf, Holds}
+use Rattle.vm_memory.proofs.Chosen.{chosen-yes, chosen-no}
+use Rattle.vm_registers.specs.Phases.{stateOf, Phase}
+use Rattle.vm_registers.proofs.Made.{as-phase, stored-made, regs-made, then-set, set-either}
+use Rattle.vm_registers.proofs.Ended.{left-made, unpaid-left}
+use Rattle.vm_registers.proofs.Quotas.{quota-made, quota-full, quota-spent}
 use Rattle.vm_reductions.proofs.Reduced.{counted, stored-called, bindings-charged}
 use Rattle.vm_labels.proofs.Labelling.{listed-around}
 use Rattle.vm_matches.specs.declared.Progress.{Progress}
 use Rattle.vm_matches.specs.declared.Chain.{Chain}
-use Rattle.vm_matches.specs.Parts.{lookedOf, LookedAgain, Chains, firstBranch, otherBranch}
-use Rattle.vm_matches.specs.Operands.{Matchable, RoomOf}
+use Rattle.vm_matches.specs.Matching.{lookedOf, LookedAgain, Chains, firstBranch, otherBranch}
+use Rattle.vm_matches.specs.Operands.{Matchable, FramesOf}
 
 -- The first branch of a match with word w and the stack v: m variables are bound, which the half h has room for or not (card 9).
-module _ (C : Program) (a b c : List ℕ) (r q : Regs) (w v m : ℕ) (count : m ≡ variables C w (countOf w) 0) (h t : Bool) (is : h ≡ halfOf w) (test : t ≡ hasRoom bindingLimit h m (r .pools .bindings)) where
+module _ (C : Program) (a b c : List ℕ) (r q : Regs) (w v m : ℕ) (count : m ≡ variables C w (countOf w) 0) (h t : Bool) (is : h ≡ quotaOf w) (test : t ≡ hasCapacity bindingLimit h m (r .pools .bindings)) where
   -- The bindings, from place n on.
   abbrev bounds : ℕ → Chained
   bounds n = bindEntries C w (countOf w) 0 v (record { memory = memoryOf a; count = n; env = r .env })
@@ -51,35 +51,35 @@ module _ (C : Program) (a b c : List ℕ) (r q : Regs) (w v m : ℕ) (count : m 
   abbrev bindable : ℕ
   bindable = variables C w (countOf w) 0
 
-  tested : t ≡ hasRoom bindingLimit h bindable (r .pools .bindings)
-  tested = test ∙ ap (λ (x : ℕ). hasRoom bindingLimit h x (r .pools .bindings)) count
+  tested : t ≡ hasCapacity bindingLimit h bindable (r .pools .bindings)
+  tested = test ∙ ap (λ (x : ℕ). hasCapacity bindingLimit h x (r .pools .bindings)) count
 
-  pub branch-made : headroom < r .left → (n g o : ℕ) (x : Chain) (s : Pools) → not t ≡ false → n ≡ whole (r .pools .bindings) → s ≡ chargeBindings h m (r .pools) → Chains (bounds n) a b x → o ≡ branchPlace w → g ≡ begunAt C (le16 (C .image) o % termCount) → Phase (called C w g (x .env)) b c r q
-      → Phase (firstBranch C w v) a c r (counted s (r .left - 1) q)
+  pub branch-made : fuelBias < r .fuel → (n g o : ℕ) (x : Chain) (s : Pools) → not t ≡ false → n ≡ whole (r .pools .bindings) → s ≡ chargeBindings h m (r .pools) → Chains (bounds n) a b x → o ≡ branchPlace w → g ≡ begunAt C (le16 (C .image) o % termCount) → Phase (called C w g (x .env)) b c r q
+      → Phase (firstBranch C w v) a c r (counted s (r .fuel - 1) q)
   branch-made l n g o x s k d i B at e p =
       let D : Chains (bounds (whole (r .pools .bindings))) a b x = subst (λ (z : ℕ). Chains (bounds z) a b x) d B in
-      bindings-charged (firstBranch C w v) a c r q w bindable (r .left - 1) h s is (i ∙ ap (λ (z : ℕ). chargeBindings h z (r .pools)) count)
-      (half-made bindingLimit bindable (λ p. p .bindings) bindingsOut w r h t is tested _ a _ c l (not-false t k)
+      bindings-charged (firstBranch C w v) a c r q w bindable (r .fuel - 1) h s is (i ∙ ap (λ (z : ℕ). chargeBindings h z (r .pools)) count)
+      (quota-made bindingLimit bindable (λ p. p .bindings) bindingsOut w r h t is tested _ a _ c l (not-false t k)
       (stored-called C _ _ a b c r q w g first (x .env) _ _ _ (e ∙ ap (λ (z : ℕ). begunAt C (le16 (C .image) z % termCount)) at) (D .env) (λ log. refl) (D .memory) p))
 
-  pub branch-full : (o : ℕ) → not t ≡ true → o ≡ outcomeNumber (bindingsOut h) → q ≡ haltWith o (r .left) r → Phase (firstBranch C w v) a a r q
-  branch-full o k = half-full bindingLimit bindable (λ p. p .bindings) bindingsOut w r h t is tested _ a q o (not-true t k)
+  pub branch-full : (o : ℕ) → not t ≡ true → o ≡ outcomeNumber (bindingsOut h) → q ≡ haltWith o (r .fuel) r → Phase (firstBranch C w v) a a r q
+  branch-full o k = quota-full bindingLimit bindable (λ p. p .bindings) bindingsOut w r h t is tested _ a q o (not-true t k)
 
-  pub branch-spent : r .left ≤ headroom → not t ≡ false → q ≡ halt Outcome.Spent r → Phase (firstBranch C w v) a a r q
-  branch-spent l k = half-spent bindingLimit bindable (λ p. p .bindings) bindingsOut w r h t is tested _ a q l (not-false t k)
+  pub branch-spent : r .fuel ≤ fuelBias → not t ≡ false → q ≡ halt Outcome.Spent r → Phase (firstBranch C w v) a a r q
+  branch-spent l k = quota-spent bindingLimit bindable (λ p. p .bindings) bindingsOut w r h t is tested _ a q l (not-false t k)
 
 -- The other branch, and which one is taken.
 module _ (C : Program) (a b : List ℕ) (r q : Regs) (w : ℕ) where
   abbrev other : ℕ
   other = begunAt C (le16 (C .image) (otherPlace w) % termCount)
 
-  pub other-made : headroom < r .left → (g o : ℕ) → o ≡ otherPlace w → g ≡ begunAt C (le16 (C .image) o % termCount) → Phase (called C w g (r .env)) a b r q → Phase (otherBranch C w) a b r (setLeft (r .left - 1) q)
+  pub other-made : fuelBias < r .fuel → (g o : ℕ) → o ≡ otherPlace w → g ≡ begunAt C (le16 (C .image) o % termCount) → Phase (called C w g (r .env)) a b r q → Phase (otherBranch C w) a b r (setFuel (r .fuel - 1) q)
   other-made l g o at e p =
       let P : Phase (called C w other (r .env)) a b r q = subst (λ (z : ℕ). Phase (called C w z (r .env)) a b r q) (e ∙ ap (λ (z : ℕ). begunAt C (le16 (C .image) z % termCount)) at) p in
       left-made (λ S. called C w other (S .regs .env) (withRegs (stepped (S .regs)) S)) a b r _ l
-      (as-phase _ (λ S. called C w other (S .regs .env) (withRegs (stepped (S .regs)) S)) a b r _ (λ log. set-either (setLeft (r .left - 1)) (isInstruction other) _ _) (then-set (called C w other (r .env)) (setLeft (r .left - 1)) a b r q P))
+      (as-phase _ (λ S. called C w other (S .regs .env) (withRegs (stepped (S .regs)) S)) a b r _ (λ log. set-either (setFuel (r .fuel - 1)) (isInstruction other) _ _) (then-set (called C w other (r .env)) (setFuel (r .fuel - 1)) a b r q P))
 
-  pub other-spent : r .left ≤ headroom → q ≡ halt Outcome.Spent r → Phase (otherBranch C w) a a r q
+  pub other-spent : r .fuel ≤ fuelBias → q ≡ halt Outcome.Spent r → Phase (otherBranch C w) a a r q
   other-spent l e = regs-made (otherBranch C w) a r q (halt Outcome.Spent r) (λ log. unpaid-left (stateOf a log r) _ l) e
 
   module _ (v : ℕ) (k : Looked) (t : Bool) (is : t ≡ matches C w k) where
@@ -93,18 +93,18 @@ module _ (C : Program) (a b : List ℕ) (r q : Regs) (w : ℕ) where
 
 -- An operand begins under d unfinished terms: m is the room of its body.
 module _ (C : Program) (a b : List ℕ) (r q : Regs) (x v byte d : ℕ) (depth : d ≡ depthOf (codeAt C (r .pc))) where
-  pub operand-framed : r .room ≤ d + 1 → q ≡ halt Outcome.Frames r → Phase (beginOperand C (r .pc) x v byte) a a r q
+  pub operand-framed : r .frames ≤ d + 1 → q ≡ halt Outcome.Frames r → Phase (beginOperand C (r .pc) x v byte) a a r q
   operand-framed h e =
-      regs-made (beginOperand C (r .pc) x v byte) a r q (halt Outcome.Frames r) (λ log. sym (chosen-yes _ _ _ (le-leb (r .room) (depthOf (codeAt C (r .pc)) + 1) (omega arith)))) e
+      regs-made (beginOperand C (r .pc) x v byte) a r q (halt Outcome.Frames r) (λ log. sym (chosen-yes _ _ _ (le-leb (r .frames) (depthOf (codeAt C (r .pc)) + 1) (omega arith)))) e
 
-  pub operand-begun : (s : Regs) (m e : ℕ) → s ≡ r → m ≡ r .room - (d + 1) → d + 1 < r .room → e ≡ entryFrom termCount C x → Holds (putMatch (m + 1) 1 (r .pc) (r .env) v byte (memoryOf a)) a b
-      → Phase (beginOperand C (r .pc) x v byte) a b r (setPc e (setRoom m s))
-  operand-begun s m e same room h entry held =
+  pub operand-begun : (s : Regs) (m e : ℕ) → s ≡ r → m ≡ r .frames - (d + 1) → d + 1 < r .frames → e ≡ entryFrom termCount C x → Holds (putMatch (m + 1) 1 (r .pc) (r .env) v byte (memoryOf a)) a b
+      → Phase (beginOperand C (r .pc) x v byte) a b r (setPc e (setFrames m s))
+  operand-begun s m e same frames h entry held =
       let D : ℕ = depthOf (codeAt C (r .pc)) + 1 in
-      let n : m ≡ r .room - D = omega arith in
-      stored-made (beginOperand C (r .pc) x v byte) (putMatch (r .room) D (r .pc) (r .env) v byte (memoryOf a)) a b r (setPc e (setRoom m s)) (setPc (entryFrom termCount C x) (setRoom (r .room - D) r))
-      (λ log. sym (chosen-no _ _ _ (lt-leb (r .room) D (omega arith))))
-      (ap (λ (p : Regs). setPc e (setRoom m p)) same ∙ ap (λ (p : ℕ). setPc e (setRoom p r)) n ∙ ap (λ (p : ℕ). setPc p (setRoom (r .room - D) r)) entry) (listed-around a b (r .room) D m (r .pc) (r .env) (v / 268435456) byte n (omega arith) held)
+      let n : m ≡ r .frames - D = omega arith in
+      stored-made (beginOperand C (r .pc) x v byte) (putMatch (r .frames) D (r .pc) (r .env) v byte (memoryOf a)) a b r (setPc e (setFrames m s)) (setPc (entryFrom termCount C x) (setFrames (r .frames - D) r))
+      (λ log. sym (chosen-no _ _ _ (lt-leb (r .frames) D (omega arith))))
+      (ap (λ (p : Regs). setPc e (setFrames m p)) same ∙ ap (λ (p : ℕ). setPc e (setFrames p r)) n ∙ ap (λ (p : ℕ). setPc p (setFrames (r .frames - D) r)) entry) (listed-around a b (r .frames) D m (r .pc) (r .env) (v / 268435456) byte n (omega arith) held)
 
 -- The entries of match t with the stack v, from where it was left: those that can be looked at are, k.
 module _ (C : Program) (a b : List ℕ) (r q : Regs) (t v w : ℕ) (word : w ≡ codeAt C t) (from k : Looked) (looked : k ≡ lookOn C (memoryOf a) (r .env) w (countOf w - from .next) from) (n : ℕ) (count : n ≡ countOf w) where
@@ -149,33 +149,33 @@ module _ (C : Program) (a b : List ℕ) (r q : Regs) (w x c : ℕ) (word : w ≡
       as-phase (beginOperand C (r .pc) x unitValue stackToCome) (beginMatch C) a b r q (λ log. ap (λ (y : ℕ). beginOperand C (r .pc) y unitValue stackToCome (stateOf a log r)) is-term ∙ sym (chosen-no _ _ _ z)) p
 
 -- A match that is resumed: its registers.
-pub still-matchable : (code work : List ℕ) (r s : Regs) (f t env d : ℕ) → Matchable code work r → r .room < fullRoom → t ≡ slotPc f → s ≡ r → d ≡ depthOf (getD code t 0)
-    → Matchable code work (setPc t (setEnv (env % bindingPlaces) (setRoom (r .room + (d + 1)) s))) × RoomOf code (setPc t (setEnv (env % bindingPlaces) (setRoom (r .room + (d + 1)) s)))
+pub still-matchable : (code work : List ℕ) (r s : Regs) (f t env d : ℕ) → Matchable code work r → r .frames < frameSlots → t ≡ slotPc f → s ≡ r → d ≡ depthOf (getD code t 0)
+    → Matchable code work (setPc t (setEnv (env % bindingPlaces) (setFrames (r .frames + (d + 1)) s))) × FramesOf code (setPc t (setEnv (env % bindingPlaces) (setFrames (r .frames + (d + 1)) s)))
 still-matchable code work r s f t env d M h at same depth =
-    (record { coded = M .coded; long = M .long; pc = omega arith; env = omega arith; room = omega arith; bindings = subst (λ (z : Regs). PoolFits bindingLimit (z .pools .bindings)) (sym same) (M .bindings) }, omega arith)
+    (record { coded = M .coded; long = M .long; pc = omega arith; env = omega arith; frames = omega arith; bindings = subst (λ (z : Regs). PoolFits bindingLimit (z .pools .bindings)) (sym same) (M .bindings) }, omega arith)
 
 by-both : (t : Bool) (F : ℕ → Looked → State) (x y : ℕ) (X Y : Looked) → F (choose t x y) (choose t X Y) ≡ choose t (F x X) (F y Y)
 by-both true F x y X Y = refl
 by-both false F x y X Y = refl
 
 -- An operand of a match is worked out: f is the word of its slot, which has the byte beside.
-pub match-resumed : (C : Program) (a b : List ℕ) (r q s : Regs) (f byte t d env : ℕ) (k : Progress) → byte ≡ besideAt (memoryOf a) (r .room) → LookedAgain (memoryOf a) (r .hand) f byte k → t ≡ slotPc f → s ≡ r → d ≡ depthOf (codeAt C t) → env ≡ slotEnv f
-    → Phase (entriesFrom C t (k .stack) (lookedOf k)) a b (setPc t (setEnv (env % bindingPlaces) (setRoom (r .room + (d + 1)) s))) q → Phase (resumeMatch C f) a b r q
+pub match-resumed : (C : Program) (a b : List ℕ) (r q s : Regs) (f byte t d env : ℕ) (k : Progress) → byte ≡ besideAt (memoryOf a) (r .frames) → LookedAgain (memoryOf a) (r .acc) f byte k → t ≡ slotPc f → s ≡ r → d ≡ depthOf (codeAt C t) → env ≡ slotEnv f
+    → Phase (entriesFrom C t (k .stack) (lookedOf k)) a b (setPc t (setEnv (env % bindingPlaces) (setFrames (r .frames + (d + 1)) s))) q → Phase (resumeMatch C f) a b r q
 unfolding resumeMatch
 match-resumed C a b r q s f byte t d env k beside again at same depth outer p =
-    let R : ℕ → Regs = λ z. setPc z (setEnv (slotEnv f % bindingPlaces) (setRoom (r .room + (depthOf (codeAt C z) + 1)) r)) in
-    let e : setPc t (setEnv (env % bindingPlaces) (setRoom (r .room + (d + 1)) s)) ≡ R t =
-    ap (λ (z : Regs). setPc t (setEnv (env % bindingPlaces) (setRoom (r .room + (d + 1)) z))) same
-    ∙ ap (λ (z : ℕ). setPc t (setEnv (env % bindingPlaces) (setRoom (r .room + (z + 1)) r))) depth
-    ∙ ap (λ (z : ℕ). setPc t (setEnv (z % bindingPlaces) (setRoom (r .room + (depthOf (codeAt C t) + 1)) r))) outer in
+    let R : ℕ → Regs = λ z. setPc z (setEnv (slotEnv f % bindingPlaces) (setFrames (r .frames + (depthOf (codeAt C z) + 1)) r)) in
+    let e : setPc t (setEnv (env % bindingPlaces) (setFrames (r .frames + (d + 1)) s)) ≡ R t =
+    ap (λ (z : Regs). setPc t (setEnv (env % bindingPlaces) (setFrames (r .frames + (d + 1)) z))) same
+    ∙ ap (λ (z : ℕ). setPc t (setEnv (env % bindingPlaces) (setFrames (r .frames + (z + 1)) r))) depth
+    ∙ ap (λ (z : ℕ). setPc t (setEnv (z % bindingPlaces) (setFrames (r .frames + (depthOf (codeAt C t) + 1)) r))) outer in
     let F : ℕ → ℕ → Looked → List ℕ → State = λ z y L log. entriesFrom C z y L (stateOf a log (R z)) in
-    let X : ℕ → Looked = λ z. pastCut (memoryOf a) (r .hand) (lookedWith (memoryOf a) (heldStack f) z) in
-    let B : ℕ = besideAt (memoryOf a) (r .room) in
+    let X : ℕ → Looked = λ z. pastCut (memoryOf a) (r .acc) (lookedWith (memoryOf a) (heldStack f) z) in
+    let B : ℕ = besideAt (memoryOf a) (r .frames) in
     let g : (log : List ℕ) → F t (k .stack) (lookedOf k) log ≡ resumeMatch C f (stateOf a log r) =
     λ log. ap (λ (z : ℕ). F z (k .stack) (lookedOf k) log) at
     ∙ ap (λ (z : ℕ). F (slotPc f) z (lookedOf k) log) (again .stack)
-    ∙ ap (λ (z : Looked). F (slotPc f) (choose (leb stackToCome byte) (r .hand) (heldStack f)) z log) (again .looked)
-    ∙ ap (λ (z : ℕ). F (slotPc f) (choose (leb stackToCome z) (r .hand) (heldStack f)) (choose (leb stackToCome z) (unlooked (r .hand)) (X z)) log) beside
-    ∙ by-both (leb stackToCome B) (λ (y : ℕ) (L : Looked). F (slotPc f) y L log) (r .hand) (heldStack f) (unlooked (r .hand)) (X B) in
+    ∙ ap (λ (z : Looked). F (slotPc f) (choose (leb stackToCome byte) (r .acc) (heldStack f)) z log) (again .looked)
+    ∙ ap (λ (z : ℕ). F (slotPc f) (choose (leb stackToCome z) (r .acc) (heldStack f)) (choose (leb stackToCome z) (unlooked (r .acc)) (X z)) log) beside
+    ∙ by-both (leb stackToCome B) (λ (y : ℕ) (L : Looked). F (slotPc f) y L log) (r .acc) (heldStack f) (unlooked (r .acc)) (X B) in
     let P : Phase (entriesFrom C t (k .stack) (lookedOf k)) a b (R t) q = subst (λ (z : Regs). Phase (entriesFrom C t (k .stack) (lookedOf k)) a b z q) e p in
-    as-phase (λ S. entriesFrom C t (k .stack) (lookedOf k) (withRegs (R t) S)) (resumeMatch C f) a b r q g (record { moved = λ log. P .moved log })
+    as-phase (λ S. entriesFrom C t (k .stack) (lookedOf k) (withRegs (R t) S)) (resumeMatch C f) a b r q g (record { represents = λ log. P .represents log })

@@ -8,13 +8,13 @@ ghost use Rattle.base_bytes.specs.Memory.{memoryLength};
 ghost use Rattle.vm_code.specs.Words.{countOf};
 ghost use Rattle.vm_machine.specs.Fetch.{Program};
 ghost use Rattle.vm_machine.specs.Stacks.{bindsRest, variables, bindInside, bindEntries};
-ghost use Rattle.vm_matches.specs.Parts.{matchFields, entryIn, chainIn, Chains, entryBound, restBound};
+ghost use Rattle.vm_matches.specs.Matching.{matchFields, entryIn, chainIn, Chains, entryBound, restBound};
 use crate::Chain;
 use crate::entries::binds_rest;
 use crate::entries::entry_at;
-use vm_tables::bindings::bind;
-use vm_tables::kept::rest_of;
-use vm_tables::kept::top_entry;
+use vm_memory::bindings::bind;
+use vm_memory::kept::rest_of;
+use vm_memory::kept::top_entry;
 use vm_words::code::count_of;
 
 // The value v is bound inside those of b.

@@ -7,8 +7,8 @@ ghost use Rattle.image.specs.Bytes.{le16};
 ghost use Rattle.vm_code.specs.Words.{depthOf, termCount, offsetOf};
 ghost use Rattle.vm_machine.specs.States.{judged};
 ghost use Rattle.vm_machine.specs.Turn.{begunAt, reduceMatch};
-ghost use Rattle.vm_states.specs.Phases.{Phase};
-ghost use Rattle.vm_matches.specs.Parts.{matchFields, lookedOf, firstBranch, otherBranch};
+ghost use Rattle.vm_registers.specs.Phases.{Phase};
+ghost use Rattle.vm_matches.specs.Matching.{matchFields, lookedOf, firstBranch, otherBranch};
 ghost use Rattle.vm_matches.specs.Operands.{Matchable, OfMatch};
 use crate::Chain;
 use crate::Progress;
@@ -20,14 +20,14 @@ use crate::entries::variables;
 use vm_labels::children::term_at;
 use vm_labels::entry::begun_at;
 use vm_machine::Regs;
-use vm_states::ends::called;
-use vm_states::limits::BINDINGS;
-use vm_states::outcomes;
-use vm_states::pools::bindings_out;
-use vm_states::pools::half_of;
-use vm_states::pools::has_room;
-use vm_states::regs::HEADROOM;
-use vm_states::regs::halt;
+use vm_registers::ends::called;
+use vm_registers::limits::BINDINGS;
+use vm_registers::outcomes;
+use vm_registers::pools::bindings_out;
+use vm_registers::pools::has_capacity;
+use vm_registers::pools::quota_of;
+use vm_registers::regs::FUEL_BIAS;
+use vm_registers::regs::halt;
 use vm_words::code::depth_of;
 
 // Where the branch is begun that field i names.
@@ -40,17 +40,17 @@ fn branch_at(code: &[u64], fields: &[u8], i: usize) -> usize
 
 // The stack v matches: the room of the bindings is looked at before the budget (card 5).
 fn first_branch(code: &[u64], fields: &[u8], work: &mut [u8], r: Regs, w: u64, v: u64) -> Regs
-    requires { ⌜ Matchable (now code) (now work) r × (depthOf w ≤ r .room) × OfMatch (now fields) w ⌝ }
+    requires { ⌜ Matchable (now code) (now work) r × (depthOf w ≤ r .frames) × OfMatch (now fields) w ⌝ }
     ensures { λ q. ⌜ ((image : List ℕ) → now (fields .entry) ≡ matchFields image w → Phase (firstBranch (record { code = now (code .entry); image = image }) w v) (now (work .entry)) (now (work .exit)) r q) ⌝ }
 {
-    let h = half_of(w);
+    let h = quota_of(w);
     let p = r.pools;
     let x = p.bindings;
     let m = variables(fields, w);
-    if !has_room(x, h, m, BINDINGS) {
+    if !has_capacity(x, h, m, BINDINGS) {
         return halt(r, bindings_out(h));
     }
-    if r.left <= HEADROOM {
+    if r.fuel <= FUEL_BIAS {
         return halt(r, outcomes::SPENT);
     }
     let from = Chain {
@@ -60,27 +60,27 @@ fn first_branch(code: &[u64], fields: &[u8], work: &mut [u8], r: Regs, w: u64, v
     let b = bind_entries(fields, work, w, v, from);
     let g = branch_at(code, fields, FIRST_BRANCH);
     let mut q = called(code, work, r, w, g, b.env);
-    q.left = r.left - 1;
+    q.fuel = r.fuel - 1;
     q.pools = p.charge_bindings(h, m);
     q
 }
 
 // It does not.
 fn other_branch(code: &[u64], fields: &[u8], work: &mut [u8], r: Regs, w: u64) -> Regs
-    requires { ⌜ Matchable (now code) (now work) r × (depthOf w ≤ r .room) × OfMatch (now fields) w ⌝ }
+    requires { ⌜ Matchable (now code) (now work) r × (depthOf w ≤ r .frames) × OfMatch (now fields) w ⌝ }
     ensures { λ q. ⌜ ((image : List ℕ) → now (fields .entry) ≡ matchFields image w → Phase (otherBranch (record { code = now (code .entry); image = image }) w) (now (work .entry)) (now (work .exit)) r q) ⌝ }
 {
-    if r.left <= HEADROOM {
+    if r.fuel <= FUEL_BIAS {
         return halt(r, outcomes::SPENT);
     }
     let g = branch_at(code, fields, OTHER_BRANCH);
     let mut q = called(code, work, r, w, g, r.env);
-    q.left = r.left - 1;
+    q.fuel = r.fuel - 1;
     q
 }
 
 fn reduce_match(code: &[u64], fields: &[u8], work: &mut [u8], r: Regs, w: u64, k: Progress) -> Regs
-    requires { ⌜ Matchable (now code) (now work) r × (depthOf w ≤ r .room) × OfMatch (now fields) w ⌝ }
+    requires { ⌜ Matchable (now code) (now work) r × (depthOf w ≤ r .frames) × OfMatch (now fields) w ⌝ }
     ensures { λ q. ⌜ ((image : List ℕ) → now (fields .entry) ≡ matchFields image w → Phase (reduceMatch (record { code = now (code .entry); image = image }) w (k .stack) (lookedOf k)) (now (work .entry)) (now (work .exit)) r q) ⌝ }
 {
     if matches(fields, w, k) {
@@ -100,7 +100,7 @@ pub fn make_match(
     requires { ⌜ Matchable (now code) (now work) r × OfMatch (now fields) w ⌝ }
     ensures { λ q. ⌜ ((image : List ℕ) → now (fields .entry) ≡ matchFields image w → Phase (λ S. judged w S (reduceMatch (record { code = now (code .entry); image = image }) w (k .stack) (lookedOf k) S)) (now (work .entry)) (now (work .exit)) r q) ⌝ }
 {
-    if r.room <= depth_of(w) {
+    if r.frames <= depth_of(w) {
         return halt(r, outcomes::FRAMES);
     }
     reduce_match(code, fields, work, r, w, k)

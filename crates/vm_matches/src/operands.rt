@@ -4,11 +4,11 @@ ghost use mathlib.Core.Path.{_≡_};
 ghost use Prim.Native.Nat.{ℕ, _+_, _≤_, _<_};
 ghost use lib.ListN.{getD};
 ghost use Rattle.vm_code.specs.Words.{termCount};
-ghost use Rattle.vm_machine.specs.Registers.{fullRoom};
+ghost use Rattle.vm_machine.specs.Registers.{frameSlots};
 ghost use Rattle.vm_machine.specs.Turn.{beginOperand, entriesFrom, beginMatch, resumeMatch};
-ghost use Rattle.vm_states.specs.Phases.{Phase};
-ghost use Rattle.vm_matches.specs.Parts.{matchFields, lookedOf};
-ghost use Rattle.vm_matches.specs.Operands.{Matchable, OfMatch, RoomOf};
+ghost use Rattle.vm_registers.specs.Phases.{Phase};
+ghost use Rattle.vm_matches.specs.Matching.{matchFields, lookedOf};
+ghost use Rattle.vm_matches.specs.Operands.{Matchable, OfMatch, FramesOf};
 use crate::Progress;
 use crate::entries::STACK;
 use crate::entries::cut_term;
@@ -24,16 +24,16 @@ use read_records::numbers::TermNo;
 use vm_labels::children::term_at;
 use vm_labels::entry::entry_from;
 use vm_machine::Regs;
-use vm_states::ends::atom_value;
-use vm_states::outcomes;
-use vm_states::regs::halt;
-use vm_states::regs::same;
-use vm_tables::slots::byte_beside;
-use vm_tables::slots::match_word;
-use vm_tables::slots::put_match;
-use vm_tables::slots::slot_env;
-use vm_tables::slots::slot_pc;
-use vm_tables::words::BINDING_PLACES;
+use vm_memory::slots::byte_beside;
+use vm_memory::slots::match_word;
+use vm_memory::slots::put_match;
+use vm_memory::slots::slot_env;
+use vm_memory::slots::slot_pc;
+use vm_memory::words::BINDING_PLACES;
+use vm_registers::ends::atom_value;
+use vm_registers::outcomes;
+use vm_registers::regs::halt;
+use vm_registers::regs::same;
 use vm_words::classes::INSTRUCTION;
 use vm_words::code::class_of;
 use vm_words::code::count_of;
@@ -43,18 +43,18 @@ use vm_words::terms::word_of;
 
 // The operand x of the match at hand begins as a body of its own; v is the match's stack, and the byte its progress.
 fn begin_operand(code: &[u64], work: &mut [u8], r: Regs, x: TermNo, v: u64, byte: u64) -> Regs
-    requires { ⌜ Matchable (now code) (now work) r × RoomOf (now code) r × (x .0 < termCount) × (byte < 256) ⌝ }
+    requires { ⌜ Matchable (now code) (now work) r × FramesOf (now code) r × (x .0 < termCount) × (byte < 256) ⌝ }
     ensures { λ q. ⌜ ((image : List ℕ) → Phase (beginOperand (record { code = now (code .entry); image = image }) (r .pc) (x .0) v byte) (now (work .entry)) (now (work .exit)) r q) ⌝ }
 {
     let pc = r.pc;
     let d = depth_of(instruction(code, pc)) + 1;
-    if r.room <= d {
+    if r.frames <= d {
         return halt(r, outcomes::FRAMES);
     }
-    let room = r.room - d;
-    put_match(work, room + 1, 1, match_word(pc, r.env, v), byte);
+    let frames = r.frames - d;
+    put_match(work, frames + 1, 1, match_word(pc, r.env, v), byte);
     let mut q = same(r);
-    q.room = room;
+    q.frames = frames;
     q.pc = entry_from(code, x);
     q
 }
@@ -69,7 +69,7 @@ fn entries_from(
     w: u64,
     from: Progress,
 ) -> Regs
-    requires { ⌜ Matchable (now code) (now work) r × RoomOf (now code) r × (w ≡ getD (now code) (r .pc) 0) × OfMatch (now fields) w ⌝ }
+    requires { ⌜ Matchable (now code) (now work) r × FramesOf (now code) r × (w ≡ getD (now code) (r .pc) 0) × OfMatch (now fields) w ⌝ }
     ensures { λ q. ⌜ ((image : List ℕ) → now (fields .entry) ≡ matchFields image w → Phase (entriesFrom (record { code = now (code .entry); image = image }) (r .pc) (from .stack) (lookedOf from)) (now (work .entry)) (now (work .exit)) r q) ⌝ }
 {
     let k = look_on(code, fields, work, r.env, w, from);
@@ -81,7 +81,7 @@ fn entries_from(
 }
 
 pub fn begin_match(code: &[u64], image: &[u8], work: &mut [u8], r: Regs) -> Regs
-    requires { ⌜ Matchable (now code) (now work) r × (r .room ≤ fullRoom) ⌝ }
+    requires { ⌜ Matchable (now code) (now work) r × (r .frames ≤ frameSlots) ⌝ }
     ensures { λ q. ⌜ Phase (beginMatch (record { code = now (code .entry); image = now (image .entry) })) (now (work .entry)) (now (work .exit)) r q ⌝ }
 {
     let w = instruction(code, r.pc);
@@ -97,14 +97,14 @@ pub fn begin_match(code: &[u64], image: &[u8], work: &mut [u8], r: Regs) -> Regs
 
 // An operand is worked out: the match's slot has the word f.
 pub fn resume_match(code: &[u64], image: &[u8], work: &mut [u8], r: Regs, f: u64) -> Regs
-    requires { ⌜ Matchable (now code) (now work) r × (r .room < fullRoom) ⌝ }
+    requires { ⌜ Matchable (now code) (now work) r × (r .frames < frameSlots) ⌝ }
     ensures { λ q. ⌜ Phase (resumeMatch (record { code = now (code .entry); image = now (image .entry) }) f) (now (work .entry)) (now (work .exit)) r q ⌝ }
 {
     let pc = slot_pc(f);
     let w = instruction(code, pc);
-    let k = looked_again(work, r.hand, f, byte_beside(work, r.room));
+    let k = looked_again(work, r.acc, f, byte_beside(work, r.frames));
     let mut q = same(r);
-    q.room = r.room + (depth_of(w) + 1);
+    q.frames = r.frames + (depth_of(w) + 1);
     q.env = slot_env(f) % BINDING_PLACES;
     q.pc = pc;
     entries_from(code, match_fields(image, w), work, q, w, k)

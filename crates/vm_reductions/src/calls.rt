@@ -7,26 +7,26 @@ ghost use Rattle.base_bytes.specs.Memory.{memoryLength};
 ghost use Rattle.vm_code.specs.Values.{bodyOf};
 ghost use Rattle.vm_code.specs.Words.{depthOf};
 ghost use Rattle.vm_machine.specs.Memory.{binding, putBinding, closureEnv, pieceFirst, pieceSecond};
-ghost use Rattle.vm_machine.specs.Registers.{headroom};
+ghost use Rattle.vm_machine.specs.Registers.{fuelBias};
 ghost use Rattle.vm_machine.specs.Fits.{Fits};
 ghost use Rattle.vm_machine.specs.Reduce.{reduceApply, reduceSplit};
 ghost use Rattle.vm_machine.specs.Turn.{callBody};
-ghost use Rattle.vm_tables.specs.View.{memoryOf, Holds};
-ghost use Rattle.vm_states.specs.Phases.{Phase};
+ghost use Rattle.vm_memory.specs.View.{memoryOf, Holds};
+ghost use Rattle.vm_registers.specs.Phases.{Phase};
 use vm_machine::Regs;
-use vm_states::ends::called;
-use vm_states::limits::BINDINGS;
-use vm_states::outcomes;
-use vm_states::pools::bindings_out;
-use vm_states::pools::half_of;
-use vm_states::pools::has_room;
-use vm_states::regs::HEADROOM;
-use vm_states::regs::halt;
-use vm_states::regs::same;
-use vm_tables::bindings::bind;
-use vm_tables::pieces::piece_first;
-use vm_tables::pieces::piece_of;
-use vm_tables::pieces::piece_second;
+use vm_memory::bindings::bind;
+use vm_memory::pieces::piece_first;
+use vm_memory::pieces::piece_of;
+use vm_memory::pieces::piece_second;
+use vm_registers::ends::called;
+use vm_registers::limits::BINDINGS;
+use vm_registers::outcomes;
+use vm_registers::pools::bindings_out;
+use vm_registers::pools::has_capacity;
+use vm_registers::pools::quota_of;
+use vm_registers::regs::FUEL_BIAS;
+use vm_registers::regs::halt;
+use vm_registers::regs::same;
 use vm_words::code::TARGETS;
 use vm_words::code::field_b;
 use vm_words::value::ENVIRONMENT;
@@ -48,17 +48,17 @@ fn function_target(f: u64) -> usize
 
 // The function x is applied to the value y.
 pub fn reduce_apply(code: &[u64], work: &mut [u8], r: Regs, w: u64, x: u64, y: u64) -> Regs
-    requires { ⌜ (1024 ≤ length (now code)) × (memoryLength ≤ length (now work)) × (headroom < r .left) × (depthOf w ≤ r .room) × ((size : ℕ) × Fits size r) ⌝ }
+    requires { ⌜ (1024 ≤ length (now code)) × (memoryLength ≤ length (now work)) × (fuelBias < r .fuel) × (depthOf w ≤ r .frames) × ((size : ℕ) × Fits size r) ⌝ }
     ensures { λ q. ⌜ ((image : List ℕ) → Phase (reduceApply (record { code = now (code .entry); image = image }) w x y) (now (work .entry)) (now (work .exit)) r q) ⌝ }
 {
-    let h = half_of(w);
+    let h = quota_of(w);
     let p = r.pools;
     let b = p.bindings;
-    if has_room(b, h, 1, BINDINGS) {
+    if has_capacity(b, h, 1, BINDINGS) {
         let n = b.whole();
         bind(work, n, y, 0, closure_env(x));
         let mut s = same(r);
-        s.left = r.left - 1;
+        s.fuel = r.fuel - 1;
         s.pools = p.charge_bindings(h, 1);
         return called(code, work, s, w, function_target(x), n);
     }
@@ -67,20 +67,20 @@ pub fn reduce_apply(code: &[u64], work: &mut [u8], r: Regs, w: u64, x: u64, y: u
 
 // The body at the target g is called on the object x, which it binds (card 3). Its room is looked at before the budget (card 5).
 pub fn call_body(code: &[u64], work: &mut [u8], r: Regs, w: u64, x: u64, g: usize) -> Regs
-    requires { ⌜ (1024 ≤ length (now code)) × (memoryLength ≤ length (now work)) × (depthOf w ≤ r .room) × ((size : ℕ) × Fits size r) ⌝ }
+    requires { ⌜ (1024 ≤ length (now code)) × (memoryLength ≤ length (now work)) × (depthOf w ≤ r .frames) × ((size : ℕ) × Fits size r) ⌝ }
     ensures { λ q. ⌜ ((image : List ℕ) → Phase (callBody (record { code = now (code .entry); image = image }) w x g) (now (work .entry)) (now (work .exit)) r q) ⌝ }
 {
-    let h = half_of(w);
+    let h = quota_of(w);
     let p = r.pools;
     let b = p.bindings;
-    if has_room(b, h, 1, BINDINGS) {
-        if r.left <= HEADROOM {
+    if has_capacity(b, h, 1, BINDINGS) {
+        if r.fuel <= FUEL_BIAS {
             return halt(r, outcomes::SPENT);
         }
         let n = b.whole();
         bind(work, n, x, 0, closure_env(x));
         let mut q = called(code, work, r, w, g, n);
-        q.left = r.left - 1;
+        q.fuel = r.fuel - 1;
         q.pools = p.charge_bindings(h, 1);
         return q;
     }
@@ -100,17 +100,17 @@ fn bind_parts(work: &mut [u8], p: usize, i: usize, env: usize)
 
 // The parts of the pair x are bound.
 pub fn reduce_split(code: &[u64], work: &mut [u8], r: Regs, w: u64, x: u64) -> Regs
-    requires { ⌜ (1024 ≤ length (now code)) × (memoryLength ≤ length (now work)) × (headroom < r .left) × (depthOf w ≤ r .room) × ((size : ℕ) × Fits size r) ⌝ }
+    requires { ⌜ (1024 ≤ length (now code)) × (memoryLength ≤ length (now work)) × (fuelBias < r .fuel) × (depthOf w ≤ r .frames) × ((size : ℕ) × Fits size r) ⌝ }
     ensures { λ q. ⌜ ((image : List ℕ) → Phase (reduceSplit (record { code = now (code .entry); image = image }) w x) (now (work .entry)) (now (work .exit)) r q) ⌝ }
 {
-    let h = half_of(w);
+    let h = quota_of(w);
     let p = r.pools;
     let b = p.bindings;
-    if has_room(b, h, 2, BINDINGS) {
+    if has_capacity(b, h, 2, BINDINGS) {
         let n = b.whole();
         bind_parts(work, piece_of(x), n, r.env);
         let mut q = called(code, work, r, w, field_b(w), n + 1);
-        q.left = r.left - 1;
+        q.fuel = r.fuel - 1;
         q.pools = p.charge_bindings(h, 2);
         return q;
     }

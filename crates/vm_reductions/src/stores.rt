@@ -3,35 +3,35 @@ ghost use mathlib.Core.List.{List};
 ghost use Prim.Native.Nat.{ℕ, _≤_, _<_};
 ghost use lib.ListN.{length};
 ghost use Rattle.base_bytes.specs.Memory.{memoryLength};
-ghost use Rattle.vm_machine.specs.Registers.{headroom};
+ghost use Rattle.vm_machine.specs.Registers.{fuelBias};
 ghost use Rattle.vm_machine.specs.Fits.{Fits};
 ghost use Rattle.vm_machine.specs.Reduce.{reduceStore, reduceCell, reduceLabel, reduceAdvice, reduceInstall, reduceAbort};
-ghost use Rattle.vm_states.specs.Phases.{Phase};
+ghost use Rattle.vm_registers.specs.Phases.{Phase};
 use read_records::numbers::DomainNo;
 use vm_machine::Regs;
-use vm_states::ends::given;
-use vm_states::limits;
-use vm_states::outcomes;
-use vm_states::pieces::new_piece;
-use vm_states::pools::cells_out;
-use vm_states::pools::half_of;
-use vm_states::pools::has_room;
-use vm_states::regs::halt;
-use vm_states::regs::halt_with;
-use vm_tables::cells::cell_of;
-use vm_tables::cells::put_cell;
-use vm_tables::cells::store_cell;
-use vm_tables::pieces::advice_word;
-use vm_tables::pieces::piece_of;
-use vm_tables::pieces::piece_second;
-use vm_tables::pieces::put_installed;
+use vm_memory::cells::cell_of;
+use vm_memory::cells::put_cell;
+use vm_memory::cells::store_cell;
+use vm_memory::pieces::advice_word;
+use vm_memory::pieces::piece_of;
+use vm_memory::pieces::piece_second;
+use vm_memory::pieces::put_installed;
+use vm_registers::ends::given;
+use vm_registers::limits;
+use vm_registers::outcomes;
+use vm_registers::pieces::new_piece;
+use vm_registers::pools::cells_out;
+use vm_registers::pools::has_capacity;
+use vm_registers::pools::quota_of;
+use vm_registers::regs::halt;
+use vm_registers::regs::halt_with;
 use vm_words::code::advice_domain;
 use vm_words::code::field_b;
 use vm_words::value;
 
 // The cell x holds the value y.
 pub fn reduce_store(work: &mut [u8], r: Regs, w: u64, x: u64, y: u64) -> Regs
-    requires { ⌜ (memoryLength ≤ length (now work)) × (headroom < r .left) × ((size : ℕ) × Fits size r) ⌝ }
+    requires { ⌜ (memoryLength ≤ length (now work)) × (fuelBias < r .fuel) × ((size : ℕ) × Fits size r) ⌝ }
     ensures { λ q. ⌜ Phase (reduceStore w x y) (now (work .entry)) (now (work .exit)) r q ⌝ }
 {
     store_cell(work, cell_of(x), y);
@@ -40,13 +40,13 @@ pub fn reduce_store(work: &mut [u8], r: Regs, w: u64, x: u64, y: u64) -> Regs
 
 // One more cell, which holds the value x.
 pub fn reduce_cell(work: &mut [u8], r: Regs, w: u64, x: u64) -> Regs
-    requires { ⌜ (memoryLength ≤ length (now work)) × (headroom < r .left) × ((size : ℕ) × Fits size r) ⌝ }
+    requires { ⌜ (memoryLength ≤ length (now work)) × (fuelBias < r .fuel) × ((size : ℕ) × Fits size r) ⌝ }
     ensures { λ q. ⌜ Phase (reduceCell w x) (now (work .entry)) (now (work .exit)) r q ⌝ }
 {
-    let h = half_of(w);
+    let h = quota_of(w);
     let p = r.pools;
     let c = p.cells;
-    if has_room(c, h, 1, limits::CELLS) {
+    if has_capacity(c, h, 1, limits::CELLS) {
         let n = c.whole();
         put_cell(work, n, x, field_b(w) as u64);
         let mut q = given(work, r, w, value::value(value::CELL, n as u64));
@@ -58,7 +58,7 @@ pub fn reduce_cell(work: &mut [u8], r: Regs, w: u64, x: u64) -> Regs
 
 // One more label.
 pub fn reduce_label(work: &mut [u8], r: Regs, w: u64) -> Regs
-    requires { ⌜ (memoryLength ≤ length (now work)) × (headroom < r .left) × ((size : ℕ) × Fits size r) ⌝ }
+    requires { ⌜ (memoryLength ≤ length (now work)) × (fuelBias < r .fuel) × ((size : ℕ) × Fits size r) ⌝ }
     ensures { λ q. ⌜ Phase (reduceLabel w) (now (work .entry)) (now (work .exit)) r q ⌝ }
 {
     let n = r.labels;
@@ -72,7 +72,7 @@ pub fn reduce_label(work: &mut [u8], r: Regs, w: u64) -> Regs
 
 // An advice on the pointcut x.
 pub fn reduce_advice(work: &mut [u8], r: Regs, w: u64, x: u64) -> Regs
-    requires { ⌜ (memoryLength ≤ length (now work)) × (headroom < r .left) × ((size : ℕ) × Fits size r) ⌝ }
+    requires { ⌜ (memoryLength ≤ length (now work)) × (fuelBias < r .fuel) × ((size : ℕ) × Fits size r) ⌝ }
     ensures { λ q. ⌜ Phase (reduceAdvice w x) (now (work .entry)) (now (work .exit)) r q ⌝ }
 {
     let dom: DomainNo = advice_domain(w);
@@ -83,7 +83,7 @@ pub fn reduce_advice(work: &mut [u8], r: Regs, w: u64, x: u64) -> Regs
 
 // The advice x is installed.
 pub fn reduce_install(work: &mut [u8], r: Regs, w: u64, x: u64) -> Regs
-    requires { ⌜ (memoryLength ≤ length (now work)) × (headroom < r .left) × ((size : ℕ) × Fits size r) ⌝ }
+    requires { ⌜ (memoryLength ≤ length (now work)) × (fuelBias < r .fuel) × ((size : ℕ) × Fits size r) ⌝ }
     ensures { λ q. ⌜ Phase (reduceInstall w x) (now (work .entry)) (now (work .exit)) r q ⌝ }
 {
     let n = r.installed;
@@ -101,8 +101,8 @@ pub fn reduce_install(work: &mut [u8], r: Regs, w: u64, x: u64) -> Regs
 
 // A step is made, and the machine halts.
 pub fn reduce_abort(r: Regs) -> Regs
-    requires { ⌜ headroom < r .left ⌝ }
+    requires { ⌜ fuelBias < r .fuel ⌝ }
     ensures { λ q. ⌜ ((work : List ℕ) → Phase reduceAbort work work r q) ⌝ }
 {
-    halt_with(r, outcomes::ABORTED, r.left - 1)
+    halt_with(r, outcomes::ABORTED, r.fuel - 1)
 }

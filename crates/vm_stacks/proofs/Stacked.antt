@@ -13,19 +13,19 @@ use Rattle.base_bytes.specs.Memory.{memoryLength}
 use Rattle.vm_code.specs.Values.{bottomValue, keptValue}
 use Rattle.vm_pools.specs.declared.Pools.{Pools}
 use Rattle.vm_machine.specs.declared.Regs.{Regs}
-use Rattle.vm_machine.specs.Registers.{headroom, setPools, haltWith, halt}
-use Rattle.vm_pools.specs.Pools.{whole, chargePieces, hasRoom, piecesOut}
-use Rattle.vm_machine.specs.Halves.{halfOf}
+use Rattle.vm_machine.specs.Registers.{fuelBias, setPools, haltWith, halt}
+use Rattle.vm_pools.specs.Pools.{whole, chargePieces, hasCapacity, piecesOut}
+use Rattle.vm_machine.specs.Quotas.{quotaOf}
 use Rattle.vm_machine.specs.Memory.{Memory, keptAt, putPiece}
 use Rattle.vm_machine.specs.States.{State, withMemory}
 use Rattle.vm_machine.specs.Reduce.{given, ifPieces}
 use Rattle.vm_machine.specs.Stacks.{Stacked, stackPieces, reduceStack}
-use Rattle.vm_tables.specs.View.{memoryOf, Holds}
-use Rattle.vm_states.specs.Phases.{Phase}
-use Rattle.vm_states.proofs.Made.{as-phase, stored-set}
-use Rattle.vm_states.proofs.Ended.{given-as}
-use Rattle.vm_states.proofs.Halves.{half-made, half-full, half-spent}
-use Rattle.vm_stacks.specs.Parts.{stackedIn, Stacks}
+use Rattle.vm_memory.specs.View.{memoryOf, Holds}
+use Rattle.vm_registers.specs.Phases.{Phase}
+use Rattle.vm_registers.proofs.Made.{as-phase, stored-set}
+use Rattle.vm_registers.proofs.Ended.{given-as}
+use Rattle.vm_registers.proofs.Quotas.{quota-made, quota-full, quota-spent}
+use Rattle.vm_stacks.specs.StacksAndKeeps.{stackedIn, Stacks}
 
 -- No piece is made yet: v is the empty stack.
 pub pieces-start : (n p v : ℕ) (w : List ℕ) → v ≡ bottomValue → stackPieces n 0 p (stackedIn w bottomValue) ≡ stackPieces (n - 0) 0 p (stackedIn w v)
@@ -55,7 +55,7 @@ pieces-done K n i p w w′ v h e r =
     subst (λ (X : Stacked). Stacks X w w′ v) (sym z) (record { memory = record { memory = refl; rest = r }; value = refl })
 
 -- A step with all pieces; or their room, or the budget, does not do: the half h has room or not (card 9).
-module _ (a b c : List ℕ) (r q : Regs) (w : ℕ) (h t : Bool) (is : h ≡ halfOf w) (test : t ≡ hasRoom pieceLimit h (r .kept) (r .pools .pieces)) where
+module _ (a b c : List ℕ) (r q : Regs) (w : ℕ) (h t : Bool) (is : h ≡ quotaOf w) (test : t ≡ hasCapacity pieceLimit h (r .kept) (r .pools .pieces)) where
   -- The pieces, from place n on.
   abbrev taken : ℕ → Stacked
   taken n = stackPieces (r .kept) 0 n (stackedIn a bottomValue)
@@ -64,23 +64,23 @@ module _ (a b c : List ℕ) (r q : Regs) (w : ℕ) (h t : Bool) (is : h ≡ half
   abbrev all : State → State
   all S =
       let K : Stacked = stackPieces (r .kept) 0 (whole (S .regs .pools .pieces)) (record { memory = S .memory; value = bottomValue }) in
-      given w (K .value) (withMemory (K .memory) (setPools (chargePieces (halfOf w) (r .kept) (S .regs .pools)) (S .regs)) S)
+      given w (K .value) (withMemory (K .memory) (setPools (chargePieces (quotaOf w) (r .kept) (S .regs .pools)) (S .regs)) S)
 
   as-stack : (z : List ℕ) (p : Regs) → Phase (λ S. ifPieces w (r .kept) S (all S)) a z r p → Phase (reduceStack w) a z r p
   unfolding reduceStack
   as-stack z p = as-phase (λ S. ifPieces w (r .kept) S (all S)) (reduceStack w) a z r p (λ log. refl)
 
-  pub stack-made : headroom < r .left → (n v : ℕ) (s : Pools) → not t ≡ false → n ≡ whole (r .pools .pieces) → s ≡ chargePieces h (r .kept) (r .pools) → Stacks (taken n) a b v → Phase (given w v) b c r q → Phase (reduceStack w) a c r (setPools s q)
+  pub stack-made : fuelBias < r .fuel → (n v : ℕ) (s : Pools) → not t ≡ false → n ≡ whole (r .pools .pieces) → s ≡ chargePieces h (r .kept) (r .pools) → Stacks (taken n) a b v → Phase (given w v) b c r q → Phase (reduceStack w) a c r (setPools s q)
   stack-made l n v s k d i m p =
       let M : Stacks (taken (whole (r .pools .pieces))) a b v = subst (λ (z : ℕ). Stacks (taken z) a b v) d m in
-      let z : s ≡ chargePieces (halfOf w) (r .kept) (r .pools) = i ∙ ap (λ (g : Bool). chargePieces g (r .kept) (r .pools)) is in
+      let z : s ≡ chargePieces (quotaOf w) (r .kept) (r .pools) = i ∙ ap (λ (g : Bool). chargePieces g (r .kept) (r .pools)) is in
       subst (λ (x : Pools). Phase (reduceStack w) a c r (setPools x q)) (sym z)
       (as-stack c _
-      (half-made pieceLimit (r .kept) (λ p. p .pieces) piecesOut w r h t is test all a _ c l (not-false t k)
-      (stored-set (given w (taken (whole (r .pools .pieces)) .value)) all (setPools (chargePieces (halfOf w) (r .kept) (r .pools))) (taken (whole (r .pools .pieces)) .memory) a b c r q (λ log. refl) (M .memory) (given-as b c r q w v _ (M .value) p))))
+      (quota-made pieceLimit (r .kept) (λ p. p .pieces) piecesOut w r h t is test all a _ c l (not-false t k)
+      (stored-set (given w (taken (whole (r .pools .pieces)) .value)) all (setPools (chargePieces (quotaOf w) (r .kept) (r .pools))) (taken (whole (r .pools .pieces)) .memory) a b c r q (λ log. refl) (M .memory) (given-as b c r q w v _ (M .value) p))))
 
-  pub stack-full : (o : ℕ) → not t ≡ true → o ≡ outcomeNumber (piecesOut h) → q ≡ haltWith o (r .left) r → Phase (reduceStack w) a a r q
-  stack-full o k e d = as-stack a q (half-full pieceLimit (r .kept) (λ p. p .pieces) piecesOut w r h t is test all a q o (not-true t k) e d)
+  pub stack-full : (o : ℕ) → not t ≡ true → o ≡ outcomeNumber (piecesOut h) → q ≡ haltWith o (r .fuel) r → Phase (reduceStack w) a a r q
+  stack-full o k e d = as-stack a q (quota-full pieceLimit (r .kept) (λ p. p .pieces) piecesOut w r h t is test all a q o (not-true t k) e d)
 
-  pub stack-spent : r .left ≤ headroom → not t ≡ false → q ≡ halt Outcome.Spent r → Phase (reduceStack w) a a r q
-  stack-spent l k e = as-stack a q (half-spent pieceLimit (r .kept) (λ p. p .pieces) piecesOut w r h t is test all a q l (not-false t k) e)
+  pub stack-spent : r .fuel ≤ fuelBias → not t ≡ false → q ≡ halt Outcome.Spent r → Phase (reduceStack w) a a r q
+  stack-spent l k e = as-stack a q (quota-spent pieceLimit (r .kept) (λ p. p .pieces) piecesOut w r h t is test all a q l (not-false t k) e)

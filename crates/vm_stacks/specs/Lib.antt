@@ -1,2 +1,2 @@
 -- Parts of the definitions of stacks and keeps.
-pub mod Parts
+pub mod StacksAndKeeps

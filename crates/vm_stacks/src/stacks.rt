@@ -6,19 +6,19 @@ ghost use Rattle.vm_code.specs.Values.{bottomValue};
 ghost use Rattle.vm_machine.specs.States.{judged};
 ghost use Rattle.vm_machine.specs.Stacks.{stackPieces, reduceStack};
 ghost use Rattle.vm_machine.specs.Fits.{Fits};
-ghost use Rattle.vm_states.specs.Phases.{Phase};
-ghost use Rattle.vm_stacks.specs.Parts.{stackedIn, Stacks};
+ghost use Rattle.vm_registers.specs.Phases.{Phase};
+ghost use Rattle.vm_stacks.specs.StacksAndKeeps.{stackedIn, Stacks};
 use vm_machine::Regs;
-use vm_states::ends::given;
-use vm_states::limits::PIECES;
-use vm_states::outcomes;
-use vm_states::pools::half_of;
-use vm_states::pools::has_room;
-use vm_states::pools::pieces_out;
-use vm_states::regs::HEADROOM;
-use vm_states::regs::halt;
-use vm_tables::kept::kept_at;
-use vm_tables::pieces::put_piece;
+use vm_memory::kept::kept_at;
+use vm_memory::pieces::put_piece;
+use vm_registers::ends::given;
+use vm_registers::limits::PIECES;
+use vm_registers::outcomes;
+use vm_registers::pools::has_capacity;
+use vm_registers::pools::pieces_out;
+use vm_registers::pools::quota_of;
+use vm_registers::regs::FUEL_BIAS;
+use vm_registers::regs::halt;
 use vm_words::code::depth_of;
 use vm_words::value::bottom;
 use vm_words::value::kept;
@@ -45,13 +45,13 @@ fn reduce_stack(work: &mut [u8], r: Regs, w: u64) -> Regs
     ensures { λ q. ⌜ Phase (reduceStack w) (now (work .entry)) (now (work .exit)) r q ⌝ }
 {
     let n = r.kept;
-    let h = half_of(w);
+    let h = quota_of(w);
     let p = r.pools;
     let x = p.pieces;
-    if !has_room(x, h, n, PIECES) {
+    if !has_capacity(x, h, n, PIECES) {
         return halt(r, pieces_out(h));
     }
-    if r.left <= HEADROOM {
+    if r.fuel <= FUEL_BIAS {
         return halt(r, outcomes::SPENT);
     }
     let v = stack_pieces(work, n, x.whole());
@@ -64,7 +64,7 @@ pub fn stack(work: &mut [u8], r: Regs, w: u64) -> Regs
     requires { ⌜ (memoryLength ≤ length (now work)) × ((size : ℕ) × Fits size r) ⌝ }
     ensures { λ q. ⌜ Phase (λ S. judged w S (reduceStack w S)) (now (work .entry)) (now (work .exit)) r q ⌝ }
 {
-    if r.room <= depth_of(w) {
+    if r.frames <= depth_of(w) {
         return halt(r, outcomes::FRAMES);
     }
     reduce_stack(work, r, w)

@@ -1,4 +1,4 @@
 -- The parts of words.
-pub mod Parts
+pub mod WordFields
 pub mod ObjectWords
 pub mod Noted

@@ -6,7 +6,7 @@ use mathlib.Core.Path.{_≡_, sym, ap, _∙_}
 use mathlib.Core.List.{List}
 use lib.ListN.{length, take, set}
 use lib.Seq.{take-all, take-suc-set}
-use Rattle.listing.specs.Sheet.{upTo}
+use Rattle.listing.specs.Conformance.{upTo}
 
 -- One byte more.
 pub frame-more : (frame : List ℕ) (i : ℕ) → i < length frame → take i frame ≡ upTo i → take (i + 1) (set frame i i) ≡ upTo (i + 1)

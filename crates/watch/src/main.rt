@@ -1,9 +1,9 @@
 // Calls the engine as the bench sheet says (document 01) and prints the listing of the image on standard input. With arguments
 // it prints verdict and listing of stored images, each with a budget of its own.
-mod sheet;
+mod conformance;
 mod stored;
 
-use console::IMAGE_ROOM;
+use console::IMAGE_CAPACITY;
 
 const BUDGET: u32 = 100000;
 
@@ -11,13 +11,13 @@ const BUDGET: u32 = 100000;
 const OWN_NAME: usize = 1;
 
 fn list_input() {
-    let mut image = [0u8; IMAGE_ROOM];
+    let mut image = [0u8; IMAGE_CAPACITY];
     let input = console::read_image(&mut image);
     if !input.whole {
         return;
     }
     let n = input.length;
-    sheet::print_listing(&image[..n], BUDGET);
+    conformance::print_listing(&image[..n], BUDGET);
 }
 
 // The program's name, and then nothing or pairs.

@@ -1,7 +1,7 @@
 // Stored images: each pair of arguments is a budget and a file. Prints a line with both, then the validator's verdict, then the
 // listing of the image's call.
-use crate::sheet::print_listing;
-use console::IMAGE_ROOM;
+use crate::conformance::print_listing;
+use console::IMAGE_CAPACITY;
 use image::REPORT_LENGTH;
 use image::WORK_LENGTH;
 use numerals::Numeral;
@@ -21,7 +21,7 @@ fn run_file(path: &[u8], budget: u32) {
         os::fail(path);
         return;
     }
-    let mut image = [0u8; IMAGE_ROOM];
+    let mut image = [0u8; IMAGE_CAPACITY];
     let input = console::read_whole(fd, &mut image);
     if !input.whole {
         os::fail(path);

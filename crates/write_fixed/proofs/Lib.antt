@@ -1,2 +1,2 @@
 -- A call that writes the fixed form, from its verdict.
-pub mod Gate
+pub mod Acceptance

@@ -12,7 +12,7 @@ use Rattle.image.specs.Records.{Layout}
 use Rattle.image.specs.Layout.{laid, layout, recordsOf}
 use Rattle.image.specs.Types.{rootOf}
 use Rattle.image.specs.Program.{program}
-use Rattle.image.proofs.Laid.{Good, layout-good}
+use Rattle.image.proofs.Laid.{LayoutOk, layout-good}
 use Rattle.verdict.specs.Domains.{masks}
 use Rattle.base_bytes.specs.Bytes.{over}
 use Rattle.base_bytes.proofs.Over.{onward}
@@ -30,7 +30,7 @@ use Rattle.image_written.proofs.Fronts.{treeAt, program-at}
 use Rattle.write_types.specs.Entries.{noPlace, Entries, entriesOf, Placed}
 use Rattle.write_sections.specs.Sections.{domainBytes, typeBytes}
 use Rattle.write_program.specs.declared.Done.{Done}
-use Rattle.write_program.specs.Writing.{Room, Wrote}
+use Rattle.write_program.specs.Writing.{Capacity, Wrote}
 
 -- A table of masks holds those of the image's domains.
 pub masks-taken : (b doms table : List ℕ) (count : ℕ) → Domains b doms → count ≡ length (recordsOf b .domains) → Masks b table → (take count table ≡ masks (recordsOf b)) × (count ≤ length table)
@@ -45,7 +45,7 @@ module _ (b : List ℕ) (walked : layout b ≡ laid (recordsOf b)) (some-terms :
   abbrev L : Layout
   L = recordsOf b
 
-  good : Good L
+  good : LayoutOk L
   good = layout-good b L walked
 
   abbrev D : ℕ
@@ -108,7 +108,7 @@ module _ (b : List ℕ) (walked : layout b ≡ laid (recordsOf b)) (some-terms :
   weighs = terms-size D T T 0 (program L) (formed-of D (program L) (program-shaped L good some-terms)) ∙ ap (λ e. weight termSize e) from-root
 
   -- The output has room for each section behind the one before.
-  module _ (n : ℕ) (room : length (fixed b) ≤ n) where
+  module _ (n : ℕ) (capacity : length (fixed b) ≤ n) where
     fits : length Ds + (length Ts + length Es) ≤ n
     fits =
         let l = long in
@@ -120,7 +120,7 @@ module _ (b : List ℕ) (walked : layout b ≡ laid (recordsOf b)) (some-terms :
     pub types-fit : length Ds + length Ts ≤ n
     types-fit = let f = fits in omega arith
 
-    pub terms-fit : terms (program L) ≤ termLimit → (d : Done) → d .at ≡ length Ds + length Ts → d .terms ≡ 0 → Room b (rootOf L) d n
+    pub terms-fit : terms (program L) ≤ termLimit → (d : Done) → d .at ≡ length Ds + length Ts → d .terms ≡ 0 → Capacity b (rootOf L) d n
     terms-fit few-terms d e z =
         let f = fits in
         let w = weighs in
@@ -130,8 +130,8 @@ module _ (b : List ℕ) (walked : layout b ≡ laid (recordsOf b)) (some-terms :
   -- What stands in the output then, and how long it is.
   pub whole : {places : List ℕ} (out : List ℕ) {out₁ out₂ out₃ : List ℕ} (d : Done) → length (fixed b) ≤ length out → Placed b places T → d .at ≡ length Ds + length Ts → d .terms ≡ 0
       → out₁ ≡ over 0 Ds out → out₂ ≡ over (length Ds) Ts out₁ → Wrote b places (rootOf L) d out₂ out₃ → (d .at + weight termSize (treeAt L (rootOf L)) ≡ length (fixed b)) × (out₃ ≡ over 0 (fixed b) out)
-  whole out {out₁} {out₂} {out₃} d room P e z f g W =
-      let r = fits (length out) room in
+  whole out {out₁} {out₂} {out₃} d capacity P e z f g W =
+      let r = fits (length out) capacity in
       let l = long in
       let w = weighs in
       let x = length-append Ds Ts in

@@ -10,4 +10,4 @@ use Rattle.image_written.specs.Written.{terms, fixed}
 pub record Fits (b : List ℕ) (n : ℕ) : Type 0 where
   pub has-terms : 0 < length (recordsOf b .terms)
   pub few-terms : terms (program (recordsOf b)) ≤ termLimit
-  pub room : length (fixed b) ≤ n
+  pub capacity : length (fixed b) ≤ n

@@ -10,7 +10,7 @@ use Rattle.image.specs.TermFields.{filled, termFields}
 use Rattle.image.specs.Program.{Program, node, end, more}
 use Rattle.base_bytes.specs.Bytes.{over}
 use Rattle.base_bytes.proofs.Over.{onward, length-over}
-use Rattle.image_written.specs.Parts.{recur, same}
+use Rattle.image_written.specs.TypeParts.{recur, same}
 use Rattle.image_written.specs.Table.{place}
 use Rattle.image_written.specs.Records.{little, Record, bytes, image}
 use Rattle.image_written.specs.Written.{terms, termRecords}
@@ -97,9 +97,9 @@ grew-length : {d : ℕ} {out out′ : List ℕ} {done r : Done} → done .at + 1
 grew-length {d} {out} {out′} {done} {r} h G = let s = tree-size d (done .state) (done .terms) in ap length (G .bytes) ∙ length-over (written (done .terms) (grow d (done .state) .tree)) out (done .at) (omega arith)
 
 -- After a tree there is room for what comes behind it.
-pub grew-room : {d : ℕ} {out out′ : List ℕ} {done r : Done} → Grew d out done out′ r → done .at + 12 * most d ≤ length out
+pub grew-capacity : {d : ℕ} {out out′ : List ℕ} {done r : Done} → Grew d out done out′ r → done .at + 12 * most d ≤ length out
     → (r .at ≤ done .at + 12 * most d) × (r .terms ≤ done .terms + most d) × (done .terms < r .terms) × (length out′ ≡ length out)
-grew-room {d} {out} {out′} {done} {r} G h =
+grew-capacity {d} {out} {out′} {done} {r} G h =
     let s = tree-size d (done .state) (done .terms) in
     let a = G .at in
     let t = G .terms in
@@ -111,7 +111,7 @@ grew-room {d} {out} {out′} {done} {r} G h =
 -- A sum or difference.
 pub sum-grew : (d op : ℕ) {out out₁ out₂ out₃ : List ℕ} {done here left right r : Done} → grow d (done .state) ≡ both (sum op) (grow (d - 1) (here .state)) (grow (d - 1)) → here .at ≡ done .at → here .terms ≡ done .terms
     → done .at + (12 * most (d - 1) + 12 * most (d - 1) + 12) ≤ length out → Grew (d - 1) out here out₁ left → Grew (d - 1) out₁ left out₂ right → Put out₂ right out₃ r 43 (sumFields op (left .terms - 1) (right .terms)) → Grew d out done out₃ r
-sum-grew d op {out} {out₁} {out₂} {out₃} {done} {here} {left} {right} {r} e a t room X Y P =
+sum-grew d op {out} {out₁} {out₂} {out₃} {done} {here} {left} {right} {r} e a t capacity X Y P =
     let x : Program = grow (d - 1) (here .state) .tree in
     let y : Program = grow (d - 1) (left .state) .tree in
     let m : ℕ = done .terms in
@@ -152,7 +152,7 @@ sum-grew d op {out} {out₁} {out₂} {out₃} {done} {here} {left} {right} {r} 
 pub trace-grew : (d : ℕ) {out out₁ out₂ out₃ out₄ : List ℕ} {done here inner first second r : Done} → grow d (done .state) ≡ both traced (grow (d - 2) (here .state)) (grow (d - 1)) → here .at ≡ done .at → here .terms ≡ done .terms
     → done .at + (12 * most (d - 2) + 12 + 12 * most (d - 1) + 12) ≤ length out → Grew (d - 2) out here out₁ inner → Put out₁ inner out₂ first 37 (printFields (inner .terms)) → Grew (d - 1) out₂ first out₃ second
     → Put out₃ second out₄ r 36 (sequenceFields (first .terms - 1) (second .terms)) → Grew d out done out₄ r
-trace-grew d {out} {out₁} {out₂} {out₃} {out₄} {done} {here} {inner} {first} {second} {r} e a t room X Q Y P =
+trace-grew d {out} {out₁} {out₂} {out₃} {out₄} {done} {here} {inner} {first} {second} {r} e a t capacity X Q Y P =
     let x : Program = grow (d - 2) (here .state) .tree in
     let y : Program = grow (d - 1) (first .state) .tree in
     let m : ℕ = done .terms in

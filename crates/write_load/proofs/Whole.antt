@@ -10,7 +10,7 @@ use Rattle.laws.proofs.Booleans.{le-of, of-le}
 use Rattle.image.specs.Program.{Program}
 use Rattle.base_bytes.specs.Bytes.{over}
 use Rattle.base_bytes.proofs.Over.{onward}
-use Rattle.image_written.specs.Parts.{recur, same}
+use Rattle.image_written.specs.TypeParts.{recur, same}
 use Rattle.image_written.specs.Table.{place}
 use Rattle.image_written.specs.Records.{little, Record, bytes, image}
 use Rattle.image_written.specs.Written.{domainRecord, typeRecord, termRecords, recordsOver, writtenOver}
@@ -44,7 +44,7 @@ head-parts = refl
 pub whole-image : (depth seed : ℕ) (out : List ℕ) {out₁ out₂ : List ℕ} {start r : Done} → start .at ≡ length headBytes → start .terms ≡ 0 → start .state ≡ seed → loadLength ≤ length out → depth ≤ loadDepthLimit
     → out₁ ≡ over 0 headBytes out → Grew (depth - 1) out₁ start out₂ r → (r .at ≡ length (generated depth seed)) × (out₂ ≡ over 0 (generated depth seed) out)
 unfolding generated writtenOver recordsOver headBytes
-whole-image depth seed out {out₁} {out₂} {start} {r} a t s room l e G =
+whole-image depth seed out {out₁} {out₂} {start} {r} a t s capacity l e G =
     let g : Program = grow (depth - 1) seed .tree in
     let ds : List Record = map (λ m. domainRecord m) (1 ∷ []) in
     let ts : List Record = map (λ t. typeRecord loadTypes t) loadTypes in

@@ -33,7 +33,7 @@ abbrev pub numberFollows : ℕ → ℕ → Bool
 numberFollows c d = choose (eqb c 0) true (choose (eqb c 3) (ltb d 2) false)
 
 -- There is room for the largest tree of depth d + 1.
-pub record Room (out : List ℕ) (done : Done) (d : ℕ) : Type 0 where
+pub record Capacity (out : List ℕ) (done : Done) (d : ℕ) : Type 0 where
   pub depth : d ≤ 8
   pub bytes : done .at + 12 * most d ≤ length out
   pub terms : done .terms + most d ≤ 1024

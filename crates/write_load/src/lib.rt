@@ -17,7 +17,7 @@ ghost use Rattle.image.specs.Limits.{termLimit};
 ghost use Rattle.base_bytes.specs.Bytes.{over};
 ghost use Rattle.image_written.specs.Generated.{next};
 ghost use Rattle.write_load.specs.Loads.{loaded, loadNumber, loadBytes};
-ghost use Rattle.write_load.specs.Growing.{headBytes, printFields, sequenceFields, sumFields, numberFollows, Put, Room, Grew};
+ghost use Rattle.write_load.specs.Growing.{headBytes, printFields, sequenceFields, sumFields, numberFollows, Put, Capacity, Grew};
 
 // The numbers of the draw and the limits of card 12.
 const MULTIPLIER: u64 = 1664525;
@@ -156,7 +156,7 @@ fn is_number(c: u32, depth: usize) -> bool
 
 // A tree of a depth, which is one less than the card counts: left is drawn first, records are written children first.
 fn grow(out: &mut [u8], done: Done, depth: usize) -> Done
-    requires { ⌜ Room (now out) done depth ⌝ }
+    requires { ⌜ Capacity (now out) done depth ⌝ }
     ensures { λ r. ⌜ Grew depth (now (out .entry)) done (now (out .exit)) r ⌝ }
 {
     if depth == 0 {

@@ -32,7 +32,7 @@ use Rattle.write_types.specs.Entries.{Placed, keptNumber}
 use Rattle.write_types.proofs.Located.{class-type}
 use Rattle.write_terms.proofs.Located.{good, next-child, child-lower, next-same, typed}
 use Rattle.write_program.specs.declared.Done.{Done}
-use Rattle.write_program.specs.Writing.{Room, Wrote}
+use Rattle.write_program.specs.Writing.{Capacity, Wrote}
 use Rattle.write_program.proofs.Writing.{child-field, kept-field, one-child, firstNumbers, one-number, term-written}
 
 -- Of children side by side, the first and the rest.
@@ -112,8 +112,8 @@ module _ {b table : List ℕ} (M : Terms b table) {n : ℕ} (h : IsTerm b n) whe
   begun-none places d out numbers = record { wrote = λ T P F. (sym (over-nothing out (d .at)), refl) }
 
   -- The room for the record itself, behind the children.
-  pub record-room : {d m : Done} {N : ℕ} (i : ℕ) → Room b n d N → Come b n i d m → m .at + (4 + 2 * length (sortsAt L n)) ≤ N
-  record-room i R C =
+  pub record-capacity : {d m : Done} {N : ℕ} (i : ℕ) → Capacity b n d N → Come b n i d m → m .at + (4 + 2 * length (sortsAt L n)) ≤ N
+  record-capacity i R C =
       let r = R .bytes in
       let w = weighs in
       let l = lighter i in
@@ -131,7 +131,7 @@ module _ {b table : List ℕ} (M : Terms b table) {n : ℕ} (h : IsTerm b n) whe
       let t = C .terms in
       (omega arith, omega arith)
 
-  pub few-terms : {d m : Done} {N : ℕ} (i : ℕ) → Room b n d N → Come b n i d m → m .terms < termLimit
+  pub few-terms : {d m : Done} {N : ℕ} (i : ℕ) → Capacity b n d N → Come b n i d m → m .terms < termLimit
   few-terms i R C =
       let r = R .terms in
       let w = counts M h in
@@ -164,8 +164,8 @@ module _ {b table : List ℕ} (M : Terms b table) {n : ℕ} (h : IsTerm b n) whe
       unfolding terms
       more = ap (λ es. termsAll (trees L es)) next ∙ terms-append L (kids L n i) (child ∷ []) ∙ omega arith
 
-      pub child-room : {d m : Done} {N : ℕ} → Room b n d N → Come b n i d m → Room b child m N
-      child-room R C =
+      pub child-capacity : {d m : Done} {N : ℕ} → Capacity b n d N → Come b n i d m → Capacity b child m N
+      child-capacity R C =
           let a = C .at in
           let t = C .terms in
           let r = R .bytes in
@@ -186,14 +186,14 @@ module _ {b table : List ℕ} (M : Terms b table) {n : ℕ} (h : IsTerm b n) whe
           let w = more in
           record { at = omega arith; terms = omega arith }
 
-      pub child-number : {d m : Done} {N r : ℕ} → Room b n d N → Come b n i d m → r ≡ m .terms + terms (treeAt L child) → (0 < r) × (r ≤ termLimit)
+      pub child-number : {d m : Done} {N r : ℕ} → Capacity b n d N → Come b n i d m → r ≡ m .terms + terms (treeAt L child) → (0 < r) × (r ≤ termLimit)
       child-number R C y =
-          let s = child-room R C .terms in
+          let s = child-capacity R C .terms in
           let k = child-lower M h i l e f q in
           let o = counts M {n = child} (omega arith) in
           (omega arith, omega arith)
 
-      pub begun-child : {places out₀ out out′ numbers : List ℕ} {d m : Done} {x : ℕ} → i < length numbers → Room b n d (length out₀) → Come b n i d m → Begun b places n d i out₀ out numbers → Wrote b places child m out out′
+      pub begun-child : {places out₀ out out′ numbers : List ℕ} {d m : Done} {x : ℕ} → i < length numbers → Capacity b n d (length out₀) → Come b n i d m → Begun b places n d i out₀ out numbers → Wrote b places child m out out′
           → x ≡ asField c (m .terms + terms (treeAt L child) - 1) → Begun b places n d (i + 1) out₀ out′ (set numbers i x)
       begun-child {places} {out₀} {out} {out′} {numbers} {d} {m} {x} k R C B W z = record { wrote = told }
         where
@@ -249,7 +249,7 @@ module _ {b table : List ℕ} (M : Terms b table) {n : ℕ} (h : IsTerm b n) whe
               ∙ sym (kept-field L T places Q g w y (λ s. let t = type-field L n i l s in ap (λ z. getD places z 0) t ∙ P .each (typeNo L n) (typed M h) (formed-first T F) ∙ ap (λ z. place T (typeOf L z)) (sym t)))
 
   -- All fields, and the record.
-  pub begun-all : {places out₀ out out′ numbers : List ℕ} {d m : Done} (i count kind : ℕ) → length (sortsAt L n) ≡ count → i ≡ count → count ≤ length numbers → kind ≡ numberAt b (termPlace L n) → Room b n d (length out₀) → Come b n i d m
+  pub begun-all : {places out₀ out out′ numbers : List ℕ} {d m : Done} (i count kind : ℕ) → length (sortsAt L n) ≡ count → i ≡ count → count ≤ length numbers → kind ≡ numberAt b (termPlace L n) → Capacity b n d (length out₀) → Come b n i d m
       → Begun b places n d i out₀ out numbers → out′ ≡ over (m .at) (little ((4 + 2 * count) ∷ (kind ∷ take count numbers))) out → Wrote b places n d out₀ out′
   begun-all {places} {out₀} {out} {out′} {numbers} {d} {m} i count kind s t k e R C B w = record { over-table = told }
     where
@@ -269,5 +269,5 @@ module _ {b table : List ℕ} (M : Terms b table) {n : ℕ} (h : IsTerm b n) whe
           ∙ ap (λ q. over (d .at + length before) (little ((4 + 2 * count) ∷ (q ∷ take count numbers))) out) o
           ∙ ap (λ ws. over (d .at + length before) (little ((4 + 2 * count) ∷ (number ∷ ws))) out) x
           ∙ ap (λ q. over (d .at + length before) (little ((4 + 2 * q) ∷ (number ∷ fields))) out) y in
-          let r = record-room i R C in
+          let r = record-capacity i R C in
           term-written L T (good M h) n (d .terms) h i (omega arith) out₀ (d .at) (W .0) v (omega arith)

@@ -11,7 +11,7 @@ use Rattle.image.specs.Kinds.{in-domains, in-operations, in-truths, any-number,
 use Rattle.image.specs.Records.{Layout}
 use Rattle.image.specs.Types.{typeOf, termKind, statedType, others, children}
 use Rattle.image.specs.TermFields.{termFields}
-use Rattle.image.proofs.Laid.{Good}
+use Rattle.image.proofs.Laid.{LayoutOk}
 use Rattle.laws.proofs.Booleans.{no-path, of-lt}
 use Rattle.base_bytes.specs.Bytes.{over}
 use Rattle.base_bytes.proofs.Over.{onward}
@@ -74,7 +74,7 @@ module _ (L : Layout) (T : List Ty) where
       ap (λ j. take j (set numbers i v)) (sym z) ∙ take-suc-set numbers i v m ∙ ap (λ xs. xs ++ (v ∷ [])) e ∙ ap (λ x. firstNumbers n i q ++ (x ∷ [])) f ∙ sym (front-next L T n i q l) ∙ ap (λ j. firstNumbers n j q) z
 
   -- All fields, and the record behind the children.
-  module _ (good : Good L) (n q : ℕ) (h : n < length (L .terms)) (i : ℕ) (all : length (sortsAt L n) ≤ i) where
+  module _ (good : LayoutOk L) (n q : ℕ) (h : n < length (L .terms)) (i : ℕ) (all : length (sortsAt L n) ≤ i) where
     abbrev B : List ℕ
     B = image (termRecordsAll T q (trees L (kids L n i)))
 
@@ -98,6 +98,6 @@ module _ (L : Layout) (T : List Ty) where
 
     pub term-written : (out : List ℕ) {out₁ out₂ : List ℕ} (at : ℕ) → out₁ ≡ over at B out → out₂ ≡ over (at + length B) (little ((4 + 2 * length fields) ∷ termRow (termKind L n) .number ∷ fields)) out₁ → at + length B + (4 + 2 * length fields) ≤ length out
         → out₂ ≡ over at (image (termRecords T q (treeAt L n))) out
-    term-written out {out₁} {out₂} at e f room =
+    term-written out {out₁} {out₂} at e f capacity =
         onward B (little ((4 + 2 * length fields) ∷ termRow (termKind L n) .number ∷ fields)) out at (at + length B) e f refl (omega (arith, little-length ((4 + 2 * length fields) ∷ termRow (termKind L n) .number ∷ fields)))
         ∙ ap (λ b. over at b out) (sym all-bytes)

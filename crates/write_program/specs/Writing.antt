@@ -21,7 +21,7 @@ abbrev pub behind : List ℕ → ℕ → Done → Done
 behind b e d = record { at = d .at + weight termSize (treeAt (recordsOf b) e); terms = d .terms + terms (treeAt (recordsOf b) e) }
 
 -- An output of n bytes has room for it, and an image for its terms.
-pub record Room (b : List ℕ) (e : ℕ) (d : Done) (n : ℕ) : Type 0 where
+pub record Capacity (b : List ℕ) (e : ℕ) (d : Done) (n : ℕ) : Type 0 where
   pub bytes : behind b e d .at ≤ n
   pub terms : behind b e d .terms ≤ termLimit
 

@@ -24,7 +24,7 @@ ghost use Rattle.read_records.specs.Codes.{kindCodes};
 ghost use Rattle.read_terms.specs.Lent.{Terms, IsTerm};
 ghost use Rattle.write_fields.specs.Classes.{asField};
 ghost use Rattle.image_written.specs.Records.{little};
-ghost use Rattle.write_program.specs.Writing.{behind, Room, Wrote};
+ghost use Rattle.write_program.specs.Writing.{behind, Capacity, Wrote};
 
 // How far the output is written: the next offset, and how many terms stand before it.
 pub struct Done {
@@ -71,7 +71,7 @@ pub fn write_term(
     done: Done,
     e: TermNo,
 ) -> Done
-    requires { ⌜ (now codes ≡ kindCodes) × Terms (now image) (now terms) × IsTerm (now image) (e .0) × (length (recordsOf (now image) .types) ≤ length (now places)) × Room (now image) (e .0) done (length (now out)) ⌝ }
+    requires { ⌜ (now codes ≡ kindCodes) × Terms (now image) (now terms) × IsTerm (now image) (e .0) × (length (recordsOf (now image) .types) ≤ length (now places)) × Capacity (now image) (e .0) done (length (now out)) ⌝ }
     ensures { λ r. ⌜ (r .at ≡ behind (now (image .entry)) (e .0) done .at) × (r .terms ≡ behind (now (image .entry)) (e .0) done .terms) × Wrote (now (image .entry)) (now (places .entry)) (e .0) done (now (out .entry)) (now (out .exit)) ⌝ }
 {
     let fields = term_fields(image, terms, e);

@@ -29,7 +29,7 @@ little-snoc (n ∷ ns) v = ap (λ xs. n % 256 ∷ n / 256 ∷ xs) (little-snoc n
 pub number-step : (ns out₀ out out′ : List ℕ) (at i : ℕ) → i < length ns → at + 2 * (i + 1) ≤ length out₀ → getD ns i 0 < 65536
     → out ≡ over at (little (take i ns)) out₀ → out′ ≡ over (at + 2 * i) (bytes16 (getD ns i 0)) out → out′ ≡ over at (little (take (i + 1) ns)) out₀
 unfolding bytesOf
-number-step ns out₀ out out′ at i l room small e f =
+number-step ns out₀ out out′ at i l capacity small e f =
     let n : length (little (take i ns)) ≡ 2 * i = little-length (take i ns) ∙ omega (arith, length-take-le i ns (omega arith)) in
     let one : take (i + 1) ns ≡ take i ns ++ (getD ns i 0 ∷ []) = rw (add-one i) (take-suc ns i 0 l) in
     let w : little (take i ns) ++ bytes16 (getD ns i 0) ≡ little (take (i + 1) ns) = ap (λ xs. little (take i ns) ++ xs) (one-number (getD ns i 0) small) ∙ sym (little-snoc (take i ns) (getD ns i 0)) ∙ ap (λ xs. little xs) (sym one) in
@@ -38,4 +38,4 @@ number-step ns out₀ out out′ at i l room small e f =
 -- The numbers behind the head of a record.
 pub record-whole : (s k : ℕ) (ns out₀ out out′ : List ℕ) (at : ℕ) → at + (4 + 2 * length ns) ≤ length out₀ → out ≡ over at (little (s ∷ k ∷ [])) out₀ → out′ ≡ over (at + 4) (little ns) out → out′ ≡ over at (little (s ∷ k ∷ ns)) out₀
 unfolding little
-record-whole s k ns out₀ out out′ at room e f = onward (little (s ∷ k ∷ [])) (little ns) out₀ at (at + 4) e f refl (omega (arith, little-length ns))
+record-whole s k ns out₀ out out′ at capacity e f = onward (little (s ∷ k ∷ [])) (little ns) out₀ at (at + 4) e f refl (omega (arith, little-length ns))

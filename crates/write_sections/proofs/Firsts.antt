@@ -13,7 +13,7 @@ use Rattle.image.proofs.Laid.{below-at}
 use Rattle.laws.proofs.Lists.{map-at}
 use Rattle.base_bytes.specs.Bytes.{over}
 use Rattle.base_bytes.proofs.Over.{over-nothing, onward}
-use Rattle.image_written.specs.Parts.{partsOf}
+use Rattle.image_written.specs.TypeParts.{partsOf}
 use Rattle.image_written.specs.Records.{Record, record-of, size, bytes, image}
 use Rattle.image_written.specs.Written.{domainRecord, typeRecord}
 use Rattle.image_written.proofs.Reading.{bytes-length}

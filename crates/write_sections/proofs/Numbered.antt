@@ -18,7 +18,7 @@ use Rattle.laws.proofs.Booleans.{no-path}
 use Rattle.base_bytes.specs.Bytes.{over}
 use Rattle.read_records.specs.Codes.{classNumber}
 use Rattle.read_terms.specs.Lent.{TypeOffsets, IsType}
-use Rattle.image_written.specs.Parts.{partsOf}
+use Rattle.image_written.specs.TypeParts.{partsOf}
 use Rattle.image_written.specs.Table.{place, has, partNo, partNos}
 use Rattle.image_written.specs.Records.{little, bytes}
 use Rattle.image_written.specs.Written.{typeRecord}

@@ -7,7 +7,7 @@ use Rattle.calculus.specs.Syntax.{Ty}
 use Rattle.image.specs.Layout.{recordsOf}
 use Rattle.image.specs.Types.{typeOf}
 use Rattle.base_bytes.specs.Bytes.{over}
-use Rattle.image_written.specs.Parts.{partsOf}
+use Rattle.image_written.specs.TypeParts.{partsOf}
 use Rattle.image_written.specs.Records.{bytes, image}
 use Rattle.image_written.specs.Written.{domainRecord, typeRecord}
 use Rattle.image_written.proofs.Writable.{PartsIn}

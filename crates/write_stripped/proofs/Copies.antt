@@ -23,11 +23,11 @@ use Rattle.image_written.specs.Stripped.{stripped, withoutWatches}
 use Rattle.image_written.proofs.Sizes.{few-terms}
 use Rattle.image_written.proofs.Stripping.{stripped-holds, stripped-short}
 use Rattle.write_image.specs.Fits.{Fits}
-use Rattle.write_idle.specs.Idle.{Idled}
-use Rattle.write_idle.proofs.Copied.{copied, copied-laid}
-use Rattle.write_idle.proofs.Trees.{masks-same, program-stripped}
+use Rattle.write_unit_bodies.specs.UnitBodies.{UnitBodies}
+use Rattle.write_unit_bodies.proofs.Copied.{copied, copied-laid}
+use Rattle.write_unit_bodies.proofs.Trees.{masks-same, program-stripped}
 
-module _ (b : List ℕ) (ok : verdict b workLength reportLength ≡ Verdict.Accepted) (high : Dom → Bool) (c : List ℕ) (I : Idled (recordsOf b) high (length (recordsOf b .terms)) b c) where
+module _ (b : List ℕ) (ok : verdict b workLength reportLength ≡ Verdict.Accepted) (high : Dom → Bool) (c : List ℕ) (I : UnitBodies (recordsOf b) high (length (recordsOf b .terms)) b c) where
   abbrev L : Layout
   L = recordsOf b
 
@@ -40,8 +40,8 @@ module _ (b : List ℕ) (ok : verdict b workLength reportLength ≡ Verdict.Acce
   walked : layout (L .image) ≡ laid L
   walked = ap layout same ∙ a .laid-out
 
-  J : Idled L high (length (L .terms)) (L .image) c
-  J = subst (λ x. Idled L high (length (L .terms)) x c) (sym same) I
+  J : UnitBodies L high (length (L .terms)) (L .image) c
+  J = subst (λ x. UnitBodies L high (length (L .terms)) x c) (sym same) I
 
   abbrev M : Layout
   M = copied L walked high c J
@@ -71,7 +71,7 @@ module _ (b : List ℕ) (ok : verdict b workLength reportLength ≡ Verdict.Acce
       let l = g .few-terms in
       let t : length (recordsOf c .terms) ≡ length (L .terms) = ap (λ K. length (K .terms)) records in
       let p = a .shaped .has-terms in
-      record { has-terms = omega arith; few-terms = omega arith; room = omega arith }
+      record { has-terms = omega arith; few-terms = omega arith; capacity = omega arith }
 
   -- The tables are the copy's too.
   pub copy-domains : (ds : List ℕ) → take (length (L .domains)) ds ≡ L .domains → Domains c ds

@@ -13,7 +13,7 @@ use Rattle.read_terms.specs.Lent.{Masks}
 use Rattle.read_terms.specs.Masks.{bitOf}
 use Rattle.read_terms.proofs.Masks.{order-is}
 use Rattle.laws.proofs.Tests.{any-same}
-use Rattle.write_idle.specs.Idle.{inMask}
+use Rattle.write_unit_bodies.specs.UnitBodies.{inMask}
 use Rattle.write_stripped.specs.Calls.{wrongBy, wrongSet}
 
 -- The table of masks tells the order of the domains.

@@ -15,7 +15,7 @@ use Rattle.verdict.specs.Verdicts.{verdict}
 use Rattle.base_bytes.specs.Bytes.{over}
 use Rattle.image_written.specs.Written.{tooShort}
 use Rattle.image_written.specs.Stripped.{wrongHigh, withoutWatches}
-use Rattle.write_idle.specs.Idle.{inMask}
+use Rattle.write_unit_bodies.specs.UnitBodies.{inMask}
 use Rattle.write_stripped.specs.declared.Stripped.{Stripped}
 
 -- Refusal 23, which `wrongHigh` decides, of a mask: by the order of the domains and how many there are, and by those of an image.

@@ -8,11 +8,11 @@ use image::Refusal;
 use read_records::numbers::Counts;
 use read_terms::domains::set_masks;
 use validator_core::examine::Checked;
-use write_idle::idle_copy;
 use write_image::DOMAIN_LIMIT;
 use write_image::TERM_LIMIT;
 use write_image::TYPE_LIMIT;
 use write_image::write_whole;
+use write_unit_bodies::copy_with_unit_bodies;
 ghost use mathlib.Core.Path.{_≡_};
 ghost use Prim.Native.Nat.{_≤_};
 ghost use lib.ListN.{length};
@@ -25,7 +25,7 @@ ghost use Rattle.read_records.specs.Tables.{Tables, Counted};
 ghost use Rattle.read_terms.specs.Lent.{Domains, TypeOffsets};
 ghost use Rattle.validator_core.specs.Examined.{examined};
 ghost use Rattle.image_written.specs.Stripped.{withoutWatches};
-ghost use Rattle.write_idle.specs.Idle.{inMask};
+ghost use Rattle.write_unit_bodies.specs.UnitBodies.{inMask};
 ghost use Rattle.write_stripped.specs.Calls.{wrongSet, strippedNumber, strippedPlace, strippedBytes, strippedCall};
 
 // So many bytes were written; or why none was.
@@ -67,7 +67,7 @@ fn write_copy(
     requires { ⌜ (length (now image) ≤ imageLimit) × (examined (now image) ≡ Verdict.Accepted) × (now codes ≡ kindCodes) × Tables (now image) (now doms) (now terms) (now descriptors) × Counted (now image) counts × TypeOffsets (now image) (now types) × (length (now copy) ≡ length (now image)) × (length (now image) ≤ length (now out)) ⌝ }
     ensures { λ r. ⌜ (r ≡ length (withoutWatches (inMask mask) (now (image .entry)))) × (now (out .exit) ≡ over 0 (withoutWatches (inMask mask) (now (image .entry))) (now (out .entry))) ⌝ }
 {
-    idle_copy(image, terms, descriptors, counts.terms, mask, copy);
+    copy_with_unit_bodies(image, terms, descriptors, counts.terms, mask, copy);
     write_whole(copy, codes, counts, doms, types, terms, out)
 }
 

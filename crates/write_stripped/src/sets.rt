@@ -4,14 +4,14 @@ use laws::either;
 use read_records::numbers::DomainNo;
 use read_terms::domains::DOMAIN_LIMIT;
 use read_terms::domains::leq;
-use write_idle::in_mask;
+use write_unit_bodies::in_mask;
 ghost use mathlib.Core.Path.{_≡_};
 ghost use mathlib.Core.Bool.{not, _&&_, _||_};
 ghost use lib.Dec.{leb};
 ghost use Rattle.laws.specs.Tests.{anyBelow};
 ghost use Rattle.image.specs.Limits.{domainLimit};
 ghost use Rattle.read_terms.specs.Masks.{bitOf};
-ghost use Rattle.write_idle.specs.Idle.{inMask};
+ghost use Rattle.write_unit_bodies.specs.UnitBodies.{inMask};
 ghost use Rattle.write_stripped.specs.Calls.{wrongBy};
 
 // The mainline's domain.

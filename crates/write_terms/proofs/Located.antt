@@ -13,7 +13,7 @@ use Rattle.image.specs.LaidOut.{Stands, Within}
 use Rattle.image.specs.Records.{kindAt, orElse, fieldsAt, numbersAt}
 use Rattle.image.specs.Layout.{recordsOf}
 use Rattle.image.specs.Types.{termPlace, termKind, typeNo, statedType, children}
-use Rattle.image.proofs.Laid.{Good}
+use Rattle.image.proofs.Laid.{LayoutOk}
 use Rattle.laws.proofs.Booleans.{no-path}
 use Rattle.read_records.specs.Codes.{classNumber, codeAt}
 use Rattle.read_terms.specs.Lent.{Terms, IsTerm}
@@ -23,7 +23,7 @@ use Rattle.write_fields.specs.Classes.{knownCount, Known, isChild, childNo}
 use Rattle.write_fields.proofs.Told.{child-is, no-child}
 use Rattle.write_fields.proofs.Standing.{RecordRead, record-read}
 use Rattle.write_fields.proofs.Standing as Standing
-use Rattle.image_written.specs.Parts.{partsFirst}
+use Rattle.image_written.specs.TypeParts.{partsFirst}
 use Rattle.image_written.specs.Table.{entered, typesIn, typesInAll}
 use Rattle.image_written.proofs.Entering.{entered-append}
 use Rattle.image_written.proofs.Steps.{entered-snoc}
@@ -44,7 +44,7 @@ module _ {b table : List ℕ} (T : Terms b table) {n : ℕ} (h : IsTerm b n) whe
   abbrev o : ℕ
   o = termPlace (recordsOf b) n
 
-  pub good : Good (recordsOf b)
+  pub good : LayoutOk (recordsOf b)
   good = good-of b (T .laid-out)
 
   same : recordsOf b .image ≡ b

@@ -12,12 +12,12 @@ use Rattle.image.specs.Layout.{recordsOf}
 use Rattle.image.specs.Kinds.{free}
 use Rattle.image.specs.Types.{typeFields, typeField, typeOf}
 use Rattle.laws.proofs.Booleans.{no-path, eq-of, of-eq}
-use Rattle.image.proofs.Laid.{Good, Below, layout-good}
+use Rattle.image.proofs.Laid.{LayoutOk, Below, layout-good}
 use Rattle.image.proofs.TypeNumbers.{types-apart}
 use Rattle.read_terms.specs.Lent.{TypeOffsets, IsType}
-use Rattle.image_written.specs.Parts.{partsOf, partsFirst, joined}
+use Rattle.image_written.specs.TypeParts.{partsOf, partsFirst, joined}
 use Rattle.image_written.specs.Table.{place, has, enter, entered}
-use Rattle.image_written.proofs.Parts.{mapParts}
+use Rattle.image_written.proofs.TypeParts.{mapParts}
 use Rattle.image_written.proofs.Places.{has-place, has-more, place-more, place-last, has-last, has-snoc}
 use Rattle.image_written.proofs.Writable.{Bounded, PartsIn, TableFrom, Every}
 use Rattle.image_written.proofs.Entering.{entered-append, enter-one, enter-behind}
@@ -46,7 +46,7 @@ module _ {b : List ℕ} {n : ℕ} {places order : List ℕ} (E : Entries b n pla
   abbrev D : ℕ
   D = length (recordsOf b .domains)
 
-  laid-good : Good (recordsOf b)
+  laid-good : LayoutOk (recordsOf b)
   laid-good = layout-good b (recordsOf b) (E .laid-out)
 
   pub long : length T ≡ n
@@ -104,15 +104,15 @@ module _ {b : List ℕ} {n : ℕ} {places order : List ℕ} (E : Entries b n pla
       table-more : TableFrom D [] (T ++ (of t ∷ []))
       table-more = subst (λ X. TableFrom D [] X) grown (enter-one D T (of t) (E .table) (P .bounded) (P .there) .table)
 
-      pub room : n < length order
-      room =
+      pub capacity : n < length order
+      capacity =
           let f = table-few (recordsOf b) laid-good D (T ++ (of t ∷ [])) table-more (subst (λ X. Every (From (recordsOf b) laid-good) X) (map-snoc (λ u. of u) (take n order) t) (all-from (take n order ++ (t ∷ [])) (below-snoc (length (recordsOf b .types)) (take n order) t (E .numbers) h))) in
           let l = long in
           let o = E .enough-order in
           omega (arith, length-append T (of t ∷ []))
 
       taken : take (n + 1) order′ ≡ take n order ++ (t ∷ [])
-      taken = let z : n + 1 ≡ suc n = omega arith in ap (λ m. take m order′) z ∙ take-suc-set order n t room
+      taken = let z : n + 1 ≡ suc n = omega arith in ap (λ m. take m order′) z ∙ take-suc-set order n t capacity
 
       pub one-more : entriesOf b (n + 1) order′ ≡ T ++ (of t ∷ [])
       one-more = ap (λ xs. map (λ u. of u) xs) taken ∙ map-snoc (λ u. of u) (take n order) t
@@ -142,7 +142,7 @@ module _ {b : List ℕ} {n : ℕ} {places order : List ℕ} (E : Entries b n pla
 
       pub entries-more : Entries b (n + 1) (set places t n) order′
       entries-more =
-          let r = room in
+          let r = capacity in
           record {
             laid-out = E .laid-out;
             enough-places = rw (length-set places t n) (E .enough-places);

@@ -13,7 +13,7 @@ use Rattle.image.specs.Records.{kindAt, orElse, fieldsAt, numbersAt}
 use Rattle.image.specs.LaidOut.{Stands}
 use Rattle.image.specs.Layout.{recordsOf}
 use Rattle.image.specs.Types.{typePlace, typeKind, typeFields, typeField, typeOf}
-use Rattle.image.proofs.Laid.{Good}
+use Rattle.image.proofs.Laid.{LayoutOk}
 use Rattle.read_records.specs.Codes.{classNumber, codeAt}
 use Rattle.read_terms.specs.Lent.{TypeOffsets, IsType}
 use Rattle.read_terms.specs.Methods.{typeFieldsOf}
@@ -22,8 +22,8 @@ use Rattle.read_terms.proofs.TypeRecords.{type-ok}
 use Rattle.write_fields.specs.Classes.{knownCount, Known}
 use Rattle.write_fields.proofs.Standing.{RecordRead, record-read}
 use Rattle.write_fields.proofs.Standing as Standing
-use Rattle.image_written.specs.Parts.{at, partsOf, partsFirst, joined}
-use Rattle.image_written.proofs.Parts.{mapParts}
+use Rattle.image_written.specs.TypeParts.{at, partsOf, partsFirst, joined}
+use Rattle.image_written.proofs.TypeParts.{mapParts}
 use Rattle.image_written.proofs.Taken.{partFrom, partsFrom, sortsOf, sorts, fields-there, type-parts}
 
 -- What the known fields of type t are.
@@ -34,7 +34,7 @@ module _ {b table : List ℕ} (O : TypeOffsets b table) {t : ℕ} (h : IsType b 
   abbrev o : ℕ
   o = typePlace (recordsOf b) t
 
-  pub good : Good (recordsOf b)
+  pub good : LayoutOk (recordsOf b)
   good = good-of b (O .laid-out)
 
   same : recordsOf b .image ≡ b

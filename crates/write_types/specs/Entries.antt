@@ -10,7 +10,7 @@ use Rattle.calculus.specs.Combinators.{choose}
 use Rattle.image.specs.Layout.{laid, layout, recordsOf}
 use Rattle.image.specs.Types.{typeOf}
 use Rattle.image.proofs.Laid.{Below}
-use Rattle.image_written.specs.Parts.{partsOf}
+use Rattle.image_written.specs.TypeParts.{partsOf}
 use Rattle.image_written.specs.Table.{place, has}
 use Rattle.image_written.proofs.Writable.{Bounded, PartsIn, TableFrom}
 

@@ -18,7 +18,7 @@ ghost use Rattle.image.specs.Layout.{recordsOf};
 ghost use Rattle.image.specs.Types.{typeOf};
 ghost use Rattle.read_records.specs.Codes.{kindCodes};
 ghost use Rattle.read_terms.specs.Lent.{TypeOffsets, IsType};
-ghost use Rattle.image_written.specs.Parts.{partsFirst};
+ghost use Rattle.image_written.specs.TypeParts.{partsFirst};
 ghost use Rattle.image_written.specs.Table.{enter, entered};
 ghost use Rattle.write_types.specs.Entries.{noPlace, Entries, entriesOf, PartsThere, keptNumber};
 

@@ -12,7 +12,7 @@ use Rattle.read_records.proofs.Heads.{Whole, whole-of}
 use Rattle.check_fields.specs.Fields.{typeCount, DescriptorFrom}
 use Rattle.check_ranges.specs.Numbers.{numberTests, toldOf}
 use Rattle.check_ranges.specs.Terms.{TermFields}
-use Rattle.check_layout.proofs.Entering.{full, placed, unknown-entry, fault-entry, kind-narrow, fields-narrow, type-held, domain-room, type-room, domain-entry, repeated-entry, type-entry, marks-long, term-fields, term-answer}
+use Rattle.check_layout.proofs.Entering.{full, placed, unknown-entry, fault-entry, kind-narrow, fields-narrow, type-held, domain-capacity, type-capacity, domain-entry, repeated-entry, type-entry, marks-long, term-fields, term-answer}
 use borrow.Author.Needs.{needs}
 use Rattle.check_layout.proofs.enter.Statement.{statement}
 use Rattle.check_layout.proofs.enter.Tie as tie
@@ -20,9 +20,9 @@ use Rattle.check_layout.proofs.enter.Reads as reads
 use Rattle.check_layout.proofs.enter.Lts as lts
 use Rattle.check_fields.proofs.descriptor_of.Reads as descriptor-of-reads
 use Rattle.check_layout.proofs.enter_term.Reads as enter-term-reads
-use Rattle.check_layout.proofs.places.put_domain.Reads as put-domain-reads
-use Rattle.check_layout.proofs.places.put_type.Reads as put-type-reads
-use Rattle.check_ranges.proofs.tests.first_fault.Reads as first-fault-reads
+use Rattle.check_layout.proofs.tables.put_domain.Reads as put-domain-reads
+use Rattle.check_layout.proofs.tables.put_type.Reads as put-type-reads
+use Rattle.check_ranges.proofs.faults.first_fault.Reads as first-fault-reads
 use Rattle.read_records.proofs.table.code_of.Reads as code-of-reads
 use Rattle.read_records.proofs.table.is_term.Reads as is-term-reads
 use Rattle.read_records.proofs.table.section_of.Reads as section-of-reads
@@ -203,7 +203,7 @@ put-type-requires c κs =
     let s = start x in
     let W = whole s in
     let h = s .pre .is .short in
-    let r = type-room (s .pre .is) (known x) (passes t) (typed k) in
+    let r = type-capacity (s .pre .is) (known x) (passes t) (typed k) in
     let d = s .pre .is .tables .long .types in
     let l = s .pre .is .tables .long .descriptors in
     let e = n .next-type .ensures in
@@ -267,7 +267,7 @@ put-domain-requires c κs =
     let s = start x in
     let W = whole s in
     let h = s .pre .is .short in
-    let r = domain-room (s .pre .is) (known x) (passes t) (no-term e2) (λ e. i .if3 .left (section (i .before) ∙ e)) in
+    let r = domain-capacity (s .pre .is) (known x) (passes t) (no-term e2) (λ e. i .if3 .left (section (i .before) ∙ e)) in
     let d = s .pre .is .tables .long .doms in
     let e = n .next-domain .ensures in
     (omega arith, omega arith)

@@ -3,7 +3,7 @@ use Prim.Native.Nat.{_<_}
 use native.Mathlib.Omega.{arith}
 use denote.Ref.{now}
 use Rattle.image.specs.Limits.{termLimit}
-use Rattle.check_layout.proofs.Marked.{term-refused, term-passed, passed-room}
+use Rattle.check_layout.proofs.Marked.{term-refused, term-passed, passed-capacity}
 use borrow.Author.Needs.{needs}
 use Rattle.check_layout.proofs.enter_term.Statement.{statement}
 use Rattle.check_layout.proofs.enter_term.Tie as tie
@@ -27,7 +27,7 @@ put-term-requires c κs =
     let f = t .before .before .before .before in
     let s = f .before .before .before .before .before in
     let p = s .pre in
-    let r : s .args .counts .terms < termLimit = passed-room (now (s .args .fields)) (s .args .code) (s .args .counts) (f .term-fault .result) (f .term-fault .ensures .0) (t .enum-told .given .1) (p .0 .term) in
+    let r : s .args .counts .terms < termLimit = passed-capacity (now (s .args .fields)) (s .args .code) (s .args .counts) (f .term-fault .result) (f .term-fault .ensures .0) (t .enum-told .given .1) (p .0 .term) in
     let l = p .4 in
     (p .2, omega (arith, n .next-term .ensures))
 

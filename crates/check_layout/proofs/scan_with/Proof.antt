@@ -302,17 +302,17 @@ module _ {M : Type 1} (𝓤 : URA M) (H : Heap 𝓤) (A : Atoms 𝓤) (W : Given
         -- [what is held; what the fields own; the locals]
         assigns ! (of-opd ! (load ! (from ! (fld ! refl (stop !))) (look-in ! (slot 2 9) (sub ! 1 refl (whole !))))) (from ! (stop !)) (init ! (slot 2 21) refl (tt, record { fits = offset-fits st })) $
         assigns ! (addr ! (from ! (fld ! refl (hop ! (look-in ! (slot 2 3) (sub ! 0 refl (whole !))) (stop !))))) (from ! (stop !)) (init ! (slot 2 22) refl (tt, tt)) $
-        assigns ! (agg ! (and-then ! (load ! (from ! (stop !)) (look ! (slot 2 22) refl)) (and-then ! (load ! (from ! (fld ! refl (stop !))) (look-in ! (slot 2 3) (sub ! 1 refl (whole !)))) (no-more !)))) (from ! (stop !)) (init ! (slot 2 23) refl (tt, (tt, (record { fits = P .room-doms .0 }, tt)))) $
+        assigns ! (agg ! (and-then ! (load ! (from ! (stop !)) (look ! (slot 2 22) refl)) (and-then ! (load ! (from ! (fld ! refl (stop !))) (look-in ! (slot 2 3) (sub ! 1 refl (whole !)))) (no-more !)))) (from ! (stop !)) (init ! (slot 2 23) refl (tt, (tt, (record { fits = P .capacity-doms .0 }, tt)))) $
         assigns ! (addr ! (from ! (fld ! refl (hop ! (look-in ! (slot 2 4) (sub ! 0 refl (whole !))) (stop !))))) (from ! (stop !)) (init ! (slot 2 24) refl (tt, tt)) $
-        assigns ! (agg ! (and-then ! (load ! (from ! (stop !)) (look ! (slot 2 24) refl)) (and-then ! (load ! (from ! (fld ! refl (stop !))) (look-in ! (slot 2 4) (sub ! 1 refl (whole !)))) (no-more !)))) (from ! (stop !)) (init ! (slot 2 25) refl (tt, (tt, (record { fits = P .room-types .0 }, tt)))) $
+        assigns ! (agg ! (and-then ! (load ! (from ! (stop !)) (look ! (slot 2 24) refl)) (and-then ! (load ! (from ! (fld ! refl (stop !))) (look-in ! (slot 2 4) (sub ! 1 refl (whole !)))) (no-more !)))) (from ! (stop !)) (init ! (slot 2 25) refl (tt, (tt, (record { fits = P .capacity-types .0 }, tt)))) $
         assigns ! (addr ! (from ! (fld ! refl (hop ! (look-in ! (slot 2 5) (sub ! 0 refl (whole !))) (stop !))))) (from ! (stop !)) (init ! (slot 2 26) refl (tt, tt)) $
-        assigns ! (agg ! (and-then ! (load ! (from ! (stop !)) (look ! (slot 2 26) refl)) (and-then ! (load ! (from ! (fld ! refl (stop !))) (look-in ! (slot 2 5) (sub ! 1 refl (whole !)))) (no-more !)))) (from ! (stop !)) (init ! (slot 2 27) refl (tt, (tt, (record { fits = P .room-descriptors .0 }, tt)))) $
+        assigns ! (agg ! (and-then ! (load ! (from ! (stop !)) (look ! (slot 2 26) refl)) (and-then ! (load ! (from ! (fld ! refl (stop !))) (look-in ! (slot 2 5) (sub ! 1 refl (whole !)))) (no-more !)))) (from ! (stop !)) (init ! (slot 2 27) refl (tt, (tt, (record { fits = P .capacity-descriptors .0 }, tt)))) $
         assigns ! (addr ! (from ! (fld ! refl (hop ! (look-in ! (slot 2 6) (sub ! 0 refl (whole !))) (stop !))))) (from ! (stop !)) (init ! (slot 2 28) refl (tt, tt)) $
-        assigns ! (agg ! (and-then ! (load ! (from ! (stop !)) (look ! (slot 2 28) refl)) (and-then ! (load ! (from ! (fld ! refl (stop !))) (look-in ! (slot 2 6) (sub ! 1 refl (whole !)))) (no-more !)))) (from ! (stop !)) (init ! (slot 2 29) refl (tt, (tt, (record { fits = P .room-filter .0 }, tt)))) $
+        assigns ! (agg ! (and-then ! (load ! (from ! (stop !)) (look ! (slot 2 28) refl)) (and-then ! (load ! (from ! (fld ! refl (stop !))) (look-in ! (slot 2 6) (sub ! 1 refl (whole !)))) (no-more !)))) (from ! (stop !)) (init ! (slot 2 29) refl (tt, (tt, (record { fits = P .capacity-filter .0 }, tt)))) $
         assigns ! (addr ! (from ! (fld ! refl (hop ! (look-in ! (slot 2 7) (sub ! 0 refl (whole !))) (stop !))))) (from ! (stop !)) (init ! (slot 2 30) refl (tt, tt)) $
-        assigns ! (agg ! (and-then ! (load ! (from ! (stop !)) (look ! (slot 2 30) refl)) (and-then ! (load ! (from ! (fld ! refl (stop !))) (look-in ! (slot 2 7) (sub ! 1 refl (whole !)))) (no-more !)))) (from ! (stop !)) (init ! (slot 2 31) refl (tt, (tt, (record { fits = P .room-terms .0 }, tt)))) $
+        assigns ! (agg ! (and-then ! (load ! (from ! (stop !)) (look ! (slot 2 30) refl)) (and-then ! (load ! (from ! (fld ! refl (stop !))) (look-in ! (slot 2 7) (sub ! 1 refl (whole !)))) (no-more !)))) (from ! (stop !)) (init ! (slot 2 31) refl (tt, (tt, (record { fits = P .capacity-terms .0 }, tt)))) $
         assigns ! (addr ! (from ! (fld ! refl (hop ! (look-in ! (slot 2 8) (sub ! 0 refl (whole !))) (stop !))))) (from ! (stop !)) (init ! (slot 2 32) refl (tt, tt)) $
-        assigns ! (agg ! (and-then ! (load ! (from ! (stop !)) (look ! (slot 2 32) refl)) (and-then ! (load ! (from ! (fld ! refl (stop !))) (look-in ! (slot 2 8) (sub ! 1 refl (whole !)))) (no-more !)))) (from ! (stop !)) (init ! (slot 2 33) refl (tt, (tt, (record { fits = P .room-marks .0 }, tt)))) $
+        assigns ! (agg ! (and-then ! (load ! (from ! (stop !)) (look ! (slot 2 32) refl)) (and-then ! (load ! (from ! (fld ! refl (stop !))) (look-in ! (slot 2 8) (sub ! 1 refl (whole !)))) (no-more !)))) (from ! (stop !)) (init ! (slot 2 33) refl (tt, (tt, (record { fits = P .capacity-marks .0 }, tt)))) $
         move ! (1 ∷ 0 ∷ []) $ use2 W (later (some (λ (N : Loans). raw (Enter 𝓤 H A mem run .pre (to-enter 𝓤 H A W mem run P (st .at) kind (offset-fits st) kind-fits (st .counts) (st .fits) fs u (st .lists) (st .same) N)) ⊛ ‵ (Kept P N (st .lists))))) (goes-enter 𝓤 H A W mem run P (st .at) kind (offset-fits st) kind-fits (st .counts) (st .fits) fs u (st .lists) (st .same) (record { len = len; is = enterable st len kind head fs e })) $ await ! tt $ pick ! (λ N. split ! $
         calls-at ! fm (Enter 𝓤 H A mem run) known-enter (to-enter 𝓤 H A W mem run P (st .at) kind (offset-fits st) kind-fits (st .counts) (st .fits) fs u (st .lists) (st .same) N) (and-then ! (load ! (from ! (stop !)) (look ! (slot 2 1) refl)) (and-then ! (load ! (from ! (stop !)) (look ! (slot 2 14) refl)) (and-then ! (load ! (from ! (stop !)) (look ! (slot 2 2) refl)) (and-then ! (load ! (from ! (stop !)) (look ! (slot 2 21) refl)) (and-then ! (load ! (from ! (stop !)) (look ! (slot 2 13) refl)) (and-then ! (load ! (from ! (stop !)) (look ! (slot 2 10) refl)) (and-then ! (load ! (from ! (stop !)) (look ! (slot 2 23) refl)) (and-then ! (load ! (from ! (stop !)) (look ! (slot 2 25) refl)) (and-then ! (load ! (from ! (stop !)) (look ! (slot 2 27) refl)) (and-then ! (load ! (from ! (stop !)) (look ! (slot 2 29) refl)) (and-then ! (load ! (from ! (stop !)) (look ! (slot 2 31) refl)) (and-then ! (load ! (from ! (stop !)) (look ! (slot 2 33) refl)) (no-more !))))))))))))) (λ u′.
         use2 W (later (some (λ (r : Entry). some (λ (L : Lists). given (Left 𝓤 H A W mem run P (st .at) kind (offset-fits st) kind-fits (st .counts) (st .fits) fs u (st .lists) (st .same) r L × Same P L) (‵ (En.the-row .own r (u′ ∷ [])) ⊛ ‵ (Held P L)))))) (comes-enter 𝓤 H A W mem run P (st .at) kind (offset-fits st) kind-fits (st .counts) (st .fits) fs u (st .lists) (st .same) N u′) $ await ! tt $ pick ! (λ r. pick ! (λ L. learn ! (λ left. split ! $
@@ -353,7 +353,7 @@ module _ {M : Type 1} (𝓤 : URA M) (H : Heap 𝓤) (A : Atoms 𝓤) (W : Given
       qed W (raw (onEntry 𝓤 H A scan.signature (P .κs) (P .qs) (args 𝓤 H A W mem run P) (vals 𝓤 H A W mem run P)) ∷ []) ∵ enter ! C Λ code.function (v-image P ∷ v-kinds P ∷ v-doms P ∷ v-types P ∷ v-descriptors P ∷ v-filter P ∷ v-terms P ∷ v-marks P ∷ []) _ $
       alloc1 ! (λ l0. alloc1 ! (λ l1. alloc1 ! (λ l2. alloc1 ! (λ l3. alloc1 ! (λ l4. alloc1 ! (λ l5. alloc1 ! (λ l6. alloc1 ! (λ l7. alloc1 ! (λ l8. alloc1 ! (λ l9. alloc1 ! (λ l10. alloc1 ! (λ l11. alloc1 ! (λ l12. alloc1 ! (λ l13. alloc1 ! (λ l14. alloc1 ! (λ l15. alloc1 ! (λ l16. alloc1 ! (λ l17. alloc1 ! (λ l18. alloc1 ! (λ l19. alloc1 ! (λ l20. alloc1 ! (λ l21. alloc1 ! (λ l22. alloc1 ! (λ l23. alloc1 ! (λ l24. alloc1 ! (λ l25. alloc1 ! (λ l26. alloc1 ! (λ l27. alloc1 ! (λ l28. alloc1 ! (λ l29. alloc1 ! (λ l30. alloc1 ! (λ l31. alloc1 ! (λ l32. alloc1 ! (λ l33. alloc1 ! (λ l34. alloc1 ! (λ l35. alloc1 ! (λ l36. alloc0 ! $ params1 ! $
       pass1 ! (init ! 70 refl (shr-slice-lawful 𝓤 H A W (named 0) (κ0 P) u8 .typed (P .image) _ is-s .0)) $ pass1 ! (init ! 68 refl (shr-slice-lawful 𝓤 H A W (named 1) (κ1 P) u32 .typed (P .kinds) _ is-c .0)) $
-      pass1 ! (init ! 66 refl (tt, (tt, (record { fits = P .room-doms .0 }, tt)))) $ pass1 ! (init ! 64 refl (tt, (tt, (record { fits = P .room-types .0 }, tt)))) $ pass1 ! (init ! 62 refl (tt, (tt, (record { fits = P .room-descriptors .0 }, tt)))) $ pass1 ! (init ! 60 refl (tt, (tt, (record { fits = P .room-filter .0 }, tt)))) $ pass1 ! (init ! 58 refl (tt, (tt, (record { fits = P .room-terms .0 }, tt)))) $ pass1 ! (init ! 56 refl (tt, (tt, (record { fits = P .room-marks .0 }, tt)))) $ pass0 ! $
+      pass1 ! (init ! 66 refl (tt, (tt, (record { fits = P .capacity-doms .0 }, tt)))) $ pass1 ! (init ! 64 refl (tt, (tt, (record { fits = P .capacity-types .0 }, tt)))) $ pass1 ! (init ! 62 refl (tt, (tt, (record { fits = P .capacity-descriptors .0 }, tt)))) $ pass1 ! (init ! 60 refl (tt, (tt, (record { fits = P .capacity-filter .0 }, tt)))) $ pass1 ! (init ! 58 refl (tt, (tt, (record { fits = P .capacity-terms .0 }, tt)))) $ pass1 ! (init ! 56 refl (tt, (tt, (record { fits = P .capacity-marks .0 }, tt)))) $ pass0 ! $
       keep ! (74 ∷ 72 ∷ 73 ∷ 70 ∷ 71 ∷ 68 ∷ 69 ∷ 66 ∷ 67 ∷ 64 ∷ 65 ∷ 62 ∷ 63 ∷ 60 ∷ 61 ∷ 58 ∷ 59 ∷ 56 ∷ 57 ∷ 54 ∷ 55 ∷ 52 ∷ 53 ∷ 50 ∷ 51 ∷ 48 ∷ 49 ∷ 46 ∷ 47 ∷ 44 ∷ 45 ∷ 42 ∷ 43 ∷ 40 ∷ 41 ∷ 38 ∷ 39 ∷ 36 ∷ 37 ∷ 34 ∷ 35 ∷ 32 ∷ 33 ∷ 30 ∷ 31 ∷ 28 ∷ 29 ∷ 26 ∷ 27 ∷ 24 ∷ 25 ∷ 22 ∷ 23 ∷ 20 ∷ 21 ∷ 18 ∷ 19 ∷ 16 ∷ 17 ∷ 14 ∷ 15 ∷ 12 ∷ 13 ∷ 10 ∷ 11 ∷ 8 ∷ 9 ∷ 6 ∷ 7 ∷ 4 ∷ 5 ∷ 2 ∷ 3 ∷ 0 ∷ 1 ∷ []) $ use1 W (‵ (Held P (first-lists P))) (starts 𝓤 H A W mem run P) $
       use1 W (raw (New 𝓤 H A mem run .pre (to-new 𝓤 H A W mem run P)) ⊛ ‵ (Others P (first-lists P))) (goes-new 𝓤 H A W mem run P (first-lists P)) $ split ! $
       calls-at ! fm (New 𝓤 H A mem run) known-new (to-new 𝓤 H A W mem run P) (and-then ! (load ! (from ! (stop !)) (look ! (slot 2 1) refl)) (and-then ! (lit ! tt) (no-more !))) (λ u.
@@ -389,7 +389,7 @@ module _ {M : Type 1} (𝓤 : URA M) (H : Heap 𝓤) (A : Atoms 𝓤) (W : Given
       (λ κs. (slice-vals, (slice-vals, (slice-vals, (slice-vals, (slice-vals, (slice-vals, (slice-vals, (slice-vals, tt)))))))))
       (λ κs. (shr-slice-tells (named 0) (κs .0) u8, (shr-slice-tells (named 1) (κs .1 .0) u32, (mut-slice-tells (named 2) (κs .1 .1 .0) u16, (mut-slice-tells (named 3) (κs .1 .1 .1 .0) u16, (mut-slice-tells (named 4) (κs .1 .1 .1 .1 .0) u32, (mut-slice-tells (named 5) (κs .1 .1 .1 .1 .1 .0) bool, (mut-slice-tells (named 6) (κs .1 .1 .1 .1 .1 .1 .0) u16, (mut-slice-tells (named 7) (κs .1 .1 .1 .1 .1 .1 .1 .0) u8, tt)))))))))
       (λ κs qs bounds a g are. needs 𝓤 (Lent (now (a .0)) (now (a .1 .0)) (now (a .1 .1 .0)) (now (a .1 .1 .1 .0)) (now (a .1 .1 .1 .1 .0)) (now (a .1 .1 .1 .1 .1 .1 .0)) × (remainders ≤ length (now (a .1 .1 .1 .1 .1 .0))) × (now (a .1 .1 .1 .1 .1 .1 .1 .0) ≡ replicate termLimit 0)) _ (λ pre. walk 𝓤 H A W mem run
-      (record { κs = κs; qs = qs; image = a .0; kinds = a .1 .0; doms = a .1 .1 .0; types = a .1 .1 .1 .0; descriptors = a .1 .1 .1 .1 .0; filter = a .1 .1 .1 .1 .1 .0; terms = a .1 .1 .1 .1 .1 .1 .0; marks = a .1 .1 .1 .1 .1 .1 .1 .0; room-doms = are .1 .1 .0 .0 .1; room-types = are .1 .1 .1 .0 .0 .1; room-descriptors = are .1 .1 .1 .1 .0 .0 .1; room-filter = are .1 .1 .1 .1 .1 .0 .0 .1; room-terms = are .1 .1 .1 .1 .1 .1 .0 .0 .1; room-marks = are .1 .1 .1 .1 .1 .1 .1 .0 .0 .1 })
+      (record { κs = κs; qs = qs; image = a .0; kinds = a .1 .0; doms = a .1 .1 .0; types = a .1 .1 .1 .0; descriptors = a .1 .1 .1 .1 .0; filter = a .1 .1 .1 .1 .1 .0; terms = a .1 .1 .1 .1 .1 .1 .0; marks = a .1 .1 .1 .1 .1 .1 .1 .0; capacity-doms = are .1 .1 .0 .0 .1; capacity-types = are .1 .1 .1 .0 .0 .1; capacity-descriptors = are .1 .1 .1 .1 .0 .0 .1; capacity-filter = are .1 .1 .1 .1 .1 .0 .0 .1; capacity-terms = are .1 .1 .1 .1 .1 .1 .0 .0 .1; capacity-marks = are .1 .1 .1 .1 .1 .1 .1 .0 .0 .1 })
       (pre .0) 𝓣 known-new known-none known-next known-fields known-past known-enter (pre .1) (pre .2) (are .0) (are .1 .0)))
 
   scan-meets : Meets 𝓤 H A scan.signature (WpFn 𝓤 H (𝓣 .C) (𝓣 .Λ) code.function) (scan.spec 𝓤 H A mem run)

@@ -11,7 +11,7 @@ use Rattle.verdict.specs.Check.{checked}
 use Rattle.check_rules.specs.Scopes.{settingIn}
 use Rattle.read_terms.proofs.Located.{good-of}
 use Rattle.check_typing.proofs.Root.{root-checked}
-use Rattle.check_typing.proofs.ScopeRoom.{root-room}
+use Rattle.check_typing.proofs.ScopeCapacity.{root-capacity}
 
 sub-t10 : tie.Need-sub-t10
 sub-t10 c = search needs
@@ -28,7 +28,7 @@ check-term-requires c κs =
     let s = c .before .before in
     let e = s .pre .1 in
     let z = s .pre .2 in
-    (s .pre .0, omega arith, s .pre .3, root-room (s .pre .0 .terms) _ (s .args .count) (s .pre .4) e refl, s .pre .5)
+    (s .pre .0, omega arith, s .pre .3, root-capacity (s .pre .0 .terms) _ (s .args .count) (s .pre .4) e refl, s .pre .5)
 
 verdict-of-requires : tie.Need-verdict-of-requires
 verdict-of-requires c κs =

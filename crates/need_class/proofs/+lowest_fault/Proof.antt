@@ -11,7 +11,7 @@ use Rattle.image.specs.Records.{Layout}
 use Rattle.image.specs.Layout.{recordsOf}
 use Rattle.image.specs.Types.{termKind, children}
 use Rattle.read_terms.proofs.Located.{good-of, number-is}
-use Rattle.need_terms.specs.Parts.{HasFields}
+use Rattle.need_terms.specs.GivenToChildren.{HasFields}
 use Rattle.need_terms.proofs.Described.{kind-of, part-of, count-of, has-of, child-is, child-below}
 use Rattle.need_class.specs.First.{firstChild}
 use Rattle.need_class.proofs.Lowest.{first-there, leastTo, least-start, least-turn, least-whole}

@@ -6,7 +6,7 @@ use denote.Ref.{now}
 use lib.ListN.{length}
 use Rattle.image.specs.Kinds.{TermKind}
 use Rattle.read_terms.specs.Fields.{childrenIn}
-use Rattle.need_terms.specs.Parts.{withOne}
+use Rattle.need_terms.specs.GivenToChildren.{withOne}
 use Rattle.need_terms.proofs.Described.{match-variables, no-variables, part-kind}
 use Rattle.need_terms.proofs.branch_variables.Statement.{statement}
 use Rattle.need_terms.proofs.branch_variables.Tie as tie

@@ -14,8 +14,8 @@ use Rattle.read_terms.proofs.Located.{good-of, number-is}
 use Rattle.need_sums.specs.Sums.{cutNeeds}
 use Rattle.need_sums.specs.Walks.{shapeOf, roleAt, ownNeeds}
 use Rattle.need_sums.specs.declared.shapes.Own.{Own}
-use Rattle.need_sums.specs.declared.places.Position.{Position}
-use Rattle.need_terms.specs.Parts.{branchVariables, HasFields}
+use Rattle.need_sums.specs.declared.positions.Position.{Position}
+use Rattle.need_terms.specs.GivenToChildren.{branchVariables, HasFields}
 use Rattle.need_terms.proofs.Described.{match-three, kind-of, part-of, count-of, has-of, child-is, child-below, variables-in, type-there, domain-in}
 use Rattle.need_walk.proofs.Walked.{skip-none, own-cut, domain-at, sumTo, choiceTo, leaf-none, sum-start, choice-start, sum-turn, choice-turn, few-children, all-through}
 use Rattle.verdict.specs.Acceptable.{IsChild}
@@ -31,7 +31,7 @@ use Rattle.read_terms.proofs.terms.term_fields.Reads as term-fields-reads
 use Rattle.need_own.proofs.own.added.Reads as added-reads
 use Rattle.need_own.proofs.own.chosen.Reads as chosen-reads
 use Rattle.need_own.proofs.own.own_needs.Reads as own-needs-reads
-use Rattle.need_sums.proofs.places.child_position.Reads as child-position-reads
+use Rattle.need_sums.proofs.positions.child_position.Reads as child-position-reads
 use Rattle.need_own.proofs.rows.at_mark.Reads as at-mark-reads
 use Rattle.need_sums.proofs.shapes.role_at.Reads as role-at-reads
 use Rattle.need_sums.proofs.sums.add.Reads as add-reads

@@ -1,6 +1,6 @@
 -- No room in the log; or the record is written.
 use denote.Ref.{now}
-use Rattle.vm_prints.proofs.Printed.{no-room, printed}
+use Rattle.vm_prints.proofs.Printed.{no-capacity, printed}
 use borrow.Author.Needs.{needs}
 use Rattle.vm_prints.proofs.reduce_print.Statement.{statement}
 use Rattle.vm_prints.proofs.reduce_print.Tie as tie
@@ -12,7 +12,7 @@ halt-requires : tie.Need-halt-requires
 halt-requires c κs = search needs
 
 returns : tie.Need-returns
-returns c = let a = c .before .before .before .before .args in no-room (now (a .work)) (now (a .work)) (now (a .log)) (now (a .log)) (a .r) _ (a .w) (a .x) (c .before .if1 .taken) (c .halt .ensures)
+returns c = let a = c .before .before .before .before .args in no-capacity (now (a .work)) (now (a .work)) (now (a .log)) (now (a .log)) (a .r) _ (a .w) (a .x) (c .before .if1 .taken) (c .halt .ensures)
 
 domain-of-requires : tie.Need-domain-of-requires
 domain-of-requires c κs = search needs

@@ -1,7 +1,7 @@
 -- `write_fixed::write_checked` meets its contract.
 use borrow.Author.Needs.{needs}
 use denote.Ref.{now}
-use Rattle.write_fixed.proofs.Gate.{accepted-fits, short-left, written-left}
+use Rattle.write_fixed.proofs.Acceptance.{accepted-fits, short-left, written-left}
 use Rattle.write_fixed.proofs.write_checked.Statement.{statement}
 use Rattle.write_fixed.proofs.write_checked.Tie as tie
 

@@ -3,7 +3,7 @@ use borrow.Author.Needs.{needs}
 use mathlib.Core.Path.{sym, ap, _∙_}
 use denote.Ref.{now}
 use Rattle.validator_core.specs.Examined.{verdictOf}
-use Rattle.write_fixed.proofs.Gate.{too-long-left, examined-left}
+use Rattle.write_fixed.proofs.Acceptance.{too-long-left, examined-left}
 use Rattle.write_fixed.proofs.write_fixed.Statement.{statement}
 use Rattle.write_fixed.proofs.write_fixed.Tie as tie
 

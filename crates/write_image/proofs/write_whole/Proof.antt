@@ -56,7 +56,7 @@ keep-domains-requires c κs =
     let A = s .pre .3 .laid-out in
     let m = s .pre .5 .has-terms in
     let k = s .pre .4 .terms in
-    (s .pre .1, s .pre .4 .domains, domains-fit b A m (length (now (s .args .out))) (s .pre .5 .room))
+    (s .pre .1, s .pre .4 .domains, domains-fit b A m (length (now (s .args .out))) (s .pre .5 .capacity))
 
 slice-aggregate-write-types : tie.Need-slice-aggregate-write-types
 slice-aggregate-write-types c = search needs
@@ -81,7 +81,7 @@ write-types-requires c κs =
     let d = w .ensures .0 in
     let o = w .kept .1 .1 .1 .0 in
     let l = ap (λ X. length (typeBytes X)) E in
-    let t = types-fit b A m (length (now (s .args .out))) (s .pre .5 .room) in
+    let t = types-fit b A m (length (now (s .args .out))) (s .pre .5 .capacity) in
     (s .pre .0, s .pre .2, N .ensures .0, omega arith)
 
 slice-aggregate-write-term : tie.Need-slice-aggregate-write-term
@@ -107,7 +107,7 @@ write-term-requires c κs =
     let l = ap (λ X. length (typeBytes X)) E in
     let e = v .ensures .0 in
     let o = v .kept .1 .1 .1 .1 .1 .1 .0 ∙ w .kept .1 .1 .1 .0 in
-    let R = terms-fit b A m (length (now (s .args .out))) (s .pre .5 .room) (s .pre .5 .few-terms) (record { at = v .result; terms = 0 }) (omega arith) refl in
+    let R = terms-fit b A m (length (now (s .args .out))) (s .pre .5 .capacity) (s .pre .5 .few-terms) (record { at = v .result; terms = 0 }) (omega arith) refl in
     (s .pre .0, s .pre .3, omega arith, N .ensures .0 .enough-places, rw (r, o) R)
 
 same-length : tie.Need-same-length
@@ -136,7 +136,7 @@ returns c =
     let g = v .ensures .1 ∙ ap (λ q. over q (typeBytes (entriesOf b (N .result) (N .last .1 .1 .1 .1 .1 .0))) (w .last .1 .1 .1 .0)) d ∙ ap (λ X. over (length (domainBytes (masks (recordsOf b)))) (typeBytes X) (w .last .1 .1 .1 .0)) E in
     let P = subst (λ X. Placed b (N .last .1 .1 .1 .1 .0) X) E (entries-placed (N .ensures .0)) in
     let W = subst (λ j. Wrote b (N .last .1 .1 .1 .1 .0) j (record { at = v .result; terms = 0 }) (v .last .1 .1 .1 .1 .1 .1 .0) (u .last .1 .1 .1 .1 .0)) r (u .ensures .2) in
-    let z = whole b A m (now (s .args .out)) (record { at = v .result; terms = 0 }) (s .pre .5 .room) P (omega arith) refl (w .ensures .1) g W in
+    let z = whole b A m (now (s .args .out)) (record { at = v .result; terms = 0 }) (s .pre .5 .capacity) P (omega arith) refl (w .ensures .1) g W in
     (u .ensures .0 ∙ ap (λ j. v .result + weight termSize (treeAt (recordsOf b) j)) r ∙ z .0, z .1)
 
 pub write-whole-spec : {M : Type 1} → statement M

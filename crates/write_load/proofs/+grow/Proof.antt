@@ -8,7 +8,7 @@ use Rattle.image_written.specs.Generated.{next, drawn, sum, traced, both, grow}
 use Rattle.write_load.specs.Growing.{numberFollows}
 use Rattle.write_load.proofs.Draws.{number-follows, sum-follows, trace-follows, no-number, deep}
 use Rattle.write_load.proofs.Growing.{same-grew, sum-grew, trace-grew}
-use Rattle.write_load.proofs.Rooms.{room-number, room-first, room-inner, room-second, room-sum, some-first, room-both, room-print, room-behind, some-print, room-sequence, room-trace}
+use Rattle.write_load.proofs.Capacities.{capacity-number, capacity-first, capacity-inner, capacity-second, capacity-sum, some-first, capacity-both, capacity-print, capacity-behind, some-print, capacity-sequence, capacity-trace}
 use Rattle.write_load.proofs.grow.Reads as reads
 use Rattle.write_load.proofs.+grow.Lts-grow as lts
 use Rattle.write_load.proofs.+grow.Proof.Cycle.{μ-grow, grow-at, claims}
@@ -37,7 +37,7 @@ module _ (t : ℕ) where
   choice-is k = ap (λ q. drawn q % 4) (sym (k .before .before .draw .ensures))
 
   put-number-requires : lts.Need-put-number-requires (claims t) (grow-at t) reads.Post
-  put-number-requires c κs = room-number (c .before .before .before .pre .1)
+  put-number-requires c κs = capacity-number (c .before .before .before .pre .1)
 
   same-length : lts.Need-same-length (claims t) (grow-at t) reads.Post
   same-length c = search needs
@@ -55,7 +55,7 @@ module _ (t : ℕ) where
   is-number-requires c κs = search needs
 
   put-number-requires-2 : lts.Need-put-number-requires-2 (claims t) (grow-at t) reads.Post
-  put-number-requires-2 c κs = room-number (c .before .before .before .before .before .before .pre .1)
+  put-number-requires-2 c κs = capacity-number (c .before .before .before .before .before .before .pre .1)
 
   same-length-2 : lts.Need-same-length-2 (claims t) (grow-at t) reads.Post
   same-length-2 c = search needs
@@ -77,13 +77,13 @@ module _ (t : ℕ) where
       let k = c .before .before in
       let h = deep (choice-of k) (depth-of k) (c .before .if3 .taken) (no-number-drawn k) in
       let m = k .before .before .before .before .before .pre .0 in
-      (omega arith, room-inner (k .before .before .before .before .before .pre .1) refl refl h)
+      (omega arith, capacity-inner (k .before .before .before .before .before .pre .1) refl refl h)
 
   put-print-requires : lts.Need-put-print-requires (claims t) (grow-at t) reads.Post
   put-print-requires c κs =
       let k = c .before .before .before .before .before .before in
       let h = deep (choice-of k) (depth-of k) (c .before .before .before .before .before .if3 .taken) (no-number-drawn k) in
-      room-print (k .before .before .before .before .before .pre .1) refl refl h (c .before .before .before .grow .ensures)
+      capacity-print (k .before .before .before .before .before .pre .1) refl refl h (c .before .before .before .grow .ensures)
 
   sub-grow-2 : lts.Need-sub-grow-2 (claims t) (grow-at t) reads.Post
   sub-grow-2 c = search needs
@@ -93,7 +93,7 @@ module _ (t : ℕ) where
       let k = c .before .before .before .before .before .before .before .before .before .before in
       let h = deep (choice-of k) (depth-of k) (c .before .before .before .before .before .before .before .before .before .if3 .taken) (no-number-drawn k) in
       let m = k .before .before .before .before .before .pre .0 in
-      (omega arith, room-behind (k .before .before .before .before .before .pre .1) refl refl h (c .before .before .before .before .before .before .before .grow .ensures) (c .before .before .before .put-print .ensures) (c .before .before .before .put-print .kept .0))
+      (omega arith, capacity-behind (k .before .before .before .before .before .pre .1) refl refl h (c .before .before .before .before .before .before .before .grow .ensures) (c .before .before .before .put-print .ensures) (c .before .before .before .put-print .kept .0))
 
   last-term-requires : lts.Need-last-term-requires (claims t) (grow-at t) reads.Post
   last-term-requires c κs =
@@ -105,7 +105,7 @@ module _ (t : ℕ) where
   put-sequence-requires c κs =
       let k = c .before .before .before .before .before .before .before .before .before .before .before .before .before .before .before in
       let h = deep (choice-of k) (depth-of k) (c .before .before .before .before .before .before .before .before .before .before .before .before .before .before .if3 .taken) (no-number-drawn k) in
-      room-sequence (k .before .before .before .before .before .pre .1) refl refl h (c .before .before .before .before .before .before .before .before .before .before .before .before .grow .ensures) (c .before .before .before .before .before .before .before .before .put-print .ensures) (c .before .before .before .before .before .before .before .before .put-print .kept .0) (c .before .before .before .before .grow2 .ensures)
+      capacity-sequence (k .before .before .before .before .before .pre .1) refl refl h (c .before .before .before .before .before .before .before .before .before .before .before .before .grow .ensures) (c .before .before .before .before .before .before .before .before .put-print .ensures) (c .before .before .before .before .before .before .before .before .put-print .kept .0) (c .before .before .before .before .grow2 .ensures)
 
   same-length-3 : lts.Need-same-length-3 (claims t) (grow-at t) reads.Post
   same-length-3 c = search needs
@@ -117,7 +117,7 @@ module _ (t : ℕ) where
       let h = deep (choice-of k) (depth-of k) (c .before .before .before .before .before .before .before .before .before .before .before .before .before .before .before .before .before .if3 .taken) (no-number-drawn k) in
       let w = k .before .before .draw .ensures in
       let e = trace-follows (depth-of k) (s .args .done .state) h (choice-is k ∙ c .before .before .before .before .before .before .before .before .before .before .before .before .before .before .before .before .before .if3 .taken) ∙ ap (λ q. both traced (grow (depth-of k - 2) q) (grow (depth-of k - 1))) (sym w) in
-      trace-grew (depth-of k) e refl refl (room-trace (s .pre .1) h) (c .before .before .before .before .before .before .before .before .before .before .before .before .before .before .before .grow .ensures) (c .before .before .before .before .before .before .before .before .before .before .before .put-print .ensures) (c .before .before .before .before .before .before .before .grow2 .ensures) (rw (c .before .before .before .last-term .ensures) at (c .before .before .put-sequence .ensures))
+      trace-grew (depth-of k) e refl refl (capacity-trace (s .pre .1) h) (c .before .before .before .before .before .before .before .before .before .before .before .before .before .before .before .grow .ensures) (c .before .before .before .before .before .before .before .before .before .before .before .put-print .ensures) (c .before .before .before .before .before .before .before .grow2 .ensures) (rw (c .before .before .before .last-term .ensures) at (c .before .before .put-sequence .ensures))
 
   sub-grow-3 : lts.Need-sub-grow-3 (claims t) (grow-at t) reads.Post
   sub-grow-3 c = search needs
@@ -127,7 +127,7 @@ module _ (t : ℕ) where
       let k = c .before .before in
       let d = some-depth k in
       let m = k .before .before .before .before .before .pre .0 in
-      (omega arith, room-first (k .before .before .before .before .before .pre .1) refl refl d)
+      (omega arith, capacity-first (k .before .before .before .before .before .pre .1) refl refl d)
 
   sub-grow-4 : lts.Need-sub-grow-4 (claims t) (grow-at t) reads.Post
   sub-grow-4 c = search needs
@@ -137,7 +137,7 @@ module _ (t : ℕ) where
       let k = c .before .before .before .before .before .before in
       let d = some-depth k in
       let m = k .before .before .before .before .before .pre .0 in
-      (omega arith, room-second (k .before .before .before .before .before .pre .1) refl refl d (c .before .before .before .grow3 .ensures))
+      (omega arith, capacity-second (k .before .before .before .before .before .pre .1) refl refl d (c .before .before .before .grow3 .ensures))
 
   sub-put-sum : lts.Need-sub-put-sum (claims t) (grow-at t) reads.Post
   sub-put-sum c = let k = c .before .before .before .before .before .before .before .before .before .before in let n = no-number (choice-of k) (depth-of k) (no-number-drawn k) in search needs
@@ -149,7 +149,7 @@ module _ (t : ℕ) where
   put-sum-requires c κs =
       let k = c .before .before .before .before .before .before .before .before .before .before .before in
       let d = some-depth k in
-      let r = room-sum (k .before .before .before .before .before .pre .1) refl refl d (c .before .before .before .before .before .before .before .before .grow3 .ensures) (c .before .before .before .before .grow4 .ensures) in
+      let r = capacity-sum (k .before .before .before .before .before .pre .1) refl refl d (c .before .before .before .before .before .before .before .before .grow3 .ensures) (c .before .before .before .before .grow4 .ensures) in
       let n = no-number (choice-of k) (depth-of k) (no-number-drawn k) in
       let e = c .before .before .before .before .before .before .before .before .before .before .if3 .left in
       (r .0, r .1, r .2, omega arith)
@@ -167,7 +167,7 @@ module _ (t : ℕ) where
       let z = c .before .before .before .before .before .before .before .before .before .before .before .before .before .if3 .left in
       let o : choice-of k ≡ suc (choice-of k - 1) = omega arith in
       let e = sum-follows (depth-of k) (s .args .done .state) (choice-of k - 1) d (choice-is k ∙ o) (omega arith) ∙ ap (λ q. both (sum (choice-of k - 1)) (grow (depth-of k - 1) q) (grow (depth-of k - 1))) (sym w) in
-      sum-grew (depth-of k) (choice-of k - 1) e refl refl (room-both (s .pre .1) d) (c .before .before .before .before .before .before .before .before .before .before .before .grow3 .ensures) (c .before .before .before .before .before .before .before .grow4 .ensures) (rw (c .before .before .before .last-term2 .ensures) at (c .before .before .put-sum .ensures))
+      sum-grew (depth-of k) (choice-of k - 1) e refl refl (capacity-both (s .pre .1) d) (c .before .before .before .before .before .before .before .before .before .before .before .grow3 .ensures) (c .before .before .before .before .before .before .before .grow4 .ensures) (rw (c .before .before .before .last-term2 .ensures) at (c .before .before .put-sum .ensures))
 
 pub +grow-spec : {M : Type 1} → statement M
 +grow-spec =

@@ -16,8 +16,8 @@ use Rattle.image_written.proofs.Sums.{weight}
 use Rattle.image_written.proofs.Sizes.{termSize}
 use Rattle.image_written.proofs.Fronts.{treeAt, sortsAt, numbersOf}
 use Rattle.write_terms.proofs.Located.{known, read, child-lower}
-use Rattle.write_program.specs.Writing.{Room, Wrote}
-use Rattle.write_program.proofs.Begun.{Begun, Come, come-none, begun-none, record-room, come-behind, few-terms, type-number, child-room, child-number, come-child, begun-child, come-same, begun-kept, begun-all}
+use Rattle.write_program.specs.Writing.{Capacity, Wrote}
+use Rattle.write_program.proofs.Begun.{Begun, Come, come-none, begun-none, record-capacity, come-behind, few-terms, type-number, child-capacity, child-number, come-child, begun-child, come-same, begun-kept, begun-all}
 use Rattle.write_program.proofs.write_term.Reads as reads
 use Rattle.write_program.proofs.+write_term.Lts-write_term as lts
 use Rattle.write_program.proofs.+write_term.Proof.Cycle.{μ-write-term, write-term-at, claims}
@@ -29,7 +29,7 @@ mod Cycle
 abbrev Inv-loop : lts.InvT-loop
 Inv-loop image codes terms places out₀ fields kind known numbers₀ d₀ i₀ out numbers d i =
     (i ≤ known .count) × (length out ≡ length out₀) × (length numbers ≡ 16)
-    × ((e : ℕ) → IsTerm image e → Room image e d₀ (length out₀) → RecordRead fields (known .code) (known .count) (sortsAt (recordsOf image) e) (numbersOf (recordsOf image) e)
+    × ((e : ℕ) → IsTerm image e → Capacity image e d₀ (length out₀) → RecordRead fields (known .code) (known .count) (sortsAt (recordsOf image) e) (numbersOf (recordsOf image) e)
     → Come image e i d₀ d × Begun image places e d₀ i out₀ out numbers)
 
 abbrev μ-loop : lts.MeasureT-loop
@@ -52,8 +52,8 @@ module _ (t : ℕ) where
   is-term : (k : Read) → IsTerm (image-of k) (number-of k)
   is-term k = k .before .before .before .before .before .before .before .before .pre .1 .2
 
-  room : (k : Read) → Room (image-of k) (number-of k) (k .before .before .before .before .before .before .before .before .args .done) (length (now (k .before .before .before .before .before .before .before .before .args .out)))
-  room k = k .before .before .before .before .before .before .before .before .pre .1 .4
+  capacity : (k : Read) → Capacity (image-of k) (number-of k) (k .before .before .before .before .before .before .before .before .args .done) (length (now (k .before .before .before .before .before .before .before .before .args .out)))
+  capacity k = k .before .before .before .before .before .before .before .before .pre .1 .4
 
   read-of : (k : Read) → RecordRead (now (k .before .before .term-fields .result)) (k .known-fields .result .code) (k .known-fields .result .count) (sortsAt (recordsOf (image-of k)) (number-of k)) (numbersOf (recordsOf (image-of k)) (number-of k))
   read-of k = read (table k) (is-term k) (k .before .term-kind .ensures) (k .before .before .term-fields .ensures) (k .known-fields .ensures)
@@ -96,7 +96,7 @@ module _ (t : ℕ) where
       let a = read-of k .class (i .i) l (x .before .before .class-of .ensures) in
       let v = read-of k .number (i .i) l (x .before .field .ensures) in
       let d = child-lower (table k) (is-term k) (i .i) (omega arith) a v q in
-      let r = child-room (table k) (is-term k) (i .i) (omega arith) a v q (room k) (i .inv .3 (number-of k) (is-term k) (room k) (read-of k) .0) in
+      let r = child-capacity (table k) (is-term k) (i .i) (omega arith) a v q (capacity k) (i .inv .3 (number-of k) (is-term k) (capacity k) (read-of k) .0) in
       let f = c .child-no .ensures in
       let m = s .pre .0 in
       let h = is-term k in
@@ -112,7 +112,7 @@ module _ (t : ℕ) where
       let n = read-of k .count in
       let a = read-of k .class (i .i) l (x .before .before .class-of .ensures) in
       let v = read-of k .number (i .i) l (x .before .field .ensures) in
-      child-number (table k) (is-term k) (i .i) (omega arith) a v (sym (x .is-child .ensures) ∙ y .before .before .before .if2 .taken) (room k) (i .inv .3 (number-of k) (is-term k) (room k) (read-of k) .0)
+      child-number (table k) (is-term k) (i .i) (omega arith) a v (sym (x .is-child .ensures) ∙ y .before .before .before .if2 .taken) (capacity k) (i .inv .3 (number-of k) (is-term k) (capacity k) (read-of k) .0)
       (y .write-term .ensures .1 ∙ ap (λ j. i .d .terms + terms (treeAt (recordsOf (image-of k)) j)) (y .before .child-no .ensures))
 
   mul-numbers : lts.Need-mul-numbers (claims t) (write-term-at t) reads.Post Inv-loop μ-loop
@@ -178,13 +178,13 @@ module _ (t : ℕ) where
         omega arith,
         r .kept .1 .1 .1 .1 .0 ∙ i .inv .1,
         length-set (i .numbers) (i .i) (w .6 .result) ∙ i .inv .2,
-        λ e h room′ R.
+        λ e h capacity′ R.
             let n = R .count in
             let a = R .class (i .i) l class in
             let v = R .number (i .i) l number in
-            let I = i .inv .3 e h room′ R in (
+            let I = i .inv .3 e h capacity′ R in (
               come-child (table k) h (i .i) (omega arith) a v q′ (I .0) (r .ensures .0 ∙ ap (λ j. i .d .at + weight termSize (treeAt (recordsOf (image-of k)) j)) s) y,
-              begun-child (table k) h (i .i) (omega arith) a v q′ (omega arith) room′ (I .0) (I .1) (subst (λ j. Wrote (image-of k) (now (k .before .before .before .before .before .before .before .before .args .places)) j (i .d) (i .out) (r .last .1 .1 .1 .1 .0)) s (r .ensures .2)) (w .6 .ensures ∙ ap (λ z. asField (q .before .before .class-of .result) (z - 1)) y),
+              begun-child (table k) h (i .i) (omega arith) a v q′ (omega arith) capacity′ (I .0) (I .1) (subst (λ j. Wrote (image-of k) (now (k .before .before .before .before .before .before .before .before .args .places)) j (i .d) (i .out) (r .last .1 .1 .1 .1 .0)) s (r .ensures .2)) (w .6 .ensures ∙ ap (λ z. asField (q .before .before .class-of .result) (z - 1)) y),
             ),
       ))
       (λ w.
@@ -193,11 +193,11 @@ module _ (t : ℕ) where
         omega arith,
         i .inv .1,
         length-set (i .numbers) (i .i) (w .1 .result) ∙ i .inv .2,
-        λ e h room′ R.
+        λ e h capacity′ R.
             let n = R .count in
             let a = R .class (i .i) l class in
             let v = R .number (i .i) l number in
-            let I = i .inv .3 e h room′ R in
+            let I = i .inv .3 e h capacity′ R in
             (come-same (table k) h (i .i) (omega arith) a v q′ (I .0), begun-kept (table k) h (i .i) (omega arith) a v q′ (omega arith) (I .1) (w .1 .ensures)),
       ))
       (c .if2 .came)
@@ -212,9 +212,9 @@ module _ (t : ℕ) where
       let f = read-of k .few in
       let n = read-of k .count in
       let g = i .inv .2 in
-      let r = record-room (table k) (is-term k) (i .i) (room k) (i .inv .3 (number-of k) (is-term k) (room k) (read-of k) .0) in
+      let r = record-capacity (table k) (is-term k) (i .i) (capacity k) (i .inv .3 (number-of k) (is-term k) (capacity k) (read-of k) .0) in
       let o = i .inv .1 in
-      (f, omega arith, omega arith, few-terms (table k) (is-term k) (i .i) (room k) (i .inv .3 (number-of k) (is-term k) (room k) (read-of k) .0))
+      (f, omega arith, omega arith, few-terms (table k) (is-term k) (i .i) (capacity k) (i .inv .3 (number-of k) (is-term k) (capacity k) (read-of k) .0))
 
   same-length : lts.Need-same-length (claims t) (write-term-at t) reads.Post Inv-loop μ-loop
   same-length c = search needs
@@ -230,11 +230,11 @@ module _ (t : ℕ) where
       let n = read-of k .count in
       let b = i .inv .0 in
       let u = i .inv .2 in
-      let p = come-behind (table k) (is-term k) (i .i) (omega arith) (i .inv .3 (number-of k) (is-term k) (room k) (read-of k) .0) in
+      let p = come-behind (table k) (is-term k) (i .i) (omega arith) (i .inv .3 (number-of k) (is-term k) (capacity k) (read-of k) .0) in
       let x = p .0 in
       let y = p .1 in
       let z = w .0 in
-      (omega arith, w .1 ∙ y, begun-all (table k) (is-term k) (i .i) (k .known-fields .result .count) (m .result) (sym n) (omega arith) (omega arith) (m .ensures) (room k) (i .inv .3 (number-of k) (is-term k) (room k) (read-of k) .0) (i .inv .3 (number-of k) (is-term k) (room k) (read-of k) .1) (w .2))
+      (omega arith, w .1 ∙ y, begun-all (table k) (is-term k) (i .i) (k .known-fields .result .count) (m .result) (sym n) (omega arith) (omega arith) (m .ensures) (capacity k) (i .inv .3 (number-of k) (is-term k) (capacity k) (read-of k) .0) (i .inv .3 (number-of k) (is-term k) (capacity k) (read-of k) .1) (w .2))
 
 pub +write-term-spec : {M : Type 1} → statement M
 +write-term-spec =

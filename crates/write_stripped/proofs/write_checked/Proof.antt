@@ -6,7 +6,7 @@ use mathlib.Core.List.{List}
 use denote.Ref.{now}
 use lib.ListN.{length, replicate, length-replicate}
 use lib.Seq.{length-take-le}
-use Rattle.write_stripped.proofs.Gate.{wrong-left, short-left, written-left}
+use Rattle.write_stripped.proofs.Acceptance.{wrong-left, short-left, written-left}
 use Rattle.write_stripped.proofs.write_checked.Statement.{statement}
 use Rattle.write_stripped.proofs.write_checked.Tie as tie
 

@@ -14,7 +14,7 @@ use Rattle.read_records.specs.Heads.{fieldIn}
 use Rattle.read_terms.specs.Lent.{Terms, IsTerm}
 use Rattle.read_terms.proofs.Located.{typed-in, type-in}
 use Rattle.write_fields.proofs.Standing.{RecordRead}
-use Rattle.image_written.specs.Parts.{partsFirst}
+use Rattle.image_written.specs.TypeParts.{partsFirst}
 use Rattle.image_written.specs.Table.{entered, typesIn, typesInAll}
 use Rattle.image_written.proofs.Fronts.{treeAt, trees, sortsAt, numbersOf, kids}
 use Rattle.write_types.specs.Entries.{Entries, entriesOf}

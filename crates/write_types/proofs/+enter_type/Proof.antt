@@ -17,7 +17,7 @@ use Rattle.image.specs.Types.{typeFields, typeField, typeOf}
 use Rattle.read_records.specs.Codes.{classNumber}
 use Rattle.read_terms.specs.Lent.{TypeOffsets, IsType}
 use Rattle.write_fields.proofs.Standing.{RecordRead}
-use Rattle.image_written.specs.Parts.{partsFirst}
+use Rattle.image_written.specs.TypeParts.{partsFirst}
 use Rattle.image_written.specs.Table.{entered}
 use Rattle.write_types.specs.Entries.{Entries, entriesOf}
 use Rattle.write_types.proofs.Located.{before, sortsAt, frontOf, known, read, lower, class-type, before-all}

@@ -3,7 +3,7 @@ use borrow.Author.Needs.{needs}
 use mathlib.Core.Path.{_∙_}
 use denote.Ref.{now}
 use Rattle.read_terms.proofs.Located.{good-of}
-use Rattle.write_types.proofs.Entering.{few-entries, told-there, there-enter, room, one-entered, entries-more}
+use Rattle.write_types.proofs.Entering.{few-entries, told-there, there-enter, capacity, one-entered, entries-more}
 use Rattle.write_types.proofs.enter_one.Statement.{statement}
 use Rattle.write_types.proofs.enter_one.Tie as tie
 
@@ -37,7 +37,7 @@ set-type-requires c κs =
     let s = w .before .before .before .before .before .before in
     let E = s .pre .0 in
     let q = told-there E (s .pre .1) _ (w .before .is-entered .ensures) in
-    room E (s .pre .1) (s .pre .2) (q ∙ w .if1 .left)
+    capacity E (s .pre .1) (s .pre .2) (q ∙ w .if1 .left)
 
 add-result : tie.Need-add-result
 add-result c = search needs

@@ -5,7 +5,7 @@ use lib.ListN.{length, length-set}
 use native.Mathlib.Omega.{arith}
 use Rattle.recordings.specs.Recordings.{partLength, Recording, firstCalls}
 use Rattle.image.specs.Limits.{workLength}
-use Rattle.calls.proofs.Accepted.{accepted-with}
+use Rattle.call_spec.proofs.Accepted.{accepted-with}
 use Rattle.recordings.proofs.Recordings.{part-inside, length-part, length-with-part, part-lent, part-back, withClearWork, calls-unseen, first-none, run-recorded}
 use borrow.Author.Needs.{needs}
 use Rattle.bukzarn.proofs.frames.run_each.Statement.{statement}

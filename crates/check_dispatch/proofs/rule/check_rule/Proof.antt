@@ -104,8 +104,8 @@ check-object-requires c κs =
     let e = kind-of (c .before) TermKind.obj (c .match .keys19) in
     (lent (c .before), offsets (c .before), typed (c .before), bodies (c .before) e)
 
-check-call-requires : tie.Need-check-call-requires
-check-call-requires c κs =
+check-method-call-requires : tie.Need-check-method-call-requires
+check-method-call-requires c κs =
     let e = kind-of (c .before) TermKind.call (c .match .keys20) in
     (lent (c .before), offsets (c .before), typed (c .before), child (c .before) e 0 (lit< tt), call-fields (c .before) e)
 
@@ -190,7 +190,7 @@ returns-19 : tie.Need-returns-19
 returns-19 c = answered (c .before .before) (kind-of (c .before .before) TermKind.obj (c .before .match .keys19)) (λ Γ. c .check-object .ensures (setting (c .before .before) Γ))
 
 returns-20 : tie.Need-returns-20
-returns-20 c = answered (c .before .before) (kind-of (c .before .before) TermKind.call (c .before .match .keys20)) (c .check-call .ensures)
+returns-20 c = answered (c .before .before) (kind-of (c .before .before) TermKind.call (c .before .match .keys20)) (c .check-method-call .ensures)
 
 returns-21 : tie.Need-returns-21
 returns-21 c = answered (c .before .before) (kind-of (c .before .before) TermKind.stack (c .before .match .keys21)) (λ Γ. c .check-stack .ensures (setting (c .before .before) Γ))
@@ -232,7 +232,7 @@ check-rule-spec =
     check-store-requires
     check-lower-requires
     check-object-requires
-    check-call-requires
+    check-method-call-requires
     check-stack-requires
     check-keep-requires
     check-match-requires

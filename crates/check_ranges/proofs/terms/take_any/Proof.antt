@@ -1,7 +1,7 @@
 -- `check_ranges::terms::take_any` meets its contract: children that pass are there.
 use native.Mathlib.Omega.{arith}
 use mathlib.Core.Path.{refl, sym, _∙_}
-use Rattle.check_marks.proofs.ChildByChild.{lower-up}
+use Rattle.check_uses.proofs.ChildByChild.{lower-up}
 use borrow.Author.Needs.{needs}
 use Rattle.check_ranges.proofs.terms.take_any.Statement.{statement}
 use Rattle.check_ranges.proofs.terms.take_any.Tie as tie

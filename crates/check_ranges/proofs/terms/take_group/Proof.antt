@@ -1,7 +1,7 @@
 -- `check_ranges::terms::take_group` meets its contract: children that pass are there.
 use native.Mathlib.Omega.{arith}
 use mathlib.Core.Path.{refl, _∙_}
-use Rattle.check_marks.proofs.ChildByChild.{lower-up}
+use Rattle.check_uses.proofs.ChildByChild.{lower-up}
 use borrow.Author.Needs.{needs}
 use Rattle.check_ranges.proofs.terms.take_group.Statement.{statement}
 use Rattle.check_ranges.proofs.terms.take_group.Tie as tie

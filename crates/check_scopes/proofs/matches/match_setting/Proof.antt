@@ -20,7 +20,7 @@ type-at-field-requires c κs =
 bind-entries-requires : tie.Need-bind-entries-requires
 bind-entries-requires c κs =
     let s = c .before .before .before .before .before .before in
-    let r = s .pre .1 .room in
+    let r = s .pre .1 .capacity in
     (s .pre .0, s .pre .1 .entries refl, s .pre .1 .places, omega arith)
 
 binds-rest-requires : tie.Need-binds-rest-requires
@@ -34,7 +34,7 @@ bind-requires c κs =
     let f = e .before .before in
     let s = f .before .before .before .before .before in
     let u = e .bind-entries .ensures .1 in
-    let r = s .pre .1 .room in
+    let r = s .pre .1 .capacity in
     let few = good-of (now (s .args .image)) (s .pre .0 .terms .laid-out) .few-types in
     let h = f .type-at-field .ensures .1 in
     (omega arith, omega arith)
@@ -53,7 +53,7 @@ returns c =
     let same = B .0 .same in
     let places = s .pre .1 .places in
     let u = B .1 in
-    let room = s .pre .1 .room in
+    let capacity = s .pre .1 .capacity in
     let l : e .bind-entries .result < length (e .bind-entries .last .1 .1 .1 .0) = omega arith in
     rw (c .bind .ensures, f .type-at-field .ensures .0) (with-rest (now (s .args .image)) (now (s .args .fields)) (s .args .p .dom .0) (B .0) (B .1) (sym (r .binds-rest .ensures) ∙ t .if1 .taken) l)
 

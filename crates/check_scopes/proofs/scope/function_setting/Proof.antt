@@ -18,7 +18,7 @@ first-type-requires c κs = search needs
 bind-requires : tie.Need-bind-requires
 bind-requires c κs =
     let s = c .before .before .before .before .before .before in
-    let r = s .pre .1 .room in
+    let r = s .pre .1 .capacity in
     let l = s .pre .1 .places in
     let e : c .first-type .result .0 ≡ descriptorField0 (ownDescriptor (now (s .args .descriptors)) (now (s .args .fields))) = c .first-type .ensures ∙ ap descriptorField0 (c .before .before .own-descriptor .ensures) in
     (omega arith, rw e (function-small (s .pre .0) (s .pre .1)))

@@ -16,7 +16,7 @@ own-type-requires c κs = search needs
 
 bind-requires : tie.Need-bind-requires
 bind-requires c κs =
-    let r = c .before .before .before .before .before .pre .1 .room in
+    let r = c .before .before .before .before .before .pre .1 .capacity in
     let l = c .before .before .before .before .before .pre .1 .places in
     (omega arith, rw (c .before .own-type .ensures) (object-small (c .before .before .before .before .before .pre .0) (c .before .before .before .before .before .pre .1) (c .before .before .before .before .before .pre .2)))
 

@@ -26,7 +26,7 @@ bind-requires : tie.Need-bind-requires
 bind-requires c κs =
     let at-descriptor-at-field = c .before .before .before in
     let s = at-descriptor-at-field .before .before .before .before .before in
-    let r = s .pre .1 .room in
+    let r = s .pre .1 .capacity in
     let l = s .pre .1 .places in
     let e : c .before .before .first-type .result .0 ≡ descriptorField0 (descriptorAtField (now (s .args .image)) (now (s .args .descriptors)) (now (s .args .fields)) 1) = c .before .before .first-type .ensures ∙ ap descriptorField0 (at-descriptor-at-field .descriptor-at-field .ensures) in
     (omega arith, rw e (split-small (s .pre .0) (s .pre .1) .0))
@@ -39,7 +39,7 @@ bind-requires-2 c κs =
     let at-second-type = c .before .before .before .before in
     let at-descriptor-at-field = at-second-type .before .before in
     let s = at-descriptor-at-field .before .before .before .before .before in
-    let r = s .pre .1 .room in
+    let r = s .pre .1 .capacity in
     let l = s .pre .1 .places in
     let e : at-second-type .second-type .result .0 ≡ descriptorField1 (descriptorAtField (now (s .args .image)) (now (s .args .descriptors)) (now (s .args .fields)) 1) = at-second-type .second-type .ensures ∙ ap descriptorField1 (at-descriptor-at-field .descriptor-at-field .ensures) in
     (omega arith, rw e (split-small (s .pre .0) (s .pre .1) .1))

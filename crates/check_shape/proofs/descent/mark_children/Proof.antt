@@ -4,8 +4,8 @@ use mathlib.Core.Path.{subst, sym, _∙_}
 use mathlib.Core.List.{foldl-append}
 use denote.Ref.{now}
 use Rattle.read_records.specs.Heads.{sideOf, entriesOf}
-use Rattle.check_marks.specs.Marks.{Lower}
-use Rattle.check_marks.proofs.ChildByChild.{lower-first, lower-rest}
+use Rattle.check_uses.specs.Marks.{Lower}
+use Rattle.check_uses.proofs.ChildByChild.{lower-first, lower-rest}
 use Rattle.check_shape.proofs.descent.mark_children.Statement.{statement}
 use Rattle.check_shape.proofs.descent.mark_children.Tie as tie
 

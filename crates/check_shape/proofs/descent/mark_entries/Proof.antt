@@ -12,8 +12,8 @@ use Rattle.verdict.specs.Shape.{setAll}
 use Rattle.read_records.specs.Codes.{countOf, childrenIn, entriesIn}
 use Rattle.read_records.specs.Heads.{entriesOf}
 use Rattle.read_records.proofs.Entries.{entriesLeft, all-left, next-left, none-left}
-use Rattle.check_marks.specs.Marks.{Lower}
-use Rattle.check_marks.proofs.ChildByChild.{lower-first, lower-rest}
+use Rattle.check_uses.specs.Marks.{Lower}
+use Rattle.check_uses.proofs.ChildByChild.{lower-first, lower-rest}
 use Rattle.check_shape.proofs.descent.mark_entries.Statement.{statement}
 use Rattle.check_shape.proofs.descent.mark_entries.Tie as tie
 

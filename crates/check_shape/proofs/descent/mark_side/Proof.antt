@@ -8,7 +8,7 @@ use Rattle.verdict.specs.Shape.{setAll}
 use Rattle.verdict.proofs.Changes.{fold-next, fold-end}
 use Rattle.read_records.specs.Codes.{childrenIn}
 use Rattle.read_records.specs.Heads.{fieldIn, sideOf}
-use Rattle.check_marks.proofs.ChildByChild.{side-length, side-is}
+use Rattle.check_uses.proofs.ChildByChild.{side-length, side-is}
 use borrow.Author.Needs.{needs}
 use Rattle.check_shape.proofs.descent.mark_side.Statement.{statement}
 use Rattle.check_shape.proofs.descent.mark_side.Tie as tie

@@ -2,7 +2,7 @@
 use native.Mathlib.Omega.{arith}
 use lib.ListN.{length}
 use denote.Ref.{now}
-use Rattle.check_marks.proofs.ChildByChild.{lower-up}
+use Rattle.check_uses.proofs.ChildByChild.{lower-up}
 use borrow.Author.Needs.{needs}
 use Rattle.check_shape.proofs.descent.mark_term.Statement.{statement}
 use Rattle.check_shape.proofs.descent.mark_term.Tie as tie

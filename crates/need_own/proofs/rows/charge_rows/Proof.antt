@@ -18,11 +18,11 @@ takes-pieces-requires c κs = search needs
 both-requires : tie.Need-both-requires
 both-requires c κs = search needs
 
-charge-half-requires : tie.Need-charge-half-requires
-charge-half-requires c κs = search needs
+charge-quota-requires : tie.Need-charge-quota-requires
+charge-quota-requires c κs = search needs
 
-charge-half-requires-2 : tie.Need-charge-half-requires-2
-charge-half-requires-2 c κs = search needs
+charge-quota-requires-2 : tie.Need-charge-quota-requires-2
+charge-quota-requires-2 c κs = search needs
 
 same-length : tie.Need-same-length
 same-length c = search needs
@@ -37,7 +37,7 @@ returns c =
     let s = at-is-body .before .before .before in
     let t = at-both .both .ensures ∙ (ap (λ x. x && at-takes-pieces .takes-pieces .result) (at-is-body .is-body .ensures) ∙ ap (λ x. inBody (s .args .s .mode) && x) (at-takes-pieces .takes-pieces .ensures)) in
     let b : inBody (s .args .s .mode) ≡ true = and-l (inBody (s .args .s .mode)) (takesPieces (s .args .own)) (sym t ∙ at-if1 .if1 .taken) in
-    mainline-charged (s .args .own) (s .args .s) (now (s .args .rows)) _ b (eq-eqb _ _ (at-if2 .if2 .taken)) (c .before .before .charge-half .ensures)
+    mainline-charged (s .args .own) (s .args .s) (now (s .args .rows)) _ b (eq-eqb _ _ (at-if2 .if2 .taken)) (c .before .before .charge-quota .ensures)
 
 same-length-2 : tie.Need-same-length-2
 same-length-2 c = search needs
@@ -52,7 +52,7 @@ returns-2 c =
     let s = at-is-body .before .before .before in
     let t = at-both .both .ensures ∙ (ap (λ x. x && at-takes-pieces .takes-pieces .result) (at-is-body .is-body .ensures) ∙ ap (λ x. inBody (s .args .s .mode) && x) (at-takes-pieces .takes-pieces .ensures)) in
     let b : inBody (s .args .s .mode) ≡ true = and-l (inBody (s .args .s .mode)) (takesPieces (s .args .own)) (sym t ∙ at-if1 .if1 .taken) in
-    others-charged (s .args .own) (s .args .s) (now (s .args .rows)) _ b (ne-eqb _ _ (at-if2 .if2 .left)) (c .before .before .charge-half2 .ensures)
+    others-charged (s .args .own) (s .args .s) (now (s .args .rows)) _ b (ne-eqb _ _ (at-if2 .if2 .left)) (c .before .before .charge-quota2 .ensures)
 
 returns-3 : tie.Need-returns-3
 returns-3 c =
@@ -67,8 +67,8 @@ charge-rows-spec =
     is-body-requires
     takes-pieces-requires
     both-requires
-    charge-half-requires
-    charge-half-requires-2
+    charge-quota-requires
+    charge-quota-requires-2
     same-length
     returns
     same-length-2

@@ -12,7 +12,7 @@ use Rattle.need_own.proofs.own.is_branch.Reads as is-branch-reads
 use Rattle.need_own.proofs.rows.add_rows.Reads as add-rows-reads
 use Rattle.need_own.proofs.rows.charge_rows.Reads as charge-rows-reads
 use Rattle.need_own.proofs.rows.raise_rows.Reads as raise-rows-reads
-use Rattle.need_sums.proofs.places.child_position.Reads as child-position-reads
+use Rattle.need_sums.proofs.positions.child_position.Reads as child-position-reads
 use Rattle.need_sums.proofs.shapes.role_at.Reads as role-at-reads
 use Rattle.need_sums.proofs.shapes.shape_of.Reads as shape-of-reads
 use Rattle.need_terms.proofs.child_in.Reads as child-in-reads

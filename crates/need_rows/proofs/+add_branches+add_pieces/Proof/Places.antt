@@ -15,7 +15,7 @@ use Rattle.read_terms.specs.Fields.{childrenIn}
 use Rattle.read_terms.proofs.Located.{good-of}
 use Rattle.need_sums.specs.Walks.{shapeOf, isBranch}
 use Rattle.need_sums.specs.Rows.{tableLength}
-use Rattle.need_terms.specs.Parts.{HasFields}
+use Rattle.need_terms.specs.GivenToChildren.{HasFields}
 use Rattle.need_terms.proofs.Described.{kind-of, count-of, child-is, child-below, domain-in}
 use Rattle.need_walk.specs.Counted.{Placed}
 use Rattle.need_walk.proofs.Positions.{child-placed}

@@ -5,8 +5,8 @@ use native.Mathlib.Omega.{arith}
 use denote.Ref.{now}
 use Rattle.vm_machine.specs.Fetch.{Program}
 use Rattle.vm_machine.specs.Turn.{takeLabels}
-use Rattle.vm_tables.specs.View.{memoryOf}
-use Rattle.vm_labels.specs.Parts.{childFields}
+use Rattle.vm_memory.specs.View.{memoryOf}
+use Rattle.vm_labels.specs.PointcutChildren.{childFields}
 use Rattle.vm_labels.proofs.Taking.{child-in, from-count, none-left, no-atom, one-taken}
 use borrow.Author.Needs.{needs}
 use Rattle.vm_labels.proofs.children.take_labels.Statement.{statement}

@@ -11,11 +11,11 @@ use Rattle.vm_labels.proofs.labels.begin_child.Tie as tie
 depth-of-requires : tie.Need-depth-of-requires
 depth-of-requires c κs = search needs
 
-add-room : tie.Need-add-room
-add-room c = search needs
+add-frames : tie.Need-add-frames
+add-frames c = search needs
 
-sub-room : tie.Need-sub-room
-sub-room c = search needs
+sub-frames : tie.Need-sub-frames
+sub-frames c = search needs
 
 add-put-digits : tie.Need-add-put-digits
 add-put-digits c = search needs
@@ -54,8 +54,8 @@ begin-child-spec =
     tie.close
     (tie.spec
     depth-of-requires
-    add-room
-    sub-room
+    add-frames
+    sub-frames
     add-put-digits
     put-digits-requires
     same-requires

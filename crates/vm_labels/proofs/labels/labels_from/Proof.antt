@@ -1,6 +1,6 @@
 use Rattle.vm_machine.specs.Fetch.{Program}
 use Rattle.vm_machine.specs.Turn.{Taken}
-use Rattle.vm_labels.proofs.Labelling.{all-done, all-room, no-room, one-begun}
+use Rattle.vm_labels.proofs.Labelling.{all-done, all-frames, no-capacity, one-begun}
 use denote.Ref.{now}
 use borrow.Author.Needs.{needs}
 use Rattle.vm_labels.proofs.labels.labels_from.Statement.{statement}
@@ -29,7 +29,7 @@ make-pointcut-requires c κs =
     let a = s .args in
     let C : Program = record { code = now (a .code); image = now (a .image) } in
     let k : Taken = record { count = at-take-labels .take-labels .result .count; digits = at-take-labels .take-labels .result .digits } in
-    (s .pre .1, all-room C (now (a .work)) (now (a .work)) (a .r) (a .r) (a .r .pc) (a .from .count) (a .from .digits) _ (at-instruction .instruction .ensures) k (at-take-labels .take-labels .ensures (now (a .image)) (at-child-fields .child-fields .ensures)) _ (at-count-of .count-of .ensures) (at-if1 .if1 .taken) (s .pre .6 .0) (s .pre .6 .1), s .pre .5)
+    (s .pre .1, all-frames C (now (a .work)) (now (a .work)) (a .r) (a .r) (a .r .pc) (a .from .count) (a .from .digits) _ (at-instruction .instruction .ensures) k (at-take-labels .take-labels .ensures (now (a .image)) (at-child-fields .child-fields .ensures)) _ (at-count-of .count-of .ensures) (at-if1 .if1 .taken) (s .pre .6 .0) (s .pre .6 .1), s .pre .5)
 
 same-length : tie.Need-same-length
 same-length c = search needs
@@ -73,7 +73,7 @@ returns-2 c =
     let a = s .args in
     let C : Program = record { code = now (a .code); image = now (a .image) } in
     let k : Taken = record { count = at-take-labels .take-labels .result .count; digits = at-take-labels .take-labels .result .digits } in
-    no-room C (now (a .work)) (now (a .work)) (a .r) _ (a .r .pc) (a .from .count) (a .from .digits) _ (at-instruction .instruction .ensures) k (at-take-labels .take-labels .ensures (now (a .image)) (at-child-fields .child-fields .ensures)) _ (at-count-of .count-of .ensures) (at-if1 .if1 .left) _ (at-depth-of .depth-of .ensures) (at-if2 .if2 .taken) (c .halt .ensures)
+    no-capacity C (now (a .work)) (now (a .work)) (a .r) _ (a .r .pc) (a .from .count) (a .from .digits) _ (at-instruction .instruction .ensures) k (at-take-labels .take-labels .ensures (now (a .image)) (at-child-fields .child-fields .ensures)) _ (at-count-of .count-of .ensures) (at-if1 .if1 .left) _ (at-depth-of .depth-of .ensures) (at-if2 .if2 .taken) (c .halt .ensures)
 
 begin-child-requires : tie.Need-begin-child-requires
 begin-child-requires c κs = search needs

@@ -16,11 +16,11 @@ halt-requires c κs = search needs
 returns : tie.Need-returns
 returns c = let a = c .before .before .before .before .before .args in judged-frames _ (now (a .work)) (now (a .work)) (a .r) _ (a .w) _ (c .before .before .before .depth-of .ensures) (c .before .if1 .taken) (c .halt .ensures)
 
-half-of-requires : tie.Need-half-of-requires
-half-of-requires c κs = search needs
+quota-of-requires : tie.Need-quota-of-requires
+quota-of-requires c κs = search needs
 
-has-room-requires : tie.Need-has-room-requires
-has-room-requires c κs = search needs
+has-capacity-requires : tie.Need-has-capacity-requires
+has-capacity-requires c κs = search needs
 
 pieces-out-requires : tie.Need-pieces-out-requires
 pieces-out-requires c κs = search needs
@@ -33,14 +33,14 @@ halt-requires-2 c κs = search needs
 
 returns-2 : tie.Need-returns-2
 returns-2 c =
-    let at-has-room = c .before .before .before in
-    let at-half-of = at-has-room .before .before in
-    let at-if2 = at-half-of .before in
+    let at-has-capacity = c .before .before .before in
+    let at-quota-of = at-has-capacity .before .before in
+    let at-if2 = at-quota-of .before in
     let at-if1 = at-if2 .before .before in
     let at-depth-of = at-if1 .before .before in
     let start = at-depth-of .before .before in
     let a = start .args in
-    judged-made _ (now (a .work)) (now (a .work)) (a .r) _ (a .w) _ (at-depth-of .depth-of .ensures) (at-if1 .if1 .left) (piece-unpaid (now (a .work)) (a .r) _ (a .w) pointcutTag 0 (labelSet (countOf (a .w)) (a .digits) 0) _ _ (at-half-of .half-of .ensures) (at-has-room .has-room .ensures) _ _ (at-if2 .if2 .taken) (c .before .before .pieces-out .ensures) (c .before .spent-or .ensures) (c .halt2 .ensures))
+    judged-made _ (now (a .work)) (now (a .work)) (a .r) _ (a .w) _ (at-depth-of .depth-of .ensures) (at-if1 .if1 .left) (piece-unpaid (now (a .work)) (a .r) _ (a .w) pointcutTag 0 (labelSet (countOf (a .w)) (a .digits) 0) _ _ (at-quota-of .quota-of .ensures) (at-has-capacity .has-capacity .ensures) _ _ (at-if2 .if2 .taken) (c .before .before .pieces-out .ensures) (c .before .spent-or .ensures) (c .halt2 .ensures))
 
 count-of-requires : tie.Need-count-of-requires
 count-of-requires c κs = search needs
@@ -71,8 +71,8 @@ make-pointcut-spec =
     depth-of-requires
     halt-requires
     returns
-    half-of-requires
-    has-room-requires
+    quota-of-requires
+    has-capacity-requires
     pieces-out-requires
     spent-or-requires
     halt-requires-2

@@ -3,7 +3,7 @@ use Rattle.vm_code.specs.Words.{depthOf}
 use Rattle.vm_labels.proofs.Labelling.{few-digits, resumed-part, begun-part}
 use denote.Ref.{now}
 use native.Mathlib.Omega.{arith}
-use Rattle.vm_tables.specs.View.{memoryOf}
+use Rattle.vm_memory.specs.View.{memoryOf}
 use borrow.Author.Needs.{needs}
 use Rattle.vm_labels.proofs.labels.part_of.Statement.{statement}
 use Rattle.vm_labels.proofs.labels.part_of.Tie as tie

@@ -1,5 +1,5 @@
 use denote.Ref.{now}
-use Rattle.vm_tables.specs.View.{memoryOf}
+use Rattle.vm_memory.specs.View.{memoryOf}
 use Rattle.vm_marks.proofs.Advised.{body-instruction, body-atom}
 use borrow.Author.Needs.{needs}
 use Rattle.vm_marks.proofs.advice.body_at.Statement.{statement}

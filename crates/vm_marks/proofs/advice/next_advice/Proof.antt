@@ -1,6 +1,6 @@
 use denote.Ref.{now}
 use mathlib.Core.List.{[]}
-use Rattle.vm_marks.proofs.Advised.{advice-spent, advice-next, advice-done, room-of-mark}
+use Rattle.vm_marks.proofs.Advised.{advice-spent, advice-next, advice-done, frames-of-mark}
 use borrow.Author.Needs.{needs}
 use Rattle.vm_marks.proofs.advice.next_advice.Statement.{statement}
 use Rattle.vm_marks.proofs.advice.next_advice.Tie as tie
@@ -51,7 +51,7 @@ mark-left-requires c κs =
     let at-if1 = at-next-binding .before in
     let s = at-if1 .before .before .before .before in
     let a = s .args in
-    (search needs, room-of-mark (record { code = now (a .code); image = [] }) (now (a .work)) (now (a .work)) (a .r) (a .r) (a .f) (at-if1 .if1 .left) _ _ (at-next-binding .next-binding .ensures) (at-end-binding .end-binding .ensures) _ _ [] (at-if2 .if2 .left) (at-slot-pc .slot-pc .ensures) (c .instruction .ensures) (s .pre .3 [] []), search needs)
+    (search needs, frames-of-mark (record { code = now (a .code); image = [] }) (now (a .work)) (now (a .work)) (a .r) (a .r) (a .f) (at-if1 .if1 .left) _ _ (at-next-binding .next-binding .ensures) (at-end-binding .end-binding .ensures) _ _ [] (at-if2 .if2 .left) (at-slot-pc .slot-pc .ensures) (c .instruction .ensures) (s .pre .3 [] []), search needs)
 
 same-length-2 : tie.Need-same-length-2
 same-length-2 c = c .before .before .mark-left .kept .0

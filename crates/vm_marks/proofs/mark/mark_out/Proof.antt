@@ -2,7 +2,7 @@ use mathlib.Core.Path.{sym, ap}
 use borrow.Author.Tests.{le-leb, lt-leb}
 use Rattle.calculus.specs.declared.Outcome.{Outcome}
 use Rattle.calculus.specs.Report.{outcomeNumber}
-use Rattle.vm_tables.proofs.Chosen.{chosen-yes, chosen-no}
+use Rattle.vm_memory.proofs.Chosen.{chosen-yes, chosen-no}
 use Rattle.vm_marks.proofs.mark.mark_out.Statement.{statement}
 use Rattle.vm_marks.proofs.mark.mark_out.Tie as tie
 

@@ -2,7 +2,7 @@
 use denote.Ref.{now}
 use mathlib.Core.Path.{_∙_}
 use native.Mathlib.Omega.{arith}
-use Rattle.vm_marks.proofs.Marked.{unheard-made, over-made, spent-made, none-made, some-made, fits-same, places-for, bound-places}
+use Rattle.vm_marks.proofs.Marked.{without-advice-made, over-made, spent-made, none-made, some-made, fits-same, places-for, bound-places}
 use borrow.Author.Needs.{needs}
 use Rattle.vm_marks.proofs.mark.reduce_mark.Statement.{statement}
 use Rattle.vm_marks.proofs.mark.reduce_mark.Tie as tie
@@ -13,11 +13,11 @@ label-of-requires c κs = search needs
 has-bit-requires : tie.Need-has-bit-requires
 has-bit-requires c κs = search needs
 
-unheard-requires : tie.Need-unheard-requires
-unheard-requires c κs = (search needs, c .before .before .before .before .before .pre .1 .1 .room)
+mark-without-advice-requires : tie.Need-mark-without-advice-requires
+mark-without-advice-requires c κs = (search needs, c .before .before .before .before .before .pre .1 .1 .frames)
 
 same-length : tie.Need-same-length
-same-length c = c .before .before .unheard .kept .0
+same-length c = c .before .before .mark-without-advice .kept .0
 
 returns : tie.Need-returns
 returns c =
@@ -26,7 +26,7 @@ returns c =
     let at-label-of = at-has-bit .before in
     let start = at-label-of .before .before in
     let a = start .args in
-    unheard-made (now (a .work)) (a .r) _ (a .w) (a .x) (a .y) _ _ (at-label-of .label-of .ensures .0) (at-has-bit .has-bit .ensures) _ (at-if1 .if1 .taken) (c .before .before .unheard .ensures)
+    without-advice-made (now (a .work)) (a .r) _ (a .w) (a .x) (a .y) _ _ (at-label-of .label-of .ensures .0) (at-has-bit .has-bit .ensures) _ (at-if1 .if1 .taken) (c .before .before .mark-without-advice .ensures)
 
 bind-matching-requires : tie.Need-bind-matching-requires
 bind-matching-requires c κs =
@@ -35,8 +35,8 @@ bind-matching-requires c κs =
     let f = start .pre .1 .1 in
     (search needs, at-label-of .label-of .ensures .1, f .installed, bound-places _ (f .bindings))
 
-within-halves-requires : tie.Need-within-halves-requires
-within-halves-requires c κs = search needs
+within-quotas-requires : tie.Need-within-quotas-requires
+within-quotas-requires c κs = search needs
 
 mark-out-requires : tie.Need-mark-out-requires
 mark-out-requires c κs = search needs
@@ -49,14 +49,14 @@ same-length-2 c = c .before .before .before .before .before .before .bind-matchi
 
 returns-2 : tie.Need-returns-2
 returns-2 c =
-    let at-within-halves = c .before .before .before in
-    let at-bind-matching = at-within-halves .before .before .before in
+    let at-within-quotas = c .before .before .before in
+    let at-bind-matching = at-within-quotas .before .before .before in
     let at-if1 = at-bind-matching .before .before .before .before in
     let at-has-bit = at-if1 .before in
     let at-label-of = at-has-bit .before in
     let start = at-label-of .before .before in
     let a = start .args in
-    over-made (now (a .work)) (a .r) _ (a .w) (a .x) (a .y) _ _ (at-label-of .label-of .ensures .0) (at-has-bit .has-bit .ensures) (at-if1 .if1 .left) _ _ (at-bind-matching .bind-matching .ensures .0) _ (at-within-halves .within-halves .ensures) _ (c .before .before .if2 .taken) (c .before .mark-out .ensures) (c .halt .ensures)
+    over-made (now (a .work)) (a .r) _ (a .w) (a .x) (a .y) _ _ (at-label-of .label-of .ensures .0) (at-has-bit .has-bit .ensures) (at-if1 .if1 .left) _ _ (at-bind-matching .bind-matching .ensures .0) _ (at-within-quotas .within-quotas .ensures) _ (c .before .before .if2 .taken) (c .before .mark-out .ensures) (c .halt .ensures)
 
 halt-requires-2 : tie.Need-halt-requires-2
 halt-requires-2 c κs = search needs
@@ -67,14 +67,14 @@ same-length-3 c = c .before .before .before .before .before .before .before .bin
 returns-3 : tie.Need-returns-3
 returns-3 c =
     let at-if2 = c .before .before .before in
-    let at-within-halves = at-if2 .before in
-    let at-bind-matching = at-within-halves .before .before .before in
+    let at-within-quotas = at-if2 .before in
+    let at-bind-matching = at-within-quotas .before .before .before in
     let at-if1 = at-bind-matching .before .before .before .before in
     let at-has-bit = at-if1 .before in
     let at-label-of = at-has-bit .before in
     let start = at-label-of .before .before in
     let a = start .args in
-    spent-made (now (a .work)) (a .r) _ (a .w) (a .x) (a .y) _ _ (at-label-of .label-of .ensures .0) (at-has-bit .has-bit .ensures) (at-if1 .if1 .left) _ _ (at-bind-matching .bind-matching .ensures .0) _ (at-within-halves .within-halves .ensures) (at-if2 .if2 .left) (c .before .if3 .taken) (c .halt2 .ensures)
+    spent-made (now (a .work)) (a .r) _ (a .w) (a .x) (a .y) _ _ (at-label-of .label-of .ensures .0) (at-has-bit .has-bit .ensures) (at-if1 .if1 .left) _ _ (at-bind-matching .bind-matching .ensures .0) _ (at-within-quotas .within-quotas .ensures) (at-if2 .if2 .left) (c .before .if3 .taken) (c .halt2 .ensures)
 
 whole-requires : tie.Need-whole-requires
 whole-requires c κs =
@@ -91,7 +91,7 @@ given-requires c κs =
     let at-if3 = c .before .before .before .before in
     let at-bind-matching = at-if3 .before .before .before .before .before .before in
     let start = at-bind-matching .before .before .before .before .before .before .before .before in
-    (omega (arith, at-bind-matching .bind-matching .kept .0, start .pre .0), omega (arith, start .pre .1 .1 .room), omega (arith, at-if3 .if3 .left))
+    (omega (arith, at-bind-matching .bind-matching .kept .0, start .pre .0), omega (arith, start .pre .1 .1 .frames), omega (arith, at-if3 .if3 .left))
 
 same-length-4 : tie.Need-same-length-4
 same-length-4 c =
@@ -106,14 +106,14 @@ returns-4 c =
     let at-whole = at-whole2 .before in
     let at-if3 = at-whole .before in
     let at-if2 = at-if3 .before .before in
-    let at-within-halves = at-if2 .before in
-    let at-bind-matching = at-within-halves .before .before .before in
+    let at-within-quotas = at-if2 .before in
+    let at-bind-matching = at-within-quotas .before .before .before in
     let at-if1 = at-bind-matching .before .before .before .before in
     let at-has-bit = at-if1 .before in
     let at-label-of = at-has-bit .before in
     let start = at-label-of .before .before in
     let a = start .args in
-    none-made (now (a .work)) (a .r) _ (a .w) (a .x) (a .y) _ _ (at-label-of .label-of .ensures .0) (at-has-bit .has-bit .ensures) (at-if1 .if1 .left) _ _ (at-bind-matching .bind-matching .ensures .0) _ (at-within-halves .within-halves .ensures) (at-if2 .if2 .left) (at-if3 .if3 .left) _ _ (at-whole2 .whole2 .ensures) (at-whole .whole .ensures) _ (at-if4 .if4 .taken) (c .before .before .given .ensures)
+    none-made (now (a .work)) (a .r) _ (a .w) (a .x) (a .y) _ _ (at-label-of .label-of .ensures .0) (at-has-bit .has-bit .ensures) (at-if1 .if1 .left) _ _ (at-bind-matching .bind-matching .ensures .0) _ (at-within-quotas .within-quotas .ensures) (at-if2 .if2 .left) (at-if3 .if3 .left) _ _ (at-whole2 .whole2 .ensures) (at-whole .whole .ensures) _ (at-if4 .if4 .taken) (c .before .before .given .ensures)
 
 same-requires : tie.Need-same-requires
 same-requires c κs = search needs
@@ -127,12 +127,12 @@ start-advice-requires c κs =
     let at-whole2 = at-if4 .before in
     let at-whole = at-whole2 .before in
     let at-if2 = at-whole .before .before .before in
-    let at-within-halves = at-if2 .before in
-    let at-bind-matching = at-within-halves .before .before .before in
+    let at-within-quotas = at-if2 .before in
+    let at-bind-matching = at-within-quotas .before .before .before in
     let start = at-bind-matching .before .before .before .before .before .before .before .before in
     let f = fits-same (start .pre .1 .0) (start .args .r) (c .before .before .same .result) (c .before .before .same .ensures) (start .pre .1 .1) in
-    let h = places-for (at-bind-matching .bind-matching .result) (at-within-halves .within-halves .result) (at-within-halves .within-halves .ensures) (at-if2 .if2 .left) in
-    (omega (arith, at-bind-matching .bind-matching .kept .0, start .pre .0), f .room, f .pc, f .env, omega (arith, h, at-bind-matching .bind-matching .ensures .1, at-if4 .if4 .left, at-whole2 .whole2 .ensures, at-whole .whole .ensures), omega (arith, h, at-whole2 .whole2 .ensures))
+    let h = places-for (at-bind-matching .bind-matching .result) (at-within-quotas .within-quotas .result) (at-within-quotas .within-quotas .ensures) (at-if2 .if2 .left) in
+    (omega (arith, at-bind-matching .bind-matching .kept .0, start .pre .0), f .frames, f .pc, f .env, omega (arith, h, at-bind-matching .bind-matching .ensures .1, at-if4 .if4 .left, at-whole2 .whole2 .ensures, at-whole .whole .ensures), omega (arith, h, at-whole2 .whole2 .ensures))
 
 same-length-5 : tie.Need-same-length-5
 same-length-5 c =
@@ -147,14 +147,14 @@ returns-5 c =
     let at-whole = at-whole2 .before in
     let at-if3 = at-whole .before in
     let at-if2 = at-if3 .before .before in
-    let at-within-halves = at-if2 .before in
-    let at-bind-matching = at-within-halves .before .before .before in
+    let at-within-quotas = at-if2 .before in
+    let at-bind-matching = at-within-quotas .before .before .before in
     let at-if1 = at-bind-matching .before .before .before .before in
     let at-has-bit = at-if1 .before in
     let at-label-of = at-has-bit .before in
     let start = at-label-of .before .before in
     let a = start .args in
-    some-made (now (a .work)) (a .r) _ (a .w) (a .x) (a .y) _ _ (at-label-of .label-of .ensures .0) (at-has-bit .has-bit .ensures) (at-if1 .if1 .left) _ _ (at-bind-matching .bind-matching .ensures .0) _ (at-within-halves .within-halves .ensures) (at-if2 .if2 .left) (at-if3 .if3 .left) _ _ (at-whole2 .whole2 .ensures) (at-whole .whole .ensures) _ _ (at-if4 .if4 .left) (at-same .same .ensures) (c .before .before .start-advice .ensures)
+    some-made (now (a .work)) (a .r) _ (a .w) (a .x) (a .y) _ _ (at-label-of .label-of .ensures .0) (at-has-bit .has-bit .ensures) (at-if1 .if1 .left) _ _ (at-bind-matching .bind-matching .ensures .0) _ (at-within-quotas .within-quotas .ensures) (at-if2 .if2 .left) (at-if3 .if3 .left) _ _ (at-whole2 .whole2 .ensures) (at-whole .whole .ensures) _ _ (at-if4 .if4 .left) (at-same .same .ensures) (c .before .before .start-advice .ensures)
 
 pub reduce-mark-spec : {M : Type 1} → statement M
 reduce-mark-spec =
@@ -162,11 +162,11 @@ reduce-mark-spec =
     (tie.spec
     label-of-requires
     has-bit-requires
-    unheard-requires
+    mark-without-advice-requires
     same-length
     returns
     bind-matching-requires
-    within-halves-requires
+    within-quotas-requires
     mark-out-requires
     halt-requires
     same-length-2

@@ -4,7 +4,7 @@ use native.Mathlib.Omega.{arith}
 use mathlib.Core.Path.{sym, subst, _∙_}
 use denote.Ref.{now}
 use Rattle.vm_machine.specs.declared.Regs.{Regs}
-use Rattle.vm_machine.specs.Registers.{headroom}
+use Rattle.vm_machine.specs.Registers.{fuelBias}
 use Rattle.vm_marks.proofs.Stayed.{takedown-made}
 use Rattle.vm_marks.proofs.Marked.{fits-same}
 use borrow.Author.Needs.{needs}
@@ -25,8 +25,8 @@ given-requires c κs =
     let s = c .before .before .before .before .before .before .before .before in
     let e = c .before .same .ensures in
     let f = fits-same (s .pre .2 .0) (s .args .r) _ e (s .pre .2 .1) in
-    let l = subst (λ (v : Regs). headroom < v .left) (sym e) (s .pre .1) in
-    (search needs, omega (arith, f .room), omega (arith, l))
+    let l = subst (λ (v : Regs). fuelBias < v .fuel) (sym e) (s .pre .1) in
+    (search needs, omega (arith, f .frames), omega (arith, l))
 
 same-length : tie.Need-same-length
 same-length c =

@@ -7,9 +7,9 @@ use lib.ListN.{length, drop}
 use Rattle.vm_code.specs.Words.{countOf}
 use Rattle.vm_machine.specs.Fetch.{Program}
 use Rattle.vm_machine.specs.Stacks.{variables, bindEntries}
-use Rattle.vm_matches.specs.Parts.{matchFields, entryIn, chainIn}
+use Rattle.vm_matches.specs.Matching.{matchFields, entryIn, chainIn}
 use Rattle.vm_matches.proofs.Fields.{entry-of}
-use Rattle.vm_matches.proofs.Binding.{room-start, bound-start, bound-on, bound-done, room-here, room-on, room-left}
+use Rattle.vm_matches.proofs.Binding.{frames-start, bound-start, bound-on, bound-done, frames-here, frames-on, frames-left}
 use borrow.Author.Needs.{needs}
 use Rattle.vm_matches.proofs.bindings.bind_entries.Statement.{statement}
 use Rattle.vm_matches.proofs.bindings.bind_entries.Tie as tie
@@ -31,7 +31,7 @@ loop-holds c =
     let s = c .before .before .before in
     let a = s .args in
     let p = s .pre .2 in
-    (omega arith, refl, refl, s .pre .1, (p .0, p .1, room-start (p .0) (a .w) _ (a .from .count) (c .count-of .ensures) (p .2)), (λ C e. bound-start C (a .w) _ (a .v) _ (c .count-of .ensures)))
+    (omega arith, refl, refl, s .pre .1, (p .0, p .1, frames-start (p .0) (a .w) _ (a .from .count) (c .count-of .ensures) (p .2)), (λ C e. bound-start C (a .w) _ (a .v) _ (c .count-of .ensures)))
 
 rest-of-requires : tie.Need-rest-of-requires Inv-loop μ-loop
 rest-of-requires c κs = search needs
@@ -46,7 +46,7 @@ bind-entry-requires c κs =
     let l = at-loop .loop in
     let p = l .inv .4 in
     let e = entry-of (p .0) (a .w) (now (a .fields)) (p .1) (l .i) _ (omega (arith, at-count-of .count-of .ensures)) refl in
-    (search needs, search needs, l .inv .3, room-here (p .0) (a .w) _ (l .i) (l .b .count) (p .2) (entryIn (now (a .fields)) (l .i)) e (at-loop-test .loop-test .taken))
+    (search needs, search needs, l .inv .3, frames-here (p .0) (a .w) _ (l .i) (l .b .count) (p .2) (entryIn (now (a .fields)) (l .i)) e (at-loop-test .loop-test .taken))
 
 add-i : tie.Need-add-i Inv-loop μ-loop
 add-i c = search needs
@@ -72,7 +72,7 @@ loop-again c =
       search needs,
       m .0 .memory .rest ∙ l .inv .2,
       m .1,
-      (p .0, p .1, room-on (p .0) (a .w) _ (l .i) (l .b .count) (p .2) x (l .rest) _ _ (l .b) _ (entry-of (p .0) (a .w) (now (a .fields)) (p .1) (l .i) x h refl) (at-loop-test .loop-test .taken) refl (m .0)),
+      (p .0, p .1, frames-on (p .0) (a .w) _ (l .i) (l .b .count) (p .2) x (l .rest) _ _ (l .b) _ (entry-of (p .0) (a .w) (now (a .fields)) (p .1) (l .i) x h refl) (at-loop-test .loop-test .taken) refl (m .0)),
       λ C e. l .inv .5 C e ∙ bound-on C (a .w) _ (l .i) x (l .rest) _ _ _ (l .b) _ (entry-of C (a .w) (now (a .fields)) e (l .i) x h refl) (at-loop-test .loop-test .taken) (at-rest-of .rest-of .ensures) (m .0),
     )
 
@@ -84,7 +84,7 @@ bind-rest-requires c κs =
     let a = s .args in
     let l = at-loop .loop in
     let p = l .inv .4 in
-    (search needs, l .inv .3, (p .0, p .1, room-left (p .0) (a .w) _ (l .i) (l .b .count) (p .2) (at-loop-test .loop-test .left)))
+    (search needs, l .inv .3, (p .0, p .1, frames-left (p .0) (a .w) _ (l .i) (l .b .count) (p .2) (at-loop-test .loop-test .left)))
 
 same-length : tie.Need-same-length Inv-loop μ-loop
 same-length c = search needs

@@ -1,6 +1,6 @@
 use denote.Ref.{now}
-use Rattle.vm_matches.specs.Parts.{entryIn}
-use Rattle.vm_matches.proofs.Binding.{entry-nothing, entry-value, entry-room}
+use Rattle.vm_matches.specs.Matching.{entryIn}
+use Rattle.vm_matches.proofs.Binding.{entry-nothing, entry-value, entry-frames}
 use borrow.Author.Needs.{needs}
 use Rattle.vm_matches.proofs.bindings.bind_entry.Statement.{statement}
 use Rattle.vm_matches.proofs.bindings.bind_entry.Tie as tie
@@ -24,7 +24,7 @@ bind-inside-requires c κs =
     let at-entry-at = at-if1 .before in
     let s = at-entry-at .before .before .before in
     let a = s .args in
-    (search needs, entry-room (entryIn (now (a .fields)) (a .i)) _ (at-entry-at .entry-at .ensures) (a .b .count) (at-if1 .if1 .left) (s .pre .3), s .pre .2)
+    (search needs, entry-frames (entryIn (now (a .fields)) (a .i)) _ (at-entry-at .entry-at .ensures) (a .b .count) (at-if1 .if1 .left) (s .pre .3), s .pre .2)
 
 same-length : tie.Need-same-length
 same-length c =

@@ -1,5 +1,5 @@
 use denote.Ref.{now}
-use Rattle.vm_matches.proofs.Binding.{rest-bound, rest-free, rest-room}
+use Rattle.vm_matches.proofs.Binding.{rest-bound, rest-free, rest-frames}
 use borrow.Author.Needs.{needs}
 use Rattle.vm_matches.proofs.bindings.bind_rest.Statement.{statement}
 use Rattle.vm_matches.proofs.bindings.bind_rest.Tie as tie
@@ -14,7 +14,7 @@ bind-inside-requires c κs =
     let s = at-binds-rest .before .before .before in
     let a = s .args in
     let p = s .pre .2 in
-    (search needs, rest-room (p .0) (a .w) _ (at-binds-rest .binds-rest .ensures (p .0) (p .1)) (a .b .count) (at-if1 .if1 .taken) (p .2), s .pre .1)
+    (search needs, rest-frames (p .0) (a .w) _ (at-binds-rest .binds-rest .ensures (p .0) (p .1)) (a .b .count) (at-if1 .if1 .taken) (p .2), s .pre .1)
 
 same-length : tie.Need-same-length
 same-length c =

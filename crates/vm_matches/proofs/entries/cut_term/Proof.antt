@@ -5,7 +5,6 @@ use Rattle.vm_matches.proofs.entries.cut_term.Tie as tie
 
 returns : tie.Need-returns
 returns c =
-    
     omega (arith, c .if1 .taken)
 
 sub-term-with : tie.Need-sub-term-with
@@ -19,7 +18,6 @@ term-with-requires c κs = search needs
 
 returns-2 : tie.Need-returns-2
 returns-2 c =
-    
     c .term-with .ensures
 
 pub cut-term-spec : {M : Type 1} → statement M

@@ -10,7 +10,6 @@ field-or-zero-requires c κs = search needs
 
 returns : tie.Need-returns
 returns c =
-    
     c .field-or-zero .ensures
 
 pub entry-at-spec : {M : Type 1} → statement M

@@ -1,5 +1,5 @@
 use Rattle.vm_machine.specs.Fetch.{Program}
-use Rattle.vm_matches.specs.Parts.{matchFields}
+use Rattle.vm_matches.specs.Matching.{matchFields}
 use Rattle.vm_matches.proofs.Fields.{entry-of}
 use denote.Ref.{now}
 use mathlib.Core.Path.{_≡_, sym, ap, _∙_}

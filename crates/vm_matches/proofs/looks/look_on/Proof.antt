@@ -3,9 +3,9 @@ use mathlib.Core.List.{List}
 use native.Mathlib.Omega.{arith}
 use Rattle.vm_code.specs.Words.{countOf}
 use Rattle.vm_machine.specs.Fetch.{Program}
-use Rattle.vm_matches.specs.Parts.{matchFields, lookedOf}
+use Rattle.vm_matches.specs.Matching.{matchFields, lookedOf}
 use denote.Ref.{now}
-use Rattle.vm_tables.specs.View.{memoryOf}
+use Rattle.vm_memory.specs.View.{memoryOf}
 use mathlib.Core.Path.{_≡_, refl, sym, _∙_}
 use Rattle.vm_machine.specs.Stacks.{lookOn}
 use Rattle.vm_matches.proofs.Looking.{look-none, look-stop, look-past, look-all}
@@ -39,10 +39,12 @@ returns c =
     let a = s .args in
     let l = at-loop .loop in
     let M = memoryOf (now (a .work)) in
-    let h : l .k .next < countOf (a .w) = omega (arith, at-if1 .if1 .taken, at-count-of .count-of .ensures) in
-    ((λ image e.
-    let C : Program = record { code = now (a .code); image = image } in
-    look-all C M (a .env) (a .w) _ (a .from .next) (lookedOf (a .from)) (at-count-of .count-of .ensures) (l .inv .0 image e ∙ look-stop C M (a .env) (a .w) _ (lookedOf (l .k)) (at-if1 .if1 .taken) (sym (at-stops-at .stops-at .ensures image (a .w) h e) ∙ c .if2 .taken))), l .inv .1)
+    let h : l .k .next < countOf (a .w) = omega (arith, at-if1 .if1 .taken, at-count-of .count-of .ensures) in (
+      (λ image e.
+          let C : Program = record { code = now (a .code); image = image } in
+          look-all C M (a .env) (a .w) _ (a .from .next) (lookedOf (a .from)) (at-count-of .count-of .ensures) (l .inv .0 image e ∙ look-stop C M (a .env) (a .w) _ (lookedOf (l .k)) (at-if1 .if1 .taken) (sym (at-stops-at .stops-at .ensures image (a .w) h e) ∙ c .if2 .taken))),
+      l .inv .1,
+    )
 
 past-entry-requires : tie.Need-past-entry-requires Inv-loop μ-loop
 past-entry-requires c κs = search needs
@@ -61,10 +63,12 @@ loop-again c =
     let a = s .args in
     let l = at-loop .loop in
     let M = memoryOf (now (a .work)) in
-    let h : l .k .next < countOf (a .w) = omega (arith, at-if1 .if1 .taken, at-count-of .count-of .ensures) in
-    ((λ image e.
-    let C : Program = record { code = now (a .code); image = image } in
-    l .inv .0 image e ∙ look-past C M (a .env) (a .w) _ (lookedOf (l .k)) _ (at-if1 .if1 .taken) (sym (at-stops-at .stops-at .ensures image (a .w) h e) ∙ at-if2 .if2 .left) (c .past-entry .ensures .0 image (a .w) h e) (c .past-entry .ensures .2)), c .past-entry .ensures .1 ∙ l .inv .1)
+    let h : l .k .next < countOf (a .w) = omega (arith, at-if1 .if1 .taken, at-count-of .count-of .ensures) in (
+      (λ image e.
+          let C : Program = record { code = now (a .code); image = image } in
+          l .inv .0 image e ∙ look-past C M (a .env) (a .w) _ (lookedOf (l .k)) _ (at-if1 .if1 .taken) (sym (at-stops-at .stops-at .ensures image (a .w) h e) ∙ at-if2 .if2 .left) (c .past-entry .ensures .0 image (a .w) h e) (c .past-entry .ensures .2)),
+      c .past-entry .ensures .1 ∙ l .inv .1,
+    )
 
 returns-2 : tie.Need-returns-2 Inv-loop μ-loop
 returns-2 c =
@@ -73,10 +77,12 @@ returns-2 c =
     let s = at-count-of .before .before .before .before in
     let a = s .args in
     let l = at-loop .loop in
-    let M = memoryOf (now (a .work)) in
-    ((λ image e.
-    let C : Program = record { code = now (a .code); image = image } in
-    look-all C M (a .env) (a .w) _ (a .from .next) (lookedOf (a .from)) (at-count-of .count-of .ensures) (l .inv .0 image e ∙ look-none C M (a .env) (a .w) _ (lookedOf (l .k)) (c .if1 .left))), l .inv .1)
+    let M = memoryOf (now (a .work)) in (
+      (λ image e.
+          let C : Program = record { code = now (a .code); image = image } in
+          look-all C M (a .env) (a .w) _ (a .from .next) (lookedOf (a .from)) (at-count-of .count-of .ensures) (l .inv .0 image e ∙ look-none C M (a .env) (a .w) _ (lookedOf (l .k)) (c .if1 .left))),
+      l .inv .1,
+    )
 
 pub look-on-spec : {M : Type 1} → statement M
 look-on-spec =

@@ -1,5 +1,5 @@
 use denote.Ref.{now}
-use Rattle.vm_tables.specs.View.{memoryOf}
+use Rattle.vm_memory.specs.View.{memoryOf}
 use native.Mathlib.Omega.{arith}
 use Rattle.vm_matches.proofs.Looking.{stack-came, cut-came}
 use borrow.Author.Needs.{needs}

@@ -1,7 +1,7 @@
 use denote.Ref.{now}
-use Rattle.vm_tables.specs.View.{memoryOf}
+use Rattle.vm_memory.specs.View.{memoryOf}
 use mathlib.Core.Path.{refl}
-use Rattle.vm_matches.specs.Parts.{lookedOf}
+use Rattle.vm_matches.specs.Matching.{lookedOf}
 use Rattle.vm_matches.proofs.Looking.{cut-past}
 use borrow.Author.Needs.{needs}
 use Rattle.vm_matches.proofs.looks.past_cut.Statement.{statement}

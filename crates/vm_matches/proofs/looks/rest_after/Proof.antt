@@ -1,5 +1,5 @@
 use denote.Ref.{now}
-use Rattle.vm_tables.specs.View.{memoryOf}
+use Rattle.vm_memory.specs.View.{memoryOf}
 use mathlib.Core.Path.{_≡_, sym, _∙_}
 use native.Mathlib.Omega.{arith}
 use Prim.Native.Nat.{_-_, _≤_}

@@ -1,5 +1,5 @@
 use denote.Ref.{now}
-use Rattle.vm_tables.specs.View.{memoryOf}
+use Rattle.vm_memory.specs.View.{memoryOf}
 use Rattle.vm_matches.proofs.Looking.{top-as}
 use borrow.Author.Needs.{needs}
 use Rattle.vm_matches.proofs.looks.top_fits.Statement.{statement}

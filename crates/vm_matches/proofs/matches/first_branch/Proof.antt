@@ -8,20 +8,20 @@ use Rattle.calculus.specs.Limits.{bindingLimit}
 use Rattle.vm_code.specs.Words.{countOf}
 use Rattle.vm_pools.specs.Pools.{bindingsOut}
 use Rattle.vm_machine.specs.Stacks.{variables}
-use Rattle.vm_states.proofs.Halves.{whole-room}
+use Rattle.vm_registers.proofs.Quotas.{whole-capacity}
 use Rattle.vm_matches.proofs.Matching.{branch-full, branch-spent, branch-made}
 use borrow.Author.Needs.{needs}
 use Rattle.vm_matches.proofs.matches.first_branch.Statement.{statement}
 use Rattle.vm_matches.proofs.matches.first_branch.Tie as tie
 
-half-of-requires : tie.Need-half-of-requires
-half-of-requires c κs = search needs
+quota-of-requires : tie.Need-quota-of-requires
+quota-of-requires c κs = search needs
 
 variables-requires : tie.Need-variables-requires
 variables-requires c κs = search needs
 
-has-room-requires : tie.Need-has-room-requires
-has-room-requires c κs = search needs
+has-capacity-requires : tie.Need-has-capacity-requires
+has-capacity-requires c κs = search needs
 
 bindings-out-requires : tie.Need-bindings-out-requires
 bindings-out-requires c κs = search needs
@@ -33,14 +33,14 @@ returns : tie.Need-returns
 returns c =
     let at-bindings-out = c .before in
     let at-if1 = at-bindings-out .before in
-    let at-has-room = at-if1 .before in
-    let at-variables = at-has-room .before in
-    let at-half-of = at-variables .before .before .before in
-    let s = at-half-of .before .before .before .before in
+    let at-has-capacity = at-if1 .before in
+    let at-variables = at-has-capacity .before in
+    let at-quota-of = at-variables .before .before .before in
+    let s = at-quota-of .before .before .before .before in
     let a = s .args in
     λ image e.
     let C : Program = record { code = now (a .code); image = image } in
-    branch-full C (now (a .work)) (now (a .work)) (now (a .work)) (a .r) _ (a .w) (a .v) _ (at-variables .variables .ensures .0 C e) _ _ (at-half-of .half-of .ensures) (at-has-room .has-room .ensures) _ (at-if1 .if1 .taken) (at-bindings-out .bindings-out .ensures) (c .halt .ensures)
+    branch-full C (now (a .work)) (now (a .work)) (now (a .work)) (a .r) _ (a .w) (a .v) _ (at-variables .variables .ensures .0 C e) _ _ (at-quota-of .quota-of .ensures) (at-has-capacity .has-capacity .ensures) _ (at-if1 .if1 .taken) (at-bindings-out .bindings-out .ensures) (c .halt .ensures)
 
 halt-requires-2 : tie.Need-halt-requires-2
 halt-requires-2 c κs = search needs
@@ -49,14 +49,14 @@ returns-2 : tie.Need-returns-2
 returns-2 c =
     let at-if2 = c .before in
     let at-if1 = at-if2 .before .before in
-    let at-has-room = at-if1 .before in
-    let at-variables = at-has-room .before in
-    let at-half-of = at-variables .before .before .before in
-    let s = at-half-of .before .before .before .before in
+    let at-has-capacity = at-if1 .before in
+    let at-variables = at-has-capacity .before in
+    let at-quota-of = at-variables .before .before .before in
+    let s = at-quota-of .before .before .before .before in
     let a = s .args in
     λ image e.
     let C : Program = record { code = now (a .code); image = image } in
-    branch-spent C (now (a .work)) (now (a .work)) (now (a .work)) (a .r) _ (a .w) (a .v) _ (at-variables .variables .ensures .0 C e) _ _ (at-half-of .half-of .ensures) (at-has-room .has-room .ensures) (at-if2 .if2 .taken) (at-if1 .if1 .left) (c .halt2 .ensures)
+    branch-spent C (now (a .work)) (now (a .work)) (now (a .work)) (a .r) _ (a .w) (a .v) _ (at-variables .variables .ensures .0 C e) _ _ (at-quota-of .quota-of .ensures) (at-has-capacity .has-capacity .ensures) (at-if2 .if2 .taken) (at-if1 .if1 .left) (c .halt2 .ensures)
 
 whole-requires : tie.Need-whole-requires
 whole-requires c κs = search needs
@@ -65,14 +65,14 @@ bind-entries-requires : tie.Need-bind-entries-requires
 bind-entries-requires c κs =
     let at-whole = c .before in
     let at-if1 = at-whole .before .before .before in
-    let at-has-room = at-if1 .before in
-    let at-variables = at-has-room .before in
-    let at-half-of = at-variables .before .before .before in
-    let s = at-half-of .before .before .before .before in
+    let at-has-capacity = at-if1 .before in
+    let at-variables = at-has-capacity .before in
+    let at-quota-of = at-variables .before .before .before in
+    let s = at-quota-of .before .before .before .before in
     let a = s .args in
     let p = s .pre .2 in
     let C : Program = record { code = now (a .code); image = p .0 } in
-    let k = whole-room bindingLimit (at-variables .variables .result) (λ p. p .bindings) bindingsOut (a .w) (a .r) _ _ (at-half-of .half-of .ensures) (at-has-room .has-room .ensures) (s .pre .0 .bindings) (not-false (at-has-room .has-room .result) (at-if1 .if1 .left)) in
+    let k = whole-capacity bindingLimit (at-variables .variables .result) (λ p. p .bindings) bindingsOut (a .w) (a .r) _ _ (at-quota-of .quota-of .ensures) (at-has-capacity .has-capacity .ensures) (s .pre .0 .bindings) (not-false (at-has-capacity .has-capacity .result) (at-if1 .if1 .left)) in
     let h : at-whole .whole .result + variables C (a .w) (countOf (a .w)) 0 ≤ 2048 = omega (arith, at-variables .variables .ensures .0 C (p .1), at-whole .whole .ensures, k) in
     (search needs, s .pre .0 .env, (C, p .1, h))
 
@@ -84,7 +84,7 @@ called-requires c κs =
     let at-bind-entries = c .before .before .before .before in
     let s = at-bind-entries .before .before .before .before .before .before .before .before .before .before .before .before .before .before in
     let m = s .pre .0 in
-    (omega (arith, m .coded), search needs, m .room, s .pre .1, m .pc, m .env, at-bind-entries .bind-entries .ensures .1)
+    (omega (arith, m .coded), search needs, m .frames, s .pre .1, m .pc, m .env, at-bind-entries .bind-entries .ensures .1)
 
 sub-q : tie.Need-sub-q
 sub-q c = search needs
@@ -92,12 +92,12 @@ sub-q c = search needs
 charge-bindings-requires : tie.Need-charge-bindings-requires
 charge-bindings-requires c κs =
     let at-if1 = c .before .before .before .before .before .before .before .before .before .before .before .before .before in
-    let at-has-room = at-if1 .before in
-    let at-variables = at-has-room .before in
-    let at-half-of = at-variables .before .before .before in
-    let s = at-half-of .before .before .before .before in
+    let at-has-capacity = at-if1 .before in
+    let at-variables = at-has-capacity .before in
+    let at-quota-of = at-variables .before .before .before in
+    let s = at-quota-of .before .before .before .before in
     let a = s .args in
-    omega (arith, whole-room bindingLimit (at-variables .variables .result) (λ p. p .bindings) bindingsOut (a .w) (a .r) _ _ (at-half-of .half-of .ensures) (at-has-room .has-room .ensures) (s .pre .0 .bindings) (not-false (at-has-room .has-room .result) (at-if1 .if1 .left)))
+    omega (arith, whole-capacity bindingLimit (at-variables .variables .result) (λ p. p .bindings) bindingsOut (a .w) (a .r) _ _ (at-quota-of .quota-of .ensures) (at-has-capacity .has-capacity .ensures) (s .pre .0 .bindings) (not-false (at-has-capacity .has-capacity .result) (at-if1 .if1 .left)))
 
 same-length : tie.Need-same-length
 same-length c =
@@ -113,22 +113,22 @@ returns-3 c =
     let at-whole = at-bind-entries .before .before in
     let at-if2 = at-whole .before in
     let at-if1 = at-if2 .before .before in
-    let at-has-room = at-if1 .before in
-    let at-variables = at-has-room .before in
-    let at-half-of = at-variables .before .before .before in
-    let s = at-half-of .before .before .before .before in
+    let at-has-capacity = at-if1 .before in
+    let at-variables = at-has-capacity .before in
+    let at-quota-of = at-variables .before .before .before in
+    let s = at-quota-of .before .before .before .before in
     let a = s .args in
     λ image e.
     let C : Program = record { code = now (a .code); image = image } in
-    branch-made C (now (a .work)) _ _ (a .r) _ (a .w) (a .v) _ (at-variables .variables .ensures .0 C e) _ _ (at-half-of .half-of .ensures) (at-has-room .has-room .ensures) (at-if2 .if2 .left) _ _ _ _ _ (at-if1 .if1 .left) (at-whole .whole .ensures) (c .charge-bindings .ensures) (at-bind-entries .bind-entries .ensures .0 C e) refl (at-branch-at .branch-at .ensures image (a .w) e) (at-called .called .ensures image)
+    branch-made C (now (a .work)) _ _ (a .r) _ (a .w) (a .v) _ (at-variables .variables .ensures .0 C e) _ _ (at-quota-of .quota-of .ensures) (at-has-capacity .has-capacity .ensures) (at-if2 .if2 .left) _ _ _ _ _ (at-if1 .if1 .left) (at-whole .whole .ensures) (c .charge-bindings .ensures) (at-bind-entries .bind-entries .ensures .0 C e) refl (at-branch-at .branch-at .ensures image (a .w) e) (at-called .called .ensures image)
 
 pub first-branch-spec : {M : Type 1} → statement M
 first-branch-spec =
     tie.close
     (tie.spec
-    half-of-requires
+    quota-of-requires
     variables-requires
-    has-room-requires
+    has-capacity-requires
     bindings-out-requires
     halt-requires
     returns

@@ -1,6 +1,6 @@
 use denote.Ref.{now}
 use Rattle.vm_labels.proofs.Labelling.{judged-frames, judged-made}
-use Rattle.vm_matches.specs.Parts.{lookedOf}
+use Rattle.vm_matches.specs.Matching.{lookedOf}
 use Rattle.vm_machine.specs.Turn.{reduceMatch}
 use borrow.Author.Needs.{needs}
 use Rattle.vm_matches.proofs.matches.make_match.Statement.{statement}

@@ -1,5 +1,5 @@
 use denote.Ref.{now}
-use Rattle.vm_matches.specs.Parts.{lookedOf}
+use Rattle.vm_matches.specs.Matching.{lookedOf}
 use Rattle.vm_matches.proofs.Matching.{matched, not-matched}
 use borrow.Author.Needs.{needs}
 use Rattle.vm_matches.proofs.matches.reduce_match.Statement.{statement}

@@ -2,7 +2,7 @@ use mathlib.Core.Path.{ap, _∙_}
 use native.Mathlib.Omega.{arith}
 use Rattle.vm_code.specs.Words.{classOf}
 use Rattle.vm_machine.specs.Fetch.{Program, atomValue}
-use Rattle.vm_tables.specs.View.{memoryOf}
+use Rattle.vm_memory.specs.View.{memoryOf}
 use Rattle.vm_matches.proofs.Fields.{term-of}
 use denote.Ref.{now}
 use Rattle.vm_matches.proofs.Matching.{match-atom, match-operand}

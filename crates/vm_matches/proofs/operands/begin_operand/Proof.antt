@@ -28,8 +28,8 @@ returns c =
     let a = s .args in
     λ image. operand-framed (record { code = now (a .code); image = image }) (now (a .work)) (now (a .work)) (a .r) _ (a .x .0) (a .v) (a .byte) _ (at-depth-of .depth-of .ensures ∙ ap depthOf (at-instruction .instruction .ensures)) (at-if1 .if1 .taken) (c .halt .ensures)
 
-sub-room : tie.Need-sub-room
-sub-room c = search needs
+sub-frames : tie.Need-sub-frames
+sub-frames c = search needs
 
 add-put-match : tie.Need-add-put-match
 add-put-match c = search needs
@@ -74,7 +74,7 @@ begin-operand-spec =
     add-d
     halt-requires
     returns
-    sub-room
+    sub-frames
     add-put-match
     match-word-requires
     put-match-requires

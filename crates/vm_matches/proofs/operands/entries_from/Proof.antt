@@ -2,7 +2,7 @@ use native.Mathlib.Omega.{arith}
 use Rattle.vm_machine.specs.Fetch.{Program}
 use Rattle.vm_matches.proofs.Fields.{entry-of}
 use denote.Ref.{now}
-use Rattle.vm_matches.specs.Parts.{lookedOf}
+use Rattle.vm_matches.specs.Matching.{lookedOf}
 use Rattle.vm_matches.proofs.Matching.{entries-done, entries-on}
 use borrow.Author.Needs.{needs}
 use Rattle.vm_matches.proofs.operands.entries_from.Statement.{statement}

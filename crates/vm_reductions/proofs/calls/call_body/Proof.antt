@@ -1,5 +1,5 @@
 use Rattle.vm_reductions.proofs.Reduced.{call-made, spent-call-made, no-call-made}
-use Rattle.vm_states.proofs.Halves.{whole-room}
+use Rattle.vm_registers.proofs.Quotas.{whole-capacity}
 use Rattle.vm_pools.specs.Pools.{bindingsOut}
 use Rattle.calculus.specs.Limits.{bindingLimit}
 use denote.Ref.{now}
@@ -8,11 +8,11 @@ use borrow.Author.Needs.{needs}
 use Rattle.vm_reductions.proofs.calls.call_body.Statement.{statement}
 use Rattle.vm_reductions.proofs.calls.call_body.Tie as tie
 
-half-of-requires : tie.Need-half-of-requires
-half-of-requires c κs = search needs
+quota-of-requires : tie.Need-quota-of-requires
+quota-of-requires c κs = search needs
 
-has-room-requires : tie.Need-has-room-requires
-has-room-requires c κs = search needs
+has-capacity-requires : tie.Need-has-capacity-requires
+has-capacity-requires c κs = search needs
 
 halt-requires : tie.Need-halt-requires
 halt-requires c κs = search needs
@@ -20,11 +20,11 @@ halt-requires c κs = search needs
 returns : tie.Need-returns
 returns c =
     let at-if1 = c .before .before .before in
-    let at-has-room = at-if1 .before in
-    let at-half-of = at-has-room .before .before .before in
-    let start = at-half-of .before .before .before in
+    let at-has-capacity = at-if1 .before in
+    let at-quota-of = at-has-capacity .before .before .before in
+    let start = at-quota-of .before .before .before in
     let a = start .args in
-    λ image. spent-call-made (record { code = now (a .code); image = image }) (now (a .work)) (now (a .work)) (now (a .work)) (a .r) _ (a .w) (a .x) (a .g) _ _ (at-half-of .half-of .ensures) (at-has-room .has-room .ensures) (c .before .if2 .taken) (at-if1 .if1 .taken) (c .halt .ensures)
+    λ image. spent-call-made (record { code = now (a .code); image = image }) (now (a .work)) (now (a .work)) (now (a .work)) (a .r) _ (a .w) (a .x) (a .g) _ _ (at-quota-of .quota-of .ensures) (at-has-capacity .has-capacity .ensures) (c .before .if2 .taken) (at-if1 .if1 .taken) (c .halt .ensures)
 
 whole-requires : tie.Need-whole-requires
 whole-requires c κs = search needs
@@ -35,20 +35,20 @@ closure-env-requires c κs = search needs
 bind-requires : tie.Need-bind-requires
 bind-requires c κs =
     let at-if1 = c .before .before .before .before .before in
-    let at-has-room = at-if1 .before in
-    let at-half-of = at-has-room .before .before .before in
-    let start = at-half-of .before .before .before in
-    (search needs, omega (arith, c .before .before .whole .ensures, whole-room bindingLimit 1 (λ p. p .bindings) bindingsOut (start .args .w) (start .args .r) _ _ (at-half-of .half-of .ensures) (at-has-room .has-room .ensures) (start .pre .3 .1 .bindings) (at-if1 .if1 .taken)), omega arith, omega (arith, c .closure-env .ensures))
+    let at-has-capacity = at-if1 .before in
+    let at-quota-of = at-has-capacity .before .before .before in
+    let start = at-quota-of .before .before .before in
+    (search needs, omega (arith, c .before .before .whole .ensures, whole-capacity bindingLimit 1 (λ p. p .bindings) bindingsOut (start .args .w) (start .args .r) _ _ (at-quota-of .quota-of .ensures) (at-has-capacity .has-capacity .ensures) (start .pre .3 .1 .bindings) (at-if1 .if1 .taken)), omega arith, omega (arith, c .closure-env .ensures))
 
 called-requires : tie.Need-called-requires
 called-requires c κs =
     let at-whole = c .before .before .before .before .before .before in
     let at-if1 = at-whole .before .before .before in
-    let at-has-room = at-if1 .before in
-    let at-half-of = at-has-room .before .before .before in
-    let start = at-half-of .before .before .before in
+    let at-has-capacity = at-if1 .before in
+    let at-quota-of = at-has-capacity .before .before .before in
+    let start = at-quota-of .before .before .before in
     let f = start .pre .3 .1 in
-    (search needs, search needs, omega (arith, f .room), start .pre .2, f .pc, f .env, omega (arith, at-whole .whole .ensures, whole-room bindingLimit 1 (λ p. p .bindings) bindingsOut (start .args .w) (start .args .r) _ _ (at-half-of .half-of .ensures) (at-has-room .has-room .ensures) (start .pre .3 .1 .bindings) (at-if1 .if1 .taken)))
+    (search needs, search needs, omega (arith, f .frames), start .pre .2, f .pc, f .env, omega (arith, at-whole .whole .ensures, whole-capacity bindingLimit 1 (λ p. p .bindings) bindingsOut (start .args .w) (start .args .r) _ _ (at-quota-of .quota-of .ensures) (at-has-capacity .has-capacity .ensures) (start .pre .3 .1 .bindings) (at-if1 .if1 .taken)))
 
 sub-q : tie.Need-sub-q
 sub-q c =
@@ -58,10 +58,10 @@ sub-q c =
 charge-bindings-requires : tie.Need-charge-bindings-requires
 charge-bindings-requires c κs =
     let at-if1 = c .before .before .before .before .before .before .before .before .before .before .before .before .before in
-    let at-has-room = at-if1 .before in
-    let at-half-of = at-has-room .before .before .before in
-    let start = at-half-of .before .before .before in
-    omega (arith, whole-room bindingLimit 1 (λ p. p .bindings) bindingsOut (start .args .w) (start .args .r) _ _ (at-half-of .half-of .ensures) (at-has-room .has-room .ensures) (start .pre .3 .1 .bindings) (at-if1 .if1 .taken))
+    let at-has-capacity = at-if1 .before in
+    let at-quota-of = at-has-capacity .before .before .before in
+    let start = at-quota-of .before .before .before in
+    omega (arith, whole-capacity bindingLimit 1 (λ p. p .bindings) bindingsOut (start .args .w) (start .args .r) _ _ (at-quota-of .quota-of .ensures) (at-has-capacity .has-capacity .ensures) (start .pre .3 .1 .bindings) (at-if1 .if1 .taken))
 
 same-length : tie.Need-same-length
 same-length c = search needs
@@ -74,11 +74,11 @@ returns-2 c =
     let at-whole = at-closure-env .before .before in
     let at-if2 = at-whole .before in
     let at-if1 = at-if2 .before .before in
-    let at-has-room = at-if1 .before in
-    let at-half-of = at-has-room .before .before .before in
-    let start = at-half-of .before .before .before in
+    let at-has-capacity = at-if1 .before in
+    let at-quota-of = at-has-capacity .before .before .before in
+    let start = at-quota-of .before .before .before in
     let a = start .args in
-    λ image. call-made (record { code = now (a .code); image = image }) (now (a .work)) _ _ (a .r) _ (a .w) (a .x) (a .g) _ _ (at-half-of .half-of .ensures) (at-has-room .has-room .ensures) (at-if2 .if2 .left) _ _ _ (at-if1 .if1 .taken) (at-whole .whole .ensures) (at-closure-env .closure-env .ensures) (c .charge-bindings .ensures) (at-bind .bind .ensures) (at-called .called .ensures image)
+    λ image. call-made (record { code = now (a .code); image = image }) (now (a .work)) _ _ (a .r) _ (a .w) (a .x) (a .g) _ _ (at-quota-of .quota-of .ensures) (at-has-capacity .has-capacity .ensures) (at-if2 .if2 .left) _ _ _ (at-if1 .if1 .taken) (at-whole .whole .ensures) (at-closure-env .closure-env .ensures) (c .charge-bindings .ensures) (at-bind .bind .ensures) (at-called .called .ensures image)
 
 bindings-out-requires : tie.Need-bindings-out-requires
 bindings-out-requires c κs = search needs
@@ -88,18 +88,18 @@ halt-requires-2 c κs = search needs
 
 returns-3 : tie.Need-returns-3
 returns-3 c =
-    let at-has-room = c .before .before .before in
-    let at-half-of = at-has-room .before .before .before in
-    let start = at-half-of .before .before .before in
+    let at-has-capacity = c .before .before .before in
+    let at-quota-of = at-has-capacity .before .before .before in
+    let start = at-quota-of .before .before .before in
     let a = start .args in
-    λ image. no-call-made (record { code = now (a .code); image = image }) (now (a .work)) (now (a .work)) (now (a .work)) (a .r) _ (a .w) (a .x) (a .g) _ _ (at-half-of .half-of .ensures) (at-has-room .has-room .ensures) _ (c .before .before .if1 .left) (c .before .bindings-out .ensures) (c .halt2 .ensures)
+    λ image. no-call-made (record { code = now (a .code); image = image }) (now (a .work)) (now (a .work)) (now (a .work)) (a .r) _ (a .w) (a .x) (a .g) _ _ (at-quota-of .quota-of .ensures) (at-has-capacity .has-capacity .ensures) _ (c .before .before .if1 .left) (c .before .bindings-out .ensures) (c .halt2 .ensures)
 
 pub call-body-spec : {M : Type 1} → statement M
 call-body-spec =
     tie.close
     (tie.spec
-    half-of-requires
-    has-room-requires
+    quota-of-requires
+    has-capacity-requires
     halt-requires
     returns
     whole-requires

@@ -1,5 +1,5 @@
 use Rattle.vm_reductions.proofs.Reduced.{apply-made, no-apply-made}
-use Rattle.vm_states.proofs.Halves.{whole-room}
+use Rattle.vm_registers.proofs.Quotas.{whole-capacity}
 use Rattle.vm_pools.specs.Pools.{bindingsOut}
 use Rattle.vm_machine.specs.declared.Regs.{Regs}
 use Rattle.calculus.specs.Limits.{bindingLimit}
@@ -10,11 +10,11 @@ use borrow.Author.Needs.{needs}
 use Rattle.vm_reductions.proofs.calls.reduce_apply.Statement.{statement}
 use Rattle.vm_reductions.proofs.calls.reduce_apply.Tie as tie
 
-half-of-requires : tie.Need-half-of-requires
-half-of-requires c κs = search needs
+quota-of-requires : tie.Need-quota-of-requires
+quota-of-requires c κs = search needs
 
-has-room-requires : tie.Need-has-room-requires
-has-room-requires c κs = search needs
+has-capacity-requires : tie.Need-has-capacity-requires
+has-capacity-requires c κs = search needs
 
 whole-requires : tie.Need-whole-requires
 whole-requires c κs = search needs
@@ -25,10 +25,10 @@ closure-env-requires c κs = search needs
 bind-requires : tie.Need-bind-requires
 bind-requires c κs =
     let at-if1 = c .before .before .before in
-    let at-has-room = at-if1 .before in
-    let at-half-of = at-has-room .before .before .before in
-    let start = at-half-of .before .before .before in
-    (search needs, omega (arith, c .before .before .whole .ensures, whole-room bindingLimit 1 (λ p. p .bindings) bindingsOut (start .args .w) (start .args .r) _ _ (at-half-of .half-of .ensures) (at-has-room .has-room .ensures) (start .pre .4 .1 .bindings) (at-if1 .if1 .taken)), omega arith, omega (arith, c .closure-env .ensures))
+    let at-has-capacity = at-if1 .before in
+    let at-quota-of = at-has-capacity .before .before .before in
+    let start = at-quota-of .before .before .before in
+    (search needs, omega (arith, c .before .before .whole .ensures, whole-capacity bindingLimit 1 (λ p. p .bindings) bindingsOut (start .args .w) (start .args .r) _ _ (at-quota-of .quota-of .ensures) (at-has-capacity .has-capacity .ensures) (start .pre .4 .1 .bindings) (at-if1 .if1 .taken)), omega arith, omega (arith, c .closure-env .ensures))
 
 same-requires : tie.Need-same-requires
 same-requires c κs = search needs
@@ -41,10 +41,10 @@ sub-s c =
 charge-bindings-requires : tie.Need-charge-bindings-requires
 charge-bindings-requires c κs =
     let at-if1 = c .before .before .before .before .before .before .before .before in
-    let at-has-room = at-if1 .before in
-    let at-half-of = at-has-room .before .before .before in
-    let start = at-half-of .before .before .before in
-    omega (arith, whole-room bindingLimit 1 (λ p. p .bindings) bindingsOut (start .args .w) (start .args .r) _ _ (at-half-of .half-of .ensures) (at-has-room .has-room .ensures) (start .pre .4 .1 .bindings) (at-if1 .if1 .taken))
+    let at-has-capacity = at-if1 .before in
+    let at-quota-of = at-has-capacity .before .before .before in
+    let start = at-quota-of .before .before .before in
+    omega (arith, whole-capacity bindingLimit 1 (λ p. p .bindings) bindingsOut (start .args .w) (start .args .r) _ _ (at-quota-of .quota-of .ensures) (at-has-capacity .has-capacity .ensures) (start .pre .4 .1 .bindings) (at-if1 .if1 .taken))
 
 function-target-requires : tie.Need-function-target-requires
 function-target-requires c κs = search needs
@@ -55,12 +55,12 @@ called-requires c κs =
     let at-bind = at-same .before .before .before in
     let at-whole = at-bind .before .before .before in
     let at-if1 = at-whole .before in
-    let at-has-room = at-if1 .before in
-    let at-half-of = at-has-room .before .before .before in
-    let start = at-half-of .before .before .before in
+    let at-has-capacity = at-if1 .before in
+    let at-quota-of = at-has-capacity .before .before .before in
+    let start = at-quota-of .before .before .before in
     let f = start .pre .4 .1 in
     let e = at-same .same .ensures in
-    (omega (arith, start .pre .0), omega (arith, at-bind .bind .kept .0, start .pre .1), omega (arith, ap (λ (v : Regs). v .room) e, f .room), omega (arith, ap (λ (v : Regs). v .room) e, start .pre .3), omega (arith, ap (λ (v : Regs). v .pc) e, f .pc), omega (arith, ap (λ (v : Regs). v .env) e, f .env), omega (arith, at-whole .whole .ensures, whole-room bindingLimit 1 (λ p. p .bindings) bindingsOut (start .args .w) (start .args .r) _ _ (at-half-of .half-of .ensures) (at-has-room .has-room .ensures) (start .pre .4 .1 .bindings) (at-if1 .if1 .taken)))
+    (omega (arith, start .pre .0), omega (arith, at-bind .bind .kept .0, start .pre .1), omega (arith, ap (λ (v : Regs). v .frames) e, f .frames), omega (arith, ap (λ (v : Regs). v .frames) e, start .pre .3), omega (arith, ap (λ (v : Regs). v .pc) e, f .pc), omega (arith, ap (λ (v : Regs). v .env) e, f .env), omega (arith, at-whole .whole .ensures, whole-capacity bindingLimit 1 (λ p. p .bindings) bindingsOut (start .args .w) (start .args .r) _ _ (at-quota-of .quota-of .ensures) (at-has-capacity .has-capacity .ensures) (start .pre .4 .1 .bindings) (at-if1 .if1 .taken)))
 
 same-length : tie.Need-same-length
 same-length c = search needs
@@ -74,11 +74,11 @@ returns c =
     let at-closure-env = at-bind .before in
     let at-whole = at-closure-env .before .before in
     let at-if1 = at-whole .before in
-    let at-has-room = at-if1 .before in
-    let at-half-of = at-has-room .before .before .before in
-    let start = at-half-of .before .before .before in
+    let at-has-capacity = at-if1 .before in
+    let at-quota-of = at-has-capacity .before .before .before in
+    let start = at-quota-of .before .before .before in
     let a = start .args in
-    λ image. apply-made (record { code = now (a .code); image = image }) (now (a .work)) _ _ (a .r) _ (a .w) (a .x) (a .y) _ _ (at-half-of .half-of .ensures) (at-has-room .has-room .ensures) (start .pre .2) _ _ _ _ _ (at-if1 .if1 .taken) (at-whole .whole .ensures) (at-function-target .function-target .ensures) (at-closure-env .closure-env .ensures) (at-same .same .ensures) (at-charge-bindings .charge-bindings .ensures) (at-bind .bind .ensures) (c .before .before .called .ensures image)
+    λ image. apply-made (record { code = now (a .code); image = image }) (now (a .work)) _ _ (a .r) _ (a .w) (a .x) (a .y) _ _ (at-quota-of .quota-of .ensures) (at-has-capacity .has-capacity .ensures) (start .pre .2) _ _ _ _ _ (at-if1 .if1 .taken) (at-whole .whole .ensures) (at-function-target .function-target .ensures) (at-closure-env .closure-env .ensures) (at-same .same .ensures) (at-charge-bindings .charge-bindings .ensures) (at-bind .bind .ensures) (c .before .before .called .ensures image)
 
 bindings-out-requires : tie.Need-bindings-out-requires
 bindings-out-requires c κs = search needs
@@ -88,18 +88,18 @@ halt-requires c κs = search needs
 
 returns-2 : tie.Need-returns-2
 returns-2 c =
-    let at-has-room = c .before .before .before in
-    let at-half-of = at-has-room .before .before .before in
-    let start = at-half-of .before .before .before in
+    let at-has-capacity = c .before .before .before in
+    let at-quota-of = at-has-capacity .before .before .before in
+    let start = at-quota-of .before .before .before in
     let a = start .args in
-    λ image. no-apply-made (record { code = now (a .code); image = image }) (now (a .work)) (now (a .work)) (now (a .work)) (a .r) _ (a .w) (a .x) (a .y) _ _ (at-half-of .half-of .ensures) (at-has-room .has-room .ensures) _ (c .before .before .if1 .left) (c .before .bindings-out .ensures) (c .halt .ensures)
+    λ image. no-apply-made (record { code = now (a .code); image = image }) (now (a .work)) (now (a .work)) (now (a .work)) (a .r) _ (a .w) (a .x) (a .y) _ _ (at-quota-of .quota-of .ensures) (at-has-capacity .has-capacity .ensures) _ (c .before .before .if1 .left) (c .before .bindings-out .ensures) (c .halt .ensures)
 
 pub reduce-apply-spec : {M : Type 1} → statement M
 reduce-apply-spec =
     tie.close
     (tie.spec
-    half-of-requires
-    has-room-requires
+    quota-of-requires
+    has-capacity-requires
     whole-requires
     closure-env-requires
     bind-requires

@@ -1,5 +1,5 @@
 use Rattle.vm_reductions.proofs.Reduced.{split-made, no-split-made}
-use Rattle.vm_states.proofs.Halves.{whole-room}
+use Rattle.vm_registers.proofs.Quotas.{whole-capacity}
 use Rattle.vm_pools.specs.Pools.{bindingsOut}
 use Rattle.calculus.specs.Limits.{bindingLimit}
 use denote.Ref.{now}
@@ -8,11 +8,11 @@ use borrow.Author.Needs.{needs}
 use Rattle.vm_reductions.proofs.calls.reduce_split.Statement.{statement}
 use Rattle.vm_reductions.proofs.calls.reduce_split.Tie as tie
 
-half-of-requires : tie.Need-half-of-requires
-half-of-requires c κs = search needs
+quota-of-requires : tie.Need-quota-of-requires
+quota-of-requires c κs = search needs
 
-has-room-requires : tie.Need-has-room-requires
-has-room-requires c κs = search needs
+has-capacity-requires : tie.Need-has-capacity-requires
+has-capacity-requires c κs = search needs
 
 whole-requires : tie.Need-whole-requires
 whole-requires c κs = search needs
@@ -23,10 +23,10 @@ piece-of-requires c κs = search needs
 bind-parts-requires : tie.Need-bind-parts-requires
 bind-parts-requires c κs =
     let at-if1 = c .before .before .before in
-    let at-has-room = at-if1 .before in
-    let at-half-of = at-has-room .before .before .before in
-    let start = at-half-of .before .before .before in
-    (search needs, omega (arith, c .piece-of .ensures), omega (arith, c .before .before .whole .ensures, whole-room bindingLimit 2 (λ p. p .bindings) bindingsOut (start .args .w) (start .args .r) _ _ (at-half-of .half-of .ensures) (at-has-room .has-room .ensures) (start .pre .4 .1 .bindings) (at-if1 .if1 .taken)), start .pre .4 .1 .env)
+    let at-has-capacity = at-if1 .before in
+    let at-quota-of = at-has-capacity .before .before .before in
+    let start = at-quota-of .before .before .before in
+    (search needs, omega (arith, c .piece-of .ensures), omega (arith, c .before .before .whole .ensures, whole-capacity bindingLimit 2 (λ p. p .bindings) bindingsOut (start .args .w) (start .args .r) _ _ (at-quota-of .quota-of .ensures) (at-has-capacity .has-capacity .ensures) (start .pre .4 .1 .bindings) (at-if1 .if1 .taken)), start .pre .4 .1 .env)
 
 field-b-requires : tie.Need-field-b-requires
 field-b-requires c κs = search needs
@@ -35,20 +35,20 @@ add-called : tie.Need-add-called
 add-called c =
     let at-whole = c .before .before .before .before .before .before .before in
     let at-if1 = at-whole .before in
-    let at-has-room = at-if1 .before in
-    let at-half-of = at-has-room .before .before .before in
-    let start = at-half-of .before .before .before in
-    omega (arith, at-whole .whole .ensures, whole-room bindingLimit 2 (λ p. p .bindings) bindingsOut (start .args .w) (start .args .r) _ _ (at-half-of .half-of .ensures) (at-has-room .has-room .ensures) (start .pre .4 .1 .bindings) (at-if1 .if1 .taken))
+    let at-has-capacity = at-if1 .before in
+    let at-quota-of = at-has-capacity .before .before .before in
+    let start = at-quota-of .before .before .before in
+    omega (arith, at-whole .whole .ensures, whole-capacity bindingLimit 2 (λ p. p .bindings) bindingsOut (start .args .w) (start .args .r) _ _ (at-quota-of .quota-of .ensures) (at-has-capacity .has-capacity .ensures) (start .pre .4 .1 .bindings) (at-if1 .if1 .taken))
 
 called-requires : tie.Need-called-requires
 called-requires c κs =
     let at-whole = c .before .before .before .before .before .before .before in
     let at-if1 = at-whole .before in
-    let at-has-room = at-if1 .before in
-    let at-half-of = at-has-room .before .before .before in
-    let start = at-half-of .before .before .before in
+    let at-has-capacity = at-if1 .before in
+    let at-quota-of = at-has-capacity .before .before .before in
+    let start = at-quota-of .before .before .before in
     let f = start .pre .4 .1 in
-    (search needs, search needs, omega (arith, f .room), start .pre .3, f .pc, f .env, omega (arith, at-whole .whole .ensures, whole-room bindingLimit 2 (λ p. p .bindings) bindingsOut (start .args .w) (start .args .r) _ _ (at-half-of .half-of .ensures) (at-has-room .has-room .ensures) (start .pre .4 .1 .bindings) (at-if1 .if1 .taken)))
+    (search needs, search needs, omega (arith, f .frames), start .pre .3, f .pc, f .env, omega (arith, at-whole .whole .ensures, whole-capacity bindingLimit 2 (λ p. p .bindings) bindingsOut (start .args .w) (start .args .r) _ _ (at-quota-of .quota-of .ensures) (at-has-capacity .has-capacity .ensures) (start .pre .4 .1 .bindings) (at-if1 .if1 .taken)))
 
 sub-q : tie.Need-sub-q
 sub-q c =
@@ -58,10 +58,10 @@ sub-q c =
 charge-bindings-requires : tie.Need-charge-bindings-requires
 charge-bindings-requires c κs =
     let at-if1 = c .before .before .before .before .before .before .before .before .before .before .before .before in
-    let at-has-room = at-if1 .before in
-    let at-half-of = at-has-room .before .before .before in
-    let start = at-half-of .before .before .before in
-    omega (arith, whole-room bindingLimit 2 (λ p. p .bindings) bindingsOut (start .args .w) (start .args .r) _ _ (at-half-of .half-of .ensures) (at-has-room .has-room .ensures) (start .pre .4 .1 .bindings) (at-if1 .if1 .taken))
+    let at-has-capacity = at-if1 .before in
+    let at-quota-of = at-has-capacity .before .before .before in
+    let start = at-quota-of .before .before .before in
+    omega (arith, whole-capacity bindingLimit 2 (λ p. p .bindings) bindingsOut (start .args .w) (start .args .r) _ _ (at-quota-of .quota-of .ensures) (at-has-capacity .has-capacity .ensures) (start .pre .4 .1 .bindings) (at-if1 .if1 .taken))
 
 same-length : tie.Need-same-length
 same-length c = search needs
@@ -74,11 +74,11 @@ returns c =
     let at-piece-of = at-bind-parts .before in
     let at-whole = at-piece-of .before .before in
     let at-if1 = at-whole .before in
-    let at-has-room = at-if1 .before in
-    let at-half-of = at-has-room .before .before .before in
-    let start = at-half-of .before .before .before in
+    let at-has-capacity = at-if1 .before in
+    let at-quota-of = at-has-capacity .before .before .before in
+    let start = at-quota-of .before .before .before in
     let a = start .args in
-    λ image. split-made (record { code = now (a .code); image = image }) (now (a .work)) _ _ (a .r) _ (a .w) (a .x) _ _ (at-half-of .half-of .ensures) (at-has-room .has-room .ensures) (start .pre .2) _ _ _ _ (at-if1 .if1 .taken) (at-whole .whole .ensures) (at-piece-of .piece-of .ensures) (at-field-b .field-b .ensures) (c .charge-bindings .ensures) (at-bind-parts .bind-parts .ensures) (at-called .called .ensures image)
+    λ image. split-made (record { code = now (a .code); image = image }) (now (a .work)) _ _ (a .r) _ (a .w) (a .x) _ _ (at-quota-of .quota-of .ensures) (at-has-capacity .has-capacity .ensures) (start .pre .2) _ _ _ _ (at-if1 .if1 .taken) (at-whole .whole .ensures) (at-piece-of .piece-of .ensures) (at-field-b .field-b .ensures) (c .charge-bindings .ensures) (at-bind-parts .bind-parts .ensures) (at-called .called .ensures image)
 
 bindings-out-requires : tie.Need-bindings-out-requires
 bindings-out-requires c κs = search needs
@@ -88,18 +88,18 @@ halt-requires c κs = search needs
 
 returns-2 : tie.Need-returns-2
 returns-2 c =
-    let at-has-room = c .before .before .before in
-    let at-half-of = at-has-room .before .before .before in
-    let start = at-half-of .before .before .before in
+    let at-has-capacity = c .before .before .before in
+    let at-quota-of = at-has-capacity .before .before .before in
+    let start = at-quota-of .before .before .before in
     let a = start .args in
-    λ image. no-split-made (record { code = now (a .code); image = image }) (now (a .work)) (now (a .work)) (now (a .work)) (a .r) _ (a .w) (a .x) _ _ (at-half-of .half-of .ensures) (at-has-room .has-room .ensures) _ (c .before .before .if1 .left) (c .before .bindings-out .ensures) (c .halt .ensures)
+    λ image. no-split-made (record { code = now (a .code); image = image }) (now (a .work)) (now (a .work)) (now (a .work)) (a .r) _ (a .w) (a .x) _ _ (at-quota-of .quota-of .ensures) (at-has-capacity .has-capacity .ensures) _ (c .before .before .if1 .left) (c .before .bindings-out .ensures) (c .halt .ensures)
 
 pub reduce-split-spec : {M : Type 1} → statement M
 reduce-split-spec =
     tie.close
     (tie.spec
-    half-of-requires
-    has-room-requires
+    quota-of-requires
+    has-capacity-requires
     whole-requires
     piece-of-requires
     bind-parts-requires

@@ -1,5 +1,5 @@
 use Rattle.vm_reductions.proofs.Reduced.{cell-made, no-cell-made}
-use Rattle.vm_states.proofs.Halves.{whole-room}
+use Rattle.vm_registers.proofs.Quotas.{whole-capacity}
 use Rattle.vm_pools.specs.Pools.{cellsOut}
 use Rattle.calculus.specs.Limits.{cellLimit}
 use denote.Ref.{now}
@@ -8,11 +8,11 @@ use borrow.Author.Needs.{needs}
 use Rattle.vm_reductions.proofs.stores.reduce_cell.Statement.{statement}
 use Rattle.vm_reductions.proofs.stores.reduce_cell.Tie as tie
 
-half-of-requires : tie.Need-half-of-requires
-half-of-requires c κs = search needs
+quota-of-requires : tie.Need-quota-of-requires
+quota-of-requires c κs = search needs
 
-has-room-requires : tie.Need-has-room-requires
-has-room-requires c κs = search needs
+has-capacity-requires : tie.Need-has-capacity-requires
+has-capacity-requires c κs = search needs
 
 whole-requires : tie.Need-whole-requires
 whole-requires c κs = search needs
@@ -23,10 +23,10 @@ field-b-requires c κs = search needs
 put-cell-requires : tie.Need-put-cell-requires
 put-cell-requires c κs =
     let at-if1 = c .before .before .before in
-    let at-has-room = at-if1 .before in
-    let at-half-of = at-has-room .before .before .before in
-    let start = at-half-of .before .before in
-    (search needs, omega (arith, c .before .before .whole .ensures, whole-room cellLimit 1 (λ p. p .cells) cellsOut (start .args .w) (start .args .r) _ _ (at-half-of .half-of .ensures) (at-has-room .has-room .ensures) (start .pre .2 .1 .cells) (at-if1 .if1 .taken)), search needs)
+    let at-has-capacity = at-if1 .before in
+    let at-quota-of = at-has-capacity .before .before .before in
+    let start = at-quota-of .before .before in
+    (search needs, omega (arith, c .before .before .whole .ensures, whole-capacity cellLimit 1 (λ p. p .cells) cellsOut (start .args .w) (start .args .r) _ _ (at-quota-of .quota-of .ensures) (at-has-capacity .has-capacity .ensures) (start .pre .2 .1 .cells) (at-if1 .if1 .taken)), search needs)
 
 value-requires : tie.Need-value-requires
 value-requires c κs = search needs
@@ -37,10 +37,10 @@ given-requires c κs = search needs
 charge-cells-requires : tie.Need-charge-cells-requires
 charge-cells-requires c κs =
     let at-if1 = c .before .before .before .before .before .before .before .before .before .before .before in
-    let at-has-room = at-if1 .before in
-    let at-half-of = at-has-room .before .before .before in
-    let start = at-half-of .before .before in
-    omega (arith, whole-room cellLimit 1 (λ p. p .cells) cellsOut (start .args .w) (start .args .r) _ _ (at-half-of .half-of .ensures) (at-has-room .has-room .ensures) (start .pre .2 .1 .cells) (at-if1 .if1 .taken))
+    let at-has-capacity = at-if1 .before in
+    let at-quota-of = at-has-capacity .before .before .before in
+    let start = at-quota-of .before .before in
+    omega (arith, whole-capacity cellLimit 1 (λ p. p .cells) cellsOut (start .args .w) (start .args .r) _ _ (at-quota-of .quota-of .ensures) (at-has-capacity .has-capacity .ensures) (start .pre .2 .1 .cells) (at-if1 .if1 .taken))
 
 same-length : tie.Need-same-length
 same-length c = search needs
@@ -53,11 +53,11 @@ returns c =
     let at-field-b = at-put-cell .before in
     let at-whole = at-field-b .before .before in
     let at-if1 = at-whole .before in
-    let at-has-room = at-if1 .before in
-    let at-half-of = at-has-room .before .before .before in
-    let start = at-half-of .before .before in
+    let at-has-capacity = at-if1 .before in
+    let at-quota-of = at-has-capacity .before .before .before in
+    let start = at-quota-of .before .before in
     let a = start .args in
-    cell-made (now (a .work)) _ _ (a .r) _ (a .w) (a .x) _ _ (at-half-of .half-of .ensures) (at-has-room .has-room .ensures) (start .pre .1) _ _ _ _ (at-if1 .if1 .taken) (at-whole .whole .ensures) (at-value .value .ensures) (at-field-b .field-b .ensures) (c .charge-cells .ensures) (at-put-cell .put-cell .ensures) (at-given .given .ensures)
+    cell-made (now (a .work)) _ _ (a .r) _ (a .w) (a .x) _ _ (at-quota-of .quota-of .ensures) (at-has-capacity .has-capacity .ensures) (start .pre .1) _ _ _ _ (at-if1 .if1 .taken) (at-whole .whole .ensures) (at-value .value .ensures) (at-field-b .field-b .ensures) (c .charge-cells .ensures) (at-put-cell .put-cell .ensures) (at-given .given .ensures)
 
 cells-out-requires : tie.Need-cells-out-requires
 cells-out-requires c κs = search needs
@@ -67,18 +67,18 @@ halt-requires c κs = search needs
 
 returns-2 : tie.Need-returns-2
 returns-2 c =
-    let at-has-room = c .before .before .before in
-    let at-half-of = at-has-room .before .before .before in
-    let start = at-half-of .before .before in
+    let at-has-capacity = c .before .before .before in
+    let at-quota-of = at-has-capacity .before .before .before in
+    let start = at-quota-of .before .before in
     let a = start .args in
-    no-cell-made (now (a .work)) (now (a .work)) (now (a .work)) (a .r) _ (a .w) (a .x) _ _ (at-half-of .half-of .ensures) (at-has-room .has-room .ensures) _ (c .before .before .if1 .left) (c .before .cells-out .ensures) (c .halt .ensures)
+    no-cell-made (now (a .work)) (now (a .work)) (now (a .work)) (a .r) _ (a .w) (a .x) _ _ (at-quota-of .quota-of .ensures) (at-has-capacity .has-capacity .ensures) _ (c .before .before .if1 .left) (c .before .cells-out .ensures) (c .halt .ensures)
 
 pub reduce-cell-spec : {M : Type 1} → statement M
 reduce-cell-spec =
     tie.close
     (tie.spec
-    half-of-requires
-    has-room-requires
+    quota-of-requires
+    has-capacity-requires
     whole-requires
     field-b-requires
     put-cell-requires

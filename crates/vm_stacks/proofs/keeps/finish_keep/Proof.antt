@@ -2,7 +2,7 @@ use Prim.Native.Nat.{_%_}
 use mathlib.Core.Path.{_≡_, ap, _∙_}
 use lib.ListN.{getD}
 use native.Mathlib.Omega.{arith}
-use Rattle.vm_tables.specs.View.{memoryOf}
+use Rattle.vm_memory.specs.View.{memoryOf}
 use denote.Ref.{now}
 use Rattle.vm_machine.specs.Fetch.{codeAt, atomValue}
 use Rattle.vm_stacks.proofs.Keeping.{atom-given, atom-spent}

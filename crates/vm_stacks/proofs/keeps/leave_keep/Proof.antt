@@ -44,7 +44,7 @@ given-requires c κs =
     let at-same = at-depth-of .before .before in
     let at-if1 = at-same .before .before .before in
     let s = at-if1 .before .before .before .before in
-    (search needs, omega (arith, at-depth-of .depth-of .ensures, s .pre .2), subst (λ (z : Regs). 0 < z .left) (sym (at-same .same .ensures)) (omega (arith, at-if1 .if1 .left)))
+    (search needs, omega (arith, at-depth-of .depth-of .ensures, s .pre .2), subst (λ (z : Regs). 0 < z .fuel) (sym (at-same .same .ensures)) (omega (arith, at-if1 .if1 .left)))
 
 same-length : tie.Need-same-length
 same-length c = search needs

@@ -6,7 +6,7 @@ use Rattle.base_bytes.specs.Memory.{memoryLength}
 use lib.ListN.{length, drop}
 use Rattle.vm_code.specs.Values.{bottomValue}
 use Rattle.vm_machine.specs.Stacks.{stackPieces}
-use Rattle.vm_stacks.specs.Parts.{stackedIn}
+use Rattle.vm_stacks.specs.StacksAndKeeps.{stackedIn}
 use Rattle.vm_stacks.proofs.Stacked.{pieces-start, pieces-on, pieces-done}
 use borrow.Author.Needs.{needs}
 use Rattle.vm_stacks.proofs.stacks.stack_pieces.Statement.{statement}

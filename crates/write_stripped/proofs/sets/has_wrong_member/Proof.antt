@@ -10,7 +10,7 @@ use Rattle.laws.specs.Tests.{anyBelow}
 use Rattle.image.specs.Limits.{domainLimit}
 use Rattle.read_terms.specs.Masks.{bitOf}
 use Rattle.laws.proofs.Tests.{any-more}
-use Rattle.write_idle.specs.Idle.{inMask}
+use Rattle.write_unit_bodies.specs.UnitBodies.{inMask}
 use Rattle.write_stripped.proofs.sets.has_wrong_member.Statement.{statement}
 use Rattle.write_stripped.proofs.sets.has_wrong_member.Tie as tie
 

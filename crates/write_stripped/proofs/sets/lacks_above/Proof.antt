@@ -8,7 +8,7 @@ use denote.Ref.{now}
 use Rattle.laws.specs.Tests.{anyBelow}
 use Rattle.read_terms.specs.Masks.{bitOf}
 use Rattle.laws.proofs.Tests.{any-more}
-use Rattle.write_idle.specs.Idle.{inMask}
+use Rattle.write_unit_bodies.specs.UnitBodies.{inMask}
 use Rattle.write_stripped.proofs.sets.lacks_above.Statement.{statement}
 use Rattle.write_stripped.proofs.sets.lacks_above.Tie as tie
 

@@ -43,7 +43,7 @@ use Rattle.check_core.proofs.cells.check_read.Reads as check-read-reads
 use Rattle.check_core.proofs.cells.check_store.Reads as check-store-reads
 use Rattle.check_core.proofs.cells.check_lower.Reads as check-lower-reads
 use Rattle.check_objects.proofs.objects.check_object.Reads as check-object-reads
-use Rattle.check_objects.proofs.objects.check_call.Reads as check-call-reads
+use Rattle.check_objects.proofs.objects.check_method_call.Reads as check-method-call-reads
 use Rattle.check_objects.proofs.stacks.check_stack.Reads as check-stack-reads
 use Rattle.check_objects.proofs.stacks.check_keep.Reads as check-keep-reads
 use Rattle.check_objects.proofs.stacks.check_match.Reads as check-match-reads
@@ -94,8 +94,8 @@ claims = (
   check-lower-reads.Learnt,
   check-object-reads.Asked,
   check-object-reads.Learnt,
-  check-call-reads.Asked,
-  check-call-reads.Learnt,
+  check-method-call-reads.Asked,
+  check-method-call-reads.Learnt,
   check-stack-reads.Asked,
   check-stack-reads.Learnt,
   check-keep-reads.Asked,

@@ -1,0 +1,66 @@
+-- `check_layout::objects::is_new_object` meets its contract: so far no type is the same.
+use Prim.Native.Nat.{ℕ, _-_, _≤_}
+use mathlib.Core.Path.{_≡_, refl, sym, ap, _∙_}
+use mathlib.Core.Bool.{Bool, true, not}
+use denote.Ref.{now}
+use Rattle.laws.specs.Tests.{allBelow}
+use Rattle.check_layout.specs.NewTypes.{sameObject, newObject}
+use Rattle.check_layout.proofs.Descriptors.{below-more, below-not}
+use borrow.Author.Needs.{needs}
+use Rattle.check_layout.proofs.new_types.is_new_object.Statement.{statement}
+use Rattle.check_layout.proofs.new_types.is_new_object.Tie as tie
+
+abbrev Inv-loop : tie.InvT-loop
+Inv-loop image fields descriptor t types descriptors i₀ i = (i ≤ t .0) × (newObject image fields i types descriptors descriptor ≡ true)
+
+abbrev μ-loop : tie.MeasureT-loop
+μ-loop image fields descriptor t types descriptors i₀ i = t .0 - i
+
+loop-holds : tie.Need-loop-holds Inv-loop μ-loop
+unfolding allBelow
+loop-holds c = (search needs, refl)
+
+is-same-object-requires : tie.Need-is-same-object-requires Inv-loop μ-loop
+is-same-object-requires c κs =
+    let s = c .before .before .before .before .before .before .before in
+    (search needs, search needs, s .pre .2 .at (c .before .before .loop .i) (search needs))
+
+returns : tie.Need-returns Inv-loop μ-loop
+returns c =
+    let l = c .before .before .before .before in
+    let a = l .before .before .before .before .before .args in
+    let ok : ℕ → Bool = λ i. not (sameObject (now (a .image)) (now (a .fields)) (now (a .types)) (now (a .descriptors)) (a .descriptor) i) in
+    sym (below-not ok (a .t .0) (l .loop .i) (search needs) (ap not (sym (c .before .is-same-object .ensures) ∙ c .if2 .taken)))
+
+add-i : tie.Need-add-i Inv-loop μ-loop
+add-i c = search needs
+
+loop-less : tie.Need-loop-less Inv-loop μ-loop
+loop-less c = search needs
+
+loop-again : tie.Need-loop-again Inv-loop μ-loop
+loop-again c =
+    let l = c .before .before .before .before in
+    let a = l .before .before .before .before .before .args in
+    let ok : ℕ → Bool = λ i. not (sameObject (now (a .image)) (now (a .fields)) (now (a .types)) (now (a .descriptors)) (a .descriptor) i) in
+    (search needs, below-more ok (l .loop .i) (l .loop .inv .1) (ap not (sym (c .before .is-same-object .ensures) ∙ c .if2 .left)))
+
+returns-2 : tie.Need-returns-2 Inv-loop μ-loop
+returns-2 c =
+    let l = c .before .before in
+    let e : l .loop .i ≡ l .before .before .before .before .before .args .t .0 = search needs in
+    sym (rw e at (l .loop .inv .1))
+
+pub is-new-object-spec : {M : Type 1} → statement M
+is-new-object-spec =
+    tie.close
+    (tie.spec
+    Inv-loop
+    μ-loop
+    loop-holds
+    is-same-object-requires
+    returns
+    add-i
+    loop-less
+    loop-again
+    returns-2)

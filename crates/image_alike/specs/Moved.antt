@@ -1,7 +1,0 @@
--- A verdict with its place moved (document 02, card 1: "the same verdict and the same run; only places move").
-use Prim.Native.Nat.{ℕ}
-use Rattle.verdict.specs.declared.Verdict.{Verdict}
-
-abbrev pub moved : (ℕ → ℕ) → Verdict → Verdict
-moved place Verdict.Accepted = Verdict.Accepted
-moved place (Verdict.Refused r o) = Verdict.Refused r (place o)

@@ -1,0 +1,51 @@
+use mathlib.Core.Path.{ap, _∙_}
+use Rattle.vm_machine.specs.Fetch.{Program}
+use Rattle.vm_machine.specs.Turn.{methodAt}
+use denote.Ref.{now}
+use Rattle.vm_actions.proofs.Called.{method-made}
+use borrow.Author.Needs.{needs}
+use Rattle.vm_actions.proofs.calls.reduce_call.Statement.{statement}
+use Rattle.vm_actions.proofs.calls.reduce_call.Tie as tie
+
+object-term-requires : tie.Need-object-term-requires
+object-term-requires c κs = search needs
+
+word-of-requires : tie.Need-word-of-requires
+word-of-requires c κs = search needs
+
+field-b-requires : tie.Need-field-b-requires
+field-b-requires c κs = search needs
+
+method-at-requires : tie.Need-method-at-requires
+method-at-requires c κs = search needs
+
+call-body-requires : tie.Need-call-body-requires
+call-body-requires c κs = search needs
+
+same-length : tie.Need-same-length
+same-length c = search needs
+
+returns : tie.Need-returns
+returns c =
+    let at-call-body = c .before .before in
+    let at-method-at = at-call-body .before .before in
+    let at-field-b = at-method-at .before in
+    let at-word-of = at-field-b .before in
+    let at-object-term = at-word-of .before in
+    let s = at-object-term .before .before .before .before in
+    let a = s .args in
+    let C : Program = record { code = now (a .code); image = now (a .image) } in
+    method-made C (a .w) (a .x) _ _ _ (at-object-term .object-term .ensures) (at-field-b .field-b .ensures)
+    (at-method-at .method-at .ensures ∙ ap (λ u. methodAt C u (at-field-b .field-b .result)) (at-word-of .word-of .ensures)) _ _ (a .r) _ (at-call-body .call-body .ensures (now (a .image)))
+
+pub reduce-call-spec : {M : Type 1} → statement M
+reduce-call-spec =
+    tie.close
+    (tie.spec
+    object-term-requires
+    word-of-requires
+    field-b-requires
+    method-at-requires
+    call-body-requires
+    same-length
+    returns)

@@ -1,0 +1,3 @@
+-- The rarer steps.
+pub mod OtherSteps
+pub mod Assured

@@ -1,4 +1,0 @@
--- Laws of steps, and the proofs of the functions.
-pub mod Judged
-pub mod Called
-pub mod RareSteps

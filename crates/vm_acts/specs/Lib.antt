@@ -1,3 +1,0 @@
--- The rarer steps.
-pub mod Rare
-pub mod Assured

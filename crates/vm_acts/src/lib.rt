@@ -1,5 +1,0 @@
-// An inner crate: what a move does that makes a step, or brings a body's value back.
-pub mod calls;
-pub mod ends;
-pub mod rare;
-pub mod steps;

@@ -1,0 +1,2 @@
+-- What a turn of the engine makes.
+pub mod EngineTurn

@@ -1,0 +1,24 @@
+use mathlib.Core.Path.{refl}
+use Rattle.vm_memory.proofs.Stored.{put-as}
+use borrow.Author.Needs.{needs}
+use Rattle.vm_memory.proofs.kept.put_kept.Statement.{statement}
+use Rattle.vm_memory.proofs.kept.put_kept.Tie as tie
+
+add-put-word : tie.Need-add-put-word
+add-put-word c = search needs
+
+above-requires : tie.Need-above-requires
+above-requires c κs = search needs
+
+put-word-requires : tie.Need-put-word-requires
+put-word-requires c κs = search needs
+
+same-length : tie.Need-same-length
+same-length c = c .before .before .put-word .kept .0
+
+returns : tie.Need-returns
+returns c = put-as _ _ _ _ _ _ refl (c .before .before .before .above .ensures) (c .before .before .put-word .ensures)
+
+pub put-kept-spec : {M : Type 1} → statement M
+put-kept-spec =
+    tie.close (tie.spec add-put-word above-requires put-word-requires same-length returns)

@@ -1,0 +1,40 @@
+use mathlib.Core.Path.{_∙_}
+use Rattle.vm_memory.proofs.Stored.{digits-stored}
+use borrow.Author.Needs.{needs}
+use Rattle.vm_memory.proofs.slots.put_digits.Statement.{statement}
+use Rattle.vm_memory.proofs.slots.put_digits.Tie as tie
+
+slot-word-requires : tie.Need-slot-word-requires
+slot-word-requires c κs = search needs
+
+put-slot-requires : tie.Need-put-slot-requires
+put-slot-requires c κs = search needs
+
+sub-put-beside : tie.Need-sub-put-beside
+sub-put-beside c = search needs
+
+put-beside-requires : tie.Need-put-beside-requires
+put-beside-requires c κs = search needs
+
+same-length : tie.Need-same-length
+same-length c =
+    let at-put-beside = c .before .before in
+    let at-put-slot = at-put-beside .before .before .before .before in
+    at-put-beside .put-beside .kept .0 ∙ at-put-slot .put-slot .kept .0
+
+returns : tie.Need-returns
+returns c =
+    let at-put-slot = c .before .before .before .before .before .before in
+    let at-slot-word = at-put-slot .before in
+    digits-stored _ _ _ _ _ _ _ _ _ (search needs) (search needs) (at-slot-word .slot-word .ensures) (at-put-slot .put-slot .ensures) (c .before .before .put-beside .ensures)
+
+pub put-digits-spec : {M : Type 1} → statement M
+put-digits-spec =
+    tie.close
+    (tie.spec
+    slot-word-requires
+    put-slot-requires
+    sub-put-beside
+    put-beside-requires
+    same-length
+    returns)

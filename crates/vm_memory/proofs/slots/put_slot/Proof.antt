@@ -1,0 +1,20 @@
+use mathlib.Core.Path.{refl}
+use Rattle.vm_memory.proofs.Stored.{put-as}
+use borrow.Author.Needs.{needs}
+use Rattle.vm_memory.proofs.slots.put_slot.Statement.{statement}
+use Rattle.vm_memory.proofs.slots.put_slot.Tie as tie
+
+slot-in-requires : tie.Need-slot-in-requires
+slot-in-requires c κs = search needs
+
+put-word-requires : tie.Need-put-word-requires
+put-word-requires c κs = search needs
+
+same-length : tie.Need-same-length
+same-length c = c .before .before .put-word .kept .0
+
+returns : tie.Need-returns
+returns c = put-as _ _ _ _ _ _ (c .before .before .before .slot-in .ensures) refl (c .before .before .put-word .ensures)
+
+pub put-slot-spec : {M : Type 1} → statement M
+put-slot-spec = tie.close (tie.spec slot-in-requires put-word-requires same-length returns)

@@ -1,5 +1,0 @@
--- Laws of the parts of a turn, and the proofs of the functions.
-pub mod Made
-pub mod Ended
-pub mod Halves
-pub mod OnePiece

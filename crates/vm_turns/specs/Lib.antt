@@ -1,2 +1,0 @@
--- What a turn of the engine makes.
-pub mod Turned

@@ -1,3 +1,0 @@
--- Watches of an image that give way, and a copy of the image in which their bodies are units.
-pub mod Idle
-pub mod WatchFields

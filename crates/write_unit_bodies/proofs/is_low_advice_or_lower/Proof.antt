@@ -1,0 +1,52 @@
+-- `write_unit_bodies::is_low_advice_or_lower` meets its contract.
+use borrow.Author.Needs.{needs}
+use mathlib.Core.Path.{ap, _∙_}
+use mathlib.Core.Bool.{not}
+use borrow.Author.Tests.{eq-eqb, ne-eqb}
+use Rattle.read_terms.specs.Descriptors.{descriptorDomain}
+use Rattle.write_unit_bodies.specs.UnitBodies.{inMask}
+use Rattle.write_unit_bodies.proofs.is_low_advice_or_lower.Statement.{statement}
+use Rattle.write_unit_bodies.proofs.is_low_advice_or_lower.Tie as tie
+
+own-descriptor-requires : tie.Need-own-descriptor-requires
+own-descriptor-requires c κs = search needs
+
+domain-of-requires : tie.Need-domain-of-requires
+domain-of-requires c κs = search needs
+
+in-mask-requires : tie.Need-in-mask-requires
+in-mask-requires c κs = search needs
+
+returns : tie.Need-returns
+returns c =
+    let s = c .before .before .before .before .before .before in
+    ap not (c .in-mask .ensures ∙ ap (λ d. inMask (s .args .high) d) (c .before .domain-of .ensures ∙ ap descriptorDomain (c .before .before .own-descriptor .ensures)))
+    ∙ simp (eq-eqb _ _ (c .before .before .before .if1 .taken))
+
+domain-field-requires : tie.Need-domain-field-requires
+domain-field-requires c κs = c .before .before .before .before .pre .2 (c .if2 .taken)
+
+in-mask-requires-2 : tie.Need-in-mask-requires-2
+in-mask-requires-2 c κs = search needs
+
+returns-2 : tie.Need-returns-2
+returns-2 c =
+    let s = c .before .before .before .before .before .before in
+    ap not (c .in-mask2 .ensures ∙ ap (λ d. inMask (s .args .high) d) (c .before .domain-field .ensures))
+    ∙ simp (ne-eqb _ _ (c .before .before .before .if1 .left), eq-eqb _ _ (c .before .before .if2 .taken))
+
+returns-3 : tie.Need-returns-3
+returns-3 c = simp (ne-eqb _ _ (c .before .if1 .left), ne-eqb _ _ (c .if2 .left))
+
+pub is-low-advice-or-lower-spec : {M : Type 1} → statement M
+is-low-advice-or-lower-spec =
+    tie.close
+    (tie.spec
+    own-descriptor-requires
+    domain-of-requires
+    in-mask-requires
+    returns
+    domain-field-requires
+    in-mask-requires-2
+    returns-2
+    returns-3)
