@@ -120,7 +120,7 @@ class Numbers(unittest.TestCase):
         causes |= {"WrongDepth": load["wrongDepth"], "ShortLoad": load["shortLoad"]}
         stripped = constants("write_stripped", "Calls.antt")
         causes |= {"WrongSet": stripped["wrongSetNumber"], "ShortStrippedOutput": stripped["shortOutput"]}
-        causes["TooFewPlaces"] = constants("answers_as_numbers", "Places.antt")["tooFewPlaces"]
+        causes["TooFewPlaces"] = constants("answers_as_numbers", "Forecasts.antt")["tooFewPlaces"]
         self.assertEqual(rust("refusal.rs"), causes)
         self.assertEqual(sorted(refusals.REFUSALS), sorted(causes.values()))
         self.header_has(causes)
