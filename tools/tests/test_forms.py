@@ -5,9 +5,12 @@ lists what gives a form up; a check that finds nothing to look at fails too.
 """
 import pathlib
 import re
+import sys
 import unittest
 
-import common
+sys.path.insert(0, str(pathlib.Path(__file__).resolve().parent))
+
+import common  # noqa: E402 (the path is set here)
 
 # The crates that read records: only there may a function take an image and an offset to read a field.
 READERS = ("read_records", "read_terms", "read_leaves")

@@ -1,4 +1,5 @@
 """What a flight will need, as the tool tells it."""
+import ctypes
 import unittest
 from unittest import mock
 
@@ -18,6 +19,16 @@ def stored(name):
 class Needs(unittest.TestCase):
     def tool(self, *words):
         return run("need", *words)[0].decode()
+
+    @common.with_library
+    def test_too_few_places(self):
+        """The library refuses places that are fewer than the numbers, and writes none; a refusal of the image comes first."""
+        image = (FOLDER / "limits.img").read_bytes()
+        for count, number in ((11, 0), (10, 25), (0, 25)):
+            places = (ctypes.c_uint32 * 11)(*[7] * 11)
+            self.assertEqual(_library.library.need(image, len(image), places, count), number << 16)
+            self.assertEqual(list(places) == [7] * 11, number != 0)
+        self.assertEqual(_library.library.need(b"", 0, (ctypes.c_uint32 * 1)(), 1), 9 << 16)
 
     @common.with_library
     def test_the_library_says_what_the_program_says(self):

@@ -221,11 +221,11 @@ fn the_verdict_alone() {
 #[test]
 fn numbers_and_names() {
     assert!((0..13).all(|n| Outcome::from_number(n).unwrap().number() == n));
-    assert!((1..=24).all(|n| Cause::from_number(n).unwrap().number() == n));
-    assert_eq!((Cause::all().count(), Outcome::all().count()), (24, 13));
-    assert!([0, 25, 99].iter().all(|n| Cause::from_number(*n).is_none()));
+    assert!((1..=25).all(|n| Cause::from_number(n).unwrap().number() == n));
+    assert_eq!((Cause::all().count(), Outcome::all().count()), (25, 13));
+    assert!([0, 26, 99].iter().all(|n| Cause::from_number(*n).is_none()));
     assert!(Outcome::from_number(13).is_none());
-    assert_eq!((Outcome::from(13).number(), Cause::from(25).number()), (13, 25));
+    assert_eq!((Outcome::from(13).number(), Cause::from(26).number()), (13, 26));
     assert_eq!(Outcome::Bindings.to_string(), "bindings");
     assert_eq!(Outcome::OtherBindings.to_string(), "other-bindings");
     assert_eq!(Outcome::from(13).to_string(), "outcome 13");
