@@ -109,7 +109,9 @@ struct Live {
 
 impl Live {
     fn start(folder: &Path, more: &[&str]) -> Live {
-        let mut command = Command::new(env!("CARGO_BIN_EXE_bukzarn"));
+        // A shell that starts the tests in the background ignores some signals, and so would the command.
+        let mut command = Command::new("env");
+        command.args(["--default-signal", env!("CARGO_BIN_EXE_bukzarn")]);
         command.args(["run", "i.img", "--frames", "-", "--length", "12"]).args(more).current_dir(folder);
         let mut child = command.stdin(Stdio::piped()).stdout(Stdio::piped()).stderr(Stdio::piped()).spawn().unwrap();
         let rows = BufReader::new(child.stdout.take().unwrap());
