@@ -95,8 +95,8 @@ fn check_subterms(
     0
 }
 
-// A term and the terms below it: its rule, then its children. Those of most kinds stand where the term does. A constant or a
-// variable has none: as a child it is checked on the spot, since a call costs more than its rule. Each level goes to a lower
+// A term and the terms below it: its rule, then its children, each by a call of its own (document 01: "parent before children,
+// left first"). Those of most kinds stand where the term does; a constant or a variable has none. Each level goes to a lower
 // number, one deeper, and binds nine variables at most: the depth bounds the places of the scope that are used.
 fn check_here(
     image: &[u8],

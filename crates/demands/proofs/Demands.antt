@@ -1,4 +1,4 @@
--- The three demands, about whole calls: what a call answers and leaves is `called` (the crate calls), the definition that the engine's contract cites.
+-- The three demands, about whole calls: what a call answers and leaves is `called` (the crate call_spec), the definition that the engine's contract cites.
 use Prim.Native.Nat.{ℕ, _%_, _≤_}
 use native.Mathlib.Omega.{arith}
 use native.Mathlib.Nat.{mod-eq-of-lt}
