@@ -15,27 +15,12 @@ Inv-loop area₀ n i₀ area i = (i ≤ n) × (length area ≡ length area₀) �
 abbrev μ-loop : tie.MeasureT-loop
 μ-loop area₀ n i₀ area i = n - i
 
-loop-holds : tie.Need-loop-holds Inv-loop μ-loop
-loop-holds c = search needs
-
-slice-write-area : tie.Need-slice-write-area Inv-loop μ-loop
-slice-write-area c = search needs
-
-add-i : tie.Need-add-i Inv-loop μ-loop
-add-i c = search needs
-
-loop-less : tie.Need-loop-less Inv-loop μ-loop
-loop-less c = search needs
-
 loop-again : tie.Need-loop-again Inv-loop μ-loop
 loop-again c =
     let l = c .before .loop in
     let a = c .before .before .args .area .now in
     let h : l .i < length a = omega arith in
     (omega arith, simp length-set (l .inv .1), ap (λ d. set d (l .i) 0) (l .inv .2) ∙ fill-more (l .i) 0 a h)
-
-same-length : tie.Need-same-length Inv-loop μ-loop
-same-length c = search needs
 
 returns : tie.Need-returns Inv-loop μ-loop
 unfolding cleared
@@ -44,15 +29,5 @@ returns c =
     rw h at (c .before .loop .inv .2)
 
 pub clear-spec : {M : Type 1} → statement M
-clear-spec =
-    tie.close
-    (tie.spec
-    Inv-loop
-    μ-loop
-    loop-holds
-    slice-write-area
-    add-i
-    loop-less
-    loop-again
-    same-length
-    returns)
+clear-spec = tie.close (tie.spec Inv-loop μ-loop (λ c. search needs) (λ c. search needs) (λ c. search needs) (λ c. search needs) loop-again
+    (λ c. search needs) returns)

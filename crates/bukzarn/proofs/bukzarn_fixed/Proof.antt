@@ -6,24 +6,6 @@ use borrow.Author.Needs.{needs}
 use Rattle.bukzarn.proofs.bukzarn_fixed.Statement.{statement}
 use Rattle.bukzarn.proofs.bukzarn_fixed.Tie as tie
 
-write-fixed-requires : tie.Need-write-fixed-requires
-write-fixed-requires c κs = search needs
-
-written-bytes-requires : tie.Need-written-bytes-requires
-written-bytes-requires c κs = search needs
-
-written-number-requires : tie.Need-written-number-requires
-written-number-requires c κs = search needs
-
-written-place-requires : tie.Need-written-place-requires
-written-place-requires c κs = search needs
-
-as-number-requires : tie.Need-as-number-requires
-as-number-requires c κs = search needs
-
-same-length : tie.Need-same-length
-same-length c = search needs
-
 returns : tie.Need-returns
 returns c =
     let at-written-bytes = c .before .before .before in
@@ -35,13 +17,5 @@ returns c =
     )
 
 pub bukzarn-fixed-spec : {M : Type 1} → statement M
-bukzarn-fixed-spec =
-    tie.close
-    (tie.spec
-    write-fixed-requires
-    written-bytes-requires
-    written-number-requires
-    written-place-requires
-    as-number-requires
-    same-length
-    returns)
+bukzarn-fixed-spec = tie.close (tie.spec (λ c κs. search needs) (λ c κs. search needs) (λ c κs. search needs) (λ c κs. search needs)
+    (λ c κs. search needs) (λ c. search needs) returns)

@@ -6,33 +6,11 @@ use borrow.Author.Needs.{needs}
 use Rattle.bukzarn.proofs.bukzarn_load.Statement.{statement}
 use Rattle.bukzarn.proofs.bukzarn_load.Tie as tie
 
-generate-requires : tie.Need-generate-requires
-generate-requires c κs = search needs
-
-load-bytes-requires : tie.Need-load-bytes-requires
-load-bytes-requires c κs = search needs
-
-load-number-requires : tie.Need-load-number-requires
-load-number-requires c κs = search needs
-
-as-number-requires : tie.Need-as-number-requires
-as-number-requires c κs = search needs
-
-same-length : tie.Need-same-length
-same-length c = search needs
-
 returns : tie.Need-returns
 returns c =
     let e = c .before .before .before .before .before .generate .ensures in
     (c .as-number .ensures ∙ ((λ i. asNumber (c .before .before .load-bytes .ensures i) (c .before .load-number .ensures i) 0) ∙ ap (λ L. loadAsNumber (L .answer)) e), ap (λ L. L .output) e)
 
 pub bukzarn-load-spec : {M : Type 1} → statement M
-bukzarn-load-spec =
-    tie.close
-    (tie.spec
-    generate-requires
-    load-bytes-requires
-    load-number-requires
-    as-number-requires
-    same-length
-    returns)
+bukzarn-load-spec = tie.close (tie.spec (λ c κs. search needs) (λ c κs. search needs) (λ c κs. search needs) (λ c κs. search needs)
+    (λ c. search needs) returns)

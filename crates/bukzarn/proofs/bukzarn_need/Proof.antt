@@ -8,24 +8,6 @@ use borrow.Author.Needs.{needs}
 use Rattle.bukzarn.proofs.bukzarn_need.Statement.{statement}
 use Rattle.bukzarn.proofs.bukzarn_need.Tie as tie
 
-forecast-image-requires : tie.Need-forecast-image-requires
-forecast-image-requires c κs = search needs
-
-put-forecast-requires : tie.Need-put-forecast-requires
-put-forecast-requires c κs = search needs
-
-need-number-requires : tie.Need-need-number-requires
-need-number-requires c κs = search needs
-
-forecast-place-requires : tie.Need-forecast-place-requires
-forecast-place-requires c κs = search needs
-
-refused-as-number-requires : tie.Need-refused-as-number-requires
-refused-as-number-requires c κs = search needs
-
-same-length : tie.Need-same-length
-same-length c = search needs
-
 returns : tie.Need-returns
 returns c =
     let at-put-forecast = c .before .before .before .before .before in
@@ -38,13 +20,5 @@ returns c =
     )
 
 pub bukzarn-need-spec : {M : Type 1} → statement M
-bukzarn-need-spec =
-    tie.close
-    (tie.spec
-    forecast-image-requires
-    put-forecast-requires
-    need-number-requires
-    forecast-place-requires
-    refused-as-number-requires
-    same-length
-    returns)
+bukzarn-need-spec = tie.close (tie.spec (λ c κs. search needs) (λ c κs. search needs) (λ c κs. search needs) (λ c κs. search needs)
+    (λ c κs. search needs) (λ c. search needs) returns)

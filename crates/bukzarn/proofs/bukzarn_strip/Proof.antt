@@ -6,24 +6,6 @@ use borrow.Author.Needs.{needs}
 use Rattle.bukzarn.proofs.bukzarn_strip.Statement.{statement}
 use Rattle.bukzarn.proofs.bukzarn_strip.Tie as tie
 
-write-stripped-requires : tie.Need-write-stripped-requires
-write-stripped-requires c κs = search needs
-
-stripped-bytes-requires : tie.Need-stripped-bytes-requires
-stripped-bytes-requires c κs = search needs
-
-stripped-number-requires : tie.Need-stripped-number-requires
-stripped-number-requires c κs = search needs
-
-stripped-place-requires : tie.Need-stripped-place-requires
-stripped-place-requires c κs = search needs
-
-as-number-requires : tie.Need-as-number-requires
-as-number-requires c κs = search needs
-
-same-length : tie.Need-same-length
-same-length c = search needs
-
 returns : tie.Need-returns
 returns c =
     let at-stripped-bytes = c .before .before .before in
@@ -35,13 +17,5 @@ returns c =
     )
 
 pub bukzarn-strip-spec : {M : Type 1} → statement M
-bukzarn-strip-spec =
-    tie.close
-    (tie.spec
-    write-stripped-requires
-    stripped-bytes-requires
-    stripped-number-requires
-    stripped-place-requires
-    as-number-requires
-    same-length
-    returns)
+bukzarn-strip-spec = tie.close (tie.spec (λ c κs. search needs) (λ c κs. search needs) (λ c κs. search needs) (λ c κs. search needs)
+    (λ c κs. search needs) (λ c. search needs) returns)

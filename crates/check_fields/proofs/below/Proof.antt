@@ -3,11 +3,8 @@ use borrow.Author.Needs.{needs}
 use Rattle.check_fields.proofs.below.Statement.{statement}
 use Rattle.check_fields.proofs.below.Tie as tie
 
-field-requires : tie.Need-field-requires
-field-requires c κs = search needs
-
 returns : tie.Need-returns
 returns c = rw (c .field .ensures)
 
 pub below-spec : {M : Type 1} → statement M
-below-spec = tie.close (tie.spec field-requires returns)
+below-spec = tie.close (tie.spec (λ c κs. search needs) returns)

@@ -10,18 +10,6 @@ use mathlib.Core.Path.{_≡_, _∙_, ap}
 use Rattle.check_fields.proofs.descriptor_of.Statement.{statement}
 use Rattle.check_fields.proofs.descriptor_of.Tie as tie
 
-type-count-requires : tie.Need-type-count-requires
-type-count-requires c κs = search needs
-
-field-or-0-requires : tie.Need-field-or-0-requires
-field-or-0-requires c κs = search needs
-
-field-or-0-requires-2 : tie.Need-field-or-0-requires-2
-field-or-0-requires-2 c κs = search needs
-
-field-or-0-requires-3 : tie.Need-field-or-0-requires-3
-field-or-0-requires-3 c κs = search needs
-
 -- A field that is read is below 256.
 small : (fs : List ℕ) (n m i x : ℕ) → Narrow fs n → m ≡ n → x ≡ fieldFrom fs m i → x < 256
 small fs n m i x h d e = rw (e, d) (h i)
@@ -52,12 +40,5 @@ returns c =
     }
 
 pub descriptor-of-spec : {M : Type 1} → statement M
-descriptor-of-spec =
-    tie.close
-    (tie.spec
-    type-count-requires
-    field-or-0-requires
-    field-or-0-requires-2
-    field-or-0-requires-3
-    descriptor-with-requires
-    returns)
+descriptor-of-spec = tie.close (tie.spec (λ c κs. search needs) (λ c κs. search needs) (λ c κs. search needs) (λ c κs. search needs)
+    descriptor-with-requires returns)

@@ -3,14 +3,8 @@ use borrow.Author.Needs.{needs}
 use Rattle.check_fields.proofs.names_type.Statement.{statement}
 use Rattle.check_fields.proofs.names_type.Tie as tie
 
-type-field-requires : tie.Need-type-field-requires
-type-field-requires c κs = search needs
-
-has-type-requires : tie.Need-has-type-requires
-has-type-requires c κs = search needs
-
 returns : tie.Need-returns
 returns c = rw (c .before .type-field .ensures) at (c .has-type .ensures)
 
 pub names-type-spec : {M : Type 1} → statement M
-names-type-spec = tie.close (tie.spec type-field-requires has-type-requires returns)
+names-type-spec = tie.close (tie.spec (λ c κs. search needs) (λ c κs. search needs) returns)

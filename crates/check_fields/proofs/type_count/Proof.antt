@@ -6,12 +6,6 @@ use borrow.Author.Needs.{needs}
 use Rattle.check_fields.proofs.type_count.Statement.{statement}
 use Rattle.check_fields.proofs.type_count.Tie as tie
 
-group-count-requires : tie.Need-group-count-requires
-group-count-requires c κs = search needs
-
-field-count-requires : tie.Need-field-count-requires
-field-count-requires c κs = search needs
-
 returns : tie.Need-returns
 returns c = simp (eq-eqb _ _ (sym (c .before .before .group-count .ensures) ∙ c .before .if1 .taken)) (c .field-count .ensures)
 
@@ -19,4 +13,4 @@ returns-2 : tie.Need-returns-2
 returns-2 c = simp (ne-eqb (groupOf (c .before .before .args .code)) 0 (λ e. c .if1 .left (c .before .group-count .ensures ∙ e)))
 
 pub type-count-spec : {M : Type 1} → statement M
-type-count-spec = tie.close (tie.spec group-count-requires field-count-requires returns returns-2)
+type-count-spec = tie.close (tie.spec (λ c κs. search needs) (λ c κs. search needs) returns returns-2)

@@ -288,37 +288,7 @@ returns-6 c =
     record { entered = λ q R. rw (c .with-domain .ensures, p .put-domain .ensures, n .next-domain .ensures) (domain-entry R (known (known-of t)) (passes t) (no-term e2) (λ e. i .if3 .left (section (i .before) ∙ e))) }
 
 pub enter-spec : {M : Type 1} → statement M
-enter-spec =
-    tie.close
-    (tie.spec
-    code-of-requires
-    returns
-    is-term-requires
-    enter-term-requires
-    same-length
-    same-length-2
-    returns-2
-    first-fault-requires
-    enum-known-tested
-    returns-3
-    enum-told
-    section-of-requires
-    descriptor-of-requires
-    next-type-requires
-    put-type-requires
-    enum-known-new
-    same-length-3
-    same-length-4
-    same-length-5
-    returns-4
-    enum-told-2
-    with-type-requires
-    same-length-6
-    same-length-7
-    same-length-8
-    returns-5
-    next-domain-requires
-    put-domain-requires
-    with-domain-requires
-    same-length-9
-    returns-6)
+enter-spec = tie.close (tie.spec code-of-requires returns is-term-requires enter-term-requires same-length same-length-2 returns-2
+    first-fault-requires enum-known-tested returns-3 enum-told section-of-requires descriptor-of-requires next-type-requires put-type-requires
+    enum-known-new same-length-3 same-length-4 same-length-5 returns-4 enum-told-2 with-type-requires same-length-6 same-length-7 same-length-8
+    returns-5 next-domain-requires put-domain-requires with-domain-requires same-length-9 returns-6)

@@ -57,17 +57,5 @@ returns-2 c =
     term-passed _ _ _ _ (f .term-fault .ensures .0) (t .enum-told .given .1) (c .with-term .ensures) (rw (n .next-term .ensures) at (p .put-term .ensures)) (f .term-fault .ensures .1)
 
 pub enter-term-spec : {M : Type 1} → statement M
-enter-term-spec =
-    tie.close
-    (tie.spec
-    term-fault-requires
-    enum-known-tested
-    enum-told
-    next-term-requires
-    put-term-requires
-    with-term-requires
-    same-length
-    returns
-    same-length-2
-    same-length-3
-    returns-2)
+enter-term-spec = tie.close (tie.spec term-fault-requires enum-known-tested enum-told next-term-requires put-term-requires with-term-requires
+    same-length returns same-length-2 same-length-3 returns-2)

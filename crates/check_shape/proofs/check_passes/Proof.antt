@@ -6,19 +6,10 @@ use Rattle.verdict.proofs.Answered.{turn-stops, turn-goes}
 use Rattle.check_shape.proofs.check_passes.Statement.{statement}
 use Rattle.check_shape.proofs.check_passes.Tie as tie
 
-check-order-requires : tie.Need-check-order-requires
-check-order-requires c κs = search needs
-
-is-refused-requires : tie.Need-is-refused-requires
-is-refused-requires c κs = search needs
-
 returns : tie.Need-returns
 returns c =
     let o = c .before .before .check-order .ensures in
     o ∙ sym (turn-stops _ _ (ap isRefused (sym o) ∙ sym (c .before .is-refused .ensures) ∙ c .if1 .taken))
-
-check-terms-requires : tie.Need-check-terms-requires
-check-terms-requires c κs = search needs
 
 returns-2 : tie.Need-returns-2
 returns-2 c =
@@ -27,11 +18,4 @@ returns-2 c =
     c .check-terms .ensures ∙ sym go
 
 pub check-passes-spec : {M : Type 1} → statement M
-check-passes-spec =
-    tie.close
-    (tie.spec
-    check-order-requires
-    is-refused-requires
-    returns
-    check-terms-requires
-    returns-2)
+check-passes-spec = tie.close (tie.spec (λ c κs. search needs) (λ c κs. search needs) returns (λ c κs. search needs) returns-2)

@@ -14,9 +14,6 @@ use borrow.Author.Needs.{needs}
 use Rattle.check_shape.proofs.check_shape.Statement.{statement}
 use Rattle.check_shape.proofs.check_shape.Tie as tie
 
-none-empty-requires : tie.Need-none-empty-requires
-none-empty-requires c κs = search needs
-
 returns : tie.Need-returns
 returns c =
     let start = c .before .before .before .before .before .before .before in
@@ -69,12 +66,5 @@ returns-2 c =
     c .check-passes .ensures ∙ sym (shape-passes L (length b) e)
 
 pub check-shape-spec : {M : Type 1} → statement M
-check-shape-spec =
-    tie.close
-    (tie.spec
-    none-empty-requires
-    returns
-    slice-aggregate-check-passes
-    slice-aggregate-check-passes-2
-    check-passes-requires
-    returns-2)
+check-shape-spec = tie.close (tie.spec (λ c κs. search needs) returns slice-aggregate-check-passes slice-aggregate-check-passes-2
+    check-passes-requires returns-2)

@@ -8,17 +8,8 @@ use borrow.Author.Needs.{needs}
 use Rattle.check_shape.proofs.check_terms.Statement.{statement}
 use Rattle.check_shape.proofs.check_terms.Tie as tie
 
-sub-t8 : tie.Need-sub-t8
-sub-t8 c = search needs
-
-cast-t9 : tie.Need-cast-t9
-cast-t9 c = search needs
-
 first-misused-requires : tie.Need-first-misused-requires
 first-misused-requires c κs = let p = c .before .before .before .before .pre in let l = enough-marks _ _ _ (p .1) (p .3) in omega arith
-
-term-offset-requires : tie.Need-term-offset-requires
-term-offset-requires c κs = search needs
 
 returns : tie.Need-returns
 returns c =
@@ -41,9 +32,6 @@ returns-2 c =
     let p = m .before .before .before .before .before .pre in
     sym (accepted-low _ _ _ (p .1) (p .3) _ (p .2) (m .first-misused .ensures) (omega arith) (omega (arith, r .mark-of .ensures)))
 
-check-depths-requires : tie.Need-check-depths-requires
-check-depths-requires c κs = search needs
-
 returns-3 : tie.Need-returns-3
 returns-3 c =
     let m = c .before .before .before .before .before .before in
@@ -51,15 +39,5 @@ returns-3 c =
     c .check-depths .ensures ∙ sym (depths-decide _ _ _ (p .1) (p .3) _ (p .2) (m .first-misused .ensures) (omega arith))
 
 pub check-terms-spec : {M : Type 1} → statement M
-check-terms-spec =
-    tie.close
-    (tie.spec
-    sub-t8
-    cast-t9
-    first-misused-requires
-    term-offset-requires
-    returns
-    mark-of-requires
-    returns-2
-    check-depths-requires
-    returns-3)
+check-terms-spec = tie.close (tie.spec (λ c. search needs) (λ c. search needs) first-misused-requires (λ c κs. search needs) returns mark-of-requires
+    returns-2 (λ c κs. search needs) returns-3)

@@ -11,27 +11,12 @@ use Rattle.check_typing.proofs.Root.{root-plain}
 use Rattle.check_typing.proofs.check_plain.Statement.{statement}
 use Rattle.check_typing.proofs.check_plain.Tie as tie
 
-sub-t8 : tie.Need-sub-t8
-sub-t8 c = search needs
-
 cast-t9 : tie.Need-cast-t9
 cast-t9 c =
     let s = c .before .before .before in
     let f = good-of (now (s .args .image)) (s .pre .0 .laid-out) .few-terms in
     let e = s .pre .3 in
     record { fits = omega arith }
-
-stated-type-requires : tie.Need-stated-type-requires
-stated-type-requires c κs = search needs
-
-type-leaves-requires : tie.Need-type-leaves-requires
-type-leaves-requires c κs = search needs
-
-term-place-requires : tie.Need-term-place-requires
-term-place-requires c κs = search needs
-
-plain-at-requires : tie.Need-plain-at-requires
-plain-at-requires c κs = search needs
 
 returns : tie.Need-returns
 returns c =
@@ -42,13 +27,5 @@ returns c =
     c .plain-at .ensures ∙ rw (c .before .before .type-leaves .ensures, at-stated-type .stated-type .ensures .0, c .before .term-place .ensures .0, r) (root-plain L)
 
 pub check-plain-spec : {M : Type 1} → statement M
-check-plain-spec =
-    tie.close
-    (tie.spec
-    sub-t8
-    cast-t9
-    stated-type-requires
-    type-leaves-requires
-    term-place-requires
-    plain-at-requires
-    returns)
+check-plain-spec = tie.close (tie.spec (λ c. search needs) cast-t9 (λ c κs. search needs) (λ c κs. search needs) (λ c κs. search needs)
+    (λ c κs. search needs) returns)

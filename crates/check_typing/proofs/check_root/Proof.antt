@@ -13,9 +13,6 @@ use Rattle.read_terms.proofs.Located.{good-of}
 use Rattle.check_typing.proofs.Root.{root-checked}
 use Rattle.check_typing.proofs.ScopeCapacity.{root-capacity}
 
-sub-t10 : tie.Need-sub-t10
-sub-t10 c = search needs
-
 cast-t11 : tie.Need-cast-t11
 cast-t11 c =
     let s = c .before in
@@ -46,4 +43,4 @@ returns c =
     c .verdict-of .ensures ∙ c .before .before .check-term .ensures .0 ∙ ap (λ n. checked L (settingIn _ 0 0) (n - 1)) e ∙ root-checked L (omega arith) _
 
 pub check-root-spec : {M : Type 1} → statement M
-check-root-spec = tie.close (tie.spec sub-t10 cast-t11 check-term-requires verdict-of-requires returns)
+check-root-spec = tie.close (tie.spec (λ c. search needs) cast-t11 check-term-requires verdict-of-requires returns)

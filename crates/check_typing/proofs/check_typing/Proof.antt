@@ -20,16 +20,10 @@ module _ {b ds ts ks : List ℕ} where
   types-lent : Tables b ds ts ks → Types b ks
   types-lent T = record { laid-out = T .laid-out; enough = T .enough; descriptors = T .descriptors }
 
-set-masks-requires : tie.Need-set-masks-requires
-set-masks-requires c κs = search needs
-
 check-root-requires : tie.Need-check-root-requires
 check-root-requires c κs =
     let p = c .before .before .before .before .before .pre in
     (record { terms = terms-lent (p .0); types = types-lent (p .0) }, p .1 .terms, omega (arith, p .1 .terms, p .2 .has-terms), c .before .set-masks .ensures, p .2, p .3)
-
-is-refused-requires : tie.Need-is-refused-requires
-is-refused-requires c κs = search needs
 
 returns : tie.Need-returns
 returns c =
@@ -50,12 +44,4 @@ returns-2 c =
     c .check-plain .ensures ∙ typing-plain (recordsOf (now (s .args .image))) (at-check-root .check-root .result) (at-check-root .check-root .ensures) (sym (at-is-refused .is-refused .ensures) ∙ at-if1 .if1 .left)
 
 pub check-typing-spec : {M : Type 1} → statement M
-check-typing-spec =
-    tie.close
-    (tie.spec
-    set-masks-requires
-    check-root-requires
-    is-refused-requires
-    returns
-    check-plain-requires
-    returns-2)
+check-typing-spec = tie.close (tie.spec (λ c κs. search needs) check-root-requires (λ c κs. search needs) returns check-plain-requires returns-2)

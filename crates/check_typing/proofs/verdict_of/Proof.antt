@@ -20,9 +20,6 @@ few s =
 returns : tie.Need-returns
 returns c = let s = c .before .before .before in no-fault (recordsOf (now (s .args .image))) (s .args .fault) (c .if1 .taken)
 
-cast-t9 : tie.Need-cast-t9
-cast-t9 c = search needs
-
 term-place-requires : tie.Need-term-place-requires
 term-place-requires c κs =
     let s = c .before .before .before in
@@ -47,4 +44,4 @@ returns-4 c =
 
 pub verdict-of-spec : {M : Type 1} → statement M
 verdict-of-spec =
-    tie.close (tie.spec returns cast-t9 term-place-requires returns-2 returns-3 returns-4)
+    tie.close (tie.spec returns (λ c. search needs) term-place-requires returns-2 returns-3 returns-4)

@@ -8,18 +8,6 @@ use borrow.Author.Needs.{needs}
 use Rattle.engine.proofs.run.Statement.{statement}
 use Rattle.engine.proofs.run.Tie as tie
 
-check-call-requires : tie.Need-check-call-requires
-check-call-requires c κs = search needs
-
-enum-known-checked : tie.Need-enum-known-checked
-enum-known-checked c = search needs
-
-refused-requires : tie.Need-refused-requires
-refused-requires c κs = search needs
-
-enum-known-checked-2 : tie.Need-enum-known-checked-2
-enum-known-checked-2 c = search needs
-
 prepare-requires : tie.Need-prepare-requires
 prepare-requires c κs =
     let k = c .before .before .before .before .before .before in
@@ -27,12 +15,6 @@ prepare-requires c κs =
     let s = e .before .before .before .before .before .before .before .before .before in
     let a = code-asks (now (s .args .image)) _ _ _ _ _ (e .check-call .ensures .0) _ (k .checked2 .given .1) in
     (a .0, a .1, search needs, search needs)
-
-slice-aggregate-run-code : tie.Need-slice-aggregate-run-code
-slice-aggregate-run-code c = search needs
-
-slice-aggregate-run-code-2 : tie.Need-slice-aggregate-run-code-2
-slice-aggregate-run-code-2 c = search needs
 
 run-code-requires : tie.Need-run-code-requires
 run-code-requires c κs =
@@ -59,15 +41,6 @@ returns c =
     let s = e .before .before .before .before .before .before .before .before .before in
     refusal-left (now (s .args .image)) (now (s .args .frame)) (s .args .budget) (now (s .args .log)) (now (s .args .report)) (now (s .args .work)) _ _ _ (refused-so (now (s .args .image)) _ _ _ _ _ (e .check-call .ensures .0) _ _ (k .checked .given .1)) (c .refused .ensures)
 
-same-length : tie.Need-same-length
-same-length c = search needs
-
-same-length-2 : tie.Need-same-length-2
-same-length-2 c = search needs
-
-same-length-3 : tie.Need-same-length-3
-same-length-3 c = search needs
-
 returns-2 : tie.Need-returns-2
 returns-2 c =
     let w = c .before .before in
@@ -78,20 +51,6 @@ returns-2 c =
     run-called (now (s .args .image)) (now (s .args .frame)) (s .args .budget) (now (s .args .log)) (now (s .args .report)) (now (s .args .work)) _ _ _ _ _ (accepted-so (now (s .args .image)) _ _ _ _ _ (e .check-call .ensures .0) _ (k .checked2 .given .1)) (r .run-code .ensures) (w .clear .ensures)
 
 pub run-spec : {M : Type 1} → statement M
-run-spec =
-    tie.close
-    (tie.spec
-    check-call-requires
-    enum-known-checked
-    refused-requires
-    enum-known-checked-2
-    prepare-requires
-    slice-aggregate-run-code
-    slice-aggregate-run-code-2
-    run-code-requires
-    clear-requires
-    returns
-    same-length
-    same-length-2
-    same-length-3
+run-spec = tie.close (tie.spec (λ c κs. search needs) (λ c. search needs) (λ c κs. search needs) (λ c. search needs) prepare-requires
+    (λ c. search needs) (λ c. search needs) run-code-requires clear-requires returns (λ c. search needs) (λ c. search needs) (λ c. search needs)
     returns-2)

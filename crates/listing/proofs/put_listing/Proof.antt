@@ -51,16 +51,5 @@ returns-2 c =
     as-short (run-listed (a .a) (now (a .log)) (now (a .report)) (at-enum-told .enum-told .given .1) (at-front .front .ensures) (at-front2 .front2 .ensures)) (longer (omega arith) (c .before .before .put-run .ensures))
 
 pub put-listing-spec : {M : Type 1} → statement M
-put-listing-spec =
-    tie.close
-    (tie.spec
-    enum-known-verdict
-    put-refusal-requires
-    enum-told
-    front-requires
-    front-requires-2
-    put-run-requires
-    same-length
-    returns
-    same-length-2
-    returns-2)
+put-listing-spec = tie.close (tie.spec enum-known-verdict put-refusal-requires enum-told front-requires front-requires-2 put-run-requires same-length
+    returns same-length-2 returns-2)

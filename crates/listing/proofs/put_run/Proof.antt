@@ -8,15 +8,6 @@ use borrow.Author.Needs.{needs}
 use Rattle.listing.proofs.put_run.Statement.{statement}
 use Rattle.listing.proofs.put_run.Tie as tie
 
-put-prints-requires : tie.Need-put-prints-requires
-put-prints-requires c κs = search needs
-
-put-ending-requires : tie.Need-put-ending-requires
-put-ending-requires c κs = search needs
-
-put-cells-requires : tie.Need-put-cells-requires
-put-cells-requires c κs = search needs
-
 same-length : tie.Need-same-length
 same-length c =
     let at-put-cells = c .before .before in
@@ -37,6 +28,4 @@ returns c =
     (run-short (a .ending) (a .steps) (now (a .log)) (now (a .report)) (search needs) (λ i. omega (arith, at-shared-slice-known .shared-slice-known .given i)) (λ i. omega (arith, at-shared-slice-known2 .shared-slice-known2 .given i)))
 
 pub put-run-spec : {M : Type 1} → statement M
-put-run-spec =
-    tie.close
-    (tie.spec put-prints-requires put-ending-requires put-cells-requires same-length returns)
+put-run-spec = tie.close (tie.spec (λ c κs. search needs) (λ c κs. search needs) (λ c κs. search needs) same-length returns)

@@ -35,15 +35,5 @@ returns-2 : tie.Need-returns-2
 returns-2 c = as-short (ap verdictLine (sym (c .before .before .before .before .before .v .given .1))) (c .before .before .put-refusal .ensures)
 
 pub put-verdict-spec : {M : Type 1} → statement M
-put-verdict-spec =
-    tie.close
-    (tie.spec
-    enum-told
-    slice-aggregate-put
-    put-requires
-    enum-known-v
-    put-refusal-requires
-    same-length
-    returns
-    same-length-2
+put-verdict-spec = tie.close (tie.spec enum-told slice-aggregate-put put-requires enum-known-v put-refusal-requires same-length returns same-length-2
     returns-2)

@@ -7,9 +7,6 @@ use Rattle.need_class.proofs.Lowest.{no-first}
 use Rattle.need_class.proofs.first_child.Statement.{statement}
 use Rattle.need_class.proofs.first_child.Tie as tie
 
-child-count-requires : tie.Need-child-count-requires
-child-count-requires c κs = search needs
-
 returns : tie.Need-returns
 returns c =
     let fs = now (c .before .before .before .args .fields) in
@@ -22,9 +19,6 @@ child-in-requires c κs =
     let some = c .if1 .left in
     (P, omega arith)
 
-returns-2 : tie.Need-returns-2
-returns-2 c = search needs
-
 pub first-child-spec : {M : Type 1} → statement M
 first-child-spec =
-    tie.close (tie.spec child-count-requires returns child-in-requires returns-2)
+    tie.close (tie.spec (λ c κs. search needs) returns child-in-requires (λ c. search needs))

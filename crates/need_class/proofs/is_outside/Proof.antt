@@ -6,9 +6,6 @@ use Rattle.need_class.proofs.Lowest.{outside-of}
 use Rattle.need_class.proofs.is_outside.Statement.{statement}
 use Rattle.need_class.proofs.is_outside.Tie as tie
 
-both-requires : tie.Need-both-requires
-both-requires c κs = search needs
-
 returns : tie.Need-returns
 returns c = λ k e. outside-of k (c .before .before .args .j) (c .before .before .args .outside) true (ap (λ x. eqb x 47 && eqb (c .before .before .args .j) 1) (sym e) ∙ (sym (c .before .both .ensures) ∙ c .if1 .taken))
 
@@ -16,4 +13,4 @@ returns-2 : tie.Need-returns-2
 returns-2 c = λ k e. outside-of k (c .before .before .args .j) (c .before .before .args .outside) false (ap (λ x. eqb x 47 && eqb (c .before .before .args .j) 1) (sym e) ∙ (sym (c .before .both .ensures) ∙ c .if1 .left))
 
 pub is-outside-spec : {M : Type 1} → statement M
-is-outside-spec = tie.close (tie.spec both-requires returns returns-2)
+is-outside-spec = tie.close (tie.spec (λ c κs. search needs) returns returns-2)

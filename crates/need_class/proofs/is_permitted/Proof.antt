@@ -9,9 +9,6 @@ use Rattle.need_class.proofs.Lowest.{free-kind}
 use Rattle.need_class.proofs.is_permitted.Statement.{statement}
 use Rattle.need_class.proofs.is_permitted.Tie as tie
 
-both-requires : tie.Need-both-requires
-both-requires c κs = search needs
-
 returns : tie.Need-returns
 returns c = λ k j e e′. ap (λ x. permits (c .before .args .outside) x j) (same-term-kind TermKind.app k (sym (c .match .keys1) ∙ e))
 
@@ -29,4 +26,4 @@ returns-5 c = λ k j e e′. free-kind _ (c .match .rest) k e (c .before .args .
 
 pub is-permitted-spec : {M : Type 1} → statement M
 is-permitted-spec =
-    tie.close (tie.spec both-requires returns returns-2 returns-3 returns-4 returns-5)
+    tie.close (tie.spec (λ c κs. search needs) returns returns-2 returns-3 returns-4 returns-5)

@@ -11,9 +11,6 @@ use Rattle.need_terms.proofs.Described.{match-variables, no-variables, 
 use Rattle.need_terms.proofs.branch_variables.Statement.{statement}
 use Rattle.need_terms.proofs.branch_variables.Tie as tie
 
-child-count-requires : tie.Need-child-count-requires
-child-count-requires c κs = search needs
-
 sub-with-one : tie.Need-sub-with-one
 sub-with-one c =
     let s = c .before .before .before in
@@ -51,12 +48,4 @@ returns-2 c =
     (no-variables (now (a .fields)) (a .kind) (c .if1 .left), omega arith)
 
 pub branch-variables-spec : {M : Type 1} → statement M
-branch-variables-spec =
-    tie.close
-    (tie.spec
-    child-count-requires
-    sub-with-one
-    binds-rest-requires
-    with-one-requires
-    returns
-    returns-2)
+branch-variables-spec = tie.close (tie.spec (λ c κs. search needs) sub-with-one binds-rest-requires with-one-requires returns returns-2)

@@ -7,12 +7,6 @@ use Rattle.need_terms.proofs.Described.{advice-domain, lower-domain, no
 use Rattle.need_terms.proofs.part_domain.Statement.{statement}
 use Rattle.need_terms.proofs.part_domain.Tie as tie
 
-own-descriptor-requires : tie.Need-own-descriptor-requires
-own-descriptor-requires c κs = search needs
-
-domain-of-requires : tie.Need-domain-of-requires
-domain-of-requires c κs = search needs
-
 returns : tie.Need-returns
 returns c =
     let at-if1 = c .before .before in
@@ -35,12 +29,4 @@ returns-3 c =
     no-domain (now (a .fields)) (now (a .descriptors)) (a .kind) (c .before .if1 .left) (c .if2 .left)
 
 pub part-domain-spec : {M : Type 1} → statement M
-part-domain-spec =
-    tie.close
-    (tie.spec
-    own-descriptor-requires
-    domain-of-requires
-    returns
-    domain-field-requires
-    returns-2
-    returns-3)
+part-domain-spec = tie.close (tie.spec (λ c κs. search needs) (λ c κs. search needs) returns domain-field-requires returns-2 returns-3)

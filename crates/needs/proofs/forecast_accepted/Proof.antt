@@ -7,9 +7,6 @@ use Rattle.needs.proofs.Told.{outside-told, known-told}
 use Rattle.needs.proofs.forecast_accepted.Statement.{statement}
 use Rattle.needs.proofs.forecast_accepted.Tie as tie
 
-sub-t8 : tie.Need-sub-t8
-sub-t8 c = search needs
-
 cast-t9 : tie.Need-cast-t9
 cast-t9 c =
     let s = c .before in
@@ -26,9 +23,6 @@ cast-t9-2 c =
     let e = s .pre .2 in
     omega arith
 
-lowest-fault-requires : tie.Need-lowest-fault-requires
-lowest-fault-requires c κs = search needs
-
 term-place-requires : tie.Need-term-place-requires
 term-place-requires c κs =
     let s = c .before .before .before .before .before .before .before in
@@ -44,9 +38,6 @@ returns c =
     let e = s .pre .2 in
     outside-told (recordsOf (now (s .args .image))) (omega arith) (s .args .count) (c .before .before .before .before .before .lowest-fault .result .0) e (c .before .before .before .before .before .lowest-fault .ensures) (c .before .before .if1 .taken) (c .term-place .result) (c .term-place .ensures .0)
 
-program-needs-requires : tie.Need-program-needs-requires
-program-needs-requires c κs = search needs
-
 returns-2 : tie.Need-returns-2
 returns-2 c =
     let s = c .before .before .before .before .before .before .before in
@@ -56,14 +47,5 @@ returns-2 c =
     known-told (recordsOf (now (s .args .image))) (omega arith) (s .args .count) (c .before .before .before .before .lowest-fault .result .0) e (c .before .before .before .before .lowest-fault .ensures) (c .before .if1 .left) (c .program-needs .result) (c .program-needs .ensures)
 
 pub forecast-accepted-spec : {M : Type 1} → statement M
-forecast-accepted-spec =
-    tie.close
-    (tie.spec
-    sub-t8
-    cast-t9
-    cast-t9-2
-    lowest-fault-requires
-    term-place-requires
-    returns
-    program-needs-requires
-    returns-2)
+forecast-accepted-spec = tie.close (tie.spec (λ c. search needs) cast-t9 cast-t9-2 (λ c κs. search needs) term-place-requires returns
+    (λ c κs. search needs) returns-2)

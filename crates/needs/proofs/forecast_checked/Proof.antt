@@ -6,24 +6,6 @@ use Rattle.needs.proofs.Told.{shallow-terms, refused-told, accepted-tol
 use Rattle.needs.proofs.forecast_checked.Statement.{statement}
 use Rattle.needs.proofs.forecast_checked.Tie as tie
 
-kind-codes-requires : tie.Need-kind-codes-requires
-kind-codes-requires c κs = search needs
-
-slice-aggregate-examine-image : tie.Need-slice-aggregate-examine-image
-slice-aggregate-examine-image c = search needs
-
-slice-aggregate-examine-image-2 : tie.Need-slice-aggregate-examine-image-2
-slice-aggregate-examine-image-2 c = search needs
-
-examine-image-requires : tie.Need-examine-image-requires
-examine-image-requires c κs = search needs
-
-enum-known-checked : tie.Need-enum-known-checked
-enum-known-checked c = search needs
-
-enum-known-checked-2 : tie.Need-enum-known-checked-2
-enum-known-checked-2 c = search needs
-
 forecast-accepted-requires : tie.Need-forecast-accepted-requires
 forecast-accepted-requires c κs =
     let k = c .before .before .before in
@@ -49,15 +31,5 @@ returns-2 c =
     accepted-told (now (s .args .image)) (s .pre) _ (at-examine-image .examine-image .ensures .0 .answer) _ (at-checked2 .checked2 .given .1) (c .forecast-accepted .result) (c .forecast-accepted .ensures)
 
 pub forecast-checked-spec : {M : Type 1} → statement M
-forecast-checked-spec =
-    tie.close
-    (tie.spec
-    kind-codes-requires
-    slice-aggregate-examine-image
-    slice-aggregate-examine-image-2
-    examine-image-requires
-    enum-known-checked
-    enum-known-checked-2
-    forecast-accepted-requires
-    returns
-    returns-2)
+forecast-checked-spec = tie.close (tie.spec (λ c κs. search needs) (λ c. search needs) (λ c. search needs) (λ c κs. search needs) (λ c. search needs)
+    (λ c. search needs) forecast-accepted-requires returns returns-2)

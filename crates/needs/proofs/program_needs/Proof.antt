@@ -11,15 +11,6 @@ use Rattle.needs.proofs.Told.{level-placed, program-placed, marks-known
 use Rattle.needs.proofs.program_needs.Statement.{statement}
 use Rattle.needs.proofs.program_needs.Tie as tie
 
-no-needs-requires : tie.Need-no-needs-requires
-no-needs-requires c κs = search needs
-
-mark-position-requires : tie.Need-mark-position-requires
-mark-position-requires c κs = search needs
-
-slice-aggregate-walk : tie.Need-slice-aggregate-walk
-slice-aggregate-walk c = search needs
-
 walk-requires : tie.Need-walk-requires
 walk-requires c κs =
     let s = c .before .before .before .before .before .before in
@@ -29,12 +20,6 @@ walk-requires c κs =
     let root = s .pre .2 in
     (s .pre .0, omega arith, level-placed L _ _ (c .before .mark-position .ensures) root (omega arith) (s .pre .3), refl, rw (c .before .mark-position .ensures) tt)
 
-mark-position-requires-2 : tie.Need-mark-position-requires-2
-mark-position-requires-2 c κs = search needs
-
-slice-aggregate-add-pieces : tie.Need-slice-aggregate-add-pieces
-slice-aggregate-add-pieces c = search needs
-
 add-pieces-requires : tie.Need-add-pieces-requires
 add-pieces-requires c κs =
     let s = c .before .before .before .before .before .before .before .before .before in
@@ -43,12 +28,6 @@ add-pieces-requires c κs =
     let some = s .pre .1 in
     let root = s .pre .2 in
     (s .pre .0, omega arith, level-placed L _ _ (c .before .mark-position2 .ensures) root (omega arith) (s .pre .3), ap (λ x. ofAdvice (x .mode)) (c .before .mark-position2 .ensures), refl)
-
-program-position-requires : tie.Need-program-position-requires
-program-position-requires c κs = search needs
-
-slice-aggregate-walk-2 : tie.Need-slice-aggregate-walk-2
-slice-aggregate-walk-2 c = search needs
 
 walk-requires-2 : tie.Need-walk-requires-2
 walk-requires-2 c κs =
@@ -72,17 +51,5 @@ returns c =
     program-known L (s .pre .1) _ _ _ (c .before .before .program-position .ensures) (s .pre .2) (c .walk2 .ensures)
 
 pub program-needs-spec : {M : Type 1} → statement M
-program-needs-spec =
-    tie.close
-    (tie.spec
-    no-needs-requires
-    mark-position-requires
-    slice-aggregate-walk
-    walk-requires
-    mark-position-requires-2
-    slice-aggregate-add-pieces
-    add-pieces-requires
-    program-position-requires
-    slice-aggregate-walk-2
-    walk-requires-2
-    returns)
+program-needs-spec = tie.close (tie.spec (λ c κs. search needs) (λ c κs. search needs) (λ c. search needs) walk-requires (λ c κs. search needs)
+    (λ c. search needs) add-pieces-requires (λ c κs. search needs) (λ c. search needs) walk-requires-2 returns)

@@ -13,12 +13,6 @@ returns-2 : tie.Need-returns-2
 unfolding joinLeaves
 returns-2 c = simp (ne-eqb _ _ (c .before .if1 .left), eq-eqb _ _ (c .if2 .taken))
 
-add-if3 : tie.Need-add-if3
-add-if3 c = search needs
-
-add-result : tie.Need-add-result
-add-result c = search needs
-
 returns-3 : tie.Need-returns-3
 unfolding joinLeaves
 returns-3 c = simp (ne-eqb _ _ (c .before .before .if1 .left), ne-eqb _ _ (c .before .if2 .left), le-leb _ _ (c .if3 .taken))
@@ -28,4 +22,4 @@ unfolding joinLeaves
 returns-4 c = simp (ne-eqb _ _ (c .before .before .if1 .left), ne-eqb _ _ (c .before .if2 .left), lt-leb _ _ (c .if3 .left))
 
 pub join-leaves-spec : {M : Type 1} → statement M
-join-leaves-spec = tie.close (tie.spec returns returns-2 add-if3 add-result returns-3 returns-4)
+join-leaves-spec = tie.close (tie.spec returns returns-2 (λ c. search needs) (λ c. search needs) returns-3 returns-4)

@@ -9,17 +9,8 @@ use borrow.Author.Tests.{eq-eqb, ne-eqb, lt-ltb, le-ltb}
 use Rattle.read_records.specs.Descriptors.{descriptorKind}
 use Prim.Native.Nat.{_<_, _≤_}
 
-descriptor-kind-requires : tie.Need-descriptor-kind-requires
-descriptor-kind-requires c κs = search needs
-
-first-type-requires : tie.Need-first-type-requires
-first-type-requires c κs = search needs
-
 leaves-at-requires : tie.Need-leaves-at-requires
 leaves-at-requires c κs = rw (c .first-type .ensures) (((c .before .before .before .before .pre) (sym (c .before .before .descriptor-kind .ensures) ∙ (c .before .if1 .taken))) .0 .inside)
-
-second-type-requires : tie.Need-second-type-requires
-second-type-requires c κs = search needs
 
 leaves-at-requires-2 : tie.Need-leaves-at-requires-2
 leaves-at-requires-2 c κs =
@@ -54,15 +45,5 @@ unfolding leavesOf
 returns-3 c = let k = (c .before .before .descriptor-kind .ensures) in let n : descriptorKind (c .before .before .before .before .args .descriptor) ≡ 19 → ⊥ = λ e. (c .before .if1 .left) (k ∙ e) in let l : 19 ≤ descriptorKind (c .before .before .before .before .args .descriptor) = omega arith in simp (ne-eqb _ _ n, le-ltb _ _ l)
 
 pub leaves-of-spec : {M : Type 1} → statement M
-leaves-of-spec =
-    tie.close
-    (tie.spec
-    descriptor-kind-requires
-    first-type-requires
-    leaves-at-requires
-    second-type-requires
-    leaves-at-requires-2
-    join-leaves-requires
-    returns
-    returns-2
-    returns-3)
+leaves-of-spec = tie.close (tie.spec (λ c κs. search needs) (λ c κs. search needs) leaves-at-requires (λ c κs. search needs) leaves-at-requires-2
+    join-leaves-requires returns returns-2 returns-3)

@@ -22,9 +22,6 @@ Inv-loop image descriptors count table₀ i₀ table i = (i ≤ count) × (lengt
 abbrev μ-loop : tie.MeasureT-loop
 μ-loop image descriptors count table₀ i₀ table i = count - i
 
-loop-holds : tie.Need-loop-holds Inv-loop μ-loop
-loop-holds c = search needs
-
 cast-t9 : tie.Need-cast-t9 Inv-loop μ-loop
 cast-t9 c =
     let s = c .before .before .before .before .before in
@@ -32,9 +29,6 @@ cast-t9 c =
     let n = s .pre .1 in
     let h = c .loop-test .taken in
     record { fits = omega arith }
-
-type-descriptor-requires : tie.Need-type-descriptor-requires Inv-loop μ-loop
-type-descriptor-requires c κs = search needs
 
 leaves-of-requires : tie.Need-leaves-of-requires Inv-loop μ-loop
 leaves-of-requires c κs =
@@ -47,15 +41,6 @@ leaves-of-requires c κs =
     let i = at-loop .loop .inv in
     let l = s .pre .2 in
     (record { inside = omega arith; few = rw (i .2 _ (p .2)) (plain-few _) }, record { inside = omega arith; few = rw (i .2 _ (p .3)) (plain-few _) }))
-
-set-leaf-requires : tie.Need-set-leaf-requires Inv-loop μ-loop
-set-leaf-requires c κs = search needs
-
-add-i : tie.Need-add-i Inv-loop μ-loop
-add-i c = search needs
-
-loop-less : tie.Need-loop-less Inv-loop μ-loop
-loop-less c = search needs
 
 loop-again : tie.Need-loop-again Inv-loop μ-loop
 loop-again c =
@@ -77,9 +62,6 @@ loop-again c =
       drop-set-lt (s .args .count) (at-loop .loop .table) (at-loop .loop .i) (at-leaves-of .leaves-of .result) (omega arith) ∙ i .3,
     )
 
-same-length : tie.Need-same-length Inv-loop μ-loop
-same-length c = search needs
-
 returns : tie.Need-returns Inv-loop μ-loop
 returns c =
     let s = c .before .before .before .before .before in
@@ -89,18 +71,5 @@ returns c =
     (record { enough = omega (arith, i .1); counts = λ u z. i .2 u (omega arith) }, i .3)
 
 pub set-leaves-spec : {M : Type 1} → statement M
-set-leaves-spec =
-    tie.close
-    (tie.spec
-    Inv-loop
-    μ-loop
-    loop-holds
-    cast-t9
-    type-descriptor-requires
-    leaves-of-requires
-    set-leaf-requires
-    add-i
-    loop-less
-    loop-again
-    same-length
-    returns)
+set-leaves-spec = tie.close (tie.spec Inv-loop μ-loop (λ c. search needs) cast-t9 (λ c κs. search needs) leaves-of-requires (λ c κs. search needs)
+    (λ c. search needs) (λ c. search needs) loop-again (λ c. search needs) returns)

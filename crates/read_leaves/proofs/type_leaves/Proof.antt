@@ -8,21 +8,12 @@ use Rattle.read_leaves.proofs.PlainTypes.{scalar-leaf}
 use Rattle.read_leaves.proofs.type_leaves.Statement.{statement}
 use Rattle.read_leaves.proofs.type_leaves.Tie as tie
 
-type-descriptor-requires : tie.Need-type-descriptor-requires
-type-descriptor-requires c κs = search needs
-
-descriptor-kind-requires : tie.Need-descriptor-kind-requires
-descriptor-kind-requires c κs = search needs
-
 returns : tie.Need-returns
 returns c =
     let s = c .before .before .before .before .before in
     let k = c .before .descriptor-kind .ensures in
     let e = c .before .before .type-descriptor .ensures in
     scalar-leaf (now (s .args .image)) (now (s .args .descriptors)) (s .pre .0) (s .args .t .0) (s .pre .2) (rw (← e, ← k) (c .if1 .taken))
-
-slice-aggregate-set-leaves : tie.Need-slice-aggregate-set-leaves
-slice-aggregate-set-leaves c = search needs
 
 set-leaves-requires : tie.Need-set-leaves-requires
 set-leaves-requires c κs =
@@ -31,12 +22,6 @@ set-leaves-requires c κs =
     let n = s .pre .1 in
     (s .pre .0, s .pre .1, omega arith)
 
-slice-aggregate-leaves-at : tie.Need-slice-aggregate-leaves-at
-slice-aggregate-leaves-at c = search needs
-
-leaves-at-requires : tie.Need-leaves-at-requires
-leaves-at-requires c κs = search needs
-
 returns-2 : tie.Need-returns-2
 returns-2 c =
     let at-set-leaves = c .before .before .before in
@@ -44,14 +29,5 @@ returns-2 c =
     c .leaves-at .ensures ∙ at-set-leaves .set-leaves .ensures .0 .counts (s .args .t .0) (s .pre .2)
 
 pub type-leaves-spec : {M : Type 1} → statement M
-type-leaves-spec =
-    tie.close
-    (tie.spec
-    type-descriptor-requires
-    descriptor-kind-requires
-    returns
-    slice-aggregate-set-leaves
-    set-leaves-requires
-    slice-aggregate-leaves-at
-    leaves-at-requires
-    returns-2)
+type-leaves-spec = tie.close (tie.spec (λ c κs. search needs) (λ c κs. search needs) returns (λ c. search needs) set-leaves-requires
+    (λ c. search needs) (λ c κs. search needs) returns-2)

@@ -4,14 +4,8 @@ use borrow.Author.Needs.{needs}
 use Rattle.validator.proofs.validate.Statement.{statement}
 use Rattle.validator.proofs.validate.Tie as tie
 
-check-call-requires : tie.Need-check-call-requires
-check-call-requires c κs = search needs
-
-verdict-of-requires : tie.Need-verdict-of-requires
-verdict-of-requires c κs = search needs
-
 returns : tie.Need-returns
 returns c = c .verdict-of .ensures ∙ c .before .check-call .ensures .0 .answer
 
 pub validate-spec : {M : Type 1} → statement M
-validate-spec = tie.close (tie.spec check-call-requires verdict-of-requires returns)
+validate-spec = tie.close (tie.spec (λ c κs. search needs) (λ c κs. search needs) returns)

@@ -3,17 +3,8 @@ use mathlib.Core.Path.{refl}
 use Rattle.validator.proofs.verdict_place.Statement.{statement}
 use Rattle.validator.proofs.verdict_place.Tie as tie
 
-enum-told : tie.Need-enum-told
-enum-told c = search needs
-
-enum-known-v : tie.Need-enum-known-v
-enum-known-v c = search needs
-
-returns : tie.Need-returns
-returns c = search needs
-
 returns-2 : tie.Need-returns-2
 returns-2 c = rw (c .before .v .given .1) refl
 
 pub verdict-place-spec : {M : Type 1} → statement M
-verdict-place-spec = tie.close (tie.spec enum-told enum-known-v returns returns-2)
+verdict-place-spec = tie.close (tie.spec (λ c. search needs) (λ c. search needs) (λ c. search needs) returns-2)

@@ -5,38 +5,8 @@ use borrow.Author.Needs.{needs}
 use Rattle.vm_prints.proofs.reduce_print.Statement.{statement}
 use Rattle.vm_prints.proofs.reduce_print.Tie as tie
 
-sub-if1 : tie.Need-sub-if1
-sub-if1 c = search needs
-
-halt-requires : tie.Need-halt-requires
-halt-requires c κs = search needs
-
 returns : tie.Need-returns
 returns c = let a = c .before .before .before .before .args in no-capacity (now (a .work)) (now (a .work)) (now (a .log)) (now (a .log)) (a .r) _ (a .w) (a .x) (c .before .if1 .taken) (c .halt .ensures)
-
-domain-of-requires : tie.Need-domain-of-requires
-domain-of-requires c κs = search needs
-
-body-requires : tie.Need-body-requires
-body-requires c κs = search needs
-
-cast-put-log : tie.Need-cast-put-log
-cast-put-log c = search needs
-
-put-log-requires : tie.Need-put-log-requires
-put-log-requires c κs = search needs
-
-given-requires : tie.Need-given-requires
-given-requires c κs = search needs
-
-add-q : tie.Need-add-q
-add-q c = search needs
-
-same-length : tie.Need-same-length
-same-length c = search needs
-
-same-length-2 : tie.Need-same-length-2
-same-length-2 c = search needs
 
 returns-2 : tie.Need-returns-2
 returns-2 c =
@@ -49,18 +19,5 @@ returns-2 c =
     printed (now (a .work)) _ (now (a .log)) _ (a .r) _ (a .w) (a .x) (s .pre .1) _ _ (at-if1 .if1 .left) (at-domain-of .domain-of .ensures) (at-body .body .ensures) (at-put-log .put-log .ensures) (c .before .before .given .ensures)
 
 pub reduce-print-spec : {M : Type 1} → statement M
-reduce-print-spec =
-    tie.close
-    (tie.spec
-    sub-if1
-    halt-requires
-    returns
-    domain-of-requires
-    body-requires
-    cast-put-log
-    put-log-requires
-    given-requires
-    add-q
-    same-length
-    same-length-2
-    returns-2)
+reduce-print-spec = tie.close (tie.spec (λ c. search needs) (λ c κs. search needs) returns (λ c κs. search needs) (λ c κs. search needs)
+    (λ c. search needs) (λ c κs. search needs) (λ c κs. search needs) (λ c. search needs) (λ c. search needs) (λ c. search needs) returns-2)

@@ -6,12 +6,6 @@ use Rattle.write_fields.specs.Classes.{digitAt}
 use Rattle.write_fields.proofs.class_of.Statement.{statement}
 use Rattle.write_fields.proofs.class_of.Tie as tie
 
-field-classes-requires : tie.Need-field-classes-requires
-field-classes-requires c κs = search needs
-
-slot-of-requires : tie.Need-slot-of-requires
-slot-of-requires c κs = search needs
-
 class-at-requires : tie.Need-class-at-requires
 class-at-requires c κs = rw (c .slot-of .ensures) (c .before .before .pre .3)
 
@@ -20,4 +14,4 @@ returns c = c .class-at .ensures ∙ ap (λ q. digitAt (c .before .slot-of .resu
 
 pub class-of-spec : {M : Type 1} → statement M
 class-of-spec =
-    tie.close (tie.spec field-classes-requires slot-of-requires class-at-requires returns)
+    tie.close (tie.spec (λ c κs. search needs) (λ c κs. search needs) class-at-requires returns)

@@ -13,9 +13,6 @@ group-times-requires c κs =
     let s = c .before .before .before in
     rw (c .known-code .ensures) (code-sized (s .args .kind) (now (s .args .fields)) (s .pre .1))
 
-group-count-requires : tie.Need-group-count-requires
-group-count-requires c κs = search needs
-
 mul-groups : tie.Need-mul-groups
 mul-groups c =
     let w = c .before .before in
@@ -29,9 +26,6 @@ first-count-requires c κs =
     let w = c .before .before in
     let s = w .before .before .before in
     rw (w .known-code .ensures) (code-sized (s .args .kind) (now (s .args .fields)) (s .pre .1))
-
-last-count-requires : tie.Need-last-count-requires
-last-count-requires c κs = search needs
 
 add-t7 : tie.Need-add-t7
 add-t7 c =
@@ -61,15 +55,5 @@ returns c =
     )
 
 pub known-fields-spec : {M : Type 1} → statement M
-known-fields-spec =
-    tie.close
-    (tie.spec
-    known-code-requires
-    group-times-requires
-    group-count-requires
-    mul-groups
-    first-count-requires
-    last-count-requires
-    add-t7
-    add-t9
-    returns)
+known-fields-spec = tie.close (tie.spec known-code-requires group-times-requires (λ c κs. search needs) mul-groups first-count-requires
+    (λ c κs. search needs) add-t7 add-t9 returns)

@@ -16,9 +16,6 @@ write-whole-requires c κs =
     let Q = s .pre .3 .1 in
     (s .pre .2, record { laid-out = Q .laid-out; offsets = Q .domains }, s .pre .5, record { laid-out = Q .laid-out; offsets = Q .terms }, s .pre .4, accepted-fits (now (s .args .image)) _ (s .pre .0) (s .pre .1) (c .before .if1 .left))
 
-same-length : tie.Need-same-length
-same-length c = search needs
-
 returns-2 : tie.Need-returns-2
 returns-2 c =
     let at-if1 = c .before .before .before .before in
@@ -27,4 +24,4 @@ returns-2 c =
     written-left (now (s .args .image)) (now (s .args .out)) (s .pre .0) (s .pre .1) _ _ (at-if1 .if1 .left) (w .ensures .0) (w .ensures .1)
 
 pub write-checked-spec : {M : Type 1} → statement M
-write-checked-spec = tie.close (tie.spec returns write-whole-requires same-length returns-2)
+write-checked-spec = tie.close (tie.spec returns write-whole-requires (λ c. search needs) returns-2)

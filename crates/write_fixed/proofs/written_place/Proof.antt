@@ -4,24 +4,9 @@ use borrow.Author.Needs.{needs}
 use Rattle.write_fixed.proofs.written_place.Statement.{statement}
 use Rattle.write_fixed.proofs.written_place.Tie as tie
 
-enum-told : tie.Need-enum-told
-enum-told c = search needs
-
-enum-known-w : tie.Need-enum-known-w
-enum-known-w c = search needs
-
-enum-told-2 : tie.Need-enum-told-2
-enum-told-2 c = search needs
-
-returns : tie.Need-returns
-returns c = search needs
-
 returns-2 : tie.Need-returns-2
 returns-2 c = rw (c .before .w .given .1) refl
 
-returns-3 : tie.Need-returns-3
-returns-3 c = search needs
-
 pub written-place-spec : {M : Type 1} → statement M
 written-place-spec =
-    tie.close (tie.spec enum-told enum-known-w enum-told-2 returns returns-2 returns-3)
+    tie.close (tie.spec (λ c. search needs) (λ c. search needs) (λ c. search needs) (λ c. search needs) returns-2 (λ c. search needs))

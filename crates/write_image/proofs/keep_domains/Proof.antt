@@ -11,12 +11,6 @@ use Rattle.write_image.proofs.Assembled.{masks-taken}
 use Rattle.write_image.proofs.keep_domains.Statement.{statement}
 use Rattle.write_image.proofs.keep_domains.Tie as tie
 
-set-masks-requires : tie.Need-set-masks-requires
-set-masks-requires c κs = search needs
-
-slice-aggregate-write-domains : tie.Need-slice-aggregate-write-domains
-slice-aggregate-write-domains c = search needs
-
 write-domains-requires : tie.Need-write-domains-requires
 write-domains-requires c κs =
     let s = c .before .before .before .before .before .before .before in
@@ -24,9 +18,6 @@ write-domains-requires c κs =
     let f = good-of (now (s .args .image)) (s .pre .0 .laid-out) .few-domains in
     let n = s .pre .1 in
     (omega arith, m .1, rw (m .0) (s .pre .2))
-
-same-length : tie.Need-same-length
-same-length c = search needs
 
 returns : tie.Need-returns
 returns c =
@@ -37,11 +28,4 @@ returns c =
     (w .0 ∙ ap (λ ms. length (domainBytes ms)) (m .0), w .1 ∙ ap (λ ms. over 0 (domainBytes ms) (now (s .args .out))) (m .0))
 
 pub keep-domains-spec : {M : Type 1} → statement M
-keep-domains-spec =
-    tie.close
-    (tie.spec
-    set-masks-requires
-    slice-aggregate-write-domains
-    write-domains-requires
-    same-length
-    returns)
+keep-domains-spec = tie.close (tie.spec (λ c κs. search needs) (λ c. search needs) write-domains-requires (λ c. search needs) returns)

@@ -33,12 +33,6 @@ root-of-requires c κs =
     let f = few b A m .1 in
     (omega arith, omega arith)
 
-slice-aggregate-enter-term : tie.Need-slice-aggregate-enter-term
-slice-aggregate-enter-term c = search needs
-
-slice-aggregate-enter-term-2 : tie.Need-slice-aggregate-enter-term-2
-slice-aggregate-enter-term-2 c = search needs
-
 enter-term-requires : tie.Need-enter-term-requires
 enter-term-requires c κs =
     let s = c .before .before .before .before .before .before .before .before .before in
@@ -57,12 +51,6 @@ keep-domains-requires c κs =
     let m = s .pre .5 .has-terms in
     let k = s .pre .4 .terms in
     (s .pre .1, s .pre .4 .domains, domains-fit b A m (length (now (s .args .out))) (s .pre .5 .capacity))
-
-slice-aggregate-write-types : tie.Need-slice-aggregate-write-types
-slice-aggregate-write-types c = search needs
-
-slice-aggregate-write-types-2 : tie.Need-slice-aggregate-write-types-2
-slice-aggregate-write-types-2 c = search needs
 
 write-types-requires : tie.Need-write-types-requires
 write-types-requires c κs =
@@ -83,9 +71,6 @@ write-types-requires c κs =
     let l = ap (λ X. length (typeBytes X)) E in
     let t = types-fit b A m (length (now (s .args .out))) (s .pre .5 .capacity) in
     (s .pre .0, s .pre .2, N .ensures .0, omega arith)
-
-slice-aggregate-write-term : tie.Need-slice-aggregate-write-term
-slice-aggregate-write-term c = search needs
 
 write-term-requires : tie.Need-write-term-requires
 write-term-requires c κs =
@@ -109,9 +94,6 @@ write-term-requires c κs =
     let o = v .kept .1 .1 .1 .1 .1 .1 .0 ∙ w .kept .1 .1 .1 .0 in
     let R = terms-fit b A m (length (now (s .args .out))) (s .pre .5 .capacity) (s .pre .5 .few-terms) (record { at = v .result; terms = 0 }) (omega arith) refl in
     (s .pre .0, s .pre .3, omega arith, N .ensures .0 .enough-places, rw (r, o) R)
-
-same-length : tie.Need-same-length
-same-length c = search needs
 
 returns : tie.Need-returns
 returns c =
@@ -140,18 +122,5 @@ returns c =
     (u .ensures .0 ∙ ap (λ j. v .result + weight termSize (treeAt (recordsOf b) j)) r ∙ z .0, z .1)
 
 pub write-whole-spec : {M : Type 1} → statement M
-write-whole-spec =
-    tie.close
-    (tie.spec
-    root-of-requires
-    slice-aggregate-enter-term
-    slice-aggregate-enter-term-2
-    enter-term-requires
-    keep-domains-requires
-    slice-aggregate-write-types
-    slice-aggregate-write-types-2
-    write-types-requires
-    slice-aggregate-write-term
-    write-term-requires
-    same-length
-    returns)
+write-whole-spec = tie.close (tie.spec root-of-requires (λ c. search needs) (λ c. search needs) enter-term-requires keep-domains-requires
+    (λ c. search needs) (λ c. search needs) write-types-requires (λ c. search needs) write-term-requires (λ c. search needs) returns)

@@ -27,9 +27,6 @@ put-head-requires c κs =
     let o = c .before .if3 .left in
     omega arith
 
-sub-grow : tie.Need-sub-grow
-sub-grow c = search needs
-
 grow-requires : tie.Need-grow-requires
 grow-requires c κs =
     let at-put-head = c .before .before .before in
@@ -43,9 +40,6 @@ grow-requires c κs =
     let e = at-put-head .put-head .ensures .0 ∙ head-length in
     let o = at-if3 .if3 .left in
     record { depth = omega arith; bytes = omega arith; terms = omega arith }
-
-same-length : tie.Need-same-length
-same-length c = search needs
 
 returns-4 : tie.Need-returns-4
 returns-4 c =
@@ -62,14 +56,4 @@ returns-4 c =
     loaded-written (a .seed) (a .depth) (now (a .out)) (omega arith) l o (w .0) (w .1)
 
 pub generate-spec : {M : Type 1} → statement M
-generate-spec =
-    tie.close
-    (tie.spec
-    returns
-    returns-2
-    returns-3
-    put-head-requires
-    sub-grow
-    grow-requires
-    same-length
-    returns-4)
+generate-spec = tie.close (tie.spec returns returns-2 returns-3 put-head-requires (λ c. search needs) grow-requires (λ c. search needs) returns-4)

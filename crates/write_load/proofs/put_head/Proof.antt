@@ -14,18 +14,12 @@ use borrow.Author.Needs.{needs}
 use Rattle.write_load.proofs.put_head.Statement.{statement}
 use Rattle.write_load.proofs.put_head.Tie as tie
 
-slice-aggregate-write-domains : tie.Need-slice-aggregate-write-domains
-slice-aggregate-write-domains c = search needs
-
 write-domains-requires : tie.Need-write-domains-requires
 write-domains-requires c κs =
     let n = head-length in
     let d = domain-length in
     let p = c .before .before .before .pre in
     (search needs, search needs, omega arith)
-
-slice-aggregate-put-record : tie.Need-slice-aggregate-put-record
-slice-aggregate-put-record c = search needs
 
 put-record-requires : tie.Need-put-record-requires
 put-record-requires c κs =
@@ -37,9 +31,6 @@ put-record-requires c κs =
     let k = w .kept .0 in
     let p = start .pre in
     (search needs, search needs, omega arith)
-
-slice-aggregate-put-record-2 : tie.Need-slice-aggregate-put-record-2
-slice-aggregate-put-record-2 c = search needs
 
 put-record-requires-2 : tie.Need-put-record-requires-2
 put-record-requires-2 c κs =
@@ -55,9 +46,6 @@ put-record-requires-2 c κs =
     let l = u .kept .0 in
     let p = start .pre in
     (search needs, search needs, omega arith)
-
-same-length : tie.Need-same-length
-same-length c = search needs
 
 returns : tie.Need-returns
 returns c =
@@ -84,14 +72,5 @@ returns c =
     )
 
 pub put-head-spec : {M : Type 1} → statement M
-put-head-spec =
-    tie.close
-    (tie.spec
-    slice-aggregate-write-domains
-    write-domains-requires
-    slice-aggregate-put-record
-    put-record-requires
-    slice-aggregate-put-record-2
-    put-record-requires-2
-    same-length
-    returns)
+put-head-spec = tie.close (tie.spec (λ c. search needs) write-domains-requires (λ c. search needs) put-record-requires (λ c. search needs)
+    put-record-requires-2 (λ c. search needs) returns)

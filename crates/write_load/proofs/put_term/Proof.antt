@@ -12,15 +12,6 @@ use Rattle.image_written.specs.Records.{little}
 use Rattle.write_load.proofs.put_term.Statement.{statement}
 use Rattle.write_load.proofs.put_term.Tie as tie
 
-put-record-requires : tie.Need-put-record-requires
-put-record-requires c κs = search needs
-
-add-t9 : tie.Need-add-t9
-add-t9 c = search needs
-
-same-length : tie.Need-same-length
-same-length c = search needs
-
 returns : tie.Need-returns
 returns c =
     let at-put-record = c .before .before .before in
@@ -37,4 +28,4 @@ returns c =
 
 pub put-term-spec : {M : Type 1} → statement M
 put-term-spec =
-    tie.close (tie.spec put-record-requires add-t9 same-length returns)
+    tie.close (tie.spec (λ c κs. search needs) (λ c. search needs) (λ c. search needs) returns)

@@ -5,14 +5,8 @@ use Rattle.write_fields.specs.Classes.{asField}
 use Rattle.write_program.proofs.last_number.Statement.{statement}
 use Rattle.write_program.proofs.last_number.Tie as tie
 
-last-term-requires : tie.Need-last-term-requires
-last-term-requires c κs = search needs
-
-as-field-requires : tie.Need-as-field-requires
-as-field-requires c κs = search needs
-
 returns : tie.Need-returns
 returns c = c .as-field .ensures ∙ ap (λ n. asField (c .before .before .args .class) n) (c .before .last-term .ensures)
 
 pub last-number-spec : {M : Type 1} → statement M
-last-number-spec = tie.close (tie.spec last-term-requires as-field-requires returns)
+last-number-spec = tie.close (tie.spec (λ c κs. search needs) (λ c κs. search needs) returns)

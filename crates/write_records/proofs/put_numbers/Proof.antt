@@ -22,29 +22,11 @@ loop-holds : tie.Need-loop-holds Inv-loop μ-loop
 unfolding little
 loop-holds c = let a = c .before .before .args in (omega arith, refl, sym (over-nothing (now (a .out)) (a .at)))
 
-mul-put16 : tie.Need-mul-put16 Inv-loop μ-loop
-mul-put16 c = search needs
-
-add-put16 : tie.Need-add-put16 Inv-loop μ-loop
-add-put16 c = search needs
-
-mul-put16-2 : tie.Need-mul-put16-2 Inv-loop μ-loop
-mul-put16-2 c = search needs
-
-shared-slice-read-put16 : tie.Need-shared-slice-read-put16 Inv-loop μ-loop
-shared-slice-read-put16 c = search needs
-
 put16-requires : tie.Need-put16-requires Inv-loop μ-loop
 put16-requires c κs =
     let l = c .before .before .before .loop in
     let n = l .inv .1 in
     omega arith
-
-add-i : tie.Need-add-i Inv-loop μ-loop
-add-i c = search needs
-
-loop-less : tie.Need-loop-less Inv-loop μ-loop
-loop-less c = search needs
 
 loop-again : tie.Need-loop-again Inv-loop μ-loop
 loop-again c =
@@ -55,9 +37,6 @@ loop-again c =
     let w = c .before .before .put16 in
     (omega arith, w .kept .0 ∙ l .inv .1, number-step (now (a .numbers)) (now (a .out)) (l .out) _ (a .at) (l .i) (omega arith) (omega arith) (omega (arith, at-shared-slice-known2 .shared-slice-known2 .given (l .i))) (l .inv .2) (w .ensures))
 
-same-length : tie.Need-same-length Inv-loop μ-loop
-same-length c = search needs
-
 returns : tie.Need-returns Inv-loop μ-loop
 returns c =
     let l = c .before .loop in
@@ -65,19 +44,5 @@ returns c =
     rw e at (l .inv .2)
 
 pub put-numbers-spec : {M : Type 1} → statement M
-put-numbers-spec =
-    tie.close
-    (tie.spec
-    Inv-loop
-    μ-loop
-    loop-holds
-    mul-put16
-    add-put16
-    mul-put16-2
-    shared-slice-read-put16
-    put16-requires
-    add-i
-    loop-less
-    loop-again
-    same-length
-    returns)
+put-numbers-spec = tie.close (tie.spec Inv-loop μ-loop loop-holds (λ c. search needs) (λ c. search needs) (λ c. search needs) (λ c. search needs)
+    put16-requires (λ c. search needs) (λ c. search needs) loop-again (λ c. search needs) returns)

@@ -10,27 +10,6 @@ use Rattle.write_records.proofs.Numbers.{record-whole}
 use Rattle.write_records.proofs.put_record.Statement.{statement}
 use Rattle.write_records.proofs.put_record.Tie as tie
 
-put-head-requires : tie.Need-put-head-requires
-put-head-requires c κs = search needs
-
-add-put-numbers : tie.Need-add-put-numbers
-add-put-numbers c = search needs
-
-put-numbers-requires : tie.Need-put-numbers-requires
-put-numbers-requires c κs = search needs
-
-mul-result : tie.Need-mul-result
-mul-result c = search needs
-
-add-result : tie.Need-add-result
-add-result c = search needs
-
-add-result-2 : tie.Need-add-result-2
-add-result-2 c = search needs
-
-same-length : tie.Need-same-length
-same-length c = search needs
-
 returns : tie.Need-returns
 returns c =
     let at-put-head = c .before .before .before .before .before .before in
@@ -41,14 +20,5 @@ returns c =
     (refl, record-whole (4 + 2 * a .count) (a .kind) (take (a .count) (now (a .numbers))) (now (a .out)) _ _ (a .at) (omega (arith, length-take-le (a .count) (now (a .numbers)) (omega arith))) (v .ensures) (w .ensures))
 
 pub put-record-spec : {M : Type 1} → statement M
-put-record-spec =
-    tie.close
-    (tie.spec
-    put-head-requires
-    add-put-numbers
-    put-numbers-requires
-    mul-result
-    add-result
-    add-result-2
-    same-length
-    returns)
+put-record-spec = tie.close (tie.spec (λ c κs. search needs) (λ c. search needs) (λ c κs. search needs) (λ c. search needs) (λ c. search needs)
+    (λ c. search needs) (λ c. search needs) returns)

@@ -24,12 +24,6 @@ abbrev μ-loop : tie.MeasureT-loop
 loop-holds : tie.Need-loop-holds Inv-loop μ-loop
 loop-holds c = let s = c .before .before in let f = firsts-none (map (λ m. domainRecord m) (take (s .args .count) (now (s .args .masks)))) 0 (now (s .args .out)) in (omega arith, refl, f .0, f .1)
 
-cast-t8 : tie.Need-cast-t8 Inv-loop μ-loop
-cast-t8 c = search needs
-
-mask-of-requires : tie.Need-mask-of-requires Inv-loop μ-loop
-mask-of-requires c κs = search needs
-
 put-domain-requires : tie.Need-put-domain-requires Inv-loop μ-loop
 put-domain-requires c κs =
     let at-loop = c .before .before .before in
@@ -41,12 +35,6 @@ put-domain-requires c κs =
     let o = i .inv .1 in
     omega arith
 
-add-i : tie.Need-add-i Inv-loop μ-loop
-add-i c = search needs
-
-loop-less : tie.Need-loop-less Inv-loop μ-loop
-loop-less c = search needs
-
 loop-again : tie.Need-loop-again Inv-loop μ-loop
 loop-again c =
     let at-loop = c .before .before .before .before .before .before in
@@ -57,9 +45,6 @@ loop-again c =
     let rs : List Record = map (λ m. domainRecord m) (take (s .args .count) (now (s .args .masks))) in
     let e = domain-at (now (s .args .masks)) (s .args .count) (i .i) l (s .pre .1) in
     (omega arith, w .kept .0 ∙ i .inv .1, come-more rs 0 (i .i) (i .at) (e .0) _ (e .1) (i .inv .2) (w .result) (w .ensures .0), over-more rs 0 (i .i) (i .at) (e .0) _ (e .1) (i .inv .2) (now (s .args .out)) (search needs) (i .inv .3) (w .ensures .1 ∙ ap (λ m. over (i .at) (bytes (domainRecord m)) (i .out)) (c .before .before .before .before .mask-of .ensures)))
-
-same-length : tie.Need-same-length Inv-loop μ-loop
-same-length c = search needs
 
 returns : tie.Need-returns Inv-loop μ-loop
 returns c =
@@ -73,17 +58,5 @@ returns c =
     (i .inv .2 ∙ ap (λ bs. 0 + length bs) e ∙ omega arith, i .inv .3 ∙ ap (λ bs. over 0 bs (now (s .args .out))) e)
 
 pub write-domains-spec : {M : Type 1} → statement M
-write-domains-spec =
-    tie.close
-    (tie.spec
-    Inv-loop
-    μ-loop
-    loop-holds
-    cast-t8
-    mask-of-requires
-    put-domain-requires
-    add-i
-    loop-less
-    loop-again
-    same-length
-    returns)
+write-domains-spec = tie.close (tie.spec Inv-loop μ-loop loop-holds (λ c. search needs) (λ c κs. search needs) put-domain-requires (λ c. search needs)
+    (λ c. search needs) loop-again (λ c. search needs) returns)

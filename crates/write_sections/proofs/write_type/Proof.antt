@@ -117,12 +117,6 @@ array-write-numbers c =
     let f = read-of k .few in
     omega arith
 
-add-i : tie.Need-add-i Inv-loop μ-loop
-add-i c = search needs
-
-loop-less : tie.Need-loop-less Inv-loop μ-loop
-loop-less c = search needs
-
 loop-again : tie.Need-loop-again Inv-loop μ-loop
 loop-again c =
     let at-loop = c .before .before .before .before .before in
@@ -138,9 +132,6 @@ loop-again c =
           numbered-more (offsets k) h (i .i) (omega arith) (R .class (i .i) l (c .before .before .class-of .ensures)) (R .number (i .i) l (c .before .field .ensures)) (omega arith) (i .inv .2 t h R) (c .kept-number .ensures),
     )
 
-slice-aggregate-put-record : tie.Need-slice-aggregate-put-record Inv-loop μ-loop
-slice-aggregate-put-record c = search needs
-
 put-record-requires : tie.Need-put-record-requires Inv-loop μ-loop
 put-record-requires c κs =
     let at-loop = c .before .before .before .before in
@@ -152,9 +143,6 @@ put-record-requires c κs =
     let z = size-is (offsets k) (is-type k) in
     let r = k .before .before .before .before .before .before .before .before .pre .4 in
     (f, omega arith, omega arith)
-
-same-length : tie.Need-same-length Inv-loop μ-loop
-same-length c = search needs
 
 returns : tie.Need-returns Inv-loop μ-loop
 returns c =
@@ -173,24 +161,6 @@ returns c =
     (omega arith, numbered-all (offsets k) (is-type k) (i .i) (k .known-fields .result .count) (m .result) _ (sym n) (omega arith) (omega arith) (m .ensures) (i .inv .2 (number-of k) (is-type k) (read-of k)) (w .ensures .1))
 
 pub write-type-spec : {M : Type 1} → statement M
-write-type-spec =
-    tie.close
-    (tie.spec
-    Inv-loop
-    μ-loop
-    type-fields-requires
-    type-kind-requires
-    known-fields-requires
-    loop-holds
-    class-of-requires
-    field-requires
-    kept-number-requires
-    mul-numbers
-    array-write-numbers
-    add-i
-    loop-less
-    loop-again
-    slice-aggregate-put-record
-    put-record-requires
-    same-length
-    returns)
+write-type-spec = tie.close (tie.spec Inv-loop μ-loop type-fields-requires type-kind-requires known-fields-requires loop-holds class-of-requires
+    field-requires kept-number-requires mul-numbers array-write-numbers (λ c. search needs) (λ c. search needs) loop-again (λ c. search needs)
+    put-record-requires (λ c. search needs) returns)

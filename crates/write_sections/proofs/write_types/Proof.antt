@@ -65,12 +65,6 @@ write-type-requires c κs =
     let m : i .at + typeSize (now (s .args .image)) (getD (now (s .args .order)) (i .i) 0) ≤ length (i .out) = omega arith in
     (s .pre .0, s .pre .1, rw (c .before .type-at .ensures) (number-is E (i .i) l), E .enough-places, rw (c .before .type-at .ensures) m)
 
-add-i : tie.Need-add-i Inv-loop μ-loop
-add-i c = search needs
-
-loop-less : tie.Need-loop-less Inv-loop μ-loop
-loop-less c = search needs
-
 loop-again : tie.Need-loop-again Inv-loop μ-loop
 loop-again c =
     let at-loop = c .before .before .before .before .before .before in
@@ -90,9 +84,6 @@ loop-again c =
       over-more rs (s .args .start) (i .i) (i .at) (e .0) _ (e .1) (i .inv .2) (now (s .args .out)) (s .pre .3) (i .inv .3) (W .over-table (entriesOf (now (s .args .image)) (s .args .n) (now (s .args .order))) (entries-placed E) (parts-in E (i .i) l)),
     )
 
-same-length : tie.Need-same-length Inv-loop μ-loop
-same-length c = search needs
-
 returns : tie.Need-returns Inv-loop μ-loop
 returns c =
     let s = c .before .before .before .before .before .before .before .before in
@@ -105,17 +96,5 @@ returns c =
     (i .inv .2 ∙ ap (λ bs. s .args .start + length bs) e, i .inv .3 ∙ ap (λ bs. over (s .args .start) bs (now (s .args .out))) e)
 
 pub write-types-spec : {M : Type 1} → statement M
-write-types-spec =
-    tie.close
-    (tie.spec
-    Inv-loop
-    μ-loop
-    loop-holds
-    cast-t13
-    type-at-requires
-    write-type-requires
-    add-i
-    loop-less
-    loop-again
-    same-length
-    returns)
+write-types-spec = tie.close (tie.spec Inv-loop μ-loop loop-holds cast-t13 type-at-requires write-type-requires (λ c. search needs)
+    (λ c. search needs) loop-again (λ c. search needs) returns)

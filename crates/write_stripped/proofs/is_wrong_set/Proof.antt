@@ -6,12 +6,6 @@ use Rattle.write_stripped.proofs.HighSets.{wrong-is}
 use Rattle.write_stripped.proofs.is_wrong_set.Statement.{statement}
 use Rattle.write_stripped.proofs.is_wrong_set.Tie as tie
 
-set-masks-requires : tie.Need-set-masks-requires
-set-masks-requires c κs = search needs
-
-is-wrong-requires : tie.Need-is-wrong-requires
-is-wrong-requires c κs = search needs
-
 returns : tie.Need-returns
 returns c =
     let s = c .before .before .before .before .before .before in
@@ -19,4 +13,4 @@ returns c =
     c .is-wrong .ensures ∙ wrong-is (now (s .args .image)) _ (m .ensures) (s .args .mask) (s .args .count) (s .pre .1)
 
 pub is-wrong-set-spec : {M : Type 1} → statement M
-is-wrong-set-spec = tie.close (tie.spec set-masks-requires is-wrong-requires returns)
+is-wrong-set-spec = tie.close (tie.spec (λ c κs. search needs) (λ c κs. search needs) returns)

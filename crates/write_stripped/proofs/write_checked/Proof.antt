@@ -10,9 +10,6 @@ use Rattle.write_stripped.proofs.Acceptance.{wrong-left, short-left, wr
 use Rattle.write_stripped.proofs.write_checked.Statement.{statement}
 use Rattle.write_stripped.proofs.write_checked.Tie as tie
 
-is-wrong-set-requires : tie.Need-is-wrong-set-requires
-is-wrong-set-requires c κs = search needs
-
 returns : tie.Need-returns
 returns c =
     let s = c .before .before .before .before .before .before .before .before .before in
@@ -22,9 +19,6 @@ returns-2 : tie.Need-returns-2
 returns-2 c =
     let s = c .before .before .before .before .before .before .before .before .before .before in
     short-left (now (s .args .image)) (s .args .mask) (now (s .args .out)) (s .pre .0) (s .pre .1) (sym (c .before .before .is-wrong-set .ensures) ∙ c .before .if1 .left) (c .if2 .taken)
-
-array-borrow-prefix-copy : tie.Need-array-borrow-prefix-copy
-array-borrow-prefix-copy c = search needs
 
 slice-aggregate-write-copy : tie.Need-slice-aggregate-write-copy
 slice-aggregate-write-copy c =
@@ -38,9 +32,6 @@ write-copy-requires c κs =
     let b : List ℕ = now (s .args .image) in
     (s .pre .0, s .pre .1, s .pre .2, s .pre .3, s .pre .4, s .pre .5, length-take-le (length b) (replicate 16384 0) (subst (λ n. length b ≤ n) (sym (length-replicate {A = ℕ} 16384 0)) (s .pre .0)), c .before .before .if2 .left)
 
-same-length : tie.Need-same-length
-same-length c = search needs
-
 returns-3 : tie.Need-returns-3
 returns-3 c =
     let at-write-copy = c .before .before .before in
@@ -52,14 +43,5 @@ returns-3 c =
     written-left (now (s .args .image)) (s .args .mask) (now (s .args .out)) (s .pre .0) (s .pre .1) (sym (at-is-wrong-set .is-wrong-set .ensures) ∙ at-if1 .if1 .left) _ _ (at-if2 .if2 .left) (w .ensures .0) (w .ensures .1)
 
 pub write-checked-spec : {M : Type 1} → statement M
-write-checked-spec =
-    tie.close
-    (tie.spec
-    is-wrong-set-requires
-    returns
-    returns-2
-    array-borrow-prefix-copy
-    slice-aggregate-write-copy
-    write-copy-requires
-    same-length
-    returns-3)
+write-checked-spec = tie.close (tie.spec (λ c κs. search needs) returns returns-2 (λ c. search needs) slice-aggregate-write-copy write-copy-requires
+    (λ c. search needs) returns-3)

@@ -34,12 +34,6 @@ write-whole-requires c κs =
     let I : UnitBodies (recordsOf b) H (length (recordsOf b .terms)) b C = subst (λ m. UnitBodies (recordsOf b) H m b C) (s .pre .4 .terms) (x .ensures) in
     (s .pre .2, copy-domains b A H C I _ (T .domains), copy-types b A H C I _ (s .pre .5), copy-terms b A H C I _ (T .terms), copy-counted b A H C I _ (s .pre .4), copy-fits b A H C I _ (s .pre .7))
 
-same-length : tie.Need-same-length
-same-length c = search needs
-
-same-length-2 : tie.Need-same-length-2
-same-length-2 c = search needs
-
 returns : tie.Need-returns
 returns c =
     let at-copy-with-unit-bodies = c .before .before .before .before .before .before .before in
@@ -57,4 +51,4 @@ returns c =
 
 pub write-copy-spec : {M : Type 1} → statement M
 write-copy-spec =
-    tie.close (tie.spec copy-with-unit-bodies-requires write-whole-requires same-length same-length-2 returns)
+    tie.close (tie.spec copy-with-unit-bodies-requires write-whole-requires (λ c. search needs) (λ c. search needs) returns)

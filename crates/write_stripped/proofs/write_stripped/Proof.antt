@@ -10,39 +10,6 @@ use Rattle.write_stripped.proofs.write_stripped.Tie as tie
 returns : tie.Need-returns
 returns c = let s = c .before .before .before in too-long-left (now (s .args .image)) (s .args .mask) (now (s .args .out)) (c .if1 .taken)
 
-kind-codes-requires : tie.Need-kind-codes-requires
-kind-codes-requires c κs = search needs
-
-slice-aggregate-examine-image : tie.Need-slice-aggregate-examine-image
-slice-aggregate-examine-image c = search needs
-
-slice-aggregate-examine-image-2 : tie.Need-slice-aggregate-examine-image-2
-slice-aggregate-examine-image-2 c = search needs
-
-examine-image-requires : tie.Need-examine-image-requires
-examine-image-requires c κs = search needs
-
-enum-known-checked : tie.Need-enum-known-checked
-enum-known-checked c = search needs
-
-enum-known-checked-2 : tie.Need-enum-known-checked-2
-enum-known-checked-2 c = search needs
-
-slice-aggregate-write-checked : tie.Need-slice-aggregate-write-checked
-slice-aggregate-write-checked c = search needs
-
-slice-aggregate-write-checked-2 : tie.Need-slice-aggregate-write-checked-2
-slice-aggregate-write-checked-2 c = search needs
-
-slice-aggregate-write-checked-3 : tie.Need-slice-aggregate-write-checked-3
-slice-aggregate-write-checked-3 c = search needs
-
-slice-aggregate-write-checked-4 : tie.Need-slice-aggregate-write-checked-4
-slice-aggregate-write-checked-4 c = search needs
-
-slice-aggregate-write-checked-5 : tie.Need-slice-aggregate-write-checked-5
-slice-aggregate-write-checked-5 c = search needs
-
 write-checked-requires : tie.Need-write-checked-requires
 write-checked-requires c κs =
     let at-checked2 = c .before .before .before .before .before .before .before in
@@ -61,29 +28,7 @@ returns-2 c =
     let s = at-if1 .before .before .before in
     examined-left (now (s .args .image)) (s .args .mask) (now (s .args .out)) (at-if1 .if1 .left) _ _ (ap verdictOf (sym (c .before .checked .given .1)) ∙ at-examine-image .examine-image .ensures .0 .answer)
 
-same-length : tie.Need-same-length
-same-length c = search needs
-
-returns-3 : tie.Need-returns-3
-returns-3 c = search needs
-
 pub write-stripped-spec : {M : Type 1} → statement M
-write-stripped-spec =
-    tie.close
-    (tie.spec
-    returns
-    kind-codes-requires
-    slice-aggregate-examine-image
-    slice-aggregate-examine-image-2
-    examine-image-requires
-    enum-known-checked
-    enum-known-checked-2
-    slice-aggregate-write-checked
-    slice-aggregate-write-checked-2
-    slice-aggregate-write-checked-3
-    slice-aggregate-write-checked-4
-    slice-aggregate-write-checked-5
-    write-checked-requires
-    returns-2
-    same-length
-    returns-3)
+write-stripped-spec = tie.close (tie.spec returns (λ c κs. search needs) (λ c. search needs) (λ c. search needs) (λ c κs. search needs)
+    (λ c. search needs) (λ c. search needs) (λ c. search needs) (λ c. search needs) (λ c. search needs) (λ c. search needs) (λ c. search needs)
+    write-checked-requires returns-2 (λ c. search needs) (λ c. search needs))

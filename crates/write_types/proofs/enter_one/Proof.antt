@@ -7,12 +7,6 @@ use Rattle.write_types.proofs.Entering.{few-entries, told-there, there-
 use Rattle.write_types.proofs.enter_one.Statement.{statement}
 use Rattle.write_types.proofs.enter_one.Tie as tie
 
-is-entered-requires : tie.Need-is-entered-requires
-is-entered-requires c κs = search needs
-
-same-length : tie.Need-same-length
-same-length c = search needs
-
 returns : tie.Need-returns
 returns c =
     let s = c .before .before .before .before .before .before in
@@ -28,9 +22,6 @@ cast-t10 c =
     let g = good-of (now (s .args .image)) (E .laid-out) .few-types in
     search needs
 
-set-place-requires : tie.Need-set-place-requires
-set-place-requires c κs = search needs
-
 set-type-requires : tie.Need-set-type-requires
 set-type-requires c κs =
     let w = c .before .before .before .before .before in
@@ -38,15 +29,6 @@ set-type-requires c κs =
     let E = s .pre .0 in
     let q = told-there E (s .pre .1) _ (w .before .is-entered .ensures) in
     capacity E (s .pre .1) (s .pre .2) (q ∙ w .if1 .left)
-
-add-result : tie.Need-add-result
-add-result c = search needs
-
-same-length-2 : tie.Need-same-length-2
-same-length-2 c = search needs
-
-same-length-3 : tie.Need-same-length-3
-same-length-3 c = search needs
 
 returns-2 : tie.Need-returns-2
 returns-2 c =
@@ -57,16 +39,5 @@ returns-2 c =
     rw (c .before .before .before .before .before .before .set-place .ensures, c .before .before .set-type .ensures) (entries-more E (s .pre .1) (s .pre .2) q, one-entered E (s .pre .1) (s .pre .2) q)
 
 pub enter-one-spec : {M : Type 1} → statement M
-enter-one-spec =
-    tie.close
-    (tie.spec
-    is-entered-requires
-    same-length
-    returns
-    cast-t10
-    set-place-requires
-    set-type-requires
-    add-result
-    same-length-2
-    same-length-3
-    returns-2)
+enter-one-spec = tie.close (tie.spec (λ c κs. search needs) (λ c. search needs) returns cast-t10 (λ c κs. search needs) set-type-requires
+    (λ c. search needs) (λ c. search needs) (λ c. search needs) returns-2)

@@ -3,11 +3,8 @@ use borrow.Author.Needs.{needs}
 use Rattle.write_types.proofs.is_entered.Statement.{statement}
 use Rattle.write_types.proofs.is_entered.Tie as tie
 
-place-of-requires : tie.Need-place-of-requires
-place-of-requires c κs = search needs
-
 returns : tie.Need-returns
 returns c = rw (c .before .place-of .ensures)
 
 pub is-entered-spec : {M : Type 1} → statement M
-is-entered-spec = tie.close (tie.spec place-of-requires returns)
+is-entered-spec = tie.close (tie.spec (λ c κs. search needs) returns)

@@ -19,18 +19,6 @@ abbrev μ-loop : tie.MeasureT-loop
 loop-holds : tie.Need-loop-holds Inv-loop μ-loop
 loop-holds c = (omega arith, refl, λ k l. absurd (omega arith))
 
-shared-slice-read-copy : tie.Need-shared-slice-read-copy Inv-loop μ-loop
-shared-slice-read-copy c = search needs
-
-slice-write-copy : tie.Need-slice-write-copy Inv-loop μ-loop
-slice-write-copy c = search needs
-
-add-i : tie.Need-add-i Inv-loop μ-loop
-add-i c = search needs
-
-loop-less : tie.Need-loop-less Inv-loop μ-loop
-loop-less c = search needs
-
 loop-again : tie.Need-loop-again Inv-loop μ-loop
 loop-again c =
     let s = c .before .before .before in
@@ -40,9 +28,6 @@ loop-again c =
     let m : l .i < length (now (s .args .image)) = c .before .loop-test .taken in
     (omega arith, length-set (l .copy) (l .i) _ ∙ l .inv .1, copied-more (now (s .args .image)) (l .copy) (l .i) (omega arith) (l .inv .2))
 
-same-length : tie.Need-same-length Inv-loop μ-loop
-same-length c = search needs
-
 returns : tie.Need-returns Inv-loop μ-loop
 returns c =
     let s = c .before .before in
@@ -51,16 +36,5 @@ returns c =
     ext-getD 0 (l .copy) (now (s .args .image)) (l .inv .1 ∙ s .pre) (λ k m. let p = s .pre in let q = l .inv .1 in l .inv .2 k (omega arith))
 
 pub copy-bytes-spec : {M : Type 1} → statement M
-copy-bytes-spec =
-    tie.close
-    (tie.spec
-    Inv-loop
-    μ-loop
-    loop-holds
-    shared-slice-read-copy
-    slice-write-copy
-    add-i
-    loop-less
-    loop-again
-    same-length
-    returns)
+copy-bytes-spec = tie.close (tie.spec Inv-loop μ-loop loop-holds (λ c. search needs) (λ c. search needs) (λ c. search needs) (λ c. search needs)
+    loop-again (λ c. search needs) returns)

@@ -47,9 +47,6 @@ claims = (
   put-unit-body-reads.Learnt,
 )
 
-copy-bytes-requires : tie.Need-copy-bytes-requires Inv-loop μ-loop
-copy-bytes-requires c κs = search needs
-
 loop-holds : tie.Need-loop-holds Inv-loop μ-loop
 loop-holds c =
     let s = c .before .before .before .before .before .before .before .before in
@@ -110,12 +107,6 @@ put-unit-body-requires c κs =
     let m : at-loop .loop .i < s .args .count = w .before .before .before .loop-test .taken in
     (s .pre .0 .terms, rw (w .before .before .term-fields .ensures) (body-there (s .pre .0) (omega arith) (inMask (s .args .high)) (sym (told w) ∙ c .before .if1 .taken)), at-loop .loop .inv .1 .same)
 
-add-i : tie.Need-add-i Inv-loop μ-loop
-add-i c = search needs
-
-loop-less : tie.Need-loop-less Inv-loop μ-loop
-loop-less c = search needs
-
 loop-again : tie.Need-loop-again Inv-loop μ-loop
 loop-again c =
     let v = c .before in
@@ -155,20 +146,5 @@ returns c =
     subst (λ m. UnitBodies (recordsOf b) (inMask (s .args .high)) m b (l .copy)) e (l .inv .1)
 
 pub copy-with-unit-bodies-spec : {M : Type 1} → statement M
-copy-with-unit-bodies-spec =
-    tie.close
-    (tie.spec
-    Inv-loop
-    μ-loop
-    copy-bytes-requires
-    loop-holds
-    cast-is-low-advice-or-lower
-    term-fields-requires
-    term-kind-requires
-    is-low-advice-or-lower-requires
-    put-unit-body-requires
-    add-i
-    loop-less
-    loop-again
-    same-length
-    returns)
+copy-with-unit-bodies-spec = tie.close (tie.spec Inv-loop μ-loop (λ c κs. search needs) loop-holds cast-is-low-advice-or-lower term-fields-requires
+    term-kind-requires is-low-advice-or-lower-requires put-unit-body-requires (λ c. search needs) (λ c. search needs) loop-again same-length returns)

@@ -5,9 +5,6 @@ use borrow.Author.Tests.{lt-ltb, le-ltb}
 use Rattle.write_unit_bodies.proofs.in_mask.Statement.{statement}
 use Rattle.write_unit_bodies.proofs.in_mask.Tie as tie
 
-bit-requires : tie.Need-bit-requires
-bit-requires c κs = search needs
-
 returns : tie.Need-returns
 returns c = c .bit .ensures ∙ simp (lt-ltb _ _ (c .before .if1 .taken))
 
@@ -15,4 +12,4 @@ returns-2 : tie.Need-returns-2
 returns-2 c = simp (le-ltb _ _ (c .if1 .left))
 
 pub in-mask-spec : {M : Type 1} → statement M
-in-mask-spec = tie.close (tie.spec bit-requires returns returns-2)
+in-mask-spec = tie.close (tie.spec (λ c κs. search needs) returns returns-2)

@@ -8,15 +8,6 @@ use Rattle.write_unit_bodies.specs.UnitBodies.{inMask}
 use Rattle.write_unit_bodies.proofs.is_low_advice_or_lower.Statement.{statement}
 use Rattle.write_unit_bodies.proofs.is_low_advice_or_lower.Tie as tie
 
-own-descriptor-requires : tie.Need-own-descriptor-requires
-own-descriptor-requires c κs = search needs
-
-domain-of-requires : tie.Need-domain-of-requires
-domain-of-requires c κs = search needs
-
-in-mask-requires : tie.Need-in-mask-requires
-in-mask-requires c κs = search needs
-
 returns : tie.Need-returns
 returns c =
     let s = c .before .before .before .before .before .before in
@@ -25,9 +16,6 @@ returns c =
 
 domain-field-requires : tie.Need-domain-field-requires
 domain-field-requires c κs = c .before .before .before .before .pre .2 (c .if2 .taken)
-
-in-mask-requires-2 : tie.Need-in-mask-requires-2
-in-mask-requires-2 c κs = search needs
 
 returns-2 : tie.Need-returns-2
 returns-2 c =
@@ -39,14 +27,5 @@ returns-3 : tie.Need-returns-3
 returns-3 c = simp (ne-eqb _ _ (c .before .if1 .left), ne-eqb _ _ (c .if2 .left))
 
 pub is-low-advice-or-lower-spec : {M : Type 1} → statement M
-is-low-advice-or-lower-spec =
-    tie.close
-    (tie.spec
-    own-descriptor-requires
-    domain-of-requires
-    in-mask-requires
-    returns
-    domain-field-requires
-    in-mask-requires-2
-    returns-2
-    returns-3)
+is-low-advice-or-lower-spec = tie.close (tie.spec (λ c κs. search needs) (λ c κs. search needs) (λ c κs. search needs) returns domain-field-requires
+    (λ c κs. search needs) returns-2 returns-3)

@@ -9,33 +9,11 @@ use Rattle.image.specs.Types.{termPlace}
 use Rattle.write_unit_bodies.proofs.put_unit_body.Statement.{statement}
 use Rattle.write_unit_bodies.proofs.put_unit_body.Tie as tie
 
-term-field-requires : tie.Need-term-field-requires
-term-field-requires c κs = search needs
-
-term-place-requires : tie.Need-term-place-requires
-term-place-requires c κs = search needs
-
-add-copy : tie.Need-add-copy
-add-copy c = search needs
-
-slice-write-copy : tie.Need-slice-write-copy
-slice-write-copy c = search needs
-
-same-length : tie.Need-same-length
-same-length c = search needs
-
 returns : tie.Need-returns
 returns c =
     let s = c .before .before .before .before .before .before in
     ap (λ o. set (now (s .args .copy)) (o + 2) 32) (c .term-place .ensures .0 ∙ ap (λ n. termPlace (recordsOf (now (s .args .image))) n) (c .before .term-field .ensures))
 
 pub put-unit-body-spec : {M : Type 1} → statement M
-put-unit-body-spec =
-    tie.close
-    (tie.spec
-    term-field-requires
-    term-place-requires
-    add-copy
-    slice-write-copy
-    same-length
+put-unit-body-spec = tie.close (tie.spec (λ c κs. search needs) (λ c κs. search needs) (λ c. search needs) (λ c. search needs) (λ c. search needs)
     returns)

@@ -5,9 +5,6 @@ use borrow.Author.Tests.{lt-ltb, le-ltb, eq-eqb, ne-eqb}
 use Rattle.answers_as_numbers.proofs.forecasts.need_number.Statement.{statement}
 use Rattle.answers_as_numbers.proofs.forecasts.need_number.Tie as tie
 
-forecast-number-requires : tie.Need-forecast-number-requires
-forecast-number-requires c κs = search needs
-
 returns : tie.Need-returns
 returns c =
     let n = c .before .before in
@@ -24,4 +21,4 @@ returns-3 c =
     simp (ne-eqb _ _ (λ e. c .if1 .left (n .forecast-number .ensures ∙ e)), n .forecast-number .ensures)
 
 pub need-number-spec : {M : Type 1} → statement M
-need-number-spec = tie.close (tie.spec forecast-number-requires returns returns-2 returns-3)
+need-number-spec = tie.close (tie.spec (λ c κs. search needs) returns returns-2 returns-3)

@@ -10,9 +10,6 @@ use borrow.Author.Needs.{needs}
 use Rattle.answers_as_numbers.proofs.forecasts.put_numbers.Statement.{statement}
 use Rattle.answers_as_numbers.proofs.forecasts.put_numbers.Tie as tie
 
-slice-write-numbers : tie.Need-slice-write-numbers
-slice-write-numbers c = search needs
-
 slice-write-numbers-2 : tie.Need-slice-write-numbers-2
 slice-write-numbers-2 c = simp length-set (omega arith)
 
@@ -40,12 +37,6 @@ slice-write-numbers-9 c = simp length-set (omega arith)
 slice-write-numbers-10 : tie.Need-slice-write-numbers-10
 slice-write-numbers-10 c = simp length-set (omega arith)
 
-slice-write-numbers-11 : tie.Need-slice-write-numbers-11
-slice-write-numbers-11 c = search needs
-
-same-length : tie.Need-same-length
-same-length c = search needs
-
 returns : tie.Need-returns
 unfolding over
 returns c =
@@ -53,19 +44,6 @@ returns c =
     sets-eq (numbersOf (c .args .n)) (now (c .args .numbers)) 0 h
 
 pub put-numbers-spec : {M : Type 1} → statement M
-put-numbers-spec =
-    tie.close
-    (tie.spec
-    slice-write-numbers
-    slice-write-numbers-2
-    slice-write-numbers-3
-    slice-write-numbers-4
-    slice-write-numbers-5
-    slice-write-numbers-6
-    slice-write-numbers-7
-    slice-write-numbers-8
-    slice-write-numbers-9
-    slice-write-numbers-10
-    slice-write-numbers-11
-    same-length
-    returns)
+put-numbers-spec = tie.close (tie.spec (λ c. search needs) slice-write-numbers-2 slice-write-numbers-3 slice-write-numbers-4 slice-write-numbers-5
+    slice-write-numbers-6 slice-write-numbers-7 slice-write-numbers-8 slice-write-numbers-9 slice-write-numbers-10 (λ c. search needs)
+    (λ c. search needs) returns)

@@ -32,14 +32,5 @@ returns-2 : tie.Need-returns-2
 returns-2 c = rw (c .before .before .before .verdict .given .1, ← c .before .refusal-number .ensures) (c .refused-as-number .ensures)
 
 pub call-number-spec : {M : Type 1} → statement M
-call-number-spec =
-    tie.close
-    (tie.spec
-    enum-told
-    mul-result
-    add-result
-    enum-known-verdict
-    refusal-number-requires
-    refused-as-number-requires
-    returns
+call-number-spec = tie.close (tie.spec enum-told mul-result add-result enum-known-verdict refusal-number-requires refused-as-number-requires returns
     returns-2)

@@ -19,15 +19,6 @@ Inv-loop image code dispatch target frames budget logs₀ reports₀ numbers₀ 
 abbrev μ-loop : tie.MeasureT-loop
 μ-loop image code dispatch target frames budget logs₀ reports₀ numbers₀ work₀ count frame log report i₀ logs reports numbers work i = count - i
 
-div-frame : tie.Need-div-frame Inv-loop μ-loop
-div-frame c = search needs
-
-div-log : tie.Need-div-log Inv-loop μ-loop
-div-log c = search needs
-
-div-report : tie.Need-div-report Inv-loop μ-loop
-div-report c = search needs
-
 loop-holds : tie.Need-loop-holds Inv-loop μ-loop
 loop-holds c = (search needs, (refl, refl, refl, refl), first-none _ _ _ _ _)
 
@@ -67,12 +58,6 @@ add-r-end c =
     let h = part-inside (length (now (s .args .numbers))) (c .before .loop .i) (c .loop-test .taken) (now (s .args .reports)) in
     search needs
 
-sub-run-code : tie.Need-sub-run-code Inv-loop μ-loop
-sub-run-code c = search needs
-
-part-run-code-start : tie.Need-part-run-code-start Inv-loop μ-loop
-part-run-code-start c = search needs
-
 part-run-code-end : tie.Need-part-run-code-end Inv-loop μ-loop
 part-run-code-end c =
     let t = c in
@@ -80,24 +65,12 @@ part-run-code-end c =
     let h = part-inside (length (now (s .args .numbers))) (t .before .loop .i) (t .loop-test .taken) (now (s .args .frames)) in
     search needs
 
-sub-run-code-2 : tie.Need-sub-run-code-2 Inv-loop μ-loop
-sub-run-code-2 c = search needs
-
-part-run-code-start-2 : tie.Need-part-run-code-start-2 Inv-loop μ-loop
-part-run-code-start-2 c = search needs
-
 part-run-code-end-2 : tie.Need-part-run-code-end-2 Inv-loop μ-loop
 part-run-code-end-2 c =
     let t = c .before in
     let s = t .before .before .before .before .before .before .before .before .before .before in
     let h = part-inside (length (now (s .args .numbers))) (t .before .loop .i) (t .loop-test .taken) (now (s .args .logs)) in
     search needs
-
-sub-run-code-3 : tie.Need-sub-run-code-3 Inv-loop μ-loop
-sub-run-code-3 c = search needs
-
-part-run-code-start-3 : tie.Need-part-run-code-start-3 Inv-loop μ-loop
-part-run-code-start-3 c = search needs
 
 part-run-code-end-3 : tie.Need-part-run-code-end-3 Inv-loop μ-loop
 part-run-code-end-3 c =
@@ -117,9 +90,6 @@ run-code-requires c κs =
     let long = ap length parts ∙ length-part n (l .i) (t .loop-test .taken) (l .reports) ∙ ap (_/ n) same in
     (s .pre .0, s .pre .1, omega (arith, l .inv .1 .3, s .pre .3), rw long (s .pre .4))
 
-call-number-requires : tie.Need-call-number-requires Inv-loop μ-loop
-call-number-requires c κs = search needs
-
 mul-numbers : tie.Need-mul-numbers Inv-loop μ-loop
 mul-numbers c =
     let t = c .before .before .before .before .before .before .before .before .before .before .before .before in
@@ -127,18 +97,12 @@ mul-numbers c =
     let h : t .before .loop .i < length (now (s .args .numbers)) = t .loop-test .taken in
     search needs
 
-slice-write-numbers : tie.Need-slice-write-numbers Inv-loop μ-loop
-slice-write-numbers c = search needs
-
 add-i : tie.Need-add-i Inv-loop μ-loop
 add-i c =
     let t = c .before .before .before .before .before .before .before .before .before .before .before .before in
     let s = t .before .before .before .before .before .before .before .before .before .before in
     let h : t .before .loop .i < length (now (s .args .numbers)) = t .loop-test .taken in
     search needs
-
-loop-less : tie.Need-loop-less Inv-loop μ-loop
-loop-less c = search needs
 
 loop-again : tie.Need-loop-again Inv-loop μ-loop
 loop-again c =
@@ -166,18 +130,6 @@ clear-requires c κs =
     let s = t .before .before .before .before .before .before .before .before .before .before in
     omega (arith, t .before .loop .inv .1 .3, s .pre .3)
 
-same-length : tie.Need-same-length Inv-loop μ-loop
-same-length c = search needs
-
-same-length-2 : tie.Need-same-length-2 Inv-loop μ-loop
-same-length-2 c = search needs
-
-same-length-3 : tie.Need-same-length-3 Inv-loop μ-loop
-same-length-3 c = search needs
-
-same-length-4 : tie.Need-same-length-4 Inv-loop μ-loop
-same-length-4 c = search needs
-
 returns : tie.Need-returns Inv-loop μ-loop
 returns c =
     let t = c .before .before .before .before in
@@ -194,40 +146,7 @@ returns c =
     ∙ calls-unseen (now (a .image)) (now (a .frames)) (a .budget) n (s .pre .2) R (s .pre .3) enough n (s .pre .2)
 
 pub run-each-spec : {M : Type 1} → statement M
-run-each-spec =
-    tie.close
-    (tie.spec
-    Inv-loop
-    μ-loop
-    div-frame
-    div-log
-    div-report
-    loop-holds
-    mul-f
-    add-f-end
-    mul-l
-    add-l-end
-    mul-r
-    add-r-end
-    sub-run-code
-    part-run-code-start
-    part-run-code-end
-    sub-run-code-2
-    part-run-code-start-2
-    part-run-code-end-2
-    sub-run-code-3
-    part-run-code-start-3
-    part-run-code-end-3
-    run-code-requires
-    call-number-requires
-    mul-numbers
-    slice-write-numbers
-    add-i
-    loop-less
-    loop-again
-    clear-requires
-    same-length
-    same-length-2
-    same-length-3
-    same-length-4
-    returns)
+run-each-spec = tie.close (tie.spec Inv-loop μ-loop (λ c. search needs) (λ c. search needs) (λ c. search needs) loop-holds mul-f add-f-end mul-l
+    add-l-end mul-r add-r-end (λ c. search needs) (λ c. search needs) part-run-code-end (λ c. search needs) (λ c. search needs) part-run-code-end-2
+    (λ c. search needs) (λ c. search needs) part-run-code-end-3 run-code-requires (λ c κs. search needs) mul-numbers (λ c. search needs) add-i
+    (λ c. search needs) loop-again clear-requires (λ c. search needs) (λ c. search needs) (λ c. search needs) (λ c. search needs) returns)

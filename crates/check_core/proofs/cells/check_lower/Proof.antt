@@ -7,30 +7,6 @@ use Rattle.image.specs.Kinds.{TermKind}
 use Rattle.check_rules.proofs.OnDescriptors.{at-field-typed, on-masks}
 use mathlib.Core.Path.{_∙_}
 
-own-descriptor-requires : tie.Need-own-descriptor-requires
-own-descriptor-requires c κs = search needs
-
-descriptor-at-field-requires : tie.Need-descriptor-at-field-requires
-descriptor-at-field-requires c κs = search needs
-
-other-field-requires : tie.Need-other-field-requires
-other-field-requires c κs = search needs
-
-is-kind-requires : tie.Need-is-kind-requires
-is-kind-requires c κs = search needs
-
-is-kind-requires-2 : tie.Need-is-kind-requires-2
-is-kind-requires-2 c κs = search needs
-
-both-requires : tie.Need-both-requires
-both-requires c κs = search needs
-
-leq-requires : tie.Need-leq-requires
-leq-requires c κs = search needs
-
-judge-requires : tie.Need-judge-requires
-judge-requires c κs = search needs
-
 returns : tie.Need-returns
 unfolding words
 returns c =
@@ -43,15 +19,5 @@ returns c =
     λ Γ. c .judge .ensures ∙ simp (c .before .leq .ensures, c .before .before .both .ensures, at-is-kind2 .is-kind2 .ensures, at-is-kind .is-kind .ensures, at-other-field .other-field .ensures, at-descriptor-at-field .descriptor-at-field .ensures, at-own-descriptor .own-descriptor .ensures) (on-masks (s .pre .0 .types) (s .pre .1) (s .args .at) TermKind.lower (record { context = Γ; dom = s .args .c .0 }) (at-field-typed (s .pre .0) (s .pre .2), tt) (s .pre .3))
 
 pub check-lower-spec : {M : Type 1} → statement M
-check-lower-spec =
-    tie.close
-    (tie.spec
-    own-descriptor-requires
-    descriptor-at-field-requires
-    other-field-requires
-    is-kind-requires
-    is-kind-requires-2
-    both-requires
-    leq-requires
-    judge-requires
-    returns)
+check-lower-spec = tie.close (tie.spec (λ c κs. search needs) (λ c κs. search needs) (λ c κs. search needs) (λ c κs. search needs)
+    (λ c κs. search needs) (λ c κs. search needs) (λ c κs. search needs) (λ c κs. search needs) returns)

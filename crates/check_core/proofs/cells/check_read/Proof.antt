@@ -7,33 +7,6 @@ use Rattle.image.specs.Kinds.{TermKind}
 use Rattle.check_rules.proofs.OnDescriptors.{at-field-typed, on-masks}
 use mathlib.Core.Path.{_∙_}
 
-own-type-requires : tie.Need-own-type-requires
-own-type-requires c κs = search needs
-
-descriptor-at-field-requires : tie.Need-descriptor-at-field-requires
-descriptor-at-field-requires c κs = search needs
-
-is-kind-requires : tie.Need-is-kind-requires
-is-kind-requires c κs = search needs
-
-first-type-requires : tie.Need-first-type-requires
-first-type-requires c κs = search needs
-
-same-type-requires : tie.Need-same-type-requires
-same-type-requires c κs = search needs
-
-both-requires : tie.Need-both-requires
-both-requires c κs = search needs
-
-second-domain-requires : tie.Need-second-domain-requires
-second-domain-requires c κs = search needs
-
-leq-requires : tie.Need-leq-requires
-leq-requires c κs = search needs
-
-judge-requires : tie.Need-judge-requires
-judge-requires c κs = search needs
-
 returns : tie.Need-returns
 unfolding words
 returns c =
@@ -47,16 +20,5 @@ returns c =
     λ Γ. c .judge .ensures ∙ simp (c .before .leq .ensures, c .before .before .second-domain .ensures, at-both .both .ensures, at-same-type .same-type .ensures, at-first-type .first-type .ensures, at-is-kind .is-kind .ensures, at-descriptor-at-field .descriptor-at-field .ensures, at-own-type .own-type .ensures) (on-masks (s .pre .0 .types) (s .pre .1) (s .args .at) TermKind.read (record { context = Γ; dom = s .args .c .0 }) (at-field-typed (s .pre .0) (s .pre .2), tt) (s .pre .3))
 
 pub check-read-spec : {M : Type 1} → statement M
-check-read-spec =
-    tie.close
-    (tie.spec
-    own-type-requires
-    descriptor-at-field-requires
-    is-kind-requires
-    first-type-requires
-    same-type-requires
-    both-requires
-    second-domain-requires
-    leq-requires
-    judge-requires
-    returns)
+check-read-spec = tie.close (tie.spec (λ c κs. search needs) (λ c κs. search needs) (λ c κs. search needs) (λ c κs. search needs)
+    (λ c κs. search needs) (λ c κs. search needs) (λ c κs. search needs) (λ c κs. search needs) (λ c κs. search needs) returns)

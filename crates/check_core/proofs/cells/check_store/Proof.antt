@@ -7,39 +7,6 @@ use Rattle.image.specs.Kinds.{TermKind}
 use Rattle.check_rules.proofs.OnDescriptors.{at-field-typed, on-masks}
 use mathlib.Core.Path.{_∙_}
 
-own-descriptor-requires : tie.Need-own-descriptor-requires
-own-descriptor-requires c κs = search needs
-
-descriptor-at-field-requires : tie.Need-descriptor-at-field-requires
-descriptor-at-field-requires c κs = search needs
-
-type-at-field-requires : tie.Need-type-at-field-requires
-type-at-field-requires c κs = search needs
-
-is-kind-requires : tie.Need-is-kind-requires
-is-kind-requires c κs = search needs
-
-is-kind-requires-2 : tie.Need-is-kind-requires-2
-is-kind-requires-2 c κs = search needs
-
-first-type-requires : tie.Need-first-type-requires
-first-type-requires c κs = search needs
-
-same-type-requires : tie.Need-same-type-requires
-same-type-requires c κs = search needs
-
-all-three-requires : tie.Need-all-three-requires
-all-three-requires c κs = search needs
-
-second-domain-requires : tie.Need-second-domain-requires
-second-domain-requires c κs = search needs
-
-leq-requires : tie.Need-leq-requires
-leq-requires c κs = search needs
-
-judge-requires : tie.Need-judge-requires
-judge-requires c κs = search needs
-
 returns : tie.Need-returns
 unfolding words
 returns c =
@@ -55,18 +22,6 @@ returns c =
     λ Γ. c .judge .ensures ∙ simp (c .before .leq .ensures, c .before .before .second-domain .ensures, at-all-three .all-three .ensures, at-same-type .same-type .ensures, at-first-type .first-type .ensures, at-is-kind2 .is-kind2 .ensures, at-is-kind .is-kind .ensures, at-type-at-field .type-at-field .ensures .0, at-descriptor-at-field .descriptor-at-field .ensures, at-own-descriptor .own-descriptor .ensures) (on-masks (s .pre .0 .types) (s .pre .1) (s .args .at) TermKind.store (record { context = Γ; dom = s .args .c .0 }) (at-field-typed (s .pre .0) (s .pre .2), (at-field-typed (s .pre .0) (s .pre .3), tt)) (s .pre .4))
 
 pub check-store-spec : {M : Type 1} → statement M
-check-store-spec =
-    tie.close
-    (tie.spec
-    own-descriptor-requires
-    descriptor-at-field-requires
-    type-at-field-requires
-    is-kind-requires
-    is-kind-requires-2
-    first-type-requires
-    same-type-requires
-    all-three-requires
-    second-domain-requires
-    leq-requires
-    judge-requires
-    returns)
+check-store-spec = tie.close (tie.spec (λ c κs. search needs) (λ c κs. search needs) (λ c κs. search needs) (λ c κs. search needs)
+    (λ c κs. search needs) (λ c κs. search needs) (λ c κs. search needs) (λ c κs. search needs) (λ c κs. search needs) (λ c κs. search needs)
+    (λ c κs. search needs) returns)

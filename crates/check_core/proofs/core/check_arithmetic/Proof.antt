@@ -7,36 +7,6 @@ use Rattle.image.specs.Kinds.{TermKind}
 use Rattle.check_rules.proofs.OnDescriptors.{at-field-typed, on-descriptors}
 use mathlib.Core.Path.{_∙_}
 
-own-descriptor-requires : tie.Need-own-descriptor-requires
-own-descriptor-requires c κs = search needs
-
-descriptor-at-field-requires : tie.Need-descriptor-at-field-requires
-descriptor-at-field-requires c κs = search needs
-
-descriptor-at-field-requires-2 : tie.Need-descriptor-at-field-requires-2
-descriptor-at-field-requires-2 c κs = search needs
-
-other-field-requires : tie.Need-other-field-requires
-other-field-requires c κs = search needs
-
-result-kind-requires : tie.Need-result-kind-requires
-result-kind-requires c κs = search needs
-
-is-kind-requires : tie.Need-is-kind-requires
-is-kind-requires c κs = search needs
-
-is-kind-requires-2 : tie.Need-is-kind-requires-2
-is-kind-requires-2 c κs = search needs
-
-is-kind-requires-3 : tie.Need-is-kind-requires-3
-is-kind-requires-3 c κs = search needs
-
-all-three-requires : tie.Need-all-three-requires
-all-three-requires c κs = search needs
-
-judge-requires : tie.Need-judge-requires
-judge-requires c κs = search needs
-
 returns : tie.Need-returns
 unfolding words
 returns c =
@@ -51,17 +21,5 @@ returns c =
     λ p. c .judge .ensures ∙ simp (c .before .all-three .ensures, at-is-kind .is-kind .ensures, at-is-kind2 .is-kind2 .ensures, c .before .before .is-kind3 .ensures, at-result-kind .result-kind .ensures, at-other-field .other-field .ensures, at-descriptor-at-field .descriptor-at-field .ensures, at-descriptor-at-field2 .descriptor-at-field2 .ensures, at-own-descriptor .own-descriptor .ensures) (on-descriptors (s .pre .0 .types) (s .pre .1) (s .args .at) TermKind.arith p (at-field-typed (s .pre .0) (s .pre .2), (at-field-typed (s .pre .0) (s .pre .3), tt)))
 
 pub check-arithmetic-spec : {M : Type 1} → statement M
-check-arithmetic-spec =
-    tie.close
-    (tie.spec
-    own-descriptor-requires
-    descriptor-at-field-requires
-    descriptor-at-field-requires-2
-    other-field-requires
-    result-kind-requires
-    is-kind-requires
-    is-kind-requires-2
-    is-kind-requires-3
-    all-three-requires
-    judge-requires
-    returns)
+check-arithmetic-spec = tie.close (tie.spec (λ c κs. search needs) (λ c κs. search needs) (λ c κs. search needs) (λ c κs. search needs)
+    (λ c κs. search needs) (λ c κs. search needs) (λ c κs. search needs) (λ c κs. search needs) (λ c κs. search needs) (λ c κs. search needs) returns)

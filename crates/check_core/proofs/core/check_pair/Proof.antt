@@ -7,36 +7,6 @@ use Rattle.image.specs.Kinds.{TermKind}
 use Rattle.check_rules.proofs.OnDescriptors.{at-field-typed, on-descriptors}
 use mathlib.Core.Path.{_∙_}
 
-own-descriptor-requires : tie.Need-own-descriptor-requires
-own-descriptor-requires c κs = search needs
-
-type-at-field-requires : tie.Need-type-at-field-requires
-type-at-field-requires c κs = search needs
-
-type-at-field-requires-2 : tie.Need-type-at-field-requires-2
-type-at-field-requires-2 c κs = search needs
-
-is-kind-requires : tie.Need-is-kind-requires
-is-kind-requires c κs = search needs
-
-first-type-requires : tie.Need-first-type-requires
-first-type-requires c κs = search needs
-
-same-type-requires : tie.Need-same-type-requires
-same-type-requires c κs = search needs
-
-second-type-requires : tie.Need-second-type-requires
-second-type-requires c κs = search needs
-
-same-type-requires-2 : tie.Need-same-type-requires-2
-same-type-requires-2 c κs = search needs
-
-all-three-requires : tie.Need-all-three-requires
-all-three-requires c κs = search needs
-
-judge-requires : tie.Need-judge-requires
-judge-requires c κs = search needs
-
 returns : tie.Need-returns
 unfolding words
 returns c =
@@ -51,17 +21,5 @@ returns c =
     λ p. c .judge .ensures ∙ simp (c .before .all-three .ensures, at-is-kind .is-kind .ensures, at-same-type .same-type .ensures, c .before .before .same-type2 .ensures, at-first-type .first-type .ensures, at-second-type .second-type .ensures, at-type-at-field .type-at-field .ensures .0, at-type-at-field2 .type-at-field2 .ensures .0, at-own-descriptor .own-descriptor .ensures) (on-descriptors (s .pre .0 .types) (s .pre .1) (s .args .at) TermKind.pair p (at-field-typed (s .pre .0) (s .pre .2), (at-field-typed (s .pre .0) (s .pre .3), tt)))
 
 pub check-pair-spec : {M : Type 1} → statement M
-check-pair-spec =
-    tie.close
-    (tie.spec
-    own-descriptor-requires
-    type-at-field-requires
-    type-at-field-requires-2
-    is-kind-requires
-    first-type-requires
-    same-type-requires
-    second-type-requires
-    same-type-requires-2
-    all-three-requires
-    judge-requires
-    returns)
+check-pair-spec = tie.close (tie.spec (λ c κs. search needs) (λ c κs. search needs) (λ c κs. search needs) (λ c κs. search needs)
+    (λ c κs. search needs) (λ c κs. search needs) (λ c κs. search needs) (λ c κs. search needs) (λ c κs. search needs) (λ c κs. search needs) returns)

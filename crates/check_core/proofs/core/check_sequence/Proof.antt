@@ -7,27 +7,6 @@ use Rattle.image.specs.Kinds.{TermKind}
 use Rattle.check_rules.proofs.OnDescriptors.{at-field-typed, on-descriptors}
 use mathlib.Core.Path.{_∙_}
 
-own-type-requires : tie.Need-own-type-requires
-own-type-requires c κs = search needs
-
-descriptor-at-field-requires : tie.Need-descriptor-at-field-requires
-descriptor-at-field-requires c κs = search needs
-
-type-at-field-requires : tie.Need-type-at-field-requires
-type-at-field-requires c κs = search needs
-
-is-kind-requires : tie.Need-is-kind-requires
-is-kind-requires c κs = search needs
-
-same-type-requires : tie.Need-same-type-requires
-same-type-requires c κs = search needs
-
-both-requires : tie.Need-both-requires
-both-requires c κs = search needs
-
-judge-requires : tie.Need-judge-requires
-judge-requires c κs = search needs
-
 returns : tie.Need-returns
 unfolding words
 returns c =
@@ -39,14 +18,5 @@ returns c =
     λ p. c .judge .ensures ∙ simp (c .before .both .ensures, c .before .before .same-type .ensures, at-is-kind .is-kind .ensures, at-type-at-field .type-at-field .ensures .0, at-descriptor-at-field .descriptor-at-field .ensures, at-own-type .own-type .ensures) (on-descriptors (s .pre .0 .types) (s .pre .1) (s .args .at) TermKind.seq p (at-field-typed (s .pre .0) (s .pre .2), (at-field-typed (s .pre .0) (s .pre .3), tt)))
 
 pub check-sequence-spec : {M : Type 1} → statement M
-check-sequence-spec =
-    tie.close
-    (tie.spec
-    own-type-requires
-    descriptor-at-field-requires
-    type-at-field-requires
-    is-kind-requires
-    same-type-requires
-    both-requires
-    judge-requires
-    returns)
+check-sequence-spec = tie.close (tie.spec (λ c κs. search needs) (λ c κs. search needs) (λ c κs. search needs) (λ c κs. search needs)
+    (λ c κs. search needs) (λ c κs. search needs) (λ c κs. search needs) returns)

@@ -20,32 +20,11 @@ Inv-loop image masks terms descriptors fields d k i₀ i = (i ≤ k) × (allOf (
 abbrev μ-loop : tie.MeasureT-loop
 μ-loop image masks terms descriptors fields d k i₀ i = k - i
 
-labels-in-requires : tie.Need-labels-in-requires Inv-loop μ-loop
-labels-in-requires c κs = search needs
-
-loop-holds : tie.Need-loop-holds Inv-loop μ-loop
-loop-holds c = search needs
-
-add-descriptor-at-field : tie.Need-add-descriptor-at-field Inv-loop μ-loop
-add-descriptor-at-field c = search needs
-
 descriptor-at-field-requires : tie.Need-descriptor-at-field-requires Inv-loop μ-loop
 descriptor-at-field-requires c κs =
     let s = c .before .before .before .before .before .before .before in
     let k = c .before .before .labels-in .ensures in
     (s .pre .0 .terms, s .pre .0 .types, s .pre .1 .each (c .before .loop .i) (omega arith))
-
-second-domain-requires : tie.Need-second-domain-requires Inv-loop μ-loop
-second-domain-requires c κs = search needs
-
-leq-requires : tie.Need-leq-requires Inv-loop μ-loop
-leq-requires c κs = search needs
-
-add-i : tie.Need-add-i Inv-loop μ-loop
-add-i c = search needs
-
-loop-less : tie.Need-loop-less Inv-loop μ-loop
-loop-less c = search needs
 
 loop-again : tie.Need-loop-again Inv-loop μ-loop
 loop-again c =
@@ -79,19 +58,5 @@ returns-2 c =
     test-ends _ _ (c .before .loop .i) (omega arith) ∙ c .before .loop .inv .1
 
 pub labels-above-spec : {M : Type 1} → statement M
-labels-above-spec =
-    tie.close
-    (tie.spec
-    Inv-loop
-    μ-loop
-    labels-in-requires
-    loop-holds
-    add-descriptor-at-field
-    descriptor-at-field-requires
-    second-domain-requires
-    leq-requires
-    add-i
-    loop-less
-    loop-again
-    returns
-    returns-2)
+labels-above-spec = tie.close (tie.spec Inv-loop μ-loop (λ c κs. search needs) (λ c. search needs) (λ c. search needs) descriptor-at-field-requires
+    (λ c κs. search needs) (λ c κs. search needs) (λ c. search needs) (λ c. search needs) loop-again returns returns-2)

@@ -20,38 +20,11 @@ Inv-loop image terms descriptors fields a k i₀ i = (i ≤ k) × (allOf (labelO
 abbrev μ-loop : tie.MeasureT-loop
 μ-loop image terms descriptors fields a k i₀ i = k - i
 
-labels-in-requires : tie.Need-labels-in-requires Inv-loop μ-loop
-labels-in-requires c κs = search needs
-
-loop-holds : tie.Need-loop-holds Inv-loop μ-loop
-loop-holds c = search needs
-
-add-descriptor-at-field : tie.Need-add-descriptor-at-field Inv-loop μ-loop
-add-descriptor-at-field c = search needs
-
 descriptor-at-field-requires : tie.Need-descriptor-at-field-requires Inv-loop μ-loop
 descriptor-at-field-requires c κs =
     let s = c .before .before .before .before .before .before .before in
     let k = c .before .before .labels-in .ensures in
     (s .pre .0 .terms, s .pre .0 .types, s .pre .1 .each (c .before .loop .i) (omega arith))
-
-is-kind-requires : tie.Need-is-kind-requires Inv-loop μ-loop
-is-kind-requires c κs = search needs
-
-first-type-requires : tie.Need-first-type-requires Inv-loop μ-loop
-first-type-requires c κs = search needs
-
-same-type-requires : tie.Need-same-type-requires Inv-loop μ-loop
-same-type-requires c κs = search needs
-
-both-requires : tie.Need-both-requires Inv-loop μ-loop
-both-requires c κs = search needs
-
-add-i : tie.Need-add-i Inv-loop μ-loop
-add-i c = search needs
-
-loop-less : tie.Need-loop-less Inv-loop μ-loop
-loop-less c = search needs
 
 loop-again : tie.Need-loop-again Inv-loop μ-loop
 loop-again c =
@@ -89,21 +62,6 @@ returns-2 c =
     test-ends _ _ (c .before .loop .i) (omega arith) ∙ c .before .loop .inv .1
 
 pub labels-fit-spec : {M : Type 1} → statement M
-labels-fit-spec =
-    tie.close
-    (tie.spec
-    Inv-loop
-    μ-loop
-    labels-in-requires
-    loop-holds
-    add-descriptor-at-field
-    descriptor-at-field-requires
-    is-kind-requires
-    first-type-requires
-    same-type-requires
-    both-requires
-    add-i
-    loop-less
-    loop-again
-    returns
-    returns-2)
+labels-fit-spec = tie.close (tie.spec Inv-loop μ-loop (λ c κs. search needs) (λ c. search needs) (λ c. search needs) descriptor-at-field-requires
+    (λ c κs. search needs) (λ c κs. search needs) (λ c κs. search needs) (λ c κs. search needs) (λ c. search needs) (λ c. search needs) loop-again
+    returns returns-2)

@@ -7,15 +7,6 @@ use Rattle.check_dispatch.proofs.rule.check_rule.Statement.{statement}
 use Rattle.check_dispatch.proofs.rule.check_rule.Tie as tie
 use Rattle.check_dispatch.proofs.rule.check_rule.Proof.Record.{lent, offsets, masks, setting, typed, kind-of, last-of, child, match-child, labels, bodies, call-fields, takedown-fields, entries, answered, aborted}
 
-term-place-requires : tie.Need-term-place-requires
-term-place-requires c κs = search needs
-
-term-fields-requires : tie.Need-term-fields-requires
-term-fields-requires c κs = search needs
-
-term-kind-requires : tie.Need-term-kind-requires
-term-kind-requires c κs = search needs
-
 check-sequence-requires : tie.Need-check-sequence-requires
 check-sequence-requires c κs =
     let e = kind-of (c .before) TermKind.seq (c .match .keys1) in
@@ -208,58 +199,10 @@ returns-25 : tie.Need-returns-25
 returns-25 c = answered (c .before .before) (last-of (c .before .before) (c .before .match .rest)) (λ Γ. c .check-byte .ensures (setting (c .before .before) Γ))
 
 pub check-rule-spec : {M : Type 1} → statement M
-check-rule-spec =
-    tie.close
-    (tie.spec
-    term-place-requires
-    term-fields-requires
-    term-kind-requires
-    check-sequence-requires
-    check-print-requires
-    check-choice-requires
-    check-pair-requires
-    check-split-requires
-    check-function-requires
-    check-apply-requires
-    check-arithmetic-requires
-    check-new-label-requires
-    check-mark-requires
-    check-pointcut-requires
-    check-advice-requires
-    check-install-requires
-    check-new-cell-requires
-    check-read-requires
-    check-store-requires
-    check-lower-requires
-    check-object-requires
-    check-method-call-requires
-    check-stack-requires
-    check-keep-requires
-    check-match-requires
-    check-takedown-requires
-    check-byte-requires
-    returns
-    returns-2
-    returns-3
-    returns-4
-    returns-5
-    returns-6
-    returns-7
-    returns-8
-    returns-9
-    returns-10
-    returns-11
-    returns-12
-    returns-13
-    returns-14
-    returns-15
-    returns-16
-    returns-17
-    returns-18
-    returns-19
-    returns-20
-    returns-21
-    returns-22
-    returns-23
-    returns-24
-    returns-25)
+check-rule-spec = tie.close (tie.spec (λ c κs. search needs) (λ c κs. search needs) (λ c κs. search needs) check-sequence-requires
+    check-print-requires check-choice-requires check-pair-requires check-split-requires check-function-requires check-apply-requires
+    check-arithmetic-requires check-new-label-requires check-mark-requires check-pointcut-requires check-advice-requires check-install-requires
+    check-new-cell-requires check-read-requires check-store-requires check-lower-requires check-object-requires check-method-call-requires
+    check-stack-requires check-keep-requires check-match-requires check-takedown-requires check-byte-requires returns returns-2 returns-3 returns-4
+    returns-5 returns-6 returns-7 returns-8 returns-9 returns-10 returns-11 returns-12 returns-13 returns-14 returns-15 returns-16 returns-17
+    returns-18 returns-19 returns-20 returns-21 returns-22 returns-23 returns-24 returns-25)

@@ -32,12 +32,6 @@ returns c =
     let ok : ℕ → Bool = λ i. not (sameObject (now (a .image)) (now (a .fields)) (now (a .types)) (now (a .descriptors)) (a .descriptor) i) in
     sym (below-not ok (a .t .0) (l .loop .i) (search needs) (ap not (sym (c .before .is-same-object .ensures) ∙ c .if2 .taken)))
 
-add-i : tie.Need-add-i Inv-loop μ-loop
-add-i c = search needs
-
-loop-less : tie.Need-loop-less Inv-loop μ-loop
-loop-less c = search needs
-
 loop-again : tie.Need-loop-again Inv-loop μ-loop
 loop-again c =
     let l = c .before .before .before .before in
@@ -52,15 +46,5 @@ returns-2 c =
     sym (rw e at (l .loop .inv .1))
 
 pub is-new-object-spec : {M : Type 1} → statement M
-is-new-object-spec =
-    tie.close
-    (tie.spec
-    Inv-loop
-    μ-loop
-    loop-holds
-    is-same-object-requires
-    returns
-    add-i
-    loop-less
-    loop-again
+is-new-object-spec = tie.close (tie.spec Inv-loop μ-loop loop-holds is-same-object-requires returns (λ c. search needs) (λ c. search needs) loop-again
     returns-2)

@@ -9,19 +9,10 @@ use borrow.Author.Needs.{needs}
 use Rattle.check_layout.proofs.new_types.is_same_object.Statement.{statement}
 use Rattle.check_layout.proofs.new_types.is_same_object.Tie as tie
 
-type-descriptor-requires : tie.Need-type-descriptor-requires
-type-descriptor-requires c κs = search needs
-
-type-offset-requires : tie.Need-type-offset-requires
-type-offset-requires c κs = search needs
-
 fields-at-requires : tie.Need-fields-at-requires
 fields-at-requires c κs =
     let start = c .before .before .before .before .before .before .before in
     rw (c .type-offset .ensures) (start .pre .2)
-
-same-fields-requires : tie.Need-same-fields-requires
-same-fields-requires c κs = search needs
 
 returns : tie.Need-returns
 returns c =
@@ -36,12 +27,4 @@ returns-2 : tie.Need-returns-2
 returns-2 c = let k = c .before in let a = k .before .before .before .before .before .args in simp (ne-eqb (a .descriptor) (getD (now (a .descriptors)) (a .u .0) 0) (λ e. c .if1 .left (e ∙ sym (k .type-descriptor .ensures))))
 
 pub is-same-object-spec : {M : Type 1} → statement M
-is-same-object-spec =
-    tie.close
-    (tie.spec
-    type-descriptor-requires
-    type-offset-requires
-    fields-at-requires
-    same-fields-requires
-    returns
-    returns-2)
+is-same-object-spec = tie.close (tie.spec (λ c κs. search needs) (λ c κs. search needs) fields-at-requires (λ c κs. search needs) returns returns-2)

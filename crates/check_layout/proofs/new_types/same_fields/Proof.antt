@@ -31,12 +31,6 @@ loop-holds : tie.Need-loop-holds Inv-loop μ-loop
 unfolding allBelow
 loop-holds c = (search needs, refl, search needs, refl)
 
-field-requires : tie.Need-field-requires Inv-loop μ-loop
-field-requires c κs = search needs
-
-field-requires-2 : tie.Need-field-requires-2 Inv-loop μ-loop
-field-requires-2 c κs = search needs
-
 returns-2 : tie.Need-returns-2 Inv-loop μ-loop
 returns-2 c =
     let g = c .before in
@@ -45,12 +39,6 @@ returns-2 c =
     let a = l .before .before .before .before .args in
     let h : same (now (a .a)) (now (a .b)) (l .loop .i) ≡ false = ne-eqb _ _ (λ e. c .if2 .taken (f .field .ensures ∙ (e ∙ sym (g .field2 .ensures)))) in
     and-no (eqb (length (now (a .a))) (length (now (a .b)))) _ (below-not (same (now (a .a)) (now (a .b))) (length (now (a .a)) / 2) (l .loop .i) (search needs) h)
-
-add-i : tie.Need-add-i Inv-loop μ-loop
-add-i c = search needs
-
-loop-less : tie.Need-loop-less Inv-loop μ-loop
-loop-less c = search needs
 
 loop-again : tie.Need-loop-again Inv-loop μ-loop
 loop-again c =
@@ -69,17 +57,5 @@ returns-3 c =
     simp (eq-eqb _ _ (l .loop .inv .0), rw e at (l .loop .inv .3))
 
 pub same-fields-spec : {M : Type 1} → statement M
-same-fields-spec =
-    tie.close
-    (tie.spec
-    Inv-loop
-    μ-loop
-    returns
-    loop-holds
-    field-requires
-    field-requires-2
-    returns-2
-    add-i
-    loop-less
-    loop-again
-    returns-3)
+same-fields-spec = tie.close (tie.spec Inv-loop μ-loop returns loop-holds (λ c κs. search needs) (λ c κs. search needs) returns-2 (λ c. search needs)
+    (λ c. search needs) loop-again returns-3)

@@ -25,15 +25,6 @@ Inv-loop image types terms fields t k i₀ i =
 abbrev μ-loop : tie.MeasureT-loop
 μ-loop image types terms fields t k i₀ i = k - i
 
-bodies-in-requires : tie.Need-bodies-in-requires Inv-loop μ-loop
-bodies-in-requires c κs = search needs
-
-loop-holds : tie.Need-loop-holds Inv-loop μ-loop
-loop-holds c = search needs
-
-add-type-at-field : tie.Need-add-type-at-field Inv-loop μ-loop
-add-type-at-field c = search needs
-
 type-at-field-requires : tie.Need-type-at-field-requires Inv-loop μ-loop
 type-at-field-requires c κs =
     let start = c .before .before .before .before .before .before .before in
@@ -47,15 +38,6 @@ method-type-requires c κs =
     let k = at-bodies-in .bodies-in .ensures in
     let m = start .pre .4 in
     (start .pre .0, start .pre .2, omega arith)
-
-same-type-requires : tie.Need-same-type-requires Inv-loop μ-loop
-same-type-requires c κs = search needs
-
-add-i : tie.Need-add-i Inv-loop μ-loop
-add-i c = search needs
-
-loop-less : tie.Need-loop-less Inv-loop μ-loop
-loop-less c = search needs
 
 loop-again : tie.Need-loop-again Inv-loop μ-loop
 loop-again c =
@@ -97,19 +79,5 @@ returns-2 c =
     fit-ends (recordsOf (now (a .image))) (describe (recordsOf (now (a .image))) (a .t .0)) ts (c .before .loop .i) (omega arith) ∙ c .before .loop .inv .1
 
 pub bodies-fit-spec : {M : Type 1} → statement M
-bodies-fit-spec =
-    tie.close
-    (tie.spec
-    Inv-loop
-    μ-loop
-    bodies-in-requires
-    loop-holds
-    add-type-at-field
-    type-at-field-requires
-    method-type-requires
-    same-type-requires
-    add-i
-    loop-less
-    loop-again
-    returns
-    returns-2)
+bodies-fit-spec = tie.close (tie.spec Inv-loop μ-loop (λ c κs. search needs) (λ c. search needs) (λ c. search needs) type-at-field-requires
+    method-type-requires (λ c κs. search needs) (λ c. search needs) (λ c. search needs) loop-again returns returns-2)

@@ -12,12 +12,6 @@ use borrow.Author.Needs.{needs}
 use Rattle.check_objects.proofs.objects.call_fits.Statement.{statement}
 use Rattle.check_objects.proofs.objects.call_fits.Tie as tie
 
-type-descriptor-requires : tie.Need-type-descriptor-requires
-type-descriptor-requires c κs = search needs
-
-is-kind-requires : tie.Need-is-kind-requires
-is-kind-requires c κs = search needs
-
 returns : tie.Need-returns
 returns c =
     let start = c .before .before .before .before .before .before in
@@ -45,9 +39,6 @@ method-type-requires c κs =
     let o = object-seen (start .pre .0) (start .pre .2) (at-is-kind .is-kind .ensures) (at-type-descriptor .type-descriptor .ensures) (not-false (at-is-kind .is-kind .result) (c .before .before .if1 .left)) in
     (start .pre .1, o, omega (arith, c .before .method-count .ensures))
 
-same-type-requires : tie.Need-same-type-requires
-same-type-requires c κs = search needs
-
 returns-3 : tie.Need-returns-3
 returns-3 c =
     let at-method-count = c .before .before .before in
@@ -60,14 +51,5 @@ returns-3 c =
     c .same-type .ensures ∙ (ap (λ x. eqb x (start .args .t .0)) (c .before .method-type .ensures) ∙ third-tells _ _ _ (o .object) (lt-ltb _ _ l))
 
 pub call-fits-spec : {M : Type 1} → statement M
-call-fits-spec =
-    tie.close
-    (tie.spec
-    type-descriptor-requires
-    is-kind-requires
-    returns
-    method-count-requires
-    returns-2
-    method-type-requires
-    same-type-requires
-    returns-3)
+call-fits-spec = tie.close (tie.spec (λ c κs. search needs) (λ c κs. search needs) returns method-count-requires returns-2 method-type-requires
+    (λ c κs. search needs) returns-3)

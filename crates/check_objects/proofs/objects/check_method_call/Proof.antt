@@ -15,18 +15,6 @@ use borrow.Author.Needs.{needs}
 use Rattle.check_objects.proofs.objects.check_method_call.Statement.{statement}
 use Rattle.check_objects.proofs.objects.check_method_call.Tie as tie
 
-type-at-field-requires : tie.Need-type-at-field-requires
-type-at-field-requires c κs = search needs
-
-method-number-requires : tie.Need-method-number-requires
-method-number-requires c κs = search needs
-
-own-type-requires : tie.Need-own-type-requires
-own-type-requires c κs = search needs
-
-call-fits-requires : tie.Need-call-fits-requires
-call-fits-requires c κs = search needs
-
 returns : tie.Need-returns
 returns c =
     let at-method-number = c .before .before .before in
@@ -45,12 +33,6 @@ method-domain-requires c κs =
     let z = call-tells (now (start .args .image)) (at-type-at-field .type-at-field .result .0) (at-method-number .method-number .result) (c .before .before .own-type .result .0) (at-type-at-field .type-at-field .ensures .1) f in
     (start .pre .1, z .0, z .1)
 
-same-domain-requires : tie.Need-same-domain-requires
-same-domain-requires c κs = search needs
-
-judge-requires : tie.Need-judge-requires
-judge-requires c κs = search needs
-
 returns-2 : tie.Need-returns-2
 returns-2 c =
     let at-if1 = c .before .before .before in
@@ -65,15 +47,5 @@ returns-2 c =
     λ Γ. c .judge .ensures ∙ call-judged (now (a .image)) (now (a .fields)) (record { context = Γ; dom = a .c .0 }) (a .at) _ f d
 
 pub check-method-call-spec : {M : Type 1} → statement M
-check-method-call-spec =
-    tie.close
-    (tie.spec
-    type-at-field-requires
-    method-number-requires
-    own-type-requires
-    call-fits-requires
-    returns
-    method-domain-requires
-    same-domain-requires
-    judge-requires
-    returns-2)
+check-method-call-spec = tie.close (tie.spec (λ c κs. search needs) (λ c κs. search needs) (λ c κs. search needs) (λ c κs. search needs) returns
+    method-domain-requires (λ c κs. search needs) (λ c κs. search needs) returns-2)

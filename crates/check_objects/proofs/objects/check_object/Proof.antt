@@ -6,21 +6,10 @@ use borrow.Author.Needs.{needs}
 use Rattle.check_objects.proofs.objects.check_object.Statement.{statement}
 use Rattle.check_objects.proofs.objects.check_object.Tie as tie
 
-object-fits-requires : tie.Need-object-fits-requires
-object-fits-requires c κs = search needs
-
-judge-requires : tie.Need-judge-requires
-judge-requires c κs = search needs
-
 returns : tie.Need-returns
 returns c =
     let start = c .before .before .before .before .before .before .before in
     λ p. c .judge .ensures ∙ ap (λ t. judged (start .args .at) (record { bound = true; typed = t; allowed = true })) (c .before .object-fits .ensures p)
 
 pub check-object-spec : {M : Type 1} → statement M
-check-object-spec =
-    tie.close
-    (tie.spec
-    object-fits-requires
-    judge-requires
-    returns)
+check-object-spec = tie.close (tie.spec (λ c κs. search needs) (λ c κs. search needs) returns)

@@ -40,6 +40,4 @@ returns c =
     c .type-field .ensures ∙ (ap (λ fs. fieldIn fs (2 * c .before .before .before .before .args .m + 1)) (c .before .type-fields .ensures) ∙ method-field (c .before .before .before .before .pre .0) (c .before .before .before .before .args .t .0) (c .before .before .before .before .pre .1) (2 * c .before .before .before .before .args .m + 1) (omega arith))
 
 pub method-type-spec : {M : Type 1} → statement M
-method-type-spec =
-    tie.close
-    (tie.spec type-fields-requires mul-type-field add-type-field type-field-requires returns)
+method-type-spec = tie.close (tie.spec type-fields-requires mul-type-field add-type-field type-field-requires returns)

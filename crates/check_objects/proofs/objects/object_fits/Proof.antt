@@ -15,22 +15,10 @@ use borrow.Author.Needs.{needs}
 use Rattle.check_objects.proofs.objects.object_fits.Statement.{statement}
 use Rattle.check_objects.proofs.objects.object_fits.Tie as tie
 
-own-type-requires : tie.Need-own-type-requires
-own-type-requires c κs = search needs
-
-own-descriptor-requires : tie.Need-own-descriptor-requires
-own-descriptor-requires c κs = search needs
-
-is-kind-requires : tie.Need-is-kind-requires
-is-kind-requires c κs = search needs
-
 returns : tie.Need-returns
 returns c =
     let start = c .before .before .before .before .before .before .before .before .before in
     λ p. first-fails _ _ _ (sym (kind-seen (start .pre .0 .types) (start .pre .2 .type) (c .before .is-kind .ensures) (c .before .before .own-descriptor .ensures)) ∙ not-true (c .before .is-kind .result) (c .if1 .taken))
-
-bodies-in-requires : tie.Need-bodies-in-requires
-bodies-in-requires c κs = search needs
 
 method-count-requires : tie.Need-method-count-requires
 method-count-requires c κs =
@@ -78,15 +66,5 @@ returns-3 c =
     λ p. f ∙ third-tells _ _ _ (o .object) (eq-eqb _ _ (n ∙ (sym (at-bodies-in .bodies-in .ensures) ∙ (c .before .if2 .left ∙ m))))
 
 pub object-fits-spec : {M : Type 1} → statement M
-object-fits-spec =
-    tie.close
-    (tie.spec
-    own-type-requires
-    own-descriptor-requires
-    is-kind-requires
-    returns
-    bodies-in-requires
-    method-count-requires
-    returns-2
-    bodies-fit-requires
-    returns-3)
+object-fits-spec = tie.close (tie.spec (λ c κs. search needs) (λ c κs. search needs) (λ c κs. search needs) returns (λ c κs. search needs)
+    method-count-requires returns-2 bodies-fit-requires returns-3)

@@ -7,42 +7,6 @@ use Rattle.check_rules.proofs.OnDescriptors.{at-field-typed, on-descriptors}
 use Rattle.check_objects.proofs.stacks.check_keep.Statement.{statement}
 use Rattle.check_objects.proofs.stacks.check_keep.Tie as tie
 
-own-type-requires : tie.Need-own-type-requires
-own-type-requires c κs = search needs
-
-descriptor-at-field-requires : tie.Need-descriptor-at-field-requires
-descriptor-at-field-requires c κs = search needs
-
-type-at-field-requires : tie.Need-type-at-field-requires
-type-at-field-requires c κs = search needs
-
-type-at-field-requires-2 : tie.Need-type-at-field-requires-2
-type-at-field-requires-2 c κs = search needs
-
-is-kind-requires : tie.Need-is-kind-requires
-is-kind-requires c κs = search needs
-
-first-type-requires : tie.Need-first-type-requires
-first-type-requires c κs = search needs
-
-same-type-requires : tie.Need-same-type-requires
-same-type-requires c κs = search needs
-
-same-type-requires-2 : tie.Need-same-type-requires-2
-same-type-requires-2 c κs = search needs
-
-all-three-requires : tie.Need-all-three-requires
-all-three-requires c κs = search needs
-
-second-domain-requires : tie.Need-second-domain-requires
-second-domain-requires c κs = search needs
-
-same-domain-requires : tie.Need-same-domain-requires
-same-domain-requires c κs = search needs
-
-judge-requires : tie.Need-judge-requires
-judge-requires c κs = search needs
-
 returns : tie.Need-returns
 unfolding words
 returns c =
@@ -59,19 +23,6 @@ returns c =
     λ Γ. c .judge .ensures ∙ simp (at-all-three .all-three .ensures, at-is-kind .is-kind .ensures, at-same-type .same-type .ensures, at-same-type2 .same-type2 .ensures, c .before .same-domain .ensures, at-first-type .first-type .ensures, c .before .before .second-domain .ensures, at-type-at-field2 .type-at-field2 .ensures .0, at-type-at-field .type-at-field .ensures .0, at-descriptor-at-field .descriptor-at-field .ensures, at-own-type .own-type .ensures) (on-descriptors (s .pre .0 .types) (s .pre .1) (s .args .at) TermKind.keep (record { context = Γ; dom = s .args .c .0 }) (at-field-typed (s .pre .0) (s .pre .2), (at-field-typed (s .pre .0) (s .pre .3), (at-field-typed (s .pre .0) (s .pre .4), tt))))
 
 pub check-keep-spec : {M : Type 1} → statement M
-check-keep-spec =
-    tie.close
-    (tie.spec
-    own-type-requires
-    descriptor-at-field-requires
-    type-at-field-requires
-    type-at-field-requires-2
-    is-kind-requires
-    first-type-requires
-    same-type-requires
-    same-type-requires-2
-    all-three-requires
-    second-domain-requires
-    same-domain-requires
-    judge-requires
-    returns)
+check-keep-spec = tie.close (tie.spec (λ c κs. search needs) (λ c κs. search needs) (λ c κs. search needs) (λ c κs. search needs)
+    (λ c κs. search needs) (λ c κs. search needs) (λ c κs. search needs) (λ c κs. search needs) (λ c κs. search needs) (λ c κs. search needs)
+    (λ c κs. search needs) (λ c κs. search needs) returns)

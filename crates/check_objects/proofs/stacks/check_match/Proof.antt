@@ -5,39 +5,6 @@ use Rattle.check_rules.proofs.OnDescriptors.{match-right}
 use Rattle.check_objects.proofs.stacks.check_match.Statement.{statement}
 use Rattle.check_objects.proofs.stacks.check_match.Tie as tie
 
-own-type-requires : tie.Need-own-type-requires
-own-type-requires c κs = search needs
-
-descriptor-at-field-requires : tie.Need-descriptor-at-field-requires
-descriptor-at-field-requires c κs = search needs
-
-type-at-field-requires : tie.Need-type-at-field-requires
-type-at-field-requires c κs = search needs
-
-type-at-field-requires-2 : tie.Need-type-at-field-requires-2
-type-at-field-requires-2 c κs = search needs
-
-entries-fit-requires : tie.Need-entries-fit-requires
-entries-fit-requires c κs = search needs
-
-is-kind-requires : tie.Need-is-kind-requires
-is-kind-requires c κs = search needs
-
-same-type-requires : tie.Need-same-type-requires
-same-type-requires c κs = search needs
-
-same-type-requires-2 : tie.Need-same-type-requires-2
-same-type-requires-2 c κs = search needs
-
-all-three-requires : tie.Need-all-three-requires
-all-three-requires c κs = search needs
-
-both-requires : tie.Need-both-requires
-both-requires c κs = search needs
-
-judge-requires : tie.Need-judge-requires
-judge-requires c κs = search needs
-
 returns : tie.Need-returns
 returns c =
     let at-same-type2 = c .before .before .before in
@@ -52,18 +19,6 @@ returns c =
     λ p. c .judge .ensures ∙ simp (c .before .both .ensures, c .before .before .all-three .ensures, at-is-kind .is-kind .ensures, at-same-type .same-type .ensures, at-same-type2 .same-type2 .ensures, at-entries-fit .entries-fit .ensures, at-type-at-field2 .type-at-field2 .ensures .0, at-type-at-field .type-at-field .ensures .0, at-descriptor-at-field .descriptor-at-field .ensures, at-own-type .own-type .ensures) (match-right (s .pre .0) (s .pre .1) (s .pre .2) (s .pre .3) (s .pre .4) (s .pre .5) (s .args .at) p)
 
 pub check-match-spec : {M : Type 1} → statement M
-check-match-spec =
-    tie.close
-    (tie.spec
-    own-type-requires
-    descriptor-at-field-requires
-    type-at-field-requires
-    type-at-field-requires-2
-    entries-fit-requires
-    is-kind-requires
-    same-type-requires
-    same-type-requires-2
-    all-three-requires
-    both-requires
-    judge-requires
-    returns)
+check-match-spec = tie.close (tie.spec (λ c κs. search needs) (λ c κs. search needs) (λ c κs. search needs) (λ c κs. search needs)
+    (λ c κs. search needs) (λ c κs. search needs) (λ c κs. search needs) (λ c κs. search needs) (λ c κs. search needs) (λ c κs. search needs)
+    (λ c κs. search needs) returns)

@@ -5,15 +5,6 @@ use Rattle.check_objects.proofs.stacks.check_stack.Statement.{statement
 use Rattle.check_objects.proofs.stacks.check_stack.Tie as tie
 use mathlib.Core.Path.{_∙_}
 
-own-descriptor-requires : tie.Need-own-descriptor-requires
-own-descriptor-requires c κs = search needs
-
-is-kind-requires : tie.Need-is-kind-requires
-is-kind-requires c κs = search needs
-
-judge-requires : tie.Need-judge-requires
-judge-requires c κs = search needs
-
 returns : tie.Need-returns
 returns c =
     let s = c .before .before .before .before .before .before in
@@ -21,4 +12,4 @@ returns c =
 
 pub check-stack-spec : {M : Type 1} → statement M
 check-stack-spec =
-    tie.close (tie.spec own-descriptor-requires is-kind-requires judge-requires returns)
+    tie.close (tie.spec (λ c κs. search needs) (λ c κs. search needs) (λ c κs. search needs) returns)

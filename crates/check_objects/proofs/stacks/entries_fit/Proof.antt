@@ -33,20 +33,11 @@ Inv-loop image terms descriptors fields n i₀ i = (i ≤ n) × (allOf (cutOf (r
 abbrev μ-loop : tie.MeasureT-loop
 μ-loop image terms descriptors fields n i₀ i = n - i
 
-entries-in-requires : tie.Need-entries-in-requires Inv-loop μ-loop
-entries-in-requires c κs = search needs
-
 loop-holds : tie.Need-loop-holds Inv-loop μ-loop
 loop-holds c =
     let s = c .before .before .before .before .before in
     let e = at-first (now (s .args .fields)) (c .entries-in .result) (c .entries-in .ensures) in
     rw (← e) (search needs, refl)
-
-add-field : tie.Need-add-field Inv-loop μ-loop
-add-field c = search needs
-
-field-requires : tie.Need-field-requires Inv-loop μ-loop
-field-requires c κs = search needs
 
 entry-fits-requires : tie.Need-entry-fits-requires Inv-loop μ-loop
 entry-fits-requires c κs =
@@ -68,12 +59,6 @@ returns c =
     let ok = cutOf (recordsOf (now (s .args .image))) (now (s .args .descriptors)) in
     let e = entry-decides ok (now (s .args .fields)) (n .entries-in .result) (l .i) (g .before .field .result) (g .entry-fits .result) (t .loop-test .taken) (g .before .field .ensures) (g .entry-fits .ensures) in
     sym (rw (not-true (g .entry-fits .result) (c .if1 .taken)) at e) ∙ l .inv .1
-
-add-i : tie.Need-add-i Inv-loop μ-loop
-add-i c = search needs
-
-loop-less : tie.Need-loop-less Inv-loop μ-loop
-loop-less c = search needs
 
 loop-again : tie.Need-loop-again Inv-loop μ-loop
 loop-again c =
@@ -97,18 +82,5 @@ returns-2 c =
     sym (ap (λ es. allOf (cutOf (recordsOf (now (s .args .image))) (now (s .args .descriptors))) es) z) ∙ l .inv .1
 
 pub entries-fit-spec : {M : Type 1} → statement M
-entries-fit-spec =
-    tie.close
-    (tie.spec
-    Inv-loop
-    μ-loop
-    entries-in-requires
-    loop-holds
-    add-field
-    field-requires
-    entry-fits-requires
-    returns
-    add-i
-    loop-less
-    loop-again
-    returns-2)
+entries-fit-spec = tie.close (tie.spec Inv-loop μ-loop (λ c κs. search needs) loop-holds (λ c. search needs) (λ c κs. search needs)
+    entry-fits-requires returns (λ c. search needs) (λ c. search needs) loop-again returns-2)

@@ -11,19 +11,10 @@ returns : tie.Need-returns
 unfolding allOf
 returns c = rw (c .if1 .taken) refl
 
-entry-term-requires : tie.Need-entry-term-requires
-entry-term-requires c κs = search needs
-
 stated-type-requires : tie.Need-stated-type-requires
 stated-type-requires c κs =
     let s = c .before .before .before .before .before in
     (s .pre .0 .terms, let e = c .entry-term .ensures in let h = s .pre .1 in omega arith)
-
-type-descriptor-requires : tie.Need-type-descriptor-requires
-type-descriptor-requires c κs = search needs
-
-is-kind-requires : tie.Need-is-kind-requires
-is-kind-requires c κs = search needs
 
 returns-2 : tie.Need-returns-2
 unfolding allOf
@@ -34,12 +25,4 @@ returns-2 c =
     rw (e .entry-term .ensures, c .is-kind .ensures, d .type-descriptor .ensures, t .stated-type .ensures .0) (sym (and-true _))
 
 pub entry-fits-spec : {M : Type 1} → statement M
-entry-fits-spec =
-    tie.close
-    (tie.spec
-    returns
-    entry-term-requires
-    stated-type-requires
-    type-descriptor-requires
-    is-kind-requires
-    returns-2)
+entry-fits-spec = tie.close (tie.spec returns (λ c κs. search needs) stated-type-requires (λ c κs. search needs) (λ c κs. search needs) returns-2)

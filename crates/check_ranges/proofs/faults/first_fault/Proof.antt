@@ -6,26 +6,14 @@ use borrow.Author.Needs.{needs}
 use Rattle.check_ranges.proofs.faults.first_fault.Statement.{statement}
 use Rattle.check_ranges.proofs.faults.first_fault.Tie as tie
 
-add-right-length : tie.Need-add-right-length
-add-right-length c = search needs
-
-right-length-requires : tie.Need-right-length-requires
-right-length-requires c κs = search needs
-
 returns : tie.Need-returns
 returns c = fault4 _ _ _ _ (no-of _ _ (c .before .right-length .ensures) (c .if1 .taken))
-
-in-order-requires : tie.Need-in-order-requires
-in-order-requires c κs = search needs
 
 returns-2 : tie.Need-returns-2
 returns-2 c =
     let o = c .before in
     let n = o .before in
     fault5 _ _ _ _ (yes-of _ _ (n .before .right-length .ensures) (n .if1 .left)) (no-of _ _ (o .in-order .ensures) (c .if2 .taken))
-
-has-capacity-requires : tie.Need-has-capacity-requires
-has-capacity-requires c κs = search needs
 
 returns-3 : tie.Need-returns-3
 returns-3 c =
@@ -55,16 +43,5 @@ returns-5 c =
     no-fault _ _ _ _ (yes-of _ _ (n .before .right-length .ensures) (n .if1 .left)) (yes-of _ _ (o .before .in-order .ensures) (o .if2 .left)) (yes-of _ _ (h .before .has-capacity .ensures) (h .if3 .left)) (yes-of _ _ (c .before .in-range .ensures) (c .if4 .left))
 
 pub first-fault-spec : {M : Type 1} → statement M
-first-fault-spec =
-    tie.close
-    (tie.spec
-    add-right-length
-    right-length-requires
-    returns
-    in-order-requires
-    returns-2
-    has-capacity-requires
-    returns-3
-    in-range-requires
-    returns-4
-    returns-5)
+first-fault-spec = tie.close (tie.spec (λ c. search needs) (λ c κs. search needs) returns (λ c κs. search needs) returns-2 (λ c κs. search needs)
+    returns-3 in-range-requires returns-4 returns-5)

@@ -5,14 +5,8 @@ use borrow.Author.Needs.{needs}
 use Rattle.check_ranges.proofs.faults.has_capacity.Statement.{statement}
 use Rattle.check_ranges.proofs.faults.has_capacity.Tie as tie
 
-is-term-requires : tie.Need-is-term-requires
-is-term-requires c κs = search needs
-
 returns : tie.Need-returns
 returns c = simp (sym (c .before .before .is-term .ensures) ∙ c .before .if1 .taken)
-
-section-of-requires : tie.Need-section-of-requires
-section-of-requires c κs = search needs
 
 returns-2 : tie.Need-returns-2
 returns-2 c = simp (sym (c .before .before .before .before .is-term .ensures) ∙ c .before .before .before .if1 .left, eq-eqb _ _ (sym (c .before .before .section-of .ensures) ∙ c .before .if2 .taken))
@@ -22,4 +16,4 @@ returns-3 c = simp (sym (c .before .before .before .before .is-term .ensures) �
 
 pub has-capacity-spec : {M : Type 1} → statement M
 has-capacity-spec =
-    tie.close (tie.spec is-term-requires returns section-of-requires returns-2 returns-3)
+    tie.close (tie.spec (λ c κs. search needs) returns (λ c κs. search needs) returns-2 returns-3)

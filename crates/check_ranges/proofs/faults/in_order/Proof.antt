@@ -7,14 +7,8 @@ use borrow.Author.Needs.{needs}
 use Rattle.check_ranges.proofs.faults.in_order.Statement.{statement}
 use Rattle.check_ranges.proofs.faults.in_order.Tie as tie
 
-is-term-requires : tie.Need-is-term-requires
-is-term-requires c κs = search needs
-
 returns : tie.Need-returns
 returns c = simp (sym (c .before .is-term .ensures) ∙ c .if1 .taken)
-
-section-of-requires : tie.Need-section-of-requires
-section-of-requires c κs = search needs
 
 returns-2 : tie.Need-returns-2
 returns-2 c = simp (sym (c .before .before .before .before .is-term .ensures) ∙ c .before .before .before .if1 .left, eq-eqb _ _ (sym (c .before .before .section-of .ensures) ∙ c .before .if2 .taken))
@@ -34,4 +28,4 @@ returns-4 c = simp (sym (c .before .before .before .before .before .is-term .ens
 
 pub in-order-spec : {M : Type 1} → statement M
 in-order-spec =
-    tie.close (tie.spec is-term-requires returns section-of-requires returns-2 returns-3 returns-4)
+    tie.close (tie.spec (λ c κs. search needs) returns (λ c κs. search needs) returns-2 returns-3 returns-4)

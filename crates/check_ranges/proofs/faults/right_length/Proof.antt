@@ -9,17 +9,11 @@ use borrow.Author.Needs.{needs}
 use Rattle.check_ranges.proofs.faults.right_length.Statement.{statement}
 use Rattle.check_ranges.proofs.faults.right_length.Tie as tie
 
-least-length-requires : tie.Need-least-length-requires
-least-length-requires c κs = search needs
-
 returns : tie.Need-returns
 returns c = let s = c .before .before in least-fits (s .args .code) (s .args .len) (s .pre) (c .if1 .taken ∙ c .before .least-length .ensures)
 
 returns-2 : tie.Need-returns-2
 returns-2 c = let l = c .before .before in let s = l .before in short-fails (s .args .code) (s .args .len) (s .pre) (omega (arith, l .least-length .ensures))
-
-group-count-requires : tie.Need-group-count-requires
-group-count-requires c κs = search needs
 
 returns-3 : tie.Need-returns-3
 returns-3 c =
@@ -27,9 +21,6 @@ returns-3 c =
     let l = g .before .before .before in
     let s = l .before in
     longer-fits (s .args .code) (s .args .len) (s .pre) (omega (arith, l .least-length .ensures, g .before .before .if1 .left)) (sym (g .group-count .ensures) ∙ c .if3 .taken)
-
-groups-fill-requires : tie.Need-groups-fill-requires
-groups-fill-requires c κs = search needs
 
 returns-4 : tie.Need-returns-4
 returns-4 c =
@@ -40,13 +31,4 @@ returns-4 c =
     c .groups-fill .ensures ∙ (ap (λ m. groupsFill (s .args .code) (s .args .len - m)) e ∙ group-fits (s .args .code) (s .args .len) (s .pre) (omega (arith, e, g .before .before .if1 .left)) (let z : groupOf (s .args .code) ≡ 0 → ⊥ = λ z. c .before .if3 .left (g .group-count .ensures ∙ z) in omega arith))
 
 pub right-length-spec : {M : Type 1} → statement M
-right-length-spec =
-    tie.close
-    (tie.spec
-    least-length-requires
-    returns
-    returns-2
-    group-count-requires
-    returns-3
-    groups-fill-requires
-    returns-4)
+right-length-spec = tie.close (tie.spec (λ c κs. search needs) returns returns-2 (λ c κs. search needs) returns-3 (λ c κs. search needs) returns-4)

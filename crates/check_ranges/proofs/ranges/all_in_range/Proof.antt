@@ -181,22 +181,6 @@ returns-3 c =
     last-part c ∙ third-left _ _ _ (yes-of _ _ (first-part f) (q .before .before .before .before .if1 .left)) (yes-of _ _ (group-part q) (e .if2 .left))
 
 pub all-in-range-spec : {M : Type 1} → statement M
-all-in-range-spec =
-    tie.close
-    (tie.spec
-    first-count-requires
-    field-classes-requires
-    fields-in-range-requires
-    returns
-    group-count-requires
-    group-times-requires
-    classes-past-requires
-    groups-in-range-requires
-    returns-2
-    mul-few-in-range
-    add-few-in-range
-    last-count-requires
-    add-classes-past
-    classes-past-requires-2
-    few-in-range-requires
-    returns-3)
+all-in-range-spec = tie.close (tie.spec first-count-requires field-classes-requires fields-in-range-requires returns group-count-requires
+    group-times-requires classes-past-requires groups-in-range-requires returns-2 mul-few-in-range add-few-in-range last-count-requires
+    add-classes-past classes-past-requires-2 few-in-range-requires returns-3)

@@ -19,21 +19,12 @@ abbrev μ-loop : tie.MeasureT-loop
 loop-holds : tie.Need-loop-holds Inv-loop μ-loop
 loop-holds c = refl
 
-names-term-requires : tie.Need-names-term-requires Inv-loop μ-loop
-names-term-requires c κs = search needs
-
 returns : tie.Need-returns Inv-loop μ-loop
 returns c =
     let t = c .before in
     let l = t .before .before in
     let a = l .before .before .args in
     sym (l .loop .inv ∙ child-stop (now (a .fields)) (a .counts) _ (l .loop .i) (search needs) (no-of _ _ (t .names-term .ensures) (c .if1 .taken)))
-
-add-i : tie.Need-add-i Inv-loop μ-loop
-add-i c = search needs
-
-loop-less : tie.Need-loop-less Inv-loop μ-loop
-loop-less c = search needs
 
 loop-again : tie.Need-loop-again Inv-loop μ-loop
 loop-again c =
@@ -50,15 +41,5 @@ returns-2 c =
     sym (l .loop .inv ∙ rw e)
 
 pub children-in-range-spec : {M : Type 1} → statement M
-children-in-range-spec =
-    tie.close
-    (tie.spec
-    Inv-loop
-    μ-loop
-    loop-holds
-    names-term-requires
-    returns
-    add-i
-    loop-less
-    loop-again
-    returns-2)
+children-in-range-spec = tie.close (tie.spec Inv-loop μ-loop loop-holds (λ c κs. search needs) returns (λ c. search needs) (λ c. search needs)
+    loop-again returns-2)

@@ -17,12 +17,6 @@ abbrev μ-loop : tie.MeasureT-loop
 loop-holds : tie.Need-loop-holds Inv-loop μ-loop
 loop-holds c = let e : c .args .n - 0 ≡ c .args .n = omega arith in (search needs, rw e)
 
-add-i : tie.Need-add-i Inv-loop μ-loop
-add-i c = search needs
-
-loop-less : tie.Need-loop-less Inv-loop μ-loop
-loop-less c = search needs
-
 loop-again : tie.Need-loop-again Inv-loop μ-loop
 loop-again c = let l = c .before in (search needs, l .loop .inv .1 ∙ past-next _ (l .loop .i) (l .loop .rest) (search needs))
 
@@ -35,4 +29,4 @@ returns c =
 
 pub classes-past-spec : {M : Type 1} → statement M
 classes-past-spec =
-    tie.close (tie.spec Inv-loop μ-loop loop-holds add-i loop-less loop-again returns)
+    tie.close (tie.spec Inv-loop μ-loop loop-holds (λ c. search needs) (λ c. search needs) loop-again returns)

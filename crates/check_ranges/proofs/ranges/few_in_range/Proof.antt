@@ -12,21 +12,9 @@ returns : tie.Need-returns
 unfolding rangesFrom
 returns c = rw (c .if1 .taken)
 
-in-class-requires : tie.Need-in-class-requires
-in-class-requires c κs = search needs
-
 returns-2 : tie.Need-returns-2
 unfolding rangesFrom
 returns-2 c = simp (c .if2 .taken, c .before .in-class .ensures, and-true)
-
-add-in-class : tie.Need-add-in-class
-add-in-class c = search needs
-
-in-class-requires-2 : tie.Need-in-class-requires-2
-in-class-requires-2 c κs = search needs
-
-both-requires : tie.Need-both-requires
-both-requires c κs = search needs
 
 returns-3 : tie.Need-returns-3
 unfolding rangesFrom
@@ -38,13 +26,5 @@ returns-3 c =
     simp (e, c .both .ensures, f .in-class .ensures, t .in-class2 .ensures, add-one, and-true)
 
 pub few-in-range-spec : {M : Type 1} → statement M
-few-in-range-spec =
-    tie.close
-    (tie.spec
-    returns
-    in-class-requires
-    returns-2
-    add-in-class
-    in-class-requires-2
-    both-requires
+few-in-range-spec = tie.close (tie.spec returns (λ c κs. search needs) returns-2 (λ c. search needs) (λ c κs. search needs) (λ c κs. search needs)
     returns-3)

@@ -16,17 +16,11 @@ Inv-loop fields from count classes counts end rest₀ i₀ rest i = (i ≤ end) 
 abbrev μ-loop : tie.MeasureT-loop
 μ-loop fields from count classes counts end rest₀ i₀ rest i = end - i
 
-add-end : tie.Need-add-end Inv-loop μ-loop
-add-end c = search needs
-
 loop-holds : tie.Need-loop-holds Inv-loop μ-loop
 loop-holds c =
     let a = c .before .args in
     let e : a .from + a .count - a .from ≡ a .count = omega arith in
     (search needs, rw e)
-
-in-class-requires : tie.Need-in-class-requires Inv-loop μ-loop
-in-class-requires c κs = search needs
 
 returns : tie.Need-returns Inv-loop μ-loop
 returns c =
@@ -34,12 +28,6 @@ returns c =
     let l = i .before .before in
     let a = l .before .before .args in
     sym (l .loop .inv .1 ∙ range-stop (now (a .fields)) (a .counts) _ (l .loop .i) (l .loop .rest) (search needs) (no-of _ _ (i .in-class .ensures) (c .if1 .taken)))
-
-add-i : tie.Need-add-i Inv-loop μ-loop
-add-i c = search needs
-
-loop-less : tie.Need-loop-less Inv-loop μ-loop
-loop-less c = search needs
 
 loop-again : tie.Need-loop-again Inv-loop μ-loop
 loop-again c =
@@ -57,16 +45,5 @@ returns-2 c =
     sym (l .loop .inv .1 ∙ rw e)
 
 pub fields-in-range-spec : {M : Type 1} → statement M
-fields-in-range-spec =
-    tie.close
-    (tie.spec
-    Inv-loop
-    μ-loop
-    add-end
-    loop-holds
-    in-class-requires
-    returns
-    add-i
-    loop-less
-    loop-again
-    returns-2)
+fields-in-range-spec = tie.close (tie.spec Inv-loop μ-loop (λ c. search needs) loop-holds (λ c κs. search needs) returns (λ c. search needs)
+    (λ c. search needs) loop-again returns-2)

@@ -41,12 +41,6 @@ add-i c =
     let h = l .loop .inv .0 in
     search needs
 
-sub-left : tie.Need-sub-left Inv-loop μ-loop
-sub-left c = search needs
-
-loop-less : tie.Need-loop-less Inv-loop μ-loop
-loop-less c = search needs
-
 loop-again : tie.Need-loop-again Inv-loop μ-loop
 loop-again c =
     let t = c .before in
@@ -64,16 +58,5 @@ returns-2 c =
     sym (l .loop .inv .1 ∙ rw e)
 
 pub groups-in-range-spec : {M : Type 1} → statement M
-groups-in-range-spec =
-    tie.close
-    (tie.spec
-    Inv-loop
-    μ-loop
-    loop-holds
-    few-in-range-requires
-    returns
-    add-i
-    sub-left
-    loop-less
-    loop-again
-    returns-2)
+groups-in-range-spec = tie.close (tie.spec Inv-loop μ-loop loop-holds few-in-range-requires returns add-i (λ c. search needs) (λ c. search needs)
+    loop-again returns-2)

@@ -4,24 +4,6 @@ use borrow.Author.Needs.{needs}
 use Rattle.check_ranges.proofs.ranges.in_class.Statement.{statement}
 use Rattle.check_ranges.proofs.ranges.in_class.Tie as tie
 
-names-type-requires : tie.Need-names-type-requires
-names-type-requires c κs = search needs
-
-names-domain-requires : tie.Need-names-domain-requires
-names-domain-requires c κs = search needs
-
-below-requires : tie.Need-below-requires
-below-requires c κs = search needs
-
-below-requires-2 : tie.Need-below-requires-2
-below-requires-2 c κs = search needs
-
-names-term-requires : tie.Need-names-term-requires
-names-term-requires c κs = search needs
-
-names-entry-requires : tie.Need-names-entry-requires
-names-entry-requires c κs = search needs
-
 returns : tie.Need-returns
 returns c = simp (c .before .match .keys1, c .names-type .ensures)
 
@@ -44,19 +26,5 @@ returns-7 : tie.Need-returns-7
 returns-7 c = simp (ne-eqb _ _ (c .before .match .rest .0 .0 .0 .0 .0 .1), ne-eqb _ _ (c .before .match .rest .0 .0 .0 .0 .1), ne-eqb _ _ (c .before .match .rest .0 .0 .0 .1), ne-eqb _ _ (c .before .match .rest .0 .0 .1), ne-eqb _ _ (c .before .match .rest .0 .1), ne-eqb _ _ (c .before .match .rest .1), c .names-entry .ensures)
 
 pub in-class-spec : {M : Type 1} → statement M
-in-class-spec =
-    tie.close
-    (tie.spec
-    names-type-requires
-    names-domain-requires
-    below-requires
-    below-requires-2
-    names-term-requires
-    names-entry-requires
-    returns
-    returns-2
-    returns-3
-    returns-4
-    returns-5
-    returns-6
-    returns-7)
+in-class-spec = tie.close (tie.spec (λ c κs. search needs) (λ c κs. search needs) (λ c κs. search needs) (λ c κs. search needs) (λ c κs. search needs)
+    (λ c κs. search needs) returns returns-2 returns-3 returns-4 returns-5 returns-6 returns-7)

@@ -19,9 +19,6 @@ names-type-requires c κs = let k = c in omega (arith, first-held _ _ _ (k .matc
 names-domain-requires : tie.Need-names-domain-requires
 names-domain-requires c κs = let k = c .before in omega (arith, first-held _ _ _ (k .match .keys2) (k .before .before .pre .1))
 
-both-requires : tie.Need-both-requires
-both-requires c κs = search needs
-
 names-type-requires-2 : tie.Need-names-type-requires-2
 names-type-requires-2 c κs = let k = c in omega (arith, first-held _ _ _ (k .match .keys3) (k .before .before .pre .1))
 
@@ -31,26 +28,14 @@ names-domain-requires-2 c κs = let k = c .before in omega (arith, first-held _ 
 names-type-requires-3 : tie.Need-names-type-requires-3
 names-type-requires-3 c κs = let k = c .before .before in omega (arith, first-held _ _ _ (k .match .keys3) (k .before .before .pre .1))
 
-both-requires-2 : tie.Need-both-requires-2
-both-requires-2 c κs = search needs
-
-both-requires-3 : tie.Need-both-requires-3
-both-requires-3 c κs = search needs
-
 names-type-requires-4 : tie.Need-names-type-requires-4
 names-type-requires-4 c κs = let k = c in omega (arith, first-held _ _ _ (k .match .keys4) (k .before .before .pre .1))
 
 names-type-requires-5 : tie.Need-names-type-requires-5
 names-type-requires-5 c κs = let k = c .before in omega (arith, first-held _ _ _ (k .match .keys4) (k .before .before .pre .1))
 
-both-requires-4 : tie.Need-both-requires-4
-both-requires-4 c κs = search needs
-
 names-domain-requires-3 : tie.Need-names-domain-requires-3
 names-domain-requires-3 c κs = let k = c in omega (arith, first-held _ _ _ (k .match .keys5) (k .before .before .pre .1))
-
-all-in-range-requires : tie.Need-all-in-range-requires
-all-in-range-requires c κs = search needs
 
 returns : tie.Need-returns
 unfolding all rangesFrom groupsFrom classesPast classNumbers
@@ -74,29 +59,7 @@ returns-5 : tie.Need-returns-5
 unfolding all rangesFrom groupsFrom classesPast
 returns-5 c = simp (c .before .match .keys5, c .names-domain3 .ensures, and-true)
 
-returns-6 : tie.Need-returns-6
-returns-6 c = search needs
-
 pub in-range-spec : {M : Type 1} → statement M
-in-range-spec =
-    tie.close
-    (tie.spec
-    names-type-requires
-    names-domain-requires
-    both-requires
-    names-type-requires-2
-    names-domain-requires-2
-    names-type-requires-3
-    both-requires-2
-    both-requires-3
-    names-type-requires-4
-    names-type-requires-5
-    both-requires-4
-    names-domain-requires-3
-    all-in-range-requires
-    returns
-    returns-2
-    returns-3
-    returns-4
-    returns-5
-    returns-6)
+in-range-spec = tie.close (tie.spec names-type-requires names-domain-requires (λ c κs. search needs) names-type-requires-2 names-domain-requires-2
+    names-type-requires-3 (λ c κs. search needs) (λ c κs. search needs) names-type-requires-4 names-type-requires-5 (λ c κs. search needs)
+    names-domain-requires-3 (λ c κs. search needs) returns returns-2 returns-3 returns-4 returns-5 (λ c. search needs))

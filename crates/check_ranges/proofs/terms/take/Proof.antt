@@ -52,12 +52,6 @@ take-group-requires c κs =
     let p = k .before .before .before .pre in
     (omega (arith, first-held _ _ _ (k .match .keys7) (p .1)), p .2, λ h. p .3 (sym (pointcut-range _ _ _ (k .match .keys7)) ∙ h), p .4, p .5)
 
-take-any-requires : tie.Need-take-any-requires
-take-any-requires c κs = search needs
-
-same-length : tie.Need-same-length
-same-length c = search needs
-
 returns : tie.Need-returns
 unfolding classNumbers
 returns c =
@@ -65,43 +59,25 @@ returns c =
     let has = ⊎-elim (unit-has _ _ _) (⊎-elim (var-has _ _ _) (number-has _ _ _)) (q .before .before .match .keys1) in
     taken has _ _ _ (q .take-leaf .ensures)
 
-same-length-2 : tie.Need-same-length-2
-same-length-2 c = search needs
-
 returns-2 : tie.Need-returns-2
 unfolding classNumbers
 returns-2 c = let q = c .before .before in taken (one-has _ _ _ (q .before .before .match .keys2)) _ _ _ (q .take-one .ensures)
-
-same-length-3 : tie.Need-same-length-3
-same-length-3 c = search needs
 
 returns-3 : tie.Need-returns-3
 unfolding classNumbers
 returns-3 c = let q = c .before .before in taken (two-has _ _ _ (q .before .before .match .keys3)) _ _ _ (q .take-two .ensures)
 
-same-length-4 : tie.Need-same-length-4
-same-length-4 c = search needs
-
 returns-4 : tie.Need-returns-4
 unfolding classNumbers
 returns-4 c = let q = c .before .before in taken (three-has _ _ _ (q .before .before .match .keys4)) _ _ _ (q .take-three .ensures)
-
-same-length-5 : tie.Need-same-length-5
-same-length-5 c = search needs
 
 returns-5 : tie.Need-returns-5
 unfolding classNumbers
 returns-5 c = let q = c .before .before in taken (arith-has _ _ _ (q .before .before .match .keys5)) _ _ _ (q .take-operation .ensures)
 
-same-length-6 : tie.Need-same-length-6
-same-length-6 c = search needs
-
 returns-6 : tie.Need-returns-6
 unfolding classNumbers
 returns-6 c = let q = c .before .before in taken (lower-has _ _ _ (q .before .before .match .keys6)) _ _ _ (q .take-lowered .ensures)
-
-same-length-7 : tie.Need-same-length-7
-same-length-7 c = search needs
 
 returns-7 : tie.Need-returns-7
 unfolding classNumbers
@@ -109,37 +85,8 @@ returns-7 c =
     let q = c .before .before in
     (q .take-group .ensures .0 ∙ pointcut-range _ _ _ (q .before .before .match .keys7), q .take-group .ensures .1)
 
-same-length-8 : tie.Need-same-length-8
-same-length-8 c = search needs
-
-returns-8 : tie.Need-returns-8
-returns-8 c = search needs
-
 pub take-spec : {M : Type 1} → statement M
-take-spec =
-    tie.close
-    (tie.spec
-    take-leaf-requires
-    take-one-requires
-    take-two-requires
-    take-three-requires
-    take-operation-requires
-    take-lowered-requires
-    take-group-requires
-    take-any-requires
-    same-length
-    returns
-    same-length-2
-    returns-2
-    same-length-3
-    returns-3
-    same-length-4
-    returns-4
-    same-length-5
-    returns-5
-    same-length-6
-    returns-6
-    same-length-7
-    returns-7
-    same-length-8
-    returns-8)
+take-spec = tie.close (tie.spec take-leaf-requires take-one-requires take-two-requires take-three-requires take-operation-requires
+    take-lowered-requires take-group-requires (λ c κs. search needs) (λ c. search needs) returns (λ c. search needs) returns-2 (λ c. search needs)
+    returns-3 (λ c. search needs) returns-4 (λ c. search needs) returns-5 (λ c. search needs) returns-6 (λ c. search needs) returns-7
+    (λ c. search needs) (λ c. search needs))

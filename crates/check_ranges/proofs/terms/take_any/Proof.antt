@@ -6,12 +6,6 @@ use borrow.Author.Needs.{needs}
 use Rattle.check_ranges.proofs.terms.take_any.Statement.{statement}
 use Rattle.check_ranges.proofs.terms.take_any.Tie as tie
 
-all-in-range-requires : tie.Need-all-in-range-requires
-all-in-range-requires c κs = search needs
-
-next-term-requires : tie.Need-next-term-requires
-next-term-requires c κs = search needs
-
 enter-children-requires : tie.Need-enter-children-requires
 enter-children-requires c κs =
     let n = c .before in
@@ -20,9 +14,6 @@ enter-children-requires c κs =
     let p = a .before .before .before .pre in
     let l = p .5 in
     (p .2, omega (arith, n .next-term .ensures), lower-up _ _ _ (omega arith) (p .3 (sym (a .all-in-range .ensures) ∙ t .if1 .taken)))
-
-same-length : tie.Need-same-length
-same-length c = search needs
 
 returns : tie.Need-returns
 returns c =
@@ -35,12 +26,4 @@ returns-2 : tie.Need-returns-2
 returns-2 c = (c .before .all-in-range .ensures, rw (c .if1 .left) refl)
 
 pub take-any-spec : {M : Type 1} → statement M
-take-any-spec =
-    tie.close
-    (tie.spec
-    all-in-range-requires
-    next-term-requires
-    enter-children-requires
-    same-length
-    returns
-    returns-2)
+take-any-spec = tie.close (tie.spec (λ c κs. search needs) (λ c κs. search needs) enter-children-requires (λ c. search needs) returns returns-2)

@@ -6,18 +6,6 @@ use borrow.Author.Needs.{needs}
 use Rattle.check_ranges.proofs.terms.take_group.Statement.{statement}
 use Rattle.check_ranges.proofs.terms.take_group.Tie as tie
 
-names-type-requires : tie.Need-names-type-requires
-names-type-requires c κs = search needs
-
-children-in-range-requires : tie.Need-children-in-range-requires
-children-in-range-requires c κs = search needs
-
-both-requires : tie.Need-both-requires
-both-requires c κs = search needs
-
-next-term-requires : tie.Need-next-term-requires
-next-term-requires c κs = search needs
-
 enter-children-requires : tie.Need-enter-children-requires
 enter-children-requires c κs =
     let n = c .before in
@@ -29,9 +17,6 @@ enter-children-requires c κs =
     let same = rw (o .both .ensures, r .children-in-range .ensures, k .names-type .ensures) at (t .if1 .taken) in
     let l = p .4 in
     (p .1, omega (arith, n .next-term .ensures), lower-up _ _ _ (omega arith) (p .2 same))
-
-same-length : tie.Need-same-length
-same-length c = search needs
 
 returns : tie.Need-returns
 returns c =
@@ -49,14 +34,5 @@ returns-2 c =
     (rw (o .both .ensures, r .children-in-range .ensures, r .before .names-type .ensures) refl, rw (c .if1 .left) refl)
 
 pub take-group-spec : {M : Type 1} → statement M
-take-group-spec =
-    tie.close
-    (tie.spec
-    names-type-requires
-    children-in-range-requires
-    both-requires
-    next-term-requires
-    enter-children-requires
-    same-length
-    returns
-    returns-2)
+take-group-spec = tie.close (tie.spec (λ c κs. search needs) (λ c κs. search needs) (λ c κs. search needs) (λ c κs. search needs)
+    enter-children-requires (λ c. search needs) returns returns-2)

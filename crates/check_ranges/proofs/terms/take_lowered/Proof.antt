@@ -6,27 +6,6 @@ use borrow.Author.Needs.{needs}
 use Rattle.check_ranges.proofs.terms.take_lowered.Statement.{statement}
 use Rattle.check_ranges.proofs.terms.take_lowered.Tie as tie
 
-names-type-requires : tie.Need-names-type-requires
-names-type-requires c κs = search needs
-
-names-domain-requires : tie.Need-names-domain-requires
-names-domain-requires c κs = search needs
-
-names-term-requires : tie.Need-names-term-requires
-names-term-requires c κs = search needs
-
-both-requires : tie.Need-both-requires
-both-requires c κs = search needs
-
-both-requires-2 : tie.Need-both-requires-2
-both-requires-2 c κs = search needs
-
-next-term-requires : tie.Need-next-term-requires
-next-term-requires c κs = search needs
-
-term-field-requires : tie.Need-term-field-requires
-term-field-requires c κs = search needs
-
 enter-one-requires : tie.Need-enter-one-requires
 enter-one-requires c κs =
     let n = c .before in
@@ -40,9 +19,6 @@ enter-one-requires c κs =
     let y1 = both-told (p3 .names-type .result) (p0 .both .result) (o .both2 .ensures) (t .if1 .taken) in
     let y0 = both-told (p2 .names-domain .result) (p1 .names-term .result) (p0 .both .ensures) (y1 .1) in
     (omega (arith, n .next-term .ensures), child-told (p1 .names-term .ensures) (y0 .1) (c .term-field .ensures) (s .pre .2))
-
-same-length : tie.Need-same-length
-same-length c = search needs
 
 returns : tie.Need-returns
 returns c =
@@ -66,17 +42,5 @@ returns-2 c =
     (rw (o .both2 .ensures, p0 .both .ensures, p1 .names-term .ensures, p2 .names-domain .ensures, p3 .names-type .ensures) refl, rw (c .if1 .left) refl)
 
 pub take-lowered-spec : {M : Type 1} → statement M
-take-lowered-spec =
-    tie.close
-    (tie.spec
-    names-type-requires
-    names-domain-requires
-    names-term-requires
-    both-requires
-    both-requires-2
-    next-term-requires
-    term-field-requires
-    enter-one-requires
-    same-length
-    returns
-    returns-2)
+take-lowered-spec = tie.close (tie.spec (λ c κs. search needs) (λ c κs. search needs) (λ c κs. search needs) (λ c κs. search needs)
+    (λ c κs. search needs) (λ c κs. search needs) (λ c κs. search needs) enter-one-requires (λ c. search needs) returns returns-2)

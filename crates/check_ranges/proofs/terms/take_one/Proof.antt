@@ -6,21 +6,6 @@ use borrow.Author.Needs.{needs}
 use Rattle.check_ranges.proofs.terms.take_one.Statement.{statement}
 use Rattle.check_ranges.proofs.terms.take_one.Tie as tie
 
-names-type-requires : tie.Need-names-type-requires
-names-type-requires c κs = search needs
-
-names-term-requires : tie.Need-names-term-requires
-names-term-requires c κs = search needs
-
-both-requires : tie.Need-both-requires
-both-requires c κs = search needs
-
-next-term-requires : tie.Need-next-term-requires
-next-term-requires c κs = search needs
-
-term-field-requires : tie.Need-term-field-requires
-term-field-requires c κs = search needs
-
 enter-one-requires : tie.Need-enter-one-requires
 enter-one-requires c κs =
     let n = c .before in
@@ -32,9 +17,6 @@ enter-one-requires c κs =
     let y0 = both-told (p1 .names-type .result) (p0 .names-term .result) (o .both .ensures) (t .if1 .taken) in
     let l = s .pre .2 in
     (omega (arith, n .next-term .ensures), child-told (p0 .names-term .ensures) (y0 .1) (c .term-field .ensures) l)
-
-same-length : tie.Need-same-length
-same-length c = search needs
 
 returns : tie.Need-returns
 returns c =
@@ -54,15 +36,5 @@ returns-2 c =
     (rw (o .both .ensures, p0 .names-term .ensures, p1 .names-type .ensures) refl, rw (c .if1 .left) refl)
 
 pub take-one-spec : {M : Type 1} → statement M
-take-one-spec =
-    tie.close
-    (tie.spec
-    names-type-requires
-    names-term-requires
-    both-requires
-    next-term-requires
-    term-field-requires
-    enter-one-requires
-    same-length
-    returns
-    returns-2)
+take-one-spec = tie.close (tie.spec (λ c κs. search needs) (λ c κs. search needs) (λ c κs. search needs) (λ c κs. search needs) (λ c κs. search needs)
+    enter-one-requires (λ c. search needs) returns returns-2)

@@ -6,36 +6,6 @@ use borrow.Author.Needs.{needs}
 use Rattle.check_ranges.proofs.terms.take_operation.Statement.{statement}
 use Rattle.check_ranges.proofs.terms.take_operation.Tie as tie
 
-names-type-requires : tie.Need-names-type-requires
-names-type-requires c κs = search needs
-
-below-requires : tie.Need-below-requires
-below-requires c κs = search needs
-
-names-term-requires : tie.Need-names-term-requires
-names-term-requires c κs = search needs
-
-names-term-requires-2 : tie.Need-names-term-requires-2
-names-term-requires-2 c κs = search needs
-
-both-requires : tie.Need-both-requires
-both-requires c κs = search needs
-
-both-requires-2 : tie.Need-both-requires-2
-both-requires-2 c κs = search needs
-
-both-requires-3 : tie.Need-both-requires-3
-both-requires-3 c κs = search needs
-
-next-term-requires : tie.Need-next-term-requires
-next-term-requires c κs = search needs
-
-term-field-requires : tie.Need-term-field-requires
-term-field-requires c κs = search needs
-
-term-field-requires-2 : tie.Need-term-field-requires-2
-term-field-requires-2 c κs = search needs
-
 enter-two-requires : tie.Need-enter-two-requires
 enter-two-requires c κs =
     let n = c .before .before in
@@ -53,9 +23,6 @@ enter-two-requires c κs =
     let y0 = both-told (p3 .names-term .result) (p2 .names-term2 .result) (p1 .both .ensures) (y1 .1) in
     let l = s .pre .2 in
     (omega (arith, n .next-term .ensures), child-told (p3 .names-term .ensures) (y0 .0) (c .before .term-field .ensures) l, child-told (p2 .names-term2 .ensures) (y0 .1) (c .term-field2 .ensures) l)
-
-same-length : tie.Need-same-length
-same-length c = search needs
 
 returns : tie.Need-returns
 returns c =
@@ -83,20 +50,6 @@ returns-2 c =
     (rw (o .both3 .ensures, p0 .both2 .ensures, p1 .both .ensures, p2 .names-term2 .ensures, p3 .names-term .ensures, p4 .below .ensures, p5 .names-type .ensures) refl, rw (c .if1 .left) refl)
 
 pub take-operation-spec : {M : Type 1} → statement M
-take-operation-spec =
-    tie.close
-    (tie.spec
-    names-type-requires
-    below-requires
-    names-term-requires
-    names-term-requires-2
-    both-requires
-    both-requires-2
-    both-requires-3
-    next-term-requires
-    term-field-requires
-    term-field-requires-2
-    enter-two-requires
-    same-length
-    returns
-    returns-2)
+take-operation-spec = tie.close (tie.spec (λ c κs. search needs) (λ c κs. search needs) (λ c κs. search needs) (λ c κs. search needs)
+    (λ c κs. search needs) (λ c κs. search needs) (λ c κs. search needs) (λ c κs. search needs) (λ c κs. search needs) (λ c κs. search needs)
+    enter-two-requires (λ c. search needs) returns returns-2)

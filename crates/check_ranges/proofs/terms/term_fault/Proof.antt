@@ -10,17 +10,8 @@ use borrow.Author.Needs.{needs}
 use Rattle.check_ranges.proofs.terms.term_fault.Statement.{statement}
 use Rattle.check_ranges.proofs.terms.term_fault.Tie as tie
 
-add-right-length : tie.Need-add-right-length
-add-right-length c = search needs
-
-right-length-requires : tie.Need-right-length-requires
-right-length-requires c κs = search needs
-
 returns : tie.Need-returns
 returns c = (fault4 _ _ _ _ (no-of _ _ (c .before .right-length .ensures) (c .if1 .taken)), refl)
-
-has-capacity-requires : tie.Need-has-capacity-requires
-has-capacity-requires c κs = search needs
 
 returns-2 : tie.Need-returns-2
 returns-2 c =
@@ -42,9 +33,6 @@ take-requires c κs =
     let e = s .pre .3 in
     (T .sized, fits-held (s .args .code) (length (now (s .args .fields))) long, T .fitting long, λ h. T .lower (no-fault _ _ _ _ long ordered capacity h), s .pre .2, omega arith)
 
-same-length : tie.Need-same-length
-same-length c = search needs
-
 returns-3 : tie.Need-returns-3
 returns-3 c =
     let k = c .before .before .before in
@@ -53,9 +41,6 @@ returns-3 c =
     let s = l .before .before .before .before in
     let no = not-true (k .take .result) (c .if3 .taken) in
     (fault7 _ _ _ _ (yes-of _ _ (l .before .right-length .ensures) (l .if1 .left)) (term-ordered _ (s .args .counts) (s .pre .1 .term)) (yes-of _ _ (r .before .has-capacity .ensures) (r .if2 .left)) (sym (k .take .ensures .0) ∙ no), k .take .ensures .1 ∙ rw no refl)
-
-same-length-2 : tie.Need-same-length-2
-same-length-2 c = search needs
 
 returns-4 : tie.Need-returns-4
 returns-4 c =
@@ -67,16 +52,5 @@ returns-4 c =
     (no-fault _ _ _ _ (yes-of _ _ (l .before .right-length .ensures) (l .if1 .left)) (term-ordered _ (s .args .counts) (s .pre .1 .term)) (yes-of _ _ (r .before .has-capacity .ensures) (r .if2 .left)) (sym (k .take .ensures .0) ∙ yes), k .take .ensures .1 ∙ rw yes refl)
 
 pub term-fault-spec : {M : Type 1} → statement M
-term-fault-spec =
-    tie.close
-    (tie.spec
-    add-right-length
-    right-length-requires
-    returns
-    has-capacity-requires
-    returns-2
-    take-requires
-    same-length
-    returns-3
-    same-length-2
-    returns-4)
+term-fault-spec = tie.close (tie.spec (λ c. search needs) (λ c κs. search needs) returns (λ c κs. search needs) returns-2 take-requires
+    (λ c. search needs) returns-3 (λ c. search needs) returns-4)

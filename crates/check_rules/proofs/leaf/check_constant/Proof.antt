@@ -8,18 +8,6 @@ use Prim.Native.Nat.{_-_, _<_}
 use Rattle.image.specs.Kinds.{termRow}
 use Rattle.check_rules.proofs.OnDescriptors.{constant-right}
 
-own-descriptor-requires : tie.Need-own-descriptor-requires
-own-descriptor-requires c κs = search needs
-
-sub-is-kind : tie.Need-sub-is-kind
-sub-is-kind c = search needs
-
-is-kind-requires : tie.Need-is-kind-requires
-is-kind-requires c κs = search needs
-
-judge-requires : tie.Need-judge-requires
-judge-requires c κs = search needs
-
 returns : tie.Need-returns
 returns c =
     let s = c .before .before .before .before .before .before in
@@ -29,4 +17,4 @@ returns c =
 
 pub check-constant-spec : {M : Type 1} → statement M
 check-constant-spec =
-    tie.close (tie.spec own-descriptor-requires sub-is-kind is-kind-requires judge-requires returns)
+    tie.close (tie.spec (λ c κs. search needs) (λ c. search needs) (λ c κs. search needs) (λ c κs. search needs) returns)

@@ -12,15 +12,6 @@ use Rattle.check_rules.specs.Scopes.{settingIn}
 use Rattle.read_terms.proofs.Located.{number-is, kind-read, number-from, typed-in, second-in}
 use Rattle.check_rules.proofs.Verdict.{answered-in}
 
-term-place-requires : tie.Need-term-place-requires
-term-place-requires c κs = search needs
-
-term-kind-requires : tie.Need-term-kind-requires
-term-kind-requires c κs = search needs
-
-term-fields-requires : tie.Need-term-fields-requires
-term-fields-requires c κs = search needs
-
 check-variable-requires : tie.Need-check-variable-requires
 check-variable-requires c κs =
     let s = c .before .before .before .before .before .before .before in
@@ -54,13 +45,5 @@ returns-2 c =
     answered-in (s .pre .0 .terms) (s .pre .1) refl (settingIn (now (s .args .scope)) (s .args .len) d) (at-term-place .term-place .ensures .0) (c .before .before .term-fields .ensures) (c .check-constant .ensures k e (settingIn (now (s .args .scope)) (s .args .len) d))
 
 pub check-leaf-spec : {M : Type 1} → statement M
-check-leaf-spec =
-    tie.close
-    (tie.spec
-    term-place-requires
-    term-kind-requires
-    term-fields-requires
-    check-variable-requires
-    returns
-    check-constant-requires
-    returns-2)
+check-leaf-spec = tie.close (tie.spec (λ c κs. search needs) (λ c κs. search needs) (λ c κs. search needs) check-variable-requires returns
+    check-constant-requires returns-2)

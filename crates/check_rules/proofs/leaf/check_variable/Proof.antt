@@ -6,36 +6,12 @@ use denote.Ref.{now}
 use mathlib.Core.Path.{_∙_}
 use Rattle.check_rules.proofs.Verdict.{variable-unbound, variable-bound}
 
-other-field-requires : tie.Need-other-field-requires
-other-field-requires c κs = search needs
-
-cast-k : tie.Need-cast-k
-cast-k c = search needs
-
 returns : tie.Need-returns
 returns c =
     let s = c .before .before .before .before in
     λ d.
     let e = c .before .other-field .ensures in
     variable-unbound (now (s .args .image)) (now (s .args .fields)) (now (s .args .scope)) (s .args .len) d (s .args .at) (rw (← e) (c .if1 .taken))
-
-sub-scope-type : tie.Need-sub-scope-type
-sub-scope-type c = search needs
-
-sub-scope-type-2 : tie.Need-sub-scope-type-2
-sub-scope-type-2 c = search needs
-
-scope-type-requires : tie.Need-scope-type-requires
-scope-type-requires c κs = search needs
-
-own-type-requires : tie.Need-own-type-requires
-own-type-requires c κs = search needs
-
-same-type-requires : tie.Need-same-type-requires
-same-type-requires c κs = search needs
-
-judge-requires : tie.Need-judge-requires
-judge-requires c κs = search needs
 
 returns-2 : tie.Need-returns-2
 returns-2 c =
@@ -48,16 +24,5 @@ returns-2 c =
     c .judge .ensures ∙ simp (c .before .same-type .ensures, at-scope-type .scope-type .ensures, c .before .before .own-type .ensures, e) (variable-bound (now (s .args .image)) (now (s .args .fields)) (now (s .args .scope)) (s .args .len) d (s .args .at) (rw (← e) (at-if1 .if1 .left)))
 
 pub check-variable-spec : {M : Type 1} → statement M
-check-variable-spec =
-    tie.close
-    (tie.spec
-    other-field-requires
-    cast-k
-    returns
-    sub-scope-type
-    sub-scope-type-2
-    scope-type-requires
-    own-type-requires
-    same-type-requires
-    judge-requires
-    returns-2)
+check-variable-spec = tie.close (tie.spec (λ c κs. search needs) (λ c. search needs) returns (λ c. search needs) (λ c. search needs)
+    (λ c κs. search needs) (λ c κs. search needs) (λ c κs. search needs) (λ c κs. search needs) returns-2)

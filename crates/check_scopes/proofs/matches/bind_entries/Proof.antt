@@ -26,21 +26,12 @@ Inv-loop image terms descriptors scope₀ len fields n used₀ i₀ scope used i
 abbrev μ-loop : tie.MeasureT-loop
 μ-loop image terms descriptors scope₀ len fields n used₀ i₀ scope used i = n - i
 
-entries-in-requires : tie.Need-entries-in-requires Inv-loop μ-loop
-entries-in-requires c κs = search needs
-
 loop-holds : tie.Need-loop-holds Inv-loop μ-loop
 loop-holds c =
     let s = c .before .before .before .before .before in
     let a = s .args in
     let e = at-first (now (a .fields)) (c .entries-in .result) (c .entries-in .ensures) in
     (search needs, omega arith, s .pre .2, λ x m D. subst (λ es. Binds (now (a .scope)) x (a .len) m (valueTypes (recordsOf (now (a .image))) es)) (sym e) D)
-
-add-field : tie.Need-add-field Inv-loop μ-loop
-add-field c = search needs
-
-field-requires : tie.Need-field-requires Inv-loop μ-loop
-field-requires c κs = search needs
 
 bind-entry-requires : tie.Need-bind-entry-requires Inv-loop μ-loop
 bind-entry-requires c κs =
@@ -54,12 +45,6 @@ bind-entry-requires c κs =
     let r = s .pre .3 in
     let u = l .inv .1 in
     (s .pre .0, omega (arith, c .before .field .ensures), l .inv .2, omega arith)
-
-add-i : tie.Need-add-i Inv-loop μ-loop
-add-i c = search needs
-
-loop-less : tie.Need-loop-less Inv-loop μ-loop
-loop-less c = search needs
 
 loop-again : tie.Need-loop-again Inv-loop μ-loop
 loop-again c =
@@ -90,17 +75,5 @@ returns c =
     (l .inv .3 (l .scope) (l .used) (subst (λ es. Binds (l .scope) (l .scope) (l .used) (l .used) (valueTypes L es)) (sym z) (binds-none (l .scope) (l .used))), omega arith)
 
 pub bind-entries-spec : {M : Type 1} → statement M
-bind-entries-spec =
-    tie.close
-    (tie.spec
-    Inv-loop
-    μ-loop
-    entries-in-requires
-    loop-holds
-    add-field
-    field-requires
-    bind-entry-requires
-    add-i
-    loop-less
-    loop-again
-    returns)
+bind-entries-spec = tie.close (tie.spec Inv-loop μ-loop (λ c κs. search needs) loop-holds (λ c. search needs) (λ c κs. search needs)
+    bind-entry-requires (λ c. search needs) (λ c. search needs) loop-again returns)

@@ -17,25 +17,10 @@ use Rattle.check_scopes.proofs.matches.bind_entry.Tie as tie
 returns : tie.Need-returns
 returns c = rw (c .if1 .taken) (binds-none _ _)
 
-entry-term-requires : tie.Need-entry-term-requires
-entry-term-requires c κs = search needs
-
 stated-type-requires : tie.Need-stated-type-requires
 stated-type-requires c κs =
     let s = c .before .before .before .before .before in
     (s .pre .0 .terms, let e = c .entry-term .ensures in let h = s .pre .1 in omega arith)
-
-type-descriptor-requires : tie.Need-type-descriptor-requires
-type-descriptor-requires c κs = search needs
-
-first-type-requires : tie.Need-first-type-requires
-first-type-requires c κs = search needs
-
-bind-requires : tie.Need-bind-requires
-bind-requires c κs = search needs
-
-add-result : tie.Need-add-result
-add-result c = search needs
 
 returns-2 : tie.Need-returns-2
 returns-2 c =
@@ -54,14 +39,5 @@ returns-2 c =
     rw (en .ensures, c .bind .ensures, q) (binds-one scope (s .args .len) (typeField L (typeNo L (en .result .0)) 0) l)
 
 pub bind-entry-spec : {M : Type 1} → statement M
-bind-entry-spec =
-    tie.close
-    (tie.spec
-    returns
-    entry-term-requires
-    stated-type-requires
-    type-descriptor-requires
-    first-type-requires
-    bind-requires
-    add-result
-    returns-2)
+bind-entry-spec = tie.close (tie.spec returns (λ c κs. search needs) stated-type-requires (λ c κs. search needs) (λ c κs. search needs)
+    (λ c κs. search needs) (λ c. search needs) returns-2)

@@ -39,9 +39,6 @@ bind-requires c κs =
     let h = f .type-at-field .ensures .1 in
     (omega arith, omega arith)
 
-add-t14 : tie.Need-add-t14
-add-t14 c = search needs
-
 returns : tie.Need-returns
 returns c =
     let t = c .before .before in
@@ -66,13 +63,5 @@ returns-2 c =
     without-rest (now (s .args .image)) (now (s .args .fields)) (s .args .p .dom .0) (B .0) (B .1) (sym (r .binds-rest .ensures) ∙ c .if1 .left)
 
 pub match-setting-spec : {M : Type 1} → statement M
-match-setting-spec =
-    tie.close
-    (tie.spec
-    type-at-field-requires
-    bind-entries-requires
-    binds-rest-requires
-    bind-requires
-    add-t14
-    returns
+match-setting-spec = tie.close (tie.spec type-at-field-requires bind-entries-requires binds-rest-requires bind-requires (λ c. search needs) returns
     returns-2)

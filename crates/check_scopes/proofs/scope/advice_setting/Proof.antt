@@ -11,16 +11,10 @@ use Rattle.read_records.specs.Descriptors.{descriptorField0}
 use Rattle.check_rules.proofs.OnDescriptors.{ownDescriptor, descriptorAtField}
 use Rattle.check_scopes.proofs.ChildSettings.{advice-small, advice-at}
 
-own-descriptor-requires : tie.Need-own-descriptor-requires
-own-descriptor-requires c κs = search needs
-
 descriptor-at-field-requires : tie.Need-descriptor-at-field-requires
 descriptor-at-field-requires c κs =
     let s = c .before .before .before .before .before in
     (s .pre .0 .terms, s .pre .0 .types, s .pre .1 .children 0 (lit< tt))
-
-first-type-requires : tie.Need-first-type-requires
-first-type-requires c κs = search needs
 
 bind-requires : tie.Need-bind-requires
 bind-requires c κs =
@@ -29,12 +23,6 @@ bind-requires c κs =
     let l = s .pre .1 .places in
     let e : c .first-type .result .0 ≡ descriptorField0 (descriptorAtField (now (s .args .image)) (now (s .args .descriptors)) (now (s .args .fields)) 1) = c .first-type .ensures ∙ ap descriptorField0 (c .before .before .descriptor-at-field .ensures) in
     (omega arith, rw e (advice-small (s .pre .0) (s .pre .1)))
-
-first-domain-requires : tie.Need-first-domain-requires
-first-domain-requires c κs = search needs
-
-add-t13 : tie.Need-add-t13
-add-t13 c = search needs
 
 returns : tie.Need-returns
 returns c =
@@ -47,13 +35,5 @@ returns c =
     rw (c .before .before .bind .ensures, e, d) (advice-at (s .pre .0) (s .pre .1))
 
 pub advice-setting-spec : {M : Type 1} → statement M
-advice-setting-spec =
-    tie.close
-    (tie.spec
-    own-descriptor-requires
-    descriptor-at-field-requires
-    first-type-requires
-    bind-requires
-    first-domain-requires
-    add-t13
-    returns)
+advice-setting-spec = tie.close (tie.spec (λ c κs. search needs) descriptor-at-field-requires (λ c κs. search needs) bind-requires
+    (λ c κs. search needs) (λ c. search needs) returns)

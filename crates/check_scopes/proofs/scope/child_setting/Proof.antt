@@ -120,22 +120,5 @@ returns-10 c =
     λ k e. same-at (now (s .args .image)) (now (s .args .fields)) (now (s .args .scope)) (s .args .p .len) (s .args .p .dom .0) (s .args .i) _ (c .match .rest) k e
 
 pub child-setting-spec : {M : Type 1} → statement M
-child-setting-spec =
-    tie.close
-    (tie.spec
-    function-setting-requires
-    lower-setting-requires
-    split-setting-requires
-    advice-setting-requires
-    object-setting-requires
-    match-setting-requires
-    returns
-    returns-2
-    returns-3
-    returns-4
-    returns-5
-    returns-6
-    returns-7
-    returns-8
-    returns-9
-    returns-10)
+child-setting-spec = tie.close (tie.spec function-setting-requires lower-setting-requires split-setting-requires advice-setting-requires
+    object-setting-requires match-setting-requires returns returns-2 returns-3 returns-4 returns-5 returns-6 returns-7 returns-8 returns-9 returns-10)

@@ -9,12 +9,6 @@ use Rattle.read_records.specs.Descriptors.{descriptorField0, descriptorField1}
 use Rattle.check_rules.proofs.OnDescriptors.{ownDescriptor}
 use Rattle.check_scopes.proofs.ChildSettings.{function-small, function-at}
 
-own-descriptor-requires : tie.Need-own-descriptor-requires
-own-descriptor-requires c κs = search needs
-
-first-type-requires : tie.Need-first-type-requires
-first-type-requires c κs = search needs
-
 bind-requires : tie.Need-bind-requires
 bind-requires c κs =
     let s = c .before .before .before .before .before .before in
@@ -22,12 +16,6 @@ bind-requires c κs =
     let l = s .pre .1 .places in
     let e : c .first-type .result .0 ≡ descriptorField0 (ownDescriptor (now (s .args .descriptors)) (now (s .args .fields))) = c .first-type .ensures ∙ ap descriptorField0 (c .before .before .own-descriptor .ensures) in
     (omega arith, rw e (function-small (s .pre .0) (s .pre .1)))
-
-second-domain-requires : tie.Need-second-domain-requires
-second-domain-requires c κs = search needs
-
-add-t11 : tie.Need-add-t11
-add-t11 c = search needs
 
 returns : tie.Need-returns
 returns c =
@@ -39,12 +27,5 @@ returns c =
     rw (c .before .before .bind .ensures, e, d) (function-at (s .pre .0) (s .pre .1))
 
 pub function-setting-spec : {M : Type 1} → statement M
-function-setting-spec =
-    tie.close
-    (tie.spec
-    own-descriptor-requires
-    first-type-requires
-    bind-requires
-    second-domain-requires
-    add-t11
+function-setting-spec = tie.close (tie.spec (λ c κs. search needs) (λ c κs. search needs) bind-requires (λ c κs. search needs) (λ c. search needs)
     returns)

@@ -11,9 +11,6 @@ use borrow.Author.Needs.{needs}
 use Rattle.check_scopes.proofs.scope.object_setting.Statement.{statement}
 use Rattle.check_scopes.proofs.scope.object_setting.Tie as tie
 
-own-type-requires : tie.Need-own-type-requires
-own-type-requires c κs = search needs
-
 bind-requires : tie.Need-bind-requires
 bind-requires c κs =
     let r = c .before .before .before .before .before .pre .1 .capacity in
@@ -25,9 +22,6 @@ method-domain-requires c κs =
     let start = c .before .before .before .before .before .before in
     (start .pre .0, rw (c .before .before .own-type .ensures) (object-is (start .pre .0) (start .pre .1) (start .pre .2)), rw (c .before .before .own-type .ensures) (method-there (start .pre .0) (start .pre .1) (start .pre .2)))
 
-add-t11 : tie.Need-add-t11
-add-t11 c = search needs
-
 returns : tie.Need-returns
 returns c =
     let at-own-type = c .before .before .before .before in
@@ -37,4 +31,4 @@ returns c =
 
 pub object-setting-spec : {M : Type 1} → statement M
 object-setting-spec =
-    tie.close (tie.spec own-type-requires bind-requires method-domain-requires add-t11 returns)
+    tie.close (tie.spec (λ c κs. search needs) bind-requires method-domain-requires (λ c. search needs) returns)

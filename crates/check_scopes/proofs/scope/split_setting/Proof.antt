@@ -16,12 +16,6 @@ descriptor-at-field-requires c κs =
     let s = c .before .before .before .before in
     (s .pre .0 .terms, s .pre .0 .types, s .pre .1 .children 0 (lit< tt))
 
-first-type-requires : tie.Need-first-type-requires
-first-type-requires c κs = search needs
-
-second-type-requires : tie.Need-second-type-requires
-second-type-requires c κs = search needs
-
 bind-requires : tie.Need-bind-requires
 bind-requires c κs =
     let at-descriptor-at-field = c .before .before .before in
@@ -30,9 +24,6 @@ bind-requires c κs =
     let l = s .pre .1 .places in
     let e : c .before .before .first-type .result .0 ≡ descriptorField0 (descriptorAtField (now (s .args .image)) (now (s .args .descriptors)) (now (s .args .fields)) 1) = c .before .before .first-type .ensures ∙ ap descriptorField0 (at-descriptor-at-field .descriptor-at-field .ensures) in
     (omega arith, rw e (split-small (s .pre .0) (s .pre .1) .0))
-
-add-bind : tie.Need-add-bind
-add-bind c = search needs
 
 bind-requires-2 : tie.Need-bind-requires-2
 bind-requires-2 c κs =
@@ -43,9 +34,6 @@ bind-requires-2 c κs =
     let l = s .pre .1 .places in
     let e : at-second-type .second-type .result .0 ≡ descriptorField1 (descriptorAtField (now (s .args .image)) (now (s .args .descriptors)) (now (s .args .fields)) 1) = at-second-type .second-type .ensures ∙ ap descriptorField1 (at-descriptor-at-field .descriptor-at-field .ensures) in
     (omega arith, rw e (split-small (s .pre .0) (s .pre .1) .1))
-
-add-t14 : tie.Need-add-t14
-add-t14 c = search needs
 
 returns : tie.Need-returns
 returns c =
@@ -59,14 +47,5 @@ returns c =
     rw (c .before .before .bind2 .ensures, at-bind .bind .ensures, e, f) (split-at (s .pre .0) (s .pre .1))
 
 pub split-setting-spec : {M : Type 1} → statement M
-split-setting-spec =
-    tie.close
-    (tie.spec
-    descriptor-at-field-requires
-    first-type-requires
-    second-type-requires
-    bind-requires
-    add-bind
-    bind-requires-2
-    add-t14
-    returns)
+split-setting-spec = tie.close (tie.spec descriptor-at-field-requires (λ c κs. search needs) (λ c κs. search needs) bind-requires (λ c. search needs)
+    bind-requires-2 (λ c. search needs) returns)

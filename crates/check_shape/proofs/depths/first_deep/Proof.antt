@@ -22,12 +22,6 @@ abbrev μ-loop : tie.MeasureT-loop
 loop-holds : tie.Need-loop-holds Inv-loop μ-loop
 loop-holds c = (search needs, from-start _ _ _ _)
 
-mark-of-requires : tie.Need-mark-of-requires Inv-loop μ-loop
-mark-of-requires c κs = search needs
-
-term-offset-requires : tie.Need-term-offset-requires Inv-loop μ-loop
-term-offset-requires c κs = search needs
-
 returns : tie.Need-returns Inv-loop μ-loop
 returns c =
     let at-loop = c .before .before .before .before .before in
@@ -37,12 +31,6 @@ returns c =
     let z = c .before .before .mark-of .ensures in
     let deep = lt-leb d 64 (omega (arith, c .before .if2 .taken)) in
     sym (l .inv .1 ∙ from-here _ _ _ _ (l .i) (omega arith) deep ∙ ap (λ o. Verdict.Refused Refusal.TooDeep o) (sym (c .term-offset .ensures)))
-
-add-i : tie.Need-add-i Inv-loop μ-loop
-add-i c = search needs
-
-loop-less : tie.Need-loop-less Inv-loop μ-loop
-loop-less c = search needs
 
 loop-again : tie.Need-loop-again Inv-loop μ-loop
 loop-again c =
@@ -59,16 +47,5 @@ returns-2 c =
     sym (l .inv .1 ∙ from-end _ _ _ _ (l .i) (omega arith))
 
 pub first-deep-spec : {M : Type 1} → statement M
-first-deep-spec =
-    tie.close
-    (tie.spec
-    Inv-loop
-    μ-loop
-    loop-holds
-    mark-of-requires
-    term-offset-requires
-    returns
-    add-i
-    loop-less
-    loop-again
-    returns-2)
+first-deep-spec = tie.close (tie.spec Inv-loop μ-loop loop-holds (λ c κs. search needs) (λ c κs. search needs) returns (λ c. search needs)
+    (λ c. search needs) loop-again returns-2)

@@ -12,12 +12,6 @@ use borrow.Author.Needs.{needs}
 use Rattle.check_shape.proofs.descent.check_depths_in.Statement.{statement}
 use Rattle.check_shape.proofs.descent.check_depths_in.Tie as tie
 
-sub-t7 : tie.Need-sub-t7
-sub-t7 c = search needs
-
-cast-t8 : tie.Need-cast-t8
-cast-t8 c = search needs
-
 set-mark-requires : tie.Need-set-mark-requires
 set-mark-requires c κs =
     let w = c .before .before .before .before .before in
@@ -47,9 +41,6 @@ mark-terms-requires c κs =
     let n = length (now (w .args .terms)) in
     (w .pre .0, w .pre .1, rw (at-set-mark .set-mark .ensures) (front-length termLimit (now (w .args .depths)) (w .pre .3) n (n - 1) 1 (w .pre .1 .few)))
 
-cast-t8-2 : tie.Need-cast-t8-2
-cast-t8-2 c = search needs
-
 first-deep-requires : tie.Need-first-deep-requires
 first-deep-requires c κs =
     let m = c .before .before .before in
@@ -63,9 +54,6 @@ first-deep-requires c κs =
     let f = p .1 .few in
     (rw q (omega arith), omega arith)
 
-same-length : tie.Need-same-length
-same-length c = search needs
-
 returns : tie.Need-returns
 returns c =
     let m = c .before .before .before .before in
@@ -78,16 +66,5 @@ returns c =
     c .first-deep .ensures ∙ deep-same (recordsOf (now (a .image))) (now (a .depths)) (m .mark-terms .last .1 .1 .1 .0) _ termLimit (p .3) (now (a .image)) (now (a .terms)) (p .1) (p .2) (p .1 .few) k (rw q at (m .mark-terms .ensures))
 
 pub check-depths-in-spec : {M : Type 1} → statement M
-check-depths-in-spec =
-    tie.close
-    (tie.spec
-    sub-t7
-    cast-t8
-    set-mark-requires
-    slice-relend-prefix-mark-terms
-    slice-aggregate-mark-terms
-    mark-terms-requires
-    cast-t8-2
-    first-deep-requires
-    same-length
-    returns)
+check-depths-in-spec = tie.close (tie.spec (λ c. search needs) (λ c. search needs) set-mark-requires slice-relend-prefix-mark-terms
+    slice-aggregate-mark-terms mark-terms-requires (λ c. search needs) first-deep-requires (λ c. search needs) returns)

@@ -23,9 +23,6 @@ mark-entries-requires c κs =
     let fs = now (s .args .fields) in
     (s .pre .0, subst (λ n. Lower n (entriesOf (s .args .code) fs)) (sym (m .kept .1 .1 .1 .0)) (lower-rest _ (sideOf (s .args .code) fs) (entriesOf (s .args .code) fs) (s .pre .1)))
 
-same-length : tie.Need-same-length
-same-length c = search needs
-
 returns : tie.Need-returns
 returns c =
     let t = c .before .before .before .before .before .before in
@@ -39,4 +36,4 @@ returns c =
 
 pub mark-children-spec : {M : Type 1} → statement M
 mark-children-spec =
-    tie.close (tie.spec mark-side-requires mark-entries-requires same-length returns)
+    tie.close (tie.spec mark-side-requires mark-entries-requires (λ c. search needs) returns)

@@ -31,18 +31,6 @@ abbrev μ-loop : tie.MeasureT-loop
 at-first : (fs : List ℕ) (x first count : ℕ) → first ≡ countOf x + childrenIn x (length fs) → count ≡ entriesIn x (length fs) → entriesOf x fs ≡ entriesLeft fs first count 0
 at-first fs x first count e f = rw (← e, ← f) (all-left fs first count)
 
-field-count-requires : tie.Need-field-count-requires Inv-loop μ-loop
-field-count-requires c κs = search needs
-
-child-count-requires : tie.Need-child-count-requires Inv-loop μ-loop
-child-count-requires c κs = search needs
-
-add-first : tie.Need-add-first Inv-loop μ-loop
-add-first c = search needs
-
-entry-count-requires : tie.Need-entry-count-requires Inv-loop μ-loop
-entry-count-requires c κs = search needs
-
 loop-holds : tie.Need-loop-holds Inv-loop μ-loop
 loop-holds c =
     let k = c .before in
@@ -53,9 +41,6 @@ loop-holds c =
     let q : first ≡ countOf (a .code) + childrenIn (a .code) (length (now (a .fields))) = omega (arith, f .field-count .ensures, k .child-count .ensures) in
     let e = at-first (now (a .fields)) (a .code) first (c .entry-count .result) q (c .entry-count .ensures) in
     (search needs, refl, subst (λ es. Lower (length (now (a .depths))) es) e (s .pre .1), ap (λ es. setAll es (a .d) (now (a .depths))) e)
-
-add-field : tie.Need-add-field Inv-loop μ-loop
-add-field c = search needs
 
 field-requires : tie.Need-field-requires Inv-loop μ-loop
 field-requires c κs =
@@ -79,12 +64,6 @@ mark-entry-requires c κs =
     let e = next-left fs first count (l .j) (v .result) (t .loop-test .taken) (v .ensures) in
     lower-first (length (l .depths)) (asChild an-entry (v .result)) (entriesLeft fs first count (l .j + 1)) (subst (λ es. Lower (length (l .depths)) es) e (l .inv .2))
 
-add-j : tie.Need-add-j Inv-loop μ-loop
-add-j c = search needs
-
-loop-less : tie.Need-loop-less Inv-loop μ-loop
-loop-less c = search needs
-
 loop-again : tie.Need-loop-again Inv-loop μ-loop
 loop-again c =
     let m = c .before .before .mark-entry in
@@ -107,9 +86,6 @@ loop-again c =
     let below = lower-rest (length (l .depths)) es gs (subst (λ xs. Lower (length (l .depths)) xs) e (l .inv .2)) in
     (search needs, kept ∙ l .inv .1, subst (λ q. Lower q gs) (sym kept) below, l .inv .3 ∙ deep)
 
-same-length : tie.Need-same-length Inv-loop μ-loop
-same-length c = search needs
-
 returns : tie.Need-returns Inv-loop μ-loop
 returns c =
     let l = c .before .loop in
@@ -123,21 +99,5 @@ returns c =
     sym (l .inv .3 ∙ ap (λ es. setAll es (a .d) (l .depths)) e)
 
 pub mark-entries-spec : {M : Type 1} → statement M
-mark-entries-spec =
-    tie.close
-    (tie.spec
-    Inv-loop
-    μ-loop
-    field-count-requires
-    child-count-requires
-    add-first
-    entry-count-requires
-    loop-holds
-    add-field
-    field-requires
-    mark-entry-requires
-    add-j
-    loop-less
-    loop-again
-    same-length
-    returns)
+mark-entries-spec = tie.close (tie.spec Inv-loop μ-loop (λ c κs. search needs) (λ c κs. search needs) (λ c. search needs) (λ c κs. search needs)
+    loop-holds (λ c. search needs) field-requires mark-entry-requires (λ c. search needs) (λ c. search needs) loop-again (λ c. search needs) returns)

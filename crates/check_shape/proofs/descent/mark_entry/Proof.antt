@@ -5,14 +5,8 @@ use borrow.Author.Needs.{needs}
 use Rattle.check_shape.proofs.descent.mark_entry.Statement.{statement}
 use Rattle.check_shape.proofs.descent.mark_entry.Tie as tie
 
-entry-term-requires : tie.Need-entry-term-requires
-entry-term-requires c κs = search needs
-
 set-mark-requires : tie.Need-set-mark-requires
 set-mark-requires c κs = let t = c .before in let l = rw (t .entry-term .ensures) at (t .before .before .before .pre) in l .at 0 (lit< tt)
-
-same-length : tie.Need-same-length
-same-length c = search needs
 
 returns : tie.Need-returns
 returns c = let m = c .before .before in rw (m .before .before .entry-term .ensures) (m .set-mark .ensures)
@@ -22,4 +16,4 @@ returns-2 c = rw (c .if1 .left) refl
 
 pub mark-entry-spec : {M : Type 1} → statement M
 mark-entry-spec =
-    tie.close (tie.spec entry-term-requires set-mark-requires same-length returns returns-2)
+    tie.close (tie.spec (λ c κs. search needs) set-mark-requires (λ c. search needs) returns returns-2)

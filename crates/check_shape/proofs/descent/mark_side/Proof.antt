@@ -20,17 +20,8 @@ Inv-loop fields code d depths₀ first count j₀ depths j =
 abbrev μ-loop : tie.MeasureT-loop
 μ-loop fields code d depths₀ first count j₀ depths j = count - j
 
-field-count-requires : tie.Need-field-count-requires Inv-loop μ-loop
-field-count-requires c κs = search needs
-
-child-count-requires : tie.Need-child-count-requires Inv-loop μ-loop
-child-count-requires c κs = search needs
-
 loop-holds : tie.Need-loop-holds Inv-loop μ-loop
 loop-holds c = (search needs, refl, refl)
-
-add-term-field : tie.Need-add-term-field Inv-loop μ-loop
-add-term-field c = search needs
 
 term-field-requires : tie.Need-term-field-requires Inv-loop μ-loop
 term-field-requires c κs =
@@ -51,12 +42,6 @@ set-mark-requires c κs =
     let h = s .pre .1 .at (l .j) (rw (side-length x fs) n) in
     omega arith
 
-add-j : tie.Need-add-j Inv-loop μ-loop
-add-j c = search needs
-
-loop-less : tie.Need-loop-less Inv-loop μ-loop
-loop-less c = search needs
-
 loop-again : tie.Need-loop-again Inv-loop μ-loop
 loop-again c =
     let m = c .before .before .set-mark in
@@ -73,9 +58,6 @@ loop-again c =
     let r : m .last .0 ≡ set (l .depths) (getD cs (l .j) 0) (a .d) = rw e at (m .ensures) in
     (search needs, m .kept .0 ∙ l .inv .1, l .inv .2 ∙ fold-next (λ ds n. set ds n (a .d)) cs (l .depths) (l .j) h ∙ ap (λ ds. setAll (drop (l .j + 1) cs) (a .d) ds) (sym r))
 
-same-length : tie.Need-same-length Inv-loop μ-loop
-same-length c = search needs
-
 returns : tie.Need-returns Inv-loop μ-loop
 returns c =
     let start = c .before .before .before .before .before .before in
@@ -86,19 +68,5 @@ returns c =
     sym (l .inv .2 ∙ fold-end (λ ds n. set ds n (a .d)) cs (l .depths) (l .j) h)
 
 pub mark-side-spec : {M : Type 1} → statement M
-mark-side-spec =
-    tie.close
-    (tie.spec
-    Inv-loop
-    μ-loop
-    field-count-requires
-    child-count-requires
-    loop-holds
-    add-term-field
-    term-field-requires
-    set-mark-requires
-    add-j
-    loop-less
-    loop-again
-    same-length
-    returns)
+mark-side-spec = tie.close (tie.spec Inv-loop μ-loop (λ c κs. search needs) (λ c κs. search needs) loop-holds (λ c. search needs) term-field-requires
+    set-mark-requires (λ c. search needs) (λ c. search needs) loop-again (λ c. search needs) returns)

@@ -7,9 +7,6 @@ use borrow.Author.Needs.{needs}
 use Rattle.check_shape.proofs.descent.mark_term.Statement.{statement}
 use Rattle.check_shape.proofs.descent.mark_term.Tie as tie
 
-term-offset-requires : tie.Need-term-offset-requires
-term-offset-requires c κs = search needs
-
 kind-at-requires : tie.Need-kind-at-requires
 kind-at-requires c κs =
     let s = c .before .before .before .before .before in
@@ -20,12 +17,6 @@ known-code-requires : tie.Need-known-code-requires
 known-code-requires c κs =
     let s = c .before .before .before .before .before .before in
     (s .pre .0, rw (c .kind-at .ensures, c .before .term-offset .ensures) (s .pre .1 .stands (s .args .n .0) (s .pre .3) .known))
-
-mark-of-requires : tie.Need-mark-of-requires
-mark-of-requires c κs = search needs
-
-one-more-requires : tie.Need-one-more-requires
-one-more-requires c κs = search needs
 
 fields-at-requires : tie.Need-fields-at-requires
 fields-at-requires c κs =
@@ -43,9 +34,6 @@ mark-children-requires c κs =
     let i = s .pre .3 in
     (rw (c .before .fields-at .ensures, k .known-code .ensures, k .before .kind-at .ensures, o) (T .stands (s .args .n .0) i .fitting), rw (c .before .fields-at .ensures, k .known-code .ensures, k .before .kind-at .ensures, o) (lower-up (s .args .n .0) (length (now (s .args .depths))) _ (omega arith) (T .lower (s .args .n .0) i)))
 
-same-length : tie.Need-same-length
-same-length c = search needs
-
 returns : tie.Need-returns
 returns c =
     let m = c .before .before .mark-children in
@@ -55,15 +43,5 @@ returns c =
     rw (d .fields-at .ensures, k .known-code .ensures, k .before .kind-at .ensures, o, d .before .one-more .ensures, d .before .before .mark-of .ensures) at (m .ensures)
 
 pub mark-term-spec : {M : Type 1} → statement M
-mark-term-spec =
-    tie.close
-    (tie.spec
-    term-offset-requires
-    kind-at-requires
-    known-code-requires
-    mark-of-requires
-    one-more-requires
-    fields-at-requires
-    mark-children-requires
-    same-length
-    returns)
+mark-term-spec = tie.close (tie.spec (λ c κs. search needs) kind-at-requires known-code-requires (λ c κs. search needs) (λ c κs. search needs)
+    fields-at-requires mark-children-requires (λ c. search needs) returns)

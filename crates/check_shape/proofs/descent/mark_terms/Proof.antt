@@ -24,12 +24,6 @@ abbrev μ-loop : tie.MeasureT-loop
 loop-holds : tie.Need-loop-holds Inv-loop μ-loop
 loop-holds c = (search needs, refl, refl)
 
-sub-i : tie.Need-sub-i Inv-loop μ-loop
-sub-i c = search needs
-
-cast-t8 : tie.Need-cast-t8 Inv-loop μ-loop
-cast-t8 c = search needs
-
 mark-term-requires : tie.Need-mark-term-requires Inv-loop μ-loop
 mark-term-requires c κs =
     let w = c .before .before .before .before .before .before .before in
@@ -37,9 +31,6 @@ mark-term-requires c κs =
     let test = c .before .loop-test .taken in
     let inside = l .inv .0 in
     (w .pre .0, w .pre .1, l .inv .1 ∙ w .pre .2, omega arith)
-
-loop-less : tie.Need-loop-less Inv-loop μ-loop
-loop-less c = search needs
 
 loop-again : tie.Need-loop-again Inv-loop μ-loop
 loop-again c =
@@ -57,9 +48,6 @@ loop-again c =
     let next = capped-next L (l .i) (l .depths) cs (omega arith) same in
     (omega arith, s .kept .1 .1 .1 .1 .0 ∙ l .inv .1, l .inv .2 ∙ next ∙ ap (λ ds. cappedFrom L (l .i - 1) ds) (sym (s .ensures)))
 
-same-length : tie.Need-same-length Inv-loop μ-loop
-same-length c = search needs
-
 returns : tie.Need-returns Inv-loop μ-loop
 returns c =
     let start = c .before .before .before .before .before .before in
@@ -68,16 +56,5 @@ returns c =
     sym (l .inv .2 ∙ capped-end L (l .i) (l .depths) (omega arith))
 
 pub mark-terms-spec : {M : Type 1} → statement M
-mark-terms-spec =
-    tie.close
-    (tie.spec
-    Inv-loop
-    μ-loop
-    loop-holds
-    sub-i
-    cast-t8
-    mark-term-requires
-    loop-less
-    loop-again
-    same-length
-    returns)
+mark-terms-spec = tie.close (tie.spec Inv-loop μ-loop loop-holds (λ c. search needs) (λ c. search needs) mark-term-requires (λ c. search needs)
+    loop-again (λ c. search needs) returns)

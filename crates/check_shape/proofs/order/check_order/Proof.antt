@@ -7,12 +7,6 @@ use borrow.Author.Needs.{needs}
 use Rattle.check_shape.proofs.order.check_order.Statement.{statement}
 use Rattle.check_shape.proofs.order.check_order.Tie as tie
 
-order-of-requires : tie.Need-order-of-requires
-order-of-requires c κs = search needs
-
-first-unordered-requires : tie.Need-first-unordered-requires
-first-unordered-requires c κs = search needs
-
 returns : tie.Need-returns
 returns c =
     let o = c .before .order-of in
@@ -21,4 +15,4 @@ returns c =
     c .first-unordered .ensures ∙ order-same (recordsOf (now (a .image))) (now (a .image)) (now (a .doms)) (w .pre) (o .result) (o .ensures)
 
 pub check-order-spec : {M : Type 1} → statement M
-check-order-spec = tie.close (tie.spec order-of-requires first-unordered-requires returns)
+check-order-spec = tie.close (tie.spec (λ c κs. search needs) (λ c κs. search needs) returns)

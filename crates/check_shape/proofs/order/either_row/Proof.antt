@@ -17,27 +17,6 @@ Inv-loop a b row₀ f₀ row f = (f ≤ 16) × (length row ≡ 16) × (take f ro
 abbrev μ-loop : tie.MeasureT-loop
 μ-loop a b row₀ f₀ row f = 16 - f
 
-loop-holds : tie.Need-loop-holds Inv-loop μ-loop
-loop-holds c = search needs
-
-array-read-either : tie.Need-array-read-either Inv-loop μ-loop
-array-read-either c = search needs
-
-array-read-either-2 : tie.Need-array-read-either-2 Inv-loop μ-loop
-array-read-either-2 c = search needs
-
-either-requires : tie.Need-either-requires Inv-loop μ-loop
-either-requires c κs = search needs
-
-array-write-row : tie.Need-array-write-row Inv-loop μ-loop
-array-write-row c = search needs
-
-add-f : tie.Need-add-f Inv-loop μ-loop
-add-f c = search needs
-
-loop-less : tie.Need-loop-less Inv-loop μ-loop
-loop-less c = search needs
-
 loop-again : tie.Need-loop-again Inv-loop μ-loop
 loop-again c =
     let l = c .before .before .loop in
@@ -58,17 +37,5 @@ returns c =
     sym (take-all 16 (l .row) (omega arith)) ∙ sym (append-nil _) ∙ ap (take 16 (l .row) ++_) (sym (rw (drop-of-length-le (a .t1) in-a, drop-of-length-le (a .t2) in-b))) ∙ rw h at (l .inv .2)
 
 pub either-row-spec : {M : Type 1} → statement M
-either-row-spec =
-    tie.close
-    (tie.spec
-    Inv-loop
-    μ-loop
-    loop-holds
-    array-read-either
-    array-read-either-2
-    either-requires
-    array-write-row
-    add-f
-    loop-less
-    loop-again
-    returns)
+either-row-spec = tie.close (tie.spec Inv-loop μ-loop (λ c. search needs) (λ c. search needs) (λ c. search needs) (λ c κs. search needs)
+    (λ c. search needs) (λ c. search needs) (λ c. search needs) loop-again returns)

@@ -21,25 +21,10 @@ abbrev μ-loop : tie.MeasureT-loop
 loop-holds : tie.Need-loop-holds Inv-loop μ-loop
 loop-holds c = (search needs, from-start _ _ _ _)
 
-cast-t7 : tie.Need-cast-t7 Inv-loop μ-loop
-cast-t7 c = search needs
-
-at-fault-requires : tie.Need-at-fault-requires Inv-loop μ-loop
-at-fault-requires c κs = search needs
-
-domain-offset-requires : tie.Need-domain-offset-requires Inv-loop μ-loop
-domain-offset-requires c κs = search needs
-
 returns : tie.Need-returns Inv-loop μ-loop
 returns c =
     let l = c .before .before .before .before .loop in
     sym (l .inv .1 ∙ from-here _ _ _ _ (l .d) (omega arith) (ap not (sym (c .before .before .at-fault .ensures) ∙ c .before .if1 .taken)) ∙ ap (λ o. Verdict.Refused Refusal.DomainOrder o) (sym (c .domain-offset .ensures)))
-
-add-d : tie.Need-add-d Inv-loop μ-loop
-add-d c = search needs
-
-loop-less : tie.Need-loop-less Inv-loop μ-loop
-loop-less c = search needs
 
 loop-again : tie.Need-loop-again Inv-loop μ-loop
 loop-again c =
@@ -52,17 +37,5 @@ returns-2 c =
     sym (l .inv .1 ∙ from-end _ _ _ _ (l .d) (omega arith))
 
 pub first-unordered-spec : {M : Type 1} → statement M
-first-unordered-spec =
-    tie.close
-    (tie.spec
-    Inv-loop
-    μ-loop
-    loop-holds
-    cast-t7
-    at-fault-requires
-    domain-offset-requires
-    returns
-    add-d
-    loop-less
-    loop-again
-    returns-2)
+first-unordered-spec = tie.close (tie.spec Inv-loop μ-loop loop-holds (λ c. search needs) (λ c κs. search needs) (λ c κs. search needs) returns
+    (λ c. search needs) (λ c. search needs) loop-again returns-2)

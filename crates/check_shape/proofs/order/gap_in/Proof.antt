@@ -19,24 +19,6 @@ abbrev μ-loop : tie.MeasureT-loop
 loop-holds : tie.Need-loop-holds Inv-loop μ-loop
 loop-holds c = (search needs, any-none _)
 
-array-read-lacking : tie.Need-array-read-lacking Inv-loop μ-loop
-array-read-lacking c = search needs
-
-array-read-lacking-2 : tie.Need-array-read-lacking-2 Inv-loop μ-loop
-array-read-lacking-2 c = search needs
-
-lacking-requires : tie.Need-lacking-requires Inv-loop μ-loop
-lacking-requires c κs = search needs
-
-either-requires : tie.Need-either-requires Inv-loop μ-loop
-either-requires c κs = search needs
-
-add-f : tie.Need-add-f Inv-loop μ-loop
-add-f c = search needs
-
-loop-less : tie.Need-loop-less Inv-loop μ-loop
-loop-less c = search needs
-
 loop-again : tie.Need-loop-again Inv-loop μ-loop
 loop-again c =
     let l = c .before .before .before .loop in
@@ -48,17 +30,5 @@ returns c =
     rw h at (c .before .loop .inv .1)
 
 pub gap-in-spec : {M : Type 1} → statement M
-gap-in-spec =
-    tie.close
-    (tie.spec
-    Inv-loop
-    μ-loop
-    loop-holds
-    array-read-lacking
-    array-read-lacking-2
-    lacking-requires
-    either-requires
-    add-f
-    loop-less
-    loop-again
-    returns)
+gap-in-spec = tie.close (tie.spec Inv-loop μ-loop loop-holds (λ c. search needs) (λ c. search needs) (λ c κs. search needs) (λ c κs. search needs)
+    (λ c. search needs) (λ c. search needs) loop-again returns)

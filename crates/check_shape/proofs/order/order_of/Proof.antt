@@ -24,12 +24,6 @@ abbrev μ-loop : tie.MeasureT-loop
 loop-holds : tie.Need-loop-holds Inv-loop μ-loop
 loop-holds c = (search needs, rows-none _)
 
-cast-row-of : tie.Need-cast-row-of Inv-loop μ-loop
-cast-row-of c = search needs
-
-domain-offset-requires : tie.Need-domain-offset-requires Inv-loop μ-loop
-domain-offset-requires c κs = search needs
-
 fields-at-requires : tie.Need-fields-at-requires Inv-loop μ-loop
 fields-at-requires c κs =
     let l = c .before .before .loop in
@@ -43,21 +37,6 @@ mask-of-requires c κs =
     let D = s .pre .stands (l .d) (omega arith) in
     let m = D .mask in
     rw (c .fields-at .ensures, c .before .domain-offset .ensures) (omega (arith, bytes-length (now (s .args .image)) (getD (now (s .args .doms)) (l .d) 0) (D .whole)))
-
-row-of-requires : tie.Need-row-of-requires Inv-loop μ-loop
-row-of-requires c κs = search needs
-
-mul-o : tie.Need-mul-o Inv-loop μ-loop
-mul-o c = search needs
-
-array-set-from-o : tie.Need-array-set-from-o Inv-loop μ-loop
-array-set-from-o c = search needs
-
-add-d : tie.Need-add-d Inv-loop μ-loop
-add-d c = search needs
-
-loop-less : tie.Need-loop-less Inv-loop μ-loop
-loop-less c = search needs
 
 loop-again : tie.Need-loop-again Inv-loop μ-loop
 loop-again c =
@@ -85,20 +64,5 @@ returns c =
     rows-all (recordsOf b) b ds (s .pre) (l .o) (rw e at (l .inv .1))
 
 pub order-of-spec : {M : Type 1} → statement M
-order-of-spec =
-    tie.close
-    (tie.spec
-    Inv-loop
-    μ-loop
-    loop-holds
-    cast-row-of
-    domain-offset-requires
-    fields-at-requires
-    mask-of-requires
-    row-of-requires
-    mul-o
-    array-set-from-o
-    add-d
-    loop-less
-    loop-again
-    returns)
+order-of-spec = tie.close (tie.spec Inv-loop μ-loop loop-holds (λ c. search needs) (λ c κs. search needs) fields-at-requires mask-of-requires
+    (λ c κs. search needs) (λ c. search needs) (λ c. search needs) (λ c. search needs) (λ c. search needs) loop-again returns)

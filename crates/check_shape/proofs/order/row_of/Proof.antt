@@ -17,18 +17,6 @@ Inv-loop mask row₀ m₀ q₀ row m q = (q ≤ 16) × (length row ≡ 16) × (t
 abbrev μ-loop : tie.MeasureT-loop
 μ-loop mask row₀ m₀ q₀ row m q = 16 - q
 
-loop-holds : tie.Need-loop-holds Inv-loop μ-loop
-loop-holds c = search needs
-
-array-write-row : tie.Need-array-write-row Inv-loop μ-loop
-array-write-row c = search needs
-
-add-q : tie.Need-add-q Inv-loop μ-loop
-add-q c = search needs
-
-loop-less : tie.Need-loop-less Inv-loop μ-loop
-loop-less c = search needs
-
 loop-again : tie.Need-loop-again Inv-loop μ-loop
 loop-again c =
     let l = c .before .loop in
@@ -44,6 +32,4 @@ returns c =
     sym (take-all 16 (l .row) (omega arith)) ∙ sym (append-nil _) ∙ rw h at (l .inv .2)
 
 pub row-of-spec : {M : Type 1} → statement M
-row-of-spec =
-    tie.close
-    (tie.spec Inv-loop μ-loop loop-holds array-write-row add-q loop-less loop-again returns)
+row-of-spec = tie.close (tie.spec Inv-loop μ-loop (λ c. search needs) (λ c. search needs) (λ c. search needs) (λ c. search needs) loop-again returns)

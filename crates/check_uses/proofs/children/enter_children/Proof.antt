@@ -45,6 +45,4 @@ returns c =
     h .set-height .ensures ∙ rw (foldl-append used (now (a .marks)) cs gs, high-append cs gs (now (a .marks)) 0, e .use-entries .ensures .0, e .use-entries .ensures .1, u .use-side .ensures .0, u .use-side .ensures .1) refl
 
 pub enter-children-spec : {M : Type 1} → statement M
-enter-children-spec =
-    tie.close
-    (tie.spec use-side-requires use-entries-requires set-height-requires same-length returns)
+enter-children-spec = tie.close (tie.spec use-side-requires use-entries-requires set-height-requires same-length returns)

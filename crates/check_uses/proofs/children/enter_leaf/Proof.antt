@@ -4,9 +4,6 @@ use borrow.Author.Needs.{needs}
 use Rattle.check_uses.proofs.children.enter_leaf.Statement.{statement}
 use Rattle.check_uses.proofs.children.enter_leaf.Tie as tie
 
-set-height-requires : tie.Need-set-height-requires
-set-height-requires c κs = search needs
-
 same-length : tie.Need-same-length
 same-length c = c .before .before .set-height .kept .0
 
@@ -15,4 +12,4 @@ unfolding highest
 returns c = c .before .before .set-height .ensures
 
 pub enter-leaf-spec : {M : Type 1} → statement M
-enter-leaf-spec = tie.close (tie.spec set-height-requires same-length returns)
+enter-leaf-spec = tie.close (tie.spec (λ c κs. search needs) same-length returns)

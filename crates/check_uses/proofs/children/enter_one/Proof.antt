@@ -7,9 +7,6 @@ use borrow.Author.Needs.{needs}
 use Rattle.check_uses.proofs.children.enter_one.Statement.{statement}
 use Rattle.check_uses.proofs.children.enter_one.Tie as tie
 
-use-child-requires : tie.Need-use-child-requires
-use-child-requires c κs = search needs
-
 set-height-requires : tie.Need-set-height-requires
 set-height-requires c κs = (search needs, high-low _ _ 0 _ (c .before .before .before .use-child .ensures .0) (lit< tt))
 
@@ -27,4 +24,4 @@ returns c =
     h .set-height .ensures ∙ rw (u1 .use-child .ensures .0, u1 .use-child .ensures .1) refl
 
 pub enter-one-spec : {M : Type 1} → statement M
-enter-one-spec = tie.close (tie.spec use-child-requires set-height-requires same-length returns)
+enter-one-spec = tie.close (tie.spec (λ c κs. search needs) set-height-requires same-length returns)

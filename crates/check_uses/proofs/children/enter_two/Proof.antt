@@ -7,12 +7,6 @@ use borrow.Author.Needs.{needs}
 use Rattle.check_uses.proofs.children.enter_two.Statement.{statement}
 use Rattle.check_uses.proofs.children.enter_two.Tie as tie
 
-use-child-requires : tie.Need-use-child-requires
-use-child-requires c κs = search needs
-
-use-child-requires-2 : tie.Need-use-child-requires-2
-use-child-requires-2 c κs = search needs
-
 set-height-requires : tie.Need-set-height-requires
 set-height-requires c κs =
     let u2 = c .before .before .before in
@@ -35,4 +29,4 @@ returns c =
     h .set-height .ensures ∙ rw (u2 .use-child2 .ensures .0, u2 .use-child2 .ensures .1, u1 .use-child .ensures .0, u1 .use-child .ensures .1) refl
 
 pub enter-two-spec : {M : Type 1} → statement M
-enter-two-spec = tie.close (tie.spec use-child-requires use-child-requires-2 set-height-requires same-length returns)
+enter-two-spec = tie.close (tie.spec (λ c κs. search needs) (λ c κs. search needs) set-height-requires same-length returns)

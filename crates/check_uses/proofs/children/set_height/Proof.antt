@@ -6,15 +6,6 @@ use borrow.Author.Needs.{needs}
 use Rattle.check_uses.proofs.children.set_height.Statement.{statement}
 use Rattle.check_uses.proofs.children.set_height.Tie as tie
 
-cast-one-more : tie.Need-cast-one-more
-cast-one-more c = search needs
-
-one-more-requires : tie.Need-one-more-requires
-one-more-requires c κs = search needs
-
-set-mark-requires : tie.Need-set-mark-requires
-set-mark-requires c κs = search needs
-
 same-length : tie.Need-same-length
 same-length c = c .before .before .set-mark .kept .0
 
@@ -25,4 +16,4 @@ returns c =
     at-set .set-mark .ensures ∙ ap (set (now (a .marks)) (a .n .0)) (at-set .before .one-more .ensures)
 
 pub set-height-spec : {M : Type 1} → statement M
-set-height-spec = tie.close (tie.spec cast-one-more one-more-requires set-mark-requires same-length returns)
+set-height-spec = tie.close (tie.spec (λ c. search needs) (λ c κs. search needs) (λ c κs. search needs) same-length returns)

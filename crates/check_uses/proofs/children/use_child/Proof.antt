@@ -8,21 +8,6 @@ use borrow.Author.Needs.{needs}
 use Rattle.check_uses.proofs.children.use_child.Statement.{statement}
 use Rattle.check_uses.proofs.children.use_child.Tie as tie
 
-mark-of-requires : tie.Need-mark-of-requires
-mark-of-requires c κs = search needs
-
-used-mark-requires : tie.Need-used-mark-requires
-used-mark-requires c κs = search needs
-
-set-mark-requires : tie.Need-set-mark-requires
-set-mark-requires c κs = search needs
-
-cast-higher : tie.Need-cast-higher
-cast-higher c = search needs
-
-higher-requires : tie.Need-higher-requires
-higher-requires c κs = search needs
-
 same-length : tie.Need-same-length
 same-length c = c .before .before .before .set-mark .kept .0
 
@@ -36,13 +21,5 @@ returns c =
     (c .higher .ensures ∙ ap (λ n. max (a .h) (heightIn n)) m, at-set .set-mark .ensures ∙ ap (set (now (a .marks)) (a .e .0)) (at-set .before .used-mark .ensures ∙ ap usedMark m))
 
 pub use-child-spec : {M : Type 1} → statement M
-use-child-spec =
-    tie.close
-    (tie.spec
-    mark-of-requires
-    used-mark-requires
-    set-mark-requires
-    cast-higher
-    higher-requires
-    same-length
-    returns)
+use-child-spec = tie.close (tie.spec (λ c κs. search needs) (λ c κs. search needs) (λ c κs. search needs) (λ c. search needs) (λ c κs. search needs)
+    same-length returns)

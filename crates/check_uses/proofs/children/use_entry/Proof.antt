@@ -10,9 +10,6 @@ returns : tie.Need-returns
 unfolding highest
 returns c = rw (c .if1 .taken) (refl, refl)
 
-entry-term-requires : tie.Need-entry-term-requires
-entry-term-requires c κs = search needs
-
 use-child-requires : tie.Need-use-child-requires
 use-child-requires c κs = let l = rw (c .entry-term .ensures) at (c .before .before .before .before .pre) in l .at 0 (lit< tt)
 
@@ -24,4 +21,4 @@ returns-2 c = let u = c .before .before in rw (u .before .entry-term .ensures) (
 
 pub use-entry-spec : {M : Type 1} → statement M
 use-entry-spec =
-    tie.close (tie.spec returns entry-term-requires use-child-requires same-length returns-2)
+    tie.close (tie.spec returns (λ c κs. search needs) use-child-requires same-length returns-2)

@@ -23,17 +23,8 @@ Inv-loop fields code marks₀ first count h₀ j₀ marks h j =
 abbrev μ-loop : tie.MeasureT-loop
 μ-loop fields code marks₀ first count h₀ j₀ marks h j = count - j
 
-field-count-requires : tie.Need-field-count-requires Inv-loop μ-loop
-field-count-requires c κs = search needs
-
-child-count-requires : tie.Need-child-count-requires Inv-loop μ-loop
-child-count-requires c κs = search needs
-
 loop-holds : tie.Need-loop-holds Inv-loop μ-loop
 loop-holds c = (search needs, refl, refl, refl)
-
-add-term-field : tie.Need-add-term-field Inv-loop μ-loop
-add-term-field c = search needs
 
 term-field-requires : tie.Need-term-field-requires Inv-loop μ-loop
 term-field-requires c κs =
@@ -54,12 +45,6 @@ use-child-requires c κs =
     let h = s .pre .1 .at (l .j) (rw (side-length x fs) n) in
     omega arith
 
-add-j : tie.Need-add-j Inv-loop μ-loop
-add-j c = search needs
-
-loop-less : tie.Need-loop-less Inv-loop μ-loop
-loop-less c = search needs
-
 loop-again : tie.Need-loop-again Inv-loop μ-loop
 unfolding highest
 loop-again c =
@@ -78,9 +63,6 @@ loop-again c =
     let uses : useAll (drop (l .j) cs) (l .marks) ≡ useAll (drop (l .j + 1) cs) (u .last .0) = fold-next used cs (l .marks) (l .j) i ∙ rw (u .ensures .1, e) refl in
     (search needs, u .kept .0 ∙ l .inv .1, l .inv .2 ∙ high, l .inv .3 ∙ uses)
 
-same-length : tie.Need-same-length Inv-loop μ-loop
-same-length c = search needs
-
 returns : tie.Need-returns Inv-loop μ-loop
 returns c =
     let start = c .before .before .before .before .before .before in
@@ -91,19 +73,5 @@ returns c =
     (sym (l .inv .2 ∙ high-end cs (l .marks) (l .j) (l .h) h), sym (l .inv .3 ∙ fold-end used cs (l .marks) (l .j) h))
 
 pub use-side-spec : {M : Type 1} → statement M
-use-side-spec =
-    tie.close
-    (tie.spec
-    Inv-loop
-    μ-loop
-    field-count-requires
-    child-count-requires
-    loop-holds
-    add-term-field
-    term-field-requires
-    use-child-requires
-    add-j
-    loop-less
-    loop-again
-    same-length
-    returns)
+use-side-spec = tie.close (tie.spec Inv-loop μ-loop (λ c κs. search needs) (λ c κs. search needs) loop-holds (λ c. search needs) term-field-requires
+    use-child-requires (λ c. search needs) (λ c. search needs) loop-again (λ c. search needs) returns)

@@ -18,9 +18,6 @@ Inv-loop marks root i₀ i = (i ≤ root .0) × ((k : ℕ) → k < i → isOnce 
 abbrev μ-loop : tie.MeasureT-loop
 μ-loop marks root i₀ i = root .0 - i
 
-all-once-requires : tie.Need-all-once-requires Inv-loop μ-loop
-all-once-requires c κs = search needs
-
 returns : tie.Need-returns Inv-loop μ-loop
 returns c =
     let a = c .before .before .before .args in
@@ -29,23 +26,11 @@ returns c =
 loop-holds : tie.Need-loop-holds Inv-loop μ-loop
 loop-holds c = (search needs, λ k h. absurd (omega arith))
 
-mark-of-requires : tie.Need-mark-of-requires Inv-loop μ-loop
-mark-of-requires c κs = search needs
-
-is-once-requires : tie.Need-is-once-requires Inv-loop μ-loop
-is-once-requires c κs = search needs
-
 returns-2 : tie.Need-returns-2 Inv-loop μ-loop
 returns-2 c =
     let o = c .before in
     let l = o .before .before .before .before .loop in
     record { inside = l .inv .0; before = l .inv .1; here = λ h. sym (o .is-once .ensures ∙ ap isOnce (o .before .mark-of .ensures)) ∙ not-true (o .is-once .result) (c .if3 .taken) }
-
-add-i : tie.Need-add-i Inv-loop μ-loop
-add-i c = search needs
-
-loop-less : tie.Need-loop-less Inv-loop μ-loop
-loop-less c = search needs
 
 loop-again : tie.Need-loop-again Inv-loop μ-loop
 loop-again c =
@@ -59,18 +44,5 @@ returns-3 c =
     record { inside = omega arith; before = λ k h. l .inv .1 k (omega arith); here = λ h. absurd (omega arith) }
 
 pub first-misused-spec : {M : Type 1} → statement M
-first-misused-spec =
-    tie.close
-    (tie.spec
-    Inv-loop
-    μ-loop
-    all-once-requires
-    returns
-    loop-holds
-    mark-of-requires
-    is-once-requires
-    returns-2
-    add-i
-    loop-less
-    loop-again
-    returns-3)
+first-misused-spec = tie.close (tie.spec Inv-loop μ-loop (λ c κs. search needs) returns loop-holds (λ c κs. search needs) (λ c κs. search needs)
+    returns-2 (λ c. search needs) (λ c. search needs) loop-again returns-3)

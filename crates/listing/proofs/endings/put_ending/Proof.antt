@@ -35,13 +35,4 @@ returns-2 c =
     as-text (ending-said (start .args .steps) _ (at-ending .ending .given .1)) (then (at-put-outcome .put-outcome .ensures) (c .before .before .put-result .ensures))
 
 pub put-ending-spec : {M : Type 1} → statement M
-put-ending-spec =
-    tie.close
-    (tie.spec
-    enum-told
-    enum-known-ending
-    put-outcome-requires
-    put-result-requires
-    returns
-    same-length
-    returns-2)
+put-ending-spec = tie.close (tie.spec enum-told enum-known-ending put-outcome-requires put-result-requires returns same-length returns-2)

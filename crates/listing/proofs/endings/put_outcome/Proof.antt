@@ -5,24 +5,6 @@ use borrow.Author.Needs.{needs}
 use Rattle.listing.proofs.endings.put_outcome.Statement.{statement}
 use Rattle.listing.proofs.endings.put_outcome.Tie as tie
 
-put-word-requires : tie.Need-put-word-requires
-put-word-requires c κs = search needs
-
-slice-aggregate-put : tie.Need-slice-aggregate-put
-slice-aggregate-put c = search needs
-
-put-requires : tie.Need-put-requires
-put-requires c κs = search needs
-
-put-decimal-requires : tie.Need-put-decimal-requires
-put-decimal-requires c κs = search needs
-
-slice-aggregate-put-2 : tie.Need-slice-aggregate-put-2
-slice-aggregate-put-2 c = search needs
-
-put-requires-2 : tie.Need-put-requires-2
-put-requires-2 c κs = search needs
-
 same-length : tie.Need-same-length
 same-length c =
     let at-put2 = c .before .before in
@@ -39,14 +21,5 @@ returns c =
     then (then (then (at-put-word .put-word .ensures) (at-put .put .ensures)) (at-put-decimal .put-decimal .ensures)) (c .before .before .put2 .ensures)
 
 pub put-outcome-spec : {M : Type 1} → statement M
-put-outcome-spec =
-    tie.close
-    (tie.spec
-    put-word-requires
-    slice-aggregate-put
-    put-requires
-    put-decimal-requires
-    slice-aggregate-put-2
-    put-requires-2
-    same-length
-    returns)
+put-outcome-spec = tie.close (tie.spec (λ c κs. search needs) (λ c. search needs) (λ c κs. search needs) (λ c κs. search needs) (λ c. search needs)
+    (λ c κs. search needs) same-length returns)

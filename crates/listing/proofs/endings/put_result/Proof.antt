@@ -5,12 +5,6 @@ use borrow.Author.Needs.{needs}
 use Rattle.listing.proofs.endings.put_result.Statement.{statement}
 use Rattle.listing.proofs.endings.put_result.Tie as tie
 
-outcome-number-requires : tie.Need-outcome-number-requires
-outcome-number-requires c κs = search needs
-
-put-value-requires : tie.Need-put-value-requires
-put-value-requires c κs = search needs
-
 same-length : tie.Need-same-length
 same-length c = c .before .before .put-value .kept .0
 
@@ -26,4 +20,4 @@ returns-2 c = as-text (no-result (c .before .before .before .before .args .outco
 
 pub put-result-spec : {M : Type 1} → statement M
 put-result-spec =
-    tie.close (tie.spec outcome-number-requires put-value-requires same-length returns returns-2)
+    tie.close (tie.spec (λ c κs. search needs) (λ c κs. search needs) same-length returns returns-2)

@@ -203,71 +203,10 @@ returns-13 : tie.Need-returns-13
 returns-13 c = as-text (ap (λ x. ascii (outcomeWord x)) (sym (c .before .before .before .before .before .enum-told13 .given .1))) (c .before .before .put13 .ensures)
 
 pub put-word-spec : {M : Type 1} → statement M
-put-word-spec =
-    tie.close
-    (tie.spec
-    enum-told
-    slice-aggregate-put
-    put-requires
-    enum-told-2
-    slice-aggregate-put-2
-    put-requires-2
-    enum-told-3
-    slice-aggregate-put-3
-    put-requires-3
-    enum-told-4
-    slice-aggregate-put-4
-    put-requires-4
-    enum-told-5
-    slice-aggregate-put-5
-    put-requires-5
-    enum-told-6
-    slice-aggregate-put-6
-    put-requires-6
-    enum-told-7
-    slice-aggregate-put-7
-    put-requires-7
-    enum-told-8
-    slice-aggregate-put-8
-    put-requires-8
-    enum-told-9
-    slice-aggregate-put-9
-    put-requires-9
-    enum-told-10
-    slice-aggregate-put-10
-    put-requires-10
-    enum-told-11
-    slice-aggregate-put-11
-    put-requires-11
-    enum-told-12
-    slice-aggregate-put-12
-    put-requires-12
-    enum-told-13
-    slice-aggregate-put-13
-    put-requires-13
-    same-length
-    returns
-    same-length-2
-    returns-2
-    same-length-3
-    returns-3
-    same-length-4
-    returns-4
-    same-length-5
-    returns-5
-    same-length-6
-    returns-6
-    same-length-7
-    returns-7
-    same-length-8
-    returns-8
-    same-length-9
-    returns-9
-    same-length-10
-    returns-10
-    same-length-11
-    returns-11
-    same-length-12
-    returns-12
-    same-length-13
-    returns-13)
+put-word-spec = tie.close (tie.spec enum-told slice-aggregate-put put-requires enum-told-2 slice-aggregate-put-2 put-requires-2 enum-told-3
+    slice-aggregate-put-3 put-requires-3 enum-told-4 slice-aggregate-put-4 put-requires-4 enum-told-5 slice-aggregate-put-5 put-requires-5 enum-told-6
+    slice-aggregate-put-6 put-requires-6 enum-told-7 slice-aggregate-put-7 put-requires-7 enum-told-8 slice-aggregate-put-8 put-requires-8 enum-told-9
+    slice-aggregate-put-9 put-requires-9 enum-told-10 slice-aggregate-put-10 put-requires-10 enum-told-11 slice-aggregate-put-11 put-requires-11
+    enum-told-12 slice-aggregate-put-12 put-requires-12 enum-told-13 slice-aggregate-put-13 put-requires-13 same-length returns same-length-2
+    returns-2 same-length-3 returns-3 same-length-4 returns-4 same-length-5 returns-5 same-length-6 returns-6 same-length-7 returns-7 same-length-8
+    returns-8 same-length-9 returns-9 same-length-10 returns-10 same-length-11 returns-11 same-length-12 returns-12 same-length-13 returns-13)

@@ -6,30 +6,6 @@ use borrow.Author.Needs.{needs}
 use Rattle.listing.proofs.leaves.put_leaf.Statement.{statement}
 use Rattle.listing.proofs.leaves.put_leaf.Tie as tie
 
-slice-aggregate-put : tie.Need-slice-aggregate-put
-slice-aggregate-put c = search needs
-
-put-requires : tie.Need-put-requires
-put-requires c κs = search needs
-
-word-requires : tie.Need-word-requires
-word-requires c κs = search needs
-
-put-truth-requires : tie.Need-put-truth-requires
-put-truth-requires c κs = search needs
-
-word-requires-2 : tie.Need-word-requires-2
-word-requires-2 c κs = search needs
-
-word-requires-3 : tie.Need-word-requires-3
-word-requires-3 c κs = search needs
-
-long-requires : tie.Need-long-requires
-long-requires c κs = search needs
-
-put-number-requires : tie.Need-put-number-requires
-put-number-requires c κs = search needs
-
 same-length : tie.Need-same-length
 same-length c = c .before .before .put .kept .0
 
@@ -65,21 +41,6 @@ returns-4 : tie.Need-returns-4
 returns-4 c = as-text (no-leaf (c .before .before .before .args .kind) (now (c .before .before .before .args .fields)) (c .match .rest .0 .0 .1) (c .match .rest .0 .1) (c .match .rest .1)) (puts-nothing _ _)
 
 pub put-leaf-spec : {M : Type 1} → statement M
-put-leaf-spec =
-    tie.close
-    (tie.spec
-    slice-aggregate-put
-    put-requires
-    word-requires
-    put-truth-requires
-    word-requires-2
-    word-requires-3
-    long-requires
-    put-number-requires
-    same-length
-    returns
-    same-length-2
-    returns-2
-    same-length-3
-    returns-3
+put-leaf-spec = tie.close (tie.spec (λ c. search needs) (λ c κs. search needs) (λ c κs. search needs) (λ c κs. search needs) (λ c κs. search needs)
+    (λ c κs. search needs) (λ c κs. search needs) (λ c κs. search needs) same-length returns same-length-2 returns-2 same-length-3 returns-3
     returns-4)

@@ -18,41 +18,14 @@ Inv-loop out₀ at s o₀ i₀ size₀ out o i size = Walked leafText leafIn out
 abbrev μ-loop : tie.MeasureT-loop
 μ-loop out₀ at s o₀ i₀ size₀ out o i size = length s - i
 
-size-at-requires : tie.Need-size-at-requires Inv-loop μ-loop
-size-at-requires c κs = search needs
-
 loop-holds : tie.Need-loop-holds Inv-loop μ-loop
 loop-holds c = let a = c .before .before .before .args in walk-starts leafText leafIn (now (a .out)) (a .at) (now (a .s)) _ (c .size-at .ensures)
-
-add-end : tie.Need-add-end Inv-loop μ-loop
-add-end c = search needs
-
-add-fields : tie.Need-add-fields Inv-loop μ-loop
-add-fields c = search needs
-
-add-word : tie.Need-add-word Inv-loop μ-loop
-add-word c = search needs
-
-word-requires : tie.Need-word-requires Inv-loop μ-loop
-word-requires c κs = search needs
 
 sub-put-leaf : tie.Need-sub-put-leaf Inv-loop μ-loop
 sub-put-leaf c = let h = walk-long leafText leafIn (c .before .before .before .loop .inv) (omega arith) in search needs
 
 part-put-leaf-start : tie.Need-part-put-leaf-start Inv-loop μ-loop
 part-put-leaf-start c = let h = walk-long leafText leafIn (c .before .before .before .loop .inv) (omega arith) in search needs
-
-part-put-leaf-end : tie.Need-part-put-leaf-end Inv-loop μ-loop
-part-put-leaf-end c = search needs
-
-put-leaf-requires : tie.Need-put-leaf-requires Inv-loop μ-loop
-put-leaf-requires c κs = search needs
-
-size-at-requires-2 : tie.Need-size-at-requires-2 Inv-loop μ-loop
-size-at-requires-2 c κs = search needs
-
-loop-less : tie.Need-loop-less Inv-loop μ-loop
-loop-less c = search needs
 
 loop-again : tie.Need-loop-again Inv-loop μ-loop
 loop-again c =
@@ -69,23 +42,6 @@ returns : tie.Need-returns Inv-loop μ-loop
 returns c = walk-ends leafText leafIn (c .before .loop .inv) (search needs)
 
 pub put-leaves-spec : {M : Type 1} → statement M
-put-leaves-spec =
-    tie.close
-    (tie.spec
-    Inv-loop
-    μ-loop
-    size-at-requires
-    loop-holds
-    add-end
-    add-fields
-    add-word
-    word-requires
-    sub-put-leaf
-    part-put-leaf-start
-    part-put-leaf-end
-    put-leaf-requires
-    size-at-requires-2
-    loop-less
-    loop-again
-    same-length
-    returns)
+put-leaves-spec = tie.close (tie.spec Inv-loop μ-loop (λ c κs. search needs) loop-holds (λ c. search needs) (λ c. search needs) (λ c. search needs)
+    (λ c κs. search needs) sub-put-leaf part-put-leaf-start (λ c. search needs) (λ c κs. search needs) (λ c κs. search needs) (λ c. search needs)
+    loop-again same-length returns)

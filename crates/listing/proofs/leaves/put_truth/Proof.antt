@@ -7,23 +7,11 @@ use borrow.Author.Needs.{needs}
 use Rattle.listing.proofs.leaves.put_truth.Statement.{statement}
 use Rattle.listing.proofs.leaves.put_truth.Tie as tie
 
-slice-aggregate-put : tie.Need-slice-aggregate-put
-slice-aggregate-put c = search needs
-
-put-requires : tie.Need-put-requires
-put-requires c κs = search needs
-
 same-length : tie.Need-same-length
 same-length c = c .before .before .put .kept .0
 
 returns : tie.Need-returns
 returns c = as-text (ap (λ b. leafText (Leaf.Truth b)) (sym (c .before .before .before .before .before .if1 .taken))) (c .before .before .put .ensures)
-
-slice-aggregate-put-2 : tie.Need-slice-aggregate-put-2
-slice-aggregate-put-2 c = search needs
-
-put-requires-2 : tie.Need-put-requires-2
-put-requires-2 c κs = search needs
 
 same-length-2 : tie.Need-same-length-2
 same-length-2 c = c .before .before .put2 .kept .0
@@ -32,14 +20,5 @@ returns-2 : tie.Need-returns-2
 returns-2 c = as-text (ap (λ b. leafText (Leaf.Truth b)) (sym (c .before .before .before .before .before .if1 .left))) (c .before .before .put2 .ensures)
 
 pub put-truth-spec : {M : Type 1} → statement M
-put-truth-spec =
-    tie.close
-    (tie.spec
-    slice-aggregate-put
-    put-requires
-    same-length
-    returns
-    slice-aggregate-put-2
-    put-requires-2
-    same-length-2
-    returns-2)
+put-truth-spec = tie.close (tie.spec (λ c. search needs) (λ c κs. search needs) same-length returns (λ c. search needs) (λ c κs. search needs)
+    same-length-2 returns-2)

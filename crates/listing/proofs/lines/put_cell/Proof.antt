@@ -6,21 +6,6 @@ use borrow.Author.Needs.{needs}
 use Rattle.listing.proofs.lines.put_cell.Statement.{statement}
 use Rattle.listing.proofs.lines.put_cell.Tie as tie
 
-word-requires : tie.Need-word-requires
-word-requires c κs = search needs
-
-behind-requires : tie.Need-behind-requires
-behind-requires c κs = search needs
-
-put-plain-cell-requires : tie.Need-put-plain-cell-requires
-put-plain-cell-requires c κs = search needs
-
-word-requires-2 : tie.Need-word-requires-2
-word-requires-2 c κs = search needs
-
-put-other-cell-requires : tie.Need-put-other-cell-requires
-put-other-cell-requires c κs = search needs
-
 same-length : tie.Need-same-length
 same-length c = c .before .before .put-plain-cell .kept .0
 
@@ -46,16 +31,5 @@ returns-3 : tie.Need-returns-3
 returns-3 c = as-text (no-cell (c .before .before .before .args .kind) (now (c .before .before .before .args .fields)) (c .match .rest .0 .1) (c .match .rest .1)) (puts-nothing _ _)
 
 pub put-cell-spec : {M : Type 1} → statement M
-put-cell-spec =
-    tie.close
-    (tie.spec
-    word-requires
-    behind-requires
-    put-plain-cell-requires
-    word-requires-2
-    put-other-cell-requires
-    same-length
-    returns
-    same-length-2
-    returns-2
-    returns-3)
+put-cell-spec = tie.close (tie.spec (λ c κs. search needs) (λ c κs. search needs) (λ c κs. search needs) (λ c κs. search needs) (λ c κs. search needs)
+    same-length returns same-length-2 returns-2 returns-3)

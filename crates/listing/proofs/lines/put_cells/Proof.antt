@@ -18,41 +18,14 @@ Inv-loop out₀ at report o₀ i₀ size₀ out o i size = Walked cellLine cellI
 abbrev μ-loop : tie.MeasureT-loop
 μ-loop out₀ at report o₀ i₀ size₀ out o i size = length report - i
 
-size-at-requires : tie.Need-size-at-requires Inv-loop μ-loop
-size-at-requires c κs = search needs
-
 loop-holds : tie.Need-loop-holds Inv-loop μ-loop
 loop-holds c = let a = c .before .before .before .args in walk-starts cellLine cellIn (now (a .out)) (a .at) (now (a .report)) _ (c .size-at .ensures)
-
-add-end : tie.Need-add-end Inv-loop μ-loop
-add-end c = search needs
-
-add-fields : tie.Need-add-fields Inv-loop μ-loop
-add-fields c = search needs
-
-add-word : tie.Need-add-word Inv-loop μ-loop
-add-word c = search needs
-
-word-requires : tie.Need-word-requires Inv-loop μ-loop
-word-requires c κs = search needs
 
 sub-put-cell : tie.Need-sub-put-cell Inv-loop μ-loop
 sub-put-cell c = let h = walk-long cellLine cellIn (c .before .before .before .loop .inv) (omega arith) in search needs
 
 part-put-cell-start : tie.Need-part-put-cell-start Inv-loop μ-loop
 part-put-cell-start c = let h = walk-long cellLine cellIn (c .before .before .before .loop .inv) (omega arith) in search needs
-
-part-put-cell-end : tie.Need-part-put-cell-end Inv-loop μ-loop
-part-put-cell-end c = search needs
-
-put-cell-requires : tie.Need-put-cell-requires Inv-loop μ-loop
-put-cell-requires c κs = search needs
-
-size-at-requires-2 : tie.Need-size-at-requires-2 Inv-loop μ-loop
-size-at-requires-2 c κs = search needs
-
-loop-less : tie.Need-loop-less Inv-loop μ-loop
-loop-less c = search needs
 
 loop-again : tie.Need-loop-again Inv-loop μ-loop
 loop-again c =
@@ -69,23 +42,6 @@ returns : tie.Need-returns Inv-loop μ-loop
 returns c = walk-ends cellLine cellIn (c .before .loop .inv) (search needs)
 
 pub put-cells-spec : {M : Type 1} → statement M
-put-cells-spec =
-    tie.close
-    (tie.spec
-    Inv-loop
-    μ-loop
-    size-at-requires
-    loop-holds
-    add-end
-    add-fields
-    add-word
-    word-requires
-    sub-put-cell
-    part-put-cell-start
-    part-put-cell-end
-    put-cell-requires
-    size-at-requires-2
-    loop-less
-    loop-again
-    same-length
-    returns)
+put-cells-spec = tie.close (tie.spec Inv-loop μ-loop (λ c κs. search needs) loop-holds (λ c. search needs) (λ c. search needs) (λ c. search needs)
+    (λ c κs. search needs) sub-put-cell part-put-cell-start (λ c. search needs) (λ c κs. search needs) (λ c κs. search needs) (λ c. search needs)
+    loop-again same-length returns)

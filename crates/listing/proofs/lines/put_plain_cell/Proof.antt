@@ -5,24 +5,6 @@ use borrow.Author.Needs.{needs}
 use Rattle.listing.proofs.lines.put_plain_cell.Statement.{statement}
 use Rattle.listing.proofs.lines.put_plain_cell.Tie as tie
 
-slice-aggregate-put : tie.Need-slice-aggregate-put
-slice-aggregate-put c = search needs
-
-put-requires : tie.Need-put-requires
-put-requires c κs = search needs
-
-put-decimal-requires : tie.Need-put-decimal-requires
-put-decimal-requires c κs = search needs
-
-put-leaves-requires : tie.Need-put-leaves-requires
-put-leaves-requires c κs = search needs
-
-slice-aggregate-put-2 : tie.Need-slice-aggregate-put-2
-slice-aggregate-put-2 c = search needs
-
-put-requires-2 : tie.Need-put-requires-2
-put-requires-2 c κs = search needs
-
 same-length : tie.Need-same-length
 same-length c =
     let at-put2 = c .before .before in
@@ -39,14 +21,5 @@ returns c =
     then (then (then (at-put .put .ensures) (at-put-decimal .put-decimal .ensures)) (at-put-leaves .put-leaves .ensures)) (c .before .before .put2 .ensures)
 
 pub put-plain-cell-spec : {M : Type 1} → statement M
-put-plain-cell-spec =
-    tie.close
-    (tie.spec
-    slice-aggregate-put
-    put-requires
-    put-decimal-requires
-    put-leaves-requires
-    slice-aggregate-put-2
-    put-requires-2
-    same-length
-    returns)
+put-plain-cell-spec = tie.close (tie.spec (λ c. search needs) (λ c κs. search needs) (λ c κs. search needs) (λ c κs. search needs) (λ c. search needs)
+    (λ c κs. search needs) same-length returns)

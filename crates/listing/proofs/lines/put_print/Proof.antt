@@ -9,21 +9,6 @@ use Rattle.listing.proofs.lines.put_print.Tie as tie
 returns : tie.Need-returns
 returns c = as-text (no-print (c .before .before .before .args .kind) (now (c .before .before .before .args .fields)) (c .if1 .taken)) (puts-nothing _ _)
 
-word-requires : tie.Need-word-requires
-word-requires c κs = search needs
-
-word-requires-2 : tie.Need-word-requires-2
-word-requires-2 c κs = search needs
-
-word-requires-3 : tie.Need-word-requires-3
-word-requires-3 c κs = search needs
-
-long-requires : tie.Need-long-requires
-long-requires c κs = search needs
-
-put-printed-requires : tie.Need-put-printed-requires
-put-printed-requires c κs = search needs
-
 same-length : tie.Need-same-length
 same-length c = c .before .before .put-printed .kept .0
 
@@ -38,14 +23,5 @@ returns-2 c =
     as-text (print-said (start .args .kind) (now (start .args .fields)) _ _ _ _ (at-if1 .if1 .left) (at-word .word .ensures) (at-long .long .ensures) (at-word2 .word2 .ensures) (at-word3 .word3 .ensures)) (c .before .before .put-printed .ensures)
 
 pub put-print-spec : {M : Type 1} → statement M
-put-print-spec =
-    tie.close
-    (tie.spec
-    returns
-    word-requires
-    word-requires-2
-    word-requires-3
-    long-requires
-    put-printed-requires
-    same-length
-    returns-2)
+put-print-spec = tie.close (tie.spec returns (λ c κs. search needs) (λ c κs. search needs) (λ c κs. search needs) (λ c κs. search needs)
+    (λ c κs. search needs) same-length returns-2)

@@ -5,30 +5,6 @@ use borrow.Author.Needs.{needs}
 use Rattle.listing.proofs.lines.put_printed.Statement.{statement}
 use Rattle.listing.proofs.lines.put_printed.Tie as tie
 
-slice-aggregate-put : tie.Need-slice-aggregate-put
-slice-aggregate-put c = search needs
-
-put-requires : tie.Need-put-requires
-put-requires c κs = search needs
-
-put-decimal-requires : tie.Need-put-decimal-requires
-put-decimal-requires c κs = search needs
-
-slice-aggregate-put-2 : tie.Need-slice-aggregate-put-2
-slice-aggregate-put-2 c = search needs
-
-put-requires-2 : tie.Need-put-requires-2
-put-requires-2 c κs = search needs
-
-put-signed-requires : tie.Need-put-signed-requires
-put-signed-requires c κs = search needs
-
-slice-aggregate-put-3 : tie.Need-slice-aggregate-put-3
-slice-aggregate-put-3 c = search needs
-
-put-requires-3 : tie.Need-put-requires-3
-put-requires-3 c κs = search needs
-
 same-length : tie.Need-same-length
 same-length c =
     let at-put3 = c .before .before in
@@ -47,16 +23,5 @@ returns c =
     then (then (then (then (at-put .put .ensures) (at-put-decimal .put-decimal .ensures)) (at-put2 .put2 .ensures)) (at-put-signed .put-signed .ensures)) (c .before .before .put3 .ensures)
 
 pub put-printed-spec : {M : Type 1} → statement M
-put-printed-spec =
-    tie.close
-    (tie.spec
-    slice-aggregate-put
-    put-requires
-    put-decimal-requires
-    slice-aggregate-put-2
-    put-requires-2
-    put-signed-requires
-    slice-aggregate-put-3
-    put-requires-3
-    same-length
-    returns)
+put-printed-spec = tie.close (tie.spec (λ c. search needs) (λ c κs. search needs) (λ c κs. search needs) (λ c. search needs) (λ c κs. search needs)
+    (λ c κs. search needs) (λ c. search needs) (λ c κs. search needs) same-length returns)

@@ -7,15 +7,6 @@ use borrow.Author.Needs.{needs}
 use Rattle.listing.proofs.offsets.front.Statement.{statement}
 use Rattle.listing.proofs.offsets.front.Tie as tie
 
-sub-result : tie.Need-sub-result
-sub-result c = search needs
-
-part-result-start : tie.Need-part-result-start
-part-result-start c = search needs
-
-part-result-end : tie.Need-part-result-end
-part-result-end c = search needs
-
 returns : tie.Need-returns
 returns c =
     let a = c .before .before .args in
@@ -28,4 +19,4 @@ returns-2 c =
     sym (take-all (a .n) (now (a .s)) (search needs))
 
 pub front-spec : {M : Type 1} → statement M
-front-spec = tie.close (tie.spec sub-result part-result-start part-result-end returns returns-2)
+front-spec = tie.close (tie.spec (λ c. search needs) (λ c. search needs) (λ c. search needs) returns returns-2)

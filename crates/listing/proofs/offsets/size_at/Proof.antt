@@ -3,17 +3,8 @@ use borrow.Author.Needs.{needs}
 use Rattle.listing.proofs.offsets.size_at.Statement.{statement}
 use Rattle.listing.proofs.offsets.size_at.Tie as tie
 
-word-requires : tie.Need-word-requires
-word-requires c κs = search needs
-
-cast-size : tie.Need-cast-size
-cast-size c = search needs
-
 returns : tie.Need-returns
 returns c = size-short _ _ _ (c .before .word .ensures) (search needs)
-
-sub-if2 : tie.Need-sub-if2
-sub-if2 c = search needs
 
 returns-2 : tie.Need-returns-2
 returns-2 c = size-past _ _ _ (c .before .before .word .ensures) (search needs) (search needs)
@@ -22,4 +13,4 @@ returns-3 : tie.Need-returns-3
 returns-3 c = size-whole _ _ _ (c .before .before .word .ensures) (search needs) (search needs)
 
 pub size-at-spec : {M : Type 1} → statement M
-size-at-spec = tie.close (tie.spec word-requires cast-size returns sub-if2 returns-2 returns-3)
+size-at-spec = tie.close (tie.spec (λ c κs. search needs) (λ c. search needs) returns (λ c. search needs) returns-2 returns-3)

@@ -6,9 +6,6 @@ use borrow.Author.Needs.{needs}
 use Rattle.listing.proofs.text.put_signed.Statement.{statement}
 use Rattle.listing.proofs.text.put_signed.Tie as tie
 
-put-decimal-requires : tie.Need-put-decimal-requires
-put-decimal-requires c κs = search needs
-
 same-length : tie.Need-same-length
 same-length c = c .before .before .put-decimal .kept .0
 
@@ -17,18 +14,6 @@ returns c =
     let at-if1 = c .before .before .before .before in
     let start = at-if1 .before .before in
     as-text (sym (not-negative (start .args .n) (at-if1 .if1 .taken))) (c .before .before .put-decimal .ensures)
-
-slice-aggregate-put : tie.Need-slice-aggregate-put
-slice-aggregate-put c = search needs
-
-put-requires : tie.Need-put-requires
-put-requires c κs = search needs
-
-sub-put-decimal : tie.Need-sub-put-decimal
-sub-put-decimal c = search needs
-
-put-decimal-requires-2 : tie.Need-put-decimal-requires-2
-put-decimal-requires-2 c κs = search needs
 
 same-length-2 : tie.Need-same-length-2
 same-length-2 c =
@@ -44,15 +29,5 @@ returns-2 c =
     as-text (sym (negative (start .args .n) (at-if1 .if1 .left))) (then (at-put .put .ensures) (c .before .before .put-decimal2 .ensures))
 
 pub put-signed-spec : {M : Type 1} → statement M
-put-signed-spec =
-    tie.close
-    (tie.spec
-    put-decimal-requires
-    same-length
-    returns
-    slice-aggregate-put
-    put-requires
-    sub-put-decimal
-    put-decimal-requires-2
-    same-length-2
-    returns-2)
+put-signed-spec = tie.close (tie.spec (λ c κs. search needs) same-length returns (λ c. search needs) (λ c κs. search needs) (λ c. search needs)
+    (λ c κs. search needs) same-length-2 returns-2)

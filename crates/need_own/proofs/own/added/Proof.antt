@@ -3,12 +3,6 @@ use mathlib.Core.Path.{refl, sym, _∙_}
 use Rattle.need_own.proofs.own.added.Statement.{statement}
 use Rattle.need_own.proofs.own.added.Tie as tie
 
-is-branch-requires : tie.Need-is-branch-requires
-is-branch-requires c κs = search needs
-
-no-needs-requires : tie.Need-no-needs-requires
-no-needs-requires c κs = search needs
-
 returns : tie.Need-returns
 returns c = rw (sym (c .before .before .is-branch .ensures) ∙ c .before .if1 .taken) (c .no-needs .ensures)
 
@@ -16,4 +10,4 @@ returns-2 : tie.Need-returns-2
 returns-2 c = rw (sym (c .before .is-branch .ensures) ∙ c .if1 .left) refl
 
 pub added-spec : {M : Type 1} → statement M
-added-spec = tie.close (tie.spec is-branch-requires no-needs-requires returns returns-2)
+added-spec = tie.close (tie.spec (λ c κs. search needs) (λ c κs. search needs) returns returns-2)

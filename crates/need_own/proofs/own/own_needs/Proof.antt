@@ -56,23 +56,5 @@ returns-5 : tie.Need-returns-5
 returns-5 c = c .advice-steps .ensures ∙ ap (λ m. ownIn m (c .before .before .before .args .own) (c .before .before .before .args .s) (c .before .before .before .args .p .0) (c .before .before .before .args .w)) (sym (c .before .enum-told5 .given .1))
 
 pub own-needs-spec : {M : Type 1} → statement M
-own-needs-spec =
-    tie.close
-    (tie.spec
-    enum-told
-    no-needs-requires
-    enum-told-2
-    raise-requires
-    reduction-requires
-    enum-told-3
-    no-needs-requires-2
-    reduction-requires-2
-    enum-told-4
-    no-needs-requires-3
-    enum-told-5
-    advice-steps-requires
-    returns
-    returns-2
-    returns-3
-    returns-4
-    returns-5)
+own-needs-spec = tie.close (tie.spec enum-told no-needs-requires enum-told-2 raise-requires reduction-requires enum-told-3 no-needs-requires-2
+    reduction-requires-2 enum-told-4 no-needs-requires-3 enum-told-5 advice-steps-requires returns returns-2 returns-3 returns-4 returns-5)

@@ -5,14 +5,8 @@ use mathlib.Core.Path.{refl, ap, _∙_}
 use Rattle.need_own.proofs.own.reduction.Statement.{statement}
 use Rattle.need_own.proofs.own.reduction.Tie as tie
 
-step-under-requires : tie.Need-step-under-requires
-step-under-requires c κs = search needs
-
 enum-told : tie.Need-enum-told
 enum-told c = c .match .keys1
-
-no-needs-requires : tie.Need-no-needs-requires
-no-needs-requires c κs = search needs
 
 enum-told-2 : tie.Need-enum-told-2
 enum-told-2 c = c .match .keys2
@@ -29,44 +23,23 @@ enum-told-5 c = c .match .keys5
 enum-told-6 : tie.Need-enum-told-6
 enum-told-6 c = c .match .keys6
 
-charged-requires : tie.Need-charged-requires
-charged-requires c κs = search needs
-
 enum-told-7 : tie.Need-enum-told-7
 enum-told-7 c = c .match .keys7
-
-charged-requires-2 : tie.Need-charged-requires-2
-charged-requires-2 c κs = search needs
 
 enum-told-8 : tie.Need-enum-told-8
 enum-told-8 c = c .match .keys8
 
-charged-requires-3 : tie.Need-charged-requires-3
-charged-requires-3 c κs = search needs
-
 enum-told-9 : tie.Need-enum-told-9
 enum-told-9 c = c .match .keys9
-
-charged-requires-4 : tie.Need-charged-requires-4
-charged-requires-4 c κs = search needs
 
 enum-told-10 : tie.Need-enum-told-10
 enum-told-10 c = c .match .keys10
 
-charged-requires-5 : tie.Need-charged-requires-5
-charged-requires-5 c κs = search needs
-
 enum-told-11 : tie.Need-enum-told-11
 enum-told-11 c = c .match .keys11
 
-charged-requires-6 : tie.Need-charged-requires-6
-charged-requires-6 c κs = search needs
-
 enum-told-12 : tie.Need-enum-told-12
 enum-told-12 c = c .match .keys12
-
-add-requires : tie.Need-add-requires
-add-requires c κs = search needs
 
 returns : tie.Need-returns
 returns c = rw (c .before .enum-told .given .1) (c .no-needs .ensures)
@@ -105,39 +78,7 @@ returns-12 : tie.Need-returns-12
 returns-12 c = rw (c .before .enum-told12 .given .1) (c .add .ensures ∙ ap (λ n. addNeeds n (c .before .before .before .before .before .args .w)) (c .before .before .before .before .step-under .ensures))
 
 pub reduction-spec : {M : Type 1} → statement M
-reduction-spec =
-    tie.close
-    (tie.spec
-    step-under-requires
-    enum-told
-    no-needs-requires
-    enum-told-2
-    enum-told-3
-    enum-told-4
-    enum-told-5
-    enum-told-6
-    charged-requires
-    enum-told-7
-    charged-requires-2
-    enum-told-8
-    charged-requires-3
-    enum-told-9
-    charged-requires-4
-    enum-told-10
-    charged-requires-5
-    enum-told-11
-    charged-requires-6
-    enum-told-12
-    add-requires
-    returns
-    returns-2
-    returns-3
-    returns-4
-    returns-5
-    returns-6
-    returns-7
-    returns-8
-    returns-9
-    returns-10
-    returns-11
-    returns-12)
+reduction-spec = tie.close (tie.spec (λ c κs. search needs) enum-told (λ c κs. search needs) enum-told-2 enum-told-3 enum-told-4 enum-told-5
+    enum-told-6 (λ c κs. search needs) enum-told-7 (λ c κs. search needs) enum-told-8 (λ c κs. search needs) enum-told-9 (λ c κs. search needs)
+    enum-told-10 (λ c κs. search needs) enum-told-11 (λ c κs. search needs) enum-told-12 (λ c κs. search needs) returns returns-2 returns-3 returns-4
+    returns-5 returns-6 returns-7 returns-8 returns-9 returns-10 returns-11 returns-12)

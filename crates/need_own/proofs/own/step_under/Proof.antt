@@ -3,11 +3,8 @@ use mathlib.Core.Path.{refl}
 use Rattle.need_own.proofs.own.step_under.Statement.{statement}
 use Rattle.need_own.proofs.own.step_under.Tie as tie
 
-no-needs-requires : tie.Need-no-needs-requires
-no-needs-requires c κs = search needs
-
 returns : tie.Need-returns
 returns c = rw (c .no-needs .ensures) refl
 
 pub step-under-spec : {M : Type 1} → statement M
-step-under-spec = tie.close (tie.spec no-needs-requires returns)
+step-under-spec = tie.close (tie.spec (λ c κs. search needs) returns)

@@ -9,21 +9,6 @@ use Rattle.need_sums.specs.Rows.{atMark}
 use Rattle.need_own.proofs.rows.at_mark.Statement.{statement}
 use Rattle.need_own.proofs.rows.at_mark.Tie as tie
 
-mul-n : tie.Need-mul-n
-mul-n c = search needs
-
-shared-slice-read-n : tie.Need-shared-slice-read-n
-shared-slice-read-n c = search needs
-
-add-n : tie.Need-add-n
-add-n c = search needs
-
-mul-n-2 : tie.Need-mul-n-2
-mul-n-2 c = search needs
-
-shared-slice-read-n-2 : tie.Need-shared-slice-read-n-2
-shared-slice-read-n-2 c = search needs
-
 returns : tie.Need-returns
 unfolding atMark
 returns c =
@@ -34,4 +19,4 @@ returns c =
 
 pub at-mark-spec : {M : Type 1} → statement M
 at-mark-spec =
-    tie.close (tie.spec mul-n shared-slice-read-n add-n mul-n-2 shared-slice-read-n-2 returns)
+    tie.close (tie.spec (λ c. search needs) (λ c. search needs) (λ c. search needs) (λ c. search needs) (λ c. search needs) returns)

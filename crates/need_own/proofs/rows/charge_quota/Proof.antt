@@ -18,36 +18,6 @@ abbrev μ-loop : tie.MeasureT-loop
 loop-holds : tie.Need-loop-holds Inv-loop μ-loop
 loop-holds c = (omega arith, c .before .pre .2, let a = c .before .args in finish _ (a .at) (a .at) (a .at + 0) _ _ (omega arith) (start _ (a .at) _))
 
-add-plus : tie.Need-add-plus Inv-loop μ-loop
-add-plus c = search needs
-
-mul-plus : tie.Need-mul-plus Inv-loop μ-loop
-mul-plus c = search needs
-
-slice-read-plus : tie.Need-slice-read-plus Inv-loop μ-loop
-slice-read-plus c = search needs
-
-row-pieces-requires : tie.Need-row-pieces-requires Inv-loop μ-loop
-row-pieces-requires c κs = search needs
-
-plus-requires : tie.Need-plus-requires Inv-loop μ-loop
-plus-requires c κs = search needs
-
-add-rows : tie.Need-add-rows Inv-loop μ-loop
-add-rows c = search needs
-
-mul-rows : tie.Need-mul-rows Inv-loop μ-loop
-mul-rows c = search needs
-
-slice-write-rows : tie.Need-slice-write-rows Inv-loop μ-loop
-slice-write-rows c = search needs
-
-add-i : tie.Need-add-i Inv-loop μ-loop
-add-i c = search needs
-
-loop-less : tie.Need-loop-less Inv-loop μ-loop
-loop-less c = search needs
-
 loop-again : tie.Need-loop-again Inv-loop μ-loop
 loop-again c =
     let at-loop-test = c .before .before .before in
@@ -62,9 +32,6 @@ loop-again c =
     let v = c .plus .ensures ∙ ap (λ y. cut (getD (l .rows) (a .at + l .i) 0 + y)) (c .before .row-pieces .ensures ∙ ap (λ y. piecesOf (a .own) (y + a .kept)) (sym z)) in
     (omega arith, simp length-set long, finish _ (a .at) (a .at + l .i + 1) (a .at + (l .i + 1)) _ _ (omega arith) (turn _ (a .at) (a .at + l .i) _ (l .rows) (c .plus .result) (omega arith) (omega arith) (l .inv .2) v))
 
-same-length : tie.Need-same-length Inv-loop μ-loop
-same-length c = search needs
-
 returns : tie.Need-returns Inv-loop μ-loop
 returns c =
     let l = c .before .loop in
@@ -73,22 +40,6 @@ returns c =
     finish _ _ _ _ _ (l .rows) (omega arith) (l .inv .2)
 
 pub charge-quota-spec : {M : Type 1} → statement M
-charge-quota-spec =
-    tie.close
-    (tie.spec
-    Inv-loop
-    μ-loop
-    loop-holds
-    add-plus
-    mul-plus
-    slice-read-plus
-    row-pieces-requires
-    plus-requires
-    add-rows
-    mul-rows
-    slice-write-rows
-    add-i
-    loop-less
-    loop-again
-    same-length
-    returns)
+charge-quota-spec = tie.close (tie.spec Inv-loop μ-loop loop-holds (λ c. search needs) (λ c. search needs) (λ c. search needs) (λ c κs. search needs)
+    (λ c κs. search needs) (λ c. search needs) (λ c. search needs) (λ c. search needs) (λ c. search needs) (λ c. search needs) loop-again
+    (λ c. search needs) returns)

@@ -9,24 +9,6 @@ use Rattle.need_own.proofs.Turns.{unchanged, mainline-charged, others-c
 use Rattle.need_own.proofs.rows.charge_rows.Statement.{statement}
 use Rattle.need_own.proofs.rows.charge_rows.Tie as tie
 
-is-body-requires : tie.Need-is-body-requires
-is-body-requires c κs = search needs
-
-takes-pieces-requires : tie.Need-takes-pieces-requires
-takes-pieces-requires c κs = search needs
-
-both-requires : tie.Need-both-requires
-both-requires c κs = search needs
-
-charge-quota-requires : tie.Need-charge-quota-requires
-charge-quota-requires c κs = search needs
-
-charge-quota-requires-2 : tie.Need-charge-quota-requires-2
-charge-quota-requires-2 c κs = search needs
-
-same-length : tie.Need-same-length
-same-length c = search needs
-
 returns : tie.Need-returns
 returns c =
     let at-if2 = c .before .before .before .before in
@@ -38,9 +20,6 @@ returns c =
     let t = at-both .both .ensures ∙ (ap (λ x. x && at-takes-pieces .takes-pieces .result) (at-is-body .is-body .ensures) ∙ ap (λ x. inBody (s .args .s .mode) && x) (at-takes-pieces .takes-pieces .ensures)) in
     let b : inBody (s .args .s .mode) ≡ true = and-l (inBody (s .args .s .mode)) (takesPieces (s .args .own)) (sym t ∙ at-if1 .if1 .taken) in
     mainline-charged (s .args .own) (s .args .s) (now (s .args .rows)) _ b (eq-eqb _ _ (at-if2 .if2 .taken)) (c .before .before .charge-quota .ensures)
-
-same-length-2 : tie.Need-same-length-2
-same-length-2 c = search needs
 
 returns-2 : tie.Need-returns-2
 returns-2 c =
@@ -61,16 +40,5 @@ returns-3 c =
     unchanged (s .args .own) (s .args .s) (now (s .args .rows)) (sym t ∙ c .if1 .left)
 
 pub charge-rows-spec : {M : Type 1} → statement M
-charge-rows-spec =
-    tie.close
-    (tie.spec
-    is-body-requires
-    takes-pieces-requires
-    both-requires
-    charge-quota-requires
-    charge-quota-requires-2
-    same-length
-    returns
-    same-length-2
-    returns-2
-    returns-3)
+charge-rows-spec = tie.close (tie.spec (λ c κs. search needs) (λ c κs. search needs) (λ c κs. search needs) (λ c κs. search needs)
+    (λ c κs. search needs) (λ c. search needs) returns (λ c. search needs) returns-2 returns-3)

@@ -4,39 +4,6 @@ use mathlib.Core.Path.{sym, ap, _∙_}
 use Rattle.need_sums.proofs.positions.child_position.Statement.{statement}
 use Rattle.need_sums.proofs.positions.child_position.Tie as tie
 
-enum-told : tie.Need-enum-told
-enum-told c = search needs
-
-enum-told-2 : tie.Need-enum-told-2
-enum-told-2 c = search needs
-
-running-child-requires : tie.Need-running-child-requires
-running-child-requires c κs = search needs
-
-enum-told-3 : tie.Need-enum-told-3
-enum-told-3 c = search needs
-
-running-child-requires-2 : tie.Need-running-child-requires-2
-running-child-requires-2 c κs = search needs
-
-enum-told-4 : tie.Need-enum-told-4
-enum-told-4 c = search needs
-
-advice-mode-requires : tie.Need-advice-mode-requires
-advice-mode-requires c κs = search needs
-
-asked-requires : tie.Need-asked-requires
-asked-requires c κs = search needs
-
-enum-told-5 : tie.Need-enum-told-5
-enum-told-5 c = search needs
-
-installed-child-requires : tie.Need-installed-child-requires
-installed-child-requires c κs = search needs
-
-returns : tie.Need-returns
-returns c = search needs
-
 returns-2 : tie.Need-returns-2
 returns-2 c = c .running-child .ensures ∙ ap (λ m. childIn m (c .before .before .before .args .s) (c .before .before .before .args .role) (c .before .before .before .args .p .0)) (sym (c .before .enum-told2 .given .1))
 
@@ -50,21 +17,6 @@ returns-5 : tie.Need-returns-5
 returns-5 c = c .installed-child .ensures ∙ ap (λ m. childIn m (c .before .before .before .args .s) (c .before .before .before .args .role) (c .before .before .before .args .p .0)) (sym (c .before .enum-told5 .given .1))
 
 pub child-position-spec : {M : Type 1} → statement M
-child-position-spec =
-    tie.close
-    (tie.spec
-    enum-told
-    enum-told-2
-    running-child-requires
-    enum-told-3
-    running-child-requires-2
-    enum-told-4
-    advice-mode-requires
-    asked-requires
-    enum-told-5
-    installed-child-requires
-    returns
-    returns-2
-    returns-3
-    returns-4
-    returns-5)
+child-position-spec = tie.close (tie.spec (λ c. search needs) (λ c. search needs) (λ c κs. search needs) (λ c. search needs) (λ c κs. search needs)
+    (λ c. search needs) (λ c κs. search needs) (λ c κs. search needs) (λ c. search needs) (λ c κs. search needs) (λ c. search needs) returns-2
+    returns-3 returns-4 returns-5)

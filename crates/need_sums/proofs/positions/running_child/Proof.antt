@@ -79,31 +79,6 @@ returns-9 : tie.Need-returns-9
 returns-9 c = search needs
 
 pub running-child-spec : {M : Type 1} → statement M
-running-child-spec =
-    tie.close
-    (tie.spec
-    enum-told
-    skipped-requires
-    enum-told-2
-    skipped-requires-2
-    enum-told-3
-    inside-requires
-    enum-told-4
-    add-t7
-    add-t8
-    enum-told-5
-    deeper-requires
-    enum-told-6
-    deeper-requires-2
-    enum-told-7
-    enum-told-8
-    enum-told-9
-    returns
-    returns-2
-    returns-3
-    returns-4
-    returns-5
-    returns-6
-    returns-7
-    returns-8
-    returns-9)
+running-child-spec = tie.close (tie.spec enum-told skipped-requires enum-told-2 skipped-requires-2 enum-told-3 inside-requires enum-told-4 add-t7
+    add-t8 enum-told-5 deeper-requires enum-told-6 deeper-requires-2 enum-told-7 enum-told-8 enum-told-9 returns returns-2 returns-3 returns-4
+    returns-5 returns-6 returns-7 returns-8 returns-9)

@@ -7,87 +7,6 @@ use Rattle.need_sums.proofs.Tables.{plain-shape}
 use Rattle.need_sums.proofs.shapes.shape_of.Statement.{statement}
 use Rattle.need_sums.proofs.shapes.shape_of.Tie as tie
 
-childless-requires : tie.Need-childless-requires
-childless-requires c κs = search needs
-
-childless-requires-2 : tie.Need-childless-requires-2
-childless-requires-2 c κs = search needs
-
-childless-requires-3 : tie.Need-childless-requires-3
-childless-requires-3 c κs = search needs
-
-childless-requires-4 : tie.Need-childless-requires-4
-childless-requires-4 c κs = search needs
-
-two-requires : tie.Need-two-requires
-two-requires c κs = search needs
-
-one-requires : tie.Need-one-requires
-one-requires c κs = search needs
-
-three-requires : tie.Need-three-requires
-three-requires c κs = search needs
-
-two-requires-2 : tie.Need-two-requires-2
-two-requires-2 c κs = search needs
-
-two-requires-3 : tie.Need-two-requires-3
-two-requires-3 c κs = search needs
-
-childless-requires-5 : tie.Need-childless-requires-5
-childless-requires-5 c κs = search needs
-
-two-requires-4 : tie.Need-two-requires-4
-two-requires-4 c κs = search needs
-
-two-requires-5 : tie.Need-two-requires-5
-two-requires-5 c κs = search needs
-
-childless-requires-6 : tie.Need-childless-requires-6
-childless-requires-6 c κs = search needs
-
-two-requires-6 : tie.Need-two-requires-6
-two-requires-6 c κs = search needs
-
-two-requires-7 : tie.Need-two-requires-7
-two-requires-7 c κs = search needs
-
-one-requires-2 : tie.Need-one-requires-2
-one-requires-2 c κs = search needs
-
-one-requires-3 : tie.Need-one-requires-3
-one-requires-3 c κs = search needs
-
-one-requires-4 : tie.Need-one-requires-4
-one-requires-4 c κs = search needs
-
-two-requires-8 : tie.Need-two-requires-8
-two-requires-8 c κs = search needs
-
-one-requires-5 : tie.Need-one-requires-5
-one-requires-5 c κs = search needs
-
-childless-requires-7 : tie.Need-childless-requires-7
-childless-requires-7 c κs = search needs
-
-one-requires-6 : tie.Need-one-requires-6
-one-requires-6 c κs = search needs
-
-childless-requires-8 : tie.Need-childless-requires-8
-childless-requires-8 c κs = search needs
-
-three-requires-2 : tie.Need-three-requires-2
-three-requires-2 c κs = search needs
-
-three-requires-3 : tie.Need-three-requires-3
-three-requires-3 c κs = search needs
-
-one-requires-7 : tie.Need-one-requires-7
-one-requires-7 c κs = search needs
-
-childless-requires-9 : tie.Need-childless-requires-9
-childless-requires-9 c κs = search needs
-
 returns : tie.Need-returns
 returns c = λ k e. c .childless .ensures ∙ ap shapeOf (same-term-kind TermKind.unit k (sym (c .before .match .keys1) ∙ e))
 
@@ -173,61 +92,10 @@ returns-28 : tie.Need-returns-28
 returns-28 c = λ k e. c .childless9 .ensures ∙ sym (plain-shape _ (c .before .match .rest) k e)
 
 pub shape-of-spec : {M : Type 1} → statement M
-shape-of-spec =
-    tie.close
-    (tie.spec
-    childless-requires
-    childless-requires-2
-    childless-requires-3
-    childless-requires-4
-    two-requires
-    one-requires
-    three-requires
-    two-requires-2
-    two-requires-3
-    childless-requires-5
-    two-requires-4
-    two-requires-5
-    childless-requires-6
-    two-requires-6
-    two-requires-7
-    one-requires-2
-    one-requires-3
-    one-requires-4
-    two-requires-8
-    one-requires-5
-    childless-requires-7
-    one-requires-6
-    childless-requires-8
-    three-requires-2
-    three-requires-3
-    one-requires-7
-    childless-requires-9
-    returns
-    returns-2
-    returns-3
-    returns-4
-    returns-5
-    returns-6
-    returns-7
-    returns-8
-    returns-9
-    returns-10
-    returns-11
-    returns-12
-    returns-13
-    returns-14
-    returns-15
-    returns-16
-    returns-17
-    returns-18
-    returns-19
-    returns-20
-    returns-21
-    returns-22
-    returns-23
-    returns-24
-    returns-25
-    returns-26
-    returns-27
-    returns-28)
+shape-of-spec = tie.close (tie.spec (λ c κs. search needs) (λ c κs. search needs) (λ c κs. search needs) (λ c κs. search needs) (λ c κs. search needs)
+    (λ c κs. search needs) (λ c κs. search needs) (λ c κs. search needs) (λ c κs. search needs) (λ c κs. search needs) (λ c κs. search needs)
+    (λ c κs. search needs) (λ c κs. search needs) (λ c κs. search needs) (λ c κs. search needs) (λ c κs. search needs) (λ c κs. search needs)
+    (λ c κs. search needs) (λ c κs. search needs) (λ c κs. search needs) (λ c κs. search needs) (λ c κs. search needs) (λ c κs. search needs)
+    (λ c κs. search needs) (λ c κs. search needs) (λ c κs. search needs) (λ c κs. search needs) returns returns-2 returns-3 returns-4 returns-5
+    returns-6 returns-7 returns-8 returns-9 returns-10 returns-11 returns-12 returns-13 returns-14 returns-15 returns-16 returns-17 returns-18
+    returns-19 returns-20 returns-21 returns-22 returns-23 returns-24 returns-25 returns-26 returns-27 returns-28)

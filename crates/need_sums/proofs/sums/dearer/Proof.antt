@@ -3,39 +3,6 @@ use Rattle.need_sums.specs.Sums.{dearerNeeds}
 use Rattle.need_sums.proofs.sums.dearer.Statement.{statement}
 use Rattle.need_sums.proofs.sums.dearer.Tie as tie
 
-larger-requires : tie.Need-larger-requires
-larger-requires c κs = search needs
-
-larger-requires-2 : tie.Need-larger-requires-2
-larger-requires-2 c κs = search needs
-
-larger-requires-3 : tie.Need-larger-requires-3
-larger-requires-3 c κs = search needs
-
-larger-requires-4 : tie.Need-larger-requires-4
-larger-requires-4 c κs = search needs
-
-larger-requires-5 : tie.Need-larger-requires-5
-larger-requires-5 c κs = search needs
-
-larger-requires-6 : tie.Need-larger-requires-6
-larger-requires-6 c κs = search needs
-
-larger-requires-7 : tie.Need-larger-requires-7
-larger-requires-7 c κs = search needs
-
-larger-requires-8 : tie.Need-larger-requires-8
-larger-requires-8 c κs = search needs
-
-larger-requires-9 : tie.Need-larger-requires-9
-larger-requires-9 c κs = search needs
-
-larger-requires-10 : tie.Need-larger-requires-10
-larger-requires-10 c κs = search needs
-
-larger-requires-11 : tie.Need-larger-requires-11
-larger-requires-11 c κs = search needs
-
 returns : tie.Need-returns
 unfolding dearerNeeds
 returns c =
@@ -57,18 +24,5 @@ returns c =
     }
 
 pub dearer-spec : {M : Type 1} → statement M
-dearer-spec =
-    tie.close
-    (tie.spec
-    larger-requires
-    larger-requires-2
-    larger-requires-3
-    larger-requires-4
-    larger-requires-5
-    larger-requires-6
-    larger-requires-7
-    larger-requires-8
-    larger-requires-9
-    larger-requires-10
-    larger-requires-11
-    returns)
+dearer-spec = tie.close (tie.spec (λ c κs. search needs) (λ c κs. search needs) (λ c κs. search needs) (λ c κs. search needs) (λ c κs. search needs)
+    (λ c κs. search needs) (λ c κs. search needs) (λ c κs. search needs) (λ c κs. search needs) (λ c κs. search needs) (λ c κs. search needs) returns)

@@ -3,9 +3,6 @@ use Rattle.need_sums.specs.Sums.{raiseNeeds}
 use Rattle.need_sums.proofs.sums.raise.Statement.{statement}
 use Rattle.need_sums.proofs.sums.raise.Tie as tie
 
-raised-requires : tie.Need-raised-requires
-raised-requires c κs = search needs
-
 returns : tie.Need-returns
 unfolding raiseNeeds
 returns c =
@@ -25,4 +22,4 @@ returns c =
     }
 
 pub raise-spec : {M : Type 1} → statement M
-raise-spec = tie.close (tie.spec raised-requires returns)
+raise-spec = tie.close (tie.spec (λ c κs. search needs) returns)

@@ -5,24 +5,6 @@ use borrow.Author.Needs.{needs}
 use Rattle.read_records.proofs.fields.field_or_zero.Statement.{statement}
 use Rattle.read_records.proofs.fields.field_or_zero.Tie as tie
 
-mul-at : tie.Need-mul-at
-mul-at c = search needs
-
-add-if1 : tie.Need-add-if1
-add-if1 c = search needs
-
-word-requires : tie.Need-word-requires
-word-requires c κs = search needs
-
-returns : tie.Need-returns
-returns c = search needs
-
-shared-slice-read-wide : tie.Need-shared-slice-read-wide
-shared-slice-read-wide c = search needs
-
-wide-requires : tie.Need-wide-requires
-wide-requires c κs = search needs
-
 returns-2 : tie.Need-returns-2
 returns-2 c =
     let a = c .before .before .before .before .before .args in
@@ -34,14 +16,5 @@ returns-3 c =
     past-bytes (now (a .fields)) (2 * a .i) (c .if2 .left)
 
 pub field-or-zero-spec : {M : Type 1} → statement M
-field-or-zero-spec =
-    tie.close
-    (tie.spec
-    mul-at
-    add-if1
-    word-requires
-    returns
-    shared-slice-read-wide
-    wide-requires
-    returns-2
-    returns-3)
+field-or-zero-spec = tie.close (tie.spec (λ c. search needs) (λ c. search needs) (λ c κs. search needs) (λ c. search needs) (λ c. search needs)
+    (λ c κs. search needs) returns-2 returns-3)

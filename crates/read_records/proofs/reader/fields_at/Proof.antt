@@ -6,15 +6,6 @@ use Rattle.read_records.specs.Heads.{fieldBytes}
 use Rattle.read_records.proofs.reader.fields_at.Statement.{statement}
 use Rattle.read_records.proofs.reader.fields_at.Tie as tie
 
-word-requires : tie.Need-word-requires
-word-requires c κs = search needs
-
-cast-len : tie.Need-cast-len
-cast-len c = search needs
-
-fields-from-requires : tie.Need-fields-from-requires
-fields-from-requires c κs = search needs
-
 returns : tie.Need-returns
 returns c =
     let w = c .before in
@@ -22,4 +13,4 @@ returns c =
     c .fields-from .ensures ∙ ap (fieldBytes (now (a .image)) (a .at)) (w .word .ensures)
 
 pub fields-at-spec : {M : Type 1} → statement M
-fields-at-spec = tie.close (tie.spec word-requires cast-len fields-from-requires returns)
+fields-at-spec = tie.close (tie.spec (λ c κs. search needs) (λ c. search needs) (λ c κs. search needs) returns)

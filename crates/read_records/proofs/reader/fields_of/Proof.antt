@@ -6,21 +6,6 @@ use mathlib.Core.Path.{_≡_}
 use Rattle.read_records.proofs.reader.fields_of.Statement.{statement}
 use Rattle.read_records.proofs.reader.fields_of.Tie as tie
 
-add-a : tie.Need-add-a
-add-a c = search needs
-
-add-e : tie.Need-add-e
-add-e c = search needs
-
-sub-result : tie.Need-sub-result
-sub-result c = search needs
-
-part-result-start : tie.Need-part-result-start
-part-result-start c = search needs
-
-part-result-end : tie.Need-part-result-end
-part-result-end c = search needs
-
 returns : tie.Need-returns
 returns c =
     let a = c .before .args in
@@ -28,4 +13,4 @@ returns c =
     rw z
 
 pub fields-of-spec : {M : Type 1} → statement M
-fields-of-spec = tie.close (tie.spec add-a add-e sub-result part-result-start part-result-end returns)
+fields-of-spec = tie.close (tie.spec (λ c. search needs) (λ c. search needs) (λ c. search needs) (λ c. search needs) (λ c. search needs) returns)

@@ -10,9 +10,6 @@ use Rattle.read_records.proofs.Codes.{codes-length}
 use Rattle.read_records.proofs.table.code_of.Statement.{statement}
 use Rattle.read_records.proofs.table.code_of.Tie as tie
 
-mul-result : tie.Need-mul-result
-mul-result c = search needs
-
 shared-slice-read-result : tie.Need-shared-slice-read-result
 shared-slice-read-result c = let h : length (now (c .before .before .args .kinds)) ≡ codeCount = rw (c .before .before .pre) codes-length in omega arith
 
@@ -23,4 +20,4 @@ returns-2 : tie.Need-returns-2
 returns-2 c = sym (List·getD-eq-default kindCodes 0 {n = c .before .args .kind} (omega (arith, ltb-false, codes-length)))
 
 pub code-of-spec : {M : Type 1} → statement M
-code-of-spec = tie.close (tie.spec mul-result shared-slice-read-result returns returns-2)
+code-of-spec = tie.close (tie.spec (λ c. search needs) shared-slice-read-result returns returns-2)

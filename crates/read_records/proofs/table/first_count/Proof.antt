@@ -6,27 +6,12 @@ use Rattle.read_records.proofs.Codes.{once-most}
 use Rattle.read_records.proofs.table.first_count.Statement.{statement}
 use Rattle.read_records.proofs.table.first_count.Tie as tie
 
-least-length-requires : tie.Need-least-length-requires
-least-length-requires c κs = search needs
-
-sub-fields : tie.Need-sub-fields
-sub-fields c = search needs
-
-least-times-requires : tie.Need-least-times-requires
-least-times-requires c κs = search needs
-
-group-count-requires : tie.Need-group-count-requires
-group-count-requires c κs = search needs
-
 mul-result : tie.Need-mul-result
 mul-result c =
     let t = c .before in
     let x = t .before .before .args .code in
     let m = once-most (leastOf x) (groupOf x) (omega arith) in
     rw (t .least-times .ensures, c .group-count .ensures) (search needs)
-
-last-count-requires : tie.Need-last-count-requires
-last-count-requires c κs = search needs
 
 add-result : tie.Need-add-result
 add-result c =
@@ -51,15 +36,5 @@ returns c =
     rw (t .before .least-length .ensures, t .least-times .ensures, g .group-count .ensures, c .last-count .ensures)
 
 pub first-count-spec : {M : Type 1} → statement M
-first-count-spec =
-    tie.close
-    (tie.spec
-    least-length-requires
-    sub-fields
-    least-times-requires
-    group-count-requires
-    mul-result
-    last-count-requires
-    add-result
-    sub-result
-    returns)
+first-count-spec = tie.close (tie.spec (λ c κs. search needs) (λ c. search needs) (λ c κs. search needs) (λ c κs. search needs) mul-result
+    (λ c κs. search needs) add-result sub-result returns)

@@ -8,22 +8,10 @@ use Rattle.read_records.proofs.Codes.{goes-into, into-most}
 use Rattle.read_records.proofs.table.group_times.Statement.{statement}
 use Rattle.read_records.proofs.table.group_times.Tie as tie
 
-group-count-requires : tie.Need-group-count-requires
-group-count-requires c κs = search needs
-
 returns : tie.Need-returns
 returns c =
     let e : groupOf (c .before .before .args .code) ≡ 0 = sym (c .before .group-count .ensures) ∙ c .if1 .taken in
     rw e
-
-first-count-requires : tie.Need-first-count-requires
-first-count-requires c κs = search needs
-
-last-count-requires : tie.Need-last-count-requires
-last-count-requires c κs = search needs
-
-add-others : tie.Need-add-others
-add-others c = search needs
 
 returns-2 : tie.Need-returns-2
 returns-2 c =
@@ -34,9 +22,6 @@ returns-2 c =
     let z : n ≡ 0 = omega (arith, l .last-count .ensures, f .first-count .ensures) in
     let i = into-most (groupOf (a .code)) n in
     omega arith
-
-div-result : tie.Need-div-result
-div-result c = search needs
 
 returns-3 : tie.Need-returns-3
 returns-3 c =
@@ -49,14 +34,5 @@ returns-3 c =
     rw (f .first-count .ensures, l .last-count .ensures, e) (goes-into (groupOf (a .code)) n (λ z. f .before .if1 .left (e ∙ z)))
 
 pub group-times-spec : {M : Type 1} → statement M
-group-times-spec =
-    tie.close
-    (tie.spec
-    group-count-requires
-    returns
-    first-count-requires
-    last-count-requires
-    add-others
-    returns-2
-    div-result
-    returns-3)
+group-times-spec = tie.close (tie.spec (λ c κs. search needs) returns (λ c κs. search needs) (λ c κs. search needs) (λ c. search needs) returns-2
+    (λ c. search needs) returns-3)

@@ -6,12 +6,6 @@ use mathlib.Core.Path.{_∙_}
 use borrow.Author.Tests.{lt-ltb, le-ltb}
 use Rattle.read_terms.specs.Masks.{bitOf}
 
-mask-at-requires : tie.Need-mask-at-requires
-mask-at-requires c κs = search needs
-
-bit-requires : tie.Need-bit-requires
-bit-requires c κs = search needs
-
 returns : tie.Need-returns
 unfolding bitOf
 returns c = c .bit .ensures ∙ simp (lt-ltb _ _ (c .before .before .before .before .if1 .taken), lt-ltb _ _ (c .before .before .if2 .taken), c .before .mask-at .ensures)
@@ -25,4 +19,4 @@ unfolding bitOf
 returns-3 c = simp (le-ltb _ _ (c .if1 .left))
 
 pub leq-spec : {M : Type 1} → statement M
-leq-spec = tie.close (tie.spec mask-at-requires bit-requires returns returns-2 returns-3)
+leq-spec = tie.close (tie.spec (λ c κs. search needs) (λ c κs. search needs) returns returns-2 returns-3)

@@ -29,10 +29,4 @@ returns c =
     c .word .ensures ∙ ap (λ fs. le16 fs 0) (c .before .fields-at .ensures ∙ ap (fieldsAt (now (s .args .image))) e) ∙ mask-is (s .pre .0) (s .pre .1)
 
 pub mask-of-spec : {M : Type 1} → statement M
-mask-of-spec =
-    tie.close
-    (tie.spec
-    domain-offset-requires
-    fields-at-requires
-    word-requires
-    returns)
+mask-of-spec = tie.close (tie.spec domain-offset-requires fields-at-requires word-requires returns)

@@ -30,21 +30,6 @@ loop-holds c =
     let z : now (s .args .table) ≡ replicate domainLimit 0 = s .pre .2 in
     (omega arith, omega arith, ap length z, λ k. ap (λ t. getD t k 0) z ∙ filled-none domainLimit k (masks (recordsOf (now (s .args .image)))))
 
-cast-t9 : tie.Need-cast-t9 Inv-loop μ-loop
-cast-t9 c = search needs
-
-mask-of-requires : tie.Need-mask-of-requires Inv-loop μ-loop
-mask-of-requires c κs = search needs
-
-set-mask-requires : tie.Need-set-mask-requires Inv-loop μ-loop
-set-mask-requires c κs = search needs
-
-add-i : tie.Need-add-i Inv-loop μ-loop
-add-i c = search needs
-
-loop-less : tie.Need-loop-less Inv-loop μ-loop
-loop-less c = search needs
-
 loop-again : tie.Need-loop-again Inv-loop μ-loop
 loop-again c =
     let at-loop = c .before .before .before .before in
@@ -70,16 +55,5 @@ returns c =
     record { sixteen = i .2; each = λ k. i .3 k ∙ ap (λ j. getD (take j (masks L)) k 0) e ∙ ap (λ l. getD l k 0) (take-length (masks L)) }
 
 pub set-masks-spec : {M : Type 1} → statement M
-set-masks-spec =
-    tie.close
-    (tie.spec
-    Inv-loop
-    μ-loop
-    loop-holds
-    cast-t9
-    mask-of-requires
-    set-mask-requires
-    add-i
-    loop-less
-    loop-again
-    returns)
+set-masks-spec = tie.close (tie.spec Inv-loop μ-loop loop-holds (λ c. search needs) (λ c κs. search needs) (λ c κs. search needs) (λ c. search needs)
+    (λ c. search needs) loop-again returns)

@@ -17,24 +17,12 @@ Inv-loop fields j n left₀ i₀ left i = (i ≤ n) × (left < length (entriesLe
 abbrev μ-loop : tie.MeasureT-loop
 μ-loop fields j n left₀ i₀ left i = n - i
 
-entries-in-requires : tie.Need-entries-in-requires Inv-loop μ-loop
-entries-in-requires c κs = search needs
-
 loop-holds : tie.Need-loop-holds Inv-loop μ-loop
 loop-holds c =
     let s = c .before .before in
     let e = at-first (now (s .args .fields)) (c .entries-in .result) (c .entries-in .ensures) in
     let h = s .pre in
     rw (← e) (search needs, h, refl)
-
-add-field : tie.Need-add-field Inv-loop μ-loop
-add-field c = search needs
-
-field-requires : tie.Need-field-requires Inv-loop μ-loop
-field-requires c κs = search needs
-
-both-requires : tie.Need-both-requires Inv-loop μ-loop
-both-requires c κs = search needs
 
 entry-term-requires : tie.Need-entry-term-requires Inv-loop μ-loop
 entry-term-requires c κs =
@@ -63,12 +51,6 @@ left-behind-requires c κs =
     let f = b .before in
     not-first (f .field .result) (f .before .before .loop .left) (b .both .result) (b .both .ensures) (c .if1 .left)
 
-add-i : tie.Need-add-i Inv-loop μ-loop
-add-i c = search needs
-
-loop-less : tie.Need-loop-less Inv-loop μ-loop
-loop-less c = search needs
-
 loop-again : tie.Need-loop-again Inv-loop μ-loop
 loop-again c =
     let b = c .before .before in
@@ -93,20 +75,5 @@ returns-2 c =
     absurd (omega arith)
 
 pub entry-term-at-spec : {M : Type 1} → statement M
-entry-term-at-spec =
-    tie.close
-    (tie.spec
-    Inv-loop
-    μ-loop
-    entries-in-requires
-    loop-holds
-    add-field
-    field-requires
-    both-requires
-    entry-term-requires
-    returns
-    left-behind-requires
-    add-i
-    loop-less
-    loop-again
-    returns-2)
+entry-term-at-spec = tie.close (tie.spec Inv-loop μ-loop (λ c κs. search needs) loop-holds (λ c. search needs) (λ c κs. search needs)
+    (λ c κs. search needs) entry-term-requires returns left-behind-requires (λ c. search needs) (λ c. search needs) loop-again returns-2)

@@ -19,23 +19,11 @@ Inv-loop fields n count₀ i₀ count i = (i ≤ n) × (count ≤ i) × (length 
 abbrev μ-loop : tie.MeasureT-loop
 μ-loop fields n count₀ i₀ count i = n - i
 
-entries-in-requires : tie.Need-entries-in-requires Inv-loop μ-loop
-entries-in-requires c κs = search needs
-
 loop-holds : tie.Need-loop-holds Inv-loop μ-loop
 loop-holds c =
     let fs = now (c .before .before .args .fields) in
     let e = ap length (at-first fs (c .entries-in .result) (c .entries-in .ensures)) in
     (search needs, search needs, omega arith)
-
-add-field : tie.Need-add-field Inv-loop μ-loop
-add-field c = search needs
-
-field-requires : tie.Need-field-requires Inv-loop μ-loop
-field-requires c κs = search needs
-
-names-one-requires : tie.Need-names-one-requires Inv-loop μ-loop
-names-one-requires c κs = search needs
 
 add-count : tie.Need-add-count Inv-loop μ-loop
 add-count c =
@@ -44,12 +32,6 @@ add-count c =
     let l = c .before .before .before .loop in
     let h = l .inv .1 in
     search needs
-
-add-i : tie.Need-add-i Inv-loop μ-loop
-add-i c = search needs
-
-loop-less : tie.Need-loop-less Inv-loop μ-loop
-loop-less c = search needs
 
 loop-again : tie.Need-loop-again Inv-loop μ-loop
 loop-again c =
@@ -77,18 +59,5 @@ returns c =
     omega arith
 
 pub entry-term-count-spec : {M : Type 1} → statement M
-entry-term-count-spec =
-    tie.close
-    (tie.spec
-    Inv-loop
-    μ-loop
-    entries-in-requires
-    loop-holds
-    add-field
-    field-requires
-    names-one-requires
-    add-count
-    add-i
-    loop-less
-    loop-again
-    returns)
+entry-term-count-spec = tie.close (tie.spec Inv-loop μ-loop (λ c κs. search needs) loop-holds (λ c. search needs) (λ c κs. search needs)
+    (λ c κs. search needs) add-count (λ c. search needs) (λ c. search needs) loop-again returns)

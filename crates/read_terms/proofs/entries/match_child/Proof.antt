@@ -7,12 +7,6 @@ use Rattle.read_terms.proofs.Matches.{children-all, first-child, later-
 use Rattle.read_terms.proofs.entries.match_child.Statement.{statement}
 use Rattle.read_terms.proofs.entries.match_child.Tie as tie
 
-add-field : tie.Need-add-field
-add-field c = search needs
-
-field-requires : tie.Need-field-requires
-field-requires c κs = search needs
-
 returns : tie.Need-returns
 returns c = let a = c .before .before .before .args in c .field .ensures ∙ first-child (now (a .fields)) (a .j) (c .before .if1 .taken)
 
@@ -29,4 +23,4 @@ returns-2 c = let a = c .before .before .before .args in c .entry-term-at .ensur
 
 pub match-child-spec : {M : Type 1} → statement M
 match-child-spec =
-    tie.close (tie.spec add-field field-requires returns entry-term-at-requires returns-2)
+    tie.close (tie.spec (λ c. search needs) (λ c κs. search needs) returns entry-term-at-requires returns-2)

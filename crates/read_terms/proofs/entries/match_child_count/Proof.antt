@@ -6,9 +6,6 @@ use Rattle.read_terms.proofs.Matches.{children-few, children-all}
 use Rattle.read_terms.proofs.entries.match_child_count.Statement.{statement}
 use Rattle.read_terms.proofs.entries.match_child_count.Tie as tie
 
-entry-term-count-requires : tie.Need-entry-term-count-requires
-entry-term-count-requires c κs = search needs
-
 add-result : tie.Need-add-result
 add-result c =
     let f = children-few (now (c .before .before .args .fields)) in
@@ -22,4 +19,4 @@ returns c =
     omega arith
 
 pub match-child-count-spec : {M : Type 1} → statement M
-match-child-count-spec = tie.close (tie.spec entry-term-count-requires add-result returns)
+match-child-count-spec = tie.close (tie.spec (λ c κs. search needs) add-result returns)

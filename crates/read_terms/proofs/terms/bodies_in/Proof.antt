@@ -6,11 +6,8 @@ use mathlib.Core.Path.{sym}
 use denote.Ref.{now}
 use Rattle.read_terms.proofs.Counts.{body-count}
 
-sub-result : tie.Need-sub-result
-sub-result c = search needs
-
 returns : tie.Need-returns
 returns c = sym (body-count (now (c .args .fields)))
 
 pub bodies-in-spec : {M : Type 1} → statement M
-bodies-in-spec = tie.close (tie.spec sub-result returns)
+bodies-in-spec = tie.close (tie.spec (λ c. search needs) returns)

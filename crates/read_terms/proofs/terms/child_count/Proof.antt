@@ -15,15 +15,6 @@ use Rattle.image.proofs.Offsets.{sideBySide}
 use Rattle.read_terms.proofs.Counts.{children-counted}
 use Rattle.read_terms.proofs.Elimination.{none-below}
 
-labels-in-requires : tie.Need-labels-in-requires
-labels-in-requires c κs = search needs
-
-bodies-in-requires : tie.Need-bodies-in-requires
-bodies-in-requires c κs = search needs
-
-match-child-count-requires : tie.Need-match-child-count-requires
-match-child-count-requires c κs = search needs
-
 -- A kind's children stand side by side, as many as its fields tell.
 counted : (fs : List ℕ) (j k : TermKind) → sideBySide j ≡ true → j ≡ k → countIn fs j ≡ length (childrenIn fs k)
 counted fs j k side e = sym (children-counted fs j side) ∙ ap (λ i. length (childrenIn fs i)) e
@@ -95,31 +86,6 @@ returns-22 : tie.Need-returns-22
 returns-22 c = λ k e. sym (none-below (now (c .before .before .args .fields)) _ (c .match .rest) k e)
 
 pub child-count-spec : {M : Type 1} → statement M
-child-count-spec =
-    tie.close
-    (tie.spec
-    labels-in-requires
-    bodies-in-requires
-    match-child-count-requires
-    returns
-    returns-2
-    returns-3
-    returns-4
-    returns-5
-    returns-6
-    returns-7
-    returns-8
-    returns-9
-    returns-10
-    returns-11
-    returns-12
-    returns-13
-    returns-14
-    returns-15
-    returns-16
-    returns-17
-    returns-18
-    returns-19
-    returns-20
-    returns-21
-    returns-22)
+child-count-spec = tie.close (tie.spec (λ c κs. search needs) (λ c κs. search needs) (λ c κs. search needs) returns returns-2 returns-3 returns-4
+    returns-5 returns-6 returns-7 returns-8 returns-9 returns-10 returns-11 returns-12 returns-13 returns-14 returns-15 returns-16 returns-17
+    returns-18 returns-19 returns-20 returns-21 returns-22)

@@ -64,11 +64,4 @@ returns-2 c =
     rw (s .pre .1 .1) at (c .child-at-field .ensures) ∙ (H .side m ∙ ap (λ i. getD (childrenIn fs i) (s .args .j) 0) (same-term-kind (s .pre .0) k (sym (s .pre .1 .0) ∙ e)))
 
 pub child-of-spec : {M : Type 1} → statement M
-child-of-spec =
-    tie.close
-    (tie.spec
-    match-child-requires
-    returns
-    add-child-at-field
-    child-at-field-requires
-    returns-2)
+child-of-spec = tie.close (tie.spec match-child-requires returns add-child-at-field child-at-field-requires returns-2)

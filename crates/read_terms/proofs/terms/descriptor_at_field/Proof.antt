@@ -6,16 +6,10 @@ use mathlib.Core.Path.{ap, _∙_}
 use denote.Ref.{now}
 use lib.ListN.{getD}
 
-type-at-field-requires : tie.Need-type-at-field-requires
-type-at-field-requires c κs = search needs
-
-type-descriptor-requires : tie.Need-type-descriptor-requires
-type-descriptor-requires c κs = search needs
-
 returns : tie.Need-returns
 returns c =
     let s = c .before .before .before .before .before .before in
     c .type-descriptor .ensures ∙ ap (λ t. getD (now (s .args .descriptors)) t 0) (c .before .type-at-field .ensures .0)
 
 pub descriptor-at-field-spec : {M : Type 1} → statement M
-descriptor-at-field-spec = tie.close (tie.spec type-at-field-requires type-descriptor-requires returns)
+descriptor-at-field-spec = tie.close (tie.spec (λ c κs. search needs) (λ c κs. search needs) returns)

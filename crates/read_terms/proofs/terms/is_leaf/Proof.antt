@@ -5,11 +5,8 @@ use Rattle.read_terms.proofs.terms.is_leaf.Tie as tie
 use mathlib.Core.Path.{ap}
 use lib.Dec.{leb}
 
-term-kind-requires : tie.Need-term-kind-requires
-term-kind-requires c κs = search needs
-
 returns : tie.Need-returns
 returns c = ap (λ m. leb m 35) (c .term-kind .ensures)
 
 pub is-leaf-spec : {M : Type 1} → statement M
-is-leaf-spec = tie.close (tie.spec term-kind-requires returns)
+is-leaf-spec = tie.close (tie.spec (λ c κs. search needs) returns)

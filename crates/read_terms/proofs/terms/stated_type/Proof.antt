@@ -6,9 +6,6 @@ use mathlib.Core.Path.{ap, _∙_}
 use Rattle.read_records.specs.Heads.{fieldIn}
 use Rattle.read_terms.proofs.Located.{typed-in, type-in}
 
-term-fields-requires : tie.Need-term-fields-requires
-term-fields-requires c κs = search needs
-
 own-type-requires : tie.Need-own-type-requires
 own-type-requires c κs = let s = c .before .before .before in rw (c .term-fields .ensures) (typed-in (s .pre .0) (s .pre .1) .long)
 
@@ -20,4 +17,4 @@ returns c =
     (e ∙ type-in (s .pre .0) (s .pre .1), rw e (t .type))
 
 pub stated-type-spec : {M : Type 1} → statement M
-stated-type-spec = tie.close (tie.spec term-fields-requires own-type-requires returns)
+stated-type-spec = tie.close (tie.spec (λ c κs. search needs) own-type-requires returns)

@@ -7,9 +7,6 @@ use denote.Ref.{now}
 use Rattle.read_records.specs.Heads.{fieldsAt}
 use Rattle.read_terms.proofs.Located.{whole}
 
-term-place-requires : tie.Need-term-place-requires
-term-place-requires c κs = search needs
-
 fields-at-requires : tie.Need-fields-at-requires
 fields-at-requires c κs = let s = c .before .before .before in rw (c .term-place .ensures .0) (whole (s .pre .0) (s .pre .1))
 
@@ -17,4 +14,4 @@ returns : tie.Need-returns
 returns c = let s = c .before .before .before .before in c .fields-at .ensures ∙ ap (fieldsAt (now (s .args .image))) (c .before .term-place .ensures .0)
 
 pub term-fields-spec : {M : Type 1} → statement M
-term-fields-spec = tie.close (tie.spec term-place-requires fields-at-requires returns)
+term-fields-spec = tie.close (tie.spec (λ c κs. search needs) fields-at-requires returns)

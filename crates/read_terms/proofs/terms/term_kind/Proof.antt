@@ -6,14 +6,8 @@ use mathlib.Core.Path.{ap, _∙_}
 use denote.Ref.{now}
 use Rattle.image.specs.Bytes.{numberAt}
 
-term-place-requires : tie.Need-term-place-requires
-term-place-requires c κs = search needs
-
-kind-at-requires : tie.Need-kind-at-requires
-kind-at-requires c κs = search needs
-
 returns : tie.Need-returns
 returns c = c .kind-at .ensures ∙ ap (numberAt (now (c .before .before .before .before .args .image))) (c .before .term-place .ensures .0)
 
 pub term-kind-spec : {M : Type 1} → statement M
-term-kind-spec = tie.close (tie.spec term-place-requires kind-at-requires returns)
+term-kind-spec = tie.close (tie.spec (λ c κs. search needs) (λ c κs. search needs) returns)

@@ -7,16 +7,10 @@ use denote.Ref.{now}
 use Rattle.image.specs.Layout.{recordsOf}
 use Rattle.image.specs.Types.{typeNo}
 
-child-at-field-requires : tie.Need-child-at-field-requires
-child-at-field-requires c κs = search needs
-
-stated-type-requires : tie.Need-stated-type-requires
-stated-type-requires c κs = search needs
-
 returns : tie.Need-returns
 returns c =
     let s = c .before .before .before .before .before in
     (c .stated-type .ensures .0 ∙ ap (typeNo (recordsOf (now (s .args .image)))) (c .before .child-at-field .ensures), c .stated-type .ensures .1)
 
 pub type-at-field-spec : {M : Type 1} → statement M
-type-at-field-spec = tie.close (tie.spec child-at-field-requires stated-type-requires returns)
+type-at-field-spec = tie.close (tie.spec (λ c κs. search needs) (λ c κs. search needs) returns)

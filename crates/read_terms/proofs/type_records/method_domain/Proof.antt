@@ -9,20 +9,8 @@ use Rattle.read_terms.proofs.type_records.method_domain.Tie as tie
 returns : tie.Need-returns
 returns c = let a = c .before .before .args in no-object (now (a .fields)) (a .m) (a .kind) (c .if1 .taken)
 
-mul-if2 : tie.Need-mul-if2
-mul-if2 c = search needs
-
-add-if2 : tie.Need-add-if2
-add-if2 c = search needs
-
 returns-2 : tie.Need-returns-2
 returns-2 c = let a = c .before .before .before .args in past-methods (now (a .fields)) (a .m) (a .kind) (c .before .if1 .left) (c .if2 .taken)
-
-mul-domain-field : tie.Need-mul-domain-field
-mul-domain-field c = search needs
-
-domain-field-requires : tie.Need-domain-field-requires
-domain-field-requires c κs = search needs
 
 returns-3 : tie.Need-returns-3
 returns-3 c =
@@ -31,6 +19,5 @@ returns-3 c =
     c .domain-field .ensures ∙ the-method (now (a .fields)) (a .m) (a .kind) (s .if1 .left) (c .before .if2 .left)
 
 pub method-domain-spec : {M : Type 1} → statement M
-method-domain-spec =
-    tie.close
-    (tie.spec returns mul-if2 add-if2 returns-2 mul-domain-field domain-field-requires returns-3)
+method-domain-spec = tie.close (tie.spec returns (λ c. search needs) (λ c. search needs) returns-2 (λ c. search needs) (λ c κs. search needs)
+    returns-3)

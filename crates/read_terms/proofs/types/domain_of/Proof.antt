@@ -6,12 +6,6 @@ use Rattle.read_terms.proofs.TypeDomains.{advice-domain, object-domain,
 use Rattle.read_terms.proofs.types.domain_of.Statement.{statement}
 use Rattle.read_terms.proofs.types.domain_of.Tie as tie
 
-descriptor-kind-requires : tie.Need-descriptor-kind-requires
-descriptor-kind-requires c κs = search needs
-
-descriptor-field0-requires : tie.Need-descriptor-field0-requires
-descriptor-field0-requires c κs = search needs
-
 returns : tie.Need-returns
 returns c =
     let w = c .before in
@@ -19,9 +13,6 @@ returns c =
 
 returns-2 : tie.Need-returns-2
 returns-2 c = object-domain (c .before .before .before .args .descriptor) (omega (arith, c .before .before .descriptor-kind .ensures, c .if2 .taken))
-
-descriptor-field1-requires : tie.Need-descriptor-field1-requires
-descriptor-field1-requires c κs = search needs
 
 returns-3 : tie.Need-returns-3
 returns-3 c =
@@ -33,4 +24,4 @@ returns-4 : tie.Need-returns-4
 returns-4 c = no-domain (c .before .before .before .before .args .descriptor) (omega (arith, c .before .before .before .descriptor-kind .ensures, c .if3 .left))
 
 pub domain-of-spec : {M : Type 1} → statement M
-domain-of-spec = tie.close (tie.spec descriptor-kind-requires descriptor-field0-requires returns returns-2 descriptor-field1-requires returns-3 returns-4)
+domain-of-spec = tie.close (tie.spec (λ c κs. search needs) (λ c κs. search needs) returns returns-2 (λ c κs. search needs) returns-3 returns-4)

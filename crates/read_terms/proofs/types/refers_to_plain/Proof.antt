@@ -10,12 +10,6 @@ use Rattle.read_terms.proofs.TypeDomains.{is-plain, not-plain}
 use Rattle.read_terms.proofs.types.refers_to_plain.Statement.{statement}
 use Rattle.read_terms.proofs.types.refers_to_plain.Tie as tie
 
-descriptor-kind-requires : tie.Need-descriptor-kind-requires
-descriptor-kind-requires c κs = search needs
-
-descriptor-field0-requires : tie.Need-descriptor-field0-requires
-descriptor-field0-requires c κs = search needs
-
 has-leaves-requires : tie.Need-has-leaves-requires
 has-leaves-requires c κs =
     let w = c .before in
@@ -32,4 +26,4 @@ returns-2 : tie.Need-returns-2
 returns-2 c = let a = c .before .before .before .args in not-plain (a .descriptor) (now (a .leaves)) (λ e. c .if1 .left (c .before .descriptor-kind .ensures ∙ e))
 
 pub refers-to-plain-spec : {M : Type 1} → statement M
-refers-to-plain-spec = tie.close (tie.spec descriptor-kind-requires descriptor-field0-requires has-leaves-requires returns returns-2)
+refers-to-plain-spec = tie.close (tie.spec (λ c κs. search needs) (λ c κs. search needs) has-leaves-requires returns returns-2)

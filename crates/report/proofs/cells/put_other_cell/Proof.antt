@@ -9,21 +9,6 @@ use borrow.Author.Needs.{needs}
 use Rattle.report.proofs.cells.put_other_cell.Statement.{statement}
 use Rattle.report.proofs.cells.put_other_cell.Tie as tie
 
-put-header-requires : tie.Need-put-header-requires
-put-header-requires c κs = search needs
-
-add-put16 : tie.Need-add-put16
-add-put16 c = search needs
-
-put16-requires : tie.Need-put16-requires
-put16-requires c κs = search needs
-
-add-result : tie.Need-add-result
-add-result c = search needs
-
-same-length : tie.Need-same-length
-same-length c = search needs
-
 returns : tie.Need-returns
 unfolding bytesOf
 returns c =
@@ -33,6 +18,5 @@ returns c =
     (refl, record-written otherCellKind (now (a .report)) (a .at) (bytes16 (a .dom .0)) 6 refl (at-put-header .put-header .ensures) (c .before .before .put16 .ensures) (omega arith))
 
 pub put-other-cell-spec : {M : Type 1} → statement M
-put-other-cell-spec =
-    tie.close
-    (tie.spec put-header-requires add-put16 put16-requires add-result same-length returns)
+put-other-cell-spec = tie.close (tie.spec (λ c κs. search needs) (λ c. search needs) (λ c κs. search needs) (λ c. search needs) (λ c. search needs)
+    returns)

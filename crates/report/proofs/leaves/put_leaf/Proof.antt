@@ -87,26 +87,6 @@ returns-3 c =
     rw (l .1) (refl, record-written 67 (now (a .report)) (a .at) (bytes32 (l .0 .0)) 8 refl (at-put-header3 .put-header3 .ensures) (c .before .before .put32 .ensures) (omega arith))
 
 pub put-leaf-spec : {M : Type 1} → statement M
-put-leaf-spec =
-    tie.close
-    (tie.spec
-    enum-told
-    put-header-requires
-    add-result
-    enum-known-leaf
-    put-header-requires-2
-    add-put16
-    bit-requires
-    put16-requires
-    add-result-2
-    enum-known-leaf-2
-    put-header-requires-3
-    add-put32
-    put32-requires
-    add-result-3
-    same-length
-    returns
-    same-length-2
-    returns-2
-    same-length-3
-    returns-3)
+put-leaf-spec = tie.close (tie.spec enum-told put-header-requires add-result enum-known-leaf put-header-requires-2 add-put16 bit-requires
+    put16-requires add-result-2 enum-known-leaf-2 put-header-requires-3 add-put32 put32-requires add-result-3 same-length returns same-length-2
+    returns-2 same-length-3 returns-3)

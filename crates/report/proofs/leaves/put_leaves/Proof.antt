@@ -27,20 +27,8 @@ loop-holds : tie.Need-loop-holds Inv-loop μ-loop
 unfolding recordsBytes
 loop-holds c = let a = c .before .args in (omega arith, omega arith, refl, omega arith, sym (over-nothing (now (a .report)) (a .at)))
 
-mul-s : tie.Need-mul-s Inv-loop μ-loop
-mul-s c = search needs
-
-array-copy-out-s : tie.Need-array-copy-out-s Inv-loop μ-loop
-array-copy-out-s c = search needs
-
 put-leaf-requires : tie.Need-put-leaf-requires Inv-loop μ-loop
 put-leaf-requires c κs = omega arith
-
-add-i : tie.Need-add-i Inv-loop μ-loop
-add-i c = search needs
-
-loop-less : tie.Need-loop-less Inv-loop μ-loop
-loop-less c = search needs
 
 loop-again : tie.Need-loop-again Inv-loop μ-loop
 loop-again c =
@@ -53,9 +41,6 @@ loop-again c =
     let s = leaves-step (a .t3) (now (a .report)) (a .at) (l .i) (l .o) _ (omega arith) (l .inv .3) (l .inv .4) (w .ensures .0) (w .ensures .1) (omega arith) in
     (omega arith, omega (arith, s .2), w .kept .0 ∙ l .inv .2, s .0, s .1)
 
-same-length : tie.Need-same-length Inv-loop μ-loop
-same-length c = search needs
-
 returns : tie.Need-returns Inv-loop μ-loop
 returns c =
     let l = c .before .loop in
@@ -63,17 +48,5 @@ returns c =
     (rw e at (l .inv .3), rw e at (l .inv .4))
 
 pub put-leaves-spec : {M : Type 1} → statement M
-put-leaves-spec =
-    tie.close
-    (tie.spec
-    Inv-loop
-    μ-loop
-    loop-holds
-    mul-s
-    array-copy-out-s
-    put-leaf-requires
-    add-i
-    loop-less
-    loop-again
-    same-length
-    returns)
+put-leaves-spec = tie.close (tie.spec Inv-loop μ-loop loop-holds (λ c. search needs) (λ c. search needs) put-leaf-requires (λ c. search needs)
+    (λ c. search needs) loop-again (λ c. search needs) returns)

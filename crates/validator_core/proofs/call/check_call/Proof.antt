@@ -10,23 +10,8 @@ returns c =
     let s = c .before .before in
     (too-long-refused (now (s .args .image)) (s .args .lent) _ _ _ (c .if1 .taken), s .pre .0, s .pre .1, s .pre .2)
 
-kind-codes-requires : tie.Need-kind-codes-requires
-kind-codes-requires c κs = search needs
-
-slice-aggregate-examine-image : tie.Need-slice-aggregate-examine-image
-slice-aggregate-examine-image c = search needs
-
-slice-aggregate-examine-image-2 : tie.Need-slice-aggregate-examine-image-2
-slice-aggregate-examine-image-2 c = search needs
-
 examine-image-requires : tie.Need-examine-image-requires
 examine-image-requires c κs = record { short = search needs; codes = search needs; long = record { doms = search needs; types = search needs; descriptors = search needs; terms = search needs } }
-
-enum-known-checked : tie.Need-enum-known-checked
-enum-known-checked c = search needs
-
-enum-known-checked-2 : tie.Need-enum-known-checked-2
-enum-known-checked-2 c = search needs
 
 returns-2 : tie.Need-returns-2
 returns-2 c =
@@ -61,17 +46,5 @@ returns-5 c =
     (accepts (now (s .args .image)) (s .args .lent) (f .if1 .left) _ _ _ _ _ (e .examine-image .ensures .0) _ (k .checked2 .given .1) (c .before .before .if2 .left) (c .if3 .left), e .examine-image .ensures .1, e .examine-image .ensures .2, e .examine-image .ensures .3)
 
 pub check-call-spec : {M : Type 1} → statement M
-check-call-spec =
-    tie.close
-    (tie.spec
-    returns
-    kind-codes-requires
-    slice-aggregate-examine-image
-    slice-aggregate-examine-image-2
-    examine-image-requires
-    enum-known-checked
-    enum-known-checked-2
-    returns-2
-    returns-3
-    returns-4
-    returns-5)
+check-call-spec = tie.close (tie.spec returns (λ c κs. search needs) (λ c. search needs) (λ c. search needs) examine-image-requires
+    (λ c. search needs) (λ c. search needs) returns-2 returns-3 returns-4 returns-5)

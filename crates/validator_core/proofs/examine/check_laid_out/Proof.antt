@@ -5,12 +5,6 @@ use borrow.Author.Needs.{needs}
 use Rattle.validator_core.proofs.examine.check_laid_out.Statement.{statement}
 use Rattle.validator_core.proofs.examine.check_laid_out.Tie as tie
 
-check-shape-requires : tie.Need-check-shape-requires
-check-shape-requires c κs = search needs
-
-is-refused-requires : tie.Need-is-refused-requires
-is-refused-requires c κs = search needs
-
 returns : tie.Need-returns
 returns c = shape-refuses _ _ (c .before .before .check-shape .ensures) (sym (c .before .is-refused .ensures) ∙ c .if1 .taken)
 
@@ -26,6 +20,4 @@ returns-2 : tie.Need-returns-2
 returns-2 c = typing-decides _ _ _ (c .before .before .before .check-shape .ensures) (sym (c .before .before .is-refused .ensures) ∙ c .before .if1 .left) (c .check-typing .ensures)
 
 pub check-laid-out-spec : {M : Type 1} → statement M
-check-laid-out-spec =
-    tie.close
-    (tie.spec check-shape-requires is-refused-requires returns check-typing-requires returns-2)
+check-laid-out-spec = tie.close (tie.spec (λ c κs. search needs) (λ c κs. search needs) returns check-typing-requires returns-2)

@@ -5,21 +5,6 @@ use borrow.Author.Needs.{needs}
 use Rattle.validator_core.proofs.examine.examine_image.Statement.{statement}
 use Rattle.validator_core.proofs.examine.examine_image.Tie as tie
 
-slice-aggregate-scan-records : tie.Need-slice-aggregate-scan-records
-slice-aggregate-scan-records c = search needs
-
-scan-records-requires : tie.Need-scan-records-requires
-scan-records-requires c κs = search needs
-
-enum-known-scanned : tie.Need-enum-known-scanned
-enum-known-scanned c = search needs
-
-enum-known-scanned-2 : tie.Need-enum-known-scanned-2
-enum-known-scanned-2 c = search needs
-
-slice-aggregate-check-laid-out : tie.Need-slice-aggregate-check-laid-out
-slice-aggregate-check-laid-out c = search needs
-
 check-laid-out-requires : tie.Need-check-laid-out-requires
 check-laid-out-requires c κs =
     let m = c .before .before .before .before .before .before in
@@ -28,19 +13,10 @@ check-laid-out-requires c κs =
     let f = laid-tables _ _ _ _ _ _ _ (p .short) (w .scan-records .ensures) _ (m .scanned2 .given .1) in
     (p .codes, f .tables, f .counts, offsets-held f, laid-marks _ _ _ _ _ _ _ (p .short) (w .scan-records .ensures) _ (m .scanned2 .given .1))
 
-with-counts-requires : tie.Need-with-counts-requires
-with-counts-requires c κs = search needs
-
-same-length : tie.Need-same-length
-same-length c = search needs
-
 returns : tie.Need-returns
 returns c =
     let w = c .before .before .before .before .before .before in
     (stopped-answer _ _ _ _ _ _ _ (w .before .before .before .before .before .before .before .before .before .pre .short) (w .scan-records .ensures) _ _ (c .before .scanned .given .1), search needs, search needs, search needs)
-
-same-length-2 : tie.Need-same-length-2
-same-length-2 c = search needs
 
 returns-2 : tie.Need-returns-2
 returns-2 c =
@@ -49,17 +25,5 @@ returns-2 c =
     (checked-answer _ _ _ _ _ _ _ (w .before .before .before .before .before .before .before .before .before .pre .short) (w .scan-records .ensures) _ (m .scanned2 .given .1) _ _ (c .before .check-laid-out .ensures) (c .with-counts .ensures), search needs, search needs, search needs)
 
 pub examine-image-spec : {M : Type 1} → statement M
-examine-image-spec =
-    tie.close
-    (tie.spec
-    slice-aggregate-scan-records
-    scan-records-requires
-    enum-known-scanned
-    enum-known-scanned-2
-    slice-aggregate-check-laid-out
-    check-laid-out-requires
-    with-counts-requires
-    same-length
-    returns
-    same-length-2
-    returns-2)
+examine-image-spec = tie.close (tie.spec (λ c. search needs) (λ c κs. search needs) (λ c. search needs) (λ c. search needs) (λ c. search needs)
+    check-laid-out-requires (λ c κs. search needs) (λ c. search needs) returns (λ c. search needs) returns-2)

@@ -7,24 +7,6 @@ use borrow.Author.Needs.{needs}
 use Rattle.vm_actions.proofs.calls.reduce_call.Statement.{statement}
 use Rattle.vm_actions.proofs.calls.reduce_call.Tie as tie
 
-object-term-requires : tie.Need-object-term-requires
-object-term-requires c κs = search needs
-
-word-of-requires : tie.Need-word-of-requires
-word-of-requires c κs = search needs
-
-field-b-requires : tie.Need-field-b-requires
-field-b-requires c κs = search needs
-
-method-at-requires : tie.Need-method-at-requires
-method-at-requires c κs = search needs
-
-call-body-requires : tie.Need-call-body-requires
-call-body-requires c κs = search needs
-
-same-length : tie.Need-same-length
-same-length c = search needs
-
 returns : tie.Need-returns
 returns c =
     let at-call-body = c .before .before in
@@ -39,13 +21,5 @@ returns c =
     (at-method-at .method-at .ensures ∙ ap (λ u. methodAt C u (at-field-b .field-b .result)) (at-word-of .word-of .ensures)) _ _ (a .r) _ (at-call-body .call-body .ensures (now (a .image)))
 
 pub reduce-call-spec : {M : Type 1} → statement M
-reduce-call-spec =
-    tie.close
-    (tie.spec
-    object-term-requires
-    word-of-requires
-    field-b-requires
-    method-at-requires
-    call-body-requires
-    same-length
-    returns)
+reduce-call-spec = tie.close (tie.spec (λ c κs. search needs) (λ c κs. search needs) (λ c κs. search needs) (λ c κs. search needs)
+    (λ c κs. search needs) (λ c. search needs) returns)

@@ -8,32 +8,11 @@ use borrow.Author.Needs.{needs}
 use Rattle.vm_actions.proofs.ends.returned.Statement.{statement}
 use Rattle.vm_actions.proofs.ends.returned.Tie as tie
 
-slot-pc-requires : tie.Need-slot-pc-requires
-slot-pc-requires c κs = search needs
-
-instruction-requires : tie.Need-instruction-requires
-instruction-requires c κs = search needs
-
-same-requires : tie.Need-same-requires
-same-requires c κs = search needs
-
-slot-env-requires : tie.Need-slot-env-requires
-slot-env-requires c κs = search needs
-
-depth-of-requires : tie.Need-depth-of-requires
-depth-of-requires c κs = search needs
-
-add-q : tie.Need-add-q
-add-q c = search needs
-
 completed-requires : tie.Need-completed-requires
 completed-requires c κs =
     let at-depth-of = c .before .before in
     let s = at-depth-of .before .before .before .before .before .before .before in
     (search needs, omega (arith, at-depth-of .depth-of .ensures, s .pre .2))
-
-same-length : tie.Need-same-length
-same-length c = search needs
 
 returns : tie.Need-returns
 returns c =
@@ -48,15 +27,5 @@ returns c =
     λ image. returned-made (record { code = now (a .code); image = image }) (a .f) _ _ (a .r) _ _ _ _ _ _ (at-slot-pc .slot-pc .ensures) (at-instruction .instruction .ensures) (at-depth-of .depth-of .ensures) (at-slot-env .slot-env .ensures) (ap (setEnv (at-slot-env .slot-env .result)) (ap (setFrames (a .r .frames + at-depth-of .depth-of .result)) (at-same .same .ensures))) (at-completed .completed .ensures)
 
 pub returned-spec : {M : Type 1} → statement M
-returned-spec =
-    tie.close
-    (tie.spec
-    slot-pc-requires
-    instruction-requires
-    same-requires
-    slot-env-requires
-    depth-of-requires
-    add-q
-    completed-requires
-    same-length
-    returns)
+returned-spec = tie.close (tie.spec (λ c κs. search needs) (λ c κs. search needs) (λ c κs. search needs) (λ c κs. search needs) (λ c κs. search needs)
+    (λ c. search needs) completed-requires (λ c. search needs) returns)

@@ -7,18 +7,6 @@ use borrow.Author.Needs.{needs}
 use Rattle.vm_labels.proofs.children.child_fields.Statement.{statement}
 use Rattle.vm_labels.proofs.children.child_fields.Tie as tie
 
-offset-of-requires : tie.Need-offset-of-requires
-offset-of-requires c κs = search needs
-
-count-of-requires : tie.Need-count-of-requires
-count-of-requires c κs = search needs
-
-mul-part : tie.Need-mul-part
-mul-part c = search needs
-
-part-requires : tie.Need-part-requires
-part-requires c κs = search needs
-
 returns : tie.Need-returns
 returns c =
     let at-count-of = c .before in
@@ -29,11 +17,4 @@ returns c =
     c .part .ensures ∙ ap (λ (o : ℕ). take (2 * at-count-of .count-of .result) (drop o b)) (at-offset-of .offset-of .ensures) ∙ ap (λ (n : ℕ). take (2 * n) (drop (offsetOf (a .w)) b)) (at-count-of .count-of .ensures)
 
 pub child-fields-spec : {M : Type 1} → statement M
-child-fields-spec =
-    tie.close
-    (tie.spec
-    offset-of-requires
-    count-of-requires
-    mul-part
-    part-requires
-    returns)
+child-fields-spec = tie.close (tie.spec (λ c κs. search needs) (λ c κs. search needs) (λ c. search needs) (λ c κs. search needs) returns)

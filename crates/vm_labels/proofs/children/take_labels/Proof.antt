@@ -19,9 +19,6 @@ Inv-loop code fields work env w n i₀ d₀ i d =
 abbrev μ-loop : tie.MeasureT-loop
 μ-loop code fields work env w n i₀ d₀ i d = n - i
 
-count-of-requires : tie.Need-count-of-requires Inv-loop μ-loop
-count-of-requires c κs = search needs
-
 loop-holds : tie.Need-loop-holds Inv-loop μ-loop
 loop-holds c = λ image e. refl
 
@@ -29,12 +26,6 @@ term-at-requires : tie.Need-term-at-requires Inv-loop μ-loop
 term-at-requires c κs =
     let at-count-of = c .before .before in
     omega (arith, at-count-of .count-of .ensures)
-
-word-of-requires : tie.Need-word-of-requires Inv-loop μ-loop
-word-of-requires c κs = search needs
-
-class-of-requires : tie.Need-class-of-requires Inv-loop μ-loop
-class-of-requires c κs = search needs
 
 returns : tie.Need-returns Inv-loop μ-loop
 returns c =
@@ -52,21 +43,6 @@ returns c =
     let C : Program = record { code = now (a .code); image = image } in
     from-count C M (a .env) (a .w) _ _ _ _ (at-count-of .count-of .ensures)
     (l .inv image e ∙ no-atom C M (a .env) (a .w) _ (l .i) (l .d) _ _ _ (at-loop-test .loop-test .taken) (child-in C (a .w) (l .i) _ (now (a .fields)) e (omega (arith, at-count-of .count-of .ensures)) (at-term-at .term-at .ensures)) (at-word-of .word-of .ensures) (at-class-of .class-of .ensures) (c .if1 .taken))
-
-atom-value-requires : tie.Need-atom-value-requires Inv-loop μ-loop
-atom-value-requires c κs = search needs
-
-body-requires : tie.Need-body-requires Inv-loop μ-loop
-body-requires c κs = search needs
-
-with-digit-requires : tie.Need-with-digit-requires Inv-loop μ-loop
-with-digit-requires c κs = search needs
-
-add-i : tie.Need-add-i Inv-loop μ-loop
-add-i c = search needs
-
-loop-less : tie.Need-loop-less Inv-loop μ-loop
-loop-less c = search needs
 
 loop-again : tie.Need-loop-again Inv-loop μ-loop
 loop-again c =
@@ -100,21 +76,6 @@ returns-2 c =
     from-count C M (a .env) (a .w) _ _ _ _ (at-count-of .count-of .ensures) (l .inv image e ∙ none-left C M (a .env) (a .w) _ (l .i) (l .d) (search needs))
 
 pub take-labels-spec : {M : Type 1} → statement M
-take-labels-spec =
-    tie.close
-    (tie.spec
-    Inv-loop
-    μ-loop
-    count-of-requires
-    loop-holds
-    term-at-requires
-    word-of-requires
-    class-of-requires
-    returns
-    atom-value-requires
-    body-requires
-    with-digit-requires
-    add-i
-    loop-less
-    loop-again
-    returns-2)
+take-labels-spec = tie.close (tie.spec Inv-loop μ-loop (λ c κs. search needs) loop-holds term-at-requires (λ c κs. search needs)
+    (λ c κs. search needs) returns (λ c κs. search needs) (λ c κs. search needs) (λ c κs. search needs) (λ c. search needs) (λ c. search needs)
+    loop-again returns-2)

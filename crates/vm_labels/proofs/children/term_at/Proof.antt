@@ -4,25 +4,10 @@ use borrow.Author.Needs.{needs}
 use Rattle.vm_labels.proofs.children.term_at.Statement.{statement}
 use Rattle.vm_labels.proofs.children.term_at.Tie as tie
 
-field-or-zero-requires : tie.Need-field-or-zero-requires
-field-or-zero-requires c κs = search needs
-
-cast-term-with : tie.Need-cast-term-with
-cast-term-with c = search needs
-
-term-with-requires : tie.Need-term-with-requires
-term-with-requires c κs = search needs
-
 returns : tie.Need-returns
 returns c =
     let at-field-or-zero = c .before in
     c .term-with .ensures ∙ ap (_% 1024) (at-field-or-zero .field-or-zero .ensures)
 
 pub term-at-spec : {M : Type 1} → statement M
-term-at-spec =
-    tie.close
-    (tie.spec
-    field-or-zero-requires
-    cast-term-with
-    term-with-requires
-    returns)
+term-at-spec = tie.close (tie.spec (λ c κs. search needs) (λ c. search needs) (λ c κs. search needs) returns)

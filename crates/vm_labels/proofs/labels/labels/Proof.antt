@@ -12,24 +12,12 @@ use borrow.Author.Needs.{needs}
 use Rattle.vm_labels.proofs.labels.labels.Statement.{statement}
 use Rattle.vm_labels.proofs.labels.labels.Tie as tie
 
-part-of-requires : tie.Need-part-of-requires
-part-of-requires c κs = search needs
-
 instruction-requires : tie.Need-instruction-requires
 instruction-requires c κs =
     let s = c .before .before .before .before .before in
     let a = s .args in
     let h = part-pc (record { code = now (a .code); image = now (a .image) }) (memoryOf (now (a .work))) (a .f) (a .r) _ (a .resumed) (c .part-of .ensures (now (a .image))) (s .pre .2) in
     omega (arith, h, s .pre .0)
-
-resumes-other-requires : tie.Need-resumes-other-requires
-resumes-other-requires c κs = search needs
-
-stuck-requires : tie.Need-stuck-requires
-stuck-requires c κs = search needs
-
-same-length : tie.Need-same-length
-same-length c = search needs
 
 returns : tie.Need-returns
 returns c =
@@ -40,9 +28,6 @@ returns c =
     let s = at-part-of .before .before .before .before .before in
     let a = s .args in
     resumes-other-stuck (record { code = now (a .code); image = now (a .image) }) (now (a .work)) (now (a .work)) (a .r) _ (a .f) (at-part-of .part-of .result) (a .resumed) (at-part-of .part-of .ensures (now (a .image))) (sym (at-resumes-other .resumes-other .ensures ∙ ap (resumesOther (a .resumed)) (at-instruction .instruction .ensures)) ∙ at-if1 .if1 .taken) (c .stuck .ensures)
-
-same-requires : tie.Need-same-requires
-same-requires c κs = search needs
 
 labels-from-requires : tie.Need-labels-from-requires
 labels-from-requires c κs =
@@ -66,9 +51,6 @@ labels-from-requires c κs =
       frames-on C (now (a .work)) (now (a .work)) (a .r) (a .r) (a .f) p (a .resumed) e _ (at-same .same .ensures) (sym (at-resumes-other .resumes-other .ensures ∙ ap (resumesOther (a .resumed)) (at-instruction .instruction .ensures)) ∙ at-if1 .if1 .left) (s .pre .7),
     )
 
-same-length-2 : tie.Need-same-length-2
-same-length-2 c = search needs
-
 returns-2 : tie.Need-returns-2
 returns-2 c =
     let at-labels-from = c .before .before in
@@ -82,16 +64,5 @@ returns-2 c =
     labelled-on (record { code = now (a .code); image = now (a .image) }) (now (a .work)) _ (a .r) _ (a .f) (at-part-of .part-of .result) (a .resumed) (at-part-of .part-of .ensures (now (a .image))) _ (at-same .same .ensures) (sym (at-resumes-other .resumes-other .ensures ∙ ap (resumesOther (a .resumed)) (at-instruction .instruction .ensures)) ∙ at-if1 .if1 .left) (at-labels-from .labels-from .ensures)
 
 pub labels-spec : {M : Type 1} → statement M
-labels-spec =
-    tie.close
-    (tie.spec
-    part-of-requires
-    instruction-requires
-    resumes-other-requires
-    stuck-requires
-    same-length
-    returns
-    same-requires
-    labels-from-requires
-    same-length-2
-    returns-2)
+labels-spec = tie.close (tie.spec (λ c κs. search needs) instruction-requires (λ c κs. search needs) (λ c κs. search needs) (λ c. search needs)
+    returns (λ c κs. search needs) labels-from-requires (λ c. search needs) returns-2)

@@ -8,41 +8,14 @@ use borrow.Author.Needs.{needs}
 use Rattle.vm_labels.proofs.labels.part_of.Statement.{statement}
 use Rattle.vm_labels.proofs.labels.part_of.Tie as tie
 
-slot-pc-requires : tie.Need-slot-pc-requires
-slot-pc-requires c κs = search needs
-
 digits-at-requires : tie.Need-digits-at-requires
 digits-at-requires c κs =
     let at-if1 = c .before in
     let s = at-if1 .before .before .before in
     (s .pre .1, s .pre .3 (at-if1 .if1 .taken))
 
-digit-count-requires : tie.Need-digit-count-requires
-digit-count-requires c κs = search needs
-
 add-t12 : tie.Need-add-t12
 add-t12 c = let n = few-digits 8 (c .before .digits-at .result) in omega (arith, c .digit-count .ensures, n)
-
-body-requires : tie.Need-body-requires
-body-requires c κs = search needs
-
-with-digit-requires : tie.Need-with-digit-requires
-with-digit-requires c κs = search needs
-
-slot-env-requires : tie.Need-slot-env-requires
-slot-env-requires c κs = search needs
-
-instruction-requires : tie.Need-instruction-requires
-instruction-requires c κs = search needs
-
-depth-of-requires : tie.Need-depth-of-requires
-depth-of-requires c κs = search needs
-
-add-t17 : tie.Need-add-t17
-add-t17 c = search needs
-
-add-t18 : tie.Need-add-t18
-add-t18 c = search needs
 
 returns : tie.Need-returns
 returns c =
@@ -63,19 +36,6 @@ returns-2 : tie.Need-returns-2
 returns-2 c = let a = c .before .before .before .args in λ image. begun-part (record { code = now (a .code); image = image }) (memoryOf (now (a .work))) (a .resumed) (a .f) (a .r) (c .if1 .left)
 
 pub part-of-spec : {M : Type 1} → statement M
-part-of-spec =
-    tie.close
-    (tie.spec
-    slot-pc-requires
-    digits-at-requires
-    digit-count-requires
-    add-t12
-    body-requires
-    with-digit-requires
-    slot-env-requires
-    instruction-requires
-    depth-of-requires
-    add-t17
-    add-t18
-    returns
+part-of-spec = tie.close (tie.spec (λ c κs. search needs) digits-at-requires (λ c κs. search needs) add-t12 (λ c κs. search needs)
+    (λ c κs. search needs) (λ c κs. search needs) (λ c κs. search needs) (λ c κs. search needs) (λ c. search needs) (λ c. search needs) returns
     returns-2)

@@ -5,12 +5,6 @@ use borrow.Author.Needs.{needs}
 use Rattle.vm_marks.proofs.advice.body_at.Statement.{statement}
 use Rattle.vm_marks.proofs.advice.body_at.Tie as tie
 
-binding-at-requires : tie.Need-binding-at-requires
-binding-at-requires c κs = search needs
-
-bound-target-requires : tie.Need-bound-target-requires
-bound-target-requires c κs = search needs
-
 returns : tie.Need-returns
 returns c = let a = c .before .before .before .before .args in body-instruction (memoryOf (now (a .work))) (a .b) _ _ (c .before .before .binding-at .ensures) (c .before .bound-target .ensures) (c .if1 .taken)
 
@@ -18,4 +12,4 @@ returns-2 : tie.Need-returns-2
 returns-2 c = let a = c .before .before .before .before .args in body-atom (memoryOf (now (a .work))) (a .b) _ _ (c .before .before .binding-at .ensures) (c .before .bound-target .ensures) (c .if1 .left)
 
 pub body-at-spec : {M : Type 1} → statement M
-body-at-spec = tie.close (tie.spec binding-at-requires bound-target-requires returns returns-2)
+body-at-spec = tie.close (tie.spec (λ c κs. search needs) (λ c κs. search needs) returns returns-2)

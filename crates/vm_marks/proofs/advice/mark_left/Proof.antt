@@ -4,27 +4,6 @@ use borrow.Author.Needs.{needs}
 use Rattle.vm_marks.proofs.advice.mark_left.Statement.{statement}
 use Rattle.vm_marks.proofs.advice.mark_left.Tie as tie
 
-same-requires : tie.Need-same-requires
-same-requires c κs = search needs
-
-sub-s : tie.Need-sub-s
-sub-s c = search needs
-
-depth-of-requires : tie.Need-depth-of-requires
-depth-of-requires c κs = search needs
-
-add-s : tie.Need-add-s
-add-s c = search needs
-
-add-s-2 : tie.Need-add-s-2
-add-s-2 c = search needs
-
-slot-env-requires : tie.Need-slot-env-requires
-slot-env-requires c κs = search needs
-
-completed-requires : tie.Need-completed-requires
-completed-requires c κs = search needs
-
 same-length : tie.Need-same-length
 same-length c = c .before .before .completed .kept .0
 
@@ -38,15 +17,5 @@ returns c =
     mark-left-made (now (a .work)) _ (a .r) _ _ (a .w) (a .f) _ _ (at-same .same .ensures) (at-depth-of .depth-of .ensures) (at-slot-env .slot-env .ensures) (c .before .before .completed .ensures)
 
 pub mark-left-spec : {M : Type 1} → statement M
-mark-left-spec =
-    tie.close
-    (tie.spec
-    same-requires
-    sub-s
-    depth-of-requires
-    add-s
-    add-s-2
-    slot-env-requires
-    completed-requires
-    same-length
-    returns)
+mark-left-spec = tie.close (tie.spec (λ c κs. search needs) (λ c. search needs) (λ c κs. search needs) (λ c. search needs) (λ c. search needs)
+    (λ c κs. search needs) (λ c κs. search needs) same-length returns)

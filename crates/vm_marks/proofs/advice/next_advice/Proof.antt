@@ -5,23 +5,8 @@ use borrow.Author.Needs.{needs}
 use Rattle.vm_marks.proofs.advice.next_advice.Statement.{statement}
 use Rattle.vm_marks.proofs.advice.next_advice.Tie as tie
 
-add-if1 : tie.Need-add-if1
-add-if1 c = search needs
-
-halt-with-requires : tie.Need-halt-with-requires
-halt-with-requires c κs = search needs
-
 returns : tie.Need-returns
 returns c = let a = c .before .before .before .before .before .args in λ image. advice-spent (record { code = now (a .code); image = image }) (now (a .work)) (now (a .work)) (a .r) _ (a .f) (c .before .if1 .taken) (c .halt-with .ensures)
-
-next-binding-requires : tie.Need-next-binding-requires
-next-binding-requires c κs = search needs
-
-end-binding-requires : tie.Need-end-binding-requires
-end-binding-requires c κs = search needs
-
-next-body-requires : tie.Need-next-body-requires
-next-body-requires c κs = search needs
 
 same-length : tie.Need-same-length
 same-length c = c .before .before .next-body .kept .0
@@ -35,12 +20,6 @@ returns-2 c =
     let start = at-if1 .before .before .before .before in
     let a = start .args in
     λ image. advice-next (record { code = now (a .code); image = image }) (now (a .work)) _ (a .r) _ (a .f) (at-if1 .if1 .left) _ _ (at-next-binding .next-binding .ensures) (at-end-binding .end-binding .ensures) (at-if2 .if2 .taken) (c .before .before .next-body .ensures)
-
-slot-pc-requires : tie.Need-slot-pc-requires
-slot-pc-requires c κs = search needs
-
-instruction-requires : tie.Need-instruction-requires
-instruction-requires c κs = search needs
 
 mark-left-requires : tie.Need-mark-left-requires
 mark-left-requires c κs =
@@ -70,19 +49,5 @@ returns-3 c =
     λ image. advice-done (record { code = now (a .code); image = image }) (now (a .work)) _ (a .r) _ (a .f) (at-if1 .if1 .left) _ _ (at-next-binding .next-binding .ensures) (at-end-binding .end-binding .ensures) _ _ (at-if2 .if2 .left) (at-slot-pc .slot-pc .ensures) (at-instruction .instruction .ensures) (at-mark-left .mark-left .ensures)
 
 pub next-advice-spec : {M : Type 1} → statement M
-next-advice-spec =
-    tie.close
-    (tie.spec
-    add-if1
-    halt-with-requires
-    returns
-    next-binding-requires
-    end-binding-requires
-    next-body-requires
-    same-length
-    returns-2
-    slot-pc-requires
-    instruction-requires
-    mark-left-requires
-    same-length-2
-    returns-3)
+next-advice-spec = tie.close (tie.spec (λ c. search needs) (λ c κs. search needs) returns (λ c κs. search needs) (λ c κs. search needs)
+    (λ c κs. search needs) same-length returns-2 (λ c κs. search needs) (λ c κs. search needs) mark-left-requires same-length-2 returns-3)

@@ -4,15 +4,6 @@ use borrow.Author.Needs.{needs}
 use Rattle.vm_marks.proofs.bind.bind_advice.Statement.{statement}
 use Rattle.vm_marks.proofs.bind.bind_advice.Tie as tie
 
-advice-target-requires : tie.Need-advice-target-requires
-advice-target-requires c κs = search needs
-
-advice-env-requires : tie.Need-advice-env-requires
-advice-env-requires c κs = search needs
-
-bind-requires : tie.Need-bind-requires
-bind-requires c κs = search needs
-
 same-length : tie.Need-same-length
 same-length c = c .before .before .bind .kept .0
 
@@ -29,12 +20,4 @@ returns-2 : tie.Need-returns-2
 returns-2 c = let a = c .before .before .args in past (now (a .work)) (now (a .work)) (a .n) (a .v) (a .a) (c .if1 .left)
 
 pub bind-advice-spec : {M : Type 1} → statement M
-bind-advice-spec =
-    tie.close
-    (tie.spec
-    advice-target-requires
-    advice-env-requires
-    bind-requires
-    same-length
-    returns
-    returns-2)
+bind-advice-spec = tie.close (tie.spec (λ c κs. search needs) (λ c κs. search needs) (λ c κs. search needs) same-length returns returns-2)

@@ -22,15 +22,6 @@ abbrev μ-loop : tie.MeasureT-loop
 loop-holds : tie.Need-loop-holds Inv-loop μ-loop
 loop-holds c = (omega arith, refl, omega arith, omega arith, refl, refl)
 
-sub-i : tie.Need-sub-i Inv-loop μ-loop
-sub-i c = search needs
-
-bind-one-requires : tie.Need-bind-one-requires Inv-loop μ-loop
-bind-one-requires c κs = search needs
-
-loop-less : tie.Need-loop-less Inv-loop μ-loop
-loop-less c = search needs
-
 loop-again : tie.Need-loop-again Inv-loop μ-loop
 loop-again c =
     let at-loop-test = c .before .before .before .before in
@@ -41,9 +32,6 @@ loop-again c =
     let b = c .before .before .bind-one .ensures in
     (omega arith, search needs, omega (arith, l .inv .2, b .1), omega (arith, l .inv .3, b .2, at-loop-test .loop-test .taken), b .0 .memory .rest ∙ l .inv .4, l .inv .5 ∙ matching-on (l .i) _ (a .l) (a .v) _ _ _ _ (omega (arith, at-loop-test .loop-test .taken)) (b .0))
 
-same-length : tie.Need-same-length Inv-loop μ-loop
-same-length c = search needs
-
 returns : tie.Need-returns Inv-loop μ-loop
 returns c =
     let a = c .before .before .before .args in
@@ -51,15 +39,5 @@ returns c =
     (matching-done _ (l .i) (a .l) (a .v) (now (a .work)) _ _ (c .loop-test .left) (l .inv .5) (l .inv .4), l .inv .2, omega (arith, l .inv .3, c .before .before .before .pre .2, c .before .before .before .pre .3))
 
 pub bind-matching-spec : {M : Type 1} → statement M
-bind-matching-spec =
-    tie.close
-    (tie.spec
-    Inv-loop
-    μ-loop
-    loop-holds
-    sub-i
-    bind-one-requires
-    loop-less
-    loop-again
-    same-length
-    returns)
+bind-matching-spec = tie.close (tie.spec Inv-loop μ-loop loop-holds (λ c. search needs) (λ c κs. search needs) (λ c. search needs) loop-again
+    (λ c. search needs) returns)

@@ -9,33 +9,6 @@ use borrow.Author.Needs.{needs}
 use Rattle.vm_marks.proofs.bind.bind_one.Statement.{statement}
 use Rattle.vm_marks.proofs.bind.bind_one.Tie as tie
 
-installed-at-requires : tie.Need-installed-at-requires
-installed-at-requires c κs = search needs
-
-piece-second-requires : tie.Need-piece-second-requires
-piece-second-requires c κs = search needs
-
-has-bit-requires : tie.Need-has-bit-requires
-has-bit-requires c κs = search needs
-
-piece-first-requires : tie.Need-piece-first-requires
-piece-first-requires c κs = search needs
-
-whole-requires : tie.Need-whole-requires
-whole-requires c κs = search needs
-
-bind-advice-requires : tie.Need-bind-advice-requires
-bind-advice-requires c κs = search needs
-
-advice-dom-requires : tie.Need-advice-dom-requires
-advice-dom-requires c κs = search needs
-
-is-mainline-requires : tie.Need-is-mainline-requires
-is-mainline-requires c κs = search needs
-
-charge-requires : tie.Need-charge-requires
-charge-requires c κs = search needs
-
 same-length : tie.Need-same-length
 same-length c =
     let at-bind-advice = c .before .before .before .before .before in
@@ -57,9 +30,6 @@ returns c =
     let n : whole (c .charge .result) ≡ whole (a .b) + 1 = one-more (at-is-mainline .is-mainline .result) (a .b) _ (c .charge .ensures) in
     (one-bound (now (a .work)) (a .l) (a .v) (a .i) (a .b) _ _ _ (at-installed-at .installed-at .ensures) (at-piece-second .piece-second .ensures) (at-has-bit .has-bit .ensures) _ _ _ _ _ (at-if1 .if1 .taken) (at-piece-first .piece-first .ensures) (at-whole .whole .ensures) (at-advice-dom .advice-dom .ensures) (at-bind-advice .bind-advice .ensures) (c .charge .ensures ∙ ap (λ (h : Bool). charge h 1 (a .b)) (at-is-mainline .is-mainline .ensures)), omega (arith, n), omega (arith, n))
 
-same-length-2 : tie.Need-same-length-2
-same-length-2 c = search needs
-
 returns-2 : tie.Need-returns-2
 returns-2 c =
     let at-installed-at = c .before .before .before .before in
@@ -68,19 +38,5 @@ returns-2 c =
     (other-bound (now (a .work)) (a .l) (a .v) (a .i) (a .b) _ _ _ (at-installed-at .installed-at .ensures) (c .before .before .piece-second .ensures) (c .before .has-bit .ensures) (c .if1 .left), omega arith, omega arith)
 
 pub bind-one-spec : {M : Type 1} → statement M
-bind-one-spec =
-    tie.close
-    (tie.spec
-    installed-at-requires
-    piece-second-requires
-    has-bit-requires
-    piece-first-requires
-    whole-requires
-    bind-advice-requires
-    advice-dom-requires
-    is-mainline-requires
-    charge-requires
-    same-length
-    returns
-    same-length-2
-    returns-2)
+bind-one-spec = tie.close (tie.spec (λ c κs. search needs) (λ c κs. search needs) (λ c κs. search needs) (λ c κs. search needs) (λ c κs. search needs)
+    (λ c κs. search needs) (λ c κs. search needs) (λ c κs. search needs) (λ c κs. search needs) same-length returns (λ c. search needs) returns-2)

@@ -11,15 +11,6 @@ use borrow.Author.Needs.{needs}
 use Rattle.vm_marks.proofs.takedown.reduce_takedown.Statement.{statement}
 use Rattle.vm_marks.proofs.takedown.reduce_takedown.Tie as tie
 
-takedown-domain-requires : tie.Need-takedown-domain-requires
-takedown-domain-requires c κs = search needs
-
-stay-others-requires : tie.Need-stay-others-requires
-stay-others-requires c κs = search needs
-
-same-requires : tie.Need-same-requires
-same-requires c κs = search needs
-
 given-requires : tie.Need-given-requires
 given-requires c κs =
     let s = c .before .before .before .before .before .before .before .before in
@@ -45,12 +36,4 @@ returns c =
     takedown-made (now (a .work)) _ _ (a .r) _ _ (a .w) _ _ (s .pre .1) (at-takedown-domain .takedown-domain .ensures) (at-stay-others .stay-others .ensures) (at-same .same .ensures) (at-given .given .ensures)
 
 pub reduce-takedown-spec : {M : Type 1} → statement M
-reduce-takedown-spec =
-    tie.close
-    (tie.spec
-    takedown-domain-requires
-    stay-others-requires
-    same-requires
-    given-requires
-    same-length
-    returns)
+reduce-takedown-spec = tie.close (tie.spec (λ c κs. search needs) (λ c κs. search needs) (λ c κs. search needs) given-requires same-length returns)

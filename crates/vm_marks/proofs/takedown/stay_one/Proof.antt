@@ -5,18 +5,6 @@ use borrow.Author.Needs.{needs}
 use Rattle.vm_marks.proofs.takedown.stay_one.Statement.{statement}
 use Rattle.vm_marks.proofs.takedown.stay_one.Tie as tie
 
-installed-at-requires : tie.Need-installed-at-requires
-installed-at-requires c κs = search needs
-
-piece-first-requires : tie.Need-piece-first-requires
-piece-first-requires c κs = search needs
-
-advice-dom-requires : tie.Need-advice-dom-requires
-advice-dom-requires c κs = search needs
-
-same-length : tie.Need-same-length
-same-length c = search needs
-
 returns : tie.Need-returns
 returns c =
     let at-advice-dom = c .before .before .before in
@@ -25,12 +13,6 @@ returns c =
     let s = at-installed-at .before .before .before in
     let a = s .args in
     (one-goes (now (a .work)) (a .d .0) (a .i) (a .n) _ _ _ (at-installed-at .installed-at .ensures) (at-piece-first .piece-first .ensures) (at-advice-dom .advice-dom .ensures) (c .if1 .taken), omega arith)
-
-put-installed-requires : tie.Need-put-installed-requires
-put-installed-requires c κs = search needs
-
-add-result : tie.Need-add-result
-add-result c = search needs
 
 same-length-2 : tie.Need-same-length-2
 same-length-2 c = c .before .before .put-installed .kept .0
@@ -47,15 +29,5 @@ returns-2 c =
     (one-stays (now (a .work)) (a .d .0) (a .i) (a .n) _ _ _ (at-installed-at .installed-at .ensures) (at-piece-first .piece-first .ensures) (at-advice-dom .advice-dom .ensures) _ (at-if1 .if1 .left) (at-put-installed .put-installed .ensures), omega arith)
 
 pub stay-one-spec : {M : Type 1} → statement M
-stay-one-spec =
-    tie.close
-    (tie.spec
-    installed-at-requires
-    piece-first-requires
-    advice-dom-requires
-    same-length
-    returns
-    put-installed-requires
-    add-result
-    same-length-2
-    returns-2)
+stay-one-spec = tie.close (tie.spec (λ c κs. search needs) (λ c κs. search needs) (λ c κs. search needs) (λ c. search needs) returns
+    (λ c κs. search needs) (λ c. search needs) same-length-2 returns-2)

@@ -21,15 +21,6 @@ abbrev μ-loop : tie.MeasureT-loop
 loop-holds : tie.Need-loop-holds Inv-loop μ-loop
 loop-holds c = (omega arith, refl, omega arith, refl, stay-start _ _ _)
 
-stay-one-requires : tie.Need-stay-one-requires Inv-loop μ-loop
-stay-one-requires c κs = search needs
-
-add-i : tie.Need-add-i Inv-loop μ-loop
-add-i c = search needs
-
-loop-less : tie.Need-loop-less Inv-loop μ-loop
-loop-less c = search needs
-
 loop-again : tie.Need-loop-again Inv-loop μ-loop
 loop-again c =
     let at-stay-one = c .before .before in
@@ -45,9 +36,6 @@ loop-again c =
       l .inv .4 ∙ stay-on (a .n) (l .i) (a .d .0) _ _ _ _ (at-loop-test .loop-test .taken) (at-stay-one .stay-one .ensures .0),
     )
 
-same-length : tie.Need-same-length Inv-loop μ-loop
-same-length c = search needs
-
 returns : tie.Need-returns Inv-loop μ-loop
 returns c =
     let at-loop = c .before in
@@ -56,15 +44,5 @@ returns c =
     let l = at-loop .loop in stay-done _ (a .n) (l .i) (a .d .0) (now (a .work)) _ _ (c .loop-test .left) (l .inv .4) (l .inv .3)
 
 pub stay-others-spec : {M : Type 1} → statement M
-stay-others-spec =
-    tie.close
-    (tie.spec
-    Inv-loop
-    μ-loop
-    loop-holds
-    stay-one-requires
-    add-i
-    loop-less
-    loop-again
-    same-length
-    returns)
+stay-others-spec = tie.close (tie.spec Inv-loop μ-loop loop-holds (λ c κs. search needs) (λ c. search needs) (λ c. search needs) loop-again
+    (λ c. search needs) returns)

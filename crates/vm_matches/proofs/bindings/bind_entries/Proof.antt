@@ -23,18 +23,12 @@ Inv-loop fields work₀ w v n rest₀ b₀ i₀ work rest b i =
 abbrev μ-loop : tie.MeasureT-loop
 μ-loop fields work₀ w v n rest₀ b₀ i₀ work rest b i = n - i
 
-count-of-requires : tie.Need-count-of-requires Inv-loop μ-loop
-count-of-requires c κs = search needs
-
 loop-holds : tie.Need-loop-holds Inv-loop μ-loop
 loop-holds c =
     let s = c .before .before .before in
     let a = s .args in
     let p = s .pre .2 in
     (omega arith, refl, refl, s .pre .1, (p .0, p .1, frames-start (p .0) (a .w) _ (a .from .count) (c .count-of .ensures) (p .2)), (λ C e. bound-start C (a .w) _ (a .v) _ (c .count-of .ensures)))
-
-rest-of-requires : tie.Need-rest-of-requires Inv-loop μ-loop
-rest-of-requires c κs = search needs
 
 bind-entry-requires : tie.Need-bind-entry-requires Inv-loop μ-loop
 bind-entry-requires c κs =
@@ -47,12 +41,6 @@ bind-entry-requires c κs =
     let p = l .inv .4 in
     let e = entry-of (p .0) (a .w) (now (a .fields)) (p .1) (l .i) _ (omega (arith, at-count-of .count-of .ensures)) refl in
     (search needs, search needs, l .inv .3, frames-here (p .0) (a .w) _ (l .i) (l .b .count) (p .2) (entryIn (now (a .fields)) (l .i)) e (at-loop-test .loop-test .taken))
-
-add-i : tie.Need-add-i Inv-loop μ-loop
-add-i c = search needs
-
-loop-less : tie.Need-loop-less Inv-loop μ-loop
-loop-less c = search needs
 
 loop-again : tie.Need-loop-again Inv-loop μ-loop
 loop-again c =
@@ -86,9 +74,6 @@ bind-rest-requires c κs =
     let p = l .inv .4 in
     (search needs, l .inv .3, (p .0, p .1, frames-left (p .0) (a .w) _ (l .i) (l .b .count) (p .2) (at-loop-test .loop-test .left)))
 
-same-length : tie.Need-same-length Inv-loop μ-loop
-same-length c = search needs
-
 returns : tie.Need-returns Inv-loop μ-loop
 returns c =
     let at-bind-rest = c .before .before in
@@ -101,18 +86,5 @@ returns c =
     ((λ C e. bound-done C (a .w) _ (l .i) _ (l .rest) (now (a .work)) _ _ (l .b) _ (at-loop-test .loop-test .left) (l .inv .5 C e) (l .inv .2) (m .0 C e)), m .1)
 
 pub bind-entries-spec : {M : Type 1} → statement M
-bind-entries-spec =
-    tie.close
-    (tie.spec
-    Inv-loop
-    μ-loop
-    count-of-requires
-    loop-holds
-    rest-of-requires
-    bind-entry-requires
-    add-i
-    loop-less
-    loop-again
-    bind-rest-requires
-    same-length
-    returns)
+bind-entries-spec = tie.close (tie.spec Inv-loop μ-loop (λ c κs. search needs) loop-holds (λ c κs. search needs) bind-entry-requires
+    (λ c. search needs) (λ c. search needs) loop-again bind-rest-requires (λ c. search needs) returns)

@@ -5,18 +5,12 @@ use borrow.Author.Needs.{needs}
 use Rattle.vm_matches.proofs.bindings.bind_entry.Statement.{statement}
 use Rattle.vm_matches.proofs.bindings.bind_entry.Tie as tie
 
-entry-at-requires : tie.Need-entry-at-requires
-entry-at-requires c κs = search needs
-
 returns : tie.Need-returns
 returns c =
     let at-entry-at = c .before in
     let s = at-entry-at .before .before .before in
     let a = s .args in
     (entry-nothing (entryIn (now (a .fields)) (a .i)) _ (at-entry-at .entry-at .ensures) (a .v) (now (a .work)) (a .b) (c .if1 .taken), s .pre .2)
-
-top-entry-requires : tie.Need-top-entry-requires
-top-entry-requires c κs = search needs
 
 bind-inside-requires : tie.Need-bind-inside-requires
 bind-inside-requires c κs =
@@ -42,12 +36,4 @@ returns-2 c =
     (entry-value (entryIn (now (a .fields)) (a .i)) _ (at-entry-at .entry-at .ensures) (a .v) _ (now (a .work)) _ (a .b) _ (at-if1 .if1 .left) (at-top-entry .top-entry .ensures) (at-bind-inside .bind-inside .ensures .0), at-bind-inside .bind-inside .ensures .1)
 
 pub bind-entry-spec : {M : Type 1} → statement M
-bind-entry-spec =
-    tie.close
-    (tie.spec
-    entry-at-requires
-    returns
-    top-entry-requires
-    bind-inside-requires
-    same-length
-    returns-2)
+bind-entry-spec = tie.close (tie.spec (λ c κs. search needs) returns (λ c κs. search needs) bind-inside-requires same-length returns-2)

@@ -4,9 +4,6 @@ use borrow.Author.Needs.{needs}
 use Rattle.vm_matches.proofs.bindings.bind_rest.Statement.{statement}
 use Rattle.vm_matches.proofs.bindings.bind_rest.Tie as tie
 
-binds-rest-requires : tie.Need-binds-rest-requires
-binds-rest-requires c κs = search needs
-
 bind-inside-requires : tie.Need-bind-inside-requires
 bind-inside-requires c κs =
     let at-if1 = c .before in
@@ -38,11 +35,4 @@ returns-2 c =
     ((λ C e. rest-free C (a .w) _ (at-binds-rest .binds-rest .ensures C e) (a .v) (now (a .work)) (a .b) (c .if1 .left)), s .pre .1)
 
 pub bind-rest-spec : {M : Type 1} → statement M
-bind-rest-spec =
-    tie.close
-    (tie.spec
-    binds-rest-requires
-    bind-inside-requires
-    same-length
-    returns
-    returns-2)
+bind-rest-spec = tie.close (tie.spec (λ c κs. search needs) bind-inside-requires same-length returns returns-2)

@@ -8,15 +8,6 @@ use borrow.Author.Needs.{needs}
 use Rattle.vm_matches.proofs.entries.binds_rest.Statement.{statement}
 use Rattle.vm_matches.proofs.entries.binds_rest.Tie as tie
 
-count-of-requires : tie.Need-count-of-requires
-count-of-requires c κs = search needs
-
-add-field-or-zero : tie.Need-add-field-or-zero
-add-field-or-zero c = search needs
-
-field-or-zero-requires : tie.Need-field-or-zero-requires
-field-or-zero-requires c κs = search needs
-
 returns : tie.Need-returns
 returns c =
     let at-count-of = c .before in
@@ -25,10 +16,4 @@ returns c =
     λ C e. ap (λ (x : ℕ). not (eqb x 0)) (close-of C (a .w) (now (a .fields)) e _ _ (at-count-of .count-of .ensures) (c .field-or-zero .ensures))
 
 pub binds-rest-spec : {M : Type 1} → statement M
-binds-rest-spec =
-    tie.close
-    (tie.spec
-    count-of-requires
-    add-field-or-zero
-    field-or-zero-requires
-    returns)
+binds-rest-spec = tie.close (tie.spec (λ c κs. search needs) (λ c. search needs) (λ c κs. search needs) returns)

@@ -4,18 +4,6 @@ use borrow.Author.Needs.{needs}
 use Rattle.vm_matches.proofs.entries.matches.Statement.{statement}
 use Rattle.vm_matches.proofs.entries.matches.Tie as tie
 
-binds-rest-requires : tie.Need-binds-rest-requires
-binds-rest-requires c κs = search needs
-
-is-kept-requires : tie.Need-is-kept-requires
-is-kept-requires c κs = search needs
-
-either-requires : tie.Need-either-requires
-either-requires c κs = search needs
-
-both-requires : tie.Need-both-requires
-both-requires c κs = search needs
-
 returns : tie.Need-returns
 returns c =
     let at-either = c .before in
@@ -26,11 +14,4 @@ returns c =
     λ C e. c .both .ensures ∙ ap (a .k .fits &&_) (at-either .either .ensures ∙ ap₂ (λ (x y : Bool). x || not y) (at-binds-rest .binds-rest .ensures C e) (at-is-kept .is-kept .ensures))
 
 pub matches-spec : {M : Type 1} → statement M
-matches-spec =
-    tie.close
-    (tie.spec
-    binds-rest-requires
-    is-kept-requires
-    either-requires
-    both-requires
-    returns)
+matches-spec = tie.close (tie.spec (λ c κs. search needs) (λ c κs. search needs) (λ c κs. search needs) (λ c κs. search needs) returns)

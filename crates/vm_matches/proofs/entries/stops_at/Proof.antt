@@ -6,21 +6,6 @@ use borrow.Author.Needs.{needs}
 use Rattle.vm_matches.proofs.entries.stops_at.Statement.{statement}
 use Rattle.vm_matches.proofs.entries.stops_at.Tie as tie
 
-entry-at-requires : tie.Need-entry-at-requires
-entry-at-requires c κs = search needs
-
-cut-term-requires : tie.Need-cut-term-requires
-cut-term-requires c κs = search needs
-
-word-of-requires : tie.Need-word-of-requires
-word-of-requires c κs = search needs
-
-class-of-requires : tie.Need-class-of-requires
-class-of-requires c κs = search needs
-
-both-requires : tie.Need-both-requires
-both-requires c κs = search needs
-
 returns : tie.Need-returns
 returns c =
     let at-class-of = c .before in
@@ -34,12 +19,5 @@ returns c =
     stops-as C w (a .i) _ _ _ _ _ (entry-of C w (now (a .fields)) e (a .i) _ h (at-entry-at .entry-at .ensures)) (at-cut-term .cut-term .ensures) (at-word-of .word-of .ensures) (at-class-of .class-of .ensures) (c .both .ensures)
 
 pub stops-at-spec : {M : Type 1} → statement M
-stops-at-spec =
-    tie.close
-    (tie.spec
-    entry-at-requires
-    cut-term-requires
-    word-of-requires
-    class-of-requires
-    both-requires
+stops-at-spec = tie.close (tie.spec (λ c κs. search needs) (λ c κs. search needs) (λ c κs. search needs) (λ c κs. search needs) (λ c κs. search needs)
     returns)

@@ -17,29 +17,11 @@ Inv-loop fields w n c₀ i₀ c i = (i ≤ n) × (c ≤ i) × ((C : Program) →
 abbrev μ-loop : tie.MeasureT-loop
 μ-loop fields w n c₀ i₀ c i = n - i
 
-count-of-requires : tie.Need-count-of-requires Inv-loop μ-loop
-count-of-requires c κs = search needs
-
 loop-holds : tie.Need-loop-holds Inv-loop μ-loop
 loop-holds c =
     let s = c .before .before in
     let a = s .args in
     (omega arith, omega arith, λ C e. count-start C (a .w) _ 0)
-
-entry-at-requires : tie.Need-entry-at-requires Inv-loop μ-loop
-entry-at-requires c κs = search needs
-
-of-entry-requires : tie.Need-of-entry-requires Inv-loop μ-loop
-of-entry-requires c κs = search needs
-
-add-c : tie.Need-add-c Inv-loop μ-loop
-add-c c = search needs
-
-add-i : tie.Need-add-i Inv-loop μ-loop
-add-i c = search needs
-
-loop-less : tie.Need-loop-less Inv-loop μ-loop
-loop-less c = search needs
 
 loop-again : tie.Need-loop-again Inv-loop μ-loop
 loop-again c =
@@ -51,15 +33,6 @@ loop-again c =
     let a = s .args in
     let l = at-loop .loop in
     (omega arith, omega (arith, c .of-entry .ensures .1, l .inv .1), λ C e. l .inv .2 C e ∙ count-more C (a .w) _ (l .i) _ _ (at-loop-test .loop-test .taken) (entry-of C (a .w) (now (a .fields)) e (l .i) _ (omega (arith, at-count-of .count-of .ensures)) (at-entry-at .entry-at .ensures)) (c .of-entry .ensures .0) (l .c))
-
-binds-rest-requires : tie.Need-binds-rest-requires Inv-loop μ-loop
-binds-rest-requires c κs = search needs
-
-of-close-requires : tie.Need-of-close-requires Inv-loop μ-loop
-of-close-requires c κs = search needs
-
-add-result : tie.Need-add-result Inv-loop μ-loop
-add-result c = search needs
 
 returns : tie.Need-returns Inv-loop μ-loop
 returns c =
@@ -73,20 +46,5 @@ returns c =
     ((λ C e. sym (ap (λ (x : ℕ). variables C (a .w) x 0) (sym (at-count-of .count-of .ensures)) ∙ l .inv .2 C e ∙ count-all C (a .w) _ (l .i) _ _ (at-loop-test .loop-test .left) (at-binds-rest .binds-rest .ensures C e) (c .of-close .ensures .0) (l .c))), omega (arith, at-count-of .count-of .ensures, c .of-close .ensures .1, l .inv .0, l .inv .1))
 
 pub variables-spec : {M : Type 1} → statement M
-variables-spec =
-    tie.close
-    (tie.spec
-    Inv-loop
-    μ-loop
-    count-of-requires
-    loop-holds
-    entry-at-requires
-    of-entry-requires
-    add-c
-    add-i
-    loop-less
-    loop-again
-    binds-rest-requires
-    of-close-requires
-    add-result
-    returns)
+variables-spec = tie.close (tie.spec Inv-loop μ-loop (λ c κs. search needs) loop-holds (λ c κs. search needs) (λ c κs. search needs)
+    (λ c. search needs) (λ c. search needs) (λ c. search needs) loop-again (λ c κs. search needs) (λ c κs. search needs) (λ c. search needs) returns)

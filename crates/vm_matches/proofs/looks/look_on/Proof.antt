@@ -20,14 +20,8 @@ Inv-loop code fields work env w n k₀ k =
 abbrev μ-loop : tie.MeasureT-loop
 μ-loop code fields work env w n k₀ k = n - k .next
 
-count-of-requires : tie.Need-count-of-requires Inv-loop μ-loop
-count-of-requires c κs = search needs
-
 loop-holds : tie.Need-loop-holds Inv-loop μ-loop
 loop-holds c = ((λ image e. refl), refl)
-
-stops-at-requires : tie.Need-stops-at-requires Inv-loop μ-loop
-stops-at-requires c κs = search needs
 
 returns : tie.Need-returns Inv-loop μ-loop
 returns c =
@@ -45,12 +39,6 @@ returns c =
           look-all C M (a .env) (a .w) _ (a .from .next) (lookedOf (a .from)) (at-count-of .count-of .ensures) (l .inv .0 image e ∙ look-stop C M (a .env) (a .w) _ (lookedOf (l .k)) (at-if1 .if1 .taken) (sym (at-stops-at .stops-at .ensures image (a .w) h e) ∙ c .if2 .taken))),
       l .inv .1,
     )
-
-past-entry-requires : tie.Need-past-entry-requires Inv-loop μ-loop
-past-entry-requires c κs = search needs
-
-loop-less : tie.Need-loop-less Inv-loop μ-loop
-loop-less c = search needs
 
 loop-again : tie.Need-loop-again Inv-loop μ-loop
 loop-again c =
@@ -85,16 +73,5 @@ returns-2 c =
     )
 
 pub look-on-spec : {M : Type 1} → statement M
-look-on-spec =
-    tie.close
-    (tie.spec
-    Inv-loop
-    μ-loop
-    count-of-requires
-    loop-holds
-    stops-at-requires
-    returns
-    past-entry-requires
-    loop-less
-    loop-again
-    returns-2)
+look-on-spec = tie.close (tie.spec Inv-loop μ-loop (λ c κs. search needs) loop-holds (λ c κs. search needs) returns (λ c κs. search needs)
+    (λ c. search needs) loop-again returns-2)

@@ -6,11 +6,8 @@ use borrow.Author.Needs.{needs}
 use Rattle.vm_matches.proofs.looks.looked_with.Statement.{statement}
 use Rattle.vm_matches.proofs.looks.looked_with.Tie as tie
 
-rest-after-requires : tie.Need-rest-after-requires
-rest-after-requires c κs = search needs
-
 returns : tie.Need-returns
 returns c = let a = c .before .before .args in (ap (λ (x : ℕ). record { next = a .byte % 16; rest = x; fits = leb 16 (a .byte) }) (c .rest-after .ensures), refl, omega arith)
 
 pub looked-with-spec : {M : Type 1} → statement M
-looked-with-spec = tie.close (tie.spec rest-after-requires returns)
+looked-with-spec = tie.close (tie.spec (λ c κs. search needs) returns)

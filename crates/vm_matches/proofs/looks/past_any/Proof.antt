@@ -7,20 +7,8 @@ use borrow.Author.Needs.{needs}
 use Rattle.vm_matches.proofs.looks.past_any.Statement.{statement}
 use Rattle.vm_matches.proofs.looks.past_any.Tie as tie
 
-add-t3 : tie.Need-add-t3
-add-t3 c = search needs
-
-rest-of-requires : tie.Need-rest-of-requires
-rest-of-requires c κs = search needs
-
-is-kept-requires : tie.Need-is-kept-requires
-is-kept-requires c κs = search needs
-
-both-requires : tie.Need-both-requires
-both-requires c κs = search needs
-
 returns : tie.Need-returns
 returns c = let a = c .before .before .before .before .before .args in (any-past (memoryOf (now (a .work))) (lookedOf (a .k)) _ _ _ (c .before .before .rest-of .ensures) (c .before .is-kept .ensures) (c .both .ensures), refl, refl)
 
 pub past-any-spec : {M : Type 1} → statement M
-past-any-spec = tie.close (tie.spec add-t3 rest-of-requires is-kept-requires both-requires returns)
+past-any-spec = tie.close (tie.spec (λ c. search needs) (λ c κs. search needs) (λ c κs. search needs) (λ c κs. search needs) returns)

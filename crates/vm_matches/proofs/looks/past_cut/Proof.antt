@@ -7,21 +7,9 @@ use borrow.Author.Needs.{needs}
 use Rattle.vm_matches.proofs.looks.past_cut.Statement.{statement}
 use Rattle.vm_matches.proofs.looks.past_cut.Tie as tie
 
-add-t4 : tie.Need-add-t4
-add-t4 c = search needs
-
-rest-of-requires : tie.Need-rest-of-requires
-rest-of-requires c κs = search needs
-
-top-fits-requires : tie.Need-top-fits-requires
-top-fits-requires c κs = search needs
-
-both-requires : tie.Need-both-requires
-both-requires c κs = search needs
-
 returns : tie.Need-returns
 returns c = let a = c .before .before .before .before .before .args in (cut-past (memoryOf (now (a .work))) (lookedOf (a .k)) (a .v) _ _ _ (c .before .before .rest-of .ensures) (c .before .top-fits .ensures) (c .both .ensures), refl, refl)
 
 pub past-cut-spec : {M : Type 1} → statement M
 past-cut-spec =
-    tie.close (tie.spec add-t4 rest-of-requires top-fits-requires both-requires returns)
+    tie.close (tie.spec (λ c. search needs) (λ c κs. search needs) (λ c κs. search needs) (λ c κs. search needs) returns)

@@ -8,12 +8,6 @@ use borrow.Author.Needs.{needs}
 use Rattle.vm_matches.proofs.looks.past_entry.Statement.{statement}
 use Rattle.vm_matches.proofs.looks.past_entry.Tie as tie
 
-entry-at-requires : tie.Need-entry-at-requires
-entry-at-requires c κs = search needs
-
-past-any-requires : tie.Need-past-any-requires
-past-any-requires c κs = search needs
-
 returns : tie.Need-returns
 returns c =
     let at-if1 = c .before in
@@ -26,15 +20,6 @@ returns c =
       c .past-any .ensures .1,
       c .past-any .ensures .2,
     )
-
-cut-term-requires : tie.Need-cut-term-requires
-cut-term-requires c κs = search needs
-
-atom-at-requires : tie.Need-atom-at-requires
-atom-at-requires c κs = search needs
-
-past-cut-requires : tie.Need-past-cut-requires
-past-cut-requires c κs = search needs
 
 returns-2 : tie.Need-returns-2
 returns-2 c =
@@ -52,13 +37,5 @@ returns-2 c =
     )
 
 pub past-entry-spec : {M : Type 1} → statement M
-past-entry-spec =
-    tie.close
-    (tie.spec
-    entry-at-requires
-    past-any-requires
-    returns
-    cut-term-requires
-    atom-at-requires
-    past-cut-requires
-    returns-2)
+past-entry-spec = tie.close (tie.spec (λ c κs. search needs) (λ c κs. search needs) returns (λ c κs. search needs) (λ c κs. search needs)
+    (λ c κs. search needs) returns-2)

@@ -18,15 +18,6 @@ abbrev μ-loop : tie.MeasureT-loop
 loop-holds : tie.Need-loop-holds Inv-loop μ-loop
 loop-holds c = (omega arith, behind-start _ _ 0 _)
 
-rest-of-requires : tie.Need-rest-of-requires Inv-loop μ-loop
-rest-of-requires c κs = search needs
-
-add-i : tie.Need-add-i Inv-loop μ-loop
-add-i c = search needs
-
-loop-less : tie.Need-loop-less Inv-loop μ-loop
-loop-less c = search needs
-
 loop-again : tie.Need-loop-again Inv-loop μ-loop
 loop-again c = let a = c .before .before .before .before .args in let l = c .before .before .loop in (omega arith, l .inv .1 ∙ behind-more (memoryOf (now (a .work))) (a .n) (l .i) (l .rest) _ (c .before .loop-test .taken) (c .rest-of .ensures))
 
@@ -34,6 +25,4 @@ returns : tie.Need-returns Inv-loop μ-loop
 returns c = let a = c .before .before .before .args in let l = c .before .loop in sym (l .inv .1 ∙ behind-all (memoryOf (now (a .work))) (a .n) (l .i) (l .rest) (c .loop-test .left))
 
 pub rest-after-spec : {M : Type 1} → statement M
-rest-after-spec =
-    tie.close
-    (tie.spec Inv-loop μ-loop loop-holds rest-of-requires add-i loop-less loop-again returns)
+rest-after-spec = tie.close (tie.spec Inv-loop μ-loop loop-holds (λ c κs. search needs) (λ c. search needs) (λ c. search needs) loop-again returns)

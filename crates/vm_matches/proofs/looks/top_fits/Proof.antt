@@ -5,27 +5,6 @@ use borrow.Author.Needs.{needs}
 use Rattle.vm_matches.proofs.looks.top_fits.Statement.{statement}
 use Rattle.vm_matches.proofs.looks.top_fits.Tie as tie
 
-piece-of-requires : tie.Need-piece-of-requires
-piece-of-requires c κs = search needs
-
-piece-second-requires : tie.Need-piece-second-requires
-piece-second-requires c κs = search needs
-
-top-entry-requires : tie.Need-top-entry-requires
-top-entry-requires c κs = search needs
-
-entry-label-requires : tie.Need-entry-label-requires
-entry-label-requires c κs = search needs
-
-is-kept-requires : tie.Need-is-kept-requires
-is-kept-requires c κs = search needs
-
-has-bit-requires : tie.Need-has-bit-requires
-has-bit-requires c κs = search needs
-
-both-requires : tie.Need-both-requires
-both-requires c κs = search needs
-
 returns : tie.Need-returns
 returns c =
     let at-entry-label = c .before .before .before in
@@ -37,14 +16,5 @@ returns c =
     top-as (memoryOf (now (a .work))) (a .v) (a .stack) _ _ _ _ _ _ _ (at-piece-of .piece-of .ensures) (at-piece-second .piece-second .ensures) (at-top-entry .top-entry .ensures) (at-entry-label .entry-label .ensures .0) (c .before .before .is-kept .ensures) (c .before .has-bit .ensures) (c .both .ensures)
 
 pub top-fits-spec : {M : Type 1} → statement M
-top-fits-spec =
-    tie.close
-    (tie.spec
-    piece-of-requires
-    piece-second-requires
-    top-entry-requires
-    entry-label-requires
-    is-kept-requires
-    has-bit-requires
-    both-requires
-    returns)
+top-fits-spec = tie.close (tie.spec (λ c κs. search needs) (λ c κs. search needs) (λ c κs. search needs) (λ c κs. search needs) (λ c κs. search needs)
+    (λ c κs. search needs) (λ c κs. search needs) returns)

@@ -7,12 +7,6 @@ use borrow.Author.Needs.{needs}
 use Rattle.vm_matches.proofs.matches.branch_at.Statement.{statement}
 use Rattle.vm_matches.proofs.matches.branch_at.Tie as tie
 
-term-at-requires : tie.Need-term-at-requires
-term-at-requires c κs = search needs
-
-begun-at-requires : tie.Need-begun-at-requires
-begun-at-requires c κs = search needs
-
 returns : tie.Need-returns
 returns c =
     let at-term-at = c .before in
@@ -23,9 +17,4 @@ returns c =
     c .begun-at .ensures image ∙ ap (begunAt C) (term-of C w (now (a .fields)) e (a .i) _ (s .pre .1) (at-term-at .term-at .ensures))
 
 pub branch-at-spec : {M : Type 1} → statement M
-branch-at-spec =
-    tie.close
-    (tie.spec
-    term-at-requires
-    begun-at-requires
-    returns)
+branch-at-spec = tie.close (tie.spec (λ c κs. search needs) (λ c κs. search needs) returns)

@@ -14,21 +14,6 @@ use borrow.Author.Needs.{needs}
 use Rattle.vm_matches.proofs.matches.first_branch.Statement.{statement}
 use Rattle.vm_matches.proofs.matches.first_branch.Tie as tie
 
-quota-of-requires : tie.Need-quota-of-requires
-quota-of-requires c κs = search needs
-
-variables-requires : tie.Need-variables-requires
-variables-requires c κs = search needs
-
-has-capacity-requires : tie.Need-has-capacity-requires
-has-capacity-requires c κs = search needs
-
-bindings-out-requires : tie.Need-bindings-out-requires
-bindings-out-requires c κs = search needs
-
-halt-requires : tie.Need-halt-requires
-halt-requires c κs = search needs
-
 returns : tie.Need-returns
 returns c =
     let at-bindings-out = c .before in
@@ -42,9 +27,6 @@ returns c =
     let C : Program = record { code = now (a .code); image = image } in
     branch-full C (now (a .work)) (now (a .work)) (now (a .work)) (a .r) _ (a .w) (a .v) _ (at-variables .variables .ensures .0 C e) _ _ (at-quota-of .quota-of .ensures) (at-has-capacity .has-capacity .ensures) _ (at-if1 .if1 .taken) (at-bindings-out .bindings-out .ensures) (c .halt .ensures)
 
-halt-requires-2 : tie.Need-halt-requires-2
-halt-requires-2 c κs = search needs
-
 returns-2 : tie.Need-returns-2
 returns-2 c =
     let at-if2 = c .before in
@@ -57,9 +39,6 @@ returns-2 c =
     λ image e.
     let C : Program = record { code = now (a .code); image = image } in
     branch-spent C (now (a .work)) (now (a .work)) (now (a .work)) (a .r) _ (a .w) (a .v) _ (at-variables .variables .ensures .0 C e) _ _ (at-quota-of .quota-of .ensures) (at-has-capacity .has-capacity .ensures) (at-if2 .if2 .taken) (at-if1 .if1 .left) (c .halt2 .ensures)
-
-whole-requires : tie.Need-whole-requires
-whole-requires c κs = search needs
 
 bind-entries-requires : tie.Need-bind-entries-requires
 bind-entries-requires c κs =
@@ -76,18 +55,12 @@ bind-entries-requires c κs =
     let h : at-whole .whole .result + variables C (a .w) (countOf (a .w)) 0 ≤ 2048 = omega (arith, at-variables .variables .ensures .0 C (p .1), at-whole .whole .ensures, k) in
     (search needs, s .pre .0 .env, (C, p .1, h))
 
-branch-at-requires : tie.Need-branch-at-requires
-branch-at-requires c κs = search needs
-
 called-requires : tie.Need-called-requires
 called-requires c κs =
     let at-bind-entries = c .before .before .before .before in
     let s = at-bind-entries .before .before .before .before .before .before .before .before .before .before .before .before .before .before in
     let m = s .pre .0 in
     (omega (arith, m .coded), search needs, m .frames, s .pre .1, m .pc, m .env, at-bind-entries .bind-entries .ensures .1)
-
-sub-q : tie.Need-sub-q
-sub-q c = search needs
 
 charge-bindings-requires : tie.Need-charge-bindings-requires
 charge-bindings-requires c κs =
@@ -123,22 +96,6 @@ returns-3 c =
     branch-made C (now (a .work)) _ _ (a .r) _ (a .w) (a .v) _ (at-variables .variables .ensures .0 C e) _ _ (at-quota-of .quota-of .ensures) (at-has-capacity .has-capacity .ensures) (at-if2 .if2 .left) _ _ _ _ _ (at-if1 .if1 .left) (at-whole .whole .ensures) (c .charge-bindings .ensures) (at-bind-entries .bind-entries .ensures .0 C e) refl (at-branch-at .branch-at .ensures image (a .w) e) (at-called .called .ensures image)
 
 pub first-branch-spec : {M : Type 1} → statement M
-first-branch-spec =
-    tie.close
-    (tie.spec
-    quota-of-requires
-    variables-requires
-    has-capacity-requires
-    bindings-out-requires
-    halt-requires
-    returns
-    halt-requires-2
-    returns-2
-    whole-requires
-    bind-entries-requires
-    branch-at-requires
-    called-requires
-    sub-q
-    charge-bindings-requires
-    same-length
-    returns-3)
+first-branch-spec = tie.close (tie.spec (λ c κs. search needs) (λ c κs. search needs) (λ c κs. search needs) (λ c κs. search needs)
+    (λ c κs. search needs) returns (λ c κs. search needs) returns-2 (λ c κs. search needs) bind-entries-requires (λ c κs. search needs)
+    called-requires (λ c. search needs) charge-bindings-requires same-length returns-3)

@@ -6,12 +6,6 @@ use borrow.Author.Needs.{needs}
 use Rattle.vm_matches.proofs.matches.make_match.Statement.{statement}
 use Rattle.vm_matches.proofs.matches.make_match.Tie as tie
 
-depth-of-requires : tie.Need-depth-of-requires
-depth-of-requires c κs = search needs
-
-halt-requires : tie.Need-halt-requires
-halt-requires c κs = search needs
-
 returns : tie.Need-returns
 returns c =
     let at-if1 = c .before in
@@ -19,9 +13,6 @@ returns c =
     let s = at-depth-of .before .before .before .before in
     let a = s .args in
     λ image e. judged-frames (reduceMatch (record { code = now (a .code); image = image }) (a .w) (a .k .stack) (lookedOf (a .k))) (now (a .work)) (now (a .work)) (a .r) _ (a .w) _ (at-depth-of .depth-of .ensures) (at-if1 .if1 .taken) (c .halt .ensures)
-
-reduce-match-requires : tie.Need-reduce-match-requires
-reduce-match-requires c κs = search needs
 
 same-length : tie.Need-same-length
 same-length c =
@@ -38,12 +29,4 @@ returns-2 c =
     λ image e. judged-made (reduceMatch (record { code = now (a .code); image = image }) (a .w) (a .k .stack) (lookedOf (a .k))) (now (a .work)) _ (a .r) _ (a .w) _ (at-depth-of .depth-of .ensures) (at-if1 .if1 .left) (at-reduce-match .reduce-match .ensures image e)
 
 pub make-match-spec : {M : Type 1} → statement M
-make-match-spec =
-    tie.close
-    (tie.spec
-    depth-of-requires
-    halt-requires
-    returns
-    reduce-match-requires
-    same-length
-    returns-2)
+make-match-spec = tie.close (tie.spec (λ c κs. search needs) (λ c κs. search needs) returns (λ c κs. search needs) same-length returns-2)

@@ -5,24 +5,12 @@ use borrow.Author.Needs.{needs}
 use Rattle.vm_matches.proofs.matches.other_branch.Statement.{statement}
 use Rattle.vm_matches.proofs.matches.other_branch.Tie as tie
 
-halt-requires : tie.Need-halt-requires
-halt-requires c κs = search needs
-
 returns : tie.Need-returns
 returns c =
     let at-if1 = c .before in
     let s = at-if1 .before .before .before .before .before in
     let a = s .args in
     λ image e. other-spent (record { code = now (a .code); image = image }) (now (a .work)) (now (a .work)) (a .r) _ (a .w) (at-if1 .if1 .taken) (c .halt .ensures)
-
-branch-at-requires : tie.Need-branch-at-requires
-branch-at-requires c κs = search needs
-
-called-requires : tie.Need-called-requires
-called-requires c κs = search needs
-
-sub-q : tie.Need-sub-q
-sub-q c = search needs
 
 same-length : tie.Need-same-length
 same-length c =
@@ -39,13 +27,5 @@ returns-2 c =
     λ image e. other-made (record { code = now (a .code); image = image }) (now (a .work)) _ (a .r) _ (a .w) (at-if1 .if1 .left) _ _ refl (at-branch-at .branch-at .ensures image (a .w) e) (at-called .called .ensures image)
 
 pub other-branch-spec : {M : Type 1} → statement M
-other-branch-spec =
-    tie.close
-    (tie.spec
-    halt-requires
-    returns
-    branch-at-requires
-    called-requires
-    sub-q
-    same-length
+other-branch-spec = tie.close (tie.spec (λ c κs. search needs) returns (λ c κs. search needs) (λ c κs. search needs) (λ c. search needs) same-length
     returns-2)

@@ -5,12 +5,6 @@ use borrow.Author.Needs.{needs}
 use Rattle.vm_matches.proofs.matches.reduce_match.Statement.{statement}
 use Rattle.vm_matches.proofs.matches.reduce_match.Tie as tie
 
-matches-requires : tie.Need-matches-requires
-matches-requires c κs = search needs
-
-first-branch-requires : tie.Need-first-branch-requires
-first-branch-requires c κs = search needs
-
 same-length : tie.Need-same-length
 same-length c =
     let at-first-branch = c .before .before in
@@ -24,9 +18,6 @@ returns c =
     let s = at-matches .before .before .before .before in
     let a = s .args in
     λ image e. matched (record { code = now (a .code); image = image }) (now (a .work)) _ (a .r) _ (a .w) (a .k .stack) (lookedOf (a .k)) _ (at-matches .matches .ensures (record { code = now (a .code); image = image }) e) (at-if1 .if1 .taken) (at-first-branch .first-branch .ensures image e)
-
-other-branch-requires : tie.Need-other-branch-requires
-other-branch-requires c κs = search needs
 
 same-length-2 : tie.Need-same-length-2
 same-length-2 c =
@@ -43,13 +34,5 @@ returns-2 c =
     λ image e. not-matched (record { code = now (a .code); image = image }) (now (a .work)) _ (a .r) _ (a .w) (a .k .stack) (lookedOf (a .k)) _ (at-matches .matches .ensures (record { code = now (a .code); image = image }) e) (at-if1 .if1 .left) (at-other-branch .other-branch .ensures image e)
 
 pub reduce-match-spec : {M : Type 1} → statement M
-reduce-match-spec =
-    tie.close
-    (tie.spec
-    matches-requires
-    first-branch-requires
-    same-length
-    returns
-    other-branch-requires
-    same-length-2
+reduce-match-spec = tie.close (tie.spec (λ c κs. search needs) (λ c κs. search needs) same-length returns (λ c κs. search needs) same-length-2
     returns-2)

@@ -10,27 +10,6 @@ use borrow.Author.Needs.{needs}
 use Rattle.vm_matches.proofs.operands.begin_match.Statement.{statement}
 use Rattle.vm_matches.proofs.operands.begin_match.Tie as tie
 
-instruction-requires : tie.Need-instruction-requires
-instruction-requires c κs = search needs
-
-match-fields-requires : tie.Need-match-fields-requires
-match-fields-requires c κs = search needs
-
-term-at-requires : tie.Need-term-at-requires
-term-at-requires c κs = search needs
-
-word-of-requires : tie.Need-word-of-requires
-word-of-requires c κs = search needs
-
-class-of-requires : tie.Need-class-of-requires
-class-of-requires c κs = search needs
-
-atom-value-requires : tie.Need-atom-value-requires
-atom-value-requires c κs = search needs
-
-unlooked-requires : tie.Need-unlooked-requires
-unlooked-requires c κs = search needs
-
 entries-from-requires : tie.Need-entries-from-requires
 entries-from-requires c κs =
     let at-match-fields = c .before .before .before .before .before .before .before .before in
@@ -61,9 +40,6 @@ returns c =
     match-atom C (now (a .work)) _ (a .r) _ (at-instruction .instruction .result) _ _ (at-instruction .instruction .ensures) (term-of C (at-instruction .instruction .result) _ (at-match-fields .match-fields .ensures) 0 _ (omega arith) (at-term-at .term-at .ensures)) (at-class-of .class-of .ensures ∙ ap classOf (at-word-of .word-of .ensures))
     _ (at-unlooked .unlooked .result) (at-if1 .if1 .taken) (at-atom-value .atom-value .ensures C ∙ ap (atomValue C (memoryOf (now (a .work))) (a .r .env)) (at-word-of .word-of .ensures)) (at-unlooked .unlooked .ensures .0) (at-unlooked .unlooked .ensures .1) (at-entries-from .entries-from .ensures (now (a .image)) (at-match-fields .match-fields .ensures))
 
-begin-operand-requires : tie.Need-begin-operand-requires
-begin-operand-requires c κs = search needs
-
 same-length-2 : tie.Need-same-length-2
 same-length-2 c =
     let at-begin-operand = c .before .before in
@@ -84,19 +60,6 @@ returns-2 c =
     match-operand C (now (a .work)) _ (a .r) _ (at-instruction .instruction .result) _ _ (at-instruction .instruction .ensures) (term-of C (at-instruction .instruction .result) _ (at-match-fields .match-fields .ensures) 0 _ (omega arith) (at-term-at .term-at .ensures)) (at-class-of .class-of .ensures ∙ ap classOf (at-word-of .word-of .ensures)) (at-if1 .if1 .left) (at-begin-operand .begin-operand .ensures (now (a .image)))
 
 pub begin-match-spec : {M : Type 1} → statement M
-begin-match-spec =
-    tie.close
-    (tie.spec
-    instruction-requires
-    match-fields-requires
-    term-at-requires
-    word-of-requires
-    class-of-requires
-    atom-value-requires
-    unlooked-requires
-    entries-from-requires
-    same-length
-    returns
-    begin-operand-requires
-    same-length-2
-    returns-2)
+begin-match-spec = tie.close (tie.spec (λ c κs. search needs) (λ c κs. search needs) (λ c κs. search needs) (λ c κs. search needs)
+    (λ c κs. search needs) (λ c κs. search needs) (λ c κs. search needs) entries-from-requires same-length returns (λ c κs. search needs)
+    same-length-2 returns-2)

@@ -7,18 +7,6 @@ use borrow.Author.Needs.{needs}
 use Rattle.vm_matches.proofs.operands.begin_operand.Statement.{statement}
 use Rattle.vm_matches.proofs.operands.begin_operand.Tie as tie
 
-instruction-requires : tie.Need-instruction-requires
-instruction-requires c κs = search needs
-
-depth-of-requires : tie.Need-depth-of-requires
-depth-of-requires c κs = search needs
-
-add-d : tie.Need-add-d
-add-d c = search needs
-
-halt-requires : tie.Need-halt-requires
-halt-requires c κs = search needs
-
 returns : tie.Need-returns
 returns c =
     let at-if1 = c .before in
@@ -27,21 +15,6 @@ returns c =
     let s = at-instruction .before .before .before in
     let a = s .args in
     λ image. operand-framed (record { code = now (a .code); image = image }) (now (a .work)) (now (a .work)) (a .r) _ (a .x .0) (a .v) (a .byte) _ (at-depth-of .depth-of .ensures ∙ ap depthOf (at-instruction .instruction .ensures)) (at-if1 .if1 .taken) (c .halt .ensures)
-
-sub-frames : tie.Need-sub-frames
-sub-frames c = search needs
-
-add-put-match : tie.Need-add-put-match
-add-put-match c = search needs
-
-match-word-requires : tie.Need-match-word-requires
-match-word-requires c κs = search needs
-
-put-match-requires : tie.Need-put-match-requires
-put-match-requires c κs = search needs
-
-same-requires : tie.Need-same-requires
-same-requires c κs = search needs
 
 entry-from-requires : tie.Need-entry-from-requires
 entry-from-requires c κs =
@@ -66,19 +39,6 @@ returns-2 c =
     λ image. operand-begun (record { code = now (a .code); image = image }) (now (a .work)) _ (a .r) (a .r) (a .x .0) (a .v) (a .byte) _ (at-depth-of .depth-of .ensures ∙ ap depthOf (at-instruction .instruction .ensures)) _ _ _ (at-same .same .ensures) refl (at-if1 .if1 .left) (c .entry-from .ensures .0 image) (at-put-match .put-match .ensures (a .r .pc) (a .r .env) (a .v) (at-match-word .match-word .ensures))
 
 pub begin-operand-spec : {M : Type 1} → statement M
-begin-operand-spec =
-    tie.close
-    (tie.spec
-    instruction-requires
-    depth-of-requires
-    add-d
-    halt-requires
-    returns
-    sub-frames
-    add-put-match
-    match-word-requires
-    put-match-requires
-    same-requires
-    entry-from-requires
-    same-length
+begin-operand-spec = tie.close (tie.spec (λ c κs. search needs) (λ c κs. search needs) (λ c. search needs) (λ c κs. search needs) returns
+    (λ c. search needs) (λ c. search needs) (λ c κs. search needs) (λ c κs. search needs) (λ c κs. search needs) entry-from-requires same-length
     returns-2)

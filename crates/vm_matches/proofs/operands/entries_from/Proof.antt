@@ -8,15 +8,6 @@ use borrow.Author.Needs.{needs}
 use Rattle.vm_matches.proofs.operands.entries_from.Statement.{statement}
 use Rattle.vm_matches.proofs.operands.entries_from.Tie as tie
 
-look-on-requires : tie.Need-look-on-requires
-look-on-requires c κs = search needs
-
-count-of-requires : tie.Need-count-of-requires
-count-of-requires c κs = search needs
-
-make-match-requires : tie.Need-make-match-requires
-make-match-requires c κs = search needs
-
 same-length : tie.Need-same-length
 same-length c =
     let at-make-match = c .before .before in
@@ -33,18 +24,6 @@ returns c =
     λ image e.
     let C : Program = record { code = now (a .code); image = image } in
     entries-done C (now (a .work)) _ (a .r) _ (a .r .pc) (a .from .stack) (a .w) (s .pre .2) (lookedOf (a .from)) (lookedOf (at-look-on .look-on .result)) (at-look-on .look-on .ensures .0 image e) _ (at-count-of .count-of .ensures) _ (at-look-on .look-on .ensures .1) (at-if1 .if1 .taken) (at-make-match .make-match .ensures image e)
-
-entry-at-requires : tie.Need-entry-at-requires
-entry-at-requires c κs = search needs
-
-cut-term-requires : tie.Need-cut-term-requires
-cut-term-requires c κs = search needs
-
-looked-byte-requires : tie.Need-looked-byte-requires
-looked-byte-requires c κs = search needs
-
-begin-operand-requires : tie.Need-begin-operand-requires
-begin-operand-requires c κs = search needs
 
 same-length-2 : tie.Need-same-length-2
 same-length-2 c =
@@ -68,17 +47,5 @@ returns-2 c =
     (entry-of C (a .w) (now (a .fields)) e (at-look-on .look-on .result .next) _ (omega (arith, at-count-of .count-of .ensures, at-if1 .if1 .left)) (at-entry-at .entry-at .ensures)) (at-cut-term .cut-term .ensures) (at-looked-byte .looked-byte .ensures .0) (at-begin-operand .begin-operand .ensures image)
 
 pub entries-from-spec : {M : Type 1} → statement M
-entries-from-spec =
-    tie.close
-    (tie.spec
-    look-on-requires
-    count-of-requires
-    make-match-requires
-    same-length
-    returns
-    entry-at-requires
-    cut-term-requires
-    looked-byte-requires
-    begin-operand-requires
-    same-length-2
-    returns-2)
+entries-from-spec = tie.close (tie.spec (λ c κs. search needs) (λ c κs. search needs) (λ c κs. search needs) same-length returns
+    (λ c κs. search needs) (λ c κs. search needs) (λ c κs. search needs) (λ c κs. search needs) same-length-2 returns-2)

@@ -6,36 +6,6 @@ use borrow.Author.Needs.{needs}
 use Rattle.vm_matches.proofs.operands.resume_match.Statement.{statement}
 use Rattle.vm_matches.proofs.operands.resume_match.Tie as tie
 
-slot-pc-requires : tie.Need-slot-pc-requires
-slot-pc-requires c κs = search needs
-
-instruction-requires : tie.Need-instruction-requires
-instruction-requires c κs = search needs
-
-byte-beside-requires : tie.Need-byte-beside-requires
-byte-beside-requires c κs = search needs
-
-looked-again-requires : tie.Need-looked-again-requires
-looked-again-requires c κs = search needs
-
-same-requires : tie.Need-same-requires
-same-requires c κs = search needs
-
-depth-of-requires : tie.Need-depth-of-requires
-depth-of-requires c κs = search needs
-
-add-q : tie.Need-add-q
-add-q c = search needs
-
-add-q-2 : tie.Need-add-q-2
-add-q-2 c = search needs
-
-slot-env-requires : tie.Need-slot-env-requires
-slot-env-requires c κs = search needs
-
-match-fields-requires : tie.Need-match-fields-requires
-match-fields-requires c κs = search needs
-
 entries-from-requires : tie.Need-entries-from-requires
 entries-from-requires c κs =
     let at-match-fields = c .before in
@@ -69,19 +39,6 @@ returns c =
     match-resumed (record { code = now (a .code); image = now (a .image) }) (now (a .work)) _ (a .r) _ _ (a .f) _ _ _ _ (at-looked-again .looked-again .result) (at-byte-beside .byte-beside .ensures .0) (at-looked-again .looked-again .ensures .0) (at-slot-pc .slot-pc .ensures) (at-same .same .ensures) (at-depth-of .depth-of .ensures ∙ ap depthOf (at-instruction .instruction .ensures)) (at-slot-env .slot-env .ensures) (at-entries-from .entries-from .ensures (now (a .image)) (at-match-fields .match-fields .ensures))
 
 pub resume-match-spec : {M : Type 1} → statement M
-resume-match-spec =
-    tie.close
-    (tie.spec
-    slot-pc-requires
-    instruction-requires
-    byte-beside-requires
-    looked-again-requires
-    same-requires
-    depth-of-requires
-    add-q
-    add-q-2
-    slot-env-requires
-    match-fields-requires
-    entries-from-requires
-    same-length
-    returns)
+resume-match-spec = tie.close (tie.spec (λ c κs. search needs) (λ c κs. search needs) (λ c κs. search needs) (λ c κs. search needs)
+    (λ c κs. search needs) (λ c κs. search needs) (λ c. search needs) (λ c. search needs) (λ c κs. search needs) (λ c κs. search needs)
+    entries-from-requires same-length returns)

@@ -7,11 +7,8 @@ use borrow.Author.Needs.{needs}
 use Rattle.vm_memory.proofs.bindings.binding_at.Statement.{statement}
 use Rattle.vm_memory.proofs.bindings.binding_at.Tie as tie
 
-word-requires : tie.Need-word-requires
-word-requires c κs = search needs
-
 returns : tie.Need-returns
 returns c = c .word .ensures ∙ ap (wordAt (memoryOf (now (c .before .before .args .work)))) (omega arith)
 
 pub binding-at-spec : {M : Type 1} → statement M
-binding-at-spec = tie.close (tie.spec word-requires returns)
+binding-at-spec = tie.close (tie.spec (λ c κs. search needs) returns)

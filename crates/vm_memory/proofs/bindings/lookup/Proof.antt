@@ -14,26 +14,11 @@ Inv-loop work env k w₀ i₀ w i = machine.lookup (memoryOf work) env k ≡ out
 abbrev μ-loop : tie.MeasureT-loop
 μ-loop work env k w₀ i₀ w i = i
 
-binding-at-requires : tie.Need-binding-at-requires Inv-loop μ-loop
-binding-at-requires c κs = search needs
-
 loop-holds : tie.Need-loop-holds Inv-loop μ-loop
 loop-holds c = lookup-outside _ _ _ ∙ ap (λ x. outside (memoryOf (now (c .before .before .args .work))) x (c .before .before .args .k)) (sym (c .binding-at .ensures))
 
-bound-link-requires : tie.Need-bound-link-requires Inv-loop μ-loop
-bound-link-requires c κs = search needs
-
 returns : tie.Need-returns Inv-loop μ-loop
 returns c = sym (c .before .before .before .loop .inv ∙ outside-none _ _ _ (c .before .before .loop-test .taken) (omega (arith, c .before .bound-link .ensures, c .if1 .taken)))
-
-binding-at-requires-2 : tie.Need-binding-at-requires-2 Inv-loop μ-loop
-binding-at-requires-2 c κs = search needs
-
-sub-i : tie.Need-sub-i Inv-loop μ-loop
-sub-i c = search needs
-
-loop-less : tie.Need-loop-less Inv-loop μ-loop
-loop-less c = search needs
 
 loop-again : tie.Need-loop-again Inv-loop μ-loop
 loop-again c = c .before .before .before .before .loop .inv ∙ outside-on _ _ _ _ _ (c .before .before .before .loop-test .taken) (c .before .before .bound-link .ensures) (c .before .if1 .left) (c .binding-at2 .ensures)
@@ -42,17 +27,5 @@ returns-2 : tie.Need-returns-2 Inv-loop μ-loop
 returns-2 c = sym (c .before .loop .inv ∙ outside-here _ _ _ (omega arith))
 
 pub lookup-spec : {M : Type 1} → statement M
-lookup-spec =
-    tie.close
-    (tie.spec
-    Inv-loop
-    μ-loop
-    binding-at-requires
-    loop-holds
-    bound-link-requires
-    returns
-    binding-at-requires-2
-    sub-i
-    loop-less
-    loop-again
-    returns-2)
+lookup-spec = tie.close (tie.spec Inv-loop μ-loop (λ c κs. search needs) loop-holds (λ c κs. search needs) returns (λ c κs. search needs)
+    (λ c. search needs) (λ c. search needs) loop-again returns-2)

@@ -4,15 +4,6 @@ use borrow.Author.Needs.{needs}
 use Rattle.vm_memory.proofs.cells.put_cell.Statement.{statement}
 use Rattle.vm_memory.proofs.cells.put_cell.Tie as tie
 
-add-put-word : tie.Need-add-put-word
-add-put-word c = search needs
-
-above-requires : tie.Need-above-requires
-above-requires c κs = search needs
-
-put-word-requires : tie.Need-put-word-requires
-put-word-requires c κs = search needs
-
 same-length : tie.Need-same-length
 same-length c = c .before .before .put-word .kept .0
 
@@ -21,4 +12,4 @@ returns c = put-as _ _ _ _ _ _ refl (c .before .before .before .above .ensures) 
 
 pub put-cell-spec : {M : Type 1} → statement M
 put-cell-spec =
-    tie.close (tie.spec add-put-word above-requires put-word-requires same-length returns)
+    tie.close (tie.spec (λ c. search needs) (λ c κs. search needs) (λ c κs. search needs) same-length returns)

@@ -6,14 +6,8 @@ use borrow.Author.Needs.{needs}
 use Rattle.vm_memory.proofs.cells.read_cell.Statement.{statement}
 use Rattle.vm_memory.proofs.cells.read_cell.Tie as tie
 
-cell-of-requires : tie.Need-cell-of-requires
-cell-of-requires c κs = search needs
-
-cell-at-requires : tie.Need-cell-at-requires
-cell-at-requires c κs = search needs
-
 returns : tie.Need-returns
 returns c = c .cell-at .ensures ∙ ap (cellAt (memoryOf (now (c .before .before .before .args .work)))) (c .before .cell-of .ensures)
 
 pub read-cell-spec : {M : Type 1} → statement M
-read-cell-spec = tie.close (tie.spec cell-of-requires cell-at-requires returns)
+read-cell-spec = tie.close (tie.spec (λ c κs. search needs) (λ c κs. search needs) returns)

@@ -3,15 +3,6 @@ use borrow.Author.Needs.{needs}
 use Rattle.vm_memory.proofs.cells.store_cell.Statement.{statement}
 use Rattle.vm_memory.proofs.cells.store_cell.Tie as tie
 
-cell-at-requires : tie.Need-cell-at-requires
-cell-at-requires c κs = search needs
-
-cell-note-requires : tie.Need-cell-note-requires
-cell-note-requires c κs = search needs
-
-put-cell-requires : tie.Need-put-cell-requires
-put-cell-requires c κs = search needs
-
 same-length : tie.Need-same-length
 same-length c = c .before .before .put-cell .kept .0
 
@@ -20,4 +11,4 @@ returns c = cell-stored _ _ _ _ _ _ (c .before .before .before .before .before .
 
 pub store-cell-spec : {M : Type 1} → statement M
 store-cell-spec =
-    tie.close (tie.spec cell-at-requires cell-note-requires put-cell-requires same-length returns)
+    tie.close (tie.spec (λ c κs. search needs) (λ c κs. search needs) (λ c κs. search needs) same-length returns)

@@ -7,15 +7,6 @@ use borrow.Author.Needs.{needs}
 use Rattle.vm_memory.proofs.kept.rest_of.Statement.{statement}
 use Rattle.vm_memory.proofs.kept.rest_of.Tie as tie
 
-is-kept-requires : tie.Need-is-kept-requires
-is-kept-requires c κs = search needs
-
-piece-of-requires : tie.Need-piece-of-requires
-piece-of-requires c κs = search needs
-
-piece-second-requires : tie.Need-piece-second-requires
-piece-second-requires c κs = search needs
-
 returns : tie.Need-returns
 returns c = let a = c .before .before .before .before .before .args in c .piece-second .ensures ∙ ap (pieceSecond (memoryOf (now (a .work)))) (c .before .piece-of .ensures) ∙ sym (chosen-yes (isKept (a .v)) _ _ (sym (c .before .before .before .is-kept .ensures) ∙ c .before .before .if1 .taken))
 
@@ -24,4 +15,4 @@ returns-2 c = sym (chosen-no (isKept (c .before .before .before .args .v)) _ _ (
 
 pub rest-of-spec : {M : Type 1} → statement M
 rest-of-spec =
-    tie.close (tie.spec is-kept-requires piece-of-requires piece-second-requires returns returns-2)
+    tie.close (tie.spec (λ c κs. search needs) (λ c κs. search needs) (λ c κs. search needs) returns returns-2)

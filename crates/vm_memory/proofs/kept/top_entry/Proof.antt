@@ -6,14 +6,8 @@ use borrow.Author.Needs.{needs}
 use Rattle.vm_memory.proofs.kept.top_entry.Statement.{statement}
 use Rattle.vm_memory.proofs.kept.top_entry.Tie as tie
 
-piece-of-requires : tie.Need-piece-of-requires
-piece-of-requires c κs = search needs
-
-piece-first-requires : tie.Need-piece-first-requires
-piece-first-requires c κs = search needs
-
 returns : tie.Need-returns
 returns c = c .piece-first .ensures ∙ ap (pieceFirst (memoryOf (now (c .before .before .before .args .work)))) (c .before .piece-of .ensures)
 
 pub top-entry-spec : {M : Type 1} → statement M
-top-entry-spec = tie.close (tie.spec piece-of-requires piece-first-requires returns)
+top-entry-spec = tie.close (tie.spec (λ c κs. search needs) (λ c κs. search needs) returns)

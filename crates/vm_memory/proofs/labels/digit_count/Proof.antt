@@ -19,12 +19,6 @@ loop-holds c = let e : c .args .n - 0 ≡ c .args .n = omega arith in (search ne
 returns : tie.Need-returns Inv-loop μ-loop
 returns c = sym (c .before .before .loop .inv .1 ∙ count-none _ _ _ (c .if1 .taken))
 
-add-i : tie.Need-add-i Inv-loop μ-loop
-add-i c = search needs
-
-loop-less : tie.Need-loop-less Inv-loop μ-loop
-loop-less c = search needs
-
 loop-again : tie.Need-loop-again Inv-loop μ-loop
 loop-again c = (search needs, c .before .before .loop .inv .1 ∙ count-more _ _ _ (c .before .loop-test .taken) (c .if1 .left))
 
@@ -33,4 +27,4 @@ returns-2 c = sym (c .before .loop .inv .1 ∙ count-end _ _ _ (search needs))
 
 pub digit-count-spec : {M : Type 1} → statement M
 digit-count-spec =
-    tie.close (tie.spec Inv-loop μ-loop loop-holds returns add-i loop-less loop-again returns-2)
+    tie.close (tie.spec Inv-loop μ-loop loop-holds returns (λ c. search needs) (λ c. search needs) loop-again returns-2)

@@ -16,15 +16,6 @@ abbrev μ-loop : tie.MeasureT-loop
 loop-holds : tie.Need-loop-holds Inv-loop μ-loop
 loop-holds c = let e : c .args .n - 0 ≡ c .args .n = omega arith in (search needs, rw e refl)
 
-with-bit-requires : tie.Need-with-bit-requires Inv-loop μ-loop
-with-bit-requires c κs = search needs
-
-add-i : tie.Need-add-i Inv-loop μ-loop
-add-i c = search needs
-
-loop-less : tie.Need-loop-less Inv-loop μ-loop
-loop-less c = search needs
-
 loop-again : tie.Need-loop-again Inv-loop μ-loop
 loop-again c = (search needs, c .before .before .loop .inv .1 ∙ set-more _ _ _ _ _ (c .before .loop-test .taken) (c .with-bit .ensures))
 
@@ -32,6 +23,4 @@ returns : tie.Need-returns Inv-loop μ-loop
 returns c = sym (c .before .loop .inv .1 ∙ set-end _ _ _ _ (search needs))
 
 pub label-set-spec : {M : Type 1} → statement M
-label-set-spec =
-    tie.close
-    (tie.spec Inv-loop μ-loop loop-holds with-bit-requires add-i loop-less loop-again returns)
+label-set-spec = tie.close (tie.spec Inv-loop μ-loop loop-holds (λ c κs. search needs) (λ c. search needs) (λ c. search needs) loop-again returns)

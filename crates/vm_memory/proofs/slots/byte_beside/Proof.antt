@@ -4,17 +4,8 @@ use borrow.Author.Needs.{needs}
 use Rattle.vm_memory.proofs.slots.byte_beside.Statement.{statement}
 use Rattle.vm_memory.proofs.slots.byte_beside.Tie as tie
 
-add-wide : tie.Need-add-wide
-add-wide c = search needs
-
-shared-slice-read-wide : tie.Need-shared-slice-read-wide
-shared-slice-read-wide c = search needs
-
-wide-requires : tie.Need-wide-requires
-wide-requires c κs = search needs
-
 returns : tie.Need-returns
 returns c = (byte-loaded (now (c .before .before .before .args .work)) _ _ (c .before .before .before .pre .0) (c .before .before .before .pre .1) (c .wide .ensures .0), c .wide .ensures .1)
 
 pub byte-beside-spec : {M : Type 1} → statement M
-byte-beside-spec = tie.close (tie.spec add-wide shared-slice-read-wide wide-requires returns)
+byte-beside-spec = tie.close (tie.spec (λ c. search needs) (λ c. search needs) (λ c κs. search needs) returns)

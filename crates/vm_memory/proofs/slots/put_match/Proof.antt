@@ -4,15 +4,6 @@ use borrow.Author.Needs.{needs}
 use Rattle.vm_memory.proofs.slots.put_match.Statement.{statement}
 use Rattle.vm_memory.proofs.slots.put_match.Tie as tie
 
-put-slot-requires : tie.Need-put-slot-requires
-put-slot-requires c κs = search needs
-
-sub-put-beside : tie.Need-sub-put-beside
-sub-put-beside c = search needs
-
-put-beside-requires : tie.Need-put-beside-requires
-put-beside-requires c κs = search needs
-
 same-length : tie.Need-same-length
 same-length c =
     let at-put-beside = c .before .before in
@@ -26,4 +17,4 @@ returns c =
 
 pub put-match-spec : {M : Type 1} → statement M
 put-match-spec =
-    tie.close (tie.spec put-slot-requires sub-put-beside put-beside-requires same-length returns)
+    tie.close (tie.spec (λ c κs. search needs) (λ c. search needs) (λ c κs. search needs) same-length returns)

@@ -3,18 +3,6 @@ use borrow.Author.Needs.{needs}
 use Rattle.vm_memory.proofs.slots.put_return.Statement.{statement}
 use Rattle.vm_memory.proofs.slots.put_return.Tie as tie
 
-slot-at-requires : tie.Need-slot-at-requires
-slot-at-requires c κs = search needs
-
-slot-held-requires : tie.Need-slot-held-requires
-slot-held-requires c κs = search needs
-
-slot-word-requires : tie.Need-slot-word-requires
-slot-word-requires c κs = search needs
-
-put-slot-requires : tie.Need-put-slot-requires
-put-slot-requires c κs = search needs
-
 same-length : tie.Need-same-length
 same-length c = c .before .before .put-slot .kept .0
 
@@ -26,12 +14,4 @@ returns c =
     return-stored _ _ _ _ _ _ _ _ _ (at-slot-at .slot-at .ensures) (at-slot-held .slot-held .ensures) (at-slot-word .slot-word .ensures) (c .before .before .put-slot .ensures)
 
 pub put-return-spec : {M : Type 1} → statement M
-put-return-spec =
-    tie.close
-    (tie.spec
-    slot-at-requires
-    slot-held-requires
-    slot-word-requires
-    put-slot-requires
-    same-length
-    returns)
+put-return-spec = tie.close (tie.spec (λ c κs. search needs) (λ c κs. search needs) (λ c κs. search needs) (λ c κs. search needs) same-length returns)

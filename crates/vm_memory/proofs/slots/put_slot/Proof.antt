@@ -4,12 +4,6 @@ use borrow.Author.Needs.{needs}
 use Rattle.vm_memory.proofs.slots.put_slot.Statement.{statement}
 use Rattle.vm_memory.proofs.slots.put_slot.Tie as tie
 
-slot-in-requires : tie.Need-slot-in-requires
-slot-in-requires c κs = search needs
-
-put-word-requires : tie.Need-put-word-requires
-put-word-requires c κs = search needs
-
 same-length : tie.Need-same-length
 same-length c = c .before .before .put-word .kept .0
 
@@ -17,4 +11,4 @@ returns : tie.Need-returns
 returns c = put-as _ _ _ _ _ _ (c .before .before .before .slot-in .ensures) refl (c .before .before .put-word .ensures)
 
 pub put-slot-spec : {M : Type 1} → statement M
-put-slot-spec = tie.close (tie.spec slot-in-requires put-word-requires same-length returns)
+put-slot-spec = tie.close (tie.spec (λ c κs. search needs) (λ c κs. search needs) same-length returns)

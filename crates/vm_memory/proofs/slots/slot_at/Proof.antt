@@ -6,14 +6,8 @@ use borrow.Author.Needs.{needs}
 use Rattle.vm_memory.proofs.slots.slot_at.Statement.{statement}
 use Rattle.vm_memory.proofs.slots.slot_at.Tie as tie
 
-slot-in-requires : tie.Need-slot-in-requires
-slot-in-requires c κs = search needs
-
-word-requires : tie.Need-word-requires
-word-requires c κs = search needs
-
 returns : tie.Need-returns
 returns c = c .word .ensures ∙ ap (wordAt (memoryOf (now (c .before .before .before .args .work)))) (c .before .slot-in .ensures)
 
 pub slot-at-spec : {M : Type 1} → statement M
-slot-at-spec = tie.close (tie.spec slot-in-requires word-requires returns)
+slot-at-spec = tie.close (tie.spec (λ c κs. search needs) (λ c κs. search needs) returns)

@@ -3,9 +3,6 @@ use borrow.Author.Needs.{needs}
 use Rattle.vm_memory.proofs.words.put_word.Statement.{statement}
 use Rattle.vm_memory.proofs.words.put_word.Tie as tie
 
-store-requires : tie.Need-store-requires
-store-requires c κs = search needs
-
 same-length : tie.Need-same-length
 same-length c = c .before .before .store .kept .0
 
@@ -13,4 +10,4 @@ returns : tie.Need-returns
 returns c = store-word _ _ _ _ (c .before .before .before .before .before .pre .0) (c .before .before .before .before .before .pre .1) (search needs) (c .before .before .store .ensures)
 
 pub put-word-spec : {M : Type 1} → statement M
-put-word-spec = tie.close (tie.spec store-requires same-length returns)
+put-word-spec = tie.close (tie.spec (λ c κs. search needs) same-length returns)

@@ -4,11 +4,8 @@ use borrow.Author.Needs.{needs}
 use Rattle.vm_memory.proofs.words.word.Statement.{statement}
 use Rattle.vm_memory.proofs.words.word.Tie as tie
 
-load-requires : tie.Need-load-requires
-load-requires c κs = search needs
-
 returns : tie.Need-returns
 returns c = c .load .ensures ∙ load-word _ _ (c .before .before .pre .1)
 
 pub word-spec : {M : Type 1} → statement M
-word-spec = tie.close (tie.spec load-requires returns)
+word-spec = tie.close (tie.spec (λ c κs. search needs) returns)

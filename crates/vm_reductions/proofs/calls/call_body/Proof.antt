@@ -8,15 +8,6 @@ use borrow.Author.Needs.{needs}
 use Rattle.vm_reductions.proofs.calls.call_body.Statement.{statement}
 use Rattle.vm_reductions.proofs.calls.call_body.Tie as tie
 
-quota-of-requires : tie.Need-quota-of-requires
-quota-of-requires c κs = search needs
-
-has-capacity-requires : tie.Need-has-capacity-requires
-has-capacity-requires c κs = search needs
-
-halt-requires : tie.Need-halt-requires
-halt-requires c κs = search needs
-
 returns : tie.Need-returns
 returns c =
     let at-if1 = c .before .before .before in
@@ -25,12 +16,6 @@ returns c =
     let start = at-quota-of .before .before .before in
     let a = start .args in
     λ image. spent-call-made (record { code = now (a .code); image = image }) (now (a .work)) (now (a .work)) (now (a .work)) (a .r) _ (a .w) (a .x) (a .g) _ _ (at-quota-of .quota-of .ensures) (at-has-capacity .has-capacity .ensures) (c .before .if2 .taken) (at-if1 .if1 .taken) (c .halt .ensures)
-
-whole-requires : tie.Need-whole-requires
-whole-requires c κs = search needs
-
-closure-env-requires : tie.Need-closure-env-requires
-closure-env-requires c κs = search needs
 
 bind-requires : tie.Need-bind-requires
 bind-requires c κs =
@@ -63,9 +48,6 @@ charge-bindings-requires c κs =
     let start = at-quota-of .before .before .before in
     omega (arith, whole-capacity bindingLimit 1 (λ p. p .bindings) bindingsOut (start .args .w) (start .args .r) _ _ (at-quota-of .quota-of .ensures) (at-has-capacity .has-capacity .ensures) (start .pre .3 .1 .bindings) (at-if1 .if1 .taken))
 
-same-length : tie.Need-same-length
-same-length c = search needs
-
 returns-2 : tie.Need-returns-2
 returns-2 c =
     let at-called = c .before .before .before .before in
@@ -80,12 +62,6 @@ returns-2 c =
     let a = start .args in
     λ image. call-made (record { code = now (a .code); image = image }) (now (a .work)) _ _ (a .r) _ (a .w) (a .x) (a .g) _ _ (at-quota-of .quota-of .ensures) (at-has-capacity .has-capacity .ensures) (at-if2 .if2 .left) _ _ _ (at-if1 .if1 .taken) (at-whole .whole .ensures) (at-closure-env .closure-env .ensures) (c .charge-bindings .ensures) (at-bind .bind .ensures) (at-called .called .ensures image)
 
-bindings-out-requires : tie.Need-bindings-out-requires
-bindings-out-requires c κs = search needs
-
-halt-requires-2 : tie.Need-halt-requires-2
-halt-requires-2 c κs = search needs
-
 returns-3 : tie.Need-returns-3
 returns-3 c =
     let at-has-capacity = c .before .before .before in
@@ -95,21 +71,6 @@ returns-3 c =
     λ image. no-call-made (record { code = now (a .code); image = image }) (now (a .work)) (now (a .work)) (now (a .work)) (a .r) _ (a .w) (a .x) (a .g) _ _ (at-quota-of .quota-of .ensures) (at-has-capacity .has-capacity .ensures) _ (c .before .before .if1 .left) (c .before .bindings-out .ensures) (c .halt2 .ensures)
 
 pub call-body-spec : {M : Type 1} → statement M
-call-body-spec =
-    tie.close
-    (tie.spec
-    quota-of-requires
-    has-capacity-requires
-    halt-requires
-    returns
-    whole-requires
-    closure-env-requires
-    bind-requires
-    called-requires
-    sub-q
-    charge-bindings-requires
-    same-length
-    returns-2
-    bindings-out-requires
-    halt-requires-2
-    returns-3)
+call-body-spec = tie.close (tie.spec (λ c κs. search needs) (λ c κs. search needs) (λ c κs. search needs) returns (λ c κs. search needs)
+    (λ c κs. search needs) bind-requires called-requires sub-q charge-bindings-requires (λ c. search needs) returns-2 (λ c κs. search needs)
+    (λ c κs. search needs) returns-3)

@@ -10,18 +10,6 @@ use borrow.Author.Needs.{needs}
 use Rattle.vm_reductions.proofs.calls.reduce_apply.Statement.{statement}
 use Rattle.vm_reductions.proofs.calls.reduce_apply.Tie as tie
 
-quota-of-requires : tie.Need-quota-of-requires
-quota-of-requires c κs = search needs
-
-has-capacity-requires : tie.Need-has-capacity-requires
-has-capacity-requires c κs = search needs
-
-whole-requires : tie.Need-whole-requires
-whole-requires c κs = search needs
-
-closure-env-requires : tie.Need-closure-env-requires
-closure-env-requires c κs = search needs
-
 bind-requires : tie.Need-bind-requires
 bind-requires c κs =
     let at-if1 = c .before .before .before in
@@ -29,9 +17,6 @@ bind-requires c κs =
     let at-quota-of = at-has-capacity .before .before .before in
     let start = at-quota-of .before .before .before in
     (search needs, omega (arith, c .before .before .whole .ensures, whole-capacity bindingLimit 1 (λ p. p .bindings) bindingsOut (start .args .w) (start .args .r) _ _ (at-quota-of .quota-of .ensures) (at-has-capacity .has-capacity .ensures) (start .pre .4 .1 .bindings) (at-if1 .if1 .taken)), omega arith, omega (arith, c .closure-env .ensures))
-
-same-requires : tie.Need-same-requires
-same-requires c κs = search needs
 
 sub-s : tie.Need-sub-s
 sub-s c =
@@ -46,9 +31,6 @@ charge-bindings-requires c κs =
     let start = at-quota-of .before .before .before in
     omega (arith, whole-capacity bindingLimit 1 (λ p. p .bindings) bindingsOut (start .args .w) (start .args .r) _ _ (at-quota-of .quota-of .ensures) (at-has-capacity .has-capacity .ensures) (start .pre .4 .1 .bindings) (at-if1 .if1 .taken))
 
-function-target-requires : tie.Need-function-target-requires
-function-target-requires c κs = search needs
-
 called-requires : tie.Need-called-requires
 called-requires c κs =
     let at-same = c .before .before .before .before in
@@ -61,9 +43,6 @@ called-requires c κs =
     let f = start .pre .4 .1 in
     let e = at-same .same .ensures in
     (omega (arith, start .pre .0), omega (arith, at-bind .bind .kept .0, start .pre .1), omega (arith, ap (λ (v : Regs). v .frames) e, f .frames), omega (arith, ap (λ (v : Regs). v .frames) e, start .pre .3), omega (arith, ap (λ (v : Regs). v .pc) e, f .pc), omega (arith, ap (λ (v : Regs). v .env) e, f .env), omega (arith, at-whole .whole .ensures, whole-capacity bindingLimit 1 (λ p. p .bindings) bindingsOut (start .args .w) (start .args .r) _ _ (at-quota-of .quota-of .ensures) (at-has-capacity .has-capacity .ensures) (start .pre .4 .1 .bindings) (at-if1 .if1 .taken)))
-
-same-length : tie.Need-same-length
-same-length c = search needs
 
 returns : tie.Need-returns
 returns c =
@@ -80,12 +59,6 @@ returns c =
     let a = start .args in
     λ image. apply-made (record { code = now (a .code); image = image }) (now (a .work)) _ _ (a .r) _ (a .w) (a .x) (a .y) _ _ (at-quota-of .quota-of .ensures) (at-has-capacity .has-capacity .ensures) (start .pre .2) _ _ _ _ _ (at-if1 .if1 .taken) (at-whole .whole .ensures) (at-function-target .function-target .ensures) (at-closure-env .closure-env .ensures) (at-same .same .ensures) (at-charge-bindings .charge-bindings .ensures) (at-bind .bind .ensures) (c .before .before .called .ensures image)
 
-bindings-out-requires : tie.Need-bindings-out-requires
-bindings-out-requires c κs = search needs
-
-halt-requires : tie.Need-halt-requires
-halt-requires c κs = search needs
-
 returns-2 : tie.Need-returns-2
 returns-2 c =
     let at-has-capacity = c .before .before .before in
@@ -95,21 +68,6 @@ returns-2 c =
     λ image. no-apply-made (record { code = now (a .code); image = image }) (now (a .work)) (now (a .work)) (now (a .work)) (a .r) _ (a .w) (a .x) (a .y) _ _ (at-quota-of .quota-of .ensures) (at-has-capacity .has-capacity .ensures) _ (c .before .before .if1 .left) (c .before .bindings-out .ensures) (c .halt .ensures)
 
 pub reduce-apply-spec : {M : Type 1} → statement M
-reduce-apply-spec =
-    tie.close
-    (tie.spec
-    quota-of-requires
-    has-capacity-requires
-    whole-requires
-    closure-env-requires
-    bind-requires
-    same-requires
-    sub-s
-    charge-bindings-requires
-    function-target-requires
-    called-requires
-    same-length
-    returns
-    bindings-out-requires
-    halt-requires
-    returns-2)
+reduce-apply-spec = tie.close (tie.spec (λ c κs. search needs) (λ c κs. search needs) (λ c κs. search needs) (λ c κs. search needs) bind-requires
+    (λ c κs. search needs) sub-s charge-bindings-requires (λ c κs. search needs) called-requires (λ c. search needs) returns (λ c κs. search needs)
+    (λ c κs. search needs) returns-2)

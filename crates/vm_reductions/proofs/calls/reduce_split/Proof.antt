@@ -8,18 +8,6 @@ use borrow.Author.Needs.{needs}
 use Rattle.vm_reductions.proofs.calls.reduce_split.Statement.{statement}
 use Rattle.vm_reductions.proofs.calls.reduce_split.Tie as tie
 
-quota-of-requires : tie.Need-quota-of-requires
-quota-of-requires c κs = search needs
-
-has-capacity-requires : tie.Need-has-capacity-requires
-has-capacity-requires c κs = search needs
-
-whole-requires : tie.Need-whole-requires
-whole-requires c κs = search needs
-
-piece-of-requires : tie.Need-piece-of-requires
-piece-of-requires c κs = search needs
-
 bind-parts-requires : tie.Need-bind-parts-requires
 bind-parts-requires c κs =
     let at-if1 = c .before .before .before in
@@ -27,9 +15,6 @@ bind-parts-requires c κs =
     let at-quota-of = at-has-capacity .before .before .before in
     let start = at-quota-of .before .before .before in
     (search needs, omega (arith, c .piece-of .ensures), omega (arith, c .before .before .whole .ensures, whole-capacity bindingLimit 2 (λ p. p .bindings) bindingsOut (start .args .w) (start .args .r) _ _ (at-quota-of .quota-of .ensures) (at-has-capacity .has-capacity .ensures) (start .pre .4 .1 .bindings) (at-if1 .if1 .taken)), start .pre .4 .1 .env)
-
-field-b-requires : tie.Need-field-b-requires
-field-b-requires c κs = search needs
 
 add-called : tie.Need-add-called
 add-called c =
@@ -63,9 +48,6 @@ charge-bindings-requires c κs =
     let start = at-quota-of .before .before .before in
     omega (arith, whole-capacity bindingLimit 2 (λ p. p .bindings) bindingsOut (start .args .w) (start .args .r) _ _ (at-quota-of .quota-of .ensures) (at-has-capacity .has-capacity .ensures) (start .pre .4 .1 .bindings) (at-if1 .if1 .taken))
 
-same-length : tie.Need-same-length
-same-length c = search needs
-
 returns : tie.Need-returns
 returns c =
     let at-called = c .before .before .before .before in
@@ -80,12 +62,6 @@ returns c =
     let a = start .args in
     λ image. split-made (record { code = now (a .code); image = image }) (now (a .work)) _ _ (a .r) _ (a .w) (a .x) _ _ (at-quota-of .quota-of .ensures) (at-has-capacity .has-capacity .ensures) (start .pre .2) _ _ _ _ (at-if1 .if1 .taken) (at-whole .whole .ensures) (at-piece-of .piece-of .ensures) (at-field-b .field-b .ensures) (c .charge-bindings .ensures) (at-bind-parts .bind-parts .ensures) (at-called .called .ensures image)
 
-bindings-out-requires : tie.Need-bindings-out-requires
-bindings-out-requires c κs = search needs
-
-halt-requires : tie.Need-halt-requires
-halt-requires c κs = search needs
-
 returns-2 : tie.Need-returns-2
 returns-2 c =
     let at-has-capacity = c .before .before .before in
@@ -95,21 +71,6 @@ returns-2 c =
     λ image. no-split-made (record { code = now (a .code); image = image }) (now (a .work)) (now (a .work)) (now (a .work)) (a .r) _ (a .w) (a .x) _ _ (at-quota-of .quota-of .ensures) (at-has-capacity .has-capacity .ensures) _ (c .before .before .if1 .left) (c .before .bindings-out .ensures) (c .halt .ensures)
 
 pub reduce-split-spec : {M : Type 1} → statement M
-reduce-split-spec =
-    tie.close
-    (tie.spec
-    quota-of-requires
-    has-capacity-requires
-    whole-requires
-    piece-of-requires
-    bind-parts-requires
-    field-b-requires
-    add-called
-    called-requires
-    sub-q
-    charge-bindings-requires
-    same-length
-    returns
-    bindings-out-requires
-    halt-requires
-    returns-2)
+reduce-split-spec = tie.close (tie.spec (λ c κs. search needs) (λ c κs. search needs) (λ c κs. search needs) (λ c κs. search needs)
+    bind-parts-requires (λ c κs. search needs) add-called called-requires sub-q charge-bindings-requires (λ c. search needs) returns
+    (λ c κs. search needs) (λ c κs. search needs) returns-2)

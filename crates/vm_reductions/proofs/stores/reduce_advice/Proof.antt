@@ -4,27 +4,6 @@ use borrow.Author.Needs.{needs}
 use Rattle.vm_reductions.proofs.stores.reduce_advice.Statement.{statement}
 use Rattle.vm_reductions.proofs.stores.reduce_advice.Tie as tie
 
-advice-domain-requires : tie.Need-advice-domain-requires
-advice-domain-requires c κs = search needs
-
-field-b-requires : tie.Need-field-b-requires
-field-b-requires c κs = search needs
-
-advice-word-requires : tie.Need-advice-word-requires
-advice-word-requires c κs = search needs
-
-piece-of-requires : tie.Need-piece-of-requires
-piece-of-requires c κs = search needs
-
-piece-second-requires : tie.Need-piece-second-requires
-piece-second-requires c κs = search needs
-
-new-piece-requires : tie.Need-new-piece-requires
-new-piece-requires c κs = search needs
-
-same-length : tie.Need-same-length
-same-length c = search needs
-
 returns : tie.Need-returns
 returns c =
     let at-new-piece = c .before .before in
@@ -38,14 +17,5 @@ returns c =
     advice-made (now (a .work)) _ (a .r) _ (a .w) (a .x) _ _ _ _ _ (at-field-b .field-b .ensures) (at-advice-domain .advice-domain .ensures) (at-piece-of .piece-of .ensures) (at-advice-word .advice-word .ensures) (at-piece-second .piece-second .ensures) (at-new-piece .new-piece .ensures)
 
 pub reduce-advice-spec : {M : Type 1} → statement M
-reduce-advice-spec =
-    tie.close
-    (tie.spec
-    advice-domain-requires
-    field-b-requires
-    advice-word-requires
-    piece-of-requires
-    piece-second-requires
-    new-piece-requires
-    same-length
-    returns)
+reduce-advice-spec = tie.close (tie.spec (λ c κs. search needs) (λ c κs. search needs) (λ c κs. search needs) (λ c κs. search needs)
+    (λ c κs. search needs) (λ c κs. search needs) (λ c. search needs) returns)

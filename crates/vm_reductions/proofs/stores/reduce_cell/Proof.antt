@@ -8,18 +8,6 @@ use borrow.Author.Needs.{needs}
 use Rattle.vm_reductions.proofs.stores.reduce_cell.Statement.{statement}
 use Rattle.vm_reductions.proofs.stores.reduce_cell.Tie as tie
 
-quota-of-requires : tie.Need-quota-of-requires
-quota-of-requires c κs = search needs
-
-has-capacity-requires : tie.Need-has-capacity-requires
-has-capacity-requires c κs = search needs
-
-whole-requires : tie.Need-whole-requires
-whole-requires c κs = search needs
-
-field-b-requires : tie.Need-field-b-requires
-field-b-requires c κs = search needs
-
 put-cell-requires : tie.Need-put-cell-requires
 put-cell-requires c κs =
     let at-if1 = c .before .before .before in
@@ -28,12 +16,6 @@ put-cell-requires c κs =
     let start = at-quota-of .before .before in
     (search needs, omega (arith, c .before .before .whole .ensures, whole-capacity cellLimit 1 (λ p. p .cells) cellsOut (start .args .w) (start .args .r) _ _ (at-quota-of .quota-of .ensures) (at-has-capacity .has-capacity .ensures) (start .pre .2 .1 .cells) (at-if1 .if1 .taken)), search needs)
 
-value-requires : tie.Need-value-requires
-value-requires c κs = search needs
-
-given-requires : tie.Need-given-requires
-given-requires c κs = search needs
-
 charge-cells-requires : tie.Need-charge-cells-requires
 charge-cells-requires c κs =
     let at-if1 = c .before .before .before .before .before .before .before .before .before .before .before in
@@ -41,9 +23,6 @@ charge-cells-requires c κs =
     let at-quota-of = at-has-capacity .before .before .before in
     let start = at-quota-of .before .before in
     omega (arith, whole-capacity cellLimit 1 (λ p. p .cells) cellsOut (start .args .w) (start .args .r) _ _ (at-quota-of .quota-of .ensures) (at-has-capacity .has-capacity .ensures) (start .pre .2 .1 .cells) (at-if1 .if1 .taken))
-
-same-length : tie.Need-same-length
-same-length c = search needs
 
 returns : tie.Need-returns
 returns c =
@@ -59,12 +38,6 @@ returns c =
     let a = start .args in
     cell-made (now (a .work)) _ _ (a .r) _ (a .w) (a .x) _ _ (at-quota-of .quota-of .ensures) (at-has-capacity .has-capacity .ensures) (start .pre .1) _ _ _ _ (at-if1 .if1 .taken) (at-whole .whole .ensures) (at-value .value .ensures) (at-field-b .field-b .ensures) (c .charge-cells .ensures) (at-put-cell .put-cell .ensures) (at-given .given .ensures)
 
-cells-out-requires : tie.Need-cells-out-requires
-cells-out-requires c κs = search needs
-
-halt-requires : tie.Need-halt-requires
-halt-requires c κs = search needs
-
 returns-2 : tie.Need-returns-2
 returns-2 c =
     let at-has-capacity = c .before .before .before in
@@ -74,19 +47,6 @@ returns-2 c =
     no-cell-made (now (a .work)) (now (a .work)) (now (a .work)) (a .r) _ (a .w) (a .x) _ _ (at-quota-of .quota-of .ensures) (at-has-capacity .has-capacity .ensures) _ (c .before .before .if1 .left) (c .before .cells-out .ensures) (c .halt .ensures)
 
 pub reduce-cell-spec : {M : Type 1} → statement M
-reduce-cell-spec =
-    tie.close
-    (tie.spec
-    quota-of-requires
-    has-capacity-requires
-    whole-requires
-    field-b-requires
-    put-cell-requires
-    value-requires
-    given-requires
-    charge-cells-requires
-    same-length
-    returns
-    cells-out-requires
-    halt-requires
+reduce-cell-spec = tie.close (tie.spec (λ c κs. search needs) (λ c κs. search needs) (λ c κs. search needs) (λ c κs. search needs) put-cell-requires
+    (λ c κs. search needs) (λ c κs. search needs) charge-cells-requires (λ c. search needs) returns (λ c κs. search needs) (λ c κs. search needs)
     returns-2)

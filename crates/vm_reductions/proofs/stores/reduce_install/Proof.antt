@@ -4,24 +4,6 @@ use borrow.Author.Needs.{needs}
 use Rattle.vm_reductions.proofs.stores.reduce_install.Statement.{statement}
 use Rattle.vm_reductions.proofs.stores.reduce_install.Tie as tie
 
-piece-of-requires : tie.Need-piece-of-requires
-piece-of-requires c κs = search needs
-
-piece-second-requires : tie.Need-piece-second-requires
-piece-second-requires c κs = search needs
-
-put-installed-requires : tie.Need-put-installed-requires
-put-installed-requires c κs = search needs
-
-given-requires : tie.Need-given-requires
-given-requires c κs = search needs
-
-add-q : tie.Need-add-q
-add-q c = search needs
-
-same-length : tie.Need-same-length
-same-length c = search needs
-
 returns : tie.Need-returns
 returns c =
     let at-given = c .before .before .before in
@@ -33,22 +15,9 @@ returns c =
     let a = start .args in
     install-made (now (a .work)) _ _ (a .r) _ (a .w) (a .x) (start .pre .1) _ _ (at-if1 .if1 .taken) (at-piece-of .piece-of .ensures) (at-piece-second .piece-second .ensures) (at-put-installed .put-installed .ensures) (at-given .given .ensures)
 
-halt-requires : tie.Need-halt-requires
-halt-requires c κs = search needs
-
 returns-2 : tie.Need-returns-2
 returns-2 c = let a = c .before .before .before .args in no-install-made (now (a .work)) (now (a .work)) (now (a .work)) (a .r) _ (a .w) (a .x) (c .before .if1 .left) (c .halt .ensures)
 
 pub reduce-install-spec : {M : Type 1} → statement M
-reduce-install-spec =
-    tie.close
-    (tie.spec
-    piece-of-requires
-    piece-second-requires
-    put-installed-requires
-    given-requires
-    add-q
-    same-length
-    returns
-    halt-requires
-    returns-2)
+reduce-install-spec = tie.close (tie.spec (λ c κs. search needs) (λ c κs. search needs) (λ c κs. search needs) (λ c κs. search needs)
+    (λ c. search needs) (λ c. search needs) returns (λ c κs. search needs) returns-2)

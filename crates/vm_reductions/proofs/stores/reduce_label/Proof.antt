@@ -4,18 +4,6 @@ use borrow.Author.Needs.{needs}
 use Rattle.vm_reductions.proofs.stores.reduce_label.Statement.{statement}
 use Rattle.vm_reductions.proofs.stores.reduce_label.Tie as tie
 
-value-requires : tie.Need-value-requires
-value-requires c κs = search needs
-
-given-requires : tie.Need-given-requires
-given-requires c κs = search needs
-
-add-q : tie.Need-add-q
-add-q c = search needs
-
-same-length : tie.Need-same-length
-same-length c = search needs
-
 returns : tie.Need-returns
 returns c =
     let at-value = c .before .before .before in
@@ -24,13 +12,9 @@ returns c =
     let a = start .args in
     label-made (now (a .work)) _ (a .r) _ (a .w) (search needs) _ (at-if1 .if1 .taken) (at-value .value .ensures) (c .before .before .given .ensures)
 
-halt-requires : tie.Need-halt-requires
-halt-requires c κs = search needs
-
 returns-2 : tie.Need-returns-2
 returns-2 c = let a = c .before .before .before .args in no-label-made (now (a .work)) (now (a .work)) (a .r) _ (a .w) (c .before .if1 .left) (c .halt .ensures)
 
 pub reduce-label-spec : {M : Type 1} → statement M
-reduce-label-spec =
-    tie.close
-    (tie.spec value-requires given-requires add-q same-length returns halt-requires returns-2)
+reduce-label-spec = tie.close (tie.spec (λ c κs. search needs) (λ c κs. search needs) (λ c. search needs) (λ c. search needs) returns
+    (λ c κs. search needs) returns-2)

@@ -4,18 +4,6 @@ use borrow.Author.Needs.{needs}
 use Rattle.vm_reductions.proofs.stores.reduce_store.Statement.{statement}
 use Rattle.vm_reductions.proofs.stores.reduce_store.Tie as tie
 
-cell-of-requires : tie.Need-cell-of-requires
-cell-of-requires c κs = search needs
-
-store-cell-requires : tie.Need-store-cell-requires
-store-cell-requires c κs = search needs
-
-given-requires : tie.Need-given-requires
-given-requires c κs = search needs
-
-same-length : tie.Need-same-length
-same-length c = search needs
-
 returns : tie.Need-returns
 returns c =
     let at-store-cell = c .before .before .before .before .before .before in
@@ -26,4 +14,4 @@ returns c =
 
 pub reduce-store-spec : {M : Type 1} → statement M
 reduce-store-spec =
-    tie.close (tie.spec cell-of-requires store-cell-requires given-requires same-length returns)
+    tie.close (tie.spec (λ c κs. search needs) (λ c κs. search needs) (λ c κs. search needs) (λ c. search needs) returns)

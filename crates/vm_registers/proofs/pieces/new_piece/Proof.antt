@@ -8,15 +8,6 @@ use borrow.Author.Needs.{needs}
 use Rattle.vm_registers.proofs.pieces.new_piece.Statement.{statement}
 use Rattle.vm_registers.proofs.pieces.new_piece.Tie as tie
 
-quota-of-requires : tie.Need-quota-of-requires
-quota-of-requires c κs = search needs
-
-has-capacity-requires : tie.Need-has-capacity-requires
-has-capacity-requires c κs = search needs
-
-whole-requires : tie.Need-whole-requires
-whole-requires c κs = search needs
-
 put-piece-requires : tie.Need-put-piece-requires
 put-piece-requires c κs =
     let at-has-capacity = c .before .before .before in
@@ -24,12 +15,6 @@ put-piece-requires c κs =
     let start = at-quota-of .before .before in
     let a = start .args in
     (search needs, omega (arith, c .before .whole .ensures, whole-capacity pieceLimit 1 (λ p. p .pieces) piecesOut (a .w) (a .r) (at-quota-of .quota-of .result) (at-has-capacity .has-capacity .result) (at-quota-of .quota-of .ensures) (at-has-capacity .has-capacity .ensures) (start .pre .4) (c .before .before .if1 .taken)))
-
-value-requires : tie.Need-value-requires
-value-requires c κs = search needs
-
-given-requires : tie.Need-given-requires
-given-requires c κs = search needs
 
 charge-pieces-requires : tie.Need-charge-pieces-requires
 charge-pieces-requires c κs =
@@ -39,9 +24,6 @@ charge-pieces-requires c κs =
     let start = at-quota-of .before .before in
     let a = start .args in
     omega (arith, whole-capacity pieceLimit 1 (λ p. p .pieces) piecesOut (a .w) (a .r) (at-quota-of .quota-of .result) (at-has-capacity .has-capacity .result) (at-quota-of .quota-of .ensures) (at-has-capacity .has-capacity .ensures) (start .pre .4) (at-if1 .if1 .taken))
-
-same-length : tie.Need-same-length
-same-length c = search needs
 
 returns : tie.Need-returns
 returns c =
@@ -56,12 +38,6 @@ returns c =
     let a = start .args in
     piece-made (now (a .work)) _ _ (a .r) _ (a .w) (a .tag) (a .a) (a .b) _ _ (at-quota-of .quota-of .ensures) (at-has-capacity .has-capacity .ensures) (start .pre .2) _ _ _ (at-if1 .if1 .taken) (at-whole .whole .ensures) (at-value .value .ensures) (c .charge-pieces .ensures) (at-put-piece .put-piece .ensures) (at-given .given .ensures)
 
-pieces-out-requires : tie.Need-pieces-out-requires
-pieces-out-requires c κs = search needs
-
-halt-requires : tie.Need-halt-requires
-halt-requires c κs = search needs
-
 returns-2 : tie.Need-returns-2
 returns-2 c =
     let at-has-capacity = c .before .before .before in
@@ -71,18 +47,5 @@ returns-2 c =
     no-piece-made (now (a .work)) (now (a .work)) (now (a .work)) (a .r) _ (a .w) (a .tag) (a .a) (a .b) _ _ (at-quota-of .quota-of .ensures) (at-has-capacity .has-capacity .ensures) _ (c .before .before .if1 .left) (c .before .pieces-out .ensures) (c .halt .ensures)
 
 pub new-piece-spec : {M : Type 1} → statement M
-new-piece-spec =
-    tie.close
-    (tie.spec
-    quota-of-requires
-    has-capacity-requires
-    whole-requires
-    put-piece-requires
-    value-requires
-    given-requires
-    charge-pieces-requires
-    same-length
-    returns
-    pieces-out-requires
-    halt-requires
-    returns-2)
+new-piece-spec = tie.close (tie.spec (λ c κs. search needs) (λ c κs. search needs) (λ c κs. search needs) put-piece-requires (λ c κs. search needs)
+    (λ c κs. search needs) charge-pieces-requires (λ c. search needs) returns (λ c κs. search needs) (λ c κs. search needs) returns-2)

@@ -7,9 +7,6 @@ use borrow.Author.Needs.{needs}
 use Rattle.vm_registers.proofs.pools.has_capacity.Statement.{statement}
 use Rattle.vm_registers.proofs.pools.has_capacity.Tie as tie
 
-quota-requires : tie.Need-quota-requires
-quota-requires c κs = search needs
-
 add-result : tie.Need-add-result
 add-result c = omega (arith, c .quota .ensures, quota-within (c .before .args .mainline) (c .before .args .p), c .before .pre)
 
@@ -17,4 +14,4 @@ returns : tie.Need-returns
 returns c = ap (λ k. leb (k + c .before .args .n) (c .before .args .limit)) (c .quota .ensures)
 
 pub has-capacity-spec : {M : Type 1} → statement M
-has-capacity-spec = tie.close (tie.spec quota-requires add-result returns)
+has-capacity-spec = tie.close (tie.spec (λ c κs. search needs) add-result returns)

@@ -4,14 +4,8 @@ use borrow.Author.Needs.{needs}
 use Rattle.vm_registers.proofs.pools.quota_of.Statement.{statement}
 use Rattle.vm_registers.proofs.pools.quota_of.Tie as tie
 
-domain-of-requires : tie.Need-domain-of-requires
-domain-of-requires c κs = search needs
-
-is-mainline-requires : tie.Need-is-mainline-requires
-is-mainline-requires c κs = search needs
-
 returns : tie.Need-returns
 returns c = c .is-mainline .ensures ∙ ap (λ k. eqb k 0) (c .before .domain-of .ensures)
 
 pub quota-of-spec : {M : Type 1} → statement M
-quota-of-spec = tie.close (tie.spec domain-of-requires is-mainline-requires returns)
+quota-of-spec = tie.close (tie.spec (λ c κs. search needs) (λ c κs. search needs) returns)

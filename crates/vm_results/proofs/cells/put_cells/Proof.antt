@@ -29,12 +29,6 @@ loop-holds c = let a = c .before .before .args in let z = no-cells (memoryOf (no
 put-cell-requires : tie.Need-put-cell-requires Inv-loop μ-loop
 put-cell-requires c κs = (c .before .before .before .before .before .pre .0, omega arith, omega arith)
 
-add-i : tie.Need-add-i Inv-loop μ-loop
-add-i c = search needs
-
-loop-less : tie.Need-loop-less Inv-loop μ-loop
-loop-less c = search needs
-
 loop-again : tie.Need-loop-again Inv-loop μ-loop
 loop-again c =
     let at-test = c .before .before .before .before in
@@ -47,9 +41,6 @@ loop-again c =
     let s = cells-step (memoryOf (now (a .work))) (now (a .report)) (a .at) (l .i) (l .o) (l .inv .3) (l .inv .4) (w .ensures .0) (w .ensures .1) (omega (arith, l .inv .1, start .pre .2)) in
     (omega arith, omega (arith, s .2, l .inv .1), w .kept .0 ∙ l .inv .2, s .0, s .1)
 
-same-length : tie.Need-same-length Inv-loop μ-loop
-same-length c = search needs
-
 returns : tie.Need-returns Inv-loop μ-loop
 returns c =
     let l = c .before .loop in
@@ -57,15 +48,5 @@ returns c =
     (rw e at (l .inv .3), rw e at (l .inv .4), omega arith)
 
 pub put-cells-spec : {M : Type 1} → statement M
-put-cells-spec =
-    tie.close
-    (tie.spec
-    Inv-loop
-    μ-loop
-    loop-holds
-    put-cell-requires
-    add-i
-    loop-less
-    loop-again
-    same-length
-    returns)
+put-cells-spec = tie.close (tie.spec Inv-loop μ-loop loop-holds put-cell-requires (λ c. search needs) (λ c. search needs) loop-again
+    (λ c. search needs) returns)

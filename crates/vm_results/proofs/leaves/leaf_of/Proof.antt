@@ -7,18 +7,6 @@ use borrow.Author.Needs.{needs}
 use Rattle.vm_results.proofs.leaves.leaf_of.Statement.{statement}
 use Rattle.vm_results.proofs.leaves.leaf_of.Tie as tie
 
-tag-requires : tie.Need-tag-requires
-tag-requires c κs = search needs
-
-body-requires : tie.Need-body-requires
-body-requires c κs = search needs
-
-body-requires-2 : tie.Need-body-requires-2
-body-requires-2 c κs = search needs
-
-cast-t7 : tie.Need-cast-t7
-cast-t7 c = search needs
-
 returns : tie.Need-returns
 returns c = sym (leaf-unit _ _ (c .before .tag .ensures) (c .match .keys1))
 
@@ -29,6 +17,5 @@ returns-3 : tie.Need-returns-3
 returns-3 c = ap Leaf.Number (c .body2 .ensures) ∙ sym (leaf-number _ _ (c .before .before .tag .ensures) (c .before .match .rest .0 .1) (c .before .match .rest .1))
 
 pub leaf-of-spec : {M : Type 1} → statement M
-leaf-of-spec =
-    tie.close
-    (tie.spec tag-requires body-requires body-requires-2 cast-t7 returns returns-2 returns-3)
+leaf-of-spec = tie.close (tie.spec (λ c κs. search needs) (λ c κs. search needs) (λ c κs. search needs) (λ c. search needs) returns returns-2
+    returns-3)

@@ -8,15 +8,6 @@ use borrow.Author.Needs.{needs}
 use Rattle.vm_results.proofs.leaves.plain_leaves.Statement.{statement}
 use Rattle.vm_results.proofs.leaves.plain_leaves.Tie as tie
 
-tag-requires : tie.Need-tag-requires
-tag-requires c κs = search needs
-
-leaf-of-requires : tie.Need-leaf-of-requires
-leaf-of-requires c κs = search needs
-
-one-leaf-requires : tie.Need-one-leaf-requires
-one-leaf-requires c κs = search needs
-
 returns : tie.Need-returns
 returns c =
     let at-tag = c .before .before .before in
@@ -24,25 +15,11 @@ returns c =
     c .one-leaf .ensures
     ∙ (ap (λ l. gathered (l ∷ [])) (c .before .leaf-of .ensures) ∙ ap gathered (sym (plain-one (a .w) (at-tag .tag .result) (at-tag .tag .ensures) (memoryOf (now (a .work))) (c .before .before .if1 .taken))))
 
-no-leaves-requires : tie.Need-no-leaves-requires
-no-leaves-requires c κs = search needs
-
-gather-requires : tie.Need-gather-requires
-gather-requires c κs = search needs
-
 returns-2 : tie.Need-returns-2
 returns-2 c =
     let a = c .before .before .before .before .before .args in
     from-none (memoryOf (now (a .work))) (a .w) (c .before .no-leaves .ensures) (c .gather .ensures)
 
 pub plain-leaves-spec : {M : Type 1} → statement M
-plain-leaves-spec =
-    tie.close
-    (tie.spec
-    tag-requires
-    leaf-of-requires
-    one-leaf-requires
-    returns
-    no-leaves-requires
-    gather-requires
-    returns-2)
+plain-leaves-spec = tie.close (tie.spec (λ c κs. search needs) (λ c κs. search needs) (λ c κs. search needs) returns (λ c κs. search needs)
+    (λ c κs. search needs) returns-2)

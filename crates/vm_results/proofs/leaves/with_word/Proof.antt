@@ -5,21 +5,12 @@ use borrow.Author.Needs.{needs}
 use Rattle.vm_results.proofs.leaves.with_word.Statement.{statement}
 use Rattle.vm_results.proofs.leaves.with_word.Tie as tie
 
-tag-requires : tie.Need-tag-requires
-tag-requires c κs = search needs
-
 returns : tie.Need-returns
 returns c = sym (word-none _ _ (c .before .tag .ensures) (c .before .before .args .held) (c .if1 .taken))
-
-leaf-of-requires : tie.Need-leaf-of-requires
-leaf-of-requires c κs = search needs
-
-with-leaf-requires : tie.Need-with-leaf-requires
-with-leaf-requires c κs = search needs
 
 returns-2 : tie.Need-returns-2
 returns-2 c = let a = c .before .before .before .before .args in c .with-leaf .ensures ∙ ap (withLeaf (a .held)) (c .before .leaf-of .ensures) ∙ sym (word-leaf _ _ (c .before .before .before .tag .ensures) (a .held) (c .before .before .if1 .left))
 
 pub with-word-spec : {M : Type 1} → statement M
 with-word-spec =
-    tie.close (tie.spec tag-requires returns leaf-of-requires with-leaf-requires returns-2)
+    tie.close (tie.spec (λ c κs. search needs) returns (λ c κs. search needs) (λ c κs. search needs) returns-2)

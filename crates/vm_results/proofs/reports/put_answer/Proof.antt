@@ -9,18 +9,6 @@ use borrow.Author.Needs.{needs}
 use Rattle.vm_results.proofs.reports.put_answer.Statement.{statement}
 use Rattle.vm_results.proofs.reports.put_answer.Tie as tie
 
-outcome-with-requires : tie.Need-outcome-with-requires
-outcome-with-requires c κs = search needs
-
-cast-steps : tie.Need-cast-steps
-cast-steps c = search needs
-
-sub-steps : tie.Need-sub-steps
-sub-steps c = search needs
-
-put-head-requires : tie.Need-put-head-requires
-put-head-requires c κs = search needs
-
 put-leaves-requires : tie.Need-put-leaves-requires
 put-leaves-requires c κs =
     let h = c .before .before .before .before in
@@ -29,9 +17,6 @@ put-leaves-requires c κs =
     let M = memoryOf (now (a .work)) in
     let n = gathered-few (resultIn M (a .r)) (s .pre .4) (result-few M (a .r)) in
     (n, omega (arith, n, s .pre .1, h .put-head .kept .0))
-
-cell-count-requires : tie.Need-cell-count-requires
-cell-count-requires c κs = search needs
 
 put-cells-requires : tie.Need-put-cells-requires
 put-cells-requires c κs =
@@ -46,9 +31,6 @@ put-cells-requires c κs =
     let few = s .pre .2 in
     (s .pre .0, omega (arith, e, few), omega (arith, e, few, l .put-leaves .ensures .0, h .put-head .kept .0))
 
-same-length : tie.Need-same-length
-same-length c = search needs
-
 returns : tie.Need-returns
 returns c =
     let d = c .before .before in
@@ -60,15 +42,5 @@ returns c =
     reported (memoryOf (now (a .work))) (a .r) (a .g) (s .pre .4) (a .budget) (now (a .report)) (o .outcome-with .result) _ _ (o .outcome-with .ensures) (h .put-head .ensures) (l .put-leaves .ensures) (rw (d .before .cell-count .ensures) at (d .put-cells .ensures)) (s .pre .2) (s .pre .1)
 
 pub put-answer-spec : {M : Type 1} → statement M
-put-answer-spec =
-    tie.close
-    (tie.spec
-    outcome-with-requires
-    cast-steps
-    sub-steps
-    put-head-requires
-    put-leaves-requires
-    cell-count-requires
-    put-cells-requires
-    same-length
-    returns)
+put-answer-spec = tie.close (tie.spec (λ c κs. search needs) (λ c. search needs) (λ c. search needs) (λ c κs. search needs) put-leaves-requires
+    (λ c κs. search needs) put-cells-requires (λ c. search needs) returns)

@@ -7,23 +7,14 @@ use borrow.Author.Needs.{needs}
 use Rattle.vm_results.proofs.reports.put_report.Statement.{statement}
 use Rattle.vm_results.proofs.reports.put_report.Tie as tie
 
-plain-leaves-requires : tie.Need-plain-leaves-requires
-plain-leaves-requires c κs = search needs
-
 put-answer-requires : tie.Need-put-answer-requires
 put-answer-requires c κs =
     let s = c .before .before .before .before .before .before in
     let a = s .args in
     (s .pre .0, s .pre .1, s .pre .2, s .pre .3, c .plain-leaves .ensures ∙ ap gathered (done-leaves (memoryOf (now (a .work))) (a .r .outcome) (a .r .acc) (c .before .before .if1 .taken)))
 
-same-length : tie.Need-same-length
-same-length c = search needs
-
 returns : tie.Need-returns
 returns c = c .before .before .put-answer .ensures
-
-no-leaves-requires : tie.Need-no-leaves-requires
-no-leaves-requires c κs = search needs
 
 put-answer-requires-2 : tie.Need-put-answer-requires-2
 put-answer-requires-2 c κs =
@@ -31,21 +22,9 @@ put-answer-requires-2 c κs =
     let a = s .args in
     (s .pre .0, s .pre .1, s .pre .2, s .pre .3, c .no-leaves .ensures ∙ ap gathered (other-leaves (memoryOf (now (a .work))) (a .r .outcome) (a .r .acc) (c .before .before .if1 .left)))
 
-same-length-2 : tie.Need-same-length-2
-same-length-2 c = search needs
-
 returns-2 : tie.Need-returns-2
 returns-2 c = c .before .before .put-answer2 .ensures
 
 pub put-report-spec : {M : Type 1} → statement M
-put-report-spec =
-    tie.close
-    (tie.spec
-    plain-leaves-requires
-    put-answer-requires
-    same-length
-    returns
-    no-leaves-requires
-    put-answer-requires-2
-    same-length-2
-    returns-2)
+put-report-spec = tie.close (tie.spec (λ c κs. search needs) put-answer-requires (λ c. search needs) returns (λ c κs. search needs)
+    put-answer-requires-2 (λ c. search needs) returns-2)

@@ -10,23 +10,8 @@ use borrow.Author.Needs.{needs}
 use Rattle.vm_stacks.proofs.keeps.finish_keep.Statement.{statement}
 use Rattle.vm_stacks.proofs.keeps.finish_keep.Tie as tie
 
-halt-requires : tie.Need-halt-requires
-halt-requires c κs = search needs
-
 returns : tie.Need-returns
 returns c = let a = c .before .before .before .before .before .args in λ image. atom-spent (now (a .work)) (now (a .work)) (a .r) _ (a .w) (λ S. atomValue (record { code = now (a .code); image = image }) (S .memory) (S .regs .env) (codeAt (record { code = now (a .code); image = image }) (a .g))) (c .before .if1 .taken) (c .halt .ensures)
-
-term-with-requires : tie.Need-term-with-requires
-term-with-requires c κs = search needs
-
-atom-at-requires : tie.Need-atom-at-requires
-atom-at-requires c κs = search needs
-
-given-requires : tie.Need-given-requires
-given-requires c κs = search needs
-
-same-length : tie.Need-same-length
-same-length c = search needs
 
 returns-2 : tie.Need-returns-2
 returns-2 c =
@@ -41,13 +26,5 @@ returns-2 c =
     (λ log. at-atom-at .atom-at .ensures image ∙ ap (λ i. atomValue (record { code = now (a .code); image = image }) (memoryOf (now (a .work))) (a .r .env) (getD (now (a .code)) i 0)) (at-term-with .term-with .ensures ∙ z)) (at-given .given .ensures)
 
 pub finish-keep-spec : {M : Type 1} → statement M
-finish-keep-spec =
-    tie.close
-    (tie.spec
-    halt-requires
-    returns
-    term-with-requires
-    atom-at-requires
-    given-requires
-    same-length
-    returns-2)
+finish-keep-spec = tie.close (tie.spec (λ c κs. search needs) returns (λ c κs. search needs) (λ c κs. search needs) (λ c κs. search needs)
+    (λ c. search needs) returns-2)

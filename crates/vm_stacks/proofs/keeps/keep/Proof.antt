@@ -5,24 +5,12 @@ use borrow.Author.Needs.{needs}
 use Rattle.vm_stacks.proofs.keeps.keep.Statement.{statement}
 use Rattle.vm_stacks.proofs.keeps.keep.Tie as tie
 
-depth-of-requires : tie.Need-depth-of-requires
-depth-of-requires c κs = search needs
-
-halt-requires : tie.Need-halt-requires
-halt-requires c κs = search needs
-
 returns : tie.Need-returns
 returns c =
     let at-depth-of = c .before .before .before in
     let start = at-depth-of .before .before .before in
     let a = start .args in
     λ image. judged-frames (startKeep (record { code = now (a .code); image = image }) (a .w) (a .x) (a .y)) (now (a .work)) (now (a .work)) (a .r) _ (a .w) _ (at-depth-of .depth-of .ensures) (c .before .if1 .taken) (c .halt .ensures)
-
-start-keep-requires : tie.Need-start-keep-requires
-start-keep-requires c κs = search needs
-
-same-length : tie.Need-same-length
-same-length c = search needs
 
 returns-2 : tie.Need-returns-2
 returns-2 c =
@@ -33,6 +21,4 @@ returns-2 c =
     λ image. judged-made (startKeep (record { code = now (a .code); image = image }) (a .w) (a .x) (a .y)) (now (a .work)) _ (a .r) _ (a .w) _ (at-depth-of .depth-of .ensures) (at-if1 .if1 .left) (c .before .before .start-keep .ensures image)
 
 pub keep-spec : {M : Type 1} → statement M
-keep-spec =
-    tie.close
-    (tie.spec depth-of-requires halt-requires returns start-keep-requires same-length returns-2)
+keep-spec = tie.close (tie.spec (λ c κs. search needs) (λ c κs. search needs) returns (λ c κs. search needs) (λ c. search needs) returns-2)

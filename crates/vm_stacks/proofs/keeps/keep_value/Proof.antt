@@ -4,24 +4,6 @@ use borrow.Author.Needs.{needs}
 use Rattle.vm_stacks.proofs.keeps.keep_value.Statement.{statement}
 use Rattle.vm_stacks.proofs.keeps.keep_value.Tie as tie
 
-depth-of-requires : tie.Need-depth-of-requires
-depth-of-requires c κs = search needs
-
-add-put-keep : tie.Need-add-put-keep
-add-put-keep c = search needs
-
-put-keep-requires : tie.Need-put-keep-requires
-put-keep-requires c κs = search needs
-
-body-requires : tie.Need-body-requires
-body-requires c κs = search needs
-
-put-kept-requires : tie.Need-put-kept-requires
-put-kept-requires c κs = search needs
-
-same-length : tie.Need-same-length
-same-length c = search needs
-
 returns : tie.Need-returns
 returns c =
     let at-body = c .before .before .before in
@@ -32,13 +14,5 @@ returns c =
     kept-stored (now (a .work)) _ _ (a .r) (a .w) (a .x) (a .y) _ _ (at-depth-of .depth-of .ensures) (at-body .body .ensures) (at-put-keep .put-keep .ensures) (c .before .before .put-kept .ensures)
 
 pub keep-value-spec : {M : Type 1} → statement M
-keep-value-spec =
-    tie.close
-    (tie.spec
-    depth-of-requires
-    add-put-keep
-    put-keep-requires
-    body-requires
-    put-kept-requires
-    same-length
-    returns)
+keep-value-spec = tie.close (tie.spec (λ c κs. search needs) (λ c. search needs) (λ c κs. search needs) (λ c κs. search needs) (λ c κs. search needs)
+    (λ c. search needs) returns)

@@ -8,35 +8,8 @@ use borrow.Author.Needs.{needs}
 use Rattle.vm_stacks.proofs.keeps.leave_keep.Statement.{statement}
 use Rattle.vm_stacks.proofs.keeps.leave_keep.Tie as tie
 
-halt-requires : tie.Need-halt-requires
-halt-requires c κs = search needs
-
 returns : tie.Need-returns
 returns c = let a = c .before .before .before .before .before .args in λ image. keep-spent (record { code = now (a .code); image = image }) (now (a .work)) (now (a .work)) (a .r) _ (a .f) (c .before .if1 .taken) (c .halt .ensures)
-
-slot-pc-requires : tie.Need-slot-pc-requires
-slot-pc-requires c κs = search needs
-
-instruction-requires : tie.Need-instruction-requires
-instruction-requires c κs = search needs
-
-same-requires : tie.Need-same-requires
-same-requires c κs = search needs
-
-one-less-requires : tie.Need-one-less-requires
-one-less-requires c κs = search needs
-
-depth-of-requires : tie.Need-depth-of-requires
-depth-of-requires c κs = search needs
-
-add-q : tie.Need-add-q
-add-q c = search needs
-
-add-q-2 : tie.Need-add-q-2
-add-q-2 c = search needs
-
-slot-env-requires : tie.Need-slot-env-requires
-slot-env-requires c κs = search needs
 
 given-requires : tie.Need-given-requires
 given-requires c κs =
@@ -45,9 +18,6 @@ given-requires c κs =
     let at-if1 = at-same .before .before .before in
     let s = at-if1 .before .before .before .before in
     (search needs, omega (arith, at-depth-of .depth-of .ensures, s .pre .2), subst (λ (z : Regs). 0 < z .fuel) (sym (at-same .same .ensures)) (omega (arith, at-if1 .if1 .left)))
-
-same-length : tie.Need-same-length
-same-length c = search needs
 
 returns-2 : tie.Need-returns-2
 returns-2 c =
@@ -64,19 +34,6 @@ returns-2 c =
     λ image. keep-left (record { code = now (a .code); image = image }) (now (a .work)) _ (a .r) _ (a .f) _ _ _ _ _ _ (at-if1 .if1 .left) (at-slot-pc .slot-pc .ensures) (at-instruction .instruction .ensures) (at-same .same .ensures) (at-depth-of .depth-of .ensures) (at-one-less .one-less .ensures) (at-slot-env .slot-env .ensures) (at-given .given .ensures)
 
 pub leave-keep-spec : {M : Type 1} → statement M
-leave-keep-spec =
-    tie.close
-    (tie.spec
-    halt-requires
-    returns
-    slot-pc-requires
-    instruction-requires
-    same-requires
-    one-less-requires
-    depth-of-requires
-    add-q
-    add-q-2
-    slot-env-requires
-    given-requires
-    same-length
+leave-keep-spec = tie.close (tie.spec (λ c κs. search needs) returns (λ c κs. search needs) (λ c κs. search needs) (λ c κs. search needs)
+    (λ c κs. search needs) (λ c κs. search needs) (λ c. search needs) (λ c. search needs) (λ c κs. search needs) given-requires (λ c. search needs)
     returns-2)

@@ -4,15 +4,6 @@ use borrow.Author.Needs.{needs}
 use Rattle.vm_stacks.proofs.keeps.start_keep.Statement.{statement}
 use Rattle.vm_stacks.proofs.keeps.start_keep.Tie as tie
 
-field-c-requires : tie.Need-field-c-requires
-field-c-requires c κs = search needs
-
-finish-keep-requires : tie.Need-finish-keep-requires
-finish-keep-requires c κs = search needs
-
-same-length : tie.Need-same-length
-same-length c = search needs
-
 returns : tie.Need-returns
 returns c =
     let at-if1 = c .before .before .before .before in
@@ -20,12 +11,6 @@ returns c =
     let start = at-field-c .before .before .before in
     let a = start .args in
     λ image. keep-atom (record { code = now (a .code); image = image }) (now (a .work)) _ (a .r) _ (a .w) (a .x) (a .y) _ (at-field-c .field-c .ensures) (at-if1 .if1 .taken) (c .before .before .finish-keep .ensures image)
-
-begin-body-requires : tie.Need-begin-body-requires
-begin-body-requires c κs = search needs
-
-same-length-2 : tie.Need-same-length-2
-same-length-2 c = search needs
 
 returns-2 : tie.Need-returns-2
 returns-2 c =
@@ -36,13 +21,5 @@ returns-2 c =
     λ image. keep-body (record { code = now (a .code); image = image }) (now (a .work)) _ (a .r) _ (a .w) (a .x) (a .y) _ (at-field-c .field-c .ensures) (at-if1 .if1 .left) (c .before .before .begin-body .ensures .0) (c .before .before .begin-body .ensures .1)
 
 pub start-keep-spec : {M : Type 1} → statement M
-start-keep-spec =
-    tie.close
-    (tie.spec
-    field-c-requires
-    finish-keep-requires
-    same-length
-    returns
-    begin-body-requires
-    same-length-2
-    returns-2)
+start-keep-spec = tie.close (tie.spec (λ c κs. search needs) (λ c κs. search needs) (λ c. search needs) returns (λ c κs. search needs)
+    (λ c. search needs) returns-2)

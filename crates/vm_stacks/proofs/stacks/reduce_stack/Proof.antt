@@ -9,18 +9,6 @@ use borrow.Author.Needs.{needs}
 use Rattle.vm_stacks.proofs.stacks.reduce_stack.Statement.{statement}
 use Rattle.vm_stacks.proofs.stacks.reduce_stack.Tie as tie
 
-quota-of-requires : tie.Need-quota-of-requires
-quota-of-requires c κs = search needs
-
-has-capacity-requires : tie.Need-has-capacity-requires
-has-capacity-requires c κs = search needs
-
-pieces-out-requires : tie.Need-pieces-out-requires
-pieces-out-requires c κs = search needs
-
-halt-requires : tie.Need-halt-requires
-halt-requires c κs = search needs
-
 returns : tie.Need-returns
 returns c =
     let at-has-capacity = c .before .before .before in
@@ -28,9 +16,6 @@ returns c =
     let start = at-quota-of .before .before in
     let a = start .args in
     stack-full (now (a .work)) (now (a .work)) (now (a .work)) (a .r) _ (a .w) _ _ (at-quota-of .quota-of .ensures) (at-has-capacity .has-capacity .ensures) _ (c .before .before .if1 .taken) (c .before .pieces-out .ensures) (c .halt .ensures)
-
-halt-requires-2 : tie.Need-halt-requires-2
-halt-requires-2 c κs = search needs
 
 returns-2 : tie.Need-returns-2
 returns-2 c =
@@ -41,9 +26,6 @@ returns-2 c =
     let a = start .args in
     stack-spent (now (a .work)) (now (a .work)) (now (a .work)) (a .r) _ (a .w) _ _ (at-quota-of .quota-of .ensures) (at-has-capacity .has-capacity .ensures) (c .before .if2 .taken) (at-if1 .if1 .left) (c .halt2 .ensures)
 
-whole-requires : tie.Need-whole-requires
-whole-requires c κs = search needs
-
 stack-pieces-requires : tie.Need-stack-pieces-requires
 stack-pieces-requires c κs =
     let at-if1 = c .before .before .before .before in
@@ -53,9 +35,6 @@ stack-pieces-requires c κs =
     let a = s .args in
     (search needs, omega (arith, c .whole .ensures, whole-capacity pieceLimit (a .r .kept) (λ p. p .pieces) piecesOut (a .w) (a .r) _ _ (at-quota-of .quota-of .ensures) (at-has-capacity .has-capacity .ensures) (s .pre .1 .1 .pieces) (not-false (at-has-capacity .has-capacity .result) (at-if1 .if1 .left))))
 
-given-requires : tie.Need-given-requires
-given-requires c κs = search needs
-
 charge-pieces-requires : tie.Need-charge-pieces-requires
 charge-pieces-requires c κs =
     let at-if1 = c .before .before .before .before .before .before .before .before .before .before .before in
@@ -64,9 +43,6 @@ charge-pieces-requires c κs =
     let s = at-quota-of .before .before in
     let a = s .args in
     omega (arith, whole-capacity pieceLimit (a .r .kept) (λ p. p .pieces) piecesOut (a .w) (a .r) _ _ (at-quota-of .quota-of .ensures) (at-has-capacity .has-capacity .ensures) (s .pre .1 .1 .pieces) (not-false (at-has-capacity .has-capacity .result) (at-if1 .if1 .left)))
-
-same-length : tie.Need-same-length
-same-length c = search needs
 
 returns-3 : tie.Need-returns-3
 returns-3 c =
@@ -82,19 +58,6 @@ returns-3 c =
     stack-made (now (a .work)) _ _ (a .r) _ (a .w) _ _ (at-quota-of .quota-of .ensures) (at-has-capacity .has-capacity .ensures) (at-if2 .if2 .left) _ _ _ (at-if1 .if1 .left) (at-whole .whole .ensures) (c .charge-pieces .ensures) (at-stack-pieces .stack-pieces .ensures) (at-given .given .ensures)
 
 pub reduce-stack-spec : {M : Type 1} → statement M
-reduce-stack-spec =
-    tie.close
-    (tie.spec
-    quota-of-requires
-    has-capacity-requires
-    pieces-out-requires
-    halt-requires
-    returns
-    halt-requires-2
-    returns-2
-    whole-requires
-    stack-pieces-requires
-    given-requires
-    charge-pieces-requires
-    same-length
+reduce-stack-spec = tie.close (tie.spec (λ c κs. search needs) (λ c κs. search needs) (λ c κs. search needs) (λ c κs. search needs) returns
+    (λ c κs. search needs) returns-2 (λ c κs. search needs) stack-pieces-requires (λ c κs. search needs) charge-pieces-requires (λ c. search needs)
     returns-3)

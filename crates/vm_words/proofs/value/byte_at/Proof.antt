@@ -5,12 +5,6 @@ use borrow.Author.Needs.{needs}
 use Rattle.vm_words.proofs.value.byte_at.Statement.{statement}
 use Rattle.vm_words.proofs.value.byte_at.Tie as tie
 
-shared-slice-read-wide : tie.Need-shared-slice-read-wide
-shared-slice-read-wide c = search needs
-
-wide-requires : tie.Need-wide-requires
-wide-requires c κs = search needs
-
 returns : tie.Need-returns
 returns c = (c .wide .ensures .0 ∙ simp (lt-ltb _ _ (c .before .before .before .if1 .taken), lt-ltb _ _ (c .before .before .if2 .taken)), c .wide .ensures .1)
 
@@ -22,4 +16,4 @@ returns-3 c = (simp (le-ltb _ _ (c .if1 .left)), lit< tt)
 
 pub byte-at-spec : {M : Type 1} → statement M
 byte-at-spec =
-    tie.close (tie.spec shared-slice-read-wide wide-requires returns returns-2 returns-3)
+    tie.close (tie.spec (λ c. search needs) (λ c κs. search needs) returns returns-2 returns-3)

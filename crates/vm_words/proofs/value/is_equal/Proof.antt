@@ -5,17 +5,8 @@ use borrow.Author.Needs.{needs}
 use Rattle.vm_words.proofs.value.is_equal.Statement.{statement}
 use Rattle.vm_words.proofs.value.is_equal.Tie as tie
 
-body-requires : tie.Need-body-requires
-body-requires c κs = search needs
-
-body-requires-2 : tie.Need-body-requires-2
-body-requires-2 c κs = search needs
-
-truth-requires : tie.Need-truth-requires
-truth-requires c κs = search needs
-
 returns : tie.Need-returns
 returns c = c .truth .ensures ∙ λ i. truthValue (isEqual (c .before .before .body .ensures i) (c .before .body2 .ensures i))
 
 pub is-equal-spec : {M : Type 1} → statement M
-is-equal-spec = tie.close (tie.spec body-requires body-requires-2 truth-requires returns)
+is-equal-spec = tie.close (tie.spec (λ c κs. search needs) (λ c κs. search needs) (λ c κs. search needs) returns)

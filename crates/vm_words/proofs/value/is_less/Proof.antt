@@ -5,21 +5,9 @@ use borrow.Author.Needs.{needs}
 use Rattle.vm_words.proofs.value.is_less.Statement.{statement}
 use Rattle.vm_words.proofs.value.is_less.Tie as tie
 
-body-requires : tie.Need-body-requires
-body-requires c κs = search needs
-
-body-requires-2 : tie.Need-body-requires-2
-body-requires-2 c κs = search needs
-
-less-requires : tie.Need-less-requires
-less-requires c κs = search needs
-
-truth-requires : tie.Need-truth-requires
-truth-requires c κs = search needs
-
 returns : tie.Need-returns
 returns c = c .truth .ensures ∙ ap truthValue (c .before .less .ensures ∙ λ i. isLess (c .before .before .before .body .ensures i) (c .before .before .body2 .ensures i))
 
 pub is-less-spec : {M : Type 1} → statement M
 is-less-spec =
-    tie.close (tie.spec body-requires body-requires-2 less-requires truth-requires returns)
+    tie.close (tie.spec (λ c κs. search needs) (λ c κs. search needs) (λ c κs. search needs) (λ c κs. search needs) returns)

@@ -5,22 +5,10 @@ use Rattle.vm_code.specs.Values.{numberValue}
 use Rattle.vm_words.proofs.value.minus.Statement.{statement}
 use Rattle.vm_words.proofs.value.minus.Tie as tie
 
-body-requires : tie.Need-body-requires
-body-requires c κs = search needs
-
-body-requires-2 : tie.Need-body-requires-2
-body-requires-2 c κs = search needs
-
-difference-requires : tie.Need-difference-requires
-difference-requires c κs = search needs
-
-number-requires : tie.Need-number-requires
-number-requires c κs = search needs
-
 returns : tie.Need-returns
 returns c =
     let w = c .before in
     c .number .ensures ∙ ap (λ n. numberValue n) (w .difference .ensures .0 ∙ ap₂ (λ a b. difference a b) (w .before .before .body .ensures) (w .before .body2 .ensures))
 
 pub minus-spec : {M : Type 1} → statement M
-minus-spec = tie.close (tie.spec body-requires body-requires-2 difference-requires number-requires returns)
+minus-spec = tie.close (tie.spec (λ c κs. search needs) (λ c κs. search needs) (λ c κs. search needs) (λ c κs. search needs) returns)

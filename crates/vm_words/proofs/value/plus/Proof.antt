@@ -5,22 +5,10 @@ use Rattle.vm_code.specs.Values.{numberValue}
 use Rattle.vm_words.proofs.value.plus.Statement.{statement}
 use Rattle.vm_words.proofs.value.plus.Tie as tie
 
-body-requires : tie.Need-body-requires
-body-requires c κs = search needs
-
-body-requires-2 : tie.Need-body-requires-2
-body-requires-2 c κs = search needs
-
-sum-requires : tie.Need-sum-requires
-sum-requires c κs = search needs
-
-number-requires : tie.Need-number-requires
-number-requires c κs = search needs
-
 returns : tie.Need-returns
 returns c =
     let w = c .before in
     c .number .ensures ∙ ap (λ n. numberValue n) (w .sum .ensures .0 ∙ ap₂ (λ a b. sum a b) (w .before .before .body .ensures) (w .before .body2 .ensures))
 
 pub plus-spec : {M : Type 1} → statement M
-plus-spec = tie.close (tie.spec body-requires body-requires-2 sum-requires number-requires returns)
+plus-spec = tie.close (tie.spec (λ c κs. search needs) (λ c κs. search needs) (λ c κs. search needs) (λ c κs. search needs) returns)

@@ -18,18 +18,6 @@ loop-holds : tie.Need-loop-holds Inv-loop μ-loop
 unfolding upTo
 loop-holds c = (omega arith, refl, refl)
 
-cast-frame : tie.Need-cast-frame Inv-loop μ-loop
-cast-frame c = search needs
-
-array-write-frame : tie.Need-array-write-frame Inv-loop μ-loop
-array-write-frame c = search needs
-
-add-i : tie.Need-add-i Inv-loop μ-loop
-add-i c = search needs
-
-loop-less : tie.Need-loop-less Inv-loop μ-loop
-loop-less c = search needs
-
 loop-again : tie.Need-loop-again Inv-loop μ-loop
 loop-again c =
     let l = c .before .loop in
@@ -41,15 +29,5 @@ returns c =
     frame-all (l .frame) 256 (l .i) (l .inv .1) (l .inv .0) (search needs) (l .inv .2)
 
 pub frame-bytes-spec : {M : Type 1} → statement M
-frame-bytes-spec =
-    tie.close
-    (tie.spec
-    Inv-loop
-    μ-loop
-    loop-holds
-    cast-frame
-    array-write-frame
-    add-i
-    loop-less
-    loop-again
-    returns)
+frame-bytes-spec = tie.close (tie.spec Inv-loop μ-loop loop-holds (λ c. search needs) (λ c. search needs) (λ c. search needs) (λ c. search needs)
+    loop-again returns)

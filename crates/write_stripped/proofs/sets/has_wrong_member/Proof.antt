@@ -24,18 +24,6 @@ loop-holds : tie.Need-loop-holds Inv-loop μ-loop
 unfolding anyBelow
 loop-holds c = (omega arith, refl)
 
-is-wrong-member-requires : tie.Need-is-wrong-member-requires Inv-loop μ-loop
-is-wrong-member-requires c κs = search needs
-
-either-requires : tie.Need-either-requires Inv-loop μ-loop
-either-requires c κs = search needs
-
-add-d : tie.Need-add-d Inv-loop μ-loop
-add-d c = search needs
-
-loop-less : tie.Need-loop-less Inv-loop μ-loop
-loop-less c = search needs
-
 loop-again : tie.Need-loop-again Inv-loop μ-loop
 loop-again c =
     let l = c .before .before .before .loop in
@@ -51,15 +39,5 @@ returns c =
     l .inv .1 ∙ ap (λ n. anyBelow n (λ k. inMask (s .args .mask) k && (leb (s .args .count) k || anyBelow domainLimit (λ q. bitOf (now (s .args .masks)) k q && not (inMask (s .args .mask) q))))) e
 
 pub has-wrong-member-spec : {M : Type 1} → statement M
-has-wrong-member-spec =
-    tie.close
-    (tie.spec
-    Inv-loop
-    μ-loop
-    loop-holds
-    is-wrong-member-requires
-    either-requires
-    add-d
-    loop-less
-    loop-again
-    returns)
+has-wrong-member-spec = tie.close (tie.spec Inv-loop μ-loop loop-holds (λ c κs. search needs) (λ c κs. search needs) (λ c. search needs)
+    (λ c. search needs) loop-again returns)

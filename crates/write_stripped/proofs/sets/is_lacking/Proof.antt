@@ -5,17 +5,8 @@ use borrow.Author.Needs.{needs}
 use Rattle.write_stripped.proofs.sets.is_lacking.Statement.{statement}
 use Rattle.write_stripped.proofs.sets.is_lacking.Tie as tie
 
-leq-requires : tie.Need-leq-requires
-leq-requires c κs = search needs
-
-in-mask-requires : tie.Need-in-mask-requires
-in-mask-requires c κs = search needs
-
-both-requires : tie.Need-both-requires
-both-requires c κs = search needs
-
 returns : tie.Need-returns
 returns c = c .both .ensures ∙ λ i. c .before .before .leq .ensures i && not (c .before .in-mask .ensures i)
 
 pub is-lacking-spec : {M : Type 1} → statement M
-is-lacking-spec = tie.close (tie.spec leq-requires in-mask-requires both-requires returns)
+is-lacking-spec = tie.close (tie.spec (λ c κs. search needs) (λ c κs. search needs) (λ c κs. search needs) returns)

@@ -22,18 +22,6 @@ loop-holds : tie.Need-loop-holds Inv-loop μ-loop
 unfolding anyBelow
 loop-holds c = (omega arith, refl)
 
-is-lacking-requires : tie.Need-is-lacking-requires Inv-loop μ-loop
-is-lacking-requires c κs = search needs
-
-either-requires : tie.Need-either-requires Inv-loop μ-loop
-either-requires c κs = search needs
-
-add-q : tie.Need-add-q Inv-loop μ-loop
-add-q c = search needs
-
-loop-less : tie.Need-loop-less Inv-loop μ-loop
-loop-less c = search needs
-
 loop-again : tie.Need-loop-again Inv-loop μ-loop
 loop-again c =
     let l = c .before .before .before .loop in
@@ -49,15 +37,5 @@ returns c =
     l .inv .1 ∙ ap (λ n. anyBelow n (λ k. bitOf (now (s .args .masks)) (s .args .d .0) k && not (inMask (s .args .mask) k))) e
 
 pub lacks-above-spec : {M : Type 1} → statement M
-lacks-above-spec =
-    tie.close
-    (tie.spec
-    Inv-loop
-    μ-loop
-    loop-holds
-    is-lacking-requires
-    either-requires
-    add-q
-    loop-less
-    loop-again
-    returns)
+lacks-above-spec = tie.close (tie.spec Inv-loop μ-loop loop-holds (λ c κs. search needs) (λ c κs. search needs) (λ c. search needs)
+    (λ c. search needs) loop-again returns)
