@@ -123,14 +123,8 @@ described c =
     let a = start x .args in
     subst (λ y. DescriptorFrom (now (a .fields)) (typeCount y (length (now (a .fields)))) (a .kind) (c .descriptor-of .result)) (x .before .code-of .ensures) (c .descriptor-of .ensures)
 
-code-of-requires : tie.Need-code-of-requires
-code-of-requires c κs = search needs
-
 returns : tie.Need-returns
 returns c = record { entered = λ n R. unknown-entry R (sym (c .before .code-of .ensures) ∙ c .if1 .taken) }
-
-is-term-requires : tie.Need-is-term-requires
-is-term-requires c κs = search needs
 
 enter-term-requires : tie.Need-enter-term-requires
 enter-term-requires c κs =
@@ -165,9 +159,6 @@ first-fault-requires c κs =
     let z = full (s .pre .is) in
     (omega arith, subst Sized (sym (x .before .code-of .ensures)) (code-sized (s .args .kind) (known x)))
 
-enum-known-tested : tie.Need-enum-known-tested
-enum-known-tested c = search needs
-
 returns-3 : tie.Need-returns-3
 returns-3 c =
     let f = c .before .before .before in
@@ -175,12 +166,6 @@ returns-3 c =
     let a = start x .args in
     let e = ap toldOf (sym (c .before .tested .given .1)) ∙ (f .first-fault .ensures ∙ ap (λ y. firstFault (numberTests (now (a .fields)) y (a .counts))) (x .before .code-of .ensures)) in
     record { entered = λ n R. fault-entry R (known x) _ e }
-
-enum-told : tie.Need-enum-told
-enum-told c = search needs
-
-section-of-requires : tie.Need-section-of-requires
-section-of-requires c κs = search needs
 
 descriptor-of-requires : tie.Need-descriptor-of-requires
 descriptor-of-requires c κs =
@@ -190,9 +175,6 @@ descriptor-of-requires c κs =
     let e = x .before .code-of .ensures in
     let o = sym (section (c .before)) ∙ c .if3 .taken in
     (rw e (type-held (s .pre .is) (known x) (passes t) o), kind-narrow (s .pre .is) (known x) (passes t), rw e (fields-narrow (s .pre .is) (known x) (passes t) o))
-
-next-type-requires : tie.Need-next-type-requires
-next-type-requires c κs = search needs
 
 put-type-requires : tie.Need-put-type-requires
 put-type-requires c κs =
@@ -208,9 +190,6 @@ put-type-requires c κs =
     let l = s .pre .is .tables .long .descriptors in
     let e = n .next-type .ensures in
     (omega arith, omega arith, omega arith, rw e (s .pre .is .filter), rw e (placed (s .pre .is)))
-
-enum-known-new : tie.Need-enum-known-new
-enum-known-new c = search needs
 
 same-length-3 : tie.Need-same-length-3
 same-length-3 c = c .before .before .before .before .before .before .before .before .before .put-type .kept .1 .1 .1 .1 .1 .0
@@ -228,9 +207,6 @@ returns-4 c =
     let k = n .before in
     let t = passed-of k in
     record { entered = λ q R. repeated-entry R (known (known-of t)) (passes t) (typed k) (described k) (rw (n .next-type .ensures) at (p .put-type .ensures)) (c .before .new .given .1) }
-
-enum-told-2 : tie.Need-enum-told-2
-enum-told-2 c = search needs
 
 with-type-requires : tie.Need-with-type-requires
 with-type-requires c κs =
@@ -254,9 +230,6 @@ returns-5 c =
     let t = passed-of k in
     record { entered = λ q R. rw (c .with-type .ensures) (type-entry R (known (known-of t)) (passes t) (typed k) (described k) (rw (n .next-type .ensures) at (p .put-type .ensures)) (c .before .enum-told2 .given .1)) }
 
-next-domain-requires : tie.Need-next-domain-requires
-next-domain-requires c κs = search needs
-
 put-domain-requires : tie.Need-put-domain-requires
 put-domain-requires c κs =
     let n = c .before in
@@ -272,9 +245,6 @@ put-domain-requires c κs =
     let e = n .next-domain .ensures in
     (omega arith, omega arith)
 
-with-domain-requires : tie.Need-with-domain-requires
-with-domain-requires c κs = search needs
-
 same-length-9 : tie.Need-same-length-9
 same-length-9 c = c .before .before .before .put-domain .kept .1 .1 .0
 
@@ -288,7 +258,7 @@ returns-6 c =
     record { entered = λ q R. rw (c .with-domain .ensures, p .put-domain .ensures, n .next-domain .ensures) (domain-entry R (known (known-of t)) (passes t) (no-term e2) (λ e. i .if3 .left (section (i .before) ∙ e))) }
 
 pub enter-spec : {M : Type 1} → statement M
-enter-spec = tie.close (tie.spec code-of-requires returns is-term-requires enter-term-requires same-length same-length-2 returns-2
-    first-fault-requires enum-known-tested returns-3 enum-told section-of-requires descriptor-of-requires next-type-requires put-type-requires
-    enum-known-new same-length-3 same-length-4 same-length-5 returns-4 enum-told-2 with-type-requires same-length-6 same-length-7 same-length-8
-    returns-5 next-domain-requires put-domain-requires with-domain-requires same-length-9 returns-6)
+enter-spec = tie.close (tie.spec (λ c κs. search needs) returns (λ c κs. search needs) enter-term-requires same-length same-length-2 returns-2
+    first-fault-requires (λ c. search needs) returns-3 (λ c. search needs) (λ c κs. search needs) descriptor-of-requires (λ c κs. search needs)
+    put-type-requires (λ c. search needs) same-length-3 same-length-4 same-length-5 returns-4 (λ c. search needs) with-type-requires same-length-6
+    same-length-7 same-length-8 returns-5 (λ c κs. search needs) put-domain-requires (λ c κs. search needs) same-length-9 returns-6)

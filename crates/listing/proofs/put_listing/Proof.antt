@@ -9,24 +9,6 @@ use borrow.Author.Needs.{needs}
 use Rattle.listing.proofs.put_listing.Statement.{statement}
 use Rattle.listing.proofs.put_listing.Tie as tie
 
-enum-known-verdict : tie.Need-enum-known-verdict
-enum-known-verdict c = search needs
-
-put-refusal-requires : tie.Need-put-refusal-requires
-put-refusal-requires c κs = search needs
-
-enum-told : tie.Need-enum-told
-enum-told c = search needs
-
-front-requires : tie.Need-front-requires
-front-requires c κs = search needs
-
-front-requires-2 : tie.Need-front-requires-2
-front-requires-2 c κs = search needs
-
-put-run-requires : tie.Need-put-run-requires
-put-run-requires c κs = search needs
-
 same-length : tie.Need-same-length
 same-length c = c .before .before .put-refusal .kept .0
 
@@ -51,5 +33,5 @@ returns-2 c =
     as-short (run-listed (a .a) (now (a .log)) (now (a .report)) (at-enum-told .enum-told .given .1) (at-front .front .ensures) (at-front2 .front2 .ensures)) (longer (omega arith) (c .before .before .put-run .ensures))
 
 pub put-listing-spec : {M : Type 1} → statement M
-put-listing-spec = tie.close (tie.spec enum-known-verdict put-refusal-requires enum-told front-requires front-requires-2 put-run-requires same-length
-    returns same-length-2 returns-2)
+put-listing-spec = tie.close (tie.spec (λ c. search needs) (λ c κs. search needs) (λ c. search needs) (λ c κs. search needs) (λ c κs. search needs)
+    (λ c κs. search needs) same-length returns same-length-2 returns-2)

@@ -7,21 +7,6 @@ use borrow.Author.Needs.{needs}
 use Rattle.listing.proofs.put_verdict.Statement.{statement}
 use Rattle.listing.proofs.put_verdict.Tie as tie
 
-enum-told : tie.Need-enum-told
-enum-told c = search needs
-
-slice-aggregate-put : tie.Need-slice-aggregate-put
-slice-aggregate-put c = search needs
-
-put-requires : tie.Need-put-requires
-put-requires c κs = search needs
-
-enum-known-v : tie.Need-enum-known-v
-enum-known-v c = search needs
-
-put-refusal-requires : tie.Need-put-refusal-requires
-put-refusal-requires c κs = search needs
-
 same-length : tie.Need-same-length
 same-length c = c .before .before .put .kept .0
 
@@ -35,5 +20,5 @@ returns-2 : tie.Need-returns-2
 returns-2 c = as-short (ap verdictLine (sym (c .before .before .before .before .before .v .given .1))) (c .before .before .put-refusal .ensures)
 
 pub put-verdict-spec : {M : Type 1} → statement M
-put-verdict-spec = tie.close (tie.spec enum-told slice-aggregate-put put-requires enum-known-v put-refusal-requires same-length returns same-length-2
-    returns-2)
+put-verdict-spec = tie.close (tie.spec (λ c. search needs) (λ c. search needs) (λ c κs. search needs) (λ c. search needs) (λ c κs. search needs)
+    same-length returns same-length-2 returns-2)

@@ -6,18 +6,6 @@ use borrow.Author.Needs.{needs}
 use Rattle.listing.proofs.endings.put_ending.Statement.{statement}
 use Rattle.listing.proofs.endings.put_ending.Tie as tie
 
-enum-told : tie.Need-enum-told
-enum-told c = search needs
-
-enum-known-ending : tie.Need-enum-known-ending
-enum-known-ending c = search needs
-
-put-outcome-requires : tie.Need-put-outcome-requires
-put-outcome-requires c κs = search needs
-
-put-result-requires : tie.Need-put-result-requires
-put-result-requires c κs = search needs
-
 returns : tie.Need-returns
 returns c = as-text (no-ending (c .before .before .before .before .args .steps) _ (c .enum-told .given .1)) (puts-nothing _ _)
 
@@ -35,4 +23,5 @@ returns-2 c =
     as-text (ending-said (start .args .steps) _ (at-ending .ending .given .1)) (then (at-put-outcome .put-outcome .ensures) (c .before .before .put-result .ensures))
 
 pub put-ending-spec : {M : Type 1} → statement M
-put-ending-spec = tie.close (tie.spec enum-told enum-known-ending put-outcome-requires put-result-requires returns same-length returns-2)
+put-ending-spec = tie.close (tie.spec (λ c. search needs) (λ c. search needs) (λ c κs. search needs) (λ c κs. search needs) returns same-length
+    returns-2)

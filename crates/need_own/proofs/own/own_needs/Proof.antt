@@ -4,42 +4,6 @@ use mathlib.Core.Path.{sym, ap, _∙_}
 use Rattle.need_own.proofs.own.own_needs.Statement.{statement}
 use Rattle.need_own.proofs.own.own_needs.Tie as tie
 
-enum-told : tie.Need-enum-told
-enum-told c = search needs
-
-no-needs-requires : tie.Need-no-needs-requires
-no-needs-requires c κs = search needs
-
-enum-told-2 : tie.Need-enum-told-2
-enum-told-2 c = search needs
-
-raise-requires : tie.Need-raise-requires
-raise-requires c κs = search needs
-
-reduction-requires : tie.Need-reduction-requires
-reduction-requires c κs = search needs
-
-enum-told-3 : tie.Need-enum-told-3
-enum-told-3 c = search needs
-
-no-needs-requires-2 : tie.Need-no-needs-requires-2
-no-needs-requires-2 c κs = search needs
-
-reduction-requires-2 : tie.Need-reduction-requires-2
-reduction-requires-2 c κs = search needs
-
-enum-told-4 : tie.Need-enum-told-4
-enum-told-4 c = search needs
-
-no-needs-requires-3 : tie.Need-no-needs-requires-3
-no-needs-requires-3 c κs = search needs
-
-enum-told-5 : tie.Need-enum-told-5
-enum-told-5 c = search needs
-
-advice-steps-requires : tie.Need-advice-steps-requires
-advice-steps-requires c κs = search needs
-
 returns : tie.Need-returns
 returns c = c .no-needs .ensures ∙ ap (λ m. ownIn m (c .before .before .before .args .own) (c .before .before .before .args .s) (c .before .before .before .args .p .0) (c .before .before .before .args .w)) (sym (c .before .enum-told .given .1))
 
@@ -56,5 +20,6 @@ returns-5 : tie.Need-returns-5
 returns-5 c = c .advice-steps .ensures ∙ ap (λ m. ownIn m (c .before .before .before .args .own) (c .before .before .before .args .s) (c .before .before .before .args .p .0) (c .before .before .before .args .w)) (sym (c .before .enum-told5 .given .1))
 
 pub own-needs-spec : {M : Type 1} → statement M
-own-needs-spec = tie.close (tie.spec enum-told no-needs-requires enum-told-2 raise-requires reduction-requires enum-told-3 no-needs-requires-2
-    reduction-requires-2 enum-told-4 no-needs-requires-3 enum-told-5 advice-steps-requires returns returns-2 returns-3 returns-4 returns-5)
+own-needs-spec = tie.close (tie.spec (λ c. search needs) (λ c κs. search needs) (λ c. search needs) (λ c κs. search needs) (λ c κs. search needs)
+    (λ c. search needs) (λ c κs. search needs) (λ c κs. search needs) (λ c. search needs) (λ c κs. search needs) (λ c. search needs)
+    (λ c κs. search needs) returns returns-2 returns-3 returns-4 returns-5)

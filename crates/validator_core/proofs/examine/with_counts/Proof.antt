@@ -3,12 +3,6 @@ use borrow.Author.Needs.{needs}
 use Rattle.validator_core.proofs.examine.with_counts.Statement.{statement}
 use Rattle.validator_core.proofs.examine.with_counts.Tie as tie
 
-enum-known-v : tie.Need-enum-known-v
-enum-known-v c = search needs
-
-enum-told : tie.Need-enum-told
-enum-told c = search needs
-
 returns : tie.Need-returns
 returns c = rw (c .before .v .given .1)
 
@@ -16,4 +10,4 @@ returns-2 : tie.Need-returns-2
 returns-2 c = rw (c .enum-told .given .1)
 
 pub with-counts-spec : {M : Type 1} → statement M
-with-counts-spec = tie.close (tie.spec enum-known-v enum-told returns returns-2)
+with-counts-spec = tie.close (tie.spec (λ c. search needs) (λ c. search needs) returns returns-2)
