@@ -2,14 +2,20 @@
 # Measures the verified engine, and a plain Rust engine beside it if its folder is given:
 #     bench/run.sh [FOLDER_OF_PLAIN_ENGINE] [--images DIR] [--load SEEDS [--depth D]] [--quick] [--places N] [--dump DIR]
 #                  [--write] [--calls N [--seed S]]
+#     bench/run.sh [FOLDER_OF_PLAIN_ENGINE] --languages [--quick] [--places N] [--write]
+#     bench/run.sh --procedures [--quick] [--write]
+#     bench/run.sh --worst [--quick] [--instructions] [--dump DIR] [--write]
 # The plain engine is a crate named `baseline` with `engine(image, frame, budget, log, report, work) -> Answer`.
-# The decoding job is also measured in Lua 5.4 and LuaJIT, as far as the commands lua5.4 and luajit are installed.
 # --images DIR measures the images in a folder's files and not the bench's own; --load SEEDS measures generated images
 # (document 02, card 12), say of --load 1-64,155840010, at depth 9 unless --depth says another; --quick measures less
 # often; --places N measures with the code of both engines in N places of memory, 9 at most, and prints the means;
-# --dump DIR writes the images and measures nothing; --write writes what was measured into docs/PERFORMANCE.md and
-# docs/performance.svg. Of --load a table is printed, and nothing else is done with the times. --calls N measures
-# nothing: it makes N calls of both engines on random images and stops at the first that leaves other bytes.
+# --dump DIR writes the images and measures nothing; --write writes what was measured into the documents of docs/ and
+# docs/performance.svg. Of --load a table is printed, and nothing else is done with the times. --calls N only compares
+# results: it makes N calls of both engines on random images and stops at the first that leaves other bytes.
+# --languages measures the decoding job in other languages, as far as they are installed. --procedures measures the
+# procedures of examples/ over recordings, in single calls and in one call for many frames. --worst searches for the
+# dearest images of each function of the library and prints what they cost, with --instructions counted by valgrind
+# too; --dump DIR then writes these images.
 set -euo pipefail
 bench=$(cd "$(dirname "$0")" && pwd)
 package=$bench

@@ -1,15 +1,18 @@
 #!/usr/bin/env bash
-# Passes the tests of everything around the proved crates: the tools, the package for Python, the bench in the browser, the
-# library for other processors, the Rust crate, the command bukzarn, the programs in C. The library is built first (rt staticlib
-# bukzarn); to test another, name its folder in BUKZARN_LIBRARY. What needs programs or packages that are not installed is
-# skipped, and a line says so.
-#     tools/test.sh
+# Passes the tests of everything around the proved crates: the layout of all files, what keeps the house, the tools, the package
+# for Python, the bench in the browser, the library for other processors, the Rust crate, the command bukzarn, the programs in C.
+# With --all the gate comes first (.ci/run: every proof, every edit, every program), so that one command passes all tests.
+# The library is built first (rt staticlib bukzarn); to test another, name its folder in BUKZARN_LIBRARY. What needs programs or
+# packages that are not installed is skipped, and a line says so.
+#     tools/test.sh [--all]
 set -uo pipefail
-root=$(cd "$(dirname "$0")/.." && pwd)
+root=$(cd "$(dirname "${BASH_SOURCE[0]}")/.." && pwd)
 cd "$root" || exit 1
 out=$(mktemp -d)
 trap 'rm -rf "$out"' EXIT
 failed=0
+# The crates of Rust. The last one measures beside another engine, and is built only where that engine is (bench/plain).
+rust="bindings/rust cli bench bench/compare"
 
 # Does something under a name, and shows what it said if it fails.
 try() {
@@ -105,11 +108,46 @@ cargo_in() {
 
 laid_out() {
     local folder
-    for folder in "$@"; do
+    for folder in $rust; do
         cargo fmt --check --manifest-path "$folder/Cargo.toml" || return 1
     done
 }
 
+without_warnings() {
+    local folder
+    for folder in $rust; do
+        if [ "$folder" = bench/compare ] && [ ! -e bench/plain ]; then
+            continue
+        fi
+        cargo_in "$folder" clippy --all-targets -- -D warnings || return 1
+    done
+}
+
+# What a test sources this file for stands above.
+if [ "${BASH_SOURCE[0]}" != "$0" ]; then
+    return
+fi
+all=
+case ${1:-} in
+    '') ;;
+    --all) all=1 ;;
+    *)
+        echo "usage: tools/test.sh [--all]" >&2
+        exit 2
+        ;;
+esac
+if [ -n "$all" ]; then
+    try "the gate: every proof, every edit, every program" .ci/run
+    tail -n 1 "$out/said"
+fi
+if command -v rt >/dev/null; then
+    try "the Rattle code: layout" rt fmt --check
+else
+    echo "skipped the layout of the Rattle code: rt is not installed"
+fi
+if [ -f tools/house/unreached.py ]; then
+    try "laws that nothing reaches" python3 tools/house/unreached.py
+fi
 if [ -z "${BUKZARN_LIBRARY:-}" ]; then
     try "the library" rt staticlib bukzarn
     BUKZARN_LIBRARY=target/staticlib
@@ -117,11 +155,17 @@ fi
 BUKZARN_LIBRARY=$(cd "$BUKZARN_LIBRARY" && pwd) || exit 1
 export BUKZARN_LIBRARY
 try "the shared library" shared
+# Tests of the pages run the command where the pages have it, in target/bin.
+try "the command bukzarn: built" cargo install --quiet --path cli --root target
 BUKZARN_LIBRARY=$out/library
+# What keeps the house: imports, edits, lengths, parameters, names of numbers; document 01's forms; names in the documents.
+house='test_house|test_comments|test_forms|test_documents|test_figures|test_gate_order'
 # Some files have tests that some Python on this machine may be able to run and the usual one not.
 apart='test_python|test_decoder|test_bench|test_bench_page|test_cross'
-modules=$(cd tools/tests && ls test_*.py | sed 's/\.py$//' | grep -Evx "$apart")
+modules=$(cd tools/tests && ls test_*.py | sed 's/\.py$//' | grep -Evx "$apart|$house")
 cd tools/tests || exit 1
+# shellcheck disable=SC2086 # the names of modules, a word each
+try_python "what keeps the house" python3 ${house//|/ }
 # shellcheck disable=SC2086 # the names of modules, a word each
 try_python "the tools (Python)" python3 $modules
 try_python "the package for Python" "$(python_with pandas)" test_python test_decoder
@@ -130,10 +174,10 @@ try_python "the library for other processors" python3 test_cross
 cd ../..
 try "the Rust crate" cargo_in bindings/rust test
 try "the bench" cargo_in bench test
-try "the Rust code: layout" laid_out bindings/rust cli bench
-try "the Rust crate: no warnings" cargo_in bindings/rust clippy --all-targets -- -D warnings
 try "the command bukzarn" cargo_in cli test
-try "the command bukzarn: no warnings" cargo_in cli clippy --all-targets -- -D warnings
+try "the Rust code: layout" laid_out
+try "the Rust code: no warnings" without_warnings
+[ -e bench/plain ] || echo "skipped the warnings of bench/compare: the engine that it measures beside, bench/plain, is not there"
 try "examples/c/watch.c" watch_in_c
 try "examples/c/functions.c" functions_in_c
 try "examples/c/receiver.c" receiver_in_c

@@ -1,30 +1,40 @@
-//! Times of the watch engine, alone or beside a plain Rust engine, on the same images in one run; one image's job is
-//! also done in Lua.
+//! Times of the watch engine, alone or beside a plain Rust engine, on the same images in one run.
 //!
 //! Options: `--images DIR` measures the images in files of a folder and not its own, `--load SEEDS` images that are
 //! generated, of depth 9 or of the one after `--depth`, `--quick` measures less often, `--dump DIR` writes the images and
 //! measures nothing, `--save FILE` adds the times to a file, `--means FILE` adds them too and then prints the means of all
-//! runs in the file, `--write DOCS` writes the tables into DOCS/PERFORMANCE.md and the plot DOCS/performance.svg.
-//! `--calls N` measures nothing: it makes so many calls of both engines on random images, of seed 1 or of the one after
-//! `--seed`, and stops at the first that differs.
+//! runs in the file, `--write DOCS` writes the tables into the documents of the folder DOCS.
+//!
+//! `--procedures` measures the procedures of examples/ over recordings, `--languages` the decoding job in other
+//! languages, `--worst` searches for the dearest images of each function, with `--instructions` counted too. `--calls N`
+//! measures nothing: it makes so many calls of both engines on random images, of seed 1 or of the one after `--seed`, and
+//! stops at the first that differs. `--one` makes the single call that is counted.
 #![deny(missing_docs)]
 mod calls;
 mod document;
 mod images;
+mod instructions;
+mod languages;
 mod load;
-mod lua;
 mod measure;
+mod options;
 mod plot;
+mod procedures;
+mod processor;
 mod programs;
 #[allow(dead_code)]
 #[path = "../../bindings/rust/tests/differential/random.rs"]
 mod random;
 mod saved;
 mod table;
+mod worst;
 
-use lua::Compared;
 use measure::{Row, Time};
-use std::path::Path;
+use options::{number, Options};
+
+/// The documents that have tables of what was measured.
+const PERFORMANCE: &str = "PERFORMANCE.md";
+const STATIONS: &str = "STATIONS.md";
 
 /// What a call answers: bytes of log and report, or number and place of a refusal.
 pub type Answer = Result<(usize, usize), (u16, usize)>;
@@ -40,68 +50,94 @@ fn verified(image: &[u8], frame: &[u8], budget: u32, log: &mut [u8], report: &mu
     }
 }
 
-/// The argument after an option.
-fn after<'a>(arguments: &'a [String], option: &str) -> Option<&'a str> {
-    let at = arguments.iter().position(|argument| argument == option)?;
-    Some(arguments.get(at + 1).unwrap_or_else(|| panic!("{option} takes an argument")))
-}
-
-/// The number that an argument says.
-fn number<T: std::str::FromStr>(word: &str) -> T {
-    word.parse().unwrap_or_else(|_| panic!("{word} is no number that fits"))
-}
-
-/// Prints the tables and, if there is a folder for them, writes them and the plot. Only the bench's own images are
-/// compared with Lua, and plotted.
-fn show(rows: &[Row], compared: Option<&Compared>, docs: Option<&Path>) {
-    let tables = match compared {
-        None => vec![("measured on files", table::text(rows))],
-        Some(compared) => vec![("measured", table::text(rows)), ("measured in Lua", table::compared(compared))],
-    };
-    for (mark, text) in &tables {
-        println!("{text}");
-        if let Some(docs) = docs {
-            document::write(docs, mark, text);
-        }
+/// Prints a text and, if there is a folder for it, writes it between two marks of a document.
+fn show(text: &str, options: &Options, document: &str, mark: &str) {
+    println!("{}\n", text.trim_end());
+    if let Some(docs) = options.path("--write") {
+        document::write(docs, document, mark, text);
     }
-    if let (Some(docs), Some(_)) = (docs, compared) {
-        document::draw(docs, &plot::svg(rows));
+}
+
+/// Does with the times of several runs what the options say. True if there is nothing to show yet.
+fn keep(times: Vec<&mut Time>, options: &Options) -> bool {
+    if let Some(file) = options.path("--save") {
+        saved::append(file, &times);
+        return true;
+    }
+    if let Some(file) = options.path("--means") {
+        saved::append(file, &times);
+        saved::means(file, times);
+    }
+    false
+}
+
+/// Searches for the dearest images of each function.
+fn worst_cases(options: &Options) {
+    let plan = worst::Plan::new(options.has("--quick"), options.has("--instructions"));
+    show(&worst::search(&plan, options.path("--dump")), options, STATIONS, "worst");
+}
+
+/// Measures the procedures of the examples.
+fn real_procedures(options: &Options) {
+    let texts = procedures::texts(options.repetitions());
+    show(&texts.procedures, options, PERFORMANCE, "measured on procedures");
+    show(&texts.recordings, options, STATIONS, "recordings");
+}
+
+/// Measures the decoding job in other languages.
+fn other_languages(engines: &[Engine], options: &Options) {
+    let images = images::all();
+    let image = images.iter().find(|image| image.name == images::DECODED).expect("the bench has the image");
+    let mut compared = languages::compare(image, engines, options.repetitions());
+    if !keep(compared.times().collect(), options) {
+        show(&compared.text(), options, PERFORMANCE, "measured in other languages");
+    }
+}
+
+/// Measures the bench's own images, or those of files or seeds.
+fn measured_images(engines: &[Engine], options: &Options) {
+    let (folder, seeds) = (options.path("--images"), options.after("--load"));
+    let images = match (folder, seeds) {
+        (Some(folder), _) => images::read(folder),
+        (None, Some(seeds)) => load::images(seeds, options.after("--depth")),
+        (None, None) => images::all(),
+    };
+    if let Some(folder) = options.path("--dump") {
+        return images::dump(&images, folder);
+    }
+    let measured = |image| measure::measure(image, engines, options.repetitions());
+    let mut rows: Vec<Row> = images.iter().map(measured).collect();
+    if seeds.is_some() {
+        return println!("{}", load::text(&rows));
+    }
+    if keep(rows.iter_mut().flat_map(Row::times).collect(), options) {
+        return;
+    }
+    if folder.is_some() {
+        return show(&table::text(&rows), options, PERFORMANCE, "measured on files");
+    }
+    show(&table::text(&rows), options, PERFORMANCE, "measured");
+    if let Some(docs) = options.path("--write") {
+        document::draw(docs, &plot::svg(&rows));
     }
 }
 
 /// The program: measures the verified engine and, if there is one, a plain one.
 pub fn main(plain: Option<Engine>) {
-    let arguments: Vec<String> = std::env::args().collect();
+    let options = Options::read();
     let engines: Vec<Engine> = [Some(verified as Engine), plain].into_iter().flatten().collect();
-    if let Some(calls) = after(&arguments, "--calls") {
-        let seed = after(&arguments, "--seed").map_or(1, |seed| number(seed));
-        return println!("{}", calls::compare(&engines, number(calls), seed));
+    if let Some(asked) = options.rest(instructions::ONE) {
+        worst::one(asked);
+    } else if let Some(calls) = options.after("--calls") {
+        let seed = options.after("--seed").map_or(1, number);
+        println!("{}", calls::compare(&engines, number(calls), seed));
+    } else if options.has("--worst") {
+        worst_cases(&options);
+    } else if options.has("--procedures") {
+        real_procedures(&options);
+    } else if options.has("--languages") {
+        other_languages(&engines, &options);
+    } else {
+        measured_images(&engines, &options);
     }
-    let folder = after(&arguments, "--images");
-    let seeds = after(&arguments, "--load");
-    let images = match (folder, seeds) {
-        (Some(folder), _) => images::read(Path::new(folder)),
-        (None, Some(seeds)) => load::images(seeds, after(&arguments, "--depth")),
-        (None, None) => images::all(),
-    };
-    if let Some(folder) = after(&arguments, "--dump") {
-        return images::dump(&images, Path::new(folder));
-    }
-    let repetitions = if arguments.iter().any(|argument| argument == "--quick") { 31 } else { 301 };
-    let mut rows: Vec<Row> = images.iter().map(|image| measure::measure(image, &engines, repetitions)).collect();
-    if seeds.is_some() {
-        return println!("{}", load::text(&rows));
-    }
-    let decoded = images.iter().find(|image| folder.is_none() && image.name == images::DECODED);
-    let mut compared = decoded.map(|image| lua::compare(image, &engines, repetitions));
-    let times = rows.iter_mut().flat_map(Row::times).chain(compared.iter_mut().flat_map(Compared::times));
-    let times: Vec<&mut Time> = times.collect();
-    if let Some(file) = after(&arguments, "--save") {
-        return saved::append(Path::new(file), &times);
-    }
-    if let Some(file) = after(&arguments, "--means") {
-        saved::append(Path::new(file), &times);
-        saved::means(Path::new(file), times);
-    }
-    show(&rows, compared.as_ref(), after(&arguments, "--write").map(Path::new));
 }

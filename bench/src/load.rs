@@ -1,7 +1,7 @@
 //! Generated images, with which stations compare their boards (document 02, card 12).
 use crate::images::Image;
 use crate::measure::{Row, Time};
-use crate::number;
+use crate::options::number;
 use crate::table;
 
 /// The depth of the images if none is said: the greatest, whose runs are the longest.

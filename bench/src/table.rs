@@ -1,6 +1,5 @@
 //! The tables that are printed.
-use crate::images::DECODED;
-use crate::lua::Compared;
+use crate::images::{CONSTANT, LOOPS};
 use crate::measure::{Row, Time, Times};
 
 /// Nanoseconds of a call, per step of its run, per byte of its check.
@@ -36,13 +35,13 @@ pub fn mean(numbers: impl Iterator<Item = f64>) -> f64 {
 }
 
 /// A line of a table, the first cell to the left and the others to the right.
-fn line(cells: &[String]) -> String {
+pub fn line(cells: &[String]) -> String {
     let rest: String = cells[1..].iter().map(|cell| format!(" {cell:>10} |")).collect();
     format!("| {:<24} |{rest}\n", cells[0])
 }
 
 /// The head of a table.
-fn head(cells: &[String]) -> String {
+pub fn head(cells: &[String]) -> String {
     let rule: String = cells[1..].iter().map(|_| " ---------: |").collect();
     format!("{}| {} |{rule}\n", line(cells), "-".repeat(24))
 }
@@ -101,25 +100,27 @@ fn table(rows: &[Row], choose: Choose) -> String {
     text
 }
 
-/// Two tables: the least times and the medians.
+/// What the ratios of the bench's own images come to, if there is a plain engine.
+fn outline(rows: &[Row]) -> Option<String> {
+    let of = |part: &dyn Fn(&Row) -> bool, rate: fn(&Rates) -> Option<f64>| {
+        let rows = rows.iter().filter(|row| part(row));
+        let all: Vec<f64> = rows.filter_map(|row| ratios(row, |time| time.least)).filter_map(|r| rate(&r)).collect();
+        (!all.is_empty()).then(|| mean(all.into_iter()))
+    };
+    let loops = of(&|row| LOOPS.contains(&row.name), |rates| rates.step)?;
+    let call = of(&|_| true, |rates| Some(rates.call))?;
+    let byte = of(&|_| true, |rates| Some(rates.byte))?;
+    let larger = of(&|row| row.name != CONSTANT, |rates| Some(rates.byte))?;
+    Some(format!(
+        "Geometric means of the ratios (least times): a step of the six images with loops {loops:.2}; a call {call:.2}; a \
+         byte of the check {byte:.2}, without the constant {larger:.2}.\n"
+    ))
+}
+
+/// Two tables: the least times and the medians; and what they come to.
 pub fn text(rows: &[Row]) -> String {
     let least = table(rows, |time| time.least);
     let median = table(rows, |time| time.median);
-    format!("Least times, in nanoseconds:\n\n{least}\nMedians, in nanoseconds:\n\n{median}")
-}
-
-/// The table of the job in Lua.
-pub fn compared(compared: &Compared) -> String {
-    let mut text = "The decoding job beside Lua, in nanoseconds:\n\n".to_string();
-    text += &head(&[DECODED, "step limit", "least", "median", "ratio"].map(String::from));
-    for of in &compared.lines {
-        let limit = of.kept.map_or("none", |kept| if kept { "kept" } else { "not kept" });
-        let ratio = compared.lines[0].time.least / of.time.least;
-        let times = [of.time.least, of.time.median].map(|time| format!("{time:.0}"));
-        text += &line(&[&[of.name.into(), limit.into()], &times[..], &[format!("{ratio:.2}")]].concat());
-    }
-    if !compared.absent.is_empty() {
-        text += &format!("\nNot installed, and so left out: {}.\n", compared.absent.join(", "));
-    }
-    text
+    let outline = outline(rows).map_or_else(String::new, |outline| format!("\n{outline}"));
+    format!("Least times, in nanoseconds:\n\n{least}\nMedians, in nanoseconds:\n\n{median}{outline}")
 }

@@ -60,7 +60,7 @@ impl fmt::Display for Error {
         match self {
             Error::Usage(words, command) => {
                 let space = if command.is_empty() { "" } else { " " };
-                write!(f, "{words}; `bukzarn{space}{command} --help` tells the use")
+                write!(f, "{words}; see `bukzarn{space}{command} --help`")
             }
             Error::Refused(refusal) => write!(f, "{refusal}"),
             Error::TextTaken(refusal) => {

@@ -23,7 +23,7 @@ or writing failed, 4 a run ended otherwise than done.
 const IMAGE: &str = "
 IMAGE is the file of an image, or - for standard input. The text of a procedure (its name ends with .proc or .rec), with
 the texts of watches behind it, works too: python3 runs the assembler, watchtool.py in the folder that the variable
-BUKZARN_TOOLS names, or in tools/ of the repository in which this command was built (`bukzarn --version` tells which).
+BUKZARN_TOOLS names, or in tools/ of the repository in which this command was built (`bukzarn --version` says which).
 ";
 
 const RUN: &str = "\

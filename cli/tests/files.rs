@@ -234,7 +234,7 @@ fn foreign_signs() {
         "$B check $'\\e[31m.proc'",
         "$B $'\\e[31m'",
         "$B run i.img $'--\\e'",
-        "$B run i.img $'\\u202e\\xff'",
+        "$B run i.img $'\\xe2\\x80\\xae\\xff'",
         "$B fixed i.img -o $'no/\\e/such'",
     ] {
         let (status, out, told) = shell(&folder, line);

@@ -12,7 +12,7 @@ from pathlib import Path
 
 ROOT = Path(__file__).resolve().parents[2]
 STATEMENTS = ("demands/specs", "call_spec/specs", "verdict/specs/Acceptable.antt", "listing/specs/Listing.antt",
-              "write_load/specs/Card12.antt", "answers_as_numbers/specs", "recordings/specs", "bukzarn/specs",
+              "write_load/specs/Card12.antt", "answers_as_numbers/specs", "bukzarn/specs",
               "vm_links/specs", "demands_examples/proofs/Conformance.antt")
 IMPORT = re.compile(r"\s*use Rattle·(\w+?)(?:·specs|·proofs)?\.(specs|proofs)\.([\w.]+?)(?:\.\{| as )")
 

@@ -1,7 +1,7 @@
 #!/usr/bin/env python3
 """The order of crates.txt in which the gate waits least.
 
-The gate proves the crates layer by layer, four at a time (RT_JOBS in .ci/run), and waits for all of these before it goes
+The gate proves the crates layer by layer, six at a time (RT_JOBS in .ci/run), and waits for all of these before it goes
 on. So within a layer the longest to prove comes first. Standard input is what the gate printed, with the seconds of each
 crate; a crate that it does not tell of counts as short. Prints the lines of crates.txt in that order, or with --cost only
 how many seconds the gate takes for the crates in the order that they have.
@@ -11,7 +11,7 @@ import sys
 from pathlib import Path
 
 ROOT = Path(__file__).resolve().parents[2]
-TOGETHER = 4
+TOGETHER = 6
 
 
 def crates(text):

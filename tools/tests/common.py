@@ -1,5 +1,9 @@
-"""What the tests share: the repository's folders, the stored images and their listings."""
+"""What the tests share: the repository's folders, trees of their own, the stored images and their listings, the bench."""
+import os
+import shutil
+import subprocess
 import sys
+import tempfile
 import unittest
 from pathlib import Path
 
@@ -23,6 +27,35 @@ def without_library():
 
 
 with_library = unittest.skipIf(without_library(), without_library())
+
+
+def tree(test, files):
+    """A folder with these files, by path and text, for the time of a test."""
+    folder = tempfile.TemporaryDirectory()
+    test.addCleanup(folder.cleanup)
+    for name, text in files.items():
+        file = Path(folder.name) / name
+        file.parent.mkdir(parents=True, exist_ok=True)
+        file.write_text(text, encoding="utf-8")
+    return Path(folder.name)
+
+
+def archive_folder():
+    """The folder of the library's archive, which cargo links; nothing if one of the two is not there."""
+    folder = Path(os.environ.get("BUKZARN_LIBRARY") or ROOT / "target/staticlib")
+    return folder if (folder / "libbukzarn.a").is_file() and shutil.which("cargo") else None
+
+
+with_archive = unittest.skipUnless(archive_folder(), "cargo or the library's archive is not here")
+
+
+def bench(*options):
+    """What bench/run.sh prints with these options."""
+    environment = {**os.environ, "BUKZARN_LIBRARY": str(archive_folder())}
+    made = subprocess.run([ROOT / "bench/run.sh", *options], capture_output=True, text=True, env=environment, check=False)
+    if made.returncode != 0:
+        raise AssertionError(made.stderr)
+    return made.stdout
 
 
 def stored_images():

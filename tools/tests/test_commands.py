@@ -128,14 +128,16 @@ class Commands(unittest.TestCase):
         self.assertEqual(lines[start:start + len(said)], said)
 
     def test_the_first_page(self):
-        """README.md, "Use it", word for word: each command ends as the page says, and the picture is there."""
+        """README.md, "Use it", word for word: each command ends as the page says, and the picture is there. Those of the shared
+        library and of the bench, which serves until it is ended, have tests of their own (test_decoder, test_bench)."""
         if not BUKZARN.exists():
             self.skipTest("the command is not built")
         (self.root / "target").unlink()
         (self.root / "target/bin").mkdir(parents=True)
         (self.root / "target/bin/bukzarn").symlink_to(BUKZARN)
         page = (common.ROOT / "README.md").read_text(encoding="utf-8")
-        shown = commands("Use it", page)
+        elsewhere = ("python/bukzarn/build.py", "examples/python/decoder.py", "watchtool.py bench ")
+        shown = [command for command in commands("Use it", page) if not any(name in command for name in elsewhere)]
         self.assertEqual(len(shown), 8)
         for command in shown:
             self.shell(command, self.root, 4 if "--frames" in command else 1 if "alter.watch" in command else 0)

@@ -36,7 +36,7 @@ NUMBERS = {
 
 # Functions whose parameter of such a name is something else.
 OTHER_MEANING = {
-    ("need_class", "is_permitted", "child"): "the number of the child's kind",
+    ("need_terms", "is_permitted", "child"): "the number of the child's kind",
     ("vm_reductions", "bind_parts", "p"): "a piece",
     ("vm_stacks", "stack_pieces", "p"): "a piece",
     ("vm_memory", "put_piece", "p"): "a piece",
@@ -58,10 +58,10 @@ OTHER_INDEX = {
 
 
 class Function:
-    """One function of a source file: its crate, file, name, parameters by name, and body."""
+    """One function of a source file: its crate, file, name, parameters by name, body, and how many lines it has in all."""
 
-    def __init__(self, crate, file, name, parameters, body):
-        self.crate, self.file, self.name, self.parameters, self.body = crate, file, name, parameters, body
+    def __init__(self, crate, file, name, parameters, body, lines):
+        self.crate, self.file, self.name, self.parameters, self.body, self.lines = crate, file, name, parameters, body, lines
 
     def __str__(self):
         return f"{self.crate}/{self.file}: {self.name}"
@@ -103,7 +103,8 @@ def functions(root):
                     at = close
                     continue
                 break
-            found.append(Function(crate, path.name, match[1], parameters, text[brace:close]))
+            lines = text[match.start():close].count("\n") + 1
+            found.append(Function(crate, path.name, match[1], parameters, text[brace:close], lines))
     return found
 
 
@@ -154,7 +155,7 @@ def bare_numbers(root):
     """Parameters and indexes that are domain, type or term numbers, and are not one of the three structs."""
     faults = []
     for f in functions(root):
-        if f.crate in ("base_bytes", "numerals", "console", "listing"):
+        if f.crate in ("base_bytes", "numerals", "console", "listing_lines", "listing"):
             continue
         for struct, names in NUMBERS.items():
             for name in names:
@@ -181,6 +182,24 @@ class Forms(unittest.TestCase):
         for check in CHECKS:
             with self.subTest(check.__name__):
                 self.assertEqual(check(common.ROOT), [], check.__doc__)
+
+
+# For each check, a source that gives the form up: crate and file, the text, and what is found.
+GIVEN_UP = {
+    fields_read_outside_the_reader: ("vm_words/src/lib.rt", "fn f(image: &[u8], at: usize) -> u16 { word(image, at + 4) }", 2),
+    leaves_judged_in_a_parent: ("check_typing/src/pass.rt", "fn f() { while j < k { let e = child_of(j); check_leaf(e); } }", 2),
+    walks_without_the_reader: ("check_layout/src/lib.rt", "fn scan_with(image: &[u8]) { let mut at = 0; }", 4),
+    bare_numbers: ("vm_words/src/lib.rt", "fn f(term: u16, n: usize) -> u64 { code[n] }", 2),
+    writers_of_the_report: ("vm_results/src/reports.rt", "fn f(r: &mut [u8]) { put_leaf(r); } fn g() { put_leaves(r); }", 2),
+}
+
+
+class CanFail(unittest.TestCase):
+    def test_each_check_finds_what_gives_its_form_up(self):
+        self.assertEqual(set(GIVEN_UP), set(CHECKS))
+        for check, (file, text, faults) in GIVEN_UP.items():
+            with self.subTest(check.__name__):
+                self.assertEqual(len(check(common.tree(self, {f"crates/{file}": text}))), faults)
 
 
 if __name__ == "__main__":

@@ -16,9 +16,24 @@ def cases(crate, module, function, enum):
     return {name: int(number) for name, number in found}
 
 
+def worked_out(found, known):
+    """Numbers by their names, from pairs of a name and a sum of numbers and of names that come before it or are known."""
+    numbers = dict(known)
+    for name, said in found:
+        names = re.findall(r"[A-Za-z]\w*", said)
+        if re.fullmatch(r"[\w +*/()-]+", said) and all(one in numbers for one in names):
+            numbers[name] = eval(re.sub(r"[A-Za-z]\w*", lambda one: str(numbers[one.group()]), said).replace("/", "//"))
+    return {name: numbers[name] for name, _ in found if name in numbers}
+
+
 def constants(crate, module):
-    """The numbers that specs/ name."""
-    return {name: int(n) for name, n in re.findall(r"^(\w+) = (\d+)$", text("crates", crate, "specs", module), re.M)}
+    """The numbers that specs/ name: numerals, and what follows from others, as the length of the work area does."""
+    known = {}
+    for place in (("calculus", "Limits.antt"), ("base_bytes", "Memory.antt"), (crate, module)):
+        found = re.findall(r"^(\w+) = ([^\n]+)$", text("crates", place[0], "specs", place[1]), re.M)
+        last = worked_out(found, known)
+        known |= last
+    return last
 
 
 def rows(data):
@@ -36,10 +51,133 @@ def header():
     return {name: int(n) for name, n in re.findall(r"BUKZARN_(\w+) = (\d+)", text("include", "bukzarn.h"))}
 
 
+def code(file):
+    """A module of Rattle without its comments and its strings."""
+    return re.sub(r"//.*", "", re.sub(r'b"(?:[^"\\]|\\.)*"', '""', file.read_text(encoding="utf-8")))
+
+
+def rattle(crate):
+    """The constants of a crate's lib.rt, those of the crates below it known."""
+    known = {}
+    for one in ("calculus", "base_bytes", crate):
+        found = re.findall(r"const (\w+): \w+ = ([^;]+);", code(common.ROOT / "crates" / one / "src/lib.rt"))
+        found = [(name, re.sub(r" as \w+|\s+", " ", said).strip()) for name, said in found]
+        last = worked_out(found, known)
+        known |= last
+    return last
+
+
 def rust(module):
     """The numbers that Rust's enum of a module gives its variants."""
     found = re.findall(r"^ +\(?(\d+),\s+\w+::(\w+),", text("bindings", "rust", "src", module), re.M)
     return {name: int(number) for number, name in found}
+
+
+# What a number of the papers, or one that follows from such numbers, may be besides: a numeral of it in src/ is a limit that is
+# written out, but for these.
+BYTE = "a byte, or the numbers that a byte holds"
+NOT_LIMITS = {
+    "base_bytes/lib.rt": ({256, 4294967296}, BYTE),
+    "check_fields/lib.rt": ({256}, BYTE),
+    "check_scopes/scope.rt": ({256}, BYTE),
+    "image_refusals/lib.rt": ({16}, "the number of a refusal"),
+    "listing_lines/offsets.rt": ({256}, BYTE),
+    "read_records/numbers.rt": ({256}, BYTE),
+    "read_records/table.rt": ({16}, "four bits of a kind's code"),
+    "read_records/words.rt": ({256}, BYTE),
+    "report/numbers.rt": ({256}, BYTE),
+    "vm_matches/looks.rt": ({256}, BYTE),
+    "vm_matches/operands.rt": ({256}, BYTE),
+    "vm_memory/slots.rt": ({256}, BYTE),
+}
+
+# A table of the classes of instructions by their numbers.
+TABLES = {"vm_dispatch/begin.rt"}
+
+# Constants that are numerals of such a number, outside the two places of the limits.
+OTHER_CONSTANTS = {
+    "check_repeats/keys.rt": {"RANGE"},
+    "check_uses/children.rt": {"USED"},
+    "load/main.rt": {"MOST"},
+    "need_sums/sums.rt": {"LARGEST"},
+    "read_records/kinds.rt": {"UNIT_TYPE"},
+    "read_records/table.rt": {"CHILDREN", "GROUP", "LEAD", "LAST", "LEAST"},
+    "report/fixed.rt": {"LOG"},
+    "vm_decode/acts.rt": {"NEXT"},
+    "vm_memory/slots.rt": {"BYTES", "DIGITS", "NEXT"},
+    "vm_words/code.rt": {"CLASSES", "COUNTS"},
+    "vm_words/value.rt": {"TAGS"},
+    "watch/conformance.rt": {"FRAME_LENGTH", "LOG_LENGTH"},
+    "watch/stored.rt": {"MOST_BUDGET"},
+    "write_load/lib.rt": {"OUTPUT_LENGTH"},
+}
+
+# Constants that several crates use, each with the one module that has it.
+ONE_PLACE = {
+    "MAINLINE": "read_records/numbers.rt", "OBJECT_TYPE": "read_records/kinds.rt", "NO_BINDING": "vm_memory/bindings.rt",
+    "FUEL_BIAS": "vm_registers/regs.rt", "FRAME_SLOTS": "vm_registers/regs.rt", "SPENT": "calculus/outcomes.rt",
+    "CODE_LENGTH": "vm_words/terms.rt", "SCOPE_LENGTH": "check_rules/leaf.rt", "FIELD_A": "vm_words/code.rt",
+    "CAUSES": "check_typing/pass.rt", "TERM_LIMIT": "image/lib.rt", "LABEL_LIMIT": "calculus/lib.rt",
+}
+
+
+def papers_numbers():
+    """The limits from 16 on, and what follows from them: places of tables and scopes, lengths, places of a word's fields."""
+    run, image = constants("calculus", "Limits.antt"), constants("image", "Limits.antt")
+    memory = constants("base_bytes", "Memory.antt")
+    tables = re.findall(r"^(\w+(?:Places|Base|Binding)) = (.+)$", text("crates", "vm_machine", "specs", "Memory.antt"), re.M)
+    numbers = {*run.values(), *image.values(), *memory.values(), *worked_out(tables, run | image | memory).values()}
+    terms, depth = image["termLimit"], image["depthLimit"]
+    numbers |= {terms + 1, image["imageLimit"] + 1, depth * (image["entryLimit"] + 1)}
+    place = 1
+    for size in (256, 8, image["domainLimit"], terms, 2 * terms, 2 * terms, depth):
+        place *= size
+        numbers.add(place)
+    return {n for n in numbers if n >= 16}
+
+
+class Numerals(unittest.TestCase):
+    """A number of the papers stands once in specs and once in Rattle; array lengths and contracts name it."""
+
+    def modules(self):
+        for file in sorted(common.ROOT.glob("crates/*/src/*.rt")):
+            yield f"{file.parts[-3]}/{file.name}", code(file)
+
+    def test_the_list(self):
+        """The numbers that are looked for: limits as they are, sums of them, a product, the place of a word's last field."""
+        run, image = constants("calculus", "Limits.antt"), constants("image", "Limits.antt")
+        meant = {run["labelLimit"], run["frameLimit"] + 1, 2 * run["bindingLimit"] - 1, image["workLength"], image["reportLength"],
+                 constants("base_bytes", "Memory.antt")["wordCount"], 9 * image["depthLimit"], image["termLimit"] + 1, 1 << 53}
+        self.assertLessEqual(meant, papers_numbers())
+        self.assertGreater(image["workLength"], 8 * image["termLimit"])
+
+    def test_limits_in_rattle(self):
+        """Each limit has the same number under the same name in specs/ and in Rattle."""
+        for crate, apart in (("calculus", {"minusOne"}), ("image", set())):
+            said = {upper(name): n for name, n in constants(crate, "Limits.antt").items() if name not in apart}
+            self.assertGreater(len(said), 8)
+            self.assertEqual({name: n for name, n in rattle(crate).items() if name in said}, said)
+
+    def test_numerals(self):
+        numbers, found = papers_numbers(), {}
+        for name, source in self.modules():
+            bare = re.sub(r"\bconst \w+: [^=]+ = [^;]*;", "", source)
+            numerals = {int(n) for n in re.findall(r"(?<![\w.])(?<!\^ )(\d+)(?:u\d+|usize)?\b", bare)} & numbers
+            if numerals and name not in TABLES:
+                found[name] = numerals
+        self.assertEqual(found, {name: numerals for name, (numerals, _) in NOT_LIMITS.items()})
+
+    def test_constants(self):
+        numbers, found = papers_numbers(), {}
+        for name, source in self.modules():
+            named = {one for one, n in re.findall(r"\bconst (\w+): \w+ = (\d+);", source) if int(n) in numbers}
+            if named and name not in ("calculus/lib.rt", "image/lib.rt"):
+                found[name] = named
+        self.assertEqual(found, OTHER_CONSTANTS)
+
+    def test_one_place(self):
+        for constant, place in ONE_PLACE.items():
+            self.assertEqual([name for name, source in self.modules() if f"const {constant}:" in source], [place], constant)
 
 
 class Numbers(unittest.TestCase):

@@ -48,21 +48,42 @@ fn one_byte(program: &mut Program) -> Term {
     program.sequence(keep, rest)
 }
 
-/// Installs a watch of domain 1 that prints bytes below 12.
-fn watch(program: &mut Program) -> Term {
-    let of = program.number_type();
-    let label = label(program);
-    let pointcut = program.pointcut(of, 1, vec![label]);
+/// The body of a watch that prints bytes below 12.
+fn notice(program: &mut Program) -> Term {
     let (byte, twelve) = (number(program, KNOT + 1), program.number(12));
     let test = program.less(byte.clone(), twelve);
     let (print, unit) = (program.print(byte), program.unit());
-    let body = program.choose(test, print, unit);
+    program.choose(test, print, unit)
+}
+
+/// Installs a watch of domain 1 with a body.
+fn watch(program: &mut Program, body: fn(&mut Program) -> Term) -> Term {
+    let of = program.number_type();
+    let label = label(program);
+    let pointcut = program.pointcut(of, 1, vec![label]);
+    let body = body(program);
     let advice = program.advice(1, pointcut, body);
     program.install(advice)
 }
 
+/// The body of a watch that stores 0 to the decoder's sum.
+fn harm(program: &mut Program) -> Term {
+    let (sum, zero) = (cell(program, SUM), program.number(0));
+    program.store(sum, zero)
+}
+
 /// Decodes a frame of n bytes; the result is the sum less the greatest byte.
 pub fn decode(n: i32) -> Vec<u8> {
+    watched(n, notice)
+}
+
+/// The same with a watch that does harm: it is refused.
+pub fn harmful(n: i32) -> Vec<u8> {
+    watched(n, harm)
+}
+
+/// Decodes a frame of n bytes with a watch that has this body.
+fn watched(n: i32, body: fn(&mut Program) -> Term) -> Vec<u8> {
     let mut program = Program::new(&[1, 3]);
     let p = &mut program;
     let of = p.number_type();
@@ -73,12 +94,12 @@ pub fn decode(n: i32) -> Vec<u8> {
     let more = p.less(index, end);
     let (sum, greatest) = (cell(p, SUM), cell(p, GREATEST));
     let result = p.minus(p.read(sum), p.read(greatest));
-    let body = p.choose(more, step, result);
+    let turn = p.choose(more, step, result);
     let zero = p.number(0);
     let go = again(p, KNOT, of, zero.clone());
-    let install = watch(p);
+    let install = watch(p, body);
     let then = p.sequence(install, go);
-    let mut root = knot(p, KNOT, zero.clone(), body, then);
+    let mut root = knot(p, KNOT, zero.clone(), turn, then);
     for _ in [SUM, GREATEST] {
         let new = p.new_cell(0, zero.clone());
         root = p.bind(0, new, root);

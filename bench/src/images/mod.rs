@@ -5,11 +5,22 @@ mod loops;
 mod marks;
 mod varied;
 
+pub use large::{chain, constant};
+pub use loops::{again, knot};
 use std::fs;
 use std::path::{Path, PathBuf};
 
-/// The image whose job is also done in Lua.
+/// The image whose job is also done in other languages.
 pub const DECODED: &str = "240 bytes decoded";
+const DECODED_BYTES: i32 = 240;
+/// The images with loops.
+pub const LOOPS: [&str; 6] =
+    ["recursion through a cell", DECODED, "marks, 1 advice", "marks, 8 advices", "marks, 64 advices", "deep recursion"];
+/// The smallest.
+pub const CONSTANT: &str = "constant (P2)";
+/// The largest, of which most is read once, and the one that is refused.
+pub const LARGEST: &str = "largest accepted";
+pub const REFUSED: &str = "16,384 bytes, refused";
 
 /// An image with its name.
 pub struct Image {
@@ -30,21 +41,26 @@ impl Image {
     }
 }
 
+/// That image with a watch that stores to the decoder's sum.
+pub fn harmful_decode() -> Vec<u8> {
+    decode::harmful(DECODED_BYTES)
+}
+
 /// Every image, in the order of the tables.
 pub fn all() -> Vec<Image> {
     let image = |name, bytes| Image { name, bytes };
     vec![
-        image("constant (P2)", large::constant()),
+        image(CONSTANT, large::constant()),
         image("recursion through a cell", loops::tail(1_020)),
-        image(DECODED, decode::decode(240)),
+        image(DECODED, decode::decode(DECODED_BYTES)),
         image("marks, 1 advice", marks::marks(1, 1_000)),
         image("marks, 8 advices", marks::marks(8, 120)),
         image("marks, 64 advices", marks::marks(64, 15)),
         image("deep recursion", loops::deep(500, 2)),
         image("nested sums", large::nested()),
-        image("largest accepted", large::largest()),
+        image(LARGEST, large::largest()),
         image("1,024 varied terms", varied::varied()),
-        image("16,384 bytes, refused", large::refused()),
+        image(REFUSED, large::refused()),
     ]
 }
 
@@ -98,8 +114,8 @@ mod tests {
             let image = all().into_iter().find(|image| image.name == name).unwrap();
             (image.bytes.len(), image.terms())
         };
-        assert_eq!(sizes("constant (P2)"), (20, 1));
-        assert_eq!(sizes("largest accepted"), (12_630, 1_024));
+        assert_eq!(sizes(CONSTANT), (20, 1));
+        assert_eq!(sizes(LARGEST), (12_630, 1_024));
         assert_eq!(sizes("1,024 varied terms").1, 1_024);
     }
 }

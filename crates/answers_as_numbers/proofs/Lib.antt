@@ -1,1 +1,3 @@
--- The proofs of the functions.
+-- Laws of recordings, examples of them, and the proofs of the functions.
+pub mod Recordings
+pub mod Examples

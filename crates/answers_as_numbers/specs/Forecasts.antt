@@ -28,13 +28,13 @@ numbersOf n =
 abbrev pub numberCount : ℕ
 numberCount = 11
 
--- Numbers that are known stand in the first places, where there are as many; else nothing is written.
+-- If the forecast has numbers and at least eleven places are lent, the numbers stand in the first eleven; else nothing is written.
 abbrev pub numbersLeft : Forecast → List ℕ → List ℕ
 numbersLeft (Forecast.Refused r place) xs = xs
 numbersLeft (Forecast.OutsideClass place) xs = xs
 numbersLeft (Forecast.Known n) xs = cond (ltb (length xs) numberCount) xs (over 0 (numbersOf n) xs)
 
--- The number that is answered, for so many lent places: that of the forecast; where its numbers are known and there are fewer places, one behind those of documents 01 and 02.
+-- The number that is answered, given how many places are lent: the number of the forecast; or, where its numbers are known and fewer than eleven places are lent, the first number behind those of documents 01 and 02.
 abbrev pub tooFewPlaces : ℕ
 tooFewPlaces = 25
 

@@ -1,3 +1,4 @@
--- Answers as one number, and the numbers of a forecast in lent places.
+-- Answers as one number, the numbers of a forecast in lent places, and the calls of a recording.
 pub mod Numbers
 pub mod Forecasts
+pub mod Recordings

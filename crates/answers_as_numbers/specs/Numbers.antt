@@ -4,7 +4,7 @@ use Rattle.image.specs.Refusals.{refusalNumber}
 use Rattle.verdict.specs.declared.Verdict.{Verdict}
 use Rattle.call_spec.specs.declared.Answer.{Answer}
 
--- Bytes that were written, of an image or a report, which never has 2^16; and of a refusal 2^16 times its number (documents 01 and 02) and 2^24 times its place, which is cut so that the sum has 64 bits. What an answer lacks is 0.
+-- The bytes that were written, of an image or a report, always fewer than 2^16; or, of a refusal, 2^16 times its number (documents 01 and 02) plus 2^24 times its place, which is cut so that the sum has 64 bits. The part that an answer does not have is 0.
 abbrev pub asNumber : ℕ → ℕ → ℕ → ℕ
 asNumber bytes number place = bytes % 2 ^ 16 + (2 ^ 16 * number + 2 ^ 24 * (place % 2 ^ 39))
 

@@ -4,8 +4,8 @@ use verdict::Verdict;
 ghost use mathlib.Core.Path.{_≡_};
 ghost use Rattle.answers_as_numbers.specs.Numbers.{asNumber, refusedAsNumber, callNumber};
 
-// How many bytes written are told apart; what a refusal's number and its place are multiplied by, and how many places are told
-// apart.
+// The bytes written count modulo BYTE_COUNT; a refusal's number and its place are multiplied by their units, and the place counts
+// modulo PLACE_COUNT.
 const BYTE_COUNT: usize = 65536;
 
 const NUMBER_UNIT: u64 = 65536;
@@ -14,7 +14,7 @@ const PLACE_UNIT: u64 = 16777216;
 
 const PLACE_COUNT: usize = 549755813888;
 
-// Of a run, what the bytes of log are multiplied by, and how many of them are told apart.
+// The bytes of a run's log are multiplied by LOG_UNIT and count modulo LOG_COUNT.
 const LOG_UNIT: u64 = 65536;
 
 const LOG_COUNT: usize = 281474976710656;

@@ -2,6 +2,7 @@
 use Prim.Native.Nat.{ℕ, zero, suc, _+_, _*_}
 use mathlib.Core.List.{List, [], _∷_}
 use lib.ListN.{take, drop}
+use Rattle.calculus.specs.Limits.{frameLimit, bindingLimit, cellLimit, adviceLimit, pieceLimit}
 use Rattle.base_bytes.specs.Bytes.{numberOf, numberAt}
 
 -- The first n words.
@@ -13,12 +14,14 @@ words (suc n) b = numberOf (take 8 b) ∷ words n (drop 8 b)
 abbrev pub wordAt : List ℕ → ℕ → ℕ
 wordAt b i = numberAt 8 (8 * i) b
 
--- How many words and how many single bytes there are, where the single bytes begin, and where the memory ends.
-abbrev pub wordCount : ℕ
-wordCount = 4418
-
+-- How many single bytes and how many words there are, where the single bytes begin, and where the memory ends.
+-- A single byte stands beside each slot: of the 512 unfinished terms that may enclose the next one to reduce, and of that one.
 abbrev pub besideCount : ℕ
-besideCount = 513
+besideCount = frameLimit + 1
+
+-- 4,418 words: both halves of bindings, pieces of two words, and cells (card 9), slots, installed advice, and as many values that are kept as there are slots (card 6). Where each table begins is crate vm_machine, specs/Memory.antt.
+abbrev pub wordCount : ℕ
+wordCount = 2 * bindingLimit + besideCount + 4 * pieceLimit + 2 * cellLimit + adviceLimit + besideCount
 
 abbrev pub besideBase : ℕ
 besideBase = 8 * wordCount

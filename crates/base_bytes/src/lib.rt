@@ -1,10 +1,28 @@
 // Words of 8 bytes in a lent work area, little-endian, and the clearing of its front.
+use calculus::ADVICE_LIMIT;
+use calculus::BINDING_LIMIT;
+use calculus::CELL_LIMIT;
+use calculus::FRAME_LIMIT;
+use calculus::PIECE_LIMIT;
 ghost use mathlib.Core.Path.{_≡_};
 ghost use mathlib.Core.List.{[], _∷_};
 ghost use Prim.Native.Nat.{_+_, _*_, _≤_, _<_};
 ghost use lib.ListN.{length};
 ghost use Rattle.base_bytes.specs.Bytes.{bytesOf, numberOf, over, cleared};
 ghost use Rattle.base_bytes.specs.Memory.{wordAt};
+
+// The single bytes of the machine's memory, one beside each slot: of the unfinished terms that may enclose the next one to
+// reduce, and of that one.
+pub const BESIDE_COUNT: usize = FRAME_LIMIT + 1;
+
+// Its words, 4,418: both halves of bindings, pieces of two words, and cells (card 9), slots, installed advice, and as many
+// values that are kept as there are slots (card 6).
+pub const WORD_COUNT: usize = 2 * BINDING_LIMIT
+    + BESIDE_COUNT
+    + 4 * PIECE_LIMIT
+    + 2 * CELL_LIMIT
+    + ADVICE_LIMIT
+    + BESIDE_COUNT;
 
 fn join64(a: u8, b: u8, c: u8, d: u8, e: u8, f: u8, g: u8, h: u8) -> u64
     ensures { λ r. ⌜ r ≡ numberOf (a ∷ b ∷ c ∷ d ∷ e ∷ f ∷ g ∷ h ∷ []) ⌝ }

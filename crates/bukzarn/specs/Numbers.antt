@@ -19,7 +19,7 @@ use Rattle.answers_as_numbers.specs.Forecasts.{needNumber}
 abbrev pub verdictAsNumber : Verdict → ℕ
 verdictAsNumber v = refusedAsNumber (verdictNumber v) (verdictPlace v)
 
--- Of a forecast for so many lent places.
+-- The answer to a forecast, given how many places are lent.
 abbrev pub needAsNumber : Forecast → ℕ → ℕ
 needAsNumber f places = refusedAsNumber (needNumber f places) (forecastPlace f)
 

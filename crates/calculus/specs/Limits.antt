@@ -19,7 +19,7 @@ labelLimit = 64
 abbrev pub adviceLimit : ℕ
 adviceLimit = 64
 
--- Pairs, pointcuts and advice made; "piece" is document 01's word.
+-- "Piece" is document 01's word: the room that a pair, a pointcut or an advice takes.
 abbrev pub pieceLimit : ℕ
 pieceLimit = 256
 
@@ -27,7 +27,7 @@ pieceLimit = 256
 abbrev pub logRecordLength : ℕ
 logRecordLength = 10
 
--- The leaves of a plain type.
+-- The leaves of a plain type (document 01's word; Plain.antt, `isPlain`).
 abbrev pub leafLimit : ℕ
 leafLimit = 8
 

@@ -216,7 +216,3 @@ rounds-once e P =
     let z : 0 + P .depth ≡ P .depth = omega arith in
     let q : at (P .dom) (raise (P .depth) (level (P .kept))) ≡ P = rw z refl in
     sym (ap (λ R. rounds R e) q) ∙ rounds-shift (P .depth) e (level (P .kept)) (P .dom) .moved
-
--- Where advice makes no step it has no frame.
-pub rounds-sound : (e : Tm) (P : Here) → rounds P e .steps ≡ 0 → rounds P e .frames ≡ 0
-rounds-sound e P = rounds-shift 0 e P 0 .sound

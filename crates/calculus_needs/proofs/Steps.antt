@@ -19,7 +19,7 @@ use Rattle.calculus_needs.specs.Class.{straight2, straight, allStraight}
 use Rattle.calculus_needs.specs.Needs.{once, uses, variables, binds, aPiece, aCell, aLabel, anAdvice, aPrint, own1, own2, need, needs, roundOf, installs, rounds, allRounds, Extra, noExtra, aNewLabel, keptPieces, extra0, withExtra}
 use Rattle.calculus_needs.specs.Used.{reach, reachFirst}
 use Rattle.calculus.specs.Typing.{Policy, StoreTyping}
-use Rattle.calculus_inversion.proofs.Inversion.{premises}
+use Rattle.calculus_safety.proofs.Inversion.{premises}
 use Rattle.calculus_needs.specs.Claims.{Under}
 use Rattle.calculus_needs.proofs.Typed.{Typed, AllTyped, typed-more, keep-label}
 use Rattle.calculus_needs.proofs.Sums.{under-refl, under-trans, under-left, none-left, none-right, plus-assoc}

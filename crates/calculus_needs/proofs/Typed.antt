@@ -6,7 +6,7 @@ use mathlib.Core.Option.{some}
 use Rattle.calculus.specs.Syntax.{Dom, Ty, Val, Tm, Tms, asValue, keep, more}
 use Rattle.calculus.specs.View.{labelOf}
 use Rattle.calculus.specs.Typing.{Policy, StoreTyping, ⊢_⦂_ as ValTy, _⨾_⊢_⦂_ as TmTy, _⨾_⊢*_⦂_ as TmsTy}
-use Rattle.calculus_inversion.proofs.Inversion.{premises}
+use Rattle.calculus_safety.proofs.Inversion.{premises}
 use Rattle.calculus_safety.proofs.Values.{val-ty}
 
 module _ (D : Policy) (Σ : StoreTyping) where

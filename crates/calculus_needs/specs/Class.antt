@@ -20,7 +20,7 @@ isAdvice (obj t bs) = false
 isAdvice (keep e f g) = false
 isAdvice (match p es f g) = false
 
--- Whether an operator may stand here, over this operand; m: outside advice bodies.
+-- Whether an operator may stand over this operand; m is true outside the bodies of advice.
 abbrev pub permits1 : Bool → Op1 → Tm → Bool
 permits1 m print e = true
 permits1 m install e = m && isAdvice e

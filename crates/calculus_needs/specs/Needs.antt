@@ -23,6 +23,7 @@ binds c n = uses c (someBindings n)
 abbrev pub aCell : Dom → Numbers
 aCell c = uses c oneCell
 
+-- One piece, which is document 01's word: the room that a pair, a pointcut or an advice takes.
 abbrev pub aPiece : Dom → Numbers
 aPiece c = uses c onePiece
 
@@ -69,7 +70,7 @@ own1 P byte = once P
 own1 P newCell = once P ⊕ aCell (P .dom)
 own1 P (call m) = once P ⊕ binds (P .dom) 1
 
--- W: what all advice that a mark may find takes there.
+-- W says what all advice that a mark may find takes at the mark's place.
 abbrev pub own2 : (Here → Numbers) → Here → Op2 → Numbers
 own2 W P Op2.pair = once P ⊕ aPiece (P .dom)
 own2 W P app = once P ⊕ binds (P .dom) 1

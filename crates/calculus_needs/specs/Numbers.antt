@@ -18,7 +18,7 @@ abbrev pub none : Numbers
 none = record { steps = 0; used = noUses; labels = 0; advices = 0; prints = 0; frames = 0 }
 
 infixr 20 _⊕_
--- One after the other: all add up, but frames, which are given back.
+-- What two parts need that run one after the other: the sum of each number, but the larger number of frames, since frames are given back.
 unfoldable pub _⊕_ : Numbers → Numbers → Numbers
 m ⊕ n = record {
   steps = m .steps + n .steps;

@@ -10,7 +10,7 @@ use Rattle.calculus.specs.Run.{after, run}
 use Rattle.calculus_needs.specs.Numbers.{Numbers}
 
 unfoldable mutual
-  -- How many unfinished terms enclose the next redex of a term that d enclose.
+  -- How many unfinished terms enclose the next redex of a term that is itself inside d unfinished terms.
   pub reach : ℕ → Tm → ℕ
   reach d (val v) = d
   reach d (var k) = d
@@ -55,6 +55,6 @@ usedUp k f s = record {
   frames = f;
 }
 
--- What a run of a program used. A takedown gives the room of advice back; of every shorter budget the same is said, so that no moment of a run is left out.
+-- What a run of a program used. A takedown gives the room of advice back before the end, so the claims are also made of every smaller budget: of every moment of the run.
 abbrev pub usedBy : ℕ → Given → Tm → Numbers
 usedBy n G e = usedUp (run n G 0 fresh e .steps) (peak n G fresh e) (run n G 0 fresh e .state)

@@ -13,13 +13,11 @@ pub mod NoLowTakedown
 pub mod NoLowTakedownStep
 pub mod States
 pub mod Paired
-pub mod Marks
 pub mod Newest
 pub mod Reductions
 pub mod Alone
 pub mod Operands
 pub mod Simulation
-pub mod Plain
 pub mod Traces
 pub mod FirstStep
 pub mod Runs

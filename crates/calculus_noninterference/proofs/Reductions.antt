@@ -1,6 +1,5 @@
 -- Two related redexes at a high domain, over related states: what they reduce to is related.
 use Prim.Native.Nat.{ℕ, _-_, _*_, _≤_}
-use native.Mathlib.Omega as nat
 use borrow.Author.Tests.{ltb-true, lt-ltb, leb-true, le-leb}
 use mathlib.Core.Path.{_≡_, refl, sym, ap, _∙_, subst as transp}
 use mathlib.Core.Bool.{Bool, true, false}
@@ -10,8 +9,8 @@ use lib.ListN.{getElem?, length}
 use lib.Dec.{ltb, leb}
 use Rattle.calculus.specs.Limits.{labelLimit, adviceLimit, logRecordLength}
 use Rattle.calculus.specs.Combinators.{cases, choose}
-use Rattle.calculus.specs.Syntax.{Dom, Ty, Sigs, Val, Tm, Tms, Op0, Op1, Op2, val, Pattern}
-use Rattle.calculus.specs.State.{Cell, State, Given, Counts, Uses, somePieces, someBindings, atDom, Entry, prints}
+use Rattle.calculus.specs.Syntax.{Dom, Ty, Sigs, Val, Tm, Tms, Op0, Op1, Op2, val, Pattern, lower}
+use Rattle.calculus.specs.State.{Cell, State, Given, Counts, Uses, somePieces, someBindings, atDom, Entry, prints, Advice, adviceBindings}
 use Rattle.calculus.specs.Numbers.{frameByte, sum, difference, isLess, isEqual}
 use Rattle.calculus.specs.View.{topOf, labelsOf}
 use Rattle.calculus.specs.Answer.{reduct, with, spend}
@@ -20,18 +19,62 @@ use Rattle.calculus.specs.Reduce.{piece, bind, reduce0, reduce1, reduce2, arith
 use Rattle.calculus.specs.Typing.{Policy, Has, has-first, has-later, StoreTyping, _⊢_⦂_ as Rule0, _⊢_⦂_⇒_ as Rule1, _⊢_⦂_⇒_⇒_ as Rule2, ⊢_⦂_ as ValTy, t-newLabel, t-abort, t-takedown, t-print, t-install, t-read, t-byte, t-newCell, t-call, t-pair, t-app, t-mark, t-store, t-plus, t-minus, t-less, t-equal, PatternTy, p-end, p-rest, p-any, p-cut, t-stack}
 use Rattle.laws.proofs.Lists.{All2.all2-nil, All2.all2-cons, All2, all2-length}
 use Rattle.calculus_safety.proofs.StoreFits.{StateFits}
-use Rattle.calculus_noninterference.specs.Observe.{Highs}
+use Rattle.calculus_noninterference.specs.Observe.{Highs, NoMore}
 use Rattle.calculus_noninterference.proofs.Clash.{clash}
-use Rattle.calculus_noninterference.proofs.Quotas.{no-more-refl}
-use Rattle.calculus_noninterference.proofs.Interleave.{both, Matches, matched-last, get-both, interleaving-reverse, no-longer}
+use Rattle.calculus_noninterference.proofs.Quotas.{no-more-refl, mainline-both, mainline-alone, others-both, others-alone}
+use Rattle.calculus_noninterference.proofs.Interleave.{both, Matches, matched-last, get-both, interleaving-reverse, no-longer, Side, Matched, matched-eqb, i-nil, i-both, i-left, i-right}
 use Rattle.calculus_noninterference.proofs.Traces.{log-no-longer}
-use Rattle.calculus_noninterference.proofs.Related.{World, grows-refl, RelCell, RelV, RelT, RelL, RelVs, RelBs, SameUse, RelPlace, b-rel, b-low, v-unit, v-truth, v-number, v-pair, v-fun, v-label, v-cell, v-pointcut, v-advice, v-object, r-val, r-body, RelS, RelKept, v-bottom, v-kept}
+use Rattle.calculus_noninterference.proofs.Related.{World, grows-refl, RelCell, RelV, RelT, RelL, RelVs, RelBs, SameUse, RelPlace, b-rel, b-low, v-unit, v-truth, v-number, v-pair, v-fun, v-label, v-cell, v-pointcut, v-advice, v-object, r-val, r-body, RelS, RelKept, v-bottom, v-kept, inert-lower, r-seq, r-lower, r-skip-left, r-skip-right, RelAdvice, Advices}
 use Rattle.calculus.specs.Subst.{subst}
-use Rattle.calculus_noninterference.proofs.Substitute.{rel-choose, relT-subst}
+use Rattle.calculus.specs.Compose.{member, matching, composed}
+use Rattle.calculus_noninterference.proofs.Substitute.{rel-choose, relT-subst, relL-subst}
 use Rattle.calculus_noninterference.proofs.Store.{cell-dom}
 use Rattle.calculus_noninterference.proofs.States.{grows-cell, grows-label, rel-charged, cell-both, store-both, label-both, advice-both, clear-both, event-both}
 use Rattle.calculus_noninterference.proofs.Paired.{n-halt, Two, two-go, none-left, two-capacity, two-spend, two-some, two-found, two-none}
-use Rattle.calculus_noninterference.proofs.Marks.{composed-rel, member-same, mainline-bindings, others-bindings}
+use native.Mathlib.Omega as nat
+
+-- What a mark of matched labels becomes in the two runs is related (document 003, section 2.3, figure 5).
+-- Matched lists of labels agree on a matched pair of labels.
+pub member-same : {w : List Side} {l l′ : ℕ} {ls ls′ : List ℕ} → Matched w l l′ → Matches w ls ls′ → member l ls ≡ member l′ ls′
+member-same m all2-nil = refl
+member-same {l} {l′} m (all2-cons n ns) = rw (matched-eqb m n, member-same m ns)
+
+module _ (hi : Dom → Bool) {W : World} where
+  -- An advice is put before the rest if a test b says so: where both runs have it, and where one run has it alone.
+  chosen-both : {a a′ : Advice Tm} (x x′ : List (Advice Tm)) {v v′ : Val} (b b′ : Bool) → b ≡ b′ → RelAdvice hi W a a′ → RelV hi W v v′ → RelT hi W (composed v x) (composed v′ x′)
+      → RelT hi W (composed v (choose b (a ∷ x) x)) (composed v′ (choose b′ (a′ ∷ x′) x′))
+  chosen-both {a} {a′} x x′ {v} {v′} true true e h u r = r-seq (transp (λ q. RelT hi W (lower (a .dom) (subst 0 v (a .body))) (lower q (subst 0 v′ (a′ .body)))) (h .same-dom) (r-lower (relL-subst hi (h .body) 0 u))) r
+  chosen-both x x′ true false e h u r = clash refl e
+  chosen-both x x′ false true e h u r = clash refl (sym e)
+  chosen-both x x′ false false e h u r = r
+
+  chosen-left : (a : Advice Tm) (x : List (Advice Tm)) (v : Val) {e : Tm} (b : Bool) → hi (a .dom) ≡ false → RelT hi W (composed v x) e → RelT hi W (composed v (choose b (a ∷ x) x)) e
+  chosen-left a x v true l r = r-skip-left (inert-lower l) r
+  chosen-left a x v false l r = r
+
+  chosen-right : (a : Advice Tm) (x : List (Advice Tm)) (v : Val) {e : Tm} (b : Bool) → (hi (a .dom) ≡ false) × (W .stripped ≡ false) → RelT hi W e (composed v x) → RelT hi W e (composed v (choose b (a ∷ x) x))
+  chosen-right a x v true l r = r-skip-right (l .1) (inert-lower (l .0)) r
+  chosen-right a x v false l r = r
+
+  pub composed-rel : {w : List Side} {x x′ : List (Advice Tm)} {l l′ : ℕ} {v v′ : Val} → Advices hi W w x x′ → Matched (W .labels) l l′ → RelV hi W v v′ → RelT hi W (composed v (matching l x)) (composed v′ (matching l′ x′))
+  composed-rel i-nil m u = r-val v-unit
+  composed-rel {l} {l′} (i-both {a} {b} {x} {y} h k) m u = chosen-both (matching l x) (matching l′ y) (member l (a .labels)) (member l′ (b .labels)) (member-same m (h .labels)) h u (composed-rel k m u)
+  composed-rel {l} {v} (i-left {a} {x} h k) m u = chosen-left a (matching l x) v (member l (a .labels)) h (composed-rel k m u)
+  composed-rel {l′} {v′} (i-right {b} {y} h k) m u = chosen-right b (matching l′ y) v′ (member l′ (b .labels)) h (composed-rel k m u)
+
+  -- The two marks use the same of domain 0's half (card 9).
+  pub mainline-bindings : hi 0 ≡ true → {w : List Side} {x x′ : List (Advice Tm)} {l l′ : ℕ} → Advices hi W w x x′ → Matched (W .labels) l l′ → adviceBindings (matching l x) .mainline ≡ adviceBindings (matching l′ x′) .mainline
+  mainline-bindings main i-nil m = refl
+  mainline-bindings main {l} {l′} (i-both {a} {b} {x} {y} h k) m = mainline-both a b (matching l x) (matching l′ y) (member l (a .labels)) (member l′ (b .labels)) (member-same m (h .labels)) (h .same-dom) (mainline-bindings main k m)
+  mainline-bindings main {l} (i-left {a} {x} h k) m = mainline-alone hi main a (matching l x) (member l (a .labels)) h ∙ mainline-bindings main k m
+  mainline-bindings main {l′} (i-right {b} {y} h k) m = mainline-bindings main k m ∙ sym (mainline-alone hi main b (matching l′ y) (member l′ (b .labels)) (h .0))
+
+  -- And a stripped program's mark uses no more of the others' (card 13).
+  pub others-bindings : W .stripped ≡ true → {w : List Side} {x x′ : List (Advice Tm)} {l l′ : ℕ} → Advices hi W w x x′ → Matched (W .labels) l l′ → NoMore (adviceBindings (matching l x) .others) (adviceBindings (matching l′ x′) .others)
+  others-bindings z i-nil m = no-more-refl _
+  others-bindings z {l} {l′} (i-both {a} {b} {x} {y} h k) m = others-both a b (matching l x) (matching l′ y) (member l (a .labels)) (member l′ (b .labels)) (member-same m (h .labels)) (h .same-dom) (others-bindings z k m)
+  others-bindings z {l} (i-left {a} {x} h k) m = others-alone a (matching l x) (member l (a .labels)) (others-bindings z k m)
+  others-bindings z (i-right h k) m = clash z (h .1)
 
 module _ (hi : Dom → Bool) (W : World) where
   -- Of related values, both lists of labels can be collected, or neither.

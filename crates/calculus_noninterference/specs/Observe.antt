@@ -18,7 +18,7 @@ pub record Highs (D : Policy) (hi : Dom → Bool) : Type 0 where
   pub mainline : hi 0 ≡ true
   pub up : (p q : Dom) → hi p ≡ true → D .leq p q ≡ true → hi q ≡ true
 
--- What a report shows of a cell: its domain, whether it is plain, and if so its value.
+-- What a report shows of a cell: its domain, and its value if the cell is plain (document 01's word; `isPlain`).
 pub record Shown : Type 0 where
   pub dom : Dom
   pub value : Option Val
@@ -26,6 +26,7 @@ pub record Shown : Type 0 where
 abbrev pub shown : Cell Val → Shown
 shown a = record { dom = a .dom; value = choose (a .plain) (some (a .held)) none }
 
+-- hi says which domains are high. "High" is document 01's word ("Two runs compared"), and `Highs` says what is asked of such a set; a domain outside it is low.
 module _ (hi : Dom → Bool) where
   -- Of things with a domain, those whose domain is high, in order.
   unfoldable pub highOf : {A : Type 0} → (A → Dom) → List A → List A

@@ -1,4 +1,4 @@
--- When a domain rule is needed for demand 3 ("Two runs compared"): two programs that differ only in low bodies and lack nothing but the rule's premise, and whose runs show different things at the high domains.
+-- When a domain rule is needed for demand 3 ("Two runs compared"): two programs that differ only in low bodies and violate only this rule, and whose runs show different things at the high domains.
 use Prim.Native.Nat.{ℕ}
 use mathlib.Core.Path.{_≡_}
 use mathlib.Core.Bool.{Bool, true}
@@ -17,7 +17,7 @@ pub data DomainRule : Type 0 where
   apply-rule call-rule mark-rule cell-rule store-rule install-rule takedown-rule read-rule lower-rule body-rule pointcut-rule advice-rule : DomainRule
 
 module _ (D : Policy) (Γ : List Ty) (c : Dom) where
-  -- A term at the current domain c that its rule in figure 3 types but for the rule's domain premise.
+  -- A term at the current domain c that has its type by figure 3 if the domain premise of its rule is left out.
   pub data Lacks : DomainRule → Tm → Ty → Type 0 where
     -- e1 e2: the function's domain need not be c
     but-apply : {a b : Ty} {p : Dom} {e f : Tm} → TmTy D noStore Γ c e (Ty.fun a p b) → TmTy D noStore Γ c f a → Lacks apply-rule (op2 app b e f) b
@@ -50,6 +50,7 @@ pub record Ordered (D : Policy) : Type 0 where
   pub low : D .leq 1 1 ≡ true
   pub below : D .leq 1 0 ≡ true
 
+-- "High" is document 01's word ("Two runs compared"): here domain 0 alone is high, and every other domain is low.
 abbrev pub isHigh : Dom → Bool
 isHigh p = eqb p 0
 
@@ -65,12 +66,12 @@ ran e = run budget given 0 fresh e
 
 -- The rule is needed at the current domain c.
 pub record Needed (rule : DomainRule) (c : Dom) : Type 0 where
-  -- a term that lacks nothing but the rule's premise
+  -- a term that violates only this rule
   pub context : List Ty
   pub type : Ty
   pub term : Tm
   pub lacks : (D : Policy) → Ordered D → Lacks D context c rule term type
-  -- two programs with an open place, accepted with any term of that type in it
+  -- two programs with a hole, accepted with any term of that type in it
   pub left : Tm → Tm
   pub right : Tm → Tm
   pub fits : (D : Policy) → Ordered D → (e : Tm) → TmTy D noStore context c e type → Accepted D (left e) × Accepted D (right e)

@@ -1,4 +1,5 @@
--- Type safety of the calculus (document 003, theorems 2.3 and 2.4), and the limits that every run keeps (document 01, "A run").
+-- Inversion of the typing rules; type safety of the calculus (document 003, theorems 2.3 and 2.4); and the limits that every run keeps (document 01, "A run").
+pub mod Inversion
 pub mod Extend
 pub mod Substitute
 pub mod StoreFits

@@ -1,8 +1,7 @@
 -- Type safety: a step of a closed typed term that is no value is not wrong, and keeps the type (document 003, theorems 2.3 and 2.4, there of the calculus of two runs). Both are one induction, since no safe answer is wrong.
 use mathlib.Core.Path.{_≡_, refl, sym}
-use mathlib.Core.Logic.{_⊎_, inl, inr}
 use mathlib.Core.List.{List, [], _∷_, reverse, reverseAux}
-use mathlib.Core.Option.{Option, none, some}
+use mathlib.Core.Option.{none}
 use Rattle.calculus.specs.Syntax.{Dom, Ty, Val, Tm, Tms, asValue, val, var, lam, op0, op1, op2, seq, ite, split, pcd, adv, lower, obj, keep, match}
 use Rattle.calculus.specs.State.{State, Given}
 use Rattle.calculus.specs.Answer.{Answer, reduct, wrong}
@@ -13,7 +12,7 @@ use Rattle.laws.proofs.Lists.{none-some, All2, All2.all2-nil, All2.all2-cons, a
 use Rattle.calculus.specs.Accepted.{Transitive}
 use Rattle.calculus_safety.proofs.Extend.{Extends, grow-val, grow-tm, grow-tms}
 use Rattle.calculus_safety.proofs.StoreFits.{StateFits, KeptFits}
-use Rattle.calculus_safety.proofs.Safe.{Found, Found.found, Found.nothing, Safe, Safe.safe-go, safe-capacity, safe-within, safe-cases}
+use Rattle.calculus_safety.proofs.Safe.{Safe, Safe.safe-go, safe-capacity, safe-within, safe-cases}
 use Rattle.calculus_safety.proofs.Reductions.{safe0, safe1, safe2, safe-seq, safe-ite, safe-split, safe-adv, safe-lower, safe-pcd, keeping-fits, safe-keep, safe-match}
 use Rattle.calculus_safety.proofs.Values.{as-value, before-typed, labels-back}
 
@@ -138,12 +137,3 @@ module _ (D : Policy) (Σ : StoreTyping) where
     pub progress : {c : Dom} {e : Tm} {t : Ty} → TmTy D Σ [] c e t → asValue e ≡ none → (P : Place) → KeptFits D Σ (P .kept) → (s : State) → StateFits D Σ s
         → ¬ (step e G (at c P) s ≡ wrong)
     progress h n P q s f w = not-wrong (rw w at (safe trans G h refl n P q s f))
-
-    -- Both: a closed typed term is a value of its type, or its step is safe.
-    pub value-or-steps : {c : Dom} {e : Tm} {t : Ty} → TmTy D Σ [] c e t → (P : Place) → KeptFits D Σ (P .kept) → (s : State) → StateFits D Σ s
-        → ((v : Val) × (asValue e ≡ some v) × ValTy D Σ v t) ⊎ Safe D Σ c t (step e G (at c P) s)
-    value-or-steps {c} {e} {t} h P q s f = look (asValue e) refl (as-value D Σ h)
-      where
-        look : (o : Option Val) → asValue e ≡ o → Found (λ v. ValTy D Σ v t) o → ((v : Val) × (asValue e ≡ some v) × ValTy D Σ v t) ⊎ Safe D Σ c t (step e G (at c P) s)
-        look o eq (found {x} hv) = inl (x, eq, hv)
-        look o eq nothing = inr (safe trans G h refl eq P q s f)

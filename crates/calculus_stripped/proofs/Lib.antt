@@ -3,7 +3,6 @@ pub mod Budget
 pub mod Typed
 pub mod Related
 pub mod Agree
-pub mod Runs
 pub mod Theorem
 pub mod Reported
 pub mod Example

@@ -1,4 +1,5 @@
 // What a whole call answers and leaves: the definition in specs/, and here the struct that answers.
+use calculus::LEAF_LIMIT;
 use report::Ending;
 use report::Slot;
 use verdict::Verdict;
@@ -14,5 +15,5 @@ pub struct Answer {
     pub report: usize,
     // the result's leaves, if done
     pub count: usize,
-    pub leaves: [Slot; 8],
+    pub leaves: [Slot; LEAF_LIMIT],
 }

@@ -1,2 +1,1 @@
-// Calls by computation of the definitions, which meet the premises of cards 7 and 13 (document 02): images whose watches are taken
-// down, and images without their watches.
+// Calls, computed from the definitions, that meet the premises of cards 6, 7, 9, 11 and 13 (document 02).

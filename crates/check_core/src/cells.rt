@@ -2,6 +2,7 @@
 use check_rules::judge::all_three;
 use check_rules::judge::both;
 use check_rules::judge::judge;
+use image::DOMAIN_LIMIT;
 use read_records::kinds::REFERENCE_TYPE;
 use read_records::kinds::UNIT_TYPE;
 use read_records::numbers::DomainNo;
@@ -28,7 +29,7 @@ ghost use Rattle.check_rules.specs.Judged.{judged};
 // A new cell holds its child, at a domain that is below the current one.
 pub fn check_new_cell(
     image: &[u8],
-    masks: &[u16; 16],
+    masks: &[u16; DOMAIN_LIMIT],
     terms: &[u16],
     descriptors: &[u32],
     at: usize,
@@ -53,7 +54,7 @@ pub fn check_new_cell(
 // Read gives what a cell holds, at a domain that the current one is below.
 pub fn check_read(
     image: &[u8],
-    masks: &[u16; 16],
+    masks: &[u16; DOMAIN_LIMIT],
     terms: &[u16],
     descriptors: &[u32],
     at: usize,
@@ -78,7 +79,7 @@ pub fn check_read(
 // Store takes a cell and what it holds, at a domain that is below the current one, and gives unit.
 pub fn check_store(
     image: &[u8],
-    masks: &[u16; 16],
+    masks: &[u16; DOMAIN_LIMIT],
     terms: &[u16],
     descriptors: &[u32],
     at: usize,
@@ -105,7 +106,7 @@ pub fn check_store(
 // Lower: a unit, at a domain in its field, which is below the current one; its child stands behind that field.
 pub fn check_lower(
     image: &[u8],
-    masks: &[u16; 16],
+    masks: &[u16; DOMAIN_LIMIT],
     terms: &[u16],
     descriptors: &[u32],
     at: usize,

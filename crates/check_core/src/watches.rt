@@ -2,6 +2,7 @@
 use check_rules::judge::all_three;
 use check_rules::judge::both;
 use check_rules::judge::judge;
+use image::DOMAIN_LIMIT;
 use read_records::kinds::ADVICE_TYPE;
 use read_records::kinds::LABEL_TYPE;
 use read_records::kinds::POINTCUT_TYPE;
@@ -36,7 +37,7 @@ ghost use Rattle.check_rules.specs.Judged.{judged, labelOf, labelAbove};
 // A new label is of a domain that is below the current one.
 pub fn check_new_label(
     image: &[u8],
-    masks: &[u16; 16],
+    masks: &[u16; DOMAIN_LIMIT],
     descriptors: &[u32],
     at: usize,
     fields: &[u8],
@@ -102,7 +103,7 @@ fn labels_fit(image: &[u8], terms: &[u16], descriptors: &[u32], fields: &[u8], a
 
 fn labels_above(
     image: &[u8],
-    masks: &[u16; 16],
+    masks: &[u16; DOMAIN_LIMIT],
     terms: &[u16],
     descriptors: &[u32],
     fields: &[u8],
@@ -127,7 +128,7 @@ fn labels_above(
 // A pointcut: labels of one type, each of a domain that the pointcut's is below.
 pub fn check_pointcut(
     image: &[u8],
-    masks: &[u16; 16],
+    masks: &[u16; DOMAIN_LIMIT],
     terms: &[u16],
     descriptors: &[u32],
     at: usize,
@@ -145,7 +146,7 @@ pub fn check_pointcut(
 // An advice, of a domain that is below its pointcut's, has a unit body.
 pub fn check_advice(
     image: &[u8],
-    masks: &[u16; 16],
+    masks: &[u16; DOMAIN_LIMIT],
     terms: &[u16],
     descriptors: &[u32],
     at: usize,
@@ -171,7 +172,7 @@ pub fn check_advice(
 // Install takes an advice of a domain that is below the current one, and gives unit.
 pub fn check_install(
     image: &[u8],
-    masks: &[u16; 16],
+    masks: &[u16; DOMAIN_LIMIT],
     terms: &[u16],
     descriptors: &[u32],
     at: usize,
@@ -193,7 +194,7 @@ pub fn check_install(
 // A takedown (document 02, card 7) names a domain that is below the current one, and gives unit.
 pub fn check_takedown(
     image: &[u8],
-    masks: &[u16; 16],
+    masks: &[u16; DOMAIN_LIMIT],
     descriptors: &[u32],
     at: usize,
     fields: &[u8],

@@ -23,6 +23,7 @@ use check_objects::objects::check_object;
 use check_objects::stacks::check_keep;
 use check_objects::stacks::check_match;
 use check_objects::stacks::check_stack;
+use image::DOMAIN_LIMIT;
 use read_records::kinds;
 use read_records::numbers::DomainNo;
 use read_records::numbers::TermNo;
@@ -47,7 +48,7 @@ pub fn check_rule(
     descriptors: &[u32],
     n: TermNo,
     c: DomainNo,
-    masks: &[u16; 16],
+    masks: &[u16; DOMAIN_LIMIT],
 ) -> Verdict
     requires { ⌜ Lent (now image) (now terms) (now descriptors) × TypeOffsets (now image) (now types) × IsTerm (now image) (n .0) × (35 < numberAt (now image) (termPlace (recordsOf (now image)) (n .0))) × Masks (now image) (now masks) ⌝ }
     ensures { λ r. ⌜ ((Γ : List ℕ) → r ≡ ruleVerdict (recordsOf (now (image .entry))) (record { context = Γ; dom = c .0 }) (n .0)) ⌝ }

@@ -1,5 +1,5 @@
-// An inner crate: the fields of a record, each decoder being lent the part of the image that they occupy: what a field names, and the descriptor of
-// a type.
+// An inner crate: what a field of a record names, and the descriptor of a type. Each function is lent the part of the image that
+// the record's fields occupy.
 use read_records::numbers::Counts;
 ghost use mathlib.Core.Path.{_≡_};
 ghost use Prim.Native.Nat.{_+_, _*_, _≤_, _<_};

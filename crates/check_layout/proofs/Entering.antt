@@ -3,7 +3,7 @@ use Prim.Native.Nat.{ℕ, suc, _+_, _-_, _*_, _≤_, _<_}
 use native.Mathlib.Omega.{arith}
 use native.Mathlib.Numerals.{add-one}
 use mathlib.Core.Path.{_≡_, refl, sym, ap, subst, _∙_}
-use mathlib.Core.Bool.{Bool, true, false}
+use mathlib.Core.Bool.{true, false}
 use mathlib.Core.List.{List, [], _∷_}
 use mathlib.Core.Option.{Option, none, some}
 use lib.ListN.{length, set}
@@ -31,11 +31,12 @@ use Rattle.check_ranges.specs.declared.faults.Tested.{Tested}
 use Rattle.check_fields.specs.Fields.{typeCount, Narrow, DescriptorFrom}
 use Rattle.check_ranges.specs.Ranges.{rangesFrom, groupsFrom, classesPast}
 use Rattle.check_ranges.specs.Numbers.{lengthFits, Held, capacityFits, numberTests, toldOf}
-use Rattle.check_layout.specs.NewTypes.{newType}
-use Rattle.check_layout.specs.Tables.{layoutOf, Tables, Filters, Placed, PutType, entering, Marks, Entering, Entered, entryFor, EntersTerm}
+use Rattle.check_repeats.specs.NewTypes.{newType, Placed}
+use Rattle.check_repeats.specs.Keys.{keyOf, withKey, Filters}
+use Rattle.check_repeats.proofs.Filter.{filters-more}
+use Rattle.check_layout.specs.Tables.{layoutOf, Tables, PutType, entering, Marks, Entering, Entered, entryFor, EntersTerm}
 use Rattle.check_ranges.proofs.Numbers.{fits-held}
-use Rattle.check_layout.proofs.Descriptors.{not-repeated, old-descriptor, new-descriptor}
-use Rattle.check_layout.proofs.Filter.{filters-more}
+use Rattle.check_layout.proofs.Repeats.{not-repeated, old-type, new-type}
 use Rattle.check_layout.proofs.RecordFields.{descriptor-part}
 use Rattle.check_layout.proofs.Narrow.{type-counted, narrow}
 use Rattle.image.specs.LaidOut.{Stands}
@@ -79,7 +80,7 @@ is-domain (term k) a b = absurd (a refl)
 same-sum : {f f′ t t′ g g′ l l′ : ℕ} → f ≡ f′ → t ≡ t′ → g ≡ g′ → l ≡ l′ → f + (t * g + l) ≡ f′ + (t′ * g′ + l′)
 same-sum f t g l = cc
 
-module _ {b fs kinds : List ℕ} {o q k : ℕ} {n : Counts} {ds ts ks : List ℕ} {rs : List Bool} {es ms : List ℕ} (R : Entering b fs kinds o q k n ds ts ks rs es ms) where
+module _ {b fs kinds : List ℕ} {o q k : ℕ} {n : Counts} {ds ts ks rs es ms : List ℕ} (R : Entering b fs kinds o q k n ds ts ks rs es ms) where
   pub entry : Whole b o q k
   entry = whole-of b o q k (R .head)
 
@@ -225,8 +226,8 @@ module _ {b fs kinds : List ℕ} {o q k : ℕ} {n : Counts} {ds ts ks : List ℕ
     type-held s = let t = known-type s in let c = type-counted (t .kind) (codeAt k) (length fs) (kind-packs (type (t .kind)) (t .is)) right in let h = held in omega arith
 
     -- A kind's record that passes 8 too, with the tables that it leaves.
-    enters : (K : Kind) → kindOf (numberAt b o) ≡ some K → isNew K o L ≡ true → (m : Counts) (ds′ ts′ ks′ : List ℕ) (rs′ : List Bool) (es′ ms′ : List ℕ) → layoutOf b m ds′ ts′ es′ ≡ add K o L
-        → Tables b m ds′ ts′ ks′ es′ → Filters (m .types) ks′ rs′ → Marks b m ds′ ts′ es′ ms′ → Entered (Entry.Laid m) b o n ds ts es ds′ ts′ ks′ rs′ es′ ms′
+    enters : (K : Kind) → kindOf (numberAt b o) ≡ some K → isNew K o L ≡ true → (m : Counts) (ds′ ts′ ks′ rs′ es′ ms′ : List ℕ) → layoutOf b m ds′ ts′ es′ ≡ add K o L
+        → Tables b m ds′ ts′ ks′ es′ → Filters b (m .types) ts′ ks′ rs′ → Marks b m ds′ ts′ es′ ms′ → Entered (Entry.Laid m) b o n ds ts es ds′ ts′ ks′ rs′ es′ ms′
     enters K e new m ds′ ts′ ks′ rs′ es′ ms′ l T′ F′ M′ =
         record {
           answer = ap Image.laid l ∙ (ap (λ x. entering x o (add K o L)) (not-repeated _ new ∙ sym (last-test K e)) ∙ ap (λ J. entering (firstFault (tests L o)) o (add J o L)) (sym (at-kind K e)));
@@ -300,21 +301,24 @@ module _ {b fs kinds : List ℕ} {o q k : ℕ} {n : Counts} {ds ts ks : List ℕ
           new-law (R .tables) (reached-good (R .reached)) o K x e descriptor-is (stands b o (type K) (entry .framed) e right) ∙ ap (λ gs. newType b gs (n .types) ts ks x) (sym own-fields)
 
       -- It is there already, or it is put into the tables.
-      module _ {t : Tested} {ts′ ks′ : List ℕ} {rs′ : List Bool} (p : PutType t b fs o x (n .types) ts ks rs ts′ ks′ rs′) where
+      module _ {t : Tested} {ts′ ks′ rs′ : List ℕ} (p : PutType t b fs o x (n .types) ts ks rs ts′ ks′ rs′) where
         pub repeated-entry : {r : Refusal} → t ≡ Tested.Fault r → Entered (Entry.Fault r) b o n ds ts es ds ts′ ks′ rs′ es ms
         repeated-entry {r} e =
             let f : some r ≡ firstFault ((Refusal.RepeatedType, newType b fs (n .types) ts ks x) ∷ []) = ap toldOf (sym e) ∙ p .answer in
-            let a : newType b fs (n .types) ts ks x ≡ false = old-descriptor _ f in
+            let a : newType b fs (n .types) ts ks x ≡ false = old-type _ f in
             let g : firstFault (tests L o) ≡ some r = last-test (type (type-is .kind)) (type-is .is) ∙ (ap (λ y. firstFault ((Refusal.RepeatedType, y) ∷ [])) new ∙ sym f) in
             rw (p .types, p .descriptors, p .filter, a) (refused r g)
 
         pub type-entry : t ≡ Tested.Passed → Entered (Entry.Laid (withType n)) b o n ds ts es ds ts′ ks′ rs′ es ms
         type-entry e =
-            let a : newType b fs (n .types) ts ks x ≡ true = new-descriptor _ (ap toldOf (sym e) ∙ p .answer) in
+            let a : newType b fs (n .types) ts ks x ≡ true = new-type _ (ap toldOf (sym e) ∙ p .answer) in
             let m = type-capacity s in
-            let l = R .tables .long .descriptors in
+            let long = R .tables .long in
+            let lt = long .types in
+            let lk = long .descriptors in
+            let F′ : Filters b (n .types + 1) (set ts (n .types) o) (set ks (n .types) x) (withKey rs (n .types) (keyOf x fs)) = rw own-fields (filters-more (R .filter) o x m (omega arith) (omega arith)) in
             rw (p .types, p .descriptors, p .filter, a)
-            (enters (type (type-is .kind)) (type-is .is) (new ∙ a) (withType n) ds _ _ _ es ms (type-more (R .tables) o (type-is .kind) m) (type-kept (R .tables) o (type-is .kind) x m descriptor-is) (filters-more (R .filter) x (omega arith)) (same-marks (n .domains) (n .types + 1) ds _))
+            (enters (type (type-is .kind)) (type-is .is) (new ∙ a) (withType n) ds _ _ _ es ms (type-more (R .tables) o (type-is .kind) m) (type-kept (R .tables) o (type-is .kind) x m descriptor-is) F′ (same-marks (n .domains) (n .types + 1) ds _))
 
   -- What becomes of a term.
   pub term-answer : (u : codeAt k ≡ 0 → ⊥) → sectionOf (codeAt k) ≡ 3 → {r : Entry} {es′ ms′ : List ℕ} → EntersTerm r fs (codeAt k) o n es ms es′ ms′ → Entered r b o n ds ts es ds ts ks rs es′ ms′

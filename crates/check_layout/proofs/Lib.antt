@@ -1,6 +1,5 @@
 -- The laws that turn tests on numbers into the definition's, and the tables into its layout; and, for the loop that is walked by hand, slices that are lent again and locals.
-pub mod Descriptors
-pub mod Filter
+pub mod Repeats
 pub mod RecordFields
 pub mod Narrow
 pub mod Sections

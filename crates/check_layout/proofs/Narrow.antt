@@ -1,5 +1,5 @@
 -- The fields of a type that passes 7 are below 256, so that each has eight bits of the type's descriptor: they are types and domains, of which there are few.
-use Prim.Native.Nat.{ℕ, zero, suc, _+_, _-_, _*_, _/_, _≤_, _<_}
+use Prim.Native.Nat.{ℕ, zero, suc, _+_, _-_, _*_, _≤_, _<_}
 use native.Mathlib.Omega.{arith}
 use native.Mathlib.Nat.{suc-mul}
 use mathlib.Core.Path.{_≡_, refl, sym, ap, subst, _∙_}
@@ -7,7 +7,7 @@ use mathlib.Core.Bool.{Bool, true, false, _&&_}
 use mathlib.Core.List.{List, [], _∷_, _++_}
 use lib.ListN.{length}
 use lib.Dec.{eqb, ltb}
-use Rattle.calculus.specs.Combinators.{choose}
+use Rattle.calculus.proofs.Choices.{by-choice}
 use Rattle.laws.specs.Tests.{all}
 use Rattle.image.specs.Kinds.{in-domains, in-operations, in-truths, any-number, Field, a-type, own, a-term, an-entry, TypeKind, type, Row, typeRow, lead}
 use Rattle.laws.proofs.Booleans.{no-path, and-l, and-r, lt-of, ge-of, eq-of}
@@ -15,7 +15,7 @@ use Rattle.laws.proofs.Tests.{each}
 use Rattle.image.proofs.EveryKind.{everyOf, at-type}
 use Rattle.read_records.specs.declared.numbers.Counts.{Counts}
 use Rattle.read_records.specs.Counts.{Few}
-use Rattle.read_records.specs.Codes.{classNumber, classNumbers, groupOf, countOf, lastOf, classesOf, firstOf, timesIn}
+use Rattle.read_records.specs.Codes.{classNumber, classNumbers, groupOf, lastOf, classesOf, firstOf, timesIn}
 use Rattle.read_records.specs.Heads.{fieldIn}
 use Rattle.read_records.proofs.Codes.{Packs}
 use Rattle.read_records.proofs.Classes.{first-class}
@@ -51,20 +51,18 @@ type-first k = eq-of (each _ (every-named k) .1 .0)
 
 -- A type has as many fields as its kind, or as its length says.
 pub type-counted : (k : TypeKind) (x n : ℕ) → Packs (type k) x → lengthFits x (n + 4) ≡ true → typeCount x n ≡ firstOf x + (timesIn x n * groupOf x + lastOf x)
-type-counted k x n P h = go (eqb (groupOf x) 0) refl
-  where
-    go : (t : Bool) → eqb (groupOf x) 0 ≡ t → choose t (countOf x) (n / 2) ≡ firstOf x + (timesIn x n * groupOf x + lastOf x)
-    go true e =
-        let g : groupOf x ≡ 0 = eq-of e in
-        let c = P .count ∙ type-first k in
-        let f = P .first in
-        let l = P .last ∙ no-last k in
-        let z : firstOf x + (timesIn x n * groupOf x + lastOf x) ≡ firstOf x + (timesIn x n * 0 + lastOf x) = ap (λ m. firstOf x + (timesIn x n * m + lastOf x)) g in
-        omega arith
-    go false e =
-        let y : n + 4 - 4 ≡ n = omega arith in
-        let z : n + 4 ≡ 4 + 2 * (firstOf x + (timesIn x n * groupOf x + lastOf x)) = rw y at (fits-exact x (n + 4) e h) in
-        omega arith
+type-counted k x n P h = by-choice (λ z. z ≡ firstOf x + (timesIn x n * groupOf x + lastOf x)) (eqb (groupOf x) 0)
+    (λ e.
+    let g : groupOf x ≡ 0 = eq-of e in
+    let c = P .count ∙ type-first k in
+    let f = P .first in
+    let l = P .last ∙ no-last k in
+    let z : firstOf x + (timesIn x n * groupOf x + lastOf x) ≡ firstOf x + (timesIn x n * 0 + lastOf x) = ap (λ m. firstOf x + (timesIn x n * m + lastOf x)) g in
+    omega arith)
+    λ e.
+    let y : n + 4 - 4 ≡ n = omega arith in
+    let z : n + 4 ≡ 4 + 2 * (firstOf x + (timesIn x n * groupOf x + lastOf x)) = rw y at (fits-exact x (n + 4) e h) in
+    omega arith
 
 module _ (fs : List ℕ) (n : Counts) (S : Few n) where
   -- A type or a domain in its range is below 256.

@@ -29,8 +29,8 @@ use Rattle.read_records.specs.Heads.{IsWhole, fieldsAt, fieldIn}
 use Rattle.read_records.specs.Descriptors.{descriptorKind, Describes}
 use Rattle.read_records.proofs.Descriptors.{same-lists, same-fields, same-descriptor}
 use Rattle.read_records.proofs.Parts.{bytes-length, field-is}
-use Rattle.check_layout.specs.NewTypes.{newDescriptor, sameFields, newObject, newType}
-use Rattle.check_layout.specs.Tables.{layoutOf, Tables, Reached, Placed}
+use Rattle.check_repeats.specs.NewTypes.{isObject, sameFields, equalType, newType, Placed}
+use Rattle.check_layout.specs.Tables.{layoutOf, Tables, Reached}
 use Rattle.check_layout.proofs.Sections.{all-places}
 use Rattle.check_layout.proofs.Kept.{type-count}
 
@@ -101,6 +101,10 @@ every-alone k = at-type alone refl k
 no-group : (k : TypeKind) → eqb (typeRow k .number) (typeRow TypeKind.obj .number) ≡ false → length (typeRow k .group) ≡ 0
 no-group k h = eq-of (or-else (eqb (typeRow k .number) (typeRow TypeKind.obj .number)) (eqb (length (typeRow k .group)) 0) (every-alone k) (λ z. no-path (sym z ∙ h)))
 
+and-true : (a : Bool) → (a && true) ≡ a
+and-true true = refl
+and-true false = refl
+
 and-same : (a b c : Bool) → (a ≡ true → b ≡ c) → (a && b) ≡ (a && c)
 and-same true b c h = h refl
 and-same false b c h = refl
@@ -139,15 +143,14 @@ module _ {b : List ℕ} {n : Counts} {ds ts ks es : List ℕ} (T : Tables b n ds
           ∙ (fields-same b o (typePlace L i) (subst (λ j. Stands b (typeRow j) o) is-object S) (subst (λ j. Stands b (typeRow j) (typePlace L i)) (also i l (eq-of h)) (good .types i l .is .stands))
           ∙ ap (λ p. sameFields (fieldsAt b o) (fieldsAt b p)) (place i (omega arith)))
 
-    pub new-law : isNew (type k) o L ≡ newType b (fieldsAt b o) (n .types) ts ks x
-    new-law = go (eqb (descriptorKind x) object) refl
+    type-same : (i : ℕ) → i < length (L .types) → sameType b (typeRow k) o (typePlace L i) ≡ equalType b (fieldsAt b o) ts ks x i
+    type-same i l = go (isObject x) refl
       where
-        alike : ℕ → Bool
-        alike i = not (eqb x (getD ks i 0) && sameFields (fieldsAt b o) (fieldsAt b (getD ts i 0)))
+        go : (t : Bool) → isObject x ≡ t → sameType b (typeRow k) o (typePlace L i) ≡ (eqb x (getD ks i 0) && choose t (sameFields (fieldsAt b o) (fieldsAt b (getD ts i 0))) true)
+        go true q = object-same (eq-of q) i l
+        go false q = same-descriptor b o (typePlace L i) k e (no-group k (ap (λ m. eqb m object) (sym descriptor-number) ∙ q)) x (getD ks i 0) X (T .described .at i l) ∙ sym (and-true (eqb x (getD ks i 0)))
 
-        go : (t : Bool) → eqb (descriptorKind x) object ≡ t → isNew (type k) o L ≡ choose t (newObject b (fieldsAt b o) (n .types) ts ks x) (newDescriptor (n .types) ks x)
-        go true q = all-places _ (L .types) alike (λ i l. ap not (object-same (eq-of q) i l)) ∙ ap (λ m. allBelow m alike) (type-count T)
-        go false q =
-            all-places _ (L .types) (λ i. not (eqb x (getD ks i 0)))
-            (λ i l. ap not (same-descriptor b o (typePlace L i) k e (no-group k (ap (λ m. eqb m object) (sym descriptor-number) ∙ q)) x (getD ks i 0) X (T .described .at i l)))
-            ∙ ap (λ m. newDescriptor m ks x) (type-count T)
+    pub new-law : isNew (type k) o L ≡ newType b (fieldsAt b o) (n .types) ts ks x
+    new-law =
+        let other : ℕ → Bool = λ i. not (equalType b (fieldsAt b o) ts ks x i) in
+        all-places _ (L .types) other (λ i l. ap not (type-same i l)) ∙ ap (λ m. allBelow m other) (type-count T)

@@ -3,7 +3,7 @@ use Prim.Native.Nat.{ℕ, zero, suc, _+_, _-_, _*_, _/_, _≤_, _<_}
 use native.Mathlib.Omega.{arith}
 use native.Mathlib.Nat.{suc-mul}
 use mathlib.Core.Path.{_≡_, refl, sym, ap, _∙_}
-use mathlib.Core.Bool.{Bool, true, false, _&&_, and-true, and-assoc}
+use mathlib.Core.Bool.{Bool, true, _&&_, and-true, and-assoc}
 use mathlib.Core.List.{List, [], _∷_, _++_, append-nil, append-assoc}
 use lib.ListN.{length}
 use lib.Dec.{ltb, leb, leb·suc-suc}
@@ -11,7 +11,7 @@ use Rattle.image.specs.Bytes.{words, numberAt, fieldAt}
 use Rattle.image.specs.Kinds.{in-domains, in-operations, in-truths, any-number, Field, a-type, own, a-term, an-entry, Row, rowOf, again}
 use Rattle.image.specs.Records.{Layout, kindAt, fieldsAt}
 use Rattle.image.specs.Layout.{within, allWithin}
-use Rattle.laws.proofs.Booleans.{lt-of, ge-of}
+use Rattle.laws.proofs.Booleans.{lt-of, ge-of, by-test}
 use Rattle.read_records.specs.declared.numbers.Counts.{Counts}
 use Rattle.read_records.specs.Codes.{classNumber, classNumbers}
 use Rattle.read_records.specs.Heads.{fieldBytes, fieldIn}
@@ -105,11 +105,9 @@ module _ (L : Layout) (n : Counts) (types : length (L .types) ≡ n .types) (dom
 -- The descriptor.
 module _ (b : List ℕ) (o n : ℕ) where
   field-part : (q i : ℕ) → 4 + 2 * q ≤ n → q ≡ length (fieldsAt b o (rowOf (kindAt b o))) → fieldFrom (fieldBytes b o n) q i ≡ fieldOr0 b o i
-  field-part q i h e = go (ltb i q) refl
-    where
-      go : (t : Bool) → ltb i q ≡ t → fieldFrom (fieldBytes b o n) q i ≡ fieldOr0 b o i
-      go true t = let l : i < q = lt-of t in simp t (field-is b o n i (omega arith) ∙ sym (has-field b o i (omega arith)))
-      go false t = let l : q ≤ i = ge-of t in simp t (sym (no-field b o i (omega arith)))
+  field-part q i h e = by-test (ltb i q)
+      (λ t. let l : i < q = lt-of t in simp t (field-is b o n i (omega arith) ∙ sym (has-field b o i (omega arith))))
+      λ t. let l : q ≤ i = ge-of t in simp t (sym (no-field b o i (omega arith)))
 
   pub descriptor-part : (q k x : ℕ) → 4 + 2 * q ≤ n → q ≡ length (fieldsAt b o (rowOf (kindAt b o))) → k ≡ numberAt b o → DescriptorFrom (fieldBytes b o n) q k x → Describes b o x
   descriptor-part q k x h e d K =

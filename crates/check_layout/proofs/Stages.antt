@@ -1,8 +1,7 @@
 -- The loop over the records: its stages, and how it ends.
 use Prim.Native.Nat.{ℕ, _+_, _≤_, _<_}
 use native.Mathlib.Omega.{arith}
-use mathlib.Core.Path.{_≡_, refl, sym, ap, _∙_}
-use mathlib.Core.Bool.{Bool, true, false}
+use mathlib.Core.Path.{_≡_, sym, ap, _∙_}
 use lib.Dec.{ltb}
 use mathlib.Core.List.{List}
 use mathlib.Core.Option.{some}
@@ -11,35 +10,32 @@ use Rattle.image.specs.declared.Refusal.{Refusal}
 use Rattle.image.specs.Limits.{termLimit}
 use Rattle.image.specs.Records.{Layout}
 use Rattle.image.specs.Layout.{layout}
-use Rattle.laws.proofs.Booleans.{no-path, lt-of, ge-of}
+use Rattle.laws.proofs.Booleans.{no-path, lt-of, ge-of, by-test}
 use Rattle.read_records.specs.declared.numbers.Counts.{Counts}
 use Rattle.read_records.specs.Counts.{noRecords}
 use Rattle.read_records.specs.declared.reader.Head.{Head}
 use Rattle.read_records.specs.Heads.{headAt}
 use Rattle.read_records.proofs.Heads.{at-end, whole-of, broken-of}
 use Rattle.check_uses.specs.Marks.{marksOf}
+use Rattle.check_repeats.specs.Keys.{filterLength, Filters}
 use Rattle.check_layout.specs.declared.Scan.{Scan}
 use Rattle.check_layout.specs.declared.Entry.{Entry}
-use Rattle.check_layout.specs.Tables.{layoutOf, remainders, Filters, entryOf, countsBehind, Marks, Entered, Lent, Reached, scanOf, endOf, Holds, ScannedWith}
+use Rattle.check_layout.specs.Tables.{layoutOf, entryOf, countsBehind, Marks, Entered, Lent, Reached, scanOf, endOf, Holds, ScannedWith}
 use Rattle.check_layout.proofs.Going.{Going, going-start, going-end, going-stop, going-on, broken, told-fault, told-none}
 
 -- A refusal is told only before the end.
 refused-inside : (b : List ℕ) (o : ℕ) (r : Refusal) → headAt b o ≡ Head.Refused r → o < length b
-refused-inside b o r h = go (ltb o (length b)) refl
-  where
-    go : (t : Bool) → ltb o (length b) ≡ t → o < length b
-    go true e = lt-of e
-    go false e = let z : Head.End ≡ Head.Refused r = at-end b o (ge-of e) ∙ h in no-path cc
+refused-inside b o r h = by-test (ltb o (length b)) (λ e. lt-of e) λ e. let z : Head.End ≡ Head.Refused r = at-end b o (ge-of e) ∙ h in no-path cc
 
 -- The records before o are in the tables, and the walk is as far.
-pub record Stage (b : List ℕ) (o : ℕ) (n : Counts) (ds ts ks : List ℕ) (rs : List Bool) (es ms : List ℕ) : Type 0 where
+pub record Stage (b : List ℕ) (o : ℕ) (n : Counts) (ds ts ks rs es ms : List ℕ) : Type 0 where
   pub inside : o ≤ length b
   pub holds : Holds b o n ds ts ks es
-  pub filter : Filters (n .types) ks rs
+  pub filter : Filters b (n .types) ts ks rs
   pub marks : Marks b n ds ts es ms
   pub going : Going b o (layoutOf b n ds ts es)
 
-pub start-stage : {b kinds ds ts ks : List ℕ} {rs : List Bool} {es ms : List ℕ} → Lent b kinds ds ts ks es → remainders ≤ length rs → ms ≡ replicate termLimit 0 → Stage b 0 noRecords ds ts ks rs es ms
+pub start-stage : {b kinds ds ts ks rs es ms : List ℕ} → Lent b kinds ds ts ks es → filterLength ≤ length rs → ms ≡ replicate termLimit 0 → Stage b 0 noRecords ds ts ks rs es ms
 unfolding marksOf
 start-stage {b} l r m =
     record {
@@ -54,12 +50,12 @@ start-stage {b} l r m =
                   described = record { at = λ t h. absurd (omega arith) };
                 };
           };
-      filter = record { places = r; at = λ i h. absurd (omega arith) };
+      filter = record { filled = record { places = r; few = omega arith; at = λ i h. absurd (omega arith) }; keys = λ i h. absurd (omega arith) };
       marks = m;
       going = going-start b;
     }
 
-module _ {b : List ℕ} {o : ℕ} {n : Counts} {ds ts ks : List ℕ} {rs : List Bool} {es ms : List ℕ} (S : Stage b o n ds ts ks rs es ms) where
+module _ {b : List ℕ} {o : ℕ} {n : Counts} {ds ts ks rs es ms : List ℕ} (S : Stage b o n ds ts ks rs es ms) where
   abbrev L : Layout
   L = layoutOf b n ds ts es
 
@@ -80,7 +76,7 @@ module _ {b : List ℕ} {o : ℕ} {n : Counts} {ds ts ks : List ℕ} {rs : List 
       let e = going-stop o L (S .going) l r (broken o L (z .0) ∙ ap some (sym (z .1))) in
       scanned (Scan.Stopped r o) (sym e) (λ m d. no-path cc) (ap (λ x. endOf x b) e)
 
-  module _ (l : o < length b) {t : Entry} {ds′ ts′ ks′ : List ℕ} {rs′ : List Bool} {es′ ms′ : List ℕ} (E : Entered t b o n ds ts es ds′ ts′ ks′ rs′ es′ ms′) where
+  module _ (l : o < length b) {t : Entry} {ds′ ts′ ks′ rs′ es′ ms′ : List ℕ} (E : Entered t b o n ds ts es ds′ ts′ ks′ rs′ es′ ms′) where
     pub refuses : {r : Refusal} → t ≡ Entry.Fault r → ScannedWith (Scan.Stopped r o) b ds′ ts′ ks′ rs′ es′ ms′
     refuses {r} d =
         let a = ap (λ x. entryOf x b o ds′ ts′ es′) (sym d) ∙ E .answer in

@@ -1,3 +1,2 @@
--- What the functions of the layout are proved equal to: 8 as tests on numbers, and the tables of records as the definition's layout.
-pub mod NewTypes
+-- What the functions of the layout are proved equal to: the tables of records as the definition's layout.
 pub mod Tables

@@ -1,7 +1,6 @@
 -- The tables of records as the definition's layout (document 01, "The image"), and what each function does to them, record by record (document 01, "Turned back at the gate", refusals 2 to 8).
-use Prim.Native.Nat.{ℕ, _+_, _%_, _≤_, _<_}
+use Prim.Native.Nat.{ℕ, _+_, _≤_, _<_}
 use mathlib.Core.Path.{_≡_}
-use mathlib.Core.Bool.{Bool, true, false}
 use mathlib.Core.List.{List, [], _∷_}
 use mathlib.Core.Option.{Option, none, some}
 use lib.ListN.{length, getD, take, set}
@@ -17,14 +16,15 @@ use Rattle.calculus.specs.Combinators.{choose}
 use Rattle.read_records.specs.declared.numbers.Counts.{Counts}
 use Rattle.read_records.specs.declared.reader.Head.{Head}
 use Rattle.read_records.specs.Counts.{Few, withTerm}
-use Rattle.read_records.specs.Heads.{headAt, fieldBytes, IsWhole, childrenOf}
+use Rattle.read_records.specs.Heads.{headAt, fieldBytes, childrenOf}
 use Rattle.read_records.specs.Codes.{kindCodes}
 use Rattle.read_records.specs.Descriptors.{Describes}
 use Rattle.check_uses.specs.Marks.{entered, marksOf}
 use Rattle.check_layout.specs.declared.Scan.{Scan}
 use Rattle.check_layout.specs.declared.Entry.{Entry}
 use Rattle.check_ranges.specs.declared.faults.Tested.{Tested}
-use Rattle.check_layout.specs.NewTypes.{newType}
+use Rattle.check_repeats.specs.NewTypes.{newType}
+use Rattle.check_repeats.specs.Keys.{keyOf, withKey, Filters}
 use Rattle.check_ranges.specs.Numbers.{toldOf, numberTests}
 
 -- The layout of an image b of which the tables of domains, types and terms hold so many records.
@@ -47,24 +47,12 @@ pub record Tables (b : List ℕ) (n : Counts) (ds ts ks es : List ℕ) : Type 0 
   pub long : Long ds ts ks es
   pub described : Described (layoutOf b n ds ts es) ks
 
--- The filter of the first n descriptors: true at the remainder of each, so that a descriptor with another remainder is none of them.
-abbrev pub remainders : ℕ
-remainders = 251
-
-pub record Filters (n : ℕ) (ks : List ℕ) (rs : List Bool) : Type 0 where
-  pub places : remainders ≤ length rs
-  pub at : (i : ℕ) → i < n → getD rs (getD ks i 0 % remainders) false ≡ true
-
--- A whole record stands at each of the first n offsets.
-pub record Placed (b : List ℕ) (n : ℕ) (ts : List ℕ) : Type 0 where
-  pub at : (i : ℕ) → i < n → IsWhole b (getD ts i 0)
-
--- Type t, with the fields fs, is put into the tables, with the offset o and the descriptor x, unless it is there already.
-pub record PutType (r : Tested) (b fs : List ℕ) (o x t : ℕ) (ts ks : List ℕ) (rs : List Bool) (ts′ ks′ : List ℕ) (rs′ : List Bool) : Type 0 where
+-- Type t, with the fields fs, is put into the tables, with the offset o, the descriptor x and its key, unless it is there already.
+pub record PutType (r : Tested) (b fs : List ℕ) (o x t : ℕ) (ts ks rs ts′ ks′ rs′ : List ℕ) : Type 0 where
   pub answer : toldOf r ≡ firstFault ((Refusal.RepeatedType, newType b fs t ts ks x) ∷ [])
   pub types : ts′ ≡ choose (newType b fs t ts ks x) (set ts t o) ts
   pub descriptors : ks′ ≡ choose (newType b fs t ts ks x) (set ks t x) ks
-  pub filter : rs′ ≡ choose (newType b fs t ts ks x) (set rs (x % remainders) true) rs
+  pub filter : rs′ ≡ choose (newType b fs t ts ks x) (withKey rs t (keyOf x fs)) rs
 
 -- What becomes of a record at o: refused, or one more in the layout, which is L then.
 abbrev pub entering : Option Refusal → ℕ → Layout → Image.Scan
@@ -90,29 +78,29 @@ abbrev pub Marks : List ℕ → Counts → List ℕ → List ℕ → List ℕ �
 Marks b n ds ts es ms = ms ≡ marksOf (layoutOf b n ds ts es) (n .terms)
 
 -- A record of q bytes and of kind k at o, in an image b: its fields are fs.
-pub record Entering (b fs kinds : List ℕ) (o q k : ℕ) (n : Counts) (ds ts ks : List ℕ) (rs : List Bool) (es ms : List ℕ) : Type 0 where
+pub record Entering (b fs kinds : List ℕ) (o q k : ℕ) (n : Counts) (ds ts ks rs es ms : List ℕ) : Type 0 where
   pub head : headAt b o ≡ Head.Record q k
   pub fields : fs ≡ fieldBytes b o q
   pub short : length b ≤ imageLimit
   pub codes : kinds ≡ kindCodes
   pub tables : Tables b n ds ts ks es
-  pub filter : Filters (n .types) ks rs
+  pub filter : Filters b (n .types) ts ks rs
   pub reached : Reached b o (layoutOf b n ds ts es)
   pub marks : Marks b n ds ts es ms
 
-pub record Entered (r : Entry) (b : List ℕ) (o : ℕ) (n : Counts) (ds ts es ds′ ts′ ks′ : List ℕ) (rs′ : List Bool) (es′ ms′ : List ℕ) : Type 0 where
+pub record Entered (r : Entry) (b : List ℕ) (o : ℕ) (n : Counts) (ds ts es ds′ ts′ ks′ rs′ es′ ms′ : List ℕ) : Type 0 where
   pub answer : entryOf r b o ds′ ts′ es′ ≡ entering (firstFault (tests (layoutOf b n ds ts es) o)) o (add (kindAt b o) o (layoutOf b n ds ts es))
   pub kept : (q : Refusal) → r ≡ Entry.Fault q → layoutOf b n ds′ ts′ es′ ≡ layoutOf b n ds ts es
   pub tables : Tables b (countsBehind r n) ds′ ts′ ks′ es′
-  pub filter : Filters (countsBehind r n .types) ks′ rs′
+  pub filter : Filters b (countsBehind r n .types) ts′ ks′ rs′
   pub marks : Marks b (countsBehind r n) ds′ ts′ es′ ms′
 
 -- What enter is lent, and what it does.
-pub record Enterable (b fs kinds : List ℕ) (o k : ℕ) (n : Counts) (ds ts ks : List ℕ) (rs : List Bool) (es ms : List ℕ) : Type 0 where
+pub record Enterable (b fs kinds : List ℕ) (o k : ℕ) (n : Counts) (ds ts ks rs es ms : List ℕ) : Type 0 where
   pub len : ℕ
   pub is : Entering b fs kinds o len k n ds ts ks rs es ms
 
-pub record Enters (r : Entry) (b fs kinds : List ℕ) (o k : ℕ) (n : Counts) (ds ts ks : List ℕ) (rs : List Bool) (es ms ds′ ts′ ks′ : List ℕ) (rs′ : List Bool) (es′ ms′ : List ℕ) : Type 0 where
+pub record Enters (r : Entry) (b fs kinds : List ℕ) (o k : ℕ) (n : Counts) (ds ts ks rs es ms ds′ ts′ ks′ rs′ es′ ms′ : List ℕ) : Type 0 where
   pub entered : (q : ℕ) → Entering b fs kinds o q k n ds ts ks rs es ms → Entered r b o n ds ts es ds′ ts′ ks′ rs′ es′ ms′
 
 -- The answer to a term that 4 to 7 refuse or not, and what stands behind it: the old or the new.
@@ -158,7 +146,7 @@ pub record Scanned (r : Scan) (b ds ts ks es ms : List ℕ) : Type 0 where
   pub holds : Holds b (endOf (layout b) b) counts ds ts ks es
   pub marks : Marks b counts ds ts es ms
 
--- The same of a scan with a filter, which then has the descriptors of the types.
-pub record ScannedWith (r : Scan) (b ds ts ks : List ℕ) (rs : List Bool) (es ms : List ℕ) : Type 0 where
+-- The same of a scan with a filter, which then has the keys of the types.
+pub record ScannedWith (r : Scan) (b ds ts ks rs es ms : List ℕ) : Type 0 where
   pub scanned : Scanned r b ds ts ks es ms
-  pub filter : Filters (scanned .counts .types) ks rs
+  pub filter : Filters b (scanned .counts .types) ts ks rs

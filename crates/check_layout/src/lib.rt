@@ -1,15 +1,16 @@
 // An inner crate: the refusals 2 to 8 (document 01, "Turned back at the gate"), record by record, front to back, and the
 // tables of the records that are not refused.
+use check_repeats::keys::FILTER_LENGTH;
 use read_records::numbers::Counts;
 ghost use mathlib.Core.Path.{_≡_};
 ghost use Prim.Native.Nat.{_≤_, _<_};
 ghost use lib.ListN.{length, replicate};
 ghost use Rattle.image.specs.Limits.{termLimit};
 ghost use Rattle.read_records.specs.Counts.{Few};
+ghost use Rattle.check_repeats.specs.Keys.{filterLength};
 ghost use Rattle.check_ranges.specs.Terms.{TermFields};
-ghost use Rattle.check_layout.specs.Tables.{remainders, Lent, Scanned, ScannedWith, Enterable, Enters, EntersTerm};
+ghost use Rattle.check_layout.specs.Tables.{Lent, Scanned, ScannedWith, Enterable, Enters, EntersTerm};
 
-pub mod new_types;
 pub mod tables;
 
 // Refused, at a record's offset; or all records are in the tables, so many of each section.
@@ -46,7 +47,8 @@ fn enter_term(
     }
 }
 
-// One record of the image: 3 to 8, and its place in its table. It is lent the record's fields.
+// One record of the image: 3 to 8, and its place in its table. It is lent the record's fields. A term's code is asked for first,
+// since most records are terms: no such code is 0.
 fn enter(
     image: &[u8],
     fields: &[u8],
@@ -57,7 +59,7 @@ fn enter(
     doms: &mut [u16],
     types: &mut [u16],
     descriptors: &mut [u32],
-    filter: &mut [bool],
+    filter: &mut [u32],
     terms: &mut [u16],
     marks: &mut [u8],
 ) -> Entry
@@ -65,11 +67,11 @@ fn enter(
     ensures { λ r. ⌜ Enters r (now (image .entry)) (now (fields .entry)) (now (kinds .entry)) at kind counts (now (doms .entry)) (now (types .entry)) (now (descriptors .entry)) (now (filter .entry)) (now (terms .entry)) (now (marks .entry)) (now (doms .exit)) (now (types .exit)) (now (descriptors .exit)) (now (filter .exit)) (now (terms .exit)) (now (marks .exit)) ⌝ }
 {
     let code = read_records::table::code_of(kinds, kind);
-    if code == 0 {
-        return Entry::Fault(image::Refusal::UnknownKind);
-    }
     if read_records::table::is_term(code) {
         return enter_term(fields, code, at, counts, terms, marks);
+    }
+    if code == 0 {
+        return Entry::Fault(image::Refusal::UnknownKind);
     }
     let tested = check_ranges::faults::first_fault(fields, code, counts);
     match tested {
@@ -103,7 +105,7 @@ fn enter(
     Entry::Laid(counts.with_domain())
 }
 
-// The scan with a filter of descriptors, which may hold anything at first: with all false the fewest descriptors are compared.
+// The scan with a filter of keys, which may hold anything at first: with zeros the fewest keys are compared.
 // Its loop keeps the walk over the image, which hands each record's fields on to enter. So its proof is by hand.
 fn scan_with(
     image: &[u8],
@@ -111,11 +113,11 @@ fn scan_with(
     doms: &mut [u16],
     types: &mut [u16],
     descriptors: &mut [u32],
-    filter: &mut [bool],
+    filter: &mut [u32],
     terms: &mut [u16],
     marks: &mut [u8],
 ) -> Scan
-    requires { ⌜ Lent (now image) (now kinds) (now doms) (now types) (now descriptors) (now terms) × (remainders ≤ length (now filter)) × (now marks ≡ replicate termLimit 0) ⌝ }
+    requires { ⌜ Lent (now image) (now kinds) (now doms) (now types) (now descriptors) (now terms) × (filterLength ≤ length (now filter)) × (now marks ≡ replicate termLimit 0) ⌝ }
     ensures { λ r. ⌜ ScannedWith r (now (image .entry)) (now (doms .exit)) (now (types .exit)) (now (descriptors .exit)) (now (filter .exit)) (now (terms .exit)) (now (marks .exit)) ⌝ }
 {
     let mut walk = read_records::reader::new(image, 0);
@@ -171,7 +173,7 @@ pub fn scan_records(
     requires { ⌜ Lent (now image) (now kinds) (now doms) (now types) (now descriptors) (now terms) × (now marks ≡ replicate termLimit 0) ⌝ }
     ensures { λ r. ⌜ Scanned r (now (image .entry)) (now (doms .exit)) (now (types .exit)) (now (descriptors .exit)) (now (terms .exit)) (now (marks .exit)) ⌝ }
 {
-    let mut filter = [false; 256];
+    let mut filter = [0u32; FILTER_LENGTH];
     scan_with(
         image,
         kinds,

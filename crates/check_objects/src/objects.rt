@@ -7,12 +7,11 @@ use read_records::kinds::OBJECT_TYPE;
 use read_records::numbers::DomainNo;
 use read_records::numbers::TypeNo;
 use read_records::numbers::type_descriptor;
-use read_records::numbers::type_offset;
-use read_records::reader::fields_at;
 use read_terms::terms::bodies_in;
 use read_terms::terms::own_descriptor;
 use read_terms::terms::own_type;
 use read_terms::terms::type_at_field;
+use read_terms::type_records::type_fields;
 use read_terms::types::is_kind;
 use read_terms::types::same_domain;
 use read_terms::types::same_type;
@@ -23,8 +22,8 @@ ghost use Prim.Native.Nat.{ℕ, _+_, _*_, _<_};
 ghost use lib.ListN.{length};
 ghost use Rattle.image.specs.Layout.{recordsOf};
 ghost use Rattle.image.specs.Kinds.{TermKind};
-ghost use Rattle.image.specs.Types.{typePlace, typeField, methodCount};
-ghost use Rattle.read_records.specs.Heads.{fieldsAt, fieldIn};
+ghost use Rattle.image.specs.Types.{typeField, methodCount};
+ghost use Rattle.read_records.specs.Heads.{fieldIn};
 ghost use Rattle.verdict.specs.Settings.{Setting};
 ghost use Rattle.verdict.specs.Rules.{bodiesFit};
 ghost use Rattle.verdict.specs.Check.{describe, described};
@@ -32,14 +31,6 @@ ghost use Rattle.read_terms.specs.Lent.{Terms, Types, Lent, TypeOffsets, IsType
 ghost use Rattle.read_terms.specs.Fields.{countIn, typesIn, Typed, AtField, Bodies};
 ghost use Rattle.check_rules.specs.Rules.{ruleIn};
 ghost use Rattle.check_rules.specs.Judged.{judged, callFits};
-
-// The fields of a type.
-fn type_fields<'a>(image: &'a [u8], types: &[u16], t: TypeNo) -> &'a [u8]
-    requires { ⌜ TypeOffsets (now image) (now types) × IsType (now image) (t .0) ⌝ }
-    ensures { λ r. ⌜ now r ≡ fieldsAt (now (image .entry)) (typePlace (recordsOf (now (image .entry))) (t .0)) ⌝ }
-{
-    fields_at(image, type_offset(types, t))
-}
 
 // How many methods an object's type has: each has a domain and a type.
 fn method_count(image: &[u8], types: &[u16], t: TypeNo) -> usize

@@ -87,7 +87,7 @@ fn entry_fits(image: &[u8], terms: &[u16], descriptors: &[u32], entry: u16) -> b
     is_kind(type_descriptor(descriptors, pointcut), POINTCUT_TYPE)
 }
 
-// Each entry does.
+// Each entry is 0 or names a pointcut.
 fn entries_fit(image: &[u8], terms: &[u16], descriptors: &[u32], fields: &[u8]) -> bool
     requires { ⌜ Lent (now image) (now terms) (now descriptors) × Entries (now image) (now fields) ⌝ }
     ensures { λ r. ⌜ r ≡ allOf (cutOf (recordsOf (now (image .entry))) (now (descriptors .entry))) (entryTerms (now (fields .entry))) ⌝ }

@@ -4,4 +4,3 @@ pub mod Lengths
 pub mod RangeLoops
 pub mod Frequent
 pub mod Taken
-pub mod Skipped

@@ -14,18 +14,18 @@ use Rattle.read_records.specs.declared.numbers.Counts.{Counts}
 use Rattle.check_ranges.specs.declared.faults.Tested.{Tested}
 use Rattle.check_ranges.specs.Ranges.{rangesFrom, groupsFrom, classesPast}
 
--- 4: a length; the group stands as often as it says, and without one there may be more bytes than the known fields take (card 1).
+-- 4: whether n is a length for the code x. With a group, the length says how often the group stands; without one, a record may be longer than its known fields (card 1).
 abbrev pub lengthFits : ℕ → ℕ → Bool
 lengthFits x n =
     let c : ℕ = timesIn x (n - 4) in
     let m : ℕ = 4 + 2 * (firstOf x + (c * groupOf x + lastOf x)) in
     all (leb (leastOf x) c ∷ leb c (mostOf x) ∷ choose (eqb (groupOf x) 0) (leb m n) (eqb n m) ∷ [])
 
--- So many bytes are the fields of the group, each time that it stands more often than it must.
+-- Whether n bytes behind the least length hold the group a whole number of times, and not too often.
 abbrev pub groupsFill : ℕ → ℕ → Bool
 groupsFill x n = eqb (n % (2 * groupOf x)) 0 && leb (n / (2 * groupOf x)) (groupLimit - leastOf x)
 
--- n bytes hold all known fields of a record, the group standing as often as they say.
+-- n bytes hold all known fields of a record, where n says how often the group stands.
 abbrev pub Held : ℕ → ℕ → Type 0
 Held x n = 2 * (firstOf x + (timesIn x n * groupOf x + lastOf x)) ≤ n
 

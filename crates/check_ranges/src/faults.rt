@@ -1,4 +1,8 @@
 // The refusals 4 to 6, each a function, and 4 to 7 in their order.
+use image::DOMAIN_LIMIT;
+use image::POINTCUT_LIMIT;
+use image::TERM_LIMIT;
+use image::TYPE_LIMIT;
 use laws::both;
 use read_records::numbers::Counts;
 use read_records::table::TYPES;
@@ -9,14 +13,8 @@ ghost use Rattle.laws.specs.Tests.{firstFault};
 ghost use Rattle.read_records.specs.Codes.{groupOf, sectionOf, Sized};
 ghost use Rattle.check_ranges.specs.Numbers.{groupsFill, lengthFits, orderFits, capacityFits, numberTests, toldOf};
 
-// How often a group stands, at most; and how many records a section may have.
-const GROUP_LIMIT: usize = 8;
-
-const DOMAIN_LIMIT: usize = 16;
-
-const TYPE_LIMIT: usize = 128;
-
-const TERM_LIMIT: usize = 1024;
+// How often a group stands, at most: labels, methods and entries have the same limit.
+const GROUP_LIMIT: usize = POINTCUT_LIMIT;
 
 pub enum Tested {
     Fault(image::Refusal),

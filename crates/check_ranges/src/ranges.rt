@@ -3,6 +3,7 @@ use check_fields::below;
 use check_fields::names_domain;
 use check_fields::names_term;
 use check_fields::names_type;
+use image::OPERATION_COUNT;
 use laws::both;
 use read_records::numbers::Counts;
 use read_records::table::CLASS_DOMAIN;
@@ -32,7 +33,7 @@ ghost use Rattle.check_ranges.specs.Ranges.{inClass, rangesFrom, groupsF
 ghost use Rattle.check_ranges.specs.Numbers.{Held, rangeFits};
 
 // Operations are 0 to 3, truths 0 and 1.
-pub const OPERATIONS: u16 = 4;
+pub const OPERATIONS: u16 = OPERATION_COUNT as u16;
 
 const TRUTHS: u16 = 2;
 

@@ -4,4 +4,3 @@ pub mod Scopes
 pub mod OnDescriptors
 pub mod Methods
 pub mod Verdict
-pub mod Skipped

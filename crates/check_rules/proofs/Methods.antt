@@ -28,75 +28,62 @@ use Rattle.verdict.specs.Settings.{Setting}
 use Rattle.verdict.specs.Rules.{Descriptor, is, bodiesFit}
 use Rattle.verdict.specs.Check.{describe, described}
 use Rattle.verdict.proofs.Methods.{method-fields}
-use Rattle.read_records.specs.Heads.{IsWhole, fieldsAt, fieldIn}
+use Rattle.read_records.specs.Heads.{fieldsAt, fieldIn}
 use Rattle.read_records.proofs.Parts.{bytes-length, field-is}
 use Rattle.read_terms.specs.Lent.{Types, TypeOffsets, IsType, IsObject}
 use Rattle.read_terms.specs.Fields.{typesIn, countIn}
 use Rattle.check_rules.specs.Rules.{ruleIn}
 use Rattle.check_rules.specs.Judged.{judged, callFits}
 use Rattle.read_terms.specs.Descriptors.{descriptorIs}
-use Rattle.read_terms.proofs.Lists.{table-long, table-at}
 use Rattle.read_terms.proofs.Descriptors.{describes}
 use Rattle.read_terms.proofs.Located.{good-of, image-is}
+use Rattle.read_terms.proofs.TypeRecords.{type-stands, type-whole}
 use Rattle.check_rules.proofs.Small.{alone, holds-first, fails-first, mistyped}
 use Rattle.check_rules.proofs.OnDescriptors.{typeAtField, types-length}
 
-module _ {b table : List ℕ} (T : TypeOffsets b table) (t : ℕ) where
+module _ {b table : List ℕ} (T : TypeOffsets b table) (t : ℕ) (O : IsObject b t) where
   abbrev L : Layout
   L = recordsOf b
 
   abbrev o : ℕ
   o = typePlace L t
 
-  pub type-in-table : IsType b t → t < length table
-  type-in-table h = let z = table-long table (L .types) (T .offsets) in omega arith
+  is-obj : typeKind L t ≡ TypeKind.obj
+  is-obj = type-kind L (good-of b (T .laid-out)) TypeKind.obj t (O .there) (O .object)
 
-  pub type-place-is : IsType b t → getD table t 0 ≡ o
-  type-place-is h = table-at table (L .types) (T .offsets) t h
+  object-stands : Stands b (typeRow TypeKind.obj) o
+  object-stands = subst (λ k. Stands b (typeRow k) o) is-obj (type-stands T (O .there))
 
-  stands : IsType b t → Stands b (typeRow (typeKind L t)) o
-  stands h = subst (λ i. Stands i (typeRow (typeKind L t)) o) (image-is b (T .laid-out)) (good-of b (T .laid-out) .types t h .is .stands)
+  fields-object : length (typeFields L t) ≡ length (Records.fieldsAt b o (typeRow TypeKind.obj))
+  fields-object =
+      words-length (L .image) _ _
+      ∙ (ap (λ i. length (Records.fieldsAt i o (typeRow (typeKind L t)))) (image-is b (T .laid-out)) ∙ ap (λ k. length (Records.fieldsAt b o (typeRow k))) is-obj)
 
-  pub type-whole : IsType b t → IsWhole b o
-  type-whole h = let S = stands h in (omega (arith, S .size), S .inside)
+  -- Two fields of two bytes each method.
+  pub method-bytes : length (fieldsAt b o) ≡ 4 * methodCount L t
+  method-bytes =
+      let S = object-stands in
+      let l = bytes-length b o (type-whole T (O .there)) in
+      let e = S .exact (omega arith) in
+      let c : length (typeFields L t) ≡ 2 * methodCount L t = method-fields L (good-of b (T .laid-out)) t (O .there) (O .object) in
+      let w = fields-object in
+      omega arith
 
-  module _ (O : IsObject b t) where
-    is-obj : typeKind L t ≡ TypeKind.obj
-    is-obj = type-kind L (good-of b (T .laid-out)) TypeKind.obj t (O .there) (O .object)
+  pub few-methods : methodCount L t ≤ methodLimit
+  few-methods =
+      let e : methodCount L t ≡ times (typeRow TypeKind.obj) (lengthAt b o) =
+      ap (λ i. times (typeRow (typeKind L t)) (lengthAt i o)) (image-is b (T .laid-out)) ∙ ap (λ k. times (typeRow k) (lengthAt b o)) is-obj in
+      rw e (object-stands .most)
 
-    object-stands : Stands b (typeRow TypeKind.obj) o
-    object-stands = subst (λ k. Stands b (typeRow k) o) is-obj (stands (O .there))
-
-    fields-object : length (typeFields L t) ≡ length (Records.fieldsAt b o (typeRow TypeKind.obj))
-    fields-object =
-        words-length (L .image) _ _
-        ∙ (ap (λ i. length (Records.fieldsAt i o (typeRow (typeKind L t)))) (image-is b (T .laid-out)) ∙ ap (λ k. length (Records.fieldsAt b o (typeRow k))) is-obj)
-
-    -- Two fields of two bytes each method.
-    pub method-bytes : length (fieldsAt b o) ≡ 4 * methodCount L t
-    method-bytes =
-        let S = object-stands in
-        let l = bytes-length b o (type-whole (O .there)) in
-        let e = S .exact (omega arith) in
-        let c : length (typeFields L t) ≡ 2 * methodCount L t = method-fields L (good-of b (T .laid-out)) t (O .there) (O .object) in
-        let w = fields-object in
-        omega arith
-
-    pub few-methods : methodCount L t ≤ methodLimit
-    few-methods =
-        let e : methodCount L t ≡ times (typeRow TypeKind.obj) (lengthAt b o) =
-        ap (λ i. times (typeRow (typeKind L t)) (lengthAt i o)) (image-is b (T .laid-out)) ∙ ap (λ k. times (typeRow k) (lengthAt b o)) is-obj in
-        rw e (object-stands .most)
-
-    pub method-field : (i : ℕ) → i < 2 * methodCount L t → fieldIn (fieldsAt b o) i ≡ typeField L t i
-    method-field i l =
-        let S = object-stands in
-        let e = S .exact (omega arith) in
-        let c : length (typeFields L t) ≡ 2 * methodCount L t = method-fields L (good-of b (T .laid-out)) t (O .there) (O .object) in
-        let w = fields-object in
-        let v = words-length (L .image) (o + 4) (length (Records.fieldsAt (L .image) o (typeRow (typeKind L t)))) in
-        field-is b o (lengthAt b o) i (omega arith)
-        ∙ (ap (λ j. fieldAt j o i) (sym (image-is b (T .laid-out))) ∙ sym (number-at (L .image) o (typeRow (typeKind L t)) i (omega arith)))
+  pub method-field : (i : ℕ) → i < 2 * methodCount L t → fieldIn (fieldsAt b o) i ≡ typeField L t i
+  method-field i l =
+      let S = object-stands in
+      let e = S .exact (omega arith) in
+      let c : length (typeFields L t) ≡ 2 * methodCount L t = method-fields L (good-of b (T .laid-out)) t (O .there) (O .object) in
+      let w = fields-object in
+      let v = words-length (L .image) (o + 4) (length (Records.fieldsAt (L .image) o (typeRow (typeKind L t)))) in
+      field-is b o (lengthAt b o) i (omega arith)
+      ∙ (ap (λ j. fieldAt j o i) (sym (image-is b (T .laid-out))) ∙ sym (number-at (L .image) o (typeRow (typeKind L t)) i (omega arith)))
 
 -- The test of the bodies, from body i on.
 module _ (L : Layout) (a : Descriptor) (ts : List ℕ) (i : ℕ) where

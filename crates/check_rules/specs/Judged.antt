@@ -25,7 +25,7 @@ judged place r = elim (firstFault (ruleFaults r)) [ some f ↦ Verdict.Refused f
 unfoldable pub ruleVerdict : Layout → Setting ℕ → ℕ → Verdict
 ruleVerdict L p n = judged (termPlace L n) (ruleAt L p n)
 
--- Of a pointcut's label, whose type is t, descriptors being the descriptors of the types by number: it is a label of a; its domain is one that d is below.
+-- Of a pointcut's label, whose type is t, where `descriptors` has the descriptors of the types by number: t is the type of labels of a; d is at or below the domain of t.
 abbrev pub labelOf : List ℕ → ℕ → ℕ → Bool
 labelOf descriptors a t = all (descriptorIs (getD descriptors t 0) TypeKind.label ∷ eqb (descriptorField0 (getD descriptors t 0)) a ∷ [])
 

@@ -6,7 +6,7 @@ ghost use mathlib.Core.List.{[], _∷_};
 ghost use Rattle.laws.specs.Tests.{all};
 ghost use Rattle.check_rules.specs.Judged.{judged};
 
-// Each of two tests; of three.
+// Both of two tests hold; all three of three.
 pub fn both(a: bool, b: bool) -> bool
     ensures { λ r. ⌜ r ≡ all (a ∷ b ∷ []) ⌝ }
 {

@@ -18,11 +18,11 @@ use Rattle.verdict.specs.Settings.{matchBinds}
 use Rattle.verdict.specs.Check.{typeNos}
 use Rattle.read_records.specs.Heads.{fieldIn}
 use Rattle.read_records.proofs.Entries.{entriesLeft, next-left}
-use Rattle.check_rules.specs.Scopes.{contextIn}
+use Rattle.check_rules.specs.Scopes.{contextIn, bindLimit}
 use Rattle.read_terms.specs.Fields.{othersIn, typesIn, firstEntry, entryCount, entryTerms}
 use Rattle.read_terms.proofs.Matches.{match-children, close-told}
 use Rattle.check_rules.proofs.OnDescriptors.{typeAtField}
-use Rattle.check_scopes.specs.Scopes.{bindLimit, valueTypes, Binds, ChildAt}
+use Rattle.check_scopes.specs.Scopes.{valueTypes, Binds, ChildAt}
 use Rattle.check_scopes.proofs.ChildSettings.{bound-context}
 
 -- What is kept of a scope is kept of its first places.

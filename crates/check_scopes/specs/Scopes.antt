@@ -1,15 +1,14 @@
 -- Where the children of a term stand (document 01, "Typing"): under which variables, in the places of a scope, and at which domain.
-use Prim.Native.Nat.{ℕ, _+_, _*_, _≤_, _<_}
+use Prim.Native.Nat.{ℕ, _+_, _≤_, _<_}
 use mathlib.Core.Path.{_≡_}
 use mathlib.Core.Bool.{Bool, true, false, _||_}
 use mathlib.Core.List.{List, [], _∷_, map, reverseAux}
 use lib.ListN.{take, length}
-use Rattle.image.specs.Limits.{depthLimit}
 use Rattle.image.specs.Kinds.{Body, here, function-body, advice-body, split-body, lower-body, method-body, match-body, TermKind, termRow, leadOf, bodies}
 use Rattle.image.specs.Records.{Layout}
 use Rattle.image.specs.Types.{typeField}
 use Rattle.verdict.specs.Check.{typeNos}
-use Rattle.check_rules.specs.Scopes.{contextIn, settingIn}
+use Rattle.check_rules.specs.Scopes.{contextIn, settingIn, bindLimit, scopeLength}
 use Rattle.read_terms.specs.Fields.{countIn, Typed, AtField, Entries}
 use Rattle.check_rules.specs.Rules.{ruleIn, settingFrom}
 
@@ -30,18 +29,14 @@ anyElsewhere (b ∷ bs) = elsewhere b || anyElsewhere bs
 abbrev pub movesChild : TermKind → Bool
 movesChild k = anyElsewhere (bodies (termRow k .first)) || anyElsewhere (bodies (termRow k .group))
 
--- The most variables that a child binds: the first branch of a match (card 6) binds a value for each entry, and the rest.
-abbrev pub bindLimit : ℕ
-bindLimit = 9
-
 -- A term of kind k, with the fields fs, has the types that its rule asks for, in the scope, at the domain c; and there is room for so many variables more.
 pub record Passed (b fs : List ℕ) (k : TermKind) (scope : List ℕ) (len c : ℕ) : Type 0 where
   pub typed : Typed b fs
   pub children : (i : ℕ) → i < countIn fs k → AtField b fs (leadOf k + i)
   pub entries : k ≡ TermKind.match → Entries b fs
   pub fits : ruleIn b fs k (settingIn scope len c) .typed ≡ true
-  pub places : length scope ≡ bindLimit * depthLimit
-  pub capacity : len + bindLimit ≤ bindLimit * depthLimit
+  pub places : length scope ≡ scopeLength
+  pub capacity : len + bindLimit ≤ scopeLength
 
 -- Its child i stands in the first m places of the scope after, at the domain d; the first places that were used are kept.
 pub record ChildAt (b fs : List ℕ) (k : TermKind) (i : ℕ) (before after : List ℕ) (len c m d : ℕ) : Type 0 where

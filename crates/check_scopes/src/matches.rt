@@ -2,6 +2,7 @@
 // under the rest of the stack if its close is 1.
 use crate::scope::Setting;
 use crate::scope::bind;
+use check_rules::leaf::SCOPE_LENGTH;
 use read_records::fields::field;
 use read_records::numbers::entry_term;
 use read_records::numbers::type_descriptor;
@@ -12,26 +13,27 @@ use read_terms::terms::stated_type;
 use read_terms::terms::type_at_field;
 use read_terms::types::first_type;
 ghost use mathlib.Core.Path.{_≡_};
-ghost use Prim.Native.Nat.{_+_, _*_, _≤_, _<_};
+ghost use Prim.Native.Nat.{_+_, _≤_, _<_};
 ghost use lib.ListN.{length};
 ghost use Rattle.image.specs.Kinds.{TermKind, an-entry};
-ghost use Rattle.image.specs.Limits.{entryLimit, depthLimit};
+ghost use Rattle.image.specs.Limits.{entryLimit};
 ghost use Rattle.image.specs.Records.{asChild};
 ghost use Rattle.image.specs.Layout.{recordsOf};
 ghost use Rattle.read_terms.specs.Lent.{Lent};
 ghost use Rattle.read_terms.specs.Fields.{entryTerms, Entries};
-ghost use Rattle.check_scopes.specs.Scopes.{bindLimit, Passed, ChildAt, valueTypes, Binds};
+ghost use Rattle.check_rules.specs.Scopes.{scopeLength};
+ghost use Rattle.check_scopes.specs.Scopes.{Passed, ChildAt, valueTypes, Binds};
 
 // An entry binds the value of the pointcut that it names; 0 binds nothing.
 fn bind_entry(
     image: &[u8],
     terms: &[u16],
     descriptors: &[u32],
-    scope: &mut [u8; 576],
+    scope: &mut [u8; SCOPE_LENGTH],
     len: usize,
     entry: u16,
 ) -> usize
-    requires { ⌜ Lent (now image) (now terms) (now descriptors) × (entry ≤ length (recordsOf (now image) .terms)) × (length (now scope) ≡ bindLimit * depthLimit) × (len < bindLimit * depthLimit) ⌝ }
+    requires { ⌜ Lent (now image) (now terms) (now descriptors) × (entry ≤ length (recordsOf (now image) .terms)) × (length (now scope) ≡ scopeLength) × (len < scopeLength) ⌝ }
     ensures { λ r. ⌜ Binds (now (scope .entry)) (now (scope .exit)) len r (valueTypes (recordsOf (now (image .entry))) (asChild an-entry entry)) ⌝ }
 {
     if entry == 0 {
@@ -46,16 +48,16 @@ fn bind_entry(
     len + 1
 }
 
-// Each entry does, left to right.
+// The same for each entry, left to right.
 fn bind_entries(
     image: &[u8],
     terms: &[u16],
     descriptors: &[u32],
-    scope: &mut [u8; 576],
+    scope: &mut [u8; SCOPE_LENGTH],
     len: usize,
     fields: &[u8],
 ) -> usize
-    requires { ⌜ Lent (now image) (now terms) (now descriptors) × Entries (now image) (now fields) × (length (now scope) ≡ bindLimit * depthLimit) × (len + entryLimit ≤ bindLimit * depthLimit) ⌝ }
+    requires { ⌜ Lent (now image) (now terms) (now descriptors) × Entries (now image) (now fields) × (length (now scope) ≡ scopeLength) × (len + entryLimit ≤ scopeLength) ⌝ }
     ensures { λ r. ⌜ Binds (now (scope .entry)) (now (scope .exit)) len r (valueTypes (recordsOf (now (image .entry))) (entryTerms (now (fields .entry)))) × (r ≤ len + entryLimit) ⌝ }
 {
     let n = entries_in(fields);
@@ -74,22 +76,23 @@ pub fn match_setting(
     image: &[u8],
     terms: &[u16],
     descriptors: &[u32],
-    scope: &mut [u8; 576],
+    scope: &mut [u8; SCOPE_LENGTH],
     p: Setting,
     fields: &[u8],
 ) -> Setting
     requires { ⌜ Lent (now image) (now terms) (now descriptors) × Passed (now image) (now fields) TermKind.match (now scope) (p .len) (p .dom .0) ⌝ }
     ensures { λ r. ⌜ ChildAt (now (image .entry)) (now (fields .entry)) TermKind.match 1 (now (scope .entry)) (now (scope .exit)) (p .len) (p .dom .0) (r .len) (r .dom .0) ⌝ }
 {
-    let stack = type_at_field(image, terms, fields, 1);
-    let used = bind_entries(image, terms, descriptors, scope, p.len, fields);
     let c = p.dom;
     if binds_rest(fields) {
+        let stack = type_at_field(image, terms, fields, 1);
+        let used = bind_entries(image, terms, descriptors, scope, p.len, fields);
         bind(scope, used, stack);
         return Setting {
             len: used + 1,
             dom: c,
         };
     }
+    let used = bind_entries(image, terms, descriptors, scope, p.len, fields);
     Setting { len: used, dom: c }
 }

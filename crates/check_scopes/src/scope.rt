@@ -2,6 +2,7 @@
 // the current domain (document 01, "Typing").
 use crate::matches::match_setting;
 use check_objects::objects::method_domain;
+use check_rules::leaf::SCOPE_LENGTH;
 use read_records::kinds;
 use read_records::numbers::DomainNo;
 use read_records::numbers::TypeNo;
@@ -19,6 +20,7 @@ ghost use lib.ListN.{length, set};
 ghost use Rattle.image.specs.Kinds.{TermKind, termRow};
 ghost use Rattle.read_terms.specs.Lent.{Types, Lent, TypeOffsets};
 ghost use Rattle.read_terms.specs.Fields.{childrenIn, countIn};
+ghost use Rattle.check_rules.specs.Scopes.{scopeLength};
 ghost use Rattle.check_scopes.specs.Scopes.{Passed, ChildAt, movesChild};
 
 // How many places of the scope are used, and the current domain.
@@ -28,8 +30,8 @@ pub struct Setting {
 }
 
 // One variable more.
-pub fn bind(scope: &mut [u8; 576], len: usize, t: TypeNo)
-    requires { ⌜ (len < 576) × (t .0 < 256) ⌝ }
+pub fn bind(scope: &mut [u8; SCOPE_LENGTH], len: usize, t: TypeNo)
+    requires { ⌜ (len < scopeLength) × (t .0 < 256) ⌝ }
     ensures { λ _. ⌜ now (scope .exit) ≡ set (now (scope .entry)) len (t .0) ⌝ }
 {
     scope[len] = t.0 as u8;
@@ -39,7 +41,7 @@ pub fn bind(scope: &mut [u8; 576], len: usize, t: TypeNo)
 fn function_setting(
     image: &[u8],
     descriptors: &[u32],
-    scope: &mut [u8; 576],
+    scope: &mut [u8; SCOPE_LENGTH],
     p: Setting,
     fields: &[u8],
 ) -> Setting
@@ -60,7 +62,7 @@ fn split_setting(
     image: &[u8],
     terms: &[u16],
     descriptors: &[u32],
-    scope: &mut [u8; 576],
+    scope: &mut [u8; SCOPE_LENGTH],
     p: Setting,
     fields: &[u8],
 ) -> Setting
@@ -84,7 +86,7 @@ fn advice_setting(
     image: &[u8],
     terms: &[u16],
     descriptors: &[u32],
-    scope: &mut [u8; 576],
+    scope: &mut [u8; SCOPE_LENGTH],
     p: Setting,
     fields: &[u8],
 ) -> Setting
@@ -102,7 +104,7 @@ fn advice_setting(
 }
 
 // The body of a lower stands at the domain in its field.
-fn lower_setting(image: &[u8], scope: &[u8; 576], p: Setting, fields: &[u8]) -> Setting
+fn lower_setting(image: &[u8], scope: &[u8; SCOPE_LENGTH], p: Setting, fields: &[u8]) -> Setting
     requires { ⌜ Passed (now image) (now fields) TermKind.lower (now scope) (p .len) (p .dom .0) ⌝ }
     ensures { λ r. ⌜ ChildAt (now (image .entry)) (now (fields .entry)) TermKind.lower 0 (now (scope .entry)) (now (scope .entry)) (p .len) (p .dom .0) (r .len) (r .dom .0) ⌝ }
 {
@@ -117,7 +119,7 @@ fn lower_setting(image: &[u8], scope: &[u8; 576], p: Setting, fields: &[u8]) -> 
 fn object_setting(
     image: &[u8],
     types: &[u16],
-    scope: &mut [u8; 576],
+    scope: &mut [u8; SCOPE_LENGTH],
     p: Setting,
     fields: &[u8],
     i: usize,
@@ -140,7 +142,7 @@ pub fn child_setting(
     types: &[u16],
     terms: &[u16],
     descriptors: &[u32],
-    scope: &mut [u8; 576],
+    scope: &mut [u8; SCOPE_LENGTH],
     p: Setting,
     kind: u16,
     fields: &[u8],

@@ -3,11 +3,11 @@ use borrow.Author.Tests.{leb-true, leb-false, le-leb, lt-leb}
 use Prim.Native.Nat.{ℕ, zero, suc, _+_, _-_, min, _≤_, _<_}
 use native.Mathlib.Omega.{arith}
 use mathlib.Core.Path.{_≡_, refl, ap, subst, sym, _∙_}
-use mathlib.Core.Bool.{Bool, true, false}
 use mathlib.Core.List.{List, [], _∷_, _++_, map}
 use lib.ListN.{length, getD, take, set, replicate, List·getD-map, List·getD-append}
 use lib.Seq.{take-set-lt}
 use lib.Dec.{leb}
+use Rattle.laws.proofs.Booleans.{by-test}
 use Rattle.image.specs.Limits.{depthLimit}
 use Rattle.image.specs.Records.{Layout}
 use Rattle.image.specs.Types.{children}
@@ -53,11 +53,9 @@ from-capped L (suc n) ds =
 
 -- Whether a depth is within the limit shows.
 within : (d : ℕ) → leb (capped d) depthLimit ≡ leb d depthLimit
-within d = go (leb d depthLimit) refl
-  where
-    go : (t : Bool) → leb d depthLimit ≡ t → leb (capped d) depthLimit ≡ leb d depthLimit
-    go true t = let z : d ≤ depthLimit = leb-true _ _ t in le-leb (capped d) depthLimit (omega arith) ∙ sym t
-    go false t = let z : depthLimit < d = leb-false _ _ t in lt-leb (capped d) depthLimit (omega arith) ∙ sym t
+within d = by-test (leb d depthLimit)
+    (λ t. let z : d ≤ depthLimit = leb-true _ _ t in le-leb (capped d) depthLimit (omega arith) ∙ sym t)
+    λ t. let z : depthLimit < d = leb-false _ _ t in lt-leb (capped d) depthLimit (omega arith) ∙ sym t
 
 map-zeros : (n : ℕ) → map capped (replicate n 0) ≡ replicate n 0
 map-zeros zero = refl

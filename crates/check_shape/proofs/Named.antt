@@ -10,7 +10,7 @@ use borrow.Author.Tests.{le-leb, lt-leb, ne-eqb, eq-eqb}
 use Rattle.image.specs.Limits.{domainLimit}
 use Rattle.laws.specs.Tests.{anyBelow}
 use Rattle.check_shape.specs.Faults.{names, gapIn, eitherRow, faultIn}
-use Rattle.laws.proofs.Booleans.{no-path}
+use Rattle.laws.proofs.Booleans.{no-path, by-test}
 use Rattle.laws.proofs.Tests.{none-below, below-none}
 use Rattle.laws.proofs.Tests.{any-none, any-more, any-same}
 use Rattle.check_shape.proofs.Orders.{row-blank}
@@ -28,11 +28,7 @@ any-or zero p q = refl
 any-or (suc n) p q = rw (any-or n p q) (or-or-or-comm (anyBelow n p) (anyBelow n q) (p n) (q n))
 
 any-here : (n i : ℕ) (p : ℕ → Bool) → i < n → p i ≡ true → anyBelow n p ≡ true
-any-here n i p l h = go (anyBelow n p) refl
-  where
-    go : (t : Bool) → anyBelow n p ≡ t → anyBelow n p ≡ true
-    go true e = e
-    go false e = no-path (sym h ∙ none-below n p e i l)
+any-here n i p l h = by-test (anyBelow n p) (λ e. e) λ e. no-path (sym h ∙ none-below n p e i l)
 
 -- One truth more of what either row names.
 pub either-more : (row a b : List Bool) (f : ℕ) → f < length row → f < length a → f < length b → take (f + 1) (set row f (getD a f false || getD b f false)) ++ eitherRow (drop (f + 1) a) (drop (f + 1) b) ≡ take f row ++ eitherRow (drop f a) (drop f b)

@@ -3,6 +3,7 @@ use crate::depths::TOO_DEEP;
 use check_uses::marks::mark_of;
 use check_uses::marks::one_more;
 use check_uses::marks::set_mark;
+use image::TERM_LIMIT;
 use read_records::numbers::TermNo;
 use read_records::numbers::term_offset;
 use verdict::Verdict;
@@ -112,6 +113,6 @@ pub fn check_depths(image: &[u8], kinds: &[u32], terms: &[u16]) -> Verdict
     requires { ⌜ (now kinds ≡ kindCodes) × Terms (now image) (now terms) × (0 < length (now terms)) ⌝ }
     ensures { λ r. ⌜ r ≡ noTermDeep (recordsOf (now (image .entry))) ⌝ }
 {
-    let mut depths = [0u8; 1024];
+    let mut depths = [0u8; TERM_LIMIT];
     check_depths_in(image, kinds, terms, &mut depths)
 }

@@ -31,8 +31,8 @@ fn none_empty(n: Counts) -> bool
     0 < n.domains && (0 < n.types && 0 < n.terms)
 }
 
-// Refusals 11 and 12, by the marks of the terms. Where each term but the root is used once, none is deeper than the root is high: so
-// the depths are only asked for where the root is too high.
+// Refusals 11 and 12, by the marks of the terms. Where each term but the root is used once, none is deeper than the root is
+// high, so the depths are worked out only if the root is too high.
 fn check_terms(image: &[u8], kinds: &[u32], terms: &[u16], marks: &[u8]) -> Verdict
     requires { ⌜ (now kinds ≡ kindCodes) × Terms (now image) (now terms) × (0 < length (now terms)) × Marked (now image) (now marks) ⌝ }
     ensures { λ r. ⌜ r ≡ termsRight (recordsOf (now (image .entry))) ⌝ }
@@ -42,7 +42,7 @@ fn check_terms(image: &[u8], kinds: &[u32], terms: &[u16], marks: &[u8]) -> Verd
     if first.0 < root.0 {
         return Verdict::Refused(Refusal::UseCount, term_offset(terms, first));
     }
-    if mark_of(marks, root) <= depths::DEPTH_LIMIT {
+    if mark_of(marks, root) <= depths::DEEPEST {
         return Verdict::Accepted;
     }
     descent::check_depths(image, kinds, terms)

@@ -1,4 +1,5 @@
 // Refusal 10: the order of the domains, as sixteen rows of sixteen truths, and the first domain at fault in it.
+use image::DOMAIN_LIMIT;
 use image::Refusal;
 use laws::either;
 use read_records::numbers::DomainNo;
@@ -17,13 +18,13 @@ ghost use Rattle.check_shape.specs.Records.{Domains};
 ghost use Rattle.check_shape.specs.Checks.{domainsOrdered};
 
 // The bits of a mask, lowest first.
-fn row_of(mask: u16) -> [bool; 16]
+fn row_of(mask: u16) -> [bool; DOMAIN_LIMIT]
     ensures { λ r. ⌜ r ≡ bits domainLimit mask ⌝ }
 {
-    let mut row = [false; 16];
+    let mut row = [false; DOMAIN_LIMIT];
     let mut m = mask;
     let mut q: usize = 0;
-    while q < 16 {
+    while q < DOMAIN_LIMIT {
         row[q] = m % 2 == 1;
         m = m / 2;
         q += 1;
@@ -40,11 +41,11 @@ fn mask_of(fields: &[u8]) -> u16
 }
 
 // The order, an array that is handed over by value, as document 01 asks; the rows of absent domains are all false.
-pub fn order_of(image: &[u8], doms: &[u16]) -> [[bool; 16]; 16]
+pub fn order_of(image: &[u8], doms: &[u16]) -> [[bool; DOMAIN_LIMIT]; DOMAIN_LIMIT]
     requires { ⌜ Domains (now image) (now doms) ⌝ }
     ensures { λ r. ⌜ Rows (recordsOf (now (image .entry))) r ⌝ }
 {
-    let mut o = [[false; 16]; 16];
+    let mut o = [[false; DOMAIN_LIMIT]; DOMAIN_LIMIT];
     let mut d: usize = 0;
     while d < doms.len() {
         let fields = read_records::reader::fields_at(
@@ -65,12 +66,12 @@ fn lacking(a: bool, b: bool) -> bool
 }
 
 // A domain with the row b names some domain, present or not, that one with the row a does not name.
-fn gap_in(a: [bool; 16], b: [bool; 16]) -> bool
+fn gap_in(a: [bool; DOMAIN_LIMIT], b: [bool; DOMAIN_LIMIT]) -> bool
     ensures { λ r. ⌜ r ≡ gapIn a b ⌝ }
 {
     let mut found = false;
     let mut f: usize = 0;
-    while f < 16 {
+    while f < DOMAIN_LIMIT {
         found = either(found, lacking(b[f], a[f]));
         f += 1;
     }
@@ -78,12 +79,12 @@ fn gap_in(a: [bool; 16], b: [bool; 16]) -> bool
 }
 
 // What either of two rows names.
-fn either_row(a: [bool; 16], b: [bool; 16]) -> [bool; 16]
+fn either_row(a: [bool; DOMAIN_LIMIT], b: [bool; DOMAIN_LIMIT]) -> [bool; DOMAIN_LIMIT]
     ensures { λ r. ⌜ r ≡ eitherRow a b ⌝ }
 {
-    let mut row = [false; 16];
+    let mut row = [false; DOMAIN_LIMIT];
     let mut f: usize = 0;
-    while f < 16 {
+    while f < DOMAIN_LIMIT {
         row[f] = either(a[f], b[f]);
         f += 1;
     }
@@ -92,7 +93,7 @@ fn either_row(a: [bool; 16], b: [bool; 16]) -> [bool; 16]
 
 // Domain d, of n, is at fault. What the other domains that it names name is gathered in one row, which is then searched
 // once, for d and for a gap, and not again for each of them. Its own row is left out: it has d, and no gap to itself.
-fn at_fault(o: [[bool; 16]; 16], n: usize, d: DomainNo) -> bool
+fn at_fault(o: [[bool; DOMAIN_LIMIT]; DOMAIN_LIMIT], n: usize, d: DomainNo) -> bool
     requires { ⌜ d .0 < domainLimit ⌝ }
     ensures { λ r. ⌜ r ≡ faulty o n (d .0) ⌝ }
 {
@@ -101,9 +102,9 @@ fn at_fault(o: [[bool; 16]; 16], n: usize, d: DomainNo) -> bool
     if !own[i] {
         return true;
     }
-    let mut named = [false; 16];
+    let mut named = [false; DOMAIN_LIMIT];
     let mut e: usize = 0;
-    while e < 16 {
+    while e < DOMAIN_LIMIT {
         if own[e] {
             if n <= e {
                 return true;
@@ -118,7 +119,7 @@ fn at_fault(o: [[bool; 16]; 16], n: usize, d: DomainNo) -> bool
 }
 
 // Refused at the first domain at fault.
-fn first_unordered(o: [[bool; 16]; 16], doms: &[u16]) -> Verdict
+fn first_unordered(o: [[bool; DOMAIN_LIMIT]; DOMAIN_LIMIT], doms: &[u16]) -> Verdict
     requires { ⌜ length (now doms) ≤ domainLimit ⌝ }
     ensures { λ r. ⌜ r ≡ orderFrom (now (doms .entry)) o (length (now (doms .entry))) 0 ⌝ }
 {

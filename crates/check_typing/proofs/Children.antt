@@ -1,11 +1,10 @@
 -- A child of a term, wherever it stands: its number, the room that is left for it, and the verdict on the children up to it.
-use Prim.Native.Nat.{ℕ, _+_, _*_, _≤_, _<_}
+use Prim.Native.Nat.{ℕ, _+_, _≤_, _<_}
 use native.Mathlib.Omega.{arith}
 use mathlib.Core.Path.{_≡_, refl, sym, ap, subst, _∙_}
 use mathlib.Core.Bool.{true}
 use mathlib.Core.List.{List}
 use lib.ListN.{length, getD}
-use Rattle.image.specs.Limits.{depthLimit}
 use Rattle.image.specs.Kinds.{TermKind, leadOf}
 use Rattle.image.specs.Layout.{recordsOf}
 use Rattle.image.specs.Types.{termKind, children}
@@ -14,13 +13,13 @@ use Rattle.verdict.specs.Answers.{isRefused}
 use Rattle.verdict.specs.Settings.{Setting}
 use Rattle.verdict.specs.Check.{checked}
 use Rattle.read_terms.specs.Lent.{Terms, IsTerm}
-use Rattle.check_rules.specs.Scopes.{settingIn}
+use Rattle.check_rules.specs.Scopes.{settingIn, bindLimit, scopeLength}
 use Rattle.read_terms.specs.Fields.{fieldsOf, childrenIn, countIn, Typed, AtField, HasChild, Entries}
 use Rattle.check_rules.specs.Rules.{ruleIn, settingFrom}
 use Rattle.check_rules.specs.Judged.{ruleVerdict}
 use Rattle.read_terms.proofs.Located.{typed-in, children-in, child-lower, at-field-in, has-child, entries-in}
 use Rattle.check_rules.proofs.Verdict.{verdict-in}
-use Rattle.check_scopes.specs.Scopes.{bindLimit, Passed}
+use Rattle.check_scopes.specs.Scopes.{Passed}
 use Rattle.check_typing.specs.Turns.{Capacity}
 use Rattle.check_typing.proofs.TermPass.{types-fit, front, front-next, front-stops, front-whole}
 use Rattle.check_typing.proofs.ScopeCapacity.{child-capacity}
@@ -43,7 +42,7 @@ module _ {b terms : List ℕ} (T : Terms b terms) {n : ℕ} (h : IsTerm b n) {fs
   fits-there p a = rw f (types-fit _ _ (verdict-in T h e p ∙ a))
 
   -- It has passed its rule.
-  pub passed-there : {scope : List ℕ} {len c : ℕ} → ruleVerdict (recordsOf b) (settingIn scope len c) n ≡ Verdict.Accepted → length scope ≡ bindLimit * depthLimit → len + bindLimit ≤ bindLimit * depthLimit → Passed b fs k scope len c
+  pub passed-there : {scope : List ℕ} {len c : ℕ} → ruleVerdict (recordsOf b) (settingIn scope len c) n ≡ Verdict.Accepted → length scope ≡ scopeLength → len + bindLimit ≤ scopeLength → Passed b fs k scope len c
   passed-there {scope} {len} {c} a q r =
       record { typed = types-there; children = behind; entries = entries-there; fits = fits-there (settingIn scope len c) a; places = q; capacity = r }
 

@@ -1,10 +1,9 @@
 -- There is room for variables at the root, and at a child where there is at the term whose child it is.
-use Prim.Native.Nat.{ℕ, zero, suc, _+_, _-_, _*_, _≤_, _<_}
+use Prim.Native.Nat.{ℕ, zero, suc, _+_, _-_, _≤_, _<_}
 use native.Mathlib.Omega.{arith}
 use mathlib.Core.Path.{_≡_, refl, sym, ap, subst, _∙_}
 use mathlib.Core.List.{List, [], _∷_}
 use lib.ListN.{length, getD}
-use Rattle.image.specs.Limits.{depthLimit}
 use Rattle.image.specs.Records.{Layout}
 use Rattle.image.specs.Layout.{recordsOf}
 use Rattle.image.specs.Types.{children}
@@ -13,7 +12,7 @@ use Rattle.verdict.specs.Shape.{count, depths, Shaped}
 use Rattle.verdict.proofs.Depth.{depth-root, depth-child}
 use Rattle.read_terms.specs.Lent.{Terms, IsTerm}
 use Rattle.read_terms.proofs.Located.{good-of}
-use Rattle.check_scopes.specs.Scopes.{bindLimit}
+use Rattle.check_rules.specs.Scopes.{bindLimit, scopeLength}
 use Rattle.check_typing.specs.Turns.{Capacity}
 
 -- What stands in a list stands there once at least.
@@ -24,11 +23,11 @@ stands-in (e ∷ es) zero h = rw (of-eq {m = e} {n = e} refl) (omega arith)
 stands-in (e ∷ es) (suc i) h = let z = stands-in es i (omega arith) in omega arith
 
 -- There are so many places more.
-pub more-capacity : {b scope : List ℕ} {len n : ℕ} → Capacity b scope len n → IsTerm b n → len + bindLimit ≤ bindLimit * depthLimit
+pub more-capacity : {b scope : List ℕ} {len n : ℕ} → Capacity b scope len n → IsTerm b n → len + bindLimit ≤ scopeLength
 more-capacity {b} {scope} {len} {n} R t = let d = R .shaped .shallow n t in let u = R .few in omega arith
 
 module _ {b table : List ℕ} (T : Terms b table) where
-  pub root-capacity : (scope : List ℕ) (terms : ℕ) → Shaped (recordsOf b) → terms ≡ length (recordsOf b .terms) → length scope ≡ bindLimit * depthLimit → Capacity b scope 0 (terms - 1)
+  pub root-capacity : (scope : List ℕ) (terms : ℕ) → Shaped (recordsOf b) → terms ≡ length (recordsOf b .terms) → length scope ≡ scopeLength → Capacity b scope 0 (terms - 1)
   root-capacity scope terms S e p =
       let some = S .has-terms in
       let d : getD (depths (recordsOf b)) (terms - 1) 0 ≡ 1 = ap (λ n. getD (depths (recordsOf b)) (n - 1) 0) e ∙ depth-root (recordsOf b) (good-of b (T .laid-out)) (S .used) (omega arith) in

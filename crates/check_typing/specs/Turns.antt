@@ -6,7 +6,6 @@ use lib.ListN.{length, getD}
 use lib.Dec.{ltb}
 use Rattle.calculus.specs.Plain.{isPlain}
 use Rattle.image.specs.declared.Refusal.{Refusal}
-use Rattle.image.specs.Limits.{depthLimit}
 use Rattle.image.specs.Records.{Layout}
 use Rattle.image.specs.Layout.{recordsOf}
 use Rattle.image.specs.Types.{termPlace, rootOf, rootType}
@@ -14,11 +13,11 @@ use Rattle.verdict.specs.declared.Verdict.{Verdict}
 use Rattle.verdict.specs.Answers.{require}
 use Rattle.verdict.specs.Shape.{depths, Shaped}
 use Rattle.verdict.specs.Check.{check, rootSetting}
-use Rattle.check_scopes.specs.Scopes.{bindLimit}
+use Rattle.check_rules.specs.Scopes.{bindLimit, scopeLength}
 
--- The scope has room for all that term n and the terms below it bind. The image has passed refusals 11 and 12 (document 01, "Turned back at the gate"): each term but the root is a child once, and none is deeper than 64, the root having depth 1. A level binds nine variables at most, so at depth d at most 9 * (d - 1) places are used, and 9 * 64 are enough.
+-- The scope has room for all that term n and the terms below it bind. The image has passed refusals 11 and 12 (document 01, "Turned back at the gate"): each term but the root is a child once, and none is deeper than 64, where the root has depth 1. A level binds nine variables at most, so at depth d at most 9 * (d - 1) places are used, and 9 * 64 are enough.
 pub record Capacity (b scope : List ℕ) (len n : ℕ) : Type 0 where
-  pub places : length scope ≡ bindLimit * depthLimit
+  pub places : length scope ≡ scopeLength
   pub shaped : Shaped (recordsOf b)
   pub few : len + bindLimit ≤ bindLimit * getD (depths (recordsOf b)) n 0
 

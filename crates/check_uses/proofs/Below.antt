@@ -1,11 +1,11 @@
 -- Tests at the numbers below a bound, one after another.
 use Prim.Native.Nat.{ℕ, suc, _+_, _≤_, _<_}
 use native.Mathlib.Omega.{arith}
-use mathlib.Core.Path.{_≡_, refl, ap, subst, _∙_}
-use mathlib.Core.Bool.{Bool, true, false, _&&_}
+use mathlib.Core.Path.{_≡_, ap, subst, _∙_}
+use mathlib.Core.Bool.{Bool, true, _&&_}
 use lib.Dec.{ltb}
 use Rattle.laws.specs.Tests.{allBelow}
-use Rattle.laws.proofs.Booleans.{lt-of, ge-of}
+use Rattle.laws.proofs.Booleans.{lt-of, ge-of, by-test}
 
 -- One more test, in a row of them, and where each so far holds.
 module _ (n : ℕ) (ok : ℕ → Bool) where
@@ -14,8 +14,6 @@ module _ (n : ℕ) (ok : ℕ → Bool) where
   below-more b t e h = let w : n + 1 ≡ suc n = omega arith in rw w (h ∙ ap (λ x. x && ok n) e)
 
   pub holds-more : ((k : ℕ) → k < n → ok k ≡ true) → ok n ≡ true → (k : ℕ) → k < n + 1 → ok k ≡ true
-  holds-more before h k l = go (ltb k n) refl
-    where
-      go : (t : Bool) → ltb k n ≡ t → ok k ≡ true
-      go true t = before k (lt-of t)
-      go false t = let z : n ≤ k = ge-of t in let e : n ≡ k = omega arith in subst (λ j. ok j ≡ true) e h
+  holds-more before h k l = by-test (ltb k n)
+      (λ t. before k (lt-of t))
+      λ t. let z : n ≤ k = ge-of t in let e : n ≡ k = omega arith in subst (λ j. ok j ≡ true) e h

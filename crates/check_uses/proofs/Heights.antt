@@ -10,22 +10,18 @@ use Rattle.image.specs.Limits.{depthLimit}
 use Rattle.image.specs.Records.{Layout}
 use Rattle.image.specs.Types.{children, rootOf}
 use Rattle.image.proofs.Laid.{LayoutOk, below-at}
-use Rattle.laws.proofs.Booleans.{eq-of, lt-of}
+use Rattle.laws.proofs.Booleans.{eq-of, lt-of, by-test}
 use Rattle.verdict.specs.Shape.{count, uses, usedOnce, depths}
 use Rattle.verdict.specs.Acceptable.{IsChild, Depth, at-root, at-child}
 use Rattle.verdict.proofs.Changes.{change-at}
 use Rattle.verdict.proofs.Uses.{child-counts}
 use Rattle.verdict.proofs.Depths.{depth-of}
-use Rattle.check_uses.specs.Marks.{heightIn, usedMark, used, highest, marksOf}
+use Rattle.check_uses.specs.Marks.{heightIn, usedMark, used, highest, marksOf, firstUse}
 use Rattle.check_uses.proofs.UseCounts.{markOf, height, marks-length, mark-is}
 
 -- A use does not lower the height in a mark, nor does it lower that of another term.
 used-high : (m : ℕ) → heightIn m ≤ heightIn (usedMark m)
-used-high m = go (ltb m 128) refl
-  where
-    go : (t : Bool) → ltb m 128 ≡ t → heightIn m ≤ heightIn (usedMark m)
-    go true t = let z : m < 128 = lt-of t in rw t (omega arith)
-    go false t = rw t (omega arith)
+used-high m = by-test (ltb m firstUse) (λ t. let z : m < firstUse = lt-of t in rw t (omega arith)) λ t. rw t (omega arith)
 
 used-kept : (ms : List ℕ) (x e h : ℕ) → e < length ms → h ≤ heightIn (getD ms e 0) → h ≤ heightIn (getD (used ms x) e 0)
 used-kept ms x e h p l = change-at usedMark (λ _ m. h ≤ heightIn m) (λ _ m q. let z = used-high m in omega arith) (x ∷ []) ms e 0 p l

@@ -16,12 +16,12 @@ use Rattle.laws.proofs.Booleans.{lt-of, ge-of}
 use Rattle.verdict.specs.Shape.{count, uses}
 use Rattle.verdict.proofs.Changes.{change-length, change-at}
 use Rattle.verdict.proofs.Depth.{below-count}
-use Rattle.check_uses.specs.Marks.{usedMark, isOnce, useAll, heightOf, marksOf}
+use Rattle.check_uses.specs.Marks.{usedMark, isOnce, useAll, heightOf, marksOf, firstUse}
 
 -- The mark of a term that has the height h and is used so often.
 abbrev pub markOf : ℕ → ℕ → ℕ
 markOf h zero = h
-markOf h (suc zero) = h + 128
+markOf h (suc zero) = h + firstUse
 markOf h (suc (suc u)) = 255
 
 -- A height leaves room for the use.
@@ -29,13 +29,13 @@ abbrev Low : ℕ → Type 0
 Low h = h ≤ suc depthLimit
 
 one-more : (h u : ℕ) → Low h → usedMark (markOf h u) ≡ markOf h (suc u)
-one-more h zero l = rw (lt-ltb h 128 (omega arith)) refl
-one-more h (suc zero) l = rw (le-ltb (h + 128) 128 (omega arith)) refl
+one-more h zero l = rw (lt-ltb h firstUse (omega arith)) refl
+one-more h (suc zero) l = rw (le-ltb (h + firstUse) firstUse (omega arith)) refl
 one-more h (suc (suc u)) l = refl
 
 pub once-is : (h u : ℕ) → Low h → isOnce (markOf h u) ≡ eqb u 1
-once-is h zero l = rw (lt-leb 128 h (omega arith)) refl
-once-is h (suc zero) l = rw (le-leb 128 (h + 128) (omega arith), lt-ltb (h + 128) 255 (omega arith)) refl
+once-is h zero l = rw (lt-leb firstUse h (omega arith)) refl
+once-is h (suc zero) l = rw (le-leb firstUse (h + firstUse) (omega arith), lt-ltb (h + firstUse) 255 (omega arith)) refl
 once-is h (suc (suc u)) l = sym (ne-eqb (suc (suc u)) 1 (λ q. omega arith))
 
 -- One use more of each of es.

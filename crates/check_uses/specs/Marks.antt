@@ -1,4 +1,4 @@
--- The mark of a term (document 01, "Turned back at the gate", refusals 11 and 12): 0 until its record is there; then its height, a term without children having 1, up to one past the limit of the depths; 128 more once it is a child; and 255 once it is a child again, whatever its height.
+-- The mark of a term (document 01, "Turned back at the gate", refusals 11 and 12): 0 until its record is there; then its height, which is 1 without children and is cut at one past the limit of the depths; 128 more once it is a child; and 255 once it is a child again, whatever its height.
 use Prim.Native.Nat.{ℕ, zero, suc, _+_, _%_, _≤_, _<_, min, max}
 use mathlib.Core.Path.{_≡_}
 use mathlib.Core.Bool.{Bool, true, false, _&&_}

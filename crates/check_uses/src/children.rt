@@ -3,6 +3,7 @@
 use crate::marks::mark_of;
 use crate::marks::one_more;
 use crate::marks::set_mark;
+use image::DEPTH_LIMIT;
 use read_records::numbers::TermNo;
 ghost use mathlib.Core.Path.{_≡_};
 ghost use Prim.Native.Nat.{suc, _<_, max};
@@ -20,7 +21,7 @@ pub const USED: u8 = 128;
 pub const AGAIN: u8 = 255;
 
 // A height is kept up to one past the limit of the depths.
-const TOO_HIGH: u8 = 65;
+const TOO_HIGH: u8 = DEPTH_LIMIT as u8 + 1;
 
 // A mark with one use more.
 fn used_mark(mark: u8) -> u8

@@ -1,4 +1,4 @@
-// A number for each term.
+// The marks of the terms: a number for each.
 use read_records::numbers::TermNo;
 ghost use mathlib.Core.Path.{_≡_};
 ghost use Prim.Native.Nat.{_<_};
@@ -12,7 +12,7 @@ pub fn one_more(limit: u8, n: u8) -> u8
     if n < limit { n + 1 } else { limit }
 }
 
-// A term's number.
+// A term's mark.
 pub fn mark_of(marks: &[u8], n: TermNo) -> u8
     requires { ⌜ n .0 < length (now marks) ⌝ }
     ensures { λ r. ⌜ r ≡ getD (now (marks .entry)) (n .0) 0 ⌝ }

@@ -1,5 +1,6 @@
-// An inner crate: what the programs share. Input is read whole or not used at all, output that cannot be written is told on
-// standard error, and so is the use of a program.
+// An inner crate: what the programs share. Input is read whole or not used at all. Standard error reports output that cannot be
+// written, and says how a program is used.
+use image::IMAGE_LIMIT;
 use libc::STDERR_FILENO;
 use libc::STDIN_FILENO;
 use libc::STDOUT_FILENO;
@@ -8,9 +9,9 @@ ghost use Rattle.numerals.specs.Numerals.{AtMost};
 ghost use Rattle.io.specs.Counts.{Counts};
 
 // A byte more than the longest image, so that a longer one is seen to be too long.
-pub const IMAGE_CAPACITY: usize = 16385;
+pub const IMAGE_CAPACITY: usize = IMAGE_LIMIT + 1;
 
-// What a program without arguments is called with.
+// How many words a program without arguments is called with: its name.
 const OWN_NAME: usize = 1;
 
 // How many bytes stand at the front of a buffer; and whether they are all that is to be used: the input ended there or fills the
@@ -42,14 +43,14 @@ pub fn read_whole(fd: i32, buf: &mut [u8]) -> Input
     }
 }
 
-// How a program is used.
+// Says how a program is used.
 pub fn tell_usage(usage: &[u8]) {
     io::write_all(STDERR_FILENO, b"usage: ");
     io::write_all(STDERR_FILENO, usage);
     io::write_all(STDERR_FILENO, b"\n");
 }
 
-// The image on standard input; where a read fails, that is told.
+// The image on standard input; a read that fails is reported.
 pub fn read_image(image: &mut [u8]) -> Input
     ensures { λ r. ⌜ Counts (r .length) (now (image .exit)) ⌝ }
 {
@@ -60,7 +61,7 @@ pub fn read_image(image: &mut [u8]) -> Input
     input
 }
 
-// The same for a program without arguments; where it has some, its use is told.
+// The same for a program without arguments; if it has some, it says how it is used.
 pub fn read_sole_image(usage: &[u8], image: &mut [u8]) -> Input
     ensures { λ r. ⌜ Counts (r .length) (now (image .exit)) ⌝ }
 {
@@ -74,7 +75,7 @@ pub fn read_sole_image(usage: &[u8], image: &mut [u8]) -> Input
     read_image(image)
 }
 
-// The number that argument i says, if it is at most so much and the program is called with so many words, its name among them.
+// The number that argument i says, if it is at most `most` and the program is called with this number of words, its name included.
 pub fn argument(i: usize, words: usize, most: u32) -> Numeral
     ensures { λ r. ⌜ AtMost most r ⌝ }
 {

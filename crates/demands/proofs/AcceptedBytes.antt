@@ -19,6 +19,7 @@ use Rattle.calculus.specs.Typing.{Policy, StoreTyping, ⊢_⦂_ as ValTy, noSto
 use Rattle.laws.proofs.Lists.{All, All.all-nil, All.all-cons, All2, All2.all2-nil, All2.all2-cons}
 use Rattle.calculus_safety.proofs.StoreFits.{CellFits, CellFits.cell-fits}
 use Rattle.calculus.specs.Accepted.{Transitive, Accepted}
+use Rattle.image.specs.Limits.{reportLength}
 use Rattle.calculus_safety.proofs.Runs.{Ends, Ends.ends-done, Ends.ends-stopped, program-safe}
 use Rattle.calculus_safety.proofs.Within.{program-within}
 use Rattle.calculus_noninterference.specs.Observe.{Highs}
@@ -83,7 +84,7 @@ module _ (D : Policy) (trans : Transitive D) (G : Given) (n : ℕ) where
   program-result-few A = result-few (A .plain) (program-safe D trans G (A .typed) n .end)
 
   -- The report of an accepted program fits in 17,994 bytes, and its log in the log that it was given.
-  pub program-report-short : {e : Tm} → Accepted D e → length (writtenReport (run n G 0 fresh e)) ≤ 17994
+  pub program-report-short : {e : Tm} → Accepted D e → length (writtenReport (run n G 0 fresh e)) ≤ reportLength
   program-report-short {e} A =
       let E : Ended = run n G 0 fresh e in
       let w = program-within G n e in

@@ -9,7 +9,7 @@ use mathlib.Core.Option.{some}
 use lib.ListN.{length}
 use Rattle.calculus.specs.State.{Given, fresh, logOf}
 use Rattle.calculus.specs.Run.{Ended}
-use Rattle.calculus.specs.Report.{outcomeNumber, report as reported}
+use Rattle.calculus.specs.Report.{outcomeNumber, report as reported, report}
 use Rattle.calculus.specs.Typing.{Policy}
 use Rattle.image.specs.Refusals.{refusalNumber}
 use Rattle.image.specs.Limits.{workLength, reportLength}
@@ -35,10 +35,16 @@ use Rattle.demands.specs.Compare.{Demand3}
 use Rattle.call_spec.proofs.Slots.{leaves-back}
 use Rattle.call_spec.proofs.Called.{refused-leaves, accepted-leaves}
 use Rattle.call_spec.proofs.Accepted.{transitive, typed}
-use Rattle.demands.proofs.Outcomes.{one-outcome}
+use Rattle.calculus.specs.declared.Outcome.{Outcome}
+use Rattle.calculus_safety.proofs.Runs.{reports-outcome}
 use Rattle.demands.proofs.Compare.{demand3-written}
 use Rattle.demands.proofs.Steps.{steps-within, spent-steps}
 use Rattle.demands.proofs.Written.{outcome-fits, take-front, drop-front, length-front, cleared-zero, cleared-past, length-cleared}
+
+-- Demand 1 for runs of the calculus: an accepted image's run is never stuck.
+-- The outcome is one of document 01's ten or of card 9's three.
+pub one-outcome : (b : List ℕ) → Accepts b → (frame : List ℕ) (budget : ℕ) (log : List ℕ) → (o : Outcome) × (report (runOf b frame budget log) .outcome ≡ some o)
+one-outcome b A frame budget log = reports-outcome (policy (recordsOf b)) (transitive b A) (givenBy frame log) (typed b A .typed) budget
 
 -- The image of a call that runs is accepted.
 pub accepts : (b report work : List ℕ) → Runs b report work → Accepts b

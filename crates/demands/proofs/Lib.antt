@@ -2,7 +2,6 @@
 pub mod SameBytes
 pub mod AcceptedBytes
 pub mod ByField
-pub mod Outcomes
 pub mod Compare
 pub mod Written
 pub mod Steps

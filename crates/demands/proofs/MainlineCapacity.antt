@@ -6,6 +6,7 @@ use mathlib.Core.Bool.{Bool, true, true≢false}
 use mathlib.Core.List.{List}
 use mathlib.Core.Option.{some, Option·some-injective, Option·none-ne-some}
 use lib.ListN.{length, length-map}
+use Rattle.calculus.proofs.EveryOutcome.{at-outcome}
 use Rattle.calculus.specs.declared.Outcome.{Outcome}
 use Rattle.calculus.specs.Syntax.{Dom, Val}
 use Rattle.calculus.specs.Run.{End, done, stopped, stuck, Ended}
@@ -34,19 +35,7 @@ use Rattle.demands.proofs.Demands.{accepts, demand1}
 
 -- The numbers 4, 5 and 8 are those of the outcomes that say so.
 lacks-number : (o : Outcome) → lacksNumber (outcomeNumber o) ≡ lacksMainline o
-lacks-number Outcome.Done = refl
-lacks-number Outcome.Spent = refl
-lacks-number Outcome.Aborted = refl
-lacks-number Outcome.Frames = refl
-lacks-number Outcome.Bindings = refl
-lacks-number Outcome.Cells = refl
-lacks-number Outcome.Labels = refl
-lacks-number Outcome.Advice = refl
-lacks-number Outcome.Pieces = refl
-lacks-number Outcome.Log = refl
-lacks-number Outcome.OtherBindings = refl
-lacks-number Outcome.OtherCells = refl
-lacks-number Outcome.OtherPieces = refl
+lacks-number = at-outcome (λ o. lacksNumber (outcomeNumber o)) lacksMainline refl
 
 short-end : (e : End) (o : Outcome) → outcomeOf e ≡ some o → lacksMainline o ≡ true → endsShort e ≡ true
 short-end (done v) o p l = absurd (true≢false (sym l ∙ ap lacksMainline (sym (Option·some-injective Outcome.Done o p))))

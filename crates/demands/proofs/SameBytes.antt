@@ -5,7 +5,8 @@ use mathlib.Core.Path.{_≡_, refl, sym, ap, _∙_}
 use mathlib.Core.Bool.{Bool, true, false}
 use mathlib.Core.List.{List, [], _∷_, map}
 use mathlib.Core.Option.{Option, none, some}
-use lib.ListN.{length, take, length-map}
+use lib.ListN.{length, getD, take, length-map}
+use Rattle.calculus.proofs.EveryOutcome.{outcomes, outcome-at}
 use Rattle.calculus.specs.declared.Outcome.{Outcome}
 use Rattle.calculus.specs.Combinators.{choose}
 use Rattle.calculus.specs.Limits.{wordSize}
@@ -16,6 +17,7 @@ use Rattle.calculus.specs.Report.{report}
 use Rattle.calculus_noninterference.specs.Observe.{highOf, highPrints, CutEqual, SameReported}
 use Rattle.report.specs.Read.{readReport}
 use Rattle.demands.specs.SameBytes.{highPrintsIn, highCellsIn, SaysDone, SameBytes}
+use Rattle.demands.proofs.Written.{outcome-fits}
 use Rattle.report.specs.OfRun.{reportedNumber, writtenLog, writtenReport}
 use Rattle.report.specs.Fits.{shortSize, CellsFew, byField}
 use Rattle.report.proofs.Narrow.{narrowPrint, narrowLeaf, narrowCell, log-read, report-read}
@@ -42,19 +44,7 @@ cut-map f x y e =
 -- Outcome 0 is done.
 pub done-number : (o : Option Outcome) → reportedNumber o % shortSize ≡ 0 → o ≡ some Outcome.Done
 done-number none e = absurd (omega arith)
-done-number (some Outcome.Done) e = refl
-done-number (some Outcome.Spent) e = absurd (omega arith)
-done-number (some Outcome.Aborted) e = absurd (omega arith)
-done-number (some Outcome.Frames) e = absurd (omega arith)
-done-number (some Outcome.Bindings) e = absurd (omega arith)
-done-number (some Outcome.Cells) e = absurd (omega arith)
-done-number (some Outcome.Labels) e = absurd (omega arith)
-done-number (some Outcome.Advice) e = absurd (omega arith)
-done-number (some Outcome.Pieces) e = absurd (omega arith)
-done-number (some Outcome.Log) e = absurd (omega arith)
-done-number (some Outcome.OtherBindings) e = absurd (omega arith)
-done-number (some Outcome.OtherCells) e = absurd (omega arith)
-done-number (some Outcome.OtherPieces) e = absurd (omega arith)
+done-number (some o) e = ap some (sym (outcome-at o) ∙ ap (λ n. getD outcomes n Outcome.Done) (sym (outcome-fits o) ∙ e))
 
 -- What is read back from the bytes that a run wrote.
 module _ (hi : Dom → Bool) (E : Ended) where

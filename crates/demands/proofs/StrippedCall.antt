@@ -22,7 +22,7 @@ use Rattle.verdict.specs.Verdicts.{verdict}
 use Rattle.verdict.proofs.Accept.{accepted-good}
 use Rattle.base_bytes.specs.Bytes.{over}
 use Rattle.image_written.specs.Stripped.{withoutWatches}
-use Rattle.write_unit_bodies.specs.UnitBodies.{inMask}
+use Rattle.write_masks.specs.Masks.{inMask}
 use Rattle.write_stripped.specs.declared.Stripped.{Stripped}
 use Rattle.write_stripped.specs.Calls.{wrongSet, Left, afterCheck, strippedCall}
 use Rattle.call_spec.specs.Calls.{called}
@@ -53,8 +53,7 @@ card13-call b mask n out h = look (verdict b workLength reportLength) refl h
     Asked : Left → Type 0
     Asked X = X .answer ≡ Stripped.Bytes n → WritesStripped b mask n out (X .out)
 
-    go : LayoutOk (recordsOf b) → (x : Bool) → wrongSet (recordsOf b) mask ≡ x → (y : Bool)
-        → Asked
+    go : LayoutOk (recordsOf b) → (x : Bool) → wrongSet (recordsOf b) mask ≡ x → (y : Bool) → Asked
         (choose x (record { answer = Stripped.WrongSet; out = out })
         (choose y (record { answer = Stripped.ShortOutput; out = out }) (record { answer = Stripped.Bytes (length W); out = over 0 W out })))
     go g true p y e = let z : _≡_ {A = ℕ} 0 1 = cc in absurd (omega arith)

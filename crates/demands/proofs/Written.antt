@@ -5,6 +5,7 @@ use mathlib.Core.Path.{_≡_, refl, sym, ap, _∙_}
 use mathlib.Core.List.{List, _++_}
 use lib.ListN.{length, take, drop, replicate, length-append, length-drop, length-replicate}
 use lib.Seq.{take-at, take-append-seam, drop-append-seam}
+use Rattle.calculus.proofs.EveryOutcome.{at-outcome}
 use Rattle.calculus.specs.declared.Outcome.{Outcome}
 use Rattle.calculus.specs.Report.{outcomeNumber}
 use Rattle.base_bytes.specs.Bytes.{over, cleared}
@@ -13,19 +14,7 @@ use Rattle.report.specs.Fits.{shortSize}
 
 -- An outcome's number fits its field of the report.
 pub outcome-fits : (o : Outcome) → outcomeNumber o % shortSize ≡ outcomeNumber o
-outcome-fits Outcome.Done = refl
-outcome-fits Outcome.Spent = refl
-outcome-fits Outcome.Aborted = refl
-outcome-fits Outcome.Frames = refl
-outcome-fits Outcome.Bindings = refl
-outcome-fits Outcome.Cells = refl
-outcome-fits Outcome.Labels = refl
-outcome-fits Outcome.Advice = refl
-outcome-fits Outcome.Pieces = refl
-outcome-fits Outcome.Log = refl
-outcome-fits Outcome.OtherBindings = refl
-outcome-fits Outcome.OtherCells = refl
-outcome-fits Outcome.OtherPieces = refl
+outcome-fits = at-outcome (λ o. outcomeNumber o % shortSize) outcomeNumber refl
 
 -- Bytes written at the front.
 pub take-front : (bs xs : List ℕ) → take (length bs) (over 0 bs xs) ≡ bs

@@ -31,9 +31,17 @@ pub record Compared (high : Dom → Bool) (b b′ : List ℕ) : Type 0 where
 abbrev pub SameLeft : (Dom → Bool) → Left → Left → Type 0
 SameLeft high X Y = SameBytes high (logWritten X) (logWritten Y) (reportWritten X) (reportWritten Y)
 
+-- high ⊢ b ∼ b′: two images that may be compared. high ⊢ X ≈ Y: what two calls leave agrees at the high domains.
+infix 4 _⊢_∼_ _⊢_≈_
+abbrev pub _⊢_∼_ : (Dom → Bool) → List ℕ → List ℕ → Type 0
+high ⊢ b ∼ b′ = Compared high b b′
+
+abbrev pub _⊢_≈_ : (Dom → Bool) → Left → Left → Type 0
+high ⊢ X ≈ Y = SameLeft high X Y
+
 -- "Demand 3 is one claim about the bytes that two whole runs leave": for any high domains, any two such images, any frame, any budgets and any lent memory for which both calls run.
 abbrev pub Demand3 : Type 0
 Demand3 =
-    (high : Dom → Bool) (b b′ : List ℕ) → Compared high b b′
+    (high : Dom → Bool) (b b′ : List ℕ) → high ⊢ b ∼ b′
     → (frame : List ℕ) (budget budget′ : ℕ) (log log′ report report′ work work′ : List ℕ) → Runs b report work → Runs b′ report′ work′
-    → SameLeft high (called b frame budget log report work) (called b′ frame budget′ log′ report′ work′)
+    → high ⊢ called b frame budget log report work ≈ called b′ frame budget′ log′ report′ work′

@@ -1,5 +1,5 @@
 -- Card 8 of document 02, of what a mark picks: "Matching advice at one mark runs newest first. … Figure 5 is compared over the reversed advice list. A low watch between two high advices leaves these two in their order."
--- The last holds of what a mark picks from any installed advice. Of whole calls it is demand 3, where the low watch is installed by a low body; proofs/NewestFirstExample.antt has two such calls.
+-- The last holds of what a mark picks from any installed advice. Of whole calls it is demand 3, where a low body installs the low watch; the crate demands_examples, proofs/NewestFirstExample.antt, has two such calls.
 use Prim.Native.Nat.{ℕ}
 use mathlib.Core.Path.{_≡_}
 use mathlib.Core.Bool.{Bool, false}

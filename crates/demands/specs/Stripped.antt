@@ -13,7 +13,7 @@ use Rattle.image.specs.Program.{toTm}
 use Rattle.verdict.specs.Domains.{masks}
 use Rattle.image_written.specs.Written.{fixed}
 use Rattle.image_written.specs.Stripped.{stripped as strippedTree, withoutWatches}
-use Rattle.write_unit_bodies.specs.UnitBodies.{inMask}
+use Rattle.write_masks.specs.Masks.{inMask}
 use Rattle.write_stripped.specs.declared.Stripped.{Stripped}
 use Rattle.write_stripped.specs.Calls.{strippedCall}
 use Rattle.report.specs.declared.Ending.{Ending}

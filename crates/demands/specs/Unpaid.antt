@@ -41,7 +41,7 @@ abbrev pub namesCapacity : Ending → Bool
 namesCapacity (Ending.Ended o) = ltb (outcomeNumber Outcome.Aborted) (outcomeNumber o)
 namesCapacity Ending.NoOutcome = false
 
--- "No value reached, and no room for the next step" after so many steps: with a step more in the budget a call was told so.
+-- "No value reached, and no room for the next step" after so many steps: the call with one step more in its budget has this answer.
 abbrev pub lacksNext : ℕ → Answer → Bool
 lacksNext steps a = eqb (a .steps) steps && namesCapacity (a .ending)
 
@@ -52,9 +52,9 @@ pub record OnlyOutcome (budget : ℕ) (log report work : List ℕ) (X Z : Left) 
   pub was : X ≡ leftBy (ended (stopped Outcome.Spent) budget last) log report work
   pub is : Z ≡ leftBy (ended (stopped capacity) budget last) log report work
 
--- Of any call, X being what it answered and left before, and Z what it did with a step more in the budget.
+-- Of any call: X is what it answered and left before the card, and Z what it then answered and left with one step more in its budget.
 pub record Card5 (b frame : List ℕ) (budget : ℕ) (log report work : List ℕ) (X Z : Left) : Type 0 where
-  -- where the next step lacks room, the call answers and leaves now what it did with a step more; else what it did
+  -- where the next step lacks room, the call now answers and leaves what it did with one step more; else what it did before
   pub now : called b frame budget log report work ≡ choose (lacksNext budget (Z .answer)) Z X
   -- what changes was outcome 1, "with steps equal to the budget", and nothing else changes
   pub changed : lacksNext budget (Z .answer) ≡ true → OnlyOutcome budget log report work X Z

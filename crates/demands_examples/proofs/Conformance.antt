@@ -36,7 +36,7 @@ use Rattle.report.specs.Records.{recordsBytes, recordsAfter}
 use Rattle.call_spec.specs.declared.Answer.{Answer}
 use Rattle.call_spec.specs.Runs.{runOf}
 use Rattle.call_spec.specs.Calls.{slotsOf, refusedAnswer, Left, called}
-use Rattle.listing.specs.Text.{ascii, digits, texts}
+use Rattle.listing_lines.specs.Text.{ascii, digits, texts}
 use Rattle.listing.specs.Listing.{listing}
 use Rattle.listing.specs.Conformance.{upTo, conformanceFrame, conformanceBudget, conformanceLogLength, zeros, conformanceCall, listingOf}
 use Rattle.demands.specs.Calls.{logWritten, reportWritten}

@@ -1,4 +1,4 @@
--- Calls by computation: the bench sheet, and for each claim calls that meet its premises.
+-- By computation: the bench sheet, for each claim calls that meet its premises, and images at the limit of depth.
 pub mod UnpaidExample
 pub mod Conformance
 pub mod Mainline
@@ -6,3 +6,4 @@ pub mod Example
 pub mod CapacityExample
 pub mod NewestFirstExample
 pub mod ForecastExample
+pub mod DepthExample

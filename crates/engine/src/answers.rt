@@ -1,4 +1,5 @@
 // The answer of a refusal.
+use calculus::LEAF_LIMIT;
 use calculus::Leaf;
 use call_spec::Answer;
 use image::Refusal;
@@ -13,7 +14,7 @@ pub fn refused(why: Refusal, place: usize) -> Answer
     ensures { λ r. ⌜ r ≡ refusedAnswer why place ⌝ }
 {
     let unit = Slot { leaf: Leaf::Unit };
-    let slots = [unit; 8];
+    let slots = [unit; LEAF_LIMIT];
     let verdict = Verdict::Refused(why, place);
     let ending = Ending::NoOutcome;
     Answer {

@@ -5,10 +5,13 @@ mod answers;
 use call_spec::Answer;
 use engine_core::prepare::prepare;
 use engine_core::runs::run_code;
+use image::TERM_LIMIT;
+use image::TYPE_LIMIT;
 use image::WORK_LENGTH;
 use validator_core::call::Lent;
 use validator_core::call::check_call;
 use validator_core::examine::Checked;
+use vm_words::terms::CODE_LENGTH;
 ghost use mathlib.Core.Path.{_≡_};
 ghost use Rattle.call_spec.specs.Calls.{called};
 
@@ -28,15 +31,15 @@ pub fn run(
         work: work.len(),
         report: report.len(),
     };
-    let mut types = [0u16; 128];
-    let mut descriptors = [0u32; 128];
-    let mut terms = [0u16; 1024];
+    let mut types = [0u16; TYPE_LIMIT];
+    let mut descriptors = [0u32; TYPE_LIMIT];
+    let mut terms = [0u16; TERM_LIMIT];
     let checked = check_call(image, lent, &mut types, &mut descriptors, &mut terms);
     match checked {
         Checked::Refused(why, place) => answers::refused(why, place),
         Checked::Accepted(counts) => {
-            let mut code = [0u64; 1025];
-            let mut dispatch = [0u8; 1025];
+            let mut code = [0u64; CODE_LENGTH];
+            let mut dispatch = [0u8; CODE_LENGTH];
             let target = prepare(
                 image,
                 &types,

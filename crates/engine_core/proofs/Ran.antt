@@ -4,20 +4,20 @@ use native.Mathlib.Omega.{arith}
 use mathlib.Core.Path.{_≡_, ap, ap₂, _∙_}
 use mathlib.Core.List.{List, _++_}
 use lib.ListN.{length, replicate}
-use Rattle.image.specs.Limits.{workLength}
+use Rattle.image.specs.Limits.{workLength, typeLimit}
 use Rattle.image.specs.Layout.{recordsOf}
 use Rattle.verdict.proofs.Passed.{passed-iff}
 use Rattle.read_records.specs.Tables.{Tables}
 use Rattle.read_terms.specs.Lent.{Types}
 use Rattle.read_terms.proofs.Located.{good-of}
 use Rattle.base_bytes.specs.Bytes.{AreBytes, over, cleared}
-use Rattle.base_bytes.specs.Memory.{wordCount}
+use Rattle.base_bytes.specs.Memory.{wordCount, besideCount}
 use Rattle.base_bytes.proofs.Memory.{length-words, length-beside}
 use Rattle.vm_code.specs.Words.{returnPc}
 use Rattle.vm_code.specs.Code.{codeOf, rootTarget}
 use Rattle.vm_machine.specs.declared.Regs.{Regs}
 use Rattle.vm_pools.specs.Pools.{whole}
-use Rattle.vm_machine.specs.Memory.{Memory}
+use Rattle.vm_machine.specs.Memory.{Memory, cellPlaces}
 use Rattle.vm_machine.specs.States.{State}
 use Rattle.vm_machine.specs.Run.{startState, turnsFor, vmRun}
 use Rattle.vm_machine.specs.Fits.{Safe}
@@ -35,7 +35,7 @@ use Rattle.engine_correct.proofs.Tables.{image-leaves}
 pub types-in : (b ds ts ks : List ℕ) → Tables b ds ts ks → Types b ks
 types-in b ds ts ks T = record { laid-out = T .laid-out; enough = T .enough; descriptors = T .descriptors }
 
-pub few-types : (b ds ts ks : List ℕ) (n : ℕ) → Tables b ds ts ks → n ≡ length (recordsOf b .types) → n ≤ 128
+pub few-types : (b ds ts ks : List ℕ) (n : ℕ) → Tables b ds ts ks → n ≡ length (recordsOf b .types) → n ≤ typeLimit
 few-types b ds ts ks n T e = let f = good-of b (T .laid-out) .few-types in omega arith
 
 -- An accepted image has a term.
@@ -52,10 +52,10 @@ module _ (b frame : List ℕ) (A : Accepts b) (bytes : AreBytes b) (budget : ℕ
   S = vmRun (record { code = code; image = b }) frame target budget M log
 
   -- The tables are long enough.
-  words : 4418 ≤ length (M .words)
+  words : wordCount ≤ length (M .words)
   words = omega (arith, length-words wordCount work)
 
-  beside : 513 ≤ length (M .beside)
+  beside : besideCount ≤ length (M .beside)
   beside = omega (arith, length-beside work enough)
 
   -- The code has the word that goes back to a caller; and the run is safe.
@@ -69,7 +69,7 @@ module _ (b frame : List ℕ) (A : Accepts b) (bytes : AreBytes b) (budget : ℕ
   leaves-run = rw (same, root) (image-leaves b A bytes frame budget log M words beside)
 
   -- What the report asks of the registers.
-  pub report-asks : (q : Regs) → q ≡ S .regs → (whole (q .pools .cells) ≤ 256) × (q .rest ≤ budget)
+  pub report-asks : (q : Regs) → q ≡ S .regs → (whole (q .pools .cells) ≤ cellPlaces) × (q .rest ≤ budget)
   report-asks q e = rw e (leaves-run .cells, leaves-run .rest)
 
   -- The front of the work area holds anything; past it nothing changed.

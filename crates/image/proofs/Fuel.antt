@@ -14,7 +14,7 @@ use Rattle.image.specs.Layout.{framed, tests, add, walk}
 use Rattle.laws.specs.Tests.{firstFault}
 use Rattle.image.specs.Types.{children}
 use Rattle.image.specs.Program.{subtrees, tree}
-use Rattle.laws.proofs.Booleans.{le-of}
+use Rattle.laws.proofs.Booleans.{le-of, by-test}
 use Rattle.laws.proofs.Tests.{each, passed}
 use Rattle.image.proofs.Laid.{Below, LayoutOk, same-image}
 
@@ -26,25 +26,19 @@ passed-size L o h = let f = each _ (passed _ _ _ h .0) in (le-of (f .1 .0), le-o
 -- Past the end there is no record.
 past-end : (L : Layout) (o : ℕ) → length (L .image) ≤ o → firstFault (tests L o) ≡ some Refusal.BrokenRecord
 unfolding tests firstFault
-past-end L o h = go (framed (L .image) o) refl
-  where
-    go : (t : Bool) → framed (L .image) o ≡ t → firstFault (tests L o) ≡ some Refusal.BrokenRecord
-    go false e = rw (e, firstFault, tests) refl
-    go true e = let x : o + 4 ≤ length (L .image) = le-of (each _ e .0) in absurd (omega arith)
+past-end L o h = by-test (framed (L .image) o)
+    (λ e. let x : o + 4 ≤ length (L .image) = le-of (each _ e .0) in absurd (omega arith))
+    λ e. rw (e, firstFault, tests) refl
 
 pub walk-fuel : (f g o : ℕ) (L : Layout) → length (L .image) ≤ o + f → length (L .image) ≤ o + g → walk f o L ≡ walk g o L
 unfolding walk
 walk-fuel zero zero o L l m = refl
-walk-fuel zero (suc g) o L l m = go (eqb o (length (L .image))) refl
-  where
-    go : (t : Bool) → eqb o (length (L .image)) ≡ t → walk zero o L ≡ walk (suc g) o L
-    go true e = rw (e, walk) refl
-    go false e = let p : firstFault (tests L o) ≡ some Refusal.BrokenRecord = past-end L o (omega arith) in rw (e, p, walk) refl
-walk-fuel (suc f) zero o L l m = go (eqb o (length (L .image))) refl
-  where
-    go : (t : Bool) → eqb o (length (L .image)) ≡ t → walk (suc f) o L ≡ walk zero o L
-    go true e = rw (e, walk) refl
-    go false e = let p : firstFault (tests L o) ≡ some Refusal.BrokenRecord = past-end L o (omega arith) in rw (e, p, walk) refl
+walk-fuel zero (suc g) o L l m = by-test (eqb o (length (L .image)))
+    (λ e. rw (e, walk) refl)
+    λ e. let p : firstFault (tests L o) ≡ some Refusal.BrokenRecord = past-end L o (omega arith) in rw (e, p, walk) refl
+walk-fuel (suc f) zero o L l m = by-test (eqb o (length (L .image)))
+    (λ e. rw (e, walk) refl)
+    λ e. let p : firstFault (tests L o) ≡ some Refusal.BrokenRecord = past-end L o (omega arith) in rw (e, p, walk) refl
 walk-fuel (suc f) (suc g) o L l m = go (λ p K x y. walk-fuel f g p K x y) (eqb o (length (L .image))) refl
   where
     Next : Type 0

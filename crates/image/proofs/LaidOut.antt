@@ -17,7 +17,7 @@ use Rattle.image.specs.Records.{Layout, orElse, kindAt, fieldsAt, number
 use Rattle.image.specs.Layout.{nothing, known, longEnough, rightLength, isNil, inOrder, hasCapacity, within, allWithin, inRange, sameType, isNew, tests, add, laid, walk, layout}
 use Rattle.image.specs.Types.{typeKindOf, typePlace, typeNumber, typeKind, typeFields, termKind}
 use Rattle.image.specs.LaidOut.{EndToEnd, Stands, Within, IsRecord, SameType, LaidOut}
-use Rattle.laws.proofs.Booleans.{no-path, and-i, of-lt, of-le, eq-of, of-eq}
+use Rattle.laws.proofs.Booleans.{no-path, and-i, of-lt, of-le, eq-of, of-eq, by-test}
 use Rattle.laws.proofs.Tests.{each, of-each, of-all}
 use Rattle.image.proofs.KindNumbers.{found}
 use Rattle.image.proofs.Fuel.{walk-fuel}
@@ -152,11 +152,9 @@ follows-passes K o k w =
 
 follows-walks : (f o : ℕ) (K M : Layout) (k : Kind) → Follows K o k → walk f (o + lengthAt (K .image) o) (add k o K) ≡ laid M → walk (suc f) o K ≡ laid M
 unfolding walk
-follows-walks f o K M k w h = go (eqb o (length (K .image))) refl
-  where
-    go : (t : Bool) → eqb o (length (K .image)) ≡ t → walk (suc f) o K ≡ laid M
-    go true e = let z : o ≡ length (K .image) = eq-of e in let i = w .is .stands .inside in let n = w .is .stands .size in absurd (omega arith)
-    go false e = rw (e, follows-passes K o k w, walk) (subst (λ j. walk f (o + lengthAt (K .image) o) (add j o K) ≡ laid M) (sym (kind-at K o k w)) h)
+follows-walks f o K M k w h = by-test (eqb o (length (K .image)))
+    (λ e. let z : o ≡ length (K .image) = eq-of e in let i = w .is .stands .inside in let n = w .is .stands .size in absurd (omega arith))
+    λ e. rw (e, follows-passes K o k w, walk) (subst (λ j. walk f (o + lengthAt (K .image) o) (add j o K) ≡ laid M) (sym (kind-at K o k w)) h)
 
 pub walk-end : (f o : ℕ) (K : Layout) → o ≡ length (K .image) → walk f o K ≡ laid K
 unfolding walk
@@ -249,7 +247,3 @@ module _ (L : Layout) (l : LaidOut L) where
 -- The walk lays out the records L of their image exactly if they are laid out.
 pub laid-iff : (L : Layout) → layout (L .image) ≡ laid L ↔ LaidOut L
 laid-iff L = (walked-out (L .image) L, out-walked L)
-
--- So an image has no other records than those.
-pub laid-once : (L M : Layout) → L .image ≡ M .image → LaidOut L → LaidOut M → L ≡ M
-laid-once L M e l m = let z : laid L ≡ laid M = sym (out-walked L l) ∙ ap layout e ∙ out-walked M m in cc

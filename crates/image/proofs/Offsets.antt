@@ -16,13 +16,6 @@ use Rattle.image.proofs.KindNumbers.{same-term-kind}
 use Rattle.image.proofs.Words.{words-length, words-at}
 use Rattle.image.proofs.EveryKind.{everyOf, at-term, or-else}
 
--- The first behind a list of n.
-after-first : (vs ws : List ℕ) (n : ℕ) → length vs ≡ n → getD (vs ++ ws) n 0 ≡ getD ws 0 0
-after-first [] ws zero h = refl
-after-first [] ws (suc n) h = absurd (omega arith)
-after-first (v ∷ vs) ws zero h = absurd (omega arith)
-after-first (v ∷ vs) ws (suc n) h = after-first vs ws n (omega arith)
-
 -- Field i of a record that has it; 0 where it has not.
 pub number-at : (b : List ℕ) (o : ℕ) (r : Row) (i : ℕ) → i < length (fieldsAt b o r) → getD (numbersAt b o r) i 0 ≡ fieldAt b o i
 number-at b o r i h = words-at b (o + 4) (length (fieldsAt b o r)) i h
@@ -261,13 +254,3 @@ module _ (k : TermKind) (side : sideBySide k ≡ true) (b : List ℕ) (o : ℕ) 
       let e : o + 6 + 2 * i ≡ o + 4 + 2 * suc i = omega arith in
       let l = words-length b (o + 6) (leadOf k - 1) in
       ap (λ vs. getD vs i 0) others-at ∙ List·getD-append (words b (o + 6) (leadOf k - 1)) _ 0 i (omega arith) ∙ words-at b (o + 6) (leadOf k - 1) i (omega arith) ∙ ap (λ p. le16 b p) e
-
-  -- The first of the last own fields.
-  pub last-at : 0 < trailOf k → getD (othersAt b o r) (leadOf k - 1) 0 ≡ fieldAt b o (leadOf k + length (childrenAt b o r))
-  last-at h =
-      let l = words-length b (o + 6) (leadOf k - 1) in
-      let n = fields-count in
-      let e : o + 4 + 2 * (length (fieldsAt b o r) - trailOf k) + 2 * 0 ≡ o + 4 + 2 * (leadOf k + length (childrenAt b o r)) = omega arith in
-      ap (λ vs. getD vs (leadOf k - 1) 0) others-at ∙ after-first (words b (o + 6) (leadOf k - 1)) _ (leadOf k - 1) l
-      ∙ words-at b (o + 4 + 2 * (length (fieldsAt b o r) - trailOf k)) (trailOf k) 0 h
-      ∙ ap (λ p. le16 b p) e

@@ -3,7 +3,6 @@ use Prim.Native.Nat.{ℕ, zero, suc, _≤_, _<_}
 use native.Mathlib.Omega.{arith}
 use mathlib.Core.Path.{_≡_, refl, sym, ap, subst, _∙_}
 use mathlib.Core.Bool.{Bool, true, false}
-use mathlib.Core.Logic.{_↔_}
 use mathlib.Core.List.{List, [], _∷_, _++_}
 use lib.ListN.{length, getD}
 use lib.Dec.{ltb}
@@ -194,10 +193,6 @@ module _ (L : Layout) (good : LayoutOk L) where
   -- No two type numbers have the same type.
   pub types-apart : (t u : ℕ) → t < length (L .types) → u < length (L .types) → typeOf L t ≡ typeOf L u → t ≡ u
   types-apart t u lt lu h = types-apart-below (suc t) t u (omega arith) lt lu h
-
-  -- Types are compared by number: equal numbers are equal types, and different numbers different types.
-  pub same-number : (t u : ℕ) → t < length (L .types) → u < length (L .types) → t ≡ u ↔ typeOf L t ≡ typeOf L u
-  same-number t u lt lu = (λ e. ap (λ a. typeOf L a) e, λ h. types-apart t u lt lu h)
 
 -- Layouts whose types have the same kinds and the same fields have the same types.
 module _ (L M : Layout) (good : LayoutOk L) (kinds : (t : ℕ) → t < length (L .types) → typeKind M t ≡ typeKind L t) (fields : (t : ℕ) → t < length (L .types) → typeFields M t ≡ typeFields L t) where

@@ -1,5 +1,5 @@
 -- Records on the bytes of an image (document 01, "The image"): "a length (whole record, in bytes), a kind, then fields. All are unsigned 16-bit little-endian". A record is known by its offset.
-use Prim.Native.Nat.{ℕ, zero, suc, _+_, _-_, _*_, _/_}
+use Prim.Native.Nat.{ℕ, zero, suc, _+_, _*_}
 use mathlib.Core.List.{List, [], _∷_}
 use lib.ListN.{getD}
 
@@ -12,15 +12,12 @@ unfoldable pub words : List ℕ → ℕ → ℕ → List ℕ
 words b o zero = []
 words b o (suc n) = le16 b o ∷ words b (o + 2) n
 
--- Of the record at o: its length, its kind's number, how many fields it has, and field i.
+-- Of the record at o: its length, its kind's number, and field i.
 abbrev pub lengthAt : List ℕ → ℕ → ℕ
 lengthAt b o = le16 b o
 
 abbrev pub numberAt : List ℕ → ℕ → ℕ
 numberAt b o = le16 b (o + 2)
-
-abbrev pub fieldCount : List ℕ → ℕ → ℕ
-fieldCount b o = (lengthAt b o - 4) / 2
 
 abbrev pub fieldAt : List ℕ → ℕ → ℕ → ℕ
 fieldAt b o i = le16 b (o + 4 + 2 * i)

@@ -129,7 +129,7 @@ named Op0.theStack = 0
 abbrev pub bareRow : ℕ → Row
 bareRow n = row n (a-type ∷ [])
 
--- What a term of a kind is in the calculus: an operator without operands that says all, its record's one field being its type; or what its kind alone is. Definitions and laws by kind go by this, so that one more such operator is a line of each table here.
+-- What a term of a kind is in the calculus: an operator without operands, whose record has no field but its type; or what its kind alone is. Definitions and laws by kind go by this, so that one more such operator is a line of each table here.
 pub data Form : TermKind → Type 0 where
   operator : {k : TermKind} (o : Op0) → named o ≡ 0 → termRow k ≡ bareRow (termRow k .number) → Form k
   unit : Form TermKind.unit

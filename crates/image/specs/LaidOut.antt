@@ -1,4 +1,4 @@
--- An image that is laid out (document 01, "The image"), said of all its records at once: where this does not hold is where 2 to 8 refuse.
+-- An image that is laid out (document 01, "The image"), said of all its records at once. It does not hold of exactly the images that 2 to 8 refuse.
 use Prim.Native.Nat.{ℕ, _+_, _≤_, _<_}
 use mathlib.Core.Path.{_≡_}
 use mathlib.Core.List.{List, [], _∷_, _++_}
@@ -14,7 +14,7 @@ abbrev pub EndToEnd : List ℕ → ℕ → List ℕ → Type 0
 EndToEnd b o [] = o ≡ length b
 EndToEnd b o (p ∷ ps) = (p ≡ o) × EndToEnd b (o + lengthAt b o) ps
 
--- The record at o is whole (2), has the row r's number (3), and is as long as its known fields, or longer, the group standing as often as it may (4); where there is a group, it is just as long (document 02, card 1).
+-- The record at o is whole (2), has the row r's number (3), and is as long as its known fields, or longer, and its group stands as often as it may (4); where there is a group, it is just as long (document 02, card 1).
 pub record Stands (b : List ℕ) (r : Row) (o : ℕ) : Type 0 where
   pub number : numberAt b o ≡ r .number
   pub inside : o + lengthAt b o ≤ length b

@@ -20,7 +20,7 @@ abbrev pub isSome : {A : Type 0} → Option A → Bool
 isSome none = false
 isSome (some a) = true
 
--- 2, not: 1 to 3 bytes left, length under 4 or past the end.
+-- 2: a whole record stands at o. Refused are "1 to 3 bytes left, length under 4 or past the end".
 abbrev pub framed : List ℕ → ℕ → Bool
 framed b o = all (leb (o + 4) (length b) ∷ leb 4 (lengthAt b o) ∷ leb (o + lengthAt b o) (length b) ∷ [])
 
@@ -53,7 +53,7 @@ hasCapacity domain L = ltb (length (L .domains)) domainLimit
 hasCapacity (type k) L = ltb (length (L .types)) typeLimit
 hasCapacity (term k) L = ltb (length (L .terms)) termLimit
 
--- 7: each field is in its range, the records so far being L's: so a type's parts are lower types, and a term's children lower terms.
+-- 7: each field is in its range, where L has the records so far: so a type's parts are lower types, and a term's children lower terms.
 abbrev pub within : Layout → Field → ℕ → Bool
 within L a-type v = ltb v (length (L .types))
 within L (own in-domains) v = ltb v (length (L .domains))
@@ -111,7 +111,7 @@ pub data Scan : Type 0 where
   stopped : Refusal → ℕ → Scan
   laid : Layout → Scan
 
--- From offset o on, the records before it being L's. Each record takes 4 bytes or more, so f need not pass the image's length.
+-- From offset o on, where L has the records before it. f is the fuel: each record takes at least 4 bytes, so the image's length is enough.
 unfoldable pub walk : ℕ → ℕ → Layout → Scan
 walk zero o L = elim (eqb o (length (L .image))) [ true ↦ laid L | false ↦ stopped Refusal.BrokenRecord o ]
 walk (suc f) o L =

@@ -1,5 +1,7 @@
 -- Every limit of an image and of what is lent with it (document 01, "The image", limits, and "Turned back at the gate"), each in one place. The limits of a run are the calculus's.
-use Prim.Native.Nat.{ℕ}
+use Prim.Native.Nat.{ℕ, _+_, _*_}
+use Rattle.calculus.specs.Limits.{leafLimit, cellLimit}
+use Rattle.base_bytes.specs.Memory.{memoryLength}
 
 -- The bytes of an image.
 abbrev pub imageLimit : ℕ
@@ -34,9 +36,10 @@ entryLimit = 8
 abbrev pub operationCount : ℕ
 operationCount = 4
 
--- The published length of the work area (4,418 words of 8 bytes and 513 single bytes), and the length that every report fits in.
+-- The published length of the work area, 35,857 bytes: where the machine's memory ends, of 4,418 words of 8 bytes and 513 single bytes. (Document 01, "Turned back at the gate": "one constant of at most 65,536 bytes".)
 abbrev pub workLength : ℕ
-workLength = 35857
+workLength = memoryLength
 
+-- The length that every report fits in, document 01's 17,994 bytes: a head of 10, the result's leaves, of 8 at most each, and the cells of both halves (card 9), each with a head of 6 and its leaves.
 abbrev pub reportLength : ℕ
-reportLength = 17994
+reportLength = 10 + 8 * leafLimit + 2 * cellLimit * (6 + 8 * leafLimit)

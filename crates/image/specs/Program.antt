@@ -119,6 +119,7 @@ ownDomain method-body t vs i = some (methodDom (methodsOf t) i)
 ownDomain match-body t vs i = none
 
 module _ (high : Dom → Bool) where
+  -- "High" and "low" are document 01's words ("Two runs compared"): a domain outside the set of high domains is low. A child without a domain of its own is not low.
   abbrev pub isLow : Option Dom → Bool
   isLow none = false
   isLow (some p) = not (high p)

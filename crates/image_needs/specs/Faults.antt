@@ -11,14 +11,14 @@ use Rattle.image.specs.Types.{termKind, children, rootOf}
 abbrev pub isAdvice : TermKind → Bool
 isAdvice k = isKind TermKind.adv k
 
--- Whether a term of kind k may stand here, over a first child of kind j; m: outside advice bodies. An apply or a call may not, a mark there, an install there over an advice; any other may.
+-- Whether a term of kind k may stand over a first child of kind j; m is true outside the bodies of advice. An apply and a call may not; a mark may outside these bodies, and so may an install over an advice; any other term may.
 abbrev pub permits : Bool → TermKind → TermKind → Bool
 permits m k j =
     choose (isKind TermKind.app k || isKind TermKind.call k) false
     (choose (isKind TermKind.mark k) m
     (choose (isKind TermKind.install k) (m && isAdvice j) true))
 
--- Whether a child stands outside advice bodies, its parent doing so or not.
+-- Whether a child stands outside the bodies of advice, given whether its parent does.
 abbrev pub outside : Bool → Body → Bool
 outside m here = m
 outside m function-body = m
@@ -28,7 +28,7 @@ outside m lower-body = m
 outside m method-body = m
 outside m match-body = m
 
--- The least of what f gives for some terms, child i being the first of them; else d.
+-- The least number that f gives for the terms of a list, the first of which is child i; d if the list is empty.
 unfoldable pub least : (ℕ → ℕ → ℕ) → ℕ → ℕ → List ℕ → ℕ
 least f d i [] = d
 least f d i (e ∷ es) = min (f i e) (least f d (suc i) es)

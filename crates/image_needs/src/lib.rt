@@ -7,7 +7,8 @@ ghost use Rattle.image_needs.specs.Forecasts.{forecastNumber, forecastPl
 // The number of the refusal of images that are outside the class (document 02, card 10).
 pub const OUTSIDE_NUMBER: u16 = 19;
 
-// The eleven upper numbers, in the order in which they are printed; "other" ones are of the other domains' half (card 9).
+// The eleven upper numbers, in the order in which they are printed; "other" ones are of the other domains' half (card 9). "Piece"
+// is document 01's word: the room that a pair, a pointcut or an advice takes.
 pub struct Needs {
     pub steps: u32,
     pub bindings: u32,
@@ -22,8 +23,8 @@ pub struct Needs {
     pub log: u32,
 }
 
-// What is said of an image before a launch: the check refuses it; it is outside the class, with the place of its lowest
-// fault; or its run needs no more than these numbers.
+// The forecast of an image before a launch: the check refuses it; or it is outside the class, with the place of its lowest fault;
+// or its run needs no more than these numbers.
 pub enum Forecast {
     Refused(Refusal, usize),
     OutsideClass(usize),

@@ -108,7 +108,7 @@ module _ (b : List ℕ) where
     byte : (j : ℕ) → j < trimmedLength b o → getD cut (length pre + j) 0 ≡ getD (trimmedRecord b o) j 0
     byte j h = getD-append-add pre (trimmedRecord b o ++ post) j 0 ∙ List·getD-append (trimmedRecord b o) post 0 j (let l = record-length o R in omega arith)
 
-    -- AtField the length, the bytes are the image's.
+    -- Behind the length, the bytes are the image's.
     kept : (j : ℕ) → j + 2 < trimmedLength b o → getD cut (length pre + (j + 2)) 0 ≡ getD b (o + (j + 2)) 0
     kept j h =
         let e : o + 2 + j ≡ o + (j + 2) = omega arith in

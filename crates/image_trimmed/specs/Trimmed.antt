@@ -28,7 +28,7 @@ trimmedLength b o = knownLength (rowOf (kindAt b o)) (lengthAt b o)
 abbrev pub trimmedRecord : List ℕ → ℕ → List ℕ
 trimmedRecord b o = trimmedLength b o % 256 ∷ trimmedLength b o / 256 ∷ take (trimmedLength b o - 2) (drop (o + 2) b)
 
--- The records from offset o on, each cut. Each takes 4 bytes or more of b, so f need not pass b's length.
+-- The records from offset o on, each cut. f is the fuel: each record takes at least 4 bytes of b, so b's length is enough.
 unfoldable pub trimmedFrom : ℕ → List ℕ → ℕ → List ℕ
 trimmedFrom zero b o = []
 trimmedFrom (suc f) b o = elim (leb (length b) o) [ true ↦ [] | false ↦ trimmedRecord b o ++ trimmedFrom f b (o + lengthAt b o) ]

@@ -1,17 +1,16 @@
 -- The table of a program's types is a table, and has them all.
 use Prim.Native.Nat.{ℕ}
 use mathlib.Core.Path.{_≡_, refl, sym, ap, subst, _∙_}
-use mathlib.Core.Bool.{Bool, true, false}
+use mathlib.Core.Bool.{true, false}
 use mathlib.Core.List.{List, [], _∷_, _++_, append-assoc, append-nil}
+use Rattle.laws.proofs.Booleans.{by-test}
 use Rattle.calculus.specs.Syntax.{Ty}
-use Rattle.calculus.specs.Combinators.{choose}
 use Rattle.image.specs.Program.{Program, Programs, node, blank, end, more}
 use Rattle.image_written.specs.TypeParts.{Part, sub, at, partsOf, partsFirst, joined}
 use Rattle.image_written.specs.Table.{has, enter, entered, typesIn, typesInAll, tableOf}
 use Rattle.image_written.proofs.TypeParts.{mapParts, AllSubs, by-parts, parts-first-law}
 use Rattle.image_written.proofs.Places.{has-more, has-last}
 use Rattle.image_written.proofs.Writable.{Bounded, PartsIn, TableFrom, Every, DomainsIn, Whole, Shaped, ShapedAll, Formed, FormedAll}
-use Rattle.image_written.proofs.Tables.{parts-more}
 
 pub entered-append : (T xs ys : List Ty) → entered T (xs ++ ys) ≡ entered (entered T xs) ys
 unfolding entered
@@ -32,9 +31,6 @@ has-grown : (T U : List Ty) (t : Ty) → Grown T U → has T t ≡ true → has 
 has-grown T U t g h = subst (λ X. has X t ≡ true) (sym (g .1)) (has-more T (g .0) t h)
 
 module _ (n : ℕ) where
-  parts-grown : (T U : List Ty) (ps : List (Part Ty)) → Grown T U → PartsIn n T ps → PartsIn n U ps
-  parts-grown T U ps g h = subst (λ X. PartsIn n X ps) (sym (g .1)) (parts-more n T (g .0) ps h)
-
   table-snoc : (done ts : List Ty) (t : Ty) → TableFrom n done ts → has (done ++ ts) t ≡ false → Bounded t → PartsIn n (done ++ ts) (partsOf t) → TableFrom n done (ts ++ (t ∷ []))
   table-snoc done [] t h a s p = (subst (λ X. has X t ≡ false) (append-nil done) a, s, subst (λ X. PartsIn n X (partsOf t)) (append-nil done) p, tt)
   table-snoc done (u ∷ ts) t h a s p =
@@ -52,11 +48,9 @@ module _ (n : ℕ) where
     pub there : has U t ≡ true
 
   pub enter-one : (T : List Ty) (t : Ty) → TableFrom n [] T → Bounded t → PartsIn n T (partsOf t) → Entered T (enter T t) t
-  enter-one T t h s p = go (has T t) refl
-    where
-      go : (c : Bool) → has T t ≡ c → Entered T (choose (has T t) T (T ++ (t ∷ []))) t
-      go true q = rw q (record { table = h; grown = grown-refl T; there = q })
-      go false q = rw q (record { table = table-snoc [] T t h q s p; grown = (t ∷ [], refl); there = has-last T t })
+  enter-one T t h s p = by-test (has T t)
+      (λ q. rw q (record { table = h; grown = grown-refl T; there = q }))
+      λ q. rw q (record { table = table-snoc [] T t h q s p; grown = (t ∷ [], refl); there = has-last T t })
 
   abbrev pub Enters : Ty → Type 0
   Enters t = (T : List Ty) → TableFrom n [] T → Every (Whole n) (partsFirst t) → Entered T (entered T (partsFirst t)) t

@@ -21,7 +21,7 @@ use Rattle.image_written.specs.TypeParts.{Part, sub, at, partsOf}
 use Rattle.image_written.specs.Table.{place, has, partNos}
 use Rattle.image_written.specs.Records.{Record, record-of, bytes, image}
 use Rattle.image_written.specs.Written.{terms, termsAll, roots, domainRecord, typeRecord, termRecords, termRecordsAll}
-use Rattle.image_written.proofs.TypeParts.{partFields, groupsOf, row-parts, no-groups}
+use Rattle.image_written.proofs.TypeParts.{partFields, groupsOf, row-parts}
 use Rattle.image_written.proofs.Places.{has-place, place-more}
 use Rattle.image_written.proofs.Reading.{Reads, reads-kind, Sized, reads-sorts, reads-numbers, reads-stands, placed, placed-append, Match, match-length, match-at, match-placed, match-ends}
 use Rattle.image_written.proofs.Writable.{PartsIn, TableFrom, Fielded, several, Formed, FormedAll}
@@ -107,7 +107,7 @@ module _ (n : ℕ) (T : List Ty) (table : TableFrom n [] T) where
   type-sized i l =
       let t : Ty = typeAt i in
       let b = table-bounded n [] T table i l in
-      record { count = parts-length T (partsOf t) ∙ sym (fields-length (partsOf t)) ∙ ap length (sym (row-parts t)); none = no-groups t; least = b .0; most = b .1 }
+      record { count = parts-length T (partsOf t) ∙ sym (fields-length (partsOf t)) ∙ ap length (sym (row-parts t .0)); none = row-parts t .1; least = b .0; most = b .1 }
 
   type-lawful : (i : ℕ) → i < length T → Lawful n i 0 (typeRecord T (typeAt i))
   type-lawful i l =
@@ -115,7 +115,7 @@ module _ (n : ℕ) (T : List Ty) (table : TableFrom n [] T) where
       record {
         groups = groupsOf t;
         sized = type-sized i l;
-        within = λ j h. subst (λ fs. Within n i 0 (getD fs j free) (getD (partNos T (partsOf t)) j 0)) (sym (row-parts t)) (parts-within i (omega arith) (partsOf t) (table-at n [] T table i l) j (let z = parts-length T (partsOf t) in omega arith));
+        within = λ j h. subst (λ fs. Within n i 0 (getD fs j free) (getD (partNos T (partsOf t)) j 0)) (sym (row-parts t .0)) (parts-within i (omega arith) (partsOf t) (table-at n [] T table i l) j (let z = parts-length T (partsOf t) in omega arith));
       }
 
   -- Of a layout in which the types of the table are read.

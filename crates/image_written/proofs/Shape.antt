@@ -14,7 +14,7 @@ use Rattle.image.specs.Records.{Layout}
 use Rattle.image.specs.TermFields.{termFields}
 use Rattle.image.specs.Types.{children, rootOf}
 use Rattle.image.specs.Program.{Program, Programs, node, blank, end, more}
-use Rattle.laws.proofs.Booleans.{lt-of, of-lt, ge-of, eq-of, of-eq}
+use Rattle.laws.proofs.Booleans.{lt-of, of-lt, ge-of, eq-of, of-eq, by-test}
 use Rattle.image.proofs.Laid.{LayoutOk}
 use Rattle.verdict.specs.Shape.{count, uses, usedOnce, depths}
 use Rattle.verdict.proofs.Depth.{depth-root, depth-child}
@@ -35,11 +35,7 @@ below-yes y b l = let z : ltb y b ≡ true = of-lt l in rw z refl
 
 below-no : (y b : ℕ) → b ≤ y → below y b ≡ 0
 unfolding below
-below-no y b l = go (ltb y b) refl
-  where
-    go : (c : Bool) → ltb y b ≡ c → choose {A = ℕ} (ltb y b) 1 0 ≡ 0
-    go true q = let z : y < b = lt-of q in absurd (omega arith)
-    go false q = rw q refl
+below-no y b l = by-test (ltb y b) (λ q. let z : y < b = lt-of q in absurd (omega arith)) λ q. rw q refl
 
 below-next : (r y : ℕ) → choose (eqb y r) 1 0 + below y r ≡ below y (suc r)
 below-next r y = go (ltb y r) refl (ltb r y) refl

@@ -185,7 +185,7 @@ module _ (L : Layout) (good : LayoutOk L) where
       let s = good .types j l .is .stands .size in
       let n : ℕ = times (typeRow (typeKind L j)) (lengthAt (L .image) (typePlace L j)) in
       let a : length (fieldsOf (typeRow (typeKind L j)) n) ≡ length (partsOf (typeOf L j)) =
-      ap (λ k. length (fieldsOf (typeRow k) n)) (kind-head L good j l) ∙ ap (λ c. length (fieldsOf (typeRow (headOf (typeOf L j))) c)) (sym (type-groups L good j l)) ∙ ap length (row-parts (typeOf L j)) ∙ fields-length (partsOf (typeOf L j)) in
+      ap (λ k. length (fieldsOf (typeRow k) n)) (kind-head L good j l) ∙ ap (λ c. length (fieldsOf (typeRow (headOf (typeOf L j))) c)) (sym (type-groups L good j l)) ∙ ap length (row-parts (typeOf L j) .0) ∙ fields-length (partsOf (typeOf L j)) in
       omega arith
 
   -- A term's own bytes are those of its known fields.

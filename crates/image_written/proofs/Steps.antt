@@ -8,7 +8,7 @@ use Rattle.calculus.specs.Syntax.{Ty}
 use Rattle.image.specs.Program.{Program, subtrees}
 use Rattle.image_written.specs.TypeParts.{Part, sub, at, partsOf, partsFirst, joined}
 use Rattle.image_written.specs.Table.{place, has, entered, typesIn, typesInAll}
-use Rattle.image_written.specs.Written.{terms, termsAll, roots, termRecords, termRecordsAll}
+use Rattle.image_written.specs.Written.{terms, termsAll, termRecords, termRecordsAll}
 use Rattle.image_written.proofs.TypeParts.{mapParts, AllSubs, by-parts, parts-first-law}
 use Rattle.image_written.proofs.Places.{at-place, has-place}
 use Rattle.image_written.proofs.Writable.{PartsIn, TableFrom}
@@ -53,13 +53,6 @@ module _ (g : ℕ → Program) where
 
   pub entered-snoc : (T : List Ty) (es : List ℕ) (e : ℕ) → entered T (typesInAll (subtrees g (es ++ (e ∷ [])))) ≡ entered (entered T (typesInAll (subtrees g es))) (typesIn (g e))
   entered-snoc T es e = ap (λ ts. entered T ts) (types-snoc es e) ∙ entered-append T (typesInAll (subtrees g es)) (typesIn (g e))
-
-  pub roots-snoc : (m : ℕ) (es : List ℕ) (e : ℕ) → roots m (subtrees g (es ++ (e ∷ []))) ≡ roots m (subtrees g es) ++ ((m + termsAll (subtrees g es) + terms (g e) - 1) ∷ [])
-  unfolding terms
-  roots-snoc m [] e = let z : m + terms (g e) - 1 ≡ m + 0 + terms (g e) - 1 = omega arith in ap (λ q. q ∷ []) z
-  roots-snoc m (x ∷ es) e =
-      let z : m + terms (g x) + termsAll (subtrees g es) + terms (g e) - 1 ≡ m + (terms (g x) + termsAll (subtrees g es)) + terms (g e) - 1 = omega arith in
-      ap (λ ns. (m + terms (g x) - 1) ∷ ns) (roots-snoc (m + terms (g x)) es e ∙ ap (λ q. roots (m + terms (g x)) (subtrees g es) ++ (q ∷ [])) z)
 
   pub records-snoc : (T : List Ty) (m : ℕ) (es : List ℕ) (e : ℕ) → termRecordsAll T m (subtrees g (es ++ (e ∷ []))) ≡ termRecordsAll T m (subtrees g es) ++ termRecords T (m + termsAll (subtrees g es)) (g e)
   unfolding termRecords terms

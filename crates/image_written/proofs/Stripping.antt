@@ -5,6 +5,7 @@ use mathlib.Core.Path.{_≡_, refl, sym, ap, subst, _∙_}
 use mathlib.Core.Bool.{Bool, true, false}
 use mathlib.Core.List.{List, [], _∷_, _++_}
 use lib.ListN.{length, getD}
+use Rattle.calculus.proofs.Choices.{either}
 use Rattle.calculus.specs.Syntax.{Dom, Ty, Tm, op0, abort, adv, lower}
 use Rattle.calculus.specs.Combinators.{choose}
 use Rattle.calculus.specs.Typing.{Policy, noStore, _⨾_⊢_⦂_ as TmTy, is-val, is-adv, is-lower, v-unit}
@@ -40,10 +41,6 @@ every-right P [] ys h = h
 every-right P (x ∷ xs) ys h = every-right P xs ys (h .1)
 
 -- What is so of both holds of the one that is taken.
-either : (P : Program → Type 0) (c : Bool) (x y : Program) → P x → P y → P (choose c x y)
-either P true x y a b = a
-either P false x y a b = b
-
 module _ (high : Dom → Bool) where
   mutual
     unfolding stripped
@@ -55,7 +52,7 @@ module _ (high : Dom → Bool) where
     same-stateds : (es : Programs) (low : ℕ → Bool) → stateds (strippeds high es low) ≡ stateds es
     same-stateds end low = refl
     same-stateds (more e es) low =
-        let a : stated (choose (low 0) (asUnit e) (stripped high e)) ≡ stated e = either (λ x. stated x ≡ stated e) (low 0) (asUnit e) (stripped high e) refl (same-stated e) in
+        let a : stated (choose (low 0) (asUnit e) (stripped high e)) ≡ stated e = either (λ x. stated x ≡ stated e) (low 0) refl (same-stated e) in
         let b = same-stateds es (λ i. low (suc i)) in
         cc (a, b)
 
@@ -84,7 +81,7 @@ module _ (high : Dom → Bool) where
     strip-shaped-all : (n : ℕ) (es : Programs) (low : ℕ → Bool) → ShapedAll n es → ShapedAll n (strippeds high es low)
     strip-shaped-all n end low h = tt
     strip-shaped-all n (more e es) low h =
-        (either (λ x. Shaped n x) (low 0) (asUnit e) (stripped high e) (as-unit-shaped n e (h .0)) (strip-shaped n e (h .0)), strip-shaped-all n es (λ i. low (suc i)) (h .1))
+        (either (λ x. Shaped n x) (low 0) (as-unit-shaped n e (h .0)) (strip-shaped n e (h .0)), strip-shaped-all n es (λ i. low (suc i)) (h .1))
 
   as-unit-every : (n : ℕ) (P : Ty → Type 0) (e : Program) → Shaped n e → Every P (typesIn e) → Every P (typesIn (asUnit e))
   unfolding typesIn Shaped
@@ -104,7 +101,7 @@ module _ (high : Dom → Bool) where
     strip-every-all n P (more e es) low s h =
         let a = every-left P (typesIn e) (typesInAll es) h in
         every-join P (typesIn (choose (low 0) (asUnit e) (stripped high e))) (typesInAll (strippeds high es (λ i. low (suc i))))
-        (either (λ x. Every P (typesIn x)) (low 0) (asUnit e) (stripped high e) (as-unit-every n P e (s .0) a) (strip-every n P e (s .0) a))
+        (either (λ x. Every P (typesIn x)) (low 0) (as-unit-every n P e (s .0) a) (strip-every n P e (s .0) a))
         (strip-every-all n P es (λ i. low (suc i)) (s .1) (every-right P (typesIn e) (typesInAll es) h))
 
   as-unit-shallow : (n : ℕ) (e : Program) (d : ℕ) → Shaped n e → Shallow e d → Shallow (asUnit e) d
@@ -124,7 +121,7 @@ module _ (high : Dom → Bool) where
     strip-shallow-all : (n : ℕ) (es : Programs) (low : ℕ → Bool) (d : ℕ) → ShapedAll n es → ShallowAll es d → ShallowAll (strippeds high es low) d
     strip-shallow-all n end low d s h = tt
     strip-shallow-all n (more e es) low d s h =
-        (either (λ x. Shallow x d) (low 0) (asUnit e) (stripped high e) (as-unit-shallow n e d (s .0) (h .0)) (strip-shallow n e d (s .0) (h .0)), strip-shallow-all n es (λ i. low (suc i)) d (s .1) (h .1))
+        (either (λ x. Shallow x d) (low 0) (as-unit-shallow n e d (s .0) (h .0)) (strip-shallow n e d (s .0) (h .0)), strip-shallow-all n es (λ i. low (suc i)) d (s .1) (h .1))
 
   -- No more terms, and no more bytes.
   module _ (v : Weighing) (least : (k : TermKind) (vs : List ℕ) (q : ℕ) → v TermKind.unit [] 0 ≤ v k vs q) where
@@ -146,7 +143,7 @@ module _ (high : Dom → Bool) where
       strip-lighter-all : (n : ℕ) (es : Programs) (low : ℕ → Bool) → ShapedAll n es → weightAll v (strippeds high es low) ≤ weightAll v es
       strip-lighter-all n end low s = omega arith
       strip-lighter-all n (more e es) low s =
-          let a = either (λ x. weight v x ≤ weight v e) (low 0) (asUnit e) (stripped high e) (as-unit-lighter n e (s .0)) (strip-lighter n e (s .0)) in
+          let a : weight v (choose (low 0) (asUnit e) (stripped high e)) ≤ weight v e = either (λ x. weight v x ≤ weight v e) (low 0) (as-unit-lighter n e (s .0)) (strip-lighter n e (s .0)) in
           let b = strip-lighter-all n es (λ i. low (suc i)) (s .1) in
           omega arith
 

@@ -145,31 +145,19 @@ method-fields : (ms : Sigs) → again (methods ms) (a-domain ∷ a-type ∷ []) 
 method-fields noMethod = refl
 method-fields (method p a ms) = ap (λ fs. a-domain ∷ a-type ∷ fs) (method-fields ms)
 
-pub row-parts : (t : Ty) → fieldsOf (typeRow (headOf t)) (groupsOf t) ≡ partFields (partsOf t)
-row-parts Ty.unit = refl
-row-parts Ty.truth = refl
-row-parts Ty.number = refl
-row-parts (Ty.pair a b) = refl
-row-parts (Ty.fun a p b) = refl
-row-parts (Ty.ref a p) = refl
-row-parts (Ty.label a p) = refl
-row-parts (Ty.pointcut a p) = refl
-row-parts (Ty.advice p) = refl
-row-parts (Ty.object ms) = method-fields ms
-row-parts Ty.stack = refl
-
-pub no-groups : (t : Ty) → length (typeRow (headOf t) .group) ≡ 0 → groupsOf t ≡ 0
-no-groups Ty.unit h = refl
-no-groups Ty.truth h = refl
-no-groups Ty.number h = refl
-no-groups (Ty.pair a b) h = refl
-no-groups (Ty.fun a p b) h = refl
-no-groups (Ty.ref a p) h = refl
-no-groups (Ty.label a p) h = refl
-no-groups (Ty.pointcut a p) h = refl
-no-groups (Ty.advice p) h = refl
-no-groups (Ty.object ms) h = absurd (omega arith)
-no-groups Ty.stack h = refl
+-- The fields of a type's record are its parts; a kind without a group has it no times.
+pub row-parts : (t : Ty) → (fieldsOf (typeRow (headOf t)) (groupsOf t) ≡ partFields (partsOf t)) × (length (typeRow (headOf t) .group) ≡ 0 → groupsOf t ≡ 0)
+row-parts Ty.unit = (refl, λ h. refl)
+row-parts Ty.truth = (refl, λ h. refl)
+row-parts Ty.number = (refl, λ h. refl)
+row-parts (Ty.pair a b) = (refl, λ h. refl)
+row-parts (Ty.fun a p b) = (refl, λ h. refl)
+row-parts (Ty.ref a p) = (refl, λ h. refl)
+row-parts (Ty.label a p) = (refl, λ h. refl)
+row-parts (Ty.pointcut a p) = (refl, λ h. refl)
+row-parts (Ty.advice p) = (refl, λ h. refl)
+row-parts (Ty.object ms) = (method-fields ms, λ h. absurd (omega arith))
+row-parts Ty.stack = (refl, λ h. refl)
 
 -- Types of one kind with the same parts are the same: each is what its kind makes of its parts, told by their places.
 abbrev numbersFrom : ℕ → List (Part Ty) → List ℕ

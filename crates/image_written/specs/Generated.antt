@@ -65,7 +65,7 @@ numbered s = record { tree = literal (drawn (next s)); state = next s }
 abbrev pub both : (Program → Program → Program) → Grown → (ℕ → Grown) → Grown
 both f x y = record { tree = f (x .tree) (y (x .state) .tree); state = y (x .state) .state }
 
--- What follows by the form; what is not taken waits behind a λ.
+-- What follows by the form. The branches are functions, so that the one that is not taken is not computed.
 unfoldable pub byForm : Form → (Unit {0} → Grown) → (ℕ → Grown) → (Unit {0} → Grown) → Grown
 byForm a-literal l f t = l tt
 byForm (a-sum op) l f t = f op

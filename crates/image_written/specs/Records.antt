@@ -3,6 +3,11 @@ use Prim.Native.Nat.{ℕ, _+_, _*_, _/_, _%_}
 use mathlib.Core.List.{List, [], _∷_, _++_}
 use lib.ListN.{length}
 use Rattle.image.specs.Kinds.{Kind, rowOf}
+use Rattle.image.specs.Limits.{methodLimit}
+
+-- The most known fields of a record: those of the type of an object with as many methods as there may be, two for each.
+abbrev pub fieldLimit : ℕ
+fieldLimit = 2 * methodLimit
 
 -- 16-bit numbers, little-endian.
 unfoldable pub little : List ℕ → List ℕ

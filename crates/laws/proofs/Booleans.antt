@@ -8,6 +8,11 @@ use lib.Dec.{T, eqb, ltb, leb, leb→le, le→leb, ltb→lt, lt→ltb, nltb→le
 pub no-path : {A : Type 0} → true ≡ false → A
 no-path h = let z : _≡_ {A = ℕ} 0 1 = cc in absurd (omega arith)
 
+-- A test passes or fails.
+pub by-test : {P : Type 0} (t : Bool) → (t ≡ true → P) → (t ≡ false → P) → P
+by-test true f g = f refl
+by-test false f g = g refl
+
 pub and-l : (a b : Bool) → a && b ≡ true → a ≡ true
 and-l true b h = refl
 and-l false b h = h

@@ -1,14 +1,13 @@
--- Lists: a prefix, a fact of each element, a relation between two lists' elements, an element of a mapped list.
+-- Lists: a prefix, a fact of each element, a relation between two lists' elements, an element of a mapped list, a list with one element more or another.
 use Prim.Native.Nat.{ℕ, zero, suc, _≤_, _<_}
 use native.Mathlib.Omega.{arith}
-use mathlib.Core.Path.{_≡_, refl, subst}
-use mathlib.Core.Bool.{Bool, true, false}
+use mathlib.Core.Path.{_≡_, refl, sym, subst, _∙_}
 use mathlib.Core.List.{List, [], _∷_, _++_, map, reverse, reverseAux}
 use mathlib.Core.Option.{Option, none, some, Option·some-injective}
 use lib.ListN.{length, getD, set, getElem?, length-append, List·getD-append}
-use lib.Seq.{getD-append-seam}
-use lib.Dec.{ltb}
-use Rattle.laws.proofs.Booleans.{lt-of, ge-of}
+use lib.Seq.{getD-append-seam, getD-set-same, getD-set-other}
+use lib.Dec.{ltb, eqb}
+use Rattle.laws.proofs.Booleans.{no-path, lt-of, ge-of, eq-of, of-eq, by-test}
 
 module _ {A : Type 0} where
   abbrev IsNone : Option A → Type 0
@@ -108,11 +107,15 @@ map-at f (x ∷ xs) (suc i) d e h = map-at f xs i d e (omega arith)
 -- What holds of each element and of one more holds of each of the longer list.
 pub each-snoc : (P : ℕ → ℕ → Type 0) (xs : List ℕ) (r d : ℕ) → ((t : ℕ) → t < length xs → P t (getD xs t d)) → P (length xs) r
     → (t : ℕ) → t < length (xs ++ (r ∷ [])) → P t (getD (xs ++ (r ∷ [])) t d)
-each-snoc P xs r d h z t lt = go (ltb t (length xs)) refl
-  where
-    go : (b : Bool) → ltb t (length xs) ≡ b → P t (getD (xs ++ (r ∷ [])) t d)
-    go true e = rw (List·getD-append xs (r ∷ []) d t (lt-of e)) (h t (lt-of e))
-    go false e =
-        let g : length xs ≤ t = ge-of e in
-        let q : t ≡ length xs = omega (arith, length-append xs (r ∷ [])) in
-        rw (q, getD-append-seam xs r [] d) z
+each-snoc P xs r d h z t lt = by-test (ltb t (length xs))
+    (λ e. rw (List·getD-append xs (r ∷ []) d t (lt-of e)) (h t (lt-of e)))
+    λ e.
+    let g : length xs ≤ t = ge-of e in
+    let q : t ≡ length xs = omega (arith, length-append xs (r ∷ [])) in
+    rw (q, getD-append-seam xs r [] d) z
+
+-- A list changed at place i: what holds of the new element there, and of the old ones elsewhere, holds of each.
+pub each-set : (P : ℕ → ℕ → Type 0) (xs : List ℕ) (i v d : ℕ) → i < length xs → P i v → ((j : ℕ) → (j ≡ i → ⊥) → P j (getD xs j d)) → (j : ℕ) → P j (getD (set xs i v) j d)
+each-set P xs i v d l h k j = by-test (eqb j i)
+    (λ e. let q : j ≡ i = eq-of e in rw (q, getD-set-same xs i v d l) h)
+    λ e. let n : j ≡ i → ⊥ = λ q. no-path (sym (of-eq q) ∙ e) in rw (getD-set-other xs i j v d n) (k j n)

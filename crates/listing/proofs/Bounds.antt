@@ -9,7 +9,8 @@ use mathlib.Core.Option.{Option, none, some}
 use lib.ListN.{length, getD, take, drop, length-append, length-take, length-drop}
 use lib.Seq.{getD-drop}
 use lib.Dec.{leb, ltb, eqb}
-use borrow.Author.Tests.{ltb-true, ltb-false}
+use borrow.Author.Tests.{ltb-true, ltb-false, leb-true}
+use Rattle.calculus.proofs.EveryOutcome.{at-outcome}
 use Rattle.calculus.specs.declared.Outcome.{Outcome}
 use Rattle.calculus.specs.declared.Leaf.{Leaf}
 use Rattle.calculus.specs.Combinators.{choose}
@@ -24,12 +25,12 @@ use Rattle.report.specs.declared.Ending.{Ending}
 use Rattle.report.specs.Records.{lengthOf, isWhole, firstRecord, recordsIn}
 use Rattle.report.specs.Read.{printIn, leafIn, cellIn, readReport}
 use Rattle.report.proofs.ReadRecords.{read-none, read-whole}
-use Rattle.listing.specs.Text.{ascii, decimal, signedDecimal, texts}
-use Rattle.listing.specs.Lines.{printLine, leafText, outcomeWord, outcomeLine, valueLine, resultLine, endingLines, cellLine, refusalLine}
+use Rattle.listing_lines.specs.Text.{ascii, decimal, signedDecimal, texts}
+use Rattle.listing_lines.specs.Lines.{printLine, leafText, outcomeWord, outcomeLine, valueLine, resultLine, endingLines, cellLine, refusalLine}
 use Rattle.listing.specs.Listing.{runListing, listingBound, refusalBound}
-use Rattle.listing.specs.Offsets.{textIf, printTextIn, leafTextIn, cellTextIn}
-use Rattle.listing.proofs.Decimal.{one-digit, more-digits}
-use Rattle.listing.proofs.Walk.{textIn, text-record, whole-long, whole-within}
+use Rattle.listing_lines.specs.Offsets.{textIf, printTextIn, leafTextIn, cellTextIn}
+use Rattle.listing_lines.proofs.Decimal.{one-digit, more-digits}
+use Rattle.listing_lines.proofs.Walk.{textIn, text-record, whole-long, whole-within}
 
 -- Numbers below 10 have one digit, and numbers below ten times as much have one more.
 tenfold : (m k : ℕ) → ((n : ℕ) → n < m → length (decimal n) ≤ suc k) → (n : ℕ) → n < 10 * m → length (decimal n) ≤ suc (suc k)
@@ -196,19 +197,7 @@ cell-short r h = look (eqb (r .kind) 68) (eqb (r .kind) 69)
 
 -- How a run ended.
 word-short : (o : Outcome) → length (ascii (outcomeWord o)) ≤ 14
-word-short Outcome.Done = omega arith
-word-short Outcome.Spent = omega arith
-word-short Outcome.Aborted = omega arith
-word-short Outcome.Frames = omega arith
-word-short Outcome.Bindings = omega arith
-word-short Outcome.Cells = omega arith
-word-short Outcome.Labels = omega arith
-word-short Outcome.Advice = omega arith
-word-short Outcome.Pieces = omega arith
-word-short Outcome.Log = omega arith
-word-short Outcome.OtherBindings = omega arith
-word-short Outcome.OtherCells = omega arith
-word-short Outcome.OtherPieces = omega arith
+word-short o = leb-true _ _ (at-outcome (λ o. leb (length (ascii (outcomeWord o))) 14) (λ o. true) refl o)
 
 outcome-short : (o : Outcome) (steps : ℕ) → steps < wordSize → length (outcomeLine o steps) ≤ 26
 outcome-short o steps h =

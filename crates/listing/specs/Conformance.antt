@@ -7,7 +7,7 @@ use Rattle.image.specs.Limits.{workLength, reportLength}
 use Rattle.base_bytes.specs.Bytes.{over}
 use Rattle.call_spec.specs.Calls.{Left, called}
 use Rattle.listing.specs.Listing.{listing, listingBound}
-use Rattle.listing.specs.Puts.{Front}
+use Rattle.listing_lines.specs.Puts.{Front}
 
 -- The first n numbers, in order.
 unfoldable pub upTo : ℕ → List ℕ

@@ -6,8 +6,8 @@ use Rattle.verdict.specs.declared.Verdict.{Verdict}
 use Rattle.report.specs.declared.Ending.{Ending}
 use Rattle.report.specs.Read.{readLog, readReport}
 use Rattle.call_spec.specs.declared.Answer.{Answer}
-use Rattle.listing.specs.Text.{texts}
-use Rattle.listing.specs.Lines.{printLine, endingLines, cellLine, refusalLine}
+use Rattle.listing_lines.specs.Text.{texts}
+use Rattle.listing_lines.specs.Lines.{printLine, endingLines, cellLine, refusalLine}
 
 -- Of a run that wrote these bytes of log and of report.
 abbrev pub runListing : Ending → ℕ → List ℕ → List ℕ → List ℕ

@@ -1,21 +1,15 @@
-// What `watch` prints (document 01, "Bench sheet"), put into a lent buffer: the definition of the text in specs/, and here
-// the functions that put it. Each puts as much of its text as fits and answers the offset past it.
-mod endings;
-mod leaves;
-mod lines;
-mod offsets;
-mod text;
-
+// What `watch` prints (document 01, "Bench sheet"), put into a lent buffer: the listing in specs/, and here the functions that
+// put it, line by line (listing_lines). Each puts as much of its text as fits and answers the offset past it.
 use call_spec::Answer;
 use image::Refusal;
+use listing_lines::text::put;
+use listing_lines::text::put_decimal;
 use report::Ending;
-use text::put;
-use text::put_decimal;
 use verdict::Verdict;
 ghost use lib.ListN.{length};
-ghost use Rattle.listing.specs.Lines.{refusalLine, verdictLine};
+ghost use Rattle.listing_lines.specs.Lines.{refusalLine, verdictLine};
 ghost use Rattle.listing.specs.Listing.{runListing, listing, refusalBound, listingBound};
-ghost use Rattle.listing.specs.Puts.{PutsWithin};
+ghost use Rattle.listing_lines.specs.Puts.{PutsWithin};
 
 // No verdict's line is longer: `refusalBound`.
 pub const REFUSAL_LENGTH: usize = 40;
@@ -45,9 +39,9 @@ pub fn put_verdict(out: &mut [u8], v: Verdict) -> usize
 fn put_run(out: &mut [u8], ending: Ending, steps: u32, log: &[u8], report: &[u8]) -> usize
     ensures { λ r. ⌜ PutsWithin (listingBound (length (now (log .entry))) (length (now (report .entry)))) (now (out .entry)) (runListing ending steps (now (log .entry)) (now (report .entry))) (now (out .exit)) r ⌝ }
 {
-    let o = lines::put_prints(out, 0, log);
-    let o = endings::put_ending(out, o, ending, steps, report);
-    lines::put_cells(out, o, report)
+    let o = listing_lines::lines::put_prints(out, 0, log);
+    let o = listing_lines::endings::put_ending(out, o, ending, steps, report);
+    listing_lines::lines::put_cells(out, o, report)
 }
 
 // The listing of a call with this answer, after which log and report hold these bytes.
@@ -62,8 +56,8 @@ pub fn put_listing(out: &mut [u8], a: Answer, log: &[u8], report: &[u8]) -> usiz
             out,
             ending,
             a.steps,
-            offsets::front(log, a.log),
-            offsets::front(report, a.report),
+            listing_lines::offsets::front(log, a.log),
+            listing_lines::offsets::front(report, a.report),
         ),
     }
 }

@@ -8,12 +8,10 @@ use need_sums::sums::add;
 use need_sums::sums::no_needs;
 use need_sums::sums::raise;
 use read_records::numbers::DomainNo;
+use read_records::numbers::MAINLINE;
 ghost use mathlib.Core.Path.{_≡_};
 ghost use Prim.Native.Nat.{_+_, _≤_};
 ghost use Rattle.need_sums.specs.Walks.{placeLimit, stepNeeds, chargedNeeds, ownNeeds, addedNeeds, chosenNeeds};
-
-// The mainline's domain.
-pub const MAINLINE: u16 = 0;
 
 // One step under so many unfinished terms.
 fn step_under(depth: u32) -> Needs
@@ -30,7 +28,7 @@ fn charged(n: Needs, dom: DomainNo, bindings: u32, cells: u32, pieces: u32) -> N
     ensures { λ r. ⌜ r ≡ chargedNeeds n (dom .0) bindings cells pieces ⌝ }
 {
     let mut m = n;
-    if dom.0 == MAINLINE {
+    if dom.0 == MAINLINE.0 {
         m.bindings = bindings;
         m.cells = cells;
         m.pieces = pieces;
@@ -151,7 +149,7 @@ fn branches(role: Role) -> bool
     }
 }
 
-// What a child adds that takes x: nothing as a branch.
+// What a child that takes x adds to its parent: nothing, if it is a branch.
 pub fn added(s: Position, role: Role, x: Needs) -> Needs
     ensures { λ r. ⌜ r ≡ addedNeeds s role x ⌝ }
 {

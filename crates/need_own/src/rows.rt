@@ -1,5 +1,5 @@
 // Tables of pieces: what all advice takes of them at a mark, for each number of values that may be kept around it.
-use crate::own::MAINLINE;
+use image::DEPTH_LIMIT;
 use image_needs::Needs;
 use laws::both;
 use need_sums::positions::Mode;
@@ -7,6 +7,7 @@ use need_sums::positions::Position;
 use need_sums::shapes::Own;
 use need_sums::sums::larger;
 use need_sums::sums::plus;
+use read_records::numbers::MAINLINE;
 ghost use mathlib.Core.Path.{_≡_};
 ghost use Prim.Native.Nat.{_+_, _-_, _≤_, _<_, max};
 ghost use lib.ListN.{length, getD};
@@ -15,9 +16,9 @@ ghost use Rattle.need_sums.specs.Walks.{placeLimit};
 ghost use Rattle.need_sums.specs.Rows.{rowCount, tableLength, atMark, Changed, piecesOf, takesPieces, inBody, ownPieces, Summed};
 
 // A row for each number of kept values, in each half: an image is at most so deep.
-const ROWS: usize = 64;
+const ROWS: usize = DEPTH_LIMIT;
 
-const TABLE: usize = 128;
+pub const TABLE: usize = 2 * ROWS;
 
 // What all advice takes at a mark with so many values kept around it; w has all numbers but the pieces.
 pub fn at_mark(w: Needs, rows: &[u32], kept: u32) -> Needs
@@ -133,7 +134,7 @@ pub fn charge_rows(rows: &mut [u32], own: Own, s: Position)
     let mode = s.mode;
     let c = s.dom;
     if both(is_body(mode), takes_pieces(own)) {
-        if c.0 == MAINLINE {
+        if c.0 == MAINLINE.0 {
             charge_quota(rows, 0, own, s.kept);
         } else {
             charge_quota(rows, ROWS, own, s.kept);

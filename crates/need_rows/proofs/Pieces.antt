@@ -89,8 +89,7 @@ charged-at : (P : ℕ → Here) (c : Dom) (u : ℕ → Counts) (x : ℕ)
 unfolding _⊕_
 charged-at P c u x = look (ltb x rowCount)
   where
-    look : (b : Bool)
-        → choose b (0 + uses c (u x) .used .mainline .pieces) (0 + uses c (u (x - rowCount)) .used .others .pieces)
+    look : (b : Bool) → choose b (0 + uses c (u x) .used .mainline .pieces) (0 + uses c (u (x - rowCount)) .used .others .pieces)
         ≡ choose b (choose (eqb c 0) (u x .pieces) 0) (choose (eqb c 0) 0 (u (x - rowCount) .pieces))
     look true = let h = mainline-of c (u x) in omega arith
     look false = let h = others-of c (u (x - rowCount)) in omega arith

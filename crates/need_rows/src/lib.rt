@@ -1,6 +1,9 @@
 // An inner crate: what all advice takes of pieces at a mark, for each number of values that may be kept around it (document 02,
 // cards 6 and 10), by one walk over the terms of an image.
+use image::TERM_LIMIT;
+use image::TYPE_LIMIT;
 use need_own::own::is_branch;
+use need_own::rows::TABLE;
 use need_own::rows::add_rows;
 use need_own::rows::charge_rows;
 use need_own::rows::raise_rows;
@@ -37,8 +40,8 @@ pub struct Branches {
 // only a term with branches has it.
 fn add_branches(
     image: &[u8],
-    terms: &[u16; 1024],
-    descriptors: &[u32; 128],
+    terms: &[u16; TERM_LIMIT],
+    descriptors: &[u32; TYPE_LIMIT],
     both: Branches,
     s: Position,
     rows: &mut [u32],
@@ -48,7 +51,7 @@ fn add_branches(
 {
     let first = both.first;
     let second = both.second;
-    let mut other = [0u32; 128];
+    let mut other = [0u32; TABLE];
     add_rows(&mut other, rows);
     add_pieces(image, terms, descriptors, first, s, rows);
     add_pieces(image, terms, descriptors, second, s, &mut other);
@@ -58,8 +61,8 @@ fn add_branches(
 // Adds to each row what a term and the terms below it take there. All adds up but branches, of which the dearer counts.
 pub fn add_pieces(
     image: &[u8],
-    terms: &[u16; 1024],
-    descriptors: &[u32; 128],
+    terms: &[u16; TERM_LIMIT],
+    descriptors: &[u32; TYPE_LIMIT],
     n: TermNo,
     s: Position,
     rows: &mut [u32],

@@ -1,5 +1,5 @@
 -- Tables of pieces (document 02, card 10). A stack takes a piece for each value kept around it (card 6), so what all advice takes at a mark depends on how many are kept there, in pieces alone. A table has a row for each such number: row k of the mainline's half (card 9) at k, of the others' behind all of these.
-use Prim.Native.Nat.{ℕ, _+_, _-_, _≤_, _<_}
+use Prim.Native.Nat.{ℕ, _+_, _-_, _*_, _≤_, _<_}
 use mathlib.Core.Path.{_≡_}
 use mathlib.Core.Bool.{Bool, true, false}
 use mathlib.Core.List.{List}
@@ -18,7 +18,7 @@ abbrev pub rowCount : ℕ
 rowCount = depthLimit
 
 abbrev pub tableLength : ℕ
-tableLength = 128
+tableLength = 2 * rowCount
 
 -- What all advice takes at a mark with k values kept around it; w has all numbers but the pieces.
 unfoldable pub atMark : Needs → List ℕ → ℕ → Needs

@@ -1,10 +1,11 @@
 -- A walk over the terms of an image that works out the numbers of card 10 (document 02), as its functions say it: a table of the kinds, where a child stands, and what a term takes itself.
-use Prim.Native.Nat.{ℕ, zero, suc, _+_}
+use Prim.Native.Nat.{ℕ, zero, suc, _+_, _*_}
 use mathlib.Core.Bool.{Bool, true, false}
 use lib.Dec.{eqb}
 use Rattle.calculus.specs.Combinators.{choose}
 use Rattle.calculus_needs.specs.Needs.{Extra, noExtra, aNewLabel, keptPieces, extra0}
 use Rattle.image.specs.Kinds.{TermKind, Form, operator, formOf}
+use Rattle.image.specs.Limits.{termLimit}
 use Rattle.image_needs.specs.declared.Needs.{Needs}
 use Rattle.need_sums.specs.declared.shapes.Own.{Own}
 use Rattle.need_sums.specs.declared.shapes.Role.{Role}
@@ -13,9 +14,9 @@ use Rattle.need_sums.specs.declared.positions.Mode.{Mode}
 use Rattle.need_sums.specs.declared.positions.Position.{Position}
 use Rattle.need_sums.specs.Sums.{noNeeds, addNeeds, raiseNeeds}
 
--- Depths and kept values that a walk comes to are below this: an image has at most 1,024 terms.
+-- Depths and kept values that a walk comes to are below this: no term is deeper than there are terms.
 abbrev pub placeLimit : ℕ
-placeLimit = 4096
+placeLimit = 4 * termLimit
 
 -- The table of kinds.
 abbrev pub childless : Own → Shape

@@ -5,8 +5,8 @@ ghost use mathlib.Core.Path.{_≡_};
 ghost use Prim.Native.Nat.{_+_, _≤_};
 ghost use Rattle.need_sums.specs.Walks.{placeLimit, childPosition};
 
-// What is asked of a term: nothing; what it takes where it stands, in the program or in the body of an advice; what the advice
-// that it installs takes at a mark, the term itself being what is installed or not.
+// What is asked of a term: nothing; what it takes where it stands, in the program or in the body of an advice; or what the advice
+// that it installs takes at a mark, where the term is what is installed or is not.
 pub enum Mode {
     Skip,
     Program,

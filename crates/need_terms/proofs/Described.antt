@@ -31,7 +31,7 @@ use Rattle.read_terms.proofs.Located.{good-of, image-is, number-is, typed-in, t
 use Rattle.read_terms.proofs.Matches.{close-told}
 use Rattle.read_terms.specs.Descriptors.{descriptorDomain}
 use Rattle.read_terms.proofs.Described.{descriptor-domain}
-use Rattle.need_terms.specs.GivenToChildren.{partDomain, branchVariables, withOne, domainIn, matchVariables, variablesIn, HasFields, MatchPart, Part}
+use Rattle.need_terms.specs.GivenToChildren.{partDomain, branchVariables, withOne, domainIn, matchVariables, variablesIn, HasFields, MatchPart, Part, childBound}
 
 -- The domain in a lower's field.
 lower-field : (fs : List ℕ) → fieldIn fs 1 ≡ getD (othersIn fs TermKind.lower) 0 0
@@ -85,7 +85,7 @@ module _ {b table : List ℕ} (T : Terms b table) {n : ℕ} (h : IsTerm b n) whe
   pub match-three : termKind L n ≡ TermKind.match → 3 ≤ length (children L n)
   match-three e = let z = match-pointcuts (others L n) (length (children L n)) (fitting e) in omega arith
 
-  match-few : termKind L n ≡ TermKind.match → length (children L n) ≤ 4096
+  match-few : termKind L n ≡ TermKind.match → length (children L n) ≤ childBound
   match-few e =
       let t = good-of b (T .laid-out) .terms n h in
       let c : length (children L n) ≤ mostChildren (termRow (termKind L n)) =

@@ -14,6 +14,7 @@ use Rattle.image.specs.Layout.{recordsOf}
 use Rattle.image.specs.Types.{termPlace}
 use Rattle.image.specs.Kinds.{TermKind, termRow, isKind}
 use Rattle.image.specs.Program.{patternOf}
+use Rattle.image.specs.Limits.{termLimit}
 use Rattle.read_records.specs.Heads.{fieldIn}
 use Rattle.read_terms.specs.Lent.{IsTerm}
 use Rattle.read_terms.specs.Fields.{fieldsOf, childrenIn, HasChild, firstEntry, entryCount}
@@ -49,11 +50,15 @@ pub record HasFields (b : List ℕ) (n kind : ℕ) (fs : List ℕ) : Type 0 wher
   pub number : kind ≡ numberAt b (termPlace (recordsOf b) n)
   pub fields : fs ≡ fieldsOf b n
 
+-- No term has so many children.
+abbrev pub childBound : ℕ
+childBound = 4 * termLimit
+
 -- The part of a match: the close stands behind its entries, and it has three children at least and few.
 pub record MatchPart (fs : List ℕ) : Type 0 where
   pub long : 2 * (firstEntry + entryCount fs) + 1 < length fs
   pub three : 3 ≤ length (childrenIn fs TermKind.match)
-  pub few : length (childrenIn fs TermKind.match) ≤ 4096
+  pub few : length (childrenIn fs TermKind.match) ≤ childBound
 
 -- The fields of a term whose head has the number of a kind: they begin with a type, hold the kind's own fields, and have its children.
 pub record Part (kind : ℕ) (fs : List ℕ) : Type 0 where

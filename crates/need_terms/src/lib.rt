@@ -1,5 +1,8 @@
 // An inner crate: what the fields of a term's record tell the walks of card 10 (document 02). Each function takes the number of
-// the kind, from the record's head, and the fields as the part of the image that the reader lent.
+// the kind, from the record's head, and the fields as the part of the image that the reader lent. And refusal 19: the lowest term that
+// may not stand where it does.
+pub mod class;
+
 use read_records::fields::domain_field;
 use read_records::kinds;
 use read_records::numbers::DomainNo;
@@ -16,7 +19,7 @@ ghost use lib.ListN.{length, getD};
 ghost use Rattle.image.specs.Kinds.{TermKind, termRow};
 ghost use Rattle.read_records.specs.Heads.{fieldIn};
 ghost use Rattle.read_terms.specs.Fields.{childrenIn};
-ghost use Rattle.need_terms.specs.GivenToChildren.{Part, domainIn, variablesIn};
+ghost use Rattle.need_terms.specs.GivenToChildren.{Part, domainIn, variablesIn, childBound};
 
 // The field of a lower's domain: it stands behind the type.
 const LOWERED: usize = 1;
@@ -46,7 +49,7 @@ pub fn part_domain(kind: u16, fields: &[u8], descriptors: &[u32]) -> DomainNo
 // One more if it is so.
 fn with_one(n: usize, more: bool) -> u32
     requires { ⌜ n ≤ 4095 ⌝ }
-    ensures { λ r. ⌜ (r ≡ Rattle.need_terms.specs.GivenToChildren.withOne n more) × (r ≤ 4096) ⌝ }
+    ensures { λ r. ⌜ (r ≡ Rattle.need_terms.specs.GivenToChildren.withOne n more) × (r ≤ childBound) ⌝ }
 {
     if more {
         return (n as u32) + 1;
@@ -57,7 +60,7 @@ fn with_one(n: usize, more: bool) -> u32
 // How many variables the first branch of a match binds: one for each pointcut, and one for the rest of the stack.
 pub fn branch_variables(kind: u16, fields: &[u8]) -> u32
     requires { ⌜ Part kind (now fields) ⌝ }
-    ensures { λ r. ⌜ ((k : TermKind) → kind ≡ termRow k .number → r ≡ variablesIn (now (fields .entry)) k) × (r ≤ 4096) ⌝ }
+    ensures { λ r. ⌜ ((k : TermKind) → kind ≡ termRow k .number → r ≡ variablesIn (now (fields .entry)) k) × (r ≤ childBound) ⌝ }
 {
     if kind == kinds::MATCH {
         let k = child_count(kind, fields);

@@ -58,8 +58,7 @@ charged-cut : (d c b e g : ℕ) → d ≤ placeLimit → b ≤ placeLimit → e 
 unfolding _⊕_ cutNeeds
 charged-cut d c b e g hd hb he hg = look (eqb c 0)
   where
-    look : (t : Bool)
-        → choose t
+    look : (t : Bool) → choose t
         (record { steps = 1; bindings = b; «other_bindings» = 0; pieces = g; «other_pieces» = 0; cells = e; «other_cells» = 0; labels = 0; advice = 0; frames = d; log = 0 })
         (record { steps = 1; bindings = 0; «other_bindings» = b; pieces = 0; «other_pieces» = g; cells = 0; «other_cells» = e; labels = 0; advice = 0; frames = d; log = 0 })
         ≡ cutNeeds (once (record { dom = c; depth = d; kept = 0 })
@@ -97,8 +96,7 @@ module _ (s : Position) (hd : s .depth ≤ placeLimit) (hk : s .kept ≤ placeLi
   unfolding _⊕_ cutNeeds
   round-start p = look (eqb p 0)
     where
-      look : (t : Bool)
-          → choose t
+      look : (t : Bool) → choose t
           (record { steps = 2; bindings = 1; «other_bindings» = 0; pieces = 0; «other_pieces» = 0; cells = 0; «other_cells» = 0; labels = 0; advice = 0; frames = s .depth + 1; log = 0 })
           (record { steps = 2; bindings = 0; «other_bindings» = 1; pieces = 0; «other_pieces» = 0; cells = 0; «other_cells» = 0; labels = 0; advice = 0; frames = s .depth + 1; log = 0 })
           ≡ cutNeeds (record {
@@ -136,8 +134,7 @@ bound-cut : (c v : ℕ) → v ≤ placeLimit → chargedNeeds noNeeds c v 0 0 �
 unfolding cutNeeds
 bound-cut c v h = look (eqb c 0)
   where
-    look : (t : Bool)
-        → choose t
+    look : (t : Bool) → choose t
         (record { steps = 0; bindings = v; «other_bindings» = 0; pieces = 0; «other_pieces» = 0; cells = 0; «other_cells» = 0; labels = 0; advice = 0; frames = 0; log = 0 })
         (record { steps = 0; bindings = 0; «other_bindings» = v; pieces = 0; «other_pieces» = 0; cells = 0; «other_cells» = 0; labels = 0; advice = 0; frames = 0; log = 0 })
         ≡ cutNeeds (record {

@@ -221,8 +221,7 @@ module _ (r : Tm) (c : Dom) (d q : ℕ) (p : Dom) (v : ℕ) where
   in-mode Mode.InstalledAdvice k t vs es full ep ev = run-round k t vs es full ep
 
 -- Of any place.
-pub by-kind : (r : Tm) (s : Position) (k : TermKind) (t : Ty) (vs : List ℕ) (es : Tms) → Full k es
-    → counted r s (assemble k t vs es)
+pub by-kind : (r : Tm) (s : Position) (k : TermKind) (t : Ty) (vs : List ℕ) (es : Tms) → Full k es → counted r s (assemble k t vs es)
     ≡ ownCounted r s (shapeOf k .own) (partDomain k t vs)
     ⊕ (joined sums (λ i e. added s (roleAt (shapeOf k) i) (counted r (childPosition s (roleAt (shapeOf k) i) (partDomain k t vs)) e)) 0 es
     ⊕ joined choices (λ i e. offered s (roleAt (shapeOf k) i) (branchVariables k vs) (counted r (childPosition s (roleAt (shapeOf k) i) (partDomain k t vs)) e)) 0 es)

@@ -60,9 +60,9 @@ pub fn mark_position() -> Position
     }
 }
 
-// What a term and the terms below it take where they stand. A constant or a variable takes nothing. Each level goes to a lower number. What all advice takes at a mark
-// that nothing encloses is known: its pieces by the rows of a table, one for each number of kept values, the rest of it as it
-// is at every mark.
+// What a term and the terms below it take where they stand. A constant or a variable takes nothing. Each level goes to a lower
+// number. What all advice takes at a mark that nothing encloses is known: its pieces by the rows of a table, one for each number
+// of kept values, the rest of it as it is at every mark.
 pub fn walk(
     image: &[u8],
     terms: &[u16],

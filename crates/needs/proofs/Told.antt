@@ -15,7 +15,7 @@ use Rattle.calculus_needs.proofs.Small.{most}
 use Rattle.calculus_needs.proofs.Shift.{level}
 use Rattle.calculus_needs.proofs.Kept.{pieceless, rounds-alike}
 use Rattle.image.specs.declared.Refusal.{Refusal}
-use Rattle.image.specs.Limits.{imageLimit, workLength, reportLength}
+use Rattle.image.specs.Limits.{imageLimit, workLength, reportLength, termLimit}
 use Rattle.image.specs.Records.{Layout}
 use Rattle.image.specs.Layout.{recordsOf}
 use Rattle.image.specs.Types.{termPlace, rootOf}
@@ -34,7 +34,7 @@ use Rattle.image_needs.specs.declared.Forecast.{Forecast}
 use Rattle.image_needs.specs.Faults.{lowest, lowestFault}
 use Rattle.image_needs.specs.Forecasts.{needsOf, classed, unless, forecast}
 use Rattle.image_needs.proofs.Fits.{deepest, highest, accepted-small}
-use Rattle.need_class.specs.First.{lowestAt}
+use Rattle.need_terms.specs.First.{lowestAt}
 use Rattle.need_sums.specs.declared.positions.Position.{Position}
 use Rattle.need_sums.specs.Sums.{cut, cutNeeds}
 use Rattle.need_sums.specs.Rows.{rowCount, tableLength, atMark, Summed}
@@ -68,10 +68,10 @@ alike-cut m n w rows k ew e p q =
 root-depth : (L : Layout) (r : ℕ) → r ≡ rootOf L → Depth L r 1
 root-depth L r e = subst (λ m. Depth L m 1) (sym e) Depth.at-root
 
-pub level-placed : (L : Layout) (s : Position) (r : ℕ) → s ≡ markPosition 0 → r ≡ rootOf L → r < 1024 → Shallow L → Placed L s r
+pub level-placed : (L : Layout) (s : Position) (r : ℕ) → s ≡ markPosition 0 → r ≡ rootOf L → r < termLimit → Shallow L → Placed L s r
 level-placed L s r e er h sh = rw e (record { deep = omega arith; shallow = sh; own-depth = 1; at-depth = root-depth L r er; kept = omega arith })
 
-pub program-placed : (L : Layout) (s : Position) (r : ℕ) → s ≡ programPosition → r ≡ rootOf L → r < 1024 → Shallow L → Placed L s r
+pub program-placed : (L : Layout) (s : Position) (r : ℕ) → s ≡ programPosition → r ≡ rootOf L → r < termLimit → Shallow L → Placed L s r
 program-placed L s r e er h sh = rw e (record { deep = omega arith; shallow = sh; own-depth = 1; at-depth = root-depth L r er; kept = omega arith })
 
 -- All advice at a mark: its pieces by the rows, the rest as it is where no value is kept.

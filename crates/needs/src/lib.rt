@@ -1,19 +1,23 @@
 // What a flight will need (document 02, card 10): for an image that the check accepts and that is in the class, upper numbers
 // of steps, of bindings, pieces and cells for each half, and of labels, advice, frames and log records; for any other image
 // the one refusal. It reads the image alone, writes no lent memory and makes no run.
+use image::DOMAIN_LIMIT;
 use image::IMAGE_LIMIT;
 use image::Refusal;
+use image::TERM_LIMIT;
+use image::TYPE_LIMIT;
 use image_needs::Forecast;
 use image_needs::Needs;
-use need_class::lowest_fault;
+use need_own::rows::TABLE;
 use need_rows::add_pieces;
 use need_sums::positions::Mode;
 use need_sums::positions::Position;
 use need_sums::sums::no_needs;
+use need_terms::class::lowest_fault;
 use need_walk::Visit;
 use need_walk::mark_position;
 use need_walk::walk;
-use read_records::numbers::DomainNo;
+use read_records::numbers::MAINLINE;
 use read_records::numbers::TermNo;
 use read_terms::terms::term_place;
 use validator_core::examine::Checked;
@@ -35,7 +39,7 @@ fn program_position() -> Position
 {
     Position {
         mode: Mode::Program,
-        dom: DomainNo(0),
+        dom: MAINLINE,
         depth: 0,
         kept: 0,
     }
@@ -43,11 +47,16 @@ fn program_position() -> Position
 
 // The numbers of a program: first what all its advice takes at a mark, with no value kept around it; then its pieces for each
 // number of kept values; then the program itself.
-fn program_needs(image: &[u8], terms: &[u16; 1024], descriptors: &[u32; 128], root: TermNo) -> Needs
+fn program_needs(
+    image: &[u8],
+    terms: &[u16; TERM_LIMIT],
+    descriptors: &[u32; TYPE_LIMIT],
+    root: TermNo,
+) -> Needs
     requires { ⌜ Lent (now image) (now terms) (now descriptors) × (0 < length (recordsOf (now image) .terms)) × (root .0 ≡ rootOf (recordsOf (now image))) × Shallow (recordsOf (now image)) ⌝ }
     ensures { λ r. ⌜ r ≡ cutProgram (recordsOf (now (image .entry))) ⌝ }
 {
-    let mut rows = [0u32; 128];
+    let mut rows = [0u32; TABLE];
     let none = no_needs();
     let each = walk(
         image,
@@ -77,8 +86,8 @@ fn program_needs(image: &[u8], terms: &[u16; 1024], descriptors: &[u32; 128], ro
 // Of an image that the check accepts, with so many terms.
 fn forecast_accepted(
     image: &[u8],
-    terms: &[u16; 1024],
-    descriptors: &[u32; 128],
+    terms: &[u16; TERM_LIMIT],
+    descriptors: &[u32; TYPE_LIMIT],
     count: usize,
 ) -> Forecast
     requires { ⌜ Lent (now image) (now terms) (now descriptors) × (0 < count) × (count ≡ length (recordsOf (now image) .terms)) × Shallow (recordsOf (now image)) ⌝ }
@@ -98,19 +107,11 @@ fn forecast_checked(image: &[u8]) -> Forecast
     requires { ⌜ length (now image) ≤ imageLimit ⌝ }
     ensures { λ r. ⌜ r ≡ forecast (now (image .entry)) ⌝ }
 {
-    let kinds = read_records::table::kind_codes();
-    let mut doms = [0u16; 16];
-    let mut types = [0u16; 128];
-    let mut descriptors = [0u32; 128];
-    let mut terms = [0u16; 1024];
-    let checked = examine_image(
-        image,
-        &kinds,
-        &mut doms,
-        &mut types,
-        &mut descriptors,
-        &mut terms,
-    );
+    let mut doms = [0u16; DOMAIN_LIMIT];
+    let mut types = [0u16; TYPE_LIMIT];
+    let mut descriptors = [0u32; TYPE_LIMIT];
+    let mut terms = [0u16; TERM_LIMIT];
+    let checked = examine_image(image, &mut doms, &mut types, &mut descriptors, &mut terms);
     match checked {
         Checked::Refused(why, at) => Forecast::Refused(why, at),
         Checked::Accepted(counts) => forecast_accepted(image, &terms, &descriptors, counts.terms),

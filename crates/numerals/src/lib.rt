@@ -30,7 +30,7 @@ fn with_byte(said: Numeral, byte: u8, most: u32) -> Numeral
     }
 }
 
-// The number that decimal digits say, if it is at most so much.
+// The number that decimal digits say, if it is at most `most`.
 pub fn number_of(digits: &[u8], most: u32) -> Numeral
     ensures { λ r. ⌜ r ≡ numeral most (now (digits .entry)) ⌝ }
 {

@@ -16,7 +16,7 @@ use Rattle.image.specs.Kinds.{a-type, free, TypeKind, typeRow}
 use Rattle.image.specs.Records.{Layout, fieldsAt}
 use Rattle.image.specs.Layout.{recordsOf}
 use Rattle.image.specs.Types.{typePlace, typeKind, typeFields, typeField, isType, typeOut, typeOf}
-use Rattle.laws.proofs.Booleans.{no-path, le-of, of-eq}
+use Rattle.laws.proofs.Booleans.{no-path, le-of, of-eq, by-test}
 use Rattle.image.proofs.Laid.{LayoutOk, layout-good, image-kept}
 use Rattle.image.proofs.TypeNumbers.{type-out, type-kind}
 use Rattle.read_records.specs.Descriptors.{descriptorKind, descriptorField0, descriptorField1}
@@ -47,11 +47,7 @@ some-leaf Ty.stack n h = no-path cc
 
 few-or-0 : (x : Option ℕ) → fewOr0 x ≤ leafLimit
 few-or-0 none = omega arith
-few-or-0 (some n) = go (leb n leafLimit) refl
-  where
-    go : (b : Bool) → leb n leafLimit ≡ b → fewOr0 (some n) ≤ leafLimit
-    go true e = rw e (le-of e)
-    go false e = rw e (omega arith)
+few-or-0 (some n) = by-test (leb n leafLimit) (λ e. rw e (le-of e)) λ e. rw e (omega arith)
 
 pub plain-few : (t : Ty) → plainLeaves t ≤ leafLimit
 unfolding plainLeaves
@@ -59,11 +55,7 @@ plain-few t = few-or-0 (leafCount t)
 
 join-zero : (m : ℕ) → joinLeaves m 0 ≡ 0
 unfolding joinLeaves
-join-zero m = go (eqb m 0) refl
-  where
-    go : (b : Bool) → eqb m 0 ≡ b → joinLeaves m 0 ≡ 0
-    go true e = rw e
-    go false e = rw e
+join-zero m = by-test (eqb m 0) (λ e. rw e) λ e. rw e
 
 -- The leaves of a pair are joined from its parts'.
 join-right : (x y : Option ℕ) → ((m : ℕ) → x ≡ some m → 1 ≤ m) → ((n : ℕ) → y ≡ some n → 1 ≤ n) → joinLeaves (fewOr0 x) (fewOr0 y) ≡ fewOr0 (bothLeaves x y)

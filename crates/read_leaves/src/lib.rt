@@ -1,4 +1,6 @@
 // The leaves of the plain types, by number.
+use calculus::LEAF_LIMIT;
+use image::TYPE_LIMIT;
 use read_records::kinds;
 use read_records::numbers::TypeNo;
 use read_records::numbers::type_descriptor;
@@ -11,12 +13,13 @@ ghost use Rattle.calculus.specs.Limits.{leafLimit};
 ghost use Rattle.image.specs.Layout.{recordsOf};
 ghost use Rattle.read_records.specs.Descriptors.{descriptorKind, descriptorField0, descriptorField1};
 ghost use Rattle.image.specs.Types.{typeOf};
+ghost use Rattle.image.specs.Kinds.{TypeKind, typeRow};
 ghost use Rattle.read_records.specs.Leaves.{Leaves, plainLeaves};
 ghost use Rattle.read_terms.specs.Lent.{Types, IsType};
 ghost use Rattle.read_leaves.specs.Leaves.{joinLeaves, leavesOf, Part};
 
 // The most leaves of a plain type (document 01, "The image").
-const LEAF_LIMIT: u8 = 8;
+const MOST_LEAVES: u8 = LEAF_LIMIT as u8;
 
 // The leaves of a pair, from those of its parts; 0 where it is not plain.
 fn join_leaves(m: u8, n: u8) -> u8
@@ -29,7 +32,7 @@ fn join_leaves(m: u8, n: u8) -> u8
     if n == 0 {
         return 0;
     }
-    if m + n <= LEAF_LIMIT { m + n } else { 0 }
+    if m + n <= MOST_LEAVES { m + n } else { 0 }
 }
 
 // The leaves of a type in the table.
@@ -40,9 +43,9 @@ pub fn leaves_at(table: &[u8], t: TypeNo) -> u8
     table[t.0 as usize]
 }
 
-// Of the type with a descriptor, the types before it being in the table.
+// The leaves of the type with a descriptor, where the table has the leaves of the types before it.
 fn leaves_of(descriptor: u32, table: &[u8]) -> u8
-    requires { ⌜ (descriptorKind descriptor ≡ 19 → Part (now table) (descriptorField0 descriptor) × Part (now table) (descriptorField1 descriptor)) ⌝ }
+    requires { ⌜ (descriptorKind descriptor ≡ typeRow TypeKind.pair .number → Part (now table) (descriptorField0 descriptor) × Part (now table) (descriptorField1 descriptor)) ⌝ }
     ensures { λ r. ⌜ r ≡ leavesOf descriptor (now (table .entry)) ⌝ }
 {
     let kind = read_records::numbers::descriptor_kind(descriptor);
@@ -83,7 +86,7 @@ pub fn type_leaves(image: &[u8], descriptors: &[u32], count: usize, t: TypeNo) -
     if read_records::numbers::descriptor_kind(type_descriptor(descriptors, t)) < kinds::PAIR_TYPE {
         return 1;
     }
-    let mut table = [0u8; 128];
+    let mut table = [0u8; TYPE_LIMIT];
     set_leaves(image, descriptors, count, &mut table);
     leaves_at(&table, t)
 }

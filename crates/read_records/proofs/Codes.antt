@@ -13,7 +13,7 @@ use Rattle.laws.specs.Tests.{all}
 use Rattle.image.specs.Kinds.{Kind, Row, rowOf, find, kinds, kindOf, lead}
 use Rattle.image.specs.Records.{goesInto, times, asChild}
 use Rattle.image.specs.TermFields.{giving}
-use Rattle.laws.proofs.Booleans.{no-path, and-l, and-r, not-t, same-truth, lt-of, le-of, of-le, ge-of, eq-of, of-eq}
+use Rattle.laws.proofs.Booleans.{no-path, and-l, and-r, not-t, same-truth, lt-of, le-of, of-le, ge-of, eq-of, of-eq, by-test}
 use Rattle.laws.proofs.Tests.{each}
 use Rattle.image.proofs.EveryKind.{everyOf, at-kind}
 use Rattle.image.proofs.Counts.{fields-length}
@@ -103,15 +103,13 @@ from-at (suc m) i (suc k) l = let e : suc i + k ≡ i + suc k = omega arith in f
 
 code-at : (n : ℕ) → codeAt n ≡ codeNumber n
 unfolding kindCodes codeNumber
-code-at n = go (ltb n codeCount) refl
-  where
-    go : (t : Bool) → ltb n codeCount ≡ t → codeAt n ≡ codeNumber n
-    go true e = let z : 0 + n ≡ n = omega arith in from-at codeCount 0 n (lt-of e) ∙ ap (λ m. codeNumber m) z
-    go false e =
-        let h : codeCount ≤ n = ge-of e in
-        let l : length kindCodes ≤ n = omega (arith, codes-length) in
-        let q = none-past n h in
-        List·getD-eq-default kindCodes 0 {n = n} l ∙ rw (q, codeNumber) refl
+code-at n = by-test (ltb n codeCount)
+    (λ e. let z : 0 + n ≡ n = omega arith in from-at codeCount 0 n (lt-of e) ∙ ap (λ m. codeNumber m) z)
+    λ e.
+    let h : codeCount ≤ n = ge-of e in
+    let l : length kindCodes ≤ n = omega (arith, codes-length) in
+    let q = none-past n h in
+    List·getD-eq-default kindCodes 0 {n = n} l ∙ rw (q, codeNumber) refl
 
 pub known-code : (n : ℕ) (k : Kind) → kindOf n ≡ some k → Packs k (codeAt n)
 unfolding codeNumber
@@ -125,11 +123,7 @@ unknown-code n h = code-at n ∙ rw (h, codeNumber) refl
 
 -- A kind's number is below the table's length.
 pub kind-small : (n : ℕ) (k : Kind) → kindOf n ≡ some k → n < codeCount
-kind-small n k h = go (ltb n codeCount) refl
-  where
-    go : (t : Bool) → ltb n codeCount ≡ t → n < codeCount
-    go true e = lt-of e
-    go false e = let z : none ≡ some k = sym (none-past n (ge-of e)) ∙ h in no-path cc
+kind-small n k h = by-test (ltb n codeCount) (λ e. lt-of e) λ e. let z : none ≡ some k = sym (none-past n (ge-of e)) ∙ h in no-path cc
 
 -- How often the group stands, by the code.
 pub times-in : (k : Kind) (x n : ℕ) → Packs k x → timesIn x (n - 4) ≡ times (rowOf k) n

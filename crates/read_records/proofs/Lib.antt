@@ -5,5 +5,4 @@ pub mod Clipped
 pub mod Descriptors
 pub mod Heads
 pub mod Parts
-pub mod Skipped
 pub mod Entries

@@ -9,6 +9,7 @@ use lib.ListN.{length, take, drop, length-drop}
 use lib.Dec.{eqb}
 use lib.Seq.{length-take-le}
 use borrow.Author.Tests.{not-true}
+use Rattle.calculus.proofs.Choices.{by-choice}
 use Rattle.calculus.specs.Combinators.{choose}
 use Rattle.laws.specs.Tests.{all}
 use Rattle.image.specs.Bytes.{le16, words, lengthAt, fieldAt}
@@ -98,11 +99,7 @@ module _ (b : List ℕ) (o : ℕ) (k : TermKind) (x : ℕ) (P : Packs (term k) x
         (eq-of (c .0), P .children ∙ eq-of (c .1 .0))
 
     no-entries : (m : ℕ) → entriesIn x m ≡ 0
-    no-entries m = go (eqb (groupOf x) 0) refl
-      where
-        go : (t : Bool) → eqb (groupOf x) 0 ≡ t → choose t 0 (choose (eqb (firstChildrenOf x) 0) 0 (m / 2 - (countOf x + firstChildrenOf x + lastOf x))) ≡ 0
-        go true e = refl
-        go false e = rw (of-eq (grouped e .1)) refl
+    no-entries m = by-choice (λ z. z ≡ 0) (eqb (groupOf x) 0) (λ e. refl) λ e. rw (of-eq (grouped e .1)) refl
 
     children-counted : countOf x + childrenIn x (n - 4) + trailOf k ≡ length (Records.fieldsAt b o r)
     children-counted = go (eqb (groupOf x) 0) refl

@@ -9,6 +9,7 @@ use Rattle.calculus.specs.Combinators.{choose}
 use Rattle.image.specs.Kinds.{in-domains, in-operations, in-truths, any-number, Field, a-type, own, a-term, an-entry, Kind, domain, type, term, Row, rowOf, kindOf, fieldsOf, lead}
 use Rattle.image.specs.Records.{goesInto, asChild}
 use Rattle.image.specs.TermFields.{giving}
+use Rattle.image.specs.Limits.{pointcutLimit}
 
 abbrev pub sectionNumber : Kind → ℕ
 sectionNumber domain = 1
@@ -30,7 +31,7 @@ unfoldable pub classNumbers : List Field → ℕ
 classNumbers [] = 0
 classNumbers (f ∷ fs) = classNumber f + 8 * classNumbers fs
 
--- The length of a record in which the group stands as seldom as it may.
+-- The least length of a record: its group stands the fewest times that it may.
 abbrev pub leastLength : Row → ℕ
 leastLength r = 4 + 2 * length (fieldsOf r (r .least))
 
@@ -65,12 +66,12 @@ classesOf x = x / 4096 % 262144
 abbrev pub sectionOf : ℕ → ℕ
 sectionOf x = x / 1073741824
 
--- What follows from the parts: how many fields stand first; and how often the group stands, at most, which is 8 times for each kind that has one.
+-- What follows from the parts: how many fields stand first; and how often the group stands, at most: labels, methods and entries have the same limit.
 abbrev pub firstOf : ℕ → ℕ
 firstOf x = (sizeOf x - 4) / 2 - (leastOf x * groupOf x + lastOf x)
 
 abbrev pub groupLimit : ℕ
-groupLimit = 8
+groupLimit = pointcutLimit
 
 abbrev pub mostOf : ℕ → ℕ
 mostOf x = choose (eqb (groupOf x) 0) 0 groupLimit

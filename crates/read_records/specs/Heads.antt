@@ -6,10 +6,9 @@ use lib.Dec.{leb}
 use Rattle.calculus.specs.Combinators.{choose}
 use Rattle.image.specs.declared.Refusal.{Refusal}
 use Rattle.image.specs.Bytes.{le16, words, lengthAt, numberAt}
-use Rattle.image.specs.Kinds.{an-entry, leadOf, again}
-use Rattle.image.specs.Records.{kindAt, asChild, given}
+use Rattle.image.specs.Kinds.{an-entry, again}
+use Rattle.image.specs.Records.{asChild, given}
 use Rattle.image.specs.Layout.{framed}
-use Rattle.image.specs.Types.{termKindOf}
 use Rattle.read_records.specs.declared.reader.Head.{Head}
 use Rattle.read_records.specs.Codes.{countOf, childrenIn, entriesIn}
 
@@ -50,7 +49,3 @@ entriesOf x fs = entriesFrom fs (2 * (countOf x + childrenIn x (length fs))) (en
 
 abbrev pub childrenOf : ℕ → List ℕ → List ℕ
 childrenOf x fs = sideOf x fs ++ entriesOf x fs
-
--- How many fields the term at o has before its children.
-abbrev pub firstChild : List ℕ → ℕ → ℕ
-firstChild b o = leadOf (termKindOf (kindAt b o))

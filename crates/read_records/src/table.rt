@@ -27,9 +27,12 @@ pub const CLASS_TERM: u32 = 5;
 
 pub const CLASS_ENTRY: u32 = 6;
 
-// The places of a code's parts, from its lowest bits on: the length of a record in which the group stands as seldom as it
-// may; how many children are among the first fields; how many fields the group has; how many fields stand before the
-// children; how many stand last; how often the group stands, at least; the classes of the fields; and the section.
+// A class has three bits: there are fewer than these.
+pub const CLASS_COUNT: u32 = 8;
+
+// The places of a code's parts, from its lowest bits on: the least length of a record; how many children are among the first
+// fields; how many fields the group has; how many fields stand before the children; how many stand last; how often the group
+// stands, at least; the classes of the fields; and the section.
 const CHILDREN: u32 = 16;
 
 const GROUP: u32 = 64;
@@ -44,15 +47,15 @@ const CLASSES: u32 = 4096;
 
 const SECTION: u32 = 1073741824;
 
-const SECOND: u32 = 8;
+pub const SECOND: u32 = CLASS_COUNT;
 
-const THIRD: u32 = 64;
+pub const THIRD: u32 = SECOND * CLASS_COUNT;
 
-const FOURTH: u32 = 512;
+pub const FOURTH: u32 = THIRD * CLASS_COUNT;
 
-const FIFTH: u32 = 4096;
+pub const FIFTH: u32 = FOURTH * CLASS_COUNT;
 
-const SIXTH: u32 = 32768;
+pub const SIXTH: u32 = FIFTH * CLASS_COUNT;
 
 // The codes, by what such a record has. A domain has a mask.
 pub const MASK: u32 = 6 + SECTION * DOMAINS + LEAD + CLASSES * CLASS_FREE;
@@ -253,7 +256,7 @@ pub fn known_code(kinds: &[u32], kind: u16) -> u32
     kinds[kind as usize]
 }
 
-// The length of a record in which the group stands as seldom as it may; of a kind without a group, the length of a record.
+// The least length of a record: its group stands the fewest times that it may; of a kind without a group, the length of a record.
 pub fn least_length(code: u32) -> usize
     ensures { λ r. ⌜ r ≡ sizeOf code ⌝ }
 {

@@ -11,7 +11,7 @@ use Rattle.image.specs.Bytes.{le16, words}
 use Rattle.image.specs.Kinds.{Field, a-truth, free, an-entry, TermKind, termRow, again}
 use Rattle.image.specs.Records.{asChild, asOther, given}
 use Rattle.image.specs.Program.{closeOf, patternOf}
-use Rattle.laws.proofs.Booleans.{no-path, and-l, and-r, not-t, eq-of}
+use Rattle.laws.proofs.Booleans.{no-path, and-l, and-r, not-t, eq-of, by-test}
 use Rattle.image.proofs.Counts.{fields-length}
 use Rattle.image.proofs.Offsets.{given-split}
 use Rattle.verdict.specs.Settings.{bindsRest}
@@ -63,11 +63,9 @@ module _ (v j : ℕ) (r : Bool) (h : r ≡ (not (eqb v 0) && eqb j 0)) where
       (omega arith, eq-of (and-r (not (eqb v 0)) (eqb j 0) z))
 
   pub not-first : r ≡ false → 0 < v → 0 < j
-  not-first t l = go (eqb j 0) refl
-    where
-      go : (x : Bool) → eqb j 0 ≡ x → 0 < j
-      go true q = let z : true ≡ r = sym (rw (ne-eqb v 0 (λ e. omega arith), q) at h) in no-path (z ∙ t)
-      go false q = let n = eqb-false j 0 q in omega arith
+  not-first t l = by-test (eqb j 0)
+      (λ q. let z : true ≡ r = sym (rw (ne-eqb v 0 (λ e. omega arith), q) at h) in no-path (z ∙ t))
+      λ q. let n = eqb-false j 0 q in omega arith
 
 named-there : (m v : ℕ) (xs : List ℕ) → v ≤ m → ((i : ℕ) → i < length xs → getD xs i 0 < m) → (i : ℕ) → i < length (asChild an-entry v ++ xs) → getD (asChild an-entry v ++ xs) i 0 < m
 named-there m zero xs h g i l = g i l

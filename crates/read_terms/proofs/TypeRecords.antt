@@ -2,11 +2,11 @@
 use Prim.Native.Nat.{ℕ, zero, suc, _+_, _-_, _*_, _≤_, _<_}
 use native.Mathlib.Omega.{arith}
 use mathlib.Core.Path.{_≡_, refl, sym, ap, subst, _∙_}
-use mathlib.Core.Bool.{Bool, true, false}
 use mathlib.Core.List.{List, [], _∷_}
 use lib.ListN.{length, getD}
 use lib.Dec.{ltb}
 use borrow.Author.Tests.{lt-ltb, le-ltb, ne-eqb}
+use Rattle.calculus.proofs.Choices.{by-choice}
 use Rattle.calculus.specs.Combinators.{choose}
 use Rattle.calculus.specs.Syntax.{Ty}
 use Rattle.calculus.specs.Plain.{methodsOf, methodDom}
@@ -71,20 +71,18 @@ module _ (b : List ℕ) (o m : ℕ) (g : ℕ → Ty) (W : IsWhole b o) where
       omega arith
 
   object-method : choose (ltb (length fs) (4 + 4 * m)) 0 (fieldIn fs (2 * m)) ≡ methodDom (methodsOut numbers g) m
-  object-method = go (ltb (length fs) (4 + 4 * m)) refl
-    where
-      go : (s : Bool) → ltb (length fs) (4 + 4 * m) ≡ s → choose s 0 (fieldIn fs (2 * m)) ≡ methodDom (methodsOut numbers g) m
-      go false e =
-          let h : 4 + 4 * m ≤ length fs = ge-of e in
-          let l = bytes-length b o W in
-          let c = counted in
-          let n = words-length b (o + 4) (length (Records.fieldsAt b o (typeRow TypeKind.obj))) in
-          field-is b o (lengthAt b o) (2 * m) (omega arith) ∙ sym (has-method numbers g m (omega arith) ∙ number-at b o (typeRow TypeKind.obj) (2 * m) (omega arith))
-      go true e =
-          let h : length fs < 4 + 4 * m = lt-of e in
-          let l = bytes-length b o W in
-          let c = counted in
-          sym (no-method numbers g m (omega arith))
+  object-method = by-choice (λ z. z ≡ methodDom (methodsOut numbers g) m) (ltb (length fs) (4 + 4 * m))
+      (λ e.
+      let h : length fs < 4 + 4 * m = lt-of e in
+      let l = bytes-length b o W in
+      let c = counted in
+      sym (no-method numbers g m (omega arith)))
+      λ e.
+      let h : 4 + 4 * m ≤ length fs = ge-of e in
+      let l = bytes-length b o W in
+      let c = counted in
+      let n = words-length b (o + 4) (length (Records.fieldsAt b o (typeRow TypeKind.obj))) in
+      field-is b o (lengthAt b o) (2 * m) (omega arith) ∙ sym (has-method numbers g m (omega arith) ∙ number-at b o (typeRow TypeKind.obj) (2 * m) (omega arith))
 
   -- By the kind of the type; only that of an object has methods.
   out-method : (k : TypeKind) → numberAt b o ≡ typeRow k .number → methodIn (numberAt b o) fs m ≡ methodDom (methodsOf (typeOut k (numbersAt b o (typeRow k)) g)) m
@@ -118,15 +116,15 @@ module _ {b table : List ℕ} (T : TypeOffsets b table) {t : ℕ} (h : IsType b 
   pub type-ok : TypeOk b (length (L .domains)) (L .types) (typeKind L t) t p
   type-ok = subst (λ i. TypeOk i (length (L .domains)) (L .types) (typeKind L t) t p) (image-is b (T .laid-out)) (good-of b (T .laid-out) .types t h)
 
-  stands : Stands b (typeRow (typeKind L t)) p
-  stands = type-ok .is .stands
+  pub type-stands : Stands b (typeRow (typeKind L t)) p
+  type-stands = type-ok .is .stands
 
   pub type-whole : IsWhole b p
-  type-whole = let S = stands in (omega (arith, S .size), S .inside)
+  type-whole = let S = type-stands in (omega (arith, S .size), S .inside)
 
   -- What is read there is what the type says of its methods.
   pub methods-in : (m : ℕ) → typeMethods b t m ≡ methodDom (methodsOf (typeOf L t)) m
   methods-in m =
-      out-method b p m (λ a. typeOf L a) type-whole (typeKind L t) (stands .number)
+      out-method b p m (λ a. typeOf L a) type-whole (typeKind L t) (type-stands .number)
       ∙ (ap (λ i. methodDom (methodsOf (typeOut (typeKind L t) (numbersAt i p (typeRow (typeKind L t))) (λ a. typeOf L a))) m) (sym (image-is b (T .laid-out)))
       ∙ ap (λ y. methodDom (methodsOf y) m) (sym (type-out L (good-of b (T .laid-out)) t h)))

@@ -7,6 +7,7 @@ use lib.ListN.{length, getD}
 use lib.Dec.{eqb, ltb}
 use Rattle.calculus.specs.Combinators.{choose}
 use Rattle.image.specs.Kinds.{TypeKind, typeRow}
+use Rattle.image.specs.Limits.{domainLimit}
 use Rattle.read_records.specs.Descriptors.{descriptorKind, descriptorField0, descriptorField1}
 
 -- The descriptor x is of a type of kind k.
@@ -25,4 +26,4 @@ descriptorPlain leaf-table x = eqb (descriptorKind x) (typeRow TypeKind.ref .num
 
 -- What is asked of a descriptor: its domain is one of 16, and the table of leaf counts has what a reference type refers to.
 abbrev pub DescriptorFits : List ℕ → ℕ → Type 0
-DescriptorFits leaf-table x = (descriptorDomain x < 16) × (descriptorKind x ≡ typeRow TypeKind.ref .number → descriptorField0 x < length leaf-table)
+DescriptorFits leaf-table x = (descriptorDomain x < domainLimit) × (descriptorKind x ≡ typeRow TypeKind.ref .number → descriptorField0 x < length leaf-table)

@@ -1,4 +1,5 @@
 // The order of the domains: a table of their masks, filled once, and ≤ read off it.
+use image::DOMAIN_LIMIT;
 use read_records::numbers::DomainNo;
 ghost use mathlib.Core.Path.{_≡_};
 ghost use Prim.Native.Nat.{_<_, _/_, _%_, _^_};
@@ -10,8 +11,8 @@ ghost use Rattle.verdict.specs.Domains.{masks};
 ghost use Rattle.read_terms.specs.Lent.{Domains, Masks};
 ghost use Rattle.read_terms.specs.Masks.{bitOf};
 
-// The most domains of an image (document 01, "Limits").
-pub const DOMAIN_LIMIT: u16 = 16;
+// The most domains of an image, as wide as a domain number.
+pub const DOMAINS: u16 = DOMAIN_LIMIT as u16;
 
 // Bit q of a mask.
 pub fn bit(mask: u16, q: DomainNo) -> bool
@@ -22,7 +23,7 @@ pub fn bit(mask: u16, q: DomainNo) -> bool
 }
 
 // The mask of a domain in the table.
-fn mask_at(masks: &[u16; 16], d: DomainNo) -> u16
+fn mask_at(masks: &[u16; DOMAIN_LIMIT], d: DomainNo) -> u16
     requires { ⌜ d .0 < domainLimit ⌝ }
     ensures { λ r. ⌜ r ≡ getD (now (masks .entry)) (d .0) 0 ⌝ }
 {
@@ -30,11 +31,11 @@ fn mask_at(masks: &[u16; 16], d: DomainNo) -> u16
 }
 
 // d ≤ q.
-pub fn leq(masks: &[u16; 16], d: DomainNo, q: DomainNo) -> bool
+pub fn leq(masks: &[u16; DOMAIN_LIMIT], d: DomainNo, q: DomainNo) -> bool
     ensures { λ r. ⌜ r ≡ bitOf (now (masks .entry)) (d .0) (q .0) ⌝ }
 {
-    if d.0 < DOMAIN_LIMIT {
-        if q.0 < DOMAIN_LIMIT {
+    if d.0 < DOMAINS {
+        if q.0 < DOMAINS {
             return bit(mask_at(masks, d), q);
         }
     }
@@ -50,7 +51,7 @@ fn mask_of(image: &[u8], doms: &[u16], d: DomainNo) -> u16
     read_records::words::word(read_records::reader::fields_at(image, at), 0)
 }
 
-fn set_mask(table: &mut [u16; 16], d: DomainNo, mask: u16)
+fn set_mask(table: &mut [u16; DOMAIN_LIMIT], d: DomainNo, mask: u16)
     requires { ⌜ d .0 < domainLimit ⌝ }
     ensures { λ _. ⌜ now (table .exit) ≡ set (now (table .entry)) (d .0) mask ⌝ }
 {
@@ -58,7 +59,7 @@ fn set_mask(table: &mut [u16; 16], d: DomainNo, mask: u16)
 }
 
 // Fills the table, which is 0 everywhere, with the masks of the domains.
-pub fn set_masks(image: &[u8], doms: &[u16], count: usize, table: &mut [u16; 16])
+pub fn set_masks(image: &[u8], doms: &[u16], count: usize, table: &mut [u16; DOMAIN_LIMIT])
     requires { ⌜ Domains (now image) (now doms) × (count ≡ length (recordsOf (now image) .domains)) × (now table ≡ replicate domainLimit 0) ⌝ }
     ensures { λ _. ⌜ Masks (now (image .entry)) (now (table .exit)) ⌝ }
 {

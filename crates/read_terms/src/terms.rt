@@ -166,7 +166,7 @@ pub fn child_count(kind: u16, fields: &[u8]) -> usize
     }
 }
 
-// Child j, so many fields standing before the children: they stand side by side, but for those that the entries of a match name.
+// Child j of a term with `lead` fields before its children, which stand side by side; the entries of a match name the others.
 pub fn child_of(kind: u16, fields: &[u8], lead: usize, j: usize) -> TermNo
     requires { ⌜ ((k : TermKind) × ((kind ≡ termRow k .number) × (lead ≡ leadOf k) × HasChild (now fields) k j)) ⌝ }
     ensures { λ r. ⌜ ((k : TermKind) → kind ≡ termRow k .number → r .0 ≡ getD (childrenIn (now (fields .entry)) k) j 0) ⌝ }

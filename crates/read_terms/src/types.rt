@@ -14,6 +14,7 @@ ghost use mathlib.Core.Bool.{not};
 ghost use Prim.Native.Nat.{_<_};
 ghost use lib.ListN.{length, getD};
 ghost use lib.Dec.{eqb};
+ghost use Rattle.image.specs.Kinds.{TypeKind, typeRow};
 ghost use Rattle.read_records.specs.Descriptors.{descriptorKind, descriptorField0, descriptorField1, descriptorField2};
 ghost use Rattle.read_terms.specs.Descriptors.{descriptorDomain, descriptorPlain};
 
@@ -94,7 +95,7 @@ fn has_leaves(leaves: &[u8], t: TypeNo) -> bool
 
 // A reference type, and what it refers to is plain.
 pub fn refers_to_plain(descriptor: u32, leaves: &[u8]) -> bool
-    requires { ⌜ (descriptorKind descriptor ≡ 21 → descriptorField0 descriptor < length (now leaves)) ⌝ }
+    requires { ⌜ (descriptorKind descriptor ≡ typeRow TypeKind.ref .number → descriptorField0 descriptor < length (now leaves)) ⌝ }
     ensures { λ r. ⌜ r ≡ descriptorPlain (now (leaves .entry)) descriptor ⌝ }
 {
     if descriptor_kind(descriptor) == REFERENCE_TYPE {

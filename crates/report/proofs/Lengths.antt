@@ -1,11 +1,11 @@
 -- How long records are, and records end to end.
-use Prim.Native.Nat.{ℕ, zero, suc, _+_, _*_, _≤_, _<_, min}
+use Prim.Native.Nat.{ℕ, _+_, _*_, _≤_, _<_, min}
 use native.Mathlib.Omega.{arith}
 use native.Mathlib.Numerals.{add-one}
 use mathlib.Core.Path.{_≡_, refl, sym, ap, _∙_}
 use mathlib.Core.List.{List, [], _∷_, _++_, map, append-nil, append-assoc, map-append}
 use mathlib.Core.Option.{Option, none, some}
-use lib.ListN.{length, getD, take, replicate, length-append, length-map, length-take}
+use lib.ListN.{length, getD, take, length-append, length-map, length-take}
 use lib.Seq.{take-suc}
 use Rattle.calculus.specs.declared.Leaf.{Leaf}
 use Rattle.calculus.specs.Limits.{leafLimit, cellLimit}
@@ -14,10 +14,11 @@ use Rattle.calculus.specs.State.{Print}
 use Rattle.calculus.specs.Report.{CellReport}
 use Rattle.base_bytes.specs.Bytes.{bytesOf}
 use Rattle.laws.proofs.Lists.{All, All.all-nil, All.all-cons}
+use Rattle.image.specs.Limits.{reportLength}
 use Rattle.report.specs.declared.Slot.{Slot}
 use Rattle.base_bytes.specs.Records.{Record, recordBytes}
 use Rattle.report.specs.Records.{recordsBytes}
-use Rattle.report.specs.Written.{logBytes, leafRecord, leafBytes, leavesBytes, leavesIn, heldRecord, cellRecord, cellBytes, cellsBytes, headBytes, reportBytes}
+use Rattle.report.specs.Written.{logBytes, leafRecord, leafBytes, leavesBytes, leavesIn, heldRecord, cellBytes, cellsBytes, headBytes, reportBytes}
 use Rattle.report.specs.Fits.{FewLeaves}
 
 -- Records end to end.
@@ -35,10 +36,6 @@ pub leaves-more : (slots : List Slot) (i : ℕ) (d : Slot) → i < length slots 
 leaves-more slots i d h =
     let e : take (i + 1) slots ≡ take i slots ++ (getD slots i d ∷ []) = ap (λ n. take n slots) (add-one i) ∙ take-suc slots i d h in
     ap (λ s. leavesBytes (map (λ u. u .leaf) s)) e ∙ ap leavesBytes (map-append (λ u. u .leaf) (take i slots) (getD slots i d ∷ [])) ∙ records-last leafRecord (leavesIn i slots) (getD slots i d .leaf)
-
-pub length-record : (r : Record) → length (recordBytes r) ≡ 4 + length (r .fields)
-unfolding bytesOf
-length-record r = omega arith
 
 pub leaf-short : (l : Leaf) → length (leafBytes l) ≤ 8
 unfolding bytesOf
@@ -92,35 +89,9 @@ length-parts o k ls cs =
 abbrev pub mostCells : ℕ
 mostCells = cellLimit + cellLimit
 
-pub report-short : (o k : ℕ) (ls : List Leaf) {cs : List CellReport} → length ls ≤ leafLimit → length cs ≤ mostCells → All (λ c. FewLeaves (c .held)) cs → length (reportBytes o k ls cs) ≤ 17994
+pub report-short : (o k : ℕ) (ls : List Leaf) {cs : List CellReport} → length ls ≤ leafLimit → length cs ≤ mostCells → All (λ c. FewLeaves (c .held)) cs → length (reportBytes o k ls cs) ≤ reportLength
 report-short o k ls {cs} l m f =
     let n = length-parts o k ls cs in
     let a = leaves-short ls in
     let b = cells-short f in
-    omega arith
-
--- The longest report has as many.
-length-repeated : (m : ℕ) (r : Record) → length (recordsBytes (replicate m r)) ≡ m * length (recordBytes r)
-unfolding recordsBytes
-length-repeated zero r = omega arith
-length-repeated (suc m) r =
-    let n = length-append (recordBytes r) (recordsBytes (replicate m r)) in
-    let i : length (recordsBytes (replicate m r)) ≡ m * length (recordBytes r) = length-repeated m r in
-    omega arith
-
-map-repeated : {A B : Type 0} (f : A → B) (m : ℕ) (a : A) → map f (replicate m a) ≡ replicate m (f a)
-map-repeated f zero a = refl
-map-repeated f (suc m) a = ap (f a ∷_) (map-repeated f m a)
-
-abbrev eightNumbers : ℕ → List Leaf
-eightNumbers n = replicate leafLimit (Leaf.Number n)
-
-abbrev fullCell : Dom → ℕ → CellReport
-fullCell d n = record { dom = d; held = some (eightNumbers n) }
-
-pub longest-report : (o k n d : ℕ) → length (reportBytes o k (eightNumbers n) (replicate mostCells (fullCell d n))) ≡ 17994
-unfolding bytesOf recordsBytes
-longest-report o k n d =
-    let a = length-parts o k (eightNumbers n) (replicate mostCells (fullCell d n)) in
-    let b : length (cellsBytes (replicate mostCells (fullCell d n))) ≡ mostCells * 70 = ap (λ x. length (recordsBytes x)) (map-repeated cellRecord mostCells (fullCell d n)) ∙ length-repeated mostCells (cellRecord (fullCell d n)) in
     omega arith

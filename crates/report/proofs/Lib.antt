@@ -3,5 +3,4 @@ pub mod Lengths
 pub mod Put
 pub mod ReadRecords
 pub mod Narrow
-pub mod ReadBack
 pub mod Examples

@@ -3,6 +3,7 @@ use crate::Slot;
 use crate::leaves::put_leaves;
 use crate::numbers::put_header;
 use crate::numbers::put16;
+use calculus::LEAF_LIMIT;
 use read_records::numbers::DomainNo;
 ghost use mathlib.Core.Path.{_≡_};
 ghost use mathlib.Core.Option.{none, some};
@@ -12,16 +13,16 @@ ghost use Rattle.base_bytes.specs.Bytes.{over};
 ghost use Rattle.report.specs.Written.{leavesIn, cellBytes};
 
 // Kinds of records.
-const PLAIN_CELL: u16 = 68;
+pub const PLAIN_CELL: u16 = 68;
 
-const OTHER_CELL: u16 = 69;
+pub const OTHER_CELL: u16 = 69;
 
 // A plain cell, with its leaves inside its length; answers the offset past it.
 pub fn put_plain_cell(
     report: &mut [u8],
     at: usize,
     dom: DomainNo,
-    slots: [Slot; 8],
+    slots: [Slot; LEAF_LIMIT],
     count: usize,
 ) -> usize
     requires { ⌜ (count ≤ 8) × (at + 6 + 8 * count ≤ length (now report)) ⌝ }

@@ -3,6 +3,7 @@ use crate::Slot;
 use crate::numbers::put_header;
 use crate::numbers::put16;
 use crate::numbers::put32;
+use calculus::LEAF_LIMIT;
 use calculus::Leaf;
 ghost use mathlib.Core.Path.{_≡_};
 ghost use Prim.Native.Nat.{_+_, _*_, _≤_};
@@ -12,11 +13,11 @@ ghost use Rattle.base_bytes.specs.Bytes.{over};
 ghost use Rattle.report.specs.Written.{leafBytes, leavesBytes, leavesIn};
 
 // Kinds of records.
-const UNIT: u16 = 65;
+pub const UNIT: u16 = 65;
 
-const TRUTH: u16 = 66;
+pub const TRUTH: u16 = 66;
 
-const NUMBER: u16 = 67;
+pub const NUMBER: u16 = 67;
 
 // A truth's number.
 fn bit(b: bool) -> u16
@@ -49,7 +50,7 @@ fn put_leaf(report: &mut [u8], at: usize, leaf: Leaf) -> usize
 }
 
 // The records of the first leaves, left to right; answers the offset past them.
-pub fn put_leaves(report: &mut [u8], at: usize, slots: [Slot; 8], count: usize) -> usize
+pub fn put_leaves(report: &mut [u8], at: usize, slots: [Slot; LEAF_LIMIT], count: usize) -> usize
     requires { ⌜ (count ≤ 8) × (at + 8 * count ≤ length (now report)) ⌝ }
     ensures { λ r. ⌜ (r ≡ at + length (leavesBytes (leavesIn count slots))) × (now (report .exit) ≡ over at (leavesBytes (leavesIn count slots)) (now (report .entry))) ⌝ }
 {

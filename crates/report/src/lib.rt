@@ -7,6 +7,7 @@ pub mod numbers;
 
 use calculus::Leaf;
 use calculus::Outcome;
+use calculus::outcomes;
 ghost use mathlib.Core.Path.{_≡_};
 ghost use Rattle.calculus.specs.Report.{outcomeNumber};
 
@@ -27,18 +28,18 @@ pub fn outcome_number(o: Outcome) -> u16
     ensures { λ r. ⌜ r ≡ outcomeNumber o ⌝ }
 {
     match o {
-        Outcome::Done => 0,
-        Outcome::Spent => 1,
-        Outcome::Aborted => 2,
-        Outcome::Frames => 3,
-        Outcome::Bindings => 4,
-        Outcome::Cells => 5,
-        Outcome::Labels => 6,
-        Outcome::Advice => 7,
-        Outcome::Pieces => 8,
-        Outcome::Log => 9,
-        Outcome::OtherBindings => 10,
-        Outcome::OtherCells => 11,
-        Outcome::OtherPieces => 12,
+        Outcome::Done => outcomes::DONE as u16,
+        Outcome::Spent => outcomes::SPENT as u16,
+        Outcome::Aborted => outcomes::ABORTED as u16,
+        Outcome::Frames => outcomes::FRAMES as u16,
+        Outcome::Bindings => outcomes::BINDINGS as u16,
+        Outcome::Cells => outcomes::CELLS as u16,
+        Outcome::Labels => outcomes::LABELS as u16,
+        Outcome::Advice => outcomes::ADVICE as u16,
+        Outcome::Pieces => outcomes::PIECES as u16,
+        Outcome::Log => outcomes::LOG as u16,
+        Outcome::OtherBindings => outcomes::OTHER_BINDINGS as u16,
+        Outcome::OtherCells => outcomes::OTHER_CELLS as u16,
+        Outcome::OtherPieces => outcomes::OTHER_PIECES as u16,
     }
 }

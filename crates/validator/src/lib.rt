@@ -1,5 +1,7 @@
 // The validator (document 01, "Turned back at the gate"): which images are accepted, and the one refusal of every other.
 // It reads the image alone and writes no lent memory.
+use image::TERM_LIMIT;
+use image::TYPE_LIMIT;
 use validator_core::call::Lent;
 use validator_core::call::check_call;
 use validator_core::examine::verdict_of;
@@ -16,9 +18,9 @@ pub fn validate(image: &[u8], work: usize, report: usize) -> Verdict
         work: work,
         report: report,
     };
-    let mut types = [0u16; 128];
-    let mut descriptors = [0u32; 128];
-    let mut terms = [0u16; 1024];
+    let mut types = [0u16; TYPE_LIMIT];
+    let mut descriptors = [0u32; TYPE_LIMIT];
+    let mut terms = [0u16; TERM_LIMIT];
     let checked = check_call(image, lent, &mut types, &mut descriptors, &mut terms);
     verdict_of(checked)
 }

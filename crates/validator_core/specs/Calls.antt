@@ -1,4 +1,4 @@
--- The check of a call, and the tables with which its run goes on (document 01, "Turned back at the gate").
+-- The check of a call, and the tables that its run then uses (document 01, "Turned back at the gate").
 use Prim.Native.Nat.{ℕ}
 use mathlib.Core.Path.{_≡_}
 use mathlib.Core.List.{List}

@@ -1,8 +1,11 @@
 // The check of a call: its image, then the lengths of lent memory (document 01, "Turned back at the gate").
 use crate::examine::Checked;
+use image::DOMAIN_LIMIT;
 use image::IMAGE_LIMIT;
 use image::REPORT_LENGTH;
 use image::Refusal;
+use image::TERM_LIMIT;
+use image::TYPE_LIMIT;
 use image::WORK_LENGTH;
 ghost use mathlib.Core.Path.{_≡_};
 ghost use lib.ListN.{length};
@@ -19,9 +22,9 @@ pub struct Lent {
 pub fn check_call(
     image: &[u8],
     lent: Lent,
-    types: &mut [u16; 128],
-    descriptors: &mut [u32; 128],
-    terms: &mut [u16; 1024],
+    types: &mut [u16; TYPE_LIMIT],
+    descriptors: &mut [u32; TYPE_LIMIT],
+    terms: &mut [u16; TERM_LIMIT],
 ) -> Checked
     requires { ⌜ (length (now types) ≡ typeLimit) × (length (now descriptors) ≡ typeLimit) × (length (now terms) ≡ termLimit) ⌝ }
     ensures { λ r. ⌜ Answered (now (image .entry)) lent r (now (types .exit)) (now (descriptors .exit)) (now (terms .exit)) × (length (now (types .exit)) ≡ typeLimit) × (length (now (descriptors .exit)) ≡ typeLimit) × (length (now (terms .exit)) ≡ termLimit) ⌝ }
@@ -29,16 +32,8 @@ pub fn check_call(
     if IMAGE_LIMIT < image.len() {
         return Checked::Refused(Refusal::ImageTooLong, 0);
     }
-    let kinds = read_records::table::kind_codes();
-    let mut doms = [0u16; 16];
-    let checked = crate::examine::examine_image(
-        image,
-        &kinds,
-        &mut doms,
-        types,
-        descriptors,
-        terms,
-    );
+    let mut doms = [0u16; DOMAIN_LIMIT];
+    let checked = crate::examine::examine_image(image, &mut doms, types, descriptors, terms);
     match checked {
         Checked::Refused(why, place) => Checked::Refused(why, place),
         Checked::Accepted(counts) => {

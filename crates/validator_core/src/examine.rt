@@ -1,15 +1,18 @@
-// The validator over lent tables, refusals 2 to 16 (document 01, "Turned back at the gate"). The engine goes on with the
-// tables of an accepted image.
+// The validator over lent tables, refusals 2 to 16 (document 01, "Turned back at the gate"). The engine then uses
+// the tables of an accepted image.
 use image::Refusal;
+use image::TERM_LIMIT;
+use image::TYPE_LIMIT;
 use read_records::numbers::Counts;
 use verdict::Verdict;
 ghost use mathlib.Core.Path.{_≡_};
+ghost use Prim.Native.Nat.{_≤_};
 ghost use lib.ListN.{length};
-ghost use Rattle.image.specs.Limits.{typeLimit, termLimit};
+ghost use Rattle.image.specs.Limits.{imageLimit, typeLimit, termLimit};
 ghost use Rattle.read_records.specs.Codes.{kindCodes};
 ghost use Rattle.read_records.specs.Tables.{Tables, Counted};
 ghost use Rattle.check_uses.specs.Marks.{allMarks};
-ghost use Rattle.check_layout.specs.Tables.{Lent};
+ghost use Rattle.check_layout.specs.Tables.{Long};
 ghost use Rattle.read_terms.specs.Lent.{TypeOffsets};
 ghost use Rattle.validator_core.specs.Examined.{checkedRecords, withCounts, verdictOf, Answered};
 
@@ -25,9 +28,9 @@ fn check_laid_out(
     kinds: &[u32],
     counts: Counts,
     doms: &[u16],
-    types: &[u16; 128],
-    descriptors: &[u32; 128],
-    terms: &[u16; 1024],
+    types: &[u16; TYPE_LIMIT],
+    descriptors: &[u32; TYPE_LIMIT],
+    terms: &[u16; TERM_LIMIT],
     marks: &[u8],
 ) -> Verdict
     requires { ⌜ (now kinds ≡ kindCodes) × Tables (now image) (now doms) (now terms) (now descriptors) × Counted (now image) counts × TypeOffsets (now image) (now types) × (now marks ≡ allMarks (now image)) ⌝ }
@@ -58,21 +61,23 @@ pub fn verdict_of(c: Checked) -> Verdict
     }
 }
 
+// Refusals 2 to 16, and the tables. The table of kinds is made here, where the scan reads it: lent from farther away it would be
+// found by its address at each record.
 pub fn examine_image(
     image: &[u8],
-    kinds: &[u32],
     doms: &mut [u16],
-    types: &mut [u16; 128],
-    descriptors: &mut [u32; 128],
-    terms: &mut [u16; 1024],
+    types: &mut [u16; TYPE_LIMIT],
+    descriptors: &mut [u32; TYPE_LIMIT],
+    terms: &mut [u16; TERM_LIMIT],
 ) -> Checked
-    requires { ⌜ Lent (now image) (now kinds) (now doms) (now types) (now descriptors) (now terms) ⌝ }
+    requires { ⌜ (length (now image) ≤ imageLimit) × Long (now doms) (now types) (now descriptors) (now terms) ⌝ }
     ensures { λ r. ⌜ Answered r (now (image .entry)) (now (doms .exit)) (now (types .exit)) (now (descriptors .exit)) (now (terms .exit)) × (length (now (types .exit)) ≡ typeLimit) × (length (now (descriptors .exit)) ≡ typeLimit) × (length (now (terms .exit)) ≡ termLimit) ⌝ }
 {
-    let mut marks = [0u8; 1024];
+    let kinds = read_records::table::kind_codes();
+    let mut marks = [0u8; TERM_LIMIT];
     let scanned = check_layout::scan_records(
         image,
-        kinds,
+        &kinds,
         doms,
         types,
         descriptors,
@@ -84,7 +89,7 @@ pub fn examine_image(
         check_layout::Scan::Laid(counts) => with_counts(
             check_laid_out(
                 image,
-                kinds,
+                &kinds,
                 counts,
                 doms,
                 types,

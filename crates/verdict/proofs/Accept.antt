@@ -10,10 +10,9 @@ use Rattle.calculus.specs.Plain.{isPlain}
 use Rattle.calculus.specs.Typing.{noStore, _⨾_⊢_⦂_ as TmTy}
 use Rattle.image.specs.Records.{Layout}
 use Rattle.image.specs.Layout.{laid, layout, recordsOf}
-use Rattle.image.specs.Types.{typeOf, statedType, rootOf, rootType}
+use Rattle.image.specs.Types.{statedType, rootOf, rootType}
 use Rattle.image.specs.LaidOut.{LaidOut}
 use Rattle.image.specs.Program.{tree, program, toTm}
-use Rattle.image.proofs.TypeNumbers.{same-number}
 use Rattle.image.proofs.Laid.{LayoutOk, layout-good, records-of, image-kept}
 use Rattle.image.proofs.LaidOut.{laid-iff}
 use Rattle.verdict.specs.declared.Verdict.{Verdict}
@@ -122,10 +121,4 @@ accepted-plain b work report h = passed-iff b work report .0 h .plain
 
 -- The order of an accepted image's domains is a partial order.
 pub accepted-order : (b : List ℕ) (work report : ℕ) → verdict b work report ≡ Verdict.Accepted → PartialOrder (recordsOf b)
-accepted-order b work report h =
-    order-iff (recordsOf b) .0 (passed-iff b work report .0 h .shaped .ordered)
-
--- Types of an accepted image are compared by number: equal numbers are equal types, and different numbers different types.
-pub accepted-types : (b : List ℕ) (work report : ℕ) → verdict b work report ≡ Verdict.Accepted → (t u : ℕ) → t < length (recordsOf b .types) → u < length (recordsOf b .types)
-    → t ≡ u ↔ typeOf (recordsOf b) t ≡ typeOf (recordsOf b) u
-accepted-types b work report h t u l m = same-number (recordsOf b) (accepted-good b work report h) t u l m
+accepted-order b work report h = order-iff (recordsOf b) .0 (passed-iff b work report .0 h .shaped .ordered)

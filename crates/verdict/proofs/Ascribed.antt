@@ -8,7 +8,7 @@ use lib.ListN.{length, length-map}
 use Rattle.calculus.specs.Syntax.{Dom, Ty, Sigs, Tms}
 use Rattle.calculus.specs.Typing.{Policy, noStore, _⨾_⊢_⦂_ as TmTy, _⨾_⊢*_⦂_ as TmsTy, _⊢ᵐ_⦂_ as BodiesTy, a-body, v-truth, t-abort, is-val, is-op0, is-ite, is-more}
 use Rattle.calculus.specs.Plain.{domOf, methodDom}
-use Rattle.calculus_inversion.proofs.Inversion.{premises}
+use Rattle.calculus_safety.proofs.Inversion.{premises}
 use Rattle.image.specs.Kinds.{TermKind, termRow, Form, operator, formOf}
 use Rattle.image.specs.Records.{Layout}
 use Rattle.image.specs.Types.{typeNo, children, rootOf}

@@ -8,7 +8,7 @@ use lib.ListN.{getElem?}
 use Rattle.calculus.specs.Syntax.{Dom, Ty, Sigs, Val, Tm, Tms, Op0, Op1, Op2, val, var, lam, op0, op1, op2, seq, ite, split, pcd, adv, lower, obj, keep, match, Pattern, newLabel, abort, takedown, theStack, print, install, read, byte, newCell, call, app, mark, store, plus, minus, less, equal}
 use Rattle.calculus.specs.Typing.{Policy, noStore, PatternTy, t-newLabel, t-abort, t-takedown, t-stack, t-print, t-install, t-read, t-byte, t-newCell, t-call, t-pair, t-app, t-mark, t-store, t-plus, t-minus, t-less, t-equal, LabelTys, ⊢_⦂_ as ValTy, _⨾_⊢_⦂_ as TmTy, _⨾_⊢*_⦂_ as TmsTy, _⊢ᵐ_⦂_ as BodiesTy, _⊢_⦂_ as Rule0, _⊢_⦂_⇒_ as Rule1, _⊢_⦂_⇒_⇒_ as Rule2, v-unit, v-truth, v-number, is-end, is-more}
 use Rattle.calculus.specs.Typing as Typing
-use Rattle.calculus_inversion.proofs.Inversion.{premises}
+use Rattle.calculus_safety.proofs.Inversion.{premises}
 use Rattle.image.specs.Program.{opOf}
 use Rattle.verdict.specs.WellTyped.{aborts}
 

@@ -13,7 +13,7 @@ use Rattle.image.specs.Limits.{domainLimit}
 use Rattle.laws.specs.Tests.{anyBelow}
 use Rattle.image.specs.Records.{Layout}
 use Rattle.laws.proofs.Tests.{below-none, none-below}
-use Rattle.laws.proofs.Booleans.{no-path, and-false, or-false-l, or-false-r, lt-of, ge-of, le-of, of-le, eq-of, of-eq}
+use Rattle.laws.proofs.Booleans.{no-path, and-false, or-false-l, or-false-r, lt-of, ge-of, le-of, of-le, eq-of, of-eq, by-test}
 use Rattle.verdict.specs.Domains.{bits, masks, order, leq}
 use Rattle.verdict.specs.Order.{faultAt, atFault}
 use Rattle.verdict.specs.Acceptable.{PartialOrder}
@@ -25,14 +25,12 @@ bits-length (suc n) m = ap suc (bits-length n _)
 
 rows-length : (ms : List ℕ) (d q : ℕ) → getD (getD (map (λ m. bits domainLimit m) ms) d []) q false ≡ true → (d < length ms) × (q < domainLimit)
 rows-length [] d q h = no-path (sym h)
-rows-length (m ∷ ms) zero q h = go (ltb q domainLimit) refl
-  where
-    go : (t : Bool) → ltb q domainLimit ≡ t → (0 < length (m ∷ ms)) × (q < domainLimit)
-    go true e = (omega arith, lt-of e)
-    go false e =
-        let z : domainLimit ≤ q = ge-of e in
-        let w : length (bits domainLimit m) ≤ q = omega (arith, bits-length domainLimit m) in
-        no-path (sym (sym (List·getD-eq-default (bits domainLimit m) false w) ∙ h))
+rows-length (m ∷ ms) zero q h = by-test (ltb q domainLimit)
+    (λ e. (omega arith, lt-of e))
+    λ e.
+    let z : domainLimit ≤ q = ge-of e in
+    let w : length (bits domainLimit m) ≤ q = omega (arith, bits-length domainLimit m) in
+    no-path (sym (sym (List·getD-eq-default (bits domainLimit m) false w) ∙ h))
 rows-length (m ∷ ms) (suc d) q h = let r = rows-length ms d q h in (let l = r .0 in omega arith, r .1)
 
 module _ (L : Layout) where

@@ -1,4 +1,4 @@
--- An image for each refusal, and images just within the limits of depth, domains and labels (document 01, "Turned back at the gate" and "Bench sheet"), by computation of the definitions. P1 to P8 are in the table of whole calls.
+-- An image for each refusal but the twelfth, and images just within the limits of domains and labels (document 01, "Turned back at the gate" and "Bench sheet"), by computation of the definitions. P1 to P8 are in the table of whole calls, and refusal 12 is in crates/demands_examples, since images so deep take long to compute.
 use Prim.Native.Nat.{ℕ, _<_}
 use mathlib.Core.Path.{_≡_, refl}
 use mathlib.Core.Bool.{false}
@@ -20,7 +20,7 @@ use Rattle.verdict.specs.Order.{atFault}
 use Rattle.verdict.specs.Shape.{count, uses, depthsFrom, depths, shape}
 use Rattle.verdict.specs.Check.{checkAll, check, typing}
 use Rattle.verdict.specs.Verdicts.{verdict}
-use Rattle.verdict.proofs.Images.{little, rec, longer, longer-image, image, one-domain, two-domains, domains, unit, number, literal, chain, deep, p2-image, new-labels, up-to, labelled}
+use Rattle.verdict.proofs.Images.{little, rec, longer, longer-image, image, one-domain, two-domains, domains, unit, number, literal, p2-image, new-labels, up-to, labelled}
 
 -- An image, and what the validator says of it where the lent memory is long enough.
 pub record Case : Type 0 where
@@ -32,9 +32,8 @@ case b v = record { bytes = b; says = v }
 
 unfoldable pub verdicts : List Case
 verdicts =
-    -- depth 64, 16 domains, 8 labels
-    case (deep 63) Verdict.Accepted
-    ∷ case (image (domains 16 1 ∷ number ∷ literal 5 ∷ [])) Verdict.Accepted
+    -- 16 domains, 8 labels
+    case (image (domains 16 1 ∷ number ∷ literal 5 ∷ [])) Verdict.Accepted
     ∷ case (labelled 8) Verdict.Accepted
     -- a split of the pair of 5 and 6, whose body adds both parts
     ∷ case (image (one-domain ∷ number ∷ rec 19 (0 ∷ 0 ∷ []) ∷ literal 5 ∷ literal 6 ∷ rec 39 (1 ∷ 0 ∷ 1 ∷ []) ∷ rec 35 (0 ∷ 1 ∷ []) ∷ rec 35 (0 ∷ 0 ∷ []) ∷ rec 43 (0 ∷ 0 ∷ 3 ∷ 4 ∷ []) ∷ rec 40 (0 ∷ 2 ∷ 5 ∷ []) ∷ [])) Verdict.Accepted
@@ -78,8 +77,6 @@ verdicts =
     -- 11: not used; used twice
     ∷ case (image (one-domain ∷ number ∷ literal 5 ∷ literal 5 ∷ [])) (Verdict.Refused Refusal.UseCount 10)
     ∷ case (image (one-domain ∷ number ∷ literal 5 ∷ rec 43 (0 ∷ 0 ∷ 0 ∷ 0 ∷ []) ∷ [])) (Verdict.Refused Refusal.UseCount 10)
-    -- 12: depth 65, at the lowest number
-    ∷ case (deep 64) (Verdict.Refused Refusal.TooDeep 10)
     -- 13
     ∷ case (image (one-domain ∷ number ∷ rec 35 (0 ∷ 0 ∷ []) ∷ [])) (Verdict.Refused Refusal.UnboundVariable 10)
     -- 14: a number of type unit; of two such, the left one; a wrong child is its parent's fault
@@ -96,7 +93,7 @@ verdicts =
 
 pub each-verdict : map (λ c. verdict (c .bytes) workLength reportLength) verdicts ≡ map (λ c. c .says) verdicts
 unfolding verdicts verdict inTurn requireFrom walk layout recordsOf tests find words allWithin all allOf anyBelow firstFault shape atFault leq order bits count uses depths depthsFrom typing check checkAll typeOf typeFrom typeOut
-    little rec longer image one-domain two-domains domains unit number literal longer-image chain deep new-labels up-to labelled
+    little rec longer image one-domain two-domains domains unit number literal longer-image new-labels up-to labelled
 each-verdict = refl
 
 -- 1: an image that is too long.
@@ -104,7 +101,7 @@ pub too-long : (b : List ℕ) (work report : ℕ) → imageLimit < length b → 
 unfolding verdict inTurn
 too-long b work report h = let e : leb (length b) imageLimit ≡ false = lt-leb _ _ h in rw (e, inTurn) refl
 
--- 17 and 18: a work area and a report that are too short.
+-- 17 and 18: a work area and a report that are too short, by the published numbers.
 pub short-lengths : (verdict p2-image 35856 17993 ≡ Verdict.Refused Refusal.ShortWorkArea 0) × (verdict p2-image 35857 17993 ≡ Verdict.Refused Refusal.ShortReport 0)
 unfolding p2-image verdict inTurn requireFrom walk layout recordsOf tests find words allWithin all allOf anyBelow firstFault shape atFault leq order bits count uses depths depthsFrom typing check checkAll typeOf typeFrom typeOut
 short-lengths = (refl, refl)

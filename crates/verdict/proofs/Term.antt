@@ -7,7 +7,7 @@ use lib.ListN.{getD, drop}
 use Rattle.calculus.specs.Syntax.{Dom, Ty, Sigs, method, Val, Tm, Tms, Pattern, val, lam, op0, split, pcd, adv, lower, obj, match, abort, Op1, Op2, op1, op2}
 use Rattle.calculus.specs.Typing.{Policy, noStore, PatternTy, _⨾_⊢_⦂_ as TmTy, _⨾_⊢*_⦂_ as TmsTy, _⊢ᵐ_⦂_ as BodiesTy, a-body, is-op1, is-op2, is-seq, is-ite, is-split, is-keep, is-match, is-op0, is-end, is-more, t-abort}
 use Rattle.calculus.specs.Plain.{domOf, methodDom}
-use Rattle.calculus_inversion.proofs.Inversion.{premises, concluded}
+use Rattle.calculus_safety.proofs.Inversion.{premises, concluded}
 use Rattle.image.specs.Kinds.{TermKind, Form, operator, formOf}
 use Rattle.image.specs.Program.{Program, Programs, node, blank, end, more, nth, behind, patternOf, assembleAs, assemble, toTm, toTms}
 use Rattle.laws.proofs.Booleans.{no-path}

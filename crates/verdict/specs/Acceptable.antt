@@ -1,11 +1,11 @@
--- What acceptance asks (document 01, "The image", "Typing" and "Turned back at the gate"), said without an order, a place or a pass over the image: its records are laid out, its domains are partially ordered, its terms are a tree that is not too deep, its program is well typed by the calculus's rules, with a plain root, and the lent memory is long enough.
+-- What acceptance asks (document 01, "The image", "Typing" and "Turned back at the gate"), said without an order of checks, a place or a pass over the image: its records are laid out, its domains are partially ordered, its terms are a tree that is not too deep, its program is well typed by the calculus's rules, with a plain root, and the lent memory is long enough.
 use Prim.Native.Nat.{ℕ, suc, _≤_, _<_}
 use mathlib.Core.Path.{_≡_}
 use mathlib.Core.Bool.{true}
 use mathlib.Core.List.{List, []}
 use lib.ListN.{length, getD}
-use Rattle.calculus.specs.Syntax.{Dom}
-use Rattle.calculus.specs.Typing.{noStore, _⨾_⊢_⦂_ as TmTy}
+use Rattle.calculus.specs.Syntax.{Dom, Ty, Tm}
+use Rattle.calculus.specs.Typing.{Policy, noStore, _⨾_⊢_⦂_ as TmTy}
 use Rattle.calculus.specs.Plain.{isPlain}
 use Rattle.image.specs.Limits.{imageLimit, depthLimit, workLength, reportLength}
 use Rattle.image.specs.Records.{Layout}
@@ -14,6 +14,11 @@ use Rattle.image.specs.LaidOut.{LaidOut}
 use Rattle.image.specs.Program.{program}
 use Rattle.verdict.specs.Domains.{leq, policy}
 use Rattle.verdict.specs.Ascribed.{ascribed}
+
+-- Figure 3's judgement before a run, with the order of the domains in front: D ∣ Γ ⨾ c ⊢ e ⦂ t.
+infix 4 _∣_⨾_⊢_⦂_
+abbrev _∣_⨾_⊢_⦂_ : Policy → List Ty → Dom → Tm → Ty → Type 0
+D ∣ Γ ⨾ c ⊢ e ⦂ t = TmTy D noStore Γ c e t
 
 module _ (L : Layout) where
   -- Masks name no absent domain, and are a partial order.
@@ -60,7 +65,7 @@ pub record Acceptable (b : List ℕ) (work report : ℕ) : Type 0 where
   -- 12
   pub shallow : (n d : ℕ) → Depth records n d → d ≤ depthLimit
   -- 13 to 15: "Type rules are figures 2 and 3", and "the root is checked at domain 0": one derivation by these rules, at domain 0 and under no variables, of the whole program with every stated type in it
-  pub well-typed : TmTy (policy records) noStore [] 0 (ascribed (program records)) (rootType records)
+  pub well-typed : policy records ∣ [] ⨾ 0 ⊢ ascribed (program records) ⦂ rootType records
   -- 16
   pub plain : isPlain (rootType records) ≡ true
   -- 17 and 18

@@ -26,7 +26,7 @@ unfoldable pub requireFrom : ℕ → ℕ → Refusal → (ℕ → ℕ) → (ℕ 
 requireFrom zero i r place ok = Verdict.Accepted
 requireFrom (suc n) i r place ok = elim (ok i) [ true ↦ requireFrom n (suc i) r place ok | false ↦ Verdict.Refused r (place i) ]
 
--- Checks in turn: the first refusal stands. Each waits behind a λ until those before it have passed.
+-- Checks in turn: the first refusal is the answer. Each check is a function, which is computed only if those before it have passed.
 unfoldable pub inTurn : List (Unit {0} → Verdict) → Verdict
 inTurn [] = Verdict.Accepted
 inTurn (v ∷ vs) = elim (v tt) [ Verdict.Accepted ↦ inTurn vs | Verdict.Refused r place ↦ Verdict.Refused r place ]

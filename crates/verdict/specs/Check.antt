@@ -47,7 +47,7 @@ module _ (L : Layout) where
   checkAll check i [] = Verdict.Accepted
   checkAll check i (e ∷ es) = elim (check i e) [ Verdict.Accepted ↦ checkAll check (suc i) es | Verdict.Refused r o ↦ Verdict.Refused r o ]
 
-  -- "13, 14, 15 at each term, parent before children, left first." A term's children have lower numbers (7), so a fuel of n + 1 is enough and does not run out (the law `check-number`).
+  -- "13, 14, 15 at each term, parent before children, left first." A term's children have lower numbers (7), so a fuel of n + 1 is enough: every fuel above n gives the same (the law `check-fuel`).
   unfoldable pub check : ℕ → Setting ℕ → ℕ → Verdict
   check zero p n = Verdict.Refused Refusal.FieldRange (termPlace L n)
   check (suc f) p n =

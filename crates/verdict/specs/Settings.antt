@@ -21,7 +21,7 @@ bindsRest atRest = true
 bindsRest (anything p) = bindsRest p
 bindsRest (pointcut p) = bindsRest p
 
--- The types that the first branch of a match binds (card 6), s being the stack's and ts the pointcuts': "Values bind in the first branch, left to right, rest last."
+-- The types that the first branch of a match binds (card 6), where s is the stack's type and ts are the pointcuts': "Values bind in the first branch, left to right, rest last."
 abbrev pub matchBinds : {A : Type 0} → (A → A) → Pattern → A → List A → List A
 matchBinds first p s ts = map first ts ++ choose (bindsRest p) (s ∷ []) []
 

@@ -1,7 +1,7 @@
--- Programs that are well typed term by term: what the typing pass finds of a program, each child being checked where `contextOf` and `domainOf` have it stand (Settings.antt). Acceptance does not ask this: it asks for one derivation by document 003's rules (Acceptable.antt), and the law `typed-ascribed` says that the two are the same. So a child that was checked under other variables or at another domain than the rules have it would break that law.
+-- Programs that are well typed term by term: what the typing pass finds of a program. It checks each child where `contextOf` and `domainOf` say (Settings.antt). Acceptance does not ask this: it asks for one derivation by document 003's rules (Acceptable.antt), and the law `typed-ascribed` says that the two are the same. So a child that was checked under other variables or at another domain than the rules have it would break that law.
 use Prim.Native.Nat.{ℕ, suc}
 use mathlib.Core.List.{List, [], _∷_}
-use Rattle.calculus.specs.Syntax.{Ty, Tms, op0, abort}
+use Rattle.calculus.specs.Syntax.{Dom, Ty, Tm, Tms, op0, abort}
 use Rattle.calculus.specs.Typing.{Policy, noStore, _⨾_⊢_⦂_ as TmTy}
 use Rattle.image.specs.Kinds.{TermKind, bodyOf}
 use Rattle.image.specs.Program.{Program, Programs, node, blank, end, more, assemble}
@@ -58,10 +58,15 @@ abbrev pub mainline : Setting Ty
 mainline = record { context = []; dom = 0 }
 
 module _ (D : Policy) where
+  -- Figure 3's judgement before a run: Γ ⨾ c ⊢ e ⦂ t.
+  infix 4 _⨾_⊢_⦂_
+  abbrev _⨾_⊢_⦂_ : List Ty → Dom → Tm → Ty → Type 0
+  Γ ⨾ c ⊢ e ⦂ t = TmTy D noStore Γ c e t
+
   -- A program is well typed where it stands if, by the calculus's rules, its root term would have the type that it states over any children of the types that they state, and each child is well typed where it stands.
   unfoldable mutual
     pub WellTyped : Setting Ty → Program → Type 0
-    WellTyped p (node k t vs es) = TmTy D noStore (p .context) (p .dom) (assemble k t vs (aborts (stateds es))) t × EachWellTyped (childSetting p k t vs (stateds es)) 0 es
+    WellTyped p (node k t vs es) = (p .context ⨾ p .dom ⊢ assemble k t vs (aborts (stateds es)) ⦂ t) × EachWellTyped (childSetting p k t vs (stateds es)) 0 es
     WellTyped p blank = ⊥
 
     -- at says where each child stands; the first of these is child i.

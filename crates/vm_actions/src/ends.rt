@@ -4,7 +4,9 @@ ghost use Prim.Native.Nat.{ℕ, _≤_};
 ghost use lib.ListN.{length};
 ghost use Rattle.base_bytes.specs.Memory.{memoryLength};
 ghost use Rattle.vm_machine.specs.Turn as machine;
+ghost use Rattle.vm_machine.specs.Registers.{frameSlots};
 ghost use Rattle.vm_registers.specs.Phases.{Phase};
+ghost use Rattle.vm_code.specs.Words.{termCount};
 use vm_machine::Regs;
 use vm_memory::slots::slot_env;
 use vm_memory::slots::slot_pc;
@@ -15,7 +17,7 @@ use vm_words::terms::instruction;
 
 // A call or split has its value: f is the word of its slot.
 pub fn returned(code: &[u64], work: &mut [u8], r: Regs, f: u64) -> Regs
-    requires { ⌜ (1024 ≤ length (now code)) × (memoryLength ≤ length (now work)) × (r .frames ≤ 513) ⌝ }
+    requires { ⌜ (termCount ≤ length (now code)) × (memoryLength ≤ length (now work)) × (r .frames ≤ frameSlots) ⌝ }
     ensures { λ q. ⌜ ((image : List ℕ) → Phase (machine.returned (record { code = now (code .entry); image = image }) f) (now (work .entry)) (now (work .exit)) r q) ⌝ }
 {
     let pc = slot_pc(f);

@@ -9,7 +9,7 @@ use lib.Dec.{eqb, leb}
 use borrow.Author.Tests.{le-leb, lt-leb, not-true, not-false}
 use Rattle.calculus.specs.declared.Outcome.{Outcome}
 use Rattle.calculus.specs.Combinators.{choose}
-use Rattle.calculus.specs.Limits.{pieceLimit}
+use Rattle.calculus.specs.Limits.{pieceLimit, labelLimit}
 use Rattle.calculus.specs.Report.{outcomeNumber}
 use Rattle.vm_code.specs.Values.{pointcutTag, bodyOf}
 use Rattle.vm_code.specs.Words.{classOf, depthOf, countOf, termCount, returnPc}
@@ -18,7 +18,7 @@ use Rattle.vm_machine.specs.declared.Regs.{Regs}
 use Rattle.vm_machine.specs.Registers.{fuelBias, frameSlots, setPc, setEnv, setFrames, haltWith, halt, stuck}
 use Rattle.vm_pools.specs.Pools.{hasCapacity, piecesOut}
 use Rattle.vm_machine.specs.Quotas.{quotaOf}
-use Rattle.vm_machine.specs.Memory.{Memory, slotPc, slotEnv, digitsAt, digitCount, noDigits, withDigit, labelSet, putWord, pointcutFrame, slotWord, slotIn, putListed, putDigits}
+use Rattle.vm_machine.specs.Memory.{Memory, slotPc, slotEnv, digitsAt, digitCount, noDigits, withDigit, labelSet, putWord, pointcutFrame, slotWord, slotIn, putListed, putDigits, bindingPlaces, heldSize}
 use Rattle.vm_machine.specs.States.{State, withRegs, judged}
 use Rattle.vm_machine.specs.Fetch.{Program, codeAt}
 use Rattle.vm_machine.specs.Reduce.{newPiece}
@@ -35,9 +35,9 @@ use Rattle.vm_labels.specs.PointcutChildren.{FramesAfter, childBegun, be
 pub few-digits : (n d : ℕ) → digitCount n d ≤ n
 unfolding digitCount
 few-digits zero d = omega arith
-few-digits (suc n) d = try (leb d noDigits) (few-digits n (d / 64))
+few-digits (suc n) d = try (leb d noDigits) (few-digits n (d / labelLimit))
   where
-    try : (b : Bool) → digitCount n (d / 64) ≤ n → choose b 0 (suc (digitCount n (d / 64))) ≤ suc n
+    try : (b : Bool) → digitCount n (d / labelLimit) ≤ n → choose b 0 (suc (digitCount n (d / labelLimit))) ≤ suc n
     try true h = omega arith
     try false h = omega arith
 
@@ -88,7 +88,7 @@ child-made C a b r s w m d x e k same depth frames h child entry held =
     let f : Regs → ℕ → ℕ → Regs = λ p y z. setPc z (setFrames y p) in
     stored-made (childBegun C (r .pc) w k) (putDigits (r .frames) (depthOf w + 1) (r .pc) (r .env) (k .digits) M) a b r (setPc e (setFrames m s))
     (setPc (entryFrom termCount C (childAt C w (k .count))) (setFrames (r .frames - (depthOf w + 1)) r)) (λ log. refl)
-    (ap (λ p. f p m e) same ∙ ap₂ (f r) n (entry ∙ ap (entryFrom termCount C) child)) (listed-around a b (r .frames) (depthOf w + 1) m (r .pc) (r .env) (k .digits % 68719476736) (k .digits / 68719476736 % 256) n (omega arith) held)
+    (ap (λ p. f p m e) same ∙ ap₂ (f r) n (entry ∙ ap (entryFrom termCount C) child)) (listed-around a b (r .frames) (depthOf w + 1) m (r .pc) (r .env) (k .digits % heldSize) (k .digits / heldSize % 256) n (omega arith) held)
 
 -- The children of pointcut t, from child i on: those that are atoms are taken, k.
 module _ (C : Program) (a b : List ℕ) (r q : Regs) (t i d w : ℕ) (word : w ≡ codeAt C t) (k : Taken) (taken : k ≡ takeLabels C (memoryOf a) (r .env) w (countOf w - i) i d) (n : ℕ) (count : n ≡ countOf w) where
@@ -127,7 +127,7 @@ module _ (C : Program) (a b : List ℕ) (r q : Regs) (t i d w : ℕ) (word : w �
 
 -- Where its children go on.
 pub resumed-part : (C : Program) (M : Memory) (resumed : Bool) (f : ℕ) (r : Regs) (pc env d n x y m : ℕ) → resumed ≡ true → pc ≡ slotPc f → env ≡ slotEnv f → d ≡ digitsAt M (r .frames) f → n ≡ digitCount 8 d
-    → x ≡ bodyOf (r .acc) → y ≡ withDigit d (x % 64) → m ≡ depthOf (codeAt C pc) → record { pc = pc; env = env % 2048; frames = r .frames + (m + 1); done = record { count = n + 1; digits = y } } ≡ partOf C M resumed f r
+    → x ≡ bodyOf (r .acc) → y ≡ withDigit d (x % labelLimit) → m ≡ depthOf (codeAt C pc) → record { pc = pc; env = env % bindingPlaces; frames = r .frames + (m + 1); done = record { count = n + 1; digits = y } } ≡ partOf C M resumed f r
 resumed-part C M resumed f r pc env d n x y m t a b e g h i j = rw (t, j, i, h, g, e, b, a)
 
 pub begun-part : (C : Program) (M : Memory) (resumed : Bool) (f : ℕ) (r : Regs) → resumed ≡ false → begunPart r ≡ partOf C M resumed f r
@@ -138,7 +138,7 @@ module _ (C : Program) (M : Memory) (f : ℕ) (r : Regs) (p : Part) where
   part-pc true e h = rw e (omega arith)
   part-pc false e h = rw e h
 
-  pub part-env : (resumed : Bool) → p ≡ partOf C M resumed f r → r .env < 2048 → p .env < 2048
+  pub part-env : (resumed : Bool) → p ≡ partOf C M resumed f r → r .env < bindingPlaces → p .env < bindingPlaces
   part-env true e h = rw e (omega arith)
   part-env false e h = rw e h
 

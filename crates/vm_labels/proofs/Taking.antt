@@ -5,6 +5,7 @@ use native.Mathlib.Numerals.{add-one}
 use mathlib.Core.Path.{_≡_, sym, ap, ap₂, _∙_}
 use mathlib.Core.List.{List}
 use borrow.Author.Tests.{lt-ltb, le-ltb}
+use Rattle.calculus.specs.Limits.{labelLimit}
 use Rattle.image.proofs.Words.{le16-part}
 use Rattle.read_records.specs.Heads.{fieldIn}
 use Rattle.vm_code.specs.Values.{bodyOf}
@@ -41,11 +42,11 @@ module _ (C : Program) (M : Memory) (env w n : ℕ) where
         let t = le-ltb (classOf (codeAt C (childAt C w i))) firstInstruction (rw (← is-word) (omega (arith, class))) in
         rw (e, t)
 
-    pub one-taken : (v b d′ : ℕ) → k < firstInstruction → v ≡ atomValue C M env u → b ≡ bodyOf v → d′ ≡ withDigit d (b % 64)
+    pub one-taken : (v b d′ : ℕ) → k < firstInstruction → v ≡ atomValue C M env u → b ≡ bodyOf v → d′ ≡ withDigit d (b % labelLimit)
         → takeLabels C M env w (n - i) i d ≡ takeLabels C M env w (n - (i + 1)) (i + 1) d′
     unfolding takeLabels
     one-taken v b d′ l p q s =
         let e : n - i ≡ suc (n - (i + 1)) = omega arith in
         let t = lt-ltb (classOf (codeAt C (childAt C w i))) firstInstruction (rw (← is-word) (omega (arith, class))) in
-        let g : d′ ≡ withDigit d (bodyOf (atomValue C M env (codeAt C (childAt C w i))) % 64) = s ∙ ap (λ y. withDigit d (y % 64)) (q ∙ ap bodyOf (p ∙ ap (atomValue C M env) is-word)) in
+        let g : d′ ≡ withDigit d (bodyOf (atomValue C M env (codeAt C (childAt C w i))) % labelLimit) = s ∙ ap (λ y. withDigit d (y % labelLimit)) (q ∙ ap bodyOf (p ∙ ap (atomValue C M env) is-word)) in
         rw (e, t) (ap₂ (takeLabels C M env w (n - (i + 1))) (sym (add-one i)) (sym g))

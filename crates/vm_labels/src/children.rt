@@ -7,6 +7,7 @@ ghost use Rattle.base_bytes.specs.Memory.{memoryLength};
 ghost use Rattle.read_records.specs.Heads.{fieldIn};
 ghost use Rattle.vm_code.specs.Words.{termCount, countOf};
 ghost use Rattle.vm_machine.specs.Turn.{takeLabels};
+ghost use Rattle.vm_machine.specs.Memory.{bindingPlaces};
 ghost use Rattle.vm_memory.specs.View.{memoryOf};
 ghost use Rattle.vm_labels.specs.PointcutChildren.{childFields};
 use crate::Done;
@@ -41,7 +42,7 @@ pub fn term_at(fields: &[u8], i: usize) -> TermNo
 
 // From the children on that are done: atoms are taken in place; it stops at what is none. The fields are those of the children.
 pub fn take_labels(code: &[u64], fields: &[u8], work: &[u8], env: usize, w: u64, from: Done) -> Done
-    requires { ⌜ (termCount ≤ length (now code)) × (memoryLength ≤ length (now work)) × (env < 2048) ⌝ }
+    requires { ⌜ (termCount ≤ length (now code)) × (memoryLength ≤ length (now work)) × (env < bindingPlaces) ⌝ }
     ensures { λ r. ⌜ ((image : List ℕ) → now (fields .entry) ≡ childFields image w → record { count = r .count; digits = r .digits } ≡ takeLabels (record { code = now (code .entry); image = image }) (memoryOf (now (work .entry))) env w (countOf w - from .count) (from .count) (from .digits)) ⌝ }
 {
     let n = count_of(w);

@@ -9,7 +9,7 @@ ghost use Rattle.base_bytes.specs.Memory.{memoryLength};
 ghost use Rattle.vm_code.specs.Values.{pointcutTag};
 ghost use Rattle.vm_code.specs.Words.{termCount, returnPc, countOf, depthOf};
 ghost use Rattle.vm_machine.specs.Registers.{frameSlots};
-ghost use Rattle.vm_machine.specs.Memory.{labelSet};
+ghost use Rattle.vm_machine.specs.Memory.{labelSet, bindingPlaces};
 ghost use Rattle.vm_machine.specs.States.{judged};
 ghost use Rattle.vm_machine.specs.Fetch.{codeAt};
 ghost use Rattle.vm_machine.specs.Fits.{PoolFits};
@@ -25,6 +25,9 @@ use crate::children::child_fields;
 use crate::children::take_labels;
 use crate::children::term_at;
 use crate::entry::entry_from;
+use calculus::PIECE_LIMIT;
+use calculus::outcomes::FRAMES;
+use image::POINTCUT_LIMIT;
 use vm_machine::Regs;
 use vm_memory::labels::LABELS;
 use vm_memory::labels::digit_count;
@@ -35,8 +38,6 @@ use vm_memory::slots::put_digits;
 use vm_memory::slots::slot_env;
 use vm_memory::slots::slot_pc;
 use vm_memory::words::BINDING_PLACES;
-use vm_registers::limits::PIECES;
-use vm_registers::outcomes::FRAMES;
 use vm_registers::pieces::new_piece;
 use vm_registers::pools::has_capacity;
 use vm_registers::pools::pieces_out;
@@ -54,10 +55,8 @@ use vm_words::terms::instruction;
 use vm_words::value::POINTCUT;
 use vm_words::value::body;
 
-// The digits of no labels; and the most labels that a pointcut has.
+// The digits of no labels.
 const NO_DIGITS: u64 = 1;
-
-const MOST_LABELS: usize = 8;
 
 // All children are done: the pointcut with word w is made.
 fn make_pointcut(work: &mut [u8], r: Regs, w: u64, digits: u64) -> Regs
@@ -72,7 +71,7 @@ fn make_pointcut(work: &mut [u8], r: Regs, w: u64, digits: u64) -> Regs
         let p = r.pools;
         return halt(
             r,
-            spent_or(has_capacity(p.pieces, h, 1, PIECES), pieces_out(h)),
+            spent_or(has_capacity(p.pieces, h, 1, PIECE_LIMIT), pieces_out(h)),
         );
     }
     new_piece(work, r, w, POINTCUT, 0, label_set(count_of(w), digits))
@@ -80,7 +79,7 @@ fn make_pointcut(work: &mut [u8], r: Regs, w: u64, digits: u64) -> Regs
 
 // The next child is begun: it is a body of its own.
 fn begin_child(code: &[u64], fields: &[u8], work: &mut [u8], r: Regs, w: u64, done: Done) -> Regs
-    requires { ⌜ (termCount ≤ length (now code)) × (memoryLength ≤ length (now work)) × (r .pc ≤ returnPc) × (r .env < 2048) × (depthOf w + 1 < r .frames) × (r .frames ≤ frameSlots + depthOf w) × (done .count < countOf w) ⌝ }
+    requires { ⌜ (termCount ≤ length (now code)) × (memoryLength ≤ length (now work)) × (r .pc ≤ returnPc) × (r .env < bindingPlaces) × (depthOf w + 1 < r .frames) × (r .frames ≤ frameSlots + depthOf w) × (done .count < countOf w) ⌝ }
     ensures { λ q. ⌜ ((image : List ℕ) → now (fields .entry) ≡ childFields image w → Phase (childBegun (record { code = now (code .entry); image = image }) (r .pc) w (record { count = done .count; digits = done .digits })) (now (work .entry)) (now (work .exit)) r q) ⌝ }
 {
     let frames = r.frames - (depth_of(w) + 1);
@@ -93,7 +92,7 @@ fn begin_child(code: &[u64], fields: &[u8], work: &mut [u8], r: Regs, w: u64, do
 
 // The children of the pointcut at hand, from those on that are done.
 fn labels_from(code: &[u64], image: &[u8], work: &mut [u8], r: Regs, from: Done) -> Regs
-    requires { ⌜ (returnPc < length (now code)) × (memoryLength ≤ length (now work)) × (r .pc ≤ returnPc) × (r .env < 2048) × (r .frames ≤ frameSlots + depthOf (codeAt (record { code = now code; image = now image }) (r .pc))) × PoolFits pieceLimit (r .pools .pieces) × FramesAfter (labelsFrom (record { code = now code; image = now image }) (r .pc) (from .count) (from .digits)) (now work) r ⌝ }
+    requires { ⌜ (returnPc < length (now code)) × (memoryLength ≤ length (now work)) × (r .pc ≤ returnPc) × (r .env < bindingPlaces) × (r .frames ≤ frameSlots + depthOf (codeAt (record { code = now code; image = now image }) (r .pc))) × PoolFits pieceLimit (r .pools .pieces) × FramesAfter (labelsFrom (record { code = now code; image = now image }) (r .pc) (from .count) (from .digits)) (now work) r ⌝ }
     ensures { λ q. ⌜ Phase (labelsFrom (record { code = now (code .entry); image = now (image .entry) }) (r .pc) (from .count) (from .digits)) (now (work .entry)) (now (work .exit)) r q ⌝ }
 {
     let pc = r.pc;
@@ -118,7 +117,7 @@ fn part_of(code: &[u64], work: &[u8], r: Regs, resumed: bool, f: u64) -> Part
         let pc = slot_pc(f);
         let d = digits_at(work, r.frames, f);
         let done = Done {
-            count: digit_count(MOST_LABELS, d) + 1,
+            count: digit_count(POINTCUT_LIMIT, d) + 1,
             digits: with_digit(d, body(r.acc) % LABELS),
         };
         return Part {
@@ -149,7 +148,7 @@ fn resumes_other(resumed: bool, w: u64) -> bool
 
 // A pointcut is begun; or, resumed, a child of it is worked out, and f is the word of its slot.
 pub fn labels(code: &[u64], image: &[u8], work: &mut [u8], r: Regs, resumed: bool, f: u64) -> Regs
-    requires { ⌜ (returnPc < length (now code)) × (memoryLength ≤ length (now work)) × (r .pc ≤ returnPc) × (r .env < 2048) × (r .frames ≤ frameSlots) × (resumed ≡ true → r .frames < frameSlots) × PoolFits pieceLimit (r .pools .pieces) × FramesAfter (labelled (record { code = now code; image = now image }) resumed f) (now work) r ⌝ }
+    requires { ⌜ (returnPc < length (now code)) × (memoryLength ≤ length (now work)) × (r .pc ≤ returnPc) × (r .env < bindingPlaces) × (r .frames ≤ frameSlots) × (resumed ≡ true → r .frames < frameSlots) × PoolFits pieceLimit (r .pools .pieces) × FramesAfter (labelled (record { code = now code; image = now image }) resumed f) (now work) r ⌝ }
     ensures { λ q. ⌜ Phase (labelled (record { code = now (code .entry); image = now (image .entry) }) resumed f) (now (work .entry)) (now (work .exit)) r q ⌝ }
 {
     let p = part_of(code, work, r, resumed, f);

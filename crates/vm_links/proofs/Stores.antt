@@ -3,7 +3,7 @@ use Prim.Native.Nat.{ℕ, _+_, _*_, _%_, _/_, _≤_, _<_}
 use mathlib.Core.Path.{refl}
 use Rattle.vm_code.specs.Values.{functionValue, objectValue}
 use Rattle.vm_code.specs.Words.{returnPc}
-use Rattle.vm_machine.specs.Memory.{Memory, bindingBase, pieceBase, putWord, above, binding, putBinding, adviceWord, slotHeld, slotAt, slotIn, callFrame, adviceFrame, pointcutFrame, keepFrame, bindingsLeft, putReturn, putAdvice, putDigits, putMatch, putKeep}
+use Rattle.vm_machine.specs.Memory.{Memory, bindingBase, pieceBase, putWord, above, binding, putBinding, adviceWord, slotHeld, slotAt, slotIn, callFrame, adviceFrame, pointcutFrame, keepFrame, bindingsLeft, putReturn, putAdvice, putDigits, putMatch, putKeep, heldSize}
 use Rattle.vm_links.specs.Links.{outer, frame, next, end, closure, advice, linkSize, a-binding, a-frame, a-next, an-end, a-function, an-object, an-advice, PutsLink}
 
 module _ (M : Memory) where
@@ -41,7 +41,7 @@ module _ (M : Memory) where
 
     -- `put_digits`, `put_match`, `put_keep`: the environment of a pointcut's frame, a match's and a keep's.
     pub digits-links : (digits : ℕ) → PutsLink frame env M (putDigits frames d pc env digits M)
-    digits-links digits = record { word = slotIn frames d; around = _; is-word = a-frame pointcutFrame pc (digits % 68719476736); words = refl }
+    digits-links digits = record { word = slotIn frames d; around = _; is-word = a-frame pointcutFrame pc (digits % heldSize); words = refl }
 
     pub match-links : (v byte : ℕ) → PutsLink frame env M (putMatch frames d pc env v byte M)
     match-links v byte = record { word = slotIn frames d; around = _; is-word = a-frame pointcutFrame pc (v / 268435456); words = refl }

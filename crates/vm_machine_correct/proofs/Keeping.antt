@@ -10,8 +10,8 @@ use Rattle.calculus.specs.Place.{keptOn}
 use Rattle.calculus.specs.View.{labelOf}
 use Rattle.closure_machine.specs.Closure.{CVal, unloadVal}
 use Rattle.vm_theory.specs.Conf.{callA, adviceA, restA, manyA, keepA, Chain, base, keptBy}
-use Rattle.vm_theory.specs.Table.{Table, Linked}
 use Rattle.vm_machine.specs.Memory.{Memory, keptAt, entryLabel}
+use Rattle.vm_machine_correct.proofs.Setup.{Setup}
 use Rattle.vm_machine_correct.proofs.Relations.{Sizes, IsVal, val-at, val-grows, Grows}
 
 -- There are no more of them than unfinished terms.
@@ -32,22 +32,22 @@ pub record UnderLabel (u : CVal) : Type 0 where
   pub label : ℕ
   pub is : labelOf (unloadVal u) ≡ some label
 
-module _ (T : Table) (root : ℕ) (L : Linked T 0 root) where
+module _ (Θ : Setup) where
   -- The first n places have the values x, the innermost last.
   pub data AreKept (M : Memory) (z : Sizes) : ℕ → List (Entry CVal) → Type 0 where
     none-kept : AreKept M z 0 []
-    one-kept : {n : ℕ} {e : Entry CVal} {x : List (Entry CVal)} → entryLabel (keptAt M n) ≡ e .label → IsVal T root L M z (keptAt M n) (e .held) → AreKept M z n x → AreKept M z (suc n) (e ∷ x)
+    one-kept : {n : ℕ} {e : Entry CVal} {x : List (Entry CVal)} → entryLabel (keptAt M n) ≡ e .label → IsVal Θ M z (keptAt M n) (e .held) → AreKept M z n x → AreKept M z (suc n) (e ∷ x)
 
   pub kept-below : {M : Memory} {z : Sizes} {M′ : Memory} {z′ : Sizes} {n : ℕ} {x : List (Entry CVal)} → Grows M z M′ z′ → ((i : ℕ) → i < n → keptAt M′ i ≡ keptAt M i) → AreKept M z n x → AreKept M′ z′ n x
   kept-below g h none-kept = none-kept
   kept-below {M} {z} {M′} {z′} g h (one-kept {n = n} l v k) =
-      one-kept (ap entryLabel (h n (omega arith)) ∙ l) (val-at T root L M′ z′ (h n (omega arith)) (val-grows T root L M z M′ z′ g v)) (kept-below g (λ i b. h i (omega arith)) k)
+      one-kept (ap entryLabel (h n (omega arith)) ∙ l) (val-at Θ M′ z′ (h n (omega arith)) (val-grows Θ M z M′ z′ g v)) (kept-below g (λ i b. h i (omega arith)) k)
 
   pub kept-grows : {M : Memory} {z : Sizes} {M′ : Memory} {z′ : Sizes} {n : ℕ} {x : List (Entry CVal)} → Grows M z M′ z′ → ((i : ℕ) → keptAt M′ i ≡ keptAt M i) → AreKept M z n x → AreKept M′ z′ n x
   kept-grows g h k = kept-below g (λ i b. h i) k
 
   -- One value more is kept.
-  pub kept-more : {M : Memory} {z : Sizes} {n : ℕ} {u w : CVal} {x : List (Entry CVal)} (l : UnderLabel u) → entryLabel (keptAt M n) ≡ l .label → IsVal T root L M z (keptAt M n) w → AreKept M z n x
+  pub kept-more : {M : Memory} {z : Sizes} {n : ℕ} {u w : CVal} {x : List (Entry CVal)} (l : UnderLabel u) → entryLabel (keptAt M n) ≡ l .label → IsVal Θ M z (keptAt M n) w → AreKept M z n x
       → AreKept M z (n + 1) (keptOn (labelOf (unloadVal u)) w x)
   kept-more {M} {z} {n} {u} {w} {x} l e i k =
       let next : n + 1 ≡ suc n = omega arith in

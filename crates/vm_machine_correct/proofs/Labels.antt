@@ -11,16 +11,17 @@ use lib.Bits.{bitOr, or-step, or-shr}
 use lib.Pow.{pow-lt, pow-add, shl-shr, high}
 use borrow.Author.Tests.{eqb-true, eqb-false, ltb-true, ltb-false, lt-leb}
 use Rattle.calculus.specs.Compose.{member}
+use Rattle.calculus.specs.Limits.{labelLimit}
 use Rattle.vm_machine.specs.Memory.{noDigits, withDigit, digitCount, labelSet, hasBit, withBit}
 
 -- Digits of labels, the latest first.
 unfoldable pub digitsOf : List ℕ → ℕ
 digitsOf [] = noDigits
-digitsOf (l ∷ ls) = 64 * digitsOf ls + l
+digitsOf (l ∷ ls) = labelLimit * digitsOf ls + l
 
 pub data Labels : List ℕ → Type 0 where
   no-labels : Labels []
-  one-more : {l : ℕ} {ls : List ℕ} → l < 64 → Labels ls → Labels (l ∷ ls)
+  one-more : {l : ℕ} {ls : List ℕ} → l < labelLimit → Labels ls → Labels (l ∷ ls)
 
 -- The labels ds, the latest first, put before ls.
 abbrev pub onto : List ℕ → List ℕ → List ℕ
@@ -32,12 +33,12 @@ unfolding digitsOf
 digits-low no-labels = omega arith
 digits-low (one-more h ls) = omega (arith, digits-low ls)
 
-pub digits-fit : {ds : List ℕ} (m : ℕ) → Labels ds → length ds ≤ m → digitsOf ds < 2 * 64 ^ m
+pub digits-fit : {ds : List ℕ} (m : ℕ) → Labels ds → length ds ≤ m → digitsOf ds < 2 * labelLimit ^ m
 unfolding digitsOf
 digits-fit zero no-labels h = omega arith
-digits-fit (suc m) no-labels h = rw (pow-suc 64 m) (omega (arith, digits-fit m no-labels (omega arith)))
+digits-fit (suc m) no-labels h = rw (pow-suc labelLimit m) (omega (arith, digits-fit m no-labels (omega arith)))
 digits-fit zero (one-more l ds) h = absurd (omega arith)
-digits-fit (suc m) (one-more l ds) h = rw (pow-suc 64 m) (omega (arith, digits-fit m ds (omega arith)))
+digits-fit (suc m) (one-more l ds) h = rw (pow-suc labelLimit m) (omega (arith, digits-fit m ds (omega arith)))
 
 -- One label more.
 pub with-digit : {ds : List ℕ} → Labels ds → length ds ≤ 8 → (l : ℕ) → withDigit (digitsOf ds) l ≡ digitsOf (l ∷ ds)
@@ -51,9 +52,9 @@ digit-count zero no-labels h = refl
 digit-count zero (one-more l ds) h = absurd (omega arith)
 digit-count (suc n) no-labels h = refl
 digit-count (suc n) (one-more {l = l} {ls = ls} p ds) h =
-    let big : 1 < 64 * digitsOf ls + l = omega (arith, digits-low ds) in
-    let rest : (64 * digitsOf ls + l) / 64 ≡ digitsOf ls = omega arith in
-    rw (lt-leb (64 * digitsOf ls + l) 1 big, rest) (ap suc (digit-count n ds (omega arith)))
+    let big : 1 < labelLimit * digitsOf ls + l = omega (arith, digits-low ds) in
+    let rest : (labelLimit * digitsOf ls + l) / labelLimit ≡ digitsOf ls = omega arith in
+    rw (lt-leb (labelLimit * digitsOf ls + l) 1 big, rest) (ap suc (digit-count n ds (omega arith)))
 
 -- The bits of a union, of one bit, and of a set with one label more.
 max-one : (p q : ℕ) → p < 2 → q < 2 → (max p q < 2) × (eqb (max p q) 1 ≡ (eqb p 1 || eqb q 1))
@@ -112,8 +113,8 @@ label-set no-labels zero s l e = sym (or-false (hasBit s l))
 label-set no-labels (suc n) s l e = absurd (omega arith)
 label-set (one-more h ds) zero s l e = absurd (omega arith)
 label-set (one-more {l = k} {ls = ls} h ds) (suc n) s l e =
-    let last : (64 * digitsOf ls + k) % 64 ≡ k = omega arith in
-    let rest : (64 * digitsOf ls + k) / 64 ≡ digitsOf ls = omega arith in
+    let last : (labelLimit * digitsOf ls + k) % labelLimit ≡ k = omega arith in
+    let rest : (labelLimit * digitsOf ls + k) / labelLimit ≡ digitsOf ls = omega arith in
     rw (last, rest) (label-set ds n (withBit s k) l (omega arith) ∙ ap (λ (b : Bool). b || member l ls) (has-with s k l) ∙ or-assoc (hasBit s l) (eqb l k) (member l ls))
 
 -- Labels put before others are the same labels.

@@ -12,10 +12,10 @@ use Rattle.calculus.specs.Plain.{leafCount, bothLeaves, fewLeaves, isPlain}
 use Rattle.calculus.specs.Report.{leaves}
 use Rattle.calculus.specs.Typing.{Policy, StoreTyping, ⊢_⦂_ as ValTy}
 use Rattle.closure_machine.specs.Closure.{CVal, unloadVal}
-use Rattle.vm_theory.specs.Table.{Table, Linked}
 use Rattle.vm_machine.specs.Memory.{Memory}
 use Rattle.vm_machine.specs.States.{State}
 use Rattle.vm_machine.specs.Leaves.{leavesOf}
+use Rattle.vm_machine_correct.proofs.Setup.{Setup}
 use Rattle.vm_machine_correct.proofs.Relations.{Sizes, sizes, IsVal, is-unit, is-truth, is-num, is-fun, is-pair, is-cell, is-label, is-labels, is-advice, is-object, is-bottom, is-kept}
 use Rattle.vm_machine_correct.proofs.Ends.{Stands}
 
@@ -34,8 +34,8 @@ pairDepth (Val.object t bs) = 0
 pairDepth Val.bottom = 0
 pairDepth (Val.kept l v k) = 0
 
-module _ (T : Table) (root : ℕ) (L : Linked T 0 root) (M : Memory) (z : Sizes) where
-  pub leaves-is : (d : ℕ) {w : ℕ} {v : CVal} → IsVal T root L M z w v → pairDepth (unloadVal v) ≤ d → leavesOf M d w ≡ leaves (unloadVal v)
+module _ (Θ : Setup) (M : Memory) (z : Sizes) where
+  pub leaves-is : (d : ℕ) {w : ℕ} {v : CVal} → IsVal Θ M z w v → pairDepth (unloadVal v) ≤ d → leavesOf M d w ≡ leaves (unloadVal v)
   unfolding leavesOf leaves unloadVal pairDepth
   leaves-is zero (is-unit p) h = rw p
   leaves-is zero (is-truth {b = true} p q) h = rw (p, q)
@@ -92,9 +92,9 @@ leaves-count ValTy.v-bottom n p = absurd (Option·none-ne-some n p)
 leaves-count (ValTy.v-kept h g k) n p = absurd (Option·none-ne-some n p)
 
 -- A value of a plain type has at most 8 leaves, and the tables have them.
-pub plain-leaves : (T : Table) (root : ℕ) (L : Linked T 0 root) (S : State) {D : Policy} {Σ : StoreTyping} {v : Val} {t : Ty} {w : ℕ} → ValTy D Σ v t → isPlain t ≡ true → Stands T root L S w v
+pub plain-leaves : (Θ : Setup) (S : State) {D : Policy} {Σ : StoreTyping} {v : Val} {t : Ty} {w : ℕ} → ValTy D Σ v t → isPlain t ≡ true → Stands Θ S w v
     → (leavesOf (S .memory) 8 w ≡ leaves v) × (length (leaves v) ≤ 8)
-plain-leaves T root L S {v = v} {t = t} {w = w} h p st = try (leafCount t) refl p
+plain-leaves Θ S {v = v} {t = t} {w = w} h p st = try (leafCount t) refl p
   where
     try : (o : Option ℕ) → leafCount t ≡ o → fewLeaves o ≡ true → (leavesOf (S .memory) 8 w ≡ leaves v) × (length (leaves v) ≤ 8)
     try none e q = absurd (false≢true q)
@@ -102,4 +102,4 @@ plain-leaves T root L S {v = v} {t = t} {w = w} h p st = try (leafCount t) refl 
         let c = leaves-count h n e in
         let few : n ≤ 8 = leb-true n 8 q in
         let deep : pairDepth (unloadVal (st .value)) ≤ 8 = rw (st .plain) (omega (arith, c .1)) in
-        (leaves-is T root L (S .memory) (sizes (S .regs)) 8 (st .is) deep ∙ ap leaves (st .plain), omega (arith, c .0))
+        (leaves-is Θ (S .memory) (sizes (S .regs)) 8 (st .is) deep ∙ ap leaves (st .plain), omega (arith, c .0))

@@ -1,4 +1,5 @@
 -- The machine over words makes the calculus's runs.
+pub mod Setup
 pub mod Pools
 pub mod Relations
 pub mod Tables
@@ -25,7 +26,6 @@ pub mod Mark
 pub mod ReduceStack
 pub mod Keeps
 pub mod Linking
-pub mod Operands
 pub mod Instructions
 pub mod Entries
 pub mod Labelling

@@ -15,12 +15,13 @@ use Rattle.calculus.specs.View.{labelsOf}
 use Rattle.calculus.specs.Reduce.{hits, consFound}
 use Rattle.image.specs.Bytes.{le16}
 use Rattle.closure_machine.specs.Closure.{CVal, Env, link, linkAll, topOfC, unloadVal}
-use Rattle.vm_theory.specs.Table.{Table, Linked}
 use Rattle.vm_code.specs.Words.{countOf, entryPlace, closePlace}
-use Rattle.vm_says.specs.Says.{SaysPattern, says-end, says-rest, says-anything, says-cut}
-use Rattle.vm_machine.specs.Memory.{Memory, slotBase, binding, putBinding, topEntry}
+use Rattle.vm_theory.specs.Says.{SaysPattern, says-end, says-rest, says-anything, says-cut}
+use Rattle.vm_machine.specs.Memory.{Memory, slotBase, binding, putBinding, topEntry, bindingPlaces, piecePlaces}
 use Rattle.vm_machine.specs.Fetch.{Program}
 use Rattle.vm_machine.specs.Stacks.{entryAt, bindsRest, variables, Chained, bindEntries}
+use Rattle.base_bytes.specs.Memory.{wordCount}
+use Rattle.vm_machine_correct.proofs.Setup.{Setup}
 use Rattle.vm_machine_correct.proofs.Relations.{Sizes, IsVal, IsEnv, Grows, val-grows, env-grows}
 use Rattle.vm_machine_correct.proofs.Tables.{grows-sizes, grows-trans, Above, above-put, above-refl, above-trans}
 use Rattle.vm_machine_correct.proofs.Store.{resized}
@@ -28,38 +29,38 @@ use Rattle.vm_machine_correct.proofs.Views.{AsKept, a-kept, no-kept, as
 use Rattle.vm_machine_correct.proofs.ReduceBindings.{grows-bound, env-bound-to}
 use Rattle.vm_machine_correct.proofs.Looking.{found}
 
-module _ (T : Table) (root : ℕ) (L : Linked T 0 root) where
+module _ (Θ : Setup) where
   -- c bindings more: the tables of B, whose environment is σ.
   pub record Chains (M : Memory) (z : Sizes) (c : ℕ) (σ : Env) (B : Chained) : Type 0 where
     pub count : B .count ≡ z .nb + c
-    pub grows : Grows M z (B .memory) (resized T root L (z .nb + c) (z .np) z)
+    pub grows : Grows M z (B .memory) (resized Θ (z .nb + c) (z .np) z)
     pub above : Above slotBase M (B .memory)
     pub beside : B .memory .beside ≡ M .beside
-    pub env : IsEnv T root L (B .memory) (resized T root L (z .nb + c) (z .np) z) (B .env) σ
-    pub fits : B .env < 2048
+    pub env : IsEnv Θ (B .memory) (resized Θ (z .nb + c) (z .np) z) (B .env) σ
+    pub fits : B .env < bindingPlaces
 
-  no-more : (M : Memory) (z : Sizes) (n env : ℕ) (σ : Env) → n ≡ z .nb → IsEnv T root L M z env σ → env < 2048 → Chains M z 0 σ (record { memory = M; count = n; env = env })
+  no-more : (M : Memory) (z : Sizes) (n env : ℕ) (σ : Env) → n ≡ z .nb → IsEnv Θ M z env σ → env < bindingPlaces → Chains M z 0 σ (record { memory = M; count = n; env = env })
   no-more M z n env σ q ie fits =
-      let g : Grows M z M (resized T root L (z .nb + 0) (z .np) z) = grows-sizes M z (resized T root L (z .nb + 0) (z .np) z) (omega arith) (omega arith) in
-      record { count = omega arith; grows = g; above = above-refl slotBase M; beside = refl; env = env-grows T root L M z M (resized T root L (z .nb + 0) (z .np) z) g ie; fits = fits }
+      let g : Grows M z M (resized Θ (z .nb + 0) (z .np) z) = grows-sizes M z (resized Θ (z .nb + 0) (z .np) z) (omega arith) (omega arith) in
+      record { count = omega arith; grows = g; above = above-refl slotBase M; beside = refl; env = env-grows Θ M z M (resized Θ (z .nb + 0) (z .np) z) g ie; fits = fits }
 
   -- One, and then the others.
-  one-more : (M : Memory) (z : Sizes) (v env c : ℕ) (u : CVal) (ρ σ : Env) (B : Chained) → 4418 ≤ length (M .words) → z .nb < 2048 → z .np ≤ 512 → env < 2048 → IsVal T root L M z v u → IsEnv T root L M z env ρ
-      → (IsEnv T root L (putBinding (z .nb) (binding v 0 env) M) (resized T root L (z .nb + 1) (z .np) z) (z .nb) (link u ρ) → Chains (putBinding (z .nb) (binding v 0 env) M) (resized T root L (z .nb + 1) (z .np) z) c σ B)
+  one-more : (M : Memory) (z : Sizes) (v env c : ℕ) (u : CVal) (ρ σ : Env) (B : Chained) → wordCount ≤ length (M .words) → z .nb < bindingPlaces → z .np ≤ piecePlaces → env < bindingPlaces → IsVal Θ M z v u → IsEnv Θ M z env ρ
+      → (IsEnv Θ (putBinding (z .nb) (binding v 0 env) M) (resized Θ (z .nb + 1) (z .np) z) (z .nb) (link u ρ) → Chains (putBinding (z .nb) (binding v 0 env) M) (resized Θ (z .nb + 1) (z .np) z) c σ B)
       → Chains M z (suc c) σ B
   one-more M z v env c u ρ σ B long frames fit fits iv ie h =
       let w : ℕ = binding v 0 env in
       let M′ : Memory = putBinding (z .nb) w M in
-      let z′ : Sizes = resized T root L (z .nb + 1) (z .np) z in
-      let g : Grows M z M′ z′ = grows-bound T root L M z long frames fit w in
-      let t : Chains M′ z′ c σ B = h (env-bound-to T root L M z long frames fit w v 0 env refl (omega arith) (omega arith) iv ie) in
+      let z′ : Sizes = resized Θ (z .nb + 1) (z .np) z in
+      let g : Grows M z M′ z′ = grows-bound Θ M z long frames fit w in
+      let t : Chains M′ z′ c σ B = h (env-bound-to Θ M z long frames fit w v 0 env refl (omega arith) (omega arith) iv ie) in
       let sum : z .nb + 1 + c ≡ z .nb + suc c = omega arith in
       record {
         count = t .count ∙ sum;
-        grows = subst (λ (n : ℕ). Grows M z (B .memory) (resized T root L n (z .np) z)) sum (grows-trans g (t .grows));
+        grows = subst (λ (n : ℕ). Grows M z (B .memory) (resized Θ n (z .np) z)) sum (grows-trans g (t .grows));
         above = above-trans (above-put M slotBase (0 + z .nb) w (omega arith)) (t .above);
         beside = t .beside;
-        env = subst (λ (n : ℕ). IsEnv T root L (B .memory) (resized T root L n (z .np) z) (B .env) σ) sum (t .env);
+        env = subst (λ (n : ℕ). IsEnv Θ (B .memory) (resized Θ n (z .np) z) (B .env) σ) sum (t .env);
         fits = t .fits;
       }
 
@@ -109,11 +110,11 @@ module _ (T : Table) (root : ℕ) (L : Linked T 0 root) where
         by (some x) r ih = try x (hits (x .0 .label) (labelsOf (unloadVal u))) (found p us (x .1)) refl r ih
 
     abbrev Binds : Memory → Sizes → ℕ → ℕ → ℕ → ℕ → Env → List CVal → Type 0
-    Binds M z n i v env ρ vs = z .nb + length vs ≤ 2048 → Chains M z (length vs) (linkAll vs ρ) (bindEntries C w n i v (record { memory = M; count = z .nb; env = env }))
+    Binds M z n i v env ρ vs = z .nb + length vs ≤ bindingPlaces → Chains M z (length vs) (linkAll vs ρ) (bindEntries C w n i v (record { memory = M; count = z .nb; env = env }))
 
     -- The entries of a pattern that the stack matches.
     pub bound-all : {o n : ℕ} {p : Pattern} {xs : List ℕ} → SaysPattern (C .image) o n p xs → (i : ℕ) → o ≡ entryPlace w i → i + n ≡ countOf w → (M : Memory) (z : Sizes) (v env : ℕ) (k : CVal) (us vs : List CVal) (ρ : Env)
-        → 4418 ≤ length (M .words) → z .np ≤ 512 → IsVal T root L M z v k → IsEnv T root L M z env ρ → env < 2048 → found p us k ≡ some vs → Binds M z n i v env ρ vs
+        → wordCount ≤ length (M .words) → z .np ≤ piecePlaces → IsVal Θ M z v k → IsEnv Θ M z env ρ → env < bindingPlaces → found p us k ≡ some vs → Binds M z n i v env ρ vs
     unfolding bindEntries cases
     bound-all {o} (says-end e) i at c M z v env k us vs ρ long fit iv ie fits q = by (topOfC k) q
       where
@@ -124,21 +125,21 @@ module _ (T : Table) (root : ℕ) (L : Linked T 0 root) where
         rw (← Option·some-injective (k ∷ []) vs q, opens o i y at c e)
         (λ h. one-more M z v env 0 k ρ (link k ρ) _ long (omega arith) fit fits iv ie (λ ie′. no-more _ _ (z .nb + 1) (z .nb) (link k ρ) refl ie′ (omega arith)))
     bound-all {o} (says-anything {n = n} {p = p} e h) i at c M z v env k us vs ρ long fit iv ie fits q =
-        by (as-kept T root L M z iv) q (λ v′ k′ iv′. bound-all h (suc i) (omega arith) (omega arith) M z v′ env k′ us vs ρ long fit iv′ ie fits)
+        by (as-kept Θ M z iv) q (λ v′ k′ iv′. bound-all h (suc i) (omega arith) (omega arith) M z v′ env k′ us vs ρ long fit iv′ ie fits)
       where
-        by : {k : CVal} → AsKept T root L M z v k → cases (topOfC k) (λ x. found p us (x .1)) (λ n. none) ≡ some vs
-            → ((v′ : ℕ) (k′ : CVal) → IsVal T root L M z v′ k′ → found p us k′ ≡ some vs → Binds M z n (suc i) v′ env ρ vs) → Binds M z (suc n) i v env ρ vs
+        by : {k : CVal} → AsKept Θ M z v k → cases (topOfC k) (λ x. found p us (x .1)) (λ n. none) ≡ some vs
+            → ((v′ : ℕ) (k′ : CVal) → IsVal Θ M z v′ k′ → found p us k′ ≡ some vs → Binds M z n (suc i) v′ env ρ vs) → Binds M z (suc n) i v env ρ vs
         by (a-kept {s = k′} t lt l iu is) r ih = rw (any-entry o i at e, t) (ih _ k′ is r)
         by (no-kept t m) r ih = absurd (Option·none-ne-some vs (sym (ap (λ y. cases y (λ x. found p us (x .1)) (λ n. none)) m) ∙ r))
     bound-all (says-cut e lt h) i at c M z v env k [] vs ρ long fit iv ie fits q = absurd (Option·none-ne-some vs q)
     bound-all {o} (says-cut {n = n} {x = y} {p = p} e lt h) i at c M z v env k (u ∷ us) vs ρ long fit iv ie fits q =
-        by (as-kept T root L M z iv) q (λ M′ z′ v′ k′ vs′ ρ′. bound-all h (suc i) (omega arith) (omega arith) M′ z′ v′ (z .nb) k′ us vs′ ρ′)
+        by (as-kept Θ M z iv) q (λ M′ z′ v′ k′ vs′ ρ′. bound-all h (suc i) (omega arith) (omega arith) M′ z′ v′ (z .nb) k′ us vs′ ρ′)
       where
         Later : Type 0
-        Later = (M′ : Memory) (z′ : Sizes) (v′ : ℕ) (k′ : CVal) (vs′ : List CVal) (ρ′ : Env) → 4418 ≤ length (M′ .words) → z′ .np ≤ 512 → IsVal T root L M′ z′ v′ k′ → IsEnv T root L M′ z′ (z .nb) ρ′ → z .nb < 2048 → found p us k′ ≡ some vs′
+        Later = (M′ : Memory) (z′ : Sizes) (v′ : ℕ) (k′ : CVal) (vs′ : List CVal) (ρ′ : Env) → wordCount ≤ length (M′ .words) → z′ .np ≤ piecePlaces → IsVal Θ M′ z′ v′ k′ → IsEnv Θ M′ z′ (z .nb) ρ′ → z .nb < bindingPlaces → found p us k′ ≡ some vs′
             → Binds M′ z′ n (suc i) v′ (z .nb) ρ′ vs′
 
-        by : {k : CVal} → AsKept T root L M z v k → cases (topOfC k) (λ x. choose (hits (x .0 .label) (labelsOf (unloadVal u))) (consFound (x .0 .held) (found p us (x .1))) none) (λ n. none) ≡ some vs → Later → Binds M z (suc n) i v env ρ vs
+        by : {k : CVal} → AsKept Θ M z v k → cases (topOfC k) (λ x. choose (hits (x .0 .label) (labelsOf (unloadVal u))) (consFound (x .0 .held) (found p us (x .1))) none) (λ n. none) ≡ some vs → Later → Binds M z (suc n) i v env ρ vs
         by (no-kept t m) r ih = absurd (Option·none-ne-some vs (sym (ap (λ y. cases y (λ x. choose (hits (x .0 .label) (labelsOf (unloadVal u))) (consFound (x .0 .held) (found p us (x .1))) none) (λ n. none)) m) ∙ r))
         by (a-kept {l = l} {u = a} {s = k′} t b il iu is) r ih = try (hits l (labelsOf (unloadVal u))) (found p us k′) refl r
           where
@@ -147,10 +148,10 @@ module _ (T : Table) (root : ℕ) (L : Linked T 0 root) where
             try true none q r = absurd (Option·none-ne-some vs r)
             try true (some vs′) q r =
                 let M′ : Memory = putBinding (z .nb) (binding (topEntry M v) 0 env) M in
-                let z′ : Sizes = resized T root L (z .nb + 1) (z .np) z in
-                let long′ : 4418 ≤ length (M′ .words) = rw (length-set (M .words) (0 + z .nb) (binding (topEntry M v) 0 env)) long in
+                let z′ : Sizes = resized Θ (z .nb + 1) (z .np) z in
+                let long′ : wordCount ≤ length (M′ .words) = rw (length-set (M .words) (0 + z .nb) (binding (topEntry M v) 0 env)) long in
                 rw (← Option·some-injective (a ∷ vs′) vs r, cut-entry o i y at e, t)
                 (λ frames.
-                let one : z .nb < 2048 = omega arith in
+                let one : z .nb < bindingPlaces = omega arith in
                 one-more M z (topEntry M v) env (length vs′) a ρ (linkAll vs′ (link a ρ)) _ long one fit fits iu ie
-                (λ ie′. ih M′ z′ _ k′ vs′ (link a ρ) long′ fit (val-grows T root L M z M′ z′ (grows-bound T root L M z long one fit (binding (topEntry M v) 0 env)) is) ie′ one q (omega arith)))
+                (λ ie′. ih M′ z′ _ k′ vs′ (link a ρ) long′ fit (val-grows Θ M z M′ z′ (grows-bound Θ M z long one fit (binding (topEntry M v) 0 env)) is) ie′ one q (omega arith)))

@@ -8,25 +8,25 @@ use mathlib.Core.Option.{Option}
 use lib.ListN.{length, drop, length-append}
 use borrow.Author.Tests.{eq-eqb, ne-eqb}
 use Rattle.calculus.specs.Combinators.{choose}
-use Rattle.calculus.specs.Syntax.{Dom, Tm, Pattern, anything, pointcut, end}
-use Rattle.calculus.specs.State.{Entry, Given}
+use Rattle.calculus.specs.Syntax.{Dom, Pattern, anything, pointcut, end}
+use Rattle.calculus.specs.State.{Entry}
 use Rattle.calculus.specs.Compose.{member}
 use Rattle.image.specs.Bytes.{le16}
 use Rattle.closure_machine.specs.Closure.{CVal, Env, CState, unloadVal}
 use Rattle.closure_machine.specs.Machine.{eval, ret, OpN, matchN, opNF, Stack}
 use Rattle.vm_theory.specs.Code.{Skel}
-use Rattle.vm_theory.specs.Table.{manyN, matchM, Table, In, there, termsOf, isAtomAt, Linked}
-use Rattle.vm_theory.proofs.Sound.{Sound}
+use Rattle.vm_theory.specs.Table.{manyN, matchM, In, there, termsOf, isAtomAt}
 use Rattle.vm_theory.proofs.Reach.{Reach, reach-moves, reach-cut}
 use Rattle.vm_theory.proofs.Leads.{atom-leads}
 use Rattle.vm_theory.proofs.Bound.{bound-tm}
 use Rattle.vm_theory.proofs.Located.{Located, l-listed}
 use Rattle.vm_code.specs.Words.{countOf, entryPlace, closePlace}
-use Rattle.vm_says.specs.Says.{SaysPattern, says-end, says-rest, says-anything, says-cut, SaysCode}
-use Rattle.vm_machine.specs.Memory.{Memory, isKept, topEntry, restOf, entryLabel, hasBit, pieceSecond, pieceOf}
+use Rattle.vm_theory.specs.Says.{SaysPattern, says-end, says-rest, says-anything, says-cut}
+use Rattle.vm_machine.specs.Memory.{Memory, isKept, topEntry, restOf, entryLabel, hasBit, pieceSecond, pieceOf, bindingPlaces}
 use Rattle.vm_machine.specs.Fetch.{Program, codeAt, atomValue}
 use Rattle.vm_machine.specs.Stacks.{entryAt, cutTerm, restAfter, lookOn}
 use Rattle.vm_machine.specs.Stacks as machine
+use Rattle.vm_machine_correct.proofs.Setup.{Setup}
 use Rattle.vm_machine_correct.proofs.Relations.{Sizes, HasLabels, IsVal, IsEnv}
 use Rattle.vm_machine_correct.proofs.Views.{AsKept, a-kept, no-kept, as-kept, AsPointcut, a-pointcut, no-pointcut, as-pointcut}
 use Rattle.vm_machine_correct.proofs.Fetch.{atom-is}
@@ -34,22 +34,22 @@ use Rattle.vm_machine_correct.proofs.Entries.{word-atom}
 use Rattle.vm_machine_correct.proofs.Labelling.{drop-at}
 use Rattle.vm_machine_correct.proofs.Looking.{topHas, topHits, behind, hasTop, hitsTop, restC, Looked, nothing-yet, past-anything, past-pointcut, one-operand-more}
 
-module _ (T : Table) (root : ℕ) (L : Linked T 0 root) (M : Memory) (z : Sizes) where
+module _ (Θ : Setup) (M : Memory) (z : Sizes) where
   abbrev Is : ℕ → CVal → Type 0
-  Is v k = IsVal T root L M z v k
+  Is v k = IsVal Θ M z v k
 
   -- Whether a stack has an entry, and what is behind it.
   pub kept-top : {v : ℕ} {k : CVal} → Is v k → isKept v ≡ hasTop k
-  kept-top {v} i = by (as-kept T root L M z i)
+  kept-top {v} i = by (as-kept Θ M z i)
     where
-      by : {k : CVal} → AsKept T root L M z v k → isKept v ≡ hasTop k
+      by : {k : CVal} → AsKept Θ M z v k → isKept v ≡ hasTop k
       by (a-kept t lt l iu is) = rw t
       by (no-kept t n) = t ∙ sym (ap topHas n)
 
   pub rest-is : {v : ℕ} {k : CVal} → Is v k → Is (restOf M v) (restC k)
-  rest-is {v} i = by (as-kept T root L M z i) i
+  rest-is {v} i = by (as-kept Θ M z i) i
     where
-      by : {k : CVal} → AsKept T root L M z v k → Is v k → Is (restOf M v) (restC k)
+      by : {k : CVal} → AsKept Θ M z v k → Is v k → Is (restOf M v) (restC k)
       by (a-kept t lt l iu is) i = rw t is
       by {k} (no-kept t n) i = subst (λ (o : Option (Entry CVal × CVal)). Is (restOf M v) (behind o k)) (sym n) (subst (λ (b : Bool). Is (choose b (pieceSecond M (pieceOf v)) v) k) (sym t) i)
 
@@ -67,39 +67,38 @@ module _ (T : Table) (root : ℕ) (L : Linked T 0 root) (M : Memory) (z : Sizes)
   -- Whether its label is among those of a pointcut.
   pub cut-hits : {v : ℕ} {k : CVal} (x : ℕ) (ls : List ℕ) → Is v k → HasLabels (pieceSecond M (pieceOf x)) ls → (isKept v && hasBit (pieceSecond M (pieceOf x)) (entryLabel (topEntry M v))) ≡ (hasTop k && hitsTop k (CVal.pointcut ls))
   unfolding unloadVal
-  cut-hits {v} x ls i h = by (as-kept T root L M z i)
+  cut-hits {v} x ls i h = by (as-kept Θ M z i)
     where
       hit : ℕ → Bool
       hit l = hasBit (pieceSecond M (pieceOf x)) l
 
-      by : {k : CVal} → AsKept T root L M z v k → (isKept v && hasBit (pieceSecond M (pieceOf x)) (entryLabel (topEntry M v))) ≡ (hasTop k && hitsTop k (CVal.pointcut ls))
+      by : {k : CVal} → AsKept Θ M z v k → (isKept v && hasBit (pieceSecond M (pieceOf x)) (entryLabel (topEntry M v))) ≡ (hasTop k && hitsTop k (CVal.pointcut ls))
       by (a-kept t lt l iu is) = rw t (h .has (entryLabel (topEntry M v)) (omega arith) ∙ ap (λ (y : ℕ). member y ls) l)
       by (no-kept t n) = ap (λ (b : Bool). b && hasBit (pieceSecond M (pieceOf x)) (entryLabel (topEntry M v))) t ∙ sym (ap (λ (o : Option (Entry CVal × CVal)). topHas o && topHits o (CVal.pointcut ls)) n)
 
-module _ (T : Table) (root : ℕ) (L : Linked T 0 root) (G : Given) (e₀ : Tm) (Ω : Sound G e₀) (C : Program) (says : SaysCode T (C .image) (C .code))
-    (M : Memory) (z : Sizes) (env : ℕ) (ρ : Env) (ie : IsEnv T root L M z env ρ) (fits : env < 2048) (k : ℕ) (s : CState) (K : Stack)
-    (m : ℕ) (p : Pattern) (f g x₀ : ℕ) (cuts : List ℕ) (node : T .node m ≡ manyN (matchM p f g) (x₀ ∷ cuts)) {σ : Skel} {c : Dom} (located : Located T 0 root L m σ c) (w : ℕ) (k₀ : CVal) where
+module _ (Θ : Setup) (M : Memory) (z : Sizes) (env : ℕ) (ρ : Env) (ie : IsEnv Θ M z env ρ) (fits : env < bindingPlaces) (k : ℕ) (s : CState) (K : Stack) (m : ℕ) (p : Pattern) (f g x₀ : ℕ) (cuts : List ℕ)
+    (node : Θ .table .node m ≡ manyN (matchM p f g) (x₀ ∷ cuts)) {σ : Skel} {c : Dom} (located : Located (Θ .linked) m σ c) (w : ℕ) (k₀ : CVal) where
   abbrev pub operator : OpN
-  operator = matchN p (T .term f) (T .term g)
+  operator = matchN p (Θ .table .term f) (Θ .table .term g)
 
   -- Where the looking stops.
   pub data Stops (j : machine.Looked) : Type 0 where
     -- after the last entry
-    all-looked : (us : List CVal) (q : Pattern) (kk u : CVal) (vs : List CVal) → Looked p k₀ (countOf w) us q kk (j .fits) → SaysPattern (C .image) (closePlace w) 0 q [] → reverse (u ∷ vs) ≡ k₀ ∷ us
-        → IsVal T root L M z (j .rest) kk → j .next ≡ countOf w → Reach G e₀ Ω k s (ret u) (opNF operator vs end ρ ∷ K) → Stops j
+    all-looked : (us : List CVal) (q : Pattern) (kk u : CVal) (vs : List CVal) → Looked p k₀ (countOf w) us q kk (j .fits) → SaysPattern (Θ .program .image) (closePlace w) 0 q [] → reverse (u ∷ vs) ≡ k₀ ∷ us
+        → IsVal Θ M z (j .rest) kk → j .next ≡ countOf w → Reach (Θ .sound) k s (ret u) (opNF operator vs end ρ ∷ K) → Stops j
     -- at a pointcut y that is no atom
     stopped-at : (us : List CVal) (q : Pattern) (kk u : CVal) (vs : List CVal) (y : ℕ) (ys : List ℕ) → Looked p k₀ (j .next) us (pointcut q) kk (j .fits) → reverse (u ∷ vs) ≡ k₀ ∷ us → j .next < countOf w
-        → cutTerm (entryAt C w (j .next)) ≡ y → isAtomAt T y ≡ false → In y cuts → drop (suc (length us)) cuts ≡ ys → Reach G e₀ Ω k s (eval (T .term y) ρ) (opNF operator (u ∷ vs) (termsOf T ys) ρ ∷ K) → Stops j
+        → cutTerm (entryAt (Θ .program) w (j .next)) ≡ y → isAtomAt (Θ .table) y ≡ false → In y cuts → drop (suc (length us)) cuts ≡ ys → Reach (Θ .sound) k s (eval (Θ .table .term y) ρ) (opNF operator (u ∷ vs) (termsOf (Θ .table) ys) ρ ∷ K) → Stops j
 
   abbrev at : ℕ → ℕ → Bool → machine.Looked
   at i r b = record { next = i; rest = r; fits = b }
 
-  closed-end : (o i : ℕ) (q : Pattern) → o ≡ entryPlace w i → i ≡ countOf w → SaysPattern (C .image) o 0 q [] → SaysPattern (C .image) (closePlace w) 0 q []
-  closed-end o i q e c h = subst (λ (x : ℕ). SaysPattern (C .image) x 0 q []) (e ∙ ap (entryPlace w) c) h
+  closed-end : (o i : ℕ) (q : Pattern) → o ≡ entryPlace w i → i ≡ countOf w → SaysPattern (Θ .program .image) o 0 q [] → SaysPattern (Θ .program .image) (closePlace w) 0 q []
+  closed-end o i q e c h = subst (λ (x : ℕ). SaysPattern (Θ .program .image) x 0 q []) (e ∙ ap (entryPlace w) c) h
 
-  pub looked-on : {o n : ℕ} {q : Pattern} {ys : List ℕ} → SaysPattern (C .image) o n q ys → (i : ℕ) → o ≡ entryPlace w i → i + n ≡ countOf w → (us : List CVal) (kk : CVal) (b : Bool) (u : CVal) (vs : List CVal) (r : ℕ)
-      → drop (length us) cuts ≡ ys → Looked p k₀ i us q kk b → reverse (u ∷ vs) ≡ k₀ ∷ us → IsVal T root L M z r kk → Reach G e₀ Ω k s (ret u) (opNF operator vs (termsOf T ys) ρ ∷ K)
-      → Stops (lookOn C M env w n (at i r b))
+  pub looked-on : {o n : ℕ} {q : Pattern} {ys : List ℕ} → SaysPattern (Θ .program .image) o n q ys → (i : ℕ) → o ≡ entryPlace w i → i + n ≡ countOf w → (us : List CVal) (kk : CVal) (b : Bool) (u : CVal) (vs : List CVal) (r : ℕ)
+      → drop (length us) cuts ≡ ys → Looked p k₀ i us q kk b → reverse (u ∷ vs) ≡ k₀ ∷ us → IsVal Θ M z r kk → Reach (Θ .sound) k s (ret u) (opNF operator vs (termsOf (Θ .table) ys) ρ ∷ K)
+      → Stops (lookOn (Θ .program) M env w n (at i r b))
   unfolding lookOn
   looked-on {o} {q = q} (says-end e) i h n us kk b u vs r d l t ir reach =
       let c : i ≡ countOf w = omega arith in
@@ -108,45 +107,45 @@ module _ (T : Table) (root : ℕ) (L : Linked T 0 root) (G : Given) (e₀ : Tm) 
       let c : i ≡ countOf w = omega arith in
       all-looked us q kk u vs (subst (λ (x : ℕ). Looked p k₀ x us q kk b) c l) (closed-end o i q h c (says-rest e)) t ir c reach
   looked-on {o} (says-anything {n = n} e more) i h c us kk b u vs r d l t ir reach =
-      rw (eq-eqb (entryAt C w i) 0 (ap (le16 (C .image)) (sym h) ∙ e))
-      (subst (λ (x : Bool). Stops (lookOn C M env w n (at (suc i) (restOf M r) (b && x)))) (sym (kept-top T root L M z ir))
-      (looked-on more (suc i) (omega arith) (omega arith) us (restC kk) (b && hasTop kk) u vs (restOf M r) d (past-anything l) t (rest-is T root L M z ir) reach))
+      rw (eq-eqb (entryAt (Θ .program) w i) 0 (ap (le16 (Θ .program .image)) (sym h) ∙ e))
+      (subst (λ (x : Bool). Stops (lookOn (Θ .program) M env w n (at (suc i) (restOf M r) (b && x)))) (sym (kept-top Θ M z ir))
+      (looked-on more (suc i) (omega arith) (omega arith) us (restC kk) (b && hasTop kk) u vs (restOf M r) d (past-anything l) t (rest-is Θ M z ir) reach))
   looked-on {o} (says-cut {n = n} {x = y} {p = q} {xs = ys} e low more) i h c us kk b u vs r d l t ir reach =
-      rw (ne-eqb (entryAt C w i) 0 (λ x. omega (arith, entry)), cut, word-atom T root L C says y low)
-      (try (isAtomAt T y) refl (λ us′ kk′ b′ u′ vs′ r′. looked-on more (suc i) (omega arith) (omega arith) us′ kk′ b′ u′ vs′ r′))
+      rw (ne-eqb (entryAt (Θ .program) w i) 0 (λ x. omega (arith, entry)), cut, word-atom Θ y low)
+      (try (isAtomAt (Θ .table) y) refl (λ us′ kk′ b′ u′ vs′ r′. looked-on more (suc i) (omega arith) (omega arith) us′ kk′ b′ u′ vs′ r′))
     where
       Later : Type 0
-      Later = (us′ : List CVal) (kk′ : CVal) (b′ : Bool) (u′ : CVal) (vs′ : List CVal) (r′ : ℕ) → drop (length us′) cuts ≡ ys → Looked p k₀ (suc i) us′ q kk′ b′ → reverse (u′ ∷ vs′) ≡ k₀ ∷ us′ → IsVal T root L M z r′ kk′
-          → Reach G e₀ Ω k s (ret u′) (opNF operator vs′ (termsOf T ys) ρ ∷ K) → Stops (lookOn C M env w n (at (suc i) r′ b′))
+      Later = (us′ : List CVal) (kk′ : CVal) (b′ : Bool) (u′ : CVal) (vs′ : List CVal) (r′ : ℕ) → drop (length us′) cuts ≡ ys → Looked p k₀ (suc i) us′ q kk′ b′ → reverse (u′ ∷ vs′) ≡ k₀ ∷ us′ → IsVal Θ M z r′ kk′
+          → Reach (Θ .sound) k s (ret u′) (opNF operator vs′ (termsOf (Θ .table) ys) ρ ∷ K) → Stops (lookOn (Θ .program) M env w n (at (suc i) r′ b′))
 
-      entry : entryAt C w i ≡ suc y
-      entry = ap (le16 (C .image)) (sym h) ∙ e
+      entry : entryAt (Θ .program) w i ≡ suc y
+      entry = ap (le16 (Θ .program .image)) (sym h) ∙ e
 
-      cut : cutTerm (entryAt C w i) ≡ y
+      cut : cutTerm (entryAt (Θ .program) w i) ≡ y
       cut = omega (arith, entry)
 
       place : In y cuts × (drop (suc (length us)) cuts ≡ ys)
       place = let a = drop-at cuts (length us) y ys d in (a .3, a .1)
 
-      next : Reach G e₀ Ω k s (eval (T .term y) ρ) (opNF operator (u ∷ vs) (termsOf T ys) ρ ∷ K)
-      next = reach-moves G e₀ Ω k s (ret u) (opNF operator vs (termsOf T (y ∷ ys)) ρ ∷ K) reach (eval (T .term y) ρ) (opNF operator (u ∷ vs) (termsOf T ys) ρ ∷ K) refl
+      next : Reach (Θ .sound) k s (eval (Θ .table .term y) ρ) (opNF operator (u ∷ vs) (termsOf (Θ .table) ys) ρ ∷ K)
+      next = reach-moves (Θ .sound) k s (ret u) (opNF operator vs (termsOf (Θ .table) (y ∷ ys)) ρ ∷ K) reach (eval (Θ .table .term y) ρ) (opNF operator (u ∷ vs) (termsOf (Θ .table) ys) ρ ∷ K) refl
 
       word : ℕ
-      word = atomValue C M env (codeAt C y)
+      word = atomValue (Θ .program) M env (codeAt (Θ .program) y)
 
-      atom : isAtomAt T y ≡ true → Later → Stops (lookOn C M env w n (machine.pastCut M word (at i r b)))
+      atom : isAtomAt (Θ .table) y ≡ true → Later → Stops (lookOn (Θ .program) M env w n (machine.pastCut M word (at i r b)))
       atom a ih =
-          view (as-pointcut T root L M z (atom-is T root L C says M z env ρ ie fits y low a (l-listed located node (there (place .0))) (bound-tm G e₀ Ω k s (T .term y) ρ _ next))) (atom-leads G e₀ Ω s (T .term y) ρ _ a .reached k next)
+          view (as-pointcut Θ M z (atom-is Θ M z env ρ ie fits y low a (l-listed located node (there (place .0))) (bound-tm (Θ .sound) k s (Θ .table .term y) ρ _ next))) (atom-leads (Θ .sound) s (Θ .table .term y) ρ _ a .reached k next)
         where
-          view : {v : CVal} → AsPointcut T root L M z word v → Reach G e₀ Ω k s (ret v) (opNF operator (u ∷ vs) (termsOf T ys) ρ ∷ K) → Stops (lookOn C M env w n (machine.pastCut M word (at i r b)))
+          view : {v : CVal} → AsPointcut Θ M z word v → Reach (Θ .sound) k s (ret v) (opNF operator (u ∷ vs) (termsOf (Θ .table) ys) ρ ∷ K) → Stops (lookOn (Θ .program) M env w n (machine.pastCut M word (at i r b)))
           view (a-pointcut {ls = ls} tag lt has) reach′ =
               let count : length (us ++ (CVal.pointcut ls ∷ [])) ≡ suc (length us) = length-append us (CVal.pointcut ls ∷ []) ∙ omega arith in
-              subst (λ (x : Bool). Stops (lookOn C M env w n (at (suc i) (restOf M r) (b && x)))) (sym (cut-hits T root L M z word ls ir has))
+              subst (λ (x : Bool). Stops (lookOn (Θ .program) M env w n (at (suc i) (restOf M r) (b && x)))) (sym (cut-hits Θ M z word ls ir has))
               (ih (us ++ (CVal.pointcut ls ∷ [])) (restC kk) (b && (hasTop kk && hitsTop kk (CVal.pointcut ls))) (CVal.pointcut ls) (u ∷ vs) (restOf M r)
-              (ap (λ (x : ℕ). drop x cuts) count ∙ place .1) (past-pointcut (CVal.pointcut ls) l) (one-operand-more (CVal.pointcut ls) k₀ (u ∷ vs) us t) (rest-is T root L M z ir) reach′)
-          view (no-pointcut {v = v} nope) reach′ = absurd (reach-cut G e₀ Ω k s v u vs p (T .term f) (T .term g) (termsOf T ys) ρ K reach′ nope)
+              (ap (λ (x : ℕ). drop x cuts) count ∙ place .1) (past-pointcut (CVal.pointcut ls) l) (one-operand-more (CVal.pointcut ls) k₀ (u ∷ vs) us t) (rest-is Θ M z ir) reach′)
+          view (no-pointcut {v = v} nope) reach′ = absurd (reach-cut (Θ .sound) k s v u vs p (Θ .table .term f) (Θ .table .term g) (termsOf (Θ .table) ys) ρ K reach′ nope)
 
-      try : (a : Bool) → isAtomAt T y ≡ a → Later → Stops (choose a (lookOn C M env w n (machine.pastCut M word (at i r b))) (at i r b))
+      try : (a : Bool) → isAtomAt (Θ .table) y ≡ a → Later → Stops (choose a (lookOn (Θ .program) M env w n (machine.pastCut M word (at i r b))) (at i r b))
       try true a ih = atom a ih
       try false a ih = stopped-at us q kk u vs y ys l t (omega arith) cut a (place .0) (place .1) next
 

@@ -9,10 +9,10 @@ use lib.ListN.{length, getElem?}
 use lib.Dec.{eqb, leb}
 use borrow.Author.Tests.{leb-true, leb-false, eq-eqb, ne-eqb, le-leb, lt-leb}
 use Rattle.calculus.specs.declared.Outcome.{Outcome}
-use Rattle.calculus.specs.Limits.{frameLimit, bindingLimit}
+use Rattle.calculus.specs.Limits.{frameLimit, bindingLimit, labelLimit}
 use Rattle.calculus.specs.Combinators.{choose}
 use Rattle.calculus.specs.Syntax.{Dom, Ty, Tm, mark}
-use Rattle.calculus.specs.State.{Advice, Given, withUses, addUses, adviceBindings}
+use Rattle.calculus.specs.State.{Advice, withUses, addUses, adviceBindings}
 use Rattle.calculus.specs.Compose.{triggeredBy}
 use Rattle.calculus.specs.Place.{Place}
 use Rattle.calculus.specs.Answer.{reduct, atCapacity, if-capacity, with}
@@ -20,22 +20,21 @@ use Rattle.closure_machine.specs.Closure.{CVal, Env, Body, CState, unloadVal}
 use Rattle.closure_machine.specs.Machine.{Control, ret, triggered, triggeredF, Stack, CAnswer, reduces, reduce2C, move}
 use Rattle.vm_theory.specs.Conf.{Site, adviceA, Chain, Slots, base, keptBy, depthAt, trigger}
 use Rattle.vm_theory.specs.Stands.{stackAt}
-use Rattle.vm_theory.specs.Table.{Table, Linked}
-use Rattle.vm_theory.proofs.Sound.{Sound}
 use Rattle.vm_theory.proofs.Reach.{Reach, reach-go, reach-moves, ends-full}
 use Rattle.vm_theory.proofs.Located.{describes}
 use Rattle.vm_theory.proofs.Kept.{IsChain, waits-kept, chain-kept}
 use Rattle.vm_code.specs.Words.{depthOf, termCount}
-use Rattle.vm_says.specs.Says.{SaysCode}
 use Rattle.vm_pools.specs.declared.Pool.{Pool}
 use Rattle.vm_machine.specs.declared.Regs.{Regs}
 use Rattle.vm_machine.specs.Registers.{fuelBias, frameSlots, setPc, setAcc, setEnv, setFrames, setPools, stepped, halt}
 use Rattle.vm_pools.specs.Pools.{whole, setBindings, withinQuotas, markOut}
-use Rattle.vm_machine.specs.Memory.{Memory, keptBase, keptAt, wordAt, slotBase, cellBase, slotIn, slotWord, slotKind, slotPc, slotEnv, adviceFrame, bindingsLeft, nextBinding, endBinding, putAdvice, bindingAt, boundTarget, hasBit}
+use Rattle.vm_machine.specs.Memory.{Memory, keptBase, keptAt, wordAt, slotBase, cellBase, slotIn, slotWord, slotKind, slotPc, slotEnv, adviceFrame, bindingsLeft, nextBinding, endBinding, putAdvice, bindingAt, boundTarget, hasBit, bindingPlaces}
 use Rattle.vm_machine.specs.States.{State, withRegs, withMemory, ifFuel, ifCapacity, completed}
-use Rattle.vm_machine.specs.Fetch.{Program, codeAt}
+use Rattle.vm_machine.specs.Fetch.{codeAt}
 use Rattle.vm_machine.specs.Reduce.{given, Bound, bindMatching, bodyAt, startAdvice, reduceMark}
 use Rattle.vm_machine.specs.Fits.{PoolFits}
+use Rattle.base_bytes.specs.Memory.{besideCount}
+use Rattle.vm_machine_correct.proofs.Setup.{Setup}
 use Rattle.vm_machine_correct.proofs.Pools.{leb-iff, Used, advice-used, spend-advice}
 use Rattle.vm_machine_correct.proofs.Relations.{Sizes, sizes, IsVal, is-unit, IsEnv, env-at, IsTriggered, one-left, Grows, env-grows, triggered-at, triggered-grows}
 use Rattle.vm_machine_correct.proofs.Tables.{word-same, word-other, grows-put, grows-sizes, grows-trans, Above, above-put, SameSlots}
@@ -51,15 +50,15 @@ use Rattle.vm_machine_correct.proofs.Advice.{stack-depth, advised}
 use Rattle.vm_machine_correct.proofs.Matching.{newest-first, Written, written-refl, Made, made-all, none-named}
 
 -- The parts of an advice's frame.
-pub advice-frame : (pc env next end : ℕ) → pc < 1024 → env < 2048 → next < 65536 → end < 65536
+pub advice-frame : (pc env next end : ℕ) → pc < termCount → env < bindingPlaces → next < 65536 → end < 65536
     → (slotKind (slotWord adviceFrame pc env (bindingsLeft next end)) ≡ adviceFrame) × (slotPc (slotWord adviceFrame pc env (bindingsLeft next end)) ≡ pc) × (slotEnv (slotWord adviceFrame pc env (bindingsLeft next end)) ≡ env)
     × (nextBinding (slotWord adviceFrame pc env (bindingsLeft next end)) ≡ next) × (endBinding (slotWord adviceFrame pc env (bindingsLeft next end)) ≡ end)
 advice-frame pc env next end h g i j = (omega arith, omega arith, omega arith, omega arith, omega arith)
 
-module _ (T : Table) (root : ℕ) (L : Linked T 0 root) (G : Given) (e₀ : Tm) (Ω : Sound G e₀) (N : ℕ) (B : List ℕ) (C : Program) (says : SaysCode T (C .image) (C .code)) where
+module _ (Θ : Setup) where
   -- The activation frame of a mark m at a place, in the slot two unfinished terms inside; next and end are the bindings that are left.
-  module _ (S : State) (k : ℕ) (s : CState) (m : ℕ) (P : Site) (A : Chain) (D : Slots) (p : InPlace T root L G e₀ Ω N B S k s m P A D) (next end : ℕ) (within : depthAt P A + 2 ≤ frameSlots)
-      (pc env : ℕ) (at : pc ≡ m) (fits : env < 2048) (ie : IsEnv T root L (S .memory) (sizes (S .regs)) env (P .env)) (d frames′ : ℕ) (index : slotIn frames′ d ≡ slotBase + frameSlots - (depthAt P A + 2)) where
+  module _ (S : State) (k : ℕ) (s : CState) (m : ℕ) (P : Site) (A : Chain) (D : Slots) (p : InPlace Θ S k s m P A D) (next end : ℕ) (within : depthAt P A + 2 ≤ frameSlots) (pc env : ℕ)
+      (at : pc ≡ m) (fits : env < bindingPlaces) (ie : IsEnv Θ (S .memory) (sizes (S .regs)) env (P .env)) (d frames′ : ℕ) (index : slotIn frames′ d ≡ slotBase + frameSlots - (depthAt P A + 2)) where
     abbrev M : Memory
     M = S .memory
 
@@ -72,7 +71,7 @@ module _ (T : Table) (root : ℕ) (L : Linked T 0 root) (G : Given) (e₀ : Tm) 
     abbrev framed : Memory
     framed = putAdvice frames′ d pc env next end M
 
-    st : Store T root L B M (S .log) z s
+    st : Store Θ M (S .log) z s
     st = p .common .store
 
     here : slotOf framed (depthAt P A + 2) ≡ word
@@ -82,20 +81,20 @@ module _ (T : Table) (root : ℕ) (L : Linked T 0 root) (G : Given) (e₀ : Tm) 
     elsewhere i h = slot-same M framed i (λ n. word-other M (slotIn frames′ d) word (slotBase + frameSlots - i) (λ e. omega (arith, index)))
 
     pub frame-grows : Grows M z framed z
-    frame-grows = grows-put M z (slotIn frames′ d) word (omega (arith, index, st .bindings-fit)) (λ i h e. omega (arith, index))
+    frame-grows = grows-put M z (slotIn frames′ d) word (omega (arith, index, st .counts .bindings-fit)) (λ i h e. omega (arith, index))
 
-    pub frame-store : Store T root L B framed (S .log) z s
+    pub frame-store : Store Θ framed (S .log) z s
     frame-store =
-        store-charged T root L B M (S .log) z s st framed (z .nb) (z .np) (s .used) frame-grows (above-put M cellBase (slotIn frames′ d) word (omega (arith, index))) (st .beside)
-        (st .bindings-fit) (st .pieces-fit)
+        store-charged Θ M (S .log) z s st framed (z .nb) (z .np) (s .used) frame-grows (above-put M cellBase (slotIn frames′ d) word (omega (arith, index))) (st .beside)
+        (st .counts .bindings-fit) (st .counts .pieces-fit)
 
-    pub frame-kept : AreKept T root L framed z (S .regs .kept) (keptBy A)
-    frame-kept = kept-grows T root L frame-grows (λ i. word-other M (slotIn frames′ d) word (keptBase + i) (λ e. omega (arith, index))) (p .kept)
+    pub frame-kept : AreKept Θ framed z (S .regs .kept) (keptBy A)
+    frame-kept = kept-grows Θ frame-grows (λ i. word-other M (slotIn frames′ d) word (keptBase + i) (λ e. omega (arith, index))) (p .kept)
 
-    pub frame-chain : (q : Dom) (w : CVal) (x : List (Advice Body)) → next < 65536 → end < 65536 → IsTriggered T root L M z next end w x
-        → IsChain T 0 root L (Held T root L framed z) (Back T root L framed z) D (adviceA q w x P ∷ A)
+    pub frame-chain : (q : Dom) (w : CVal) (x : List (Advice Body)) → next < 65536 → end < 65536 → IsTriggered Θ M z next end w x
+        → IsChain (Θ .linked) (Held Θ framed z) (Back Θ framed z) D (adviceA q w x P ∷ A)
     frame-chain q w x small small′ left =
-        let low = says .few m (p .no-atom) in
+        let low = Θ .says .few m (p .no-atom) in
         let parts = advice-frame pc env next end (omega (arith, at)) fits small small′ in
         let same : suc (suc (depthAt P A)) ≡ depthAt P A + 2 = omega arith in
         let h : slotOf framed (suc (suc (depthAt P A))) ≡ word = ap (λ (i : ℕ). slotOf framed i) same ∙ here in (
@@ -104,23 +103,23 @@ module _ (T : Table) (root : ℕ) (L : Linked T 0 root) (G : Given) (e₀ : Tm) 
             no-atom = p .no-atom;
             located = p .located;
             says = (
-              record { kind = ap slotKind h ∙ parts .0; pc = ap slotPc h ∙ parts .1 ∙ at; env = env-at T root L framed z (ap slotEnv h ∙ parts .2) (env-grows T root L M z framed z frame-grows ie); fits = omega (arith, ap slotEnv h ∙ parts .2) },
-              triggered-at T root L framed z (ap nextBinding h ∙ parts .3) (ap endBinding h ∙ parts .4) (triggered-grows T root L M z framed z frame-grows left),
+              record { kind = ap slotKind h ∙ parts .0; pc = ap slotPc h ∙ parts .1 ∙ at; env = env-at Θ framed z (ap slotEnv h ∙ parts .2) (env-grows Θ M z framed z frame-grows ie); fits = omega (arith, ap slotEnv h ∙ parts .2) },
+              triggered-at Θ framed z (ap nextBinding h ∙ parts .3) (ap endBinding h ∙ parts .4) (triggered-grows Θ M z framed z frame-grows left),
             );
             waiting =
-                waits-kept T 0 root L (Held T root L M z) (Back T root L M z) D (Held T root L framed z) (Back T root L framed z) D (P .skel) (base A)
-                (λ i g v y. held-kept T root L M z framed z frame-grows i (elsewhere i (omega arith)) v y) (λ i g. refl) (p .waits);
+                waits-kept (Θ .linked) (Held Θ M z) (Back Θ M z) D (Held Θ framed z) (Back Θ framed z) D (P .skel) (base A)
+                (λ i g v y. held-kept Θ M z framed z frame-grows i (elsewhere i (omega arith)) v y) (λ i g. refl) (p .waits);
           },
-          chain-kept T 0 root L (Held T root L M z) (Back T root L M z) D (Held T root L framed z) (Back T root L framed z) D A
-              (same-to T root L M z framed z frame-grows (base A) D D (λ i g. elsewhere i (omega arith)) (λ i g. refl) (λ i g. refl)) (p .chain),
+          chain-kept (Θ .linked) (Held Θ M z) (Back Θ M z) D (Held Θ framed z) (Back Θ framed z) D A
+              (same-to Θ M z framed z frame-grows (base A) D D (λ i g. elsewhere i (omega arith)) (λ i g. refl) (λ i g. refl)) (p .chain),
         )
 
   module _ (S : State) (k : ℕ) (s : CState) (m : ℕ) (P : Site) (A : Chain) (D : Slots) (c : Control) (F : Stack) where
     abbrev At : CAnswer → Type 0
-    At a = Stepping T root L G e₀ Ω N B C says S k s m P A D c F a
+    At a = Stepping Θ S k s m P A D c F a
 
     abbrev Progresses : State → Type 0
-    Progresses S′ = After T root L G e₀ Ω N B (measure S) S′
+    Progresses S′ = After Θ (measure S) S′
 
     abbrev r : Regs
     r = S .regs
@@ -129,58 +128,58 @@ module _ (T : Table) (root : ℕ) (L : Linked T 0 root) (G : Given) (e₀ : Tm) 
     n = whole (r .pools .bindings)
 
     abbrev w : ℕ
-    w = codeAt C m
+    w = codeAt (Θ .program) m
 
     abbrev K : Stack
     K = stackAt P A D
 
     abbrev Changed : Memory → Regs → CState → Type 0
-    Changed M′ q s′ = Left T root L G e₀ Ω N B C says S k s m P A D c F M′ (S .log) q s′
+    Changed M′ q s′ = Left Θ S k s m P A D c F M′ (S .log) q s′
 
     -- Nothing is triggered.
     quiet : (v : CVal) (M′ : Memory) (q : Regs) (s′ : CState) → At (reduct s′ (triggered v [])) → Changed M′ q s′ → fuelBias < r .fuel → Progresses (completed w 0 (record { memory = M′; log = S .log; regs = q }))
     quiet v M′ q s′ R l more =
         falls R M′ (S .log) q s′ l more refl
-        (completed-now T root L G e₀ Ω N B C says (record { memory = M′; log = S .log; regs = q }) (suc k) s′ m P A D (still R M′ (S .log) q s′ l more) (omega (arith, R .shallow)) 0 CVal.unit (is-unit refl)
-        (reach-moves G e₀ Ω (suc k) s′ (triggered v []) K (reach-go G e₀ Ω k s c F (R .reach) s′ (triggered v []) K (R .is)) (ret CVal.unit) K refl))
+        (completed-now Θ (record { memory = M′; log = S .log; regs = q }) (suc k) s′ m P A D (still R M′ (S .log) q s′ l more) (omega (arith, R .shallow)) 0 CVal.unit (is-unit refl)
+        (reach-moves (Θ .sound) (suc k) s′ (triggered v []) K (reach-go (Θ .sound) k s c F (R .reach) s′ (triggered v []) K (R .is)) (ret CVal.unit) K refl))
 
     -- The first advice begins.
-    start-now : (v : CVal) (d : Dom) (ls : List ℕ) (e : Tm) (ρ : Env) (x : List (Advice Body)) (M′ : Memory) (q : Regs) (s′ : CState) (end : ℕ) → end ≤ 2048
+    start-now : (v : CVal) (d : Dom) (ls : List ℕ) (e : Tm) (ρ : Env) (x : List (Advice Body)) (M′ : Memory) (q : Regs) (s′ : CState) (end : ℕ) → end ≤ bindingPlaces
         → At (reduct s′ (triggered v (record { dom = d; labels = ls; body = record { term = e; env = ρ } } ∷ x))) → Changed M′ q s′ → fuelBias < r .fuel
-        → IsTriggered T root L M′ (sizes q) n end v (record { dom = d; labels = ls; body = record { term = e; env = ρ } } ∷ x) → Progresses (startAdvice w n end (record { memory = M′; log = S .log; regs = q }))
+        → IsTriggered Θ M′ (sizes q) n end v (record { dom = d; labels = ls; body = record { term = e; env = ρ } } ∷ x) → Progresses (startAdvice w n end (record { memory = M′; log = S .log; regs = q }))
     start-now v d ls e ρ x M′ q s′ end few R l more (one-left lt ie b rest) = try (leb (q .frames) (depthOf w + 1)) refl
       where
         S′ : State
         S′ = record { memory = M′; log = S .log; regs = q }
 
-        p : InPlace T root L G e₀ Ω N B S′ (suc k) s′ m P A D
+        p : InPlace Θ S′ (suc k) s′ m P A D
         p = still R M′ (S .log) q s′ l more
 
         deep : depthOf w ≡ length (P .skel)
-        deep = says .around m (p .no-atom) .depth ∙ describes T 0 root L (p .located) (p .no-atom) .depth
+        deep = Θ .says .around m (p .no-atom) .depth ∙ describes (Θ .linked) (p .located) (p .no-atom) .depth
 
         first : Advice Body
         first = record { dom = d; labels = ls; body = record { term = e; env = ρ } }
 
-        reach : Reach G e₀ Ω (suc k) s′ (triggered v (first ∷ x)) K
-        reach = reach-go G e₀ Ω k s c F (R .reach) s′ (triggered v (first ∷ x)) K (R .is)
+        reach : Reach (Θ .sound) (suc k) s′ (triggered v (first ∷ x)) K
+        reach = reach-go (Θ .sound) k s c F (R .reach) s′ (triggered v (first ∷ x)) K (R .is)
 
         small : m < termCount
-        small = says .few m (p .no-atom)
+        small = Θ .says .few m (p .no-atom)
 
         -- no frame for it
         none-left : q .frames ≤ depthOf w + 1 → Progresses (withRegs (halt Outcome.Frames q) S′)
         none-left h =
             after-halted
             (halted-stopped Outcome.Frames refl refl
-            (ends-full G e₀ Ω (suc k) s′ (triggered v (first ∷ x)) K reach N (q .fuel - fuelBias) (omega (arith, p .common .budget, p .common .running)) Outcome.Frames [] is)
+            (ends-full (Θ .sound) (suc k) s′ (triggered v (first ∷ x)) K reach (Θ .budget) (q .fuel - fuelBias) (omega (arith, p .common .budget, p .common .running)) Outcome.Frames [] is)
             (p .common .store) (p .common .used) (omega (arith, p .common .budget, p .common .running))
-            (fits-in T root L G e₀ Ω N B M′ (S .log) (halt Outcome.Frames q) s′ (p .common .store) (p .common .used) (omega (arith, l .pc, R .pc, small)) (p .env-fits) (omega (arith, p .frames, kept-fits T root L A (p .kept)))))
+            (fits-in M′ (S .log) (halt Outcome.Frames q) s′ (p .common .store) (p .common .used) (omega (arith, l .regs .pc, R .pc, small)) (p .env-fits) (omega (arith, p .frames, kept-fits Θ A (p .kept)))))
           where
             long : frameLimit < length (triggeredF v x ∷ K)
             long = omega (arith, deep, p .frames, stack-depth P A D (p .stood) (p .fine))
 
-            is : move (triggered v (first ∷ x)) K G s′ ≡ reduces (atCapacity Outcome.Frames) []
+            is : move (triggered v (first ∷ x)) K (Θ .given) s′ ≡ reduces (atCapacity Outcome.Frames) []
             is = rw (lt-leb (length (triggeredF v x ∷ K)) frameLimit long)
 
         begins : depthOf w + 1 < q .frames
@@ -191,19 +190,19 @@ module _ (T : Table) (root : ℕ) (L : Linked T 0 root) (G : Given) (e₀ : Tm) 
             let next : suc n ≡ n + 1 = omega arith in
             let M″ : Memory = putAdvice (q .frames) (depthOf w + 2) (q .pc) (q .env) (n + 1) end M′ in
             let S″ : State = withMemory M″ (setPc (bodyAt M′ n) (setAcc 0 (setEnv n (setFrames (q .frames - (depthOf w + 2)) q)))) S′ in
-            let g = frame-grows S′ (suc k) s′ m P A D p (n + 1) end within (q .pc) (q .env) (l .pc ∙ R .pc) (p .env-fits) (p .env) (depthOf w + 2) (q .frames) index in
-            let now : Simulates T root L G e₀ Ω N B S″ (suc k) s′ (trigger v (first ∷ x) P A D) =
-            advised T root L G e₀ Ω N B C says S″ (suc k) s′ P A D v d ls e ρ x (boundTarget (bindingAt M′ n))
+            let g = frame-grows S′ (suc k) s′ m P A D p (n + 1) end within (q .pc) (q .env) (l .regs .pc ∙ R .pc) (p .env-fits) (p .env) (depthOf w + 2) (q .frames) index in
+            let now : Simulates Θ S″ (suc k) s′ (trigger v (first ∷ x) P A D) =
+            advised Θ S″ (suc k) s′ P A D v d ls e ρ x (boundTarget (bindingAt M′ n))
             (record {
               budget = p .common .budget;
               running = p .common .running;
-              store = frame-store S′ (suc k) s′ m P A D p (n + 1) end within (q .pc) (q .env) (l .pc ∙ R .pc) (p .env-fits) (p .env) (depthOf w + 2) (q .frames) index;
+              store = frame-store S′ (suc k) s′ m P A D p (n + 1) end within (q .pc) (q .env) (l .regs .pc ∙ R .pc) (p .env-fits) (p .env) (depthOf w + 2) (q .frames) index;
               used = p .common .used;
             })
-            (p .stood) (p .fine) b refl refl (env-grows T root L M′ (sizes q) M″ (sizes q) g ie) (omega arith) (omega (arith, deep, p .frames))
-            (frame-chain S′ (suc k) s′ m P A D p (n + 1) end within (q .pc) (q .env) (l .pc ∙ R .pc) (p .env-fits) (p .env) (depthOf w + 2) (q .frames) index d v x (omega arith) (omega arith)
-            (triggered-at T root L M′ (sizes q) (sym next) refl rest))
-            (frame-kept S′ (suc k) s′ m P A D p (n + 1) end within (q .pc) (q .env) (l .pc ∙ R .pc) (p .env-fits) (p .env) (depthOf w + 2) (q .frames) index) reach in
+            (p .stood) (p .fine) b refl refl (env-grows Θ M′ (sizes q) M″ (sizes q) g ie) (omega arith) (omega (arith, deep, p .frames))
+            (frame-chain S′ (suc k) s′ m P A D p (n + 1) end within (q .pc) (q .env) (l .regs .pc ∙ R .pc) (p .env-fits) (p .env) (depthOf w + 2) (q .frames) index d v x (omega arith) (omega arith)
+            (triggered-at Θ M′ (sizes q) (sym next) refl rest))
+            (frame-kept S′ (suc k) s′ m P A D p (n + 1) end within (q .pc) (q .env) (l .regs .pc ∙ R .pc) (p .env-fits) (p .env) (depthOf w + 2) (q .frames) index) reach in
             falls R M′ (S .log) q s′ l more {S″ = S″} refl now
 
         try : (t : Bool) → leb (q .frames) (depthOf w + 1) ≡ t
@@ -212,11 +211,11 @@ module _ (T : Table) (root : ℕ) (L : Linked T 0 root) (G : Given) (e₀ : Tm) 
         try false t = begins (leb-false (q .frames) (depthOf w + 1) t)
 
     -- The room for all bindings is tested, and then whether there is advice.
-    pub mark-now : (X : Place) (y : Ty) {x x′ : ℕ} {v v′ : CVal} → IsVal T root L (S .memory) (sizes r) x v → IsVal T root L (S .memory) (sizes r) x′ v′ → At (reduce2C G X s mark y v v′) → Progresses (reduceMark w x x′ S)
+    pub mark-now : (X : Place) (y : Ty) {x x′ : ℕ} {v v′ : CVal} → IsVal Θ (S .memory) (sizes r) x v → IsVal Θ (S .memory) (sizes r) x′ v′ → At (reduce2C (Θ .given) X s mark y v v′) → Progresses (reduceMark w x x′ S)
     unfolding with unloadVal reduceMark if-capacity
-    mark-now X y {x} {x′} {v′ = v′} i i′ R = try (as-label T root L (S .memory) (sizes r) i) R
+    mark-now X y {x} {x′} {v′ = v′} i i′ R = try (as-label Θ (S .memory) (sizes r) i) R
       where
-        st : Store T root L B (S .memory) (S .log) (sizes r) s
+        st : Store Θ (S .memory) (S .log) (sizes r) s
         st = R .place .common .store
 
         pool : Used (r .pools) (s .used)
@@ -241,7 +240,7 @@ module _ (T : Table) (root : ℕ) (L : Linked T 0 root) (G : Given) (e₀ : Tm) 
         keeps : {M′ : Memory} → Written (S .memory) (sizes r) M′ → (i : ℕ) → keptAt M′ i ≡ keptAt (S .memory) i
         keeps k i = k .above .kept (keptBase + i) (omega arith)
 
-        bytes : {M′ : Memory} → Written (S .memory) (sizes r) M′ → 513 ≤ length (M′ .beside)
+        bytes : {M′ : Memory} → Written (S .memory) (sizes r) M′ → besideCount ≤ length (M′ .beside)
         bytes k = rw (k .beside) (st .beside)
 
         -- no advice: the tables M′ have no more bindings
@@ -249,54 +248,46 @@ module _ (T : Table) (root : ℕ) (L : Linked T 0 root) (G : Given) (e₀ : Tm) 
         none-now M′ k Q more =
             quiet v′ M′ (stepped r) (used []) Q
             (record {
-              env = refl;
-              frames = refl;
-              fuel = refl;
-              pc = refl;
+              regs = record { env = refl; frames = refl; fuel = refl; pc = refl; kept = refl };
               store =
-                  store-charged T root L B (S .memory) (S .log) (sizes r) s st M′ n (sizes r .np) (used [] .used) (k .grows) (cells k) (bytes k) (st .bindings-fit) (st .pieces-fit);
+                  store-charged Θ (S .memory) (S .log) (sizes r) s st M′ n (sizes r .np) (used [] .used) (k .grows) (cells k) (bytes k) (st .counts .bindings-fit) (st .counts .pieces-fit);
               used = advice-used pool [] (r .pools .bindings) (omega arith) (omega arith) (pool .bindings .fits);
               grows = k .grows;
               slots = slots k;
-              kept = refl;
               keeps = keeps k;
             })
             more
 
-        some-now : (d : Dom) (ls : List ℕ) (e : Tm) (ρ : Env) (a : List (Advice Body)) (b : Bound Pool) → Made T root L (S .memory) (sizes r) v′ (record { dom = d; labels = ls; body = record { term = e; env = ρ } } ∷ a) start b → PoolFits bindingLimit (b .count)
+        some-now : (d : Dom) (ls : List ℕ) (e : Tm) (ρ : Env) (a : List (Advice Body)) (b : Bound Pool) → Made Θ (S .memory) (sizes r) v′ (record { dom = d; labels = ls; body = record { term = e; env = ρ } } ∷ a) start b → PoolFits bindingLimit (b .count)
             → At (reduct (used (record { dom = d; labels = ls; body = record { term = e; env = ρ } } ∷ a)) (triggered v′ (record { dom = d; labels = ls; body = record { term = e; env = ρ } } ∷ a))) → fuelBias < r .fuel
             → Progresses (startAdvice w n (whole (b .count)) (withMemory (b .memory) (setPools (setBindings (b .count) (r .pools)) (stepped r)) S))
         some-now d ls e ρ a b k fits Q more =
             let f : Advice Body = record { dom = d; labels = ls; body = record { term = e; env = ρ } } in
-            let few : whole (b .count) ≤ 2048 = omega (arith, fits .mainline, fits .others) in
+            let few : whole (b .count) ≤ bindingPlaces = omega (arith, fits .mainline, fits .others) in
             let q : Regs = setPools (setBindings (b .count) (r .pools)) (stepped r) in
             let g : Grows (S .memory) (sizes r) (b .memory) (sizes q) =
             grows-trans (k .written .grows) (grows-sizes (b .memory) (sizes r) (sizes q) (omega (arith, k .count)) (omega arith)) in
             start-now v′ d ls e ρ a (b .memory) q (used (f ∷ a)) (whole (b .count)) few Q
             (record {
-              env = refl;
-              frames = refl;
-              fuel = refl;
-              pc = refl;
-              store = store-charged T root L B (S .memory) (S .log) (sizes r) s st (b .memory) (whole (b .count)) (sizes r .np) (used (f ∷ a) .used) g (cells (k .written)) (bytes (k .written)) few (st .pieces-fit);
+              regs = record { env = refl; frames = refl; fuel = refl; pc = refl; kept = refl };
+              store = store-charged Θ (S .memory) (S .log) (sizes r) s st (b .memory) (whole (b .count)) (sizes r .np) (used (f ∷ a) .used) g (cells (k .written)) (bytes (k .written)) few (st .counts .pieces-fit);
               used = advice-used pool (f ∷ a) (b .count) (k .mainline) (k .others) fits;
               grows = g;
               slots = slots (k .written);
-              kept = refl;
               keeps = keeps (k .written);
             })
             more (k .triggered few)
 
         -- the tables, with bindings written that are not in use
-        kept : {M′ : Memory} → Written (S .memory) (sizes r) M′ → Store T root L B M′ (S .log) (sizes r) s
-        kept {M′} wr = store-charged T root L B (S .memory) (S .log) (sizes r) s st M′ n (sizes r .np) (s .used) (wr .grows) (cells wr) (bytes wr) (st .bindings-fit) (st .pieces-fit)
+        kept : {M′ : Memory} → Written (S .memory) (sizes r) M′ → Store Θ M′ (S .log) (sizes r) s
+        kept {M′} wr = store-charged Θ (S .memory) (S .log) (sizes r) s st M′ n (sizes r .np) (s .used) (wr .grows) (cells wr) (bytes wr) (st .counts .bindings-fit) (st .counts .pieces-fit)
 
         -- the step is made, if one is left
         left-now : {M′ : Memory} (s′ : CState) (c′ : Control) (S′ : State) → Written (S .memory) (sizes r) M′ → At (reduct s′ c′) → (fuelBias < r .fuel → Progresses S′) → Progresses (ifFuel (withMemory M′ r S) S′)
-        left-now {M′} s′ c′ S′ wr Q h = if-left-with T root L G e₀ Ω N B C says S k s m P A D c F (measure S) M′ (kept wr) S′ Q refl h
+        left-now {M′} s′ c′ S′ wr Q h = if-left-with (measure S) M′ (kept wr) S′ Q refl h
 
         -- domain 0's half, and the others'
-        tests : (a : List (Advice Body)) (b : Bound Pool) → Made T root L (S .memory) (sizes r) v′ a start b
+        tests : (a : List (Advice Body)) (b : Bound Pool) → Made Θ (S .memory) (sizes r) v′ a start b
             → (leb (b .count .mainline) bindingLimit ≡ leb (adviceBindings a .mainline .bindings) (bindingLimit - s .used .mainline .bindings)) × (leb (b .count .others) bindingLimit ≡ leb (adviceBindings a .others .bindings) (bindingLimit - s .used .others .bindings))
         tests a b k = (
           leb-iff (b .count .mainline) bindingLimit (adviceBindings a .mainline .bindings) (bindingLimit - s .used .mainline .bindings) (λ h. omega (arith, k .mainline, pool .bindings .mainline))
@@ -305,14 +296,14 @@ module _ (T : Table) (root : ℕ) (L : Linked T 0 root) (G : Given) (e₀ : Tm) 
               (λ h. omega (arith, k .others, pool .bindings .others, pool .bindings .fits .others)),
         )
 
-        rest-now : (a : List (Advice Body)) (b : Bound Pool) → Made T root L (S .memory) (sizes r) v′ a start b → (t u : Bool) → leb (adviceBindings a .mainline .bindings) (bindingLimit - s .used .mainline .bindings) ≡ t
+        rest-now : (a : List (Advice Body)) (b : Bound Pool) → Made Θ (S .memory) (sizes r) v′ a start b → (t u : Bool) → leb (adviceBindings a .mainline .bindings) (bindingLimit - s .used .mainline .bindings) ≡ t
             → leb (adviceBindings a .others .bindings) (bindingLimit - s .used .others .bindings) ≡ u → At (if-capacity t Outcome.Bindings (if-capacity u Outcome.OtherBindings (reduct (used a) (triggered v′ a))))
             → Progresses
             (ifCapacity (withinQuotas (b .count)) (markOut (b .count)) (withMemory (b .memory) r S)
             (choose (eqb (whole (b .count)) n) (given w 0 (withMemory (b .memory) r S)) (startAdvice w n (whole (b .count)) (withMemory (b .memory) (setPools (setBindings (b .count) (r .pools)) (stepped r)) S))))
-        rest-now a b wr false u e f Q = rw (tests a b wr .0 ∙ e) (no-capacity T root L G e₀ Ω N B C says S k s m P A D c F (measure S) (b .memory) (kept (wr .written)) Outcome.Bindings Q refl)
+        rest-now a b wr false u e f Q = rw (tests a b wr .0 ∙ e) (no-capacity (measure S) (b .memory) (kept (wr .written)) Outcome.Bindings Q refl)
         rest-now a b wr true false e f Q =
-            rw (tests a b wr .0 ∙ e, tests a b wr .1 ∙ f) (no-capacity T root L G e₀ Ω N B C says S k s m P A D c F (measure S) (b .memory) (kept (wr .written)) Outcome.OtherBindings Q refl)
+            rw (tests a b wr .0 ∙ e, tests a b wr .1 ∙ f) (no-capacity (measure S) (b .memory) (kept (wr .written)) Outcome.OtherBindings Q refl)
         rest-now [] b wr true true e f Q =
             rw (tests [] b wr .0 ∙ e, tests [] b wr .1 ∙ f, eq-eqb (whole (b .count)) n (omega (arith, wr .count))) (left-now (used []) (triggered v′ []) _ (wr .written) Q (none-now (b .memory) (wr .written) Q))
         rest-now (h ∷ a) b wr true true e f Q =
@@ -329,17 +320,16 @@ module _ (T : Table) (root : ℕ) (L : Linked T 0 root) (G : Given) (e₀ : Tm) 
             (if-capacity (leb (adviceBindings a .others .bindings) (bindingLimit - s .used .others .bindings)) Outcome.OtherBindings (reduct (used a) (triggered v′ a))))
 
         -- a label that no installed advice names
-        named : (l : ℕ) → l < 64 → (t : Bool) → hasBit (r .named) l ≡ t → Marked (triggeredBy l (s .advices))
-            → Progresses
+        named : (l : ℕ) → l < labelLimit → (t : Bool) → hasBit (r .named) l ≡ t → Marked (triggeredBy l (s .advices)) → Progresses
             (choose (not t) (ifFuel S (given w 0 S))
             (ifCapacity (withinQuotas (all l .count)) (markOut (all l .count)) (withMemory (all l .memory) r S)
             (choose (eqb (whole (all l .count)) n) (given w 0 (withMemory (all l .memory) r S)) (startAdvice w n (whole (all l .count)) (withMemory (all l .memory) (setPools (setBindings (all l .count) (r .pools)) (stepped r)) S)))))
         named l h true t Q =
             rest-now (triggeredBy l (s .advices)) (all l)
-            (made-all T root L (S .memory) (sizes r) (st .pieces-fit) (st .words) l h x′ v′ i′ (newest-first T root L (S .memory) (sizes r) (st .advices) (st .are-advices)) start (omega arith) (written-refl (S .memory) (sizes r)))
+            (made-all Θ (S .memory) (sizes r) (st .counts .pieces-fit) (st .words) l h x′ v′ i′ (newest-first Θ (S .memory) (sizes r) (st .counts .advices) (st .are-advices)) start (omega arith) (written-refl (S .memory) (sizes r)))
             _ _ refl refl Q
         named l h false t Q =
-            let none : triggeredBy l (s .advices) ≡ [] = none-named T root L (S .memory) (sizes r) l h t (newest-first T root L (S .memory) (sizes r) (st .advices) (st .are-advices)) in
+            let none : triggeredBy l (s .advices) ≡ [] = none-named Θ (S .memory) (sizes r) l h t (newest-first Θ (S .memory) (sizes r) (st .counts .advices) (st .are-advices)) in
             let W : Written (S .memory) (sizes r) (S .memory) = written-refl (S .memory) (sizes r) in
             left-now (used []) (triggered v′ []) _ W (at-frames (subst Marked none Q)) (none-now (S .memory) W (at-frames (subst Marked none Q)))
           where
@@ -351,7 +341,7 @@ module _ (T : Table) (root : ℕ) (L : Linked T 0 root) (G : Given) (e₀ : Tm) 
         there none a Q = no-way Q refl
         there (some p) a Q = Q
 
-        try : {u : CVal} → AsLabel T root L (S .memory) (sizes r) x u → At (reduce2C G X s mark y u v′) → Progresses (reduceMark w x x′ S)
+        try : {u : CVal} → AsLabel Θ (S .memory) (sizes r) x u → At (reduce2C (Θ .given) X s mark y u v′) → Progresses (reduceMark w x x′ S)
         try (a-label {l = l} p q) Q =
             rw q (named l (omega arith) (hasBit (r .named) l) refl (rw (spend-advice s (λ s′. reduct s′ (triggered v′ (triggeredBy l (s .advices)))) (triggeredBy l (s .advices))) at (there (getElem? (s .labels) l) _ Q)))
         try (no-label p) Q = no-way Q (rw p)

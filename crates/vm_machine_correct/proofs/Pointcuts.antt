@@ -9,29 +9,27 @@ use lib.Dec.{leb}
 use borrow.Author.Tests.{le-leb, lt-leb, ne-eqb}
 use Rattle.calculus.specs.declared.Outcome.{Outcome}
 use Rattle.calculus.specs.Combinators.{choose}
-use Rattle.calculus.specs.Syntax.{Tm}
-use Rattle.calculus.specs.State.{Given}
 use Rattle.calculus.specs.Place.{Place, framed}
 use Rattle.closure_machine.specs.Closure.{CVal, CState}
 use Rattle.closure_machine.specs.Machine.{Control, pcdN, Stack, placeAt, reduces, redex, reduceNC, move}
 use Rattle.vm_theory.specs.Code.{entry}
 use Rattle.vm_theory.specs.Conf.{Site, Chain, Slots, placeOf}
 use Rattle.vm_theory.specs.Stands.{stackAt}
-use Rattle.vm_theory.specs.Table.{manyN, pcdM, Table, In, termsOf, Linked}
-use Rattle.vm_theory.proofs.Sound.{Sound}
+use Rattle.vm_theory.specs.Table.{manyN, pcdM, In, termsOf}
 use Rattle.vm_theory.proofs.Reach.{Reach}
 use Rattle.vm_theory.proofs.Places.{site-place}
 use Rattle.vm_theory.proofs.Kept.{some-operands}
 use Rattle.vm_code.specs.Words.{countOf, depthOf, termCount}
 use Rattle.vm_code.specs.Words as code
-use Rattle.vm_says.specs.Says.{SaysCode}
 use Rattle.vm_machine.specs.declared.Regs.{Regs}
 use Rattle.vm_machine.specs.Registers.{frameSlots, setPc, setFrames, halt}
-use Rattle.vm_machine.specs.Memory.{Memory, slotHeld, pointcutFrame, putDigits, labelSet}
+use Rattle.vm_machine.specs.Memory.{Memory, slotHeld, pointcutFrame, putDigits, labelSet, heldSize}
 use Rattle.vm_machine.specs.States.{State, withRegs, withMemory, judged}
-use Rattle.vm_machine.specs.Fetch.{Program, codeAt}
+use Rattle.vm_machine.specs.Fetch.{codeAt}
 use Rattle.vm_machine.specs.Reduce.{newPiece}
 use Rattle.vm_machine.specs.Turn.{childAt, entryFrom, Taken, takeLabels, labelsFrom}
+use Rattle.vm_machine.specs.Run.{turnsPerStep}
+use Rattle.vm_machine_correct.proofs.Setup.{Setup}
 use Rattle.vm_machine_correct.proofs.Relations.{Sizes, sizes}
 use Rattle.vm_machine_correct.proofs.Labels.{digitsOf, Labels, digits-fit}
 use Rattle.vm_machine_correct.proofs.Slots.{slotOf, byteOf, FrameIs, Back}
@@ -43,17 +41,17 @@ use Rattle.vm_machine_correct.proofs.Listed.{operand-begins}
 use Rattle.vm_machine_correct.proofs.Labelling.{drop-at, Pending, Stops, all-taken, stopped-at, taken}
 
 -- The digits in a pointcut's frame and in the byte beside it.
-digits-split : (d h : ℕ) → d < 8796093022208 → h ≡ d % 68719476736 → h + 68719476736 * (d / 68719476736 % 256) ≡ d
+digits-split : (d h : ℕ) → d < 8796093022208 → h ≡ d % heldSize → h + heldSize * (d / heldSize % 256) ≡ d
 digits-split d h lt p = omega arith
 
-module _ (T : Table) (root : ℕ) (L : Linked T 0 root) (G : Given) (e₀ : Tm) (Ω : Sound G e₀) (N : ℕ) (B : List ℕ) (C : Program) (says : SaysCode T (C .image) (C .code)) where
-  pub after-mono : {b b′ : ℕ} {S : State} → b ≤ b′ → After T root L G e₀ Ω N B b S → After T root L G e₀ Ω N B b′ S
+module _ (Θ : Setup) where
+  pub after-mono : {b b′ : ℕ} {S : State} → b ≤ b′ → After Θ b S → After Θ b′ S
   after-mono h (after-halted x) = after-halted x
   after-mono h (after-now n l) = after-now n (omega arith)
 
-  module _ (S : State) (k : ℕ) (s : CState) (m : ℕ) (P : Site) (A : Chain) (D : Slots) (p : InPlace T root L G e₀ Ω N B S k s m P A D) (pc : S .regs .pc ≡ m)
-      (xs : List ℕ) (node : T .node m ≡ manyN pcdM xs) (count : countOf (codeAt C m) ≡ length xs) (few : length xs ≤ 8) (children : (i : ℕ) → i < length xs → childAt C (codeAt C m) i ≡ getD xs i 0)
-      (b : ℕ) (bound : 1024 * S .regs .fuel + (S .regs .frames + 1) ≤ b) where
+  module _ (S : State) (k : ℕ) (s : CState) (m : ℕ) (P : Site) (A : Chain) (D : Slots) (p : InPlace Θ S k s m P A D) (pc : S .regs .pc ≡ m) (xs : List ℕ) (node : Θ .table .node m ≡ manyN pcdM xs)
+      (count : countOf (codeAt (Θ .program) m) ≡ length xs) (few : length xs ≤ 8) (children : (i : ℕ) → i < length xs → childAt (Θ .program) (codeAt (Θ .program) m) i ≡ getD xs i 0) (b : ℕ)
+      (bound : turnsPerStep * S .regs .fuel + (S .regs .frames + 1) ≤ b) where
     abbrev M : Memory
     M = S .memory
 
@@ -64,34 +62,34 @@ module _ (T : Table) (root : ℕ) (L : Linked T 0 root) (G : Given) (e₀ : Tm) 
     z = sizes r
 
     abbrev w : ℕ
-    w = codeAt C m
+    w = codeAt (Θ .program) m
 
     abbrev K : Stack
     K = stackAt P A D
 
     abbrev Progresses : State → Type 0
-    Progresses S′ = After T root L G e₀ Ω N B b S′
+    Progresses S′ = After Θ b S′
 
     small : m < termCount
-    small = says .few m (p .no-atom)
+    small = Θ .says .few m (p .no-atom)
 
     abbrev Stopped : Taken → Type 0
-    Stopped t = Stops T root L G e₀ Ω C says M z (r .env) (P .env) (p .env) (p .env-fits) k s K m xs node few (p .located) w children t
+    Stopped t = Stops Θ M z (r .env) (P .env) (p .env) (p .env-fits) k s K m xs node few (p .located) w children t
 
     -- All children are done: the pointcut is made.
-    made-now : (ds : List ℕ) (c : Control) (F : Stack) → Labels ds → length ds ≡ length xs → Reach G e₀ Ω k s c F → move c F G s ≡ redex K (reduceNC G (placeAt K) s pcdN (P .env) (map CVal.label ds))
+    made-now : (ds : List ℕ) (c : Control) (F : Stack) → Labels ds → length ds ≡ length xs → Reach (Θ .sound) k s c F → move c F (Θ .given) s ≡ redex K (reduceNC (Θ .given) (placeAt K) s pcdN (P .env) (map CVal.label ds))
         → Progresses (judged w S (newPiece w 7 0 (labelSet (countOf w) (digitsOf ds) 0) S))
     made-now ds c F ls n reach is =
         let at : placeAt K ≡ placeOf P A = site-place P A D (p .stood .0) (p .fine) in
         let low : level r ≤ r .frames + 1 = omega (arith, ap (λ (t : Bool). choose t (frameSlots + 2) (r .frames + 1)) (ne-eqb (r .pc) code.returnPc (λ e. omega (arith, small)))) in
         after-mono {b = measure S} (omega arith)
-        (judged-now T root L G e₀ Ω N B C says S k s m P A D c F (measure S) (newPiece w 7 0 (labelSet (countOf w) (digitsOf ds) 0) S)
-        (record { place = p; pc = pc; reach = reach; is = is ∙ ap (λ (X : Place). reduces (framed X (reduceNC G X s pcdN (P .env) (map CVal.label ds))) K) at })
-        (λ R. pointcut-now T root L G e₀ Ω N B C says S k s m P A D c F (P .env) ds (countOf w) ls (n ∙ sym count) R))
+        (judged-now (measure S) (newPiece w 7 0 (labelSet (countOf w) (digitsOf ds) 0) S)
+        (record { place = p; pc = pc; reach = reach; is = is ∙ ap (λ (X : Place). reduces (framed X (reduceNC (Θ .given) X s pcdN (P .env) (map CVal.label ds))) K) at })
+        (λ R. pointcut-now Θ S k s m P A D c F (P .env) ds (countOf w) ls (n ∙ sym count) R))
 
     -- What the frame of a child that is no atom says: the children that are done, and those that are left.
-    labels-back : (ds : List ℕ) (y : ℕ) (ys : List ℕ) → Labels ds → drop (length ds) xs ≡ y ∷ ys → (M′ : Memory) (i : ℕ) → FrameIs T root L M′ z (slotOf M′ i) pointcutFrame m (P .env)
-        → slotHeld (slotOf M′ i) ≡ digitsOf ds % 68719476736 → byteOf M′ i ≡ digitsOf ds / 68719476736 % 256 → Back T root L M′ z i (some-operands pcdN (map CVal.label ds) (termsOf T ys)) m (P .env)
+    labels-back : (ds : List ℕ) (y : ℕ) (ys : List ℕ) → Labels ds → drop (length ds) xs ≡ y ∷ ys → (M′ : Memory) (i : ℕ) → FrameIs Θ M′ z (slotOf M′ i) pointcutFrame m (P .env)
+        → slotHeld (slotOf M′ i) ≡ digitsOf ds % 68719476736 → byteOf M′ i ≡ digitsOf ds / 68719476736 % 256 → Back Θ M′ z i (some-operands pcdN (map CVal.label ds) (termsOf (Θ .table) ys)) m (P .env)
     labels-back ds y ys ls d M′ i is held byte =
         let at = drop-at xs (length ds) y ys d in
         let low : digitsOf ds < 8796093022208 = digits-fit 7 ls (omega (arith, at .2)) in (
@@ -104,35 +102,34 @@ module _ (T : Table) (root : ℕ) (L : Linked T 0 root) (G : Given) (e₀ : Tm) 
             are = refl;
             fewer = at .2;
             digits = rw byte (digits-split (digitsOf ds) (slotHeld (slotOf M′ i)) low held);
-            remaining = ap (termsOf T) (sym (at .1));
+            remaining = ap (termsOf (Θ .table)) (sym (at .1));
           },
         )
 
     -- From the children that are done on.
     pub labels-now : (ds : List ℕ) (c : Control) (F : Stack) → Labels ds → length ds ≤ length xs
-        → Pending T root L G e₀ Ω C says M z (r .env) (P .env) (p .env) (p .env-fits) k s K m xs node few (p .located) w children ds (termsOf T (drop (length ds) xs)) c F → Reach G e₀ Ω k s c F
-        → Progresses (labelsFrom C m (length ds) (digitsOf ds) S)
-    labels-now ds c F ls n pending reach = rw (number) (by (takeLabels C M (r .env) w (length (drop (length ds) xs)) (length ds) (digitsOf ds)) stops)
+        → Pending Θ M z (r .env) (P .env) (p .env) (p .env-fits) k s K m xs node few (p .located) w children ds (termsOf (Θ .table) (drop (length ds) xs)) c F → Reach (Θ .sound) k s c F
+        → Progresses (labelsFrom (Θ .program) m (length ds) (digitsOf ds) S)
+    labels-now ds c F ls n pending reach = rw (number) (by (takeLabels (Θ .program) M (r .env) w (length (drop (length ds) xs)) (length ds) (digitsOf ds)) stops)
       where
         number : countOf w - length ds ≡ length (drop (length ds) xs)
         number = omega (arith, count, length-drop (length ds) xs)
 
-        stops : Stopped (takeLabels C M (r .env) w (length (drop (length ds) xs)) (length ds) (digitsOf ds))
-        stops = taken T root L G e₀ Ω C says M z (r .env) (P .env) (p .env) (p .env-fits) k s K m xs node few (p .located) w children (drop (length ds) xs) ds c F refl ls n pending reach
+        stops : Stopped (takeLabels (Θ .program) M (r .env) w (length (drop (length ds) xs)) (length ds) (digitsOf ds))
+        stops = taken Θ M z (r .env) (P .env) (p .env) (p .env-fits) k s K m xs node few (p .located) w children (drop (length ds) xs) ds c F refl ls n pending reach
 
-        by : (t : Taken) → Stopped t
-            → Progresses
+        by : (t : Taken) → Stopped t → Progresses
             (choose (leb (countOf w) (t .count)) (judged w S (newPiece w 7 0 (labelSet (countOf w) (t .digits) 0) S))
             (choose (leb (r .frames) (depthOf w + 1)) (withRegs (halt Outcome.Frames r) S)
-            (withMemory (putDigits (r .frames) (depthOf w + 1) m (r .env) (t .digits) M) (setPc (entryFrom termCount C (childAt C w (t .count))) (setFrames (r .frames - (depthOf w + 1)) r)) S)))
+            (withMemory (putDigits (r .frames) (depthOf w + 1) m (r .env) (t .digits) M) (setPc (entryFrom termCount (Θ .program) (childAt (Θ .program) w (t .count))) (setFrames (r .frames - (depthOf w + 1)) r)) S)))
         by t (all-taken ds′ c′ F′ ls′ n′ tc td r′ is) = rw (td, le-leb (countOf w) (t .count) (omega (arith, tc, count))) (made-now ds′ c′ F′ ls′ n′ r′ is)
         by t (stopped-at ds′ y ys ls′ d tc td a r′) =
             rw (td, lt-leb (countOf w) (t .count) (omega (arith, tc, count, i .2)))
-            (operand-begins T root L G e₀ Ω N B C says S k s m P A D p pc b bound pcdM xs node pcdN (map CVal.label ds′) (termsOf T ys) y a (i .3) r′ (digitsOf ds′ % 68719476736) (digitsOf ds′ / 68719476736 % 256)
-            (λ M′ grown n is held byte. labels-back ds′ y ys ls′ d M′ n is held byte) (entryFrom termCount C (childAt C w (t .count))) entered)
+            (operand-begins Θ S k s m P A D p pc b bound pcdM xs node pcdN (map CVal.label ds′) (termsOf (Θ .table) ys) y a (i .3) r′ (digitsOf ds′ % 68719476736) (digitsOf ds′ / 68719476736 % 256)
+            (λ M′ grown n is held byte. labels-back ds′ y ys ls′ d M′ n is held byte) (entryFrom termCount (Θ .program) (childAt (Θ .program) w (t .count))) entered)
           where
             i : (getD xs (length ds′) 0 ≡ y) × (drop (suc (length ds′)) xs ≡ ys) × (length ds′ < length xs) × In y xs
             i = drop-at xs (length ds′) y ys d
 
-            entered : entryFrom termCount C (childAt C w (t .count)) ≡ T .entry y
-            entered = ap (λ (j : ℕ). entryFrom termCount C (childAt C w j)) tc ∙ ap (entryFrom termCount C) (children (length ds′) (i .2) ∙ i .0) ∙ entry-from T root L C says y (says .few y a) a
+            entered : entryFrom termCount (Θ .program) (childAt (Θ .program) w (t .count)) ≡ Θ .table .entry y
+            entered = ap (λ (j : ℕ). entryFrom termCount (Θ .program) (childAt (Θ .program) w j)) tc ∙ ap (entryFrom termCount (Θ .program)) (children (length ds′) (i .2) ∙ i .0) ∙ entry-from Θ y (Θ .says .few y a) a

@@ -3,32 +3,31 @@ use Prim.Native.Nat.{ℕ, _+_, _≤_, _<_}
 use native.Mathlib.Omega.{arith}
 use mathlib.Core.Path.{_≡_, refl, sym, _∙_}
 use mathlib.Core.Logic.{_⊎_, inl, inr}
-use mathlib.Core.List.{List, [], _∷_, _++_}
+use mathlib.Core.List.{[], _∷_, _++_}
 use mathlib.Core.Option.{Option, none, some}
 use lib.ListN.{length, getElem?, length-append, length-set}
-use Rattle.calculus.specs.Syntax.{Ty, Tm, newCell, store}
+use Rattle.calculus.specs.Syntax.{Ty, newCell, store}
 use Rattle.calculus.specs.Plain.{domOf, heldPlain}
-use Rattle.calculus.specs.State.{Cell, Given, stored, withUses, addUses, atDom, oneCell, withCells}
+use Rattle.calculus.specs.State.{Cell, stored, withUses, addUses, atDom, oneCell, withCells}
 use Rattle.calculus.specs.Place.{Place}
 use Rattle.calculus.specs.Answer.{reduct, with}
 use Rattle.laws.proofs.Lookup.{place-below, get-set, get-snoc}
+use Rattle.image.specs.Limits.{domainLimit}
 use Rattle.closure_machine.specs.Closure.{CVal, CState, unloadVal}
 use Rattle.closure_machine.specs.Machine.{Control, ret, Stack, CAnswer, reduce1C, reduce2C}
 use Rattle.vm_theory.specs.Conf.{Site, Chain, Slots, domAt, placeOf}
-use Rattle.vm_theory.specs.Table.{Table, Linked}
-use Rattle.vm_theory.proofs.Sound.{Sound}
 use Rattle.vm_code.specs.Values.{value, tagOf, bodyOf}
 use Rattle.vm_code.specs.Words.{fieldB}
 use Rattle.vm_code.specs.PassUp as passes
-use Rattle.vm_says.specs.Says.{SaysCode}
 use Rattle.vm_machine.specs.declared.Regs.{Regs}
 use Rattle.vm_machine.specs.Registers.{setPools, stepped}
 use Rattle.vm_pools.specs.Pools.{whole, chargeCells}
 use Rattle.vm_machine.specs.Quotas.{quotaOf}
-use Rattle.vm_machine.specs.Memory.{Memory, keptBase, putWord, above, cellAt, cellNote}
+use Rattle.vm_machine.specs.Memory.{Memory, keptBase, putWord, above, cellAt, cellNote, cellPlaces, installedBase, cellBase}
 use Rattle.vm_machine.specs.States.{State, ifFuel, completed}
-use Rattle.vm_machine.specs.Fetch.{Program, codeAt}
+use Rattle.vm_machine.specs.Fetch.{codeAt}
 use Rattle.vm_machine.specs.Reduce.{reduceCell, reduceStore}
+use Rattle.vm_machine_correct.proofs.Setup.{Setup}
 use Rattle.vm_machine_correct.proofs.Pools.{Used, whole-charged}
 use Rattle.vm_machine_correct.proofs.Relations.{Sizes, sizes, IsVal, is-unit, is-cell, val-like, Grows, val-grows}
 use Rattle.vm_machine_correct.proofs.Tables.{word-same, word-other, grows-put, grows-sizes, grows-trans, slots-put}
@@ -42,13 +41,12 @@ use Rattle.vm_machine_correct.proofs.Values.{tag-value}
 cell-word : (v n : ℕ) → n < 65536 → (tagOf (above v n) ≡ tagOf v) × (bodyOf (above v n) ≡ bodyOf v) × (cellNote (above v n) ≡ n)
 cell-word v n h = (omega arith, omega arith, omega arith)
 
-module _ (T : Table) (root : ℕ) (L : Linked T 0 root) (G : Given) (e₀ : Tm) (Ω : Sound G e₀) (N : ℕ) (B : List ℕ) (C : Program) (says : SaysCode T (C .image) (C .code))
-    (S : State) (k : ℕ) (s : CState) (m : ℕ) (P : Site) (A : Chain) (D : Slots) (c : Control) (F : Stack) where
+module _ (Θ : Setup) (S : State) (k : ℕ) (s : CState) (m : ℕ) (P : Site) (A : Chain) (D : Slots) (c : Control) (F : Stack) where
   abbrev At : CAnswer → Type 0
-  At a = Stepping T root L G e₀ Ω N B C says S k s m P A D c F a
+  At a = Stepping Θ S k s m P A D c F a
 
   abbrev Progresses : State → Type 0
-  Progresses S′ = After T root L G e₀ Ω N B (measure S) S′
+  Progresses S′ = After Θ (measure S) S′
 
   -- The step is made, if one is left of the budget.
   abbrev Made : State → Type 0
@@ -64,82 +62,69 @@ module _ (T : Table) (root : ℕ) (L : Linked T 0 root) (G : Given) (e₀ : Tm) 
   z = sizes r
 
   abbrev w : ℕ
-  w = codeAt C m
+  w = codeAt (Θ .program) m
 
   abbrev Is : ℕ → CVal → Type 0
-  Is x v = IsVal T root L M z x v
+  Is x v = IsVal Θ M z x v
 
   -- A cell that is there is written.
-  pub store-now : (X : Place) (y : Ty) {x x′ : ℕ} {v v′ : CVal} → Is x v → Is x′ v′ → At (reduce2C G X s store y v v′) → Progresses (reduceStore w x x′ S)
+  pub store-now : (X : Place) (y : Ty) {x x′ : ℕ} {v v′ : CVal} → Is x v → Is x′ v′ → At (reduce2C (Θ .given) X s store y v v′) → Progresses (reduceStore w x x′ S)
   unfolding with unloadVal
-  store-now X y {x} {x′} {v′ = v′} i i′ R = try (as-cell T root L M z i) R
+  store-now X y {x} {x′} {v′ = v′} i i′ R = try (as-cell Θ M z i) R
     where
-      st : Store T root L B M (S .log) z s
+      st : Store Θ M (S .log) z s
       st = R .place .common .store
 
-      made : (j : ℕ) (old : Cell CVal) → getElem? (s .cells) j ≡ some old → At (reduct (stored j old v′ s) (ret CVal.unit)) → Made (completed w 0 (record { memory = putWord (3585 + j) (above x′ (cellNote (cellAt M j))) M; log = S .log; regs = stepped r }))
+      made : (j : ℕ) (old : Cell CVal) → getElem? (s .cells) j ≡ some old → At (reduct (stored j old v′ s) (ret CVal.unit)) → Made (completed w 0 (record { memory = putWord (cellBase + j) (above x′ (cellNote (cellAt M j))) M; log = S .log; regs = stepped r }))
       made j old there Q =
-          let h : j < whole (r .pools .cells) = omega (arith, st .cells-count, place-below (s .cells) j there) in
+          let h : j < whole (r .pools .cells) = omega (arith, st .counts .cells-count, place-below (s .cells) j there) in
           let word : ℕ = above x′ (cellNote (cellAt M j)) in
-          let tables : Memory = putWord (3585 + j) word M in
+          let tables : Memory = putWord (cellBase + j) word M in
           let new : Cell CVal = record { dom = old .dom; plain = old .plain; held = v′ } in
-          let g : Grows M z tables z = grows-put M z (3585 + j) word (omega (arith, st .bindings-fit)) (λ j h e. omega (arith, st .pieces-fit)) in
-          let here : cellAt tables j ≡ word = word-same M (3585 + j) word (omega (arith, st .words, st .cells-fit)) in
+          let g : Grows M z tables z = grows-put M z (cellBase + j) word (omega (arith, st .counts .bindings-fit)) (λ j h e. omega (arith, st .counts .pieces-fit)) in
+          let here : cellAt tables j ≡ word = word-same M (cellBase + j) word (omega (arith, st .words, st .counts .cells-fit)) in
           let parts = cell-word x′ (cellNote (cellAt M j)) (omega arith) in
-          let is : IsCell T root L tables z word new =
-          record { value = val-like T root L tables z (parts .0) (parts .1) (val-grows T root L M z tables z g i′); note = parts .2 ∙ st .are-cells j old there .note; low = st .are-cells j old there .low } in
+          let is : IsCell Θ tables z word new =
+          record { value = val-like Θ tables z (parts .0) (parts .1) (val-grows Θ M z tables z g i′); note = parts .2 ∙ st .are-cells j old there .note; low = st .are-cells j old there .low } in
           gives Q tables (S .log) (stepped r) (stored j old v′ s)
           (record {
-            env = refl;
-            frames = refl;
-            fuel = refl;
-            pc = refl;
+            regs = record { env = refl; frames = refl; fuel = refl; pc = refl; kept = refl };
             store =
                 record {
-                  words = rw (length-set (M .words) (3585 + j) word) (st .words);
+                  words = rw (length-set (M .words) (cellBase + j) word) (st .words);
                   beside = st .beside;
-                  bindings-fit = st .bindings-fit;
-                  pieces-fit = st .pieces-fit;
-                  cells-count = st .cells-count ∙ sym (length-set (s .cells) j new);
-                  cells-fit = st .cells-fit;
-                  labels = st .labels;
-                  labels-fit = st .labels-fit;
-                  advices = st .advices;
-                  advices-fit = st .advices-fit;
+                  counts = omega (arith, st .counts, length-set (s .cells) j new);
                   are-cells = λ q c e. at-cell j word new g (rw here is) q c (get-set (s .cells) j q new e);
-                  are-advices = advices-change T root L M z tables z g (λ l n q. q) (st .are-advices) (λ q lt. word-other M (3585 + j) word (3841 + q) (λ e. omega (arith, st .cells-fit)));
-                  logged = st .logged;
-                  log-at = st .log-at;
-                  log-fits = st .log-fits;
+                  are-advices = advices-change Θ M z tables z g (λ l n q. q) (st .are-advices) (λ q lt. word-other M (cellBase + j) word (installedBase + q) (λ e. omega (arith, st .counts .cells-fit)));
+                  written = st .written;
                 };
             used = Q .place .common .used;
             grows = g;
-            slots = slots-put M (3585 + j) word (λ a b. omega arith);
-            kept = refl;
-            keeps = λ i. word-other M (3585 + j) word (keptBase + i) (λ e. omega arith);
+            slots = slots-put M (cellBase + j) word (λ a b. omega arith);
+            keeps = λ i. word-other M (cellBase + j) word (keptBase + i) (λ e. omega arith);
           })
           0 CVal.unit refl (is-unit refl)
         where
-          at-cell : (j word : ℕ) (new : Cell CVal) → Grows M z (putWord (3585 + j) word M) z → IsCell T root L (putWord (3585 + j) word M) z (cellAt (putWord (3585 + j) word M) j) new
-              → (q : ℕ) (c : Cell CVal) → ((q ≡ j) × (new ≡ c)) ⊎ ((q ≡ j → ⊥) × (getElem? (s .cells) q ≡ some c)) → IsCell T root L (putWord (3585 + j) word M) z (cellAt (putWord (3585 + j) word M) q) c
+          at-cell : (j word : ℕ) (new : Cell CVal) → Grows M z (putWord (cellBase + j) word M) z → IsCell Θ (putWord (cellBase + j) word M) z (cellAt (putWord (cellBase + j) word M) j) new
+              → (q : ℕ) (c : Cell CVal) → ((q ≡ j) × (new ≡ c)) ⊎ ((q ≡ j → ⊥) × (getElem? (s .cells) q ≡ some c)) → IsCell Θ (putWord (cellBase + j) word M) z (cellAt (putWord (cellBase + j) word M) q) c
           at-cell j word new g is q c (inl (e, f)) = rw (e, ← f) is
-          at-cell j word new g is q c (inr (n, e)) = cell-change T root L M z (putWord (3585 + j) word M) z g (word-other M (3585 + j) word (3585 + q) (λ x. n (omega arith))) (st .are-cells q c e)
+          at-cell j word new g is q c (inr (n, e)) = cell-change Θ M z (putWord (cellBase + j) word M) z g (word-other M (cellBase + j) word (cellBase + q) (λ x. n (omega arith))) (st .are-cells q c e)
 
       found : (j : ℕ) (o : Option (Cell CVal)) → getElem? (s .cells) j ≡ o → At (with o (λ old. reduct (stored j old v′ s) (ret CVal.unit)))
-          → Made (completed w 0 (record { memory = putWord (3585 + j) (above x′ (cellNote (cellAt M j))) M; log = S .log; regs = stepped r }))
+          → Made (completed w 0 (record { memory = putWord (cellBase + j) (above x′ (cellNote (cellAt M j))) M; log = S .log; regs = stepped r }))
       found j none e Q = no-way Q refl
       found j (some old) e Q = made j old e Q
 
-      try : {u : CVal} → AsCell T root L M z x u → At (reduce2C G X s store y u v′) → Progresses (reduceStore w x x′ S)
+      try : {u : CVal} → AsCell Θ M z x u → At (reduce2C (Θ .given) X s store y u v′) → Progresses (reduceStore w x x′ S)
       try (a-cell {r = j} p q) Q = rw q (found j (getElem? (s .cells) j) refl Q)
       try (no-cell p) Q = no-way Q (rw p)
 
   -- A new cell.
-  pub cell-now : (y : Ty) {x : ℕ} {v : CVal} → domOf y < 16 → fieldB w ≡ passes.cellNote y → Is x v → At (reduce1C G (placeOf P A) s newCell y v) → Progresses (reduceCell w x S)
+  pub cell-now : (y : Ty) {x : ℕ} {v : CVal} → domOf y < domainLimit → fieldB w ≡ passes.cellNote y → Is x v → At (reduce1C (Θ .given) (placeOf P A) s newCell y v) → Progresses (reduceCell w x S)
   cell-now y {x} {v} low note i R =
-      if-cell T root L G e₀ Ω N B C says S k s m P A D c F (measure S) (λ s₁. reduct (withCells (s₁ .cells ++ (new ∷ [])) s₁) (ret (CVal.cell (length (s₁ .cells))))) _ R made
+      if-cell (measure S) (λ s₁. reduct (withCells (s₁ .cells ++ (new ∷ [])) s₁) (ret (CVal.cell (length (s₁ .cells))))) _ R made
     where
-      st : Store T root L B M (S .log) z s
+      st : Store Θ M (S .log) z s
       st = R .place .common .store
 
       nc : ℕ
@@ -152,7 +137,7 @@ module _ (T : Table) (root : ℕ) (L : Linked T 0 root) (G : Given) (e₀ : Tm) 
       word = above x (fieldB w)
 
       tables : Memory
-      tables = putWord (3585 + nc) word M
+      tables = putWord (cellBase + nc) word M
 
       after : Regs
       after = stepped (setPools (chargeCells (quotaOf w) 1 (r .pools)) r)
@@ -165,50 +150,37 @@ module _ (T : Table) (root : ℕ) (L : Linked T 0 root) (G : Given) (e₀ : Tm) 
 
       g : Grows M z tables (sizes after)
       g =
-          grows-trans (grows-put M z (3585 + nc) word (omega (arith, st .bindings-fit)) (λ j h e. omega (arith, st .pieces-fit)))
+          grows-trans (grows-put M z (cellBase + nc) word (omega (arith, st .counts .bindings-fit)) (λ j h e. omega (arith, st .counts .pieces-fit)))
           (grows-sizes tables z (sizes after) (omega arith) (omega arith))
 
-      at-cell : nc + 1 ≤ 256 → (j : ℕ) (c : Cell CVal) → ((j ≡ length (s .cells)) × (new ≡ c)) ⊎ (getElem? (s .cells) j ≡ some c) → IsCell T root L tables (sizes after) (cellAt tables j) c
+      at-cell : nc + 1 ≤ cellPlaces → (j : ℕ) (c : Cell CVal) → ((j ≡ length (s .cells)) × (new ≡ c)) ⊎ (getElem? (s .cells) j ≡ some c) → IsCell Θ tables (sizes after) (cellAt tables j) c
       at-cell h j c (inl (e, f)) =
           let parts = cell-word x (fieldB w) (omega arith) in
-          let is : IsCell T root L tables (sizes after) word new =
-          record { value = val-like T root L tables (sizes after) (parts .0) (parts .1) (val-grows T root L M z tables (sizes after) g i); note = parts .2 ∙ note; low = low } in
-          let here : cellAt tables nc ≡ word = word-same M (3585 + nc) word (omega (arith, st .words)) in
-          rw (e ∙ sym (st .cells-count), here, ← f) is
+          let is : IsCell Θ tables (sizes after) word new =
+          record { value = val-like Θ tables (sizes after) (parts .0) (parts .1) (val-grows Θ M z tables (sizes after) g i); note = parts .2 ∙ note; low = low } in
+          let here : cellAt tables nc ≡ word = word-same M (cellBase + nc) word (omega (arith, st .words)) in
+          rw (e ∙ sym (st .counts .cells-count), here, ← f) is
       at-cell h j c (inr e) =
-          cell-change T root L M z tables (sizes after) g (word-other M (3585 + nc) word (3585 + j) (λ q. omega (arith, st .cells-count, place-below (s .cells) j e))) (st .are-cells j c e)
+          cell-change Θ M z tables (sizes after) g (word-other M (cellBase + nc) word (cellBase + j) (λ q. omega (arith, st .counts .cells-count, place-below (s .cells) j e))) (st .are-cells j c e)
 
-      made : nc + 1 ≤ 256 → Used (after .pools) (s′ .used) → At (reduct s′ (ret (CVal.cell (length (s .cells))))) → Made (completed w (value 5 nc) (record { memory = tables; log = S .log; regs = after }))
+      made : nc + 1 ≤ cellPlaces → Used (after .pools) (s′ .used) → At (reduct s′ (ret (CVal.cell (length (s .cells))))) → Made (completed w (value 5 nc) (record { memory = tables; log = S .log; regs = after }))
       made h u Q =
           gives Q tables (S .log) after s′
           (record {
-            env = refl;
-            frames = refl;
-            fuel = refl;
-            pc = refl;
+            regs = record { env = refl; frames = refl; fuel = refl; pc = refl; kept = refl };
             store =
                 record {
-                  words = rw (length-set (M .words) (3585 + nc) word) (st .words);
+                  words = rw (length-set (M .words) (cellBase + nc) word) (st .words);
                   beside = st .beside;
-                  bindings-fit = st .bindings-fit;
-                  pieces-fit = st .pieces-fit;
-                  cells-count = omega (arith, more, st .cells-count, length-append (s .cells) (new ∷ []));
-                  cells-fit = omega (arith, more);
-                  labels = st .labels;
-                  labels-fit = st .labels-fit;
-                  advices = st .advices;
-                  advices-fit = st .advices-fit;
+                  counts = omega (arith, st .counts, more, length-append (s .cells) (new ∷ []));
                   are-cells = λ j c e. at-cell h j c (get-snoc (s .cells) j new e);
-                  are-advices = advices-change T root L M z tables (sizes after) g (λ l n q. q) (st .are-advices) (λ j lt. word-other M (3585 + nc) word (3841 + j) (λ e. omega arith));
-                  logged = st .logged;
-                  log-at = st .log-at;
-                  log-fits = st .log-fits;
+                  are-advices = advices-change Θ M z tables (sizes after) g (λ l n q. q) (st .are-advices) (λ j lt. word-other M (cellBase + nc) word (installedBase + j) (λ e. omega arith));
+                  written = st .written;
                 };
             used = u;
             grows = g;
-            slots = slots-put M (3585 + nc) word (λ a b. omega arith);
-            kept = refl;
-            keeps = λ i. word-other M (3585 + nc) word (keptBase + i) (λ e. omega arith);
+            slots = slots-put M (cellBase + nc) word (λ a b. omega arith);
+            keeps = λ i. word-other M (cellBase + nc) word (keptBase + i) (λ e. omega arith);
           })
           (value 5 nc) (CVal.cell (length (s .cells))) refl
-          (is-cell (tag-value 5 nc (omega arith)) (omega (arith, st .cells-count)))
+          (is-cell (tag-value 5 nc (omega arith)) (omega (arith, st .counts .cells-count)))

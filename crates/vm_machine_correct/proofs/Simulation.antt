@@ -2,28 +2,29 @@
 use Prim.Native.Nat.{ℕ, suc, _+_, _-_, _≤_, _<_}
 use mathlib.Core.Path.{_≡_, refl}
 use mathlib.Core.Bool.{Bool, true, false, true≢false}
-use mathlib.Core.List.{List, _∷_}
+use mathlib.Core.List.{_∷_}
 use mathlib.Core.Option.{some}
 use lib.ListN.{length}
 use Rattle.calculus.specs.declared.Outcome.{Outcome}
 use Rattle.calculus.specs.Combinators.{choose}
 use Rattle.calculus.specs.Syntax.{Tm, val, var, lam, op0, op1, op2, seq, ite, split, pcd, adv, lower, obj, keep, match}
-use Rattle.calculus.specs.State.{Given, fresh}
+use Rattle.calculus.specs.State.{fresh}
 use Rattle.calculus.specs.Report.{outcomeNumber}
 use Rattle.calculus.specs.Run.{done, stopped, ended, run}
 use Rattle.closure_machine.specs.Closure.{CVal, CState, unloadVal, unloadState}
 use Rattle.vm_theory.specs.Code.{Head, op1H, seqH, iteH, splitH, advH, lowerH, Head2, op2H, keepH, Operand, acc, slot, inPlace, Instr, back, nullary, one, two, many, oneB, firstB, secondB, Skel, isAtom, Pc, entry}
 use Rattle.vm_theory.specs.Conf.{Site, Chain, Slots, Conf, base, keptBy, depthAt}
-use Rattle.vm_theory.specs.Table.{Table, Target, Linked, isAtomAt}
-use Rattle.vm_theory.proofs.Sound.{Sound}
+use Rattle.vm_theory.specs.Table.{Target, isAtomAt}
 use Rattle.vm_theory.proofs.Invariant.{Invariant}
 use Rattle.vm_theory.proofs.Places.{SiteInvariant, ChainInvariant}
 use Rattle.vm_theory.proofs.Located.{Located, Points}
 use Rattle.vm_theory.proofs.Kept.{Waits, IsChain}
-use Rattle.vm_says.specs.Says.{targetNumber}
+use Rattle.vm_theory.specs.Says.{targetNumber}
 use Rattle.vm_machine.specs.Registers.{fuelBias, frameSlots}
 use Rattle.vm_machine.specs.States.{State}
 use Rattle.vm_machine.specs.Fits.{Fits}
+use Rattle.vm_machine.specs.Memory.{bindingPlaces}
+use Rattle.vm_machine_correct.proofs.Setup.{Setup, rootTerm}
 use Rattle.vm_machine_correct.proofs.Pools.{Used}
 use Rattle.vm_machine_correct.proofs.Relations.{sizes, IsVal, IsEnv}
 use Rattle.vm_machine_correct.proofs.Store.{Store}
@@ -80,46 +81,46 @@ module _ (Is : ℕ → CVal → Type 0) (hw : ℕ) (hv : CVal) (sw : ℕ) (sv : 
   entry-ready (keep x y g) σ p = ready-two (keepH g) x y σ (entry-ready x (firstB (keepH g) y ∷ σ)) (entry-ready y (secondB (keepH g) (some x) ∷ σ))
   entry-ready (match q es f g) σ p = tt
 
-module _ (T : Table) (root : ℕ) (L : Linked T 0 root) (G : Given) (e₀ : Tm) (Ω : Sound G e₀) (N : ℕ) (B : List ℕ) where
+module _ (Θ : Setup) where
   -- What holds of tables, log and budget between two instructions, after k steps of the budget N.
   pub record Common (S : State) (k : ℕ) (s : CState) : Type 0 where
-    pub budget : k + S .regs .fuel ≡ N + fuelBias
+    pub budget : k + S .regs .fuel ≡ Θ .budget + fuelBias
     pub running : fuelBias ≤ S .regs .fuel
-    pub store : Store T root L B (S .memory) (S .log) (sizes (S .regs)) s
+    pub store : Store Θ (S .memory) (S .log) (sizes (S .regs)) s
     pub used : Used (S .regs .pools) (s .used)
 
   -- The machine is at a place of an activation: instruction m is there, its operands aside.
   pub record InPlace (S : State) (k : ℕ) (s : CState) (m : ℕ) (P : Site) (A : Chain) (D : Slots) : Type 0 where
     pub common : Common S k s
-    pub no-atom : isAtomAt T m ≡ false
-    pub located : Located T 0 root L m (P .skel) (P .dom)
+    pub no-atom : isAtomAt (Θ .table) m ≡ false
+    pub located : Located (Θ .linked) m (P .skel) (P .dom)
     pub stood : SiteInvariant P A
     pub fine : ChainInvariant A
-    pub env : IsEnv T root L (S .memory) (sizes (S .regs)) (S .regs .env) (P .env)
-    pub env-fits : S .regs .env < 2048
+    pub env : IsEnv Θ (S .memory) (sizes (S .regs)) (S .regs .env) (P .env)
+    pub env-fits : S .regs .env < bindingPlaces
     pub frames : S .regs .frames + base A ≡ frameSlots
-    pub waits : Waits T 0 root L (Held T root L (S .memory) (sizes (S .regs))) D (P .skel) (base A)
-    pub chain : IsChain T 0 root L (Held T root L (S .memory) (sizes (S .regs))) (Back T root L (S .memory) (sizes (S .regs))) D A
-    pub kept : AreKept T root L (S .memory) (sizes (S .regs)) (S .regs .kept) (keptBy A)
+    pub waits : Waits (Θ .linked) (Held Θ (S .memory) (sizes (S .regs))) D (P .skel) (base A)
+    pub chain : IsChain (Θ .linked) (Held Θ (S .memory) (sizes (S .regs))) (Back Θ (S .memory) (sizes (S .regs))) D A
+    pub kept : AreKept Θ (S .memory) (sizes (S .regs)) (S .regs .kept) (keptBy A)
 
   -- It is about to run an instruction.
   pub record Simulates (S : State) (k : ℕ) (s : CState) (C : Conf) : Type 0 where
     pub common : Common S k s
-    pub good : Invariant G e₀ Ω k s C
+    pub good : Invariant (Θ .sound) k s C
     pub target : Target
     pub pc : S .regs .pc ≡ targetNumber target
-    pub points : Points T 0 root L (C .site .dom) target (C .instr, C .site .skel)
-    pub env : IsEnv T root L (S .memory) (sizes (S .regs)) (S .regs .env) (C .site .env)
-    pub env-fits : S .regs .env < 2048
+    pub points : Points (Θ .linked) (C .site .dom) target (C .instr, C .site .skel)
+    pub env : IsEnv Θ (S .memory) (sizes (S .regs)) (S .regs .env) (C .site .env)
+    pub env-fits : S .regs .env < bindingPlaces
     pub frames : S .regs .frames + base (C .chain) ≡ frameSlots
-    pub ready : ReadyFor (IsVal T root L (S .memory) (sizes (S .regs))) (S .regs .acc) (C .acc) (slotOf (S .memory) (suc (depthAt (C .site) (C .chain)))) (C .slots (suc (depthAt (C .site) (C .chain)))) (C .instr)
-    pub waits : Waits T 0 root L (Held T root L (S .memory) (sizes (S .regs))) (C .slots) (C .site .skel) (base (C .chain))
-    pub chain : IsChain T 0 root L (Held T root L (S .memory) (sizes (S .regs))) (Back T root L (S .memory) (sizes (S .regs))) (C .slots) (C .chain)
-    pub kept : AreKept T root L (S .memory) (sizes (S .regs)) (S .regs .kept) (keptBy (C .chain))
+    pub ready : ReadyFor (IsVal Θ (S .memory) (sizes (S .regs))) (S .regs .acc) (C .acc) (slotOf (S .memory) (suc (depthAt (C .site) (C .chain)))) (C .slots (suc (depthAt (C .site) (C .chain)))) (C .instr)
+    pub waits : Waits (Θ .linked) (Held Θ (S .memory) (sizes (S .regs))) (C .slots) (C .site .skel) (base (C .chain))
+    pub chain : IsChain (Θ .linked) (Held Θ (S .memory) (sizes (S .regs))) (Back Θ (S .memory) (sizes (S .regs))) (C .slots) (C .chain)
+    pub kept : AreKept Θ (S .memory) (sizes (S .regs)) (S .regs .kept) (keptBy (C .chain))
 
   -- The run has ended, and the machine with it.
   pub data Halted (S : State) : Type 0 where
-    halted-done : {k : ℕ} {s : CState} {v : CVal} → S .regs .fuel ≡ 0 → S .regs .outcome ≡ 0 → run N G 0 fresh e₀ ≡ ended (done (unloadVal v)) k (unloadState s)
-        → Store T root L B (S .memory) (S .log) (sizes (S .regs)) s → Used (S .regs .pools) (s .used) → IsVal T root L (S .memory) (sizes (S .regs)) (S .regs .acc) v → k + S .regs .rest ≡ N → Fits (length B) (S .regs) → Halted S
-    halted-stopped : {k : ℕ} {s : CState} (o : Outcome) → S .regs .fuel ≡ 0 → S .regs .outcome ≡ outcomeNumber o → run N G 0 fresh e₀ ≡ ended (stopped o) k (unloadState s)
-        → Store T root L B (S .memory) (S .log) (sizes (S .regs)) s → Used (S .regs .pools) (s .used) → k + S .regs .rest ≡ N → Fits (length B) (S .regs) → Halted S
+    halted-done : {k : ℕ} {s : CState} {v : CVal} → S .regs .fuel ≡ 0 → S .regs .outcome ≡ 0 → run (Θ .budget) (Θ .given) 0 fresh (rootTerm Θ) ≡ ended (done (unloadVal v)) k (unloadState s)
+        → Store Θ (S .memory) (S .log) (sizes (S .regs)) s → Used (S .regs .pools) (s .used) → IsVal Θ (S .memory) (sizes (S .regs)) (S .regs .acc) v → k + S .regs .rest ≡ Θ .budget → Fits (length (Θ .log)) (S .regs) → Halted S
+    halted-stopped : {k : ℕ} {s : CState} (o : Outcome) → S .regs .fuel ≡ 0 → S .regs .outcome ≡ outcomeNumber o → run (Θ .budget) (Θ .given) 0 fresh (rootTerm Θ) ≡ ended (stopped o) k (unloadState s)
+        → Store Θ (S .memory) (S .log) (sizes (S .regs)) s → Used (S .regs .pools) (s .used) → k + S .regs .rest ≡ Θ .budget → Fits (length (Θ .log)) (S .regs) → Halted S

@@ -10,11 +10,14 @@ use Rattle.laws.proofs.Lookup.{place-below}
 use Rattle.calculus.specs.Combinators.{choose}
 use Rattle.calculus.specs.State.{Cell, Advice, Counts, Uses, Event, Said, prints, branched, Print, picked, logOf, withUses, addEvent}
 use Rattle.calculus.specs.Compose.{member}
+use Rattle.calculus.specs.Limits.{labelLimit, adviceLimit}
+use Rattle.image.specs.Limits.{domainLimit}
 use Rattle.closure_machine.specs.Closure.{CVal, Body, CState}
 use Rattle.base_bytes.specs.Bytes.{bytesOf}
 use Rattle.base_bytes.specs.Records.{logRecord}
-use Rattle.vm_theory.specs.Table.{Table, Linked}
-use Rattle.vm_machine.specs.Memory.{Memory, wordAt, putWord, cellBase, installedBase, keptBase, installedAt, cellAt, cellNote, hasBit}
+use Rattle.base_bytes.specs.Memory.{wordCount, besideCount}
+use Rattle.vm_machine.specs.Memory.{Memory, wordAt, putWord, cellBase, installedBase, keptBase, installedAt, cellAt, cellNote, hasBit, bindingPlaces, piecePlaces, cellPlaces}
+use Rattle.vm_machine_correct.proofs.Setup.{Setup}
 use Rattle.vm_machine_correct.proofs.Relations.{Sizes, IsVal, IsAdvice, Grows, val-grows, advice-grows}
 use Rattle.vm_machine_correct.proofs.Tables.{word-other, grows-put, Above}
 
@@ -23,51 +26,59 @@ unfoldable pub logBytes : List Print → List ℕ
 logBytes [] = []
 logBytes (p ∷ ps) = logRecord (p .dom) (p .shown) ++ logBytes ps
 
-module _ (T : Table) (root : ℕ) (L : Linked T 0 root) where
+-- As many cells, labels and installed advices as the state has, and no more of anything than there are places.
+pub record Counted (z : Sizes) (s : CState) : Type 0 where
+  pub bindings-fit : z .nb ≤ bindingPlaces
+  pub pieces-fit : z .np ≤ piecePlaces
+  pub cells-count : z .nc ≡ length (s .cells)
+  pub cells-fit : z .nc ≤ cellPlaces
+  pub labels : z .nl ≡ length (s .labels)
+  pub labels-fit : z .nl ≤ labelLimit
+  pub advices : z .ni ≡ length (s .advices)
+  pub advices-fit : z .ni ≤ adviceLimit
+
+module _ (Θ : Setup) where
   module _ (M : Memory) (z : Sizes) where
     -- The cell that a word stands for.
     pub record IsCell (w : ℕ) (c : Cell CVal) : Type 0 where
-      pub value : IsVal T root L M z w (c .held)
-      pub note : cellNote w ≡ c .dom + choose (c .plain) 16 0
-      pub low : c .dom < 16
+      pub value : IsVal Θ M z w (c .held)
+      pub note : cellNote w ≡ c .dom + choose (c .plain) domainLimit 0
+      pub low : c .dom < domainLimit
 
     -- The installed advice, from place i on; each label that one names is named.
     pub data AreAdvices : ℕ → List (Advice Body) → Type 0 where
       none-installed : {i : ℕ} → AreAdvices i []
-      one-installed : {i : ℕ} {a : Advice Body} {x : List (Advice Body)} → IsAdvice T root L M z (installedAt M i) (a .dom) (a .labels) (a .body .term) (a .body .env)
-          → ((l : ℕ) → l < 64 → hasBit (z .named) l ≡ false → member l (a .labels) ≡ false) → AreAdvices (suc i) x → AreAdvices i (a ∷ x)
+      one-installed : {i : ℕ} {a : Advice Body} {x : List (Advice Body)} → IsAdvice Θ M z (installedAt M i) (a .dom) (a .labels) (a .body .term) (a .body .env)
+          → ((l : ℕ) → l < labelLimit → hasBit (z .named) l ≡ false → member l (a .labels) ≡ false) → AreAdvices (suc i) x → AreAdvices i (a ∷ x)
 
-    pub install-more : (i : ℕ) {x : List (Advice Body)} {a : Advice Body} → AreAdvices i x → IsAdvice T root L M z (installedAt M (i + length x)) (a .dom) (a .labels) (a .body .term) (a .body .env)
-        → ((l : ℕ) → l < 64 → hasBit (z .named) l ≡ false → member l (a .labels) ≡ false) → AreAdvices i (x ++ (a ∷ []))
+    pub install-more : (i : ℕ) {x : List (Advice Body)} {a : Advice Body} → AreAdvices i x → IsAdvice Θ M z (installedAt M (i + length x)) (a .dom) (a .labels) (a .body .term) (a .body .env)
+        → ((l : ℕ) → l < labelLimit → hasBit (z .named) l ≡ false → member l (a .labels) ≡ false) → AreAdvices i (x ++ (a ∷ []))
     install-more i none-installed h n = let e : i + 0 ≡ i = omega arith in one-installed (rw e at h) n none-installed
     install-more i (one-installed {x = x} g m r) h n = let e : i + suc (length x) ≡ suc i + length x = omega arith in one-installed g m (install-more (suc i) r (rw e at h) n)
 
-  pub advices-change : (M : Memory) (z : Sizes) (M′ : Memory) (z′ : Sizes) → Grows M z M′ z′ → ((l : ℕ) → l < 64 → hasBit (z′ .named) l ≡ false → hasBit (z .named) l ≡ false)
+  pub advices-change : (M : Memory) (z : Sizes) (M′ : Memory) (z′ : Sizes) → Grows M z M′ z′ → ((l : ℕ) → l < labelLimit → hasBit (z′ .named) l ≡ false → hasBit (z .named) l ≡ false)
       → {i : ℕ} {x : List (Advice Body)} → AreAdvices M z i x → ((q : ℕ) → q < i + length x → wordAt M′ (installedBase + q) ≡ wordAt M (installedBase + q)) → AreAdvices M′ z′ i x
   advices-change M z M′ z′ g s none-installed h = none-installed
   advices-change M z M′ z′ g s (one-installed {i = i} {a = a} {x = x} k n r) h =
-      one-installed (at (ap (λ (w : ℕ). w % 512) (h i (omega arith))) (advice-grows T root L M z M′ z′ g k)) (λ l j q. n l j (s l j q)) (advices-change M z M′ z′ g s r (λ q p. h q (omega arith)))
+      one-installed (at (ap (λ (w : ℕ). w % piecePlaces) (h i (omega arith))) (advice-grows Θ M z M′ z′ g k)) (λ l j q. n l j (s l j q)) (advices-change M z M′ z′ g s r (λ q p. h q (omega arith)))
     where
-      at : {p q : ℕ} → p ≡ q → IsAdvice T root L M′ z′ q (a .dom) (a .labels) (a .body .term) (a .body .env) → IsAdvice T root L M′ z′ p (a .dom) (a .labels) (a .body .term) (a .body .env)
+      at : {p q : ℕ} → p ≡ q → IsAdvice Θ M′ z′ q (a .dom) (a .labels) (a .body .term) (a .body .env) → IsAdvice Θ M′ z′ p (a .dom) (a .labels) (a .body .term) (a .body .env)
       at e k = rw e k
 
-  -- The tables and the log stand for the state s; B is the log as it was at the start.
-  pub record Store (B : List ℕ) (M : Memory) (log : List ℕ) (z : Sizes) (s : CState) : Type 0 where
-    pub words : 4418 ≤ length (M .words)
-    pub beside : 513 ≤ length (M .beside)
-    pub bindings-fit : z .nb ≤ 2048
-    pub pieces-fit : z .np ≤ 512
-    pub cells-count : z .nc ≡ length (s .cells)
-    pub cells-fit : z .nc ≤ 256
-    pub labels : z .nl ≡ length (s .labels)
-    pub labels-fit : z .nl ≤ 64
-    pub advices : z .ni ≡ length (s .advices)
-    pub advices-fit : z .ni ≤ 64
+  -- The log's bytes are those of what was printed, before the rest of the log as it was.
+  pub record Written (log : List ℕ) (at : ℕ) (ps : List Print) : Type 0 where
+    pub logged : log ≡ logBytes ps ++ drop at (Θ .log)
+    pub log-at : at ≡ 10 * length ps
+    pub log-fits : at ≤ length (Θ .log)
+
+  -- The tables and the log stand for the state s.
+  pub record Store (M : Memory) (log : List ℕ) (z : Sizes) (s : CState) : Type 0 where
+    pub words : wordCount ≤ length (M .words)
+    pub beside : besideCount ≤ length (M .beside)
+    pub counts : Counted z s
     pub are-cells : (i : ℕ) (c : Cell CVal) → getElem? (s .cells) i ≡ some c → IsCell M z (cellAt M i) c
     pub are-advices : AreAdvices M z 0 (s .advices)
-    pub logged : log ≡ logBytes (logOf (s .trace)) ++ drop (z .at) B
-    pub log-at : z .at ≡ 10 * length (logOf (s .trace))
-    pub log-fits : z .at ≤ length B
+    pub written : Written log (z .at) (logOf (s .trace))
 
   -- The sizes with other numbers of bindings and pieces.
   abbrev pub resized : ℕ → ℕ → Sizes → Sizes
@@ -75,52 +86,34 @@ module _ (T : Table) (root : ℕ) (L : Linked T 0 root) where
 
   pub cell-change : (M : Memory) (z : Sizes) (M′ : Memory) (z′ : Sizes) → Grows M z M′ z′ → {w w′ : ℕ} {c : Cell CVal} → w′ ≡ w → IsCell M z w c → IsCell M′ z′ w′ c
   cell-change M z M′ z′ g {w} {w′} {c} p h =
-      let h′ : IsCell M′ z′ w c = record { value = val-grows T root L M z M′ z′ g (h .value); note = h .note; low = h .low } in
+      let h′ : IsCell M′ z′ w c = record { value = val-grows Θ M z M′ z′ g (h .value); note = h .note; low = h .low } in
       rw p h′
 
   -- Bindings and pieces are added, or slots written.
-  pub store-charged : (B : List ℕ) (M : Memory) (log : List ℕ) (z : Sizes) (s : CState) → Store B M log z s → (M′ : Memory) (b p : ℕ) (u : Uses) → Grows M z M′ (resized b p z)
-      → Above cellBase M M′ → 513 ≤ length (M′ .beside) → b ≤ 2048 → p ≤ 512 → Store B M′ log (resized b p z) (withUses u s)
-  store-charged B M log z s h M′ b p u g a by fb fp =
+  pub store-charged : (M : Memory) (log : List ℕ) (z : Sizes) (s : CState) → Store M log z s → (M′ : Memory) (b p : ℕ) (u : Uses) → Grows M z M′ (resized b p z)
+      → Above cellBase M M′ → besideCount ≤ length (M′ .beside) → b ≤ bindingPlaces → p ≤ piecePlaces → Store M′ log (resized b p z) (withUses u s)
+  store-charged M log z s h M′ b p u g a by fb fp =
       record {
         words = rw (a .words) (h .words);
         beside = by;
-        bindings-fit = fb;
-        pieces-fit = fp;
-        cells-count = h .cells-count;
-        cells-fit = h .cells-fit;
-        labels = h .labels;
-        labels-fit = h .labels-fit;
-        advices = h .advices;
-        advices-fit = h .advices-fit;
+        counts = omega (arith, h .counts);
         are-cells = λ q c e. cell-change M z M′ (resized b p z) g (a .kept (cellBase + q) (omega arith)) (h .are-cells q c e);
         are-advices = advices-change M z M′ (resized b p z) g (λ l i q. q) (h .are-advices) (λ q lt. a .kept (installedBase + q) (omega arith));
-        logged = h .logged;
-        log-at = h .log-at;
-        log-fits = h .log-fits;
+        written = h .written;
       }
 
   -- A place of the table of kept values is written (card 6).
-  pub store-kept : (B : List ℕ) (M : Memory) (log : List ℕ) (z : Sizes) (s : CState) → Store B M log z s → (i v : ℕ) → Store B (putWord (keptBase + i) v M) log z s
-  store-kept B M log z s h i v =
+  pub store-kept : (M : Memory) (log : List ℕ) (z : Sizes) (s : CState) → Store M log z s → (i v : ℕ) → Store (putWord (keptBase + i) v M) log z s
+  store-kept M log z s h i v =
       let M′ : Memory = putWord (keptBase + i) v M in
-      let g : Grows M z M′ z = grows-put M z (keptBase + i) v (omega (arith, h .bindings-fit)) (λ j l e. omega (arith, h .pieces-fit)) in
+      let g : Grows M z M′ z = grows-put M z (keptBase + i) v (omega (arith, h .counts .bindings-fit)) (λ j l e. omega (arith, h .counts .pieces-fit)) in
       record {
         words = rw (length-set (M .words) (keptBase + i) v) (h .words);
         beside = h .beside;
-        bindings-fit = h .bindings-fit;
-        pieces-fit = h .pieces-fit;
-        cells-count = h .cells-count;
-        cells-fit = h .cells-fit;
-        labels = h .labels;
-        labels-fit = h .labels-fit;
-        advices = h .advices;
-        advices-fit = h .advices-fit;
-        are-cells = λ q c e. cell-change M z M′ z g (word-other M (keptBase + i) v (cellBase + q) (λ x. omega (arith, place-below (s .cells) q e, h .cells-count, h .cells-fit))) (h .are-cells q c e);
-        are-advices = advices-change M z M′ z g (λ l j q. q) (h .are-advices) (λ q lt. word-other M (keptBase + i) v (installedBase + q) (λ x. omega (arith, h .advices, h .advices-fit)));
-        logged = h .logged;
-        log-at = h .log-at;
-        log-fits = h .log-fits;
+        counts = omega (arith, h .counts);
+        are-cells = λ q c e. cell-change M z M′ z g (word-other M (keptBase + i) v (cellBase + q) (λ x. omega (arith, place-below (s .cells) q e, h .counts .cells-count, h .counts .cells-fit))) (h .are-cells q c e);
+        are-advices = advices-change M z M′ z g (λ l j q. q) (h .are-advices) (λ q lt. word-other M (keptBase + i) v (installedBase + q) (λ x. omega (arith, h .counts .advices, h .counts .advices-fit)));
+        written = h .written;
       }
 
 -- One more record in the log.
@@ -145,25 +138,21 @@ log-turn (e ∷ t) d b = try (e .said) (log-turn t d b)
     try (prints m y) h = ap (λ x. record { dom = e .dom; shown = m } ∷ x) h
     try (branched c) h = h
 
-pub store-told : (T : Table) (root : ℕ) (L : Linked T 0 root) (B : List ℕ) (M : Memory) (log : List ℕ) (z : Sizes) (s : CState) (d : ℕ) (b : Bool) → Store T root L B M log z s
-    → Store T root L B M log z (addEvent (record { dom = d; said = branched b }) s)
-store-told T root L B M log z s d b h =
+pub store-told : (Θ : Setup) (M : Memory) (log : List ℕ) (z : Sizes) (s : CState) (d : ℕ) (b : Bool) → Store Θ M log z s
+    → Store Θ M log z (addEvent (record { dom = d; said = branched b }) s)
+store-told Θ M log z s d b h =
     record {
       words = h .words;
       beside = h .beside;
-      bindings-fit = h .bindings-fit;
-      pieces-fit = h .pieces-fit;
-      cells-count = h .cells-count;
-      cells-fit = h .cells-fit;
-      labels = h .labels;
-      labels-fit = h .labels-fit;
-      advices = h .advices;
-      advices-fit = h .advices-fit;
+      counts = omega (arith, h .counts);
       are-cells = h .are-cells;
       are-advices = h .are-advices;
-      logged = rw (log-turn (s .trace) d b) (h .logged);
-      log-at = rw (log-turn (s .trace) d b) (h .log-at);
-      log-fits = h .log-fits;
+      written =
+          record {
+            logged = rw (log-turn (s .trace) d b) (h .written .logged);
+            log-at = rw (log-turn (s .trace) d b) (h .written .log-at);
+            log-fits = h .written .log-fits;
+          };
     }
 
 pub bytes-one : (ps : List Print) (p : Print) → logBytes (ps ++ (p ∷ [])) ≡ logBytes ps ++ logRecord (p .dom) (p .shown)
@@ -177,7 +166,7 @@ bytes-length [] = refl
 bytes-length (p ∷ ps) = omega (arith, bytes-length ps)
 
 -- The log keeps its length.
-pub log-length : (T : Table) (root : ℕ) (L : Linked T 0 root) (B : List ℕ) (M : Memory) (log : List ℕ) (z : Sizes) (s : CState) → Store T root L B M log z s → length log ≡ length B
-log-length T root L B M log z s st =
-    ap length (st .logged) ∙ length-append (logBytes (logOf (s .trace))) (drop (z .at) B)
-    ∙ omega (arith, bytes-length (logOf (s .trace)), length-drop (z .at) B, st .log-at, st .log-fits)
+pub log-length : (Θ : Setup) (M : Memory) (log : List ℕ) (z : Sizes) (s : CState) → Store Θ M log z s → length log ≡ length (Θ .log)
+log-length Θ M log z s st =
+    ap length (st .written .logged) ∙ length-append (logBytes (logOf (s .trace))) (drop (z .at) (Θ .log))
+    ∙ omega (arith, bytes-length (logOf (s .trace)), length-drop (z .at) (Θ .log), st .written .log-at, st .written .log-fits)

@@ -8,18 +8,20 @@ use Rattle.calculus.specs.Combinators.{choose}
 use Rattle.calculus.specs.Plain.{domOf}
 use Rattle.calculus.specs.Syntax.{Dom, Ty, Tm, Tms}
 use Rattle.calculus.specs.View.{unitOf, truthOf, numberOf, labelOf, cellOf, labelsOf}
+use Rattle.calculus.specs.Limits.{labelLimit}
 use Rattle.closure_machine.specs.Closure.{CVal, Env, pairOfC, bodyOfC, adviceOfC, bodiesOfC, topOfC, unloadVal}
-use Rattle.vm_theory.specs.Table.{Table, Linked}
 use Rattle.vm_code.specs.Values.{tagOf, bodyOf}
-use Rattle.vm_machine.specs.Memory.{Memory, pieceFirst, pieceSecond, entryLabel, isKept, closureEnv}
+use Rattle.vm_code.specs.Words.{termCount, targetCount}
+use Rattle.vm_machine.specs.Memory.{Memory, pieceFirst, pieceSecond, entryLabel, isKept, closureEnv, piecePlaces, cellPlaces}
+use Rattle.vm_machine_correct.proofs.Setup.{Setup}
 use Rattle.vm_machine_correct.proofs.Relations.{Sizes, HasLabels, IsBody, IsObject, IsVal, is-unit, is-truth, is-num, is-fun, is-pair, is-cell, is-label, is-labels, is-advice, is-object, is-bottom, is-kept, IsEnv, IsAdvice}
 
-module _ (T : Table) (root : ℕ) (L : Linked T 0 root) (M : Memory) (z : Sizes) where
+module _ (Θ : Setup) (M : Memory) (z : Sizes) where
   pub data AsUnit (w : ℕ) : CVal → Type 0 where
     a-unit : tagOf w ≡ 0 → AsUnit w CVal.unit
     no-unit : {v : CVal} → unitOf (unloadVal v) ≡ none → AsUnit w v
 
-  pub as-unit : {w : ℕ} {v : CVal} → IsVal T root L M z w v → AsUnit w v
+  pub as-unit : {w : ℕ} {v : CVal} → IsVal Θ M z w v → AsUnit w v
   unfolding unloadVal
   as-unit (is-unit p) = a-unit p
   as-unit (is-truth p q) = no-unit refl
@@ -38,7 +40,7 @@ module _ (T : Table) (root : ℕ) (L : Linked T 0 root) (M : Memory) (z : Sizes)
     a-truth : {b : Bool} → tagOf w ≡ 1 → bodyOf w ≡ choose b 1 0 → AsTruth w (CVal.truth b)
     no-truth : {v : CVal} → truthOf (unloadVal v) ≡ none → AsTruth w v
 
-  pub as-truth : {w : ℕ} {v : CVal} → IsVal T root L M z w v → AsTruth w v
+  pub as-truth : {w : ℕ} {v : CVal} → IsVal Θ M z w v → AsTruth w v
   unfolding unloadVal
   as-truth (is-unit p) = no-truth refl
   as-truth (is-truth p q) = a-truth p q
@@ -57,7 +59,7 @@ module _ (T : Table) (root : ℕ) (L : Linked T 0 root) (M : Memory) (z : Sizes)
     a-number : {n : ℕ} → tagOf w ≡ 2 → bodyOf w ≡ n → AsNumber w (CVal.number n)
     no-number : {v : CVal} → numberOf (unloadVal v) ≡ none → AsNumber w v
 
-  pub as-number : {w : ℕ} {v : CVal} → IsVal T root L M z w v → AsNumber w v
+  pub as-number : {w : ℕ} {v : CVal} → IsVal Θ M z w v → AsNumber w v
   unfolding unloadVal
   as-number (is-unit p) = no-number refl
   as-number (is-truth p q) = no-number refl
@@ -73,10 +75,10 @@ module _ (T : Table) (root : ℕ) (L : Linked T 0 root) (M : Memory) (z : Sizes)
   as-number (is-kept p q l a b) = no-number refl
 
   pub data AsPair (w : ℕ) : CVal → Type 0 where
-    a-pair : {u s : CVal} → tagOf w ≡ 4 → bodyOf w % 512 < z .np → IsVal T root L M z (pieceFirst M (bodyOf w % 512)) u → IsVal T root L M z (pieceSecond M (bodyOf w % 512)) s → AsPair w (CVal.pair u s)
+    a-pair : {u s : CVal} → tagOf w ≡ 4 → bodyOf w % piecePlaces < z .np → IsVal Θ M z (pieceFirst M (bodyOf w % piecePlaces)) u → IsVal Θ M z (pieceSecond M (bodyOf w % piecePlaces)) s → AsPair w (CVal.pair u s)
     no-pair : {v : CVal} → pairOfC v ≡ none → AsPair w v
 
-  pub as-pair : {w : ℕ} {v : CVal} → IsVal T root L M z w v → AsPair w v
+  pub as-pair : {w : ℕ} {v : CVal} → IsVal Θ M z w v → AsPair w v
   unfolding unloadVal
   as-pair (is-unit p) = no-pair refl
   as-pair (is-truth p q) = no-pair refl
@@ -92,10 +94,10 @@ module _ (T : Table) (root : ℕ) (L : Linked T 0 root) (M : Memory) (z : Sizes)
   as-pair (is-kept p q l a b) = no-pair refl
 
   pub data AsFunction (w : ℕ) : CVal → Type 0 where
-    a-function : {y : Ty} {e : Tm} {ρ : Env} → IsBody T root L (bodyOf w % 2048) e (domOf y) → IsEnv T root L M z (closureEnv w) ρ → AsFunction w (CVal.fun y e ρ)
+    a-function : {y : Ty} {e : Tm} {ρ : Env} → IsBody Θ (bodyOf w % targetCount) e (domOf y) → IsEnv Θ M z (closureEnv w) ρ → AsFunction w (CVal.fun y e ρ)
     no-function : {v : CVal} → bodyOfC v ≡ none → AsFunction w v
 
-  pub as-function : {w : ℕ} {v : CVal} → IsVal T root L M z w v → AsFunction w v
+  pub as-function : {w : ℕ} {v : CVal} → IsVal Θ M z w v → AsFunction w v
   unfolding unloadVal
   as-function (is-unit p) = no-function refl
   as-function (is-truth p q) = no-function refl
@@ -111,10 +113,10 @@ module _ (T : Table) (root : ℕ) (L : Linked T 0 root) (M : Memory) (z : Sizes)
   as-function (is-kept p q l a b) = no-function refl
 
   pub data AsLabel (w : ℕ) : CVal → Type 0 where
-    a-label : {l : ℕ} → tagOf w ≡ 6 → bodyOf w % 64 ≡ l → AsLabel w (CVal.label l)
+    a-label : {l : ℕ} → tagOf w ≡ 6 → bodyOf w % labelLimit ≡ l → AsLabel w (CVal.label l)
     no-label : {v : CVal} → labelOf (unloadVal v) ≡ none → AsLabel w v
 
-  pub as-label : {w : ℕ} {v : CVal} → IsVal T root L M z w v → AsLabel w v
+  pub as-label : {w : ℕ} {v : CVal} → IsVal Θ M z w v → AsLabel w v
   unfolding unloadVal
   as-label (is-unit p) = no-label refl
   as-label (is-truth p q) = no-label refl
@@ -130,10 +132,10 @@ module _ (T : Table) (root : ℕ) (L : Linked T 0 root) (M : Memory) (z : Sizes)
   as-label (is-kept p q l a b) = no-label refl
 
   pub data AsCell (w : ℕ) : CVal → Type 0 where
-    a-cell : {r : ℕ} → tagOf w ≡ 5 → bodyOf w % 256 ≡ r → AsCell w (CVal.cell r)
+    a-cell : {r : ℕ} → tagOf w ≡ 5 → bodyOf w % cellPlaces ≡ r → AsCell w (CVal.cell r)
     no-cell : {v : CVal} → cellOf (unloadVal v) ≡ none → AsCell w v
 
-  pub as-cell : {w : ℕ} {v : CVal} → IsVal T root L M z w v → AsCell w v
+  pub as-cell : {w : ℕ} {v : CVal} → IsVal Θ M z w v → AsCell w v
   unfolding unloadVal
   as-cell (is-unit p) = no-cell refl
   as-cell (is-truth p q) = no-cell refl
@@ -149,10 +151,10 @@ module _ (T : Table) (root : ℕ) (L : Linked T 0 root) (M : Memory) (z : Sizes)
   as-cell (is-kept p q l a b) = no-cell refl
 
   pub data AsPointcut (w : ℕ) : CVal → Type 0 where
-    a-pointcut : {ls : List ℕ} → tagOf w ≡ 7 → bodyOf w % 512 < z .np → HasLabels (pieceSecond M (bodyOf w % 512)) ls → AsPointcut w (CVal.pointcut ls)
+    a-pointcut : {ls : List ℕ} → tagOf w ≡ 7 → bodyOf w % piecePlaces < z .np → HasLabels (pieceSecond M (bodyOf w % piecePlaces)) ls → AsPointcut w (CVal.pointcut ls)
     no-pointcut : {v : CVal} → labelsOf (unloadVal v) ≡ none → AsPointcut w v
 
-  pub as-pointcut : {w : ℕ} {v : CVal} → IsVal T root L M z w v → AsPointcut w v
+  pub as-pointcut : {w : ℕ} {v : CVal} → IsVal Θ M z w v → AsPointcut w v
   unfolding unloadVal
   as-pointcut (is-unit p) = no-pointcut refl
   as-pointcut (is-truth p q) = no-pointcut refl
@@ -168,10 +170,10 @@ module _ (T : Table) (root : ℕ) (L : Linked T 0 root) (M : Memory) (z : Sizes)
   as-pointcut (is-kept p q l a b) = no-pointcut refl
 
   pub data AsAdvice (w : ℕ) : CVal → Type 0 where
-    a-advice : {d : Dom} {e : Tm} {ls : List ℕ} {ρ : Env} → IsAdvice T root L M z (bodyOf w % 512) d ls e ρ → AsAdvice w (CVal.advice d ls e ρ)
+    a-advice : {d : Dom} {e : Tm} {ls : List ℕ} {ρ : Env} → IsAdvice Θ M z (bodyOf w % piecePlaces) d ls e ρ → AsAdvice w (CVal.advice d ls e ρ)
     no-advice : {v : CVal} → adviceOfC v ≡ none → AsAdvice w v
 
-  pub as-advice : {w : ℕ} {v : CVal} → IsVal T root L M z w v → AsAdvice w v
+  pub as-advice : {w : ℕ} {v : CVal} → IsVal Θ M z w v → AsAdvice w v
   unfolding unloadVal
   as-advice (is-unit p) = no-advice refl
   as-advice (is-truth p q) = no-advice refl
@@ -187,10 +189,10 @@ module _ (T : Table) (root : ℕ) (L : Linked T 0 root) (M : Memory) (z : Sizes)
   as-advice (is-kept p q l a b) = no-advice refl
 
   pub data AsObject (w : ℕ) : CVal → Type 0 where
-    an-object : {y : Ty} {es : Tms} {ρ : Env} → IsObject T root L (bodyOf w % 1024) y es → IsEnv T root L M z (closureEnv w) ρ → AsObject w (CVal.object y es ρ)
+    an-object : {y : Ty} {es : Tms} {ρ : Env} → IsObject Θ (bodyOf w % termCount) y es → IsEnv Θ M z (closureEnv w) ρ → AsObject w (CVal.object y es ρ)
     no-object : {v : CVal} → bodiesOfC v ≡ none → AsObject w v
 
-  pub as-object : {w : ℕ} {v : CVal} → IsVal T root L M z w v → AsObject w v
+  pub as-object : {w : ℕ} {v : CVal} → IsVal Θ M z w v → AsObject w v
   unfolding unloadVal
   as-object (is-unit p) = no-object refl
   as-object (is-truth p q) = no-object refl
@@ -207,11 +209,11 @@ module _ (T : Table) (root : ℕ) (L : Linked T 0 root) (M : Memory) (z : Sizes)
 
   -- A stack with an entry, which every other word is not (card 6).
   pub data AsKept (w : ℕ) : CVal → Type 0 where
-    a-kept : {l : ℕ} {u s : CVal} → tagOf w ≡ 11 → bodyOf w % 512 < z .np → entryLabel (pieceFirst M (bodyOf w % 512)) ≡ l → IsVal T root L M z (pieceFirst M (bodyOf w % 512)) u
-        → IsVal T root L M z (pieceSecond M (bodyOf w % 512)) s → AsKept w (CVal.kept l u s)
+    a-kept : {l : ℕ} {u s : CVal} → tagOf w ≡ 11 → bodyOf w % piecePlaces < z .np → entryLabel (pieceFirst M (bodyOf w % piecePlaces)) ≡ l → IsVal Θ M z (pieceFirst M (bodyOf w % piecePlaces)) u
+        → IsVal Θ M z (pieceSecond M (bodyOf w % piecePlaces)) s → AsKept w (CVal.kept l u s)
     no-kept : {v : CVal} → isKept w ≡ false → topOfC v ≡ none → AsKept w v
 
-  pub as-kept : {w : ℕ} {v : CVal} → IsVal T root L M z w v → AsKept w v
+  pub as-kept : {w : ℕ} {v : CVal} → IsVal Θ M z w v → AsKept w v
   as-kept (is-unit p) = no-kept (rw p) refl
   as-kept (is-truth p q) = no-kept (rw p) refl
   as-kept (is-num p q) = no-kept (rw p) refl

@@ -10,7 +10,7 @@ use Rattle.vm_code.specs.Values.{unitValue}
 use Rattle.vm_code.specs.Words.{depthOf, isInstruction, termCount, returnPc}
 use Rattle.vm_machine.specs.declared.Regs.{Regs}
 use Rattle.vm_machine.specs.Registers.{fuelBias, frameSlots, setPc, setAcc, setEnv, setFrames, setFuel, haltWith, halt}
-use Rattle.vm_machine.specs.Memory.{Memory, bindingAt, boundTarget, slotEnv, slotPc, nextBinding, endBinding, putAdvice}
+use Rattle.vm_machine.specs.Memory.{Memory, bindingAt, boundTarget, slotEnv, slotPc, nextBinding, endBinding, putAdvice, bindingPlaces}
 use Rattle.vm_machine.specs.States.{State, withRegs, withMemory, completed}
 use Rattle.vm_machine.specs.Fetch.{Program, codeAt}
 use Rattle.vm_machine.specs.Reduce.{bodyAt, startAdvice, nextAdvice}
@@ -54,13 +54,13 @@ module _ (a b : List ℕ) (r s : Regs) (w d n m : ℕ) (e : d ≡ depthOf w) whe
 abbrev bodyBy : ℕ → ℕ → ℕ → ℕ → State → State
 bodyBy n e pc env S =
     let r : Regs = S .regs in
-    let b : ℕ = n % 2048 in
+    let b : ℕ = n % bindingPlaces in
     withMemory (putAdvice (r .frames) 0 pc env (n + 1) e (S .memory)) (setPc (bodyAt (S .memory) b) (setAcc unitValue (setEnv b (setFuel (r .fuel - 2) r)))) S
 
-pub next-body-made : (a b : List ℕ) (r s : Regs) (f n e pc env t : ℕ) → n ≡ nextBinding f → e ≡ endBinding f → pc ≡ slotPc f → env ≡ slotEnv f → t ≡ bodyAt (memoryOf a) (n % 2048) → s ≡ r → Holds (putAdvice (r .frames) 0 pc env (n + 1) e (memoryOf a)) a b → Phase (nextBody f) a b r (setPc t (setAcc unitValue (setEnv (n % 2048) (setFuel (r .fuel - 2) s))))
+pub next-body-made : (a b : List ℕ) (r s : Regs) (f n e pc env t : ℕ) → n ≡ nextBinding f → e ≡ endBinding f → pc ≡ slotPc f → env ≡ slotEnv f → t ≡ bodyAt (memoryOf a) (n % bindingPlaces) → s ≡ r → Holds (putAdvice (r .frames) 0 pc env (n + 1) e (memoryOf a)) a b → Phase (nextBody f) a b r (setPc t (setAcc unitValue (setEnv (n % bindingPlaces) (setFuel (r .fuel - 2) s))))
 next-body-made a b r s f n e pc env t en ee ep ev et es h =
-    let p : ℕ → Regs → Regs = λ i v. setPc i (setAcc unitValue (setEnv (n % 2048) (setFuel (r .fuel - 2) v))) in
-    let k : Phase (bodyBy n e pc env) a b r (p t s) = stored-made (bodyBy n e pc env) (putAdvice (r .frames) 0 pc env (n + 1) e (memoryOf a)) a b r (p t s) (p (bodyAt (memoryOf a) (n % 2048)) r) (λ log. refl) (ap (λ (i : ℕ). p i s) et ∙ ap (p (bodyAt (memoryOf a) (n % 2048))) es) h in
+    let p : ℕ → Regs → Regs = λ i v. setPc i (setAcc unitValue (setEnv (n % bindingPlaces) (setFuel (r .fuel - 2) v))) in
+    let k : Phase (bodyBy n e pc env) a b r (p t s) = stored-made (bodyBy n e pc env) (putAdvice (r .frames) 0 pc env (n + 1) e (memoryOf a)) a b r (p t s) (p (bodyAt (memoryOf a) (n % bindingPlaces)) r) (λ log. refl) (ap (λ (i : ℕ). p i s) et ∙ ap (p (bodyAt (memoryOf a) (n % bindingPlaces))) es) h in
     let k₁ : Phase (bodyBy (nextBinding f) e pc env) a b r (p t s) = subst (λ (i : ℕ). Phase (bodyBy i e pc env) a b r (p t s)) en k in
     let k₂ : Phase (bodyBy (nextBinding f) (endBinding f) pc env) a b r (p t s) = subst (λ (i : ℕ). Phase (bodyBy (nextBinding f) i pc env) a b r (p t s)) ee k₁ in
     let k₃ : Phase (bodyBy (nextBinding f) (endBinding f) (slotPc f) env) a b r (p t s) = subst (λ (i : ℕ). Phase (bodyBy (nextBinding f) (endBinding f) i env) a b r (p t s)) ep k₂ in

@@ -8,7 +8,7 @@ use lib.Dec.{eqb, leb}
 use borrow.Author.Tests.{eq-eqb, ne-eqb, lt-leb, leb-true, not-true, not-false}
 use Rattle.laws.proofs.Booleans.{and-l, and-r}
 use Rattle.calculus.specs.declared.Outcome.{Outcome}
-use Rattle.calculus.specs.Limits.{bindingLimit}
+use Rattle.calculus.specs.Limits.{bindingLimit, labelLimit}
 use Rattle.calculus.specs.Combinators.{choose}
 use Rattle.calculus.specs.Report.{outcomeNumber}
 use Rattle.vm_code.specs.Values.{bodyOf, unitValue}
@@ -50,7 +50,7 @@ pub unpaid-made : (f : State → State) (a : List ℕ) (r q : Regs) → r .fuel 
 unpaid-made f a r q l e = regs-made (λ S. ifFuel S (f S)) a r q (halt Outcome.Spent r) (λ log. unpaid-left (stateOf a log r) _ l) e
 
 -- l is the label's number, and h whether some installed advice names it.
-module _ (a : List ℕ) (r q : Regs) (w x y l : ℕ) (h : Bool) (d : l ≡ bodyOf x % 64) (e : h ≡ hasBit (r .named) l) where
+module _ (a : List ℕ) (r q : Regs) (w x y l : ℕ) (h : Bool) (d : l ≡ bodyOf x % labelLimit) (e : h ≡ hasBit (r .named) l) where
   mark-as : (c : List ℕ) → Phase (marked w y l) a c r q → Phase (reduceMark w x y) a c r q
   unfolding reduceMark
   mark-as c p = as-phase (marked w y l) (reduceMark w x y) a c r q (λ log. ap (λ (i : ℕ). marked w y i (stateOf a log r)) d) p

@@ -4,13 +4,14 @@ ghost use mathlib.Core.List.{List};
 ghost use Prim.Native.Nat.{ℕ, _+_, _≤_, _<_};
 ghost use lib.ListN.{length};
 ghost use Rattle.base_bytes.specs.Memory.{memoryLength};
-ghost use Rattle.vm_code.specs.Words.{depthOf, termCount};
+ghost use Rattle.vm_code.specs.Words.{depthOf, termCount, returnPc};
 ghost use Rattle.vm_machine.specs.Registers.{frameSlots};
-ghost use Rattle.vm_machine.specs.Memory.{nextBinding, endBinding};
+ghost use Rattle.vm_machine.specs.Memory.{nextBinding, endBinding, bindingPlaces};
 ghost use Rattle.vm_machine.specs.Reduce.{bodyAt, startAdvice, nextAdvice};
 ghost use Rattle.vm_memory.specs.View.{memoryOf};
 ghost use Rattle.vm_registers.specs.Phases.{stateOf, Phase};
 ghost use Rattle.vm_marks.specs.NextAdvice.{nextBody, markLeft};
+use calculus::outcomes;
 use vm_machine::Regs;
 use vm_memory::bindings::binding_at;
 use vm_memory::bindings::bound_target;
@@ -21,7 +22,6 @@ use vm_memory::slots::slot_env;
 use vm_memory::slots::slot_pc;
 use vm_memory::words::BINDING_PLACES;
 use vm_registers::ends::completed;
-use vm_registers::outcomes;
 use vm_registers::regs::FUEL_BIAS;
 use vm_registers::regs::halt;
 use vm_registers::regs::halt_with;
@@ -33,7 +33,7 @@ use vm_words::terms::instruction;
 
 // Where the body of the advice whose variable binding b is begins: that of an atom, which is unit, is done.
 fn body_at(work: &[u8], b: usize) -> usize
-    requires { ⌜ (memoryLength ≤ length (now work)) × (b < 2048) ⌝ }
+    requires { ⌜ (memoryLength ≤ length (now work)) × (b < bindingPlaces) ⌝ }
     ensures { λ t. ⌜ t ≡ bodyAt (memoryOf (now (work .entry))) b ⌝ }
 {
     let g = bound_target(binding_at(work, b));
@@ -42,7 +42,7 @@ fn body_at(work: &[u8], b: usize) -> usize
 
 // The advice whose variables are the bindings from n to m run, each under a sequence and a lower.
 pub fn start_advice(work: &mut [u8], r: Regs, w: u64, n: usize, m: usize) -> Regs
-    requires { ⌜ (memoryLength ≤ length (now work)) × (r .frames ≤ 513) × (r .pc ≤ 1024) × (r .env < 2048) × (n < 2048) × (m ≤ 2048) ⌝ }
+    requires { ⌜ (memoryLength ≤ length (now work)) × (r .frames ≤ frameSlots) × (r .pc ≤ returnPc) × (r .env < bindingPlaces) × (n < bindingPlaces) × (m ≤ bindingPlaces) ⌝ }
     ensures { λ q. ⌜ Phase (startAdvice w n m) (now (work .entry)) (now (work .exit)) r q ⌝ }
 {
     let d = depth_of(w);
@@ -61,7 +61,7 @@ pub fn start_advice(work: &mut [u8], r: Regs, w: u64, n: usize, m: usize) -> Reg
 
 // The body of the advice that is next of the mark whose slot has the word f.
 fn next_body(work: &mut [u8], r: Regs, f: u64) -> Regs
-    requires { ⌜ (memoryLength ≤ length (now work)) × (r .frames ≤ 513) × (2 ≤ r .fuel) × (nextBinding f < endBinding f) ⌝ }
+    requires { ⌜ (memoryLength ≤ length (now work)) × (r .frames ≤ frameSlots) × (2 ≤ r .fuel) × (nextBinding f < endBinding f) ⌝ }
     ensures { λ q. ⌜ Phase (nextBody f) (now (work .entry)) (now (work .exit)) r q ⌝ }
 {
     let n = next_binding(f);
@@ -86,7 +86,7 @@ fn next_body(work: &mut [u8], r: Regs, f: u64) -> Regs
 
 // All advice is done of the mark with word w, whose slot has the word f.
 fn mark_left(work: &mut [u8], r: Regs, w: u64, f: u64) -> Regs
-    requires { ⌜ (memoryLength ≤ length (now work)) × (r .frames + (depthOf w + 2) ≤ 513) × (2 ≤ r .fuel) ⌝ }
+    requires { ⌜ (memoryLength ≤ length (now work)) × (r .frames + (depthOf w + 2) ≤ frameSlots) × (2 ≤ r .fuel) ⌝ }
     ensures { λ q. ⌜ Phase (markLeft w f) (now (work .entry)) (now (work .exit)) r q ⌝ }
 {
     let mut s = same(r);
@@ -99,7 +99,7 @@ fn mark_left(work: &mut [u8], r: Regs, w: u64, f: u64) -> Regs
 // The body of an advice is done: its lower and its sequence are left, two steps; then the next advice of the mark, if one
 // is left. f is the slot's word.
 pub fn next_advice(code: &[u64], work: &mut [u8], r: Regs, f: u64) -> Regs
-    requires { ⌜ (termCount ≤ length (now code)) × (memoryLength ≤ length (now work)) × (r .frames ≤ 513) × ((image log : List ℕ) → nextAdvice (record { code = now code; image = image }) f (stateOf (now work) log r) .regs .frames ≤ frameSlots) ⌝ }
+    requires { ⌜ (termCount ≤ length (now code)) × (memoryLength ≤ length (now work)) × (r .frames ≤ frameSlots) × ((image log : List ℕ) → nextAdvice (record { code = now code; image = image }) f (stateOf (now work) log r) .regs .frames ≤ frameSlots) ⌝ }
     ensures { λ q. ⌜ ((image : List ℕ) → Phase (nextAdvice (record { code = now (code .entry); image = image }) f) (now (work .entry)) (now (work .exit)) r q) ⌝ }
 {
     if r.fuel < FUEL_BIAS + 2 {

@@ -1,6 +1,7 @@
 // A mark makes the bindings of all matching advice at its own step, each with the target of its advice's body.
 ghost use Prim.Native.Nat.{_+_, _≤_, _<_};
 ghost use lib.ListN.{length};
+ghost use Rattle.calculus.specs.Limits.{labelLimit, adviceLimit};
 ghost use Rattle.base_bytes.specs.Memory.{memoryLength};
 ghost use Rattle.vm_pools.specs.Pools.{whole, poolBound};
 ghost use Rattle.vm_machine.specs.Memory.{bindingPlaces};
@@ -33,7 +34,7 @@ fn bind_advice(work: &mut [u8], n: usize, v: u64, a: u64)
 // The binding of installed advice i, where label l triggers it; b are there. It is charged to the half of the advice's domain
 // (document 02, card 9).
 fn bind_one(work: &mut [u8], l: u64, v: u64, i: usize, b: Pool) -> Pool
-    requires { ⌜ (memoryLength ≤ length (now work)) × (l < 64) × (i < 64) × (whole b < poolBound) ⌝ }
+    requires { ⌜ (memoryLength ≤ length (now work)) × (l < labelLimit) × (i < adviceLimit) × (whole b < poolBound) ⌝ }
     ensures { λ q. ⌜ Binds (bindOne l v i (boundIn (now (work .entry)) b)) (now (work .entry)) (now (work .exit)) q × (whole b ≤ whole q) × (whole q ≤ whole b + 1) ⌝ }
 {
     let p = installed_at(work, i);
@@ -47,7 +48,7 @@ fn bind_one(work: &mut [u8], l: u64, v: u64, i: usize, b: Pool) -> Pool
 
 // The bindings of the first n installed advice, the newest first (document 02, card 8).
 pub fn bind_matching(work: &mut [u8], n: usize, l: u64, v: u64, b: Pool) -> Pool
-    requires { ⌜ (memoryLength ≤ length (now work)) × (l < 64) × (n ≤ 64) × (whole b ≤ bindingPlaces) ⌝ }
+    requires { ⌜ (memoryLength ≤ length (now work)) × (l < labelLimit) × (n ≤ adviceLimit) × (whole b ≤ bindingPlaces) ⌝ }
     ensures { λ q. ⌜ Binds (bindMatching n l v (boundIn (now (work .entry)) b)) (now (work .entry)) (now (work .exit)) q × (whole b ≤ whole q) × (whole q < poolBound) ⌝ }
 {
     let mut q = b;

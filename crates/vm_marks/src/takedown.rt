@@ -1,6 +1,7 @@
 // A takedown (document 02, card 7): the installed advice of its domain goes; what stays moves together, in its order.
 ghost use Prim.Native.Nat.{ℕ, _+_, _≤_, _<_};
 ghost use lib.ListN.{length};
+ghost use Rattle.calculus.specs.Limits.{adviceLimit};
 ghost use Rattle.base_bytes.specs.Memory.{memoryLength};
 ghost use Rattle.vm_machine.specs.Registers.{fuelBias};
 ghost use Rattle.vm_machine.specs.Fits.{Fits};
@@ -17,9 +18,9 @@ use vm_registers::ends::given;
 use vm_registers::regs::same;
 use vm_words::code::takedown_domain;
 
-// Installed advice i stays, at place n, unless it is of the domain d; the next place is returned.
+// Installed advice i stays, at place n, unless it is of the domain d; answers the next place.
 fn stay_one(work: &mut [u8], d: DomainNo, i: usize, n: usize) -> usize
-    requires { ⌜ (memoryLength ≤ length (now work)) × (i < 64) × (n ≤ i) ⌝ }
+    requires { ⌜ (memoryLength ≤ length (now work)) × (i < adviceLimit) × (n ≤ i) ⌝ }
     ensures { λ m. ⌜ Binds (stayOne (d .0) i (boundIn (now (work .entry)) n)) (now (work .entry)) (now (work .exit)) m × (m ≤ n + 1) ⌝ }
 {
     let p = installed_at(work, i);
@@ -31,9 +32,9 @@ fn stay_one(work: &mut [u8], d: DomainNo, i: usize, n: usize) -> usize
     n + 1
 }
 
-// Of n installed advices those stay that are not of the domain d; it is returned how many.
+// Of n installed advices, those stay that are not of the domain d; answers how many stay.
 fn stay_others(work: &mut [u8], n: usize, d: DomainNo) -> usize
-    requires { ⌜ (memoryLength ≤ length (now work)) × (n ≤ 64) ⌝ }
+    requires { ⌜ (memoryLength ≤ length (now work)) × (n ≤ adviceLimit) ⌝ }
     ensures { λ m. ⌜ Binds (stayOthers n 0 (d .0) (boundIn (now (work .entry)) 0)) (now (work .entry)) (now (work .exit)) m ⌝ }
 {
     let mut m: usize = 0;

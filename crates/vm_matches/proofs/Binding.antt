@@ -10,7 +10,7 @@ use borrow.Author.Tests.{eq-eqb, ne-eqb}
 use Rattle.calculus.specs.Combinators.{choose}
 use Rattle.base_bytes.specs.Memory.{memoryLength}
 use Rattle.vm_code.specs.Words.{countOf}
-use Rattle.vm_machine.specs.Memory.{Memory, topEntry, restOf}
+use Rattle.vm_machine.specs.Memory.{Memory, topEntry, restOf, bindingPlaces}
 use Rattle.vm_machine.specs.Fetch.{Program}
 use Rattle.vm_machine.specs.Stacks.{Chained, entryAt, bindsRest, variables, bindInside, bindEntries}
 use Rattle.vm_memory.specs.View.{memoryOf}
@@ -37,9 +37,9 @@ module _ (x e : ℕ) (at : e ≡ x) where
   entry-value v y a a′ b q n h m =
       subst (λ (X : Chained). Chains X a a′ q) (ap (λ (z : ℕ). bindInside z (chainIn a b)) h ∙ sym (chosen-no _ _ _ (ne-eqb x 0 (λ z. n (at ∙ z))))) m
 
-  pub entry-frames : (c : ℕ) → (e ≡ 0 → ⊥) → c + choose (eqb x 0) 0 1 ≤ 2048 → c < 2048
+  pub entry-frames : (c : ℕ) → (e ≡ 0 → ⊥) → c + choose (eqb x 0) 0 1 ≤ bindingPlaces → c < bindingPlaces
   entry-frames c n h =
-      let m : c + 1 ≤ 2048 = subst (λ (t : Bool). c + choose t 0 1 ≤ 2048) (ne-eqb x 0 (λ z. n (at ∙ z))) h in
+      let m : c + 1 ≤ bindingPlaces = subst (λ (t : Bool). c + choose t 0 1 ≤ bindingPlaces) (ne-eqb x 0 (λ z. n (at ∙ z))) h in
       omega arith
 
 module _ (C : Program) (w : ℕ) where
@@ -51,17 +51,17 @@ module _ (C : Program) (w : ℕ) where
     pub rest-free : (v : ℕ) (a : List ℕ) (b : Chain) → t ≡ false → Chains (restBound C w v (chainIn a b)) a a b
     rest-free v a b e = subst (λ (X : Chained). Chains X a a b) (sym (chosen-no _ _ _ (sym is ∙ e))) (same-chain a b)
 
-    pub rest-frames : (c : ℕ) → t ≡ true → c + choose (bindsRest C w) 1 0 ≤ 2048 → c < 2048
+    pub rest-frames : (c : ℕ) → t ≡ true → c + choose (bindsRest C w) 1 0 ≤ bindingPlaces → c < bindingPlaces
     rest-frames c e h =
-        let m : c + 1 ≤ 2048 = subst (λ (x : Bool). c + choose x 1 0 ≤ 2048) (sym is ∙ e) h in
+        let m : c + 1 ≤ bindingPlaces = subst (λ (x : Bool). c + choose x 1 0 ≤ bindingPlaces) (sym is ∙ e) h in
         omega arith
 
   -- Of n entries: none is bound yet.
   module _ (n : ℕ) where
-    pub frames-start : (c : ℕ) → n ≡ countOf w → c + variables C w (countOf w) 0 ≤ 2048 → c + variables C w (n - 0) 0 ≤ 2048
+    pub frames-start : (c : ℕ) → n ≡ countOf w → c + variables C w (countOf w) 0 ≤ bindingPlaces → c + variables C w (n - 0) 0 ≤ bindingPlaces
     frames-start c e h =
         let k : countOf w ≡ n - 0 = omega arith in
-        subst (λ (x : ℕ). c + variables C w x 0 ≤ 2048) k h
+        subst (λ (x : ℕ). c + variables C w x 0 ≤ bindingPlaces) k h
 
     pub bound-start : (v : ℕ) (B : Chained) → n ≡ countOf w → bindEntries C w (countOf w) 0 v B ≡ bindEntries C w (n - 0) 0 v B
     bound-start v B e =
@@ -94,18 +94,18 @@ module _ (C : Program) (w : ℕ) where
           subst (λ (X : Chained). Chains X a₀ a′ q) (sym z) (record { memory = record { memory = m .memory .memory; rest = m .memory .rest ∙ r }; count = m .count; env = m .env })
 
       -- There is room for them.
-      module _ (c : ℕ) (frames : c + variables C w (n - i) i ≤ 2048) where
-        both-frames : i < n → c + (choose (eqb (entryAt C w i) 0) 0 1 + variables C w (n - (i + 1)) (i + 1)) ≤ 2048
+      module _ (c : ℕ) (frames : c + variables C w (n - i) i ≤ bindingPlaces) where
+        both-frames : i < n → c + (choose (eqb (entryAt C w i) 0) 0 1 + variables C w (n - (i + 1)) (i + 1)) ≤ bindingPlaces
         unfolding variables
         both-frames h =
             let k : n - i ≡ suc (n - (i + 1)) = omega arith in
             let j : suc i ≡ i + 1 = omega arith in
-            subst (λ (x : ℕ). c + (choose (eqb (entryAt C w i) 0) 0 1 + variables C w (n - (i + 1)) x) ≤ 2048) j (subst (λ (x : ℕ). c + variables C w x i ≤ 2048) k frames)
+            subst (λ (x : ℕ). c + (choose (eqb (entryAt C w i) 0) 0 1 + variables C w (n - (i + 1)) x) ≤ bindingPlaces) j (subst (λ (x : ℕ). c + variables C w x i ≤ bindingPlaces) k frames)
 
-        pub frames-here : (e : ℕ) → e ≡ entryAt C w i → i < n → c + choose (eqb e 0) 0 1 ≤ 2048
-        frames-here e at h = let k : c + choose (eqb (entryAt C w i) 0) 0 1 ≤ 2048 = omega (arith, both-frames h) in subst (λ (x : ℕ). c + choose (eqb x 0) 0 1 ≤ 2048) (sym at) k
+        pub frames-here : (e : ℕ) → e ≡ entryAt C w i → i < n → c + choose (eqb e 0) 0 1 ≤ bindingPlaces
+        frames-here e at h = let k : c + choose (eqb (entryAt C w i) 0) 0 1 ≤ bindingPlaces = omega (arith, both-frames h) in subst (λ (x : ℕ). c + choose (eqb x 0) 0 1 ≤ bindingPlaces) (sym at) k
 
-        pub frames-on : (e v : ℕ) (a a′ : List ℕ) (b q : Chain) → e ≡ entryAt C w i → i < n → b .count ≡ c → Chains (entryBound e v (chainIn a b)) a a′ q → q .count + variables C w (n - (i + 1)) (i + 1) ≤ 2048
+        pub frames-on : (e v : ℕ) (a a′ : List ℕ) (b q : Chain) → e ≡ entryAt C w i → i < n → b .count ≡ c → Chains (entryBound e v (chainIn a b)) a a′ q → q .count + variables C w (n - (i + 1)) (i + 1) ≤ bindingPlaces
         frames-on e v a a′ b q at h f m =
             let x : q .count ≡ b .count + choose (eqb (entryAt C w i) 0) 0 1 = entry-is e v a a′ b q at m .count ∙ counted (eqb (entryAt C w i) 0) in
             omega (arith, both-frames h)
@@ -114,8 +114,8 @@ module _ (C : Program) (w : ℕ) where
             counted true = omega arith
             counted false = refl
 
-        pub frames-left : n ≤ i → c + choose (bindsRest C w) 1 0 ≤ 2048
+        pub frames-left : n ≤ i → c + choose (bindsRest C w) 1 0 ≤ bindingPlaces
         unfolding variables
         frames-left h =
             let k : n - i ≡ 0 = omega arith in
-            subst (λ (x : ℕ). c + variables C w x i ≤ 2048) k frames
+            subst (λ (x : ℕ). c + variables C w x i ≤ bindingPlaces) k frames

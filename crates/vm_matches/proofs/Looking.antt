@@ -6,7 +6,7 @@ use mathlib.Core.Bool.{Bool, true, false, not, _&&_, false≢true}
 use lib.Dec.{eqb, leb, ltb}
 use borrow.Author.Tests.{eq-eqb, ne-eqb, le-leb, lt-leb, le-ltb}
 use Rattle.calculus.specs.Combinators.{choose}
-use Rattle.vm_code.specs.Words.{classOf, countOf}
+use Rattle.vm_code.specs.Words.{classOf, countOf, countSize}
 use Rattle.vm_code.specs.Classes.{firstInstruction, isAtom}
 use Rattle.vm_machine.specs.Memory.{Memory, pieceOf, pieceSecond, hasBit, isKept, topEntry, entryLabel, restOf, heldStack}
 use Rattle.vm_machine.specs.Fetch.{Program, codeAt, atomValue}
@@ -106,7 +106,7 @@ module _ (M : Memory) (n i v : ℕ) where
   behind-all h = let k : n - i ≡ 0 = omega arith in ap (λ (x : ℕ). restAfter M x v) k
 
 -- The byte beside, and back.
-pub byte-fits : (n : ℕ) (rest : ℕ) (b : Bool) → b ≡ true → n + 16 ≡ lookedByte (record { next = n; rest = rest; fits = b })
+pub byte-fits : (n : ℕ) (rest : ℕ) (b : Bool) → b ≡ true → n + countSize ≡ lookedByte (record { next = n; rest = rest; fits = b })
 byte-fits n rest b e = rw e
 
 pub byte-fits-not : (n : ℕ) (rest : ℕ) (b : Bool) → b ≡ false → n ≡ lookedByte (record { next = n; rest = rest; fits = b })

@@ -61,7 +61,7 @@ pub record Chains (B : Chained) (w w′ : List ℕ) (q : Chain) : Type 0 where
   pub count : q .count ≡ B .count
   pub env : q .env ≡ B .env
 
--- The binding of the entry e and that of the rest, v being what is left of the stack.
+-- The binding of the entry e and that of the rest, where v is what is left of the stack.
 abbrev pub entryBound : ℕ → ℕ → Chained → Chained
 entryBound e v B = choose (eqb e 0) B (bindInside (topEntry (B .memory) v) B)
 

@@ -5,9 +5,10 @@ ghost use lib.ListN.{length};
 ghost use lib.Dec.{eqb};
 ghost use Rattle.calculus.specs.Combinators.{choose};
 ghost use Rattle.base_bytes.specs.Memory.{memoryLength};
-ghost use Rattle.vm_code.specs.Words.{countOf};
+ghost use Rattle.vm_code.specs.Words.{countOf, countSize};
 ghost use Rattle.vm_machine.specs.Fetch.{Program};
 ghost use Rattle.vm_machine.specs.Stacks.{bindsRest, variables, bindInside, bindEntries};
+ghost use Rattle.vm_machine.specs.Memory.{bindingPlaces};
 ghost use Rattle.vm_matches.specs.Matching.{matchFields, entryIn, chainIn, Chains, entryBound, restBound};
 use crate::Chain;
 use crate::entries::binds_rest;
@@ -19,8 +20,8 @@ use vm_words::code::count_of;
 
 // The value v is bound inside those of b.
 fn bind_inside(work: &mut [u8], v: u64, b: Chain) -> Chain
-    requires { ⌜ (memoryLength ≤ length (now work)) × (b .count < 2048) × (b .env < 2048) ⌝ }
-    ensures { λ q. ⌜ Chains (bindInside v (chainIn (now (work .entry)) b)) (now (work .entry)) (now (work .exit)) q × (q .env < 2048) ⌝ }
+    requires { ⌜ (memoryLength ≤ length (now work)) × (b .count < bindingPlaces) × (b .env < bindingPlaces) ⌝ }
+    ensures { λ q. ⌜ Chains (bindInside v (chainIn (now (work .entry)) b)) (now (work .entry)) (now (work .exit)) q × (q .env < bindingPlaces) ⌝ }
 {
     let n = b.count;
     bind(work, n, v, 0, b.env);
@@ -32,8 +33,8 @@ fn bind_inside(work: &mut [u8], v: u64, b: Chain) -> Chain
 
 // The value of entry i: v is what is left of the stack. An entry for anything binds nothing.
 fn bind_entry(fields: &[u8], work: &mut [u8], i: usize, v: u64, b: Chain) -> Chain
-    requires { ⌜ (memoryLength ≤ length (now work)) × (i < 16) × (b .env < 2048) × (b .count + choose (eqb (entryIn (now fields) i) 0) 0 1 ≤ 2048) ⌝ }
-    ensures { λ q. ⌜ Chains (entryBound (entryIn (now (fields .entry)) i) v (chainIn (now (work .entry)) b)) (now (work .entry)) (now (work .exit)) q × (q .env < 2048) ⌝ }
+    requires { ⌜ (memoryLength ≤ length (now work)) × (i < countSize) × (b .env < bindingPlaces) × (b .count + choose (eqb (entryIn (now fields) i) 0) 0 1 ≤ bindingPlaces) ⌝ }
+    ensures { λ q. ⌜ Chains (entryBound (entryIn (now (fields .entry)) i) v (chainIn (now (work .entry)) b)) (now (work .entry)) (now (work .exit)) q × (q .env < bindingPlaces) ⌝ }
 {
     if entry_at(fields, i) == 0 {
         return b;
@@ -44,8 +45,8 @@ fn bind_entry(fields: &[u8], work: &mut [u8], i: usize, v: u64, b: Chain) -> Cha
 
 // The rest, where the close binds it.
 fn bind_rest(fields: &[u8], work: &mut [u8], w: u64, v: u64, b: Chain) -> Chain
-    requires { ⌜ (memoryLength ≤ length (now work)) × (b .env < 2048) × ((C : Program) × (now fields ≡ matchFields (C .image) w) × (b .count + choose (bindsRest C w) 1 0 ≤ 2048)) ⌝ }
-    ensures { λ q. ⌜ ((C : Program) → now (fields .entry) ≡ matchFields (C .image) w → Chains (restBound C w v (chainIn (now (work .entry)) b)) (now (work .entry)) (now (work .exit)) q) × (q .env < 2048) ⌝ }
+    requires { ⌜ (memoryLength ≤ length (now work)) × (b .env < bindingPlaces) × ((C : Program) × (now fields ≡ matchFields (C .image) w) × (b .count + choose (bindsRest C w) 1 0 ≤ bindingPlaces)) ⌝ }
+    ensures { λ q. ⌜ ((C : Program) → now (fields .entry) ≡ matchFields (C .image) w → Chains (restBound C w v (chainIn (now (work .entry)) b)) (now (work .entry)) (now (work .exit)) q) × (q .env < bindingPlaces) ⌝ }
 {
     if binds_rest(fields, w) {
         return bind_inside(work, v, b);
@@ -55,8 +56,8 @@ fn bind_rest(fields: &[u8], work: &mut [u8], w: u64, v: u64, b: Chain) -> Chain
 
 // The values of all entries of the stack v, and the rest.
 pub fn bind_entries(fields: &[u8], work: &mut [u8], w: u64, v: u64, from: Chain) -> Chain
-    requires { ⌜ (memoryLength ≤ length (now work)) × (from .env < 2048) × ((C : Program) × (now fields ≡ matchFields (C .image) w) × (from .count + variables C w (countOf w) 0 ≤ 2048)) ⌝ }
-    ensures { λ q. ⌜ ((C : Program) → now (fields .entry) ≡ matchFields (C .image) w → Chains (bindEntries C w (countOf w) 0 v (chainIn (now (work .entry)) from)) (now (work .entry)) (now (work .exit)) q) × (q .env < 2048) ⌝ }
+    requires { ⌜ (memoryLength ≤ length (now work)) × (from .env < bindingPlaces) × ((C : Program) × (now fields ≡ matchFields (C .image) w) × (from .count + variables C w (countOf w) 0 ≤ bindingPlaces)) ⌝ }
+    ensures { λ q. ⌜ ((C : Program) → now (fields .entry) ≡ matchFields (C .image) w → Chains (bindEntries C w (countOf w) 0 v (chainIn (now (work .entry)) from)) (now (work .entry)) (now (work .exit)) q) × (q .env < bindingPlaces) ⌝ }
 {
     let n = count_of(w);
     let mut rest = v;

@@ -5,7 +5,7 @@ ghost use Prim.Native.Nat.{ℕ, _≤_, _<_};
 ghost use lib.ListN.{length};
 ghost use lib.Dec.{eqb};
 ghost use Rattle.calculus.specs.Combinators.{choose};
-ghost use Rattle.vm_code.specs.Words.{termCount, countOf};
+ghost use Rattle.vm_code.specs.Words.{termCount, countOf, countSize};
 ghost use Rattle.vm_machine.specs.Fetch.{Program};
 ghost use Rattle.vm_machine.specs.Stacks.{cutTerm, bindsRest};
 ghost use Rattle.vm_machine.specs.Stacks as machine;
@@ -41,7 +41,7 @@ pub fn match_fields(image: &[u8], w: u64) -> &[u8]
 
 // Entry i: 0 for anything, else a pointcut's number plus 1.
 pub fn entry_at(fields: &[u8], i: usize) -> u16
-    requires { ⌜ i < 16 ⌝ }
+    requires { ⌜ i < countSize ⌝ }
     ensures { λ v. ⌜ v ≡ entryIn (now (fields .entry)) i ⌝ }
 {
     field_or_zero(fields, FIRST_ENTRY + i)
@@ -65,7 +65,7 @@ pub fn binds_rest(fields: &[u8], w: u64) -> bool
 
 // Entry i is a pointcut that is no atom.
 pub fn stops_at(code: &[u64], fields: &[u8], i: usize) -> bool
-    requires { ⌜ (termCount ≤ length (now code)) × (i < 16) ⌝ }
+    requires { ⌜ (termCount ≤ length (now code)) × (i < countSize) ⌝ }
     ensures { λ b. ⌜ ((image : List ℕ) (w : ℕ) → i < countOf w → now (fields .entry) ≡ matchFields image w → b ≡ stopsAt (record { code = now (code .entry); image = image }) w i) ⌝ }
 {
     let v = entry_at(fields, i);
@@ -96,7 +96,7 @@ fn of_close(b: bool) -> usize
 
 // How many all of them bind.
 pub fn variables(fields: &[u8], w: u64) -> usize
-    ensures { λ n. ⌜ ((C : Program) → now (fields .entry) ≡ matchFields (C .image) w → n ≡ machine.variables C w (countOf w) 0) × (n ≤ 16) ⌝ }
+    ensures { λ n. ⌜ ((C : Program) → now (fields .entry) ≡ matchFields (C .image) w → n ≡ machine.variables C w (countOf w) 0) × (n ≤ countSize) ⌝ }
 {
     let n = count_of(w);
     let mut c: usize = 0;

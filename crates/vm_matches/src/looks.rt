@@ -4,8 +4,9 @@ ghost use mathlib.Core.List.{List};
 ghost use Prim.Native.Nat.{ℕ, _+_, _-_, _≤_, _<_};
 ghost use lib.ListN.{length};
 ghost use Rattle.base_bytes.specs.Memory.{memoryLength};
-ghost use Rattle.vm_code.specs.Words.{termCount, countOf};
+ghost use Rattle.vm_code.specs.Words.{termCount, countOf, countSize};
 ghost use Rattle.vm_machine.specs.Stacks.{unlooked, pastAny, pastCut, lookOn, restAfter, lookedByte, lookedWith};
+ghost use Rattle.vm_machine.specs.Memory.{bindingPlaces};
 ghost use Rattle.vm_memory.specs.View.{memoryOf};
 ghost use Rattle.vm_matches.specs.Matching.{matchFields, lookedOf, topFits, pastEntry, LookedAgain};
 use crate::Progress;
@@ -22,16 +23,17 @@ use vm_memory::pieces::piece_of;
 use vm_memory::pieces::piece_second;
 use vm_memory::slots::held_stack;
 use vm_registers::ends::atom_at;
+use vm_words::code::COUNTS;
 use vm_words::code::count_of;
 
 // The byte beside a match's slot: the entries looked at, so much more where they all fit; or that the stack is still to come.
-const ALL_FIT: u64 = 16;
+const ALL_FIT: u64 = COUNTS;
 
-pub const STACK_TO_COME: u64 = 32;
+pub const STACK_TO_COME: u64 = 2 * COUNTS;
 
 // Nothing of the stack v was looked at.
 pub fn unlooked(v: u64) -> Progress
-    ensures { λ k. ⌜ (lookedOf k ≡ unlooked v) × (k .stack ≡ v) × (k .next ≤ 16) ⌝ }
+    ensures { λ k. ⌜ (lookedOf k ≡ unlooked v) × (k .stack ≡ v) × (k .next ≤ countSize) ⌝ }
 {
     Progress {
         stack: v,
@@ -43,7 +45,7 @@ pub fn unlooked(v: u64) -> Progress
 
 // Past an entry for anything.
 fn past_any(work: &[u8], k: Progress) -> Progress
-    requires { ⌜ (memoryLength ≤ length (now work)) × (k .next < 16) ⌝ }
+    requires { ⌜ (memoryLength ≤ length (now work)) × (k .next < countSize) ⌝ }
     ensures { λ q. ⌜ (lookedOf q ≡ pastAny (memoryOf (now (work .entry))) (lookedOf k)) × (q .stack ≡ k .stack) × (q .next ≡ k .next + 1) ⌝ }
 {
     Progress {
@@ -66,7 +68,7 @@ fn top_fits(work: &[u8], v: u64, stack: u64) -> bool
 
 // Past one that is the pointcut v.
 fn past_cut(work: &[u8], v: u64, k: Progress) -> Progress
-    requires { ⌜ (memoryLength ≤ length (now work)) × (k .next < 16) ⌝ }
+    requires { ⌜ (memoryLength ≤ length (now work)) × (k .next < countSize) ⌝ }
     ensures { λ q. ⌜ (lookedOf q ≡ pastCut (memoryOf (now (work .entry))) v (lookedOf k)) × (q .stack ≡ k .stack) × (q .next ≡ k .next + 1) ⌝ }
 {
     Progress {
@@ -79,7 +81,7 @@ fn past_cut(work: &[u8], v: u64, k: Progress) -> Progress
 
 // Past the next entry, which is for anything or an atom.
 fn past_entry(code: &[u64], fields: &[u8], work: &[u8], env: usize, k: Progress) -> Progress
-    requires { ⌜ (termCount ≤ length (now code)) × (memoryLength ≤ length (now work)) × (env < 2048) × (k .next < 16) ⌝ }
+    requires { ⌜ (termCount ≤ length (now code)) × (memoryLength ≤ length (now work)) × (env < bindingPlaces) × (k .next < countSize) ⌝ }
     ensures { λ q. ⌜ ((image : List ℕ) (w : ℕ) → k .next < countOf w → now (fields .entry) ≡ matchFields image w → lookedOf q ≡ pastEntry (record { code = now (code .entry); image = image }) (memoryOf (now (work .entry))) env w (lookedOf k)) × (q .stack ≡ k .stack) × (q .next ≡ k .next + 1) ⌝ }
 {
     let e = entry_at(fields, k.next);
@@ -99,7 +101,7 @@ pub fn look_on(
     w: u64,
     from: Progress,
 ) -> Progress
-    requires { ⌜ (termCount ≤ length (now code)) × (memoryLength ≤ length (now work)) × (env < 2048) ⌝ }
+    requires { ⌜ (termCount ≤ length (now code)) × (memoryLength ≤ length (now work)) × (env < bindingPlaces) ⌝ }
     ensures { λ q. ⌜ ((image : List ℕ) → now (fields .entry) ≡ matchFields image w → lookedOf q ≡ lookOn (record { code = now (code .entry); image = image }) (memoryOf (now (work .entry))) env w (countOf w - from .next) (lookedOf from)) × (q .stack ≡ from .stack) ⌝ }
 {
     let n = count_of(w);
@@ -129,7 +131,7 @@ fn rest_after(work: &[u8], n: usize, v: u64) -> u64
 
 // The byte beside, of a match that stops.
 pub fn looked_byte(k: Progress) -> u64
-    requires { ⌜ k .next < 16 ⌝ }
+    requires { ⌜ k .next < countSize ⌝ }
     ensures { λ b. ⌜ (b ≡ lookedByte (lookedOf k)) × (b < 256) ⌝ }
 {
     let n = k.next as u64;
@@ -139,7 +141,7 @@ pub fn looked_byte(k: Progress) -> u64
 // And back: v is the match's stack.
 fn looked_with(work: &[u8], v: u64, byte: u64) -> Progress
     requires { ⌜ memoryLength ≤ length (now work) ⌝ }
-    ensures { λ k. ⌜ (lookedOf k ≡ lookedWith (memoryOf (now (work .entry))) v byte) × (k .stack ≡ v) × (k .next < 16) ⌝ }
+    ensures { λ k. ⌜ (lookedOf k ≡ lookedWith (memoryOf (now (work .entry))) v byte) × (k .stack ≡ v) × (k .next < countSize) ⌝ }
 {
     let n = (byte % ALL_FIT) as usize;
     Progress {
@@ -153,7 +155,7 @@ fn looked_with(work: &[u8], v: u64, byte: u64) -> Progress
 // The progress of a match whose slot has the word f and the byte beside, once the operand that it waits for has the value v.
 pub fn looked_again(work: &[u8], v: u64, f: u64, byte: u64) -> Progress
     requires { ⌜ memoryLength ≤ length (now work) ⌝ }
-    ensures { λ k. ⌜ LookedAgain (memoryOf (now (work .entry))) v f byte k × (k .next ≤ 16) ⌝ }
+    ensures { λ k. ⌜ LookedAgain (memoryOf (now (work .entry))) v f byte k × (k .next ≤ countSize) ⌝ }
 {
     if STACK_TO_COME <= byte {
         return unlooked(v);

@@ -17,12 +17,12 @@ use crate::entries::FIRST_BRANCH;
 use crate::entries::OTHER_BRANCH;
 use crate::entries::matches;
 use crate::entries::variables;
+use calculus::BINDING_LIMIT;
+use calculus::outcomes;
 use vm_labels::children::term_at;
 use vm_labels::entry::begun_at;
 use vm_machine::Regs;
 use vm_registers::ends::called;
-use vm_registers::limits::BINDINGS;
-use vm_registers::outcomes;
 use vm_registers::pools::bindings_out;
 use vm_registers::pools::has_capacity;
 use vm_registers::pools::quota_of;
@@ -47,7 +47,7 @@ fn first_branch(code: &[u64], fields: &[u8], work: &mut [u8], r: Regs, w: u64, v
     let p = r.pools;
     let x = p.bindings;
     let m = variables(fields, w);
-    if !has_capacity(x, h, m, BINDINGS) {
+    if !has_capacity(x, h, m, BINDING_LIMIT) {
         return halt(r, bindings_out(h));
     }
     if r.fuel <= FUEL_BIAS {
@@ -65,7 +65,7 @@ fn first_branch(code: &[u64], fields: &[u8], work: &mut [u8], r: Regs, w: u64, v
     q
 }
 
-// It does not.
+// The stack does not match: the second branch.
 fn other_branch(code: &[u64], fields: &[u8], work: &mut [u8], r: Regs, w: u64) -> Regs
     requires { ⌜ Matchable (now code) (now work) r × (depthOf w ≤ r .frames) × OfMatch (now fields) w ⌝ }
     ensures { λ q. ⌜ ((image : List ℕ) → now (fields .entry) ≡ matchFields image w → Phase (otherBranch (record { code = now (code .entry); image = image }) w) (now (work .entry)) (now (work .exit)) r q) ⌝ }

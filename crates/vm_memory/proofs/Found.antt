@@ -7,6 +7,7 @@ use lib.Dec.{leb}
 use lib.Bits.{bitOr}
 use borrow.Author.Tests.{le-leb, lt-leb}
 use Rattle.calculus.specs.Combinators.{choose}
+use Rattle.calculus.specs.Limits.{labelLimit}
 use Rattle.vm_code.specs.Values.{unitValue}
 use Rattle.vm_machine.specs.Memory.{Memory, noBinding, boundLink, bindingAt, lookup, withBit, noDigits, digitCount, labelSet}
 
@@ -52,7 +53,7 @@ module _ (n i d : ℕ) where
   unfolding digitCount
   count-end h = let e : n - i ≡ 0 = omega arith in rw e (omega arith)
 
-  pub count-more : i < n → noDigits < d → i + digitCount (n - i) d ≡ i + 1 + digitCount (n - (i + 1)) (d / 64)
+  pub count-more : i < n → noDigits < d → i + digitCount (n - i) d ≡ i + 1 + digitCount (n - (i + 1)) (d / labelLimit)
   unfolding digitCount
   count-more h g = let e : n - i ≡ suc (n - (i + 1)) = omega arith in rw (e, lt-leb d noDigits g) (omega arith)
 
@@ -62,7 +63,7 @@ module _ (n i d s : ℕ) where
   unfolding labelSet
   set-end h = let e : n - i ≡ 0 = omega arith in rw e
 
-  pub set-more : (t : ℕ) → i < n → t ≡ withBit s (d % 64) → labelSet (n - i) d s ≡ labelSet (n - (i + 1)) (d / 64) t
+  pub set-more : (t : ℕ) → i < n → t ≡ withBit s (d % labelLimit) → labelSet (n - i) d s ≡ labelSet (n - (i + 1)) (d / labelLimit) t
   unfolding labelSet
   set-more t h e = let f : n - i ≡ suc (n - (i + 1)) = omega arith in rw (f, e)
 
@@ -76,7 +77,7 @@ power-below l zero h = absurd (omega arith)
 power-below zero (suc n) h = rw pow-suc (omega (arith, power-positive n))
 power-below (suc l) (suc n) h = rw (pow-suc 2 l, pow-suc 2 n) (omega (arith, power-below l n (omega arith)))
 
-pub bit-in : (s l : ℕ) → l < 64 → bitOr s ((1 * 2 ^ l) % 2 ^ 64) ≡ withBit s l
+pub bit-in : (s l : ℕ) → l < labelLimit → bitOr s ((1 * 2 ^ l) % 2 ^ 64) ≡ withBit s l
 bit-in s l h =
     let e : 1 * 2 ^ l ≡ 2 ^ l = omega arith in
     ap (bitOr s) (rw e (mod-eq-of-lt (power-below l 64 h)))

@@ -7,7 +7,7 @@ use Rattle.base_bytes.specs.Bytes.{bytesOf, over}
 use Rattle.base_bytes.specs.Memory.{wordCount, besideCount, besideBase, memoryLength}
 use Rattle.base_bytes.specs.Memory as area
 use Rattle.base_bytes.proofs.Memory.{words-at, store-words, store-past, store-beside, beside-past, beside-at}
-use Rattle.vm_machine.specs.Memory.{Memory, wordAt, putWord, slotHeld, slotAt, slotIn, slotWord, pointcutFrame, callFrame, putReturn, putDigits, digitsAt, putMatch, besideAt, cellAt, cellNote, putCell}
+use Rattle.vm_machine.specs.Memory.{Memory, wordAt, putWord, slotHeld, slotAt, slotIn, slotWord, pointcutFrame, callFrame, putReturn, putDigits, digitsAt, putMatch, besideAt, cellAt, cellNote, putCell, heldSize}
 use Rattle.vm_memory.specs.View.{memoryOf, Holds}
 
 -- A word is loaded.
@@ -49,13 +49,13 @@ pub return-stored : (w w′ : List ℕ) (frames d pc env f x y : ℕ) → f ≡ 
 return-stored w w′ frames d pc env f x y e g h = put-as w w′ _ _ y _ refl (h ∙ ap (slotWord callFrame pc env) (g ∙ ap slotHeld e))
 
 -- A pointcut's frame: its word y, and the byte beside it.
-pub digits-stored : (w w′ w″ : List ℕ) (frames d pc env digits y : ℕ) → memoryLength ≤ length w′ → frames - d < besideCount → y ≡ slotWord pointcutFrame pc env (digits % 68719476736) → Holds (putWord (slotIn frames d) y (memoryOf w)) w w′
-    → w″ ≡ set w′ (besideBase + (frames - d)) (digits / 68719476736 % 256) → Holds (putDigits frames d pc env digits (memoryOf w)) w w″
-digits-stored w w′ w″ frames d pc env digits y l h e a s = and-beside _ w w′ w″ (frames - d) (digits / 68719476736 % 256) l h (put-as w w′ _ _ y _ refl e a) s
+pub digits-stored : (w w′ w″ : List ℕ) (frames d pc env digits y : ℕ) → memoryLength ≤ length w′ → frames - d < besideCount → y ≡ slotWord pointcutFrame pc env (digits % heldSize) → Holds (putWord (slotIn frames d) y (memoryOf w)) w w′
+    → w″ ≡ set w′ (besideBase + (frames - d)) (digits / heldSize % 256) → Holds (putDigits frames d pc env digits (memoryOf w)) w w″
+digits-stored w w′ w″ frames d pc env digits y l h e a s = and-beside _ w w′ w″ (frames - d) (digits / heldSize % 256) l h (put-as w w′ _ _ y _ refl e a) s
 
 -- Its digits: x is what its word f holds, y they with the byte beside.
-pub digits-loaded : (w : List ℕ) (frames f x y : ℕ) → memoryLength ≤ length w → frames < besideCount → x ≡ slotHeld f → y ≡ x + 68719476736 * getD w (besideBase + frames) 0 → y ≡ digitsAt (memoryOf w) frames f
-digits-loaded w frames f x y l h e d = d ∙ ap (λ k. k + 68719476736 * getD w (besideBase + frames) 0) e ∙ ap (λ b. slotHeld f + 68719476736 * b) (sym (beside-at w l frames h))
+pub digits-loaded : (w : List ℕ) (frames f x y : ℕ) → memoryLength ≤ length w → frames < besideCount → x ≡ slotHeld f → y ≡ x + heldSize * getD w (besideBase + frames) 0 → y ≡ digitsAt (memoryOf w) frames f
+digits-loaded w frames f x y l h e d = d ∙ ap (λ k. k + heldSize * getD w (besideBase + frames) 0) e ∙ ap (λ b. slotHeld f + heldSize * b) (sym (beside-at w l frames h))
 
 -- A match's frame: its word f, and the byte beside it.
 pub match-stored : (w w′ w″ : List ℕ) (frames d f byte : ℕ) → memoryLength ≤ length w′ → frames - d < besideCount → Holds (putWord (slotIn frames d) f (memoryOf w)) w w′ → w″ ≡ set w′ (besideBase + (frames - d)) byte

@@ -1,9 +1,9 @@
-// Cells: the note, and the value above 2^28; the note is the cell's domain, and 16 more where it is plain.
+// Cells: the note, and the value above 2^28; the note is the cell's domain, and as many more as there are domains where it is plain.
 ghost use mathlib.Core.Path.{_≡_};
 ghost use Prim.Native.Nat.{_<_, _≤_};
 ghost use lib.ListN.{length};
 ghost use Rattle.base_bytes.specs.Memory.{memoryLength};
-ghost use Rattle.vm_machine.specs.Memory.{cellAt, putCell, cellNote, cellOf};
+ghost use Rattle.vm_machine.specs.Memory.{cellAt, putCell, cellNote, cellOf, cellPlaces};
 ghost use Rattle.vm_memory.specs.View.{memoryOf, Holds};
 use crate::words::CELL_PLACES;
 use crate::words::CELLS;
@@ -23,7 +23,7 @@ pub fn cell_of(v: u64) -> usize
 }
 
 pub fn cell_at(work: &[u8], r: usize) -> u64
-    requires { ⌜ (memoryLength ≤ length (now work)) × (r < 256) ⌝ }
+    requires { ⌜ (memoryLength ≤ length (now work)) × (r < cellPlaces) ⌝ }
     ensures { λ x. ⌜ x ≡ cellAt (memoryOf (now (work .entry))) r ⌝ }
 {
     word(work, CELLS + r)
@@ -36,7 +36,7 @@ pub fn cell_note(w: u64) -> u64
 }
 
 pub fn put_cell(work: &mut [u8], r: usize, v: u64, note: u64)
-    requires { ⌜ (memoryLength ≤ length (now work)) × (r < 256) × (note < 65536) ⌝ }
+    requires { ⌜ (memoryLength ≤ length (now work)) × (r < cellPlaces) × (note < 65536) ⌝ }
     ensures { λ _. ⌜ Holds (putCell r v note (memoryOf (now (work .entry)))) (now (work .entry)) (now (work .exit)) ⌝ }
 {
     put_word(work, CELLS + r, above(v, note));
@@ -52,7 +52,7 @@ pub fn read_cell(work: &[u8], v: u64) -> u64
 
 // It holds another value.
 pub fn store_cell(work: &mut [u8], r: usize, v: u64)
-    requires { ⌜ (memoryLength ≤ length (now work)) × (r < 256) ⌝ }
+    requires { ⌜ (memoryLength ≤ length (now work)) × (r < cellPlaces) ⌝ }
     ensures { λ _. ⌜ Holds (putCell r v (cellNote (cellAt (memoryOf (now (work .entry))) r)) (memoryOf (now (work .entry)))) (now (work .entry)) (now (work .exit)) ⌝ }
 {
     let note = cell_note(cell_at(work, r));

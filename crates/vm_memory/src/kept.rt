@@ -3,8 +3,10 @@
 ghost use mathlib.Core.Path.{_≡_};
 ghost use Prim.Native.Nat.{_<_, _≤_};
 ghost use lib.ListN.{length};
+ghost use Rattle.calculus.specs.Limits.{labelLimit};
 ghost use Rattle.base_bytes.specs.Memory.{memoryLength};
 ghost use Rattle.vm_machine.specs.Memory.{keptAt, putKept, entryLabel, isKept, topEntry, restOf};
+ghost use Rattle.vm_machine.specs.Registers.{frameSlots};
 ghost use Rattle.vm_memory.specs.View.{memoryOf, Holds};
 use crate::labels::LABELS;
 use crate::pieces::piece_first;
@@ -19,14 +21,14 @@ use vm_words::value::TAG;
 use vm_words::value::TAGS;
 
 pub fn kept_at(work: &[u8], i: usize) -> u64
-    requires { ⌜ (memoryLength ≤ length (now work)) × (i < 513) ⌝ }
+    requires { ⌜ (memoryLength ≤ length (now work)) × (i < frameSlots) ⌝ }
     ensures { λ r. ⌜ r ≡ keptAt (memoryOf (now (work .entry))) i ⌝ }
 {
     word(work, KEPT + i)
 }
 
 pub fn put_kept(work: &mut [u8], i: usize, v: u64, label: u64)
-    requires { ⌜ (memoryLength ≤ length (now work)) × (i < 513) × (label < 64) ⌝ }
+    requires { ⌜ (memoryLength ≤ length (now work)) × (i < frameSlots) × (label < labelLimit) ⌝ }
     ensures { λ _. ⌜ Holds (putKept i v label (memoryOf (now (work .entry)))) (now (work .entry)) (now (work .exit)) ⌝ }
 {
     put_word(work, KEPT + i, above(v, label));
@@ -34,7 +36,7 @@ pub fn put_kept(work: &mut [u8], i: usize, v: u64, label: u64)
 
 // The label of a kept value, from its word.
 pub fn entry_label(w: u64) -> u64
-    ensures { λ r. ⌜ (r ≡ entryLabel w) × (r < 64) ⌝ }
+    ensures { λ r. ⌜ (r ≡ entryLabel w) × (r < labelLimit) ⌝ }
 {
     w % LABELS
 }

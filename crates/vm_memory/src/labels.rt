@@ -1,30 +1,32 @@
-// Sets of labels, a bit each; and labels as digits in base 64 under a leading 1, the latest lowest.
+// Sets of labels, a bit each; and labels as digits, in the base of how many labels there are, under a leading 1, the latest lowest.
+use calculus::LABEL_LIMIT;
 ghost use mathlib.Core.Path.{_≡_};
 ghost use Prim.Native.Nat.{_<_};
+ghost use Rattle.calculus.specs.Limits.{labelLimit};
 ghost use Rattle.vm_machine.specs.Memory.{hasBit, withBit, withDigit, digitCount, labelSet};
 
 // There are so many labels: they are numbers below this, and digits in this base.
-pub const LABELS: u64 = 64;
+pub const LABELS: u64 = LABEL_LIMIT as u64;
 
-// What stays of the digits where one more is put below them is less than this: 64 times it fits a word.
+// What stays of the digits where one more is put below them is less than this, 2^58: 64 times it fits a word.
 const SHIFTED: u64 = 288230376151711744;
 
 pub fn has_bit(s: u64, l: u64) -> bool
-    requires { ⌜ l < 64 ⌝ }
+    requires { ⌜ l < labelLimit ⌝ }
     ensures { λ r. ⌜ r ≡ hasBit s l ⌝ }
 {
     (s >> l) % 2 == 1
 }
 
 fn with_bit(s: u64, l: u64) -> u64
-    requires { ⌜ l < 64 ⌝ }
+    requires { ⌜ l < labelLimit ⌝ }
     ensures { λ r. ⌜ r ≡ withBit s l ⌝ }
 {
     s | (1 << l)
 }
 
 pub fn with_digit(d: u64, l: u64) -> u64
-    requires { ⌜ l < 64 ⌝ }
+    requires { ⌜ l < labelLimit ⌝ }
     ensures { λ r. ⌜ r ≡ withDigit d l ⌝ }
 {
     LABELS * (d % SHIFTED) + l

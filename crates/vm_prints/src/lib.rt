@@ -6,12 +6,12 @@ ghost use Rattle.vm_machine.specs.Registers.{fuelBias};
 ghost use Rattle.vm_machine.specs.Fits.{Fits};
 ghost use Rattle.vm_machine.specs.Reduce.{reducePrint};
 ghost use Rattle.vm_registers.specs.Phases.{stateOf, Represents};
+use calculus::LOG_RECORD_LENGTH;
+use calculus::outcomes;
 use read_records::numbers::DomainNo;
 use report::fixed::put_log;
 use vm_machine::Regs;
 use vm_registers::ends::given;
-use vm_registers::limits::LOG_RECORD;
-use vm_registers::outcomes;
 use vm_registers::regs::halt;
 use vm_words::code::domain_of;
 use vm_words::value::body;
@@ -22,12 +22,12 @@ pub fn reduce_print(work: &mut [u8], log: &mut [u8], r: Regs, w: u64, x: u64) ->
     ensures { λ q. ⌜ Represents (reducePrint w x (stateOf (now (work .entry)) (now (log .entry)) r)) (now (work .entry)) (now (work .exit)) (now (log .exit)) q ⌝ }
 {
     let at = r.logged;
-    if log.len() - at < LOG_RECORD {
+    if log.len() - at < LOG_RECORD_LENGTH {
         return halt(r, outcomes::LOG);
     }
     let dom: DomainNo = domain_of(w);
     put_log(log, at, dom, body(x) as u32);
     let mut q = given(work, r, w, 0);
-    q.logged = at + LOG_RECORD;
+    q.logged = at + LOG_RECORD_LENGTH;
     q
 }

@@ -10,7 +10,7 @@ use Rattle.calculus.specs.declared.Outcome.{Outcome}
 use Rattle.calculus.specs.Limits.{bindingLimit, cellLimit, labelLimit, adviceLimit}
 use Rattle.calculus.specs.Report.{outcomeNumber}
 use Rattle.vm_code.specs.Values.{value, cellTag, labelTag, adviceTag, bodyOf, unitValue}
-use Rattle.vm_code.specs.Words.{fieldB, fieldC, isInstruction}
+use Rattle.vm_code.specs.Words.{fieldB, fieldC, isInstruction, targetCount}
 use Rattle.vm_pools.specs.declared.Pools.{Pools}
 use Rattle.vm_machine.specs.declared.Regs.{Regs}
 use Rattle.vm_machine.specs.Registers.{fuelBias, setFuel, setPools, setLabels, setInstalled, haltWith, halt, stepped}
@@ -51,16 +51,16 @@ bound-as a b n m y e d i j h =
 
 -- A call of the function x with the value y; g is the target of its body, and e its environment. The half h has room or not (card 9).
 module _ (C : Program) (a b c : List ℕ) (r q : Regs) (w x y : ℕ) (h t : Bool) (is : h ≡ quotaOf w) (test : t ≡ hasCapacity bindingLimit h 1 (r .pools .bindings)) where
-  pub apply-made : fuelBias < r .fuel → (n g e : ℕ) (u : Regs) (s : Pools) → t ≡ true → n ≡ whole (r .pools .bindings) → g ≡ bodyOf x % 2048 → e ≡ closureEnv x → u ≡ r → s ≡ chargeBindings h 1 (r .pools) → Holds (putBinding n (binding y 0 e) (memoryOf a)) a b → Phase (called C w g n) b c (counted s (r .fuel - 1) u) q → Phase (reduceApply C w x y) a c r q
+  pub apply-made : fuelBias < r .fuel → (n g e : ℕ) (u : Regs) (s : Pools) → t ≡ true → n ≡ whole (r .pools .bindings) → g ≡ bodyOf x % targetCount → e ≡ closureEnv x → u ≡ r → s ≡ chargeBindings h 1 (r .pools) → Holds (putBinding n (binding y 0 e) (memoryOf a)) a b → Phase (called C w g n) b c (counted s (r .fuel - 1) u) q → Phase (reduceApply C w x y) a c r q
   apply-made left n g e u s k d f i z j m p =
       let N : ℕ = whole (r .pools .bindings) in
       let R : Regs = counted (chargeBindings (quotaOf w) 1 (r .pools)) (r .fuel - 1) r in
       let M : Memory = putBinding N (binding y 0 (closureEnv x)) (memoryOf a) in
       let charged : counted s (r .fuel - 1) u ≡ R = ap (λ (v : Pools). counted v (r .fuel - 1) u) (j ∙ ap (λ (i : Bool). chargeBindings i 1 (r .pools)) is) ∙ ap (counted (chargeBindings (quotaOf w) 1 (r .pools)) (r .fuel - 1)) z in
       let p₁ : Phase (called C w g n) b c R q = subst (λ (v : Regs). Phase (called C w g n) b c v q) charged p in
-      let p₂ : Phase (called C w (bodyOf x % 2048) N) b c R q = subst (λ (v : ℕ). Phase (called C w (bodyOf x % 2048) v) b c R q) d (subst (λ (v : ℕ). Phase (called C w v n) b c R q) f p₁) in
+      let p₂ : Phase (called C w (bodyOf x % targetCount) N) b c R q = subst (λ (v : ℕ). Phase (called C w (bodyOf x % targetCount) v) b c R q) d (subst (λ (v : ℕ). Phase (called C w v n) b c R q) f p₁) in
       quota-made bindingLimit 1 (λ p. p .bindings) bindingsOut w r h t is test _ a q c left k
-      (record { represents = λ log. stored-then (called C w (bodyOf x % 2048) N) M a b c R q (bound-as a b n N y e (closureEnv x) d i m) p₂ .represents log })
+      (record { represents = λ log. stored-then (called C w (bodyOf x % targetCount) N) M a b c R q (bound-as a b n N y e (closureEnv x) d i m) p₂ .represents log })
 
   pub no-apply-made : (o : ℕ) → t ≡ false → o ≡ outcomeNumber (bindingsOut h) → q ≡ haltWith o (r .fuel) r → Phase (reduceApply C w x y) a a r q
   no-apply-made = quota-full bindingLimit 1 (λ p. p .bindings) bindingsOut w r h t is test _ a q

@@ -5,22 +5,22 @@ ghost use Prim.Native.Nat.{ℕ, _+_, _%_, _≤_, _<_};
 ghost use lib.ListN.{length};
 ghost use Rattle.base_bytes.specs.Memory.{memoryLength};
 ghost use Rattle.vm_code.specs.Values.{bodyOf};
-ghost use Rattle.vm_code.specs.Words.{depthOf};
-ghost use Rattle.vm_machine.specs.Memory.{binding, putBinding, closureEnv, pieceFirst, pieceSecond};
+ghost use Rattle.vm_code.specs.Words.{depthOf, termCount, targetCount};
+ghost use Rattle.vm_machine.specs.Memory.{binding, putBinding, closureEnv, pieceFirst, pieceSecond, bindingPlaces, piecePlaces, noBinding};
 ghost use Rattle.vm_machine.specs.Registers.{fuelBias};
 ghost use Rattle.vm_machine.specs.Fits.{Fits};
 ghost use Rattle.vm_machine.specs.Reduce.{reduceApply, reduceSplit};
 ghost use Rattle.vm_machine.specs.Turn.{callBody};
 ghost use Rattle.vm_memory.specs.View.{memoryOf, Holds};
 ghost use Rattle.vm_registers.specs.Phases.{Phase};
+use calculus::BINDING_LIMIT;
+use calculus::outcomes;
 use vm_machine::Regs;
 use vm_memory::bindings::bind;
 use vm_memory::pieces::piece_first;
 use vm_memory::pieces::piece_of;
 use vm_memory::pieces::piece_second;
 use vm_registers::ends::called;
-use vm_registers::limits::BINDINGS;
-use vm_registers::outcomes;
 use vm_registers::pools::bindings_out;
 use vm_registers::pools::has_capacity;
 use vm_registers::pools::quota_of;
@@ -41,20 +41,20 @@ fn closure_env(f: u64) -> usize
 }
 
 fn function_target(f: u64) -> usize
-    ensures { λ r. ⌜ r ≡ bodyOf f % 2048 ⌝ }
+    ensures { λ r. ⌜ r ≡ bodyOf f % targetCount ⌝ }
 {
     (body(f) % TARGETS) as usize
 }
 
 // The function x is applied to the value y.
 pub fn reduce_apply(code: &[u64], work: &mut [u8], r: Regs, w: u64, x: u64, y: u64) -> Regs
-    requires { ⌜ (1024 ≤ length (now code)) × (memoryLength ≤ length (now work)) × (fuelBias < r .fuel) × (depthOf w ≤ r .frames) × ((size : ℕ) × Fits size r) ⌝ }
+    requires { ⌜ (termCount ≤ length (now code)) × (memoryLength ≤ length (now work)) × (fuelBias < r .fuel) × (depthOf w ≤ r .frames) × ((size : ℕ) × Fits size r) ⌝ }
     ensures { λ q. ⌜ ((image : List ℕ) → Phase (reduceApply (record { code = now (code .entry); image = image }) w x y) (now (work .entry)) (now (work .exit)) r q) ⌝ }
 {
     let h = quota_of(w);
     let p = r.pools;
     let b = p.bindings;
-    if has_capacity(b, h, 1, BINDINGS) {
+    if has_capacity(b, h, 1, BINDING_LIMIT) {
         let n = b.whole();
         bind(work, n, y, 0, closure_env(x));
         let mut s = same(r);
@@ -67,13 +67,13 @@ pub fn reduce_apply(code: &[u64], work: &mut [u8], r: Regs, w: u64, x: u64, y: u
 
 // The body at the target g is called on the object x, which it binds (card 3). Its room is looked at before the budget (card 5).
 pub fn call_body(code: &[u64], work: &mut [u8], r: Regs, w: u64, x: u64, g: usize) -> Regs
-    requires { ⌜ (1024 ≤ length (now code)) × (memoryLength ≤ length (now work)) × (depthOf w ≤ r .frames) × ((size : ℕ) × Fits size r) ⌝ }
+    requires { ⌜ (termCount ≤ length (now code)) × (memoryLength ≤ length (now work)) × (depthOf w ≤ r .frames) × ((size : ℕ) × Fits size r) ⌝ }
     ensures { λ q. ⌜ ((image : List ℕ) → Phase (callBody (record { code = now (code .entry); image = image }) w x g) (now (work .entry)) (now (work .exit)) r q) ⌝ }
 {
     let h = quota_of(w);
     let p = r.pools;
     let b = p.bindings;
-    if has_capacity(b, h, 1, BINDINGS) {
+    if has_capacity(b, h, 1, BINDING_LIMIT) {
         if r.fuel <= FUEL_BIAS {
             return halt(r, outcomes::SPENT);
         }
@@ -89,7 +89,7 @@ pub fn call_body(code: &[u64], work: &mut [u8], r: Regs, w: u64, x: u64, g: usiz
 
 // Bindings i and i + 1 of the two parts of pair p, the first outside the second.
 fn bind_parts(work: &mut [u8], p: usize, i: usize, env: usize)
-    requires { ⌜ (memoryLength ≤ length (now work)) × (p < 512) × (i < 2047) × (env < 2048) ⌝ }
+    requires { ⌜ (memoryLength ≤ length (now work)) × (p < piecePlaces) × (i < noBinding) × (env < bindingPlaces) ⌝ }
     ensures { λ _. ⌜ Holds (putBinding (i + 1) (binding (pieceSecond (memoryOf (now (work .entry))) p) 0 i) (putBinding i (binding (pieceFirst (memoryOf (now (work .entry))) p) 0 env) (memoryOf (now (work .entry))))) (now (work .entry)) (now (work .exit)) ⌝ }
 {
     let a = piece_first(work, p);
@@ -100,13 +100,13 @@ fn bind_parts(work: &mut [u8], p: usize, i: usize, env: usize)
 
 // The parts of the pair x are bound.
 pub fn reduce_split(code: &[u64], work: &mut [u8], r: Regs, w: u64, x: u64) -> Regs
-    requires { ⌜ (1024 ≤ length (now code)) × (memoryLength ≤ length (now work)) × (fuelBias < r .fuel) × (depthOf w ≤ r .frames) × ((size : ℕ) × Fits size r) ⌝ }
+    requires { ⌜ (termCount ≤ length (now code)) × (memoryLength ≤ length (now work)) × (fuelBias < r .fuel) × (depthOf w ≤ r .frames) × ((size : ℕ) × Fits size r) ⌝ }
     ensures { λ q. ⌜ ((image : List ℕ) → Phase (reduceSplit (record { code = now (code .entry); image = image }) w x) (now (work .entry)) (now (work .exit)) r q) ⌝ }
 {
     let h = quota_of(w);
     let p = r.pools;
     let b = p.bindings;
-    if has_capacity(b, h, 2, BINDINGS) {
+    if has_capacity(b, h, 2, BINDING_LIMIT) {
         let n = b.whole();
         bind_parts(work, piece_of(x), n, r.env);
         let mut q = called(code, work, r, w, field_b(w), n + 1);

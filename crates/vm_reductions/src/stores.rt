@@ -7,6 +7,10 @@ ghost use Rattle.vm_machine.specs.Registers.{fuelBias};
 ghost use Rattle.vm_machine.specs.Fits.{Fits};
 ghost use Rattle.vm_machine.specs.Reduce.{reduceStore, reduceCell, reduceLabel, reduceAdvice, reduceInstall, reduceAbort};
 ghost use Rattle.vm_registers.specs.Phases.{Phase};
+use calculus::ADVICE_LIMIT;
+use calculus::CELL_LIMIT;
+use calculus::LABEL_LIMIT;
+use calculus::outcomes;
 use read_records::numbers::DomainNo;
 use vm_machine::Regs;
 use vm_memory::cells::cell_of;
@@ -17,8 +21,6 @@ use vm_memory::pieces::piece_of;
 use vm_memory::pieces::piece_second;
 use vm_memory::pieces::put_installed;
 use vm_registers::ends::given;
-use vm_registers::limits;
-use vm_registers::outcomes;
 use vm_registers::pieces::new_piece;
 use vm_registers::pools::cells_out;
 use vm_registers::pools::has_capacity;
@@ -46,7 +48,7 @@ pub fn reduce_cell(work: &mut [u8], r: Regs, w: u64, x: u64) -> Regs
     let h = quota_of(w);
     let p = r.pools;
     let c = p.cells;
-    if has_capacity(c, h, 1, limits::CELLS) {
+    if has_capacity(c, h, 1, CELL_LIMIT) {
         let n = c.whole();
         put_cell(work, n, x, field_b(w) as u64);
         let mut q = given(work, r, w, value::value(value::CELL, n as u64));
@@ -62,7 +64,7 @@ pub fn reduce_label(work: &mut [u8], r: Regs, w: u64) -> Regs
     ensures { λ q. ⌜ Phase (reduceLabel w) (now (work .entry)) (now (work .exit)) r q ⌝ }
 {
     let n = r.labels;
-    if n < limits::LABELS {
+    if n < LABEL_LIMIT {
         let mut q = given(work, r, w, value::value(value::LABEL, n as u64));
         q.labels = n + 1;
         return q;
@@ -87,7 +89,7 @@ pub fn reduce_install(work: &mut [u8], r: Regs, w: u64, x: u64) -> Regs
     ensures { λ q. ⌜ Phase (reduceInstall w x) (now (work .entry)) (now (work .exit)) r q ⌝ }
 {
     let n = r.installed;
-    if n < limits::ADVICE {
+    if n < ADVICE_LIMIT {
         let p = piece_of(x);
         let s = piece_second(work, p);
         put_installed(work, n, p);

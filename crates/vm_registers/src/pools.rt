@@ -5,7 +5,7 @@ ghost use lib.Dec.{eqb};
 ghost use Rattle.calculus.specs.Report.{outcomeNumber};
 ghost use Rattle.vm_pools.specs.Pools.{whole, poolBound, hasCapacity, bindingsOut, cellsOut, piecesOut};
 ghost use Rattle.vm_machine.specs.Quotas.{quotaOf};
-use crate::outcomes;
+use calculus::outcomes;
 use read_records::numbers::DomainNo;
 use read_records::numbers::MAINLINE;
 use vm_pools::Pool;

@@ -12,6 +12,7 @@ use lib.Dec.{leb}
 use borrow.Author.Tests.{le-leb, lt-leb}
 use Rattle.calculus.specs.Combinators.{choose}
 use Rattle.calculus.specs.Report.{CellReport}
+use Rattle.image.specs.Limits.{domainLimit}
 use Rattle.base_bytes.specs.Bytes.{over}
 use Rattle.base_bytes.proofs.Over.{onward, over-nothing}
 use Rattle.report.specs.Records.{recordsBytes}
@@ -29,26 +30,26 @@ pub cell-written : (xs : List ℕ) (o : ℕ) {c d : CellReport} {r : ℕ} {ys : 
     → (r ≡ o + length (cellBytes d)) × (ys ≡ over o (cellBytes d) xs)
 cell-written xs o e p = (p .0 ∙ ap (λ c. o + length (cellBytes c)) e, p .1 ∙ ap (λ c. over o (cellBytes c) xs) e)
 
-module _ (M : Memory) (i w note d : ℕ) (a : w ≡ cellAt M i) (b : note ≡ cellNote w) (e : d ≡ note % 16) where
+module _ (M : Memory) (i w note d : ℕ) (a : w ≡ cellAt M i) (b : note ≡ cellNote w) (e : d ≡ note % domainLimit) where
   is-note : note ≡ cellNote (cellAt M i)
   is-note = b ∙ ap cellNote a
 
-  is-domain : d ≡ cellNote (cellAt M i) % 16
-  is-domain = e ∙ ap (λ n. n % 16) is-note
+  is-domain : d ≡ cellNote (cellAt M i) % domainLimit
+  is-domain = e ∙ ap (λ n. n % domainLimit) is-note
 
   abbrev held-if : Bool → CellReport
-  held-if q = record { dom = cellNote (cellAt M i) % 16; held = choose q (some (plainLeavesIn M (cellAt M i))) none }
+  held-if q = record { dom = cellNote (cellAt M i) % domainLimit; held = choose q (some (plainLeavesIn M (cellAt M i))) none }
 
   -- Cell i, by its note.
-  pub other-cell : note < 16 → record { dom = d; held = none } ≡ cellIn M i
+  pub other-cell : note < domainLimit → record { dom = d; held = none } ≡ cellIn M i
   other-cell h =
-      ap (λ n. record { dom = n; held = none }) is-domain ∙ ap held-if (sym (ap (leb 16) (sym is-note) ∙ lt-leb 16 note h))
+      ap (λ n. record { dom = n; held = none }) is-domain ∙ ap held-if (sym (ap (leb domainLimit) (sym is-note) ∙ lt-leb domainLimit note h))
 
-  pub plain-cell : (g : Gathered) → 16 ≤ note → g ≡ gathered (plainLeavesIn M w)
+  pub plain-cell : (g : Gathered) → domainLimit ≤ note → g ≡ gathered (plainLeavesIn M w)
       → record { dom = d; held = some (leavesIn (g .count) (g .slots)) } ≡ cellIn M i
   plain-cell g h f =
       let l = gathered-leaves (plainLeavesIn M w) f (plain-few M w) ∙ ap (plainLeavesIn M) a in
-      ap₂ {C = CellReport} (λ n x. record { dom = n; held = some x }) is-domain l ∙ ap held-if (sym (ap (leb 16) (sym is-note) ∙ le-leb 16 note h))
+      ap₂ {C = CellReport} (λ n x. record { dom = n; held = some x }) is-domain l ∙ ap held-if (sym (ap (leb domainLimit) (sym is-note) ∙ le-leb domainLimit note h))
 
 module _ (M : Memory) where
   few-held : (i : ℕ) (b : Bool) → FewLeaves (choose b (some (plainLeavesIn M (cellAt M i))) none)
@@ -56,7 +57,7 @@ module _ (M : Memory) where
   few-held i false = tt
 
   cell-short : (i : ℕ) → length (cellBytes (cellIn M i)) ≤ 70
-  cell-short i = held-short (cellIn M i .dom) (cellIn M i .held) (few-held i (leb 16 (cellNote (cellAt M i))))
+  cell-short i = held-short (cellIn M i .dom) (cellIn M i .held) (few-held i (leb domainLimit (cellNote (cellAt M i))))
 
   cells-last : (n i : ℕ) → cellsFrom M (suc n) i ≡ cellsFrom M n i ++ (cellIn M (n + i) ∷ [])
   unfolding cellsFrom

@@ -10,6 +10,7 @@ use Rattle.calculus.specs.declared.Outcome.{Outcome}
 use Rattle.calculus.specs.declared.Leaf.{Leaf}
 use Rattle.calculus.specs.Combinators.{choose}
 use Rattle.calculus.specs.Report.{outcomeNumber, CellReport}
+use Rattle.image.specs.Limits.{reportLength}
 use Rattle.verdict.specs.declared.Verdict.{Verdict}
 use Rattle.base_bytes.specs.Bytes.{bytesOf, over}
 use Rattle.base_bytes.proofs.Over.{onward}
@@ -18,7 +19,7 @@ use Rattle.report.specs.Written.{leavesIn, leavesBytes, cellsBytes, headBytes, 
 use Rattle.report.proofs.Lengths.{leaves-short, length-parts}
 use Rattle.vm_machine.specs.declared.Regs.{Regs}
 use Rattle.vm_pools.specs.Pools.{whole}
-use Rattle.vm_machine.specs.Memory.{Memory}
+use Rattle.vm_machine.specs.Memory.{Memory, cellPlaces}
 use Rattle.call_spec.specs.declared.Answer.{Answer}
 use Rattle.vm_results.specs.declared.Gathered.{Gathered}
 use Rattle.vm_results.specs.Gathered.{gathered}
@@ -54,7 +55,7 @@ module _ (M : Memory) (r : Regs) (g : Gathered) (e : g ≡ gathered (resultIn M 
   -- The report that the parts make, and its answer.
   pub reported : (budget : ℕ) (xs : List ℕ) (o : Outcome) (j end : ℕ) {ys zs ws : List ℕ} → o ≡ haltedWith r → ys ≡ over 0 (headBytes (outcomeNumber o) (budget - r .rest)) xs
       → (j ≡ 10 + length (leavesBytes (leavesIn (g .count) (g .slots)))) × (zs ≡ over 10 (leavesBytes (leavesIn (g .count) (g .slots))) ys)
-      → (end ≡ j + length (cellsBytes (cellsIn M r))) × (ws ≡ over j (cellsBytes (cellsIn M r)) zs) × (end ≤ j + 70 * whole (r .pools .cells)) → whole (r .pools .cells) ≤ 256 → 17994 ≤ length xs
+      → (end ≡ j + length (cellsBytes (cellsIn M r))) × (ws ≡ over j (cellsBytes (cellsIn M r)) zs) × (end ≤ j + 70 * whole (r .pools .cells)) → whole (r .pools .cells) ≤ cellPlaces → reportLength ≤ length xs
       → _≡_ {A = Answer} (record { verdict = Verdict.Accepted; ending = Ending.Ended o; steps = budget - r .rest; log = r .logged; report = end; count = g .count; leaves = g .slots }) (answerIn M r budget)
       × (ws ≡ over 0 (reportIn M r budget) xs)
   reported budget xs o j end {ys} h a b d n k =

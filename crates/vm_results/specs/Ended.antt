@@ -10,6 +10,7 @@ use Rattle.calculus.specs.declared.Leaf.{Leaf}
 use Rattle.calculus.specs.Combinators.{choose}
 use Rattle.calculus.specs.Limits.{leafLimit}
 use Rattle.calculus.specs.Report.{outcomeNumber, CellReport}
+use Rattle.image.specs.Limits.{domainLimit}
 use Rattle.verdict.specs.declared.Verdict.{Verdict}
 use Rattle.report.specs.declared.Ending.{Ending}
 use Rattle.report.specs.Written.{reportBytes}
@@ -51,11 +52,11 @@ plainLeavesIn M w = take leafLimit (leavesOf M leafLimit w)
 abbrev pub resultIn : Memory → Regs → List Leaf
 resultIn M r = choose (isDone (r .outcome)) (plainLeavesIn M (r .acc)) []
 
--- Cell i. Its note is its domain, and 16 more where it is plain.
+-- Cell i. Its note is its domain, and as many more as there are domains where it is plain.
 abbrev pub cellIn : Memory → ℕ → CellReport
 cellIn M i =
     let w : ℕ = cellAt M i in
-    record { dom = cellNote w % 16; held = choose (leb 16 (cellNote w)) (some (plainLeavesIn M w)) none }
+    record { dom = cellNote w % domainLimit; held = choose (leb domainLimit (cellNote w)) (some (plainLeavesIn M w)) none }
 
 -- n cells from i on.
 unfoldable pub cellsFrom : Memory → ℕ → ℕ → List CellReport

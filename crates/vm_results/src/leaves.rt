@@ -1,11 +1,15 @@
 // The leaves of a value in the tables.
 use crate::Gathered;
+use calculus::LEAF_LIMIT;
 use calculus::Leaf;
 use report::Slot;
 use vm_memory::pieces::piece_first;
 use vm_memory::pieces::piece_of;
 use vm_memory::pieces::piece_second;
+use vm_words::value::NUMBER;
 use vm_words::value::PAIR;
+use vm_words::value::TRUTH;
+use vm_words::value::UNIT;
 use vm_words::value::body;
 use vm_words::value::tag;
 ghost use mathlib.Core.Path.{_≡_};
@@ -18,14 +22,11 @@ ghost use Rattle.vm_memory.specs.View.{memoryOf};
 ghost use Rattle.vm_results.specs.Gathered.{withLeaf, withLeaves, gathered};
 ghost use Rattle.vm_results.specs.Ended.{plainLeavesIn};
 
-// The highest tag of a leaf.
-const NUMBER: u64 = 2;
-
 pub fn no_leaves() -> Gathered
     ensures { λ r. ⌜ r ≡ gathered [] ⌝ }
 {
     let unit = Slot { leaf: Leaf::Unit };
-    let slots = [unit; 8];
+    let slots = [unit; LEAF_LIMIT];
     Gathered {
         count: 0,
         slots: slots,
@@ -37,7 +38,7 @@ fn with_leaf(held: Gathered, leaf: Leaf) -> Gathered
     ensures { λ r. ⌜ r ≡ withLeaf held leaf ⌝ }
 {
     let at = held.count;
-    if 8 <= at {
+    if LEAF_LIMIT <= at {
         return held;
     }
     let mut next = held;
@@ -51,13 +52,13 @@ fn leaf_of(w: u64) -> Leaf
     ensures { λ r. ⌜ r ≡ leafOf w ⌝ }
 {
     match tag(w) {
-        0 => Leaf::Unit,
-        1 => Leaf::Truth(body(w) != 0),
+        UNIT => Leaf::Unit,
+        TRUTH => Leaf::Truth(body(w) != 0),
         _ => Leaf::Number(body(w) as u32),
     }
 }
 
-// With the leaf of what is no pair, if it is one.
+// With the leaf of what is no pair, if it is one: the highest tag of a leaf is a number's.
 fn with_word(held: Gathered, w: u64) -> Gathered
     ensures { λ r. ⌜ r ≡ withLeaves held (oneLeaf w) ⌝ }
 {
@@ -90,7 +91,7 @@ fn one_leaf(leaf: Leaf) -> Gathered
     ensures { λ r. ⌜ r ≡ gathered (leaf ∷ []) ⌝ }
 {
     let unit = Slot { leaf: Leaf::Unit };
-    let mut slots = [unit; 8];
+    let mut slots = [unit; LEAF_LIMIT];
     slots[0] = Slot { leaf: leaf };
     Gathered {
         count: 1,

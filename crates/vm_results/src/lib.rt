@@ -3,10 +3,11 @@ pub mod cells;
 pub mod leaves;
 pub mod reports;
 
+use calculus::LEAF_LIMIT;
 use report::Slot;
 
 // Leaves in eight slots; those that are left over hold unit.
 pub struct Gathered {
     pub count: usize,
-    pub slots: [Slot; 8],
+    pub slots: [Slot; LEAF_LIMIT],
 }

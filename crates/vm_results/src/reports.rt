@@ -4,6 +4,7 @@ use crate::cells::put_cells;
 use crate::leaves::no_leaves;
 use crate::leaves::plain_leaves;
 use calculus::Outcome;
+use calculus::outcomes;
 use call_spec::Answer;
 use report::Ending;
 use report::fixed::put_head;
@@ -18,36 +19,34 @@ ghost use Rattle.base_bytes.specs.Bytes.{over};
 ghost use Rattle.base_bytes.specs.Memory.{memoryLength};
 ghost use Rattle.vm_pools.specs.Pools.{whole};
 ghost use Rattle.vm_memory.specs.View.{memoryOf};
+ghost use Rattle.vm_machine.specs.Memory.{cellPlaces};
 ghost use Rattle.vm_results.specs.Gathered.{gathered};
 ghost use Rattle.vm_results.specs.Ended.{outcomeWith, resultIn, reportIn, answerIn};
-
-// The outcome's number of a machine that is done.
-const DONE: u32 = 0;
 
 // The outcome with a number.
 fn outcome_with(n: u32) -> Outcome
     ensures { λ r. ⌜ r ≡ outcomeWith n ⌝ }
 {
     match n {
-        0 => Outcome::Done,
-        1 => Outcome::Spent,
-        2 => Outcome::Aborted,
-        3 => Outcome::Frames,
-        4 => Outcome::Bindings,
-        5 => Outcome::Cells,
-        6 => Outcome::Labels,
-        7 => Outcome::Advice,
-        8 => Outcome::Pieces,
-        9 => Outcome::Log,
-        10 => Outcome::OtherBindings,
-        11 => Outcome::OtherCells,
+        outcomes::DONE => Outcome::Done,
+        outcomes::SPENT => Outcome::Spent,
+        outcomes::ABORTED => Outcome::Aborted,
+        outcomes::FRAMES => Outcome::Frames,
+        outcomes::BINDINGS => Outcome::Bindings,
+        outcomes::CELLS => Outcome::Cells,
+        outcomes::LABELS => Outcome::Labels,
+        outcomes::ADVICE => Outcome::Advice,
+        outcomes::PIECES => Outcome::Pieces,
+        outcomes::LOG => Outcome::Log,
+        outcomes::OTHER_BINDINGS => Outcome::OtherBindings,
+        outcomes::OTHER_CELLS => Outcome::OtherCells,
         _ => Outcome::OtherPieces,
     }
 }
 
 // The cells of both halves (card 9).
 fn cell_count(r: Regs) -> usize
-    requires { ⌜ whole (r .pools .cells) ≤ 256 ⌝ }
+    requires { ⌜ whole (r .pools .cells) ≤ cellPlaces ⌝ }
     ensures { λ n. ⌜ n ≡ whole (r .pools .cells) ⌝ }
 {
     let pools = r.pools;
@@ -58,7 +57,7 @@ fn cell_count(r: Regs) -> usize
 // The report of a machine that halted, and its answer, in whose slots the result's leaves stand: the report's leaves are
 // written from there.
 fn put_answer(report: &mut [u8], work: &[u8], r: Regs, budget: u32, g: Gathered) -> Answer
-    requires { ⌜ (memoryLength ≤ length (now work)) × (reportLength ≤ length (now report)) × (whole (r .pools .cells) ≤ 256) × (r .rest ≤ budget) × (g ≡ gathered (resultIn (memoryOf (now work)) r)) ⌝ }
+    requires { ⌜ (memoryLength ≤ length (now work)) × (reportLength ≤ length (now report)) × (whole (r .pools .cells) ≤ cellPlaces) × (r .rest ≤ budget) × (g ≡ gathered (resultIn (memoryOf (now work)) r)) ⌝ }
     ensures { λ a. ⌜ (a ≡ answerIn (memoryOf (now (work .entry))) r budget) × (now (report .exit) ≡ over 0 (reportIn (memoryOf (now (work .entry))) r budget) (now (report .entry))) ⌝ }
 {
     let outcome = outcome_with(r.outcome);
@@ -82,10 +81,10 @@ fn put_answer(report: &mut [u8], work: &[u8], r: Regs, budget: u32, g: Gathered)
 
 // A run that is done has the leaves of the value at hand; any other has none.
 pub fn put_report(report: &mut [u8], work: &[u8], r: Regs, budget: u32) -> Answer
-    requires { ⌜ (memoryLength ≤ length (now work)) × (reportLength ≤ length (now report)) × (whole (r .pools .cells) ≤ 256) × (r .rest ≤ budget) ⌝ }
+    requires { ⌜ (memoryLength ≤ length (now work)) × (reportLength ≤ length (now report)) × (whole (r .pools .cells) ≤ cellPlaces) × (r .rest ≤ budget) ⌝ }
     ensures { λ a. ⌜ (a ≡ answerIn (memoryOf (now (work .entry))) r budget) × (now (report .exit) ≡ over 0 (reportIn (memoryOf (now (work .entry))) r budget) (now (report .entry))) ⌝ }
 {
-    if r.outcome == DONE {
+    if r.outcome == outcomes::DONE {
         return put_answer(report, work, r, budget, plain_leaves(work, r.acc));
     }
     put_answer(report, work, r, budget, no_leaves())

@@ -5,6 +5,7 @@ use mathlib.Core.Path.{_≡_, sym, ap, subst, _∙_}
 use mathlib.Core.List.{List}
 use borrow.Author.Tests.{le-leb, lt-leb}
 use Rattle.calculus.specs.declared.Outcome.{Outcome}
+use Rattle.calculus.specs.Limits.{labelLimit}
 use Rattle.vm_code.specs.Values.{bodyOf}
 use Rattle.vm_code.specs.Words.{fieldC, depthOf, termCount}
 use Rattle.vm_machine.specs.declared.Regs.{Regs}
@@ -22,14 +23,14 @@ use Rattle.vm_registers.proofs.Ended.{left-made, unpaid-left}
 use Rattle.vm_stacks.specs.StacksAndKeeps.{keepStarted}
 
 -- The frame, then the value: d is the static depth, l the body of the label.
-pub kept-stored : (a b c : List ℕ) (r : Regs) (w x y d l : ℕ) → d ≡ depthOf w → l ≡ bodyOf x → Holds (putKeep (r .frames) (d + 1) (r .pc) (r .env) (memoryOf a)) a b → Holds (putKept (r .kept) y (l % 64) (memoryOf b)) b c
+pub kept-stored : (a b c : List ℕ) (r : Regs) (w x y d l : ℕ) → d ≡ depthOf w → l ≡ bodyOf x → Holds (putKeep (r .frames) (d + 1) (r .pc) (r .env) (memoryOf a)) a b → Holds (putKept (r .kept) y (l % labelLimit) (memoryOf b)) b c
     → Holds (keepStarted w x y r (memoryOf a)) a c
 kept-stored a b c r w x y d l e f g h =
     record {
       memory =
           h .memory
-          ∙ ap (putKept (r .kept) y (l % 64)) (g .memory ∙ ap (λ (i : ℕ). putKeep (r .frames) (i + 1) (r .pc) (r .env) (memoryOf a)) e)
-          ∙ ap (λ (i : ℕ). putKept (r .kept) y (i % 64) (putKeep (r .frames) (depthOf w + 1) (r .pc) (r .env) (memoryOf a))) f;
+          ∙ ap (putKept (r .kept) y (l % labelLimit)) (g .memory ∙ ap (λ (i : ℕ). putKeep (r .frames) (i + 1) (r .pc) (r .env) (memoryOf a)) e)
+          ∙ ap (λ (i : ℕ). putKept (r .kept) y (i % labelLimit) (putKeep (r .frames) (depthOf w + 1) (r .pc) (r .env) (memoryOf a))) f;
       rest = h .rest ∙ g .rest;
     }
 

@@ -5,7 +5,7 @@ ghost use Prim.Native.Nat.{ℕ, _+_, _-_, _≤_, _<_};
 ghost use lib.ListN.{length};
 ghost use Rattle.base_bytes.specs.Memory.{memoryLength};
 ghost use Rattle.vm_code.specs.Words.{depthOf, termCount};
-ghost use Rattle.vm_machine.specs.Registers.{setPc, setFrames, setKept};
+ghost use Rattle.vm_machine.specs.Registers.{setPc, setFrames, setKept, frameSlots};
 ghost use Rattle.vm_machine.specs.States.{judged, ifFuel};
 ghost use Rattle.vm_machine.specs.Fetch.{codeAt, atomValue};
 ghost use Rattle.vm_machine.specs.Reduce as reduce;
@@ -14,6 +14,7 @@ ghost use Rattle.vm_machine.specs.Fits.{Fits};
 ghost use Rattle.vm_memory.specs.View.{memoryOf, Holds};
 ghost use Rattle.vm_registers.specs.Phases.{Phase};
 ghost use Rattle.vm_stacks.specs.StacksAndKeeps.{keepStarted};
+use calculus::outcomes;
 use read_records::numbers::TermNo;
 use vm_machine::Regs;
 use vm_memory::kept::put_kept;
@@ -23,7 +24,6 @@ use vm_memory::slots::slot_env;
 use vm_memory::slots::slot_pc;
 use vm_registers::ends::atom_at;
 use vm_registers::ends::given;
-use vm_registers::outcomes;
 use vm_registers::regs::FUEL_BIAS;
 use vm_registers::regs::halt;
 use vm_registers::regs::same;
@@ -45,7 +45,7 @@ fn keep_value(work: &mut [u8], r: Regs, w: u64, x: u64, y: u64)
 
 // The body of the keep with word w is the atom at g: the keep is finished with its step.
 fn finish_keep(code: &[u64], work: &mut [u8], r: Regs, w: u64, g: usize) -> Regs
-    requires { ⌜ (1024 ≤ length (now code)) × (memoryLength ≤ length (now work)) × (g < termCount) × ((size : ℕ) × Fits size r) ⌝ }
+    requires { ⌜ (termCount ≤ length (now code)) × (memoryLength ≤ length (now work)) × (g < termCount) × ((size : ℕ) × Fits size r) ⌝ }
     ensures { λ q. ⌜ ((image : List ℕ) → Phase (λ S. ifFuel S (reduce.given w (atomValue (record { code = now (code .entry); image = image }) (S .memory) (S .regs .env) (codeAt (record { code = now (code .entry); image = image }) g)) S)) (now (work .entry)) (now (work .exit)) r q) ⌝ }
 {
     if r.fuel <= FUEL_BIAS {
@@ -69,7 +69,7 @@ fn begin_body(work: &mut [u8], r: Regs, w: u64, x: u64, y: u64, t: usize) -> Reg
 }
 
 fn start_keep(code: &[u64], work: &mut [u8], r: Regs, w: u64, x: u64, y: u64) -> Regs
-    requires { ⌜ (1024 ≤ length (now code)) × (memoryLength ≤ length (now work)) × (depthOf w < r .frames) × ((size : ℕ) × Fits size r) ⌝ }
+    requires { ⌜ (termCount ≤ length (now code)) × (memoryLength ≤ length (now work)) × (depthOf w < r .frames) × ((size : ℕ) × Fits size r) ⌝ }
     ensures { λ q. ⌜ ((image : List ℕ) → Phase (startKeep (record { code = now (code .entry); image = image }) w x y) (now (work .entry)) (now (work .exit)) r q) ⌝ }
 {
     let g = field_c(w);
@@ -80,7 +80,7 @@ fn start_keep(code: &[u64], work: &mut [u8], r: Regs, w: u64, x: u64, y: u64) ->
 }
 
 pub fn keep(code: &[u64], work: &mut [u8], r: Regs, w: u64, x: u64, y: u64) -> Regs
-    requires { ⌜ (1024 ≤ length (now code)) × (memoryLength ≤ length (now work)) × ((size : ℕ) × Fits size r) ⌝ }
+    requires { ⌜ (termCount ≤ length (now code)) × (memoryLength ≤ length (now work)) × ((size : ℕ) × Fits size r) ⌝ }
     ensures { λ q. ⌜ ((image : List ℕ) → Phase (λ S. judged w S (startKeep (record { code = now (code .entry); image = image }) w x y S)) (now (work .entry)) (now (work .exit)) r q) ⌝ }
 {
     if r.frames <= depth_of(w) {
@@ -97,7 +97,7 @@ fn one_less(n: usize) -> usize
 
 // The keep whose slot has the word f is finished: a step at its own place.
 pub fn leave_keep(code: &[u64], work: &mut [u8], r: Regs, f: u64) -> Regs
-    requires { ⌜ (1024 ≤ length (now code)) × (memoryLength ≤ length (now work)) × (r .frames ≤ 513) ⌝ }
+    requires { ⌜ (termCount ≤ length (now code)) × (memoryLength ≤ length (now work)) × (r .frames ≤ frameSlots) ⌝ }
     ensures { λ q. ⌜ ((image : List ℕ) → Phase (leaveKeep (record { code = now (code .entry); image = image }) f) (now (work .entry)) (now (work .exit)) r q) ⌝ }
 {
     if r.fuel <= FUEL_BIAS {

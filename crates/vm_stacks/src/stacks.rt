@@ -6,14 +6,15 @@ ghost use Rattle.vm_code.specs.Values.{bottomValue};
 ghost use Rattle.vm_machine.specs.States.{judged};
 ghost use Rattle.vm_machine.specs.Stacks.{stackPieces, reduceStack};
 ghost use Rattle.vm_machine.specs.Fits.{Fits};
+ghost use Rattle.vm_machine.specs.Memory.{piecePlaces};
 ghost use Rattle.vm_registers.specs.Phases.{Phase};
 ghost use Rattle.vm_stacks.specs.StacksAndKeeps.{stackedIn, Stacks};
+use calculus::PIECE_LIMIT;
+use calculus::outcomes;
 use vm_machine::Regs;
 use vm_memory::kept::kept_at;
 use vm_memory::pieces::put_piece;
 use vm_registers::ends::given;
-use vm_registers::limits::PIECES;
-use vm_registers::outcomes;
 use vm_registers::pools::has_capacity;
 use vm_registers::pools::pieces_out;
 use vm_registers::pools::quota_of;
@@ -25,7 +26,7 @@ use vm_words::value::kept;
 
 // The pieces of n values that are kept, the outermost first; p are there. The stack's value is that of the innermost.
 fn stack_pieces(work: &mut [u8], n: usize, p: usize) -> u64
-    requires { ⌜ (memoryLength ≤ length (now work)) × (p + n ≤ 512) ⌝ }
+    requires { ⌜ (memoryLength ≤ length (now work)) × (p + n ≤ piecePlaces) ⌝ }
     ensures { λ v. ⌜ Stacks (stackPieces n 0 p (stackedIn (now (work .entry)) bottomValue)) (now (work .entry)) (now (work .exit)) v ⌝ }
 {
     let mut v = bottom();
@@ -48,7 +49,7 @@ fn reduce_stack(work: &mut [u8], r: Regs, w: u64) -> Regs
     let h = quota_of(w);
     let p = r.pools;
     let x = p.pieces;
-    if !has_capacity(x, h, n, PIECES) {
+    if !has_capacity(x, h, n, PIECE_LIMIT) {
         return halt(r, pieces_out(h));
     }
     if r.fuel <= FUEL_BIAS {

@@ -1,26 +1,31 @@
 // Values as words: a tag of 4 bits and a body of 32 bits, 2^28 * tag + 2^32 * body; the low 28 bits say nothing, so a word
 // of a table that holds a value is one.
 use crate::terms::TERMS;
+use calculus::SIGN_BIT;
+use calculus::WORD_SIZE;
 use read_records::numbers::TermNo;
 ghost use mathlib.Core.Path.{_≡_};
 ghost use Prim.Native.Nat.{_%_, _<_};
 ghost use Rattle.calculus.specs.Numbers.{isLess, isEqual, frameByte};
 ghost use Rattle.calculus.specs.Numbers as numbers;
-ghost use Rattle.vm_code.specs.Values.{tagOf, bodyOf, numberValue, truthValue, functionValue, objectValue, bottomValue, keptValue};
+ghost use Rattle.calculus.specs.Limits.{wordSize};
+ghost use Rattle.vm_code.specs.Values.{tagOf, bodyOf, numberValue, truthValue, functionValue, objectValue, bottomValue, keptValue, tagCount};
 ghost use Rattle.vm_code.specs.Values as defined;
 ghost use Rattle.vm_code.specs.Words.{termCount};
 
 // Where the tag and the body begin, and how many tags there are.
 pub const TAG: u64 = 268435456;
 
-pub const BODY: u64 = 4294967296;
+pub const BODY: u64 = TAG * TAGS;
 
 pub const TAGS: u64 = 16;
 
 // The tags.
-const TRUTH: u64 = 1;
+pub const UNIT: u64 = 0;
 
-const NUMBER: u64 = 2;
+pub const TRUTH: u64 = 1;
+
+pub const NUMBER: u64 = 2;
 
 const FUNCTION: u64 = 3;
 
@@ -52,7 +57,7 @@ pub const ENVIRONMENT: u64 = 65536;
 pub const ENVIRONMENTS: u64 = 65536;
 
 pub fn value(tag: u64, body: u64) -> u64
-    requires { ⌜ (tag < 16) × (body < 4294967296) ⌝ }
+    requires { ⌜ (tag < tagCount) × (body < wordSize) ⌝ }
     ensures { λ r. ⌜ r ≡ defined.value tag body ⌝ }
 {
     TAG * tag + BODY * body
@@ -71,7 +76,7 @@ pub fn body(v: u64) -> u64
 }
 
 fn number(n: u64) -> u64
-    requires { ⌜ n < 4294967296 ⌝ }
+    requires { ⌜ n < wordSize ⌝ }
     ensures { λ r. ⌜ r ≡ numberValue n ⌝ }
 {
     TAG * NUMBER + BODY * n
@@ -119,21 +124,19 @@ pub fn kept(piece: usize) -> u64
     TAG * KEPT + BODY * (piece as u64)
 }
 
-// Numbers are patterns of 32 bits, of which there are so many. The ends of their range, and -1, as patterns.
-const PATTERNS: u64 = 4294967296;
+// The ends of the range of numbers, and -1, as patterns of 32 bits.
+const LOWEST: u64 = SIGN_BIT;
 
-const LOWEST: u64 = 2147483648;
+const HIGHEST: u64 = SIGN_BIT - 1;
 
-const HIGHEST: u64 = 2147483647;
-
-const MINUS_ONE: u64 = PATTERNS - 1;
+const MINUS_ONE: u64 = WORD_SIZE - 1;
 
 // Two patterns with their sign bits flipped that sum to this or more sum past the highest number.
-const TOO_HIGH: u64 = LOWEST + PATTERNS;
+const TOO_HIGH: u64 = LOWEST + WORD_SIZE;
 
 // A pattern with its sign bit flipped: signed numbers are ordered as these are.
 fn flipped(x: u64) -> u32
-    requires { ⌜ x < 4294967296 ⌝ }
+    requires { ⌜ x < wordSize ⌝ }
     ensures { λ r. ⌜ r ≡ numbers.flipped x ⌝ }
 {
     std::num::wrapping_add_u32(x as u32, LOWEST as u32)
@@ -141,36 +144,36 @@ fn flipped(x: u64) -> u32
 
 // Sums and differences stop at the ends of the range; inside it they are those of the patterns.
 fn sum(x: u64, y: u64) -> u64
-    requires { ⌜ (x < 4294967296) × (y < 4294967296) ⌝ }
-    ensures { λ r. ⌜ (r ≡ numbers.sum x y) × (r < 4294967296) ⌝ }
+    requires { ⌜ (x < wordSize) × (y < wordSize) ⌝ }
+    ensures { λ r. ⌜ (r ≡ numbers.sum x y) × (r < wordSize) ⌝ }
 {
     let s = flipped(x) as u64 + flipped(y) as u64;
     if s < LOWEST {
         return LOWEST;
     }
     if s < TOO_HIGH {
-        return (x + y) % PATTERNS;
+        return (x + y) % WORD_SIZE;
     }
     HIGHEST
 }
 
 fn difference(x: u64, y: u64) -> u64
-    requires { ⌜ (x < 4294967296) × (y < 4294967296) ⌝ }
-    ensures { λ r. ⌜ (r ≡ numbers.difference x y) × (r < 4294967296) ⌝ }
+    requires { ⌜ (x < wordSize) × (y < wordSize) ⌝ }
+    ensures { λ r. ⌜ (r ≡ numbers.difference x y) × (r < wordSize) ⌝ }
 {
     let s = flipped(x) as u64 + LOWEST;
     let t = flipped(y) as u64;
     if s < t {
         return LOWEST;
     }
-    if s - t < PATTERNS {
-        return (x + (PATTERNS - y)) % PATTERNS;
+    if s - t < WORD_SIZE {
+        return (x + (WORD_SIZE - y)) % WORD_SIZE;
     }
     HIGHEST
 }
 
 fn less(x: u64, y: u64) -> bool
-    requires { ⌜ (x < 4294967296) × (y < 4294967296) ⌝ }
+    requires { ⌜ (x < wordSize) × (y < wordSize) ⌝ }
     ensures { λ r. ⌜ r ≡ isLess x y ⌝ }
 {
     flipped(x) < flipped(y)
@@ -201,14 +204,14 @@ pub fn is_equal(x: u64, y: u64) -> u64
 }
 
 fn wide(b: u8) -> u64
-    ensures { λ r. ⌜ (r ≡ b) × (r < 4294967296) ⌝ }
+    ensures { λ r. ⌜ (r ≡ b) × (r < wordSize) ⌝ }
 {
     b as u64
 }
 
 // The byte of the frame at index n, or -1 where n is negative or not below the frame's length.
 fn byte_at(frame: &[u8], n: u64) -> u64
-    ensures { λ r. ⌜ (r ≡ frameByte (now (frame .entry)) n) × (r < 4294967296) ⌝ }
+    ensures { λ r. ⌜ (r ≡ frameByte (now (frame .entry)) n) × (r < wordSize) ⌝ }
 {
     if n < LOWEST {
         let at = n as usize;

@@ -8,9 +8,9 @@ use Rattle.image.specs.Limits.{workLength, reportLength}
 use Rattle.call_spec.specs.declared.Answer.{Answer}
 use Rattle.call_spec.specs.Calls.{called}
 use Rattle.listing.specs.Listing.{listing, listingBound}
-use Rattle.listing.specs.Puts.{PutsWithin}
+use Rattle.listing_lines.specs.Puts.{PutsWithin}
 use Rattle.listing.specs.Conformance.{conformanceFrame, conformanceLogLength, zeros, conformanceCall, conformanceListing, conformanceListingLength, listingOf, Listed}
-use Rattle.listing.proofs.Puts.{fits-whole}
+use Rattle.listing_lines.proofs.Puts.{fits-whole}
 
 module _ (b frame : List ℕ) (budget : ℕ) (e : frame ≡ conformanceFrame) (a : Answer) (log report work : List ℕ) (run : record { answer = a; log = log; report = report; work = work } ≡ called b frame budget (zeros conformanceLogLength) (zeros reportLength) (zeros workLength)) where
   -- What the call answered and left is the sheet's.

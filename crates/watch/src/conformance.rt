@@ -9,13 +9,18 @@ ghost use Rattle.listing.specs.Conformance.{conformanceFrame, conformanceListin
 // No listing of the sheet's calls is longer: `conformanceListingLength`.
 const LISTING_LENGTH: usize = 260290;
 
+// The lengths of the sheet's frame and log.
+const FRAME_LENGTH: usize = 256;
+
+const LOG_LENGTH: usize = 16384;
+
 // The frame: the 256 bytes 0 to 255 in order.
-fn frame_bytes() -> [u8; 256]
+fn frame_bytes() -> [u8; FRAME_LENGTH]
     ensures { λ r. ⌜ r ≡ conformanceFrame ⌝ }
 {
-    let mut frame = [0u8; 256];
+    let mut frame = [0u8; FRAME_LENGTH];
     let mut i: usize = 0;
-    while i < 256 {
+    while i < FRAME_LENGTH {
         frame[i] = i as u8;
         i += 1;
     }
@@ -28,7 +33,7 @@ fn list_call(image: &[u8], budget: u32, out: &mut [u8]) -> usize
     ensures { λ r. ⌜ Listed (now (out .entry)) (conformanceListing (now (image .entry)) budget) (now (out .exit)) r ⌝ }
 {
     let frame = frame_bytes();
-    let mut log = [0u8; 16384];
+    let mut log = [0u8; LOG_LENGTH];
     let mut report = [0u8; REPORT_LENGTH];
     let mut work = [0u8; WORK_LENGTH];
     let a = engine::run(image, &frame, budget, &mut log, &mut report, &mut work);

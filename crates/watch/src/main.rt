@@ -7,7 +7,7 @@ use console::IMAGE_CAPACITY;
 
 const BUDGET: u32 = 100000;
 
-// What a program without arguments is called with.
+// How many words a program without arguments is called with: its name.
 const OWN_NAME: usize = 1;
 
 fn list_input() {

@@ -1,4 +1,4 @@
--- What each known field of a record is, told by the code of its kind (the crate read_records, specs/Codes.antt): the class that stands for it in the code, and the child that it names.
+-- What each known field of a record is, as the code of its kind says (the crate read_records, specs/Codes.antt): the class that stands for it in the code, and the child that it names.
 use Prim.Native.Nat.{ℕ, zero, suc, _+_, _-_, _*_, _/_, _%_, _≤_}
 use mathlib.Core.Path.{_≡_}
 use mathlib.Core.Bool.{Bool, true, false}

@@ -2,8 +2,14 @@
 // card 11). The code of the record's kind says it; so a kind that the table has needs nothing here.
 use read_records::numbers::TermNo;
 use read_records::numbers::entry_term;
+use read_records::table::CLASS_COUNT;
 use read_records::table::CLASS_ENTRY;
 use read_records::table::CLASS_TERM;
+use read_records::table::FIFTH;
+use read_records::table::FOURTH;
+use read_records::table::SECOND;
+use read_records::table::SIXTH;
+use read_records::table::THIRD;
 use read_records::table::field_classes;
 use read_records::table::first_count;
 use read_records::table::group_count;
@@ -61,12 +67,12 @@ fn class_at(classes: u32, slot: usize) -> u32
     ensures { λ r. ⌜ r ≡ digitAt slot classes ⌝ }
 {
     match slot {
-        0 => classes % 8,
-        1 => classes / 8 % 8,
-        2 => classes / 64 % 8,
-        3 => classes / 512 % 8,
-        4 => classes / 4096 % 8,
-        _ => classes / 32768 % 8,
+        0 => classes % CLASS_COUNT,
+        1 => classes / SECOND % CLASS_COUNT,
+        2 => classes / THIRD % CLASS_COUNT,
+        3 => classes / FOURTH % CLASS_COUNT,
+        4 => classes / FIFTH % CLASS_COUNT,
+        _ => classes / SIXTH % CLASS_COUNT,
     }
 }
 

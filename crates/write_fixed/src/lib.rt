@@ -1,12 +1,12 @@
 // The fixed form of an image (document 02, card 11): equal programs over equal domains have equal bytes. The image is checked
-// first; an image that is refused is not written, nor is one where the output is shorter than it.
+// first; nothing is written if it is refused, or if the output is shorter than the image.
+use image::DOMAIN_LIMIT;
 use image::IMAGE_LIMIT;
 use image::Refusal;
+use image::TERM_LIMIT;
+use image::TYPE_LIMIT;
 use read_records::numbers::Counts;
 use validator_core::examine::Checked;
-use write_image::DOMAIN_LIMIT;
-use write_image::TERM_LIMIT;
-use write_image::TYPE_LIMIT;
 ghost use mathlib.Core.Path.{_≡_};
 ghost use mathlib.Core.List.{List};
 ghost use Prim.Native.Nat.{ℕ, _≤_};
@@ -29,7 +29,7 @@ pub enum Written {
 // The number of an output that is shorter than the image (document 02, card 11).
 const SHORT_OUTPUT: u16 = 20;
 
-// The length of the output, then the fixed form, of an image that is accepted.
+// Of an accepted image: tests the length of the output, then writes the fixed form.
 fn write_checked(
     image: &[u8],
     codes: &[u32],
@@ -63,7 +63,6 @@ pub fn write_fixed(image: &[u8], out: &mut [u8]) -> Written
     let mut terms = [0u16; TERM_LIMIT];
     let checked = validator_core::examine::examine_image(
         image,
-        &codes,
         &mut doms,
         &mut types,
         &mut descriptors,

@@ -7,7 +7,7 @@ use lib.ListN.{length, getD, take, replicate, length-append, length-map, length-
 use lib.Seq.{getD-take, length-take-le, ext-getD}
 use Rattle.calculus.specs.Syntax.{Ty}
 use Rattle.image.specs.Bytes.{fieldAt}
-use Rattle.image.specs.Limits.{typeLimit, termLimit}
+use Rattle.image.specs.Limits.{typeLimit, termLimit, domainLimit}
 use Rattle.image.specs.Records.{Layout}
 use Rattle.image.specs.Layout.{laid, layout, recordsOf}
 use Rattle.image.specs.Types.{rootOf}
@@ -55,7 +55,7 @@ module _ (b : List ℕ) (walked : layout b ≡ laid (recordsOf b)) (some-terms :
   abbrev T : List Ty
   T = tableOf (program L)
 
-  pub few : (length (L .domains) ≤ 16) × (length (L .terms) ≤ termLimit)
+  pub few : (length (L .domains) ≤ domainLimit) × (length (L .terms) ≤ termLimit)
   few = (good .few-domains, good .few-terms)
 
   from-root : program L ≡ treeAt L (rootOf L)

@@ -1,5 +1,7 @@
 // An inner crate: an image that is laid out, written anew (document 02, card 11): its domains, the types of its terms in their
 // order, its terms by a walk from the root.
+use image::DOMAIN_LIMIT;
+use image::TYPE_LIMIT;
 use read_records::numbers::Counts;
 use read_records::numbers::TermNo;
 use read_terms::domains::set_masks;
@@ -22,13 +24,6 @@ ghost use Rattle.read_terms.specs.Lent.{Domains, Terms, TypeOffsets};
 ghost use Rattle.image_written.specs.Written.{fixed};
 ghost use Rattle.write_sections.specs.Sections.{domainBytes};
 ghost use Rattle.write_image.specs.Fits.{Fits};
-
-// The most domains, types and terms of an image (document 01, "Limits").
-pub const DOMAIN_LIMIT: usize = 16;
-
-pub const TYPE_LIMIT: usize = 128;
-
-pub const TERM_LIMIT: usize = 1024;
 
 // The last term is the root.
 fn root_of(counts: Counts) -> TermNo

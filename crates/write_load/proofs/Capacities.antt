@@ -4,6 +4,7 @@ use native.Mathlib.Omega.{arith}
 use mathlib.Core.Path.{_≡_, refl, ap, _∙_}
 use mathlib.Core.List.{List}
 use lib.ListN.{length}
+use Rattle.image.specs.Limits.{termLimit}
 use Rattle.image_written.proofs.Load.{most, most-some}
 use Rattle.write_load.specs.declared.Done.{Done}
 use Rattle.write_load.specs.Growing.{printFields, Put, Capacity, Grew}
@@ -18,7 +19,7 @@ most-less (suc d) h = let z : suc d - 1 ≡ d = omega arith in rw z refl
 inner-most : (d : ℕ) → 1 < d → (most d ≡ 1 + (most (d - 1) + most (d - 1))) × (most (d - 1) ≡ 1 + (most (d - 2) + most (d - 2)))
 inner-most d h = let z : d - 1 - 1 ≡ d - 2 = omega arith in (most-less d (omega arith), most-less (d - 1) (omega arith) ∙ ap (λ k. 1 + (most k + most k)) z)
 
-pub capacity-number : {out : List ℕ} {done : Done} {d : ℕ} → Capacity out done d → (done .at + 12 ≤ length out) × (done .terms < 1024)
+pub capacity-number : {out : List ℕ} {done : Done} {d : ℕ} → Capacity out done d → (done .at + 12 ≤ length out) × (done .terms < termLimit)
 capacity-number {out} {done} {d} R = let m = most-some d in let b = R .bytes in let t = R .terms in (omega arith, omega arith)
 
 module _ {out : List ℕ} {done here : Done} {d : ℕ} (R : Capacity out done d) (same-at : here .at ≡ done .at) (same-terms : here .terms ≡ done .terms) where
@@ -52,13 +53,13 @@ module _ {out : List ℕ} {done here : Done} {d : ℕ} (R : Capacity out done d)
         let g3 = g .3 in
         record { depth = omega arith; bytes = omega arith; terms = omega arith }
 
-    pub some-first : (0 < left .terms) × (left .terms ≤ 1024)
+    pub some-first : (0 < left .terms) × (left .terms ≤ termLimit)
     some-first =
         let g = first-capacity .2 in
         let t = capacity-second .terms in
         (omega arith, omega arith)
 
-    pub capacity-sum : {out₂ : List ℕ} {right : Done} → Grew (d - 1) out₁ left out₂ right → (right .at + 12 ≤ length out₂) × (right .terms < 1024) × (0 < right .terms)
+    pub capacity-sum : {out₂ : List ℕ} {right : Done} → Grew (d - 1) out₁ left out₂ right → (right .at + 12 ≤ length out₂) × (right .terms < termLimit) × (0 < right .terms)
     capacity-sum {out₂} {right} Y =
         let m = most-less d h in
         let b = R .bytes in
@@ -79,7 +80,7 @@ module _ {out : List ℕ} {done here : Done} {d : ℕ} (R : Capacity out done d)
     inner-capacity : (inner .at ≤ here .at + 12 * most (d - 2)) × (inner .terms ≤ here .terms + most (d - 2)) × (here .terms < inner .terms) × (length out₁ ≡ length out)
     inner-capacity = grew-capacity X (capacity-inner h .bytes)
 
-    pub capacity-print : (inner .at + 12 ≤ length out₁) × (inner .terms < 1024) × (0 < inner .terms)
+    pub capacity-print : (inner .at + 12 ≤ length out₁) × (inner .terms < termLimit) × (0 < inner .terms)
     capacity-print =
         let i = inner-most d h in
         let m = i .0 in
@@ -110,13 +111,13 @@ module _ {out : List ℕ} {done here : Done} {d : ℕ} (R : Capacity out done d)
           let qt = Q .terms in
           record { depth = omega arith; bytes = omega arith; terms = omega arith }
 
-      pub some-print : (0 < first .terms) × (first .terms ≤ 1024)
+      pub some-print : (0 < first .terms) × (first .terms ≤ termLimit)
       some-print =
           let q = Q .terms in
           let t = capacity-behind .terms in
           (omega arith, omega arith)
 
-      pub capacity-sequence : {out₃ : List ℕ} {second : Done} → Grew (d - 1) out₂ first out₃ second → (second .at + 12 ≤ length out₃) × (second .terms < 1024) × (0 < second .terms)
+      pub capacity-sequence : {out₃ : List ℕ} {second : Done} → Grew (d - 1) out₂ first out₃ second → (second .at + 12 ≤ length out₃) × (second .terms < termLimit) × (0 < second .terms)
       capacity-sequence {out₃} {second} Y =
           let i = inner-most d h in
           let m = i .0 in

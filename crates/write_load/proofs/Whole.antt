@@ -2,11 +2,11 @@
 use Prim.Native.Nat.{ℕ, _+_, _-_, _≤_, _<_}
 use native.Mathlib.Omega.{arith}
 use mathlib.Core.Path.{_≡_, refl, sym, ap, _∙_}
-use mathlib.Core.Bool.{Bool, true, false}
+use mathlib.Core.Bool.{true, false}
 use mathlib.Core.List.{List, [], _∷_, _++_, append-assoc, map}
 use lib.ListN.{length, length-append}
 use lib.Dec.{leb}
-use Rattle.laws.proofs.Booleans.{le-of, of-le}
+use Rattle.laws.proofs.Booleans.{le-of, of-le, by-test}
 use Rattle.image.specs.Program.{Program}
 use Rattle.base_bytes.specs.Bytes.{over}
 use Rattle.base_bytes.proofs.Over.{onward}
@@ -64,11 +64,7 @@ whole-image depth seed out {out₁} {out₂} {start} {r} a t s capacity l e G =
     (omega (arith, ap length w, length-append headBytes B), onward headBytes B out 0 14 e b (omega arith) (omega arith) ∙ ap (λ c. over 0 c out) (sym w))
 
 past : (m n : ℕ) → n < m → leb m n ≡ false
-past m n h = go (leb m n) refl
-  where
-    go : (t : Bool) → leb m n ≡ t → leb m n ≡ false
-    go false w = w
-    go true w = let z : m ≤ n = le-of w in absurd (omega arith)
+past m n h = by-test (leb m n) (λ w. let z : m ≤ n = le-of w in absurd (omega arith)) λ w. w
 
 -- What a call answers and leaves.
 module _ (seed depth : ℕ) (out : List ℕ) where

@@ -6,6 +6,7 @@ use mathlib.Core.List.{List, [], _∷_, _++_}
 use lib.ListN.{length}
 use lib.Dec.{eqb, ltb}
 use Rattle.calculus.specs.Combinators.{choose}
+use Rattle.image.specs.Limits.{termLimit}
 use Rattle.base_bytes.specs.Bytes.{over}
 use Rattle.image_written.specs.Records.{little, image}
 use Rattle.image_written.specs.Written.{terms, termRecords}
@@ -36,7 +37,7 @@ numberFollows c d = choose (eqb c 0) true (choose (eqb c 3) (ltb d 2) false)
 pub record Capacity (out : List ℕ) (done : Done) (d : ℕ) : Type 0 where
   pub depth : d ≤ 8
   pub bytes : done .at + 12 * most d ≤ length out
-  pub terms : done .terms + most d ≤ 1024
+  pub terms : done .terms + most d ≤ termLimit
 
 -- One record more, of a kind and with these fields.
 pub record Put (out : List ℕ) (done : Done) (out′ : List ℕ) (r : Done) (kind : ℕ) (fields : List ℕ) : Type 0 where

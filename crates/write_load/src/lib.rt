@@ -1,5 +1,6 @@
 // Generated images (document 02, card 12): a load that every station can repeat. Equal seeds and depths give equal bytes,
 // whatever the output held.
+use calculus::WORD_SIZE;
 use read_records::kinds::ARITHMETIC;
 use read_records::kinds::NUMBER;
 use read_records::kinds::NUMBER_TYPE;
@@ -23,8 +24,6 @@ ghost use Rattle.write_load.specs.Growing.{headBytes, printFields, seque
 const MULTIPLIER: u64 = 1664525;
 
 const INCREMENT: u64 = 1013904223;
-
-const MODULUS: u64 = 4294967296;
 
 const DIVISOR: u32 = 16777216;
 
@@ -72,7 +71,7 @@ pub struct Done {
 fn draw(state: u32) -> u32
     ensures { λ r. ⌜ r ≡ next state ⌝ }
 {
-    ((MULTIPLIER * (state as u64) + INCREMENT) % MODULUS) as u32
+    ((MULTIPLIER * (state as u64) + INCREMENT) % WORD_SIZE) as u32
 }
 
 // One term more: its record, of a kind, with the first of some numbers for its fields.

@@ -92,10 +92,6 @@ module _ (L : Layout) (T : List Ty) where
     unfolding image bytes
     all-bytes = ap (λ rs. image rs) whole ∙ image-append (termRecordsAll T q (trees L (kids L n i))) (record-of (term (termKind L n)) fields ∷ []) ∙ ap (λ b. B ++ b) (append-nil _)
 
-    pub all-terms : terms (treeAt L n) ≡ termsAll (trees L (kids L n i)) + 1
-    unfolding terms
-    all-terms = ap terms (tree-at L good n h) ∙ ap (λ es. suc (termsAll (trees L es))) (sym (kids-all L n i all)) ∙ omega arith
-
     pub term-written : (out : List ℕ) {out₁ out₂ : List ℕ} (at : ℕ) → out₁ ≡ over at B out → out₂ ≡ over (at + length B) (little ((4 + 2 * length fields) ∷ termRow (termKind L n) .number ∷ fields)) out₁ → at + length B + (4 + 2 * length fields) ≤ length out
         → out₂ ≡ over at (image (termRecords T q (treeAt L n))) out
     term-written out {out₁} {out₂} at e f capacity =

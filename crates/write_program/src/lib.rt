@@ -23,7 +23,7 @@ ghost use Rattle.base_bytes.specs.Bytes.{over};
 ghost use Rattle.read_records.specs.Codes.{kindCodes};
 ghost use Rattle.read_terms.specs.Lent.{Terms, IsTerm};
 ghost use Rattle.write_fields.specs.Classes.{asField};
-ghost use Rattle.image_written.specs.Records.{little};
+ghost use Rattle.image_written.specs.Records.{little, fieldLimit};
 ghost use Rattle.write_program.specs.Writing.{behind, Capacity, Wrote};
 
 // How far the output is written: the next offset, and how many terms stand before it.
@@ -50,7 +50,7 @@ fn last_number(class: u32, done: Done) -> u16
 
 // One term more: its record, of a kind, with the first of some numbers for its fields.
 fn put_term(out: &mut [u8], done: Done, kind: u16, numbers: &[u16], count: usize) -> Done
-    requires { ⌜ (count ≤ 16) × (count ≤ length (now numbers)) × (done .at + (4 + 2 * count) ≤ length (now out)) × (done .terms < termLimit) ⌝ }
+    requires { ⌜ (count ≤ fieldLimit) × (count ≤ length (now numbers)) × (done .at + (4 + 2 * count) ≤ length (now out)) × (done .terms < termLimit) ⌝ }
     ensures { λ r. ⌜ (r .at ≡ done .at + (4 + 2 * count)) × (r .terms ≡ done .terms + 1) × (now (out .exit) ≡ over (done .at) (little ((4 + 2 * count) ∷ (kind ∷ take count (now (numbers .entry))))) (now (out .entry))) ⌝ }
 {
     let at = put_record(out, done.at, kind, numbers, count);

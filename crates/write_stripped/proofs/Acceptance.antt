@@ -14,7 +14,7 @@ use Rattle.validator_core.specs.Examined.{examined}
 use Rattle.validator_core.proofs.Stages.{too-long, examined-refuses, accepted}
 use Rattle.base_bytes.specs.Bytes.{over}
 use Rattle.image_written.specs.Stripped.{withoutWatches}
-use Rattle.write_unit_bodies.specs.UnitBodies.{inMask}
+use Rattle.write_masks.specs.Masks.{inMask}
 use Rattle.write_stripped.specs.declared.Stripped.{Stripped}
 use Rattle.write_stripped.specs.Calls.{wrongSet, afterCheck, strippedCall}
 

@@ -13,8 +13,9 @@ use Rattle.read_terms.specs.Lent.{Masks}
 use Rattle.read_terms.specs.Masks.{bitOf}
 use Rattle.read_terms.proofs.Masks.{order-is}
 use Rattle.laws.proofs.Tests.{any-same}
-use Rattle.write_unit_bodies.specs.UnitBodies.{inMask}
-use Rattle.write_stripped.specs.Calls.{wrongBy, wrongSet}
+use Rattle.write_masks.specs.Masks.{inMask}
+use Rattle.write_masks.specs.Masks.{wrongBy}
+use Rattle.write_stripped.specs.Calls.{wrongSet}
 
 -- The table of masks tells the order of the domains.
 pub wrong-is : (b table : List ℕ) → Masks b table → (mask count : ℕ) → count ≡ length (recordsOf b .domains) → wrongBy (bitOf table) count mask ≡ wrongSet (recordsOf b) mask

@@ -4,7 +4,6 @@ use mathlib.Core.Bool.{Bool}
 use mathlib.Core.List.{List}
 use lib.ListN.{length}
 use Rattle.calculus.specs.Combinators.{choose}
-use Rattle.calculus.specs.Syntax.{Dom}
 use Rattle.image.specs.Limits.{workLength, reportLength}
 use Rattle.image.specs.Refusals.{refusalNumber}
 use Rattle.image.specs.Records.{Layout}
@@ -14,14 +13,11 @@ use Rattle.verdict.specs.Domains.{leq}
 use Rattle.verdict.specs.Verdicts.{verdict}
 use Rattle.base_bytes.specs.Bytes.{over}
 use Rattle.image_written.specs.Written.{tooShort}
-use Rattle.image_written.specs.Stripped.{wrongHigh, withoutWatches}
-use Rattle.write_unit_bodies.specs.UnitBodies.{inMask}
+use Rattle.image_written.specs.Stripped.{withoutWatches}
+use Rattle.write_masks.specs.Masks.{inMask, wrongBy}
 use Rattle.write_stripped.specs.declared.Stripped.{Stripped}
 
--- Refusal 23, which `wrongHigh` decides, of a mask: by the order of the domains and how many there are, and by those of an image.
-abbrev pub wrongBy : (Dom → Dom → Bool) → ℕ → ℕ → Bool
-wrongBy below count mask = wrongHigh (inMask mask) below count
-
+-- Refusal 23 of a mask, by the domains of an image.
 abbrev pub wrongSet : Layout → ℕ → Bool
 wrongSet L mask = wrongBy (leq L) (length (L .domains)) mask
 

@@ -1,16 +1,14 @@
 // An image without its watches (document 02, card 13): the body of every low advice and every low lower is a unit, and the
-// image has the fixed form of card 11. The image is checked first; one that is refused is not written, nor is any where the
-// given mask is no set of high domains, or the output is shorter than the image.
-mod sets;
-
+// image has the fixed form of card 11. The image is checked first; nothing is written if it is refused, if the given mask is no
+// set of high domains, or if the output is shorter than the image.
+use image::DOMAIN_LIMIT;
 use image::IMAGE_LIMIT;
 use image::Refusal;
+use image::TERM_LIMIT;
+use image::TYPE_LIMIT;
 use read_records::numbers::Counts;
 use read_terms::domains::set_masks;
 use validator_core::examine::Checked;
-use write_image::DOMAIN_LIMIT;
-use write_image::TERM_LIMIT;
-use write_image::TYPE_LIMIT;
 use write_image::write_whole;
 use write_unit_bodies::copy_with_unit_bodies;
 ghost use mathlib.Core.Path.{_≡_};
@@ -25,7 +23,7 @@ ghost use Rattle.read_records.specs.Tables.{Tables, Counted};
 ghost use Rattle.read_terms.specs.Lent.{Domains, TypeOffsets};
 ghost use Rattle.validator_core.specs.Examined.{examined};
 ghost use Rattle.image_written.specs.Stripped.{withoutWatches};
-ghost use Rattle.write_unit_bodies.specs.UnitBodies.{inMask};
+ghost use Rattle.write_masks.specs.Masks.{inMask};
 ghost use Rattle.write_stripped.specs.Calls.{wrongSet, strippedNumber, strippedPlace, strippedBytes, strippedCall};
 
 // So many bytes were written; or why none was.
@@ -48,7 +46,7 @@ fn is_wrong_set(image: &[u8], doms: &[u16], count: usize, mask: u16) -> bool
 {
     let mut masks = [0u16; DOMAIN_LIMIT];
     set_masks(image, doms, count, &mut masks);
-    sets::is_wrong(&masks, count, mask)
+    write_masks::is_wrong(&masks, count, mask)
 }
 
 // The image without its watches, at the front of the output: written from a copy in which low bodies are units.
@@ -123,7 +121,6 @@ pub fn write_stripped(image: &[u8], mask: u16, out: &mut [u8]) -> Stripped
     let mut terms = [0u16; TERM_LIMIT];
     let checked = validator_core::examine::examine_image(
         image,
-        &codes,
         &mut doms,
         &mut types,
         &mut descriptors,

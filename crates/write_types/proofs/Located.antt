@@ -83,10 +83,6 @@ unfoldable pub before : (g : ℕ → Ty) → List Field → List ℕ → ℕ →
 before g fs vs i = joined (mapParts (λ a. partsFirst a) (partsFrom g (take i fs) (take i vs)))
 
 module _ (g : ℕ → Ty) where
-  pub before-none : (fs : List Field) (vs : List ℕ) → before g fs vs 0 ≡ []
-  unfolding before
-  before-none fs vs = refl
-
   before-next : (fs : List Field) (vs : List ℕ) (i : ℕ) → length vs ≡ length fs → i < length fs → before g fs vs (suc i) ≡ before g fs vs i ++ joined (mapParts (λ a. partsFirst a) (partFrom g (getD fs i free) (getD vs i 0) ∷ []))
   unfolding before
   before-next [] vs i l h = absurd (omega arith)

@@ -9,7 +9,7 @@ use lib.Seq.{getD-append-add}
 use lib.Dec.{eqb, ltb}
 use Rattle.calculus.specs.Syntax.{Dom}
 use Rattle.laws.specs.Tests.{anyBelow}
-use Rattle.laws.proofs.Booleans.{no-path, and-l, and-r, and-i, lt-of, ge-of, eq-of, of-eq}
+use Rattle.laws.proofs.Booleans.{no-path, and-l, and-r, and-i, lt-of, ge-of, eq-of, of-eq, by-test}
 use Rattle.laws.proofs.Tests.{none-below}
 use Rattle.image.specs.Bytes.{le16, words, lengthAt, numberAt, fieldAt}
 use Rattle.image.specs.Kinds.{free, TermKind, domain, Row, domainRow, typeRow, termRow, find, kindOf}
@@ -289,11 +289,7 @@ module _ (L : Layout) (walked : layout (L .image) ≡ laid L) (high : Dom → Bo
               }
 
     term-stands : IsRecord c (termRow (termKind copied n)) (termPlace L n) (length (L .domains)) (length (L .types)) n
-    term-stands = go (cut n) refl
-      where
-        go : (x : Bool) → cut n ≡ x → IsRecord c (termRow (termKind copied n)) (termPlace L n) (length (L .domains)) (length (L .types)) n
-        go true q = record-unit q
-        go false q = record-stays q
+    term-stands = by-test (cut n) (λ q. record-unit q) λ q. record-stays q
 
   copied-out : LaidOut copied
   copied-out = record {

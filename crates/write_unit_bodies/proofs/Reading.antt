@@ -16,7 +16,7 @@ use Rattle.image.specs.Kinds.{TermKind, termRow}
 use Rattle.image.specs.Records.{Layout}
 use Rattle.image.specs.Layout.{recordsOf}
 use Rattle.image.specs.Types.{typePlace, termPlace, termKind, typeNo, statedType, others}
-use Rattle.laws.proofs.Booleans.{no-path, eq-of, of-eq}
+use Rattle.laws.proofs.Booleans.{no-path, eq-of, of-eq, by-test}
 use Rattle.image.proofs.Laid.{LayoutOk}
 use Rattle.read_records.specs.Descriptors.{Describes}
 use Rattle.read_records.specs.Heads.{fieldIn}
@@ -119,11 +119,9 @@ module _ (L : Layout) (high : Dom → Bool) (b : List ℕ) where
     unit-bodies-stays q = record { same = I .same; kept = λ j h. I .kept j (λ n l w e. h n (omega arith) w e); units = told }
       where
         told : (n : ℕ) → n < m + 1 → lowAdviceOrLower L high n ≡ true → getD c (kindByte L n) 0 ≡ termRow TermKind.unit .number
-        told n l w = go (eqb n m) refl
-          where
-            go : (x : Bool) → eqb n m ≡ x → getD c (kindByte L n) 0 ≡ termRow TermKind.unit .number
-            go true r = let z : n ≡ m = eq-of r in no-path (sym w ∙ ap (λ k. lowAdviceOrLower L high k) z ∙ q)
-            go false r = I .units n (omega (arith, differ n m r)) w
+        told n l w = by-test (eqb n m)
+            (λ r. let z : n ≡ m = eq-of r in no-path (sym w ∙ ap (λ k. lowAdviceOrLower L high k) z ∙ q))
+            λ r. I .units n (omega (arith, differ n m r)) w
 
     pub unit-bodies-more : lowAdviceOrLower L high m ≡ true → kindByte L m < length c → UnitBodies L high (m + 1) b (set c (kindByte L m) (termRow TermKind.unit .number))
     unit-bodies-more q k = record { same = length-set c (kindByte L m) _ ∙ I .same; kept = kept; units = told }
@@ -142,8 +140,6 @@ module _ (L : Layout) (high : Dom → Bool) (b : List ℕ) where
 
 -- One byte more that is copied.
 pub copied-more : (xs c : List ℕ) (i : ℕ) → i < length c → ((k : ℕ) → k < i → getD c k 0 ≡ getD xs k 0) → (k : ℕ) → k < i + 1 → getD (set c i (getD xs i 0)) k 0 ≡ getD xs k 0
-copied-more xs c i l h k m = go (eqb k i) refl
-  where
-    go : (x : Bool) → eqb k i ≡ x → getD (set c i (getD xs i 0)) k 0 ≡ getD xs k 0
-    go true r = let z : k ≡ i = eq-of r in subst (λ j. getD (set c i (getD xs i 0)) j 0 ≡ getD xs j 0) (sym z) (getD-set-same c i (getD xs i 0) 0 l)
-    go false r = getD-set-other c i k (getD xs i 0) 0 (differ k i r) ∙ h k (omega (arith, differ k i r))
+copied-more xs c i l h k m = by-test (eqb k i)
+    (λ r. let z : k ≡ i = eq-of r in subst (λ j. getD (set c i (getD xs i 0)) j 0 ≡ getD xs j 0) (sym z) (getD-set-same c i (getD xs i 0) 0 l))
+    λ r. getD-set-other c i k (getD xs i 0) 0 (differ k i r) ∙ h k (omega (arith, differ k i r))

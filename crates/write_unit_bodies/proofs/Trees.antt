@@ -13,7 +13,7 @@ use Rattle.image.specs.Records.{Layout, times, fieldsAt, numbersAt, asChild, as
 use Rattle.image.specs.Layout.{laid, layout}
 use Rattle.image.specs.Types.{termPlace, typeOf, termKind, typeNo, statedType, others, children, rootOf}
 use Rattle.image.specs.Program.{end, subtrees, tree, program}
-use Rattle.laws.proofs.Booleans.{no-path}
+use Rattle.laws.proofs.Booleans.{no-path, by-test}
 use Rattle.image.proofs.TypeNumbers.{type-same}
 use Rattle.image.proofs.Laid.{below-at}
 use Rattle.verdict.specs.Shape.{usedOnce}
@@ -66,11 +66,7 @@ module _ (L : Layout) (walked : layout (L .image) ≡ laid L) (high : Dom → Bo
       cc
 
   cut-body : (p : ℕ) → p < length (L .terms) → lowAdviceOrLower L high p ≡ true → cut L walked high c I (bodyAt L p) ≡ true
-  cut-body p h w = go (cut L walked high c I (bodyAt L p)) refl
-    where
-      go : (x : Bool) → cut L walked high c I (bodyAt L p) ≡ x → cut L walked high c I (bodyAt L p) ≡ true
-      go true q = q
-      go false q = absurd (cut-none L walked high c I (bodyAt L p) q p h w refl)
+  cut-body p h w = by-test (cut L walked high c I (bodyAt L p)) (λ q. q) λ q. absurd (cut-none L walked high c I (bodyAt L p) q p h w refl)
 
   each-stripped : (f : ℕ) (es : List ℕ) (low : ℕ → Bool) → ((j : ℕ) → j < length es → tree M f (getD es j 0) ≡ choose (low j) (asUnit (tree L f (getD es j 0))) (stripped high (tree L f (getD es j 0))))
       → subtrees (λ e. tree M f e) es ≡ strippeds high (subtrees (λ e. tree L f e) es) low
@@ -81,17 +77,15 @@ module _ (L : Layout) (walked : layout (L .image) ≡ laid L) (high : Dom → Bo
   module _ (once : (n : ℕ) → n < rootOf L → usedOnce L n ≡ true) where
     -- A child that does not give way stays.
     child-stays : (n j : ℕ) → n < length (L .terms) → j < length (children L n) → gives L (good L walked high c I) high n j ≡ false → cut L walked high c I (getD (children L n) j 0) ≡ false
-    child-stays n j h l q = go (cut L walked high c I (getD (children L n) j 0)) refl
-      where
-        go : (x : Bool) → cut L walked high c I (getD (children L n) j 0) ≡ x → cut L walked high c I (getD (children L n) j 0) ≡ false
-        go false r = r
-        go true r =
-            let w = cut-some L walked high c I (getD (children L n) j 0) r in
-            let p : ℕ = w .0 in
-            let g = low-gives L (good L walked high c I) high p (w .1 .0) (w .1 .1) in
-            let z = one-place L (good L walked high c I) once n p j (g .0) h (w .1 .0) l (g .1 .0) (w .1 .2 ∙ g .1 .1) in
-            let y : gives L (good L walked high c I) high n j ≡ true = ap (λ m. gives L (good L walked high c I) high m j) (z .0) ∙ ap (λ i. gives L (good L walked high c I) high p i) (z .1) ∙ g .1 .2 in
-            no-path (sym y ∙ q)
+    child-stays n j h l q = by-test (cut L walked high c I (getD (children L n) j 0))
+        (λ r.
+        let w = cut-some L walked high c I (getD (children L n) j 0) r in
+        let p : ℕ = w .0 in
+        let g = low-gives L (good L walked high c I) high p (w .1 .0) (w .1 .1) in
+        let z = one-place L (good L walked high c I) once n p j (g .0) h (w .1 .0) l (g .1 .0) (w .1 .2 ∙ g .1 .1) in
+        let y : gives L (good L walked high c I) high n j ≡ true = ap (λ m. gives L (good L walked high c I) high m j) (z .0) ∙ ap (λ i. gives L (good L walked high c I) high p i) (z .1) ∙ g .1 .2 in
+        no-path (sym y ∙ q))
+        λ r. r
 
     stays-tree : (f n : ℕ) → n < f → n < length (L .terms) → cut L walked high c I n ≡ false → tree M f n ≡ stripped high (tree L f n)
     unfolding tree stripped
@@ -120,16 +114,14 @@ module _ (L : Layout) (walked : layout (L .image) ≡ laid L) (high : Dom → Bo
             ∙ ap (λ y. choose y (asUnit (tree L f (getD (children L n) j 0))) (stripped high (tree L f (getD (children L n) j 0)))) (sym r)
 
     root-stays : 0 < length (L .terms) → cut L walked high c I (rootOf L) ≡ false
-    root-stays h = go (cut L walked high c I (rootOf L)) refl
-      where
-        go : (x : Bool) → cut L walked high c I (rootOf L) ≡ x → cut L walked high c I (rootOf L) ≡ false
-        go false r = r
-        go true r =
-            let w = cut-some L walked high c I (rootOf L) r in
-            let b = body-below L (good L walked high c I) high (w .0) (w .1 .0) (w .1 .1) in
-            let l = w .1 .0 in
-            let e = w .1 .2 in
-            absurd (omega arith)
+    root-stays h = by-test (cut L walked high c I (rootOf L))
+        (λ r.
+        let w = cut-some L walked high c I (rootOf L) r in
+        let b = body-below L (good L walked high c I) high (w .0) (w .1 .0) (w .1 .1) in
+        let l = w .1 .0 in
+        let e = w .1 .2 in
+        absurd (omega arith))
+        λ r. r
 
     pub program-stripped : 0 < length (L .terms) → program M ≡ stripped high (program L)
     unfolding program

@@ -1,22 +1,17 @@
 -- The bodies of an image's low advice and low lowers (document 02, card 13), term by term; and a copy of the image in which each of them is a unit.
-use Prim.Native.Nat.{ℕ, _+_, _/_, _%_, _^_, _<_}
+use Prim.Native.Nat.{ℕ, _+_, _<_}
 use mathlib.Core.Path.{_≡_}
 use mathlib.Core.Bool.{Bool, true, false, not}
 use mathlib.Core.List.{List}
 use lib.ListN.{length, getD}
-use lib.Dec.{eqb, ltb}
+use lib.Dec.{eqb}
 use Rattle.calculus.specs.Syntax.{Dom}
 use Rattle.calculus.specs.Combinators.{choose}
 use Rattle.calculus.specs.Plain.{domOf}
-use Rattle.image.specs.Limits.{domainLimit}
 use Rattle.image.specs.Bytes.{numberAt, fieldAt}
 use Rattle.image.specs.Kinds.{TermKind, termRow}
 use Rattle.image.specs.Records.{Layout}
 use Rattle.image.specs.Types.{termPlace, statedType, others}
-
--- "A mask (bit q for domain q) of high domains".
-abbrev pub inMask : ℕ → Dom → Bool
-inMask m q = choose (ltb q domainLimit) (eqb (m / 2 ^ q % 2) 1) false
 
 module _ (L : Layout) where
   -- Term n is of kind k, by its number.

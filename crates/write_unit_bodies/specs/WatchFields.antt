@@ -10,7 +10,7 @@ use Rattle.image.specs.Kinds.{TermKind, termRow}
 use Rattle.read_records.specs.Heads.{fieldIn}
 use Rattle.read_terms.specs.Descriptors.{descriptorDomain}
 
--- Whether a term of the kind with the number q, whose fields are fs, is an advice with a low domain or a lower with a low field, the descriptors of the types being ks.
+-- Whether a term of the kind with the number q, whose fields are fs, is an advice with a low domain or a lower with a low field, where ks are the descriptors of the types.
 abbrev pub lowWatchIn : (Dom → Bool) → ℕ → List ℕ → List ℕ → Bool
 lowWatchIn high q fs ks =
     choose (eqb q (termRow TermKind.adv .number)) (not (high (descriptorDomain (getD ks (fieldIn fs 0) 0))))

@@ -4,15 +4,13 @@
 use read_records::fields::domain_field;
 use read_records::fields::term_field;
 use read_records::kinds;
-use read_records::numbers::DomainNo;
 use read_records::numbers::TermNo;
-use read_terms::domains::DOMAIN_LIMIT;
-use read_terms::domains::bit;
 use read_terms::terms::own_descriptor;
 use read_terms::terms::term_fields;
 use read_terms::terms::term_kind;
 use read_terms::terms::term_place;
 use read_terms::types::domain_of;
+use write_masks::in_mask;
 ghost use mathlib.Core.Path.{_≡_};
 ghost use Prim.Native.Nat.{_+_, _<_};
 ghost use lib.ListN.{length, set};
@@ -22,7 +20,8 @@ ghost use Rattle.image.specs.Types.{termPlace};
 ghost use Rattle.read_records.specs.Heads.{fieldIn};
 ghost use Rattle.read_terms.specs.Lent.{Terms, Lent};
 ghost use Rattle.read_terms.specs.Fields.{AtField};
-ghost use Rattle.write_unit_bodies.specs.UnitBodies.{inMask, UnitBodies};
+ghost use Rattle.write_masks.specs.Masks.{inMask};
+ghost use Rattle.write_unit_bodies.specs.UnitBodies.{UnitBodies};
 ghost use Rattle.write_unit_bodies.specs.WatchFields.{lowWatchIn};
 
 // The field of a lower that is its domain, and the field of a lower and of an advice that is the body.
@@ -33,17 +32,7 @@ const BODY: usize = 2;
 // The offset of a kind's number in its record, and the low byte of unit's number.
 const KIND: usize = 2;
 
-const UNIT_BYTE: u8 = 32;
-
-// A mask names domain q.
-pub fn in_mask(mask: u16, q: DomainNo) -> bool
-    ensures { λ r. ⌜ r ≡ inMask mask (q .0) ⌝ }
-{
-    if q.0 < DOMAIN_LIMIT {
-        return bit(mask, q);
-    }
-    false
-}
+const UNIT_BYTE: u8 = kinds::UNIT as u8;
 
 // A term of a kind, with these fields, is an advice with a low domain, or a lower with a low field.
 fn is_low_advice_or_lower(kind: u16, fields: &[u8], descriptors: &[u32], high: u16) -> bool
@@ -64,7 +53,7 @@ fn is_low_advice_or_lower(kind: u16, fields: &[u8], descriptors: &[u32], high: u
 // The body that these fields name becomes a unit.
 fn put_unit_body(image: &[u8], terms: &[u16], fields: &[u8], copy: &mut [u8])
     requires { ⌜ Terms (now image) (now terms) × AtField (now image) (now fields) 2 × (length (now copy) ≡ length (now image)) ⌝ }
-    ensures { λ _. ⌜ now (copy .exit) ≡ set (now (copy .entry)) (termPlace (recordsOf (now (image .entry))) (fieldIn (now (fields .entry)) 2) + 2) 32 ⌝ }
+    ensures { λ _. ⌜ now (copy .exit) ≡ set (now (copy .entry)) (termPlace (recordsOf (now (image .entry))) (fieldIn (now (fields .entry)) 2) + 2) (termRow TermKind.unit .number) ⌝ }
 {
     let at = term_place(image, terms, term_field(fields, BODY));
     copy[at + KIND] = UNIT_BYTE;

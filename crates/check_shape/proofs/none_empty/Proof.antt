@@ -6,11 +6,7 @@ use Rattle.check_shape.proofs.none_empty.Tie as tie
 returns : tie.Need-returns
 returns c = simp (lt-ltb _ _ (c .before .before .before .if1 .taken), lt-ltb _ _ (c .before .if2 .taken))
 
-returns-2 : tie.Need-returns-2
-returns-2 c = simp (lt-ltb _ _ (c .before .before .if1 .taken), le-ltb _ _ (c .if2 .left))
-
-returns-3 : tie.Need-returns-3
-returns-3 c = simp (le-ltb _ _ (c .if1 .left))
-
 pub none-empty-spec : {M : Type 1} → statement M
-none-empty-spec = tie.close (tie.spec returns returns-2 returns-3)
+none-empty-spec = tie.close (tie.spec returns
+    (λ c. simp (lt-ltb _ _ (c .before .before .if1 .taken), le-ltb _ _ (c .if2 .left)))
+    (λ c. simp (le-ltb _ _ (c .if1 .left))))

@@ -43,5 +43,4 @@ returns-4 c =
     fault-at (recordsOf (now (s .args .image))) (s .args .fault) (c .before .before .before .if1 .left) (rw (ne-eqb _ 1 (c .before .if2 .left), ne-eqb _ 2 (c .if3 .left)) refl) (c .before .before .term-place .ensures .0) (few s)
 
 pub verdict-of-spec : {M : Type 1} → statement M
-verdict-of-spec =
-    tie.close (tie.spec returns (λ c. search needs) term-place-requires returns-2 returns-3 returns-4)
+verdict-of-spec = tie.close (tie.spec returns (λ c. search needs) term-place-requires returns-2 returns-3 returns-4)

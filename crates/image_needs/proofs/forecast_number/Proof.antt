@@ -5,9 +5,7 @@ use Rattle.image_needs.proofs.forecast_number.Reads as reads
 use Rattle.image_needs.proofs.forecast_number.Lts as lts
 use Rattle.image_refusals.proofs.refusal_number.Reads as refusal-number-reads
 
-returns : tie.Need-returns
-returns c = rw (c .before .before .f .given .1) (c .refusal-number .ensures)
-
 pub forecast-number-spec : {M : Type 1} → statement M
-forecast-number-spec = tie.close (tie.spec (λ c. search needs) (λ c κs. search needs) (λ c. search needs) (λ c. search needs) returns
+forecast-number-spec = tie.close (tie.spec (λ c. search needs) (λ c κs. search needs) (λ c. search needs) (λ c. search needs)
+    (λ c. rw (c .before .before .f .given .1) (c .refusal-number .ensures))
     (λ c. search needs) (λ c. search needs))

@@ -5,9 +5,6 @@ use Rattle.image_needs.proofs.forecast_place.Tie as tie
 use Rattle.image_needs.proofs.forecast_place.Reads as reads
 use Rattle.image_needs.proofs.forecast_place.Lts as lts
 
-returns : tie.Need-returns
-returns c = rw (c .before .f .given .1) refl
-
 pub forecast-place-spec : {M : Type 1} → statement M
-forecast-place-spec =
-    tie.close (tie.spec (λ c. search needs) (λ c. search needs) (λ c. search needs) returns (λ c. search needs) (λ c. search needs))
+forecast-place-spec = tie.close (tie.spec (λ c. search needs) (λ c. search needs) (λ c. search needs) (λ c. rw (c .before .f .given .1) refl)
+    (λ c. search needs) (λ c. search needs))

@@ -3,23 +3,17 @@ use lib.ListN.{length, length-take}
 -- By the verdict.
 use native.Mathlib.Omega.{arith}
 use denote.Ref.{now}
-use Rattle.listing.proofs.Puts.{as-short, longer}
-use Rattle.listing.proofs.Said.{refusal-listed, run-listed}
+use Rattle.listing_lines.proofs.Puts.{as-short, longer}
+use Rattle.listing.proofs.Verdicts.{refusal-listed, run-listed}
 use borrow.Author.Needs.{needs}
 use Rattle.listing.proofs.put_listing.Statement.{statement}
 use Rattle.listing.proofs.put_listing.Tie as tie
-
-same-length : tie.Need-same-length
-same-length c = c .before .before .put-refusal .kept .0
 
 returns : tie.Need-returns
 returns c =
     let at-verdict = c .before .before .before .before .before in
     let start = at-verdict .before .before .before .before .before in
     as-short (refusal-listed (start .args .a) (now (start .args .log)) (now (start .args .report)) (at-verdict .verdict .given .1)) (longer (omega arith) (c .before .before .put-refusal .ensures))
-
-same-length-2 : tie.Need-same-length-2
-same-length-2 c = c .before .before .put-run .kept .0
 
 returns-2 : tie.Need-returns-2
 returns-2 c =
@@ -34,4 +28,4 @@ returns-2 c =
 
 pub put-listing-spec : {M : Type 1} → statement M
 put-listing-spec = tie.close (tie.spec (λ c. search needs) (λ c κs. search needs) (λ c. search needs) (λ c κs. search needs) (λ c κs. search needs)
-    (λ c κs. search needs) same-length returns same-length-2 returns-2)
+    (λ c κs. search needs) (λ c. c .before .before .put-refusal .kept .0) returns (λ c. c .before .before .put-run .kept .0) returns-2)

@@ -3,8 +3,8 @@ use Prim.Native.Nat.{_<_}
 use native.Mathlib.Omega.{arith}
 use mathlib.Core.Path.{ap, _∙_}
 use Rattle.image.specs.Refusals.{refusalNumber}
-use Rattle.listing.specs.Text.{decimal}
-use Rattle.listing.proofs.Puts.{then, as-text, within-limit}
+use Rattle.listing_lines.specs.Text.{decimal}
+use Rattle.listing_lines.proofs.Puts.{then, as-text, within-limit}
 use Rattle.listing.proofs.Bounds.{refusal-short}
 use borrow.Author.Needs.{needs}
 use Rattle.listing.proofs.put_refusal.Statement.{statement}

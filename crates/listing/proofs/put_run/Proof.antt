@@ -2,7 +2,7 @@
 use mathlib.Core.Path.{_∙_}
 use native.Mathlib.Omega.{arith}
 use denote.Ref.{now}
-use Rattle.listing.proofs.Puts.{then, within-limit}
+use Rattle.listing_lines.proofs.Puts.{then, within-limit}
 use Rattle.listing.proofs.Bounds.{run-short}
 use borrow.Author.Needs.{needs}
 use Rattle.listing.proofs.put_run.Statement.{statement}

@@ -33,9 +33,6 @@ use Rattle.need_rows.proofs.+add_branches+add_pieces.Proof.Places.{add-
 mod Cycle
 mod Places
 
-add-branches-slice-aggregate-add-rows : (t : ℕ) → add-branches-lts.Need-slice-aggregate-add-rows (branch-claims t) (add-branches-at t) add-branches.Post
-add-branches-slice-aggregate-add-rows t c = search needs
-
 add-branches-add-rows-requires : (t : ℕ) → add-branches-lts.Need-add-rows-requires (branch-claims t) (add-branches-at t) add-branches.Post
 add-branches-add-rows-requires t c κs = (refl, c .before .before .before .before .before .before .pre .1 .4)
 
@@ -45,17 +42,11 @@ add-branches-add-pieces-requires t c κs =
     let e = s .pre .0 in
     (omega arith, (s .pre .1 .0, s .pre .1 .1 .0, s .pre .1 .1 .1, s .pre .1 .3, s .pre .1 .4))
 
-add-branches-slice-aggregate-add-pieces : (t : ℕ) → add-branches-lts.Need-slice-aggregate-add-pieces (branch-claims t) (add-branches-at t) add-branches.Post
-add-branches-slice-aggregate-add-pieces t c = search needs
-
 add-branches-add-pieces-requires-2 : (t : ℕ) → add-branches-lts.Need-add-pieces-requires-2 (branch-claims t) (add-branches-at t) add-branches.Post
 add-branches-add-pieces-requires-2 t c κs =
     let s = c .before .before .before .before .before .before .before .before .before .before .before .before .before in
     let e = s .pre .0 in
     (omega arith, (s .pre .1 .0, s .pre .1 .2 .0, s .pre .1 .2 .1, s .pre .1 .3, c .before .before .before .before .before .before .add-rows .kept .0))
-
-add-branches-slice-aggregate-raise-rows : (t : ℕ) → add-branches-lts.Need-slice-aggregate-raise-rows (branch-claims t) (add-branches-at t) add-branches.Post
-add-branches-slice-aggregate-raise-rows t c = search needs
 
 add-branches-raise-rows-requires : (t : ℕ) → add-branches-lts.Need-raise-rows-requires (branch-claims t) (add-branches-at t) add-branches.Post
 add-branches-raise-rows-requires t c κs =
@@ -72,9 +63,6 @@ add-branches-returns t c =
     let a = c .before .before .before .before .before .before .before .before .before .before .before .before .before .before .before .before .before .before .before .before .args in
     let L = recordsOf (now (a .image)) in
     dearer-added (pieceAt (inRow L (a .s) (a .both .first .0))) (pieceAt (inRow L (a .s) (a .both .second .0))) (now (a .rows)) (at-first .add-pieces .last .1 .1 .1 .1 .1 .0) (at-copy .add-rows .last .0) (at-second .add-pieces2 .last .1 .1 .1 .1 .1 .0) (c .before .before .raise-rows .last .0) (at-copy .add-rows .ensures) (at-first .add-pieces .ensures) (at-second .add-pieces2 .ensures) (c .before .before .raise-rows .ensures)
-
-add-pieces-skips-all-requires : (t : ℕ) → add-pieces-lts.Need-skips-all-requires (claims t) (add-pieces-at t) add-pieces.Post add-pieces-Inv-loop add-pieces-μ-loop
-add-pieces-skips-all-requires t c κs = search needs
 
 add-pieces-returns : (t : ℕ) → add-pieces-lts.Need-returns (claims t) (add-pieces-at t) add-pieces.Post add-pieces-Inv-loop add-pieces-μ-loop
 add-pieces-returns t c =
@@ -102,9 +90,6 @@ add-pieces-term-fields-requires t c κs =
     let s = c .before .before .before .before .before .before .before .before in
     (s .pre .1 .0 .terms, s .pre .1 .1)
 
-add-pieces-shape-of-requires : (t : ℕ) → add-pieces-lts.Need-shape-of-requires (claims t) (add-pieces-at t) add-pieces.Post add-pieces-Inv-loop add-pieces-μ-loop
-add-pieces-shape-of-requires t c κs = search needs
-
 add-pieces-part-domain-requires : (t : ℕ) → add-pieces-lts.Need-part-domain-requires (claims t) (add-pieces-at t) add-pieces.Post add-pieces-Inv-loop add-pieces-μ-loop
 add-pieces-part-domain-requires t c κs =
     let f = c .before .before in
@@ -118,12 +103,6 @@ add-pieces-loop-holds : (t : ℕ) → add-pieces-lts.Need-loop-holds (claims t) 
 add-pieces-loop-holds t c =
     let s = begun c in
     (omega arith, s .pre .1 .4, λ n r. none-through (layout-of s) n (s .args .s) (c .before .before .before .shape-of .result .own) (now (s .args .rows)) (ap (λ y. y .own) (shape-is c r)) (s .pre .1 .3))
-
-add-pieces-role-at-requires : (t : ℕ) → add-pieces-lts.Need-role-at-requires (claims t) (add-pieces-at t) add-pieces.Post add-pieces-Inv-loop add-pieces-μ-loop
-add-pieces-role-at-requires t c κs = search needs
-
-add-pieces-is-branch-requires : (t : ℕ) → add-pieces-lts.Need-is-branch-requires (claims t) (add-pieces-at t) add-pieces.Post add-pieces-Inv-loop add-pieces-μ-loop
-add-pieces-is-branch-requires t c κs = search needs
 
 add-pieces-child-in-requires : (t : ℕ) → add-pieces-lts.Need-child-in-requires (claims t) (add-pieces-at t) add-pieces.Post add-pieces-Inv-loop add-pieces-μ-loop
 add-pieces-child-in-requires t c κs =
@@ -213,9 +192,6 @@ add-pieces-charge-rows-requires t c κs =
     let r = kept-row (layout-of s) (s .args .s) (s .args .n .0) (s .pre .1 .2) in
     (omega arith, at-loop .loop .inv .1)
 
-add-pieces-is-branch-requires-2 : (t : ℕ) → add-pieces-lts.Need-is-branch-requires-2 (claims t) (add-pieces-at t) add-pieces.Post add-pieces-Inv-loop add-pieces-μ-loop
-add-pieces-is-branch-requires-2 t c κs = search needs
-
 add-pieces-child-in-requires-2 : (t : ℕ) → add-pieces-lts.Need-child-in-requires-2 (claims t) (add-pieces-at t) add-pieces.Post add-pieces-Inv-loop add-pieces-μ-loop
 add-pieces-child-in-requires-2 t c κs =
     let d = c .before .before .before .before .before .before .before .before in
@@ -296,49 +272,14 @@ add-pieces-returns-4 t c =
     without-branches L n (s .args .s) (d .before .before .before .shape-of .result .own) (now (s .args .rows)) (good-of (image-of s) (s .pre .1 .0 .terms .laid-out)) (s .pre .1 .1) (λ e. match-three (s .pre .1 .0 .terms) (s .pre .1 .1) e) (l .j) h (l .rows) (at-charge-rows .charge-rows .last .0) (l .inv .2 n r) (at-charge-rows .charge-rows .ensures) b
 
 pub +add-branches+add-pieces-spec : {M : Type 1} → statement M
-+add-branches+add-pieces-spec =
-    close μ-add-branches
-    μ-add-pieces
-    (λ t. add-branches-lts.spec (branch-claims t)
-    (add-branches-at t)
-    add-branches.Post
-    (add-branches-slice-aggregate-add-rows t)
-    (add-branches-add-rows-requires t)
-    (add-branches-add-pieces-requires t)
-    (add-branches-slice-aggregate-add-pieces t)
-    (add-branches-add-pieces-requires-2 t)
-    (add-branches-slice-aggregate-raise-rows t)
-    (add-branches-raise-rows-requires t)
-    (add-branches-same-length t)
-    (add-branches-returns t))
-    λ t. add-pieces-lts.spec (claims t)
-    (add-pieces-at t)
-    add-pieces.Post
-    add-pieces-Inv-loop
-    add-pieces-μ-loop
-    (add-pieces-skips-all-requires t)
-    (add-pieces-returns t)
-    (add-pieces-term-kind-requires t)
-    (add-pieces-returns-2 t)
-    (add-pieces-term-fields-requires t)
-    (add-pieces-shape-of-requires t)
-    (add-pieces-part-domain-requires t)
-    (add-pieces-child-count-requires t)
-    (add-pieces-loop-holds t)
-    (add-pieces-role-at-requires t)
-    (add-pieces-is-branch-requires t)
-    (add-pieces-child-in-requires t)
-    (add-pieces-child-position-requires t)
-    (add-pieces-add-pieces-requires t)
-    (add-pieces-add-j t)
-    (add-pieces-loop-less t)
-    (add-pieces-loop-again t)
-    (add-pieces-charge-rows-requires t)
-    (add-pieces-is-branch-requires-2 t)
-    (add-pieces-child-in-requires-2 t)
-    (add-pieces-child-in-requires-3 t)
-    (add-pieces-add-branches-requires t)
-    (add-pieces-same-length t)
-    (add-pieces-returns-3 t)
-    (add-pieces-same-length-2 t)
-    (add-pieces-returns-4 t)
++add-branches+add-pieces-spec = close μ-add-branches μ-add-pieces
+    (λ t. add-branches-lts.spec (branch-claims t) (add-branches-at t) add-branches.Post (λ c. search needs) (add-branches-add-rows-requires t)
+    (add-branches-add-pieces-requires t) (λ c. search needs) (add-branches-add-pieces-requires-2 t) (λ c. search needs)
+    (add-branches-raise-rows-requires t) (add-branches-same-length t) (add-branches-returns t))
+    λ t. add-pieces-lts.spec (claims t) (add-pieces-at t) add-pieces.Post add-pieces-Inv-loop add-pieces-μ-loop (λ c κs. search needs)
+    (add-pieces-returns t) (add-pieces-term-kind-requires t) (add-pieces-returns-2 t) (add-pieces-term-fields-requires t) (λ c κs. search needs)
+    (add-pieces-part-domain-requires t) (add-pieces-child-count-requires t) (add-pieces-loop-holds t) (λ c κs. search needs) (λ c κs. search needs)
+    (add-pieces-child-in-requires t) (add-pieces-child-position-requires t) (add-pieces-add-pieces-requires t) (add-pieces-add-j t)
+    (add-pieces-loop-less t) (add-pieces-loop-again t) (add-pieces-charge-rows-requires t) (λ c κs. search needs) (add-pieces-child-in-requires-2 t)
+    (add-pieces-child-in-requires-3 t) (add-pieces-add-branches-requires t) (add-pieces-same-length t) (add-pieces-returns-3 t)
+    (add-pieces-same-length-2 t) (add-pieces-returns-4 t)

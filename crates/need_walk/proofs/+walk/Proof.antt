@@ -168,12 +168,6 @@ module _ {t : ℕ} where
       below : j < c .child-count .result → e < n
       below l = let k = count-is in child-below (begun c .pre .1 .0 .terms) r j e e-read (omega arith)
 
-walk-skips-all-requires : (t : ℕ) → walk-lts.Need-skips-all-requires (claims t) (walk-at t) walk.Post walk-Inv-loop walk-μ-loop
-walk-skips-all-requires t c κs = search needs
-
-walk-no-needs-requires : (t : ℕ) → walk-lts.Need-no-needs-requires (claims t) (walk-at t) walk.Post walk-Inv-loop walk-μ-loop
-walk-no-needs-requires t c κs = search needs
-
 walk-returns : (t : ℕ) → walk-lts.Need-returns (claims t) (walk-at t) walk.Post walk-Inv-loop walk-μ-loop
 walk-returns t c =
     let s = c .before .before .before .before .before .before .before .before .before in
@@ -184,9 +178,6 @@ walk-term-kind-requires : (t : ℕ) → walk-lts.Need-term-kind-requires (claims
 walk-term-kind-requires t c κs =
     let s = c .before .before .before .before .before .before .before .before in
     (s .pre .1 .0 .terms, s .pre .1 .1)
-
-walk-no-needs-requires-2 : (t : ℕ) → walk-lts.Need-no-needs-requires-2 (claims t) (walk-at t) walk.Post walk-Inv-loop walk-μ-loop
-walk-no-needs-requires-2 t c κs = search needs
 
 walk-returns-2 : (t : ℕ) → walk-lts.Need-returns-2 (claims t) (walk-at t) walk.Post walk-Inv-loop walk-μ-loop
 walk-returns-2 t c =
@@ -200,9 +191,6 @@ walk-term-fields-requires : (t : ℕ) → walk-lts.Need-term-fields-requires (cl
 walk-term-fields-requires t c κs =
     let s = c .before .before .before .before .before .before .before .before .before .before in
     (s .pre .1 .0 .terms, s .pre .1 .1)
-
-walk-shape-of-requires : (t : ℕ) → walk-lts.Need-shape-of-requires (claims t) (walk-at t) walk.Post walk-Inv-loop walk-μ-loop
-walk-shape-of-requires t c κs = search needs
 
 walk-part-domain-requires : (t : ℕ) → walk-lts.Need-part-domain-requires (claims t) (walk-at t) walk.Post walk-Inv-loop walk-μ-loop
 walk-part-domain-requires t c κs =
@@ -227,9 +215,6 @@ walk-own-needs-requires t c κs =
     let d = s .pre .1 .2 .deep in
     omega arith
 
-walk-no-needs-requires-3 : (t : ℕ) → walk-lts.Need-no-needs-requires-3 (claims t) (walk-at t) walk.Post walk-Inv-loop walk-μ-loop
-walk-no-needs-requires-3 t c κs = search needs
-
 walk-loop-holds : (t : ℕ) → walk-lts.Need-loop-holds (claims t) (walk-at t) walk.Post walk-Inv-loop walk-μ-loop
 walk-loop-holds t c =
     let d = c .before .before .before in
@@ -249,9 +234,6 @@ walk-loop-holds t c =
           ∙ (ap (λ x. ownNeeds (own n) S (domain-at L n) x) (m .ensures) ∙ own-cut L S (omega arith) row (own n) (domain-at L n) (s .args .each) (now (s .args .rows)) (s .pre .1 .4)))) in
           (o ∙ sum-start L n S, c .no-needs3 .ensures ∙ choice-start L n S),
     )
-
-walk-role-at-requires : (t : ℕ) → walk-lts.Need-role-at-requires (claims t) (walk-at t) walk.Post walk-Inv-loop walk-μ-loop
-walk-role-at-requires t c κs = search needs
 
 walk-child-in-requires : (t : ℕ) → walk-lts.Need-child-in-requires (claims t) (walk-at t) walk.Post walk-Inv-loop walk-μ-loop
 walk-child-in-requires t c κs =
@@ -294,18 +276,6 @@ walk-walk-requires t c κs =
     let child : IsChild L n j e = record { there = i; place = omega arith; is = sym (is-child d r j e (at-child-in .child-in .ensures)) } in
     let placed = child-placed L S n e p j role low child (s .pre .1 .2) in
     (rw (← s .pre .0) low, (s .pre .1 .0, omega arith, subst (λ y. Placed L y e) (sym q) placed, s .pre .1 .3, subst (λ y. Known L y w rows) (sym q) (child-known L S role p w rows (s .pre .1 .4))))
-
-walk-added-requires : (t : ℕ) → walk-lts.Need-added-requires (claims t) (walk-at t) walk.Post walk-Inv-loop walk-μ-loop
-walk-added-requires t c κs = search needs
-
-walk-add-requires : (t : ℕ) → walk-lts.Need-add-requires (claims t) (walk-at t) walk.Post walk-Inv-loop walk-μ-loop
-walk-add-requires t c κs = search needs
-
-walk-chosen-requires : (t : ℕ) → walk-lts.Need-chosen-requires (claims t) (walk-at t) walk.Post walk-Inv-loop walk-μ-loop
-walk-chosen-requires t c κs = search needs
-
-walk-dearer-requires : (t : ℕ) → walk-lts.Need-dearer-requires (claims t) (walk-at t) walk.Post walk-Inv-loop walk-μ-loop
-walk-dearer-requires t c κs = search needs
 
 walk-add-j : (t : ℕ) → walk-lts.Need-add-j (claims t) (walk-at t) walk.Post walk-Inv-loop walk-μ-loop
 walk-add-j t c =
@@ -356,9 +326,6 @@ walk-loop-again t c =
           (sum-turn L n S (l .j) h role p e x hr hp he hx (l .sum) (at-added .added .result) (c .before .before .add .result) (so .0) (at-added .added .ensures) (c .before .before .add .ensures), choice-turn L n S (l .j) h role p e x hr hp he hx (l .choice) (v .result) (c .before .chosen .result) (c .dearer .result) (so .1) (variables-are d r) (v .ensures .1) (c .before .chosen .ensures) (c .dearer .ensures)),
     )
 
-walk-add-requires-2 : (t : ℕ) → walk-lts.Need-add-requires-2 (claims t) (walk-at t) walk.Post walk-Inv-loop walk-μ-loop
-walk-add-requires-2 t c κs = search needs
-
 walk-returns-3 : (t : ℕ) → walk-lts.Need-returns-3 (claims t) (walk-at t) walk.Post walk-Inv-loop walk-μ-loop
 walk-returns-3 t c =
     let at-loop = c .before .before in
@@ -375,36 +342,9 @@ walk-returns-3 t c =
     all-through L n (good-of (image-of s) (s .pre .1 .0 .terms .laid-out)) (s .pre .1 .1) (λ e. match-three (s .pre .1 .0 .terms) (s .pre .1 .1) e) (position-of s) (l .j) h (l .sum) (l .choice) (c .add2 .result) (so .0) (so .1) (c .add2 .ensures)
 
 pub +walk-spec : {M : Type 1} → statement M
-+walk-spec = close μ-walk λ t. walk-lts.spec (claims t)
-    (walk-at t)
-    walk.Post
-    walk-Inv-loop
-    walk-μ-loop
-    (walk-skips-all-requires t)
-    (walk-no-needs-requires t)
-    (walk-returns t)
-    (walk-term-kind-requires t)
-    (walk-no-needs-requires-2 t)
-    (walk-returns-2 t)
-    (walk-term-fields-requires t)
-    (walk-shape-of-requires t)
-    (walk-part-domain-requires t)
-    (walk-branch-variables-requires t)
-    (walk-child-count-requires t)
-    (walk-at-mark-requires t)
-    (walk-own-needs-requires t)
-    (walk-no-needs-requires-3 t)
-    (walk-loop-holds t)
-    (walk-role-at-requires t)
-    (walk-child-in-requires t)
-    (walk-child-position-requires t)
-    (walk-walk-requires t)
-    (walk-added-requires t)
-    (walk-add-requires t)
-    (walk-chosen-requires t)
-    (walk-dearer-requires t)
-    (walk-add-j t)
-    (walk-loop-less t)
-    (walk-loop-again t)
-    (walk-add-requires-2 t)
-    (walk-returns-3 t)
++walk-spec = close μ-walk λ t. walk-lts.spec (claims t) (walk-at t) walk.Post walk-Inv-loop walk-μ-loop (λ c κs. search needs) (λ c κs. search needs)
+    (walk-returns t) (walk-term-kind-requires t) (λ c κs. search needs) (walk-returns-2 t) (walk-term-fields-requires t) (λ c κs. search needs)
+    (walk-part-domain-requires t) (walk-branch-variables-requires t) (walk-child-count-requires t) (walk-at-mark-requires t)
+    (walk-own-needs-requires t) (λ c κs. search needs) (walk-loop-holds t) (λ c κs. search needs) (walk-child-in-requires t)
+    (walk-child-position-requires t) (walk-walk-requires t) (λ c κs. search needs) (λ c κs. search needs) (λ c κs. search needs)
+    (λ c κs. search needs) (walk-add-j t) (walk-loop-less t) (walk-loop-again t) (λ c κs. search needs) (walk-returns-3 t)

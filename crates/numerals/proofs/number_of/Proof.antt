@@ -16,12 +16,6 @@ Inv-loop digits most said₀ i₀ said i = (i ≤ length digits) × (numeral mos
 abbrev μ-loop : tie.MeasureT-loop
 μ-loop digits most said₀ i₀ said i = length digits - i
 
-returns : tie.Need-returns Inv-loop μ-loop
-returns c = none-said _ (now (c .before .before .args .digits)) (search needs)
-
-loop-holds : tie.Need-loop-holds Inv-loop μ-loop
-loop-holds c = (omega arith, some-said _ _ (search needs))
-
 loop-again : tie.Need-loop-again Inv-loop μ-loop
 loop-again c =
     let at-loop = c .before .before .before in
@@ -37,5 +31,7 @@ returns-2 c =
     sym (l .inv .1 ∙ no-more (s .most) (now (s .digits)) (l .said) (l .i) (search needs))
 
 pub number-of-spec : {M : Type 1} → statement M
-number-of-spec = tie.close (tie.spec Inv-loop μ-loop returns loop-holds (λ c. search needs) (λ c κs. search needs) (λ c. search needs)
-    (λ c. search needs) loop-again returns-2)
+number-of-spec = tie.close (tie.spec Inv-loop μ-loop
+    (λ c. none-said _ (now (c .before .before .args .digits)) (search needs))
+    (λ c. (omega arith, some-said _ _ (search needs))) (λ c. search needs) (λ c κs. search needs) (λ c. search needs) (λ c. search needs) loop-again
+    returns-2)

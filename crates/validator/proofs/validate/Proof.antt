@@ -4,8 +4,6 @@ use borrow.Author.Needs.{needs}
 use Rattle.validator.proofs.validate.Statement.{statement}
 use Rattle.validator.proofs.validate.Tie as tie
 
-returns : tie.Need-returns
-returns c = c .verdict-of .ensures ∙ c .before .check-call .ensures .0 .answer
-
 pub validate-spec : {M : Type 1} → statement M
-validate-spec = tie.close (tie.spec (λ c κs. search needs) (λ c κs. search needs) returns)
+validate-spec = tie.close (tie.spec (λ c κs. search needs) (λ c κs. search needs)
+    (λ c. c .verdict-of .ensures ∙ c .before .check-call .ensures .0 .answer))

@@ -21,8 +21,5 @@ returns c =
     let e : c .entry-term .result .0 ≡ s .args .v - 1 = omega (arith, c .entry-term .ensures) in
     e ∙ simp (eq-eqb _ _ (c .before .if1 .taken))
 
-returns-2 : tie.Need-returns-2
-returns-2 c = simp (ne-eqb _ _ (c .if1 .left))
-
 pub child-no-spec : {M : Type 1} → statement M
-child-no-spec = tie.close (tie.spec entry-term-requires returns returns-2)
+child-no-spec = tie.close (tie.spec entry-term-requires returns (λ c. simp (ne-eqb _ _ (c .if1 .left))))

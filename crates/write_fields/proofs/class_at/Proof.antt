@@ -14,15 +14,6 @@ returns-2 : tie.Need-returns-2
 unfolding digitAt
 returns-2 c = rw (c .match .keys2)
 
-returns-3 : tie.Need-returns-3
-returns-3 c = rw (c .match .keys3) (digit2 (c .before .args .classes))
-
-returns-4 : tie.Need-returns-4
-returns-4 c = rw (c .match .keys4) (digit3 (c .before .args .classes))
-
-returns-5 : tie.Need-returns-5
-returns-5 c = rw (c .match .keys5) (digit4 (c .before .args .classes))
-
 returns-6 : tie.Need-returns-6
 returns-6 c =
     let r = c .match .rest in
@@ -32,4 +23,8 @@ returns-6 c =
     rw e (digit5 (s .args .classes))
 
 pub class-at-spec : {M : Type 1} → statement M
-class-at-spec = tie.close (tie.spec returns returns-2 returns-3 returns-4 returns-5 returns-6)
+class-at-spec = tie.close (tie.spec returns returns-2
+    (λ c. rw (c .match .keys3) (digit2 (c .before .args .classes)))
+    (λ c. rw (c .match .keys4) (digit3 (c .before .args .classes)))
+    (λ c. rw (c .match .keys5) (digit4 (c .before .args .classes)))
+    returns-6)

@@ -39,26 +39,14 @@ module _ (t : ℕ) where
   put-number-requires : lts.Need-put-number-requires (claims t) (grow-at t) reads.Post
   put-number-requires c κs = capacity-number (c .before .before .before .pre .1)
 
-  same-length : lts.Need-same-length (claims t) (grow-at t) reads.Post
-  same-length c = search needs
-
   returns : lts.Need-returns (claims t) (grow-at t) reads.Post
   returns c =
       let e = c .before .before .before .before .if1 .taken in
       let s = c .before .before .before .before .before .before .args .done .state in
       same-grew {d = c .before .before .before .before .before .before .args .depth} {d′ = 0} (ap (λ d. grow d s) e) refl refl (c .before .before .put-number .ensures)
 
-  draw-requires : lts.Need-draw-requires (claims t) (grow-at t) reads.Post
-  draw-requires c κs = search needs
-
-  is-number-requires : lts.Need-is-number-requires (claims t) (grow-at t) reads.Post
-  is-number-requires c κs = search needs
-
   put-number-requires-2 : lts.Need-put-number-requires-2 (claims t) (grow-at t) reads.Post
   put-number-requires-2 c κs = capacity-number (c .before .before .before .before .before .before .pre .1)
-
-  same-length-2 : lts.Need-same-length-2 (claims t) (grow-at t) reads.Post
-  same-length-2 c = search needs
 
   returns-2 : lts.Need-returns-2 (claims t) (grow-at t) reads.Post
   returns-2 c =
@@ -85,9 +73,6 @@ module _ (t : ℕ) where
       let h = deep (choice-of k) (depth-of k) (c .before .before .before .before .before .if3 .taken) (no-number-drawn k) in
       capacity-print (k .before .before .before .before .before .pre .1) refl refl h (c .before .before .before .grow .ensures)
 
-  sub-grow-2 : lts.Need-sub-grow-2 (claims t) (grow-at t) reads.Post
-  sub-grow-2 c = search needs
-
   grow-requires-2 : lts.Need-grow-requires-2 (claims t) (grow-at t) reads.Post
   grow-requires-2 c κs =
       let k = c .before .before .before .before .before .before .before .before .before .before in
@@ -107,9 +92,6 @@ module _ (t : ℕ) where
       let h = deep (choice-of k) (depth-of k) (c .before .before .before .before .before .before .before .before .before .before .before .before .before .before .if3 .taken) (no-number-drawn k) in
       capacity-sequence (k .before .before .before .before .before .pre .1) refl refl h (c .before .before .before .before .before .before .before .before .before .before .before .before .grow .ensures) (c .before .before .before .before .before .before .before .before .put-print .ensures) (c .before .before .before .before .before .before .before .before .put-print .kept .0) (c .before .before .before .before .grow2 .ensures)
 
-  same-length-3 : lts.Need-same-length-3 (claims t) (grow-at t) reads.Post
-  same-length-3 c = search needs
-
   returns-3 : lts.Need-returns-3 (claims t) (grow-at t) reads.Post
   returns-3 c =
       let k = c .before .before .before .before .before .before .before .before .before .before .before .before .before .before .before .before .before .before in
@@ -119,18 +101,12 @@ module _ (t : ℕ) where
       let e = trace-follows (depth-of k) (s .args .done .state) h (choice-is k ∙ c .before .before .before .before .before .before .before .before .before .before .before .before .before .before .before .before .before .if3 .taken) ∙ ap (λ q. both traced (grow (depth-of k - 2) q) (grow (depth-of k - 1))) (sym w) in
       trace-grew (depth-of k) e refl refl (capacity-trace (s .pre .1) h) (c .before .before .before .before .before .before .before .before .before .before .before .before .before .before .before .grow .ensures) (c .before .before .before .before .before .before .before .before .before .before .before .put-print .ensures) (c .before .before .before .before .before .before .before .grow2 .ensures) (rw (c .before .before .before .last-term .ensures) at (c .before .before .put-sequence .ensures))
 
-  sub-grow-3 : lts.Need-sub-grow-3 (claims t) (grow-at t) reads.Post
-  sub-grow-3 c = search needs
-
   grow-requires-3 : lts.Need-grow-requires-3 (claims t) (grow-at t) reads.Post
   grow-requires-3 c κs =
       let k = c .before .before in
       let d = some-depth k in
       let m = k .before .before .before .before .before .pre .0 in
       (omega arith, capacity-first (k .before .before .before .before .before .pre .1) refl refl d)
-
-  sub-grow-4 : lts.Need-sub-grow-4 (claims t) (grow-at t) reads.Post
-  sub-grow-4 c = search needs
 
   grow-requires-4 : lts.Need-grow-requires-4 (claims t) (grow-at t) reads.Post
   grow-requires-4 c κs =
@@ -154,9 +130,6 @@ module _ (t : ℕ) where
       let e = c .before .before .before .before .before .before .before .before .before .before .if3 .left in
       (r .0, r .1, r .2, omega arith)
 
-  same-length-4 : lts.Need-same-length-4 (claims t) (grow-at t) reads.Post
-  same-length-4 c = search needs
-
   returns-4 : lts.Need-returns-4 (claims t) (grow-at t) reads.Post
   returns-4 c =
       let k = c .before .before .before .before .before .before .before .before .before .before .before .before .before .before in
@@ -170,34 +143,8 @@ module _ (t : ℕ) where
       sum-grew (depth-of k) (choice-of k - 1) e refl refl (capacity-both (s .pre .1) d) (c .before .before .before .before .before .before .before .before .before .before .before .grow3 .ensures) (c .before .before .before .before .before .before .before .grow4 .ensures) (rw (c .before .before .before .last-term2 .ensures) at (c .before .before .put-sum .ensures))
 
 pub +grow-spec : {M : Type 1} → statement M
-+grow-spec =
-    close μ-grow
-    λ t. lts.spec (claims t)
-    (grow-at t)
-    reads.Post
-    (put-number-requires t)
-    (same-length t)
-    (returns t)
-    (draw-requires t)
-    (is-number-requires t)
-    (put-number-requires-2 t)
-    (same-length-2 t)
-    (returns-2 t)
-    (sub-grow t)
-    (grow-requires t)
-    (put-print-requires t)
-    (sub-grow-2 t)
-    (grow-requires-2 t)
-    (last-term-requires t)
-    (put-sequence-requires t)
-    (same-length-3 t)
-    (returns-3 t)
-    (sub-grow-3 t)
-    (grow-requires-3 t)
-    (sub-grow-4 t)
-    (grow-requires-4 t)
-    (sub-put-sum t)
-    (last-term-requires-2 t)
-    (put-sum-requires t)
-    (same-length-4 t)
-    (returns-4 t)
++grow-spec = close μ-grow λ t. lts.spec (claims t) (grow-at t) reads.Post (put-number-requires t) (λ c. search needs) (returns t)
+    (λ c κs. search needs) (λ c κs. search needs) (put-number-requires-2 t) (λ c. search needs) (returns-2 t) (sub-grow t) (grow-requires t)
+    (put-print-requires t) (λ c. search needs) (grow-requires-2 t) (last-term-requires t) (put-sequence-requires t) (λ c. search needs) (returns-3 t)
+    (λ c. search needs) (grow-requires-3 t) (λ c. search needs) (grow-requires-4 t) (sub-put-sum t) (last-term-requires-2 t) (put-sum-requires t)
+    (λ c. search needs) (returns-4 t)

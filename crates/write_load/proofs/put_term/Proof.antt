@@ -27,5 +27,4 @@ returns c =
     }
 
 pub put-term-spec : {M : Type 1} → statement M
-put-term-spec =
-    tie.close (tie.spec (λ c κs. search needs) (λ c. search needs) (λ c. search needs) returns)
+put-term-spec = tie.close (tie.spec (λ c κs. search needs) (λ c. search needs) (λ c. search needs) returns)

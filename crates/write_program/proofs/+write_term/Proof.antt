@@ -15,6 +15,7 @@ use Rattle.image_written.specs.Written.{terms}
 use Rattle.image_written.proofs.Sums.{weight}
 use Rattle.image_written.proofs.Sizes.{termSize}
 use Rattle.image_written.proofs.Fronts.{treeAt, sortsAt, numbersOf}
+use Rattle.image_written.specs.Records.{fieldLimit}
 use Rattle.write_terms.proofs.Located.{known, read, child-lower}
 use Rattle.write_program.specs.Writing.{Capacity, Wrote}
 use Rattle.write_program.proofs.Begun.{Begun, Come, come-none, begun-none, record-capacity, come-behind, few-terms, type-number, child-capacity, child-number, come-child, begun-child, come-same, begun-kept, begun-all}
@@ -28,7 +29,7 @@ mod Cycle
 -- The loop keeps the fields, and not the term's number: what it claims holds of every term that they are the fields of.
 abbrev Inv-loop : lts.InvT-loop
 Inv-loop image codes terms places out₀ fields kind known numbers₀ d₀ i₀ out numbers d i =
-    (i ≤ known .count) × (length out ≡ length out₀) × (length numbers ≡ 16)
+    (i ≤ known .count) × (length out ≡ length out₀) × (length numbers ≡ fieldLimit)
     × ((e : ℕ) → IsTerm image e → Capacity image e d₀ (length out₀) → RecordRead fields (known .code) (known .count) (sortsAt (recordsOf image) e) (numbersOf (recordsOf image) e)
     → Come image e i d₀ d × Begun image places e d₀ i out₀ out numbers)
 
@@ -77,9 +78,6 @@ module _ (t : ℕ) where
 
   field-requires : lts.Need-field-requires (claims t) (write-term-at t) reads.Post Inv-loop μ-loop
   field-requires c κs = read-of (c .before .before .before .before) .inside (c .before .before .before .loop .i) (search needs)
-
-  is-child-requires : lts.Need-is-child-requires (claims t) (write-term-at t) reads.Post Inv-loop μ-loop
-  is-child-requires c κs = search needs
 
   child-no-requires : lts.Need-child-no-requires (claims t) (write-term-at t) reads.Post Inv-loop μ-loop
   child-no-requires c κs = sym (c .before .before .is-child .ensures) ∙ c .before .if2 .taken
@@ -152,12 +150,6 @@ module _ (t : ℕ) where
       let f = read-of k .few in
       search needs
 
-  add-i : lts.Need-add-i (claims t) (write-term-at t) reads.Post Inv-loop μ-loop
-  add-i c = search needs
-
-  loop-less : lts.Need-loop-less (claims t) (write-term-at t) reads.Post Inv-loop μ-loop
-  loop-less c = search needs
-
   loop-again : lts.Need-loop-again (claims t) (write-term-at t) reads.Post Inv-loop μ-loop
   loop-again c =
       let q = c .before in
@@ -202,9 +194,6 @@ module _ (t : ℕ) where
       ))
       (c .if2 .came)
 
-  slice-aggregate-put-term : lts.Need-slice-aggregate-put-term (claims t) (write-term-at t) reads.Post Inv-loop μ-loop
-  slice-aggregate-put-term c = search needs
-
   put-term-requires : lts.Need-put-term-requires (claims t) (write-term-at t) reads.Post Inv-loop μ-loop
   put-term-requires c κs =
       let k = c .before .before .before .before .before in
@@ -215,9 +204,6 @@ module _ (t : ℕ) where
       let r = record-capacity (table k) (is-term k) (i .i) (capacity k) (i .inv .3 (number-of k) (is-term k) (capacity k) (read-of k) .0) in
       let o = i .inv .1 in
       (f, omega arith, omega arith, few-terms (table k) (is-term k) (i .i) (capacity k) (i .inv .3 (number-of k) (is-term k) (capacity k) (read-of k) .0))
-
-  same-length : lts.Need-same-length (claims t) (write-term-at t) reads.Post Inv-loop μ-loop
-  same-length c = search needs
 
   returns : lts.Need-returns (claims t) (write-term-at t) reads.Post Inv-loop μ-loop
   returns c =
@@ -237,32 +223,8 @@ module _ (t : ℕ) where
       (omega arith, w .1 ∙ y, begun-all (table k) (is-term k) (i .i) (k .known-fields .result .count) (m .result) (sym n) (omega arith) (omega arith) (m .ensures) (capacity k) (i .inv .3 (number-of k) (is-term k) (capacity k) (read-of k) .0) (i .inv .3 (number-of k) (is-term k) (capacity k) (read-of k) .1) (w .2))
 
 pub +write-term-spec : {M : Type 1} → statement M
-+write-term-spec =
-    close μ-write-term
-    λ t. lts.spec (claims t)
-    (write-term-at t)
-    reads.Post
-    Inv-loop
-    μ-loop
-    (term-fields-requires t)
-    (term-kind-requires t)
-    (known-fields-requires t)
-    (loop-holds t)
-    (class-of-requires t)
-    (field-requires t)
-    (is-child-requires t)
-    (child-no-requires t)
-    (write-term-requires t)
-    (last-number-requires t)
-    (mul-numbers t)
-    (array-write-numbers t)
-    (kept-number-requires t)
-    (mul-numbers-2 t)
-    (array-write-numbers-2 t)
-    (add-i t)
-    (loop-less t)
-    (loop-again t)
-    (slice-aggregate-put-term t)
-    (put-term-requires t)
-    (same-length t)
-    (returns t)
++write-term-spec = close μ-write-term λ t. lts.spec (claims t) (write-term-at t) reads.Post Inv-loop μ-loop (term-fields-requires t)
+    (term-kind-requires t) (known-fields-requires t) (loop-holds t) (class-of-requires t) (field-requires t) (λ c κs. search needs)
+    (child-no-requires t) (write-term-requires t) (last-number-requires t) (mul-numbers t) (array-write-numbers t) (kept-number-requires t)
+    (mul-numbers-2 t) (array-write-numbers-2 t) (λ c. search needs) (λ c. search needs) (loop-again t) (λ c. search needs) (put-term-requires t)
+    (λ c. search needs) (returns t)

@@ -16,5 +16,4 @@ returns c =
     w .ensures ∙ ap (λ bs. over (a .at) bs (now (a .out))) (two-numbers (4 + 2 * a .count) (a .kind) (omega arith) (search needs))
 
 pub put-head-spec : {M : Type 1} → statement M
-put-head-spec =
-    tie.close (tie.spec (λ c. search needs) (λ c. search needs) (λ c. search needs) (λ c κs. search needs) (λ c. search needs) returns)
+put-head-spec = tie.close (tie.spec (λ c. search needs) (λ c. search needs) (λ c. search needs) (λ c κs. search needs) (λ c. search needs) returns)

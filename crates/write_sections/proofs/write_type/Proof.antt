@@ -23,11 +23,12 @@ use Rattle.write_fields.proofs.class_of.Reads as class-of-reads
 use Rattle.read_records.proofs.fields.field.Reads as field-reads
 use Rattle.write_types.proofs.kept_number.Reads as kept-number-reads
 use Rattle.write_records.proofs.put_record.Reads as put-record-reads
+use Rattle.image_written.specs.Records.{fieldLimit}
 
 -- The loop keeps the fields, and not the type's number: what it claims holds of every type that they are the fields of.
 abbrev Inv-loop : tie.InvT-loop
 Inv-loop image codes types places out at fields kind known numbers₀ i₀ numbers i =
-    (i ≤ known .count) × (length numbers ≡ 16)
+    (i ≤ known .count) × (length numbers ≡ fieldLimit)
     × ((t : ℕ) → IsType image t → RecordRead fields (known .code) (known .count) (sortsAt image t) (typeFields (recordsOf image) t) → Numbered image places t i numbers)
 
 abbrev μ-loop : tie.MeasureT-loop
@@ -70,9 +71,6 @@ is-type k = k .before .before .before .before .before .before .before .before .p
 read-of : (k : Read) → RecordRead (now (k .before .before .type-fields .result)) (k .known-fields .result .code) (k .known-fields .result .count) (sortsAt (image-of k) (number-of k)) (typeFields (recordsOf (image-of k)) (number-of k))
 read-of k = read (offsets k) (is-type k) (k .before .type-kind .ensures) (k .before .before .type-fields .ensures) (k .known-fields .ensures)
 
-type-fields-requires : tie.Need-type-fields-requires Inv-loop μ-loop
-type-fields-requires c κs = let s = c .before .before .before .before .before in (s .pre .1, s .pre .2)
-
 type-kind-requires : tie.Need-type-kind-requires Inv-loop μ-loop
 type-kind-requires c κs = let s = c .before .before .before .before .before .before in (s .pre .1, s .pre .2)
 
@@ -80,9 +78,6 @@ known-fields-requires : tie.Need-known-fields-requires Inv-loop μ-loop
 known-fields-requires c κs =
     let s = c .before .before .before .before .before .before .before in
     (s .pre .0, rw (c .type-kind .ensures, c .before .type-fields .ensures) (known (s .pre .1) (s .pre .2)))
-
-loop-holds : tie.Need-loop-holds Inv-loop μ-loop
-loop-holds c = (omega arith, refl, λ t h R. numbered-none _ _ _ _)
 
 class-of-requires : tie.Need-class-of-requires Inv-loop μ-loop
 class-of-requires c κs = let k = c .before .before .before in read-of k .asks (c .before .before .loop .i) (search needs)
@@ -161,6 +156,8 @@ returns c =
     (omega arith, numbered-all (offsets k) (is-type k) (i .i) (k .known-fields .result .count) (m .result) _ (sym n) (omega arith) (omega arith) (m .ensures) (i .inv .2 (number-of k) (is-type k) (read-of k)) (w .ensures .1))
 
 pub write-type-spec : {M : Type 1} → statement M
-write-type-spec = tie.close (tie.spec Inv-loop μ-loop type-fields-requires type-kind-requires known-fields-requires loop-holds class-of-requires
-    field-requires kept-number-requires mul-numbers array-write-numbers (λ c. search needs) (λ c. search needs) loop-again (λ c. search needs)
-    put-record-requires (λ c. search needs) returns)
+write-type-spec = tie.close (tie.spec Inv-loop μ-loop
+    (λ c κs. let s = c .before .before .before .before .before in (s .pre .1, s .pre .2))
+    type-kind-requires known-fields-requires (λ c. (omega arith, refl, λ t h R. numbered-none _ _ _ _)) class-of-requires field-requires
+    kept-number-requires mul-numbers array-write-numbers (λ c. search needs) (λ c. search needs) loop-again (λ c. search needs) put-record-requires
+    (λ c. search needs) returns)

@@ -4,9 +4,6 @@ use mathlib.Core.Path.{refl}
 use Rattle.write_stripped.proofs.stripped_place.Statement.{statement}
 use Rattle.write_stripped.proofs.stripped_place.Tie as tie
 
-returns-2 : tie.Need-returns-2
-returns-2 c = rw (c .before .s .given .1) refl
-
 pub stripped-place-spec : {M : Type 1} → statement M
 stripped-place-spec = tie.close (tie.spec (λ c. search needs) (λ c. search needs) (λ c. search needs) (λ c. search needs) (λ c. search needs)
-    returns-2 (λ c. search needs) (λ c. search needs))
+    (λ c. rw (c .before .s .given .1) refl) (λ c. search needs) (λ c. search needs))

@@ -6,6 +6,7 @@ use mathlib.Core.List.{List}
 use denote.Ref.{now}
 use lib.ListN.{length, replicate, length-replicate}
 use lib.Seq.{length-take-le}
+use Rattle.image.specs.Limits.{imageLimit}
 use Rattle.write_stripped.proofs.Acceptance.{wrong-left, short-left, written-left}
 use Rattle.write_stripped.proofs.write_checked.Statement.{statement}
 use Rattle.write_stripped.proofs.write_checked.Tie as tie
@@ -24,13 +25,13 @@ slice-aggregate-write-copy : tie.Need-slice-aggregate-write-copy
 slice-aggregate-write-copy c =
     let s = c .before .before .before .before .before .before .before .before .before .before .before in
     let b : List ℕ = now (s .args .image) in
-    sym (length-take-le (length b) (replicate 16384 0) (subst (λ n. length b ≤ n) (sym (length-replicate {A = ℕ} 16384 0)) (s .pre .0)))
+    sym (length-take-le (length b) (replicate imageLimit 0) (subst (λ n. length b ≤ n) (sym (length-replicate {A = ℕ} imageLimit 0)) (s .pre .0)))
 
 write-copy-requires : tie.Need-write-copy-requires
 write-copy-requires c κs =
     let s = c .before .before .before .before .before .before .before .before .before .before .before .before in
     let b : List ℕ = now (s .args .image) in
-    (s .pre .0, s .pre .1, s .pre .2, s .pre .3, s .pre .4, s .pre .5, length-take-le (length b) (replicate 16384 0) (subst (λ n. length b ≤ n) (sym (length-replicate {A = ℕ} 16384 0)) (s .pre .0)), c .before .before .if2 .left)
+    (s .pre .0, s .pre .1, s .pre .2, s .pre .3, s .pre .4, s .pre .5, length-take-le (length b) (replicate imageLimit 0) (subst (λ n. length b ≤ n) (sym (length-replicate {A = ℕ} imageLimit 0)) (s .pre .0)), c .before .before .if2 .left)
 
 returns-3 : tie.Need-returns-3
 returns-3 c =

@@ -9,7 +9,8 @@ use lib.ListN.{length}
 use Rattle.calculus.specs.Syntax.{Dom}
 use Rattle.image.specs.Layout.{recordsOf}
 use Rattle.base_bytes.specs.Bytes.{over}
-use Rattle.write_unit_bodies.specs.UnitBodies.{inMask, UnitBodies}
+use Rattle.write_masks.specs.Masks.{inMask}
+use Rattle.write_unit_bodies.specs.UnitBodies.{UnitBodies}
 use Rattle.validator_core.proofs.Stages.{accepted}
 use Rattle.write_stripped.proofs.Copies.{copy-domains, copy-types, copy-terms, copy-counted, copy-fits, copy-written}
 use Rattle.write_stripped.proofs.write_copy.Statement.{statement}
@@ -50,5 +51,4 @@ returns c =
     (w .0 ∙ ap length e, w .1 ∙ ap (λ bs. over 0 bs (now (s .args .out))) e)
 
 pub write-copy-spec : {M : Type 1} → statement M
-write-copy-spec =
-    tie.close (tie.spec copy-with-unit-bodies-requires write-whole-requires (λ c. search needs) (λ c. search needs) returns)
+write-copy-spec = tie.close (tie.spec copy-with-unit-bodies-requires write-whole-requires (λ c. search needs) (λ c. search needs) returns)

@@ -14,7 +14,7 @@ write-checked-requires : tie.Need-write-checked-requires
 write-checked-requires c κs =
     let at-checked2 = c .before .before .before .before .before .before .before in
     let at-examine-image = at-checked2 .before .before .before in
-    let at-kind-codes = at-examine-image .before .before .before .before .before .before in
+    let at-kind-codes = at-examine-image .before .before .before .before .before in
     let at-if1 = at-kind-codes .before in
     let t = at-checked2 .checked2 .given .1 in
     let e = at-examine-image .examine-image .ensures .0 in
@@ -24,11 +24,11 @@ write-checked-requires c κs =
 returns-2 : tie.Need-returns-2
 returns-2 c =
     let at-examine-image = c .before .before .before .before in
-    let at-if1 = at-examine-image .before .before .before .before .before .before .before in
+    let at-if1 = at-examine-image .before .before .before .before .before .before in
     let s = at-if1 .before .before .before in
     examined-left (now (s .args .image)) (s .args .mask) (now (s .args .out)) (at-if1 .if1 .left) _ _ (ap verdictOf (sym (c .before .checked .given .1)) ∙ at-examine-image .examine-image .ensures .0 .answer)
 
 pub write-stripped-spec : {M : Type 1} → statement M
-write-stripped-spec = tie.close (tie.spec returns (λ c κs. search needs) (λ c. search needs) (λ c. search needs) (λ c κs. search needs)
+write-stripped-spec = tie.close (tie.spec returns (λ c κs. search needs) (λ c. search needs) (λ c κs. search needs)
     (λ c. search needs) (λ c. search needs) (λ c. search needs) (λ c. search needs) (λ c. search needs) (λ c. search needs) (λ c. search needs)
     write-checked-requires returns-2 (λ c. search needs) (λ c. search needs))

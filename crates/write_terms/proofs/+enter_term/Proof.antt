@@ -79,12 +79,6 @@ module _ (t : ℕ) where
   field-requires : lts.Need-field-requires (claims t) (enter-term-at t) reads.Post Inv-loop μ-loop
   field-requires c κs = read-of (c .before .before .before .before) .inside (c .before .before .before .loop .i) (search needs)
 
-  is-child-requires : lts.Need-is-child-requires (claims t) (enter-term-at t) reads.Post Inv-loop μ-loop
-  is-child-requires c κs = search needs
-
-  child-no-requires : lts.Need-child-no-requires (claims t) (enter-term-at t) reads.Post Inv-loop μ-loop
-  child-no-requires c κs = sym (c .before .is-child .ensures) ∙ c .if2 .taken
-
   enter-term-requires : lts.Need-enter-term-requires (claims t) (enter-term-at t) reads.Post Inv-loop μ-loop
   enter-term-requires c κs =
       let k = c .before .before .before .before .before .before .before .before .before .before in
@@ -98,12 +92,6 @@ module _ (t : ℕ) where
       let m = k .before .before .before .before .before .before .before .before .before .pre .0 in
       let h = is-term k in
       (omega arith, (k .before .before .before .before .before .before .before .before .before .pre .1 .0, k .before .before .before .before .before .before .before .before .before .pre .1 .1, table k, i .inv .3, omega arith))
-
-  add-i : lts.Need-add-i (claims t) (enter-term-at t) reads.Post Inv-loop μ-loop
-  add-i c = search needs
-
-  loop-less : lts.Need-loop-less (claims t) (enter-term-at t) reads.Post Inv-loop μ-loop
-  loop-less c = search needs
 
   loop-again : lts.Need-loop-again (claims t) (enter-term-at t) reads.Post Inv-loop μ-loop
   loop-again c =
@@ -149,12 +137,6 @@ module _ (t : ℕ) where
       let k = c .before .before .before .before .before .before in
       (k .before .before .before .before .before .before .before .before .before .pre .1 .0, k .before .before .before .before .before .before .before .before .before .pre .1 .1, c .before .before .before .before .before .loop .inv .3, rw (c .before .before .own-type .ensures, k .before .before .term-fields .ensures) (typed-in (table k) (is-term k) .type))
 
-  same-length : lts.Need-same-length (claims t) (enter-term-at t) reads.Post Inv-loop μ-loop
-  same-length c = search needs
-
-  same-length-2 : lts.Need-same-length-2 (claims t) (enter-term-at t) reads.Post Inv-loop μ-loop
-  same-length-2 c = search needs
-
   returns : lts.Need-returns (claims t) (enter-term-at t) reads.Post Inv-loop μ-loop
   returns c =
       let v = c .before .before .before .before .enter-type in
@@ -166,27 +148,7 @@ module _ (t : ℕ) where
       (v .ensures .0, v .ensures .1 ∙ ap (λ j. entered (entriesOf (image-of k) (l .m) (l .order)) (partsFirst (typeOf (recordsOf (image-of k)) j))) s ∙ walked-all (table k) (is-term k) (l .i) (start-of k) (entriesOf (image-of k) (l .m) (l .order)) (omega arith) (l .inv .4 (number-of k) (is-term k) (read-of k)))
 
 pub +enter-term-spec : {M : Type 1} → statement M
-+enter-term-spec =
-    close μ-enter-term
-    λ t. lts.spec (claims t)
-    (enter-term-at t)
-    reads.Post
-    Inv-loop
-    μ-loop
-    (term-fields-requires t)
-    (term-kind-requires t)
-    (known-fields-requires t)
-    (loop-holds t)
-    (class-of-requires t)
-    (field-requires t)
-    (is-child-requires t)
-    (child-no-requires t)
-    (enter-term-requires t)
-    (add-i t)
-    (loop-less t)
-    (loop-again t)
-    (own-type-requires t)
-    (enter-type-requires t)
-    (same-length t)
-    (same-length-2 t)
-    (returns t)
++enter-term-spec = close μ-enter-term λ t. lts.spec (claims t) (enter-term-at t) reads.Post Inv-loop μ-loop (term-fields-requires t)
+    (term-kind-requires t) (known-fields-requires t) (loop-holds t) (class-of-requires t) (field-requires t) (λ c κs. search needs)
+    (λ c κs. sym (c .before .is-child .ensures) ∙ c .if2 .taken) (enter-term-requires t) (λ c. search needs) (λ c. search needs) (loop-again t)
+    (own-type-requires t) (enter-type-requires t) (λ c. search needs) (λ c. search needs) (returns t)

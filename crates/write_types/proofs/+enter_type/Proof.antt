@@ -61,9 +61,6 @@ module _ (t : ℕ) where
   is-entered-requires : lts.Need-is-entered-requires (claims t) (enter-type-at t) reads.Post Inv-loop μ-loop
   is-entered-requires c κs = let s = c .before .before .before .before .before .before in let E = s .pre .1 .2 in let e = E .enough-places in let h = s .pre .1 .3 in omega arith
 
-  same-length : lts.Need-same-length (claims t) (enter-type-at t) reads.Post Inv-loop μ-loop
-  same-length c = search needs
-
   returns : lts.Need-returns (claims t) (enter-type-at t) reads.Post Inv-loop μ-loop
   returns c =
       let s = c .before .before .before .before .before .before .before .before in
@@ -105,12 +102,6 @@ module _ (t : ℕ) where
       let h = is-type k in
       (omega arith, (k .before .before .before .before .before .before .before .before .before .before .before .pre .1 .0, offsets k, i .inv .3, omega arith))
 
-  add-i : lts.Need-add-i (claims t) (enter-type-at t) reads.Post Inv-loop μ-loop
-  add-i c = search needs
-
-  loop-less : lts.Need-loop-less (claims t) (enter-type-at t) reads.Post Inv-loop μ-loop
-  loop-less c = search needs
-
   loop-again : lts.Need-loop-again (claims t) (enter-type-at t) reads.Post Inv-loop μ-loop
   loop-again c =
       let q = c .before in
@@ -137,12 +128,6 @@ module _ (t : ℕ) where
       let e = before-all (offsets k) (is-type k) (l .i) (omega arith) in
       (l .inv .3, is-type k, parts-there (k .before .before .before .before .before .before .before .before .before .before .before .pre .1 .2) (l .inv .3) (is-type k) (l .inv .4 ∙ ap (λ xs. entered (start-of k) xs) e))
 
-  same-length-2 : lts.Need-same-length-2 (claims t) (enter-type-at t) reads.Post Inv-loop μ-loop
-  same-length-2 c = search needs
-
-  same-length-3 : lts.Need-same-length-3 (claims t) (enter-type-at t) reads.Post Inv-loop μ-loop
-  same-length-3 c = search needs
-
   returns-2 : lts.Need-returns-2 (claims t) (enter-type-at t) reads.Post Inv-loop μ-loop
   returns-2 c =
       let v = c .before .before .before .before .enter-one in
@@ -154,27 +139,7 @@ module _ (t : ℕ) where
       (v .ensures .0, v .ensures .1 ∙ all-entered (k .before .before .before .before .before .before .before .before .before .before .before .pre .1 .2) (l .inv .3) (is-type k) (l .inv .4 ∙ ap (λ xs. entered (start-of k) xs) e))
 
 pub +enter-type-spec : {M : Type 1} → statement M
-+enter-type-spec =
-    close μ-enter-type
-    λ t. lts.spec (claims t)
-    (enter-type-at t)
-    reads.Post
-    Inv-loop
-    μ-loop
-    (is-entered-requires t)
-    (same-length t)
-    (returns t)
-    (type-fields-requires t)
-    (type-kind-requires t)
-    (known-fields-requires t)
-    (loop-holds t)
-    (class-of-requires t)
-    (type-field-requires t)
-    (enter-type-requires t)
-    (add-i t)
-    (loop-less t)
-    (loop-again t)
-    (enter-one-requires t)
-    (same-length-2 t)
-    (same-length-3 t)
-    (returns-2 t)
++enter-type-spec = close μ-enter-type λ t. lts.spec (claims t) (enter-type-at t) reads.Post Inv-loop μ-loop (is-entered-requires t)
+    (λ c. search needs) (returns t) (type-fields-requires t) (type-kind-requires t) (known-fields-requires t) (loop-holds t) (class-of-requires t)
+    (type-field-requires t) (enter-type-requires t) (λ c. search needs) (λ c. search needs) (loop-again t) (enter-one-requires t) (λ c. search needs)
+    (λ c. search needs) (returns-2 t)

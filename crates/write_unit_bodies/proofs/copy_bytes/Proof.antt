@@ -16,9 +16,6 @@ Inv-loop image copy₀ i₀ copy i = (i ≤ length image) × (length copy ≡ le
 abbrev μ-loop : tie.MeasureT-loop
 μ-loop image copy₀ i₀ copy i = length image - i
 
-loop-holds : tie.Need-loop-holds Inv-loop μ-loop
-loop-holds c = (omega arith, refl, λ k l. absurd (omega arith))
-
 loop-again : tie.Need-loop-again Inv-loop μ-loop
 loop-again c =
     let s = c .before .before .before in
@@ -36,5 +33,5 @@ returns c =
     ext-getD 0 (l .copy) (now (s .args .image)) (l .inv .1 ∙ s .pre) (λ k m. let p = s .pre in let q = l .inv .1 in l .inv .2 k (omega arith))
 
 pub copy-bytes-spec : {M : Type 1} → statement M
-copy-bytes-spec = tie.close (tie.spec Inv-loop μ-loop loop-holds (λ c. search needs) (λ c. search needs) (λ c. search needs) (λ c. search needs)
-    loop-again (λ c. search needs) returns)
+copy-bytes-spec = tie.close (tie.spec Inv-loop μ-loop (λ c. (omega arith, refl, λ k l. absurd (omega arith))) (λ c. search needs) (λ c. search needs)
+    (λ c. search needs) (λ c. search needs) loop-again (λ c. search needs) returns)

@@ -14,7 +14,8 @@ use Rattle.image.specs.Layout.{recordsOf}
 use Rattle.image.specs.Types.{termPlace}
 use Rattle.read_records.specs.Heads.{fieldIn}
 use Rattle.read_terms.proofs.Located.{good-of}
-use Rattle.write_unit_bodies.specs.UnitBodies.{inMask, lowAdviceOrLower, UnitBodies}
+use Rattle.write_masks.specs.Masks.{inMask}
+use Rattle.write_unit_bodies.specs.UnitBodies.{lowAdviceOrLower, UnitBodies}
 use Rattle.write_unit_bodies.specs.WatchFields.{lowWatchIn}
 use Rattle.write_unit_bodies.proofs.Reading.{watch-asks, watch-in, body-there, body-is, byte-there, unit-bodies-none, unit-bodies-stays, unit-bodies-more}
 use Rattle.write_unit_bodies.proofs.copy_with_unit_bodies.Statement.{statement}

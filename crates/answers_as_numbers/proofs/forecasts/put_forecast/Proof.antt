@@ -5,9 +5,6 @@ use borrow.Author.Needs.{needs}
 use Rattle.answers_as_numbers.proofs.forecasts.put_forecast.Statement.{statement}
 use Rattle.answers_as_numbers.proofs.forecasts.put_forecast.Tie as tie
 
-returns : tie.Need-returns
-returns c = rw (c .before .before .f .given .1) (rw (lt-ltb _ _ (c .if1 .taken)) refl)
-
 returns-4 : tie.Need-returns-4
 returns-4 c =
     let at-if1 = c .before .before .before .before in
@@ -15,5 +12,6 @@ returns-4 c =
     rw (at-f .f .given .1) (rw (le-ltb _ _ (at-if1 .if1 .left)) (c .before .before .put-numbers .ensures))
 
 pub put-forecast-spec : {M : Type 1} → statement M
-put-forecast-spec = tie.close (tie.spec (λ c. search needs) (λ c. search needs) (λ c. search needs) returns (λ c κs. search needs) (λ c. search needs)
-    (λ c. search needs) (λ c. search needs) returns-4)
+put-forecast-spec = tie.close (tie.spec (λ c. search needs) (λ c. search needs) (λ c. search needs)
+    (λ c. rw (c .before .before .f .given .1) (rw (lt-ltb _ _ (c .if1 .taken)) refl))
+    (λ c κs. search needs) (λ c. search needs) (λ c. search needs) (λ c. search needs) returns-4)

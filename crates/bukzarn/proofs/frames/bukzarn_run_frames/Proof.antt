@@ -3,7 +3,7 @@ use denote.Ref.{now}
 use mathlib.Core.Path.{_≡_, refl}
 use lib.ListN.{length}
 use native.Mathlib.Omega.{arith}
-use Rattle.recordings.proofs.Recordings.{first-none, all-refused}
+use Rattle.answers_as_numbers.proofs.Recordings.{first-none, all-refused}
 use Rattle.validator_core.proofs.Calls.{refused-so, lent-enough}
 use Rattle.engine_core.proofs.Accepted.{image-accepted, code-asks}
 use borrow.Author.Needs.{needs}

@@ -3,11 +3,6 @@ use Rattle.check_core.proofs.core.result_kind.Statement.{statement}
 use Rattle.check_core.proofs.core.result_kind.Tie as tie
 use Rattle.check_rules.proofs.Small.{gives-number, gives-truth}
 
-returns : tie.Need-returns
-returns c = gives-number (c .before .args .f) (c .if1 .taken)
-
-returns-2 : tie.Need-returns-2
-returns-2 c = gives-truth (c .before .args .f) (c .if1 .left)
-
 pub result-kind-spec : {M : Type 1} → statement M
-result-kind-spec = tie.close (tie.spec returns returns-2)
+result-kind-spec = tie.close (tie.spec (λ c. gives-number (c .before .args .f) (c .if1 .taken))
+    (λ c. gives-truth (c .before .args .f) (c .if1 .left)))

@@ -11,9 +11,6 @@ use Rattle.check_rules.proofs.Methods.{few-methods, method-bytes, method-field}
 use Rattle.check_objects.proofs.objects.method_domain.Statement.{statement}
 use Rattle.check_objects.proofs.objects.method_domain.Tie as tie
 
-type-fields-requires : tie.Need-type-fields-requires
-type-fields-requires c κs = (c .before .before .pre .0, c .before .before .pre .1 .there)
-
 mul-domain-field : tie.Need-mul-domain-field
 mul-domain-field c =
     let s = c .before .before .before in
@@ -33,5 +30,6 @@ returns c =
     c .domain-field .ensures ∙ (ap (λ fs. fieldIn fs (2 * c .before .before .before .before .args .m)) (c .before .type-fields .ensures) ∙ method-field (c .before .before .before .before .pre .0) (c .before .before .before .before .args .t .0) (c .before .before .before .before .pre .1) (2 * c .before .before .before .before .args .m) (omega arith))
 
 pub method-domain-spec : {M : Type 1} → statement M
-method-domain-spec =
-    tie.close (tie.spec type-fields-requires mul-domain-field domain-field-requires returns)
+method-domain-spec = tie.close (tie.spec
+    (λ c κs. (c .before .before .pre .0, c .before .before .pre .1 .there))
+    mul-domain-field domain-field-requires returns)

@@ -11,9 +11,6 @@ use Rattle.check_rules.proofs.Methods.{few-methods, method-bytes, method-field}
 use Rattle.check_objects.proofs.objects.method_type.Statement.{statement}
 use Rattle.check_objects.proofs.objects.method_type.Tie as tie
 
-type-fields-requires : tie.Need-type-fields-requires
-type-fields-requires c κs = (c .before .before .pre .0, c .before .before .pre .1 .there)
-
 mul-type-field : tie.Need-mul-type-field
 mul-type-field c =
     let s = c .before .before .before in
@@ -40,4 +37,6 @@ returns c =
     c .type-field .ensures ∙ (ap (λ fs. fieldIn fs (2 * c .before .before .before .before .args .m + 1)) (c .before .type-fields .ensures) ∙ method-field (c .before .before .before .before .pre .0) (c .before .before .before .before .args .t .0) (c .before .before .before .before .pre .1) (2 * c .before .before .before .before .args .m + 1) (omega arith))
 
 pub method-type-spec : {M : Type 1} → statement M
-method-type-spec = tie.close (tie.spec type-fields-requires mul-type-field add-type-field type-field-requires returns)
+method-type-spec = tie.close (tie.spec
+    (λ c κs. (c .before .before .pre .0, c .before .before .pre .1 .there))
+    mul-type-field add-type-field type-field-requires returns)

@@ -11,5 +11,4 @@ returns c =
     λ p. c .judge .ensures ∙ simp (c .before .is-kind .ensures, c .before .before .own-descriptor .ensures) (stack-right (s .pre .0) (s .pre .1) (s .args .at) p)
 
 pub check-stack-spec : {M : Type 1} → statement M
-check-stack-spec =
-    tie.close (tie.spec (λ c κs. search needs) (λ c κs. search needs) (λ c κs. search needs) returns)
+check-stack-spec = tie.close (tie.spec (λ c κs. search needs) (λ c κs. search needs) (λ c κs. search needs) returns)

@@ -1,13 +1,10 @@
--- `check_ranges::tests::first_fault` meets its contract: each answer is the first test that fails.
+-- `check_ranges::faults::first_fault` meets its contract: each answer is the first test that fails.
 use lib.ListN.{length}
 use denote.Ref.{now}
 use Rattle.check_ranges.proofs.Numbers.{fits-held, yes-of, no-of, fault4, fault5, fault6, fault7, no-fault}
 use borrow.Author.Needs.{needs}
 use Rattle.check_ranges.proofs.faults.first_fault.Statement.{statement}
 use Rattle.check_ranges.proofs.faults.first_fault.Tie as tie
-
-returns : tie.Need-returns
-returns c = fault4 _ _ _ _ (no-of _ _ (c .before .right-length .ensures) (c .if1 .taken))
 
 returns-2 : tie.Need-returns-2
 returns-2 c =
@@ -43,5 +40,6 @@ returns-5 c =
     no-fault _ _ _ _ (yes-of _ _ (n .before .right-length .ensures) (n .if1 .left)) (yes-of _ _ (o .before .in-order .ensures) (o .if2 .left)) (yes-of _ _ (h .before .has-capacity .ensures) (h .if3 .left)) (yes-of _ _ (c .before .in-range .ensures) (c .if4 .left))
 
 pub first-fault-spec : {M : Type 1} → statement M
-first-fault-spec = tie.close (tie.spec (λ c. search needs) (λ c κs. search needs) returns (λ c κs. search needs) returns-2 (λ c κs. search needs)
-    returns-3 in-range-requires returns-4 returns-5)
+first-fault-spec = tie.close (tie.spec (λ c. search needs) (λ c κs. search needs)
+    (λ c. fault4 _ _ _ _ (no-of _ _ (c .before .right-length .ensures) (c .if1 .taken)))
+    (λ c κs. search needs) returns-2 (λ c κs. search needs) returns-3 in-range-requires returns-4 returns-5)

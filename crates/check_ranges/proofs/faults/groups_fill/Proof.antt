@@ -1,4 +1,4 @@
--- `check_ranges::tests::groups_fill` meets its contract.
+-- `check_ranges::faults::groups_fill` meets its contract.
 use mathlib.Core.Path.{_≡_, sym, _∙_}
 use Rattle.read_records.specs.Codes.{groupOf}
 use borrow.Author.Needs.{needs}

@@ -1,4 +1,4 @@
--- `check_ranges::tests::in_order` meets its contract, section by section.
+-- `check_ranges::faults::in_order` meets its contract, section by section.
 use mathlib.Core.Path.{sym, _∙_}
 use mathlib.Core.Bool.{and-true}
 use borrow.Author.Tests.{eq-eqb, ne-eqb}
@@ -6,9 +6,6 @@ use Rattle.laws.specs.Tests.{all}
 use borrow.Author.Needs.{needs}
 use Rattle.check_ranges.proofs.faults.in_order.Statement.{statement}
 use Rattle.check_ranges.proofs.faults.in_order.Tie as tie
-
-returns : tie.Need-returns
-returns c = simp (sym (c .before .is-term .ensures) ∙ c .if1 .taken)
 
 returns-2 : tie.Need-returns-2
 returns-2 c = simp (sym (c .before .before .before .before .is-term .ensures) ∙ c .before .before .before .if1 .left, eq-eqb _ _ (sym (c .before .before .section-of .ensures) ∙ c .before .if2 .taken))
@@ -27,5 +24,6 @@ unfolding all
 returns-4 c = simp (sym (c .before .before .before .before .before .is-term .ensures) ∙ c .before .before .before .before .if1 .left, ne-eqb _ _ (λ e. c .before .before .if2 .left (c .before .before .before .section-of .ensures ∙ e)), ne-eqb _ _ (c .if3 .left))
 
 pub in-order-spec : {M : Type 1} → statement M
-in-order-spec =
-    tie.close (tie.spec (λ c κs. search needs) returns (λ c κs. search needs) returns-2 returns-3 returns-4)
+in-order-spec = tie.close (tie.spec (λ c κs. search needs)
+    (λ c. simp (sym (c .before .is-term .ensures) ∙ c .if1 .taken))
+    (λ c κs. search needs) returns-2 returns-3 returns-4)

@@ -1,4 +1,4 @@
--- `check_ranges::tests::right_length` meets its contract: the least length, a shorter one, a longer one without a group and with one.
+-- `check_ranges::faults::right_length` meets its contract: the least length, a shorter one, a longer one without a group and with one.
 use mathlib.Core.Path.{_≡_, sym, ap, _∙_}
 use native.Mathlib.Omega.{arith}
 use Prim.Native.Nat.{_-_}

@@ -82,8 +82,7 @@ group-part c =
     let f = first-of c in
     groups-same (now (start f .args .fields)) (start f .args .counts) (c .groups-in-range .ensures) (t .group-times .ensures) (t .before .group-count .ensures) (p .classes-past .ensures) (f .before .before .first-count .ensures) (f .before .field-classes .ensures)
 
-last-part : (c : lts.After-few-in-range claims reads.Pre reads.Post)
-    → let a = start (first-of (c .before .before .before .before)) .args in
+last-part : (c : lts.After-few-in-range claims reads.Pre reads.Post) → let a = start (first-of (c .before .before .before .before)) .args in
     c .few-in-range .result ≡ rangesFrom (lastOf (a .code)) (classesPast (firstOf (a .code) + groupOf (a .code)) (classesOf (a .code))) (now (a .fields)) (a .counts) (firstOf (a .code) + timesIn (a .code) (length (now (a .fields))) * groupOf (a .code))
 last-part c =
     let p = c .before in
@@ -91,12 +90,6 @@ last-part c =
     let t = q .before .before in
     let f = first-of q in
     last-same (now (start f .args .fields)) (start f .args .counts) (c .few-in-range .ensures) (p .before .last-count .ensures) (t .group-times .ensures) (t .before .group-count .ensures) (p .classes-past2 .ensures) (f .before .before .first-count .ensures) (f .before .field-classes .ensures)
-
-first-count-requires : tie.Need-first-count-requires
-first-count-requires c κs = c .before .pre .0
-
-field-classes-requires : tie.Need-field-classes-requires
-field-classes-requires c κs = tt
 
 fields-in-range-requires : tie.Need-fields-in-range-requires
 fields-in-range-requires c κs =
@@ -110,16 +103,10 @@ returns c =
     let r = c .before in
     first-fails _ _ _ (no-of _ _ (first-part r) (c .if1 .taken))
 
-group-count-requires : tie.Need-group-count-requires
-group-count-requires c κs = tt
-
 group-times-requires : tie.Need-group-times-requires
 group-times-requires c κs =
     let start-2 = c .before .before .before .before .before .before in
     start-2 .pre .0
-
-classes-past-requires : tie.Need-classes-past-requires
-classes-past-requires c κs = tt
 
 groups-in-range-requires : tie.Need-groups-in-range-requires
 groups-in-range-requires c κs =
@@ -151,9 +138,6 @@ add-few-in-range c =
     let h = start f .pre .1 in
     rw (t .group-times .ensures, t .before .group-count .ensures, f .before .before .first-count .ensures) (search needs)
 
-last-count-requires : tie.Need-last-count-requires
-last-count-requires c κs = tt
-
 add-classes-past : tie.Need-add-classes-past
 add-classes-past c =
     let q = c .before .before in
@@ -161,9 +145,6 @@ add-classes-past c =
     let f = first-of q in
     let h = start f .pre .1 in
     rw (t .before .group-count .ensures, f .before .before .first-count .ensures) (search needs)
-
-classes-past-requires-2 : tie.Need-classes-past-requires-2
-classes-past-requires-2 c κs = tt
 
 few-in-range-requires : tie.Need-few-in-range-requires
 few-in-range-requires c κs =
@@ -181,6 +162,6 @@ returns-3 c =
     last-part c ∙ third-left _ _ _ (yes-of _ _ (first-part f) (q .before .before .before .before .if1 .left)) (yes-of _ _ (group-part q) (e .if2 .left))
 
 pub all-in-range-spec : {M : Type 1} → statement M
-all-in-range-spec = tie.close (tie.spec first-count-requires field-classes-requires fields-in-range-requires returns group-count-requires
-    group-times-requires classes-past-requires groups-in-range-requires returns-2 mul-few-in-range add-few-in-range last-count-requires
-    add-classes-past classes-past-requires-2 few-in-range-requires returns-3)
+all-in-range-spec = tie.close (tie.spec (λ c κs. c .before .pre .0) (λ c κs. tt) fields-in-range-requires returns (λ c κs. tt) group-times-requires
+    (λ c κs. tt) groups-in-range-requires returns-2 mul-few-in-range add-few-in-range (λ c κs. tt) add-classes-past (λ c κs. tt) few-in-range-requires
+    returns-3)

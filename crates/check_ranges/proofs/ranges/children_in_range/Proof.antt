@@ -16,9 +16,6 @@ Inv-loop fields from counts n i₀ i = groupsFrom (length fields / 2 - from) 1 5
 abbrev μ-loop : tie.MeasureT-loop
 μ-loop fields from counts n i₀ i = n - i
 
-loop-holds : tie.Need-loop-holds Inv-loop μ-loop
-loop-holds c = refl
-
 returns : tie.Need-returns Inv-loop μ-loop
 returns c =
     let t = c .before in
@@ -41,5 +38,5 @@ returns-2 c =
     sym (l .loop .inv ∙ rw e)
 
 pub children-in-range-spec : {M : Type 1} → statement M
-children-in-range-spec = tie.close (tie.spec Inv-loop μ-loop loop-holds (λ c κs. search needs) returns (λ c. search needs) (λ c. search needs)
+children-in-range-spec = tie.close (tie.spec Inv-loop μ-loop (λ c. refl) (λ c κs. search needs) returns (λ c. search needs) (λ c. search needs)
     loop-again returns-2)

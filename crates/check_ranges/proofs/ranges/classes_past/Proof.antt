@@ -14,9 +14,6 @@ Inv-loop n classes rest₀ i₀ rest i = (i ≤ n) × (classesPast n classes ≡
 abbrev μ-loop : tie.MeasureT-loop
 μ-loop n classes rest₀ i₀ rest i = n - i
 
-loop-holds : tie.Need-loop-holds Inv-loop μ-loop
-loop-holds c = let e : c .args .n - 0 ≡ c .args .n = omega arith in (search needs, rw e)
-
 loop-again : tie.Need-loop-again Inv-loop μ-loop
 loop-again c = let l = c .before in (search needs, l .loop .inv .1 ∙ past-next _ (l .loop .i) (l .loop .rest) (search needs))
 
@@ -28,5 +25,6 @@ returns c =
     sym (l .loop .inv .1 ∙ rw e)
 
 pub classes-past-spec : {M : Type 1} → statement M
-classes-past-spec =
-    tie.close (tie.spec Inv-loop μ-loop loop-holds (λ c. search needs) (λ c. search needs) loop-again returns)
+classes-past-spec = tie.close (tie.spec Inv-loop μ-loop
+    (λ c. let e : c .args .n - 0 ≡ c .args .n = omega arith in (search needs, rw e))
+    (λ c. search needs) (λ c. search needs) loop-again returns)

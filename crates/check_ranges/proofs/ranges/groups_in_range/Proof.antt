@@ -17,9 +17,6 @@ Inv-loop fields from times group classes counts i₀ left₀ i left = (2 * (i + 
 abbrev μ-loop : tie.MeasureT-loop
 μ-loop fields from times group classes counts i₀ left₀ i left = left
 
-loop-holds : tie.Need-loop-holds Inv-loop μ-loop
-loop-holds c = (search needs, refl)
-
 few-in-range-requires : tie.Need-few-in-range-requires Inv-loop μ-loop
 few-in-range-requires c κs =
     let l = c .before in
@@ -58,5 +55,5 @@ returns-2 c =
     sym (l .loop .inv .1 ∙ rw e)
 
 pub groups-in-range-spec : {M : Type 1} → statement M
-groups-in-range-spec = tie.close (tie.spec Inv-loop μ-loop loop-holds few-in-range-requires returns add-i (λ c. search needs) (λ c. search needs)
-    loop-again returns-2)
+groups-in-range-spec = tie.close (tie.spec Inv-loop μ-loop (λ c. (search needs, refl)) few-in-range-requires returns add-i (λ c. search needs)
+    (λ c. search needs) loop-again returns-2)

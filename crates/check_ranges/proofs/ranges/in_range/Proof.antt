@@ -13,30 +13,6 @@ use borrow.Author.Needs.{needs}
 use Rattle.check_ranges.proofs.ranges.in_range.Statement.{statement}
 use Rattle.check_ranges.proofs.ranges.in_range.Tie as tie
 
-names-type-requires : tie.Need-names-type-requires
-names-type-requires c κs = let k = c in omega (arith, first-held _ _ _ (k .match .keys2) (k .before .before .pre .1))
-
-names-domain-requires : tie.Need-names-domain-requires
-names-domain-requires c κs = let k = c .before in omega (arith, first-held _ _ _ (k .match .keys2) (k .before .before .pre .1))
-
-names-type-requires-2 : tie.Need-names-type-requires-2
-names-type-requires-2 c κs = let k = c in omega (arith, first-held _ _ _ (k .match .keys3) (k .before .before .pre .1))
-
-names-domain-requires-2 : tie.Need-names-domain-requires-2
-names-domain-requires-2 c κs = let k = c .before in omega (arith, first-held _ _ _ (k .match .keys3) (k .before .before .pre .1))
-
-names-type-requires-3 : tie.Need-names-type-requires-3
-names-type-requires-3 c κs = let k = c .before .before in omega (arith, first-held _ _ _ (k .match .keys3) (k .before .before .pre .1))
-
-names-type-requires-4 : tie.Need-names-type-requires-4
-names-type-requires-4 c κs = let k = c in omega (arith, first-held _ _ _ (k .match .keys4) (k .before .before .pre .1))
-
-names-type-requires-5 : tie.Need-names-type-requires-5
-names-type-requires-5 c κs = let k = c .before in omega (arith, first-held _ _ _ (k .match .keys4) (k .before .before .pre .1))
-
-names-domain-requires-3 : tie.Need-names-domain-requires-3
-names-domain-requires-3 c κs = let k = c in omega (arith, first-held _ _ _ (k .match .keys5) (k .before .before .pre .1))
-
 returns : tie.Need-returns
 unfolding all rangesFrom groupsFrom classesPast classNumbers
 returns c =
@@ -60,6 +36,16 @@ unfolding all rangesFrom groupsFrom classesPast
 returns-5 c = simp (c .before .match .keys5, c .names-domain3 .ensures, and-true)
 
 pub in-range-spec : {M : Type 1} → statement M
-in-range-spec = tie.close (tie.spec names-type-requires names-domain-requires (λ c κs. search needs) names-type-requires-2 names-domain-requires-2
-    names-type-requires-3 (λ c κs. search needs) (λ c κs. search needs) names-type-requires-4 names-type-requires-5 (λ c κs. search needs)
-    names-domain-requires-3 (λ c κs. search needs) returns returns-2 returns-3 returns-4 returns-5 (λ c. search needs))
+in-range-spec = tie.close (tie.spec
+    (λ c κs. let k = c in omega (arith, first-held _ _ _ (k .match .keys2) (k .before .before .pre .1)))
+    (λ c κs. let k = c .before in omega (arith, first-held _ _ _ (k .match .keys2) (k .before .before .pre .1)))
+    (λ c κs. search needs)
+    (λ c κs. let k = c in omega (arith, first-held _ _ _ (k .match .keys3) (k .before .before .pre .1)))
+    (λ c κs. let k = c .before in omega (arith, first-held _ _ _ (k .match .keys3) (k .before .before .pre .1)))
+    (λ c κs. let k = c .before .before in omega (arith, first-held _ _ _ (k .match .keys3) (k .before .before .pre .1)))
+    (λ c κs. search needs) (λ c κs. search needs)
+    (λ c κs. let k = c in omega (arith, first-held _ _ _ (k .match .keys4) (k .before .before .pre .1)))
+    (λ c κs. let k = c .before in omega (arith, first-held _ _ _ (k .match .keys4) (k .before .before .pre .1)))
+    (λ c κs. search needs)
+    (λ c κs. let k = c in omega (arith, first-held _ _ _ (k .match .keys5) (k .before .before .pre .1)))
+    (λ c κs. search needs) returns returns-2 returns-3 returns-4 returns-5 (λ c. search needs))

@@ -22,8 +22,6 @@ returns c =
     let t = n .before in
     (t .before .all-in-range .ensures, rw (t .if1 .taken) (q .enter-children .ensures ∙ rw (n .next-term .ensures) refl))
 
-returns-2 : tie.Need-returns-2
-returns-2 c = (c .before .all-in-range .ensures, rw (c .if1 .left) refl)
-
 pub take-any-spec : {M : Type 1} → statement M
-take-any-spec = tie.close (tie.spec (λ c κs. search needs) (λ c κs. search needs) enter-children-requires (λ c. search needs) returns returns-2)
+take-any-spec = tie.close (tie.spec (λ c κs. search needs) (λ c κs. search needs) enter-children-requires (λ c. search needs) returns
+    (λ c. (c .before .all-in-range .ensures, rw (c .if1 .left) refl)))

@@ -8,8 +8,5 @@ use Rattle.check_rules.proofs.Small.{holds-first, fails-first}
 returns : tie.Need-returns
 returns c = c .both .ensures ∙ holds-first (c .before .before .args .a) _ (c .before .if1 .taken)
 
-returns-2 : tie.Need-returns-2
-returns-2 c = sym (c .if1 .left) ∙ fails-first (c .before .args .a) _ (c .if1 .left)
-
 pub all-three-spec : {M : Type 1} → statement M
-all-three-spec = tie.close (tie.spec (λ c κs. search needs) returns returns-2)
+all-three-spec = tie.close (tie.spec (λ c κs. search needs) returns (λ c. sym (c .if1 .left) ∙ fails-first (c .before .args .a) _ (c .if1 .left)))

@@ -7,8 +7,5 @@ use Rattle.check_rules.proofs.Small.{alone, holds-first, fails-first}
 returns : tie.Need-returns
 returns c = sym (alone (c .before .args .b)) ∙ holds-first (c .before .args .a) _ (c .if1 .taken)
 
-returns-2 : tie.Need-returns-2
-returns-2 c = fails-first (c .before .args .a) _ (c .if1 .left)
-
 pub both-spec : {M : Type 1} → statement M
-both-spec = tie.close (tie.spec returns returns-2)
+both-spec = tie.close (tie.spec returns (λ c. fails-first (c .before .args .a) _ (c .if1 .left)))

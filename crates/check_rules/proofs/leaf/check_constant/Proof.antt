@@ -16,5 +16,4 @@ returns c =
     c .judge .ensures ∙ simp (c .before .is-kind .ensures, c .before .before .own-descriptor .ensures, e) (constant-right (s .pre .0) (s .pre .1) (s .args .at) p k l)
 
 pub check-constant-spec : {M : Type 1} → statement M
-check-constant-spec =
-    tie.close (tie.spec (λ c κs. search needs) (λ c. search needs) (λ c κs. search needs) (λ c κs. search needs) returns)
+check-constant-spec = tie.close (tie.spec (λ c κs. search needs) (λ c. search needs) (λ c κs. search needs) (λ c κs. search needs) returns)

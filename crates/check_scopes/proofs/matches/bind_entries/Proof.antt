@@ -3,24 +3,24 @@ use borrow.Author.Needs.{needs}
 use native.Mathlib.Omega.{arith}
 use mathlib.Core.Path.{_≡_, sym, subst, _∙_}
 use denote.Ref.{now}
-use Prim.Native.Nat.{ℕ, _+_, _-_, _*_, _≤_}
+use Prim.Native.Nat.{ℕ, _+_, _-_, _≤_}
 use mathlib.Core.List.{List}
 use lib.ListN.{length}
-use Rattle.image.specs.Limits.{depthLimit}
 use Rattle.image.specs.Kinds.{an-entry}
 use Rattle.image.specs.Records.{asChild}
 use Rattle.image.specs.Layout.{recordsOf}
 use Rattle.read_records.proofs.Entries.{entriesLeft, none-left}
 use Rattle.read_terms.specs.Fields.{firstEntry, entryTerms}
 use Rattle.read_terms.proofs.Matches.{few-named, at-first}
-use Rattle.check_scopes.specs.Scopes.{bindLimit, valueTypes, Binds}
+use Rattle.check_rules.specs.Scopes.{scopeLength}
+use Rattle.check_scopes.specs.Scopes.{valueTypes, Binds}
 use Rattle.check_scopes.proofs.Bindings.{values-length, binds-none, binds-entry}
 use Rattle.check_scopes.proofs.matches.bind_entries.Statement.{statement}
 use Rattle.check_scopes.proofs.matches.bind_entries.Tie as tie
 
 abbrev Inv-loop : tie.InvT-loop
 Inv-loop image terms descriptors scope₀ len fields n used₀ i₀ scope used i =
-    (i ≤ n) × (used ≤ len + i) × (length scope ≡ bindLimit * depthLimit)
+    (i ≤ n) × (used ≤ len + i) × (length scope ≡ scopeLength)
     × ((s : List ℕ) (m : ℕ) → Binds scope s used m (valueTypes (recordsOf image) (entriesLeft fields firstEntry n i)) → Binds scope₀ s len m (valueTypes (recordsOf image) (entryTerms fields)))
 
 abbrev μ-loop : tie.MeasureT-loop

@@ -14,9 +14,6 @@ use Rattle.check_scopes.proofs.Bindings.{binds-none, binds-one}
 use Rattle.check_scopes.proofs.matches.bind_entry.Statement.{statement}
 use Rattle.check_scopes.proofs.matches.bind_entry.Tie as tie
 
-returns : tie.Need-returns
-returns c = rw (c .if1 .taken) (binds-none _ _)
-
 stated-type-requires : tie.Need-stated-type-requires
 stated-type-requires c κs =
     let s = c .before .before .before .before .before in
@@ -39,5 +36,5 @@ returns-2 c =
     rw (en .ensures, c .bind .ensures, q) (binds-one scope (s .args .len) (typeField L (typeNo L (en .result .0)) 0) l)
 
 pub bind-entry-spec : {M : Type 1} → statement M
-bind-entry-spec = tie.close (tie.spec returns (λ c κs. search needs) stated-type-requires (λ c κs. search needs) (λ c κs. search needs)
-    (λ c κs. search needs) (λ c. search needs) returns-2)
+bind-entry-spec = tie.close (tie.spec (λ c. rw (c .if1 .taken) (binds-none _ _)) (λ c κs. search needs) stated-type-requires (λ c κs. search needs)
+    (λ c κs. search needs) (λ c κs. search needs) (λ c. search needs) returns-2)

@@ -30,5 +30,4 @@ returns c =
     rw (c .before .before .bind .ensures, at-own-type .own-type .ensures, d) (object-at (start .pre .0) (start .pre .1) (start .pre .2))
 
 pub object-setting-spec : {M : Type 1} → statement M
-object-setting-spec =
-    tie.close (tie.spec (λ c κs. search needs) bind-requires method-domain-requires (λ c. search needs) returns)
+object-setting-spec = tie.close (tie.spec (λ c κs. search needs) bind-requires method-domain-requires (λ c. search needs) returns)

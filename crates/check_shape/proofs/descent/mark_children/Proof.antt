@@ -35,5 +35,4 @@ returns c =
     rw (side .ensures) at (m .ensures) ∙ sym (foldl-append _ (now (a .depths)) es gs)
 
 pub mark-children-spec : {M : Type 1} → statement M
-mark-children-spec =
-    tie.close (tie.spec mark-side-requires mark-entries-requires (λ c. search needs) returns)
+mark-children-spec = tie.close (tie.spec mark-side-requires mark-entries-requires (λ c. search needs) returns)

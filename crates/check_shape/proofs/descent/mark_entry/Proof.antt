@@ -11,9 +11,5 @@ set-mark-requires c κs = let t = c .before in let l = rw (t .entry-term .ensure
 returns : tie.Need-returns
 returns c = let m = c .before .before in rw (m .before .before .entry-term .ensures) (m .set-mark .ensures)
 
-returns-2 : tie.Need-returns-2
-returns-2 c = rw (c .if1 .left) refl
-
 pub mark-entry-spec : {M : Type 1} → statement M
-mark-entry-spec =
-    tie.close (tie.spec (λ c κs. search needs) set-mark-requires (λ c. search needs) returns returns-2)
+mark-entry-spec = tie.close (tie.spec (λ c κs. search needs) set-mark-requires (λ c. search needs) returns (λ c. rw (c .if1 .left) refl))

@@ -20,9 +20,6 @@ Inv-loop fields code d depths₀ first count j₀ depths j =
 abbrev μ-loop : tie.MeasureT-loop
 μ-loop fields code d depths₀ first count j₀ depths j = count - j
 
-loop-holds : tie.Need-loop-holds Inv-loop μ-loop
-loop-holds c = (search needs, refl, refl)
-
 term-field-requires : tie.Need-term-field-requires Inv-loop μ-loop
 term-field-requires c κs =
     let k = c .before .before in
@@ -68,5 +65,5 @@ returns c =
     sym (l .inv .2 ∙ fold-end (λ ds n. set ds n (a .d)) cs (l .depths) (l .j) h)
 
 pub mark-side-spec : {M : Type 1} → statement M
-mark-side-spec = tie.close (tie.spec Inv-loop μ-loop (λ c κs. search needs) (λ c κs. search needs) loop-holds (λ c. search needs) term-field-requires
-    set-mark-requires (λ c. search needs) (λ c. search needs) loop-again (λ c. search needs) returns)
+mark-side-spec = tie.close (tie.spec Inv-loop μ-loop (λ c κs. search needs) (λ c κs. search needs) (λ c. (search needs, refl, refl))
+    (λ c. search needs) term-field-requires set-mark-requires (λ c. search needs) (λ c. search needs) loop-again (λ c. search needs) returns)

@@ -21,9 +21,6 @@ Inv-loop image kinds terms depths₀ i₀ depths i =
 abbrev μ-loop : tie.MeasureT-loop
 μ-loop image kinds terms depths₀ i₀ depths i = i
 
-loop-holds : tie.Need-loop-holds Inv-loop μ-loop
-loop-holds c = (search needs, refl, refl)
-
 mark-term-requires : tie.Need-mark-term-requires Inv-loop μ-loop
 mark-term-requires c κs =
     let w = c .before .before .before .before .before .before .before in
@@ -56,5 +53,5 @@ returns c =
     sym (l .inv .2 ∙ capped-end L (l .i) (l .depths) (omega arith))
 
 pub mark-terms-spec : {M : Type 1} → statement M
-mark-terms-spec = tie.close (tie.spec Inv-loop μ-loop loop-holds (λ c. search needs) (λ c. search needs) mark-term-requires (λ c. search needs)
-    loop-again (λ c. search needs) returns)
+mark-terms-spec = tie.close (tie.spec Inv-loop μ-loop (λ c. (search needs, refl, refl)) (λ c. search needs) (λ c. search needs) mark-term-requires
+    (λ c. search needs) loop-again (λ c. search needs) returns)

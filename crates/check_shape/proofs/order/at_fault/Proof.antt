@@ -14,10 +14,10 @@ use Rattle.check_shape.proofs.order.at_fault.Statement.{statement}
 use Rattle.check_shape.proofs.order.at_fault.Tie as tie
 
 abbrev Inv-loop : tie.InvT-loop
-Inv-loop n o i own named₀ e₀ named e = (e ≤ 16) × FoundTo o n i e named
+Inv-loop n o i own named₀ e₀ named e = (e ≤ domainLimit) × FoundTo o n i e named
 
 abbrev μ-loop : tie.MeasureT-loop
-μ-loop n o i own named₀ e₀ named e = 16 - e
+μ-loop n o i own named₀ e₀ named e = domainLimit - e
 
 returns : tie.Need-returns Inv-loop μ-loop
 returns c =
@@ -58,7 +58,7 @@ returns-3 c =
     let start = at-if1 .before .before .before in
     let a = start .args in
     let l = at-loop .loop in
-    let h : l .e ≡ 16 = omega arith in
+    let h : l .e ≡ domainLimit = omega arith in
     let own = not-false (names (a .t1) (a .d .0) (a .d .0)) (at-if1 .if1 .left) in
     simp own (c .either .ensures ∙ ap (getD (l .named) (a .d .0) false ||_) (c .before .gap-in .ensures) ∙ rw h at (l .inv .1))
 

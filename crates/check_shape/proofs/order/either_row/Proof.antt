@@ -6,16 +6,17 @@ use mathlib.Core.Path.{sym, ap, _≡_, _∙_}
 use mathlib.Core.List.{append-nil, _++_}
 use lib.ListN.{length-set, length, take, drop, drop-of-length-le}
 use lib.Seq.{take-all}
+use Rattle.image.specs.Limits.{domainLimit}
 use Rattle.check_shape.specs.Faults.{eitherRow}
 use Rattle.check_shape.proofs.Named.{either-more}
 use Rattle.check_shape.proofs.order.either_row.Statement.{statement}
 use Rattle.check_shape.proofs.order.either_row.Tie as tie
 
 abbrev Inv-loop : tie.InvT-loop
-Inv-loop a b row₀ f₀ row f = (f ≤ 16) × (length row ≡ 16) × (take f row ++ eitherRow (drop f a) (drop f b) ≡ eitherRow a b)
+Inv-loop a b row₀ f₀ row f = (f ≤ domainLimit) × (length row ≡ domainLimit) × (take f row ++ eitherRow (drop f a) (drop f b) ≡ eitherRow a b)
 
 abbrev μ-loop : tie.MeasureT-loop
-μ-loop a b row₀ f₀ row f = 16 - f
+μ-loop a b row₀ f₀ row f = domainLimit - f
 
 loop-again : tie.Need-loop-again Inv-loop μ-loop
 loop-again c =
@@ -31,10 +32,10 @@ unfolding eitherRow
 returns c =
     let l = c .before .loop in
     let a = c .before .before .args in
-    let h : l .f ≡ 16 = omega arith in
-    let in-a : length (a .t1) ≤ 16 = search needs in
-    let in-b : length (a .t2) ≤ 16 = search needs in
-    sym (take-all 16 (l .row) (omega arith)) ∙ sym (append-nil _) ∙ ap (take 16 (l .row) ++_) (sym (rw (drop-of-length-le (a .t1) in-a, drop-of-length-le (a .t2) in-b))) ∙ rw h at (l .inv .2)
+    let h : l .f ≡ domainLimit = omega arith in
+    let in-a : length (a .t1) ≤ domainLimit = search needs in
+    let in-b : length (a .t2) ≤ domainLimit = search needs in
+    sym (take-all domainLimit (l .row) (omega arith)) ∙ sym (append-nil _) ∙ ap (take domainLimit (l .row) ++_) (sym (rw (drop-of-length-le (a .t1) in-a, drop-of-length-le (a .t2) in-b))) ∙ rw h at (l .inv .2)
 
 pub either-row-spec : {M : Type 1} → statement M
 either-row-spec = tie.close (tie.spec Inv-loop μ-loop (λ c. search needs) (λ c. search needs) (λ c. search needs) (λ c κs. search needs)

@@ -18,9 +18,6 @@ Inv-loop o doms d₀ d = (d ≤ length doms) × (orderFrom doms o (length doms) 
 abbrev μ-loop : tie.MeasureT-loop
 μ-loop o doms d₀ d = length doms - d
 
-loop-holds : tie.Need-loop-holds Inv-loop μ-loop
-loop-holds c = (search needs, from-start _ _ _ _)
-
 returns : tie.Need-returns Inv-loop μ-loop
 returns c =
     let l = c .before .before .before .before .loop in
@@ -37,5 +34,5 @@ returns-2 c =
     sym (l .inv .1 ∙ from-end _ _ _ _ (l .d) (omega arith))
 
 pub first-unordered-spec : {M : Type 1} → statement M
-first-unordered-spec = tie.close (tie.spec Inv-loop μ-loop loop-holds (λ c. search needs) (λ c κs. search needs) (λ c κs. search needs) returns
-    (λ c. search needs) (λ c. search needs) loop-again returns-2)
+first-unordered-spec = tie.close (tie.spec Inv-loop μ-loop (λ c. (search needs, from-start _ _ _ _)) (λ c. search needs) (λ c κs. search needs)
+    (λ c κs. search needs) returns (λ c. search needs) (λ c. search needs) loop-again returns-2)

@@ -7,17 +7,15 @@ use mathlib.Core.Path.{_≡_, ap, _∙_}
 use lib.ListN.{getD}
 use Rattle.laws.specs.Tests.{anyBelow}
 use Rattle.laws.proofs.Tests.{any-none, any-more}
+use Rattle.image.specs.Limits.{domainLimit}
 use Rattle.check_shape.proofs.order.gap_in.Statement.{statement}
 use Rattle.check_shape.proofs.order.gap_in.Tie as tie
 
 abbrev Inv-loop : tie.InvT-loop
-Inv-loop a b found₀ f₀ found f = (f ≤ 16) × (found ≡ anyBelow f (λ k. getD b k false && not (getD a k false)))
+Inv-loop a b found₀ f₀ found f = (f ≤ domainLimit) × (found ≡ anyBelow f (λ k. getD b k false && not (getD a k false)))
 
 abbrev μ-loop : tie.MeasureT-loop
-μ-loop a b found₀ f₀ found f = 16 - f
-
-loop-holds : tie.Need-loop-holds Inv-loop μ-loop
-loop-holds c = (search needs, any-none _)
+μ-loop a b found₀ f₀ found f = domainLimit - f
 
 loop-again : tie.Need-loop-again Inv-loop μ-loop
 loop-again c =
@@ -26,9 +24,9 @@ loop-again c =
 
 returns : tie.Need-returns Inv-loop μ-loop
 returns c =
-    let h : c .before .loop .f ≡ 16 = omega arith in
+    let h : c .before .loop .f ≡ domainLimit = omega arith in
     rw h at (c .before .loop .inv .1)
 
 pub gap-in-spec : {M : Type 1} → statement M
-gap-in-spec = tie.close (tie.spec Inv-loop μ-loop loop-holds (λ c. search needs) (λ c. search needs) (λ c κs. search needs) (λ c κs. search needs)
-    (λ c. search needs) (λ c. search needs) loop-again returns)
+gap-in-spec = tie.close (tie.spec Inv-loop μ-loop (λ c. (search needs, any-none _)) (λ c. search needs) (λ c. search needs) (λ c κs. search needs)
+    (λ c κs. search needs) (λ c. search needs) (λ c. search needs) loop-again returns)

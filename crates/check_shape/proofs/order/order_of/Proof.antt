@@ -21,9 +21,6 @@ Inv-loop image doms o₀ d₀ o d = (d ≤ length doms) × RowsTo (recordsOf ima
 abbrev μ-loop : tie.MeasureT-loop
 μ-loop image doms o₀ d₀ o d = length doms - d
 
-loop-holds : tie.Need-loop-holds Inv-loop μ-loop
-loop-holds c = (search needs, rows-none _)
-
 fields-at-requires : tie.Need-fields-at-requires Inv-loop μ-loop
 fields-at-requires c κs =
     let l = c .before .before .loop in
@@ -64,5 +61,5 @@ returns c =
     rows-all (recordsOf b) b ds (s .pre) (l .o) (rw e at (l .inv .1))
 
 pub order-of-spec : {M : Type 1} → statement M
-order-of-spec = tie.close (tie.spec Inv-loop μ-loop loop-holds (λ c. search needs) (λ c κs. search needs) fields-at-requires mask-of-requires
-    (λ c κs. search needs) (λ c. search needs) (λ c. search needs) (λ c. search needs) (λ c. search needs) loop-again returns)
+order-of-spec = tie.close (tie.spec Inv-loop μ-loop (λ c. (search needs, rows-none _)) (λ c. search needs) (λ c κs. search needs) fields-at-requires
+    mask-of-requires (λ c κs. search needs) (λ c. search needs) (λ c. search needs) (λ c. search needs) (λ c. search needs) loop-again returns)

@@ -47,20 +47,26 @@ module _ (t : ℕ) where
   moved-loop-holds : moved-lts.Need-loop-holds (moved-claims t) (check-subterms-at t) moved-reads.Post moved.Inv-loop moved.μ-loop
   moved-loop-holds c = let s = moved.start-of c in (omega arith, refl, refl, λ m e. sym (front-start (moved.image-of s) (moved.fields-of c) m (moved.setting-of s)))
 
+  moved-term-fields-requires-2 : moved-lts.Need-term-fields-requires-2 (moved-claims t) (check-subterms-at t) moved-reads.Post moved.Inv-loop moved.μ-loop
+  moved-term-fields-requires-2 c κs = let s = moved.start-of (c .before .before .before) in (s .pre .1 .0 .terms, s .pre .1 .1)
+
   moved-child-of-requires : moved-lts.Need-child-of-requires (moved-claims t) (check-subterms-at t) moved-reads.Post moved.Inv-loop moved.μ-loop
   moved-child-of-requires c κs =
-      let d = c .before .before in
+      let x = c .before .before in
+      let d = x .before .before in
       let m = moved.kind-of (moved.start-of d) in
-      let k = d .before .child-count .ensures m (moved.numbered d) in
-      let h = c .loop-test .taken in
-      (m, (moved.numbered d, d .lead-of .ensures m (moved.numbered d), moved.has d (c .before .loop .j) (omega arith)))
+      let k = moved.counted d m (moved.numbered d) in
+      let h = x .loop-test .taken in
+      (m, (moved.numbered d, d .lead-of .ensures m (moved.numbered d), rw (c .term-fields2 .ensures) (moved.has d (x .before .loop .j) (omega arith))))
 
   moved-child-setting-requires : moved-lts.Need-child-setting-requires (moved-claims t) (check-subterms-at t) moved-reads.Post moved.Inv-loop moved.μ-loop
   moved-child-setting-requires c κs =
-      let l = c .before .before .before .before .before .before in
+      let f = c .before .before .before .before .before in
+      let x = f .before .before in
+      let l = x .before in
       let d = l .before in
-      let h = c .before .before .before .before .before .loop-test .taken in
-      (moved.start-of d .pre .1 .0, λ m e. let k = d .before .child-count .ensures m e in (moved.passed l m (moved.kinded d m e), omega arith), moved.start-of d .pre .1 .4)
+      let h = x .loop-test .taken in
+      (moved.start-of d .pre .1 .0, λ m e. let k = moved.counted d m e in rw (f .term-fields2 .ensures) (moved.passed l m (moved.kinded d m e), omega arith), moved.start-of d .pre .1 .4)
 
   moved-check-term-requires : moved-lts.Need-check-term-requires (moved-claims t) (check-subterms-at t) moved-reads.Post moved.Inv-loop moved.μ-loop
   moved-check-term-requires c κs =
@@ -106,53 +112,26 @@ module _ (t : ℕ) where
 
 -- A term: its rule, then its children.
 module _ (t : ℕ) where
-  is-leaf-requires : here-lts.Need-is-leaf-requires (here-claims t) (check-here-at t) here-reads.Post same.Inv-loop same.μ-loop
-  is-leaf-requires c κs = search needs
-
-  check-leaf-requires : here-lts.Need-check-leaf-requires (here-claims t) (check-here-at t) here-reads.Post same.Inv-loop same.μ-loop
-  check-leaf-requires c κs =
-      let s = c .before .before .before .before .before .before .before in
-      let r = more-capacity (s .pre .1 .3) (s .pre .1 .1) in
-      (s .pre .1 .0, s .pre .1 .1, leb-true _ _ (sym (c .before .before .before .before .is-leaf .ensures) ∙ c .before .before .before .if1 .taken), omega arith)
-
-  fault-of-requires : here-lts.Need-fault-of-requires (here-claims t) (check-here-at t) here-reads.Post same.Inv-loop same.μ-loop
-  fault-of-requires c κs = search needs
-
-  -- A constant or a variable is checked by its rule alone.
-  returns : here-lts.Need-returns (here-claims t) (check-here-at t) here-reads.Post same.Inv-loop same.μ-loop
-  returns c =
-      let s = c .before .before .before .before .before .before .before .before .before in
-      let v = c .before .check-leaf in
-      let n = s .args .n .0 in
-      let f = c .fault-of .ensures in
-      let e = v .ensures (s .args .c .0) in
-      let small = leb-true _ _ (sym (c .before .before .before .before .before .before .is-leaf .ensures) ∙ c .before .before .before .before .before .if1 .taken) in (
-        own-back (recordsOf (same.image-of s)) (same.setting-of s) n e f ∙ (e ∙ leaf-checked (s .pre .1 .0 .terms) (s .pre .1 .1) (same.setting-of s) small),
-        own-below (v .result) n f,
-        refl,
-        refl,
-      )
-
   check-rule-requires : here-lts.Need-check-rule-requires (here-claims t) (check-here-at t) here-reads.Post same.Inv-loop same.μ-loop
   check-rule-requires c κs =
-      let s = c .before .before .before .before .before .before .before in
-      (s .pre .1 .0, s .pre .1 .4, s .pre .1 .1, leb-false _ _ (sym (c .before .before .before .before .is-leaf .ensures) ∙ c .before .before .before .if1 .left), s .pre .1 .2)
+      let s = c .before .before .before .before in
+      (s .pre .1 .0, s .pre .1 .4, s .pre .1 .1, s .pre .1 .5, s .pre .1 .2)
 
   is-refused-requires : here-lts.Need-is-refused-requires (here-claims t) (check-here-at t) here-reads.Post same.Inv-loop same.μ-loop
   is-refused-requires c κs = search needs
 
-  fault-of-requires-2 : here-lts.Need-fault-of-requires-2 (here-claims t) (check-here-at t) here-reads.Post same.Inv-loop same.μ-loop
-  fault-of-requires-2 c κs = search needs
+  fault-of-requires : here-lts.Need-fault-of-requires (here-claims t) (check-here-at t) here-reads.Post same.Inv-loop same.μ-loop
+  fault-of-requires c κs = search needs
 
   -- The term itself is refused.
-  returns-2 : here-lts.Need-returns-2 (here-claims t) (check-here-at t) here-reads.Post same.Inv-loop same.μ-loop
-  returns-2 c =
-      let s = c .before .before .before .before .before .before .before .before .before .before .before in
+  returns : here-lts.Need-returns (here-claims t) (check-here-at t) here-reads.Post same.Inv-loop same.μ-loop
+  returns c =
+      let s = c .before .before .before .before .before .before .before .before in
       let v = c .before .before .before .check-rule in
       let n = s .args .n .0 in
-      let f = c .fault-of2 .ensures in
+      let f = c .fault-of .ensures in
       let e = v .ensures (contextIn (now (s .args .scope)) (s .args .len)) in (
-        own-back (recordsOf (same.image-of s)) (same.setting-of s) n e f ∙ refused-here (s .pre .1 .0 .terms) (s .pre .1 .1) (same.setting-of s) (v .result) e (sym (c .before .before .is-refused .ensures) ∙ c .before .if2 .taken),
+        own-back (recordsOf (same.image-of s)) (same.setting-of s) n e f ∙ refused-here (s .pre .1 .0 .terms) (s .pre .1 .1) (same.setting-of s) (v .result) e (sym (c .before .before .is-refused .ensures) ∙ c .before .if1 .taken),
         own-below (v .result) n f,
         refl,
         refl,
@@ -171,8 +150,8 @@ module _ (t : ℕ) where
       let e = s .pre .0 in
       (omega arith, (s .pre .1 .0, s .pre .1 .1, s .pre .1 .2, s .pre .1 .3, s .pre .1 .4, same.ruled r))
 
-  returns-3 : here-lts.Need-returns-3 (here-claims t) (check-here-at t) here-reads.Post same.Inv-loop same.μ-loop
-  returns-3 c = c .check-subterms .ensures
+  returns-2 : here-lts.Need-returns-2 (here-claims t) (check-here-at t) here-reads.Post same.Inv-loop same.μ-loop
+  returns-2 c = c .check-subterms .ensures
 
   term-fields-requires : here-lts.Need-term-fields-requires (here-claims t) (check-here-at t) here-reads.Post same.Inv-loop same.μ-loop
   term-fields-requires c κs = let s = same.term-of (c .before .before .before .before .before) in (s .pre .1 .0 .terms, s .pre .1 .1)
@@ -201,14 +180,14 @@ module _ (t : ℕ) where
       (omega arith, (s .pre .1 .0, same.inside x, s .pre .1 .2, same.capacity x, s .pre .1 .4))
 
   -- A child is refused.
-  returns-4 : here-lts.Need-returns-4 (here-claims t) (check-here-at t) here-reads.Post same.Inv-loop same.μ-loop
-  returns-4 c =
+  returns-3 : here-lts.Need-returns-3 (here-claims t) (check-here-at t) here-reads.Post same.Inv-loop same.μ-loop
+  returns-3 c =
       let v = c .before .check-term in
       let x = c .before .before .before in
       let L = recordsOf (same.image-of (same.parent-of (same.turn-of x))) in
       let low = same.lower x in
       let l = same.turn-of x .before .loop in (
-        same.stops x (verdictAt L (v .result)) (v .ensures .0) (fault-refused L (v .result) (c .if4 .taken)),
+        same.stops x (verdictAt L (v .result)) (v .ensures .0) (fault-refused L (v .result) (c .if3 .taken)),
         omega (arith, low, v .ensures .1),
         v .ensures .2 ∙ l .inv .2,
         v .ensures .3 ∙ l .inv .1,
@@ -225,30 +204,59 @@ module _ (t : ℕ) where
       let v = c .before .check-term in
       let x = c .before .before .before in
       let L = recordsOf (same.image-of (same.parent-of (same.turn-of x))) in
-      same.goes-on x (verdictAt L (v .result)) (v .last .1 .1 .1 .1 .1 .1 .0) (v .ensures .0) (fault-accepted L (v .result) (c .if4 .left)) (v .ensures .3) (v .ensures .2)
+      same.goes-on x (verdictAt L (v .result)) (v .last .1 .1 .1 .1 .1 .1 .0) (v .ensures .0) (fault-accepted L (v .result) (c .if3 .left)) (v .ensures .3) (v .ensures .2)
 
   -- All children pass.
-  returns-5 : here-lts.Need-returns-5 (here-claims t) (check-here-at t) here-reads.Post same.Inv-loop same.μ-loop
-  returns-5 c =
+  returns-4 : here-lts.Need-returns-4 (here-claims t) (check-here-at t) here-reads.Post same.Inv-loop same.μ-loop
+  returns-4 c =
       let l = c .before in
       let d = l .before in
       let all = c .loop-test .left in
       (sym (l .loop .inv .3 (same.kind-of (same.start-of d)) (same.numbered d)) ∙ same.whole d (l .loop .j) (omega arith), omega arith, l .loop .inv .2, l .loop .inv .1)
 
--- The same, with the image as the slice of all its bytes.
+-- A constant or a variable, or another term, with the image as the slice of all its bytes.
 module _ (t : ℕ) where
+  is-leaf-requires : term-lts.Need-is-leaf-requires (term-claims t) (check-term-at t) term-reads.Post
+  is-leaf-requires c κs = search needs
+
+  check-leaf-requires : term-lts.Need-check-leaf-requires (term-claims t) (check-term-at t) term-reads.Post
+  check-leaf-requires c κs =
+      let s = c .before .before .before .before .before .before .before in
+      let r = more-capacity (s .pre .1 .3) (s .pre .1 .1) in
+      (s .pre .1 .0, s .pre .1 .1, leb-true _ _ (sym (c .before .before .before .before .is-leaf .ensures) ∙ c .before .before .before .if1 .taken), omega arith)
+
+  leaf-fault-of-requires : term-lts.Need-fault-of-requires (term-claims t) (check-term-at t) term-reads.Post
+  leaf-fault-of-requires c κs = search needs
+
+  -- A constant or a variable is checked by its rule alone.
+  leaf-returns : term-lts.Need-returns (term-claims t) (check-term-at t) term-reads.Post
+  leaf-returns c =
+      let s = c .before .before .before .before .before .before .before .before .before in
+      let v = c .before .check-leaf in
+      let n = s .args .n .0 in
+      let L = recordsOf (now (s .args .image)) in
+      let p = settingIn (now (s .args .scope)) (s .args .len) (s .args .c .0) in
+      let f = c .fault-of .ensures in
+      let e = v .ensures (s .args .c .0) in
+      let small = leb-true _ _ (sym (c .before .before .before .before .before .before .is-leaf .ensures) ∙ c .before .before .before .before .before .if1 .taken) in (
+        own-back L p n e f ∙ (e ∙ leaf-checked (s .pre .1 .0 .terms) (s .pre .1 .1) p small),
+        own-below (v .result) n f,
+        refl,
+        refl,
+      )
+
   slice-aggregate-bytes : term-lts.Need-slice-aggregate-bytes (term-claims t) (check-term-at t) term-reads.Post
-  slice-aggregate-bytes c = sym (ap length (take-length (now (c .before .before .args .image))))
+  slice-aggregate-bytes c = sym (ap length (take-length (now (c .before .before .before .before .before .args .image))))
 
   check-here-requires : term-lts.Need-check-here-requires (term-claims t) (check-term-at t) term-reads.Post
   check-here-requires c κs =
-      let s = c .before .before .before in
+      let s = c .before .before .before .before .before .before in
       let e = s .pre .0 in
-      (omega arith, rw (take-length (now (s .args .image))) (s .pre .1))
+      (omega arith, rw (take-length (now (s .args .image))) (s .pre .1 .0, s .pre .1 .1, s .pre .1 .2, s .pre .1 .3, s .pre .1 .4, leb-false _ _ (sym (c .before .before .before .is-leaf .ensures) ∙ c .before .before .if1 .left)))
 
-  term-returns : term-lts.Need-returns (term-claims t) (check-term-at t) term-reads.Post
+  term-returns : term-lts.Need-returns-2 (term-claims t) (check-term-at t) term-reads.Post
   term-returns c =
-      let s = c .before .before .before .before in
+      let s = c .before .before .before .before .before .before .before in
       let v = c .check-here in
       (subst (λ i. verdictAt (recordsOf i) (v .result) ≡ checked (recordsOf i) (settingIn (now (s .args .scope)) (s .args .len) (s .args .c .0)) (s .args .n .0)) (take-length (now (s .args .image))) (v .ensures .0), v .ensures .1, v .ensures .2, v .ensures .3)
 
@@ -262,18 +270,14 @@ pub +check-here+check-subterms+check-term-spec : {M : Type 1} → statement M
     here-reads.Post
     same.Inv-loop
     same.μ-loop
-    (is-leaf-requires t)
-    (check-leaf-requires t)
-    (fault-of-requires t)
-    (returns t)
     (check-rule-requires t)
     (is-refused-requires t)
-    (fault-of-requires-2 t)
-    (returns-2 t)
+    (fault-of-requires t)
+    (returns t)
     (term-kind-requires t)
     (moves-child-requires t)
     (check-subterms-requires t)
-    (returns-3 t)
+    (returns-2 t)
     (term-fields-requires t)
     (child-count-requires t)
     (lead-of-requires t)
@@ -281,11 +285,11 @@ pub +check-here+check-subterms+check-term-spec : {M : Type 1} → statement M
     (add-child-at-field t)
     (child-at-field-requires t)
     (check-term-requires t)
-    (returns-4 t)
+    (returns-3 t)
     (add-j t)
     (loop-less t)
     (loop-again t)
-    (returns-5 t))
+    (returns-4 t))
     (λ t. moved-lts.spec (moved-claims t)
     (check-subterms-at t)
     moved-reads.Post
@@ -296,6 +300,7 @@ pub +check-here+check-subterms+check-term-spec : {M : Type 1} → statement M
     (moved-child-count-requires t)
     (moved-lead-of-requires t)
     (moved-loop-holds t)
+    (moved-term-fields-requires-2 t)
     (moved-child-of-requires t)
     (moved-child-setting-requires t)
     (moved-check-term-requires t)
@@ -307,6 +312,10 @@ pub +check-here+check-subterms+check-term-spec : {M : Type 1} → statement M
     λ t. term-lts.spec (term-claims t)
     (check-term-at t)
     term-reads.Post
+    (is-leaf-requires t)
+    (check-leaf-requires t)
+    (leaf-fault-of-requires t)
+    (leaf-returns t)
     (slice-aggregate-bytes t)
     (check-here-requires t)
     (term-returns t)

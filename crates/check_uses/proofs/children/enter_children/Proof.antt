@@ -10,9 +10,6 @@ use borrow.Author.Needs.{needs}
 use Rattle.check_uses.proofs.children.enter_children.Statement.{statement}
 use Rattle.check_uses.proofs.children.enter_children.Tie as tie
 
-use-side-requires : tie.Need-use-side-requires
-use-side-requires c κs = let s = c .before .before .before in (s .pre .0, lower-first _ _ _ (s .pre .2))
-
 use-entries-requires : tie.Need-use-entries-requires
 use-entries-requires c κs =
     let u = c .before .before .before in
@@ -45,4 +42,6 @@ returns c =
     h .set-height .ensures ∙ rw (foldl-append used (now (a .marks)) cs gs, high-append cs gs (now (a .marks)) 0, e .use-entries .ensures .0, e .use-entries .ensures .1, u .use-side .ensures .0, u .use-side .ensures .1) refl
 
 pub enter-children-spec : {M : Type 1} → statement M
-enter-children-spec = tie.close (tie.spec use-side-requires use-entries-requires set-height-requires same-length returns)
+enter-children-spec = tie.close (tie.spec
+    (λ c κs. let s = c .before .before .before in (s .pre .0, lower-first _ _ _ (s .pre .2)))
+    use-entries-requires set-height-requires same-length returns)

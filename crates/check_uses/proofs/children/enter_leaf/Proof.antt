@@ -4,12 +4,9 @@ use borrow.Author.Needs.{needs}
 use Rattle.check_uses.proofs.children.enter_leaf.Statement.{statement}
 use Rattle.check_uses.proofs.children.enter_leaf.Tie as tie
 
-same-length : tie.Need-same-length
-same-length c = c .before .before .set-height .kept .0
-
 returns : tie.Need-returns
 unfolding highest
 returns c = c .before .before .set-height .ensures
 
 pub enter-leaf-spec : {M : Type 1} → statement M
-enter-leaf-spec = tie.close (tie.spec (λ c κs. search needs) same-length returns)
+enter-leaf-spec = tie.close (tie.spec (λ c κs. search needs) (λ c. c .before .before .set-height .kept .0) returns)

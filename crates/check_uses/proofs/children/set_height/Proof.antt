@@ -6,9 +6,6 @@ use borrow.Author.Needs.{needs}
 use Rattle.check_uses.proofs.children.set_height.Statement.{statement}
 use Rattle.check_uses.proofs.children.set_height.Tie as tie
 
-same-length : tie.Need-same-length
-same-length c = c .before .before .set-mark .kept .0
-
 returns : tie.Need-returns
 returns c =
     let at-set = c .before .before in
@@ -16,4 +13,5 @@ returns c =
     at-set .set-mark .ensures ∙ ap (set (now (a .marks)) (a .n .0)) (at-set .before .one-more .ensures)
 
 pub set-height-spec : {M : Type 1} → statement M
-set-height-spec = tie.close (tie.spec (λ c. search needs) (λ c κs. search needs) (λ c κs. search needs) same-length returns)
+set-height-spec = tie.close (tie.spec (λ c. search needs) (λ c κs. search needs) (λ c κs. search needs) (λ c. c .before .before .set-mark .kept .0)
+    returns)

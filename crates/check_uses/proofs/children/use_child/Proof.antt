@@ -8,9 +8,6 @@ use borrow.Author.Needs.{needs}
 use Rattle.check_uses.proofs.children.use_child.Statement.{statement}
 use Rattle.check_uses.proofs.children.use_child.Tie as tie
 
-same-length : tie.Need-same-length
-same-length c = c .before .before .before .set-mark .kept .0
-
 returns : tie.Need-returns
 unfolding highest
 returns c =
@@ -22,4 +19,4 @@ returns c =
 
 pub use-child-spec : {M : Type 1} → statement M
 use-child-spec = tie.close (tie.spec (λ c κs. search needs) (λ c κs. search needs) (λ c κs. search needs) (λ c. search needs) (λ c κs. search needs)
-    same-length returns)
+    (λ c. c .before .before .before .set-mark .kept .0) returns)

@@ -13,12 +13,8 @@ returns c = rw (c .if1 .taken) (refl, refl)
 use-child-requires : tie.Need-use-child-requires
 use-child-requires c κs = let l = rw (c .entry-term .ensures) at (c .before .before .before .before .pre) in l .at 0 (lit< tt)
 
-same-length : tie.Need-same-length
-same-length c = c .before .before .use-child .kept .0
-
 returns-2 : tie.Need-returns-2
 returns-2 c = let u = c .before .before in rw (u .before .entry-term .ensures) (u .use-child .ensures)
 
 pub use-entry-spec : {M : Type 1} → statement M
-use-entry-spec =
-    tie.close (tie.spec returns (λ c κs. search needs) use-child-requires same-length returns-2)
+use-entry-spec = tie.close (tie.spec returns (λ c κs. search needs) use-child-requires (λ c. c .before .before .use-child .kept .0) returns-2)

@@ -23,9 +23,6 @@ Inv-loop fields code marks₀ first count h₀ j₀ marks h j =
 abbrev μ-loop : tie.MeasureT-loop
 μ-loop fields code marks₀ first count h₀ j₀ marks h j = count - j
 
-loop-holds : tie.Need-loop-holds Inv-loop μ-loop
-loop-holds c = (search needs, refl, refl, refl)
-
 term-field-requires : tie.Need-term-field-requires Inv-loop μ-loop
 term-field-requires c κs =
     let k = c .before .before in
@@ -73,5 +70,5 @@ returns c =
     (sym (l .inv .2 ∙ high-end cs (l .marks) (l .j) (l .h) h), sym (l .inv .3 ∙ fold-end used cs (l .marks) (l .j) h))
 
 pub use-side-spec : {M : Type 1} → statement M
-use-side-spec = tie.close (tie.spec Inv-loop μ-loop (λ c κs. search needs) (λ c κs. search needs) loop-holds (λ c. search needs) term-field-requires
-    use-child-requires (λ c. search needs) (λ c. search needs) loop-again (λ c. search needs) returns)
+use-side-spec = tie.close (tie.spec Inv-loop μ-loop (λ c κs. search needs) (λ c κs. search needs) (λ c. (search needs, refl, refl, refl))
+    (λ c. search needs) term-field-requires use-child-requires (λ c. search needs) (λ c. search needs) loop-again (λ c. search needs) returns)

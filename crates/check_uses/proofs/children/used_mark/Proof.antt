@@ -4,11 +4,5 @@ use borrow.Author.Needs.{needs}
 use Rattle.check_uses.proofs.children.used_mark.Statement.{statement}
 use Rattle.check_uses.proofs.children.used_mark.Tie as tie
 
-returns : tie.Need-returns
-returns c = simp (lt-ltb _ _ (c .if1 .taken))
-
-returns-2 : tie.Need-returns-2
-returns-2 c = simp (le-ltb _ _ (c .if1 .left))
-
 pub used-mark-spec : {M : Type 1} → statement M
-used-mark-spec = tie.close (tie.spec (λ c. search needs) returns returns-2)
+used-mark-spec = tie.close (tie.spec (λ c. search needs) (λ c. simp (lt-ltb _ _ (c .if1 .taken))) (λ c. simp (le-ltb _ _ (c .if1 .left))))

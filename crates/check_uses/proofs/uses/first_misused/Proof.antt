@@ -23,9 +23,6 @@ returns c =
     let a = c .before .before .before .args in
     record { inside = omega arith; before = all-below (a .root .0) _ (sym (c .before .all-once .ensures) ∙ c .if1 .taken); here = λ h. absurd (omega arith) }
 
-loop-holds : tie.Need-loop-holds Inv-loop μ-loop
-loop-holds c = (search needs, λ k h. absurd (omega arith))
-
 returns-2 : tie.Need-returns-2 Inv-loop μ-loop
 returns-2 c =
     let o = c .before in
@@ -44,5 +41,5 @@ returns-3 c =
     record { inside = omega arith; before = λ k h. l .inv .1 k (omega arith); here = λ h. absurd (omega arith) }
 
 pub first-misused-spec : {M : Type 1} → statement M
-first-misused-spec = tie.close (tie.spec Inv-loop μ-loop (λ c κs. search needs) returns loop-holds (λ c κs. search needs) (λ c κs. search needs)
-    returns-2 (λ c. search needs) (λ c. search needs) loop-again returns-3)
+first-misused-spec = tie.close (tie.spec Inv-loop μ-loop (λ c κs. search needs) returns (λ c. (search needs, λ k h. absurd (omega arith)))
+    (λ c κs. search needs) (λ c κs. search needs) returns-2 (λ c. search needs) (λ c. search needs) loop-again returns-3)

@@ -5,48 +5,6 @@ use mathlib.Core.Path.{refl, ap, _∙_}
 use Rattle.need_own.proofs.own.reduction.Statement.{statement}
 use Rattle.need_own.proofs.own.reduction.Tie as tie
 
-enum-told : tie.Need-enum-told
-enum-told c = c .match .keys1
-
-enum-told-2 : tie.Need-enum-told-2
-enum-told-2 c = c .match .keys2
-
-enum-told-3 : tie.Need-enum-told-3
-enum-told-3 c = c .match .keys3
-
-enum-told-4 : tie.Need-enum-told-4
-enum-told-4 c = c .match .keys4
-
-enum-told-5 : tie.Need-enum-told-5
-enum-told-5 c = c .match .keys5
-
-enum-told-6 : tie.Need-enum-told-6
-enum-told-6 c = c .match .keys6
-
-enum-told-7 : tie.Need-enum-told-7
-enum-told-7 c = c .match .keys7
-
-enum-told-8 : tie.Need-enum-told-8
-enum-told-8 c = c .match .keys8
-
-enum-told-9 : tie.Need-enum-told-9
-enum-told-9 c = c .match .keys9
-
-enum-told-10 : tie.Need-enum-told-10
-enum-told-10 c = c .match .keys10
-
-enum-told-11 : tie.Need-enum-told-11
-enum-told-11 c = c .match .keys11
-
-enum-told-12 : tie.Need-enum-told-12
-enum-told-12 c = c .match .keys12
-
-returns : tie.Need-returns
-returns c = rw (c .before .enum-told .given .1) (c .no-needs .ensures)
-
-returns-2 : tie.Need-returns-2
-returns-2 c = rw (c .enum-told2 .given .1) (c .before .before .before .step-under .ensures)
-
 returns-3 : tie.Need-returns-3
 returns-3 c = rw (c .enum-told3 .given .1, c .before .before .before .step-under .ensures) refl
 
@@ -78,7 +36,10 @@ returns-12 : tie.Need-returns-12
 returns-12 c = rw (c .before .enum-told12 .given .1) (c .add .ensures ∙ ap (λ n. addNeeds n (c .before .before .before .before .before .args .w)) (c .before .before .before .before .step-under .ensures))
 
 pub reduction-spec : {M : Type 1} → statement M
-reduction-spec = tie.close (tie.spec (λ c κs. search needs) enum-told (λ c κs. search needs) enum-told-2 enum-told-3 enum-told-4 enum-told-5
-    enum-told-6 (λ c κs. search needs) enum-told-7 (λ c κs. search needs) enum-told-8 (λ c κs. search needs) enum-told-9 (λ c κs. search needs)
-    enum-told-10 (λ c κs. search needs) enum-told-11 (λ c κs. search needs) enum-told-12 (λ c κs. search needs) returns returns-2 returns-3 returns-4
-    returns-5 returns-6 returns-7 returns-8 returns-9 returns-10 returns-11 returns-12)
+reduction-spec = tie.close (tie.spec (λ c κs. search needs) (λ c. c .match .keys1) (λ c κs. search needs) (λ c. c .match .keys2)
+    (λ c. c .match .keys3) (λ c. c .match .keys4) (λ c. c .match .keys5) (λ c. c .match .keys6) (λ c κs. search needs) (λ c. c .match .keys7)
+    (λ c κs. search needs) (λ c. c .match .keys8) (λ c κs. search needs) (λ c. c .match .keys9) (λ c κs. search needs) (λ c. c .match .keys10)
+    (λ c κs. search needs) (λ c. c .match .keys11) (λ c κs. search needs) (λ c. c .match .keys12) (λ c κs. search needs)
+    (λ c. rw (c .before .enum-told .given .1) (c .no-needs .ensures))
+    (λ c. rw (c .enum-told2 .given .1) (c .before .before .before .step-under .ensures))
+    returns-3 returns-4 returns-5 returns-6 returns-7 returns-8 returns-9 returns-10 returns-11 returns-12)

@@ -15,9 +15,6 @@ Inv-loop rows₀ part x₀ rows x = (x ≤ tableLength) × (length rows ≡ tabl
 abbrev μ-loop : tie.MeasureT-loop
 μ-loop rows₀ part x₀ rows x = tableLength - x
 
-loop-holds : tie.Need-loop-holds Inv-loop μ-loop
-loop-holds c = (omega arith, c .before .before .pre .0, start _ 0 _)
-
 loop-again : tie.Need-loop-again Inv-loop μ-loop
 loop-again c =
     let l = c .before .before .before .before .loop in
@@ -33,5 +30,6 @@ returns c =
     finish _ 0 (l .x) tableLength _ (l .rows) (omega arith) (l .inv .2)
 
 pub add-rows-spec : {M : Type 1} → statement M
-add-rows-spec = tie.close (tie.spec Inv-loop μ-loop loop-holds (λ c. search needs) (λ c. search needs) (λ c. search needs) (λ c. search needs)
-    (λ c κs. search needs) (λ c. search needs) (λ c. search needs) (λ c. search needs) (λ c. search needs) loop-again (λ c. search needs) returns)
+add-rows-spec = tie.close (tie.spec Inv-loop μ-loop (λ c. (omega arith, c .before .before .pre .0, start _ 0 _)) (λ c. search needs)
+    (λ c. search needs) (λ c. search needs) (λ c. search needs) (λ c κs. search needs) (λ c. search needs) (λ c. search needs) (λ c. search needs)
+    (λ c. search needs) loop-again (λ c. search needs) returns)

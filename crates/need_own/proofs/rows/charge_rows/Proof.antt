@@ -12,7 +12,7 @@ use Rattle.need_own.proofs.rows.charge_rows.Tie as tie
 returns : tie.Need-returns
 returns c =
     let at-if2 = c .before .before .before .before in
-    let at-if1 = at-if2 .before .before in
+    let at-if1 = at-if2 .before .before .before in
     let at-both = at-if1 .before in
     let at-takes-pieces = at-both .before in
     let at-is-body = at-takes-pieces .before in
@@ -24,7 +24,7 @@ returns c =
 returns-2 : tie.Need-returns-2
 returns-2 c =
     let at-if2 = c .before .before .before .before in
-    let at-if1 = at-if2 .before .before in
+    let at-if1 = at-if2 .before .before .before in
     let at-both = at-if1 .before in
     let at-takes-pieces = at-both .before in
     let at-is-body = at-takes-pieces .before in

@@ -30,8 +30,7 @@ abbrev pub μ-add-pieces : Measures 4 add-pieces-kinds.ps ℕ
 μ-add-pieces κs a = 2 * a .1 .1 .1 .0 .0 + 1
 
 abbrev pub add-branches-at : ℕ → In 4 add-branches-kinds.ps
-add-branches-at t =
-    and 4 add-branches-kinds.ps (is 4 add-branches-kinds.ps μ-add-branches t) add-branches.Pre
+add-branches-at t = and 4 add-branches-kinds.ps (is 4 add-branches-kinds.ps μ-add-branches t) add-branches.Pre
 
 abbrev pub add-branches-below : ℕ → In 4 add-branches-kinds.ps
 add-branches-below t =
@@ -42,12 +41,10 @@ add-branches-below t =
     add-branches.Pre
 
 abbrev pub add-pieces-at : ℕ → In 4 add-pieces-kinds.ps
-add-pieces-at t =
-    and 4 add-pieces-kinds.ps (is 4 add-pieces-kinds.ps μ-add-pieces t) add-pieces.Pre
+add-pieces-at t = and 4 add-pieces-kinds.ps (is 4 add-pieces-kinds.ps μ-add-pieces t) add-pieces.Pre
 
 abbrev pub add-pieces-below : ℕ → In 4 add-pieces-kinds.ps
-add-pieces-below t =
-    and 4 add-pieces-kinds.ps (falls 4 add-pieces-kinds.ps _<_ μ-add-pieces t) add-pieces.Pre
+add-pieces-below t = and 4 add-pieces-kinds.ps (falls 4 add-pieces-kinds.ps _<_ μ-add-pieces t) add-pieces.Pre
 
 abbrev pub branch-claims : ℕ → add-branches-lts.Claims
 branch-claims t = (

@@ -13,11 +13,10 @@ use Rattle.read_records.proofs.table.code_of.Tie as tie
 shared-slice-read-result : tie.Need-shared-slice-read-result
 shared-slice-read-result c = let h : length (now (c .before .before .args .kinds)) ≡ codeCount = rw (c .before .before .pre) codes-length in omega arith
 
-returns : tie.Need-returns
-returns c = ap (λ xs. getD xs (c .before .before .args .kind) 0) (c .before .before .pre)
-
 returns-2 : tie.Need-returns-2
 returns-2 c = sym (List·getD-eq-default kindCodes 0 {n = c .before .args .kind} (omega (arith, ltb-false, codes-length)))
 
 pub code-of-spec : {M : Type 1} → statement M
-code-of-spec = tie.close (tie.spec (λ c. search needs) shared-slice-read-result returns returns-2)
+code-of-spec = tie.close (tie.spec (λ c. search needs) shared-slice-read-result
+    (λ c. ap (λ xs. getD xs (c .before .before .args .kind) 0) (c .before .before .pre))
+    returns-2)

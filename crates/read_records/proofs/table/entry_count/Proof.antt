@@ -8,9 +8,6 @@ use Rattle.read_records.proofs.Codes.{told, no-group, group-of-children
 use Rattle.read_records.proofs.table.entry_count.Statement.{statement}
 use Rattle.read_records.proofs.table.entry_count.Tie as tie
 
-returns : tie.Need-returns
-returns c = let a = c .before .args in no-group (a .code) (a .bytes) (c .if1 .taken) .1
-
 returns-2 : tie.Need-returns-2
 returns-2 c = let a = c .before .before .args in group-of-children (a .code) (a .bytes) (omega (arith, c .before .if1 .left)) (c .if2 .taken) .1
 
@@ -31,5 +28,6 @@ returns-4 c =
     rw (l .last-count .ensures, f .field-count .ensures) (group-of-entries (a .code) (a .bytes) (omega (arith, f .before .before .if1 .left)) (f .before .if2 .left) .1)
 
 pub entry-count-spec : {M : Type 1} → statement M
-entry-count-spec = tie.close (tie.spec (λ c. search needs) returns returns-2 (λ c κs. search needs) (λ c. search needs) (λ c κs. search needs)
-    (λ c. search needs) returns-3 returns-4)
+entry-count-spec = tie.close (tie.spec (λ c. search needs)
+    (λ c. let a = c .before .args in no-group (a .code) (a .bytes) (c .if1 .taken) .1)
+    returns-2 (λ c κs. search needs) (λ c. search needs) (λ c κs. search needs) (λ c. search needs) returns-3 returns-4)

@@ -12,8 +12,6 @@ use Rattle.read_records.proofs.table.known_code.Tie as tie
 shared-slice-read-result : tie.Need-shared-slice-read-result
 shared-slice-read-result c = let h : length (now (c .before .args .kinds)) ≡ codeCount = rw (c .before .pre .0) codes-length in omega arith
 
-returns : tie.Need-returns
-returns c = ap (λ xs. getD xs (c .before .args .kind) 0) (c .before .pre .0)
-
 pub known-code-spec : {M : Type 1} → statement M
-known-code-spec = tie.close (tie.spec (λ c. search needs) shared-slice-read-result returns)
+known-code-spec = tie.close (tie.spec (λ c. search needs) shared-slice-read-result
+    (λ c. ap (λ xs. getD xs (c .before .args .kind) 0) (c .before .pre .0)))

@@ -7,9 +7,6 @@ use Rattle.image.specs.Bytes.{le16}
 use Rattle.read_records.specs.Heads.{fieldsAt}
 use Rattle.read_terms.proofs.Masks.{domain-in-table, domain-place-is, domain-whole, mask-there, mask-is}
 
-domain-offset-requires : tie.Need-domain-offset-requires
-domain-offset-requires c κs = let s = c .before .before in domain-in-table (s .pre .0) (s .pre .1)
-
 fields-at-requires : tie.Need-fields-at-requires
 fields-at-requires c κs =
     let s = c .before .before .before in
@@ -29,4 +26,6 @@ returns c =
     c .word .ensures ∙ ap (λ fs. le16 fs 0) (c .before .fields-at .ensures ∙ ap (fieldsAt (now (s .args .image))) e) ∙ mask-is (s .pre .0) (s .pre .1)
 
 pub mask-of-spec : {M : Type 1} → statement M
-mask-of-spec = tie.close (tie.spec domain-offset-requires fields-at-requires word-requires returns)
+mask-of-spec = tie.close (tie.spec
+    (λ c κs. let s = c .before .before in domain-in-table (s .pre .0) (s .pre .1))
+    fields-at-requires word-requires returns)

@@ -22,5 +22,4 @@ returns-2 : tie.Need-returns-2
 returns-2 c = let a = c .before .before .before .args in c .entry-term-at .ensures ∙ later-child (now (a .fields)) (a .j) (omega (arith, c .before .if1 .left))
 
 pub match-child-spec : {M : Type 1} → statement M
-match-child-spec =
-    tie.close (tie.spec (λ c. search needs) (λ c κs. search needs) returns entry-term-at-requires returns-2)
+match-child-spec = tie.close (tie.spec (λ c. search needs) (λ c κs. search needs) returns entry-term-at-requires returns-2)

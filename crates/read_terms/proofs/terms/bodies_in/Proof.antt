@@ -6,8 +6,5 @@ use mathlib.Core.Path.{sym}
 use denote.Ref.{now}
 use Rattle.read_terms.proofs.Counts.{body-count}
 
-returns : tie.Need-returns
-returns c = sym (body-count (now (c .args .fields)))
-
 pub bodies-in-spec : {M : Type 1} → statement M
-bodies-in-spec = tie.close (tie.spec (λ c. search needs) returns)
+bodies-in-spec = tie.close (tie.spec (λ c. search needs) (λ c. sym (body-count (now (c .args .fields)))))

@@ -6,8 +6,5 @@ use mathlib.Core.Path.{sym}
 use denote.Ref.{now}
 use Rattle.read_terms.proofs.Counts.{label-count}
 
-returns : tie.Need-returns
-returns c = sym (label-count (now (c .args .fields)))
-
 pub labels-in-spec : {M : Type 1} → statement M
-labels-in-spec = tie.close (tie.spec (λ c. search needs) returns)
+labels-in-spec = tie.close (tie.spec (λ c. search needs) (λ c. sym (label-count (now (c .args .fields)))))

@@ -5,9 +5,6 @@ use native.Mathlib.Omega.{arith}
 use mathlib.Core.Path.{_∙_}
 use Rattle.read_terms.proofs.Located.{in-table, place-is, inside, long-enough}
 
-term-offset-requires : tie.Need-term-offset-requires
-term-offset-requires c κs = let s = c .before .before in in-table (s .pre .0) (s .pre .1)
-
 returns : tie.Need-returns
 returns c =
     let s = c .before .before .before in
@@ -17,4 +14,4 @@ returns c =
     (e, omega arith)
 
 pub term-place-spec : {M : Type 1} → statement M
-term-place-spec = tie.close (tie.spec term-offset-requires returns)
+term-place-spec = tie.close (tie.spec (λ c κs. let s = c .before .before in in-table (s .pre .0) (s .pre .1)) returns)

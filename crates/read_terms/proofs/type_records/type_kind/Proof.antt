@@ -7,9 +7,6 @@ use Rattle.read_terms.proofs.TypeRecords.{type-in-table, type-place-is,
 use Rattle.read_terms.proofs.type_records.type_kind.Statement.{statement}
 use Rattle.read_terms.proofs.type_records.type_kind.Tie as tie
 
-type-offset-requires : tie.Need-type-offset-requires
-type-offset-requires c κs = let s = c .before .before in type-in-table (s .pre .0) (s .pre .1)
-
 kind-at-requires : tie.Need-kind-at-requires
 kind-at-requires c κs =
     let s = c .before .before .before in
@@ -20,4 +17,4 @@ returns : tie.Need-returns
 returns c = let s = c .before .before .before .before in c .kind-at .ensures ∙ ap (numberAt (now (s .args .image))) (c .before .type-offset .ensures ∙ type-place-is (s .pre .0) (s .pre .1))
 
 pub type-kind-spec : {M : Type 1} → statement M
-type-kind-spec = tie.close (tie.spec type-offset-requires kind-at-requires returns)
+type-kind-spec = tie.close (tie.spec (λ c κs. let s = c .before .before in type-in-table (s .pre .0) (s .pre .1)) kind-at-requires returns)

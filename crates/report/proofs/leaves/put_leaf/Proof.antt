@@ -9,9 +9,6 @@ use borrow.Author.Needs.{needs}
 use Rattle.report.proofs.leaves.put_leaf.Statement.{statement}
 use Rattle.report.proofs.leaves.put_leaf.Tie as tie
 
-same-length : tie.Need-same-length
-same-length c = c .before .before .put-header .kept .0
-
 returns : tie.Need-returns
 unfolding bytesOf
 returns c = rw (c .before .before .before .before .enum-told .given .1) (refl, c .before .before .put-header .ensures)
@@ -41,4 +38,5 @@ returns-3 c =
 pub put-leaf-spec : {M : Type 1} → statement M
 put-leaf-spec = tie.close (tie.spec (λ c. search needs) (λ c κs. search needs) (λ c. search needs) (λ c. search needs) (λ c κs. search needs)
     (λ c. search needs) (λ c κs. search needs) (λ c κs. search needs) (λ c. search needs) (λ c. search needs) (λ c κs. search needs)
-    (λ c. search needs) (λ c κs. search needs) (λ c. search needs) same-length returns (λ c. search needs) returns-2 (λ c. search needs) returns-3)
+    (λ c. search needs) (λ c κs. search needs) (λ c. search needs) (λ c. c .before .before .put-header .kept .0) returns (λ c. search needs) returns-2
+    (λ c. search needs) returns-3)

@@ -27,9 +27,6 @@ loop-holds : tie.Need-loop-holds Inv-loop μ-loop
 unfolding recordsBytes
 loop-holds c = let a = c .before .args in (omega arith, omega arith, refl, omega arith, sym (over-nothing (now (a .report)) (a .at)))
 
-put-leaf-requires : tie.Need-put-leaf-requires Inv-loop μ-loop
-put-leaf-requires c κs = omega arith
-
 loop-again : tie.Need-loop-again Inv-loop μ-loop
 loop-again c =
     let at-loop = c .before .before .before .before .before .before in
@@ -48,5 +45,5 @@ returns c =
     (rw e at (l .inv .3), rw e at (l .inv .4))
 
 pub put-leaves-spec : {M : Type 1} → statement M
-put-leaves-spec = tie.close (tie.spec Inv-loop μ-loop loop-holds (λ c. search needs) (λ c. search needs) put-leaf-requires (λ c. search needs)
+put-leaves-spec = tie.close (tie.spec Inv-loop μ-loop loop-holds (λ c. search needs) (λ c. search needs) (λ c κs. omega arith) (λ c. search needs)
     (λ c. search needs) loop-again (λ c. search needs) returns)

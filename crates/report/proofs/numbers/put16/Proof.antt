@@ -7,9 +7,6 @@ use borrow.Author.Needs.{needs}
 use Rattle.report.proofs.numbers.put16.Statement.{statement}
 use Rattle.report.proofs.numbers.put16.Tie as tie
 
-slice-write-out-2 : tie.Need-slice-write-out-2
-slice-write-out-2 c = simp length-set (omega arith)
-
 returns : tie.Need-returns
 unfolding stores
 returns c =
@@ -17,5 +14,5 @@ returns c =
     rw (← bytes2 (a .v)) (stores-over (now (a .out)) (a .at) (a .v % 256) _ (omega arith))
 
 pub put16-spec : {M : Type 1} → statement M
-put16-spec = tie.close (tie.spec (λ c. search needs) (λ c. search needs) (λ c. search needs) (λ c. search needs) slice-write-out-2 (λ c. search needs)
-    returns)
+put16-spec = tie.close (tie.spec (λ c. search needs) (λ c. search needs) (λ c. search needs) (λ c. search needs) (λ c. simp length-set (omega arith))
+    (λ c. search needs) returns)

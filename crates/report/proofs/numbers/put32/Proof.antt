@@ -7,15 +7,6 @@ use borrow.Author.Needs.{needs}
 use Rattle.report.proofs.numbers.put32.Statement.{statement}
 use Rattle.report.proofs.numbers.put32.Tie as tie
 
-slice-write-out-2 : tie.Need-slice-write-out-2
-slice-write-out-2 c = simp length-set (omega arith)
-
-slice-write-out-3 : tie.Need-slice-write-out-3
-slice-write-out-3 c = simp length-set (omega arith)
-
-slice-write-out-4 : tie.Need-slice-write-out-4
-slice-write-out-4 c = simp length-set (omega arith)
-
 returns : tie.Need-returns
 unfolding stores
 returns c =
@@ -23,5 +14,6 @@ returns c =
     rw (← bytes4 (a .v)) (stores-over (now (a .out)) (a .at) (a .v % 256) _ (omega arith))
 
 pub put32-spec : {M : Type 1} → statement M
-put32-spec = tie.close (tie.spec (λ c. search needs) (λ c. search needs) (λ c. search needs) (λ c. search needs) slice-write-out-2 (λ c. search needs)
-    (λ c. search needs) slice-write-out-3 (λ c. search needs) (λ c. search needs) slice-write-out-4 (λ c. search needs) returns)
+put32-spec = tie.close (tie.spec (λ c. search needs) (λ c. search needs) (λ c. search needs) (λ c. search needs) (λ c. simp length-set (omega arith))
+    (λ c. search needs) (λ c. search needs) (λ c. simp length-set (omega arith)) (λ c. search needs) (λ c. search needs)
+    (λ c. simp length-set (omega arith)) (λ c. search needs) returns)

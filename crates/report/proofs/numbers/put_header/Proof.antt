@@ -18,5 +18,4 @@ returns c =
     onward (bytes16 (a .size)) (bytes16 (a .kind)) (now (a .out)) (a .at) (a .at + 2) (at-put16 .put16 .ensures) (c .before .before .put162 .ensures) refl (omega arith)
 
 pub put-header-spec : {M : Type 1} → statement M
-put-header-spec =
-    tie.close (tie.spec (λ c κs. search needs) (λ c. search needs) (λ c κs. search needs) (λ c. search needs) returns)
+put-header-spec = tie.close (tie.spec (λ c κs. search needs) (λ c. search needs) (λ c κs. search needs) (λ c. search needs) returns)

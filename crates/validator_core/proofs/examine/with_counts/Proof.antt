@@ -3,11 +3,5 @@ use borrow.Author.Needs.{needs}
 use Rattle.validator_core.proofs.examine.with_counts.Statement.{statement}
 use Rattle.validator_core.proofs.examine.with_counts.Tie as tie
 
-returns : tie.Need-returns
-returns c = rw (c .before .v .given .1)
-
-returns-2 : tie.Need-returns-2
-returns-2 c = rw (c .enum-told .given .1)
-
 pub with-counts-spec : {M : Type 1} → statement M
-with-counts-spec = tie.close (tie.spec (λ c. search needs) (λ c. search needs) returns returns-2)
+with-counts-spec = tie.close (tie.spec (λ c. search needs) (λ c. search needs) (λ c. rw (c .before .v .given .1)) (λ c. rw (c .enum-told .given .1)))

@@ -19,9 +19,6 @@ Inv-loop code fields work env w n i₀ d₀ i d =
 abbrev μ-loop : tie.MeasureT-loop
 μ-loop code fields work env w n i₀ d₀ i d = n - i
 
-loop-holds : tie.Need-loop-holds Inv-loop μ-loop
-loop-holds c = λ image e. refl
-
 term-at-requires : tie.Need-term-at-requires Inv-loop μ-loop
 term-at-requires c κs =
     let at-count-of = c .before .before in
@@ -76,6 +73,6 @@ returns-2 c =
     from-count C M (a .env) (a .w) _ _ _ _ (at-count-of .count-of .ensures) (l .inv image e ∙ none-left C M (a .env) (a .w) _ (l .i) (l .d) (search needs))
 
 pub take-labels-spec : {M : Type 1} → statement M
-take-labels-spec = tie.close (tie.spec Inv-loop μ-loop (λ c κs. search needs) loop-holds term-at-requires (λ c κs. search needs)
+take-labels-spec = tie.close (tie.spec Inv-loop μ-loop (λ c κs. search needs) (λ c image e. refl) term-at-requires (λ c κs. search needs)
     (λ c κs. search needs) returns (λ c κs. search needs) (λ c κs. search needs) (λ c κs. search needs) (λ c. search needs) (λ c. search needs)
     loop-again returns-2)

@@ -4,9 +4,6 @@ use borrow.Author.Needs.{needs}
 use Rattle.vm_marks.proofs.advice.mark_left.Statement.{statement}
 use Rattle.vm_marks.proofs.advice.mark_left.Tie as tie
 
-same-length : tie.Need-same-length
-same-length c = c .before .before .completed .kept .0
-
 returns : tie.Need-returns
 returns c =
     let at-slot-env = c .before .before .before .before in
@@ -18,4 +15,4 @@ returns c =
 
 pub mark-left-spec : {M : Type 1} → statement M
 mark-left-spec = tie.close (tie.spec (λ c κs. search needs) (λ c. search needs) (λ c κs. search needs) (λ c. search needs) (λ c. search needs)
-    (λ c κs. search needs) (λ c κs. search needs) same-length returns)
+    (λ c κs. search needs) (λ c κs. search needs) (λ c. c .before .before .completed .kept .0) returns)

@@ -8,9 +8,6 @@ use Rattle.vm_marks.proofs.advice.next_advice.Tie as tie
 returns : tie.Need-returns
 returns c = let a = c .before .before .before .before .before .args in λ image. advice-spent (record { code = now (a .code); image = image }) (now (a .work)) (now (a .work)) (a .r) _ (a .f) (c .before .if1 .taken) (c .halt-with .ensures)
 
-same-length : tie.Need-same-length
-same-length c = c .before .before .next-body .kept .0
-
 returns-2 : tie.Need-returns-2
 returns-2 c =
     let at-if2 = c .before .before .before .before in
@@ -32,9 +29,6 @@ mark-left-requires c κs =
     let a = s .args in
     (search needs, frames-of-mark (record { code = now (a .code); image = [] }) (now (a .work)) (now (a .work)) (a .r) (a .r) (a .f) (at-if1 .if1 .left) _ _ (at-next-binding .next-binding .ensures) (at-end-binding .end-binding .ensures) _ _ [] (at-if2 .if2 .left) (at-slot-pc .slot-pc .ensures) (c .instruction .ensures) (s .pre .3 [] []), search needs)
 
-same-length-2 : tie.Need-same-length-2
-same-length-2 c = c .before .before .mark-left .kept .0
-
 returns-3 : tie.Need-returns-3
 returns-3 c =
     let at-mark-left = c .before .before in
@@ -50,4 +44,5 @@ returns-3 c =
 
 pub next-advice-spec : {M : Type 1} → statement M
 next-advice-spec = tie.close (tie.spec (λ c. search needs) (λ c κs. search needs) returns (λ c κs. search needs) (λ c κs. search needs)
-    (λ c κs. search needs) same-length returns-2 (λ c κs. search needs) (λ c κs. search needs) mark-left-requires same-length-2 returns-3)
+    (λ c κs. search needs) (λ c. c .before .before .next-body .kept .0) returns-2 (λ c κs. search needs) (λ c κs. search needs) mark-left-requires
+    (λ c. c .before .before .mark-left .kept .0) returns-3)

@@ -9,9 +9,6 @@ sub-q c =
     let start = c .before .before .before .before .before .before .before .before .before .before .before .before .before in
     start .pre .2
 
-same-length : tie.Need-same-length
-same-length c = c .before .before .before .before .put-advice .kept .0
-
 returns : tie.Need-returns
 returns c =
     let at-put-advice = c .before .before .before .before in
@@ -26,4 +23,6 @@ returns c =
 
 pub next-body-spec : {M : Type 1} → statement M
 next-body-spec = tie.close (tie.spec (λ c κs. search needs) (λ c κs. search needs) (λ c κs. search needs) (λ c κs. search needs) (λ c. search needs)
-    (λ c κs. search needs) (λ c κs. search needs) (λ c κs. search needs) sub-q same-length returns)
+    (λ c κs. search needs) (λ c κs. search needs) (λ c κs. search needs) sub-q
+    (λ c. c .before .before .before .before .put-advice .kept .0)
+    returns)

@@ -7,9 +7,6 @@ use Rattle.vm_marks.proofs.advice.start_advice.Tie as tie
 returns : tie.Need-returns
 returns c = let a = c .before .before .before .before .before .args in start-lacking (now (a .work)) (now (a .work)) (a .r) _ (a .w) _ (a .n) (a .m) (c .before .before .before .depth-of .ensures) (c .before .if1 .taken) (c .halt .ensures)
 
-same-length : tie.Need-same-length
-same-length c = c .before .before .before .before .put-advice .kept .0
-
 returns-2 : tie.Need-returns-2
 returns-2 c =
     let at-put-advice = c .before .before .before .before in
@@ -22,5 +19,6 @@ returns-2 c =
 
 pub start-advice-spec : {M : Type 1} → statement M
 start-advice-spec = tie.close (tie.spec (λ c κs. search needs) (λ c. search needs) (λ c κs. search needs) returns (λ c κs. search needs)
-    (λ c. search needs) (λ c. search needs) (λ c κs. search needs) (λ c κs. search needs) (λ c. search needs) (λ c. search needs) same-length
+    (λ c. search needs) (λ c. search needs) (λ c κs. search needs) (λ c κs. search needs) (λ c. search needs) (λ c. search needs)
+    (λ c. c .before .before .before .before .put-advice .kept .0)
     returns-2)

@@ -4,9 +4,6 @@ use borrow.Author.Needs.{needs}
 use Rattle.vm_marks.proofs.bind.bind_advice.Statement.{statement}
 use Rattle.vm_marks.proofs.bind.bind_advice.Tie as tie
 
-same-length : tie.Need-same-length
-same-length c = c .before .before .bind .kept .0
-
 returns : tie.Need-returns
 returns c =
     let at-advice-env = c .before .before .before in
@@ -20,4 +17,5 @@ returns-2 : tie.Need-returns-2
 returns-2 c = let a = c .before .before .args in past (now (a .work)) (now (a .work)) (a .n) (a .v) (a .a) (c .if1 .left)
 
 pub bind-advice-spec : {M : Type 1} → statement M
-bind-advice-spec = tie.close (tie.spec (λ c κs. search needs) (λ c κs. search needs) (λ c κs. search needs) same-length returns returns-2)
+bind-advice-spec = tie.close (tie.spec (λ c κs. search needs) (λ c κs. search needs) (λ c κs. search needs) (λ c. c .before .before .bind .kept .0)
+    returns returns-2)

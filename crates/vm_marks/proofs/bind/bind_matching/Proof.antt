@@ -19,9 +19,6 @@ Inv-loop work₀ n l v q₀ i₀ work q i =
 abbrev μ-loop : tie.MeasureT-loop
 μ-loop work₀ n l v q₀ i₀ work q i = i
 
-loop-holds : tie.Need-loop-holds Inv-loop μ-loop
-loop-holds c = (omega arith, refl, omega arith, omega arith, refl, refl)
-
 loop-again : tie.Need-loop-again Inv-loop μ-loop
 loop-again c =
     let at-loop-test = c .before .before .before .before in
@@ -39,5 +36,6 @@ returns c =
     (matching-done _ (l .i) (a .l) (a .v) (now (a .work)) _ _ (c .loop-test .left) (l .inv .5) (l .inv .4), l .inv .2, omega (arith, l .inv .3, c .before .before .before .pre .2, c .before .before .before .pre .3))
 
 pub bind-matching-spec : {M : Type 1} → statement M
-bind-matching-spec = tie.close (tie.spec Inv-loop μ-loop loop-holds (λ c. search needs) (λ c κs. search needs) (λ c. search needs) loop-again
-    (λ c. search needs) returns)
+bind-matching-spec = tie.close (tie.spec Inv-loop μ-loop
+    (λ c. (omega arith, refl, omega arith, omega arith, refl, refl))
+    (λ c. search needs) (λ c κs. search needs) (λ c. search needs) loop-again (λ c. search needs) returns)

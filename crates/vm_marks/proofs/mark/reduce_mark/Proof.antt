@@ -7,12 +7,6 @@ use borrow.Author.Needs.{needs}
 use Rattle.vm_marks.proofs.mark.reduce_mark.Statement.{statement}
 use Rattle.vm_marks.proofs.mark.reduce_mark.Tie as tie
 
-mark-without-advice-requires : tie.Need-mark-without-advice-requires
-mark-without-advice-requires c κs = (search needs, c .before .before .before .before .before .pre .1 .1 .frames)
-
-same-length : tie.Need-same-length
-same-length c = c .before .before .mark-without-advice .kept .0
-
 returns : tie.Need-returns
 returns c =
     let at-if1 = c .before .before .before .before in
@@ -28,9 +22,6 @@ bind-matching-requires c κs =
     let start = at-label-of .before .before in
     let f = start .pre .1 .1 in
     (search needs, at-label-of .label-of .ensures .1, f .installed, bound-places _ (f .bindings))
-
-same-length-2 : tie.Need-same-length-2
-same-length-2 c = c .before .before .before .before .before .before .bind-matching .kept .0
 
 returns-2 : tie.Need-returns-2
 returns-2 c =
@@ -97,9 +88,6 @@ returns-4 c =
     let a = start .args in
     none-made (now (a .work)) (a .r) _ (a .w) (a .x) (a .y) _ _ (at-label-of .label-of .ensures .0) (at-has-bit .has-bit .ensures) (at-if1 .if1 .left) _ _ (at-bind-matching .bind-matching .ensures .0) _ (at-within-quotas .within-quotas .ensures) (at-if2 .if2 .left) (at-if3 .if3 .left) _ _ (at-whole2 .whole2 .ensures) (at-whole .whole .ensures) _ (at-if4 .if4 .taken) (c .before .before .given .ensures)
 
-sub-s : tie.Need-sub-s
-sub-s c = omega (arith, c .before .before .before .before .before .if3 .left)
-
 start-advice-requires : tie.Need-start-advice-requires
 start-advice-requires c κs =
     let at-if4 = c .before .before .before in
@@ -136,7 +124,12 @@ returns-5 c =
     some-made (now (a .work)) (a .r) _ (a .w) (a .x) (a .y) _ _ (at-label-of .label-of .ensures .0) (at-has-bit .has-bit .ensures) (at-if1 .if1 .left) _ _ (at-bind-matching .bind-matching .ensures .0) _ (at-within-quotas .within-quotas .ensures) (at-if2 .if2 .left) (at-if3 .if3 .left) _ _ (at-whole2 .whole2 .ensures) (at-whole .whole .ensures) _ _ (at-if4 .if4 .left) (at-same .same .ensures) (c .before .before .start-advice .ensures)
 
 pub reduce-mark-spec : {M : Type 1} → statement M
-reduce-mark-spec = tie.close (tie.spec (λ c κs. search needs) (λ c κs. search needs) mark-without-advice-requires same-length returns
-    bind-matching-requires (λ c κs. search needs) (λ c κs. search needs) (λ c κs. search needs) same-length-2 returns-2 (λ c κs. search needs)
-    same-length-3 returns-3 whole-requires whole-requires-2 given-requires same-length-4 returns-4 (λ c κs. search needs) sub-s start-advice-requires
-    same-length-5 returns-5)
+reduce-mark-spec = tie.close (tie.spec (λ c κs. search needs) (λ c κs. search needs)
+    (λ c κs. (search needs, c .before .before .before .before .before .pre .1 .1 .frames))
+    (λ c. c .before .before .mark-without-advice .kept .0) returns bind-matching-requires (λ c κs. search needs) (λ c κs. search needs)
+    (λ c κs. search needs)
+    (λ c. c .before .before .before .before .before .before .bind-matching .kept .0)
+    returns-2 (λ c κs. search needs) same-length-3 returns-3 whole-requires whole-requires-2 given-requires same-length-4 returns-4
+    (λ c κs. search needs)
+    (λ c. omega (arith, c .before .before .before .before .before .if3 .left))
+    start-advice-requires same-length-5 returns-5)

@@ -14,9 +14,6 @@ returns c =
     let a = s .args in
     (one-goes (now (a .work)) (a .d .0) (a .i) (a .n) _ _ _ (at-installed-at .installed-at .ensures) (at-piece-first .piece-first .ensures) (at-advice-dom .advice-dom .ensures) (c .if1 .taken), omega arith)
 
-same-length-2 : tie.Need-same-length-2
-same-length-2 c = c .before .before .put-installed .kept .0
-
 returns-2 : tie.Need-returns-2
 returns-2 c =
     let at-put-installed = c .before .before in
@@ -30,4 +27,4 @@ returns-2 c =
 
 pub stay-one-spec : {M : Type 1} → statement M
 stay-one-spec = tie.close (tie.spec (λ c κs. search needs) (λ c κs. search needs) (λ c κs. search needs) (λ c. search needs) returns
-    (λ c κs. search needs) (λ c. search needs) same-length-2 returns-2)
+    (λ c κs. search needs) (λ c. search needs) (λ c. c .before .before .put-installed .kept .0) returns-2)

@@ -18,9 +18,6 @@ Inv-loop work₀ n d m₀ i₀ work m i =
 abbrev μ-loop : tie.MeasureT-loop
 μ-loop work₀ n d m₀ i₀ work m i = n - i
 
-loop-holds : tie.Need-loop-holds Inv-loop μ-loop
-loop-holds c = (omega arith, refl, omega arith, refl, stay-start _ _ _)
-
 loop-again : tie.Need-loop-again Inv-loop μ-loop
 loop-again c =
     let at-stay-one = c .before .before in
@@ -44,5 +41,6 @@ returns c =
     let l = at-loop .loop in stay-done _ (a .n) (l .i) (a .d .0) (now (a .work)) _ _ (c .loop-test .left) (l .inv .4) (l .inv .3)
 
 pub stay-others-spec : {M : Type 1} → statement M
-stay-others-spec = tie.close (tie.spec Inv-loop μ-loop loop-holds (λ c κs. search needs) (λ c. search needs) (λ c. search needs) loop-again
-    (λ c. search needs) returns)
+stay-others-spec = tie.close (tie.spec Inv-loop μ-loop
+    (λ c. (omega arith, refl, omega arith, refl, stay-start _ _ _))
+    (λ c κs. search needs) (λ c. search needs) (λ c. search needs) loop-again (λ c. search needs) returns)

@@ -7,6 +7,7 @@ use lib.ListN.{length, drop}
 use Rattle.vm_code.specs.Words.{countOf}
 use Rattle.vm_machine.specs.Fetch.{Program}
 use Rattle.vm_machine.specs.Stacks.{variables, bindEntries}
+use Rattle.vm_machine.specs.Memory.{bindingPlaces}
 use Rattle.vm_matches.specs.Matching.{matchFields, entryIn, chainIn}
 use Rattle.vm_matches.proofs.Fields.{entry-of}
 use Rattle.vm_matches.proofs.Binding.{frames-start, bound-start, bound-on, bound-done, frames-here, frames-on, frames-left}
@@ -16,8 +17,8 @@ use Rattle.vm_matches.proofs.bindings.bind_entries.Tie as tie
 
 abbrev Inv-loop : tie.InvT-loop
 Inv-loop fields work₀ w v n rest₀ b₀ i₀ work rest b i =
-    (i ≤ n) × (length work ≡ length work₀) × (drop memoryLength work ≡ drop memoryLength work₀) × (b .env < 2048)
-    × ((C : Program) × (fields ≡ matchFields (C .image) w) × (b .count + variables C w (n - i) i ≤ 2048))
+    (i ≤ n) × (length work ≡ length work₀) × (drop memoryLength work ≡ drop memoryLength work₀) × (b .env < bindingPlaces)
+    × ((C : Program) × (fields ≡ matchFields (C .image) w) × (b .count + variables C w (n - i) i ≤ bindingPlaces))
     × ((C : Program) → fields ≡ matchFields (C .image) w → bindEntries C w (countOf w) 0 v (chainIn work₀ b₀) ≡ bindEntries C w (n - i) i rest (chainIn work b))
 
 abbrev μ-loop : tie.MeasureT-loop

@@ -20,11 +20,6 @@ bind-inside-requires c κs =
     let a = s .args in
     (search needs, entry-frames (entryIn (now (a .fields)) (a .i)) _ (at-entry-at .entry-at .ensures) (a .b .count) (at-if1 .if1 .left) (s .pre .3), s .pre .2)
 
-same-length : tie.Need-same-length
-same-length c =
-    let at-bind-inside = c .before .before in
-    at-bind-inside .bind-inside .kept .0
-
 returns-2 : tie.Need-returns-2
 returns-2 c =
     let at-bind-inside = c .before .before in
@@ -36,4 +31,6 @@ returns-2 c =
     (entry-value (entryIn (now (a .fields)) (a .i)) _ (at-entry-at .entry-at .ensures) (a .v) _ (now (a .work)) _ (a .b) _ (at-if1 .if1 .left) (at-top-entry .top-entry .ensures) (at-bind-inside .bind-inside .ensures .0), at-bind-inside .bind-inside .ensures .1)
 
 pub bind-entry-spec : {M : Type 1} → statement M
-bind-entry-spec = tie.close (tie.spec (λ c κs. search needs) returns (λ c κs. search needs) bind-inside-requires same-length returns-2)
+bind-entry-spec = tie.close (tie.spec (λ c κs. search needs) returns (λ c κs. search needs) bind-inside-requires
+    (λ c. let at-bind-inside = c .before .before in at-bind-inside .bind-inside .kept .0)
+    returns-2)

@@ -13,11 +13,6 @@ bind-inside-requires c κs =
     let p = s .pre .2 in
     (search needs, rest-frames (p .0) (a .w) _ (at-binds-rest .binds-rest .ensures (p .0) (p .1)) (a .b .count) (at-if1 .if1 .taken) (p .2), s .pre .1)
 
-same-length : tie.Need-same-length
-same-length c =
-    let at-bind-inside = c .before .before in
-    at-bind-inside .bind-inside .kept .0
-
 returns : tie.Need-returns
 returns c =
     let at-bind-inside = c .before .before in
@@ -35,4 +30,6 @@ returns-2 c =
     ((λ C e. rest-free C (a .w) _ (at-binds-rest .binds-rest .ensures C e) (a .v) (now (a .work)) (a .b) (c .if1 .left)), s .pre .1)
 
 pub bind-rest-spec : {M : Type 1} → statement M
-bind-rest-spec = tie.close (tie.spec (λ c κs. search needs) bind-inside-requires same-length returns returns-2)
+bind-rest-spec = tie.close (tie.spec (λ c κs. search needs) bind-inside-requires
+    (λ c. let at-bind-inside = c .before .before in at-bind-inside .bind-inside .kept .0)
+    returns returns-2)

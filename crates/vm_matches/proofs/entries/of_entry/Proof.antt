@@ -4,11 +4,6 @@ use borrow.Author.Tests.{eq-eqb, ne-eqb}
 use Rattle.vm_matches.proofs.entries.of_entry.Statement.{statement}
 use Rattle.vm_matches.proofs.entries.of_entry.Tie as tie
 
-returns : tie.Need-returns
-returns c = rw (eq-eqb _ 0 (c .if1 .taken)) (refl, omega arith)
-
-returns-2 : tie.Need-returns-2
-returns-2 c = rw (ne-eqb _ 0 (c .if1 .left)) (refl, omega arith)
-
 pub of-entry-spec : {M : Type 1} → statement M
-of-entry-spec = tie.close (tie.spec returns returns-2)
+of-entry-spec = tie.close (tie.spec (λ c. rw (eq-eqb _ 0 (c .if1 .taken)) (refl, omega arith))
+    (λ c. rw (ne-eqb _ 0 (c .if1 .left)) (refl, omega arith)))

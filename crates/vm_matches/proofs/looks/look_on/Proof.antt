@@ -20,9 +20,6 @@ Inv-loop code fields work env w n k₀ k =
 abbrev μ-loop : tie.MeasureT-loop
 μ-loop code fields work env w n k₀ k = n - k .next
 
-loop-holds : tie.Need-loop-holds Inv-loop μ-loop
-loop-holds c = ((λ image e. refl), refl)
-
 returns : tie.Need-returns Inv-loop μ-loop
 returns c =
     let at-stops-at = c .before in
@@ -73,5 +70,5 @@ returns-2 c =
     )
 
 pub look-on-spec : {M : Type 1} → statement M
-look-on-spec = tie.close (tie.spec Inv-loop μ-loop (λ c κs. search needs) loop-holds (λ c κs. search needs) returns (λ c κs. search needs)
-    (λ c. search needs) loop-again returns-2)
+look-on-spec = tie.close (tie.spec Inv-loop μ-loop (λ c κs. search needs) (λ c. ((λ image e. refl), refl)) (λ c κs. search needs) returns
+    (λ c κs. search needs) (λ c. search needs) loop-again returns-2)

@@ -3,11 +3,7 @@ use borrow.Author.Needs.{needs}
 use Rattle.vm_matches.proofs.looks.looked_byte.Statement.{statement}
 use Rattle.vm_matches.proofs.looks.looked_byte.Tie as tie
 
-returns : tie.Need-returns
-returns c = (byte-fits _ (c .before .args .k .rest) _ (c .if1 .taken), search needs)
-
-returns-2 : tie.Need-returns-2
-returns-2 c = (byte-fits-not _ (c .before .args .k .rest) _ (c .if1 .left), search needs)
-
 pub looked-byte-spec : {M : Type 1} → statement M
-looked-byte-spec = tie.close (tie.spec (λ c. search needs) returns returns-2)
+looked-byte-spec = tie.close (tie.spec (λ c. search needs)
+    (λ c. (byte-fits _ (c .before .args .k .rest) _ (c .if1 .taken), search needs))
+    (λ c. (byte-fits-not _ (c .before .args .k .rest) _ (c .if1 .left), search needs)))

@@ -11,5 +11,4 @@ returns : tie.Need-returns
 returns c = let a = c .before .before .before .before .before .args in (cut-past (memoryOf (now (a .work))) (lookedOf (a .k)) (a .v) _ _ _ (c .before .before .rest-of .ensures) (c .before .top-fits .ensures) (c .both .ensures), refl, refl)
 
 pub past-cut-spec : {M : Type 1} → statement M
-past-cut-spec =
-    tie.close (tie.spec (λ c. search needs) (λ c κs. search needs) (λ c κs. search needs) (λ c κs. search needs) returns)
+past-cut-spec = tie.close (tie.spec (λ c. search needs) (λ c κs. search needs) (λ c κs. search needs) (λ c κs. search needs) returns)

@@ -15,9 +15,6 @@ Inv-loop work n v rest₀ i₀ rest i = (i ≤ n) × (restAfter (memoryOf work) 
 abbrev μ-loop : tie.MeasureT-loop
 μ-loop work n v rest₀ i₀ rest i = n - i
 
-loop-holds : tie.Need-loop-holds Inv-loop μ-loop
-loop-holds c = (omega arith, behind-start _ _ 0 _)
-
 loop-again : tie.Need-loop-again Inv-loop μ-loop
 loop-again c = let a = c .before .before .before .before .args in let l = c .before .before .loop in (omega arith, l .inv .1 ∙ behind-more (memoryOf (now (a .work))) (a .n) (l .i) (l .rest) _ (c .before .loop-test .taken) (c .rest-of .ensures))
 
@@ -25,4 +22,5 @@ returns : tie.Need-returns Inv-loop μ-loop
 returns c = let a = c .before .before .before .args in let l = c .before .loop in sym (l .inv .1 ∙ behind-all (memoryOf (now (a .work))) (a .n) (l .i) (l .rest) (c .loop-test .left))
 
 pub rest-after-spec : {M : Type 1} → statement M
-rest-after-spec = tie.close (tie.spec Inv-loop μ-loop loop-holds (λ c κs. search needs) (λ c. search needs) (λ c. search needs) loop-again returns)
+rest-after-spec = tie.close (tie.spec Inv-loop μ-loop (λ c. (omega arith, behind-start _ _ 0 _)) (λ c κs. search needs) (λ c. search needs)
+    (λ c. search needs) loop-again returns)

@@ -8,6 +8,7 @@ use Rattle.calculus.specs.Limits.{bindingLimit}
 use Rattle.vm_code.specs.Words.{countOf}
 use Rattle.vm_pools.specs.Pools.{bindingsOut}
 use Rattle.vm_machine.specs.Stacks.{variables}
+use Rattle.vm_machine.specs.Memory.{bindingPlaces}
 use Rattle.vm_registers.proofs.Quotas.{whole-capacity}
 use Rattle.vm_matches.proofs.Matching.{branch-full, branch-spent, branch-made}
 use borrow.Author.Needs.{needs}
@@ -52,7 +53,7 @@ bind-entries-requires c κs =
     let p = s .pre .2 in
     let C : Program = record { code = now (a .code); image = p .0 } in
     let k = whole-capacity bindingLimit (at-variables .variables .result) (λ p. p .bindings) bindingsOut (a .w) (a .r) _ _ (at-quota-of .quota-of .ensures) (at-has-capacity .has-capacity .ensures) (s .pre .0 .bindings) (not-false (at-has-capacity .has-capacity .result) (at-if1 .if1 .left)) in
-    let h : at-whole .whole .result + variables C (a .w) (countOf (a .w)) 0 ≤ 2048 = omega (arith, at-variables .variables .ensures .0 C (p .1), at-whole .whole .ensures, k) in
+    let h : at-whole .whole .result + variables C (a .w) (countOf (a .w)) 0 ≤ bindingPlaces = omega (arith, at-variables .variables .ensures .0 C (p .1), at-whole .whole .ensures, k) in
     (search needs, s .pre .0 .env, (C, p .1, h))
 
 called-requires : tie.Need-called-requires

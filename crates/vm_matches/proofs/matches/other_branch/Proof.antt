@@ -12,11 +12,6 @@ returns c =
     let a = s .args in
     λ image e. other-spent (record { code = now (a .code); image = image }) (now (a .work)) (now (a .work)) (a .r) _ (a .w) (at-if1 .if1 .taken) (c .halt .ensures)
 
-same-length : tie.Need-same-length
-same-length c =
-    let at-called = c .before .before .before in
-    at-called .called .kept .1 .0
-
 returns-2 : tie.Need-returns-2
 returns-2 c =
     let at-called = c .before .before .before in
@@ -27,5 +22,6 @@ returns-2 c =
     λ image e. other-made (record { code = now (a .code); image = image }) (now (a .work)) _ (a .r) _ (a .w) (at-if1 .if1 .left) _ _ refl (at-branch-at .branch-at .ensures image (a .w) e) (at-called .called .ensures image)
 
 pub other-branch-spec : {M : Type 1} → statement M
-other-branch-spec = tie.close (tie.spec (λ c κs. search needs) returns (λ c κs. search needs) (λ c κs. search needs) (λ c. search needs) same-length
+other-branch-spec = tie.close (tie.spec (λ c κs. search needs) returns (λ c κs. search needs) (λ c κs. search needs) (λ c. search needs)
+    (λ c. let at-called = c .before .before .before in at-called .called .kept .1 .0)
     returns-2)

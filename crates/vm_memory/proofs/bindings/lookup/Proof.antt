@@ -23,9 +23,7 @@ returns c = sym (c .before .before .before .loop .inv ∙ outside-none _ _ _ (c 
 loop-again : tie.Need-loop-again Inv-loop μ-loop
 loop-again c = c .before .before .before .before .loop .inv ∙ outside-on _ _ _ _ _ (c .before .before .before .loop-test .taken) (c .before .before .bound-link .ensures) (c .before .if1 .left) (c .binding-at2 .ensures)
 
-returns-2 : tie.Need-returns-2 Inv-loop μ-loop
-returns-2 c = sym (c .before .loop .inv ∙ outside-here _ _ _ (omega arith))
-
 pub lookup-spec : {M : Type 1} → statement M
 lookup-spec = tie.close (tie.spec Inv-loop μ-loop (λ c κs. search needs) loop-holds (λ c κs. search needs) returns (λ c κs. search needs)
-    (λ c. search needs) (λ c. search needs) loop-again returns-2)
+    (λ c. search needs) (λ c. search needs) loop-again
+    (λ c. sym (c .before .loop .inv ∙ outside-here _ _ _ (omega arith))))

@@ -4,12 +4,9 @@ use borrow.Author.Needs.{needs}
 use Rattle.vm_memory.proofs.cells.put_cell.Statement.{statement}
 use Rattle.vm_memory.proofs.cells.put_cell.Tie as tie
 
-same-length : tie.Need-same-length
-same-length c = c .before .before .put-word .kept .0
-
 returns : tie.Need-returns
 returns c = put-as _ _ _ _ _ _ refl (c .before .before .before .above .ensures) (c .before .before .put-word .ensures)
 
 pub put-cell-spec : {M : Type 1} → statement M
-put-cell-spec =
-    tie.close (tie.spec (λ c. search needs) (λ c κs. search needs) (λ c κs. search needs) same-length returns)
+put-cell-spec = tie.close (tie.spec (λ c. search needs) (λ c κs. search needs) (λ c κs. search needs) (λ c. c .before .before .put-word .kept .0)
+    returns)

@@ -14,5 +14,4 @@ returns-2 : tie.Need-returns-2
 returns-2 c = sym (chosen-no (isKept (c .before .before .before .args .v)) _ _ (sym (c .before .is-kept .ensures) ∙ c .if1 .left))
 
 pub rest-of-spec : {M : Type 1} → statement M
-rest-of-spec =
-    tie.close (tie.spec (λ c κs. search needs) (λ c κs. search needs) (λ c κs. search needs) returns returns-2)
+rest-of-spec = tie.close (tie.spec (λ c κs. search needs) (λ c κs. search needs) (λ c κs. search needs) returns returns-2)

@@ -16,15 +16,11 @@ abbrev μ-loop : tie.MeasureT-loop
 loop-holds : tie.Need-loop-holds Inv-loop μ-loop
 loop-holds c = let e : c .args .n - 0 ≡ c .args .n = omega arith in (search needs, rw e (omega arith))
 
-returns : tie.Need-returns Inv-loop μ-loop
-returns c = sym (c .before .before .loop .inv .1 ∙ count-none _ _ _ (c .if1 .taken))
-
 loop-again : tie.Need-loop-again Inv-loop μ-loop
 loop-again c = (search needs, c .before .before .loop .inv .1 ∙ count-more _ _ _ (c .before .loop-test .taken) (c .if1 .left))
 
-returns-2 : tie.Need-returns-2 Inv-loop μ-loop
-returns-2 c = sym (c .before .loop .inv .1 ∙ count-end _ _ _ (search needs))
-
 pub digit-count-spec : {M : Type 1} → statement M
-digit-count-spec =
-    tie.close (tie.spec Inv-loop μ-loop loop-holds returns (λ c. search needs) (λ c. search needs) loop-again returns-2)
+digit-count-spec = tie.close (tie.spec Inv-loop μ-loop loop-holds
+    (λ c. sym (c .before .before .loop .inv .1 ∙ count-none _ _ _ (c .if1 .taken)))
+    (λ c. search needs) (λ c. search needs) loop-again
+    (λ c. sym (c .before .loop .inv .1 ∙ count-end _ _ _ (search needs))))

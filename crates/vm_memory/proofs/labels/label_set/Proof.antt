@@ -13,14 +13,11 @@ Inv-loop n digits d₀ s₀ i₀ d s i = (i ≤ n) × (labelSet n digits 0 ≡ l
 abbrev μ-loop : tie.MeasureT-loop
 μ-loop n digits d₀ s₀ i₀ d s i = n - i
 
-loop-holds : tie.Need-loop-holds Inv-loop μ-loop
-loop-holds c = let e : c .args .n - 0 ≡ c .args .n = omega arith in (search needs, rw e refl)
-
 loop-again : tie.Need-loop-again Inv-loop μ-loop
 loop-again c = (search needs, c .before .before .loop .inv .1 ∙ set-more _ _ _ _ _ (c .before .loop-test .taken) (c .with-bit .ensures))
 
-returns : tie.Need-returns Inv-loop μ-loop
-returns c = sym (c .before .loop .inv .1 ∙ set-end _ _ _ _ (search needs))
-
 pub label-set-spec : {M : Type 1} → statement M
-label-set-spec = tie.close (tie.spec Inv-loop μ-loop loop-holds (λ c κs. search needs) (λ c. search needs) (λ c. search needs) loop-again returns)
+label-set-spec = tie.close (tie.spec Inv-loop μ-loop
+    (λ c. let e : c .args .n - 0 ≡ c .args .n = omega arith in (search needs, rw e refl))
+    (λ c κs. search needs) (λ c. search needs) (λ c. search needs) loop-again
+    (λ c. sym (c .before .loop .inv .1 ∙ set-end _ _ _ _ (search needs))))

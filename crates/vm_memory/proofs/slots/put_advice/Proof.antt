@@ -4,12 +4,9 @@ use borrow.Author.Needs.{needs}
 use Rattle.vm_memory.proofs.slots.put_advice.Statement.{statement}
 use Rattle.vm_memory.proofs.slots.put_advice.Tie as tie
 
-same-length : tie.Need-same-length
-same-length c = c .before .before .put-slot .kept .0
-
 returns : tie.Need-returns
 returns c = put-as _ _ _ _ _ _ refl (c .before .before .before .slot-word .ensures) (c .before .before .put-slot .ensures)
 
 pub put-advice-spec : {M : Type 1} → statement M
-put-advice-spec =
-    tie.close (tie.spec (λ c. search needs) (λ c. search needs) (λ c. search needs) (λ c κs. search needs) (λ c κs. search needs) same-length returns)
+put-advice-spec = tie.close (tie.spec (λ c. search needs) (λ c. search needs) (λ c. search needs) (λ c κs. search needs) (λ c κs. search needs)
+    (λ c. c .before .before .put-slot .kept .0) returns)

@@ -16,5 +16,4 @@ returns c =
     match-stored _ _ _ _ _ _ _ (search needs) (search needs) (at-put-slot .put-slot .ensures) (c .before .before .put-beside .ensures)
 
 pub put-match-spec : {M : Type 1} → statement M
-put-match-spec =
-    tie.close (tie.spec (λ c κs. search needs) (λ c. search needs) (λ c κs. search needs) same-length returns)
+put-match-spec = tie.close (tie.spec (λ c κs. search needs) (λ c. search needs) (λ c κs. search needs) same-length returns)

@@ -3,9 +3,6 @@ use borrow.Author.Needs.{needs}
 use Rattle.vm_memory.proofs.slots.put_return.Statement.{statement}
 use Rattle.vm_memory.proofs.slots.put_return.Tie as tie
 
-same-length : tie.Need-same-length
-same-length c = c .before .before .put-slot .kept .0
-
 returns : tie.Need-returns
 returns c =
     let at-slot-word = c .before .before .before in
@@ -14,4 +11,5 @@ returns c =
     return-stored _ _ _ _ _ _ _ _ _ (at-slot-at .slot-at .ensures) (at-slot-held .slot-held .ensures) (at-slot-word .slot-word .ensures) (c .before .before .put-slot .ensures)
 
 pub put-return-spec : {M : Type 1} → statement M
-put-return-spec = tie.close (tie.spec (λ c κs. search needs) (λ c κs. search needs) (λ c κs. search needs) (λ c κs. search needs) same-length returns)
+put-return-spec = tie.close (tie.spec (λ c κs. search needs) (λ c κs. search needs) (λ c κs. search needs) (λ c κs. search needs)
+    (λ c. c .before .before .put-slot .kept .0) returns)

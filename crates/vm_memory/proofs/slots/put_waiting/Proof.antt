@@ -4,11 +4,8 @@ use borrow.Author.Needs.{needs}
 use Rattle.vm_memory.proofs.slots.put_waiting.Statement.{statement}
 use Rattle.vm_memory.proofs.slots.put_waiting.Tie as tie
 
-same-length : tie.Need-same-length
-same-length c = c .before .before .put-slot .kept .0
-
 returns : tie.Need-returns
 returns c = put-as _ _ _ _ _ _ refl (c .before .before .before .above .ensures) (c .before .before .put-slot .ensures)
 
 pub put-waiting-spec : {M : Type 1} → statement M
-put-waiting-spec = tie.close (tie.spec (λ c κs. search needs) (λ c κs. search needs) same-length returns)
+put-waiting-spec = tie.close (tie.spec (λ c κs. search needs) (λ c κs. search needs) (λ c. c .before .before .put-slot .kept .0) returns)

@@ -4,8 +4,5 @@ use borrow.Author.Needs.{needs}
 use Rattle.vm_memory.proofs.words.word.Statement.{statement}
 use Rattle.vm_memory.proofs.words.word.Tie as tie
 
-returns : tie.Need-returns
-returns c = c .load .ensures ∙ load-word _ _ (c .before .before .pre .1)
-
 pub word-spec : {M : Type 1} → statement M
-word-spec = tie.close (tie.spec (λ c κs. search needs) returns)
+word-spec = tie.close (tie.spec (λ c κs. search needs) (λ c. c .load .ensures ∙ load-word _ _ (c .before .before .pre .1)))

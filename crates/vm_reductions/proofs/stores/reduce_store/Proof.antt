@@ -13,5 +13,4 @@ returns c =
     store-made (now (a .work)) _ _ (a .r) _ (a .w) (a .x) (a .y) _ (search needs) (at-cell-of .cell-of .ensures) (at-store-cell .store-cell .ensures) (c .before .before .given .ensures)
 
 pub reduce-store-spec : {M : Type 1} → statement M
-reduce-store-spec =
-    tie.close (tie.spec (λ c κs. search needs) (λ c κs. search needs) (λ c κs. search needs) (λ c. search needs) returns)
+reduce-store-spec = tie.close (tie.spec (λ c κs. search needs) (λ c κs. search needs) (λ c κs. search needs) (λ c. search needs) returns)

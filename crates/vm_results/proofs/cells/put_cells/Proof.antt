@@ -26,9 +26,6 @@ abbrev μ-loop : tie.MeasureT-loop
 loop-holds : tie.Need-loop-holds Inv-loop μ-loop
 loop-holds c = let a = c .before .before .args in let z = no-cells (memoryOf (now (a .work))) (now (a .report)) (a .at) in (omega arith, omega arith, refl, z .0, z .1)
 
-put-cell-requires : tie.Need-put-cell-requires Inv-loop μ-loop
-put-cell-requires c κs = (c .before .before .before .before .before .pre .0, omega arith, omega arith)
-
 loop-again : tie.Need-loop-again Inv-loop μ-loop
 loop-again c =
     let at-test = c .before .before .before .before in
@@ -48,5 +45,6 @@ returns c =
     (rw e at (l .inv .3), rw e at (l .inv .4), omega arith)
 
 pub put-cells-spec : {M : Type 1} → statement M
-put-cells-spec = tie.close (tie.spec Inv-loop μ-loop loop-holds put-cell-requires (λ c. search needs) (λ c. search needs) loop-again
-    (λ c. search needs) returns)
+put-cells-spec = tie.close (tie.spec Inv-loop μ-loop loop-holds
+    (λ c κs. (c .before .before .before .before .before .pre .0, omega arith, omega arith))
+    (λ c. search needs) (λ c. search needs) loop-again (λ c. search needs) returns)

@@ -27,209 +27,8 @@ gather-at t = and 1 gather-kinds.ps (is 1 gather-kinds.ps μ-gather t) gather.Pr
 abbrev gather-below : ℕ → In 1 gather-kinds.ps
 gather-below t = and 1 gather-kinds.ps (falls 1 gather-kinds.ps _<_ μ-gather t) gather.Pre
 
-gather-tag-requires : (t : ℕ) → gather-lts.Need-tag-requires (
-  tag-reads.Asked,
-  tag-reads.Learnt,
-  with-word-reads.Asked,
-  with-word-reads.Learnt,
-  piece-of-reads.Asked,
-  piece-of-reads.Learnt,
-  piece-first-reads.Asked,
-  piece-first-reads.Learnt,
-  piece-second-reads.Asked,
-  piece-second-reads.Learnt,
-  gather-below t,
-  gather.Post,
-) (gather-at t) gather.Post
-gather-tag-requires t c κs = search needs
-
-gather-with-word-requires : (t : ℕ) → gather-lts.Need-with-word-requires (
-  tag-reads.Asked,
-  tag-reads.Learnt,
-  with-word-reads.Asked,
-  with-word-reads.Learnt,
-  piece-of-reads.Asked,
-  piece-of-reads.Learnt,
-  piece-first-reads.Asked,
-  piece-first-reads.Learnt,
-  piece-second-reads.Asked,
-  piece-second-reads.Learnt,
-  gather-below t,
-  gather.Post,
-) (gather-at t) gather.Post
-gather-with-word-requires t c κs = search needs
-
-gather-returns : (t : ℕ) → gather-lts.Need-returns (
-  tag-reads.Asked,
-  tag-reads.Learnt,
-  with-word-reads.Asked,
-  with-word-reads.Learnt,
-  piece-of-reads.Asked,
-  piece-of-reads.Learnt,
-  piece-first-reads.Asked,
-  piece-first-reads.Learnt,
-  piece-second-reads.Asked,
-  piece-second-reads.Learnt,
-  gather-below t,
-  gather.Post,
-) (gather-at t) gather.Post
-gather-returns t c = let a = c .before .before .before .before .args in c .with-word .ensures ∙ sym (leaves-word _ _ (c .before .before .tag .ensures) (memoryOf (now (a .work))) (a .held) (a .depth) (c .before .if1 .taken))
-
-gather-returns-2 : (t : ℕ) → gather-lts.Need-returns-2 (
-  tag-reads.Asked,
-  tag-reads.Learnt,
-  with-word-reads.Asked,
-  with-word-reads.Learnt,
-  piece-of-reads.Asked,
-  piece-of-reads.Learnt,
-  piece-first-reads.Asked,
-  piece-first-reads.Learnt,
-  piece-second-reads.Asked,
-  piece-second-reads.Learnt,
-  gather-below t,
-  gather.Post,
-) (gather-at t) gather.Post
-gather-returns-2 t c = let a = c .before .before .before .before .args in sym (leaves-deep _ _ (c .before .before .tag .ensures) (memoryOf (now (a .work))) (a .held) (a .depth) (c .before .if1 .left) (c .if2 .taken))
-
-gather-piece-of-requires : (t : ℕ) → gather-lts.Need-piece-of-requires (
-  tag-reads.Asked,
-  tag-reads.Learnt,
-  with-word-reads.Asked,
-  with-word-reads.Learnt,
-  piece-of-reads.Asked,
-  piece-of-reads.Learnt,
-  piece-first-reads.Asked,
-  piece-first-reads.Learnt,
-  piece-second-reads.Asked,
-  piece-second-reads.Learnt,
-  gather-below t,
-  gather.Post,
-) (gather-at t) gather.Post
-gather-piece-of-requires t c κs = search needs
-
-gather-piece-first-requires : (t : ℕ) → gather-lts.Need-piece-first-requires (
-  tag-reads.Asked,
-  tag-reads.Learnt,
-  with-word-reads.Asked,
-  with-word-reads.Learnt,
-  piece-of-reads.Asked,
-  piece-of-reads.Learnt,
-  piece-first-reads.Asked,
-  piece-first-reads.Learnt,
-  piece-second-reads.Asked,
-  piece-second-reads.Learnt,
-  gather-below t,
-  gather.Post,
-) (gather-at t) gather.Post
-gather-piece-first-requires t c κs = search needs
-
-gather-piece-second-requires : (t : ℕ) → gather-lts.Need-piece-second-requires (
-  tag-reads.Asked,
-  tag-reads.Learnt,
-  with-word-reads.Asked,
-  with-word-reads.Learnt,
-  piece-of-reads.Asked,
-  piece-of-reads.Learnt,
-  piece-first-reads.Asked,
-  piece-first-reads.Learnt,
-  piece-second-reads.Asked,
-  piece-second-reads.Learnt,
-  gather-below t,
-  gather.Post,
-) (gather-at t) gather.Post
-gather-piece-second-requires t c κs = search needs
-
-gather-sub-gather : (t : ℕ) → gather-lts.Need-sub-gather (
-  tag-reads.Asked,
-  tag-reads.Learnt,
-  with-word-reads.Asked,
-  with-word-reads.Learnt,
-  piece-of-reads.Asked,
-  piece-of-reads.Learnt,
-  piece-first-reads.Asked,
-  piece-first-reads.Learnt,
-  piece-second-reads.Asked,
-  piece-second-reads.Learnt,
-  gather-below t,
-  gather.Post,
-) (gather-at t) gather.Post
-gather-sub-gather t c = search needs
-
-gather-gather-requires : (t : ℕ) → gather-lts.Need-gather-requires (
-  tag-reads.Asked,
-  tag-reads.Learnt,
-  with-word-reads.Asked,
-  with-word-reads.Learnt,
-  piece-of-reads.Asked,
-  piece-of-reads.Learnt,
-  piece-first-reads.Asked,
-  piece-first-reads.Learnt,
-  piece-second-reads.Asked,
-  piece-second-reads.Learnt,
-  gather-below t,
-  gather.Post,
-) (gather-at t) gather.Post
-gather-gather-requires t c κs =
-    let s = c .before .before .before .before .before .before .before in
-    let m = s .pre .0 in
-    (omega arith, s .pre .1)
-
-gather-sub-gather-2 : (t : ℕ) → gather-lts.Need-sub-gather-2 (
-  tag-reads.Asked,
-  tag-reads.Learnt,
-  with-word-reads.Asked,
-  with-word-reads.Learnt,
-  piece-of-reads.Asked,
-  piece-of-reads.Learnt,
-  piece-first-reads.Asked,
-  piece-first-reads.Learnt,
-  piece-second-reads.Asked,
-  piece-second-reads.Learnt,
-  gather-below t,
-  gather.Post,
-) (gather-at t) gather.Post
-gather-sub-gather-2 t c = search needs
-
-gather-gather-requires-2 : (t : ℕ) → gather-lts.Need-gather-requires-2 (
-  tag-reads.Asked,
-  tag-reads.Learnt,
-  with-word-reads.Asked,
-  with-word-reads.Learnt,
-  piece-of-reads.Asked,
-  piece-of-reads.Learnt,
-  piece-first-reads.Asked,
-  piece-first-reads.Learnt,
-  piece-second-reads.Asked,
-  piece-second-reads.Learnt,
-  gather-below t,
-  gather.Post,
-) (gather-at t) gather.Post
-gather-gather-requires-2 t c κs =
-    let s = c .before .before .before .before .before .before .before .before in
-    let m = s .pre .0 in
-    (omega arith, s .pre .1)
-
-gather-returns-3 : (t : ℕ) → gather-lts.Need-returns-3 (
-  tag-reads.Asked,
-  tag-reads.Learnt,
-  with-word-reads.Asked,
-  with-word-reads.Learnt,
-  piece-of-reads.Asked,
-  piece-of-reads.Learnt,
-  piece-first-reads.Asked,
-  piece-first-reads.Learnt,
-  piece-second-reads.Asked,
-  piece-second-reads.Learnt,
-  gather-below t,
-  gather.Post,
-) (gather-at t) gather.Post
-gather-returns-3 t c =
-    let s = c .before .before .before .before .before in
-    let a = s .before .before .before .before .args in
-    leaves-pair _ _ (s .before .before .tag .ensures) (memoryOf (now (a .work))) (a .held) (a .depth) _ _ _ _ _ (s .before .if1 .left) (s .if2 .left) (c .before .before .before .before .piece-of .ensures) (c .before .before .before .piece-first .ensures) (c .before .before .piece-second .ensures) (c .before .gather .ensures) (c .gather2 .ensures)
-
-pub +gather-spec : {M : Type 1} → statement M
-+gather-spec = close μ-gather λ t. gather-lts.spec (
+abbrev claims : ℕ → gather-lts.Claims
+claims t = (
   tag-reads.Asked,
   tag-reads.Learnt,
   with-word-reads.Asked,
@@ -243,17 +42,32 @@ pub +gather-spec : {M : Type 1} → statement M
   gather-below t,
   gather.Post,
 )
-    (gather-at t)
-    gather.Post
-    (gather-tag-requires t)
-    (gather-with-word-requires t)
-    (gather-returns t)
-    (gather-returns-2 t)
-    (gather-piece-of-requires t)
-    (gather-piece-first-requires t)
-    (gather-piece-second-requires t)
-    (gather-sub-gather t)
-    (gather-gather-requires t)
-    (gather-sub-gather-2 t)
-    (gather-gather-requires-2 t)
-    (gather-returns-3 t)
+
+gather-returns : (t : ℕ) → gather-lts.Need-returns (claims t) (gather-at t) gather.Post
+gather-returns t c = let a = c .before .before .before .before .args in c .with-word .ensures ∙ sym (leaves-word _ _ (c .before .before .tag .ensures) (memoryOf (now (a .work))) (a .held) (a .depth) (c .before .if1 .taken))
+
+gather-returns-2 : (t : ℕ) → gather-lts.Need-returns-2 (claims t) (gather-at t) gather.Post
+gather-returns-2 t c = let a = c .before .before .before .before .args in sym (leaves-deep _ _ (c .before .before .tag .ensures) (memoryOf (now (a .work))) (a .held) (a .depth) (c .before .if1 .left) (c .if2 .taken))
+
+gather-gather-requires : (t : ℕ) → gather-lts.Need-gather-requires (claims t) (gather-at t) gather.Post
+gather-gather-requires t c κs =
+    let s = c .before .before .before .before .before .before .before in
+    let m = s .pre .0 in
+    (omega arith, s .pre .1)
+
+gather-gather-requires-2 : (t : ℕ) → gather-lts.Need-gather-requires-2 (claims t) (gather-at t) gather.Post
+gather-gather-requires-2 t c κs =
+    let s = c .before .before .before .before .before .before .before .before in
+    let m = s .pre .0 in
+    (omega arith, s .pre .1)
+
+gather-returns-3 : (t : ℕ) → gather-lts.Need-returns-3 (claims t) (gather-at t) gather.Post
+gather-returns-3 t c =
+    let s = c .before .before .before .before .before in
+    let a = s .before .before .before .before .args in
+    leaves-pair _ _ (s .before .before .tag .ensures) (memoryOf (now (a .work))) (a .held) (a .depth) _ _ _ _ _ (s .before .if1 .left) (s .if2 .left) (c .before .before .before .before .piece-of .ensures) (c .before .before .before .piece-first .ensures) (c .before .before .piece-second .ensures) (c .before .gather .ensures) (c .gather2 .ensures)
+
+pub +gather-spec : {M : Type 1} → statement M
++gather-spec = close μ-gather λ t. gather-lts.spec (claims t) (gather-at t) gather.Post (λ c κs. search needs) (λ c κs. search needs)
+    (gather-returns t) (gather-returns-2 t) (λ c κs. search needs) (λ c κs. search needs) (λ c κs. search needs) (λ c. search needs)
+    (gather-gather-requires t) (λ c. search needs) (gather-gather-requires-2 t) (gather-returns-3 t)

@@ -7,9 +7,6 @@ use borrow.Author.Needs.{needs}
 use Rattle.vm_results.proofs.leaves.leaf_of.Statement.{statement}
 use Rattle.vm_results.proofs.leaves.leaf_of.Tie as tie
 
-returns : tie.Need-returns
-returns c = sym (leaf-unit _ _ (c .before .tag .ensures) (c .match .keys1))
-
 returns-2 : tie.Need-returns-2
 returns-2 c = ap (λ n. Leaf.Truth (not (eqb n 0))) (c .body .ensures) ∙ sym (leaf-truth _ _ (c .before .before .tag .ensures) (c .before .match .keys2))
 
@@ -17,5 +14,6 @@ returns-3 : tie.Need-returns-3
 returns-3 c = ap Leaf.Number (c .body2 .ensures) ∙ sym (leaf-number _ _ (c .before .before .tag .ensures) (c .before .match .rest .0 .1) (c .before .match .rest .1))
 
 pub leaf-of-spec : {M : Type 1} → statement M
-leaf-of-spec = tie.close (tie.spec (λ c κs. search needs) (λ c κs. search needs) (λ c κs. search needs) (λ c. search needs) returns returns-2
-    returns-3)
+leaf-of-spec = tie.close (tie.spec (λ c κs. search needs) (λ c κs. search needs) (λ c κs. search needs) (λ c. search needs)
+    (λ c. sym (leaf-unit _ _ (c .before .tag .ensures) (c .match .keys1)))
+    returns-2 returns-3)

@@ -12,5 +12,4 @@ returns-2 : tie.Need-returns-2
 returns-2 c = let a = c .before .before .before .before .args in c .with-leaf .ensures ∙ ap (withLeaf (a .held)) (c .before .leaf-of .ensures) ∙ sym (word-leaf _ _ (c .before .before .before .tag .ensures) (a .held) (c .before .before .if1 .left))
 
 pub with-word-spec : {M : Type 1} → statement M
-with-word-spec =
-    tie.close (tie.spec (λ c κs. search needs) returns (λ c κs. search needs) (λ c κs. search needs) returns-2)
+with-word-spec = tie.close (tie.spec (λ c κs. search needs) returns (λ c κs. search needs) (λ c κs. search needs) returns-2)

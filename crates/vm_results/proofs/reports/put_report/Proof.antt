@@ -13,18 +13,12 @@ put-answer-requires c κs =
     let a = s .args in
     (s .pre .0, s .pre .1, s .pre .2, s .pre .3, c .plain-leaves .ensures ∙ ap gathered (done-leaves (memoryOf (now (a .work))) (a .r .outcome) (a .r .acc) (c .before .before .if1 .taken)))
 
-returns : tie.Need-returns
-returns c = c .before .before .put-answer .ensures
-
 put-answer-requires-2 : tie.Need-put-answer-requires-2
 put-answer-requires-2 c κs =
     let s = c .before .before .before .before .before .before in
     let a = s .args in
     (s .pre .0, s .pre .1, s .pre .2, s .pre .3, c .no-leaves .ensures ∙ ap gathered (other-leaves (memoryOf (now (a .work))) (a .r .outcome) (a .r .acc) (c .before .before .if1 .left)))
 
-returns-2 : tie.Need-returns-2
-returns-2 c = c .before .before .put-answer2 .ensures
-
 pub put-report-spec : {M : Type 1} → statement M
-put-report-spec = tie.close (tie.spec (λ c κs. search needs) put-answer-requires (λ c. search needs) returns (λ c κs. search needs)
-    put-answer-requires-2 (λ c. search needs) returns-2)
+put-report-spec = tie.close (tie.spec (λ c κs. search needs) put-answer-requires (λ c. search needs) (λ c. c .before .before .put-answer .ensures)
+    (λ c κs. search needs) put-answer-requires-2 (λ c. search needs) (λ c. c .before .before .put-answer2 .ensures))

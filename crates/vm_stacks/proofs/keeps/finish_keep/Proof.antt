@@ -5,6 +5,7 @@ use native.Mathlib.Omega.{arith}
 use Rattle.vm_memory.specs.View.{memoryOf}
 use denote.Ref.{now}
 use Rattle.vm_machine.specs.Fetch.{codeAt, atomValue}
+use Rattle.vm_code.specs.Words.{termCount}
 use Rattle.vm_stacks.proofs.Keeping.{atom-given, atom-spent}
 use borrow.Author.Needs.{needs}
 use Rattle.vm_stacks.proofs.keeps.finish_keep.Statement.{statement}
@@ -21,7 +22,7 @@ returns-2 c =
     let at-if1 = at-term-with .before in
     let s = at-if1 .before .before .before .before in
     let a = s .args in
-    let z : a .g % 1024 ≡ a .g = omega (arith, s .pre .2) in
+    let z : a .g % termCount ≡ a .g = omega (arith, s .pre .2) in
     λ image. atom-given (now (a .work)) _ (a .r) _ (a .w) (λ S. atomValue (record { code = now (a .code); image = image }) (S .memory) (S .regs .env) (codeAt (record { code = now (a .code); image = image }) (a .g))) (at-if1 .if1 .left) _
     (λ log. at-atom-at .atom-at .ensures image ∙ ap (λ i. atomValue (record { code = now (a .code); image = image }) (memoryOf (now (a .work))) (a .r .env) (getD (now (a .code)) i 0)) (at-term-with .term-with .ensures ∙ z)) (at-given .given .ensures)
 

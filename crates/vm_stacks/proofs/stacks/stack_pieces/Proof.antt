@@ -18,9 +18,6 @@ Inv-loop work₀ n p v₀ i₀ work v i = (i ≤ n) × (length work ≡ length w
 abbrev μ-loop : tie.MeasureT-loop
 μ-loop work₀ n p v₀ i₀ work v i = n - i
 
-loop-holds : tie.Need-loop-holds Inv-loop μ-loop
-loop-holds c = (omega arith, refl, refl, pieces-start _ _ _ _ (c .bottom .ensures))
-
 loop-again : tie.Need-loop-again Inv-loop μ-loop
 loop-again c =
     let at-put-piece = c .before .before .before in
@@ -36,5 +33,7 @@ returns : tie.Need-returns Inv-loop μ-loop
 returns c = let a = c .before .before .before .before .args in let l = c .before .loop in pieces-done _ (a .n) (l .i) (a .p) (now (a .work)) _ (l .v) (c .loop-test .left) (l .inv .3) (l .inv .2)
 
 pub stack-pieces-spec : {M : Type 1} → statement M
-stack-pieces-spec = tie.close (tie.spec Inv-loop μ-loop (λ c κs. search needs) loop-holds (λ c κs. search needs) (λ c. search needs)
-    (λ c κs. search needs) (λ c. search needs) (λ c κs. search needs) (λ c. search needs) (λ c. search needs) loop-again (λ c. search needs) returns)
+stack-pieces-spec = tie.close (tie.spec Inv-loop μ-loop (λ c κs. search needs)
+    (λ c. (omega arith, refl, refl, pieces-start _ _ _ _ (c .bottom .ensures)))
+    (λ c κs. search needs) (λ c. search needs) (λ c κs. search needs) (λ c. search needs) (λ c κs. search needs) (λ c. search needs)
+    (λ c. search needs) loop-again (λ c. search needs) returns)

@@ -9,5 +9,4 @@ returns : tie.Need-returns
 returns c = c .truth .ensures ∙ ap truthValue (c .before .less .ensures ∙ λ i. isLess (c .before .before .before .body .ensures i) (c .before .before .body2 .ensures i))
 
 pub is-less-spec : {M : Type 1} → statement M
-is-less-spec =
-    tie.close (tie.spec (λ c κs. search needs) (λ c κs. search needs) (λ c κs. search needs) (λ c κs. search needs) returns)
+is-less-spec = tie.close (tie.spec (λ c κs. search needs) (λ c κs. search needs) (λ c κs. search needs) (λ c κs. search needs) returns)

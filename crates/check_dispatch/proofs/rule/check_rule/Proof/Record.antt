@@ -174,8 +174,28 @@ module _ (w : Here) where
     pub child : (i : ℕ) → i < countIn (fieldsOf b n) k → AtField b fs (leadOf k + i)
     child i h = of-read (λ q. AtField b q (leadOf k + i)) (at-field-in (lent .terms) there e i h)
 
+    -- What the rule of a term with one child asks, with two and with three; and where it looks at domains too.
+    pub one-child : 0 < countIn (fieldsOf b n) k → Lent b (now (start w .args .terms)) (now (start w .args .descriptors)) × Typed b fs × AtField b fs (leadOf k + 0)
+    one-child h = (lent, typed, child 0 h)
+
+    pub two-children : 1 < countIn (fieldsOf b n) k → Lent b (now (start w .args .terms)) (now (start w .args .descriptors)) × Typed b fs × AtField b fs (leadOf k + 0) × AtField b fs (leadOf k + 1)
+    two-children h = (lent, typed, child 0 (omega arith), child 1 h)
+
+    pub three-children : 2 < countIn (fieldsOf b n) k → Lent b (now (start w .args .terms)) (now (start w .args .descriptors)) × Typed b fs × AtField b fs (leadOf k + 0) × AtField b fs (leadOf k + 1) × AtField b fs (leadOf k + 2)
+    three-children h = (lent, typed, child 0 (omega arith), child 1 (omega arith), child 2 h)
+
+    pub one-and-masks : 0 < countIn (fieldsOf b n) k → Lent b (now (start w .args .terms)) (now (start w .args .descriptors)) × Typed b fs × AtField b fs (leadOf k + 0) × Masks b (now (start w .args .masks))
+    one-and-masks h = (lent, typed, child 0 h, masks)
+
+    pub two-and-masks : 1 < countIn (fieldsOf b n) k → Lent b (now (start w .args .terms)) (now (start w .args .descriptors)) × Typed b fs × AtField b fs (leadOf k + 0) × AtField b fs (leadOf k + 1) × Masks b (now (start w .args .masks))
+    two-and-masks h = (lent, typed, child 0 (omega arith), child 1 h, masks)
+
     pub answered : {r : Verdict} → ((Γ : List ℕ) → r ≡ judged (w .before .before .term-place .result) (ruleIn b fs k (setting Γ))) → (Γ : List ℕ) → r ≡ ruleVerdict (recordsOf b) (setting Γ) n
     answered h Γ = answered-in (lent .terms) there e (setting Γ) (w .before .before .term-place .ensures .0) (w .before .term-fields .ensures) (h Γ)
+
+  pub answer : (k : TermKind) → w .term-kind .result ≡ termRow k .number → {r : Verdict} → ((Γ : List ℕ) → r ≡ judged (w .before .before .term-place .result) (ruleIn b fs k (setting Γ)))
+      → (Γ : List ℕ) → r ≡ ruleVerdict (recordsOf b) (setting Γ) n
+  answer k e h = answered (kind-of k e) h
 
   -- Besides its entries a match has three children.
   pub match-child : termKind (recordsOf b) n ≡ TermKind.match → (i : ℕ) → i < 3 → AtField b fs (1 + i)

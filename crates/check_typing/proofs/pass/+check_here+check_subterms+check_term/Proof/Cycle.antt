@@ -36,28 +36,23 @@ abbrev pub μ-check-term : Measures 6 check-term-kinds.ps ℕ
 μ-check-term κs a = 3 * a .1 .1 .1 .0 .0 + 2
 
 abbrev pub check-subterms-at : ℕ → In 6 check-subterms-kinds.ps
-check-subterms-at t =
-    and 6 check-subterms-kinds.ps (is 6 check-subterms-kinds.ps μ-check-subterms t) check-subterms.Pre
+check-subterms-at t = and 6 check-subterms-kinds.ps (is 6 check-subterms-kinds.ps μ-check-subterms t) check-subterms.Pre
 
 abbrev pub check-subterms-below : ℕ → In 6 check-subterms-kinds.ps
 check-subterms-below t =
     and 6 check-subterms-kinds.ps (falls 6 check-subterms-kinds.ps _<_ μ-check-subterms t) check-subterms.Pre
 
 abbrev pub check-here-at : ℕ → In 6 check-here-kinds.ps
-check-here-at t =
-    and 6 check-here-kinds.ps (is 6 check-here-kinds.ps μ-check-here t) check-here.Pre
+check-here-at t = and 6 check-here-kinds.ps (is 6 check-here-kinds.ps μ-check-here t) check-here.Pre
 
 abbrev pub check-here-below : ℕ → In 6 check-here-kinds.ps
-check-here-below t =
-    and 6 check-here-kinds.ps (falls 6 check-here-kinds.ps _<_ μ-check-here t) check-here.Pre
+check-here-below t = and 6 check-here-kinds.ps (falls 6 check-here-kinds.ps _<_ μ-check-here t) check-here.Pre
 
 abbrev pub check-term-at : ℕ → In 6 check-term-kinds.ps
-check-term-at t =
-    and 6 check-term-kinds.ps (is 6 check-term-kinds.ps μ-check-term t) check-term.Pre
+check-term-at t = and 6 check-term-kinds.ps (is 6 check-term-kinds.ps μ-check-term t) check-term.Pre
 
 abbrev pub check-term-below : ℕ → In 6 check-term-kinds.ps
-check-term-below t =
-    and 6 check-term-kinds.ps (falls 6 check-term-kinds.ps _<_ μ-check-term t) check-term.Pre
+check-term-below t = and 6 check-term-kinds.ps (falls 6 check-term-kinds.ps _<_ μ-check-term t) check-term.Pre
 
 abbrev pub moved-claims : ℕ → moved-lts.Claims
 moved-claims t = (
@@ -79,16 +74,12 @@ moved-claims t = (
 
 abbrev pub here-claims : ℕ → here-lts.Claims
 here-claims t = (
-  is-leaf-reads.Asked,
-  is-leaf-reads.Learnt,
-  check-leaf-reads.Asked,
-  check-leaf-reads.Learnt,
-  fault-of-reads.Asked,
-  fault-of-reads.Learnt,
   check-rule-reads.Asked,
   check-rule-reads.Learnt,
   is-refused-reads.Asked,
   is-refused-reads.Learnt,
+  fault-of-reads.Asked,
+  fault-of-reads.Learnt,
   term-kind-reads.Asked,
   term-kind-reads.Learnt,
   moves-child-reads.Asked,
@@ -109,6 +100,12 @@ here-claims t = (
 
 abbrev pub term-claims : ℕ → term-lts.Claims
 term-claims t = (
+  is-leaf-reads.Asked,
+  is-leaf-reads.Learnt,
+  check-leaf-reads.Asked,
+  check-leaf-reads.Learnt,
+  fault-of-reads.Asked,
+  fault-of-reads.Learnt,
   check-here-below t,
   check-here.Post,
 )

@@ -45,7 +45,7 @@ abbrev pub Term : ℕ → Type 0
 Term t = lts.Start (here-claims t) (check-here-at t) reads.Post Inv-loop μ-loop
 
 abbrev pub Ruled : ℕ → Type 0
-Ruled t = lts.Else2 (here-claims t) (check-here-at t) reads.Post Inv-loop μ-loop
+Ruled t = lts.Else1 (here-claims t) (check-here-at t) reads.Post Inv-loop μ-loop
 
 abbrev pub Counted : ℕ → Type 0
 Counted t = lts.After-lead-of (here-claims t) (check-here-at t) reads.Post Inv-loop μ-loop
@@ -71,11 +71,11 @@ module _ {t : ℕ} where
   asked-of s = checked (recordsOf (image-of s)) (setting-of s) (s .args .n .0)
 
   abbrev pub term-of : Ruled t → Term t
-  term-of c = c .before .before .before .before .before .before .before .before .before .before
+  term-of c = c .before .before .before .before .before .before .before
 
   -- Its rule is passed, whatever the variables are.
   pub ruled : (c : Ruled t) (Γ : List ℕ) → ruleVerdict (recordsOf (image-of (term-of c))) (record { context = Γ; dom = term-of c .args .c .0 }) (term-of c .args .n .0) ≡ Verdict.Accepted
-  ruled c Γ = sym (c .before .before .check-rule .ensures Γ) ∙ accepted-is (c .before .before .check-rule .result) (sym (c .before .is-refused .ensures) ∙ c .if2 .left)
+  ruled c Γ = sym (c .before .before .check-rule .ensures Γ) ∙ accepted-is (c .before .before .check-rule .result) (sym (c .before .is-refused .ensures) ∙ c .if1 .left)
 
   -- Its fields; the number of its kind; how many children it has, and how many fields before them.
   abbrev pub ruled-of : Counted t → Ruled t
@@ -98,7 +98,7 @@ module _ {t : ℕ} where
 
   -- Its children stand where it does.
   stays : (c : Counted t) (m : TermKind) → read-of c ≡ termRow m .number → movesChild m ≡ false
-  stays c m e = sym (c .before .before .before .before .before .moves-child .ensures m e) ∙ c .before .before .before .before .if3 .left
+  stays c m e = sym (c .before .before .before .before .before .moves-child .ensures m e) ∙ c .before .before .before .before .if2 .left
 
   -- Where all its children pass, the verdict on them is the one that is asked for.
   pub whole : (c : Counted t) (j : ℕ) → c .before .child-count .result ≤ j → front (image-of (start-of c)) (fields-of c) (kind-of (start-of c)) (setting-of (start-of c)) j ≡ asked-of (start-of c)

@@ -1,2 +1,0 @@
--- A typing read backwards.
-pub mod Inversion

@@ -1,2 +1,0 @@
--- Proofs of the functions of this crate.
-pub mod Lowest

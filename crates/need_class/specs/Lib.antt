@@ -1,2 +1,0 @@
--- Refusal 19 term by term (document 02, card 10).
-pub mod First

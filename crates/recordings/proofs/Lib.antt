@@ -1,3 +1,0 @@
--- Equal parts of lent memory, and calls one after another.
-pub mod Examples
-pub mod Recordings

@@ -1,2 +1,0 @@
--- That the code says what the terms are.
-pub mod Says

@@ -1,4 +1,0 @@
--- The parts of words.
-pub mod WordFields
-pub mod ObjectWords
-pub mod Noted

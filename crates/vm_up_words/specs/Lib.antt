@@ -1,3 +1,0 @@
--- What the functions that make words are proved equal to.
-pub mod Words
-pub mod Noted
