@@ -1,4 +1,6 @@
 // Words of 8 bytes in a lent work area, little-endian, and the clearing of its front.
+#![tactic(auto)]
+
 ghost use Rattle.std.specs.Prelude.{◌≡◌, [], ◌∷◌, ◌+◌, ◌*◌, ◌≤◌, ◌<◌, length};
 ghost use Rattle.base_bytes.specs.Bytes.{bytes_of, number_of, over, cleared};
 ghost use Rattle.base_bytes.specs.Memory.{word_at};

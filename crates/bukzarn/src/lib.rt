@@ -1,5 +1,7 @@
 // The engine for callers in other languages: each function is one call of the crate that it names, with the answer as one
 // number. Memory that is lent may have any length and content.
+#![tactic(auto)]
+
 pub mod frames;
 
 ghost use Rattle.std.specs.Prelude.{◌≡◌, length};

@@ -1,5 +1,7 @@
 // The calculus of harmless advice: definitions in specs/, laws and examples in proofs/; and here what the engine shares
 // with it: the limits of a run, the enums of the outcomes and of the leaves, the numbers of the outcomes.
+#![tactic(auto)]
+
 pub mod outcomes;
 
 // The limits of a run (document 01, "A run"), by the names of specs/Limits.antt. Unfinished terms around the next redex.

@@ -1,4 +1,6 @@
 // What a whole call answers and leaves: the definition in specs/, and here the struct that answers.
+#![tactic(auto)]
+
 use calculus::LEAF_LIMIT;
 use report::{Ending, Slot};
 use verdict::Verdict;

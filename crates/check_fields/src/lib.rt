@@ -1,5 +1,7 @@
 // An inner crate: what a field of a record names, and the descriptor of a type. Each function is lent the part of the image that
 // the record's fields occupy.
+#![tactic(auto)]
+
 ghost use Rattle.std.specs.Prelude.{◌≡◌, ◌+◌, ◌*◌, ◌≤◌, ◌<◌, length, ltb};
 ghost use Rattle.read_records.specs.Heads.{field_in};
 ghost use Rattle.check_fields.specs.Fields.{type_count, field_from, Narrow, DescriptorFrom};

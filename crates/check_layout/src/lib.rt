@@ -1,5 +1,7 @@
 // An inner crate: the refusals 2 to 8 (document 01, "Turned back at the gate"), record by record, front to back, and the
 // tables of the records that are not refused.
+#![tactic(auto)]
+
 ghost use Rattle.std.specs.Prelude.{◌≡◌, ◌≤◌, ◌<◌, length, replicate};
 ghost use Rattle.image.specs.Limits.{term_limit};
 ghost use Rattle.read_records.specs.Counts.{Few};

@@ -1,5 +1,7 @@
 // An inner crate: refusals 9 to 12, once the records are laid out (document 01, "Turned back at the gate"). Each pass is
 // linear in the image.
+#![tactic(auto)]
+
 ghost use Rattle.std.specs.Prelude.{◌≡◌, ◌<◌, ◌&&◌, length, ltb};
 ghost use Rattle.image.specs.Layout.{records_of};
 ghost use Rattle.verdict.specs.Shape.{shape};

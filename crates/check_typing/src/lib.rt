@@ -1,5 +1,7 @@
 // An inner crate: refusals 13 to 16, the typing pass (document 01, "Typing" and "Turned back at the gate"). It is linear in
 // the image.
+#![tactic(auto)]
+
 ghost use Rattle.std.specs.Prelude.{◌≡◌, ◌/◌, ◌<◌, length};
 ghost use Rattle.image.specs.Layout.{records_of};
 ghost use Rattle.verdict.specs.Check.{typing};

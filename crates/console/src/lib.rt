@@ -1,5 +1,7 @@
 // An inner crate: what the programs share. Input is read whole or not used at all. Standard error reports output that cannot be
 // written, and says how a program is used.
+#![tactic(auto)]
+
 ghost use Rattle.numerals.specs.Numerals.{AtMost};
 ghost use Rattle.io.specs.Counts.{IsPrefixLen};
 

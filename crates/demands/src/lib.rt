@@ -1,1 +1,2 @@
 // The demands, about accepted images: definitions in specs/, theorems in proofs/.
+#![tactic(auto)]

@@ -1,5 +1,7 @@
 // The watch engine (document 01): it accepts or refuses an image, and runs an accepted one over a frame up to a budget of
 // steps. It writes no lent memory of a call that it refuses.
+#![tactic(auto)]
+
 mod answers;
 
 ghost use Rattle.std.specs.Prelude.{◌≡◌};

@@ -1,4 +1,6 @@
 // The runs of one image over the frames of a recording, when its code is ready.
+#![tactic(auto)]
+
 ghost use Rattle.std.specs.Prelude.{◌≡◌, ◌≤◌, ◌<◌, length};
 ghost use Rattle.image.specs.Limits.{work_length, report_length};
 ghost use Rattle.call_spec.specs.Runs.{Accepts};

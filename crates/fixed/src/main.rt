@@ -1,5 +1,7 @@
 // Reads an image from standard input and writes its fixed form to standard output (document 02, card 11); a refusal is
 // `refused N PLACE` on standard error, and nothing is written.
+#![tactic(auto)]
+
 use console::IMAGE_CAPACITY;
 
 fn main() {

@@ -1,5 +1,7 @@
 // The image: its bytes, kinds, records and program in specs/, their laws in proofs/; and here the limits and the refusals
 // that the validator, the engine and the writers share.
+#![tactic(auto)]
+
 use base_bytes::{BESIDE_COUNT, WORD_COUNT};
 use calculus::{CELL_LIMIT, LEAF_LIMIT};
 

@@ -1,5 +1,7 @@
 // What a run of an image will need (document 02, card 10): its definition in specs/, its laws in proofs/; and here the numbers
 // and the enum that answer it.
+#![tactic(auto)]
+
 ghost use Rattle.std.specs.Prelude.{◌≡◌};
 ghost use Rattle.image_needs.specs.Forecasts.{forecast_number, forecast_place};
 

@@ -1,5 +1,7 @@
 // The number of a refusal (document 01, "Turned back at the gate"), apart from the image's definitions, which are edited far more
 // often.
+#![tactic(auto)]
+
 ghost use Rattle.std.specs.Prelude.{◌≡◌};
 ghost use Rattle.image.specs.Refusals.{refusal_number};
 

@@ -1,5 +1,7 @@
 // What `watch` prints (document 01, "Bench sheet"), put into a lent buffer: the listing in specs/, and here the functions that
 // put it, line by line (listing_lines). Each puts as much of its text as fits and answers the offset past it.
+#![tactic(auto)]
+
 ghost use Rattle.std.specs.Prelude.{length};
 ghost use Rattle.listing_lines.specs.Lines.{refusal_line, verdict_line};
 ghost use Rattle.listing.specs.Listing.{run_listing, listing, refusal_bound, listing_bound};

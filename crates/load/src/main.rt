@@ -1,5 +1,7 @@
 // Writes the image of a seed and a depth, its two arguments, to standard output (document 02, card 12); a refusal is
 // `refused N PLACE` on standard error, and nothing is written. Arguments are decimal numbers of 32 bits.
+#![tactic(auto)]
+
 use numerals::Numeral;
 use write_load::OUTPUT_LENGTH;
 

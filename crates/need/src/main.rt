@@ -1,4 +1,6 @@
 // Reads an image from standard input and prints `refused N PLACE`, or the eleven numbers of card 10 (document 02), a line each.
+#![tactic(auto)]
+
 use console::IMAGE_CAPACITY;
 use image_needs::{Forecast, Needs};
 use libc::STDOUT_FILENO;

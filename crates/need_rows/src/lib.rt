@@ -1,5 +1,7 @@
 // An inner crate: what all advice takes of pieces at a mark, for each number of values that may be kept around it (document 02,
 // cards 6 and 10), by one walk over the terms of an image.
+#![tactic(auto)]
+
 ghost use Rattle.std.specs.Prelude.{◌≡◌, true, max, length};
 ghost use Rattle.image.specs.Layout.{records_of};
 ghost use Rattle.read_terms.specs.Lent.{Lent, IsTerm};

@@ -1,6 +1,8 @@
 // An inner crate: what the fields of a term's record tell the walks of card 10 (document 02). Each function takes the number of
 // the kind, from the record's head, and the fields as the part of the image that the reader lent. And refusal 19: the lowest term that
 // may not stand where it does.
+#![tactic(auto)]
+
 pub mod class;
 
 ghost use Rattle.std.specs.Prelude.{◌≡◌, ◌≤◌, ◌<◌, length, get_or};

@@ -1,4 +1,6 @@
 // An inner crate: the walk over the terms of an image that works out the numbers of card 10 (document 02).
+#![tactic(auto)]
+
 ghost use Rattle.std.specs.Prelude.{◌≡◌, length};
 ghost use Rattle.image.specs.Layout.{records_of};
 ghost use Rattle.image.specs.Types.{root_of};

@@ -1,6 +1,8 @@
 // What a flight will need (document 02, card 10): for an image that the check accepts and that is in the class, upper numbers
 // of steps, of bindings, pieces and cells for each half, and of labels, advice, frames and log records; for any other image
 // the one refusal. It reads the image alone, writes no lent memory and makes no run.
+#![tactic(auto)]
+
 ghost use Rattle.std.specs.Prelude.{◌≡◌, ◌≤◌, ◌<◌, length};
 ghost use Rattle.image.specs.Limits.{image_limit};
 ghost use Rattle.image.specs.Layout.{records_of};

@@ -1,4 +1,6 @@
 // An inner crate: the numbers that the arguments of a program say.
+#![tactic(auto)]
+
 ghost use Rattle.std.specs.Prelude.{◌≡◌};
 ghost use Rattle.numerals.specs.Numerals.{after, numeral};
 

@@ -1,4 +1,6 @@
 // The leaves of the plain types, by number.
+#![tactic(auto)]
+
 ghost use Rattle.std.specs.Prelude.{◌≡◌, ◌≤◌, ◌<◌, length, get_or, set, drop};
 ghost use Rattle.calculus.specs.Limits.{leaf_limit};
 ghost use Rattle.image.specs.Layout.{records_of};

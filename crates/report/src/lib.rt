@@ -1,5 +1,7 @@
 // The bytes of log and report: what they are and how they are read back in specs/, that reading gives back what was
 // written in proofs/; and here the functions that write them into lent slices.
+#![tactic(auto)]
+
 pub mod cells;
 pub mod fixed;
 pub mod leaves;

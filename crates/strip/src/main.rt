@@ -1,6 +1,8 @@
 // Reads an image from standard input and writes it without its watches to standard output (document 02, card 13); its argument
 // is the mask of the high domains, as a decimal number. A refusal is `refused N PLACE` on standard error, and nothing is
 // written.
+#![tactic(auto)]
+
 use console::IMAGE_CAPACITY;
 use numerals::Numeral;
 

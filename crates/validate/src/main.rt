@@ -1,4 +1,6 @@
 // Reads an image from standard input and prints `accepted` or `refused N PLACE`. The lent memory counts as long enough.
+#![tactic(auto)]
+
 use console::IMAGE_CAPACITY;
 use image::{REPORT_LENGTH, WORK_LENGTH};
 

@@ -1,5 +1,7 @@
 // The validator (document 01, "Turned back at the gate"): which images are accepted, and the one refusal of every other.
 // It reads the image alone and writes no lent memory.
+#![tactic(auto)]
+
 ghost use Rattle.std.specs.Prelude.{◌≡◌};
 ghost use Rattle.verdict.specs.Verdicts.{verdict};
 ghost use Rattle.validator.specs.Numbers.{verdict_number, verdict_place};

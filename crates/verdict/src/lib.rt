@@ -1,5 +1,7 @@
 // The verdict on an image: its definition in specs/, what acceptance means in proofs/; and here the enum that answers
 // it.
+#![tactic(auto)]
+
 ghost use Rattle.std.specs.Prelude.{◌≡◌};
 ghost use Rattle.verdict.specs.Answers.{is_refused};
 

@@ -1,5 +1,7 @@
 // An inner crate: the children of a pointcut, worked out one after another. Children that are atoms are taken in place; each
 // other one is a body of its own.
+#![tactic(auto)]
+
 pub mod children;
 pub mod entry;
 pub mod labels;

@@ -1,4 +1,6 @@
 // An inner crate: matches (card 6): their operands, the entries that they look at, and the branch that is taken.
+#![tactic(auto)]
+
 pub mod bindings;
 pub mod entries;
 pub mod looks;

@@ -1,4 +1,6 @@
 // An inner crate: the machine's tables in the lent work area.
+#![tactic(auto)]
+
 pub mod bindings;
 pub mod cells;
 pub mod kept;

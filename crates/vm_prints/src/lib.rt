@@ -1,4 +1,6 @@
 // An inner crate: the reduction of a print, which writes a record of the log.
+#![tactic(auto)]
+
 ghost use Rattle.std.specs.Prelude.{◌≤◌, ◌<◌, length};
 ghost use Rattle.base_bytes.specs.Memory.{memory_length};
 ghost use Rattle.vm_machine.specs.Registers.{fuel_bias};

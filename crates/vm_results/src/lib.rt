@@ -1,4 +1,6 @@
 // An inner crate: the answer and the report of a machine that halted, from its registers and its tables.
+#![tactic(auto)]
+
 pub mod cells;
 pub mod leaves;
 pub mod reports;

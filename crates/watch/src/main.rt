@@ -1,5 +1,7 @@
 // Calls the engine as the bench sheet says (document 01) and prints the listing of the image on standard input. With arguments
 // it prints verdict and listing of stored images, each with a budget of its own.
+#![tactic(auto)]
+
 mod conformance;
 mod stored;
 

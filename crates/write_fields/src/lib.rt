@@ -1,5 +1,7 @@
 // An inner crate: what the known fields of a record are, one by one, for a walk that writes the image anew (document 02,
 // card 11). The code of the record's kind says it; so a kind that the table has needs nothing here.
+#![tactic(auto)]
+
 ghost use Rattle.std.specs.Prelude.{◌≡◌, true, ◌+◌, ◌≤◌, ◌<◌};
 ghost use Rattle.read_records.specs.Codes.{kind_codes, code_at, first_of, last_of, Sized};
 ghost use Rattle.write_fields.specs.Classes.{Known, known_count, slot_in, digit_at, class_in, is_child, child_no, as_field};

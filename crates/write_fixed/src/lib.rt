@@ -1,5 +1,7 @@
 // The fixed form of an image (document 02, card 11): equal programs over equal domains have equal bytes. The image is checked
 // first; nothing is written if it is refused, or if the output is shorter than the image.
+#![tactic(auto)]
+
 ghost use Rattle.std.specs.Prelude.{◌≡◌, List, ℕ, ◌≤◌, length};
 ghost use Rattle.image.specs.Limits.{image_limit};
 ghost use Rattle.verdict.specs.declared.Verdict.{Verdict};

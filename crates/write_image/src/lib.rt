@@ -1,5 +1,7 @@
 // An inner crate: an image that is laid out, written anew (document 02, card 11): its domains, the types of its terms in their
 // order, its terms by a walk from the root.
+#![tactic(auto)]
+
 ghost use Rattle.std.specs.Prelude.{◌≡◌, ◌-◌, ◌≤◌, ◌<◌, length};
 ghost use Rattle.image.specs.Limits.{term_limit};
 ghost use Rattle.image.specs.Layout.{records_of};

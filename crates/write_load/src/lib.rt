@@ -1,5 +1,7 @@
 // Generated images (document 02, card 12): a load that every station can repeat. Equal seeds and depths give equal bytes,
 // whatever the output held.
+#![tactic(auto)]
+
 ghost use Rattle.std.specs.Prelude.{◌≡◌, ◌+◌, ◌-◌, ◌*◌, ◌≤◌, ◌<◌, length, take};
 ghost use Rattle.image.specs.Limits.{term_limit};
 ghost use Rattle.base_bytes.specs.Bytes.{over};

@@ -1,5 +1,7 @@
 // An inner crate: sets of high domains, as masks (document 02, card 13). Such a set has domain 0 and, with each member, every domain
 // above it.
+#![tactic(auto)]
+
 ghost use Rattle.std.specs.Prelude.{◌≡◌, not, ◌&&◌, ◌||◌, leb};
 ghost use Rattle.laws.specs.Tests.{any_below};
 ghost use Rattle.image.specs.Limits.{domain_limit};

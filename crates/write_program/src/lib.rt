@@ -1,6 +1,8 @@
 // An inner crate: the terms of an image written anew, by a walk from a term that writes it after its children, left to right
 // (document 02, card 11). It recurses over the fields of a term that name its children; the term number falls. No kind is
 // named: the code of a record's kind says what each field is.
+#![tactic(auto)]
+
 ghost use Rattle.std.specs.Prelude.{◌≡◌, ◌∷◌, ◌+◌, ◌-◌, ◌*◌, ◌≤◌, ◌<◌, length, take};
 ghost use Rattle.image.specs.Limits.{term_limit};
 ghost use Rattle.image.specs.Layout.{records_of};

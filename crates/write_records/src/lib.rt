@@ -1,4 +1,6 @@
 // An inner crate: a record written into a lent output.
+#![tactic(auto)]
+
 ghost use Rattle.std.specs.Prelude.{◌≡◌, [], ◌∷◌, ◌+◌, ◌*◌, ◌≤◌, length, take};
 ghost use Rattle.base_bytes.specs.Bytes.{over};
 ghost use Rattle.image_written.specs.Records.{little, field_limit};

@@ -1,4 +1,6 @@
 // An inner crate: the domains and the types of an image written anew (document 02, card 11), each section as one loop.
+#![tactic(auto)]
+
 ghost use Rattle.std.specs.Prelude.{◌≡◌, ◌+◌, ◌≤◌, ◌<◌, length, get_or, take};
 ghost use Rattle.image.specs.Limits.{domain_limit};
 ghost use Rattle.image.specs.Layout.{records_of};

@@ -1,6 +1,8 @@
 // An image without its watches (document 02, card 13): the body of every low advice and every low lower is a unit, and the
 // image has the fixed form of card 11. The image is checked first; nothing is written if it is refused, if the given mask is no
 // set of high domains, or if the output is shorter than the image.
+#![tactic(auto)]
+
 ghost use Rattle.std.specs.Prelude.{◌≡◌, ◌≤◌, length};
 ghost use Rattle.image.specs.Limits.{image_limit};
 ghost use Rattle.image.specs.Layout.{records_of};

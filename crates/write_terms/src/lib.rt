@@ -1,6 +1,8 @@
 // An inner crate: the walk over the terms of an image that is written anew (document 02, card 11: "types in the order in which
 // the terms so written first have them"). It enters the types of the terms, and recurses over the fields of a term that name
 // its children; the term number falls.
+#![tactic(auto)]
+
 ghost use Rattle.std.specs.Prelude.{◌≡◌};
 ghost use Rattle.image.specs.Layout.{records_of};
 ghost use Rattle.read_records.specs.Codes.{kind_codes};

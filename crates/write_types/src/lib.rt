@@ -2,6 +2,8 @@
 // terms so written first have them, each after its own parts, left to right"). Types stand in it by the numbers that they
 // have in the image. Two lent tables hold it: the order of the types, and the other way round each type's place. A place is the
 // number that the type has in the image that is written.
+#![tactic(auto)]
+
 ghost use Rattle.std.specs.Prelude.{◌≡◌, ◌<◌, length, get_or, set, eqb, not};
 ghost use Rattle.image.specs.Layout.{records_of};
 ghost use Rattle.image.specs.Types.{type_of};

@@ -1,6 +1,8 @@
 // An inner crate: a copy of an image in which the bodies of low advice and low lowers are units (document 02, card 13). A record
 // may be longer than its kind needs (card 1), so a body gives way by the number of its kind alone, and the copy is laid out as
 // the image is.
+#![tactic(auto)]
+
 ghost use Rattle.std.specs.Prelude.{◌≡◌, ◌+◌, ◌<◌, length, set};
 ghost use Rattle.image.specs.Kinds.{TermKind, term_row};
 ghost use Rattle.image.specs.Layout.{records_of};
