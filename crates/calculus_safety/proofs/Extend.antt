@@ -70,4 +70,4 @@ module _ (D : Policy) {Σ Σ' : StoreTyping} (x : Extends Σ Σ') where
 
     grow_bodies : {Γ : List Ty} {bs : Tms} {ms : Sigs} → BodiesTy D Σ Γ bs ms → BodiesTy D Σ' Γ bs ms
     grow_bodies BodiesTy.no_body = BodiesTy.no_body
-    grow_bodies (BodiesTy.a_Body h k) = BodiesTy.a_Body (grow_tm h) (grow_bodies k)
+    grow_bodies (BodiesTy.a_body h k) = BodiesTy.a_body (grow_tm h) (grow_bodies k)

@@ -49,8 +49,8 @@ module _ (D : Policy) {Σ : StoreTyping} where
 
   -- A method that the type has has a body of its domain and type (card 3).
   body_typed : {Γ : List Ty} {p : Dom} {b : Ty} {ms : Sigs} {bs : Tms} {m : ℕ} → Has p b ms m → BodiesTy D Σ Γ bs ms → (e : Tm) × (method_body bs m ≡ some e) × TmTy D Σ Γ p e b
-  body_typed Has.has_first (BodiesTy.a_Body {e} h k) = (e, refl, h)
-  body_typed (Has.has_later x) (BodiesTy.a_Body h k) = body_typed x k
+  body_typed Has.has_first (BodiesTy.a_body {e} h k) = (e, refl, h)
+  body_typed (Has.has_later x) (BodiesTy.a_body h k) = body_typed x k
 
   -- Card 6: the stack of values that fit their labels, and a value more.
   stack_typed : {k : List (Entry Val)} → KeptFits D Σ k → ValTy D Σ (stack_val k) Ty.stack

@@ -83,4 +83,4 @@ module _ (D : Policy) {Σ : StoreTyping} where
 
     subst_bodies : {a : Ty} {k : ℕ} {Γ Δ : List Ty} {v : Val} {bs : Tms} {ms : Sigs} → ValTy D Σ v a → BodiesTy D Σ Γ bs ms → Without a k Γ Δ → BodiesTy D Σ Δ (substs k v bs) ms
     subst_bodies hv BodiesTy.no_body w = BodiesTy.no_body
-    subst_bodies hv (BodiesTy.a_Body h r) w = BodiesTy.a_Body (subst_tm hv h w) (subst_bodies hv r w)
+    subst_bodies hv (BodiesTy.a_body h r) w = BodiesTy.a_body (subst_tm hv h w) (subst_bodies hv r w)

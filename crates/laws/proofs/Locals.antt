@@ -8,7 +8,7 @@
 use Prim.Native.Nat.{ℕ, zero, suc, ◌+◌, ◌*◌}
 use mathlib.Core.List.{List, [], ◌∷◌}
 use seplogic.Ra.Ura.{Ura}
-use seplogic.Ra.TreeShare.{full_share}
+use base.Fraction.{full_share}
 use mir.Syntax.{Ty, Body, Arms, skip, seq, assign, block, loop, cond, switch, exit, return, call, arm, default, no_default}
 use mir.Val.{Val}
 use base.Fml.{fat, froom, fdies}
@@ -29,6 +29,9 @@ after (switch c arms) = skip
 after (exit n) = skip
 after return = skip
 after (call f xs d) = skip
+after mir.Syntax.unreachable = skip
+after (mir.Syntax.call_v _ _ _ _) = skip
+after (mir.Syntax.lend_static _ _ _) = skip
 
 abbrev pub after_all_lem : ℕ → Body → Body
 after_all_lem zero b = b
@@ -53,6 +56,9 @@ arm_of n (switch c arms) = nth_arm n arms
 arm_of n (exit k) = skip
 arm_of n return = skip
 arm_of n (call f xs d) = skip
+arm_of n mir.Syntax.unreachable = skip
+arm_of n (mir.Syntax.call_v _ _ _ _) = skip
+arm_of n (mir.Syntax.lend_static _ _ _) = skip
 
 abbrev pub slot : ℕ → ℕ → ℕ
 slot k i = k + 2 * i

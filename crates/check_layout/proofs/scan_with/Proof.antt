@@ -20,7 +20,7 @@ use mathlib.Core.List.{List, [], ◌∷◌}
 use lib.Dec.{T as Holds}
 use lib.ListN.{length, replicate}
 use seplogic.Ra.Ura.{Ura}
-use seplogic.Ra.TreeShare.{full_share}
+use base.Fraction.{full_share}
 use package.mir.Syntax.{Body, named, erased, imm, mut, w8, w16, w32, w64, ty_int, ty_ref}
 use package.mir.Val.{Val, WT, has_ty, vint}
 use base.Logic.{SProp, ent, id⊢, emp, snd∗, ex_e}
