@@ -31,7 +31,7 @@ pub const WORD_SIZE: u64 = 4294967296;
 pub const SIGN_BIT: u64 = 2147483648;
 
 // How a run ends (document 01, "A run"; the last three are card 9's).
-#[derive(Drop)]
+#[derive(Clone, Copy)]
 pub enum Outcome {
     Done,
     Spent,
@@ -49,7 +49,7 @@ pub enum Outcome {
 }
 
 // A leaf of a result or of a cell; a number is its bit pattern.
-#[derive(Drop)]
+#[derive(Clone, Copy)]
 pub enum Leaf {
     Unit,
     Truth(bool),

@@ -7,7 +7,7 @@ use verdict::Verdict;
 
 // The answer of a call (document 01, "A run"): the outcome enum with the result's leaves beside it. Of a call that is
 // refused the verdict alone says something: it has no outcome, and its numbers are 0.
-#[derive(Drop)]
+#[derive(Clone, Copy)]
 pub struct Answer {
     pub verdict: Verdict,
     pub ending: Ending,

@@ -15,14 +15,14 @@ use read_records::numbers::Counts;
 pub mod tables;
 
 // Refused, at a record's offset; or all records are in the tables, so many of each section.
-#[derive(Drop)]
+#[derive(Clone, Copy)]
 pub enum Scan {
     Stopped(image::Refusal, usize),
     Laid(Counts),
 }
 
 // What becomes of a record: refused, or in its table, with the counts behind it.
-#[derive(Drop)]
+#[derive(Clone, Copy)]
 pub enum Entry {
     Fault(image::Refusal),
     Laid(Counts),

@@ -12,7 +12,7 @@ use read_records::table::TYPES;
 // How often a group stands, at most: labels, methods and entries have the same limit.
 const GROUP_LIMIT: usize = POINTCUT_LIMIT;
 
-#[derive(Drop)]
+#[derive(Clone, Copy)]
 pub enum Tested {
     Fault(image::Refusal),
     Passed,

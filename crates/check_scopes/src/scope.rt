@@ -16,7 +16,7 @@ use read_terms::terms::{descriptor_at_field, other_field, own_descriptor, own_ty
 use read_terms::types::{first_domain, first_type, second_domain, second_type};
 
 // How many places of the scope are used, and the current domain.
-#[derive(Drop)]
+#[derive(Clone, Copy)]
 pub struct Setting {
     pub len: usize,
     pub dom: DomainNo,

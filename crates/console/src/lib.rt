@@ -17,7 +17,7 @@ const OWN_NAME: usize = 1;
 
 // How many bytes stand at the front of a buffer; and whether they are all that is to be used: the input ended there or fills the
 // buffer, and no read failed.
-#[derive(Drop)]
+#[derive(Clone, Copy)]
 pub struct Input {
     pub length: usize,
     pub whole: bool,

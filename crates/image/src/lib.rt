@@ -38,7 +38,7 @@ pub const WORK_LENGTH: usize = 8 * WORD_COUNT + BESIDE_COUNT;
 pub const REPORT_LENGTH: usize = 10 + 8 * LEAF_LIMIT + 2 * CELL_LIMIT * (6 + 8 * LEAF_LIMIT);
 
 // Why an image is refused (document 01, "Turned back at the gate").
-#[derive(Drop)]
+#[derive(Clone, Copy)]
 pub enum Refusal {
     ImageTooLong,
     BrokenRecord,

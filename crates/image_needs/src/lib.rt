@@ -12,7 +12,7 @@ pub const OUTSIDE_NUMBER: u16 = 19;
 
 // The eleven upper numbers, in the order in which they are printed; "other" ones are of the other domains' half (card 9). "Piece"
 // is document 01's word: the room that a pair, a pointcut or an advice takes.
-#[derive(Drop)]
+#[derive(Clone, Copy)]
 pub struct Needs {
     pub steps: u32,
     pub bindings: u32,
@@ -29,7 +29,7 @@ pub struct Needs {
 
 // The forecast of an image before a launch: the check refuses it; or it is outside the class, with the place of its lowest fault;
 // or its run needs no more than these numbers.
-#[derive(Drop)]
+#[derive(Clone, Copy)]
 pub enum Forecast {
     Refused(Refusal, usize),
     OutsideClass(usize),

@@ -21,7 +21,7 @@ use read_records::numbers::TermNo;
 use read_terms::terms::{child_count, term_fields, term_kind};
 
 // The two branches of a term.
-#[derive(Drop)]
+#[derive(Clone, Copy)]
 pub struct Branches {
     pub first: TermNo,
     pub second: TermNo,

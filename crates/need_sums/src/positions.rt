@@ -7,7 +7,7 @@ use read_records::numbers::DomainNo;
 
 // What is asked of a term: nothing; what it takes where it stands, in the program or in the body of an advice; or what the advice
 // that it installs takes at a mark, where the term is what is installed or is not.
-#[derive(Drop)]
+#[derive(Clone, Copy)]
 pub enum Mode {
     Skip,
     Program,
@@ -17,7 +17,7 @@ pub enum Mode {
 }
 
 // And its place: the domain, the unfinished terms around it, and the values that are kept around it.
-#[derive(Drop)]
+#[derive(Clone, Copy)]
 pub struct Position {
     pub mode: Mode,
     pub dom: DomainNo,

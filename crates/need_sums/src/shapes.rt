@@ -8,7 +8,7 @@ use read_records::kinds;
 // What a term's own reduction takes: nothing, if it has none; else a step, and besides a label, a log record, an installed
 // advice, a cell, a piece (of an advice or of something else), bindings, a piece for each kept value, or what all advice takes
 // at a mark.
-#[derive(Drop)]
+#[derive(Clone, Copy)]
 pub enum Own {
     Nothing,
     Step,
@@ -27,7 +27,7 @@ pub enum Own {
 // What becomes of a child: it does not run; it is worked out first, inside its parent, at its domain or lowered, or while a
 // value is kept; it is what goes on in its parent's place, or one of two such, of which the first may bind variables; it is the
 // body of an advice; it is what is installed.
-#[derive(Drop)]
+#[derive(Clone, Copy)]
 pub enum Role {
     Skipped,
     Operand,
@@ -41,7 +41,7 @@ pub enum Role {
 }
 
 // The roles of the first three children, and of those behind them.
-#[derive(Drop)]
+#[derive(Clone, Copy)]
 pub struct Shape {
     pub own: Own,
     pub first: Role,

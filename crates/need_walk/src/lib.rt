@@ -21,7 +21,7 @@ use read_records::numbers::{DomainNo, TermNo};
 use read_terms::terms::{child_count, term_fields, term_kind};
 
 // A term, and where it stands.
-#[derive(Drop)]
+#[derive(Clone, Copy)]
 pub struct Visit {
     pub term: TermNo,
     pub position: Position,

@@ -4,13 +4,13 @@ ghost use Rattle.std.specs.Prelude.{◌≡◌, suc, ◌+◌, ◌*◌, ◌<◌, l
 ghost use Rattle.read_records.specs.Counts.{no_records, with_domain, with_type, with_term, Few};
 ghost use Rattle.read_records.specs.Descriptors.{descriptor_kind, descriptor_field0, descriptor_field1, descriptor_field2, descriptor_of};
 
-#[derive(Drop)]
+#[derive(Clone, Copy)]
 pub struct DomainNo(pub u16);
 
-#[derive(Drop)]
+#[derive(Clone, Copy)]
 pub struct TypeNo(pub u16);
 
-#[derive(Drop)]
+#[derive(Clone, Copy)]
 pub struct TermNo(pub u16);
 
 // The mainline's domain (document 01, "Two runs compared").
@@ -18,7 +18,7 @@ pub const MAINLINE: DomainNo = DomainNo(0);
 
 // How many records each section has. Those of a section are numbered from 0 on: so the count is also the number that the
 // section's next record gets.
-#[derive(Drop)]
+#[derive(Clone, Copy)]
 pub struct Counts {
     pub domains: usize,
     pub types: usize,

@@ -5,14 +5,14 @@ ghost use Rattle.std.specs.Prelude.{◌≡◌, ◌+◌, ◌<◌, ◌≤◌, ◌^
 ghost use Rattle.calculus.specs.Combinators.{choose};
 ghost use Rattle.read_records.specs.Heads.{head_at, field_bytes, IsWhole, fields_at};
 
-#[derive(Drop)]
+#[derive(Clone, Copy)]
 pub struct Walk<'a> {
     pub image: &'a [u8],
     pub at: usize,
 }
 
 // What stands at an offset: a whole record, with its length and its kind's number; a refusal; nothing more.
-#[derive(Drop)]
+#[derive(Clone, Copy)]
 pub enum Head {
     Record { len: usize, kind: u16 },
     Refused(image::Refusal),

@@ -14,14 +14,14 @@ use calculus::{Leaf, Outcome, outcomes};
 
 // How a run ended: with one of document 01's outcomes, or with none. A call that is refused makes no run and has none; so
 // has a run that is stuck, which no accepted image's is.
-#[derive(Drop)]
+#[derive(Clone, Copy)]
 pub enum Ending {
     NoOutcome,
     Ended(Outcome),
 }
 
 // A leaf of a result; eight of these stand beside a count.
-#[derive(Drop)]
+#[derive(Clone, Copy)]
 pub struct Slot {
     pub leaf: Leaf,
 }

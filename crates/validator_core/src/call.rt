@@ -9,7 +9,7 @@ use image::{
 };
 
 // The lengths of the lent work area and of the lent report.
-#[derive(Drop)]
+#[derive(Clone, Copy)]
 pub struct Lent {
     pub work: usize,
     pub report: usize,

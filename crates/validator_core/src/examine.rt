@@ -14,7 +14,7 @@ use read_records::numbers::Counts;
 use verdict::Verdict;
 
 // The verdict, and how many records each section of an accepted image has.
-#[derive(Drop)]
+#[derive(Clone, Copy)]
 pub enum Checked {
     Refused(Refusal, usize),
     Accepted(Counts),

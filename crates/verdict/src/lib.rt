@@ -8,7 +8,7 @@ ghost use Rattle.verdict.specs.Answers.{is_refused};
 use image::Refusal;
 
 // What the validator answers of an image: it is accepted, or it is refused, with the reason and the place.
-#[derive(Drop)]
+#[derive(Clone, Copy)]
 pub enum Verdict {
     Accepted,
     Refused(Refusal, usize),

@@ -7,7 +7,7 @@ pub mod entry;
 pub mod labels;
 
 // The children of a pointcut that are done, and the digits of their labels.
-#[derive(Drop)]
+#[derive(Clone, Copy)]
 pub struct Done {
     pub count: usize,
     pub digits: u64,
@@ -15,7 +15,7 @@ pub struct Done {
 
 // Where the children of a pointcut go on: its instruction and environment, the room of its body, and the children that are
 // done.
-#[derive(Drop)]
+#[derive(Clone, Copy)]
 pub struct Part {
     pub pc: usize,
     pub env: usize,

@@ -8,7 +8,7 @@ pub mod matches;
 pub mod operands;
 
 // A match under way: its stack, how many entries were looked at, what is behind them in the stack, and whether they all fit.
-#[derive(Drop)]
+#[derive(Clone, Copy)]
 pub struct Progress {
     pub stack: u64,
     pub next: usize,
@@ -17,7 +17,7 @@ pub struct Progress {
 }
 
 // Bindings that a match makes: how many there are, and the innermost.
-#[derive(Drop)]
+#[derive(Clone, Copy)]
 pub struct Chain {
     pub count: usize,
     pub env: usize,

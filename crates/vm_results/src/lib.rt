@@ -9,7 +9,7 @@ use calculus::LEAF_LIMIT;
 use report::Slot;
 
 // Leaves in eight slots; those that are left over hold unit.
-#[derive(Drop)]
+#[derive(Clone, Copy)]
 pub struct Gathered {
     pub count: usize,
     pub slots: [Slot; LEAF_LIMIT],

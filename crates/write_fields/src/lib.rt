@@ -13,7 +13,7 @@ use read_records::table::{
 };
 
 // The code of a record's kind, and how many known fields it has.
-#[derive(Drop)]
+#[derive(Clone, Copy)]
 pub struct Fields {
     pub code: u32,
     pub count: usize,

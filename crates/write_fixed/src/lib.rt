@@ -16,7 +16,7 @@ use read_records::numbers::Counts;
 use validator_core::examine::Checked;
 
 // So many bytes were written; or why none was.
-#[derive(Drop)]
+#[derive(Clone, Copy)]
 pub enum Written {
     Bytes(usize),
     Refused(Refusal, usize),

@@ -49,7 +49,7 @@ const OF_UNIT: TypeNo = TypeNo(0);
 const OF_NUMBER: TypeNo = TypeNo(1);
 
 // An image of so many bytes; or a depth of 0 or over 9; or an output that is too short.
-#[derive(Drop)]
+#[derive(Clone, Copy)]
 pub enum Load {
     Written(usize),
     WrongDepth,
@@ -57,7 +57,7 @@ pub enum Load {
 }
 
 // The state of the draws, and what is written so far: where the next record comes, and how many terms there are.
-#[derive(Drop)]
+#[derive(Clone, Copy)]
 pub struct Done {
     pub state: u32,
     pub at: usize,

@@ -21,7 +21,7 @@ use write_records::{FIELD_LIMIT, put_record};
 use write_types::kept_number;
 
 // How far the output is written: the next offset, and how many terms stand before it.
-#[derive(Drop)]
+#[derive(Clone, Copy)]
 pub struct Done {
     pub at: usize,
     pub terms: usize,

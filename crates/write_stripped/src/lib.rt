@@ -24,7 +24,7 @@ use write_image::write_whole;
 use write_unit_bodies::copy_with_unit_bodies;
 
 // So many bytes were written; or why none was.
-#[derive(Drop)]
+#[derive(Clone, Copy)]
 pub enum Stripped {
     Bytes(usize),
     Refused(Refusal, usize),
