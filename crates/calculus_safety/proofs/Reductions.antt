@@ -46,6 +46,17 @@ module _ (D : Policy) {Σ : StoreTyping} where
   unfolding cases
   collect_labels {ls} all2_nil LabelTys.no_types r = (ls, refl, r)
   collect_labels (all2_cons (ValTy.v_label g) hs) (LabelTys.a_type o os) r = collect_labels hs os (LabelsOf.a_label_lem g o r)
+  collect_labels {a = a} {p = p} {ls = ls} (all2_cons {xs = xs} {ys = ys} ValTy.v_unit hs) nt r = elim nt [ ]
+  collect_labels {a = a} {p = p} {ls = ls} (all2_cons {xs = xs} {ys = ys} (ValTy.v_truth {b = b}) hs) nt r = elim nt [ ]
+  collect_labels {a = a} {p = p} {ls = ls} (all2_cons {xs = xs} {ys = ys} (ValTy.v_number {n = n}) hs) nt r = elim nt [ ]
+  collect_labels {a = a} {p = p} {ls = ls} (all2_cons {xs = xs} {ys = ys} (ValTy.v_pair {v = v} {w = w} {b = b} _ _) hs) nt r = elim nt [ ]
+  collect_labels {a = a} {p = p} {ls = ls} (all2_cons {xs = xs} {ys = ys} (ValTy.v_fun {b = b} {e = e} _) hs) nt r = elim nt [ ]
+  collect_labels {a = a} {p = p} {ls = ls} (all2_cons {xs = xs} {ys = ys} (ValTy.v_cell _) hs) nt r = elim nt [ ]
+  collect_labels {a = a} {p = p} {ls = ls} (all2_cons {xs = xs} {ys = ys} (ValTy.v_pointcut _) hs) nt r = elim nt [ ]
+  collect_labels {a = a} {p = p} {ls = ls} (all2_cons {xs = xs} {ys = ys} (ValTy.v_advice {q = q} {e = e} _ _ _) hs) nt r = elim nt [ ]
+  collect_labels {a = a} {p = p} {ls = ls} (all2_cons {xs = xs} {ys = ys} (ValTy.v_object {ms = ms} {bs = bs} _) hs) nt r = elim nt [ ]
+  collect_labels {a = a} {p = p} {ls = ls} (all2_cons {xs = xs} {ys = ys} ValTy.v_bottom hs) nt r = elim nt [ ]
+  collect_labels {a = a} {p = p} {ls = ls} (all2_cons {xs = xs} {ys = ys} (ValTy.v_kept {l = l} {v = v} {k = k} {q = q} _ _ _) hs) nt r = elim nt [ ]
 
   -- A method that the type has has a body of its domain and type (card 3).
   body_typed : {Γ : List Ty} {p : Dom} {b : Ty} {ms : Sigs} {bs : Tms} {m : ℕ} → Has p b ms m → BodiesTy D Σ Γ bs ms → (e : Tm) × (method_body bs m ≡ some e) × TmTy D Σ Γ p e b

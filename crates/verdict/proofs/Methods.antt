@@ -43,6 +43,10 @@ module _ (g : ℕ → Ty) where
       rw (e, f) (has_later (has_method c vs (omega arith) m (omega arith)))
 
   pub method_parts_lem : (c : ℕ) (vs : List ℕ) → length vs ≡ 2 * c → (m : ℕ) {p : Dom} {b : Ty} → Has p b (methods_out vs g) m → (m < c) × (get_or vs (2 * m) 0 ≡ p) × (g (get_or vs (2 * m + 1) 0) ≡ b)
+  method_parts_lem zero [] n m {p = p} {b = b} h = elim h [ ]
+  method_parts_lem zero (p ∷ []) n m {b = b} h = elim h [ ]
+  method_parts_lem (suc c) [] n m {p = p} {b = b} h = elim h [ ]
+  method_parts_lem (suc c) (p ∷ []) n m {b = b} h = elim h [ ]
   method_parts_lem zero (p ∷ a ∷ vs) n m h = absurd (omega arith)
   method_parts_lem (suc c) (p ∷ a ∷ vs) n zero has_first = (omega arith, refl, refl)
   method_parts_lem (suc c) (p ∷ a ∷ vs) n (suc m) (has_later h) =
@@ -70,6 +74,8 @@ module _ (g : ℕ → Ty) where
     abort_type (is_op0 r) = refl
 
     pub bodies_types : (c : ℕ) (vs ts : List ℕ) → length vs ≡ 2 * c → BodiesTy D no_store Δ (aborts (map g ts)) (methods_out vs g) → (length ts ≡ c) × ((i : ℕ) → i < c → g (get_or vs (2 * i + 1) 0) ≡ g (get_or ts i 0))
+    bodies_types zero [] (t ∷ ts) n d = elim d [ ]
+    bodies_types (suc c) (p ∷ (a ∷ vs)) [] n d = elim d [ ]
     bodies_types zero [] [] n d = (refl, λ i l. absurd (omega arith))
     bodies_types zero (v ∷ vs) ts n d = absurd (omega arith)
     bodies_types (suc c) [] ts n d = absurd (omega arith)

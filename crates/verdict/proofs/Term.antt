@@ -157,6 +157,7 @@ module _ (D : Policy) where
   -- The bodies of an object, each where its method says (card 3): the first of these is child i.
   bodies : (at : ℕ → Setting Ty) (i : ℕ) {ts : List Ty} {as' es : Tms} → Pinned ts as' → Each at i ts es → (ms : Sigs) (Δ : List Ty) → ((j m : ℕ) → m ≡ i + j → at m ≡ record { context = Δ; dom = method_dom ms j })
       → BodiesTy D no_store Δ as' ms → BodiesTy D no_store Δ es ms
+  bodies at i (a_pin {t = t} {ts = ts} {e = e} {es = es} f k) (a_child x w) Rattle.calculus.specs.Syntax.no_method Δ h d = elim d [ ]
   bodies at i no_pin no_child ms Δ h d = d
   bodies at i (a_pin f k) (a_child x w) (method p b ms) Δ h (a_body d ds) =
       a_body (stands_as (at i) (record { context = Δ; dom = p }) (sym (h 0 i (omega arith))) x (f _ _ _ d)) (bodies at (suc i) k w ms Δ (λ j m r. h (suc j) m (omega arith)) ds)
