@@ -2,12 +2,8 @@
 use mathlib.Core.Path.{refl}
 use Rattle.image.specs.Kinds.{find}
 use Rattle.read_records.specs.Codes.{class_numbers, code_number, codes_from, kind_codes}
-use Rattle.read_records.proofs.table.kind_codes.Statement.{statement}
-use Rattle.read_records.proofs.table.kind_codes.Tie as tie
+use Rattle.read_records.proofs.table.kind_codes.Goals as goal
 
-returns : tie.Need-returns
+pub returns : goal.returns
 unfolding kind_codes codes_from code_number find class_numbers
 returns c = refl
-
-pub kind_codes_spec : {M : Type 1} → statement M
-kind_codes_spec = tie.close (tie.spec returns)

@@ -2,11 +2,7 @@
 use borrow.Author.Rules.{rules}
 use Prim.Native.Nat.{◌<◌}
 use Rattle.read_records.proofs.Codes.{last_section}
-use Rattle.read_records.proofs.table.is_term.Statement.{statement}
-use Rattle.read_records.proofs.table.is_term.Tie as tie
+use Rattle.read_records.proofs.table.is_term.Goals as goal
 
-returns : tie.Need-returns
+pub returns : goal.returns
 returns c = let l : c.args.code < 4294967296 = search rules in last_section c.args.code l
-
-pub is_term_spec : {M : Type 1} → statement M
-is_term_spec = tie.close (tie.spec (λ c. search rules) returns)
