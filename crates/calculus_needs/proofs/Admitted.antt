@@ -1,5 +1,4 @@
 -- The class, of terms in a run: an install may stand over the value that its advice has become, and bodies of functions do not matter.
-use Prim.Native.Nat.{◌-◌}
 use mathlib.Core.Path.{◌≡◌, refl}
 use mathlib.Core.Bool.{Bool, true, false, ◌&&◌}
 use lib.Dec.{T}
@@ -12,12 +11,15 @@ use Rattle.calculus_needs.proofs.Sums.{plus_same, dearer_same, plus_none}
 
 pub both : (a b : Bool) → T a → T b → T (a && b)
 both true b x y = y
+both false b x y = elim x [ ]
 
 pub first : (a b : Bool) → T (a && b) → T a
 first true b x = tt
+first false b x = elim x [ ]
 
 pub second : (a b : Bool) → T (a && b) → T b
 second true b x = x
+second false b x = elim x [ ]
 
 abbrev pub Permits2 : Bool → Op2 → Type 0
 Permits2 m o = T (permits2 m o)
@@ -92,6 +94,20 @@ Permits1 m o e = Allows m o (Over e)
 over_advice : (e : Tm) → T (is_advice e) → Over e
 unfolding Over
 over_advice (adv p e b) x = tt
+over_advice (val _) x = elim x [ ]
+over_advice (var _) x = elim x [ ]
+over_advice (lam _ _) x = elim x [ ]
+over_advice (op0 _ _) x = elim x [ ]
+over_advice (op1 _ _ _) x = elim x [ ]
+over_advice (op2 _ _ _ _) x = elim x [ ]
+over_advice (seq _ _) x = elim x [ ]
+over_advice (ite _ _ _) x = elim x [ ]
+over_advice (split _ _) x = elim x [ ]
+over_advice (pcd _) x = elim x [ ]
+over_advice (lower _ _) x = elim x [ ]
+over_advice (obj _ _) x = elim x [ ]
+over_advice (keep _ _ _) x = elim x [ ]
+over_advice (match _ _ _ _) x = elim x [ ]
 
 permitted : (m : Bool) (o : Op1) (e : Tm) → T (permits1 m o e) → Permits1 m o e
 permitted m print e x = tt

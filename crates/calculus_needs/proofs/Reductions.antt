@@ -247,6 +247,17 @@ module _ (G : Given) (W : Here → Numbers) (s : State) (A : All AdmittedAdvice 
         (gained_besides (here P) s (add_advice a s) an_advice refl (sym (counts_right s.used)) (omega arith) (length-append s.advices (a ∷ [])) (omega arith))
         (besides_one (here P) an_advice refl refl) (record { under = under_same (none_right _); exact = λ t'. none_right _ }) (λ t'. tt) tt (hx (val Val.unit)) (all_snoc A c)
         (λ Q. under_same (none_right (standing Q (s.advices ++ (a ∷ []))) ∙ standing_snoc Q s.advices a)))
+    takes_install t Val.unit c = elim c [ ]
+    takes_install t (Val.truth _) c = elim c [ ]
+    takes_install t (Val.number _) c = elim c [ ]
+    takes_install t (Val.pair _ _) c = elim c [ ]
+    takes_install t (Val.fun _ _) c = elim c [ ]
+    takes_install t (Val.label _) c = elim c [ ]
+    takes_install t (Rattle.calculus.specs.Syntax.cell _) c = elim c [ ]
+    takes_install t (Val.pointcut _) c = elim c [ ]
+    takes_install t (Val.object _ _) c = elim c [ ]
+    takes_install t Rattle.calculus.specs.Syntax.bottom c = elim c [ ]
+    takes_install t (Rattle.calculus.specs.Syntax.kept _ _ _) c = elim c [ ]
 
     pub takes1 : (o : Op1) (t : Ty) (v : Val) → Permits1 true o (val v) → Takes G W s (here P) X (own1 (here P) o) (λ Q. installs o Q (val v)) b P.depth (reduce1 G P s o t v)
     unfolding ◌⊕◌ Over

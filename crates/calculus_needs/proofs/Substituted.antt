@@ -95,6 +95,19 @@ module _ (v : Val) where
   unfolding Over subst
   over_subst (val w) k x = x
   over_subst (adv p e b) k x = tt
+  over_subst (var _) k x = elim x [ ]
+  over_subst (lam _ _) k x = elim x [ ]
+  over_subst (op0 _ _) k x = elim x [ ]
+  over_subst (op1 _ _ _) k x = elim x [ ]
+  over_subst (op2 _ _ _ _) k x = elim x [ ]
+  over_subst (seq _ _) k x = elim x [ ]
+  over_subst (ite _ _ _) k x = elim x [ ]
+  over_subst (split _ _) k x = elim x [ ]
+  over_subst (pcd _) k x = elim x [ ]
+  over_subst (lower _ _) k x = elim x [ ]
+  over_subst (obj _ _) k x = elim x [ ]
+  over_subst (keep _ _ _) k x = elim x [ ]
+  over_subst (match _ _ _ _) k x = elim x [ ]
 
   permits_subst : (m : Bool) (o : Op1) (e : Tm) (k : ℕ) → Permits1 m o e → Permits1 m o (subst k v e)
   permits_subst m print e k x = tt
@@ -141,6 +154,19 @@ module _ (v : Val) where
   unfolding Over subst
   round_subst Q (val w) k x = refl
   round_subst Q (adv p e b) k x = rw (need_subst (λ R. none) v b (at p (deeper (deeper Q))) (suc k)) refl
+  round_subst Q (var _) k x = elim x [ ]
+  round_subst Q (lam _ _) k x = elim x [ ]
+  round_subst Q (op0 _ _) k x = elim x [ ]
+  round_subst Q (op1 _ _ _) k x = elim x [ ]
+  round_subst Q (op2 _ _ _ _) k x = elim x [ ]
+  round_subst Q (seq _ _) k x = elim x [ ]
+  round_subst Q (ite _ _ _) k x = elim x [ ]
+  round_subst Q (split _ _) k x = elim x [ ]
+  round_subst Q (pcd _) k x = elim x [ ]
+  round_subst Q (lower _ _) k x = elim x [ ]
+  round_subst Q (obj _ _) k x = elim x [ ]
+  round_subst Q (keep _ _ _) k x = elim x [ ]
+  round_subst Q (match _ _ _ _) k x = elim x [ ]
 
   installs_subst : (Q : Here) (o : Op1) (e : Tm) (k : ℕ) → Permits1 true o e → installs o Q (subst k v e) ≡ installs o Q e
   installs_subst Q print e k x = refl

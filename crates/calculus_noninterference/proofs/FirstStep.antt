@@ -59,3 +59,4 @@ run_none zero G k s e a p q f = rw (← q) (run_spent G k s e p)
 run_none (suc n) G k s e (at_capacity o) p q f = rw (p, q, run) (valueless_stopped _ _ (λ x. x))
 run_none (suc n) G k s e halt p q f = rw (p, q, run) (valueless_stopped _ _ (λ x. clash x refl))
 run_none (suc n) G k s e wrong p q f = rw (p, q, run) (valueless_stuck _)
+run_none (suc n) G k s e (reduct _ _) p q f = elim f [ ]

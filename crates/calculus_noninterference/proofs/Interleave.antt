@@ -96,6 +96,7 @@ module _ {A : Type 0} {H : A → A → Type 0} {L R : A → Type 0} where
   set_both (i_both h k) n (past_both m) = i_both h (set_both k n m)
   set_both (i_left l k) n (past_left m) = i_left l (set_both k n m)
   set_both (i_right l k) n (past_right m) = i_right l (set_both k n m)
+  set_both {i = i} {j = j} {a = a} {b = b} i_nil n x12 = elim x12 [ ]
 
   -- Another element n in the place of a on one side alone, where whatever related a, or was said of it, holds of n.
   pub set_left : {w : List Side} {x y : List A} (i : ℕ) (n : A) {a : A} → Interleaving H L R w x y → get_elem? x i ≡ some a → ((b : A) → H a b → H n b) → (L a → L n) → Interleaving H L R w (set x i n) y
