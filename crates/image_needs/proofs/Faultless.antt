@@ -198,6 +198,7 @@ module _ (L : Layout) (good : LayoutOk L) where
       omega arith
 
   not_here : (p : Bool) (n x : ℕ) → T p → count ≤ x → count ≤ min (choose p count n) x
+  not_here false n x h l = elim h [ ]
   not_here true n x h l = omega arith
 
   module _ (f n : ℕ) (below : (m : Bool) (e : ℕ) → e < n → T (in_class m (to_tm (tree L f e))) → count ≤ lowest L f m e) (g : ℕ → Bool) where
