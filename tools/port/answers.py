@@ -12,12 +12,13 @@ import re
 import sys
 
 TRIVIAL = re.compile(r"\(λ [^.()]*\. search rules\)\Z")
+TOKENS = re.compile(r"(?<![\w.'-])[A-Za-z_][\w'₀-₉-]*(?![\w'-])")
 NAME = re.compile(r"[^\s(){}\[\];,\"`]+")
 PATH = re.compile(r"(?<![\w.'₀-₉◌-])([A-Za-z_λ][\w'₀-₉-]*)((?:\.[A-Za-z0-9_'₀-₉ₐ-ₜ+-]+)*)")
 
 
 def norm(name):
-    return re.sub(r"(_lem|_of)$", "", name.replace("-", "_"))
+    return re.sub(r"(_lem|_of)$", "", name.replace("-", "_").lower())
 
 
 def blocks_of(text):
@@ -280,7 +281,7 @@ def convert(path, data, crate, function):
         fn.warned.append(f"{len(args)} arguments and {len(needs)} goals: {[n[0] for n in needs]} {[a[:40] for a in args]}")
     # by the names of the old goals
     old_index = {norm(n[0]): k for k, n in enumerate(needs)}
-    done = set()
+    done, renamed = set(), {}
     for name, b in by_name.items():
         sig = declared(b)[2]
         m = re.match(r"tie\.Need-(\S+)", sig)
@@ -297,6 +298,9 @@ def convert(path, data, crate, function):
             answers.append("-- NO GOAL " + m[1] + "\n" + "\n".join("-- " + l for l in b))
             continue
         done.add(k)
+        renamed[name] = needs[k][1]
+        if kept_by_itself(needs[k][1], code(b)):
+            continue
         answers.append(answer(fn, k, b, name))
     if len(args) == len(needs):
         for k, a in enumerate(args):
@@ -304,6 +308,8 @@ def convert(path, data, crate, function):
                 continue
             m = re.match(r"\(λ\s+([^.()]*)\.\s*(.*)\)\Z", a, re.S)
             new = needs[k][1]
+            if kept_by_itself(new, a):
+                continue
             if m:
                 params = m[1].split()
                 body = turn_body(fn, fn.place(data["asked_at"][k][0]), params, m[2])
@@ -311,6 +317,7 @@ def convert(path, data, crate, function):
             else:
                 answers.append(f"pub {new} : goal.{new}\n{new} c = {a} c")
                 fn.warned.append(f"{new} is {a}")
+    answers = [TOKENS.sub(lambda m: renamed.get(m[0], m[0]), a) for a in answers]
     helpers = [code(b) for n, b in by_name.items() if n not in used]
     uses = [l for l in head if not re.search(r"\.(Tie as tie|Statement\.\{statement\})|as tie$", l)]
     while uses and not uses[-1].strip():
@@ -325,6 +332,11 @@ def convert(path, data, crate, function):
     if answers:
         wrote["Answers.antt"] = "\n".join([*uses, f"use {base}.Goals as goal", "", "\n\n".join([*helpers, *answers]), ""])
     return wrote, fn.warned
+
+
+# That a slice keeps its length Rattle knows by itself.
+def kept_by_itself(goal, text):
+    return goal.startswith("shape_of-") and bool(re.search(r"\.(auto|kept)\b", text))
 
 
 def uses_name(helper, invs):
