@@ -1,0 +1,6 @@
+-- `check_fields::names_domain` meets its contract.
+use borrow.Author.Rules.{rules}
+use Rattle.check_fields.proofs.names_domain.Goals as goal
+
+pub returns : goal.returns
+returns c = rw c.domain_field.ensures at c.has_domain.ensures

@@ -1,0 +1,6 @@
+-- `check_fields::names_term` meets its contract.
+use borrow.Author.Rules.{rules}
+use Rattle.check_fields.proofs.names_term.Goals as goal
+
+pub returns : goal.returns
+returns c = rw c.term_field.ensures at c.has_term.ensures

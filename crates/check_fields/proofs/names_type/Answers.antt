@@ -1,0 +1,6 @@
+-- `check_fields::names_type` meets its contract.
+use borrow.Author.Rules.{rules}
+use Rattle.check_fields.proofs.names_type.Goals as goal
+
+pub returns : goal.returns
+returns c = rw c.type_field.ensures at c.has_type.ensures
