@@ -1,0 +1,13 @@
+-- `check_repeats::keys::has_key` meets its contract: a key whose bit is not there is new.
+use mathlib.Core.Path.{sym, ap, ◌∙◌}
+use mathlib.Core.Bool.{not}
+use Rattle.check_repeats.proofs.Filter.{unmarked}
+use borrow.Author.Rules.{rules}
+use Rattle.check_repeats.proofs.keys.has_key.Goals as goal
+
+pub returns-then-is_marked : goal.returns-then-is_marked
+returns-then-is_marked c = ap not c.is_new_key.ensures
+
+pub returns-then-is_marked : goal.returns
+returns-then-is_marked c =
+    ap not (sym (unmarked c.requires c.args.key (sym c.is_marked.ensures ∙ c.if-is_marked.false)))

@@ -1,0 +1,27 @@
+use native.Mathlib.Omega.{arith}
+use mathlib.Core.Path.{refl}
+use Rattle.calculus.specs.Combinators.{choose}
+use Rattle.base_bytes.specs.Bytes.{bytes_of}
+use Rattle.base_bytes.specs.Records.{bytes16, bytes32}
+use Rattle.report.proofs.Put.{record_written}
+use borrow.Author.Rules.{rules}
+use Rattle.report.proofs.leaves.put_leaf.Goals as goal
+
+pub returns-in-Unit : goal.returns-in-Unit
+unfolding bytes_of
+returns-in-Unit c = rw c.in-Unit.is (refl, c.put_header.ensures)
+
+pub returns-in-Truth : goal.returns-in-Truth
+unfolding bytes_of
+returns-in-Truth c =
+    let a = c.args in
+    let l = c.leaf-1.given in
+    let w = rw c.bit.ensures at c.put16.ensures in
+    rw c.in-Truth.is (refl, record_written 66 a.report.now a.at (bytes16 (choose c.in-Truth.b 1 0)) 6 refl c.put_header-in-Truth.ensures w (omega arith))
+
+pub returns-in-Number : goal.returns-in-Number
+unfolding bytes_of
+returns-in-Number c =
+    let a = c.args in
+    let l = c.leaf-in-Number-1.given in
+    rw c.in-Number.is (refl, record_written 67 a.report.now a.at (bytes32 c.in-Number.n) 8 refl c.put_header-in-Number.ensures c.put32.ensures (omega arith))

@@ -1,0 +1,22 @@
+use Prim.Native.Nat.{◌+◌, ◌*◌, ◌-◌, ◌≤◌}
+use native.Mathlib.Omega.{arith}
+use mathlib.Core.Path.{◌≡◌, refl, sym, ◌∙◌}
+use lib.ListN.{length}
+use Rattle.base_bytes.specs.Bytes.{over}
+use Rattle.base_bytes.proofs.Over.{over_nothing}
+use Rattle.report.specs.Records.{records_bytes}
+use Rattle.report.specs.Written.{leaves_bytes, leaves_in}
+use Rattle.report.proofs.Put.{leaves_step}
+use borrow.Author.Rules.{rules}
+use Rattle.report.proofs.leaves.put_leaves.Given as goal
+
+abbrev pub invariant-loop-i : goal.invariant-loop-i
+invariant-loop-i l =
+    (l.i ≤ l.count)
+    × (l.o ≤ l.at + 8 * l.i)
+    × (length l.report ≡ length l.initial.report)
+    × (l.o ≡ l.at + length (leaves_bytes (leaves_in l.i l.slots)))
+    × (l.report ≡ over l.at (leaves_bytes (leaves_in l.i l.slots)) l.initial.report)
+
+abbrev pub decreases-loop-i : goal.decreases-loop-i
+decreases-loop-i l = l.count - l.i
