@@ -6,25 +6,24 @@ engine and of its library for other languages cite, and all definitions that the
 their imports. P1 to P8 are a table that stands among the proofs, with its images.
 docs/CLAIMS.md lists the same files, and a test compares the two.
 """
-import re
 import sys
 from pathlib import Path
+
+from imports import place, theory, without_comments
 
 ROOT = Path(__file__).resolve().parents[2]
 STATEMENTS = ("demands/specs", "call_spec/specs", "verdict/specs/Acceptable.antt", "listing/specs/Listing.antt",
               "write_load/specs/Card12.antt", "answers_as_numbers/specs", "bukzarn/specs",
               "vm_links/specs", "demands_examples/proofs/Conformance.antt")
-IMPORT = re.compile(r"\s*use Rattle·(\w+?)(?:·specs|·proofs)?\.(specs|proofs)\.([\w.]+?)(?:\.\{| as )")
 
 
 def imports(file):
     """The files of definitions that a file names; what a crate's code declares stands in its src/."""
-    for line in file.read_text(encoding="utf-8").splitlines():
-        found = IMPORT.match(line)
-        if not found:
-            continue
-        crate, part, module = ROOT / "crates" / found[1], found[2], found[3].split(".")
-        yield crate / "src" if module[0] == "declared" else crate.joinpath(part, *module).with_suffix(".antt")
+    for module, _, _ in theory(without_comments(file.read_text(encoding="utf-8"), file.suffix)):
+        crate, part, words = place(module) or (None, None, None)
+        if crate and (ROOT / "crates" / crate).is_dir():
+            folder = ROOT / "crates" / crate
+            yield folder / "src" if words[0] == "declared" else folder.joinpath(part, *words).with_suffix(".antt")
 
 
 def closure(files):

@@ -11,8 +11,9 @@ import re
 import sys
 from pathlib import Path
 
+from imports import items, place, theory, without_comments
+
 ROOT = Path(__file__).resolve().parents[2]
-THEORY = re.compile(r"use Rattle·(\w+?)(?:·specs|·proofs)?\.(specs|proofs)\.([\w.+]+?)(?:\.\{| as |;|$)")
 SOURCE = re.compile(r"\b(\w+)::(\w+)")
 CLAIM = re.compile(r"\bcrates/(\w+)/((?:specs|proofs)/[\w/]+\.antt)")
 
@@ -46,21 +47,22 @@ def proofs_of(file, text):
     proofs = crate / "proofs"
     if file.stem not in ("lib", "main"):
         return (proofs / file.stem).rglob("*.antt")
-    names = set(re.findall(r"\b(?:fn|impl) (\w+)", text))
+    names = set(re.findall(r"(?:\bfn |\bimpl |#\[cycle\()(\w+)", text))
     folders = (folder for folder in proofs.glob("*") if folder.is_dir() and names & set(folder.name.split("+")))
     return (found for folder in folders for found in folder.rglob("*.antt"))
 
 
 def named_by(root, file, graph):
     """The files that a file names."""
-    text = file.read_text(encoding="utf-8")
-    for crate, part, path in THEORY.findall(text):
-        words, folder = path.split("."), root / "crates" / crate
-        yield source_file(folder, words[1:]) if words[0] == "declared" else folder.joinpath(part, *words).with_suffix(".antt")
+    text = without_comments(file.read_text(encoding="utf-8"), file.suffix)
+    for module, _, _ in theory(text):
+        if place(module):
+            crate, part, words = place(module)
+            folder = root / "crates" / crate
+            yield source_file(folder, words[1:]) if words[0] == "declared" else folder.joinpath(part, *words).with_suffix(".antt")
     if file.suffix == ".rt":
-        text = re.sub(r"//[^\n]*", "", text)
         own = file.relative_to(root).parts[1]
-        for crate, word in SOURCE.findall(text):
+        for crate, word in [*SOURCE.findall(text), *(path[:2] for path, _ in items(text) if len(path) > 1)]:
             crate = own if crate == "crate" else crate
             if crate in graph:
                 yield source_file(root / "crates" / crate, [word])
@@ -74,7 +76,7 @@ def roots(root, graph):
     """The files of the public functions, and those of the claims."""
     for crate in graph:
         for file in sorted((root / "crates" / crate / "src").rglob("*.rt")):
-            if file.name == "main.rt" or "#[no_mangle]" in file.read_text(encoding="utf-8"):
+            if file.name == "main.rt" or "#[unsafe(no_mangle)]" in file.read_text(encoding="utf-8"):
                 yield file
     for crate, file in CLAIM.findall((root / "docs/CLAIMS.md").read_text(encoding="utf-8")):
         yield root / "crates" / crate / file

@@ -9,6 +9,8 @@ import re
 import sys
 from pathlib import Path
 
+from imports import WORD, place, theory, without_comments, without_imports
+
 ROOT = Path(__file__).resolve().parents[2]
 
 # The pages that name laws and definitions, in code letters.
@@ -42,33 +44,33 @@ vm_super_spec: Numbers
 # Other declarations that nothing uses and that stay: file and name, with the reason.
 ALLOWED = {}
 
-COMMENT = re.compile(r"(^|\s)--(\s.*|$)")
-WORD = re.compile(r"[^\s(){}\[\],;`\"⌜⌝]+")
 MARKS = r"(?:(?:abbrev|unfoldable|pub|private) )*"
 BLOCK = re.compile(rf"{MARKS}(?:data|record) ([^\s:(){{}}]+)")
 SIGNATURE = re.compile(rf"{MARKS}((?:[^\s:(){{}}=]+ )+):(?: |$)")
 SECTION = re.compile(r"(?:pub )?(?:module\b|mutual$)")
-IMPORT = re.compile(r"(?:ghost )?use (\S+?)(?:\.\{(.*)\}| as (\S+))?;?$")
-MODULE = re.compile(r"Rattle·(\w+?)(?:·specs|·proofs)?\.((?:specs|proofs)\..+)$")
+
+# What Rattle makes of a function for its proof: what `Answers.antt` answers, and of what `Invariants.antt` speaks.
+GENERATED = (".Goals", ".Given")
+PROOFS = ("/Answers.antt", "/Invariants.antt")
 
 
 class Source:
-    """A file: the words of each declaration with its line, the declaration that each constructor and field belongs to, and
-    the file and name that each imported name stands for."""
+    """A file: the words of each declaration with its line, the declaration that each constructor and field belongs to, the
+    file and name that each imported name stands for, and the declarations that answer for a function."""
 
     def __init__(self, text):
-        self.words, self.lines, self.owner, self.imports = {}, {}, {}, {}
+        text = without_comments(text, ".antt")
+        self.words, self.lines, self.owner, self.imports = {}, {}, {}, imported(text)
+        goals = "|".join(re.escape(alias) for module, names, alias in theory(text) if not names and module.endswith(GENERATED))
+        self.answers = set(re.findall(rf"^{MARKS}(\S+) : (?:{goals})\.\S+$", text, re.M)) if goals else set()
         blocks, current = set(), None
         sections = [(0, [])]  # the indent of each open section, and the words of its header
         header = None  # the indent and the words of a header that is not at its end
-        for number, line in enumerate(text.splitlines(), 1):
-            line = COMMENT.sub("", line).rstrip()
+        for number, line in enumerate(without_imports(text).splitlines(), 1):
+            line = line.rstrip()
             code = line.strip()
             indent = len(line) - len(code)
             if not code:
-                continue
-            if IMPORT.match(code):
-                self.imports.update(imported(code))
                 continue
             if header and indent > header[0] and not header[2]:
                 header = (header[0], header[1] + WORD.findall(code), code.endswith("where"))
@@ -104,22 +106,24 @@ def declared(code):
 
 def file_of(module):
     """The file of a module of the crates."""
-    found = MODULE.match(module)
-    return f"crates/{found[1]}/{found[2].replace('.', '/')}.antt" if found else None
+    crate, part, words = place(module) or (None, None, None)
+    return f"crates/{crate}/{part}/{'/'.join(words)}.antt" if crate else None
 
 
-def imported(code):
-    """What a line imports: for each name its file and name there, for another name of a module its file alone."""
-    module, names, alias = IMPORT.match(code).groups()
-    if names is None:
-        return {alias or module.split(".")[-1]: (file_of(module), None)}
-    pairs = [name.strip().split(" as ") for name in names.split(",")]
-    return {pair[-1].strip(): (file_of(module), pair[0].strip()) for pair in pairs}
+def imported(text):
+    """What a file without comments imports: for each name here its file and name there, for another name of a module its file
+    alone."""
+    found = {}
+    for module, names, alias in theory(text):
+        if alias:
+            found[alias] = (file_of(module), None)
+        found.update((here, (file_of(module), name.split(".")[-1])) for name, here in names or ())
+    return found
 
 
 def signs(name):
     """The words by which a name is used: an operator by each of its signs."""
-    return [name] + [sign for sign in name.split("_") if sign] if "_" in name else [name]
+    return [name] + [sign for sign in name.split("◌") if sign] if "◌" in name else [name]
 
 
 def uses(sources, file, words):
@@ -143,9 +147,7 @@ def uses(sources, file, words):
 def cited(root):
     """What contracts cite, as file and name."""
     for file in root.glob("crates/*/src/**/*.rt"):
-        for line in file.read_text(encoding="utf-8").splitlines():
-            if line.startswith("ghost use "):
-                yield from imported(line).values()
+        yield from imported(without_comments(file.read_text(encoding="utf-8"), file.suffix)).values()
 
 
 def edited(root):
@@ -172,7 +174,7 @@ def roots(root, sources):
         yield from uses(sources, file, words)
     for file, source in sources.items():
         for name in source.lines:
-            proof = file.endswith("/Proof.antt") and name.endswith("-spec")
+            proof = file.endswith(PROOFS) and name in source.answers or file.endswith("/Proof.antt") and name.endswith(("_spec", "-spec"))
             if proof or name in named or file in examples or (file, name) in ALLOWED:
                 yield file, name
 

@@ -7,15 +7,15 @@ import re
 import sys
 from pathlib import Path
 
+from imports import WORD, items, theory, without_comments, without_imports
+
 ROOT = Path(__file__).resolve().parents[2]
-NAMES = re.compile(r"^(?:ghost )?use .*\.\{(.*)\};?$")
-PATH = re.compile(r"^use [\w:]+::(\w+);$")
 
 
-def words_used(lines, comment):
+def words_used(text):
     """The words of a file but for its imports and comments, whole and in their parts."""
-    text = "\n".join(re.sub(rf"(^|\s){comment}(\s.*|$)", "", line) for line in lines if not re.match(r"\s*(ghost )?use ", line))
-    words = set(re.findall(r"[^\s(){}\[\],;`\"⌜⌝]+", text))
+    text = without_imports(text)
+    words = set(WORD.findall(text))
     if "[]" in text:
         words.add("[]")
     for word in list(words):
@@ -24,19 +24,18 @@ def words_used(lines, comment):
 
 
 def is_used(name, words):
-    name = name.split(" as ")[-1].strip().split(".")[-1]
-    if name.startswith("_") and name.endswith("_") or re.search(r"[^\w′₀-₉-]", name) and "_" in name:
-        return all(any(sign in word for word in words) for sign in name.split("_") if sign)
+    """An operator is used if each of its signs stands somewhere."""
+    if "◌" in name:
+        return all(any(sign in word for word in words) for sign in name.split("◌") if sign)
     return name in words
 
 
 def unused(file):
-    lines = file.read_text(encoding="utf-8").splitlines()
-    words = words_used(lines, "//" if file.suffix == ".rt" else "--")
-    for line in lines:
-        found = NAMES.match(line) or PATH.match(line)
-        if found:
-            yield from (name.strip() for name in found[1].split(",") if not is_used(name, words))
+    text = without_comments(file.read_text(encoding="utf-8"), file.suffix)
+    words = words_used(text)
+    for _, names, _ in theory(text):
+        yield from (name if name.split(".")[-1] == here else f"{name} as {here}" for name, here in names or () if not is_used(here, words))
+    yield from (here for _, here in items(text) if not is_used(here, words))
 
 
 def all_unused(root=ROOT):

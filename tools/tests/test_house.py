@@ -131,17 +131,17 @@ def numbers_without_names(root):
     return found
 
 
-DECLARED_NEED = re.compile(r"^(\S+) : tie\.Need-.*\n\1(?: [^\s=]+)+ = search needs$", re.M)
+NEEDLESS_ANSWER = re.compile(r"^(?:pub )?(\S+) : \w+\.\S+\n\1(?: [^\s=]+)+ =\s+search rules$", re.M)
 
 
-def declared_needs(root):
-    """Needs that are declared though the search closes them, with the proofs that declare them, unless another part of the proof cites them."""
+def needless_answers(root):
+    """Goals that are answered though the search closes them, with the files that answer them, unless another answer cites them."""
     found = []
-    for path in sorted((root / "crates").glob("*/proofs/**/Proof.antt")):
+    for path in sorted((root / "crates").glob("*/proofs/**/Answers.antt")):
         text = path.read_text(encoding="utf-8")
-        for match in DECLARED_NEED.finditer(text):
+        for match in NEEDLESS_ANSWER.finditer(text):
             name = re.escape(match[1])
-            if len(re.findall(rf"(?<![\w·'.-]){name}(?![\w'-])", text)) <= 3:
+            if len(re.findall(rf"(?<![\w·'.-]){name}(?![\w'-])", text)) <= 2:
                 found.append(f"{path.relative_to(root).as_posix()}: {match[1]}")
     return found
 
@@ -154,9 +154,9 @@ class House(unittest.TestCase):
         """Every definition and law is used, or stands for itself."""
         self.assertEqual(unreached(), [])
 
-    def test_needs(self):
-        """A need that the search closes stands in the list of its proof, and is no declaration of its own."""
-        self.assertEqual(declared_needs(common.ROOT), [])
+    def test_answers(self):
+        """A goal that the search closes has no answer."""
+        self.assertEqual(needless_answers(common.ROOT), [])
 
     def test_edits(self):
         self.assertEqual(unreached_edits(), [])
@@ -212,15 +212,17 @@ class CanFail(unittest.TestCase):
         return common.tree(self, {"crates/a/src/lib.rt": text})
 
     def test_imports(self):
-        root = self.source("use b::unused;\nuse b::used;\nfn f() { used() }\n")
-        self.assertEqual(all_unused(root), ["crates/a/src/lib.rt: unused"])
+        root = self.source("use b::unused;\nuse b::{\n    one,\n    used,\n};\nfn f() { used() }\n")
+        self.assertEqual(all_unused(root), ["crates/a/src/lib.rt: unused", "crates/a/src/lib.rt: one"])
+        root = common.tree(self, {"crates/a/proofs/A.antt": "use b.C.{◌+◌, ◌-◌, D.none, some, x as y}\n-- some\none : 1 + none\n"})
+        self.assertEqual(all_unused(root), [f"crates/a/proofs/A.antt: {name}" for name in ("◌-◌", "some", "x as y")])
 
     def test_unreached(self):
         """Of a crate with a claim, what it uses by name or by a sign is reached, and what only an unreached law uses is not."""
         root = common.tree(self, {
-            "README.md": "The claim is `main-law`.\n",
-            "crates/one/proofs/Small.antt": """_⊕_ : ℕ → ℕ
-_⊕_ n = n
+            "README.md": "The claim is `main_law`.\n",
+            "crates/one/proofs/Small.antt": """◌⊕◌ : ℕ → ℕ
+◌⊕◌ n = n
 
 pub helper : ℕ → ℕ
 helper n = n
@@ -228,30 +230,45 @@ helper n = n
 pub spare : ℕ → ℕ
 spare n = n
 """,
-            "crates/one/proofs/Theorem.antt": """use Rattle·one·proofs.proofs.Small.{_⊕_, helper, spare}
+            "crates/one/proofs/Theorem.antt": """use Rattle.one.proofs.Small.{◌⊕◌, helper, spare}
 
 module _ (n : ℕ) where
-  -- main-law uses no spare one
-  pub main-law : ℕ
-  main-law = ⊕ (helper n)
+  -- main_law uses no spare one
+  pub main_law : ℕ
+  main_law = ⊕ (helper n)
 
   unused : ℕ
   unused = spare n
 """,
+            "crates/one/proofs/f/Answers.antt": """use Rattle.one.proofs.Answered.{law}
+use Rattle.one.proofs.f.Goals as goal
+
+pub returns : goal.returns
+returns c = law
+
+pub left : ℕ
+left = law
+""",
+            "crates/one/proofs/Answered.antt": """pub law : ℕ
+law = 0
+""",
         })
-        self.assertEqual(unreached(root), ["crates/one/proofs/Small.antt:7: spare", "crates/one/proofs/Theorem.antt:8: unused"])
+        self.assertEqual(unreached(root), ["crates/one/proofs/Small.antt:7: spare", "crates/one/proofs/Theorem.antt:8: unused",
+                                           "crates/one/proofs/f/Answers.antt:7: left"])
 
-    def test_needs(self):
-        root = common.tree(self, {"crates/one/proofs/f/Proof.antt": """same-length : tie.Need-same-length
-same-length c = search needs
+    def test_answers(self):
+        root = common.tree(self, {"crates/one/proofs/f/Answers.antt": """use Rattle.one.proofs.f.Goals as goal
 
-returns : tie.Need-returns
-returns c = c .g .ensures
+pub same-length : goal.same-length
+same-length c = search rules
 
-pub f-spec : {M : Type 1} → statement M
-f-spec = tie.close (tie.spec same-length returns)
+pub cited : goal.cited
+cited c = search rules
+
+pub returns : goal.returns
+returns c = (cited c, c.g.ensures)
 """})
-        self.assertEqual(declared_needs(root), ["crates/one/proofs/f/Proof.antt: same-length"])
+        self.assertEqual(needless_answers(root), ["crates/one/proofs/f/Answers.antt: same-length"])
 
     def test_edits(self):
         root = common.tree(self, {
@@ -260,17 +277,20 @@ f-spec = tie.close (tie.spec same-length returns)
             "crates/theory/specs/Used.antt": "-- cited by a contract\n",
             "crates/theory/specs/Claimed.antt": "-- used by a claim\n",
             "crates/theory/specs/Alone.antt": "-- used by nothing\n",
-            "crates/theory/proofs/Claim.antt": "use Rattle·theory·specs.specs.Claimed.{x}\n",
-            "crates/library/src/lib.rt": "#[no_mangle]\nfn f() { parts::g() }\nghost use Rattle·other.specs.Far.{y};\n",
+            "crates/theory/proofs/Claim.antt": "use Rattle.theory.specs.Claimed.{x}\n",
+            "crates/library/src/lib.rt": "use crate::{\n    more::h,\n};\n#[unsafe(no_mangle)]\nfn f() { parts::g() }\n"
+                                         "ghost use Rattle.other.specs.Far.{y};\n",
             "crates/library/src/parts.rt": "fn g() {}\n",
-            "crates/library/proofs/parts/g/Proof.antt": "use Rattle·theory.specs.Used.{x}\n",
+            "crates/library/src/more.rt": "fn h() {}\n",
+            "crates/library/src/none.rt": "fn k() {}\n",
+            "crates/library/proofs/parts/g/Answers.antt": "use Rattle.theory.specs.Used.{x}\n",
             "crates/other/specs/Far.antt": "-- in a crate that the library does not stand on\n",
             **{f"crates/theory/must-fail/{name.lower()}.edit": f"file: specs/{name}.antt\nold: a\nnew: b\n"
                for name in ("Used", "Claimed", "Alone")},
             "crates/other/must-fail/far.edit": "file: specs/Far.antt\nold: a\nnew: b\n",
-            "crates/library/must-fail/parts.edit": "file: src/parts.rt\nold: a\nnew: b\n",
+            **{f"crates/library/must-fail/{name}.edit": f"file: src/{name}.rt\nold: a\nnew: b\n" for name in ("parts", "more", "none")},
         })
-        self.assertEqual(unreached_edits(root), ["other/far: specs/Far.antt", "theory/alone: specs/Alone.antt"])
+        self.assertEqual(unreached_edits(root), ["library/none: src/none.rt", "other/far: specs/Far.antt", "theory/alone: specs/Alone.antt"])
 
     def test_lengths(self):
         self.assertEqual(long_functions(self.source("fn f() {\n" + "g();\n" * (LONGEST - 2) + "}\n")), {})
