@@ -2,42 +2,65 @@
 // written, and says how a program is used.
 #![tactic(auto)]
 
-ghost use Rattle.numerals.specs.Numerals.{AtMost};
+ghost use Rattle.std.specs.Prelude.{◌≡◌, ◌<◌, length, take, true};
+ghost use Rattle.std.specs.Io.KnownBytes.{Consumes, IsAtEnd};
 ghost use Rattle.io.specs.Counts.{IsPrefixLen};
+ghost use Rattle.numerals.specs.Numerals.{AtMost};
 
 use image::IMAGE_LIMIT;
-use libc::{STDERR_FILENO, STDIN_FILENO, STDOUT_FILENO};
 use numerals::Numeral;
+use std::env::{Env, FillError};
+use std::io;
+use std::io::Read;
 
 // A byte more than the longest image, so that a longer one is seen to be too long.
 pub const IMAGE_CAPACITY: usize = IMAGE_LIMIT + 1;
 
+// The longest word that a program is called with: a longer one says no number and names no file.
+pub const WORD_CAPACITY: usize = 4096;
+
 // How many words a program without arguments is called with: its name.
-const OWN_NAME: usize = 1;
+pub const OWN_NAME: usize = 1;
 
 // How many bytes stand at the front of a buffer; and whether they are all that is to be used: the input ended there or fills the
 // buffer, and no read failed.
-#[derive(Clone, Copy)]
+#[derive(Drop)]
 pub struct Input {
     pub length: usize,
     pub whole: bool,
 }
 
-// Reads until the buffer is full, the input ends or a read fails: only a read that answers 0 is the end.
-pub fn read_whole(fd: i32, buf: &mut [u8]) -> Input
-    ensures { IsPrefixLen result.length buf.new }
+// Says on standard error what failed, and why.
+pub fn tell_failure(rt: &HostRuntime, what: &[u8], error: io::Error) {
+    let _ = rt.stderr().write_all(what);
+    let _ = eprintln!(rt; ": {error}");
+}
+
+// Reads until the buffer is full, the input ends or a read fails: only a read that answers 0 is the end. A read that fails is
+// reported under the input's name.
+pub fn read_whole<R: Read>(rt: &HostRuntime, name: &[u8], input: &mut R, buf: &mut [u8]) -> Input
+    ensures front { IsPrefixLen result.length buf.new }
+    ensures bytes { Consumes (R.remaining input.old) (R.remaining input.new) (take result.length buf.new) }
+    ensures whole { result.whole ≡ true → result.length < length buf.new → IsAtEnd (R.remaining input.new) }
 {
     let mut done: usize = 0;
     while done < buf.len() {
-        let got = libc::read(fd, &mut buf[done..]);
-        let more = io::count(got, &buf[done..]);
-        if more == 0 {
-            return Input {
-                length: done,
-                whole: got == 0,
-            };
+        match input.read(&mut buf[done..]) {
+            Ok(0) => {
+                return Input {
+                    length: done,
+                    whole: true,
+                };
+            }
+            Ok(more) => done += more,
+            Err(error) => {
+                tell_failure(rt, name, error);
+                return Input {
+                    length: done,
+                    whole: false,
+                };
+            }
         }
-        done += more;
     }
     Input {
         length: done,
@@ -46,72 +69,72 @@ pub fn read_whole(fd: i32, buf: &mut [u8]) -> Input
 }
 
 // Says how a program is used.
-pub fn tell_usage(usage: &[u8]) {
-    io::write_all(STDERR_FILENO, b"usage: ");
-    io::write_all(STDERR_FILENO, usage);
-    io::write_all(STDERR_FILENO, b"\n");
+pub fn tell_usage(rt: &HostRuntime, usage: &[u8]) {
+    let _ = eprint!(rt; "usage: ");
+    let _ = rt.stderr().write_all(usage);
+    let _ = eprintln!(rt; "");
 }
 
 // The image on standard input; a read that fails is reported.
-pub fn read_image(image: &mut [u8]) -> Input
+pub fn read_image(rt: &HostRuntime, image: &mut [u8]) -> Input
     ensures { IsPrefixLen result.length image.new }
 {
-    let input = read_whole(STDIN_FILENO, image);
-    if !input.whole {
-        os::fail(b"standard input");
+    read_whole(rt, b"standard input", &mut rt.stdin(), image)
+}
+
+// How many words the program is called with, its name included.
+pub fn word_count(rt: &impl Env) -> usize {
+    for i in 0..usize::MAX {
+        if let Err(FillError::NotPresent) = rt.arg(i, &mut []) {
+            return i;
+        }
     }
-    input
+    usize::MAX
 }
 
 // The same for a program without arguments; if it has some, it says how it is used.
-pub fn read_sole_image(usage: &[u8], image: &mut [u8]) -> Input
+pub fn read_sole_image(rt: &HostRuntime, usage: &[u8], image: &mut [u8]) -> Input
     ensures { IsPrefixLen result.length image.new }
 {
-    if os::arg_count() != OWN_NAME {
-        tell_usage(usage);
+    if word_count(rt) != OWN_NAME {
+        tell_usage(rt, usage);
         return Input {
             length: 0,
             whole: false,
         };
     }
-    read_image(image)
+    read_image(rt, image)
 }
 
 // The number that argument i says, if it is at most `most` and the program is called with this number of words, its name included.
-pub fn argument(i: usize, words: usize, most: u32) -> Numeral
+pub fn argument(rt: &impl Env, i: usize, words: usize, most: u32) -> Numeral
     ensures { AtMost most result }
 {
-    if os::arg_count() != words {
+    if word_count(rt) != words {
         return Numeral::NoNumber;
     }
-    let mut digits = io::buffer();
-    let length = os::arg(i, &mut digits);
-    numerals::number_of(&digits[..length], most)
+    let mut digits = [0u8; WORD_CAPACITY];
+    match rt.arg(i, &mut digits) {
+        Ok(length) => numerals::number_of(&digits[..length], most),
+        Err(_) => Numeral::NoNumber,
+    }
 }
 
 // All that a program answers, on standard output.
-pub fn write_out(bytes: &[u8]) {
-    if !io::write_all(STDOUT_FILENO, bytes) {
-        os::fail(b"standard output");
+pub fn write_out(rt: &HostRuntime, bytes: &[u8]) {
+    if let Err(error) = rt.write_all(bytes) {
+        tell_failure(rt, b"standard output", error);
     }
-}
-
-fn tell_refusal(number: u16, place: usize) {
-    io::write_all(STDERR_FILENO, b"refused ");
-    io::print_decimal(STDERR_FILENO, number as u64);
-    io::write_all(STDERR_FILENO, b" ");
-    io::print_decimal(STDERR_FILENO, place as u64);
-    io::write_all(STDERR_FILENO, b"\n");
 }
 
 // An image that was written, on standard output; or `refused N PLACE` on standard error. No image is longer than its output
 // (`card11`, `card12`, `card13_written`); the test says it where the bytes are lent.
-pub fn write_image(out: &[u8], end: usize, number: u16, place: usize) {
+pub fn write_image(rt: &HostRuntime, out: &[u8], end: usize, number: u16, place: usize) {
     if number != 0 {
-        tell_refusal(number, place);
+        let _ = eprintln!(rt; "refused {number} {place}");
         return;
     }
     if end <= out.len() {
-        write_out(&out[..end]);
+        write_out(rt, &out[..end]);
     }
 }

@@ -1,2 +1,0 @@
--- How much of a buffer is counted.
-pub mod Counted
