@@ -106,6 +106,13 @@ cargo_in() {
     cargo "$2" --manifest-path "$1/Cargo.toml" "${@:3}"
 }
 
+# The crates below a folder, in the layout that rt ci asks for; rattle stands beside rt.
+laid_out_in_rattle() {
+    local rattle
+    rattle=$(dirname "$(readlink -f "$(command -v rt)")")/rattle
+    find "$1/crates" -name out -prune -o \( -name '*.rt' -o -name '*.antt' \) -print0 | sort -z | xargs -0 "$rattle" fmt --check
+}
+
 laid_out() {
     local folder
     for folder in $rust; do
@@ -141,7 +148,7 @@ if [ -n "$all" ]; then
     tail -n 1 "$out/said"
 fi
 if command -v rt >/dev/null; then
-    try "the Rattle code: layout" rt fmt --check
+    try "the Rattle code: layout" laid_out_in_rattle .
 else
     echo "skipped the layout of the Rattle code: rt is not installed"
 fi

@@ -1,6 +1,7 @@
 """What keeps the house: nothing is imported and not used, every edit changes something that counts, functions are short and take
 few parameters, numbers have names, the gate runs in one locale, and tools/test.sh runs all of it. Each check takes a root;
 the second half of this file shows that each can fail."""
+import os
 import re
 import shutil
 import subprocess
@@ -16,14 +17,13 @@ from unused_imports import all_unused
 # and a reason. The list may only become shorter.
 LONGEST = 40
 LONG = {
-    ("bukzarn", "bukzarn_run_frames"): (53, "the arguments of its three calls, a line each"),
+    ("bukzarn", "bukzarn_run_frames"): (44, "the arguments of its three calls, a line each"),
     ("engine_frames", "run_each"): (43, "ten lent slices and numbers, a line each, as parameters and again in the call"),
     ("check_dispatch", "check_rule"): (42, "an arm for each kind"),
     ("check_layout", "enter"): (55, "twelve parameters, a line each; refusals 3 to 8 in their order, and a way out for each"),
     ("check_layout", "scan_with"): (53, "the loop over the records; its proof is by hand, and a part of it would need another"),
     ("check_scopes", "child_setting"): (42, "an arm for each kind that has a child under other variables or at another domain"),
     ("check_typing", "check_subterms"): (52, "nine arguments of two calls, a line each"),
-    ("engine", "run"): (48, "the arguments of its three calls, a line each"),
     ("need_rows", "add_pieces"): (44, "a recursion over the children, whose visit has six parts"),
     ("need_walk", "walk"): (45, "a recursion over the children: the sum, the dearer branch, the place of each child"),
     ("vm_dispatch", "first_of"): (147, "an arm for each class, so that one jump leads to what is to be done"),
@@ -180,10 +180,13 @@ class House(unittest.TestCase):
         self.assertEqual(sorted(numbers_without_names(common.ROOT)), sorted(allowed))
 
     def test_the_gate(self):
-        """With gawk in another locale the kit's `rt` hides its lines."""
+        """The gate is rt's own over the whole checkout, in one locale; it copies, removes and leaves out nothing before."""
         gate = (common.ROOT / ".ci" / "run").read_text(encoding="utf-8")
-        self.assertIn("export LC_ALL=C\n", gate)
-        self.assertRegex(gate.strip().splitlines()[-1], r"\bexec rt ci$")
+        before, _, _ = gate.partition('\nrt ci | tee "$said"\n')
+        self.assertNotEqual(before, gate)
+        lines = [line for line in before.splitlines() if not line.startswith("#")]
+        self.assertEqual(lines, ["export LC_ALL=C", 'cd "$(dirname "$0")/.." || exit 2', "said=$(mktemp) || exit 2",
+                                 """trap 'rm -f "$said"' EXIT"""])
 
     def test_one_layout(self):
         """One rustfmt.toml and one .editorconfig, in the repository's root; no script in tools/ but those of the list."""
@@ -201,7 +204,7 @@ class House(unittest.TestCase):
         files = subprocess.run(command, cwd=common.ROOT, capture_output=True, text=True, check=True)
         folders = {name.rpartition("/")[0] for name in files.stdout.split() if not name.startswith("bench/plain/")}
         self.assertEqual(set(re.search(r'^rust="([^"]*)"$', script, re.M)[1].split()), folders)
-        for call in ("rt fmt --check", ".ci/run", "tools/house/unreached.py"):
+        for call in ("laid_out_in_rattle .", ".ci/run", "tools/house/unreached.py"):
             self.assertIn(call, script)
 
 
@@ -319,8 +322,27 @@ returns c = (cited c, c.g.ensures)
             self.skipTest("rt is not installed")
         for text, status in (("pub fn f() -> u8 {\n    1\n}\n", 0), ("pub fn f() -> u8 { 1\n}\n", 1)):
             root = common.tree(self, {"crates.txt": "a:\n", "crates/a/src/lib.rt": text})
-            said = subprocess.run(["rt", "fmt", "--check"], cwd=root, capture_output=True, text=True, check=False)
+            command = ["bash", "-c", f"source {common.ROOT}/tools/test.sh; laid_out_in_rattle {root}"]
+            said = subprocess.run(command, capture_output=True, text=True, check=False)
             self.assertEqual(said.returncode != 0, status != 0, said.stdout + said.stderr)
+
+    def test_the_gate(self):
+        """The gate fails where rt ci does, and where an edit is bad; its last line has the numbers."""
+        done = "; done in this run: 2 of the 2 proofs (of crates and of their tests)"
+        for said, ends, status, last in (
+                ("rt: ok; handles allowed: none; must-fail edits: 2 refused" + done, 0, 0, "4 passed, 0 failed"),
+                ("rt: ok; handles allowed: none" + done, 0, 0, "4 passed, 0 failed"),
+                ("rt: FAILED: a", 1, 1, "4 passed, 0 failed"),
+                ("rt: ok; handles allowed: none; must-fail edits: 2 refused, 1 of them only by a limit, 3 bad" + done, 0, 1, "4 passed, 3 failed"),
+                ("rt: ok; handles allowed: none; must-fail edits: 0 refused, 12 bad" + done, 0, 1, "4 passed, 12 failed")):
+            rt = f"#!/bin/sh\n[ \"$*\" = ci ] && [ -f crates.txt ] || exit 9\necho '{said}'\necho '4 passed, 0 failed'\nexit {ends}\n"
+            root = common.tree(self, {"crates.txt": "a:\n", "bin/rt": rt})
+            (root / ".ci").mkdir()
+            shutil.copy(common.ROOT / ".ci/run", root / ".ci/run")
+            (root / "bin/rt").chmod(0o755)
+            path = f"{root}/bin:{os.environ['PATH']}"
+            ran = subprocess.run([root / ".ci/run"], cwd="/", env={**os.environ, "PATH": path}, capture_output=True, text=True, check=False)
+            self.assertEqual((ran.returncode, ran.stdout.splitlines()[-1]), (status, last), said + ran.stderr)
 
     def test_warnings_of_rust(self):
         if not shutil.which("cargo-clippy"):
