@@ -13,17 +13,17 @@ IN_COMMENTS = {"ASCII", "MIR", "PLACE", "antt", "rt"} | {"new_p", "new_q", "ref_
 
 # Where words of document 01's own are defined: a comment there says whose word it is. By crate, the file and its definitions.
 OWN_WORDS = {
-    "calculus/specs/State.antt": ("record Cell", "record Counts", "somePieces :", "onePiece :"),
-    "calculus/specs/Plain.antt": ("isPlain :",),
-    "calculus/specs/Limits.antt": ("pieceLimit :", "leafLimit :"),
+    "calculus/specs/State.antt": ("record Cell", "record Counts", "some_pieces :", "one_piece :"),
+    "calculus/specs/Plain.antt": ("is_plain :",),
+    "calculus/specs/Limits.antt": ("piece_limit :", "leaf_limit :"),
     "calculus/specs/Reduce.antt": ("pub piece :",),
     "calculus/specs/Blank.antt": ("pub body :",),
-    "calculus_needs/specs/Needs.antt": ("aPiece :",),
-    "calculus_noninterference/specs/Observe.antt": ("record Shown", "highOf :"),
-    "calculus_rules_needed/specs/Need.antt": ("isHigh :",),
-    "image/specs/Program.antt": ("isLow :",),
+    "calculus_needs/specs/Needs.antt": ("a_piece_of :",),
+    "calculus_noninterference/specs/Observe.antt": ("record Shown", "high_of :"),
+    "calculus_rules_needed/specs/Need.antt": ("is_high :",),
+    "image/specs/Program.antt": ("is_low :",),
     "image_needs/src/lib.rt": ("struct Needs",),
-    "vm_machine/specs/Memory.antt": ("pieceFirst :",),
+    "vm_machine/specs/Memory.antt": ("piece_first :",),
     "vm_pools/src/lib.rt": ("struct Pools",),
     "vm_registers/src/pieces.rt": ("// Pieces",),
 }
@@ -85,9 +85,9 @@ class CanFail(unittest.TestCase):
         texts = {f"crates/{file}": "\n\n".join(said + name for name in names) for file, names in OWN_WORDS.items()}
         root = common.tree(self, texts)
         self.assertEqual(without_their_word(root), [])
-        plain = "-- plain\nisPlain :\n\n-- document 01's word\nother :\n"
+        plain = "-- plain\nis_plain :\n\n-- document 01's word\nother :\n"
         (root / "crates/calculus/specs/Plain.antt").write_text(plain, encoding="utf-8")
-        self.assertEqual(without_their_word(root), ["calculus/specs/Plain.antt: isPlain :"])
+        self.assertEqual(without_their_word(root), ["calculus/specs/Plain.antt: is_plain :"])
 
 
 if __name__ == "__main__":

@@ -14,8 +14,8 @@ PAGE = (common.ROOT / "docs/FORMAT.md").read_text(encoding="utf-8")
 HEAD, LONG = 4, 4
 
 # What the fields of specs/Kinds.antt are called here, and the letters of the tool's table that stand for the same.
-FIELDS = {"a-type": "type", "a-domain": "domain", "a-child": "term", "a-term": "term", "an-op": "op", "a-truth": "truth",
-          "an-entry": "entry", "free": "any"}
+FIELDS = {"a_type": "type", "a_domain": "domain", "a_child": "term", "a_term": "term", "an_op": "op", "a_truth": "truth",
+          "an_entry": "entry", "free": "any"}
 LETTERS = {"a": ["type"], "t": ["type"], "p": ["domain"], "e": ["term"], "o": ["op"], "v": ["truth"], "c": ["truth"],
            "x": ["entry"], "m": ["any"], "k": ["any"], "i": ["any"], "n": ["any", "any"]}
 
@@ -45,14 +45,14 @@ def offsets(letters, start=HEAD):
 
 def fields_of(part):
     """The fields of a list in specs/Kinds.antt."""
-    return [FIELDS[word] for word in re.findall(r"a-type|a-domain|a-child|a-term|an-op|a-truth|an-entry|free", part)]
+    return [FIELDS[word] for word in re.findall(r"a_type|a_domain|a_child|a_term|an_op|a_truth|an_entry|free", part)]
 
 
 def defined():
     """Of each kind in specs/Kinds.antt: its first fields, its group with the least and the most, and its last fields."""
     source = (common.ROOT / "crates/image/specs/Kinds.antt").read_text(encoding="utf-8")
     limits, found = constants("image", "Limits.antt"), {}
-    for number, fields in re.findall(r"^(?:domainRow|\w+Row \w+\.\w+) = row (\d+) (.*)$", source, re.M):
+    for number, fields in re.findall(r"^(?:domain_row|\w+_row\w* \w+\.\w+) = row (\d+) (.*)$", source, re.M):
         found[int(number)] = (fields_of(fields), [], 0, 0, [])
     rows = re.findall(r"number = (\d+); first = (.*?); group = (.*?); least = (\d+); most = (\w+); last = (.*?) }", source)
     for number, first, group, least, most, last in rows:
@@ -101,10 +101,10 @@ class Format(unittest.TestCase):
         rows = re.findall(r"^\| (\d+) ([a-z ]+) \| (\d+)[^|]*\|", section("The log") + section("The report"), re.M)
         listed = {name: (int(kind), int(length)) for kind, name, length in rows}
         written = constants("report", "Written.antt")
-        leaves = cases("calculus", "Report.antt", "leafKind", "Leaf")
+        leaves = cases("calculus", "Report.antt", "leaf_kind", "Leaf")
         self.assertEqual({name: kind for name, (kind, _) in listed.items()},
-                         {"printed": constants("base_bytes", "Records.antt")["logKind"], "report": written["reportKind"],
-                          "plain cell": written["plainCellKind"], "other cell": written["otherCellKind"],
+                         {"printed": constants("base_bytes", "Records.antt")["log_kind"], "report": written["report_kind"],
+                          "plain cell": written["plain_cell_kind"], "other cell": written["other_cell_kind"],
                           **{name.lower(): kind for name, kind in leaves.items()}})
         self.assertEqual({kind: length for kind, length in listed.values() if kind in report.LEAVES}, report.LEAVES)
         self.assertEqual([listed[name] for name in ("printed", "report")], [(report.LOG, report.LOG_LENGTH), (report.REPORT, 10)])

@@ -38,12 +38,12 @@ def constants(crate, module):
 
 def rows(data):
     """The numbers of the kinds of a section, in the order of the table."""
-    found = re.findall(rf"^\w+Row {data}\.(\w+) = [^\n]*?(\d+)", text("crates", "image", "specs", "Kinds.antt"), re.M)
+    found = re.findall(rf"^\w+_row\w* {data}\.(\w+) = [^\n]*?(\d+)", text("crates", "image", "specs", "Kinds.antt"), re.M)
     return {name: int(number) for name, number in found}
 
 
 def upper(name):
-    """ImageTooLong and imageLimit as the header writes them."""
+    """ImageTooLong and image_limit as the header writes them."""
     return re.sub(r"(?<=[a-z])(?=[A-Z])", "_", name).upper()
 
 
@@ -125,12 +125,12 @@ def papers_numbers():
     """The limits from 16 on, and what follows from them: places of tables and scopes, lengths, places of a word's fields."""
     run, image = constants("calculus", "Limits.antt"), constants("image", "Limits.antt")
     memory = constants("base_bytes", "Memory.antt")
-    tables = re.findall(r"^(\w+(?:Places|Base|Binding)) = (.+)$", text("crates", "vm_machine", "specs", "Memory.antt"), re.M)
+    tables = re.findall(r"^(\w+_(?:places|base|binding)) = (.+)$", text("crates", "vm_machine", "specs", "Memory.antt"), re.M)
     numbers = {*run.values(), *image.values(), *memory.values(), *worked_out(tables, run | image | memory).values()}
-    terms, depth = image["termLimit"], image["depthLimit"]
-    numbers |= {terms + 1, image["imageLimit"] + 1, depth * (image["entryLimit"] + 1)}
+    terms, depth = image["term_limit"], image["depth_limit"]
+    numbers |= {terms + 1, image["image_limit"] + 1, depth * (image["entry_limit"] + 1)}
     place = 1
-    for size in (256, 8, image["domainLimit"], terms, 2 * terms, 2 * terms, depth):
+    for size in (256, 8, image["domain_limit"], terms, 2 * terms, 2 * terms, depth):
         place *= size
         numbers.add(place)
     return {n for n in numbers if n >= 16}
@@ -146,14 +146,14 @@ class Numerals(unittest.TestCase):
     def test_the_list(self):
         """The numbers that are looked for: limits as they are, sums of them, a product, the place of a word's last field."""
         run, image = constants("calculus", "Limits.antt"), constants("image", "Limits.antt")
-        meant = {run["labelLimit"], run["frameLimit"] + 1, 2 * run["bindingLimit"] - 1, image["workLength"], image["reportLength"],
-                 constants("base_bytes", "Memory.antt")["wordCount"], 9 * image["depthLimit"], image["termLimit"] + 1, 1 << 53}
+        meant = {run["label_limit"], run["frame_limit"] + 1, 2 * run["binding_limit"] - 1, image["work_length"], image["report_length"],
+                 constants("base_bytes", "Memory.antt")["word_count"], 9 * image["depth_limit"], image["term_limit"] + 1, 1 << 53}
         self.assertLessEqual(meant, papers_numbers())
-        self.assertGreater(image["workLength"], 8 * image["termLimit"])
+        self.assertGreater(image["work_length"], 8 * image["term_limit"])
 
     def test_limits_in_rattle(self):
         """Each limit has the same number under the same name in specs/ and in Rattle."""
-        for crate, apart in (("calculus", {"minusOne"}), ("image", set())):
+        for crate, apart in (("calculus", {"minus_one"}), ("image", set())):
             said = {upper(name): n for name, n in constants(crate, "Limits.antt").items() if name not in apart}
             self.assertGreater(len(said), 8)
             self.assertEqual({name: n for name, n in rattle(crate).items() if name in said}, said)
@@ -186,7 +186,7 @@ class Numbers(unittest.TestCase):
         self.assertEqual({upper(n): v for n, v in numbers.items()}, {n: v for n, v in header().items() if n in map(upper, numbers)})
 
     def test_outcomes(self):
-        numbers = cases("calculus", "Report.antt", "outcomeNumber", "Outcome")
+        numbers = cases("calculus", "Report.antt", "outcome_number", "Outcome")
         self.assertEqual(sorted(numbers.values()), list(range(len(numbers))))
         self.assertEqual(rust("outcome.rs"), numbers)
         words = [upper(name).lower().replace("_", "-") for name in sorted(numbers, key=numbers.get)]
@@ -230,15 +230,15 @@ class Numbers(unittest.TestCase):
         self.assertEqual(list(in_rust), list(outcomes.WORDS))
         for word, limit in named.items():
             for sentence in (outcomes.sentence(outcomes.number(word), 0), in_rust[word]):
-                self.assertIn(f"{limits[limit + 'Limit']:,} ", sentence)
+                self.assertIn(f"{limits[limit + '_limit']:,} ", sentence)
 
     def test_needs(self):
         """What a flight will need is told beside the limits, in the order of the program `need`, which is that of the
         struct that the library answers."""
         room = constants("calculus", "Limits.antt")
         for word, limit in needs.ROOMS.items():
-            self.assertEqual(limit, room[word.removeprefix("other-").removesuffix("s") + "Limit"], word)
-        self.assertEqual(needs.LOG_RECORD, room["logRecordLength"])
+            self.assertEqual(limit, room[word.removeprefix("other-").removesuffix("s") + "_limit"], word)
+        self.assertEqual(needs.LOG_RECORD, room["log_record_length"])
         named = re.findall(r"^const (\w+): \w+ = ([\d_]+);", text("bindings", "rust", "src", "needs.rs"), re.M)
         self.assertEqual({name: int(n) for name, n in named},
                          {upper(name): n for name, n in room.items() if upper(name) in dict(named)})
@@ -251,21 +251,21 @@ class Numbers(unittest.TestCase):
         self.assertEqual([word.lower() for word in re.findall(r"BUKZARN_NEED_(\w+)", places)], fields)
 
     def test_refusals(self):
-        causes = cases("image", "Refusals.antt", "refusalNumber", "Refusal")
-        causes["OutsideClass"] = cases("image_needs", "Forecasts.antt", "forecastNumber", "Forecast")["OutsideClass"]
-        causes["ShortOutput"] = constants("write_fixed", "Calls.antt")["shortOutput"]
+        causes = cases("image", "Refusals.antt", "refusal_number", "Refusal")
+        causes["OutsideClass"] = cases("image_needs", "Forecasts.antt", "forecast_number", "Forecast")["OutsideClass"]
+        causes["ShortOutput"] = constants("write_fixed", "Calls.antt")["short_output"]
         load = constants("write_load", "Loads.antt")
-        causes |= {"WrongDepth": load["wrongDepth"], "ShortLoad": load["shortLoad"]}
+        causes |= {"WrongDepth": load["wrong_depth"], "ShortLoad": load["short_load"]}
         stripped = constants("write_stripped", "Calls.antt")
-        causes |= {"WrongSet": stripped["wrongSetNumber"], "ShortStrippedOutput": stripped["shortOutput"]}
-        causes["TooFewPlaces"] = constants("answers_as_numbers", "Forecasts.antt")["tooFewPlaces"]
+        causes |= {"WrongSet": stripped["wrong_set_number"], "ShortStrippedOutput": stripped["short_output"]}
+        causes["TooFewPlaces"] = constants("answers_as_numbers", "Forecasts.antt")["too_few_places"]
         self.assertEqual(rust("refusal.rs"), causes)
         self.assertEqual(sorted(refusals.REFUSALS), sorted(causes.values()))
         self.header_has(causes)
 
     def test_lengths(self):
         limits = constants("image", "Limits.antt")
-        lengths = {name: limits[name] for name in ("imageLimit", "workLength", "reportLength")}
+        lengths = {name: limits[name] for name in ("image_limit", "work_length", "report_length")}
         self.header_has(lengths)
         for name, length in lengths.items():
             self.assertIn(f"pub const {upper(name)}: usize = {length:_};", text("bindings", "rust", "src", "lib.rs"))
@@ -275,25 +275,25 @@ class Numbers(unittest.TestCase):
         numbers = constants("image_written", "Generated.antt")
         self.assertEqual(
             (generated.MULTIPLIER, generated.INCREMENT, generated.DIVISOR, generated.DEPTH_LIMIT),
-            tuple(numbers[name] for name in ("drawMultiplier", "drawIncrement", "drawDivisor", "loadDepthLimit")))
-        self.header_has({"loadLength": numbers["loadLength"], "loadDepth": numbers["loadDepthLimit"]})
+            tuple(numbers[name] for name in ("draw_multiplier", "draw_increment", "draw_divisor", "load_depth_limit")))
+        self.header_has({"load_length": numbers["load_length"], "load_depth": numbers["load_depth_limit"]})
         load = text("bindings", "rust", "src", "load.rs")
-        self.assertIn(f"pub const LOAD_LENGTH: usize = {numbers['loadLength']:_};", load)
-        self.assertIn(f"pub const LOAD_DEPTH: usize = {numbers['loadDepthLimit']};", load)
+        self.assertIn(f"pub const LOAD_LENGTH: usize = {numbers['load_length']:_};", load)
+        self.assertIn(f"pub const LOAD_DEPTH: usize = {numbers['load_depth_limit']};", load)
 
     def test_limits(self):
         limits = constants("image", "Limits.antt")
         self.assertEqual(
             (kinds.IMAGE_LIMIT, kinds.DOMAIN_LIMIT, kinds.TYPE_LIMIT, kinds.TERM_LIMIT, kinds.DEPTH_LIMIT,
              kinds.LABEL_LIMIT, kinds.METHOD_LIMIT, kinds.ENTRY_LIMIT),
-            tuple(limits[name] for name in ("imageLimit", "domainLimit", "typeLimit", "termLimit", "depthLimit",
-                                            "pointcutLimit", "methodLimit", "entryLimit")))
-        self.assertEqual(kinds.LEAF_LIMIT, constants("calculus", "Limits.antt")["leafLimit"])
+            tuple(limits[name] for name in ("image_limit", "domain_limit", "type_limit", "term_limit", "depth_limit",
+                                            "pointcut_limit", "method_limit", "entry_limit")))
+        self.assertEqual(kinds.LEAF_LIMIT, constants("calculus", "Limits.antt")["leaf_limit"])
 
     def test_records_of_log_and_report(self):
-        leaves = cases("calculus", "Report.antt", "leafKind", "Leaf")
+        leaves = cases("calculus", "Report.antt", "leaf_kind", "Leaf")
         self.header_has(leaves)
-        self.assertEqual(header()["PRINTED"], constants("base_bytes", "Records.antt")["logKind"])
+        self.assertEqual(header()["PRINTED"], constants("base_bytes", "Records.antt")["log_kind"])
 
     def test_kinds(self):
         types, terms = rows("TypeKind"), rows("TermKind")

@@ -49,7 +49,7 @@ no_more_left u n = record { bindings = omega arith; cells = omega arith; pieces 
 pub no_more_right : (n u : Counts) → NoMore (add_counts n u) u
 no_more_right n u = record { bindings = omega arith; cells = omega arith; pieces = omega arith }
 
--- The bindings of the other domains, as mainline-both and mainline-alone below.
+-- The bindings of the other domains, as mainline_both and mainline_alone below.
 pub others_both : (a a' : Advice Tm) (x x' : List (Advice Tm)) (b b' : Bool) → b ≡ b' → a.dom ≡ a'.dom → NoMore (advice_bindings x).others (advice_bindings x').others → NoMore (advice_bindings (choose b (a ∷ x) x)).others (advice_bindings (choose b' (a' ∷ x') x')).others
 others_both a a' x x' true true e d r = no_more_add (no_more_same (ap (λ q. (at_dom q (some_bindings 1)).others) d)) r
 others_both a a' x x' true false e d r = clash refl e

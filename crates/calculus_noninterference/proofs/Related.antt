@@ -93,7 +93,7 @@ module _ (hi : Dom → Bool) where
         r_adv : {p : Dom} {e e' b b' : Tm} → RelT e e' → RelL p b b' → RelT (adv p e b) (adv p e' b')
         r_lower : {p : Dom} {e e' : Tm} → RelL p e e' → RelT (lower p e) (lower p e')
         r_obj : {t : Ty} {bs bs' : Tms} → RelBs (methods_of t) bs bs' → RelT (obj t bs) (obj t bs')
-        -- an object that has been put back as a value, as a function in r-val-lam and r-lam-val
+        -- an object that has been put back as a value, as a function in r_val_lam and r_lam_val
         r_val_obj : {t : Ty} {bs bs' : Tms} → ClosedBodies bs' → RelV (Val.object t bs) (Val.object t bs') → RelT (val (Val.object t bs)) (obj t bs')
         r_obj_val : {t : Ty} {bs bs' : Tms} → ClosedBodies bs → RelV (Val.object t bs) (Val.object t bs') → RelT (obj t bs) (val (Val.object t bs'))
         r_keep : {e e' f f' g g' : Tm} → RelT e e' → RelT f f' → RelT g g' → RelT (keep e f g) (keep e' f' g')

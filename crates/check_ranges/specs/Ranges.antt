@@ -5,7 +5,7 @@ use Rattle.calculus.specs.Combinators.{choose}
 use Rattle.read_records.specs.declared.numbers.Counts.{Counts}
 use Rattle.read_records.specs.Heads.{field_in}
 
--- A field of the class c (classNumber of the crate read_records), behind so many records: the number of a type or of a domain that is there, an operation, one of the 2 truths, any number, the number of a term that is there, or an entry.
+-- A field of the class c (class_number of the crate read_records), behind so many records: the number of a type or of a domain that is there, an operation, one of the 2 truths, any number, the number of a term that is there, or an entry.
 abbrev pub in_class : Counts → ℕ → ℕ → Bool
 in_class n c v =
     choose (eqb c 0) (ltb v n.types)

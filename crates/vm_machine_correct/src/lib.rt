@@ -1,2 +1,2 @@
-// The machine over words makes the calculus's runs: the theorem vm-runs, in proofs/.
+// The machine over words makes the calculus's runs: the theorem vm_runs, in proofs/.
 #![tactic(auto)]

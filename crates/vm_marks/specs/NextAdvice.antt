@@ -1,4 +1,4 @@
--- Parts of the definitions of bindOne and nextAdvice (crate vm_machine, specs/Reduce.antt).
+-- Parts of the definitions of bind_one and next_advice (crate vm_machine, specs/Reduce.antt).
 use Rattle.std.specs.Prelude.{ℕ, ◌+◌, ◌-◌, ◌%◌, ltb}
 use Rattle.calculus.specs.Combinators.{choose}
 use Rattle.vm_code.specs.Values.{unit_value}
