@@ -5,7 +5,7 @@ import unittest
 
 import common
 
-WORD = re.compile(r"[A-Za-z][\w-]*[\w₀-₉′]")
+WORD = re.compile(r"[A-Za-z][\w-]*[\w₀-₉']")
 
 # Names in comments of the crates that are no names of the code: of the paper, of other programs, of what is printed.
 IN_COMMENTS = {"ASCII", "MIR", "PLACE", "antt", "rt"} | {"new_p", "new_q", "ref_p", "ref_q", "m_i", "e_i"}
@@ -49,7 +49,7 @@ def stale_comments(root):
         sign = "//" if file.suffix == ".rt" else "--"
         for line in file.read_text(encoding="utf-8").splitlines():
             before, found, comment = re.match(rf"(.*?)(?:(?:^|(?<=\s))({sign})(\s.*|$)|$)", line).groups()
-            code.update(WORD.findall(before))
+            code.update(WORD.findall(before), (word.rstrip("'") for word in WORD.findall(before)))
             if found:
                 comments.append((file.relative_to(root), comment))
     stale = []

@@ -20,7 +20,10 @@ PATH discover parallel year IMAGE""".split())
 # Paths of the kit, and patterns.
 PATHS_FROM_ELSEWHERE = {"docs/START-HERE.md", "crates/NAME/must-fail", "crates/CRATE/must-fail/LABEL.edit"}
 
-WORD = re.compile(r"[A-Za-z][\w-]*[\w₀-₉′]")
+# Folders whose files have the names before the port.
+FORMER = ("tools/port/", "prepared/")
+
+WORD = re.compile(r"[A-Za-z][\w-]*[\w₀-₉']")
 
 def pages():
     """The pages with their texts."""
@@ -83,18 +86,19 @@ def wrong_counts(text, counts):
 
 @functools.cache
 def words_of_the_tree():
-    """Every word of the sources, and the names of all files and folders, but for the documents."""
+    """Every word of the sources, and the names of all files and folders, but for the documents and what has the names before."""
     words = set()
     command = ["git", "ls-files", "-co", "--exclude-standard"]
     listed = subprocess.run(command, cwd=common.ROOT, capture_output=True, text=True, check=True).stdout
     for name in listed.splitlines():
         path = common.ROOT / name
-        if name.endswith(".md") or not path.is_file():
+        if name.endswith(".md") or name.startswith(FORMER) or not path.is_file():
             continue
         for part in path.relative_to(common.ROOT).parts:
             words.update((part, part.split(".")[0]))
         try:
-            words.update(re.findall(r"[A-Za-z][\w-]*[\w₀-₉′]", path.read_text(encoding="utf-8")))
+            found = WORD.findall(path.read_text(encoding="utf-8"))
+            words.update(found, (word.rstrip("'") for word in found))
         except UnicodeDecodeError:
             pass
     return words

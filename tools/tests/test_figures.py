@@ -6,7 +6,7 @@ import common
 
 PAGE = common.ROOT / "docs/FIGURES.md"
 LINK = re.compile(r"\]\(\.\./([^)]+)\)")
-NAME = re.compile(r"[A-Za-z][\w-]*[\w₀-₉′]|[A-Za-z]")
+NAME = re.compile(r"[A-Za-z][\w-]*[\w₀-₉']|[A-Za-z]")
 
 
 def misplaced(text, root):
@@ -40,9 +40,9 @@ class Figures(unittest.TestCase):
     def test_every_rule_is_named(self):
         """Each rule of figures 2 and 3, each reduction and each field of `Acceptable` stands in some row."""
         text = PAGE.read_text(encoding="utf-8")
-        for file, rule in (("calculus/specs/Typing.antt", r"^ +([vt]-\w+|is-\w+|no-\w+|a-\w+|p-\w+|has-\w+) :"),
+        for file, rule in (("calculus/specs/Typing.antt", r"^ +([vt]_\w+|is_\w+|no_\w+|a_\w+|p_\w+|has_\w+) :"),
                            ("calculus/specs/Reduce.antt", r"^abbrev pub (reduce\w+) :"),
-                           ("verdict/specs/Acceptable.antt", r"^  pub ([a-z-]+) : (?!Layout)")):
+                           ("verdict/specs/Acceptable.antt", r"^  pub ([a-z_]+) : (?!Layout)")):
             names = set(re.findall(rule, (common.ROOT / "crates" / file).read_text(encoding="utf-8"), re.M))
             self.assertGreater(len(names), 8, file)
             self.assertEqual(sorted(name for name in names - {"image"} if f"`{name}`" not in text), [], file)

@@ -1,6 +1,6 @@
 -- For a walk of MIR by hand, over many locals: parts of MIR that the generated modules have under no name, and a context that has each local beside its `fdies`. It says nothing of the crate.
---     after-all n b    the body b without its first n statements
---     arm-of n b       arm n of the switch b
+--     after_all_lem n b the body b without its first n statements
+--     arm_of n b       arm n of the switch b
 --     no, has          a local that is empty, and one that holds a value, each beside its `fdies`
 --     slot k i         where local i stands in a context of k entries, then the locals from 0 on
 --     frees_all        all locals are freed at once, beside one entry
