@@ -15,7 +15,7 @@ use Rattle.calculus.specs.Place.{Place, framed}
 use Rattle.calculus.specs.Limits.{label_limit, frame_limit}
 use Rattle.closure_machine.specs.Closure.{CVal, CState, unload_val}
 use Rattle.closure_machine.specs.Machine.{eval, ret, keep_r, keep_f, Stack, reduces, move}
-use Rattle.vm_theory.specs.Code.{is_atom, atom_of, entry}
+use Rattle.vm_theory.specs.Code.{is_atom, atom_of}
 use Rattle.vm_theory.specs.Conf.{Site, keep_a, Chain, Slots, base, kept_by, depth_at, dom_at, body, begin}
 use Rattle.vm_theory.specs.Stands.{stack_at}
 use Rattle.vm_theory.specs.Table.{to, is_atom_at}

@@ -1,5 +1,5 @@
 -- The children of a pointcut: atoms are taken in place, up to the first that is none.
-use Prim.Native.Nat.{ℕ, zero, suc, ◌-◌, ◌%◌, ◌≤◌, ◌<◌}
+use Prim.Native.Nat.{ℕ, zero, suc, ◌%◌, ◌≤◌, ◌<◌}
 use native.Mathlib.Omega.{arith}
 use mathlib.Core.Path.{◌≡◌, refl, sym, subst, ◌∙◌}
 use mathlib.Core.Bool.{Bool, true, false}
@@ -10,7 +10,7 @@ use Rattle.calculus.specs.Syntax.{Dom, Tm, Tms, end, more, pcd}
 use Rattle.closure_machine.specs.Closure.{CVal, Env, CState, close}
 use Rattle.closure_machine.specs.Machine.{Control, eval, ret, pcd_n, op_nf, Stack, place_at, redex, reduce_nc, move}
 use Rattle.closure_machine.specs.Measure.{work}
-use Rattle.vm_theory.specs.Code.{Skel, is_atom}
+use Rattle.vm_theory.specs.Code.{Skel}
 use Rattle.vm_theory.specs.Table.{many_n, pcd_m, In, here, there, terms_of, is_atom_at}
 use Rattle.vm_theory.proofs.Reach.{Reach, reach_moves, reach_label}
 use Rattle.vm_theory.proofs.Leads.{leads_same, atom_leads}

@@ -12,7 +12,6 @@ use Rattle.calculus.specs.Combinators.{choose}
 use Rattle.calculus.specs.Place.{Place, framed}
 use Rattle.closure_machine.specs.Closure.{CVal, CState}
 use Rattle.closure_machine.specs.Machine.{Control, pcd_n, Stack, place_at, reduces, redex, reduce_nc, move}
-use Rattle.vm_theory.specs.Code.{entry}
 use Rattle.vm_theory.specs.Conf.{Site, Chain, Slots, place_of}
 use Rattle.vm_theory.specs.Stands.{stack_at}
 use Rattle.vm_theory.specs.Table.{many_n, pcd_m, In, terms_of}

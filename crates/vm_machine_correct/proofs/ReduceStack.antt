@@ -10,7 +10,7 @@ use Rattle.calculus.specs.Answer.{reduct}
 use Rattle.closure_machine.specs.Closure.{CVal, CState, stack_val_c}
 use Rattle.closure_machine.specs.Machine.{Control, ret, Stack, reduce0_c}
 use Rattle.vm_theory.specs.Conf.{Site, Chain, Slots, kept_by, dom_at, place_of}
-use Rattle.vm_code.specs.Values.{tag_of, body_of, value, bottom_value, kept_value}
+use Rattle.vm_code.specs.Values.{tag_of, body_of, bottom_value, kept_value}
 use Rattle.vm_machine.specs.declared.Regs.{Regs}
 use Rattle.vm_machine.specs.Registers.{set_pools, stepped}
 use Rattle.vm_pools.specs.Pools.{whole, charge_pieces}

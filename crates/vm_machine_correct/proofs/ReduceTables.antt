@@ -11,7 +11,7 @@ use lib.Bits.{bit_or}
 use borrow.Author.Tests.{leb-true, ltb-true}
 use Rattle.calculus.specs.declared.Outcome.{Outcome}
 use Rattle.calculus.specs.Limits.{label_limit, advice_limit, log_record_length}
-use Rattle.calculus.specs.Syntax.{Dom, Ty, Tm, new_label, print, install, store}
+use Rattle.calculus.specs.Syntax.{Dom, Ty, Tm, new_label, print, install}
 use Rattle.calculus.specs.Plain.{dom_of}
 use Rattle.calculus.specs.State.{Entry, Advice, Event, prints, Print, log_of, add_label, add_advice, add_event}
 use Rattle.calculus.specs.Compose.{member}

@@ -19,7 +19,7 @@ use Rattle.calculus.specs.Answer.{reduct, with}
 use Rattle.image.specs.Limits.{pointcut_limit}
 use Rattle.closure_machine.specs.Closure.{CVal, Env, Body, CState, unload_val, unload_state}
 use Rattle.closure_machine.specs.Machine.{ret, triggered, pcd_n, match_n, op_nf, triggered_f, Stack, reduces, move, reduce_seq_c}
-use Rattle.vm_theory.specs.Code.{back, acc, Pc, next}
+use Rattle.vm_theory.specs.Code.{back, Pc}
 use Rattle.vm_theory.specs.Conf.{Site, call_a, advice_a, rest_a, many_a, keep_a, Chain, Slots, Conf, base, kept_by, depth_at, body, trigger}
 use Rattle.vm_theory.specs.Stands.{stack_of, stack_at}
 use Rattle.vm_theory.specs.Table.{Node, many_n, pcd_m, match_m, Target, terms_of}
