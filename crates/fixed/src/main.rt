@@ -4,9 +4,9 @@
 
 use console::IMAGE_CAPACITY;
 
-fn main() {
+fn main(rt: HostRuntime) {
     let mut image = [0u8; IMAGE_CAPACITY];
-    let input = console::read_sole_image(b"fixed < IMAGE > FORM", &mut image);
+    let input = console::read_sole_image(&rt, b"fixed < IMAGE > FORM", &mut image);
     if !input.whole {
         return;
     }
@@ -14,6 +14,7 @@ fn main() {
     let mut out = [0u8; IMAGE_CAPACITY];
     let w = write_fixed::write_fixed(&image[..n], &mut out);
     console::write_image(
+        &rt,
         &out,
         write_fixed::written_bytes(w),
         write_fixed::written_number(w),

@@ -7,24 +7,28 @@ use write_load::OUTPUT_LENGTH;
 
 const MOST: u32 = 4294967295;
 
-fn argument(i: usize) -> Numeral {
-    console::argument(i, 3, MOST)
+fn argument(rt: &HostRuntime, i: usize) -> Numeral {
+    console::argument(rt, i, 3, MOST)
 }
 
-fn tell_usage() {
-    console::tell_usage(b"load SEED DEPTH > IMAGE, two numbers from 0 to 4294967295");
+fn tell_usage(rt: &HostRuntime) {
+    console::tell_usage(
+        rt,
+        b"load SEED DEPTH > IMAGE, two numbers from 0 to 4294967295",
+    );
 }
 
-fn main() {
-    let Numeral::Number(seed) = argument(1) else {
-        return tell_usage();
+fn main(rt: HostRuntime) {
+    let Numeral::Number(seed) = argument(&rt, 1) else {
+        return tell_usage(&rt);
     };
-    let Numeral::Number(depth) = argument(2) else {
-        return tell_usage();
+    let Numeral::Number(depth) = argument(&rt, 2) else {
+        return tell_usage(&rt);
     };
     let mut out = [0u8; OUTPUT_LENGTH];
     let a = write_load::generate(seed, depth as usize, &mut out);
     console::write_image(
+        &rt,
         &out,
         write_load::load_bytes(a),
         write_load::load_number(a),

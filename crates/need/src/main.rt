@@ -3,55 +3,53 @@
 
 use console::IMAGE_CAPACITY;
 use image_needs::{Forecast, Needs};
-use libc::STDOUT_FILENO;
+use std::io;
 
-// A name, a number and the end of the line: whether all was written.
-fn line(name: &[u8], n: u64) -> bool {
-    io::write_all(STDOUT_FILENO, name)
-        && io::print_decimal(STDOUT_FILENO, n)
-        && io::write_all(STDOUT_FILENO, b"\n")
+// A name, a number and the end of the line.
+fn line(rt: &impl Print, name: &str, n: u64) -> io::Result<()> {
+    println!(rt; "{name}{n}")
 }
 
-fn quotas(n: Needs) -> bool {
-    line(b"bindings ", n.bindings as u64)
-        && line(b"other-bindings ", n.other_bindings as u64)
-        && line(b"pieces ", n.pieces as u64)
-        && line(b"other-pieces ", n.other_pieces as u64)
-        && line(b"cells ", n.cells as u64)
-        && line(b"other-cells ", n.other_cells as u64)
+fn quotas(rt: &impl Print, n: Needs) -> io::Result<()> {
+    line(rt, "bindings ", n.bindings as u64)?;
+    line(rt, "other-bindings ", n.other_bindings as u64)?;
+    line(rt, "pieces ", n.pieces as u64)?;
+    line(rt, "other-pieces ", n.other_pieces as u64)?;
+    line(rt, "cells ", n.cells as u64)?;
+    line(rt, "other-cells ", n.other_cells as u64)
 }
 
-fn numbers(n: Needs) -> bool {
-    line(b"steps ", n.steps as u64)
-        && quotas(n)
-        && line(b"labels ", n.labels as u64)
-        && line(b"advice ", n.advice as u64)
-        && line(b"frames ", n.frames as u64)
-        && line(b"log ", n.log as u64)
+fn numbers(rt: &impl Print, n: Needs) -> io::Result<()> {
+    line(rt, "steps ", n.steps as u64)?;
+    quotas(rt, n)?;
+    line(rt, "labels ", n.labels as u64)?;
+    line(rt, "advice ", n.advice as u64)?;
+    line(rt, "frames ", n.frames as u64)?;
+    line(rt, "log ", n.log as u64)
 }
 
-fn refused(f: Forecast) -> bool {
-    io::write_all(STDOUT_FILENO, b"refused ")
-        && io::print_decimal(STDOUT_FILENO, image_needs::forecast_number(f) as u64)
-        && line(b" ", image_needs::forecast_place(f) as u64)
+fn refused(rt: &impl Print, f: Forecast) -> io::Result<()> {
+    let number = image_needs::forecast_number(f);
+    let place = image_needs::forecast_place(f);
+    println!(rt; "refused {number} {place}")
 }
 
-fn told(f: Forecast) -> bool {
+fn told(rt: &impl Print, f: Forecast) -> io::Result<()> {
     match f {
-        Forecast::Refused(_, _) => refused(f),
-        Forecast::OutsideClass(_) => refused(f),
-        Forecast::Known(known) => numbers(known),
+        Forecast::Refused(_, _) => refused(rt, f),
+        Forecast::OutsideClass(_) => refused(rt, f),
+        Forecast::Known(known) => numbers(rt, known),
     }
 }
 
-fn main() {
+fn main(rt: HostRuntime) {
     let mut image = [0u8; IMAGE_CAPACITY];
-    let input = console::read_sole_image(b"need < IMAGE", &mut image);
+    let input = console::read_sole_image(&rt, b"need < IMAGE", &mut image);
     if !input.whole {
         return;
     }
     let n = input.length;
-    if !told(needs::forecast_image(&image[..n])) {
-        os::fail(b"standard output");
+    if let Err(error) = told(&rt, needs::forecast_image(&image[..n])) {
+        console::tell_failure(&rt, b"standard output", error);
     }
 }

@@ -10,9 +10,9 @@ use numerals::Numeral;
 const MOST_MASK: u32 = 65535;
 
 // The image on standard input without its watches below these high domains.
-fn strip_image(mask: u16) {
+fn strip_image(rt: &HostRuntime, mask: u16) {
     let mut image = [0u8; IMAGE_CAPACITY];
-    let input = console::read_image(&mut image);
+    let input = console::read_image(rt, &mut image);
     if !input.whole {
         return;
     }
@@ -20,6 +20,7 @@ fn strip_image(mask: u16) {
     let mut out = [0u8; IMAGE_CAPACITY];
     let s = write_stripped::write_stripped(&image[..n], mask, &mut out);
     console::write_image(
+        rt,
         &out,
         write_stripped::stripped_bytes(s),
         write_stripped::stripped_number(s),
@@ -27,12 +28,13 @@ fn strip_image(mask: u16) {
     );
 }
 
-fn main() {
-    let Numeral::Number(mask) = console::argument(1, 2, MOST_MASK) else {
+fn main(rt: HostRuntime) {
+    let Numeral::Number(mask) = console::argument(&rt, 1, 2, MOST_MASK) else {
         console::tell_usage(
+            &rt,
             b"strip MASK < IMAGE > STRIPPED, MASK from 0 to 65535 with a bit for each high domain",
         );
         return;
     };
-    strip_image(mask as u16);
+    strip_image(&rt, mask as u16);
 }

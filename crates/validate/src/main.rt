@@ -4,9 +4,9 @@
 use console::IMAGE_CAPACITY;
 use image::{REPORT_LENGTH, WORK_LENGTH};
 
-fn main() {
+fn main(rt: HostRuntime) {
     let mut image = [0u8; IMAGE_CAPACITY];
-    let input = console::read_sole_image(b"validate < IMAGE", &mut image);
+    let input = console::read_sole_image(&rt, b"validate < IMAGE", &mut image);
     if !input.whole {
         return;
     }
@@ -14,5 +14,5 @@ fn main() {
     let v = validator::validate(&image[..n], WORK_LENGTH, REPORT_LENGTH);
     let mut out = [0u8; listing::REFUSAL_LENGTH];
     let end = listing::put_verdict(&mut out, v);
-    console::write_out(&out[..end]);
+    console::write_out(&rt, &out[..end]);
 }

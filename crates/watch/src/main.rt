@@ -5,31 +5,28 @@
 mod conformance;
 mod stored;
 
-use console::IMAGE_CAPACITY;
+use console::{IMAGE_CAPACITY, OWN_NAME};
 
 const BUDGET: u32 = 100000;
 
-// How many words a program without arguments is called with: its name.
-const OWN_NAME: usize = 1;
-
-fn list_input() {
+fn list_input(rt: &HostRuntime) {
     let mut image = [0u8; IMAGE_CAPACITY];
-    let input = console::read_image(&mut image);
+    let input = console::read_image(rt, &mut image);
     if !input.whole {
         return;
     }
     let n = input.length;
-    conformance::print_listing(&image[..n], BUDGET);
+    conformance::print_listing(rt, &image[..n], BUDGET);
 }
 
 // The program's name, and then nothing or pairs.
-fn main() {
-    let words = os::arg_count();
+fn main(rt: HostRuntime) {
+    let words = console::word_count(&rt);
     if words == OWN_NAME {
-        return list_input();
+        return list_input(&rt);
     }
     if words % 2 == 0 {
-        return stored::tell_usage();
+        return stored::tell_usage(&rt);
     }
-    stored::run_pairs();
+    stored::run_pairs(&rt);
 }
