@@ -22,7 +22,7 @@ returns-then-descriptor_kind-eq-OBJECT_TYPE c =
     let h : c.same_fields.result ≡ same_fields a.fields.now (fields_at a.image.now (get_or a.types.now a.u.0 0)) = c.same_fields.ensures ∙ ap (same_fields a.fields.now) (c.fields_at.ensures ∙ ap (fields_at a.image.now) c.type_offset.ensures) in
     simp (eq-eqb _ _ (c.if-descriptor-type_descriptor.false ∙ c.type_descriptor.ensures), eq-eqb _ _ (sym c.descriptor_kind.ensures ∙ c.if-descriptor_kind-eq-OBJECT_TYPE.true)) h
 
-pub returns-then-descriptor-type_descriptor : goal.returns
-returns-then-descriptor-type_descriptor c =
+pub returns : goal.returns
+returns c =
     let a = c.args in
     simp (eq-eqb _ _ (c.if-descriptor-type_descriptor.false ∙ c.type_descriptor.ensures), ne_eqb (descriptor_kind a.descriptor) 25 (λ e. c.if-descriptor_kind-eq-OBJECT_TYPE.false (c.descriptor_kind.ensures ∙ e)))

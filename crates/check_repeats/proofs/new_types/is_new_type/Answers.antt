@@ -28,7 +28,7 @@ loop-i-preserved c =
     let ok : ℕ → Bool = λ i. not (equal_type a.image.now a.fields.now a.types.now a.descriptors.now a.descriptor i) in
     (search rules, below_more ok c.loop-i.i c.loop-i.invariant.1 (ap not (sym c.is_equal_type.ensures ∙ c.if-is_equal_type.false)))
 
-pub returns-then-is_equal_type : goal.returns
-returns-then-is_equal_type c =
+pub returns : goal.returns
+returns c =
     let e : c.loop-i.i ≡ c.args.t.0 = search rules in
     sym (rw e at c.loop-i.invariant.1)

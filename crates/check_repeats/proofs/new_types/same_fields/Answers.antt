@@ -35,8 +35,8 @@ loop-i-preserved c =
     let h : same a.a.now a.b.now c.loop-i.i ≡ true = eq-eqb _ _ (sym c.field.ensures ∙ (c.if-field.false ∙ c.field-in-loop-i.ensures)) in
     (c.loop-i.invariant.0, refl, search rules, below_more (same a.a.now a.b.now) c.loop-i.i c.loop-i.invariant.3 h)
 
-pub returns-then-a-b : goal.returns
-returns-then-a-b c =
+pub returns : goal.returns
+returns c =
     let a = c.args in
     let e : c.loop-i.i ≡ length a.a.now / 2 = search rules in
     simp (eq-eqb _ _ c.loop-i.invariant.0, rw e at c.loop-i.invariant.3)

@@ -15,7 +15,6 @@ pub returns-in-Truth : goal.returns-in-Truth
 unfolding bytes_of
 returns-in-Truth c =
     let a = c.args in
-    let l = c.leaf-1.given in
     let w = rw c.bit.ensures at c.put16.ensures in
     rw c.in-Truth.is (refl, record_written 66 a.report.now a.at (bytes16 (choose c.in-Truth.b 1 0)) 6 refl c.put_header-in-Truth.ensures w (omega arith))
 
@@ -23,5 +22,4 @@ pub returns-in-Number : goal.returns-in-Number
 unfolding bytes_of
 returns-in-Number c =
     let a = c.args in
-    let l = c.leaf-in-Number-1.given in
     rw c.in-Number.is (refl, record_written 67 a.report.now a.at (bytes32 c.in-Number.n) 8 refl c.put_header-in-Number.ensures c.put32.ensures (omega arith))

@@ -1,0 +1,16 @@
+-- `check_uses::children::enter_three` meets its contract: one child is used after another.
+use mathlib.Core.Path.{refl, ◌∙◌}
+use lib.Dec.{lit<}
+use Rattle.check_uses.specs.Marks.{highest}
+use Rattle.check_uses.proofs.ChildByChild.{high_low}
+use borrow.Author.Rules.{rules}
+use Rattle.check_uses.proofs.children.enter_three.Goals as goal
+
+pub set_height-requires : goal.set_height-requires
+set_height-requires c =
+    (search rules, high_low _ _ _ _ c.use_child-h.ensures.0 (high_low _ _ _ _ c.use_child-second.ensures.0 (high_low _ _ 0 _ c.use_child-first.ensures.0 (lit< tt))))
+
+pub returns : goal.returns
+unfolding highest
+returns c =
+    c.set_height.ensures ∙ rw (c.use_child-h.ensures.0, c.use_child-h.ensures.1, c.use_child-second.ensures.0, c.use_child-second.ensures.1, c.use_child-first.ensures.0, c.use_child-first.ensures.1) refl
