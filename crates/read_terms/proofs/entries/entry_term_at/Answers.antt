@@ -44,8 +44,8 @@ loop-i-preserved c =
     let q = later_named v l.left rest (not_first v l.left c.both.result c.both.ensures c.if-both.false) (rw e at l.invariant.1) in
     rw c.left_behind-left.ensures (search rules, q.0, q.1 ∙ (ap (λ xs. get_or xs l.left 0) (sym e) ∙ l.invariant.2))
 
-pub returns-then-both : goal.returns
-returns-then-both c =
+pub returns : goal.returns
+returns c =
     let l = c.loop-i in
     let fs = c.args.fields.now in
     let z = ap length (none_left fs first_entry c.entries_in-n.result l.i (search rules)) in

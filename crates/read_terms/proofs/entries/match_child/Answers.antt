@@ -15,5 +15,5 @@ entry_term_at-requires c =
     let l = c.if-j-lt3.false in
     omega arith
 
-pub returns-then-j-lt3 : goal.returns
-returns-then-j-lt3 c = let a = c.args in c.entry_term_at.ensures ∙ later_child a.fields.now a.j (omega (arith, c.if-j-lt3.false))
+pub returns : goal.returns
+returns c = let a = c.args in c.entry_term_at.ensures ∙ later_child a.fields.now a.j (omega (arith, c.if-j-lt3.false))

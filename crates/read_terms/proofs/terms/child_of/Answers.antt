@@ -49,8 +49,8 @@ child_at_field-requires c =
     let e = c.requires.1.1 in
     omega arith
 
-pub returns-then-kind-eq-MATCH : goal.returns
-returns-then-kind-eq-MATCH c =
+pub returns : goal.returns
+returns c =
     let fs = c.args.fields.now in
     let H = c.requires.1.2 in
     let m = among fs c.requires.0 c.args.j (λ e. c.if-kind-eq-MATCH.false (c.requires.1.0 ∙ e)) H in

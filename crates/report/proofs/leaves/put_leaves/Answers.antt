@@ -19,9 +19,9 @@ loop-i-preserved c =
     let a = c.args in
     let l = c.loop-i in
     let w = c.put_leaf-o in
-    let g : length a.t3 ≡ 8 = search rules in
-    let s = leaves_step a.t3 a.report.now a.at l.i l.o _ (omega arith) l.invariant.3 l.invariant.4 w.ensures.0 w.ensures.1 (omega arith) in
-    (omega arith, omega (arith, s.2), w.auto.0 ∙ l.invariant.2, s.0, s.1)
+    let g : length a.slots ≡ 8 = search rules in
+    let s = leaves_step a.slots a.report.now a.at l.i l.o _ (omega arith) l.invariant.3 l.invariant.4 w.ensures.0 w.ensures.1 (omega arith) in
+    (omega arith, omega (arith, s.2), c.put_leaf-o.auto.report ∙ l.invariant.2, s.0, s.1)
 
 pub returns : goal.returns
 returns c =
