@@ -101,6 +101,7 @@ class Function:
         for i, p in enumerate(self.places):
             self.index.setdefault(norm(p[0]), i)
         self.warned = []
+        self.lost = False
 
     def place(self, name):
         return self.index.get(norm(name))
@@ -109,6 +110,10 @@ class Function:
         return self.place(self.places[i][1]) if self.places[i][1] is not None else None
 
     def resolve(self, where, parts):
+        self.lost = False
+        return self.found(where, parts)
+
+    def found(self, where, parts):
         """From a place or a step along the parts of a path: the new base, and the parts that are left. None if it fails."""
         kind = where[0]
         parts = list(parts)
@@ -141,8 +146,18 @@ class Function:
                     best = (name, fields)
             if best:
                 return ("step", i, parts), f"c.{arm[0]}.{best[0]}", parts[len(best[1]):]
-            self.warned.append(f"{old}.{'.'.join(parts)} in the arm {arm[0]}")
-        return ("step", i, parts), "c." + new, parts
+            self.lost = True
+            if parts != ["given"]:
+                self.warned.append(f"{old}.{'.'.join(parts)} in the arm {arm[0]}")
+        return ("step", i, parts), "c." + new, self.by_parameter(i, parts)
+
+    def by_parameter(self, i, parts):
+        """What a call keeps of the length of its k-th argument goes by the parameter's name."""
+        params = self.data["params"].get(self.places[i][3]) if self.places[i][3] else None
+        m = re.match(r"(?:auto|kept)((?:\.1)*)\.0(\.|\Z)", ".".join(parts))
+        if params and m and len(m[1]) // 2 < len(params):
+            return ["auto", params[len(m[1]) // 2], *parts[2 + len(m[1]) // 2:]]
+        return parts
 
 
 def turn_body(fn, start, params, body):
@@ -167,6 +182,10 @@ def turn_body(fn, start, params, body):
                         continue
                     if where[0] == "step":
                         env[m[1]] = where
+                        if fn.lost:
+                            fn.lost = False
+                            i = p.end() + re.match(r"\s*in\b[ \t]*\n?[ \t]*", body[p.end():]).end()
+                            continue
                         fn.alias[m[1]] = (base, rest)
                     else:
                         env.pop(m[1], None)
@@ -312,12 +331,12 @@ def convert(path, data, crate, function):
                 continue
             if m:
                 params = m[1].split()
-                body = turn_body(fn, fn.place(data["asked_at"][k][0]), params, m[2])
+                body = by_args(fn, turn_body(fn, fn.place(data["asked_at"][k][0]), params, m[2]))
                 answers.append(f"pub {new} : goal.{new}\n{new} c = {body}")
             else:
                 answers.append(f"pub {new} : goal.{new}\n{new} c = {a} c")
                 fn.warned.append(f"{new} is {a}")
-    answers = [TOKENS.sub(lambda m: renamed.get(m[0], m[0]), a) for a in answers]
+    answers = [in_bodies(a, renamed) for a in answers]
     helpers = [code(b) for n, b in by_name.items() if n not in used]
     uses = [l for l in head if not re.search(r"\.(Tie as tie|Statement\.\{statement\})|as tie$", l)]
     while uses and not uses[-1].strip():
@@ -332,6 +351,20 @@ def convert(path, data, crate, function):
     if answers:
         wrote["Answers.antt"] = "\n".join([*uses, f"use {base}.Goals as goal", "", "\n\n".join([*helpers, *answers]), ""])
     return wrote, fn.warned
+
+
+# Answers that cite one another do so by their new names.
+def in_bodies(text, renamed):
+    head, body = re.match(r"((?:--[^\n]*\n)*pub [^\n]*\n(?:unfolding[^\n]*\n)?\S+ )(.*)", text, re.S).groups() if text.startswith(("pub ", "--")) and "\npub " in "\n" + text else ("", text)
+    return head + TOKENS.sub(lambda m: renamed.get(m[0], m[0]), body)
+
+
+# An argument by the name that it has today.
+def by_args(fn, text):
+    for old, new in fn.data["args"]:
+        if old.startswith(".args .") and " " not in old[7:]:
+            text = re.sub(r"\." + re.escape(old[7:]) + r"(?![\w'-])", "." + new[7:], text)
+    return text
 
 
 # That a slice keeps its length Rattle knows by itself.
@@ -370,6 +403,7 @@ def answer(fn, k, block, name):
         start = 0
     turned = turn_body(fn, start, params, body)
     turned = re.sub(r"^[ \t]*\n", "\n", turned)
+    turned = by_args(fn, turned)
     lines = [*comments, f"pub {new} : goal.{new}"]
     if unfolding:
         lines.append(unfolding[0])
