@@ -102,6 +102,7 @@ class Function:
             self.index.setdefault(norm(p[0]), i)
         self.warned = []
         self.lost = False
+        self.goal = 0
 
     def place(self, name):
         return self.index.get(norm(name))
@@ -121,16 +122,23 @@ class Function:
             i = where[1]
             while parts and parts[0] == "before":
                 up = self.parent(i)
-                if up is None:
-                    return None
-                i, parts = up, parts[1:]
+                i, parts = i if up is None else up, parts[1:]
             if not parts:
                 return ("place", i), "c", []
+            if parts[0] in ("args", "requires", "ranges"):
+                return ("open",), "c." + parts[0], parts[1:]
             step = self.places[i][2]
             if step[0] and norm(parts[0]) == norm(step[0]):
                 return self.step(i, parts[1:])
-            if i == self.place("Start") or step[0] == "":
-                return ("open",), "c." + parts[0], parts[1:]
+            # the text counts the places otherwise: the nearest place with this step
+            chain, at = [], self.goal
+            while at is not None:
+                chain.append(at)
+                at = self.parent(at)
+            here = [k for k in chain if self.places[k][2][0] and norm(self.places[k][2][0]) == norm(parts[0])]
+            if here:
+                mine = chain.index(i) if i in chain else 0
+                return self.step(min(here, key=lambda k: abs(chain.index(k) - mine)), parts[1:])
             return ("open",), "c." + parts[0], parts[1:]
         if kind == "step":
             return self.step(where[1], [*where[2], *parts])
@@ -154,14 +162,16 @@ class Function:
     def by_parameter(self, i, parts):
         """What a call keeps of the length of its k-th argument goes by the parameter's name."""
         params = self.data["params"].get(self.places[i][3]) if self.places[i][3] else None
-        m = re.match(r"(?:auto|kept)((?:\.1)*)\.0(\.|\Z)", ".".join(parts))
+        m = re.match(r"(?:auto|kept|new|last)((?:\.1)*)\.0(\.|\Z)", ".".join(parts))
         if params and m and len(m[1]) // 2 < len(params):
-            return ["auto", params[len(m[1]) // 2], *parts[2 + len(m[1]) // 2:]]
+            return [{"kept": "auto"}.get(parts[0], parts[0]), params[len(m[1]) // 2], *parts[2 + len(m[1]) // 2:]]
         return parts
 
 
 def turn_body(fn, start, params, body):
     """The body with each path from `c` written as today. `let` lines that name a place go."""
+    fn.goal = start
+    fn.alias = {}
     env = {params[-1] if params[-1] != "κs" else params[-2]: ("place", start)}
     if "c" in params:
         env = {"c": ("place", start)}
@@ -359,8 +369,14 @@ def in_bodies(text, renamed):
     return head + TOKENS.sub(lambda m: renamed.get(m[0], m[0]), body)
 
 
+# The test of an `if !x` says what x is.
+def without_not(text):
+    return re.sub(r"\bnot-(?:true|false) (?:[^\s()]+|\((?:[^()]|\([^()]*\))*\)) (?=[\w.'-]*\.if-not-[\w.-]+\.(?:true|false)\b)", "", text)
+
+
 # An argument by the name that it has today.
 def by_args(fn, text):
+    text = without_not(text)
     for old, new in fn.data["args"]:
         if old.startswith(".args .") and " " not in old[7:]:
             text = re.sub(r"\." + re.escape(old[7:]) + r"(?![\w'-])", "." + new[7:], text)

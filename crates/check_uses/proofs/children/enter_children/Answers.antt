@@ -11,7 +11,7 @@ use Rattle.check_uses.proofs.children.enter_children.Goals as goal
 pub use_entries-h-requires : goal.use_entries-h-requires
 use_entries-h-requires c =
     let es = entries_of c.args.code c.args.fields.now in
-    (c.requires.0, subst (λ n. Lower n es) (sym c.use_side-side.auto.1.1.0) (lower_rest _ (side_of c.args.code c.args.fields.now) es c.requires.2))
+    (c.requires.0, subst (λ n. Lower n es) (sym c.use_side-side.auto.marks) (lower_rest _ (side_of c.args.code c.args.fields.now) es c.requires.2))
 
 pub set_height-requires : goal.set_height-requires
 set_height-requires c =

@@ -9,6 +9,6 @@ use Rattle.check_uses.proofs.children.use_child.Goals as goal
 pub returns : goal.returns
 unfolding highest
 returns c =
-    let a = at_mark.before.before.before.args in
+    let a = c.args in
     let m = c.mark_of-mark.ensures in
     (c.higher.ensures ∙ ap (λ n. max a.h (height_in n)) m, c.set_mark.ensures ∙ ap (set a.marks.now a.e.0) (c.used_mark.ensures ∙ ap used_mark m))

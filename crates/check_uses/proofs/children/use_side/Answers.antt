@@ -38,9 +38,9 @@ loop-j-preserved c =
     let n : l.j < children_in x (length fs) = omega (arith, c.child_count-count.ensures) in
     let i : l.j < length cs = rw (side_length x fs) n in
     let e : c.term_field-e.result.0 ≡ get_or cs l.j 0 = c.term_field-e.ensures ∙ ap (λ y. field_in fs (y + l.j)) c.field_count-first.ensures ∙ side_is x fs l.j n in
-    let high : highest (drop l.j cs) l.marks l.h ≡ highest (drop (l.j + 1) cs) u.new.0 u.result = high_next cs l.marks l.j l.h i ∙ rw (u.ensures.0, u.ensures.1, e) refl in
-    let uses : use_all (drop l.j cs) l.marks ≡ use_all (drop (l.j + 1) cs) u.new.0 = fold_next used cs l.marks l.j i ∙ rw (u.ensures.1, e) refl in
-    (search rules, u.auto.0 ∙ l.invariant.1, l.invariant.2 ∙ high, l.invariant.3 ∙ uses)
+    let high : highest (drop l.j cs) l.marks l.h ≡ highest (drop (l.j + 1) cs) c.use_child-h.new.marks u.result = high_next cs l.marks l.j l.h i ∙ rw (u.ensures.0, u.ensures.1, e) refl in
+    let uses : use_all (drop l.j cs) l.marks ≡ use_all (drop (l.j + 1) cs) c.use_child-h.new.marks = fold_next used cs l.marks l.j i ∙ rw (u.ensures.1, e) refl in
+    (search rules, c.use_child-h.auto.marks ∙ l.invariant.1, l.invariant.2 ∙ high, l.invariant.3 ∙ uses)
 
 pub returns : goal.returns
 returns c =

@@ -19,12 +19,12 @@ returns-then-all_once c =
 pub returns-then-not-is_once : goal.returns-then-not-is_once
 returns-then-not-is_once c =
     let l = c.loop-i in
-    record { inside = l.invariant.0; before = l.invariant.1; here = λ h. sym (c.is_once.ensures ∙ ap is_once c.mark_of.ensures) ∙ not-true c.is_once.result c.if-not-is_once.true }
+    record { inside = l.invariant.0; before = l.invariant.1; here = λ h. sym (c.is_once.ensures ∙ ap is_once c.mark_of.ensures) ∙ c.if-not-is_once.true }
 
 pub loop-i-preserved : goal.loop-i-preserved
 loop-i-preserved c =
     let l = c.loop-i in
-    (search rules, holds_more l.i _ l.invariant.1 (sym (c.is_once.ensures ∙ ap is_once c.mark_of.ensures) ∙ not-false c.is_once.result c.if-not-is_once.false))
+    (search rules, holds_more l.i _ l.invariant.1 (sym (c.is_once.ensures ∙ ap is_once c.mark_of.ensures) ∙ c.if-not-is_once.false))
 
 pub returns : goal.returns
 returns c =
