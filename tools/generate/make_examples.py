@@ -2,8 +2,8 @@
 """Makes the images of examples/ from their texts.
 
 Run in the repository's root: python3 tools/generate/make_examples.py [WATCH [NEED]]
-It writes examples/NAME.img for each line of examples/LIST. With WATCH (target/bin/watch) it also writes the listings
-examples/NAME.txt: what WATCH prints for each image; with NEED (target/bin/need) for some of them examples/NAME.need: what
+It writes examples/NAME.img for each line of examples/LIST. With WATCH (crates/watch/out/watch) it also writes the listings
+examples/NAME.txt: what WATCH prints for each image; with NEED (crates/need/out/need) for some of them examples/NAME.need: what
 NEED prints. make_stored.py puts the images among those that the gate runs.
 """
 import subprocess

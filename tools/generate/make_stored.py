@@ -4,7 +4,7 @@
 Run in the repository's root: python3 tools/generate/make_stored.py [PROGRAM]
 It writes the cases (make_cases.py and the files *_cases.py) and the examples (examples/NAME.img) to
 crates/watch/data, and args: a budget and a file for each image, first those that no script makes. With PROGRAM
-(target/bin/watch) it also writes stdout: what PROGRAM prints.
+(crates/watch/out/watch) it also writes stdout: what PROGRAM prints.
 """
 import subprocess
 import sys

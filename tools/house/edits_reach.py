@@ -11,6 +11,7 @@ import re
 import sys
 from pathlib import Path
 
+import gate_order
 from imports import items, place, theory, without_comments
 
 ROOT = Path(__file__).resolve().parents[2]
@@ -20,8 +21,7 @@ CLAIM = re.compile(r"\bcrates/(\w+)/((?:specs|proofs)/[\w/]+\.antt)")
 
 def crates(root):
     """Each crate with the crates that it stands on."""
-    lines = (line.split("#")[0] for line in (root / "crates.txt").read_text(encoding="utf-8").splitlines())
-    return {name.strip(): below.split() for name, _, below in (line.partition(":") for line in lines if ":" in line)}
+    return gate_order.crates((root / "crates.txt").read_text(encoding="utf-8"))
 
 
 def below(graph):

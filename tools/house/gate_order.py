@@ -1,23 +1,22 @@
 #!/usr/bin/env python3
-"""The order of crates.txt in which the gate waits least.
+"""The order of crates.txt, and what the gate waits for.
 
-The gate proves the crates layer by layer, six at a time (RT_JOBS in .ci/run), and waits for all of these before it goes
-on. So within a layer the longest to prove comes first. Standard input is what the gate printed, with the seconds of each
-crate; a crate that it does not tell of counts as short. Prints the lines of crates.txt in that order, or with --cost only
-how many seconds the gate takes for the crates in the order that they have.
+The gate proves as many crates side by side as there are processors, those with the longest chain of others above them first,
+whatever their order in crates.txt. So that order is for readers: layer by layer, and within a layer the crate first that has
+the most lines to prove. Prints the lines of crates.txt in that order; with --chain the longest chain of crates, each of which
+stands on the one before, with their lines: the gate takes no less time than for these.
 """
 import re
 import sys
 from pathlib import Path
 
 ROOT = Path(__file__).resolve().parents[2]
-TOGETHER = 6
 
 
 def crates(text):
     """Each crate with the crates that it stands on, in the file's order."""
-    lines = (line.split("#")[0] for line in text.splitlines())
-    return {name.strip(): below.split() for name, _, below in (line.partition(":") for line in lines if ":" in line)}
+    rows = (re.fullmatch(r"(\w+)[^:]*(?::(.*))?", line.split("#")[0].strip()) for line in text.splitlines())
+    return {row[1]: (row[2] or "").split() for row in rows if row}
 
 
 def layers(below):
@@ -34,32 +33,38 @@ def layers(below):
     return layer
 
 
-def seconds(log):
-    return {name: int(took) for name, took in re.findall(r"^rt: (\w+) proved \((\d+) s\)", log, re.M)}
+def lines(name, root=ROOT):
+    """The lines of a crate that are proved: sources, definitions and proofs."""
+    files = (file for part in ("src", "specs", "proofs") for file in (root / "crates" / name / part).rglob("*"))
+    return sum(file.read_text(encoding="utf-8").count("\n") for file in files if file.suffix in (".rt", ".antt"))
 
 
-def ordered(below, took):
+def ordered(below, size):
     layer = layers(below)
-    return sorted(below, key=lambda name: (layer[name], -took.get(name, 0), name))
+    return sorted(below, key=lambda name: (layer[name], -size.get(name, 0), name))
 
 
-def cost(names, layer, took, together=TOGETHER):
-    total = 0
-    for height in range(max(layer.values()) + 1):
-        here = [took.get(name, 0) for name in names if layer[name] == height]
-        total += sum(max(here[i:i + together]) for i in range(0, len(here), together))
-    return total
+def chain(below, size):
+    """The longest chain, from its lowest crate on."""
+    longest = {}
+    for name in ordered(below, size):
+        under = max((longest[one] for one in below[name] if one in below), default=(0, []))
+        longest[name] = (under[0] + size[name], [*under[1], name])
+    return max(longest.values())[1]
 
 
 def main():
-    text = (ROOT / "crates.txt").read_text()
-    below, took = crates(text), seconds(sys.stdin.read())
-    if "--cost" in sys.argv[1:]:
-        print(cost(list(below), layers(below), took))
+    text = (ROOT / "crates.txt").read_text(encoding="utf-8")
+    below = crates(text)
+    size = {name: lines(name) for name in below}
+    if "--chain" in sys.argv[1:]:
+        for name in chain(below, size):
+            print(f"{size[name]:6} {name}")
         return
+    rows = {re.match(r"\w+", line)[0]: line for line in text.splitlines() if re.match(r"\w", line)}
     print("\n".join(line for line in text.splitlines() if line.startswith("#")))
-    for name in ordered(below, took):
-        print(f"{name}: {' '.join(below[name])}".rstrip())
+    for name in ordered(below, size):
+        print(rows[name])
 
 
 if __name__ == "__main__":

@@ -26,6 +26,11 @@ def without_library():
     return ""
 
 
+def program(name):
+    """Where `rt run` leaves a program in Rattle."""
+    return ROOT / "crates" / name / "out" / name
+
+
 with_library = unittest.skipIf(without_library(), without_library())
 
 

@@ -1,7 +1,7 @@
 """The commands of examples/README.md and docs/RESEARCHERS.md, run in a copy of the repository: they leave exactly the
 files that are there, and answer what the pages show.
 
-The programs that a page names in target/bin are run if they are built. Where `bukzarn` is not, its tables are taken as they
+The programs in Rattle that a page names (crates/NAME/out/NAME) are run if they are built. Where `bukzarn` is not, its tables are taken as they
 are stored: the tests of the command itself (cli/tests) compare them.
 """
 import re
@@ -27,7 +27,7 @@ def indented(section, page=PAGE):
 
 def commands(section, page=PAGE):
     """The commands of a section, in order."""
-    return [line for line in indented(section, page) if re.match(r"python3 |cd |target/|\.\./", line)]
+    return [line for line in indented(section, page) if re.match(r"python3 |cd |target/|crates/|\.\./", line)]
 
 
 class Commands(unittest.TestCase):
@@ -38,6 +38,7 @@ class Commands(unittest.TestCase):
         for name in ("tools", "python", "examples"):
             shutil.copytree(common.ROOT / name, self.root / name, ignore=shutil.ignore_patterns("__pycache__", "tests"))
         (self.root / "target").symlink_to(common.ROOT / "target")
+        (self.root / "crates").symlink_to(common.ROOT / "crates")
 
     def shell(self, command, folder, status=0):
         said = subprocess.run(["bash", "-c", command.replace("python3 ", f"{sys.executable} ")], cwd=folder, check=False,
@@ -70,7 +71,7 @@ class Commands(unittest.TestCase):
     def test_what_the_page_shows(self):
         """The answers of commands that stand on the page, and names that it tells."""
         library = not common.without_library()
-        programs = library and (common.ROOT / "target/bin/strip").exists()
+        programs = library and common.program("strip").exists()
         for section, needed in (("A ground check whose needs are known", True), ("Two watches that are refused", False)):
             if library or not needed:
                 lines = indented(section)
@@ -100,8 +101,8 @@ class Commands(unittest.TestCase):
         assembles, _, kept, _ = commands("A watch of your own", RESEARCHERS)
         (self.root / "warm.watch").write_text(watch)
         self.shell(assembles, self.root)
-        if (common.ROOT / "target/bin/watch").exists():
-            said = self.shell("target/bin/watch < warm.img", self.root)
+        if common.program("watch").exists():
+            said = self.shell("crates/watch/out/watch < warm.img", self.root)
             self.assertEqual(re.findall("^log 1 .*$", said, re.M), re.findall(r"`(log 1 \d+)`", RESEARCHERS))
         self.assertEqual(watch.count("print t"), 1)
         (self.root / "warm.watch").write_text(watch.replace("print t", "correction := t"))
@@ -162,7 +163,7 @@ class Commands(unittest.TestCase):
         """The last command of the page writes what is stored, from the texts and the built programs."""
         command = commands("Commands")[-2]
         self.assertTrue(command.startswith("python3 tools/generate/make_examples.py"), command)
-        if not (common.ROOT / "target/bin/need").exists():
+        if not (common.program("watch").exists() and common.program("need").exists()):
             self.skipTest("the programs are not built")
         for file in (self.root / "examples").glob("*.img"):
             file.unlink()

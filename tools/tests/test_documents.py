@@ -5,6 +5,7 @@ import subprocess
 import unittest
 
 import common
+import gate_order
 from believed import believed
 
 # The pages whose names are compared with the tree. Notes in docs/changes say what was so on their day, and are left alone.
@@ -37,11 +38,17 @@ def absent_names(text, universe):
     return [name for name in re.findall(r"`([^`\n]+)`", text) for word in WORD.findall(name) if word not in universe]
 
 
+def is_built(path, root):
+    """Whether a path is where rt leaves a program, crates/NAME/out/NAME, or a static library."""
+    found = re.fullmatch(r"crates/(\w+)/out/(?:(\1)|lib\1\.a)", path)
+    return bool(found) and (root / "crates" / found[1] / "src" / ("main.rt" if found[2] else "lib.rt")).is_file()
+
+
 def absent_files(text, root, folder):
     """Paths, and files named behind their crate, that are not there."""
     absent = []
     for path in re.findall(r"\b((?:crates|tools|docs|examples|bench|bindings|cli|include|python)/[\w./+-]*\w)", text):
-        there = any((place / path).exists() or list(place.glob(path + "*")) for place in (root, folder))
+        there = is_built(path, root) or any((place / path).exists() or list(place.glob(path + "*")) for place in (root, folder))
         if not there and path not in PATHS_FROM_ELSEWHERE:
             absent.append(path)
     for path in re.findall(r"(?<![\w/])([a-z]\w+/(?:src|specs|proofs)/[\w/+]+\.(?:rt|antt))", text):
@@ -84,6 +91,10 @@ def wrong_counts(text, counts):
             for number, what in re.findall(rf"\b(\d+) ({'|'.join(counts)})\b", sentence) if int(number) != counts[what]]
 
 
+def listed_crates():
+    return gate_order.crates((common.ROOT / "crates.txt").read_text(encoding="utf-8"))
+
+
 @functools.cache
 def words_of_the_tree():
     """Every word of the sources, and the names of all files and folders, but for the documents and what has the names before."""
@@ -121,8 +132,7 @@ class Documents(unittest.TestCase):
         page = (common.ROOT / "docs" / "CRATES.md").read_text(encoding="utf-8")
         rows = re.findall(r"^\| ([\w, ]+) \|", page, re.M)
         named = {name for row in rows for name in row.split(", ")} - {"crate"}
-        crates = {line.split(":")[0] for line in (common.ROOT / "crates.txt").read_text().splitlines() if ":" in line}
-        self.assertEqual(named, crates)
+        self.assertEqual(named, set(listed_crates()))
 
     def test_links(self):
         """What a page links to is there."""
@@ -164,7 +174,7 @@ class Documents(unittest.TestCase):
 
     def test_counts(self):
         """Counts that the pages give of today's tree are right."""
-        crates = [line for line in (common.ROOT / "crates.txt").read_text(encoding="utf-8").splitlines() if ":" in line]
+        crates = listed_crates()
         edits = list(common.ROOT.glob("crates/*/must-fail/*.edit"))
         self.everywhere(lambda page, text: wrong_counts(text, {"crates": len(crates), "edits": len(edits)}))
 
@@ -177,10 +187,12 @@ class CanFail(unittest.TestCase):
         self.assertEqual(absent_crates("vm_loop, vm_gone and read_it", {"vm_loop"}), ["vm_gone", "read_it"])
 
     def test_files(self):
-        root = common.tree(self, {"docs/here.md": "", "crates/some/specs/Here.antt": ""})
-        text = "docs/here.md, docs/gone.md; some/specs/Here.antt, some/specs/Gone.antt; crate some, specs/No.antt"
+        root = common.tree(self, {"docs/here.md": "", "crates/some/specs/Here.antt": "", "crates/some/src/main.rt": ""})
+        text = ("docs/here.md, docs/gone.md; some/specs/Here.antt, some/specs/Gone.antt; crate some, specs/No.antt; "
+                "crates/some/out/some, crates/some/out/other, crates/some/out/libsome.a")
         absent = absent_files(text, root, root / "docs")
-        self.assertEqual(absent, ["docs/gone.md", "some/specs/Gone.antt", "some, specs/No.antt"])
+        self.assertEqual(absent, ["docs/gone.md", "crates/some/out/other", "crates/some/out/libsome.a", "some/specs/Gone.antt",
+                                  "some, specs/No.antt"])
 
     def test_edits(self):
         edit = "file: src/lib.rt\nold: x + 1\nnew: x\n"

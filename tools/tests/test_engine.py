@@ -1,4 +1,4 @@
-"""The built programs beside the tool and the examples, where they are built (rt check)."""
+"""The built programs beside the tool and the examples, where they are built (rt run)."""
 import subprocess
 import unittest
 
@@ -10,14 +10,14 @@ from bukzarn.lang.disassembler import program, tree
 from bukzarn.lang.gate import verdict
 from bukzarn.lang.layout import laid_out
 
-WATCH, NEED, FIXED, STRIP = (common.ROOT / "target/bin" / name for name in ("watch", "need", "fixed", "strip"))
+WATCH, NEED, FIXED, STRIP = map(common.program, ("watch", "need", "fixed", "strip"))
 
 
 def listing(image, program=WATCH):
     return subprocess.run([program], input=image, capture_output=True, check=True).stdout.decode()
 
 
-@unittest.skipUnless(WATCH.exists(), "target/bin/watch is not built")
+@unittest.skipUnless(WATCH.exists(), "watch is not built")
 class Engine(unittest.TestCase):
     def test_examples(self):
         for name, _ in make_examples.examples(common.ROOT / "examples"):
@@ -34,7 +34,7 @@ class Engine(unittest.TestCase):
                 self.assertEqual(said, listing(assemble(program(image)).image), n)
 
 
-@unittest.skipUnless(NEED.exists(), "target/bin/need is not built")
+@unittest.skipUnless(NEED.exists(), "need is not built")
 class Need(unittest.TestCase):
     def test_examples(self):
         for name in make_examples.WITH_NEEDS:
@@ -48,7 +48,7 @@ def said_by(image):
     return tables.masks, repr(tree(tables))
 
 
-@unittest.skipUnless(FIXED.exists(), "target/bin/fixed is not built")
+@unittest.skipUnless(FIXED.exists(), "fixed is not built")
 class Fixed(unittest.TestCase):
     def form(self, image):
         return subprocess.run([FIXED], input=image, capture_output=True, check=True).stdout
@@ -68,7 +68,7 @@ class Fixed(unittest.TestCase):
                 self.assertEqual(self.form(form), form, n)
 
 
-@unittest.skipUnless(STRIP.exists(), "target/bin/strip is not built")
+@unittest.skipUnless(STRIP.exists(), "strip is not built")
 class Strip(unittest.TestCase):
     def test_examples(self):
         """Without its watches the procedure with watches is the procedure."""

@@ -8,7 +8,7 @@ from bukzarn.lang import generated, kinds
 from bukzarn.lang.gate import verdict
 from bukzarn.lang.records import record
 
-LOAD = common.ROOT / "target/bin/load"
+LOAD = common.program("load")
 HEAD = record(kinds.DOMAIN, 1) + record(kinds.UNIT_T) + record(kinds.NUMBER_T)
 SEEDS = (0, 1, 7, 12_345, 155_840_010, 1_178_196_580, 4_294_967_295)
 
@@ -42,7 +42,7 @@ class Load(unittest.TestCase):
             with self.assertRaises(SystemExit):
                 run("load", *words)
 
-    @unittest.skipUnless(LOAD.exists(), "build it with rt check load")
+    @unittest.skipUnless(LOAD.exists(), "build it with rt run in crates/load")
     def test_the_program(self):
         for depth in range(1, generated.DEPTH_LIMIT + 1):
             for seed in SEEDS:

@@ -135,7 +135,7 @@ class Constants(unittest.TestCase):
 class Frame(unittest.TestCase):
     def test_outside_the_frame(self):
         """What docs/LANGUAGE.md says of fields outside the frame, as the built program runs them; its frame has 256 bytes."""
-        program = common.ROOT / "target/bin/watch"
+        program = common.program("watch")
         if not program.exists():
             self.skipTest("the program is not built")
         page = (common.ROOT / "docs/LANGUAGE.md").read_text(encoding="utf-8")
