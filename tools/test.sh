@@ -106,6 +106,14 @@ cargo_in() {
     cargo "$2" --manifest-path "$1/Cargo.toml" "${@:3}"
 }
 
+# The programs in Rattle, where the pages and their tests run them: crates/NAME/out/NAME.
+programs() {
+    local main
+    for main in crates/*/src/main.rt; do
+        (cd "${main%/src/main.rt}" && rt run </dev/null) || return 1
+    done
+}
+
 # The crates below a folder, in the layout that rt ci asks for; rattle stands beside rt.
 laid_out_in_rattle() {
     local rattle
@@ -149,8 +157,9 @@ if [ -n "$all" ]; then
 fi
 if command -v rt >/dev/null; then
     try "the Rattle code: layout" laid_out_in_rattle .
+    try "the programs in Rattle: built" programs
 else
-    echo "skipped the layout of the Rattle code: rt is not installed"
+    echo "skipped the layout of the Rattle code and its programs: rt is not installed"
 fi
 if [ -f tools/house/unreached.py ]; then
     try "laws that nothing reaches" python3 tools/house/unreached.py

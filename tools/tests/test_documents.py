@@ -1,6 +1,7 @@
 """What the documents list of the repository is what stands there. The second half of this file shows that each check can fail."""
 import functools
 import re
+import shutil
 import subprocess
 import unittest
 
@@ -14,12 +15,12 @@ PAGES = ("README.md", "docs/CLAIMS.md", "docs/CONTRIBUTING.md", "docs/CRATES.md"
          "docs/WORDS.md", "examples/README.md", "python/README.md")
 
 # Words of the kit, of other programs, of examples and of the names before, which no file of the repository has.
-WORDS_FROM_ELSEWHERE = set("""ac allow-holes at-read brief doc forecast_numbers generate_load incremental ipairs lem ozone rattle
-read_full rn rnw run_watched solution trace-mem validate_number validate_place write_fixed_form write_stripped_form x0003 NAME
-PATH discover parallel year IMAGE""".split())
+WORDS_FROM_ELSEWHERE = set("""RT_JOBS ac allow-holes brief doc forecast_numbers generate_load incremental ipairs lem lemma ozone
+rattle rn rnw run_watched solution trace-mem validate_number validate_place write_fixed_form write_stripped_form x0003 NAME
+PATH discover parallel tidy year IMAGE""".split())
 
 # Paths of the kit, and patterns.
-PATHS_FROM_ELSEWHERE = {"docs/START-HERE.md", "crates/NAME/must-fail", "crates/CRATE/must-fail/LABEL.edit"}
+PATHS_FROM_ELSEWHERE = {"crates/NAME", "crates/NAME/must-fail", "crates/CRATE/must-fail/LABEL.edit"}
 
 # Folders whose files have the names before the port.
 FORMER = ("tools/port/", "prepared/")
@@ -126,6 +127,13 @@ class Documents(unittest.TestCase):
                 part, _, module = name.rpartition("/")
                 listed.add(f"crates/{crate}/src" if name == "src" else f"crates/{crate}/{part or 'specs'}/{module}.antt")
         self.assertEqual(sorted(listed), believed())
+
+    def test_the_kit(self):
+        """README.md names the kit that proves the crates, where it is installed."""
+        if not shutil.which("rt"):
+            self.skipTest("rt is not installed")
+        said = subprocess.run(["rt", "version"], capture_output=True, text=True, check=True).stdout.strip()
+        self.assertIn(f"proved with {said}, as `rt version`", (common.ROOT / "README.md").read_text(encoding="utf-8"))
 
     def test_the_map_of_crates(self):
         """docs/CRATES.md has a row for every crate, and for no other."""
