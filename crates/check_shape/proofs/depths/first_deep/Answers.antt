@@ -1,0 +1,36 @@
+-- `check_shape::depths::first_deep` meets its contract: the loop keeps what is required of the terms from i on.
+use borrow.Author.Tests.{le-leb, lt-leb}
+use Prim.Native.Nat.{◌-◌, ◌≤◌}
+use native.Mathlib.Omega.{arith}
+use mathlib.Core.Path.{◌≡◌, ap, sym, ◌∙◌}
+use lib.ListN.{get_or}
+use Rattle.image.specs.declared.Refusal.{Refusal}
+use Rattle.image.specs.Limits.{depth_limit}
+use Rattle.verdict.specs.declared.Verdict.{Verdict}
+use Rattle.check_shape.specs.Depths.{deep_from}
+use Rattle.check_shape.proofs.Answers.{from_start, from_end, from_next, from_here}
+use borrow.Author.Rules.{rules}
+use Rattle.check_shape.proofs.depths.first_deep.Goals as goal
+
+pub returns-then-mark_of-gt-DEEPEST : goal.returns-then-mark_of-gt-DEEPEST
+returns-then-mark_of-gt-DEEPEST c =
+    let l = c.loop-i in
+    let d = get_or c.args.depths.now l.i 0 in
+    let z = c.mark_of.ensures in
+    let deep = lt-leb d depth_limit (omega (arith, c.if-mark_of-gt-DEEPEST.true)) in
+    sym (l.invariant.1 ∙ from_here _ _ _ _ l.i (omega arith) deep ∙ ap (λ o. Verdict.Refused Refusal.TooDeep o) (sym c.term_offset.ensures))
+
+pub loop-i-preserved : goal.loop-i-preserved
+loop-i-preserved c =
+    let l = c.loop-i in
+    let d = get_or c.args.depths.now l.i 0 in
+    let z = c.mark_of.ensures in
+    (search rules, l.invariant.1 ∙ from_next _ _ _ _ l.i (omega arith) (le-leb d depth_limit (omega (arith, c.if-mark_of-gt-DEEPEST.false))))
+
+pub returns : goal.returns
+returns c =
+    let l = c.loop-i in
+    sym (l.invariant.1 ∙ from_end _ _ _ _ l.i (omega arith))
+
+pub loop-i-init : goal.loop-i-init
+loop-i-init c = (search rules, from_start _ _ _ _)

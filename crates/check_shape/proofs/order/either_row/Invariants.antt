@@ -1,0 +1,18 @@
+-- The loop keeps: the truths done, and those of what is left of the rows.
+use borrow.Author.Rules.{rules}
+use Prim.Native.Nat.{◌<◌, ◌≤◌, ◌-◌}
+use native.Mathlib.Omega.{arith}
+use mathlib.Core.Path.{sym, ap, ◌≡◌, ◌∙◌}
+use mathlib.Core.List.{append-nil, ◌++◌}
+use lib.ListN.{length-set, length, take, drop, drop_of_length-le}
+use lib.Seq.{take_all}
+use Rattle.image.specs.Limits.{domain_limit}
+use Rattle.check_shape.specs.Faults.{either_row}
+use Rattle.check_shape.proofs.Named.{either_more}
+use Rattle.check_shape.proofs.order.either_row.Given as goal
+
+abbrev pub invariant-loop-f : goal.invariant-loop-f
+invariant-loop-f l = (l.f ≤ domain_limit) × (length l.row ≡ domain_limit) × (take l.f l.row ++ either_row (drop l.f l.a) (drop l.f l.b) ≡ either_row l.a l.b)
+
+abbrev pub decreases-loop-f : goal.decreases-loop-f
+decreases-loop-f l = domain_limit - l.f

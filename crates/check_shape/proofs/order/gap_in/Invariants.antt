@@ -1,0 +1,17 @@
+-- The loop keeps: some f so far.
+use borrow.Author.Rules.{rules}
+use Prim.Native.Nat.{◌-◌, ◌≤◌}
+use native.Mathlib.Omega.{arith}
+use mathlib.Core.Bool.{false, not, ◌&&◌, ◌||◌}
+use mathlib.Core.Path.{◌≡◌, ap, ◌∙◌}
+use lib.ListN.{get_or}
+use Rattle.laws.specs.Tests.{any_below}
+use Rattle.laws.proofs.Tests.{any_none, any_more}
+use Rattle.image.specs.Limits.{domain_limit}
+use Rattle.check_shape.proofs.order.gap_in.Given as goal
+
+abbrev pub invariant-loop-f : goal.invariant-loop-f
+invariant-loop-f l = (l.f ≤ domain_limit) × (l.found ≡ any_below l.f (λ k. get_or l.b k false && not (get_or l.a k false)))
+
+abbrev pub decreases-loop-f : goal.decreases-loop-f
+decreases-loop-f l = domain_limit - l.f

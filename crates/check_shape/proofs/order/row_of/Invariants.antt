@@ -1,0 +1,18 @@
+-- The loop keeps: the bits done, and those of what is left of the mask.
+use borrow.Author.Rules.{rules}
+use Prim.Native.Nat.{suc, ◌+◌, ◌<◌, ◌≤◌, ◌-◌}
+use native.Mathlib.Omega.{arith}
+use mathlib.Core.Path.{sym, ◌≡◌, ◌∙◌}
+use mathlib.Core.List.{append-nil, ◌++◌}
+use lib.ListN.{length-set, length, take}
+use lib.Seq.{take_all}
+use Rattle.image.specs.Limits.{domain_limit}
+use Rattle.verdict.specs.Domains.{bits}
+use Rattle.check_shape.proofs.Orders.{row_more}
+use Rattle.check_shape.proofs.order.row_of.Given as goal
+
+abbrev pub invariant-loop-q : goal.invariant-loop-q
+invariant-loop-q l = (l.q ≤ domain_limit) × (length l.row ≡ domain_limit) × (take l.q l.row ++ bits (domain_limit - l.q) l.m ≡ bits domain_limit l.mask)
+
+abbrev pub decreases-loop-q : goal.decreases-loop-q
+decreases-loop-q l = domain_limit - l.q
