@@ -369,6 +369,14 @@ def in_bodies(text, renamed):
     return head + TOKENS.sub(lambda m: renamed.get(m[0], m[0]), body)
 
 
+# Words that were older already: `pre`, `taken`, `left` and `inv`.
+def older_words(text):
+    text = re.sub(r"(\.(?:if|loop)-[\w'-]+)\.taken(?![\w'-])", r"\1.true", text)
+    text = re.sub(r"(\.(?:if-[\w'-]+|loop-[\w'-]+-test))\.left(?![\w'-])", r"\1.false", text)
+    text = re.sub(r"(\.loop-[\w'-]+)\.inv(?![\w'-])", r"\1.invariant", text)
+    return re.sub(r"(?<![\w.'-])c\.pre(?![\w'-])", "c.requires", text)
+
+
 # The test of an `if !x` says what x is.
 def without_not(text):
     return re.sub(r"\bnot-(?:true|false) (?:[^\s()]+|\((?:[^()]|\([^()]*\))*\)) (?=[\w.'-]*\.if-not-[\w.-]+\.(?:true|false)\b)", "", text)
@@ -376,7 +384,7 @@ def without_not(text):
 
 # An argument by the name that it has today.
 def by_args(fn, text):
-    text = without_not(text)
+    text = without_not(older_words(text))
     for old, new in fn.data["args"]:
         if old.startswith(".args .") and " " not in old[7:]:
             text = re.sub(r"\." + re.escape(old[7:]) + r"(?![\w'-])", "." + new[7:], text)

@@ -2,11 +2,10 @@
 use Prim.Native.Nat.{ℕ, ◌+◌, ◌-◌, ◌*◌, ◌≤◌}
 use native.Mathlib.Omega.{arith}
 use mathlib.Core.Path.{◌≡◌, sym, ap, ◌∙◌}
-use mathlib.Core.Bool.{Bool, true, false, not}
+use mathlib.Core.Bool.{Bool, true, false}
 use mathlib.Core.List.{List, [], ◌∷◌}
 use mathlib.Core.Option.{none, some}
 use lib.Dec.{eqb, leb}
-use borrow.Author.Tests.{not-true, not-false}
 use Rattle.image.specs.declared.Refusal.{Refusal}
 use Rattle.laws.specs.Tests.{first_fault}
 use Rattle.laws.proofs.Booleans.{le_of, eq_of}
@@ -39,11 +38,11 @@ pub first_held : (x y n : ℕ) → x ≡ y → Held x n → 2 * first_of y ≤ n
 first_held x y n e h = rw (← e) (omega arith)
 
 -- A test that a function answers, and whose answer a branch goes by.
-pub yes_of : (r t : Bool) → r ≡ t → not r ≡ false → t ≡ true
-yes_of r t e h = sym e ∙ not-false r h
+pub yes_of : (r t : Bool) → r ≡ t → r ≡ true → t ≡ true
+yes_of r t e h = sym e ∙ h
 
-pub no_of : (r t : Bool) → r ≡ t → not r ≡ true → t ≡ false
-no_of r t e h = sym e ∙ not-true r h
+pub no_of : (r t : Bool) → r ≡ t → r ≡ false → t ≡ false
+no_of r t e h = sym e ∙ h
 
 -- 4 to 7: the first that fails.
 module _ (a b c d : Bool) where

@@ -1,7 +1,6 @@
 -- `check_ranges::faults::first_fault` meets its contract: each answer is the first test that fails.
 use lib.ListN.{length}
 use Rattle.check_ranges.proofs.Numbers.{fits_held, yes_of, no_of, fault4, fault5, fault6, fault7, no_fault}
-use borrow.Author.Rules.{rules}
 use Rattle.check_ranges.proofs.faults.first_fault.Goals as goal
 
 pub returns-then-not-in_order : goal.returns-then-not-in_order

@@ -1,7 +1,6 @@
 -- `check_ranges::faults::groups_fill` meets its contract.
 use mathlib.Core.Path.{◌≡◌, sym, ◌∙◌}
 use Rattle.read_records.specs.Codes.{group_of}
-use borrow.Author.Rules.{rules}
 use Rattle.check_ranges.proofs.faults.groups_fill.Goals as goal
 
 pub returns-then-group-eq1 : goal.returns-then-group-eq1

@@ -1,7 +1,6 @@
 -- `check_ranges::faults::has_capacity` meets its contract, section by section.
 use mathlib.Core.Path.{sym, ◌∙◌}
 use borrow.Author.Tests.{eq-eqb, ne_eqb}
-use borrow.Author.Rules.{rules}
 use Rattle.check_ranges.proofs.faults.has_capacity.Goals as goal
 
 pub returns-then-section_of-eq-TYPES : goal.returns-then-section_of-eq-TYPES

@@ -3,7 +3,6 @@ use mathlib.Core.Path.{sym, ◌∙◌}
 use mathlib.Core.Bool.{and-true}
 use borrow.Author.Tests.{eq-eqb, ne_eqb}
 use Rattle.laws.specs.Tests.{all}
-use borrow.Author.Rules.{rules}
 use Rattle.check_ranges.proofs.faults.in_order.Goals as goal
 
 pub returns-then-section_of-eq-TYPES : goal.returns-then-section_of-eq-TYPES

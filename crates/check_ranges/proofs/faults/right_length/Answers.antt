@@ -5,7 +5,6 @@ use Prim.Native.Nat.{◌-◌}
 use Rattle.read_records.specs.Codes.{group_of}
 use Rattle.check_ranges.specs.Numbers.{groups_fill}
 use Rattle.check_ranges.proofs.Lengths.{least_fits, short_fails, longer_fits, group_fits}
-use borrow.Author.Rules.{rules}
 use Rattle.check_ranges.proofs.faults.right_length.Goals as goal
 
 pub returns-then-len-least : goal.returns-then-len-least

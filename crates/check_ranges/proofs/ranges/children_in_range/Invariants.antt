@@ -1,11 +1,8 @@
 -- `check_ranges::ranges::children_in_range` meets its contract: so far each child is in range, and what is left decides.
 use Prim.Native.Nat.{◌-◌, ◌/◌}
-use mathlib.Core.Path.{◌≡◌, refl, sym, ◌∙◌}
+use mathlib.Core.Path.{◌≡◌}
 use lib.ListN.{length}
 use Rattle.check_ranges.specs.Ranges.{groups_from}
-use Rattle.check_ranges.proofs.RangeLoops.{child_next, child_stop}
-use Rattle.check_ranges.proofs.Numbers.{yes_of, no_of}
-use borrow.Author.Rules.{rules}
 use Rattle.check_ranges.proofs.ranges.children_in_range.Given as goal
 
 abbrev pub invariant-loop-i : goal.invariant-loop-i

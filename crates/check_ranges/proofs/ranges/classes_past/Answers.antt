@@ -1,5 +1,5 @@
 -- `check_ranges::ranges::classes_past` meets its contract: what is left of the classes is that of all of them.
-use Prim.Native.Nat.{◌-◌, ◌≤◌}
+use Prim.Native.Nat.{◌-◌}
 use mathlib.Core.Path.{◌≡◌, sym, ◌∙◌}
 use native.Mathlib.Omega.{arith}
 use Rattle.check_ranges.specs.Ranges.{classes_past}

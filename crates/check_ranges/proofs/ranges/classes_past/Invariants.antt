@@ -1,10 +1,7 @@
 -- `check_ranges::ranges::classes_past` meets its contract: what is left of the classes is that of all of them.
 use Prim.Native.Nat.{◌-◌, ◌≤◌}
-use mathlib.Core.Path.{◌≡◌, sym, ◌∙◌}
-use native.Mathlib.Omega.{arith}
+use mathlib.Core.Path.{◌≡◌}
 use Rattle.check_ranges.specs.Ranges.{classes_past}
-use Rattle.check_ranges.proofs.RangeLoops.{past_next}
-use borrow.Author.Rules.{rules}
 use Rattle.check_ranges.proofs.ranges.classes_past.Given as goal
 
 abbrev pub invariant-loop-i : goal.invariant-loop-i

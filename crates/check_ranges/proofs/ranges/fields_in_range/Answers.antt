@@ -1,5 +1,5 @@
 -- `check_ranges::ranges::fields_in_range` meets its contract: so far each field is in range, and what is left decides.
-use Prim.Native.Nat.{◌+◌, ◌-◌, ◌≤◌}
+use Prim.Native.Nat.{◌+◌, ◌-◌}
 use mathlib.Core.Path.{◌≡◌, sym, ◌∙◌}
 use native.Mathlib.Omega.{arith}
 use Rattle.check_ranges.specs.Ranges.{ranges_from}

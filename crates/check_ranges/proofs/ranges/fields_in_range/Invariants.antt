@@ -1,11 +1,7 @@
 -- `check_ranges::ranges::fields_in_range` meets its contract: so far each field is in range, and what is left decides.
-use Prim.Native.Nat.{◌+◌, ◌-◌, ◌≤◌}
-use mathlib.Core.Path.{◌≡◌, sym, ◌∙◌}
-use native.Mathlib.Omega.{arith}
+use Prim.Native.Nat.{◌-◌, ◌≤◌}
+use mathlib.Core.Path.{◌≡◌}
 use Rattle.check_ranges.specs.Ranges.{ranges_from}
-use Rattle.check_ranges.proofs.RangeLoops.{range_next, range_stop}
-use Rattle.check_ranges.proofs.Numbers.{yes_of, no_of}
-use borrow.Author.Rules.{rules}
 use Rattle.check_ranges.proofs.ranges.fields_in_range.Given as goal
 
 abbrev pub invariant-loop-i : goal.invariant-loop-i

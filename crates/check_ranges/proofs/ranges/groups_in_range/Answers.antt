@@ -1,8 +1,6 @@
 -- `check_ranges::ranges::groups_in_range` meets its contract: so far each group is in range, and what is left decides.
-use Prim.Native.Nat.{◌+◌, ◌-◌, ◌*◌, ◌≤◌}
 use mathlib.Core.Path.{◌≡◌, refl, sym, ◌∙◌}
 use native.Mathlib.Omega.{arith}
-use lib.ListN.{length}
 use Rattle.check_ranges.specs.Ranges.{groups_from}
 use Rattle.check_ranges.proofs.RangeLoops.{group_next, group_stop, once_more}
 use Rattle.check_ranges.proofs.Numbers.{yes_of, no_of}

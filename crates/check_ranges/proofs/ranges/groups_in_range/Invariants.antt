@@ -1,12 +1,8 @@
 -- `check_ranges::ranges::groups_in_range` meets its contract: so far each group is in range, and what is left decides.
-use Prim.Native.Nat.{◌+◌, ◌-◌, ◌*◌, ◌≤◌}
-use mathlib.Core.Path.{◌≡◌, refl, sym, ◌∙◌}
-use native.Mathlib.Omega.{arith}
+use Prim.Native.Nat.{◌+◌, ◌*◌, ◌≤◌}
+use mathlib.Core.Path.{◌≡◌}
 use lib.ListN.{length}
 use Rattle.check_ranges.specs.Ranges.{groups_from}
-use Rattle.check_ranges.proofs.RangeLoops.{group_next, group_stop, once_more}
-use Rattle.check_ranges.proofs.Numbers.{yes_of, no_of}
-use borrow.Author.Rules.{rules}
 use Rattle.check_ranges.proofs.ranges.groups_in_range.Given as goal
 
 abbrev pub invariant-loop-left : goal.invariant-loop-left

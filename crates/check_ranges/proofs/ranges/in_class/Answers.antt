@@ -1,6 +1,5 @@
 -- `check_ranges::ranges::in_class` meets its contract, class by class.
 use borrow.Author.Tests.{ne_eqb}
-use borrow.Author.Rules.{rules}
 use Rattle.check_ranges.proofs.ranges.in_class.Goals as goal
 
 pub returns-in_default : goal.returns-in_default

@@ -1,6 +1,6 @@
 -- `check_ranges::ranges::in_range` meets its contract: in each arm the code is a number, and the tests are the definition's.
 use mathlib.Core.Path.{◌≡◌}
-use Prim.Native.Nat.{ℕ, ◌-◌}
+use Prim.Native.Nat.{ℕ}
 use mathlib.Core.Bool.{and-true}
 use mathlib.Core.Logic.{⊎_elim}
 use native.Mathlib.Omega.{arith}
@@ -9,7 +9,6 @@ use Rattle.image.specs.Kinds.{TypeKind, domain, type}
 use Rattle.read_records.specs.Codes.{class_numbers, code_of}
 use Rattle.check_ranges.specs.Ranges.{ranges_from, groups_from, classes_past}
 use Rattle.check_ranges.proofs.Numbers.{first_held}
-use borrow.Author.Rules.{rules}
 use Rattle.check_ranges.proofs.ranges.in_range.Goals as goal
 
 pub returns-in-1073758470 : goal.returns-in-1073758470
@@ -35,25 +34,25 @@ unfolding all ranges_from groups_from classes_past
 returns-in-2147488006 c = simp (c.in-2147488006.is, c.names_domain-in-2147488006.ensures, and-true)
 
 pub names_type-requires : goal.names_type-requires
-names_type-requires c = omega (arith, first_held _ _ _ c.in-2147516936.is c.pre.1)
+names_type-requires c = omega (arith, first_held _ _ _ c.in-2147516936.is c.requires.1)
 
 pub names_domain-requires : goal.names_domain-requires
-names_domain-requires c = omega (arith, first_held _ _ _ c.in-2147516936.is c.pre.1)
+names_domain-requires c = omega (arith, first_held _ _ _ c.in-2147516936.is c.requires.1)
 
 pub names_type-requires-in-2147517194 : goal.names_type-requires-in-2147517194
-names_type-requires-in-2147517194 c = omega (arith, first_held _ _ _ c.in-2147517194.is c.pre.1)
+names_type-requires-in-2147517194 c = omega (arith, first_held _ _ _ c.in-2147517194.is c.requires.1)
 
 pub names_domain-requires-in-2147517194 : goal.names_domain-requires-in-2147517194
-names_domain-requires-in-2147517194 c = omega (arith, first_held _ _ _ c.in-2147517194.is c.pre.1)
+names_domain-requires-in-2147517194 c = omega (arith, first_held _ _ _ c.in-2147517194.is c.requires.1)
 
 pub names_type-requires-in-2147517194-2 : goal.names_type-requires-in-2147517194-2
-names_type-requires-in-2147517194-2 c = omega (arith, first_held _ _ _ c.in-2147517194.is c.pre.1)
+names_type-requires-in-2147517194-2 c = omega (arith, first_held _ _ _ c.in-2147517194.is c.requires.1)
 
 pub names_type-requires-in-2147484168 : goal.names_type-requires-in-2147484168
-names_type-requires-in-2147484168 c = omega (arith, first_held _ _ _ c.in-2147484168.is c.pre.1)
+names_type-requires-in-2147484168 c = omega (arith, first_held _ _ _ c.in-2147484168.is c.requires.1)
 
 pub names_type-requires-in-2147484168-2 : goal.names_type-requires-in-2147484168-2
-names_type-requires-in-2147484168-2 c = omega (arith, first_held _ _ _ c.in-2147484168.is c.pre.1)
+names_type-requires-in-2147484168-2 c = omega (arith, first_held _ _ _ c.in-2147484168.is c.requires.1)
 
 pub names_domain-requires-in-2147488006 : goal.names_domain-requires-in-2147488006
-names_domain-requires-in-2147488006 c = omega (arith, first_held _ _ _ c.in-2147488006.is c.pre.1)
+names_domain-requires-in-2147488006 c = omega (arith, first_held _ _ _ c.in-2147488006.is c.requires.1)

@@ -1,5 +1,4 @@
 -- `check_ranges::ranges::names_entry` meets its contract.
-use borrow.Author.Rules.{rules}
 use Rattle.check_ranges.proofs.ranges.names_entry.Goals as goal
 
 pub returns : goal.returns

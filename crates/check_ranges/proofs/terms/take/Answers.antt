@@ -5,7 +5,6 @@ use mathlib.Core.Logic.{⊎_elim}
 use Rattle.read_records.specs.Codes.{class_numbers}
 use Rattle.check_ranges.proofs.Numbers.{first_held}
 use Rattle.check_ranges.proofs.Frequent.{taken, unit_has, var_has, number_has, one_has, two_has, three_has, arith_has, lower_has, pointcut_range}
-use borrow.Author.Rules.{rules}
 use Rattle.check_ranges.proofs.terms.take.Goals as goal
 
 pub take_leaf-requires : goal.take_leaf-requires

@@ -2,7 +2,6 @@
 use native.Mathlib.Omega.{arith}
 use mathlib.Core.Path.{refl, sym, ◌∙◌}
 use Rattle.check_uses.proofs.ChildByChild.{lower_up}
-use borrow.Author.Rules.{rules}
 use Rattle.check_ranges.proofs.terms.take_any.Goals as goal
 
 pub enter_children-requires : goal.enter_children-requires

@@ -1,6 +1,5 @@
 -- `check_ranges::terms::take_leaf` meets its contract.
 use mathlib.Core.Path.{refl, ◌∙◌}
-use borrow.Author.Rules.{rules}
 use Rattle.check_ranges.proofs.terms.take_leaf.Goals as goal
 
 pub returns-then-ok : goal.returns-then-ok

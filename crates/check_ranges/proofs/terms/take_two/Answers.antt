@@ -2,7 +2,6 @@
 use native.Mathlib.Omega.{arith}
 use mathlib.Core.Path.{refl, ◌∙◌}
 use Rattle.check_ranges.proofs.Taken.{both_told, child_told}
-use borrow.Author.Rules.{rules}
 use Rattle.check_ranges.proofs.terms.take_two.Goals as goal
 
 pub enter_two-requires : goal.enter_two-requires

@@ -2,10 +2,8 @@
 use native.Mathlib.Omega.{arith}
 use mathlib.Core.Path.{refl, sym, ◌∙◌}
 use lib.ListN.{length}
-use borrow.Author.Tests.{not-true, not-false}
 use Rattle.check_ranges.proofs.Numbers.{fits_held, yes_of, no_of, fault4, fault6, fault7, no_fault}
 use Rattle.check_ranges.proofs.Taken.{term_ordered, term_capacity}
-use borrow.Author.Rules.{rules}
 use Rattle.check_ranges.proofs.terms.term_fault.Goals as goal
 
 pub returns-then-not-right_length : goal.returns-then-not-right_length
