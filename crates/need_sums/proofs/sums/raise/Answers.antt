@@ -1,12 +1,11 @@
 use borrow.Author.Rules.{rules}
 use Rattle.need_sums.specs.Sums.{raise_needs}
-use Rattle.need_sums.proofs.sums.raise.Statement.{statement}
-use Rattle.need_sums.proofs.sums.raise.Tie as tie
+use Rattle.need_sums.proofs.sums.raise.Goals as goal
 
-returns : tie.Need-returns
+pub returns : goal.returns
 unfolding raise_needs
 returns c =
-    let a = c.before.args.a in
+    let a = c.args.a in
     λ i. record {
       steps = a.steps;
       bindings = a.bindings;
@@ -20,6 +19,3 @@ returns c =
       frames = c.raised.ensures i;
       log = a.log;
     }
-
-pub raise_spec : {M : Type 1} → statement M
-raise_spec = tie.close (tie.spec (λ c κs. search rules) returns)
