@@ -71,7 +71,7 @@ class OnThisMachine(Recorded):
 
     def test_the_archive(self):
         """By the program in C that runs on other processors too."""
-        archive = Path(os.environ.get("BUKZARN_LIBRARY") or common.ROOT / "target/staticlib", "libbukzarn.a")
+        archive = Path(os.environ.get("BUKZARN_LIBRARY") or common.ROOT / "crates/bukzarn/out", "libbukzarn.a")
         if not archive.is_file() or missing("gcc"):
             self.skipTest("no libbukzarn.a, or no gcc")
         with tempfile.TemporaryDirectory() as folder:
