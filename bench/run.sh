@@ -37,7 +37,7 @@ while [ $# -gt 0 ]; do
 done
 # The library as the sources are now, unless another one is named.
 if [ -z "${BUKZARN_LIBRARY:-}" ]; then
-    said=$(cd "$bench/.." && rt staticlib bukzarn 2>&1) || { printf '%s\n' "$said" >&2; exit 1; }
+    said=$(cd "$bench/../crates/bukzarn" && rt lib 2>&1) || { printf '%s\n' "$said" >&2; exit 1; }
 fi
 measured() {
     CARGO_TARGET_DIR=$bench/target cargo run --quiet --release --manifest-path "$package/Cargo.toml" -- "$@"

@@ -1,8 +1,8 @@
 /* The watch engine for C: the functions of libbukzarn.a.
 
    Build the library in the repository's root with
-       rt staticlib bukzarn
-   which writes target/staticlib/libbukzarn.a, for x86-64. It needs memcpy and memset and nothing else: no heap, no files,
+       (cd crates/bukzarn && rt lib)
+   which writes crates/bukzarn/out/libbukzarn.a, for x86-64. It needs memcpy and memset and nothing else: no heap, no files,
    no global state, so calls from several threads at once are safe as long as the memory that they write is different.
    Recursion is at most 64 deep; docs/STATIONS.md has the stack that calls were measured to take.
 

@@ -3,7 +3,7 @@
 #     tools/cross.sh aarch64 [FOLDER]     libbukzarn.a for 64-bit Arm Linux, to link with aarch64-linux-gnu-gcc
 #     tools/cross.sh wasm32 [FOLDER]      bukzarn.wasm, a module without imports (needs wasm-ld: Debian's lld)
 # It stands in FOLDER, else in target/aarch64 or target/wasm32. The crates that the library stands on must be proved: run
-# `rt check bukzarn` first. The module stays in target/cross, and is made again only if something under it is newer.
+# `rt lib` in crates/bukzarn first. The module stays in target/cross, and is made again only if something under it is newer.
 # docs/STATIONS.md says what is trusted then, and how each is used.
 set -euo pipefail
 cd "$(dirname "$0")/.."
@@ -30,34 +30,37 @@ wasm32) triple=wasm32-unknown-unknown && want wasm-ld "install lld" ;;
 *) usage ;;
 esac
 folder=${2:-target/$1}
-want rattle "it comes with rt"
+want rt "it comes with Rattle's kit"
 
-kit=$(dirname "$(dirname "$(readlink -f "$(command -v rattle)")")")
-own=$kit/on/$(uname -m)
+kit=$(dirname "$(dirname "$(readlink -f "$(command -v rt)")")")
 tmp=$(mktemp -d)
 trap 'rm -rf "$tmp"' EXIT
 
 # rattle compiles with the clang of the folder that --toolchain names. This one keeps the module, then compiles it as usual.
 mkdir -p "$tmp/bin"
-ln -s "$own/toolchain/lib" "$tmp/lib"
-ln -s "$own/toolchain/bin/ld.lld" "$own/toolchain/bin/llvm-ar" "$tmp/bin/"
+ln -s "$kit/toolchain/lib" "$tmp/lib"
+ln -s "$kit/toolchain/bin/ld.lld" "$kit/toolchain/bin/llvm-ar" "$tmp/bin/"
 cat >"$tmp/bin/clang" <<CLANG
 #!/bin/sh
 for word in "\$@"; do case \$word in *.bc) cp "\$word" "$tmp/module.bc" ;; esac; done
-exec "$own/toolchain/bin/clang" "\$@"
+exec "$kit/toolchain/bin/clang" "\$@"
 CLANG
 chmod +x "$tmp/bin/clang"
 
-# The module of the library, from the proved crates in target/rlib.
+# The module of the library, from the proved crates in crates/NAME/out/rlib and what the check of crates/bukzarn kept.
 module() {
-    local words=(--crate-name bukzarn crates/bukzarn/src/lib.rt --extern "std=$own/rlib/std.rlib") name
-    for name in $(sed -n 's/^bukzarn://p' crates.txt); do
-        [ -d "target/rlib/$name.rlib" ] || fail "$name is not proved: run 'rt check bukzarn' first"
-        words+=(--extern "$name=$PWD/target/rlib/$name.rlib")
+    local words=(--crate-name bukzarn src/lib.rt --extern "std=$kit/rlibs/std.rlib" -L "dependency=$kit/rlibs") name place
+    for name in $(sed -n 's/^bukzarn\b[^:]*://p' crates.txt); do
+        place=$PWD/crates/$name/out/rlib/$name.rlib
+        [ -d "$place" ] || fail "$name is not proved: run 'rt lib' in crates/bukzarn first"
+        words+=(--extern "$name=$place")
     done
-    rattle build "${words[@]}" -L "dependency=$PWD/target/rlib" -L "dependency=$own/rlib" \
-        --antt-project "$kit/logic/antt-project.json" --logic-built "$own/logic-built" --toolchain "$tmp" \
-        --crate-type staticlib -o "$tmp/own.a" >"$tmp/said" 2>&1 || fail "$(cat "$tmp/said")"
+    for place in crates/*/out/rlib; do
+        words+=(-L "dependency=$PWD/$place")
+    done
+    (cd crates/bukzarn && "$kit/bin/rattle" build "${words[@]}" --antt-project "$kit/rattle/logic/antt-project.json" \
+        --logic-built "$kit/logic_built" --incremental out/incremental --toolchain "$tmp" --links bukzarn= \
+        --crate-type staticlib -o "$tmp/own.a") >"$tmp/said" 2>&1 || fail "$(cat "$tmp/said")"
     [ -f "$tmp/module.bc" ] || fail "rattle compiled no module"
     mkdir -p target/cross
     mv "$tmp/module.bc" target/cross/bukzarn.bc
@@ -66,12 +69,12 @@ module() {
 # Is the module there, and nothing newer that it follows from?
 is_made() {
     local made=target/cross/bukzarn.bc
-    [ -f $made ] && [ -z "$(find crates/bukzarn crates.txt target/rlib -newer $made -print -quit)" ]
+    [ -f $made ] && [ -z "$(find crates.txt crates/bukzarn/{src,specs,proofs} crates/*/out/rlib -newer $made -print -quit)" ]
 }
 
 # The module's functions name x86-64 as their processor, of which other code generators warn.
 compile() {
-    "$own/toolchain/bin/clang" --target="$triple" -Wno-override-module --no-default-config -c -x ir target/cross/bukzarn.bc \
+    "$kit/toolchain/bin/clang" --target="$triple" -Wno-override-module --no-default-config -c -x ir target/cross/bukzarn.bc \
         -o "$1" -fPIC -O3 2>"$tmp/warned" || fail "$(cat "$tmp/warned")"
 }
 
@@ -88,6 +91,6 @@ if [ "$1" = wasm32 ]; then
     echo "$folder/bukzarn.wasm"
 else
     rm -f "$folder/libbukzarn.a"
-    "$own/toolchain/bin/llvm-ar" rcs "$folder/libbukzarn.a" "$tmp/bukzarn.o"
+    "$kit/toolchain/bin/llvm-ar" rcs "$folder/libbukzarn.a" "$tmp/bukzarn.o"
     echo "$folder/libbukzarn.a"
 fi

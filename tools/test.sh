@@ -2,8 +2,8 @@
 # Passes the tests of everything around the proved crates: the layout of all files, what keeps the house, the tools, the package
 # for Python, the bench in the browser, the library for other processors, the Rust crate, the command bukzarn, the programs in C.
 # With --all the gate comes first (.ci/run: every proof, every edit, every program), so that one command passes all tests.
-# The library is built first (rt staticlib bukzarn); to test another, name its folder in BUKZARN_LIBRARY. What needs programs or
-# packages that are not installed is skipped, and a line says so.
+# The library is built first (rt lib, in crates/bukzarn); to test another, name its folder in BUKZARN_LIBRARY. What needs
+# programs or packages that are not installed is skipped, and a line says so.
 #     tools/test.sh [--all]
 set -uo pipefail
 root=$(cd "$(dirname "${BASH_SOURCE[0]}")/.." && pwd)
@@ -45,6 +45,11 @@ python_with() {
         fi
     done
     echo python3
+}
+
+# The archive, crates/bukzarn/out/libbukzarn.a.
+library() {
+    (cd crates/bukzarn && rt lib)
 }
 
 # The archive beside the shared library that Python loads, in a folder of their own.
@@ -165,8 +170,8 @@ if [ -f tools/house/unreached.py ]; then
     try "laws that nothing reaches" python3 tools/house/unreached.py
 fi
 if [ -z "${BUKZARN_LIBRARY:-}" ]; then
-    try "the library" rt staticlib bukzarn
-    BUKZARN_LIBRARY=target/staticlib
+    try "the library" library
+    BUKZARN_LIBRARY=crates/bukzarn/out
 fi
 BUKZARN_LIBRARY=$(cd "$BUKZARN_LIBRARY" && pwd) || exit 1
 export BUKZARN_LIBRARY

@@ -2,9 +2,9 @@
    promised of the images that are written.
 
    Build and run in the repository's root:
-       rt staticlib bukzarn
+       (cd crates/bukzarn && rt lib)
        gcc -std=c99 -Wall -Wextra -pedantic -O2 -Iinclude -o target/functions_c \
-           examples/c/functions.c target/staticlib/libbukzarn.a
+           examples/c/functions.c crates/bukzarn/out/libbukzarn.a
        target/functions_c examples/limits.img
 
    Exit status: 0, or 1 if a function refused or a promise was not kept, 2 if the image cannot be read. */

@@ -4,9 +4,9 @@
    take many of a recording at once. With a name it refuses another image than the one of that name (name.h).
 
    Build and run in the repository's root:
-       rt staticlib bukzarn
+       (cd crates/bukzarn && rt lib)
        gcc -std=c99 -Wall -Wextra -pedantic -O2 -Iinclude -o target/receiver_c \
-           examples/c/receiver.c target/staticlib/libbukzarn.a
+           examples/c/receiver.c crates/bukzarn/out/libbukzarn.a
        target/receiver_c examples/ascent/watched.img examples/ascent/ascent.frames 12
 
    Exit status: 0 every run is done, 1 refused or another image, 2 wrong use, 3 reading or writing failed, 4 a run ended otherwise. */

@@ -2,9 +2,9 @@
    and prints its listing: the log, the outcome with the steps, the result, the cells; or `refused N PLACE`.
 
    Build and run in the repository's root:
-       rt staticlib bukzarn
+       (cd crates/bukzarn && rt lib)
        gcc -std=c99 -Wall -Wextra -pedantic -O2 -Iinclude -o target/watch_c \
-           examples/c/watch.c target/staticlib/libbukzarn.a
+           examples/c/watch.c crates/bukzarn/out/libbukzarn.a
        target/watch_c crates/watch/data/p2.img */
 #include <inttypes.h>
 #include <stdio.h>

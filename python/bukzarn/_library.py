@@ -46,8 +46,8 @@ def library_path() -> Path:
     named = Path(os.environ.get("BUKZARN_LIBRARY") or build.PACKAGE) / build.SHARED
     found = named if named.is_file() else build.PACKAGE / build.SHARED
     if not found.is_file():
-        raise NoLibrary(f"{found} is not there: make it with 'rt staticlib bukzarn' and '{COMMAND}'")
-    archive = build.PACKAGE.parents[1] / "target/staticlib" / build.ARCHIVE
+        raise NoLibrary(f"{found} is not there: make it with '(cd crates/bukzarn && rt lib)' and '{COMMAND}'")
+    archive = build.PACKAGE.parents[1] / "crates/bukzarn/out" / build.ARCHIVE
     if found.parent == build.PACKAGE and archive.is_file() and archive.stat().st_mtime > found.stat().st_mtime:
         raise NoLibrary(f"{found} is older than {archive}: make it again with '{COMMAND}'")
     return found

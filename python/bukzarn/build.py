@@ -3,9 +3,9 @@
 
     python3 python/bukzarn/build.py [ARCHIVE] [-o FILE]
 
-Without words it takes the archive that `rt staticlib bukzarn` wrote (or the one in the folder that BUKZARN_LIBRARY names) and
-writes libbukzarn.so beside this file, where the package finds it and from where `pip install` takes it. It needs gcc, or the
-compiler that CC names.
+Without words it takes the archive that `(cd crates/bukzarn && rt lib)` wrote (or the one in the folder that BUKZARN_LIBRARY
+names) and writes libbukzarn.so beside this file, where the package finds it and from where `pip install` takes it. It needs
+gcc, or the compiler that CC names.
 """
 import argparse
 import os
@@ -24,7 +24,7 @@ class Failed(Exception):
 
 def archive() -> Path:
     """The archive that is taken if none is named: it need not be there."""
-    folder = os.environ.get("BUKZARN_LIBRARY") or PACKAGE.parents[1] / "target/staticlib"
+    folder = os.environ.get("BUKZARN_LIBRARY") or PACKAGE.parents[1] / "crates/bukzarn/out"
     return Path(folder) / ARCHIVE
 
 
@@ -33,7 +33,7 @@ def make(source: Path, made: Path) -> Path:
     has it loaded goes on with the old one."""
     compiler = os.environ.get("CC") or "gcc"
     if not source.is_file():
-        raise Failed(f"{source} is not there: make it with 'rt staticlib bukzarn', or name another archive")
+        raise Failed(f"{source} is not there: make it with '(cd crates/bukzarn && rt lib)', or name another archive")
     if not shutil.which(compiler):
         raise Failed(f"{compiler} is not there: install it, or name another compiler in CC")
     beside = made.with_name(f".{made.name}.{os.getpid()}")

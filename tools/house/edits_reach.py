@@ -12,7 +12,7 @@ import sys
 from pathlib import Path
 
 import gate_order
-from imports import items, place, theory, without_comments
+from imports import items, named, place, theory, without_comments
 
 ROOT = Path(__file__).resolve().parents[2]
 SOURCE = re.compile(r"\b(\w+)::(\w+)")
@@ -62,6 +62,8 @@ def named_by(root, file, graph):
             yield source_file(folder, words[1:]) if words[0] == "declared" else folder.joinpath(part, *words).with_suffix(".antt")
     if file.suffix == ".rt":
         own = file.relative_to(root).parts[1]
+        for crate, part, words, _ in named(text, own):
+            yield (root / "crates" / crate).joinpath(part, *words).with_suffix(".antt")
         for crate, word in [*SOURCE.findall(text), *(path[:2] for path, _ in items(text) if len(path) > 1)]:
             crate = own if crate == "crate" else crate
             if crate in graph:

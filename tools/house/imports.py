@@ -10,7 +10,10 @@ ITEMS = re.compile(r"^[ \t]*(pub )?use (\w+(?:::\w+)*)(?:::\{([^}]*)\})?(?: as (
 # A module of a crate's own folders: `Rattle.CRATE.specs.MODULE`.
 MODULE = re.compile(r"Rattle\.(\w+)\.(specs|proofs)\.(\S+)$")
 
-# What is no word.
+# A law that an attribute of a source file names: `#[tactic(auto, using(CRATE::proofs::MODULE::NAME))]`.
+NAMED = re.compile(r"\b(\w+)::(specs|proofs)::((?:\w+::)+)(\w+)")
+
+# A word: what stands between signs that no name has.
 WORD = re.compile(r"[^\s(){}\[\],;`\"⟦⟧]+")
 
 
@@ -49,6 +52,13 @@ def items(text):
             yield from ((words + name.split("::"), here.split("::")[-1]) for name, here in listed(names))
         else:
             yield words, alias or words[-1]
+
+
+def named(text, own):
+    """The laws that the attributes of a source file without comments name, each with its crate, folder and module; own is the
+    file's crate."""
+    for crate, part, words, name in NAMED.findall(text):
+        yield (own if crate == "crate" else crate), part, words.split("::")[:-1], name
 
 
 def place(module):

@@ -9,7 +9,7 @@ import re
 import sys
 from pathlib import Path
 
-from imports import WORD, place, theory, without_comments, without_imports
+from imports import WORD, named, place, theory, without_comments, without_imports
 
 ROOT = Path(__file__).resolve().parents[2]
 
@@ -145,9 +145,12 @@ def uses(sources, file, words):
 
 
 def cited(root):
-    """What contracts cite, as file and name."""
+    """What contracts and attributes cite, as file and name."""
     for file in root.glob("crates/*/src/**/*.rt"):
-        yield from imported(without_comments(file.read_text(encoding="utf-8"), file.suffix)).values()
+        text = without_comments(file.read_text(encoding="utf-8"), file.suffix)
+        yield from imported(text).values()
+        for crate, part, words, name in named(text, file.relative_to(root).parts[1]):
+            yield f"crates/{crate}/{part}/{'/'.join(words)}.antt", name
 
 
 def edited(root):

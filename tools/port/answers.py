@@ -342,6 +342,8 @@ def convert(path, data, crate, function):
             if m:
                 params = m[1].split()
                 body = by_args(fn, turn_body(fn, fn.place(data["asked_at"][k][0]), params, m[2]))
+                more = [p for p in params[params.index("c") + 1:] if p != "κs"] if "c" in params else []
+                body = f"λ {' '.join(more)}. {body}" if more else body
                 answers.append(f"pub {new} : goal.{new}\n{new} c = {body}")
             else:
                 answers.append(f"pub {new} : goal.{new}\n{new} c = {a} c")

@@ -47,7 +47,7 @@ def tree(test, files):
 
 def archive_folder():
     """The folder of the library's archive, which cargo links; nothing if one of the two is not there."""
-    folder = Path(os.environ.get("BUKZARN_LIBRARY") or ROOT / "target/staticlib")
+    folder = Path(os.environ.get("BUKZARN_LIBRARY") or ROOT / "crates/bukzarn/out")
     return folder if (folder / "libbukzarn.a").is_file() and shutil.which("cargo") else None
 
 

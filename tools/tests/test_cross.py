@@ -1,6 +1,6 @@
 """The library on this machine, and as tools/cross.sh makes it for others, leaves what tools/cross/calls.txt says, byte for byte.
 
-The tests of the others need the crates proved (target/rlib), and aarch64-linux-gnu-gcc with qemu-aarch64, or wasm-ld with node.
+The tests of the others need the crates proved (rt lib in crates/bukzarn), and aarch64-linux-gnu-gcc with qemu-aarch64, or wasm-ld with node.
 Where one of these is missing they are skipped, with the reason. To test libraries that are already there, name their folder in
 BUKZARN_CROSS (with libbukzarn.a for aarch64 and bukzarn.wasm in it).
 """
@@ -71,7 +71,7 @@ class OnThisMachine(Recorded):
 
     def test_the_archive(self):
         """By the program in C that runs on other processors too."""
-        archive = Path(os.environ.get("BUKZARN_LIBRARY") or common.ROOT / "target/staticlib", "libbukzarn.a")
+        archive = Path(os.environ.get("BUKZARN_LIBRARY") or common.ROOT / "crates/bukzarn/out", "libbukzarn.a")
         if not archive.is_file() or missing("gcc"):
             self.skipTest("no libbukzarn.a, or no gcc")
         with tempfile.TemporaryDirectory() as folder:
@@ -91,8 +91,8 @@ class OnOthers(Recorded):
         named = os.environ.get("BUKZARN_CROSS")
         if named:
             return Path(named, file).resolve()
-        if not (common.ROOT / "target/rlib/write_stripped.rlib").exists():
-            self.skipTest("the crates are not proved: rt check bukzarn")
+        if not (common.ROOT / "crates/write_stripped/out/rlib/write_stripped.rlib").exists():
+            self.skipTest("the crates are not proved: rt lib in crates/bukzarn")
         subprocess.run(["tools/cross.sh", target, self.folder], check=True, cwd=common.ROOT, stdout=subprocess.DEVNULL)
         return self.folder / file
 

@@ -254,7 +254,11 @@ left = law
 """,
             "crates/one/proofs/Answered.antt": """pub law : ℕ
 law = 0
+
+pub named : ℕ
+named = 0
 """,
+            "crates/one/src/lib.rt": "#[tactic(auto, using(crate::proofs::Answered::named, std::proofs::Nat::less))]\nfn f() {}\n",
         })
         self.assertEqual(unreached(root), ["crates/one/proofs/Small.antt:7: spare", "crates/one/proofs/Theorem.antt:8: unused",
                                            "crates/one/proofs/f/Answers.antt:7: left"])
@@ -283,13 +287,15 @@ returns c = (cited c, c.g.ensures)
             "crates/theory/proofs/Claim.antt": "use Rattle.theory.specs.Claimed.{x}\n",
             "crates/library/src/lib.rt": "use crate::{\n    more::h,\n};\n#[unsafe(no_mangle)]\nfn f() { parts::g() }\n"
                                          "ghost use Rattle.other.specs.Far.{y};\n",
-            "crates/library/src/parts.rt": "fn g() {}\n",
+            "crates/library/src/parts.rt": "#[tactic(auto, using(theory::proofs::Named::law))]\nfn g() {}\n",
+            "crates/theory/proofs/Named.antt": "use Rattle.theory.specs.Named.{x}\n",
+            "crates/theory/specs/Named.antt": "-- used by a law that an attribute names\n",
             "crates/library/src/more.rt": "fn h() {}\n",
             "crates/library/src/none.rt": "fn k() {}\n",
             "crates/library/proofs/parts/g/Answers.antt": "use Rattle.theory.specs.Used.{x}\n",
             "crates/other/specs/Far.antt": "-- in a crate that the library does not stand on\n",
             **{f"crates/theory/must-fail/{name.lower()}.edit": f"file: specs/{name}.antt\nold: a\nnew: b\n"
-               for name in ("Used", "Claimed", "Alone")},
+               for name in ("Used", "Claimed", "Named", "Alone")},
             "crates/other/must-fail/far.edit": "file: specs/Far.antt\nold: a\nnew: b\n",
             **{f"crates/library/must-fail/{name}.edit": f"file: src/{name}.rt\nold: a\nnew: b\n" for name in ("parts", "more", "none")},
         })

@@ -215,7 +215,7 @@ class Library(unittest.TestCase):
             with mock.patch.dict(os.environ, {"BUKZARN_LIBRARY": ""}):
                 with self.assertRaisesRegex(bukzarn.NoLibrary, "is not there: make it with"):
                     _library.library_path()
-                archive, made = Path(folder, "target/staticlib", build.ARCHIVE), build.PACKAGE / build.SHARED
+                archive, made = Path(folder, "crates/bukzarn/out", build.ARCHIVE), build.PACKAGE / build.SHARED
                 for file in (made, archive):
                     file.parent.mkdir(parents=True)
                     file.write_bytes(b"")
@@ -234,7 +234,7 @@ class Library(unittest.TestCase):
             _library.load_library(Path(file.name))
 
     def test_no_archive_and_no_compiler(self):
-        for words, told in ((["no such archive"], "is not there: make it with 'rt staticlib bukzarn'"),):
+        for words, told in ((["no such archive"], "is not there: make it with '(cd crates/bukzarn && rt lib)'"),):
             with self.assertRaises(SystemExit) as caught:
                 build.main(words)
             self.assertIn(told, str(caught.exception))

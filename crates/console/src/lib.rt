@@ -120,10 +120,14 @@ pub fn argument(rt: &impl Env, i: usize, words: usize, most: u32) -> Numeral
     }
 }
 
-// All that a program answers, on standard output.
-pub fn write_out(rt: &HostRuntime, bytes: &[u8]) {
-    if let Err(error) = rt.write_all(bytes) {
-        tell_failure(rt, b"standard output", error);
+// All that a program answers, on standard output: whether it was written. A write that fails is reported.
+pub fn write_out(rt: &HostRuntime, bytes: &[u8]) -> bool {
+    match rt.write_all(bytes) {
+        Ok(()) => true,
+        Err(error) => {
+            tell_failure(rt, b"standard output", error);
+            false
+        }
     }
 }
 

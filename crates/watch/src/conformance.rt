@@ -38,8 +38,9 @@ fn list_call(image: &[u8], budget: u32, out: &mut [u8]) -> usize
     listing::put_listing(out, a, &log, &report)
 }
 
-pub fn print_listing(rt: &HostRuntime, image: &[u8], budget: u32) {
+// Whether it was written.
+pub fn print_listing(rt: &HostRuntime, image: &[u8], budget: u32) -> bool {
     let mut out = [0u8; LISTING_LENGTH];
     let end = list_call(image, budget, &mut out);
-    console::write_out(rt, &out[..end]);
+    console::write_out(rt, &out[..end])
 }

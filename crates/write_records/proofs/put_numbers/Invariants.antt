@@ -1,0 +1,17 @@
+-- `write_records::put_numbers` meets its contract.
+use borrow.Author.Rules.{rules}
+use Prim.Native.Nat.{◌-◌, ◌≤◌}
+use native.Mathlib.Omega.{arith}
+use mathlib.Core.Path.{◌≡◌, refl, sym, ◌∙◌}
+use lib.ListN.{length, take}
+use Rattle.base_bytes.specs.Bytes.{over}
+use Rattle.base_bytes.proofs.Over.{over_nothing}
+use Rattle.image_written.specs.Records.{little}
+use Rattle.write_records.proofs.Numbers.{number_step}
+use Rattle.write_records.proofs.put_numbers.Given as goal
+
+abbrev pub invariant-loop-i : goal.invariant-loop-i
+invariant-loop-i l = (l.i ≤ l.count) × (length l.out ≡ length l.initial.out) × (l.out ≡ over l.at (little (take l.i l.numbers)) l.initial.out)
+
+abbrev pub decreases-loop-i : goal.decreases-loop-i
+decreases-loop-i l = l.count - l.i
