@@ -1,0 +1,24 @@
+-- `check_objects::objects::bodies_fit` meets its contract: so far each body is of its method's type.
+use native.Mathlib.Omega.{arith}
+use mathlib.Core.Path.{refl, ◌≡◌, sym, ◌∙◌}
+use Prim.Native.Nat.{◌+◌, ◌-◌, ◌*◌, ◌≤◌}
+use lib.ListN.{get_or, drop}
+use lib.Dec.{eqb}
+use Rattle.image.specs.Kinds.{TermKind}
+use Rattle.image.specs.Layout.{records_of}
+use Rattle.image.specs.Types.{type_field}
+use Rattle.verdict.specs.Rules.{bodies_fit}
+use Rattle.verdict.specs.Check.{describe, described}
+use Rattle.read_terms.specs.Fields.{types_in}
+use Rattle.check_rules.proofs.Methods.{fit_more, fit_fails, fit_ends}
+use Rattle.check_rules.proofs.OnDescriptors.{types_length, body_at}
+use borrow.Author.Rules.{rules}
+use Rattle.check_objects.proofs.objects.bodies_fit.Given as goal
+
+abbrev pub invariant-loop-i : goal.invariant-loop-i
+invariant-loop-i l =
+    (l.i ≤ l.k)
+    × (bodies_fit (describe (records_of l.image) l.t.0) l.i (described (records_of l.image) (drop l.i (types_in l.image l.fields TermKind.obj))) ≡ bodies_fit (describe (records_of l.image) l.t.0) 0 (described (records_of l.image) (types_in l.image l.fields TermKind.obj)))
+
+abbrev pub decreases-loop-i : goal.decreases-loop-i
+decreases-loop-i l = l.k - l.i

@@ -1,0 +1,44 @@
+-- `check_objects::objects::object_fits` meets its contract.
+use mathlib.Core.Path.{◌≡◌, sym, ◌∙◌}
+use lib.ListN.{length}
+use borrow.Author.Tests.{eq-eqb, ne_eqb, not-true, not-false}
+use Rattle.image.specs.Kinds.{TermKind}
+use Rattle.image.specs.Layout.{records_of}
+use Rattle.image.specs.Types.{method_count}
+use Rattle.verdict.specs.Rules.{bodies_fit}
+use Rattle.verdict.specs.Check.{describe, described}
+use Rattle.read_records.specs.Heads.{field_in}
+use Rattle.read_terms.specs.Fields.{types_in}
+use Rattle.check_rules.proofs.Methods.{kind_seen, object_seen, first_fails, second_fails, third_tells, bodies_counted}
+use borrow.Author.Rules.{rules}
+use Rattle.check_objects.proofs.objects.object_fits.Goals as goal
+
+pub returns-then-not-is_kind : goal.returns-then-not-is_kind
+returns-then-not-is_kind c =
+    λ p. first_fails _ _ _ (sym (kind_seen c.requires.0.types c.requires.2.type c.is_kind.ensures c.own_descriptor.ensures) ∙ c.if-not-is_kind.true)
+
+pub method_count-requires : goal.method_count-requires
+method_count-requires c =
+    (c.requires.1, rw c.own_type-t.ensures (object_seen c.requires.0.types c.requires.2.type c.is_kind.ensures c.own_descriptor.ensures (c.if-not-is_kind.false)))
+
+pub returns-then-bodies_in-method_count : goal.returns-then-bodies_in-method_count
+returns-then-bodies_in-method_count c =
+    let a = c.args in
+    let o = object_seen c.requires.0.types c.requires.2.type c.is_kind.ensures c.own_descriptor.ensures (c.if-not-is_kind.false) in
+    let m : c.method_count.result ≡ method_count (records_of a.image.now) (field_in a.fields.now 0) = rw c.own_type-t.ensures at c.method_count.ensures in
+    let n = bodies_counted a.image.now a.fields.now in
+    λ p. second_fails _ _ _ o.object (ne_eqb (length (described (records_of a.image.now) (types_in a.image.now a.fields.now TermKind.obj))) (method_count (records_of a.image.now) (field_in a.fields.now 0)) (λ e. c.if-bodies_in-method_count.true (c.bodies_in.ensures ∙ (sym n ∙ (e ∙ sym m)))))
+
+pub bodies_fit-requires : goal.bodies_fit-requires
+bodies_fit-requires c =
+    let o = object_seen c.requires.0.types c.requires.2.type c.is_kind.ensures c.own_descriptor.ensures (c.if-not-is_kind.false) in
+    (c.requires.1, c.requires.0.terms, rw c.own_type-t.ensures o, c.requires.3, sym c.bodies_in.ensures ∙ (c.if-bodies_in-method_count.false ∙ c.method_count.ensures))
+
+pub returns : goal.returns
+returns c =
+    let a = c.args in
+    let o = object_seen c.requires.0.types c.requires.2.type c.is_kind.ensures c.own_descriptor.ensures (c.if-not-is_kind.false) in
+    let m : c.method_count.result ≡ method_count (records_of a.image.now) (field_in a.fields.now 0) = rw c.own_type-t.ensures at c.method_count.ensures in
+    let n = bodies_counted a.image.now a.fields.now in
+    let f : c.bodies_fit.result ≡ bodies_fit (describe (records_of a.image.now) (field_in a.fields.now 0)) 0 (described (records_of a.image.now) (types_in a.image.now a.fields.now TermKind.obj)) = rw c.own_type-t.ensures at c.bodies_fit.ensures in
+    λ p. f ∙ third_tells _ _ _ o.object (eq-eqb _ _ (n ∙ (sym c.bodies_in.ensures ∙ (c.if-bodies_in-method_count.false ∙ m))))

@@ -1,0 +1,20 @@
+-- `check_objects::stacks::entry_fits` meets its contract.
+use borrow.Author.Rules.{rules}
+use native.Mathlib.Omega.{arith}
+use mathlib.Core.Path.{refl, sym}
+use mathlib.Core.Bool.{and-true}
+use Rattle.laws.specs.Tests.{all_of}
+use Rattle.check_objects.proofs.stacks.entry_fits.Goals as goal
+
+pub returns-then-entry-eq0 : goal.returns-then-entry-eq0
+unfolding all_of
+returns-then-entry-eq0 c = rw c.if-entry-eq0.true refl
+
+pub stated_type-pointcut-requires : goal.stated_type-pointcut-requires
+stated_type-pointcut-requires c =
+    (c.requires.0.terms, let e = c.entry_term.ensures in let h = c.requires.1 in omega arith)
+
+pub returns : goal.returns
+unfolding all_of
+returns c =
+    rw (c.entry_term.ensures, c.is_kind.ensures, c.type_descriptor.ensures, c.stated_type-pointcut.ensures.0) (sym (and-true _))
