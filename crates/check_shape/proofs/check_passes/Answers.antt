@@ -1,5 +1,4 @@
 -- The first refusal stands.
-use borrow.Author.Rules.{rules}
 use mathlib.Core.Path.{ap, sym, ◌∙◌}
 use Rattle.verdict.specs.Answers.{is_refused}
 use Rattle.verdict.proofs.Answered.{turn_stops, turn_goes}

@@ -4,12 +4,10 @@ use native.Mathlib.Omega.{arith}
 use mathlib.Core.Bool.{true, false}
 use mathlib.Core.Path.{◌≡◌, ap, sym, ◌∙◌}
 use lib.ListN.{length}
-use borrow.Author.Tests.{not-true, not-false}
 use Rattle.image.specs.Layout.{records_of}
 use Rattle.verdict.specs.Shape.{none_empty}
 use Rattle.check_shape.proofs.TermRecords.{domains_of, terms_of_lem}
 use Rattle.check_shape.proofs.Answers.{shape_empty, shape_passes, none_empty_lem, some_terms}
-use borrow.Author.Rules.{rules}
 use Rattle.check_shape.proofs.check_shape.Goals as goal
 
 pub returns-then-not-none_empty : goal.returns-then-not-none_empty

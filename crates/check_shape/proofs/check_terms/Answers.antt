@@ -4,7 +4,6 @@ use mathlib.Core.Path.{ap, sym, ◌∙◌}
 use Rattle.image.specs.declared.Refusal.{Refusal}
 use Rattle.verdict.specs.declared.Verdict.{Verdict}
 use Rattle.check_shape.proofs.MarkedTerms.{enough_marks, refused_first, depths_decide, accepted_low}
-use borrow.Author.Rules.{rules}
 use Rattle.check_shape.proofs.check_terms.Goals as goal
 
 pub first_misused-first-requires : goal.first_misused-first-requires

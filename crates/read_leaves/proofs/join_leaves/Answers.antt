@@ -1,5 +1,4 @@
 -- `read_leaves::join_leaves` meets its contract.
-use borrow.Author.Rules.{rules}
 use Rattle.read_leaves.specs.Leaves.{join_leaves}
 use borrow.Author.Tests.{eq-eqb, ne_eqb, le-leb, lt-leb}
 use Rattle.read_leaves.proofs.join_leaves.Goals as goal

@@ -1,5 +1,4 @@
 -- `read_leaves::leaves_of` meets its contract.
-use borrow.Author.Rules.{rules}
 use native.Mathlib.Omega.{arith}
 use mathlib.Core.Path.{◌≡◌, sym, ◌∙◌}
 use Rattle.read_leaves.specs.Leaves.{leaves_of}

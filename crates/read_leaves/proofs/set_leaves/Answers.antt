@@ -1,9 +1,8 @@
 -- `read_leaves::set_leaves` meets its contract.
-use borrow.Author.Rules.{rules}
 use native.Mathlib.Omega.{arith}
 use mathlib.Core.Path.{◌≡◌, ap, ◌∙◌}
-use Prim.Native.Nat.{ℕ, ◌-◌, ◌≤◌, ◌<◌}
-use lib.ListN.{length, get_or, set, drop, length-set}
+use Prim.Native.Nat.{◌<◌}
+use lib.ListN.{length, get_or, set, length-set}
 use lib.Seq.{drop-set-lt, get_or-set_same, get_or-set_other}
 use borrow.Author.Count.{below_more}
 use Rattle.image.specs.Layout.{records_of}

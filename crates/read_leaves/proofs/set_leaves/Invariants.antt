@@ -1,17 +1,10 @@
 -- `read_leaves::set_leaves` meets its contract.
-use borrow.Author.Rules.{rules}
-use native.Mathlib.Omega.{arith}
-use mathlib.Core.Path.{◌≡◌, ap, ◌∙◌}
+use mathlib.Core.Path.{◌≡◌}
 use Prim.Native.Nat.{ℕ, ◌-◌, ◌≤◌, ◌<◌}
-use lib.ListN.{length, get_or, set, drop, length-set}
-use lib.Seq.{drop-set-lt, get_or-set_same, get_or-set_other}
-use borrow.Author.Count.{below_more}
+use lib.ListN.{length, get_or, drop}
 use Rattle.image.specs.Layout.{records_of}
 use Rattle.image.specs.Types.{type_of}
 use Rattle.read_records.specs.Leaves.{plain_leaves}
-use Rattle.read_terms.proofs.Located.{good_of}
-use Rattle.read_leaves.specs.Leaves.{leaves_of}
-use Rattle.read_leaves.proofs.PlainTypes.{plain_few, pair_parts, leaves_right}
 use Rattle.read_leaves.proofs.set_leaves.Given as goal
 
 abbrev pub invariant-loop-i : goal.invariant-loop-i

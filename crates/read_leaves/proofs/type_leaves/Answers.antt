@@ -1,5 +1,4 @@
 -- `read_leaves::type_leaves` meets its contract.
-use borrow.Author.Rules.{rules}
 use native.Mathlib.Omega.{arith}
 use mathlib.Core.Path.{◌∙◌}
 use Rattle.read_terms.proofs.Located.{good_of}

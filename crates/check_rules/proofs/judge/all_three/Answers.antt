@@ -1,5 +1,4 @@
 -- `check_rules::judge::all_three` meets its contract.
-use borrow.Author.Rules.{rules}
 use mathlib.Core.Path.{sym, ◌∙◌}
 use Rattle.check_rules.proofs.Small.{holds_first, fails_first}
 use Rattle.check_rules.proofs.judge.all_three.Goals as goal

@@ -1,6 +1,5 @@
 -- `check_rules::judge::judge` meets its contract.
 use mathlib.Core.Path.{refl}
-use borrow.Author.Tests.{not-true, not-false}
 use Rattle.check_rules.proofs.Small.{mistyped, not_allowed, accepted}
 use Rattle.check_rules.proofs.judge.judge.Goals as goal
 

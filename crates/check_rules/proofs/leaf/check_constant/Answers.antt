@@ -1,8 +1,7 @@
 -- `check_rules::leaf::check_constant` meets its contract.
-use borrow.Author.Rules.{rules}
 use mathlib.Core.Path.{◌∙◌}
 use native.Mathlib.Omega.{arith}
-use Prim.Native.Nat.{◌-◌, ◌<◌}
+use Prim.Native.Nat.{◌<◌}
 use Rattle.image.specs.Kinds.{term_row}
 use Rattle.check_rules.proofs.OnDescriptors.{constant_right}
 use Rattle.check_rules.proofs.leaf.check_constant.Goals as goal

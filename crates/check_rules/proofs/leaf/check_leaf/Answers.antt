@@ -1,5 +1,4 @@
 -- `check_rules::leaf::check_leaf` meets its contract.
-use borrow.Author.Rules.{rules}
 use native.Mathlib.Omega.{arith}
 use mathlib.Core.Path.{refl, ◌∙◌}
 use Rattle.image.specs.Kinds.{TermKind}

@@ -1,5 +1,4 @@
 -- `check_rules::leaf::check_variable` meets its contract.
-use borrow.Author.Rules.{rules}
 use mathlib.Core.Path.{◌∙◌}
 use Rattle.check_rules.proofs.Verdict.{variable_unbound, variable_bound}
 use Rattle.check_rules.proofs.leaf.check_variable.Goals as goal

@@ -7,7 +7,6 @@ use Rattle.image.specs.Limits.{term_limit}
 use Rattle.image.specs.Layout.{records_of}
 use Rattle.check_shape.proofs.Zeros.{zeros_length, front_length, whole_length}
 use Rattle.check_shape.proofs.DepthMarks.{deep_same}
-use borrow.Author.Rules.{rules}
 use Rattle.check_shape.proofs.descent.check_depths_in.Goals as goal
 
 pub set_mark-requires : goal.set_mark-requires

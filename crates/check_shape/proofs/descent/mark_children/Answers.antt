@@ -1,5 +1,4 @@
 -- `check_shape::descent::mark_children` meets its contract: the children side by side, then those of the entries.
-use borrow.Author.Rules.{rules}
 use mathlib.Core.Path.{subst, sym, ◌∙◌}
 use mathlib.Core.List.{foldl-append}
 use Rattle.read_records.specs.Heads.{side_of, entries_of}

@@ -1,7 +1,6 @@
 -- `check_shape::descent::mark_entry` meets its contract: an entry of 0 names no child, any other names one.
 use mathlib.Core.Path.{refl}
 use lib.Dec.{lit<}
-use borrow.Author.Rules.{rules}
 use Rattle.check_shape.proofs.descent.mark_entry.Goals as goal
 
 pub set_mark-requires : goal.set_mark-requires

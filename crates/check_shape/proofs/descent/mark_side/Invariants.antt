@@ -1,14 +1,9 @@
 -- `check_shape::descent::mark_side` meets its contract: the loop marks one child after another; the rest of the list is left.
-use Prim.Native.Nat.{◌+◌, ◌-◌, ◌≤◌, ◌<◌}
-use native.Mathlib.Omega.{arith}
-use mathlib.Core.Path.{◌≡◌, refl, ap, sym, ◌∙◌}
-use lib.ListN.{length, get_or, drop, set}
+use Prim.Native.Nat.{◌-◌, ◌≤◌}
+use mathlib.Core.Path.{◌≡◌}
+use lib.ListN.{length, drop}
 use Rattle.verdict.specs.Shape.{set_all}
-use Rattle.verdict.proofs.Changes.{fold_next, fold_end}
-use Rattle.read_records.specs.Codes.{children_in}
-use Rattle.read_records.specs.Heads.{field_in, side_of}
-use Rattle.check_uses.proofs.ChildByChild.{side_length, side_is}
-use borrow.Author.Rules.{rules}
+use Rattle.read_records.specs.Heads.{side_of}
 use Rattle.check_shape.proofs.descent.mark_side.Given as goal
 
 abbrev pub invariant-loop-j : goal.invariant-loop-j

@@ -2,7 +2,6 @@
 use native.Mathlib.Omega.{arith}
 use lib.ListN.{length}
 use Rattle.check_uses.proofs.ChildByChild.{lower_up}
-use borrow.Author.Rules.{rules}
 use Rattle.check_shape.proofs.descent.mark_term.Goals as goal
 
 pub kind_at-requires : goal.kind_at-requires

@@ -1,8 +1,8 @@
 -- The loop goes down from the root; the lower terms are left.
-use Prim.Native.Nat.{◌-◌, ◌≤◌}
+use Prim.Native.Nat.{◌-◌}
 use native.Mathlib.Omega.{arith}
-use mathlib.Core.Path.{◌≡◌, refl, ap, sym, ◌∙◌}
-use lib.ListN.{length, get_or}
+use mathlib.Core.Path.{refl, ap, sym, ◌∙◌}
+use lib.ListN.{get_or}
 use Rattle.image.specs.Layout.{records_of}
 use Rattle.check_shape.specs.Depths.{capped_from}
 use Rattle.check_shape.specs.Records.{children_of_term}

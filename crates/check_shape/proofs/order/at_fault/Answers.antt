@@ -1,16 +1,14 @@
 -- The loop keeps: the row gathered so far shows a fault if some e so far is one.
-use Prim.Native.Nat.{◌-◌, ◌≤◌}
 use native.Mathlib.Omega.{arith}
-use mathlib.Core.Logic.{⊎_elim}
 use mathlib.Core.Path.{◌≡◌, sym, ap, ◌∙◌}
 use mathlib.Core.Bool.{false, not, ◌||◌, or-true}
 use lib.ListN.{get_or}
-use borrow.Author.Tests.{not-true, not-false}
 use Rattle.image.specs.Limits.{domain_limit}
 use Rattle.check_shape.specs.Faults.{names}
-use Rattle.check_shape.proofs.Named.{FoundTo, found_none, found_absent, found_unnamed, found_own, found_other}
+use Rattle.check_shape.proofs.Named.{found_none, found_absent, found_unnamed, found_own, found_other}
 use borrow.Author.Rules.{rules}
 use Rattle.check_shape.proofs.order.at_fault.Goals as goal
+use Rattle.check_shape.proofs.order.at_fault.Goals.{then-own-e+else-n-e+else-e-i, then-own-e+else-n-e+then-e-i, else-own-e}
 
 pub returns-then-not-own-i : goal.returns-then-not-own-i
 returns-then-not-own-i c =
@@ -36,9 +34,11 @@ loop-e-preserved c =
     let l = c.loop-e in
     let o = a.o in (
       omega arith,
-      ⊎_elim (λ w. rw (w.5 ∙ w.4.ensures) (found_other o a.n a.d.0 l.e l.named l.invariant.1 w.0.taken w.1.left w.2.taken))
-          (⊎_elim (λ w. rw w.3 (found_own o a.n a.d.0 l.e l.named l.invariant.1 w.1.left w.2.left))
-          (λ w. rw w.1 (found_unnamed o a.n a.d.0 l.e l.named l.invariant.1 w.0.left))) c.if-own-e.branch,
+      elim c.if-own-e.branch [
+        | then-own-e+else-n-e+then-e-i w ↦ rw (w.named-is ∙ w.either_row-named.ensures) (found_other o a.n a.d.0 l.e l.named l.invariant.1 w.if-own-e.true w.if-n-e.false w.if-e-i.true)
+        | then-own-e+else-n-e+else-e-i w ↦ rw w.named-is (found_own o a.n a.d.0 l.e l.named l.invariant.1 w.if-n-e.false w.if-e-i.false)
+        | else-own-e w ↦ rw w.named-is (found_unnamed o a.n a.d.0 l.e l.named l.invariant.1 w.if-own-e.false)
+      ],
     )
 
 pub returns : goal.returns

@@ -1,15 +1,7 @@
 -- The loop keeps: the row gathered so far shows a fault if some e so far is one.
 use Prim.Native.Nat.{◌-◌, ◌≤◌}
-use native.Mathlib.Omega.{arith}
-use mathlib.Core.Logic.{⊎_elim}
-use mathlib.Core.Path.{◌≡◌, sym, ap, ◌∙◌}
-use mathlib.Core.Bool.{false, not, ◌||◌, or-true}
-use lib.ListN.{get_or}
-use borrow.Author.Tests.{not-true, not-false}
 use Rattle.image.specs.Limits.{domain_limit}
-use Rattle.check_shape.specs.Faults.{names}
-use Rattle.check_shape.proofs.Named.{FoundTo, found_none, found_absent, found_unnamed, found_own, found_other}
-use borrow.Author.Rules.{rules}
+use Rattle.check_shape.proofs.Named.{FoundTo}
 use Rattle.check_shape.proofs.order.at_fault.Given as goal
 
 abbrev pub invariant-loop-e : goal.invariant-loop-e

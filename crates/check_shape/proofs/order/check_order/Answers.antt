@@ -2,7 +2,6 @@
 use mathlib.Core.Path.{◌∙◌}
 use Rattle.image.specs.Layout.{records_of}
 use Rattle.check_shape.proofs.Orders.{order_same}
-use borrow.Author.Rules.{rules}
 use Rattle.check_shape.proofs.order.check_order.Goals as goal
 
 pub returns : goal.returns

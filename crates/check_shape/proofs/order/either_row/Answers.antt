@@ -1,10 +1,10 @@
 -- The loop keeps: the truths done, and those of what is left of the rows.
 use borrow.Author.Rules.{rules}
-use Prim.Native.Nat.{◌<◌, ◌≤◌, ◌-◌}
+use Prim.Native.Nat.{◌<◌, ◌≤◌}
 use native.Mathlib.Omega.{arith}
 use mathlib.Core.Path.{sym, ap, ◌≡◌, ◌∙◌}
 use mathlib.Core.List.{append-nil, ◌++◌}
-use lib.ListN.{length-set, length, take, drop, drop_of_length-le}
+use lib.ListN.{length-set, length, take, drop_of_length-le}
 use lib.Seq.{take_all}
 use Rattle.image.specs.Limits.{domain_limit}
 use Rattle.check_shape.specs.Faults.{either_row}

@@ -1,14 +1,10 @@
 -- The loop keeps: the truths done, and those of what is left of the rows.
-use borrow.Author.Rules.{rules}
-use Prim.Native.Nat.{◌<◌, ◌≤◌, ◌-◌}
-use native.Mathlib.Omega.{arith}
-use mathlib.Core.Path.{sym, ap, ◌≡◌, ◌∙◌}
-use mathlib.Core.List.{append-nil, ◌++◌}
-use lib.ListN.{length-set, length, take, drop, drop_of_length-le}
-use lib.Seq.{take_all}
+use Prim.Native.Nat.{◌≤◌, ◌-◌}
+use mathlib.Core.Path.{◌≡◌}
+use mathlib.Core.List.{◌++◌}
+use lib.ListN.{length, take, drop}
 use Rattle.image.specs.Limits.{domain_limit}
 use Rattle.check_shape.specs.Faults.{either_row}
-use Rattle.check_shape.proofs.Named.{either_more}
 use Rattle.check_shape.proofs.order.either_row.Given as goal
 
 abbrev pub invariant-loop-f : goal.invariant-loop-f

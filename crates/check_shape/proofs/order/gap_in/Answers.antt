@@ -1,11 +1,8 @@
 -- The loop keeps: some f so far.
 use borrow.Author.Rules.{rules}
-use Prim.Native.Nat.{◌-◌, ◌≤◌}
 use native.Mathlib.Omega.{arith}
-use mathlib.Core.Bool.{false, not, ◌&&◌, ◌||◌}
+use mathlib.Core.Bool.{◌||◌}
 use mathlib.Core.Path.{◌≡◌, ap, ◌∙◌}
-use lib.ListN.{get_or}
-use Rattle.laws.specs.Tests.{any_below}
 use Rattle.laws.proofs.Tests.{any_none, any_more}
 use Rattle.image.specs.Limits.{domain_limit}
 use Rattle.check_shape.proofs.order.gap_in.Goals as goal

@@ -1,10 +1,9 @@
 -- The loop keeps: the bits done, and those of what is left of the mask.
-use borrow.Author.Rules.{rules}
-use Prim.Native.Nat.{suc, ◌+◌, ◌<◌, ◌≤◌, ◌-◌}
+use Prim.Native.Nat.{suc, ◌+◌, ◌<◌, ◌-◌}
 use native.Mathlib.Omega.{arith}
 use mathlib.Core.Path.{sym, ◌≡◌, ◌∙◌}
-use mathlib.Core.List.{append-nil, ◌++◌}
-use lib.ListN.{length-set, length, take}
+use mathlib.Core.List.{append-nil}
+use lib.ListN.{length-set, length}
 use lib.Seq.{take_all}
 use Rattle.image.specs.Limits.{domain_limit}
 use Rattle.verdict.specs.Domains.{bits}

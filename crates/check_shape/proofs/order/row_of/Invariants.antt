@@ -1,14 +1,10 @@
 -- The loop keeps: the bits done, and those of what is left of the mask.
-use borrow.Author.Rules.{rules}
-use Prim.Native.Nat.{suc, ◌+◌, ◌<◌, ◌≤◌, ◌-◌}
-use native.Mathlib.Omega.{arith}
-use mathlib.Core.Path.{sym, ◌≡◌, ◌∙◌}
-use mathlib.Core.List.{append-nil, ◌++◌}
-use lib.ListN.{length-set, length, take}
-use lib.Seq.{take_all}
+use Prim.Native.Nat.{◌≤◌, ◌-◌}
+use mathlib.Core.Path.{◌≡◌}
+use mathlib.Core.List.{◌++◌}
+use lib.ListN.{length, take}
 use Rattle.image.specs.Limits.{domain_limit}
 use Rattle.verdict.specs.Domains.{bits}
-use Rattle.check_shape.proofs.Orders.{row_more}
 use Rattle.check_shape.proofs.order.row_of.Given as goal
 
 abbrev pub invariant-loop-q : goal.invariant-loop-q
