@@ -40,8 +40,8 @@ def absent_names(text, universe):
 
 
 def is_built(path, root):
-    """Whether a path is where rt leaves a program, crates/NAME/out/NAME, or a static library."""
-    found = re.fullmatch(r"crates/(\w+)/out/(?:(\1)|lib\1\.a)", path)
+    """Whether a path is where rt leaves a program, crates/NAME/out/NAME, or a library; or that folder."""
+    found = re.fullmatch(r"crates/(\w+)/out(?:/(?:(\1)|lib\1\.a))?", path)
     return bool(found) and (root / "crates" / found[1] / "src" / ("main.rt" if found[2] else "lib.rt")).is_file()
 
 

@@ -10,7 +10,7 @@ use borrow.Author.Tests.{le-leb, lt-leb}
 use Rattle.image.specs.Bytes.{le16, words, length_at, number_at}
 use Rattle.image.specs.Kinds.{domain, Row, row_of, kind_of, fields_of}
 use Rattle.image.specs.Records.{or_else, kind_at, goes_into, times, known_length, fields_at, numbers_at}
-use Rattle.image.specs.Layout.{is_some, known, right_length}
+use Rattle.image.specs.Layout.{is_some, right_length}
 use Rattle.image.specs.LaidOut.{Stands}
 use Rattle.laws.proofs.Booleans.{of_le}
 use Rattle.laws.proofs.Tests.{of_each}

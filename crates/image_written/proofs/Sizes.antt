@@ -4,7 +4,6 @@ use native.Mathlib.Omega.{arith}
 use mathlib.Core.Path.{◌≡◌, refl, sym, ap, subst, ◌∙◌}
 use mathlib.Core.Bool.{Bool, true, false}
 use mathlib.Core.List.{List, [], ◌∷◌, ◌++◌, map}
-use mathlib.Core.Option.{none}
 use lib.ListN.{length, get_or, length-append, length-map}
 use lib.Dec.{eqb}
 use Rattle.calculus.specs.Syntax.{Ty}
@@ -14,7 +13,7 @@ use Rattle.image.specs.Kinds.{TermKind, Kind, domain, type, term, type_row_of, t
 use Rattle.image.specs.TermFields.{giving, standing, times_for, term_fields}
 use Rattle.image.specs.Records.{Layout, kind_at, times, fields_at, numbers_at, as_child, as_other}
 use Rattle.image.specs.Layout.{nothing, add, laid, layout}
-use Rattle.image.specs.Types.{head_of, type_of, type_kind, type_place, term_place, term_kind, others, children, root_of}
+use Rattle.image.specs.Types.{head_of, type_of, type_kind, type_place, term_place, term_kind, children, root_of}
 use Rattle.image.specs.Program.{Program, Programs, node, blank, end, more, program}
 use Rattle.laws.proofs.Booleans.{no_path, eq_of}
 use Rattle.image.proofs.Words.{words_length}

@@ -1,11 +1,9 @@
-use Prim.Native.Nat.{◌≤◌, ◌-◌, ◌<◌}
+use Prim.Native.Nat.{◌<◌}
 use native.Mathlib.Omega.{arith}
 use mathlib.Core.Path.{◌≡◌, ap, ◌∙◌}
-use mathlib.Core.List.{◌++◌}
-use lib.ListN.{length, replicate, drop, set, length-set}
+use lib.ListN.{length, set, length-set}
 use borrow.Author.Fill.{fill_more}
 use Rattle.base_bytes.specs.Bytes.{cleared}
-use borrow.Author.Rules.{rules}
 use Rattle.base_bytes.proofs.clear.Goals as goal
 
 pub loop-i-preserved : goal.loop-i-preserved

@@ -1,11 +1,7 @@
-use Prim.Native.Nat.{◌≤◌, ◌-◌, ◌<◌}
-use native.Mathlib.Omega.{arith}
-use mathlib.Core.Path.{◌≡◌, ap, ◌∙◌}
+use Prim.Native.Nat.{◌≤◌, ◌-◌}
+use mathlib.Core.Path.{◌≡◌}
 use mathlib.Core.List.{◌++◌}
-use lib.ListN.{length, replicate, drop, set, length-set}
-use borrow.Author.Fill.{fill_more}
-use Rattle.base_bytes.specs.Bytes.{cleared}
-use borrow.Author.Rules.{rules}
+use lib.ListN.{length, replicate, drop}
 use Rattle.base_bytes.proofs.clear.Given as goal
 
 abbrev pub invariant-loop-i : goal.invariant-loop-i

@@ -1,6 +1,5 @@
 use native.Mathlib.Omega.{arith}
 use Rattle.base_bytes.specs.Bytes.{number_of}
-use borrow.Author.Rules.{rules}
 use Rattle.base_bytes.proofs.join64.Goals as goal
 
 pub returns : goal.returns

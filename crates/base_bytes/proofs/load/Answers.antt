@@ -3,7 +3,6 @@ use native.Mathlib.Omega.{arith}
 use mathlib.Core.Path.{ap, ◌∙◌}
 use Rattle.base_bytes.specs.Bytes.{number_of, number_at}
 use Rattle.base_bytes.proofs.Bytes.{gets, bytes_at}
-use borrow.Author.Rules.{rules}
 use Rattle.base_bytes.proofs.load.Goals as goal
 
 pub returns : goal.returns

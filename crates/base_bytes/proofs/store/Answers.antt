@@ -2,7 +2,6 @@ use Prim.Native.Nat.{◌*◌, ◌/◌, ◌%◌}
 use native.Mathlib.Omega.{arith}
 use mathlib.Core.List.{[], ◌∷◌}
 use Rattle.base_bytes.proofs.Bytes.{bytes8, stores, stores_over, same_size, inside_still}
-use borrow.Author.Rules.{rules}
 use Rattle.base_bytes.proofs.store.Goals as goal
 
 pub bounds-area-k-2 : goal.bounds-area-k-2

@@ -1,6 +1,5 @@
 -- `numerals::with_byte` meets its contract: each test is one of the definition's.
 use borrow.Author.Tests.{le-leb, lt-leb}
-use borrow.Author.Rules.{rules}
 use Rattle.numerals.proofs.with_byte.Goals as goal
 
 pub returns-then-byte-gt57 : goal.returns-then-byte-gt57

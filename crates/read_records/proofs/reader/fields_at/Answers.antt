@@ -1,5 +1,4 @@
 -- `read_records::reader::fields_at` meets its contract.
-use borrow.Author.Rules.{rules}
 use mathlib.Core.Path.{ap, ◌∙◌}
 use Rattle.read_records.specs.Heads.{field_bytes}
 use Rattle.read_records.proofs.reader.fields_at.Goals as goal

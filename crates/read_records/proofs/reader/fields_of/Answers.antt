@@ -1,5 +1,4 @@
 -- `read_records::reader::fields_of` meets its contract: the part's length is counted from its ends.
-use borrow.Author.Rules.{rules}
 use Prim.Native.Nat.{◌+◌, ◌-◌}
 use native.Mathlib.Omega.{arith}
 use mathlib.Core.Path.{◌≡◌}

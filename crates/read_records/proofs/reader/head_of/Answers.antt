@@ -1,6 +1,4 @@
 -- `read_records::reader::head_of` meets its contract: each answer is the definition's.
-use borrow.Author.Rules.{rules}
-use Prim.Native.Nat.{◌-◌}
 use native.Mathlib.Omega.{arith}
 use Rattle.read_records.proofs.Heads.{at_end_lem, cut_off, too_short, too_long, whole}
 use Rattle.read_records.proofs.reader.head_of.Goals as goal

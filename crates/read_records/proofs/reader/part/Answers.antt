@@ -3,7 +3,6 @@ use mathlib.Core.Path.{◌≡◌, ap, ◌∙◌}
 use native.Mathlib.Omega.{arith}
 use lib.ListN.{take, drop}
 use Rattle.read_records.proofs.Clipped.{clipped}
-use borrow.Author.Rules.{rules}
 use Rattle.read_records.proofs.reader.part.Goals as goal
 
 pub returns : goal.returns

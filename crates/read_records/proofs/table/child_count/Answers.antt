@@ -1,5 +1,4 @@
 -- `read_records::table::child_count` meets its contract: below 4 there is no group.
-use borrow.Author.Rules.{rules}
 use native.Mathlib.Omega.{arith}
 use mathlib.Core.Path.{◌∙◌, ap}
 use Prim.Native.Nat.{◌-◌, ◌/◌}

@@ -1,5 +1,4 @@
 -- `read_records::table::entry_count` meets its contract: a group behind children is one of entries.
-use borrow.Author.Rules.{rules}
 use native.Mathlib.Omega.{arith}
 use mathlib.Core.Path.{◌≡◌}
 use Prim.Native.Nat.{◌+◌, ◌-◌, ◌/◌, ◌%◌}
