@@ -1,18 +1,16 @@
 -- `check_objects::objects::bodies_fit` meets its contract: so far each body is of its method's type.
 use native.Mathlib.Omega.{arith}
 use mathlib.Core.Path.{refl, ◌≡◌, sym, ◌∙◌}
-use Prim.Native.Nat.{◌+◌, ◌-◌, ◌*◌, ◌≤◌}
-use lib.ListN.{get_or, drop}
+use Prim.Native.Nat.{◌+◌, ◌*◌}
+use lib.ListN.{get_or}
 use lib.Dec.{eqb}
 use Rattle.image.specs.Kinds.{TermKind}
 use Rattle.image.specs.Layout.{records_of}
 use Rattle.image.specs.Types.{type_field}
-use Rattle.verdict.specs.Rules.{bodies_fit}
-use Rattle.verdict.specs.Check.{describe, described}
+use Rattle.verdict.specs.Check.{describe}
 use Rattle.read_terms.specs.Fields.{types_in}
 use Rattle.check_rules.proofs.Methods.{fit_more, fit_fails, fit_ends}
 use Rattle.check_rules.proofs.OnDescriptors.{types_length, body_at}
-use borrow.Author.Rules.{rules}
 use Rattle.check_objects.proofs.objects.bodies_fit.Goals as goal
 
 pub type_at_field-body-requires : goal.type_at_field-body-requires

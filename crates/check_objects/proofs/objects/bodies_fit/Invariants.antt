@@ -1,18 +1,12 @@
 -- `check_objects::objects::bodies_fit` meets its contract: so far each body is of its method's type.
-use native.Mathlib.Omega.{arith}
-use mathlib.Core.Path.{refl, ◌≡◌, sym, ◌∙◌}
-use Prim.Native.Nat.{◌+◌, ◌-◌, ◌*◌, ◌≤◌}
-use lib.ListN.{get_or, drop}
-use lib.Dec.{eqb}
+use mathlib.Core.Path.{◌≡◌}
+use Prim.Native.Nat.{◌-◌, ◌≤◌}
+use lib.ListN.{drop}
 use Rattle.image.specs.Kinds.{TermKind}
 use Rattle.image.specs.Layout.{records_of}
-use Rattle.image.specs.Types.{type_field}
 use Rattle.verdict.specs.Rules.{bodies_fit}
 use Rattle.verdict.specs.Check.{describe, described}
 use Rattle.read_terms.specs.Fields.{types_in}
-use Rattle.check_rules.proofs.Methods.{fit_more, fit_fails, fit_ends}
-use Rattle.check_rules.proofs.OnDescriptors.{types_length, body_at}
-use borrow.Author.Rules.{rules}
 use Rattle.check_objects.proofs.objects.bodies_fit.Given as goal
 
 abbrev pub invariant-loop-i : goal.invariant-loop-i

@@ -3,11 +3,10 @@ use native.Mathlib.Omega.{arith}
 use mathlib.Core.Path.{sym, ap, ◌∙◌}
 use Prim.Native.Nat.{◌≤◌, ◌<◌}
 use lib.Dec.{eqb}
-use borrow.Author.Tests.{lt-ltb, le-ltb, not-true, not-false}
+use borrow.Author.Tests.{lt-ltb, le-ltb}
 use Rattle.image.specs.Layout.{records_of}
 use Rattle.image.specs.Types.{method_count}
 use Rattle.check_rules.proofs.Methods.{kind_seen, object_seen, first_fails, second_fails, third_tells}
-use borrow.Author.Rules.{rules}
 use Rattle.check_objects.proofs.objects.call_fits.Goals as goal
 
 pub returns-then-not-is_kind : goal.returns-then-not-is_kind

@@ -3,14 +3,12 @@ use mathlib.Core.Path.{◌≡◌, sym, ap, ◌∙◌}
 use mathlib.Core.Bool.{true, false}
 use Prim.Native.Nat.{◌*◌}
 use lib.Dec.{eqb}
-use borrow.Author.Tests.{not-true, not-false}
 use Rattle.image.specs.Layout.{records_of}
 use Rattle.image.specs.Types.{type_field}
 use Rattle.read_records.specs.Heads.{field_in}
 use Rattle.check_rules.specs.Judged.{call_fits}
 use Rattle.check_rules.proofs.OnDescriptors.{type_at_field}
 use Rattle.check_rules.proofs.Methods.{call_refused, call_judged, call_tells}
-use borrow.Author.Rules.{rules}
 use Rattle.check_objects.proofs.objects.check_method_call.Goals as goal
 
 pub returns-then-not-call_fits : goal.returns-then-not-call_fits

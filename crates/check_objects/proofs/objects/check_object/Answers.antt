@@ -2,7 +2,6 @@
 use mathlib.Core.Path.{ap, ◌∙◌}
 use mathlib.Core.Bool.{true}
 use Rattle.check_rules.specs.Judged.{judged}
-use borrow.Author.Rules.{rules}
 use Rattle.check_objects.proofs.objects.check_object.Goals as goal
 
 pub returns : goal.returns

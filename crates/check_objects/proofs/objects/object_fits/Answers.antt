@@ -1,7 +1,7 @@
 -- `check_objects::objects::object_fits` meets its contract.
 use mathlib.Core.Path.{◌≡◌, sym, ◌∙◌}
 use lib.ListN.{length}
-use borrow.Author.Tests.{eq-eqb, ne_eqb, not-true, not-false}
+use borrow.Author.Tests.{eq-eqb, ne_eqb}
 use Rattle.image.specs.Kinds.{TermKind}
 use Rattle.image.specs.Layout.{records_of}
 use Rattle.image.specs.Types.{method_count}
@@ -10,7 +10,6 @@ use Rattle.verdict.specs.Check.{describe, described}
 use Rattle.read_records.specs.Heads.{field_in}
 use Rattle.read_terms.specs.Fields.{types_in}
 use Rattle.check_rules.proofs.Methods.{kind_seen, object_seen, first_fails, second_fails, third_tells, bodies_counted}
-use borrow.Author.Rules.{rules}
 use Rattle.check_objects.proofs.objects.object_fits.Goals as goal
 
 pub returns-then-not-is_kind : goal.returns-then-not-is_kind

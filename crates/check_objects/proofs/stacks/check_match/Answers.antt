@@ -1,5 +1,4 @@
 -- `check_objects::stacks::check_match` meets its contract.
-use borrow.Author.Rules.{rules}
 use mathlib.Core.Path.{◌∙◌}
 use Rattle.check_rules.proofs.OnDescriptors.{match_right}
 use Rattle.check_objects.proofs.stacks.check_match.Goals as goal

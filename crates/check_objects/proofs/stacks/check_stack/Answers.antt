@@ -1,5 +1,4 @@
 -- `check_objects::stacks::check_stack` meets its contract.
-use borrow.Author.Rules.{rules}
 use Rattle.check_rules.proofs.OnDescriptors.{stack_right}
 use mathlib.Core.Path.{◌∙◌}
 use Rattle.check_objects.proofs.stacks.check_stack.Goals as goal

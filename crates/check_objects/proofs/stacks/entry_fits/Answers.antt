@@ -1,5 +1,4 @@
 -- `check_objects::stacks::entry_fits` meets its contract.
-use borrow.Author.Rules.{rules}
 use native.Mathlib.Omega.{arith}
 use mathlib.Core.Path.{refl, sym}
 use mathlib.Core.Bool.{and-true}
