@@ -229,8 +229,8 @@ def main():
             print("no place", new)
             start = 0
         body = A.by_args(fn, A.turn_body(fn, start, params or ["c"], body))
+        body = re.sub(r"(?<![\w.'-])c\.requires\.0(?![\w.])", "c.decreases", body)
         body = re.sub(r"(?<![\w.'-])c\.requires\.1(?![\w])", "c.requires", body)
-        body = re.sub(r"(?<![\w.'-])c\.requires\.0(?=[\s)])(?!\.)", lambda m: m[0], body)
         body = re.sub(r"^[ \t]*\n", "\n", body)
         lines = [*comments, f"pub {new} : goal.{new}"]
         if unfolding:

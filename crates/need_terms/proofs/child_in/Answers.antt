@@ -1,4 +1,3 @@
-use borrow.Author.Rules.{rules}
 use Rattle.need_terms.proofs.child_in.Goals as goal
 
 pub child_of-requires : goal.child_of-requires

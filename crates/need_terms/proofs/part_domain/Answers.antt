@@ -1,4 +1,3 @@
-use borrow.Author.Rules.{rules}
 use mathlib.Core.Path.{ap, ◌∙◌}
 use Rattle.image.specs.Kinds.{TermKind}
 use Rattle.read_terms.specs.Descriptors.{descriptor_domain}

@@ -1,22 +1,17 @@
 -- `write_types::enter_type` meets its contract.
 use borrow.Author.Rules.{rules}
-use Prim.Native.Nat.{ℕ, ◌-◌, ◌≤◌, ◌<◌}
+use Prim.Native.Nat.{◌≤◌, ◌<◌}
 use native.Mathlib.Omega.{arith}
 use mathlib.Core.Path.{◌≡◌, refl, sym, ap, ◌∙◌}
-use mathlib.Core.List.{List}
-use lib.ListN.{length, get_or}
-use mathlib.Core.Logic.{⊎_elim}
-use Rattle.calculus.specs.Syntax.{Ty}
+use lib.ListN.{get_or}
 use Rattle.image.specs.Kinds.{free}
 use Rattle.image.specs.Layout.{records_of}
-use Rattle.image.specs.Types.{type_fields, type_field, type_of}
+use Rattle.image.specs.Types.{type_field, type_of}
 use Rattle.read_records.specs.Codes.{class_number}
-use Rattle.read_terms.specs.Lent.{TypeOffsets, IsType}
-use Rattle.write_fields.proofs.Standing.{RecordRead}
 use Rattle.image_written.specs.TypeParts.{parts_first}
 use Rattle.image_written.specs.Table.{entered}
-use Rattle.write_types.specs.Entries.{Entries, entries_of}
-use Rattle.write_types.proofs.Located.{before, sorts_at, front_of, known, read, lower, class_type, before_all}
+use Rattle.write_types.specs.Entries.{entries_of}
+use Rattle.write_types.proofs.Located.{before, sorts_at, known, read, lower, class_type, before_all}
 use Rattle.write_types.proofs.Entering.{told_there, there_entered, parts_there, all_entered, part_entered, no_part}
 use Rattle.write_types.proofs.+enter_type.Goals as goal
 use Rattle.write_types.proofs.+enter_type.Goals.{then-class_of-eq-CLASS_TYPE, else-class_of-eq-CLASS_TYPE}
@@ -60,13 +55,13 @@ loop-i-preserved t c =
     let n = R.count in
     let a = R.class i.i l c.class_of.ensures in
     elim c.if-class_of-eq-CLASS_TYPE.branch [
-      then-class_of-eq-CLASS_TYPE w ↦
-        let v = w.enter_type-m in
-        let f : type_field (records_of c.args.image.now) c.args.t.0 i.i ≡ w.type_field-part.result.0 = sym (R.number i.i l w.type_field-part.ensures) in
-        let p = part_entered c.requires.1 c.requires.3 i.i (omega arith) _ _ (sym a ∙ w.if-class_of-eq-CLASS_TYPE.true) i.invariant.4 in
-        rw (w.places-is, w.order-is, w.m-is) (omega arith, v.auto.places ∙ i.invariant.1, v.auto.order ∙ i.invariant.2, v.ensures.0, v.ensures.1 ∙ ap (λ j. entered (entries_of c.args.image.now i.m i.order) (parts_first (type_of (records_of c.args.image.now) j))) (sym f) ∙ p)
-    | else-class_of-eq-CLASS_TYPE w ↦
-        rw (w.places-is, w.order-is, w.m-is) (omega arith, i.invariant.1, i.invariant.2, i.invariant.3, i.invariant.4 ∙ ap (λ xs. entered (entries_of c.args.image.now c.args.n c.args.order.now) xs) (no_part c.requires.1 c.requires.3 i.i (omega arith) (λ z. w.if-class_of-eq-CLASS_TYPE.false (a ∙ z))))
+      | then-class_of-eq-CLASS_TYPE w ↦
+          let v = w.enter_type-m in
+          let f : type_field (records_of c.args.image.now) c.args.t.0 i.i ≡ w.type_field-part.result.0 = sym (R.number i.i l w.type_field-part.ensures) in
+          let p = part_entered c.requires.1 c.requires.3 i.i (omega arith) _ _ (sym a ∙ w.if-class_of-eq-CLASS_TYPE.true) i.invariant.4 in
+          rw (w.places-is, w.order-is, w.m-is) (omega arith, v.auto.places ∙ i.invariant.1, v.auto.order ∙ i.invariant.2, v.ensures.0, v.ensures.1 ∙ ap (λ j. entered (entries_of c.args.image.now i.m i.order) (parts_first (type_of (records_of c.args.image.now) j))) (sym f) ∙ p)
+      | else-class_of-eq-CLASS_TYPE w ↦
+          rw (w.places-is, w.order-is, w.m-is) (omega arith, i.invariant.1, i.invariant.2, i.invariant.3, i.invariant.4 ∙ ap (λ xs. entered (entries_of c.args.image.now c.args.n c.args.order.now) xs) (no_part c.requires.1 c.requires.3 i.i (omega arith) (λ z. w.if-class_of-eq-CLASS_TYPE.false (a ∙ z))))
     ]
 
 pub enter_one-requires : goal.enter_one-requires

@@ -1,5 +1,4 @@
 -- `write_types::is_entered` meets its contract.
-use borrow.Author.Rules.{rules}
 use Rattle.write_types.proofs.is_entered.Goals as goal
 
 pub returns : goal.returns

@@ -1,4 +1,3 @@
-use borrow.Author.Rules.{rules}
 use Rattle.need_sums.specs.Walks.{asked, child_in}
 use mathlib.Core.Path.{sym, ap, ◌∙◌}
 use Rattle.need_sums.proofs.positions.child_position.Goals as goal

@@ -1,4 +1,3 @@
-use borrow.Author.Rules.{rules}
 use mathlib.Core.Path.{refl, sym, ap, ◌∙◌}
 use Rattle.need_sums.specs.Walks.{asked}
 use Rattle.need_sums.proofs.positions.installed_child.Goals as goal

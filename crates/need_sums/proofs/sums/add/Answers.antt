@@ -1,4 +1,3 @@
-use borrow.Author.Rules.{rules}
 use Rattle.need_sums.specs.Sums.{add_needs}
 use Rattle.need_sums.proofs.sums.add.Goals as goal
 

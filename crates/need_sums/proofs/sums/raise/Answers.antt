@@ -1,4 +1,3 @@
-use borrow.Author.Rules.{rules}
 use Rattle.need_sums.specs.Sums.{raise_needs}
 use Rattle.need_sums.proofs.sums.raise.Goals as goal
 
