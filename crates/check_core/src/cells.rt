@@ -1,5 +1,5 @@
 // The rules of cells and of lower (document 01, "Typing").
-ghost use Rattle.core.specs.Prelude.{◌≡◌, ℕ, List};
+ghost use Rattle.std.specs.Prelude.{◌≡◌, ℕ, List};
 ghost use Rattle.image.specs.Kinds.{TermKind};
 ghost use Rattle.read_terms.specs.Lent.{Lent, Masks};
 ghost use Rattle.check_rules.specs.Rules.{rule_in};

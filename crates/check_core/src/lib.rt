@@ -3,5 +3,5 @@
 #![tactic(auto)]
 
 pub mod cells;
-pub mod core;
+pub mod computing;
 pub mod watches;

@@ -1,5 +1,5 @@
 // The rules of labels, marks, pointcuts and advice (document 01, "Typing").
-ghost use Rattle.core.specs.Prelude.{◌≡◌, ℕ, ◌<◌, List, length};
+ghost use Rattle.std.specs.Prelude.{◌≡◌, ℕ, ◌<◌, List, length};
 ghost use Rattle.laws.specs.Tests.{all_of};
 ghost use Rattle.image.specs.Kinds.{TermKind};
 ghost use Rattle.verdict.specs.Settings.{Setting};

@@ -7,7 +7,7 @@ ghost use Rattle.read_terms.specs.Lent.{Lent, TypeOffsets, Masks, IsTerm};
 ghost use Rattle.check_rules.specs.Judged.{rule_verdict};
 
 use check_core::cells::{check_lower, check_new_cell, check_read, check_store};
-use check_core::core::{
+use check_core::computing::{
     check_apply, check_arithmetic, check_byte, check_choice, check_function, check_pair,
     check_print, check_sequence, check_split,
 };

@@ -22,14 +22,14 @@ use Rattle.check_dispatch.proofs.rule.check_rule.Lts as lts
 use Rattle.read_terms.proofs.terms.term_place.Reads as term-place-reads
 use Rattle.read_terms.proofs.terms.term_fields.Reads as term-fields-reads
 use Rattle.read_terms.proofs.terms.term_kind.Reads as term-kind-reads
-use Rattle.check_core.proofs.core.check_sequence.Reads as check-sequence-reads
-use Rattle.check_core.proofs.core.check_print.Reads as check-print-reads
-use Rattle.check_core.proofs.core.check_choice.Reads as check-choice-reads
-use Rattle.check_core.proofs.core.check_pair.Reads as check-pair-reads
-use Rattle.check_core.proofs.core.check_split.Reads as check-split-reads
-use Rattle.check_core.proofs.core.check_function.Reads as check-function-reads
-use Rattle.check_core.proofs.core.check_apply.Reads as check-apply-reads
-use Rattle.check_core.proofs.core.check_arithmetic.Reads as check-arithmetic-reads
+use Rattle.check_core.proofs.computing.check_sequence.Reads as check-sequence-reads
+use Rattle.check_core.proofs.computing.check_print.Reads as check-print-reads
+use Rattle.check_core.proofs.computing.check_choice.Reads as check-choice-reads
+use Rattle.check_core.proofs.computing.check_pair.Reads as check-pair-reads
+use Rattle.check_core.proofs.computing.check_split.Reads as check-split-reads
+use Rattle.check_core.proofs.computing.check_function.Reads as check-function-reads
+use Rattle.check_core.proofs.computing.check_apply.Reads as check-apply-reads
+use Rattle.check_core.proofs.computing.check_arithmetic.Reads as check-arithmetic-reads
 use Rattle.check_core.proofs.watches.check_new_label.Reads as check-new-label-reads
 use Rattle.check_core.proofs.watches.check_mark.Reads as check-mark-reads
 use Rattle.check_core.proofs.watches.check_pointcut.Reads as check-pointcut-reads
@@ -45,7 +45,7 @@ use Rattle.check_objects.proofs.stacks.check_stack.Reads as check-stack-reads
 use Rattle.check_objects.proofs.stacks.check_keep.Reads as check-keep-reads
 use Rattle.check_objects.proofs.stacks.check_match.Reads as check-match-reads
 use Rattle.check_core.proofs.watches.check_takedown.Reads as check-takedown-reads
-use Rattle.check_core.proofs.core.check_byte.Reads as check-byte-reads
+use Rattle.check_core.proofs.computing.check_byte.Reads as check-byte-reads
 
 abbrev pub claims : lts.Claims
 claims = (

@@ -1,0 +1,11 @@
+-- `check_core::cells::check_read` meets its contract.
+use Rattle.image.specs.Bytes.{words}
+use Rattle.image.specs.Kinds.{TermKind}
+use Rattle.check_rules.proofs.OnDescriptors.{at_field_typed, on_masks}
+use mathlib.Core.Path.{◌∙◌}
+use Rattle.check_core.proofs.cells.check_read.Goals as goal
+
+pub returns : goal.returns
+unfolding words
+returns c =
+    λ Γ. c.judge.ensures ∙ simp (c.leq.ensures, c.second_domain.ensures, c.both.ensures, c.same_type.ensures, c.first_type.ensures, c.is_kind.ensures, c.descriptor_at_field-first.ensures, c.own_type-t.ensures) (on_masks c.requires.0.types c.requires.1 c.args.at TermKind.read (record { context = Γ; dom = c.args.c.0 }) (at_field_typed c.requires.0 c.requires.2, tt) c.requires.3)
