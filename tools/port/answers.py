@@ -18,7 +18,7 @@ PATH = re.compile(r"(?<![\w.'₀-₉◌-])([A-Za-z_λ][\w'₀-₉-]*)((?:\.[A-Za
 
 
 def norm(name):
-    return re.sub(r"(_lem|_of)$", "", name.replace("-", "_").lower())
+    return re.sub(r"(_lem|_of)+$", "", name.replace("-", "_").lower())
 
 
 def blocks_of(text):

@@ -117,6 +117,32 @@ def inline(text, helpers):
         text = put_path(text[:best.start()] + new + rest[at:])
 
 
+def hoist(body, types):
+    """A term of `c` alone that stands in the body twice or more gets a name."""
+    bound = set(re.findall(r"let\s+([^\s:=]+)", body))
+    for g in re.findall(r"λ\s+([^.()]*)\.", body):
+        bound |= set(g.split())
+    groups, stack = {}, []
+    for i, ch in enumerate(body):
+        if ch == "(":
+            stack.append(i)
+        elif ch == ")" and stack:
+            j = stack.pop()
+            groups[body[j:i + 1]] = groups.get(body[j:i + 1], 0) + 1
+    best = [g for g, n in groups.items() if n > 1 and len(g) > 50 and "\n" not in g and not g.startswith(("(λ", "(let", "(omega", "(search", "(rw"))
+            and not any(m[1] in bound for m in PATH.finditer(g)) and (not g.startswith("(record") or g in types)]
+    if not best:
+        return body
+    g = max(best, key=len)
+    name = next(n for n in ("here", "known-here", "given-here") if not re.search(r"(?<![\w.'-])" + n + r"(?![\w'-])", body))
+    typed = f" : {types[g]}" if g in types else ""
+    rest = body.replace(g, name)
+    if not rest.startswith("\n"):
+        rest = "\n    " + rest.lstrip()
+    rest = rest.replace(f"let {name} = {name} in", "")
+    return hoist(f"\n    let {name}{typed} = {g[1:-1]} in" + rest, types)
+
+
 def main():
     crate, names = sys.argv[1], json.load(open(sys.argv[2]))
     proof, folder, function = sys.argv[3:6]
@@ -133,7 +159,8 @@ def main():
     dotted = ".".join(path)
     keys = [k for k in names if k.startswith(f"Rattle-{name}-proofs.{dotted}.Lts")]
     cycle = len(keys) > 1
-    key = [k for k in keys if A.norm(k.split(".Lts-")[1].split("::")[-1].split(".")[-1]) == A.norm(function)]
+    plain = "+" not in folder  # no recursion: helpers that take a place alone
+    key = [k for k in keys if k.endswith(".Lts")] if plain else [k for k in keys if A.norm(k.split(".Lts-")[1].split("::")[-1].split(".")[-1]) == A.norm(function)]
     key = key[0] if key else None
     if key is None:
         raise SystemExit(f"{function} is not among {keys}")
@@ -144,7 +171,7 @@ def main():
     only = os.environ.get("LTS")  # of a cycle: what the module of this function's goals is called
     main = [b for b in blocks if re.search(r"\bclose\b", A.code(b)) and "spec" in A.code(b)]
     code = A.code(main[0])
-    spec = re.search(r"(?:\(\s*)?λ t\.\s*(?:\S*lts)\.spec\b" if not only else re.escape(only) + r"\.spec\b", code)
+    spec = re.search(r"tie\.spec\b" if plain else r"(?:\(\s*)?λ t\.\s*(?:\S*lts)\.spec\b" if not only else re.escape(only) + r"\.spec\b", code)
     inner = code[spec.end():]
     # up to the bracket that closes it, if any
     depth, end = 0, len(inner)
@@ -164,14 +191,14 @@ def main():
     for n, b in by_name.items():
         sig = A.declared(b)[2]
         whole = re.sub(r"\s+", " ", A.code([l for l in b if not l.startswith("--")]))
-        m = re.match(r"(\S*lts)\.(invariant|decreases)_(\S+)", sig)
+        m = re.match(r"(\S*lts|tie)\.(invariant|decreases)[_-](\S+)", sig)
         if m:
             inv_names.add(n)
             if only and m[1] != only:
                 continue
             invs.append(A.invariant(fn, data["loops"], b, m[3], m[2]))
             continue
-        m = re.match(r"(?:\(t : ℕ\) → )?(\S*lts)\.Need-(\S+)", sig)
+        m = re.match(r"(?:\(t : ℕ\) → )?(\S*lts|tie)\.Need-(\S+)", sig)
         if m:
             if only and m[1] != only:
                 continue
@@ -200,6 +227,7 @@ def main():
         new = prefix + needs[k][1]
         t = re.sub(r"\s+", " ", a).strip()
         m = re.match(r"\((\S+) t\)\Z", t)
+        more = []
         comments, unfolding = [], None
         if (m and m[1] in goals) or t in goals:
             n = m[1] if m else t
@@ -218,6 +246,8 @@ def main():
                 print("look", new, a)
                 continue
             params, body = m[1].split(), " " + m[2]
+            if "c" in params:
+                more = [p for p in params[params.index("c") + 1:] if p != "κs"]
         if A.kept_by_itself(needs[k][1], body):
             continue
         body = inline(body, helpers)
@@ -229,24 +259,31 @@ def main():
             print("no place", new)
             start = 0
         body = A.by_args(fn, A.turn_body(fn, start, params or ["c"], body))
-        body = re.sub(r"(?<![\w.'-])c\.requires\.0(?![\w.])", "c.decreases", body)
-        body = re.sub(r"(?<![\w.'-])c\.requires\.1(?![\w])", "c.requires", body)
+        if not plain:
+            body = re.sub(r"(?<![\w.'-])c\.requires\.0(?![\w.])", "c.decreases", body)
+            body = re.sub(r"(?<![\w.'-])c\.requires\.1(?![\w])", "c.requires", body)
+        body = hoist(body, {})
+        if more:
+            body = f" λ {' '.join(more)}." + body
         body = re.sub(r"^[ \t]*\n", "\n", body)
         lines = [*comments, f"pub {new} : goal.{new}"]
         if unfolding:
             lines.append(unfolding)
-        out.append("\n".join(lines) + f"\n{new} t c ={body}")
-    uses = [l for l in head if not re.search(r"(\.Tie(\.\{close\})?|\{statement\}|\.Cycle\.\{.*|PlainCycle\.\{.*|Kinds\.\{In\}|Reads as \S+|Lts\S* as \S+|Kinds as \S+|as reads|as lts)$", l) and not l.startswith("mod ")]
+        out.append("\n".join(lines) + f"\n{new} {'' if plain else 't '}c ={body}")
+    uses = [l for l in head if not re.search(r"(\.Tie(\.\{close\})?|\.Tie as tie|\{statement\}|\.Cycle\.\{.*|PlainCycle\.\{.*|Kinds\.\{In\}|Reads as \S+|Lts\S* as \S+|Kinds as \S+|as reads|as lts)$", l) and not l.startswith("mod ")]
     while uses and not uses[-1].strip():
         uses.pop()
     base = f"Rattle.{name}.proofs.{dotted}"
     dest = os.path.join(crate, "proofs", *path)
     os.makedirs(dest, exist_ok=True)
     mode = "a" if os.environ.get("APPEND") else "w"
-    with open(os.path.join(dest, "Invariants.antt"), mode, encoding="utf-8") as f:
-        if mode == "w":
-            f.write("\n".join([*uses, f"use {base}.Given as goal", "", f"abbrev pub decreases-{function} : goal.decreases-{function}", f"decreases-{function} l = ?", "", ""]))
-        f.write("\n\n".join(invs) + "\n")
+    if invs or not plain:
+      with open(os.path.join(dest, "Invariants.antt"), mode, encoding="utf-8") as f:
+          if mode == "w":
+            f.write("\n".join([*uses, f"use {base}.Given as goal", "", ""]))
+            if not plain:
+                f.write(f"abbrev pub decreases-{function} : goal.decreases-{function}\ndecreases-{function} l = ?\n\n")
+          f.write("\n\n".join(invs) + "\n")
     with open(os.path.join(dest, "Answers.antt"), mode, encoding="utf-8") as f:
         if mode == "w":
             f.write("\n".join([*uses, f"use {base}.Goals as goal", "", ""]))

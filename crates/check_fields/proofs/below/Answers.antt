@@ -1,5 +1,4 @@
 -- `check_fields::below` meets its contract.
-use borrow.Author.Rules.{rules}
 use Rattle.check_fields.proofs.below.Goals as goal
 
 pub returns : goal.returns

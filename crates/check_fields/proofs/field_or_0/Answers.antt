@@ -1,5 +1,4 @@
 -- `check_fields::field_or_0` meets its contract.
-use borrow.Author.Rules.{rules}
 use borrow.Author.Tests.{lt-ltb, le-ltb}
 use Rattle.check_fields.proofs.field_or_0.Goals as goal
 

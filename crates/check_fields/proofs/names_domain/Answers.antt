@@ -1,5 +1,4 @@
 -- `check_fields::names_domain` meets its contract.
-use borrow.Author.Rules.{rules}
 use Rattle.check_fields.proofs.names_domain.Goals as goal
 
 pub returns : goal.returns

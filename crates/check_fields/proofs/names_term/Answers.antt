@@ -1,5 +1,4 @@
 -- `check_fields::names_term` meets its contract.
-use borrow.Author.Rules.{rules}
 use Rattle.check_fields.proofs.names_term.Goals as goal
 
 pub returns : goal.returns

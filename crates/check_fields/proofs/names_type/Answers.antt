@@ -1,5 +1,4 @@
 -- `check_fields::names_type` meets its contract.
-use borrow.Author.Rules.{rules}
 use Rattle.check_fields.proofs.names_type.Goals as goal
 
 pub returns : goal.returns

@@ -2,7 +2,6 @@
 use borrow.Author.Tests.{eq-eqb, ne_eqb}
 use Rattle.read_records.specs.Codes.{group_of}
 use mathlib.Core.Path.{sym, ◌∙◌}
-use borrow.Author.Rules.{rules}
 use Rattle.check_fields.proofs.type_count.Goals as goal
 
 pub returns-then-group_count-eq0 : goal.returns-then-group_count-eq0

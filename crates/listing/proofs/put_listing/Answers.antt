@@ -4,7 +4,6 @@ use lib.ListN.{length, length-take}
 use native.Mathlib.Omega.{arith}
 use Rattle.listing_lines.proofs.Puts.{as_short, longer}
 use Rattle.listing.proofs.Verdicts.{refusal_listed, run_listed}
-use borrow.Author.Rules.{rules}
 use Rattle.listing.proofs.put_listing.Goals as goal
 
 pub returns-in-Refused : goal.returns-in-Refused

@@ -1,7 +1,7 @@
 -- The word, the number, a space, the place, the end of the line.
 use Prim.Native.Nat.{◌<◌}
 use native.Mathlib.Omega.{arith}
-use mathlib.Core.Path.{ap, ◌∙◌}
+use mathlib.Core.Path.{ap}
 use Rattle.image.specs.Refusals.{refusal_number}
 use Rattle.listing_lines.specs.Text.{decimal}
 use Rattle.listing_lines.proofs.Puts.{then, as_text, within_limit}

@@ -1,5 +1,4 @@
 -- What was printed, how it ended, the cells.
-use mathlib.Core.Path.{◌∙◌}
 use native.Mathlib.Omega.{arith}
 use Rattle.listing_lines.proofs.Puts.{then, within_limit}
 use Rattle.listing.proofs.Bounds.{run_short}

@@ -3,7 +3,6 @@ use native.Mathlib.Omega.{arith}
 use mathlib.Core.Path.{sym, ap}
 use Rattle.listing_lines.specs.Lines.{verdict_line}
 use Rattle.listing_lines.proofs.Puts.{as_short, within_limit}
-use borrow.Author.Rules.{rules}
 use Rattle.listing.proofs.put_verdict.Goals as goal
 
 pub returns-in-Accepted : goal.returns-in-Accepted

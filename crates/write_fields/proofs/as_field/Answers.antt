@@ -1,5 +1,4 @@
 -- `write_fields::as_field` meets its contract.
-use borrow.Author.Rules.{rules}
 use borrow.Author.Tests.{eq-eqb, ne_eqb}
 use Rattle.write_fields.proofs.as_field.Goals as goal
 

@@ -1,5 +1,4 @@
 -- `write_fields::class_of` meets its contract.
-use borrow.Author.Rules.{rules}
 use mathlib.Core.Path.{ap, ◌∙◌}
 use Rattle.read_records.specs.Codes.{classes_of}
 use Rattle.write_fields.specs.Classes.{digit_at}

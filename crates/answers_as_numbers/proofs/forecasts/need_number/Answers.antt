@@ -1,6 +1,5 @@
 -- A forecast with too few places for its numbers, with enough, or one that is refused.
 use mathlib.Core.Path.{sym, ◌∙◌}
-use borrow.Author.Rules.{rules}
 use borrow.Author.Tests.{lt-ltb, le-ltb, eq-eqb, ne_eqb}
 use Rattle.answers_as_numbers.proofs.forecasts.need_number.Goals as goal
 

@@ -1,7 +1,6 @@
 -- By the forecast.
 use mathlib.Core.Path.{refl}
 use borrow.Author.Tests.{lt-ltb, le-ltb}
-use borrow.Author.Rules.{rules}
 use Rattle.answers_as_numbers.proofs.forecasts.put_forecast.Goals as goal
 
 pub returns-else-numbers-lt-NUMBERS : goal.returns-else-numbers-lt-NUMBERS

@@ -1,10 +1,8 @@
 use borrow.Author.Rules.{rules}
 use borrow.Author.Fill.{fill_more}
-use Prim.Native.Nat.{◌-◌, ◌≤◌}
 use native.Mathlib.Omega.{arith}
-use mathlib.Core.Path.{◌≡◌, refl, ap, ◌∙◌}
-use mathlib.Core.List.{◌++◌}
-use lib.ListN.{length, drop, replicate, set, length-set}
+use mathlib.Core.Path.{refl, ap, ◌∙◌}
+use lib.ListN.{set, length-set}
 use Rattle.answers_as_numbers.proofs.Recordings.{filled}
 use Rattle.answers_as_numbers.proofs.frames.answer_each.Goals as goal
 

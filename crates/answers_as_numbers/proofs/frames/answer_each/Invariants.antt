@@ -1,11 +1,7 @@
-use borrow.Author.Rules.{rules}
-use borrow.Author.Fill.{fill_more}
 use Prim.Native.Nat.{◌-◌, ◌≤◌}
-use native.Mathlib.Omega.{arith}
-use mathlib.Core.Path.{◌≡◌, refl, ap, ◌∙◌}
+use mathlib.Core.Path.{◌≡◌}
 use mathlib.Core.List.{◌++◌}
-use lib.ListN.{length, drop, replicate, set, length-set}
-use Rattle.answers_as_numbers.proofs.Recordings.{filled}
+use lib.ListN.{length, drop, replicate}
 use Rattle.answers_as_numbers.proofs.frames.answer_each.Given as goal
 
 abbrev pub invariant-loop-i : goal.invariant-loop-i

@@ -2,7 +2,6 @@
 use mathlib.Core.Path.{ap, ◌∙◌}
 use lib.ListN.{length, replicate}
 use Rattle.answers_as_numbers.specs.Numbers.{refused_as_number}
-use borrow.Author.Rules.{rules}
 use Rattle.answers_as_numbers.proofs.frames.refuse_each.Goals as goal
 
 pub returns : goal.returns

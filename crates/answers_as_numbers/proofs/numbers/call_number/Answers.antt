@@ -1,7 +1,6 @@
 -- By the verdict.
 use mathlib.Core.Path.{sym, ap}
 use Rattle.answers_as_numbers.specs.Numbers.{call_number_by}
-use borrow.Author.Rules.{rules}
 use Rattle.answers_as_numbers.proofs.numbers.call_number.Goals as goal
 
 pub returns-in-Accepted : goal.returns-in-Accepted

@@ -2,7 +2,6 @@
 use mathlib.Core.Path.{sym, ap, ◌∙◌}
 use mathlib.Core.Bool.{not}
 use Rattle.check_repeats.proofs.Filter.{unmarked}
-use borrow.Author.Rules.{rules}
 use Rattle.check_repeats.proofs.keys.has_key.Goals as goal
 
 pub returns-then-is_marked : goal.returns-then-is_marked

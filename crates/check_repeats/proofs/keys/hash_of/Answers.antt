@@ -1,5 +1,5 @@
 -- `check_repeats::keys::hash_of` meets its contract: so far it is the hash of the fields before the next.
-use Prim.Native.Nat.{◌-◌, ◌/◌, ◌≤◌}
+use Prim.Native.Nat.{◌/◌}
 use mathlib.Core.Path.{◌≡◌, refl, ◌∙◌}
 use lib.ListN.{length}
 use native.Mathlib.Numerals.{add-one}

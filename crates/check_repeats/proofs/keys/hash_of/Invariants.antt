@@ -1,10 +1,8 @@
 -- `check_repeats::keys::hash_of` meets its contract: so far it is the hash of the fields before the next.
 use Prim.Native.Nat.{◌-◌, ◌/◌, ◌≤◌}
-use mathlib.Core.Path.{◌≡◌, refl, ◌∙◌}
+use mathlib.Core.Path.{◌≡◌}
 use lib.ListN.{length}
-use native.Mathlib.Numerals.{add-one}
 use Rattle.check_repeats.specs.Keys.{hash_to}
-use borrow.Author.Rules.{rules}
 use Rattle.check_repeats.proofs.keys.hash_of.Given as goal
 
 abbrev pub invariant-loop-i : goal.invariant-loop-i

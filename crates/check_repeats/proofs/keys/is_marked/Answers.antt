@@ -1,5 +1,4 @@
 -- `check_repeats::keys::is_marked` meets its contract.
-use borrow.Author.Rules.{rules}
 use Rattle.check_repeats.proofs.keys.is_marked.Goals as goal
 
 pub returns : goal.returns

@@ -1,10 +1,7 @@
 -- `check_repeats::keys::is_new_key` meets its contract: so far no key is the same, or one is.
 use Prim.Native.Nat.{◌-◌, ◌≤◌}
-use mathlib.Core.Path.{◌≡◌, refl}
-use Rattle.laws.specs.Tests.{all_below}
+use mathlib.Core.Path.{◌≡◌}
 use Rattle.check_repeats.specs.Keys.{new_key}
-use Rattle.check_repeats.proofs.Below.{new_more}
-use borrow.Author.Rules.{rules}
 use Rattle.check_repeats.proofs.keys.is_new_key.Given as goal
 
 abbrev pub invariant-loop-i : goal.invariant-loop-i

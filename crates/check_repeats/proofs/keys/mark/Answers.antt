@@ -1,5 +1,4 @@
 -- `check_repeats::keys::mark` meets its contract.
-use borrow.Author.Rules.{rules}
 use Rattle.check_repeats.proofs.keys.mark.Goals as goal
 
 pub returns : goal.returns

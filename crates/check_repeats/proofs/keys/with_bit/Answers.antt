@@ -1,6 +1,5 @@
 -- `check_repeats::keys::with_bit` meets its contract.
 use Rattle.check_repeats.proofs.Bits.{bit_in}
-use borrow.Author.Rules.{rules}
 use Rattle.check_repeats.proofs.keys.with_bit.Goals as goal
 
 pub returns : goal.returns

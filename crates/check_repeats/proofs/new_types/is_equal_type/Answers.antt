@@ -5,7 +5,6 @@ use borrow.Author.Tests.{eq-eqb, ne_eqb}
 use Rattle.read_records.specs.Heads.{fields_at}
 use Rattle.read_records.specs.Descriptors.{descriptor_kind}
 use Rattle.check_repeats.specs.NewTypes.{same_fields}
-use borrow.Author.Rules.{rules}
 use Rattle.check_repeats.proofs.new_types.is_equal_type.Goals as goal
 
 pub returns-then-descriptor-type_descriptor : goal.returns-then-descriptor-type_descriptor

@@ -1,9 +1,9 @@
 -- `check_repeats::new_types::is_new_type` meets its contract: so far no type is the same.
-use Prim.Native.Nat.{ℕ, ◌-◌, ◌≤◌}
+use Prim.Native.Nat.{ℕ}
 use mathlib.Core.Path.{◌≡◌, refl, sym, ap, ◌∙◌}
-use mathlib.Core.Bool.{Bool, true, not}
+use mathlib.Core.Bool.{Bool, not}
 use Rattle.laws.specs.Tests.{all_below}
-use Rattle.check_repeats.specs.NewTypes.{equal_type, new_type}
+use Rattle.check_repeats.specs.NewTypes.{equal_type}
 use Rattle.check_repeats.proofs.Below.{below_more, below_not}
 use borrow.Author.Rules.{rules}
 use Rattle.check_repeats.proofs.new_types.is_new_type.Goals as goal

@@ -1,11 +1,8 @@
 -- `check_repeats::new_types::is_new_type` meets its contract: so far no type is the same.
-use Prim.Native.Nat.{ℕ, ◌-◌, ◌≤◌}
-use mathlib.Core.Path.{◌≡◌, refl, sym, ap, ◌∙◌}
-use mathlib.Core.Bool.{Bool, true, not}
-use Rattle.laws.specs.Tests.{all_below}
-use Rattle.check_repeats.specs.NewTypes.{equal_type, new_type}
-use Rattle.check_repeats.proofs.Below.{below_more, below_not}
-use borrow.Author.Rules.{rules}
+use Prim.Native.Nat.{◌-◌, ◌≤◌}
+use mathlib.Core.Path.{◌≡◌}
+use mathlib.Core.Bool.{true}
+use Rattle.check_repeats.specs.NewTypes.{new_type}
 use Rattle.check_repeats.proofs.new_types.is_new_type.Given as goal
 
 abbrev pub invariant-loop-i : goal.invariant-loop-i

@@ -1,15 +1,12 @@
 -- `check_repeats::new_types::same_fields` meets its contract: so far all numbers are the same.
 use Prim.Native.Nat.{ℕ, ◌-◌, ◌/◌, ◌≤◌}
-use mathlib.Core.Path.{◌≡◌, refl, sym, ◌∙◌}
-use mathlib.Core.Bool.{Bool, true, false}
+use mathlib.Core.Path.{◌≡◌}
+use mathlib.Core.Bool.{Bool, true}
 use mathlib.Core.List.{List}
 use lib.ListN.{length}
 use lib.Dec.{eqb}
-use borrow.Author.Tests.{eq-eqb, ne_eqb}
 use Rattle.laws.specs.Tests.{all_below}
 use Rattle.read_records.specs.Heads.{field_in}
-use Rattle.check_repeats.proofs.Below.{below_more, below_not, and_no}
-use borrow.Author.Rules.{rules}
 use Rattle.check_repeats.proofs.new_types.same_fields.Given as goal
 
 -- The numbers at a place are the same.

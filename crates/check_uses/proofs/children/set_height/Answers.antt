@@ -1,7 +1,6 @@
 -- `check_uses::children::set_height` meets its contract.
 use lib.ListN.{set}
 use mathlib.Core.Path.{ap, ◌∙◌}
-use borrow.Author.Rules.{rules}
 use Rattle.check_uses.proofs.children.set_height.Goals as goal
 
 pub returns : goal.returns

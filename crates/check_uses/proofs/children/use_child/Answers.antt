@@ -3,7 +3,6 @@ use Prim.Native.Nat.{max}
 use lib.ListN.{set}
 use mathlib.Core.Path.{ap, ◌∙◌}
 use Rattle.check_uses.specs.Marks.{height_in, used_mark, highest}
-use borrow.Author.Rules.{rules}
 use Rattle.check_uses.proofs.children.use_child.Goals as goal
 
 pub returns : goal.returns

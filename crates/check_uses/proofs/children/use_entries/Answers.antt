@@ -1,5 +1,5 @@
 -- `check_uses::children::use_entries` meets its contract: the loop uses what one entry after another names; the rest of the entries is left.
-use Prim.Native.Nat.{ℕ, ◌+◌, ◌-◌, ◌≤◌}
+use Prim.Native.Nat.{ℕ, ◌+◌}
 use native.Mathlib.Omega.{arith}
 use mathlib.Core.Path.{◌≡◌, refl, ap, subst, sym, ◌∙◌}
 use mathlib.Core.List.{List, foldl-append}

@@ -1,17 +1,10 @@
 -- `check_uses::children::use_entries` meets its contract: the loop uses what one entry after another names; the rest of the entries is left.
-use Prim.Native.Nat.{ℕ, ◌+◌, ◌-◌, ◌≤◌}
-use native.Mathlib.Omega.{arith}
-use mathlib.Core.Path.{◌≡◌, refl, ap, subst, sym, ◌∙◌}
-use mathlib.Core.List.{List, foldl-append}
+use Prim.Native.Nat.{◌-◌, ◌≤◌}
+use mathlib.Core.Path.{◌≡◌}
 use lib.ListN.{length}
-use Rattle.image.specs.Kinds.{an_entry}
-use Rattle.image.specs.Records.{as_child}
-use Rattle.read_records.specs.Codes.{count_of, children_in, entries_in}
 use Rattle.read_records.specs.Heads.{entries_of}
-use Rattle.read_records.proofs.Entries.{entries_left, all_left, next_left, none_left}
-use Rattle.check_uses.specs.Marks.{Lower, used, use_all, highest}
-use Rattle.check_uses.proofs.ChildByChild.{lower_first, lower_rest, high_append}
-use borrow.Author.Rules.{rules}
+use Rattle.read_records.proofs.Entries.{entries_left}
+use Rattle.check_uses.specs.Marks.{Lower, use_all, highest}
 use Rattle.check_uses.proofs.children.use_entries.Given as goal
 
 abbrev pub invariant-loop-j : goal.invariant-loop-j

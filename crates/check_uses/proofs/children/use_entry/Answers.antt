@@ -2,7 +2,6 @@
 use mathlib.Core.Path.{refl}
 use lib.Dec.{lit<}
 use Rattle.check_uses.specs.Marks.{highest}
-use borrow.Author.Rules.{rules}
 use Rattle.check_uses.proofs.children.use_entry.Goals as goal
 
 pub returns-then-entry-eq0 : goal.returns-then-entry-eq0

@@ -1,6 +1,5 @@
 -- `check_uses::children::used_mark` meets its contract.
 use borrow.Author.Tests.{lt-ltb, le-ltb}
-use borrow.Author.Rules.{rules}
 use Rattle.check_uses.proofs.children.used_mark.Goals as goal
 
 pub returns-then-mark-lt-USED : goal.returns-then-mark-lt-USED

@@ -1,10 +1,6 @@
 -- `check_uses::uses::first_misused` meets its contract: the terms before i are used once.
-use Prim.Native.Nat.{ℕ, ◌-◌, ◌≤◌, ◌<◌}
 use native.Mathlib.Omega.{arith}
-use mathlib.Core.Path.{◌≡◌, ap, sym, ◌∙◌}
-use mathlib.Core.Bool.{true}
-use lib.ListN.{get_or}
-use borrow.Author.Tests.{not-true, not-false}
+use mathlib.Core.Path.{ap, sym, ◌∙◌}
 use Rattle.laws.proofs.Tests.{all_below_lem}
 use Rattle.check_uses.specs.Marks.{is_once}
 use Rattle.check_uses.proofs.Below.{holds_more}

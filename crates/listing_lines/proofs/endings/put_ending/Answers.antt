@@ -1,8 +1,6 @@
 -- No outcome, or one.
-use mathlib.Core.Path.{◌∙◌}
 use Rattle.listing_lines.proofs.Puts.{as_text, puts_nothing, then}
 use Rattle.listing_lines.proofs.Said.{no_ending, ending_said}
-use borrow.Author.Rules.{rules}
 use Rattle.listing_lines.proofs.endings.put_ending.Goals as goal
 
 pub returns-in-NoOutcome : goal.returns-in-NoOutcome

@@ -1,7 +1,5 @@
 -- The word, a space, the steps, the end of the line.
-use mathlib.Core.Path.{◌∙◌}
 use Rattle.listing_lines.proofs.Puts.{then}
-use borrow.Author.Rules.{rules}
 use Rattle.listing_lines.proofs.endings.put_outcome.Goals as goal
 
 pub returns : goal.returns

@@ -1,7 +1,6 @@
 -- Done, or not.
 use Rattle.listing_lines.proofs.Puts.{as_text, puts_nothing}
 use Rattle.listing_lines.proofs.Said.{result_said, no_result}
-use borrow.Author.Rules.{rules}
 use Rattle.listing_lines.proofs.endings.put_result.Goals as goal
 
 pub returns-then-outcome_number-eq-DONE : goal.returns-then-outcome_number-eq-DONE

@@ -3,7 +3,6 @@ use mathlib.Core.Path.{sym, ap}
 use Rattle.listing_lines.specs.Text.{ascii}
 use Rattle.listing_lines.specs.Lines.{outcome_word}
 use Rattle.listing_lines.proofs.Puts.{as_text}
-use borrow.Author.Rules.{rules}
 use Rattle.listing_lines.proofs.endings.put_word.Goals as goal
 
 pub returns-in-Done : goal.returns-in-Done

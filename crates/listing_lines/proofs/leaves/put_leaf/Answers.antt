@@ -1,7 +1,6 @@
 -- By the record's kind.
 use Rattle.listing_lines.proofs.Puts.{as_text, puts_nothing}
 use Rattle.listing_lines.proofs.Said.{unit_said, truth_said, number_said, no_leaf}
-use borrow.Author.Rules.{rules}
 use Rattle.listing_lines.proofs.leaves.put_leaf.Goals as goal
 
 pub returns-in-65 : goal.returns-in-65

@@ -1,7 +1,5 @@
 -- The space, then the number.
-use mathlib.Core.Path.{◌∙◌}
 use Rattle.listing_lines.proofs.Puts.{then}
-use borrow.Author.Rules.{rules}
 use Rattle.listing_lines.proofs.leaves.put_number.Goals as goal
 
 pub returns : goal.returns

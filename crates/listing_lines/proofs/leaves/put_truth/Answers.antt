@@ -3,7 +3,6 @@ use Rattle.listing_lines.proofs.Puts.{as_text}
 use Rattle.listing_lines.specs.Lines.{leaf_text}
 use Rattle.calculus.specs.declared.Leaf.{Leaf}
 use mathlib.Core.Path.{sym, ap}
-use borrow.Author.Rules.{rules}
 use Rattle.listing_lines.proofs.leaves.put_truth.Goals as goal
 
 pub returns-then-b : goal.returns-then-b

@@ -1,7 +1,6 @@
 -- By the record's kind.
 use Rattle.listing_lines.proofs.Puts.{as_text, puts_nothing}
 use Rattle.listing_lines.proofs.Said.{plain_said, other_said, no_cell}
-use borrow.Author.Rules.{rules}
 use Rattle.listing_lines.proofs.lines.put_cell.Goals as goal
 
 pub returns-in-68 : goal.returns-in-68

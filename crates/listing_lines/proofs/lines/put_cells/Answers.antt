@@ -1,12 +1,10 @@
 -- One record after another.
-use Prim.Native.Nat.{◌-◌}
 use native.Mathlib.Omega.{arith}
 use mathlib.Core.Path.{refl}
-use lib.ListN.{length}
 use Rattle.report.specs.Read.{cell_in_of}
 use Rattle.listing_lines.specs.Lines.{cell_line}
 use Rattle.listing_lines.proofs.Puts.{kept}
-use Rattle.listing_lines.proofs.Walk.{Walked, walk_starts, walk_long, walk_on, walk_ends}
+use Rattle.listing_lines.proofs.Walk.{walk_starts, walk_long, walk_on, walk_ends}
 use borrow.Author.Rules.{rules}
 use Rattle.listing_lines.proofs.lines.put_cells.Goals as goal
 

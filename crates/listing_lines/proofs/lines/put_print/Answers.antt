@@ -1,7 +1,6 @@
 -- A record of the log, or another.
 use Rattle.listing_lines.proofs.Puts.{as_text, puts_nothing}
 use Rattle.listing_lines.proofs.Said.{print_said, no_print}
-use borrow.Author.Rules.{rules}
 use Rattle.listing_lines.proofs.lines.put_print.Goals as goal
 
 pub returns-then-kind-ne-LOG : goal.returns-then-kind-ne-LOG

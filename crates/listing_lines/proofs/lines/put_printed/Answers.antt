@@ -1,7 +1,5 @@
 -- The word, the domain, a space, the number, the end of the line.
-use mathlib.Core.Path.{◌∙◌}
 use Rattle.listing_lines.proofs.Puts.{then}
-use borrow.Author.Rules.{rules}
 use Rattle.listing_lines.proofs.lines.put_printed.Goals as goal
 
 pub returns : goal.returns

@@ -1,13 +1,9 @@
 -- One record after another.
 use Prim.Native.Nat.{◌-◌}
-use native.Mathlib.Omega.{arith}
-use mathlib.Core.Path.{refl}
 use lib.ListN.{length}
 use Rattle.report.specs.Read.{print_in}
 use Rattle.listing_lines.specs.Lines.{print_line}
-use Rattle.listing_lines.proofs.Puts.{kept}
-use Rattle.listing_lines.proofs.Walk.{Walked, walk_starts, walk_long, walk_on, walk_ends}
-use borrow.Author.Rules.{rules}
+use Rattle.listing_lines.proofs.Walk.{Walked}
 use Rattle.listing_lines.proofs.lines.put_prints.Given as goal
 
 abbrev pub invariant-loop-size : goal.invariant-loop-size

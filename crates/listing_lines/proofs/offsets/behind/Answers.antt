@@ -4,7 +4,6 @@ use lib.ListN.{length, drop, length-drop, drop_of_length-le}
 use native.Mathlib.Omega.{arith}
 -- All but the first n bytes, or none.
 use mathlib.Core.Path.{sym}
-use borrow.Author.Rules.{rules}
 use Rattle.listing_lines.proofs.offsets.behind.Goals as goal
 
 pub returns-then-n-s : goal.returns-then-n-s

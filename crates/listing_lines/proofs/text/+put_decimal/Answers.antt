@@ -1,4 +1,3 @@
-use native.Mathlib.Omega.{arith}
 use mathlib.Core.Path.{refl, sym}
 use Rattle.listing_lines.proofs.Puts.{as_text, then}
 use Rattle.listing_lines.proofs.Decimal.{one_digit, more_digits}

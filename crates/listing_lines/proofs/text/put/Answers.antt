@@ -1,9 +1,6 @@
 use native.Mathlib.Omega.{arith}
 use lib.Seq.{take_all}
 use Rattle.listing_lines.proofs.Puts.{puts_nothing, kept, as_text, one_more}
-use Prim.Native.Nat.{◌-◌, ◌≤◌}
-use lib.ListN.{length, take}
-use Rattle.listing_lines.specs.Puts.{Puts}
 use borrow.Author.Rules.{rules}
 use Rattle.listing_lines.proofs.text.put.Goals as goal
 

@@ -1,6 +1,5 @@
 -- There is room for the byte, or there is none.
 use Rattle.listing_lines.proofs.Puts.{byte_put, byte_left_out}
-use borrow.Author.Rules.{rules}
 use Rattle.listing_lines.proofs.text.put_byte.Goals as goal
 
 pub returns-then-at-out : goal.returns-then-at-out

@@ -1,8 +1,7 @@
 -- A number below 2^31 as it is; any other below 0.
 use Rattle.listing_lines.proofs.Puts.{as_text, then}
 use Rattle.listing_lines.proofs.Decimal.{not_negative, negative}
-use mathlib.Core.Path.{sym, ◌∙◌}
-use borrow.Author.Rules.{rules}
+use mathlib.Core.Path.{sym}
 use Rattle.listing_lines.proofs.text.put_signed.Goals as goal
 
 pub returns-then-n-lt-LOWEST : goal.returns-then-n-lt-LOWEST

@@ -1,5 +1,4 @@
 -- `read_terms::domains::leq` meets its contract.
-use borrow.Author.Rules.{rules}
 use mathlib.Core.Path.{◌∙◌}
 use borrow.Author.Tests.{lt-ltb, le-ltb}
 use Rattle.read_terms.specs.Masks.{bit_of}

@@ -1,8 +1,6 @@
 -- `read_terms::domains::set_masks` meets its contract.
-use borrow.Author.Rules.{rules}
 use native.Mathlib.Omega.{arith}
 use mathlib.Core.Path.{◌≡◌, ap, ◌∙◌}
-use Prim.Native.Nat.{ℕ, ◌-◌, ◌≤◌}
 use lib.ListN.{length, get_or, set, take, replicate, length-map}
 use lib.Seq.{take-length}
 use Rattle.image.specs.Limits.{domain_limit}

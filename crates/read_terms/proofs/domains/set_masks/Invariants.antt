@@ -1,17 +1,10 @@
 -- `read_terms::domains::set_masks` meets its contract.
-use borrow.Author.Rules.{rules}
-use native.Mathlib.Omega.{arith}
-use mathlib.Core.Path.{◌≡◌, ap, ◌∙◌}
+use mathlib.Core.Path.{◌≡◌}
 use Prim.Native.Nat.{ℕ, ◌-◌, ◌≤◌}
-use lib.ListN.{length, get_or, set, take, replicate, length-map}
-use lib.Seq.{take-length}
+use lib.ListN.{length, get_or, take}
 use Rattle.image.specs.Limits.{domain_limit}
-use Rattle.image.specs.Bytes.{field_at}
 use Rattle.image.specs.Layout.{records_of}
-use Rattle.image.proofs.Laid.{layout_good}
 use Rattle.verdict.specs.Domains.{masks}
-use Rattle.read_terms.proofs.Lists.{filled_none, filled_more}
-use lib.ListN.{length-set}
 use Rattle.read_terms.proofs.domains.set_masks.Given as goal
 
 abbrev pub invariant-loop-i : goal.invariant-loop-i

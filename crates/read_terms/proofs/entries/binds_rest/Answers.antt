@@ -1,5 +1,4 @@
 -- `read_terms::entries::binds_rest` meets its contract.
-use borrow.Author.Rules.{rules}
 use mathlib.Core.Path.{refl}
 use Rattle.read_terms.proofs.entries.binds_rest.Goals as goal
 

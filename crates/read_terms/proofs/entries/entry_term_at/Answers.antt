@@ -2,10 +2,10 @@
 use borrow.Author.Rules.{rules}
 use native.Mathlib.Omega.{arith}
 use mathlib.Core.Path.{◌≡◌, refl, sym, ap, ◌∙◌}
-use Prim.Native.Nat.{◌+◌, ◌-◌, ◌≤◌, ◌<◌}
+use Prim.Native.Nat.{◌+◌}
 use lib.ListN.{length, get_or}
 use Rattle.read_records.proofs.Entries.{entries_left, next_left, none_left}
-use Rattle.read_terms.specs.Fields.{first_entry, entry_terms}
+use Rattle.read_terms.specs.Fields.{first_entry}
 use Rattle.read_terms.proofs.Matches.{first_named, later_named, not_first, is_first, at_first}
 use Rattle.read_terms.proofs.entries.entry_term_at.Goals as goal
 

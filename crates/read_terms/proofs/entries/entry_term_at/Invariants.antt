@@ -1,12 +1,9 @@
 -- `read_terms::entries::entry_term_at` meets its contract: the term is one of those of the entries that are left.
-use borrow.Author.Rules.{rules}
-use native.Mathlib.Omega.{arith}
-use mathlib.Core.Path.{◌≡◌, refl, sym, ap, ◌∙◌}
-use Prim.Native.Nat.{◌+◌, ◌-◌, ◌≤◌, ◌<◌}
+use mathlib.Core.Path.{◌≡◌}
+use Prim.Native.Nat.{◌-◌, ◌≤◌, ◌<◌}
 use lib.ListN.{length, get_or}
-use Rattle.read_records.proofs.Entries.{entries_left, next_left, none_left}
+use Rattle.read_records.proofs.Entries.{entries_left}
 use Rattle.read_terms.specs.Fields.{first_entry, entry_terms}
-use Rattle.read_terms.proofs.Matches.{first_named, later_named, not_first, is_first, at_first}
 use Rattle.read_terms.proofs.entries.entry_term_at.Given as goal
 
 abbrev pub invariant-loop-i : goal.invariant-loop-i

@@ -1,5 +1,4 @@
 -- `read_terms::entries::match_child` meets its contract.
-use borrow.Author.Rules.{rules}
 use native.Mathlib.Omega.{arith}
 use mathlib.Core.Path.{◌∙◌}
 use Rattle.read_terms.proofs.Matches.{children_all, first_child_lem, later_child}

@@ -1,5 +1,4 @@
 -- `read_terms::terms::bodies_in` meets its contract.
-use borrow.Author.Rules.{rules}
 use mathlib.Core.Path.{sym}
 use Rattle.read_terms.proofs.Counts.{body_count}
 use Rattle.read_terms.proofs.terms.bodies_in.Goals as goal

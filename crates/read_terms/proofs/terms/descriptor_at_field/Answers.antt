@@ -1,5 +1,4 @@
 -- `read_terms::terms::descriptor_at_field` meets its contract.
-use borrow.Author.Rules.{rules}
 use mathlib.Core.Path.{ap, ◌∙◌}
 use lib.ListN.{get_or}
 use Rattle.read_terms.proofs.terms.descriptor_at_field.Goals as goal

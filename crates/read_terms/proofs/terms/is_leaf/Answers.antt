@@ -1,5 +1,4 @@
 -- `read_terms::terms::is_leaf` meets its contract.
-use borrow.Author.Rules.{rules}
 use mathlib.Core.Path.{ap}
 use lib.Dec.{leb}
 use Rattle.read_terms.proofs.terms.is_leaf.Goals as goal

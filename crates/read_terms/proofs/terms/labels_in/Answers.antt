@@ -1,5 +1,4 @@
 -- `read_terms::terms::labels_in` meets its contract.
-use borrow.Author.Rules.{rules}
 use mathlib.Core.Path.{sym}
 use Rattle.read_terms.proofs.Counts.{label_count}
 use Rattle.read_terms.proofs.terms.labels_in.Goals as goal

@@ -1,5 +1,4 @@
 -- `read_terms::terms::own_descriptor` meets its contract.
-use borrow.Author.Rules.{rules}
 use mathlib.Core.Path.{ap, ◌∙◌}
 use lib.ListN.{get_or}
 use Rattle.read_terms.proofs.terms.own_descriptor.Goals as goal

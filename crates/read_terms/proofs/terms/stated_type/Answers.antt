@@ -1,5 +1,4 @@
 -- `read_terms::terms::stated_type` meets its contract.
-use borrow.Author.Rules.{rules}
 use mathlib.Core.Path.{ap, ◌∙◌}
 use Rattle.read_records.specs.Heads.{field_in}
 use Rattle.read_terms.proofs.Located.{typed_in, type_in_lem}

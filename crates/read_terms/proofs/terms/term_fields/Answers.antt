@@ -1,5 +1,4 @@
 -- `read_terms::terms::term_fields` meets its contract.
-use borrow.Author.Rules.{rules}
 use mathlib.Core.Path.{ap, ◌∙◌}
 use Rattle.read_records.specs.Heads.{fields_at}
 use Rattle.read_terms.proofs.Located.{whole}

@@ -1,5 +1,4 @@
 -- `read_terms::terms::term_kind` meets its contract.
-use borrow.Author.Rules.{rules}
 use mathlib.Core.Path.{ap, ◌∙◌}
 use Rattle.image.specs.Bytes.{number_at}
 use Rattle.read_terms.proofs.terms.term_kind.Goals as goal

@@ -1,5 +1,4 @@
 -- `read_terms::terms::type_at_field` meets its contract.
-use borrow.Author.Rules.{rules}
 use mathlib.Core.Path.{ap, ◌∙◌}
 use Rattle.image.specs.Layout.{records_of}
 use Rattle.image.specs.Types.{type_no}

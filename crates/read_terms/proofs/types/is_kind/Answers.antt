@@ -1,5 +1,4 @@
 -- `read_terms::types::is_kind` meets its contract.
-use borrow.Author.Rules.{rules}
 use mathlib.Core.Path.{ap}
 use lib.Dec.{eqb}
 use Rattle.read_terms.proofs.types.is_kind.Goals as goal

@@ -4,7 +4,6 @@ use Rattle.base_bytes.specs.Bytes.{bytes_of}
 use Rattle.report.proofs.Put.{record_written}
 use Rattle.base_bytes.specs.Records.{bytes16}
 use Rattle.report.specs.Written.{other_cell_kind}
-use borrow.Author.Rules.{rules}
 use Rattle.report.proofs.cells.put_other_cell.Goals as goal
 
 pub returns : goal.returns

@@ -7,7 +7,6 @@ use Rattle.base_bytes.specs.Records.{bytes16}
 use Rattle.report.specs.Written.{plain_cell_kind, leaves_bytes, leaves_in}
 use Rattle.report.proofs.Lengths.{slots_short}
 use Rattle.report.proofs.Put.{header_last}
-use borrow.Author.Rules.{rules}
 use Rattle.report.proofs.cells.put_plain_cell.Goals as goal
 
 pub overflow_cast-end : goal.overflow_cast-end

@@ -5,7 +5,6 @@ use Rattle.report.proofs.Put.{fields_written}
 use Rattle.calculus.specs.Report.{outcome_number}
 use Rattle.base_bytes.specs.Records.{bytes16, bytes32}
 use Rattle.report.specs.Written.{report_kind}
-use borrow.Author.Rules.{rules}
 use Rattle.report.proofs.fixed.put_head.Goals as goal
 
 pub returns : goal.returns

@@ -4,7 +4,6 @@ use mathlib.Core.Path.{refl}
 use Rattle.base_bytes.specs.Bytes.{bytes_of}
 use Rattle.report.proofs.Put.{fields_written}
 use Rattle.base_bytes.specs.Records.{bytes16, bytes32, log_kind}
-use borrow.Author.Rules.{rules}
 use Rattle.report.proofs.fixed.put_log.Goals as goal
 
 pub returns : goal.returns

@@ -4,7 +4,6 @@ use Rattle.calculus.specs.Combinators.{choose}
 use Rattle.base_bytes.specs.Bytes.{bytes_of}
 use Rattle.base_bytes.specs.Records.{bytes16, bytes32}
 use Rattle.report.proofs.Put.{record_written}
-use borrow.Author.Rules.{rules}
 use Rattle.report.proofs.leaves.put_leaf.Goals as goal
 
 pub returns-in-Unit : goal.returns-in-Unit

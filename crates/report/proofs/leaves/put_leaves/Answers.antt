@@ -1,11 +1,8 @@
-use Prim.Native.Nat.{◌+◌, ◌*◌, ◌-◌, ◌≤◌}
 use native.Mathlib.Omega.{arith}
 use mathlib.Core.Path.{◌≡◌, refl, sym, ◌∙◌}
 use lib.ListN.{length}
-use Rattle.base_bytes.specs.Bytes.{over}
 use Rattle.base_bytes.proofs.Over.{over_nothing}
 use Rattle.report.specs.Records.{records_bytes}
-use Rattle.report.specs.Written.{leaves_bytes, leaves_in}
 use Rattle.report.proofs.Put.{leaves_step}
 use borrow.Author.Rules.{rules}
 use Rattle.report.proofs.leaves.put_leaves.Goals as goal

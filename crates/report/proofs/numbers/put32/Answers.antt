@@ -2,7 +2,6 @@ use Prim.Native.Nat.{◌%◌}
 use native.Mathlib.Omega.{arith}
 use lib.ListN.{length-set}
 use Rattle.base_bytes.proofs.Bytes.{bytes4, stores, stores_over}
-use borrow.Author.Rules.{rules}
 use Rattle.report.proofs.numbers.put32.Goals as goal
 
 pub returns : goal.returns

@@ -4,7 +4,6 @@ use mathlib.Core.Path.{refl}
 use Rattle.base_bytes.specs.Bytes.{bytes_of}
 use Rattle.base_bytes.proofs.Over.{onward}
 use Rattle.base_bytes.specs.Records.{bytes16}
-use borrow.Author.Rules.{rules}
 use Rattle.report.proofs.numbers.put_header.Goals as goal
 
 pub returns : goal.returns

@@ -1,4 +1,4 @@
-use Rattle.std.proofs.Common.{◌∙◌, lit<, rules, le-ltb, lt-ltb}
+use Rattle.std.proofs.Common.{◌∙◌, lit<, le-ltb, lt-ltb}
 use Rattle.vm_words.proofs.value.byte_at.Goals as goal
 
 pub returns-then-at-frame : goal.returns-then-at-frame

@@ -1,4 +1,4 @@
-use Rattle.std.proofs.Common.{ap, ◌∙◌, rules}
+use Rattle.std.proofs.Common.{ap, ◌∙◌}
 use Rattle.calculus.specs.Numbers.{frame_byte}
 use Rattle.vm_code.specs.Values.{number_value}
 use Rattle.vm_words.proofs.value.frame_byte.Goals as goal

@@ -1,4 +1,4 @@
-use Rattle.std.proofs.Common.{◌∙◌, rules}
+use Rattle.std.proofs.Common.{◌∙◌}
 use Rattle.calculus.specs.Numbers.{is_equal}
 use Rattle.vm_code.specs.Values.{truth_value}
 use Rattle.vm_words.proofs.value.is_equal.Goals as goal

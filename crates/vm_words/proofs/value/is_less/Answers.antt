@@ -1,4 +1,4 @@
-use Rattle.std.proofs.Common.{ap, ◌∙◌, rules}
+use Rattle.std.proofs.Common.{ap, ◌∙◌}
 use Rattle.calculus.specs.Numbers.{is_less}
 use Rattle.vm_code.specs.Values.{truth_value}
 use Rattle.vm_words.proofs.value.is_less.Goals as goal

@@ -1,4 +1,3 @@
-use Rattle.std.proofs.Common.{rules}
 use Rattle.vm_words.proofs.value.less.Goals as goal
 
 pub returns : goal.returns

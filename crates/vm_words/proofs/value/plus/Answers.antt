@@ -1,4 +1,4 @@
-use Rattle.std.proofs.Common.{ap, ◌∙◌, ap₂, rules}
+use Rattle.std.proofs.Common.{ap, ◌∙◌, ap₂}
 use Rattle.calculus.specs.Numbers.{sum}
 use Rattle.vm_code.specs.Values.{number_value}
 use Rattle.vm_words.proofs.value.plus.Goals as goal

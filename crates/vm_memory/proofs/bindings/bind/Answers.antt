@@ -1,0 +1,7 @@
+use native.Mathlib.Omega.{arith}
+use Rattle.vm_memory.proofs.Stored.{put_as}
+use borrow.Author.Rules.{rules}
+use Rattle.vm_memory.proofs.bindings.bind.Goals as goal
+
+pub returns : goal.returns
+returns c = put_as _ _ _ _ _ _ (omega arith) c.binding.ensures c.put_word.ensures

@@ -1,0 +1,7 @@
+use mathlib.Core.Path.{refl}
+use Rattle.vm_memory.proofs.Stored.{put_as}
+use borrow.Author.Rules.{rules}
+use Rattle.vm_memory.proofs.cells.put_cell.Goals as goal
+
+pub returns : goal.returns
+returns c = put_as _ _ _ _ _ _ refl c.above.ensures c.put_word.ensures

@@ -1,0 +1,6 @@
+use Rattle.vm_memory.proofs.Stored.{byte_loaded}
+use borrow.Author.Rules.{rules}
+use Rattle.vm_memory.proofs.slots.byte_beside.Goals as goal
+
+pub returns : goal.returns
+returns c = (byte_loaded c.args.work.now _ _ c.requires.0 c.requires.1 c.wide.ensures.0, c.wide.ensures.1)

@@ -1,0 +1,7 @@
+use mathlib.Core.Path.{refl}
+use Rattle.vm_memory.proofs.Stored.{put_as}
+use borrow.Author.Rules.{rules}
+use Rattle.vm_memory.proofs.slots.put_keep.Goals as goal
+
+pub returns : goal.returns
+returns c = put_as _ _ _ _ _ _ refl c.keep_word.ensures c.put_slot.ensures

@@ -1,0 +1,7 @@
+use mathlib.Core.Path.{refl}
+use Rattle.vm_memory.proofs.Stored.{put_as}
+use borrow.Author.Rules.{rules}
+use Rattle.vm_memory.proofs.slots.put_slot.Goals as goal
+
+pub returns : goal.returns
+returns c = put_as _ _ _ _ _ _ c.slot_in.ensures refl c.put_word.ensures

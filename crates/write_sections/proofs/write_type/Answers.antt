@@ -1,0 +1,90 @@
+-- `write_sections::write_type` meets its contract.
+use borrow.Author.Rules.{rules}
+use Prim.Native.Nat.{◌≤◌, ◌<◌}
+use native.Mathlib.Omega.{arith}
+use mathlib.Core.Path.{refl, sym, ◌∙◌}
+use lib.ListN.{length-set}
+use Rattle.write_types.proofs.Located.{known, read}
+use Rattle.write_sections.proofs.Numbered.{numbered_none, size_is, type_number_lem, numbered_more, numbered_all}
+use Rattle.write_sections.proofs.write_type.Goals as goal
+
+pub type_fields-fields-requires : goal.type_fields-fields-requires
+type_fields-fields-requires c = (c.requires.1, c.requires.2)
+
+pub type_kind-kind-requires : goal.type_kind-kind-requires
+type_kind-kind-requires c = (c.requires.1, c.requires.2)
+
+pub known_fields-known-requires : goal.known_fields-known-requires
+known_fields-known-requires c =
+    (c.requires.0, rw (c.type_kind-kind.ensures, c.type_fields-fields.ensures) (known c.requires.1 c.requires.2))
+
+pub loop-i-init : goal.loop-i-init
+loop-i-init c = (omega arith, refl, λ t h R. numbered_none _ _ _ _)
+
+pub class_of-requires : goal.class_of-requires
+class_of-requires c = (read c.requires.1 c.requires.2 c.type_kind-kind.ensures c.type_fields-fields.ensures c.known_fields-known.ensures).asks c.loop-i.i (search rules)
+
+pub field-requires : goal.field-requires
+field-requires c = (read c.requires.1 c.requires.2 c.type_kind-kind.ensures c.type_fields-fields.ensures c.known_fields-known.ensures).inside c.loop-i.i (search rules)
+
+pub kept_number-requires : goal.kept_number-requires
+kept_number-requires c =
+    let here = read c.requires.1 c.requires.2 c.type_kind-kind.ensures c.type_fields-fields.ensures c.known_fields-known.ensures in
+    let i = c.loop-i in
+    let l : i.i < c.known_fields-known.result.count = search rules in
+    let n = here.count in
+    λ z.
+    let y = type_number_lem c.requires.1 c.requires.2 i.i (omega arith) (here.class i.i l c.class_of.ensures) (here.number i.i l c.field.ensures) z in
+    let p = c.requires.3 in
+    omega arith
+
+pub offset_bounds-numbers-i : goal.offset_bounds-numbers-i
+offset_bounds-numbers-i c =
+    let l : c.loop-i.i < c.known_fields-known.result.count = search rules in
+    let f = (read c.requires.1 c.requires.2 c.type_kind-kind.ensures c.type_fields-fields.ensures c.known_fields-known.ensures).few in
+    search rules
+
+pub bounds-numbers-i : goal.bounds-numbers-i
+bounds-numbers-i c =
+    let l : c.loop-i.i < c.known_fields-known.result.count = search rules in
+    let f = (read c.requires.1 c.requires.2 c.type_kind-kind.ensures c.type_fields-fields.ensures c.known_fields-known.ensures).few in
+    omega arith
+
+pub loop-i-preserved : goal.loop-i-preserved
+loop-i-preserved c =
+    let i = c.loop-i in
+    let l : i.i < c.known_fields-known.result.count = search rules in
+    let f = (read c.requires.1 c.requires.2 c.type_kind-kind.ensures c.type_fields-fields.ensures c.known_fields-known.ensures).few in
+    let g = c.loop-i.invariant.1 in (
+      omega arith,
+      length-set i.numbers i.i c.kept_number.result ∙ i.invariant.1,
+      λ t h R.
+          let n = R.count in
+          numbered_more c.requires.1 h i.i (omega arith) (R.class i.i l c.class_of.ensures) (R.number i.i l c.field.ensures) (omega arith) (i.invariant.2 t h R) c.kept_number.ensures,
+    )
+
+pub put_record-requires : goal.put_record-requires
+put_record-requires c =
+    let here = read c.requires.1 c.requires.2 c.type_kind-kind.ensures c.type_fields-fields.ensures c.known_fields-known.ensures in
+    let i = c.loop-i in
+    let f = here.few in
+    let n = here.count in
+    let g = c.loop-i.invariant.1 in
+    let z = size_is c.requires.1 c.requires.2 in
+    let r = c.requires.4 in
+    (f, omega arith, omega arith)
+
+pub returns : goal.returns
+returns c =
+    let here = read c.requires.1 c.requires.2 c.type_kind-kind.ensures c.type_fields-fields.ensures c.known_fields-known.ensures in
+    let i = c.loop-i in
+    let w = c.put_record in
+    let m = c.type_kind-kind in
+    let g : c.known_fields-known.result.count ≤ i.i = c.loop-i-test.false in
+    let b = c.loop-i.invariant.0 in
+    let f = here.few in
+    let u = c.loop-i.invariant.1 in
+    let n = here.count in
+    let z = size_is c.requires.1 c.requires.2 in
+    let x = c.put_record.ensures.0 in
+    (omega arith, numbered_all c.requires.1 c.requires.2 i.i c.known_fields-known.result.count m.result _ (sym n) (omega arith) (omega arith) m.ensures (i.invariant.2 c.args.t.0 c.requires.2 here) w.ensures.1)
