@@ -11,7 +11,7 @@ use Rattle.laws.specs.Tests.{all, first_fault}
 use Rattle.image.specs.Bytes.{words, length_at, number_at}
 use Rattle.image.specs.Kinds.{Kind, Row, row_of, kind_of, fields_of}
 use Rattle.image.specs.Records.{times, Layout}
-use Rattle.image.specs.Layout.{framed, right_length, in_order_of, has_capacity, all_within, in_range, is_new, tests}
+use Rattle.image.specs.Layout.{right_length, in_order_of, has_capacity, all_within, in_range, is_new, tests}
 use Rattle.laws.proofs.Booleans.{no_path}
 use Rattle.read_records.specs.declared.numbers.Counts.{Counts}
 use Rattle.read_records.specs.Codes.{class_numbers, times_in, code_at}

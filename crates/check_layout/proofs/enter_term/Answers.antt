@@ -3,7 +3,6 @@ use Prim.Native.Nat.{◌<◌}
 use native.Mathlib.Omega.{arith}
 use Rattle.image.specs.Limits.{term_limit}
 use Rattle.check_layout.proofs.Marked.{term_refused, term_passed, passed_capacity}
-use borrow.Author.Rules.{rules}
 use Rattle.check_layout.proofs.enter_term.Goals as goal
 
 pub put_term-requires : goal.put_term-requires

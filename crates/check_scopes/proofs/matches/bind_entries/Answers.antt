@@ -1,0 +1,57 @@
+-- `check_scopes::matches::bind_entries` meets its contract: who binds the entries that are left binds all.
+use borrow.Author.Rules.{rules}
+use native.Mathlib.Omega.{arith}
+use mathlib.Core.Path.{◌≡◌, sym, subst, ◌∙◌}
+use Prim.Native.Nat.{ℕ, ◌+◌, ◌-◌, ◌≤◌}
+use mathlib.Core.List.{List}
+use lib.ListN.{length}
+use Rattle.image.specs.Kinds.{an_entry}
+use Rattle.image.specs.Records.{as_child}
+use Rattle.image.specs.Layout.{records_of}
+use Rattle.read_records.proofs.Entries.{entries_left, none_left}
+use Rattle.read_terms.specs.Fields.{first_entry, entry_terms}
+use Rattle.read_terms.proofs.Matches.{few_named, at_first}
+use Rattle.check_rules.specs.Scopes.{scope_length}
+use Rattle.check_scopes.specs.Scopes.{value_types, Binds}
+use Rattle.check_scopes.proofs.Bindings.{values_length, binds_none, binds_entry}
+use Rattle.check_scopes.proofs.matches.bind_entries.Goals as goal
+
+pub loop-i-init : goal.loop-i-init
+loop-i-init c =
+    let a = c.args in
+    let e = at_first a.fields.now c.entries_in-n.result c.entries_in-n.ensures in
+    (search rules, omega arith, c.requires.2, λ x m D. subst (λ es. Binds a.scope.now x a.len m (value_types (records_of a.image.now) es)) (sym e) D)
+
+pub bind_entry-used-requires : goal.bind_entry-used-requires
+bind_entry-used-requires c =
+    let l = c.loop-i in
+    let k = c.entries_in-n.ensures in
+    let h = c.requires.1.each l.i (omega arith) in
+    let f = c.requires.1.few in
+    let r = c.requires.3 in
+    let u = c.loop-i.invariant.1 in
+    (c.requires.0, omega (arith, c.field-entry.ensures), l.invariant.2, omega arith)
+
+pub loop-i-preserved : goal.loop-i-preserved
+loop-i-preserved c =
+    let v = c.field-entry in
+    let l = c.loop-i in
+    let a = c.args in
+    let L = records_of a.image.now in
+    let B = c.bind_entry-used.ensures in
+    let few = few_named v.result in
+    let size = values_length L (as_child an_entry v.result) in
+    let w = c.bind_entry-used.ensures.used in
+    let u = c.loop-i.invariant.1 in
+    (search rules, omega arith, B.same ∙ l.invariant.2, λ x m D. l.invariant.3 x m (binds_entry L a.fields.now c.entries_in-n.result l.i v.result c.loop-i-test.true v.ensures B D))
+
+pub returns : goal.returns
+returns c =
+    let l = c.loop-i in
+    let L = records_of c.args.image.now in
+    let z = none_left c.args.fields.now first_entry c.entries_in-n.result l.i (search rules) in
+    let u = c.loop-i.invariant.1 in
+    let i = c.loop-i.invariant.0 in
+    let k = c.entries_in-n.ensures in
+    let f = c.requires.1.few in
+    (l.invariant.3 l.scope l.used (subst (λ es. Binds l.scope l.scope l.used l.used (value_types L es)) (sym z) (binds_none l.scope l.used)), omega arith)

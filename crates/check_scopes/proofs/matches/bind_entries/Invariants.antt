@@ -1,0 +1,25 @@
+-- `check_scopes::matches::bind_entries` meets its contract: who binds the entries that are left binds all.
+use borrow.Author.Rules.{rules}
+use native.Mathlib.Omega.{arith}
+use mathlib.Core.Path.{◌≡◌, sym, subst, ◌∙◌}
+use Prim.Native.Nat.{ℕ, ◌+◌, ◌-◌, ◌≤◌}
+use mathlib.Core.List.{List}
+use lib.ListN.{length}
+use Rattle.image.specs.Kinds.{an_entry}
+use Rattle.image.specs.Records.{as_child}
+use Rattle.image.specs.Layout.{records_of}
+use Rattle.read_records.proofs.Entries.{entries_left, none_left}
+use Rattle.read_terms.specs.Fields.{first_entry, entry_terms}
+use Rattle.read_terms.proofs.Matches.{few_named, at_first}
+use Rattle.check_rules.specs.Scopes.{scope_length}
+use Rattle.check_scopes.specs.Scopes.{value_types, Binds}
+use Rattle.check_scopes.proofs.Bindings.{values_length, binds_none, binds_entry}
+use Rattle.check_scopes.proofs.matches.bind_entries.Given as goal
+
+abbrev pub invariant-loop-i : goal.invariant-loop-i
+invariant-loop-i l =
+    (l.i ≤ l.n) × (l.used ≤ l.len + l.i) × (length l.scope ≡ scope_length)
+    × ((s : List ℕ) (m : ℕ) → Binds l.scope s l.used m (value_types (records_of l.image) (entries_left l.fields first_entry l.n l.i)) → Binds l.initial.scope s l.len m (value_types (records_of l.image) (entry_terms l.fields)))
+
+abbrev pub decreases-loop-i : goal.decreases-loop-i
+decreases-loop-i l = l.n - l.i

@@ -1,0 +1,52 @@
+-- `check_scopes::matches::match_setting` meets its contract.
+use borrow.Author.Rules.{rules}
+use Prim.Native.Nat.{◌<◌}
+use native.Mathlib.Omega.{arith}
+use mathlib.Core.Path.{refl, sym, ◌∙◌}
+use lib.ListN.{length}
+use Rattle.read_terms.proofs.Counts.{match_count}
+use Rattle.read_terms.proofs.Located.{good_of}
+use Rattle.check_scopes.proofs.Bindings.{with_rest, without_rest}
+use Rattle.check_scopes.proofs.matches.match_setting.Goals as goal
+
+pub binds_rest-requires : goal.binds_rest-requires
+binds_rest-requires c =
+    (c.requires.1.entries refl).long
+
+pub type_at_field-stack-requires : goal.type_at_field-stack-requires
+type_at_field-stack-requires c =
+    let n = match_count c.args.fields.now in
+    (c.requires.0.terms, c.requires.1.children 0 (omega arith))
+
+pub bind_entries-used-requires : goal.bind_entries-used-requires
+bind_entries-used-requires c =
+    let r = c.requires.1.capacity in
+    (c.requires.0, c.requires.1.entries refl, c.requires.1.places, omega arith)
+
+pub bind-requires : goal.bind-requires
+bind-requires c =
+    let u = c.bind_entries-used.ensures.1 in
+    let r = c.requires.1.capacity in
+    let few = (good_of c.args.image.now c.requires.0.terms.laid_out).few_types in
+    let h = c.type_at_field-stack.ensures.1 in
+    (omega arith, omega arith)
+
+pub returns-then-binds_rest : goal.returns-then-binds_rest
+returns-then-binds_rest c =
+    let B = c.bind_entries-used.ensures in
+    let same = c.bind_entries-used.ensures.0.same in
+    let places = c.requires.1.places in
+    let u = c.bind_entries-used.ensures.1 in
+    let capacity = c.requires.1.capacity in
+    let l : c.bind_entries-used.result < length c.bind_entries-used.new.scope = omega arith in
+    rw (c.bind.ensures, c.type_at_field-stack.ensures.0) (with_rest c.args.image.now c.args.fields.now c.args.p.dom.0 B.0 B.1 (sym c.binds_rest.ensures ∙ c.if-binds_rest.true) l)
+
+pub bind_entries-used-requires-2 : goal.bind_entries-used-requires-2
+bind_entries-used-requires-2 c =
+    let r = c.requires.1.capacity in
+    (c.requires.0, c.requires.1.entries refl, c.requires.1.places, omega arith)
+
+pub returns : goal.returns
+returns c =
+    let B = c.bind_entries-used-2.ensures in
+    without_rest c.args.image.now c.args.fields.now c.args.p.dom.0 B.0 B.1 (sym c.binds_rest.ensures ∙ c.if-binds_rest.false)
