@@ -267,6 +267,8 @@ def invariant(fn, loops, block, new, kind):
 
     def put(m):
         w = m[1]
+        if re.match(r"\s*=(?![=])", body[m.end():]):
+            return m[0]
         return to[w] + m[2] if w in to else m[0]
 
     body = PATH.sub(put, body)
