@@ -164,7 +164,7 @@ class Function:
         params = self.data["params"].get(self.places[i][3]) if self.places[i][3] else None
         m = re.match(r"(?:auto|kept|new|last)((?:\.1)*)\.0(\.|\Z)", ".".join(parts))
         if params and m and len(m[1]) // 2 < len(params):
-            return [{"kept": "auto"}.get(parts[0], parts[0]), params[len(m[1]) // 2], *parts[2 + len(m[1]) // 2:]]
+            return [{"kept": "auto", "last": "new"}.get(parts[0], parts[0]), params[len(m[1]) // 2], *parts[2 + len(m[1]) // 2:]]
         return parts
 
 
