@@ -164,7 +164,7 @@ class Function:
         params = self.data["params"].get(self.places[i][3]) if self.places[i][3] else None
         m = re.match(r"(?:auto|kept|new|last)((?:\.1)*)\.0(\.|\Z)", ".".join(parts))
         if params and m and len(m[1]) // 2 < len(params):
-            return [{"kept": "auto"}.get(parts[0], parts[0]), params[len(m[1]) // 2], *parts[2 + len(m[1]) // 2:]]
+            return [{"kept": "auto", "last": "new"}.get(parts[0], parts[0]), params[len(m[1]) // 2], *parts[2 + len(m[1]) // 2:]]
         return parts
 
 
@@ -267,6 +267,8 @@ def invariant(fn, loops, block, new, kind):
 
     def put(m):
         w = m[1]
+        if re.match(r"\s*=(?![=])", body[m.end():]):
+            return m[0]
         return to[w] + m[2] if w in to else m[0]
 
     body = PATH.sub(put, body)

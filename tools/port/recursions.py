@@ -117,6 +117,64 @@ def inline(text, helpers):
         text = put_path(text[:best.start()] + new + rest[at:])
 
 
+def closing(text, i):
+    depth = 0
+    while i < len(text):
+        if text[i] in "([{":
+            depth += 1
+        elif text[i] in ")]}":
+            depth -= 1
+            if depth == 0:
+                return i
+        i += 1
+    raise ValueError(text)
+
+
+def branches(fn, body, changed, arms):
+    """`⊎_elim (λ w. A) (λ w. B) c.X.branch` as an `elim`; `w`'s facts by their names."""
+    m = re.search(r"⊎_elim\s*\(λ w\.", body)
+    if not m:
+        return body
+    a = body.index("(", m.start())
+    b = closing(body, a)
+    a2 = body.index("(", b + 1)
+    b2 = closing(body, a2)
+    step = re.match(r"\s*c\.([^\s()]+)\.branch", body[b2 + 1:])
+    if not step:
+        return body
+    x = step[1]
+    texts = []
+    for kind, at, end in (("Then", a, b), ("Else", a2, b2)):
+        text = re.match(r"\(λ w\.(.*)\Z", body[at:end], re.S)[1]
+        first = next((i for i, p in enumerate(fn.places) if p[0].startswith(kind) and p[2][1] == x), None)
+        chain = []
+        if first is not None:
+            chain = [first]
+            for i in range(first + 1, len(fn.places)):
+                if fn.parent(i) != chain[-1]:
+                    break
+                chain.append(i)
+
+        def named(k):
+            if k < len(chain):
+                return fn.places[chain[k]][2][1]
+            k -= len(chain)
+            return changed[k] + "-is" if k < len(changed) else f"LOOK{k}"
+
+        for r, k in re.findall(r"let\s+(\S+)\s*=\s*w\.(\d+)\s+in", text):
+            k = int(k)
+            if k < len(chain):
+                def put(m, k=k):
+                    return r + "." + ".".join(fn.by_parameter(chain[k], m[1].split(".")))
+                text = re.sub(r"(?<![\w.'-])" + re.escape(r) + r"\.((?:kept|auto|last|new)(?:\.\d+)+)", put, text)
+        text = re.sub(r"(?<![\w.'-])w\.(\d+)", lambda m: "w." + named(int(m[1])), text)
+        texts.append(text.strip())
+    word = x[3:] if x.startswith("if-") else x
+    arms.update([f"then-{word}", f"else-{word}"])
+    return (body[:m.start()] + f"elim c.{x}.branch [\n      then-{word} w ↦\n    {texts[0]}\n    | else-{word} w ↦\n    {texts[1]}\n    ]"
+            + body[b2 + 1 + step.end():])
+
+
 def hoist(body, types):
     """A term of `c` alone that stands in the body twice or more gets a name."""
     bound = set(re.findall(r"let\s+([^\s:=]+)", body))
@@ -222,7 +280,7 @@ def main():
     if len([a for a in args]) < len(needs):
         print("few arguments", len(args), len(needs))
     args = args[len(args) - len(needs):]
-    out = []
+    out, arms = [], set()
     for k, a in enumerate(args):
         new = prefix + needs[k][1]
         t = re.sub(r"\s+", " ", a).strip()
@@ -262,6 +320,8 @@ def main():
         if not plain:
             body = re.sub(r"(?<![\w.'-])c\.requires\.0(?![\w.])", "c.decreases", body)
             body = re.sub(r"(?<![\w.'-])c\.requires\.1(?![\w])", "c.requires", body)
+        vs = [v for v, ch in zip(data["loops"][0][1], data["changed"][0]) if ch] if data["loops"] else []
+        body = branches(fn, body, vs, arms)
         body = hoist(body, {})
         if more:
             body = f" λ {' '.join(more)}." + body
@@ -286,7 +346,7 @@ def main():
           f.write("\n\n".join(invs) + "\n")
     with open(os.path.join(dest, "Answers.antt"), mode, encoding="utf-8") as f:
         if mode == "w":
-            f.write("\n".join([*uses, f"use {base}.Goals as goal", "", ""]))
+            f.write("\n".join([*uses, f"use {base}.Goals as goal", *([f"use {base}.Goals.{{{', '.join(sorted(arms))}}}"] if arms else []), "", ""]))
         f.write("\n\n".join([*kept, *out]) + "\n")
     print("wrote", len(out), "answers of", len(needs), "goals", fn.warned)
 

@@ -1,0 +1,46 @@
+use Prim.Native.Nat.{ℕ, ◌-◌}
+use mathlib.Core.Path.{◌≡◌, refl, ◌∙◌}
+use mathlib.Core.List.{List}
+use native.Mathlib.Omega.{arith}
+use Rattle.vm_machine.specs.Fetch.{Program}
+use Rattle.vm_machine.specs.Turn.{take_labels}
+use Rattle.vm_memory.specs.View.{memory_of}
+use Rattle.vm_labels.specs.PointcutChildren.{child_fields}
+use Rattle.vm_labels.proofs.Taking.{child_in_lem, from_count, none_left, no_atom, one_taken}
+use borrow.Author.Rules.{rules}
+use Rattle.vm_labels.proofs.children.take_labels.Goals as goal
+
+pub term_at-requires : goal.term_at-requires
+term_at-requires c =
+    omega (arith, c.count_of-n.ensures)
+
+pub returns-then-class_of-ge-INSTRUCTION : goal.returns-then-class_of-ge-INSTRUCTION
+returns-then-class_of-ge-INSTRUCTION c =
+    let a = c.args in
+    let l = c.loop-i in
+    let M = memory_of a.work.now in
+    λ image e.
+    let C : Program = record { code = a.code.now; image = image } in
+    from_count C M a.env a.w _ _ _ _ c.count_of-n.ensures
+    (l.invariant image e ∙ no_atom C M a.env a.w _ l.i l.d _ _ _ c.loop-i-test.true (child_in_lem C a.w l.i _ a.fields.now e (omega (arith, c.count_of-n.ensures)) c.term_at.ensures) c.word_of-u.ensures c.class_of.ensures c.if-class_of-ge-INSTRUCTION.true)
+
+pub loop-i-preserved : goal.loop-i-preserved
+loop-i-preserved c =
+    let a = c.args in
+    let l = c.loop-i in
+    let M = memory_of a.work.now in
+    λ image e.
+    let C : Program = record { code = a.code.now; image = image } in
+    l.invariant image e ∙ one_taken C M a.env a.w _ l.i l.d _ _ _ c.loop-i-test.true (child_in_lem C a.w l.i _ a.fields.now e (omega (arith, c.count_of-n.ensures)) c.term_at.ensures) c.word_of-u.ensures c.class_of.ensures _ _ _ c.if-class_of-ge-INSTRUCTION.false (c.atom_value-v.ensures C) c.body.ensures c.with_digit-d.ensures
+
+pub returns : goal.returns
+returns c =
+    let a = c.args in
+    let l = c.loop-i in
+    let M = memory_of a.work.now in
+    λ image e.
+    let C : Program = record { code = a.code.now; image = image } in
+    from_count C M a.env a.w _ _ _ _ c.count_of-n.ensures (l.invariant image e ∙ none_left C M a.env a.w _ l.i l.d (search rules))
+
+pub loop-i-init : goal.loop-i-init
+loop-i-init c = λ image e. refl

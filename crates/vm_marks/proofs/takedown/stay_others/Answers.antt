@@ -1,0 +1,29 @@
+use Rattle.vm_marks.proofs.Stayed.{stay_on, stay_done, stay_start}
+use Rattle.vm_marks.specs.Binds.{bound_in}
+use Rattle.vm_machine.specs.Reduce.{stay_others}
+use Rattle.base_bytes.specs.Memory.{memory_length}
+use lib.ListN.{length, drop}
+use mathlib.Core.Path.{◌≡◌, refl, ◌∙◌}
+use native.Mathlib.Omega.{arith}
+use Prim.Native.Nat.{◌-◌, ◌≤◌}
+use borrow.Author.Rules.{rules}
+use Rattle.vm_marks.proofs.takedown.stay_others.Goals as goal
+
+pub loop-i-preserved : goal.loop-i-preserved
+loop-i-preserved c =
+    let a = c.args in
+    let l = c.loop-i in (
+      omega arith,
+      search rules,
+      omega arith,
+      c.stay_one-m.ensures.0.memory.rest ∙ l.invariant.3,
+      l.invariant.4 ∙ stay_on a.n l.i a.d.0 _ _ _ _ c.loop-i-test.true c.stay_one-m.ensures.0,
+    )
+
+pub returns : goal.returns
+returns c =
+    let a = c.args in
+    let l = c.loop-i in stay_done _ a.n l.i a.d.0 a.work.now _ _ c.loop-i-test.false l.invariant.4 l.invariant.3
+
+pub loop-i-init : goal.loop-i-init
+loop-i-init c = (omega arith, refl, omega arith, refl, stay_start _ _ _)

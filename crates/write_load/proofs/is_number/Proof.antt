@@ -1,9 +1,0 @@
--- `write_load::is_number` meets its contract.
-use borrow.Author.Tests.{eq-eqb, ne_eqb}
-use Rattle.write_load.proofs.is_number.Statement.{statement}
-use Rattle.write_load.proofs.is_number.Tie as tie
-
-pub is_number_spec : {M : Type 1} → statement M
-is_number_spec = tie.close (tie.spec (λ c. simp (eq-eqb _ _ c.if1.true))
-    (λ c. simp (ne_eqb _ _ c.before.if1.false, eq-eqb _ _ c.if2.true))
-    (λ c. simp (ne_eqb _ _ c.before.if1.false, ne_eqb _ _ c.if2.false)))

@@ -1,0 +1,171 @@
+-- `write_program::write_term` meets its contract.
+use borrow.Author.Rules.{rules}
+use Prim.Native.Nat.{◌+◌, ◌-◌, ◌≤◌, ◌<◌}
+use native.Mathlib.Omega.{arith}
+use mathlib.Core.Path.{refl, sym, ap, subst, ◌∙◌}
+use lib.ListN.{length-set}
+use Rattle.image.specs.Layout.{records_of}
+use Rattle.write_fields.specs.Classes.{as_field}
+use Rattle.image_written.specs.Written.{terms}
+use Rattle.image_written.proofs.Sums.{weight}
+use Rattle.image_written.proofs.Sizes.{term_size}
+use Rattle.image_written.proofs.Fronts.{tree_at}
+use Rattle.write_terms.proofs.Located.{known, read, child_lower}
+use Rattle.write_program.specs.Writing.{Wrote}
+use Rattle.write_program.proofs.Begun.{come_none, begun_none, record_capacity, come_behind, few_terms, type_number_lem, child_capacity, child_number, come_child, begun_child, come_same, begun_kept, begun_all}
+use Rattle.write_program.proofs.+write_term.Goals as goal
+use Rattle.write_program.proofs.+write_term.Goals.{else-is_child, then-is_child}
+
+pub term_fields-fields-requires : goal.term_fields-fields-requires
+term_fields-fields-requires t c = (c.requires.1, c.requires.2)
+
+pub term_kind-kind-requires : goal.term_kind-kind-requires
+term_kind-kind-requires t c = (c.requires.1, c.requires.2)
+
+pub known_fields-known-requires : goal.known_fields-known-requires
+known_fields-known-requires t c = (c.requires.0, rw (c.term_kind-kind.ensures, c.term_fields-fields.ensures) (known c.requires.1 c.requires.2))
+
+pub loop-i-init : goal.loop-i-init
+loop-i-init t c =
+    (omega arith, refl, refl, λ e h r R. (come_none c.requires.1 h c.args.done, begun_none c.requires.1 h c.args.places.now c.args.done c.args.out.now _))
+
+pub class_of-class-requires : goal.class_of-class-requires
+class_of-class-requires t c = (read c.requires.1 c.requires.2 c.term_kind-kind.ensures c.term_fields-fields.ensures c.known_fields-known.ensures).asks c.loop-i.i (search rules)
+
+pub field-v-requires : goal.field-v-requires
+field-v-requires t c = (read c.requires.1 c.requires.2 c.term_kind-kind.ensures c.term_fields-fields.ensures c.known_fields-known.ensures).inside c.loop-i.i (search rules)
+
+pub child_no-requires : goal.child_no-requires
+child_no-requires t c = sym c.is_child.ensures ∙ c.if-is_child.true
+
+pub write_term-d-requires : goal.write_term-d-requires
+write_term-d-requires t c =
+    let here = read c.requires.1 c.requires.2 c.term_kind-kind.ensures c.term_fields-fields.ensures c.known_fields-known.ensures in
+    let i = c.loop-i in
+    let l : i.i < c.known_fields-known.result.count = search rules in
+    let n = here.count in
+    let q = sym c.is_child.ensures ∙ c.if-is_child.true in
+    let a = here.class i.i l c.class_of-class.ensures in
+    let v = here.number i.i l c.field-v.ensures in
+    let d = child_lower c.requires.1 c.requires.2 i.i (omega arith) a v q in
+    let r = child_capacity c.requires.1 c.requires.2 i.i (omega arith) a v q c.requires.4 (i.invariant.3 c.args.e.0 c.requires.2 c.requires.4 here).0 in
+    let f = c.child_no.ensures in
+    let m = c.decreases in
+    let h = c.requires.2 in
+    (omega arith, (c.requires.0, c.requires.1, omega arith, c.requires.3, rw (f, i.invariant.1) r))
+
+pub last_number-requires : goal.last_number-requires
+last_number-requires t c =
+    let here = read c.requires.1 c.requires.2 c.term_kind-kind.ensures c.term_fields-fields.ensures c.known_fields-known.ensures in
+    let i = c.loop-i in
+    let l : i.i < c.known_fields-known.result.count = search rules in
+    let n = here.count in
+    let a = here.class i.i l c.class_of-class.ensures in
+    let v = here.number i.i l c.field-v.ensures in
+    child_number c.requires.1 c.requires.2 i.i (omega arith) a v (sym c.is_child.ensures ∙ c.if-is_child.true) c.requires.4 (i.invariant.3 c.args.e.0 c.requires.2 c.requires.4 here).0
+    (c.write_term-d.ensures.1 ∙ ap (λ j. i.d.terms + terms (tree_at (records_of c.args.image.now) j)) c.child_no.ensures)
+
+pub offset_bounds-numbers-i : goal.offset_bounds-numbers-i
+offset_bounds-numbers-i t c =
+    let l : c.loop-i.i < c.known_fields-known.result.count = c.loop-i-test.true in
+    let f = (read c.requires.1 c.requires.2 c.term_kind-kind.ensures c.term_fields-fields.ensures c.known_fields-known.ensures).few in
+    search rules
+
+pub bounds-numbers-i : goal.bounds-numbers-i
+bounds-numbers-i t c =
+    let l : c.loop-i.i < c.known_fields-known.result.count = c.loop-i-test.true in
+    let f = (read c.requires.1 c.requires.2 c.term_kind-kind.ensures c.term_fields-fields.ensures c.known_fields-known.ensures).few in
+    search rules
+
+pub kept_number-requires : goal.kept_number-requires
+kept_number-requires t c =
+    let here = read c.requires.1 c.requires.2 c.term_kind-kind.ensures c.term_fields-fields.ensures c.known_fields-known.ensures in
+    let i = c.loop-i in
+    let l : i.i < c.known_fields-known.result.count = search rules in
+    let n = here.count in
+    λ z.
+    let y = type_number_lem c.requires.1 c.requires.2 i.i (omega arith) (here.class i.i l c.class_of-class.ensures) (here.number i.i l c.field-v.ensures) z in
+    let p = c.requires.3 in
+    omega arith
+
+pub offset_bounds-numbers-i-else-is_child : goal.offset_bounds-numbers-i-else-is_child
+offset_bounds-numbers-i-else-is_child t c =
+    let l : c.loop-i.i < c.known_fields-known.result.count = search rules in
+    let f = (read c.requires.1 c.requires.2 c.term_kind-kind.ensures c.term_fields-fields.ensures c.known_fields-known.ensures).few in
+    search rules
+
+pub bounds-numbers-i-else-is_child : goal.bounds-numbers-i-else-is_child
+bounds-numbers-i-else-is_child t c =
+    let l : c.loop-i.i < c.known_fields-known.result.count = search rules in
+    let f = (read c.requires.1 c.requires.2 c.term_kind-kind.ensures c.term_fields-fields.ensures c.known_fields-known.ensures).few in
+    search rules
+
+pub loop-i-preserved : goal.loop-i-preserved
+loop-i-preserved t c =
+    let i = c.loop-i in
+    let l : i.i < c.known_fields-known.result.count = search rules in
+    let f = (read c.requires.1 c.requires.2 c.term_kind-kind.ensures c.term_fields-fields.ensures c.known_fields-known.ensures).few in
+    let g = c.loop-i.invariant.2 in
+    let class = c.class_of-class.ensures in
+    let number = c.field-v.ensures in
+    elim c.if-is_child.branch [
+      | then-is_child w ↦
+          let q' = sym c.is_child.ensures ∙ w.if-is_child.true in
+          let s = w.child_no.ensures in
+          let r = w.write_term-d in
+          let y = r.ensures.1 ∙ ap (λ j. i.d.terms + terms (tree_at (records_of c.args.image.now) j)) s in
+          rw (w.out-is, w.numbers-is, w.d-is) (
+            omega arith,
+            r.auto.out ∙ i.invariant.1,
+            length-set i.numbers i.i w.last_number.result ∙ i.invariant.2,
+            λ e h capacity' R.
+                let n = R.count in
+                let a = R.class i.i l class in
+                let v = R.number i.i l number in
+                let I = i.invariant.3 e h capacity' R in (
+                  come_child c.requires.1 h i.i (omega arith) a v q' I.0 (r.ensures.0 ∙ ap (λ j. i.d.at + weight term_size (tree_at (records_of c.args.image.now) j)) s) y,
+                  begun_child c.requires.1 h i.i (omega arith) a v q' (omega arith) capacity' I.0 I.1 (subst (λ j. Wrote c.args.image.now c.args.places.now j i.d i.out r.new.out) s r.ensures.2) (w.last_number.ensures ∙ ap (λ z. as_field c.class_of-class.result (z - 1)) y),
+                ),
+          )
+      | else-is_child w ↦
+          let q' = sym c.is_child.ensures ∙ w.if-is_child.false in
+          rw (w.out-is, w.numbers-is, w.d-is) (
+            omega arith,
+            i.invariant.1,
+            length-set i.numbers i.i w.kept_number.result ∙ i.invariant.2,
+            λ e h capacity' R.
+                let n = R.count in
+                let a = R.class i.i l class in
+                let v = R.number i.i l number in
+                let I = i.invariant.3 e h capacity' R in
+                (come_same c.requires.1 h i.i (omega arith) a v q' I.0, begun_kept c.requires.1 h i.i (omega arith) a v q' (omega arith) I.1 w.kept_number.ensures),
+          )
+    ]
+
+pub put_term-requires : goal.put_term-requires
+put_term-requires t c =
+    let here = read c.requires.1 c.requires.2 c.term_kind-kind.ensures c.term_fields-fields.ensures c.known_fields-known.ensures in
+    let i = c.loop-i in
+    let f = here.few in
+    let n = here.count in
+    let g = c.loop-i.invariant.2 in
+    let r = record_capacity c.requires.1 c.requires.2 i.i c.requires.4 (i.invariant.3 c.args.e.0 c.requires.2 c.requires.4 here).0 in
+    let o = c.loop-i.invariant.1 in
+    (f, omega arith, omega arith, few_terms c.requires.1 c.requires.2 i.i c.requires.4 (i.invariant.3 c.args.e.0 c.requires.2 c.requires.4 here).0)
+
+pub returns : goal.returns
+returns t c =
+    let here = read c.requires.1 c.requires.2 c.term_kind-kind.ensures c.term_fields-fields.ensures c.known_fields-known.ensures in
+    let i = c.loop-i in
+    let w = c.put_term.ensures in
+    let m = c.term_kind-kind in
+    let g : c.known_fields-known.result.count ≤ i.i = search rules in
+    let f = here.few in
+    let n = here.count in
+    let b = c.loop-i.invariant.0 in
+    let u = c.loop-i.invariant.2 in
+    let p = come_behind c.requires.1 c.requires.2 i.i (omega arith) (i.invariant.3 c.args.e.0 c.requires.2 c.requires.4 here).0 in
+    let x = p.0 in
+    let y = p.1 in
+    let z = c.put_term.ensures.0 in
+    (omega arith, w.1 ∙ y, begun_all c.requires.1 c.requires.2 i.i c.known_fields-known.result.count m.result (sym n) (omega arith) (omega arith) m.ensures c.requires.4 (i.invariant.3 c.args.e.0 c.requires.2 c.requires.4 here).0 (i.invariant.3 c.args.e.0 c.requires.2 c.requires.4 here).1 w.2)
