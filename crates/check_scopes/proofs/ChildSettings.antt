@@ -8,7 +8,7 @@ use mathlib.Core.List.{List, [], ◌∷◌}
 use lib.ListN.{length, get_or, set, length-set}
 use lib.Seq.{get_or-set_same, take-set-le}
 use lib.Dec.{lit<}
-use Rattle.calculus.specs.Syntax.{Ty, Sigs, method}
+use Rattle.calculus.specs.Syntax.{no_method, Ty, Sigs, method}
 use Rattle.calculus.specs.Typing.{Has, has_first, has_later}
 use Rattle.calculus.specs.Plain.{dom_of, methods_of, method_dom}
 use Rattle.image.specs.Bytes.{words}
@@ -203,6 +203,7 @@ module _ {b terms descriptors fs scope : List ℕ} {len c : ℕ} (G : Lent b ter
 
 -- The body of a method (card 3).
 has_domain : {p : ℕ} {a : Ty} (ms : Sigs) (m : ℕ) → Has p a ms m → method_dom ms m ≡ p
+has_domain no_method m h = elim h [ ]
 has_domain (method p a ms) zero has_first = refl
 has_domain (method q a ms) (suc m) (has_later h) = has_domain ms m h
 

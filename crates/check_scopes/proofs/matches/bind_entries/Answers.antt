@@ -1,17 +1,13 @@
 -- `check_scopes::matches::bind_entries` meets its contract: who binds the entries that are left binds all.
 use borrow.Author.Rules.{rules}
 use native.Mathlib.Omega.{arith}
-use mathlib.Core.Path.{◌≡◌, sym, subst, ◌∙◌}
-use Prim.Native.Nat.{ℕ, ◌+◌, ◌-◌, ◌≤◌}
-use mathlib.Core.List.{List}
-use lib.ListN.{length}
+use mathlib.Core.Path.{sym, subst, ◌∙◌}
 use Rattle.image.specs.Kinds.{an_entry}
 use Rattle.image.specs.Records.{as_child}
 use Rattle.image.specs.Layout.{records_of}
-use Rattle.read_records.proofs.Entries.{entries_left, none_left}
-use Rattle.read_terms.specs.Fields.{first_entry, entry_terms}
+use Rattle.read_records.proofs.Entries.{none_left}
+use Rattle.read_terms.specs.Fields.{first_entry}
 use Rattle.read_terms.proofs.Matches.{few_named, at_first}
-use Rattle.check_rules.specs.Scopes.{scope_length}
 use Rattle.check_scopes.specs.Scopes.{value_types, Binds}
 use Rattle.check_scopes.proofs.Bindings.{values_length, binds_none, binds_entry}
 use Rattle.check_scopes.proofs.matches.bind_entries.Goals as goal

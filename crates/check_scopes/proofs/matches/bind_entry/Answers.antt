@@ -1,5 +1,4 @@
 -- `check_scopes::matches::bind_entry` meets its contract: an entry of 0 binds nothing, any other one type.
-use borrow.Author.Rules.{rules}
 use native.Mathlib.Omega.{arith}
 use mathlib.Core.Path.{◌≡◌, sym, ap, subst, ◌∙◌}
 use Prim.Native.Nat.{◌<◌}

@@ -1,8 +1,6 @@
 -- `check_scopes::scope::advice_setting` meets its contract.
-use borrow.Author.Rules.{rules}
 use native.Mathlib.Omega.{arith}
 use mathlib.Core.Path.{◌≡◌, ap, ◌∙◌}
-use Prim.Native.Nat.{◌<◌}
 use lib.Dec.{lit<}
 use Rattle.read_records.specs.Descriptors.{descriptor_field0}
 use Rattle.check_rules.proofs.OnDescriptors.{own_descriptor, descriptor_at_field}

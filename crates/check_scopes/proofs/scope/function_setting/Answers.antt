@@ -1,5 +1,4 @@
 -- `check_scopes::scope::function_setting` meets its contract.
-use borrow.Author.Rules.{rules}
 use native.Mathlib.Omega.{arith}
 use mathlib.Core.Path.{◌≡◌, ap, ◌∙◌}
 use Rattle.read_records.specs.Descriptors.{descriptor_field0, descriptor_field1}

@@ -6,7 +6,6 @@ use Rattle.image.specs.Layout.{records_of}
 use Rattle.image.specs.Types.{type_field}
 use Rattle.read_records.specs.Heads.{field_in}
 use Rattle.check_scopes.proofs.ChildSettings.{object_is, method_there, object_small, object_at}
-use borrow.Author.Rules.{rules}
 use Rattle.check_scopes.proofs.scope.object_setting.Goals as goal
 
 pub bind-requires : goal.bind-requires

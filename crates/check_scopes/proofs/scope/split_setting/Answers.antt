@@ -1,8 +1,6 @@
 -- `check_scopes::scope::split_setting` meets its contract.
-use borrow.Author.Rules.{rules}
 use native.Mathlib.Omega.{arith}
 use mathlib.Core.Path.{◌≡◌, ap, ◌∙◌}
-use Prim.Native.Nat.{◌<◌}
 use lib.Dec.{lit<}
 use Rattle.read_records.specs.Descriptors.{descriptor_field0, descriptor_field1}
 use Rattle.check_rules.proofs.OnDescriptors.{descriptor_at_field}
