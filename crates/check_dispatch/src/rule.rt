@@ -1,5 +1,5 @@
 // 14 and 15 at a term that may have children: the rule of its kind, on its fields.
-ghost use Rattle.core.specs.Prelude.{◌≡◌, ℕ, ◌<◌, List};
+ghost use Rattle.std.specs.Prelude.{◌≡◌, ℕ, ◌<◌, List};
 ghost use Rattle.image.specs.Bytes.{number_at};
 ghost use Rattle.image.specs.Layout.{records_of};
 ghost use Rattle.image.specs.Types.{term_place};
