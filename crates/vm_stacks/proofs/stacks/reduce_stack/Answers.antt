@@ -1,3 +1,5 @@
+use mathlib.Core.Path.{ap}
+use mathlib.Core.Bool.{not}
 use native.Mathlib.Omega.{arith}
 use borrow.Author.Tests.{not-false}
 use Rattle.calculus.specs.Limits.{piece_limit}
@@ -10,12 +12,12 @@ use Rattle.vm_stacks.proofs.stacks.reduce_stack.Goals as goal
 pub returns-then-not-has_capacity : goal.returns-then-not-has_capacity
 returns-then-not-has_capacity c =
     let a = c.args in
-    stack_full a.work.now a.work.now a.work.now a.r _ a.w _ _ c.quota_of-h.ensures c.has_capacity.ensures _ c.if-not-has_capacity.true c.pieces_out.ensures c.halt.ensures
+    stack_full a.work.now a.work.now a.work.now a.r _ a.w _ _ c.quota_of-h.ensures c.has_capacity.ensures _ (ap not c.if-not-has_capacity.true) c.pieces_out.ensures c.halt.ensures
 
 pub returns-then-r-le-FUEL_BIAS : goal.returns-then-r-le-FUEL_BIAS
 returns-then-r-le-FUEL_BIAS c =
     let a = c.args in
-    stack_spent a.work.now a.work.now a.work.now a.r _ a.w _ _ c.quota_of-h.ensures c.has_capacity.ensures c.if-r-le-FUEL_BIAS.true c.if-not-has_capacity.false c.halt-then-r-le-FUEL_BIAS.ensures
+    stack_spent a.work.now a.work.now a.work.now a.r _ a.w _ _ c.quota_of-h.ensures c.has_capacity.ensures c.if-r-le-FUEL_BIAS.true (ap not c.if-not-has_capacity.false) c.halt-then-r-le-FUEL_BIAS.ensures
 
 pub stack_pieces-v-requires : goal.stack_pieces-v-requires
 stack_pieces-v-requires c =
@@ -30,4 +32,4 @@ charge_pieces-q-requires c =
 pub returns : goal.returns
 returns c =
     let a = c.args in
-    stack_made a.work.now _ _ a.r _ a.w _ _ c.quota_of-h.ensures c.has_capacity.ensures c.if-r-le-FUEL_BIAS.false _ _ _ c.if-not-has_capacity.false c.whole.ensures c.charge_pieces-q.ensures c.stack_pieces-v.ensures c.given-q.ensures
+    stack_made a.work.now _ _ a.r _ a.w _ _ c.quota_of-h.ensures c.has_capacity.ensures c.if-r-le-FUEL_BIAS.false _ _ _ (ap not c.if-not-has_capacity.false) c.whole.ensures c.charge_pieces-q.ensures c.stack_pieces-v.ensures c.given-q.ensures
