@@ -4,3 +4,4 @@ pub mod TermPass
 pub mod ScopeCapacity
 pub mod Root
 pub mod Faults
+pub mod Loops
