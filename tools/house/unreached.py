@@ -183,7 +183,7 @@ def roots(root, sources):
 
 
 def all_sources(root):
-    files = sorted(f for f in root.glob("crates/*/*/**/*.antt") if f.name != "Lib.antt")
+    files = sorted(f for f in root.glob("crates/*/*/**/*.antt") if f.name != "Lib.antt" and "out" not in f.parts)
     return {str(f.relative_to(root)): Source(f.read_text(encoding="utf-8")) for f in files}
 
 

@@ -39,7 +39,7 @@ def unused(file):
 
 
 def all_unused(root=ROOT):
-    files = sorted(f for f in root.glob("crates/**/*") if f.suffix in (".rt", ".antt") and "must-fail" not in f.parts)
+    files = sorted(f for f in root.glob("crates/**/*") if f.suffix in (".rt", ".antt") and not {"must-fail", "out"} & set(f.parts))
     return [f"{file.relative_to(root)}: {name}" for file in files for name in unused(file)]
 
 

@@ -37,8 +37,9 @@ def dedent(text):
             if m and not line.startswith("--"):
                 names = []
                 for _, p in stack:
-                    for g in re.findall(r"(?<!\S)\(([^():]*?)\s*:", p):
-                        names += g.split()
+                    for g in A.atoms(p):
+                        if g.startswith("("):
+                            names += g[1:].split(":")[0].split()
                 params[m[1]] = names
         out.append(line)
     return "\n".join(out), params
@@ -254,7 +255,10 @@ def main():
             inv_names.add(n)
             if only and m[1] != only:
                 continue
-            invs.append(A.invariant(fn, data["loops"], b, m[3], m[2]))
+            text_of = A.invariant(fn, data["loops"], b, m[3], m[2])
+            if prefix:
+                text_of = re.sub(r"\b(invariant|decreases)-(?=loop)", r"\1-" + prefix, text_of)
+            invs.append(text_of)
             continue
         m = re.match(r"(?:\(t : ℕ\) → )?(\S*lts|tie)\.Need-(\S+)", sig)
         if m:
@@ -274,7 +278,19 @@ def main():
         params = [p for p in params if not p.startswith("{")]
         if "t" in modules.get(n, []):
             params = [p for p in params if p != "t"]
-        helpers[n] = (params, joined[m.end():])
+        body = joined[m.end():]
+        # a definition of the same module is used without the module's parameters
+        mine = modules.get(n, [])
+
+        def whole_call(w):
+            x = w[1]
+            theirs = modules.get(x, [])
+            if x != n and theirs and theirs == mine[: len(theirs)] and theirs != ["t"]:
+                return "(" + " ".join([x, *[q for q in theirs if q != "t"]]) + ")"
+            return w[0]
+
+        body = re.sub(r"(?<![\w.'₀-₉◌-])([A-Za-z_][\w'₀-₉-]*)(?![\w'₀-₉◌-])", whole_call, body)
+        helpers[n] = (params, body)
     # helpers that no place goes into stay as they are
     needs = data["needs"]
     if len([a for a in args]) < len(needs):

@@ -5,7 +5,7 @@ use native.Mathlib.Numerals.{add-one}
 use mathlib.Core.Path.{◌≡◌, refl, sym, ap, ◌∙◌}
 use mathlib.Core.Bool.{true, false}
 use mathlib.Core.List.{List}
-use Rattle.calculus.specs.Syntax.{Dom, Ty, Val, Tm, Tms, val, more}
+use Rattle.calculus.specs.Syntax.{Dom, Ty, Val, Tm, Tms, val, end, more}
 use Rattle.calculus_needs.specs.Here.{Here, at, deeper}
 use Rattle.calculus_needs.specs.Numbers.{Numbers, none, ◌⊕◌}
 use Rattle.calculus_needs.specs.Needs.{Extra, no_extra, a_new_label, kept_pieces, extra0, once, binds, need, round, round_of, rounds}
@@ -199,6 +199,9 @@ module _ (r : Tm) (c : Dom) (d q : ℕ) (p : Dom) (v : ℕ) where
   round_rest Form.obj t vs es full ep = plain_round (shape_of TermKind.obj) es _ (rounds_form P Form.obj t vs es full) (no_advice (shape_of TermKind.obj) refl refl refl refl)
   round_rest Form.call t vs es full ep = plain_round (shape_of TermKind.call) es _ (rounds_form P Form.call t vs es full) (no_advice (shape_of TermKind.call) refl refl refl refl)
   round_rest Form.keep t vs es full ep = plain_round (shape_of TermKind.keep) es _ (rounds_form P Form.keep t vs es full) (no_advice (shape_of TermKind.keep) refl refl refl refl)
+  round_rest Form.match t vs end full ep = elim full [ ]
+  round_rest Form.match t vs (more a end) full ep = elim full [ ]
+  round_rest Form.match t vs (more a (more b end)) full ep = elim full [ ]
   round_rest Form.match t vs (more a (more b (more c' x))) full ep = plain_round (shape_of TermKind.match) (more a (more b (more c' x))) _ (rounds_form P Form.match t vs (more a (more b (more c' x))) full) (no_advice (shape_of TermKind.match) refl refl refl refl)
   round_rest Form.takedown t vs es full ep = plain_round (shape_of TermKind.takedown) es _ (rounds_form P Form.takedown t vs es full) (no_advice (shape_of TermKind.takedown) refl refl refl refl)
 

@@ -122,6 +122,9 @@ rounds_form P Form.byte t vs es full = plain_rounds P (shape_of TermKind.byte) (
 rounds_form P Form.obj t vs es full = plain_rounds P (shape_of TermKind.obj) (λ i e. refl) es _ s0
 rounds_form P Form.call t vs es full = plain_rounds P (shape_of TermKind.call) (λ i e. refl) es _ (s1_none _)
 rounds_form P Form.keep t vs es full = plain_rounds P (shape_of TermKind.keep) (λ i e. refl) es _ (s3 _ _ _)
+rounds_form P Form.match t vs end full = elim full [ ]
+rounds_form P Form.match t vs (more a end) full = elim full [ ]
+rounds_form P Form.match t vs (more a (more b end)) full = elim full [ ]
 rounds_form P Form.match t vs (more a (more b (more c r))) full = match_rounds P a b c r
 rounds_form P Form.takedown t vs es full = plain_rounds P (shape_of TermKind.takedown) (λ i e. refl) es _ s0
 

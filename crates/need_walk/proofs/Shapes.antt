@@ -1,6 +1,5 @@
 -- What a term takes by its kind: what it takes itself, then what its children take, each by its role, then the dearest of its branches.
 use Prim.Native.Nat.{ℕ, zero, suc}
-use native.Mathlib.Omega.{arith}
 use mathlib.Core.Path.{◌≡◌, refl, sym, ap, ◌∙◌}
 use mathlib.Core.Bool.{Bool, true, false}
 use mathlib.Core.List.{List}
@@ -232,5 +231,8 @@ need_form W P Form.byte t vs es full = plain_kind W P 0 0 (shape_of TermKind.byt
 need_form W P Form.obj t vs es full = plain_kind W P 0 0 (shape_of TermKind.obj) (no_branches (shape_of TermKind.obj) refl refl refl refl) (λ i e. refl) es _ _ (t0 _)
 need_form W P Form.call t vs es full = plain_kind W P 0 0 (shape_of TermKind.call) (no_branches (shape_of TermKind.call) refl refl refl refl) (λ i e. refl) es _ _ (t1 _ _)
 need_form W P Form.keep t vs es full = plain_kind W P 0 0 (shape_of TermKind.keep) (no_branches (shape_of TermKind.keep) refl refl refl refl) (λ i e. refl) es _ _ (t3 _ _ _ _)
+need_form W P Form.match t vs end full = elim full [ ]
+need_form W P Form.match t vs (more a end) full = elim full [ ]
+need_form W P Form.match t vs (more a (more b end)) full = elim full [ ]
 need_form W P Form.match t vs (more a (more b (more c r))) full = match_kind W P 0 (variables (pattern_of vs)) a b c r
 need_form W P Form.takedown t vs es full = plain_kind W P 0 0 (shape_of TermKind.takedown) (no_branches (shape_of TermKind.takedown) refl refl refl refl) (λ i e. refl) es _ _ (t0 _)

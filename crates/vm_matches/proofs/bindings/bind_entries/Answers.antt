@@ -1,0 +1,58 @@
+use mathlib.Core.Path.{◌≡◌, refl, ◌∙◌}
+use native.Mathlib.Omega.{arith}
+use Prim.Native.Nat.{◌+◌, ◌-◌, ◌≤◌, ◌<◌}
+use Rattle.base_bytes.specs.Memory.{memory_length}
+use lib.ListN.{length, drop}
+use Rattle.vm_code.specs.Words.{count_of}
+use Rattle.vm_machine.specs.Fetch.{Program}
+use Rattle.vm_machine.specs.Stacks.{variables, bind_entries}
+use Rattle.vm_machine.specs.Memory.{binding_places}
+use Rattle.vm_matches.specs.Matching.{match_fields, entry_in, chain_in}
+use Rattle.vm_matches.proofs.Fields.{entry_of}
+use Rattle.vm_matches.proofs.Binding.{frames_start, bound_start, bound_on, bound_done, frames_here, frames_on, frames_left}
+use borrow.Author.Rules.{rules}
+use Rattle.vm_matches.proofs.bindings.bind_entries.Goals as goal
+
+pub loop-i-init : goal.loop-i-init
+loop-i-init c =
+    let a = c.args in
+    let p = c.requires.2 in
+    (omega arith, refl, refl, c.requires.1, (p.0, p.1, frames_start p.0 a.w _ a.from.count c.count_of-n.ensures p.2), (λ C e. bound_start C a.w _ a.v _ c.count_of-n.ensures))
+
+pub bind_entry-b-requires : goal.bind_entry-b-requires
+bind_entry-b-requires c =
+    let a = c.args in
+    let l = c.loop-i in
+    let p = c.loop-i.invariant.4 in
+    let e = entry_of p.0 a.w a.fields.now p.1 l.i _ (omega (arith, c.count_of-n.ensures)) refl in
+    (search rules, search rules, l.invariant.3, frames_here p.0 a.w _ l.i l.b.count p.2 (entry_in a.fields.now l.i) e c.loop-i-test.true)
+
+pub loop-i-preserved : goal.loop-i-preserved
+loop-i-preserved c =
+    let a = c.args in
+    let l = c.loop-i in
+    let p = c.loop-i.invariant.4 in
+    let x = entry_in a.fields.now l.i in
+    let h : l.i < count_of a.w = omega (arith, c.count_of-n.ensures) in
+    let m = c.bind_entry-b.ensures in (
+      omega arith,
+      search rules,
+      m.0.memory.rest ∙ l.invariant.2,
+      m.1,
+      (p.0, p.1, frames_on p.0 a.w _ l.i l.b.count p.2 x l.rest _ _ l.b _ (entry_of p.0 a.w a.fields.now p.1 l.i x h refl) c.loop-i-test.true refl m.0),
+      λ C e. l.invariant.5 C e ∙ bound_on C a.w _ l.i x l.rest _ _ _ l.b _ (entry_of C a.w a.fields.now e l.i x h refl) c.loop-i-test.true c.rest_of-behind.ensures m.0,
+    )
+
+pub bind_rest-requires : goal.bind_rest-requires
+bind_rest-requires c =
+    let a = c.args in
+    let l = c.loop-i in
+    let p = c.loop-i.invariant.4 in
+    (search rules, l.invariant.3, (p.0, p.1, frames_left p.0 a.w _ l.i l.b.count p.2 c.loop-i-test.false))
+
+pub returns : goal.returns
+returns c =
+    let a = c.args in
+    let l = c.loop-i in
+    let m = c.bind_rest.ensures in
+    ((λ C e. bound_done C a.w _ l.i _ l.rest a.work.now _ _ l.b _ c.loop-i-test.false (l.invariant.5 C e) l.invariant.2 (m.0 C e)), m.1)

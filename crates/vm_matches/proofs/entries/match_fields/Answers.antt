@@ -1,0 +1,12 @@
+use Prim.Native.Nat.{ℕ, ◌+◌, ◌*◌}
+use mathlib.Core.Path.{ap, ◌∙◌}
+use lib.ListN.{take, drop}
+use Rattle.vm_code.specs.Words.{offset_of}
+use borrow.Author.Rules.{rules}
+use Rattle.vm_matches.proofs.entries.match_fields.Goals as goal
+
+pub returns : goal.returns
+returns c =
+    let a = c.args in
+    let b = a.image.now in
+    c.part.ensures ∙ ap (λ (o : ℕ). take (2 * (3 + c.count_of.result + 1)) (drop o b)) c.offset_of.ensures ∙ ap (λ (n : ℕ). take (2 * (3 + n + 1)) (drop (offset_of a.w) b)) c.count_of.ensures
