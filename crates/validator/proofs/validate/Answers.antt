@@ -1,0 +1,7 @@
+-- The answer of a call's check has the verdict.
+use mathlib.Core.Path.{◌∙◌}
+use borrow.Author.Rules.{rules}
+use Rattle.validator.proofs.validate.Goals as goal
+
+pub returns : goal.returns
+returns c = c.verdict_of.ensures ∙ c.check_call-checked.ensures.0.answer
