@@ -1,14 +1,11 @@
 -- `write_masks::has_wrong_member` meets its contract.
-use borrow.Author.Rules.{rules}
 use Prim.Native.Nat.{◌-◌, ◌≤◌}
-use native.Mathlib.Omega.{arith}
-use mathlib.Core.Path.{◌≡◌, refl, ap, ◌∙◌}
+use mathlib.Core.Path.{◌≡◌}
 use mathlib.Core.Bool.{not, ◌&&◌, ◌||◌}
 use lib.Dec.{leb}
 use Rattle.laws.specs.Tests.{any_below}
 use Rattle.image.specs.Limits.{domain_limit}
 use Rattle.read_terms.specs.Masks.{bit_of}
-use Rattle.laws.proofs.Tests.{any_more}
 use Rattle.write_masks.specs.Masks.{in_mask}
 use Rattle.write_masks.proofs.has_wrong_member.Given as goal
 

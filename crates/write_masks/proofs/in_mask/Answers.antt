@@ -1,5 +1,4 @@
 -- `write_masks::in_mask` meets its contract.
-use borrow.Author.Rules.{rules}
 use mathlib.Core.Path.{◌∙◌}
 use borrow.Author.Tests.{lt-ltb, le-ltb}
 use Rattle.write_masks.proofs.in_mask.Goals as goal

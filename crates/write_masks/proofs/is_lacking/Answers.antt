@@ -1,7 +1,6 @@
 -- `write_masks::is_lacking` meets its contract.
 use mathlib.Core.Path.{◌∙◌}
 use mathlib.Core.Bool.{not, ◌&&◌}
-use borrow.Author.Rules.{rules}
 use Rattle.write_masks.proofs.is_lacking.Goals as goal
 
 pub returns : goal.returns

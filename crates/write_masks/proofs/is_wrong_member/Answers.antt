@@ -2,7 +2,6 @@
 use mathlib.Core.Path.{ap, ◌∙◌}
 use mathlib.Core.Bool.{◌&&◌, ◌||◌}
 use lib.Dec.{leb}
-use borrow.Author.Rules.{rules}
 use Rattle.write_masks.proofs.is_wrong_member.Goals as goal
 
 pub returns : goal.returns

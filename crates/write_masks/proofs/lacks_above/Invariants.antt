@@ -1,13 +1,10 @@
 -- `write_masks::lacks_above` meets its contract.
-use borrow.Author.Rules.{rules}
 use Prim.Native.Nat.{◌-◌, ◌≤◌}
-use native.Mathlib.Omega.{arith}
-use mathlib.Core.Path.{◌≡◌, refl, ap, ◌∙◌}
-use mathlib.Core.Bool.{not, ◌&&◌, ◌||◌}
+use mathlib.Core.Path.{◌≡◌}
+use mathlib.Core.Bool.{not, ◌&&◌}
 use Rattle.image.specs.Limits.{domain_limit}
 use Rattle.laws.specs.Tests.{any_below}
 use Rattle.read_terms.specs.Masks.{bit_of}
-use Rattle.laws.proofs.Tests.{any_more}
 use Rattle.write_masks.specs.Masks.{in_mask}
 use Rattle.write_masks.proofs.lacks_above.Given as goal
 

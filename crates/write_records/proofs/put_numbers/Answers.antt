@@ -1,10 +1,6 @@
 -- `write_records::put_numbers` meets its contract.
-use borrow.Author.Rules.{rules}
-use Prim.Native.Nat.{◌-◌, ◌≤◌}
 use native.Mathlib.Omega.{arith}
 use mathlib.Core.Path.{◌≡◌, refl, sym, ◌∙◌}
-use lib.ListN.{length, take}
-use Rattle.base_bytes.specs.Bytes.{over}
 use Rattle.base_bytes.proofs.Over.{over_nothing}
 use Rattle.image_written.specs.Records.{little}
 use Rattle.write_records.proofs.Numbers.{number_step}
