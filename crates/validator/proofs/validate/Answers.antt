@@ -1,6 +1,5 @@
 -- The answer of a call's check has the verdict.
 use mathlib.Core.Path.{◌∙◌}
-use borrow.Author.Rules.{rules}
 use Rattle.validator.proofs.validate.Goals as goal
 
 pub returns : goal.returns

@@ -1,7 +1,6 @@
 -- `validator_core::examine::check_laid_out` meets its contract: the shape refuses, or the typing decides.
 use mathlib.Core.Path.{sym, ◌∙◌}
 use Rattle.validator_core.proofs.Passes.{shape_refuses, typing_decides, shaped}
-use borrow.Author.Rules.{rules}
 use Rattle.validator_core.proofs.examine.check_laid_out.Goals as goal
 
 pub returns-then-is_refused : goal.returns-then-is_refused

@@ -1,5 +1,4 @@
 -- `validator_core::examine::verdict_of` meets its contract.
-use borrow.Author.Rules.{rules}
 use Rattle.validator_core.proofs.examine.verdict_of.Goals as goal
 
 pub returns-in-Refused : goal.returns-in-Refused

@@ -1,5 +1,4 @@
 -- `validator_core::examine::with_counts` meets its contract.
-use borrow.Author.Rules.{rules}
 use Rattle.validator_core.proofs.examine.with_counts.Goals as goal
 
 pub returns-in-Refused : goal.returns-in-Refused
