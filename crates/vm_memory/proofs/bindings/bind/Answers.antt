@@ -1,6 +1,5 @@
 use native.Mathlib.Omega.{arith}
 use Rattle.vm_memory.proofs.Stored.{put_as}
-use borrow.Author.Rules.{rules}
 use Rattle.vm_memory.proofs.bindings.bind.Goals as goal
 
 pub returns : goal.returns

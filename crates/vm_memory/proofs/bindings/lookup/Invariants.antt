@@ -1,9 +1,7 @@
-use mathlib.Core.Path.{◌≡◌, sym, ap, ◌∙◌}
-use native.Mathlib.Omega.{arith}
+use mathlib.Core.Path.{◌≡◌}
 use Rattle.vm_memory.specs.View.{memory_of}
 use Rattle.vm_machine.specs.Memory as machine
-use Rattle.vm_memory.proofs.Found.{outside, lookup_outside, outside_none, outside_on, outside_here}
-use borrow.Author.Rules.{rules}
+use Rattle.vm_memory.proofs.Found.{outside}
 use Rattle.vm_memory.proofs.bindings.lookup.Given as goal
 
 abbrev pub invariant-loop-i : goal.invariant-loop-i

@@ -1,7 +1,6 @@
 use mathlib.Core.Path.{ap, ◌∙◌}
 use Rattle.vm_memory.specs.View.{memory_of}
 use Rattle.vm_machine.specs.Memory.{cell_at}
-use borrow.Author.Rules.{rules}
 use Rattle.vm_memory.proofs.cells.read_cell.Goals as goal
 
 pub returns : goal.returns

@@ -1,5 +1,4 @@
 use Rattle.vm_memory.proofs.Stored.{cell_stored}
-use borrow.Author.Rules.{rules}
 use Rattle.vm_memory.proofs.cells.store_cell.Goals as goal
 
 pub returns : goal.returns

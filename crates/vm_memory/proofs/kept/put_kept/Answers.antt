@@ -1,6 +1,5 @@
 use mathlib.Core.Path.{refl}
 use Rattle.vm_memory.proofs.Stored.{put_as}
-use borrow.Author.Rules.{rules}
 use Rattle.vm_memory.proofs.kept.put_kept.Goals as goal
 
 pub returns : goal.returns

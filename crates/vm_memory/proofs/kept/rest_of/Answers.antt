@@ -2,7 +2,6 @@ use mathlib.Core.Path.{ap, sym, ◌∙◌}
 use Rattle.vm_memory.specs.View.{memory_of}
 use Rattle.vm_machine.specs.Memory.{piece_second, is_kept}
 use Rattle.vm_memory.proofs.Chosen.{chosen_yes, chosen_no}
-use borrow.Author.Rules.{rules}
 use Rattle.vm_memory.proofs.kept.rest_of.Goals as goal
 
 pub returns-then-is_kept : goal.returns-then-is_kept

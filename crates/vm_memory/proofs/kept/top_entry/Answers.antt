@@ -1,7 +1,6 @@
 use mathlib.Core.Path.{ap, ◌∙◌}
 use Rattle.vm_memory.specs.View.{memory_of}
 use Rattle.vm_machine.specs.Memory.{piece_first}
-use borrow.Author.Rules.{rules}
 use Rattle.vm_memory.proofs.kept.top_entry.Goals as goal
 
 pub returns : goal.returns

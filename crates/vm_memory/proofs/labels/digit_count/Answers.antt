@@ -1,7 +1,6 @@
 use mathlib.Core.Path.{◌≡◌, sym, ◌∙◌}
 use native.Mathlib.Omega.{arith}
-use Prim.Native.Nat.{◌+◌, ◌-◌, ◌≤◌}
-use Rattle.vm_machine.specs.Memory.{digit_count}
+use Prim.Native.Nat.{◌-◌}
 use Rattle.vm_memory.proofs.Found.{count_none, count_end, count_more}
 use borrow.Author.Rules.{rules}
 use Rattle.vm_memory.proofs.labels.digit_count.Goals as goal

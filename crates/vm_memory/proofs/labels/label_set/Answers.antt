@@ -1,7 +1,6 @@
 use mathlib.Core.Path.{◌≡◌, refl, sym, ◌∙◌}
 use native.Mathlib.Omega.{arith}
-use Prim.Native.Nat.{◌-◌, ◌≤◌}
-use Rattle.vm_machine.specs.Memory.{label_set}
+use Prim.Native.Nat.{◌-◌}
 use Rattle.vm_memory.proofs.Found.{set_more, set_end}
 use borrow.Author.Rules.{rules}
 use Rattle.vm_memory.proofs.labels.label_set.Goals as goal

@@ -1,9 +1,6 @@
-use mathlib.Core.Path.{◌≡◌, refl, sym, ◌∙◌}
-use native.Mathlib.Omega.{arith}
+use mathlib.Core.Path.{◌≡◌}
 use Prim.Native.Nat.{◌-◌, ◌≤◌}
 use Rattle.vm_machine.specs.Memory.{label_set}
-use Rattle.vm_memory.proofs.Found.{set_more, set_end}
-use borrow.Author.Rules.{rules}
 use Rattle.vm_memory.proofs.labels.label_set.Given as goal
 
 abbrev pub invariant-loop-i : goal.invariant-loop-i

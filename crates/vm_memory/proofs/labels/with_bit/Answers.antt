@@ -1,5 +1,4 @@
 use Rattle.vm_memory.proofs.Found.{bit_in}
-use borrow.Author.Rules.{rules}
 use Rattle.vm_memory.proofs.labels.with_bit.Goals as goal
 
 pub returns : goal.returns

@@ -1,6 +1,4 @@
-use mathlib.Core.Path.{◌∙◌}
 use Rattle.vm_memory.proofs.Stored.{and_word}
-use borrow.Author.Rules.{rules}
 use Rattle.vm_memory.proofs.pieces.put_piece.Goals as goal
 
 pub returns : goal.returns

@@ -1,5 +1,4 @@
 use Rattle.vm_memory.proofs.Stored.{byte_loaded}
-use borrow.Author.Rules.{rules}
 use Rattle.vm_memory.proofs.slots.byte_beside.Goals as goal
 
 pub returns : goal.returns

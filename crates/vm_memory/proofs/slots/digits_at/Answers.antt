@@ -1,5 +1,4 @@
 use Rattle.vm_memory.proofs.Stored.{digits_loaded}
-use borrow.Author.Rules.{rules}
 use Rattle.vm_memory.proofs.slots.digits_at.Goals as goal
 
 pub returns : goal.returns

@@ -1,6 +1,5 @@
 use mathlib.Core.Path.{refl}
 use Rattle.vm_memory.proofs.Stored.{put_as}
-use borrow.Author.Rules.{rules}
 use Rattle.vm_memory.proofs.slots.put_advice.Goals as goal
 
 pub returns : goal.returns

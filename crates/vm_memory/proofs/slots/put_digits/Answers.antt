@@ -1,4 +1,3 @@
-use mathlib.Core.Path.{◌∙◌}
 use Rattle.vm_memory.proofs.Stored.{digits_stored}
 use borrow.Author.Rules.{rules}
 use Rattle.vm_memory.proofs.slots.put_digits.Goals as goal

@@ -1,5 +1,4 @@
 use Rattle.vm_memory.proofs.Stored.{return_stored}
-use borrow.Author.Rules.{rules}
 use Rattle.vm_memory.proofs.slots.put_return.Goals as goal
 
 pub returns : goal.returns

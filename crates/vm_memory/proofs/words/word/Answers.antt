@@ -1,6 +1,5 @@
 use mathlib.Core.Path.{◌∙◌}
 use Rattle.vm_memory.proofs.Stored.{load_word}
-use borrow.Author.Rules.{rules}
 use Rattle.vm_memory.proofs.words.word.Goals as goal
 
 pub returns : goal.returns

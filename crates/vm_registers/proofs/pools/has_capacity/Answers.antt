@@ -3,7 +3,6 @@ use lib.Dec.{leb}
 use mathlib.Core.Path.{ap}
 use Prim.Native.Nat.{◌+◌}
 use native.Mathlib.Omega.{arith}
-use borrow.Author.Rules.{rules}
 use Rattle.vm_registers.proofs.pools.has_capacity.Goals as goal
 
 pub overflow_add-result : goal.overflow_add-result

@@ -1,6 +1,5 @@
 use mathlib.Core.Path.{ap, ◌∙◌}
 use lib.Dec.{eqb}
-use borrow.Author.Rules.{rules}
 use Rattle.vm_registers.proofs.pools.quota_of.Goals as goal
 
 pub returns : goal.returns
