@@ -1,4 +1,4 @@
--- The laws that turn tests on numbers into the definition's, and the tables into its layout; and, for the loop that is walked by hand, slices that are lent again and locals.
+-- The laws that turn tests on numbers into the definition's, and the tables into its layout; and the stages of the loop over the records.
 pub mod Repeats
 pub mod RecordFields
 pub mod Narrow

@@ -109,7 +109,7 @@ fn enter(
 }
 
 // The scan with a filter of keys, which may hold anything at first: with zeros the fewest keys are compared.
-// Its loop keeps the walk over the image, which hands each record's fields on to enter. So its proof is by hand.
+// Its loop keeps the walk over the image, which hands each record's fields on to enter.
 fn scan_with(
     image: &[u8],
     kinds: &[u32],
