@@ -4,7 +4,7 @@ use mathlib.Core.Path.{◌≡◌, refl}
 use Rattle.calculus.specs.Combinators.{cases}
 use Rattle.calculus.specs.Syntax.{Ty, Val, Tm, val, op1, op2, read, mark, store}
 use Rattle.calculus.specs.State.{Given, fresh}
-use Rattle.calculus.specs.Answer.{if_capacity_lem, with}
+use Rattle.calculus.specs.Answer.{by_capacity, with}
 use Rattle.calculus.specs.Step.{step}
 use Rattle.calculus.specs.Run.{stuck, ended, after, run}
 
@@ -17,15 +17,15 @@ three = val (Val.number 3)
 
 -- !r
 pub read_absent : Stuck (op1 read Ty.number (val (Val.cell 7)))
-unfolding run after cases step if_capacity_lem with
+unfolding run after cases step by_capacity with
 read_absent n G = refl
 
 -- r := 3
 pub store_absent : Stuck (op2 store Ty.unit (val (Val.cell 7)) three)
-unfolding run after cases step if_capacity_lem with
+unfolding run after cases step by_capacity with
 store_absent n G = refl
 
 -- l[3]
 pub mark_absent : Stuck (op2 mark Ty.unit (val (Val.label 7)) three)
-unfolding run after cases step if_capacity_lem with
+unfolding run after cases step by_capacity with
 mark_absent n G = refl

@@ -12,7 +12,7 @@ use Rattle.calculus.specs.Plain.{is_plain}
 use Rattle.calculus.specs.Syntax.{Ty, no_method, method, Val, Tm, Pattern, at_end, at_rest, anything, pointcut, val, var, op0, op1, op2, seq, ite, obj, keep, match, end, more, new_label, abort, takedown, the_stack, print, install, byte, new_cell, call, mark, plus, minus}
 use Rattle.calculus.specs.State.{Advice, State, Given, Counts, Uses, Print, picked, log_of, branches_of, some_bindings, one_cell, one_piece, no_uses, at_dom, fresh, with_uses, add_label, add_advice, without}
 use Rattle.calculus.specs.Subst.{subst}
-use Rattle.calculus.specs.Answer.{Answer, reduct, at_capacity, carry, if_capacity_lem, with, spend}
+use Rattle.calculus.specs.Answer.{Answer, reduct, at_capacity, carry, by_capacity, with, spend}
 use Rattle.calculus.specs.Step.{step}
 use Rattle.calculus.specs.Run.{End, done, stopped, after, run}
 use Rattle.calculus.specs.Report.{outcome_number, leaves}
@@ -38,12 +38,12 @@ say e = op1 print Ty.unit e
 -- "Evaluation is left to right": (print 1; 5) minus (print 2; 3)
 left_first : facts fresh (op2 minus Ty.number (seq (say (number 1)) (number 5)) (seq (say (number 2)) (number 3)))
     ≡ record { end = done (Val.number 2); steps = 5; log = record { dom = 0; shown = 1 } ∷ record { dom = 0; shown = 2 } ∷ [] }
-unfolding run after cases step carry if_capacity_lem with picked
+unfolding run after cases step carry by_capacity with picked
 left_first = refl
 
 -- An if goes on with its first branch where its truth holds, and else with its second.
 chosen_branch : ((facts fresh (ite (val (Val.truth true)) (number 1) (number 2))).end ≡ done (Val.number 1)) × ((facts fresh (ite (val (Val.truth false)) (number 1) (number 2))).end ≡ done (Val.number 2))
-unfolding run after cases step if_capacity_lem with
+unfolding run after cases step by_capacity with
 chosen_branch = (refl, refl)
 
 -- A result's "leaves, left to right": of the pair of the pair of 1 and true, and unit.
@@ -61,12 +61,12 @@ advised = add_advice (on 0 (say (number 7))) (add_advice (on 1 (say (var 0))) (a
 -- Card 8: "newest first", each matching advice's body lowered to its domain, in sequence, ending in unit: the mark, then three steps for each.
 newest_first : facts advised (op2 mark Ty.unit (val (Val.label 0)) (number 3))
     ≡ record { end = done Val.unit; steps = 7; log = record { dom = 0; shown = 7 } ∷ record { dom = 1; shown = 3 } ∷ [] }
-unfolding run after cases step subst carry if_capacity_lem with spend picked
+unfolding run after cases step subst carry by_capacity with spend picked
 newest_first = refl
 
 -- Abort "is one step besides".
 abort_counted : facts fresh (op0 abort Ty.unit) ≡ record { end = stopped Outcome.Aborted; steps = 1; log = [] }
-unfolding run after cases step if_capacity_lem picked
+unfolding run after cases step by_capacity picked
 abort_counted = refl
 
 -- "A frame byte at index n is that byte .. or -1 where n is negative or not below the frame's length": of the bytes 8 and 9, at 1, at 2 and at -1.
@@ -74,7 +74,7 @@ abbrev byte_at : ℕ → End
 byte_at n = (run 1 (record { frame = 8 ∷ 9 ∷ []; log_length = 0 }) 0 fresh (op1 byte Ty.number (number n))).end
 
 frame_bytes : (byte_at 1 ≡ done (Val.number 9)) × (byte_at 2 ≡ done (Val.number minus_one)) × (byte_at minus_one ≡ done (Val.number minus_one))
-unfolding run after cases step carry if_capacity_lem with
+unfolding run after cases step carry by_capacity with
 frame_bytes = (refl, refl, refl)
 
 -- "A plain type .. with at most 8 leaves": pairs of 8 numbers, and of 9.
@@ -102,11 +102,11 @@ nest (suc n) = op1 byte Ty.number (nest n)
 
 -- "No frames (3) if more than 512 unfinished terms enclose the next one to reduce": of 513 terms 512 enclose the innermost.
 frames_512 : (run 1 G 0 fresh (nest 513)).end ≡ stopped Outcome.Spent
-unfolding run after cases step carry if_capacity_lem with nest
+unfolding run after cases step carry by_capacity with nest
 frames_512 = refl
 
 frames_513 : (run 1 G 0 fresh (nest 514)).end ≡ stopped Outcome.Frames
-unfolding run after cases step carry if_capacity_lem with nest
+unfolding run after cases step carry by_capacity with nest
 frames_513 = refl
 
 -- Card 3: an object of two methods; the second adds 1 to what the first, called on the object itself, gives.
@@ -117,24 +117,24 @@ called =
 
 -- "A call is one step and one binding; an object takes no step and no piece": two calls and the sum.
 calls : facts fresh called ≡ record { end = done (Val.number 5); steps = 3; log = [] }
-unfolding called run after cases step subst carry if_capacity_lem with spend picked
+unfolding called run after cases step subst carry by_capacity with spend picked
 calls = refl
 
 calls_bind : (run 100 G 0 fresh called).state.used ≡ at_dom 0 (some_bindings 2)
-unfolding called run after cases step subst carry if_capacity_lem with spend picked
+unfolding called run after cases step subst carry by_capacity with spend picked
 calls_bind = refl
 
 -- Card 5: "Budget 0 is such a case where the first step lacks room"; an abort needs none, and is spent.
 no_capacity_first : (run 0 (record { frame = []; log_length = 9 }) 0 fresh (say (number 3))).end ≡ stopped Outcome.Log
-unfolding run cases step if_capacity_lem with picked
+unfolding run cases step by_capacity with picked
 no_capacity_first = refl
 
 no_frames_first : (run 0 G 0 fresh (nest 514)).end ≡ stopped Outcome.Frames
-unfolding run cases step carry if_capacity_lem with nest
+unfolding run cases step carry by_capacity with nest
 no_frames_first = refl
 
 abort_spent : (run 0 G 0 fresh (op0 abort Ty.unit)).end ≡ stopped Outcome.Spent
-unfolding run cases step if_capacity_lem
+unfolding run cases step by_capacity
 abort_spent = refl
 
 -- Card 6: the stack matched with a pattern whose one pointcut, if it has one, names label 0: print x in the first branch, print 8 in the other.
@@ -149,21 +149,21 @@ marked = op2 mark Ty.unit (val (Val.label 0)) (number 4)
 
 -- Advice sees what is kept around its mark: the mark, the stack, the match and the print, two to leave the advice, and the keep's end.
 kept_seen : facts looking (keep (val (Val.label 0)) (number 3) marked) ≡ record { end = done Val.unit; steps = 7; log = record { dom = 1; shown = 3 } ∷ [] }
-unfolding run after cases step subst carry if_capacity_lem with spend picked
+unfolding run after cases step subst carry by_capacity with spend picked
 kept_seen = refl
 
 -- "One piece an entry", "one binding a variable": the value, the rest, and the advice's own. Card 9: all three are charged to domain 1, where the watch runs, and not to domain 0, which marks.
 kept_used : (run 100 G 0 looking (keep (val (Val.label 0)) (number 3) marked)).state.used ≡ at_dom 1 (record { bindings = 3; cells = 0; pieces = 1 })
-unfolding run after cases step subst carry if_capacity_lem with spend picked
+unfolding run after cases step subst carry by_capacity with spend picked
 kept_used = refl
 
 nothing_kept : facts looking marked ≡ record { end = done Val.unit; steps = 6; log = record { dom = 1; shown = 8 } ∷ [] }
-unfolding run after cases step subst carry if_capacity_lem with spend picked
+unfolding run after cases step subst carry by_capacity with spend picked
 nothing_kept = refl
 
 -- A branch is told with the current domain.
 branch_told : branches_of (run 100 G 0 looking (seq marked (keep (val (Val.label 0)) (number 3) marked))).state.trace ≡ record { dom = 1; first = false } ∷ record { dom = 1; first = true } ∷ []
-unfolding run after cases step subst carry if_capacity_lem with spend picked
+unfolding run after cases step subst carry by_capacity with spend picked
 branch_told = refl
 
 -- "The innermost kept value is the top"; an entry 0 binds nothing, and the empty stack ends a pattern without rest.
@@ -171,16 +171,16 @@ abbrev kept_twice : Tm → Tm
 kept_twice e = keep (val (Val.label 0)) (number 3) (keep (val (Val.label 0)) (number 4) e)
 
 innermost_first : facts (add_label 0 fresh) (kept_twice (looked (pointcut (anything at_end)) (var 0))) ≡ record { end = done Val.unit; steps = 5; log = record { dom = 0; shown = 4 } ∷ [] }
-unfolding run after cases step subst carry if_capacity_lem with spend picked
+unfolding run after cases step subst carry by_capacity with spend picked
 innermost_first = refl
 
 past_the_end : facts (add_label 0 fresh) (kept_twice (looked (pointcut at_end) (var 0))) ≡ record { end = done Val.unit; steps = 5; log = record { dom = 0; shown = 8 } ∷ [] }
-unfolding run after cases step subst carry if_capacity_lem with spend picked
+unfolding run after cases step subst carry by_capacity with spend picked
 past_the_end = refl
 
 -- A keep whose value is being worked out is not seen.
 value_not_kept : facts (add_label 0 fresh) (keep (val (Val.label 0)) (seq (looked (pointcut at_rest) (var 1)) (number 3)) (val Val.unit)) ≡ record { end = done Val.unit; steps = 5; log = record { dom = 0; shown = 8 } ∷ [] }
-unfolding run after cases step subst carry if_capacity_lem with spend picked
+unfolding run after cases step subst carry by_capacity with spend picked
 value_not_kept = refl
 
 -- Card 7: at one mark the second of three watches of domain 1 takes the watches of domain 1 down; the first, picked already, still runs; the next mark finds the watch of domain 0 alone. The label, and so each pointcut, is of domain 0.
@@ -189,7 +189,7 @@ clearing = add_advice (on 0 (say (number 7))) (add_advice (on 1 (say (var 0))) (
 
 taken_down : facts clearing (seq marked marked)
     ≡ record { end = done Val.unit; steps = 18; log = record { dom = 0; shown = 7 } ∷ record { dom = 1; shown = 4 } ∷ record { dom = 1; shown = 5 } ∷ record { dom = 0; shown = 7 } ∷ [] }
-unfolding run after cases step subst carry if_capacity_lem with spend picked
+unfolding run after cases step subst carry by_capacity with spend picked
 taken_down = refl
 
 -- "Others keep their order": domain 1's is taken down, and the two of domain 0 stay as they stood.
@@ -202,7 +202,7 @@ again zero = val Val.unit
 again (suc n) = seq (op1 install Ty.unit (val (Val.advice 1 [] (val Val.unit)))) (seq (op0 (takedown 1) Ty.unit) (again n))
 
 capacity_again : (run 400 G 0 fresh (again 100)).end ≡ done Val.unit
-unfolding again run after cases step if_capacity_lem with carry
+unfolding again run after cases step by_capacity with carry
 capacity_again = refl
 
 -- "Room runs out exactly when a step would pass the limit": with 63 labels there is room for the last one, with 64 there is none; the same of installed advice.
@@ -216,16 +216,16 @@ abbrev made_over : State → Tm → End
 made_over s e = (run 1 G 0 s e).end
 
 last_label : (made_over (with_labels 63) (op0 new_label (Ty.label Ty.number 0)) ≡ done (Val.label 63)) × (made_over (with_labels 64) (op0 new_label (Ty.label Ty.number 0)) ≡ stopped Outcome.Labels)
-unfolding run after cases step if_capacity_lem
+unfolding run after cases step by_capacity
 last_label = (refl, refl)
 
 last_advice : (made_over (with_advice 63) (op1 install Ty.unit (val (Val.advice 0 [] (val Val.unit)))) ≡ done Val.unit) × (made_over (with_advice 64) (op1 install Ty.unit (val (Val.advice 0 [] (val Val.unit)))) ≡ stopped Outcome.Advice)
-unfolding run after cases step if_capacity_lem with
+unfolding run after cases step by_capacity with
 last_advice = (refl, refl)
 
 -- Card 9: a cell is charged to the current domain, not to its own.
 cell_charged : (run 100 G 0 fresh (op1 new_cell (Ty.ref Ty.number 1) (number 3))).state.used ≡ at_dom 0 one_cell
-unfolding run after cases step carry if_capacity_lem spend
+unfolding run after cases step carry by_capacity spend
 cell_charged = refl
 
 -- What a step that uses n comes to where m is used: 1,024 bindings, 128 cells and 256 pieces are the half of domain 0, and as many the other half; a step that lacks both "reports domain 0's".
@@ -239,19 +239,19 @@ abbrev all_but : ℕ → Counts
 all_but n = record { bindings = 1024 - n; cells = 128 - n; pieces = 256 - n }
 
 last_capacity : taking (quotas (all_but 1)) (quotas (record { bindings = 1; cells = 1; pieces = 1 })) ≡ reduct (with_uses (quotas (all_but 0)) fresh) (val Val.unit)
-unfolding spend if_capacity_lem
+unfolding spend by_capacity
 last_capacity = refl
 
 mainline_full : (taking (quotas (all_but 0)) (at_dom 0 (some_bindings 1)) ≡ at_capacity Outcome.Bindings)
     × (taking (quotas (all_but 0)) (at_dom 0 one_cell) ≡ at_capacity Outcome.Cells) × (taking (quotas (all_but 0)) (at_dom 0 one_piece) ≡ at_capacity Outcome.Pieces)
-unfolding spend if_capacity_lem
+unfolding spend by_capacity
 mainline_full = (refl, refl, refl)
 
 others_full : (taking (quotas (all_but 0)) (at_dom 1 (some_bindings 1)) ≡ at_capacity Outcome.OtherBindings)
     × (taking (quotas (all_but 0)) (at_dom 1 one_cell) ≡ at_capacity Outcome.OtherCells) × (taking (quotas (all_but 0)) (at_dom 1 one_piece) ≡ at_capacity Outcome.OtherPieces)
-unfolding spend if_capacity_lem
+unfolding spend by_capacity
 others_full = (refl, refl, refl)
 
 both_full : taking (quotas (all_but 0)) (quotas (some_bindings 1)) ≡ at_capacity Outcome.Bindings
-unfolding spend if_capacity_lem
+unfolding spend by_capacity
 both_full = refl

@@ -5,7 +5,7 @@ use mathlib.Core.List.{List, [], ◌∷◌}
 use lib.Dec.{eqb}
 use native.Mathlib.Omega.{arith}
 use Rattle.calculus.specs.Syntax.{Dom, Ty, no_method, method, Val, Tm, val, var, lam, op0, op1, op2, seq, ite, split, pcd, adv, lower, obj, keep, match, end, more, new_label, takedown, install, read, new_cell, call, app, mark, store}
-use Rattle.calculus.specs.Typing.{Policy, no_store, ◌⊢◌⦂◌ as Rule0, ◌⊢◌⦂◌⇒◌ as Rule1, ◌⊢◌⦂◌⇒◌⇒◌ as Rule2, ◌⨾◌⊢◌⦂◌ as TmTy, a_type, has_first, t_call, t_new_label, t_takedown, t_install, t_read, t_new_cell, t_app, t_mark, t_store, is_val, is_var, is_lam, is_op0, is_op1, is_op2, is_seq, is_ite, is_split, is_pcd, is_adv, is_lower, is_obj, is_keep, is_match_lem, is_end, is_more}
+use Rattle.calculus.specs.Typing.{Policy, no_store, ◌⊢◌⦂◌ as Rule0, ◌⊢◌⦂◌⇒◌ as Rule1, ◌⊢◌⦂◌⇒◌⇒◌ as Rule2, ◌⨾◌⊢◌⦂◌ as TmTy, a_type, has_first, t_call, t_new_label, t_takedown, t_install, t_read, t_new_cell, t_app, t_mark, t_store, is_val, is_var, is_lam, is_op0, is_op1, is_op2, is_seq, is_ite, is_split, is_pcd, is_adv, is_lower, is_obj, is_keep, is_matching, is_end, is_more}
 use Rattle.calculus.specs.Plain.{dom_of, methods_of, method_dom}
 
 -- Two domains, 1 ≤ 0: the mainline is high, the watch low.
@@ -60,7 +60,7 @@ operation (is_adv d h e) = tt
 operation (is_lower h d) = tt
 operation (is_obj d) = tt
 operation (is_keep d e f) = tt
-operation (is_match_lem ds o e f) = tt
+operation (is_matching ds o e f) = tt
 
 -- The type of the variable.
 variable : {c : Dom} {x t : Ty} → TmTy watched no_store (x ∷ []) c (var 0) t → t ≡ x

@@ -91,7 +91,7 @@ module _ (D : Policy) where
     -- Figure 2, {l1 .. ln}_p: labels of the value type a, at domains at or above p.
     pub data LabelsOf (a : Ty) (p : Dom) : List ℕ → Type 0 where
       no_labels : LabelsOf a p []
-      a_label_lem : {l : ℕ} {q : Dom} {ls : List ℕ} →
+      one_label : {l : ℕ} {q : Dom} {ls : List ℕ} →
           Σ.labels at l is Ty.label a q →
           p ⊑ q →
           LabelsOf a p ls →
@@ -217,7 +217,7 @@ module _ (D : Policy) where
             Γ ⨾ c ⊢ g ⦂ t →
             Γ ⨾ c ⊢ keep e f g ⦂ t
         -- stackcase (card 6)
-        is_match_lem : {Γ ts us : List Ty} {c : Dom} {t : Ty} {p : Pattern} {es : Tms} {f g : Tm} →
+        is_matching : {Γ ts us : List Ty} {c : Dom} {t : Ty} {p : Pattern} {es : Tms} {f g : Tm} →
             Γ ⨾ c ⊢* es ⦂ Ty.stack ∷ ts →
             PatternTy p ts us →
             reverse_aux us Γ ⨾ c ⊢ f ⦂ t →

@@ -12,7 +12,7 @@ use Rattle.calculus.specs.Limits.{frame_limit, binding_limit, cell_limit, piece_
 use Rattle.calculus.specs.Combinators.{cases}
 use Rattle.calculus.specs.Syntax.{Val, Tm, val}
 use Rattle.calculus.specs.State.{Advice, State, Given, Uses, add_uses, with_uses, log_of}
-use Rattle.calculus.specs.Answer.{Answer, reduct, at_capacity, halt, wrong, carry, within, if_capacity_lem, with, spend}
+use Rattle.calculus.specs.Answer.{Answer, reduct, at_capacity, halt, wrong, carry, within, by_capacity, with, spend}
 use Rattle.calculus.specs.Place.{Place, framed}
 use Rattle.calculus_needs.specs.Here.{Here, here}
 use Rattle.laws.proofs.Lists.{All}
@@ -128,8 +128,8 @@ module _ (G : Given) (W : Here → Numbers) (s : State) where
     takes_with none k f = takes_wrong
     takes_with (some x) k f = f x refl
 
-    pub takes_capacity : (c : Bool) (o : Outcome) {d : ℕ} {r : Answer State Tm} (g : Numbers) → One d g → Under g m → (T (not c) → Lacks G s g o) → Takes P X m w b d r → Takes P X m w b d (if_capacity_lem c o r)
-    unfolding if_capacity_lem
+    pub takes_capacity : (c : Bool) (o : Outcome) {d : ℕ} {r : Answer State Tm} (g : Numbers) → One d g → Under g m → (T (not c) → Lacks G s g o) → Takes P X m w b d r → Takes P X m w b d (by_capacity c o r)
+    unfolding by_capacity
     takes_capacity true o g fr u f h = h
     takes_capacity false o g fr u f h = takes_full g fr u (f tt)
 

@@ -24,7 +24,7 @@ use Rattle.calculus_needs.specs.Numbers.{Numbers, ◌⊕◌}
 use Rattle.calculus_needs.specs.Class.{in_class, straight}
 use Rattle.calculus_needs.specs.Needs.{need, rounds, need_of}
 use Rattle.calculus_needs.specs.Used.{reach, peak, used_up, used_by}
-use Rattle.calculus_needs.specs.Claims.{Under, Enough, DoneOrAborted, is_done_lem, is_aborted}
+use Rattle.calculus_needs.specs.Claims.{Under, Enough, DoneOrAborted, was_done, is_aborted}
 use Rattle.calculus_needs.proofs.Sums.{under_refl, under_same, under_trans, under_plus, under_left, none_left, none_right, plus_assoc}
 use Rattle.calculus_needs.proofs.Admitted.{Admitted, admitted}
 use Rattle.calculus_needs.proofs.Takes.{standing, AdmittedAdvice, Meets, Gained, One, Lacks, Takes, Takes.takes_go, Takes.takes_full, Takes.takes_halt, Takes.takes_wrong}
@@ -114,7 +114,7 @@ module _ (D : Policy) (trans : Transitive D) (G : Given) (W : Here → Numbers) 
     ends_done n v eq =
         let i = needs_nothing W e v eq in
         let whole : used_up k f s ⊕ need W (here top) e ≡ used_up k f s = rw (i.needs' (here top)) (none_right (used_up k f s)) in
-        record { under = used_now; exact = λ x u d. rest_zero ∙ (sym whole ∙ (C.exact x).0); settles = λ E. is_done_lem }
+        record { under = used_now; exact = λ x u d. rest_zero ∙ (sym whole ∙ (C.exact x).0); settles = λ E. was_done }
 
     not_wrong : as_value e ≡ none → ¬ (step e G top s ≡ wrong)
     not_wrong eq = progress D Σ trans G C.typed eq top all_nil s C.fits

@@ -37,5 +37,5 @@ pub record Enough (n : ℕ) (G : Given) (N : Numbers) : Type 0 where
 
 -- "The outcome is done or aborted."
 pub data DoneOrAborted : End → Type 0 where
-  is_done_lem : {v : Val} → DoneOrAborted (done v)
+  was_done : {v : Val} → DoneOrAborted (done v)
   is_aborted : DoneOrAborted (stopped Outcome.Aborted)

@@ -7,7 +7,7 @@ use Rattle.calculus.specs.declared.Outcome.{Outcome}
 use Rattle.calculus.specs.Combinators.{cases}
 use Rattle.calculus.specs.Syntax.{Dom, Ty, Val, Tm, as_value, val, seq, lower}
 use Rattle.calculus.specs.State.{State, Given}
-use Rattle.calculus.specs.Answer.{Answer, reduct, carry, within, if_capacity_lem, with}
+use Rattle.calculus.specs.Answer.{Answer, reduct, carry, within, by_capacity, with}
 use Rattle.calculus.specs.Place.{Place, at, deeper, framed}
 use Rattle.calculus.specs.Reduce.{reduce_seq, reduce_lower}
 use Rattle.calculus.specs.Step.{step}
@@ -52,13 +52,13 @@ module _ (hi : Dom → Bool) where
     skips_body f c_halt k = k_none n_halt (λ y. y)
     skips_body f c_wrong k = k_none n_wrong (λ y. y)
 
-    skips_done : {D : Policy} {Σ : StoreTyping} {p : Dom} (s : State) (e : Tm) {v : Val} (b : Bool) (o : Outcome) → lacks_mainline o ≡ false → hi p ≡ false → ValTy D Σ v Ty.unit → Skips s e (within (λ x. seq x e) (if_capacity_lem b o (reduce_lower s v)))
-    unfolding carry if_capacity_lem with
+    skips_done : {D : Policy} {Σ : StoreTyping} {p : Dom} (s : State) (e : Tm) {v : Val} (b : Bool) (o : Outcome) → lacks_mainline o ≡ false → hi p ≡ false → ValTy D Σ v Ty.unit → Skips s e (within (λ x. seq x e) (by_capacity b o (reduce_lower s v)))
+    unfolding carry by_capacity with
     skips_done s e true o n f ValTy.v_unit = k_step f (e_stay hi) (λ z. steady_same hi s) inert_unit
     skips_done s e false o n f ValTy.v_unit = k_none n_full (λ y. clash y n)
 
-    skips_unit : (s : State) (e : Tm) (b : Bool) (o : Outcome) → lacks_mainline o ≡ false → Skips s e (if_capacity_lem b o (reduce_seq s e Val.unit))
-    unfolding if_capacity_lem with
+    skips_unit : (s : State) (e : Tm) (b : Bool) (o : Outcome) → lacks_mainline o ≡ false → Skips s e (by_capacity b o (reduce_seq s e Val.unit))
+    unfolding by_capacity with
     skips_unit s e true o n = k_past
     skips_unit s e false o n = k_none n_full (λ y. clash y n)
 

@@ -6,7 +6,7 @@ use mathlib.Core.List.{List}
 use Rattle.calculus.specs.Syntax.{Dom, Ty, Sigs, no_method, method, Val, Tm, Tms, Pattern, Op0, Op1, Op2, val, var, lam, op0, op1, op2, seq, ite, split, pcd, adv, lower, obj, keep, match, end, more}
 use Rattle.calculus.specs.Plain.{dom_of, methods_of}
 use Rattle.calculus.specs.Blank.{body, blank, blanks, blank_bodies}
-use Rattle.calculus.specs.Typing.{Policy, no_store, LabelsOf, no_labels, a_label_lem, ⊢◌⦂◌ as ValTy, ◌⨾◌⊢◌⦂◌ as TmTy, ◌⨾◌⊢*◌⦂◌ as TmsTy, ◌⊢ᵐ◌⦂◌ as BodiesTy, is_val, is_var, is_lam, is_op0, is_op1, is_op2, is_seq, is_ite, is_split, is_pcd, is_adv, is_lower, is_obj, is_keep, is_match_lem, is_end, is_more, no_body, a_body}
+use Rattle.calculus.specs.Typing.{Policy, no_store, LabelsOf, no_labels, one_label, ⊢◌⦂◌ as ValTy, ◌⨾◌⊢◌⦂◌ as TmTy, ◌⨾◌⊢*◌⦂◌ as TmsTy, ◌⊢ᵐ◌⦂◌ as BodiesTy, is_val, is_var, is_lam, is_op0, is_op1, is_op2, is_seq, is_ite, is_split, is_pcd, is_adv, is_lower, is_obj, is_keep, is_matching, is_end, is_more, no_body, a_body}
 use Rattle.laws.proofs.Lists.{none_some, All2.all2_nil}
 use Rattle.calculus_noninterference.proofs.Clash.{clash}
 use Rattle.calculus_noninterference.proofs.Interleave.{Side, Matches}
@@ -95,7 +95,7 @@ module _ (hi : Dom → Bool) where
   -- Before a run there is no label.
   pub labels_rel : {D : Policy} {w : List Side} {a : Ty} {p : Dom} {ls : List ℕ} → LabelsOf D no_store a p ls → Matches w ls ls
   labels_rel no_labels = all2_nil
-  labels_rel (a_label_lem x l y) = absurd (none_some x)
+  labels_rel (one_label x l y) = absurd (none_some x)
 
   -- What holds of every term that is x with low bodies blanked holds of e, which is one.
   module _ (P : Tm → Type 0) (e : Tm) where
@@ -168,7 +168,7 @@ module _ (hi : Dom → Bool) where
       tm_rel (is_lower {p} l x) b = of_term (RelT hi W _) b (λ f j. r_lower (low_rel z p _ j (λ a. tm_rel x a)))
       tm_rel (is_obj x) b = of_term (RelT hi W _) b (λ bs i. r_obj (bodies_rel x i))
       tm_rel (is_keep x y u) b = of_term (RelT hi W _) b (λ f g h i j k. r_keep (tm_rel x i) (tm_rel y j) (tm_rel u k))
-      tm_rel (is_match_lem x l y u) b = of_term (RelT hi W _) b (λ fs g h i j k. r_match (tms_rel x i) (tm_rel y j) (tm_rel u k))
+      tm_rel (is_matching x l y u) b = of_term (RelT hi W _) b (λ fs g h i j k. r_match (tms_rel x i) (tm_rel y j) (tm_rel u k))
 
       tms_rel : {Γ ts : List Ty} {c : Dom} {es es' : Tms} → TmsTy D no_store Γ c es ts → Blankeds es' (blanks hi es) → RelTs hi W es es'
       tms_rel is_end b_end = r_end

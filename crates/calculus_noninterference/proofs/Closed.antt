@@ -9,7 +9,7 @@ use lib.Dec.{eqb, ltb, eqb→eq, ltb→lt}
 use Rattle.calculus.specs.Combinators.{choose}
 use Rattle.calculus.specs.Syntax.{Dom, Ty, Sigs, Val, Tm, Tms, val, var, lam, op1, op2, seq, split, pcd, adv, lower, obj, more, Pattern}
 use Rattle.calculus.specs.Subst.{subst, substs, subst_var, under}
-use Rattle.calculus.specs.Typing.{Policy, StoreTyping, ◌⨾◌⊢◌⦂◌ as TmTy, ◌⨾◌⊢*◌⦂◌ as TmsTy, ◌⊢ᵐ◌⦂◌ as BodiesTy, is_val, is_var, is_lam, is_op0, is_op1, is_op2, is_seq, is_ite, is_split, is_pcd, is_adv, is_lower, is_obj, is_end, is_more, no_body, a_body, PatternTy, p_end, p_rest, p_any, p_cut, is_keep, is_match_lem}
+use Rattle.calculus.specs.Typing.{Policy, StoreTyping, ◌⨾◌⊢◌⦂◌ as TmTy, ◌⨾◌⊢*◌⦂◌ as TmsTy, ◌⊢ᵐ◌⦂◌ as BodiesTy, is_val, is_var, is_lam, is_op0, is_op1, is_op2, is_seq, is_ite, is_split, is_pcd, is_adv, is_lower, is_obj, is_end, is_more, no_body, a_body, PatternTy, p_end, p_rest, p_any, p_cut, is_keep, is_matching}
 use Rattle.laws.proofs.Lookup.{place_below}
 use Rattle.calculus_noninterference.proofs.Related.{ClosedBody, ClosedBodies}
 
@@ -46,7 +46,7 @@ module _ {D : Policy} {Σ : StoreTyping} (v : Val) where
     closed_tm (is_lower {p} o h) k l = ap (lower p) (closed_tm h k l)
     closed_tm (is_obj {ms} h) k l = ap (obj (Ty.object ms)) (closed_bs h (suc k) (omega arith))
     closed_tm (is_keep h g f) k l = let x = closed_tm h k l in let y = closed_tm g k l in let z = closed_tm f k l in cc
-    closed_tm (is_match_lem {Γ} {p} h o g f) k l = let x = closed_tms h k l in let y = closed_tm g (under p k) (length_under o Γ k l) in let z = closed_tm f k l in cc
+    closed_tm (is_matching {Γ} {p} h o g f) k l = let x = closed_tms h k l in let y = closed_tm g (under p k) (length_under o Γ k l) in let z = closed_tm f k l in cc
 
     closed_tms : {Γ ts : List Ty} {c : Dom} {es : Tms} → TmsTy D Σ Γ c es ts → (k : ℕ) → length Γ ≤ k → substs k v es ≡ es
     closed_tms is_end k l = refl

@@ -15,12 +15,12 @@ use Rattle.calculus.specs.Syntax.{Dom, Ty, Val, Tm, Tms, Op0, Op1, Op2, as_value
 use Rattle.calculus.specs.State.{Cell, Advice, Event, Counts, Uses, no_counts, add_counts, at_dom, advice_bindings, State, Given, with_uses, with_cells, stored, add_label, add_advice, drop_advice, add_event}
 use Rattle.calculus.specs.View.{unit_of, truth_of, number_of, pair_of, body_of, cell_of, labels_of, bodies_of, top_of}
 use Rattle.calculus.specs.Numbers.{sum, difference, is_less, is_equal}
-use Rattle.calculus.specs.Answer.{Answer, reduct, at_capacity, halt, wrong, carry, within, if_capacity_lem, with, spend}
+use Rattle.calculus.specs.Answer.{Answer, reduct, at_capacity, halt, wrong, carry, within, by_capacity, with, spend}
 use Rattle.calculus.specs.Place.{Place, at, deeper, keeping}
 use Rattle.calculus.specs.Compose.{member, matching, triggered_by}
 use Rattle.calculus.specs.Reduce.{reduce0, reduce1, reduce2, num, truth, arith, collect, method_body, matched, branch, match_on, subst_all, reduce_match}
 use Rattle.calculus.specs.Step.{step, step_first}
-use Rattle.calculus.specs.Typing.{Policy, StoreTyping, ◌⊢◌⦂◌ as Rule0, ◌⊢◌⦂◌⇒◌ as Rule1, ◌⊢◌⦂◌⇒◌⇒◌ as Rule2, ⊢◌⦂◌ as ValTy, ◌⨾◌⊢◌⦂◌ as TmTy, ◌⨾◌⊢*◌⦂◌ as TmsTy, t_new_label, t_abort, t_takedown, t_stack, t_print, t_install, t_read, t_byte, t_new_cell, t_call, t_pair, t_app, t_mark, t_store, t_plus, t_minus, t_less, t_equal, v_cell, v_label, v_advice, is_val, is_var, is_lam, is_op0, is_op1, is_op2, is_seq, is_ite, is_split, is_pcd, is_adv, is_lower, is_obj, is_keep, is_match_lem, is_end, is_more}
+use Rattle.calculus.specs.Typing.{Policy, StoreTyping, ◌⊢◌⦂◌ as Rule0, ◌⊢◌⦂◌⇒◌ as Rule1, ◌⊢◌⦂◌⇒◌⇒◌ as Rule2, ⊢◌⦂◌ as ValTy, ◌⨾◌⊢◌⦂◌ as TmTy, ◌⨾◌⊢*◌⦂◌ as TmsTy, t_new_label, t_abort, t_takedown, t_stack, t_print, t_install, t_read, t_byte, t_new_cell, t_call, t_pair, t_app, t_mark, t_store, t_plus, t_minus, t_less, t_equal, v_cell, v_label, v_advice, is_val, is_var, is_lam, is_op0, is_op1, is_op2, is_seq, is_ite, is_split, is_pcd, is_adv, is_lower, is_obj, is_keep, is_matching, is_end, is_more}
 use Rattle.laws.proofs.Lists.{All, All.all_nil, All.all_cons, all_map, all_reverse}
 use Rattle.calculus_safety.proofs.StoreFits.{StateFits, AdviceFits, AdviceFits.advice_fits}
 use Rattle.calculus_safety.proofs.Values.{val_ty}
@@ -96,13 +96,13 @@ module _ (hi : Dom → Bool) where
     confined_within k c_halt = c_halt
     confined_within k c_wrong = c_wrong
 
-    confined_capacity : (b : Bool) (o : Outcome) {a : Answer State Tm} → lacks_mainline o ≡ false → Confined c s a → Confined c s (if_capacity_lem b o a)
-    unfolding if_capacity_lem
+    confined_capacity : (b : Bool) (o : Outcome) {a : Answer State Tm} → lacks_mainline o ≡ false → Confined c s a → Confined c s (by_capacity b o a)
+    unfolding by_capacity
     confined_capacity true o n m = m
     confined_capacity false o n m = c_full (λ f. n)
 
-    confined_mainline : (b : Bool) (o : Outcome) {a : Answer State Tm} → (hi c ≡ false → b ≡ true) → Confined c s a → Confined c s (if_capacity_lem b o a)
-    unfolding if_capacity_lem
+    confined_mainline : (b : Bool) (o : Outcome) {a : Answer State Tm} → (hi c ≡ false → b ≡ true) → Confined c s a → Confined c s (by_capacity b o a)
+    unfolding by_capacity
     confined_mainline true o n m = m
     confined_mainline false o n m = c_full (λ f. clash (n f) refl)
 
@@ -222,7 +222,7 @@ module _ (hi : Dom → Bool) where
             (λ w q. confined_cases (as_value g) _ _ (λ u r. confined_capacity _ _ refl (c_go e_stay)) (confined_within _ (confined_step l γ (keeping v w (deeper P)))))
             (confined_within _ (confined_step k γ (deeper P))))
             (confined_within _ (confined_step h γ (deeper P)))
-        confined_step (is_match_lem {p} {f} {g} h o k l) γ P = confined_first h γ P [] _ _ (λ vs. confined_match s P p f g vs)
+        confined_step (is_matching {p} {f} {g} h o k l) γ P = confined_first h γ P [] _ _ (λ vs. confined_match s P p f g vs)
 
         confined_first : {Γ ts : List Ty} {c : Dom} {es : Tms} → TmsTy D Σ Γ c es ts → Γ ≡ [] → (P : Place) (vs : List Val) (k : Tms → Tm) (r : List Val → Answer State Tm) → ((ws : List Val) → Confined c s (r ws)) → Confined c s (step_first es G (at c P) s vs k r)
         confined_first is_end γ P vs k r m = confined_capacity _ _ refl (m vs)

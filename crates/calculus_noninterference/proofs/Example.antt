@@ -11,7 +11,7 @@ use Rattle.calculus.specs.Combinators.{cases}
 use Rattle.calculus.specs.Syntax.{Dom, Ty, Val, Tm, val, var, lam, op0, op1, op2, seq, pcd, adv, end, more, new_label, takedown, print, install, read, new_cell, app, mark}
 use Rattle.calculus.specs.State.{Given, Counts, Print, picked, log_of, mainline_counts, fresh}
 use Rattle.calculus.specs.Subst.{subst}
-use Rattle.calculus.specs.Answer.{carry, if_capacity_lem, with, spend}
+use Rattle.calculus.specs.Answer.{carry, by_capacity, with, spend}
 use Rattle.calculus.specs.Step.{step}
 use Rattle.calculus.specs.Run.{End, done, after, run}
 use Rattle.calculus.specs.Typing.{no_store, ◌⨾◌⊢◌⦂◌ as TmTy, t_new_label, t_takedown, t_print, t_install, t_read, t_new_cell, t_app, t_mark, no_types, a_type, v_number, is_val, is_var, is_lam, is_op0, is_op1, is_op2, is_seq, is_pcd, is_adv, is_end, is_more}
@@ -86,11 +86,11 @@ abbrev sevens : List Print → Facts
 sevens x = record { end = done (Val.number 7); log = x; prints = record { dom = 0; shown = 5 } ∷ []; cells = record { dom = 0; value = some (Val.number 7) } ∷ []; counts = record { bindings = 1; cells = 0; pieces = 2 } ∷ record { bindings = 1; cells = 1; pieces = 2 } ∷ [] }
 
 left_facts : facts (program left) ≡ sevens (record { dom = 1; shown = 3 } ∷ record { dom = 0; shown = 5 } ∷ [])
-unfolding high_of run after cases step carry if_capacity_lem with spend picked subst
+unfolding high_of run after cases step carry by_capacity with spend picked subst
 left_facts = refl
 
 right_facts : facts (program right) ≡ sevens (record { dom = 1; shown = 8 } ∷ record { dom = 1; shown = 9 } ∷ record { dom = 0; shown = 5 } ∷ [])
-unfolding high_of run after cases step carry if_capacity_lem with spend picked subst
+unfolding high_of run after cases step carry by_capacity with spend picked subst
 right_facts = refl
 
 -- Card 7: "a takedown written into a low body is one more difference under which high printed numbers still agree".
@@ -101,5 +101,5 @@ same_takedown : (G : Given) (n n' : ℕ) → Same hi (run n G 0 fresh (program l
 same_takedown G n n' = demand3 falling hi falling_trans highs (program left) (program clearing) (accepted (is_op1 t_print (is_var refl))) (accepted (is_op0 (t_takedown refl))) (alike left clearing) G G refl n n'
 
 clearing_facts : facts (program clearing) ≡ sevens (record { dom = 0; shown = 5 } ∷ [])
-unfolding high_of run after cases step carry if_capacity_lem with spend picked subst
+unfolding high_of run after cases step carry by_capacity with spend picked subst
 clearing_facts = refl

@@ -13,12 +13,12 @@ use Rattle.calculus.specs.Subst.{subst}
 use Rattle.calculus.specs.State.{Uses, State, Given, with_uses, other_than}
 use Rattle.calculus.specs.View.{unit_of, truth_of, number_of, pair_of, label_of, cell_of, labels_of, top_of}
 use Rattle.calculus.specs.Numbers.{sum, difference, is_less, is_equal}
-use Rattle.calculus.specs.Answer.{Answer, reduct, at_capacity, halt, wrong, carry, within, if_capacity_lem, with, spend}
+use Rattle.calculus.specs.Answer.{Answer, reduct, at_capacity, halt, wrong, carry, within, by_capacity, with, spend}
 use Rattle.calculus.specs.Place.{Place, at, deeper, keeping}
 use Rattle.calculus.specs.Compose.{member}
 use Rattle.calculus.specs.Reduce.{reduce0, reduce1, reduce2, reduce_match, arith, num, truth, collect, method_body, bind, branch, match_on, subst_all}
 use Rattle.calculus.specs.Step.{before, step, step_first}
-use Rattle.calculus.specs.Typing.{Policy, StoreTyping, Has, has_first, has_later, ◌⊢◌⦂◌ as Rule0, ◌⊢◌⦂◌⇒◌ as Rule1, ◌⊢◌⦂◌⇒◌⇒◌ as Rule2, ⊢◌⦂◌ as ValTy, ◌⨾◌⊢◌⦂◌ as TmTy, ◌⨾◌⊢*◌⦂◌ as TmsTy, ◌⊢ᵐ◌⦂◌ as BodiesTy, a_body, t_new_label, t_abort, t_takedown, t_stack, t_print, t_install, t_read, t_byte, t_new_cell, t_call, t_pair, t_app, t_mark, t_store, t_plus, t_minus, t_less, t_equal, is_val, is_var, is_lam, is_op0, is_op1, is_op2, is_seq, is_ite, is_split, is_pcd, is_adv, is_lower, is_obj, is_keep, is_match_lem, is_end, is_more}
+use Rattle.calculus.specs.Typing.{Policy, StoreTyping, Has, has_first, has_later, ◌⊢◌⦂◌ as Rule0, ◌⊢◌⦂◌⇒◌ as Rule1, ◌⊢◌⦂◌⇒◌⇒◌ as Rule2, ⊢◌⦂◌ as ValTy, ◌⨾◌⊢◌⦂◌ as TmTy, ◌⨾◌⊢*◌⦂◌ as TmsTy, ◌⊢ᵐ◌⦂◌ as BodiesTy, a_body, t_new_label, t_abort, t_takedown, t_stack, t_print, t_install, t_read, t_byte, t_new_cell, t_call, t_pair, t_app, t_mark, t_store, t_plus, t_minus, t_less, t_equal, is_val, is_var, is_lam, is_op0, is_op1, is_op2, is_seq, is_ite, is_split, is_pcd, is_adv, is_lower, is_obj, is_keep, is_matching, is_end, is_more}
 use Rattle.laws.proofs.Lists.{All.all_nil, All.all_cons, all_snoc, all_reverse}
 use Rattle.calculus_safety.proofs.Safety.{close}
 use Rattle.calculus_safety.proofs.Safe.{Found, Found.found, Found.nothing}
@@ -67,8 +67,8 @@ module _ (hi : Dom → Bool) where
     no_low_takedown_inside : {a : Answer State Tm} (k : Tm → Tm) → ((x : Tm) → NoLowTakedown hi c x → NoLowTakedown hi c (k x)) → NoLowTakedownAnswer c s a → NoLowTakedownAnswer c s (within k a)
     no_low_takedown_inside k f m = no_low_takedown_within k (λ h. h) f m
 
-    no_low_takedown_capacity : (b : Bool) (o : Outcome) {a : Answer State Tm} → NoLowTakedownAnswer c s a → NoLowTakedownAnswer c s (if_capacity_lem b o a)
-    unfolding if_capacity_lem
+    no_low_takedown_capacity : (b : Bool) (o : Outcome) {a : Answer State Tm} → NoLowTakedownAnswer c s a → NoLowTakedownAnswer c s (by_capacity b o a)
+    unfolding by_capacity
     no_low_takedown_capacity true o m = m
     no_low_takedown_capacity false o m = no_low_takedown_full
 
@@ -201,7 +201,7 @@ module _ (hi : Dom → Bool) where
           (no_low_takedown_inside (keep (val v) (val w)) (λ y z. (no_low_takedown_value hi c e i x.0, no_low_takedown_value hi c f j x.1, z)) (no_low_takedown l γ x.2 (keeping v w (deeper P)) (no_low_takedown_keeping hi w (label_of v) (no_low_takedown_value hi c f j x.1) q))))
           (no_low_takedown_inside (λ y. keep (val v) y g) (λ y z. (no_low_takedown_value hi c e i x.0, z, x.2)) (no_low_takedown k γ x.1 (deeper P) q)))
           (no_low_takedown_inside (λ y. keep y f g) (λ y z. (z, x.1, x.2)) (no_low_takedown h γ x.0 (deeper P) q))
-      no_low_takedown (is_match_lem {c} {p} {f} {g} h o k l) γ x P q = no_low_takedowns h γ x.0 P q all_nil (λ y. match p y f g) (λ y z. (z, x.1, x.2)) _ (λ vs z. no_low_takedown_match G P s S p f g z x.1 x.2)
+      no_low_takedown (is_matching {c} {p} {f} {g} h o k l) γ x P q = no_low_takedowns h γ x.0 P q all_nil (λ y. match p y f g) (λ y z. (z, x.1, x.2)) _ (λ vs z. no_low_takedown_match G P s S p f g z x.1 x.2)
 
       -- Operands, after those that are the calm values vs: k puts operands back, r reduces values.
       no_low_takedowns : {Γ ts : List Ty} {c : Dom} {es : Tms} → TmsTy D Σ Γ c es ts → Γ ≡ [] → NoLowTakedowns hi c es → (P : Place) → NoLowTakedownKept hi P.kept → {vs : List Val} → NoLowTakedownVals hi vs

@@ -4,7 +4,7 @@ use mathlib.Core.Bool.{Bool}
 use mathlib.Core.List.{[]}
 use mathlib.Core.Option.{some}
 use Rattle.calculus.specs.Syntax.{Dom, Ty, Val, Tm, Tms, as_value, val, lam, obj}
-use Rattle.calculus.specs.Typing.{Policy, StoreTyping, ◌⨾◌⊢◌⦂◌ as TmTy, is_val, is_var, is_lam, is_op0, is_op1, is_op2, is_seq, is_ite, is_split, is_pcd, is_adv, is_lower, is_obj, is_keep, is_match_lem}
+use Rattle.calculus.specs.Typing.{Policy, StoreTyping, ◌⨾◌⊢◌⦂◌ as TmTy, is_val, is_var, is_lam, is_op0, is_op1, is_op2, is_seq, is_ite, is_split, is_pcd, is_adv, is_lower, is_obj, is_keep, is_matching}
 use Rattle.calculus_noninterference.proofs.Clash.{no_some}
 use Rattle.calculus_noninterference.proofs.Closed.{closed_body, closed_bodies}
 use Rattle.calculus_noninterference.proofs.Related.{World, ClosedBody, ClosedBodies, RelV, RelT, v_fun, v_object, r_val, r_val_lam, r_lam_val, r_val_obj, r_obj_val}
@@ -30,7 +30,7 @@ is_value (is_adv h k l) p = no_some p
 is_value (is_lower h k) p = no_some p
 is_value (is_obj {ms} {bs} h) p = transp (IsValue (obj (Ty.object ms) bs)) (cc) (as_obj (closed_bodies h))
 is_value (is_keep h k l) p = no_some p
-is_value (is_match_lem h k l m) p = no_some p
+is_value (is_matching h k l m) p = no_some p
 
 module _ (hi : Dom → Bool) {W : World} where
   back_left : {v v' : Val} {e : Tm} → IsValue e v' → RelV hi W v v' → RelT hi W (val v) e

@@ -11,7 +11,7 @@ use Rattle.calculus.specs.Limits.{frame_limit, binding_limit, cell_limit, piece_
 use Rattle.calculus.specs.Combinators.{cases}
 use Rattle.calculus.specs.Syntax.{Dom, Val, Tm, as_value}
 use Rattle.calculus.specs.State.{Uses, add_counts, add_uses, State, with_uses}
-use Rattle.calculus.specs.Answer.{Answer, reduct, at_capacity, halt, wrong, carry, within, if_capacity_lem, with, spend}
+use Rattle.calculus.specs.Answer.{Answer, reduct, at_capacity, halt, wrong, carry, within, by_capacity, with, spend}
 use Rattle.calculus.specs.Place.{Place, framed}
 use Rattle.calculus_noninterference.specs.Observe.{lacks_mainline}
 use Rattle.calculus_noninterference.proofs.Clash.{clash, not_so}
@@ -44,13 +44,13 @@ no_step_within k n_full = n_full
 no_step_within k n_halt = n_halt
 no_step_within k n_wrong = n_wrong
 
-pub no_step_capacity : {a : Answer State Tm} (b : Bool) (o : Outcome) → NoStep a → NoStep (if_capacity_lem b o a)
-unfolding if_capacity_lem
+pub no_step_capacity : {a : Answer State Tm} (b : Bool) (o : Outcome) → NoStep a → NoStep (by_capacity b o a)
+unfolding by_capacity
 no_step_capacity true o h = h
 no_step_capacity false o h = n_full
 
-pub not_short_capacity : (a : Answer State Tm) (b : Bool) (o : Outcome) → lacks_mainline o ≡ false → (Short a → ⊥) → Short (if_capacity_lem b o a) → ⊥
-unfolding if_capacity_lem
+pub not_short_capacity : (a : Answer State Tm) (b : Bool) (o : Outcome) → lacks_mainline o ≡ false → (Short a → ⊥) → Short (by_capacity b o a) → ⊥
+unfolding by_capacity
 not_short_capacity a true o n h x = h x
 not_short_capacity a false o n h x = clash x n
 
@@ -96,8 +96,8 @@ module _ (hi : Dom → Bool) where
 
   module _ {W : World} where
     -- Room that is not domain 0's, which a stripped right has where the left has it; and room that is, of which both have as much.
-    pub two_capacity : {a a' : Answer State Tm} (b b' : Bool) (o : Outcome) → lacks_mainline o ≡ false → (W.stripped ≡ true → b ≡ true → b' ≡ true) → Two W a a' → Two W (if_capacity_lem b o a) (if_capacity_lem b' o a')
-    unfolding if_capacity_lem
+    pub two_capacity : {a a' : Answer State Tm} (b b' : Bool) (o : Outcome) → lacks_mainline o ≡ false → (W.stripped ≡ true → b ≡ true → b' ≡ true) → Two W a a' → Two W (by_capacity b o a) (by_capacity b' o a')
+    unfolding by_capacity
     two_capacity true true o n i t = t
     two_capacity true false o n i t = none_right (not_so W.stripped (λ z. clash (i z refl) refl)) n_full
     two_capacity false b o n i t = none_left n_full (λ x. clash x n)
@@ -105,11 +105,11 @@ module _ (hi : Dom → Bool) where
     pub two_framed : {P P' : Place} {a a' : Answer State Tm} → RelPlace hi W P P' → Two W a a' → Two W (framed P a) (framed P' a')
     two_framed {P} {P'} Q t = two_capacity _ _ _ refl (λ z e. (let l = Q.depth z in let h = leb-true P.depth frame_limit e in le-leb P'.depth frame_limit (omega arith))) t
 
-    two_mainline : {a a' : Answer State Tm} {b b' : Bool} (o : Outcome) → b ≡ b' → Two W a a' → Two W (if_capacity_lem b o a) (if_capacity_lem b' o a')
-    unfolding if_capacity_lem
-    two_mainline {a} {a'} {b} o e t = transp (λ c. Two W (if_capacity_lem b o a) (if_capacity_lem c o a')) e (pick b)
+    two_mainline : {a a' : Answer State Tm} {b b' : Bool} (o : Outcome) → b ≡ b' → Two W a a' → Two W (by_capacity b o a) (by_capacity b' o a')
+    unfolding by_capacity
+    two_mainline {a} {a'} {b} o e t = transp (λ c. Two W (by_capacity b o a) (by_capacity c o a')) e (pick b)
       where
-        pick : (c : Bool) → Two W (if_capacity_lem c o a) (if_capacity_lem c o a')
+        pick : (c : Bool) → Two W (by_capacity c o a) (by_capacity c o a')
         pick true = t
         pick false = none_left n_full (λ x. n_full)
 

@@ -8,7 +8,7 @@ use Rattle.calculus.specs.Combinators.{cases}
 use Rattle.calculus.specs.Syntax.{Dom, Ty, Val, Tm, val, lam, op1, op2, seq, lower, read, new_cell, app}
 use Rattle.calculus.specs.State.{Given, picked, fresh}
 use Rattle.calculus.specs.Subst.{subst}
-use Rattle.calculus.specs.Answer.{carry, if_capacity_lem, with, spend}
+use Rattle.calculus.specs.Answer.{carry, by_capacity, with, spend}
 use Rattle.calculus.specs.Step.{step}
 use Rattle.calculus.specs.Run.{End, done, after, run}
 use Rattle.calculus.specs.Typing.{no_store, ◌⨾◌⊢◌⦂◌ as TmTy, t_read, t_new_cell, t_app, v_unit, v_number, is_val, is_lam, is_op1, is_op2, is_seq, is_lower}
@@ -55,9 +55,9 @@ abbrev seven : List Dom → Facts
 seven x = record { end = done (Val.number 7); doms = x; high = record { dom = 0; value = some (Val.number 7) } ∷ [] }
 
 low_before_high : facts (program makes_cell) ≡ seven (1 ∷ 0 ∷ [])
-unfolding high_of run after cases step carry if_capacity_lem with spend picked subst
+unfolding high_of run after cases step carry by_capacity with spend picked subst
 low_before_high = refl
 
 high_alone : facts (program nothing) ≡ seven (0 ∷ [])
-unfolding high_of run after cases step carry if_capacity_lem with spend picked subst
+unfolding high_of run after cases step carry by_capacity with spend picked subst
 high_alone = refl

@@ -10,7 +10,7 @@ use Rattle.calculus.specs.View.{label_of}
 use Rattle.calculus.specs.Answer.{Answer, wrong}
 use Rattle.calculus.specs.Place.{Place, at, deeper, keeping}
 use Rattle.calculus.specs.Step.{before, step, step_first}
-use Rattle.calculus.specs.Typing.{Policy, StoreTyping, ◌⊢◌⦂◌ as Rule0, ◌⊢◌⦂◌⇒◌ as Rule1, ◌⊢◌⦂◌⇒◌⇒◌ as Rule2, ◌⨾◌⊢◌⦂◌ as TmTy, ◌⨾◌⊢*◌⦂◌ as TmsTy, is_op0, is_op1, is_op2, is_seq, is_ite, is_split, is_pcd, is_adv, is_lower, is_more, PatternTy, ⊢◌⦂◌ as ValTy, is_keep, is_match_lem, is_end}
+use Rattle.calculus.specs.Typing.{Policy, StoreTyping, ◌⊢◌⦂◌ as Rule0, ◌⊢◌⦂◌⇒◌ as Rule1, ◌⊢◌⦂◌⇒◌⇒◌ as Rule2, ◌⨾◌⊢◌⦂◌ as TmTy, ◌⨾◌⊢*◌⦂◌ as TmsTy, is_op0, is_op1, is_op2, is_seq, is_ite, is_split, is_pcd, is_adv, is_lower, is_more, PatternTy, ⊢◌⦂◌ as ValTy, is_keep, is_matching, is_end}
 use Rattle.laws.proofs.Lists.{All2.all2_nil, All2.all2_cons, All2, all2_reverse}
 use Rattle.calculus_safety.proofs.StoreFits.{StateFits}
 use Rattle.calculus_safety.proofs.Values.{val_ty}
@@ -57,7 +57,7 @@ module _ {D : Policy} {Σ : StoreTyping} {c : Dom} where
   inv_keep (is_keep {a} h k l) = (a, h, k, l)
 
   inv_match : {u : Ty} {p : Pattern} {es : Tms} {f g : Tm} → TmTy D Σ [] c (match p es f g) u → (ts us : List Ty) × TmsTy D Σ [] c es (Ty.stack ∷ ts) × PatternTy p ts us
-  inv_match (is_match_lem {ts} {us} h p k l) = (ts, us, h, p)
+  inv_match (is_matching {ts} {us} h p k l) = (ts, us, h, p)
 
   inv_more : {ts : List Ty} {e : Tm} {es : Tms} → TmsTy D Σ [] c (more e es) ts → (a : Ty) × (us : List Ty) × TmTy D Σ [] c e a × TmsTy D Σ [] c es us
   inv_more (is_more {ts} {a} h k) = (a, ts, h, k)

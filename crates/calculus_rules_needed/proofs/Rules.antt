@@ -8,7 +8,7 @@ use Rattle.calculus.specs.Combinators.{cases}
 use Rattle.calculus.specs.Syntax.{Dom, Ty, Tm, var, lam, op0, op1, op2, seq, lower, obj, end, more, takedown, new_cell, call, app, store}
 use Rattle.calculus.specs.State.{picked}
 use Rattle.calculus.specs.Subst.{subst}
-use Rattle.calculus.specs.Answer.{carry, if_capacity_lem, with, spend}
+use Rattle.calculus.specs.Answer.{carry, by_capacity, with, spend}
 use Rattle.calculus.specs.Step.{step}
 use Rattle.calculus.specs.Run.{after, run}
 use Rattle.calculus.specs.Typing.{Policy, no_store, ◌⨾◌⊢◌⦂◌ as TmTy, has_first, t_new_label, t_print, t_install, t_read, t_new_cell, t_app, t_mark, t_store, no_types, a_type, v_unit, v_number, is_val, is_var, is_lam, is_op0, is_op1, is_op2, is_seq, is_pcd, is_adv, is_lower, is_obj, is_end, is_more, no_body, a_body}
@@ -56,7 +56,7 @@ module _ {D : Policy} (o : Ordered D) where
 
 -- High code that ran a low function would hand on what it gives: (λ f. f ()) (λ_1 x. 3), and with 4.
 pub apply_low_needed : Needed apply_rule 0
-unfolding blank high_of run after cases step carry if_capacity_lem with spend picked subst
+unfolding blank high_of run after cases step carry by_capacity with spend picked subst
 apply_low_needed = record {
   context = Ty.fun Ty.unit 1 Ty.number ∷ [];
   type = Ty.number;
@@ -71,7 +71,7 @@ apply_low_needed = record {
 
 -- Low code that ran a high function would store to high cells.
 pub apply_high_needed : Needed apply_rule 1
-unfolding blank high_of run after cases step carry if_capacity_lem with spend picked subst
+unfolding blank high_of run after cases step carry by_capacity with spend picked subst
 apply_high_needed = record {
   context = Ty.ref Ty.number 0 ∷ [];
   type = Ty.unit;
@@ -86,7 +86,7 @@ apply_high_needed = record {
 
 -- The same of calls (card 3). High code that called a low method would hand on what it gives: (λ x. x.0) [ς_1 s. 3], and with 4.
 pub call_low_needed : Needed call_rule 0
-unfolding blank high_of run after cases step carry if_capacity_lem with spend picked subst
+unfolding blank high_of run after cases step carry by_capacity with spend picked subst
 call_low_needed = record {
   context = one_method 1 Ty.number ∷ [];
   type = Ty.number;
@@ -104,7 +104,7 @@ call_low_needed = record {
 
 -- Low code that called a high method would store to high cells.
 pub call_high_needed : Needed call_rule 1
-unfolding blank high_of run after cases step carry if_capacity_lem with spend picked subst
+unfolding blank high_of run after cases step carry by_capacity with spend picked subst
 call_high_needed = record {
   context = Ty.ref Ty.number 0 ∷ [];
   type = Ty.unit;
@@ -119,7 +119,7 @@ call_high_needed = record {
 
 -- Low code that marked a high label would run high advice.
 pub mark_needed : Needed mark_rule 1
-unfolding blank high_of run after cases step carry if_capacity_lem with spend picked subst
+unfolding blank high_of run after cases step carry by_capacity with spend picked subst
 mark_needed = record {
   context = Ty.label Ty.number 0 ∷ [];
   type = Ty.unit;
@@ -137,7 +137,7 @@ mark_needed = record {
 
 -- A high pointcut that named a low label would let low code run high advice.
 pub pointcut_needed : Needed pointcut_rule 0
-unfolding blank high_of run after cases step carry if_capacity_lem with spend picked subst
+unfolding blank high_of run after cases step carry by_capacity with spend picked subst
 pointcut_needed = record {
   context = Ty.label Ty.number 1 ∷ [];
   type = Ty.pointcut Ty.number 0;
@@ -155,7 +155,7 @@ pointcut_needed = record {
 
 -- High advice on a low pointcut likewise.
 pub advice_needed : Needed advice_rule 0
-unfolding blank high_of run after cases step carry if_capacity_lem with spend picked subst
+unfolding blank high_of run after cases step carry by_capacity with spend picked subst
 advice_needed = record {
   context = Ty.label Ty.number 1 ∷ [];
   type = Ty.advice 0;
@@ -170,7 +170,7 @@ advice_needed = record {
 
 -- Low code that installed high advice would have it run at high marks.
 pub install_needed : Needed install_rule 1
-unfolding blank high_of run after cases step carry if_capacity_lem with spend picked subst
+unfolding blank high_of run after cases step carry by_capacity with spend picked subst
 install_needed = record {
   context = Ty.label Ty.number 0 ∷ [];
   type = Ty.unit;
@@ -185,7 +185,7 @@ install_needed = record {
 
 -- Low code that took high advice down would keep it from high marks (card 7).
 pub takedown_needed : Needed takedown_rule 1
-unfolding blank high_of run after cases step carry if_capacity_lem with spend picked subst
+unfolding blank high_of run after cases step carry by_capacity with spend picked subst
 takedown_needed = record {
   context = Ty.label Ty.number 0 ∷ [];
   type = Ty.unit;
@@ -203,7 +203,7 @@ takedown_needed = record {
 
 -- Low code that made a high cell would add to the high cells.
 pub cell_needed : Needed cell_rule 1
-unfolding blank high_of run after cases step carry if_capacity_lem with spend picked subst
+unfolding blank high_of run after cases step carry by_capacity with spend picked subst
 cell_needed = record {
   context = [];
   type = Ty.ref Ty.number 0;
@@ -218,7 +218,7 @@ cell_needed = record {
 
 -- High code that read a low cell would learn what low code stored.
 pub read_needed : Needed read_rule 0
-unfolding blank high_of run after cases step carry if_capacity_lem with spend picked subst
+unfolding blank high_of run after cases step carry by_capacity with spend picked subst
 read_needed = record {
   context = Ty.ref Ty.number 1 ∷ [];
   type = Ty.number;
@@ -233,7 +233,7 @@ read_needed = record {
 
 -- Low code that stored to a high cell would change what high code reads.
 pub store_needed : Needed store_rule 1
-unfolding blank high_of run after cases step carry if_capacity_lem with spend picked subst
+unfolding blank high_of run after cases step carry by_capacity with spend picked subst
 store_needed = record {
   context = Ty.ref Ty.number 0 ∷ [];
   type = Ty.unit;
@@ -248,7 +248,7 @@ store_needed = record {
 
 -- Low code that raised itself would print at a high domain.
 pub lower_needed : Needed lower_rule 1
-unfolding blank high_of run after cases step carry if_capacity_lem with spend picked subst
+unfolding blank high_of run after cases step carry by_capacity with spend picked subst
 lower_needed = record {
   context = [];
   type = Ty.unit;
@@ -263,7 +263,7 @@ lower_needed = record {
 
 -- A lowered body that was checked at the outer domain would store to a high cell.
 pub lowered_needed : Needed body_rule 0
-unfolding blank high_of run after cases step carry if_capacity_lem with spend picked subst
+unfolding blank high_of run after cases step carry by_capacity with spend picked subst
 lowered_needed = record {
   context = Ty.ref Ty.number 0 ∷ [];
   type = Ty.unit;

@@ -21,7 +21,7 @@ module _ (D : Policy) {Σ : StoreTyping} where
   pub member_label : {a : Ty} {q : Dom} {ls : List ℕ} → LabelsOf D Σ a q ls → (l : ℕ) → T (member l ls)
       → (r : Dom) × (get_elem? Σ.labels l ≡ some (Ty.label a r)) × (D.leq q r ≡ true)
   member_label LabelsOf.no_labels l m = absurd m
-  member_label {a} {q} (LabelsOf.a_label_lem {l = k} {q = r} {ls} g o rest) l m = look (eqb l k) refl m (member_label rest l)
+  member_label {a} {q} (LabelsOf.one_label {l = k} {q = r} {ls} g o rest) l m = look (eqb l k) refl m (member_label rest l)
     where
       Found : Type 0
       Found = (r : Dom) × (get_elem? Σ.labels l ≡ some (Ty.label a r)) × (D.leq q r ≡ true)

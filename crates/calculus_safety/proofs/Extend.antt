@@ -2,7 +2,7 @@
 use Prim.Native.Nat.{ℕ}
 use mathlib.Core.List.{List, [], ◌∷◌, ◌++◌}
 use Rattle.calculus.specs.Syntax.{Dom, Ty, Sigs, Val, Tm, Tms}
-use Rattle.calculus.specs.Typing.{StoreTyping, Policy, LabelsOf, ⊢◌⦂◌ as ValTy, ◌⨾◌⊢◌⦂◌ as TmTy, ◌⨾◌⊢*◌⦂◌ as TmsTy, ◌⊢ᵐ◌⦂◌ as BodiesTy, LabelsOf.no_labels, LabelsOf.a_label_lem}
+use Rattle.calculus.specs.Typing.{StoreTyping, Policy, LabelsOf, ⊢◌⦂◌ as ValTy, ◌⨾◌⊢◌⦂◌ as TmTy, ◌⨾◌⊢*◌⦂◌ as TmsTy, ◌⊢ᵐ◌⦂◌ as BodiesTy, LabelsOf.no_labels, LabelsOf.one_label}
 use Rattle.laws.proofs.Lists.{Prefix, prefix_refl, prefix_append, prefix_get, prefix_trans}
 
 pub record Extends (Σ Σ' : StoreTyping) : Type 0 where
@@ -30,7 +30,7 @@ extends_label Σ t = record { cells = prefix_refl Σ.cells; labels = prefix_appe
 module _ (D : Policy) {Σ Σ' : StoreTyping} (x : Extends Σ Σ') where
   pub grow_labels : {a : Ty} {p : Dom} {ls : List ℕ} → LabelsOf D Σ a p ls → LabelsOf D Σ' a p ls
   grow_labels no_labels = no_labels
-  grow_labels (a_label_lem {l} g h r) = a_label_lem (prefix_get x.labels l g) h (grow_labels r)
+  grow_labels (one_label {l} g h r) = one_label (prefix_get x.labels l g) h (grow_labels r)
 
   mutual
     pub grow_val : {v : Val} {t : Ty} → ValTy D Σ v t → ValTy D Σ' v t
@@ -62,7 +62,7 @@ module _ (D : Policy) {Σ Σ' : StoreTyping} (x : Extends Σ Σ') where
     grow_tm (TmTy.is_lower o h) = TmTy.is_lower o (grow_tm h)
     grow_tm (TmTy.is_obj h) = TmTy.is_obj (grow_bodies h)
     grow_tm (TmTy.is_keep h k l) = TmTy.is_keep (grow_tm h) (grow_tm k) (grow_tm l)
-    grow_tm (TmTy.is_match_lem h p k l) = TmTy.is_match_lem (grow_tms h) p (grow_tm k) (grow_tm l)
+    grow_tm (TmTy.is_matching h p k l) = TmTy.is_matching (grow_tms h) p (grow_tm k) (grow_tm l)
 
     pub grow_tms : {Γ ts : List Ty} {c : Dom} {es : Tms} → TmsTy D Σ Γ c es ts → TmsTy D Σ' Γ c es ts
     grow_tms TmsTy.is_end = TmsTy.is_end

@@ -10,7 +10,7 @@ use Rattle.calculus.specs.Limits.{binding_limit, cell_limit, piece_limit}
 use Rattle.calculus.specs.Combinators.{cases}
 use Rattle.calculus.specs.Syntax.{Dom, Ty, Val, Tm, Tms, Pattern, Op0, Op1, Op2, as_value, val, var, lam, op0, op1, op2, seq, ite, split, pcd, adv, lower, obj, keep, match, end, more}
 use Rattle.calculus.specs.State.{State, Given, Counts, Uses, add_uses, with_uses}
-use Rattle.calculus.specs.Answer.{Answer, reduct, at_capacity, halt, wrong, carry, within, if_capacity_lem, with, spend}
+use Rattle.calculus.specs.Answer.{Answer, reduct, at_capacity, halt, wrong, carry, within, by_capacity, with, spend}
 use Rattle.calculus.specs.Place.{Place, top, at, deeper, keeping}
 use Rattle.calculus.specs.Reduce.{reduce0, reduce1, reduce2, piece, bind, reduce_match}
 use Rattle.calculus.specs.Step.{step, step_first}
@@ -30,8 +30,8 @@ module _ (Q : State → Type 0) where
     makes_halt : Makes halt
     makes_wrong : Makes wrong
 
-  pub makes_capacity : (b : Bool) (o : Outcome) {r : Answer State Tm} → (T b → Makes r) → Makes (if_capacity_lem b o r)
-  unfolding if_capacity_lem
+  pub makes_capacity : (b : Bool) (o : Outcome) {r : Answer State Tm} → (T b → Makes r) → Makes (by_capacity b o r)
+  unfolding by_capacity
   makes_capacity true o f = f tt
   makes_capacity false o f = makes_full
 

@@ -5,7 +5,7 @@ use mathlib.Core.List.{List, ◌∷◌, reverse_aux}
 use mathlib.Core.Option.{some}
 use lib.ListN.{get_elem?}
 use Rattle.calculus.specs.Syntax.{Dom, Ty, Sigs, Tm, val, var, lam, op0, op1, op2, seq, ite, split, pcd, adv, lower, obj, keep, match}
-use Rattle.calculus.specs.Typing.{Policy, StoreTyping, PatternTy, ◌⊢◌⦂◌ as Rule0, ◌⊢◌⦂◌⇒◌ as Rule1, ◌⊢◌⦂◌⇒◌⇒◌ as Rule2, LabelTys, ⊢◌⦂◌ as ValTy, ◌⨾◌⊢◌⦂◌ as TmTy, ◌⨾◌⊢*◌⦂◌ as TmsTy, ◌⊢ᵐ◌⦂◌ as BodiesTy, is_val, is_var, is_lam, is_op0, is_op1, is_op2, is_seq, is_ite, is_split, is_pcd, is_adv, is_lower, is_obj, is_keep, is_match_lem}
+use Rattle.calculus.specs.Typing.{Policy, StoreTyping, PatternTy, ◌⊢◌⦂◌ as Rule0, ◌⊢◌⦂◌⇒◌ as Rule1, ◌⊢◌⦂◌⇒◌⇒◌ as Rule2, LabelTys, ⊢◌⦂◌ as ValTy, ◌⨾◌⊢◌⦂◌ as TmTy, ◌⨾◌⊢*◌⦂◌ as TmsTy, ◌⊢ᵐ◌⦂◌ as BodiesTy, is_val, is_var, is_lam, is_op0, is_op1, is_op2, is_seq, is_ite, is_split, is_pcd, is_adv, is_lower, is_obj, is_keep, is_matching}
 
 module _ (D : Policy) (Σ : StoreTyping) (Γ : List Ty) (c : Dom) where
   -- e has type u where the term stands.
@@ -46,7 +46,7 @@ module _ {D : Policy} {Σ : StoreTyping} {Γ : List Ty} {c : Dom} where
   premises (is_lower h d) = (refl, h, d)
   premises (is_obj {ms = ms} d) = (ms, refl, refl, d)
   premises (is_keep {a = a} d e f) = (a, d, e, f)
-  premises (is_match_lem {ts = ts} {us = us} ds o e f) = (ts, us, ds, o, e, f)
+  premises (is_matching {ts = ts} {us = us} ds o e f) = (ts, us, ds, o, e, f)
 
   -- And forwards. Where u is only equal to the type that the rule gives, it is carried over here, once.
   pub concluded : (e : Tm) {u : Ty} → Premises D Σ Γ c e u → TmTy D Σ Γ c e u
@@ -64,4 +64,4 @@ module _ {D : Policy} {Σ : StoreTyping} {Γ : List Ty} {c : Dom} where
   concluded (lower p e) h = subst (TmTy D Σ Γ c (lower p e)) (sym h.0) (is_lower h.1 h.2)
   concluded (obj t bs) h = subst (TmTy D Σ Γ c (obj t bs)) h.1 (subst (λ x. TmTy D Σ Γ c (obj x bs) x) (sym h.2) (is_obj h.3))
   concluded (keep e f g) h = is_keep h.1 h.2 h.3
-  concluded (match p es f g) h = is_match_lem h.2 h.3 h.4 h.5
+  concluded (match p es f g) h = is_matching h.2 h.3 h.4 h.5

@@ -45,7 +45,7 @@ module _ (D : Policy) {Σ : StoreTyping} where
       → (ms : List ℕ) × (collect vs ls ≡ some ms) × LabelsOf D Σ a p ms
   unfolding cases
   collect_labels {ls} all2_nil LabelTys.no_types r = (ls, refl, r)
-  collect_labels (all2_cons (ValTy.v_label g) hs) (LabelTys.a_type o os) r = collect_labels hs os (LabelsOf.a_label_lem g o r)
+  collect_labels (all2_cons (ValTy.v_label g) hs) (LabelTys.a_type o os) r = collect_labels hs os (LabelsOf.one_label g o r)
   collect_labels {a = a} {p = p} {ls = ls} (all2_cons {xs = xs} {ys = ys} ValTy.v_unit hs) nt r = elim nt [ ]
   collect_labels {a = a} {p = p} {ls = ls} (all2_cons {xs = xs} {ys = ys} (ValTy.v_truth {b = b}) hs) nt r = elim nt [ ]
   collect_labels {a = a} {p = p} {ls = ls} (all2_cons {xs = xs} {ys = ys} (ValTy.v_number {n = n}) hs) nt r = elim nt [ ]

@@ -8,7 +8,7 @@ use Rattle.calculus.specs.declared.Outcome.{Outcome}
 use Rattle.calculus.specs.Combinators.{cases}
 use Rattle.calculus.specs.Syntax.{Dom, Ty, Tm}
 use Rattle.calculus.specs.State.{State, Uses, add_uses, with_uses}
-use Rattle.calculus.specs.Answer.{Answer, reduct, at_capacity, halt, carry, within, if_capacity_lem, spend}
+use Rattle.calculus.specs.Answer.{Answer, reduct, at_capacity, halt, carry, within, by_capacity, spend}
 use Rattle.calculus.specs.Report.{outcome_number}
 use Rattle.calculus.specs.Typing.{StoreTyping, Policy, ◌⨾◌⊢◌⦂◌ as TmTy}
 use Rattle.calculus_safety.proofs.Extend.{Extends, extends_refl}
@@ -35,8 +35,8 @@ module _ (D : Policy) where
     pub safe_here : (s : State) {e : Tm} → StateFits D Σ s → TmTy D Σ [] c e t → Safe Σ c t (reduct s e)
     safe_here s f h = safe_go (extends_refl Σ) f h
 
-    pub safe_capacity : (b : Bool) (o : Outcome) {r : Answer State Tm} → IsCapacity o → Safe Σ c t r → Safe Σ c t (if_capacity_lem b o r)
-    unfolding if_capacity_lem
+    pub safe_capacity : (b : Bool) (o : Outcome) {r : Answer State Tm} → IsCapacity o → Safe Σ c t r → Safe Σ c t (by_capacity b o r)
+    unfolding by_capacity
     safe_capacity true o m h = h
     safe_capacity false o m h = safe_full m
 

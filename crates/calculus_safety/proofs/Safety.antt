@@ -88,9 +88,9 @@ module _ (D : Policy) (Σ : StoreTyping) where
           (λ e. safe_within D _ (λ Σ' x e' l'. TmTy.is_keep (TmTy.is_val (grow_val D x hv)) (TmTy.is_val (grow_val D x hw)) l') (safe l nil e (keeping v w (deeper P)) (keeping_fits D (deeper P) hv hw q) s f)))
           (λ e. safe_within D _ (λ Σ' x e' k'. TmTy.is_keep (TmTy.is_val (grow_val D x hv)) k' (grow_tm D x (close nil l))) (safe k nil e (deeper P) q s f)))
           (λ e. safe_within D _ (λ Σ' x e' h'. TmTy.is_keep h' (grow_tm D x (close nil k)) (grow_tm D x (close nil l))) (safe h nil e (deeper P) q s f))
-      safe (TmTy.is_match_lem {c} h p k l) nil =
+      safe (TmTy.is_matching {c} h p k l) nil =
           λ n P q s f. safes h nil _ P q s f [] [] all2_nil _
-          (λ Σ' x fs hs. TmTy.is_match_lem hs p (grow_tm D x (rw nil at k)) (grow_tm D x (close nil l)))
+          (λ Σ' x fs hs. TmTy.is_matching hs p (grow_tm D x (rw nil at k)) (grow_tm D x (close nil l)))
           _
           (λ ws xs hs e. safe_match D s f (at c P) ws (rw (← e) at (all2_reverse hs)) p (rw nil at k) (close nil l))
 

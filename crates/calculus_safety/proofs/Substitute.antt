@@ -75,7 +75,7 @@ module _ (D : Policy) {Σ : StoreTyping} where
     subst_tm hv (TmTy.is_lower o h) w = TmTy.is_lower o (subst_tm hv h w)
     subst_tm hv (TmTy.is_obj h) w = TmTy.is_obj (subst_bodies hv h (there w))
     subst_tm hv (TmTy.is_keep h k l) w = TmTy.is_keep (subst_tm hv h w) (subst_tm hv k w) (subst_tm hv l w)
-    subst_tm hv (TmTy.is_match_lem h p k l) w = TmTy.is_match_lem (subst_tms hv h w) p (subst_tm hv k (without_under p w)) (subst_tm hv l w)
+    subst_tm hv (TmTy.is_matching h p k l) w = TmTy.is_matching (subst_tms hv h w) p (subst_tm hv k (without_under p w)) (subst_tm hv l w)
 
     pub subst_tms : {a : Ty} {k : ℕ} {Γ Δ ts : List Ty} {c : Dom} {v : Val} {es : Tms} → ValTy D Σ v a → TmsTy D Σ Γ c es ts → Without a k Γ Δ → TmsTy D Σ Δ c (substs k v es) ts
     subst_tms hv TmsTy.is_end w = TmsTy.is_end

@@ -26,7 +26,7 @@ module _ (D : Policy) (Σ : StoreTyping) where
   as_value_lem (TmTy.is_lower o h) = nothing
   as_value_lem (TmTy.is_obj h) = found (ValTy.v_object h)
   as_value_lem (TmTy.is_keep h k l) = nothing
-  as_value_lem (TmTy.is_match_lem h p k l) = nothing
+  as_value_lem (TmTy.is_matching h p k l) = nothing
 
 found_some : {A : Type 0} {R : A → Type 0} {o : Option A} → Found R o → (x : A) → o ≡ some x → R x
 found_some (found {x = y} h) x e = rw (some-injective y x e) at h

@@ -4,7 +4,7 @@ use mathlib.Core.Bool.{Bool, true}
 use mathlib.Core.List.{List}
 use Rattle.calculus.specs.Combinators.{choose}
 use Rattle.calculus.specs.Syntax.{Dom, Ty, Sigs, Val, Tm, Tms, Op0, val, lam, op1, op2, seq, split, pcd, adv, lower, obj, more}
-use Rattle.calculus.specs.Typing.{StoreTyping, Policy, ◌⊢◌⦂◌ as Rule0, ⊢◌⦂◌ as ValTy, ◌⨾◌⊢◌⦂◌ as TmTy, ◌⨾◌⊢*◌⦂◌ as TmsTy, ◌⊢ᵐ◌⦂◌ as BodiesTy, t_new_label, t_abort, t_takedown, t_stack, is_val, is_var, is_lam, is_op0, is_op1, is_op2, is_seq, is_ite, is_split, is_pcd, is_adv, is_lower, is_obj, is_keep, is_match_lem, is_end, is_more, no_body, a_body}
+use Rattle.calculus.specs.Typing.{StoreTyping, Policy, ◌⊢◌⦂◌ as Rule0, ⊢◌⦂◌ as ValTy, ◌⨾◌⊢◌⦂◌ as TmTy, ◌⨾◌⊢*◌⦂◌ as TmsTy, ◌⊢ᵐ◌⦂◌ as BodiesTy, t_new_label, t_abort, t_takedown, t_stack, is_val, is_var, is_lam, is_op0, is_op1, is_op2, is_seq, is_ite, is_split, is_pcd, is_adv, is_lower, is_obj, is_keep, is_matching, is_end, is_more, no_body, a_body}
 use Rattle.calculus_noninterference.specs.NoLowTakedown.{NoLowTakedownOp, NoLowTakedown, NoLowTakedowns, NoLowTakedownBodies, NoLowTakedownVal}
 use Rattle.calculus_stripped.specs.Strip.{strip, strips, strip_val}
 
@@ -51,7 +51,7 @@ module _ {D : Policy} (f g : Dom → Bool) (same : (p q : Dom) → D.leq p q ≡
       strip_same (is_lower {c} {p} l h) = ap (lower p) (body_same f g (same p c l).0 (strip_same h))
       strip_same (is_obj {ms} h) = ap (obj (Ty.object ms)) (strip_bodies h)
       strip_same (is_keep h k l) = let x = strip_same h in let y = strip_same k in let z = strip_same l in cc
-      strip_same (is_match_lem h p k l) = let x = strips_same h in let y = strip_same k in let z = strip_same l in cc
+      strip_same (is_matching h p k l) = let x = strips_same h in let y = strip_same k in let z = strip_same l in cc
 
       strips_same : {Γ ts : List Ty} {c : Dom} {es : Tms} → TmsTy D Σ Γ c es ts → strips f es ≡ strips g es
       strips_same is_end = refl
@@ -93,7 +93,7 @@ module _ {D : Policy} (f g : Dom → Bool) (same : (p q : Dom) → D.leq p q ≡
       no_low_takedown_same (is_lower l h) x = no_low_takedown_same h x
       no_low_takedown_same (is_obj h) x = no_low_takedown_bodies h x
       no_low_takedown_same (is_keep h k l) x = (no_low_takedown_same h x.0, no_low_takedown_same k x.1, no_low_takedown_same l x.2)
-      no_low_takedown_same (is_match_lem h p k l) x = (no_low_takedowns_same h x.0, no_low_takedown_same k x.1, no_low_takedown_same l x.2)
+      no_low_takedown_same (is_matching h p k l) x = (no_low_takedowns_same h x.0, no_low_takedown_same k x.1, no_low_takedown_same l x.2)
 
       no_low_takedowns_same : {Γ ts : List Ty} {c : Dom} {es : Tms} → TmsTy D Σ Γ c es ts → NoLowTakedowns f c es → NoLowTakedowns g c es
       no_low_takedowns_same is_end x = tt

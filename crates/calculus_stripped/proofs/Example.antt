@@ -7,7 +7,7 @@ use Rattle.calculus.specs.declared.Outcome.{Outcome}
 use Rattle.calculus.specs.Combinators.{cases}
 use Rattle.calculus.specs.Syntax.{Ty, Val, Tm, val, lam, op0, op1, seq, pcd, adv, lower, end, takedown, abort, print, install}
 use Rattle.calculus.specs.State.{Given, Print, picked, log_of, fresh}
-use Rattle.calculus.specs.Answer.{carry, if_capacity_lem, with, spend}
+use Rattle.calculus.specs.Answer.{carry, by_capacity, with, spend}
 use Rattle.calculus.specs.Step.{step}
 use Rattle.calculus.specs.Run.{End, done, stopped, after, run}
 use Rattle.calculus.specs.Typing.{no_store, ◌⨾◌⊢◌⦂◌ as TmTy, t_takedown, t_print, t_install, no_types, v_unit, v_number, is_val, is_op0, is_op1, is_seq, is_pcd, is_adv, is_lower, is_end}
@@ -60,11 +60,11 @@ abbrev five : Print
 five = record { dom = 0; shown = 5 }
 
 watched_facts : facts watched ≡ record { end = done Val.unit; steps = 4; log = record { dom = 1; shown = 8 } ∷ five ∷ []; prints = five ∷ [] }
-unfolding high_of picked run after cases step carry if_capacity_lem with
+unfolding high_of picked run after cases step carry by_capacity with
 watched_facts = refl
 
 stripped_facts : facts (strip hi watched) ≡ record { end = done Val.unit; steps = 3; log = five ∷ []; prints = five ∷ [] }
-unfolding strip high_of picked run after cases step carry if_capacity_lem with
+unfolding strip high_of picked run after cases step carry by_capacity with
 stripped_facts = refl
 
 -- 33 low watches, which a low body takes down, and 33 more: accepted, but not calm. The full run is done; the stripped one takes none down, and finds no room for the 65th.
@@ -97,9 +97,9 @@ abbrev G : Given
 G = record { frame = []; log_length = 0 }
 
 hung_done : (run 1000 G 0 fresh (hang 33 hung)).end ≡ done Val.unit
-unfolding hung hang run after cases step carry if_capacity_lem with spend
+unfolding hung hang run after cases step carry by_capacity with spend
 hung_done = refl
 
 hung_stripped : (run 1000 G 0 fresh (strip hi (hang 33 hung))).end ≡ stopped Outcome.Advice
-unfolding hung hang strip run after cases step carry if_capacity_lem with spend
+unfolding hung hang strip run after cases step carry by_capacity with spend
 hung_stripped = refl

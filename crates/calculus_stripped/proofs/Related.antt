@@ -4,7 +4,7 @@ use mathlib.Core.Bool.{Bool, true, false}
 use mathlib.Core.List.{List}
 use Rattle.calculus.specs.Combinators.{choose}
 use Rattle.calculus.specs.Syntax.{Dom, Ty, Sigs, Val, Tm, Tms, val}
-use Rattle.calculus.specs.Typing.{Policy, no_store, ⊢◌⦂◌ as ValTy, ◌⨾◌⊢◌⦂◌ as TmTy, ◌⨾◌⊢*◌⦂◌ as TmsTy, ◌⊢ᵐ◌⦂◌ as BodiesTy, is_val, is_var, is_lam, is_op0, is_op1, is_op2, is_seq, is_ite, is_split, is_pcd, is_adv, is_lower, is_obj, is_keep, is_match_lem, is_end, is_more, no_body, a_body}
+use Rattle.calculus.specs.Typing.{Policy, no_store, ⊢◌⦂◌ as ValTy, ◌⨾◌⊢◌⦂◌ as TmTy, ◌⨾◌⊢*◌⦂◌ as TmsTy, ◌⊢ᵐ◌⦂◌ as BodiesTy, is_val, is_var, is_lam, is_op0, is_op1, is_op2, is_seq, is_ite, is_split, is_pcd, is_adv, is_lower, is_obj, is_keep, is_matching, is_end, is_more, no_body, a_body}
 use Rattle.laws.proofs.Lists.{none_some}
 use Rattle.calculus_noninterference.proofs.Related.{World, RelV, RelT, RelL, RelTs, RelBs, b_rel, l_high, l_low, v_unit, v_truth, v_number, v_pair, v_fun, v_pointcut, v_advice, v_object, v_bottom, r_val, r_var, r_lam, r_op0, r_op1, r_op2, r_seq, r_ite, r_split, r_pcd, r_adv, r_lower, r_obj, r_keep, r_match, r_end, r_more, r_no_body, r_body}
 use Rattle.calculus_noninterference.proofs.Blanked.{labels_rel}
@@ -48,7 +48,7 @@ module _ (hi : Dom → Bool) {W : World} where
       strip_rel (is_lower {p} l x) = r_lower (low_rel (hi p) refl (strip_rel x))
       strip_rel (is_obj x) = r_obj (bodies_rel x)
       strip_rel (is_keep x y z) = r_keep (strip_rel x) (strip_rel y) (strip_rel z)
-      strip_rel (is_match_lem x p y z) = r_match (strips_rel x) (strip_rel y) (strip_rel z)
+      strip_rel (is_matching x p y z) = r_match (strips_rel x) (strip_rel y) (strip_rel z)
 
       strips_rel : {Γ ts : List Ty} {c : Dom} {es : Tms} → TmsTy D no_store Γ c es ts → RelTs hi W es (strips hi es)
       strips_rel is_end = r_end

@@ -31,7 +31,7 @@ use Rattle.calculus_stripped.proofs.Related.{strip_rel}
 -- What the stripped run E' has of the full run E; t is the full program's type.
 pub record Shares (hi : Dom → Bool) (t : Ty) (E E' : Ended) : Type 0 where
   pub value : Val
-  pub is_done_lem : E'.end ≡ done value
+  pub was_done : E'.end ≡ done value
   pub steps : E'.steps ≤ E.steps
   pub result : (v : Val) → E.end ≡ done v → is_plain t ≡ true → v ≡ value
   pub cells : high_cells hi E ≡ high_cells hi E'
@@ -51,7 +51,7 @@ module _ {D : Policy} {hi : Dom → Bool} (H : Highs D hi) (trans : Transitive D
   both_done : {v v' : Val} (k k' : ℕ) → k' ≤ k → {s s' : State} {e e' : Tm} (P : Both s s' e e') → RelV hi P.world v v' → ValTy D P.left.Σ v t → Shares hi t (ended (done v) k s) (ended (done v') k' s')
   both_done {v} {v'} k k' l P r h =
       let B = both_end H trans true t t' G G' frame (λ z. log) k k' P r h in
-      record { value = v'; is_done_lem = refl; steps = l; result = λ w p q. B.result w v' p refl q; cells = B.cells v v' refl refl; events = events_same hi P.states.trace; mainline = P.states.used.mainline; others = P.states.used.others P.mode }
+      record { value = v'; was_done = refl; steps = l; result = λ w p q. B.result w v' p refl q; cells = B.cells v v' refl refl; events = events_same hi P.states.trace; mainline = P.states.used.mainline; others = P.states.used.others P.mode }
 
   abbrev Claim : ℕ → Type 0
   Claim n = (n' k k' : ℕ) → n ≤ n' → k' ≤ k → (s s' : State) (e e' : Tm) → Both s s' e e' → (v : Val) → (run n G k s e).end ≡ done v → Shares hi t (run n G k s e) (run n' G' k' s' e')
@@ -91,4 +91,4 @@ stripped_run D hi trans H e A C G n v h =
     let P = start H trans true A.type A.type G G refl (λ z. omega arith) e (strip hi e) A.typed (strip_typed hi A.typed) (strip_rel hi A.typed) (λ z. C) in
     let S : Shares hi A.type (run n G 0 fresh e) (run n G 0 fresh (strip hi e)) = shares H trans A.type A.type G G refl (omega arith) n n 0 0 (omega arith) (omega arith) fresh fresh e (strip hi e) P v h in
     let w : v ≡ S.value = S.result v h A.plain in
-    record { result = rw w S.is_done_lem; cells = S.cells; prints = same_prints hi _ _ S.events; steps = S.steps; mainline = S.mainline; others = S.others }
+    record { result = rw w S.was_done; cells = S.cells; prints = same_prints hi _ _ S.events; steps = S.steps; mainline = S.mainline; others = S.others }

@@ -3,7 +3,7 @@ use mathlib.Core.Bool.{Bool, true, false}
 use mathlib.Core.List.{List}
 use Rattle.calculus.specs.Combinators.{choose}
 use Rattle.calculus.specs.Syntax.{Dom, Ty, Sigs, Val, Tm, Tms, val}
-use Rattle.calculus.specs.Typing.{StoreTyping, Policy, ⊢◌⦂◌ as ValTy, ◌⨾◌⊢◌⦂◌ as TmTy, ◌⨾◌⊢*◌⦂◌ as TmsTy, ◌⊢ᵐ◌⦂◌ as BodiesTy, is_val, is_var, is_lam, is_op0, is_op1, is_op2, is_seq, is_ite, is_split, is_pcd, is_adv, is_lower, is_obj, is_keep, is_match_lem, is_end, is_more, no_body, a_body}
+use Rattle.calculus.specs.Typing.{StoreTyping, Policy, ⊢◌⦂◌ as ValTy, ◌⨾◌⊢◌⦂◌ as TmTy, ◌⨾◌⊢*◌⦂◌ as TmsTy, ◌⊢ᵐ◌⦂◌ as BodiesTy, is_val, is_var, is_lam, is_op0, is_op1, is_op2, is_seq, is_ite, is_split, is_pcd, is_adv, is_lower, is_obj, is_keep, is_matching, is_end, is_more, no_body, a_body}
 use Rattle.calculus_stripped.specs.Strip.{strip, strips, strip_val}
 
 module _ {D : Policy} {Σ : StoreTyping} (high : Dom → Bool) where
@@ -43,7 +43,7 @@ module _ {D : Policy} {Σ : StoreTyping} (high : Dom → Bool) where
     strip_typed (is_lower {p} o h) = is_lower o (unit_typed (high p) (strip_typed h))
     strip_typed (is_obj h) = is_obj (strip_bodies h)
     strip_typed (is_keep h k l) = is_keep (strip_typed h) (strip_typed k) (strip_typed l)
-    strip_typed (is_match_lem h p k l) = is_match_lem (strips_typed h) p (strip_typed k) (strip_typed l)
+    strip_typed (is_matching h p k l) = is_matching (strips_typed h) p (strip_typed k) (strip_typed l)
 
     strips_typed : {Γ ts : List Ty} {c : Dom} {es : Tms} → TmsTy D Σ Γ c es ts → TmsTy D Σ Γ c (strips high es) ts
     strips_typed is_end = is_end

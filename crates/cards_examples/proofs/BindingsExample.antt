@@ -6,7 +6,7 @@ use Rattle.calculus.specs.declared.Outcome.{Outcome}
 use Rattle.calculus.specs.Combinators.{cases}
 use Rattle.calculus.specs.State.{picked}
 use Rattle.calculus.specs.Subst.{subst}
-use Rattle.calculus.specs.Answer.{carry, if_capacity_lem, with, spend}
+use Rattle.calculus.specs.Answer.{carry, by_capacity, with, spend}
 use Rattle.calculus.specs.Step.{step}
 use Rattle.calculus.specs.Run.{after, run}
 use Rattle.calculus.specs.Report.{leaves, outcome_number}
@@ -65,7 +65,7 @@ outcome_4 : (read_report (report_written (endless_call idle_image))).outcome ≡
 unfolding endless_call called
     verdict in_turn require_from walk layout records_of tests find words all_within all all_of any_below first_fault shape at_fault leq order bits count uses depths depths_from typing check check_all type_of type_from type_out
     little rec image one_domain two_domains unit number literal endless idle_image
-    program tree to_tm assemble run after cases step subst carry if_capacity_lem with spend picked leaves
+    program tree to_tm assemble run after cases step subst carry by_capacity with spend picked leaves
     over cleared bytes_of records_bytes number_at number_of
 outcome_4 = refl
 

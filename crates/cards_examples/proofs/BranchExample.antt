@@ -6,7 +6,7 @@ use mathlib.Core.List.{List, [], ◌∷◌, ◌++◌}
 use Rattle.calculus.specs.Combinators.{cases}
 use Rattle.calculus.specs.State.{Branch, picked, branches_of}
 use Rattle.calculus.specs.Subst.{subst}
-use Rattle.calculus.specs.Answer.{carry, if_capacity_lem, with, spend}
+use Rattle.calculus.specs.Answer.{carry, by_capacity, with, spend}
 use Rattle.calculus.specs.Step.{step}
 use Rattle.calculus.specs.Run.{Ended, after, run}
 use Rattle.calculus_noninterference.specs.Observe.{high_of, high_branches, CutEqual}
@@ -74,7 +74,7 @@ pub branches_taken : (high_branches mainline_only (match_run high_match) ≡ fir
     × (branches_of (match_run high_match).state.trace ≡ first_at 0 ∷ []) × (branches_of (match_run both_match).state.trace ≡ first_at 1 ∷ first_at 0 ∷ [])
 unfolding match_run high_of walk layout records_of tests find words all_within all all_of first_fault type_of type_from type_out
     little rec image one_domain two_domains unit number literal matched_under high_match both_match
-    program tree to_tm assemble run after cases step subst carry if_capacity_lem with spend picked
+    program tree to_tm assemble run after cases step subst carry by_capacity with spend picked
 branches_taken = (refl, refl, refl, refl)
 
 pub branches_same : CutEqual (high_branches mainline_only (match_run high_match)) (high_branches mainline_only (match_run both_match))

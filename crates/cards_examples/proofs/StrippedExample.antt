@@ -9,7 +9,7 @@ use Rattle.calculus.specs.declared.Outcome.{Outcome}
 use Rattle.calculus.specs.Combinators.{cases}
 use Rattle.calculus.specs.State.{picked}
 use Rattle.calculus.specs.Subst.{subst}
-use Rattle.calculus.specs.Answer.{carry, if_capacity_lem, with, spend}
+use Rattle.calculus.specs.Answer.{carry, by_capacity, with, spend}
 use Rattle.calculus.specs.Step.{step}
 use Rattle.calculus.specs.Run.{after, run}
 use Rattle.calculus.specs.Report.{leaves}
@@ -81,7 +81,7 @@ both_run = (refl, refl)
 eight_done : SaysDone (report_written (call_of eight_image 10))
 unfolding called verdict in_turn require_from walk layout records_of tests find words all_within all all_of any_below first_fault shape at_fault leq order bits count uses depths depths_from typing check check_all type_of type_from type_out
     little rec image one_domain two_domains unit number literal low_then_five eight_image
-    program tree to_tm assemble run after cases step subst carry if_capacity_lem with spend picked leaves
+    program tree to_tm assemble run after cases step subst carry by_capacity with spend picked leaves
     over cleared bytes_of number_of number_at records_bytes
 eight_done = refl
 
@@ -132,6 +132,6 @@ hung_takes_down = refl
 pub hung_endings : ((call_of hung_image 1000).answer.ending ≡ Ending.Ended Outcome.Done) × ((call_of unhung_image 1000).answer.ending ≡ Ending.Ended Outcome.Advice)
 unfolding called verdict in_turn require_from walk layout records_of tests find words all_within all all_of any_below first_fault shape at_fault leq order bits count uses depths depths_from typing check check_all type_of type_from type_out
     little rec image one_domain two_domains unit number literal hung hung_image unhung_image
-    program tree to_tm assemble run after cases step subst carry if_capacity_lem with spend picked leaves
+    program tree to_tm assemble run after cases step subst carry by_capacity with spend picked leaves
     over cleared bytes_of records_bytes
 hung_endings = (refl, refl)

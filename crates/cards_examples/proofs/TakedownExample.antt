@@ -5,7 +5,7 @@ use mathlib.Core.List.{List, [], ◌∷◌, ◌++◌}
 use Rattle.calculus.specs.Combinators.{cases}
 use Rattle.calculus.specs.State.{picked}
 use Rattle.calculus.specs.Subst.{subst}
-use Rattle.calculus.specs.Answer.{carry, if_capacity_lem, with, spend}
+use Rattle.calculus.specs.Answer.{carry, by_capacity, with, spend}
 use Rattle.calculus.specs.Step.{step}
 use Rattle.calculus.specs.Run.{after, run}
 use Rattle.calculus.specs.Report.{leaves}
@@ -30,7 +30,7 @@ use Rattle.call_spec.specs.Calls.{Left, called}
 use Rattle.listing.specs.Conformance.{zeros}
 use Rattle.demands.specs.Calls.{Runs, log_written}
 use Rattle.demands.specs.Compare.{HighSet, SameLeft}
-use Rattle.demands.specs.LowTakedowns.{takes_down, low_takes_down, WithTakedown, same, inside, no_child, alike, low_body_lem}
+use Rattle.demands.specs.LowTakedowns.{takes_down, low_takes_down, WithTakedown, same, inside, no_child, alike, a_low_body}
 use Rattle.demands_examples.proofs.Mainline.{mainline_only, mainline_high}
 use Rattle.demands.proofs.LowTakedowns.{card7}
 
@@ -61,7 +61,7 @@ unfolding program tree records_of layout walk tests find words all_within all al
 with_takedown = record {
   programs =
       inside
-      (alike (inside (alike (inside (alike (same _) (alike (inside (alike (inside (low_body_lem refl no_child)) (alike (same _) no_child))) no_child))) no_child)) (alike (same _) no_child));
+      (alike (inside (alike (inside (alike (same _) (alike (inside (alike (inside (a_low_body refl no_child)) (alike (same _) no_child))) no_child))) no_child)) (alike (same _) no_child));
   takedown = refl;
 }
 
@@ -82,7 +82,7 @@ both_run = (refl, refl)
 pub takedown_logs : (log_written (watch_call left_image) ≡ 10 ∷ 0 ∷ 64 ∷ 0 ∷ 1 ∷ 0 ∷ 5 ∷ 0 ∷ 0 ∷ 0 ∷ 10 ∷ 0 ∷ 64 ∷ 0 ∷ 0 ∷ 0 ∷ 6 ∷ 0 ∷ 0 ∷ 0 ∷ []) × (log_written (watch_call cleared_image) ≡ 10 ∷ 0 ∷ 64 ∷ 0 ∷ 0 ∷ 0 ∷ 6 ∷ 0 ∷ 0 ∷ 0 ∷ [])
 unfolding watch_call called verdict in_turn require_from walk layout records_of tests find words all_within all all_of any_below first_fault shape at_fault leq order bits count uses depths depths_from typing check check_all type_of type_from type_out
     little rec image one_domain two_domains unit number literal watched_once cleared_image left_image
-    program tree to_tm assemble run after cases step subst carry if_capacity_lem with spend picked leaves
+    program tree to_tm assemble run after cases step subst carry by_capacity with spend picked leaves
     over cleared bytes_of records_bytes
 takedown_logs = (refl, refl)
 

@@ -9,7 +9,7 @@ use lib.Dec.{eqb}
 use Rattle.calculus.specs.Syntax.{Dom}
 use Rattle.laws.specs.Tests.{all, all_of}
 use Rattle.image.specs.Bytes.{le16, words}
-use Rattle.image.specs.Kinds.{Body, here, method_body_lem, a_term, TypeKind, TermKind, term_row, again}
+use Rattle.image.specs.Kinds.{Body, here, object_body, a_term, TypeKind, TermKind, term_row, again}
 use Rattle.image.specs.Records.{times, as_child, given}
 use Rattle.image.specs.Layout.{records_of}
 use Rattle.image.specs.Types.{type_no}
@@ -133,7 +133,7 @@ bodies_are fs =
     let c : ℕ = times (term_row TermKind.obj) (4 + length fs) in
     let e = giving_fields 0 c (term_row TermKind.obj) in
     let n : c ≡ count_in fs TermKind.obj = omega arith in
-    side_by_side_lem fs 2 c method_body_lem ∙ ap (words fs 2) n
+    side_by_side_lem fs 2 c object_body ∙ ap (words fs 2) n
 
 pub types_length : (b fs : List ℕ) (k : TermKind) → side_by_side k ≡ true → length (types_in b fs k) ≡ count_in fs k
 types_length b fs k side = length-map (children_in fs k) (λ e. type_no (records_of b) e) ∙ children_counted fs k side

@@ -12,7 +12,7 @@ use Rattle.calculus.specs.Syntax.{no_method, Ty, Sigs, method}
 use Rattle.calculus.specs.Typing.{Has, has_first, has_later}
 use Rattle.calculus.specs.Plain.{dom_of, methods_of, method_dom}
 use Rattle.image.specs.Bytes.{words}
-use Rattle.image.specs.Kinds.{a_type, free, Body, here, function_body, advice_body, split_body, lower_body, method_body_lem, match_body, TypeKind, type_row_of, TermKind, term_row, bodies, body_of}
+use Rattle.image.specs.Kinds.{a_type, free, Body, here, function_body, advice_body, split_body, lower_body, object_body, match_body, TypeKind, type_row_of, TermKind, term_row, bodies, body_of}
 use Rattle.image.specs.Records.{fields_at}
 use Rattle.image.specs.Layout.{records_of}
 use Rattle.image.specs.Types.{type_place, type_fields, type_field, method_count, is_type, methods_out, type_out, type_of}
@@ -58,7 +58,7 @@ is_here function_body k w m r e = absurd (r.0.0.0.0.0.1 (e ∙ ap (λ j. (term_r
 is_here advice_body k w m r e = absurd (r.0.0.1 (e ∙ ap (λ j. (term_row j).number) w))
 is_here split_body k w m r e = absurd (r.0.0.0.1 (e ∙ ap (λ j. (term_row j).number) w))
 is_here lower_body k w m r e = absurd (r.0.0.0.0.1 (e ∙ ap (λ j. (term_row j).number) w))
-is_here method_body_lem k w m r e = absurd (r.0.1 (e ∙ ap (λ j. (term_row j).number) w))
+is_here object_body k w m r e = absurd (r.0.1 (e ∙ ap (λ j. (term_row j).number) w))
 is_here match_body k w m r e = absurd (r.1 (e ∙ ap (λ j. (term_row j).number) w))
 
 pub none_moves : (m : ℕ) → apart m with_body → (k : TermKind) → m ≡ (term_row k).number → moves_child k ≡ false
@@ -76,7 +76,7 @@ all_here (b ∷ bs) d zero h e = stays b (or_false_l (elsewhere b) (any_elsewher
     stays advice_body q = no_path q
     stays split_body q = no_path q
     stays lower_body q = no_path q
-    stays method_body_lem q = no_path q
+    stays object_body q = no_path q
     stays match_body q = no_path q
 all_here (b ∷ bs) d (suc i) h e = all_here bs d i (or_false_r (elsewhere b) (any_elsewhere bs) h) e
 

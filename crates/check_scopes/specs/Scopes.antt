@@ -1,7 +1,7 @@
 -- Where the children of a term stand (document 01, "Typing"): under which variables, in the places of a scope, and at which domain.
 use Rattle.std.specs.Prelude.{ℕ, ◌+◌, ◌≤◌, ◌<◌, ◌≡◌, Bool, true, false, ◌||◌, take, length}
 use mathlib.Core.List.{List, [], ◌∷◌, map, reverse_aux}
-use Rattle.image.specs.Kinds.{Body, here, function_body, advice_body, split_body, lower_body, method_body_lem, match_body, TermKind, term_row, lead_of, bodies}
+use Rattle.image.specs.Kinds.{Body, here, function_body, advice_body, split_body, lower_body, object_body, match_body, TermKind, term_row, lead_of, bodies}
 use Rattle.image.specs.Records.{Layout}
 use Rattle.image.specs.Types.{type_field}
 use Rattle.verdict.specs.Check.{type_nos}
@@ -16,7 +16,7 @@ elsewhere function_body = true
 elsewhere advice_body = true
 elsewhere split_body = true
 elsewhere lower_body = true
-elsewhere method_body_lem = true
+elsewhere object_body = true
 elsewhere match_body = true
 
 abbrev pub any_elsewhere : List Body → Bool

@@ -10,7 +10,7 @@ use Rattle.calculus.specs.Syntax.{Dom, Ty}
 use Rattle.calculus.specs.Plain.{dom_of, methods_of, method_dom}
 use Rattle.image.specs.Limits.{domain_limit}
 use Rattle.image.specs.Bytes.{words}
-use Rattle.image.specs.Kinds.{a_domain, free, Body, here, function_body, advice_body, split_body, lower_body, method_body_lem, match_body, TermKind, term_row, body_of}
+use Rattle.image.specs.Kinds.{a_domain, free, Body, here, function_body, advice_body, split_body, lower_body, object_body, match_body, TermKind, term_row, body_of}
 use Rattle.image.specs.Records.{Layout, fields_at, numbers_at, others_at}
 use Rattle.image.specs.Types.{term_place, term_kind, stated_type, others, children, root_of}
 use Rattle.image.specs.Program.{Program, node, blank, more, subtrees, tree, program, own_domain, is_low, low_body, blanked, blankeds}
@@ -41,7 +41,7 @@ module _ (hi hi' : Dom → Bool) (same : (d : Dom) → d < domain_limit → hi d
       go advice_body w = ap not (same (dom_of t) l)
       go split_body w = refl
       go lower_body w = ap not (same _ (own w))
-      go method_body_lem w = ap not (same _ (m i))
+      go object_body w = ap not (same _ (m i))
       go match_body w = refl
 
   -- Subtrees that are blanked to the same are so beside each other, whichever of them are low bodies.

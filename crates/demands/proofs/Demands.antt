@@ -84,13 +84,13 @@ module _ (b frame : List ℕ) (budget : ℕ) (log report work : List ℕ) where
         steps_read = λ l. ap (λ x. x.steps) back ∙ mod-eq_of_lt (omega arith);
         log_fits = log-short;
         log_past = drop_front (written_log E) log;
-        log_length_lem = length_front (written_log E) log log-short;
+        log_kept = length_front (written_log E) log log-short;
         report_fits = report_short;
         report_past = drop_front (written_report E) report;
-        report_length_lem = length_front (written_report E) report (omega arith);
+        report_kept = length_front (written_report E) report (omega arith);
         work_zero = cleared_zero work_length work;
         work_past = cleared_past work_length work;
-        work_length_lem = length_cleared work_length work ok.work_enough;
+        work_kept = length_cleared work_length work ok.work_enough;
       })
 
   -- The number and place that the answer gives are those of the verdict, by `refusal_number`.

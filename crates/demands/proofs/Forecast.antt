@@ -18,7 +18,7 @@ use Rattle.calculus_safety.proofs.Within.{program_within}
 use Rattle.calculus_needs.specs.Numbers.{Numbers}
 use Rattle.calculus_needs.specs.Class.{in_class}
 use Rattle.calculus_needs.specs.Needs.{need_of}
-use Rattle.calculus_needs.specs.Claims.{Under, DoneOrAborted, is_done_lem, is_aborted}
+use Rattle.calculus_needs.specs.Claims.{Under, DoneOrAborted, was_done, is_aborted}
 use Rattle.calculus_needs.proofs.Theorem.{never_exceeded, met_exactly, done_or_aborted}
 use Rattle.image.specs.Layout.{records_of}
 use Rattle.image.specs.Program.{to_tm}
@@ -40,7 +40,7 @@ use Rattle.demands.proofs.MainlineCapacity.{ended}
 
 -- The number of the outcome of a run that is done or aborted.
 settled_number : {x : End} → DoneOrAborted x → (o : Outcome) → outcome_of x ≡ some o → (outcome_number o ≡ outcome_number Outcome.Done) ⊎ (outcome_number o ≡ outcome_number Outcome.Aborted)
-settled_number is_done_lem o e = inl (ap outcome_number (sym (some-injective Outcome.Done o e)))
+settled_number was_done o e = inl (ap outcome_number (sym (some-injective Outcome.Done o e)))
 settled_number is_aborted o e = inr (ap outcome_number (sym (some-injective Outcome.Aborted o e)))
 
 module _ (b frame : List ℕ) (budget : ℕ) (log report work : List ℕ) (class : T (in_class true (to_tm (program_of b)))) (h : Runs b report work) where

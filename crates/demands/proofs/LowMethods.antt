@@ -6,7 +6,7 @@ use Rattle.calculus.specs.Syntax.{Dom}
 use Rattle.image.specs.Kinds.{TermKind}
 use Rattle.image.specs.Program.{Program, node, blank, Programs, more, low_body, blanked, blankeds}
 use Rattle.laws.proofs.Booleans.{no_path}
-use Rattle.demands.specs.LowMethods.{SameButMethods, same, inside, object, SameChildren, no_child, alike, low_body_lem, Card3}
+use Rattle.demands.specs.LowMethods.{SameButMethods, same, inside, object, SameChildren, no_child, alike, a_low_body, Card3}
 use Rattle.demands.proofs.Demands.{demand3}
 
 module _ (high : Dom → Bool) where
@@ -37,7 +37,7 @@ module _ (high : Dom → Bool) where
     children_blanked may low h no_child = refl
     children_blanked may low h (alike {e = e} {f = f} {es = es} {fs = fs} s r) =
         like_blank low e f es fs (methods_blanked s) (children_blanked (λ i. may (suc i)) (λ i. low (suc i)) (λ i. h (suc i)) r)
-    children_blanked may low h (low_body_lem {e = e} {f = f} {es = es} {fs = fs} l r) =
+    children_blanked may low h (a_low_body {e = e} {f = f} {es = es} {fs = fs} l r) =
         low_blank low e f es fs (h 0 l) (children_blanked (λ i. may (suc i)) (λ i. low (suc i)) (λ i. h (suc i)) r)
 
 pub card3 : Card3

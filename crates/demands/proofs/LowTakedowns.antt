@@ -4,7 +4,7 @@ use mathlib.Core.Path.{◌≡◌, refl, ap}
 use mathlib.Core.Bool.{Bool}
 use Rattle.calculus.specs.Syntax.{Dom}
 use Rattle.image.specs.Program.{Program, node, Programs, low_body, blanked, blankeds}
-use Rattle.demands.specs.LowTakedowns.{SameButLow, same, inside, LowChildren, no_child, alike, low_body_lem, Card7}
+use Rattle.demands.specs.LowTakedowns.{SameButLow, same, inside, LowChildren, no_child, alike, a_low_body, Card7}
 use Rattle.demands.proofs.Demands.{demand3}
 use Rattle.demands.proofs.LowMethods.{low_blank, like_blank}
 
@@ -19,7 +19,7 @@ module _ (high : Dom → Bool) where
     children_blanked : (low : ℕ → Bool) → {es fs : Programs} → LowChildren high low es fs → blankeds high es low ≡ blankeds high fs low
     children_blanked low no_child = refl
     children_blanked low (alike {e = e} {f = f} {es = es} {fs = fs} s r) = like_blank high low e f es fs (same_blanked s) (children_blanked (λ i. low (suc i)) r)
-    children_blanked low (low_body_lem {e = e} {f = f} {es = es} {fs = fs} l r) = low_blank high low e f es fs l (children_blanked (λ i. low (suc i)) r)
+    children_blanked low (a_low_body {e = e} {f = f} {es = es} {fs = fs} l r) = low_blank high low e f es fs l (children_blanked (λ i. low (suc i)) r)
 
 pub card7 : Card7
 card7 high b b' domains highs s = demand3 high b b' (record { domains = domains; highs = highs; programs = same_blanked high s.programs })

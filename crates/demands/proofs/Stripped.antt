@@ -74,7 +74,7 @@ shares_written high E E' v F F' p l S =
     let s : (read_report (written_report E)).steps ≡ E.steps = ap (λ x. x.steps) r ∙ mod-eq_of_lt l in
     let s' : (read_report (written_report E')).steps ≡ E'.steps = ap (λ x. x.steps) r' ∙ mod-eq_of_lt (omega arith) in
     record {
-      is_done_lem = ap (λ x. x.outcome) r' ∙ ap (λ o. reported_number (outcome_of o) % short_size) S.result;
+      was_done = ap (λ x. x.outcome) r' ∙ ap (λ o. reported_number (outcome_of o) % short_size) S.result;
       result = ap (λ x. x.result) r ∙ ap (map narrow_leaf) (shares_result S p) ∙ sym (ap (λ x. x.result) r');
       cells = cells_read high E F ∙ ap (map narrow_cell) (shares_cells S) ∙ sym (cells_read high E' F');
       prints = prints_read high E ∙ ap (map narrow_print) S.prints ∙ sym (prints_read high E');

@@ -50,14 +50,14 @@ pub record RunOutput (E : Ended) (budget : ℕ) (log report work : List ℕ) (X 
   -- what is written fits, "bytes past these are unchanged"
   pub log_fits : X.answer.log ≤ length log
   pub log_past : drop X.answer.log X.log ≡ drop X.answer.log log
-  pub log_length_lem : length X.log ≡ length log
+  pub log_kept : length X.log ≡ length log
   pub report_fits : X.answer.report ≤ report_length
   pub report_past : drop X.answer.report X.report ≡ drop X.answer.report report
-  pub report_length_lem : length X.report ≡ length report
+  pub report_kept : length X.report ≡ length report
   -- "the work area is zero over its published length and unchanged past it"
   pub work_zero : take work_length X.work ≡ replicate work_length 0
   pub work_past : drop work_length X.work ≡ drop work_length work
-  pub work_length_lem : length X.work ≡ length work
+  pub work_kept : length X.work ≡ length work
 
 -- Of a call that is turned back: v is the verdict of its image and its lent memory, and X what the call answers and leaves.
 pub record Rejection (v : Verdict) (log report work : List ℕ) (X : Left) : Type 0 where

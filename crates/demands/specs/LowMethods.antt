@@ -26,7 +26,7 @@ module _ (high : Dom → Bool) where
     pub data SameChildren : (ℕ → Bool) → Programs → Programs → Type 0 where
       no_child : {low : ℕ → Bool} → SameChildren low end end
       alike : {low : ℕ → Bool} {e f : Program} {es fs : Programs} → SameButMethods e f → SameChildren (λ i. low (suc i)) es fs → SameChildren low (more e es) (more f fs)
-      low_body_lem : {low : ℕ → Bool} {e f : Program} {es fs : Programs} → low 0 ≡ true → SameChildren (λ i. low (suc i)) es fs → SameChildren low (more e es) (more f fs)
+      a_low_body : {low : ℕ → Bool} {e f : Program} {es fs : Programs} → low 0 ≡ true → SameChildren (λ i. low (suc i)) es fs → SameChildren low (more e es) (more f fs)
 
 -- Two calls on images with the same domains, whose programs are the same but for bodies of low methods, leave what demand 3 asks.
 abbrev pub Card3 : Type 0

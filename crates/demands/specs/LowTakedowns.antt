@@ -44,7 +44,7 @@ module _ (high : Dom → Bool) where
     pub data LowChildren : (ℕ → Bool) → Programs → Programs → Type 0 where
       no_child : {low : ℕ → Bool} → LowChildren low end end
       alike : {low : ℕ → Bool} {e f : Program} {es fs : Programs} → SameButLow e f → LowChildren (λ i. low (suc i)) es fs → LowChildren low (more e es) (more f fs)
-      low_body_lem : {low : ℕ → Bool} {e f : Program} {es fs : Programs} → low 0 ≡ true → LowChildren (λ i. low (suc i)) es fs → LowChildren low (more e es) (more f fs)
+      a_low_body : {low : ℕ → Bool} {e f : Program} {es fs : Programs} → low 0 ≡ true → LowChildren (λ i. low (suc i)) es fs → LowChildren low (more e es) (more f fs)
 
   -- "A takedown written into a low body", be it one or several, in any place of the body and beside any other difference of low bodies: takedowns of any domains.
   pub record WithTakedown (e f : Program) : Type 0 where

@@ -27,7 +27,7 @@ StrippedOf high b b' = to_tm (program_of b') ≡ strip high (to_tm (program_of b
 
 -- Of the bytes of log and report that a call which is done wrote, and of those that the call of the stripped image wrote: it "is done … with the same result, the same plain high cells and high log, in no more steps".
 pub record SharesBytes (high : Dom → Bool) (log log' report report' : List ℕ) : Type 0 where
-  pub is_done_lem : SaysDone report'
+  pub was_done : SaysDone report'
   pub result : (read_report report).result ≡ (read_report report').result
   pub cells : high_cells_in high report ≡ high_cells_in high report'
   pub prints : high_prints_in high log ≡ high_prints_in high log'

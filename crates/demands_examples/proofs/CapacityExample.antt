@@ -5,7 +5,7 @@ use mathlib.Core.List.{List, [], ◌∷◌, ◌++◌}
 use Rattle.calculus.specs.Combinators.{cases}
 use Rattle.calculus.specs.State.{Counts, picked, mainline_counts}
 use Rattle.calculus.specs.Subst.{subst}
-use Rattle.calculus.specs.Answer.{carry, if_capacity_lem, with, spend}
+use Rattle.calculus.specs.Answer.{carry, by_capacity, with, spend}
 use Rattle.calculus.specs.Step.{step}
 use Rattle.calculus.specs.Run.{Ended, after, run}
 use Rattle.image.specs.Limits.{work_length, report_length}
@@ -74,7 +74,7 @@ pub capacity_counts : (mainline_counts (watched_run greedy).state.trace ≡ main
     × ((watched_run quiet).state.used ≡ record { mainline = mainline_use; others = record { bindings = 1; cells = 0; pieces = 0 } })
 unfolding watched_run walk layout records_of tests find words all_within all all_of first_fault type_of type_from type_out
     little rec image one_domain two_domains unit number literal watched_by greedy quiet
-    program tree to_tm assemble run after cases step subst carry if_capacity_lem with spend picked
+    program tree to_tm assemble run after cases step subst carry by_capacity with spend picked
 capacity_counts = (refl, refl, refl, refl)
 
 pub capacity_same : SameCounts (watched_run greedy) (watched_run quiet) (watched_call greedy) (watched_call quiet)

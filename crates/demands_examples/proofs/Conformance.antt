@@ -11,7 +11,7 @@ use Rattle.calculus.specs.declared.Leaf.{Leaf}
 use Rattle.calculus.specs.Combinators.{cases}
 use Rattle.calculus.specs.State.{Counts, Uses, picked, no_counts}
 use Rattle.calculus.specs.Subst.{subst}
-use Rattle.calculus.specs.Answer.{carry, if_capacity_lem, with, spend}
+use Rattle.calculus.specs.Answer.{carry, by_capacity, with, spend}
 use Rattle.calculus.specs.Step.{step}
 use Rattle.calculus.specs.Run.{Ended, after, run}
 use Rattle.calculus.specs.Report.{leaves}
@@ -124,7 +124,7 @@ pub conformance_holds : map said conformance ≡ map (λ c. c.says) conformance
 unfolding conformance said conformance_call up_to called
     verdict in_turn require_from walk layout records_of tests find words all_within all all_of any_below first_fault shape at_fault leq order bits count uses depths depths_from typing check check_all type_of type_from type_out
     little rec image one_domain two_domains unit number literal p2_image p6_image p8_image arithmetic
-    program tree to_tm assemble run after cases step subst carry if_capacity_lem with spend picked leaves
+    program tree to_tm assemble run after cases step subst carry by_capacity with spend picked leaves
     over cleared bytes_of records_bytes
     listing texts digits records_after number_at number_of
 conformance_holds = refl

@@ -5,7 +5,7 @@ use mathlib.Core.List.{List, [], ◌∷◌}
 use Rattle.calculus.specs.Combinators.{cases}
 use Rattle.calculus.specs.State.{picked}
 use Rattle.calculus.specs.Subst.{subst}
-use Rattle.calculus.specs.Answer.{carry, if_capacity_lem, with, spend}
+use Rattle.calculus.specs.Answer.{carry, by_capacity, with, spend}
 use Rattle.calculus.specs.Step.{step}
 use Rattle.calculus.specs.Run.{after, run}
 use Rattle.calculus.specs.Report.{leaves}
@@ -31,7 +31,7 @@ use Rattle.call_spec.specs.Calls.{Left, called}
 use Rattle.listing.specs.Conformance.{zeros}
 use Rattle.demands.specs.Calls.{Runs, log_written}
 use Rattle.demands.specs.Compare.{HighSet, Compared, SameLeft}
-use Rattle.demands.specs.LowMethods.{SameButMethods, inside, object, no_child, alike, low_body_lem}
+use Rattle.demands.specs.LowMethods.{SameButMethods, inside, object, no_child, alike, a_low_body}
 use Rattle.demands.proofs.Demands.{demand3}
 use Rattle.demands_examples.proofs.Mainline.{mainline_only, mainline_high}
 use Rattle.demands.proofs.LowMethods.{card3}
@@ -57,7 +57,7 @@ low_runs = (refl, refl)
 pub low_logs : (log_written (low_call 1) ≡ 10 ∷ 0 ∷ 64 ∷ 0 ∷ 1 ∷ 0 ∷ 1 ∷ 0 ∷ 0 ∷ 0 ∷ []) × (log_written (low_call 2) ≡ 10 ∷ 0 ∷ 64 ∷ 0 ∷ 1 ∷ 0 ∷ 2 ∷ 0 ∷ 0 ∷ 0 ∷ [])
 unfolding low_call called lowered verdict in_turn require_from walk layout records_of tests find words all_within all all_of any_below first_fault shape at_fault leq order bits count uses depths depths_from typing check check_all type_of type_from type_out
     little rec image one_domain two_domains unit number literal
-    program tree to_tm assemble run after cases step subst carry if_capacity_lem with spend picked leaves
+    program tree to_tm assemble run after cases step subst carry by_capacity with spend picked leaves
     over cleared bytes_of records_bytes
 low_logs = (refl, refl)
 
@@ -87,7 +87,7 @@ high_calling = mainline_high (records_of (calling 1)) refl refl
 -- Their programs are the same but for that body.
 same_calling : SameButMethods mainline_only (program_of (calling 1)) (program_of (calling 2))
 unfolding calling program tree records_of layout walk tests find words all_within all all_of first_fault type_of type_from type_out little rec image two_domains number unit literal
-same_calling = inside (alike (inside (alike (object (low_body_lem refl no_child)) no_child)) no_child)
+same_calling = inside (alike (inside (alike (object (a_low_body refl no_child)) no_child)) no_child)
 
 unfoldable pub method_call : ℕ → Left
 method_call n = called (calling n) [] 100 (zeros 20) (zeros report_length) (zeros work_length)
@@ -106,7 +106,7 @@ both_run = (refl, refl)
 pub method_logs : (log_written (method_call 1) ≡ 10 ∷ 0 ∷ 64 ∷ 0 ∷ 1 ∷ 0 ∷ 1 ∷ 0 ∷ 0 ∷ 0 ∷ []) × (log_written (method_call 2) ≡ 10 ∷ 0 ∷ 64 ∷ 0 ∷ 1 ∷ 0 ∷ 2 ∷ 0 ∷ 0 ∷ 0 ∷ [])
 unfolding method_call called calling verdict in_turn require_from walk layout records_of tests find words all_within all all_of any_below first_fault shape at_fault leq order bits count uses depths depths_from typing check check_all type_of type_from type_out
     little rec image one_domain two_domains unit number literal
-    program tree to_tm assemble run after cases step subst carry if_capacity_lem with spend picked leaves
+    program tree to_tm assemble run after cases step subst carry by_capacity with spend picked leaves
     over cleared bytes_of records_bytes
 method_logs = (refl, refl)
 

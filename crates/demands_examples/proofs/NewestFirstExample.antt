@@ -5,7 +5,7 @@ use mathlib.Core.List.{List, [], ◌∷◌, ◌++◌}
 use Rattle.calculus.specs.Combinators.{cases}
 use Rattle.calculus.specs.State.{picked}
 use Rattle.calculus.specs.Subst.{subst}
-use Rattle.calculus.specs.Answer.{carry, if_capacity_lem, with, spend}
+use Rattle.calculus.specs.Answer.{carry, by_capacity, with, spend}
 use Rattle.calculus.specs.Step.{step}
 use Rattle.calculus.specs.Run.{after, run}
 use Rattle.calculus.specs.Report.{leaves}
@@ -69,7 +69,7 @@ logged d n = 10 ∷ 0 ∷ 64 ∷ 0 ∷ d ∷ 0 ∷ n ∷ 0 ∷ 0 ∷ 0 ∷ []
 pub mark_logs : (log_written (mark_call low_between) ≡ logged 0 7 ++ logged 1 5 ++ logged 0 3) × (log_written (mark_call none_between) ≡ logged 0 7 ++ logged 0 3)
 unfolding mark_call called verdict in_turn require_from walk layout records_of tests find words all_within all all_of any_below first_fault shape at_fault leq order bits count uses depths depths_from typing check check_all type_of type_from type_out
     little rec image one_domain two_domains unit number literal watched_twice low_between none_between
-    program tree to_tm assemble run after cases step subst carry if_capacity_lem with spend picked leaves
+    program tree to_tm assemble run after cases step subst carry by_capacity with spend picked leaves
     over cleared bytes_of records_bytes
 mark_logs = (refl, refl)
 

@@ -5,7 +5,7 @@ use mathlib.Core.List.{List, [], ◌∷◌}
 use Rattle.calculus.specs.declared.Outcome.{Outcome}
 use Rattle.calculus.specs.Combinators.{cases}
 use Rattle.calculus.specs.State.{picked}
-use Rattle.calculus.specs.Answer.{if_capacity_lem, with}
+use Rattle.calculus.specs.Answer.{by_capacity, with}
 use Rattle.calculus.specs.Step.{step}
 use Rattle.calculus.specs.Run.{run}
 use Rattle.image.specs.Limits.{work_length, report_length}
@@ -41,5 +41,5 @@ unpaid_print : (endings 9 ≡ Ending.Ended Outcome.Log ∷ Ending.Ended Outcome.
 unfolding printing called
     verdict in_turn require_from walk layout records_of tests find words all_within all all_of any_below first_fault shape at_fault leq order bits count uses depths depths_from typing check check_all type_of type_from type_out
     little rec image one_domain unit number literal
-    program tree to_tm assemble run run_before cases step if_capacity_lem with picked
+    program tree to_tm assemble run run_before cases step by_capacity with picked
 unpaid_print = (refl, refl)

@@ -4,7 +4,7 @@ use mathlib.Core.Path.{◌≡◌, refl}
 use mathlib.Core.Bool.{Bool, true, ◌&&◌}
 use mathlib.Core.List.{List, [], ◌∷◌}
 use lib.ListN.{get_or}
-use Rattle.image.specs.Kinds.{Body, here, function_body, advice_body, split_body, lower_body, method_body_lem, match_body, TermKind, term_row, is_kind, bodies, body_of}
+use Rattle.image.specs.Kinds.{Body, here, function_body, advice_body, split_body, lower_body, object_body, match_body, TermKind, term_row, is_kind, bodies, body_of}
 use Rattle.laws.proofs.Booleans.{and_l, and_r, eq_of}
 use Rattle.image.proofs.KindNumbers.{same_term_kind}
 use Rattle.image.proofs.EveryKind.{every_of, at_term}
@@ -16,7 +16,7 @@ owned k function_body = is_kind TermKind.fun k
 owned k advice_body = is_kind TermKind.adv k
 owned k split_body = is_kind TermKind.split k
 owned k lower_body = is_kind TermKind.lower k
-owned k method_body_lem = is_kind TermKind.obj k
+owned k object_body = is_kind TermKind.obj k
 owned k match_body = is_kind TermKind.match k
 
 abbrev all_owned : TermKind → List Body → Bool
@@ -35,7 +35,7 @@ Owner k function_body = k ≡ TermKind.fun
 Owner k advice_body = k ≡ TermKind.adv
 Owner k split_body = k ≡ TermKind.split
 Owner k lower_body = k ≡ TermKind.lower
-Owner k method_body_lem = k ≡ TermKind.obj
+Owner k object_body = k ≡ TermKind.obj
 Owner k match_body = k ≡ TermKind.match
 
 owner : (k : TermKind) (b : Body) → owned k b ≡ true → Owner k b
@@ -44,7 +44,7 @@ owner k function_body h = same_term_kind k TermKind.fun (eq_of h)
 owner k advice_body h = same_term_kind k TermKind.adv (eq_of h)
 owner k split_body h = same_term_kind k TermKind.split (eq_of h)
 owner k lower_body h = same_term_kind k TermKind.lower (eq_of h)
-owner k method_body_lem h = same_term_kind k TermKind.obj (eq_of h)
+owner k object_body h = same_term_kind k TermKind.obj (eq_of h)
 owner k match_body h = same_term_kind k TermKind.match (eq_of h)
 
 pub body_owner : (k : TermKind) (i : ℕ) → Owner k (body_of k i)

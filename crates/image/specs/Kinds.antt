@@ -10,7 +10,7 @@ pub data Range : Type 0 where
 
 -- Where a child of a term stands: where the term itself does; or, as the body of a function, of an advice, of a split, of a lower, of a method (card 3), as the first branch of a match (card 6), under more variables or at a domain of its own.
 pub data Body : Type 0 where
-  here function_body advice_body split_body lower_body method_body_lem match_body : Body
+  here function_body advice_body split_body lower_body object_body match_body : Body
 
 pub data Field : Type 0 where
   -- a type number (of a type: a lower one); a number of its own
@@ -104,7 +104,7 @@ term_row TermKind.lower = row 52 (a_type ∷ a_domain ∷ a_term lower_body ∷ 
 term_row TermKind.abort = row 53 (a_type ∷ [])
 term_row TermKind.byte = row 60 (a_type ∷ a_child ∷ [])
 -- card 3
-term_row TermKind.obj = record { number = 54; first = a_type ∷ []; group = a_term method_body_lem ∷ []; least = 1; most = method_limit; last = [] }
+term_row TermKind.obj = record { number = 54; first = a_type ∷ []; group = a_term object_body ∷ []; least = 1; most = method_limit; last = [] }
 term_row TermKind.call = record { number = 55; first = a_type ∷ a_child ∷ []; group = []; least = 0; most = 0; last = free ∷ [] }
 -- card 6: a label, a value, a body; the stack, two branches, entries, and the close
 term_row TermKind.stack = row 56 (a_type ∷ [])

@@ -3,7 +3,7 @@ use Rattle.std.specs.Prelude.{ℕ, zero, suc, ◌+◌, ◌*◌, Bool, true, fals
 use Rattle.std.proofs.Math.Option.{Option, none, some}
 use Rattle.calculus.specs.Syntax.{Dom, Ty, Val, Tm, Tms, Pattern, at_end, at_rest, anything, pointcut, Op2, val, var, lam, op0, op1, op2, seq, ite, split, pcd, adv, lower, obj, keep, match, takedown, print, install, read, byte, new_cell, call, app, mark, store, plus, minus, less, equal}
 use Rattle.calculus.specs.Plain.{dom_of, methods_of, method_dom}
-use Rattle.image.specs.Kinds.{Body, here, function_body, advice_body, split_body, lower_body, method_body_lem, match_body, TermKind, Form, operator, form_of, body_of}
+use Rattle.image.specs.Kinds.{Body, here, function_body, advice_body, split_body, lower_body, object_body, match_body, TermKind, Form, operator, form_of, body_of}
 use Rattle.image.specs.Records.{Layout}
 use Rattle.image.specs.Types.{term_kind, stated_type, others, children, root_of}
 
@@ -111,7 +111,7 @@ own_domain function_body t vs i = some (dom_of t)
 own_domain advice_body t vs i = some (dom_of t)
 own_domain split_body t vs i = none
 own_domain lower_body t vs i = some (get_or vs 0 0)
-own_domain method_body_lem t vs i = some (method_dom (methods_of t) i)
+own_domain object_body t vs i = some (method_dom (methods_of t) i)
 own_domain match_body t vs i = none
 
 module _ (high : Dom → Bool) where

@@ -1,7 +1,7 @@
 -- Refusal 19 (document 02, card 10): "the lowest apply, call, install over something else, or mark or install in an advice body".
 use Rattle.std.specs.Prelude.{ℕ, zero, suc, min, Bool, true, false, ◌&&◌, ◌||◌, List, [], ◌∷◌, length, get_or}
 use Rattle.calculus.specs.Combinators.{choose}
-use Rattle.image.specs.Kinds.{Body, here, function_body, advice_body, split_body, lower_body, method_body_lem, match_body, TermKind, is_kind, body_of}
+use Rattle.image.specs.Kinds.{Body, here, function_body, advice_body, split_body, lower_body, object_body, match_body, TermKind, is_kind, body_of}
 use Rattle.image.specs.Records.{Layout}
 use Rattle.image.specs.Types.{term_kind, children, root_of}
 
@@ -22,7 +22,7 @@ outside m function_body = m
 outside m advice_body = false
 outside m split_body = m
 outside m lower_body = m
-outside m method_body_lem = m
+outside m object_body = m
 outside m match_body = m
 
 -- The least number that f gives for the terms of a list, the first of which is child i; d if the list is empty.

@@ -14,7 +14,7 @@ use Rattle.image.specs.declared.Refusal.{Refusal}
 use Rattle.image.specs.Limits.{domain_limit, depth_limit}
 use Rattle.laws.specs.Tests.{any_below, first_fault}
 use Rattle.image.specs.Bytes.{field_at}
-use Rattle.image.specs.Kinds.{Body, here, function_body, advice_body, split_body, lower_body, method_body_lem, match_body, domain, domain_row, row_of, find, kind_of, body_of}
+use Rattle.image.specs.Kinds.{Body, here, function_body, advice_body, split_body, lower_body, object_body, match_body, domain, domain_row, row_of, find, kind_of, body_of}
 use Rattle.image.specs.Records.{Layout, or_else, kind_at, numbers_at}
 use Rattle.image.specs.Types.{domain_place, term_place, type_number, type_fields, type_field, method_count, type_of, term_kind, type_no, others, children, root_of, root_type}
 use Rattle.image.specs.Program.{pattern_of}
@@ -185,7 +185,7 @@ module _ {b c : List ℕ} {place : ℕ → ℕ} {L M : Layout} (A : SameLayout b
       let l = first_below ts t h d in
       ap (λ a. a ∷ type_field M (get_or ts 0 t) 0 ∷ Γ) (part_same 1 (get_or ts 0 t) l) ∙ ap (λ a. type_field L (get_or ts 0 t) 1 ∷ a ∷ Γ) (part_same 0 (get_or ts 0 t) l)
   context_same lower_body t vs ts Γ h d = refl
-  context_same method_body_lem t vs ts Γ h d = refl
+  context_same object_body t vs ts Γ h d = refl
   context_same match_body t vs ts Γ h d =
       ap (λ xs. reverse_aux (xs ++ choose (binds_rest (pattern_of vs)) (get_or ts 0 t ∷ []) []) Γ) (firsts_same (drop 3 ts) (below_drop 3 ts d))
 

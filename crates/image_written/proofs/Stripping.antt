@@ -10,7 +10,7 @@ use Rattle.calculus.specs.Syntax.{Dom, Ty, Tm, op0, abort, adv, lower}
 use Rattle.calculus.specs.Combinators.{choose}
 use Rattle.calculus.specs.Typing.{Policy, no_store, ◌⨾◌⊢◌⦂◌ as TmTy, is_val, is_adv, is_lower, v_unit}
 use Rattle.image.specs.Limits.{depth_limit}
-use Rattle.image.specs.Kinds.{Body, here, function_body, advice_body, split_body, lower_body, method_body_lem, match_body, TermKind, body_of}
+use Rattle.image.specs.Kinds.{Body, here, function_body, advice_body, split_body, lower_body, object_body, match_body, TermKind, body_of}
 use Rattle.image.specs.Layout.{records_of}
 use Rattle.image.specs.Program.{Program, Programs, node, blank, end, more, assemble, low_body, program}
 use Rattle.laws.proofs.Booleans.{no_path}
@@ -178,7 +178,7 @@ watch k j h = go (body_of k j) refl (body_owner k j)
     go advice_body q o = subst (λ x. Watch x j) (sym o) (adv_watch j (subst (λ x. watches (body_of x j) ≡ true) o h))
     go split_body q o = no_path (sym (ap watches (sym q) ∙ h))
     go lower_body q o = subst (λ x. Watch x j) (sym o) (lower_watch j (subst (λ x. watches (body_of x j) ≡ true) o h))
-    go method_body_lem q o = no_path (sym (ap watches (sym q) ∙ h))
+    go object_body q o = no_path (sym (ap watches (sym q) ∙ h))
     go match_body q o = no_path (sym (ap watches (sym q) ∙ h))
 
 pub chosen : (a b : Bool) → choose a b false ≡ true → a ≡ true

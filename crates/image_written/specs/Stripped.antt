@@ -4,7 +4,7 @@ use Rattle.laws.specs.Tests.{any_below}
 use Rattle.calculus.specs.Syntax.{Dom, Ty}
 use Rattle.calculus.specs.Combinators.{choose}
 use Rattle.image.specs.Limits.{domain_limit}
-use Rattle.image.specs.Kinds.{Body, here, function_body, advice_body, split_body, lower_body, method_body_lem, match_body, TermKind, body_of}
+use Rattle.image.specs.Kinds.{Body, here, function_body, advice_body, split_body, lower_body, object_body, match_body, TermKind, body_of}
 use Rattle.image.specs.Layout.{records_of}
 use Rattle.image.specs.Program.{Program, Programs, node, blank, end, more, low_body, program}
 use Rattle.verdict.specs.Domains.{masks}
@@ -22,7 +22,7 @@ watches function_body = false
 watches advice_body = true
 watches split_body = false
 watches lower_body = true
-watches method_body_lem = false
+watches object_body = false
 watches match_body = false
 
 module _ (high : Dom → Bool) where

@@ -57,8 +57,8 @@ module _ (fs : List ℕ) (q : ℕ) where
   no_variables m k e = rw (ne_eqb (term_row k).number 58 (λ z. m (e ∙ z))) refl
 
   -- The kind of a part, by its number.
-  pub part_kind : (P : Part q fs) (k : TermKind) → q ≡ (term_row k).number → P.term_kind_lem ≡ k
-  part_kind P k e = same_term_kind P.term_kind_lem k (sym P.number ∙ e)
+  pub part_kind : (P : Part q fs) (k : TermKind) → q ≡ (term_row k).number → P.kind_of_term ≡ k
+  part_kind P k e = same_term_kind P.kind_of_term k (sym P.number ∙ e)
 
 -- How many variables a pattern binds.
 variables_are : (p : Pattern) → variables p ≡ pointcuts p + choose (binds_rest p) 1 0
@@ -142,7 +142,7 @@ module _ {b table : List ℕ} (T : Terms b table) {n kind : ℕ} {fs : List ℕ}
   part_of =
       subst (Part kind) (sym r.fields)
       (record {
-        term_kind_lem = k;
+        kind_of_term = k;
         number = kind_of_lem;
         long = (typed_in T r.there).long;
         child = λ j l. has_child T r.there refl j l;
@@ -157,9 +157,9 @@ module _ {b table : List ℕ} (T : Terms b table) {n kind : ℕ} {fs : List ℕ}
   pub count_of_lem : (c : ℕ) → ((k : TermKind) → kind ≡ (term_row k).number → c ≡ length (children_in fs k)) → c ≡ length (children (records_of b) n)
   count_of_lem c e = e k kind_of_lem ∙ ap length children_of_lem
 
-  pub has_of : (j : ℕ) → j < length (children (records_of b) n) → (P : Part kind fs) × (j < length (children_in fs P.term_kind_lem))
+  pub has_of : (j : ℕ) → j < length (children (records_of b) n) → (P : Part kind fs) × (j < length (children_in fs P.kind_of_term))
   has_of j l =
-      let e : part_of.term_kind_lem ≡ k = same_term_kind part_of.term_kind_lem k (sym part_of.number ∙ kind_of_lem) in
+      let e : part_of.kind_of_term ≡ k = same_term_kind part_of.kind_of_term k (sym part_of.number ∙ kind_of_lem) in
       (part_of, subst (λ q. j < length (children_in fs q)) (sym e) (subst (λ es. j < length es) (sym children_of_lem) l))
 
   module _ (j c : ℕ) (e : (k : TermKind) → kind ≡ (term_row k).number → c ≡ get_or (children_in fs k) j 0) where

@@ -11,7 +11,7 @@ use lib.Seq.{take-suc, take_all, length-take-le}
 use borrow.Author.Tests.{ne_eqb, ltb-true, ltb-false}
 use Rattle.calculus.specs.Combinators.{choose}
 use Rattle.laws.proofs.Booleans.{and_l, and_r, not_t, le_of}
-use Rattle.image.specs.Kinds.{Body, here, function_body, advice_body, split_body, lower_body, method_body_lem, match_body, TermKind, term_row, bodies, body_of}
+use Rattle.image.specs.Kinds.{Body, here, function_body, advice_body, split_body, lower_body, object_body, match_body, TermKind, term_row, bodies, body_of}
 use Rattle.image.specs.Records.{Layout}
 use Rattle.image.specs.Layout.{records_of}
 use Rattle.image.specs.Types.{term_kind, children}
@@ -55,7 +55,7 @@ is_advice_body function_body = false
 is_advice_body advice_body = true
 is_advice_body split_body = false
 is_advice_body lower_body = false
-is_advice_body method_body_lem = false
+is_advice_body object_body = false
 is_advice_body match_body = false
 
 by_body : (m : Bool) (b : Body) → choose (is_advice_body b) false m ≡ outside m b
@@ -64,7 +64,7 @@ by_body m function_body = refl
 by_body m advice_body = refl
 by_body m split_body = refl
 by_body m lower_body = refl
-by_body m method_body_lem = refl
+by_body m object_body = refl
 by_body m match_body = refl
 
 -- Only a term's first three children may stand where no further one does.

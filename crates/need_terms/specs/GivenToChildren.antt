@@ -57,9 +57,9 @@ pub record MatchPart (fs : List ℕ) : Type 0 where
 
 -- The fields of a term whose head has the number of a kind: they begin with a type, hold the kind's own fields, and have its children.
 pub record Part (kind : ℕ) (fs : List ℕ) : Type 0 where
-  pub term_kind_lem : TermKind
-  pub number : kind ≡ (term_row term_kind_lem).number
+  pub kind_of_term : TermKind
+  pub number : kind ≡ (term_row kind_of_term).number
   pub long : 1 < length fs
-  pub child : (j : ℕ) → j < length (children_in fs term_kind_lem) → HasChild fs term_kind_lem j
-  pub second : term_kind_lem ≡ TermKind.lower → 3 < length fs
-  pub branched : term_kind_lem ≡ TermKind.match → MatchPart fs
+  pub child : (j : ℕ) → j < length (children_in fs kind_of_term) → HasChild fs kind_of_term j
+  pub second : kind_of_term ≡ TermKind.lower → 3 < length fs
+  pub branched : kind_of_term ≡ TermKind.match → MatchPart fs

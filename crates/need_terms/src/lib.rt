@@ -23,7 +23,7 @@ const LOWERED: usize = 1;
 
 // Child j.
 pub fn child_in(kind: u16, fields: &[u8], j: usize) -> TermNo
-    requires { (P : Part kind fields.now) × (j < length (children_in fields.now P.term_kind_lem)) }
+    requires { (P : Part kind fields.now) × (j < length (children_in fields.now P.kind_of_term)) }
     ensures { (k : TermKind) → kind ≡ (term_row k).number → result.0 ≡ get_or (children_in fields.now k) j 0 }
 {
     child_of(kind, fields, lead_of(kind), j)

@@ -6,7 +6,7 @@ use mathlib.Core.Bool.{Bool, true, false}
 use mathlib.Core.List.{List, [], ◌∷◌, ◌++◌, map, reverse_aux}
 use lib.ListN.{length, get_or}
 use Rattle.calculus.specs.Syntax.{Dom, Ty}
-use Rattle.image.specs.Kinds.{a_type, free, Body, here, function_body, advice_body, split_body, lower_body, method_body_lem, match_body, TypeKind, TermKind, type_row_of, term_row, body_of}
+use Rattle.image.specs.Kinds.{a_type, free, Body, here, function_body, advice_body, split_body, lower_body, object_body, match_body, TypeKind, TermKind, type_row_of, term_row, body_of}
 use Rattle.image.specs.Records.{Layout, fields_at}
 use Rattle.image.specs.Program.{pattern_of}
 use Rattle.image.specs.Types.{type_place, type_field, is_type, type_out, type_of}
@@ -108,7 +108,7 @@ module _ (L : Layout) (good : LayoutOk L) where
   body_context split_body k Γ c t vs ts w l m =
       subst (λ j. SameContexts split_body j Γ c t vs ts) (sym w) (two_of (SameContexts split_body TermKind.split Γ c t vs) (split_context Γ c t vs) ts (rw w at l) (rw w at m))
   body_context lower_body k Γ c t vs ts w l m = λ n ks h. record { same = refl; inside = λ g. g }
-  body_context method_body_lem k Γ c t vs ts w l m = λ n ks h. record { same = refl; inside = λ g. (n, g) }
+  body_context object_body k Γ c t vs ts w l m = λ n ks h. record { same = refl; inside = λ g. (n, g) }
   body_context match_body k Γ c t vs ts w l m =
       subst (λ j. SameContexts match_body j Γ c t vs ts) (sym w) (three_more (SameContexts match_body TermKind.match Γ c t vs) (match_context Γ c t vs) ts (rw w at l))
 

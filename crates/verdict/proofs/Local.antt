@@ -8,7 +8,7 @@ use mathlib.Core.Option.{some}
 use lib.ListN.{length, get_or, get_elem?, length-map}
 use lib.Dec.{eqb}
 use Rattle.calculus.specs.Syntax.{Dom, Ty, op0, abort}
-use Rattle.calculus.specs.Typing.{no_store, t_new_label, t_abort, t_takedown, t_stack, t_print, t_install, t_read, t_byte, t_new_cell, t_call, t_pair, t_app, t_mark, t_store, t_plus, t_minus, t_less, t_equal, LabelTys, no_types, a_type, ◌⨾◌⊢◌⦂◌ as TmTy, ◌⨾◌⊢*◌⦂◌ as TmsTy, ◌⊢◌⦂◌⇒◌⇒◌ as Rule2, v_unit, v_truth, v_number, is_val, is_var, is_lam, is_op0, is_op1, is_op2, is_seq, is_ite, is_split, is_pcd, is_adv, is_lower, is_obj, is_keep, is_match_lem, is_end, is_more}
+use Rattle.calculus.specs.Typing.{no_store, t_new_label, t_abort, t_takedown, t_stack, t_print, t_install, t_read, t_byte, t_new_cell, t_call, t_pair, t_app, t_mark, t_store, t_plus, t_minus, t_less, t_equal, LabelTys, no_types, a_type, ◌⨾◌⊢◌⦂◌ as TmTy, ◌⨾◌⊢*◌⦂◌ as TmsTy, ◌⊢◌⦂◌⇒◌⇒◌ as Rule2, v_unit, v_truth, v_number, is_val, is_var, is_lam, is_op0, is_op1, is_op2, is_seq, is_ite, is_split, is_pcd, is_adv, is_lower, is_obj, is_keep, is_matching, is_end, is_more}
 use Rattle.laws.specs.Tests.{all}
 use Rattle.image.specs.Kinds.{TypeKind, TermKind, term_row}
 use Rattle.image.specs.Records.{Layout}
@@ -280,7 +280,7 @@ module _ (L : Layout) (good : LayoutOk L) where
       let r : d ≡ t = eq_of hs.1.1.0 in
       let n = match_pointcuts vs (length (a ∷ b ∷ d ∷ xs)) w in
       let p = pattern_typed L good (pattern_of vs) xs ks.1.1.1 hs.1.1.1.0 (omega arith) in
-      rw (e, q, r) (is_match_lem (is_more aborted (aborteds (outs L xs))) p aborted aborted)) ts l w
+      rw (e, q, r) (is_matching (is_more aborted (aborteds (outs L xs))) p aborted aborted)) ts l w
   local_sound TermKind.takedown Γ c t vs ts l m w =
       λ o ks h13 h14 h15.
       rw (out_as L good TypeKind.unit t o (each _ h14).0) (is_op0 (t_takedown h15))

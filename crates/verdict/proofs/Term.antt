@@ -5,7 +5,7 @@ use mathlib.Core.Path.{◌≡◌, refl, sym, ap, subst, ◌∙◌}
 use mathlib.Core.List.{List, [], ◌∷◌, reverse_aux}
 use lib.ListN.{get_or, drop}
 use Rattle.calculus.specs.Syntax.{Dom, Ty, Sigs, method, Val, Tm, Tms, Pattern, val, lam, op0, split, pcd, adv, lower, obj, match, abort, Op1, Op2, op1, op2}
-use Rattle.calculus.specs.Typing.{Policy, no_store, PatternTy, ◌⨾◌⊢◌⦂◌ as TmTy, ◌⨾◌⊢*◌⦂◌ as TmsTy, ◌⊢ᵐ◌⦂◌ as BodiesTy, a_body, is_op1, is_op2, is_seq, is_ite, is_split, is_keep, is_match_lem, is_op0, is_end, is_more, t_abort}
+use Rattle.calculus.specs.Typing.{Policy, no_store, PatternTy, ◌⨾◌⊢◌⦂◌ as TmTy, ◌⨾◌⊢*◌⦂◌ as TmsTy, ◌⊢ᵐ◌⦂◌ as BodiesTy, a_body, is_op1, is_op2, is_seq, is_ite, is_split, is_keep, is_matching, is_op0, is_end, is_more, t_abort}
 use Rattle.calculus.specs.Plain.{dom_of, method_dom}
 use Rattle.calculus_safety.proofs.Inversion.{premises, concluded}
 use Rattle.image.specs.Kinds.{TermKind, Form, operator, form_of}
@@ -136,7 +136,7 @@ module _ (D : Policy) where
       let m = more_premises r.2 in
       let b = match_binds_lem (pattern_of vs) t (a_pin f k) r.2 r.3 in
       let At : Tm → List Ty → Type 0 = λ e x. TmTy D no_store (reverse_aux x p.context) p.dom e t in
-      is_match_lem (is_more (h.one 0 m.0) (h.every 3 p (λ j l. shifted (child_setting p TermKind.match t vs ts) p (λ i. refl) j l) m.1)) r.3 (subst (At (nth es 1)) (sym b) (h.one 1 (subst (At (nth as' 1)) b r.4))) (h.one 2 r.5)
+      is_matching (is_more (h.one 0 m.0) (h.every 3 p (λ j l. shifted (child_setting p TermKind.match t vs ts) p (λ i. refl) j l) m.1)) r.3 (subst (At (nth es 1)) (sym b) (h.one 1 (subst (At (nth as' 1)) b r.4))) (h.one 2 r.5)
   rebuilt p Form.takedown t vs ts as' es k h d = d
 
   stands_as : (p q : Setting Ty) {e : Tm} {t u : Ty} → q ≡ p → TmTy D no_store p.context p.dom e t → t ≡ u → TmTy D no_store q.context q.dom e u

@@ -3,7 +3,7 @@ use Rattle.std.specs.Prelude.{ℕ, Bool, true, false, get_or, drop}
 use mathlib.Core.List.{List, [], ◌∷◌, ◌++◌, map, reverse_aux}
 use Rattle.calculus.specs.Combinators.{choose}
 use Rattle.calculus.specs.Syntax.{Dom, Ty, Pattern, at_end, at_rest, anything, pointcut}
-use Rattle.image.specs.Kinds.{Body, here, function_body, advice_body, split_body, lower_body, method_body_lem, match_body}
+use Rattle.image.specs.Kinds.{Body, here, function_body, advice_body, split_body, lower_body, object_body, match_body}
 use Rattle.image.specs.Records.{or_else}
 use Rattle.image.specs.Program.{pattern_of, own_domain}
 
@@ -31,7 +31,7 @@ bound first second function_body t vs ts = first t ∷ []
 bound first second advice_body t vs ts = first (get_or ts 0 t) ∷ []
 bound first second split_body t vs ts = first (get_or ts 0 t) ∷ second (get_or ts 0 t) ∷ []
 bound first second lower_body t vs ts = []
-bound first second method_body_lem t vs ts = t ∷ []
+bound first second object_body t vs ts = t ∷ []
 bound first second match_body t vs ts = match_binds first (pattern_of vs) (get_or ts 0 t) (drop 3 ts)
 
 -- "Outer variables stay visible." Each type is put before those that were bound earlier.

@@ -15,7 +15,7 @@ use Rattle.base_bytes.proofs.Bytes.{length_bytes, number_back, bytes_parts, byte
 use Rattle.base_bytes.proofs.Memory.{length_words, beside_at, take_of_drop}
 use Rattle.vm_machine.specs.Memory.{Memory, word_at, put_word}
 use Rattle.vm_memory.specs.View.{memory_of, Holds}
-use Rattle.vm_links.specs.Links.{Link, outer, frame, next, end, closure, advice, link_byte, link_size, read_link, LinkWord, a_binding, a_frame, a_next, an_end, a_function, an_object, an_advice_lem, link_at, SameBeside, Card4}
+use Rattle.vm_links.specs.Links.{Link, outer, frame, next, end, closure, advice, link_byte, link_size, read_link, LinkWord, a_binding, a_frame, a_next, an_end, a_function, an_object, one_advice, link_at, SameBeside, Card4}
 use Rattle.vm_memory.proofs.Stored.{load_word}
 
 byte_low : (k : Link) → link_byte k ≤ 6
@@ -40,7 +40,7 @@ around (a_next pc env m h g) = record { low = env + 65536 * pc + 67108864; high 
 around (an_end pc env n h g j) = record { low = env + 65536 * pc + 67108864 + 4294967296 * n; high = 0; below = omega arith; is = λ l. omega arith }
 around (a_function t x h g) = record { low = x + 805306368 + 4294967296 * t; high = 0; below = omega arith; is = λ l. omega arith }
 around (an_object t x h g) = record { low = x + 2415919104 + 4294967296 * t; high = 0; below = omega arith; is = λ l. omega arith }
-around (an_advice_lem t d h) = record { low = t; high = d; below = omega arith; is = λ l. omega arith }
+around (one_advice t d h) = record { low = t; high = d; below = omega arith; is = λ l. omega arith }
 
 -- Its eight bytes: those below, the link's two, those above.
 word_bytes : {k : Link} {f : ℕ → ℕ} (A : Around k f) (l : ℕ) → l < link_size → bytes_of 8 (f l) ≡ bytes_of (link_byte k) A.low ++ (bytes_of 2 l ++ bytes_of (6 - link_byte k) A.high)

@@ -4,7 +4,7 @@ use mathlib.Core.Path.{refl}
 use Rattle.vm_code.specs.Values.{function_value, object_value}
 use Rattle.vm_code.specs.Words.{return_pc}
 use Rattle.vm_machine.specs.Memory.{Memory, binding_base, piece_base, put_word, above, binding, put_binding, advice_word, slot_held, slot_at, slot_in, call_frame, advice_frame, pointcut_frame, keep_frame, bindings_left, put_return, put_advice, put_digits, put_match, put_keep, held_size}
-use Rattle.vm_links.specs.Links.{outer, frame, next, end, closure, advice, link_size, a_binding, a_frame, a_next, an_end, a_function, an_object, an_advice_lem, PutsLink}
+use Rattle.vm_links.specs.Links.{outer, frame, next, end, closure, advice, link_size, a_binding, a_frame, a_next, an_end, a_function, an_object, one_advice, PutsLink}
 
 module _ (M : Memory) where
   -- `bind`: the link to the binding outside.
@@ -21,7 +21,7 @@ module _ (M : Memory) where
 
   -- The first word of an advice's piece: its environment.
   pub piece_links : (p target env dom : ℕ) → target < 65536 → PutsLink advice env M (put_word (piece_base + 2 * p) (advice_word target env dom) M)
-  piece_links p target env dom h = record { word = piece_base + 2 * p; around = _; is_word = an_advice_lem target dom h; words = refl }
+  piece_links p target env dom h = record { word = piece_base + 2 * p; around = _; is_word = one_advice target dom h; words = refl }
 
   module _ (frames d pc env : ℕ) where
     -- `put_return`: the environment of a call's frame.

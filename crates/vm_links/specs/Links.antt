@@ -54,7 +54,7 @@ pub data LinkWord : Link → (ℕ → ℕ) → Type 0 where
   an_end : (pc env n : ℕ) → pc ≤ return_pc → env < link_size → n < link_size → LinkWord end (λ l. slot_word advice_frame pc env (bindings_left n l))
   a_function : (target x : ℕ) → target < 65536 → x < 268435456 → LinkWord closure (λ l. above (function_value l target) x)
   an_object : (term x : ℕ) → term < 65536 → x < 268435456 → LinkWord closure (λ l. above (object_value l term) x)
-  an_advice_lem : (target dom : ℕ) → target < 65536 → LinkWord advice (λ l. advice_word target l dom)
+  one_advice : (target dom : ℕ) → target < 65536 → LinkWord advice (λ l. advice_word target l dom)
 
 -- The offset of a link in the work area, if its word is number i; and the number in its two bytes there.
 abbrev pub link_offset : Link → ℕ → ℕ

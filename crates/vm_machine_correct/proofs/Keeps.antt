@@ -41,7 +41,7 @@ use Rattle.vm_machine_correct.proofs.Setup.{Setup}
 use Rattle.vm_machine_correct.proofs.Relations.{Sizes, sizes, IsVal, val_like, val_at, val_grows, env_at, env_grows, Grows}
 use Rattle.vm_machine_correct.proofs.Tables.{word_same, word_other, grows_put, grows_refl, grows_trans, above_put, slots_refl}
 use Rattle.vm_machine_correct.proofs.Store.{Store, store_charged, store_kept}
-use Rattle.vm_machine_correct.proofs.Views.{AsLabel, a_label_lem, no_label, as_label}
+use Rattle.vm_machine_correct.proofs.Views.{AsLabel, one_label, no_label, as_label}
 use Rattle.vm_machine_correct.proofs.Keeping.{UnderLabel, AreKept, kept_below, kept_more, kept_fits}
 use Rattle.vm_machine_correct.proofs.Slots.{slot_of, slot_word_lem, slot_same, FrameIs, Held, Back, held_kept, same_to}
 use Rattle.vm_machine_correct.proofs.Simulation.{entry_ready, Common, InPlace, halted_stopped}
@@ -105,7 +105,7 @@ module _ (Θ : Setup) where
       under = view (as_label Θ M z is) reach
         where
           view : {u : CVal} → AsLabel Θ M z x u → Reach Θ.sound k s (ret v') (keep_r u e P.env ∷ K) → (l : UnderLabel u) × (body_of x % label_limit ≡ l.label)
-          view (a_label_lem {l = l} t q) reach' = (record { label = l; is = refl }, q)
+          view (one_label {l = l} t q) reach' = (record { label = l; is = refl }, q)
           view (no_label {v = u} n) reach' = absurd (reach_keep Θ.sound k s u v' e P.env K reach' n)
 
       -- No frame for the body.

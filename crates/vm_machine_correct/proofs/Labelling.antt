@@ -24,7 +24,7 @@ use Rattle.vm_machine.specs.Fetch.{code_at, atom_value}
 use Rattle.vm_machine.specs.Turn.{child_at, Taken, take_labels}
 use Rattle.vm_machine_correct.proofs.Setup.{Setup}
 use Rattle.vm_machine_correct.proofs.Relations.{Sizes, IsEnv}
-use Rattle.vm_machine_correct.proofs.Views.{AsLabel, a_label_lem, no_label, as_label}
+use Rattle.vm_machine_correct.proofs.Views.{AsLabel, one_label, no_label, as_label}
 use Rattle.vm_machine_correct.proofs.Labels.{digits_of, Labels, one_more, with_digit_lem}
 use Rattle.vm_machine_correct.proofs.Fetch.{atom_is}
 use Rattle.vm_machine_correct.proofs.Entries.{word_atom}
@@ -101,7 +101,7 @@ module _ (Θ : Setup) (M : Memory) (z : Sizes) (env : ℕ) (ρ : Env) (ie : IsEn
         where
           view : {u : CVal} → AsLabel Θ M z word u → Reach Θ.sound k s (ret u) (op_nf pcd_n (map CVal.label ds) (terms_of Θ.table ys) ρ ∷ K)
               → Stops (take_labels Θ.program M env w (length ys) (suc (length ds)) (with_digit (digits_of ds) (body_of word % label_limit)))
-          view (a_label_lem {l = l} t e) r'' =
+          view (one_label {l = l} t e) r'' =
               let low : l < label_limit = omega arith in
               rw (e, with_digit_lem ls (omega (arith, at.2)) l) (ih (l ∷ ds) (ret (CVal.label l)) _ at.1 (one_more low ls) at.2 some_done r'')
           view (no_label {v = u} n) r'' = absurd (reach_label Θ.sound k s u (map CVal.label ds) (terms_of Θ.table ys) ρ K r'' n)

@@ -15,7 +15,7 @@ use Rattle.calculus.specs.Syntax.{Dom, Ty, Tm, mark}
 use Rattle.calculus.specs.State.{Advice, with_uses, add_uses, advice_bindings}
 use Rattle.calculus.specs.Compose.{triggered_by}
 use Rattle.calculus.specs.Place.{Place}
-use Rattle.calculus.specs.Answer.{reduct, at_capacity, if_capacity_lem, with}
+use Rattle.calculus.specs.Answer.{reduct, at_capacity, by_capacity, with}
 use Rattle.closure_machine.specs.Closure.{CVal, Env, Body, CState, unload_val}
 use Rattle.closure_machine.specs.Machine.{Control, ret, triggered, triggered_f, Stack, CAnswer, reduces, reduce2_c, move}
 use Rattle.vm_theory.specs.Conf.{Site, advice_a, Chain, Slots, base, kept_by, depth_at, trigger}
@@ -42,7 +42,7 @@ use Rattle.vm_machine_correct.proofs.Store.{Store, store_charged}
 use Rattle.vm_machine_correct.proofs.Keeping.{AreKept, kept_grows, kept_fits}
 use Rattle.vm_machine_correct.proofs.Slots.{slot_of, slot_word_lem, slot_same, Held, Back, held_kept, same_to}
 use Rattle.vm_machine_correct.proofs.Simulation.{InPlace, Simulates, halted_stopped}
-use Rattle.vm_machine_correct.proofs.Views.{AsLabel, a_label_lem, no_label, as_label}
+use Rattle.vm_machine_correct.proofs.Views.{AsLabel, one_label, no_label, as_label}
 use Rattle.vm_machine_correct.proofs.Arrives.{completed_now}
 use Rattle.vm_machine_correct.proofs.Steps.{measure, After, after_halted, fits_in, Stepping, no_capacity, if_left_with, no_way}
 use Rattle.vm_machine_correct.proofs.Gives.{Left, still, falls}
@@ -212,7 +212,7 @@ module _ (Θ : Setup) where
 
     -- The room for all bindings is tested, and then whether there is advice.
     pub mark_now : (X : Place) (y : Ty) {x x' : ℕ} {v v' : CVal} → IsVal Θ S.memory (sizes r) x v → IsVal Θ S.memory (sizes r) x' v' → At (reduce2_c Θ.given X s mark y v v') → Progresses (reduce_mark w x x' S)
-    unfolding with unload_val reduce_mark if_capacity_lem
+    unfolding with unload_val reduce_mark by_capacity
     mark_now X y {x} {x'} {v' = v'} i i' R = try (as_label Θ S.memory (sizes r) i) R
       where
         st : Store Θ S.memory S.log (sizes r) s
@@ -297,7 +297,7 @@ module _ (Θ : Setup) where
         )
 
         rest_now : (a : List (Advice Body)) (b : Bound Pool) → Made Θ S.memory (sizes r) v' a start b → (t u : Bool) → leb (advice_bindings a).mainline.bindings (binding_limit - s.used.mainline.bindings) ≡ t
-            → leb (advice_bindings a).others.bindings (binding_limit - s.used.others.bindings) ≡ u → At (if_capacity_lem t Outcome.Bindings (if_capacity_lem u Outcome.OtherBindings (reduct (used a) (triggered v' a))))
+            → leb (advice_bindings a).others.bindings (binding_limit - s.used.others.bindings) ≡ u → At (by_capacity t Outcome.Bindings (by_capacity u Outcome.OtherBindings (reduct (used a) (triggered v' a))))
             → Progresses
             (if_capacity (within_quotas b.count) (mark_out b.count) (with_memory b.memory r S)
             (choose (eqb (whole b.count) n) (given w 0 (with_memory b.memory r S)) (start_advice w n (whole b.count) (with_memory b.memory (set_pools (set_bindings b.count r.pools) (stepped r)) S))))
@@ -316,8 +316,8 @@ module _ (Θ : Setup) where
         Marked : List (Advice Body) → Type 0
         Marked a =
             At
-            (if_capacity_lem (leb (advice_bindings a).mainline.bindings (binding_limit - s.used.mainline.bindings)) Outcome.Bindings
-            (if_capacity_lem (leb (advice_bindings a).others.bindings (binding_limit - s.used.others.bindings)) Outcome.OtherBindings (reduct (used a) (triggered v' a))))
+            (by_capacity (leb (advice_bindings a).mainline.bindings (binding_limit - s.used.mainline.bindings)) Outcome.Bindings
+            (by_capacity (leb (advice_bindings a).others.bindings (binding_limit - s.used.others.bindings)) Outcome.OtherBindings (reduct (used a) (triggered v' a))))
 
         -- a label that no installed advice names
         named : (l : ℕ) → l < label_limit → (t : Bool) → has_bit r.named l ≡ t → Marked (triggered_by l s.advices) → Progresses
@@ -342,6 +342,6 @@ module _ (Θ : Setup) where
         there (some p) a Q = Q
 
         try : {u : CVal} → AsLabel Θ S.memory (sizes r) x u → At (reduce2_c Θ.given X s mark y u v') → Progresses (reduce_mark w x x' S)
-        try (a_label_lem {l = l} p q) Q =
+        try (one_label {l = l} p q) Q =
             rw q (named l (omega arith) (has_bit r.named l) refl (rw (spend_advice s (λ s'. reduct s' (triggered v' (triggered_by l s.advices))) (triggered_by l s.advices)) at (there (get_elem? s.labels l) _ Q)))
         try (no_label p) Q = no_way Q (rw p)

@@ -10,7 +10,7 @@ use Rattle.calculus.specs.declared.Outcome.{Outcome}
 use Rattle.calculus.specs.Limits.{binding_limit, cell_limit, piece_limit}
 use Rattle.calculus.specs.Combinators.{choose}
 use Rattle.calculus.specs.State.{Advice, Counts, Uses, no_counts, add_uses, some_bindings, one_cell, some_pieces, advice_bindings, with_uses}
-use Rattle.calculus.specs.Answer.{if_capacity_lem, spend}
+use Rattle.calculus.specs.Answer.{by_capacity, spend}
 use Rattle.closure_machine.specs.Closure.{Body, CState}
 use Rattle.closure_machine.specs.Machine.{CAnswer}
 use Rattle.vm_pools.specs.declared.Pool.{Pool}
@@ -107,20 +107,20 @@ module _ (s : CState) (k : CState → CAnswer) where
   o = s.used.others
 
   pub spend_bindings : (h : Bool) (n : ℕ)
-      → spend (at_quota h (some_bindings n)) s k ≡ if_capacity_lem (leb n (binding_limit - choose h m.bindings o.bindings)) (bindings_out h) (k (with_uses (add_uses s.used (at_quota h (some_bindings n))) s))
-  unfolding spend if_capacity_lem
+      → spend (at_quota h (some_bindings n)) s k ≡ by_capacity (leb n (binding_limit - choose h m.bindings o.bindings)) (bindings_out h) (k (with_uses (add_uses s.used (at_quota h (some_bindings n))) s))
+  unfolding spend by_capacity
   spend_bindings true n = rw (no_cells m, no_pieces m, no_bindings o, no_cells o, no_pieces o)
   spend_bindings false n = rw (no_bindings m, no_cells m, no_pieces m, no_cells o, no_pieces o)
 
   pub spend_cell : (h : Bool)
-      → spend (at_quota h one_cell) s k ≡ if_capacity_lem (leb 1 (cell_limit - choose h m.cells o.cells)) (cells_out h) (k (with_uses (add_uses s.used (at_quota h one_cell)) s))
-  unfolding spend if_capacity_lem
+      → spend (at_quota h one_cell) s k ≡ by_capacity (leb 1 (cell_limit - choose h m.cells o.cells)) (cells_out h) (k (with_uses (add_uses s.used (at_quota h one_cell)) s))
+  unfolding spend by_capacity
   spend_cell true = rw (no_bindings m, no_pieces m, no_bindings o, no_cells o, no_pieces o)
   spend_cell false = rw (no_bindings m, no_cells m, no_pieces m, no_bindings o, no_pieces o)
 
   pub spend_pieces : (h : Bool) (n : ℕ)
-      → spend (at_quota h (some_pieces n)) s k ≡ if_capacity_lem (leb n (piece_limit - choose h m.pieces o.pieces)) (pieces_out h) (k (with_uses (add_uses s.used (at_quota h (some_pieces n))) s))
-  unfolding spend if_capacity_lem
+      → spend (at_quota h (some_pieces n)) s k ≡ by_capacity (leb n (piece_limit - choose h m.pieces o.pieces)) (pieces_out h) (k (with_uses (add_uses s.used (at_quota h (some_pieces n))) s))
+  unfolding spend by_capacity
   spend_pieces true n = rw (no_bindings m, no_cells m, no_bindings o, no_cells o, no_pieces o)
   spend_pieces false n = rw (no_bindings m, no_cells m, no_pieces m, no_bindings o, no_cells o)
 
@@ -156,11 +156,11 @@ advice_used {p} {u} k x q e f fits =
 module _ (s : CState) (k : CState → CAnswer) where
   abbrev marked : Uses → CAnswer
   marked u =
-      if_capacity_lem (leb u.mainline.bindings (binding_limit - s.used.mainline.bindings)) Outcome.Bindings
-      (if_capacity_lem (leb u.others.bindings (binding_limit - s.used.others.bindings)) Outcome.OtherBindings (k (with_uses (add_uses s.used u) s)))
+      by_capacity (leb u.mainline.bindings (binding_limit - s.used.mainline.bindings)) Outcome.Bindings
+      (by_capacity (leb u.others.bindings (binding_limit - s.used.others.bindings)) Outcome.OtherBindings (k (with_uses (add_uses s.used u) s)))
 
   spend_alone : (u : Uses) → spend (bindings_alone u) s k ≡ marked (bindings_alone u)
-  unfolding spend if_capacity_lem
+  unfolding spend by_capacity
   spend_alone u = rw (no_cells s k s.used.mainline, no_pieces s k s.used.mainline, no_cells s k s.used.others, no_pieces s k s.used.others)
 
   pub spend_advice : (x : List (Advice Body)) → spend (advice_bindings x) s k ≡ marked (advice_bindings x)

@@ -36,7 +36,7 @@ use Rattle.vm_machine_correct.proofs.Setup.{Setup}
 use Rattle.vm_machine_correct.proofs.Pools.{leb_iff}
 use Rattle.vm_machine_correct.proofs.Relations.{Sizes, sizes, IsVal, is_unit, is_label, IsAdvice, at_piece, Grows, advice_grows}
 use Rattle.vm_machine_correct.proofs.Tables.{word_same, word_other, grows_put, grows_sizes, grows_trans, slots_put, slots_refl}
-use Rattle.vm_machine_correct.proofs.Store.{log_bytes, install_more, advices_change, Store, cell_change, log_one, bytes_one, bytes_length, log_length_lem}
+use Rattle.vm_machine_correct.proofs.Store.{log_bytes, install_more, advices_change, Store, cell_change, log_one, bytes_one, bytes_length, log_kept}
 use Rattle.vm_machine_correct.proofs.Labels.{has_union}
 use Rattle.vm_machine_correct.proofs.Views.{AsNumber, a_number, no_number, as_number_lem, AsAdvice, a_advice, no_advice, as_advice}
 use Rattle.vm_machine_correct.proofs.Steps.{measure, After, Stepping, no_way, if_capacity_there}
@@ -134,10 +134,10 @@ module _ (Θ : Setup) (S : State) (k : ℕ) (s : CState) (m : ℕ) (P : Site) (A
       ps = log_of s.trace
 
       long : length S.log ≡ length Θ.log
-      long = log_length_lem Θ M S.log z s st
+      long = log_kept Θ M S.log z s st
 
       tests : leb log_record_length (length S.log - r.logged) ≡ log_capacity Θ.given s
-      tests = leb_iff log_record_length (length S.log - r.logged) log_record_length (Θ.given.log_length - 10 * length ps) (λ h. omega (arith, long, Θ.log_length_lem, st.written.log_at)) (λ h. omega (arith, long, Θ.log_length_lem, st.written.log_at))
+      tests = leb_iff log_record_length (length S.log - r.logged) log_record_length (Θ.given.log_length - 10 * length ps) (λ h. omega (arith, long, Θ.log_kept, st.written.log_at)) (λ h. omega (arith, long, Θ.log_kept, st.written.log_at))
 
       after : Regs
       after = stepped (set_logged (r.logged + 10) r)

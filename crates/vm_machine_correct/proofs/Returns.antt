@@ -27,7 +27,7 @@ use Rattle.vm_theory.proofs.Debt.{paid_none}
 use Rattle.vm_theory.proofs.Reach.{Reach, reach_moves, reach_go, reach_label, reach_cut, redex_due, ends_over, ends_spent}
 use Rattle.vm_theory.proofs.Places.{SiteInvariant, ChainInvariant}
 use Rattle.vm_theory.proofs.Located.{Points, p_caller, p_to, describes}
-use Rattle.vm_theory.proofs.Kept.{Kept, a_call, an_advice_lem, some_operands, Slot, IsChain}
+use Rattle.vm_theory.proofs.Kept.{Kept, a_call, one_advice, some_operands, Slot, IsChain}
 use Rattle.vm_theory.proofs.Inside.{next_inside}
 use Rattle.vm_code.specs.Values.{body_of}
 use Rattle.vm_code.specs.Words.{class_of, depth_of, next_of, term_count, count_size}
@@ -45,7 +45,7 @@ use Rattle.vm_machine.specs.Turn.{entries_from, labels_from, resume_labels, resu
 use Rattle.vm_machine_correct.proofs.Setup.{Setup, root_term}
 use Rattle.vm_machine_correct.proofs.Caller.{caller_done, caller_call, caller_advice, caller_pointcut, caller_keep}
 use Rattle.vm_machine_correct.proofs.Relations.{Sizes, sizes, is_unit, IsEnv, env_used, env_grows, IsTriggered, no_more, one_left, triggered_at}
-use Rattle.vm_machine_correct.proofs.Views.{AsLabel, a_label_lem, no_label, as_label, AsPointcut, a_pointcut, no_pointcut, as_pointcut}
+use Rattle.vm_machine_correct.proofs.Views.{AsLabel, one_label, no_label, as_label, AsPointcut, a_pointcut, no_pointcut, as_pointcut}
 use Rattle.vm_machine_correct.proofs.Labels.{digits_of, one_more, with_digit_lem, digit_count_lem}
 use Rattle.vm_machine_correct.proofs.Keeping.{AreKept, kept_left, kept_fits}
 use Rattle.vm_machine_correct.proofs.Keeps.{leave_now}
@@ -276,7 +276,7 @@ module _ (Θ : Setup) where
             where
               view : {u : CVal} → AsLabel Θ M z r.acc u → Reach Θ.sound k s (ret u) (op_nf pcd_n vs es P.env ∷ stack_at P A D)
                   → Progresses (labels_from Θ.program m (digit_count pointcut_limit (digits_at M r.frames f) + 1) (with_digit (digits_at M r.frames f) (body_of r.acc % label_limit)) S')
-              view (a_label_lem {l = l} t e) reach' =
+              view (one_label {l = l} t e) reach' =
                   let low : l < label_limit = omega arith in
                   let counted : digit_count pointcut_limit (digits_of R.done) + 1 ≡ suc (length R.done) = omega (arith, digit_count_lem 8 R.labels (omega (arith, R.fewer))) in
                   rw (digits, e, with_digit_lem R.labels (omega (arith, R.fewer)) l, counted)
@@ -359,7 +359,7 @@ module _ (Θ : Setup) where
         let b : base A₀ ≡ depth_at P A + 2 = omega (arith, ap base q) in
         let i : ℕ = suc (suc (depth_at P A)) in
         let e : slot_at M r.frames 0 ≡ slot_of M i = over_slot (omega arith) ∙ ap (λ (j : ℕ). slot_of M j) (ap base q) in
-        rw (caller_advice Θ.program Θ.given.frame S pc Θ.says.return (slot_of M i) e (omega (arith, now.frames)) c.0.says.0.kind) (advice_now P A (an_advice_lem u x) _ c.0 c.1 f.0 f.1 h d x u (slot_of M i) c.0.says.0 b c.0.says.1 reach)
+        rw (caller_advice Θ.program Θ.given.frame S pc Θ.says.return (slot_of M i) e (omega (arith, now.frames)) c.0.says.0.kind) (advice_now P A (one_advice u x) _ c.0 c.1 f.0 f.1 h d x u (slot_of M i) c.0.says.0 b c.0.says.1 reach)
     chain_now (rest_a u x P ∷ A) q c f h reach = absurd c.0.says
     chain_now (many_a pcd_n vs es P ∷ A) q c f h reach =
         let b : base A₀ ≡ suc (depth_at P A) = ap base q in

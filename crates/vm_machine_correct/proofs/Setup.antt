@@ -21,7 +21,7 @@ pub record Setup : Type 1 where
   pub budget : ℕ
   -- the log as it was at the start, which is as long as the run supposes
   pub log : List ℕ
-  pub log_length_lem : given.log_length ≡ length log
+  pub log_kept : given.log_length ≡ length log
 
 abbrev pub root_term : Setup → Tm
 root_term Θ = Θ.table.term Θ.root

@@ -15,7 +15,7 @@ use Rattle.closure_machine.specs.Machine.{pcd_n, match_n}
 use Rattle.vm_theory.specs.Code.{one_b, first_b, second_b, Skel, waits}
 use Rattle.vm_theory.specs.Conf.{Slots}
 use Rattle.vm_theory.specs.Table.{many_n, pcd_m, match_m, terms_of}
-use Rattle.vm_theory.proofs.Kept.{Kept, a_call, an_advice_lem, a_rest, some_operands, a_keep, Waits, SameTo, waits_kept}
+use Rattle.vm_theory.proofs.Kept.{Kept, a_call, one_advice, a_rest, some_operands, a_keep, Waits, SameTo, waits_kept}
 use Rattle.vm_machine.specs.Registers.{frame_slots}
 use Rattle.vm_machine.specs.Memory.{Memory, word_at, slot_base, call_frame, advice_frame, pointcut_frame, keep_frame, slot_env, slot_pc, slot_kind, slot_held, held_stack, next_binding, end_binding, binding_places, held_size}
 use Rattle.vm_machine.specs.Stacks.{stack_to_come}
@@ -74,7 +74,7 @@ module _ (Θ : Setup) where
 
     abbrev pub Back : ℕ → Kept → ℕ → Env → Type 0
     Back i a_call m ρ = FrameIs M z (slot_of M i) call_frame m ρ
-    Back i (an_advice_lem w x) m ρ = FrameIs M z (slot_of M i) advice_frame m ρ × IsTriggered Θ M z (next_binding (slot_of M i)) (end_binding (slot_of M i)) w x
+    Back i (one_advice w x) m ρ = FrameIs M z (slot_of M i) advice_frame m ρ × IsTriggered Θ M z (next_binding (slot_of M i)) (end_binding (slot_of M i)) w x
     Back i (a_rest w x) m ρ = ⊥
     Back i (some_operands pcd_n vs es) m ρ = FrameIs M z (slot_of M i) pointcut_frame m ρ × LabelsAre (slot_of M i) (byte_of M i) m vs es
     Back i (some_operands (match_n p e g) vs es) m ρ = FrameIs M z (slot_of M i) pointcut_frame m ρ × MatchIs M z (slot_of M i) (byte_of M i) m p e g vs es
@@ -96,7 +96,7 @@ module _ (Θ : Setup) where
 
     back_kept : (i : ℕ) → slot_of M' i ≡ slot_of M i → byte_of M' i ≡ byte_of M i → (κ : Kept) (m : ℕ) (ρ : Env) → Back M z i κ m ρ → Back M' z' i κ m ρ
     back_kept i p q a_call m ρ h = frame_kept p h
-    back_kept i p q (an_advice_lem w x) m ρ h = (frame_kept p h.0, triggered_kept p h.1)
+    back_kept i p q (one_advice w x) m ρ h = (frame_kept p h.0, triggered_kept p h.1)
     back_kept i p q (a_rest w x) m ρ h = h
     back_kept i p q (some_operands pcd_n vs es) m ρ h = (frame_kept p h.0, labels_kept p q h.1)
     back_kept i p q (some_operands (match_n t e f) vs es) m ρ h = (frame_kept p h.0, match_kept p q h.1)

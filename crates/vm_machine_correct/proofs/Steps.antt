@@ -13,7 +13,7 @@ use Rattle.calculus.specs.Combinators.{choose}
 use Rattle.calculus.specs.Run.{stopped, ended, run}
 use Rattle.calculus.specs.Report.{outcome_number}
 use Rattle.calculus.specs.State.{fresh, some_bindings, one_cell, some_pieces, at_dom, add_uses, with_uses}
-use Rattle.calculus.specs.Answer.{reduct, at_capacity, halt, wrong, if_capacity_lem, spend}
+use Rattle.calculus.specs.Answer.{reduct, at_capacity, halt, wrong, by_capacity, spend}
 use Rattle.calculus.specs.Place.{framed}
 use Rattle.closure_machine.specs.Closure.{CState, unload_state}
 use Rattle.closure_machine.specs.Machine.{Control, Stack, CAnswer, reduces, move}
@@ -116,7 +116,7 @@ module _ {Θ : Setup} {S : State} {k : ℕ} {s : CState} {m : ℕ} {P : Site} {A
       (omega (arith, R.place.common.budget, R.place.common.running)))
 
   redexed : {a : CAnswer} → Stepping Θ S k s m P A D c F a → Redexed Θ S k s m P A D c F a
-  unfolding if_capacity_lem
+  unfolding by_capacity
   redexed {a} R = record { place = R.place; pc = R.pc; reach = R.reach; is = rw (le-leb (depth_at P A) frame_limit R.shallow) R.is }
 
   -- The step's own room is missing.
@@ -142,9 +142,9 @@ module _ {Θ : Setup} {S : State} {k : ℕ} {s : CState} {m : ℕ} {P : Site} {A
   pub if_left : {a : CAnswer} (b : ℕ) (S' : State) → Stepping Θ S k s m P A D c F a → (s' : CState) (c' : Control) → a ≡ reduct s' c' → (fuel_bias < S.regs.fuel → After Θ b S') → After Θ b (if_fuel S S')
   if_left {a} b S' R s' c' q h = if_left_with b S.memory R.place.common.store S' R (rw q refl) h
 
-  pub if_capacity_there : {a : CAnswer} (b : ℕ) (t : Bool) (o : Outcome) (a' : CAnswer) (S' : State) (u : Bool) → u ≡ t → Stepping Θ S k s m P A D c F a → a ≡ if_capacity_lem t o a'
+  pub if_capacity_there : {a : CAnswer} (b : ℕ) (t : Bool) (o : Outcome) (a' : CAnswer) (S' : State) (u : Bool) → u ≡ t → Stepping Θ S k s m P A D c F a → a ≡ by_capacity t o a'
       → (t ≡ true → Stepping Θ S k s m P A D c F a' → After Θ b (if_fuel S S')) → After Θ b (if_capacity u o S S')
-  unfolding if_capacity_lem
+  unfolding by_capacity
   if_capacity_there {a} b true o a' S' u e R q h =
       rw e (h refl (record { place = R.place; pc = R.pc; reach = R.reach; shallow = R.shallow; is = R.is ∙ ap (λ (x : CAnswer). reduces x (stack_at P A D)) q }))
   if_capacity_there b false o a' S' u e R q h = rw e (no_capacity b S.memory R.place.common.store o R q)
@@ -206,7 +206,7 @@ module _ {Θ : Setup} {S : State} {k : ℕ} {s : CState} {m : ℕ} {P : Site} {A
 
   -- Frames come first.
   pub judged_now : {a : CAnswer} (b : ℕ) (S' : State) → Redexed Θ S k s m P A D c F a → (Stepping Θ S k s m P A D c F a → After Θ b S') → After Θ b (judged (code_at Θ.program m) S S')
-  unfolding if_capacity_lem
+  unfolding by_capacity
   judged_now {a} b S' R h = try (leb S.regs.frames (depth_of (code_at Θ.program m))) refl
     where
       p : InPlace Θ S k s m P A D
@@ -215,7 +215,7 @@ module _ {Θ : Setup} {S : State} {k : ℕ} {s : CState} {m : ℕ} {P : Site} {A
       deep : depth_of (code_at Θ.program m) ≡ length P.skel
       deep = (Θ.says.around m p.no_atom).depth ∙ (describes Θ.linked p.located p.no_atom).depth
 
-      enough_frames : (t : Bool) → leb (depth_at P A) frame_limit ≡ t → move c F Θ.given s ≡ reduces (if_capacity_lem t Outcome.Frames a) (stack_at P A D)
+      enough_frames : (t : Bool) → leb (depth_at P A) frame_limit ≡ t → move c F Θ.given s ≡ reduces (by_capacity t Outcome.Frames a) (stack_at P A D)
       enough_frames t e = rw (← e) R.is
 
       try : (y : Bool) → leb S.regs.frames (depth_of (code_at Θ.program m)) ≡ y → After Θ b (choose y (with_regs (halting Outcome.Frames S.regs) S) S')

@@ -166,7 +166,7 @@ bytes_length [] = refl
 bytes_length (p ∷ ps) = omega (arith, bytes_length ps)
 
 -- The log keeps its length.
-pub log_length_lem : (Θ : Setup) (M : Memory) (log : List ℕ) (z : Sizes) (s : CState) → Store Θ M log z s → length log ≡ length Θ.log
-log_length_lem Θ M log z s st =
+pub log_kept : (Θ : Setup) (M : Memory) (log : List ℕ) (z : Sizes) (s : CState) → Store Θ M log z s → length log ≡ length Θ.log
+log_kept Θ M log z s st =
     ap length st.written.logged ∙ length-append (log_bytes (log_of s.trace)) (drop z.at Θ.log)
     ∙ omega (arith, bytes_length (log_of s.trace), length-drop z.at Θ.log, st.written.log_at, st.written.log_fits)

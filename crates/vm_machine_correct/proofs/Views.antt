@@ -113,7 +113,7 @@ module _ (Θ : Setup) (M : Memory) (z : Sizes) where
   as_function (is_kept_lem p q l a b) = no_function refl
 
   pub data AsLabel (w : ℕ) : CVal → Type 0 where
-    a_label_lem : {l : ℕ} → tag_of w ≡ 6 → body_of w % label_limit ≡ l → AsLabel w (CVal.label l)
+    one_label : {l : ℕ} → tag_of w ≡ 6 → body_of w % label_limit ≡ l → AsLabel w (CVal.label l)
     no_label : {v : CVal} → label_of (unload_val v) ≡ none → AsLabel w v
 
   pub as_label : {w : ℕ} {v : CVal} → IsVal Θ M z w v → AsLabel w v
@@ -124,7 +124,7 @@ module _ (Θ : Setup) (M : Memory) (z : Sizes) where
   as_label (is_fun p q e) = no_label refl
   as_label (is_pair p q a c) = no_label refl
   as_label (is_cell p q) = no_label refl
-  as_label (is_label p q) = a_label_lem p q
+  as_label (is_label p q) = one_label p q
   as_label (is_labels p q a) = no_label refl
   as_label (is_advice_lem p a) = no_label refl
   as_label (is_object_lem p a e) = no_label refl

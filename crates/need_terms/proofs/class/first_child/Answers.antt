@@ -12,6 +12,6 @@ returns-then-child_count-eq0 c =
 pub child_in-requires : goal.child_in-requires
 child_in-requires c =
     let P = c.requires in
-    let n = c.child_count.ensures P.term_kind_lem P.number in
+    let n = c.child_count.ensures P.kind_of_term P.number in
     let some = c.if-child_count-eq0.false in
     (P, omega arith)
