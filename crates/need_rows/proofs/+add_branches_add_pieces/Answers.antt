@@ -39,37 +39,11 @@ branch_there {image} {n = n} {S = S} lent there placed r b j e l e-read =
     let role = (shape_of (term_kind L n)).second in
     (low, subst (λ y. Placed L y e) (branch_position S role 0 b) (child_placed L S n e 0 j role low child placed))
 
-pub add_branches-add_rows-requires : goal.add_branches-add_rows-requires
-add_branches-add_rows-requires t c = (refl, c.requires.4)
-
-pub add_branches-add_pieces-requires : goal.add_branches-add_pieces-requires
-add_branches-add_pieces-requires t c =
-    let e = c.decreases in
-    (omega arith, (c.requires.0, c.requires.1.0, c.requires.1.1, c.requires.3, c.requires.4))
-
-pub add_branches-add_pieces-requires-2 : goal.add_branches-add_pieces-requires-2
-add_branches-add_pieces-requires-2 t c =
-    let e = c.decreases in
-    (omega arith, (c.requires.0, c.requires.2.0, c.requires.2.1, c.requires.3, c.add_rows.auto.rows))
-
-pub add_branches-raise_rows-requires : goal.add_branches-raise_rows-requires
-add_branches-raise_rows-requires t c =
-    (c.add_pieces.auto.rows ∙ c.requires.4, c.add_pieces-2.auto.rows ∙ c.add_rows.auto.rows)
-
 pub add_branches-returns : goal.add_branches-returns
 add_branches-returns t c =
     let a = c.args in
     let L = records_of a.image.now in
     dearer_added (piece_at (in_row L a.s a.both.first.0)) (piece_at (in_row L a.s a.both.second.0)) a.rows.now c.add_pieces.new.rows c.add_rows.new.rows c.add_pieces-2.new.rows c.raise_rows.new.rows c.add_rows.ensures c.add_pieces.ensures c.add_pieces-2.ensures c.raise_rows.ensures
-
-pub add_pieces-returns-then-skips_all : goal.add_pieces-returns-then-skips_all
-add_pieces-returns-then-skips_all t c =
-    let L = records_of c.args.image.now in
-    nothing_added (in_row L c.args.s c.args.n.0) (skipped_row L c.args.s c.args.n.0 (sym c.skips_all.ensures ∙ c.if-skips_all.true)) c.args.rows.now
-
-pub add_pieces-term_kind-kind-requires : goal.add_pieces-term_kind-kind-requires
-add_pieces-term_kind-kind-requires t c =
-    (c.requires.0.terms, c.requires.1)
 
 pub add_pieces-returns-then-kind-le-VARIABLE : goal.add_pieces-returns-then-kind-le-VARIABLE
 add_pieces-returns-then-kind-le-VARIABLE t c =
@@ -79,10 +53,6 @@ add_pieces-returns-then-kind-le-VARIABLE t c =
     let e = c.term_kind-kind.ensures in
     let m = number_is c.requires.0.terms c.requires.1 in
     nothing_added (in_row L c.args.s n) (λ i. leaf_takes L n (omega arith) (keeping_more i c.args.s)) c.args.rows.now
-
-pub add_pieces-term_fields-fields-requires : goal.add_pieces-term_fields-fields-requires
-add_pieces-term_fields-fields-requires t c =
-    (c.requires.0.terms, c.requires.1)
 
 pub add_pieces-part_domain-p-requires : goal.add_pieces-part_domain-p-requires
 add_pieces-part_domain-p-requires t c =
@@ -105,12 +75,6 @@ add_pieces-child_in-e-requires t c =
     let k = (count_of_lem c.requires.0.terms r c.child_count-k.result c.child_count-k.ensures) in
     has_of c.requires.0.terms r c.loop-j.j (omega arith)
 
-pub add_pieces-child_position-q-requires : goal.add_pieces-child_position-q-requires
-add_pieces-child_position-q-requires t c =
-    let d = c.requires.2.deep in
-    let r = kept_row (records_of c.args.image.now) c.args.s c.args.n.0 c.requires.2 in
-    (omega arith, omega arith)
-
 pub add_pieces-add_pieces-requires : goal.add_pieces-add_pieces-requires
 add_pieces-add_pieces-requires t c =
     let L = records_of c.args.image.now in
@@ -130,17 +94,6 @@ add_pieces-add_pieces-requires t c =
     let child : IsChild L n j e = record { there = i; place = omega arith; is = sym (child_is c.requires.0.terms r j e c.child_in-e.ensures) } in
     let placed = child_placed L S n e p j role low child c.requires.2 in
     (omega arith, (c.requires.0, omega arith, subst (λ y. Placed L y e) (sym q) placed, subst (λ y. of_advice y.mode ≡ true) (sym q) (child_of_advice S role p c.requires.3), c.loop-j.invariant.1))
-
-pub add_pieces-overflow_add-j : goal.add_pieces-overflow_add-j
-add_pieces-overflow_add-j t c =
-    let r : HasFields c.args.image.now c.args.n.0 c.term_kind-kind.result c.term_fields-fields.result.now = record { there = c.requires.1; number = c.term_kind-kind.ensures; fields = c.term_fields-fields.ensures } in
-    let h = c.loop-j-test.true in
-    let k = (count_of_lem c.requires.0.terms r c.child_count-k.result c.child_count-k.ensures) in
-    let f = few_children (records_of c.args.image.now) (good_of c.args.image.now c.requires.0.terms.laid_out) c.args.n.0 c.requires.1 in
-    omega arith
-
-pub add_pieces-loop-j-smaller : goal.add_pieces-loop-j-smaller
-add_pieces-loop-j-smaller t c = let h = c.loop-j-test.true in omega arith
 
 pub add_pieces-loop-j-preserved : goal.add_pieces-loop-j-preserved
 add_pieces-loop-j-preserved t c =
@@ -167,11 +120,6 @@ add_pieces-loop-j-preserved t c =
             | add_pieces-else-not-is_branch w ↦ subst (Through L n S own before (l.j + 1)) (sym w.rows-is) (branch_turn L n S own before l.j h role hr l.rows (l.invariant.2 n r) (sym b.ensures ∙ w.if-not-is_branch.false))
           ],
     )
-
-pub add_pieces-charge_rows-requires : goal.add_pieces-charge_rows-requires
-add_pieces-charge_rows-requires t c =
-    let r = kept_row (records_of c.args.image.now) c.args.s c.args.n.0 c.requires.2 in
-    (omega arith, c.loop-j.invariant.1)
 
 pub add_pieces-child_in-requires : goal.add_pieces-child_in-requires
 add_pieces-child_in-requires t c =

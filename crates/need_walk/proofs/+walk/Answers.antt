@@ -21,20 +21,12 @@ returns-then-skips_all t c =
     let L = records_of c.args.image.now in
     c.no_needs.ensures ∙ skip_none (term_at L (root_of L)) c.args.at.position (term_at L c.args.at.term.0) (sym c.skips_all.ensures ∙ c.if-skips_all.true)
 
-pub term_kind-kind-requires : goal.term_kind-kind-requires
-term_kind-kind-requires t c =
-    (c.requires.0.terms, c.requires.1)
-
 pub returns-then-kind-le-VARIABLE : goal.returns-then-kind-le-VARIABLE
 returns-then-kind-le-VARIABLE t c =
     let m = number_is c.requires.0.terms c.requires.1 in
     let e = c.term_kind-kind.ensures in
     let k = c.if-kind-le-VARIABLE.true in
     c.no_needs-then-kind-le-VARIABLE.ensures ∙ leaf_none (records_of c.args.image.now) c.args.at.term.0 (omega arith) c.args.at.position
-
-pub term_fields-fields-requires : goal.term_fields-fields-requires
-term_fields-fields-requires t c =
-    (c.requires.0.terms, c.requires.1)
 
 pub part_domain-p-requires : goal.part_domain-p-requires
 part_domain-p-requires t c =
@@ -46,15 +38,6 @@ branch_variables-v-requires t c = part_of c.requires.0.terms (record { there = c
 
 pub child_count-k-requires : goal.child_count-k-requires
 child_count-k-requires t c = (part_of c.requires.0.terms (record { there = c.requires.1; number = c.term_kind-kind.ensures; fields = c.term_fields-fields.ensures })).long
-
-pub at_mark-requires : goal.at_mark-requires
-at_mark-requires t c =
-    (kept_row (records_of c.args.image.now) c.args.at.position c.args.at.term.0 c.requires.2, c.requires.3)
-
-pub own_needs-sum-requires : goal.own_needs-sum-requires
-own_needs-sum-requires t c =
-    let d = c.requires.2.deep in
-    omega arith
 
 pub loop-j-init : goal.loop-j-init
 loop-j-init t c =
@@ -81,12 +64,6 @@ child_in-e-requires t c =
     let k = (count_of_lem c.requires.0.terms r c.child_count-k.result c.child_count-k.ensures) in
     has_of c.requires.0.terms r c.loop-j.j (omega arith)
 
-pub child_position-q-requires : goal.child_position-q-requires
-child_position-q-requires t c =
-    let d = c.requires.2.deep in
-    let r = kept_row (records_of c.args.image.now) c.args.at.position c.args.at.term.0 c.requires.2 in
-    (omega arith, omega arith)
-
 pub walk-x-requires : goal.walk-x-requires
 walk-x-requires t c =
     let L = (records_of c.args.image.now) in
@@ -107,18 +84,6 @@ walk-x-requires t c =
     let child : IsChild L n j e = record { there = i; place = omega arith; is = sym (child_is c.requires.0.terms r j e c.child_in-e.ensures) } in
     let placed = child_placed L S n e p j role low child c.requires.2 in
     (rw (← c.decreases) low, (c.requires.0, omega arith, subst (λ y. Placed L y e) (sym q) placed, c.requires.3, subst (λ y. Known L y w rows) (sym q) (child_known L S role p w rows c.requires.4)))
-
-pub overflow_add-j : goal.overflow_add-j
-overflow_add-j t c =
-    let h = c.loop-j-test.true in
-    let k = (count_of_lem c.requires.0.terms (record { there = c.requires.1; number = c.term_kind-kind.ensures; fields = c.term_fields-fields.ensures }) c.child_count-k.result c.child_count-k.ensures) in
-    let f = few_children (records_of c.args.image.now) (good_of c.args.image.now c.requires.0.terms.laid_out) c.args.at.term.0 c.requires.1 in
-    omega arith
-
-pub loop-j-smaller : goal.loop-j-smaller
-loop-j-smaller t c =
-    let h = c.loop-j-test.true in
-    omega arith
 
 pub loop-j-preserved : goal.loop-j-preserved
 loop-j-preserved t c =

@@ -14,12 +14,6 @@ use Rattle.write_load.proofs.+grow.Goals as goal
 pub put_number-requires : goal.put_number-requires
 put_number-requires t c = capacity_number c.requires
 
-pub returns-then-depth-eq0 : goal.returns-then-depth-eq0
-returns-then-depth-eq0 t c =
-    let e = c.if-depth-eq0.true in
-    let s = c.args.done.state in
-    same_grew {d = c.args.depth} {d' = 0} (ap (λ d. grow d s) e) refl refl c.put_number.ensures
-
 pub put_number-requires-then-is_number : goal.put_number-requires-then-is_number
 put_number-requires-then-is_number t c = capacity_number c.requires
 
@@ -30,9 +24,6 @@ returns-then-is_number t c =
     let z = c.if-depth-eq0.false in
     let q : number_follows (drawn (next c.args.done.state) % 4) c.args.depth ≡ true = ap (λ q. number_follows (drawn q % 4) c.args.depth) (sym w) ∙ sym n ∙ c.if-is_number.true in
     same_grew {d = c.args.depth} {d' = 0} (number_follows_lem c.args.depth c.args.done.state (omega arith) q ∙ ap (λ q. grow 0 q) (sym w)) refl refl c.put_number-then-is_number.ensures
-
-pub overflow_sub-depth : goal.overflow_sub-depth
-overflow_sub-depth t c = let h = deep (c.draw-state.result / 16777216 % 4) c.args.depth c.if-c-eq-A_PRINT.true (sym c.is_number.ensures ∙ c.if-is_number.false) in search rules
 
 pub grow-inner-requires : goal.grow-inner-requires
 grow-inner-requires t c =
@@ -79,9 +70,6 @@ grow-right-requires t c =
     let d : 0 < c.args.depth = omega arith in
     let m = c.decreases in
     (omega arith, capacity_second c.requires refl refl d c.grow-left.ensures)
-
-pub overflow_sub-c : goal.overflow_sub-c
-overflow_sub-c t c = let n = no_number (c.draw-state.result / 16777216 % 4) c.args.depth (sym c.is_number.ensures ∙ c.if-is_number.false) in search rules
 
 pub last_term-requires-2 : goal.last_term-requires-2
 last_term-requires-2 t c = some_first c.requires refl refl (omega arith) c.grow-left.ensures

@@ -16,12 +16,6 @@ use Rattle.write_program.proofs.Begun.{come_none, begun_none, record_capacity, c
 use Rattle.write_program.proofs.+write_term.Goals as goal
 use Rattle.write_program.proofs.+write_term.Goals.{else-is_child, then-is_child}
 
-pub term_fields-fields-requires : goal.term_fields-fields-requires
-term_fields-fields-requires t c = (c.requires.1, c.requires.2)
-
-pub term_kind-kind-requires : goal.term_kind-kind-requires
-term_kind-kind-requires t c = (c.requires.1, c.requires.2)
-
 pub known_fields-known-requires : goal.known_fields-known-requires
 known_fields-known-requires t c = (c.requires.0, rw (c.term_kind-kind.ensures, c.term_fields-fields.ensures) (known c.requires.1 c.requires.2))
 
@@ -34,9 +28,6 @@ class_of-class-requires t c = (read c.requires.1 c.requires.2 c.term_kind-kind.e
 
 pub field-v-requires : goal.field-v-requires
 field-v-requires t c = (read c.requires.1 c.requires.2 c.term_kind-kind.ensures c.term_fields-fields.ensures c.known_fields-known.ensures).inside c.loop-i.i (search rules)
-
-pub child_no-requires : goal.child_no-requires
-child_no-requires t c = sym c.is_child.ensures ∙ c.if-is_child.true
 
 pub write_term-d-requires : goal.write_term-d-requires
 write_term-d-requires t c =

@@ -8,18 +8,9 @@ use Rattle.write_types.proofs.Located.{known, read}
 use Rattle.write_sections.proofs.Numbered.{numbered_none, size_is, type_number_lem, numbered_more, numbered_all}
 use Rattle.write_sections.proofs.write_type.Goals as goal
 
-pub type_fields-fields-requires : goal.type_fields-fields-requires
-type_fields-fields-requires c = (c.requires.1, c.requires.2)
-
-pub type_kind-kind-requires : goal.type_kind-kind-requires
-type_kind-kind-requires c = (c.requires.1, c.requires.2)
-
 pub known_fields-known-requires : goal.known_fields-known-requires
 known_fields-known-requires c =
     (c.requires.0, rw (c.type_kind-kind.ensures, c.type_fields-fields.ensures) (known c.requires.1 c.requires.2))
-
-pub loop-i-init : goal.loop-i-init
-loop-i-init c = (omega arith, refl, λ t h R. numbered_none _ _ _ _)
 
 pub class_of-requires : goal.class_of-requires
 class_of-requires c = (read c.requires.1 c.requires.2 c.type_kind-kind.ensures c.type_fields-fields.ensures c.known_fields-known.ensures).asks c.loop-i.i (search rules)

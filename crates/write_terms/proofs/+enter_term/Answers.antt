@@ -15,12 +15,6 @@ use Rattle.write_terms.proofs.Located.{known, read, next_child, child_lower, nex
 use Rattle.write_terms.proofs.+enter_term.Goals as goal
 use Rattle.write_terms.proofs.+enter_term.Goals.{then-is_child, else-is_child}
 
-pub term_fields-fields-requires : goal.term_fields-fields-requires
-term_fields-fields-requires t c = (c.requires.2, c.requires.4)
-
-pub term_kind-requires : goal.term_kind-requires
-term_kind-requires t c = (c.requires.2, c.requires.4)
-
 pub known_fields-known-requires : goal.known_fields-known-requires
 known_fields-known-requires t c = (c.requires.0, rw (c.term_kind.ensures, c.term_fields-fields.ensures) (known c.requires.2 c.requires.4))
 
@@ -33,9 +27,6 @@ class_of-class-requires t c = (read c.requires.2 c.requires.4 c.term_kind.ensure
 
 pub field-v-requires : goal.field-v-requires
 field-v-requires t c = (read c.requires.2 c.requires.4 c.term_kind.ensures c.term_fields-fields.ensures c.known_fields-known.ensures).inside c.loop-i.i (search rules)
-
-pub child_no-child-requires : goal.child_no-child-requires
-child_no-child-requires t c = sym c.is_child.ensures ∙ c.if-is_child.true
 
 pub enter_term-m-requires : goal.enter_term-m-requires
 enter_term-m-requires t c =

@@ -12,12 +12,6 @@ use Rattle.need_terms.specs.First.{first_child}
 use Rattle.need_terms.proofs.Lowest.{first_there, least_start, least_turn, least_whole}
 use Rattle.need_terms.proofs.class.+lowest_fault.Goals as goal
 
-pub term_kind-kind-requires : goal.term_kind-kind-requires
-term_kind-kind-requires t c = (c.requires.0, c.requires.1)
-
-pub term_fields-fields-requires : goal.term_fields-fields-requires
-term_fields-fields-requires t c = (c.requires.0, c.requires.1)
-
 pub first_child-requires : goal.first_child-requires
 first_child-requires t c = part_of c.requires.0 (record { there = c.requires.1; number = c.term_kind-kind.ensures; fields = c.term_fields-fields.ensures })
 
@@ -45,9 +39,6 @@ lowest_fault-f-requires t c =
     let low = child_below c.requires.0 (record { there = c.requires.1; number = c.term_kind-kind.ensures; fields = c.term_fields-fields.ensures }) c.loop-j.j c.child_in-e.result.0 c.child_in-e.ensures (omega arith) in
     let i = c.requires.1 in
     (rw (← c.decreases) low, (c.requires.0, omega arith, c.requires.2))
-
-pub loop-j-smaller : goal.loop-j-smaller
-loop-j-smaller t c = let h = c.loop-j-test.true in omega arith
 
 pub loop-j-preserved : goal.loop-j-preserved
 loop-j-preserved t c =
