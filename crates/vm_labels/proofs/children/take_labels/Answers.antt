@@ -1,11 +1,7 @@
-use Prim.Native.Nat.{ℕ, ◌-◌}
-use mathlib.Core.Path.{◌≡◌, refl, ◌∙◌}
-use mathlib.Core.List.{List}
+use mathlib.Core.Path.{refl, ◌∙◌}
 use native.Mathlib.Omega.{arith}
 use Rattle.vm_machine.specs.Fetch.{Program}
-use Rattle.vm_machine.specs.Turn.{take_labels}
 use Rattle.vm_memory.specs.View.{memory_of}
-use Rattle.vm_labels.specs.PointcutChildren.{child_fields}
 use Rattle.vm_labels.proofs.Taking.{child_in_lem, from_count, none_left, no_atom, one_taken}
 use borrow.Author.Rules.{rules}
 use Rattle.vm_labels.proofs.children.take_labels.Goals as goal

@@ -1,6 +1,5 @@
 use Prim.Native.Nat.{◌%◌}
 use mathlib.Core.Path.{ap, ◌∙◌}
-use borrow.Author.Rules.{rules}
 use Rattle.vm_code.specs.Words.{term_count}
 use Rattle.vm_labels.proofs.children.term_at.Goals as goal
 

@@ -7,7 +7,6 @@ use Rattle.calculus.specs.Limits.{piece_limit}
 use Rattle.vm_machine.specs.declared.Regs.{Regs}
 use Rattle.vm_machine.specs.Fits.{PoolFits}
 use Rattle.vm_memory.specs.View.{memory_of}
-use borrow.Author.Rules.{rules}
 use Rattle.vm_labels.proofs.labels.labels.Goals as goal
 
 pub instruction-requires : goal.instruction-requires

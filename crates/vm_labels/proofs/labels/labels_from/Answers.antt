@@ -1,7 +1,6 @@
 use Rattle.vm_machine.specs.Fetch.{Program}
 use Rattle.vm_machine.specs.Turn.{Taken}
 use Rattle.vm_labels.proofs.Labelling.{all_done, all_frames, no_capacity, one_begun}
-use borrow.Author.Rules.{rules}
 use Rattle.vm_labels.proofs.labels.labels_from.Goals as goal
 
 pub make_pointcut-requires : goal.make_pointcut-requires

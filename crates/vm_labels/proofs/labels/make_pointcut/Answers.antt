@@ -2,7 +2,6 @@ use Rattle.vm_code.specs.Values.{pointcut_tag}
 use Rattle.vm_code.specs.Words.{count_of}
 use Rattle.vm_machine.specs.Memory.{label_set}
 use Rattle.vm_labels.proofs.Labelling.{judged_frames, judged_made, piece_unpaid, pointcut_as}
-use borrow.Author.Rules.{rules}
 use Rattle.vm_labels.proofs.labels.make_pointcut.Goals as goal
 
 pub returns-then-r-depth_of : goal.returns-then-r-depth_of

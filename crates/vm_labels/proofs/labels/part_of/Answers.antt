@@ -3,7 +3,6 @@ use Rattle.vm_code.specs.Words.{depth_of}
 use Rattle.vm_labels.proofs.Labelling.{few_digits, resumed_part_lem, begun_part_lem}
 use native.Mathlib.Omega.{arith}
 use Rattle.vm_memory.specs.View.{memory_of}
-use borrow.Author.Rules.{rules}
 use Rattle.vm_labels.proofs.labels.part_of.Goals as goal
 
 pub digits_at-d-requires : goal.digits_at-d-requires

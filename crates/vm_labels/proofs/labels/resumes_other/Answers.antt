@@ -1,5 +1,4 @@
 use Rattle.vm_labels.proofs.Labelling.{resumes_other_as}
-use borrow.Author.Rules.{rules}
 use Rattle.vm_labels.proofs.labels.resumes_other.Goals as goal
 
 pub returns-then-resumed : goal.returns-then-resumed

@@ -1,6 +1,5 @@
 use Rattle.vm_memory.specs.View.{memory_of}
 use Rattle.vm_marks.proofs.Advised.{body_instruction, body_atom}
-use borrow.Author.Rules.{rules}
 use Rattle.vm_marks.proofs.advice.body_at.Goals as goal
 
 pub returns-then-g-ge-TERMS : goal.returns-then-g-ge-TERMS

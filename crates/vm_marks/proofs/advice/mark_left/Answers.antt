@@ -1,5 +1,4 @@
 use Rattle.vm_marks.proofs.Advised.{mark_left_made}
-use borrow.Author.Rules.{rules}
 use Rattle.vm_marks.proofs.advice.mark_left.Goals as goal
 
 pub returns : goal.returns

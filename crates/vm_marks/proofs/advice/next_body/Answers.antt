@@ -1,5 +1,4 @@
 use Rattle.vm_marks.proofs.Advised.{next_body_made}
-use borrow.Author.Rules.{rules}
 use Rattle.vm_marks.proofs.advice.next_body.Goals as goal
 
 pub overflow_sub-q : goal.overflow_sub-q

@@ -1,5 +1,4 @@
 use Rattle.vm_marks.proofs.Advised.{start_lacking, start_made}
-use borrow.Author.Rules.{rules}
 use Rattle.vm_marks.proofs.advice.start_advice.Goals as goal
 
 pub returns-then-r-d : goal.returns-then-r-d

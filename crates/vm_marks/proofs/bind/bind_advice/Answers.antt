@@ -1,5 +1,4 @@
 use Rattle.vm_marks.proofs.Matched.{placed, past}
-use borrow.Author.Rules.{rules}
 use Rattle.vm_marks.proofs.bind.bind_advice.Goals as goal
 
 pub returns-then-n-lt-BINDING_PLACES : goal.returns-then-n-lt-BINDING_PLACES

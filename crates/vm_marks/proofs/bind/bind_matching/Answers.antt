@@ -1,12 +1,6 @@
 use Rattle.vm_marks.proofs.Matched.{matching_on, matching_done}
-use Rattle.vm_marks.specs.Binds.{bound_in}
-use Rattle.vm_pools.specs.Pools.{whole}
-use Rattle.vm_machine.specs.Reduce.{bind_matching}
-use Rattle.base_bytes.specs.Memory.{memory_length}
-use lib.ListN.{length, drop}
-use mathlib.Core.Path.{◌≡◌, refl, ◌∙◌}
+use mathlib.Core.Path.{refl, ◌∙◌}
 use native.Mathlib.Omega.{arith}
-use Prim.Native.Nat.{◌+◌, ◌≤◌}
 use borrow.Author.Rules.{rules}
 use Rattle.vm_marks.proofs.bind.bind_matching.Goals as goal
 

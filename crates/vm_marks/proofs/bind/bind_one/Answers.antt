@@ -4,7 +4,6 @@ use Rattle.vm_pools.specs.Pools.{charge, whole}
 use native.Mathlib.Omega.{arith}
 use Prim.Native.Nat.{◌+◌}
 use Rattle.vm_marks.proofs.Matched.{one_bound, other_bound, one_more}
-use borrow.Author.Rules.{rules}
 use Rattle.vm_marks.proofs.bind.bind_one.Goals as goal
 
 pub returns-then-has_bit : goal.returns-then-has_bit

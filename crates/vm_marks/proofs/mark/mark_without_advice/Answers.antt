@@ -2,7 +2,6 @@ use Rattle.vm_code.specs.Values.{unit_value}
 use Rattle.vm_machine.specs.Reduce.{given}
 use Rattle.vm_registers.proofs.Ended.{left_made}
 use Rattle.vm_marks.proofs.Marked.{unpaid_made}
-use borrow.Author.Rules.{rules}
 use Rattle.vm_marks.proofs.mark.mark_without_advice.Goals as goal
 
 pub returns-then-r-le-FUEL_BIAS : goal.returns-then-r-le-FUEL_BIAS

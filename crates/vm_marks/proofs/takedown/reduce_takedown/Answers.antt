@@ -1,7 +1,7 @@
 -- What stays is moved together; then the instruction gives unit.
 use Prim.Native.Nat.{◌<◌}
 use native.Mathlib.Omega.{arith}
-use mathlib.Core.Path.{sym, subst, ◌∙◌}
+use mathlib.Core.Path.{sym, subst}
 use Rattle.vm_machine.specs.declared.Regs.{Regs}
 use Rattle.vm_machine.specs.Registers.{fuel_bias}
 use Rattle.vm_marks.proofs.Stayed.{takedown_made}

@@ -1,6 +1,5 @@
 use native.Mathlib.Omega.{arith}
 use Rattle.vm_marks.proofs.Stayed.{one_goes, one_stays}
-use borrow.Author.Rules.{rules}
 use Rattle.vm_marks.proofs.takedown.stay_one.Goals as goal
 
 pub returns-then-advice_dom-d : goal.returns-then-advice_dom-d

@@ -1,11 +1,6 @@
 use Rattle.vm_marks.proofs.Stayed.{stay_on, stay_done, stay_start}
-use Rattle.vm_marks.specs.Binds.{bound_in}
-use Rattle.vm_machine.specs.Reduce.{stay_others}
-use Rattle.base_bytes.specs.Memory.{memory_length}
-use lib.ListN.{length, drop}
-use mathlib.Core.Path.{◌≡◌, refl, ◌∙◌}
+use mathlib.Core.Path.{refl, ◌∙◌}
 use native.Mathlib.Omega.{arith}
-use Prim.Native.Nat.{◌-◌, ◌≤◌}
 use borrow.Author.Rules.{rules}
 use Rattle.vm_marks.proofs.takedown.stay_others.Goals as goal
 

@@ -1,13 +1,8 @@
-use mathlib.Core.Path.{◌≡◌, refl, ◌∙◌}
+use mathlib.Core.Path.{refl, ◌∙◌}
 use native.Mathlib.Omega.{arith}
-use Prim.Native.Nat.{◌+◌, ◌-◌, ◌≤◌, ◌<◌}
-use Rattle.base_bytes.specs.Memory.{memory_length}
-use lib.ListN.{length, drop}
+use Prim.Native.Nat.{◌<◌}
 use Rattle.vm_code.specs.Words.{count_of}
-use Rattle.vm_machine.specs.Fetch.{Program}
-use Rattle.vm_machine.specs.Stacks.{variables, bind_entries}
-use Rattle.vm_machine.specs.Memory.{binding_places}
-use Rattle.vm_matches.specs.Matching.{match_fields, entry_in, chain_in}
+use Rattle.vm_matches.specs.Matching.{entry_in}
 use Rattle.vm_matches.proofs.Fields.{entry_of}
 use Rattle.vm_matches.proofs.Binding.{frames_start, bound_start, bound_on, bound_done, frames_here, frames_on, frames_left}
 use borrow.Author.Rules.{rules}

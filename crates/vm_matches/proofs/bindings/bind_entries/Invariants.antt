@@ -1,5 +1,4 @@
-use mathlib.Core.Path.{◌≡◌, refl, ◌∙◌}
-use native.Mathlib.Omega.{arith}
+use mathlib.Core.Path.{◌≡◌}
 use Prim.Native.Nat.{◌+◌, ◌-◌, ◌≤◌, ◌<◌}
 use Rattle.base_bytes.specs.Memory.{memory_length}
 use lib.ListN.{length, drop}
@@ -7,10 +6,7 @@ use Rattle.vm_code.specs.Words.{count_of}
 use Rattle.vm_machine.specs.Fetch.{Program}
 use Rattle.vm_machine.specs.Stacks.{variables, bind_entries}
 use Rattle.vm_machine.specs.Memory.{binding_places}
-use Rattle.vm_matches.specs.Matching.{match_fields, entry_in, chain_in}
-use Rattle.vm_matches.proofs.Fields.{entry_of}
-use Rattle.vm_matches.proofs.Binding.{frames_start, bound_start, bound_on, bound_done, frames_here, frames_on, frames_left}
-use borrow.Author.Rules.{rules}
+use Rattle.vm_matches.specs.Matching.{match_fields, chain_in}
 use Rattle.vm_matches.proofs.bindings.bind_entries.Given as goal
 
 abbrev pub invariant-loop-i : goal.invariant-loop-i

@@ -3,7 +3,6 @@ use Prim.Native.Nat.{ℕ}
 use mathlib.Core.Bool.{not}
 use lib.Dec.{eqb}
 use Rattle.vm_matches.proofs.Fields.{close_of}
-use borrow.Author.Rules.{rules}
 use Rattle.vm_matches.proofs.entries.binds_rest.Goals as goal
 
 pub returns : goal.returns

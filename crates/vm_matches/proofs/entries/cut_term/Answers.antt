@@ -1,5 +1,4 @@
 use native.Mathlib.Omega.{arith}
-use borrow.Author.Rules.{rules}
 use Rattle.vm_matches.proofs.entries.cut_term.Goals as goal
 
 pub returns-then-v-eq0 : goal.returns-then-v-eq0

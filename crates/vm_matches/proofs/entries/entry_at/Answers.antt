@@ -1,4 +1,3 @@
-use borrow.Author.Rules.{rules}
 use Rattle.vm_matches.proofs.entries.entry_at.Goals as goal
 
 pub returns : goal.returns

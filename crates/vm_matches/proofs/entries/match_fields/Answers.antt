@@ -2,7 +2,6 @@ use Prim.Native.Nat.{ℕ, ◌+◌, ◌*◌}
 use mathlib.Core.Path.{ap, ◌∙◌}
 use lib.ListN.{take, drop}
 use Rattle.vm_code.specs.Words.{offset_of}
-use borrow.Author.Rules.{rules}
 use Rattle.vm_matches.proofs.entries.match_fields.Goals as goal
 
 pub returns : goal.returns

@@ -1,6 +1,5 @@
 use mathlib.Core.Path.{ap, ap₂, ◌∙◌}
 use mathlib.Core.Bool.{Bool, not, ◌&&◌, ◌||◌}
-use borrow.Author.Rules.{rules}
 use Rattle.vm_matches.proofs.entries.matches.Goals as goal
 
 pub returns : goal.returns

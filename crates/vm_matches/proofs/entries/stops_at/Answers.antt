@@ -1,7 +1,6 @@
 use Rattle.vm_machine.specs.Fetch.{Program}
 use Rattle.vm_matches.proofs.Fields.{entry_of}
 use Rattle.vm_matches.proofs.Looking.{stops_as}
-use borrow.Author.Rules.{rules}
 use Rattle.vm_matches.proofs.entries.stops_at.Goals as goal
 
 pub returns : goal.returns

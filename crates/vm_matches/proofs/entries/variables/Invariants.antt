@@ -1,12 +1,8 @@
 use Rattle.vm_machine.specs.Fetch.{Program}
 use Rattle.vm_matches.specs.Matching.{match_fields}
-use Rattle.vm_matches.proofs.Fields.{entry_of}
-use mathlib.Core.Path.{◌≡◌, sym, ap, ◌∙◌}
-use native.Mathlib.Omega.{arith}
-use Prim.Native.Nat.{ℕ, ◌+◌, ◌-◌, ◌≤◌}
+use mathlib.Core.Path.{◌≡◌}
+use Prim.Native.Nat.{◌+◌, ◌-◌, ◌≤◌}
 use Rattle.vm_machine.specs.Stacks.{variables}
-use Rattle.vm_matches.proofs.Looking.{count_start, count_more, count_all}
-use borrow.Author.Rules.{rules}
 use Rattle.vm_matches.proofs.entries.variables.Given as goal
 
 abbrev pub invariant-loop-i : goal.invariant-loop-i

@@ -1,14 +1,11 @@
-use Prim.Native.Nat.{ℕ, ◌-◌, ◌<◌}
-use mathlib.Core.List.{List}
+use Prim.Native.Nat.{◌<◌}
 use native.Mathlib.Omega.{arith}
 use Rattle.vm_code.specs.Words.{count_of}
 use Rattle.vm_machine.specs.Fetch.{Program}
-use Rattle.vm_matches.specs.Matching.{match_fields, looked_of}
+use Rattle.vm_matches.specs.Matching.{looked_of}
 use Rattle.vm_memory.specs.View.{memory_of}
-use mathlib.Core.Path.{◌≡◌, refl, sym, ◌∙◌}
-use Rattle.vm_machine.specs.Stacks.{look_on}
+use mathlib.Core.Path.{refl, sym, ◌∙◌}
 use Rattle.vm_matches.proofs.Looking.{look_none, look_stop, look_past, look_all}
-use borrow.Author.Rules.{rules}
 use Rattle.vm_matches.proofs.looks.look_on.Goals as goal
 
 pub returns-then-stops_at : goal.returns-then-stops_at

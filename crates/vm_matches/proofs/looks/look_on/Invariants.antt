@@ -1,14 +1,9 @@
-use Prim.Native.Nat.{ℕ, ◌-◌, ◌<◌}
+use Prim.Native.Nat.{ℕ, ◌-◌}
 use mathlib.Core.List.{List}
-use native.Mathlib.Omega.{arith}
-use Rattle.vm_code.specs.Words.{count_of}
-use Rattle.vm_machine.specs.Fetch.{Program}
 use Rattle.vm_matches.specs.Matching.{match_fields, looked_of}
 use Rattle.vm_memory.specs.View.{memory_of}
-use mathlib.Core.Path.{◌≡◌, refl, sym, ◌∙◌}
+use mathlib.Core.Path.{◌≡◌}
 use Rattle.vm_machine.specs.Stacks.{look_on}
-use Rattle.vm_matches.proofs.Looking.{look_none, look_stop, look_past, look_all}
-use borrow.Author.Rules.{rules}
 use Rattle.vm_matches.proofs.looks.look_on.Given as goal
 
 abbrev pub invariant-loop-k : goal.invariant-loop-k

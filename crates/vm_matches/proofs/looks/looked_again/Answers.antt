@@ -1,7 +1,6 @@
 use Rattle.vm_memory.specs.View.{memory_of}
 use native.Mathlib.Omega.{arith}
 use Rattle.vm_matches.proofs.Looking.{stack_came, cut_came}
-use borrow.Author.Rules.{rules}
 use Rattle.vm_matches.proofs.looks.looked_again.Goals as goal
 
 pub returns-then-byte-ge-STACK_TO_COME : goal.returns-then-byte-ge-STACK_TO_COME

@@ -2,7 +2,6 @@ use mathlib.Core.Path.{refl, ap}
 use native.Mathlib.Omega.{arith}
 use Prim.Native.Nat.{ℕ, ◌%◌}
 use lib.Dec.{leb}
-use borrow.Author.Rules.{rules}
 use Rattle.vm_code.specs.Words.{count_size}
 use Rattle.vm_matches.proofs.looks.looked_with.Goals as goal
 

@@ -2,7 +2,6 @@ use Rattle.vm_memory.specs.View.{memory_of}
 use mathlib.Core.Path.{refl}
 use Rattle.vm_matches.specs.Matching.{looked_of}
 use Rattle.vm_matches.proofs.Looking.{cut_past}
-use borrow.Author.Rules.{rules}
 use Rattle.vm_matches.proofs.looks.past_cut.Goals as goal
 
 pub returns : goal.returns

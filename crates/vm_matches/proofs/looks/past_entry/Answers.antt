@@ -3,7 +3,6 @@ use Rattle.vm_matches.proofs.Fields.{entry_of}
 use Rattle.vm_memory.specs.View.{memory_of}
 use Rattle.vm_matches.specs.Matching.{looked_of}
 use Rattle.vm_matches.proofs.Looking.{entry_any, entry_cut}
-use borrow.Author.Rules.{rules}
 use Rattle.vm_matches.proofs.looks.past_entry.Goals as goal
 
 pub returns-then-e-eq0 : goal.returns-then-e-eq0

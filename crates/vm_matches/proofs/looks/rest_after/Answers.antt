@@ -1,10 +1,7 @@
 use Rattle.vm_memory.specs.View.{memory_of}
-use mathlib.Core.Path.{◌≡◌, sym, ◌∙◌}
+use mathlib.Core.Path.{sym, ◌∙◌}
 use native.Mathlib.Omega.{arith}
-use Prim.Native.Nat.{◌-◌, ◌≤◌}
-use Rattle.vm_machine.specs.Stacks.{rest_after}
 use Rattle.vm_matches.proofs.Looking.{behind_start, behind_more, behind_all}
-use borrow.Author.Rules.{rules}
 use Rattle.vm_matches.proofs.looks.rest_after.Goals as goal
 
 pub loop-i-preserved : goal.loop-i-preserved

@@ -1,10 +1,7 @@
 use Rattle.vm_memory.specs.View.{memory_of}
-use mathlib.Core.Path.{◌≡◌, sym, ◌∙◌}
-use native.Mathlib.Omega.{arith}
+use mathlib.Core.Path.{◌≡◌}
 use Prim.Native.Nat.{◌-◌, ◌≤◌}
 use Rattle.vm_machine.specs.Stacks.{rest_after}
-use Rattle.vm_matches.proofs.Looking.{behind_start, behind_more, behind_all}
-use borrow.Author.Rules.{rules}
 use Rattle.vm_matches.proofs.looks.rest_after.Given as goal
 
 abbrev pub invariant-loop-i : goal.invariant-loop-i

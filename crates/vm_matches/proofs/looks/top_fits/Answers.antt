@@ -1,6 +1,5 @@
 use Rattle.vm_memory.specs.View.{memory_of}
 use Rattle.vm_matches.proofs.Looking.{top_as}
-use borrow.Author.Rules.{rules}
 use Rattle.vm_matches.proofs.looks.top_fits.Goals as goal
 
 pub returns : goal.returns

@@ -2,7 +2,6 @@ use mathlib.Core.Path.{ap, ◌∙◌}
 use Rattle.vm_machine.specs.Fetch.{Program}
 use Rattle.vm_machine.specs.Turn.{begun_at}
 use Rattle.vm_matches.proofs.Fields.{term_of}
-use borrow.Author.Rules.{rules}
 use Rattle.vm_matches.proofs.matches.branch_at.Goals as goal
 
 pub returns : goal.returns

@@ -1,9 +1,8 @@
 use mathlib.Core.Bool.{not}
-use mathlib.Core.Path.{refl, ap, ◌∙◌}
+use mathlib.Core.Path.{refl, ap}
 use Rattle.vm_machine.specs.Fetch.{Program}
 use native.Mathlib.Omega.{arith}
 use Prim.Native.Nat.{◌+◌, ◌≤◌}
-use borrow.Author.Tests.{not-false}
 use Rattle.calculus.specs.Limits.{binding_limit}
 use Rattle.vm_code.specs.Words.{count_of}
 use Rattle.vm_pools.specs.Pools.{bindings_out}

@@ -1,7 +1,6 @@
 use Rattle.vm_labels.proofs.Labelling.{judged_frames, judged_made}
 use Rattle.vm_matches.specs.Matching.{looked_of}
 use Rattle.vm_machine.specs.Turn.{reduce_match}
-use borrow.Author.Rules.{rules}
 use Rattle.vm_matches.proofs.matches.make_match.Goals as goal
 
 pub returns-then-r-depth_of : goal.returns-then-r-depth_of

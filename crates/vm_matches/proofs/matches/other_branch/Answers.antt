@@ -1,6 +1,5 @@
 use mathlib.Core.Path.{refl}
 use Rattle.vm_matches.proofs.Matching.{other_spent, other_made}
-use borrow.Author.Rules.{rules}
 use Rattle.vm_matches.proofs.matches.other_branch.Goals as goal
 
 pub returns-then-r-le-FUEL_BIAS : goal.returns-then-r-le-FUEL_BIAS

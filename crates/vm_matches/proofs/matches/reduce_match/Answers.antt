@@ -1,6 +1,5 @@
 use Rattle.vm_matches.specs.Matching.{looked_of}
 use Rattle.vm_matches.proofs.Matching.{matched, not_matched}
-use borrow.Author.Rules.{rules}
 use Rattle.vm_matches.proofs.matches.reduce_match.Goals as goal
 
 pub returns-then-matches : goal.returns-then-matches

@@ -5,7 +5,6 @@ use Rattle.vm_machine.specs.Fetch.{Program, atom_value}
 use Rattle.vm_memory.specs.View.{memory_of}
 use Rattle.vm_matches.proofs.Fields.{term_of}
 use Rattle.vm_matches.proofs.Matching.{match_atom, match_operand}
-use borrow.Author.Rules.{rules}
 use Rattle.vm_matches.proofs.operands.begin_match.Goals as goal
 
 pub entries_from-requires : goal.entries_from-requires

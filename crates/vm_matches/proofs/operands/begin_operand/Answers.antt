@@ -2,7 +2,6 @@ use mathlib.Core.Path.{refl, ap, ◌∙◌}
 use Rattle.vm_code.specs.Words.{depth_of}
 use native.Mathlib.Omega.{arith}
 use Rattle.vm_matches.proofs.Matching.{operand_framed, operand_begun}
-use borrow.Author.Rules.{rules}
 use Rattle.vm_matches.proofs.operands.begin_operand.Goals as goal
 
 pub returns-then-r-d : goal.returns-then-r-d

@@ -3,7 +3,6 @@ use Rattle.vm_machine.specs.Fetch.{Program}
 use Rattle.vm_matches.proofs.Fields.{entry_of}
 use Rattle.vm_matches.specs.Matching.{looked_of}
 use Rattle.vm_matches.proofs.Matching.{entries_done, entries_on}
-use borrow.Author.Rules.{rules}
 use Rattle.vm_matches.proofs.operands.entries_from.Goals as goal
 
 pub returns-then-count_of-k : goal.returns-then-count_of-k

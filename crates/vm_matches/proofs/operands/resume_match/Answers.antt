@@ -1,7 +1,6 @@
 use mathlib.Core.Path.{ap, ◌∙◌}
 use Rattle.vm_code.specs.Words.{depth_of}
 use Rattle.vm_matches.proofs.Matching.{still_matchable, match_resumed}
-use borrow.Author.Rules.{rules}
 use Rattle.vm_matches.proofs.operands.resume_match.Goals as goal
 
 pub entries_from-requires : goal.entries_from-requires

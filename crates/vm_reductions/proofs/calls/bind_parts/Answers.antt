@@ -1,5 +1,4 @@
 use Rattle.vm_reductions.proofs.Reduced.{parts_made}
-use borrow.Author.Rules.{rules}
 use Rattle.vm_reductions.proofs.calls.bind_parts.Goals as goal
 
 pub returns : goal.returns

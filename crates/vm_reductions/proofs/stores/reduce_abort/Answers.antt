@@ -1,5 +1,4 @@
 use Rattle.vm_reductions.proofs.Reduced.{abort_made}
-use borrow.Author.Rules.{rules}
 use Rattle.vm_reductions.proofs.stores.reduce_abort.Goals as goal
 
 pub returns : goal.returns

@@ -1,5 +1,4 @@
 use Rattle.vm_reductions.proofs.Reduced.{install_made, no_install_made}
-use borrow.Author.Rules.{rules}
 use Rattle.vm_reductions.proofs.stores.reduce_install.Goals as goal
 
 pub returns-then-n-lt-ADVICE_LIMIT : goal.returns-then-n-lt-ADVICE_LIMIT
