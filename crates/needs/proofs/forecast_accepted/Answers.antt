@@ -1,4 +1,3 @@
-use borrow.Author.Rules.{rules}
 use native.Mathlib.Omega.{arith}
 use Rattle.image.specs.Layout.{records_of}
 use Rattle.read_terms.proofs.Located.{good_of}

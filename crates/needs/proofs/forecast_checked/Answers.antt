@@ -1,4 +1,3 @@
-use borrow.Author.Rules.{rules}
 use Prim.Native.Nat.{◌<◌}
 use mathlib.Core.Path.{sym, subst}
 use Rattle.needs.proofs.Told.{shallow_terms, refused_told, accepted_told, some_terms, lent_from}

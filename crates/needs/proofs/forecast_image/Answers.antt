@@ -1,4 +1,3 @@
-use borrow.Author.Rules.{rules}
 use Rattle.needs.proofs.Told.{too_long_told}
 use Rattle.needs.proofs.forecast_image.Goals as goal
 
