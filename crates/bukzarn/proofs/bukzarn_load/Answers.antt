@@ -2,7 +2,6 @@
 use mathlib.Core.Path.{ap, ◌∙◌}
 use Rattle.answers_as_numbers.specs.Numbers.{as_number}
 use Rattle.bukzarn.specs.Numbers.{load_as_number}
-use borrow.Author.Rules.{rules}
 use Rattle.bukzarn.proofs.bukzarn_load.Goals as goal
 
 pub returns : goal.returns

@@ -3,7 +3,6 @@ use mathlib.Core.Path.{ap, ◌∙◌}
 use lib.ListN.{length}
 use Rattle.answers_as_numbers.specs.Numbers.{refused_as_number}
 use Rattle.bukzarn.specs.Numbers.{need_as_number}
-use borrow.Author.Rules.{rules}
 use Rattle.bukzarn.proofs.bukzarn_need.Goals as goal
 
 pub returns : goal.returns

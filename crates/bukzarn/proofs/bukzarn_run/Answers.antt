@@ -1,6 +1,5 @@
 -- What `run` answers, as a number, and the memory as `run` leaves it.
 use Rattle.bukzarn.proofs.Answered.{numbered}
-use borrow.Author.Rules.{rules}
 use Rattle.bukzarn.proofs.bukzarn_run.Goals as goal
 
 pub returns : goal.returns

@@ -2,7 +2,6 @@
 use mathlib.Core.Path.{ap, ◌∙◌}
 use Rattle.answers_as_numbers.specs.Numbers.{as_number}
 use Rattle.bukzarn.specs.Numbers.{stripped_as_number}
-use borrow.Author.Rules.{rules}
 use Rattle.bukzarn.proofs.bukzarn_strip.Goals as goal
 
 pub returns : goal.returns

@@ -2,7 +2,6 @@
 use mathlib.Core.Path.{ap, ◌∙◌}
 use Rattle.answers_as_numbers.specs.Numbers.{refused_as_number}
 use Rattle.bukzarn.specs.Numbers.{verdict_as_number}
-use borrow.Author.Rules.{rules}
 use Rattle.bukzarn.proofs.bukzarn_validate.Goals as goal
 
 pub returns : goal.returns

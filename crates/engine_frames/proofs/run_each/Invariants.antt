@@ -1,12 +1,8 @@
-use Prim.Native.Nat.{◌-◌, ◌/◌, ◌≤◌, ◌<◌}
-use mathlib.Core.Path.{◌≡◌, refl, ap, ◌∙◌}
-use lib.ListN.{length, length-set}
-use native.Mathlib.Omega.{arith}
-use Rattle.answers_as_numbers.specs.Recordings.{part_length, Recording, first_calls}
-use Rattle.image.specs.Limits.{work_length}
-use Rattle.call_spec.proofs.Accepted.{accepted_with}
-use Rattle.answers_as_numbers.proofs.Recordings.{part_inside, length_part, length_with_part, part_lent, part_back, with_clear_work, calls_unseen, first_none, run_recorded}
-use borrow.Author.Rules.{rules}
+use Prim.Native.Nat.{◌-◌, ◌≤◌}
+use mathlib.Core.Path.{◌≡◌}
+use lib.ListN.{length}
+use Rattle.answers_as_numbers.specs.Recordings.{first_calls}
+use Rattle.answers_as_numbers.proofs.Recordings.{with_clear_work}
 use Rattle.engine_frames.proofs.run_each.Given as goal
 
 abbrev pub invariant-loop-i : goal.invariant-loop-i

@@ -1,7 +1,7 @@
 -- `need_rows::add_branches` and `add_pieces` meet their contracts.
 use Prim.Native.Nat.{ℕ, ◌+◌, ◌<◌}
 use native.Mathlib.Omega.{arith}
-use mathlib.Core.Path.{◌≡◌, refl, sym, ap, subst, ◌∙◌}
+use mathlib.Core.Path.{◌≡◌, sym, ap, subst, ◌∙◌}
 use mathlib.Core.Bool.{true}
 use lib.ListN.{length, get_or}
 use Rattle.image.specs.Layout.{records_of}
@@ -12,11 +12,11 @@ use Rattle.need_sums.specs.Walks.{role_at, is_branch, shape_of}
 use Rattle.need_sums.specs.Rows.{table_length}
 use Rattle.need_terms.proofs.Described.{match_three, part_of, has_of, type_there, kind_of_lem, count_of_lem, child_is, child_below, domain_in_lem}
 use Rattle.need_walk.specs.Counted.{Placed}
-use Rattle.need_walk.proofs.Positions.{child_placed, kept_row}
-use Rattle.need_walk.proofs.Walked.{leaf_takes, few_children}
+use Rattle.need_walk.proofs.Positions.{child_placed}
+use Rattle.need_walk.proofs.Walked.{leaf_takes}
 use Rattle.need_rows.specs.Pieces.{keeping_more, in_row, piece_at, of_advice}
 use Rattle.need_rows.proofs.Pieces.{nothing_added}
-use Rattle.need_rows.proofs.Children.{child_of_advice, skipped_row, dearer_added, Through, none_through, plain_turn, branch_turn, without_branches, with_branches}
+use Rattle.need_rows.proofs.Children.{child_of_advice, dearer_added, Through, none_through, plain_turn, branch_turn, without_branches, with_branches}
 use mathlib.Core.List.{List}
 use Rattle.image.specs.Kinds.{TermKind, term_row}
 use Rattle.read_terms.specs.Fields.{children_in}

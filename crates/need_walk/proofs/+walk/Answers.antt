@@ -10,7 +10,7 @@ use Rattle.need_sums.specs.Walks.{shape_of, role_at, own_needs}
 use Rattle.need_sums.specs.declared.shapes.Own.{Own}
 use Rattle.need_terms.specs.GivenToChildren.{HasFields}
 use Rattle.need_terms.proofs.Described.{match_three, kind_of_lem, part_of, count_of_lem, has_of, child_is, child_below, variables_in_lem, type_there, domain_in_lem}
-use Rattle.need_walk.proofs.Walked.{skip_none, own_cut, domain_at, leaf_none, sum_start, choice_start, sum_turn, choice_turn, few_children, all_through}
+use Rattle.need_walk.proofs.Walked.{skip_none, own_cut, domain_at, leaf_none, sum_start, choice_start, sum_turn, choice_turn, all_through}
 use Rattle.verdict.specs.Acceptable.{IsChild}
 use Rattle.need_walk.specs.Counted.{counted, term_at, Placed, Known}
 use Rattle.need_walk.proofs.Positions.{child_placed, child_known, kept_row}

@@ -1,6 +1,5 @@
 -- No room in the log; or the record is written.
 use Rattle.vm_prints.proofs.Printed.{no_capacity, printed}
-use borrow.Author.Rules.{rules}
 use Rattle.vm_prints.proofs.reduce_print.Goals as goal
 
 pub returns-then-log-at-lt-LOG_RECORD_LENGTH : goal.returns-then-log-at-lt-LOG_RECORD_LENGTH

@@ -1,5 +1,4 @@
 -- `write_fixed::write_checked` meets its contract.
-use borrow.Author.Rules.{rules}
 use Rattle.write_fixed.proofs.Acceptance.{accepted_fits, short_left, written_left}
 use Rattle.write_fixed.proofs.write_checked.Goals as goal
 

@@ -1,5 +1,4 @@
 -- `write_fixed::write_fixed` meets its contract.
-use borrow.Author.Rules.{rules}
 use mathlib.Core.Path.{sym, ap, ◌∙◌}
 use Rattle.validator_core.specs.Examined.{verdict_of}
 use Rattle.write_fixed.proofs.Acceptance.{too_long_left, examined_left}

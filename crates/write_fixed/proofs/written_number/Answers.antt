@@ -1,5 +1,4 @@
 -- `write_fixed::written_number` meets its contract.
-use borrow.Author.Rules.{rules}
 use Rattle.write_fixed.proofs.written_number.Goals as goal
 
 pub returns-in-Refused : goal.returns-in-Refused

@@ -1,6 +1,5 @@
 -- `write_fixed::written_place` meets its contract.
 use mathlib.Core.Path.{refl}
-use borrow.Author.Rules.{rules}
 use Rattle.write_fixed.proofs.written_place.Goals as goal
 
 pub returns-in-Refused : goal.returns-in-Refused

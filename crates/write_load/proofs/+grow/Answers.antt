@@ -1,5 +1,4 @@
 -- `write_load::grow` meets its contract.
-use borrow.Author.Rules.{rules}
 use Prim.Native.Nat.{suc, ◌-◌, ◌/◌, ◌%◌, ◌<◌}
 use native.Mathlib.Omega.{arith}
 use mathlib.Core.Path.{◌≡◌, refl, sym, ap, ◌∙◌}

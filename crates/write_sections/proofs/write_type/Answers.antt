@@ -2,10 +2,10 @@
 use borrow.Author.Rules.{rules}
 use Prim.Native.Nat.{◌≤◌, ◌<◌}
 use native.Mathlib.Omega.{arith}
-use mathlib.Core.Path.{refl, sym, ◌∙◌}
+use mathlib.Core.Path.{sym, ◌∙◌}
 use lib.ListN.{length-set}
 use Rattle.write_types.proofs.Located.{known, read}
-use Rattle.write_sections.proofs.Numbered.{numbered_none, size_is, type_number_lem, numbered_more, numbered_all}
+use Rattle.write_sections.proofs.Numbered.{size_is, type_number_lem, numbered_more, numbered_all}
 use Rattle.write_sections.proofs.write_type.Goals as goal
 
 pub known_fields-known-requires : goal.known_fields-known-requires

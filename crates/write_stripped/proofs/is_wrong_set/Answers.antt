@@ -1,5 +1,4 @@
 -- `write_stripped::is_wrong_set` meets its contract.
-use borrow.Author.Rules.{rules}
 use mathlib.Core.Path.{◌∙◌}
 use Rattle.write_stripped.proofs.HighSets.{wrong_is}
 use Rattle.write_stripped.proofs.is_wrong_set.Goals as goal

@@ -1,5 +1,4 @@
 -- `write_stripped::stripped_number` meets its contract.
-use borrow.Author.Rules.{rules}
 use Rattle.write_stripped.proofs.stripped_number.Goals as goal
 
 pub returns-in-Refused : goal.returns-in-Refused

@@ -1,5 +1,4 @@
 -- `write_stripped::stripped_place` meets its contract.
-use borrow.Author.Rules.{rules}
 use mathlib.Core.Path.{refl}
 use Rattle.write_stripped.proofs.stripped_place.Goals as goal
 

@@ -1,5 +1,4 @@
 -- `write_stripped::write_copy` meets its contract.
-use borrow.Author.Rules.{rules}
 use Prim.Native.Nat.{ℕ}
 use mathlib.Core.Path.{ap, subst, ◌∙◌}
 use mathlib.Core.Bool.{Bool}

@@ -1,6 +1,5 @@
 use Rattle.vm_machine.specs.Turn.{reduce_call}
 use Rattle.vm_actions.proofs.Judged.{frames_lacking, frames_enough}
-use borrow.Author.Rules.{rules}
 use Rattle.vm_actions.proofs.calls.call.Goals as goal
 
 pub returns-then-r-depth_of : goal.returns-then-r-depth_of

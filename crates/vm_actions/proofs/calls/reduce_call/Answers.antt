@@ -2,7 +2,6 @@ use mathlib.Core.Path.{ap, ◌∙◌}
 use Rattle.vm_machine.specs.Fetch.{Program}
 use Rattle.vm_machine.specs.Turn.{method_at}
 use Rattle.vm_actions.proofs.Called.{method_made}
-use borrow.Author.Rules.{rules}
 use Rattle.vm_actions.proofs.calls.reduce_call.Goals as goal
 
 pub returns : goal.returns

@@ -1,5 +1,4 @@
 use Rattle.vm_stacks.proofs.Keeping.{body_begun}
-use borrow.Author.Rules.{rules}
 use Rattle.vm_stacks.proofs.keeps.begin_body.Goals as goal
 
 pub returns : goal.returns

@@ -6,7 +6,6 @@ use Rattle.vm_memory.specs.View.{memory_of}
 use Rattle.vm_machine.specs.Fetch.{code_at, atom_value}
 use Rattle.vm_code.specs.Words.{term_count}
 use Rattle.vm_stacks.proofs.Keeping.{atom_given, atom_spent}
-use borrow.Author.Rules.{rules}
 use Rattle.vm_stacks.proofs.keeps.finish_keep.Goals as goal
 
 pub returns-then-r-le-FUEL_BIAS : goal.returns-then-r-le-FUEL_BIAS

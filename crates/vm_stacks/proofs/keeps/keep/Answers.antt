@@ -1,6 +1,5 @@
 use Rattle.vm_labels.proofs.Labelling.{judged_frames, judged_made}
 use Rattle.vm_machine.specs.Stacks.{start_keep}
-use borrow.Author.Rules.{rules}
 use Rattle.vm_stacks.proofs.keeps.keep.Goals as goal
 
 pub returns-then-r-depth_of : goal.returns-then-r-depth_of

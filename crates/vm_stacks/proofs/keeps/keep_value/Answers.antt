@@ -1,5 +1,4 @@
 use Rattle.vm_stacks.proofs.Keeping.{kept_stored}
-use borrow.Author.Rules.{rules}
 use Rattle.vm_stacks.proofs.keeps.keep_value.Goals as goal
 
 pub returns : goal.returns

@@ -1,5 +1,4 @@
 use Rattle.vm_stacks.proofs.Keeping.{keep_body, keep_atom}
-use borrow.Author.Rules.{rules}
 use Rattle.vm_stacks.proofs.keeps.start_keep.Goals as goal
 
 pub returns-then-g-lt-TERMS : goal.returns-then-g-lt-TERMS

@@ -1,7 +1,6 @@
 use mathlib.Core.Path.{ap}
 use mathlib.Core.Bool.{not}
 use native.Mathlib.Omega.{arith}
-use borrow.Author.Tests.{not-false}
 use Rattle.calculus.specs.Limits.{piece_limit}
 use Rattle.vm_pools.specs.Pools.{pieces_out}
 use Rattle.vm_registers.proofs.Quotas.{whole_capacity}

@@ -1,13 +1,10 @@
-use mathlib.Core.Path.{◌≡◌, refl, ◌∙◌}
-use native.Mathlib.Omega.{arith}
+use mathlib.Core.Path.{◌≡◌}
 use Prim.Native.Nat.{◌-◌, ◌≤◌}
 use Rattle.base_bytes.specs.Memory.{memory_length}
 use lib.ListN.{length, drop}
 use Rattle.vm_code.specs.Values.{bottom_value}
 use Rattle.vm_machine.specs.Stacks.{stack_pieces}
 use Rattle.vm_stacks.specs.StacksAndKeeps.{stacked_in}
-use Rattle.vm_stacks.proofs.Stacked.{pieces_start, pieces_on, pieces_done}
-use borrow.Author.Rules.{rules}
 use Rattle.vm_stacks.proofs.stacks.stack_pieces.Given as goal
 
 abbrev pub invariant-loop-i : goal.invariant-loop-i
