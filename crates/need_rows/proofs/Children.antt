@@ -23,7 +23,7 @@ use Rattle.need_sums.specs.Sums.{cut}
 use Rattle.need_sums.specs.Walks.{shape_of, asked, advice_mode, is_advice_body, running_child, child_position, is_branch}
 use Rattle.need_sums.specs.Rows.{table_length, Changed, own_pieces, Summed}
 use Rattle.need_terms.specs.GivenToChildren.{branch_variables}
-use Rattle.need_walk.specs.Counted.{counted, term_at}
+use Rattle.need_walk.specs.Counted.{counted, term_at, skips}
 use Rattle.need_walk.proofs.Folds.{joined_at_of}
 use Rattle.need_walk.proofs.Shapes.{branch_numbers, added_by, offered_by}
 use Rattle.need_walk.proofs.Walked.{kind_at_lem, domain_at, role_of, own_at, sum_to, choice_to, sum_next, choice_next, through}
@@ -102,6 +102,16 @@ child_of_advice s role p h = look s.mode h
     look Mode.Body h = in_body role
     look Mode.AllAdvice h = in_rounds role
     look Mode.InstalledAdvice h = in_round (is_advice_body role)
+
+pub skipped_row : (L : Layout) (s : Position) (n : ℕ) → skips s.mode ≡ true → (i : ℕ) → in_row L s n i ≡ none
+skipped_row L s n h i = look s.mode h
+  where
+    look : (m : Mode) → skips m ≡ true → in_row L (record { mode = m; dom = s.dom; depth = s.depth; kept = s.kept }) n i ≡ none
+    look Mode.Skip h = refl
+    look Mode.Program h = no_path (sym h)
+    look Mode.Body h = no_path (sym h)
+    look Mode.AllAdvice h = no_path (sym h)
+    look Mode.InstalledAdvice h = no_path (sym h)
 
 -- The first j children of term n: their sum with what the term takes itself, and the dearest branch, at a place of a table.
 module _ (L : Layout) (n : ℕ) (s : Position) where

@@ -19,7 +19,8 @@ use Rattle.image.proofs.Laid.{LayoutOk, Below}
 use Rattle.image.proofs.EveryKind.{every_of, at_term}
 use Rattle.read_terms.specs.Lent.{Terms, IsTerm}
 use Rattle.read_terms.proofs.Located.{child_lower}
-use Rattle.image_needs.specs.Faults.{outside, least, permitted, lowest}
+use Rattle.read_terms.proofs.Elimination.{apart}
+use Rattle.image_needs.specs.Faults.{permits, outside, least, permitted, lowest}
 use Rattle.need_terms.specs.First.{lowest_at}
 
 -- A list without elements has no first.
@@ -37,6 +38,15 @@ first_there {b} T {n} h e is = look (ltb 0 (length es)) refl
     look : (c : Bool) → ltb 0 (length es) ≡ c → IsTerm b e
     look true q = let z = child_lower T h {k = term_kind (records_of b) n} refl 0 (ltb-true 0 (length es) q) in omega arith
     look false q = let m = ltb-false 0 (length es) q in let z = no_first es (omega arith) in omega arith
+
+-- The kinds that are not permitted everywhere.
+abbrev tied : List TermKind
+tied = TermKind.install ∷ TermKind.mark ∷ TermKind.call ∷ TermKind.app ∷ []
+
+pub free_kind : (n : ℕ) → apart n tied → (k : TermKind) → n ≡ (term_row k).number → (m : Bool) (j : TermKind) → true ≡ permits m k j
+free_kind n r k e m j =
+    rw (ne_eqb (term_row k).number 42 (λ z. r.0.0.0.1 (e ∙ z)), ne_eqb (term_row k).number 55 (λ z. r.0.0.1 (e ∙ z)), ne_eqb (term_row k).number 45 (λ z. r.0.1 (e ∙ z)), ne_eqb (term_row k).number 48 (λ z. r.1 (e ∙ z)))
+    refl
 
 -- Where a child stands: the second child of an advice is its body, and no other child of any term is one.
 abbrev is_advice_body : Body → Bool

@@ -6,7 +6,7 @@ use mathlib.Core.Path.{◌≡◌, refl, sym, ap, subst, ◌∙◌}
 use mathlib.Core.Bool.{Bool, true, false}
 use mathlib.Core.List.{List, [], ◌∷◌, ◌++◌}
 use lib.ListN.{length, get_or, take}
-use lib.Dec.{eqb}
+use lib.Dec.{eqb, leb}
 use lib.Seq.{take-suc, take_all, length-take-le}
 use borrow.Author.Tests.{eq-eqb}
 use Rattle.calculus.specs.Syntax.{Ty, Val, Tm, Tms, val, var}
@@ -15,13 +15,17 @@ use Rattle.calculus_needs.specs.Numbers.{Numbers, none, ◌⊕◌, dearer}
 use Rattle.calculus_needs.specs.Needs.{need, round_of_value, rounds}
 use Rattle.calculus_needs.proofs.Sums.{none_left, none_right, plus_assoc}
 use Rattle.calculus_needs.proofs.Shift.{level, rounds_once}
-use Rattle.laws.proofs.Booleans.{no_path, eq_of}
+use Rattle.laws.proofs.Booleans.{no_path, le_of, eq_of}
+use Rattle.image.specs.Bytes.{length_at}
+use Rattle.image.proofs.Words.{words_length}
+use Rattle.image.proofs.Counts.{most_children, children_between}
+use Rattle.image.proofs.EveryKind.{every_of, at_term}
 use Rattle.image.specs.Kinds.{TermKind, term_row, is_kind}
 use Rattle.image.proofs.KindNumbers.{same_term_kind}
 use Rattle.read_terms.proofs.Elimination.{constants}
-use Rattle.image.specs.Records.{Layout}
+use Rattle.image.specs.Records.{Layout, times, numbers_at}
 use Rattle.image.specs.Program.{Program, tree, to_tm, to_tms, subtrees, assemble}
-use Rattle.image.specs.Types.{term_kind, stated_type, others, children, root_of}
+use Rattle.image.specs.Types.{term_place, term_kind, stated_type, others, children, root_of}
 use Rattle.image.proofs.Laid.{LayoutOk, Below}
 use Rattle.image.proofs.Fuel.{tree_fuel}
 use Rattle.image_needs.specs.declared.Needs.{Needs}
@@ -123,6 +127,20 @@ full_of k es h = go (is_kind TermKind.match k) refl
     go : (b : Bool) → is_kind TermKind.match k ≡ b → FullIf b es
     go true q = h (same_term_kind k TermKind.match (eq_of q))
     go false q = tt
+
+-- A term has few children.
+most_few : (k : TermKind) → most_children (term_row k) ≤ place_limit
+unfolding every_of
+most_few k = le_of (at_term (λ k. leb (most_children (term_row k)) place_limit) refl k)
+
+pub few_children : (L : Layout) → LayoutOk L → (n : ℕ) → n < length L.terms → length (children L n) ≤ place_limit
+few_children L good n l =
+    let t = good.terms n l in
+    let r = term_row (term_kind L n) in
+    let m = most_few (term_kind L n) in
+    let c : length (children L n) ≤ most_children r =
+    (children_between r (times r (length_at L.image (term_place L n))) (numbers_at L.image (term_place L n) r) (words_length L.image _ _) t.is.stands.least t.is.stands.most).1 in
+    omega arith
 
 -- The term of an image, by its kind, its children by number.
 module _ (L : Layout) (n : ℕ) where

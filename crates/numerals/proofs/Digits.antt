@@ -1,4 +1,4 @@
--- Laws of what bytes say: one more, and all of them; and a number is never over the most.
+-- Laws of what bytes say: none of them, some, one more, and all of them; and a number is never over the most.
 use Prim.Native.Nat.{ℕ, ◌+◌, ◌≤◌, ◌<◌}
 use native.Mathlib.Numerals.{add-one}
 use native.Mathlib.Omega.{arith}
@@ -11,6 +11,14 @@ use lib.Dec.{leb}
 use borrow.Author.Tests.{leb-true}
 use Rattle.numerals.specs.declared.Numeral.{Numeral}
 use Rattle.numerals.specs.Numerals.{is_digit, with_digit, after, after_all, numeral, AtMost}
+
+pub none_said : (most : ℕ) (ds : List ℕ) → length ds ≡ 0 → Numeral.NoNumber ≡ numeral most ds
+none_said most [] h = refl
+none_said most (d ∷ ds) h = absurd (omega arith)
+
+pub some_said : (most : ℕ) (ds : List ℕ) → 0 < length ds → numeral most ds ≡ after_all most (Numeral.Number 0) ds
+some_said most [] h = absurd (omega arith)
+some_said most (d ∷ ds) h = refl
 
 pub one_more : (most : ℕ) (ds : List ℕ) (s : Numeral) (i : ℕ) → i < length ds → after_all most s (drop i ds) ≡ after_all most (after most s (get_or ds i 0)) (drop (i + 1) ds)
 unfolding after_all

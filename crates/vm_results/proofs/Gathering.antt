@@ -49,6 +49,9 @@ module _ (w t : ℕ) (e : t ≡ tag_of w) where
   pub leaf_truth : t ≡ 1 → leaf_of w ≡ Leaf.Truth (not (eqb (body_of w) 0))
   leaf_truth h = rw (sym e ∙ h)
 
+  pub leaf_number : (t ≡ 0 → ⊥) → (t ≡ 1 → ⊥) → leaf_of w ≡ Leaf.Number (body_of w)
+  leaf_number h k = rw (sym e, ne_eqb t 0 h, ne_eqb t 1 k)
+
   -- What is no pair.
   pub word_none : (g : Gathered) → 2 < t → with_leaves g (one_leaf w) ≡ g
   unfolding with_leaves

@@ -69,6 +69,9 @@ pub record Numbered (b places : List ℕ) (t i : ℕ) (numbers : List ℕ) : Typ
   pub told : (T : List Ty) → Placed b places T → PartsIn (length (records_of b).domains) T (parts_of (type_of (records_of b) t))
       → take i numbers ≡ part_nos T (parts_from (λ a. type_of (records_of b) a) (take i (sorts_at b t)) (take i (type_fields (records_of b) t)))
 
+pub numbered_none : (b places : List ℕ) (t : ℕ) (numbers : List ℕ) → Numbered b places t 0 numbers
+numbered_none b places t numbers = record { told = λ T P Q. refl }
+
 module _ {b table : List ℕ} (O : TypeOffsets b table) {t : ℕ} (h : IsType b t) where
   abbrev L : Layout
   L = records_of b

@@ -1,0 +1,2 @@
+-- How much of a buffer is counted.
+pub mod Counted
