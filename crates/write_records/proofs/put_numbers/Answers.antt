@@ -21,7 +21,7 @@ loop-i-preserved c =
     let l = c.loop-i in
     let a = c.args in
     let w = c.put16 in
-    (omega arith, c.put16.auto.out ∙ l.invariant.1, number_step a.numbers.now a.out.now l.out _ a.at l.i (omega arith) (omega arith) (omega (arith, c.shared_slice_known-in-loop-i-1.given l.i)) l.invariant.2 w.ensures)
+    (omega arith, c.put16.auto.out ∙ l.invariant.1, number_step a.numbers.now a.out.now l.out _ a.at l.i (omega arith) (omega arith) (omega (arith, c.type_inv.numbers l.i)) l.invariant.2 w.ensures)
 
 pub returns : goal.returns
 returns c =

@@ -1,3 +1,4 @@
+use borrow.Author.Rules.{rules}
 use mathlib.Core.Path.{sym, ap, ◌∙◌}
 use Rattle.image.specs.Kinds.{TermKind}
 use Rattle.image.proofs.KindNumbers.{same_term_kind}
@@ -87,4 +88,4 @@ pub returns-in-60 : goal.returns-in-60
 returns-in-60 c = λ k e. c.one-in-60.ensures ∙ ap shape_of (same_term_kind TermKind.byte k (sym c.in-60.is ∙ e))
 
 pub returns-in_default : goal.returns-in_default
-returns-in_default c = λ k e. c.childless-in_default.ensures ∙ sym (plain_shape _ c.in_default.in_default-own.rest k e)
+returns-in_default c = λ k e. c.childless-in_default.ensures ∙ sym (plain_shape _ (search rules) k e)
