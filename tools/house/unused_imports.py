@@ -19,15 +19,19 @@ def words_used(text):
     if "[]" in text:
         words.add("[]")
     for word in list(words):
-        words.update(re.split(r"[.·:&!*=]+", word))
+        words.update(re.split(r"[.·:&!*=<>]+", word))
     return words
 
 
+# Traits of the library that a file imports for their methods alone, and one of these methods.
+METHODS = {"Env": "arg"}
+
+
 def is_used(name, words):
-    """An operator is used if each of its signs stands somewhere."""
+    """A trait is used if its method is. An operator is used if each of its signs stands somewhere."""
     if "◌" in name:
         return all(any(sign in word for word in words) for sign in name.split("◌") if sign)
-    return name in words
+    return name in words or METHODS.get(name) in words
 
 
 def unused(file):
