@@ -21,7 +21,7 @@ LONG = {
     ("engine_frames", "run_each"): (43, "ten lent slices and numbers, a line each, as parameters and again in the call"),
     ("check_dispatch", "check_rule"): (42, "an arm for each kind"),
     ("check_layout", "enter"): (55, "twelve parameters, a line each; refusals 3 to 8 in their order, and a way out for each"),
-    ("check_layout", "scan_with"): (53, "the loop over the records; its proof is by hand, and a part of it would need another"),
+    ("check_layout", "scan_with"): (53, "the loop over the records, which keeps the walk and the eight tables"),
     ("check_scopes", "child_setting"): (42, "an arm for each kind that has a child under other variables or at another domain"),
     ("check_typing", "check_subterms"): (52, "nine arguments of two calls, a line each"),
     ("need_rows", "add_pieces"): (44, "a recursion over the children, whose visit has six parts"),
@@ -32,8 +32,8 @@ LONG = {
     ("vm_passes", "surround_children"): (53, "an arm for each kind"),
 }
 
-# More parameters than this: each table that is lent is a slice of its own, since a struct with slices in it takes a proof by hand
-# in each function (document 01 asks for one such struct, the reader). The number behind a name is how many there are. The list
+# More parameters than this: each table that is lent is a slice of its own, since with the older kit a struct with slices in it took
+# a proof by hand in each function (document 01 asks for one such struct, the reader). The number behind a name is how many there are. The list
 # may only become shorter.
 MOST_PARAMETERS = 6
 MANY_PARAMETERS = """
