@@ -1,6 +1,6 @@
 import sys,subprocess,hashlib,os
 drv,n=sys.argv[1],sys.argv[2]
-V='/work/shared/vectors/'
+V=os.environ['WORK']+'/shared/vectors/'
 rows=[]
 for l in open(f'{V}cards/calls-after-{n}.txt'):
     if l.startswith('#') or not l.strip(): continue

@@ -16,7 +16,7 @@ for lab in labels:
         elif l.startswith('old: '): old=l[5:]
         elif l.startswith('new:'):
             p=f'{dst}/{f}'; t=open(p).read(); assert t.count(old)==1,(lab,f,old,t.count(old)); open(p,'w').write(t.replace(old,l[5:]))
-    p=subprocess.run(['bash','/work/speed/one.sh',w,crate],env=env,capture_output=True,text=True)
+    p=subprocess.run(['bash',os.environ['WORK']+'/speed/one.sh',w,crate],env=env,capture_output=True,text=True)
     o=p.stdout+p.stderr
     u=re.search(r'wall ([\d.]+) user',o).group(1)
     errs=[l for l in o.split('\n') if 'error' in l]

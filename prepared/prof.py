@@ -29,7 +29,7 @@ for r,_,fs in os.walk(f'{dst}/src'):
 inc=f'{w}/inc'
 env=dict(os.environ,MIMALLOC_PURGE_DELAY='-1',TMPDIR='/dev/shm')
 def run():
-    p=subprocess.run(['bash','/work/speed/one.sh',w,crate,'--incremental',inc],env=env,capture_output=True,text=True)
+    p=subprocess.run(['bash',os.environ['WORK']+'/speed/one.sh',w,crate,'--incremental',inc],env=env,capture_output=True,text=True)
     o=p.stdout+p.stderr
     m=re.search(r'wall ([\d.]+) user',o)
     return float(m.group(1)),o

@@ -1,7 +1,7 @@
 #!/bin/bash
 # tryedit.sh CLONE CRATE EDIT...: apply each edit in a throw-away copy of the clone (with its target) and show that rt check CRATE fails
 C=$1; K=$2; shift 2
-T=$(mktemp -d /work/try.XXXX); mkdir $T/crates; cp $C/crates.txt $T/; cp -r $C/target $T/ 2>/dev/null
+T=$(mktemp -d $WORK/try.XXXX); mkdir $T/crates; cp $C/crates.txt $T/; cp -r $C/target $T/ 2>/dev/null
 for k in $(cut -d: -f1 $C/crates.txt | grep -v '^#'); do cp -r $C/crates/$k $T/crates/; rm -rf $T/crates/$k/must-fail; done
 for e in "$@"; do
   cp -r $C/crates/$K/. $T/crates/$K/; rm -rf $T/crates/$K/must-fail
