@@ -59,3 +59,10 @@ pub enum Refusal {
     ShortWorkArea,
     ShortReport,
 }
+
+// A refusal, and its place in the image: an offset, or 0 where the refusal is of no place in it.
+#[derive(Clone, Copy)]
+pub struct Refused {
+    pub why: Refusal,
+    pub place: usize,
+}
