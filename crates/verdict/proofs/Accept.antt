@@ -1,4 +1,5 @@
 -- What acceptance means, both ways: an image is accepted exactly if it is laid out, its domains are partially ordered, its terms are a tree that is not too deep, its program is well typed by the calculus's rules with a plain root, and the lent memory is long enough.
+use Rattle.std.specs.Prelude.{Ok}
 use Prim.Native.Nat.{ℕ, zero, suc, ◌<◌}
 use native.Mathlib.Omega.{arith}
 use mathlib.Core.Path.{◌≡◌, refl, sym, ap, subst, ◌∙◌}
@@ -15,7 +16,6 @@ use Rattle.image.specs.LaidOut.{LaidOut}
 use Rattle.image.specs.Program.{tree, program, to_tm}
 use Rattle.image.proofs.Laid.{LayoutOk, layout_good, records_of_lem, image_kept}
 use Rattle.image.proofs.LaidOut.{laid_iff}
-use Rattle.verdict.specs.declared.Verdict.{Verdict}
 use Rattle.verdict.specs.Domains.{policy}
 use Rattle.verdict.specs.Shape.{used_once, Shaped}
 use Rattle.verdict.specs.Verdicts.{verdict}
@@ -102,23 +102,23 @@ acceptable_passed b work report a =
     }
 
 -- The validator accepts exactly what is acceptable.
-pub accepted_iff : (b : List ℕ) (work report : ℕ) → verdict b work report ≡ Verdict.Accepted ↔ Acceptable b work report
+pub accepted_iff : (b : List ℕ) (work report : ℕ) → verdict b work report ≡ Ok tt ↔ Acceptable b work report
 accepted_iff b work report =
     (λ h. passed_acceptable b work report ((passed_iff b work report).0 h), λ a. (passed_iff b work report).1 (acceptable_passed b work report a))
 
-pub accepted_good : (b : List ℕ) (work report : ℕ) → verdict b work report ≡ Verdict.Accepted → LayoutOk (records_of b)
+pub accepted_good : (b : List ℕ) (work report : ℕ) → verdict b work report ≡ Ok tt → LayoutOk (records_of b)
 accepted_good b work report h = layout_good b (records_of b) ((passed_iff b work report).0 h).laid_out
 
 -- An accepted image's program is a well_typed term of the calculus, at domain 0, in the empty context, and its type is plain.
-pub accepted_typed : (b : List ℕ) (work report : ℕ) → verdict b work report ≡ Verdict.Accepted → TmTy (policy (records_of b)) no_store [] 0 (to_tm (program (records_of b))) (root_type (records_of b))
+pub accepted_typed : (b : List ℕ) (work report : ℕ) → verdict b work report ≡ Ok tt → TmTy (policy (records_of b)) no_store [] 0 (to_tm (program (records_of b))) (root_type (records_of b))
 accepted_typed b work report h =
     let a = (passed_iff b work report).0 h in
     let L : Layout = records_of b in
     subst (λ t. TmTy (policy L) no_store [] 0 (to_tm (program L)) t) (root_stated L a.shaped.has_terms) (well_term (policy L) mainline (program L) a.well_typed)
 
-pub accepted_plain : (b : List ℕ) (work report : ℕ) → verdict b work report ≡ Verdict.Accepted → is_plain (root_type (records_of b)) ≡ true
+pub accepted_plain : (b : List ℕ) (work report : ℕ) → verdict b work report ≡ Ok tt → is_plain (root_type (records_of b)) ≡ true
 accepted_plain b work report h = ((passed_iff b work report).0 h).plain
 
 -- The order of an accepted image's domains is a partial order.
-pub accepted_order : (b : List ℕ) (work report : ℕ) → verdict b work report ≡ Verdict.Accepted → PartialOrder (records_of b)
+pub accepted_order : (b : List ℕ) (work report : ℕ) → verdict b work report ≡ Ok tt → PartialOrder (records_of b)
 accepted_order b work report h = (order_iff (records_of b)).0 ((passed_iff b work report).0 h).shaped.ordered

@@ -1,4 +1,5 @@
 -- A well-typed term passes the typing pass.
+use Rattle.std.specs.Prelude.{Ok}
 use Prim.Native.Nat.{ℕ, zero, suc, ◌<◌}
 use mathlib.Core.Path.{◌≡◌, refl, sym, subst}
 use mathlib.Core.List.{List, [], ◌∷◌}
@@ -11,7 +12,6 @@ use Rattle.image.specs.Records.{Layout}
 use Rattle.image.specs.Types.{term_kind, type_no, stated_type, others, children}
 use Rattle.image.specs.Program.{subtrees, tree, assemble}
 use Rattle.image.proofs.Laid.{Below, LayoutOk}
-use Rattle.verdict.specs.declared.Verdict.{Verdict}
 use Rattle.verdict.specs.Domains.{policy}
 use Rattle.verdict.specs.Settings.{Setting}
 use Rattle.verdict.specs.Rules.{Rule, rule_faults}
@@ -28,14 +28,14 @@ no_fault r p = let a = p.bound in let b = p.typed in let c = p.allowed in rw (a,
 
 module _ (L : Layout) (good : LayoutOk L) where
   unfoldable pub ChildComplete : ℕ → Type 0
-  ChildComplete f = (q : Setting ℕ) (e : ℕ) → e < length L.terms → Below (length L.types) q.context → WellTyped (policy L) (setting_out L q) (tree L f e) → check L f q e ≡ Verdict.Accepted
+  ChildComplete f = (q : Setting ℕ) (e : ℕ) → e < length L.terms → Below (length L.types) q.context → WellTyped (policy L) (setting_out L q) (tree L f e) → check L f q e ≡ Ok tt
 
   children_complete : (f : ℕ) → ChildComplete f → (at : ℕ → Setting ℕ) → ((i : ℕ) → Below (length L.types) (at i).context) → (i : ℕ) (es : List ℕ) → Below (length L.terms) es
-      → EachWellTyped (policy L) (λ j. setting_out L (at j)) i (subtrees (λ e. tree L f e) es) → check_all L (λ j e. check L f (at j) e) i es ≡ Verdict.Accepted
+      → EachWellTyped (policy L) (λ j. setting_out L (at j)) i (subtrees (λ e. tree L f e) es) → check_all L (λ j e. check L f (at j) e) i es ≡ Ok tt
   unfolding check_all ChildComplete WellTyped
   children_complete f ih at g i [] b w = refl
   children_complete f ih at g i (e ∷ es) b w =
-      let h : check L f (at i) e ≡ Verdict.Accepted = ih (at i) e b.0 (g i) w.0 in
+      let h : check L f (at i) e ≡ Ok tt = ih (at i) e b.0 (g i) w.0 in
       rw (h, check_all) (children_complete f ih at g (suc i) es b.1 w.1)
 
   -- Children that are well typed state the types of their records.

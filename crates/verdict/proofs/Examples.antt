@@ -16,8 +16,7 @@ use Rattle.image.specs.Layout.{all_within, tests, walk, layout, records_of}
 use Rattle.image.specs.Types.{type_out, type_from, type_of, root_type}
 use Rattle.image.specs.Program.{tree, program, assemble, to_tm, blanked}
 use Rattle.image.proofs.Blanked.{same_but_low}
-use Rattle.verdict.specs.declared.Verdict.{Verdict}
-use Rattle.verdict.specs.Answers.{require_from, in_turn}
+use Rattle.verdict.specs.Answers.{require_from, in_turn, refused_at}
 use Rattle.verdict.specs.Domains.{bits, order, leq, policy}
 use Rattle.verdict.specs.Order.{at_fault}
 use Rattle.verdict.specs.Shape.{count, uses, depths_from, depths, shape}
@@ -34,7 +33,7 @@ unfoldable pub misstated : List ℕ
 misstated = image (one_domain ∷ number ∷ unit ∷ rec 32 (1 ∷ []) ∷ rec 32 (1 ∷ []) ∷ rec 36 (0 ∷ 0 ∷ 1 ∷ []) ∷ rec 32 (1 ∷ []) ∷ rec 36 (1 ∷ 2 ∷ 3 ∷ []) ∷ [])
 
 -- It is refused, though its term, which has no room for the type that it states, is well typed: acceptance asks for more than a well-typed term.
-pub stated_types_count : verdict misstated work_length report_length ≡ Verdict.Refused Refusal.TypeRule 42
+pub stated_types_count : verdict misstated work_length report_length ≡ refused_at Refusal.TypeRule 42
 unfolding misstated verdict in_turn require_from walk layout records_of tests find words all_within all all_of any_below first_fault shape at_fault leq order bits count uses depths depths_from typing check check_all type_of type_from type_out
     little rec image one_domain unit number
 stated_types_count = refl

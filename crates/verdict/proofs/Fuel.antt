@@ -1,4 +1,5 @@
 -- The typing pass with no fuel to give: a term's own rule, then its children; and a refusal of it is 13, 14 or 15.
+use Rattle.std.specs.Prelude.{Ok, Err}
 use Prim.Native.Nat.{ℕ, zero, suc, ◌<◌}
 use native.Mathlib.Omega.{arith}
 use mathlib.Core.Path.{◌≡◌, refl, ◌∙◌}
@@ -10,7 +11,7 @@ use Rattle.laws.specs.Tests.{first_fault}
 use Rattle.image.specs.Records.{Layout}
 use Rattle.image.specs.Types.{term_place, children}
 use Rattle.image.proofs.Laid.{Below, LayoutOk}
-use Rattle.verdict.specs.declared.Verdict.{Verdict}
+use Rattle.verdict.specs.Answers.{Verdict, refused_at}
 use Rattle.verdict.specs.Settings.{Setting}
 use Rattle.verdict.specs.Rules.{rule_faults}
 use Rattle.verdict.specs.Check.{rule_at, setting_at, check_all, check, checked}
@@ -22,8 +23,8 @@ module _ (L : Layout) (good : LayoutOk L) where
   children_cong u v m h i (e ∷ es) b = go (children_cong u v m h (suc i) es b.1) (v i e) refl
     where
       go : check_all L u (suc i) es ≡ check_all L v (suc i) es → (x : Verdict) → v i e ≡ x → check_all L u i (e ∷ es) ≡ check_all L v i (e ∷ es)
-      go r Verdict.Accepted q = let z : u i e ≡ Verdict.Accepted = h i e b.0 ∙ q in rw (z, q, check_all) r
-      go r (Verdict.Refused w o) q = let z : u i e ≡ Verdict.Refused w o = h i e b.0 ∙ q in rw (z, q, check_all) refl
+      go r (Ok tt) q = let z : u i e ≡ Ok tt = h i e b.0 ∙ q in rw (z, q, check_all) r
+      go r (Err refusal) q = let z : u i e ≡ Err refusal = h i e b.0 ∙ q in rw (z, q, check_all) refl
 
   pub check_fuel : (f g : ℕ) (p : Setting ℕ) (n : ℕ) → n < f → n < g → n < length L.terms → check L f p n ≡ check L g p n
   unfolding check
@@ -38,7 +39,7 @@ module _ (L : Layout) (good : LayoutOk L) where
       go (some r) e h = rw (e, check) refl
       go none e h = rw (e, check) h
 
-  pub checked_refused : (p : Setting ℕ) (n : ℕ) (r : Refusal) → first_fault (rule_faults (rule_at L p n)) ≡ some r → checked L p n ≡ Verdict.Refused r (term_place L n)
+  pub checked_refused : (p : Setting ℕ) (n : ℕ) (r : Refusal) → first_fault (rule_faults (rule_at L p n)) ≡ some r → checked L p n ≡ refused_at r (term_place L n)
   unfolding checked check
   checked_refused p n r e = rw (e, check) refl
 

@@ -1,4 +1,5 @@
 -- What the verdict's checks have found of an image that they all pass, and the other way round.
+use Rattle.std.specs.Prelude.{Ok}
 use Prim.Native.Nat.{ℕ, ◌≤◌, ◌<◌}
 use native.Mathlib.Omega.{arith}
 use mathlib.Core.Path.{◌≡◌, refl, sym, ap, ◌∙◌}
@@ -15,7 +16,7 @@ use Rattle.image.specs.Program.{program}
 use Rattle.laws.proofs.Booleans.{no_path, not_t, le_of, of_le}
 use Rattle.laws.proofs.Tests.{each, of_each}
 use Rattle.image.proofs.Laid.{LayoutOk, layout_good, records_of_lem}
-use Rattle.verdict.specs.declared.Verdict.{Verdict}
+use Rattle.verdict.specs.Answers.{refused_at}
 use Rattle.verdict.specs.Domains.{policy}
 use Rattle.verdict.specs.Order.{at_fault}
 use Rattle.verdict.specs.Shape.{shape, Shaped}
@@ -34,11 +35,11 @@ some_there : (xs : List ℕ) → 0 < length xs → not (is_nil xs) ≡ true
 some_there [] h = absurd (omega arith)
 some_there (x ∷ xs) h = refl
 
-pub shape_accepts : (L : Layout) (size : ℕ) → shape L size ≡ Verdict.Accepted ↔ Shaped L
+pub shape_accepts : (L : Layout) (size : ℕ) → shape L size ≡ Ok tt ↔ Shaped L
 unfolding shape
 shape_accepts L size = (there, back)
   where
-    there : shape L size ≡ Verdict.Accepted → Shaped L
+    there : shape L size ≡ Ok tt → Shaped L
     there h =
         let t9 = in_turn_lem _ _ h in
         let t10 = in_turn_lem _ _ t9.1 in
@@ -54,7 +55,7 @@ shape_accepts L size = (there, back)
           shallow = λ n l. le_of (required_each _ _ _ _ _ t12.0 n (omega arith) (omega arith));
         }
 
-    back : Shaped L → shape L size ≡ Verdict.Accepted
+    back : Shaped L → shape L size ≡ Ok tt
     back s =
         turn_in _ _ (of_required _ _ (of_each _ (some_there L.domains s.has_domains, (some_there L.types s.has_types, (some_there L.terms s.has_terms, tt)))))
         (turn_in _ _ (each_required _ _ _ _ _ (λ d l m. let q = s.ordered d (omega arith) in rw q refl))
@@ -64,25 +65,25 @@ shape_accepts L size = (there, back)
 root_there : (L : Layout) → 0 < length L.terms → root_of L < length L.terms
 root_there L h = omega arith
 
-pub typing_accepts : (L : Layout) → LayoutOk L → 0 < length L.terms → typing L ≡ Verdict.Accepted ↔ (WellTyped (policy L) mainline (program L) × (is_plain (root_type L) ≡ true))
+pub typing_accepts : (L : Layout) → LayoutOk L → 0 < length L.terms → typing L ≡ Ok tt ↔ (WellTyped (policy L) mainline (program L) × (is_plain (root_type L) ≡ true))
 unfolding typing program ChildSound ChildComplete
 typing_accepts L good l = (there, back)
   where
-    there : typing L ≡ Verdict.Accepted → WellTyped (policy L) mainline (program L) × (is_plain (root_type L) ≡ true)
+    there : typing L ≡ Ok tt → WellTyped (policy L) mainline (program L) × (is_plain (root_type L) ≡ true)
     there h =
         let t13 = in_turn_lem _ _ h in
         let t16 = in_turn_lem _ _ t13.1 in
         (check_sound L good (length L.terms) (root_setting L) (root_of L) (root_there L l) t13.0, required _ _ _ t16.0)
 
-    back : WellTyped (policy L) mainline (program L) × (is_plain (root_type L) ≡ true) → typing L ≡ Verdict.Accepted
+    back : WellTyped (policy L) mainline (program L) × (is_plain (root_type L) ≡ true) → typing L ≡ Ok tt
     back w = turn_in _ _ (check_complete L good (length L.terms) (root_setting L) (root_of L) (root_there L l) tt w.0) (turn_in _ _ (of_required _ _ w.1) turned)
 
-laid_there : (b : List ℕ) → laid_out_of (layout b) ≡ Verdict.Accepted → layout b ≡ laid (records_of b)
+laid_there : (b : List ℕ) → laid_out_of (layout b) ≡ Ok tt → layout b ≡ laid (records_of b)
 unfolding records_of
 laid_there b h = go (layout b) refl
   where
     go : (x : Scan) → layout b ≡ x → layout b ≡ laid (records_of b)
-    go (stopped r o) e = let z : Verdict.Refused r o ≡ Verdict.Accepted = rw e at h in not_refused z
+    go (stopped r o) e = let z : refused_at r o ≡ Ok tt = rw e at h in not_refused z
     go (laid L) e = e ∙ ap laid (sym (records_of_lem b L e))
 
 pub record Passed (b : List ℕ) (work report : ℕ) : Type 0 where
@@ -95,14 +96,14 @@ pub record Passed (b : List ℕ) (work report : ℕ) : Type 0 where
   pub report_enough : report_length ≤ report
 
 -- The validator accepts exactly what passes its checks.
-pub passed_iff : (b : List ℕ) (work report : ℕ) → verdict b work report ≡ Verdict.Accepted ↔ Passed b work report
+pub passed_iff : (b : List ℕ) (work report : ℕ) → verdict b work report ≡ Ok tt ↔ Passed b work report
 unfolding verdict
 passed_iff b work report = (there, back)
   where
     L : Layout
     L = records_of b
 
-    there : verdict b work report ≡ Verdict.Accepted → Passed b work report
+    there : verdict b work report ≡ Ok tt → Passed b work report
     there h =
         let t1 = in_turn_lem _ _ h in
         let t2 = in_turn_lem _ _ t1.1 in
@@ -123,7 +124,7 @@ passed_iff b work report = (there, back)
           report_enough = le_of (required _ _ _ t18.0);
         }
 
-    back : Passed b work report → verdict b work report ≡ Verdict.Accepted
+    back : Passed b work report → verdict b work report ≡ Ok tt
     back a =
         let l = a.laid_out in
         turn_in _ _ (of_required _ _ (of_le a.short))

@@ -1,4 +1,5 @@
 -- A term that passes the typing pass is well typed.
+use Rattle.std.specs.Prelude.{Ok, Err}
 use Prim.Native.Nat.{ℕ, zero, suc, ◌≤◌, ◌<◌}
 use native.Mathlib.Omega.{arith}
 use mathlib.Core.Path.{◌≡◌, refl, ap, subst, fun_ext}
@@ -19,7 +20,7 @@ use Rattle.image.proofs.Words.{words_length}
 use Rattle.image.proofs.Laid.{Below, LayoutOk}
 use Rattle.image.proofs.Fitting.{Fitting}
 use Rattle.image.proofs.Counts.{least_children, most_children, children_between}
-use Rattle.verdict.specs.declared.Verdict.{Verdict}
+use Rattle.verdict.specs.Answers.{Verdict, refused_at}
 use Rattle.verdict.specs.Domains.{policy}
 use Rattle.verdict.specs.Settings.{Setting}
 use Rattle.verdict.specs.Rules.{rule_faults}
@@ -76,21 +77,21 @@ module _ (L : Layout) (good : LayoutOk L) where
       (contexts L good (term_kind L n) p.context p.dom (type_no L n) (others L n) (type_nos L (children L n)) t.least t.most t.own t.types h i).same)
 
   unfoldable pub ChildSound : ℕ → Type 0
-  ChildSound f = (q : Setting ℕ) (e : ℕ) → e < length L.terms → check L f q e ≡ Verdict.Accepted → WellTyped (policy L) (setting_out L q) (tree L f e)
+  ChildSound f = (q : Setting ℕ) (e : ℕ) → e < length L.terms → check L f q e ≡ Ok tt → WellTyped (policy L) (setting_out L q) (tree L f e)
 
-  children_sound : (f : ℕ) → ChildSound f → (at : ℕ → Setting ℕ) (i : ℕ) (es : List ℕ) → Below (length L.terms) es → check_all L (λ j e. check L f (at j) e) i es ≡ Verdict.Accepted
+  children_sound : (f : ℕ) → ChildSound f → (at : ℕ → Setting ℕ) (i : ℕ) (es : List ℕ) → Below (length L.terms) es → check_all L (λ j e. check L f (at j) e) i es ≡ Ok tt
       → EachWellTyped (policy L) (λ j. setting_out L (at j)) i (subtrees (λ e. tree L f e) es)
   unfolding check_all ChildSound WellTyped
   children_sound f ih at i [] b h = tt
   children_sound f ih at i (e ∷ es) b h = go (λ k. children_sound f ih at (suc i) es b.1 k) (check L f (at i) e) refl
     where
-      go : (check_all L (λ j e. check L f (at j) e) (suc i) es ≡ Verdict.Accepted → EachWellTyped (policy L) (λ j. setting_out L (at j)) (suc i) (subtrees (λ e. tree L f e) es))
+      go : (check_all L (λ j e. check L f (at j) e) (suc i) es ≡ Ok tt → EachWellTyped (policy L) (λ j. setting_out L (at j)) (suc i) (subtrees (λ e. tree L f e) es))
           → (x : Verdict) → check L f (at i) e ≡ x → WellTyped (policy L) (setting_out L (at i)) (tree L f e) × EachWellTyped (policy L) (λ j. setting_out L (at j)) (suc i) (subtrees (λ e. tree L f e) es)
-      go rest Verdict.Accepted q = (ih (at i) e b.0 q, rest (rw (q, check_all) at h))
-      go rest (Verdict.Refused r o) q = let z : Verdict.Refused r o ≡ Verdict.Accepted = rw (q, check_all) at h in not_refused z
+      go rest (Ok tt) q = (ih (at i) e b.0 q, rest (rw (q, check_all) at h))
+      go rest (Err refusal) q = let z : ◌≡◌ {A = Verdict} (Err refusal) (Ok tt) = rw (q, check_all) at h in not_refused z
 
   -- Children that pass state the types of their records.
-  children_stated : (f : ℕ) (at : ℕ → Setting ℕ) (i : ℕ) (es : List ℕ) → check_all L (λ j e. check L f (at j) e) i es ≡ Verdict.Accepted → stateds (subtrees (λ e. tree L f e) es) ≡ outs L (type_nos L es)
+  children_stated : (f : ℕ) (at : ℕ → Setting ℕ) (i : ℕ) (es : List ℕ) → check_all L (λ j e. check L f (at j) e) i es ≡ Ok tt → stateds (subtrees (λ e. tree L f e) es) ≡ outs L (type_nos L es)
   unfolding check_all check
   children_stated zero at i [] h = refl
   children_stated zero at i (e ∷ es) h = not_refused h
@@ -103,9 +104,9 @@ module _ (L : Layout) (good : LayoutOk L) where
   check_sound (suc f) p n l h = go (check_sound f) (first_fault (rule_faults (rule_at L p n))) refl
     where
       go : ChildSound f → (x : Option Refusal) → first_fault (rule_faults (rule_at L p n)) ≡ x → WellTyped (policy L) (setting_out L p) (tree L (suc f) n)
-      go ih (some r) e = let z : Verdict.Refused r (term_place L n) ≡ Verdict.Accepted = rw (e, check) at h in not_refused z
+      go ih (some r) e = let z : refused_at r (term_place L n) ≡ Ok tt = rw (e, check) at h in not_refused z
       go ih none e =
-          let c : check_all L (λ i e. check L f (setting_at L p n i) e) 0 (children L n) ≡ Verdict.Accepted = rw (e, check) at h in
+          let c : check_all L (λ i e. check L f (setting_at L p n i) e) 0 (children L n) ≡ Ok tt = rw (e, check) at h in
           let r13 = passed _ _ _ e in
           let r14 = passed _ _ _ r13.1 in
           let r15 = passed _ _ _ r14.1 in

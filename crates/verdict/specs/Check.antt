@@ -1,5 +1,5 @@
 -- Refusals 13 to 16: the typing pass (document 01, "Typing" and "Turned back at the gate").
-use Rattle.std.specs.Prelude.{ℕ, zero, suc, List, [], ◌∷◌, map, length}
+use Rattle.std.specs.Prelude.{ℕ, zero, suc, List, [], ◌∷◌, map, length, Ok, Err}
 use Rattle.std.proofs.Math.Option.{none, some}
 use Rattle.calculus.specs.Syntax.{Dom}
 use Rattle.calculus.specs.Plain.{is_plain}
@@ -8,8 +8,7 @@ use Rattle.laws.specs.Tests.{first_fault}
 use Rattle.image.specs.Kinds.{TermKind, body_of}
 use Rattle.image.specs.Records.{Layout}
 use Rattle.image.specs.Types.{term_place, type_number, type_field, method_count, term_kind, type_no, type_of, others, children, root_of, root_type}
-use Rattle.verdict.specs.declared.Verdict.{Verdict}
-use Rattle.verdict.specs.Answers.{require, in_turn}
+use Rattle.verdict.specs.Answers.{require, in_turn, Verdict, refused_at}
 use Rattle.verdict.specs.Domains.{leq}
 use Rattle.verdict.specs.Settings.{Setting, context_of, domain_of}
 use Rattle.verdict.specs.Rules.{Descriptor, Rule, rule_faults, rule}
@@ -42,15 +41,15 @@ module _ (L : Layout) where
 
   -- Children, left first: check i e is of child i, which is term e.
   unfoldable pub check_all : (ℕ → ℕ → Verdict) → ℕ → List ℕ → Verdict
-  check_all check i [] = Verdict.Accepted
-  check_all check i (e ∷ es) = elim (check i e) [ Verdict.Accepted ↦ check_all check (suc i) es | Verdict.Refused r o ↦ Verdict.Refused r o ]
+  check_all check i [] = Ok tt
+  check_all check i (e ∷ es) = elim (check i e) [ Ok tt ↦ check_all check (suc i) es | Err refusal ↦ Err refusal ]
 
   -- "13, 14, 15 at each term, parent before children, left first." A term's children have lower numbers (7), so a fuel of n + 1 is enough: every fuel above n gives the same (the law `check_fuel`).
   unfoldable pub check : ℕ → Setting ℕ → ℕ → Verdict
-  check zero p n = Verdict.Refused Refusal.FieldRange (term_place L n)
+  check zero p n = refused_at Refusal.FieldRange (term_place L n)
   check (suc f) p n =
       elim (first_fault (rule_faults (rule_at p n))) [
-        | some r ↦ Verdict.Refused r (term_place L n)
+        | some r ↦ refused_at r (term_place L n)
         | none ↦ check_all (λ i e. check f (setting_at p n i) e) 0 (children L n)
       ]
 

@@ -9,8 +9,7 @@ use Rattle.laws.specs.Tests.{all}
 use Rattle.image.specs.Records.{Layout}
 use Rattle.image.specs.Layout.{is_nil}
 use Rattle.image.specs.Types.{domain_place, term_place, children, root_of}
-use Rattle.verdict.specs.declared.Verdict.{Verdict}
-use Rattle.verdict.specs.Answers.{require, require_from, in_turn}
+use Rattle.verdict.specs.Answers.{require, require_from, in_turn, Verdict}
 use Rattle.verdict.specs.Order.{at_fault}
 
 -- How often n stands in a list.
