@@ -55,7 +55,7 @@ pub fn check_rule(
         kinds::READ => check_read(image, masks, terms, descriptors, at, fields, c),
         kinds::STORE => check_store(image, masks, terms, descriptors, at, fields, c),
         kinds::LOWER => check_lower(image, masks, terms, descriptors, at, fields, c),
-        kinds::ABORT => Verdict::Accepted,
+        kinds::ABORT => Ok(()),
         kinds::OBJECT => check_object(image, types, terms, descriptors, at, fields),
         kinds::CALL => check_method_call(image, types, terms, descriptors, at, fields, c),
         kinds::STACK => check_stack(image, descriptors, at, fields),

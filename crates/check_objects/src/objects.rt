@@ -147,7 +147,10 @@ pub fn check_method_call(
     let a = type_at_field(image, terms, fields, 1);
     let m = method_number(fields);
     if !call_fits(image, types, descriptors, a, m, own_type(fields)) {
-        return Verdict::Refused(image::Refusal::TypeRule, at);
+        return Err(image::Refused {
+            why: image::Refusal::TypeRule,
+            place: at,
+        });
     }
     judge(at, true, same_domain(method_domain(image, types, a, m), c))
 }

@@ -23,7 +23,7 @@ use Rattle.laws.proofs.Tests.{each}
 use Rattle.image.proofs.Offsets.{number_at_lem}
 use Rattle.image.proofs.Words.{words_length}
 use Rattle.image.proofs.TypeNumbers.{type_kind_lem}
-use Rattle.verdict.specs.declared.Verdict.{Verdict}
+use Rattle.verdict.specs.Answers.{refused_at}
 use Rattle.verdict.specs.Settings.{Setting}
 use Rattle.verdict.specs.Rules.{Descriptor, is, bodies_fit}
 use Rattle.verdict.specs.Check.{describe, described}
@@ -136,7 +136,7 @@ module _ (b fs : List ℕ) (p : Setting ℕ) (place : ℕ) where
   unfolding words
   call_rule = refl
 
-  pub call_refused : fitting ≡ false → Verdict.Refused Refusal.TypeRule place ≡ judged place (rule_in b fs TermKind.call p)
+  pub call_refused : fitting ≡ false → refused_at Refusal.TypeRule place ≡ judged place (rule_in b fs TermKind.call p)
   call_refused h = mistyped place true fitting running refl h ∙ call_rule
 
   pub call_judged : (d : Bool) → fitting ≡ true → d ≡ running → judged place (record { bound = true; typed = true; allowed = d }) ≡ judged place (rule_in b fs TermKind.call p)

@@ -1,4 +1,5 @@
 -- The rule of a term, on the descriptors of the types and the masks of the domains, comes to what the rule of the definition comes to.
+use Rattle.std.specs.Prelude.{Ok}
 use Prim.Native.Nat.{ℕ, zero, suc, ◌+◌, ◌-◌, ◌*◌, ◌<◌}
 use native.Mathlib.Omega.{arith}
 use mathlib.Core.Path.{◌≡◌, refl, sym, ap, subst, ◌∙◌}
@@ -16,7 +17,6 @@ use Rattle.image.specs.Types.{type_no}
 use Rattle.image.proofs.Words.{words_at}
 use Rattle.image.proofs.Offsets.{side_by_side}
 use Rattle.image.proofs.Laid.{Below}
-use Rattle.verdict.specs.declared.Verdict.{Verdict}
 use Rattle.verdict.specs.Domains.{leq}
 use Rattle.verdict.specs.Settings.{Setting}
 use Rattle.verdict.specs.Rules.{Descriptor, Rule, fits, fits_at, is, rule}
@@ -109,7 +109,7 @@ module _ {b descriptors fs : List ℕ} (K : Types b descriptors) (t : Typed b fs
       (one_test place _ _ ∙ on_descriptors K t place TermKind.unit p tt) (one_test place _ _ ∙ on_descriptors K t place TermKind.truth p tt) (one_test place _ _ ∙ on_descriptors K t place TermKind.number p tt)
 
 -- Abort fits everywhere.
-pub abort_right : (place : ℕ) (b fs : List ℕ) (p : Setting ℕ) → Verdict.Accepted ≡ judged place (rule_in b fs TermKind.abort p)
+pub abort_right : (place : ℕ) (b fs : List ℕ) (p : Setting ℕ) → (Ok tt) ≡ judged place (rule_in b fs TermKind.abort p)
 unfolding all
 abort_right place b fs p = accepted place true (all []) true refl refl refl
 

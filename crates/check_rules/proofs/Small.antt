@@ -1,4 +1,5 @@
 -- Small laws: tests in a row, what a rule comes to, and what arithmetic gives.
+use Rattle.std.specs.Prelude.{Ok}
 use Prim.Native.Nat.{ℕ, zero, suc, ◌≤◌, ◌<◌}
 use native.Mathlib.Omega.{arith}
 use mathlib.Core.Path.{◌≡◌, refl, sym}
@@ -8,7 +9,7 @@ use Rattle.image.specs.declared.Refusal.{Refusal}
 use Rattle.laws.specs.Tests.{all, first_fault}
 use Rattle.image.specs.Kinds.{TypeKind, type_row_of}
 use Rattle.laws.proofs.Booleans.{no_path}
-use Rattle.verdict.specs.declared.Verdict.{Verdict}
+use Rattle.verdict.specs.Answers.{refused_at}
 use Rattle.verdict.specs.Rules.{op_gives}
 use Rattle.check_rules.specs.Judged.{judged}
 
@@ -30,25 +31,25 @@ fails_first true bs h = no_path h
 
 -- What a rule comes to.
 module _ (place : ℕ) where
-  pub unbound : (b t d : Bool) → b ≡ false → Verdict.Refused Refusal.UnboundVariable place ≡ judged place (record { bound = b; typed = t; allowed = d })
+  pub unbound : (b t d : Bool) → b ≡ false → refused_at Refusal.UnboundVariable place ≡ judged place (record { bound = b; typed = t; allowed = d })
   unfolding judged first_fault
   unbound false t d h = refl
   unbound true t d h = no_path h
 
-  pub mistyped : (b t d : Bool) → b ≡ true → t ≡ false → Verdict.Refused Refusal.TypeRule place ≡ judged place (record { bound = b; typed = t; allowed = d })
+  pub mistyped : (b t d : Bool) → b ≡ true → t ≡ false → refused_at Refusal.TypeRule place ≡ judged place (record { bound = b; typed = t; allowed = d })
   unfolding judged first_fault
   mistyped true false d h k = refl
   mistyped true true d h k = no_path k
   mistyped false t d h k = no_path (sym h)
 
-  pub not_allowed : (b t d : Bool) → b ≡ true → t ≡ true → d ≡ false → Verdict.Refused Refusal.DomainRule place ≡ judged place (record { bound = b; typed = t; allowed = d })
+  pub not_allowed : (b t d : Bool) → b ≡ true → t ≡ true → d ≡ false → refused_at Refusal.DomainRule place ≡ judged place (record { bound = b; typed = t; allowed = d })
   unfolding judged first_fault
   not_allowed true true false h k l = refl
   not_allowed true true true h k l = no_path l
   not_allowed true false d h k l = no_path (sym k)
   not_allowed false t d h k l = no_path (sym h)
 
-  pub accepted : (b t d : Bool) → b ≡ true → t ≡ true → d ≡ true → Verdict.Accepted ≡ judged place (record { bound = b; typed = t; allowed = d })
+  pub accepted : (b t d : Bool) → b ≡ true → t ≡ true → d ≡ true → (Ok tt) ≡ judged place (record { bound = b; typed = t; allowed = d })
   unfolding judged first_fault
   accepted true true true h k l = refl
   accepted true true false h k l = no_path (sym l)

@@ -11,7 +11,7 @@ use Rattle.image.specs.Bytes.{words}
 use Rattle.image.specs.Kinds.{TermKind}
 use Rattle.image.specs.Layout.{records_of}
 use Rattle.image.specs.Types.{term_place, term_kind}
-use Rattle.verdict.specs.declared.Verdict.{Verdict}
+use Rattle.verdict.specs.Answers.{Verdict, refused_at}
 use Rattle.verdict.specs.Settings.{Setting}
 use Rattle.verdict.specs.Check.{rule_at, setting_at}
 use Rattle.read_records.specs.Heads.{field_in}
@@ -49,7 +49,7 @@ module _ {b table : List ℕ} (T : Terms b table) {n : ℕ} (h : IsTerm b n) {k 
 
 -- A variable, in a scope whose first places hold the context.
 module _ (b fs scope : List ℕ) (len c place : ℕ) where
-  pub variable_unbound : len ≤ field_in fs 1 → Verdict.Refused Refusal.UnboundVariable place ≡ judged place (rule_in b fs TermKind.var (setting_in scope len c))
+  pub variable_unbound : len ≤ field_in fs 1 → refused_at Refusal.UnboundVariable place ≡ judged place (rule_in b fs TermKind.var (setting_in scope len c))
   unfolding words
   variable_unbound l = unbound place _ _ _ (rw (context_length scope len) (le-ltb _ _ l))
 

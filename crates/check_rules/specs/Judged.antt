@@ -1,11 +1,11 @@
 -- What a term's rule (document 01, "Typing"; the crate verdict, Rules) comes to, and the tests that a rule is made of, on the descriptors of types and the masks of domains.
-use Rattle.std.specs.Prelude.{ℕ, Bool, List, [], ◌∷◌, get_or, eqb, ltb}
+use Rattle.std.specs.Prelude.{ℕ, Bool, List, [], ◌∷◌, get_or, eqb, ltb, Ok}
 use Rattle.std.proofs.Math.Option.{none, some}
 use Rattle.laws.specs.Tests.{all, first_fault}
 use Rattle.image.specs.Kinds.{TypeKind}
 use Rattle.image.specs.Records.{Layout}
 use Rattle.image.specs.Types.{term_place, type_no, method_count}
-use Rattle.verdict.specs.declared.Verdict.{Verdict}
+use Rattle.verdict.specs.Answers.{Verdict, refused_at}
 use Rattle.verdict.specs.Settings.{Setting}
 use Rattle.verdict.specs.Rules.{Rule, rule_faults, is, gives}
 use Rattle.verdict.specs.Check.{describe, rule_at}
@@ -15,7 +15,7 @@ use Rattle.read_terms.specs.Masks.{bit_of}
 
 -- What a rule comes to, for a term whose record stands at a place.
 unfoldable pub judged : ℕ → Rule → Verdict
-judged place r = elim (first_fault (rule_faults r)) [ some f ↦ Verdict.Refused f place | none ↦ Verdict.Accepted ]
+judged place r = elim (first_fault (rule_faults r)) [ some f ↦ refused_at f place | none ↦ Ok tt ]
 
 -- 13, 14 and 15 at term n alone.
 unfoldable pub rule_verdict : Layout → Setting ℕ → ℕ → Verdict

@@ -23,10 +23,16 @@ pub fn judge(at: usize, typed: bool, allowed: bool) -> Verdict
     ensures { result ≡ judged at (record { bound = true; typed = typed; allowed = allowed }) }
 {
     if !typed {
-        return Verdict::Refused(image::Refusal::TypeRule, at);
+        return Err(image::Refused {
+            why: image::Refusal::TypeRule,
+            place: at,
+        });
     }
     if !allowed {
-        return Verdict::Refused(image::Refusal::DomainRule, at);
+        return Err(image::Refused {
+            why: image::Refusal::DomainRule,
+            place: at,
+        });
     }
-    Verdict::Accepted
+    Ok(())
 }

@@ -52,7 +52,10 @@ fn check_variable(
 {
     let k = other_field(fields) as usize;
     if len <= k {
-        return Verdict::Refused(image::Refusal::UnboundVariable, at);
+        return Err(image::Refused {
+            why: image::Refusal::UnboundVariable,
+            place: at,
+        });
     }
     let a = scope_type(scope, len - 1 - k);
     judge(at, same_type(a, own_type(fields)), true)

@@ -1,4 +1,5 @@
 -- Laws of requirements in a row, and of the first check.
+use Rattle.std.specs.Prelude.{Ok}
 use borrow.Author.Tests.{lt-ltb}
 use Prim.Native.Nat.{ℕ, zero, suc, ◌+◌, ◌-◌, ◌≤◌, ◌<◌}
 use native.Mathlib.Omega.{arith}
@@ -11,8 +12,7 @@ use Rattle.image.specs.declared.Refusal.{Refusal}
 use Rattle.image.specs.Records.{Layout}
 use Rattle.image.specs.Layout.{is_nil}
 use Rattle.laws.specs.Tests.{all, all_below}
-use Rattle.verdict.specs.declared.Verdict.{Verdict}
-use Rattle.verdict.specs.Answers.{is_refused, require, require_from}
+use Rattle.verdict.specs.Answers.{is_refused, require, require_from, refused_at}
 use Rattle.verdict.specs.Shape.{none_empty, shape}
 use Rattle.verdict.proofs.Answered.{each_required, turn_stops, turn_goes}
 use Rattle.check_shape.specs.Checks.{passes}
@@ -24,7 +24,7 @@ from_start r place ok n = let z : n - 0 ≡ n = omega arith in rw z refl
 
 -- Of n numbers, those from i on.
 module _ (r : Refusal) (place : ℕ → ℕ) (ok : ℕ → Bool) (n i : ℕ) where
-  pub from_end : n ≤ i → require_from (n - i) i r place ok ≡ Verdict.Accepted
+  pub from_end : n ≤ i → require_from (n - i) i r place ok ≡ Ok tt
   unfolding require_from
   from_end h = let z : n - i ≡ 0 = omega arith in rw z refl
 
@@ -32,16 +32,16 @@ module _ (r : Refusal) (place : ℕ → ℕ) (ok : ℕ → Bool) (n i : ℕ) whe
   unfolding require_from
   from_next h e = let w : i + 1 ≡ suc i = omega arith in let z : n - i ≡ suc (n - suc i) = omega arith in rw (w, z, e, require_from) refl
 
-  pub from_here : i < n → ok i ≡ false → require_from (n - i) i r place ok ≡ Verdict.Refused r (place i)
+  pub from_here : i < n → ok i ≡ false → require_from (n - i) i r place ok ≡ refused_at r (place i)
   unfolding require_from
   from_here h e = let z : n - i ≡ suc (n - (i + 1)) = omega arith in rw (z, e, require_from) refl
 
 -- Where each test holds, nothing is refused.
-pub from_hold : (r : Refusal) (place : ℕ → ℕ) (ok : ℕ → Bool) (n : ℕ) → all_below n ok ≡ true → require_from n 0 r place ok ≡ Verdict.Accepted
+pub from_hold : (r : Refusal) (place : ℕ → ℕ) (ok : ℕ → Bool) (n : ℕ) → all_below n ok ≡ true → require_from n 0 r place ok ≡ Ok tt
 from_hold r place ok n h = each_required n 0 r place ok (λ k l m. all_below_lem n ok h k (omega arith))
 
 -- Where each test before f holds, and that of f does not, it is refused there.
-pub from_first : (r : Refusal) (place : ℕ → ℕ) (ok : ℕ → Bool) (n f : ℕ) → f < n → ((k : ℕ) → k < f → ok k ≡ true) → ok f ≡ false → require_from n 0 r place ok ≡ Verdict.Refused r (place f)
+pub from_first : (r : Refusal) (place : ℕ → ℕ) (ok : ℕ → Bool) (n f : ℕ) → f < n → ((k : ℕ) → k < f → ok k ≡ true) → ok f ≡ false → require_from n 0 r place ok ≡ refused_at r (place f)
 from_first r place ok n f h before e = go f (omega arith) ∙ from_here r place ok n f h e
   where
     go : (i : ℕ) → i ≤ f → require_from n 0 r place ok ≡ require_from (n - i) i r place ok
@@ -64,9 +64,9 @@ from_same r p q f g (suc n) i hp hf = go (f i) refl (from_same r p q f g n (suc 
 
 -- Refusal 9, and what comes after it.
 module _ (L : Layout) (size : ℕ) where
-  pub shape_empty : none_empty L ≡ false → shape L size ≡ Verdict.Refused Refusal.EmptySection size
+  pub shape_empty : none_empty L ≡ false → shape L size ≡ refused_at Refusal.EmptySection size
   unfolding shape
-  shape_empty h = let e : require (none_empty L) Refusal.EmptySection size ≡ Verdict.Refused Refusal.EmptySection size = rw h refl in turn_stops _ _ (ap is_refused e) ∙ e
+  shape_empty h = let e : require (none_empty L) Refusal.EmptySection size ≡ refused_at Refusal.EmptySection size = rw h refl in turn_stops _ _ (ap is_refused e) ∙ e
 
   pub shape_passes : none_empty L ≡ true → shape L size ≡ passes L
   unfolding shape

@@ -4,8 +4,7 @@ use Rattle.image.specs.declared.Refusal.{Refusal}
 use Rattle.image.specs.Limits.{depth_limit}
 use Rattle.image.specs.Records.{Layout}
 use Rattle.image.specs.Types.{domain_place, term_place, root_of}
-use Rattle.verdict.specs.declared.Verdict.{Verdict}
-use Rattle.verdict.specs.Answers.{require_from, in_turn}
+use Rattle.verdict.specs.Answers.{require_from, in_turn, Verdict}
 use Rattle.verdict.specs.Order.{at_fault}
 use Rattle.verdict.specs.Shape.{used_once, depths}
 

@@ -4,8 +4,7 @@ use Rattle.image.specs.declared.Refusal.{Refusal}
 use Rattle.image.specs.Limits.{depth_limit}
 use Rattle.image.specs.Records.{Layout}
 use Rattle.image.specs.Types.{children}
-use Rattle.verdict.specs.declared.Verdict.{Verdict}
-use Rattle.verdict.specs.Answers.{require_from}
+use Rattle.verdict.specs.Answers.{require_from, Verdict}
 use Rattle.verdict.specs.Shape.{set_all}
 use Rattle.check_uses.specs.Marks.{more}
 

@@ -4,8 +4,7 @@ use Rattle.image.specs.declared.Refusal.{Refusal}
 use Rattle.image.specs.Limits.{domain_limit}
 use Rattle.laws.specs.Tests.{any_below}
 use Rattle.image.specs.Records.{Layout}
-use Rattle.verdict.specs.declared.Verdict.{Verdict}
-use Rattle.verdict.specs.Answers.{require_from}
+use Rattle.verdict.specs.Answers.{require_from, Verdict}
 use Rattle.verdict.specs.Domains.{leq}
 
 -- Row d has e.

@@ -3,7 +3,7 @@ ghost use Rattle.std.specs.Prelude.{◌≡◌, ◌≤◌, length};
 ghost use Rattle.check_shape.specs.Depths.{deep_from};
 
 use check_uses::marks::mark_of;
-use image::{DEPTH_LIMIT, Refusal};
+use image::{DEPTH_LIMIT, Refusal, Refused};
 use read_records::numbers::{TermNo, term_offset};
 use verdict::Verdict;
 
@@ -20,9 +20,12 @@ pub fn first_deep(depths: &[u8], terms: &[u16], end: TermNo) -> Verdict
     while i < end.0 {
         let n = TermNo(i);
         if DEEPEST < mark_of(depths, n) {
-            return Verdict::Refused(Refusal::TooDeep, term_offset(terms, n));
+            return Err(Refused {
+                why: Refusal::TooDeep,
+                place: term_offset(terms, n),
+            });
         }
         i += 1;
     }
-    Verdict::Accepted
+    Ok(())
 }

@@ -13,9 +13,9 @@ ghost use Rattle.check_shape.specs.Counted.{Counted};
 
 use check_uses::marks::mark_of;
 use check_uses::uses::first_misused;
-use image::Refusal;
+use image::{Refusal, Refused};
 use read_records::numbers::{Counts, TermNo, term_offset};
-use verdict::{Verdict, is_refused};
+use verdict::Verdict;
 
 pub mod depths;
 pub mod descent;
@@ -36,10 +36,13 @@ fn check_terms(image: &[u8], kinds: &[u32], terms: &[u16], marks: &[u8]) -> Verd
     let root = TermNo((terms.len() - 1) as u16);
     let first = first_misused(marks, root);
     if first.0 < root.0 {
-        return Verdict::Refused(Refusal::UseCount, term_offset(terms, first));
+        return Err(Refused {
+            why: Refusal::UseCount,
+            place: term_offset(terms, first),
+        });
     }
     if mark_of(marks, root) <= depths::DEEPEST {
-        return Verdict::Accepted;
+        return Ok(());
     }
     descent::check_depths(image, kinds, terms)
 }
@@ -49,10 +52,7 @@ fn check_passes(image: &[u8], kinds: &[u32], doms: &[u16], terms: &[u16], marks:
     requires { (kinds.now ≡ kind_codes) × Domains image.now doms.now × Terms image.now terms.now × (0 < length terms.now) × Marked image.now marks.now }
     ensures { result ≡ passes (records_of image.now) }
 {
-    let order = order::check_order(image, doms);
-    if is_refused(order) {
-        return order;
-    }
+    order::check_order(image, doms)?;
     check_terms(image, kinds, terms, marks)
 }
 
@@ -69,7 +69,10 @@ pub fn check_shape(
     ensures { result ≡ shape (records_of image.now) (length image.now) }
 {
     if !none_empty(counts) {
-        return Verdict::Refused(Refusal::EmptySection, image.len());
+        return Err(Refused {
+            why: Refusal::EmptySection,
+            place: image.len(),
+        });
     }
     let d = counts.domains;
     let t = counts.terms;

@@ -8,7 +8,7 @@ ghost use Rattle.check_shape.specs.Faults.{gap_in, either_row, faulty, order_fro
 ghost use Rattle.check_shape.specs.Records.{Domains};
 ghost use Rattle.check_shape.specs.Checks.{domains_ordered};
 
-use image::{DOMAIN_LIMIT, Refusal};
+use image::{DOMAIN_LIMIT, Refusal, Refused};
 use laws::either;
 use read_records::numbers::{DomainNo, domain_offset};
 use verdict::Verdict;
@@ -123,11 +123,14 @@ fn first_unordered(o: [[bool; DOMAIN_LIMIT]; DOMAIN_LIMIT], doms: &[u16]) -> Ver
     while d < doms.len() {
         let next = DomainNo(d as u16);
         if at_fault(o, doms.len(), next) {
-            return Verdict::Refused(Refusal::DomainOrder, domain_offset(doms, next));
+            return Err(Refused {
+                why: Refusal::DomainOrder,
+                place: domain_offset(doms, next),
+            });
         }
         d += 1;
     }
-    Verdict::Accepted
+    Ok(())
 }
 
 pub fn check_order(image: &[u8], doms: &[u16]) -> Verdict

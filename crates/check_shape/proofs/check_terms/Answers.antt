@@ -2,7 +2,7 @@
 use native.Mathlib.Omega.{arith}
 use mathlib.Core.Path.{ap, sym, ◌∙◌}
 use Rattle.image.specs.declared.Refusal.{Refusal}
-use Rattle.verdict.specs.declared.Verdict.{Verdict}
+use Rattle.verdict.specs.Answers.{refused_at}
 use Rattle.check_shape.proofs.MarkedTerms.{enough_marks, refused_first, depths_decide, accepted_low}
 use Rattle.check_shape.proofs.check_terms.Goals as goal
 
@@ -12,7 +12,7 @@ first_misused-first-requires c = let p = c.requires in let l = enough_marks _ _ 
 pub returns-then-first-root : goal.returns-then-first-root
 returns-then-first-root c =
     let p = c.requires in
-    ap (λ o. Verdict.Refused Refusal.UseCount o) c.term_offset.ensures ∙ sym (refused_first _ _ _ p.1 p.3 _ p.2 c.first_misused-first.ensures (omega arith))
+    ap (λ o. refused_at Refusal.UseCount o) c.term_offset.ensures ∙ sym (refused_first _ _ _ p.1 p.3 _ p.2 c.first_misused-first.ensures (omega arith))
 
 pub mark_of-requires : goal.mark_of-requires
 mark_of-requires c =

@@ -1,5 +1,5 @@
 -- Each arm: its rule is asked on the fields that its kind has, and its answer is the definition's.
-use Rattle.std.specs.Prelude.{◌≡◌, ℕ, ◌+◌, ◌<◌, List, length}
+use Rattle.std.specs.Prelude.{◌≡◌, ℕ, ◌+◌, ◌<◌, List, length, Ok}
 use native.Mathlib.Omega.{arith}
 use mathlib.Core.Path.{sym, subst, ◌∙◌}
 use lib.Dec.{lit<}
@@ -7,7 +7,7 @@ use Rattle.image.specs.Bytes.{number_at}
 use Rattle.image.specs.Kinds.{TermKind, term_row, lead_of}
 use Rattle.image.specs.Layout.{records_of}
 use Rattle.image.specs.Types.{term_place, term_kind}
-use Rattle.verdict.specs.declared.Verdict.{Verdict}
+use Rattle.verdict.specs.Answers.{Verdict}
 use Rattle.verdict.specs.Settings.{Setting}
 use Rattle.read_terms.specs.Lent.{Lent, TypeOffsets, Masks, IsTerm}
 use Rattle.read_terms.specs.Fields.{fields_of, count_in, Typed, AtField, Labels, Bodies, Entries}
@@ -113,7 +113,7 @@ module _ {b types terms descriptors ms fs : List ℕ} {n at kind : ℕ} (w : Her
   match_child : term_kind (records_of b) n ≡ TermKind.match → (i : ℕ) → i < 3 → AtField b fs (1 + i)
   match_child e i h = let m = match_count (fields_of b n) in child e i (omega arith)
 
-  aborted : term_kind (records_of b) n ≡ TermKind.abort → (d : ℕ) (Γ : List ℕ) → Verdict.Accepted ≡ rule_verdict (records_of b) (setting d Γ) n
+  aborted : term_kind (records_of b) n ≡ TermKind.abort → (d : ℕ) (Γ : List ℕ) → (Ok tt) ≡ rule_verdict (records_of b) (setting d Γ) n
   aborted e d Γ = abort_right (term_place (records_of b) n) b (fields_of b n) (setting d Γ) ∙ verdict_in lent.terms there e (setting d Γ)
 
 pub check_pointcut-requires : goal.check_pointcut-requires

@@ -5,7 +5,7 @@ use mathlib.Core.Path.{ap, sym, ◌∙◌}
 use lib.ListN.{get_or}
 use Rattle.image.specs.declared.Refusal.{Refusal}
 use Rattle.image.specs.Limits.{depth_limit}
-use Rattle.verdict.specs.declared.Verdict.{Verdict}
+use Rattle.verdict.specs.Answers.{refused_at}
 use Rattle.check_shape.proofs.Answers.{from_start, from_end, from_next, from_here}
 use borrow.Author.Rules.{rules}
 use Rattle.check_shape.proofs.depths.first_deep.Goals as goal
@@ -16,7 +16,7 @@ returns-then-mark_of-gt-DEEPEST c =
     let d = get_or c.args.depths.now l.i 0 in
     let z = c.mark_of.ensures in
     let deep = lt-leb d depth_limit (omega (arith, c.if-mark_of-gt-DEEPEST.true)) in
-    sym (l.invariant.1 ∙ from_here _ _ _ _ l.i (omega arith) deep ∙ ap (λ o. Verdict.Refused Refusal.TooDeep o) (sym c.term_offset.ensures))
+    sym (l.invariant.1 ∙ from_here _ _ _ _ l.i (omega arith) deep ∙ ap (λ o. refused_at Refusal.TooDeep o) (sym c.term_offset.ensures))
 
 pub loop-i-preserved : goal.loop-i-preserved
 loop-i-preserved c =

@@ -3,7 +3,7 @@ use native.Mathlib.Omega.{arith}
 use mathlib.Core.Bool.{not}
 use mathlib.Core.Path.{ap, sym, ◌∙◌}
 use Rattle.image.specs.declared.Refusal.{Refusal}
-use Rattle.verdict.specs.declared.Verdict.{Verdict}
+use Rattle.verdict.specs.Answers.{refused_at}
 use Rattle.check_shape.proofs.Answers.{from_start, from_end, from_next, from_here}
 use borrow.Author.Rules.{rules}
 use Rattle.check_shape.proofs.order.first_unordered.Goals as goal
@@ -11,7 +11,7 @@ use Rattle.check_shape.proofs.order.first_unordered.Goals as goal
 pub returns-then-at_fault : goal.returns-then-at_fault
 returns-then-at_fault c =
     let l = c.loop-d in
-    sym (l.invariant.1 ∙ from_here _ _ _ _ l.d (omega arith) (ap not (sym c.at_fault.ensures ∙ c.if-at_fault.true)) ∙ ap (λ o. Verdict.Refused Refusal.DomainOrder o) (sym c.domain_offset.ensures))
+    sym (l.invariant.1 ∙ from_here _ _ _ _ l.d (omega arith) (ap not (sym c.at_fault.ensures ∙ c.if-at_fault.true)) ∙ ap (λ o. refused_at Refusal.DomainOrder o) (sym c.domain_offset.ensures))
 
 pub loop-d-preserved : goal.loop-d-preserved
 loop-d-preserved c =
