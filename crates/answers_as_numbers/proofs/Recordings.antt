@@ -1,4 +1,5 @@
 -- Equal parts of lent memory, and calls one after another.
+use Rattle.std.specs.Prelude.{Ok}
 use Prim.Native.Nat.{ℕ, zero, suc, ◌+◌, ◌-◌, ◌*◌, ◌/◌, ◌≤◌, ◌<◌}
 use native.Mathlib.Omega.{arith}
 use native.Mathlib.Numerals.{add-one}
@@ -10,7 +11,7 @@ use lib.Seq.{drop-drop, drop-length, drop-append_seam, length-take-le}
 use borrow.Author.Fill.{fill_more}
 use Rattle.image.specs.declared.Refusal.{Refusal}
 use Rattle.image.specs.Limits.{work_length}
-use Rattle.verdict.specs.declared.Verdict.{Verdict}
+use Rattle.verdict.specs.Answers.{Verdict, refused_at}
 use Rattle.verdict.specs.Verdicts.{verdict}
 use Rattle.base_bytes.specs.Bytes.{over, cleared}
 use Rattle.base_bytes.proofs.Over.{length_over}
@@ -103,19 +104,19 @@ module _ (b frames : List ℕ) (budget n i : ℕ) (below : i < n) (R : Recording
   verdict_of_lem : (v : Verdict) → verdict b (length R.work) (part_length n R.reports) ≡ v → verdict b (length R.work) (length (part n i R.reports)) ≡ v
   verdict_of_lem v e = ap (verdict b (length R.work)) (length_part n i below R.reports) ∙ e
 
-  pub accepted_call : (L : Left) → verdict b (length R.work) (part_length n R.reports) ≡ Verdict.Accepted
+  pub accepted_call : (L : Left) → verdict b (length R.work) (part_length n R.reports) ≡ Ok tt
       → L ≡ left_by (run_of b (part n i frames) budget (part n i R.logs)) (part n i R.logs) (part n i R.reports) R.work → L ≡ call_over b frames budget n i R
-  accepted_call L e d = d ∙ sym (accepted_leaves b (part n i frames) budget (part n i R.logs) (part n i R.reports) R.work (verdict_of_lem Verdict.Accepted e))
+  accepted_call L e d = d ∙ sym (accepted_leaves b (part n i frames) budget (part n i R.logs) (part n i R.reports) R.work (verdict_of_lem (Ok tt) e))
 
-  refused_call : (r : Refusal) (place : ℕ) → verdict b (length R.work) (part_length n R.reports) ≡ Verdict.Refused r place
+  refused_call : (r : Refusal) (place : ℕ) → verdict b (length R.work) (part_length n R.reports) ≡ refused_at r place
       → call_over b frames budget n i R ≡ record { answer = refused_answer r place; log = part n i R.logs; report = part n i R.reports; work = R.work }
-  refused_call r place e = refused_leaves b (part n i frames) budget (part n i R.logs) (part n i R.reports) R.work r place (verdict_of_lem (Verdict.Refused r place) e)
+  refused_call r place e = refused_leaves b (part n i frames) budget (part n i R.logs) (part n i R.reports) R.work r place (verdict_of_lem (refused_at r place) e)
 
 -- Of the work area that an accepted call is lent, only the length and the bytes past the published length matter.
 abbrev pub with_clear_work : Recording → Recording
 with_clear_work R = record { answers = R.answers; logs = R.logs; reports = R.reports; work = cleared work_length R.work }
 
-module _ (b frames : List ℕ) (budget n i : ℕ) (below : i < n) (R : Recording) (enough : work_length ≤ length R.work) (accepted : verdict b (length R.work) (part_length n R.reports) ≡ Verdict.Accepted) where
+module _ (b frames : List ℕ) (budget n i : ℕ) (below : i < n) (R : Recording) (enough : work_length ≤ length R.work) (accepted : verdict b (length R.work) (part_length n R.reports) ≡ Ok tt) where
   abbrev ran_over : Left
   ran_over = left_by (run_of b (part n i frames) budget (part n i R.logs)) (part n i R.logs) (part n i R.reports) R.work
 
@@ -140,7 +141,7 @@ module _ (b frames : List ℕ) (budget n i : ℕ) (below : i < n) (R : Recording
       ∙ ap (λ m. first_calls b frames budget n m R₀) (sym (add-one i))
 
 -- Calls that are accepted, from the first on: what the front of the work area holds before it makes no difference.
-module _ (b frames : List ℕ) (budget n : ℕ) (some : 0 < n) (R : Recording) (enough : work_length ≤ length R.work) (accepted : verdict b (length R.work) (part_length n R.reports) ≡ Verdict.Accepted) where
+module _ (b frames : List ℕ) (budget n : ℕ) (some : 0 < n) (R : Recording) (enough : work_length ≤ length R.work) (accepted : verdict b (length R.work) (part_length n R.reports) ≡ Ok tt) where
   pub calls_unseen : (k : ℕ) → 0 < k → first_calls b frames budget n k (with_clear_work R) ≡ first_calls b frames budget n k R
   unfolding first_calls
   calls_unseen zero h = absurd (omega arith)
@@ -149,7 +150,7 @@ module _ (b frames : List ℕ) (budget n : ℕ) (some : 0 < n) (R : Recording) (
 
 -- Where one call is refused, all are, and nothing but the answers is written.
 module _ (b frames : List ℕ) (budget n : ℕ) (R : Recording) (enough : n ≤ length R.answers) (r : Refusal) (place : ℕ)
-    (refused : verdict b (length R.work) (part_length n R.reports) ≡ Verdict.Refused r place) where
+    (refused : verdict b (length R.work) (part_length n R.reports) ≡ refused_at r place) where
   abbrev told : ℕ
   told = call_number (refused_answer r place)
 

@@ -3,7 +3,6 @@ ghost use Rattle.std.specs.Prelude.{◌≡◌};
 ghost use Rattle.answers_as_numbers.specs.Numbers.{as_number, refused_as_number, call_number};
 
 use call_spec::Answer;
-use verdict::Verdict;
 
 // The bytes written count modulo BYTE_COUNT; a refusal's number and its place are multiplied by their units, and the place counts
 // modulo PLACE_COUNT.
@@ -40,12 +39,12 @@ pub fn call_number(a: Answer) -> u64
 {
     let verdict = a.verdict;
     match verdict {
-        Verdict::Accepted => {
+        Ok(()) => {
             (a.report % BYTE_COUNT) as u64 + LOG_UNIT * ((a.log % LOG_COUNT) as u64)
         }
-        Verdict::Refused(why, place) => refused_as_number(
-            image_refusals::refusal_number(why),
-            place,
+        Err(refused) => refused_as_number(
+            image_refusals::refusal_number(refused.why),
+            refused.place,
         ),
     }
 }

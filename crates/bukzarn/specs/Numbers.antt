@@ -1,6 +1,6 @@
 -- What each function of the library answers as one number.
 use Rattle.std.specs.Prelude.{ℕ, ◌≡◌, List}
-use Rattle.verdict.specs.declared.Verdict.{Verdict}
+use Rattle.verdict.specs.Answers.{Verdict}
 use Rattle.validator.specs.Numbers.{verdict_number, verdict_place}
 use Rattle.image_needs.specs.declared.Forecast.{Forecast}
 use Rattle.image_needs.specs.Forecasts.{forecast_place}

@@ -7,7 +7,6 @@ use engine_core::prepare::prepare;
 use engine_frames::run_each;
 use image::{TERM_LIMIT, TYPE_LIMIT};
 use validator_core::call::{Lent, check_call};
-use validator_core::examine::Checked;
 use vm_words::terms::CODE_LENGTH;
 
 // One call after another: `frames`, `logs` and `reports` are cut into as many equal parts as there are answers, and call i has
@@ -38,8 +37,8 @@ pub extern "C" fn bukzarn_run_frames(
     let mut terms = [0u16; TERM_LIMIT];
     let checked = check_call(image, lent, &mut types, &mut descriptors, &mut terms);
     match checked {
-        Checked::Refused(why, place) => refuse_each(why, place, numbers),
-        Checked::Accepted(counts) => {
+        Err(refused) => refuse_each(refused.why, refused.place, numbers),
+        Ok(counts) => {
             let mut code = [0u64; CODE_LENGTH];
             let mut dispatch = [0u8; CODE_LENGTH];
             let target = prepare(

@@ -1,4 +1,5 @@
 -- An accepted image's program is accepted by the calculus, and its domains are ordered as type safety asks.
+use Rattle.std.specs.Prelude.{Ok}
 use Prim.Native.Nat.{ℕ, ◌≤◌}
 use mathlib.Core.Path.{◌≡◌}
 use mathlib.Core.List.{List}
@@ -7,7 +8,7 @@ use Rattle.image.specs.Limits.{work_length, report_length}
 use Rattle.image.specs.Layout.{records_of}
 use Rattle.image.specs.Types.{root_type}
 use Rattle.image.specs.Program.{to_tm}
-use Rattle.verdict.specs.declared.Verdict.{Verdict}
+use Rattle.verdict.specs.Answers.{Verdict}
 use Rattle.verdict.specs.Verdicts.{verdict}
 use Rattle.verdict.specs.Domains.{policy}
 use Rattle.verdict.proofs.Accept.{accepted_typed, accepted_plain, accepted_order}
@@ -26,7 +27,7 @@ module _ (b : List ℕ) (A : Accepts b) where
   }
 
   -- It is accepted with any lent memory that is long enough.
-  pub accepted_with : (work report : ℕ) → work_length ≤ work → report_length ≤ report → verdict b work report ≡ Verdict.Accepted
+  pub accepted_with : (work report : ℕ) → work_length ≤ work → report_length ≤ report → verdict b work report ≡ Ok tt
   accepted_with work report w r =
       let p = (passed_iff b A.work A.report).0 A.verdict_is in
       (passed_iff b work report).1 (record { short = p.short; laid_out = p.laid_out; shaped = p.shaped; well_typed = p.well_typed; plain = p.plain; work_enough = w; report_enough = r })

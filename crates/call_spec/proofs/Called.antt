@@ -1,4 +1,5 @@
 -- A call, by its verdict.
+use Rattle.std.specs.Prelude.{Ok}
 use Prim.Native.Nat.{ℕ, ◌<◌}
 use mathlib.Core.Path.{◌≡◌, sym, ap, subst, ◌∙◌}
 use mathlib.Core.List.{List}
@@ -6,7 +7,7 @@ use lib.ListN.{length, get_or, drop, replicate, length-replicate, get_or-replica
 use Rattle.calculus.specs.Run.{Ended}
 use Rattle.image.specs.declared.Refusal.{Refusal}
 use Rattle.image.specs.Limits.{work_length}
-use Rattle.verdict.specs.declared.Verdict.{Verdict}
+use Rattle.verdict.specs.Answers.{Verdict, refused_at}
 use Rattle.verdict.specs.Verdicts.{verdict}
 use Rattle.base_bytes.specs.Bytes.{cleared}
 use Rattle.call_spec.specs.Runs.{run_of}
@@ -18,13 +19,13 @@ module _ (b frame : List ℕ) (budget : ℕ) (log report work : List ℕ) where
   by_verdict v h = ap (λ x. after_verdict x (run_of b frame budget log) log report work) h
 
   -- A call that is refused has its number and place, and all lent memory is "left as it was".
-  pub refused_leaves : (r : Refusal) (place : ℕ) → verdict b (length work) (length report) ≡ Verdict.Refused r place
+  pub refused_leaves : (r : Refusal) (place : ℕ) → verdict b (length work) (length report) ≡ refused_at r place
       → called b frame budget log report work ≡ record { answer = refused_answer r place; log = log; report = report; work = work }
-  refused_leaves r place h = by_verdict (Verdict.Refused r place) h
+  refused_leaves r place h = by_verdict (refused_at r place) h
 
   -- A call that is accepted leaves what the calculus's run says.
-  pub accepted_leaves : verdict b (length work) (length report) ≡ Verdict.Accepted → called b frame budget log report work ≡ left_by (run_of b frame budget log) log report work
-  accepted_leaves h = by_verdict Verdict.Accepted h
+  pub accepted_leaves : verdict b (length work) (length report) ≡ Ok tt → called b frame budget log report work ≡ left_by (run_of b frame budget log) log report work
+  accepted_leaves h = by_verdict (Ok tt) h
 
 -- A run leaves "the work area zero over its published length": each of its bytes, to the last one.
 pub work_zero : (E : Ended) (log report work : List ℕ) (i d : ℕ) → i < work_length → get_or (left_by E log report work).work i d ≡ 0

@@ -1,12 +1,12 @@
 -- What a whole call answers and leaves, from any image, frame, budget, log, report and work area (document 01, "Turned back at the gate" and "A run").
-use Rattle.std.specs.Prelude.{ℕ, List, [], ◌++◌, map, length, take, replicate}
+use Rattle.std.specs.Prelude.{ℕ, List, [], ◌++◌, map, length, take, replicate, Ok, Err}
 use Rattle.calculus.specs.declared.Leaf.{Leaf}
 use Rattle.calculus.specs.Limits.{leaf_limit}
 use Rattle.calculus.specs.Run.{Ended}
 use Rattle.calculus.specs.Report.{report}
 use Rattle.image.specs.declared.Refusal.{Refusal}
 use Rattle.image.specs.Limits.{work_length}
-use Rattle.verdict.specs.declared.Verdict.{Verdict}
+use Rattle.verdict.specs.Answers.{Verdict, refused_at}
 use Rattle.verdict.specs.Verdicts.{verdict}
 use Rattle.base_bytes.specs.Bytes.{over, cleared}
 use Rattle.report.specs.declared.Ending.{Ending}
@@ -26,7 +26,7 @@ slots_of ls = take leaf_limit (map slot_of ls ++ replicate leaf_limit (slot_of L
 abbrev pub answer_of : Ended → Answer
 answer_of E =
     record {
-      verdict = Verdict.Accepted;
+      verdict = Ok tt;
       ending = ending_of (report E).outcome;
       steps = (report E).steps;
       log = length (written_log E);
@@ -38,7 +38,7 @@ answer_of E =
 -- "A call turned back at the gate makes no run": its answer has no outcome.
 abbrev pub refused_answer : Refusal → ℕ → Answer
 refused_answer r place =
-    record { verdict = Verdict.Refused r place; ending = Ending.NoOutcome; steps = 0; log = 0; report = 0; count = 0; leaves = slots_of [] }
+    record { verdict = refused_at r place; ending = Ending.NoOutcome; steps = 0; log = 0; report = 0; count = 0; leaves = slots_of [] }
 
 -- What a call answers, and what the lent memory then holds.
 pub record Left : Type 0 where
@@ -54,8 +54,8 @@ left_by E log report work =
 
 -- A call that is refused leaves all lent memory as it was.
 abbrev pub after_verdict : Verdict → Ended → List ℕ → List ℕ → List ℕ → Left
-after_verdict Verdict.Accepted E log report work = left_by E log report work
-after_verdict (Verdict.Refused r place) E log report work = record { answer = refused_answer r place; log = log; report = report; work = work }
+after_verdict (Ok tt) E log report work = left_by E log report work
+after_verdict (Err refusal) E log report work = record { answer = refused_answer refusal.why refusal.place; log = log; report = report; work = work }
 
 unfoldable pub called : List ℕ → List ℕ → ℕ → List ℕ → List ℕ → List ℕ → Left
 called b frame budget log report work = after_verdict (verdict b (length work) (length report)) (run_of b frame budget log) log report work

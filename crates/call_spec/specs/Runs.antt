@@ -1,10 +1,10 @@
 -- The program of an image, and its run in the calculus (document 01, "A run" and "Two runs compared").
-use Rattle.std.specs.Prelude.{ℕ, ◌≡◌, List, length}
+use Rattle.std.specs.Prelude.{ℕ, ◌≡◌, List, length, Ok}
 use Rattle.calculus.specs.State.{Given, fresh}
 use Rattle.calculus.specs.Run.{Ended, run}
 use Rattle.image.specs.Layout.{records_of}
 use Rattle.image.specs.Program.{Program, program, to_tm}
-use Rattle.verdict.specs.declared.Verdict.{Verdict}
+use Rattle.verdict.specs.Answers.{Verdict}
 use Rattle.verdict.specs.Verdicts.{verdict}
 
 abbrev pub program_of : List ℕ → Program
@@ -22,4 +22,4 @@ run_of b frame budget log = run budget (given_by frame log) 0 fresh (to_tm (prog
 pub record Accepts (b : List ℕ) : Type 0 where
   pub work : ℕ
   pub report : ℕ
-  pub verdict_is : verdict b work report ≡ Verdict.Accepted
+  pub verdict_is : verdict b work report ≡ Ok tt

@@ -1,5 +1,5 @@
 -- Laws of requirements in a row, and of the first check.
-use Rattle.std.specs.Prelude.{Ok}
+use Rattle.std.specs.Prelude.{Ok, is_err}
 use borrow.Author.Tests.{lt-ltb}
 use Prim.Native.Nat.{ℕ, zero, suc, ◌+◌, ◌-◌, ◌≤◌, ◌<◌}
 use native.Mathlib.Omega.{arith}
@@ -12,7 +12,7 @@ use Rattle.image.specs.declared.Refusal.{Refusal}
 use Rattle.image.specs.Records.{Layout}
 use Rattle.image.specs.Layout.{is_nil}
 use Rattle.laws.specs.Tests.{all, all_below}
-use Rattle.verdict.specs.Answers.{is_refused, require, require_from, refused_at}
+use Rattle.verdict.specs.Answers.{require, require_from, refused_at}
 use Rattle.verdict.specs.Shape.{none_empty, shape}
 use Rattle.verdict.proofs.Answered.{each_required, turn_stops, turn_goes}
 use Rattle.check_shape.specs.Checks.{passes}
@@ -66,11 +66,11 @@ from_same r p q f g (suc n) i hp hf = go (f i) refl (from_same r p q f g n (suc 
 module _ (L : Layout) (size : ℕ) where
   pub shape_empty : none_empty L ≡ false → shape L size ≡ refused_at Refusal.EmptySection size
   unfolding shape
-  shape_empty h = let e : require (none_empty L) Refusal.EmptySection size ≡ refused_at Refusal.EmptySection size = rw h refl in turn_stops _ _ (ap is_refused e) ∙ e
+  shape_empty h = let e : require (none_empty L) Refusal.EmptySection size ≡ refused_at Refusal.EmptySection size = rw h refl in turn_stops _ _ (ap is_err e) ∙ e
 
   pub shape_passes : none_empty L ≡ true → shape L size ≡ passes L
   unfolding shape
-  shape_passes h = turn_goes _ _ (ap is_refused (ap (λ t. require t Refusal.EmptySection size) h))
+  shape_passes h = turn_goes _ _ (ap is_err (ap (λ t. require t Refusal.EmptySection size) h))
 
 -- A section is empty if it has no records.
 some : (xs : List ℕ) → not (is_nil xs) ≡ ltb 0 (length xs)

@@ -1,5 +1,5 @@
 -- Refusals 11 and 12 of a layout, by the marks of its terms.
-use Rattle.std.specs.Prelude.{Ok}
+use Rattle.std.specs.Prelude.{Ok, is_err}
 use Prim.Native.Nat.{ℕ, ◌-◌, ◌≤◌, ◌<◌}
 use native.Mathlib.Omega.{arith}
 use mathlib.Core.Path.{◌≡◌, ap, sym, ◌∙◌}
@@ -14,7 +14,7 @@ use Rattle.image.specs.Layout.{records_of}
 use Rattle.image.specs.Types.{root_of}
 use Rattle.image.proofs.Laid.{LayoutOk, layout_good}
 use Rattle.laws.proofs.Tests.{below_all}
-use Rattle.verdict.specs.Answers.{is_refused, refused_at}
+use Rattle.verdict.specs.Answers.{refused_at}
 use Rattle.verdict.specs.Shape.{used_once}
 use Rattle.verdict.proofs.Answered.{turn_stops, turn_goes, last_turn}
 use Rattle.check_uses.specs.Marks.{is_once, marks_of, FirstMisused}
@@ -71,14 +71,14 @@ module _ (b ts ms : List ℕ) (T : Terms b ts) (M : Marked b ms) where
     pub refused_first : f < length ts - 1 → terms_right L ≡ refused_at Refusal.UseCount (get_or ts f 0)
     refused_first h =
         let u = misused L good ms f M.marks there first (rw T.offsets h) in
-        turn_stops _ _ (ap is_refused u) ∙ u ∙ ap (λ us. refused_at Refusal.UseCount (get_or us f 0)) T.offsets
+        turn_stops _ _ (ap is_err u) ∙ u ∙ ap (λ us. refused_at Refusal.UseCount (get_or us f 0)) T.offsets
 
     module _ (h : length ts - 1 ≤ f) where
       last : root_of L ≤ f
       last = rw T.offsets h
 
       pub depths_decide : terms_right L ≡ no_term_deep L
-      depths_decide = turn_goes _ _ (ap is_refused (none_misused L good ms f M.marks there first last)) ∙ last_turn _
+      depths_decide = turn_goes _ _ (ap is_err (none_misused L good ms f M.marks there first last)) ∙ last_turn _
 
       pub accepted_low : get_or ms (length ts - 1) 0 ≤ depth_limit → terms_right L ≡ Ok tt
       accepted_low l = depths_decide ∙ none_deep L good ms f M.marks there first last (rw T.offsets l)

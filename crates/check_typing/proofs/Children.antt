@@ -1,4 +1,5 @@
 -- A child of a term, wherever it stands: its number, the room that is left for it, and the verdict on the children up to it.
+use Rattle.std.specs.Prelude.{Ok, is_err}
 use Prim.Native.Nat.{ℕ, ◌+◌, ◌≤◌, ◌<◌}
 use native.Mathlib.Omega.{arith}
 use mathlib.Core.Path.{◌≡◌, refl, sym, ap, subst, ◌∙◌}
@@ -8,8 +9,7 @@ use lib.ListN.{length, get_or}
 use Rattle.image.specs.Kinds.{TermKind, lead_of}
 use Rattle.image.specs.Layout.{records_of}
 use Rattle.image.specs.Types.{term_kind, children}
-use Rattle.verdict.specs.declared.Verdict.{Verdict}
-use Rattle.verdict.specs.Answers.{is_refused}
+use Rattle.verdict.specs.Answers.{Verdict}
 use Rattle.verdict.specs.Settings.{Setting}
 use Rattle.verdict.specs.Check.{checked}
 use Rattle.read_terms.specs.Lent.{Terms, IsTerm}
@@ -38,11 +38,11 @@ module _ {b terms : List ℕ} (T : Terms b terms) {n : ℕ} (h : IsTerm b n) {fs
   types_there : Typed b fs
   types_there = rw f (typed_in T h)
 
-  fits_there : (p : Setting ℕ) → rule_verdict (records_of b) p n ≡ Verdict.Accepted → (rule_in b fs k p).typed ≡ true
+  fits_there : (p : Setting ℕ) → rule_verdict (records_of b) p n ≡ Ok tt → (rule_in b fs k p).typed ≡ true
   fits_there p a = rw f (types_fit _ _ (verdict_in T h e p ∙ a))
 
   -- It has passed its rule.
-  pub passed_there : {scope : List ℕ} {len c : ℕ} → rule_verdict (records_of b) (setting_in scope len c) n ≡ Verdict.Accepted → length scope ≡ scope_length → len + bind_limit ≤ scope_length → Passed b fs k scope len c
+  pub passed_there : {scope : List ℕ} {len c : ℕ} → rule_verdict (records_of b) (setting_in scope len c) n ≡ Ok tt → length scope ≡ scope_length → len + bind_limit ≤ scope_length → Passed b fs k scope len c
   passed_there {scope} {len} {c} a q r =
       record { typed = types_there; children = behind; entries = entries_there; fits = fits_there (setting_in scope len c) a; places = q; capacity = r }
 
@@ -68,17 +68,17 @@ module _ {b terms : List ℕ} (T : Terms b terms) {n : ℕ} (h : IsTerm b n) {fs
 
 -- The verdict on child i, behind those before it, which pass; and a refusal of it is the term's.
 module _ (b fs : List ℕ) (k : TermKind) (p : Setting ℕ) where
-  pub child_next : (i e : ℕ) → i < length (children_in fs k) → e ≡ get_or (children_in fs k) i 0 → (q : Setting ℕ) → q ≡ setting_from b fs k p i → front b fs k p i ≡ Verdict.Accepted → checked (records_of b) q e ≡ front b fs k p (i + 1)
+  pub child_next : (i e : ℕ) → i < length (children_in fs k) → e ≡ get_or (children_in fs k) i 0 → (q : Setting ℕ) → q ≡ setting_from b fs k p i → front b fs k p i ≡ Ok tt → checked (records_of b) q e ≡ front b fs k p (i + 1)
   child_next i e l g q s a =
       ap (λ x. checked (records_of b) x e) s
       ∙ ap (checked (records_of b) (setting_from b fs k p i)) g
       ∙ sym (front_next b fs k p i l a)
 
-module _ {b terms : List ℕ} (T : Terms b terms) {n : ℕ} (h : IsTerm b n) {fs : List ℕ} (f : fs ≡ fields_of b n) (p : Setting ℕ) (a : rule_verdict (records_of b) p n ≡ Verdict.Accepted) where
+module _ {b terms : List ℕ} (T : Terms b terms) {n : ℕ} (h : IsTerm b n) {fs : List ℕ} (f : fs ≡ fields_of b n) (p : Setting ℕ) (a : rule_verdict (records_of b) p n ≡ Ok tt) where
   pub all_passed : (j : ℕ) → length (children_in fs (term_kind (records_of b) n)) ≤ j → front b fs (term_kind (records_of b) n) p j ≡ checked (records_of b) p n
   all_passed j l = rw f (front_whole T h p a refl j (rw f at l))
 
-  pub refused_there : (v : Verdict) (i : ℕ) → i ≤ length (children_in fs (term_kind (records_of b) n)) → v ≡ front b fs (term_kind (records_of b) n) p i → is_refused v ≡ true → v ≡ checked (records_of b) p n
+  pub refused_there : (v : Verdict) (i : ℕ) → i ≤ length (children_in fs (term_kind (records_of b) n)) → v ≡ front b fs (term_kind (records_of b) n) p i → is_err v ≡ true → v ≡ checked (records_of b) p n
   refused_there v i l e r =
       let k = length (children_in fs (term_kind (records_of b) n)) in
       front_stops b fs (term_kind (records_of b) n) p v i k l e r ∙ all_passed k (omega arith)

@@ -1,4 +1,5 @@
 -- A fault says the verdict that it was made from.
+use Rattle.std.specs.Prelude.{Ok, Err, is_err}
 use Prim.Native.Nat.{ℕ, ◌+◌, ◌*◌, ◌/◌, ◌%◌, ◌≤◌, ◌<◌}
 use native.Mathlib.Omega.{arith}
 use mathlib.Core.Path.{◌≡◌, refl, sym, ap, subst, ◌∙◌}
@@ -7,8 +8,7 @@ use borrow.Author.Tests.{eq-eqb, ne_eqb}
 use Rattle.image.specs.declared.Refusal.{Refusal}
 use Rattle.image.specs.Records.{Layout}
 use Rattle.image.specs.Types.{term_place}
-use Rattle.verdict.specs.declared.Verdict.{Verdict}
-use Rattle.verdict.specs.Answers.{is_refused}
+use Rattle.verdict.specs.Answers.{Verdict, refused_at}
 use Rattle.verdict.specs.Settings.{Setting}
 use Rattle.verdict.specs.Rules.{Rule}
 use Rattle.verdict.specs.Check.{rule_at}
@@ -18,22 +18,22 @@ use Rattle.check_typing.specs.Faults.{fault_at, refusal_with, verdict_at}
 
 module _ (L : Layout) where
   -- A number other than 0 is a refusal, and 0 none.
-  pub fault_refused : (f : ℕ) → (f ≡ 0 → ⊥) → is_refused (verdict_at L f) ≡ true
+  pub fault_refused : (f : ℕ) → (f ≡ 0 → ⊥) → is_err (verdict_at L f) ≡ true
   fault_refused f h = rw (ne_eqb f 0 h) refl
 
-  pub fault_accepted : (f : ℕ) → f ≡ 0 → is_refused (verdict_at L f) ≡ false
+  pub fault_accepted : (f : ℕ) → f ≡ 0 → is_err (verdict_at L f) ≡ false
   fault_accepted f h = rw (eq-eqb f 0 h) refl
 
-  pub no_fault : (f : ℕ) → f ≡ 0 → Verdict.Accepted ≡ verdict_at L f
+  pub no_fault : (f : ℕ) → f ≡ 0 → (Ok tt) ≡ verdict_at L f
   no_fault f h = rw (eq-eqb f 0 h) refl
 
-  pub fault_at_lem : (f : ℕ) {r : Refusal} {place : ℕ} → (f ≡ 0 → ⊥) → r ≡ refusal_with (f % 4) → place ≡ term_place L (f / 4 % 65536) → f / 4 < 65536 → Verdict.Refused r place ≡ verdict_at L f
+  pub fault_at_lem : (f : ℕ) {r : Refusal} {place : ℕ} → (f ≡ 0 → ⊥) → r ≡ refusal_with (f % 4) → place ≡ term_place L (f / 4 % 65536) → f / 4 < 65536 → refused_at r place ≡ verdict_at L f
   fault_at_lem f h e q l =
       let z : f / 4 % 65536 ≡ f / 4 = omega arith in
-      rw (ne_eqb f 0 h) (λ i. Verdict.Refused (e i) ((q ∙ ap (term_place L) z) i))
+      rw (ne_eqb f 0 h) (λ i. refused_at (e i) ((q ∙ ap (term_place L) z) i))
 
   -- The refusal k at term n, as a number and back.
-  back : (k n : ℕ) → 0 < k → k < 4 → verdict_at L (k + 4 * n) ≡ Verdict.Refused (refusal_with k) (term_place L n)
+  back : (k n : ℕ) → 0 < k → k < 4 → verdict_at L (k + 4 * n) ≡ refused_at (refusal_with k) (term_place L n)
   back k n l h =
       let r : (k + 4 * n) % 4 ≡ k = omega arith in
       let q : (k + 4 * n) / 4 ≡ n = omega arith in
@@ -55,5 +55,5 @@ module _ (L : Layout) where
 
 -- The number of the term at fault is not above n's.
 pub own_below : (v : Verdict) (n : ℕ) {f : ℕ} → f ≡ fault_at v n → f ≤ 4 * n + 3
-own_below Verdict.Accepted n e = omega arith
-own_below (Verdict.Refused r place) n e = omega arith
+own_below (Ok tt) n e = omega arith
+own_below (Err refusal) n e = omega arith

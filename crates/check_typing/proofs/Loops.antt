@@ -1,4 +1,5 @@
 -- The loops of `check_typing::pass::check_here` and `check_subterms` over the children of a term: what is known at a turn, and what follows of its child.
+use Rattle.std.specs.Prelude.{Ok, is_err}
 use Prim.Native.Nat.{ℕ, ◌+◌, ◌*◌, ◌≤◌, ◌<◌}
 use native.Mathlib.Omega.{arith}
 use mathlib.Core.Path.{◌≡◌, sym, ap, subst, ◌∙◌}
@@ -9,8 +10,7 @@ use Rattle.image.specs.Bytes.{number_at}
 use Rattle.image.specs.Kinds.{TermKind, term_row, lead_of}
 use Rattle.image.specs.Layout.{records_of}
 use Rattle.image.specs.Types.{term_place, term_kind}
-use Rattle.verdict.specs.declared.Verdict.{Verdict}
-use Rattle.verdict.specs.Answers.{is_refused}
+use Rattle.verdict.specs.Answers.{Verdict}
 use Rattle.verdict.specs.Settings.{Setting}
 use Rattle.verdict.specs.Check.{checked}
 use Rattle.verdict.proofs.Answered.{accepted_is}
@@ -37,7 +37,7 @@ pub record Parent (b : List ℕ) (n q k : ℕ) (fs : List ℕ) (p : Setting ℕ)
   pub there : IsTerm b n
   pub fields : fs ≡ fields_of b n
   pub read : q ≡ number_at b (term_place (records_of b) n)
-  pub ruled : rule_verdict (records_of b) p n ≡ Verdict.Accepted
+  pub ruled : rule_verdict (records_of b) p n ≡ Ok tt
   pub counted : (m : TermKind) → q ≡ (term_row m).number → k ≡ length (children_in fs m)
 
 module _ {b : List ℕ} {n q k : ℕ} {fs : List ℕ} {p : Setting ℕ} (P : Parent b n q k fs p) where
@@ -51,7 +51,7 @@ module _ {b : List ℕ} {n q k : ℕ} {fs : List ℕ} {p : Setting ℕ} (P : Par
   kinded m e = kind_is P.lent P.there m (sym P.read ∙ e)
 
   -- Where all its children pass, the verdict on them is the one that is asked for.
-  pub whole : (j : ℕ) → k ≤ j → ((m : TermKind) → q ≡ (term_row m).number → front b fs m p j ≡ Verdict.Accepted) → Verdict.Accepted ≡ checked (records_of b) p n
+  pub whole : (j : ℕ) → k ≤ j → ((m : TermKind) → q ≡ (term_row m).number → front b fs m p j ≡ Ok tt) → (Ok tt) ≡ checked (records_of b) p n
   whole j h F =
       let c = P.counted kind numbered in
       sym (F kind numbered) ∙ all_passed P.lent P.there P.fields p P.ruled j (omega arith)
@@ -69,7 +69,7 @@ pub record Turn (b : List ℕ) (n q k : ℕ) (fs : List ℕ) (p s : Setting ℕ)
   pub more : j < k
   pub number : (m : TermKind) → q ≡ (term_row m).number → e ≡ get_or (children_in fs m) j 0
   pub stands : (m : TermKind) → q ≡ (term_row m).number → s ≡ setting_from b fs m p j
-  pub before : (m : TermKind) → q ≡ (term_row m).number → front b fs m p j ≡ Verdict.Accepted
+  pub before : (m : TermKind) → q ≡ (term_row m).number → front b fs m p j ≡ Ok tt
 
 module _ {b : List ℕ} {n q k : ℕ} {fs : List ℕ} {p s : Setting ℕ} {j e : ℕ} (t : Turn b n q k fs p s j e) where
   abbrev P : Parent b n q k fs p
@@ -95,13 +95,13 @@ module _ {b : List ℕ} {n q k : ℕ} {fs : List ℕ} {p s : Setting ℕ} {j e :
   child_is m i = child_next b fs m p j e (indexed P j t.more m i) (t.number m i) s (t.stands m i) (t.before m i)
 
   -- A refusal of the child is the answer.
-  pub stops : (v : Verdict) → v ≡ checked (records_of b) s e → is_refused v ≡ true → v ≡ checked (records_of b) p n
+  pub stops : (v : Verdict) → v ≡ checked (records_of b) s e → is_err v ≡ true → v ≡ checked (records_of b) p n
   stops v h r =
       let i = own_index in
       refused_there P.lent P.there P.fields p P.ruled v (j + 1) (omega arith) (h ∙ child_is (term_kind (records_of b) n) (numbered P)) r
 
   -- All children up to one that passes pass.
-  pub goes_on : (v : Verdict) → v ≡ checked (records_of b) s e → is_refused v ≡ false → (m : TermKind) → q ≡ (term_row m).number → front b fs m p (j + 1) ≡ Verdict.Accepted
+  pub goes_on : (v : Verdict) → v ≡ checked (records_of b) s e → is_err v ≡ false → (m : TermKind) → q ≡ (term_row m).number → front b fs m p (j + 1) ≡ Ok tt
   goes_on v h r m i = sym (h ∙ child_is m i) ∙ accepted_is v r
 
 -- The children of a term of a kind whose children all stand where it does.
@@ -125,7 +125,7 @@ module _ (scope₀ : List ℕ) (len : ℕ) {b : List ℕ} {n q k : ℕ} {fs : Li
       let g = H.long in
       omega arith
 
-  pub here_turn : (scope : List ℕ) → take len scope ≡ take len scope₀ → ((m : TermKind) → q ≡ (term_row m).number → front b fs m (setting_in scope₀ len c) j ≡ Verdict.Accepted) → {e : ℕ} → e ≡ field_in fs (lead + j)
+  pub here_turn : (scope : List ℕ) → take len scope ≡ take len scope₀ → ((m : TermKind) → q ≡ (term_row m).number → front b fs m (setting_in scope₀ len c) j ≡ Ok tt) → {e : ℕ} → e ≡ field_in fs (lead + j)
       → Turn b n q k fs (setting_in scope₀ len c) (setting_in scope len c) j e
   here_turn scope keep F d =
       record {
@@ -138,7 +138,7 @@ module _ (scope₀ : List ℕ) (len : ℕ) {b : List ℕ} {n q k : ℕ} {fs : Li
 
 -- The children of a term that stand elsewhere. What is read of its fields gs is read of fs.
 module _ (scope₀ : List ℕ) (len : ℕ) {b : List ℕ} {n q k : ℕ} {fs : List ℕ} {c : ℕ} (P : Parent b n q k fs (setting_in scope₀ len c)) {gs : List ℕ} (G : gs ≡ fs) (j : ℕ) (l : j < k) (scope : List ℕ) (keep : take len scope ≡ take len scope₀) (same : length scope ≡ length scope₀) where
-  pub child_passed : ((Γ : List ℕ) → rule_verdict (records_of b) (record { context = Γ; dom = c }) n ≡ Verdict.Accepted) → Capacity b scope₀ len n → (m : TermKind) → q ≡ (term_row m).number → Passed b gs m scope len c × (j < length (children_in gs m))
+  pub child_passed : ((Γ : List ℕ) → rule_verdict (records_of b) (record { context = Γ; dom = c }) n ≡ Ok tt) → Capacity b scope₀ len n → (m : TermKind) → q ≡ (term_row m).number → Passed b gs m scope len c × (j < length (children_in gs m))
   child_passed A R m e =
       subst (λ xs. Passed b xs m scope len c × (j < length (children_in xs m))) (sym G)
       (passed_there P.lent P.there P.fields (kinded P m e) (A (context_in scope len)) (same ∙ R.places) (more_capacity R P.there), indexed P j l m e)
@@ -150,7 +150,7 @@ module _ (scope₀ : List ℕ) (len : ℕ) {b : List ℕ} {n q k : ℕ} {fs : Li
     own : ChildAt b fs (term_kind (records_of b) n) j scope after len c len' d
     own = at (term_kind (records_of b) n) (numbered P)
 
-    pub moved_turn : ((m : TermKind) → q ≡ (term_row m).number → front b fs m (setting_in scope₀ len c) j ≡ Verdict.Accepted) → {e : ℕ} → ((m : TermKind) → q ≡ (term_row m).number → e ≡ get_or (children_in gs m) j 0)
+    pub moved_turn : ((m : TermKind) → q ≡ (term_row m).number → front b fs m (setting_in scope₀ len c) j ≡ Ok tt) → {e : ℕ} → ((m : TermKind) → q ≡ (term_row m).number → e ≡ get_or (children_in gs m) j 0)
         → Turn b n q k fs (setting_in scope₀ len c) (setting_in after len' d) j e
     moved_turn F N =
         record {
@@ -171,6 +171,6 @@ module _ (scope₀ : List ℕ) (len : ℕ) {b : List ℕ} {n q k : ℕ} {fs : Li
     pub kept : (last : List ℕ) → take len' last ≡ take len' after → take len last ≡ take len scope₀
     kept last h = take_fewer len len' last after own.grown h ∙ own.kept ∙ keep
 
-pub parent : {b ts : List ℕ} (n : ℕ) {q k : ℕ} {fs : List ℕ} (p : Setting ℕ) → Terms b ts → IsTerm b n → fs ≡ fields_of b n → q ≡ number_at b (term_place (records_of b) n) → rule_verdict (records_of b) p n ≡ Verdict.Accepted
+pub parent : {b ts : List ℕ} (n : ℕ) {q k : ℕ} {fs : List ℕ} (p : Setting ℕ) → Terms b ts → IsTerm b n → fs ≡ fields_of b n → q ≡ number_at b (term_place (records_of b) n) → rule_verdict (records_of b) p n ≡ Ok tt
     → ((m : TermKind) → q ≡ (term_row m).number → k ≡ length (children_in fs m)) → Parent b n q k fs p
 parent n p T h f r A C = record { terms = _; lent = T; there = h; fields = f; read = r; ruled = A; counted = C }

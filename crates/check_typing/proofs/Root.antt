@@ -1,4 +1,5 @@
 -- The typing pass from the root: 13 to 15, then 16.
+use Rattle.std.specs.Prelude.{Ok, Err, is_err}
 use Prim.Native.Nat.{ℕ, suc, ◌-◌, ◌<◌}
 use native.Mathlib.Omega.{arith}
 use mathlib.Core.Path.{◌≡◌, sym, ap}
@@ -9,8 +10,7 @@ use Rattle.image.specs.declared.Refusal.{Refusal}
 use Rattle.image.specs.Records.{Layout}
 use Rattle.image.specs.Types.{term_place, type_no, type_of, root_of}
 use Rattle.laws.proofs.Booleans.{no_path}
-use Rattle.verdict.specs.declared.Verdict.{Verdict}
-use Rattle.verdict.specs.Answers.{is_refused, require, in_turn}
+use Rattle.verdict.specs.Answers.{require, in_turn, Verdict}
 use Rattle.verdict.specs.Check.{check, checked, root_setting, typing}
 use Rattle.verdict.proofs.Answered.{last_turn}
 use Rattle.check_rules.specs.Scopes.{context_in, setting_in}
@@ -28,12 +28,12 @@ module _ (L : Layout) where
   root_plain_lem = ap (λ t. require t Refusal.RootNotPlain (term_place L (root_of L))) (sym (plain_is (type_of L (type_no L (root_of L)))))
 
   -- The two in turn.
-  pub typing_refused : (v : Verdict) → v ≡ root_checked L → is_refused v ≡ true → v ≡ typing L
+  pub typing_refused : (v : Verdict) → v ≡ root_checked L → is_err v ≡ true → v ≡ typing L
   unfolding typing in_turn root_checked
-  typing_refused Verdict.Accepted e h = no_path (sym h)
-  typing_refused (Verdict.Refused r o) e h = rw (← e, in_turn)
+  typing_refused (Ok tt) e h = no_path (sym h)
+  typing_refused (Err refusal) e h = rw (← e, in_turn)
 
-  pub typing_plain : (v : Verdict) → v ≡ root_checked L → is_refused v ≡ false → root_plain L ≡ typing L
+  pub typing_plain : (v : Verdict) → v ≡ root_checked L → is_err v ≡ false → root_plain L ≡ typing L
   unfolding typing in_turn root_checked root_plain
-  typing_plain Verdict.Accepted e h = rw (← e, in_turn) (sym (last_turn (λ u. root_plain L)))
-  typing_plain (Verdict.Refused r o) e h = no_path h
+  typing_plain (Ok tt) e h = rw (← e, in_turn) (sym (last_turn (λ u. root_plain L)))
+  typing_plain (Err refusal) e h = no_path h

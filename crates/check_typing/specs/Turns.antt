@@ -5,8 +5,7 @@ use Rattle.image.specs.declared.Refusal.{Refusal}
 use Rattle.image.specs.Records.{Layout}
 use Rattle.image.specs.Layout.{records_of}
 use Rattle.image.specs.Types.{term_place, root_of, root_type}
-use Rattle.verdict.specs.declared.Verdict.{Verdict}
-use Rattle.verdict.specs.Answers.{require}
+use Rattle.verdict.specs.Answers.{require, Verdict}
 use Rattle.verdict.specs.Shape.{depths, Shaped}
 use Rattle.verdict.specs.Check.{check, root_setting}
 use Rattle.check_rules.specs.Scopes.{bind_limit, scope_length}

@@ -25,17 +25,26 @@ fn verdict_of(image: &[u8], terms: &[u16], fault: u64) -> Verdict
     ensures { result ≡ verdict_at (records_of image.now) fault }
 {
     if fault == 0 {
-        return Verdict::Accepted;
+        return Ok(());
     }
     let n = TermNo((fault / CAUSES % 65536) as u16);
     let at = read_terms::terms::term_place(image, terms, n);
     if fault % CAUSES == 1 {
-        return Verdict::Refused(image::Refusal::UnboundVariable, at);
+        return Err(image::Refused {
+            why: image::Refusal::UnboundVariable,
+            place: at,
+        });
     }
     if fault % CAUSES == 2 {
-        return Verdict::Refused(image::Refusal::TypeRule, at);
+        return Err(image::Refused {
+            why: image::Refusal::TypeRule,
+            place: at,
+        });
     }
-    Verdict::Refused(image::Refusal::DomainRule, at)
+    Err(image::Refused {
+        why: image::Refusal::DomainRule,
+        place: at,
+    })
 }
 
 // The root is the last term. It is checked with no variables, at domain 0. No term is deeper than 64 (refusal 12), and a level
@@ -76,9 +85,12 @@ fn plain_at(leaves: u8, at: usize) -> Verdict
     ensures { result ≡ plain_at leaves at }
 {
     if 0 < leaves {
-        return Verdict::Accepted;
+        return Ok(());
     }
-    Verdict::Refused(image::Refusal::RootNotPlain, at)
+    Err(image::Refused {
+        why: image::Refusal::RootNotPlain,
+        place: at,
+    })
 }
 
 fn check_plain(
@@ -115,9 +127,6 @@ pub fn check_typing(
 {
     let mut masks = [0u16; DOMAIN_LIMIT];
     read_terms::domains::set_masks(image, doms, counts.domains, &mut masks);
-    let v = check_root(image, types, terms, descriptors, counts.terms, &masks);
-    if verdict::is_refused(v) {
-        return v;
-    }
+    check_root(image, types, terms, descriptors, counts.terms, &masks)?;
     check_plain(image, terms, descriptors, counts.types, counts.terms)
 }

@@ -1,12 +1,11 @@
 // 13, 14 and 15 at each term, parent before children, left first (document 01, "Turned back at the gate"). The check recurses
 // over a term's children, and the term number falls. The answer on a term and those below it is a fault, one number that travels
 // in a register: 0 where all pass, else the term whose rule refuses, and by which of the three.
-ghost use Rattle.std.specs.Prelude.{◌≡◌, List, ℕ, ◌+◌, ◌*◌, ◌<◌, ◌≤◌, length, take};
+ghost use Rattle.std.specs.Prelude.{◌≡◌, Ok, List, ℕ, ◌+◌, ◌*◌, ◌<◌, ◌≤◌, length, take};
 ghost use Rattle.image.specs.Bytes.{number_at};
 ghost use Rattle.image.specs.Layout.{records_of};
 ghost use Rattle.image.specs.Types.{term_place};
 ghost use Rattle.verdict.specs.Check.{checked};
-ghost use Rattle.verdict.specs.declared.Verdict.{Verdict};
 ghost use Rattle.check_rules.specs.Judged.{rule_verdict};
 ghost use Rattle.read_terms.specs.Lent.{Lent, TypeOffsets, Masks, IsTerm};
 ghost use Rattle.check_rules.specs.Scopes.{setting_in};
@@ -22,7 +21,7 @@ use read_records::numbers::{DomainNo, TermNo};
 use read_terms::terms::{
     child_at_field, child_count, child_of, is_leaf, lead_of, term_fields, term_kind,
 };
-use verdict::{Verdict, is_refused};
+use verdict::Verdict;
 
 // A fault is so many times a term's number, and the cause: refusals 13, 14 and 15 leave the remainders 1, 2 and 3.
 pub const CAUSES: u64 = 4;
@@ -34,8 +33,8 @@ fn fault_of(v: Verdict, n: TermNo) -> u64
     ensures { result ≡ fault_at v n.0 }
 {
     match v {
-        Verdict::Accepted => 0,
-        Verdict::Refused(why, _) => (refusal_number(why) % CAUSE_NUMBERS) as u64
+        Ok(()) => 0,
+        Err(refused) => (refusal_number(refused.why) % CAUSE_NUMBERS) as u64
             + CAUSES * (n.0 as u64),
     }
 }
@@ -54,7 +53,7 @@ fn check_subterms(
     len: usize,
     types: &[u16; TYPE_LIMIT],
 ) -> u64
-    requires { Lent image.now terms.now descriptors.now × IsTerm image.now n.0 × Masks image.now masks.now × Capacity image.now scope.old len n.0 × TypeOffsets image.now types.now × ((Γ : List ℕ) → rule_verdict (records_of image.now) (record { context = Γ; dom = c.0 }) n.0 ≡ Verdict.Accepted) }
+    requires { Lent image.now terms.now descriptors.now × IsTerm image.now n.0 × Masks image.now masks.now × Capacity image.now scope.old len n.0 × TypeOffsets image.now types.now × ((Γ : List ℕ) → rule_verdict (records_of image.now) (record { context = Γ; dom = c.0 }) n.0 ≡ Ok tt) }
     ensures { (verdict_at (records_of image.now) result ≡ checked (records_of image.now) (setting_in scope.old len c.0) n.0) × (result ≤ causes * n.0 + 3) × (take len scope.new ≡ take len scope.old) × (length scope.new ≡ length scope.old) }
 {
     let kind = term_kind(image, terms, n);
@@ -115,7 +114,7 @@ pub fn check_here(
     ensures { (verdict_at (records_of image.now) result ≡ checked (records_of image.now) (setting_in scope.old len c.0) n.0) × (result ≤ causes * n.0 + 3) × (take len scope.new ≡ take len scope.old) × (length scope.new ≡ length scope.old) }
 {
     let v = check_rule(image, types, terms, descriptors, n, c, masks);
-    if is_refused(v) {
+    if v.is_err() {
         return fault_of(v, n);
     }
     let kind = term_kind(image, terms, n);

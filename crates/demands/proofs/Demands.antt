@@ -1,4 +1,5 @@
 -- The three demands, about whole calls: what a call answers and leaves is `called` (the crate call_spec), the definition that the engine's contract cites.
+use Rattle.std.specs.Prelude.{Ok, Err}
 use Prim.Native.Nat.{ℕ, ◌%◌, ◌≤◌}
 use native.Mathlib.Omega.{arith}
 use native.Mathlib.Nat.{mod-eq_of_lt}
@@ -15,8 +16,7 @@ use Rattle.image.specs.Refusals.{refusal_number}
 use Rattle.image.specs.Limits.{work_length, report_length}
 use Rattle.image.specs.Layout.{records_of}
 use Rattle.image.specs.Program.{to_tm}
-use Rattle.verdict.specs.declared.Verdict.{Verdict}
-use Rattle.verdict.specs.Answers.{refusal_of}
+use Rattle.verdict.specs.Answers.{refusal_of, Verdict}
 use Rattle.verdict.specs.Verdicts.{verdict}
 use Rattle.verdict.specs.Domains.{policy}
 use Rattle.verdict.specs.Acceptable.{Acceptable}
@@ -98,8 +98,8 @@ module _ (b frame : List ℕ) (budget : ℕ) (log report work : List ℕ) where
   answer_number = look (verdict b (length work) (length report)) refl
     where
       look : (v : Verdict) → verdict b (length work) (length report) ≡ v → refusal_of (called b frame budget log report work).answer.verdict ≡ refusal_of v
-      look Verdict.Accepted h = ap (λ X. refusal_of X.answer.verdict) (accepted_leaves b frame budget log report work h)
-      look (Verdict.Refused r place) h = ap (λ X. refusal_of X.answer.verdict) (refused_leaves b frame budget log report work r place h)
+      look (Ok tt) h = ap (λ X. refusal_of X.answer.verdict) (accepted_leaves b frame budget log report work h)
+      look (Err refusal) h = ap (λ X. refusal_of X.answer.verdict) (refused_leaves b frame budget log report work refusal.why refusal.place h)
 
   -- Demand 2, of the gate: a call runs exactly if the image follows the layouts and the typing rules and the lent memory is long enough.
   pub demand2_acceptance : Runs b report work ↔ Acceptable b (length work) (length report)
@@ -117,12 +117,12 @@ pub demand1_refused : Demand1Refused
 demand1_refused b frame budget log report work refused = look (verdict b (length work) (length report)) refl
   where
     look : (v : Verdict) → verdict b (length work) (length report) ≡ v → Rejection v log report work (called b frame budget log report work)
-    look Verdict.Accepted h = absurd (refused ((demand2_acceptance b frame budget log report work).0 h))
-    look (Verdict.Refused r place) h =
-        subst (Rejection (Verdict.Refused r place) log report work) (sym (refused_leaves b frame budget log report work r place h))
+    look (Ok tt) h = absurd (refused ((demand2_acceptance b frame budget log report work).0 h))
+    look (Err refusal) h =
+        subst (Rejection (Err refusal) log report work) (sym (refused_leaves b frame budget log report work refusal.why refusal.place h))
         (record {
-          number = refusal_number r;
-          place = place;
+          number = refusal_number refusal.why;
+          refusal.place = refusal.place;
           refusal = refl;
           answered = refl;
           no_outcome = refl;

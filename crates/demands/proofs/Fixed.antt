@@ -1,4 +1,5 @@
 -- Card 11: the fixed form of an image that runs.
+use Rattle.std.specs.Prelude.{Ok}
 use Prim.Native.Nat.{ℕ, ◌≤◌}
 use native.Mathlib.Omega.{arith}
 use mathlib.Core.Path.{◌≡◌, sym, ap, ◌∙◌}
@@ -10,7 +11,7 @@ use Rattle.calculus.specs.State.{fresh}
 use Rattle.calculus.specs.Run.{run}
 use Rattle.image.specs.Limits.{work_length, report_length}
 use Rattle.image.specs.Program.{to_tm}
-use Rattle.verdict.specs.declared.Verdict.{Verdict}
+use Rattle.verdict.specs.Answers.{Verdict}
 use Rattle.verdict.specs.Verdicts.{verdict}
 use Rattle.verdict.proofs.Passed.{passed_iff}
 use Rattle.base_bytes.specs.Bytes.{over}
@@ -36,7 +37,7 @@ module _ (b report work : List ℕ) (ok : Runs b report work) where
         ∙ ap (λ E. after_verdict (verdict b (length work) (length report)) E log report work) run_same
 
   -- The check accepts the image for the least work area and report too.
-  least : verdict b work_length report_length ≡ Verdict.Accepted
+  least : verdict b work_length report_length ≡ Ok tt
   least =
       let a = (passed_iff b (length work) (length report)).0 ok in
       (passed_iff b work_length report_length).1 (record { short = a.short; laid_out = a.laid_out; shaped = a.shaped; well_typed = a.well_typed; plain = a.plain; work_enough = omega arith; report_enough = omega arith })
@@ -45,7 +46,7 @@ module _ (b report work : List ℕ) (ok : Runs b report work) where
   unfolding fixed_call
   writes out h = ap (λ v. after_check v b out) least ∙ chosen
     where
-      chosen : after_check Verdict.Accepted b out ≡ record { answer = Written.Bytes (length (fixed b)); out = over 0 (fixed b) out }
+      chosen : after_check (Ok tt) b out ≡ record { answer = Written.Bytes (length (fixed b)); out = over 0 (fixed b) out }
       chosen = simp (le-ltb _ _ h)
 
 -- What was written is told by the answer and the output.

@@ -1,4 +1,5 @@
 -- Card 13 about whole calls.
+use Rattle.std.specs.Prelude.{Ok, Err}
 use Prim.Native.Nat.{ℕ, ◌%◌, ◌<◌}
 use native.Mathlib.Omega.{arith}
 use native.Mathlib.Nat.{mod-eq_of_lt}
@@ -28,7 +29,7 @@ use Rattle.calculus_stripped.proofs.Theorem.{stripped_run}
 use Rattle.calculus_stripped.proofs.Reported.{shares_result, shares_cells}
 use Rattle.image.specs.Layout.{records_of}
 use Rattle.image.specs.Program.{program, to_tm}
-use Rattle.verdict.specs.declared.Verdict.{Verdict}
+use Rattle.verdict.specs.Answers.{Verdict}
 use Rattle.verdict.specs.Verdicts.{verdict}
 use Rattle.verdict.specs.Domains.{policy}
 use Rattle.verdict.proofs.Accept.{accepted_good, accepted_order}
@@ -123,7 +124,7 @@ card13 high b b' highs same no_low_takedown frame budget log log' report report'
     rw (demand2_run b frame budget log report work h, demand2_run b' frame budget log' report' work' h', take_front (written_log E) log, take_front (written_log E') log', take_front (written_report E) report, take_front (written_report E') report') shares
 
 -- Its masks and its program are those from which it was written.
-in_form : (high : Dom → Bool) (b : List ℕ) (work report : ℕ) → verdict b work report ≡ Verdict.Accepted → fixed (without_watches high b) ≡ without_watches high b
+in_form : (high : Dom → Bool) (b : List ℕ) (work report : ℕ) → verdict b work report ≡ Ok tt → fixed (without_watches high b) ≡ without_watches high b
 unfolding fixed without_watches
 in_form high b work report ok = let h = stripped_holds high b work report ok in ap₂ writtenFrom h.domains h.tree
 
@@ -157,7 +158,7 @@ card13_done_stays b frame budget budget' log report work l h = look (verdict b (
     E = run_of b frame budget log
 
     look : (w : Verdict) → verdict b (length work) (length report) ≡ w → (after_verdict w E log report work).answer.ending ≡ Ending.Ended Outcome.Done → after_verdict w (run_of b frame budget' log) log report work ≡ after_verdict w E log report work
-    look Verdict.Accepted q p =
+    look (Ok tt) q p =
         let x = done_run b (accepts b report work q) frame budget log (ended_done _ p) in
         ap (λ F. left_by F log report work) (done_stays budget budget' l (given_by frame log) 0 fresh (to_tm (program_of b)) x.0 x.1)
-    look (Verdict.Refused r place) q p = refl
+    look (Err refusal) q p = refl

@@ -1,4 +1,5 @@
 -- The call that writes an image without its watches (card 13).
+use Rattle.std.specs.Prelude.{Ok, Err}
 use Prim.Native.Nat.{ℕ, ◌≤◌, ◌<◌}
 use native.Mathlib.Omega.{arith}
 use mathlib.Core.Path.{◌≡◌, refl, sym, ap, subst, ◌∙◌}
@@ -16,7 +17,7 @@ use Rattle.image.specs.Limits.{domain_limit, work_length, report_length}
 use Rattle.image.specs.Records.{Layout}
 use Rattle.image.specs.Layout.{records_of}
 use Rattle.image.proofs.Laid.{LayoutOk}
-use Rattle.verdict.specs.declared.Verdict.{Verdict}
+use Rattle.verdict.specs.Answers.{Verdict}
 use Rattle.verdict.specs.Domains.{leq}
 use Rattle.verdict.specs.Verdicts.{verdict}
 use Rattle.verdict.proofs.Accept.{accepted_good}
@@ -74,5 +75,5 @@ card13_call b mask n out h = look (verdict b work_length report_length) refl h
         }
 
     look : (w : Verdict) → verdict b work_length report_length ≡ w → Asked (after_check w b mask out)
-    look Verdict.Accepted q e = go (accepted_good b _ _ q) (wrong_set (records_of b) mask) refl (ltb (length out) (length b)) e
-    look (Verdict.Refused r place) q e = let z : ◌≡◌ {A = ℕ} 0 1 = cc in absurd (omega arith)
+    look (Ok tt) q e = go (accepted_good b _ _ q) (wrong_set (records_of b) mask) refl (ltb (length out) (length b)) e
+    look (Err refusal) q e = let z : ◌≡◌ {A = ℕ} 0 1 = cc in absurd (omega arith)

@@ -1,4 +1,5 @@
 -- Card 1 of document 02: an image that meets none of the refusals 1 to 4 and its trimmed form get the same verdict and the same run; only places move (specs/Trimmed.antt).
+use Rattle.std.specs.Prelude.{Ok, Err}
 use Prim.Native.Nat.{ℕ}
 use mathlib.Core.Path.{◌≡◌, refl, ap, ◌∙◌}
 use mathlib.Core.List.{List}
@@ -6,7 +7,7 @@ use lib.ListN.{length}
 use Rattle.calculus.specs.State.{fresh}
 use Rattle.calculus.specs.Run.{run}
 use Rattle.image.specs.Program.{to_tm}
-use Rattle.verdict.specs.declared.Verdict.{Verdict}
+use Rattle.verdict.specs.Answers.{Verdict, refused_at}
 use Rattle.verdict.specs.Verdicts.{verdict}
 use Rattle.image_trimmed.specs.Trimmed.{ReadableImage, trimmed, trimmed_place}
 use Rattle.image_trimmed.specs.Places.{map_place}
@@ -28,11 +29,11 @@ module _ (b : List ℕ) (R : ReadableImage b) (frame : List ℕ) (budget : ℕ) 
       moves = trimmed_verdict b R (length work) (length report)
 
       go : (v : Verdict) → verdict b (length work) (length report) ≡ v → called (trimmed b) frame budget log report work ≡ left_moved (trimmed_place b) (called b frame budget log report work)
-      go Verdict.Accepted e =
-          let z : verdict (trimmed b) (length work) (length report) ≡ Verdict.Accepted = moves ∙ ap (map_place (trimmed_place b)) e in
-          rw (z, e) (ap (λ E. after_verdict Verdict.Accepted E log report work) (run_same e))
-      go (Verdict.Refused r o) e =
-          let z : verdict (trimmed b) (length work) (length report) ≡ Verdict.Refused r (trimmed_place b o) = moves ∙ ap (map_place (trimmed_place b)) e in
+      go (Ok tt) e =
+          let z : verdict (trimmed b) (length work) (length report) ≡ Ok tt = moves ∙ ap (map_place (trimmed_place b)) e in
+          rw (z, e) (ap (λ E. after_verdict (Ok tt) E log report work) (run_same e))
+      go (Err refusal) e =
+          let z : verdict (trimmed b) (length work) (length report) ≡ refused_at refusal.why (trimmed_place b refusal.place) = moves ∙ ap (map_place (trimmed_place b)) e in
           rw (z, e) refl
 
 pub card1 : (b : List ℕ) → ReadableImage b → Card1 b

@@ -1,4 +1,5 @@
 -- Card 5 of document 02: the answers that change, and how (specs/Unpaid.antt).
+use Rattle.std.specs.Prelude.{Ok, Err}
 use Prim.Native.Nat.{ℕ, zero, suc, ◌+◌}
 use native.Mathlib.Omega.{arith}
 use mathlib.Core.Path.{◌≡◌, refl, sym, ap, ◌∙◌}
@@ -26,7 +27,7 @@ use Rattle.calculus_safety.proofs.Safety.{safe}
 use Rattle.laws.proofs.Lists.{All.all_nil}
 use Rattle.image.specs.Layout.{records_of}
 use Rattle.image.specs.Program.{to_tm}
-use Rattle.verdict.specs.declared.Verdict.{Verdict}
+use Rattle.verdict.specs.Answers.{Verdict}
 use Rattle.verdict.specs.Verdicts.{verdict}
 use Rattle.verdict.specs.Domains.{policy}
 use Rattle.call_spec.specs.Runs.{Accepts, program_of, given_by, run_of}
@@ -137,7 +138,7 @@ module _ (b frame : List ℕ) (budget : ℕ) (log report work : List ℕ) where
     where
       reduct : (v : Verdict) → verdict b (length work) (length report) ≡ v
           → Card5 b frame budget log report work (called_before b frame budget log report work) (called_before b frame (suc budget) log report work)
-      reduct Verdict.Accepted e =
+      reduct (Ok tt) e =
           let A : Accepts b = record { work = length work; report = length report; verdict_is = e } in
           left_told (told (policy (records_of b)) (transitive b A) (given_by frame log) budget (typed b A).typed 0 fresh (fits_fresh (policy (records_of b))) budget (omega arith)) _ _ (rw e refl) (rw e refl) (rw e refl)
-      reduct (Verdict.Refused r place) e = rw e (record { now = rw (e, and_no (eqb 0 budget)) refl; changed = λ t. absurd (true≢false (sym t ∙ and_no (eqb 0 budget))) })
+      reduct (Err refusal) e = rw e (record { now = rw (e, and_no (eqb 0 budget)) refl; changed = λ t. absurd (true≢false (sym t ∙ and_no (eqb 0 budget))) })

@@ -1,5 +1,5 @@
 -- What a whole call wrote, and what demand 1 says of a call that runs and of one that is turned back (document 01, "A run" and "Turned back at the gate").
-use Rattle.std.specs.Prelude.{ℕ, ◌*◌, ◌≤◌, ◌<◌, ◌≡◌, List, length, take, drop, replicate}
+use Rattle.std.specs.Prelude.{ℕ, ◌*◌, ◌≤◌, ◌<◌, ◌≡◌, List, length, take, drop, replicate, Ok}
 use Rattle.std.proofs.Math.Option.{some}
 use Rattle.calculus.specs.declared.Outcome.{Outcome}
 use Rattle.calculus.specs.Limits.{word_size, log_record_length}
@@ -7,8 +7,7 @@ use Rattle.calculus.specs.State.{log_of}
 use Rattle.calculus.specs.Run.{Ended}
 use Rattle.calculus.specs.Report.{outcome_number, report as reported}
 use Rattle.image.specs.Limits.{work_length, report_length}
-use Rattle.verdict.specs.declared.Verdict.{Verdict}
-use Rattle.verdict.specs.Answers.{refusal_of}
+use Rattle.verdict.specs.Answers.{refusal_of, Verdict}
 use Rattle.verdict.specs.Verdicts.{verdict}
 use Rattle.verdict.specs.Acceptable.{Acceptable}
 use Rattle.report.specs.declared.Ending.{Ending}
@@ -18,7 +17,7 @@ use Rattle.call_spec.specs.Calls.{Left, called}
 
 -- "A call turned back at the gate makes no run": a call with image b, this report and this work area makes one.
 abbrev pub Runs : List ℕ → List ℕ → List ℕ → Type 0
-Runs b report work = verdict b (length work) (length report) ≡ Verdict.Accepted
+Runs b report work = verdict b (length work) (length report) ≡ Ok tt
 
 -- "A run returns how many bytes of log and of report it wrote": these bytes.
 abbrev pub log_written : Left → List ℕ

@@ -1,4 +1,5 @@
 -- Document 01's bench sheet, P1 to P8, as one table about whole calls, by computation of the definitions.
+use Rattle.std.specs.Prelude.{Ok, Err}
 use Prim.Native.Nat.{ℕ, ◌/◌, ◌%◌}
 use Prim.Native.String.{String}
 use mathlib.Core.Path.{◌≡◌, refl}
@@ -22,8 +23,7 @@ use Rattle.image.specs.Kinds.{find}
 use Rattle.image.specs.Layout.{all_within, tests, walk, layout, records_of}
 use Rattle.image.specs.Types.{type_out, type_from, type_of}
 use Rattle.image.specs.Program.{tree, program, assemble, to_tm}
-use Rattle.verdict.specs.declared.Verdict.{Verdict}
-use Rattle.verdict.specs.Answers.{refusal_of, require_from, in_turn}
+use Rattle.verdict.specs.Answers.{refusal_of, require_from, in_turn, Verdict}
 use Rattle.verdict.specs.Domains.{bits, order, leq}
 use Rattle.verdict.specs.Order.{at_fault}
 use Rattle.verdict.specs.Shape.{count, uses, depths_from, depths, shape}
@@ -57,8 +57,8 @@ pub record Case : Type 0 where
   pub says : Says
 
 abbrev used_by : Verdict → Ended → Option Uses
-used_by Verdict.Accepted E = some E.state.used
-used_by (Verdict.Refused r place) E = none
+used_by (Ok tt) E = some E.state.used
+used_by (Err refusal) E = none
 
 abbrev says_of : Left → Ended → Says
 says_of X E = record { refused = refusal_of X.answer.verdict; answer = X.answer; log = log_written X; report = report_written X; used = used_by X.answer.verdict E; listing = listing_of X }
@@ -78,7 +78,7 @@ ends b budget o steps ls log report used text =
       says =
           record {
             refused = none;
-            answer = record { verdict = Verdict.Accepted; ending = Ending.Ended o; steps = steps; log = length log; report = length report; count = length ls; leaves = slots_of ls };
+            answer = record { verdict = Ok tt; ending = Ending.Ended o; steps = steps; log = length log; report = length report; count = length ls; leaves = slots_of ls };
             log = log;
             report = report;
             used = some (record { mainline = used; others = no_counts });

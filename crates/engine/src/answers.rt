@@ -4,7 +4,7 @@ ghost use Rattle.call_spec.specs.Calls.{refused_answer};
 
 use calculus::{LEAF_LIMIT, Leaf};
 use call_spec::Answer;
-use image::Refusal;
+use image::{Refusal, Refused};
 use report::{Ending, Slot};
 use verdict::Verdict;
 
@@ -14,7 +14,7 @@ pub fn refused(why: Refusal, place: usize) -> Answer
 {
     let unit = Slot { leaf: Leaf::Unit };
     let slots = [unit; LEAF_LIMIT];
-    let verdict = Verdict::Refused(why, place);
+    let verdict: Verdict = Err(Refused { why, place });
     let ending = Ending::NoOutcome;
     Answer {
         verdict: verdict,

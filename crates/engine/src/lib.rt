@@ -12,7 +12,6 @@ use engine_core::prepare::prepare;
 use engine_core::runs::run_code;
 use image::{TERM_LIMIT, TYPE_LIMIT, WORK_LENGTH};
 use validator_core::call::{Lent, check_call};
-use validator_core::examine::Checked;
 use vm_words::terms::CODE_LENGTH;
 
 // One call: image and frame are only read; log, report and work area may have any length and content. Only an accepted image
@@ -36,8 +35,8 @@ pub fn run(
     let mut terms = [0u16; TERM_LIMIT];
     let checked = check_call(image, lent, &mut types, &mut descriptors, &mut terms);
     match checked {
-        Checked::Refused(why, place) => answers::refused(why, place),
-        Checked::Accepted(counts) => {
+        Err(refused) => answers::refused(refused.why, refused.place),
+        Ok(counts) => {
             let mut code = [0u64; CODE_LENGTH];
             let mut dispatch = [0u8; CODE_LENGTH];
             let target = prepare(

@@ -1,4 +1,5 @@
 -- The numbers of an accepted image's program fit in 32 bits (document 02, card 10): an image has at most 1,024 terms.
+use Rattle.std.specs.Prelude.{Ok}
 use Prim.Native.Nat.{ℕ, zero, suc, ◌+◌, ◌*◌, ◌≤◌, ◌<◌}
 use native.Mathlib.Omega.{arith}
 use native.Mathlib.Nat.{zero-mul, suc-mul, mul-le-mul}
@@ -21,7 +22,7 @@ use Rattle.image.specs.Types.{term_place, term_kind, others, root_of}
 use Rattle.image.specs.Program.{Program, Programs, node, blank, end, more, program, nth, behind, close_of, entry_of, pattern_of, assemble_as, assemble, to_tm, to_tms}
 use Rattle.image.proofs.Laid.{LayoutOk}
 use Rattle.image.proofs.EveryKind.{every_of, at_term}
-use Rattle.verdict.specs.declared.Verdict.{Verdict}
+use Rattle.verdict.specs.Answers.{Verdict}
 use Rattle.verdict.specs.Shape.{used_once}
 use Rattle.verdict.specs.Verdicts.{verdict}
 use Rattle.verdict.proofs.Passed.{passed_iff}
@@ -180,7 +181,7 @@ module _ (L : Layout) (good : LayoutOk L) (once : (y : ℕ) → y < root_of L �
       record { steps = n; bindings = n; other_bindings = n; cells = n; other_cells = n; pieces = n; other_pieces = n; labels = n; advices = n; prints = n; frames = omega arith }
 
 -- Of an accepted image.
-pub accepted_small : (b : List ℕ) (work report : ℕ) → verdict b work report ≡ Verdict.Accepted → Under (need_of (to_tm (program (records_of b)))) (most deepest highest)
+pub accepted_small : (b : List ℕ) (work report : ℕ) → verdict b work report ≡ Ok tt → Under (need_of (to_tm (program (records_of b)))) (most deepest highest)
 accepted_small b work report h =
     let s = ((passed_iff b work report).0 h).shaped in
     program_small (records_of b) (accepted_good b work report h) s.used s.has_terms

@@ -1,4 +1,5 @@
 -- An image whose numbers are known is accepted, its program is in the class, and the numbers are those of its program; one that is refused with 19 is accepted, and its program is outside the class. And the other way.
+use Rattle.std.specs.Prelude.{Ok, Err}
 use Prim.Native.Nat.{ℕ, ◌≤◌, ◌<◌}
 use native.Mathlib.Omega.{arith}
 use mathlib.Core.Path.{◌≡◌, refl}
@@ -15,7 +16,7 @@ use Rattle.image.specs.Layout.{records_of}
 use Rattle.image.specs.Types.{term_place}
 use Rattle.image.specs.Program.{program, to_tm}
 use Rattle.laws.proofs.Booleans.{no_path, lt_of, ge_of}
-use Rattle.verdict.specs.declared.Verdict.{Verdict}
+use Rattle.verdict.specs.Answers.{Verdict, refused_at}
 use Rattle.verdict.specs.Verdicts.{verdict}
 use Rattle.verdict.proofs.Accept.{accepted_good}
 use Rattle.verdict.proofs.Passed.{passed_iff}
@@ -30,16 +31,16 @@ abbrev InClass : List ℕ → Type 0
 InClass b = T (in_class true (to_tm (program (records_of b))))
 
 pub record Known (b : List ℕ) (n : Needs) : Type 0 where
-  pub accepted : verdict b work_length report_length ≡ Verdict.Accepted
+  pub accepted : verdict b work_length report_length ≡ Ok tt
   pub class : InClass b
   pub numbers : needs_of (need_of (to_tm (program (records_of b)))) ≡ n
 
 pub record Outside (b : List ℕ) (place : ℕ) : Type 0 where
-  pub accepted : verdict b work_length report_length ≡ Verdict.Accepted
+  pub accepted : verdict b work_length report_length ≡ Ok tt
   pub class : InClass b → ⊥
   pub place_is : term_place (records_of b) (lowest_fault (records_of b)) ≡ place
 
-module _ (b : List ℕ) (v : verdict b work_length report_length ≡ Verdict.Accepted) where
+module _ (b : List ℕ) (v : verdict b work_length report_length ≡ Ok tt) where
   abbrev fault : ℕ
   fault = lowest_fault (records_of b)
 
@@ -67,36 +68,36 @@ unfolding forecast
 known b n h = go (verdict b work_length report_length) refl (faulty b) refl h
   where
     go : (v : Verdict) → verdict b work_length report_length ≡ v → (c : Bool) → faulty b ≡ c → after v c b ≡ Forecast.Known n → Known b n
-    go Verdict.Accepted v true e k = no_path cc
-    go Verdict.Accepted v false e k = record { accepted = v; class = no_fault b v (ge_of e); numbers = cc }
-    go (Verdict.Refused r place) v c e k = no_path cc
+    go (Ok tt) v true e k = no_path cc
+    go (Ok tt) v false e k = record { accepted = v; class = no_fault b v (ge_of e); numbers = cc }
+    go (Err refusal) v c e k = no_path cc
 
 pub outside : (b : List ℕ) (place : ℕ) → forecast b ≡ Forecast.OutsideClass place → Outside b place
 unfolding forecast
 outside b place h = go (verdict b work_length report_length) refl (faulty b) refl h
   where
     go : (v : Verdict) → verdict b work_length report_length ≡ v → (c : Bool) → faulty b ≡ c → after v c b ≡ Forecast.OutsideClass place → Outside b place
-    go Verdict.Accepted v true e k = record { accepted = v; class = a_fault b v (lt_of e); place_is = cc }
-    go Verdict.Accepted v false e k = no_path cc
-    go (Verdict.Refused r place) v c e k = no_path cc
+    go (Ok tt) v true e k = record { accepted = v; class = a_fault b v (lt_of e); place_is = cc }
+    go (Ok tt) v false e k = no_path cc
+    go (Err refusal) v c e k = no_path cc
 
 -- The forecast of an image that is accepted, inside the class and outside of it.
-pub known_back : (b : List ℕ) → verdict b work_length report_length ≡ Verdict.Accepted → InClass b → forecast b ≡ Forecast.Known (needs_of (need_of (to_tm (program (records_of b)))))
+pub known_back : (b : List ℕ) → verdict b work_length report_length ≡ Ok tt → InClass b → forecast b ≡ Forecast.Known (needs_of (need_of (to_tm (program (records_of b)))))
 unfolding forecast
 known_back b v class = rw v (go (faulty b) refl)
   where
-    go : (c : Bool) → faulty b ≡ c → after Verdict.Accepted c b ≡ Forecast.Known (needs_of (need_of (to_tm (program (records_of b)))))
+    go : (c : Bool) → faulty b ≡ c → after (Ok tt) c b ≡ Forecast.Known (needs_of (need_of (to_tm (program (records_of b)))))
     go true e = absurd (a_fault b v (lt_of e) class)
     go false e = refl
 
-pub outside_back : (b : List ℕ) → verdict b work_length report_length ≡ Verdict.Accepted → (InClass b → ⊥) → forecast b ≡ Forecast.OutsideClass (term_place (records_of b) (lowest_fault (records_of b)))
+pub outside_back : (b : List ℕ) → verdict b work_length report_length ≡ Ok tt → (InClass b → ⊥) → forecast b ≡ Forecast.OutsideClass (term_place (records_of b) (lowest_fault (records_of b)))
 unfolding forecast
 outside_back b v class = rw v (go (faulty b) refl)
   where
-    go : (c : Bool) → faulty b ≡ c → after Verdict.Accepted c b ≡ Forecast.OutsideClass (term_place (records_of b) (lowest_fault (records_of b)))
+    go : (c : Bool) → faulty b ≡ c → after (Ok tt) c b ≡ Forecast.OutsideClass (term_place (records_of b) (lowest_fault (records_of b)))
     go true e = refl
     go false e = absurd (class (no_fault b v (ge_of e)))
 
-pub refused_first : (b : List ℕ) (r : Refusal) (place : ℕ) → verdict b work_length report_length ≡ Verdict.Refused r place → forecast b ≡ Forecast.Refused r place
+pub refused_first : (b : List ℕ) (r : Refusal) (place : ℕ) → verdict b work_length report_length ≡ refused_at r place → forecast b ≡ Forecast.Refused r place
 unfolding forecast
 refused_first b r place v = rw v refl

@@ -1,5 +1,5 @@
 -- What is said of an image before a launch (document 02, card 10): the check's refusals, 1 to 16; then 19; then the eleven numbers of its program.
-use Rattle.std.specs.Prelude.{ℕ, List, length, ltb}
+use Rattle.std.specs.Prelude.{ℕ, List, length, ltb, Ok, Err}
 use Rattle.calculus.specs.Combinators.{choose}
 use Rattle.calculus_needs.specs.Numbers.{Numbers}
 use Rattle.calculus_needs.specs.Needs.{need_of}
@@ -9,7 +9,7 @@ use Rattle.image.specs.Records.{Layout}
 use Rattle.image.specs.Layout.{records_of}
 use Rattle.image.specs.Types.{term_place}
 use Rattle.image.specs.Program.{program, to_tm}
-use Rattle.verdict.specs.declared.Verdict.{Verdict}
+use Rattle.verdict.specs.Answers.{Verdict}
 use Rattle.verdict.specs.Verdicts.{verdict}
 use Rattle.image_needs.specs.declared.Needs.{Needs}
 use Rattle.image_needs.specs.declared.Forecast.{Forecast}
@@ -36,8 +36,8 @@ abbrev pub classed : Layout → Forecast
 classed L = choose (ltb (lowest_fault L) (length L.terms)) (Forecast.OutsideClass (term_place L (lowest_fault L))) (Forecast.Known (needs_of (need_of (to_tm (program L)))))
 
 abbrev pub unless : Verdict → Forecast → Forecast
-unless Verdict.Accepted f = f
-unless (Verdict.Refused r place) f = Forecast.Refused r place
+unless (Ok tt) f = f
+unless (Err refusal) f = Forecast.Refused refusal.why refusal.place
 
 -- The check is that of a work area and a report that are long enough: 17 and 18 speak of a run's memory, and there is no run.
 unfoldable pub forecast : List ℕ → Forecast

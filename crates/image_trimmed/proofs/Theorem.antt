@@ -1,4 +1,5 @@
 -- Two images with the same records by their known fields get the same verdict, but for places, and have the same program; so do an image that meets none of 1 to 4 and its trimmed form (document 02, card 1).
+use Rattle.std.specs.Prelude.{Ok}
 use Prim.Native.Nat.{ℕ, ◌≤◌}
 use native.Mathlib.Omega.{arith}
 use mathlib.Core.Path.{◌≡◌, refl, sym, ap, ◌∙◌}
@@ -11,8 +12,7 @@ use Rattle.image.specs.Layout.{Scan, layout, records_of}
 use Rattle.image.specs.Program.{program}
 use Rattle.laws.proofs.Booleans.{of_le}
 use Rattle.image.proofs.Laid.{layout_good, records_of_lem}
-use Rattle.verdict.specs.declared.Verdict.{Verdict}
-use Rattle.verdict.specs.Answers.{require}
+use Rattle.verdict.specs.Answers.{require, Verdict, refused_at}
 use Rattle.verdict.specs.Shape.{shape}
 use Rattle.verdict.specs.Check.{typing}
 use Rattle.verdict.specs.Verdicts.{laid_out_of, verdict}
@@ -47,7 +47,7 @@ module _ (b c : List ℕ) (place : ℕ → ℕ) where
         go e f (both_stopped r o) =
             turn place _ _ _ _ first (λ _.
             turn place _ _ _ _ (ap laid_out_of f ∙ ap (λ s. map_place place (laid_out_of s)) (sym e)) (λ h.
-            let z : Verdict.Refused r o ≡ Verdict.Accepted = ap laid_out_of (sym e) ∙ h in not_refused z))
+            let z : refused_at r o ≡ Ok tt = ap laid_out_of (sym e) ∙ h in not_refused z))
         go e f (both_laid L M A) =
             let G = layout_good b L e in
             let l = records_of_lem b L e in
@@ -61,15 +61,15 @@ module _ (b c : List ℕ) (place : ℕ → ℕ) where
             no_more place))))))
 
     -- The same program, of an image that is accepted.
-    pub programs_same : verdict b work report ≡ Verdict.Accepted → program (records_of c) ≡ program (records_of b)
+    pub programs_same : verdict b work report ≡ Ok tt → program (records_of c) ≡ program (records_of b)
     unfolding verdict
     programs_same h = go refl refl (layouts_alike b c place R)
       where
-        h2 : (laid_out_of (layout b) ≡ Verdict.Accepted) × (shape (records_of b) (length b) ≡ Verdict.Accepted)
+        h2 : (laid_out_of (layout b) ≡ Ok tt) × (shape (records_of b) (length b) ≡ Ok tt)
         h2 = let z = in_turn_lem _ _ (in_turn_lem _ _ h).1 in (z.0, (in_turn_lem _ _ z.1).0)
 
         go : {x y : Scan} → layout b ≡ x → layout c ≡ y → ScanAlike b c place x y → program (records_of c) ≡ program (records_of b)
-        go e f (both_stopped r o) = let z : Verdict.Refused r o ≡ Verdict.Accepted = ap laid_out_of (sym e) ∙ h2.0 in not_refused z
+        go e f (both_stopped r o) = let z : refused_at r o ≡ Ok tt = ap laid_out_of (sym e) ∙ h2.0 in not_refused z
         go e f (both_laid L M A) =
             let l = records_of_lem b L e in
             ap program (records_of_lem c M f) ∙ (program_same A (layout_good b L e) ((shape_accepts L (length b)).0 (ap (λ K. shape K (length b)) (sym l) ∙ h2.1)).has_terms ∙ ap program (sym l))
@@ -86,5 +86,5 @@ module _ (b : List ℕ) (R : ReadableImage b) where
     pub trimmed_verdict : verdict (trimmed b) work report ≡ map_place (trimmed_place b) (verdict b work report)
     trimmed_verdict = verdict_same b (trimmed b) (trimmed_place b) trimmed_records R.short short' work report
 
-    pub trimmed_program : verdict b work report ≡ Verdict.Accepted → program (records_of (trimmed b)) ≡ program (records_of b)
+    pub trimmed_program : verdict b work report ≡ Ok tt → program (records_of (trimmed b)) ≡ program (records_of b)
     trimmed_program h = programs_same b (trimmed b) (trimmed_place b) trimmed_records R.short short' work report h

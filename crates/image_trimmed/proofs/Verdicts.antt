@@ -1,4 +1,5 @@
 -- Layouts that are alike get the same answers to 9 to 16, but for places.
+use Rattle.std.specs.Prelude.{Ok, Err}
 use Prim.Native.Nat.{ℕ, zero, suc, ◌+◌, ◌-◌, ◌≤◌, ◌<◌}
 use native.Mathlib.Omega.{arith}
 use mathlib.Core.Path.{◌≡◌, refl, sym, ap, ◌∙◌}
@@ -20,8 +21,7 @@ use Rattle.image.specs.Types.{domain_place, term_place, type_number, type_fields
 use Rattle.image.specs.Program.{pattern_of}
 use Rattle.image.proofs.Offsets.{number_at_lem}
 use Rattle.image.proofs.Laid.{Below, LayoutOk}
-use Rattle.verdict.specs.declared.Verdict.{Verdict}
-use Rattle.verdict.specs.Answers.{require, require_from, in_turn}
+use Rattle.verdict.specs.Answers.{require, require_from, in_turn, Verdict, refused_at}
 use Rattle.verdict.specs.Domains.{bits, order, leq}
 use Rattle.verdict.specs.Order.{at_fault}
 use Rattle.verdict.specs.Shape.{set_all, none_empty, uses, used_once, depths_from, depths, shape}
@@ -36,14 +36,14 @@ use Rattle.image_trimmed.proofs.Programs.{number_same, fields_same, methods_same
 
 module _ (place : ℕ → ℕ) where
   -- Checks in turn, the places of the second moved.
-  pub turn : (v w : Unit {0} → Verdict) (vs ws : List (Unit {0} → Verdict)) → w tt ≡ map_place place (v tt) → (v tt ≡ Verdict.Accepted → in_turn ws ≡ map_place place (in_turn vs))
+  pub turn : (v w : Unit {0} → Verdict) (vs ws : List (Unit {0} → Verdict)) → w tt ≡ map_place place (v tt) → (v tt ≡ Ok tt → in_turn ws ≡ map_place place (in_turn vs))
       → in_turn (w ∷ ws) ≡ map_place place (in_turn (v ∷ vs))
   unfolding in_turn
   turn v w vs ws e h = go (v tt) refl
     where
       go : (x : Verdict) → v tt ≡ x → in_turn (w ∷ ws) ≡ map_place place (in_turn (v ∷ vs))
-      go Verdict.Accepted q = let z : w tt ≡ Verdict.Accepted = e ∙ ap (map_place place) q in rw (z, q, in_turn) (h q)
-      go (Verdict.Refused r o) q = let z : w tt ≡ Verdict.Refused r (place o) = e ∙ ap (map_place place) q in rw (z, q, in_turn) refl
+      go (Ok tt) q = let z : w tt ≡ Ok tt = e ∙ ap (map_place place) q in rw (z, q, in_turn) (h q)
+      go (Err refusal) q = let z : w tt ≡ refused_at refusal.why (place refusal.place) = e ∙ ap (map_place place) q in rw (z, q, in_turn) refl
 
   pub no_more : in_turn [] ≡ map_place place (in_turn [])
   unfolding in_turn
@@ -51,7 +51,7 @@ module _ (place : ℕ → ℕ) where
 
   pub require_moved : (t : Bool) (r : Refusal) (o p : ℕ) → p ≡ place o → require t r p ≡ map_place place (require t r o)
   require_moved true r o p e = refl
-  require_moved false r o p e = ap (Verdict.Refused r) e
+  require_moved false r o p e = ap (refused_at r) e
 
   from_moved : (n i : ℕ) (r : Refusal) (f g : ℕ → ℕ) (s t : ℕ → Bool) → ((j : ℕ) → i ≤ j → j < i + n → (t j ≡ s j) × (g j ≡ place (f j)))
       → require_from n i r g t ≡ map_place place (require_from n i r f s)
@@ -64,7 +64,7 @@ module _ (place : ℕ → ℕ) where
 
       go : require_from n (suc i) r g t ≡ map_place place (require_from n (suc i) r f s) → (x : Bool) → s i ≡ x → require_from (suc n) i r g t ≡ map_place place (require_from (suc n) i r f s)
       go rest true q = let z : t i ≡ true = both.0 ∙ q in rw (z, q, require_from) rest
-      go rest false q = let z : t i ≡ false = both.0 ∙ q in rw (z, q, require_from) (ap (Verdict.Refused r) both.1)
+      go rest false q = let z : t i ≡ false = both.0 ∙ q in rw (z, q, require_from) (ap (refused_at r) both.1)
 
 -- 10, of an order and so many domains.
 abbrev faulty : List (List Bool) → ℕ → Dom → Bool
@@ -229,17 +229,17 @@ module _ {b c : List ℕ} {place : ℕ → ℕ} {L M : Layout} (A : SameLayout b
   all_moved u v m h i (e ∷ es) d = go (all_moved u v m h (suc i) es d.1) (u i e) refl
     where
       go : check_all M v (suc i) es ≡ map_place place (check_all L u (suc i) es) → (x : Verdict) → u i e ≡ x → check_all M v i (e ∷ es) ≡ map_place place (check_all L u i (e ∷ es))
-      go r Verdict.Accepted q = let z : v i e ≡ Verdict.Accepted = h i e d.0 ∙ ap (map_place place) q in rw (z, q, check_all) r
-      go r (Verdict.Refused w o) q = let z : v i e ≡ Verdict.Refused w (place o) = h i e d.0 ∙ ap (map_place place) q in rw (z, q, check_all) refl
+      go r (Ok tt) q = let z : v i e ≡ Ok tt = h i e d.0 ∙ ap (map_place place) q in rw (z, q, check_all) r
+      go r (Err refusal) q = let z : v i e ≡ refused_at refusal.why (place refusal.place) = h i e d.0 ∙ ap (map_place place) q in rw (z, q, check_all) refl
 
   check_same : (f : ℕ) (p : Setting ℕ) (n : ℕ) → n < length L.terms → check M f p n ≡ map_place place (check L f p n)
   unfolding check
-  check_same zero p n h = ap (Verdict.Refused Refusal.FieldRange) (place_same A G n h)
+  check_same zero p n h = ap (refused_at Refusal.FieldRange) (place_same A G n h)
   check_same (suc f) p n h = go (λ q e l. check_same f q e l) (first_fault (rule_faults (rule_at L p n))) refl
     where
       go : ((q : Setting ℕ) (e : ℕ) → e < length L.terms → check M f q e ≡ map_place place (check L f q e)) → (x : Option Refusal) → first_fault (rule_faults (rule_at L p n)) ≡ x
           → check M (suc f) p n ≡ map_place place (check L (suc f) p n)
-      go ih (some r) e = let z = ap (λ q. first_fault (rule_faults q)) (rule_same p n h) ∙ e in rw (e, z, check) (ap (Verdict.Refused r) (place_same A G n h))
+      go ih (some r) e = let z = ap (λ q. first_fault (rule_faults q)) (rule_same p n h) ∙ e in rw (e, z, check) (ap (refused_at r) (place_same A G n h))
       go ih none e =
           let z = ap (λ q. first_fault (rule_faults q)) (rule_same p n h) ∙ e in
           let x : check_all M (λ i e. check M f (setting_at M p n i) e) 0 (children M n) ≡ map_place place (check_all L (λ i e. check L f (setting_at L p n i) e) 0 (children L n)) =

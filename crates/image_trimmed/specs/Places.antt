@@ -1,7 +1,7 @@
 -- A verdict with its place moved (document 02, card 1: "the same verdict and the same run; only places move").
-use Rattle.std.specs.Prelude.{ℕ}
-use Rattle.verdict.specs.declared.Verdict.{Verdict}
+use Rattle.std.specs.Prelude.{ℕ, Ok, Err}
+use Rattle.verdict.specs.Answers.{Verdict, refused_at}
 
 abbrev pub map_place : (ℕ → ℕ) → Verdict → Verdict
-map_place place Verdict.Accepted = Verdict.Accepted
-map_place place (Verdict.Refused r o) = Verdict.Refused r (place o)
+map_place place (Ok tt) = Ok tt
+map_place place (Err refusal) = refused_at refusal.why (place refusal.place)

@@ -1,4 +1,5 @@
 -- What can be written is accepted when it is written, with its domains and its program.
+use Rattle.std.specs.Prelude.{Ok}
 use Prim.Native.Nat.{ℕ, ◌≤◌, ◌<◌}
 use native.Mathlib.Omega.{arith}
 use mathlib.Core.Path.{◌≡◌, refl, sym, ap, subst, ◌∙◌}
@@ -17,7 +18,7 @@ use Rattle.laws.specs.Tests.{any_below}
 use Rattle.image.specs.Program.{Program, node, blank, program}
 use Rattle.image.proofs.Laid.{LayoutOk, layout_good, records_of_lem}
 use Rattle.image.proofs.LaidOut.{laid_iff}
-use Rattle.verdict.specs.declared.Verdict.{Verdict}
+use Rattle.verdict.specs.Answers.{Verdict}
 use Rattle.verdict.specs.Domains.{bits, masks, order, leq, policy}
 use Rattle.verdict.specs.Order.{at_fault}
 use Rattle.verdict.specs.Shape.{Shaped}
@@ -61,7 +62,7 @@ some_type n T blank h = absurd h
 
 -- What can be written, over a table of types, is accepted as it is written, and has the domains and the program that were to be written.
 pub record Holds (b : List ℕ) (K : Layout) (e : Program) (work report : ℕ) : Type 0 where
-  pub accepted : verdict b work report ≡ Verdict.Accepted
+  pub accepted : verdict b work report ≡ Ok tt
   pub domains : masks (records_of b) ≡ masks K
   pub tree : program (records_of b) ≡ e
 

@@ -1,4 +1,5 @@
 -- The fixed form: accepted, with the domains and the program of what it is written from, once and for all, and no longer.
+use Rattle.std.specs.Prelude.{Ok}
 use Prim.Native.Nat.{ℕ, ◌≤◌}
 use native.Mathlib.Omega.{arith}
 use mathlib.Core.Path.{◌≡◌, refl, sym, ap, subst, ◌∙◌}
@@ -14,7 +15,7 @@ use Rattle.image.specs.Types.{root_type}
 use Rattle.image.specs.Program.{Program, program}
 use Rattle.image.proofs.Laid.{LayoutOk, layout_good, image_kept}
 use Rattle.calculus.specs.Plain.{is_plain}
-use Rattle.verdict.specs.declared.Verdict.{Verdict}
+use Rattle.verdict.specs.Answers.{Verdict}
 use Rattle.verdict.specs.Domains.{masks, policy}
 use Rattle.verdict.specs.WellTyped.{mainline, WellTyped, stated}
 use Rattle.verdict.specs.Verdicts.{verdict}
@@ -49,7 +50,7 @@ fixed_form K e work report F w r =
     })
     w r
 
-module _ (b : List ℕ) (work report : ℕ) (ok : verdict b work report ≡ Verdict.Accepted) where
+module _ (b : List ℕ) (work report : ℕ) (ok : verdict b work report ≡ Ok tt) where
   a : Passed b work report
   a = (passed_iff b work report).0 ok
 
@@ -124,7 +125,7 @@ module _ (b : List ℕ) (work report : ℕ) (ok : verdict b work report ≡ Verd
   fixed_short = lighter_short (program (records_of b)) itself
 
 -- Two accepted images have the same fixed form exactly if they have the same domains and the same program.
-pub fixed_same : (b c : List ℕ) (work report : ℕ) → verdict b work report ≡ Verdict.Accepted → verdict c work report ≡ Verdict.Accepted
+pub fixed_same : (b c : List ℕ) (work report : ℕ) → verdict b work report ≡ Ok tt → verdict c work report ≡ Ok tt
     → fixed b ≡ fixed c ↔ ((masks (records_of b) ≡ masks (records_of c)) × (program (records_of b) ≡ program (records_of c)))
 unfolding fixed
 fixed_same b c work report hb hc = (there, back)

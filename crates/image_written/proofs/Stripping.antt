@@ -1,4 +1,5 @@
 -- An accepted image without its watches is accepted, with the same domains, and no longer.
+use Rattle.std.specs.Prelude.{Ok}
 use Prim.Native.Nat.{ℕ, zero, suc, ◌≤◌, ◌<◌}
 use native.Mathlib.Omega.{arith}
 use mathlib.Core.Path.{◌≡◌, refl, sym, ap, subst, ◌∙◌}
@@ -15,7 +16,7 @@ use Rattle.image.specs.Layout.{records_of}
 use Rattle.image.specs.Program.{Program, Programs, node, blank, end, more, assemble, low_body, program}
 use Rattle.laws.proofs.Booleans.{no_path}
 use Rattle.image.proofs.Bodies.{Owner, body_owner}
-use Rattle.verdict.specs.declared.Verdict.{Verdict}
+use Rattle.verdict.specs.Answers.{Verdict}
 use Rattle.verdict.specs.Domains.{policy}
 use Rattle.verdict.specs.Settings.{Setting}
 use Rattle.verdict.specs.Verdicts.{verdict}
@@ -222,7 +223,7 @@ module _ (high : Dom → Bool) (D : Policy) where
         go true q r = rw q (as_unit_typed (at i) e (h 0 (omega arith) q))
         go false q r = rw q r
 
-module _ (high : Dom → Bool) (b : List ℕ) (work report : ℕ) (ok : verdict b work report ≡ Verdict.Accepted) where
+module _ (high : Dom → Bool) (b : List ℕ) (work report : ℕ) (ok : verdict b work report ≡ Ok tt) where
   stripped_lighter : Lighter b work report ok (stripped high (program (records_of b)))
   stripped_lighter =
       let n : ℕ = length (records_of b).domains in

@@ -1,6 +1,6 @@
 -- The listing of a call (document 01, "Bench sheet"), from what it answered and what its log and its report then hold.
-use Rattle.std.specs.Prelude.{ℕ, ◌+◌, ◌*◌, List, ◌++◌, take}
-use Rattle.verdict.specs.declared.Verdict.{Verdict}
+use Rattle.std.specs.Prelude.{ℕ, ◌+◌, ◌*◌, List, ◌++◌, take, Ok, Err}
+use Rattle.verdict.specs.Answers.{Verdict}
 use Rattle.report.specs.declared.Ending.{Ending}
 use Rattle.report.specs.Read.{read_log, read_report}
 use Rattle.call_spec.specs.declared.Answer.{Answer}
@@ -13,8 +13,8 @@ run_listing ending steps log report =
     texts print_line (read_log log) ++ ending_lines ending steps (read_report report).result ++ texts cell_line (read_report report).cells
 
 abbrev pub listing_by : Verdict → Answer → List ℕ → List ℕ → List ℕ
-listing_by Verdict.Accepted a log report = run_listing a.ending a.steps (take a.log log) (take a.report report)
-listing_by (Verdict.Refused r place) a log report = refusal_line r place
+listing_by (Ok tt) a log report = run_listing a.ending a.steps (take a.log log) (take a.report report)
+listing_by (Err refusal) a log report = refusal_line refusal.why refusal.place
 
 unfoldable pub listing : Answer → List ℕ → List ℕ → List ℕ
 listing a log report = listing_by a.verdict a log report

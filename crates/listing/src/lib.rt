@@ -32,8 +32,8 @@ pub fn put_verdict(out: &mut [u8], v: Verdict) -> usize
     ensures { PutsWithin refusal_bound out.old (verdict_line v) out.new result }
 {
     match v {
-        Verdict::Accepted => put(out, 0, b"accepted\n"),
-        Verdict::Refused(why, place) => put_refusal(out, why, place),
+        Ok(()) => put(out, 0, b"accepted\n"),
+        Err(refused) => put_refusal(out, refused.why, refused.place),
     }
 }
 
@@ -53,8 +53,8 @@ pub fn put_listing(out: &mut [u8], a: Answer, log: &[u8], report: &[u8]) -> usiz
     let verdict = a.verdict;
     let ending = a.ending;
     match verdict {
-        Verdict::Refused(why, place) => put_refusal(out, why, place),
-        Verdict::Accepted => put_run(
+        Err(refused) => put_refusal(out, refused.why, refused.place),
+        Ok(()) => put_run(
             out,
             ending,
             a.steps,

@@ -1,5 +1,5 @@
 -- The lines of a listing (document 01, "Bench sheet"). Every line ends with a newline.
-use Rattle.std.specs.Prelude.{ℕ, true, false, List, [], ◌++◌, eqb}
+use Rattle.std.specs.Prelude.{ℕ, true, false, List, [], ◌++◌, eqb, Ok, Err}
 use Prim.Native.String.{String}
 use Rattle.std.proofs.Math.Option.{Option, none, some}
 use Rattle.calculus.specs.declared.Outcome.{Outcome}
@@ -9,7 +9,7 @@ use Rattle.calculus.specs.State.{Print}
 use Rattle.calculus.specs.Report.{outcome_number, CellReport}
 use Rattle.image.specs.declared.Refusal.{Refusal}
 use Rattle.image.specs.Refusals.{refusal_number}
-use Rattle.verdict.specs.declared.Verdict.{Verdict}
+use Rattle.verdict.specs.Answers.{Verdict}
 use Rattle.report.specs.declared.Ending.{Ending}
 use Rattle.listing_lines.specs.Text.{ascii, decimal, signed_decimal, texts}
 
@@ -73,5 +73,5 @@ refusal_line r place = ascii "refused " ++ decimal (refusal_number r) ++ ascii "
 
 -- What `validate` prints.
 abbrev pub verdict_line : Verdict → List ℕ
-verdict_line Verdict.Accepted = ascii "accepted\n"
-verdict_line (Verdict.Refused r place) = refusal_line r place
+verdict_line (Ok tt) = ascii "accepted\n"
+verdict_line (Err refusal) = refusal_line refusal.why refusal.place

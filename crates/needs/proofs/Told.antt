@@ -1,4 +1,5 @@
 -- What is said of an image, from what the check, the lowest fault and the walk say.
+use Rattle.std.specs.Prelude.{Ok}
 use Prim.Native.Nat.{ℕ, suc, ◌+◌, ◌-◌, ◌≤◌, ◌<◌}
 use native.Mathlib.Omega.{arith}
 use mathlib.Core.Path.{◌≡◌, refl, sym, ap, subst, ◌∙◌}
@@ -20,13 +21,13 @@ use Rattle.image.specs.Records.{Layout}
 use Rattle.image.specs.Layout.{records_of}
 use Rattle.image.specs.Types.{term_place, root_of}
 use Rattle.image.specs.Program.{tree, program, to_tm}
-use Rattle.verdict.specs.declared.Verdict.{Verdict}
+use Rattle.verdict.specs.Answers.{Verdict, refused_at}
 use Rattle.verdict.specs.Acceptable.{Depth}
 use Rattle.verdict.specs.Verdicts.{verdict}
 use Rattle.verdict.proofs.Accept.{accepted_iff, acceptable_records}
 use Rattle.read_records.specs.declared.numbers.Counts.{Counts}
 use Rattle.read_terms.specs.Lent.{Lent}
-use Rattle.validator_core.specs.declared.examine.Checked.{Checked}
+use Rattle.validator_core.specs.Examined.{Checked}
 use Rattle.validator_core.specs.Examined.{examined, verdict_of, Filled}
 use Rattle.validator_core.proofs.Stages.{too_long, examined_refuses, all_enough}
 use Rattle.image_needs.specs.declared.Needs.{Needs}
@@ -133,25 +134,25 @@ not_cut {N} u =
 
 -- The check's answer.
 module _ (b : List ℕ) (short : length b ≤ image_limit) (x : Checked) (answer : verdict_of x ≡ examined b) where
-  pub refused_told : (r : Refusal) (o : ℕ) → x ≡ Checked.Refused r o → Forecast.Refused r o ≡ forecast b
+  pub refused_told : (r : Refusal) (o : ℕ) → x ≡ refused_at r o → Forecast.Refused r o ≡ forecast b
   unfolding forecast
-  refused_told r o e = ap (λ v. unless v (classed (records_of b))) (examined_refuses b work_length report_length short (Verdict.Refused r o) (sym (ap verdict_of e) ∙ answer) refl)
+  refused_told r o e = ap (λ v. unless v (classed (records_of b))) (examined_refuses b work_length report_length short (refused_at r o) (sym (ap verdict_of e) ∙ answer) refl)
 
-  accepted : (n : Counts) → x ≡ Checked.Accepted n → Verdict.Accepted ≡ verdict b work_length report_length
-  accepted n e = all_enough b work_length report_length short Verdict.Accepted (sym (ap verdict_of e) ∙ answer) refl (omega arith) (omega arith)
+  accepted : (n : Counts) → x ≡ Ok n → (Ok tt) ≡ verdict b work_length report_length
+  accepted n e = all_enough b work_length report_length short (Ok tt) (sym (ap verdict_of e) ∙ answer) refl (omega arith) (omega arith)
 
-  pub accepted_told : (n : Counts) → x ≡ Checked.Accepted n → (f : Forecast) → f ≡ cut_classed (records_of b) → f ≡ forecast b
+  pub accepted_told : (n : Counts) → x ≡ Ok n → (f : Forecast) → f ≡ cut_classed (records_of b) → f ≡ forecast b
   unfolding forecast
   accepted_told n e f h =
       let k : cut_needs (need_of (to_tm (program (records_of b)))) ≡ needs_of (need_of (to_tm (program (records_of b)))) = not_cut (accepted_small b work_length report_length (sym (accepted n e))) in
       h ∙ (ap (λ x. choose (ltb (lowest_fault (records_of b)) (length (records_of b).terms)) (Forecast.OutsideClass (term_place (records_of b) (lowest_fault (records_of b)))) (Forecast.Known x)) k ∙ ap (λ v. unless v (classed (records_of b))) (accepted n e))
 
-  pub shallow_terms : (n : Counts) → x ≡ Checked.Accepted n → Shallow (records_of b)
+  pub shallow_terms : (n : Counts) → x ≡ Ok n → Shallow (records_of b)
   shallow_terms n e =
       let a = (accepted_iff b work_length report_length).0 (sym (accepted n e)) in
       subst (λ L. Shallow L) (acceptable_records a) a.shallow
 
-  pub some_terms : (n : Counts) → x ≡ Checked.Accepted n → 0 < length (records_of b).terms
+  pub some_terms : (n : Counts) → x ≡ Ok n → 0 < length (records_of b).terms
   some_terms n e =
       let a = (accepted_iff b work_length report_length).0 (sym (accepted n e)) in
       subst (λ L. 0 < length L.terms) (acceptable_records a) a.has_terms

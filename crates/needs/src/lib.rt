@@ -22,7 +22,7 @@ use need_terms::class::lowest_fault;
 use need_walk::{Visit, mark_position, walk};
 use read_records::numbers::{MAINLINE, TermNo};
 use read_terms::terms::term_place;
-use validator_core::examine::{Checked, examine_image};
+use validator_core::examine::examine_image;
 
 // Where the whole program stands.
 fn program_position() -> Position
@@ -104,8 +104,8 @@ fn forecast_checked(image: &[u8]) -> Forecast
     let mut terms = [0u16; TERM_LIMIT];
     let checked = examine_image(image, &mut doms, &mut types, &mut descriptors, &mut terms);
     match checked {
-        Checked::Refused(why, at) => Forecast::Refused(why, at),
-        Checked::Accepted(counts) => forecast_accepted(image, &terms, &descriptors, counts.terms),
+        Err(refused) => Forecast::Refused(refused.why, refused.place),
+        Ok(counts) => forecast_accepted(image, &terms, &descriptors, counts.terms),
     }
 }
 

@@ -1,12 +1,12 @@
 -- A verdict in numbers: document 01's number of the refusal, 0 for an accepted image; and the place, 0 likewise.
-use Rattle.std.specs.Prelude.{ℕ}
+use Rattle.std.specs.Prelude.{ℕ, Ok, Err}
 use Rattle.image.specs.Refusals.{refusal_number}
-use Rattle.verdict.specs.declared.Verdict.{Verdict}
+use Rattle.verdict.specs.Answers.{Verdict}
 
 abbrev pub verdict_number : Verdict → ℕ
-verdict_number Verdict.Accepted = 0
-verdict_number (Verdict.Refused r place) = refusal_number r
+verdict_number (Ok tt) = 0
+verdict_number (Err refusal) = refusal_number refusal.why
 
 abbrev pub verdict_place : Verdict → ℕ
-verdict_place Verdict.Accepted = 0
-verdict_place (Verdict.Refused r place) = place
+verdict_place (Ok tt) = 0
+verdict_place (Err refusal) = refusal.place

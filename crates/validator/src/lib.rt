@@ -8,7 +8,6 @@ ghost use Rattle.validator.specs.Numbers.{verdict_number, verdict_place};
 
 use image::{TERM_LIMIT, TYPE_LIMIT};
 use validator_core::call::{Lent, check_call};
-use validator_core::examine::verdict_of;
 use verdict::Verdict;
 
 // The verdict on an image, for a work area and a report of so many bytes: refusals 1 to 18 in their order.
@@ -22,8 +21,8 @@ pub fn validate(image: &[u8], work: usize, report: usize) -> Verdict
     let mut types = [0u16; TYPE_LIMIT];
     let mut descriptors = [0u32; TYPE_LIMIT];
     let mut terms = [0u16; TERM_LIMIT];
-    let checked = check_call(image, lent, &mut types, &mut descriptors, &mut terms);
-    verdict_of(checked)
+    check_call(image, lent, &mut types, &mut descriptors, &mut terms)?;
+    Ok(())
 }
 
 // A verdict's number, 0 for accepted, and its place.
@@ -31,8 +30,8 @@ pub fn verdict_number(v: Verdict) -> u16
     ensures { result ≡ verdict_number v }
 {
     match v {
-        Verdict::Accepted => 0,
-        Verdict::Refused(why, _) => image_refusals::refusal_number(why),
+        Ok(()) => 0,
+        Err(refused) => image_refusals::refusal_number(refused.why),
     }
 }
 
@@ -40,7 +39,7 @@ pub fn verdict_place(v: Verdict) -> usize
     ensures { result ≡ verdict_place v }
 {
     match v {
-        Verdict::Accepted => 0,
-        Verdict::Refused(_, place) => place,
+        Ok(()) => 0,
+        Err(refused) => refused.place,
     }
 }

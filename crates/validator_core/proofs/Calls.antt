@@ -1,4 +1,5 @@
 -- The check of a call, from the examination of its image.
+use Rattle.std.specs.Prelude.{Ok}
 use Prim.Native.Nat.{ℕ, ◌≤◌, ◌<◌}
 use native.Mathlib.Omega.{arith}
 use mathlib.Core.Path.{◌≡◌, refl, sym, ap, ◌∙◌}
@@ -6,12 +7,12 @@ use mathlib.Core.List.{List}
 use lib.ListN.{length}
 use Rattle.image.specs.declared.Refusal.{Refusal}
 use Rattle.image.specs.Limits.{image_limit, work_length, report_length}
-use Rattle.verdict.specs.declared.Verdict.{Verdict}
+use Rattle.verdict.specs.Answers.{Verdict, refused_at}
 use Rattle.verdict.specs.Verdicts.{verdict}
 use Rattle.verdict.proofs.Passed.{passed_iff}
 use Rattle.read_records.specs.declared.numbers.Counts.{Counts}
 use Rattle.validator_core.specs.declared.call.Lent.{Lent}
-use Rattle.validator_core.specs.declared.examine.Checked.{Checked}
+use Rattle.validator_core.specs.Examined.{Checked}
 use Rattle.validator_core.specs.Examined as Examined
 use Rattle.validator_core.specs.Examined.{verdict_of, examined}
 use Rattle.validator_core.specs.Calls.{Answered}
@@ -19,41 +20,41 @@ use Rattle.validator_core.proofs.Stages.{too_long, examined_refuses, short_work,
 
 -- What `check_call` answers; what the tables hold matters only if it accepts.
 module _ (b : List ℕ) (lent : Lent) where
-  pub refuses : (r : Refusal) (place : ℕ) (ts ks es : List ℕ) → Verdict.Refused r place ≡ verdict b lent.work lent.report → Answered b lent (Checked.Refused r place) ts ks es
+  pub refuses : (r : Refusal) (place : ℕ) (ts ks es : List ℕ) → refused_at r place ≡ verdict b lent.work lent.report → Answered b lent (refused_at r place) ts ks es
   refuses r place ts ks es e = record { answer = e; filled = λ n d. let z : ◌≡◌ {A = ℕ} 0 1 = cc in absurd (omega arith) }
 
-  pub too_long_refused : (ts ks es : List ℕ) → image_limit < length b → Answered b lent (Checked.Refused Refusal.ImageTooLong 0) ts ks es
+  pub too_long_refused : (ts ks es : List ℕ) → image_limit < length b → Answered b lent (refused_at Refusal.ImageTooLong 0) ts ks es
   too_long_refused ts ks es h = refuses Refusal.ImageTooLong 0 ts ks es (too_long b lent.work lent.report h)
 
   -- Of an image that is not too long, from the answer c to its examination.
   module _ (short : length b ≤ image_limit) (c : Checked) (ds ts ks es : List ℕ) (E : Examined.Answered c b ds ts ks es) where
-    pub examined_refused : (r : Refusal) (place : ℕ) → c ≡ Checked.Refused r place → Answered b lent (Checked.Refused r place) ts ks es
-    examined_refused r place e = refuses r place ts ks es (examined_refuses b lent.work lent.report short (Verdict.Refused r place) (ap verdict_of (sym e) ∙ E.answer) refl)
+    pub examined_refused : (r : Refusal) (place : ℕ) → c ≡ refused_at r place → Answered b lent (refused_at r place) ts ks es
+    examined_refused r place e = refuses r place ts ks es (examined_refuses b lent.work lent.report short (refused_at r place) (ap verdict_of (sym e) ∙ E.answer) refl)
 
-    module _ (n : Counts) (ok : c ≡ Checked.Accepted n) where
-      passed : Verdict.Accepted ≡ examined b
+    module _ (n : Counts) (ok : c ≡ Ok n) where
+      passed : (Ok tt) ≡ examined b
       passed = ap verdict_of (sym ok) ∙ E.answer
 
-      pub short_work_refused : lent.work < work_length → Answered b lent (Checked.Refused Refusal.ShortWorkArea 0) ts ks es
-      short_work_refused h = refuses Refusal.ShortWorkArea 0 ts ks es (short_work b lent.work lent.report short Verdict.Accepted passed refl h)
+      pub short_work_refused : lent.work < work_length → Answered b lent (refused_at Refusal.ShortWorkArea 0) ts ks es
+      short_work_refused h = refuses Refusal.ShortWorkArea 0 ts ks es (short_work b lent.work lent.report short (Ok tt) passed refl h)
 
-      pub short_report_refused : work_length ≤ lent.work → lent.report < report_length → Answered b lent (Checked.Refused Refusal.ShortReport 0) ts ks es
-      short_report_refused w h = refuses Refusal.ShortReport 0 ts ks es (short_report b lent.work lent.report short Verdict.Accepted passed refl w h)
+      pub short_report_refused : work_length ≤ lent.work → lent.report < report_length → Answered b lent (refused_at Refusal.ShortReport 0) ts ks es
+      short_report_refused w h = refuses Refusal.ShortReport 0 ts ks es (short_report b lent.work lent.report short (Ok tt) passed refl w h)
 
-      pub accepts : work_length ≤ lent.work → report_length ≤ lent.report → Answered b lent (Checked.Accepted n) ts ks es
+      pub accepts : work_length ≤ lent.work → report_length ≤ lent.report → Answered b lent (Ok n) ts ks es
       accepts w r =
           record {
-            answer = all_enough b lent.work lent.report short Verdict.Accepted passed refl w r;
+            answer = all_enough b lent.work lent.report short (Ok tt) passed refl w r;
             filled = λ m d. (ds, E.filled m (ok ∙ d));
           }
 
 -- What the answer says of the verdict, and of lent memory.
 module _ (b ts ks es : List ℕ) (lent : Lent) (c : Checked) (A : Answered b lent c ts ks es) where
-  pub refused_so : (r : Refusal) (place : ℕ) → c ≡ Checked.Refused r place → verdict b lent.work lent.report ≡ Verdict.Refused r place
+  pub refused_so : (r : Refusal) (place : ℕ) → c ≡ refused_at r place → verdict b lent.work lent.report ≡ refused_at r place
   refused_so r place e = sym A.answer ∙ ap verdict_of e
 
-  module _ (n : Counts) (e : c ≡ Checked.Accepted n) where
-    pub accepted_so : verdict b lent.work lent.report ≡ Verdict.Accepted
+  module _ (n : Counts) (e : c ≡ Ok n) where
+    pub accepted_so : verdict b lent.work lent.report ≡ Ok tt
     accepted_so = sym A.answer ∙ ap verdict_of e
 
     pub lent_enough : (work_length ≤ lent.work) × (report_length ≤ lent.report)

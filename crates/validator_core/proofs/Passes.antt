@@ -1,4 +1,5 @@
 -- The answers of the parts, one after another, are the definition's.
+use Rattle.std.specs.Prelude.{Ok, Err, is_err}
 use Prim.Native.Nat.{ℕ, ◌≤◌}
 use mathlib.Core.Path.{◌≡◌, refl, sym, ap, subst, ◌∙◌}
 use mathlib.Core.Bool.{true, false}
@@ -8,8 +9,7 @@ use Rattle.image.specs.declared.Refusal.{Refusal}
 use Rattle.image.specs.Limits.{image_limit}
 use Rattle.image.specs.Layout.{stopped, laid, layout, records_of}
 use Rattle.laws.proofs.Booleans.{no_path}
-use Rattle.verdict.specs.declared.Verdict.{Verdict}
-use Rattle.verdict.specs.Answers.{is_refused, in_turn}
+use Rattle.verdict.specs.Answers.{in_turn, Verdict, refused_at}
 use Rattle.verdict.specs.Shape.{shape, Shaped}
 use Rattle.verdict.specs.Check.{typing}
 use Rattle.verdict.specs.Verdicts.{laid_out_of}
@@ -19,22 +19,22 @@ use Rattle.read_records.specs.declared.numbers.Counts.{Counts}
 use Rattle.check_layout.specs.declared.Scan.{Scan}
 use Rattle.check_uses.specs.Marks.{all_marks}
 use Rattle.check_layout.specs.Tables.{layout_of, scan_of, Marks, Scanned}
-use Rattle.validator_core.specs.declared.examine.Checked.{Checked}
+use Rattle.validator_core.specs.Examined.{Checked}
 use Rattle.validator_core.specs.Examined.{checked_records, examined, verdict_of, with_counts, Filled, Answered}
 use Rattle.validator_core.proofs.Filling.{filled, marked}
 
 -- Two checks in turn.
-refused_turn : (v w : Verdict) → is_refused v ≡ true → in_turn ((λ u. v) ∷ (λ u. w) ∷ []) ≡ v
+refused_turn : (v w : Verdict) → is_err v ≡ true → in_turn ((λ u. v) ∷ (λ u. w) ∷ []) ≡ v
 refused_turn v w h = turn_stops (λ u. v) _ h
 
-accepted_turn : (v w : Verdict) → is_refused v ≡ false → in_turn ((λ u. v) ∷ (λ u. w) ∷ []) ≡ w
+accepted_turn : (v w : Verdict) → is_err v ≡ false → in_turn ((λ u. v) ∷ (λ u. w) ∷ []) ≡ w
 accepted_turn v w h = turn_goes (λ u. v) _ h ∙ last_turn (λ u. w)
 
-pub shape_refuses : (b : List ℕ) (v : Verdict) → v ≡ shape (records_of b) (length b) → is_refused v ≡ true → v ≡ checked_records b
+pub shape_refuses : (b : List ℕ) (v : Verdict) → v ≡ shape (records_of b) (length b) → is_err v ≡ true → v ≡ checked_records b
 unfolding checked_records
 shape_refuses b v e h = sym (refused_turn v (typing (records_of b)) h) ∙ ap (λ x. in_turn ((λ u. x) ∷ (λ u. typing (records_of b)) ∷ [])) e
 
-pub typing_decides : (b : List ℕ) (v w : Verdict) → v ≡ shape (records_of b) (length b) → is_refused v ≡ false → w ≡ typing (records_of b) → w ≡ checked_records b
+pub typing_decides : (b : List ℕ) (v w : Verdict) → v ≡ shape (records_of b) (length b) → is_err v ≡ false → w ≡ typing (records_of b) → w ≡ checked_records b
 unfolding checked_records
 typing_decides b v w e h f =
     sym (accepted_turn v w h)
@@ -42,17 +42,17 @@ typing_decides b v w e h f =
     ∙ ap (λ x. in_turn ((λ u. shape (records_of b) (length b)) ∷ (λ u. x) ∷ [])) f
 
 -- An image whose shape is accepted has a term, each term but the root is used once, and none is too deep.
-pub shaped : (b : List ℕ) (v : Verdict) → v ≡ shape (records_of b) (length b) → is_refused v ≡ false → Shaped (records_of b)
+pub shaped : (b : List ℕ) (v : Verdict) → v ≡ shape (records_of b) (length b) → is_err v ≡ false → Shaped (records_of b)
 shaped b v e h = (shape_accepts (records_of b) (length b)).0 (sym e ∙ accepted_is v h)
 
 -- The scan stopped, or laid the image out.
 module _ (b ds ts ks es ms : List ℕ) (x : Scan) (short : length b ≤ image_limit) (s : Scanned x b ds ts ks es ms) where
-  pub stopped_answer : (r : Refusal) (o : ℕ) → x ≡ Scan.Stopped r o → Answered (Checked.Refused r o) b ds ts ks es
+  pub stopped_answer : (r : Refusal) (o : ℕ) → x ≡ Scan.Stopped r o → Answered (refused_at r o) b ds ts ks es
   unfolding examined in_turn
   stopped_answer r o e =
       let a : stopped r o ≡ layout b = ap (λ y. scan_of y b ds ts es) (sym e) ∙ s.answer in
       record {
-        answer = sym (refused_turn (Verdict.Refused r o) (checked_records b) refl) ∙ ap (λ y. in_turn ((λ u. laid_out_of y) ∷ (λ u. checked_records b) ∷ [])) a;
+        answer = sym (refused_turn (refused_at r o) (checked_records b) refl) ∙ ap (λ y. in_turn ((λ u. laid_out_of y) ∷ (λ u. checked_records b) ∷ [])) a;
         filled = λ n h. no_path cc;
         entered = s.counts;
         holds = s.holds;
@@ -74,7 +74,7 @@ module _ (b ds ts ks es ms : List ℕ) (x : Scan) (short : length b ≤ image_li
     checked_answer v r c d =
         record {
           answer =
-              ap verdict_of d ∙ back v ∙ sym (accepted_turn Verdict.Accepted v refl) ∙ ap (λ y. in_turn ((λ u. laid_out_of y) ∷ (λ u. v) ∷ [])) laid_answer
+              ap verdict_of d ∙ back v ∙ sym (accepted_turn (Ok tt) v refl) ∙ ap (λ y. in_turn ((λ u. laid_out_of y) ∷ (λ u. v) ∷ [])) laid_answer
               ∙ ap (λ y. in_turn ((λ u. laid_out_of (layout b)) ∷ (λ u. y) ∷ [])) c;
           filled = λ m h. subst (λ k. Filled b k ds ts ks es) (same v m (sym d ∙ h)) laid_tables;
           entered = s.counts;
@@ -82,9 +82,9 @@ module _ (b ds ts ks es ms : List ℕ) (x : Scan) (short : length b ≤ image_li
         }
       where
         back : (w : Verdict) → verdict_of (with_counts w n) ≡ w
-        back Verdict.Accepted = refl
-        back (Verdict.Refused r o) = refl
+        back (Ok tt) = refl
+        back (Err refusal) = refl
 
-        same : (w : Verdict) (m : Counts) → with_counts w n ≡ Checked.Accepted m → n ≡ m
-        same Verdict.Accepted m h = cc
-        same (Verdict.Refused r o) m h = no_path cc
+        same : (w : Verdict) (m : Counts) → with_counts w n ≡ Ok m → n ≡ m
+        same (Ok tt) m h = cc
+        same (Err refusal) m h = no_path cc

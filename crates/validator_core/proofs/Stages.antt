@@ -1,4 +1,5 @@
 -- The verdict is the image's length, then what an examination answers, then the lengths of lent memory.
+use Rattle.std.specs.Prelude.{Ok, Err, is_err}
 use Prim.Native.Nat.{ℕ, ◌≤◌, ◌<◌}
 use native.Mathlib.Omega.{arith}
 use mathlib.Core.Path.{◌≡◌, refl, sym, ap, ◌∙◌}
@@ -10,8 +11,7 @@ use borrow.Author.Tests.{le-leb, lt-leb}
 use Rattle.image.specs.declared.Refusal.{Refusal}
 use Rattle.image.specs.Limits.{image_limit, work_length, report_length}
 use Rattle.image.specs.Layout.{layout, records_of}
-use Rattle.verdict.specs.declared.Verdict.{Verdict}
-use Rattle.verdict.specs.Answers.{is_refused, require, in_turn}
+use Rattle.verdict.specs.Answers.{require, in_turn, Verdict, refused_at}
 use Rattle.verdict.specs.Shape.{shape}
 use Rattle.verdict.specs.Check.{typing}
 use Rattle.verdict.specs.Verdicts.{laid_out_of, verdict}
@@ -20,20 +20,20 @@ use Rattle.validator_core.specs.Examined.{checked_records, examined}
 
 -- The second answer, if the first accepts.
 abbrev after : Verdict → Verdict → Verdict
-after Verdict.Accepted w = w
-after (Verdict.Refused r o) w = Verdict.Refused r o
+after (Ok tt) w = w
+after (Err refusal) w = Err refusal
 
 after_after : (u v w : Verdict) → after (after u v) w ≡ after u (after v w)
-after_after Verdict.Accepted v w = refl
-after_after (Verdict.Refused r o) v w = refl
+after_after (Ok tt) v w = refl
+after_after (Err refusal) v w = refl
 
 turn_after : (v : Unit {0} → Verdict) (vs : List (Unit {0} → Verdict)) → in_turn (v ∷ vs) ≡ after (v tt) (in_turn vs)
 unfolding in_turn
 turn_after v vs = by (v tt)
   where
-    by : (x : Verdict) → elim x [ Verdict.Accepted ↦ in_turn vs | Verdict.Refused r o ↦ Verdict.Refused r o ] ≡ after x (in_turn vs)
-    by Verdict.Accepted = refl
-    by (Verdict.Refused r o) = refl
+    by : (x : Verdict) → elim x [ Ok tt ↦ in_turn vs | Err refusal ↦ Err refusal ] ≡ after x (in_turn vs)
+    by (Ok tt) = refl
+    by (Err refusal) = refl
 
 both : (v w : Unit {0} → Verdict) → in_turn (v ∷ w ∷ []) ≡ after (v tt) (w tt)
 both v w = turn_after v (w ∷ []) ∙ ap (after (v tt)) (last_turn w)
@@ -58,7 +58,7 @@ module _ (b : List ℕ) (work report : ℕ) where
       ap (after (laid_out_of (layout b))) (sym (after_after s t lengths)) ∙ sym (after_after (laid_out_of (layout b)) (after s t) lengths) ∙ ap (λ x. after x lengths) (sym (examined_is b)) in
       turn_after _ _ ∙ ap (after (require (leb (length b) image_limit) Refusal.ImageTooLong 0)) (inner ∙ joined)
 
-  pub too_long : image_limit < length b → Verdict.Refused Refusal.ImageTooLong 0 ≡ verdict b work report
+  pub too_long : image_limit < length b → refused_at Refusal.ImageTooLong 0 ≡ verdict b work report
   too_long h = rw (verdict_is, lt-leb _ _ h) refl
 
   -- An image that is not too long.
@@ -66,23 +66,23 @@ module _ (b : List ℕ) (work report : ℕ) where
     short_is : verdict b work report ≡ after (examined b) lengths
     short_is = rw (verdict_is, le-leb _ _ short) refl
 
-    pub examined_refuses : (v : Verdict) → v ≡ examined b → is_refused v ≡ true → v ≡ verdict b work report
-    examined_refuses Verdict.Accepted e h = absurd (true≢false (sym h))
-    examined_refuses (Verdict.Refused r o) e h = rw (short_is, sym e) refl
+    pub examined_refuses : (v : Verdict) → v ≡ examined b → is_err v ≡ true → v ≡ verdict b work report
+    examined_refuses (Ok tt) e h = absurd (true≢false (sym h))
+    examined_refuses (Err refusal) e h = rw (short_is, sym e) refl
 
-    accepts : (v : Verdict) → v ≡ examined b → is_refused v ≡ false → verdict b work report ≡ lengths
-    accepts Verdict.Accepted e h = rw (short_is, sym e) refl
-    accepts (Verdict.Refused r o) e h = absurd (true≢false h)
+    accepts : (v : Verdict) → v ≡ examined b → is_err v ≡ false → verdict b work report ≡ lengths
+    accepts (Ok tt) e h = rw (short_is, sym e) refl
+    accepts (Err refusal) e h = absurd (true≢false h)
 
-    pub short_work : (v : Verdict) → v ≡ examined b → is_refused v ≡ false → work < work_length → Verdict.Refused Refusal.ShortWorkArea 0 ≡ verdict b work report
+    pub short_work : (v : Verdict) → v ≡ examined b → is_err v ≡ false → work < work_length → refused_at Refusal.ShortWorkArea 0 ≡ verdict b work report
     short_work v e h l = rw (accepts v e h, lt-leb _ _ l) refl
 
-    pub short_report : (v : Verdict) → v ≡ examined b → is_refused v ≡ false → work_length ≤ work → report < report_length → Verdict.Refused Refusal.ShortReport 0 ≡ verdict b work report
+    pub short_report : (v : Verdict) → v ≡ examined b → is_err v ≡ false → work_length ≤ work → report < report_length → refused_at Refusal.ShortReport 0 ≡ verdict b work report
     short_report v e h w l = rw (accepts v e h, le-leb _ _ w, lt-leb _ _ l) refl
 
-    pub all_enough : (v : Verdict) → v ≡ examined b → is_refused v ≡ false → work_length ≤ work → report_length ≤ report → Verdict.Accepted ≡ verdict b work report
+    pub all_enough : (v : Verdict) → v ≡ examined b → is_err v ≡ false → work_length ≤ work → report_length ≤ report → (Ok tt) ≡ verdict b work report
     all_enough v e h w l = rw (accepts v e h, le-leb _ _ w, le-leb _ _ l) refl
 
 -- The image is accepted where work area and report are long enough.
-pub accepted : (b : List ℕ) → length b ≤ image_limit → examined b ≡ Verdict.Accepted → verdict b work_length report_length ≡ Verdict.Accepted
-accepted b short ok = sym (all_enough b work_length report_length short Verdict.Accepted (sym ok) refl (omega arith) (omega arith))
+pub accepted : (b : List ℕ) → length b ≤ image_limit → examined b ≡ Ok tt → verdict b work_length report_length ≡ Ok tt
+accepted b short ok = sym (all_enough b work_length report_length short (Ok tt) (sym ok) refl (omega arith) (omega arith))

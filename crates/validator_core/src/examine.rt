@@ -7,18 +7,11 @@ ghost use Rattle.read_records.specs.Tables.{Tables, Counted};
 ghost use Rattle.check_uses.specs.Marks.{all_marks};
 ghost use Rattle.check_layout.specs.Tables.{Long};
 ghost use Rattle.read_terms.specs.Lent.{TypeOffsets};
-ghost use Rattle.validator_core.specs.Examined.{checked_records, with_counts, verdict_of, Answered};
+ghost use Rattle.validator_core.specs.Examined.{checked_records, Answered};
 
-use image::{Refusal, TERM_LIMIT, TYPE_LIMIT};
+use image::{Refused, TERM_LIMIT, TYPE_LIMIT};
 use read_records::numbers::Counts;
 use verdict::Verdict;
-
-// The verdict, and how many records each section of an accepted image has.
-#[derive(Clone, Copy)]
-pub enum Checked {
-    Refused(Refusal, usize),
-    Accepted(Counts),
-}
 
 // Refusals 9 to 16, of an image that is laid out.
 fn check_laid_out(
@@ -34,32 +27,11 @@ fn check_laid_out(
     requires { (kinds.now ≡ kind_codes) × Tables image.now doms.now terms.now descriptors.now × Counted image.now counts × TypeOffsets image.now types.now × (marks.now ≡ all_marks image.now) }
     ensures { result ≡ checked_records image.now }
 {
-    let v = check_shape::check_shape(image, kinds, counts, doms, terms, marks);
-    if verdict::is_refused(v) {
-        return v;
-    }
+    check_shape::check_shape(image, kinds, counts, doms, terms, marks)?;
     check_typing::check_typing(image, counts, doms, types, terms, descriptors)
 }
 
-fn with_counts(v: Verdict, counts: Counts) -> Checked
-    ensures { result ≡ with_counts v counts }
-{
-    match v {
-        Verdict::Refused(why, at) => Checked::Refused(why, at),
-        Verdict::Accepted => Checked::Accepted(counts),
-    }
-}
-
-pub fn verdict_of(c: Checked) -> Verdict
-    ensures { result ≡ verdict_of c }
-{
-    match c {
-        Checked::Refused(why, at) => Verdict::Refused(why, at),
-        Checked::Accepted(_) => Verdict::Accepted,
-    }
-}
-
-// Refusals 2 to 16, and the tables. The table of kinds is made here, where the scan reads it: lent from farther away it would be
+// Refusals 2 to 16, and the tables; of an accepted image, how many records each section has. The table of kinds is made here, where the scan reads it: lent from farther away it would be
 // found by its address at each record.
 pub fn examine_image(
     image: &[u8],
@@ -67,7 +39,7 @@ pub fn examine_image(
     types: &mut [u16; TYPE_LIMIT],
     descriptors: &mut [u32; TYPE_LIMIT],
     terms: &mut [u16; TERM_LIMIT],
-) -> Checked
+) -> Result<Counts, Refused>
     requires { (length image.now ≤ image_limit) × Long doms.old types.old descriptors.old terms.old }
     ensures { Answered result image.now doms.new types.new descriptors.new terms.new × (length types.new ≡ type_limit) × (length descriptors.new ≡ type_limit) × (length terms.new ≡ term_limit) }
 {
@@ -83,8 +55,8 @@ pub fn examine_image(
         &mut marks,
     );
     match scanned {
-        check_layout::Scan::Stopped(why, at) => Checked::Refused(why, at),
-        check_layout::Scan::Laid(counts) => with_counts(
+        check_layout::Scan::Stopped(why, place) => Err(Refused { why, place }),
+        check_layout::Scan::Laid(counts) => {
             check_laid_out(
                 image,
                 &kinds,
@@ -94,8 +66,8 @@ pub fn examine_image(
                 descriptors,
                 terms,
                 &marks,
-            ),
-            counts,
-        ),
+            )?;
+            Ok(counts)
+        }
     }
 }

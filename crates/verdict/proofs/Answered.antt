@@ -1,5 +1,5 @@
 -- Verdicts that accept: what each check in turn has passed, and the other way round.
-use Rattle.std.specs.Prelude.{Ok, Err}
+use Rattle.std.specs.Prelude.{Ok, Err, is_err}
 use Prim.Native.Nat.{ℕ, zero, suc, ◌+◌, ◌≤◌, ◌<◌}
 use native.Mathlib.Omega.{arith}
 use mathlib.Core.Path.{◌≡◌, refl, sym}
@@ -9,12 +9,12 @@ use lib.Dec.{ltb}
 use Rattle.image.specs.declared.Refusal.{Refusal}
 use Rattle.image.specs.declared.Refused.{Refused}
 use Rattle.laws.proofs.Booleans.{no_path, lt_of, ge_of}
-use Rattle.verdict.specs.Answers.{is_refused, require, require_from, in_turn, Verdict, refused_at}
+use Rattle.verdict.specs.Answers.{require, require_from, in_turn, Verdict, refused_at}
 
 pub not_refused : {A : Type 0} {refusal : Refused} → ◌≡◌ {A = Verdict} (Err refusal) (Ok tt) → A
 not_refused h = no_path cc
 
-pub accepted_is : (v : Verdict) → is_refused v ≡ false → v ≡ Ok tt
+pub accepted_is : (v : Verdict) → is_err v ≡ false → v ≡ Ok tt
 accepted_is (Ok tt) h = refl
 accepted_is (Err refusal) h = no_path h
 
@@ -36,7 +36,7 @@ turned = refl
 
 -- Of checks in turn, the first: it refuses, it passes, it is the last.
 module _ (v : Unit {0} → Verdict) (vs : List (Unit {0} → Verdict)) where
-  pub turn_stops : is_refused (v tt) ≡ true → in_turn (v ∷ vs) ≡ v tt
+  pub turn_stops : is_err (v tt) ≡ true → in_turn (v ∷ vs) ≡ v tt
   unfolding in_turn
   turn_stops h = go (v tt) refl
     where
@@ -44,7 +44,7 @@ module _ (v : Unit {0} → Verdict) (vs : List (Unit {0} → Verdict)) where
       go (Ok tt) e = let z : false ≡ true = rw e at h in no_path (sym z)
       go (Err refusal) e = rw (e, in_turn) refl
 
-  pub turn_goes : is_refused (v tt) ≡ false → in_turn (v ∷ vs) ≡ in_turn vs
+  pub turn_goes : is_err (v tt) ≡ false → in_turn (v ∷ vs) ≡ in_turn vs
   unfolding in_turn
   turn_goes h = go (v tt) refl
     where

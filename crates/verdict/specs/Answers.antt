@@ -17,10 +17,6 @@ abbrev pub refusal_of : Verdict → Option (ℕ × ℕ)
 refusal_of (Ok tt) = none
 refusal_of (Err refusal) = some (refusal_number refusal.why, refusal.place)
 
-abbrev pub is_refused : Verdict → Bool
-is_refused (Ok tt) = false
-is_refused (Err refusal) = true
-
 -- Refused at a place, unless the test holds.
 abbrev pub require : Bool → Refusal → ℕ → Verdict
 require true r place = Ok tt

@@ -1,4 +1,5 @@
 -- The whole report and the answer.
+use Rattle.std.specs.Prelude.{Ok}
 use Prim.Native.Nat.{ℕ, ◌+◌, ◌-◌, ◌*◌, ◌≤◌}
 use native.Mathlib.Omega.{arith}
 use mathlib.Core.Path.{◌≡◌, refl, sym, ap, ◌∙◌}
@@ -11,7 +12,7 @@ use Rattle.calculus.specs.declared.Leaf.{Leaf}
 use Rattle.calculus.specs.Combinators.{choose}
 use Rattle.calculus.specs.Report.{outcome_number, CellReport}
 use Rattle.image.specs.Limits.{report_length}
-use Rattle.verdict.specs.declared.Verdict.{Verdict}
+use Rattle.verdict.specs.Answers.{Verdict}
 use Rattle.base_bytes.specs.Bytes.{bytes_of, over}
 use Rattle.base_bytes.proofs.Over.{onward}
 use Rattle.report.specs.declared.Ending.{Ending}
@@ -56,7 +57,7 @@ module _ (M : Memory) (r : Regs) (g : Gathered) (e : g ≡ gathered (result_in M
   pub reported : (budget : ℕ) (xs : List ℕ) (o : Outcome) (j end : ℕ) {ys zs ws : List ℕ} → o ≡ halted_with r → ys ≡ over 0 (head_bytes (outcome_number o) (budget - r.rest)) xs
       → (j ≡ 10 + length (leaves_bytes (leaves_in g.count g.slots))) × (zs ≡ over 10 (leaves_bytes (leaves_in g.count g.slots)) ys)
       → (end ≡ j + length (cells_bytes (cells_in M r))) × (ws ≡ over j (cells_bytes (cells_in M r)) zs) × (end ≤ j + 70 * whole r.pools.cells) → whole r.pools.cells ≤ cell_places → report_length ≤ length xs
-      → ◌≡◌ {A = Answer} (record { verdict = Verdict.Accepted; ending = Ending.Ended o; steps = budget - r.rest; log = r.logged; report = end; count = g.count; leaves = g.slots }) (answer_in M r budget)
+      → ◌≡◌ {A = Answer} (record { verdict = Ok tt; ending = Ending.Ended o; steps = budget - r.rest; log = r.logged; report = end; count = g.count; leaves = g.slots }) (answer_in M r budget)
       × (ws ≡ over 0 (report_in M r budget) xs)
   reported budget xs o j end {ys} h a b d n k =
       let l = gathered_leaves (result_in M r) e (result_few M r) in

@@ -1,5 +1,5 @@
 -- What the machine's registers and tables say of a run that ended (document 01, "A run"): outcome, steps, the result's leaves, and each cell.
-use Rattle.std.specs.Prelude.{ℕ, zero, suc, ◌-◌, ◌%◌, Bool, List, [], ◌∷◌, length, take, eqb, leb}
+use Rattle.std.specs.Prelude.{ℕ, zero, suc, ◌-◌, ◌%◌, Bool, List, [], ◌∷◌, length, take, eqb, leb, Ok}
 use Rattle.std.proofs.Math.Option.{none, some}
 use Rattle.calculus.specs.declared.Outcome.{Outcome}
 use Rattle.calculus.specs.declared.Leaf.{Leaf}
@@ -7,7 +7,7 @@ use Rattle.calculus.specs.Combinators.{choose}
 use Rattle.calculus.specs.Limits.{leaf_limit}
 use Rattle.calculus.specs.Report.{outcome_number, CellReport}
 use Rattle.image.specs.Limits.{domain_limit}
-use Rattle.verdict.specs.declared.Verdict.{Verdict}
+use Rattle.verdict.specs.Answers.{Verdict}
 use Rattle.report.specs.declared.Ending.{Ending}
 use Rattle.report.specs.Written.{report_bytes}
 use Rattle.vm_machine.specs.declared.Regs.{Regs}
@@ -69,7 +69,7 @@ report_in M r budget = report_bytes (outcome_number (halted_with r)) (budget - r
 abbrev pub answer_in : Memory → Regs → ℕ → Answer
 answer_in M r budget =
     record {
-      verdict = Verdict.Accepted;
+      verdict = Ok tt;
       ending = Ending.Ended (halted_with r);
       steps = budget - r.rest;
       log = r.logged;

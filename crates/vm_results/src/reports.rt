@@ -17,7 +17,6 @@ use call_spec::Answer;
 use report::Ending;
 use report::fixed::put_head;
 use report::leaves::put_leaves;
-use verdict::Verdict;
 use vm_machine::Regs;
 
 // The outcome with a number.
@@ -66,7 +65,7 @@ fn put_answer(report: &mut [u8], work: &[u8], r: Regs, budget: u32, g: Gathered)
     let end = put_cells(report, at, work, cell_count(r));
     let ending = Ending::Ended(outcome);
     Answer {
-        verdict: Verdict::Accepted,
+        verdict: Ok(()),
         ending: ending,
         steps: steps,
         log: r.logged,

@@ -1,9 +1,9 @@
 -- What a call that writes the fixed form of an image answers, and what the output then holds, from any image and any output (document 02, card 11).
-use Rattle.std.specs.Prelude.{ℕ, List, length}
+use Rattle.std.specs.Prelude.{ℕ, List, length, Ok, Err}
 use Rattle.calculus.specs.Combinators.{choose}
 use Rattle.image.specs.Limits.{work_length, report_length}
 use Rattle.image.specs.Refusals.{refusal_number}
-use Rattle.verdict.specs.declared.Verdict.{Verdict}
+use Rattle.verdict.specs.Answers.{Verdict}
 use Rattle.verdict.specs.Verdicts.{verdict}
 use Rattle.base_bytes.specs.Bytes.{over}
 use Rattle.image_written.specs.Written.{fixed, too_short}
@@ -36,8 +36,8 @@ pub record Left : Type 0 where
 
 -- "Output past it stays, and its length is returned." An image that is refused, and an output that is too short: "nothing is written".
 abbrev pub after_check : Verdict → List ℕ → List ℕ → Left
-after_check (Verdict.Refused r place) b out = record { answer = Written.Refused r place; out = out }
-after_check Verdict.Accepted b out =
+after_check (Err refusal) b out = record { answer = Written.Refused refusal.why refusal.place; out = out }
+after_check (Ok tt) b out =
     choose (too_short out b) (record { answer = Written.ShortOutput; out = out }) (record { answer = Written.Bytes (length (fixed b)); out = over 0 (fixed b) out })
 
 -- "After the check's refusals", 1 to 16: those of a call with a work area and a report that are long enough.

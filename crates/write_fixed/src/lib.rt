@@ -2,9 +2,8 @@
 // first; nothing is written if it is refused, or if the output is shorter than the image.
 #![tactic(auto)]
 
-ghost use Rattle.std.specs.Prelude.{◌≡◌, List, ℕ, ◌≤◌, length};
+ghost use Rattle.std.specs.Prelude.{◌≡◌, Ok, List, ℕ, ◌≤◌, length};
 ghost use Rattle.image.specs.Limits.{image_limit};
-ghost use Rattle.verdict.specs.declared.Verdict.{Verdict};
 ghost use Rattle.read_records.specs.Codes.{kind_codes};
 ghost use Rattle.read_records.specs.Tables.{Tables, Counted};
 ghost use Rattle.read_terms.specs.Lent.{TypeOffsets};
@@ -13,7 +12,6 @@ ghost use Rattle.write_fixed.specs.Calls.{written_number, written_place, written
 
 use image::{DOMAIN_LIMIT, IMAGE_LIMIT, Refusal, TERM_LIMIT, TYPE_LIMIT};
 use read_records::numbers::Counts;
-use validator_core::examine::Checked;
 
 // So many bytes were written; or why none was.
 #[derive(Clone, Copy)]
@@ -36,7 +34,7 @@ fn write_checked(
     terms: &[u16],
     out: &mut [u8],
 ) -> Written
-    requires { (length image.now ≤ image_limit) × (examined image.now ≡ Verdict.Accepted) × (codes.now ≡ kind_codes) × ((ks : List ℕ) × Tables image.now doms.now terms.now ks) × Counted image.now counts × TypeOffsets image.now types.now }
+    requires { (length image.now ≤ image_limit) × (examined image.now ≡ Ok tt) × (codes.now ≡ kind_codes) × ((ks : List ℕ) × Tables image.now doms.now terms.now ks) × Counted image.now counts × TypeOffsets image.now types.now }
     ensures { record { answer = result; out = out.new } ≡ fixed_call image.now out.old }
 {
     if out.len() < image.len() {
@@ -66,8 +64,8 @@ pub fn write_fixed(image: &[u8], out: &mut [u8]) -> Written
         &mut terms,
     );
     match checked {
-        Checked::Refused(why, place) => Written::Refused(why, place),
-        Checked::Accepted(counts) => {
+        Err(refused) => Written::Refused(refused.why, refused.place),
+        Ok(counts) => {
             write_checked(image, &codes, counts, &doms, &types, &terms, out)
         }
     }

@@ -1,9 +1,9 @@
 -- Card 12 of document 02: "Each generated image is accepted, and equal seeds and depths give equal bytes."
-use Rattle.std.specs.Prelude.{ℕ, ◌-◌, ◌≤◌, ◌≡◌, List, [], ◌∷◌, length, take, drop}
+use Rattle.std.specs.Prelude.{ℕ, ◌-◌, ◌≤◌, ◌≡◌, List, [], ◌∷◌, length, take, drop, Ok}
 use Rattle.image.specs.Limits.{work_length, report_length}
 use Rattle.image.specs.Layout.{records_of}
 use Rattle.image.specs.Program.{program}
-use Rattle.verdict.specs.declared.Verdict.{Verdict}
+use Rattle.verdict.specs.Answers.{Verdict}
 use Rattle.verdict.specs.Domains.{masks}
 use Rattle.verdict.specs.Verdicts.{verdict}
 use Rattle.image_written.specs.Generated.{grow, load_length, generated}
@@ -18,7 +18,7 @@ pub record SameBytes (depth seed : ℕ) (out : List ℕ) : Type 0 where
 
 pub record Card12 (depth seed : ℕ) : Type 0 where
   -- accepted by every call whose work area and report are long enough
-  pub accepted : (work report : ℕ) → work_length ≤ work → report_length ≤ report → verdict (generated depth seed) work report ≡ Verdict.Accepted
+  pub accepted : (work report : ℕ) → work_length ≤ work → report_length ≤ report → verdict (generated depth seed) work report ≡ Ok tt
   -- "domain 0 alone"; the program is the tree that was drawn
   pub domains : masks (records_of (generated depth seed)) ≡ 1 ∷ []
   pub tree : program (records_of (generated depth seed)) ≡ (grow (depth - 1) seed).tree

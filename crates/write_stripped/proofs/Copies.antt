@@ -1,4 +1,5 @@
 -- The copy of an accepted image can be written, and what is written is the image without its watches.
+use Rattle.std.specs.Prelude.{Ok}
 use Prim.Native.Nat.{ℕ, ◌≤◌}
 use native.Mathlib.Omega.{arith}
 use mathlib.Core.Path.{◌≡◌, sym, ap, subst, ◌∙◌}
@@ -11,7 +12,7 @@ use Rattle.image.specs.Records.{Layout}
 use Rattle.image.specs.Layout.{laid, layout, records_of}
 use Rattle.image.specs.Program.{program}
 use Rattle.image.proofs.Laid.{layout_good, image_kept, records_of_lem}
-use Rattle.verdict.specs.declared.Verdict.{Verdict}
+use Rattle.verdict.specs.Answers.{Verdict}
 use Rattle.verdict.specs.Domains.{masks}
 use Rattle.verdict.specs.Verdicts.{verdict}
 use Rattle.verdict.proofs.Passed.{Passed, passed_iff}
@@ -27,7 +28,7 @@ use Rattle.write_unit_bodies.specs.UnitBodies.{UnitBodies}
 use Rattle.write_unit_bodies.proofs.Copied.{copied, copied_laid}
 use Rattle.write_unit_bodies.proofs.Trees.{masks_same, program_stripped}
 
-module _ (b : List ℕ) (ok : verdict b work_length report_length ≡ Verdict.Accepted) (high : Dom → Bool) (c : List ℕ) (I : UnitBodies (records_of b) high (length (records_of b).terms) b c) where
+module _ (b : List ℕ) (ok : verdict b work_length report_length ≡ Ok tt) (high : Dom → Bool) (c : List ℕ) (I : UnitBodies (records_of b) high (length (records_of b).terms) b c) where
   abbrev L : Layout
   L = records_of b
 

@@ -1,11 +1,11 @@
 -- What a call that writes an image without its watches answers, and what the output then holds, from any image, mask and output (document 02, card 13).
-use Rattle.std.specs.Prelude.{ℕ, Bool, List, length}
+use Rattle.std.specs.Prelude.{ℕ, Bool, List, length, Ok, Err}
 use Rattle.calculus.specs.Combinators.{choose}
 use Rattle.image.specs.Limits.{work_length, report_length}
 use Rattle.image.specs.Refusals.{refusal_number}
 use Rattle.image.specs.Records.{Layout}
 use Rattle.image.specs.Layout.{records_of}
-use Rattle.verdict.specs.declared.Verdict.{Verdict}
+use Rattle.verdict.specs.Answers.{Verdict}
 use Rattle.verdict.specs.Domains.{leq}
 use Rattle.verdict.specs.Verdicts.{verdict}
 use Rattle.base_bytes.specs.Bytes.{over}
@@ -51,8 +51,8 @@ pub record Left : Type 0 where
 
 -- "In this order, place 0, after the check's refusals, nothing written." Output past the image stays, and its length is returned.
 abbrev pub after_check : Verdict → List ℕ → ℕ → List ℕ → Left
-after_check (Verdict.Refused r place) b mask out = record { answer = Stripped.Refused r place; out = out }
-after_check Verdict.Accepted b mask out =
+after_check (Err refusal) b mask out = record { answer = Stripped.Refused refusal.why refusal.place; out = out }
+after_check (Ok tt) b mask out =
     choose (wrong_set (records_of b) mask) (record { answer = Stripped.WrongSet; out = out })
     (choose (too_short out b) (record { answer = Stripped.ShortOutput; out = out })
     (record { answer = Stripped.Bytes (length (without_watches (in_mask mask) b)); out = over 0 (without_watches (in_mask mask) b) out }))

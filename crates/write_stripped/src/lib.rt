@@ -125,8 +125,8 @@ pub fn write_stripped(image: &[u8], mask: u16, out: &mut [u8]) -> Stripped
         &mut terms,
     );
     match checked {
-        Checked::Refused(why, place) => Stripped::Refused(why, place),
-        Checked::Accepted(counts) => {
+        Err(refused) => Stripped::Refused(refused.why, refused.place),
+        Ok(counts) => {
             write_checked(
                 image,
                 &codes,

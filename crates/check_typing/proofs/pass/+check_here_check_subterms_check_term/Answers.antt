@@ -1,4 +1,5 @@
 -- `check_typing::pass::check_here`, `check_subterms` and `check_term` meet their contracts.
+use Rattle.std.specs.Prelude.{Ok, is_err}
 use borrow.Author.Rules.{rules}
 use Prim.Native.Nat.{ℕ}
 use native.Mathlib.Omega.{arith}
@@ -10,8 +11,7 @@ use lib.ListN.{length}
 use lib.Seq.{take-length}
 use Rattle.image.specs.Layout.{records_of}
 use Rattle.image.specs.Types.{term_kind}
-use Rattle.verdict.specs.declared.Verdict.{Verdict}
-use Rattle.verdict.specs.Answers.{is_refused}
+use Rattle.verdict.specs.Answers.{Verdict}
 use Rattle.verdict.proofs.Answered.{accepted_is}
 use Rattle.check_rules.specs.Scopes.{context_in, setting_in}
 use Rattle.check_rules.specs.Judged.{rule_verdict}
@@ -24,17 +24,17 @@ use Rattle.check_typing.proofs.Loops.{parent, numbered, whole, has, lower, insid
 use Rattle.check_typing.proofs.pass.+check_here_check_subterms_check_term.Goals as goal
 
 -- A rule is passed, whatever the variables are.
-passes : (b : List ℕ) (d n : ℕ) {v : Verdict} {r : Bool} → ((Γ : List ℕ) → v ≡ rule_verdict (records_of b) (record { context = Γ; dom = d }) n) → r ≡ is_refused v → r ≡ false → (Γ : List ℕ) → rule_verdict (records_of b) (record { context = Γ; dom = d }) n ≡ Verdict.Accepted
+passes : (b : List ℕ) (d n : ℕ) {v : Verdict} {r : Bool} → ((Γ : List ℕ) → v ≡ rule_verdict (records_of b) (record { context = Γ; dom = d }) n) → r ≡ is_err v → r ≡ false → (Γ : List ℕ) → rule_verdict (records_of b) (record { context = Γ; dom = d }) n ≡ Ok tt
 passes b d n {v = v} h e f Γ = sym (h Γ) ∙ accepted_is v (sym e ∙ f)
 
 -- A term: its rule, then its children. The term itself is refused.
-pub check_here-returns-then-is_refused : goal.check_here-returns-then-is_refused
-check_here-returns-then-is_refused t c =
+pub check_here-returns-then-is_err : goal.check_here-returns-then-is_err
+check_here-returns-then-is_err t c =
     let n = c.args.n.0 in
     let v = c.check_rule-v.result in
     let p = setting_in c.args.scope.now c.args.len c.args.c.0 in
     let e = c.check_rule-v.ensures (context_in c.args.scope.now c.args.len) in (
-      own_back (records_of c.args.image.now) p n e c.fault_of.ensures ∙ refused_here c.requires.0.terms c.requires.1 p v e (sym c.is_refused.ensures ∙ c.if-is_refused.true),
+      own_back (records_of c.args.image.now) p n e c.fault_of.ensures ∙ refused_here c.requires.0.terms c.requires.1 p v e (sym c.is_err.ensures.value ∙ c.if-is_err.true),
       own_below v n c.fault_of.ensures,
       refl,
       refl,
@@ -42,7 +42,7 @@ check_here-returns-then-is_refused t c =
 
 pub check_here-check_subterms-requires : goal.check_here-check_subterms-requires
 check_here-check_subterms-requires t c =
-    let ruled = passes c.args.image.now c.args.c.0 c.args.n.0 c.check_rule-v.ensures c.is_refused.ensures c.if-is_refused.false in
+    let ruled = passes c.args.image.now c.args.c.0 c.args.n.0 c.check_rule-v.ensures c.is_err.ensures.value c.if-is_err.false in
     (omega (arith, c.decreases), (c.requires.0, c.requires.1, c.requires.2, c.requires.3, c.requires.4, ruled))
 
 pub check_here-child_count-k-requires : goal.check_here-child_count-k-requires
@@ -54,20 +54,20 @@ check_here-loop-j-init t c =
 
 pub check_here-overflow_add-lead : goal.check_here-overflow_add-lead
 check_here-overflow_add-lead t c =
-    let ruled = passes c.args.image.now c.args.c.0 c.args.n.0 c.check_rule-v.ensures c.is_refused.ensures c.if-is_refused.false in
+    let ruled = passes c.args.image.now c.args.c.0 c.args.n.0 c.check_rule-v.ensures c.is_err.ensures.value c.if-is_err.false in
     let P = parent c.args.n.0 (setting_in c.args.scope.now c.args.len c.args.c.0) c.requires.0.terms c.requires.1 c.term_fields-fields.ensures c.term_kind-kind.ensures (ruled (context_in c.args.scope.now c.args.len)) c.child_count-k.ensures in
     let l = field_there c.args.scope.now c.args.len P c.moves_child.ensures c.if-moves_child.false c.lead_of-lead.ensures c.loop-j.j c.loop-j-test.true in
     search rules
 
 pub check_here-child_at_field-e-requires : goal.check_here-child_at_field-e-requires
 check_here-child_at_field-e-requires t c =
-    let ruled = passes c.args.image.now c.args.c.0 c.args.n.0 c.check_rule-v.ensures c.is_refused.ensures c.if-is_refused.false in
+    let ruled = passes c.args.image.now c.args.c.0 c.args.n.0 c.check_rule-v.ensures c.is_err.ensures.value c.if-is_err.false in
     let P = parent c.args.n.0 (setting_in c.args.scope.now c.args.len c.args.c.0) c.requires.0.terms c.requires.1 c.term_fields-fields.ensures c.term_kind-kind.ensures (ruled (context_in c.args.scope.now c.args.len)) c.child_count-k.ensures in
     field_there c.args.scope.now c.args.len P c.moves_child.ensures c.if-moves_child.false c.lead_of-lead.ensures c.loop-j.j c.loop-j-test.true
 
 pub check_here-check_term-r-requires : goal.check_here-check_term-r-requires
 check_here-check_term-r-requires t c =
-    let ruled = passes c.args.image.now c.args.c.0 c.args.n.0 c.check_rule-v.ensures c.is_refused.ensures c.if-is_refused.false in
+    let ruled = passes c.args.image.now c.args.c.0 c.args.n.0 c.check_rule-v.ensures c.is_err.ensures.value c.if-is_err.false in
     let P = parent c.args.n.0 (setting_in c.args.scope.now c.args.len c.args.c.0) c.requires.0.terms c.requires.1 c.term_fields-fields.ensures c.term_kind-kind.ensures (ruled (context_in c.args.scope.now c.args.len)) c.child_count-k.ensures in
     let T = here_turn c.args.scope.now c.args.len P c.moves_child.ensures c.if-moves_child.false c.lead_of-lead.ensures c.loop-j.j c.loop-j-test.true c.loop-j.scope c.loop-j.invariant.2 c.loop-j.invariant.3 c.child_at_field-e.ensures in
     let l = lower T in
@@ -76,7 +76,7 @@ check_here-check_term-r-requires t c =
 -- A child is refused.
 pub check_here-returns-then-r-ne0 : goal.check_here-returns-then-r-ne0
 check_here-returns-then-r-ne0 t c =
-    let ruled = passes c.args.image.now c.args.c.0 c.args.n.0 c.check_rule-v.ensures c.is_refused.ensures c.if-is_refused.false in
+    let ruled = passes c.args.image.now c.args.c.0 c.args.n.0 c.check_rule-v.ensures c.is_err.ensures.value c.if-is_err.false in
     let P = parent c.args.n.0 (setting_in c.args.scope.now c.args.len c.args.c.0) c.requires.0.terms c.requires.1 c.term_fields-fields.ensures c.term_kind-kind.ensures (ruled (context_in c.args.scope.now c.args.len)) c.child_count-k.ensures in
     let T = here_turn c.args.scope.now c.args.len P c.moves_child.ensures c.if-moves_child.false c.lead_of-lead.ensures c.loop-j.j c.loop-j-test.true c.loop-j.scope c.loop-j.invariant.2 c.loop-j.invariant.3 c.child_at_field-e.ensures in
     let l = lower T in
@@ -90,7 +90,7 @@ check_here-returns-then-r-ne0 t c =
 
 pub check_here-loop-j-preserved : goal.check_here-loop-j-preserved
 check_here-loop-j-preserved t c =
-    let ruled = passes c.args.image.now c.args.c.0 c.args.n.0 c.check_rule-v.ensures c.is_refused.ensures c.if-is_refused.false in
+    let ruled = passes c.args.image.now c.args.c.0 c.args.n.0 c.check_rule-v.ensures c.is_err.ensures.value c.if-is_err.false in
     let P = parent c.args.n.0 (setting_in c.args.scope.now c.args.len c.args.c.0) c.requires.0.terms c.requires.1 c.term_fields-fields.ensures c.term_kind-kind.ensures (ruled (context_in c.args.scope.now c.args.len)) c.child_count-k.ensures in
     let T = here_turn c.args.scope.now c.args.len P c.moves_child.ensures c.if-moves_child.false c.lead_of-lead.ensures c.loop-j.j c.loop-j-test.true c.loop-j.scope c.loop-j.invariant.2 c.loop-j.invariant.3 c.child_at_field-e.ensures in
     let v = c.check_term-r in
@@ -101,7 +101,7 @@ check_here-loop-j-preserved t c =
 -- All children pass.
 pub check_here-returns : goal.check_here-returns
 check_here-returns t c =
-    let ruled = passes c.args.image.now c.args.c.0 c.args.n.0 c.check_rule-v.ensures c.is_refused.ensures c.if-is_refused.false in
+    let ruled = passes c.args.image.now c.args.c.0 c.args.n.0 c.check_rule-v.ensures c.is_err.ensures.value c.if-is_err.false in
     let P = parent c.args.n.0 (setting_in c.args.scope.now c.args.len c.args.c.0) c.requires.0.terms c.requires.1 c.term_fields-fields.ensures c.term_kind-kind.ensures (ruled (context_in c.args.scope.now c.args.len)) c.child_count-k.ensures in
     (whole P c.loop-j.j (omega arith) c.loop-j.invariant.3, omega arith, c.loop-j.invariant.2, c.loop-j.invariant.1)
 
