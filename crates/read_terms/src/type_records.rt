@@ -37,11 +37,8 @@ pub fn method_domain(kind: u16, fields: &[u8], m: usize) -> DomainNo
     requires { m < 65536 }
     ensures { result.0 ≡ method_in kind fields.now m }
 {
-    if kind != OBJECT_TYPE {
-        return DomainNo(0);
+    if kind == OBJECT_TYPE && METHOD_BYTES + METHOD_BYTES * m <= fields.len() {
+        return domain_field(fields, 2 * m);
     }
-    if fields.len() < METHOD_BYTES + METHOD_BYTES * m {
-        return DomainNo(0);
-    }
-    domain_field(fields, 2 * m)
+    DomainNo(0)
 }
