@@ -4,7 +4,7 @@ ghost use Rattle.check_shape.specs.Depths.{deep_from};
 
 use check_uses::marks::mark_of;
 use image::{DEPTH_LIMIT, Refusal};
-use read_records::numbers::{TermNo, term_offset};
+use read_records::numbers::{TermNo, offset_of};
 use verdict::Verdict;
 
 pub const DEEPEST: u8 = DEPTH_LIMIT as u8;
@@ -20,7 +20,7 @@ pub fn first_deep(depths: &[u8], terms: &[u16], end: TermNo) -> Verdict
     while i < end.0 {
         let n = TermNo(i);
         if DEEPEST < mark_of(depths, n) {
-            return Verdict::Refused(Refusal::TooDeep, term_offset(terms, n));
+            return Verdict::Refused(Refusal::TooDeep, offset_of(terms, n));
         }
         i += 1;
     }

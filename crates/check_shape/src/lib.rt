@@ -14,7 +14,7 @@ ghost use Rattle.check_shape.specs.Counted.{Counted};
 use check_uses::marks::mark_of;
 use check_uses::uses::first_misused;
 use image::Refusal;
-use read_records::numbers::{Counts, TermNo, term_offset};
+use read_records::numbers::{Counts, TermNo, offset_of};
 use verdict::{Verdict, is_refused};
 
 pub mod depths;
@@ -36,7 +36,7 @@ fn check_terms(image: &[u8], kinds: &[u32], terms: &[u16], marks: &[u8]) -> Verd
     let root = TermNo((terms.len() - 1) as u16);
     let first = first_misused(marks, root);
     if first.0 < root.0 {
-        return Verdict::Refused(Refusal::UseCount, term_offset(terms, first));
+        return Verdict::Refused(Refusal::UseCount, offset_of(terms, first));
     }
     if mark_of(marks, root) <= depths::DEEPEST {
         return Verdict::Accepted;
