@@ -6,28 +6,29 @@ ghost use Rattle.std.specs.Prelude.{◌≡◌, ◌+◌, ◌*◌, ◌≤◌, ◌<
 ghost use Rattle.read_records.specs.Heads.{field_in};
 ghost use Rattle.check_fields.specs.Fields.{type_count, field_from, Narrow, DescriptorFrom};
 
-use read_records::numbers::Counts;
+use read_records::fields::field_as;
+use read_records::numbers::{Counts, DomainNo, TermNo, TypeNo};
 
 // Field i is the number of a type that is there; of a domain; of a term.
 pub fn names_type(fields: &[u8], i: usize, counts: Counts) -> bool
     requires { 2 * i + 1 < length fields.now }
     ensures { result ≡ ltb (field_in fields.now i) counts.types }
 {
-    counts.has_type(read_records::fields::type_field(fields, i))
+    counts.has(field_as::<TypeNo>(fields, i))
 }
 
 pub fn names_domain(fields: &[u8], i: usize, counts: Counts) -> bool
     requires { 2 * i + 1 < length fields.now }
     ensures { result ≡ ltb (field_in fields.now i) counts.domains }
 {
-    counts.has_domain(read_records::fields::domain_field(fields, i))
+    counts.has(field_as::<DomainNo>(fields, i))
 }
 
 pub fn names_term(fields: &[u8], i: usize, counts: Counts) -> bool
     requires { 2 * i + 1 < length fields.now }
     ensures { result ≡ ltb (field_in fields.now i) counts.terms }
 {
-    counts.has_term(read_records::fields::term_field(fields, i))
+    counts.has(field_as::<TermNo>(fields, i))
 }
 
 // Field i is below the bound.

@@ -10,7 +10,7 @@ ghost use Rattle.check_ranges.specs.Terms.{TermFields};
 ghost use Rattle.check_layout.specs.Tables.{Lent, Scanned, ScannedWith, Enterable, Enters, EntersTerm};
 
 use check_repeats::keys::FILTER_LENGTH;
-use read_records::numbers::Counts;
+use read_records::numbers::{Counts, DomainNo, TermNo, TypeNo};
 
 pub mod tables;
 
@@ -44,8 +44,8 @@ fn enter_term(
     match tested {
         check_ranges::faults::Tested::Fault(why) => Entry::Fault(why),
         check_ranges::faults::Tested::Passed => {
-            tables::put_term(at, counts.next_term(), terms);
-            Entry::Laid(counts.with_term())
+            tables::put_term(at, counts.next(), terms);
+            Entry::Laid(counts.with_one::<TermNo>())
         }
     }
 }
@@ -90,7 +90,7 @@ fn enter(
             fields,
             at,
             descriptor,
-            counts.next_type(),
+            counts.next(),
             types,
             descriptors,
             filter,
@@ -100,12 +100,12 @@ fn enter(
                 return Entry::Fault(why);
             }
             check_ranges::faults::Tested::Passed => {
-                return Entry::Laid(counts.with_type());
+                return Entry::Laid(counts.with_one::<TypeNo>());
             }
         }
     }
-    tables::put_domain(at, counts.next_domain(), doms);
-    Entry::Laid(counts.with_domain())
+    tables::put_domain(at, counts.next(), doms);
+    Entry::Laid(counts.with_one::<DomainNo>())
 }
 
 // The scan with a filter of keys, which may hold anything at first: with zeros the fewest keys are compared.

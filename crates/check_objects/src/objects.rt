@@ -13,7 +13,7 @@ ghost use Rattle.check_rules.specs.Rules.{rule_in};
 ghost use Rattle.check_rules.specs.Judged.{judged, call_fits};
 
 use check_rules::judge::judge;
-use read_records::fields::{domain_field, field, type_field};
+use read_records::fields::{field, field_as};
 use read_records::kinds::OBJECT_TYPE;
 use read_records::numbers::{DomainNo, TypeNo, type_descriptor};
 use read_terms::terms::{bodies_in, own_descriptor, own_type, type_at_field};
@@ -34,14 +34,14 @@ pub fn method_domain(image: &[u8], types: &[u16], t: TypeNo, m: usize) -> Domain
     requires { TypeOffsets image.now types.now × IsObject image.now t.0 × (m < method_count (records_of image.now) t.0) }
     ensures { result.0 ≡ type_field (records_of image.now) t.0 (2 * m) }
 {
-    domain_field(type_fields(image, types, t), 2 * m)
+    field_as(type_fields(image, types, t), 2 * m)
 }
 
 fn method_type(image: &[u8], types: &[u16], t: TypeNo, m: usize) -> TypeNo
     requires { TypeOffsets image.now types.now × IsObject image.now t.0 × (m < method_count (records_of image.now) t.0) }
     ensures { result.0 ≡ type_field (records_of image.now) t.0 (2 * m + 1) }
 {
-    type_field(type_fields(image, types, t), 2 * m + 1)
+    field_as(type_fields(image, types, t), 2 * m + 1)
 }
 
 // Each body is of its method's type; there are as many methods as bodies.

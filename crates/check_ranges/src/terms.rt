@@ -17,7 +17,7 @@ use crate::ranges::{OPERATIONS, all_in_range, children_in_range};
 use check_fields::{below, names_domain, names_term, names_type};
 use check_uses::children::{enter_children, enter_leaf, enter_one, enter_three, enter_two};
 use laws::both;
-use read_records::fields::term_field;
+use read_records::fields::field_as;
 use read_records::numbers::Counts;
 use read_records::table::{
     TYPE, TYPE_AND_CHILD, TYPE_AND_CHILDREN, TYPE_AND_FREE, TYPE_AND_THREE_CHILDREN,
@@ -32,7 +32,7 @@ fn take_leaf(fields: &[u8], counts: Counts, marks: &mut [u8]) -> bool
 {
     let ok = names_type(fields, 0, counts);
     if ok {
-        enter_leaf(marks, counts.next_term());
+        enter_leaf(marks, counts.next());
     }
     ok
 }
@@ -44,7 +44,7 @@ fn take_one(fields: &[u8], counts: Counts, marks: &mut [u8]) -> bool
 {
     let ok = both(names_type(fields, 0, counts), names_term(fields, 1, counts));
     if ok {
-        enter_one(marks, counts.next_term(), term_field(fields, 1));
+        enter_one(marks, counts.next(), field_as(fields, 1));
     }
     ok
 }
@@ -60,9 +60,9 @@ fn take_two(fields: &[u8], counts: Counts, marks: &mut [u8]) -> bool
     if ok {
         enter_two(
             marks,
-            counts.next_term(),
-            term_field(fields, 1),
-            term_field(fields, 2),
+            counts.next(),
+            field_as(fields, 1),
+            field_as(fields, 2),
         );
     }
     ok
@@ -82,10 +82,10 @@ fn take_three(fields: &[u8], counts: Counts, marks: &mut [u8]) -> bool
     if ok {
         enter_three(
             marks,
-            counts.next_term(),
-            term_field(fields, 1),
-            term_field(fields, 2),
-            term_field(fields, 3),
+            counts.next(),
+            field_as(fields, 1),
+            field_as(fields, 2),
+            field_as(fields, 3),
         );
     }
     ok
@@ -106,9 +106,9 @@ fn take_operation(fields: &[u8], counts: Counts, marks: &mut [u8]) -> bool
     if ok {
         enter_two(
             marks,
-            counts.next_term(),
-            term_field(fields, 2),
-            term_field(fields, 3),
+            counts.next(),
+            field_as(fields, 2),
+            field_as(fields, 3),
         );
     }
     ok
@@ -127,7 +127,7 @@ fn take_lowered(fields: &[u8], counts: Counts, marks: &mut [u8]) -> bool
         ),
     );
     if ok {
-        enter_one(marks, counts.next_term(), term_field(fields, 2));
+        enter_one(marks, counts.next(), field_as(fields, 2));
     }
     ok
 }
@@ -142,7 +142,7 @@ fn take_group(fields: &[u8], code: u32, counts: Counts, marks: &mut [u8]) -> boo
         children_in_range(fields, 1, counts),
     );
     if ok {
-        enter_children(fields, code, counts.next_term(), marks);
+        enter_children(fields, code, counts.next(), marks);
     }
     ok
 }
@@ -154,7 +154,7 @@ fn take_any(fields: &[u8], code: u32, counts: Counts, marks: &mut [u8]) -> bool
 {
     let ok = all_in_range(fields, code, counts);
     if ok {
-        enter_children(fields, code, counts.next_term(), marks);
+        enter_children(fields, code, counts.next(), marks);
     }
     ok
 }

@@ -10,7 +10,7 @@ ghost use Rattle.check_shape.specs.Checks.{domains_ordered};
 
 use image::{DOMAIN_LIMIT, Refusal, Refused};
 use laws::either;
-use read_records::numbers::{DomainNo, domain_offset};
+use read_records::numbers::{DomainNo, offset_of};
 use verdict::Verdict;
 
 // The bits of a mask, lowest first.
@@ -44,10 +44,7 @@ pub fn order_of(image: &[u8], doms: &[u16]) -> [[bool; DOMAIN_LIMIT]; DOMAIN_LIM
     let mut o = [[false; DOMAIN_LIMIT]; DOMAIN_LIMIT];
     let mut d: usize = 0;
     while d < doms.len() {
-        let fields = read_records::reader::fields_at(
-            image,
-            domain_offset(doms, DomainNo(d as u16)),
-        );
+        let fields = read_records::reader::fields_at(image, offset_of(doms, DomainNo(d as u16)));
         let row = row_of(mask_of(fields));
         o[d] = row;
         d += 1;
@@ -125,7 +122,7 @@ fn first_unordered(o: [[bool; DOMAIN_LIMIT]; DOMAIN_LIMIT], doms: &[u16]) -> Ver
         if at_fault(o, doms.len(), next) {
             return Err(Refused {
                 why: Refusal::DomainOrder,
-                place: domain_offset(doms, next),
+                place: offset_of(doms, next),
             });
         }
         d += 1;

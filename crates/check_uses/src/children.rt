@@ -96,7 +96,7 @@ fn use_side(fields: &[u8], code: u32, marks: &mut [u8]) -> u32
     let mut h: u32 = 0;
     let mut j: usize = 0;
     while j < count {
-        let e = read_records::fields::term_field(fields, first + j);
+        let e = read_records::fields::field_as(fields, first + j);
         h = use_child(marks, e, h);
         j += 1;
     }

@@ -11,7 +11,7 @@ ghost use Rattle.read_records.specs.Heads.{field_in};
 ghost use Rattle.read_terms.specs.Fields.{children_in};
 ghost use Rattle.need_terms.specs.GivenToChildren.{Part, domain_in, variables_in, child_bound};
 
-use read_records::fields::domain_field;
+use read_records::fields::field_as;
 use read_records::kinds;
 use read_records::numbers::{DomainNo, TermNo};
 use read_terms::entries::binds_rest;
@@ -38,7 +38,7 @@ pub fn part_domain(kind: u16, fields: &[u8], descriptors: &[u32]) -> DomainNo
         return domain_of(own_descriptor(descriptors, fields));
     }
     if kind == kinds::LOWER {
-        return domain_field(fields, LOWERED);
+        return field_as(fields, LOWERED);
     }
     DomainNo(0)
 }

@@ -3,7 +3,7 @@
 ghost use Rattle.std.specs.Prelude.{◌≡◌, ◌+◌, ◌*◌, ◌<◌, length};
 ghost use Rattle.read_records.specs.Heads.{field_in};
 
-use crate::numbers::{DomainNo, TermNo, TypeNo};
+use crate::numbers::Numbered;
 
 pub fn field(fields: &[u8], i: usize) -> u16
     requires { 2 * i + 1 < length fields.now }
@@ -13,31 +13,11 @@ pub fn field(fields: &[u8], i: usize) -> u16
 }
 
 // Field i, where it is a domain, a type or a term.
-pub fn domain_field(fields: &[u8], i: usize) -> DomainNo
+pub fn field_as<N: Numbered>(fields: &[u8], i: usize) -> N
     requires { 2 * i + 1 < length fields.now }
-    ensures { result.0 ≡ field_in fields.now i }
+    ensures { N.number result ≡ field_in fields.now i }
 {
-    DomainNo(field(fields, i))
-}
-
-pub fn type_field(fields: &[u8], i: usize) -> TypeNo
-    requires { 2 * i + 1 < length fields.now }
-    ensures { result.0 ≡ field_in fields.now i }
-{
-    TypeNo(field(fields, i))
-}
-
-pub fn term_field(fields: &[u8], i: usize) -> TermNo
-    requires { 2 * i + 1 < length fields.now }
-    ensures { result.0 ≡ field_in fields.now i }
-{
-    TermNo(field(fields, i))
-}
-
-fn wide(b: u8) -> u16
-    ensures { result ≡ b }
-{
-    b as u16
+    N::from_number(field(fields, i))
 }
 
 // Field i of a part that may end before it: past the part's end its bytes are 0.
@@ -50,7 +30,7 @@ pub fn field_or_zero(fields: &[u8], i: usize) -> u16
         return crate::words::word(fields, at);
     }
     if at < fields.len() {
-        return wide(fields[at]);
+        return u16::from(fields[at]);
     }
     0
 }

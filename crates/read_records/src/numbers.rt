@@ -1,7 +1,9 @@
 // Domain numbers, type numbers and term numbers, which are never used for one another (document 01, "The image"), how many
 // there are of each, what the validator's tables hold of each, and the parts of a type's descriptor.
-ghost use Rattle.std.specs.Prelude.{◌≡◌, suc, ◌+◌, ◌*◌, ◌<◌, length, get_or, ltb};
-ghost use Rattle.read_records.specs.Counts.{no_records, with_domain, with_type, with_term, Few};
+ghost use Rattle.std.specs.Prelude.{ℕ, ◌≡◌, suc, ◌+◌, ◌*◌, ◌<◌, ◌≤◌, length, get_or, ltb};
+ghost use Rattle.image.specs.Limits.{term_limit};
+ghost use Rattle.read_records.specs.declared.numbers.Counts.{Counts};
+ghost use Rattle.read_records.specs.Counts.{no_records, with_domain, with_type, with_term, Few, few_domains, few_types, few_terms};
 ghost use Rattle.read_records.specs.Descriptors.{descriptor_kind, descriptor_field0, descriptor_field1, descriptor_field2, descriptor_of};
 
 #[derive(Clone, Copy)]
@@ -37,115 +39,147 @@ impl Counts {
     }
 
     // The domain, the type or the term of that number is there.
-    pub fn has_domain(self, d: DomainNo) -> bool
-        ensures { result ≡ ltb d.0 self.domains }
+    pub fn has<N: Numbered>(self, n: N) -> bool
+        ensures { result ≡ ltb (N.number n) (N.count self) }
     {
-        (d.0 as usize) < self.domains
-    }
-
-    pub fn has_type(self, t: TypeNo) -> bool
-        ensures { result ≡ ltb t.0 self.types }
-    {
-        (t.0 as usize) < self.types
-    }
-
-    pub fn has_term(self, n: TermNo) -> bool
-        ensures { result ≡ ltb n.0 self.terms }
-    {
-        (n.0 as usize) < self.terms
+        usize::from(n.number()) < N::count(self)
     }
 
     // The number that the next domain, type or term gets.
-    pub fn next_domain(self) -> DomainNo
+    pub fn next<N: Numbered>(self) -> N
         requires { Few self }
-        ensures { result.0 ≡ self.domains }
+        ensures { N.number result ≡ N.count self }
     {
-        DomainNo(self.domains as u16)
-    }
-
-    pub fn next_type(self) -> TypeNo
-        requires { Few self }
-        ensures { result.0 ≡ self.types }
-    {
-        TypeNo(self.types as u16)
-    }
-
-    pub fn next_term(self) -> TermNo
-        requires { Few self }
-        ensures { result.0 ≡ self.terms }
-    {
-        TermNo(self.terms as u16)
+        N::from_number(N::count(self) as u16)
     }
 
     // One domain, type or term more.
-    pub fn with_domain(self) -> Self
+    pub fn with_one<N: Numbered>(self) -> Self
         requires { Few self }
-        ensures { result ≡ with_domain self }
+        ensures { result ≡ N.with_one self }
     {
-        Self {
-            domains: self.domains + 1,
-            types: self.types,
-            terms: self.terms,
-        }
-    }
-
-    pub fn with_type(self) -> Self
-        requires { Few self }
-        ensures { result ≡ with_type self }
-    {
-        Self {
-            domains: self.domains,
-            types: self.types + 1,
-            terms: self.terms,
-        }
-    }
-
-    pub fn with_term(self) -> Self
-        requires { Few self }
-        ensures { result ≡ with_term self }
-    {
-        Self {
-            domains: self.domains,
-            types: self.types,
-            terms: self.terms + 1,
-        }
+        N::with_one(self)
     }
 }
 
-fn wide(x: u16) -> usize
-    ensures { result ≡ x }
-{
-    x as usize
+// What the three numbers have in common: each is a number of 16 bits, and a section of its own is counted by it.
+pub trait Numbered: Copy {
+    ghost number: { Self → ℕ };
+
+    // How many records the number's section has, and the counts with one more.
+    ghost count: { Counts → ℕ };
+
+    ghost with_one: { Counts → Counts };
+
+    fn from_number(n: u16) -> Self
+        ensures { number result ≡ n };
+
+    fn number(self) -> u16
+        ensures { result ≡ number self };
+
+    fn count(counts: Counts) -> usize
+        ensures { result ≡ count counts };
+
+    fn with_one(counts: Counts) -> Counts
+        requires { Few counts }
+        ensures { result ≡ with_one counts };
+
+    ghost few: { (counts : Counts) → Few counts → count counts ≤ term_limit };
 }
 
-fn wide32(x: u16) -> u32
-    ensures { result ≡ x }
-{
-    x as u32
+impl Numbered for DomainNo {
+    ghost number = { λ d. d.0 };
+
+    ghost count = { λ n. n.domains };
+
+    ghost with_one = { with_domain };
+
+    ghost few = { few_domains };
+
+    fn from_number(n: u16) -> Self {
+        Self(n)
+    }
+
+    fn number(self) -> u16 {
+        self.0
+    }
+
+    fn count(counts: Counts) -> usize {
+        counts.domains
+    }
+
+    fn with_one(counts: Counts) -> Counts {
+        Counts {
+            domains: counts.domains + 1,
+            ..counts
+        }
+    }
 }
 
-// The offset of a domain's record.
-pub fn domain_offset(doms: &[u16], d: DomainNo) -> usize
-    requires { d.0 < length doms.now }
-    ensures { result ≡ get_or doms.now d.0 0 }
-{
-    wide(doms[d.0 as usize])
+impl Numbered for TypeNo {
+    ghost number = { λ t. t.0 };
+
+    ghost count = { λ n. n.types };
+
+    ghost with_one = { with_type };
+
+    ghost few = { few_types };
+
+    fn from_number(n: u16) -> Self {
+        Self(n)
+    }
+
+    fn number(self) -> u16 {
+        self.0
+    }
+
+    fn count(counts: Counts) -> usize {
+        counts.types
+    }
+
+    fn with_one(counts: Counts) -> Counts {
+        Counts {
+            types: counts.types + 1,
+            ..counts
+        }
+    }
 }
 
-// The offset of a type's record.
-pub fn type_offset(types: &[u16], t: TypeNo) -> usize
-    requires { t.0 < length types.now }
-    ensures { result ≡ get_or types.now t.0 0 }
-{
-    wide(types[t.0 as usize])
+impl Numbered for TermNo {
+    ghost number = { λ n. n.0 };
+
+    ghost count = { λ n. n.terms };
+
+    ghost with_one = { with_term };
+
+    ghost few = { few_terms };
+
+    fn from_number(n: u16) -> Self {
+        Self(n)
+    }
+
+    fn number(self) -> u16 {
+        self.0
+    }
+
+    fn count(counts: Counts) -> usize {
+        counts.terms
+    }
+
+    fn with_one(counts: Counts) -> Counts {
+        Counts {
+            terms: counts.terms + 1,
+            ..counts
+        }
+    }
 }
 
-// The offset of a term's record.
-pub fn term_offset(terms: &[u16], n: TermNo) -> usize
-    requires { n.0 < length terms.now }
-    ensures { result ≡ get_or terms.now n.0 0 }
+// The offset of the record of that number, by the table of its section's offsets.
+pub fn offset_of<N: Numbered>(offsets: &[u16], n: N) -> usize
+    requires { N.number n < length offsets.now }
+    ensures { result ≡ get_or offsets.now (N.number n) 0 }
 {
-    wide(terms[n.0 as usize])
+    usize::from(offsets[usize::from(n.number())])
 }
 
 // The descriptor of a type.
@@ -169,7 +203,7 @@ pub fn descriptor_with(kind: u16, a: u16, b: u16, c: u16) -> u32
     requires { (kind < 256) × (a < 256) × (b < 256) × (c < 256) }
     ensures { result ≡ descriptor_of kind a b c }
 {
-    wide32(kind) + 256 * wide32(a) + 65536 * wide32(b) + 16777216 * wide32(c)
+    u32::from(kind) + 256 * u32::from(a) + 65536 * u32::from(b) + 16777216 * u32::from(c)
 }
 
 // The parts of a descriptor.

@@ -2,16 +2,14 @@
 use Prim.Native.Nat.{ℕ, zero, suc, ◌+◌, ◌*◌, ◌/◌, ◌-◌, ◌≤◌, ◌<◌}
 use native.Mathlib.Omega.{arith}
 use mathlib.Core.Path.{◌≡◌, refl, sym, ap, ◌∙◌}
-use mathlib.Core.Bool.{Bool, true, false, not, ◌&&◌}
 use mathlib.Core.List.{List, [], ◌∷◌, ◌++◌, append-nil}
 use lib.ListN.{length, get_or, length-append}
-use lib.Dec.{eqb, ltb}
-use borrow.Author.Tests.{lt-ltb, eqb-false, ne_eqb}
+use lib.Dec.{ltb}
+use borrow.Author.Tests.{lt-ltb}
 use Rattle.image.specs.Bytes.{le16, words}
 use Rattle.image.specs.Kinds.{Field, a_truth, free, an_entry, TermKind, term_row, again}
 use Rattle.image.specs.Records.{as_child, as_other, given}
 use Rattle.image.specs.Program.{close_of, pattern_of}
-use Rattle.laws.proofs.Booleans.{no_path, and_l, and_r, not_t, eq_of, by_test}
 use Rattle.image.proofs.Counts.{fields_length}
 use Rattle.image.proofs.Offsets.{given_split}
 use Rattle.verdict.specs.Settings.{binds_rest}
@@ -53,19 +51,6 @@ pub later_named : (v j : ℕ) (xs : List ℕ) → (0 < v → 0 < j) → j < leng
 later_named zero j xs g h = let e : j - 0 ≡ j = omega arith in rw e (h, refl)
 later_named (suc v) zero xs g h = absurd (let z = g (omega arith) in omega arith)
 later_named (suc v) (suc j) xs g h = let e : suc j - 1 ≡ j = omega arith in rw e (omega arith, refl)
-
--- The test of a scan for the first term that is left: the entry names one, and none is to be passed.
-module _ (v j : ℕ) (r : Bool) (h : r ≡ (not (eqb v 0) && eqb j 0)) where
-  pub is_first : r ≡ true → (0 < v) × (j ≡ 0)
-  is_first t =
-      let z : (not (eqb v 0) && eqb j 0) ≡ true = sym h ∙ t in
-      let n : v ≡ 0 → ⊥ = eqb-false v 0 (not_t (eqb v 0) (and_l _ (eqb j 0) z)) in
-      (omega arith, eq_of (and_r (not (eqb v 0)) (eqb j 0) z))
-
-  pub not_first : r ≡ false → 0 < v → 0 < j
-  not_first t l = by_test (eqb j 0)
-      (λ q. let z : true ≡ r = sym (rw (ne_eqb v 0 (λ e. omega arith), q) at h) in no_path (z ∙ t))
-      λ q. let n = eqb-false j 0 q in omega arith
 
 named_there : (m v : ℕ) (xs : List ℕ) → v ≤ m → ((i : ℕ) → i < length xs → get_or xs i 0 < m) → (i : ℕ) → i < length (as_child an_entry v ++ xs) → get_or (as_child an_entry v ++ xs) i 0 < m
 named_there m zero xs h g i l = g i l

@@ -25,19 +25,15 @@ fn mask_at(masks: &[u16; DOMAIN_LIMIT], d: DomainNo) -> u16
     requires { d.0 < domain_limit }
     ensures { result ≡ get_or masks.now d.0 0 }
 {
-    masks[d.0 as usize]
+    masks[usize::from(d.0)]
 }
 
 // d ≤ q.
+#[tactic(auto, unfolding(crate::specs::Masks::bit_of))]
 pub fn leq(masks: &[u16; DOMAIN_LIMIT], d: DomainNo, q: DomainNo) -> bool
     ensures { result ≡ bit_of masks.now d.0 q.0 }
 {
-    if d.0 < DOMAINS {
-        if q.0 < DOMAINS {
-            return bit(mask_at(masks, d), q);
-        }
-    }
-    false
+    d.0 < DOMAINS && q.0 < DOMAINS && bit(mask_at(masks, d), q)
 }
 
 // The mask of a domain, which its record says: its one field.
@@ -45,7 +41,7 @@ fn mask_of(image: &[u8], doms: &[u16], d: DomainNo) -> u16
     requires { Domains image.now doms.now × (d.0 < length (records_of image.now).domains) }
     ensures { result ≡ get_or (masks (records_of image.now)) d.0 0 }
 {
-    let at = read_records::numbers::domain_offset(doms, d);
+    let at = read_records::numbers::offset_of(doms, d);
     read_records::words::word(read_records::reader::fields_at(image, at), 0)
 }
 
@@ -53,7 +49,7 @@ fn set_mask(table: &mut [u16; DOMAIN_LIMIT], d: DomainNo, mask: u16)
     requires { d.0 < domain_limit }
     ensures { table.new ≡ set table.old d.0 mask }
 {
-    table[d.0 as usize] = mask;
+    table[usize::from(d.0)] = mask;
 }
 
 // Fills the table, which is 0 everywhere, with the masks of the domains.
@@ -61,11 +57,9 @@ pub fn set_masks(image: &[u8], doms: &[u16], count: usize, table: &mut [u16; DOM
     requires { Domains image.now doms.now × (count ≡ length (records_of image.now).domains) × (table.old ≡ replicate domain_limit 0) }
     ensures { Masks image.now table.new }
 {
-    let mut i: usize = 0;
-    while i < count {
+    for i in 0..count {
         let d = DomainNo(i as u16);
         let mask = mask_of(image, doms, d);
         set_mask(table, d, mask);
-        i += 1;
     }
 }

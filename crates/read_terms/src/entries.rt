@@ -6,7 +6,6 @@ ghost use Rattle.image.specs.Records.{as_child};
 ghost use Rattle.read_records.specs.Heads.{field_in};
 ghost use Rattle.read_terms.specs.Fields.{children_in, first_entry, entry_count, entry_terms};
 
-use laws::both;
 use read_records::fields::field;
 use read_records::numbers::{TermNo, entry_term};
 
@@ -17,40 +16,25 @@ pub const FIRST_ENTRY: usize = 4;
 pub fn entries_in(fields: &[u8]) -> usize
     ensures { result ≡ entry_count fields.now }
 {
-    let n = fields.len() / 2;
-    if n < FIRST_ENTRY + 1 {
-        return 0;
-    }
-    n - (FIRST_ENTRY + 1)
+    (fields.len() / 2).saturating_sub(FIRST_ENTRY + 1)
 }
 
 // How many terms an entry names.
 fn names_one(entry: u16) -> usize
     ensures { result ≡ length (as_child an_entry entry) }
 {
-    if entry == 0 { 0 } else { 1 }
+    usize::from(entry != 0)
 }
 
 // How many terms the entries name.
 fn entry_term_count(fields: &[u8]) -> usize
     ensures { result ≡ length (entry_terms fields.now) }
 {
-    let n = entries_in(fields);
     let mut count: usize = 0;
-    let mut i: usize = 0;
-    while i < n {
+    for i in 0..entries_in(fields) {
         count += names_one(field(fields, FIRST_ENTRY + i));
-        i += 1;
     }
     count
-}
-
-// How many terms are to be passed yet, with one entry more.
-fn left_behind(left: usize, entry: u16) -> usize
-    requires { 0 < entry → 0 < left }
-    ensures { result ≡ left - length (as_child an_entry entry) }
-{
-    if entry == 0 { left } else { left - 1 }
 }
 
 // Term j of those that the entries name.
@@ -58,16 +42,13 @@ fn entry_term_at(fields: &[u8], j: usize) -> TermNo
     requires { j < length (entry_terms fields.now) }
     ensures { result.0 ≡ get_or (entry_terms fields.now) j 0 }
 {
-    let n = entries_in(fields);
     let mut left = j;
-    let mut i: usize = 0;
-    while i < n {
+    for i in 0..entries_in(fields) {
         let entry = field(fields, FIRST_ENTRY + i);
-        if both(entry != 0, left == 0) {
+        if entry != 0 && left == 0 {
             return entry_term(entry);
         }
-        left = left_behind(left, entry);
-        i += 1;
+        left -= names_one(entry);
     }
     TermNo(0)
 }

@@ -7,9 +7,9 @@ ghost use Rattle.image.specs.Types.{type_place};
 ghost use Rattle.read_terms.specs.Lent.{TypeOffsets, IsType};
 ghost use Rattle.read_terms.specs.Methods.{type_fields_of, method_in};
 
-use read_records::fields::domain_field;
+use read_records::fields::field_as;
 use read_records::kinds::OBJECT_TYPE;
-use read_records::numbers::{DomainNo, TypeNo, type_offset};
+use read_records::numbers::{DomainNo, TypeNo, offset_of};
 use read_records::reader::fields_at;
 use read_records::words::kind_at;
 
@@ -18,7 +18,7 @@ pub fn type_kind(image: &[u8], types: &[u16], t: TypeNo) -> u16
     requires { TypeOffsets image.now types.now × IsType image.now t.0 }
     ensures { result ≡ number_at image.now (type_place (records_of image.now) t.0) }
 {
-    kind_at(image, type_offset(types, t))
+    kind_at(image, offset_of(types, t))
 }
 
 // Its fields.
@@ -26,7 +26,7 @@ pub fn type_fields<'a>(image: &'a [u8], types: &[u16], t: TypeNo) -> &'a [u8]
     requires { TypeOffsets image.now types.now × IsType image.now t.0 }
     ensures { result.now ≡ type_fields_of image.now t.0 }
 {
-    fields_at(image, type_offset(types, t))
+    fields_at(image, offset_of(types, t))
 }
 
 // A method takes so many bytes: two fields.
@@ -37,11 +37,8 @@ pub fn method_domain(kind: u16, fields: &[u8], m: usize) -> DomainNo
     requires { m < 65536 }
     ensures { result.0 ≡ method_in kind fields.now m }
 {
-    if kind != OBJECT_TYPE {
-        return DomainNo(0);
+    if kind == OBJECT_TYPE && METHOD_BYTES + METHOD_BYTES * m <= fields.len() {
+        return field_as(fields, 2 * m);
     }
-    if fields.len() < METHOD_BYTES + METHOD_BYTES * m {
-        return DomainNo(0);
-    }
-    domain_field(fields, 2 * m)
+    DomainNo(0)
 }

@@ -66,13 +66,13 @@ pub fn domain_of(descriptor: u32) -> DomainNo
 {
     let k = descriptor_kind(descriptor);
     if k == ADVICE_TYPE {
-        return DomainNo(descriptor_field0(descriptor));
+        return first_domain(descriptor);
     }
     if ADVICE_TYPE < k {
         return DomainNo(0);
     }
     if PAIR_TYPE < k {
-        return DomainNo(descriptor_field1(descriptor));
+        return second_domain(descriptor);
     }
     DomainNo(0)
 }
@@ -82,7 +82,7 @@ fn has_leaves(leaves: &[u8], t: TypeNo) -> bool
     requires { t.0 < length leaves.now }
     ensures { result ≡ not (eqb (get_or leaves.now t.0 0) 0) }
 {
-    leaves[t.0 as usize] != 0
+    leaves[usize::from(t.0)] != 0
 }
 
 // A reference type, and what it refers to is plain.
@@ -90,8 +90,5 @@ pub fn refers_to_plain(descriptor: u32, leaves: &[u8]) -> bool
     requires { descriptor_kind descriptor ≡ (type_row_of TypeKind.ref).number → descriptor_field0 descriptor < length leaves.now }
     ensures { result ≡ descriptor_plain leaves.now descriptor }
 {
-    if descriptor_kind(descriptor) == REFERENCE_TYPE {
-        return has_leaves(leaves, TypeNo(descriptor_field0(descriptor)));
-    }
-    false
+    is_kind(descriptor, REFERENCE_TYPE) && has_leaves(leaves, first_type(descriptor))
 }

@@ -1,54 +1,20 @@
 -- A match looks at its entries, one after another.
-use Prim.Native.Nat.{ℕ, zero, suc, ◌+◌, ◌-◌, ◌≤◌, ◌<◌}
+use Prim.Native.Nat.{ℕ, suc, ◌+◌, ◌-◌, ◌≤◌, ◌<◌}
 use native.Mathlib.Omega.{arith}
-use mathlib.Core.Path.{◌≡◌, refl, sym, ap, ap₂, ◌∙◌}
+use mathlib.Core.Path.{◌≡◌, refl, sym, ap, ◌∙◌}
 use mathlib.Core.Bool.{Bool, true, false, not, ◌&&◌, false≢true}
-use lib.Dec.{eqb, leb, ltb}
-use borrow.Author.Tests.{eq-eqb, ne_eqb, le-leb, lt-leb, le-ltb}
+use lib.Dec.{eqb}
+use borrow.Author.Tests.{eq-eqb, ne_eqb, le-leb, lt-leb}
+use Rattle.std.specs.Int.{from_bool}
 use Rattle.calculus.specs.Combinators.{choose}
-use Rattle.vm_code.specs.Words.{class_of, count_of, count_size}
-use Rattle.vm_code.specs.Classes.{first_instruction, is_atom}
-use Rattle.vm_machine.specs.Memory.{Memory, piece_of, piece_second, has_bit, is_kept, top_entry, entry_label, rest_of, held_stack}
+use Rattle.vm_code.specs.Words.{count_of, count_size}
+use Rattle.vm_code.specs.Classes.{is_atom}
+use Rattle.vm_machine.specs.Memory.{Memory, rest_of, held_stack}
 use Rattle.vm_machine.specs.Fetch.{Program, code_at, atom_value}
 use Rattle.vm_machine.specs.Stacks.{Looked, entry_at, cut_term, binds_rest, unlooked, past_any, past_cut, look_on, rest_after, looked_byte, looked_with, stack_to_come, variables}
 use Rattle.vm_memory.proofs.Chosen.{chosen_yes, chosen_no}
 use Rattle.vm_matches.specs.declared.Progress.{Progress}
-use Rattle.vm_matches.specs.Matching.{looked_of, stops_at, top_fits, past_entry, LookedAgain}
-
--- Whether entry i stops: v is it, u the word of its pointcut and k that one's class.
-pub stops_as : (C : Program) (w i v t u k : ℕ) (b : Bool) → v ≡ entry_at C w i → t ≡ cut_term v → u ≡ code_at C t → k ≡ class_of u → b ≡ (not (eqb v 0) && leb first_instruction k) → b ≡ stops_at C w i
-stops_as C w i v t u k b d e f g h =
-    let z : u ≡ code_at C (cut_term (entry_at C w i)) = f ∙ ap (code_at C) (e ∙ ap cut_term d) in
-    h ∙ ap (λ (x : ℕ). not (eqb x 0) && leb first_instruction k) d ∙ ap (λ (x : ℕ). not (eqb (entry_at C w i) 0) && leb first_instruction x) (g ∙ ap class_of z)
-    ∙ ap (not (eqb (entry_at C w i) 0) &&◌) (at_least (class_of (code_at C (cut_term (entry_at C w i)))))
-  where
-    at_least : (n : ℕ) → leb 4 n ≡ not (ltb n 4)
-    at_least zero = refl
-    at_least (suc zero) = refl
-    at_least (suc (suc zero)) = refl
-    at_least (suc (suc (suc zero))) = refl
-    at_least (suc (suc (suc (suc n)))) = rw (le-leb 4 (suc (suc (suc (suc n)))) (omega arith), le-ltb (suc (suc (suc (suc n)))) 4 (omega arith))
-
-module _ (M : Memory) (k : Looked) where
-  -- Past an entry for anything, and past one that is the pointcut v.
-  pub any_past : (rest : ℕ) (b c : Bool) → rest ≡ rest_of M k.rest → b ≡ is_kept k.rest → c ≡ (k.fits && b) → record { next = k.next + 1; rest = rest; fits = c } ≡ past_any M k
-  any_past rest b c d e f =
-      let j : k.next + 1 ≡ suc k.next = omega arith in
-      ap (λ (x : ℕ). record { next = x; rest = rest; fits = c }) j
-      ∙ ap (λ (x : ℕ). record { next = suc k.next; rest = x; fits = c }) d
-      ∙ ap (λ (x : Bool). record { next = suc k.next; rest = rest_of M k.rest; fits = x }) (f ∙ ap (k.fits &&◌) e)
-
-  pub cut_past : (v rest : ℕ) (b c : Bool) → rest ≡ rest_of M k.rest → b ≡ top_fits M v k.rest → c ≡ (k.fits && b) → record { next = k.next + 1; rest = rest; fits = c } ≡ past_cut M v k
-  cut_past v rest b c d e f =
-      let j : k.next + 1 ≡ suc k.next = omega arith in
-      ap (λ (x : ℕ). record { next = x; rest = rest; fits = c }) j
-      ∙ ap (λ (x : ℕ). record { next = suc k.next; rest = x; fits = c }) d
-      ∙ ap (λ (x : Bool). record { next = suc k.next; rest = rest_of M k.rest; fits = x }) (f ∙ ap (k.fits &&◌) e)
-
--- Whether the top of a stack fits.
-pub top_as : (M : Memory) (v s p x t l : ℕ) (a h b : Bool) → p ≡ piece_of v → x ≡ piece_second M p → t ≡ top_entry M s → l ≡ entry_label t → a ≡ is_kept s → h ≡ has_bit x l → b ≡ (a && h) → b ≡ top_fits M v s
-top_as M v s p x t l a h b d e f g i j k =
-    k ∙ ap (◌&& h) i ∙ ap (is_kept s &&◌) (j ∙ ap₂ has_bit (e ∙ ap (piece_second M) d) (g ∙ ap entry_label f))
+use Rattle.vm_matches.specs.Matching.{looked_of, stops_at, past_entry, LookedAgain}
 
 by_stop : (z a : Bool) (X Y k : Looked) → (not z && not a) ≡ true → choose z X (choose a Y k) ≡ k
 by_stop true a X Y k e = absurd (false≢true e)
@@ -125,19 +91,29 @@ module _ (M : Memory) (v f byte : ℕ) (k : Progress) where
         stack = e ∙ c ∙ a ∙ sym (chosen_no _ _ _ (lt-leb stack_to_come byte h));
       }
 
+-- A test as a number.
+pub one_at_most : (b : Bool) (x : ℕ) → x ≡ from_bool b → x ≤ 1
+one_at_most true x e = omega (arith, e)
+one_at_most false x e = omega (arith, e)
+
+as_chosen : (b : Bool) → from_bool b ≡ choose b 1 0
+as_chosen true = refl
+as_chosen false = refl
+
+unless_chosen : (b : Bool) → from_bool (not b) ≡ choose b 0 1
+unless_chosen true = refl
+unless_chosen false = refl
+
 -- How many variables n entries bind, of which those below i bind c.
 module _ (C : Program) (w n i : ℕ) where
-  pub count_start : variables C w n 0 ≡ 0 + variables C w (n - 0) 0
-  count_start = let k : n ≡ n - 0 = omega arith in ap (λ (x : ℕ). variables C w x 0) k ∙ omega arith
-
-  pub count_more : (e x : ℕ) → i < n → e ≡ entry_at C w i → x ≡ choose (eqb e 0) 0 1 → (c : ℕ) → c + variables C w (n - i) i ≡ c + x + variables C w (n - (i + 1)) (i + 1)
+  pub count_more : (e x : ℕ) → i < n → e ≡ entry_at C w i → x ≡ from_bool (not (eqb e 0)) → (c : ℕ) → c + variables C w (n - i) i ≡ c + x + variables C w (n - (i + 1)) (i + 1)
   unfolding variables
   count_more e x h d f c =
       let k : n - i ≡ suc (n - (i + 1)) = omega arith in
       let j : suc i ≡ i + 1 = omega arith in
-      let z : x ≡ choose (eqb (entry_at C w i) 0) 0 1 = f ∙ ap (λ (y : ℕ). choose (eqb y 0) 0 1) d in
+      let z : x ≡ choose (eqb (entry_at C w i) 0) 0 1 = f ∙ unless_chosen (eqb e 0) ∙ ap (λ (y : ℕ). choose (eqb y 0) 0 1) d in
       ap (λ (y : ℕ). c + variables C w y i) k ∙ ap (λ (y : ℕ). c + (y + variables C w (n - (i + 1)) (suc i))) (sym z) ∙ ap (λ (y : ℕ). c + (x + variables C w (n - (i + 1)) y)) j ∙ (omega arith)
 
-  pub count_all : (b : Bool) (x : ℕ) → n ≤ i → b ≡ binds_rest C w → x ≡ choose b 1 0 → (c : ℕ) → c + variables C w (n - i) i ≡ c + x
+  pub count_all : (b : Bool) (x : ℕ) → n ≤ i → b ≡ binds_rest C w → x ≡ from_bool b → (c : ℕ) → c + variables C w (n - i) i ≡ c + x
   unfolding variables
-  count_all b x h d f c = let k : n - i ≡ 0 = omega arith in ap (λ (y : ℕ). c + variables C w y i) k ∙ ap (λ (y : ℕ). c + y) (sym (f ∙ ap (λ (y : Bool). choose y 1 0) d))
+  count_all b x h d f c = let k : n - i ≡ 0 = omega arith in ap (λ (y : ℕ). c + variables C w y i) k ∙ ap (λ (y : ℕ). c + y) (sym (f ∙ as_chosen b ∙ ap (λ (y : Bool). choose y 1 0) d))

@@ -55,15 +55,12 @@ pub fn bind_entries(fields: &[u8], work: &mut [u8], w: u64, v: u64, from: Chain)
     requires { (memory_length ≤ length work.old) × (from.env < binding_places) × ((C : Program) × (fields.now ≡ match_fields C.image w) × (from.count + variables C w (count_of w) 0 ≤ binding_places)) }
     ensures { ((C : Program) → fields.now ≡ match_fields C.image w → Chains (bind_entries C w (count_of w) 0 v (chain_in work.old from)) work.old work.new result) × (result.env < binding_places) }
 {
-    let n = count_of(w);
     let mut rest = v;
     let mut b = from;
-    let mut i: usize = 0;
-    while i < n {
+    for i in 0..count_of(w) {
         let behind = rest_of(work, rest);
         b = bind_entry(fields, work, i, rest, b);
         rest = behind;
-        i += 1;
     }
     bind_rest(fields, work, w, rest, b)
 }

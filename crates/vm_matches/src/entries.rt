@@ -8,7 +8,6 @@ ghost use Rattle.vm_machine.specs.Stacks as machine;
 ghost use Rattle.vm_matches.specs.Matching.{match_fields, entry_in, stops_at, looked_of};
 
 use crate::Progress;
-use laws::{both, either};
 use read_records::fields::field_or_zero;
 use read_records::numbers::TermNo;
 use read_records::reader::part;
@@ -44,10 +43,7 @@ pub fn entry_at(fields: &[u8], i: usize) -> u16
 pub fn cut_term(v: u16) -> TermNo
     ensures { result.0 ≡ cut_term v }
 {
-    if v == 0 {
-        return TermNo(0);
-    }
-    term_with((v - 1) as usize)
+    term_with(usize::from(v.saturating_sub(1)))
 }
 
 pub fn binds_rest(fields: &[u8], w: u64) -> bool
@@ -59,44 +55,27 @@ pub fn binds_rest(fields: &[u8], w: u64) -> bool
 // Entry i is a pointcut that is no atom.
 pub fn stops_at(code: &[u64], fields: &[u8], i: usize) -> bool
     requires { (term_count ≤ length code.now) × (i < count_size) }
-    ensures { (image : List ℕ) (w : ℕ) → i < count_of w → fields.now ≡ match_fields image w → result ≡ stops_at (record { code = code.entry.now; image = image }) w i }
+    ensures { (image : List ℕ) (w : ℕ) → i < count_of w → fields.now ≡ match_fields image w → result ≡ stops_at (record { code = code.now; image = image }) w i }
 {
     let v = entry_at(fields, i);
-    let u = word_of(code, cut_term(v));
-    both(v != 0, INSTRUCTION <= class_of(u))
+    let class = class_of(word_of(code, cut_term(v)));
+    v != 0 && INSTRUCTION <= class
 }
 
 // All entries were looked at: the close fits too.
 pub fn matches(fields: &[u8], w: u64, k: Progress) -> bool
     ensures { (C : Program) → fields.now ≡ match_fields C.image w → result ≡ machine.matches C w (looked_of k) }
 {
-    let rest = either(binds_rest(fields, w), !is_kept(k.rest));
-    both(k.fits, rest)
+    k.fits && (binds_rest(fields, w) || !is_kept(k.rest))
 }
 
-// How many variables the entry v binds, and a close that binds the rest or does not.
-fn of_entry(v: u16) -> usize
-    ensures { (result ≡ choose (eqb v 0) 0 1) × (result ≤ 1) }
-{
-    if v == 0 { 0 } else { 1 }
-}
-
-fn of_close(b: bool) -> usize
-    ensures { (result ≡ choose b 1 0) × (result ≤ 1) }
-{
-    if b { 1 } else { 0 }
-}
-
-// How many all of them bind.
+// How many variables all entries bind, one each but those for anything, and a close that binds the rest.
 pub fn variables(fields: &[u8], w: u64) -> usize
     ensures { ((C : Program) → fields.now ≡ match_fields C.image w → result ≡ machine.variables C w (count_of w) 0) × (result ≤ count_size) }
 {
-    let n = count_of(w);
-    let mut c: usize = 0;
-    let mut i: usize = 0;
-    while i < n {
-        c = c + of_entry(entry_at(fields, i));
-        i += 1;
+    let mut c = 0;
+    for i in 0..count_of(w) {
+        c += usize::from(entry_at(fields, i) != 0);
     }
-    c + of_close(binds_rest(fields, w))
+    c + usize::from(binds_rest(fields, w))
 }

@@ -1,15 +1,15 @@
 // A match looks at its entries one by one, as their pointcuts become known.
-ghost use Rattle.std.specs.Prelude.{◌≡◌, List, ℕ, ◌+◌, ◌-◌, ◌≤◌, ◌<◌, length};
+ghost use Rattle.std.specs.Prelude.{◌≡◌, ◌&&◌, List, ℕ, ◌+◌, ◌-◌, ◌≤◌, ◌<◌, length};
 ghost use Rattle.base_bytes.specs.Memory.{memory_length};
 ghost use Rattle.vm_code.specs.Words.{term_count, count_of, count_size};
 ghost use Rattle.vm_machine.specs.Stacks.{unlooked, past_any, past_cut, look_on, rest_after, looked_byte, looked_with};
 ghost use Rattle.vm_machine.specs.Memory.{binding_places};
+ghost use Rattle.vm_machine.specs.Memory as machine;
 ghost use Rattle.vm_memory.specs.View.{memory_of};
 ghost use Rattle.vm_matches.specs.Matching.{match_fields, looked_of, top_fits, past_entry, LookedAgain};
 
 use crate::Progress;
 use crate::entries::{cut_term, entry_at, stops_at};
-use laws::both;
 use vm_memory::kept::{entry_label, is_kept, rest_of, top_entry};
 use vm_memory::labels::has_bit;
 use vm_memory::pieces::{piece_of, piece_second};
@@ -34,17 +34,25 @@ pub fn unlooked(v: u64) -> Progress
     }
 }
 
+// Past an entry: whether the rest of the stack fits it too.
+fn past(work: &[u8], k: Progress, fits: bool) -> Progress
+    requires { (memory_length ≤ length work.now) × (k.next < count_size) }
+    ensures { result ≡ record { stack = k.stack; next = k.next + 1; rest = machine.rest_of (memory_of work.now) k.rest; fits = k.fits && fits } }
+{
+    Progress {
+        next: k.next + 1,
+        rest: rest_of(work, k.rest),
+        fits: k.fits && fits,
+        ..k
+    }
+}
+
 // Past an entry for anything.
 fn past_any(work: &[u8], k: Progress) -> Progress
     requires { (memory_length ≤ length work.now) × (k.next < count_size) }
     ensures { (looked_of result ≡ past_any (memory_of work.now) (looked_of k)) × (result.stack ≡ k.stack) × (result.next ≡ k.next + 1) }
 {
-    Progress {
-        stack: k.stack,
-        next: k.next + 1,
-        rest: rest_of(work, k.rest),
-        fits: both(k.fits, is_kept(k.rest)),
-    }
+    past(work, k, is_kept(k.rest))
 }
 
 // The stack has an entry, whose label the pointcut v names.
@@ -54,7 +62,7 @@ fn top_fits(work: &[u8], v: u64, stack: u64) -> bool
 {
     let s = piece_second(work, piece_of(v));
     let l = entry_label(top_entry(work, stack));
-    both(is_kept(stack), has_bit(s, l))
+    is_kept(stack) && has_bit(s, l)
 }
 
 // Past one that is the pointcut v.
@@ -62,18 +70,13 @@ fn past_cut(work: &[u8], v: u64, k: Progress) -> Progress
     requires { (memory_length ≤ length work.now) × (k.next < count_size) }
     ensures { (looked_of result ≡ past_cut (memory_of work.now) v (looked_of k)) × (result.stack ≡ k.stack) × (result.next ≡ k.next + 1) }
 {
-    Progress {
-        stack: k.stack,
-        next: k.next + 1,
-        rest: rest_of(work, k.rest),
-        fits: both(k.fits, top_fits(work, v, k.rest)),
-    }
+    past(work, k, top_fits(work, v, k.rest))
 }
 
 // Past the next entry, which is for anything or an atom.
 fn past_entry(code: &[u64], fields: &[u8], work: &[u8], env: usize, k: Progress) -> Progress
     requires { (term_count ≤ length code.now) × (memory_length ≤ length work.now) × (env < binding_places) × (k.next < count_size) }
-    ensures { ((image : List ℕ) (w : ℕ) → k.next < count_of w → fields.now ≡ match_fields image w → looked_of result ≡ past_entry (record { code = code.entry.now; image = image }) (memory_of work.now) env w (looked_of k)) × (result.stack ≡ k.stack) × (result.next ≡ k.next + 1) }
+    ensures { ((image : List ℕ) (w : ℕ) → k.next < count_of w → fields.now ≡ match_fields image w → looked_of result ≡ past_entry (record { code = code.now; image = image }) (memory_of work.now) env w (looked_of k)) × (result.stack ≡ k.stack) × (result.next ≡ k.next + 1) }
 {
     let e = entry_at(fields, k.next);
     if e == 0 {
@@ -93,7 +96,7 @@ pub fn look_on(
     from: Progress,
 ) -> Progress
     requires { (term_count ≤ length code.now) × (memory_length ≤ length work.now) × (env < binding_places) }
-    ensures { ((image : List ℕ) → fields.now ≡ match_fields image w → looked_of result ≡ look_on (record { code = code.entry.now; image = image }) (memory_of work.now) env w (count_of w - from.next) (looked_of from)) × (result.stack ≡ from.stack) }
+    ensures { ((image : List ℕ) → fields.now ≡ match_fields image w → looked_of result ≡ look_on (record { code = code.now; image = image }) (memory_of work.now) env w (count_of w - from.next) (looked_of from)) × (result.stack ≡ from.stack) }
 {
     let n = count_of(w);
     let mut k = from;
@@ -112,10 +115,8 @@ fn rest_after(work: &[u8], n: usize, v: u64) -> u64
     ensures { result ≡ rest_after (memory_of work.now) n v }
 {
     let mut rest = v;
-    let mut i: usize = 0;
-    while i < n {
+    for _ in 0..n {
         rest = rest_of(work, rest);
-        i += 1;
     }
     rest
 }

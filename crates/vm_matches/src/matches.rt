@@ -23,7 +23,7 @@ use vm_words::code::depth_of;
 // Where the branch is begun that field i names.
 fn branch_at(code: &[u64], fields: &[u8], i: usize) -> usize
     requires { (term_count ≤ length code.now) × (i < 3) }
-    ensures { (image : List ℕ) (w : ℕ) → fields.now ≡ match_fields image w → result ≡ begun_at (record { code = code.entry.now; image = image }) (le16 image (offset_of w + 2 * i) % term_count) }
+    ensures { (image : List ℕ) (w : ℕ) → fields.now ≡ match_fields image w → result ≡ begun_at (record { code = code.now; image = image }) (le16 image (offset_of w + 2 * i) % term_count) }
 {
     begun_at(code, term_at(fields, i))
 }
@@ -31,7 +31,7 @@ fn branch_at(code: &[u64], fields: &[u8], i: usize) -> usize
 // The stack v matches: the room of the bindings is looked at before the budget (card 5).
 fn first_branch(code: &[u64], fields: &[u8], work: &mut [u8], r: Regs, w: u64, v: u64) -> Regs
     requires { Matchable code.now work.old r × (depth_of w ≤ r.frames) × OfMatch fields.now w }
-    ensures { (image : List ℕ) → fields.now ≡ match_fields image w → Phase (first_branch (record { code = code.entry.now; image = image }) w v) work.old work.new r result }
+    ensures { (image : List ℕ) → fields.now ≡ match_fields image w → Phase (first_branch (record { code = code.now; image = image }) w v) work.old work.new r result }
 {
     let h = quota_of(w);
     let p = r.pools;
@@ -58,7 +58,7 @@ fn first_branch(code: &[u64], fields: &[u8], work: &mut [u8], r: Regs, w: u64, v
 // The stack does not match: the second branch.
 fn other_branch(code: &[u64], fields: &[u8], work: &mut [u8], r: Regs, w: u64) -> Regs
     requires { Matchable code.now work.old r × (depth_of w ≤ r.frames) × OfMatch fields.now w }
-    ensures { (image : List ℕ) → fields.now ≡ match_fields image w → Phase (other_branch (record { code = code.entry.now; image = image }) w) work.old work.new r result }
+    ensures { (image : List ℕ) → fields.now ≡ match_fields image w → Phase (other_branch (record { code = code.now; image = image }) w) work.old work.new r result }
 {
     if r.fuel <= FUEL_BIAS {
         return halt(r, outcomes::SPENT);
@@ -71,7 +71,7 @@ fn other_branch(code: &[u64], fields: &[u8], work: &mut [u8], r: Regs, w: u64) -
 
 fn reduce_match(code: &[u64], fields: &[u8], work: &mut [u8], r: Regs, w: u64, k: Progress) -> Regs
     requires { Matchable code.now work.old r × (depth_of w ≤ r.frames) × OfMatch fields.now w }
-    ensures { (image : List ℕ) → fields.now ≡ match_fields image w → Phase (reduce_match (record { code = code.entry.now; image = image }) w k.stack (looked_of k)) work.old work.new r result }
+    ensures { (image : List ℕ) → fields.now ≡ match_fields image w → Phase (reduce_match (record { code = code.now; image = image }) w k.stack (looked_of k)) work.old work.new r result }
 {
     if matches(fields, w, k) {
         return first_branch(code, fields, work, r, w, k.stack);
@@ -88,7 +88,7 @@ pub fn make_match(
     k: Progress,
 ) -> Regs
     requires { Matchable code.now work.old r × OfMatch fields.now w }
-    ensures { (image : List ℕ) → fields.now ≡ match_fields image w → Phase (λ S. judged w S (reduce_match (record { code = code.entry.now; image = image }) w k.stack (looked_of k) S)) work.old work.new r result }
+    ensures { (image : List ℕ) → fields.now ≡ match_fields image w → Phase (λ S. judged w S (reduce_match (record { code = code.now; image = image }) w k.stack (looked_of k) S)) work.old work.new r result }
 {
     if r.frames <= depth_of(w) {
         return halt(r, outcomes::FRAMES);

@@ -27,7 +27,7 @@ use vm_words::terms::{instruction, word_of};
 // The operand x of the match at hand begins as a body of its own; v is the match's stack, and the byte its progress.
 fn begin_operand(code: &[u64], work: &mut [u8], r: Regs, x: TermNo, v: u64, byte: u64) -> Regs
     requires { Matchable code.now work.old r × FramesOf code.now r × (x.0 < term_count) × (byte < 256) }
-    ensures { (image : List ℕ) → Phase (begin_operand (record { code = code.entry.now; image = image }) r.pc x.0 v byte) work.old work.new r result }
+    ensures { (image : List ℕ) → Phase (begin_operand (record { code = code.now; image = image }) r.pc x.0 v byte) work.old work.new r result }
 {
     let pc = r.pc;
     let d = depth_of(instruction(code, pc)) + 1;
@@ -53,7 +53,7 @@ fn entries_from(
     from: Progress,
 ) -> Regs
     requires { Matchable code.now work.old r × FramesOf code.now r × (w ≡ get_or code.now r.pc 0) × OfMatch fields.now w }
-    ensures { (image : List ℕ) → fields.now ≡ match_fields image w → Phase (entries_from (record { code = code.entry.now; image = image }) r.pc from.stack (looked_of from)) work.old work.new r result }
+    ensures { (image : List ℕ) → fields.now ≡ match_fields image w → Phase (entries_from (record { code = code.now; image = image }) r.pc from.stack (looked_of from)) work.old work.new r result }
 {
     let k = look_on(code, fields, work, r.env, w, from);
     if count_of(w) <= k.next {
@@ -65,7 +65,7 @@ fn entries_from(
 
 pub fn begin_match(code: &[u64], image: &[u8], work: &mut [u8], r: Regs) -> Regs
     requires { Matchable code.now work.old r × (r.frames ≤ frame_slots) }
-    ensures { Phase (begin_match (record { code = code.entry.now; image = image.now })) work.old work.new r result }
+    ensures { Phase (begin_match (record { code = code.now; image = image.now })) work.old work.new r result }
 {
     let w = instruction(code, r.pc);
     let fields = match_fields(image, w);
@@ -81,7 +81,7 @@ pub fn begin_match(code: &[u64], image: &[u8], work: &mut [u8], r: Regs) -> Regs
 // An operand is worked out: the match's slot has the word f.
 pub fn resume_match(code: &[u64], image: &[u8], work: &mut [u8], r: Regs, f: u64) -> Regs
     requires { Matchable code.now work.old r × (r.frames < frame_slots) }
-    ensures { Phase (resume_match (record { code = code.entry.now; image = image.now }) f) work.old work.new r result }
+    ensures { Phase (resume_match (record { code = code.now; image = image.now }) f) work.old work.new r result }
 {
     let pc = slot_pc(f);
     let w = instruction(code, pc);

@@ -37,7 +37,7 @@ fn function_target(f: u64) -> usize
 // The function x is applied to the value y.
 pub fn reduce_apply(code: &[u64], work: &mut [u8], r: Regs, w: u64, x: u64, y: u64) -> Regs
     requires { (term_count ≤ length code.now) × (memory_length ≤ length work.old) × (fuel_bias < r.fuel) × (depth_of w ≤ r.frames) × ((size : ℕ) × Fits size r) }
-    ensures { (image : List ℕ) → Phase (reduce_apply (record { code = code.entry.now; image = image }) w x y) work.old work.new r result }
+    ensures { (image : List ℕ) → Phase (reduce_apply (record { code = code.now; image = image }) w x y) work.old work.new r result }
 {
     let h = quota_of(w);
     let p = r.pools;
@@ -56,7 +56,7 @@ pub fn reduce_apply(code: &[u64], work: &mut [u8], r: Regs, w: u64, x: u64, y: u
 // The body at the target g is called on the object x, which it binds (card 3). Its room is looked at before the budget (card 5).
 pub fn call_body(code: &[u64], work: &mut [u8], r: Regs, w: u64, x: u64, g: usize) -> Regs
     requires { (term_count ≤ length code.now) × (memory_length ≤ length work.old) × (depth_of w ≤ r.frames) × ((size : ℕ) × Fits size r) }
-    ensures { (image : List ℕ) → Phase (call_body (record { code = code.entry.now; image = image }) w x g) work.old work.new r result }
+    ensures { (image : List ℕ) → Phase (call_body (record { code = code.now; image = image }) w x g) work.old work.new r result }
 {
     let h = quota_of(w);
     let p = r.pools;
@@ -89,7 +89,7 @@ fn bind_parts(work: &mut [u8], p: usize, i: usize, env: usize)
 // The parts of the pair x are bound.
 pub fn reduce_split(code: &[u64], work: &mut [u8], r: Regs, w: u64, x: u64) -> Regs
     requires { (term_count ≤ length code.now) × (memory_length ≤ length work.old) × (fuel_bias < r.fuel) × (depth_of w ≤ r.frames) × ((size : ℕ) × Fits size r) }
-    ensures { (image : List ℕ) → Phase (reduce_split (record { code = code.entry.now; image = image }) w x) work.old work.new r result }
+    ensures { (image : List ℕ) → Phase (reduce_split (record { code = code.now; image = image }) w x) work.old work.new r result }
 {
     let h = quota_of(w);
     let p = r.pools;

@@ -141,6 +141,10 @@ first_leaves x (l ∷ y) =
 pub from_none : (M : Memory) (w : ℕ) {g r : Gathered} → g ≡ gathered [] → r ≡ with_leaves g (leaves_of M 8 w) → r ≡ gathered (plain_leaves_in M w)
 from_none M w a b = b ∙ ap (λ g. with_leaves g (leaves_of M 8 w)) a ∙ first_leaves [] (leaves_of M 8 w)
 
+-- One leaf alone.
+pub from_one : (M : Memory) (w : ℕ) {l : Leaf} {g r : Gathered} → plain_leaves_in M w ≡ leaf_of w ∷ [] → g ≡ gathered [] → l ≡ leaf_of w → r ≡ with_leaf g l → r ≡ gathered (plain_leaves_in M w)
+from_one M w {l} e a b d = d ∙ ap (λ x. with_leaf x l) a ∙ next_leaf [] l (omega arith) ∙ ap gathered (ap (λ x. x ∷ []) b ∙ sym e)
+
 -- The leaves in slots are those gathered.
 pub gathered_leaves : {g : Gathered} (x : List Leaf) → g ≡ gathered x → length x ≤ 8 → leaves_in g.count g.slots ≡ x
 gathered_leaves x e h = ap (λ g. leaves_in g.count g.slots) e ∙ leaves_back x h

@@ -33,9 +33,7 @@ pub fn put_cell(report: &mut [u8], at: usize, work: &[u8], i: usize) -> usize
         return put_other_cell(report, at, dom);
     }
     let g = plain_leaves(work, w);
-    let count = g.count;
-    let slots = g.slots;
-    put_plain_cell(report, at, dom, slots, count)
+    put_plain_cell(report, at, dom, g.slots, g.count)
 }
 
 // The first n cells, in order of creation; answers the offset past them. A cell takes 70 bytes at most.
@@ -44,10 +42,8 @@ pub fn put_cells(report: &mut [u8], at: usize, work: &[u8], n: usize) -> usize
     ensures { (result ≡ at + length (cells_bytes (cells_from (memory_of work.now) n 0))) × (report.new ≡ over at (cells_bytes (cells_from (memory_of work.now) n 0)) report.old) × (result ≤ at + 70 * n) }
 {
     let mut o = at;
-    let mut i: usize = 0;
-    while i < n {
+    for i in 0..n {
         o = put_cell(report, o, work, i);
-        i += 1;
     }
     o
 }

@@ -1,5 +1,5 @@
 // The leaves of a value in the tables.
-ghost use Rattle.std.specs.Prelude.{◌≡◌, [], ◌∷◌, ◌≤◌, length};
+ghost use Rattle.std.specs.Prelude.{◌≡◌, [], ◌≤◌, length};
 ghost use Rattle.base_bytes.specs.Memory.{memory_length};
 ghost use Rattle.vm_machine.specs.Leaves.{leaf_of, one_leaf, leaves_of};
 ghost use Rattle.vm_memory.specs.View.{memory_of};
@@ -16,10 +16,9 @@ pub fn no_leaves() -> Gathered
     ensures { result ≡ gathered [] }
 {
     let unit = Slot { leaf: Leaf::Unit };
-    let slots = [unit; LEAF_LIMIT];
     Gathered {
         count: 0,
-        slots: slots,
+        slots: [unit; LEAF_LIMIT],
     }
 }
 
@@ -32,7 +31,7 @@ fn with_leaf(held: Gathered, leaf: Leaf) -> Gathered
         return held;
     }
     let mut next = held;
-    next.slots[at] = Slot { leaf: leaf };
+    next.slots[at] = Slot { leaf };
     next.count = at + 1;
     next
 }
@@ -76,26 +75,13 @@ fn gather(work: &[u8], depth: usize, w: u64, held: Gathered) -> Gathered
     gather(work, depth - 1, b, first)
 }
 
-// One leaf alone.
-fn one_leaf(leaf: Leaf) -> Gathered
-    ensures { result ≡ gathered (leaf ∷ []) }
-{
-    let unit = Slot { leaf: Leaf::Unit };
-    let mut slots = [unit; LEAF_LIMIT];
-    slots[0] = Slot { leaf: leaf };
-    Gathered {
-        count: 1,
-        slots: slots,
-    }
-}
-
 // The leaves of a value: at most eight. Most values are one leaf, and those need no walk.
 pub fn plain_leaves(work: &[u8], w: u64) -> Gathered
     requires { memory_length ≤ length work.now }
     ensures { result ≡ gathered (plain_leaves_in (memory_of work.now) w) }
 {
     if tag(w) <= NUMBER {
-        return one_leaf(leaf_of(w));
+        return with_leaf(no_leaves(), leaf_of(w));
     }
     gather(work, 8, w, no_leaves())
 }

@@ -45,9 +45,7 @@ fn cell_count(r: Regs) -> usize
     requires { whole r.pools.cells ≤ cell_places }
     ensures { result ≡ whole r.pools.cells }
 {
-    let pools = r.pools;
-    let cells = pools.cells;
-    cells.whole()
+    r.pools.cells.whole()
 }
 
 // The report of a machine that halted, and its answer, in whose slots the result's leaves stand: the report's leaves are
@@ -59,19 +57,17 @@ fn put_answer(report: &mut [u8], work: &[u8], r: Regs, budget: u32, g: Gathered)
     let outcome = outcome_with(r.outcome);
     let steps = budget - (r.rest as u32);
     put_head(report, outcome, steps);
-    let count = g.count;
-    let slots = g.slots;
-    let at = put_leaves(report, 10, slots, count);
+    let leaves = g.slots;
+    let at = put_leaves(report, 10, leaves, g.count);
     let end = put_cells(report, at, work, cell_count(r));
-    let ending = Ending::Ended(outcome);
     Answer {
         verdict: Ok(()),
-        ending: ending,
-        steps: steps,
+        ending: Ending::Ended(outcome),
+        steps,
         log: r.logged,
         report: end,
-        count: count,
-        leaves: slots,
+        count: g.count,
+        leaves,
     }
 }
 

@@ -36,7 +36,7 @@ fn keep_value(work: &mut [u8], r: Regs, w: u64, x: u64, y: u64)
 // The body of the keep with word w is the atom at g: the keep is finished with its step.
 fn finish_keep(code: &[u64], work: &mut [u8], r: Regs, w: u64, g: usize) -> Regs
     requires { (term_count ≤ length code.now) × (memory_length ≤ length work.old) × (g < term_count) × ((size : ℕ) × Fits size r) }
-    ensures { (image : List ℕ) → Phase (λ S. if_fuel S (reduce.given w (atom_value (record { code = code.entry.now; image = image }) S.memory S.regs.env (code_at (record { code = code.entry.now; image = image }) g)) S)) work.old work.new r result }
+    ensures { (image : List ℕ) → Phase (λ S. if_fuel S (reduce.given w (atom_value (record { code = code.now; image = image }) S.memory S.regs.env (code_at (record { code = code.now; image = image }) g)) S)) work.old work.new r result }
 {
     if r.fuel <= FUEL_BIAS {
         return halt(r, outcomes::SPENT);
@@ -60,7 +60,7 @@ fn begin_body(work: &mut [u8], r: Regs, w: u64, x: u64, y: u64, t: usize) -> Reg
 
 fn start_keep(code: &[u64], work: &mut [u8], r: Regs, w: u64, x: u64, y: u64) -> Regs
     requires { (term_count ≤ length code.now) × (memory_length ≤ length work.old) × (depth_of w < r.frames) × ((size : ℕ) × Fits size r) }
-    ensures { (image : List ℕ) → Phase (start_keep (record { code = code.entry.now; image = image }) w x y) work.old work.new r result }
+    ensures { (image : List ℕ) → Phase (start_keep (record { code = code.now; image = image }) w x y) work.old work.new r result }
 {
     let g = field_c(w);
     if g < TERMS {
@@ -71,7 +71,7 @@ fn start_keep(code: &[u64], work: &mut [u8], r: Regs, w: u64, x: u64, y: u64) ->
 
 pub fn keep(code: &[u64], work: &mut [u8], r: Regs, w: u64, x: u64, y: u64) -> Regs
     requires { (term_count ≤ length code.now) × (memory_length ≤ length work.old) × ((size : ℕ) × Fits size r) }
-    ensures { (image : List ℕ) → Phase (λ S. judged w S (start_keep (record { code = code.entry.now; image = image }) w x y S)) work.old work.new r result }
+    ensures { (image : List ℕ) → Phase (λ S. judged w S (start_keep (record { code = code.now; image = image }) w x y S)) work.old work.new r result }
 {
     if r.frames <= depth_of(w) {
         return halt(r, outcomes::FRAMES);
@@ -79,16 +79,10 @@ pub fn keep(code: &[u64], work: &mut [u8], r: Regs, w: u64, x: u64, y: u64) -> R
     start_keep(code, work, r, w, x, y)
 }
 
-fn one_less(n: usize) -> usize
-    ensures { result ≡ n - 1 }
-{
-    if n == 0 { 0 } else { n - 1 }
-}
-
 // The keep whose slot has the word f is finished: a step at its own place.
 pub fn leave_keep(code: &[u64], work: &mut [u8], r: Regs, f: u64) -> Regs
     requires { (term_count ≤ length code.now) × (memory_length ≤ length work.old) × (r.frames ≤ frame_slots) }
-    ensures { (image : List ℕ) → Phase (leave_keep (record { code = code.entry.now; image = image }) f) work.old work.new r result }
+    ensures { (image : List ℕ) → Phase (leave_keep (record { code = code.now; image = image }) f) work.old work.new r result }
 {
     if r.fuel <= FUEL_BIAS {
         return halt(r, outcomes::SPENT);
@@ -96,7 +90,7 @@ pub fn leave_keep(code: &[u64], work: &mut [u8], r: Regs, f: u64) -> Regs
     let pc = slot_pc(f);
     let w = instruction(code, pc);
     let mut q = same(r);
-    q.kept = one_less(r.kept);
+    q.kept = r.kept.saturating_sub(1);
     q.frames = r.frames + (depth_of(w) + 1);
     q.env = slot_env(f);
     given(work, q, w, r.acc)

@@ -25,12 +25,10 @@ fn stack_pieces(work: &mut [u8], n: usize, p: usize) -> u64
     ensures { Stacks (stack_pieces n 0 p (stacked_in work.old bottom_value)) work.old work.new result }
 {
     let mut v = bottom();
-    let mut i: usize = 0;
-    while i < n {
+    for i in 0..n {
         let w = kept_at(work, i);
         put_piece(work, p + i, w, v);
         v = kept(p + i);
-        i += 1;
     }
     v
 }

@@ -13,7 +13,7 @@ ghost use Rattle.image_written.specs.TypeParts.{parts_first};
 ghost use Rattle.image_written.specs.Table.{enter, entered};
 ghost use Rattle.write_types.specs.Entries.{no_place, Entries, entries_of, PartsThere, kept_number};
 
-use read_records::fields::type_field;
+use read_records::fields::field_as;
 use read_records::numbers::TypeNo;
 use read_records::table::CLASS_TYPE;
 use read_terms::type_records::{type_fields, type_kind};
@@ -98,7 +98,7 @@ pub fn enter_type(
     let mut i: usize = 0;
     while i < known.count {
         if class_of(known, i) == CLASS_TYPE {
-            let part = type_field(fields, i);
+            let part = field_as(fields, i);
             m = enter_type(image, codes, types, places, order, m, part);
         }
         i += 1;

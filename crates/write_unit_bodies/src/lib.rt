@@ -14,7 +14,7 @@ ghost use Rattle.write_masks.specs.Masks.{in_mask};
 ghost use Rattle.write_unit_bodies.specs.UnitBodies.{UnitBodies};
 ghost use Rattle.write_unit_bodies.specs.WatchFields.{low_watch_in};
 
-use read_records::fields::{domain_field, term_field};
+use read_records::fields::field_as;
 use read_records::kinds;
 use read_records::numbers::TermNo;
 use read_terms::terms::{own_descriptor, term_fields, term_kind, term_place};
@@ -41,7 +41,7 @@ fn is_low_advice_or_lower(kind: u16, fields: &[u8], descriptors: &[u32], high: u
         return !in_mask(high, advice);
     }
     if kind == kinds::LOWER {
-        let lower = domain_field(fields, DOMAIN);
+        let lower = field_as(fields, DOMAIN);
         return !in_mask(high, lower);
     }
     false
@@ -52,7 +52,7 @@ fn put_unit_body(image: &[u8], terms: &[u16], fields: &[u8], copy: &mut [u8])
     requires { Terms image.now terms.now × AtField image.now fields.now 2 × (length copy.old ≡ length image.now) }
     ensures { copy.new ≡ set copy.old (term_place (records_of image.now) (field_in fields.now 2) + 2) (term_row TermKind.unit).number }
 {
-    let at = term_place(image, terms, term_field(fields, BODY));
+    let at = term_place(image, terms, field_as(fields, BODY));
     copy[at + KIND] = UNIT_BYTE;
 }
 

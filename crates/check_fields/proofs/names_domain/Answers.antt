@@ -2,4 +2,4 @@
 use Rattle.check_fields.proofs.names_domain.Goals as goal
 
 pub returns : goal.returns
-returns c = rw c.domain_field.ensures at c.has_domain.ensures
+returns c = rw c.field_as.ensures at c.has.ensures

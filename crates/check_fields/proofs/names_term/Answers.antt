@@ -2,4 +2,4 @@
 use Rattle.check_fields.proofs.names_term.Goals as goal
 
 pub returns : goal.returns
-returns c = rw c.term_field.ensures at c.has_term.ensures
+returns c = rw c.field_as.ensures at c.has.ensures

@@ -2,4 +2,4 @@
 use Rattle.check_fields.proofs.names_type.Goals as goal
 
 pub returns : goal.returns
-returns c = rw c.type_field.ensures at c.has_type.ensures
+returns c = rw c.field_as.ensures at c.has.ensures

@@ -95,7 +95,7 @@ put_type-new-requires c =
     let r = type_capacity R u p (typed e c.section_of.ensures c.if-section_of-eq-TYPES.true) in
     let d = R.tables.long.types in
     let l = R.tables.long.descriptors in
-    let n = c.next_type.ensures in
+    let n = c.next.ensures in
     (omega arith, rw n r, omega arith, omega arith, rw n R.filter, rw n (placed R))
 
 pub returns-in-Fault-new : goal.returns-in-Fault-new
@@ -104,10 +104,10 @@ returns-in-Fault-new c =
     let u : code_at c.args.kind ≡ 0 → ⊥ = λ z. c.if-code-eq0.false (e ∙ z) in
     let p = told _ _ c.in-Passed.is e c.first_fault-tested.ensures in
     let s = typed e c.section_of.ensures c.if-section_of-eq-TYPES.true in
-    record { entered = λ q R. repeated_entry R u p s (described e c.descriptor_of-descriptor.ensures) (rw c.next_type.ensures at c.put_type-new.ensures) c.in-Fault-new.is }
+    record { entered = λ q R. repeated_entry R u p s (described e c.descriptor_of-descriptor.ensures) (rw c.next.ensures at c.put_type-new.ensures) c.in-Fault-new.is }
 
-pub with_type-requires : goal.with_type-requires
-with_type-requires c = c.requires.is.tables.few
+pub with_one-requires : goal.with_one-requires
+with_one-requires c = c.requires.is.tables.few
 
 pub returns-in-Passed-new : goal.returns-in-Passed-new
 returns-in-Passed-new c =
@@ -115,7 +115,7 @@ returns-in-Passed-new c =
     let u : code_at c.args.kind ≡ 0 → ⊥ = λ z. c.if-code-eq0.false (e ∙ z) in
     let p = told _ _ c.in-Passed.is e c.first_fault-tested.ensures in
     let s = typed e c.section_of.ensures c.if-section_of-eq-TYPES.true in
-    record { entered = λ q R. rw c.with_type.ensures (type_entry R u p s (described e c.descriptor_of-descriptor.ensures) (rw c.next_type.ensures at c.put_type-new.ensures) c.in-Passed-new.is) }
+    record { entered = λ q R. rw c.with_one.ensures (type_entry R u p s (described e c.descriptor_of-descriptor.ensures) (rw c.next.ensures at c.put_type-new.ensures) c.in-Passed-new.is) }
 
 pub put_domain-requires : goal.put_domain-requires
 put_domain-requires c =
@@ -128,7 +128,7 @@ put_domain-requires c =
     let h = R.short in
     let r = domain_capacity R u p (no_term e c.is_term.ensures c.if-is_term.false) (untyped e c.section_of.ensures c.if-section_of-eq-TYPES.false) in
     let d = R.tables.long.doms in
-    let n = c.next_domain.ensures in
+    let n = c.next-2.ensures in
     (omega arith, omega arith)
 
 pub returns : goal.returns
@@ -136,4 +136,4 @@ returns c =
     let e = c.code_of-code.ensures in
     let u : code_at c.args.kind ≡ 0 → ⊥ = λ z. c.if-code-eq0.false (e ∙ z) in
     let p = told _ _ c.in-Passed.is e c.first_fault-tested.ensures in
-    record { entered = λ q R. rw (c.with_domain.ensures, c.put_domain.ensures, c.next_domain.ensures) (domain_entry R u p (no_term e c.is_term.ensures c.if-is_term.false) (untyped e c.section_of.ensures c.if-section_of-eq-TYPES.false)) }
+    record { entered = λ q R. rw (c.with_one-2.ensures, c.put_domain.ensures, c.next-2.ensures) (domain_entry R u p (no_term e c.is_term.ensures c.if-is_term.false) (untyped e c.section_of.ensures c.if-section_of-eq-TYPES.false)) }

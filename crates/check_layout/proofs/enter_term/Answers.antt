@@ -10,7 +10,7 @@ put_term-requires c =
     let p = c.requires in
     let r : c.args.counts.terms < term_limit = passed_capacity c.args.fields.now c.args.code c.args.counts c.term_fault-tested.result c.term_fault-tested.ensures.0 c.in-Passed.is p.0.term in
     let l = p.4 in
-    (p.2, omega (arith, c.next_term.ensures))
+    (p.2, omega (arith, c.next.ensures))
 
 pub returns-in-Fault : goal.returns-in-Fault
 returns-in-Fault c =
@@ -18,4 +18,4 @@ returns-in-Fault c =
 
 pub returns-in-Passed : goal.returns-in-Passed
 returns-in-Passed c =
-    term_passed _ _ _ _ c.term_fault-tested.ensures.0 c.in-Passed.is c.with_term.ensures (rw c.next_term.ensures at c.put_term.ensures) c.term_fault-tested.ensures.1
+    term_passed _ _ _ _ c.term_fault-tested.ensures.0 c.in-Passed.is c.with_one.ensures (rw c.next.ensures at c.put_term.ensures) c.term_fault-tested.ensures.1

@@ -9,14 +9,14 @@ returns-then-kind-eq-ADVICE c =
     let a = c.args in
     λ k e. c.domain_of.ensures ∙ (ap descriptor_domain c.own_descriptor.ensures ∙ advice_domain a.fields.now a.descriptors.now a.kind c.if-kind-eq-ADVICE.true k e)
 
-pub domain_field-requires : goal.domain_field-requires
-domain_field-requires c =
+pub field_as-requires : goal.field_as-requires
+field_as-requires c =
     c.requires.0.second (part_kind c.args.fields.now c.args.kind c.requires.0 TermKind.lower c.if-kind-eq-LOWER.true)
 
 pub returns-then-kind-eq-LOWER : goal.returns-then-kind-eq-LOWER
 returns-then-kind-eq-LOWER c =
     let a = c.args in
-    λ k e. c.domain_field.ensures ∙ lower_domain a.fields.now a.descriptors.now a.kind c.if-kind-eq-LOWER.true k e
+    λ k e. c.field_as.ensures ∙ lower_domain a.fields.now a.descriptors.now a.kind c.if-kind-eq-LOWER.true k e
 
 pub returns : goal.returns
 returns c =

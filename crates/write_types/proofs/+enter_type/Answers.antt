@@ -33,14 +33,14 @@ pub class_of-requires : goal.class_of-requires
 class_of-requires t c =
     (read c.requires.1 c.requires.3 c.type_kind.ensures c.type_fields-fields.ensures c.known_fields-known.ensures).asks c.loop-i.i (search rules)
 
-pub type_field-part-requires : goal.type_field-part-requires
-type_field-part-requires t c = (read c.requires.1 c.requires.3 c.type_kind.ensures c.type_fields-fields.ensures c.known_fields-known.ensures).inside c.loop-i.i (search rules)
+pub field_as-part-requires : goal.field_as-part-requires
+field_as-part-requires t c = (read c.requires.1 c.requires.3 c.type_kind.ensures c.type_fields-fields.ensures c.known_fields-known.ensures).inside c.loop-i.i (search rules)
 
 pub enter_type-m-requires : goal.enter_type-m-requires
 enter_type-m-requires t c =
     let i = c.loop-i in
     let l : i.i < c.known_fields-known.result.count = search rules in
-    let f : c.type_field-part.result.0 ≡ type_field (records_of c.args.image.now) c.args.t.0 i.i = (read c.requires.1 c.requires.3 c.type_kind.ensures c.type_fields-fields.ensures c.known_fields-known.ensures).number i.i l c.type_field-part.ensures in
+    let f : c.field_as-part.result.0 ≡ type_field (records_of c.args.image.now) c.args.t.0 i.i = (read c.requires.1 c.requires.3 c.type_kind.ensures c.type_fields-fields.ensures c.known_fields-known.ensures).number i.i l c.field_as-part.ensures in
     let e : class_number (get_or (sorts_at c.args.image.now c.args.t.0) i.i free) ≡ 0 = sym ((read c.requires.1 c.requires.3 c.type_kind.ensures c.type_fields-fields.ensures c.known_fields-known.ensures).class i.i l c.class_of.ensures) ∙ c.if-class_of-eq-CLASS_TYPE.true in
     let d = lower c.requires.1 c.requires.3 i.i (class_type _ e) in
     let m = c.requires.0 in
@@ -57,7 +57,7 @@ loop-i-preserved t c =
     elim c.if-class_of-eq-CLASS_TYPE.branch [
       | then-class_of-eq-CLASS_TYPE w ↦
           let v = w.enter_type-m in
-          let f : type_field (records_of c.args.image.now) c.args.t.0 i.i ≡ w.type_field-part.result.0 = sym (R.number i.i l w.type_field-part.ensures) in
+          let f : type_field (records_of c.args.image.now) c.args.t.0 i.i ≡ w.field_as-part.result.0 = sym (R.number i.i l w.field_as-part.ensures) in
           let p = part_entered c.requires.1 c.requires.3 i.i (omega arith) _ _ (sym a ∙ w.if-class_of-eq-CLASS_TYPE.true) i.invariant.4 in
           rw (w.places-is, w.order-is, w.m-is) (omega arith, v.auto.places ∙ i.invariant.1, v.auto.order ∙ i.invariant.2, v.ensures.0, v.ensures.1 ∙ ap (λ j. entered (entries_of c.args.image.now i.m i.order) (parts_first (type_of (records_of c.args.image.now) j))) (sym f) ∙ p)
       | else-class_of-eq-CLASS_TYPE w ↦

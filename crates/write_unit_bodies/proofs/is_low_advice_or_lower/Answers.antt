@@ -13,11 +13,11 @@ returns-then-kind-eq-ADVICE c =
 
 pub returns-then-kind-eq-LOWER : goal.returns-then-kind-eq-LOWER
 returns-then-kind-eq-LOWER c =
-    ap not (c.in_mask-then-kind-eq-LOWER.ensures ∙ ap (λ d. in_mask c.args.high d) c.domain_field-lower.ensures)
+    ap not (c.in_mask-then-kind-eq-LOWER.ensures ∙ ap (λ d. in_mask c.args.high d) c.field_as-lower.ensures)
     ∙ simp (ne_eqb _ _ c.if-kind-eq-ADVICE.false, eq-eqb _ _ c.if-kind-eq-LOWER.true)
 
-pub domain_field-lower-requires : goal.domain_field-lower-requires
-domain_field-lower-requires c = c.requires.2 c.if-kind-eq-LOWER.true
+pub field_as-lower-requires : goal.field_as-lower-requires
+field_as-lower-requires c = c.requires.2 c.if-kind-eq-LOWER.true
 
 pub returns : goal.returns
 returns c = simp (ne_eqb _ _ c.if-kind-eq-ADVICE.false, ne_eqb _ _ c.if-kind-eq-LOWER.false)

@@ -8,4 +8,4 @@ use Rattle.write_unit_bodies.proofs.put_unit_body.Goals as goal
 
 pub returns : goal.returns
 returns c =
-    ap (λ o. set c.args.copy.now (o + 2) 32) (c.term_place-at.ensures.0 ∙ ap (λ n. term_place (records_of c.args.image.now) n) c.term_field.ensures)
+    ap (λ o. set c.args.copy.now (o + 2) 32) (c.term_place-at.ensures.0 ∙ ap (λ n. term_place (records_of c.args.image.now) n) c.field_as.ensures)

@@ -15,8 +15,8 @@ overflow_mul-m c =
     let m = c.requires.2 in
     omega arith
 
-pub domain_field-requires : goal.domain_field-requires
-domain_field-requires c =
+pub field_as-requires : goal.field_as-requires
+field_as-requires c =
     let e : length c.type_fields.result.now ≡ 4 * method_count (records_of c.args.image.now) c.args.t.0 = ap length c.type_fields.ensures ∙ method_bytes c.requires.0 c.args.t.0 c.requires.1 in
     let m = c.requires.2 in
     omega arith
@@ -24,7 +24,7 @@ domain_field-requires c =
 pub returns : goal.returns
 returns c =
     let m = c.requires.2 in
-    c.domain_field.ensures ∙ (ap (λ fs. field_in fs (2 * c.args.m)) c.type_fields.ensures ∙ method_field c.requires.0 c.args.t.0 c.requires.1 (2 * c.args.m) (omega arith))
+    c.field_as.ensures ∙ (ap (λ fs. field_in fs (2 * c.args.m)) c.type_fields.ensures ∙ method_field c.requires.0 c.args.t.0 c.requires.1 (2 * c.args.m) (omega arith))
 
 pub type_fields-requires : goal.type_fields-requires
 type_fields-requires c = (c.requires.0, c.requires.1.there)

@@ -21,8 +21,8 @@ overflow_add-m c =
     let m = c.requires.2 in
     omega arith
 
-pub type_field-requires : goal.type_field-requires
-type_field-requires c =
+pub field_as-requires : goal.field_as-requires
+field_as-requires c =
     let e : length c.type_fields.result.now ≡ 4 * method_count (records_of c.args.image.now) c.args.t.0 = ap length c.type_fields.ensures ∙ method_bytes c.requires.0 c.args.t.0 c.requires.1 in
     let m = c.requires.2 in
     omega arith
@@ -30,7 +30,7 @@ type_field-requires c =
 pub returns : goal.returns
 returns c =
     let m = c.requires.2 in
-    c.type_field.ensures ∙ (ap (λ fs. field_in fs (2 * c.args.m + 1)) c.type_fields.ensures ∙ method_field c.requires.0 c.args.t.0 c.requires.1 (2 * c.args.m + 1) (omega arith))
+    c.field_as.ensures ∙ (ap (λ fs. field_in fs (2 * c.args.m + 1)) c.type_fields.ensures ∙ method_field c.requires.0 c.args.t.0 c.requires.1 (2 * c.args.m + 1) (omega arith))
 
 pub type_fields-requires : goal.type_fields-requires
 type_fields-requires c = (c.requires.0, c.requires.1.there)

@@ -10,11 +10,11 @@ enter_three-requires c =
     let y1 = both_told c.names_term.result c.both.result c.both-2.ensures y2.1 in
     let y0 = both_told c.names_term-2.result c.names_term-3.result c.both.ensures y1.1 in
     let l = c.requires.2 in
-    (omega (arith, c.next_term.ensures), child_told c.names_term.ensures y1.0 c.term_field.ensures l, child_told c.names_term-2.ensures y0.0 c.term_field-then-ok.ensures l, child_told c.names_term-3.ensures y0.1 c.term_field-then-ok-2.ensures l)
+    (omega (arith, c.next.ensures), child_told c.names_term.ensures y1.0 c.field_as.ensures l, child_told c.names_term-2.ensures y0.0 c.field_as-then-ok.ensures l, child_told c.names_term-3.ensures y0.1 c.field_as-then-ok-2.ensures l)
 
 pub returns-then-ok : goal.returns-then-ok
 returns-then-ok c =
-    (rw (c.both-ok.ensures, c.both-2.ensures, c.both.ensures, c.names_term-3.ensures, c.names_term-2.ensures, c.names_term.ensures, c.names_type.ensures) refl, rw c.if-ok.true (c.enter_three.ensures ∙ rw (c.next_term.ensures, c.term_field.ensures, c.term_field-then-ok.ensures, c.term_field-then-ok-2.ensures) refl))
+    (rw (c.both-ok.ensures, c.both-2.ensures, c.both.ensures, c.names_term-3.ensures, c.names_term-2.ensures, c.names_term.ensures, c.names_type.ensures) refl, rw c.if-ok.true (c.enter_three.ensures ∙ rw (c.next.ensures, c.field_as.ensures, c.field_as-then-ok.ensures, c.field_as-then-ok-2.ensures) refl))
 
 pub returns-else-ok : goal.returns-else-ok
 returns-else-ok c =

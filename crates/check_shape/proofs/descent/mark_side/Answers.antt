@@ -11,8 +11,8 @@ use Rattle.check_uses.proofs.ChildByChild.{side_length, side_is}
 use borrow.Author.Rules.{rules}
 use Rattle.check_shape.proofs.descent.mark_side.Goals as goal
 
-pub term_field-e-requires : goal.term_field-e-requires
-term_field-e-requires c =
+pub field_as-e-requires : goal.field_as-e-requires
+field_as-e-requires c =
     let p = c.requires.0 in
     omega (arith, c.child_count-count.ensures, c.field_count-first.ensures)
 
@@ -22,7 +22,7 @@ set_mark-requires c =
     let x = c.args.code in
     let fs = c.args.fields.now in
     let n : l.j < children_in x (length fs) = omega (arith, c.child_count-count.ensures) in
-    let e : c.term_field-e.result.0 ≡ get_or (side_of x fs) l.j 0 = c.term_field-e.ensures ∙ ap (λ i. field_in fs (i + l.j)) c.field_count-first.ensures ∙ side_is x fs l.j n in
+    let e : c.field_as-e.result.0 ≡ get_or (side_of x fs) l.j 0 = c.field_as-e.ensures ∙ ap (λ i. field_in fs (i + l.j)) c.field_count-first.ensures ∙ side_is x fs l.j n in
     let h = c.requires.1.at l.j (rw (side_length x fs) n) in
     omega arith
 
@@ -36,7 +36,7 @@ loop-j-preserved c =
     let cs = side_of x fs in
     let n : l.j < children_in x (length fs) = omega (arith, c.child_count-count.ensures) in
     let h : l.j < length cs = rw (side_length x fs) n in
-    let e : c.term_field-e.result.0 ≡ get_or cs l.j 0 = c.term_field-e.ensures ∙ ap (λ i. field_in fs (i + l.j)) c.field_count-first.ensures ∙ side_is x fs l.j n in
+    let e : c.field_as-e.result.0 ≡ get_or cs l.j 0 = c.field_as-e.ensures ∙ ap (λ i. field_in fs (i + l.j)) c.field_count-first.ensures ∙ side_is x fs l.j n in
     let r : c.set_mark.new.marks ≡ set l.depths (get_or cs l.j 0) a.d = rw e at m.ensures in
     (search rules, c.set_mark.auto.marks ∙ l.invariant.1, l.invariant.2 ∙ fold_next (λ ds n. set ds n a.d) cs l.depths l.j h ∙ ap (λ ds. set_all (drop (l.j + 1) cs) a.d ds) (sym r))
 

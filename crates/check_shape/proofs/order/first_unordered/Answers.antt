@@ -11,7 +11,7 @@ use Rattle.check_shape.proofs.order.first_unordered.Goals as goal
 pub returns-then-at_fault : goal.returns-then-at_fault
 returns-then-at_fault c =
     let l = c.loop-d in
-    sym (l.invariant.1 ∙ from_here _ _ _ _ l.d (omega arith) (ap not (sym c.at_fault.ensures ∙ c.if-at_fault.true)) ∙ ap (λ o. refused_at Refusal.DomainOrder o) (sym c.domain_offset.ensures))
+    sym (l.invariant.1 ∙ from_here _ _ _ _ l.d (omega arith) (ap not (sym c.at_fault.ensures ∙ c.if-at_fault.true)) ∙ ap (λ o. refused_at Refusal.DomainOrder o) (sym c.offset_of.ensures))
 
 pub loop-d-preserved : goal.loop-d-preserved
 loop-d-preserved c =

@@ -11,8 +11,8 @@ use Rattle.check_uses.proofs.ChildByChild.{high_next, high_end, side_length, sid
 use borrow.Author.Rules.{rules}
 use Rattle.check_uses.proofs.children.use_side.Goals as goal
 
-pub term_field-e-requires : goal.term_field-e-requires
-term_field-e-requires c =
+pub field_as-e-requires : goal.field_as-e-requires
+field_as-e-requires c =
     let p = c.requires.0 in
     omega (arith, c.child_count-count.ensures, c.field_count-first.ensures)
 
@@ -22,7 +22,7 @@ use_child-h-requires c =
     let x = c.args.code in
     let fs = c.args.fields.now in
     let n : l.j < children_in x (length fs) = omega (arith, c.child_count-count.ensures) in
-    let e : c.term_field-e.result.0 ≡ get_or (side_of x fs) l.j 0 = c.term_field-e.ensures ∙ ap (λ i. field_in fs (i + l.j)) c.field_count-first.ensures ∙ side_is x fs l.j n in
+    let e : c.field_as-e.result.0 ≡ get_or (side_of x fs) l.j 0 = c.field_as-e.ensures ∙ ap (λ i. field_in fs (i + l.j)) c.field_count-first.ensures ∙ side_is x fs l.j n in
     let h = c.requires.1.at l.j (rw (side_length x fs) n) in
     omega arith
 
@@ -37,7 +37,7 @@ loop-j-preserved c =
     let cs = side_of x fs in
     let n : l.j < children_in x (length fs) = omega (arith, c.child_count-count.ensures) in
     let i : l.j < length cs = rw (side_length x fs) n in
-    let e : c.term_field-e.result.0 ≡ get_or cs l.j 0 = c.term_field-e.ensures ∙ ap (λ y. field_in fs (y + l.j)) c.field_count-first.ensures ∙ side_is x fs l.j n in
+    let e : c.field_as-e.result.0 ≡ get_or cs l.j 0 = c.field_as-e.ensures ∙ ap (λ y. field_in fs (y + l.j)) c.field_count-first.ensures ∙ side_is x fs l.j n in
     let high : highest (drop l.j cs) l.marks l.h ≡ highest (drop (l.j + 1) cs) c.use_child-h.new.marks u.result = high_next cs l.marks l.j l.h i ∙ rw (u.ensures.0, u.ensures.1, e) refl in
     let uses : use_all (drop l.j cs) l.marks ≡ use_all (drop (l.j + 1) cs) c.use_child-h.new.marks = fold_next used cs l.marks l.j i ∙ rw (u.ensures.1, e) refl in
     (search rules, c.use_child-h.auto.marks ∙ l.invariant.1, l.invariant.2 ∙ high, l.invariant.3 ∙ uses)

@@ -6,7 +6,7 @@ use Rattle.read_records.proofs.fields.field_or_zero.Goals as goal
 pub returns-then-at-fields-2 : goal.returns-then-at-fields-2
 returns-then-at-fields-2 c =
     let a = c.args in
-    last_byte a.fields.now (2 * a.i) _ (search rules) c.wide.ensures
+    last_byte a.fields.now (2 * a.i) _ (search rules) c.from.ensures
 
 pub returns : goal.returns
 returns c =

@@ -17,7 +17,7 @@ loop-i-init c =
     let few = (layout_good c.args.image.now (records_of c.args.image.now) c.requires.0.laid_out).few_domains in
     let n = c.requires.1 in
     let z : c.args.table.now ≡ replicate domain_limit 0 = c.requires.2 in
-    (omega arith, omega arith, ap length z, λ k. ap (λ t. get_or t k 0) z ∙ filled_none domain_limit k (masks (records_of c.args.image.now)))
+    (omega arith, ap length z, λ k. ap (λ t. get_or t k 0) z ∙ filled_none domain_limit k (masks (records_of c.args.image.now)))
 
 pub loop-i-preserved : goal.loop-i-preserved
 loop-i-preserved c =
@@ -25,10 +25,9 @@ loop-i-preserved c =
     let n = c.requires.1 in
     let L = records_of c.args.image.now in
     let m : length (masks L) ≡ length L.domains = length-map L.domains (λ o. field_at L.image o 0) in (
-      omega arith,
-      i.1,
-      ap length c.set_mask.ensures ∙ length-set c.loop-i.table c.loop-i.i c.mask_of-mask.result ∙ i.2,
-      λ k. ap (λ t. get_or t k 0) c.set_mask.ensures ∙ ap (λ v. get_or (set c.loop-i.table c.loop-i.i v) k 0) c.mask_of-mask.ensures ∙ filled_more c.loop-i.table (masks L) c.loop-i.i (omega arith) (omega arith) i.3 k,
+      i.0,
+      ap length c.set_mask.ensures ∙ length-set c.loop-i.table c.loop-i.i c.mask_of-mask.result ∙ i.1,
+      λ k. ap (λ t. get_or t k 0) c.set_mask.ensures ∙ ap (λ v. get_or (set c.loop-i.table c.loop-i.i v) k 0) c.mask_of-mask.ensures ∙ filled_more c.loop-i.table (masks L) c.loop-i.i (omega arith) (omega arith) i.2 k,
     )
 
 pub returns : goal.returns
@@ -38,4 +37,4 @@ returns c =
     let L = records_of c.args.image.now in
     let m : length (masks L) ≡ length L.domains = length-map L.domains (λ o. field_at L.image o 0) in
     let e : c.loop-i.i ≡ length (masks L) = omega arith in
-    record { sixteen = i.2; each = λ k. i.3 k ∙ ap (λ j. get_or (take j (masks L)) k 0) e ∙ ap (λ l. get_or l k 0) (take-length (masks L)) }
+    record { sixteen = i.1; each = λ k. i.2 k ∙ ap (λ j. get_or (take j (masks L)) k 0) e ∙ ap (λ l. get_or l k 0) (take-length (masks L)) }

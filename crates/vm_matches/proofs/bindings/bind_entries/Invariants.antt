@@ -11,9 +11,6 @@ use Rattle.vm_matches.proofs.bindings.bind_entries.Given as goal
 
 abbrev pub invariant-loop-i : goal.invariant-loop-i
 invariant-loop-i l =
-    (l.i ≤ l.n) × (length l.work ≡ length l.initial.work) × (drop memory_length l.work ≡ drop memory_length l.initial.work) × (l.b.env < binding_places)
-    × ((C : Program) × (l.fields ≡ match_fields C.image l.w) × (l.b.count + variables C l.w (l.n - l.i) l.i ≤ binding_places))
-    × ((C : Program) → l.fields ≡ match_fields C.image l.w → bind_entries C l.w (count_of l.w) 0 l.v (chain_in l.initial.work l.initial.b) ≡ bind_entries C l.w (l.n - l.i) l.i l.rest (chain_in l.work l.b))
-
-abbrev pub decreases-loop-i : goal.decreases-loop-i
-decreases-loop-i l = l.n - l.i
+    (length l.work ≡ length l.initial.work) × (drop memory_length l.work ≡ drop memory_length l.initial.work) × (l.b.env < binding_places)
+    × ((C : Program) × (l.fields ≡ match_fields C.image l.w) × (l.b.count + variables C l.w (count_of l.w - l.i) l.i ≤ binding_places))
+    × ((C : Program) → l.fields ≡ match_fields C.image l.w → bind_entries C l.w (count_of l.w) 0 l.v (chain_in l.initial.work l.initial.b) ≡ bind_entries C l.w (count_of l.w - l.i) l.i l.rest (chain_in l.work l.b))

@@ -1,4 +1,4 @@
-use Prim.Native.Nat.{◌+◌, ◌*◌, ◌-◌, ◌≤◌}
+use Prim.Native.Nat.{◌+◌, ◌*◌, ◌≤◌}
 use mathlib.Core.Path.{◌≡◌}
 use lib.ListN.{length}
 use Rattle.base_bytes.specs.Bytes.{over}
@@ -9,11 +9,7 @@ use Rattle.vm_results.proofs.cells.put_cells.Given as goal
 
 abbrev pub invariant-loop-i : goal.invariant-loop-i
 invariant-loop-i l =
-    (l.i ≤ l.n)
-    × (l.o ≤ l.at + 70 * l.i)
+    (l.o ≤ l.at + 70 * l.i)
     × (length l.report ≡ length l.initial.report)
     × (l.o ≡ l.at + length (cells_bytes (cells_from (memory_of l.work) l.i 0)))
     × (l.report ≡ over l.at (cells_bytes (cells_from (memory_of l.work) l.i 0)) l.initial.report)
-
-abbrev pub decreases-loop-i : goal.decreases-loop-i
-decreases-loop-i l = l.n - l.i

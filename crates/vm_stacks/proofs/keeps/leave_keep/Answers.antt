@@ -16,4 +16,4 @@ given-requires c =
 pub returns : goal.returns
 returns c =
     let a = c.args in
-    λ image. keep_left (record { code = a.code.now; image = image }) a.work.now _ a.r _ a.f _ _ _ _ _ _ c.if-r-le-FUEL_BIAS.false c.slot_pc-pc.ensures c.instruction-w.ensures c.same-q.ensures c.depth_of.ensures c.one_less.ensures c.slot_env.ensures c.given.ensures
+    λ image. keep_left (record { code = a.code.now; image = image }) a.work.now _ a.r _ a.f _ _ _ _ _ _ c.if-r-le-FUEL_BIAS.false c.slot_pc-pc.ensures c.instruction-w.ensures c.same-q.ensures c.depth_of.ensures c.saturating_sub.ensures c.slot_env.ensures c.given.ensures
