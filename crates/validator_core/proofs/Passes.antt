@@ -47,7 +47,7 @@ shaped b v e h = (shape_accepts (records_of b) (length b)).0 (sym e ∙ accepted
 
 -- The scan stopped, or laid the image out.
 module _ (b ds ts ks es ms : List ℕ) (x : Scan) (short : length b ≤ image_limit) (s : Scanned x b ds ts ks es ms) where
-  pub stopped_answer : (r : Refusal) (o : ℕ) → x ≡ Scan.Stopped r o → Answered (refused_at r o) b ds ts ks es
+  pub stopped_answer : (r : Refusal) (o : ℕ) → x ≡ Scan.Stopped r o → Answered (Err (record { why = r; place = o })) b ds ts ks es
   unfolding examined in_turn
   stopped_answer r o e =
       let a : stopped r o ≡ layout b = ap (λ y. scan_of y b ds ts es) (sym e) ∙ s.answer in
