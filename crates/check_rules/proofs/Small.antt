@@ -28,6 +28,13 @@ unfolding all
 fails_first false bs h = refl
 fails_first true bs h = no_path h
 
+-- Two of three tests first.
+pub two_first : (a b c : Bool) → all (all (a ∷ b ∷ []) ∷ c ∷ []) ≡ all (a ∷ b ∷ c ∷ [])
+unfolding all
+two_first true true c = refl
+two_first true false c = refl
+two_first false b c = refl
+
 -- What a rule comes to.
 module _ (place : ℕ) where
   pub unbound : (b t d : Bool) → b ≡ false → Verdict.Refused Refusal.UnboundVariable place ≡ judged place (record { bound = b; typed = t; allowed = d })
