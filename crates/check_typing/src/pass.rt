@@ -35,8 +35,8 @@ fn fault_of(v: Verdict, n: TermNo) -> u64
 {
     match v {
         Verdict::Accepted => 0,
-        Verdict::Refused(why, _) => (refusal_number(why) % CAUSE_NUMBERS) as u64
-            + CAUSES * (n.0 as u64),
+        Verdict::Refused(why, _) => u64::from(refusal_number(why) % CAUSE_NUMBERS)
+            + CAUSES * u64::from(n.0),
     }
 }
 
@@ -60,9 +60,8 @@ fn check_subterms(
     let kind = term_kind(image, terms, n);
     let k = child_count(kind, term_fields(image, terms, n));
     let lead = lead_of(kind);
-    let here = Setting { len: len, dom: c };
-    let mut j: usize = 0;
-    while j < k {
+    let here = Setting { len, dom: c };
+    for j in 0..k {
         let fields = term_fields(image, terms, n);
         let e = child_of(kind, fields, lead, j);
         let p = child_setting(
@@ -91,7 +90,6 @@ fn check_subterms(
         if r != 0 {
             return r;
         }
-        j += 1;
     }
     0
 }
@@ -125,14 +123,12 @@ pub fn check_here(
     let fields = term_fields(image, terms, n);
     let k = child_count(kind, fields);
     let lead = lead_of(kind);
-    let mut j: usize = 0;
-    while j < k {
+    for j in 0..k {
         let e = child_at_field(fields, lead + j);
         let r = check_term(image, terms, descriptors, e, c, masks, scope, len, types);
         if r != 0 {
             return r;
         }
-        j += 1;
     }
     0
 }
