@@ -57,14 +57,12 @@ pub fn lookup(work: &[u8], env: usize, k: usize) -> u64
     ensures { result ≡ machine.lookup (memory_of work.now) env k }
 {
     let mut w = binding_at(work, env);
-    let mut i = k;
-    while 0 < i {
+    for _ in 0..k {
         let l = bound_link(w);
         if NO_BINDING <= l {
             return 0;
         }
         w = binding_at(work, l);
-        i -= 1;
     }
     w
 }
