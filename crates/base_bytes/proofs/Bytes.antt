@@ -1,12 +1,13 @@
 -- Laws of numbers in bytes, and of bytes written over others.
-use Prim.Native.Nat.{ℕ, zero, suc, ◌+◌, ◌*◌, ◌/◌, ◌%◌, ◌^◌, ◌≤◌, ◌<◌}
+use borrow.Rule.Slice.PartMut.{put_mid, post_of, Post-is}
+use Prim.Native.Nat.{ℕ, zero, suc, ◌+◌, ◌-◌, ◌*◌, ◌/◌, ◌%◌, ◌^◌, ◌≤◌, ◌<◌}
 use native.Mathlib.Omega.{arith}
 use native.Mathlib.Nat.{zero-add, suc-add, add-suc, mod-one, mod-eq_of_lt, div-div-eq-div-mul}
 use native.Mathlib.Numerals.{add-one}
 use mathlib.Core.Path.{◌≡◌, refl, sym, ap, ◌∙◌}
-use mathlib.Core.List.{List, [], ◌∷◌, ◌++◌}
+use mathlib.Core.List.{List, [], ◌∷◌, ◌++◌, append_assoc}
 use lib.Arith.{mod-mul}
-use lib.ListN.{length, get_or, take, drop, set, length-set}
+use lib.ListN.{length, get_or, take, drop, set}
 use lib.Seq.{sets, sets-eq, drop-cons}
 use Rattle.base_bytes.specs.Bytes.{AreBytes, bytes_of, number_of, over}
 
@@ -65,17 +66,12 @@ pub stores_over : (xs : List ℕ) (k v : ℕ) (vs : List ℕ) → k + suc (lengt
 unfolding over
 stores_over xs k v vs h = stores_sets (set xs k v) k 1 vs ∙ ap (λ i. sets (set xs k v) i vs) (add-one k) ∙ sets-eq (v ∷ vs) xs k h
 
--- Stores change no length, so what was inside is inside behind them.
-stores_length : (xs : List ℕ) (k j : ℕ) (vs : List ℕ) → length (stores xs k j vs) ≡ length xs
-unfolding stores
-stores_length xs k j [] = refl
-stores_length xs k j (v ∷ vs) = stores_length (set xs (k + j) v) k (suc j) vs ∙ length-set xs (k + j) v
-
-pub same_size : (xs : List ℕ) (k v : ℕ) (vs : List ℕ) → length (stores (set xs k v) k 1 vs) ≡ length xs
-same_size xs k v vs = stores_length (set xs k v) k 1 vs ∙ length-set xs k v
-
-pub inside_still : (xs : List ℕ) (k v : ℕ) (vs : List ℕ) {n : ℕ} → n < length xs → n < length (stores (set xs k v) k 1 vs)
-inside_still xs k v vs h = rw (same_size xs k v vs) h
+-- A part of n bytes from offset k on that has become bs is one write.
+pub put_over : (k n : ℕ) (bs xs : List ℕ) → length bs ≡ n → put_mid k (k + n - k) xs bs ≡ over k bs xs
+unfolding over
+put_over k n bs xs e =
+    let rest : post_of k (k + n - k) xs ≡ drop (k + length bs) xs = Post-is k (k + n) xs (omega arith) ∙ ap (λ m. drop (k + m) xs) (sym e) in
+    ap (λ q. take k xs ++ (bs ++ q)) rest ∙ sym (append_assoc (take k xs) bs (drop (k + length bs) xs))
 
 -- The bytes of a number, as code works them out: one division each.
 pub bytes2 : (n : ℕ) → n % 256 ∷ n / 256 % 256 ∷ [] ≡ bytes_of 2 n

@@ -6,7 +6,7 @@ ghost use Rattle.check_rules.specs.Rules.{rule_in};
 ghost use Rattle.read_terms.specs.Fields.{Typed, AtField};
 ghost use Rattle.check_rules.specs.Judged.{judged};
 
-use check_rules::judge::{all_three, both, judge};
+use check_rules::judge::judge;
 use image::DOMAIN_LIMIT;
 use read_records::kinds::{REFERENCE_TYPE, UNIT_TYPE};
 use read_records::numbers::DomainNo;
@@ -34,10 +34,7 @@ pub fn check_new_cell(
     let first = type_at_field(image, terms, fields, 1);
     judge(
         at,
-        both(
-            is_kind(own, REFERENCE_TYPE),
-            same_type(first_type(own), first),
-        ),
+        is_kind(own, REFERENCE_TYPE) && same_type(first_type(own), first),
         leq(masks, second_domain(own), c),
     )
 }
@@ -59,10 +56,7 @@ pub fn check_read(
     let first = descriptor_at_field(image, terms, descriptors, fields, 1);
     judge(
         at,
-        both(
-            is_kind(first, REFERENCE_TYPE),
-            same_type(first_type(first), t),
-        ),
+        is_kind(first, REFERENCE_TYPE) && same_type(first_type(first), t),
         leq(masks, c, second_domain(first)),
     )
 }
@@ -85,11 +79,9 @@ pub fn check_store(
     let second = type_at_field(image, terms, fields, 2);
     judge(
         at,
-        all_three(
-            is_kind(own, UNIT_TYPE),
-            is_kind(first, REFERENCE_TYPE),
-            same_type(first_type(first), second),
-        ),
+        is_kind(own, UNIT_TYPE)
+            && is_kind(first, REFERENCE_TYPE)
+            && same_type(first_type(first), second),
         leq(masks, second_domain(first), c),
     )
 }
@@ -112,7 +104,7 @@ pub fn check_lower(
     let p = DomainNo(other_field(fields));
     judge(
         at,
-        both(is_kind(own, UNIT_TYPE), is_kind(first, UNIT_TYPE)),
+        is_kind(own, UNIT_TYPE) && is_kind(first, UNIT_TYPE),
         leq(masks, p, c),
     )
 }

@@ -8,7 +8,7 @@ ghost use Rattle.check_rules.specs.Rules.{rule_in};
 ghost use Rattle.read_terms.specs.Fields.{Typed, AtField};
 ghost use Rattle.check_rules.specs.Judged.{judged};
 
-use check_rules::judge::{all_three, both, judge};
+use check_rules::judge::judge;
 use read_records::kinds::{FUNCTION_TYPE, NUMBER_TYPE, PAIR_TYPE, TRUTH_TYPE, UNIT_TYPE};
 use read_records::numbers::DomainNo;
 use read_terms::terms::{
@@ -33,11 +33,7 @@ pub fn check_sequence(
     let t = own_type(fields);
     let first = descriptor_at_field(image, terms, descriptors, fields, 1);
     let second = type_at_field(image, terms, fields, 2);
-    judge(
-        at,
-        both(is_kind(first, UNIT_TYPE), same_type(second, t)),
-        true,
-    )
+    judge(at, is_kind(first, UNIT_TYPE) && same_type(second, t), true)
 }
 
 // Print takes a number and gives unit.
@@ -55,7 +51,7 @@ pub fn check_print(
     let first = descriptor_at_field(image, terms, descriptors, fields, 1);
     judge(
         at,
-        both(is_kind(own, UNIT_TYPE), is_kind(first, NUMBER_TYPE)),
+        is_kind(own, UNIT_TYPE) && is_kind(first, NUMBER_TYPE),
         true,
     )
 }
@@ -77,11 +73,7 @@ pub fn check_choice(
     let third = type_at_field(image, terms, fields, 3);
     judge(
         at,
-        all_three(
-            is_kind(first, TRUTH_TYPE),
-            same_type(second, t),
-            same_type(third, t),
-        ),
+        is_kind(first, TRUTH_TYPE) && same_type(second, t) && same_type(third, t),
         true,
     )
 }
@@ -102,11 +94,9 @@ pub fn check_pair(
     let second = type_at_field(image, terms, fields, 2);
     judge(
         at,
-        all_three(
-            is_kind(own, PAIR_TYPE),
-            same_type(first_type(own), first),
-            same_type(second_type(own), second),
-        ),
+        is_kind(own, PAIR_TYPE)
+            && same_type(first_type(own), first)
+            && same_type(second_type(own), second),
         true,
     )
 }
@@ -125,11 +115,7 @@ pub fn check_split(
     let t = own_type(fields);
     let first = descriptor_at_field(image, terms, descriptors, fields, 1);
     let second = type_at_field(image, terms, fields, 2);
-    judge(
-        at,
-        both(is_kind(first, PAIR_TYPE), same_type(second, t)),
-        true,
-    )
+    judge(at, is_kind(first, PAIR_TYPE) && same_type(second, t), true)
 }
 
 // A function goes to the type of its body.
@@ -147,10 +133,7 @@ pub fn check_function(
     let first = type_at_field(image, terms, fields, 1);
     judge(
         at,
-        both(
-            is_kind(own, FUNCTION_TYPE),
-            same_type(third_type(own), first),
-        ),
+        is_kind(own, FUNCTION_TYPE) && same_type(third_type(own), first),
         true,
     )
 }
@@ -172,11 +155,9 @@ pub fn check_apply(
     let second = type_at_field(image, terms, fields, 2);
     judge(
         at,
-        all_three(
-            is_kind(first, FUNCTION_TYPE),
-            same_type(first_type(first), second),
-            same_type(third_type(first), t),
-        ),
+        is_kind(first, FUNCTION_TYPE)
+            && same_type(first_type(first), second)
+            && same_type(third_type(first), t),
         same_domain(second_domain(first), c),
     )
 }
@@ -204,11 +185,9 @@ pub fn check_arithmetic(
     let second = descriptor_at_field(image, terms, descriptors, fields, 3);
     judge(
         at,
-        all_three(
-            is_kind(own, result_kind(other_field(fields))),
-            is_kind(first, NUMBER_TYPE),
-            is_kind(second, NUMBER_TYPE),
-        ),
+        is_kind(own, result_kind(other_field(fields)))
+            && is_kind(first, NUMBER_TYPE)
+            && is_kind(second, NUMBER_TYPE),
         true,
     )
 }
@@ -228,7 +207,7 @@ pub fn check_byte(
     let first = descriptor_at_field(image, terms, descriptors, fields, 1);
     judge(
         at,
-        both(is_kind(own, NUMBER_TYPE), is_kind(first, NUMBER_TYPE)),
+        is_kind(own, NUMBER_TYPE) && is_kind(first, NUMBER_TYPE),
         true,
     )
 }

@@ -1,14 +1,16 @@
 // The rules of labels, marks, pointcuts and advice (document 01, "Typing").
-ghost use Rattle.std.specs.Prelude.{◌≡◌, ℕ, ◌<◌, List, length};
-ghost use Rattle.laws.specs.Tests.{all_of};
-ghost use Rattle.image.specs.Kinds.{TermKind};
+ghost use Rattle.std.specs.Prelude.{◌≡◌, ℕ, ◌<◌, List, [], ◌∷◌, length, eqb};
+ghost use Rattle.laws.specs.Tests.{all, all_of};
+ghost use Rattle.image.specs.Kinds.{TermKind, TypeKind};
+ghost use Rattle.read_records.specs.Descriptors.{descriptor_field0};
+ghost use Rattle.read_terms.specs.Descriptors.{descriptor_is};
 ghost use Rattle.verdict.specs.Settings.{Setting};
 ghost use Rattle.read_terms.specs.Lent.{Lent, Types, Masks};
 ghost use Rattle.read_terms.specs.Fields.{types_in, Typed, AtField, Labels};
 ghost use Rattle.check_rules.specs.Rules.{rule_in};
 ghost use Rattle.check_rules.specs.Judged.{judged, label_of, label_above};
 
-use check_rules::judge::{all_three, both, judge};
+use check_rules::judge::judge;
 use image::DOMAIN_LIMIT;
 use read_records::kinds::{ADVICE_TYPE, LABEL_TYPE, POINTCUT_TYPE, UNIT_TYPE};
 use read_records::numbers::{DomainNo, TypeNo};
@@ -56,13 +58,19 @@ pub fn check_mark(
     let second = type_at_field(image, terms, fields, 2);
     judge(
         at,
-        all_three(
-            is_kind(own, UNIT_TYPE),
-            is_kind(first, LABEL_TYPE),
-            same_type(first_type(first), second),
-        ),
+        is_kind(own, UNIT_TYPE)
+            && is_kind(first, LABEL_TYPE)
+            && same_type(first_type(first), second),
         same_domain(second_domain(first), c),
     )
+}
+
+// The descriptor is that of the type of labels of a.
+#[tactic(auto, unfolding(laws::specs::Tests::all))]
+fn is_label_of(descriptor: u32, a: TypeNo) -> bool
+    ensures { result ≡ all (descriptor_is descriptor TypeKind.label ∷ eqb (descriptor_field0 descriptor) a.0 ∷ []) }
+{
+    is_kind(descriptor, LABEL_TYPE) && same_type(first_type(descriptor), a)
 }
 
 // Of the labels behind a pointcut's type: each is a label of a; each has a domain that d is below.
@@ -70,16 +78,9 @@ fn labels_fit(image: &[u8], terms: &[u16], descriptors: &[u32], fields: &[u8], a
     requires { Lent image.now terms.now descriptors.now × Labels image.now fields.now }
     ensures { result ≡ all_of (label_of descriptors.now a.0) (types_in image.now fields.now TermKind.pcd) }
 {
-    let k = labels_in(fields);
-    let mut i: usize = 0;
-    while i < k {
+    for i in 0..labels_in(fields) {
         let descriptor = descriptor_at_field(image, terms, descriptors, fields, 1 + i);
-        if both(
-            is_kind(descriptor, LABEL_TYPE),
-            same_type(first_type(descriptor), a),
-        ) {
-            i += 1;
-        } else {
+        if !is_label_of(descriptor, a) {
             return false;
         }
     }
@@ -97,13 +98,9 @@ fn labels_above(
     requires { Lent image.now terms.now descriptors.now × Labels image.now fields.now }
     ensures { result ≡ all_of (label_above masks.now descriptors.now d.0) (types_in image.now fields.now TermKind.pcd) }
 {
-    let k = labels_in(fields);
-    let mut i: usize = 0;
-    while i < k {
+    for i in 0..labels_in(fields) {
         let descriptor = descriptor_at_field(image, terms, descriptors, fields, 1 + i);
-        if leq(masks, d, second_domain(descriptor)) {
-            i += 1;
-        } else {
+        if !leq(masks, d, second_domain(descriptor)) {
             return false;
         }
     }
@@ -125,7 +122,7 @@ pub fn check_pointcut(
     let own = own_descriptor(descriptors, fields);
     let fit = labels_fit(image, terms, descriptors, fields, first_type(own));
     let above = labels_above(image, masks, terms, descriptors, fields, second_domain(own));
-    judge(at, both(is_kind(own, POINTCUT_TYPE), fit), above)
+    judge(at, is_kind(own, POINTCUT_TYPE) && fit, above)
 }
 
 // An advice, of a domain that is below its pointcut's, has a unit body.
@@ -145,11 +142,7 @@ pub fn check_advice(
     let second = descriptor_at_field(image, terms, descriptors, fields, 2);
     judge(
         at,
-        all_three(
-            is_kind(own, ADVICE_TYPE),
-            is_kind(first, POINTCUT_TYPE),
-            is_kind(second, UNIT_TYPE),
-        ),
+        is_kind(own, ADVICE_TYPE) && is_kind(first, POINTCUT_TYPE) && is_kind(second, UNIT_TYPE),
         leq(masks, first_domain(own), second_domain(first)),
     )
 }
@@ -171,7 +164,7 @@ pub fn check_install(
     let first = descriptor_at_field(image, terms, descriptors, fields, 1);
     judge(
         at,
-        both(is_kind(own, UNIT_TYPE), is_kind(first, ADVICE_TYPE)),
+        is_kind(own, UNIT_TYPE) && is_kind(first, ADVICE_TYPE),
         leq(masks, first_domain(first), c),
     )
 }

@@ -49,13 +49,9 @@ fn bodies_fit(image: &[u8], types: &[u16], terms: &[u16], fields: &[u8], t: Type
     requires { TypeOffsets image.now types.now × Terms image.now terms.now × IsObject image.now t.0 × Bodies image.now fields.now × (count_in fields.now TermKind.obj ≡ method_count (records_of image.now) t.0) }
     ensures { result ≡ bodies_fit (describe (records_of image.now) t.0) 0 (described (records_of image.now) (types_in image.now fields.now TermKind.obj)) }
 {
-    let k = bodies_in(fields);
-    let mut i: usize = 0;
-    while i < k {
+    for i in 0..bodies_in(fields) {
         let body = type_at_field(image, terms, fields, 1 + i);
-        if same_type(method_type(image, types, t, i), body) {
-            i += 1;
-        } else {
+        if !same_type(method_type(image, types, t, i), body) {
             return false;
         }
     }
@@ -107,7 +103,7 @@ fn method_number(fields: &[u8]) -> usize
     requires { 5 < length fields.now }
     ensures { result ≡ field_in fields.now 2 }
 {
-    field(fields, 2) as usize
+    usize::from(field(fields, 2))
 }
 
 // The types of a call fit: a is an object's type, whose method m gives t.

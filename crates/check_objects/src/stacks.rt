@@ -10,7 +10,7 @@ ghost use Rattle.check_rules.specs.Rules.{rule_in};
 ghost use Rattle.read_terms.specs.Fields.{Typed, AtField, entry_terms, Entries};
 ghost use Rattle.check_rules.specs.Judged.{judged, cut_of};
 
-use check_rules::judge::{all_three, both, judge};
+use check_rules::judge::judge;
 use read_records::fields::field;
 use read_records::kinds::{LABEL_TYPE, POINTCUT_TYPE, STACK_TYPE};
 use read_records::numbers::{DomainNo, entry_term, type_descriptor};
@@ -51,11 +51,7 @@ pub fn check_keep(
     let body = type_at_field(image, terms, fields, 3);
     judge(
         at,
-        all_three(
-            is_kind(label, LABEL_TYPE),
-            same_type(first_type(label), value),
-            same_type(body, t),
-        ),
+        is_kind(label, LABEL_TYPE) && same_type(first_type(label), value) && same_type(body, t),
         same_domain(second_domain(label), c),
     )
 }
@@ -77,14 +73,11 @@ fn entries_fit(image: &[u8], terms: &[u16], descriptors: &[u32], fields: &[u8]) 
     requires { Lent image.now terms.now descriptors.now × Entries image.now fields.now }
     ensures { result ≡ all_of (cut_of (records_of image.now) descriptors.now) (entry_terms fields.now) }
 {
-    let n = entries_in(fields);
-    let mut i: usize = 0;
-    while i < n {
+    for i in 0..entries_in(fields) {
         let entry = field(fields, FIRST_ENTRY + i);
         if !entry_fits(image, terms, descriptors, entry) {
             return false;
         }
-        i += 1;
     }
     true
 }
@@ -107,10 +100,7 @@ pub fn check_match(
     let fit = entries_fit(image, terms, descriptors, fields);
     judge(
         at,
-        both(
-            is_kind(stack, STACK_TYPE),
-            all_three(same_type(first, t), same_type(second, t), fit),
-        ),
+        is_kind(stack, STACK_TYPE) && same_type(first, t) && same_type(second, t) && fit,
         true,
     )
 }

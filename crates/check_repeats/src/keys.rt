@@ -6,7 +6,6 @@ ghost use Rattle.std.specs.Prelude.{◌≡◌, not, ◌≤◌, ◌<◌, length};
 ghost use Rattle.check_repeats.specs.Keys.{key_count, filter_length, mixed, hash_of, key_of, place_of, bit_of, word_of, marked, has_bit, with_bit, with_mark, new_key, with_key, Filled};
 
 use image::TYPE_LIMIT;
-use laws::both;
 use read_records::fields::field;
 use read_records::kinds;
 use read_records::numbers::{TypeNo, descriptor_kind};
@@ -29,18 +28,15 @@ const FACTOR: u64 = 1640531527;
 fn mix(hash: u32, value: u16) -> u32
     ensures { result ≡ mixed hash value }
 {
-    ((hash as u64 + value as u64) * FACTOR / 65536 % RANGE) as u32
+    ((u64::from(hash) + u64::from(value)) * FACTOR / 65536 % RANGE) as u32
 }
 
 fn hash_of(fields: &[u8]) -> u32
     ensures { result ≡ hash_of fields.now }
 {
-    let n = fields.len() / 2;
     let mut hash: u32 = 1;
-    let mut i: usize = 0;
-    while i < n {
+    for i in 0..fields.len() / 2 {
         hash = mix(hash, field(fields, i));
-        i += 1;
     }
     hash
 }
@@ -59,7 +55,7 @@ pub fn key_of(fields: &[u8], descriptor: u32) -> u32
 fn place_of(key: u32) -> usize
     ensures { result ≡ place_of key }
 {
-    (key as u64 * FACTOR % RANGE / 4194304) as usize
+    (u64::from(key) * FACTOR % RANGE / 4194304) as usize
 }
 
 fn word_of(key: u32) -> usize
@@ -111,10 +107,8 @@ fn is_new_key(filter: &[u32], t: TypeNo, key: u32) -> bool
     ensures { result ≡ new_key t.0 filter.now key }
 {
     let mut new = true;
-    let mut i: u16 = 0;
-    while i < t.0 {
-        new = both(new, key != filter[i as usize]);
-        i += 1;
+    for i in 0..usize::from(t.0) {
+        new &= key != filter[i];
     }
     new
 }
@@ -124,10 +118,7 @@ pub fn has_key(filter: &[u32], t: TypeNo, key: u32) -> bool
     requires { Filled t.0 filter.now }
     ensures { result ≡ not (new_key t.0 filter.now key) }
 {
-    if is_marked(filter, key) {
-        return !is_new_key(filter, t, key);
-    }
-    false
+    is_marked(filter, key) && !is_new_key(filter, t, key)
 }
 
 // The key of the type t is put into the filter.

@@ -16,13 +16,10 @@ fn same_fields(a: &[u8], b: &[u8]) -> bool
     if a.len() != b.len() {
         return false;
     }
-    let n = a.len() / 2;
-    let mut i: usize = 0;
-    while i < n {
+    for i in 0..a.len() / 2 {
         if field(a, i) != field(b, i) {
             return false;
         }
-        i += 1;
     }
     true
 }
@@ -60,12 +57,10 @@ pub fn is_new_type(
     requires { (t.0 ≤ length types.now) × (t.0 ≤ length descriptors.now) × Placed image.now t.0 types.now }
     ensures { result ≡ new_type image.now fields.now t.0 types.now descriptors.now descriptor }
 {
-    let mut i: u16 = 0;
-    while i < t.0 {
+    for i in 0..t.0 {
         if is_equal_type(image, fields, descriptor, TypeNo(i), types, descriptors) {
             return false;
         }
-        i += 1;
     }
     true
 }

@@ -29,6 +29,22 @@ unfolding all
 fails_first false bs h = refl
 fails_first true bs h = no_path h
 
+-- Two of three tests first.
+pub two_first : (a b c : Bool) → all (all (a ∷ b ∷ []) ∷ c ∷ []) ≡ all (a ∷ b ∷ c ∷ [])
+unfolding all
+two_first true true c = refl
+two_first true false c = refl
+two_first false b c = refl
+
+-- A test before three others, from the left.
+pub three_behind : (a b c d : Bool) → all (all (all (a ∷ b ∷ []) ∷ c ∷ []) ∷ d ∷ []) ≡ all (a ∷ all (b ∷ c ∷ d ∷ []) ∷ [])
+unfolding all
+three_behind true true true true = refl
+three_behind true true true false = refl
+three_behind true true false d = refl
+three_behind true false c d = refl
+three_behind false b c d = refl
+
 -- What a rule comes to.
 module _ (place : ℕ) where
   pub unbound : (b t d : Bool) → b ≡ false → refused_at Refusal.UnboundVariable place ≡ judged place (record { bound = b; typed = t; allowed = d })

@@ -30,13 +30,7 @@ fn scope_type(scope: &[u8; SCOPE_LENGTH], i: usize) -> TypeNo
     requires { i < scope_length }
     ensures { result.0 ≡ get_or scope.now i 0 }
 {
-    TypeNo(wide(scope[i]))
-}
-
-fn wide(x: u8) -> u16
-    ensures { result ≡ x }
-{
-    x as u16
+    TypeNo(u16::from(scope[i]))
 }
 
 // Variable k, 0 the innermost, is in the scope, and of the type that it has there.
@@ -50,7 +44,7 @@ fn check_variable(
     requires { Typed image.now fields.now × (3 < length fields.now) × (len ≤ scope_length) }
     ensures { (c : ℕ) → result ≡ judged at (rule_in image.now fields.now TermKind.var (setting_in scope.now len c)) }
 {
-    let k = other_field(fields) as usize;
+    let k = usize::from(other_field(fields));
     if len <= k {
         return Err(image::Refused {
             why: image::Refusal::UnboundVariable,

@@ -54,13 +54,10 @@ fn bind_entries(
     requires { Lent image.now terms.now descriptors.now × Entries image.now fields.now × (length scope.old ≡ scope_length) × (len + entry_limit ≤ scope_length) }
     ensures { Binds scope.old scope.new len result (value_types (records_of image.now) (entry_terms fields.now)) × (result ≤ len + entry_limit) }
 {
-    let n = entries_in(fields);
     let mut used = len;
-    let mut i: usize = 0;
-    while i < n {
+    for i in 0..entries_in(fields) {
         let entry = field(fields, FIRST_ENTRY + i);
         used = bind_entry(image, terms, descriptors, scope, used, entry);
-        i += 1;
     }
     used
 }
@@ -77,16 +74,11 @@ pub fn match_setting(
     requires { Lent image.now terms.now descriptors.now × Passed image.now fields.now TermKind.match scope.old p.len p.dom.0 }
     ensures { ChildAt image.now fields.now TermKind.match 1 scope.old scope.new p.len p.dom.0 result.len result.dom.0 }
 {
-    let c = p.dom;
+    let used = bind_entries(image, terms, descriptors, scope, p.len, fields);
     if binds_rest(fields) {
         let stack = type_at_field(image, terms, fields, 1);
-        let used = bind_entries(image, terms, descriptors, scope, p.len, fields);
         bind(scope, used, stack);
-        return Setting {
-            len: used + 1,
-            dom: c,
-        };
+        return Setting { len: used + 1, ..p };
     }
-    let used = bind_entries(image, terms, descriptors, scope, p.len, fields);
-    Setting { len: used, dom: c }
+    Setting { len: used, ..p }
 }

@@ -67,10 +67,9 @@ fn split_setting(
     let second = second_type(pair);
     bind(scope, p.len, first);
     bind(scope, p.len + 1, second);
-    let c = p.dom;
     Setting {
         len: p.len + 2,
-        dom: c,
+        ..p
     }
 }
 
@@ -101,10 +100,9 @@ fn lower_setting(image: &[u8], scope: &[u8; SCOPE_LENGTH], p: Setting, fields: &
     requires { Passed image.now fields.now TermKind.lower scope.now p.len p.dom.0 }
     ensures { ChildAt image.now fields.now TermKind.lower 0 scope.now scope.now p.len p.dom.0 result.len result.dom.0 }
 {
-    let lower = DomainNo(other_field(fields));
     Setting {
-        len: p.len,
-        dom: lower,
+        dom: DomainNo(other_field(fields)),
+        ..p
     }
 }
 

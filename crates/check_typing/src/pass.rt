@@ -34,8 +34,8 @@ fn fault_of(v: Verdict, n: TermNo) -> u64
 {
     match v {
         Ok(()) => 0,
-        Err(refused) => (refusal_number(refused.why) % CAUSE_NUMBERS) as u64
-            + CAUSES * (n.0 as u64),
+        Err(refused) => u64::from(refusal_number(refused.why) % CAUSE_NUMBERS)
+            + CAUSES * u64::from(n.0),
     }
 }
 
@@ -59,9 +59,8 @@ fn check_subterms(
     let kind = term_kind(image, terms, n);
     let k = child_count(kind, term_fields(image, terms, n));
     let lead = lead_of(kind);
-    let here = Setting { len: len, dom: c };
-    let mut j: usize = 0;
-    while j < k {
+    let here = Setting { len, dom: c };
+    for j in 0..k {
         let fields = term_fields(image, terms, n);
         let e = child_of(kind, fields, lead, j);
         let p = child_setting(
@@ -90,7 +89,6 @@ fn check_subterms(
         if r != 0 {
             return r;
         }
-        j += 1;
     }
     0
 }
@@ -124,14 +122,12 @@ pub fn check_here(
     let fields = term_fields(image, terms, n);
     let k = child_count(kind, fields);
     let lead = lead_of(kind);
-    let mut j: usize = 0;
-    while j < k {
+    for j in 0..k {
         let e = child_at_field(fields, lead + j);
         let r = check_term(image, terms, descriptors, e, c, masks, scope, len, types);
         if r != 0 {
             return r;
         }
-        j += 1;
     }
     0
 }

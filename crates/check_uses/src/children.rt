@@ -26,12 +26,6 @@ fn used_mark(mark: u8) -> u8
     if mark < USED { mark + USED } else { AGAIN }
 }
 
-fn higher(h: u32, g: u32) -> u32
-    ensures { result ≡ max h g }
-{
-    if h < g { g } else { h }
-}
-
 // One use more of the term e. The greatest height so far is h; the greater of it and the term's. It is handed from child to child
 // as a word, since a byte would be widened again for each of them.
 fn use_child(marks: &mut [u8], e: TermNo, h: u32) -> u32
@@ -40,7 +34,7 @@ fn use_child(marks: &mut [u8], e: TermNo, h: u32) -> u32
 {
     let mark = mark_of(marks, e);
     set_mark(marks, e, used_mark(mark));
-    higher(h, (mark % USED) as u32)
+    h.max(u32::from(mark % USED))
 }
 
 // The height of the term n, whose children have at most the height h.
@@ -94,11 +88,9 @@ fn use_side(fields: &[u8], code: u32, marks: &mut [u8]) -> u32
     let first = read_records::table::field_count(code);
     let count = read_records::table::child_count(code, fields.len());
     let mut h: u32 = 0;
-    let mut j: usize = 0;
-    while j < count {
+    for j in 0..count {
         let e = read_records::fields::field_as(fields, first + j);
         h = use_child(marks, e, h);
-        j += 1;
     }
     h
 }
@@ -123,11 +115,9 @@ fn use_entries(fields: &[u8], code: u32, below: u32, marks: &mut [u8]) -> u32
     let first = before + read_records::table::child_count(code, fields.len());
     let count = read_records::table::entry_count(code, fields.len());
     let mut h = below;
-    let mut j: usize = 0;
-    while j < count {
+    for j in 0..count {
         let entry = read_records::fields::field(fields, first + j);
         h = use_entry(entry, h, marks);
-        j += 1;
     }
     h
 }

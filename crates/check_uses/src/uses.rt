@@ -5,14 +5,13 @@ ghost use Rattle.check_uses.specs.Marks.{is_once, FirstMisused};
 
 use crate::children::{AGAIN, USED};
 use crate::marks::mark_of;
-use laws::both;
 use read_records::numbers::TermNo;
 
 // The mark is that of a term that is used once.
 fn is_once(mark: u8) -> bool
     ensures { result ≡ is_once mark }
 {
-    both(USED <= mark, mark < AGAIN)
+    USED <= mark && mark < AGAIN
 }
 
 // Each term before the root is used once. There is no way out of the loop, so that many are tested at once.
@@ -21,10 +20,8 @@ fn all_once(marks: &[u8], root: TermNo) -> bool
     ensures { result ≡ all_below root.0 (λ k. is_once (get_or marks.now k 0)) }
 {
     let mut ok = true;
-    let mut i: u16 = 0;
-    while i < root.0 {
-        ok = both(ok, is_once(mark_of(marks, TermNo(i))));
-        i += 1;
+    for i in 0..root.0 {
+        ok &= is_once(mark_of(marks, TermNo(i)));
     }
     ok
 }
@@ -37,12 +34,10 @@ pub fn first_misused(marks: &[u8], root: TermNo) -> TermNo
     if all_once(marks, root) {
         return root;
     }
-    let mut i: u16 = 0;
-    while i < root.0 {
+    for i in 0..root.0 {
         if !is_once(mark_of(marks, TermNo(i))) {
             return TermNo(i);
         }
-        i += 1;
     }
     root
 }

@@ -12,7 +12,7 @@ pub const OUTSIDE_NUMBER: u16 = 19;
 
 // The eleven upper numbers, in the order in which they are printed; "other" ones are of the other domains' half (card 9). "Piece"
 // is document 01's word: the room that a pair, a pointcut or an advice takes.
-#[derive(Clone, Copy)]
+#[derive(Clone, Copy, Default)]
 pub struct Needs {
     pub steps: u32,
     pub bindings: u32,

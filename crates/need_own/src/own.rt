@@ -5,83 +5,58 @@ ghost use Rattle.need_sums.specs.Walks.{place_limit, step_needs, charged_needs, 
 use image_needs::Needs;
 use need_sums::positions::{Mode, Position};
 use need_sums::shapes::{Own, Role};
-use need_sums::sums::{add, no_needs, raise};
+use need_sums::sums::{add, raise};
 use read_records::numbers::{DomainNo, MAINLINE};
 
 // One step under so many unfinished terms.
 fn step_under(depth: u32) -> Needs
     ensures { result ≡ step_needs depth }
 {
-    let mut n = no_needs();
-    n.steps = 1;
-    n.frames = depth;
-    n
+    Needs {
+        steps: 1,
+        frames: depth,
+        ..Needs::default()
+    }
 }
 
 // With so many bindings, cells and pieces, charged to a domain (document 02, card 9).
 fn charged(n: Needs, dom: DomainNo, bindings: u32, cells: u32, pieces: u32) -> Needs
     ensures { result ≡ charged_needs n dom.0 bindings cells pieces }
 {
-    let mut m = n;
     if dom.0 == MAINLINE.0 {
-        m.bindings = bindings;
-        m.cells = cells;
-        m.pieces = pieces;
-        return m;
+        Needs {
+            bindings,
+            cells,
+            pieces,
+            ..n
+        }
+    } else {
+        Needs {
+            other_bindings: bindings,
+            other_cells: cells,
+            other_pieces: pieces,
+            ..n
+        }
     }
-    m.other_bindings = bindings;
-    m.other_cells = cells;
-    m.other_pieces = pieces;
-    m
 }
 
 // A term's own reduction; w is what all advice takes at a mark there.
 fn reduction(own: Own, s: Position, w: Needs) -> Needs
     ensures { result ≡ Rattle.need_sums.specs.Walks.reduction_needs own s w }
 {
-    let mut n = step_under(s.depth);
-    let c = s.dom;
+    let n = step_under(s.depth);
     match own {
-        Own::Nothing => no_needs(),
+        Own::Nothing => Needs::default(),
         Own::Step => n,
-        Own::Label => {
-            n.labels = 1;
-            n
-        }
-        Own::Print => {
-            n.log = 1;
-            n
-        }
-        Own::Advice => {
-            n.advice = 1;
-            n
-        }
-        Own::Cell => charged(n, c, 0, 1, 0),
-        Own::Piece => charged(n, c, 0, 0, 1),
-        Own::Advised => charged(n, c, 0, 0, 1),
-        Own::Binding => charged(n, c, 1, 0, 0),
-        Own::TwoBindings => charged(n, c, 2, 0, 0),
-        Own::Stack => charged(n, c, 0, 0, s.kept),
+        Own::Label => Needs { labels: 1, ..n },
+        Own::Print => Needs { log: 1, ..n },
+        Own::Advice => Needs { advice: 1, ..n },
+        Own::Cell => charged(n, s.dom, 0, 1, 0),
+        Own::Piece | Own::Advised => charged(n, s.dom, 0, 0, 1),
+        Own::Binding => charged(n, s.dom, 1, 0, 0),
+        Own::TwoBindings => charged(n, s.dom, 2, 0, 0),
+        Own::Stack => charged(n, s.dom, 0, 0, s.kept),
         Own::Mark => add(n, w),
-    }
-}
-
-fn is_advised(own: Own) -> bool
-    ensures { result ≡ Rattle.need_sums.specs.Walks.is_advised own }
-{
-    match own {
-        Own::Nothing => false,
-        Own::Step => false,
-        Own::Label => false,
-        Own::Print => false,
-        Own::Advice => false,
-        Own::Cell => false,
-        Own::Piece => false,
-        Own::Advised => true,
-        Own::Binding => false,
-        Own::TwoBindings => false,
-        Own::Stack => false,
-        Own::Mark => false,
     }
 }
 
@@ -90,13 +65,17 @@ fn advice_steps(own: Own, s: Position, p: DomainNo) -> Needs
     requires { s.depth ≤ place_limit }
     ensures { result ≡ Rattle.need_sums.specs.Walks.advice_needs own s p.0 }
 {
-    if is_advised(own) {
-        let mut n = no_needs();
-        n.steps = 2;
-        n.frames = s.depth + 1;
-        return charged(n, p, 1, 0, 0);
+    match own {
+        Own::Advised => {
+            let steps = Needs {
+                steps: 2,
+                frames: s.depth + 1,
+                ..Needs::default()
+            };
+            charged(steps, p, 1, 0, 0)
+        }
+        _ => Needs::default(),
     }
-    no_needs()
 }
 
 // What a term takes itself, by what is asked of it; w is what all advice takes at a mark that nothing encloses.
@@ -104,12 +83,10 @@ pub fn own_needs(own: Own, s: Position, p: DomainNo, w: Needs) -> Needs
     requires { s.depth ≤ place_limit }
     ensures { result ≡ own_needs own s p.0 w }
 {
-    let m = s.mode;
-    match m {
-        Mode::Skip => no_needs(),
+    match s.mode {
+        Mode::Skip | Mode::AllAdvice => Needs::default(),
         Mode::Program => reduction(own, s, raise(s.depth, w)),
-        Mode::Body => reduction(own, s, no_needs()),
-        Mode::AllAdvice => no_needs(),
+        Mode::Body => reduction(own, s, Needs::default()),
         Mode::InstalledAdvice => advice_steps(own, s, p),
     }
 }
@@ -118,30 +95,7 @@ pub fn own_needs(own: Own, s: Position, p: DomainNo, w: Needs) -> Needs
 pub fn is_branch(s: Position, role: Role) -> bool
     ensures { result ≡ Rattle.need_sums.specs.Walks.is_branch s role }
 {
-    let m = s.mode;
-    match m {
-        Mode::Skip => false,
-        Mode::Program => branches(role),
-        Mode::Body => branches(role),
-        Mode::AllAdvice => false,
-        Mode::InstalledAdvice => false,
-    }
-}
-
-fn branches(role: Role) -> bool
-    ensures { result ≡ Rattle.need_sums.specs.Walks.branches role }
-{
-    match role {
-        Role::Skipped => false,
-        Role::Operand => false,
-        Role::Lowered => false,
-        Role::Kept => false,
-        Role::Next => false,
-        Role::Branch => true,
-        Role::FirstBranch => true,
-        Role::AdviceBody => false,
-        Role::Installed => false,
-    }
+    matches!(s.mode, Mode::Program | Mode::Body) && matches!(role, Role::Branch | Role::FirstBranch)
 }
 
 // What a child that takes x adds to its parent: nothing, if it is a branch.
@@ -149,24 +103,9 @@ pub fn added(s: Position, role: Role, x: Needs) -> Needs
     ensures { result ≡ added_needs s role x }
 {
     if is_branch(s, role) {
-        return no_needs();
-    }
-    x
-}
-
-fn binds_variables(role: Role) -> bool
-    ensures { result ≡ Rattle.need_sums.specs.Walks.binds_variables role }
-{
-    match role {
-        Role::Skipped => false,
-        Role::Operand => false,
-        Role::Lowered => false,
-        Role::Kept => false,
-        Role::Next => false,
-        Role::Branch => false,
-        Role::FirstBranch => true,
-        Role::AdviceBody => false,
-        Role::Installed => false,
+        Needs::default()
+    } else {
+        x
     }
 }
 
@@ -174,11 +113,10 @@ fn binds_variables(role: Role) -> bool
 fn branch_bindings(s: Position, role: Role, variables: u32) -> Needs
     ensures { result ≡ Rattle.need_sums.specs.Walks.branch_needs s role variables }
 {
-    if binds_variables(role) {
-        let c = s.dom;
-        return charged(no_needs(), c, variables, 0, 0);
+    match role {
+        Role::FirstBranch => charged(Needs::default(), s.dom, variables, 0, 0),
+        _ => Needs::default(),
     }
-    no_needs()
 }
 
 // What a child offers as a branch: nothing if it is none.
@@ -186,7 +124,8 @@ pub fn chosen(s: Position, role: Role, variables: u32, x: Needs) -> Needs
     ensures { result ≡ chosen_needs s role variables x }
 {
     if is_branch(s, role) {
-        return add(branch_bindings(s, role, variables), x);
+        add(branch_bindings(s, role, variables), x)
+    } else {
+        Needs::default()
     }
-    no_needs()
 }

@@ -23,7 +23,7 @@ use Rattle.need_sums.specs.Sums.{cut}
 use Rattle.need_sums.specs.Walks.{shape_of, asked, advice_mode, is_advice_body, running_child, child_position, is_branch}
 use Rattle.need_sums.specs.Rows.{table_length, Changed, own_pieces, Summed}
 use Rattle.need_terms.specs.GivenToChildren.{branch_variables}
-use Rattle.need_walk.specs.Counted.{counted, term_at, skips}
+use Rattle.need_walk.specs.Counted.{counted, term_at}
 use Rattle.need_walk.proofs.Folds.{joined_at_of}
 use Rattle.need_walk.proofs.Shapes.{branch_numbers, added_by, offered_by}
 use Rattle.need_walk.proofs.Walked.{kind_at_lem, domain_at, role_of, own_at, sum_to, choice_to, sum_next, choice_next, through}
@@ -103,15 +103,8 @@ child_of_advice s role p h = look s.mode h
     look Mode.AllAdvice h = in_rounds role
     look Mode.InstalledAdvice h = in_round (is_advice_body role)
 
-pub skipped_row : (L : Layout) (s : Position) (n : ℕ) → skips s.mode ≡ true → (i : ℕ) → in_row L s n i ≡ none
-skipped_row L s n h i = look s.mode h
-  where
-    look : (m : Mode) → skips m ≡ true → in_row L (record { mode = m; dom = s.dom; depth = s.depth; kept = s.kept }) n i ≡ none
-    look Mode.Skip h = refl
-    look Mode.Program h = no_path (sym h)
-    look Mode.Body h = no_path (sym h)
-    look Mode.AllAdvice h = no_path (sym h)
-    look Mode.InstalledAdvice h = no_path (sym h)
+pub skipped_row : (L : Layout) (s : Position) (n : ℕ) → s.mode ≡ Mode.Skip → (i : ℕ) → in_row L s n i ≡ none
+skipped_row L s n h i = rw h refl
 
 -- The first j children of term n: their sum with what the term takes itself, and the dearest branch, at a place of a table.
 module _ (L : Layout) (n : ℕ) (s : Position) where
@@ -271,17 +264,11 @@ module _ (own sum choice all : ℕ → ℕ) (xs ys zs : List ℕ) (S : Sofar own
       C x l ∙ (plus_left (get_or zs x 0) (get_or xs x 0 + sum x) (choice x) (through_all x l) ∙ ap cut z)
 
 -- The dearer of two branches: one is added to the rows, the other to a copy of them, and the larger counts, row by row.
-module _ (first second : ℕ → ℕ) (rows more copied other after : List ℕ) (copy : Changed (λ x y. cut (y + get_or rows x 0)) 0 table_length (replicate table_length 0) copied)
-    (A : Summed first rows more) (B : Summed second copied other) (larger : Changed (λ x y. max y (get_or other x 0)) 0 table_length more after) where
-  pub dearer_added : Summed (λ x. max (first x) (second x)) rows after
-  dearer_added x l =
-      let r = get_or rows x 0 in
-      let z : ◌≡◌ {A = ℕ} (get_or (replicate table_length 0) x 0) 0 = get_or-replicate table_length x 0 0 l in
-      let c : get_or copied x 0 ≡ cut (get_or (replicate table_length 0) x 0 + r) = copy.within x (omega arith) l in
-      let same : cut (get_or copied x 0) ≡ cut r = omega arith in
-      let o : cut (get_or other x 0) ≡ cut (r + second x) = B x l ∙ plus_left (get_or copied x 0) r (second x) same in
-      ap cut (larger.within x (omega arith) l)
-      ∙ (max_left (get_or more x 0) (r + first x) (get_or other x 0) (A x l) ∙ (max_right (r + first x) (get_or other x 0) (r + second x) o ∙ ap cut (plus_max r (first x) (second x))))
+pub dearer_added : (first second : ℕ → ℕ) (rows more other after : List ℕ) → Summed first rows more → Summed second rows other → Changed (λ x y. max y (get_or other x 0)) 0 table_length more after → Summed (λ x. max (first x) (second x)) rows after
+dearer_added first second rows more other after A B larger x l =
+    let r = get_or rows x 0 in
+    ap cut (larger.within x (omega arith) l)
+    ∙ (max_left (get_or more x 0) (r + first x) (get_or other x 0) (A x l) ∙ (max_right (r + first x) (get_or other x 0) (r + second x) (B x l) ∙ ap cut (plus_max r (first x) (second x))))
 
 -- After the first j children: the rows.
 module _ (L : Layout) (n : ℕ) (s : Position) (own : Own) (before : List ℕ) where

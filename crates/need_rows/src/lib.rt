@@ -2,20 +2,19 @@
 // cards 6 and 10), by one walk over the terms of an image.
 #![tactic(auto)]
 
-ghost use Rattle.std.specs.Prelude.{◌≡◌, true, max, length};
+ghost use Rattle.std.specs.Prelude.{◌≡◌, true, max};
 ghost use Rattle.image.specs.Layout.{records_of};
 ghost use Rattle.read_terms.specs.Lent.{Lent, IsTerm};
-ghost use Rattle.need_sums.specs.Rows.{table_length, Summed};
+ghost use Rattle.need_sums.specs.Rows.{Summed};
 ghost use Rattle.need_walk.specs.Counted.{Placed};
 ghost use Rattle.need_rows.specs.Pieces.{in_row, piece_at, of_advice};
 
 use image::{TERM_LIMIT, TYPE_LIMIT};
 use need_own::own::is_branch;
-use need_own::rows::{TABLE, add_rows, charge_rows, raise_rows};
-use need_sums::positions::{Position, child_position};
-use need_sums::shapes::{role_at, shape_of};
+use need_own::rows::{TABLE, charge_rows, raise_rows};
+use need_sums::positions::{Mode, Position};
+use need_sums::shapes::shape_of;
 use need_terms::{child_in, part_domain};
-use need_walk::skips_all;
 use read_records::kinds;
 use read_records::numbers::TermNo;
 use read_terms::terms::{child_count, term_fields, term_kind};
@@ -37,17 +36,14 @@ fn add_branches(
     descriptors: &[u32; TYPE_LIMIT],
     both: Branches,
     s: Position,
-    rows: &mut [u32],
+    rows: &mut [u32; TABLE],
 )
-    requires { Lent image.now terms.now descriptors.now × (IsTerm image.now both.first.0 × Placed (records_of image.now) s both.first.0) × (IsTerm image.now both.second.0 × Placed (records_of image.now) s both.second.0) × (of_advice s.mode ≡ true) × (length rows.old ≡ table_length) }
+    requires { Lent image.now terms.now descriptors.now × (IsTerm image.now both.first.0 × Placed (records_of image.now) s both.first.0) × (IsTerm image.now both.second.0 × Placed (records_of image.now) s both.second.0) × (of_advice s.mode ≡ true) }
     ensures { Summed (λ x. max (piece_at (in_row (records_of image.now) s both.first.0) x) (piece_at (in_row (records_of image.now) s both.second.0) x)) rows.old rows.new }
 {
-    let first = both.first;
-    let second = both.second;
-    let mut other = [0u32; TABLE];
-    add_rows(&mut other, rows);
-    add_pieces(image, terms, descriptors, first, s, rows);
-    add_pieces(image, terms, descriptors, second, s, &mut other);
+    let mut other = *rows;
+    add_pieces(image, terms, descriptors, both.first, s, rows);
+    add_pieces(image, terms, descriptors, both.second, s, &mut other);
     raise_rows(rows, &other);
 }
 
@@ -59,13 +55,12 @@ pub fn add_pieces(
     descriptors: &[u32; TYPE_LIMIT],
     n: TermNo,
     s: Position,
-    rows: &mut [u32],
+    rows: &mut [u32; TABLE],
 )
-    requires { Lent image.now terms.now descriptors.now × IsTerm image.now n.0 × Placed (records_of image.now) s n.0 × (of_advice s.mode ≡ true) × (length rows.old ≡ table_length) }
+    requires { Lent image.now terms.now descriptors.now × IsTerm image.now n.0 × Placed (records_of image.now) s n.0 × (of_advice s.mode ≡ true) }
     ensures { Summed (piece_at (in_row (records_of image.now) s n.0)) rows.old rows.new }
 {
-    let mode = s.mode;
-    if skips_all(mode) {
+    if s.mode == Mode::Skip {
         return;
     }
     let kind = term_kind(image, terms, n);
@@ -74,22 +69,18 @@ pub fn add_pieces(
     }
     let fields = term_fields(image, terms, n);
     let shape = shape_of(kind);
-    let own = shape.own;
     let p = part_domain(kind, fields, descriptors);
     let k = child_count(kind, fields);
-    let mut j: usize = 0;
-    while j < k {
-        let role = role_at(shape, j);
+    for j in 0..k {
+        let role = shape.role_at(j);
         if !is_branch(s, role) {
             let e = child_in(kind, fields, j);
-            let q = child_position(s, role, p);
+            let q = s.child_position(role, p);
             add_pieces(image, terms, descriptors, e, q, rows);
         }
-        j += 1;
     }
-    charge_rows(rows, own, s);
-    let second = shape.second;
-    if is_branch(s, second) {
+    charge_rows(rows, shape.own, s);
+    if is_branch(s, shape.second) {
         let both = Branches {
             first: child_in(kind, fields, 1),
             second: child_in(kind, fields, 2),

@@ -1,2 +1,3 @@
--- Laws of the table of shapes.
+-- Laws of the table of shapes, and of numbers made of two.
 pub mod Tables
+pub mod Joined

@@ -1,5 +1,5 @@
--- The kinds that take a step alone, and the roles of later children: what stands behind the last arm of a match.
-use Prim.Native.Nat.{ℕ, zero, suc}
+-- The kinds that take a step alone: what stands behind the last arm of a match.
+use Prim.Native.Nat.{ℕ}
 use mathlib.Core.Path.{◌≡◌, refl, sym}
 use mathlib.Core.Bool.{Bool, true, false}
 use mathlib.Core.List.{List, [], ◌∷◌}
@@ -12,7 +12,7 @@ use Rattle.read_terms.proofs.Elimination.{apart, left_over}
 use Rattle.need_sums.specs.declared.shapes.Own.{Own}
 use Rattle.need_sums.specs.declared.shapes.Role.{Role}
 use Rattle.need_sums.specs.declared.shapes.Shape.{Shape}
-use Rattle.need_sums.specs.Walks.{childless, shape_of, role_at}
+use Rattle.need_sums.specs.Walks.{childless, shape_of}
 
 -- The kinds with an arm of their own.
 abbrev listed : List TermKind
@@ -84,9 +84,3 @@ is_plain_lem s h =
 pub plain_shape : (m : ℕ) → apart m listed → (k : TermKind) → m ≡ (term_row k).number → shape_of k ≡ childless Own.Step
 unfolding every_of all
 plain_shape m r k e = is_plain_lem (shape_of k) (left_over (λ k. is_plain (shape_of k)) listed refl m r k e)
-
-pub rest_role : (s : Shape) (j : ℕ) → (j ≡ 0 → ⊥) → (j ≡ 1 → ⊥) → (j ≡ 2 → ⊥) → role_at s j ≡ s.rest
-rest_role s zero a b c = absurd (a refl)
-rest_role s (suc zero) a b c = absurd (b refl)
-rest_role s (suc (suc zero)) a b c = absurd (c refl)
-rest_role s (suc (suc (suc j))) a b c = refl

@@ -1,5 +1,5 @@
 -- The eleven numbers of card 10 (document 02) in 32 bits: a sum stops at the largest.
-use Rattle.std.specs.Prelude.{ℕ, ◌+◌, min, max, eqb}
+use Rattle.std.specs.Prelude.{ℕ, ◌+◌, ◌≡◌, min, max, eqb}
 use Rattle.calculus.specs.Combinators.{choose}
 use Rattle.calculus_needs.specs.Numbers.{Numbers}
 use Rattle.image_needs.specs.declared.Needs.{Needs}
@@ -40,6 +40,20 @@ no_needs = record {
   frames = 0;
   log = 0;
 }
+
+-- Of two, each number but frames by a rule that says when a number is made of two; of frames the larger.
+pub record JoinedBy (join : ℕ → ℕ → ℕ → Type 0) (a b n : Needs) : Type 0 where
+  pub steps : join a.steps b.steps n.steps
+  pub bindings : join a.bindings b.bindings n.bindings
+  pub other_bindings : join a.other_bindings b.other_bindings n.other_bindings
+  pub pieces : join a.pieces b.pieces n.pieces
+  pub other_pieces : join a.other_pieces b.other_pieces n.other_pieces
+  pub cells : join a.cells b.cells n.cells
+  pub other_cells : join a.other_cells b.other_cells n.other_cells
+  pub labels : join a.labels b.labels n.labels
+  pub advice : join a.advice b.advice n.advice
+  pub frames : n.frames ≡ max a.frames b.frames
+  pub log : join a.log b.log n.log
 
 unfoldable pub add_needs : Needs → Needs → Needs
 add_needs a b = record {

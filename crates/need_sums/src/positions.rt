@@ -7,7 +7,7 @@ use read_records::numbers::DomainNo;
 
 // What is asked of a term: nothing; what it takes where it stands, in the program or in the body of an advice; or what the advice
 // that it installs takes at a mark, where the term is what is installed or is not.
-#[derive(Clone, Copy)]
+#[derive(Clone, Copy, PartialEq, Eq)]
 pub enum Mode {
     Skip,
     Program,
@@ -25,140 +25,80 @@ pub struct Position {
     pub kept: u32,
 }
 
-fn skipped(s: Position) -> Position
-    ensures { result ≡ Rattle.need_sums.specs.Walks.skipped s }
-{
-    let c = s.dom;
-    Position {
-        mode: Mode::Skip,
-        dom: c,
-        depth: s.depth,
-        kept: s.kept,
-    }
-}
-
-// Inside the parent, at the domain p.
-fn inside(s: Position, p: DomainNo) -> Position
-    requires { s.depth ≤ place_limit }
-    ensures { result ≡ Rattle.need_sums.specs.Walks.inside s p.0 }
-{
-    let m = s.mode;
-    Position {
-        mode: m,
-        dom: p,
-        depth: s.depth + 1,
-        kept: s.kept,
-    }
-}
-
-// Inside the parent, at its domain.
-fn deeper(s: Position) -> Position
-    requires { s.depth ≤ place_limit }
-    ensures { result ≡ Rattle.need_sums.specs.Walks.inside s s.dom.0 }
-{
-    let c = s.dom;
-    inside(s, c)
-}
-
-// A child of a term that runs.
-fn running_child(s: Position, role: Role, p: DomainNo) -> Position
-    requires { (s.depth ≤ place_limit) × (s.kept ≤ place_limit) }
-    ensures { result ≡ Rattle.need_sums.specs.Walks.running_child s role p.0 }
-{
-    match role {
-        Role::Skipped => skipped(s),
-        Role::AdviceBody => skipped(s),
-        Role::Lowered => inside(s, p),
-        Role::Kept => {
-            let m = s.mode;
-            let c = s.dom;
-            Position {
-                mode: m,
-                dom: c,
-                depth: s.depth + 1,
-                kept: s.kept + 1,
-            }
-        }
-        Role::Operand => deeper(s),
-        Role::Installed => deeper(s),
-        Role::Next => s,
-        Role::Branch => s,
-        Role::FirstBranch => s,
-    }
-}
-
-fn asked(s: Position, mode: Mode) -> Position
-    ensures { result ≡ Rattle.need_sums.specs.Walks.asked s mode }
-{
-    let c = s.dom;
-    Position {
-        mode: mode,
-        dom: c,
-        depth: s.depth,
-        kept: s.kept,
-    }
-}
-
 // What is asked of a child of a term of which it is asked what its advice takes.
 fn advice_mode(role: Role) -> Mode
     ensures { result ≡ Rattle.need_sums.specs.Walks.advice_mode role }
 {
     match role {
-        Role::Skipped => Mode::Skip,
-        Role::Operand => Mode::AllAdvice,
-        Role::Lowered => Mode::AllAdvice,
-        Role::Kept => Mode::AllAdvice,
-        Role::Next => Mode::AllAdvice,
-        Role::Branch => Mode::AllAdvice,
-        Role::FirstBranch => Mode::AllAdvice,
-        Role::AdviceBody => Mode::Skip,
+        Role::Skipped | Role::AdviceBody => Mode::Skip,
         Role::Installed => Mode::InstalledAdvice,
+        _ => Mode::AllAdvice,
     }
 }
 
-fn is_advice_body(role: Role) -> bool
-    ensures { result ≡ Rattle.need_sums.specs.Walks.is_advice_body role }
-{
-    match role {
-        Role::Skipped => false,
-        Role::Operand => false,
-        Role::Lowered => false,
-        Role::Kept => false,
-        Role::Next => false,
-        Role::Branch => false,
-        Role::FirstBranch => false,
-        Role::AdviceBody => true,
-        Role::Installed => false,
+impl Position {
+    fn asked(self, mode: Mode) -> Self
+        ensures { result ≡ Rattle.need_sums.specs.Walks.asked self mode }
+    {
+        Self { mode, ..self }
     }
-}
 
-// A child of what is installed: the body of an advice runs lowered to its domain, in a sequence (document 003, figure 5).
-fn installed_child(s: Position, role: Role, p: DomainNo) -> Position
-    requires { s.depth ≤ place_limit }
-    ensures { result ≡ Rattle.need_sums.specs.Walks.installed_child s role p.0 }
-{
-    if is_advice_body(role) {
-        return Position {
-            mode: Mode::Body,
+    // Inside the parent, at the domain p.
+    fn inside(self, p: DomainNo) -> Self
+        requires { self.depth ≤ place_limit }
+        ensures { result ≡ Rattle.need_sums.specs.Walks.inside self p.0 }
+    {
+        Self {
             dom: p,
-            depth: s.depth + 2,
-            kept: s.kept,
-        };
+            depth: self.depth + 1,
+            ..self
+        }
     }
-    asked(s, advice_mode(role))
-}
 
-// A child with a role; p is the domain that the term gives to a body.
-pub fn child_position(s: Position, role: Role, p: DomainNo) -> Position
-    requires { (s.depth ≤ place_limit) × (s.kept ≤ place_limit) }
-    ensures { result ≡ child_position s role p.0 }
-{
-    let m = s.mode;
-    match m {
-        Mode::Skip => s,
-        Mode::Program => running_child(s, role, p),
-        Mode::Body => running_child(s, role, p),
-        Mode::AllAdvice => asked(s, advice_mode(role)),
-        Mode::InstalledAdvice => installed_child(s, role, p),
+    // A child of a term that runs.
+    fn running_child(self, role: Role, p: DomainNo) -> Self
+        requires { (self.depth ≤ place_limit) × (self.kept ≤ place_limit) }
+        ensures { result ≡ Rattle.need_sums.specs.Walks.running_child self role p.0 }
+    {
+        match role {
+            Role::Skipped | Role::AdviceBody => self.asked(Mode::Skip),
+            Role::Operand | Role::Installed => self.inside(self.dom),
+            Role::Lowered => self.inside(p),
+            Role::Kept => Self {
+                depth: self.depth + 1,
+                kept: self.kept + 1,
+                ..self
+            },
+            Role::Next | Role::Branch | Role::FirstBranch => self,
+        }
+    }
+
+    // A child of what is installed: the body of an advice runs lowered to its domain, in a sequence (document 003, figure 5).
+    fn installed_child(self, role: Role, p: DomainNo) -> Self
+        requires { self.depth ≤ place_limit }
+        ensures { result ≡ Rattle.need_sums.specs.Walks.installed_child self role p.0 }
+    {
+        match role {
+            Role::AdviceBody => Self {
+                mode: Mode::Body,
+                dom: p,
+                depth: self.depth + 2,
+                kept: self.kept,
+            },
+            _ => self.asked(advice_mode(role)),
+        }
+    }
+
+    // A child with a role; p is the domain that the term gives to a body.
+    pub fn child_position(self, role: Role, p: DomainNo) -> Self
+        requires { (self.depth ≤ place_limit) × (self.kept ≤ place_limit) }
+        ensures { result ≡ child_position self role p.0 }
+    {
+        match self.mode {
+            Mode::Skip => self,
+            Mode::Program | Mode::Body => self.running_child(role, p),
+            Mode::AllAdvice => self.asked(advice_mode(role)),
+            Mode::InstalledAdvice => self.installed_child(role, p),
+        }
     }
 }

@@ -8,7 +8,7 @@ use read_records::kinds;
 // What a term's own reduction takes: nothing, if it has none; else a step, and besides a label, a log record, an installed
 // advice, a cell, a piece (of an advice or of something else), bindings, a piece for each kept value, or what all advice takes
 // at a mark.
-#[derive(Clone, Copy)]
+#[derive(Clone, Copy, PartialEq, Eq)]
 pub enum Own {
     Nothing,
     Step,
@@ -27,7 +27,7 @@ pub enum Own {
 // What becomes of a child: it does not run; it is worked out first, inside its parent, at its domain or lowered, or while a
 // value is kept; it is what goes on in its parent's place, or one of two such, of which the first may bind variables; it is the
 // body of an advice; it is what is installed.
-#[derive(Clone, Copy)]
+#[derive(Clone, Copy, PartialEq, Eq)]
 pub enum Role {
     Skipped,
     Operand,
@@ -54,7 +54,7 @@ fn childless(own: Own) -> Shape
     ensures { result ≡ Rattle.need_sums.specs.Walks.childless own }
 {
     Shape {
-        own: own,
+        own,
         first: Role::Skipped,
         second: Role::Skipped,
         third: Role::Skipped,
@@ -66,11 +66,8 @@ fn one(own: Own, first: Role) -> Shape
     ensures { result ≡ Rattle.need_sums.specs.Walks.one own first }
 {
     Shape {
-        own: own,
-        first: first,
-        second: Role::Skipped,
-        third: Role::Skipped,
-        rest: Role::Skipped,
+        first,
+        ..childless(own)
     }
 }
 
@@ -79,11 +76,8 @@ fn two(own: Own, second: Role) -> Shape
     ensures { result ≡ Rattle.need_sums.specs.Walks.two own second }
 {
     Shape {
-        own: own,
-        first: Role::Operand,
-        second: second,
-        third: Role::Skipped,
-        rest: Role::Skipped,
+        second,
+        ..one(own, Role::Operand)
     }
 }
 
@@ -91,11 +85,9 @@ fn three(second: Role, third: Role, rest: Role) -> Shape
     ensures { result ≡ Rattle.need_sums.specs.Walks.three second third rest }
 {
     Shape {
-        own: Own::Step,
-        first: Role::Operand,
-        second: second,
-        third: third,
-        rest: rest,
+        third,
+        rest,
+        ..two(Own::Step, second)
     }
 }
 
@@ -142,18 +134,16 @@ pub fn shape_of(kind: u16) -> Shape
     }
 }
 
-// The role of child j.
-pub fn role_at(s: Shape, j: usize) -> Role
-    ensures { result ≡ role_at s j }
-{
-    if j == 0 {
-        return s.first;
+impl Shape {
+    // The role of child j.
+    pub fn role_at(self, j: usize) -> Role
+        ensures { result ≡ role_at self j }
+    {
+        match j {
+            0 => self.first,
+            1 => self.second,
+            2 => self.third,
+            _ => self.rest,
+        }
     }
-    if j == 1 {
-        return s.second;
-    }
-    if j == 2 {
-        return s.third;
-    }
-    s.rest
 }

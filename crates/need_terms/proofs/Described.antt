@@ -12,7 +12,7 @@ use Rattle.calculus.specs.Syntax.{Pattern, at_end, at_rest, anything, pointcut}
 use Rattle.calculus.specs.Plain.{dom_of}
 use Rattle.calculus_needs.specs.Needs.{variables}
 use Rattle.laws.proofs.Booleans.{eq_of}
-use Rattle.image.specs.Bytes.{words, length_at}
+use Rattle.image.specs.Bytes.{words, length_at, number_at}
 use Rattle.image.specs.Kinds.{TermKind, term_row, is_kind}
 use Rattle.image.specs.Program.{pattern_of}
 use Rattle.image.specs.Records.{Layout, times, numbers_at}
@@ -37,28 +37,6 @@ use Rattle.need_terms.specs.GivenToChildren.{part_domain, branch_variables, with
 lower_field : (fs : List ℕ) → field_in fs 1 ≡ get_or (others_in fs TermKind.lower) 0 0
 unfolding words
 lower_field fs = refl
-
--- What a part says, by the number q of the kind.
-module _ (fs descriptors : List ℕ) (q : ℕ) where
-  pub advice_domain : q ≡ 47 → (k : TermKind) → q ≡ (term_row k).number → descriptor_domain (get_or descriptors (field_in fs 0) 0) ≡ domain_in fs descriptors k
-  advice_domain h k e = rw (sym e ∙ h) refl
-
-  pub lower_domain : q ≡ 52 → (k : TermKind) → q ≡ (term_row k).number → field_in fs 1 ≡ domain_in fs descriptors k
-  lower_domain h k e = rw (sym e ∙ h) refl
-
-  pub no_domain : (q ≡ 47 → ⊥) → (q ≡ 52 → ⊥) → (k : TermKind) → q ≡ (term_row k).number → 0 ≡ domain_in fs descriptors k
-  no_domain a l k e = rw (ne_eqb (term_row k).number 47 (λ z. a (e ∙ z)), ne_eqb (term_row k).number 52 (λ z. l (e ∙ z))) refl
-
-module _ (fs : List ℕ) (q : ℕ) where
-  pub match_variables_lem : q ≡ 58 → (k : TermKind) → q ≡ (term_row k).number → match_variables fs ≡ variables_in fs k
-  match_variables_lem h k e = rw (sym e ∙ h) refl
-
-  pub no_variables : (q ≡ 58 → ⊥) → (k : TermKind) → q ≡ (term_row k).number → 0 ≡ variables_in fs k
-  no_variables m k e = rw (ne_eqb (term_row k).number 58 (λ z. m (e ∙ z))) refl
-
-  -- The kind of a part, by its number.
-  pub part_kind : (P : Part q fs) (k : TermKind) → q ≡ (term_row k).number → P.kind_of_term ≡ k
-  part_kind P k e = same_term_kind P.kind_of_term k (sym P.number ∙ e)
 
 -- How many variables a pattern binds.
 variables_are : (p : Pattern) → variables p ≡ pointcuts p + choose (binds_rest p) 1 0
@@ -129,6 +107,9 @@ module _ {b table : List ℕ} (T : Terms b table) {n : ℕ} (h : IsTerm b n) whe
       look : (c : Bool) → is_kind TermKind.match (term_kind L n) ≡ c → choose c (match_variables (fields_of b n)) 0 ≡ choose c (variables (pattern_of (others L n))) 0
       look true q = match_binds_lem (same_term_kind (term_kind L n) TermKind.match (eq_of q))
       look false q = refl
+
+pub read_off : {b : List ℕ} {n kind : ℕ} {fs : List ℕ} → IsTerm b n → kind ≡ number_at b (term_place (records_of b) n) → fs ≡ fields_of b n → HasFields b n kind fs
+read_off i k f = record { there = i; number = k; fields = f }
 
 -- What is read off a part is so of the term that has these fields.
 module _ {b table : List ℕ} (T : Terms b table) {n kind : ℕ} {fs : List ℕ} (r : HasFields b n kind fs) where

@@ -39,89 +39,6 @@ first_there {b} T {n} h e is = look (ltb 0 (length es)) refl
     look true q = let z = child_lower T h {k = term_kind (records_of b) n} refl 0 (ltb-true 0 (length es) q) in omega arith
     look false q = let m = ltb-false 0 (length es) q in let z = no_first es (omega arith) in omega arith
 
--- The kinds that are not permitted everywhere.
-abbrev tied : List TermKind
-tied = TermKind.install ∷ TermKind.mark ∷ TermKind.call ∷ TermKind.app ∷ []
-
-pub free_kind : (n : ℕ) → apart n tied → (k : TermKind) → n ≡ (term_row k).number → (m : Bool) (j : TermKind) → true ≡ permits m k j
-free_kind n r k e m j =
-    rw (ne_eqb (term_row k).number 42 (λ z. r.0.0.0.1 (e ∙ z)), ne_eqb (term_row k).number 55 (λ z. r.0.0.1 (e ∙ z)), ne_eqb (term_row k).number 45 (λ z. r.0.1 (e ∙ z)), ne_eqb (term_row k).number 48 (λ z. r.1 (e ∙ z)))
-    refl
-
--- Where a child stands: the second child of an advice is its body, and no other child of any term is one.
-abbrev is_advice_body : Body → Bool
-is_advice_body here = false
-is_advice_body function_body = false
-is_advice_body advice_body = true
-is_advice_body split_body = false
-is_advice_body lower_body = false
-is_advice_body object_body = false
-is_advice_body match_body = false
-
-by_body : (m : Bool) (b : Body) → choose (is_advice_body b) false m ≡ outside m b
-by_body m here = refl
-by_body m function_body = refl
-by_body m advice_body = refl
-by_body m split_body = refl
-by_body m lower_body = refl
-by_body m object_body = refl
-by_body m match_body = refl
-
--- Only a term's first three children may stand where no further one does.
-abbrev further : TermKind → Body
-further k = get_or (bodies (term_row k).group) 0 here
-
-abbrev second_alone : TermKind → Bool
-second_alone k =
-    let at : ℕ → Bool = λ i. is_advice_body (body_of k i) in
-    not (at 0) && (choose (eqb (term_row k).number 47) (at 1) (not (at 1)) && (not (at 2) && (not (is_advice_body (further k)) && leb (length (bodies (term_row k).first)) 3)))
-
-past : (bs : List Body) (i : ℕ) (d : Body) → length bs ≤ 3 → get_or bs (suc (suc (suc i))) d ≡ d
-past [] i d h = refl
-past (a ∷ []) i d h = refl
-past (a ∷ b ∷ []) i d h = refl
-past (a ∷ b ∷ c ∷ []) i d h = refl
-past (a ∷ b ∷ c ∷ e ∷ bs) i d h = absurd (omega arith)
-
-second : (x b : Bool) → choose x b (not b) ≡ true → b ≡ (x && true)
-second true b h = h
-second false b h = not_t b h
-
-not_second : (x b : Bool) → not b ≡ true → b ≡ (x && false)
-not_second true b h = not_t b h
-not_second false b h = not_t b h
-
-advice_second : (k : TermKind) (j : ℕ) → is_advice_body (body_of k j) ≡ (eqb (term_row k).number 47 && eqb j 1)
-unfolding every_of
-advice_second k j = go j
-  where
-    x : Bool
-    x = eqb (term_row k).number 47
-
-    h : second_alone k ≡ true
-    h = at_term second_alone refl k
-
-    h1 : (choose x (is_advice_body (body_of k 1)) (not (is_advice_body (body_of k 1))) && (not (is_advice_body (body_of k 2)) && (not (is_advice_body (further k)) && leb (length (bodies (term_row k).first)) 3))) ≡ true
-    h1 = and_r (not (is_advice_body (body_of k 0))) _ h
-
-    h2 : (not (is_advice_body (body_of k 2)) && (not (is_advice_body (further k)) && leb (length (bodies (term_row k).first)) 3)) ≡ true
-    h2 = and_r (choose x (is_advice_body (body_of k 1)) (not (is_advice_body (body_of k 1)))) _ h1
-
-    h3 : (not (is_advice_body (further k)) && leb (length (bodies (term_row k).first)) 3) ≡ true
-    h3 = and_r (not (is_advice_body (body_of k 2))) _ h2
-
-    go : (j : ℕ) → is_advice_body (body_of k j) ≡ (x && eqb j 1)
-    go zero = not_second x (is_advice_body (body_of k 0)) (and_l (not (is_advice_body (body_of k 0))) _ h)
-    go (suc zero) = second x (is_advice_body (body_of k 1)) (and_l (choose x (is_advice_body (body_of k 1)) (not (is_advice_body (body_of k 1)))) _ h1)
-    go (suc (suc zero)) = not_second x (is_advice_body (body_of k 2)) (and_l (not (is_advice_body (body_of k 2))) _ h2)
-    go (suc (suc (suc i))) =
-        rw (ne_eqb (suc (suc (suc i))) 1 (λ z. omega arith))
-        (ap is_advice_body (past (bodies (term_row k).first) i (further k) (le_of (and_r (not (is_advice_body (further k))) _ h3)))
-        ∙ not_second x (is_advice_body (further k)) (and_l (not (is_advice_body (further k))) _ h3))
-
-pub outside_of : (k : TermKind) (j : ℕ) (m b : Bool) → (eqb (term_row k).number 47 && eqb j 1) ≡ b → choose b false m ≡ outside m (body_of k j)
-outside_of k j m b h = ap (λ y. choose y false m) (sym (advice_second k j ∙ h)) ∙ by_body m (body_of k j)
-
 -- One child more.
 least_snoc : (f : ℕ → ℕ → ℕ) (d i : ℕ) (es : List ℕ) (e m : ℕ) → m ≡ i + length es → least f d i (es ++ (e ∷ [])) ≡ min (least f d i es) (f m e)
 unfolding least
@@ -158,26 +75,30 @@ module _ (L : Layout) (m : Bool) (n : ℕ) where
   unfoldable pub least_to : ℕ → ℕ
   least_to j = least below_child (length L.terms) 0 (take j (children L n))
 
-  pub least_start : length L.terms ≡ least_to 0
-  unfolding least_to least
-  least_start = refl
-
-  pub least_turn : (j : ℕ) → j < length (children L n) → (o : Bool) (e a f r : ℕ) → o ≡ outside m (body_of (term_kind L n) j) → e ≡ get_or (children L n) j 0 → f ≡ lowest_at L o e → a ≡ least_to j → r ≡ min a f → r ≡ least_to (j + 1)
+  -- o is the number of the term itself, if it is at fault.
+  pub least_turn : (o j : ℕ) → j < length (children L n) → (x : Bool) (e a f r : ℕ) → x ≡ outside m (body_of (term_kind L n) j) → e ≡ get_or (children L n) j 0 → f ≡ lowest_at L x e → a ≡ min o (least_to j) → r ≡ min a f → r ≡ min o (least_to (j + 1))
   unfolding least_to
-  least_turn j h o e a f r ho he hf ha hr =
+  least_turn o j h x e a f r hx he hf ha hr =
       let es = children L n in
       let one : take (j + 1) es ≡ take j es ++ (get_or es j 0 ∷ []) = rw (add-one j) (take-suc es j 0 (omega arith)) in
       let long : j ≡ 0 + length (take j es) = omega (arith, length-take-le j es (omega arith)) in
-      let g : f ≡ below_child j (get_or es j 0) = hf ∙ (ap (λ x. lowest_at L x e) ho ∙ ap (λ x. lowest_at L (outside m (body_of (term_kind L n) j)) x) he) in
-      hr ∙ (ap (λ x. min x f) ha ∙ (ap (min (least_to j)) g
-      ∙ (sym (least_snoc below_child (length L.terms) 0 (take j es) (get_or es j 0) j long) ∙ ap (least below_child (length L.terms) 0) (sym one))))
+      let g : f ≡ below_child j (get_or es j 0) = hf ∙ (ap (λ x. lowest_at L x e) hx ∙ ap (λ x. lowest_at L (outside m (body_of (term_kind L n) j)) x) he) in
+      let s : min (least_to j) f ≡ least_to (j + 1) =
+      ap (min (least_to j)) g ∙ (sym (least_snoc below_child (length L.terms) 0 (take j es) (get_or es j 0) j long) ∙ ap (least below_child (length L.terms) 0) (sym one)) in
+      let z : min (min o (least_to j)) f ≡ min o (min (least_to j) f) = omega arith in
+      hr ∙ (ap (λ y. min y f) ha ∙ (z ∙ ap (min o) s))
 
-  pub least_whole : LayoutOk L → n < length L.terms → (j : ℕ) → length (children L n) ≤ j → (ok : Bool) (o a r : ℕ) → ok ≡ permitted L m n → o ≡ choose ok (length L.terms) n → a ≡ least_to j → r ≡ min o a → r ≡ lowest_at L m n
+  pub least_whole : LayoutOk L → n < length L.terms → (j : ℕ) → length (children L n) ≤ j → (ok : Bool) (o r : ℕ) → ok ≡ permitted L m n → o ≡ choose ok (length L.terms) n → r ≡ min o (least_to j) → r ≡ lowest_at L m n
   unfolding least_to lowest_at lowest
-  least_whole good l j h ok o a r hk ho ha hr =
+  least_whole good l j h ok o r hk ho hr =
       let es = children L n in
       let N = length L.terms in
       let t : take j es ≡ es = take_all j es h in
       let q : least below_child N 0 es ≡ least (λ i e. lowest L n (outside m (body_of (term_kind L n) i)) e) N 0 es =
       least_cong L good below_child (λ i e. lowest L n (outside m (body_of (term_kind L n) i)) e) N n (λ i e x. lowest_fuel L good (suc e) n (outside m (body_of (term_kind L n) i)) e (omega arith) x (omega arith)) 0 es (good.terms n l).below in
-      hr ∙ (ap (λ x. min x a) (ho ∙ ap (λ b. choose b N n) hk) ∙ ap (min (choose (permitted L m n) N n)) (ha ∙ (ap (least below_child N 0) t ∙ q)))
+      hr ∙ (ap (λ x. min x (least_to j)) (ho ∙ ap (λ b. choose b N n) hk) ∙ ap (min (choose (permitted L m n) N n)) (ap (least below_child N 0) t ∙ q))
+
+  pub least_start : (ok : Bool) (o : ℕ) → n < length L.terms → o ≡ choose ok (length L.terms) n → o ≡ min o (least_to 0)
+  unfolding least_to least
+  least_start true o l h = omega arith
+  least_start false o l h = omega arith

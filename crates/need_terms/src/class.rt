@@ -1,6 +1,5 @@
 // Refusal 19 (document 02, card 10), the lowest term of an image that may not stand where it does.
-ghost use Rattle.std.specs.Prelude.{◌≡◌, min, length, get_or};
-ghost use Rattle.calculus.specs.Combinators.{choose};
+ghost use Rattle.std.specs.Prelude.{◌≡◌, length, get_or};
 ghost use Rattle.image.specs.Kinds.{TermKind, term_row, body_of};
 ghost use Rattle.image.specs.Layout.{records_of};
 ghost use Rattle.read_terms.specs.Lent.{Terms, IsTerm};
@@ -10,7 +9,6 @@ ghost use Rattle.need_terms.specs.GivenToChildren.{Part};
 ghost use Rattle.need_terms.specs.First.{lowest_at};
 
 use crate::child_in;
-use laws::both;
 use read_records::kinds;
 use read_records::numbers::TermNo;
 use read_terms::terms::{child_count, term_fields, term_kind};
@@ -23,7 +21,7 @@ fn is_permitted(outside: bool, kind: u16, child: u16) -> bool
         kinds::APPLY => false,
         kinds::CALL => false,
         kinds::MARK => outside,
-        kinds::INSTALL => both(outside, child == kinds::ADVICE),
+        kinds::INSTALL => outside && child == kinds::ADVICE,
         _ => true,
     }
 }
@@ -34,31 +32,17 @@ fn first_child(kind: u16, fields: &[u8]) -> TermNo
     ensures { (k : TermKind) → kind ≡ (term_row k).number → result.0 ≡ get_or (children_in fields.now k) 0 0 }
 {
     if child_count(kind, fields) == 0 {
-        return TermNo(0);
+        TermNo(0)
+    } else {
+        child_in(kind, fields, 0)
     }
-    child_in(kind, fields, 0)
 }
 
 // Where child j of a term of a kind stands.
 fn is_outside(outside: bool, kind: u16, j: usize) -> bool
     ensures { (k : TermKind) → kind ≡ (term_row k).number → result ≡ Rattle.image_needs.specs.Faults.outside outside (body_of k j) }
 {
-    if both(kind == kinds::ADVICE, j == 1) {
-        return false;
-    }
-    outside
-}
-
-fn lower_of(a: TermNo, b: TermNo) -> TermNo
-    ensures { result.0 ≡ min a.0 b.0 }
-{
-    if a.0 <= b.0 { a } else { b }
-}
-
-fn own_fault(permitted: bool, n: TermNo, none: TermNo) -> TermNo
-    ensures { result.0 ≡ choose permitted none.0 n.0 }
-{
-    if permitted { none } else { n }
+    outside && !(kind == kinds::ADVICE && j == 1)
 }
 
 // The lowest term that may not stand where it does, among term n and the terms below it; the number past the last term if
@@ -75,13 +59,11 @@ pub fn lowest_fault(image: &[u8], terms: &[u16], none: TermNo, outside: bool, n:
         term_kind(image, terms, first_child(kind, fields)),
     );
     let k = child_count(kind, fields);
-    let mut least = none;
-    let mut j: usize = 0;
-    while j < k {
+    let mut least = if ok { none } else { n };
+    for j in 0..k {
         let e = child_in(kind, fields, j);
         let f = lowest_fault(image, terms, none, is_outside(outside, kind, j), e);
-        least = lower_of(least, f);
-        j += 1;
+        least = TermNo(least.0.min(f.0));
     }
-    lower_of(own_fault(ok, n, none), least)
+    least
 }

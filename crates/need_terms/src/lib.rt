@@ -35,23 +35,12 @@ pub fn part_domain(kind: u16, fields: &[u8], descriptors: &[u32]) -> DomainNo
     ensures { (k : TermKind) → kind ≡ (term_row k).number → result.0 ≡ domain_in fields.now descriptors.now k }
 {
     if kind == kinds::ADVICE {
-        return domain_of(own_descriptor(descriptors, fields));
+        domain_of(own_descriptor(descriptors, fields))
+    } else if kind == kinds::LOWER {
+        field_as(fields, LOWERED)
+    } else {
+        DomainNo(0)
     }
-    if kind == kinds::LOWER {
-        return field_as(fields, LOWERED);
-    }
-    DomainNo(0)
-}
-
-// One more if it is so.
-fn with_one(n: usize, more: bool) -> u32
-    requires { n ≤ 4095 }
-    ensures { (result ≡ Rattle.need_terms.specs.GivenToChildren.with_one n more) × (result ≤ child_bound) }
-{
-    if more {
-        return (n as u32) + 1;
-    }
-    n as u32
 }
 
 // How many variables the first branch of a match binds: one for each pointcut, and one for the rest of the stack.
@@ -61,7 +50,8 @@ pub fn branch_variables(kind: u16, fields: &[u8]) -> u32
 {
     if kind == kinds::MATCH {
         let k = child_count(kind, fields);
-        return with_one(k - 3, binds_rest(fields));
+        (k - 3) as u32 + u32::from(binds_rest(fields))
+    } else {
+        0
     }
-    0
 }

@@ -37,22 +37,15 @@ use Rattle.need_sums.specs.Sums.{cut_needs, no_needs, add_needs, dearer_needs, r
 use Rattle.need_sums.specs.Walks.{place_limit, shape_of, role_at, child_position, reduction_needs, own_needs, added_needs, chosen_needs}
 use Rattle.need_sums.specs.Rows.{row_count, at_mark}
 use Rattle.need_terms.specs.GivenToChildren.{part_domain, branch_variables}
-use Rattle.need_walk.specs.Counted.{here_of, counted, term_at, Known, skips}
+use Rattle.need_walk.specs.Counted.{here_of, counted, term_at, Known}
 use Rattle.need_walk.proofs.Folds.{sums, choices, joined, joined_at, joined_at_of, joined_snoc}
 use Rattle.need_walk.proofs.Shapes.{FullIf, Full}
 use Rattle.need_walk.proofs.Modes.{own_counted, added, offered, by_kind}
 use Rattle.need_walk.proofs.Cut.{cut_plus, cut_dearer, cut_none, cut_shift, reduction_cut, round_cut, added_cut, chosen_cut}
 
 -- Nothing is asked of a term that is skipped, and a constant or a variable takes nothing.
-pub skip_none : (r : Tm) (s : Position) (e : Tm) → skips s.mode ≡ true → no_needs ≡ cut_needs (counted r s e)
-skip_none r s e h = look s.mode s.dom.0 s.depth s.kept h
-  where
-    look : (m : Mode) (c d q : ℕ) → skips m ≡ true → no_needs ≡ cut_needs (counted r (record { mode = m; dom = record { 0 = c }; depth = d; kept = q }) e)
-    look Mode.Skip c d q x = sym cut_none
-    look Mode.Program c d q x = no_path (sym x)
-    look Mode.Body c d q x = no_path (sym x)
-    look Mode.AllAdvice c d q x = no_path (sym x)
-    look Mode.InstalledAdvice c d q x = no_path (sym x)
+pub skip_none : (r : Tm) (s : Position) (e : Tm) → s.mode ≡ Mode.Skip → no_needs ≡ cut_needs (counted r s e)
+skip_none r s e h = rw h (sym cut_none)
 
 -- What the term takes itself.
 pub own_cut : (L : Layout) (s : Position) → s.depth ≤ place_limit → s.kept < row_count → (o : Own) (p : ℕ) (w : Needs) (rows : List ℕ) → Known L s w rows

@@ -1,5 +1,5 @@
 -- What the walk answers of a term (document 02, card 10): the numbers of the calculus's definition, by what is asked.
-use Rattle.std.specs.Prelude.{ℕ, suc, ◌+◌, ◌*◌, ◌≤◌, ◌<◌, ◌≡◌, Bool, true, false, List}
+use Rattle.std.specs.Prelude.{ℕ, suc, ◌+◌, ◌*◌, ◌≤◌, ◌<◌, ◌≡◌, List}
 use Rattle.calculus.specs.Syntax.{Tm}
 use Rattle.calculus_needs.specs.Here.{Here}
 use Rattle.calculus_needs.proofs.Shift.{level}
@@ -57,14 +57,6 @@ KnownIn Mode.InstalledAdvice L w rows = Unit
 
 abbrev pub Known : Layout → Position → Needs → List ℕ → Type 0
 Known L s w rows = KnownIn s.mode L w rows
-
--- Nothing is asked.
-abbrev pub skips : Mode → Bool
-skips Mode.Skip = true
-skips Mode.Program = false
-skips Mode.Body = false
-skips Mode.AllAdvice = false
-skips Mode.InstalledAdvice = false
 
 -- All advice, at a mark that nothing encloses, with k values kept around it.
 abbrev pub mark_position : ℕ → Position

@@ -1,23 +1,22 @@
 // An inner crate: the walk over the terms of an image that works out the numbers of card 10 (document 02).
 #![tactic(auto)]
 
-ghost use Rattle.std.specs.Prelude.{◌≡◌, length};
+ghost use Rattle.std.specs.Prelude.{◌≡◌};
 ghost use Rattle.image.specs.Layout.{records_of};
 ghost use Rattle.image.specs.Types.{root_of};
 ghost use Rattle.read_terms.specs.Lent.{Lent, IsTerm};
 ghost use Rattle.need_sums.specs.Sums.{cut_needs};
-ghost use Rattle.need_sums.specs.Rows.{table_length};
-ghost use Rattle.need_walk.specs.Counted.{counted, term_at, Placed, Known, skips, mark_position};
+ghost use Rattle.need_walk.specs.Counted.{counted, term_at, Placed, Known, mark_position};
 
 use image_needs::Needs;
 use need_own::own::{added, chosen, own_needs};
-use need_own::rows::at_mark;
-use need_sums::positions::{Mode, Position, child_position};
-use need_sums::shapes::{role_at, shape_of};
-use need_sums::sums::{add, dearer, no_needs};
+use need_own::rows::{TABLE, at_mark};
+use need_sums::positions::{Mode, Position};
+use need_sums::shapes::shape_of;
+use need_sums::sums::{add, dearer};
 use need_terms::{branch_variables, child_in, part_domain};
 use read_records::kinds;
-use read_records::numbers::{DomainNo, TermNo};
+use read_records::numbers::{MAINLINE, TermNo};
 use read_terms::terms::{child_count, term_fields, term_kind};
 
 // A term, and where it stands.
@@ -27,25 +26,13 @@ pub struct Visit {
     pub position: Position,
 }
 
-pub fn skips_all(mode: Mode) -> bool
-    ensures { result ≡ skips mode }
-{
-    match mode {
-        Mode::Skip => true,
-        Mode::Program => false,
-        Mode::Body => false,
-        Mode::AllAdvice => false,
-        Mode::InstalledAdvice => false,
-    }
-}
-
 // Of all advice, at a mark that nothing encloses and around which no value is kept.
 pub fn mark_position() -> Position
     ensures { result ≡ mark_position 0 }
 {
     Position {
         mode: Mode::AllAdvice,
-        dom: DomainNo(0),
+        dom: MAINLINE,
         depth: 0,
         kept: 0,
     }
@@ -60,42 +47,38 @@ pub fn walk(
     descriptors: &[u32],
     at: Visit,
     each: Needs,
-    rows: &[u32],
+    rows: &[u32; TABLE],
 ) -> Needs
-    requires { Lent image.now terms.now descriptors.now × IsTerm image.now at.term.0 × Placed (records_of image.now) at.position at.term.0 × (length rows.now ≡ table_length) × Known (records_of image.now) at.position each rows.now }
+    requires { Lent image.now terms.now descriptors.now × IsTerm image.now at.term.0 × Placed (records_of image.now) at.position at.term.0 × Known (records_of image.now) at.position each rows.now }
     ensures { result ≡ cut_needs (counted (term_at (records_of image.now) (root_of (records_of image.now))) at.position (term_at (records_of image.now) at.term.0)) }
 {
-    let n = at.term;
-    let s = at.position;
-    let mode = s.mode;
-    if skips_all(mode) {
-        return no_needs();
+    let Visit {
+        term: n,
+        position: s,
+    } = at;
+    if s.mode == Mode::Skip {
+        return Needs::default();
     }
     let kind = term_kind(image, terms, n);
     if kind <= kinds::VARIABLE {
-        return no_needs();
+        return Needs::default();
     }
     let fields = term_fields(image, terms, n);
     let shape = shape_of(kind);
-    let own = shape.own;
     let p = part_domain(kind, fields, descriptors);
     let v = branch_variables(kind, fields);
     let k = child_count(kind, fields);
-    let mut sum = own_needs(own, s, p, at_mark(each, rows, s.kept));
-    let mut choice = no_needs();
-    let mut j: usize = 0;
-    while j < k {
-        let role = role_at(shape, j);
-        let e = child_in(kind, fields, j);
-        let q = child_position(s, role, p);
+    let mut sum = own_needs(shape.own, s, p, at_mark(each, rows, s.kept));
+    let mut choice = Needs::default();
+    for j in 0..k {
+        let role = shape.role_at(j);
         let below = Visit {
-            term: e,
-            position: q,
+            term: child_in(kind, fields, j),
+            position: s.child_position(role, p),
         };
         let x = walk(image, terms, descriptors, below, each, rows);
         sum = add(sum, added(s, role, x));
         choice = dearer(choice, chosen(s, role, v, x));
-        j += 1;
     }
     add(sum, choice)
 }

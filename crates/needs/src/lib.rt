@@ -17,7 +17,6 @@ use image_needs::{Forecast, Needs};
 use need_own::rows::TABLE;
 use need_rows::add_pieces;
 use need_sums::positions::{Mode, Position};
-use need_sums::sums::no_needs;
 use need_terms::class::lowest_fault;
 use need_walk::{Visit, mark_position, walk};
 use read_records::numbers::{MAINLINE, TermNo};
@@ -48,7 +47,6 @@ fn program_needs(
     ensures { result ≡ cut_program (records_of image.now) }
 {
     let mut rows = [0u32; TABLE];
-    let none = no_needs();
     let each = walk(
         image,
         terms,
@@ -57,7 +55,7 @@ fn program_needs(
             term: root,
             position: mark_position(),
         },
-        none,
+        Needs::default(),
         &rows,
     );
     add_pieces(image, terms, descriptors, root, mark_position(), &mut rows);

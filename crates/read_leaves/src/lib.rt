@@ -21,17 +21,15 @@ use read_terms::types::{first_type, second_type};
 const MOST_LEAVES: u8 = LEAF_LIMIT as u8;
 
 // The leaves of a pair, from those of its parts; 0 where it is not plain.
+#[tactic(auto, unfolding(crate::specs::Leaves::join_leaves))]
 fn join_leaves(m: u8, n: u8) -> u8
     requires { (m ≤ leaf_limit) × (n ≤ leaf_limit) }
     ensures { result ≡ join_leaves m n }
 {
-    if m == 0 {
+    if m == 0 || n == 0 || MOST_LEAVES < m + n {
         return 0;
     }
-    if n == 0 {
-        return 0;
-    }
-    if m + n <= MOST_LEAVES { m + n } else { 0 }
+    m + n
 }
 
 // The leaves of a type in the table.
@@ -39,10 +37,11 @@ pub fn leaves_at(table: &[u8], t: TypeNo) -> u8
     requires { t.0 < length table.now }
     ensures { result ≡ get_or table.now t.0 0 }
 {
-    table[t.0 as usize]
+    table[usize::from(t.0)]
 }
 
 // The leaves of the type with a descriptor, where the table has the leaves of the types before it.
+#[tactic(auto, unfolding(crate::specs::Leaves::leaves_of))]
 fn leaves_of(descriptor: u32, table: &[u8]) -> u8
     requires { descriptor_kind descriptor ≡ (type_row_of TypeKind.pair).number → Part table.now (descriptor_field0 descriptor) × Part table.now (descriptor_field1 descriptor) }
     ensures { result ≡ leaves_of descriptor table.now }
@@ -53,14 +52,14 @@ fn leaves_of(descriptor: u32, table: &[u8]) -> u8
         let n = leaves_at(table, second_type(descriptor));
         return join_leaves(m, n);
     }
-    if kind < kinds::PAIR_TYPE { 1 } else { 0 }
+    u8::from(kind < kinds::PAIR_TYPE)
 }
 
 fn set_leaf(table: &mut [u8], t: TypeNo, n: u8)
     requires { t.0 < length table.old }
     ensures { table.new ≡ set table.old t.0 n }
 {
-    table[t.0 as usize] = n;
+    table[usize::from(t.0)] = n;
 }
 
 // Fills the first places of a table with the leaves of the types; what stands behind them is kept.
@@ -68,12 +67,10 @@ pub fn set_leaves(image: &[u8], descriptors: &[u32], count: usize, table: &mut [
     requires { Types image.now descriptors.now × (count ≡ length (records_of image.now).types) × (count ≤ length table.old) }
     ensures { Leaves image.now table.new × (drop count table.new ≡ drop count table.old) }
 {
-    let mut i: usize = 0;
-    while i < count {
+    for i in 0..count {
         let t = TypeNo(i as u16);
         let n = leaves_of(type_descriptor(descriptors, t), table);
         set_leaf(table, t, n);
-        i += 1;
     }
 }
 

@@ -9,7 +9,7 @@ ghost use Rattle.vm_code.specs.Words.{target_count};
 ghost use Rattle.vm_memory.specs.View.{memory_of, Holds};
 
 use crate::words::{BINDING_PLACES, above, put_word, word};
-use vm_words::code::TARGETS;
+use vm_words::code::{TARGETS, in_field};
 
 // The link of the outermost binding: no binding is outside of the last.
 pub const NO_BINDING: usize = BINDING_PLACES - 1;
@@ -35,7 +35,7 @@ pub fn bind(work: &mut [u8], i: usize, v: u64, target: usize, link: usize)
 pub fn bound_target(w: u64) -> usize
     ensures { result ≡ bound_target w }
 {
-    (w / TARGET % TARGETS) as usize
+    in_field::<TARGET, TARGETS>(w) as usize
 }
 
 fn bound_link(w: u64) -> usize
@@ -57,14 +57,12 @@ pub fn lookup(work: &[u8], env: usize, k: usize) -> u64
     ensures { result ≡ machine.lookup (memory_of work.now) env k }
 {
     let mut w = binding_at(work, env);
-    let mut i = k;
-    while 0 < i {
+    for _ in 0..k {
         let l = bound_link(w);
         if NO_BINDING <= l {
             return 0;
         }
         w = binding_at(work, l);
-        i -= 1;
     }
     w
 }

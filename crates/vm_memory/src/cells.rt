@@ -5,7 +5,7 @@ ghost use Rattle.vm_machine.specs.Memory.{cell_at, put_cell, cell_note, cell_of,
 ghost use Rattle.vm_memory.specs.View.{memory_of, Holds};
 
 use crate::words::{CELL_PLACES, CELLS, above, put_word, word};
-use vm_words::value::BODY;
+use vm_words::value::body;
 
 // Notes have two bytes.
 const NOTES: u64 = 65536;
@@ -14,7 +14,7 @@ const NOTES: u64 = 65536;
 pub fn cell_of(v: u64) -> usize
     ensures { result ≡ cell_of v }
 {
-    (v / BODY % (CELL_PLACES as u64)) as usize
+    body(v) as usize % CELL_PLACES
 }
 
 pub fn cell_at(work: &[u8], r: usize) -> u64

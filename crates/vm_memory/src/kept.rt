@@ -11,7 +11,7 @@ use crate::labels::LABELS;
 use crate::pieces::{piece_first, piece_of, piece_second};
 use crate::words::{KEPT, above, put_word, word};
 use vm_words::value;
-use vm_words::value::{TAG, TAGS};
+use vm_words::value::tag;
 
 pub fn kept_at(work: &[u8], i: usize) -> u64
     requires { (memory_length ≤ length work.now) × (i < frame_slots) }
@@ -38,7 +38,7 @@ pub fn entry_label(w: u64) -> u64
 pub fn is_kept(v: u64) -> bool
     ensures { result ≡ is_kept v }
 {
-    v / TAG % TAGS == value::KEPT
+    tag(v) == value::KEPT
 }
 
 pub fn top_entry(work: &[u8], v: u64) -> u64

@@ -37,15 +37,13 @@ pub fn digit_count(n: usize, digits: u64) -> usize
     ensures { result ≡ digit_count n digits }
 {
     let mut d = digits;
-    let mut i: usize = 0;
-    while i < n {
+    for i in 0..n {
         if d <= 1 {
             return i;
         }
-        d = d / LABELS;
-        i += 1;
+        d /= LABELS;
     }
-    i
+    n
 }
 
 // The set of the n lowest.
@@ -54,11 +52,9 @@ pub fn label_set(n: usize, digits: u64) -> u64
 {
     let mut d = digits;
     let mut s: u64 = 0;
-    let mut i: usize = 0;
-    while i < n {
+    for _ in 0..n {
         s = with_bit(s, d % LABELS);
-        d = d / LABELS;
-        i += 1;
+        d /= LABELS;
     }
     s
 }

@@ -8,8 +8,8 @@ ghost use Rattle.vm_memory.specs.View.{memory_of, Holds};
 
 use crate::words::{INSTALLED, PIECE_PLACES, PIECES, put_word, word};
 use read_records::numbers::DomainNo;
-use vm_words::code::{DOMAINS, TARGETS};
-use vm_words::value::{BODY, ENVIRONMENT, ENVIRONMENTS};
+use vm_words::code::{DOMAINS, TARGETS, in_field};
+use vm_words::value::{ENVIRONMENT, ENVIRONMENTS, body};
 
 // Where the domain of an advice begins in its word.
 const DOMAIN: u64 = ENVIRONMENT * ENVIRONMENTS;
@@ -40,14 +40,14 @@ pub fn piece_second(work: &[u8], p: usize) -> u64
 pub fn piece_of(v: u64) -> usize
     ensures { result ≡ piece_of v }
 {
-    (v / BODY % (PIECE_PLACES as u64)) as usize
+    body(v) as usize % PIECE_PLACES
 }
 
 pub fn advice_word(target: usize, env: usize, dom: DomainNo) -> u64
     requires { (target < 65536) × (env < 65536) }
     ensures { result ≡ advice_word target env dom.0 }
 {
-    (target as u64) + ENVIRONMENT * (env as u64) + DOMAIN * (dom.0 as u64)
+    (target as u64) + ENVIRONMENT * (env as u64) + DOMAIN * u64::from(dom.0)
 }
 
 pub fn advice_target(w: u64) -> usize
@@ -59,13 +59,13 @@ pub fn advice_target(w: u64) -> usize
 pub fn advice_env(w: u64) -> usize
     ensures { result ≡ advice_env w }
 {
-    (w / ENVIRONMENT % ENVIRONMENTS) as usize
+    in_field::<ENVIRONMENT, ENVIRONMENTS>(w) as usize
 }
 
 pub fn advice_dom(w: u64) -> DomainNo
     ensures { result.0 ≡ advice_dom w }
 {
-    DomainNo((w / DOMAIN % DOMAINS) as u16)
+    DomainNo(in_field::<DOMAIN, DOMAINS>(w) as u16)
 }
 
 // The piece of installed advice i, from 0 on.
@@ -73,7 +73,7 @@ pub fn installed_at(work: &[u8], i: usize) -> usize
     requires { (memory_length ≤ length work.now) × (i < advice_limit) }
     ensures { result ≡ installed_at (memory_of work.now) i }
 {
-    (word(work, INSTALLED + i) % (PIECE_PLACES as u64)) as usize
+    word(work, INSTALLED + i) as usize % PIECE_PLACES
 }
 
 pub fn put_installed(work: &mut [u8], i: usize, p: usize)

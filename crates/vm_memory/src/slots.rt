@@ -11,7 +11,7 @@ ghost use Rattle.vm_code.specs.Values.{tag_place};
 ghost use Rattle.vm_memory.specs.View.{memory_of, Holds};
 
 use crate::words::{ABOVE, BESIDE, SLOTS, above, put_word, word};
-use vm_words::code::OPERANDS;
+use vm_words::code::{OPERANDS, in_field};
 use vm_words::value::ENVIRONMENTS;
 
 // The kinds of a frame: a call leaves one, a mark, a pointcut or match, and a keep (card 6).
@@ -64,13 +64,13 @@ pub fn slot_env(f: u64) -> usize
 pub fn slot_pc(f: u64) -> usize
     ensures { result ≡ slot_pc f }
 {
-    (f / PC % PCS) as usize
+    in_field::<PC, PCS>(f) as usize
 }
 
 pub fn slot_kind(f: u64) -> u64
     ensures { result ≡ slot_kind f }
 {
-    f / KIND % KINDS
+    in_field::<KIND, KINDS>(f)
 }
 
 fn slot_held(f: u64) -> u64
@@ -140,13 +140,13 @@ pub fn put_advice(
 pub fn next_binding(f: u64) -> usize
     ensures { result ≡ next_binding f }
 {
-    (f / NEXT % BINDINGS) as usize
+    in_field::<NEXT, BINDINGS>(f) as usize
 }
 
 pub fn end_binding(f: u64) -> usize
     ensures { result ≡ end_binding f }
 {
-    (f / END % BINDINGS) as usize
+    in_field::<END, BINDINGS>(f) as usize
 }
 
 // The byte beside slot i becomes another.
@@ -171,19 +171,12 @@ pub fn put_digits(work: &mut [u8], frames: usize, d: usize, pc: usize, env: usiz
     put_beside(work, frames - d, digits / DIGITS % BYTES);
 }
 
-fn join(low: u64, high: u8) -> u64
-    requires { low < held_size }
-    ensures { result ≡ low + held_size * high }
-{
-    low + DIGITS * (high as u64)
-}
-
 // The digits in the slot of a body; f is the slot's word.
 pub fn digits_at(work: &[u8], frames: usize, f: u64) -> u64
     requires { (memory_length ≤ length work.now) × (frames < frame_slots) }
     ensures { result ≡ digits_at (memory_of work.now) frames f }
 {
-    join(slot_held(f), work[BESIDE + frames])
+    slot_held(f) + DIGITS * u64::from(work[BESIDE + frames])
 }
 
 // The word of a keep's frame (card 6): nothing is held.
@@ -226,16 +219,10 @@ pub fn held_stack(f: u64) -> u64
     ABOVE * slot_held(f)
 }
 
-fn wide(b: u8) -> u64
-    ensures { (result ≡ b) × (result < 256) }
-{
-    b as u64
-}
-
 // The byte beside the slot of a body.
 pub fn byte_beside(work: &[u8], frames: usize) -> u64
     requires { (memory_length ≤ length work.now) × (frames < frame_slots) }
     ensures { (result ≡ beside_at_of (memory_of work.now) frames) × (result < 256) }
 {
-    wide(work[BESIDE + frames])
+    u64::from(work[BESIDE + frames])
 }

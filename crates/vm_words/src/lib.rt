@@ -3,6 +3,5 @@
 
 pub mod classes;
 pub mod code;
-pub mod dispatch;
 pub mod terms;
 pub mod value;

@@ -8,6 +8,7 @@ ghost use Rattle.vm_code.specs.Values.{tag_of, body_of, number_value, truth_valu
 ghost use Rattle.vm_code.specs.Values as defined;
 ghost use Rattle.vm_code.specs.Words.{term_count};
 
+use crate::code::in_field;
 use crate::terms::TERMS;
 use calculus::{SIGN_BIT, WORD_SIZE};
 use read_records::numbers::TermNo;
@@ -65,20 +66,13 @@ pub fn value(tag: u64, body: u64) -> u64
 pub fn tag(v: u64) -> u64
     ensures { result ≡ tag_of v }
 {
-    v / TAG % TAGS
+    in_field::<TAG, TAGS>(v)
 }
 
 pub fn body(v: u64) -> u64
     ensures { result ≡ body_of v }
 {
     v / BODY
-}
-
-fn number(n: u64) -> u64
-    requires { n < word_size }
-    ensures { result ≡ number_value n }
-{
-    TAG * NUMBER + BODY * n
 }
 
 fn truth(b: bool) -> u64
@@ -92,7 +86,7 @@ pub fn function(env: usize, target: usize) -> u64
     requires { (env < 65536) × (target < 65536) }
     ensures { result ≡ function_value env target }
 {
-    TAG * FUNCTION + BODY * (ENVIRONMENT * (env as u64) + (target as u64))
+    value(FUNCTION, ENVIRONMENT * (env as u64) + target as u64)
 }
 
 // An object's value: its environment, and its term (card 3).
@@ -100,7 +94,7 @@ pub fn object(env: usize, term: TermNo) -> u64
     requires { env < 65536 }
     ensures { result ≡ object_value env term.0 }
 {
-    TAG * OBJECT + BODY * (ENVIRONMENT * (env as u64) + (term.0 as u64))
+    value(OBJECT, ENVIRONMENT * (env as u64) + u64::from(term.0))
 }
 
 // The term of an object's value.
@@ -113,14 +107,14 @@ pub fn object_term(v: u64) -> TermNo
 pub fn bottom() -> u64
     ensures { result ≡ bottom_value }
 {
-    TAG * BOTTOM
+    value(BOTTOM, 0)
 }
 
 pub fn kept(piece: usize) -> u64
     requires { piece < 65536 }
     ensures { result ≡ kept_value piece }
 {
-    TAG * KEPT + BODY * (piece as u64)
+    value(KEPT, piece as u64)
 }
 
 // The ends of the range of numbers, and -1, as patterns of 32 bits.
@@ -138,7 +132,7 @@ fn flipped(x: u64) -> u32
     requires { x < word_size }
     ensures { result ≡ numbers.flipped x }
 {
-    std::num::wrapping_add_u32(x as u32, LOWEST as u32)
+    (x as u32).wrapping_add(LOWEST as u32)
 }
 
 // Sums and differences stop at the ends of the range; inside it they are those of the patterns.
@@ -146,7 +140,7 @@ fn sum(x: u64, y: u64) -> u64
     requires { (x < word_size) × (y < word_size) }
     ensures { (result ≡ numbers.sum x y) × (result < word_size) }
 {
-    let s = flipped(x) as u64 + flipped(y) as u64;
+    let s = u64::from(flipped(x)) + u64::from(flipped(y));
     if s < LOWEST {
         return LOWEST;
     }
@@ -160,8 +154,8 @@ fn difference(x: u64, y: u64) -> u64
     requires { (x < word_size) × (y < word_size) }
     ensures { (result ≡ numbers.difference x y) × (result < word_size) }
 {
-    let s = flipped(x) as u64 + LOWEST;
-    let t = flipped(y) as u64;
+    let s = u64::from(flipped(x)) + LOWEST;
+    let t = u64::from(flipped(y));
     if s < t {
         return LOWEST;
     }
@@ -181,13 +175,13 @@ fn less(x: u64, y: u64) -> bool
 pub fn plus(x: u64, y: u64) -> u64
     ensures { result ≡ number_value (numbers.sum (body_of x) (body_of y)) }
 {
-    number(sum(body(x), body(y)))
+    value(NUMBER, sum(body(x), body(y)))
 }
 
 pub fn minus(x: u64, y: u64) -> u64
     ensures { result ≡ number_value (numbers.difference (body_of x) (body_of y)) }
 {
-    number(difference(body(x), body(y)))
+    value(NUMBER, difference(body(x), body(y)))
 }
 
 pub fn is_less(x: u64, y: u64) -> u64
@@ -202,28 +196,21 @@ pub fn is_equal(x: u64, y: u64) -> u64
     truth(body(x) == body(y))
 }
 
-fn wide(b: u8) -> u64
-    ensures { (result ≡ b) × (result < word_size) }
-{
-    b as u64
-}
-
 // The byte of the frame at index n, or -1 where n is negative or not below the frame's length.
 fn byte_at(frame: &[u8], n: u64) -> u64
     ensures { (result ≡ frame_byte frame.now n) × (result < word_size) }
 {
-    if n < LOWEST {
-        let at = n as usize;
-        if at < frame.len() {
-            return wide(frame[at]);
-        }
+    let at = n as usize;
+    if n < LOWEST && at < frame.len() {
+        u64::from(frame[at])
+    } else {
+        MINUS_ONE
     }
-    MINUS_ONE
 }
 
 // The same from an index that is a value, as a value.
 pub fn frame_byte(frame: &[u8], x: u64) -> u64
     ensures { result ≡ number_value (frame_byte frame.now (body_of x)) }
 {
-    number(byte_at(frame, body(x)))
+    value(NUMBER, byte_at(frame, body(x)))
 }

@@ -6,7 +6,10 @@ use Rattle.base_bytes.proofs.Bytes.{gets, bytes_at}
 use Rattle.base_bytes.proofs.load.Goals as goal
 
 pub returns : goal.returns
-unfolding number_at gets
+unfolding number_at gets number_of
 returns c =
     let a = c.args in
-    c.join64.ensures ∙ ap number_of (bytes_at a.area.now (8 * a.i) 7 (omega arith))
+    let b = a.area.now in
+    let k = 8 * a.i in
+    let read = c.from_le_bytes.ensures in
+    omega arith ∙ ap number_of (bytes_at b k 7 (omega arith))

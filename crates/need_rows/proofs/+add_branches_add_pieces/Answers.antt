@@ -9,8 +9,7 @@ use Rattle.image.specs.Types.{children, term_kind}
 use Rattle.verdict.specs.Acceptable.{IsChild}
 use Rattle.read_terms.proofs.Located.{good_of, number_is}
 use Rattle.need_sums.specs.Walks.{role_at, is_branch, shape_of}
-use Rattle.need_sums.specs.Rows.{table_length}
-use Rattle.need_terms.proofs.Described.{match_three, part_of, has_of, type_there, kind_of_lem, count_of_lem, child_is, child_below, domain_in_lem}
+use Rattle.need_terms.proofs.Described.{match_three, read_off, part_of, has_of, type_there, kind_of_lem, count_of_lem, child_is, child_below, domain_in_lem}
 use Rattle.need_walk.specs.Counted.{Placed}
 use Rattle.need_walk.proofs.Positions.{child_placed}
 use Rattle.need_walk.proofs.Walked.{leaf_takes}
@@ -43,7 +42,7 @@ pub add_branches-returns : goal.add_branches-returns
 add_branches-returns t c =
     let a = c.args in
     let L = records_of a.image.now in
-    dearer_added (piece_at (in_row L a.s a.both.first.0)) (piece_at (in_row L a.s a.both.second.0)) a.rows.now c.add_pieces.new.rows c.add_rows.new.rows c.add_pieces-2.new.rows c.raise_rows.new.rows c.add_rows.ensures c.add_pieces.ensures c.add_pieces-2.ensures c.raise_rows.ensures
+    dearer_added (piece_at (in_row L a.s a.both.first.0)) (piece_at (in_row L a.s a.both.second.0)) a.rows.now c.add_pieces.new.rows c.add_pieces-2.new.rows c.raise_rows.new.rows c.add_pieces.ensures c.add_pieces-2.ensures c.raise_rows.ensures
 
 pub add_pieces-returns-then-kind-le-VARIABLE : goal.add_pieces-returns-then-kind-le-VARIABLE
 add_pieces-returns-then-kind-le-VARIABLE t c =
@@ -56,21 +55,21 @@ add_pieces-returns-then-kind-le-VARIABLE t c =
 
 pub add_pieces-part_domain-p-requires : goal.add_pieces-part_domain-p-requires
 add_pieces-part_domain-p-requires t c =
-    let r : HasFields c.args.image.now c.args.n.0 c.term_kind-kind.result c.term_fields-fields.result.now = record { there = c.requires.1; number = c.term_kind-kind.ensures; fields = c.term_fields-fields.ensures } in
+    let r = read_off c.requires.1 c.term_kind-kind.ensures c.term_fields-fields.ensures in
     (part_of c.requires.0.terms r, type_there c.requires.0 r)
 
 pub add_pieces-child_count-k-requires : goal.add_pieces-child_count-k-requires
 add_pieces-child_count-k-requires t c =
-    let r : HasFields c.args.image.now c.args.n.0 c.term_kind-kind.result c.term_fields-fields.result.now = record { there = c.requires.1; number = c.term_kind-kind.ensures; fields = c.term_fields-fields.ensures } in
+    let r = read_off c.requires.1 c.term_kind-kind.ensures c.term_fields-fields.ensures in
     (part_of c.requires.0.terms r).long
 
 pub add_pieces-loop-j-init : goal.add_pieces-loop-j-init
 add_pieces-loop-j-init t c =
-    (omega arith, c.requires.4, λ n r. none_through (records_of c.args.image.now) n c.args.s c.shape_of-shape.result.own c.args.rows.now (ap (λ y. y.own) (c.shape_of-shape.ensures (term_kind (records_of c.args.image.now) n) (kind_of_lem c.requires.0.terms r))) c.requires.3)
+    λ n r. none_through (records_of c.args.image.now) n c.args.s c.shape_of-shape.result.own c.args.rows.now (ap (λ y. y.own) (c.shape_of-shape.ensures (term_kind (records_of c.args.image.now) n) (kind_of_lem c.requires.0.terms r))) c.requires.3
 
 pub add_pieces-child_in-e-requires : goal.add_pieces-child_in-e-requires
 add_pieces-child_in-e-requires t c =
-    let r : HasFields c.args.image.now c.args.n.0 c.term_kind-kind.result c.term_fields-fields.result.now = record { there = c.requires.1; number = c.term_kind-kind.ensures; fields = c.term_fields-fields.ensures } in
+    let r = read_off c.requires.1 c.term_kind-kind.ensures c.term_fields-fields.ensures in
     let h = c.loop-j-test.true in
     let k = (count_of_lem c.requires.0.terms r c.child_count-k.result c.child_count-k.ensures) in
     has_of c.requires.0.terms r c.loop-j.j (omega arith)
@@ -85,7 +84,7 @@ add_pieces-add_pieces-requires t c =
     let p = c.part_domain-p.result.0 in
     let e = c.child_in-e.result.0 in
     let q = c.child_position-q.ensures in
-    let r : HasFields c.args.image.now c.args.n.0 c.term_kind-kind.result c.term_fields-fields.result.now = record { there = c.requires.1; number = c.term_kind-kind.ensures; fields = c.term_fields-fields.ensures } in
+    let r = read_off c.requires.1 c.term_kind-kind.ensures c.term_fields-fields.ensures in
     let h = c.loop-j-test.true in
     let low = (let k = (count_of_lem c.requires.0.terms r c.child_count-k.result c.child_count-k.ensures) in child_below c.requires.0.terms r j e c.child_in-e.ensures (omega arith)) in
     let i = c.requires.1 in
@@ -93,7 +92,7 @@ add_pieces-add_pieces-requires t c =
     let is-t = c.decreases in
     let child : IsChild L n j e = record { there = i; place = omega arith; is = sym (child_is c.requires.0.terms r j e c.child_in-e.ensures) } in
     let placed = child_placed L S n e p j role low child c.requires.2 in
-    (omega arith, (c.requires.0, omega arith, subst (λ y. Placed L y e) (sym q) placed, subst (λ y. of_advice y.mode ≡ true) (sym q) (child_of_advice S role p c.requires.3), c.loop-j.invariant.1))
+    (omega arith, (c.requires.0, omega arith, subst (λ y. Placed L y e) (sym q) placed, subst (λ y. of_advice y.mode ≡ true) (sym q) (child_of_advice S role p c.requires.3)))
 
 pub add_pieces-loop-j-preserved : goal.add_pieces-loop-j-preserved
 add_pieces-loop-j-preserved t c =
@@ -105,37 +104,30 @@ add_pieces-loop-j-preserved t c =
     let before = c.args.rows.now in
     let t' = c.loop-j-test.true in
     let b = c.is_branch in
-    let long : length c.if-not-is_branch.rows ≡ table_length = elim c.if-not-is_branch.branch [
-      | add_pieces-then-not-is_branch w ↦ ap length w.rows-is ∙ (w.add_pieces.auto.rows ∙ l.invariant.1)
-      | add_pieces-else-not-is_branch w ↦ ap length w.rows-is ∙ l.invariant.1
-    ] in (
-      omega arith,
-      long,
-      λ n r.
-          let k = count_of_lem c.requires.0.terms r c.child_count-k.result c.child_count-k.ensures in
-          let h : l.j < length (children L n) = omega arith in
-          let hr = c.role_at-role.ensures ∙ ap (λ y. role_at y l.j) (c.shape_of-shape.ensures (term_kind (records_of c.args.image.now) n) (kind_of_lem c.requires.0.terms r)) in
-          elim c.if-not-is_branch.branch [
-            | add_pieces-then-not-is_branch w ↦ subst (Through L n S own before (l.j + 1)) (sym w.rows-is) (plain_turn L n S own before l.j h role hr l.rows (l.invariant.2 n r) c.part_domain-p.result.0 w.child_in-e.result.0 (domain_in_lem c.requires.0 r c.part_domain-p.result.0 c.part_domain-p.ensures) (child_is c.requires.0.terms r l.j w.child_in-e.result.0 w.child_in-e.ensures) w.child_position-q.result w.child_position-q.ensures (sym b.ensures ∙ w.if-not-is_branch.true) _ w.add_pieces.ensures)
-            | add_pieces-else-not-is_branch w ↦ subst (Through L n S own before (l.j + 1)) (sym w.rows-is) (branch_turn L n S own before l.j h role hr l.rows (l.invariant.2 n r) (sym b.ensures ∙ w.if-not-is_branch.false))
-          ],
-    )
+    λ n r.
+    let k = count_of_lem c.requires.0.terms r c.child_count-k.result c.child_count-k.ensures in
+    let h : l.j < length (children L n) = omega arith in
+    let hr = c.role_at-role.ensures ∙ ap (λ y. role_at y l.j) (c.shape_of-shape.ensures (term_kind (records_of c.args.image.now) n) (kind_of_lem c.requires.0.terms r)) in
+    elim c.if-not-is_branch.branch [
+      | add_pieces-then-not-is_branch w ↦ subst (Through L n S own before (l.j + 1)) (sym w.rows-is) (plain_turn L n S own before l.j h role hr l.rows (l.invariant n r) c.part_domain-p.result.0 w.child_in-e.result.0 (domain_in_lem c.requires.0 r c.part_domain-p.result.0 c.part_domain-p.ensures) (child_is c.requires.0.terms r l.j w.child_in-e.result.0 w.child_in-e.ensures) w.child_position-q.result w.child_position-q.ensures (sym b.ensures ∙ w.if-not-is_branch.true) _ w.add_pieces.ensures)
+      | add_pieces-else-not-is_branch w ↦ subst (Through L n S own before (l.j + 1)) (sym w.rows-is) (branch_turn L n S own before l.j h role hr l.rows (l.invariant n r) (sym b.ensures ∙ w.if-not-is_branch.false))
+    ]
 
 pub add_pieces-child_in-requires : goal.add_pieces-child_in-requires
 add_pieces-child_in-requires t c =
-    let r : HasFields c.args.image.now c.args.n.0 c.term_kind-kind.result c.term_fields-fields.result.now = record { there = c.requires.1; number = c.term_kind-kind.ensures; fields = c.term_fields-fields.ensures } in
+    let r = read_off c.requires.1 c.term_kind-kind.ensures c.term_fields-fields.ensures in
     let three = (three_children (records_of c.args.image.now) (good_of c.args.image.now c.requires.0.terms.laid_out) c.args.n.0 c.requires.1 c.args.s (sym (ap (λ y. is_branch c.args.s y.second) (c.shape_of-shape.ensures (term_kind (records_of c.args.image.now) c.args.n.0) (kind_of_lem c.requires.0.terms r))) ∙ (sym c.is_branch-2.ensures ∙ c.if-is_branch.true))) in
     has_of c.requires.0.terms r 1 (omega arith)
 
 pub add_pieces-child_in-requires-then-is_branch : goal.add_pieces-child_in-requires-then-is_branch
 add_pieces-child_in-requires-then-is_branch t c =
-    let r : HasFields c.args.image.now c.args.n.0 c.term_kind-kind.result c.term_fields-fields.result.now = record { there = c.requires.1; number = c.term_kind-kind.ensures; fields = c.term_fields-fields.ensures } in
+    let r = read_off c.requires.1 c.term_kind-kind.ensures c.term_fields-fields.ensures in
     let three = (three_children (records_of c.args.image.now) (good_of c.args.image.now c.requires.0.terms.laid_out) c.args.n.0 c.requires.1 c.args.s (sym (ap (λ y. is_branch c.args.s y.second) (c.shape_of-shape.ensures (term_kind (records_of c.args.image.now) c.args.n.0) (kind_of_lem c.requires.0.terms r))) ∙ (sym c.is_branch-2.ensures ∙ c.if-is_branch.true))) in
     has_of c.requires.0.terms r 2 (omega arith)
 
 pub add_pieces-add_branches-requires : goal.add_pieces-add_branches-requires
 add_pieces-add_branches-requires t c =
-    let r : HasFields c.args.image.now c.args.n.0 c.term_kind-kind.result c.term_fields-fields.result.now = record { there = c.requires.1; number = c.term_kind-kind.ensures; fields = c.term_fields-fields.ensures } in
+    let r = read_off c.requires.1 c.term_kind-kind.ensures c.term_fields-fields.ensures in
     let b = sym (ap (λ y. is_branch c.args.s y.second) (c.shape_of-shape.ensures (term_kind (records_of c.args.image.now) c.args.n.0) (kind_of_lem c.requires.0.terms r))) ∙ (sym c.is_branch-2.ensures ∙ c.if-is_branch.true) in
     let first = branch_there c.requires.0 c.requires.1 c.requires.2 r b 1 c.child_in.result.0 (omega arith) c.child_in.ensures in
     let second = branch_there c.requires.0 c.requires.1 c.requires.2 r b 2 c.child_in-then-is_branch.result.0 (omega arith) c.child_in-then-is_branch.ensures in
@@ -143,32 +135,32 @@ add_pieces-add_branches-requires t c =
     let z = second.0 in
     let i = c.requires.1 in
     let is-t = c.decreases in
-    (omega arith, (c.requires.0, (omega arith, first.1), (omega arith, second.1), c.requires.3, c.charge_rows.auto.rows ∙ c.loop-j.invariant.1))
+    (omega arith, (c.requires.0, (omega arith, first.1), (omega arith, second.1), c.requires.3))
 
 pub add_pieces-returns-then-is_branch : goal.add_pieces-returns-then-is_branch
 add_pieces-returns-then-is_branch t c =
     let L = records_of c.args.image.now in
     let n = c.args.n.0 in
     let l = c.loop-j in
-    let r : HasFields c.args.image.now c.args.n.0 c.term_kind-kind.result c.term_fields-fields.result.now = record { there = c.requires.1; number = c.term_kind-kind.ensures; fields = c.term_fields-fields.ensures } in
+    let r = read_off c.requires.1 c.term_kind-kind.ensures c.term_fields-fields.ensures in
     let k = (count_of_lem c.requires.0.terms r c.child_count-k.result c.child_count-k.ensures) in
     let all = c.loop-j-test.false in
-    let in_range_lem = c.loop-j.invariant.0 in
+    let in_range_lem = c.loop-j.auto.j-end in
     let h : l.j ≡ length (children L n) = omega arith in
     let b = (sym (ap (λ y. is_branch c.args.s y.second) (c.shape_of-shape.ensures (term_kind (records_of c.args.image.now) c.args.n.0) (kind_of_lem c.requires.0.terms r))) ∙ (sym c.is_branch-2.ensures ∙ c.if-is_branch.true)) in
     let x = c.child_in in
     let y = c.child_in-then-is_branch in
-    with_branches L n c.args.s c.shape_of-shape.result.own c.args.rows.now (good_of c.args.image.now c.requires.0.terms.laid_out) c.requires.1 (λ e. match_three c.requires.0.terms c.requires.1 e) l.j h l.rows c.charge_rows.new.rows (l.invariant.2 n r) c.charge_rows.ensures b x.result.0 y.result.0 (child_is c.requires.0.terms r (1) x.result.0 x.ensures) (child_is c.requires.0.terms r (2) y.result.0 y.ensures) c.add_branches.new.rows c.add_branches.ensures
+    with_branches L n c.args.s c.shape_of-shape.result.own c.args.rows.now (good_of c.args.image.now c.requires.0.terms.laid_out) c.requires.1 (λ e. match_three c.requires.0.terms c.requires.1 e) l.j h l.rows c.charge_rows.new.rows (l.invariant n r) c.charge_rows.ensures b x.result.0 y.result.0 (child_is c.requires.0.terms r (1) x.result.0 x.ensures) (child_is c.requires.0.terms r (2) y.result.0 y.ensures) c.add_branches.new.rows c.add_branches.ensures
 
 pub add_pieces-returns-else-is_branch : goal.add_pieces-returns-else-is_branch
 add_pieces-returns-else-is_branch t c =
     let L = records_of c.args.image.now in
     let n = c.args.n.0 in
     let l = c.loop-j in
-    let r : HasFields c.args.image.now c.args.n.0 c.term_kind-kind.result c.term_fields-fields.result.now = record { there = c.requires.1; number = c.term_kind-kind.ensures; fields = c.term_fields-fields.ensures } in
+    let r = read_off c.requires.1 c.term_kind-kind.ensures c.term_fields-fields.ensures in
     let k = (count_of_lem c.requires.0.terms r c.child_count-k.result c.child_count-k.ensures) in
     let all = c.loop-j-test.false in
-    let in_range_lem = c.loop-j.invariant.0 in
+    let in_range_lem = c.loop-j.auto.j-end in
     let h : l.j ≡ length (children L n) = omega arith in
     let b = sym (ap (λ y. is_branch c.args.s y.second) (c.shape_of-shape.ensures (term_kind (records_of c.args.image.now) n) (kind_of_lem c.requires.0.terms r))) ∙ (sym c.is_branch-2.ensures ∙ c.if-is_branch.false) in
-    without_branches L n c.args.s c.shape_of-shape.result.own c.args.rows.now (good_of c.args.image.now c.requires.0.terms.laid_out) c.requires.1 (λ e. match_three c.requires.0.terms c.requires.1 e) l.j h l.rows c.charge_rows.new.rows (l.invariant.2 n r) c.charge_rows.ensures b
+    without_branches L n c.args.s c.shape_of-shape.result.own c.args.rows.now (good_of c.args.image.now c.requires.0.terms.laid_out) c.requires.1 (λ e. match_three c.requires.0.terms c.requires.1 e) l.j h l.rows c.charge_rows.new.rows (l.invariant n r) c.charge_rows.ensures b

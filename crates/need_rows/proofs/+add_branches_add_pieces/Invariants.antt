@@ -1,9 +1,6 @@
 -- `need_rows::add_branches` and `add_pieces` meet their contracts.
-use Prim.Native.Nat.{ℕ, ◌+◌, ◌*◌, ◌-◌, ◌≤◌, max}
-use mathlib.Core.Path.{◌≡◌}
-use lib.ListN.{length}
+use Prim.Native.Nat.{ℕ, ◌+◌, ◌*◌, max}
 use Rattle.image.specs.Layout.{records_of}
-use Rattle.need_sums.specs.Rows.{table_length}
 use Rattle.need_rows.proofs.Children.{Through}
 use Rattle.need_terms.specs.GivenToChildren.{HasFields}
 use Rattle.need_rows.proofs.+add_branches_add_pieces.Given as goal
@@ -16,10 +13,4 @@ decreases-add_pieces l = 2 * l.n.0 + 1
 
 -- The children before child j are through, of every term that has these fields.
 abbrev pub invariant-add_pieces-loop-j : goal.invariant-add_pieces-loop-j
-invariant-add_pieces-loop-j l =
-    (l.j ≤ l.k)
-    × (length l.rows ≡ table_length)
-    × ((n : ℕ) → HasFields l.image n l.kind l.fields → Through (records_of l.image) n l.s l.own l.initial.rows l.j l.rows)
-
-abbrev pub decreases-add_pieces-loop-j : goal.decreases-add_pieces-loop-j
-decreases-add_pieces-loop-j l = l.k - l.j
+invariant-add_pieces-loop-j l = (n : ℕ) → HasFields l.image n l.kind l.fields → Through (records_of l.image) n l.s l.shape.own l.initial.rows l.j l.rows

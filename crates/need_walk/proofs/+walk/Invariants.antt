@@ -1,4 +1,4 @@
-use Prim.Native.Nat.{ℕ, ◌-◌, ◌≤◌}
+use Prim.Native.Nat.{ℕ}
 use mathlib.Core.Path.{◌≡◌}
 use Rattle.image.specs.Layout.{records_of}
 use Rattle.need_sums.specs.Sums.{cut_needs}
@@ -12,8 +12,4 @@ decreases-walk l = l.at.term.0
 -- The sums over the children before child j, of every term that has these fields.
 abbrev pub invariant-loop-j : goal.invariant-loop-j
 invariant-loop-j l =
-    (l.j ≤ l.k)
-    × ((n : ℕ) → HasFields l.image n l.kind l.fields → (l.sum ≡ cut_needs (sum_to (records_of l.image) n l.s l.j)) × (l.choice ≡ cut_needs (choice_to (records_of l.image) n l.s l.j)))
-
-abbrev pub decreases-loop-j : goal.decreases-loop-j
-decreases-loop-j l = l.k - l.j
+    (n : ℕ) → HasFields l.image n l.kind l.fields → (l.sum ≡ cut_needs (sum_to (records_of l.image) n l.s l.j)) × (l.choice ≡ cut_needs (choice_to (records_of l.image) n l.s l.j))

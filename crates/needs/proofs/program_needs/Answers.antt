@@ -1,4 +1,4 @@
-use mathlib.Core.Path.{refl, ap}
+use mathlib.Core.Path.{ap}
 use native.Mathlib.Omega.{arith}
 use Rattle.image.specs.Layout.{records_of}
 use Rattle.read_terms.proofs.Located.{good_of}
@@ -14,7 +14,7 @@ walk-each-requires c =
     let few = (good_of c.args.image.now c.requires.0.terms.laid_out).few_terms in
     let some = c.requires.1 in
     let root = c.requires.2 in
-    (c.requires.0, omega arith, level_placed L _ _ c.mark_position.ensures root (omega arith) c.requires.3, refl, rw c.mark_position.ensures tt)
+    (c.requires.0, omega arith, level_placed L _ _ c.mark_position.ensures root (omega arith) c.requires.3, rw c.mark_position.ensures tt)
 
 pub add_pieces-requires : goal.add_pieces-requires
 add_pieces-requires c =
@@ -22,7 +22,7 @@ add_pieces-requires c =
     let few = (good_of c.args.image.now c.requires.0.terms.laid_out).few_terms in
     let some = c.requires.1 in
     let root = c.requires.2 in
-    (c.requires.0, omega arith, level_placed L _ _ c.mark_position-2.ensures root (omega arith) c.requires.3, ap (λ x. of_advice x.mode) c.mark_position-2.ensures, refl)
+    (c.requires.0, omega arith, level_placed L _ _ c.mark_position-2.ensures root (omega arith) c.requires.3, ap (λ x. of_advice x.mode) c.mark_position-2.ensures)
 
 pub walk-requires : goal.walk-requires
 walk-requires c =
@@ -32,7 +32,7 @@ walk-requires c =
     let root = c.requires.2 in
     let rows = c.add_pieces.new.rows in
     let known : Known L program_position c.walk-each.result rows = marks_known L c.mark_position.result c.mark_position-2.result c.args.root.0 c.walk-each.result rows c.mark_position.ensures c.mark_position-2.ensures root c.walk-each.ensures c.add_pieces.ensures in
-    (c.requires.0, omega arith, program_placed L _ _ c.program_position.ensures root (omega arith) c.requires.3, c.add_pieces.auto.rows, rw c.program_position.ensures known)
+    (c.requires.0, omega arith, program_placed L _ _ c.program_position.ensures root (omega arith) c.requires.3, rw c.program_position.ensures known)
 
 pub returns : goal.returns
 returns c =

@@ -28,7 +28,7 @@ leaves_of-n-requires c =
     (λ e. let p = pair_parts c.args.image.now c.args.descriptors.now c.requires.0 c.loop-i.i h e in
     let i = c.loop-i.invariant in
     let l = c.requires.2 in
-    (record { inside = omega arith; few = rw (i.2 _ p.2) (plain_few _) }, record { inside = omega arith; few = rw (i.2 _ p.3) (plain_few _) }))
+    (record { inside = omega arith; few = rw (i.1 _ p.2) (plain_few _) }, record { inside = omega arith; few = rw (i.1 _ p.3) (plain_few _) }))
 
 pub loop-i-preserved : goal.loop-i-preserved
 loop-i-preserved c =
@@ -36,19 +36,11 @@ loop-i-preserved c =
     let h : c.loop-i.i < length (records_of c.args.image.now).types = omega arith in
     let i = c.loop-i.invariant in
     let l = c.requires.2 in
-    let r : c.leaves_of-n.result ≡ plain_leaves (type_of (records_of c.args.image.now) c.loop-i.i) = c.leaves_of-n.ensures ∙ ap (λ x. leaves_of x c.loop-i.table) c.type_descriptor.ensures ∙ leaves_right c.args.image.now c.args.descriptors.now c.requires.0 c.loop-i.i h c.loop-i.table i.2 in
+    let r : c.leaves_of-n.result ≡ plain_leaves (type_of (records_of c.args.image.now) c.loop-i.i) = c.leaves_of-n.ensures ∙ ap (λ x. leaves_of x c.loop-i.table) c.type_descriptor.ensures ∙ leaves_right c.args.image.now c.args.descriptors.now c.requires.0 c.loop-i.i h c.loop-i.table i.1 in
     rw c.set_leaf.ensures (
-      omega arith,
-      length-set c.loop-i.table c.loop-i.i c.leaves_of-n.result ∙ i.1,
+      length-set c.loop-i.table c.loop-i.i c.leaves_of-n.result ∙ i.0,
       below_more (λ u. get_or (set c.loop-i.table c.loop-i.i c.leaves_of-n.result) u 0 ≡ plain_leaves (type_of (records_of c.args.image.now) u)) c.loop-i.i
-          (λ u z. get_or-set_other c.loop-i.table c.loop-i.i u c.leaves_of-n.result 0 (λ q. omega arith) ∙ i.2 u z)
+          (λ u z. get_or-set_other c.loop-i.table c.loop-i.i u c.leaves_of-n.result 0 (λ q. omega arith) ∙ i.1 u z)
           (get_or-set_same c.loop-i.table c.loop-i.i c.leaves_of-n.result 0 (omega arith) ∙ r),
-      drop-set-lt c.args.count c.loop-i.table c.loop-i.i c.leaves_of-n.result (omega arith) ∙ i.3,
+      drop-set-lt c.args.count c.loop-i.table c.loop-i.i c.leaves_of-n.result (omega arith) ∙ i.2,
     )
-
-pub returns : goal.returns
-returns c =
-    let i = c.loop-i.invariant in
-    let m = c.requires.1 in
-    let l = c.requires.2 in
-    (record { enough = omega (arith, i.1); counts = λ u z. i.2 u (omega arith) }, i.3)

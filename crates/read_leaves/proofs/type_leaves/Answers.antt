@@ -1,6 +1,5 @@
 -- `read_leaves::type_leaves` meets its contract.
 use native.Mathlib.Omega.{arith}
-use mathlib.Core.Path.{◌∙◌}
 use Rattle.read_terms.proofs.Located.{good_of}
 use Rattle.read_leaves.proofs.PlainTypes.{scalar_leaf}
 use Rattle.read_leaves.proofs.type_leaves.Goals as goal
@@ -16,7 +15,3 @@ set_leaves-requires c =
     let f = (good_of c.args.image.now c.requires.0.laid_out).few_types in
     let n = c.requires.1 in
     (c.requires.0, c.requires.1, omega arith)
-
-pub returns : goal.returns
-returns c =
-    c.leaves_at.ensures ∙ c.set_leaves.ensures.0.counts c.args.t.0 c.requires.2

@@ -1,11 +1,18 @@
 -- `check_core::cells::check_lower` meets its contract.
-use Rattle.image.specs.Bytes.{words}
-use Rattle.image.specs.Kinds.{TermKind}
-use Rattle.check_rules.proofs.OnDescriptors.{at_field_typed, on_masks}
+use native.Mathlib.Omega.{arith}
+use Rattle.std.specs.Prelude.{[], ◌∷◌, ◌≡◌}
 use mathlib.Core.Path.{◌∙◌}
+use Rattle.laws.specs.Tests.{all}
+use Rattle.image.specs.Bytes.{words}
+use Rattle.image.specs.Kinds.{TypeKind, TermKind}
+use Rattle.check_rules.proofs.OnDescriptors.{at_field_typed, on_masks}
+use Rattle.read_terms.specs.Descriptors.{descriptor_is}
 use Rattle.check_core.proofs.cells.check_lower.Goals as goal
+use Rattle.check_core.proofs.cells.check_lower.Goals.{then-is_kind, else-is_kind}
 
 pub returns : goal.returns
-unfolding words
+unfolding words all
 returns c =
-    λ Γ. c.judge.ensures ∙ simp (c.leq.ensures, c.both.ensures, c.is_kind-2.ensures, c.is_kind.ensures, c.other_field.ensures, c.descriptor_at_field-first.ensures, c.own_descriptor-own.ensures) (on_masks c.requires.0.types c.requires.1 c.args.at TermKind.lower (record { context = Γ; dom = c.args.c.0 }) (at_field_typed c.requires.0 c.requires.2, tt) c.requires.3)
+    λ Γ.
+    let e : c.if-is_kind.judge ≡ all (c.is_kind.result ∷ descriptor_is c.descriptor_at_field-first.result TypeKind.unit ∷ []) = elim c.if-is_kind.branch [ then-is_kind w ↦ grind arith | else-is_kind w ↦ grind arith ] in
+    c.judge.ensures ∙ simp (e, c.leq.ensures, c.is_kind.ensures, c.other_field.ensures, c.descriptor_at_field-first.ensures, c.own_descriptor-own.ensures) (on_masks c.requires.0.types c.requires.1 c.args.at TermKind.lower (record { context = Γ; dom = c.args.c.0 }) (at_field_typed c.requires.0 c.requires.2, tt) c.requires.3)

@@ -1,11 +1,18 @@
 -- `check_core::computing::check_function` meets its contract.
+use native.Mathlib.Omega.{arith}
+use Rattle.std.specs.Prelude.{[], ◌∷◌, ◌≡◌, eqb}
+use mathlib.Core.Path.{◌∙◌}
+use Rattle.laws.specs.Tests.{all}
 use Rattle.image.specs.Bytes.{words}
 use Rattle.image.specs.Kinds.{TermKind}
 use Rattle.check_rules.proofs.OnDescriptors.{at_field_typed, on_descriptors}
-use mathlib.Core.Path.{◌∙◌}
+use Rattle.read_records.specs.Descriptors.{descriptor_field2}
 use Rattle.check_core.proofs.computing.check_function.Goals as goal
+use Rattle.check_core.proofs.computing.check_function.Goals.{then-is_kind, else-is_kind}
 
 pub returns : goal.returns
-unfolding words
+unfolding words all
 returns c =
-    λ p. c.judge.ensures ∙ simp (c.both.ensures, c.same_type.ensures, c.third_type.ensures, c.is_kind.ensures, c.type_at_field-first.ensures.0, c.own_descriptor-own.ensures) (on_descriptors c.requires.0.types c.requires.1 c.args.at TermKind.fun p (at_field_typed c.requires.0 c.requires.2, tt))
+    λ p.
+    let e : c.if-is_kind.judge ≡ all (c.is_kind.result ∷ eqb (descriptor_field2 c.own_descriptor-own.result) c.type_at_field-first.result.0 ∷ []) = elim c.if-is_kind.branch [ then-is_kind w ↦ grind arith | else-is_kind w ↦ grind arith ] in
+    c.judge.ensures ∙ simp (e, c.is_kind.ensures, c.type_at_field-first.ensures.0, c.own_descriptor-own.ensures) (on_descriptors c.requires.0.types c.requires.1 c.args.at TermKind.fun p (at_field_typed c.requires.0 c.requires.2, tt))

@@ -1,11 +1,21 @@
 -- `check_core::computing::check_pair` meets its contract.
+use native.Mathlib.Omega.{arith}
+use Rattle.std.specs.Prelude.{[], ◌∷◌, ◌≡◌, eqb}
+use mathlib.Core.Path.{ap, ◌∙◌}
+use Rattle.laws.specs.Tests.{all}
 use Rattle.image.specs.Bytes.{words}
 use Rattle.image.specs.Kinds.{TermKind}
 use Rattle.check_rules.proofs.OnDescriptors.{at_field_typed, on_descriptors}
-use mathlib.Core.Path.{◌∙◌}
+use Rattle.read_records.specs.Descriptors.{descriptor_field0, descriptor_field1}
+use Rattle.check_rules.proofs.Small.{two_first}
 use Rattle.check_core.proofs.computing.check_pair.Goals as goal
+use Rattle.check_core.proofs.computing.check_pair.Goals.{then-is_kind, else-is_kind, then-same_type, else-same_type}
 
 pub returns : goal.returns
-unfolding words
+unfolding words all
 returns c =
-    λ p. c.judge.ensures ∙ simp (c.all_three.ensures, c.is_kind.ensures, c.same_type.ensures, c.same_type-2.ensures, c.first_type.ensures, c.second_type.ensures, c.type_at_field-first.ensures.0, c.type_at_field-second.ensures.0, c.own_descriptor-own.ensures) (on_descriptors c.requires.0.types c.requires.1 c.args.at TermKind.pair p (at_field_typed c.requires.0 c.requires.2, (at_field_typed c.requires.0 c.requires.3, tt)))
+    λ p.
+    let d : c.if-is_kind.value ≡ all (c.is_kind.result ∷ eqb (descriptor_field0 c.own_descriptor-own.result) c.type_at_field-first.result.0 ∷ []) = elim c.if-is_kind.branch [ then-is_kind w ↦ grind arith | else-is_kind w ↦ grind arith ] in
+    let l : c.if-same_type.judge ≡ all (c.if-is_kind.value ∷ eqb (descriptor_field1 c.own_descriptor-own.result) c.type_at_field-second.result.0 ∷ []) = elim c.if-same_type.branch [ then-same_type w ↦ grind arith | else-same_type w ↦ grind arith ] in
+    let e = l ∙ ap (λ v. all (v ∷ eqb (descriptor_field1 c.own_descriptor-own.result) c.type_at_field-second.result.0 ∷ [])) d ∙ two_first c.is_kind.result (eqb (descriptor_field0 c.own_descriptor-own.result) c.type_at_field-first.result.0) (eqb (descriptor_field1 c.own_descriptor-own.result) c.type_at_field-second.result.0) in
+    c.judge.ensures ∙ simp (e, c.is_kind.ensures, c.type_at_field-first.ensures.0, c.type_at_field-second.ensures.0, c.own_descriptor-own.ensures) (on_descriptors c.requires.0.types c.requires.1 c.args.at TermKind.pair p (at_field_typed c.requires.0 c.requires.2, (at_field_typed c.requires.0 c.requires.3, tt)))

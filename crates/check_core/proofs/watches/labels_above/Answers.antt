@@ -9,29 +9,24 @@ use Rattle.read_terms.proofs.Lists.{test_more, test_fails, test_ends}
 use Rattle.check_rules.proofs.OnDescriptors.{labels_length, label_at}
 use Rattle.check_core.proofs.watches.labels_above.Goals as goal
 
-pub descriptor_at_field-descriptor-requires : goal.descriptor_at_field-descriptor-requires
-descriptor_at_field-descriptor-requires c =
-    let k = c.labels_in-k.ensures in
-    (c.requires.0.terms, c.requires.0.types, c.requires.1.each c.loop-i.i (omega arith))
-
 pub loop-i-preserved : goal.loop-i-preserved
 loop-i-preserved c =
-    let k = c.labels_in-k.ensures in
+    let k = c.labels_in-i-end.ensures in
     let n = labels_length c.args.image.now c.args.fields.now in
     let l = label_at c.args.image.now c.args.fields.now c.loop-i.i (omega arith) in
     let e : label_above c.args.masks.now c.args.descriptors.now c.args.d.0 (get_or (types_in c.args.image.now c.args.fields.now TermKind.pcd) c.loop-i.i 0) ≡ c.leq.result = sym (c.leq.ensures ∙ simp (c.second_domain.ensures, c.descriptor_at_field-descriptor.ensures, ← l)) in
-    (omega arith, test_more _ _ c.loop-i.i (omega arith) (e ∙ c.if-leq.true) ∙ c.loop-i.invariant.1)
+    test_more _ _ c.loop-i.i (omega arith) (e ∙ c.if-not-leq.false) ∙ c.loop-i.invariant
 
-pub returns-else-leq : goal.returns-else-leq
-returns-else-leq c =
-    let k = c.labels_in-k.ensures in
+pub returns-then-not-leq : goal.returns-then-not-leq
+returns-then-not-leq c =
+    let k = c.labels_in-i-end.ensures in
     let n = labels_length c.args.image.now c.args.fields.now in
     let l = label_at c.args.image.now c.args.fields.now c.loop-i.i (omega arith) in
     let e : label_above c.args.masks.now c.args.descriptors.now c.args.d.0 (get_or (types_in c.args.image.now c.args.fields.now TermKind.pcd) c.loop-i.i 0) ≡ c.leq.result = sym (c.leq.ensures ∙ simp (c.second_domain.ensures, c.descriptor_at_field-descriptor.ensures, ← l)) in
-    test_fails _ _ c.loop-i.i (omega arith) (e ∙ c.if-leq.false) ∙ c.loop-i.invariant.1
+    test_fails _ _ c.loop-i.i (omega arith) (e ∙ c.if-not-leq.true) ∙ c.loop-i.invariant
 
 pub returns : goal.returns
 returns c =
-    let k = c.labels_in-k.ensures in
+    let k = c.labels_in-i-end.ensures in
     let n = labels_length c.args.image.now c.args.fields.now in
-    test_ends _ _ c.loop-i.i (omega arith) ∙ c.loop-i.invariant.1
+    test_ends _ _ c.loop-i.i (omega arith) ∙ c.loop-i.invariant

@@ -15,12 +15,12 @@ use Rattle.check_objects.proofs.objects.bodies_fit.Goals as goal
 
 pub type_at_field-body-requires : goal.type_at_field-body-requires
 type_at_field-body-requires c =
-    let k = c.bodies_in-k.ensures in
+    let k = c.bodies_in-i-end.ensures in
     (c.requires.1, c.requires.3.each c.loop-i.i (omega arith))
 
 pub method_type-requires : goal.method_type-requires
 method_type-requires c =
-    let k = c.bodies_in-k.ensures in
+    let k = c.bodies_in-i-end.ensures in
     let m = c.requires.4 in
     (c.requires.0, c.requires.2, omega arith)
 
@@ -29,27 +29,27 @@ loop-i-preserved c =
     let a = c.args in
     let ts = types_in a.image.now a.fields.now TermKind.obj in
     let i = c.loop-i.i in
-    let k = c.bodies_in-k.ensures in
+    let k = c.bodies_in-i-end.ensures in
     let n = types_length a.image.now a.fields.now TermKind.obj refl in
     let l = body_at a.image.now a.fields.now i (omega arith) in
     let e : eqb (type_field (records_of a.image.now) a.t.0 (2 * i + 1)) (get_or ts i 0) ≡ c.same_type.result = sym (c.same_type.ensures ∙ simp (c.method_type.ensures, c.type_at_field-body.ensures.0, ← l)) in
-    (omega arith, fit_more (records_of a.image.now) (describe (records_of a.image.now) a.t.0) ts i (omega arith) (e ∙ c.if-same_type.true) ∙ c.loop-i.invariant.1)
+    fit_more (records_of a.image.now) (describe (records_of a.image.now) a.t.0) ts i (omega arith) (e ∙ c.if-not-same_type.false) ∙ c.loop-i.invariant
 
-pub returns-else-same_type : goal.returns-else-same_type
-returns-else-same_type c =
+pub returns-then-not-same_type : goal.returns-then-not-same_type
+returns-then-not-same_type c =
     let a = c.args in
     let ts = types_in a.image.now a.fields.now TermKind.obj in
     let i = c.loop-i.i in
-    let k = c.bodies_in-k.ensures in
+    let k = c.bodies_in-i-end.ensures in
     let n = types_length a.image.now a.fields.now TermKind.obj refl in
     let l = body_at a.image.now a.fields.now i (omega arith) in
     let e : eqb (type_field (records_of a.image.now) a.t.0 (2 * i + 1)) (get_or ts i 0) ≡ c.same_type.result = sym (c.same_type.ensures ∙ simp (c.method_type.ensures, c.type_at_field-body.ensures.0, ← l)) in
-    fit_fails (records_of a.image.now) (describe (records_of a.image.now) a.t.0) ts i (omega arith) (e ∙ c.if-same_type.false) ∙ c.loop-i.invariant.1
+    fit_fails (records_of a.image.now) (describe (records_of a.image.now) a.t.0) ts i (omega arith) (e ∙ c.if-not-same_type.true) ∙ c.loop-i.invariant
 
 pub returns : goal.returns
 returns c =
     let a = c.args in
     let ts = types_in a.image.now a.fields.now TermKind.obj in
-    let k = c.bodies_in-k.ensures in
+    let k = c.bodies_in-i-end.ensures in
     let n = types_length a.image.now a.fields.now TermKind.obj refl in
-    fit_ends (records_of a.image.now) (describe (records_of a.image.now) a.t.0) ts c.loop-i.i (omega arith) ∙ c.loop-i.invariant.1
+    fit_ends (records_of a.image.now) (describe (records_of a.image.now) a.t.0) ts c.loop-i.i (omega arith) ∙ c.loop-i.invariant

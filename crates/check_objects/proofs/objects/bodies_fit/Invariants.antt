@@ -1,6 +1,5 @@
 -- `check_objects::objects::bodies_fit` meets its contract: so far each body is of its method's type.
 use mathlib.Core.Path.{◌≡◌}
-use Prim.Native.Nat.{◌-◌, ◌≤◌}
 use lib.ListN.{drop}
 use Rattle.image.specs.Kinds.{TermKind}
 use Rattle.image.specs.Layout.{records_of}
@@ -11,8 +10,4 @@ use Rattle.check_objects.proofs.objects.bodies_fit.Given as goal
 
 abbrev pub invariant-loop-i : goal.invariant-loop-i
 invariant-loop-i l =
-    (l.i ≤ l.k)
-    × (bodies_fit (describe (records_of l.image) l.t.0) l.i (described (records_of l.image) (drop l.i (types_in l.image l.fields TermKind.obj))) ≡ bodies_fit (describe (records_of l.image) l.t.0) 0 (described (records_of l.image) (types_in l.image l.fields TermKind.obj)))
-
-abbrev pub decreases-loop-i : goal.decreases-loop-i
-decreases-loop-i l = l.k - l.i
+    bodies_fit (describe (records_of l.image) l.t.0) l.i (described (records_of l.image) (drop l.i (types_in l.image l.fields TermKind.obj))) ≡ bodies_fit (describe (records_of l.image) l.t.0) 0 (described (records_of l.image) (types_in l.image l.fields TermKind.obj))

@@ -1,7 +1,7 @@
 -- `check_objects::stacks::entries_fit` meets its contract: so far each entry fits, and those that are left decide.
 use borrow.Author.Rules.{rules}
 use native.Mathlib.Omega.{arith}
-use mathlib.Core.Path.{◌≡◌, refl, sym, ap, ◌∙◌}
+use mathlib.Core.Path.{◌≡◌, sym, ap, ◌∙◌}
 use Prim.Native.Nat.{ℕ, ◌+◌, ◌<◌}
 use mathlib.Core.List.{List}
 use mathlib.Core.Bool.{Bool, ◌&&◌}
@@ -14,7 +14,6 @@ use Rattle.read_records.proofs.Entries.{entries_left, next_left, none_left}
 use Rattle.read_terms.specs.Fields.{first_entry}
 use Rattle.check_rules.specs.Judged.{cut_of}
 use Rattle.read_terms.proofs.Lists.{each_append}
-use Rattle.read_terms.proofs.Matches.{at_first}
 use Rattle.check_objects.proofs.stacks.entries_fit.Goals as goal
 
 -- One entry, whose test says r, and those behind it.
@@ -24,15 +23,10 @@ entry_decides ok fs n i v r h e q =
     ap (λ es. all_of ok es) (next_left fs first_entry n i v h e)
     ∙ (each_append ok (as_child an_entry v) (entries_left fs first_entry n (i + 1)) ∙ ap (λ x. x && all_of ok (entries_left fs first_entry n (i + 1))) (sym q))
 
-pub loop-i-init : goal.loop-i-init
-loop-i-init c =
-    let e = at_first c.args.fields.now c.entries_in-n.result c.entries_in-n.ensures in
-    rw (← e) (search rules, refl)
-
 pub entry_fits-requires : goal.entry_fits-requires
 entry_fits-requires c =
     let l = c.loop-i in
-    let k = c.entries_in-n.ensures in
+    let k = c.entries_in-i-end.ensures in
     let h = c.requires.1.each l.i (omega arith) in
     (c.requires.0, omega (arith, c.field-entry.ensures))
 
@@ -40,20 +34,20 @@ pub returns-then-not-entry_fits : goal.returns-then-not-entry_fits
 returns-then-not-entry_fits c =
     let l = c.loop-i in
     let ok = cut_of (records_of c.args.image.now) c.args.descriptors.now in
-    let e = entry_decides ok c.args.fields.now c.entries_in-n.result l.i c.field-entry.result c.entry_fits.result c.loop-i-test.true c.field-entry.ensures c.entry_fits.ensures in
-    sym (rw (c.if-not-entry_fits.true) at e) ∙ l.invariant.1
+    let e = entry_decides ok c.args.fields.now c.entries_in-i-end.result l.i c.field-entry.result c.entry_fits.result c.loop-i-test.true c.field-entry.ensures c.entry_fits.ensures in
+    sym (rw (c.if-not-entry_fits.true) at e) ∙ l.invariant
 
 pub loop-i-preserved : goal.loop-i-preserved
 loop-i-preserved c =
     let l = c.loop-i in
     let ok = cut_of (records_of c.args.image.now) c.args.descriptors.now in
-    let e = entry_decides ok c.args.fields.now c.entries_in-n.result l.i c.field-entry.result c.entry_fits.result c.loop-i-test.true c.field-entry.ensures c.entry_fits.ensures in
-    (search rules, sym (rw (c.if-not-entry_fits.false) at e) ∙ l.invariant.1)
+    let e = entry_decides ok c.args.fields.now c.entries_in-i-end.result l.i c.field-entry.result c.entry_fits.result c.loop-i-test.true c.field-entry.ensures c.entry_fits.ensures in
+    sym (rw (c.if-not-entry_fits.false) at e) ∙ l.invariant
 
 pub returns : goal.returns
 unfolding all_of
 returns c =
     let l = c.loop-i in
     let fs = c.args.fields.now in
-    let z = none_left fs first_entry c.entries_in-n.result l.i (search rules) in
-    sym (ap (λ es. all_of (cut_of (records_of c.args.image.now) c.args.descriptors.now) es) z) ∙ l.invariant.1
+    let z = none_left fs first_entry c.entries_in-i-end.result l.i (search rules) in
+    sym (ap (λ es. all_of (cut_of (records_of c.args.image.now) c.args.descriptors.now) es) z) ∙ l.invariant

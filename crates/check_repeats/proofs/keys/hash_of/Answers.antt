@@ -9,16 +9,16 @@ use Rattle.check_repeats.proofs.keys.hash_of.Goals as goal
 
 pub loop-i-init : goal.loop-i-init
 unfolding hash_to
-loop-i-init c = (refl, search rules, refl)
+loop-i-init c = refl
 
 pub loop-i-preserved : goal.loop-i-preserved
 unfolding hash_to
 loop-i-preserved c =
     let l = c.loop-i in
-    (search rules, search rules, rw (add-one l.i) (c.mix-hash.ensures ∙ rw (l.invariant.2, c.field.ensures)))
+    rw (add-one l.i) (c.mix-hash.ensures ∙ rw (l.invariant, c.field.ensures))
 
 pub returns : goal.returns
 returns c =
     let l = c.loop-i in
     let e : l.i ≡ length c.args.fields.now / 2 = search rules in
-    rw e at l.invariant.2
+    rw e at l.invariant

@@ -7,15 +7,15 @@ use Rattle.check_repeats.proofs.keys.is_new_key.Goals as goal
 
 pub loop-i-init : goal.loop-i-init
 unfolding all_below
-loop-i-init c = (search rules, refl)
+loop-i-init c = refl
 
 pub loop-i-preserved : goal.loop-i-preserved
 loop-i-preserved c =
     let a = c.args in
-    (search rules, new_more a.filter.now a.key c.loop-i.i c.loop-i.new _ c.loop-i.invariant.1 c.both-new.ensures)
+    new_more a.filter.now a.key c.loop-i.i c.loop-i.new _ c.loop-i.invariant refl
 
 pub returns : goal.returns
 returns c =
     let l = c.loop-i in
     let e : l.i ≡ c.args.t.0 = search rules in
-    rw e at l.invariant.1
+    rw e at l.invariant

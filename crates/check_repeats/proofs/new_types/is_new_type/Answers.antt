@@ -10,7 +10,7 @@ use Rattle.check_repeats.proofs.new_types.is_new_type.Goals as goal
 
 pub loop-i-init : goal.loop-i-init
 unfolding all_below
-loop-i-init c = (search rules, refl)
+loop-i-init c = refl
 
 pub is_equal_type-requires : goal.is_equal_type-requires
 is_equal_type-requires c =
@@ -26,9 +26,9 @@ pub loop-i-preserved : goal.loop-i-preserved
 loop-i-preserved c =
     let a = c.args in
     let ok : ℕ → Bool = λ i. not (equal_type a.image.now a.fields.now a.types.now a.descriptors.now a.descriptor i) in
-    (search rules, below_more ok c.loop-i.i c.loop-i.invariant.1 (ap not (sym c.is_equal_type.ensures ∙ c.if-is_equal_type.false)))
+    below_more ok c.loop-i.i c.loop-i.invariant (ap not (sym c.is_equal_type.ensures ∙ c.if-is_equal_type.false))
 
 pub returns : goal.returns
 returns c =
     let e : c.loop-i.i ≡ c.args.t.0 = search rules in
-    sym (rw e at c.loop-i.invariant.1)
+    sym (rw e at c.loop-i.invariant)

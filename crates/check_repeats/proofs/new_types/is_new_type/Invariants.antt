@@ -1,12 +1,8 @@
 -- `check_repeats::new_types::is_new_type` meets its contract: so far no type is the same.
-use Prim.Native.Nat.{◌-◌, ◌≤◌}
 use mathlib.Core.Path.{◌≡◌}
 use mathlib.Core.Bool.{true}
 use Rattle.check_repeats.specs.NewTypes.{new_type}
 use Rattle.check_repeats.proofs.new_types.is_new_type.Given as goal
 
 abbrev pub invariant-loop-i : goal.invariant-loop-i
-invariant-loop-i l = (l.i ≤ l.t.0) × (new_type l.image l.fields l.i l.types l.descriptors l.descriptor ≡ true)
-
-abbrev pub decreases-loop-i : goal.decreases-loop-i
-decreases-loop-i l = l.t.0 - l.i
+invariant-loop-i l = (new_type l.image l.fields l.i l.types l.descriptors l.descriptor ≡ true)

@@ -21,7 +21,7 @@ returns-then-a-b c = let a = c.args in simp (ne_eqb (length a.a.now) (length a.b
 
 pub loop-i-init : goal.loop-i-init
 unfolding all_below
-loop-i-init c = (search rules, refl, search rules, refl)
+loop-i-init c = (search rules, refl)
 
 pub returns-then-field : goal.returns-then-field
 returns-then-field c =
@@ -33,10 +33,10 @@ pub loop-i-preserved : goal.loop-i-preserved
 loop-i-preserved c =
     let a = c.args in
     let h : same a.a.now a.b.now c.loop-i.i ≡ true = eq-eqb _ _ (sym c.field.ensures ∙ (c.if-field.false ∙ c.field-in-loop-i.ensures)) in
-    (c.loop-i.invariant.0, refl, search rules, below_more (same a.a.now a.b.now) c.loop-i.i c.loop-i.invariant.3 h)
+    (c.loop-i.invariant.0, below_more (same a.a.now a.b.now) c.loop-i.i c.loop-i.invariant.1 h)
 
 pub returns : goal.returns
 returns c =
     let a = c.args in
     let e : c.loop-i.i ≡ length a.a.now / 2 = search rules in
-    simp (eq-eqb _ _ c.loop-i.invariant.0, rw e at c.loop-i.invariant.3)
+    simp (eq-eqb _ _ c.loop-i.invariant.0, rw e at c.loop-i.invariant.1)

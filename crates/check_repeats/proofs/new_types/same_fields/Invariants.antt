@@ -1,5 +1,5 @@
 -- `check_repeats::new_types::same_fields` meets its contract: so far all numbers are the same.
-use Prim.Native.Nat.{ℕ, ◌-◌, ◌/◌, ◌≤◌}
+use Prim.Native.Nat.{ℕ}
 use mathlib.Core.Path.{◌≡◌}
 use mathlib.Core.Bool.{Bool, true}
 use mathlib.Core.List.{List}
@@ -14,7 +14,4 @@ abbrev same : List ℕ → List ℕ → ℕ → Bool
 same a b j = eqb (field_in a j) (field_in b j)
 
 abbrev pub invariant-loop-i : goal.invariant-loop-i
-invariant-loop-i l = (length l.a ≡ length l.b) × (l.n ≡ length l.a / 2) × (l.i ≤ l.n) × (all_below l.i (same l.a l.b) ≡ true)
-
-abbrev pub decreases-loop-i : goal.decreases-loop-i
-decreases-loop-i l = l.n - l.i
+invariant-loop-i l = (length l.a ≡ length l.b) × (all_below l.i (same l.a l.b) ≡ true)

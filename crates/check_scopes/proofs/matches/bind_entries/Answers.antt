@@ -15,18 +15,18 @@ use Rattle.check_scopes.proofs.matches.bind_entries.Goals as goal
 pub loop-i-init : goal.loop-i-init
 loop-i-init c =
     let a = c.args in
-    let e = at_first a.fields.now c.entries_in-n.result c.entries_in-n.ensures in
-    (search rules, omega arith, c.requires.2, λ x m D. subst (λ es. Binds a.scope.now x a.len m (value_types (records_of a.image.now) es)) (sym e) D)
+    let e = at_first a.fields.now c.entries_in-i-end.result c.entries_in-i-end.ensures in
+    (omega arith, c.requires.2, λ x m D. subst (λ es. Binds a.scope.now x a.len m (value_types (records_of a.image.now) es)) (sym e) D)
 
 pub bind_entry-used-requires : goal.bind_entry-used-requires
 bind_entry-used-requires c =
     let l = c.loop-i in
-    let k = c.entries_in-n.ensures in
+    let k = c.entries_in-i-end.ensures in
     let h = c.requires.1.each l.i (omega arith) in
     let f = c.requires.1.few in
     let r = c.requires.3 in
-    let u = c.loop-i.invariant.1 in
-    (c.requires.0, omega (arith, c.field-entry.ensures), l.invariant.2, omega arith)
+    let u = c.loop-i.invariant.0 in
+    (c.requires.0, omega (arith, c.field-entry.ensures), l.invariant.1, omega arith)
 
 pub loop-i-preserved : goal.loop-i-preserved
 loop-i-preserved c =
@@ -38,16 +38,16 @@ loop-i-preserved c =
     let few = few_named v.result in
     let size = values_length L (as_child an_entry v.result) in
     let w = c.bind_entry-used.ensures.used in
-    let u = c.loop-i.invariant.1 in
-    (search rules, omega arith, B.same ∙ l.invariant.2, λ x m D. l.invariant.3 x m (binds_entry L a.fields.now c.entries_in-n.result l.i v.result c.loop-i-test.true v.ensures B D))
+    let u = c.loop-i.invariant.0 in
+    (omega arith, B.same ∙ l.invariant.1, λ x m D. l.invariant.2 x m (binds_entry L a.fields.now c.entries_in-i-end.result l.i v.result c.loop-i-test.true v.ensures B D))
 
 pub returns : goal.returns
 returns c =
     let l = c.loop-i in
     let L = records_of c.args.image.now in
-    let z = none_left c.args.fields.now first_entry c.entries_in-n.result l.i (search rules) in
-    let u = c.loop-i.invariant.1 in
-    let i = c.loop-i.invariant.0 in
-    let k = c.entries_in-n.ensures in
+    let z = none_left c.args.fields.now first_entry c.entries_in-i-end.result l.i (search rules) in
+    let u = c.loop-i.invariant.0 in
+    let i = c.loop-i.auto.i-end in
+    let k = c.entries_in-i-end.ensures in
     let f = c.requires.1.few in
-    (l.invariant.3 l.scope l.used (subst (λ es. Binds l.scope l.scope l.used l.used (value_types L es)) (sym z) (binds_none l.scope l.used)), omega arith)
+    (l.invariant.2 l.scope l.used (subst (λ es. Binds l.scope l.scope l.used l.used (value_types L es)) (sym z) (binds_none l.scope l.used)), omega arith)

@@ -1,6 +1,6 @@
 -- `check_scopes::matches::bind_entries` meets its contract: who binds the entries that are left binds all.
 use mathlib.Core.Path.{◌≡◌}
-use Prim.Native.Nat.{ℕ, ◌+◌, ◌-◌, ◌≤◌}
+use Prim.Native.Nat.{ℕ, ◌+◌, ◌≤◌}
 use mathlib.Core.List.{List}
 use lib.ListN.{length}
 use Rattle.image.specs.Layout.{records_of}
@@ -12,8 +12,5 @@ use Rattle.check_scopes.proofs.matches.bind_entries.Given as goal
 
 abbrev pub invariant-loop-i : goal.invariant-loop-i
 invariant-loop-i l =
-    (l.i ≤ l.n) × (l.used ≤ l.len + l.i) × (length l.scope ≡ scope_length)
-    × ((s : List ℕ) (m : ℕ) → Binds l.scope s l.used m (value_types (records_of l.image) (entries_left l.fields first_entry l.n l.i)) → Binds l.initial.scope s l.len m (value_types (records_of l.image) (entry_terms l.fields)))
-
-abbrev pub decreases-loop-i : goal.decreases-loop-i
-decreases-loop-i l = l.n - l.i
+    (l.used ≤ l.len + l.i) × (length l.scope ≡ scope_length)
+    × ((s : List ℕ) (m : ℕ) → Binds l.scope s l.used m (value_types (records_of l.image) (entries_left l.fields first_entry l.i-end l.i)) → Binds l.initial.scope s l.len m (value_types (records_of l.image) (entry_terms l.fields)))

@@ -40,12 +40,7 @@ returns-then-binds_rest c =
     let l : c.bind_entries-used.result < length c.bind_entries-used.new.scope = omega arith in
     rw (c.bind.ensures, c.type_at_field-stack.ensures.0) (with_rest c.args.image.now c.args.fields.now c.args.p.dom.0 B.0 B.1 (sym c.binds_rest.ensures ∙ c.if-binds_rest.true) l)
 
-pub bind_entries-used-requires-2 : goal.bind_entries-used-requires-2
-bind_entries-used-requires-2 c =
-    let r = c.requires.1.capacity in
-    (c.requires.0, c.requires.1.entries refl, c.requires.1.places, omega arith)
-
 pub returns : goal.returns
 returns c =
-    let B = c.bind_entries-used-2.ensures in
+    let B = c.bind_entries-used.ensures in
     without_rest c.args.image.now c.args.fields.now c.args.p.dom.0 B.0 B.1 (sym c.binds_rest.ensures ∙ c.if-binds_rest.false)

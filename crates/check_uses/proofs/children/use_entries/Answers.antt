@@ -24,7 +24,7 @@ loop-j-init c =
     let first = c.field_count-before.result + c.child_count.result in
     let q : first ≡ count_of a.code + children_in a.code (length a.fields.now) = omega (arith, c.field_count-before.ensures, c.child_count.ensures) in
     let e = at_first a.fields.now a.code first c.entry_count-count.result q c.entry_count-count.ensures in
-    (search rules, refl, subst (λ es. Lower (length a.marks.now) es) e c.requires.1, ap (λ es. highest es a.marks.now a.below) e, ap (λ es. use_all es a.marks.now) e)
+    (refl, subst (λ es. Lower (length a.marks.now) es) e c.requires.1, ap (λ es. highest es a.marks.now a.below) e, ap (λ es. use_all es a.marks.now) e)
 
 pub field-entry-requires : goal.field-entry-requires
 field-entry-requires c =
@@ -39,7 +39,7 @@ use_entry-h-requires c =
     let first = c.field_count-before.result + c.child_count.result in
     let count = c.entry_count-count.result in
     let e = next_left fs first count l.j v.result c.loop-j-test.true v.ensures in
-    lower_first (length l.marks) (as_child an_entry v.result) (entries_left fs first count (l.j + 1)) (subst (λ es. Lower (length l.marks) es) e l.invariant.2)
+    lower_first (length l.marks) (as_child an_entry v.result) (entries_left fs first count (l.j + 1)) (subst (λ es. Lower (length l.marks) es) e l.invariant.1)
 
 pub loop-j-preserved : goal.loop-j-preserved
 loop-j-preserved c =
@@ -57,8 +57,8 @@ loop-j-preserved c =
     let kept : length ms ≡ length l.marks = c.use_entry-h.auto.marks in
     let high : highest (entries_left fs first count l.j) l.marks l.h ≡ highest gs ms m.result = ap (λ xs. highest xs l.marks l.h) e ∙ high_append es gs l.marks l.h ∙ rw (m.ensures.0, m.ensures.1) refl in
     let uses : use_all (entries_left fs first count l.j) l.marks ≡ use_all gs ms = ap (λ xs. use_all xs l.marks) e ∙ foldl-append used l.marks es gs ∙ ap (λ xs. use_all gs xs) (sym m.ensures.1) in
-    let below = lower_rest (length l.marks) es gs (subst (λ xs. Lower (length l.marks) xs) e l.invariant.2) in
-    (search rules, kept ∙ l.invariant.1, subst (λ q. Lower q gs) (sym kept) below, l.invariant.3 ∙ high, l.invariant.4 ∙ uses)
+    let below = lower_rest (length l.marks) es gs (subst (λ xs. Lower (length l.marks) xs) e l.invariant.1) in
+    (kept ∙ l.invariant.0, subst (λ q. Lower q gs) (sym kept) below, l.invariant.2 ∙ high, l.invariant.3 ∙ uses)
 
 pub returns : goal.returns
 unfolding highest
@@ -68,4 +68,4 @@ returns c =
     let fs = a.fields.now in
     let first = c.field_count-before.result + c.child_count.result in
     let e = none_left fs first c.entry_count-count.result l.j (search rules) in
-    (sym (l.invariant.3 ∙ ap (λ es. highest es l.marks l.h) e), sym (l.invariant.4 ∙ ap (λ es. use_all es l.marks) e))
+    (sym (l.invariant.2 ∙ ap (λ es. highest es l.marks l.h) e), sym (l.invariant.3 ∙ ap (λ es. use_all es l.marks) e))

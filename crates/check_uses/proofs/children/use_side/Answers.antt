@@ -8,7 +8,6 @@ use Rattle.read_records.specs.Codes.{children_in}
 use Rattle.read_records.specs.Heads.{field_in, side_of}
 use Rattle.check_uses.specs.Marks.{used, use_all, highest}
 use Rattle.check_uses.proofs.ChildByChild.{high_next, high_end, side_length, side_is}
-use borrow.Author.Rules.{rules}
 use Rattle.check_uses.proofs.children.use_side.Goals as goal
 
 pub field_as-e-requires : goal.field_as-e-requires
@@ -40,7 +39,7 @@ loop-j-preserved c =
     let e : c.field_as-e.result.0 ≡ get_or cs l.j 0 = c.field_as-e.ensures ∙ ap (λ y. field_in fs (y + l.j)) c.field_count-first.ensures ∙ side_is x fs l.j n in
     let high : highest (drop l.j cs) l.marks l.h ≡ highest (drop (l.j + 1) cs) c.use_child-h.new.marks u.result = high_next cs l.marks l.j l.h i ∙ rw (u.ensures.0, u.ensures.1, e) refl in
     let uses : use_all (drop l.j cs) l.marks ≡ use_all (drop (l.j + 1) cs) c.use_child-h.new.marks = fold_next used cs l.marks l.j i ∙ rw (u.ensures.1, e) refl in
-    (search rules, c.use_child-h.auto.marks ∙ l.invariant.1, l.invariant.2 ∙ high, l.invariant.3 ∙ uses)
+    (c.use_child-h.auto.marks ∙ l.invariant.0, l.invariant.1 ∙ high, l.invariant.2 ∙ uses)
 
 pub returns : goal.returns
 returns c =
@@ -48,7 +47,7 @@ returns c =
     let a = c.args in
     let cs = side_of a.code a.fields.now in
     let h : length cs ≤ l.j = rw (side_length a.code a.fields.now) (omega (arith, c.child_count-count.ensures)) in
-    (sym (l.invariant.2 ∙ high_end cs l.marks l.j l.h h), sym (l.invariant.3 ∙ fold_end used cs l.marks l.j h))
+    (sym (l.invariant.1 ∙ high_end cs l.marks l.j l.h h), sym (l.invariant.2 ∙ fold_end used cs l.marks l.j h))
 
 pub loop-j-init : goal.loop-j-init
-loop-j-init c = (search rules, refl, refl, refl)
+loop-j-init c = (refl, refl, refl)

@@ -1,5 +1,4 @@
 -- `check_uses::children::use_side` meets its contract: the loop uses one child after another; the rest of them is left.
-use Prim.Native.Nat.{◌-◌, ◌≤◌}
 use mathlib.Core.Path.{◌≡◌}
 use lib.ListN.{length, drop}
 use Rattle.read_records.specs.Heads.{side_of}
@@ -8,10 +7,6 @@ use Rattle.check_uses.proofs.children.use_side.Given as goal
 
 abbrev pub invariant-loop-j : goal.invariant-loop-j
 invariant-loop-j l =
-    (l.j ≤ l.count)
-    × (length l.marks ≡ length l.initial.marks)
+    (length l.marks ≡ length l.initial.marks)
     × (highest (side_of l.code l.fields) l.initial.marks l.initial.h ≡ highest (drop l.j (side_of l.code l.fields)) l.marks l.h)
     × (use_all (side_of l.code l.fields) l.initial.marks ≡ use_all (drop l.j (side_of l.code l.fields)) l.marks)
-
-abbrev pub decreases-loop-j : goal.decreases-loop-j
-decreases-loop-j l = l.count - l.j

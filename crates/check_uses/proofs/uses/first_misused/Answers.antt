@@ -4,7 +4,6 @@ use mathlib.Core.Path.{ap, sym, ◌∙◌}
 use Rattle.laws.proofs.Tests.{all_below_lem}
 use Rattle.check_uses.specs.Marks.{is_once}
 use Rattle.check_uses.proofs.Below.{holds_more}
-use borrow.Author.Rules.{rules}
 use Rattle.check_uses.proofs.uses.first_misused.Goals as goal
 
 pub returns-then-all_once : goal.returns-then-all_once
@@ -15,17 +14,17 @@ returns-then-all_once c =
 pub returns-then-not-is_once : goal.returns-then-not-is_once
 returns-then-not-is_once c =
     let l = c.loop-i in
-    record { inside = l.invariant.0; before = l.invariant.1; here = λ h. sym (c.is_once.ensures ∙ ap is_once c.mark_of.ensures) ∙ c.if-not-is_once.true }
+    record { inside = omega arith; before = l.invariant; here = λ h. sym (c.is_once.ensures ∙ ap is_once c.mark_of.ensures) ∙ c.if-not-is_once.true }
 
 pub loop-i-preserved : goal.loop-i-preserved
 loop-i-preserved c =
     let l = c.loop-i in
-    (search rules, holds_more l.i _ l.invariant.1 (sym (c.is_once.ensures ∙ ap is_once c.mark_of.ensures) ∙ c.if-not-is_once.false))
+    holds_more l.i _ l.invariant (sym (c.is_once.ensures ∙ ap is_once c.mark_of.ensures) ∙ c.if-not-is_once.false)
 
 pub returns : goal.returns
 returns c =
     let l = c.loop-i in
-    record { inside = omega arith; before = λ k h. l.invariant.1 k (omega arith); here = λ h. absurd (omega arith) }
+    record { inside = omega arith; before = λ k h. l.invariant k (omega arith); here = λ h. absurd (omega arith) }
 
 pub loop-i-init : goal.loop-i-init
-loop-i-init c = (search rules, λ k h. absurd (omega arith))
+loop-i-init c = λ k h. absurd (omega arith)

@@ -1,2 +1,0 @@
--- Laws of the turns of the loops over rows.
-pub mod Turns

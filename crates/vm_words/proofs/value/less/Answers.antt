@@ -1,4 +1,0 @@
-use Rattle.vm_words.proofs.value.less.Goals as goal
-
-pub returns : goal.returns
-returns c = cc
