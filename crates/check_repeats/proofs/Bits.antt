@@ -1,12 +1,12 @@
 -- The bits of a word with one bit more: that bit is there, and each that was there stays.
-use Prim.Native.Nat.{ℕ, zero, suc, ◌*◌, ◌/◌, ◌%◌, ◌^◌, ◌<◌, max}
+use Prim.Native.Nat.{ℕ, zero, suc, ◌/◌, ◌%◌, ◌^◌, ◌<◌, max}
 use native.Mathlib.Omega.{arith}
-use native.Mathlib.Nat.{one-mul, mod-eq_of_lt}
+use native.Mathlib.Nat.{one-mul}
 use mathlib.Core.Path.{◌≡◌, refl, sym, ap, ◌∙◌}
 use mathlib.Core.Bool.{Bool, true, false, ◌||◌}
 use lib.Dec.{eqb}
 use lib.Bits.{bit_or, or_step, or_shr}
-use lib.Pow.{pow-lt, shl-shr}
+use lib.Pow.{shl-shr}
 use Rattle.check_repeats.specs.Keys.{has_bit, with_bit}
 
 max_one : (p q : ℕ) → p < 2 → q < 2 → (max p q < 2) × (eqb (max p q) 1 ≡ (eqb p 1 || eqb q 1))
@@ -36,9 +36,3 @@ bit_there w l = has_union w (2 ^ l) l ∙ (ap (λ b. has_bit w l || b) (has_own 
 
 pub bit_stays : (w k l : ℕ) → has_bit w l ≡ true → has_bit (with_bit w k) l ≡ true
 bit_stays w k l h = has_union w (2 ^ k) l ∙ ap (λ b. b || has_bit (2 ^ k) l) h
-
--- A bit of a word of 32 as the machine makes it.
-pub bit_in : (w l : ℕ) → l < 32 → bit_or w ((1 * 2 ^ l) % 2 ^ 32) ≡ with_bit w l
-bit_in w l h =
-    let e : 1 * 2 ^ l ≡ 2 ^ l = omega arith in
-    ap (bit_or w) (rw e (mod-eq_of_lt (pow-lt h)))

@@ -1,7 +1,6 @@
 -- The parts of each kind's code are what the table of kinds says: one test, computed at every kind, and the laws that follow from it.
-use Prim.Native.Nat.{ℕ, zero, suc, ◌+◌, ◌-◌, ◌*◌, ◌/◌, ◌%◌, ◌≤◌, ◌<◌}
+use Prim.Native.Nat.{ℕ, zero, suc, ◌+◌, ◌-◌, ◌*◌, ◌≤◌, ◌<◌}
 use native.Mathlib.Omega.{arith}
-use native.Mathlib.Nat.{zero-mul, one-mul, div-le_self}
 use mathlib.Core.Path.{◌≡◌, refl, sym, ap, ◌∙◌}
 use mathlib.Core.Bool.{Bool, true, false, not, ◌&&◌}
 use mathlib.Core.List.{List, [], ◌∷◌, ◌++◌}
@@ -11,13 +10,13 @@ use lib.Dec.{eqb, ltb, leb}
 use borrow.Author.Tests.{ne_eqb}
 use Rattle.laws.specs.Tests.{all}
 use Rattle.image.specs.Kinds.{Kind, Row, row_of, find, kinds, kind_of, lead}
-use Rattle.image.specs.Records.{goes_into, times, as_child}
+use Rattle.image.specs.Records.{times, as_child}
 use Rattle.image.specs.TermFields.{giving}
-use Rattle.laws.proofs.Booleans.{no_path, and_l, and_r, not_t, same_truth, lt_of, le_of, of_le, ge_of, eq_of, of_eq, by_test}
+use Rattle.laws.proofs.Booleans.{no_path, and_l, and_r, not_t, lt_of, le_of, ge_of, eq_of, by_test}
 use Rattle.laws.proofs.Tests.{each}
 use Rattle.image.proofs.EveryKind.{every_of, at_kind}
 use Rattle.image.proofs.Counts.{fields_length}
-use Rattle.read_records.specs.Codes.{section_number, class_numbers, least_length, code_of, size_of, first_children_of, group_of, count_of, last_of, least_of, classes_of, section_of, first_of, most_of, Sized, times_in, children_in, entries_in, code_number, codes_from, code_count, kind_codes, code_at}
+use Rattle.read_records.specs.Codes.{section_number, class_numbers, least_length, code_of, size_of, first_children_of, group_of, count_of, last_of, least_of, classes_of, section_of, first_of, most_of, Sized, times_in, code_number, codes_from, code_count, kind_codes, code_at}
 
 abbrev packs : Kind → Bool
 packs k =
@@ -142,42 +141,3 @@ code_sized n h = go (kind_of n) refl
     go : (q : Option Kind) → kind_of n ≡ q → Sized (code_at n)
     go none e = absurd (h (unknown_code n e))
     go (some k) e = kind_sized k (code_at n) (known_code n k e)
-
--- A group goes into n fields as often as their number says: never if it has no field, and no more than n times.
-pub goes_into_lem : (g n : ℕ) → (g ≡ 0 → ⊥) → n / g ≡ goes_into g n
-goes_into_lem zero n h = absurd (h refl)
-goes_into_lem (suc g) n h = refl
-
-pub into_most : (g n : ℕ) → goes_into g n ≤ n
-into_most zero n = omega arith
-into_most (suc g) n = div-le_self n (suc g)
-
--- What stands at most once takes no more than its fields.
-pub once_most : (a g : ℕ) → a < 2 → a * g ≤ g
-once_most zero g h = rw (zero-mul g) (omega arith)
-once_most (suc zero) g h = rw (one-mul g) (omega arith)
-once_most (suc (suc a)) g h = absurd (omega arith)
-
--- The section of the terms is the last.
-pub last_section : (x : ℕ) → x < 4294967296 → leb 3221225472 x ≡ eqb (section_of x) 3
-last_section x l =
-    same_truth (leb 3221225472 x) (eqb (section_of x) 3) (λ h. let z : 3221225472 ≤ x = le_of h in of_eq {m = section_of x} {n = 3} (omega arith))
-    (λ h. let z : section_of x ≡ 3 = eq_of h in of_le {m = 3221225472} {n = x} (omega arith))
-
--- The children among the first fields and the group's fields are told by four bits; what these say of the children side by side and of the entries.
-module _ (x n : ℕ) where
-  abbrev pub told : ℕ
-  told = x / 16 % 16
-
-  pub no_group : told < 4 → (told ≡ children_in x n) × (0 ≡ entries_in x n)
-  no_group h = let g : group_of x ≡ 0 = omega arith in rw (of_eq g) (omega arith, refl)
-
-  pub group_of_children : 4 ≤ told → told % 4 ≡ 0 → (n / 2 - count_of x ≡ children_in x n) × (0 ≡ entries_in x n)
-  group_of_children h z =
-      let f : first_children_of x ≡ 0 = omega arith in
-      rw (ne_eqb (group_of x) 0 (λ e. omega arith), of_eq f) (refl, refl)
-
-  pub group_of_entries : 4 ≤ told → (told % 4 ≡ 0 → ⊥) → (told % 4 ≡ children_in x n) × (n / 2 - (count_of x + told % 4 + last_of x) ≡ entries_in x n)
-  group_of_entries h z =
-      let f : told % 4 ≡ first_children_of x = omega arith in
-      rw (ne_eqb (group_of x) 0 (λ e. omega arith), ne_eqb (first_children_of x) 0 (λ e. z (f ∙ e)), f) (refl, refl)

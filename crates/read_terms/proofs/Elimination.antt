@@ -46,10 +46,6 @@ with_children =
     TermKind.match ∷ TermKind.keep ∷ TermKind.call ∷ TermKind.obj ∷ TermKind.byte ∷ TermKind.lower ∷ TermKind.store ∷ TermKind.read ∷ TermKind.new_cell ∷ TermKind.install ∷ TermKind.adv ∷ TermKind.pcd ∷ TermKind.mark
     ∷ TermKind.arith ∷ TermKind.app ∷ TermKind.fun ∷ TermKind.split ∷ TermKind.pair ∷ TermKind.ite ∷ TermKind.print ∷ TermKind.seq ∷ []
 
-pub none_below : (fs : List ℕ) (m : ℕ) → apart m with_children → (k : TermKind) → m ≡ (term_row k).number → length (children_in fs k) ≡ 0
-unfolding every_of all
-none_below fs m r k e = children_counted fs k (left_over (λ k. side_by_side k) with_children refl m r k e) ∙ no_children fs k (left_over childless with_children refl m r k e)
-
 -- The kinds that may have children, but the last.
 abbrev pub before_last : List TermKind
 before_last =

@@ -34,11 +34,7 @@ entry_class zero fs i h = absurd (omega arith)
 entry_class (suc c) fs zero h = refl
 entry_class (suc c) fs (suc i) h = entry_class c fs i (omega arith)
 
--- An entry that is not 0 names one term; the terms behind it.
-pub one_named : (v : ℕ) → (v ≡ 0 → ⊥) → 1 ≡ length (as_child an_entry v)
-one_named zero h = absurd (h refl)
-one_named (suc e) h = refl
-
+-- An entry names one term at most; the terms behind it.
 pub few_named : (v : ℕ) → length (as_child an_entry v) ≤ 1
 few_named zero = omega arith
 few_named (suc e) = omega arith

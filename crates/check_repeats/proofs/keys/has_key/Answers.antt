@@ -4,9 +4,6 @@ use mathlib.Core.Bool.{not}
 use Rattle.check_repeats.proofs.Filter.{unmarked}
 use Rattle.check_repeats.proofs.keys.has_key.Goals as goal
 
-pub returns-then-is_marked : goal.returns-then-is_marked
-returns-then-is_marked c = ap not c.is_new_key.ensures
-
 pub returns-else-is_marked : goal.returns-else-is_marked
 returns-else-is_marked c =
     c.if-is_marked.false ∙ ap not (sym (unmarked c.requires c.args.key (sym c.is_marked.ensures ∙ c.if-is_marked.false)))

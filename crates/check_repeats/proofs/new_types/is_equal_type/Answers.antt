@@ -1,16 +1,11 @@
 -- `check_repeats::new_types::is_equal_type` meets its contract.
 use mathlib.Core.Path.{◌≡◌, sym, ap, ◌∙◌}
 use lib.ListN.{get_or}
-use borrow.Author.Tests.{eq-eqb, ne_eqb}
+use borrow.Author.Tests.{eq-eqb}
 use Rattle.read_records.specs.Heads.{fields_at}
 use Rattle.read_records.specs.Descriptors.{descriptor_kind}
 use Rattle.check_repeats.specs.NewTypes.{same_fields}
 use Rattle.check_repeats.proofs.new_types.is_equal_type.Goals as goal
-
-pub returns-then-descriptor-type_descriptor : goal.returns-then-descriptor-type_descriptor
-returns-then-descriptor-type_descriptor c =
-    let a = c.args in
-    simp (ne_eqb a.descriptor (get_or a.descriptors.now a.u.0 0) (λ e. c.if-descriptor-type_descriptor.true (e ∙ sym c.type_descriptor.ensures)))
 
 pub fields_at-requires : goal.fields_at-requires
 fields_at-requires c = rw c.offset_of.ensures c.requires.2
@@ -20,8 +15,3 @@ returns-then-descriptor_kind-eq-OBJECT_TYPE c =
     let a = c.args in
     let h : c.same_fields.result ≡ same_fields a.fields.now (fields_at a.image.now (get_or a.types.now a.u.0 0)) = c.same_fields.ensures ∙ ap (same_fields a.fields.now) (c.fields_at.ensures ∙ ap (fields_at a.image.now) c.offset_of.ensures) in
     simp (eq-eqb _ _ (c.if-descriptor-type_descriptor.false ∙ c.type_descriptor.ensures), eq-eqb _ _ (sym c.descriptor_kind.ensures ∙ c.if-descriptor_kind-eq-OBJECT_TYPE.true)) h
-
-pub returns : goal.returns
-returns c =
-    let a = c.args in
-    simp (eq-eqb _ _ (c.if-descriptor-type_descriptor.false ∙ c.type_descriptor.ensures), ne_eqb (descriptor_kind a.descriptor) 25 (λ e. c.if-descriptor_kind-eq-OBJECT_TYPE.false (c.descriptor_kind.ensures ∙ e)))

@@ -12,10 +12,6 @@ pub loop-i-init : goal.loop-i-init
 unfolding all_below
 loop-i-init c = refl
 
-pub is_equal_type-requires : goal.is_equal_type-requires
-is_equal_type-requires c =
-    (search rules, search rules, c.requires.2.at c.loop-i.i (search rules))
-
 pub returns-then-is_equal_type : goal.returns-then-is_equal_type
 returns-then-is_equal_type c =
     let a = c.args in

@@ -16,9 +16,6 @@ use Rattle.check_repeats.proofs.new_types.same_fields.Goals as goal
 abbrev same : List ℕ → List ℕ → ℕ → Bool
 same a b j = eqb (field_in a j) (field_in b j)
 
-pub returns-then-a-b : goal.returns-then-a-b
-returns-then-a-b c = let a = c.args in simp (ne_eqb (length a.a.now) (length a.b.now) c.if-a-b.true)
-
 pub loop-i-init : goal.loop-i-init
 unfolding all_below
 loop-i-init c = (search rules, refl)

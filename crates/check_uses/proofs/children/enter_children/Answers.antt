@@ -4,7 +4,7 @@ use mathlib.Core.List.{foldl-append}
 use lib.Dec.{lit<}
 use Rattle.read_records.specs.Heads.{side_of, entries_of}
 use Rattle.check_uses.specs.Marks.{Lower, used}
-use Rattle.check_uses.proofs.ChildByChild.{lower_first, lower_rest, high_append, high_low}
+use Rattle.check_uses.proofs.ChildByChild.{lower_rest, high_append, high_low}
 use borrow.Author.Rules.{rules}
 use Rattle.check_uses.proofs.children.enter_children.Goals as goal
 
@@ -24,6 +24,3 @@ returns c =
     let cs = side_of a.code fs in
     let gs = entries_of a.code fs in
     c.set_height.ensures ∙ rw (foldl-append used a.marks.now cs gs, high_append cs gs a.marks.now 0, c.use_entries-h.ensures.0, c.use_entries-h.ensures.1, c.use_side-side.ensures.0, c.use_side-side.ensures.1) refl
-
-pub use_side-side-requires : goal.use_side-side-requires
-use_side-side-requires c = (c.requires.0, lower_first _ _ _ c.requires.2)

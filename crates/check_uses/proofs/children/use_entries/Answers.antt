@@ -26,11 +26,6 @@ loop-j-init c =
     let e = at_first a.fields.now a.code first c.entry_count-count.result q c.entry_count-count.ensures in
     (refl, subst (λ es. Lower (length a.marks.now) es) e c.requires.1, ap (λ es. highest es a.marks.now a.below) e, ap (λ es. use_all es a.marks.now) e)
 
-pub field-entry-requires : goal.field-entry-requires
-field-entry-requires c =
-    let p = c.requires.0 in
-    omega (arith, c.entry_count-count.ensures, c.child_count.ensures, c.field_count-before.ensures)
-
 pub use_entry-h-requires : goal.use_entry-h-requires
 use_entry-h-requires c =
     let v = c.field-entry in

@@ -1,10 +1,7 @@
 -- `read_records::reader::head_of` meets its contract: each answer is the definition's.
 use native.Mathlib.Omega.{arith}
-use Rattle.read_records.proofs.Heads.{at_end_lem, cut_off, too_short, too_long, whole}
+use Rattle.read_records.proofs.Heads.{cut_off, too_short, too_long, whole}
 use Rattle.read_records.proofs.reader.head_of.Goals as goal
-
-pub returns-then-image-at : goal.returns-then-image-at
-returns-then-image-at c = let a = c.args in at_end_lem a.image.now a.at c.if-image-at.true
 
 pub returns-then-image-at-lt4 : goal.returns-then-image-at-lt4
 returns-then-image-at-lt4 c = let a = c.args in cut_off a.image.now a.at c.if-image-at.false c.if-image-at-lt4.true

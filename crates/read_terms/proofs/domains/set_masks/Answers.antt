@@ -1,8 +1,7 @@
 -- `read_terms::domains::set_masks` meets its contract.
 use native.Mathlib.Omega.{arith}
 use mathlib.Core.Path.{◌≡◌, ap, ◌∙◌}
-use lib.ListN.{length, get_or, set, take, replicate, length-map}
-use lib.Seq.{take-length}
+use lib.ListN.{length, get_or, set, replicate, length-map}
 use Rattle.image.specs.Limits.{domain_limit}
 use Rattle.image.specs.Bytes.{field_at}
 use Rattle.image.specs.Layout.{records_of}
@@ -29,12 +28,3 @@ loop-i-preserved c =
       ap length c.set_mask.ensures ∙ length-set c.loop-i.table c.loop-i.i c.mask_of-mask.result ∙ i.1,
       λ k. ap (λ t. get_or t k 0) c.set_mask.ensures ∙ ap (λ v. get_or (set c.loop-i.table c.loop-i.i v) k 0) c.mask_of-mask.ensures ∙ filled_more c.loop-i.table (masks L) c.loop-i.i (omega arith) (omega arith) i.2 k,
     )
-
-pub returns : goal.returns
-returns c =
-    let i = c.loop-i.invariant in
-    let n = c.requires.1 in
-    let L = records_of c.args.image.now in
-    let m : length (masks L) ≡ length L.domains = length-map L.domains (λ o. field_at L.image o 0) in
-    let e : c.loop-i.i ≡ length (masks L) = omega arith in
-    record { sixteen = i.1; each = λ k. i.2 k ∙ ap (λ j. get_or (take j (masks L)) k 0) e ∙ ap (λ l. get_or l k 0) (take-length (masks L)) }

@@ -9,7 +9,6 @@ use Rattle.image.proofs.KindNumbers.{same_term_kind}
 use Rattle.read_terms.specs.Fields.{children_in, count_in}
 use Rattle.image.proofs.Offsets.{side_by_side}
 use Rattle.read_terms.proofs.Counts.{children_counted}
-use Rattle.read_terms.proofs.Elimination.{none_below}
 use Rattle.read_terms.proofs.terms.child_count.Goals as goal
 
 -- A kind's children stand side by side, as many as its fields tell.
@@ -75,9 +74,3 @@ returns-in-55 c = λ k e. counted c.args.fields.now TermKind.call k refl (same_t
 
 pub returns-in-57 : goal.returns-in-57
 returns-in-57 c = λ k e. counted c.args.fields.now TermKind.keep k refl (same_term_kind TermKind.keep k (sym c.in-57.is ∙ e))
-
-pub returns-in-58 : goal.returns-in-58
-returns-in-58 c = λ k e. c.match_child_count.ensures ∙ ap (λ j. length (children_in c.args.fields.now j)) (same_term_kind TermKind.match k (sym c.in-58.is ∙ e))
-
-pub returns-in_default : goal.returns-in_default
-returns-in_default c = λ k e. sym (none_below c.args.fields.now _ c.in_default.in_default-own.rest k e)

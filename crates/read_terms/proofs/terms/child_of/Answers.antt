@@ -2,7 +2,7 @@
 use borrow.Author.Rules.{rules}
 use Prim.Native.Nat.{ℕ, ◌<◌}
 use native.Mathlib.Omega.{arith}
-use mathlib.Core.Path.{◌≡◌, sym, ap, subst, ◌∙◌}
+use mathlib.Core.Path.{◌≡◌, sym, ap, ◌∙◌}
 use mathlib.Core.Logic.{⊎_elim}
 use mathlib.Core.Bool.{true}
 use mathlib.Core.List.{List}
@@ -11,7 +11,7 @@ use Rattle.image.specs.Kinds.{TermKind, term_row}
 use Rattle.image.proofs.KindNumbers.{same_term_kind}
 use Rattle.image.proofs.Offsets.{side_by_side, side_or_match}
 use Rattle.read_terms.specs.Fields.{children_in, count_in, HasChild}
-use Rattle.read_terms.proofs.Counts.{children_counted, match_count}
+use Rattle.read_terms.proofs.Counts.{children_counted}
 use Rattle.read_terms.proofs.terms.child_of.Goals as goal
 
 among : (fs : List ℕ) (k : TermKind) (j : ℕ) → ((term_row k).number ≡ (term_row TermKind.match).number → ⊥) → HasChild fs k j → j < count_in fs k
@@ -20,20 +20,6 @@ among fs k j n H =
     let c = children_counted fs k side in
     let t = H.there in
     omega arith
-
-pub match_child-requires : goal.match_child-requires
-match_child-requires c =
-    let fs = c.args.fields.now in
-    let e = same_term_kind c.requires.0 TermKind.match (sym c.requires.1.0 ∙ c.if-kind-eq-MATCH.true) in
-    let H = subst (λ k. HasChild fs k c.args.j) e c.requires.1.2 in
-    let n = match_count fs in
-    let l = H.long in
-    (omega arith, H.there)
-
-pub returns-then-kind-eq-MATCH : goal.returns-then-kind-eq-MATCH
-returns-then-kind-eq-MATCH c =
-    let a = c.args in
-    λ k e. c.match_child.ensures ∙ ap (λ i. get_or (children_in a.fields.now i) a.j 0) (same_term_kind TermKind.match k (sym c.if-kind-eq-MATCH.true ∙ e))
 
 pub overflow_add-lead : goal.overflow_add-lead
 overflow_add-lead c =
