@@ -8,23 +8,23 @@ use Rattle.engine.proofs.run.Goals as goal
 
 pub prepare-target-requires : goal.prepare-target-requires
 prepare-target-requires c =
-    let a = code_asks c.args.image.now _ _ _ _ _ c.check_call-checked.ensures.0 _ c.in-Accepted.is in
+    let a = code_asks c.args.image.now _ _ _ _ _ c.check_call-checked.ensures.0 _ c.in-Ok.is in
     (a.0, a.1, search rules, search rules)
 
 pub run_code-answer-requires : goal.run_code-answer-requires
 run_code-answer-requires c =
-    let h = lent_enough c.args.image.now _ _ _ _ _ c.check_call-checked.ensures.0 _ c.in-Accepted.is in
-    (image_accepted c.args.image.now _ _ _ _ _ c.check_call-checked.ensures.0 _ c.in-Accepted.is, c.prepare-target.ensures.0, h.0, h.1)
+    let h = lent_enough c.args.image.now _ _ _ _ _ c.check_call-checked.ensures.0 _ c.in-Ok.is in
+    (image_accepted c.args.image.now _ _ _ _ _ c.check_call-checked.ensures.0 _ c.in-Ok.is, c.prepare-target.ensures.0, h.0, h.1)
 
 pub clear-requires : goal.clear-requires
 clear-requires c =
-    let h = lent_enough c.args.image.now _ _ _ _ _ c.check_call-checked.ensures.0 _ c.in-Accepted.is in
+    let h = lent_enough c.args.image.now _ _ _ _ _ c.check_call-checked.ensures.0 _ c.in-Ok.is in
     omega (arith, c.run_code-answer.auto.work, h.0)
 
-pub returns-in-Refused : goal.returns-in-Refused
-returns-in-Refused c =
-    refusal_left c.args.image.now c.args.frame.now c.args.budget c.args.log.now c.args.report.now c.args.work.now _ _ _ (refused_so c.args.image.now _ _ _ _ _ c.check_call-checked.ensures.0 _ _ c.in-Refused.is) c.refused.ensures
+pub returns-in-Err : goal.returns-in-Err
+returns-in-Err c =
+    refusal_left c.args.image.now c.args.frame.now c.args.budget c.args.log.now c.args.report.now c.args.work.now _ _ _ (refused_so c.args.image.now _ _ _ _ _ c.check_call-checked.ensures.0 _ c.in-Err.is) c.refused.ensures
 
-pub returns-in-Accepted : goal.returns-in-Accepted
-returns-in-Accepted c =
-    run_called c.args.image.now c.args.frame.now c.args.budget c.args.log.now c.args.report.now c.args.work.now _ _ _ _ _ (accepted_so c.args.image.now _ _ _ _ _ c.check_call-checked.ensures.0 _ c.in-Accepted.is) c.run_code-answer.ensures c.clear.ensures
+pub returns-in-Ok : goal.returns-in-Ok
+returns-in-Ok c =
+    run_called c.args.image.now c.args.frame.now c.args.budget c.args.log.now c.args.report.now c.args.work.now _ _ _ _ _ (accepted_so c.args.image.now _ _ _ _ _ c.check_call-checked.ensures.0 _ c.in-Ok.is) c.run_code-answer.ensures c.clear.ensures

@@ -1,5 +1,5 @@
 use mathlib.Core.Path.{refl}
 use Rattle.validator.proofs.verdict_place.Goals as goal
 
-pub returns-in-Refused : goal.returns-in-Refused
-returns-in-Refused c = rw c.in-Refused.is refl
+pub returns-in-Err : goal.returns-in-Err
+returns-in-Err c = rw c.in-Err.is refl

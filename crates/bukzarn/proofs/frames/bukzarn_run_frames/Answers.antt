@@ -15,14 +15,14 @@ returns-then-count-eq0 c =
 
 pub prepare-target-requires : goal.prepare-target-requires
 prepare-target-requires c =
-    let a = code_asks c.args.image.now _ _ _ _ _ c.check_call-checked.ensures.0 _ c.in-Accepted.is in
+    let a = code_asks c.args.image.now _ _ _ _ _ c.check_call-checked.ensures.0 _ c.in-Ok.is in
     (a.0, a.1, search rules, search rules)
 
 pub run_each-requires : goal.run_each-requires
 run_each-requires c =
-    let h = lent_enough c.args.image.now _ _ _ _ _ c.check_call-checked.ensures.0 _ c.in-Accepted.is in
-    (image_accepted c.args.image.now _ _ _ _ _ c.check_call-checked.ensures.0 _ c.in-Accepted.is, c.prepare-target.ensures.0, omega (arith, c.if-count-eq0.false), h.0, h.1)
+    let h = lent_enough c.args.image.now _ _ _ _ _ c.check_call-checked.ensures.0 _ c.in-Ok.is in
+    (image_accepted c.args.image.now _ _ _ _ _ c.check_call-checked.ensures.0 _ c.in-Ok.is, c.prepare-target.ensures.0, omega (arith, c.if-count-eq0.false), h.0, h.1)
 
-pub returns-in-Refused : goal.returns-in-Refused
-returns-in-Refused c =
-    all_refused c.args.image.now c.args.frames.now c.args.budget (length c.args.numbers.now) (record { answers = c.args.numbers.now; logs = c.args.logs.now; reports = c.args.reports.now; work = c.args.work.now }) (omega arith) _ _ (refused_so c.args.image.now _ _ _ _ _ c.check_call-checked.ensures.0 _ _ c.in-Refused.is) _ refl c.refuse_each.ensures
+pub returns-in-Err : goal.returns-in-Err
+returns-in-Err c =
+    all_refused c.args.image.now c.args.frames.now c.args.budget (length c.args.numbers.now) (record { answers = c.args.numbers.now; logs = c.args.logs.now; reports = c.args.reports.now; work = c.args.work.now }) (omega arith) _ _ (refused_so c.args.image.now _ _ _ _ _ c.check_call-checked.ensures.0 _ c.in-Err.is) _ refl c.refuse_each.ensures
